@@ -110,8 +110,8 @@ def all_works(rows):
                script(*begin, *in_batches((f"put t {k} {v}" for k, v in readings), 40, "flush t"), "flush t"),
                sql(FAST, CREATE, "BEGIN;",
                    *in_batches((f"INSERT INTO t VALUES({k},{v});" for k, v in readings), 40, "COMMIT; BEGIN;"), "COMMIT;"))
-    return [loaded, put, *queries(begin, loaded, put, rows, few), *full_entries(rows, readings), *blobs(min(few, 40_000)),
-            *tools(begin, loaded, readings)]
+    return [loaded, put, *queries(begin, loaded, put, rows, few), *full_entries(rows, readings), *logged(rows, readings),
+            *blobs(min(few, 40_000)), *tools(begin, loaded, readings)]
 
 
 def queries(begin, loaded, put, rows, few):
@@ -152,6 +152,14 @@ def full_entries(rows, readings):
     put = Work("put with full index entries",
                script(*begin, *in_batches((f"put t {k} {v}" for k, v in readings), 40, "flush t"), "flush t"), is_plain=False)
     return [loaded, put, Work("mount by full index entries", script(*begin), start=loaded, is_plain=False)]
+
+
+def logged(rows, readings):
+    """The put of the same rows into a table with a log, which needs no flush: each row lasts by itself. The mount then replays the last page."""
+    begin = (table(rows) + " rlc 16", "mount")
+    put = Work(f"put of {len(readings):,} rows with a log", script(*begin, *(f"put t {k} {v}" for k, v in readings)),
+               sql(FAST, CREATE, *(f"INSERT INTO t VALUES({k},{v});" for k, v in readings)), is_plain=False)
+    return [put, Work("mount with a log", script(*begin), start=put, changes=True, is_plain=False)]
 
 
 def blobs(rows):

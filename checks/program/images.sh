@@ -1,5 +1,5 @@
 # The images that rows begin with, each made by a run: `flushed` has the record 1 with 0, `torn` has one page that a cut left torn,
-# `large` has room for some 30,000 records.
+# `logged` has the records 1 and 2 with 0 in the log of its table alone, `large` has room for some 30,000 records.
 configuration='device 128 4
 table t 8 i32 3 0 0 8 0 10 1 0'
 
@@ -31,6 +31,10 @@ flush t
 put t 2 0
 cut 1 half
 flush t"
+make logged "$configuration rlc 3
+mount
+put t 1 0
+put t 2 0"
 make large 'device 512 16
 table t 8 i32 60 0 0 8 0 10 1 0
 mount'

@@ -68,6 +68,39 @@ byte 1040 02
 cp image before
 flashts check image
 leaves "a check of an image whose first record has another key" 0 $'sound t rows 1 pages 1 voids 0\n' ''
+
+# a table with a log, whose pages are 12 to 23: a byte of one of them is another one
+image logged
+flashts check image all
+leaves "a check of rows that only a log has" 0 $'sound t rows 0 pages 0 voids 0\n' ''
+flashts map image
+leaves "a map of them" 0 $'t data first none last none rows 0 waiting 0\n>.... .... ....\nt log first 0 last 1 waiting 0\n>##.. .... ....\neach letter a page: . blank  # committed  v void  x torn  ! breaks a rule; > before the head\n' ''
+flashts salvage image t
+leaves "a salvage leaves them out" 0 $'key,c1\n' $'flashts: pages passed over: missing 0, torn 0, void 0, misplaced 0, unformed 0\n'
+byte 2560 05
+cp image before
+flashts check image all
+leaves "a check of a log whose first page has another number" 16 $'fault t log 12 3 number\n' "$status16"
+image logged
+byte 2568 01
+cp image before
+flashts check image
+leaves "a check of a log whose first page has a bitmap" 16 $'fault t log 12 4\n' "$status16"
+image logged
+byte 2704 02
+byte 3584 00
+cp image before
+flashts check image
+leaves "a check of a log with a page whose keys don't ascend" 16 $'fault t log 13 5\n' "$status16"
+flashts check image all
+leaves "a check of all, where a page behind it is begun too" 16 $'fault t log 13 5 keys\nfault t log 20 8 rest\n' "$status16"
+flashts map image
+leaves "a map of it" 0 $'t data first none last none rows 0 waiting 0\n>.... .... ....\nt log first 0 last 1 waiting 0\n>#!.. .... x...\nfault: t log page 13 rule 5\neach letter a page: . blank  # committed  v void  x torn  ! breaks a rule; > before the head\n' ''
+image logged
+flashts export image t
+ends "an export has the rows that only a log has" 0 $'key,c1\n1,0\n2,0\n' ''
+flashts map image
+ends "a map of what is a page of the table now" 0 $'t data first 0 last 0 rows 2 waiting 0\n>#... .... ....\nt log first 0 last 1 waiting 0\n>##.. .... ....\neach letter a page: . blank  # committed  v void  x torn  ! breaks a rule; > before the head\n' ''
 image flushed
 byte 0 00
 cp image before

@@ -71,6 +71,23 @@ device
   blocks wanted 48
   bytes of memory 1868
 ' ''
+flashts plan <<< "$configuration rlc 3"
+ends "a plan of a log" 0 $'table t
+  bytes a row 12
+  rows a page 8
+  pages always kept 7
+  rows kept of full pages 56
+  index pages wanted 0
+  index blocks wanted 0
+  bytes kept of full blob pages 0
+  bytes of memory 304
+  reads of a mount without void pages 35
+  reads of a mount at most 96
+device
+  blocks 6
+  blocks wanted 6
+  bytes of memory 1328
+' ''
 flashts plan <<< 'device 128 4
 table t 8 i32 2 0 0 8 0 10 1 0'
 ends "a plan of a line that is refused" 6 '' $'flashts: configuration line 2 is refused\nflashts: DATA is 2 and has to be 3 to 16384 blocks\n'

@@ -57,9 +57,14 @@ reason 'load t 0 1 1' 'word 3 is 0 and has to be a number from 1 to 1000000; the
 reason 'close 4' 'word 2 is 4 and has to be a cursor: 0, 1, 2 or 3; the form is close CURSOR'
 reason 'select t 0 9 1 gte 2' 'word 6 is gte and has to be one of lt, le, eq, ne, ge and gt; the form is select NAME LOW HIGH COLUMN OP VALUE'
 reason 'project t 0 9 1,x' 'word 5 is 1,x and has to be 1 to 8 numbers of columns, joined by commas; the form is project NAME LOW HIGH LIST'
-lined='the form is table NAME KEY COLUMNS DATA INDEX VAR BITS BASE WIDTH ERROR BLOB [index2]'
-reason 'table u x i32 3 3 0 8 0 10 1 0 index3' "word 13 is index3 and has to be index2, or to be left out; $lined"
-reason 'table u 8 i32 3 3 0 8 0 10 1 0 index2 index2' "words are 14, and $lined"
+lined='the form is table NAME KEY COLUMNS DATA INDEX VAR BITS BASE WIDTH ERROR BLOB [index2] [rlc LOG]'
+reason 'table u x i32 3 3 0 8 0 10 1 0 index3' "word 13 is index3 and has to be index2 or rlc, or to be left out; $lined"
+reason 'table u 8 i32 3 3 0 8 0 10 1 0 index2 index2' "word 14 is index2 and has to be rlc, or to be left out; $lined"
+reason 'table u 8 i32 3 3 0 8 0 10 1 0 rlc' "words are 13, and $lined"
+reason 'table u 8 i32 3 3 0 8 0 10 1 0 rlc x' "word 14 is x and has to be a number $numbers; $lined"
+reason 'table u 8 i32 3 3 0 8 0 10 1 0 rlc 3 index2' "word 15 is index2 and has to be left out; $lined"
+reason 'table u 8 i32 3 3 0 8 0 10 1 0 rlc rlc 3' "word 15 is 3 and has to be left out; $lined"
+reason 'table u 8 i32 3 3 0 8 0 10 1 0 index2 rlc 3 3' "word 16 is 3 and has to be left out; $lined"
 reason $'pu\e[1mt\xff' 'there is no command pu.[1mt.'
 reason "$(head -c 40 /dev/zero | tr '\0' x)" 'there is no command xxxxxxxxxxxxxxxxxxxxxxxx..'
 reason "$(head -c 5000 /dev/zero | tr '\0' x)" 'it has more than 4096 bytes'
@@ -124,11 +129,19 @@ table '8 i32 3 0 0 8 0 10 256 0' 'ERROR is 256 and has to be 0 to 255'
 table '8 i32 3 0 0 8 0 10 1 60' 'longest blob 60 needs a ring of variable data of at least 3 blocks'
 table '8 i32 3 0 0 8 0 10 1 0 index2' 'index2 needs an index ring: INDEX is 0 and has to be 3 to 16384 blocks, or index2 has to be left out'
 table '8 i32 3 0 3 8 0 10 1 1501' 'longest blob is 1501, and 3 blocks of variable data keep blobs of 1 to 672 bytes'
+table '8 i32 3 0 0 8 0 10 1 0 rlc 2' 'LOG is 2 and has to be 3 to 16384 blocks'
+table '8 i32 3 3 0 8 0 10 1 0 index2 rlc 0' 'LOG is 0 and has to be 3 to 16384 blocks'
+table '8 i32 3 0 3 8 0 10 1 60 rlc 3' 'rlc needs a table without variable data: VAR is 3 and has to be 0, or rlc and LOG have to be left out'
 refused 'device 64 2
 table t 8 i64,i64,i64,i64,i64 3 0 0 8 0 10 1 0' 'a row has 48 bytes, and a page of 64 has room for 40'
 refused 'device 4096 256
 table t 8 i32 60 0 0 8 0 10 1 0
 table u 8 i32 5 0 0 8 0 10 1 0' 'all rings have 65 blocks of 256 pages of 4096 bytes; at most 65536 pages and 67108864 bytes fit'
+refused 'device 4096 256
+table t 8 i32 61 0 0 8 0 10 1 0 rlc 4' 'all rings have 65 blocks of 256 pages of 4096 bytes; at most 65536 pages and 67108864 bytes fit'
+refused 'device 4096 256
+table t 8 i32 57 0 0 8 0 10 1 0 rlc 3
+table u 8 i32 3 0 0 8 0 10 1 0 rlc 3' 'all rings have 66 blocks of 256 pages of 4096 bytes; at most 65536 pages and 67108864 bytes fit'
 refused "$device
 table t 8 i32 3 0 0 8 0 10 1 0
 table t 8 i32 3 0 0 8 0 10 1 0" 'a table before it has the same NAME'
@@ -149,11 +162,27 @@ flashts run full <<< "$device
 $indexed index2"
 flashts run plain <<< "$device
 $indexed index2"
-ends "an image of bitmaps alone" 7 '' $'flashts: the image has another configuration\nflashts: line 2 of the configuration: FORMAT is nothing in the image and index2 in the script\n'
+ends "an image of bitmaps alone" 7 '' $'flashts: the image has another configuration\nflashts: line 2 of the configuration: ENDING is nothing in the image and index2 in the script\n'
 flashts run full <<< "$device
 $indexed"
-ends "an image of full index entries" 7 '' $'flashts: the image has another configuration\nflashts: line 2 of the configuration: FORMAT is index2 in the image and nothing in the script\n'
-rm plain full
+ends "an image of full index entries" 7 '' $'flashts: the image has another configuration\nflashts: line 2 of the configuration: ENDING is index2 in the image and nothing in the script\n'
+# other ANSWER IMAGE WORDS: an image whose table line ends otherwise than with these words, and what is told of it
+other() {
+    flashts run "$2" <<< "$device
+$indexed$3"
+    ends "an image with another end of a table line: $1" 7 '' "flashts: the image has another configuration"$'\n'"flashts: line 2 of the configuration: ENDING is $1"$'\n'
+}
+flashts run log <<< "$device
+$indexed rlc 3"
+flashts run both <<< "$device
+$indexed index2 rlc 3"
+other 'nothing in the image and rlc in the script' plain ' rlc 3'
+other 'rlc in the image and nothing in the script' log ''
+other '3 in the image and 4 in the script' log ' rlc 4'
+other 'rlc in the image and index2 in the script' log ' index2 rlc 3'
+other 'rlc in the image and nothing in the script' both ' index2'
+other '3 in the image and 14 in the script' both ' index2 rlc 14'
+rm plain full log both
 cp image whole
 printf x >> image
 cp image before

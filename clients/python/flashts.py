@@ -54,11 +54,11 @@ class NoColumn(Error):
 
 
 class PowerLost(Error):
-    """The armed cut came. What was pending is lost, and the session isn't mounted."""
+    """The armed cut came. What was pending is lost, but in a table with a log, and the session isn't mounted."""
 
 
 class DeviceFault(Error):
-    """The image failed. What was pending is lost, and the session isn't mounted."""
+    """The image failed. What was pending is lost, but in a table with a log, and the session isn't mounted."""
 
 
 class ReadFault(Error):
@@ -225,7 +225,7 @@ class Store:
         self._reply("mount")
 
     def off(self) -> None:
-        """Ends the session as a loss of power does: what is pending is lost."""
+        """Ends the session as a loss of power does: what is pending is lost, but in a table with a log."""
         self._reply("off")
 
     def close(self) -> None:

@@ -11,7 +11,7 @@ use Rattle.fl_check.specs.Looks.{OnlyLooks}
 use Rattle.fl_check.specs.Reaches.{AreReaches, HasContent, AreMeasured}
 use Rattle.fl_check.specs.References.{HasRows, PageLeads, ReferencesBreak}
 use Rattle.fl_check.specs.Rising.{HaveRows}
-use Rattle.fl_check.specs.RingRules.{IsRingSound}
+use Rattle.fl_check.specs.RingRules.{NoRows, IsRingSound}
 use Rattle.fl_check.specs.Whole.{Fits, shape_in, rows_shape, layout_in, index_end, tally_in, AreRingsSound, AreEntriesSound, AreReferencesSound, IsFirstFault}
 use Rattle.fl_check.specs.declared.finding.RingName.TheVariants.{Data}
 use Rattle.fl_check.specs.declared.halt.Fault.{Fault}
@@ -52,14 +52,14 @@ module _ (rows : Marks) (var : Numbering) (broken : Option ℕ) where
 
 -- ---- where the rings are sound
 
-module _ (config : TableConfig) (f : FlashState) (t : TableNumbers) (fits : Fits config f) (place : RingPlace) (n : Numbering) (place_is : config.var ≡ Some place) (n_is : t.var ≡ Some n)
-    (rings : AreRingsSound config (page_at f) t) (broken : Option ℕ) (told : MisledTold t.rows.marks n broken (layout_in config) (page_at f) (rows_shape config) (shape_in config place)) where
+module _ (config : TableConfig) (log : Option RingPlace) (f : FlashState) (t : TableNumbers) (fits : Fits config f) (place : RingPlace) (n : Numbering) (place_is : config.var ≡ Some place) (n_is : t.var ≡ Some n)
+    (rings : AreRingsSound config log (page_at f) t) (broken : Option ℕ) (told : MisledTold t.rows.marks n broken (layout_in config) (page_at f) (rows_shape config) (shape_in config place)) where
   leads : MatchOption broken (AllBelow (PageLeads (layout_in config) (page_at f) (rows_shape config) t.rows.marks (shape_in config place) n) t.rows.marks.kept)
       (λ p. ReferencesBreak (layout_in config) (page_at f) (rows_shape config) t.rows.marks (shape_in config place) n p)
   leads =
       told (sound_rows config f (index_end config (page_at f) t.index) t.rows fits rings.rows)
       (sound_content config f place (tally_in config (page_at f) t.rows).blob_end n fits
-      (in_ring (λ place n. IsRingSound (λ number bytes. IsContentPage number bytes) None (page_at f) (shape_in config place) (tally_in config (page_at f) t.rows).blob_end n) config.var t.var place n place_is n_is rings.var))
+      (in_ring (λ place n. IsRingSound (λ number bytes. IsContentPage number bytes) NoRows (page_at f) (shape_in config place) (tally_in config (page_at f) t.rows).blob_end n) config.var t.var place n place_is n_is rings.var))
 
   -- no page was found
   pub all_lead : broken ≡ None → AreReferencesSound config (page_at f) t
@@ -70,8 +70,8 @@ module _ (config : TableConfig) (f : FlashState) (t : TableNumbers) (fits : Fits
 
   -- .. or this one was
   pub one_misleads : (fault : Fault) → broken ≡ Some fault.page → fault.ring ≡ Data → fault.rule ≡ Blob → AreEntriesSound config (page_at f) t
-      → IsFirstFault config (page_at f) fault.ring fault.page fault.rule
+      → IsFirstFault config log (page_at f) fault.ring fault.page fault.rule
   one_misleads fault is ring rule entries =
-      references_fault config (page_at f) t rings place n fault entries place_is n_is ring rule
+      references_fault config log (page_at f) t rings place n fault entries place_is n_is ring rule
       (subst (λ (x : Option ℕ). MatchOption x (AllBelow (PageLeads (layout_in config) (page_at f) (rows_shape config) t.rows.marks (shape_in config place) n) t.rows.marks.kept)
       (λ p. ReferencesBreak (layout_in config) (page_at f) (rows_shape config) t.rows.marks (shape_in config place) n p)) is leads)

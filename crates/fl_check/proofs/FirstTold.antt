@@ -2,7 +2,6 @@
 use Rattle.std.proofs.Common.{◌≡◌, ◌⊎◌, inl, inr, ℕ, Bool, true, false, ◌&&◌, MatchOption, Option, Some, None, List, [], ◌∷◌, ◌++◌, refl, sym, ◌∙◌, ap, subst}
 use Rattle.std.specs.Prelude.{is_none}
 use Rattle.fl_base.specs.declared.types.RingPlace.{RingPlace}
-use Rattle.fl_model.specs.Record.{RowLayout}
 use Rattle.fl_plan.specs.declared.table_config.TableConfig.{TableConfig}
 use Rattle.fl_ring.specs.Ring.{Shape}
 use Rattle.fl_check.specs.Claims.{AllBelow}
@@ -12,11 +11,11 @@ use Rattle.fl_check.specs.Marks.{AreMarks}
 use Rattle.fl_check.specs.Numbering.{IsNumbered}
 use Rattle.fl_check.specs.References.{PageLeads, ReferencesBreak}
 use Rattle.fl_check.specs.Rest.{IsRestBlank, RestBreaks}
-use Rattle.fl_check.specs.RingRules.{IsFormed, HaveKeys, BreakKeys, IsRingSound, BreaksRing}
+use Rattle.fl_check.specs.RingRules.{KeyOrder, NoRows, OverPages, WithinPages, IsFormed, HaveKeys, BreakKeys, IsRingSound, BreaksRing}
 use Rattle.fl_check.specs.Rules as all
-use Rattle.fl_check.specs.Ruled.{BodiesTold, NumbersTold, HeadTold, RingTold}
+use Rattle.fl_check.specs.Ruled.{BodiesTold, NumbersTold, HeadTold, RingTold, KeysTold, RowsTold}
 use Rattle.fl_check.specs.States.{HaveStates, StatesBreak}
-use Rattle.fl_check.specs.Whole.{OfRing, shape_in, rows_shape, layout_in, indexing, index_end, tally_in, IsIndexForm, IsRowsForm, IsVarForm, IsIndexSound, IsVarSound, AreRingsSound, AreEntriesSound, AreReferencesSound, IsSound, IsFinding}
+use Rattle.fl_check.specs.Whole.{OfRing, shape_in, rows_shape, layout_in, indexing, index_end, tally_in, IsIndexForm, IsRowsForm, IsVarForm, IsLogForm, IsIndexSound, IsVarSound, IsLogSound, AreRingsSound, AreEntriesSound, AreReferencesSound, IsSound, IsFinding}
 use Rattle.fl_check.specs.declared.faults.RingFaults.{RingFaults}
 use Rattle.fl_check.specs.declared.faults.TableFaults.{TableFaults}
 use Rattle.fl_check.specs.declared.finding.Finding.{Finding}
@@ -95,45 +94,40 @@ stateless faults e = no_state faults.head faults.state faults.number faults.body
 
 -- ---- the rules of a ring
 
--- that on the keys, where the ring tells its marks and numbers
-abbrev pub KeysOf : Option RowLayout → (ℕ → List ℕ) → Shape → Option Numbering → Option ℕ → Type 0
-KeysOf rows page r None keys = keys ≡ None
-KeysOf rows page r (Some n) keys = MatchOption keys (HaveKeys rows page r n.marks) (λ p. BreakKeys rows page r n.marks p)
-
 -- the ring is sound, by the marks and numbers that it tells
-pub record IsSoundBy (Form : ℕ → List ℕ → Type 0) (rows : Option RowLayout) (page : ℕ → List ℕ) (r : Shape) (at_least : ℕ) (told : Option Numbering) : Type 0 where
+pub record IsSoundBy (Form : ℕ → List ℕ → Type 0) (order : KeyOrder) (page : ℕ → List ℕ) (r : Shape) (at_least : ℕ) (told : Option Numbering) : Type 0 where
   pub n : Numbering
   pub is : told ≡ Some n
-  pub sound : IsRingSound Form rows page r at_least n
+  pub sound : IsRingSound Form order page r at_least n
 
-module _ (Form : ℕ → List ℕ → Type 0) (rows : Option RowLayout) (page : ℕ → List ℕ) (r : Shape) (at_least : ℕ) (name : RingName) (Is : Finding → Type 0)
-    (lifts : (rule : Rule) (p : ℕ) → BreaksRing Form rows page r at_least rule p → Is (Fault name p rule)) (told : Option Numbering) where
+module _ (Form : ℕ → List ℕ → Type 0) (order : KeyOrder) (page : ℕ → List ℕ) (r : Shape) (at_least : ℕ) (name : RingName) (Is : Finding → Type 0)
+    (lifts : (rule : Rule) (p : ℕ) → BreaksRing Form order page r at_least rule p → Is (Fault name p rule)) (told : Option Numbering) where
   abbrev Sound : Type 0
-  Sound = IsSoundBy Form rows page r at_least told
+  Sound = IsSoundBy Form order page r at_least told
 
-  begins_at : (rule : Rule) (p : ℕ) (others findings : List Finding) (clear : Bool) → findings ≡ Fault name p rule ∷ others → clear ≡ false → BreaksRing Form rows page r at_least rule p
+  begins_at : (rule : Rule) (p : ℕ) (others findings : List Finding) (clear : Bool) → findings ≡ Fault name p rule ∷ others → clear ≡ false → BreaksRing Form order page r at_least rule p
       → FirstOf Sound Is findings clear
   begins_at rule p others findings clear is unclear breaks = inr (record { finding = Fault name p rule; others = others; is = is; unclear = unclear; holds = lifts rule p breaks })
 
-  by_rest : (rest : Option ℕ) (n : Numbering) → told ≡ Some n → IsFormed Form page r at_least n → HaveKeys rows page r n.marks
+  by_rest : (rest : Option ℕ) (n : Numbering) → told ≡ Some n → IsFormed Form page r at_least n → HaveKeys order page r n
       → MatchOption rest (IsRestBlank page r n.marks) (λ p. RestBreaks page r n.marks p) → FirstOf Sound Is (fault_of name Rest rest) (is_none rest)
   by_rest None n is formed keys blank = inl (record { none = refl; cleared = refl; holds = record { n = n; is = is; sound = record { formed = formed; keys = keys; rest = blank } } })
   by_rest (Some p) n is formed keys breaks = begins_at Rest p [] _ _ refl refl (record { n = n; formed = formed; keys = keys; breaks = breaks })
 
-  by_keys : (keys rest : Option ℕ) (n : Numbering) → told ≡ Some n → IsFormed Form page r at_least n → MatchOption keys (HaveKeys rows page r n.marks) (λ p. BreakKeys rows page r n.marks p)
+  by_keys : (keys rest : Option ℕ) (n : Numbering) → told ≡ Some n → IsFormed Form page r at_least n → MatchOption keys (HaveKeys order page r n) (λ p. BreakKeys order page r n p)
       → MatchOption rest (IsRestBlank page r n.marks) (λ p. RestBreaks page r n.marks p) → FirstOf Sound Is (fault_of name Keys keys ++ fault_of name Rest rest) (is_none keys && is_none rest)
   by_keys None rest n is formed have blank = by_rest rest n is formed have blank
   by_keys (Some p) rest n is formed breaks blank = begins_at Keys p (fault_of name Rest rest) _ _ refl refl (record { n = n; formed = formed; breaks = breaks })
 
-  by_bodies : (body keys rest : Option ℕ) (n : Numbering) → IsNumbered page r at_least n.marks n.next → BodiesTold Form page r n body told → KeysOf rows page r told keys
+  by_bodies : (body keys rest : Option ℕ) (n : Numbering) → IsNumbered page r at_least n.marks n.next → BodiesTold Form page r n body told → KeysTold order page r told keys
       → MatchOption rest (IsRestBlank page r n.marks) (λ p. RestBreaks page r n.marks p)
       → FirstOf Sound Is (fault_of name Body body ++ fault_of name Keys keys ++ fault_of name Rest rest) (is_none body && is_none keys && is_none rest)
   by_bodies None keys rest n numbered bodies have blank =
-      by_keys keys rest n bodies.1 (record { numbered = numbered; bodies = bodies.0 }) (subst (λ (o : Option Numbering). KeysOf rows page r o keys) bodies.1 have) blank
+      by_keys keys rest n bodies.1 (record { numbered = numbered; bodies = bodies.0 }) (subst (λ (o : Option Numbering). KeysTold order page r o keys) bodies.1 have) blank
   by_bodies (Some p) keys rest n numbered bodies have blank =
       begins_at Body p (fault_of name Keys keys ++ fault_of name Rest rest) _ _ refl refl (record { n = n; numbered = numbered; breaks = bodies.0 })
 
-  by_numbers : (number body keys rest : Option ℕ) (m : Marks) → AreMarks page r m → HaveStates page r m → NumbersTold Form page r m at_least number body told → KeysOf rows page r told keys
+  by_numbers : (number body keys rest : Option ℕ) (m : Marks) → AreMarks page r m → HaveStates page r m → NumbersTold Form page r m at_least number body told → KeysTold order page r told keys
       → MatchOption rest (IsRestBlank page r m) (λ p. RestBreaks page r m p)
       → FirstOf Sound Is (fault_of name Number number ++ fault_of name Body body ++ fault_of name Keys keys ++ fault_of name Rest rest) (is_none number && is_none body && is_none keys && is_none rest)
   by_numbers None body keys rest m marks states numbers have blank =
@@ -142,14 +136,14 @@ module _ (Form : ℕ → List ℕ → Type 0) (rows : Option RowLayout) (page : 
       begins_at Number p (fault_of name Body body ++ fault_of name Keys keys ++ fault_of name Rest rest) _ _ refl refl (record { m = m; marks = marks; states = states; breaks = numbers.0 })
 
   by_states : (state number body keys rest : Option ℕ) (m : Marks) → AreMarks page r m → MatchOption state (HaveStates page r m) (λ p. StatesBreak page r m p)
-      → NumbersTold Form page r m at_least number body told → KeysOf rows page r told keys → MatchOption rest (IsRestBlank page r m) (λ p. RestBreaks page r m p)
+      → NumbersTold Form page r m at_least number body told → KeysTold order page r told keys → MatchOption rest (IsRestBlank page r m) (λ p. RestBreaks page r m p)
       → FirstOf Sound Is (fault_of name State state ++ fault_of name Number number ++ fault_of name Body body ++ fault_of name Keys keys ++ fault_of name Rest rest)
       (is_none state && is_none number && is_none body && is_none keys && is_none rest)
   by_states None number body keys rest m marks states numbers have blank = by_numbers number body keys rest m marks states numbers have blank
   by_states (Some p) number body keys rest m marks breaks numbers have blank =
       begins_at State p (fault_of name Number number ++ fault_of name Body body ++ fault_of name Keys keys ++ fault_of name Rest rest) _ _ refl refl (record { m = m; marks = marks; breaks = breaks })
 
-  pub by_head : (head keys : Option ℕ) (faults : RingFaults) → HeadTold Form page r at_least head faults told → KeysOf rows page r told keys
+  pub by_head : (head keys : Option ℕ) (faults : RingFaults) → HeadTold Form page r at_least head faults told → KeysTold order page r told keys
       → FirstOf Sound Is
       (fault_of name Head head ++ fault_of name State faults.state ++ fault_of name Number faults.number ++ fault_of name Body faults.body ++ fault_of name Keys keys ++ fault_of name Rest faults.rest)
       (is_none head && is_none faults.state && is_none faults.number && is_none faults.body && is_none keys && is_none faults.rest)
@@ -166,43 +160,52 @@ module _ (Form : ℕ → List ℕ → Type 0) (page : ℕ → List ℕ) (r : Sha
   no_keys None faults told holds = holds.keys
   no_keys (Some p) faults told none = ap (λ (x : RingFaults). x.keys) none.2
 
-  keys_of : (told : Option Numbering) (keys : Option ℕ) → keys ≡ None → KeysOf None page r told keys
+  keys_of : (told : Option Numbering) (keys : Option ℕ) → keys ≡ None → KeysTold NoRows page r told keys
   keys_of None keys is = is
-  keys_of (Some n) keys is = subst (λ (o : Option ℕ). MatchOption o (HaveKeys None page r n.marks) (λ p. BreakKeys None page r n.marks p)) (sym is) tt
+  keys_of (Some n) keys is = subst (λ (o : Option ℕ). MatchOption o (HaveKeys NoRows page r n) (λ p. BreakKeys NoRows page r n p)) (sym is) tt
 
   pub ring_first : (faults : RingFaults) (told : Option Numbering) (name : RingName) (Is : Finding → Type 0)
-      → ((rule : Rule) (p : ℕ) → BreaksRing Form None page r at_least rule p → Is (Fault name p rule)) → RingTold Form page r at_least faults told
-      → FirstOf (IsSoundBy Form None page r at_least told) Is (ring_faults name faults) (is_clear faults)
+      → ((rule : Rule) (p : ℕ) → BreaksRing Form NoRows page r at_least rule p → Is (Fault name p rule)) → RingTold Form page r at_least faults told
+      → FirstOf (IsSoundBy Form NoRows page r at_least told) Is (ring_faults name faults) (is_clear faults)
   ring_first faults told name Is lifts ring =
-      by_head Form None page r at_least name Is lifts told faults.head faults.keys faults ring (keys_of told faults.keys (no_keys faults.head faults told ring))
+      by_head Form NoRows page r at_least name Is lifts told faults.head faults.keys faults ring (keys_of told faults.keys (no_keys faults.head faults told ring))
+
+-- ---- a ring of rows
+
+pub rows_first : (Form : ℕ → List ℕ → Type 0) (order : KeyOrder) (page : ℕ → List ℕ) (r : Shape) (at_least : ℕ) (faults : RingFaults) (told : Option Numbering) (name : RingName) (Is : Finding → Type 0)
+    → ((rule : Rule) (p : ℕ) → BreaksRing Form order page r at_least rule p → Is (Fault name p rule)) → RowsTold Form order page r at_least faults told
+    → FirstOf (IsSoundBy Form order page r at_least told) Is (ring_faults name faults) (is_clear faults)
+rows_first Form order page r at_least faults told name Is lifts rows =
+    by_head Form order page r at_least name Is lifts told faults.head faults.keys (with_keys None faults) rows.ring rows.keys
 
 -- ---- a table
 
-module _ (config : TableConfig) (page : ℕ → List ℕ) where
+module _ (config : TableConfig) (log : Option RingPlace) (page : ℕ → List ℕ) where
   -- a ring that it may not have
-  ring_may : (Form : ℕ → List ℕ → Type 0) (at_least : ℕ) (o : Option RingPlace) (faults : RingFaults) (told : Option Numbering) (name : RingName) (Is : Finding → Type 0)
-      → ((place : RingPlace) → o ≡ Some place → (rule : Rule) (p : ℕ) → BreaksRing Form None page (shape_in config place) at_least rule p → Is (Fault name p rule))
-      → all.OfRing (λ place faults told. RingTold Form page (shape_in config place) at_least faults told) o faults told
-      → FirstOf (OfRing (λ place n. IsRingSound Form None page (shape_in config place) at_least n) o told) Is (ring_faults name faults) (is_clear faults)
-  ring_may Form at_least None faults told name Is lifts none = inl (record {
+  ring_may : (Form : ℕ → List ℕ → Type 0) (order : KeyOrder) (at_least : ℕ) (Told : RingPlace → RingFaults → Option Numbering → Type 0) (o : Option RingPlace) (faults : RingFaults) (told : Option Numbering)
+      (name : RingName) (Is : Finding → Type 0)
+      → ((place : RingPlace) → o ≡ Some place → Told place faults told → FirstOf (IsSoundBy Form order page (shape_in config place) at_least told) Is (ring_faults name faults) (is_clear faults))
+      → all.OfRing Told o faults told
+      → FirstOf (OfRing (λ place n. IsRingSound Form order page (shape_in config place) at_least n) o told) Is (ring_faults name faults) (is_clear faults)
+  ring_may Form order at_least Told None faults told name Is first none = inl (record {
     none = ap (ring_faults name) none.0;
     cleared = ap is_clear none.0;
-    holds = subst (λ (x : Option Numbering). OfRing (λ place n. IsRingSound Form None page (shape_in config place) at_least n) None x) (sym none.1) tt;
+    holds = subst (λ (x : Option Numbering). OfRing (λ place n. IsRingSound Form order page (shape_in config place) at_least n) None x) (sym none.1) tt;
   })
-  ring_may Form at_least (Some place) faults told name Is lifts ring = by (ring_first Form page (shape_in config place) at_least faults told name Is (lifts place refl) ring)
+  ring_may Form order at_least Told (Some place) faults told name Is first ring = by (first place refl ring)
     where
-      by : FirstOf (IsSoundBy Form None page (shape_in config place) at_least told) Is (ring_faults name faults) (is_clear faults)
-          → FirstOf (OfRing (λ place n. IsRingSound Form None page (shape_in config place) at_least n) (Some place) told) Is (ring_faults name faults) (is_clear faults)
+      by : FirstOf (IsSoundBy Form order page (shape_in config place) at_least told) Is (ring_faults name faults) (is_clear faults)
+          → FirstOf (OfRing (λ place n. IsRingSound Form order page (shape_in config place) at_least n) (Some place) told) Is (ring_faults name faults) (is_clear faults)
       by (inl passes) = inl (record {
         none = passes.none;
         cleared = passes.cleared;
-        holds = subst (λ (x : Option Numbering). OfRing (λ place n. IsRingSound Form None page (shape_in config place) at_least n) (Some place) x) (sym passes.holds.is) passes.holds.sound;
+        holds = subst (λ (x : Option Numbering). OfRing (λ place n. IsRingSound Form order page (shape_in config place) at_least n) (Some place) x) (sym passes.holds.is) passes.holds.sound;
       })
       by (inr begins) = inr begins
 
-  module _ (faults : TableFaults) (a : all.AreTold config page faults) where
+  module _ (faults : TableFaults) (a : all.AreTold config log page faults) where
     abbrev Is : Finding → Type 0
-    Is finding = IsFinding config page finding
+    Is finding = IsFinding config log page finding
 
     abbrev Index : Type 0
     Index = IsIndexSound config page a.index
@@ -210,19 +213,21 @@ module _ (config : TableConfig) (page : ℕ → List ℕ) where
     record Rows : Type 0 where
       n : Numbering
       is : a.rows ≡ Some n
-      sound : IsRingSound (IsRowsForm config) (Some (layout_in config)) page (rows_shape config) (index_end config page a.index) n
+      sound : IsRingSound (IsRowsForm config) (OverPages (layout_in config)) page (rows_shape config) (index_end config page a.index) n
       state : faults.rows.state ≡ None
 
     index_first : FirstOf Index Is (ring_faults named.Index faults.index) (is_clear faults.index)
-    index_first = ring_may (IsIndexForm config) 0 config.index faults.index a.index named.Index Is (λ place is rule p breaks. inl (record { place = place; is = is; breaks = breaks })) a.in_index
+    index_first =
+        ring_may (IsIndexForm config) NoRows 0 (λ place faults told. RingTold (IsIndexForm config) page (shape_in config place) 0 faults told) config.index faults.index a.index named.Index Is
+        (λ place is. ring_first (IsIndexForm config) page (shape_in config place) 0 faults.index a.index named.Index Is (λ rule p breaks. inl (record { place = place; is = is; breaks = breaks }))) a.in_index
 
-    rows_first : Index → FirstOf Rows Is (ring_faults named.Data faults.rows) (is_clear faults.rows)
-    rows_first index =
+    data_first : Index → FirstOf Rows Is (ring_faults named.Data faults.rows) (is_clear faults.rows)
+    data_first index =
         by
-        (by_head (IsRowsForm config) (Some (layout_in config)) page (rows_shape config) (index_end config page a.index) named.Data Is
-        (λ rule p breaks. inl (record { index = a.index; index_sound = index; breaks = breaks })) a.rows faults.rows.head faults.rows.keys (with_keys None faults.rows) a.in_rows.ring a.in_rows.keys)
+        (rows_first (IsRowsForm config) (OverPages (layout_in config)) page (rows_shape config) (index_end config page a.index) faults.rows a.rows named.Data Is
+        (λ rule p breaks. inl (record { index = a.index; index_sound = index; breaks = breaks })) a.in_rows)
       where
-        by : FirstOf (IsSoundBy (IsRowsForm config) (Some (layout_in config)) page (rows_shape config) (index_end config page a.index) a.rows) Is (ring_faults named.Data faults.rows) (is_clear faults.rows)
+        by : FirstOf (IsSoundBy (IsRowsForm config) (OverPages (layout_in config)) page (rows_shape config) (index_end config page a.index) a.rows) Is (ring_faults named.Data faults.rows) (is_clear faults.rows)
             → FirstOf Rows Is (ring_faults named.Data faults.rows) (is_clear faults.rows)
         by (inl passes) = inl (record {
           none = passes.none;
@@ -235,70 +240,92 @@ module _ (config : TableConfig) (page : ℕ → List ℕ) where
     Var = (n : Numbering) × (a.rows ≡ Some n) × IsVarSound config page n a.var × (faults.var.state ≡ None)
 
     var_first : Index × Rows → FirstOf Var Is (ring_faults named.Var faults.var) (is_clear faults.var)
-    var_first two = by (ring_may IsVarForm (tally_in config page two.1.n).blob_end config.var faults.var a.var named.Var Is
-        (λ place is rule p breaks. record { index = a.index; rows = two.1.n; index_sound = two.0; rows_sound = two.1.sound; breaks = record { place = place; is = is; breaks = breaks } })
+    var_first two = by (ring_may IsVarForm NoRows (tally_in config page two.1.n).blob_end
+        (λ place faults told. RingTold IsVarForm page (shape_in config place) (tally_in config page two.1.n).blob_end faults told) config.var faults.var a.var named.Var Is
+        (λ place is. ring_first IsVarForm page (shape_in config place) (tally_in config page two.1.n).blob_end faults.var a.var named.Var Is
+        (λ rule p breaks. record { index = a.index; rows = two.1.n; index_sound = two.0; rows_sound = two.1.sound; breaks = record { place = place; is = is; breaks = breaks } }))
         (subst (λ (x : Option Numbering). all.OfRing (λ place faults told. RingTold IsVarForm page (shape_in config place) (all.tally_told config page x).blob_end faults told) config.var faults.var a.var) two.1.is a.in_var))
       where
-        by : FirstOf (OfRing (λ place n. IsRingSound IsVarForm None page (shape_in config place) (tally_in config page two.1.n).blob_end n) config.var a.var) Is (ring_faults named.Var faults.var) (is_clear faults.var)
+        by : FirstOf (OfRing (λ place n. IsRingSound IsVarForm NoRows page (shape_in config place) (tally_in config page two.1.n).blob_end n) config.var a.var) Is (ring_faults named.Var faults.var) (is_clear faults.var)
             → FirstOf Var Is (ring_faults named.Var faults.var) (is_clear faults.var)
         by (inl passes) = inl (record { none = passes.none; cleared = passes.cleared; holds = (two.1.n, two.1.is, passes.holds, stateless faults.var passes.cleared) })
         by (inr begins) = inr begins
 
+    abbrev Three : Type 0
+    Three = (Index × Rows) × Var
+
+    one_rows : (m n : Numbering) → a.rows ≡ Some m → a.rows ≡ Some n → m ≡ n
+    one_rows m n x y = some_same m n (sym x ∙ y)
+
+    var_sound : (three : Three) → IsVarSound config page three.0.1.n a.var
+    var_sound three = subst (λ (n : Numbering). IsVarSound config page n a.var) (one_rows three.1.0 three.0.1.n three.1.1 three.0.1.is) three.1.2
+
+    abbrev Logged : Type 0
+    Logged = IsLogSound config log page a.logged
+
+    log_first : Three → FirstOf Logged Is (ring_faults named.Log faults.log) (is_clear faults.log)
+    log_first three =
+        ring_may (IsLogForm config) (WithinPages (layout_in config)) 0
+        (λ place faults told. RowsTold (IsLogForm config) (WithinPages (layout_in config)) page (shape_in config place) 0 faults told) log faults.log a.logged named.Log Is
+        (λ place is. rows_first (IsLogForm config) (WithinPages (layout_in config)) page (shape_in config place) 0 faults.log a.logged named.Log Is
+        (λ rule p breaks. record {
+          index = a.index;
+          rows = three.0.1.n;
+          var = a.var;
+          index_sound = three.0.0;
+          rows_sound = three.0.1.sound;
+          var_sound = var_sound three;
+          breaks = record { place = place; is = is; breaks = breaks };
+        })) a.in_log
+
     -- the rings of the table
     abbrev Rings : Type 0
-    Rings = (Index × Rows) × Var
+    Rings = Three × Logged
 
     abbrev numbers : Rings → TableNumbers
-    numbers rings = record { index = a.index; rows = rings.0.1.n; var = a.var }
+    numbers rings = record { index = a.index; rows = rings.0.0.1.n; var = a.var; log = a.logged }
 
-    rings_sound : (rings : Rings) → AreRingsSound config page (numbers rings)
-    rings_sound rings = record {
-      index = rings.0.0;
-      rows = rings.0.1.sound;
-      var = subst (λ (n : Numbering). IsVarSound config page n a.var) (one_rows rings.1.0 rings.0.1.n rings.1.1 rings.0.1.is) rings.1.2;
-    }
-      where
-        one_rows : (m n : Numbering) → a.rows ≡ Some m → a.rows ≡ Some n → m ≡ n
-        one_rows m n x y = some_same m n (sym x ∙ y)
+    rings_sound : (rings : Rings) → AreRingsSound config log page (numbers rings)
+    rings_sound rings = record { index = rings.0.0.0; rows = rings.0.0.1.sound; var = var_sound rings.0; logged = rings.1 }
 
     -- the marks and numbers of the rows, whose states are told
-    ordered : (rings : Rings) → all.in_order faults.rows.state a.rows ≡ Some rings.0.1.n
-    ordered rings = ap (λ (state : Option ℕ). all.in_order state a.rows) rings.0.1.state ∙ rings.0.1.is
+    ordered : (rings : Rings) → all.in_order faults.rows.state a.rows ≡ Some rings.0.0.1.n
+    ordered rings = ap (λ (state : Option ℕ). all.in_order state a.rows) rings.0.0.1.state ∙ rings.0.0.1.is
 
     entry_first : (rings : Rings) → FirstOf (AreEntriesSound config page (numbers rings)) Is (fault_of named.Index Entry faults.entry) (is_none faults.entry)
-    entry_first rings = by config.index a.index refl refl rings.0.0
+    entry_first rings = by config.index a.index refl refl rings.0.0.0
         (subst (λ (x : Option Numbering). all.EntriesTold config page config.index a.index x faults.entry) (ordered rings) a.entry)
       where
-        by : (o : Option RingPlace) (x : Option Numbering) → config.index ≡ o → a.index ≡ x → OfRing (λ place n. IsRingSound (IsIndexForm config) None page (shape_in config place) 0 n) o x
-            → all.EntriesTold config page o x (Some rings.0.1.n) faults.entry
-            → FirstOf (OfRing (λ place n. HaveEntries page (shape_in config place) (rows_shape config) (indexing config n rings.0.1.n)) o x) Is (fault_of named.Index Entry faults.entry) (is_none faults.entry)
+        by : (o : Option RingPlace) (x : Option Numbering) → config.index ≡ o → a.index ≡ x → OfRing (λ place n. IsRingSound (IsIndexForm config) NoRows page (shape_in config place) 0 n) o x
+            → all.EntriesTold config page o x (Some rings.0.0.1.n) faults.entry
+            → FirstOf (OfRing (λ place n. HaveEntries page (shape_in config place) (rows_shape config) (indexing config n rings.0.0.1.n)) o x) Is (fault_of named.Index Entry faults.entry) (is_none faults.entry)
         by None None e f sound told = one_first _ Is named.Index Entry faults.entry (subst (λ (k : Option ℕ). MatchOption k (Unit {0}) (λ p. Is (Fault named.Index p Entry))) (sym told) tt)
         by None (Some n) e f sound told = absurd sound
         by (Some place) None e f sound told = absurd sound
         by (Some place) (Some n) e f sound told = one_first _ Is named.Index Entry faults.entry (lift faults.entry told)
           where
-            lift : (k : Option ℕ) → MatchOption k (HaveEntries page (shape_in config place) (rows_shape config) (indexing config n rings.0.1.n)) (λ p. EntriesBreak page (shape_in config place) (rows_shape config) (indexing config n rings.0.1.n) p)
-                → MatchOption k (HaveEntries page (shape_in config place) (rows_shape config) (indexing config n rings.0.1.n)) (λ p. Is (Fault named.Index p Entry))
+            lift : (k : Option ℕ) → MatchOption k (HaveEntries page (shape_in config place) (rows_shape config) (indexing config n rings.0.0.1.n)) (λ p. EntriesBreak page (shape_in config place) (rows_shape config) (indexing config n rings.0.0.1.n) p)
+                → MatchOption k (HaveEntries page (shape_in config place) (rows_shape config) (indexing config n rings.0.0.1.n)) (λ p. Is (Fault named.Index p Entry))
             lift None have = have
             lift (Some p) breaks = inr (refl, (record { t = numbers rings; rings = rings_sound rings; place = place; n = n; is = e; numbered = f; breaks = breaks }))
 
     blob_first : (rings : Rings) → AreEntriesSound config page (numbers rings) → FirstOf (AreReferencesSound config page (numbers rings)) Is (fault_of named.Data Blob faults.blob) (is_none faults.blob)
-    blob_first rings entries = by config.var a.var refl refl rings.1.2
+    blob_first rings entries = by config.var a.var refl refl rings.0.1.2
         (subst (λ (x : Option Numbering). all.BlobsTold config page config.var a.var x faults.blob) (ordered rings)
-        (subst (λ (state : Option ℕ). all.BlobsTold config page config.var (all.in_order state a.var) (all.in_order faults.rows.state a.rows) faults.blob) rings.1.3 a.blob))
+        (subst (λ (state : Option ℕ). all.BlobsTold config page config.var (all.in_order state a.var) (all.in_order faults.rows.state a.rows) faults.blob) rings.0.1.3 a.blob))
       where
-        by : (o : Option RingPlace) (x : Option Numbering) → config.var ≡ o → a.var ≡ x → OfRing (λ place n. IsRingSound IsVarForm None page (shape_in config place) (tally_in config page rings.1.0).blob_end n) o x
-            → all.BlobsTold config page o x (Some rings.0.1.n) faults.blob
-            → FirstOf (OfRing (λ place n. AllBelow (PageLeads (layout_in config) page (rows_shape config) rings.0.1.n.marks (shape_in config place) n) rings.0.1.n.marks.kept) o x) Is
+        by : (o : Option RingPlace) (x : Option Numbering) → config.var ≡ o → a.var ≡ x → OfRing (λ place n. IsRingSound IsVarForm NoRows page (shape_in config place) (tally_in config page rings.0.1.0).blob_end n) o x
+            → all.BlobsTold config page o x (Some rings.0.0.1.n) faults.blob
+            → FirstOf (OfRing (λ place n. AllBelow (PageLeads (layout_in config) page (rows_shape config) rings.0.0.1.n.marks (shape_in config place) n) rings.0.0.1.n.marks.kept) o x) Is
             (fault_of named.Data Blob faults.blob) (is_none faults.blob)
         by None None e f sound told = one_first _ Is named.Data Blob faults.blob (subst (λ (k : Option ℕ). MatchOption k (Unit {0}) (λ p. Is (Fault named.Data p Blob))) (sym told) tt)
         by None (Some n) e f sound told = absurd sound
         by (Some place) None e f sound told = absurd sound
         by (Some place) (Some n) e f sound told = one_first _ Is named.Data Blob faults.blob (lift faults.blob told)
           where
-            lift : (k : Option ℕ) → MatchOption k (AllBelow (PageLeads (layout_in config) page (rows_shape config) rings.0.1.n.marks (shape_in config place) n) rings.0.1.n.marks.kept)
-                (λ p. ReferencesBreak (layout_in config) page (rows_shape config) rings.0.1.n.marks (shape_in config place) n p)
-                → MatchOption k (AllBelow (PageLeads (layout_in config) page (rows_shape config) rings.0.1.n.marks (shape_in config place) n) rings.0.1.n.marks.kept) (λ p. Is (Fault named.Data p Blob))
+            lift : (k : Option ℕ) → MatchOption k (AllBelow (PageLeads (layout_in config) page (rows_shape config) rings.0.0.1.n.marks (shape_in config place) n) rings.0.0.1.n.marks.kept)
+                (λ p. ReferencesBreak (layout_in config) page (rows_shape config) rings.0.0.1.n.marks (shape_in config place) n p)
+                → MatchOption k (AllBelow (PageLeads (layout_in config) page (rows_shape config) rings.0.0.1.n.marks (shape_in config place) n) rings.0.0.1.n.marks.kept) (λ p. Is (Fault named.Data p Blob))
             lift None have = have
             lift (Some p) breaks = inr (refl, (record { t = numbers rings; rings = rings_sound rings; entries = entries; place = place; n = n; is = e; numbered = f; breaks = breaks }))
 
@@ -306,32 +333,38 @@ module _ (config : TableConfig) (page : ℕ → List ℕ) where
     pub record IsSoundTable : Type 0 where
       pub t : TableNumbers
       pub rows : a.rows ≡ Some t.rows
-      pub sound : IsSound config page t
+      pub sound : IsSound config log page t
 
     pub table_first : FirstOf IsSoundTable Is (table_faults faults) (are_clear faults)
     table_first = whole references_first
       where
         rows_of : FirstOf ((index : Index) × Rows) Is (ring_faults named.Index faults.index ++ ring_faults named.Data faults.rows) (is_clear faults.index && is_clear faults.rows)
-        rows_of = then_first Index (λ index. Rows) Is (ring_faults named.Index faults.index) (ring_faults named.Data faults.rows) (is_clear faults.index) (is_clear faults.rows) index_first rows_first
+        rows_of = then_first Index (λ index. Rows) Is (ring_faults named.Index faults.index) (ring_faults named.Data faults.rows) (is_clear faults.index) (is_clear faults.rows) index_first data_first
 
-        rings_of : FirstOf ((two : Index × Rows) × Var) Is (ring_faults named.Index faults.index ++ ring_faults named.Data faults.rows ++ ring_faults named.Var faults.var)
+        three_of : FirstOf ((two : Index × Rows) × Var) Is (ring_faults named.Index faults.index ++ ring_faults named.Data faults.rows ++ ring_faults named.Var faults.var)
             (is_clear faults.index && is_clear faults.rows && is_clear faults.var)
-        rings_of =
+        three_of =
             then_first (Index × Rows) (λ two. Var) Is (ring_faults named.Index faults.index ++ ring_faults named.Data faults.rows) (ring_faults named.Var faults.var)
             (is_clear faults.index && is_clear faults.rows) (is_clear faults.var) rows_of var_first
 
+        rings_of : FirstOf ((three : Three) × Logged) Is (ring_faults named.Index faults.index ++ ring_faults named.Data faults.rows ++ ring_faults named.Var faults.var ++ ring_faults named.Log faults.log)
+            (is_clear faults.index && is_clear faults.rows && is_clear faults.var && is_clear faults.log)
+        rings_of =
+            then_first Three (λ three. Logged) Is (ring_faults named.Index faults.index ++ ring_faults named.Data faults.rows ++ ring_faults named.Var faults.var) (ring_faults named.Log faults.log)
+            (is_clear faults.index && is_clear faults.rows && is_clear faults.var) (is_clear faults.log) three_of log_first
+
         entries_of : FirstOf ((rings : Rings) × AreEntriesSound config page (numbers rings)) Is
-            (ring_faults named.Index faults.index ++ ring_faults named.Data faults.rows ++ ring_faults named.Var faults.var ++ fault_of named.Index Entry faults.entry)
-            (is_clear faults.index && is_clear faults.rows && is_clear faults.var && is_none faults.entry)
+            (ring_faults named.Index faults.index ++ ring_faults named.Data faults.rows ++ ring_faults named.Var faults.var ++ ring_faults named.Log faults.log ++ fault_of named.Index Entry faults.entry)
+            (is_clear faults.index && is_clear faults.rows && is_clear faults.var && is_clear faults.log && is_none faults.entry)
         entries_of =
-            then_first Rings (λ rings. AreEntriesSound config page (numbers rings)) Is (ring_faults named.Index faults.index ++ ring_faults named.Data faults.rows ++ ring_faults named.Var faults.var)
-            (fault_of named.Index Entry faults.entry) (is_clear faults.index && is_clear faults.rows && is_clear faults.var) (is_none faults.entry) rings_of entry_first
+            then_first Rings (λ rings. AreEntriesSound config page (numbers rings)) Is (ring_faults named.Index faults.index ++ ring_faults named.Data faults.rows ++ ring_faults named.Var faults.var ++ ring_faults named.Log faults.log)
+            (fault_of named.Index Entry faults.entry) (is_clear faults.index && is_clear faults.rows && is_clear faults.var && is_clear faults.log) (is_none faults.entry) rings_of entry_first
 
         references_first : FirstOf ((x : (rings : Rings) × AreEntriesSound config page (numbers rings)) × AreReferencesSound config page (numbers x.0)) Is (table_faults faults) (are_clear faults)
         references_first =
             then_first ((rings : Rings) × AreEntriesSound config page (numbers rings)) (λ x. AreReferencesSound config page (numbers x.0)) Is
-            (ring_faults named.Index faults.index ++ ring_faults named.Data faults.rows ++ ring_faults named.Var faults.var ++ fault_of named.Index Entry faults.entry)
-            (fault_of named.Data Blob faults.blob) (is_clear faults.index && is_clear faults.rows && is_clear faults.var && is_none faults.entry) (is_none faults.blob) entries_of
+            (ring_faults named.Index faults.index ++ ring_faults named.Data faults.rows ++ ring_faults named.Var faults.var ++ ring_faults named.Log faults.log ++ fault_of named.Index Entry faults.entry)
+            (fault_of named.Data Blob faults.blob) (is_clear faults.index && is_clear faults.rows && is_clear faults.var && is_clear faults.log && is_none faults.entry) (is_none faults.blob) entries_of
             (λ x. blob_first x.0 x.1)
 
         whole : FirstOf ((x : (rings : Rings) × AreEntriesSound config page (numbers rings)) × AreReferencesSound config page (numbers x.0)) Is (table_faults faults) (are_clear faults)
@@ -341,7 +374,7 @@ module _ (config : TableConfig) (page : ℕ → List ℕ) where
           cleared = passes.cleared;
           holds = record {
             t = numbers passes.holds.0.0;
-            rows = passes.holds.0.0.0.1.is;
+            rows = passes.holds.0.0.0.0.1.is;
             sound = record { rings = rings_sound passes.holds.0.0; entries = passes.holds.0.1; references = passes.holds.1 };
           };
         })

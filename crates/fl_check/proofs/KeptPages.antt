@@ -65,12 +65,12 @@ module _ (plan : Plan) (entry : Entry) (fits : FitsPlan plan entry) where
 abbrev AreNumbered : List Entry → Type 0
 AreNumbered entries = (i : ℕ) (entry : Entry) (blob : List ℕ) → slice_get entries i ≡ Some entry → entry.kept.blob ≡ Some blob → 0 < length blob → entry.page < 4294967295
 
-rows-storable : (plan : Plan) (entries : List Entry) → AreNumbered entries → AllByRecursion (FitsPlan plan) entries → AllByRecursion (IsStorable (row_layout plan)) (map stored_row entries)
+pub rows-storable : (plan : Plan) (entries : List Entry) → AreNumbered entries → AllByRecursion (FitsPlan plan) entries → AllByRecursion (IsStorable (row_layout plan)) (map stored_row entries)
 rows-storable plan [] numbered fit = tt
 rows-storable plan (entry ∷ entries) numbered fit =
     (row-storable plan entry fit.0 (λ blob is some. numbered 0 entry blob refl is some), rows-storable plan entries (λ i. numbered (suc i)) fit.1)
 
-rows-plain : (plan : Plan) (entries : List Entry) → AllByRecursion (FitsPlan plan) entries → are_plain (map stored_row entries) ≡ true
+pub rows-plain : (plan : Plan) (entries : List Entry) → AllByRecursion (FitsPlan plan) entries → are_plain (map stored_row entries) ≡ true
 rows-plain plan [] fit = refl
 rows-plain plan (entry ∷ entries) fit = rw (row-plain plan entry fit.0) (rows-plain plan entries fit.1)
 
@@ -134,7 +134,7 @@ module _ (plan : Plan) (table : Table) (facts : IsTable plan table) (i count : �
 
 -- ---- keys
 
-entries-ascend : (above : Option ℕ) (entries : List Entry) → ((entry : Entry) → slice_get entries 0 ≡ Some entry → is_above above entry.kept.key ≡ true)
+pub entries-ascend : (above : Option ℕ) (entries : List Entry) → ((entry : Entry) → slice_get entries 0 ≡ Some entry → is_above above entry.kept.key ≡ true)
     → ((i j : ℕ) (a b : Entry) → i < j → slice_get entries i ≡ Some a → slice_get entries j ≡ Some b → a.kept.key < b.kept.key) → Ascends above (map stored_row entries)
 entries-ascend above [] first ascending = tt
 entries-ascend above (entry ∷ entries) first ascending = (

@@ -1,15 +1,17 @@
 -- Looks one after another, which leave the pages as they are.
-use Rattle.std.proofs.Common.{◌≡◌, ℕ, ◌+◌, ◌*◌, ◌≤◌, List, IsTrue, IfSome, refl, sym, ◌∙◌, ap, subst, arith}
+use Rattle.std.proofs.Common.{◌≡◌, ℕ, ◌+◌, ◌*◌, ◌≤◌, List, Option, IsTrue, IfSome, refl, sym, ◌∙◌, ap, subst, arith}
 use Rattle.fl_base.specs.declared.types.Geometry.{Geometry}
+use Rattle.fl_base.specs.declared.types.RingPlace.{RingPlace}
 use Rattle.fl_flash.specs.Flash.{FlashState, page_at}
 use Rattle.fl_flash.specs.Places.{page_of}
 use Rattle.fl_flash.specs.declared.flash.FlashFault.{FlashFault}
 use Rattle.fl_flash.specs.declared.flash.FlashFault.TheVariants.{PowerLost, Media}
 use Rattle.fl_ring.specs.Looking.{OnlyReads, ReadFails}
 use Rattle.fl_ring.proofs.Readings.{goes_more, goes_same}
+use Rattle.fl_plan.specs.Limits.{IsRingSize}
 use Rattle.fl_plan.specs.declared.table_config.TableConfig.{TableConfig}
 use Rattle.fl_check.specs.Looks.{OnlyLooks}
-use Rattle.fl_check.specs.Whole.{Fits}
+use Rattle.fl_check.specs.Whole.{Fits, LogFits}
 
 pub looks_by : (a b : FlashState) (n : ℕ) → OnlyReads a n b → OnlyLooks a b
 looks_by a b n x = record { goes = x.goes; same = x.same; armed = x.armed; power = x.power; cuts = x.cuts; programs = x.programs; erases = x.erases }
@@ -55,3 +57,7 @@ fits_still config a b x fits = record {
   var = subst (λ (k : ℕ). IfSome config.var (λ place. place.first_block + place.blocks ≤ k)) (sym x.goes.blocks) fits.var;
   few = rw (ap (λ (k : ℕ). k * b.geometry.block) x.goes.blocks ∙ ap (λ (g : Geometry). a.blocks * g.block) x.goes.geometry) fits.few;
 }
+
+-- .. and its log
+pub log_still : (log : Option RingPlace) (a b : FlashState) → OnlyLooks a b → LogFits log a → LogFits log b
+log_still log a b x fits = subst (λ (k : ℕ). IfSome log (λ place. IsRingSize place × (place.first_block + place.blocks ≤ k))) (sym x.goes.blocks) fits

@@ -1,12 +1,11 @@
 -- One rule of a ring is the first that doesn't hold, and one page the first that breaks it, or all of them hold.
-use Rattle.std.proofs.Common.{◌≡◌, ◌⊎◌, inl, inr, ℕ, List, Option, Some, None, refl, sym, ◌∙◌, ap}
+use Rattle.std.proofs.Common.{◌≡◌, ◌⊎◌, inl, inr, ℕ, List, refl, sym, ◌∙◌, ap}
 use Rattle.std.proofs.lemmas.Bool.{cases_order}
-use Rattle.fl_model.specs.Record.{RowLayout}
 use Rattle.fl_ring.specs.Ring.{Shape}
 use Rattle.fl_check.specs.Bodies.{HasBody, HaveBodies, BodiesBreak}
 use Rattle.fl_check.specs.Numbering.{IsNumbered, BreaksFirst}
 use Rattle.fl_check.specs.Rest.{IsRestBlank, RestBreaks, rest_from, rest_to}
-use Rattle.fl_check.specs.RingRules.{IsFormed, HaveKeys, BreakKeys, IsRingSound, BreaksRing}
+use Rattle.fl_check.specs.RingRules.{KeyOrder, NoRows, OverPages, WithinPages, IsAscending, IsFormed, HaveKeys, BreakKeys, IsRingSound, BreaksRing}
 use Rattle.fl_check.specs.Rising.{Rises}
 use Rattle.fl_check.specs.States.{IsWritten, page_after}
 use Rattle.fl_check.specs.declared.marks.Marks.{Marks}
@@ -32,15 +31,18 @@ module _ (page : ℕ → List ℕ) (r : Shape) (m : Marks) where
   rest_never p (inl wait) a = a.must wait
   rest_never p (inr blank) a = a.first.here (blank a.j a.first.low a.first.high)
 
-  keys_once : (rows : Option RowLayout) (p q : ℕ) → BreakKeys rows page r m p → BreakKeys rows page r m q → p ≡ q
-  keys_once None p q a b = absurd a
-  keys_once (Some layout) p q a b = kept_once (Rises layout page r m) r m p q a b
+module _ (page : ℕ → List ℕ) (r : Shape) (n : Numbering) where
+  keys_once : (order : KeyOrder) (p q : ℕ) → BreakKeys order page r n p → BreakKeys order page r n q → p ≡ q
+  keys_once NoRows p q a b = absurd a
+  keys_once (OverPages layout) p q a b = kept_once (Rises layout page r n.marks) r n.marks p q a b
+  keys_once (WithinPages layout) p q a b = kept_once (HasBody (IsAscending layout) page r n) r n.marks p q a b
 
-  keys_never : (rows : Option RowLayout) (p : ℕ) → HaveKeys rows page r m → BreakKeys rows page r m p → ⊥
-  keys_never None p have a = a
-  keys_never (Some layout) p have a = kept_never (Rises layout page r m) r m p have a
+  keys_never : (order : KeyOrder) (p : ℕ) → HaveKeys order page r n → BreakKeys order page r n p → ⊥
+  keys_never NoRows p have a = a
+  keys_never (OverPages layout) p have a = kept_never (Rises layout page r n.marks) r n.marks p have a
+  keys_never (WithinPages layout) p have a = kept_never (HasBody (IsAscending layout) page r n) r n.marks p have a
 
-module _ (Form : ℕ → List ℕ → Type 0) (rows : Option RowLayout) (page : ℕ → List ℕ) (r : Shape) (at_least : ℕ) where
+module _ (Form : ℕ → List ℕ → Type 0) (order : KeyOrder) (page : ℕ → List ℕ) (r : Shape) (at_least : ℕ) where
   abbrev Numbered : Numbering → Type 0
   Numbered n = IsNumbered page r at_least n.marks n.next
 
@@ -54,10 +56,10 @@ module _ (Form : ℕ → List ℕ → Type 0) (rows : Option RowLayout) (page : 
   Unformed b = Unnumbered b ⊎ After Numbered UnformedAt b
 
   abbrev UnorderedAt : Numbering → Breach → Type 0
-  UnorderedAt n b = (b.rule ≡ Keys) × BreakKeys rows page r n.marks b.page
+  UnorderedAt n b = (b.rule ≡ Keys) × BreakKeys order page r n b.page
 
   abbrev Ordered : Numbering → Type 0
-  Ordered n = IsFormed Form page r at_least n × HaveKeys rows page r n.marks
+  Ordered n = IsFormed Form page r at_least n × HaveKeys order page r n
 
   abbrev Unordered : Breach → Type 0
   Unordered b = Unformed b ⊎ After (IsFormed Form page r at_least) UnorderedAt b
@@ -73,11 +75,11 @@ module _ (Form : ℕ → List ℕ → Type 0) (rows : Option RowLayout) (page : 
 
   ordered_decided : Decided Ordered Unordered
   ordered_decided =
-      then_claimed (IsFormed Form page r at_least) Unformed (λ (n : Numbering). HaveKeys rows page r n.marks) UnorderedAt Ordered Unordered formed_decided
-      (λ n. claim_decided Keys (HaveKeys rows page r n.marks) (BreakKeys rows page r n.marks) (keys_once page r n.marks rows) (keys_never page r n.marks rows))
+      then_claimed (IsFormed Form page r at_least) Unformed (λ (n : Numbering). HaveKeys order page r n) UnorderedAt Ordered Unordered formed_decided
+      (λ n. claim_decided Keys (HaveKeys order page r n) (BreakKeys order page r n) (keys_once page r n order) (keys_never page r n order))
       (λ n have. have) (λ b breaks. breaks)
 
-  by_rule : (rule : Rule) (p : ℕ) → BreaksRing Form rows page r at_least rule p → Unordered (record { rule = rule; page = p }) ⊎ After Ordered UnblankAt (record { rule = rule; page = p })
+  by_rule : (rule : Rule) (p : ℕ) → BreaksRing Form order page r at_least rule p → Unordered (record { rule = rule; page = p }) ⊎ After Ordered UnblankAt (record { rule = rule; page = p })
   by_rule Head p breaks = inl (inl (inl breaks))
   by_rule State p breaks = inl (inl (inl breaks))
   by_rule Number p breaks = inl (inl (inl breaks))
@@ -87,9 +89,9 @@ module _ (Form : ℕ → List ℕ → Type 0) (rows : Option RowLayout) (page : 
   by_rule Blob p breaks = absurd breaks
   by_rule Rest p breaks = inr (record { x = breaks.n; passes = (breaks.formed, breaks.keys); breaks = (refl, breaks.breaks) })
 
-  pub ring_decided : Decided (IsRingSound Form rows page r at_least) (λ (b : Breach). BreaksRing Form rows page r at_least b.rule b.page)
+  pub ring_decided : Decided (IsRingSound Form order page r at_least) (λ (b : Breach). BreaksRing Form order page r at_least b.rule b.page)
   ring_decided =
-      then_claimed Ordered Unordered (λ (n : Numbering). IsRestBlank page r n.marks) UnblankAt (IsRingSound Form rows page r at_least)
-      (λ (b : Breach). BreaksRing Form rows page r at_least b.rule b.page) ordered_decided
+      then_claimed Ordered Unordered (λ (n : Numbering). IsRestBlank page r n.marks) UnblankAt (IsRingSound Form order page r at_least)
+      (λ (b : Breach). BreaksRing Form order page r at_least b.rule b.page) ordered_decided
       (λ n. claim_decided Rest (IsRestBlank page r n.marks) (RestBreaks page r n.marks) (rest_once page r n.marks) (rest_never page r n.marks))
       (λ n sound. ((sound.formed, sound.keys), sound.rest)) (λ b breaks. by_rule b.rule b.page breaks)

@@ -7,8 +7,8 @@ use Rattle.fl_check.specs.Claims.{AllBelow}
 use Rattle.fl_check.specs.Entries.{IndexOver, HasEntries, HaveEntries, EntriesBreak}
 use Rattle.fl_check.specs.Marks.{kept_page}
 use Rattle.fl_check.specs.References.{PageLeads, ReferencesBreak}
-use Rattle.fl_check.specs.RingRules.{IsRingSound, BreaksRing}
-use Rattle.fl_check.specs.Whole.{OfRing, shape_in, rows_shape, layout_in, indexing, index_end, tally_in, IsIndexForm, IsRowsForm, IsVarForm, IsIndexSound, AreRowsSound, IsVarSound, AreRingsSound, AreEntriesSound, AreReferencesSound, IsSound, IsFirstFault, IsFinding}
+use Rattle.fl_check.specs.RingRules.{NoRows, OverPages, WithinPages, IsRingSound, BreaksRing}
+use Rattle.fl_check.specs.Whole.{OfRing, shape_in, rows_shape, layout_in, indexing, index_end, tally_in, IsIndexForm, IsRowsForm, IsVarForm, IsLogForm, IsIndexSound, AreRowsSound, IsVarSound, IsLogSound, AreRingsSound, AreEntriesSound, AreReferencesSound, IsSound, IsFirstFault, IsFinding}
 use Rattle.fl_check.specs.declared.finding.Finding.{Finding}
 use Rattle.fl_check.specs.declared.finding.Finding.TheVariants.{Sound, Fault}
 use Rattle.fl_check.specs.declared.finding.RingName.{RingName}
@@ -81,16 +81,16 @@ of_decided Holds Breaks d o = record {
     either None b h k = h
     either {place} (Some n) b h k = (d place).either n b h k
 
-module _ (config : TableConfig) (page : ℕ → List ℕ) where
+module _ (config : TableConfig) (log : Option RingPlace) (page : ℕ → List ℕ) where
   abbrev IndexBreaks : RingPlace → halt.Fault → Type 0
-  IndexBreaks place fault = (fault.ring ≡ Index) × BreaksRing (IsIndexForm config) None page (shape_in config place) 0 fault.rule fault.page
+  IndexBreaks place fault = (fault.ring ≡ Index) × BreaksRing (IsIndexForm config) NoRows page (shape_in config place) 0 fault.rule fault.page
 
   abbrev RowsBreak : Option Numbering → halt.Fault → Type 0
   RowsBreak index fault =
-      (fault.ring ≡ Data) × BreaksRing (IsRowsForm config) (Some (layout_in config)) page (rows_shape config) (index_end config page index) fault.rule fault.page
+      (fault.ring ≡ Data) × BreaksRing (IsRowsForm config) (OverPages (layout_in config)) page (rows_shape config) (index_end config page index) fault.rule fault.page
 
   abbrev VarBreaks : Numbering → RingPlace → halt.Fault → Type 0
-  VarBreaks rows place fault = (fault.ring ≡ Var) × BreaksRing IsVarForm None page (shape_in config place) (tally_in config page rows).blob_end fault.rule fault.page
+  VarBreaks rows place fault = (fault.ring ≡ Var) × BreaksRing IsVarForm NoRows page (shape_in config place) (tally_in config page rows).blob_end fault.rule fault.page
 
   abbrev Two : Type 0
   Two = Option Numbering × Numbering
@@ -107,36 +107,64 @@ module _ (config : TableConfig) (page : ℕ → List ℕ) where
   abbrev VarBreaksIn : Two → halt.Fault → Type 0
   VarBreaksIn x fault = BreaksAt (VarBreaks x.1) config.var fault
 
+  abbrev Three : Type 0
+  Three = Two × Option Numbering
+
+  abbrev ThreeSound : Three → Type 0
+  ThreeSound x = TwoSound x.0 × IsVarSound config page x.0.1 x.1
+
+  abbrev ThreeBreak : halt.Fault → Type 0
+  ThreeBreak fault = TwoBreak fault ⊎ After TwoSound VarBreaksIn fault
+
+  abbrev LogBreaks : RingPlace → halt.Fault → Type 0
+  LogBreaks place fault = (fault.ring ≡ Log) × BreaksRing (IsLogForm config) (WithinPages (layout_in config)) page (shape_in config place) 0 fault.rule fault.page
+
+  abbrev LogBreaksIn : Three → halt.Fault → Type 0
+  LogBreaksIn x fault = BreaksAt LogBreaks log fault
+
   abbrev RingsBreak : halt.Fault → Type 0
-  RingsBreak fault = TwoBreak fault ⊎ After TwoSound VarBreaksIn fault
+  RingsBreak fault = ThreeBreak fault ⊎ After ThreeSound LogBreaksIn fault
 
   index_decided : Decided IndexSound (BreaksAt IndexBreaks config.index)
   index_decided =
-      of_decided (λ place n. IsRingSound (IsIndexForm config) None page (shape_in config place) 0 n) IndexBreaks
-      (λ place. named Index _ (λ p rule. BreaksRing (IsIndexForm config) None page (shape_in config place) 0 rule p) (ring_decided (IsIndexForm config) None page (shape_in config place) 0)) config.index
+      of_decided (λ place n. IsRingSound (IsIndexForm config) NoRows page (shape_in config place) 0 n) IndexBreaks
+      (λ place. named Index _ (λ p rule. BreaksRing (IsIndexForm config) NoRows page (shape_in config place) 0 rule p) (ring_decided (IsIndexForm config) NoRows page (shape_in config place) 0)) config.index
 
   two_decided : Decided TwoSound TwoBreak
   two_decided =
       then_decided IndexSound (BreaksAt IndexBreaks config.index) (λ (index : Option Numbering) (rows : Numbering). AreRowsSound config page index rows) RowsBreak TwoSound TwoBreak
       (λ (x : Two). x.0) (λ (x : Two). x.1) index_decided
-      (λ index. named Data _ (λ p rule. BreaksRing (IsRowsForm config) (Some (layout_in config)) page (rows_shape config) (index_end config page index) rule p)
-      (ring_decided (IsRowsForm config) (Some (layout_in config)) page (rows_shape config) (index_end config page index)))
+      (λ index. named Data _ (λ p rule. BreaksRing (IsRowsForm config) (OverPages (layout_in config)) page (rows_shape config) (index_end config page index) rule p)
+      (ring_decided (IsRowsForm config) (OverPages (layout_in config)) page (rows_shape config) (index_end config page index)))
       (λ x y index rows. ap (λ (i : Option Numbering). two i x.1) index ∙ ap (λ (n : Numbering). two y.0 n) rows) (λ x h. h) (λ b breaks. breaks)
     where
       two : Option Numbering → Numbering → Two
       two index rows = (index, rows)
 
-  rings_decided : Decided (AreRingsSound config page) RingsBreak
-  rings_decided =
-      then_decided TwoSound TwoBreak (λ (x : Two) (var : Option Numbering). IsVarSound config page x.1 var) VarBreaksIn (AreRingsSound config page) RingsBreak
-      (λ (t : TableNumbers). (t.index, t.rows)) (λ (t : TableNumbers). t.var) two_decided
-      (λ x. of_decided (λ place n. IsRingSound IsVarForm None page (shape_in config place) (tally_in config page x.1).blob_end n) (VarBreaks x.1)
-      (λ place. named Var _ (λ p rule. BreaksRing IsVarForm None page (shape_in config place) (tally_in config page x.1).blob_end rule p)
-      (ring_decided IsVarForm None page (shape_in config place) (tally_in config page x.1).blob_end)) config.var)
-      (λ t u two var. ap (λ (x : Two). table_of x t.var) two ∙ ap (λ (v : Option Numbering). table_of (u.index, u.rows) v) var) (λ t h. ((h.index, h.rows), h.var)) (λ b breaks. breaks)
+  three_decided : Decided ThreeSound ThreeBreak
+  three_decided =
+      then_decided TwoSound TwoBreak (λ (x : Two) (var : Option Numbering). IsVarSound config page x.1 var) VarBreaksIn ThreeSound ThreeBreak
+      (λ (x : Three). x.0) (λ (x : Three). x.1) two_decided
+      (λ x. of_decided (λ place n. IsRingSound IsVarForm NoRows page (shape_in config place) (tally_in config page x.1).blob_end n) (VarBreaks x.1)
+      (λ place. named Var _ (λ p rule. BreaksRing IsVarForm NoRows page (shape_in config place) (tally_in config page x.1).blob_end rule p)
+      (ring_decided IsVarForm NoRows page (shape_in config place) (tally_in config page x.1).blob_end)) config.var)
+      (λ x y two var. ap (λ (t : Two). three t x.1) two ∙ ap (λ (v : Option Numbering). three y.0 v) var) (λ x h. h) (λ b breaks. breaks)
     where
-      table_of : Two → Option Numbering → TableNumbers
-      table_of x var = record { index = x.0; rows = x.1; var = var }
+      three : Two → Option Numbering → Three
+      three two var = (two, var)
+
+  rings_decided : Decided (AreRingsSound config log page) RingsBreak
+  rings_decided =
+      then_decided ThreeSound ThreeBreak (λ (x : Three) (newest : Option Numbering). IsLogSound config log page newest) LogBreaksIn (AreRingsSound config log page) RingsBreak
+      (λ (t : TableNumbers). ((t.index, t.rows), t.var)) (λ (t : TableNumbers). t.log) three_decided
+      (λ x. of_decided (λ place n. IsRingSound (IsLogForm config) (WithinPages (layout_in config)) page (shape_in config place) 0 n) LogBreaks
+      (λ place. named Log _ (λ p rule. BreaksRing (IsLogForm config) (WithinPages (layout_in config)) page (shape_in config place) 0 rule p)
+      (ring_decided (IsLogForm config) (WithinPages (layout_in config)) page (shape_in config place) 0)) log)
+      (λ t u three newest. ap (λ (x : Three). table_of x t.log) three ∙ ap (λ (v : Option Numbering). table_of ((u.index, u.rows), u.var) v) newest)
+      (λ t h. (((h.index, h.rows), h.var), h.logged)) (λ b breaks. breaks)
+    where
+      table_of : Three → Option Numbering → TableNumbers
+      table_of x newest = record { index = x.0.0; rows = x.0.1; var = x.1; log = newest }
 
   -- ---- the index
 
@@ -207,33 +235,38 @@ module _ (config : TableConfig) (page : ℕ → List ℕ) where
   -- ---- all rules
 
   abbrev EntriesSound : TableNumbers → Type 0
-  EntriesSound t = AreRingsSound config page t × AreEntriesSound config page t
+  EntriesSound t = AreRingsSound config log page t × AreEntriesSound config page t
 
   abbrev UpToEntries : halt.Fault → Type 0
-  UpToEntries fault = RingsBreak fault ⊎ After (AreRingsSound config page) EntriesBreakIn fault
+  UpToEntries fault = RingsBreak fault ⊎ After (AreRingsSound config log page) EntriesBreakIn fault
 
   indexed_decided : Decided EntriesSound UpToEntries
-  indexed_decided = then_claimed (AreRingsSound config page) RingsBreak (AreEntriesSound config page) EntriesBreakIn EntriesSound UpToEntries rings_decided entries_decided (λ t h. h) (λ b breaks. breaks)
+  indexed_decided = then_claimed (AreRingsSound config log page) RingsBreak (AreEntriesSound config page) EntriesBreakIn EntriesSound UpToEntries rings_decided entries_decided (λ t h. h) (λ b breaks. breaks)
 
-  by_name : (ring : RingName) (p : ℕ) (rule : Rule) → IsFirstFault config page ring p rule → UpToEntries (fault_at ring p rule) ⊎ After EntriesSound ReferencesBreakIn (fault_at ring p rule)
-  by_name Index p rule (inl own) = inl (inl (inl (inl (record { place = own.place; is = own.is; breaks = (refl, own.breaks) }))))
+  by_name : (ring : RingName) (p : ℕ) (rule : Rule) → IsFirstFault config log page ring p rule → UpToEntries (fault_at ring p rule) ⊎ After EntriesSound ReferencesBreakIn (fault_at ring p rule)
+  by_name Index p rule (inl own) = inl (inl (inl (inl (inl (record { place = own.place; is = own.is; breaks = (refl, own.breaks) })))))
   by_name Index p rule (inr both) =
       inl (inr (record { x = both.1.t; passes = both.1.rings; breaks = record { place = both.1.place; n = both.1.n; is = both.1.is; numbered = both.1.numbered; ring = refl; rule = both.0; breaks = both.1.breaks } }))
-  by_name Data p rule (inl own) = inl (inl (inl (inr (record { x = own.index; passes = own.index_sound; breaks = (refl, own.breaks) }))))
+  by_name Data p rule (inl own) = inl (inl (inl (inl (inr (record { x = own.index; passes = own.index_sound; breaks = (refl, own.breaks) })))))
   by_name Data p rule (inr both) =
       inr (record { x = both.1.t; passes = (both.1.rings, both.1.entries); breaks = record { place = both.1.place; n = both.1.n; is = both.1.is; numbered = both.1.numbered; ring = refl; rule = both.0; breaks = both.1.breaks } })
   by_name Var p rule own =
-      inl (inl (inr (record { x = (own.index, own.rows); passes = (own.index_sound, own.rows_sound); breaks = record { place = own.breaks.place; is = own.breaks.is; breaks = (refl, own.breaks.breaks) } })))
-  by_name Log p rule own = absurd own
+      inl (inl (inl (inr (record { x = (own.index, own.rows); passes = (own.index_sound, own.rows_sound); breaks = record { place = own.breaks.place; is = own.breaks.is; breaks = (refl, own.breaks.breaks) } }))))
+  by_name Log p rule own =
+      inl (inl (inr (record {
+        x = ((own.index, own.rows), own.var);
+        passes = ((own.index_sound, own.rows_sound), own.var_sound);
+        breaks = record { place = own.breaks.place; is = own.breaks.is; breaks = (refl, own.breaks.breaks) };
+      })))
 
-  pub table_decided : Decided (IsSound config page) (λ (fault : halt.Fault). IsFirstFault config page fault.ring fault.page fault.rule)
+  pub table_decided : Decided (IsSound config log page) (λ (fault : halt.Fault). IsFirstFault config log page fault.ring fault.page fault.rule)
   table_decided =
-      then_claimed EntriesSound UpToEntries (AreReferencesSound config page) ReferencesBreakIn (IsSound config page) (λ (fault : halt.Fault). IsFirstFault config page fault.ring fault.page fault.rule) indexed_decided
+      then_claimed EntriesSound UpToEntries (AreReferencesSound config page) ReferencesBreakIn (IsSound config log page) (λ (fault : halt.Fault). IsFirstFault config log page fault.ring fault.page fault.rule) indexed_decided
       references_decided (λ t sound. ((sound.rings, sound.entries), sound.references)) (λ b breaks. by_name b.ring b.page b.rule breaks)
 
   -- ---- what is found
 
-  pub one_finding : (a b : Finding) → IsFinding config page a → IsFinding config page b → a ≡ b
+  pub one_finding : (a b : Finding) → IsFinding config log page a → IsFinding config log page b → a ≡ b
   one_finding (Sound rows pages voids) (Sound rows' pages' voids') h k =
       let same = table_decided.one h.1.t k.1.t h.1.sound k.1.sound in
       let tally = h.1.tally_is ∙ ap (λ (t : TableNumbers). tally_in config page t.rows) same ∙ sym k.1.tally_is in

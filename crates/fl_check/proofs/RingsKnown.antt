@@ -1,5 +1,5 @@
 -- What a table's rings are known to be, while its check goes from ring to ring.
-use Rattle.std.proofs.Common.{◌≡◌, ℕ, ◌+◌, ◌-◌, ◌<◌, nat_lt, true, IsTrue, Option, Some, None, length, ap, subst, arith}
+use Rattle.std.proofs.Common.{◌≡◌, ℕ, ◌+◌, ◌-◌, ◌<◌, nat_lt, true, IsTrue, Option, length, ap, subst, arith}
 use Rattle.fl_base.specs.declared.types.Geometry.{Geometry}
 use Rattle.fl_base.specs.declared.types.RingPlace.{RingPlace}
 use Rattle.fl_flash.specs.Flash.{FlashState, page_at}
@@ -14,7 +14,7 @@ use Rattle.fl_check.specs.Looks.{OnlyLooks}
 use Rattle.fl_check.specs.Numbers.{HaveNumbers}
 use Rattle.fl_check.specs.Reaches.{HasContent}
 use Rattle.fl_check.specs.Rising.{HaveRows}
-use Rattle.fl_check.specs.RingRules.{IsRingSound}
+use Rattle.fl_check.specs.RingRules.{NoRows, OverPages, IsRingSound}
 use Rattle.fl_check.specs.Whole.{Fits, shape_in, rows_shape, layout_in, index_end, tally_in, IsRowsForm, IsVarForm, AreRowsSound}
 use Rattle.fl_check.specs.declared.numbering.Numbering.{Numbering}
 use Rattle.fl_check.specs.declared.tally.Tally.{Tally}
@@ -38,7 +38,7 @@ rows_there config f at_least n fits numbers bodies =
 
 -- .. and so of a sound one
 pub sound_rows : (config : TableConfig) (f : FlashState) (at_least : ℕ) (n : Numbering) → Fits config f
-    → IsRingSound (IsRowsForm config) (Some (layout_in config)) (page_at f) (rows_shape config) at_least n → HaveRows (layout_in config) (page_at f) (rows_shape config) n.marks
+    → IsRingSound (IsRowsForm config) (OverPages (layout_in config)) (page_at f) (rows_shape config) at_least n → HaveRows (layout_in config) (page_at f) (rows_shape config) n.marks
 sound_rows config f at_least n fits is = rows_there config f at_least n fits is.formed.numbered.numbers is.formed.bodies
 
 -- the committed pages of a ring of variable data that have their numbers and bodies have content
@@ -66,18 +66,18 @@ content_there config f place at_least n fits numbers bodies i lt committed =
 
 -- .. and so of a sound one
 pub sound_content : (config : TableConfig) (f : FlashState) (place : RingPlace) (at_least : ℕ) (n : Numbering) → Fits config f
-    → IsRingSound IsVarForm None (page_at f) (shape_in config place) at_least n → AllBelow (HasContent (page_at f) (shape_in config place) n.marks.at) n.marks.kept
+    → IsRingSound IsVarForm NoRows (page_at f) (shape_in config place) at_least n → AllBelow (HasContent (page_at f) (shape_in config place) n.marks.at) n.marks.kept
 sound_content config f place at_least n fits is = content_there config f place at_least n fits is.formed.numbered.numbers is.formed.bodies
 
 -- the numbers of the data ring begin after those that the index lists
 pub rows_known : (config : TableConfig) (a b c : FlashState) (index : Option Numbering) (end : ℕ) (rows : Numbering) → OnlyLooks a b → OnlyLooks b c
     → (IsTrue b.media.tells → end ≡ index_end config (page_at b) index)
-    → (IsTrue c.media.tells → IsRingSound (IsRowsForm config) (Some (layout_in config)) (page_at c) (rows_shape config) end rows)
+    → (IsTrue c.media.tells → IsRingSound (IsRowsForm config) (OverPages (layout_in config)) (page_at c) (rows_shape config) end rows)
     → IsTrue a.media.tells → AreRowsSound config (page_at a) index rows
 rows_known config a b c index end rows x y end_is sound told =
     let here = seen a b (λ page. end ≡ index_end config page index) x end_is told in
-    subst (λ (k : ℕ). IsRingSound (IsRowsForm config) (Some (layout_in config)) (page_at a) (rows_shape config) k rows) here
-    (seen a c (λ page. IsRingSound (IsRowsForm config) (Some (layout_in config)) page (rows_shape config) end rows) (looks_more a b c x y) sound told)
+    subst (λ (k : ℕ). IsRingSound (IsRowsForm config) (OverPages (layout_in config)) (page_at a) (rows_shape config) k rows) here
+    (seen a c (λ page. IsRingSound (IsRowsForm config) (OverPages (layout_in config)) page (rows_shape config) end rows) (looks_more a b c x y) sound told)
 
 -- .. and what its pages tell
 pub tally_known : (config : TableConfig) (a b : FlashState) (index : Option Numbering) (rows : Numbering) (tally : Tally) → Fits config a → OnlyLooks a b

@@ -6,6 +6,7 @@ use Rattle.fl_model.specs.Record.{RowLayout}
 use Rattle.fl_plan.specs.declared.table_config.TableConfig.{TableConfig}
 use Rattle.fl_ring.specs.Ring.{Shape}
 use Rattle.fl_check.specs.Faults.{with_keys, are_clear, table_faults}
+use Rattle.fl_check.specs.RingRules.{OverPages}
 use Rattle.fl_check.specs.Rising.{HaveRows, KeysAscend, KeysBreak}
 use Rattle.fl_check.specs.Ruled.{HeadTold, RingTold, KeysTold}
 use Rattle.fl_check.specs.Rules.{OfRing, BlobsTold, HaveContent, AreTold, AreRules, in_order, rules_of, tally_told, kept_in}
@@ -38,7 +39,7 @@ module _ (Form : ℕ → List ℕ → Type 0) (page : ℕ → List ℕ) (r : Sha
 
 pub keys_at : (layout : RowLayout) (page : ℕ → List ℕ) (r : Shape) (rows : Option Numbering) (n : Numbering) (keys : Option ℕ) → rows ≡ Some n
     → (HaveRows layout page r n.marks → MatchOption keys (KeysAscend layout page r n.marks) (λ p. KeysBreak layout page r n.marks p)) → IfSome rows (λ n. HaveRows layout page r n.marks)
-    → KeysTold layout page r rows keys
+    → KeysTold (OverPages layout) page r rows keys
 keys_at layout page r rows n keys e is = rw e is
 
 -- ---- rows and content
@@ -80,16 +81,17 @@ module _ (config : TableConfig) (page : ℕ → List ℕ) where
       → IfSome y (λ n. HaveRows (layout_in config) page (rows_shape config) n.marks) → HaveContent config page o x → BlobsTold config page o x y blob
   blobs_at o x y place var rows blob e f g told = rw (e, f, g) told
 
+module _ (config : TableConfig) (log : Option RingPlace) (page : ℕ → List ℕ) where
   -- what is said of a table with these faults
-  module _ (faults : TableFaults) (a : AreTold config page faults) (tally : Tally) (tally_is : tally ≡ tally_told config page a.rows) where
-    by_clear : (c : Bool) → are_clear faults ≡ c → AreRules config page (if c then Kept tally.rows (kept_in a.rows) tally.voids else Broken faults)
+  module _ (faults : TableFaults) (a : AreTold config log page faults) (tally : Tally) (tally_is : tally ≡ tally_told config page a.rows) where
+    by_clear : (c : Bool) → are_clear faults ≡ c → AreRules config log page (if c then Kept tally.rows (kept_in a.rows) tally.voids else Broken faults)
     by_clear false e = (a, e)
-    by_clear true e = sound (table_first config page faults a)
+    by_clear true e = sound (table_first config log page faults a)
       where
         not_both : true ≡ false → ⊥
         not_both e = cc
 
-        sound : FirstOf (IsSoundTable config page faults a) (λ finding. IsFinding config page finding) (table_faults faults) (are_clear faults) → AreRules config page (Kept tally.rows (kept_in a.rows) tally.voids)
+        sound : FirstOf (IsSoundTable config log page faults a) (λ finding. IsFinding config log page finding) (table_faults faults) (are_clear faults) → AreRules config log page (Kept tally.rows (kept_in a.rows) tally.voids)
         sound (inl passes) =
             let table = passes.holds in (
               tally.blob_end,
@@ -102,5 +104,5 @@ module _ (config : TableConfig) (page : ℕ → List ℕ) where
             )
         sound (inr begins) = absurd (not_both (sym e ∙ begins.unclear))
 
-    pub are_rules : AreRules config page (rules_of faults a.rows tally)
+    pub are_rules : AreRules config log page (rules_of faults a.rows tally)
     are_rules = by_clear (are_clear faults) refl

@@ -7,7 +7,7 @@ use Rattle.fl_check.specs.declared.faults.TableRules.TheVariants.{Kept, Broken}
 use Rattle.fl_check.specs.declared.finding.Finding.{Finding}
 use Rattle.fl_check.specs.declared.finding.Finding.TheVariants.{Sound, Fault}
 use Rattle.fl_check.specs.declared.finding.RingName.{RingName}
-use Rattle.fl_check.specs.declared.finding.RingName.TheVariants.{Index, Data, Var}
+use Rattle.fl_check.specs.declared.finding.RingName.TheVariants.{Index, Data, Var, Log}
 use Rattle.fl_check.specs.declared.rule.Rule.{Rule}
 use Rattle.fl_check.specs.declared.rule.Rule.TheVariants.{Head, State, Number, Body, Keys, Entry, Blob, Rest}
 
@@ -26,7 +26,7 @@ is_clear faults =
     is_none faults.head && is_none faults.state && is_none faults.number && is_none faults.body && is_none faults.keys && is_none faults.rest
 
 abbrev pub are_clear : TableFaults → Bool
-are_clear faults = is_clear faults.index && is_clear faults.rows && is_clear faults.var && is_none faults.entry && is_none faults.blob
+are_clear faults = is_clear faults.index && is_clear faults.rows && is_clear faults.var && is_clear faults.log && is_none faults.entry && is_none faults.blob
 
 -- ---- in the order of the rules
 
@@ -41,7 +41,8 @@ ring_faults ring faults =
 
 abbrev pub table_faults : TableFaults → List Finding
 table_faults faults =
-    ring_faults Index faults.index ++ ring_faults Data faults.rows ++ ring_faults Var faults.var ++ fault_of Index Entry faults.entry ++ fault_of Data Blob faults.blob
+    ring_faults Index faults.index ++ ring_faults Data faults.rows ++ ring_faults Var faults.var ++ ring_faults Log faults.log
+    ++ fault_of Index Entry faults.entry ++ fault_of Data Blob faults.blob
 
 abbrev pub findings_of : TableRules → List Finding
 findings_of (Kept rows pages voids) = Sound rows pages voids ∷ []

@@ -1,14 +1,13 @@
 -- What is told of each rule of a ring. One that rests on a rule that doesn't hold isn't looked at: all rest on that on the head,
 -- that on the bodies also on the numbers, and that on the keys also on the bodies.
 use Rattle.std.specs.Prelude.{◌≡◌, ℕ, Option, Some, None, MatchOption, List}
-use Rattle.fl_model.specs.Record.{RowLayout}
 use Rattle.fl_ring.specs.Ring.{Shape}
 use Rattle.fl_check.specs.Bodies.{HaveBodies, BodiesBreak}
 use Rattle.fl_check.specs.Faults.{headless, with_keys}
 use Rattle.fl_check.specs.Marks.{HasOneHead, AreMarks}
 use Rattle.fl_check.specs.Numbers.{HaveNumbers, NumbersBreak}
 use Rattle.fl_check.specs.Rest.{IsRestBlank, RestBreaks}
-use Rattle.fl_check.specs.Rising.{KeysAscend, KeysBreak}
+use Rattle.fl_check.specs.RingRules.{KeyOrder, HaveKeys, BreakKeys}
 use Rattle.fl_check.specs.States.{HaveStates, StatesBreak}
 use Rattle.fl_check.specs.declared.faults.RingFaults.{RingFaults}
 use Rattle.fl_check.specs.declared.marks.Marks.{Marks}
@@ -47,12 +46,12 @@ module _ (Form : ℕ → List ℕ → Type 0) (page : ℕ → List ℕ) (r : Sha
   abbrev pub RingTold : ℕ → RingFaults → Option Numbering → Type 0
   RingTold at_least faults told = HeadTold at_least faults.head faults told
 
--- that on the keys of a data ring
-abbrev pub KeysTold : RowLayout → (ℕ → List ℕ) → Shape → Option Numbering → Option ℕ → Type 0
-KeysTold layout page r None keys = keys ≡ None
-KeysTold layout page r (Some n) keys = MatchOption keys (KeysAscend layout page r n.marks) (λ p. KeysBreak layout page r n.marks p)
+-- that on the keys
+abbrev pub KeysTold : KeyOrder → (ℕ → List ℕ) → Shape → Option Numbering → Option ℕ → Type 0
+KeysTold order page r None keys = keys ≡ None
+KeysTold order page r (Some n) keys = MatchOption keys (HaveKeys order page r n) (λ p. BreakKeys order page r n p)
 
--- all rules of a data ring
-pub record RowsTold (Form : ℕ → List ℕ → Type 0) (layout : RowLayout) (page : ℕ → List ℕ) (r : Shape) (at_least : ℕ) (faults : RingFaults) (told : Option Numbering) : Type 0 where
+-- all rules of a ring of rows
+pub record RowsTold (Form : ℕ → List ℕ → Type 0) (order : KeyOrder) (page : ℕ → List ℕ) (r : Shape) (at_least : ℕ) (faults : RingFaults) (told : Option Numbering) : Type 0 where
   pub ring : RingTold Form page r at_least (with_keys None faults) told
-  pub keys : KeysTold layout page r told faults.keys
+  pub keys : KeysTold order page r told faults.keys

@@ -7,9 +7,10 @@ use Rattle.fl_check.specs.Entries.{HaveEntries, EntriesBreak}
 use Rattle.fl_check.specs.Faults.{no_faults, are_clear, findings_of}
 use Rattle.fl_check.specs.Reaches.{HasContent}
 use Rattle.fl_check.specs.References.{PageLeads, ReferencesBreak}
+use Rattle.fl_check.specs.RingRules.{OverPages, WithinPages}
 use Rattle.fl_check.specs.Ruled.{RingTold, RowsTold}
 use Rattle.fl_check.specs.Tally.{no_pages}
-use Rattle.fl_check.specs.Whole.{shape_in, rows_shape, layout_in, indexing, index_end, tally_in, IsIndexForm, IsRowsForm, IsVarForm, IsFinding}
+use Rattle.fl_check.specs.Whole.{shape_in, rows_shape, layout_in, indexing, index_end, tally_in, IsIndexForm, IsRowsForm, IsVarForm, IsLogForm, IsFinding}
 use Rattle.fl_check.specs.declared.faults.RingFaults.{RingFaults}
 use Rattle.fl_check.specs.declared.faults.TableFaults.{TableFaults}
 use Rattle.fl_check.specs.declared.faults.TableRules.{TableRules}
@@ -66,20 +67,22 @@ HaveContent config page (Some place) None = Unit {0}
 HaveContent config page None var = Unit {0}
 
 -- Each rule of a table that is looked at holds, or this is the first page that breaks it.
-pub record AreTold (config : TableConfig) (page : ℕ → List ℕ) (faults : TableFaults) : Type 0 where
+pub record AreTold (config : TableConfig) (log : Option RingPlace) (page : ℕ → List ℕ) (faults : TableFaults) : Type 0 where
   pub index : Option Numbering
   pub rows : Option Numbering
   pub var : Option Numbering
+  pub logged : Option Numbering
   pub in_index : OfRing (λ place faults told. RingTold (IsIndexForm config) page (shape_in config place) 0 faults told) config.index faults.index index
-  pub in_rows : RowsTold (IsRowsForm config) (layout_in config) page (rows_shape config) (index_end config page index) faults.rows rows
+  pub in_rows : RowsTold (IsRowsForm config) (OverPages (layout_in config)) page (rows_shape config) (index_end config page index) faults.rows rows
   pub in_var : OfRing (λ place faults told. RingTold IsVarForm page (shape_in config place) (tally_told config page rows).blob_end faults told) config.var faults.var var
+  pub in_log : OfRing (λ place faults told. RowsTold (IsLogForm config) (WithinPages (layout_in config)) page (shape_in config place) 0 faults told) log faults.log logged
   pub entry : EntriesTold config page config.index index (in_order faults.rows.state rows) faults.entry
   pub blob : BlobsTold config page config.var (in_order faults.var.state var) (in_order faults.rows.state rows) faults.blob
 
 -- the table is sound, or some rules are broken
-abbrev pub AreRules : TableConfig → (ℕ → List ℕ) → TableRules → Type 0
-AreRules config page (Kept rows pages voids) = IsFinding config page (Sound rows pages voids)
-AreRules config page (Broken faults) = AreTold config page faults × (are_clear faults ≡ false)
+abbrev pub AreRules : TableConfig → Option RingPlace → (ℕ → List ℕ) → TableRules → Type 0
+AreRules config log page (Kept rows pages voids) = IsFinding config log page (Sound rows pages voids)
+AreRules config log page (Broken faults) = AreTold config log page faults × (are_clear faults ≡ false)
 
 -- what is found of a table by its first rule that doesn't hold comes first among what is found by all of them
 pub record TellsFirst (rules : TableRules) (finding : Finding) : Type 0 where

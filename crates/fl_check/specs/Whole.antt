@@ -6,7 +6,7 @@ use Rattle.fl_flash.specs.Flash.{FlashState, pages}
 use Rattle.fl_index.specs.declared.page.EntryForm.{EntryForm}
 use Rattle.fl_model.specs.Record.{RowLayout}
 use Rattle.fl_plan.specs.declared.table_config.TableConfig.{TableConfig}
-use Rattle.fl_plan.specs.Limits.{IsWithinLimits}
+use Rattle.fl_plan.specs.Limits.{IsRingSize, IsWithinLimits}
 use Rattle.fl_plan.specs.Plan.{bits_in, blocks_in, plan_of_table}
 use Rattle.fl_plan.specs.Refusal.{config_fault, nameless}
 use Rattle.fl_ring.specs.Mounting.{shape_at}
@@ -19,7 +19,7 @@ use Rattle.fl_check.specs.Entries.{IndexOver, entries_in, HaveEntries, EntriesBr
 use Rattle.fl_check.specs.IndexPage.{IsIndexPage}
 use Rattle.fl_check.specs.Marks.{AreWithin}
 use Rattle.fl_check.specs.References.{PageLeads, ReferencesBreak}
-use Rattle.fl_check.specs.RingRules.{IsRingSound, BreaksRing}
+use Rattle.fl_check.specs.RingRules.{NoRows, OverPages, WithinPages, IsRingSound, BreaksRing}
 use Rattle.fl_check.specs.Tally.{listed_to, tally_of}
 use Rattle.fl_check.specs.declared.finding.Finding.{Finding}
 use Rattle.fl_check.specs.declared.finding.Finding.TheVariants.{Sound, Fault}
@@ -42,6 +42,10 @@ pub record Fits (config : TableConfig) (f : FlashState) : Type 0 where
   pub index : IfSome config.index (λ place. place.first_block + place.blocks ≤ f.blocks)
   pub var : IfSome config.var (λ place. place.first_block + place.blocks ≤ f.blocks)
   pub few : pages f < 2 ^ 32
+
+-- .. and so does its log, if it has one
+abbrev pub LogFits : Option RingPlace → FlashState → Type 0
+LogFits log f = IfSome log (λ place. IsRingSize place × (place.first_block + place.blocks ≤ f.blocks))
 
 abbrev pub shape_in : TableConfig → RingPlace → Shape
 shape_in config place = shape_at place config.geometry
@@ -68,6 +72,10 @@ IsRowsForm config number page = IsDataPage (layout_in config) config.buckets num
 abbrev pub IsVarForm : ℕ → List ℕ → Type 0
 IsVarForm number page = IsContentPage number page
 
+-- a page of the log has rows without a bitmap
+abbrev pub IsLogForm : TableConfig → ℕ → List ℕ → Type 0
+IsLogForm config number page = IsDataPage (layout_in config) None number page
+
 -- ---- its rings
 
 -- of a ring that a table may not have
@@ -88,7 +96,7 @@ IfWithin config (Some place) None = Unit {0}
 IfWithin config None n = Unit {0}
 
 abbrev pub IsIndexSound : TableConfig → (ℕ → List ℕ) → Option Numbering → Type 0
-IsIndexSound config page index = OfRing (λ place n. IsRingSound (IsIndexForm config) None page (shape_in config place) 0 n) config.index index
+IsIndexSound config page index = OfRing (λ place n. IsRingSound (IsIndexForm config) NoRows page (shape_in config place) 0 n) config.index index
 
 -- the number after the data pages that the index lists
 abbrev pub end_in : TableConfig → (ℕ → List ℕ) → Option RingPlace → Option Numbering → ℕ
@@ -101,19 +109,25 @@ index_end config page index = end_in config page config.index index
 
 -- the numbers of data pages that tell none begin there
 abbrev pub AreRowsSound : TableConfig → (ℕ → List ℕ) → Option Numbering → Numbering → Type 0
-AreRowsSound config page index rows = IsRingSound (IsRowsForm config) (Some (layout_in config)) page (rows_shape config) (index_end config page index) rows
+AreRowsSound config page index rows = IsRingSound (IsRowsForm config) (OverPages (layout_in config)) page (rows_shape config) (index_end config page index) rows
 
 abbrev pub tally_in : TableConfig → (ℕ → List ℕ) → Numbering → Tally
 tally_in config page rows = tally_of (layout_in config) page (rows_shape config) rows.marks rows.marks.kept
 
 -- the numbers of pages of variable data that tell none begin behind the pages that blobs name
 abbrev pub IsVarSound : TableConfig → (ℕ → List ℕ) → Numbering → Option Numbering → Type 0
-IsVarSound config page rows var = OfRing (λ place n. IsRingSound IsVarForm None page (shape_in config place) (tally_in config page rows).blob_end n) config.var var
+IsVarSound config page rows var = OfRing (λ place n. IsRingSound IsVarForm NoRows page (shape_in config place) (tally_in config page rows).blob_end n) config.var var
 
-pub record AreRingsSound (config : TableConfig) (page : ℕ → List ℕ) (t : TableNumbers) : Type 0 where
+-- the keys of a log ascend in each of its pages
+abbrev pub IsLogSound : TableConfig → Option RingPlace → (ℕ → List ℕ) → Option Numbering → Type 0
+IsLogSound config log page newest =
+    OfRing (λ place n. IsRingSound (IsLogForm config) (WithinPages (layout_in config)) page (shape_in config place) 0 n) log newest
+
+pub record AreRingsSound (config : TableConfig) (log : Option RingPlace) (page : ℕ → List ℕ) (t : TableNumbers) : Type 0 where
   pub index : IsIndexSound config page t.index
   pub rows : AreRowsSound config page t.index t.rows
   pub var : IsVarSound config page t.rows t.var
+  pub logged : IsLogSound config log page t.log
 
 -- ---- its index and its references
 
@@ -128,8 +142,8 @@ AreReferencesSound config page t =
     OfRing (λ place n. AllBelow (PageLeads (layout_in config) page (rows_shape config) t.rows.marks (shape_in config place) n) t.rows.marks.kept) config.var t.var
 
 -- all rules hold
-pub record IsSound (config : TableConfig) (page : ℕ → List ℕ) (t : TableNumbers) : Type 0 where
-  pub rings : AreRingsSound config page t
+pub record IsSound (config : TableConfig) (log : Option RingPlace) (page : ℕ → List ℕ) (t : TableNumbers) : Type 0 where
+  pub rings : AreRingsSound config log page t
   pub entries : AreEntriesSound config page t
   pub references : AreReferencesSound config page t
 
@@ -139,19 +153,19 @@ pub record IsSound (config : TableConfig) (page : ℕ → List ℕ) (t : TableNu
 pub record BreaksIndex (config : TableConfig) (page : ℕ → List ℕ) (p : ℕ) (rule : Rule) : Type 0 where
   pub place : RingPlace
   pub is : config.index ≡ Some place
-  pub breaks : BreaksRing (IsIndexForm config) None page (shape_in config place) 0 rule p
+  pub breaks : BreaksRing (IsIndexForm config) NoRows page (shape_in config place) 0 rule p
 
 -- .. or one of the data ring
 pub record BreaksRows (config : TableConfig) (page : ℕ → List ℕ) (p : ℕ) (rule : Rule) : Type 0 where
   pub index : Option Numbering
   pub index_sound : IsIndexSound config page index
-  pub breaks : BreaksRing (IsRowsForm config) (Some (layout_in config)) page (rows_shape config) (index_end config page index) rule p
+  pub breaks : BreaksRing (IsRowsForm config) (OverPages (layout_in config)) page (rows_shape config) (index_end config page index) rule p
 
 -- .. or one of the ring of variable data, whose numbers begin here where no page tells its own
 pub record BreaksVarBy (config : TableConfig) (page : ℕ → List ℕ) (at_least p : ℕ) (rule : Rule) : Type 0 where
   pub place : RingPlace
   pub is : config.var ≡ Some place
-  pub breaks : BreaksRing IsVarForm None page (shape_in config place) at_least rule p
+  pub breaks : BreaksRing IsVarForm NoRows page (shape_in config place) at_least rule p
 
 pub record BreaksVar (config : TableConfig) (page : ℕ → List ℕ) (p : ℕ) (rule : Rule) : Type 0 where
   pub index : Option Numbering
@@ -160,10 +174,25 @@ pub record BreaksVar (config : TableConfig) (page : ℕ → List ℕ) (p : ℕ) 
   pub rows_sound : AreRowsSound config page index rows
   pub breaks : BreaksVarBy config page (tally_in config page rows).blob_end p rule
 
+-- .. or one of the log, where all other rings are sound
+pub record BreaksLogRing (config : TableConfig) (log : Option RingPlace) (page : ℕ → List ℕ) (p : ℕ) (rule : Rule) : Type 0 where
+  pub place : RingPlace
+  pub is : log ≡ Some place
+  pub breaks : BreaksRing (IsLogForm config) (WithinPages (layout_in config)) page (shape_in config place) 0 rule p
+
+pub record BreaksLog (config : TableConfig) (log : Option RingPlace) (page : ℕ → List ℕ) (p : ℕ) (rule : Rule) : Type 0 where
+  pub index : Option Numbering
+  pub rows : Numbering
+  pub var : Option Numbering
+  pub index_sound : IsIndexSound config page index
+  pub rows_sound : AreRowsSound config page index rows
+  pub var_sound : IsVarSound config page rows var
+  pub breaks : BreaksLogRing config log page p rule
+
 -- .. or that on the entries of the index
-pub record BreaksEntries (config : TableConfig) (page : ℕ → List ℕ) (p : ℕ) : Type 0 where
+pub record BreaksEntries (config : TableConfig) (log : Option RingPlace) (page : ℕ → List ℕ) (p : ℕ) : Type 0 where
   pub t : TableNumbers
-  pub rings : AreRingsSound config page t
+  pub rings : AreRingsSound config log page t
   pub place : RingPlace
   pub n : Numbering
   pub is : config.index ≡ Some place
@@ -171,9 +200,9 @@ pub record BreaksEntries (config : TableConfig) (page : ℕ → List ℕ) (p : �
   pub breaks : EntriesBreak page (shape_in config place) (rows_shape config) (indexing config n t.rows) p
 
 -- .. or that on the references
-pub record BreaksReferences (config : TableConfig) (page : ℕ → List ℕ) (p : ℕ) : Type 0 where
+pub record BreaksReferences (config : TableConfig) (log : Option RingPlace) (page : ℕ → List ℕ) (p : ℕ) : Type 0 where
   pub t : TableNumbers
-  pub rings : AreRingsSound config page t
+  pub rings : AreRingsSound config log page t
   pub entries : AreEntriesSound config page t
   pub place : RingPlace
   pub n : Numbering
@@ -182,11 +211,11 @@ pub record BreaksReferences (config : TableConfig) (page : ℕ → List ℕ) (p 
   pub breaks : ReferencesBreak (layout_in config) page (rows_shape config) t.rows.marks (shape_in config place) n p
 
 -- all rules before it hold, and this page of the ring is the first that breaks it
-abbrev pub IsFirstFault : TableConfig → (ℕ → List ℕ) → RingName → ℕ → Rule → Type 0
-IsFirstFault config page Index p rule = BreaksIndex config page p rule ⊎ ((rule ≡ Entry) × BreaksEntries config page p)
-IsFirstFault config page Data p rule = BreaksRows config page p rule ⊎ ((rule ≡ Blob) × BreaksReferences config page p)
-IsFirstFault config page Var p rule = BreaksVar config page p rule
-IsFirstFault config page Log p rule = ⊥
+abbrev pub IsFirstFault : TableConfig → Option RingPlace → (ℕ → List ℕ) → RingName → ℕ → Rule → Type 0
+IsFirstFault config log page Index p rule = BreaksIndex config page p rule ⊎ ((rule ≡ Entry) × BreaksEntries config log page p)
+IsFirstFault config log page Data p rule = BreaksRows config page p rule ⊎ ((rule ≡ Blob) × BreaksReferences config log page p)
+IsFirstFault config log page Var p rule = BreaksVar config page p rule
+IsFirstFault config log page Log p rule = BreaksLog config log page p rule
 
 -- ---- what is found
 
@@ -201,12 +230,12 @@ rule_number Blob = 7
 rule_number Rest = 8
 
 -- a sound table, and what its data ring holds
-pub record Holds (config : TableConfig) (page : ℕ → List ℕ) (tally : Tally) (kept : ℕ) : Type 0 where
+pub record Holds (config : TableConfig) (log : Option RingPlace) (page : ℕ → List ℕ) (tally : Tally) (kept : ℕ) : Type 0 where
   pub t : TableNumbers
-  pub sound : IsSound config page t
+  pub sound : IsSound config log page t
   pub tally_is : tally ≡ tally_in config page t.rows
   pub kept_is : kept ≡ t.rows.marks.kept
 
-abbrev pub IsFinding : TableConfig → (ℕ → List ℕ) → Finding → Type 0
-IsFinding config page (Sound rows pages voids) = (blob_end : ℕ) × Holds config page (record { rows = rows; voids = voids; blob_end = blob_end }) pages
-IsFinding config page (Fault ring p rule) = IsFirstFault config page ring p rule
+abbrev pub IsFinding : TableConfig → Option RingPlace → (ℕ → List ℕ) → Finding → Type 0
+IsFinding config log page (Sound rows pages voids) = (blob_end : ℕ) × Holds config log page (record { rows = rows; voids = voids; blob_end = blob_end }) pages
+IsFinding config log page (Fault ring p rule) = IsFirstFault config log page ring p rule

@@ -1,4 +1,4 @@
-// The rule on the bodies of a ring's pages.
+// The rules on the bodies of a ring's pages, one page after another.
 ghost use Rattle.std.specs.Prelude.{◌≡◌, ◌<◌, ◌≤◌, ◌↔◌, ℕ, List, length, IsTrue, IfOk, IfErr, OnOk, IfSome, IfNone};
 ghost use Rattle.fl_flash.specs.Flash.{page_at};
 ghost use Rattle.fl_ring.specs.Looking.{OnlyReads, ReadFails};
@@ -7,7 +7,6 @@ ghost use Rattle.fl_check.specs.Bodies.{HasBody, HaveBodies, BodiesBreak};
 ghost use Rattle.fl_check.specs.Claims.{FailsFirst};
 ghost use Rattle.fl_check.specs.Marks.{AreWithin};
 ghost use Rattle.fl_check.specs.Stop.{IfFlash, IfBroken};
-ghost use Rattle.fl_check.specs.declared.rule.Rule.{Rule};
 
 use crate::numbering::Numbering;
 use crate::rule::{Rule, Stop, broken};
@@ -62,12 +61,13 @@ fn first_unformed<F: Flash, B: Form>(
     Ok(None)
 }
 
-/// Checks that the committed pages among the kept ones have the form of their ring, each with its number, which follows from
-/// the next one. A page whose number would be below 0 is passed.
-pub fn check_bodies<F: Flash, B: Form>(
+/// Checks that the committed pages among the kept ones have a form, as this rule says, each with its number, which follows
+/// from the next one. A page whose number would be below 0 is passed.
+pub fn check_forms<F: Flash, B: Form>(
     ring: &Ring,
     flash: &mut F,
     n: Numbering,
+    rule: Rule,
     form: &B,
     buf: &mut PageBuf,
 ) -> Result<(), Stop>
@@ -77,12 +77,12 @@ pub fn check_bodies<F: Flash, B: Form>(
     ensures reads { OnlyReads (F.state flash.old) n.marks.kept (F.state flash.new) }
     ensures room { length buf.new.bytes ≡ (shape_of ring.now).size }
     ensures bodies { OnOk result (IsTrue (F.state flash.old).media.tells → HaveBodies (B.holds form.now) (page_at (F.state flash.old)) (shape_of ring.now) n) }
-    ensures broken { IfErr result (IfBroken (λ b. IsTrue (F.state flash.old).media.tells → (b.rule ≡ Rule.Body) × BodiesBreak (B.holds form.now) (page_at (F.state flash.old)) (shape_of ring.now) n b.page)) }
+    ensures broken { IfErr result (IfBroken (λ b. IsTrue (F.state flash.old).media.tells → (b.rule ≡ rule) × BodiesBreak (B.holds form.now) (page_at (F.state flash.old)) (shape_of ring.now) n b.page)) }
     ensures fails { IfErr result (IfFlash (λ e. ReadFails (F.state flash.old) e (F.state flash.new))) }
 {
     let unformed = first_unformed(ring, flash, n, form, buf)?;
     match unformed {
-        Some(i) => Err(broken(Rule::Body, ring.page_back(n.marks.at, n.marks.kept - i))),
+        Some(i) => Err(broken(rule, ring.page_back(n.marks.at, n.marks.kept - i))),
         None => Ok(()),
     }
 }

@@ -23,6 +23,7 @@ pub struct TableFaults {
     pub index: RingFaults,
     pub rows: RingFaults,
     pub var: RingFaults,
+    pub log: RingFaults,
     pub entry: Option<u32>,
     pub blob: Option<u32>,
 }
@@ -100,6 +101,7 @@ impl TableFaults {
         self.index.is_clear()
             && self.rows.is_clear()
             && self.var.is_clear()
+            && self.log.is_clear()
             && self.entry.is_none()
             && self.blob.is_none()
     }

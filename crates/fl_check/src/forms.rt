@@ -5,7 +5,9 @@ ghost use Rattle.fl_schema.specs.Schema.{types_of};
 use crate::bodies::Form;
 use crate::content_page::content_page_is_good;
 use crate::data_page::data_page_is_good;
+use crate::keys::keys_ascend;
 use fl_bitmap::Buckets;
+use fl_page::PageView;
 use fl_schema::Schema;
 
 /// The form of the data pages of a table: rows of its columns, and their bitmap where it has buckets.
@@ -14,6 +16,12 @@ pub struct DataForm<'s, const COLS: usize> {
     pub schema: &'s Schema<COLS>,
     pub buckets: Option<Buckets>,
     ghost some: { 1 ≤ length (types_of schema.now) },
+}
+
+/// The form of pages of rows whose keys ascend.
+#[derive(Clone, Copy)]
+pub struct AscendingForm<'s, const COLS: usize> {
+    pub schema: &'s Schema<COLS>,
 }
 
 /// The form of the pages of variable data.
@@ -29,6 +37,21 @@ impl<const COLS: usize> Form for DataForm<'_, COLS> {
 
     fn is_of(&self, number: u32, page: &[u8]) -> bool {
         data_page_is_good(page, self.schema, self.buckets, number)
+    }
+}
+
+impl<const COLS: usize> Form for AscendingForm<'_, COLS> {
+    ghost use Rattle.std.specs.Prelude.{◌<◌, ◌↔◌, IsTrue};
+    ghost use Rattle.fl_schema.specs.Schema.{layout_of};
+    ghost use Rattle.fl_check.specs.RingRules.{IsAscending};
+
+    ghost holds = { λ form number page. IsAscending (layout_of form.schema.now) number page };
+
+    fn is_of(&self, number: u32, page: &[u8]) -> bool {
+        match PageView::of(page, number, self.schema) {
+            Ok(view) => keys_ascend(&view, None),
+            Err(_) => false,
+        }
     }
 }
 

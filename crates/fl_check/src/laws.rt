@@ -1,5 +1,6 @@
 // Laws on the rules of a table's rings.
-ghost use Rattle.std.specs.Prelude.{◌≡◌, ℕ, List};
+ghost use Rattle.std.specs.Prelude.{◌≡◌, ℕ, Option, List};
+ghost use Rattle.fl_base.specs.declared.types.RingPlace.{RingPlace};
 ghost use Rattle.fl_flash.specs.Flash.{FlashState, page_at};
 ghost use Rattle.fl_plan.specs.declared.table_config.TableConfig.{TableConfig};
 ghost use Rattle.fl_ring.specs.Mounting.{IsGood};
@@ -32,11 +33,11 @@ pub fn kept_pages_are_good()
 /// No two findings of a table on some pages differ: it is sound, with these counts, or one rule is the first that doesn't
 /// hold, and one page the first that breaks it.
 pub fn findings_are_one()
-    ensures { (config : TableConfig) → (page : ℕ → List ℕ) → (a b : Finding) → IsFinding config page a → IsFinding config page b → a ≡ b }
+    ensures { (config : TableConfig) → (log : Option RingPlace) → (page : ℕ → List ℕ) → (a b : Finding) → IsFinding config log page a → IsFinding config log page b → a ≡ b }
 {}
 
 /// What a check finds of a table that ends at the first rule that doesn't hold comes first in what one of all rules tells. So one
 /// of all rules tells of a sound table that it is sound, and of no other.
 pub fn rules_tell_findings()
-    ensures { (config : TableConfig) → (page : ℕ → List ℕ) → (rules : TableRules) → (finding : Finding) → AreRules config page rules → IsFinding config page finding → TellsFirst rules finding }
+    ensures { (config : TableConfig) → (log : Option RingPlace) → (page : ℕ → List ℕ) → (rules : TableRules) → (finding : Finding) → AreRules config log page rules → IsFinding config log page finding → TellsFirst rules finding }
 {}

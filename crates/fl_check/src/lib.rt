@@ -14,6 +14,7 @@ mod index_form;
 mod index_page;
 mod keys;
 mod laws;
+mod log;
 mod marks;
 mod numbering;
 mod numbers;
@@ -30,13 +31,13 @@ mod tally;
 mod told;
 mod whole;
 
-pub use bodies::{Form, check_bodies};
+pub use bodies::{Form, check_forms};
 pub use content_page::content_page_is_good;
 pub use data_page::data_page_is_good;
 pub use entries::{Indexing, check_entries};
 pub use faults::{RingFaults, TableFaults, TableRules};
 pub use finding::{CheckFault, Finding, RingName};
-pub use forms::{ContentForm, DataForm};
+pub use forms::{AscendingForm, ContentForm, DataForm};
 pub use index_page::index_page_is_good;
 pub use keys::keys_ascend;
 pub use laws::{

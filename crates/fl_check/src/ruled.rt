@@ -9,13 +9,13 @@ ghost use Rattle.fl_check.specs.Marks.{AreMarks, AreWithin};
 ghost use Rattle.fl_check.specs.Ruled.{BodiesTold, NumbersTold, HeadHolds, RingTold};
 ghost use Rattle.fl_check.specs.Stop.{first_page};
 
-use crate::bodies::{Form, check_bodies};
+use crate::bodies::{Form, check_forms};
 use crate::faults::RingFaults;
 use crate::marks::{Marks, read_marks};
 use crate::numbering::Numbering;
 use crate::numbers::check_numbers;
 use crate::rest::check_rest;
-use crate::rule::Stop;
+use crate::rule::{Rule, Stop};
 use crate::states::check_states;
 use fl_flash::{Flash, FlashFault, PageBuf};
 use fl_ring::Ring;
@@ -92,7 +92,7 @@ fn rule_bodies<F: Flash, B: Form>(
     ensures bodies { IfOk result (λ told. IsTrue (F.state flash.old).media.tells → BodiesTold (B.holds form.now) (page_at (F.state flash.old)) (shape_of ring.now) n told.body told.numbering) }
     ensures fails { IfErr result (λ e. ReadFails (F.state flash.old) e (F.state flash.new)) }
 {
-    let body = first_page(check_bodies(ring, flash, n, form, buf))?;
+    let body = first_page(check_forms(ring, flash, n, Rule::Body, form, buf))?;
     Ok(Numbered {
         number: None,
         body,

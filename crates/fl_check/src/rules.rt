@@ -8,9 +8,10 @@ ghost use Rattle.fl_ring.specs.Looking.{ReadFails};
 ghost use Rattle.fl_check.specs.Looks.{OnlyLooks, CheckFails, OffFails, OffChecksNothing};
 ghost use Rattle.fl_check.specs.Marks.{AreWithin};
 ghost use Rattle.fl_check.specs.Rising.{HaveRows};
+ghost use Rattle.fl_check.specs.RingRules.{OverPages};
 ghost use Rattle.fl_check.specs.Ruled.{RingTold, KeysTold, RowsTold};
 ghost use Rattle.fl_check.specs.Rules.{OfRing, tally_told, rules_of, HaveContent, EntriesTold, BlobsTold, AreRules};
-ghost use Rattle.fl_check.specs.Whole.{Fits, IfWithin, shape_in, rows_shape, layout_in, IsIndexForm, IsRowsForm, IsVarForm};
+ghost use Rattle.fl_check.specs.Whole.{Fits, LogFits, IfWithin, shape_in, rows_shape, layout_in, IsIndexForm, IsRowsForm, IsVarForm};
 
 use crate::faults::{TableFaults, TableRules};
 use crate::finding::CheckFault;
@@ -21,6 +22,7 @@ use crate::rising::check_keys;
 use crate::ruled::{Ruled, first_page, rule_ring};
 use crate::tally::Tally;
 use crate::whole::{Checked, reaches_room, schema_of};
+use fl_base::RingPlace;
 use fl_flash::{Flash, FlashFault, PageBuf};
 use fl_plan::TableConfig;
 use fl_ring::Ring;
@@ -66,7 +68,7 @@ impl Checked<'_> {
         ensures room { length buf.new.bytes ≡ self.now.config.now.geometry.page }
         ensures keys { IfOk result (λ keys. IsTrue (F.state flash.old).media.tells
             → IfSome rows (λ n. HaveRows (layout_in self.now.config.now) (page_at (F.state flash.old)) (rows_shape self.now.config.now) n.marks)
-            → KeysTold (layout_in self.now.config.now) (page_at (F.state flash.old)) (rows_shape self.now.config.now) rows keys) }
+            → KeysTold (OverPages (layout_in self.now.config.now)) (page_at (F.state flash.old)) (rows_shape self.now.config.now) rows keys) }
         ensures fails { IfErr result (λ e. ReadFails (F.state flash.old) e (F.state flash.new)) }
     {
         let Some(n) = rows else {
@@ -89,7 +91,7 @@ impl Checked<'_> {
         ensures room { length buf.new.bytes ≡ self.now.config.now.geometry.page }
         ensures within { IfOk result (λ told. IfSome told.numbering (λ n. AreWithin (rows_shape self.now.config.now) n.marks)) }
         ensures rules { IfOk result (λ told. IsTrue (F.state flash.old).media.tells
-            → RowsTold (IsRowsForm self.now.config.now) (layout_in self.now.config.now) (page_at (F.state flash.old)) (rows_shape self.now.config.now) at_least told.faults told.numbering) }
+            → RowsTold (IsRowsForm self.now.config.now) (OverPages (layout_in self.now.config.now)) (page_at (F.state flash.old)) (rows_shape self.now.config.now) at_least told.faults told.numbering) }
         ensures fails { IfErr result (λ e. ReadFails (F.state flash.old) e (F.state flash.new)) }
         ensures off { OffFails FlashFault.PowerLost (F.state flash.old) result (F.state flash.new) }
     {
@@ -227,11 +229,12 @@ impl Checked<'_> {
         buf: &mut PageBuf,
     ) -> Result<TableRules, FlashFault>
         requires fits { Fits self.now.config.now (F.state flash.old) }
+        requires log { LogFits self.now.log (F.state flash.old) }
         requires listed { blocks_in self.now.config.now.var * self.now.config.now.geometry.block ≤ length reaches.old }
         requires listing { length listing.old.bytes ≡ self.now.config.now.geometry.page }
         requires room { length buf.old.bytes ≡ self.now.config.now.geometry.page }
         ensures looks { OnlyLooks (F.state flash.old) (F.state flash.new) }
-        ensures rules { IfOk result (λ rules. IsTrue (F.state flash.old).media.tells → AreRules self.now.config.now (page_at (F.state flash.old)) rules) }
+        ensures rules { IfOk result (λ rules. IsTrue (F.state flash.old).media.tells → AreRules self.now.config.now self.now.log (page_at (F.state flash.old)) rules) }
         ensures fails { IfErr result (λ e. ReadFails (F.state flash.old) e (F.state flash.new)) }
         ensures off { OffFails FlashFault.PowerLost (F.state flash.old) result (F.state flash.new) }
     {
@@ -240,6 +243,7 @@ impl Checked<'_> {
         let rows = self.rule_rows(flash, end, buf)?;
         let tally = self.tally_told(flash, rows.numbering, buf)?;
         let var = self.rule_var(flash, tally.blob_end, buf)?;
+        let log = self.rule_log(flash, buf)?;
         let listed = rows.in_order();
         let entry = self.rule_entries(flash, index.numbering, listed, listing, buf)?;
         let content = var.in_order();
@@ -248,6 +252,7 @@ impl Checked<'_> {
             index: index.faults,
             rows: rows.faults,
             var: var.faults,
+            log: log.faults,
             entry,
             blob,
         };
@@ -284,9 +289,11 @@ pub fn check_rules<F: Flash>(
     alloc: Global,
     flash: &mut F,
     config: &TableConfig,
+    log: Option<RingPlace>,
 ) -> Result<TableRules, CheckFault>
     requires fits { Fits config.now (F.state flash.old) }
-    ensures rules { IfOk result (λ rules. IsTrue (F.state flash.old).media.tells → AreRules config.now (page_at (F.state flash.old)) rules) }
+    requires log { LogFits log (F.state flash.old) }
+    ensures rules { IfOk result (λ rules. IsTrue (F.state flash.old).media.tells → AreRules config.now log (page_at (F.state flash.old)) rules) }
     ensures fails { IfErr result (λ fault. CheckFails (F.state flash.old) fault (F.state flash.new)) }
     ensures looks { OnlyLooks (F.state flash.old) (F.state flash.new) }
     ensures off { OffChecksNothing (F.state flash.old) result (F.state flash.new) }
@@ -295,7 +302,11 @@ pub fn check_rules<F: Flash>(
     let mut buf = PageBuf::new(alloc, config.geometry.page)?;
     let mut reaches = reaches_room(alloc, config)?;
     let schema = schema_of(config);
-    let checked = Checked { config, schema };
+    let checked = Checked {
+        config,
+        log,
+        schema,
+    };
     match checked.rules(flash, &mut reaches, &mut listing, &mut buf) {
         Ok(rules) => Ok(rules),
         Err(fault) => Err(CheckFault::Flash(fault)),

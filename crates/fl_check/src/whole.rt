@@ -14,8 +14,8 @@ ghost use Rattle.fl_check.specs.Marks.{AreWithin};
 ghost use Rattle.fl_check.specs.Reaches.{HasContent};
 ghost use Rattle.fl_check.specs.References.{PageLeads, ReferencesBreak};
 ghost use Rattle.fl_check.specs.Rising.{HaveRows};
-ghost use Rattle.fl_check.specs.RingRules.{IsRingSound, BreaksRing};
-ghost use Rattle.fl_check.specs.Whole.{Fits, IfWithin, LiesWithin, OfRing, indexing, shape_in, rows_shape, layout_in, form_in, IsRowsForm, IsVarForm, IsIndexSound, AreRingsSound, AreEntriesSound, AreReferencesSound, IsSound, BreaksIndex, BreaksVarBy, IsFirstFault, index_end, tally_in, IsFinding};
+ghost use Rattle.fl_check.specs.RingRules.{NoRows, OverPages, IsRingSound, BreaksRing};
+ghost use Rattle.fl_check.specs.Whole.{Fits, LogFits, IfWithin, LiesWithin, OfRing, indexing, shape_in, rows_shape, layout_in, form_in, IsRowsForm, IsVarForm, IsIndexSound, AreRingsSound, AreEntriesSound, AreReferencesSound, IsSound, BreaksIndex, BreaksVarBy, IsFirstFault, index_end, tally_in, IsFinding};
 ghost use Rattle.fl_check.specs.declared.finding.RingName.{RingName};
 ghost use Rattle.fl_check.specs.declared.halt.Halt.{Halt};
 ghost use Rattle.fl_check.specs.declared.rule.Rule.{Rule};
@@ -46,6 +46,7 @@ pub struct TableNumbers {
     pub index: Option<Numbering>,
     pub rows: Numbering,
     pub var: Option<Numbering>,
+    pub log: Option<Numbering>,
 }
 
 /// .. and what the data pages tell.
@@ -59,6 +60,7 @@ pub(crate) struct Rings {
 #[derive(Drop)]
 pub(crate) struct Checked<'c> {
     pub(crate) config: &'c TableConfig,
+    pub(crate) log: Option<RingPlace>,
     pub(crate) schema: Schema<8>,
     ghost layout: { layout_of schema ≡ layout_in config.now },
     ghost columns: { 1 ≤ length (types_of schema) },
@@ -151,9 +153,9 @@ impl Checked<'_> {
         ensures room { length buf.new.bytes ≡ self.now.config.now.geometry.page }
         ensures within { IfOk result (λ n. AreWithin (rows_shape self.now.config.now) n.marks) }
         ensures sound { IfOk result (λ n. IsTrue (F.state flash.old).media.tells
-            → IsRingSound (IsRowsForm self.now.config.now) (Some (layout_in self.now.config.now)) (page_at (F.state flash.old)) (rows_shape self.now.config.now) at_least n) }
+            → IsRingSound (IsRowsForm self.now.config.now) (OverPages (layout_in self.now.config.now)) (page_at (F.state flash.old)) (rows_shape self.now.config.now) at_least n) }
         ensures broken { IfErr result (IfFound (λ fault. IsTrue (F.state flash.old).media.tells
-            → (fault.ring ≡ RingName.Data) × BreaksRing (IsRowsForm self.now.config.now) (Some (layout_in self.now.config.now)) (page_at (F.state flash.old)) (rows_shape self.now.config.now) at_least fault.rule fault.page)) }
+            → (fault.ring ≡ RingName.Data) × BreaksRing (IsRowsForm self.now.config.now) (OverPages (layout_in self.now.config.now)) (page_at (F.state flash.old)) (rows_shape self.now.config.now) at_least fault.rule fault.page)) }
         ensures fails { IfErr result (IfFailed (λ e. ReadFails (F.state flash.old) e (F.state flash.new))) }
         ensures off { OffFails (Halt.Failed FlashFault.PowerLost) (F.state flash.old) result (F.state flash.new) }
     {
@@ -181,7 +183,7 @@ impl Checked<'_> {
         ensures room { length buf.new.bytes ≡ self.now.config.now.geometry.page }
         ensures within { IfOk result (λ var. LiesWithin self.now.config.now self.now.config.now.var var) }
         ensures sound { IfOk result (λ var. IsTrue (F.state flash.old).media.tells
-            → OfRing (λ place n. IsRingSound IsVarForm None (page_at (F.state flash.old)) (shape_in self.now.config.now place) at_least n) self.now.config.now.var var) }
+            → OfRing (λ place n. IsRingSound IsVarForm NoRows (page_at (F.state flash.old)) (shape_in self.now.config.now place) at_least n) self.now.config.now.var var) }
         ensures broken { IfErr result (IfFound (λ fault. IsTrue (F.state flash.old).media.tells
             → (fault.ring ≡ RingName.Var) × BreaksVarBy self.now.config.now (page_at (F.state flash.old)) at_least fault.page fault.rule)) }
         ensures fails { IfErr result (IfFailed (λ e. ReadFails (F.state flash.old) e (F.state flash.new))) }
@@ -200,15 +202,16 @@ impl Checked<'_> {
     /// Checks the rules of all rings. The numbers of each ring follow what the ring before it tells.
     fn check_rings<F: Flash>(&self, flash: &mut F, buf: &mut PageBuf) -> Result<Rings, Halt>
         requires fits { Fits self.now.config.now (F.state flash.old) }
+        requires log { LogFits self.now.log (F.state flash.old) }
         requires room { length buf.old.bytes ≡ self.now.config.now.geometry.page }
         ensures looks { OnlyLooks (F.state flash.old) (F.state flash.new) }
         ensures room { length buf.new.bytes ≡ self.now.config.now.geometry.page }
         ensures index { IfOk result (λ rings. LiesWithin self.now.config.now self.now.config.now.index rings.numbers.index) }
         ensures rows { IfOk result (λ rings. AreWithin (rows_shape self.now.config.now) rings.numbers.rows.marks) }
         ensures var { IfOk result (λ rings. LiesWithin self.now.config.now self.now.config.now.var rings.numbers.var) }
-        ensures sound { IfOk result (λ rings. IsTrue (F.state flash.old).media.tells → AreRingsSound self.now.config.now (page_at (F.state flash.old)) rings.numbers) }
+        ensures sound { IfOk result (λ rings. IsTrue (F.state flash.old).media.tells → AreRingsSound self.now.config.now self.now.log (page_at (F.state flash.old)) rings.numbers) }
         ensures tally { IfOk result (λ rings. IsTrue (F.state flash.old).media.tells → rings.tally ≡ tally_in self.now.config.now (page_at (F.state flash.old)) rings.numbers.rows) }
-        ensures broken { IfErr result (IfFound (λ fault. IsTrue (F.state flash.old).media.tells → IsFirstFault self.now.config.now (page_at (F.state flash.old)) fault.ring fault.page fault.rule)) }
+        ensures broken { IfErr result (IfFound (λ fault. IsTrue (F.state flash.old).media.tells → IsFirstFault self.now.config.now self.now.log (page_at (F.state flash.old)) fault.ring fault.page fault.rule)) }
         ensures fails { IfErr result (IfFailed (λ e. ReadFails (F.state flash.old) e (F.state flash.new))) }
         ensures off { OffFails (Halt.Failed FlashFault.PowerLost) (F.state flash.old) result (F.state flash.new) }
     {
@@ -217,8 +220,14 @@ impl Checked<'_> {
         let rows = self.check_data(flash, end, buf)?;
         let tally = self.tally_rows(flash, rows, buf)?;
         let var = self.check_var(flash, tally.blob_end, buf)?;
+        let log = self.check_log(flash, buf)?;
         Ok(Rings {
-            numbers: TableNumbers { index, rows, var },
+            numbers: TableNumbers {
+                index,
+                rows,
+                var,
+                log,
+            },
             tally,
         })
     }
@@ -295,8 +304,8 @@ impl Checked<'_> {
         ensures listing { length listing.new.bytes ≡ self.now.config.now.geometry.page }
         ensures room { length buf.new.bytes ≡ self.now.config.now.geometry.page }
         ensures sound { OnOk result (IsTrue (F.state flash.old).media.tells → AreEntriesSound self.now.config.now (page_at (F.state flash.old)) t) }
-        ensures broken { IfErr result (IfFound (λ fault. IsTrue (F.state flash.old).media.tells → AreRingsSound self.now.config.now (page_at (F.state flash.old)) t
-            → IsFirstFault self.now.config.now (page_at (F.state flash.old)) fault.ring fault.page fault.rule)) }
+        ensures broken { IfErr result (IfFound (λ fault. IsTrue (F.state flash.old).media.tells → AreRingsSound self.now.config.now self.now.log (page_at (F.state flash.old)) t
+            → IsFirstFault self.now.config.now self.now.log (page_at (F.state flash.old)) fault.ring fault.page fault.rule)) }
         ensures fails { IfErr result (IfFailed (λ e. ReadFails (F.state flash.old) e (F.state flash.new))) }
     {
         let Some(place) = self.config.index else {
@@ -358,9 +367,9 @@ impl Checked<'_> {
         requires rows { AreWithin (rows_shape self.now.config.now) t.rows.marks }
         requires var { LiesWithin self.now.config.now self.now.config.now.var t.var }
         ensures looks { OnlyLooks (F.state flash.old) (F.state flash.new) }
-        ensures sound { OnOk result (IsTrue (F.state flash.old).media.tells → AreRingsSound self.now.config.now (page_at (F.state flash.old)) t → AreReferencesSound self.now.config.now (page_at (F.state flash.old)) t) }
-        ensures broken { IfErr result (IfFound (λ fault. IsTrue (F.state flash.old).media.tells → AreRingsSound self.now.config.now (page_at (F.state flash.old)) t
-            → AreEntriesSound self.now.config.now (page_at (F.state flash.old)) t → IsFirstFault self.now.config.now (page_at (F.state flash.old)) fault.ring fault.page fault.rule)) }
+        ensures sound { OnOk result (IsTrue (F.state flash.old).media.tells → AreRingsSound self.now.config.now self.now.log (page_at (F.state flash.old)) t → AreReferencesSound self.now.config.now (page_at (F.state flash.old)) t) }
+        ensures broken { IfErr result (IfFound (λ fault. IsTrue (F.state flash.old).media.tells → AreRingsSound self.now.config.now self.now.log (page_at (F.state flash.old)) t
+            → AreEntriesSound self.now.config.now (page_at (F.state flash.old)) t → IsFirstFault self.now.config.now self.now.log (page_at (F.state flash.old)) fault.ring fault.page fault.rule)) }
         ensures fails { IfErr result (IfFailed (λ e. ReadFails (F.state flash.old) e (F.state flash.new))) }
     {
         let Some(place) = self.config.var else {
@@ -380,13 +389,14 @@ impl Checked<'_> {
         buf: &mut PageBuf,
     ) -> Result<Rings, Halt>
         requires fits { Fits self.now.config.now (F.state flash.old) }
+        requires log { LogFits self.now.log (F.state flash.old) }
         requires listed { blocks_in self.now.config.now.var * self.now.config.now.geometry.block ≤ length reaches.old }
         requires listing { length listing.old.bytes ≡ self.now.config.now.geometry.page }
         requires room { length buf.old.bytes ≡ self.now.config.now.geometry.page }
         ensures looks { OnlyLooks (F.state flash.old) (F.state flash.new) }
-        ensures sound { IfOk result (λ rings. IsTrue (F.state flash.old).media.tells → IsSound self.now.config.now (page_at (F.state flash.old)) rings.numbers) }
+        ensures sound { IfOk result (λ rings. IsTrue (F.state flash.old).media.tells → IsSound self.now.config.now self.now.log (page_at (F.state flash.old)) rings.numbers) }
         ensures tally { IfOk result (λ rings. IsTrue (F.state flash.old).media.tells → rings.tally ≡ tally_in self.now.config.now (page_at (F.state flash.old)) rings.numbers.rows) }
-        ensures broken { IfErr result (IfFound (λ fault. IsTrue (F.state flash.old).media.tells → IsFirstFault self.now.config.now (page_at (F.state flash.old)) fault.ring fault.page fault.rule)) }
+        ensures broken { IfErr result (IfFound (λ fault. IsTrue (F.state flash.old).media.tells → IsFirstFault self.now.config.now self.now.log (page_at (F.state flash.old)) fault.ring fault.page fault.rule)) }
         ensures fails { IfErr result (IfFailed (λ e. ReadFails (F.state flash.old) e (F.state flash.new))) }
         ensures off { OffFails (Halt.Failed FlashFault.PowerLost) (F.state flash.old) result (F.state flash.new) }
     {
@@ -433,16 +443,18 @@ pub(crate) fn reaches_room(alloc: Global, config: &TableConfig) -> Result<Vec<u6
 }
 
 /// Checks the rings of a table: their pages are read, and nothing is repaired. Finds the first rule that doesn't hold, with
-/// the first page that breaks it: ring by ring in the order of index, data and variable data those on the ring's own pages,
-/// and then those on the index and on the references. Its memory is taken before the flash is read.
+/// the first page that breaks it: ring by ring in the order of index, data, variable data and log those on the ring's own
+/// pages, and then those on the index and on the references. Its memory is taken before the flash is read.
 pub fn check_table<F: Flash>(
     alloc: Global,
     flash: &mut F,
     config: &TableConfig,
+    log: Option<RingPlace>,
 ) -> Result<Finding, CheckFault>
     requires fits { Fits config.now (F.state flash.old) }
+    requires log { LogFits log (F.state flash.old) }
     ensures looks { OnlyLooks (F.state flash.old) (F.state flash.new) }
-    ensures finding { IfOk result (λ finding. IsTrue (F.state flash.old).media.tells → IsFinding config.now (page_at (F.state flash.old)) finding) }
+    ensures finding { IfOk result (λ finding. IsTrue (F.state flash.old).media.tells → IsFinding config.now log (page_at (F.state flash.old)) finding) }
     ensures fails { IfErr result (λ fault. CheckFails (F.state flash.old) fault (F.state flash.new)) }
     ensures off { OffChecksNothing (F.state flash.old) result (F.state flash.new) }
 {
@@ -450,7 +462,11 @@ pub fn check_table<F: Flash>(
     let mut buf = PageBuf::new(alloc, config.geometry.page)?;
     let mut reaches = reaches_room(alloc, config)?;
     let schema = schema_of(config);
-    let checked = Checked { config, schema };
+    let checked = Checked {
+        config,
+        log,
+        schema,
+    };
     match checked.check(flash, &mut reaches, &mut listing, &mut buf) {
         Ok(rings) => Ok(Finding::Sound {
             rows: rings.tally.rows,

@@ -52,7 +52,7 @@ ends_of media input left input_faults out written out_faults =
 -- that doesn't hold of all tables.
 -- Nothing is changed, and the input isn't read.
 pub record Checks {S K : Type 0} (extent : Extent) (old new : Ends S K) (end : JobEnd) : Type 0 where
-  pub ends : IsTrue old.media.tells → CheckedTo extent (λ config f finding. IsFinding config (page_at f) finding) (λ config f rules. AreRules config (page_at f) rules) old.media.content old.written new.written end.status
+  pub ends : IsTrue old.media.tells → CheckedTo extent (λ config log f finding. IsFinding config log (page_at f) finding) (λ config log f rules. AreRules config log (page_at f) rules) old.media.content old.written new.written end.status
   pub looks : OnlyLooksAt old.media new.media
   pub device : end.status ≡ Device → Rose old.media.faults new.media.faults
   pub write : end.status ≡ OutWrite → Rose old.out_faults new.out_faults

@@ -12,9 +12,10 @@ use Rattle.fl_model.specs.Record.{Column}
 use Rattle.fl_words.specs.Command.{TableLine}
 use Rattle.fl_words.specs.Config.{cons_column, column_named, columns_named, columns_in, plan_of}
 use Rattle.fl_plan.specs.declared.table_config.TableConfig.{TableConfig}
-use Rattle.fl_plan.specs.Plan.{blocks_in, bits_in, base_in, width_in, plan_of_table}
+use Rattle.fl_plan.specs.Plan.{IsRingAt, blocks_in, bits_in, base_in, width_in}
 use Rattle.fl_plan.specs.Limits.{IsRingSize}
-use Rattle.fl_config.specs.Words.{IsRingAt, IsRingOrNone, AreBucketsIn}
+use Rattle.fl_config.specs.Label.{plan_with}
+use Rattle.fl_config.specs.Words.{IsRingOrNone, AreBucketsIn, label_in}
 
 pub ring-blocks : (place : Option RingPlace) (first blocks : ℕ) → IsRingAt place first blocks → blocks_in place ≡ blocks
 ring-blocks None first blocks at = sym at
@@ -52,7 +53,7 @@ pub same-plan : (geometry : Geometry) (line : TableLine) (config : TableConfig) 
     columns_in line.columns ≡ Some (map column_of config.columns.items) → config.rows.blocks ≡ line.data_blocks →
     IsRingAt config.index at-index line.index_blocks → IsRingAt config.var at-var line.var_blocks → AreBucketsIn config.buckets line →
     config.error ≡ line.error → config.blob_limit ≡ line.blob_limit → config.full_index ≡ line.full_index →
-    plan_of_table (record { name = line.name; base = line.base; width = line.width }) config ≡ plan_of geometry line
+    plan_with (label_in line) config ≡ plan_of geometry line
 same-plan geometry line config at-index at-var here key columns rows index var buckets error blob full =
     rw (
       here,

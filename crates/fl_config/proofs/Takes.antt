@@ -1,6 +1,6 @@
 -- When a table line is taken, and what the table then is.
-use Rattle.std.proofs.Common.{◌≡◌, ℕ, ◌+◌, ◌-◌, ◌*◌, ◌%◌, ◌≤◌, Bool, true, false, not, ◌||◌, ◌&&◌, nat_lt, Option, Some, None, List, [], ◌∷◌, ◌++◌, length, map, arith, rules, refl, sym, ◌∙◌, ap, subst, mul-le-mul_right}
-use Rattle.std.specs.Prelude.{◌==◌, IfSome, IsSome, IsSomeAnd, is_some, is_none, sum_by}
+use Rattle.std.proofs.Common.{◌≡◌, ℕ, ◌+◌, ◌-◌, ◌*◌, ◌%◌, ◌≤◌, Bool, true, false, not, ◌||◌, ◌&&◌, nat_lt, Option, Some, None, List, [], ◌∷◌, ◌++◌, length, map, arith, rules, refl, sym, ◌∙◌, ap, subst, mul-le-mul}
+use Rattle.std.specs.Prelude.{◌==◌, IfSome, IsSome, IsSomeAnd, is_some, is_none, sum_by, unwrap_or}
 use Rattle.std.specs.List.{list_any}
 use Rattle.std.proofs.lemmas.List.Sums.{sum_by-cons}
 use Rattle.std.proofs.lemmas.Bool.Decides.{nat_tests}
@@ -10,14 +10,16 @@ use Rattle.fl_bitmap.specs.declared.buckets.Buckets.{Buckets}
 use Rattle.fl_model.specs.Record.{Plan, blocks_of, row_len}
 use Rattle.fl_words.specs.Command.{TableLine}
 use Rattle.fl_words.specs.Config as words
-use Rattle.fl_words.specs.Config.{ConfigFault, first_fault, table_faults, plan_of, too_large, bad_blob_limit}
+use Rattle.fl_words.specs.Config.{ConfigFault, first_fault, table_faults, plan_of, too_large, bad_blob_limit, bad_log}
 use Rattle.fl_plan.specs.declared.table_config.TableConfig.{TableConfig}
-use Rattle.fl_plan.specs.Plan.{Label, plan_of_table}
+use Rattle.fl_plan.specs.Plan.{IsRingAt, plan_of_table}
 use Rattle.fl_plan.specs.Limits.{IsWithin, IsRingSize, IsWithinLimits}
-use Rattle.fl_plan.specs.Refusal.{pages_misfit, is_bad_ring, field_faults, room_faults, format_faults, config_fault, nameless}
+use Rattle.fl_plan.specs.Refusal.{pages_misfit, is_bad_ring, field_faults, room_faults, ring_faults, config_fault, nameless}
 use Rattle.fl_plan.proofs.Faults.{some-first, some-then, none-both}
+use Rattle.fl_plan.proofs.Fits.{fewer-fit}
 use Rattle.fl_config.specs.declared.entry.Entry.{Entry}
 use Rattle.fl_config.specs.Entry.{plan_in}
+use Rattle.fl_config.specs.Label.{LineLabel, plan_with}
 use Rattle.fl_config.specs.Lines.{place_faults, line_faults, size_faults}
 
 -- a test of the plans is one of the tables
@@ -35,24 +37,20 @@ pub large-is : (geometry : Geometry) (blocks : ℕ) (plans : List Plan) (plan : 
 large-is geometry blocks plans plan is = ap (λ b. pages_misfit geometry b) (sum-push plans plan ∙ ap (λ b. b + blocks_of plan) (sym is))
 
 -- the last tests of a line
-abbrev pub last_faults : Geometry → List Plan → Plan → List (Bool × ConfigFault)
-last_faults geometry plans plan =
+abbrev pub last_faults : Geometry → List Plan → Plan → Option ℕ → List (Bool × ConfigFault)
+last_faults geometry plans plan log =
     (nat_lt (geometry.page - 24) (row_len plan), words.RowTooLong) ∷ (too_large geometry (plans ++ plan ∷ []), words.DeviceTooLarge)
-    ∷ (plan.full_index && (plan.index_blocks == 0), words.Format) ∷ []
+    ∷ (plan.full_index && (plan.index_blocks == 0), words.Format)
+    ∷ (bad_log log, words.LogBlocks)
+    ∷ (is_some log && not (plan.var_blocks == 0), words.LogVar) ∷ []
 
-pub last-is : (geometry : Geometry) (blocks : ℕ) (plans : List Plan) (plan : Plan) → blocks ≡ sum_by blocks_of plans → last_faults geometry plans plan ≡ size_faults geometry blocks plan
-last-is geometry blocks plans plan is = rw (large-is geometry blocks plans plan is) refl
+pub last-is : (geometry : Geometry) (blocks : ℕ) (plans : List Plan) (plan : Plan) (log : Option ℕ) → blocks ≡ sum_by blocks_of plans →
+    last_faults geometry plans plan log ≡ size_faults geometry blocks plan log
+last-is geometry blocks plans plan log is = rw (large-is geometry blocks plans plan is) refl
 
 pub all-faults : (geometry : Geometry) (plans : List Plan) (line : TableLine) →
-    table_faults geometry plans line ≡ place_faults plans line ++ (line_faults geometry line ++ last_faults geometry plans (plan_of geometry line))
+    table_faults geometry plans line ≡ place_faults plans line ++ (line_faults geometry line ++ last_faults geometry plans (plan_of geometry line) line.log_blocks)
 all-faults geometry plans line = refl
-
--- fewer blocks fit where more do
-pub fewer-fit : (geometry : Geometry) (few many : ℕ) → few ≤ many → pages_misfit geometry many ≡ false → pages_misfit geometry few ≡ false
-fewer-fit geometry few many le fits =
-    let pages : few * geometry.block ≤ many * geometry.block = mul-le-mul_right geometry.block le in
-    let bytes : few * geometry.block * geometry.page ≤ many * geometry.block * geometry.page = mul-le-mul_right geometry.page pages in
-    grind (arith, nat_tests, pages, bytes, fits)
 
 page-fits : (geometry : Geometry) → IsWithin geometry → (nat_lt geometry.page 64 || nat_lt 4096 geometry.page || not (geometry.page % 8 == 0)) ≡ false
 page-fits geometry within = rw within.page_eights (grind (arith, nat_tests, within.page_low, within.page_high))
@@ -88,41 +86,74 @@ fields-pass config limits =
     ) refl
 
 -- the first of tests that all pass, and the others
-first-passes : (test : Bool) (fault : ConfigFault) (tests : List (Bool × ConfigFault)) → first_fault ((test, fault) ∷ tests) ≡ None → (test ≡ false) × (first_fault tests ≡ None)
+pub first-passes : (test : Bool) (fault : ConfigFault) (tests : List (Bool × ConfigFault)) → first_fault ((test, fault) ∷ tests) ≡ None → (test ≡ false) × (first_fault tests ≡ None)
 first-passes true fault tests none = absurd (cc)
 first-passes false fault tests none = (refl, none)
 
 -- what the last tests decide, where they all pass
-record Passes (row size format : Bool) : Type 0 where
-  row_is : row ≡ false
-  size_is : size ≡ false
-  format_is : format ≡ false
+pub record Passes (a b c d e : Bool) : Type 0 where
+  pub row : a ≡ false
+  pub size : b ≡ false
+  pub full : c ≡ false
+  pub log : d ≡ false
+  pub blobs : e ≡ false
 
-last-pass : (row size format : Bool) → first_fault ((row, words.RowTooLong) ∷ (size, words.DeviceTooLarge) ∷ (format, words.Format) ∷ []) ≡ None → Passes row size format
-last-pass row size format none =
-    let last : List (Bool × ConfigFault) = (format, words.Format) ∷ [] in
-    let a = first-passes row words.RowTooLong ((size, words.DeviceTooLarge) ∷ last) none in
-    let b = first-passes size words.DeviceTooLarge last a.1 in
-    record { row_is = a.0; size_is = b.0; format_is = (first-passes format words.Format [] b.1).0 }
+pub last-pass : (row size full log blobs : Bool) →
+    first_fault ((row, words.RowTooLong) ∷ (size, words.DeviceTooLarge) ∷ (full, words.Format) ∷ (log, words.LogBlocks) ∷ (blobs, words.LogVar) ∷ []) ≡ None → Passes row size full log blobs
+last-pass row size full log blobs none =
+    let fifth : List (Bool × ConfigFault) = (blobs, words.LogVar) ∷ [] in
+    let fourth : List (Bool × ConfigFault) = (log, words.LogBlocks) ∷ fifth in
+    let third : List (Bool × ConfigFault) = (full, words.Format) ∷ fourth in
+    let a = first-passes row words.RowTooLong ((size, words.DeviceTooLarge) ∷ third) none in
+    let b = first-passes size words.DeviceTooLarge third a.1 in
+    let c = first-passes full words.Format fourth b.1 in
+    let d = first-passes log words.LogBlocks fifth c.1 in
+    let e = first-passes blobs words.LogVar [] d.1 in
+    record { row = a.0; size = b.0; full = c.0; log = d.0; blobs = e.0 }
+
+-- the log of a line that isn't refused
+pub log-taken : (place : Option RingPlace) (first : ℕ) (log : Option ℕ) (var : ℕ) → IsRingAt place first (unwrap_or log 0) → bad_log log ≡ false → (is_some log && not (var == 0)) ≡ false →
+    IfSome place (λ p. (p.first_block ≡ first) × IsRingSize p × (var ≡ 0))
+log-taken None first log var at size blobs = tt
+log-taken (Some p) first None var at size blobs = absurd (omega (arith, at.2))
+log-taken (Some p) first (Some n) var at size blobs =
+    let low : 3 ≤ n = grind (arith, nat_tests, size) in
+    let high : n ≤ 16384 = grind (arith, nat_tests, size) in
+    let none : var ≡ 0 = grind (arith, nat_tests, blobs) in
+    (at.0, (omega (arith, at.1, low), omega (arith, at.1, high)), none)
+
+-- the size of all rings, with the blocks of the log or with fewer that are as bad
+pub size-is : (geometry : Geometry) (before own few log total : ℕ) → own + log ≡ total → pages_misfit geometry (before + own + few) ≡ pages_misfit geometry (before + own + log) →
+    pages_misfit geometry (before + total) ≡ pages_misfit geometry (before + own + few)
+size-is geometry before own few log total sum same =
+    let is : before + total ≡ before + own + log = omega (arith, sum) in
+    ap (λ n. pages_misfit geometry n) is ∙ sym same
+
+-- no device has room for so many blocks
+pub many-misfit : (geometry : Geometry) (others blocks : ℕ) → IsWithin geometry → 65537 ≤ blocks → pages_misfit geometry (others + blocks) ≡ true
+many-misfit geometry others blocks within many =
+    let some : 65537 ≤ others + blocks = omega (arith, many) in
+    let one : 1 ≤ geometry.block = omega (arith, within.block_low) in
+    let pages : 65537 * 1 ≤ (others + blocks) * geometry.block = mul-le-mul some one in
+    let large : nat_lt 65536 ((others + blocks) * geometry.block) ≡ true = grind (arith, nat_tests, pages) in
+    rw large refl
 
 -- a table that its line doesn't refuse isn't refused by itself
-pub passes-alone : (config : TableConfig) (blocks : ℕ) (plan : Plan) (label : Label) → plan_of_table label config ≡ plan → IsWithinLimits config → bad_blob_limit plan ≡ false →
-    first_fault (size_faults config.geometry blocks plan) ≡ None → config_fault config ≡ None
-passes-alone config blocks plan label is limits blob none =
+pub passes-alone : (config : TableConfig) (blocks : ℕ) (plan : Plan) (label : LineLabel) (log : Option ℕ) → plan_with label config ≡ plan → IsWithinLimits config → bad_blob_limit plan ≡ false →
+    first_fault (size_faults config.geometry blocks plan log) ≡ None → config_fault config ≡ None
+passes-alone config blocks plan label log is limits blob none =
     let alone = plan_of_table nameless config in
     let kept : bad_blob_limit alone ≡ false = ap bad_blob_limit is ∙ blob in
-    let tests = last-pass (nat_lt (config.geometry.page - 24) (row_len plan)) (pages_misfit config.geometry (blocks + blocks_of plan)) (plan.full_index && (plan.index_blocks == 0)) none in
-    let row : nat_lt (config.geometry.page - 24) (row_len alone) ≡ false = ap (λ p. nat_lt (config.geometry.page - 24) (row_len p)) is ∙ tests.row_is in
+    let tests = last-pass (nat_lt (config.geometry.page - 24) (row_len plan)) (pages_misfit config.geometry (blocks + blocks_of plan)) (plan.full_index && (plan.index_blocks == 0)) (bad_log log) (is_some log && not (plan.var_blocks == 0)) none in
+    let row : nat_lt (config.geometry.page - 24) (row_len alone) ≡ false = ap (λ p. nat_lt (config.geometry.page - 24) (row_len p)) is ∙ tests.row in
     let few : sum_by blocks_of (alone ∷ []) ≤ blocks + blocks_of plan = omega (arith, ap blocks_of is, sum_by-cons blocks_of alone []) in
-    let size : too_large config.geometry (alone ∷ []) ≡ false = fewer-fit config.geometry (sum_by blocks_of (alone ∷ [])) (blocks + blocks_of plan) few tests.size_is in
-    let format : (alone.full_index && (alone.index_blocks == 0)) ≡ false = ap (λ p. p.full_index && (p.index_blocks == 0)) is ∙ tests.format_is in
-    none-both (field_faults config ++ room_faults alone ++ (too_large config.geometry (alone ∷ []), words.DeviceTooLarge) ∷ []) (format_faults alone)
-    (none-both (field_faults config ++ room_faults alone) ((too_large config.geometry (alone ∷ []), words.DeviceTooLarge) ∷ [])
-    (none-both (field_faults config) (room_faults alone) (fields-pass config limits) (rw kept (rw row refl))) (rw size refl)) (rw format refl)
+    let size : too_large config.geometry (alone ∷ []) ≡ false = fewer-fit config.geometry (sum_by blocks_of (alone ∷ [])) (blocks + blocks_of plan) few tests.size in
+    let full : (alone.full_index && (alone.index_blocks == 0)) ≡ false = ap (λ p. p.full_index && (p.index_blocks == 0)) is ∙ tests.full in
+    none-both (field_faults config ++ room_faults alone) (ring_faults None config) (none-both (field_faults config) (room_faults alone) (fields-pass config limits) (rw kept (rw row refl))) (rw size (rw full refl))
 
 -- what is told of a line by its first, its next and its last tests
 abbrev pub last_part : Geometry → List Plan → TableLine → List (Bool × ConfigFault)
-last_part geometry plans line = last_faults geometry plans (plan_of geometry line)
+last_part geometry plans line = last_faults geometry plans (plan_of geometry line) line.log_blocks
 
 pub told-next : (geometry : Geometry) (plans : List Plan) (line : TableLine) (told : Option ConfigFault) → first_fault (place_faults plans line) ≡ None →
     IsSomeAnd told (λ fault. first_fault (line_faults geometry line) ≡ Some fault) → IsSomeAnd told (λ fault. first_fault (table_faults geometry plans line) ≡ Some fault)
@@ -140,22 +171,23 @@ pub told-none : (geometry : Geometry) (plans : List Plan) (line : TableLine) →
 told-none geometry plans line place here last =
     none-both (place_faults plans line) (line_faults geometry line ++ last_part geometry plans line) place (none-both (line_faults geometry line) (last_part geometry plans line) here last)
 
-pub large-none : (geometry : Geometry) (plans : List Plan) (plan : Plan) → first_fault (last_faults geometry plans plan) ≡ None → too_large geometry (plans ++ plan ∷ []) ≡ false
-large-none geometry plans plan none =
-    (last-pass (nat_lt (geometry.page - 24) (row_len plan)) (too_large geometry (plans ++ plan ∷ [])) (plan.full_index && (plan.index_blocks == 0)) none).size_is
+pub last-passes : (geometry : Geometry) (plans : List Plan) (plan : Plan) (log : Option ℕ) → first_fault (last_faults geometry plans plan log) ≡ None →
+    Passes (nat_lt (geometry.page - 24) (row_len plan)) (too_large geometry (plans ++ plan ∷ [])) (plan.full_index && (plan.index_blocks == 0)) (bad_log log) (is_some log && not (plan.var_blocks == 0))
+last-passes geometry plans plan log none =
+    last-pass (nat_lt (geometry.page - 24) (row_len plan)) (too_large geometry (plans ++ plan ∷ [])) (plan.full_index && (plan.index_blocks == 0)) (bad_log log) (is_some log && not (plan.var_blocks == 0)) none
 
-pub size-last : (geometry : Geometry) (blocks : ℕ) (plans : List Plan) (line : TableLine) (config : TableConfig) (label : Label) → blocks ≡ sum_by blocks_of plans →
-    plan_of_table label config ≡ plan_of geometry line → size_faults config.geometry blocks (plan_of_table label config) ≡ last_part geometry plans line
+pub size-last : (geometry : Geometry) (blocks : ℕ) (plans : List Plan) (line : TableLine) (config : TableConfig) (label : LineLabel) → blocks ≡ sum_by blocks_of plans →
+    plan_with label config ≡ plan_of geometry line → size_faults config.geometry blocks (plan_with label config) line.log_blocks ≡ last_part geometry plans line
 size-last geometry blocks plans line config label total is =
-    ap (λ p. size_faults p.geometry blocks p) is ∙ sym (last-is geometry blocks plans (plan_of geometry line) total)
+    ap (λ p. size_faults p.geometry blocks p line.log_blocks) is ∙ sym (last-is geometry blocks plans (plan_of geometry line) line.log_blocks total)
 
-pub some-size : (geometry : Geometry) (blocks : ℕ) (plans : List Plan) (line : TableLine) (config : TableConfig) (label : Label) (told : Option ConfigFault) → blocks ≡ sum_by blocks_of plans →
-    plan_of_table label config ≡ plan_of geometry line → IsSomeAnd told (λ fault. first_fault (size_faults config.geometry blocks (plan_of_table label config)) ≡ Some fault) →
+pub some-size : (geometry : Geometry) (blocks : ℕ) (plans : List Plan) (line : TableLine) (config : TableConfig) (label : LineLabel) (told : Option ConfigFault) → blocks ≡ sum_by blocks_of plans →
+    plan_with label config ≡ plan_of geometry line → IsSomeAnd told (λ fault. first_fault (size_faults config.geometry blocks (plan_with label config) line.log_blocks) ≡ Some fault) →
     IsSomeAnd told (λ fault. first_fault (last_part geometry plans line) ≡ Some fault)
 some-size geometry blocks plans line config label told total is size =
     subst (λ tests. IsSomeAnd told (λ fault. first_fault tests ≡ Some fault)) (size-last geometry blocks plans line config label total is) size
 
-pub none-size : (geometry : Geometry) (blocks : ℕ) (plans : List Plan) (line : TableLine) (config : TableConfig) (label : Label) → blocks ≡ sum_by blocks_of plans →
-    plan_of_table label config ≡ plan_of geometry line → first_fault (size_faults config.geometry blocks (plan_of_table label config)) ≡ None →
+pub none-size : (geometry : Geometry) (blocks : ℕ) (plans : List Plan) (line : TableLine) (config : TableConfig) (label : LineLabel) → blocks ≡ sum_by blocks_of plans →
+    plan_with label config ≡ plan_of geometry line → first_fault (size_faults config.geometry blocks (plan_with label config) line.log_blocks) ≡ None →
     first_fault (last_part geometry plans line) ≡ None
 none-size geometry blocks plans line config label total is size = ap first_fault (sym (size-last geometry blocks plans line config label total is)) ∙ size

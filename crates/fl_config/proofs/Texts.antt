@@ -35,14 +35,20 @@ spaced-maybe : (there : Bool) (text : List ℕ) (words : List (List ℕ)) → co
 spaced-maybe true text words = refl
 spaced-maybe false text words = refl
 
--- .. one last word
-pub ending-onto : (text first : List ℕ) (words : List (List ℕ)) (there : Bool) (word : List ℕ) →
-    cond there (spaced_onto (text ++ first) words ++ 32 ∷ word) (spaced_onto (text ++ first) words) ++ 10 ∷ []
-    ≡ text ++ (join_with_byte 32 (first ∷ (words ++ cond there (word ∷ []) [])) ++ 10 ∷ [])
-ending-onto text first words there word =
-    let more = cond there (word ∷ []) [] in
-    let all = spaced-maybe there (spaced_onto (text ++ first) words) (word ∷ []) ∙ spaced-append (text ++ first) words more in
-    ap (λ (l : List ℕ). l ++ 10 ∷ []) all ∙ line-onto text first (words ++ more)
+-- .. one word, and then two
+pub endings-onto : (text first : List ℕ) (words : List (List ℕ)) (one two : Bool) (word left right : List ℕ) →
+    let ones = cond one (spaced_onto (text ++ first) words ++ 32 ∷ word) (spaced_onto (text ++ first) words) in
+    cond two (ones ++ 32 ∷ left ++ 32 ∷ right) ones ++ 10 ∷ []
+    ≡ text ++ (join_with_byte 32 (first ∷ (words ++ (cond one (word ∷ []) [] ++ cond two (left ∷ right ∷ []) []))) ++ 10 ∷ [])
+endings-onto text first words one two word left right =
+    let before = spaced_onto (text ++ first) words in
+    let ones = cond one (before ++ 32 ∷ word) before in
+    let some = cond one (word ∷ []) [] in
+    let more = cond two (left ∷ right ∷ []) [] in
+    let all : cond two (ones ++ 32 ∷ left ++ 32 ∷ right) ones ≡ spaced_onto (text ++ first) (words ++ (some ++ more)) =
+    spaced-maybe two ones (left ∷ right ∷ []) ∙ ap (λ (l : List ℕ). spaced_onto l more) (spaced-maybe one before (word ∷ []))
+    ∙ spaced-append before some more ∙ spaced-append (text ++ first) words (some ++ more) in
+    ap (λ (l : List ℕ). l ++ 10 ∷ []) all ∙ line-onto text first (words ++ (some ++ more))
 
 -- the name of a type is that of its column, and short
 pub column_name-is : (of : ColumnType) → column_name (column_of of) ≡ name_of of

@@ -1,3 +1,4 @@
+pub mod Label
 pub mod Lines
 pub mod Places
 pub mod Entry

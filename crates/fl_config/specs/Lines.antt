@@ -1,12 +1,12 @@
 -- The tests of a table line, in parts.
-use Rattle.std.specs.Prelude.{ℕ, unwrap_or, ◌+◌, ◌-◌, Bool, not, ◌&&◌, ◌||◌, nat_lt, nat_le, ◌==◌, is_none, List, [], ◌∷◌, ◌++◌, length}
+use Rattle.std.specs.Prelude.{ℕ, unwrap_or, ◌+◌, ◌-◌, Bool, not, ◌&&◌, ◌||◌, nat_lt, nat_le, ◌==◌, is_none, is_some, Option, List, [], ◌∷◌, ◌++◌, length}
 use Rattle.std.specs.List.{list_any}
 use Rattle.fl_base.specs.declared.types.Geometry.{Geometry}
 use Rattle.fl_model.specs.Record.{Plan, row_len, blocks_of, bytes_equal}
 use Rattle.fl_plan.specs.Refusal.{pages_misfit}
 use Rattle.fl_words.specs.Command.{TableLine}
 use Rattle.fl_words.specs.Config as words
-use Rattle.fl_words.specs.Config.{ConfigFault, Lines, columns_in, plan_of, is_odd_ring, bad_blob_limit}
+use Rattle.fl_words.specs.Config.{ConfigFault, Lines, columns_in, plan_of, is_odd_ring, bad_log, bad_blob_limit}
 
 -- its place among the tables
 abbrev pub place_faults : List Plan → TableLine → List (Bool × ConfigFault)
@@ -42,9 +42,12 @@ number_faults geometry line =
 abbrev pub line_faults : Geometry → TableLine → List (Bool × ConfigFault)
 line_faults geometry line = key_faults line ++ word_faults line.columns ++ number_faults geometry line
 
--- the length of its row, the size of all rings with its own, and whether full index entries have an index
-abbrev pub size_faults : Geometry → ℕ → Plan → List (Bool × ConfigFault)
-size_faults geometry blocks plan =
+-- the length of its row, the size of all rings with its own, whether full index entries have an index, and the blocks of its
+-- log, which no table with variable data has
+abbrev pub size_faults : Geometry → ℕ → Plan → Option ℕ → List (Bool × ConfigFault)
+size_faults geometry blocks plan log =
     (nat_lt (geometry.page - 24) (row_len plan), words.RowTooLong)
     ∷ (pages_misfit geometry (blocks + blocks_of plan), words.DeviceTooLarge)
-    ∷ (plan.full_index && (plan.index_blocks == 0), words.Format) ∷ []
+    ∷ (plan.full_index && (plan.index_blocks == 0), words.Format)
+    ∷ (bad_log log, words.LogBlocks)
+    ∷ (is_some log && not (plan.var_blocks == 0), words.LogVar) ∷ []

@@ -3,6 +3,10 @@ use Rattle.std.specs.Prelude.{◌≡◌, ℕ, ◌+◌, IfSome}
 use Rattle.fl_plan.specs.declared.table_config.TableConfig.{TableConfig}
 use Rattle.fl_plan.specs.Plan.{blocks_in}
 
+-- the block behind the rings of a table, where its log stands
+abbrev pub end_from : ℕ → TableConfig → ℕ
+end_from first config = first + config.rows.blocks + blocks_in config.index + blocks_in config.var
+
 -- the rings stand one after another from a block on
 pub record StandsFrom (first : ℕ) (config : TableConfig) : Type 0 where
   pub rows : config.rows.first_block ≡ first

@@ -1,14 +1,13 @@
 -- The words of a table line, and what the table is that they make.
-use Rattle.std.specs.Prelude.{◌≡◌, ℕ, ◌^◌, ◌<◌, ◌≤◌, false, IsTrue, ◌||◌, ◌==◌, ◌⊎◌, Option, Some, None}
+use Rattle.std.specs.Prelude.{◌≡◌, ℕ, ◌^◌, ◌<◌, ◌≤◌, false, IsTrue, ◌||◌, ◌==◌, ◌⊎◌, Option, Some, None, unwrap_or}
 use Rattle.fl_base.specs.declared.types.Geometry.{Geometry}
-use Rattle.fl_base.specs.declared.types.RingPlace.{RingPlace}
 use Rattle.fl_bitmap.specs.declared.buckets.Buckets.{Buckets}
 use Rattle.fl_words.specs.Command.{TableLine}
 use Rattle.fl_words.specs.Config.{plan_of, bad_blob_limit}
 use Rattle.fl_plan.specs.declared.table_config.TableConfig.{TableConfig}
-use Rattle.fl_plan.specs.Plan.{plan_of_table}
 use Rattle.fl_plan.specs.Refusal.{blobs_misfit}
 use Rattle.fl_plan.specs.Limits.{IsWithinLimits}
+use Rattle.fl_config.specs.Label.{LineLabel, plan_with}
 use Rattle.fl_config.specs.Places.{StandsFrom}
 use Rattle.fl_config.specs.declared.words.TableWords.{TableWords}
 
@@ -26,12 +25,8 @@ line_of words = record {
   error = words.error;
   blob_limit = words.blob;
   full_index = words.full;
+  log_blocks = words.log;
 }
-
--- the ring of so many blocks stands at a block; none where it has no blocks
-abbrev pub IsRingAt : Option RingPlace → ℕ → ℕ → Type 0
-IsRingAt None first blocks = blocks ≡ 0
-IsRingAt (Some place) first blocks = (place.first_block ≡ first) × (place.blocks ≡ blocks) × (0 < blocks)
 
 -- the numbers of a line that is not refused for one of them
 abbrev pub IsRingOrNone : ℕ → Type 0
@@ -54,9 +49,13 @@ abbrev pub AreBucketsIn : Option Buckets → TableLine → Type 0
 AreBucketsIn None line = line.bits ≡ 0
 AreBucketsIn (Some buckets) line = (buckets.bits ≡ line.bits) × (buckets.base ≡ line.base) × (buckets.width ≡ line.width)
 
+-- what a line says beside the configuration of its table
+abbrev pub label_in : TableLine → LineLabel
+label_in line = record { name = line.name; base = line.base; width = line.width; log_blocks = unwrap_or line.log_blocks 0 }
+
 -- the table of a line, with its rings from a block on
 pub record IsTableOf (geometry : Geometry) (first : ℕ) (line : TableLine) (config : TableConfig) : Type 0 where
-  pub plan : plan_of_table (record { name = line.name; base = line.base; width = line.width }) config ≡ plan_of geometry line
+  pub plan : plan_with (label_in line) config ≡ plan_of geometry line
   pub stands : StandsFrom first config
   pub limits : IsWithinLimits config
   pub blob : bad_blob_limit (plan_of geometry line) ≡ false

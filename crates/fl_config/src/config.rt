@@ -1,18 +1,19 @@
 // The configuration so far.
-ghost use Rattle.std.specs.Prelude.{◌≡◌, ◌<◌, ◌≤◌, false, Some, None, IsTrue, IfSome, length, map, slice_get, take, sum_by, ℕ, is_some};
+ghost use Rattle.std.specs.Prelude.{◌≡◌, ◌+◌, ◌<◌, ◌≤◌, false, Some, None, IsTrue, IfSome, length, map, slice_get, take, sum_by, ℕ, is_some};
+ghost use Rattle.fl_model.specs.Bare.{bare};
 ghost use Rattle.fl_model.specs.Record.{blocks_of};
 ghost use Rattle.fl_model.specs.Record.{Config as Configured};
 ghost use Rattle.fl_model.specs.Image.{medium_len};
 ghost use Rattle.fl_words.specs.Config.{too_large, whole};
-ghost use Rattle.fl_plan.specs.Plan.{IsConfigOf};
-ghost use Rattle.fl_plan.specs.Limits.{IsWithin, IsWithinLimits};
+ghost use Rattle.fl_plan.specs.Plan.{IsConfigOf, IsRingAt};
+ghost use Rattle.fl_plan.specs.Limits.{IsWithin, IsRingSize, IsWithinLimits};
 ghost use Rattle.fl_plan.specs.Refusal.{config_fault};
 
 use crate::entry::Entry;
 use crate::taking::{device_of, table_of};
 use crate::words::TableWords;
 use arrayvec::ArrayVec;
-use fl_base::{Geometry, Name};
+use fl_base::{Geometry, Name, RingPlace};
 use fl_plan::{ConfigRefusal, TableConfig};
 use fl_script::{Command, LineRoom};
 use std::marker::Model;
@@ -81,6 +82,7 @@ impl Config {
                 error,
                 blob,
                 full,
+                log,
             } => self.add_table(&TableWords {
                 name: *name,
                 key: *key,
@@ -94,6 +96,7 @@ impl Config {
                 error: *error,
                 blob: *blob,
                 full: *full,
+                log: *log,
             }),
             _ => Ok(()),
         }
@@ -123,7 +126,7 @@ impl Config {
             return Err(ConfigRefusal::TableFirst);
         };
         let table = table_of(geometry, &self.tables, self.device_blocks, line)?;
-        self.device_blocks += table.config.blocks() as u32;
+        self.device_blocks += table.config.blocks() as u32 + table.log_blocks();
         self.tables.push(table);
         Ok(())
     }
@@ -181,15 +184,25 @@ impl Config {
         self.tables.as_slice()[i].name
     }
 
-    /// A table, by its number from 0. Its rings stand behind those of the tables before it, without gaps.
+    /// A table without its log, by its number from 0. Its rings stand behind those of the tables before it, without gaps.
     pub fn table(&self, i: usize) -> &TableConfig
         requires { i < length self.now.plans }
-        ensures plan { IfSome (slice_get self.now.plans i) (λ plan. IsConfigOf result.now plan) }
+        ensures plan { IfSome (slice_get self.now.plans i) (λ plan. IsConfigOf result.now (bare plan)) }
         ensures first { result.now.rows.first_block ≡ sum_by blocks_of (take i self.now.plans) }
         ensures device { self.now.device ≡ Some result.now.geometry }
         ensures limits { IsWithinLimits result.now }
         ensures passes { config_fault result.now ≡ None }
     {
         &self.tables.as_slice()[i].config
+    }
+
+    /// The place of the log of a table, by the table's number from 0: behind its other rings. None where it has no log.
+    pub fn log(&self, i: usize) -> Option<RingPlace>
+        requires { i < length self.now.plans }
+        ensures place { IfSome (slice_get self.now.plans i) (λ plan. IsRingAt result (sum_by blocks_of (take i self.now.plans) + plan.data_blocks + plan.index_blocks + plan.var_blocks) plan.log_blocks) }
+        ensures size { IfSome result IsRingSize }
+        ensures blobs { IfSome (slice_get self.now.plans i) (λ plan. IfSome result (λ place. plan.var_blocks ≡ 0)) }
+    {
+        self.tables.as_slice()[i].log
     }
 }

@@ -1,22 +1,31 @@
 // A table that was taken.
 ghost use Rattle.std.specs.Prelude.{◌≡◌};
+ghost use Rattle.fl_plan.specs.Plan.{blocks_in};
 
 use arrayvec::ArrayVec;
 use fl_base::{Geometry, Name, RingPlace};
 use fl_plan::TableConfig;
 use fl_schema::KeyWidth;
 
-/// A table with its name, and the base and width that stand in the header though it may have no buckets.
+/// A table with its name, the base and width that stand in the header though it may have no buckets, and its log, if it has one.
 #[derive(Drop)]
 pub(crate) struct Entry {
     pub(crate) name: Name,
     pub(crate) base: i64,
     pub(crate) width: u64,
     pub(crate) config: TableConfig,
+    pub(crate) log: Option<RingPlace>,
 }
 
 impl Entry {
     ghost use Rattle.fl_config.specs.Entry.{plan_in};
+
+    /// The blocks of its log; 0 where it has none.
+    pub(crate) fn log_blocks(&self) -> u32
+        ensures { result ≡ blocks_in self.now.log }
+    {
+        self.log.map_or(0, |place| place.blocks)
+    }
 
     /// How many buckets it has; 0 where it has none.
     pub(crate) fn bits(&self) -> u32
@@ -66,6 +75,7 @@ impl Default for Entry {
                 blob_limit: 0,
                 full_index: false,
             },
+            log: None,
         }
     }
 }

@@ -1,5 +1,5 @@
 // The text of the configuration at the front of an image.
-ghost use Rattle.std.specs.Prelude.{◌≡◌, ◌+◌, ◌≤◌, ◌∷◌, ◌++◌, [], length, map, codes, if◌then◌else◌};
+ghost use Rattle.std.specs.Prelude.{◌≡◌, ◌+◌, ◌≤◌, ◌∷◌, ◌++◌, [], length, map, codes, decimal, nat_lt, if◌then◌else◌};
 ghost use Rattle.std.specs.List.{flat_map, join_with_byte};
 ghost use Rattle.fl_words.specs.Medium.{column_name, device_text, table_text};
 ghost use Rattle.fl_schema.specs.Types.{column_of};
@@ -110,6 +110,18 @@ impl HeaderText {
         }
     }
 
+    /// The word for a log and its blocks, each behind a space, where it has blocks.
+    fn add_log(&mut self, blocks: u32)
+        requires { length self.old + 15 ≤ ROOM }
+        ensures text { self.new ≡ (if nat_lt 0 blocks then self.old ++ 32 ∷ codes "rlc" ++ 32 ∷ decimal blocks else self.old) }
+        ensures short { length self.new ≤ length self.old + 15 }
+    {
+        if blocks > 0 {
+            self.add_word(b"rlc");
+            self.add_number(blocks);
+        }
+    }
+
     pub(crate) fn add_table(&mut self, table: &Entry)
         requires { length self.old + 200 ≤ ROOM }
         ensures text { self.new ≡ self.old ++ table_text (plan_in table.now) }
@@ -128,6 +140,7 @@ impl HeaderText {
         self.add_number(table.config.error);
         self.add_number(table.config.blob_limit);
         self.add_format(table.config.full_index);
+        self.add_log(table.log_blocks());
         self.add(b"\n");
     }
 

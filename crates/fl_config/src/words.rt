@@ -3,10 +3,11 @@ ghost use Rattle.std.specs.Prelude.{◌≡◌, ◌^◌, ◌<◌, ◌≤◌, ◌|
 ghost use Rattle.fl_words.specs.Config.{first_fault, is_odd_ring, columns_in};
 ghost use Rattle.fl_schema.specs.Form.{key_width};
 ghost use Rattle.fl_schema.specs.Types.{column_of};
+ghost use Rattle.fl_plan.specs.Plan.{IsRingAt};
 ghost use Rattle.fl_plan.specs.Refusal.{Tells};
 ghost use Rattle.fl_plan.specs.Limits.{IsWithin};
 ghost use Rattle.fl_config.specs.Lines.{key_faults, number_faults, line_faults, bad_bits};
-ghost use Rattle.fl_config.specs.Words.{line_of, IsRingAt, AreWithin, AreBucketsIn, IsTableOf};
+ghost use Rattle.fl_config.specs.Words.{line_of, AreWithin, AreBucketsIn, IsTableOf};
 
 use crate::columns::columns_in;
 use arrayvec::ArrayVec;
@@ -30,6 +31,7 @@ pub(crate) struct TableWords<'a> {
     pub(crate) error: u64,
     pub(crate) blob: u64,
     pub(crate) full: bool,
+    pub(crate) log: Option<u64>,
 }
 
 fn is_ring(blocks: u64) -> bool
@@ -39,7 +41,7 @@ fn is_ring(blocks: u64) -> bool
 }
 
 /// The place of a ring of so many blocks from a block on; none where it has no blocks.
-fn ring_at(first_block: u32, blocks: u64) -> Option<RingPlace>
+pub(crate) fn ring_at(first_block: u32, blocks: u64) -> Option<RingPlace>
     requires { blocks ≤ 16384 }
     ensures { IsRingAt result first_block blocks }
 {

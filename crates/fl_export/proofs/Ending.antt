@@ -27,7 +27,7 @@ use Rattle.fl_export.specs.Tables.{told_of, EndsOn, EndsOver}
 use Rattle.fl_export.proofs.Images.{made-by, image-tables, tables-image}
 use Rattle.fl_export.proofs.Lines.{appends-none}
 use Rattle.fl_export.proofs.Repairing.{medium-repaired}
-use Rattle.fl_tables.specs.Repaired.{IsRepaired}
+use Rattle.fl_tables.specs.Repaired.{IsLeft}
 use Rattle.fl_flash.specs.Flash.{page_at}
 use Rattle.fl_model.specs.Record.{blocks_of}
 use Rattle.std.specs.Prelude.{◌*◌, ◌<◌, sum_by}
@@ -117,7 +117,7 @@ flash-ends config lines tables name range f g old new geometry blocks origin tol
 pub flash-repairs : (config : Config) (lines : Lines) (tables : List Table) (name : List ℕ) (f g : FlashState) (old new : MediaState) (geometry : Geometry) (blocks : ℕ) (origin : GName) (entries : List Entry) (at : ℕ) (status : ToolStatus) →
     f ≡ on_medium geometry blocks 1024 origin true None 0 (record { reads = 0; programs = 0; erases = 0 }) old → new ≡ g.media → Goes f g → lines.device ≡ Some geometry → IsTrue old.tells → Makes lines config → IsImage config old.content tables → AreNewTables entries lines → IsNamed entries name at → (status ≡ Device → ⊥) →
     ((plans : List Plan) (ts : List Table) (asked : List ℕ) → IsTrue f.media.tells → f.is_on ≡ true → SameDevice f at_rest → TablesStand f (λ i. false) plans entries ts → IsNamed entries asked at → (status ≡ Device → ⊥) →
-    (page : ℕ) → page < sum_by blocks_of plans * f.geometry.block → IsRepaired f.geometry.page (page_at f page) (page_at g page)) →
+    (page : ℕ) → page < sum_by blocks_of plans * f.geometry.block → IsLeft plans f.geometry page (page_at f page) (page_at g page)) →
     AreRepaired config old.content new.content
 flash-repairs config lines tables name f g old new geometry blocks origin entries at status is media goes device tells makes image made named well repairs =
     let f' : FlashState = on_medium geometry blocks 1024 origin true None 0 (record { reads = 0; programs = 0; erases = 0 }) old in

@@ -16,8 +16,8 @@ use Rattle.fl_model.specs.Image.{medium_len, IsTableImage, AreTableImages}
 use Rattle.fl_model.specs.Record.{Plan, Config, blocks_of}
 use Rattle.fl_model.specs.Table.{Table}
 use Rattle.fl_model.proofs.Lists.{slice_get-some}
-use Rattle.fl_table.specs.Memory.{IsPlanned}
-use Rattle.fl_table.proofs.Images.{image-rests, rests-image}
+use Rattle.fl_rlc.specs.Table.{IsPlanned}
+use Rattle.fl_rlc.proofs.Images.{image-rests, rests-image}
 use Rattle.fl_tables.specs.Tables.{first_of, AreNewTables, EntryStands, TablesStand, LieOn}
 use Rattle.fl_tables.specs.declared.tables.Entry.{Entry}
 use Rattle.fl_tables.proofs.Apart.{blocks-apart}
@@ -110,7 +110,7 @@ tables-image config entries f tables len head start geometry h = record {
       let entry = slice_get-some entries i (omega (arith, slice_get_within config.plans i plan p, h.as_many)) in
       let own = h.each i plan entry.0 table p entry.1 r in
       subst (λ n. IsTableImage config f.media.content n plan table) (let m : i ≡ 0 + i = omega arith in m)
-      (rests-image config i plan table f own.planned.log start geometry own.on_flash));
+      (rests-image config i plan table f start geometry own.on_flash));
 }
 
 -- ---- new tables lie on a flash of their configuration

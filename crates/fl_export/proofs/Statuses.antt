@@ -14,9 +14,10 @@ use Rattle.fl_jobs.specs.declared.status.ToolStatus.TheVariants.{Done, InputRead
 use Rattle.fl_model.specs.Record.{Plan, Config}
 use Rattle.fl_model.specs.Table.{Table}
 use Rattle.fl_page.specs.declared.fault.ReadFault.TheVariants.{Flash, BadPage}
+use Rattle.fl_table.specs.Causes.{MountCausedBy}
 use Rattle.fl_table.specs.declared.faults.MountFault.{MountFault}
 use Rattle.fl_table.specs.declared.faults.MountFault.TheVariants as mount
-use Rattle.fl_tables.specs.Tables.{AreNewTables, IsNamed, MountFailsFor, Names}
+use Rattle.fl_tables.specs.Tables.{AreNewTables, IsNamed, Names}
 use Rattle.fl_tables.specs.declared.tables.Entry.{Entry}
 use Rattle.fl_words.specs.Config.{Lines}
 use Rattle.fl_words.specs.Medium.{IsImage}
@@ -71,7 +72,7 @@ fault-written (fault.Sink failed) at is cause = cause
 fault-written (fault.Read (Flash e)) at is cause = flash-unwritten e is
 fault-written (fault.Read (BadPage bad)) at is cause = absurd (cc is)
 
-pub mount-rose : (old new : FlashState) (e : MountFault) (at : ℕ) → mount_status e at ≡ Device → MountFailsFor old e new → Rose old.media.faults new.media.faults
+pub mount-rose : (old new : FlashState) (e : MountFault) (at : ℕ) → mount_status e at ≡ Device → MountCausedBy old e new → Rose old.media.faults new.media.faults
 mount-rose old new (mount.Flash Media) at is cause = cause
 mount-rose old new (mount.Flash PowerLost) at is cause = absurd (cc is)
 mount-rose old new (mount.Ring e) at is cause = absurd (cc is)

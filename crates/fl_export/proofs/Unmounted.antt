@@ -34,7 +34,7 @@ module _ (plans : List Plan) (tables : List model.Table) (name : List ℕ) (f g 
       fails : IsTrue (has_risen f g) → (Mounts plans (has_risen f g) (turns_from 0 plans) at_rest tables (Stopped b.end) ⊎ Mounts plans (has_risen f g) (turns_from 0 plans) at_rest tables (Unread b.end)) → AreUnmounted
       fails rose did = (
         risen-rose f g rose,
-        record { named = has; rose = has_risen f g; risen = λ r. risen-rose f g r; end = b.end; did = did; holds = off g false plans now b.end.tables b.rest; nothing = appends-none told },
+        record { named = has; rose = has_risen f g; risen = λ r. risen-rose f g r; end = b.end; did = did; holds = b.rest; nothing = appends-none told },
       )
 
       by_how : (Mounts plans (has_risen f g) (turns_from 0 plans) at_rest tables (Stopped b.end) × FaultIs b.end.outcome fault) ⊎ (Mounts plans (has_risen f g) (turns_from 0 plans) at_rest tables (Unread b.end) × (fault ≡ Media))

@@ -15,7 +15,7 @@ use Rattle.fl_model.specs.Record.{Plan, Config, blocks_of, bytes_equal}
 use Rattle.fl_model.specs.Table.{Table, lose}
 use Rattle.fl_model.specs.Work as work
 use Rattle.fl_model.specs.Work.{Progress}
-use Rattle.fl_tables.specs.Repaired.{IsRepaired}
+use Rattle.fl_tables.specs.Repaired.{IsLeft}
 use Rattle.fl_words.specs.Config.{Lines}
 use Rattle.fl_words.specs.Medium.{IsImage}
 use Rattle.fl_export.specs.Text.{table_text}
@@ -110,10 +110,11 @@ TablesEnd plans tables name range told Holds InputRead = ⊥
 TablesEnd plans tables name range told Holds InputLong = ⊥
 TablesEnd plans tables name range told Holds (BadInput number) = ⊥
 
--- each page of the tables' rings stands, or was torn and is void now, or is erased
+-- Each page of the tables' rings stands, or was torn and is void now, or is erased; or it was blank, and has records that only a
+-- log had.
 abbrev pub AreRepaired : Config → List ℕ → List ℕ → Type 0
 AreRepaired config content content_now =
-    (page : ℕ) → page < sum_by blocks_of config.plans * config.geometry.block → IsRepaired config.geometry.page (page_bytes config content page) (page_bytes config content_now page)
+    (page : ℕ) → page < sum_by blocks_of config.plans * config.geometry.block → IsLeft config.plans config.geometry page (page_bytes config content page) (page_bytes config content_now page)
 
 -- nothing was mounted and nothing written
 pub record IsUntouched (content content_now : List ℕ) (told : Told) : Type 0 where

@@ -10,7 +10,7 @@ ghost use Rattle.fl_model.specs.Image.{medium_len};
 ghost use Rattle.fl_model.specs.Record.{Config as Configured, Plan, blocks_of};
 ghost use Rattle.fl_model.specs.Table as model;
 ghost use Rattle.fl_ring.specs.Device.{SameDevice};
-ghost use Rattle.fl_tables.specs.Repaired.{IsRepaired};
+ghost use Rattle.fl_tables.specs.Repaired.{IsLeft};
 ghost use Rattle.fl_tables.specs.Tables.{AreNewTables, IsNamed, LieOn, TablesStand};
 ghost use Rattle.fl_words.specs.Medium.{IsImage};
 ghost use Rattle.fl_export.specs.Ends.{at_rest, AreRepaired, IsImageWith, StatusFits, Keeps, ExportEnds};
@@ -82,12 +82,13 @@ fn export_on<F: Flash, K: Sink>(
         → EndsOn plans ts name range (F.state flash.old) (F.state flash.new) (K.written out.old) (K.written out.new) tables.new.entries.items result }
     ensures repairs { (plans : List Plan) (ts : List model.Table) (name : List ℕ) → IsTrue (F.state flash.old).media.tells → (F.state flash.old).is_on ≡ true → SameDevice (F.state flash.old) at_rest
         → TablesStand (F.state flash.old) (λ i. false) plans tables.old.entries.items ts → IsNamed tables.old.entries.items name at → (result ≡ ToolStatus.Device → ⊥)
-        → (page : ℕ) → page < sum_by blocks_of plans * (F.state flash.old).geometry.block → IsRepaired (F.state flash.old).geometry.page (page_at (F.state flash.old) page) (page_at (F.state flash.new) page) }
+        → (page : ℕ) → page < sum_by blocks_of plans * (F.state flash.old).geometry.block → IsLeft plans (F.state flash.old).geometry page (page_at (F.state flash.old) page) (page_at (F.state flash.new) page) }
 {
     if let Err(bad) = tables.mount(flash, &mut rooms.rows) {
         return mount_status(bad);
     }
-    match write_table(alloc, &tables.entries[at].table, range, flash, rooms, out) {
+    let table = tables.entries[at].table.table();
+    match write_table(alloc, table, range, flash, rooms, out) {
         Ok(()) => ToolStatus::Done,
         Err(fault) => status_of(fault, at),
     }
@@ -135,7 +136,8 @@ fn export_at<M: Media, K: Sink>(
 }
 
 /// Writes the records of a table of the image on a medium whose keys are in a range, as lines of CSV below a line of the
-/// columns' names. All tables are mounted before, in their order, and repaired as a mount repairs them.
+/// columns' names. All tables are mounted before, in their order: what a mount repairs is repaired, and the records that only a
+/// table's log has become a page of the table.
 pub fn export_image<M: Media, K: Sink>(
     alloc: Global,
     name: Name,
@@ -148,7 +150,8 @@ pub fn export_image<M: Media, K: Sink>(
     ensures ends { (config : Configured) (tables : List model.Table) → IsTrue (M.state media.old).tells → IsMade config → IsImage config (M.state media.old).content tables →
         ExportEnds config tables name range (told_of (M.state media.old) (M.state media.new) (K.written out.old) (K.written out.new)) (M.state media.old).content (M.state media.new).content result }
 
-    // Nothing of the tables' pages changes but what a mount repairs, where the medium doesn't fail.
+    // Nothing of the tables' pages changes but what a mount repairs, and blank pages that get what only a log had, where the
+    // medium doesn't fail.
     ensures repairs { (config : Configured) (tables : List model.Table) → IsTrue (M.state media.old).tells → IsMade config → IsImage config (M.state media.old).content tables → (result ≡ ToolStatus.Device → ⊥) →
         AreRepaired config (M.state media.old).content (M.state media.new).content }
 

@@ -14,7 +14,7 @@ use Rattle.fl_lines.specs.Taken.{TakesFew}
 use Rattle.fl_model.specs.Record.{Record, Plan, has_var}
 use Rattle.fl_model.specs.Table as model
 use Rattle.fl_script.proofs.Sending.{appends-append}
-use Rattle.fl_table.specs.declared.table.Table.{Table}
+use Rattle.fl_rlc.specs.declared.table.LoggedTable.{LoggedTable}
 use Rattle.fl_import.specs.Ends.{Reports, puts_of, table_after, told_of_lines}
 use Rattle.fl_import.specs.Counting.{after_end, counts_of, end_of, gone_count, put_end}
 use Rattle.fl_import.specs.Lines.{lacks, meaning, Takes}
@@ -33,19 +33,19 @@ as-plan : (P : ℕ → Bool → Type 0) (form : LineForm) (plan : Plan) → IsFo
 as-plan P form plan is h = subst (λ b. P (length plan.columns) b) is.blobs (subst (λ n. P n form.blobs) is.columns h)
 
 -- the lines that were taken were put and told
-pub record PutSoFar (gone : GoneBlobs) (counts : LinesTaken) (first : ℕ) (plan : Plan) (table : model.Table) (taken : List (List ℕ)) (u : Table 64 64) (g : FlashState) (told told_now : Option (List ℕ)) : Type 0 where
+pub record PutSoFar (gone : GoneBlobs) (counts : LinesTaken) (first : ℕ) (plan : Plan) (table : model.Table) (taken : List (List ℕ)) (u : LoggedTable 64 64) (g : FlashState) (told told_now : Option (List ℕ)) : Type 0 where
   pub works : Works u g first plan (table_after gone plan table taken)
   pub reports : Appends told told_now (told_of_lines gone plan table taken)
   pub counted : counts ≡ counts_of gone plan table taken
 
-pub record SoFar (gone : GoneBlobs) (counts : LinesTaken) (form : LineForm) (text : List ℕ) (t : Table 64 64) (f : FlashState) (u : Table 64 64) (g : FlashState) (told told_now : Option (List ℕ)) (state : LinesState) (left : Option (List ℕ)) : Type 0 where
+pub record SoFar (gone : GoneBlobs) (counts : LinesTaken) (form : LineForm) (text : List ℕ) (t : LoggedTable 64 64) (f : FlashState) (u : LoggedTable 64 64) (g : FlashState) (told told_now : Option (List ℕ)) (state : LinesState) (left : Option (List ℕ)) : Type 0 where
   pub taken : List (List ℕ)
   pub some : 1 ≤ length taken
   pub number : length taken ≡ counts.line
   pub takes : TakesSoFar form.columns form.blobs text taken state left
   pub puts : (first : ℕ) (plan : Plan) (table : model.Table) → IsFormOf form plan → Works t f first plan table → PutSoFar gone counts first plan table taken u g told told_now
 
-pub so_far-first : (gone : GoneBlobs) (form : LineForm) (text names : List ℕ) (t : Table 64 64) (f : FlashState) (told : Option (List ℕ)) (state : LinesState) (left : Option (List ℕ)) → TakesSoFar form.columns form.blobs text (names ∷ []) state left →
+pub so_far-first : (gone : GoneBlobs) (form : LineForm) (text names : List ℕ) (t : LoggedTable 64 64) (f : FlashState) (told : Option (List ℕ)) (state : LinesState) (left : Option (List ℕ)) → TakesSoFar form.columns form.blobs text (names ∷ []) state left →
     SoFar gone (record { line = 1; rows = 0; gone = 0 }) form text t f t f told told state left
 so_far-first gone form text names t f told state left takes = record {
   taken = names ∷ [];
@@ -71,7 +71,7 @@ behind-first : (taken : List (List ℕ)) (line : List ℕ) → 1 ≤ length take
 behind-first [] line some = absurd (omega (arith, some))
 behind-first (first ∷ taken) line some = refl
 
-module _ (gone : GoneBlobs) (counts : LinesTaken) (first : ℕ) (plan : Plan) (table : model.Table) (taken : List (List ℕ)) (form : LineForm) (is : IsFormOf form plan) (u v : Table 64 64) (g h : FlashState) (told told_mid told_now : Option (List ℕ)) (number : ℕ) (line : List ℕ)
+module _ (gone : GoneBlobs) (counts : LinesTaken) (first : ℕ) (plan : Plan) (table : model.Table) (taken : List (List ℕ)) (form : LineForm) (is : IsFormOf form plan) (u v : LoggedTable 64 64) (g h : FlashState) (told told_mid told_now : Option (List ℕ)) (number : ℕ) (line : List ℕ)
     (some : 1 ≤ length taken) (number_is : number ≡ length taken + 1) (puts : PutSoFar gone counts first plan table taken u g told told_mid) where
   abbrev put : Result Record CsvRefusal
   put = meaning gone (length plan.columns) (has_var plan) line
@@ -195,7 +195,7 @@ module _ (gone : GoneBlobs) (counts : LinesTaken) (first : ℕ) (plan : Plan) (t
 
 -- ---- the lines after some
 
-module _ (gone : GoneBlobs) (counts : LinesTaken) (form : LineForm) (text : List ℕ) (t : Table 64 64) (f : FlashState) (u : Table 64 64) (g : FlashState) (told told_mid : Option (List ℕ)) (old new : LinesState) (left left_now : Option (List ℕ)) (faults faults_now : ℕ)
+module _ (gone : GoneBlobs) (counts : LinesTaken) (form : LineForm) (text : List ℕ) (t : LoggedTable 64 64) (f : FlashState) (u : LoggedTable 64 64) (g : FlashState) (told told_mid : Option (List ℕ)) (old new : LinesState) (left left_now : Option (List ℕ)) (faults faults_now : ℕ)
     (far : SoFar gone counts form text t f u g told told_mid old left) where
   number-is : counts.line + 1 ≡ length far.taken + 1
   number-is = omega (arith, far.number)
@@ -204,7 +204,7 @@ module _ (gone : GoneBlobs) (counts : LinesTaken) (form : LineForm) (text : List
   not-none e = absurd (omega (arith, far.some, ap length e))
 
   -- a line was given, and put or refused
-  pub far-next : (v : Table 64 64) (h : FlashState) (told_now : Option (List ℕ)) (end : LineEnd) (now : LinesTaken) → NextLine old left faults (counts.line + 1) (Ok true) new left_now faults_now →
+  pub far-next : (v : LoggedTable 64 64) (h : FlashState) (told_now : Option (List ℕ)) (end : LineEnd) (now : LinesTaken) → NextLine old left faults (counts.line + 1) (Ok true) new left_now faults_now →
       now ≡ after_end counts end → now.line ≡ counts.line + 1 →
       ((first : ℕ) (plan : Plan) (table : model.Table) → IsFormOf form plan → Works u g first plan table →
       LineEnds (lacks gone form.columns form.blobs new.line) first plan table (counts.line + 1) (meaning gone form.columns form.blobs new.line) v h told_mid told_now (Ok end)) → SoFar gone now form text t f v h told told_now new left_now
@@ -222,7 +222,7 @@ module _ (gone : GoneBlobs) (counts : LinesTaken) (form : LineForm) (text : List
   }
 
   -- .. or it isn't passed
-  pub far-stops : (v : Table 64 64) (h : FlashState) (told_now : Option (List ℕ)) (status : ToolStatus) → NextLine old left faults (counts.line + 1) (Ok true) new left_now faults_now →
+  pub far-stops : (v : LoggedTable 64 64) (h : FlashState) (told_now : Option (List ℕ)) (status : ToolStatus) → NextLine old left faults (counts.line + 1) (Ok true) new left_now faults_now →
       ((first : ℕ) (plan : Plan) (table : model.Table) → IsFormOf form plan → Works u g first plan table →
       LineEnds (lacks gone form.columns form.blobs new.line) first plan table (counts.line + 1) (meaning gone form.columns form.blobs new.line) v h told_mid told_now (Err status)) →
       (first : ℕ) (plan : Plan) (table : model.Table) → IsFormOf form plan → Works t f first plan table → AllEnds gone counts first plan table text v h told told_now left_now (Err status)
@@ -341,7 +341,7 @@ names-ended columns blobs text rest status of these = by-status status of (recor
     by-status NoTable of h = absurd of
     by-status Unsound of h = absurd of
 
-pub names-ends : (gone : GoneBlobs) (counts : LinesTaken) → counts ≡ none_taken → (form : LineForm) (text : List ℕ) (t : Table 64 64) (f : FlashState) (told rest : Option (List ℕ)) (first : ℕ) (plan : Plan) (table : model.Table) (status : ToolStatus) → IsOfNames status → TakesThese form.columns form.blobs text [] rest status → IsFormOf form plan → Works t f first plan table →
+pub names-ends : (gone : GoneBlobs) (counts : LinesTaken) → counts ≡ none_taken → (form : LineForm) (text : List ℕ) (t : LoggedTable 64 64) (f : FlashState) (told rest : Option (List ℕ)) (first : ℕ) (plan : Plan) (table : model.Table) (status : ToolStatus) → IsOfNames status → TakesThese form.columns form.blobs text [] rest status → IsFormOf form plan → Works t f first plan table →
     AllEnds gone counts first plan table text t f told told rest (Err status)
 names-ends gone counts none form text t f told rest first plan table status of these is works =
     subst (λ (c : LinesTaken). AllEnds gone c first plan table text t f told told rest (Err status)) (sym none) (by-status status of these)

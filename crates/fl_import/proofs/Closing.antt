@@ -34,12 +34,14 @@ use Rattle.fl_model.specs.Table.{Table}
 use Rattle.fl_model.proofs.Lists.{slice_get-some}
 use Rattle.fl_ring.specs.Device.{SameDevice}
 use Rattle.fl_table.specs.BlobAt.{has_blobs}
+use Rattle.fl_table.specs.Causes.{MountCausedBy}
 use Rattle.fl_table.specs.Look.{layout_in}
 use Rattle.fl_table.specs.Memory.{IsPlanned}
+use Rattle.fl_model.specs.Bare.{bare}
 use Rattle.fl_table.specs.declared.table.Table.{Table as CodeTable}
 use Rattle.fl_table.specs.declared.faults.MountFault.{MountFault}
 use Rattle.fl_table.specs.declared.faults.MountFault.TheVariants as mount
-use Rattle.fl_tables.specs.Tables.{AreNewTables, IsNamed, MountFailsFor, Names, TablesStand}
+use Rattle.fl_tables.specs.Tables.{AreNewTables, IsNamed, Names, TablesStand}
 use Rattle.fl_tables.specs.declared.tables.Entry.{Entry}
 use Rattle.fl_tables.proofs.Naming.{bytes_equal-own}
 use Rattle.fl_tables.proofs.TablesChanged.{some-is}
@@ -302,7 +304,7 @@ mount-ended columns blobs text rest (mount.BadIndex end next) at is = is
 mount-ended columns blobs text rest (mount.BadBlob page next) at is = is
 mount-ended columns blobs text rest (mount.BadEntry page count limit) at is = is
 
-pub mount-causes : (f g : FlashState) (tables source sink : ℕ) (bad : MountFault) (at : ℕ) → at < tables → MountFailsFor f bad g → HasCauses tables f.media.faults g.media.faults source source sink sink None (mount_status bad at)
+pub mount-causes : (f g : FlashState) (tables source sink : ℕ) (bad : MountFault) (at : ℕ) → at < tables → MountCausedBy f bad g → HasCauses tables f.media.faults g.media.faults source source sink sink None (mount_status bad at)
 mount-causes f g tables source sink bad at few cause = record {
   known = known bad at;
   device = λ is. mount-rose f g bad at is cause;
@@ -378,8 +380,8 @@ of-mounted NotImage h = h
 of-mounted NoTable h = h
 of-mounted Unsound h = h
 
--- the form of the lines of a table that was made for a plan
-pub formed : (t : CodeTable 64 64) (first : ℕ) (plan : Plan) (columns : ℕ) (blobs : Bool) → IsPlanned t first plan → columns ≡ length (layout_in t).columns → blobs ≡ has_blobs t → IsFormOf (record { columns = columns; blobs = blobs }) plan
+-- the form of the lines of a table that was made for a plan, beside its log
+pub formed : (t : CodeTable 64 64) (first : ℕ) (plan : Plan) (columns : ℕ) (blobs : Bool) → IsPlanned t first (bare plan) → columns ≡ length (layout_in t).columns → blobs ≡ has_blobs t → IsFormOf (record { columns = columns; blobs = blobs }) plan
 formed t first plan columns blobs planned many has = record {
   columns = many ∙ ap (λ (l : RowLayout). length l.columns) (sym planned.layout);
   blobs = has ∙ (sym t.has_blobs ∙ sym (ap (λ (l : RowLayout). l.blobs) planned.layout));

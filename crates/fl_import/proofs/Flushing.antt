@@ -16,10 +16,10 @@ use Rattle.fl_model.specs.Work.{PartProgress}
 use Rattle.fl_model.specs.Record.{entries_per_page, has_index}
 use Rattle.fl_model.specs.Table.{RingName, DataRing, IndexRing, VarRing, after_seal, after_seals, fill, table_seals, flushed, lose}
 use Rattle.fl_table.specs.Causes.{FlushCausedBy}
-use Rattle.fl_table.specs.Outcomes.{BySeals, FlushEnds}
-use Rattle.fl_table.specs.Pages.{Rests}
-use Rattle.fl_table.specs.Standing.{Stands}
-use Rattle.fl_table.specs.declared.table.Table.{Table}
+use Rattle.fl_table.specs.Outcomes.{BySeals}
+use Rattle.fl_rlc.specs.Logged.{Rests, Stands}
+use Rattle.fl_rlc.specs.Outcomes.{FlushEnds}
+use Rattle.fl_rlc.specs.declared.table.LoggedTable.{LoggedTable}
 use Rattle.fl_table.specs.declared.faults.FlushFault.{FlushFault}
 use Rattle.fl_table.specs.declared.faults.FlushFault.TheVariants as flush
 use Rattle.fl_tables.proofs.Going.{rose-back}
@@ -66,11 +66,11 @@ flushed-whole plan table =
 
 -- ---- a put that failed stops the import
 
-pub failed-ends : (gone : GoneBlobs) (counts : LinesTaken) (first : ℕ) (plan : Plan) (table : model.Table) (text : List ℕ) (u : Table 64 64) (g : FlashState) (told told_now rest : Option (List ℕ)) → AllEnds gone counts first plan table text u g told told_now rest (Err Device) →
+pub failed-ends : (gone : GoneBlobs) (counts : LinesTaken) (first : ℕ) (plan : Plan) (table : model.Table) (text : List ℕ) (u : LoggedTable 64 64) (g : FlashState) (told told_now rest : Option (List ℕ)) → AllEnds gone counts first plan table text u g told told_now rest (Err Device) →
     TableEnds first plan table text u g (told_of gone counts told told_now rest) Device
 failed-ends gone counts first plan table text u g told told_now rest fails = record { after = fails.after; leaves = inl fails.fails; rests = fails.rests; stands = λ e. absurd (not-done e) }
 
-module _ (gone : GoneBlobs) (counts : LinesTaken) (first : ℕ) (plan : Plan) (table : model.Table) (text : List ℕ) (u v : Table 64 64) (g h : FlashState) (told told_mid told_now rest : Option (List ℕ)) where
+module _ (gone : GoneBlobs) (counts : LinesTaken) (first : ℕ) (plan : Plan) (table : model.Table) (text : List ℕ) (u v : LoggedTable 64 64) (g h : FlashState) (told told_mid told_now rest : Option (List ℕ)) where
   -- the table goes on behind the lines
   abbrev pub goes-on : (taken : Result (Unit {0}) ToolStatus) → is_broken taken ≡ false → AllEnds gone counts first plan table text u g told told_mid rest taken → LinesEnd gone counts first plan table text u g told told_mid rest (status_of taken)
   goes-on (Ok all) other ends = ends
@@ -137,7 +137,7 @@ module _ (gone : GoneBlobs) (counts : LinesTaken) (first : ℕ) (plan : Plan) (t
   flush-told done d goes flushes faults faults_now Unsound tells = absurd tells
 
 -- the lines weren't taken to their end
-pub flush-status : (gone : GoneBlobs) (counts : LinesTaken) (first : ℕ) (plan : Plan) (table : model.Table) (text : List ℕ) (u v : Table 64 64) (g h : FlashState) (told told_now rest : Option (List ℕ)) (status : ToolStatus) → IsOfLines status → (other : is_broken (Err status) ≡ false) →
+pub flush-status : (gone : GoneBlobs) (counts : LinesTaken) (first : ℕ) (plan : Plan) (table : model.Table) (text : List ℕ) (u v : LoggedTable 64 64) (g h : FlashState) (told told_now rest : Option (List ℕ)) (status : ToolStatus) → IsOfLines status → (other : is_broken (Err status) ≡ false) →
     (ends : AllEnds gone counts first plan table text u g told told_now rest (Err status)) → Goes g h →
     FlushEnds first plan (then_table gone counts first plan table text u v g h told told_now told_now rest (Err status) other ends) (has_risen g h) (lines gone counts first plan table text u v g h told told_now told_now rest (Err status) other ends).works.device (Ok tt) v g h →
     TableEnds first plan table text v h (told_of gone counts told told_now rest) status
@@ -287,7 +287,7 @@ module _ {X : Type 0} (gone : GoneBlobs) (counts : LinesTaken) (written : X → 
   abbrev pub Told? : Unit {0} → Type 0
   Told? all = TellsCounts gone counts (written mid) (written now) (faults mid) (faults now) result
 
-  pub all-ends : (first : ℕ) (plan : Plan) (table : model.Table) (text : List ℕ) (u v : Table 64 64) (g h : FlashState) (rest : Option (List ℕ)) (taken : Result (Unit {0}) ToolStatus) (other : is_broken taken ≡ false) (ends : AllEnds gone counts first plan table text u g (written start) (written mid) rest taken) →
+  pub all-ends : (first : ℕ) (plan : Plan) (table : model.Table) (text : List ℕ) (u v : LoggedTable 64 64) (g h : FlashState) (rest : Option (List ℕ)) (taken : Result (Unit {0}) ToolStatus) (other : is_broken taken ≡ false) (ends : AllEnds gone counts first plan table text u g (written start) (written mid) rest taken) →
       IfErr taken IsOfLines → IfErr taken Untold → IfOk taken Told? → Goes g h →
       FlushEnds first plan (then_table gone counts first plan table text u v g h (written start) (written mid) (written now) rest taken other ends) (has_risen g h) (lines gone counts first plan table text u v g h (written start) (written mid) (written now) rest taken other ends).works.device (Ok tt) v g h →
       TableEnds first plan table text v h (told_of gone counts (written start) (written now) rest) result

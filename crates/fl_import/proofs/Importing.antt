@@ -23,16 +23,13 @@ use Rattle.fl_model.specs.Table as model
 use Rattle.fl_model.specs.Table.{lose}
 use Rattle.fl_model.specs.Within.{with_table}
 use Rattle.fl_model.proofs.Among.{changed-there, changed-elsewhere}
-use Rattle.fl_table.specs.Memory.{IsSamePlan}
-use Rattle.fl_table.specs.Mounting.{OutsideStands}
-use Rattle.fl_table.specs.Pages.{Rests}
-use Rattle.fl_table.specs.Standing.{Stands}
-use Rattle.fl_table.specs.declared.table.Table.{Table}
+use Rattle.fl_rlc.specs.Logged.{Rests, Stands}
+use Rattle.fl_rlc.specs.Table.{IsSamePlan, OutsideStands}
+use Rattle.fl_rlc.specs.declared.table.LoggedTable.{LoggedTable}
 use Rattle.fl_table.specs.declared.faults.MountFault.{MountFault}
-use Rattle.fl_table.proofs.SealAnswers.{planned-same}
 use Rattle.fl_tables.specs.Tables.{first_of, entries_with, IsNamed, EntryStands, TablesStand, TablesMounted, MountBreaks}
 use Rattle.fl_tables.specs.declared.tables.Entry.{Entry}
-use Rattle.fl_tables.proofs.Going.{rose-front}
+use Rattle.fl_tables.proofs.Going.{rose-front, planned-same}
 use Rattle.fl_tables.proofs.TablesChanged.{AtPlace, at-place, entry-off, some-is, length-changed, tables-changed}
 use Rattle.fl_import.specs.Ends.{Imports, Leaves, table_after}
 use Rattle.fl_import.specs.Images.{EndsOn, told_of}
@@ -49,7 +46,7 @@ unmounted gone plans tables name text f g told rest now has bad at ends is =
 
 -- ---- the tables are mounted, and one of them was imported into
 
-module _ (plans : List Plan) (tables : List model.Table) (name text : List ℕ) (f m h : FlashState) (gone : GoneBlobs) (counts : LinesTaken) (told told_now rest : Option (List ℕ)) (entries now : List Entry) (at : ℕ) (entry : Entry) (u : Table 64 64)
+module _ (plans : List Plan) (tables : List model.Table) (name text : List ℕ) (f m h : FlashState) (gone : GoneBlobs) (counts : LinesTaken) (told told_now rest : Option (List ℕ)) (entries now : List Entry) (at : ℕ) (entry : Entry) (u : LoggedTable 64 64)
     (earlier : f.media.faults ≤ m.media.faults) (goes : Goes m h) (same : IsSamePlan entry.table u) (outside : IsTrue m.media.tells → OutsideStands entry.table (page_at m) (page_at h)) (tells : IsTrue m.media.tells)
     (stood : TablesStand f (λ i. false) plans entries tables) (named : IsNamed entries name at) (here : slice_get now at ≡ Some entry) (mt : TablesMounted plans tables (has_risen f m) at_rest now m) where
   abbrev pub ready_tables : List model.Table

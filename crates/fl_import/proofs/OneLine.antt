@@ -24,10 +24,12 @@ use Rattle.fl_model.specs.Work.{PartEnd, Whole, CutIn, FailedIn, PartProgress}
 use Rattle.fl_ring.specs.Step.{IsWatched}
 use Rattle.fl_script.specs.Written.{Written}
 use Rattle.fl_script.proofs.Sending.{appends-append, written-err}
-use Rattle.fl_table.specs.Causes.{PutCausedBy, RefusedSame}
-use Rattle.fl_table.specs.Outcomes.{PutEnds, Finishes, Breaks, FaultEnds}
-use Rattle.fl_table.specs.Pages.{Rests}
-use Rattle.fl_table.specs.declared.table.Table.{Table}
+use Rattle.fl_rlc.specs.Logged.{Rests}
+use Rattle.fl_rlc.specs.Outcomes.{PutEnds, Finishes, Breaks}
+use Rattle.fl_rlc.specs.Refusal.{RefusedSame}
+use Rattle.fl_table.specs.Causes.{PutCausedBy}
+use Rattle.fl_table.specs.Outcomes.{FaultEnds}
+use Rattle.fl_rlc.specs.declared.table.LoggedTable.{LoggedTable}
 use Rattle.fl_table.specs.declared.faults.PutRefusal.{PutRefusal}
 use Rattle.fl_table.specs.declared.faults.PutRefusal.TheVariants as refusal
 use Rattle.fl_tables.specs.Replies.{put_reply}
@@ -109,7 +111,7 @@ pub told-status : (told : Result (Unit {0}) SinkFailed) → IfErr (by_told told)
 told-status (Ok done) = tt
 told-status (Err failed) = tt
 
-module _ (first : ℕ) (plan : Plan) (table : model.Table) (t u : Table 64 64) (f g : FlashState) (works : Works t f first plan table) where
+module _ (first : ℕ) (plan : Plan) (table : model.Table) (t u : LoggedTable 64 64) (f g : FlashState) (works : Works t f first plan table) where
   pub works-watched : IsWatched f g (has_risen f g) works.device
   works-watched = watched f g works.device works.told works.power works.counts
 
@@ -150,7 +152,7 @@ module _ (first : ℕ) (plan : Plan) (table : model.Table) (t u : Table 64 64) (
         by-end (FailedIn before) is answer = not-media answer.0
 
   works-same : u ≡ t → g ≡ f → Works u g first plan table
-  works-same e k = subst (λ (x : FlashState). Works u x first plan table) (sym k) (subst (λ (x : Table 64 64). Works x f first plan table) (sym e) works)
+  works-same e k = subst (λ (x : FlashState). Works u x first plan table) (sym k) (subst (λ (x : LoggedTable 64 64). Works x f first plan table) (sym e) works)
 
   module _ (lacking : Bool) (number : ℕ) (told told_now : Option (List ℕ)) where
     -- the line is no record

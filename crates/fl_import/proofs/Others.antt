@@ -22,13 +22,12 @@ use Rattle.fl_model.specs.Record.{Plan, Config, blocks_of}
 use Rattle.fl_model.specs.Table as model
 use Rattle.fl_model.proofs.Lists.{slice_get-some}
 use Rattle.fl_ring.specs.Device.{SameDevice}
-use Rattle.fl_table.specs.Mounting.{OutsideStands}
+use Rattle.fl_rlc.specs.Table.{OutsideStands}
 use Rattle.fl_table.proofs.Images.{pages-medium}
-use Rattle.fl_tables.specs.Repaired.{IsRepaired}
+use Rattle.fl_tables.specs.Repaired.{IsLeft}
 use Rattle.fl_tables.specs.Tables.{first_of, AreNewTables, IsNamed, TablesStand}
 use Rattle.fl_tables.specs.declared.tables.Entry.{Entry}
-use Rattle.fl_table.proofs.Apart.{PagesApart}
-use Rattle.fl_tables.proofs.Apart.{blocks-apart, other-pages}
+use Rattle.fl_tables.proofs.Apart.{AllApart, blocks-apart, other-pages}
 use Rattle.fl_tables.proofs.TablesChanged.{at-place, some-is}
 use Rattle.fl_words.specs.Config.{Lines}
 use Rattle.fl_words.specs.Medium.{IsImage}
@@ -48,43 +47,55 @@ some-blocks b at zero page from upto =
     absurd (omega (arith, from, upto, none))
 some-blocks b at (suc blocks) page from upto = lt-ltb 0 (suc blocks) (omega arith)
 
-in-blocks : (f g : FlashState) (first : ℕ) (plan : Plan) → plan.log_blocks ≡ 0 → PagesApart f g first plan → (page : ℕ) → first * plan.geometry.block ≤ page → page < (first + blocks_of plan) * plan.geometry.block → page_at g page ≡ page_at f page
-in-blocks f g first plan unlogged stand page from upto = by-data (cases_order page ((first + plan.data_blocks) * plan.geometry.block))
+in-blocks : (f g : FlashState) (first : ℕ) (plan : Plan) → AllApart f g first plan → (page : ℕ) → first * plan.geometry.block ≤ page → page < (first + blocks_of plan) * plan.geometry.block → page_at g page ≡ page_at f page
+in-blocks f g first plan stand page from upto = by-data (cases_order page ((first + plan.data_blocks) * plan.geometry.block))
   where
     there : (at blocks : ℕ) → at * plan.geometry.block ≤ page → page < (at + blocks) * plan.geometry.block →
         ((n : ℕ) → page_at g (at * plan.geometry.block + n % (blocks * plan.geometry.block)) ≡ page_at f (at * plan.geometry.block + n % (blocks * plan.geometry.block))) → page_at g page ≡ page_at f page
     there at blocks begins ends same =
         subst (λ (p : ℕ). page_at g p ≡ page_at f p) (in-ring plan.geometry.block at blocks page begins ends) (same (page - at * plan.geometry.block))
 
-    behind : first + plan.data_blocks + plan.index_blocks + plan.var_blocks ≡ first + blocks_of plan
-    behind = omega (arith, unlogged)
+    behind : first + blocks_of plan ≡ first + plan.data_blocks + plan.index_blocks + plan.var_blocks + plan.log_blocks
+    behind = omega arith
 
-    in-var : (first + plan.data_blocks + plan.index_blocks) * plan.geometry.block ≤ page → page_at g page ≡ page_at f page
-    in-var begins =
-        let ends : page < (first + plan.data_blocks + plan.index_blocks + plan.var_blocks) * plan.geometry.block = subst (λ (n : ℕ). page < n * plan.geometry.block) (sym behind) upto in
-        there (first + plan.data_blocks + plan.index_blocks) plan.var_blocks begins ends (stand.var (some-blocks plan.geometry.block (first + plan.data_blocks + plan.index_blocks) plan.var_blocks page begins ends))
+    in-log : (first + plan.data_blocks + plan.index_blocks + plan.var_blocks) * plan.geometry.block ≤ page → page_at g page ≡ page_at f page
+    in-log begins =
+        let ends : page < (first + plan.data_blocks + plan.index_blocks + plan.var_blocks + plan.log_blocks) * plan.geometry.block = subst (λ (n : ℕ). page < n * plan.geometry.block) behind upto in
+        there (first + plan.data_blocks + plan.index_blocks + plan.var_blocks) plan.log_blocks begins ends
+        (stand.log (some-blocks plan.geometry.block (first + plan.data_blocks + plan.index_blocks + plan.var_blocks) plan.log_blocks page begins ends))
+
+    in-var : (first + plan.data_blocks + plan.index_blocks) * plan.geometry.block ≤ page → page < (first + plan.data_blocks + plan.index_blocks + plan.var_blocks) * plan.geometry.block → page_at g page ≡ page_at f page
+    in-var begins ends =
+        there (first + plan.data_blocks + plan.index_blocks) plan.var_blocks begins ends (stand.table.var (some-blocks plan.geometry.block (first + plan.data_blocks + plan.index_blocks) plan.var_blocks page begins ends))
 
     in-index : (first + plan.data_blocks) * plan.geometry.block ≤ page → page < (first + plan.data_blocks + plan.index_blocks) * plan.geometry.block → page_at g page ≡ page_at f page
     in-index begins ends =
-        there (first + plan.data_blocks) plan.index_blocks begins ends (stand.index (some-blocks plan.geometry.block (first + plan.data_blocks) plan.index_blocks page begins ends))
+        there (first + plan.data_blocks) plan.index_blocks begins ends (stand.table.index (some-blocks plan.geometry.block (first + plan.data_blocks) plan.index_blocks page begins ends))
+
+    by-var : (first + plan.data_blocks + plan.index_blocks) * plan.geometry.block ≤ page →
+        (page ≡ (first + plan.data_blocks + plan.index_blocks + plan.var_blocks) * plan.geometry.block)
+        ⊎ ((page < (first + plan.data_blocks + plan.index_blocks + plan.var_blocks) * plan.geometry.block) ⊎ ((first + plan.data_blocks + plan.index_blocks + plan.var_blocks) * plan.geometry.block < page)) → page_at g page ≡ page_at f page
+    by-var begins (inl is) = in-log (omega (arith, is))
+    by-var begins (inr (inl before)) = in-var begins before
+    by-var begins (inr (inr after)) = in-log (omega (arith, after))
 
     by-index : (first + plan.data_blocks) * plan.geometry.block ≤ page →
         (page ≡ (first + plan.data_blocks + plan.index_blocks) * plan.geometry.block) ⊎ ((page < (first + plan.data_blocks + plan.index_blocks) * plan.geometry.block) ⊎ ((first + plan.data_blocks + plan.index_blocks) * plan.geometry.block < page)) →
         page_at g page ≡ page_at f page
-    by-index begins (inl is) = in-var (omega (arith, is))
+    by-index begins (inl is) = by-var (omega (arith, is)) (cases_order page ((first + plan.data_blocks + plan.index_blocks + plan.var_blocks) * plan.geometry.block))
     by-index begins (inr (inl before)) = in-index begins before
-    by-index begins (inr (inr after)) = in-var (omega (arith, after))
+    by-index begins (inr (inr after)) = by-var (omega (arith, after)) (cases_order page ((first + plan.data_blocks + plan.index_blocks + plan.var_blocks) * plan.geometry.block))
 
     by-data : (page ≡ (first + plan.data_blocks) * plan.geometry.block) ⊎ ((page < (first + plan.data_blocks) * plan.geometry.block) ⊎ ((first + plan.data_blocks) * plan.geometry.block < page)) → page_at g page ≡ page_at f page
     by-data (inl is) = by-index (omega (arith, is)) (cases_order page ((first + plan.data_blocks + plan.index_blocks) * plan.geometry.block))
-    by-data (inr (inl before)) = there first plan.data_blocks from before stand.rows
+    by-data (inr (inl before)) = there first plan.data_blocks from before stand.table.rows
     by-data (inr (inr after)) = by-index (omega (arith, after)) (cases_order page ((first + plan.data_blocks + plan.index_blocks) * plan.geometry.block))
 
 -- ---- over a flash, whose tables were mounted, and one of them was changed
 
 -- the pages of another one stand
 other-stands : (plans : List Plan) (entries : List Entry) (tables : List model.Table) (m h : FlashState) (at i : ℕ) (entry : Entry) (plan own : Plan) → TablesStand m (λ j. true) plans entries tables → slice_get entries at ≡ Some entry →
-    OutsideStands entry.table (page_at m) (page_at h) → slice_get plans i ≡ Some plan → slice_get plans at ≡ Some own → (at ≡ i → ⊥) → PagesApart m h (first_of plans i) plan
+    OutsideStands entry.table (page_at m) (page_at h) → slice_get plans i ≡ Some plan → slice_get plans at ≡ Some own → (at ≡ i → ⊥) → AllApart m h (first_of plans i) plan
 other-stands plans entries tables m h at i entry plan own stood here outside p o other =
     let within = slice_get_within plans i plan p in
     let beside = slice_get-some entries i (omega (arith, within, stood.as_many)) in
@@ -92,18 +103,14 @@ other-stands plans entries tables m h at i entry plan own stood here outside p o
     let changed = at-place m (λ j. true) plans entries tables at entry stood here in
     other-pages plans i at plan changed.plan beside.0 entry m h true true table.0 changed.table p changed.plan_is other changed.stands outside (stood.each i plan beside.0 table.0 p beside.1 table.1)
 
--- the plan of a table that stands
-pub record IsPlace (f : FlashState) (plan : Plan) : Type 0 where
-  pub block : plan.geometry.block ≡ f.geometry.block
-  pub unlogged : plan.log_blocks ≡ 0
-
-place-of : (f : FlashState) (plans : List Plan) (entries : List Entry) (tables : List model.Table) (i : ℕ) (plan : Plan) → TablesStand f (λ j. false) plans entries tables → slice_get plans i ≡ Some plan → IsPlace f plan
-place-of f plans entries tables i plan stood p =
+-- the blocks of a table that stands
+block-of : (f : FlashState) (plans : List Plan) (entries : List Entry) (tables : List model.Table) (i : ℕ) (plan : Plan) → TablesStand f (λ j. false) plans entries tables → slice_get plans i ≡ Some plan → plan.geometry.block ≡ f.geometry.block
+block-of f plans entries tables i plan stood p =
     let within = slice_get_within plans i plan p in
     let entry = slice_get-some entries i (omega (arith, within, stood.as_many)) in
     let table = slice_get-some tables i (omega (arith, within, stood.all)) in
     let own = stood.each i plan entry.0 table.0 p entry.1 table.1 in
-    record { block = ap (λ (x : Geometry). x.block) own.geometry; unlogged = own.planned.log }
+    ap (λ (x : Geometry). x.block) own.geometry
 
 -- a page of its blocks is one of all blocks
 among-all : (plans : List Plan) (i b page : ℕ) (plan : Plan) → slice_get plans i ≡ Some plan → page < (first_of plans i + blocks_of plan) * b → page < sum_by blocks_of plans * b
@@ -115,41 +122,40 @@ among-all plans i b page plan p upto =
 -- it was repaired by the mount, and stands since
 pub others-repaired : (plans : List Plan) (tables ready : List model.Table) (name : List ℕ) (f m h : FlashState) (entries now : List Entry) (at : ℕ) (entry : Entry) → TablesStand f (λ i. false) plans entries tables → IsNamed entries name at →
     TablesStand m (λ i. true) plans now ready → slice_get now at ≡ Some entry → OutsideStands entry.table (page_at m) (page_at h) →
-    ((page : ℕ) → page < sum_by blocks_of plans * f.geometry.block → IsRepaired f.geometry.page (page_at f page) (page_at m page)) →
-    (page : ℕ) → IsOfOther plans name f.geometry.block page → IsRepaired f.geometry.page (page_at f page) (page_at h page)
+    ((page : ℕ) → page < sum_by blocks_of plans * f.geometry.block → IsLeft plans f.geometry page (page_at f page) (page_at m page)) →
+    (page : ℕ) → IsOfOther plans name f.geometry.block page → IsLeft plans f.geometry page (page_at f page) (page_at h page)
 others-repaired plans tables ready name f m h entries now at entry stood named mounted here outside repaired page o =
     let own = at-place m (λ i. true) plans now ready at entry mounted here in
     let own_name : own.plan.name ≡ name = (first-named plans entries (stand-named f (λ i. false) plans entries tables stood) name at named own.plan own.plan_is).0 in
     let other : at ≡ o.at → ⊥ = λ is.
     o.other (ap (λ (p : Plan). p.name) (some-is (slice_get plans o.at) o.plan own.plan o.here (subst (λ (j : ℕ). slice_get plans j ≡ Some own.plan) is own.plan_is)) ∙ own_name) in
-    let place = place-of f plans entries tables o.at o.plan stood o.here in
-    let block = sym place.block in
+    let block = sym (block-of f plans entries tables o.at o.plan stood o.here) in
     let same : page_at h page ≡ page_at m page =
-    in-blocks m h (first_of plans o.at) o.plan place.unlogged (other-stands plans now ready m h at o.at entry o.plan own.plan mounted here outside o.here own.plan_is other) page
+    in-blocks m h (first_of plans o.at) o.plan (other-stands plans now ready m h at o.at entry o.plan own.plan mounted here outside o.here own.plan_is other) page
     (subst (λ (b : ℕ). first_of plans o.at * b ≤ page) block o.from) (subst (λ (b : ℕ). page < (first_of plans o.at + blocks_of o.plan) * b) block o.upto) in
-    subst (IsRepaired f.geometry.page (page_at f page)) (sym same) (repaired page (among-all plans o.at f.geometry.block page o.plan o.here o.upto))
+    subst (IsLeft plans f.geometry page (page_at f page)) (sym same) (repaired page (among-all plans o.at f.geometry.block page o.plan o.here o.upto))
 
 -- ---- over the medium on which the flash was made
 
 pub others-still : (config : Config) (name content content_now : List ℕ) → content_now ≡ content → OthersAreRepaired config name content content_now
-others-still config name content content_now same page o = inl (ap (λ (c : List ℕ). page_bytes config c page) same)
+others-still config name content content_now same page o = inl (inl (ap (λ (c : List ℕ). page_bytes config c page) same))
 
 pub others-after : (config : Config) (name content mid now : List ℕ) → mid ≡ content → OthersAreRepaired config name mid now → OthersAreRepaired config name content now
 others-after config name content mid now same h = subst (λ (c : List ℕ). OthersAreRepaired config name c now) same h
 
 medium-others : (config : Config) (name : List ℕ) (f g : FlashState) → f.start ≡ 1024 → f.geometry ≡ config.geometry → Goes f g →
-    ((page : ℕ) → IsOfOther config.plans name f.geometry.block page → IsRepaired f.geometry.page (page_at f page) (page_at g page)) → OthersAreRepaired config name f.media.content g.media.content
+    ((page : ℕ) → IsOfOther config.plans name f.geometry.block page → IsLeft config.plans f.geometry page (page_at f page) (page_at g page)) → OthersAreRepaired config name f.media.content g.media.content
 medium-others config name f g start geometry goes each page o =
     let repaired = each page (subst (λ (b : ℕ). IsOfOther config.plans name b page) (sym (ap (λ (x : Geometry). x.block) geometry)) o) in
-    subst (λ (size : ℕ). IsRepaired size (page_bytes config f.media.content page) (page_bytes config g.media.content page)) (ap (λ (x : Geometry). x.page) geometry)
-    (subst (λ (old : ℕ → List ℕ). IsRepaired f.geometry.page (old page) (page_bytes config g.media.content page)) (sym (pages-medium config f start geometry))
-    (subst (λ (new : ℕ → List ℕ). IsRepaired f.geometry.page (page_at f page) (new page)) (sym (pages-medium config g (goes.start ∙ start) (goes.geometry ∙ geometry))) repaired))
+    subst (λ (x : Geometry). IsLeft config.plans x page (page_bytes config f.media.content page) (page_bytes config g.media.content page)) geometry
+    (subst (λ (old : ℕ → List ℕ). IsLeft config.plans f.geometry page (old page) (page_bytes config g.media.content page)) (sym (pages-medium config f start geometry))
+    (subst (λ (new : ℕ → List ℕ). IsLeft config.plans f.geometry page (page_at f page) (new page)) (sym (pages-medium config g (goes.start ∙ start) (goes.geometry ∙ geometry))) repaired))
 
 pub flash-others : (config : Config) (lines : Lines) (tables : List model.Table) (name : List ℕ) (f g : FlashState) (old new : MediaState) (geometry : Geometry) (blocks : ℕ) (origin : GName) (entries : List Entry) (at : ℕ) (status : ToolStatus) →
     f ≡ on_medium geometry blocks 1024 origin true None 0 (record { reads = 0; programs = 0; erases = 0 }) old → new ≡ g.media → Goes f g → lines.device ≡ Some geometry → IsTrue old.tells → Makes lines config → IsImage config old.content tables → AreNewTables entries lines →
     IsNamed entries name at → (status ≡ Device → ⊥) →
     ((plans : List Plan) (ts : List model.Table) (asked : List ℕ) → IsTrue f.media.tells → f.is_on ≡ true → SameDevice f at_rest → TablesStand f (λ i. false) plans entries ts → IsNamed entries asked at → (status ≡ Device → ⊥) →
-    (page : ℕ) → IsOfOther plans asked f.geometry.block page → IsRepaired f.geometry.page (page_at f page) (page_at g page)) →
+    (page : ℕ) → IsOfOther plans asked f.geometry.block page → IsLeft plans f.geometry page (page_at f page) (page_at g page)) →
     OthersAreRepaired config name old.content new.content
 flash-others config lines tables name f g old new geometry blocks origin entries at status is media goes device tells makes image made named well repairs =
     let f' : FlashState = on_medium geometry blocks 1024 origin true None 0 (record { reads = 0; programs = 0; erases = 0 }) old in

@@ -19,7 +19,7 @@ use Rattle.fl_model.specs.Record.{Record, Plan, Config, blocks_of, has_var, byte
 use Rattle.fl_model.specs.Table.{Table, refusal_of, flushed, lose}
 use Rattle.fl_model.specs.Within.{with_table}
 use Rattle.fl_model.specs.Work.{Progress}
-use Rattle.fl_tables.specs.Repaired.{IsRepaired}
+use Rattle.fl_tables.specs.Repaired.{IsLeft}
 use Rattle.fl_tables.specs.Tables.{first_of}
 use Rattle.fl_words.specs.Config.{Lines}
 use Rattle.fl_words.specs.Medium.{IsImage}
@@ -181,10 +181,11 @@ pub record IsOfOther (plans : List Plan) (name : List ℕ) (block page : ℕ) : 
   pub from : first_of plans at * block ≤ page
   pub upto : page < (first_of plans at + blocks_of plan) * block
 
--- each page of the rings of the other tables stands, or was torn and is void now, or is erased
+-- Each page of the rings of the other tables stands, or was torn and is void now, or is erased; or it was blank, and has records
+-- that only a log had.
 abbrev pub OthersAreRepaired : Config → List ℕ → List ℕ → List ℕ → Type 0
 OthersAreRepaired config name content content_now =
-    (page : ℕ) → IsOfOther config.plans name config.geometry.block page → IsRepaired config.geometry.page (page_bytes config content page) (page_bytes config content_now page)
+    (page : ℕ) → IsOfOther config.plans name config.geometry.block page → IsLeft config.plans config.geometry page (page_bytes config content page) (page_bytes config content_now page)
 
 -- ---- the causes of statuses, over any bytes
 

@@ -18,9 +18,8 @@ use Rattle.fl_model.specs.Table as model
 use Rattle.fl_model.specs.Table.{refusal_of, lose}
 use Rattle.fl_model.specs.Work as work
 use Rattle.fl_ring.specs.Device.{SameDevice}
-use Rattle.fl_table.specs.Pages.{Rests}
-use Rattle.fl_table.specs.Standing.{Stands}
-use Rattle.fl_table.specs.declared.table.Table.{Table}
+use Rattle.fl_rlc.specs.Logged.{Rests, Stands}
+use Rattle.fl_rlc.specs.declared.table.LoggedTable.{LoggedTable}
 use Rattle.fl_table.specs.declared.faults.FlushFault.{FlushFault}
 use Rattle.fl_table.specs.declared.faults.FlushFault.TheVariants as flush
 use Rattle.fl_table.specs.declared.faults.PutRefusal.{PutRefusal}
@@ -33,7 +32,7 @@ use Rattle.fl_import.specs.declared.line_end.LineEnd.{LineEnd}
 use Rattle.fl_import.specs.declared.line_end.LineEnd.TheVariants.{Refused}
 
 -- a table that is mounted over a flash that tells its bytes, with the power on and no cut armed
-pub record Works (t : Table 64 64) (f : FlashState) (first : ℕ) (plan : Plan) (table : model.Table) : Type 0 where
+pub record Works (t : LoggedTable 64 64) (f : FlashState) (first : ℕ) (plan : Plan) (table : model.Table) : Type 0 where
   pub stands : Stands t f first plan table
   pub told : IsTrue f.media.tells
   pub power : f.is_on ≡ true
@@ -70,7 +69,7 @@ IsOfLine NoMemory = Unit {0}
 IsOfLine Device = Unit {0}
 IsOfLine status = ⊥
 
-abbrev pub LineEnds : Bool → ℕ → Plan → model.Table → ℕ → Result Record CsvRefusal → Table 64 64 → FlashState → Option (List ℕ) → Option (List ℕ) → Result LineEnd ToolStatus → Type 0
+abbrev pub LineEnds : Bool → ℕ → Plan → model.Table → ℕ → Result Record CsvRefusal → LoggedTable 64 64 → FlashState → Option (List ℕ) → Option (List ℕ) → Result LineEnd ToolStatus → Type 0
 LineEnds lacking first plan table number put t g told told_now (Ok end) =
     (end ≡ end_of plan table put lacking) × Works t g first plan (after_put plan table put) × Appends told told_now (told_line plan number table put)
 LineEnds lacking first plan table number put t g told told_now (Err OutWrite) = Works t g first plan table × AppendsFront told told_now (told_line plan number table put)
@@ -93,7 +92,7 @@ IsOfLines (BadInput number) = Unit {0}
 IsOfLines status = ⊥
 
 -- no more are taken, and the table goes on
-pub record LinesEnd (gone : GoneBlobs) (counts : LinesTaken) (first : ℕ) (plan : Plan) (table : model.Table) (text : List ℕ) (t : Table 64 64) (g : FlashState) (told told_now rest : Option (List ℕ)) (status : ToolStatus) : Type 0 where
+pub record LinesEnd (gone : GoneBlobs) (counts : LinesTaken) (first : ℕ) (plan : Plan) (table : model.Table) (text : List ℕ) (t : LoggedTable 64 64) (g : FlashState) (told told_now rest : Option (List ℕ)) (status : ToolStatus) : Type 0 where
   pub puts : Puts gone counts plan table text told told_now rest status
   pub works : Works t g first plan (table_after gone plan table puts.taken)
 
@@ -103,7 +102,7 @@ pub record LinesFail (gone : GoneBlobs) (counts : LinesTaken) (first : ℕ) (pla
   pub fails : PutFails gone counts plan table text told told_now rest after
   pub rests : Rests g first plan (lose after)
 
-abbrev pub AllEnds : GoneBlobs → LinesTaken → ℕ → Plan → model.Table → List ℕ → Table 64 64 → FlashState → Option (List ℕ) → Option (List ℕ) → Option (List ℕ) → Result (Unit {0}) ToolStatus → Type 0
+abbrev pub AllEnds : GoneBlobs → LinesTaken → ℕ → Plan → model.Table → List ℕ → LoggedTable 64 64 → FlashState → Option (List ℕ) → Option (List ℕ) → Option (List ℕ) → Result (Unit {0}) ToolStatus → Type 0
 AllEnds gone counts first plan table text t g told told_now rest (Ok all) = LinesEnd gone counts first plan table text t g told told_now rest Done
 AllEnds gone counts first plan table text t g told told_now rest (Err Device) = LinesFail gone counts first plan table text g told told_now rest
 AllEnds gone counts first plan table text t g told told_now rest (Err status) = LinesEnd gone counts first plan table text t g told told_now rest status
@@ -146,7 +145,7 @@ IsOfTable Unsound = ⊥
 
 -- it was imported so, and the flash stands for what is left of it without what is in memory alone; where it is done the table
 -- goes on
-pub record TableEnds (first : ℕ) (plan : Plan) (table : model.Table) (text : List ℕ) (t : Table 64 64) (g : FlashState) (told : Told) (status : ToolStatus) : Type 0 where
+pub record TableEnds (first : ℕ) (plan : Plan) (table : model.Table) (text : List ℕ) (t : LoggedTable 64 64) (g : FlashState) (told : Told) (status : ToolStatus) : Type 0 where
   pub after : model.Table
   pub leaves : Leaves plan table text told after status
   pub rests : Rests g first plan (lose after)

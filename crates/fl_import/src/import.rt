@@ -12,8 +12,8 @@ ghost use Rattle.fl_model.specs.Image.{medium_len};
 ghost use Rattle.fl_model.specs.Record.{Config as Configured, Plan, has_var};
 ghost use Rattle.fl_model.specs.Table as model;
 ghost use Rattle.fl_ring.specs.Device.{SameDevice};
-ghost use Rattle.fl_table.specs.Standing.{Stands};
-ghost use Rattle.fl_tables.specs.Repaired.{IsRepaired};
+ghost use Rattle.fl_rlc.specs.Logged.{Stands};
+ghost use Rattle.fl_tables.specs.Repaired.{IsLeft};
 ghost use Rattle.fl_tables.specs.Tables.{AreNewTables, IsNamed, LieOn, TablesStand};
 ghost use Rattle.fl_words.specs.Config as words;
 ghost use Rattle.fl_words.specs.Medium.{IsImage};
@@ -30,16 +30,16 @@ use fl_flash::{Flash, FlashRoom, Media, PageBuf, SimFlash};
 use fl_jobs::{HEADER, JobEnd, LinesTaken, ToolStatus, config_of_image};
 use fl_lines::Lines;
 use fl_script::LineRoom;
-use fl_tables::{Table, Tables};
+use fl_tables::{LoggedTable, Tables};
 use std::alloc::Global;
 
 /// The rows that the table holds, where the import is done.
-fn kept_rows(status: ToolStatus, table: &Table) -> Option<u64>
+fn kept_rows(status: ToolStatus, table: &LoggedTable) -> Option<u64>
     ensures some { is_some result ≡ is_done status }
     ensures rows { (f : FlashState) (first : ℕ) (plan : Plan) (t : model.Table) → status ≡ ToolStatus.Done → Stands table.now f first plan t → result ≡ Some (length t.entries) }
 {
     match status {
-        ToolStatus::Done => Some(table.counts().rows),
+        ToolStatus::Done => Some(table.table().counts().rows),
         _ => None,
     }
 }
@@ -75,7 +75,7 @@ fn import_on<F: Flash, S: Source, K: Sink>(
     ensures formed { (line : ℕ) → result.status ≡ ToolStatus.BadInput line → is_some result.form ≡ true }
     ensures repairs { (plans : List Plan) (ts : List model.Table) (name : List ℕ) → IsTrue (F.state flash.old).media.tells → (F.state flash.old).is_on ≡ true → SameDevice (F.state flash.old) at_rest
         → TablesStand (F.state flash.old) (λ i. false) plans tables.old.entries.items ts → IsNamed tables.old.entries.items name at → (result.status ≡ ToolStatus.Device → ⊥)
-        → (page : ℕ) → IsOfOther plans name (F.state flash.old).geometry.block page → IsRepaired (F.state flash.old).geometry.page (page_at (F.state flash.old) page) (page_at (F.state flash.new) page) }
+        → (page : ℕ) → IsOfOther plans name (F.state flash.old).geometry.block page → IsLeft plans (F.state flash.old).geometry page (page_at (F.state flash.old) page) (page_at (F.state flash.new) page) }
 {
     if let Err(bad) = tables.mount(flash, room) {
         return JobEnd::of(mount_status(bad));
@@ -102,7 +102,7 @@ fn form_at(tables: &Tables, at: usize) -> LineForm
     ensures few { result.columns ≤ 8 }
     ensures form { (config : words.Lines) → AreNewTables tables.now.entries.items config → FormsAt result config.plans at }
 {
-    let table = &tables.entries[at].table;
+    let table = tables.entries[at].table.table();
     LineForm {
         columns: table.columns(),
         blobs: table.has_blobs(),
@@ -162,8 +162,8 @@ fn import_at<M: Media, S: Source, K: Sink>(
 /// line below it is a record of CSV, which is put, or refused and told of; one whose blob is gone is put without it, or refused.
 /// The last line that is written tells how many were. How far the lines were taken is handed up, and the form that those of this
 /// table have. A put may push out the oldest records of the table, also some of this input; how many it holds at the end is handed
-/// up. All tables are mounted before, in their order, and repaired as a mount repairs them, and the table is flushed behind
-/// the last line that is taken.
+/// up. All tables are mounted before, in their order: what a mount repairs is repaired, and the records that only a table's log
+/// has become a page of the table. The table is flushed behind the last line that is taken.
 pub fn import_image<M: Media, S: Source, K: Sink>(
     alloc: Global,
     name: Name,
@@ -177,7 +177,8 @@ pub fn import_image<M: Media, S: Source, K: Sink>(
     ensures ends { (config : Configured) (tables : List model.Table) (text : List ℕ) → IsTrue (M.state media.old).tells → IsMade config → IsImage config (M.state media.old).content tables → S.left input.old ≡ Some text →
         ImportEnds config tables name text (told_of gone result.taken (K.written out.old) (K.written out.new) (S.left input.new)) (M.state media.old).faults (M.state media.new).faults (M.state media.old).content (M.state media.new).content result.kept result.status }
 
-    // Nothing changes in the pages of other tables but what a mount repairs, where the medium doesn't fail.
+    // Nothing changes in the pages of other tables but what a mount repairs, and blank pages that get what only a log had,
+    // where the medium doesn't fail.
     ensures repairs { (config : Configured) (tables : List model.Table) → IsTrue (M.state media.old).tells → IsMade config → IsImage config (M.state media.old).content tables → (result.status ≡ ToolStatus.Device → ⊥) →
         OthersAreRepaired config name (M.state media.old).content (M.state media.new).content }
 

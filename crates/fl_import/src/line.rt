@@ -9,11 +9,11 @@ ghost use Rattle.fl_model.specs.Record.{Plan};
 ghost use Rattle.fl_model.specs.Table as model;
 ghost use Rattle.fl_model.specs.Work.{Device};
 ghost use Rattle.fl_ring.specs.Step.{IsWatched};
-ghost use Rattle.fl_table.specs.Causes.{PutCausedBy, RefusedSame};
-ghost use Rattle.fl_table.specs.Memory.{is_running, IsSamePlan, LiesOn};
-ghost use Rattle.fl_table.specs.Mounting.{OutsideStands};
-ghost use Rattle.fl_table.specs.Outcomes.{PutEnds};
-ghost use Rattle.fl_table.specs.Standing.{Stands};
+ghost use Rattle.fl_rlc.specs.Logged.{Stands};
+ghost use Rattle.fl_rlc.specs.Outcomes.{PutEnds};
+ghost use Rattle.fl_rlc.specs.Refusal.{RefusedSame};
+ghost use Rattle.fl_rlc.specs.Table.{is_running, IsSamePlan, LiesOn, OutsideStands};
+ghost use Rattle.fl_table.specs.Causes.{PutCausedBy};
 ghost use Rattle.fl_words.specs.Grammar as grammar;
 ghost use Rattle.fl_import.specs.Lines.{lacks, meaning};
 ghost use Rattle.fl_import.specs.Steps.{IsFormOf, IsOfLine, LineEnds, Works, by_told, fault_in, is_unread};
@@ -26,11 +26,15 @@ use fl_csv::{CsvPut, CsvRefusal, GoneBlobs, LineForm, read_record};
 use fl_flash::{Flash, FlashFault};
 use fl_jobs::{ToolStatus, flash_status};
 use fl_table::PutRefusal;
-use fl_tables::Table;
+use fl_tables::LoggedTable;
 use std::alloc::Global;
 
 /// Puts a record that was read.
-fn put_record<F: Flash>(table: &mut Table, flash: &mut F, put: &CsvPut) -> Result<(), PutRefusal>
+fn put_record<F: Flash>(
+    table: &mut LoggedTable,
+    flash: &mut F,
+    put: &CsvPut,
+) -> Result<(), PutRefusal>
     requires lies { LiesOn table.old (F.state flash.old) }
     ensures goes { Goes (F.state flash.old) (F.state flash.new) }
     ensures same { IsSamePlan table.old table.new }
@@ -82,7 +86,7 @@ pub(crate) fn put_line<F: Flash, K: Sink>(
     gone: GoneBlobs,
     number: u64,
     line: &[u8],
-    table: &mut Table,
+    table: &mut LoggedTable,
     flash: &mut F,
     out: &mut K,
 ) -> Result<LineEnd, ToolStatus>

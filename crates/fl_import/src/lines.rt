@@ -6,8 +6,7 @@ ghost use Rattle.fl_jobs.specs.declared.status.ToolStatus.{ToolStatus};
 ghost use Rattle.fl_lines.specs.Stream.{LinesState};
 ghost use Rattle.fl_model.specs.Record.{Plan};
 ghost use Rattle.fl_model.specs.Table as model;
-ghost use Rattle.fl_table.specs.Memory.{IsSamePlan, LiesOn};
-ghost use Rattle.fl_table.specs.Mounting.{OutsideStands};
+ghost use Rattle.fl_rlc.specs.Table.{IsSamePlan, LiesOn, OutsideStands};
 ghost use Rattle.fl_import.specs.Counting.{after_end};
 ghost use Rattle.fl_import.specs.Steps.{AllEnds, IsFormOf, IsOfLines, Works, status_of};
 ghost use Rattle.fl_import.specs.Taking.{Ended, TakesSoFar};
@@ -20,7 +19,7 @@ use fl_csv::{GoneBlobs, LineForm};
 use fl_flash::Flash;
 use fl_jobs::{LinesTaken, ToolStatus};
 use fl_lines::Lines;
-use fl_tables::Table;
+use fl_tables::LoggedTable;
 use std::alloc::Global;
 
 /// How far the lines were taken, after one more.
@@ -50,7 +49,7 @@ pub(crate) fn put_lines<F: Flash, S: Source, K: Sink>(
     alloc: Global,
     form: LineForm,
     gone: GoneBlobs,
-    table: &mut Table,
+    table: &mut LoggedTable,
     flash: &mut F,
     lines: &mut Lines,
     input: &mut S,

@@ -7,8 +7,7 @@ ghost use Rattle.fl_jobs.specs.declared.status.ToolStatus.{ToolStatus};
 ghost use Rattle.fl_lines.specs.Stream.{LinesState};
 ghost use Rattle.fl_model.specs.Record.{Plan};
 ghost use Rattle.fl_model.specs.Table as model;
-ghost use Rattle.fl_table.specs.Memory.{IsSamePlan, LiesOn};
-ghost use Rattle.fl_table.specs.Mounting.{OutsideStands};
+ghost use Rattle.fl_rlc.specs.Table.{IsSamePlan, LiesOn, OutsideStands};
 ghost use Rattle.fl_import.specs.Images.{told_of};
 ghost use Rattle.fl_import.specs.Steps.{AllEnds, IsFormOf, IsOfLines, IsOfTable, TableEnds, TellsCounts, Works, flush_status, is_broken, status_of};
 ghost use Rattle.fl_import.specs.Taking.{Ended, EndedAs};
@@ -22,7 +21,7 @@ use fl_flash::{Flash, FlashFault};
 use fl_jobs::{LinesTaken, ToolStatus, flash_status};
 use fl_lines::Lines;
 use fl_table::FlushFault;
-use fl_tables::Table;
+use fl_tables::LoggedTable;
 use std::alloc::Global;
 
 /// Takes all lines of an input, of which none was taken: puts them, and tells of those that are refused.
@@ -30,7 +29,7 @@ fn take_lines<F: Flash, S: Source, K: Sink>(
     alloc: Global,
     form: LineForm,
     gone: GoneBlobs,
-    table: &mut Table,
+    table: &mut LoggedTable,
     flash: &mut F,
     lines: &mut Lines,
     input: &mut S,
@@ -102,7 +101,7 @@ pub(crate) fn import_table<F: Flash, S: Source, K: Sink>(
     alloc: Global,
     form: LineForm,
     gone: GoneBlobs,
-    table: &mut Table,
+    table: &mut LoggedTable,
     flash: &mut F,
     lines: &mut Lines,
     input: &mut S,

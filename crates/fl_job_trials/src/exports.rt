@@ -46,7 +46,7 @@ fn blob_at(page: u8, length: u8) -> [u8; 10] {
 }
 
 // Exports the keys from one to another of the table with a name, into a sink with so much room, and tells the status.
-fn export(
+pub(crate) fn export(
     alloc: Global,
     media: &mut MemMedia,
     name: &[u8],

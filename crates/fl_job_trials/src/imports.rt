@@ -39,7 +39,7 @@ fn import_with(
 }
 
 // .. where a blob that is gone is no blob.
-fn import(
+pub(crate) fn import(
     alloc: Global,
     media: &mut MemMedia,
     name: &[u8],
@@ -51,7 +51,7 @@ fn import(
 }
 
 // The records of table t.
-fn records(alloc: Global, media: &mut MemMedia) -> Result<MemSink, NoMemory> {
+pub(crate) fn records(alloc: Global, media: &mut MemMedia) -> Result<MemSink, NoMemory> {
     let Some(name) = Name::of(b"t") else {
         return Err(NoMemory);
     };

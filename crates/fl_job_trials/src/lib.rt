@@ -11,6 +11,10 @@ mod full_entries;
 #[cfg(test)]
 mod imports;
 #[cfg(test)]
+mod log_jobs;
+#[cfg(test)]
+mod logs;
+#[cfg(test)]
 mod maps;
 #[cfg(test)]
 mod salvages;

@@ -5,6 +5,7 @@ use Rattle.std.proofs.lemmas.Bool.{ltb-false}
 use base.Fml.{GName}
 use Rattle.fl_base.specs.declared.types.Geometry.{Geometry}
 use Rattle.fl_flash.specs.declared.flash.Work.{Work}
+use Rattle.fl_base.specs.declared.types.RingPlace.{RingPlace}
 use Rattle.fl_flash.specs.Flash.{FlashState}
 use Rattle.fl_flash.specs.Media.{MediaState}
 use Rattle.fl_flash.specs.Sim.{on_medium}
@@ -91,7 +92,7 @@ module _ (Ends : Lines → ToolStatus → Type 0) (bytes : List ℕ) where
   early-ends told status (inr is) none = subst (λ (s : ToolStatus). ChecksBy Ends bytes told told s) (sym is) (inl (told-none told))
 
 -- a status of the tables isn't that of no image
-pub ends-known : (extent : Extent) (Finds : TableConfig → FlashState → Finding → Type 0) (Rules : TableConfig → FlashState → TableRules → Type 0) (lines : Lines) (bytes : List ℕ) (told told_now : Option (List ℕ))
+pub ends-known : (extent : Extent) (Finds : TableConfig → Option RingPlace → FlashState → Finding → Type 0) (Rules : TableConfig → Option RingPlace → FlashState → TableRules → Type 0) (lines : Lines) (bytes : List ℕ) (told told_now : Option (List ℕ))
     → TablesEndBy extent Finds Rules lines bytes told told_now NotImage → ⊥
 ends-known FirstFault Finds Rules lines bytes told told_now h = h
 ends-known AllTables Finds Rules lines bytes told told_now h = h

@@ -1,6 +1,6 @@
 -- The header of a configuration is read as that configuration.
 use Rattle.std.proofs.Common.{◌≡◌, ℕ, zero, suc, ◌-◌, ◌<◌, ◌≤◌, Bool, true, false, not, ◌&&◌, ◌||◌, nat_lt, nat_le, cond, Option, Some, None, IsTrue, Ok, List, [], ◌∷◌, ◌++◌, length, map, replicate, codes, decimal, refl, sym, ◌∙◌, ap, subst, append_assoc, append-nil, length-append, arith, rules}
-use Rattle.std.specs.Prelude.{◌==◌, is_none, unwrap_or, if◌then◌else◌}
+use Rattle.std.specs.Prelude.{◌==◌, is_none, is_some, unwrap_or, if◌then◌else◌}
 use Rattle.std.specs.Fmt.{signed_decimal}
 use Rattle.std.specs.Option.{option_and_then}
 use Rattle.std.specs.List.{AllByRecursion, list_all, list_any, slice_get, slice_split, flat_map, join_with_byte}
@@ -12,8 +12,8 @@ use Rattle.fl_model.specs.Record.{Column, Plan, Config, row_len, bytes_equal}
 use Rattle.fl_words.specs.Command as command
 use Rattle.fl_words.specs.Command.{Command, TableLine}
 use Rattle.fl_words.specs.Config as words
-use Rattle.fl_words.specs.Config.{ConfigFault, Lines, no_lines, configured, unless, first_fault, device_faults, table_faults, plan_of, columns_in, is_odd_ring, bad_blob_limit, too_large}
-use Rattle.fl_words.specs.Grammar.{command_of, words_command, full_index_in, is_name, is_letter, is_digit, words_in}
+use Rattle.fl_words.specs.Config.{ConfigFault, Lines, no_lines, configured, unless, first_fault, device_faults, table_faults, plan_of, columns_in, is_odd_ring, bad_blob_limit, too_large, bad_log}
+use Rattle.fl_words.specs.Grammar.{command_of, words_command, full_index_in, log_word_in, maybe_number, is_name, is_letter, is_digit, words_in}
 use Rattle.fl_words.specs.Medium.{column_name, device_text, table_text}
 use Rattle.fl_schema.specs.Types.{column_of}
 use Rattle.fl_config.specs.Whole.{is_whole_of, Makes}
@@ -84,17 +84,25 @@ again plan = record {
   error = plan.error;
   blob_limit = plan.blob_limit;
   full_index = plan.full_index;
+  log_blocks = if nat_lt 0 plan.log_blocks then Some plan.log_blocks else None;
 }
 
 -- .. and the word for full index entries behind its other words
 abbrev format-words : Bool → List (List ℕ)
 format-words full = if full then codes "index2" ∷ [] else []
 
+-- .. and that for a log and its blocks, where there is one
+abbrev log-words : Bool → ℕ → List (List ℕ)
+log-words has blocks = if has then codes "rlc" ∷ decimal blocks ∷ [] else []
+
+abbrev ending-words : Bool → ℕ → List (List ℕ)
+ending-words full blocks = format-words full ++ log-words (nat_lt 0 blocks) blocks
+
 abbrev table-others : Plan → List (List ℕ)
 table-others plan =
     plan.name ∷ decimal plan.key_bytes ∷ join_with_byte 44 (map column_name plan.columns)
     ∷ decimal plan.data_blocks ∷ decimal plan.index_blocks ∷ decimal plan.var_blocks ∷ decimal plan.bits ∷ signed_decimal plan.base
-    ∷ decimal plan.width ∷ decimal plan.error ∷ decimal plan.blob_limit ∷ format-words plan.full_index
+    ∷ decimal plan.width ∷ decimal plan.error ∷ decimal plan.blob_limit ∷ ending-words plan.full_index plan.log_blocks
 
 abbrev table-words : Plan → List (List ℕ)
 table-words plan = codes "table" ∷ table-others plan
@@ -105,13 +113,48 @@ table-word = record { some = omega arith; visible = (omega arith, (omega arith, 
 index2-word : IsWord (codes "index2")
 index2-word = record { some = omega arith; visible = (omega arith, (omega arith, (omega arith, (omega arith, (omega arith, (omega arith, tt)))))) }
 
-format-word : (full : Bool) → AllByRecursion IsWord (format-words full)
-format-word true = (index2-word, tt)
-format-word false = tt
+rlc-word : IsWord (codes "rlc")
+rlc-word = record { some = omega arith; visible = (omega arith, (omega arith, (omega arith, tt))) }
 
-format-read : (full : Bool) → full_index_in (format-words full) ≡ Some full
-format-read true = refl
-format-read false = refl
+-- the words behind the others are words, and are read back
+module _ (blocks : ℕ) (small : blocks ≤ 18446744073709551615) where
+  log-are : (has : Bool) → AllByRecursion IsWord (log-words has blocks)
+  log-are true = (rlc-word, (decimal-word blocks small, tt))
+  log-are false = tt
+
+  endings-are : (full has : Bool) → AllByRecursion IsWord (format-words full ++ log-words has blocks)
+  endings-are true has = (index2-word, log-are has)
+  endings-are false has = log-are has
+
+  format-read : (full has : Bool) → full_index_in (format-words full ++ log-words has blocks) ≡ full
+  format-read true true = refl
+  format-read true false = refl
+  format-read false true = refl
+  format-read false false = refl
+
+  abbrev log-word-of : Bool → Option (List ℕ)
+  log-word-of has = if has then Some (decimal blocks) else None
+
+  log-read : (full has : Bool) → log_word_in (format-words full ++ log-words has blocks) ≡ Some (log-word-of has)
+  log-read true true = refl
+  log-read true false = refl
+  log-read false true = refl
+  log-read false false = refl
+
+  log-number : (has : Bool) → maybe_number (log-word-of has) ≡ Ok (if has then Some blocks else None)
+  log-number true = rw (decimal-number blocks small) refl
+  log-number false = refl
+
+-- a log that isn't refused is there where it has blocks, and has few
+log-back : (log : Option ℕ) → bad_log log ≡ false → (if nat_lt 0 (unwrap_or log 0) then Some (unwrap_or log 0) else None) ≡ log
+log-back None few = refl
+log-back (Some n) few =
+    let some : nat_lt 0 n ≡ true = grind (arith, nat_tests, few) in
+    ap (λ (b : Bool). if b then Some n else None) some
+
+log-small : (log : Option ℕ) → bad_log log ≡ false → unwrap_or log 0 ≤ 18446744073709551615
+log-small None few = omega arith
+log-small (Some n) few = let most : n ≤ 16384 = grind (arith, nat_tests, few) in omega (arith, most)
 
 name-byte : (byte : ℕ) → (is_letter byte || is_digit byte) ≡ true → 32 < byte
 name-byte byte h = grind (arith, nat_tests, h)
@@ -145,13 +188,13 @@ cols-word (Some columns) word is some =
     let count : 0 < length (map column_of typed.types) = subst (λ (l : List Column). 0 < length l) (sym typed.are) (columns-some word columns is) in
     subst (λ (l : List Column). IsWord (join_with_byte 44 (map column_name l))) typed.are (names-word typed.types (omega (arith, count, length-map typed.types column_of)))
 
--- the plan and the tests of a line, by its columns
-abbrev plan_by : Geometry → TableLine → Option (List Column) → Plan
-plan_by geometry line cols = record (plan_of geometry line) { columns = unwrap_or cols [] }
+-- the plan and the tests of a line, by its columns and the blocks of its log
+abbrev plan_by : Geometry → TableLine → Option (List Column) → Option ℕ → Plan
+plan_by geometry line cols log = record (plan_of geometry line) { columns = unwrap_or cols []; log_blocks = unwrap_or log 0 }
 
-abbrev faults_by : Geometry → List Plan → TableLine → Option (List Column) → List (Bool × ConfigFault)
-faults_by geometry plans line cols =
-    let plan = plan_by geometry line cols in
+abbrev faults_by : Geometry → List Plan → TableLine → Option (List Column) → Option ℕ → List (Bool × ConfigFault)
+faults_by geometry plans line cols log =
+    let plan = plan_by geometry line cols log in
     (nat_le 4 (length plans), words.TooManyTables)
     ∷ (list_any (λ p. bytes_equal p.name line.name) plans, words.NameTaken)
     ∷ (not ((line.key == 4) || (line.key == 8)), words.KeyWidth)
@@ -166,7 +209,9 @@ faults_by geometry plans line cols =
     ∷ (bad_blob_limit plan, words.BlobLimit)
     ∷ (nat_lt (geometry.page - 24) (row_len plan), words.RowTooLong)
     ∷ (too_large geometry (plans ++ plan ∷ []), words.DeviceTooLarge)
-    ∷ (line.full_index && (line.index_blocks == 0), words.Format) ∷ []
+    ∷ (line.full_index && (line.index_blocks == 0), words.Format)
+    ∷ (bad_log log, words.LogBlocks)
+    ∷ (is_some log && not (line.var_blocks == 0), words.LogVar) ∷ []
 
 -- where no fault applies, no test passes
 pub test-passes : (tests : List (Bool × ConfigFault)) (i : ℕ) (test : Bool × ConfigFault) → first_fault tests ≡ None → slice_get tests i ≡ Some test → test.0 ≡ false
@@ -198,16 +243,28 @@ module _ (geometry : Geometry) (before : List Plan) (line : TableLine) (read : I
   back : columns_in (again plan).columns ≡ columns_in line.columns
   back = cols-back (columns_in line.columns) line.columns refl some-cols
 
+  few-log : bad_log line.log_blocks ≡ false
+  few-log = test-passes (table_faults geometry before line) 15 (bad_log line.log_blocks, words.LogBlocks) passes refl
+
+  logged : (again plan).log_blocks ≡ line.log_blocks
+  logged = log-back line.log_blocks few-log
+
   again-passes : first_fault (table_faults geometry before (again plan)) ≡ None
-  again-passes = ap (λ cols. first_fault (faults_by geometry before (again plan) cols)) back ∙ passes
+  again-passes =
+      ap (λ cols. first_fault (faults_by geometry before (again plan) cols (again plan).log_blocks)) back
+      ∙ ap (λ log. first_fault (faults_by geometry before (again plan) (columns_in line.columns) log)) logged ∙ passes
 
   again-plan : plan_of geometry (again plan) ≡ plan
-  again-plan = ap (plan_by geometry (again plan)) back
+  again-plan =
+      ap (λ cols. plan_by geometry (again plan) cols (again plan).log_blocks) back ∙ ap (λ log. plan_by geometry (again plan) (columns_in line.columns) log) logged
 
   table-taken : configured (record { device = Some geometry; plans = before }) (command.Table (again plan)) ≡ Ok (record { device = Some geometry; plans = before ++ plan ∷ [] })
   table-taken =
       ap (λ f. unless f (record { device = Some geometry; plans = before ++ plan_of geometry (again plan) ∷ [] })) again-passes
       ∙ ap (λ p. Ok (record { device = Some geometry; plans = before ++ p ∷ [] })) again-plan
+
+  small : unwrap_or line.log_blocks 0 ≤ 18446744073709551615
+  small = log-small line.log_blocks few-log
 
   table-read : words_command (table-words plan) ≡ Ok (command.Table (again plan))
   table-read =
@@ -222,7 +279,9 @@ module _ (geometry : Geometry) (before : List Plan) (line : TableLine) (read : I
         decimal-number line.width read.width,
         decimal-number line.error read.error,
         decimal-number line.blob_limit read.blob_limit,
-        format-read line.full_index,
+        log-read (unwrap_or line.log_blocks 0) small line.full_index (nat_lt 0 (unwrap_or line.log_blocks 0)),
+        log-number (unwrap_or line.log_blocks 0) small (nat_lt 0 (unwrap_or line.log_blocks 0)),
+        format-read (unwrap_or line.log_blocks 0) small line.full_index (nat_lt 0 (unwrap_or line.log_blocks 0)),
       )
       refl
 
@@ -243,7 +302,7 @@ module _ (geometry : Geometry) (before : List Plan) (line : TableLine) (read : I
                 decimal-word line.var_blocks read.var_blocks,
                 (
                   decimal-word line.bits read.bits,
-                  (signed-word line.base read.base, (decimal-word line.width read.width, (decimal-word line.error read.error, (decimal-word line.blob_limit read.blob_limit, format-word line.full_index)))),
+                  (signed-word line.base read.base, (decimal-word line.width read.width, (decimal-word line.error read.error, (decimal-word line.blob_limit read.blob_limit, endings-are (unwrap_or line.log_blocks 0) small line.full_index (nat_lt 0 (unwrap_or line.log_blocks 0)))))),
                 ),
               ),
             ),

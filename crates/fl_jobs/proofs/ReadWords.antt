@@ -8,7 +8,7 @@ use Rattle.fl_base.specs.declared.types.Span.{Span}
 use Rattle.fl_model.specs.Record.{bytes_equal}
 use Rattle.fl_words.specs.Command as command
 use Rattle.fl_words.specs.Command.{Command, TableLine}
-use Rattle.fl_words.specs.Grammar.{LineFault, Number, TooLong, greatest_number, number_in, number, signed, are_digits, value_of, cursor_of, is_name, op_of, columns_of, blob_word, blob_split, ◌>>=◌, form, part, each_signed, with_range, device_line, full_index_in, table_line}
+use Rattle.fl_words.specs.Grammar.{LineFault, Number, TooLong, greatest_number, number_in, number, signed, are_digits, value_of, cursor_of, is_name, op_of, columns_of, blob_word, blob_split, ◌>>=◌, form, part, each_signed, with_range, device_line, log_word_in, maybe_number, table_line}
 use Rattle.fl_words.specs.Grammar.{cut_kind, cut_line, put_parts, put_blob, put_line, name_line, key_line, bare_line, scan_line, open_line, next_line, close_line, select_line, project_line, agg_line, join_line, load_line, line_of, words_command, words_in, without_return, command_of}
 use Rattle.fl_jobs.proofs.Numbers.{IsSigned}
 
@@ -185,10 +185,10 @@ load-within other = tt
 
 table-within : (words : List (List ℕ)) → Gives (table_line words)
 table-within (name ∷ key ∷ columns ∷ rows ∷ index ∷ var ∷ bits ∷ base ∷ width ∷ error ∷ blob ∷ words) =
-    named (is_name name) _ (λ is. parted (full_index_in words) _ (λ full _.
+    named (is_name name) _ (λ is. parted (log_word_in words) _ (λ log _.
     bound (number key) _ (λ k ke. bound (number rows) _ (λ d de. bound (number index) _ (λ i ie. bound (number var) _ (λ v ve. bound (number bits) _ (λ n ne.
-    bound (signed base) _ (λ b be. bound (number width) _ (λ w we. bound (number error) _ (λ e ee. bound (number blob) _ (λ l le.
-    record { name = is; key = most key k ke; data_blocks = most rows d de; index_blocks = most index i ie; var_blocks = most var v ve; bits = most bits n ne; base = within base b be; width = most width w we; error = most error e ee; blob_limit = most blob l le })))))))))))
+    bound (signed base) _ (λ b be. bound (number width) _ (λ w we. bound (number error) _ (λ e ee. bound (number blob) _ (λ l le. bound (maybe_number log) _ (λ r _.
+    record { name = is; key = most key k ke; data_blocks = most rows d de; index_blocks = most index i ie; var_blocks = most var v ve; bits = most bits n ne; base = within base b be; width = most width w we; error = most error e ee; blob_limit = most blob l le }))))))))))))
 table-within other = tt
 
 -- the lines of one first word, or those of others

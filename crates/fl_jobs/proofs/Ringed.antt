@@ -6,10 +6,10 @@ use Rattle.fl_flash.specs.declared.flash.FlashFault.TheVariants.{PowerLost, Medi
 use Rattle.fl_plan.specs.Plan.{blocks_in}
 use Rattle.fl_plan.specs.declared.table_config.TableConfig.{TableConfig}
 use Rattle.fl_check.specs.Looks as rings
-use Rattle.fl_check.specs.Whole.{Fits}
+use Rattle.fl_check.specs.Whole.{Fits, LogFits}
 use Rattle.fl_check.specs.declared.finding.CheckFault.{CheckFault}
 use Rattle.fl_check.specs.declared.finding.CheckFault.TheVariants.{Flash, NoMemory}
-use Rattle.fl_jobs.specs.Checking.{LiesOn, OnlyLooks, FailsBy}
+use Rattle.fl_jobs.specs.Checking.{LiesOn, LogLies, OnlyLooks, FailsBy}
 
 -- a ring that begins behind others
 behind : (ring : Option RingPlace) (before others blocks : ℕ) → IfSome ring (λ place. place.first_block ≡ before) → before + blocks_in ring + others ≤ blocks →
@@ -27,6 +27,10 @@ fits config f lies = record {
   var = behind config.var (config.rows.first_block + config.rows.blocks + blocks_in config.index) 0 f.blocks lies.var (omega (arith, lies.within));
   few = lies.few;
 }
+
+pub log-fits : (config : TableConfig) (log : Option RingPlace) (f : FlashState) → LogLies config log f → LogFits log f
+log-fits config None f lies = tt
+log-fits config (Some place) f lies = (lies.0, lies.2)
 
 pub looks : (old new : FlashState) → rings.OnlyLooks old new → OnlyLooks old new
 looks old new h = record {

@@ -5,17 +5,19 @@ use Rattle.std.specs.List.{list_all}
 use Rattle.std.proofs.lemmas.List.Sums.{sum_by-cons}
 use Rattle.std.proofs.lemmas.List.Folds.{list_all-append}
 use Rattle.fl_base.specs.Causes.{Appends, AppendsFront}
+use Rattle.fl_base.specs.declared.types.RingPlace.{RingPlace}
 use Rattle.fl_flash.specs.Flash.{FlashState, Goes}
 use Rattle.fl_flash.specs.Places.{extent}
+use Rattle.fl_model.specs.Bare.{bare}
 use Rattle.fl_model.specs.Record.{Plan, blocks_of}
 use Rattle.fl_words.specs.Config.{Lines}
 use Rattle.fl_plan.specs.declared.table_config.TableConfig.{TableConfig}
-use Rattle.fl_plan.specs.Limits.{IsWithinLimits}
-use Rattle.fl_plan.specs.Plan.{IsConfigOf, blocks_in}
+use Rattle.fl_plan.specs.Limits.{IsRingSize, IsWithinLimits}
+use Rattle.fl_plan.specs.Plan.{IsConfigOf, IsRingAt, blocks_in}
 use Rattle.fl_plan.specs.Refusal.{config_fault}
 use Rattle.fl_script.proofs.Sending.{appends-append, sent-failed}
 use Rattle.fl_jobs.specs.Report.{FoundBy, found_text, found_sound, report_lines}
-use Rattle.fl_jobs.specs.Checking.{LiesOn, OnlyLooks, IsOver, IsFound, AreFound, FindsBy, Tells, TellsNext, TellsOne, TableEnds, IsCheckStatus, TablesEndBy}
+use Rattle.fl_jobs.specs.Checking.{LiesOn, LogLies, OnlyLooks, IsOver, IsFound, AreFound, FindsBy, Tells, TellsNext, TellsOne, TableEnds, IsCheckStatus, TablesEndBy}
 use Rattle.fl_jobs.specs.declared.extent.Extent.{Extent}
 use Rattle.fl_jobs.specs.declared.extent.Extent.TheVariants.{FirstFault, AllTables}
 use Rattle.fl_jobs.specs.declared.status.ToolStatus.{ToolStatus}
@@ -38,10 +40,10 @@ sum-within (first ∷ plans) zero plan h =
     omega (arith, ap blocks_of same, sum_by-cons blocks_of first plans)
 sum-within (first ∷ plans) (suc i) plan h = omega (arith, sum-within plans i plan h, sum_by-cons blocks_of first plans, sum_by-cons blocks_of first (take i plans))
 
-pub config-there : (plans : List Plan) (i : ℕ) (plan : Plan) (config : TableConfig) → slice_get plans i ≡ Some plan → IfSome (slice_get plans i) (λ p. IsConfigOf config p) → IsConfigOf config plan
-config-there plans i plan config is h = subst (λ (o : Option Plan). IfSome o (λ p. IsConfigOf config p)) is h
+pub config-there : (plans : List Plan) (i : ℕ) (plan : Plan) (config : TableConfig) → slice_get plans i ≡ Some plan → IfSome (slice_get plans i) (λ p. IsConfigOf config (bare p)) → IsConfigOf config (bare plan)
+config-there plans i plan config is h = subst (λ (o : Option Plan). IfSome o (λ p. IsConfigOf config (bare p))) is h
 
-pub lies-at : (lines : Lines) (f : FlashState) (i : ℕ) (plan : Plan) (config : TableConfig) → IsOver lines f → slice_get lines.plans i ≡ Some plan → IsConfigOf config plan
+pub lies-at : (lines : Lines) (f : FlashState) (i : ℕ) (plan : Plan) (config : TableConfig) → IsOver lines f → slice_get lines.plans i ≡ Some plan → IsConfigOf config (bare plan)
     → config.rows.first_block ≡ sum_by blocks_of (take i lines.plans) → lines.device ≡ Some config.geometry → IsWithinLimits config → config_fault config ≡ None → LiesOn config f
 lies-at lines f i plan config over plan_is config_is first device limits passes =
     let rows : config.rows.blocks ≡ plan.data_blocks = ap (λ (p : Plan). p.data_blocks) config_is.is in
@@ -57,6 +59,26 @@ lies-at lines f i plan config over plan_is config_is first device limits passes 
       within = omega (arith, sum-within lines.plans i plan plan_is, first, over.blocks, rows, index, var);
       few = over.few;
     }
+
+-- .. and its log
+pub log-there : (lines : Lines) (i : ℕ) (plan : Plan) (config : TableConfig) (log : Option RingPlace) → slice_get lines.plans i ≡ Some plan → config.rows.first_block ≡ sum_by blocks_of (take i lines.plans)
+    → IfSome (slice_get lines.plans i) (λ p. IsRingAt log (sum_by blocks_of (take i lines.plans) + p.data_blocks + p.index_blocks + p.var_blocks) p.log_blocks)
+    → IsRingAt log (config.rows.first_block + plan.data_blocks + plan.index_blocks + plan.var_blocks) plan.log_blocks
+log-there lines i plan config log is first at =
+    subst (λ (n : ℕ). IsRingAt log (n + plan.data_blocks + plan.index_blocks + plan.var_blocks) plan.log_blocks) (sym first)
+    (subst (λ (o : Option Plan). IfSome o (λ p. IsRingAt log (sum_by blocks_of (take i lines.plans) + p.data_blocks + p.index_blocks + p.var_blocks) p.log_blocks)) is at)
+
+pub log-alone : (plans : List Plan) (i : ℕ) (plan : Plan) (log : Option RingPlace) → slice_get plans i ≡ Some plan → IfSome (slice_get plans i) (λ p. IfSome log (λ place. p.var_blocks ≡ 0)) → IfSome log (λ place. plan.var_blocks ≡ 0)
+log-alone plans i plan log is h = subst (λ (o : Option Plan). IfSome o (λ p. IfSome log (λ place. p.var_blocks ≡ 0))) is h
+
+pub log-lies-at : (lines : Lines) (f : FlashState) (i : ℕ) (plan : Plan) (config : TableConfig) (log : Option RingPlace) → IsOver lines f → slice_get lines.plans i ≡ Some plan → IsConfigOf config (bare plan)
+    → config.rows.first_block ≡ sum_by blocks_of (take i lines.plans) → IfSome log IsRingSize → IsRingAt log (config.rows.first_block + plan.data_blocks + plan.index_blocks + plan.var_blocks) plan.log_blocks → LogLies config log f
+log-lies-at lines f i plan config None over plan_is config_is first size at = tt
+log-lies-at lines f i plan config (Some place) over plan_is config_is first size at =
+    let rows : config.rows.blocks ≡ plan.data_blocks = ap (λ (p : Plan). p.data_blocks) config_is.is in
+    let index : blocks_in config.index ≡ plan.index_blocks = ap (λ (p : Plan). p.index_blocks) config_is.is in
+    let var : blocks_in config.var ≡ plan.var_blocks = ap (λ (p : Plan). p.var_blocks) config_is.is in
+    (size, omega (arith, at.0, rows, index, var), omega (arith, at.0, at.1, sum-within lines.plans i plan plan_is, first, over.blocks))
 
 -- ---- a flash that is only looked at
 
@@ -139,7 +161,7 @@ nothing-told (Some bytes) = ap (λ l. Some l) (sym (append-nil bytes))
 pub told-none : (told : Option (List ℕ)) → Appends told told []
 told-none told = nothing-told told
 
-found-push : (Found : Type 0) (Finds : TableConfig → FlashState → Found → Type 0) (lines : Lines) (bytes : List ℕ) (i : ℕ) (findings : List Found) (found : Found) →
+found-push : (Found : Type 0) (Finds : TableConfig → Option RingPlace → FlashState → Found → Type 0) (lines : Lines) (bytes : List ℕ) (i : ℕ) (findings : List Found) (found : Found) →
     AreFound Finds lines bytes i findings → IsFound Finds lines bytes (i + length findings) found → AreFound Finds lines bytes i (findings ++ found ∷ [])
 found-push Found Finds lines bytes i [] found h k = let same : i + length {A = Found} [] ≡ i = omega arith in (subst (λ n. IsFound Finds lines bytes n found) same k, tt)
 found-push Found Finds lines bytes i (first ∷ findings) found h k =
@@ -164,12 +186,12 @@ and-false : (b : Bool) → (b && false) ≡ false
 and-false true = refl
 and-false false = refl
 
-pub sound-none : (extent : Extent) (Finds : TableConfig → FlashState → FoundBy extent → Type 0) (lines : Lines) (bytes : List ℕ) (told : Option (List ℕ)) → Tells extent Finds lines bytes told told 0 true
+pub sound-none : (extent : Extent) (Finds : TableConfig → Option RingPlace → FlashState → FoundBy extent → Type 0) (lines : Lines) (bytes : List ℕ) (told : Option (List ℕ)) → Tells extent Finds lines bytes told told 0 true
 sound-none extent Finds lines bytes told =
     record { findings = []; count = refl; are = tt; sound = refl; text = subst (λ (l : List ℕ). Appends told told l) (sym (report-none extent lines.plans)) (nothing-told told) }
 
 -- one more finding, and its lines
-module _ (extent : Extent) (Finds : TableConfig → FlashState → FoundBy extent → Type 0) (lines : Lines) (bytes : List ℕ) (before mid now : Option (List ℕ)) (n : ℕ) (all : Bool) (s : Tells extent Finds lines bytes before mid n all) where
+module _ (extent : Extent) (Finds : TableConfig → Option RingPlace → FlashState → FoundBy extent → Type 0) (lines : Lines) (bytes : List ℕ) (before mid now : Option (List ℕ)) (n : ℕ) (all : Bool) (s : Tells extent Finds lines bytes before mid n all) where
   module _ (found : FoundBy extent) (is : IsFound Finds lines bytes n found) where
     pub are-next : AreFound Finds lines bytes 0 (s.findings ++ found ∷ [])
     are-next =
@@ -228,7 +250,7 @@ not-first extent all first = two (sym all ∙ first)
 not-all : false ≡ true → ⊥
 not-all e = cc
 
-module _ (Finds : TableConfig → FlashState → Finding → Type 0) (Rules : TableConfig → FlashState → TableRules → Type 0) (lines : Lines) (bytes : List ℕ) where
+module _ (Finds : TableConfig → Option RingPlace → FlashState → Finding → Type 0) (Rules : TableConfig → Option RingPlace → FlashState → TableRules → Type 0) (lines : Lines) (bytes : List ℕ) where
   pub ends-all : (told now : Option (List ℕ)) (extent : Extent) (all : Bool) → (extent ≡ FirstFault → all ≡ true) → Tells extent (FindsBy extent Finds Rules) lines bytes told now (length lines.plans) all →
       TablesEndBy extent Finds Rules lines bytes told now (if all then Done else Unsound)
   ends-all told now FirstFault true none h = h

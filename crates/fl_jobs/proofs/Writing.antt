@@ -1,5 +1,6 @@
 -- The lines of some findings, written one after another.
 use Rattle.std.proofs.Common.{◌≡◌, ℕ, Option, List, [], ◌∷◌, ◌++◌, Result, Ok, Err, refl, sym, ◌∙◌, ap, subst, append_assoc, append-nil}
+use Rattle.std.specs.List.{fold}
 use Rattle.fl_base.specs.Causes.{Appends, AppendsFront}
 use Rattle.fl_script.proofs.Sending.{appends-append, sent-failed}
 use Rattle.fl_script.specs.Written.{Written}
@@ -34,6 +35,11 @@ module _ (name : List ℕ) where
   front-of before now a b front =
       subst (λ (l : List ℕ). AppendsFront before now l) (sym (text-append a b))
       (front.0, (front.1.0 ++ findings_text name b, sym (append_assoc front.0 front.1.0 (findings_text name b)) ∙ ap (λ (l : List ℕ). l ++ findings_text name b) front.1.1), front.2)
+
+  -- .. whatever stands behind them
+  pub front-of_all : (before now : Option (List ℕ)) (a : List Finding) (others : List (List Finding)) → AppendsFront before now (findings_text name a) → AppendsFront before now (findings_text name (fold ◌++◌ a others))
+  front-of_all before now a [] front = front
+  front-of_all before now a (b ∷ others) front = front-of_all before now (a ++ b) others (front-of before now a b front)
 
   -- the last of them
   pub then-written : {E : Type 0} (before mid now : Option (List ℕ)) (result : Result (Unit {0}) E) (a b : List Finding) → Appends before mid (findings_text name a) → Written mid now result (findings_text name b)

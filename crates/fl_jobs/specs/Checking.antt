@@ -2,13 +2,15 @@
 use Rattle.std.specs.Prelude.{◌≡◌, ◌⊎◌, ℕ, ◌+◌, ◌^◌, ◌<◌, ◌≤◌, Bool, true, false, Option, Some, None, IfSome, Result, Ok, Err, List, [], ◌∷◌, ◌++◌, length, take, sum_by, slice_get}
 use Rattle.std.specs.List.{list_all}
 use Rattle.fl_base.specs.Causes.{Rose, Appends, AppendsFront}
+use Rattle.fl_base.specs.declared.types.RingPlace.{RingPlace}
 use Rattle.fl_flash.specs.Flash.{FlashState, Goes, pages}
 use Rattle.fl_flash.specs.declared.flash.FlashFault.TheVariants.{PowerLost, Media}
+use Rattle.fl_model.specs.Bare.{bare}
 use Rattle.fl_model.specs.Record.{Plan, blocks_of}
 use Rattle.fl_words.specs.Config.{Lines}
 use Rattle.fl_plan.specs.declared.table_config.TableConfig.{TableConfig}
-use Rattle.fl_plan.specs.Limits.{IsWithinLimits}
-use Rattle.fl_plan.specs.Plan.{IsConfigOf, blocks_in}
+use Rattle.fl_plan.specs.Limits.{IsRingSize, IsWithinLimits}
+use Rattle.fl_plan.specs.Plan.{IsConfigOf, IsRingAt, blocks_in}
 use Rattle.fl_plan.specs.Refusal.{config_fault}
 use Rattle.fl_jobs.specs.Header.{IsAccepted}
 use Rattle.fl_jobs.specs.Image.{IsImageOf}
@@ -31,6 +33,11 @@ pub record LiesOn (config : TableConfig) (f : FlashState) : Type 0 where
   pub var : IfSome config.var (λ place. place.first_block ≡ config.rows.first_block + config.rows.blocks + blocks_in config.index)
   pub within : config.rows.first_block + config.rows.blocks + blocks_in config.index + blocks_in config.var ≤ f.blocks
   pub few : pages f < 2 ^ 32
+
+-- .. and its log behind them, if it has one
+abbrev pub LogLies : TableConfig → Option RingPlace → FlashState → Type 0
+LogLies config log f =
+    IfSome log (λ place. IsRingSize place × (place.first_block ≡ config.rows.first_block + config.rows.blocks + blocks_in config.index + blocks_in config.var) × (place.first_block + place.blocks ≤ f.blocks))
 
 -- nothing of the flash changes but the counts of reads and faults
 pub record OnlyLooks (old new : FlashState) : Type 0 where
@@ -57,30 +64,34 @@ pub record IsOver (lines : Lines) (f : FlashState) : Type 0 where
   pub on : f.is_on ≡ true
 
 -- `Finds` says what is found rightly of a table over a flash. This was found of the i-th table in these bytes.
-pub record IsFound {Found : Type 0} (Finds : TableConfig → FlashState → Found → Type 0) (lines : Lines) (bytes : List ℕ) (i : ℕ) (found : Found) : Type 0 where
+pub record IsFound {Found : Type 0} (Finds : TableConfig → Option RingPlace → FlashState → Found → Type 0) (lines : Lines) (bytes : List ℕ) (i : ℕ) (found : Found) : Type 0 where
   pub plan : Plan
   pub plan_is : slice_get lines.plans i ≡ Some plan
   pub config : TableConfig
-  pub config_is : IsConfigOf config plan
+  pub config_is : IsConfigOf config (bare plan)
   pub first : config.rows.first_block ≡ sum_by blocks_of (take i lines.plans)
+  pub log : Option RingPlace
+  pub log_is : IsRingAt log (config.rows.first_block + plan.data_blocks + plan.index_blocks + plan.var_blocks) plan.log_blocks
+  pub log_alone : IfSome log (λ place. plan.var_blocks ≡ 0)
   pub flash : FlashState
   pub over : IsOver lines flash
   pub lies : LiesOn config flash
+  pub log_lies : LogLies config log flash
   pub content : flash.media.content ≡ bytes
-  pub finds : Finds config flash found
+  pub finds : Finds config log flash found
 
 -- .. and these of the tables from the i-th on
-abbrev pub AreFound : {Found : Type 0} → (TableConfig → FlashState → Found → Type 0) → Lines → List ℕ → ℕ → List Found → Type 0
+abbrev pub AreFound : {Found : Type 0} → (TableConfig → Option RingPlace → FlashState → Found → Type 0) → Lines → List ℕ → ℕ → List Found → Type 0
 AreFound Finds lines bytes i [] = Unit {0}
 AreFound Finds lines bytes i (found ∷ more) = IsFound Finds lines bytes i found × AreFound Finds lines bytes (i + 1) more
 
 -- what is found rightly by the first rule that doesn't hold, or by all rules
-abbrev pub FindsBy : (extent : Extent) → (TableConfig → FlashState → Finding → Type 0) → (TableConfig → FlashState → TableRules → Type 0) → TableConfig → FlashState → FoundBy extent → Type 0
+abbrev pub FindsBy : (extent : Extent) → (TableConfig → Option RingPlace → FlashState → Finding → Type 0) → (TableConfig → Option RingPlace → FlashState → TableRules → Type 0) → TableConfig → Option RingPlace → FlashState → FoundBy extent → Type 0
 FindsBy FirstFault Finds Rules = Finds
 FindsBy AllTables Finds Rules = Rules
 
 -- the first n tables have their lines, and all of these are sound, or not
-pub record Tells (extent : Extent) (Finds : TableConfig → FlashState → FoundBy extent → Type 0) (lines : Lines) (bytes : List ℕ) (told told_now : Option (List ℕ)) (n : ℕ) (all : Bool) : Type 0 where
+pub record Tells (extent : Extent) (Finds : TableConfig → Option RingPlace → FlashState → FoundBy extent → Type 0) (lines : Lines) (bytes : List ℕ) (told told_now : Option (List ℕ)) (n : ℕ) (all : Bool) : Type 0 where
   pub findings : List (FoundBy extent)
   pub count : length findings ≡ n
   pub are : AreFound Finds lines bytes 0 findings
@@ -88,7 +99,7 @@ pub record Tells (extent : Extent) (Finds : TableConfig → FlashState → Found
   pub text : Appends told told_now (report_lines extent lines.plans findings)
 
 -- .. or those of the next weren't written whole
-pub record TellsNext (extent : Extent) (Finds : TableConfig → FlashState → FoundBy extent → Type 0) (lines : Lines) (bytes : List ℕ) (told told_now : Option (List ℕ)) (all : Bool) : Type 0 where
+pub record TellsNext (extent : Extent) (Finds : TableConfig → Option RingPlace → FlashState → FoundBy extent → Type 0) (lines : Lines) (bytes : List ℕ) (told told_now : Option (List ℕ)) (all : Bool) : Type 0 where
   pub findings : List (FoundBy extent)
   pub next : FoundBy extent
   pub are : AreFound Finds lines bytes 0 (findings ++ next ∷ [])
@@ -96,7 +107,7 @@ pub record TellsNext (extent : Extent) (Finds : TableConfig → FlashState → F
   pub text : AppendsFront told told_now (report_lines extent lines.plans (findings ++ next ∷ []))
 
 -- the lines of the i-th table were written, or a front of them
-pub record TellsOne (extent : Extent) (Finds : TableConfig → FlashState → FoundBy extent → Type 0) (lines : Lines) (bytes : List ℕ) (i : ℕ) (sound : Bool) (Writes : List ℕ → Type 0) : Type 0 where
+pub record TellsOne (extent : Extent) (Finds : TableConfig → Option RingPlace → FlashState → FoundBy extent → Type 0) (lines : Lines) (bytes : List ℕ) (i : ℕ) (sound : Bool) (Writes : List ℕ → Type 0) : Type 0 where
   pub found : FoundBy extent
   pub is : IsFound Finds lines bytes i found
   pub sound_is : found_sound extent found ≡ sound
@@ -112,7 +123,7 @@ abbrev pub IsCheckStatus : ToolStatus → Type 0
 IsCheckStatus status = (status ≡ OutWrite) ⊎ ((status ≡ NoMemory) ⊎ (status ≡ Device))
 
 -- how the check of the i-th table ends
-abbrev pub TableEnds : (extent : Extent) → (TableConfig → FlashState → FoundBy extent → Type 0) → Lines → List ℕ → ℕ → Option (List ℕ) → Option (List ℕ) → Result Bool ToolStatus → Type 0
+abbrev pub TableEnds : (extent : Extent) → (TableConfig → Option RingPlace → FlashState → FoundBy extent → Type 0) → Lines → List ℕ → ℕ → Option (List ℕ) → Option (List ℕ) → Result Bool ToolStatus → Type 0
 TableEnds extent Finds lines bytes i told told_now (Ok sound) = TellsOne extent Finds lines bytes i sound (λ text. Appends told told_now text)
 TableEnds extent Finds lines bytes i told told_now (Err OutWrite) = (sound : Bool) × TellsOne extent Finds lines bytes i sound (λ text. AppendsFront told told_now text)
 TableEnds extent Finds lines bytes i told told_now (Err status) = told_now ≡ told
@@ -120,11 +131,11 @@ TableEnds extent Finds lines bytes i told told_now (Err status) = told_now ≡ t
 -- ---- up to the first table that isn't sound
 
 -- the first n tables are sound, and each has its line
-abbrev pub TellsSound : (TableConfig → FlashState → Finding → Type 0) → Lines → List ℕ → Option (List ℕ) → Option (List ℕ) → ℕ → Type 0
+abbrev pub TellsSound : (TableConfig → Option RingPlace → FlashState → Finding → Type 0) → Lines → List ℕ → Option (List ℕ) → Option (List ℕ) → ℕ → Type 0
 TellsSound Finds lines bytes told told_now n = Tells FirstFault Finds lines bytes told told_now n true
 
 -- .. and then one isn't, which has its line too
-pub record TellsFault (Finds : TableConfig → FlashState → Finding → Type 0) (lines : Lines) (bytes : List ℕ) (told told_now : Option (List ℕ)) : Type 0 where
+pub record TellsFault (Finds : TableConfig → Option RingPlace → FlashState → Finding → Type 0) (lines : Lines) (bytes : List ℕ) (told told_now : Option (List ℕ)) : Type 0 where
   pub findings : List Finding
   pub fault : Finding
   pub are : AreFound Finds lines bytes 0 (findings ++ fault ∷ [])
@@ -133,15 +144,15 @@ pub record TellsFault (Finds : TableConfig → FlashState → Finding → Type 0
   pub text : Appends told told_now (report_text lines.plans (findings ++ fault ∷ []))
 
 -- .. or the line of the next wasn't written whole
-abbrev pub TellsPart : (TableConfig → FlashState → Finding → Type 0) → Lines → List ℕ → Option (List ℕ) → Option (List ℕ) → Type 0
+abbrev pub TellsPart : (TableConfig → Option RingPlace → FlashState → Finding → Type 0) → Lines → List ℕ → Option (List ℕ) → Option (List ℕ) → Type 0
 TellsPart Finds lines bytes told told_now = TellsNext FirstFault Finds lines bytes told told_now true
 
 -- .. or nothing was found of the next
-abbrev pub TellsFew : (TableConfig → FlashState → Finding → Type 0) → Lines → List ℕ → Option (List ℕ) → Option (List ℕ) → Type 0
+abbrev pub TellsFew : (TableConfig → Option RingPlace → FlashState → Finding → Type 0) → Lines → List ℕ → Option (List ℕ) → Option (List ℕ) → Type 0
 TellsFew Finds lines bytes told told_now = (n : ℕ) × (n < length lines.plans) × TellsSound Finds lines bytes told told_now n
 
 -- how a check of the tables ends
-abbrev pub TablesEnd : (TableConfig → FlashState → Finding → Type 0) → Lines → List ℕ → Option (List ℕ) → Option (List ℕ) → ToolStatus → Type 0
+abbrev pub TablesEnd : (TableConfig → Option RingPlace → FlashState → Finding → Type 0) → Lines → List ℕ → Option (List ℕ) → Option (List ℕ) → ToolStatus → Type 0
 TablesEnd Finds lines bytes told told_now Done = TellsSound Finds lines bytes told told_now (length lines.plans)
 TablesEnd Finds lines bytes told told_now Unsound = TellsFault Finds lines bytes told told_now
 TablesEnd Finds lines bytes told told_now OutWrite = TellsPart Finds lines bytes told told_now
@@ -157,11 +168,11 @@ TablesEnd Finds lines bytes told told_now (BadInput number) = ⊥
 -- ---- over all tables
 
 -- some have their lines, and nothing was found of the next
-abbrev pub TellsSome : (TableConfig → FlashState → TableRules → Type 0) → Lines → List ℕ → Option (List ℕ) → Option (List ℕ) → Type 0
+abbrev pub TellsSome : (TableConfig → Option RingPlace → FlashState → TableRules → Type 0) → Lines → List ℕ → Option (List ℕ) → Option (List ℕ) → Type 0
 TellsSome Rules lines bytes told told_now = (n : ℕ) × (n < length lines.plans) × ((all : Bool) × Tells AllTables Rules lines bytes told told_now n all)
 
 -- how a check of all tables ends
-abbrev pub AllTablesEnd : (TableConfig → FlashState → TableRules → Type 0) → Lines → List ℕ → Option (List ℕ) → Option (List ℕ) → ToolStatus → Type 0
+abbrev pub AllTablesEnd : (TableConfig → Option RingPlace → FlashState → TableRules → Type 0) → Lines → List ℕ → Option (List ℕ) → Option (List ℕ) → ToolStatus → Type 0
 AllTablesEnd Rules lines bytes told told_now Done = Tells AllTables Rules lines bytes told told_now (length lines.plans) true
 AllTablesEnd Rules lines bytes told told_now Unsound = Tells AllTables Rules lines bytes told told_now (length lines.plans) false
 AllTablesEnd Rules lines bytes told told_now OutWrite = (all : Bool) × TellsNext AllTables Rules lines bytes told told_now all
@@ -174,7 +185,7 @@ AllTablesEnd Rules lines bytes told told_now InputRead = ⊥
 AllTablesEnd Rules lines bytes told told_now InputLong = ⊥
 AllTablesEnd Rules lines bytes told told_now (BadInput number) = ⊥
 
-abbrev pub TablesEndBy : Extent → (TableConfig → FlashState → Finding → Type 0) → (TableConfig → FlashState → TableRules → Type 0) → Lines → List ℕ → Option (List ℕ) → Option (List ℕ) → ToolStatus → Type 0
+abbrev pub TablesEndBy : Extent → (TableConfig → Option RingPlace → FlashState → Finding → Type 0) → (TableConfig → Option RingPlace → FlashState → TableRules → Type 0) → Lines → List ℕ → Option (List ℕ) → Option (List ℕ) → ToolStatus → Type 0
 TablesEndBy FirstFault Finds Rules lines bytes told told_now status = TablesEnd Finds lines bytes told told_now status
 TablesEndBy AllTables Finds Rules lines bytes told told_now status = AllTablesEnd Rules lines bytes told told_now status
 
@@ -195,15 +206,15 @@ ChecksBy Ends bytes told told_now Device = Appends told told_now [] ⊎ ImageChe
 ChecksBy Ends bytes told told_now status = ImageChecked bytes (λ lines. Ends lines status)
 
 -- up to the first table that isn't sound
-abbrev pub ImageEnds : (TableConfig → FlashState → Finding → Type 0) → List ℕ → Option (List ℕ) → Option (List ℕ) → ToolStatus → Type 0
+abbrev pub ImageEnds : (TableConfig → Option RingPlace → FlashState → Finding → Type 0) → List ℕ → Option (List ℕ) → Option (List ℕ) → ToolStatus → Type 0
 ImageEnds Finds bytes told told_now status = ImageChecked bytes (λ lines. TablesEnd Finds lines bytes told told_now status)
 
-abbrev pub CheckEnds : (TableConfig → FlashState → Finding → Type 0) → List ℕ → Option (List ℕ) → Option (List ℕ) → ToolStatus → Type 0
+abbrev pub CheckEnds : (TableConfig → Option RingPlace → FlashState → Finding → Type 0) → List ℕ → Option (List ℕ) → Option (List ℕ) → ToolStatus → Type 0
 CheckEnds Finds bytes told told_now status = ChecksBy (λ lines status. TablesEnd Finds lines bytes told told_now status) bytes told told_now status
 
 -- .. or over all tables
-abbrev pub CheckAllEnds : (TableConfig → FlashState → TableRules → Type 0) → List ℕ → Option (List ℕ) → Option (List ℕ) → ToolStatus → Type 0
+abbrev pub CheckAllEnds : (TableConfig → Option RingPlace → FlashState → TableRules → Type 0) → List ℕ → Option (List ℕ) → Option (List ℕ) → ToolStatus → Type 0
 CheckAllEnds Rules bytes told told_now status = ChecksBy (λ lines status. AllTablesEnd Rules lines bytes told told_now status) bytes told told_now status
 
-abbrev pub CheckedTo : Extent → (TableConfig → FlashState → Finding → Type 0) → (TableConfig → FlashState → TableRules → Type 0) → List ℕ → Option (List ℕ) → Option (List ℕ) → ToolStatus → Type 0
+abbrev pub CheckedTo : Extent → (TableConfig → Option RingPlace → FlashState → Finding → Type 0) → (TableConfig → Option RingPlace → FlashState → TableRules → Type 0) → List ℕ → Option (List ℕ) → Option (List ℕ) → ToolStatus → Type 0
 CheckedTo extent Finds Rules bytes told told_now status = ChecksBy (λ lines status. TablesEndBy extent Finds Rules lines bytes told told_now status) bytes told told_now status

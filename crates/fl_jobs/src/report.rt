@@ -183,6 +183,7 @@ fn write_faults<K: Sink>(name: &Name, faults: &TableFaults, out: &mut K) -> Resu
     write_ring(name, RingName::Index, &faults.index, out)?;
     write_ring(name, RingName::Data, &faults.rows, out)?;
     write_ring(name, RingName::Var, &faults.var, out)?;
+    write_ring(name, RingName::Log, &faults.log, out)?;
     write_fault(name, RingName::Index, Rule::Entry, faults.entry, out)?;
     write_fault(name, RingName::Data, Rule::Blob, faults.blob, out)
 }

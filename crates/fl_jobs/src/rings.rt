@@ -4,6 +4,7 @@ ghost use Rattle.fl_check.specs.Rules.{AreRules};
 ghost use Rattle.fl_check.specs.Whole.{IsFinding};
 
 use crate::CheckTable;
+use fl_base::RingPlace;
 use fl_check::{CheckFault, Finding, TableRules, check_rules, check_table};
 use fl_flash::Flash;
 use fl_plan::TableConfig;
@@ -14,17 +15,18 @@ use std::alloc::Global;
 pub struct RingChecker;
 
 impl CheckTable for RingChecker {
-    ghost finds = { λ config f finding. IsFinding config (page_at f) finding };
+    ghost finds = { λ config log f finding. IsFinding config log (page_at f) finding };
 
-    ghost rules = { λ config f rules. AreRules config (page_at f) rules };
+    ghost rules = { λ config log f rules. AreRules config log (page_at f) rules };
 
     fn check_table<F: Flash>(
         &mut self,
         alloc: Global,
         flash: &mut F,
         config: &TableConfig,
+        log: Option<RingPlace>,
     ) -> Result<Finding, CheckFault> {
-        check_table(alloc, flash, config)
+        check_table(alloc, flash, config, log)
     }
 
     fn check_rules<F: Flash>(
@@ -32,7 +34,8 @@ impl CheckTable for RingChecker {
         alloc: Global,
         flash: &mut F,
         config: &TableConfig,
+        log: Option<RingPlace>,
     ) -> Result<TableRules, CheckFault> {
-        check_rules(alloc, flash, config)
+        check_rules(alloc, flash, config, log)
     }
 }

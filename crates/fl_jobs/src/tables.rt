@@ -39,7 +39,7 @@ fn check_at<F: Flash, C: CheckTable>(
     ensures device { result ≡ Err ToolStatus.Device → Rose (F.state flash.old).media.faults (F.state flash.new).media.faults }
     ensures statuses { IfErr result (λ status. (status ≡ ToolStatus.NoMemory) ⊎ (status ≡ ToolStatus.Device)) }
 {
-    match checker.check_table(alloc, flash, config.table(i)) {
+    match checker.check_table(alloc, flash, config.table(i), config.log(i)) {
         Ok(finding) => Ok(finding),
         Err(fault) => Err(check_status(fault)),
     }
@@ -60,7 +60,7 @@ fn rules_at<F: Flash, C: CheckTable>(
     ensures device { result ≡ Err ToolStatus.Device → Rose (F.state flash.old).media.faults (F.state flash.new).media.faults }
     ensures statuses { IfErr result (λ status. (status ≡ ToolStatus.NoMemory) ⊎ (status ≡ ToolStatus.Device)) }
 {
-    match checker.check_rules(alloc, flash, config.table(i)) {
+    match checker.check_rules(alloc, flash, config.table(i), config.log(i)) {
         Ok(rules) => Ok(rules),
         Err(fault) => Err(check_status(fault)),
     }

@@ -1,6 +1,6 @@
 // Checks of an image of two tables, by a checker that says what it is told to.
 use crate::{CheckTable, ToolStatus, check_all, check_image};
-use fl_base::{MemSink, NoMemory};
+use fl_base::{MemSink, NoMemory, RingPlace};
 use fl_check::{CheckFault, Finding, RingFaults, RingName, Rule, TableFaults, TableRules};
 use fl_flash::{Flash, MemMedia};
 use fl_plan::TableConfig;
@@ -40,15 +40,16 @@ struct Says {
 }
 
 impl CheckTable for Says {
-    ghost finds = { λ config flash finding. Unit {0} };
+    ghost finds = { λ config log flash finding. Unit {0} };
 
-    ghost rules = { λ config flash rules. Unit {0} };
+    ghost rules = { λ config log flash rules. Unit {0} };
 
     fn check_table<F: Flash>(
         &mut self,
         _alloc: Global,
         _flash: &mut F,
         config: &TableConfig,
+        _log: Option<RingPlace>,
     ) -> Result<Finding, CheckFault> {
         let found = if config.rows.first_block == 0 {
             self.first
@@ -61,14 +62,15 @@ impl CheckTable for Says {
         }
     }
 
-    // Where there is a fault, the next page breaks the rule on blank pages too.
+    // Where there is a fault, the next page breaks the rule on blank pages too, and one of the log that on keys.
     fn check_rules<F: Flash>(
         &mut self,
         alloc: Global,
         flash: &mut F,
         config: &TableConfig,
+        log: Option<RingPlace>,
     ) -> Result<TableRules, CheckFault> {
-        match self.check_table(alloc, flash, config)? {
+        match self.check_table(alloc, flash, config, log)? {
             Finding::Sound { rows, pages, voids } => Ok(TableRules::Kept { rows, pages, voids }),
             Finding::Fault { .. } => Ok(TableRules::Broken(TableFaults {
                 index: CLEAR,
@@ -81,6 +83,14 @@ impl CheckTable for Says {
                     rest: Some(14),
                 },
                 var: CLEAR,
+                log: RingFaults {
+                    head: None,
+                    state: None,
+                    number: None,
+                    body: None,
+                    keys: Some(40),
+                    rest: None,
+                },
                 entry: None,
                 blob: None,
             })),
@@ -137,7 +147,8 @@ fn all_rules_are_told(rt: HostRuntime) -> Result<(), Fail> {
     };
     let status = check_all(rt.alloc(), &mut checker, &mut media, &mut out);
     assert_eq!(rt; status, ToolStatus::Unsound);
-    let text = "fault t data 13 4 body\nfault t data 14 8 rest\nsound s rows 5 pages 2 voids 1\n";
+    let text =
+        "fault t data 13 4 body\nfault t data 14 8 rest\nfault t log 40 5 keys\nsound s rows 5 pages 2 voids 1\n";
     assert_eq!(rt; out.bytes(), text.as_bytes());
     Ok(())
 }

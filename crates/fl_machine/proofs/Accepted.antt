@@ -1,7 +1,8 @@
 -- A configuration that is accepted has room: blocks of two pages at least, and three blocks of rows. And it is a small one.
-use Rattle.std.proofs.Common.{◌≡◌, ℕ, zero, suc, ◌+◌, ◌≤◌, Bool, true, false, cond, ◌||◌, nat_lt, Option, Some, None, IfSome, Result, Ok, Err, List, [], ◌∷◌, ◌++◌, refl, sym, ◌∙◌, ap, subst, ◌*◌, sum_by, arith}
+use Rattle.std.proofs.Common.{◌≡◌, ℕ, zero, suc, ◌+◌, ◌≤◌, Bool, true, false, IsTrue, cond, not, ◌&&◌, ◌||◌, nat_lt, ◌==◌, Option, Some, None, IfSome, is_some, unwrap_or, Result, Ok, Err, List, [], ◌∷◌, ◌++◌, refl, sym, ◌∙◌, ap, subst, ◌*◌, sum_by, arith}
 use Rattle.std.specs.List.{AllByRecursion, slice_get}
 use Rattle.std.proofs.lemmas.Bool.{ltb-false}
+use Rattle.std.proofs.lemmas.Bool.Decides.{nat_tests}
 use Rattle.std.proofs.lemmas.List.Sums.{sum_by-append}
 use Rattle.std.proofs.Math.Nat.{add-mul}
 use Rattle.fl_base.specs.declared.types.Geometry.{Geometry}
@@ -9,7 +10,7 @@ use Rattle.fl_model.specs.Record.{Plan, Config, blocks_of}
 use Rattle.fl_words.specs.Command as command
 use Rattle.fl_words.specs.Command.{Command, TableLine}
 use Rattle.fl_words.specs.Grammar.{LineFault, command_of}
-use Rattle.fl_words.specs.Config.{Lines, no_lines, ConfigFault, configured, with_device, with_table_line, unless, first_fault, device_faults, table_faults, plan_of, whole, whole_of, too_large, BlockSize, DataBlocks, ErrorBound, DeviceTooLarge}
+use Rattle.fl_words.specs.Config.{Lines, no_lines, ConfigFault, configured, with_device, with_table_line, unless, first_fault, device_faults, table_faults, plan_of, whole, whole_of, too_large, bad_log, BlockSize, DataBlocks, ErrorBound, DeviceTooLarge, LogBlocks, LogVar}
 use Rattle.fl_machine.specs.Found.{HasRoom}
 use Rattle.fl_machine.specs.Small.{IsSmallPlan, IsSmall}
 use Rattle.fl_machine.specs.Script.{Start, Ready, Unended, BadLine, BadConfig, start_with, start_config, start_line, start_from, start_of, ended}
@@ -92,6 +93,22 @@ table-small lines line geometry h small =
       }),
     )
 
+-- a log has at least three blocks
+log_room : (blocks : Option ℕ) → bad_log blocks ≡ false → IsTrue (nat_lt 0 (unwrap_or blocks 0)) → 3 ≤ unwrap_or blocks 0
+log_room None e h = absurd (not_both h)
+  where
+    not_both : false ≡ true → ⊥
+    not_both e = cc
+log_room (Some n) e h = ltb-false n 3 (or_left (nat_lt n 3) (nat_lt 16384 n) e)
+
+-- .. and there is no variable data beside it
+log_alone : (blocks : Option ℕ) (var : ℕ) → (is_some blocks && not (var == 0)) ≡ false → IsTrue (nat_lt 0 (unwrap_or blocks 0)) → nat_lt 0 var ≡ false
+log_alone None var e h = absurd (not_both h)
+  where
+    not_both : false ≡ true → ⊥
+    not_both e = cc
+log_alone (Some n) var e h = let none : var ≡ 0 = grind (arith, nat_tests, e) in rw none refl
+
 table-room : (lines now : Lines) (line : TableLine) (geometry : Option Geometry) → LinesHaveRoom lines → lines.device ≡ geometry → with_table_line lines line geometry ≡ Ok now → LinesHaveRoom now
 table-room lines now line None room e h = cc
 table-room lines now line (Some geometry) room e h =
@@ -99,11 +116,8 @@ table-room lines now line (Some geometry) room e h =
     let test : Bool × ConfigFault = (nat_lt line.data_blocks 3 || nat_lt 16384 line.data_blocks, DataBlocks) in
     let blocks : 3 ≤ line.data_blocks = ltb-false line.data_blocks 3 (or_left (nat_lt line.data_blocks 3) (nat_lt 16384 line.data_blocks) (test_passes (table_faults geometry lines.plans line) 5 test ok.0 refl)) in
     let pages : 2 ≤ geometry.block = subst (λ (o : Option Geometry). IfSome o (λ g. 2 ≤ g.block)) e room.device in
-    let room_now = all-append HasRoom lines.plans (plan_of geometry line) room.plans (record { blocks = blocks; pages = pages; log_blocks = λ h. absurd (no_log h); no_var = λ h. absurd (no_log h) }) in
+    let room_now = all-append HasRoom lines.plans (plan_of geometry line) room.plans (record { blocks = blocks; pages = pages; log_blocks = log_room line.log_blocks (test_passes (table_faults geometry lines.plans line) 15 (bad_log line.log_blocks, LogBlocks) ok.0 refl); no_var = log_alone line.log_blocks line.var_blocks (test_passes (table_faults geometry lines.plans line) 16 (is_some line.log_blocks && not (line.var_blocks == 0), LogVar) ok.0 refl) }) in
     subst LinesHaveRoom ok.1 (record { device = room.device; plans = room_now; small = subst (λ o. AreSmall o (lines.plans ++ plan_of geometry line ∷ [])) (sym e) (table-small lines line geometry ok.0 (subst (λ o. AreSmall o lines.plans) e room.small).1) })
-  where
-    no_log : false ≡ true → ⊥
-    no_log h = cc
 
 -- what a line leaves of it, if it isn't refused
 pub configured-room : (lines now : Lines) (c : Command) → LinesHaveRoom lines → configured lines c ≡ Ok now → LinesHaveRoom now

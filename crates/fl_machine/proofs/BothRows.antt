@@ -1,6 +1,7 @@
 -- Worked scripts over a table with full index entries and a log, computed on the plain machine; its line, its header and its refusals.
-use Rattle.std.proofs.Common.{◌≡◌, ℕ, zero, suc, true, false, pos, Some, None, List, [], ◌∷◌, ◌++◌, length, drop, map, replicate, refl, codes}
+use Rattle.std.proofs.Common.{◌≡◌, ℕ, zero, suc, true, false, ◌==◌, pos, Some, None, Result, Ok, Err, List, [], ◌∷◌, ◌++◌, length, drop, map, replicate, refl, codes, if◌then◌else◌}
 use Rattle.std.specs.List.{flat_map}
+use Rattle.std.specs.Fmt.{digits}
 use Rattle.fl_base.specs.declared.types.CutKind.TheVariants.{Half}
 use Rattle.fl_model.specs.Record.{Plan, Config}
 use Rattle.fl_model.specs.Table.{Table, firsts, fresh_table, owed}
@@ -8,7 +9,10 @@ use Rattle.fl_model.specs.Index.{index_entry}
 use Rattle.fl_model.specs.Limits.{numbers_of}
 use Rattle.fl_model.specs.MountLimit.{mount_limit}
 use Rattle.fl_words.specs.Command as command
-use Rattle.fl_words.specs.Command.{Command}
+use Rattle.fl_words.specs.Command.{Command, TableLine}
+use Rattle.fl_words.specs.Grammar.{command_of, Form, Number}
+use Rattle.fl_words.specs.Config.{Lines, configured, ConfigFault, Format, LogBlocks, LogVar, DeviceTooLarge}
+use Rattle.fl_words.specs.Medium.{table_text}
 use Rattle.fl_words.specs.Reply as reply
 use Rattle.fl_words.specs.Reply.{Reply}
 use Rattle.fl_machine.specs.Machine.{Machine, begins}
@@ -112,3 +116,49 @@ late = begins (record (fresh_table both) {
 index_spent : flat_map (λ m. m.replies) (plain_run config late (command.Mount ∷ scan ∷ put 2 ∷ []))
     ≡ reply.Done ∷ row 0 ∷ reply.EndCount 1 ∷ reply.RefusedSpent ∷ []
 index_spent = refl
+
+-- the line and its header
+line : command_of (codes "table t 8 i32 6 3 0 8 0 10 1 0 index2 rlc 3")
+    ≡ Ok (command.Table (record { name = codes "t"; key = 8; columns = codes "i32"; data_blocks = 6; index_blocks = 3; var_blocks = 0; bits = 8; base = pos 0; width = 10; error = 1; blob_limit = 0; full_index = true; log_blocks = Some 3 }))
+line = refl
+
+text : table_text both ≡ codes "table t 8 i32 6 3 0 8 0 10 1 0 index2 rlc 3\n"
+unfolding digits
+text = refl
+
+other_order : command_of (codes "table t 8 i32 6 3 0 8 0 10 1 0 rlc 3 index2") ≡ Err Form
+other_order = refl
+
+one_more : command_of (codes "table t 8 i32 6 3 0 8 0 10 1 0 index2 rlc 3 3") ≡ Err Form
+one_more = refl
+
+half_line : command_of (codes "table t 8 i32 6 3 0 8 0 10 1 0 index2 rlc") ≡ Err Form
+half_line = refl
+
+no_number : command_of (codes "table t 8 i32 6 3 0 8 0 10 1 0 index2 rlc x") ≡ Err Number
+no_number = refl
+
+-- the refusals of both words come last: the size of the device, an index, the blocks of the log, no variable data
+abbrev table_line : ℕ → ℕ → ℕ → TableLine
+table_line index var log = record { name = codes "t"; key = 8; columns = codes "i32"; data_blocks = 6; index_blocks = index; var_blocks = var; bits = 8; base = pos 0; width = 10; error = 1; blob_limit = if var == 0 then 0 else 100; full_index = true; log_blocks = Some log }
+
+abbrev refused : ℕ → ℕ → ℕ → Result Lines ConfigFault
+refused index var log = configured (record { device = Some (record { page = 128; block = 2 }); plans = [] }) (command.Table (table_line index var log))
+
+too_large : refused 0 3 18446744073709551615 ≡ Err DeviceTooLarge
+too_large = refl
+
+no_index : refused 0 3 2 ≡ Err Format
+no_index = refl
+
+short_log : refused 3 3 2 ≡ Err LogBlocks
+short_log = refl
+
+long_log : refused 3 3 16385 ≡ Err LogBlocks
+long_log = refl
+
+with_blobs : refused 3 3 3 ≡ Err LogVar
+with_blobs = refl
+
+accepted : refused 3 0 3 ≡ Ok (record { device = Some (record { page = 128; block = 2 }); plans = both ∷ [] })
+accepted = refl

@@ -2,8 +2,8 @@
 use Rattle.std.proofs.Common.{◌≡◌, ℕ, zero, suc, ◌+◌, ◌-◌, ◌<◌, ◌≤◌, Bool, true, false, cond, ◌&&◌, ◌||◌, ◌==◌, nat_lt, Option, Some, None, List, [], ◌∷◌, ◌++◌, length, take, drop, refl, sym, ◌∙◌, ap, subst, arith, ◌⊎◌, inl, inr, length-append, length-drop, IsTrue, eq-eqb}
 use Rattle.std.specs.List.{list_any, sum}
 use Rattle.std.specs.Option.{option_map}
-use Rattle.std.proofs.lemmas.List.{drop-take, drop-append-le, append-nil, take-append-le}
-use Rattle.std.proofs.lemmas.List.Sums.{sum_by_push, sum_by-take-drop}
+use Rattle.std.proofs.lemmas.List.{drop-append-le, append-nil, take-append-le}
+use Rattle.std.proofs.lemmas.List.Sums.{sum_by_push}
 use Rattle.std.proofs.lemmas.Bool.{cases_lt, eqb-true}
 use Rattle.fl_model.specs.Record.{Plan, has_index, has_log, entries_per_page}
 use Rattle.fl_model.specs.Ring.{Shape, Ring, sealed, erased}
@@ -15,7 +15,7 @@ use Rattle.fl_model.proofs.Among.{seals-all_done}
 use Rattle.fl_machine.specs.Found.{HasRoom, LoggedPast}
 use Rattle.fl_machine.proofs.Trimmed.{trimmed-sealed, Renumbers, renumbers-renumbered, sum_void}
 use Rattle.fl_machine.proofs.Effects.{shape_ok}
-use Rattle.fl_machine.proofs.Logs.{Core, core, log_in, owed_of, IsFine, lost, RestsAs, IsOwedFound, IsMarked, IsVoided, IsWhole, sealed-at, trimmed-seals, IsThere, front-all, owed-lost, fine-lost, found-same, numbers-fine, torn-whole, voided-rests, KeepsLogged, log-voided-rests, replayed, replayed-owed, replayed-fine, replayed-rests, replayed-marked}
+use Rattle.fl_machine.proofs.Logs.{Core, core, log_in, sum_take_more, owed_of, IsFine, lost, RestsAs, IsOwedFound, IsMarked, IsVoided, IsWhole, sealed-at, trimmed-seals, IsThere, front-all, owed-lost, fine-lost, found-same, numbers-fine, torn-whole, voided-rests, KeepsLogged, log-voided-rests, replayed, replayed-owed, replayed-fine, replayed-rests, replayed-marked}
 use Rattle.fl_machine.proofs.LogTables.{trimmed_in, Goes, goes-seals, index-goes, var-goes, data-goes, marked-by, log_shape_ok, seals_by}
 
 -- the past of a table that a mount has brought this far
@@ -84,23 +84,6 @@ sum_zero_end n xs = by_order (cases_lt n (length xs + 1))
         take-all (suc n) [] h = refl
         take-all zero (y ∷ ys) h = absurd (omega (arith, h))
         take-all (suc n) (y ∷ ys) h = ap (λ zs. y ∷ zs) (take-all n ys (omega (arith, h)))
-
-sum_take_more : (m n : ℕ) (xs : List ℕ) → sum (take (m + n) xs) ≡ sum (take m xs) + sum (take n (drop m xs))
-sum_take_more m n xs =
-    sym (sum_by-take-drop (λ (k : ℕ). k) (take (m + n) xs) m)
-    ∙ (ap (λ (ys : List ℕ). sum ys + sum (drop m (take (m + n) xs))) (take-take m n xs) ∙ ap (λ (ys : List ℕ). sum (take m xs) + sum ys) (drop-take m n xs))
-  where
-    take-le : (m k : ℕ) (xs : List ℕ) → m ≤ k → take m (take k xs) ≡ take m xs
-    take-le zero zero [] h = refl
-    take-le zero (suc k) [] h = refl
-    take-le zero zero (x ∷ xs) h = refl
-    take-le zero (suc k) (x ∷ xs) h = refl
-    take-le (suc m) zero xs h = absurd (omega (arith, h))
-    take-le (suc m) (suc k) [] h = refl
-    take-le (suc m) (suc k) (x ∷ xs) h = ap (λ ys. x ∷ ys) (take-le m k xs (omega (arith, h)))
-
-    take-take : (m n : ℕ) (xs : List ℕ) → take m (take (m + n) xs) ≡ take m xs
-    take-take m n xs = take-le m (m + n) xs (omega arith)
 
 pub steady-voided : (a b : Core) → length a.counts ≤ a.next → CountsGo 0 a b → length b.counts ≤ b.next → Steady a b
 steady-voided a b n h nb count d go =

@@ -1,8 +1,8 @@
 -- A table with a log, operation by operation: what stands wherever one of them fails.
-use Rattle.std.proofs.Common.{◌≡◌, ℕ, zero, suc, ◌+◌, ◌-◌, ◌/◌, ◌<◌, ◌≤◌, Bool, true, false, cond, not, ◌&&◌, ◌||◌, ◌==◌, nat_lt, nat_le, Option, Some, None, List, [], ◌∷◌, ◌++◌, length, take, drop, replicate, refl, sym, ◌∙◌, ap, subst, arith, ◌⊎◌, inl, inr, IsTrue, eq-eqb, zero-add}
+use Rattle.std.proofs.Common.{◌≡◌, ℕ, zero, suc, ◌+◌, ◌-◌, ◌/◌, ◌<◌, ◌≤◌, Bool, true, false, cond, not, ◌&&◌, ◌||◌, ◌==◌, nat_lt, nat_le, Option, Some, None, List, [], ◌∷◌, ◌++◌, length, length-take, take, drop, replicate, refl, sym, ◌∙◌, ap, subst, arith, ◌⊎◌, inl, inr, IsTrue, eq-eqb, zero-add}
 use Rattle.std.specs.List.{AllByRecursion, last_or, list_any, sum}
 use Rattle.std.specs.Option.{option_map, unwrap_or}
-use Rattle.std.proofs.lemmas.List.{drop-append-le, take-append-drop}
+use Rattle.std.proofs.lemmas.List.{append-nil, drop-append-le}
 use Rattle.std.proofs.lemmas.Bool.{leb-false}
 use Rattle.fl_model.specs.Record.{Record, Plan, has_index, has_log, rows_per_page, entries_per_page, content_per_page}
 use Rattle.fl_model.specs.Ring.{IsShape, Ring, sealed, begun, erased}
@@ -11,9 +11,10 @@ use Rattle.fl_model.specs.Work.{Kind, Body, Mark, Erase}
 use Rattle.fl_model.specs.Within.{seal_within, seals_within, effect_within, all_done}
 use Rattle.fl_model.proofs.Among.{after_seals-append, seal-all_done, seals-all_done}
 use Rattle.fl_machine.specs.Found.{HasRoom}
-use Rattle.fl_machine.proofs.Trimmed.{trimmed-sealed}
+use Rattle.fl_machine.proofs.Trimmed.{take_none, trimmed-sealed}
 use Rattle.fl_machine.proofs.Effects.{shape_ok}
-use Rattle.fl_machine.proofs.Logs.{Core, core, log_in, rest_of, owed_of, IsFine, EndsWhole, IsIdle, IsReady, IsJoining, Phase, Idle, Ready, Joining, past_in, lost, RestsAs, IsMarked, sealed-at, trimmed-seals, IsThere, rests-here, joining-some, marked-rests, marked-fine, marked-owed, ready-owed, last-append, begun-fine, begun-joining, logged-ready, logged-fine, logged-rests, joins, joins-fine, joins-ready, joins-idle, any-end}
+use Rattle.fl_machine.proofs.Adding.{IsGreatest, IsLasting, Rows, marked_rows, rows_in, rows_with, sure_in, sure-idle, sure-ready, sure-joining}
+use Rattle.fl_machine.proofs.Logs.{Core, core, log_in, rest_of, owed_of, IsFine, front_of, EndsWhole, IsIdle, IsReady, IsJoining, Phase, Idle, Ready, Joining, past_in, lost, RestsAs, IsMarked, sealed-at, trimmed-seals, IsThere, rests-here, joining-some, marked-rests, marked-fine, marked-owed, marked-few, ready-owed, last-drop, begun-fine, begun-joining, logged-ready, logged-fine, logged-rests, joins, joins-fine, joins-ready, joins-idle, any-end}
 
 -- what was trimmed between two states
 abbrev pub trimmed_in : Core → Core → ℕ
@@ -105,21 +106,14 @@ marked-by plan t room n =
       trims,
     )
 
--- a session that stops: the table rests with the past that began just before
-abbrev pub Stops : Core → Core → Type 0
-Stops c d = RestsAs (past_in c (0 + trimmed_in c d)) (lost d)
+-- a session that stops: the table rests with the past that began just before, and so much is known of its sure records
+abbrev pub Stops : (Rows → Type 0) → Core → Core → Type 0
+Stops Q c d = RestsAs (past_in c (0 + trimmed_in c d)) (lost d) × Q (rows_in c)
 
 pub trimmed-none : (c d : Core) → d.counts ≡ c.counts → d.next ≡ c.next → 0 + trimmed_in c d ≡ 0
 trimmed-none c d e n =
     let z : (d.next - length d.counts) - (c.next - length c.counts) ≡ 0 = rw (e, n) (omega arith) in
-    ap (λ k. 0 + sum (take k c.counts)) z ∙ none c.counts
-  where
-    none : (xs : List ℕ) → 0 + sum (take 0 xs) ≡ 0
-    none [] = refl
-    none (x ∷ xs) = refl
-
-pub stops-here : (c : Core) → IsFine c → Phase c → Stops c c
-stops-here c fine phase = rests-here c (0 + trimmed_in c c) (trimmed-none c c refl refl) fine phase
+    ap (λ k. 0 + sum (take k c.counts)) z ∙ ap (λ (cs : List ℕ). 0 + sum cs) (take_none c.counts)
 
 -- the body of the data page: the log has all that is pending, so it may be torn
 torn-fine : (c : Core) → IsFine c → IsReady c → IsFine (record c { torn = true })
@@ -127,6 +121,7 @@ torn-fine c fine h = record {
   counted = fine.counted;
   numbered = fine.numbered;
   has_log = fine.has_log;
+  greatest = fine.greatest;
   ascending = fine.ascending;
   whole = inl (ready-owed c h ∙ sym h.same);
   safe = fine.safe;
@@ -135,136 +130,73 @@ torn-fine c fine h = record {
 torn-ready : (c : Core) → IsReady c → IsReady (record c { torn = true })
 torn-ready c h = record { some = h.some; same = h.same; above = h.above }
 
-pub ready-data-goes : (plan : Plan) (t : Table) → HasRoom plan → IsFine (core t) → IsReady (core t) → Goes plan Stops (seal_within plan DataRing t) t
-ready-data-goes plan t room fine h =
-    let b : Core = record (core t) { torn = true } in
-    let marked = marked-by plan t room fine.numbered in
-    let bm : IsMarked b (core (seal_buffer plan DataRing t)) = record {
-      gone = marked.0.gone;
-      few = marked.0.few;
-      counts = marked.0.counts;
-      next = marked.0.next;
-      torn = marked.0.torn;
-      entries = marked.0.entries;
-      pending = marked.0.pending;
-      logged = marked.0.logged;
-      log = marked.0.log;
-    } in
-    let idle : Phase (core (seal_buffer plan DataRing t)) = Idle (record { none = marked.0.pending; calm = marked.0.torn }) in
-    data-goes plan Stops t (stops-here (core t) fine (Ready h))
-    (rests-here b (0 + trimmed_in (core t) b) (trimmed-none (core t) b refl refl) (torn-fine (core t) fine h) (Ready (torn-ready (core t) h)))
-    (stops-here b (torn-fine (core t) fine h) (Ready (torn-ready (core t) h)))
-    (marked-rests b (core (seal_buffer plan DataRing t)) (0 + trimmed_in b (core (seal_buffer plan DataRing t))) (torn-fine (core t) fine h) (torn-ready (core t) h) bm (zero-add (trimmed_in (core t) (core (seal_buffer plan DataRing t))) ∙ marked.1))
-    (stops-here (core (seal_buffer plan DataRing t)) (marked-fine (core t) (core (seal_buffer plan DataRing t)) fine h marked.0) idle)
-
 -- sealing the table
 abbrev pub seals_by : Bool → Bool → Bool → List RingName
 seals_by z a b = cond z [] ((cond a (IndexRing ∷ []) []) ++ (cond b (VarRing ∷ []) []) ++ DataRing ∷ [])
 
-nothing-goes : (plan : Plan) (Stop : Core → Core → Type 0) (t : Table) → Goes plan Stop (seals_within plan [] t) t
-nothing-goes plan Stop t = tt
-
-pub seals-go : (plan : Plan) (t : Table) (z a b : Bool) → HasRoom plan → IsFine (core t) → (z ≡ false → IsReady (core t)) → Goes plan Stops (seals_within plan (seals_by z a b) t) t
-seals-go plan t true a b room fine h = tt
-seals-go plan t false true true room fine h =
-    let here = stops-here (core t) fine (Ready (h refl)) in
-    let i = after_seal plan IndexRing t in
-    let v = after_seal plan VarRing i in
-    goes-seals plan Stops IndexRing (VarRing ∷ DataRing ∷ []) t (index-goes plan Stops t here)
-    (goes-seals plan Stops VarRing (DataRing ∷ []) i (var-goes plan Stops i here)
-    (goes-seals plan Stops DataRing [] v (ready-data-goes plan v room fine (h refl)) tt))
-seals-go plan t false true false room fine h =
-    let here = stops-here (core t) fine (Ready (h refl)) in
-    let i = after_seal plan IndexRing t in
-    goes-seals plan Stops IndexRing (DataRing ∷ []) t (index-goes plan Stops t here)
-    (goes-seals plan Stops DataRing [] i (ready-data-goes plan i room fine (h refl)) tt)
-seals-go plan t false false true room fine h =
-    let here = stops-here (core t) fine (Ready (h refl)) in
-    let v = after_seal plan VarRing t in
-    goes-seals plan Stops VarRing (DataRing ∷ []) t (var-goes plan Stops t here)
-    (goes-seals plan Stops DataRing [] v (ready-data-goes plan v room fine (h refl)) tt)
-seals-go plan t false false false room fine h = goes-seals plan Stops DataRing [] t (ready-data-goes plan t room fine (h refl)) tt
-
 -- a table with nothing pending whose log owes nothing
-pub record IsPaid (c : Core) : Type 0 where
+pub record IsPaid (Q : Rows → Type 0) (c : Core) : Type 0 where
   pub fine : IsFine c
   pub idle : IsIdle c
   pub paid : owed_of c ≡ []
-
-marked-paid : (plan : Plan) (t : Table) → HasRoom plan → IsFine (core t) → IsReady (core t) → IsPaid (core (seal_buffer plan DataRing t))
-marked-paid plan t room fine h =
-    let marked = marked-by plan t room fine.numbered in
-    let m = core (seal_buffer plan DataRing t) in
-    record { fine = marked-fine (core t) m fine h marked.0; idle = record { none = marked.0.pending; calm = marked.0.torn }; paid = marked-owed (core t) m fine h marked.0 }
-
-pub sealed-paid : (plan : Plan) (t : Table) (a b : Bool) → HasRoom plan → IsFine (core t) → IsReady (core t) → IsPaid (core (after_seals plan (seals_by false a b) t))
-sealed-paid plan t true true room fine h = let u = after_seal plan VarRing (after_seal plan IndexRing t) in marked-paid plan u room fine h
-sealed-paid plan t true false room fine h = let u = after_seal plan IndexRing t in marked-paid plan u room fine h
-sealed-paid plan t false true room fine h = let u = after_seal plan VarRing t in marked-paid plan u room fine h
-sealed-paid plan t false false room fine h = marked-paid plan t room fine h
+  pub kept : Q (rows_in c)
 
 -- ---- between two commands of a session
 
-pub data Between (t : Table) : Type 0 where
-  Resting : (fine : IsFine (core t)) (idle : IsIdle (core t)) (paid : (owed_of (core t) ≡ []) ⊎ IsTrue (is_rows_spent t)) → Between t
-  Pending : (fine : IsFine (core t)) (ready : IsReady (core t)) (ends : EndsWhole (core t)) → Between t
+pub data Between (Q : Rows → Type 0) (t : Table) : Type 0 where
+  Resting : (fine : IsFine (core t)) (idle : IsIdle (core t)) (paid : (owed_of (core t) ≡ []) ⊎ IsTrue (is_rows_spent t)) (kept : Q (rows_in (core t))) → Between Q t
+  Pending : (fine : IsFine (core t)) (ready : IsReady (core t)) (ends : EndsWhole (core t)) (kept : Q (rows_in (core t))) → Between Q t
 
-pub between-fine : (t : Table) → Between t → IsFine (core t)
-between-fine t (Resting fine idle paid) = fine
-between-fine t (Pending fine ready ends) = fine
+pub between-fine : {Q : Rows → Type 0} (t : Table) → Between Q t → IsFine (core t)
+between-fine t (Resting fine idle paid kept) = fine
+between-fine t (Pending fine ready ends kept) = fine
 
-pub between-phase : (t : Table) → Between t → Phase (core t)
-between-phase t (Resting fine idle paid) = Idle idle
-between-phase t (Pending fine ready ends) = Ready ready
+pub between-phase : {Q : Rows → Type 0} (t : Table) → Between Q t → Phase (core t)
+between-phase t (Resting fine idle paid kept) = Idle idle
+between-phase t (Pending fine ready ends kept) = Ready ready
 
-paid-between : (t : Table) → IsPaid (core t) → Between t
-paid-between t h = Resting h.fine h.idle (inl h.paid)
+pub between-kept : {Q : Rows → Type 0} (t : Table) → Between Q t → Q (rows_in (core t))
+between-kept t (Resting fine idle paid kept) = kept
+between-kept t (Pending fine ready ends kept) = kept
 
-some-pending : (t : Table) → Between t → (t.pending == 0) ≡ false → IsReady (core t)
-some-pending t (Resting fine idle paid) e = absurd (not_both (sym (eq-eqb t.pending 0 idle.none) ∙ e))
+pub between-as : {Q R : Rows → Type 0} (t : Table) → Between Q t → R (rows_in (core t)) → Between R t
+between-as t (Resting fine idle paid kept) now = Resting fine idle paid now
+between-as t (Pending fine ready ends kept) now = Pending fine ready ends now
+
+paid-between : {Q : Rows → Type 0} (t : Table) → IsPaid Q (core t) → Between Q t
+paid-between t h = Resting h.fine h.idle (inl h.paid) h.kept
+
+some-pending : {Q : Rows → Type 0} (t : Table) → Between Q t → (t.pending == 0) ≡ false → IsReady (core t)
+some-pending t (Resting fine idle paid kept) e = absurd (not_both (sym (eq-eqb t.pending 0 idle.none) ∙ e))
   where
     not_both : true ≡ false → ⊥
     not_both e = cc
-some-pending t (Pending fine ready ends) e = ready
-
--- a flush
-pub flush-goes : (plan : Plan) (t : Table) → HasRoom plan → Between t → Goes plan Stops (seals_within plan (table_seals plan t) t) t
-flush-goes plan t room h =
-    seals-go plan t (t.pending == 0) (has_index plan && (length t.waiting == entries_per_page plan)) (nat_lt 0 (length t.buffered)) room (between-fine t h) (some-pending t h)
-
-seals-between : (plan : Plan) (t : Table) (z a b : Bool) → (t.pending == 0) ≡ z → HasRoom plan → Between t → Between (after_seals plan (seals_by z a b) t)
-seals-between plan t true a b e room h = h
-seals-between plan t false a b e room h = let u = after_seals plan (seals_by false a b) t in paid-between u (sealed-paid plan t a b room (between-fine t h) (some-pending t h e))
-
-pub flush-between : (plan : Plan) (t : Table) → HasRoom plan → Between t → Between (flushed plan t)
-flush-between plan t room h = seals-between plan t (t.pending == 0) (has_index plan && (length t.waiting == entries_per_page plan)) (nat_lt 0 (length t.buffered)) refl room h
-
--- ---- a put
+some-pending t (Pending fine ready ends kept) e = ready
 
 -- room for a record: the log owes nothing, or has just what is pending
-pub data Open (c : Core) : Type 0 where
-  Paid : (h : IsPaid c) → Open c
-  Filling : (fine : IsFine c) (ready : IsReady c) (ends : EndsWhole c) → Open c
+pub data Open (Q : Rows → Type 0) (c : Core) : Type 0 where
+  Paid : (h : IsPaid Q c) → Open Q c
+  Filling : (fine : IsFine c) (ready : IsReady c) (ends : EndsWhole c) (kept : Q (rows_in c)) → Open Q c
 
-open-fine : (c : Core) → Open c → IsFine c
+open-fine : {Q : Rows → Type 0} (c : Core) → Open Q c → IsFine c
 open-fine c (Paid h) = h.fine
-open-fine c (Filling fine ready ends) = fine
+open-fine c (Filling fine ready ends kept) = fine
 
-open-phase : (c : Core) → Open c → Phase c
-open-phase c (Paid h) = Idle h.idle
-open-phase c (Filling fine ready ends) = Ready ready
+open-kept : {Q : Rows → Type 0} (c : Core) → Open Q c → Q (rows_with c c.entries)
+open-kept {Q} c (Paid h) = subst (λ (es : List Entry). Q (rows_with c es)) (sure-idle c h.idle.none ∙ (ap (λ (os : List Entry). c.entries ++ os) h.paid ∙ append-nil c.entries)) h.kept
+open-kept {Q} c (Filling fine ready ends kept) = subst (λ (es : List Entry). Q (rows_with c es)) (sure-ready c fine ready) kept
 
-between-open : (t : Table) → is_rows_spent t ≡ false → Between t → Open (core t)
-between-open t e (Resting fine idle (inl paid)) = Paid (record { fine = fine; idle = idle; paid = paid })
-between-open t e (Resting fine idle (inr spent)) = absurd (not_both (sym e ∙ spent))
+between-open : {Q : Rows → Type 0} (t : Table) → is_rows_spent t ≡ false → Between Q t → Open Q (core t)
+between-open t e (Resting fine idle (inl paid) kept) = Paid (record { fine = fine; idle = idle; paid = paid; kept = kept })
+between-open t e (Resting fine idle (inr spent) kept) = absurd (not_both (sym e ∙ spent))
   where
     not_both : false ≡ true → ⊥
     not_both e = cc
-between-open t e (Pending fine ready ends) = Filling fine ready ends
+between-open t e (Pending fine ready ends kept) = Filling fine ready ends kept
 
-open-between : (t : Table) → Open (core t) → Between t
+open-between : {Q : Rows → Type 0} (t : Table) → Open Q (core t) → Between Q t
 open-between t (Paid h) = paid-between t h
-open-between t (Filling fine ready ends) = Pending fine ready ends
+open-between t (Filling fine ready ends kept) = Pending fine ready ends kept
 
 -- what a table that takes a record says of it
 none_of : {X : Type 0} (x : X) → None ≡ Some x → ⊥
@@ -302,38 +234,8 @@ takes plan t item h =
         let same : x ≡ w = cc in
         subst (λ (y : Entry). y.kept.key < item.key) same less
 
-last-drop : (n : ℕ) (xs : List Entry) (w : Entry) → last_or None (drop n xs) ≡ Some w → last_or None xs ≡ Some w
-last-drop n xs w e = by_rest (drop n xs) refl e
-  where
-    by_rest : (rest : List Entry) → drop n xs ≡ rest → last_or None rest ≡ Some w → last_or None xs ≡ Some w
-    by_rest [] q k = absurd (none_of w k)
-    by_rest (y ∷ ys) q k = ap (last_or None) (sym (take-append-drop n xs) ∙ ap (λ (es : List Entry). take n xs ++ es) q) ∙ (last-append None (take n xs) y ys ∙ k)
-
 greater-drop : (item : Record) (n : ℕ) (xs : List Entry) → IsGreater item xs → IsGreater item (drop n xs)
 greater-drop item n xs h w e = h w (last-drop n xs w e)
-
--- room is made
-record HasSpace (item : Record) (t : Table) : Type 0 where
-  opens : Open (core t)
-  greater : IsGreater item t.entries
-
-sealed-greater : (plan : Plan) (t : Table) (z a b : Bool) (item : Record) → IsGreater item t.entries → IsGreater item (after_seals plan (seals_by z a b) t).entries
-sealed-greater plan t true a b item h = h
-sealed-greater plan t false true true item h = greater-drop item _ t.entries h
-sealed-greater plan t false true false item h = greater-drop item _ t.entries h
-sealed-greater plan t false false true item h = greater-drop item _ t.entries h
-sealed-greater plan t false false false item h = greater-drop item _ t.entries h
-
-sealed-open : (plan : Plan) (t : Table) (z a b : Bool) → (t.pending == 0) ≡ z → HasRoom plan → Open (core t) → Open (core (after_seals plan (seals_by z a b) t))
-sealed-open plan t true a b e room h = h
-sealed-open plan t false a b e room h = Paid (sealed-paid plan t a b room (open-fine (core t) h) (some-pending t (open-between t h) e))
-
-room-space : (plan : Plan) (t : Table) (full : Bool) (item : Record) → HasRoom plan → Open (core t) → IsGreater item t.entries → HasSpace item (after_seals plan (cond full (table_seals plan t) []) t)
-room-space plan t true item room h greater = record {
-  opens = sealed-open plan t (t.pending == 0) (has_index plan && (length t.waiting == entries_per_page plan)) (nat_lt 0 (length t.buffered)) refl room h;
-  greater = sealed-greater plan t (t.pending == 0) (has_index plan && (length t.waiting == entries_per_page plan)) (nat_lt 0 (length t.buffered)) item greater;
-}
-room-space plan t false item room h greater = record { opens = h; greater = greater }
 
 -- the blob's pages leave what the log is about
 abbrev AllVar : List RingName → Type 0
@@ -344,41 +246,9 @@ vars-core plan [] t h = refl
 vars-core plan (ring ∷ rings) t h =
     vars-core plan rings (after_seal plan ring t) h.1 ∙ ap (λ (r : RingName). core (after_seal plan r t)) h.0
 
-vars-go : (plan : Plan) (rings : List RingName) (t : Table) → AllVar rings → Stops (core t) (core t) → Goes plan Stops (seals_within plan rings t) t
-vars-go plan [] t h stops = tt
-vars-go plan (ring ∷ rings) t h stops =
-    let one : Goes plan Stops (seal_within plan ring t) t = subst (λ (r : RingName). Goes plan Stops (seal_within plan r t) t) (sym h.0) (var-goes plan Stops t stops) in
-    let same : core (after_seal plan ring t) ≡ core t = ap (λ (r : RingName). core (after_seal plan r t)) h.0 in
-    goes-seals plan Stops ring rings t one (vars-go plan rings (after_seal plan ring t) h.1 (subst (λ (c : Core). Stops c c) (sym same) stops))
-
 replicate-var : (n : ℕ) → AllVar (replicate n VarRing)
 replicate-var zero = tt
 replicate-var (suc n) = (refl, replicate-var n)
-
--- seals of two lists
-seals-append : (plan : Plan) (xs ys : List RingName) (t : Table) → Goes plan Stops (seals_within plan xs t) t → Goes plan Stops (seals_within plan ys (after_seals plan xs t)) (after_seals plan xs t) →
-    Goes plan Stops (seals_within plan (xs ++ ys) t) t
-seals-append plan xs ys t h k =
-    subst (λ (ops : List (RingName × Kind)). Goes plan Stops ops t) (sym (within-append xs t))
-    (goes-append plan Stops (seals_within plan xs t) (seals_within plan ys (after_seals plan xs t)) t h
-    (subst (λ (u : Table). Goes plan Stops (seals_within plan ys (after_seals plan xs t)) u) (sym (seals-all_done plan xs t)) k))
-  where
-    assoc : {X : Type 0} (as' bs cs : List X) → (as' ++ bs) ++ cs ≡ as' ++ (bs ++ cs)
-    assoc [] bs cs = refl
-    assoc (a ∷ as') bs cs = ap (λ ws. a ∷ ws) (assoc as' bs cs)
-
-    within-append : (xs : List RingName) (t : Table) → seals_within plan (xs ++ ys) t ≡ seals_within plan xs t ++ seals_within plan ys (after_seals plan xs t)
-    within-append [] t = refl
-    within-append (x ∷ xs) t =
-        ap (λ (ops : List (RingName × Kind)). seal_within plan x t ++ ops) (within-append xs (after_seal plan x t))
-        ∙ sym (assoc (seal_within plan x t) (seals_within plan xs (after_seal plan x t)) (seals_within plan ys (after_seals plan xs (after_seal plan x t))))
-
-room-goes : (plan : Plan) (t : Table) (full : Bool) → HasRoom plan → Between t → Goes plan Stops (seals_within plan (cond full (table_seals plan t) []) t) t
-room-goes plan t true room h = flush-goes plan t room h
-room-goes plan t false room h = tt
-
-pub put-goes : (plan : Plan) (t : Table) (item : Record) → HasRoom plan → Between t → refusal_of plan t item ≡ None → Goes plan Stops (seals_within plan (make_room_seals plan t) t) t
-put-goes plan t item room h ok = room-goes plan t (t.pending == rows_per_page plan) room h
 
 -- the record joins
 abbrev new_entry : Plan → Table → Record → Entry
@@ -386,20 +256,12 @@ new_entry plan t item =
     let before = after_seals plan (make_room_seals plan t) t in
     record { kept = item; page = start_page plan (blob_len item) before; offset = start_offset plan (blob_len item) before }
 
-pub record IsJoined (c : Core) : Type 0 where
+pub record IsJoined (Q : Rows → Type 0) (c : Core) : Type 0 where
   pub fine : IsFine c
   pub joining : IsJoining c
-
-open-joins : (c : Core) (new : Entry) → Open c → ((w : Entry) → last_or None c.entries ≡ Some w → w.kept.key < new.kept.key) → IsJoined (joins new c)
-open-joins c new (Paid h) greater = record { fine = joins-fine new c h.fine; joining = joins-idle new c h.fine h.idle h.paid greater }
-open-joins c new (Filling fine ready ends) greater = record { fine = joins-fine new c fine; joining = joins-ready new c fine ready ends greater }
-
-pub put-joined : (plan : Plan) (t : Table) (item : Record) → HasRoom plan → Between t → refusal_of plan t item ≡ None → IsJoined (core (put_joined plan item t))
-put-joined plan t item room h ok =
-    let took = takes plan t item ok in
-    let before = after_seals plan (make_room_seals plan t) t in
-    let space : HasSpace item before = room-space plan t (t.pending == rows_per_page plan) item room (between-open t took.1 h) took.0 in
-    open-joins (core before) (new_entry plan t item) space.opens space.greater
+  pub kept : Q (rows_in c)
+  -- .. and of all its records, when the log has the new one
+  pub grown : Q (rows_with c c.entries)
 
 -- ---- the page of the log
 
@@ -431,50 +293,219 @@ log-sealed plan t r room logged some =
     by_any true e = refl
     by_any false e = cc
 
-log-page : (plan : Plan) (t : Table) (r : Ring) → HasRoom plan → IsTrue (has_log plan) → let u : Table = record t { log = Some r } in IsJoined (core u) →
-    Goes plan Stops (seal_within plan LogRing u) u × Between (after_seal plan LogRing u)
-log-page plan t r room logged joined =
-    let u : Table = record t { log = Some r } in
-    let c : Core = core u in
-    let b : Core = core (with_ring LogRing begun u) in
-    let m : Core = core (seal_buffer plan LogRing (with_ring LogRing begun u)) in
-    let some = joining-some c joined.fine joined.joining in
-    let s = log-sealed plan t r room logged some in
-    let fine_b : IsFine b = begun-fine c (Some (r.counts, true)) refl joined.fine joined.joining in
-    let joining_b : IsJoining b = begun-joining c (Some (r.counts, true)) refl joined.joining in
-    let fine_m : IsFine m = logged-fine b m.logged m.log s.others s.same s.is fine_b joining_b in
-    let ready_m : IsReady m = logged-ready b m.logged m.log s.others s.same s.is fine_b joining_b in
-    let ends_m : EndsWhole m = (s.others, t.pending, some, s.is) in
-    let same : core (after_seal plan LogRing u) ≡ m = core-erased (seal_buffer plan LogRing u) in (
-      log-goes plan Stops u (stops-here c joined.fine (Joining joined.joining)) (rests-here b (0 + trimmed_in c b) (trimmed-none c b refl refl) fine_b (Joining joining_b))
-          (stops-here b fine_b (Joining joining_b))
-          (logged-rests b m.logged m.log s.others (0 + trimmed_in b m) (trimmed-none b m refl refl) s.same s.is fine_b joining_b)
-          (stops-here m fine_m (Ready ready_m)),
-      Pending (subst IsFine (sym same) fine_m) (subst IsReady (sym same) ready_m) (subst EndsWhole (sym same) ends_m),
-    )
+-- ---- what is known of the sure records stays known
 
-pub log-goes-on : (plan : Plan) (t : Table) → HasRoom plan → IsTrue (has_log plan) → IsJoined (core t) → Goes plan Stops (seals_within plan (log_seals plan) t) t × Between (after_seals plan (log_seals plan) t)
-log-goes-on plan t room logged joined = by_log t.log refl
-  where
-    whole : (rings : List RingName) → rings ≡ LogRing ∷ [] → Goes plan Stops (seal_within plan LogRing t) t × Between (after_seal plan LogRing t) → Goes plan Stops (seals_within plan rings t) t × Between (after_seals plan rings t)
-    whole rings e h = subst (λ (rs : List RingName). Goes plan Stops (seals_within plan rs t) t × Between (after_seals plan rs t)) (sym e) (goes-seals plan Stops LogRing [] t h.0 tt, h.1)
+module _ (Q : Rows → Type 0) (lasting : IsLasting Q) where
+  pub stops-here : (c : Core) → IsFine c → Phase c → Q (rows_in c) → Stops Q c c
+  stops-here c fine phase kept = (rests-here c (0 + trimmed_in c c) (trimmed-none c c refl refl) fine phase, kept)
 
-    by_log : (o : Option Ring) → t.log ≡ o → Goes plan Stops (seals_within plan (log_seals plan) t) t × Between (after_seals plan (log_seals plan) t)
-    by_log None e = absurd (subst (λ (o : Option Ring). IsThere (log_in o)) e joined.fine.has_log)
-    by_log (Some r) e =
-        whole (log_seals plan) (ap (λ (b : Bool). cond b (LogRing ∷ []) []) logged)
-        (subst (λ (o : Option Ring). let u : Table = record t { log = o } in Goes plan Stops (seal_within plan LogRing u) u × Between (after_seal plan LogRing u)) (sym e)
-        (log-page plan t r room logged (subst (λ (o : Option Ring). IsJoined (core (record t { log = o }))) e joined)))
+  marked-kept : (c d : Core) → IsFine c → IsReady c → IsMarked c d → Q (rows_in c) → Q (rows_in d)
+  marked-kept c d fine ready h kept =
+      let g = sum (take h.gone c.counts) in
+      let len : length (front_of c) ≡ length c.entries - c.pending = length-take (length c.entries - c.pending) c.entries ∙ (omega arith) in
+      let few : g < length c.entries = let most = marked-few c d fine h in let some = ready.some in let all = fine.counted in omega (arith, most, len, some, all) in
+      let left : sure_in d ≡ drop g c.entries = sure-idle d h.pending ∙ (ap (λ (os : List Entry). d.entries ++ os) (marked-owed c d fine ready h) ∙ (append-nil d.entries ∙ h.entries)) in
+      let same : rows_in d ≡ marked_rows h.gone c.pending (rows_with c c.entries) =
+      ap (λ (n : ℕ). record (rows_in d) { next = n }) h.next
+      ∙ (ap (λ (cs : List ℕ). record (rows_in d) { next = c.next + 1; counts = cs }) h.counts
+      ∙ ap (λ (es : List Entry). record { next = c.next + 1; counts = drop h.gone (c.counts ++ c.pending ∷ []); sure = es }) left) in
+      subst Q (sym same)
+      (lasting.less (rows_with c c.entries) h.gone c.pending h.few fine.numbered few (subst (λ (es : List Entry). Q (rows_with c es)) (sure-ready c fine ready) kept))
 
--- .. after those that the blob fills
-pub join-goes-on : (plan : Plan) (t : Table) → HasRoom plan → IsTrue (has_log plan) → IsJoined (core t) →
-    Goes plan Stops (seals_within plan (join_seals plan t) t) t × Between (after_seals plan (join_seals plan t) t)
-join-goes-on plan t room logged joined =
-    let fills = fill_seals plan t in
-    let vars : AllVar fills = replicate-var ((fill t - 1) / content_per_page plan) in
-    let full = after_seals plan fills t in
-    let same : core full ≡ core t = vars-core plan fills t vars in
-    let on = log-goes-on plan full room logged (subst IsJoined (sym same) joined) in (
-      seals-append plan fills (log_seals plan) t (vars-go plan fills t vars (stops-here (core t) joined.fine (Joining joined.joining))) on.0,
-      subst Between (sym (after_seals-append plan fills (log_seals plan) t)) on.1,
-    )
+  pub ready-data-goes : (plan : Plan) (t : Table) → HasRoom plan → IsFine (core t) → IsReady (core t) → Q (rows_in (core t)) → Goes plan (Stops Q) (seal_within plan DataRing t) t
+  ready-data-goes plan t room fine h kept =
+      let b : Core = record (core t) { torn = true } in
+      let marked = marked-by plan t room fine.numbered in
+      let bm : IsMarked b (core (seal_buffer plan DataRing t)) = record {
+        gone = marked.0.gone;
+        few = marked.0.few;
+        counts = marked.0.counts;
+        next = marked.0.next;
+        torn = marked.0.torn;
+        entries = marked.0.entries;
+        pending = marked.0.pending;
+        logged = marked.0.logged;
+        log = marked.0.log;
+      } in
+      let idle : Phase (core (seal_buffer plan DataRing t)) = Idle (record { none = marked.0.pending; calm = marked.0.torn }) in
+      data-goes plan (Stops Q) t (stops-here (core t) fine (Ready h) kept)
+      (rests-here b (0 + trimmed_in (core t) b) (trimmed-none (core t) b refl refl) (torn-fine (core t) fine h) (Ready (torn-ready (core t) h)), kept)
+      (stops-here b (torn-fine (core t) fine h) (Ready (torn-ready (core t) h)) kept)
+      (marked-rests b (core (seal_buffer plan DataRing t)) (0 + trimmed_in b (core (seal_buffer plan DataRing t))) (torn-fine (core t) fine h) (torn-ready (core t) h) bm (zero-add (trimmed_in (core t) (core (seal_buffer plan DataRing t))) ∙ marked.1), kept)
+      (stops-here (core (seal_buffer plan DataRing t)) (marked-fine (core t) (core (seal_buffer plan DataRing t)) fine h marked.0) idle (marked-kept (core t) (core (seal_buffer plan DataRing t)) fine h marked.0 kept))
+
+  nothing-goes : (plan : Plan) (Stop : Core → Core → Type 0) (t : Table) → Goes plan Stop (seals_within plan [] t) t
+  nothing-goes plan Stop t = tt
+
+  pub seals-go : (plan : Plan) (t : Table) (z a b : Bool) → HasRoom plan → IsFine (core t) → (z ≡ false → IsReady (core t)) → Q (rows_in (core t)) → Goes plan (Stops Q) (seals_within plan (seals_by z a b) t) t
+  seals-go plan t true a b room fine h kept = tt
+  seals-go plan t false true true room fine h kept =
+      let here = stops-here (core t) fine (Ready (h refl)) kept in
+      let i = after_seal plan IndexRing t in
+      let v = after_seal plan VarRing i in
+      goes-seals plan (Stops Q) IndexRing (VarRing ∷ DataRing ∷ []) t (index-goes plan (Stops Q) t here)
+      (goes-seals plan (Stops Q) VarRing (DataRing ∷ []) i (var-goes plan (Stops Q) i here)
+      (goes-seals plan (Stops Q) DataRing [] v (ready-data-goes plan v room fine (h refl) kept) tt))
+  seals-go plan t false true false room fine h kept =
+      let here = stops-here (core t) fine (Ready (h refl)) kept in
+      let i = after_seal plan IndexRing t in
+      goes-seals plan (Stops Q) IndexRing (DataRing ∷ []) t (index-goes plan (Stops Q) t here)
+      (goes-seals plan (Stops Q) DataRing [] i (ready-data-goes plan i room fine (h refl) kept) tt)
+  seals-go plan t false false true room fine h kept =
+      let here = stops-here (core t) fine (Ready (h refl)) kept in
+      let v = after_seal plan VarRing t in
+      goes-seals plan (Stops Q) VarRing (DataRing ∷ []) t (var-goes plan (Stops Q) t here)
+      (goes-seals plan (Stops Q) DataRing [] v (ready-data-goes plan v room fine (h refl) kept) tt)
+  seals-go plan t false false false room fine h kept = goes-seals plan (Stops Q) DataRing [] t (ready-data-goes plan t room fine (h refl) kept) tt
+
+  marked-paid : (plan : Plan) (t : Table) → HasRoom plan → IsFine (core t) → IsReady (core t) → Q (rows_in (core t)) → IsPaid Q (core (seal_buffer plan DataRing t))
+  marked-paid plan t room fine h kept =
+      let marked = marked-by plan t room fine.numbered in
+      let m = core (seal_buffer plan DataRing t) in
+      record { fine = marked-fine (core t) m fine h marked.0; idle = record { none = marked.0.pending; calm = marked.0.torn }; paid = marked-owed (core t) m fine h marked.0; kept = marked-kept (core t) m fine h marked.0 kept }
+
+  pub sealed-paid : (plan : Plan) (t : Table) (a b : Bool) → HasRoom plan → IsFine (core t) → IsReady (core t) → Q (rows_in (core t)) → IsPaid Q (core (after_seals plan (seals_by false a b) t))
+  sealed-paid plan t true true room fine h kept = let u = after_seal plan VarRing (after_seal plan IndexRing t) in marked-paid plan u room fine h kept
+  sealed-paid plan t true false room fine h kept = let u = after_seal plan IndexRing t in marked-paid plan u room fine h kept
+  sealed-paid plan t false true room fine h kept = let u = after_seal plan VarRing t in marked-paid plan u room fine h kept
+  sealed-paid plan t false false room fine h kept = marked-paid plan t room fine h kept
+
+  -- a flush
+  pub flush-goes : (plan : Plan) (t : Table) → HasRoom plan → Between Q t → Goes plan (Stops Q) (seals_within plan (table_seals plan t) t) t
+  flush-goes plan t room h =
+      seals-go plan t (t.pending == 0) (has_index plan && (length t.waiting == entries_per_page plan)) (nat_lt 0 (length t.buffered)) room (between-fine t h) (some-pending t h) (between-kept t h)
+
+  seals-between : (plan : Plan) (t : Table) (z a b : Bool) → (t.pending == 0) ≡ z → HasRoom plan → Between Q t → Between Q (after_seals plan (seals_by z a b) t)
+  seals-between plan t true a b e room h = h
+  seals-between plan t false a b e room h = let u = after_seals plan (seals_by false a b) t in paid-between u (sealed-paid plan t a b room (between-fine t h) (some-pending t h e) (between-kept t h))
+
+  pub flush-between : (plan : Plan) (t : Table) → HasRoom plan → Between Q t → Between Q (flushed plan t)
+  flush-between plan t room h = seals-between plan t (t.pending == 0) (has_index plan && (length t.waiting == entries_per_page plan)) (nat_lt 0 (length t.buffered)) refl room h
+
+  -- ---- a put
+
+  -- room is made
+  record HasSpace (item : Record) (t : Table) : Type 0 where
+    opens : Open Q (core t)
+    greater : IsGreater item t.entries
+
+  sealed-greater : (plan : Plan) (t : Table) (z a b : Bool) (item : Record) → IsGreater item t.entries → IsGreater item (after_seals plan (seals_by z a b) t).entries
+  sealed-greater plan t true a b item h = h
+  sealed-greater plan t false true true item h = greater-drop item _ t.entries h
+  sealed-greater plan t false true false item h = greater-drop item _ t.entries h
+  sealed-greater plan t false false true item h = greater-drop item _ t.entries h
+  sealed-greater plan t false false false item h = greater-drop item _ t.entries h
+
+  sealed-open : (plan : Plan) (t : Table) (z a b : Bool) → (t.pending == 0) ≡ z → HasRoom plan → Open Q (core t) → Open Q (core (after_seals plan (seals_by z a b) t))
+  sealed-open plan t true a b e room h = h
+  sealed-open plan t false a b e room h = let k = open-between t h in Paid (sealed-paid plan t a b room (open-fine (core t) h) (some-pending t k e) (between-kept t k))
+
+  room-space : (plan : Plan) (t : Table) (full : Bool) (item : Record) → HasRoom plan → Open Q (core t) → IsGreater item t.entries → HasSpace item (after_seals plan (cond full (table_seals plan t) []) t)
+  room-space plan t true item room h greater = record {
+    opens = sealed-open plan t (t.pending == 0) (has_index plan && (length t.waiting == entries_per_page plan)) (nat_lt 0 (length t.buffered)) refl room h;
+    greater = sealed-greater plan t (t.pending == 0) (has_index plan && (length t.waiting == entries_per_page plan)) (nat_lt 0 (length t.buffered)) item greater;
+  }
+  room-space plan t false item room h greater = record { opens = h; greater = greater }
+
+  vars-go : (plan : Plan) (rings : List RingName) (t : Table) → AllVar rings → Stops Q (core t) (core t) → Goes plan (Stops Q) (seals_within plan rings t) t
+  vars-go plan [] t h stops = tt
+  vars-go plan (ring ∷ rings) t h stops =
+      let one : Goes plan (Stops Q) (seal_within plan ring t) t = subst (λ (r : RingName). Goes plan (Stops Q) (seal_within plan r t) t) (sym h.0) (var-goes plan (Stops Q) t stops) in
+      let same : core (after_seal plan ring t) ≡ core t = ap (λ (r : RingName). core (after_seal plan r t)) h.0 in
+      goes-seals plan (Stops Q) ring rings t one (vars-go plan rings (after_seal plan ring t) h.1 (subst (λ (c : Core). Stops Q c c) (sym same) stops))
+
+  -- seals of two lists
+  seals-append : (plan : Plan) (xs ys : List RingName) (t : Table) → Goes plan (Stops Q) (seals_within plan xs t) t → Goes plan (Stops Q) (seals_within plan ys (after_seals plan xs t)) (after_seals plan xs t) →
+      Goes plan (Stops Q) (seals_within plan (xs ++ ys) t) t
+  seals-append plan xs ys t h k =
+      subst (λ (ops : List (RingName × Kind)). Goes plan (Stops Q) ops t) (sym (within-append xs t))
+      (goes-append plan (Stops Q) (seals_within plan xs t) (seals_within plan ys (after_seals plan xs t)) t h
+      (subst (λ (u : Table). Goes plan (Stops Q) (seals_within plan ys (after_seals plan xs t)) u) (sym (seals-all_done plan xs t)) k))
+    where
+      assoc : {X : Type 0} (as' bs cs : List X) → (as' ++ bs) ++ cs ≡ as' ++ (bs ++ cs)
+      assoc [] bs cs = refl
+      assoc (a ∷ as') bs cs = ap (λ ws. a ∷ ws) (assoc as' bs cs)
+
+      within-append : (xs : List RingName) (t : Table) → seals_within plan (xs ++ ys) t ≡ seals_within plan xs t ++ seals_within plan ys (after_seals plan xs t)
+      within-append [] t = refl
+      within-append (x ∷ xs) t =
+          ap (λ (ops : List (RingName × Kind)). seal_within plan x t ++ ops) (within-append xs (after_seal plan x t))
+          ∙ sym (assoc (seal_within plan x t) (seals_within plan xs (after_seal plan x t)) (seals_within plan ys (after_seals plan xs (after_seal plan x t))))
+
+  room-goes : (plan : Plan) (t : Table) (full : Bool) → HasRoom plan → Between Q t → Goes plan (Stops Q) (seals_within plan (cond full (table_seals plan t) []) t) t
+  room-goes plan t true room h = flush-goes plan t room h
+  room-goes plan t false room h = tt
+
+  pub put-goes : (plan : Plan) (t : Table) (item : Record) → HasRoom plan → Between Q t → refusal_of plan t item ≡ None → Goes plan (Stops Q) (seals_within plan (make_room_seals plan t) t) t
+  put-goes plan t item room h ok = room-goes plan t (t.pending == rows_per_page plan) room h
+
+  open-joins : (c : Core) (new : Entry) → Open Q c → IsGreatest new c.entries → IsJoined Q (joins new c)
+  open-joins c new h greatest = by_open h (open-kept c h)
+    where
+      joined : IsFine c → IsJoining (joins new c) → Q (rows_with c c.entries) → IsJoined Q (joins new c)
+      joined fine joining kept = record {
+        fine = joins-fine new c fine;
+        joining = joining;
+        kept = subst (λ (es : List Entry). Q (rows_with c es)) (sym (sure-joining (joins new c) c.entries new (joins-fine new c fine) joining refl)) kept;
+        grown = lasting.more (rows_with c c.entries) new greatest kept;
+      }
+
+      by_open : Open Q c → Q (rows_with c c.entries) → IsJoined Q (joins new c)
+      by_open (Paid h) kept = joined h.fine (joins-idle new c h.fine h.idle h.paid greatest) kept
+      by_open (Filling fine ready ends q) kept = joined fine (joins-ready new c fine ready ends greatest) kept
+
+  pub put-joined : (plan : Plan) (t : Table) (item : Record) → HasRoom plan → Between Q t → refusal_of plan t item ≡ None → IsJoined Q (core (put_joined plan item t))
+  put-joined plan t item room h ok =
+      let took = takes plan t item ok in
+      let before = after_seals plan (make_room_seals plan t) t in
+      let space : HasSpace item before = room-space plan t (t.pending == rows_per_page plan) item room (between-open t took.1 h) took.0 in
+      open-joins (core before) (new_entry plan t item) space.opens space.greater
+
+  log-page : (plan : Plan) (t : Table) (r : Ring) → HasRoom plan → IsTrue (has_log plan) → let u : Table = record t { log = Some r } in IsJoined Q (core u) →
+      Goes plan (Stops Q) (seal_within plan LogRing u) u × Between Q (after_seal plan LogRing u)
+  log-page plan t r room logged joined =
+      let u : Table = record t { log = Some r } in
+      let c : Core = core u in
+      let b : Core = core (with_ring LogRing begun u) in
+      let m : Core = core (seal_buffer plan LogRing (with_ring LogRing begun u)) in
+      let some = joining-some c joined.fine joined.joining in
+      let s = log-sealed plan t r room logged some in
+      let fine_b : IsFine b = begun-fine c (Some (r.counts, true)) refl joined.fine joined.joining in
+      let joining_b : IsJoining b = begun-joining c (Some (r.counts, true)) refl joined.joining in
+      let fine_m : IsFine m = logged-fine b m.logged m.log s.others s.same s.is fine_b joining_b in
+      let ready_m : IsReady m = logged-ready b m.logged m.log s.others s.same s.is fine_b joining_b in
+      let ends_m : EndsWhole m = (s.others, t.pending, some, s.is) in
+      let kept_m : Q (rows_in m) = subst (λ (es : List Entry). Q (rows_with m es)) (sym (sure-ready m fine_m ready_m)) joined.grown in
+      let same : core (after_seal plan LogRing u) ≡ m = core-erased (seal_buffer plan LogRing u) in (
+        log-goes plan (Stops Q) u (stops-here c joined.fine (Joining joined.joining) joined.kept) (rests-here b (0 + trimmed_in c b) (trimmed-none c b refl refl) fine_b (Joining joining_b), joined.kept)
+            (stops-here b fine_b (Joining joining_b) joined.kept)
+            (logged-rests b m.logged m.log s.others (0 + trimmed_in b m) (trimmed-none b m refl refl) s.same s.is fine_b joining_b, joined.kept)
+            (stops-here m fine_m (Ready ready_m) kept_m),
+        Pending (subst IsFine (sym same) fine_m) (subst IsReady (sym same) ready_m) (subst EndsWhole (sym same) ends_m) (subst (λ (d : Core). Q (rows_in d)) (sym same) kept_m),
+      )
+
+  pub log-goes-on : (plan : Plan) (t : Table) → HasRoom plan → IsTrue (has_log plan) → IsJoined Q (core t) → Goes plan (Stops Q) (seals_within plan (log_seals plan) t) t × Between Q (after_seals plan (log_seals plan) t)
+  log-goes-on plan t room logged joined = by_log t.log refl
+    where
+      whole : (rings : List RingName) → rings ≡ LogRing ∷ [] → Goes plan (Stops Q) (seal_within plan LogRing t) t × Between Q (after_seal plan LogRing t) → Goes plan (Stops Q) (seals_within plan rings t) t × Between Q (after_seals plan rings t)
+      whole rings e h = subst (λ (rs : List RingName). Goes plan (Stops Q) (seals_within plan rs t) t × Between Q (after_seals plan rs t)) (sym e) (goes-seals plan (Stops Q) LogRing [] t h.0 tt, h.1)
+
+      by_log : (o : Option Ring) → t.log ≡ o → Goes plan (Stops Q) (seals_within plan (log_seals plan) t) t × Between Q (after_seals plan (log_seals plan) t)
+      by_log None e = absurd (subst (λ (o : Option Ring). IsThere (log_in o)) e joined.fine.has_log)
+      by_log (Some r) e =
+          whole (log_seals plan) (ap (λ (b : Bool). cond b (LogRing ∷ []) []) logged)
+          (subst (λ (o : Option Ring). let u : Table = record t { log = o } in Goes plan (Stops Q) (seal_within plan LogRing u) u × Between Q (after_seal plan LogRing u)) (sym e)
+          (log-page plan t r room logged (subst (λ (o : Option Ring). IsJoined Q (core (record t { log = o }))) e joined)))
+
+  -- .. after those that the blob fills
+  pub join-goes-on : (plan : Plan) (t : Table) → HasRoom plan → IsTrue (has_log plan) → IsJoined Q (core t) →
+      Goes plan (Stops Q) (seals_within plan (join_seals plan t) t) t × Between Q (after_seals plan (join_seals plan t) t)
+  join-goes-on plan t room logged joined =
+      let fills = fill_seals plan t in
+      let vars : AllVar fills = replicate-var ((fill t - 1) / content_per_page plan) in
+      let full = after_seals plan fills t in
+      let same : core full ≡ core t = vars-core plan fills t vars in
+      let on = log-goes-on plan full room logged (subst (IsJoined Q) (sym same) joined) in (
+        seals-append plan fills (log_seals plan) t (vars-go plan fills t vars (stops-here (core t) joined.fine (Joining joined.joining) joined.kept)) on.0,
+        subst (Between Q) (sym (after_seals-append plan fills (log_seals plan) t)) on.1,
+      )

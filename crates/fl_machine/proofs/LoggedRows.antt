@@ -1,11 +1,13 @@
 -- Worked scripts over a table with a log, computed on the plain machine; its line and the refusals of its words.
-use Rattle.std.proofs.Common.{◌≡◌, false, pos, None, List, [], ◌∷◌, ◌++◌, drop, map, refl, inl, codes}
+use Rattle.std.proofs.Common.{◌≡◌, ℕ, false, ◌==◌, pos, Some, None, Ok, Err, List, [], ◌∷◌, ◌++◌, drop, map, refl, inl, codes, if◌then◌else◌}
 use Rattle.std.specs.List.{flat_map}
 use Rattle.fl_base.specs.declared.types.CutKind.TheVariants.{After, Half}
 use Rattle.fl_model.specs.Record.{Plan, Config}
 use Rattle.fl_model.specs.Table.{fresh_table, owed}
 use Rattle.fl_words.specs.Command as command
-use Rattle.fl_words.specs.Command.{Command}
+use Rattle.fl_words.specs.Command.{Command, TableLine}
+use Rattle.fl_words.specs.Grammar.{command_of, Form, Number}
+use Rattle.fl_words.specs.Config.{Lines, configured, LogBlocks, LogVar, DeviceTooLarge}
 use Rattle.fl_words.specs.Reply as reply
 use Rattle.fl_machine.specs.Found.{IsLoggedAtRest}
 use Rattle.fl_machine.specs.Machine.{Machine, begins}
@@ -48,9 +50,41 @@ comes_round : drop 24 (said config (command.Mount ∷ put 1 ∷ command.Flush (c
     ≡ rows 2 1 ++ reply.EndCount 1 ∷ reply.Stat 1 0 7 6 26 1 ∷ []
 comes_round = refl
 
+-- the words of a table line
+line : command_of (codes "table t 8 i32 3 0 0 0 0 1 1 0 rlc 3") ≡ Ok (command.Table (record { name = codes "t"; key = 8; columns = codes "i32"; data_blocks = 3; index_blocks = 0; var_blocks = 0; bits = 0; base = pos 0; width = 1; error = 1; blob_limit = 0; full_index = false; log_blocks = Some 3 }))
+line = refl
+
+half_line : command_of (codes "table t 8 i32 3 0 0 0 0 1 1 0 rlc") ≡ Err Form
+half_line = refl
+
+other_word : command_of (codes "table t 8 i32 3 0 0 0 0 1 1 0 log 3") ≡ Err Form
+other_word = refl
+
+no_number : command_of (codes "table t 8 i32 3 0 0 0 0 1 1 0 rlc x") ≡ Err Number
+no_number = refl
+
+-- the refusals of its blocks, after that of a device that is too large
+abbrev lines : Lines
+lines = record { device = Some (record { page = 128; block = 4 }); plans = [] }
+
+abbrev table_line : ℕ → ℕ → TableLine
+table_line var log = record { name = codes "t"; key = 8; columns = codes "i32"; data_blocks = 3; index_blocks = 0; var_blocks = var; bits = 0; base = pos 0; width = 1; error = 1; blob_limit = if var == 0 then 0 else 300; full_index = false; log_blocks = Some log }
+
+too_few : configured lines (command.Table (table_line 0 2)) ≡ Err LogBlocks
+too_few = refl
+
+none_at_all : configured lines (command.Table (table_line 0 0)) ≡ Err LogBlocks
+none_at_all = refl
+
+with_blobs : configured lines (command.Table (table_line 4 3)) ≡ Err LogVar
+with_blobs = refl
+
+too_large : configured lines (command.Table (table_line 0 16385)) ≡ Err DeviceTooLarge
+too_large = refl
+
 -- a new table is at rest, so that the law on mounts speaks of it
 new_rests : IsLoggedAtRest (fresh_table logged)
-new_rests = record { counted = refl; has_log = refl; logged = record { ascending = tt; whole = inl refl; safe = λ some. absurd (some refl) } }
+new_rests = record { counted = refl; greatest = tt; has_log = refl; logged = record { ascending = tt; whole = inl refl; safe = λ some. absurd (some refl) } }
 
 -- the last number that isn't spent: the ninth put seals the page before it, and the mount leaves its record in the log
 abbrev late : Machine

@@ -1,10 +1,10 @@
 -- A table with a log: what holds of it in each state, and what is found of it where it stops.
-use Rattle.std.proofs.Common.{◌≡◌, ℕ, ◌+◌, ◌-◌, ◌*◌, ◌<◌, ◌≤◌, Bool, true, false, cond, not, ◌&&◌, ◌||◌, ◌==◌, nat_lt, Option, Some, None, IfSome, List, [], ◌∷◌, ◌++◌, length, take, drop, filter, refl, sym, ◌∙◌, ap, subst, arith, ◌⊎◌, inl, inr, length-append, length-drop, length-take, IsTrue, eq-eqb}
-use Rattle.std.specs.List.{AllByRecursion, last_or, list_any, sum}
+use Rattle.std.proofs.Common.{◌≡◌, ℕ, suc, ◌+◌, ◌-◌, ◌*◌, ◌<◌, ◌≤◌, Bool, true, false, cond, not, ◌&&◌, ◌||◌, ◌==◌, nat_lt, Option, Some, None, IfSome, List, [], ◌∷◌, ◌++◌, length, take, drop, filter, refl, sym, ◌∙◌, ap, subst, arith, ◌⊎◌, inl, inr, length-append, length-drop, length-take, IsTrue, eq-eqb}
+use Rattle.std.specs.List.{AllByRecursion, last_or, list_any, slice_get, sum}
 use Rattle.std.specs.Option.{is_some, option_map, unwrap_or}
-use Rattle.std.proofs.lemmas.List.Sums.{sum_by_push, sum_by-take-drop, sum_by-take-le}
+use Rattle.std.proofs.lemmas.List.Sums.{sum_by-append, sum_by_push, sum_by-take-drop, sum_by-take-le}
 use Rattle.std.proofs.lemmas.List.{take-append-drop, take-append-le, drop-append-le, drop-drop, append-nil}
-use Rattle.std.proofs.Math.Seq.{take-append_seam, drop-append_seam}
+use Rattle.std.proofs.Math.Seq.{take-add, take-append_seam, drop-append_seam}
 use Rattle.std.proofs.lemmas.Bool.{ltb-true, ltb-false, eqb-true}
 use Rattle.fl_model.specs.Ring.{Shape, IsShape, Ring, sealed, extended, is_full}
 use Rattle.fl_model.specs.Table.{Table, Entry, is_above}
@@ -60,12 +60,17 @@ abbrev pub IsThere : Option (List ℕ × Bool) → Type 0
 IsThere None = ⊥
 IsThere (Some log) = Unit {0}
 
+-- the last of some entries has the greatest key
+abbrev pub Tops : List Entry → Type 0
+Tops es = AllByRecursion (λ e. e.kept.key ≤ last_key es) es
+
 -- what holds in each state
 pub record IsFine (c : Core) : Type 0 where
   pub counted : sum c.counts + c.pending ≡ length c.entries
   pub numbered : length c.counts ≤ c.next
   pub has_log : IsThere c.log
-  pub ascending : AllByRecursion (λ e. e.kept.key ≤ last_key c.logged) c.logged
+  pub greatest : Tops (front_of c)
+  pub ascending : Tops c.logged
   pub whole : (owed_of c ≡ c.logged) ⊎ ((owed_of c ≡ []) × (c.torn ≡ false))
   pub safe : (owed_of c ≡ [] → ⊥) → IfSome c.log IsSafePage
 
@@ -136,6 +141,9 @@ pub drop_none : {X : Type 0} (xs : List X) → drop 0 xs ≡ xs
 drop_none [] = refl
 drop_none (x ∷ xs) = refl
 
+pub sum_take_more : (m n : ℕ) (xs : List ℕ) → sum (take (m + n) xs) ≡ sum (take m xs) + sum (take n (drop m xs))
+sum_take_more m n xs = ap sum (take-add m n xs) ∙ sum_by-append (λ (k : ℕ). k) (take m xs) (take n (drop m xs))
+
 pub all_append : {X : Type 0} (P : X → Type 0) (xs ys : List X) → AllByRecursion P xs → AllByRecursion P ys → AllByRecursion P (xs ++ ys)
 all_append P [] ys h k = k
 all_append P (x ∷ xs) ys h k = (h.0, all_append P xs ys h.1 k)
@@ -203,6 +211,7 @@ fine-lost c h = record {
   counted = let few : c.pending ≤ length c.entries = omega (arith, h.counted) in omega (arith, h.counted, length-take (length c.entries - c.pending) c.entries);
   numbered = h.numbered;
   has_log = h.has_log;
+  greatest = subst Tops (sym (front-lost c)) h.greatest;
   ascending = h.ascending;
   whole = elim h.whole [ inl e ↦ inl (owed-lost c ∙ e) | inr e ↦ inr (owed-lost c ∙ e.0, e.1) ];
   safe = λ some. h.safe (λ e. some (owed-lost c ∙ e));
@@ -229,7 +238,7 @@ owing-pending c g some = by_test (c.pending == 0) refl
     by_test false e = refl
 
 -- where the log doesn't have the last record
-unlogged-joining : (c : Core) (g : ℕ) → IsFine c → (h : IsJoining c) → IsTrue (past_in c g).unlogged
+pub unlogged-joining : (c : Core) (g : ℕ) → IsFine c → (h : IsJoining c) → IsTrue (past_in c g).unlogged
 unlogged-joining c g fine h = by_tests (c.pending == 0) refl (last_or None c.logged) refl
   where
     some : 0 < c.pending
@@ -265,7 +274,7 @@ unlogged-joining c g fine h = by_tests (c.pending == 0) refl (last_or None c.log
     by_tests false e (Some last) k = rw (differ last k) refl
 
 -- a list cut before its last part
-take_seam : (held es more : List Entry) (n : ℕ) → held ≡ es ++ more → n ≡ length more → take (length held - n) held ≡ es
+pub take_seam : (held es more : List Entry) (n : ℕ) → held ≡ es ++ more → n ≡ length more → take (length held - n) held ≡ es
 take_seam held es more n e k =
     let len : length held - n ≡ length es = let m : length held ≡ length (es ++ more) = ap (λ (zs : List Entry). length zs) e in omega (arith, m, k, length-append es more) in
     ap (λ i. take i held) len ∙ (ap (take (length es)) e ∙ take-append_seam es more)
@@ -387,6 +396,81 @@ below-last xs (y ∷ ys) e some h = by_last (last_or (Some y) ys) refl (some_las
         let key : e.kept.key ≤ last.kept.key = subst (λ (p : Option Entry). e.kept.key ≤ unwrap_or (option_map (λ (x : Entry). x.kept.key) p) 0) q h in
         ap (λ (p : Option Entry). unwrap_or (option_map (λ (x : Entry). nat_lt x.kept.key e.kept.key) p) true) (last-append None xs y ys ∙ q) ∙ not-lt last.kept.key e.kept.key key
 
+-- .. and so has the last of what is left of them where others come behind that are above them
+pub last-drop : (n : ℕ) (xs : List Entry) (w : Entry) → last_or None (drop n xs) ≡ Some w → last_or None xs ≡ Some w
+last-drop n xs w e = by_rest (drop n xs) refl e
+  where
+    none_of : None ≡ Some w → ⊥
+    none_of e = cc
+
+    by_rest : (rest : List Entry) → drop n xs ≡ rest → last_or None rest ≡ Some w → last_or None xs ≡ Some w
+    by_rest [] q k = absurd (none_of k)
+    by_rest (y ∷ ys) q k = ap (last_or None) (sym (take-append-drop n xs) ∙ ap (λ (es : List Entry). take n xs ++ es) q) ∙ (last-append None (take n xs) y ys ∙ k)
+
+pub all_drop : {X : Type 0} (P : X → Type 0) (n : ℕ) (xs : List X) → AllByRecursion P xs → AllByRecursion P (drop n xs)
+all_drop P n xs h = all_back P (take n xs) (drop n xs) (subst (AllByRecursion P) (sym (take-append-drop n xs)) h)
+
+pub is_last : (xs : List Entry) → (xs ≡ []) ⊎ ((w : Entry) × (last_or None xs ≡ Some w))
+is_last [] = inl refl
+is_last (x ∷ xs) = inr (from x xs)
+  where
+    from : (y : Entry) (zs : List Entry) → (w : Entry) × (last_or (Some y) zs ≡ Some w)
+    from y [] = (y, refl)
+    from y (z ∷ zs) = from z zs
+
+pub last-key : (xs : List Entry) (w : Entry) → last_or None xs ≡ Some w → last_key xs ≡ w.kept.key
+last-key xs w e = ap (λ (o : Option Entry). unwrap_or (option_map (λ (x : Entry). x.kept.key) o) 0) e
+
+pub tops-drop : (n : ℕ) (xs : List Entry) → Tops xs → Tops (drop n xs)
+tops-drop n xs h = by_last (is_last (drop n xs))
+  where
+    by_last : (drop n xs ≡ []) ⊎ ((w : Entry) × (last_or None (drop n xs) ≡ Some w)) → Tops (drop n xs)
+    by_last (inl e) = subst Tops (sym e) tt
+    by_last (inr (w, e)) =
+        let same : last_key xs ≡ last_key (drop n xs) = last-key xs w (last-drop n xs w e) ∙ sym (last-key (drop n xs) w e) in
+        subst (λ (k : ℕ). AllByRecursion (λ e. e.kept.key ≤ k) (drop n xs)) same (all_drop (λ e. e.kept.key ≤ last_key xs) n xs h)
+
+pub tops-above : (xs ys : List Entry) → Tops xs → Tops ys → AreAbove xs ys → Tops (xs ++ ys)
+tops-above xs [] h k above = subst Tops (sym (append-nil xs)) h
+tops-above xs (y ∷ ys) h k above =
+    all_append (λ e. e.kept.key ≤ last_key (xs ++ y ∷ ys)) xs (y ∷ ys)
+    (by_last (is_last xs))
+    (subst (λ (n : ℕ). AllByRecursion (λ e. e.kept.key ≤ n) (y ∷ ys)) (sym same) k)
+  where
+    same : last_key (xs ++ y ∷ ys) ≡ last_key (y ∷ ys)
+    same = ap (λ (o : Option Entry). unwrap_or (option_map (λ (x : Entry). x.kept.key) o) 0) (last-append None xs y ys)
+
+    by_last : (xs ≡ []) ⊎ ((w : Entry) × (last_or None xs ≡ Some w)) → AllByRecursion (λ e. e.kept.key ≤ last_key (xs ++ y ∷ ys)) xs
+    by_last (inl e) = subst (AllByRecursion (λ e. e.kept.key ≤ last_key (xs ++ y ∷ ys))) (sym e) tt
+    by_last (inr (w, e)) =
+        let below : w.kept.key < y.kept.key = ltb-true w.kept.key y.kept.key (subst (λ (o : Option Entry). IsTrue (unwrap_or (option_map (λ (l : Entry). nat_lt l.kept.key y.kept.key) o) true)) e above.0) in
+        all_weaker (λ e. e.kept.key ≤ last_key xs) (λ e. e.kept.key ≤ last_key (xs ++ y ∷ ys))
+        (λ x m. let k0 = k.0 in let key = last-key xs w e in omega (arith, m, below, k0, key, same)) xs h
+
+above-drop : (n : ℕ) (others : List Entry) (e : Entry) → IsTrue (is_above others e) → IsTrue (is_above (drop n others) e)
+above-drop n others e h = by_last (is_last (drop n others))
+  where
+    by_last : (drop n others ≡ []) ⊎ ((w : Entry) × (last_or None (drop n others) ≡ Some w)) → IsTrue (is_above (drop n others) e)
+    by_last (inl q) = subst (λ (rest : List Entry). IsTrue (is_above rest e)) (sym q) refl
+    by_last (inr (w, q)) = subst (λ (o : Option Entry). IsTrue (unwrap_or (option_map (λ (l : Entry). nat_lt l.kept.key e.kept.key) o) true)) (last-drop n others w q ∙ sym q) h
+
+-- .. as it has where their keys ascend
+pub ascending-tops : (es : List Entry) → ((i j : ℕ) (a b : Entry) → i < j → slice_get es i ≡ Some a → slice_get es j ≡ Some b → a.kept.key < b.kept.key) → Tops es
+ascending-tops [] ascends = tt
+ascending-tops (x ∷ []) ascends = (omega arith, tt)
+ascending-tops (x ∷ y ∷ es) ascends =
+    let rest = ascending-tops (y ∷ es) (λ i j a b less p q. ascends (suc i) (suc j) a b (omega (arith, less)) p q) in
+    let less = ascends 0 1 x y (omega arith) refl refl in
+    let most = rest.0 in
+    (omega (arith, less, most), rest)
+
+tops-part : (n : ℕ) (xs ys : List Entry) → Tops xs → Tops ys → AreAbove xs ys → Tops (drop n xs ++ ys)
+tops-part n xs ys h k above =
+    tops-above (drop n xs) ys (tops-drop n xs h) k (all_weaker (λ e. IsTrue (is_above xs e)) (λ e. IsTrue (is_above (drop n xs) e)) (λ e t. above-drop n xs e t) ys above)
+
+ready-tops : (c : Core) → IsFine c → IsReady c → Tops (rest_of c)
+ready-tops c fine h = subst Tops h.same fine.ascending
+
 -- the pending records become a page: all of them, and those before them that aren't given up, are found
 pub record IsMarked (c d : Core) : Type 0 where
   pub gone : ℕ
@@ -399,14 +483,22 @@ pub record IsMarked (c d : Core) : Type 0 where
   pub logged : d.logged ≡ c.logged
   pub log : d.log ≡ c.log
 
+-- less than all in data pages go
+pub marked-few : (c d : Core) → IsFine c → (h : IsMarked c d) → sum (take h.gone c.counts) ≤ length (front_of c)
+marked-few c d fine h =
+    let most : sum (take h.gone c.counts) ≤ sum c.counts = sum_by-take-le (λ (n : ℕ). n) c.counts h.gone in
+    let len : length (front_of c) ≡ length c.entries - c.pending = length-take (length c.entries - c.pending) c.entries ∙ (omega arith) in
+    omega (arith, most, len, fine.counted)
+
+marked-front : (c d : Core) → IsFine c → (h : IsMarked c d) → front_of d ≡ drop (sum (take h.gone c.counts)) (front_of c) ++ rest_of c
+marked-front c d fine h =
+    let g = sum (take h.gone c.counts) in
+    front-all d h.pending ∙ (h.entries ∙ (ap (drop g) (sym (splits c)) ∙ drop-append-le g (front_of c) (rest_of c) (marked-few c d fine h)))
+
 pub marked-owed : (c d : Core) → IsFine c → IsReady c → IsMarked c d → owed_of d ≡ []
 marked-owed c d fine ready h =
     let g = sum (take h.gone c.counts) in
-    let most : g ≤ sum c.counts = sum_by-take-le (λ (n : ℕ). n) c.counts h.gone in
-    let len : length (front_of c) ≡ length c.entries - c.pending = length-take (length c.entries - c.pending) c.entries ∙ (omega arith) in
-    let within : g ≤ length (front_of c) = omega (arith, most, len, fine.counted) in
-    let front : front_of d ≡ drop g (front_of c) ++ rest_of c =
-    front-all d h.pending ∙ (h.entries ∙ (ap (drop g) (sym (splits c)) ∙ drop-append-le g (front_of c) (rest_of c) within)) in
+    let front = marked-front c d fine h in
     let some : 0 < length (rest_of c) = let n = rest-length c fine in omega (arith, n, ready.some) in
     let key : (e : Entry) → e.kept.key ≤ last_key c.logged → is_above (drop g (front_of c) ++ rest_of c) e ≡ false =
     λ e k. below-last (drop g (front_of c)) (rest_of c) e some (subst (λ (es : List Entry). e.kept.key ≤ last_key es) ready.same k) in
@@ -426,7 +518,8 @@ marked-fine c d fine ready h =
           let len : length d.counts ≡ length c.counts + 1 - h.gone = ap (λ (xs : List ℕ). length xs) h.counts ∙ (length-drop h.gone (c.counts ++ c.pending ∷ []) ∙ ap (λ m. m - h.gone) (length-append c.counts (c.pending ∷ []))) in
           omega (arith, len, h.next, fine.numbered);
       has_log = subst (λ (o : Option (List ℕ × Bool)). IsThere o) (sym h.log) fine.has_log;
-      ascending = subst (λ (es : List Entry). AllByRecursion (λ e. e.kept.key ≤ last_key es) es) (sym h.logged) fine.ascending;
+      greatest = subst Tops (sym (marked-front c d fine h)) (tops-part (sum (take h.gone c.counts)) (front_of c) (rest_of c) fine.greatest (ready-tops c fine ready) ready.above);
+      ascending = subst Tops (sym h.logged) fine.ascending;
       whole = inr (owed, h.torn);
       safe = λ some. absurd (some owed);
     }
@@ -446,6 +539,7 @@ begun-fine c log e fine h = record {
   counted = fine.counted;
   numbered = fine.numbered;
   has_log = subst (λ (o : Option (List ℕ × Bool)). IsThere o) (sym e) (kept c.log fine.has_log);
+  greatest = fine.greatest;
   ascending = fine.ascending;
   whole = fine.whole;
   safe = λ some. subst (λ (o : Option (List ℕ × Bool)). IfSome o IsSafePage) (sym e) (by_case h.logged some);
@@ -492,7 +586,8 @@ logged-fine c logged log others same is fine h = record {
   counted = fine.counted;
   numbered = fine.numbered;
   has_log = subst (λ (o : Option (List ℕ × Bool)). IsThere o) (sym is) tt;
-  ascending = subst (λ (es : List Entry). AllByRecursion (λ e. e.kept.key ≤ last_key es) es) (sym (same ∙ h.is)) keys;
+  greatest = fine.greatest;
+  ascending = subst Tops (sym (same ∙ h.is)) keys;
   whole = inl (ready-whole (record c { logged = logged; log = log }) (logged-ready c logged log others same is fine h));
   safe = λ some. subst (λ (o : Option (List ℕ × Bool)). IfSome o IsSafePage) (sym is) (others, c.pending, joining-some c fine h, inl refl);
 }
@@ -588,6 +683,7 @@ joins-fine new c fine = record {
   counted = omega (arith, fine.counted, length-append c.entries (new ∷ []));
   numbered = fine.numbered;
   has_log = fine.has_log;
+  greatest = subst Tops (sym (joins-front new c fine).0) fine.greatest;
   ascending = fine.ascending;
   whole = elim fine.whole [ inl e ↦ inl (joins-owed new c fine ∙ e) | inr e ↦ inr (joins-owed new c fine ∙ e.0, e.1) ];
   safe = λ some. fine.safe (λ e. some (joins-owed new c fine ∙ e));
@@ -700,6 +796,7 @@ numbers-fine c counts next torn same t n fine = record {
   counted = ap (λ (xs : List ℕ). sum xs + c.pending) same ∙ fine.counted;
   numbered = n;
   has_log = fine.has_log;
+  greatest = fine.greatest;
   ascending = fine.ascending;
   whole = elim fine.whole [ inl e ↦ inl e | inr e ↦ inr (e.0, t ∙ e.1) ];
   safe = fine.safe;
@@ -714,7 +811,7 @@ filter_length test (x ∷ xs) = by_test (test x) (filter_length test xs)
     by_test true h = omega (arith, h)
     by_test false h = omega (arith, h)
 
-filter_whole : {X : Type 0} (test : X → Bool) (xs : List X) → filter test xs ≡ xs → AllByRecursion (λ x. IsTrue (test x)) xs
+pub filter_whole : {X : Type 0} (test : X → Bool) (xs : List X) → filter test xs ≡ xs → AllByRecursion (λ x. IsTrue (test x)) xs
 filter_whole test [] h = tt
 filter_whole {X} test (x ∷ xs) h = by_test (test x) refl h (λ k. filter_whole test xs k)
   where
@@ -734,16 +831,6 @@ pub record IsVoided (c d : Core) : Type 0 where
   pub logged : d.logged ≡ c.logged
   pub log : d.log ≡ c.log
 
-above-drop : (n : ℕ) (others : List Entry) (e : Entry) → IsTrue (is_above others e) → IsTrue (is_above (drop n others) e)
-above-drop n others e h = by_rest (drop n others) refl
-  where
-    by_rest : (rest : List Entry) → drop n others ≡ rest → IsTrue (is_above rest e)
-    by_rest [] q = refl
-    by_rest (y ∷ ys) q =
-        let whole : others ≡ take n others ++ y ∷ ys = sym (take-append-drop n others) ∙ ap (λ (es : List Entry). take n others ++ es) q in
-        let same : last_or None others ≡ last_or (Some y) ys = ap (last_or None) whole ∙ last-append None (take n others) y ys in
-        subst (λ (o : Option Entry). IsTrue (unwrap_or (option_map (λ (l : Entry). nat_lt l.kept.key e.kept.key) o) true)) same h
-
 -- all records of the log are owed
 abbrev pub IsWhole : Core → Type 0
 IsWhole c = owed_of c ≡ c.logged
@@ -758,10 +845,12 @@ torn-whole c t fine = by_case fine.whole
         not_both : true ≡ false → ⊥
         not_both e = cc
 
+voided-front : (c d : Core) → c.pending ≡ 0 → (h : IsVoided c d) → front_of d ≡ drop (sum (take h.gone c.counts)) (front_of c)
+voided-front c d none h = front-all d (h.pending ∙ none) ∙ (h.entries ∙ ap (drop (sum (take h.gone c.counts))) (sym (front-all c none)))
+
 pub voided-whole : (c d : Core) → c.pending ≡ 0 → IsWhole c → IsVoided c d → owed_of d ≡ c.logged
 voided-whole c d none whole h =
-    let front : front_of d ≡ drop (sum (take h.gone c.counts)) (front_of c) =
-    front-all d (h.pending ∙ none) ∙ (h.entries ∙ ap (drop (sum (take h.gone c.counts))) (sym (front-all c none))) in
+    let front = voided-front c d none h in
     ap (λ (es : List Entry). filter (λ e. is_above (front_of d) e) es) h.logged
     ∙ (ap (λ (fs : List Entry). filter (λ e. is_above fs e) c.logged) front
     ∙ filter_all (λ e. is_above (drop (sum (take h.gone c.counts)) (front_of c)) e) c.logged
@@ -780,7 +869,8 @@ voided-fine c d none whole fine h =
           let len : length d.counts ≡ length c.counts + 1 - h.gone = ap (λ (xs : List ℕ). length xs) h.counts ∙ (length-drop h.gone (c.counts ++ 0 ∷ []) ∙ ap (λ m. m - h.gone) (length-append c.counts (0 ∷ []))) in
           omega (arith, len, h.next, fine.numbered);
       has_log = subst (λ (o : Option (List ℕ × Bool)). IsThere o) (sym h.log) fine.has_log;
-      ascending = subst (λ (es : List Entry). AllByRecursion (λ e. e.kept.key ≤ last_key es) es) (sym h.logged) fine.ascending;
+      greatest = subst Tops (sym (voided-front c d none h)) (tops-drop (sum (take h.gone c.counts)) (front_of c) fine.greatest);
+      ascending = subst Tops (sym h.logged) fine.ascending;
       whole = inl (owed ∙ sym h.logged);
       safe = λ some. subst (λ (o : Option (List ℕ × Bool)). IfSome o IsSafePage) (sym h.log) (fine.safe (λ e. some (owed ∙ (sym whole ∙ e))));
     }
@@ -846,7 +936,8 @@ log-voided-rests past c counts gone logged is few fewer keeps rests = by_keeps k
             counted = rests.fine.counted;
             numbered = rests.fine.numbered;
             has_log = tt;
-            ascending = subst (λ (es : List Entry). AllByRecursion (λ e. e.kept.key ≤ last_key es) es) (sym k.1) rests.fine.ascending;
+            greatest = rests.fine.greatest;
+            ascending = subst Tops (sym k.1) rests.fine.ascending;
             whole = elim rests.fine.whole [ inl e ↦ inl (owes ∙ (e ∙ sym k.1)) | inr e ↦ inr (owes ∙ e.0, e.1) ];
             safe = λ some. let s = safe_counts (λ e. some (owes ∙ e)) in (drop gone s.0, s.1, s.2, inr (kept_counts s.0 s.1 s.3, refl));
           };
@@ -861,7 +952,8 @@ log-voided-rests past c counts gone logged is few fewer keeps rests = by_keeps k
             counted = rests.fine.counted;
             numbered = rests.fine.numbered;
             has_log = tt;
-            ascending = subst (λ (es : List Entry). AllByRecursion (λ e. e.kept.key ≤ last_key es) es) (sym k.1) tt;
+            greatest = rests.fine.greatest;
+            ascending = subst Tops (sym k.1) tt;
             whole = inl (none_left ∙ sym k.1);
             safe = λ some. absurd (some none_left);
           };
@@ -899,6 +991,7 @@ replayed-fine c none fine = record {
   counted = omega (arith, fine.counted, none, length-append c.entries (owed_of c));
   numbered = fine.numbered;
   has_log = fine.has_log;
+  greatest = subst Tops (front-all c none ∙ sym (replayed-front c).0) fine.greatest;
   ascending = fine.ascending;
   whole = elim fine.whole [ inl e ↦ inl (replayed-owed c none ∙ e) | inr e ↦ inr (replayed-owed c none ∙ e.0, e.1) ];
   safe = λ some. fine.safe (λ e. some (replayed-owed c none ∙ e));
@@ -930,6 +1023,7 @@ replayed-rests past c torn rests whole calm =
         counted = let n : length (front_of (replayed c)) ≡ length c.entries = ap (λ (es : List Entry). length es) both.0 in let all = rests.fine.counted in let z = rests.none in omega (arith, n, all, z);
         numbered = rests.fine.numbered;
         has_log = rests.fine.has_log;
+        greatest = subst Tops (sym (front-lost (record (replayed c) { torn = torn }) ∙ (both.0 ∙ sym (front-all c rests.none)))) rests.fine.greatest;
         ascending = rests.fine.ascending;
         whole = by_torn torn refl rests.fine.whole owes;
         safe = λ some. rests.fine.safe (λ e. some (owes ∙ e));

@@ -8,6 +8,7 @@ use Rattle.fl_machine.specs.Machine.{Machine, begins, fresh_tables}
 use Rattle.fl_machine.specs.Step.{Moment}
 use Rattle.fl_machine.specs.Run.{Run, end_of, commands_of, written_by, risen_in}
 use Rattle.fl_machine.specs.Found.{FindsAt}
+use Rattle.fl_machine.specs.Keeping.{KeepsPutsAt}
 use Rattle.fl_machine.specs.Reads.{RunLimits, RunExact}
 use Rattle.fl_machine.specs.Small.{most_of_a_command}
 use Rattle.fl_machine.specs.Stays.{StaysEach}
@@ -123,6 +124,8 @@ pub record Ran (config : Config) (old : Machine) (commands : List Command) (stan
   pub rose : RoseBy (risen_in moments) faults faults_now
   -- each mount that succeeds finds the records of each table
   pub found : (place : ℕ) → FindsAt config place old moments
+  -- .. and of each table with a log all that was put
+  pub kept : (place : ℕ) → KeepsPutsAt config place old moments
   pub told_all : Appends told told_now (written_by moments)
 
 -- .. and into the reply of the last of them, in which the sink failed
@@ -137,6 +140,7 @@ pub record RanInto (config : Config) (old : Machine) (commands : List Command) (
   pub stays : StaysEach config old moments content content_now
   pub rose : RoseBy (risen_in moments) faults faults_now
   pub found : (place : ℕ) → FindsAt config place old moments
+  pub kept : (place : ℕ) → KeepsPutsAt config place old moments
   -- the replies before those of the last are written whole
   pub before : List Moment
   pub last : Moment

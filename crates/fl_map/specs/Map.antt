@@ -2,6 +2,7 @@
 use Rattle.std.specs.Prelude.{◌≡◌, ℕ, zero, suc, Option, Some, List, [], length}
 use Rattle.fl_base.specs.Causes.{Appends, AppendsFront}
 use Rattle.fl_base.specs.declared.types.Geometry.{Geometry}
+use Rattle.fl_base.specs.declared.types.RingPlace.{RingPlace}
 use Rattle.fl_flash.specs.Flash.{FlashState, page_at}
 use Rattle.fl_plan.specs.declared.table_config.TableConfig.{TableConfig}
 use Rattle.fl_words.specs.Config.{Lines}
@@ -20,14 +21,14 @@ use Rattle.fl_map.specs.Drawn.{Drawn, no_tables, map_text}
 use Rattle.fl_map.specs.Table.{with_table}
 
 -- what a check finds of a table
-abbrev pub Finds : TableConfig → FlashState → Finding → Type 0
-Finds config f finding = IsFinding config (page_at f) finding
+abbrev pub Finds : TableConfig → Option RingPlace → FlashState → Finding → Type 0
+Finds config log f finding = IsFinding config log (page_at f) finding
 
 -- one table more, the n-th, with what a check finds of it in these bytes
 pub record IsDrawnNext (drawing : Drawing) (lines : Lines) (bytes : List ℕ) (n : ℕ) (before now : Drawn) : Type 0 where
   pub finding : Finding
   pub found : IsFound Finds lines bytes n finding
-  pub drawn : now ≡ with_table drawing found.plan.name found.config (page_at found.flash) finding before
+  pub drawn : now ≡ with_table drawing found.plan.name found.config found.log (page_at found.flash) finding before
 
 -- the first n tables
 abbrev pub AreDrawn : Drawing → Lines → List ℕ → ℕ → Drawn → Type 0

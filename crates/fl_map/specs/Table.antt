@@ -4,7 +4,7 @@ use Rattle.fl_base.specs.declared.types.RingPlace.{RingPlace}
 use Rattle.fl_check.specs.declared.finding.Finding.{Finding}
 use Rattle.fl_check.specs.declared.finding.Finding.TheVariants.{Sound, Fault}
 use Rattle.fl_check.specs.declared.finding.RingName.{RingName}
-use Rattle.fl_check.specs.declared.finding.RingName.TheVariants.{Index, Data, Var}
+use Rattle.fl_check.specs.declared.finding.RingName.TheVariants.{Index, Data, Var, Log}
 use Rattle.fl_model.specs.Record.{row_len}
 use Rattle.fl_plan.specs.Plan.{plan_of_table}
 use Rattle.fl_plan.specs.Refusal.{nameless}
@@ -27,17 +27,18 @@ abbrev pub with_place_if : Drawing → List ℕ → TableConfig → (ℕ → Lis
 with_place_if drawing name config page finding ring None d = d
 with_place_if drawing name config page finding ring (Some place) d = with_place drawing name config page finding ring None place d
 
--- the rings of a table: its data, its index and its variable data
-abbrev pub with_rings : Drawing → List ℕ → TableConfig → (ℕ → List ℕ) → Finding → Drawn → Drawn
-with_rings drawing name config page finding d =
-    with_place_if drawing name config page finding Var config.var
+-- the rings of a table: its data, its index, its variable data and its log, whose rows aren't told
+abbrev pub with_rings : Drawing → List ℕ → TableConfig → Option RingPlace → (ℕ → List ℕ) → Finding → Drawn → Drawn
+with_rings drawing name config log page finding d =
+    with_place_if drawing name config page finding Log log
+    (with_place_if drawing name config page finding Var config.var
     (with_place_if drawing name config page finding Index config.index
-    (with_place drawing name config page finding Data (Some (row_len (plan_of_table nameless config))) config.rows d))
+    (with_place drawing name config page finding Data (Some (row_len (plan_of_table nameless config))) config.rows d)))
 
 -- the page that breaks a rule, where one does
 abbrev pub with_fault : Drawing → List ℕ → Finding → Drawn → Drawn
 with_fault drawing name (Sound rows pages voids) d = d
 with_fault drawing name (Fault ring page rule) d = with_words drawing (fault_text name ring page rule) d
 
-abbrev pub with_table : Drawing → List ℕ → TableConfig → (ℕ → List ℕ) → Finding → Drawn → Drawn
-with_table drawing name config page finding d = with_fault drawing name finding (with_rings drawing name config page finding d)
+abbrev pub with_table : Drawing → List ℕ → TableConfig → Option RingPlace → (ℕ → List ℕ) → Finding → Drawn → Drawn
+with_table drawing name config log page finding d = with_fault drawing name finding (with_rings drawing name config log page finding d)

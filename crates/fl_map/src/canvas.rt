@@ -157,7 +157,7 @@ impl Canvas {
         requires top { self.old.top + 20 < 2 ^ 40 }
         ensures drawing { self.new.drawing ≡ self.old.drawing }
         ensures drawn { OnOk result (drawn_of self.new ≡ with_ring self.old.drawing line.old note.now states.now (drawn_of self.old)) }
-        ensures top { self.new.top ≤ self.old.top + 2 ^ 36 }
+        ensures top { self.new.top ≤ self.old.top + 15 * 2 ^ 32 }
     {
         add_note(line, note);
         add_caption(&mut self.text, self.drawing, self.top, line.bytes())?;

@@ -67,13 +67,14 @@ fn draw_table<F: Flash>(
     ensures room { length rooms.new.page.bytes ≡ (F.state flash.old).geometry.page }
     ensures drawing { canvas.new.drawing ≡ canvas.old.drawing }
     ensures drawn { OnOk result (IsTrue (F.state flash.old).media.tells → IsDrawnNext canvas.old.drawing config.now (F.state flash.old).media.content i (drawn_of canvas.old) (drawn_of canvas.new)) }
-    ensures top { canvas.new.top ≤ canvas.old.top + (3 * 2 ^ 36 + 28) }
+    ensures top { canvas.new.top ≤ canvas.old.top + (60 * 2 ^ 32 + 28) }
     ensures device { result ≡ Err ToolStatus.Device → Rose (F.state flash.old).media.faults (F.state flash.new).media.faults }
     ensures statuses { IfErr result (λ status. (status ≡ ToolStatus.NoMemory) ⊎ (status ≡ ToolStatus.Device)) }
 {
     let name = config.name(i);
     let table = config.table(i);
-    let finding = match check_table(alloc, flash, table) {
+    let log = config.log(i);
+    let finding = match check_table(alloc, flash, table, log) {
         Ok(finding) => finding,
         Err(CheckFault::Flash(fault)) => return Err(flash_status(fault)),
         Err(CheckFault::NoMemory) => return Err(ToolStatus::NoMemory),
@@ -81,6 +82,7 @@ fn draw_table<F: Flash>(
     let checked = Checked {
         name: &name,
         config: table,
+        log,
         finding: &finding,
     };
     match draw_rings(&checked, flash, rooms, canvas) {

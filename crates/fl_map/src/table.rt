@@ -1,7 +1,7 @@
 // The map of a table: its rings, and what a check finds.
 ghost use Rattle.std.specs.Prelude.{◌≡◌, ◌≤◌, ◌<◌, ◌+◌, ◌*◌, ◌^◌, length, IsTrue, IfSome, IfErr, OnOk};
 ghost use Rattle.fl_check.specs.Looks.{OnlyLooks};
-ghost use Rattle.fl_check.specs.Whole.{Fits};
+ghost use Rattle.fl_check.specs.Whole.{Fits, LogFits};
 ghost use Rattle.fl_flash.specs.Flash.{page_at};
 ghost use Rattle.fl_map.specs.Canvas.{drawn_of};
 ghost use Rattle.fl_map.specs.Table.{with_place, with_place_if, with_rings, with_fault};
@@ -30,6 +30,7 @@ pub(crate) struct Rooms {
 pub(crate) struct Checked<'t> {
     pub(crate) name: &'t Name,
     pub(crate) config: &'t TableConfig,
+    pub(crate) log: Option<RingPlace>,
     pub(crate) finding: &'t Finding,
 }
 
@@ -54,7 +55,7 @@ fn draw_ring<F: Flash>(
     ensures drawing { canvas.new.drawing ≡ canvas.old.drawing }
     ensures drawn { OnOk result (IsTrue (F.state flash.old).media.tells → drawn_of canvas.new ≡
         with_place canvas.old.drawing table.now.name.now table.now.config.now (page_at (F.state flash.old)) table.now.finding.now ring row_len place (drawn_of canvas.old)) }
-    ensures top { canvas.new.top ≤ canvas.old.top + 2 ^ 36 }
+    ensures top { canvas.new.top ≤ canvas.old.top + 15 * 2 ^ 32 }
     ensures fails { IfErr result (λ e. FailsBy (F.state flash.old) e (F.state flash.new)) }
 {
     let which = Which {
@@ -87,7 +88,7 @@ fn draw_ring_if<F: Flash>(
     ensures drawing { canvas.new.drawing ≡ canvas.old.drawing }
     ensures drawn { OnOk result (IsTrue (F.state flash.old).media.tells → drawn_of canvas.new ≡
         with_place_if canvas.old.drawing table.now.name.now table.now.config.now (page_at (F.state flash.old)) table.now.finding.now ring place (drawn_of canvas.old)) }
-    ensures top { canvas.new.top ≤ canvas.old.top + 2 ^ 36 }
+    ensures top { canvas.new.top ≤ canvas.old.top + 15 * 2 ^ 32 }
     ensures fails { IfErr result (λ e. FailsBy (F.state flash.old) e (F.state flash.new)) }
 {
     match place {
@@ -96,7 +97,7 @@ fn draw_ring_if<F: Flash>(
     }
 }
 
-/// Draws the rings of a table: its data, its index and its variable data.
+/// Draws the rings of a table: its data, its index, its variable data and its log.
 pub(crate) fn draw_rings<F: Flash>(
     table: &Checked<'_>,
     flash: &mut F,
@@ -104,14 +105,15 @@ pub(crate) fn draw_rings<F: Flash>(
     canvas: &mut Canvas,
 ) -> Result<(), MapFault>
     requires fits { Fits table.now.config.now (F.state flash.old) }
+    requires log { LogFits table.now.log (F.state flash.old) }
     requires room { length rooms.old.page.bytes ≡ table.now.config.now.geometry.page }
     requires top { canvas.old.top + 2 ^ 38 < 2 ^ 40 }
     ensures looks { OnlyLooks (F.state flash.old) (F.state flash.new) }
     ensures room { length rooms.new.page.bytes ≡ table.now.config.now.geometry.page }
     ensures drawing { canvas.new.drawing ≡ canvas.old.drawing }
     ensures drawn { OnOk result (IsTrue (F.state flash.old).media.tells → drawn_of canvas.new ≡
-        with_rings canvas.old.drawing table.now.name.now table.now.config.now (page_at (F.state flash.old)) table.now.finding.now (drawn_of canvas.old)) }
-    ensures top { canvas.new.top ≤ canvas.old.top + 3 * 2 ^ 36 }
+        with_rings canvas.old.drawing table.now.name.now table.now.config.now table.now.log (page_at (F.state flash.old)) table.now.finding.now (drawn_of canvas.old)) }
+    ensures top { canvas.new.top ≤ canvas.old.top + 60 * 2 ^ 32 }
     ensures fails { IfErr result (λ e. FailsBy (F.state flash.old) e (F.state flash.new)) }
 {
     let config = table.config;
@@ -127,6 +129,7 @@ pub(crate) fn draw_rings<F: Flash>(
     )?;
     draw_ring_if(table, RingName::Index, config.index, flash, rooms, canvas)?;
     draw_ring_if(table, RingName::Var, config.var, flash, rooms, canvas)?;
+    draw_ring_if(table, RingName::Log, table.log, flash, rooms, canvas)?;
     Ok(())
 }
 

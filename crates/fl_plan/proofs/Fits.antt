@@ -1,31 +1,68 @@
 -- What holds of a configuration that isn't refused: its rings, its blobs, its rows and its columns.
-use Rattle.std.proofs.Common.{◌≡◌, ◌+◌, ◌*◌, ◌≤◌, ◌-◌, ◌==◌, not, Bool, true, false, cond, ◌||◌, nat_lt, Option, Some, None, IfSome, List, [], ◌∷◌, ◌++◌, length, map, refl, arith}
+use Rattle.std.proofs.Common.{◌≡◌, ℕ, ◌+◌, ◌*◌, ◌≤◌, ◌-◌, ◌==◌, not, Bool, true, false, cond, ◌||◌, ◌&&◌, nat_lt, is_some, Option, Some, None, IfSome, [], ◌∷◌, ◌++◌, length, map, refl, ap, arith}
 use Rattle.std.proofs.lemmas.Bool.{ltb-false, le-ltb, eqb-true, ne_eqb}
+use Rattle.std.proofs.lemmas.Bool.Decides.{nat_tests}
 use Rattle.std.proofs.lemmas.List.{length-map}
 use Rattle.std.proofs.Math.Nat.{mul-le-mul_right, add-mul}
+use Rattle.fl_base.specs.declared.types.Geometry.{Geometry}
 use Rattle.fl_base.specs.declared.types.RingPlace.{RingPlace}
 use Rattle.std.specs.List.{sum_by}
 use Rattle.std.proofs.lemmas.List.Sums.{sum_by-cons}
 use Rattle.fl_model.specs.Record.{blocks_of, content_per_page, row_len, layout_len}
 use Rattle.fl_plan.specs.declared.table_config.TableConfig.{TableConfig}
 use Rattle.fl_plan.specs.Limits.{IsWithinLimits, IsRingSize}
-use Rattle.fl_plan.specs.Plan.{blocks_in, plan_of_table}
-use Rattle.fl_plan.specs.Refusal.{config_fault, field_faults, room_faults, size_faults, format_faults, nameless}
-use Rattle.fl_plan.proofs.Faults.{none_first, none_last}
-use Rattle.fl_words.specs.Config.{ConfigFault, first_fault, too_large, bad_blob_limit, BlobLimit, RowTooLong, DeviceTooLarge}
+use Rattle.fl_plan.specs.Plan.{blocks_in, plan_of_table, with_log}
+use Rattle.fl_plan.specs.Refusal.{config_fault, config_fault_with, field_faults, room_faults, ring_faults, pages_misfit, is_bad_ring, nameless}
+use Rattle.fl_plan.proofs.Faults.{none_first, none_last, none-both}
+use Rattle.fl_words.specs.Config.{ConfigFault, first_fault, too_large, bad_blob_limit, BlobLimit, RowTooLong, DeviceTooLarge, Format, LogBlocks, LogVar}
 use Rattle.fl_schema.specs.Form.{layout_with}
 use Rattle.fl_schema.specs.Refusal.{refusal_of}
 use Rattle.fl_schema.specs.Types.{column_of}
 use Rattle.fl_schema.specs.declared.schema.SchemaRefusal.{SchemaRefusal}
 
--- all tests but that of the entries' form
-all_but_form : (config : TableConfig) → config_fault config ≡ None → first_fault (field_faults config ++ room_faults (plan_of_table nameless config) ++ size_faults config.geometry (plan_of_table nameless config ∷ [])) ≡ None
-all_but_form config fits =
-    none_first (field_faults config ++ room_faults (plan_of_table nameless config) ++ size_faults config.geometry (plan_of_table nameless config ∷ [])) (format_faults (plan_of_table nameless config)) fits
+-- the size of all rings, with a log
+pub with-log-size : (log : Option RingPlace) (config : TableConfig) (own blocks : ℕ) → own ≡ blocks_of (plan_of_table nameless config) → blocks ≡ blocks_in log →
+    too_large config.geometry (with_log (blocks_in log) (plan_of_table nameless config) ∷ []) ≡ pages_misfit config.geometry (own + blocks)
+with-log-size log config own blocks all logged =
+    let plan = with_log (blocks_in log) (plan_of_table nameless config) in
+    let total : sum_by blocks_of (plan ∷ []) ≡ own + blocks = omega (arith, all, logged, sum_by-cons blocks_of plan []) in
+    ap (λ n. pages_misfit config.geometry n) total
 
-not_so : (b : Bool) (fault : ConfigFault) → cond b (Some fault) None ≡ None → b ≡ false
-not_so true fault e = cc
-not_so false fault e = refl
+-- fewer blocks fit where more do
+pub fewer-fit : (geometry : Geometry) (few many : ℕ) → few ≤ many → pages_misfit geometry many ≡ false → pages_misfit geometry few ≡ false
+fewer-fit geometry few many le fits =
+    let pages : few * geometry.block ≤ many * geometry.block = mul-le-mul_right geometry.block le in
+    let bytes : few * geometry.block * geometry.page ≤ many * geometry.block * geometry.page = mul-le-mul_right geometry.page pages in
+    grind (arith, nat_tests, pages, bytes, fits)
+
+-- the last tests of a table that isn't refused
+pub record RingsFit (log : Option RingPlace) (config : TableConfig) : Type 0 where
+  pub size : too_large config.geometry (with_log (blocks_in log) (plan_of_table nameless config) ∷ []) ≡ false
+  pub format : (config.full_index && (blocks_in config.index == 0)) ≡ false
+  pub log_size : is_bad_ring log ≡ false
+  pub no_blobs : (is_some log && is_some config.var) ≡ false
+
+pub rings-fit : (log : Option RingPlace) (config : TableConfig) → config_fault_with log config ≡ None → RingsFit log config
+rings-fit log config fits =
+    let tests = by-tests _ _ _ _ (none_last (field_faults config ++ room_faults (plan_of_table nameless config)) (ring_faults log config) fits) in
+    record { size = tests.0; format = tests.1; log_size = tests.2; no_blobs = tests.3 }
+  where
+    by-tests : (a b c d : Bool) → cond a (Some DeviceTooLarge) (cond b (Some Format) (cond c (Some LogBlocks) (cond d (Some LogVar) None))) ≡ None →
+        (a ≡ false) × (b ≡ false) × (c ≡ false) × (d ≡ false)
+    by-tests true b c d e = cc
+    by-tests false true c d e = cc
+    by-tests false false true d e = cc
+    by-tests false false false true e = cc
+    by-tests false false false false e = (refl, refl, refl, refl)
+
+-- a table that isn't refused with its log isn't refused without it
+pub alone-fits : (log : Option RingPlace) (config : TableConfig) → config_fault_with log config ≡ None → config_fault config ≡ None
+alone-fits log config fits =
+    let plan = plan_of_table nameless config in
+    let passed = rings-fit log config fits in
+    let few : sum_by blocks_of (plan ∷ []) ≤ sum_by blocks_of (with_log (blocks_in log) plan ∷ []) = omega (arith, sum_by-cons blocks_of plan [], sum_by-cons blocks_of (with_log (blocks_in log) plan) []) in
+    let size : too_large config.geometry (plan ∷ []) ≡ false = fewer-fit config.geometry (sum_by blocks_of (plan ∷ [])) (sum_by blocks_of (with_log (blocks_in log) plan ∷ [])) few passed.size in
+    none-both (field_faults config ++ room_faults plan) (ring_faults None config) (none_first (field_faults config ++ room_faults plan) (ring_faults log config) fits) (rw size (rw passed.format refl))
 
 or_false : (a b : Bool) → (a || b) ≡ false → a ≡ false
 or_false true b e = cc
@@ -34,8 +71,7 @@ or_false false b e = refl
 -- the data ring and an index ring, which has six pages at least, have no more pages than a device
 pub few-pages : (config : TableConfig) (place : RingPlace) → config_fault config ≡ None → IsWithinLimits config → config.index ≡ Some place → config.rows.blocks * config.geometry.block + 6 ≤ 65536
 few-pages config place fits limits is =
-    let last = none_last (field_faults config ++ room_faults (plan_of_table nameless config)) (size_faults config.geometry (plan_of_table nameless config ∷ [])) (all_but_form config fits) in
-    let small = not_so (too_large config.geometry (plan_of_table nameless config ∷ [])) DeviceTooLarge last in
+    let small = (rings-fit None config fits).size in
     let total : sum_by blocks_of (plan_of_table nameless config ∷ []) ≡ config.rows.blocks + blocks_in config.index + blocks_in config.var = omega (arith, sum_by-cons blocks_of (plan_of_table nameless config) []) in
     let few : sum_by blocks_of (plan_of_table nameless config ∷ []) * config.geometry.block ≤ 65536 =
     ltb-false 65536 (sum_by blocks_of (plan_of_table nameless config ∷ []) * config.geometry.block)
@@ -61,7 +97,7 @@ or_right false b e = e
 rooms : (config : TableConfig) → config_fault config ≡ None → first_fault (room_faults (plan_of_table nameless config)) ≡ None
 rooms config fits =
     let plan = plan_of_table nameless config in
-    none_last (field_faults config) (room_faults plan) (none_first (field_faults config ++ room_faults plan) (size_faults config.geometry (plan ∷ [])) (all_but_form config fits))
+    none_last (field_faults config) (room_faults plan) (none_first (field_faults config ++ room_faults plan) (ring_faults None config) fits)
 
 pub few-blobs : (config : TableConfig) → config_fault config ≡ None → config.blob_limit ≤ 1500
 few-blobs config fits =

@@ -1,5 +1,5 @@
 -- A table's configuration as the plan of the model.
-use Rattle.std.specs.Prelude.{◌≡◌, ℕ, ◌+◌, ℤ, Option, Some, None, IfSome, List, map}
+use Rattle.std.specs.Prelude.{◌≡◌, ℕ, ◌+◌, ◌<◌, ℤ, Option, Some, None, IfSome, List, map}
 use Rattle.fl_base.specs.declared.types.RingPlace.{RingPlace}
 use Rattle.fl_bitmap.specs.declared.buckets.Buckets.{Buckets}
 use Rattle.fl_schema.specs.Types.{column_of}
@@ -50,6 +50,15 @@ plan_of_table label config = record {
   full_index = config.full_index;
   log_blocks = 0;
 }
+
+-- .. with a log of so many blocks, which isn't in the configuration
+abbrev pub with_log : ℕ → Plan → Plan
+with_log blocks plan = record plan { log_blocks = blocks }
+
+-- a ring of so many blocks stands at a block; there is none where it has no blocks
+abbrev pub IsRingAt : Option RingPlace → ℕ → ℕ → Type 0
+IsRingAt None first blocks = blocks ≡ 0
+IsRingAt (Some place) first blocks = (place.first_block ≡ first) × (place.blocks ≡ blocks) × (0 < blocks)
 
 -- a configuration of the plan, whose rings stand one after another
 pub record IsConfigOf (config : TableConfig) (plan : Plan) : Type 0 where

@@ -6,9 +6,9 @@ use Rattle.fl_model.specs.Record.{Plan, row_len}
 use Rattle.fl_words.specs.Config as words
 use Rattle.fl_words.specs.Config.{ConfigFault, first_fault, device_faults, bad_blob_limit, too_large}
 use Rattle.fl_plan.specs.declared.refusal.ConfigRefusal.{ConfigRefusal}
-use Rattle.fl_plan.specs.declared.refusal.ConfigRefusal.TheVariants.{DeviceTwice, TableFirst, PageSize, BlockSize, TooManyTables, NameTaken, KeyWidth, ColumnType, ColumnCount, DataBlocks, IndexBlocks, VarBlocks, Bits, Width, ErrorBound, BlobLimit, RowTooLong, DeviceTooLarge, Format, NoMemory}
+use Rattle.fl_plan.specs.declared.refusal.ConfigRefusal.TheVariants.{DeviceTwice, TableFirst, PageSize, BlockSize, TooManyTables, NameTaken, KeyWidth, ColumnType, ColumnCount, DataBlocks, IndexBlocks, VarBlocks, Bits, Width, ErrorBound, BlobLimit, RowTooLong, DeviceTooLarge, Format, LogBlocks, LogVar, NoMemory}
 use Rattle.fl_plan.specs.declared.table_config.TableConfig.{TableConfig}
-use Rattle.fl_plan.specs.Plan.{Label, plan_of_table}
+use Rattle.fl_plan.specs.Plan.{Label, blocks_in, plan_of_table, with_log}
 
 -- the refusal of a line that it is; memory is none
 abbrev pub fault_of : ConfigRefusal → Option ConfigFault
@@ -31,6 +31,8 @@ fault_of BlobLimit = Some words.BlobLimit
 fault_of RowTooLong = Some words.RowTooLong
 fault_of DeviceTooLarge = Some words.DeviceTooLarge
 fault_of Format = Some words.Format
+fault_of LogBlocks = Some words.LogBlocks
+fault_of LogVar = Some words.LogVar
 fault_of NoMemory = None
 
 -- the greatest length of a blob isn't one that a ring of so many blocks, or none, can keep
@@ -67,21 +69,25 @@ room_faults plan =
     (bad_blob_limit plan, words.BlobLimit)
     ∷ (nat_lt (plan.geometry.page - 24) (row_len plan), words.RowTooLong) ∷ []
 
--- .. and the size of its rings
-abbrev pub size_faults : Geometry → List Plan → List (Bool × ConfigFault)
-size_faults geometry plans = (too_large geometry plans, words.DeviceTooLarge) ∷ []
-
--- .. and whether full index entries have an index
-abbrev pub format_faults : Plan → List (Bool × ConfigFault)
-format_faults plan = (plan.full_index && (plan.index_blocks == 0), words.Format) ∷ []
-
 abbrev pub nameless : Label
 nameless = record { name = []; base = pos 0; width = 0 }
 
+-- .. the size of all rings with that of its log, whether full index entries have an index, and the blocks of the log, which no
+-- table with variable data has
+abbrev pub ring_faults : Option RingPlace → TableConfig → List (Bool × ConfigFault)
+ring_faults log config =
+    let plan = with_log (blocks_in log) (plan_of_table nameless config) in
+    (too_large config.geometry (plan ∷ []), words.DeviceTooLarge)
+    ∷ (plan.full_index && (plan.index_blocks == 0), words.Format)
+    ∷ (is_bad_ring log, words.LogBlocks)
+    ∷ (is_some log && is_some config.var, words.LogVar) ∷ []
+
+-- the first that applies of a table with a log at this place, or with none
+abbrev pub config_fault_with : Option RingPlace → TableConfig → Option ConfigFault
+config_fault_with log config = first_fault (field_faults config ++ room_faults (plan_of_table nameless config) ++ ring_faults log config)
+
 abbrev pub config_fault : TableConfig → Option ConfigFault
-config_fault config =
-    let plan = plan_of_table nameless config in
-    first_fault (field_faults config ++ room_faults plan ++ size_faults config.geometry (plan ∷ []) ++ format_faults plan)
+config_fault config = config_fault_with None config
 
 -- a result tells a fault of a line, or that there is none; it is no matter of memory
 abbrev pub Tells : {A : Type 0} → Result A ConfigRefusal → Option ConfigFault → Type 0

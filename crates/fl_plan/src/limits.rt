@@ -1,5 +1,5 @@
 // The limits of the numbers of a configuration.
-ghost use Rattle.std.specs.Prelude.{◌≡◌, ◌%◌, ◌<◌, ◌≤◌, not, ◌||◌, nat_lt, ◌==◌};
+ghost use Rattle.std.specs.Prelude.{◌≡◌, ◌%◌, ◌^◌, ◌<◌, ◌≤◌, not, ◌||◌, nat_lt, ◌==◌};
 ghost use Rattle.fl_plan.specs.Refusal.{blobs_misfit, pages_misfit};
 ghost use Rattle.fl_plan.specs.Limits.{IsWithin};
 
@@ -43,7 +43,7 @@ pub fn has_room_for_blobs(geometry: Geometry, blocks: u64, limit: u64) -> bool
 /// Whether a device may have so many blocks.
 pub fn has_room_for(geometry: Geometry, blocks: u64) -> bool
     requires within { IsWithin geometry }
-    requires few { blocks ≤ 196608 }
+    requires few { blocks < 2 ^ 33 }
     ensures { result ≡ not (pages_misfit geometry blocks) }
 {
     let pages = blocks * u64::from(geometry.block);

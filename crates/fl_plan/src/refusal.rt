@@ -44,6 +44,10 @@ pub enum ConfigRefusal {
     DeviceTooLarge,
     /// Index entries are to be full, and there is no index ring.
     Format,
+    /// There is a log, and it has fewer than 3 blocks or more than 16,384.
+    LogBlocks,
+    /// There are a log and a ring of variable data.
+    LogVar,
     /// Memory ran out.
     NoMemory,
 }

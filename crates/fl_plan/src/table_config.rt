@@ -3,7 +3,7 @@ ghost use Rattle.std.specs.Prelude.{◌≡◌, ◌≤◌, ◌&&◌, ◌==◌, On
 ghost use Rattle.fl_model.specs.Record.{row_len, blocks_of};
 ghost use Rattle.fl_words.specs.Config.{first_fault};
 ghost use Rattle.fl_plan.specs.Plan.{Label, blocks_in, plan_of_table};
-ghost use Rattle.fl_plan.specs.Refusal.{is_bad_ring, field_faults, room_faults, config_fault, Tells};
+ghost use Rattle.fl_plan.specs.Refusal.{is_bad_ring, field_faults, room_faults, ring_faults, config_fault, config_fault_with, Tells};
 ghost use Rattle.fl_plan.specs.Limits.{IsWithin, IsWithinLimits};
 
 use crate::ConfigRefusal;
@@ -92,15 +92,18 @@ impl TableConfig {
         ensures refusal { Tells result (config_fault self.now) }
         ensures limits { OnOk result (IsWithinLimits self.now) }
     {
+        self.check_with(None)
+    }
+
+    /// The refusal of this table with a log in the ring at this place, or with none: the first that applies, in the order
+    /// of a table line's. The blocks of the log count in the size of the device.
+    pub fn check_with(&self, log: Option<RingPlace>) -> Result<(), ConfigRefusal>
+        ensures refusal { Tells result (config_fault_with log self.now) }
+        ensures limits { OnOk result (IsWithinLimits self.now) }
+    {
         self.check_fields()?;
         self.check_room()?;
-        if !has_room_for(self.geometry, self.blocks()) {
-            return Err(ConfigRefusal::DeviceTooLarge);
-        }
-        if self.lacks_index() {
-            return Err(ConfigRefusal::Format);
-        }
-        Ok(())
+        self.check_rings(log)
     }
 
     /// Whether its index entries are to be full, and there is no index.
@@ -153,6 +156,27 @@ impl TableConfig {
         }
         if self.row_len() > self.geometry.page - 24 {
             return Err(ConfigRefusal::RowTooLong);
+        }
+        Ok(())
+    }
+
+    /// The refusal of the size of all rings, of the form of index entries or of the log.
+    fn check_rings(&self, log: Option<RingPlace>) -> Result<(), ConfigRefusal>
+        requires limits { IsWithinLimits self.now }
+        ensures { Tells result (first_fault (ring_faults log self.now)) }
+    {
+        let all = self.blocks() + u64::from(blocks_in(log));
+        if !has_room_for(self.geometry, all) {
+            return Err(ConfigRefusal::DeviceTooLarge);
+        }
+        if self.lacks_index() {
+            return Err(ConfigRefusal::Format);
+        }
+        if is_bad_ring(log) {
+            return Err(ConfigRefusal::LogBlocks);
+        }
+        if log.is_some() && self.var.is_some() {
+            return Err(ConfigRefusal::LogVar);
         }
         Ok(())
     }

@@ -113,3 +113,28 @@ fn full_index(rt: HostRuntime) -> Result<(), Fail> {
     }
     Ok(())
 }
+
+#[test]
+fn log(rt: HostRuntime) -> Result<(), Fail> {
+    let large = Err(ConfigRefusal::DeviceTooLarge);
+    let cases: [(u32, Option<u32>, bool, u32, Result<(), ConfigRefusal>); 9] = [
+        (256, None, false, 16384, large),
+        (256, None, true, 16384, large),
+        (256, None, true, 61, Err(ConfigRefusal::Format)),
+        (256, None, false, 61, Ok(())),
+        (256, None, false, 62, large),
+        (2, None, false, 16384, large),
+        (2, None, false, 2, Err(ConfigRefusal::LogBlocks)),
+        (2, Some(3), false, 3, Err(ConfigRefusal::LogVar)),
+        (2, None, false, 4294967295, large),
+    ];
+    for (block, var, full_index, blocks, wanted) in cases {
+        let blob_limit = if var.is_some() { 1 } else { 0 };
+        let mut columns = ArrayVec::new();
+        columns.push(ColumnType::I32);
+        let mut logged = table((block, 4096, 3, None, var, 1, blob_limit), columns);
+        logged.full_index = full_index;
+        assert_eq!(rt; logged.check_with(Some(ring(blocks))), wanted);
+    }
+    Ok(())
+}

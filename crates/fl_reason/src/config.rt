@@ -35,10 +35,11 @@ pub struct ConfigLine {
     /// How many columns there are, and the first word that is no type of one.
     pub columns: usize,
     pub no_type: Option<Word>,
-    /// The blocks of the three rings.
+    /// The blocks of the rings; 0 where there is no log.
     pub rows: u64,
     pub index: u64,
     pub var: u64,
+    pub log: u64,
     pub bits: u64,
     pub width: u64,
     pub error: u64,
@@ -60,6 +61,7 @@ impl ConfigLine {
             rows: 0,
             index: 0,
             var: 0,
+            log: 0,
             bits: 0,
             width: 0,
             error: 0,
@@ -100,6 +102,7 @@ fn line_of(command: &Command, room: &LineRoom, device: &ConfigLine, config: &Con
             error,
             blob,
             full: _,
+            log,
         } => {
             let mut line = *device;
             line.blocks = u64::from(config.blocks());
@@ -110,6 +113,7 @@ fn line_of(command: &Command, room: &LineRoom, device: &ConfigLine, config: &Con
             line.rows = *rows;
             line.index = *index;
             line.var = *var;
+            line.log = log.unwrap_or(0);
             line.bits = *bits;
             line.width = *width;
             line.error = *error;

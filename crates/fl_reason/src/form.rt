@@ -3,14 +3,16 @@
 /// The form of a put: so many values as there are columns, and perhaps a blob.
 pub(crate) const PUT: &str = "put NAME KEY VALUE.. [blob HEX]";
 
+/// The form of a table.
+pub(crate) const TABLE: &str =
+    "table NAME KEY COLUMNS DATA INDEX VAR BITS BASE WIDTH ERROR BLOB [index2] [rlc LOG]";
+
 /// The form of the lines that begin with this word, with the names of the places of their words; what stands in brackets may
 /// be lacking.
 pub(crate) fn form_of(command: &[u8]) -> Option<&'static str> {
     match command {
         b"device" => Some("device PAGE BLOCK"),
-        b"table" => {
-            Some("table NAME KEY COLUMNS DATA INDEX VAR BITS BASE WIDTH ERROR BLOB [index2]")
-        }
+        b"table" => Some(TABLE),
         b"mount" => Some("mount"),
         b"off" => Some("off"),
         b"cut" => Some("cut N KIND [SEED]"),

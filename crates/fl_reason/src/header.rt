@@ -88,7 +88,7 @@ fn name_of(line: usize, word: usize) -> Word {
     let form: &[u8] = if line == 1 {
         b"device PAGE BLOCK"
     } else {
-        b"table NAME KEY COLUMNS DATA INDEX VAR BITS BASE WIDTH ERROR BLOB FORMAT"
+        b"table NAME KEY COLUMNS DATA INDEX VAR BITS BASE WIDTH ERROR BLOB ENDING ENDING ENDING"
     };
     Word::of(word_at(form, word))
 }

@@ -49,14 +49,16 @@ pub struct Misfit {
 /// The first word that isn't what is wanted in its place, of those that have to be numbers, or of the others.
 fn misfit_of(line: &[u8], form: &str, are_numbers: bool) -> Option<Misfit> {
     let mut number: usize = 0;
-    let mut is_behind_blob = false;
+    let mut before = b"".as_slice();
+    let mut last = None;
     let words = line.split(|byte| *byte == b' ');
     for word in words {
         if word.is_empty() {
             continue;
         }
         number = number.saturating_add(1);
-        if let Some(wanted) = wanted_at(form, number, word, is_behind_blob) {
+        last = wanted_at(form, number, word, before, last);
+        if let Some(wanted) = last {
             if wanted.is_number() == are_numbers && !wanted.fits(word) {
                 return Some(Misfit {
                     number,
@@ -65,7 +67,7 @@ fn misfit_of(line: &[u8], form: &str, are_numbers: bool) -> Option<Misfit> {
                 });
             }
         }
-        is_behind_blob = word == b"blob".as_slice();
+        before = word;
     }
     None
 }

@@ -43,7 +43,9 @@ impl Display for Wanted {
             Wanted::Cut => f.write_str("one of before, after, half and noise"),
             Wanted::Columns => f.write_str("1 to 8 numbers of columns, joined by commas"),
             Wanted::Blob => f.write_str("- or an even number of hexadecimal digits"),
-            Wanted::FullIndex => f.write_str("index2, or to be left out"),
+            Wanted::Ending => f.write_str("index2 or rlc, or to be left out"),
+            Wanted::Log => f.write_str("rlc, or to be left out"),
+            Wanted::Nothing => f.write_str("left out"),
         }
     }
 }
@@ -109,6 +111,8 @@ impl Display for ConfigReason {
             ConfigRefusal::RowTooLong => fmt_long_row(line, f),
             ConfigRefusal::DeviceTooLarge => fmt_large(line, f),
             ConfigRefusal::Format => fmt_no_index(line, f),
+            ConfigRefusal::LogBlocks => fmt_ring(f, "LOG", line.log, "3 to 16384"),
+            ConfigRefusal::LogVar => fmt_log_and_var(line, f),
             ConfigRefusal::NoMemory => f.write_str("there is no memory"),
         }
     }
@@ -224,12 +228,14 @@ fn fmt_large<W: fmt::Write>(line: &ConfigLine, f: &mut fmt::Formatter<W>) -> fmt
         rows,
         index,
         var,
+        log,
         ..
     } = line;
     let blocks = blocks
         .saturating_add(*rows)
         .saturating_add(*index)
-        .saturating_add(*var);
+        .saturating_add(*var)
+        .saturating_add(*log);
     write!(
         f,
         "all rings have {blocks} blocks of {block} pages of {page} bytes; at most 65536 pages and 67108864 bytes fit"
@@ -242,6 +248,15 @@ fn fmt_no_index<W: fmt::Write>(line: &ConfigLine, f: &mut fmt::Formatter<W>) -> 
     write!(
         f,
         "index2 needs an index ring: INDEX is {index} and has to be 3 to 16384 blocks, or index2 has to be left out"
+    )
+}
+
+// A log beside variable data.
+fn fmt_log_and_var<W: fmt::Write>(line: &ConfigLine, f: &mut fmt::Formatter<W>) -> fmt::Result {
+    let var = line.var;
+    write!(
+        f,
+        "rlc needs a table without variable data: VAR is {var} and has to be 0, or rlc and LOG have to be left out"
     )
 }
 

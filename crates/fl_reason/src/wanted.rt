@@ -1,5 +1,5 @@
 // What is wanted at a place of a line.
-use crate::form::PUT;
+use crate::form::{PUT, TABLE};
 use crate::word::word_at;
 use fl_base::Name;
 use std::str;
@@ -23,9 +23,19 @@ pub enum Wanted {
     Columns,
     /// The digits of a blob.
     Blob,
-    /// The word for full index entries.
-    FullIndex,
+    /// The first word behind those of a table: that for full index entries, or that for a log.
+    Ending,
+    /// The word for a log.
+    Log,
+    /// No word: the line has to end before it.
+    Nothing,
 }
+
+/// A number of 64 bits.
+const ANY_NUMBER: Wanted = Wanted::Number {
+    least: 0,
+    greatest: u64::MAX,
+};
 
 impl Wanted {
     /// Whether it is a number: a word that is none is another fault than one of another form.
@@ -47,7 +57,9 @@ impl Wanted {
             Wanted::Cut => matches!(word, b"before" | b"after" | b"half" | b"noise"),
             Wanted::Columns => are_columns(word),
             Wanted::Blob => is_blob(word),
-            Wanted::FullIndex => word == b"index2".as_slice(),
+            Wanted::Ending => matches!(word, b"index2" | b"rlc"),
+            Wanted::Log => word == b"rlc".as_slice(),
+            Wanted::Nothing => false,
         }
     }
 }
@@ -96,7 +108,6 @@ fn wanted_of(place: &[u8]) -> Option<Wanted> {
         b"OP" => Some(Wanted::Comparison),
         b"KIND" => Some(Wanted::Cut),
         b"LIST" => Some(Wanted::Columns),
-        b"[index2]" => Some(Wanted::FullIndex),
         b"BASE" | b"VALUE" | b"[VLOW" | b"VHIGH]" => Some(Wanted::Signed),
         b"COUNT" | b"STEP" => Some(Wanted::Number {
             least: 1,
@@ -106,28 +117,45 @@ fn wanted_of(place: &[u8]) -> Option<Wanted> {
             least: 1,
             greatest: u64::MAX,
         }),
-        _ => Some(Wanted::Number {
-            least: 0,
-            greatest: u64::MAX,
-        }),
+        _ => Some(ANY_NUMBER),
     }
 }
 
-/// What is wanted of the word of this number, counted from 1, of a line of this form. `is_behind_blob` says whether the word
-/// before is `blob`, which ends the values of a put.
+/// The words of a table line without those that it may end with.
+const TABLE_WORDS: usize = 12;
+
+/// What is wanted of the word of this number, counted from 1, with which a table line may end, behind this one and what that one
+/// had to be.
+fn wanted_ending(number: usize, before: &[u8], last: Option<Wanted>) -> Wanted {
+    if number == TABLE_WORDS + 1 {
+        return Wanted::Ending;
+    }
+    match (last, before) {
+        (Some(Wanted::Ending), b"index2") => Wanted::Log,
+        (Some(Wanted::Ending | Wanted::Log), b"rlc") => ANY_NUMBER,
+        _ => Wanted::Nothing,
+    }
+}
+
+/// What is wanted of the word of this number, counted from 1, of a line of this form, behind this one and what that one had to be.
+/// The word `blob` ends the values of a put.
 pub(crate) fn wanted_at(
     form: &str,
     number: usize,
     word: &[u8],
-    is_behind_blob: bool,
+    before: &[u8],
+    last: Option<Wanted>,
 ) -> Option<Wanted> {
     if number < 2 {
         return None;
     }
+    if form == TABLE && number > TABLE_WORDS {
+        return Some(wanted_ending(number, before, last));
+    }
     if form != PUT || number < 4 {
         return wanted_of(word_at(form.as_bytes(), number));
     }
-    if is_behind_blob {
+    if before == b"blob".as_slice() {
         return Some(Wanted::Blob);
     }
     if word == b"blob".as_slice() {

@@ -9,6 +9,7 @@ use Rattle.fl_model.specs.Log.{IsLog}
 use Rattle.fl_model.specs.Record.{Plan, blocks_of, has_log}
 use Rattle.fl_model.specs.Ring.{Ring}
 use Rattle.fl_model.specs.Table.{Table, Entry, LogRing, shape_of, has_rows, log_pages, lose}
+use Rattle.fl_machine.proofs.Adding.{Any}
 use Rattle.fl_machine.proofs.Logs.{core, IsFine, lost}
 use Rattle.fl_machine.proofs.LogTables.{Between, between-fine}
 use Rattle.fl_table.specs.Pages as pages
@@ -18,7 +19,7 @@ use Rattle.fl_table.specs.declared.table.Table as code
 use Rattle.fl_table.proofs.Bare.{bare-table}
 use Rattle.fl_table.proofs.Holding.{lost-twice}
 use Rattle.fl_table.proofs.Plain.{plain-lose, table-facts, table-parts}
-use Rattle.fl_rlc.specs.Logged.{Stands, Rests, LogStands}
+use Rattle.fl_rlc.specs.Logged.{Stands, Rests, LogStands, IsKept}
 use Rattle.fl_rlc.specs.Memory.{page_in, IsPlanned}
 use Rattle.fl_rlc.specs.Pages.{log_body, IsLogRing}
 use Rattle.fl_rlc.specs.Standing as log
@@ -57,15 +58,20 @@ ring-facts l first plan t ring at planned is h some logged = record {
   logged = logged;
 }
 
-pub stands-of : {KNOTS SLOTS : ℕ} (t : LoggedTable KNOTS SLOTS) (l : RecordLog) (g : FlashState) (first : ℕ) (plan : Plan) (s : Table) → t.log ≡ Some l → table.Stands t.table g first (bare plan) (bare_table s) →
-    log.Stands l g (first + blocks_of (bare plan)) plan s → Between s → Stands t g first plan s
-stands-of t l g first plan s t_is inner h between =
+pub stands-kept : {KNOTS SLOTS : ℕ} (t : LoggedTable KNOTS SLOTS) (l : RecordLog) (g : FlashState) (first : ℕ) (plan : Plan) (s : Table) → t.log ≡ Some l → table.Stands t.table g first (bare plan) (bare_table s) →
+    log.Stands l g (first + blocks_of (bare plan)) plan s → IsLog s → IsKept s → Stands t g first plan s
+stands-kept t l g first plan s t_is inner h logged kept =
     let r = h.ring in
     record {
       unlogged = inner;
-      facts = table-of plan s inner.facts (ring-facts l (first + blocks_of (bare plan)) plan s r.ring (page_in l g) r.planned r.ring_is r.pages r.logged_some (log-of s r.ring r.ring_is (between-fine s between)));
-      log = subst (λ (o : Option RecordLog). LogStands o g (first + blocks_of (bare plan)) plan s) (sym t_is) (h, kept-of s r.ring r.ring_is between);
+      facts = table-of plan s inner.facts (ring-facts l (first + blocks_of (bare plan)) plan s r.ring (page_in l g) r.planned r.ring_is r.pages r.logged_some logged);
+      log = subst (λ (o : Option RecordLog). LogStands o g (first + blocks_of (bare plan)) plan s) (sym t_is) (h, kept);
     }
+
+pub stands-of : {KNOTS SLOTS : ℕ} (t : LoggedTable KNOTS SLOTS) (l : RecordLog) (g : FlashState) (first : ℕ) (plan : Plan) (s : Table) → t.log ≡ Some l → table.Stands t.table g first (bare plan) (bare_table s) →
+    log.Stands l g (first + blocks_of (bare plan)) plan s → Between Any s → Stands t g first plan s
+stands-of t l g first plan s t_is inner h between =
+    let r = h.ring in stands-kept t l g first plan s t_is inner h (log-of s r.ring r.ring_is (between-fine s between)) (kept-of s r.ring r.ring_is between)
 
 pub rests-of : (l : RecordLog) (g : FlashState) (first : ℕ) (plan : Plan) (s : Table) (ring : Ring) → IsPlanned l (first + blocks_of (bare plan)) plan → pages.Rests g first (bare plan) (bare_table (lose s)) →
     s.log ≡ Some ring → IsLogRing plan (log_pages s) ring (page_in l g) → (has_rows s.log ≡ false → s.logged ≡ []) → IsFine (lost (core s)) → Rests g first plan (lose s)

@@ -1,5 +1,5 @@
 -- How a flush of a table ends that may have a log, which it doesn't touch.
-use Rattle.std.proofs.Common.{◌≡◌, ℕ, ◌+◌, Bool, ◌==◌, ◌&&◌, nat_lt, Option, Some, None, Ok, Err, List, [], length, map, refl, sym, ◌∙◌, ap, subst}
+use Rattle.std.proofs.Common.{◌≡◌, ℕ, ◌+◌, Bool, ◌==◌, ◌&&◌, nat_lt, Option, Some, None, Result, Ok, Err, List, [], length, map, refl, sym, ◌∙◌, ap, subst}
 use Rattle.fl_flash.specs.Flash.{FlashState, page_at}
 use Rattle.fl_flash.specs.declared.flash.FlashFault.{FlashFault}
 use Rattle.fl_model.specs.Bare.{bare, bare_table, log_of, beside, end_beside, progress_beside}
@@ -9,6 +9,7 @@ use Rattle.fl_model.specs.Table.{Table, Entry, LogRing, table_seals, flushed, pe
 use Rattle.fl_model.specs.Within.{seals_within}
 use Rattle.fl_model.specs.Work.{Device, PartProgress}
 use Rattle.fl_model.proofs.Bare.{bare-tables}
+use Rattle.fl_machine.proofs.Adding.{Any, any-last}
 use Rattle.fl_machine.proofs.LogTables.{Between, flush-goes, flush-between}
 use Rattle.fl_page.specs.Writer.{Gathers}
 use Rattle.fl_table.specs.Mounting.{OutsideStands}
@@ -22,7 +23,7 @@ use Rattle.fl_table.specs.declared.faults.FlushFault.{FlushFault}
 use Rattle.fl_table.specs.declared.faults.FlushFault.TheVariants as flush
 use Rattle.fl_table.proofs.Staying.{ring-same}
 use Rattle.fl_rlc.specs.Logged.{Stands, LogStands, IsKept}
-use Rattle.fl_rlc.specs.Memory.{rows_in, page_in}
+use Rattle.fl_rlc.specs.Memory.{rows_in, page_in, IsSamePlan}
 use Rattle.fl_rlc.specs.Outcomes.{Finishes, Breaks, FlushEnds, LogStays}
 use Rattle.fl_rlc.specs.Pages.{IsLogRing}
 use Rattle.fl_rlc.specs.Rows.{AreBegun}
@@ -37,6 +38,31 @@ use Rattle.fl_rlc.proofs.Puts.{log-stands, between, room, fault-beside, fault-br
 use Rattle.fl_rlc.proofs.PutRows.{none-left, sealed-none}
 use Rattle.fl_rlc.proofs.PutSteps.{table-bare}
 use Rattle.fl_rlc.proofs.Stops.{stops-fine, unbeside}
+
+-- a log whose next page no longer has the pending rows of a table
+pub record IsEmptied (plan : Plan) (table : Table) (old new : RecordLog) : Type 0 where
+  pub same : IsSamePlan old new
+  pub ring : new.ring ≡ old.ring
+  pub rows : Gathers (row_layout plan) (map stored_row (pending_entries table)) (rows_in old) → Gathers (row_layout plan) [] (rows_in new)
+
+abbrev pub AreEmptied : Plan → Table → Option RecordLog → Option RecordLog → Type 0
+AreEmptied plan table None new = new ≡ None
+AreEmptied plan table (Some old) None = ⊥
+AreEmptied plan table (Some old) (Some new) = IsEmptied plan table old new
+
+pub begun-emptied : (plan : Plan) (table : Table) (a b : Option RecordLog) → AreBegun a b → AreEmptied plan table a b
+begun-emptied plan table None b h = h
+begun-emptied plan table (Some old) None h = h
+begun-emptied plan table (Some old) (Some new) h = record { same = h.same; ring = h.ring; rows = h.rows (row_layout plan) (map stored_row (pending_entries table)) }
+
+-- where none is pending it has none
+pub idle-emptied : (plan : Plan) (table : Table) (a : Option RecordLog) → table.pending ≡ 0 → AreEmptied plan table a a
+idle-emptied plan table None none = refl
+idle-emptied plan table (Some log) none = record {
+  same = record { geometry = refl; place = refl };
+  ring = refl;
+  rows = λ h. subst (λ (es : List Entry). Gathers (row_layout plan) (map stored_row es) (rows_in log)) (none-left table none) h;
+}
 
 module _ {KNOTS SLOTS : ℕ} (t : LoggedTable KNOTS SLOTS) (f : FlashState) (first : ℕ) (plan : Plan) (table : Table) (h : Stands t f first plan table) (rose : Bool) (device : Device) (new : FlashState) (outside : OutsideStands t.table (page_at f) (page_at new)) where
   abbrev F : Table
@@ -74,13 +100,13 @@ module _ {KNOTS SLOTS : ℕ} (t : LoggedTable KNOTS SLOTS) (f : FlashState) (fir
               (subst (λ (x : Table). pages.Rests new first (bare plan) x) (sym (bare-same (bare plan) (lose p.now.state) refl p.rests.settled.facts)) p.rests)
               hs.0.ring.ring_is pages-still hs.0.ring.logged_some
               (stops-fine plan rose (seals_within plan (table_seals plan table) table) device table (progress_beside (log_of table) p.now)
-              (flush-goes plan table (room t l t_is f first plan table h) (between t l t_is f first plan table h)) (lifted p.now p.did) (λ w. broken (unbeside table p.now.end w)));
+              (flush-goes Any any-last plan table (room t l t_is f first plan table h) (between t l t_is f first plan table h)) (lifted p.now p.did) (λ w. broken (unbeside table p.now.end w)));
         }
 
-    logged-finishes : (now : LoggedTable KNOTS SLOTS) (u : code.Table KNOTS SLOTS) (last : RecordLog) → now.table ≡ u → now.log ≡ Some last → AreBegun (Some l) (Some last) →
+    logged-finishes : (now : LoggedTable KNOTS SLOTS) (u : code.Table KNOTS SLOTS) (last : RecordLog) → now.table ≡ u → now.log ≡ Some last → IsEmptied plan table l last →
         bare_outcomes.Finishes first (bare plan) (BySeals (bare plan) (table_seals (bare plan) (bare_table table)) (bare_table table) rose device) (bare_table table) (flushed (bare plan) (bare_table table)) u f new →
         Finishes first plan (BySeals plan (table_seals plan table) table rose device) table (flushed plan table) now f new
-    logged-finishes now u last u_is last_is begun p = record {
+    logged-finishes now u last u_is last_is emptied p = record {
       now = progress_beside (log_of table) p.now;
       did = lifted p.now p.did;
       whole = ap (end_beside (log_of table)) p.whole;
@@ -91,7 +117,7 @@ module _ {KNOTS SLOTS : ℕ} (t : LoggedTable KNOTS SLOTS) (f : FlashState) (fir
           (subst (λ (x : code.Table KNOTS SLOTS). without_log.Stands x new first (bare plan) (bare_table F)) (sym u_is)
           (subst (λ (x : Table). without_log.Stands u new first (bare plan) x) (sym (bare-same (bare plan) F refl p.stands.facts)) p.stands))
           (record {
-            ring = ring-moved l last new (first + blocks_of (bare plan)) plan (beside (log_of table) F) begun.same begun.ring
+            ring = ring-moved l last new (first + blocks_of (bare plan)) plan (beside (log_of table) F) emptied.same emptied.ring
                 (record {
                   planned = hs.0.ring.planned;
                   mounted = hs.0.ring.mounted;
@@ -104,9 +130,9 @@ module _ {KNOTS SLOTS : ℕ} (t : LoggedTable KNOTS SLOTS) (f : FlashState) (fir
                   next = hs.0.ring.next;
                   oldest_is = hs.0.ring.oldest_is;
                 });
-            rows = subst (λ (es : List Entry). Gathers (row_layout plan) (map stored_row es) (rows_in last)) (sym none-pending) (begun.rows (row_layout plan) (map stored_row (pending_entries table)) hs.0.rows);
+            rows = subst (λ (es : List Entry). Gathers (row_layout plan) (map stored_row es) (rows_in last)) (sym none-pending) (emptied.rows hs.0.rows);
           })
-          (subst Between flushed-is (flush-between plan table (room t l t_is f first plan table h) (between t l t_is f first plan table h))));
+          (subst (Between Any) flushed-is (flush-between Any any-last plan table (room t l t_is f first plan table h) (between t l t_is f first plan table h))));
       stand = subst (λ (x : Table). pages.KeptStand first plan table x (page_at f) (page_at new)) (sym flushed-is) (record { rows = p.stand.rows; index = p.stand.index; var = p.stand.var });
       log = subst (λ (x : Table). LogStays first plan table x f new) (sym flushed-is)
           (ring-same table.log table.log (bytes_in (page_at f) first plan LogRing) (bytes_in (page_at new) first plan LogRing) refl
@@ -114,16 +140,16 @@ module _ {KNOTS SLOTS : ℕ} (t : LoggedTable KNOTS SLOTS) (f : FlashState) (fir
     }
 
   -- it was done
-  pub flush-done : (now : LoggedTable KNOTS SLOTS) (u : code.Table KNOTS SLOTS) → now.table ≡ u → AreBegun t.log now.log → bare_outcomes.FlushEnds first (bare plan) (bare_table table) rose device (Ok tt) u f new →
+  pub flush-done : (now : LoggedTable KNOTS SLOTS) (u : code.Table KNOTS SLOTS) → now.table ≡ u → AreEmptied plan table t.log now.log → bare_outcomes.FlushEnds first (bare plan) (bare_table table) rose device (Ok tt) u f new →
       FlushEnds first plan table rose device (Ok tt) now f new
-  flush-done now u u_is begun p = by-log t.log refl now.log refl begun
+  flush-done now u u_is emptied p = by-log t.log refl now.log refl emptied
     where
-      by-log : (o : Option RecordLog) → t.log ≡ o → (last : Option RecordLog) → now.log ≡ last → AreBegun o last → Finishes first plan (BySeals plan (table_seals plan table) table rose device) table (flushed plan table) now f new
-      by-log None e last last_is begun =
+      by-log : (o : Option RecordLog) → t.log ≡ o → (last : Option RecordLog) → now.log ≡ last → AreEmptied plan table o last → Finishes first plan (BySeals plan (table_seals plan table) table rose device) table (flushed plan table) now f new
+      by-log None e last last_is emptied =
           alone-finishes t f first plan table h (subst (λ (o : Option RecordLog). LogStands o f (first + blocks_of (bare plan)) plan table) e h.log)
-          (λ x y. BySeals x (table_seals x y) y rose device) flushed now u new u_is (last_is ∙ begun) p
-      by-log (Some l) e None last_is begun = absurd begun
-      by-log (Some l) e (Some w) last_is begun = logged-finishes l e now u w u_is last_is begun p
+          (λ x y. BySeals x (table_seals x y) y rose device) flushed now u new u_is (last_is ∙ emptied) p
+      by-log (Some l) e None last_is emptied = absurd emptied
+      by-log (Some l) e (Some w) last_is emptied = logged-finishes l e now u w u_is last_is emptied p
 
   -- it failed
   pub flush-failed : (now : LoggedTable KNOTS SLOTS) (u : code.Table KNOTS SLOTS) (fault : FlushFault) → bare_outcomes.FlushEnds first (bare plan) (bare_table table) rose device (Err fault) u f new → FlushEnds first plan table rose device (Err fault) now f new
@@ -134,3 +160,9 @@ module _ {KNOTS SLOTS : ℕ} (t : LoggedTable KNOTS SLOTS) (f : FlashState) (fir
       by-log None e =
           alone-breaks t f first plan table h (subst (λ (o : Option RecordLog). LogStands o f (first + blocks_of (bare plan)) plan table) e h.log) (λ x y. BySeals x (table_seals x y) y rose device) fault new p
       by-log (Some l) e = logged-breaks l e fault p
+
+  -- nothing was pending
+  pub flush-idle : (now : LoggedTable KNOTS SLOTS) (u : code.Table KNOTS SLOTS) → now.table ≡ u → now.log ≡ t.log → table.pending ≡ 0 → (result : Result (Unit {0}) FlushFault) →
+      bare_outcomes.FlushEnds first (bare plan) (bare_table table) rose device result u f new → FlushEnds first plan table rose device result now f new
+  flush-idle now u u_is log_is none (Ok done) p = flush-done now u u_is (subst (λ (o : Option RecordLog). AreEmptied plan table t.log o) (sym log_is) (idle-emptied plan table t.log none)) p
+  flush-idle now u u_is log_is none (Err fault) p = flush-failed now u fault p

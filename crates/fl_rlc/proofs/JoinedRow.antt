@@ -1,6 +1,6 @@
 -- A row joins those of a log's next page, and then all of them are sealed.
 use Rattle.std.proofs.Common.{◌≡◌, ℕ, Bool, Option, unwrap_or, Result, Ok, Err, List, [], ◌∷◌, ◌++◌, map, sym, ◌∙◌, ap, subst}
-use Rattle.std.specs.Prelude.{option_map, is_some}
+use Rattle.std.specs.Prelude.{◌+◌, option_map, is_some, OnOk}
 use Rattle.fl_base.specs.declared.types.Geometry.{Geometry}
 use Rattle.fl_base.specs.declared.types.RingPlace.{RingPlace}
 use Rattle.fl_flash.specs.Flash.{FlashState, page_at}
@@ -16,9 +16,9 @@ use Rattle.fl_ring.specs.Mounting.{shape_at}
 use Rattle.fl_ring.specs.Place as place_words
 use Rattle.fl_ring.specs.Ring.{Shape, place}
 use Rattle.fl_ring.specs.declared.ring.Ring as memory
-use Rattle.fl_rlc.specs.Memory.{rows_in, kept_rows, page_in, log_shape, IsSamePlan}
+use Rattle.fl_rlc.specs.Memory.{next_in, rows_in, kept_rows, page_in, log_shape, IsSamePlan}
 use Rattle.fl_rlc.specs.Pages.{IsLogRing}
-use Rattle.fl_rlc.specs.Rows.{Joins}
+use Rattle.fl_rlc.specs.Rows.{Joins, HasLogged}
 use Rattle.fl_rlc.specs.Sealing as specs
 use Rattle.fl_rlc.specs.Sealing.{SealEnds}
 use Rattle.fl_rlc.specs.Standing.{HasRing}
@@ -62,6 +62,16 @@ joined-ready old new f first plan table layout row same ring h gathers = record 
   page = h.page;
   as_many = h.as_many;
 }
+
+-- the row has joined, and the page with it was sealed
+pub joined-logged : (layout : RowLayout) (row : Row) (old mid new : RecordLog) (result : Result (Unit {0}) FlashFault) → mid.ring ≡ old.ring →
+    ((rows : List Row) → Gathers layout rows (rows_in old) → Gathers layout (kept_rows layout (rows_in old) rows ++ row ∷ []) (rows_in mid)) →
+    OnOk result (next_in new ≡ next_in mid + 1) → ((l : RowLayout) (rows : List Row) → Gathers l rows (rows_in mid) → Gathers l rows (rows_in new)) → OnOk result (HasLogged layout row old new)
+joined-logged layout row old mid new (Ok done) ring joins next stay = record {
+  next = next ∙ ap (λ (o : Option memory.Ring). unwrap_or (option_map (λ r. place_words.next_of r) o) 0 + 1) ring;
+  rows = λ rows h. stay layout (kept_rows layout (rows_in old) rows ++ row ∷ []) (joins rows h);
+}
+joined-logged layout row old mid new (Err fault) ring joins next stay = tt
 
 -- the seal of the log with the row is one of the log without it
 pub seal-moved : (old mid : RecordLog) (f : FlashState) (first : ℕ) (plan : Plan) (table : model.Table) (rose : Bool) (device : Device) (result : Result (Unit {0}) FlashFault) (now : RecordLog) (new : FlashState) → IsSamePlan old mid →

@@ -9,7 +9,8 @@ use Rattle.fl_model.specs.Record.{Plan}
 use Rattle.fl_model.specs.Ring.{Ring}
 use Rattle.fl_model.specs.Table.{Table, Entry, is_above}
 use Rattle.fl_model.proofs.Lists.{slice_get-drop, slice_get-front, last_or-get}
-use Rattle.fl_machine.proofs.Logs.{core, log_in, IsFine, IsThere, IsSafePage, AreAbove, front_of, rest_of}
+use Rattle.fl_machine.proofs.Adding.{Any, adds-all, sure_in}
+use Rattle.fl_machine.proofs.Logs.{core, log_in, IsFine, IsThere, IsSafePage, AreAbove, ascending-tops, front_of, rest_of}
 use Rattle.fl_machine.proofs.LogTables.{Between, Resting, Pending}
 use Rattle.fl_rlc.specs.Logged.{IsKept}
 
@@ -53,6 +54,7 @@ fine-of plan table ring is facts = record {
   counted = facts.counted;
   numbered = facts.rows.not_negative;
   has_log = subst (λ (o : Option Ring). IsThere (log_in o)) (sym is) tt;
+  greatest = let n = length table.entries - table.pending in ascending-tops (take n table.entries) (λ i j a b less p q. facts.ascending i j a b less (slice_get-front n table.entries i a p) (slice_get-front n table.entries j b q));
   ascending = facts.logged.ascending;
   whole = facts.logged.whole;
   safe = λ some. subst (λ (o : Option Ring). IfSome (log_in o) IsSafePage) (sym is) (subst (λ (o : Option Ring). IfSome o IsSafe) is (facts.logged.safe some));
@@ -65,16 +67,16 @@ log-of table ring is fine = record {
   safe = λ some. subst (λ (o : Option Ring). IfSome o IsSafe) (sym is) (subst (λ (o : Option Ring). IfSome (log_in o) IsSafePage) is (fine.safe some));
 }
 
-pub between-of : (plan : Plan) (table : Table) (ring : Ring) → table.log ≡ Some ring → ring.torn ≡ false → table.rows.torn ≡ false → IsTable plan table → IsKept table → Between table
+pub between-of : (plan : Plan) (table : Table) (ring : Ring) → table.log ≡ Some ring → ring.torn ≡ false → table.rows.torn ≡ false → IsTable plan table → IsKept table → Between Any table
 between-of plan table ring is calm whole facts (inl h) =
     let last = subst (λ (o : Option Ring). IfSome o (λ r. (others : List ℕ) × (count : ℕ) × (0 < count) × (r.counts ≡ others ++ count ∷ []))) is h.last in
     Pending (fine-of plan table ring is facts) (record { some = h.some; same = h.same; above = pending-above plan table facts })
-    (last.0, last.1, last.2, ap log_in is ∙ (ap (λ (cs : List ℕ). Some (cs, ring.torn)) last.3 ∙ ap (λ (b : Bool). Some (last.0 ++ last.1 ∷ [], b)) calm))
-between-of plan table ring is calm whole facts (inr h) = Resting (fine-of plan table ring is facts) (record { none = h.none; calm = whole }) h.paid
+    (last.0, last.1, last.2, ap log_in is ∙ (ap (λ (cs : List ℕ). Some (cs, ring.torn)) last.3 ∙ ap (λ (b : Bool). Some (last.0 ++ last.1 ∷ [], b)) calm)) (adds-all (sure_in (core table)))
+between-of plan table ring is calm whole facts (inr h) = Resting (fine-of plan table ring is facts) (record { none = h.none; calm = whole }) h.paid (adds-all (sure_in (core table)))
 
-pub kept-of : (table : Table) (ring : Ring) → table.log ≡ Some ring → Between table → IsKept table
-kept-of table ring is (Resting fine idle paid) = inr (record { none = idle.none; paid = paid })
-kept-of table ring is (Pending fine ready ends) =
+pub kept-of : (table : Table) (ring : Ring) → table.log ≡ Some ring → Between Any table → IsKept table
+kept-of table ring is (Resting fine idle paid added) = inr (record { none = idle.none; paid = paid })
+kept-of table ring is (Pending fine ready ends added) =
     inl (record {
       some = ready.some;
       same = ready.same;

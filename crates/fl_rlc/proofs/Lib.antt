@@ -18,6 +18,7 @@ pub mod Stops
 pub mod Frames
 pub mod Assembled
 pub mod PutSteps
+pub mod Paid
 pub mod Replays
 pub mod LogReads
 pub mod BareFacts
@@ -25,6 +26,7 @@ pub mod MountFine
 pub mod MountApart
 pub mod MountEnded
 pub mod MountFound
+pub mod MountLimits
 pub mod Others
 pub mod Puts
 pub mod PutJoins
@@ -36,3 +38,12 @@ pub mod Powered
 pub mod PowerOff
 pub mod Sizes
 pub mod Planned
+pub mod RingFilled
+pub mod NextAfter
+pub mod RingRepairs
+pub mod TableRepairs
+pub mod SealedPages
+pub mod MountLeaves
+pub mod ReplayLeft
+pub mod RestsBehind
+pub mod Images

@@ -1,5 +1,5 @@
 -- How the mount of a table with a log ends, whatever records the log has.
-use Rattle.std.proofs.Common.{◌≡◌, ℕ, ◌+◌, Bool, true, false, cond, Option, List, [], ◌∷◌, ◌++◌, Ok, Err, map, sym, ◌∙◌, ap, subst, refl, arith, inl, inr, ◌⊎◌}
+use Rattle.std.proofs.Common.{◌≡◌, ℕ, ◌+◌, Bool, true, false, cond, Option, Some, List, [], ◌∷◌, ◌++◌, Ok, Err, map, sym, ◌∙◌, ap, subst, refl, arith, inl, inr, ◌⊎◌}
 use Rattle.std.proofs.lemmas.List.{length-map}
 use Rattle.fl_flash.specs.Flash.{FlashState, page_at}
 use Rattle.fl_flash.specs.declared.flash.FlashFault.{FlashFault}
@@ -7,13 +7,14 @@ use Rattle.fl_flash.specs.declared.flash.FlashFault.TheVariants.{Media}
 use Rattle.fl_model.specs.Bare.{bare, bare_table, Log, log_of, beside, end_beside, progress_beside, mount_beside, AreBare}
 use Rattle.fl_model.specs.Facts.{IsTable}
 use Rattle.fl_model.specs.Mount.{Of, Replay, Turn, turns_of, rings_of, ready}
-use Rattle.fl_model.specs.Record.{Plan, blocks_of, has_index, has_log, has_var}
+use Rattle.fl_model.specs.Record.{Plan, blocks_of, has_index, has_log, has_var, row_layout}
 use Rattle.fl_model.specs.Ring.{Ring}
 use Rattle.fl_model.specs.Row.{stored_row}
 use Rattle.fl_model.specs.Table.{Table, Entry, RingName, DataRing, IndexRing, VarRing, LogRing, has_rows, log_pages, lose, pending_entries}
 use Rattle.fl_model.specs.Within.{TableMounts, TableMountEnd, TableMounted, TableStopped, TableUnread}
 use Rattle.fl_model.specs.Work.{Device, PartEnd, Whole, CutIn, FailedIn}
 use Rattle.fl_model.proofs.Bare.{bare-tables}
+use Rattle.fl_page.specs.Writer.{Gathers}
 use Rattle.fl_table.specs.Memory as table_words
 use Rattle.fl_table.specs.Mounting.{OutsideStands}
 use Rattle.fl_table.specs.Outcomes as bare_outcomes
@@ -26,7 +27,7 @@ use Rattle.fl_table.specs.declared.faults.MountFault.TheVariants as mount
 use Rattle.fl_table.specs.declared.table.Table as code
 use Rattle.fl_table.proofs.Bare.{bare-table}
 use Rattle.fl_table.proofs.MountVar.{mounts-append, mounts-stop, mounts-unread}
-use Rattle.fl_rlc.specs.Memory.{page_in}
+use Rattle.fl_rlc.specs.Memory.{page_in, rows_in}
 use Rattle.fl_rlc.specs.MountingApart.{RestApart, MountsApart, FailsApart, MountApartEnds}
 use Rattle.fl_rlc.specs.Pages.{IsLogRing}
 use Rattle.fl_rlc.specs.Repairing as repairing
@@ -34,9 +35,10 @@ use Rattle.fl_rlc.specs.Replaying.{ReplaysWell, ReplaysBadly, ReplayEnds}
 use Rattle.fl_rlc.specs.Table.{IsPlanned}
 use Rattle.fl_rlc.specs.declared.log.RecordLog.{RecordLog}
 use Rattle.fl_rlc.specs.declared.table.LoggedTable.{LoggedTable}
-use Rattle.fl_rlc.proofs.Assembled.{bare-same, log-there}
+use Rattle.fl_rlc.proofs.Assembled.{bare-same, log-there, stands-kept}
 use Rattle.fl_rlc.proofs.Frames.{log-still}
-use Rattle.fl_rlc.proofs.PutRows.{pending-many}
+use Rattle.fl_rlc.proofs.Paid.{logged-tops}
+use Rattle.fl_rlc.proofs.PutRows.{none-left, pending-many}
 
 -- all rings but the log
 rings-bare : (plan : Plan) → AreBare (rings_of plan)
@@ -78,6 +80,10 @@ module _ {KNOTS SLOTS : ℕ} (t : LoggedTable KNOTS SLOTS) (f : FlashState) (fir
         pages = subst (λ (ps : List (List Entry)). IsLogRing plan ps rests.log.ring (page_in l g)) (sym pages_are) (subst (λ (at : ℕ → List ℕ). IsLogRing plan (log_pages table) rests.log.ring at) (sym still) rests.log.pages);
         logged_some = λ void. ap (λ (y : Log). y.records) same ∙ rests.log.logged_some (ap (λ (y : Log). has_rows y.ring) (sym same) ∙ void);
       }
+
+  -- .. after the mount of the table
+  pub log-stays : (mid : FlashState) → OutsideStands t.table (page_at f) (page_at mid) → repairing.Rests l mid (first + blocks_of (bare plan)) plan table
+  log-stays mid outside = log-rests mid table refl (log-still t.table l f mid first plan planned.table outside rests.log.planned)
 
   module _ (rose : Bool) (device : Device) where
     -- the mount of the table, in which its log stays
@@ -176,9 +182,10 @@ module _ {KNOTS SLOTS : ℕ} (t : LoggedTable KNOTS SLOTS) (f : FlashState) (fir
       replay-ends (mount.BadEntry page count limit) l1 v now new h = absurd h
 
       -- .. and its log was
-      pub replayed : {K' S' : ℕ} (l1 : RecordLog) (v : code.Table K' S') (new : FlashState) (answer : Mounted) → ((x : Table) → without_log.Stands v new first (bare plan) x → answer ≡ mounted_of x) →
-          ReplaysWell first plan (beside (log_of table) w.now.state) rose w.now.device l1 v new → MountsApart first plan table rose device answer l1 v new
-      replayed l1 v new answer counted h = record {
+      pub replayed : {K' S' : ℕ} (l1 : RecordLog) (now : LoggedTable K' S') (new : FlashState) (answer : Mounted) → now.log ≡ Some l1 → Gathers (row_layout plan) [] (rows_in l1) →
+          ((x : Table) → without_log.Stands now.table new first (bare plan) x → answer ≡ mounted_of x) → ReplaysWell first plan (beside (log_of table) w.now.state) rose w.now.device l1 now.table new →
+          MountsApart first plan table rose device answer l1 now new
+      replayed l1 now new answer log_is empty counted h = record {
         now = h.now;
         did = then (TableMounted h.now) h.did;
         counts = h.counts;
@@ -186,5 +193,11 @@ module _ {KNOTS SLOTS : ℕ} (t : LoggedTable KNOTS SLOTS) (f : FlashState) (fir
         unlogged = h.unlogged;
         ring = h.ring;
         none = h.none;
+        stands = λ left.
+            let paid = h.paid left in
+            stands-kept now l1 new first plan h.now.state log_is h.unlogged
+            (record { ring = h.ring; rows = subst (λ (es : List Entry). Gathers (row_layout plan) (map stored_row es) (rows_in l1)) (sym (none-left h.now.state h.none)) empty })
+            (record { ascending = logged-tops plan h.now.state h.ring.pages.fit h.ring.logged_some; whole = inr (paid, h.unlogged.whole); safe = λ some. absurd (some paid) })
+            (inr (record { none = h.none; paid = inl paid }));
         answer = counted (bare_table h.now.state) h.unlogged;
       }

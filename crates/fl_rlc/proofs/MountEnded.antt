@@ -7,6 +7,7 @@ use Rattle.fl_flash.specs.declared.flash.FlashFault.{FlashFault}
 use Rattle.fl_flash.specs.declared.flash.FlashFault.TheVariants.{Media}
 use Rattle.fl_machine.specs.Found.{HasRoom}
 use Rattle.fl_machine.specs.Step.{made_ready}
+use Rattle.fl_machine.proofs.Adding.{adds-all, sure_in}
 use Rattle.fl_machine.proofs.Logs.{core, IsFine, lost}
 use Rattle.fl_machine.proofs.LogTables.{Resting}
 use Rattle.fl_model.specs.Bare.{bare, bare_table}
@@ -204,9 +205,9 @@ module _ {KNOTS SLOTS : ℕ} (t : LoggedTable KNOTS SLOTS) (f : FlashState) (fir
       badly-of (mount.BadEntry page count limit) now new h = absurd h
 
       -- .. and where it doesn't
-      pub well-of : {K' S' : ℕ} (l1 : RecordLog) (v : code.Table K' S') (now : LoggedTable K' S') (new : FlashState) (answer : Mounted) → now.table ≡ v → now.log ≡ Some l1 → (empty : Gathers (row_layout plan) [] (rows_in l1)) →
-          MountsApart first plan table rose device answer l1 v new → MountsWell first plan table rose device answer now new
-      well-of {K' = K'} {S' = S'} l1 v now new answer v_is log_is empty h =
+      pub well-of : {K' S' : ℕ} (l1 : RecordLog) (now : LoggedTable K' S') (new : FlashState) (answer : Mounted) → now.log ≡ Some l1 → (empty : Gathers (row_layout plan) [] (rows_in l1)) →
+          MountsApart first plan table rose device answer l1 now new → MountsWell first plan table rose device answer now new
+      well-of l1 now new answer log_is empty h =
           let done = mounted-done plan table there.0 there.1 rests.settled.facts none room has rose device h.now h.did in
           let made : h.now.state ≡ made_ready plan h.now.state = ap (λ (b : Bool). cond b h.now.state (ready plan h.now.state)) (sym has) in
           let rows : pending_entries h.now.state ≡ [] = none-left h.now.state h.none in
@@ -216,9 +217,9 @@ module _ {KNOTS SLOTS : ℕ} (t : LoggedTable KNOTS SLOTS) (f : FlashState) (fir
             counts = h.counts;
             power = h.power;
             stands = subst (λ (x : Table). Stands now new first plan x) made
-                (stands-of now l1 new first plan h.now.state log_is (subst (λ (y : code.Table K' S'). without_log.Stands y new first (bare plan) (bare_table h.now.state)) (sym v_is) h.unlogged)
+                (stands-of now l1 new first plan h.now.state log_is h.unlogged
                 (record { ring = h.ring; rows = subst (λ (es : List Entry). Gathers (row_layout plan) (map stored_row es) (rows_in l1)) (sym rows) empty })
-                (Resting done.rests.fine (record { none = h.none; calm = done.calm }) done.paid));
+                (Resting done.rests.fine (record { none = h.none; calm = done.calm }) done.paid (adds-all (sure_in (core h.now.state)))));
             answer = h.answer ∙ ap mounted_of made;
           }
 

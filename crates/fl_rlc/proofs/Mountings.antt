@@ -3,6 +3,7 @@ use Rattle.std.proofs.Common.{◌≡◌, inl, inr, ℕ, ◌+◌, ◌-◌, ◌*�
 use Rattle.std.specs.Prelude.{option_map, is_some, IfSome}
 use Rattle.std.specs.List.{list_any}
 use Rattle.std.proofs.Math.Nat.{mul-le-mul_right}
+use Rattle.fl_base.specs.declared.types.Geometry.{Geometry}
 use Rattle.fl_flash.specs.Flash.{FlashState, page_at}
 use Rattle.fl_flash.specs.declared.flash.FlashFault.{FlashFault}
 use Rattle.fl_flash.specs.declared.flash.FlashFault.TheVariants.{PowerLost, Media}
@@ -10,6 +11,7 @@ use Rattle.fl_model.specs.Bare.{bare_table}
 use Rattle.fl_model.specs.Layout.{le}
 use Rattle.fl_model.specs.Mount as numbering
 use Rattle.fl_model.specs.Mount.{renumber}
+use Rattle.fl_model.specs.MountLimit.{ring_mount_limit, part_mount_limit}
 use Rattle.fl_model.specs.Record.{Plan, rows_per_page}
 use Rattle.fl_model.specs.Ring as model
 use Rattle.fl_model.specs.Table.{Table, Entry, RingName, LogRing, shape_of, seal_page, is_dirty, is_torn, log_pages, has_rows}
@@ -17,10 +19,10 @@ use Rattle.fl_model.specs.Work.{Kind, Body, Mark, VoidMark, Erase, Device, PartE
 use Rattle.fl_model.specs.Within.{repair_within, TablePerforms, all_done}
 use Rattle.fl_model.proofs.Performs.{performs-whole}
 use Rattle.fl_ring.specs.Head.{one}
-use Rattle.fl_ring.specs.Mounting.{IsGood, Mounted, RepairEnds}
+use Rattle.fl_ring.specs.Mounting.{shape_at, IsGood, Mounted, RepairEnds}
 use Rattle.fl_ring.specs.Mounting as ring_mounting
 use Rattle.fl_ring.specs.Newest.{number_of}
-use Rattle.fl_ring.specs.Numbers.{renumbered, least_alike}
+use Rattle.fl_ring.specs.Numbers.{renumbered, least_alike, voids_at_end}
 use Rattle.fl_ring.specs.Operations.{change, repair_kinds}
 use Rattle.fl_ring.specs.Ring.{Shape, RingState, IsShape, OnRing, room, place, count, oldest, voided}
 use Rattle.fl_ring.specs.Sealing.{AnswersEnd}
@@ -30,6 +32,7 @@ use Rattle.fl_ring.specs.declared.newest.NewestPage.{NewestPage}
 use Rattle.fl_ring.specs.declared.ring.Ring as memory
 use Rattle.fl_ring.proofs.Counts.{counts_length, counts_renumbered, counts_voided}
 use Rattle.fl_ring.proofs.Moved.{renumbered_on, renumbered_same}
+use Rattle.fl_ring.proofs.VoidsAtEnd.{voids_are}
 use Rattle.fl_schema.proofs.Numbers.{length-le, number_of-le}
 use Rattle.fl_schema.proofs.References.{from_le_bytes_4}
 use Rattle.fl_table.proofs.Plain.{least-below}
@@ -85,6 +88,20 @@ repairs-clean r s shape known = by_torn s.torn refl
     by_torn : (b : Bool) → s.torn ≡ b → IsClean (all_done (change r []) ((cond b (VoidMark ∷ []) []) ++ (cond (cond b (voided r s) s).dirty (Erase ∷ []) [])) s)
     by_torn true e = by_dirty (voided r s) (voided r s).dirty refl (kept-torn r s None shape known)
     by_torn false e = by_dirty s s.dirty refl e
+
+-- the limit on its reads, as the ring's mount has it
+pub few-read : (l : RecordLog) (f g : FlashState) (first : ℕ) (plan : Plan) (table : Table) → Rests l f first plan table → f.geometry ≡ l.geometry → ((n : ℕ) → length (page_at f (place (log_shape l) n)) ≡ l.geometry.page) →
+    ((s : RingState) → OnRing (shape_at l.place f.geometry) (page_at f) s → g.work.reads ≤ f.work.reads + (l.place.blocks + 2 * f.geometry.block + 1 + voids_at_end s.kept)) →
+    g.work.reads ≤ f.work.reads + part_mount_limit (shape_of plan LogRing) table.log
+few-read l f g first plan table rests geometry sizes reads-within =
+    let s = state_of plan rests.ring (log_pages table) in
+    let is = state-is (log_shape l) plan (page_at f) sizes (shape-is l) (shape-here l first plan rests.planned) (rows-few l first plan rests.planned) rests.ring (log_pages table) rests.pages in
+    let limit : part_mount_limit (shape_of plan LogRing) table.log ≡ plan.log_blocks + 2 * plan.geometry.block + 1 + voids_at_end s.kept =
+    ap (λ (o : Option model.Ring). part_mount_limit (shape_of plan LogRing) o) rests.ring_is
+    ∙ (ap (λ (x : model.Ring). ring_mount_limit (shape_of plan LogRing) x) (sym is.counts)
+    ∙ ap (λ (n : ℕ). plan.log_blocks + 2 * plan.geometry.block + 1 + n) (voids_are rows_of s (holds-some plan s (log_pages table) is.bodies))) in
+    let reads = reads-within s (subst (λ (x : Geometry). OnRing (shape_at l.place x) (page_at f) s) (sym geometry) is.on) in
+    omega (arith, reads, limit, rests.planned.blocks, ap (λ (x : Geometry). x.block) (geometry ∙ sym rests.planned.geometry))
 
 module _ (l : RecordLog) (f g : FlashState) (first : ℕ) (plan : Plan) (table : Table) (rests : Rests l f first plan table)
     (sizes : (n : ℕ) → length (page_at f (place (log_shape l) n)) ≡ l.geometry.page) (later_sizes : (n : ℕ) → length (page_at g (place (log_shape l) n)) ≡ l.geometry.page) where

@@ -1,39 +1,30 @@
--- Why a table with a log isn't planned, and where its log lies.
-use Rattle.std.proofs.Common.{◌≡◌, Bool, true, false, cond, nat_lt, ◌||◌, is_some, Option, Some, None, refl, arith, ◌≤◌}
+-- What a log that isn't refused is beside its table, and what that table is refused for.
+use Rattle.std.specs.Prelude.{◌⊎◌, IfErr, IsErrAnd}
+use Rattle.std.proofs.Common.{◌≡◌, Result, Ok, Err, subst, Bool, true, false, nat_lt, ◌||◌, is_some, Option, Some, None, refl, sym, ◌∙◌, ap, arith, ◌≤◌}
 use Rattle.fl_base.specs.declared.types.RingPlace.{RingPlace}
 use Rattle.std.proofs.lemmas.Bool.{ltb-false}
 use Rattle.fl_plan.specs.Plan.{blocks_in}
-use Rattle.fl_plan.specs.Refusal.{config_fault, is_bad_ring}
+use Rattle.fl_plan.specs.Refusal.{is_bad_ring, config_fault, config_fault_with, Tells}
 use Rattle.fl_plan.specs.declared.refusal.ConfigRefusal.{ConfigRefusal}
+use Rattle.fl_plan.specs.declared.refusal.ConfigRefusal.TheVariants.{NoMemory}
 use Rattle.fl_plan.specs.declared.table_config.TableConfig.{TableConfig}
-use Rattle.fl_rlc.specs.Planning.{log_fault, RefusesPlan}
+use Rattle.fl_plan.proofs.Fits.{RingsFit, rings-fit, alone-fits}
+use Rattle.fl_words.specs.Config.{ConfigFault}
 use Rattle.fl_rlc.specs.declared.log.RecordLog.{RecordLog}
-use Rattle.fl_rlc.specs.declared.table.PlanRefusal.{PlanRefusal}
-use Rattle.fl_rlc.specs.declared.table.PlanRefusal.TheVariants.{Table, LogBlocks, LogVar}
 
--- a log is never refused for the table's configuration
-not-table : (config : TableConfig) (log : Option RingPlace) (r : ConfigRefusal) → log_fault config log ≡ Some (Table r) → ⊥
-not-table config None r e = cc
-not-table config (Some place) r e = by-tests (is_bad_ring (Some place)) (is_some config.var) e
-  where
-    by-tests : (a b : Bool) → cond a (Some LogBlocks) (cond b (Some LogVar) None) ≡ Some (Table r) → ⊥
-    by-tests true b e = cc
-    by-tests false true e = cc
-    by-tests false false e = cc
+-- the last tests of a log that is there
+pub logged-fits : (log : Option RingPlace) (config : TableConfig) (place : RingPlace) → log ≡ Some place → config_fault_with log config ≡ None → RingsFit (Some place) config
+logged-fits log config place is fits = rings-fit (Some place) config (ap (λ (o : Option RingPlace). config_fault_with o config) (sym is) ∙ fits)
 
-pub log-told : (config : TableConfig) (log : Option RingPlace) (refusal : PlanRefusal) → config_fault config ≡ None → log_fault config log ≡ Some refusal → RefusesPlan config log refusal
-log-told config log (Table r) fits e = absurd (not-table config log r e)
-log-told config log LogBlocks fits e = (fits, e)
-log-told config log LogVar fits e = (fits, e)
+abbrev IsRefusal : Option ConfigFault → ConfigRefusal → Type 0
+IsRefusal fault refusal = ((refusal ≡ NoMemory) × (fault ≡ None)) ⊎ Tells {A = Unit {0}} (Err refusal) fault
 
--- there is no variable data beside a log
-pub no-var : (config : TableConfig) (place : RingPlace) → log_fault config (Some place) ≡ None → (is_bad_ring (Some place) ≡ false) × (is_some config.var ≡ false)
-no-var config place e = by-tests (is_bad_ring (Some place)) (is_some config.var) e
-  where
-    by-tests : (a b : Bool) → cond a (Some LogBlocks) (cond b (Some LogVar) None) ≡ None → (a ≡ false) × (b ≡ false)
-    by-tests true b e = cc
-    by-tests false true e = cc
-    by-tests false false e = (refl, refl)
+-- a table that isn't refused with its log is refused by itself for memory alone
+pub table-refused : {A : Type 0} (result : Result A ConfigRefusal) (refusal : ConfigRefusal) (log : Option RingPlace) (config : TableConfig) → IsErrAnd result (λ other. other ≡ refusal) →
+    config_fault_with log config ≡ None → IsRefusal (config_fault config) refusal → IfErr result (λ other. IsRefusal (config_fault_with log config) other)
+table-refused (Ok value) refusal log config is fits refused = absurd is
+table-refused (Err other) refusal log config is fits refused =
+    subst (λ (fault : Option ConfigFault). IsRefusal fault other) (alone-fits log config fits ∙ sym fits) (subst (λ (r : ConfigRefusal). IsRefusal (config_fault config) r) (sym is) refused)
 
 pub none-some : (l : RecordLog) → None ≡ Some l → ⊥
 none-some l e = cc

@@ -1,6 +1,7 @@
 -- What a put of a table with a log leaves as it was.
 use Rattle.std.proofs.Common.{◌≡◌, ℕ, ◌+◌, ◌*◌, ◌^◌, ◌<◌, ◌≤◌, Bool, true, false, ◌&&◌, is_some, Option, Some, None, Err, List, refl, sym, ◌∙◌, ap, subst, arith}
 use Rattle.std.proofs.Math.IntN.{ℤ}
+use Rattle.std.proofs.Props.{props}
 use Rattle.std.specs.Prelude.{IfSome}
 use Rattle.std.specs.Option.{ForSome}
 use Rattle.fl_flash.specs.Flash.{FlashState, Goes}
@@ -26,6 +27,31 @@ use Rattle.fl_rlc.specs.Rows.{StandOutside, AreBegun}
 use Rattle.fl_rlc.specs.Table.{AreSameLog}
 use Rattle.fl_rlc.specs.declared.log.RecordLog.{RecordLog}
 use Rattle.fl_rlc.specs.declared.table.LoggedTable.{LoggedTable}
+
+-- A table with a log is its table and its log: what else it keeps are facts.
+pub logged-same : {KNOTS SLOTS : ℕ} (t u : LoggedTable KNOTS SLOTS) → u.table ≡ t.table → u.log ≡ t.log → u ≡ t
+logged-same {KNOTS} {SLOTS} t u same same-log = subst (λ x. IsThis x u.log) (sym same) (subst (λ o. IsThis t.table o) (sym same-log) this) u.running u.no_blobs u.room
+  where
+    Runs : code.Table KNOTS SLOTS → Option RecordLog → Type 0
+    Runs x o = ForSome o (λ l. table_words.is_running x ≡ true → is_mounted l ≡ true)
+
+    LacksBlobs : code.Table KNOTS SLOTS → Option RecordLog → Type 0
+    LacksBlobs x o = is_some o ≡ true → has_blobs x ≡ false
+
+    HasRoom : code.Table KNOTS SLOTS → Option RecordLog → Type 0
+    HasRoom x o = ForSome o (λ l. layout_len (layout_in x) + 24 ≤ page_len l)
+
+    IsThis : code.Table KNOTS SLOTS → Option RecordLog → Type 0
+    IsThis x o = (running : Runs x o) (no_blobs : LacksBlobs x o) (room : HasRoom x o) → record { table = x; log = o; running = running; no_blobs = no_blobs; room = room } ≡ t
+
+    this : IsThis t.table t.log
+    this = λ running no_blobs room.
+        let runs : IsProp (Runs t.table t.log) = hlevel props in
+        let lacks : IsProp (LacksBlobs t.table t.log) = hlevel props in
+        let has : IsProp (HasRoom t.table t.log) = hlevel props in
+        ap (λ k. record { table = t.table; log = t.log; running = k; no_blobs = no_blobs; room = room }) (runs running t.running)
+        ∙ (ap (λ k. record { table = t.table; log = t.log; running = t.running; no_blobs = k; room = room }) (lacks no_blobs t.no_blobs)
+        ∙ ap (λ k. record { table = t.table; log = t.log; running = t.running; no_blobs = t.no_blobs; room = k }) (has room t.room))
 
 pub log-self : (o : Option RecordLog) → AreSameLog o o
 log-self None = tt

@@ -14,6 +14,7 @@ use Rattle.fl_model.specs.Within.{TablePerforms, seals_within}
 use Rattle.fl_model.specs.Work.{Device, PartEnd, Whole, CutIn, FailedIn, PartProgress}
 use Rattle.fl_model.proofs.Bare.{bare-tables}
 use Rattle.fl_machine.specs.Found.{HasRoom}
+use Rattle.fl_machine.proofs.Adding.{Any, any-last}
 use Rattle.fl_machine.proofs.Logs.{core, IsFine, lost}
 use Rattle.fl_machine.proofs.LogTables.{Between, put-goes, put-joined, join-goes-on}
 use Rattle.fl_ring.specs.Kept.{PagesStand}
@@ -71,7 +72,7 @@ module _ {KNOTS SLOTS : ℕ} (t : LoggedTable KNOTS SLOTS) (l : RecordLog) (t_is
       by-blobs None e p = planned-none (first + plan.data_blocks + plan.index_blocks) (bare plan) p
       by-blobs (Some v) e p = cc
 
-  pub between : Between table
+  pub between : Between Any table
   between = between-of plan table hr.ring hr.ring_is hr.whole h.unlogged.whole h.facts log-stands.1
 
   -- it refuses as the table does that isn't refused for its log
@@ -93,12 +94,12 @@ module _ {KNOTS SLOTS : ℕ} (t : LoggedTable KNOTS SLOTS) (l : RecordLog) (t_is
   put-stops-fine item rose device now ok d broken = by-end d.0.end refl d.2
     where
       first-part : (d.0.end ≡ Whole → ⊥) → IsFine (lost (core d.0.state))
-      first-part b = stops-fine plan rose (seals_within plan (make_room_seals plan table) table) device table d.0 (put-goes plan table item room between ok) d.1 b
+      first-part b = stops-fine plan rose (seals_within plan (make_room_seals plan table) table) device table d.0 (put-goes Any any-last plan table item room between ok) d.1 b
 
       by-end : (e : PartEnd Table) → d.0.end ≡ e → TablePutGoesOn e d.0 now (TablePerforms plan rose (seals_within plan (join_seals plan (put_joined plan item table)) (put_joined plan item table)) d.0.device (put_joined plan item table) now) → IsFine (lost (core now.state))
       by-end Whole e g =
           stops-fine plan rose (seals_within plan (join_seals plan (put_joined plan item table)) (put_joined plan item table)) d.0.device (put_joined plan item table) now
-          (join-goes-on plan (put_joined plan item table) room has (put-joined plan table item room between ok)).0 g broken
+          (join-goes-on Any any-last plan (put_joined plan item table) room has (put-joined Any any-last plan table item room between ok)).0 g broken
       by-end (CutIn b) e g = subst (λ (x : PartProgress Table). IsFine (lost (core x.state))) (sym g) (first-part (λ w. not-both (sym e ∙ w)))
         where
           not-both : CutIn b ≡ Whole → ⊥
@@ -173,7 +174,7 @@ module _ {KNOTS SLOTS : ℕ} (t : LoggedTable KNOTS SLOTS) (l : RecordLog) (t_is
       log-finishes now last u_is last_is s =
           let F = after_seal plan LogRing Q in
           let is = put-is plan item table rose device has in
-          let goes = (join-goes-on plan (put_joined plan item table) room has (put-joined plan table item room between ok)).1 in
+          let goes = (join-goes-on Any any-last plan (put_joined plan item table) room has (put-joined Any any-last plan table item room between ok)).1 in
           let still = log-still t.table l f mid first plan h.unlogged.planned outside hr.planned in
           record {
             now = s.now;
@@ -184,7 +185,7 @@ module _ {KNOTS SLOTS : ℕ} (t : LoggedTable KNOTS SLOTS) (l : RecordLog) (t_is
             stands = subst (λ (x : Table). Stands now new first plan x) (sym is)
                 (stands-of now last new first plan F last_is
                 (subst (λ (x : code.Table KNOTS SLOTS). table_words.Stands x new first (bare plan) (bare_table P)) (sym u_is) (subst (λ (x : Table). table_words.Stands u new first (bare plan) x) (sym bare-is) framed))
-                s.stands (subst Between is goes));
+                s.stands (subst (Between Any) is goes));
             stand = subst (λ (x : Table). KeptStand first plan table x (page_at f) (page_at new)) (sym is) (record {
               rows = subst (λ (at : ℕ → List ℕ). PagesStand table.rows (bytes_in (page_at f) first plan DataRing) P.rows at) (sym (fun_ext (λ n. apart.rows n))) p.stand.rows;
               index = λ a b e k. subst (λ (at : ℕ → List ℕ). PagesStand a (bytes_in (page_at f) first plan IndexRing) b at) (sym (fun_ext (λ n. apart.index (has-ring table.index (has_index plan) a e h.facts.has_rings.0) n))) (p.stand.index a b e k);

@@ -1,5 +1,5 @@
 -- How the mount of a log behind its table ends, whose newest page's records join it and become a page.
-use Rattle.std.proofs.Common.{◌≡◌, ℕ, ◌+◌, Bool, true, false, cond, ◌==◌, ◌&&◌, nat_lt, Ok, Err, List, [], ◌∷◌, ◌++◌, length, refl, sym, ◌∙◌, ap, subst, inl, inr, ◌⊎◌, IsTrue}
+use Rattle.std.proofs.Common.{◌≡◌, ℕ, ◌+◌, Bool, true, false, cond, ◌==◌, ◌&&◌, nat_lt, Ok, Err, List, [], ◌∷◌, ◌++◌, length, filter, refl, sym, ◌∙◌, ap, subst, arith, inl, inr, ◌⊎◌, IsTrue}
 use Rattle.std.proofs.lemmas.List.{append-nil}
 use Rattle.fl_flash.specs.Flash.{FlashState, page_at}
 use Rattle.fl_flash.specs.declared.flash.FlashFault.{FlashFault}
@@ -8,7 +8,7 @@ use Rattle.fl_model.specs.Bare.{bare, bare_table, Log, log_of, beside, end_besid
 use Rattle.fl_model.specs.Mount.{Of, Replay, renumber, ready, joined}
 use Rattle.fl_model.specs.Record.{Plan, blocks_of, has_index, entries_per_page}
 use Rattle.fl_model.specs.Table as model
-use Rattle.fl_model.specs.Table.{Table, Entry, RingName, LogRing, fill, has_rows, log_pages, lose, is_rows_spent, owed, table_seals, after_seals}
+use Rattle.fl_model.specs.Table.{Table, Entry, RingName, LogRing, fill, has_rows, log_pages, lose, is_above, is_rows_spent, owed, written, table_seals, after_seals}
 use Rattle.fl_model.specs.Within.{TablePerforms, TableGoesOn, TableMountEnd, TableMounts, TableMounted, TableStopped, TableUnread, TableUnreads, seals_within, repair_within, effect_within}
 use Rattle.fl_model.specs.Work.{Device, PartEnd, Whole, CutIn, FailedIn, PartProgress}
 use Rattle.fl_model.proofs.Among.{seals-all_done}
@@ -29,6 +29,7 @@ use Rattle.fl_table.specs.Pages as pages
 use Rattle.fl_table.specs.Standing as without_log
 use Rattle.fl_table.specs.declared.table.Table as code
 use Rattle.fl_table.proofs.Apart.{stands-apart, rests-apart}
+use Rattle.fl_table.proofs.SealAnswers.{planned-shape}
 use Rattle.fl_rlc.specs.Memory.{page_in, log_shape, IsPlanned, IsSamePlan}
 use Rattle.fl_rlc.specs.Pages.{IsLogRing}
 use Rattle.fl_rlc.specs.Repairing as repairing
@@ -39,6 +40,7 @@ use Rattle.fl_rlc.proofs.Assembled.{bare-same, stands-rest}
 use Rattle.fl_rlc.proofs.Frames.{log-still, table-still}
 use Rattle.fl_rlc.proofs.Joined.{nothing-joins}
 use Rattle.fl_rlc.proofs.JoinedRow.{same-pages}
+use Rattle.fl_rlc.proofs.Paid.{logged-tops, sealed-paid}
 use Rattle.fl_rlc.proofs.PutRows.{sealed-none}
 use Rattle.fl_rlc.proofs.PutSteps.{table-bare}
 
@@ -183,6 +185,7 @@ module _ {KNOTS SLOTS : ℕ} (t : code.Table KNOTS SLOTS) (l : RecordLog) (old :
           unlogged = subst (λ (z : Table). without_log.Stands t f1 first (bare plan) (bare_table z)) (sym same) begun-stands;
           ring = ring-of l1 f1 f1 (first + blocks_of (bare plan)) plan y (joined y) (joined-log y) refl begun-ring;
           none = ap (λ (z : Table). z.pending) same ∙ begun-none;
+          paid = λ left. ap (λ (z : Table). owed z) same ∙ ap (filter (λ (e : Entry). is_above (written (ready plan m.now.state)) e)) empty;
         }
       where
         seals_of : Table → List RingName
@@ -204,6 +207,7 @@ module _ {KNOTS SLOTS : ℕ} (t : code.Table KNOTS SLOTS) (l : RecordLog) (old :
           ReplaysWell first plan x rose device l1 t3 f3
       seal-well t3 p =
           let b = bare_table j in
+          let y = ready plan m.now.state in
           let last : PartProgress Table = record { end = Whole; device = p.now.device; state = beside (log_of (joined (ready plan m.now.state))) p.now.state } in
           let done = lifted p.now p.did in
           let state : p.now.state ≡ after_seals (bare plan) (table_seals (bare plan) (bare_table (joined (ready plan m.now.state)))) (bare_table (joined (ready plan m.now.state))) =
@@ -218,6 +222,9 @@ module _ {KNOTS SLOTS : ℕ} (t : code.Table KNOTS SLOTS) (l : RecordLog) (old :
             unlogged = subst (λ (z : Table). without_log.Stands t3 f3 first (bare plan) z) (sym plain) p.stands;
             ring = ring-of l1 f1 f3 (first + blocks_of (bare plan)) plan (ready plan m.now.state) (beside (log_of j) p.now.state) (joined-log (ready plan m.now.state)) pages-still begun-ring;
             none = ap (λ (z : Table). z.pending) state ∙ sealed-none (bare plan) b (b.pending == 0) (has_index plan && (length b.waiting == entries_per_page plan)) (nat_lt 0 (fill b)) refl;
+            paid = subst (λ (z : Table). is_rows_spent (beside (log_of j) z) ≡ false → owed (beside (log_of j) z) ≡ []) (sym state)
+                (sealed-paid plan (planned-shape t first (bare plan) s.planned) y begun-none (omega (arith, begun-stands.facts.counted, begun-none)) begun-stands.facts.rows.not_negative
+                (logged-tops plan y begun-ring.pages.fit begun-ring.logged_some));
           }
 
       pub seal-badly : (t3 : code.Table KNOTS SLOTS) (fault : FlashFault) → bare_outcomes.SealsEnd first (bare plan) (table_seals (bare plan) (bare_table (joined (ready plan m.now.state)))) (bare_table (joined (ready plan m.now.state))) rose m.now.device (Err fault) t3 f2 f3 →

@@ -12,6 +12,6 @@ pub mod Logged
 pub mod Outcomes
 pub mod Refusal
 pub mod Rows
-pub mod Planning
 pub mod Mounting
 pub mod MountingApart
+pub mod Left

@@ -8,7 +8,7 @@ use Rattle.fl_model.specs.Mount.{Of, Replay, joined}
 use Rattle.fl_model.specs.Record.{Plan, RowLayout, blocks_of}
 use Rattle.fl_model.specs.Ring.{Ring}
 use Rattle.fl_model.specs.Table as model
-use Rattle.fl_model.specs.Table.{LogRing, has_rows, log_pages, lose}
+use Rattle.fl_model.specs.Table.{LogRing, has_rows, is_rows_spent, log_pages, lose, owed}
 use Rattle.fl_model.specs.Within.{TableMounts, TableMounted, TableStopped, TableUnread}
 use Rattle.fl_model.specs.Work.{Device, PartProgress}
 use Rattle.fl_page.specs.Page.{IsGoodPage, bad_page, rows_in}
@@ -56,6 +56,7 @@ pub record ReplaysWell {KNOTS SLOTS : ℕ} (first : ℕ) (plan : Plan) (table : 
   pub unlogged : without_log.Stands t new first (bare plan) (bare_table now.state)
   pub ring : HasRing log new (first + blocks_of (bare plan)) plan now.state
   pub none : now.state.pending ≡ 0
+  pub paid : is_rows_spent now.state ≡ false → owed now.state ≡ []
 
 -- An operation failed, or a read: what was done until then stays.
 pub record ReplaysBadly (first : ℕ) (plan : Plan) (table : model.Table) (rose : Bool) (device : Device) (fault : FlashFault) (old : RecordLog) (new : FlashState) : Type 0 where

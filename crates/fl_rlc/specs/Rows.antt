@@ -1,5 +1,5 @@
 -- The log of a table, where it has one.
-use Rattle.std.specs.Prelude.{◌≡◌, ℕ, Bool, Option, Some, None, Result, Ok, List, [], ◌∷◌, ◌++◌, length, map}
+use Rattle.std.specs.Prelude.{◌≡◌, ℕ, ◌+◌, Bool, Option, Some, None, Result, Ok, List, [], ◌∷◌, ◌++◌, length, map}
 use Rattle.fl_flash.specs.Flash.{FlashState}
 use Rattle.fl_flash.specs.declared.flash.FlashFault.{FlashFault}
 use Rattle.fl_model.specs.Record.{Plan, RowLayout, row_layout}
@@ -10,7 +10,7 @@ use Rattle.fl_model.specs.Work.{Device}
 use Rattle.fl_page.specs.Writer.{Gathers}
 use Rattle.fl_ring.specs.Ring as ring
 use Rattle.fl_ring.specs.Step.{IsWatched}
-use Rattle.fl_rlc.specs.Memory.{rows_in, kept_rows, log_shape, IsSamePlan}
+use Rattle.fl_rlc.specs.Memory.{next_in, rows_in, kept_rows, log_shape, IsSamePlan}
 use Rattle.fl_rlc.specs.Pages.{IsPage}
 use Rattle.fl_rlc.specs.Sealing.{SealEnds}
 use Rattle.fl_rlc.specs.Standing.{HasRing}
@@ -32,6 +32,16 @@ RowEnds None old first plan table layout row rose device result new_log new = (r
 RowEnds (Some log) old first plan table layout row rose device result None new = ⊥
 RowEnds (Some log) old first plan table layout row rose device result (Some now) new =
     IsWatched old new rose device → Joins log old first plan table layout row → SealEnds first plan table rose device log old result now new
+
+-- A page more was sealed. The rows of the next page are those that stayed of it, and this one.
+pub record HasLogged (layout : RowLayout) (row : Row) (old new : RecordLog) : Type 0 where
+  pub next : next_in new ≡ next_in old + 1
+  pub rows : (rows : List Row) → Gathers layout rows (rows_in old) → Gathers layout (kept_rows layout (rows_in old) rows ++ row ∷ []) (rows_in new)
+
+abbrev pub HaveLogged : RowLayout → Row → Option RecordLog → Option RecordLog → Type 0
+HaveLogged layout row None new = new ≡ None
+HaveLogged layout row (Some old) None = ⊥
+HaveLogged layout row (Some old) (Some new) = HasLogged layout row old new
 
 -- the flash pages outside the ring stand
 abbrev pub StandOutside : Option RecordLog → (ℕ → List ℕ) → (ℕ → List ℕ) → Type 0

@@ -13,4 +13,4 @@ mod rows;
 mod seal;
 mod table;
 
-pub use table::{LoggedTable, PlanRefusal};
+pub use table::LoggedTable;

@@ -13,8 +13,10 @@ use fl_ring::{NewestPage, Ring, RingFault};
 
 impl RecordLog {
     ghost use Rattle.std.specs.Prelude.{ℕ, Bool, true, false, Err};
+    ghost use Rattle.fl_model.specs.MountLimit.{part_mount_limit};
     ghost use Rattle.fl_model.specs.Record.{Plan, RowLayout};
     ghost use Rattle.fl_model.specs.Table as model;
+    ghost use Rattle.fl_model.specs.Table.{LogRing, shape_of};
     ghost use Rattle.fl_model.specs.Work.{Device};
     ghost use Rattle.fl_page.specs.Writer.{Gathers};
     ghost use Rattle.fl_ring.specs.Step.{IsWatched};
@@ -41,6 +43,8 @@ impl RecordLog {
         ensures found { IfOk result (λ newest. Finds self.old (F.state flash.old) newest self.new (F.state flash.new)) }
         ensures fault { IfErr result (λ e. FoundFault (F.state flash.old) (log_shape self.old) 0 e) }
         ensures fails { IfErr result (λ e. FailsAs (F.state flash.old) (log_shape self.old) 0 e (F.state flash.new)) }
+        ensures reads { (first : ℕ) → (plan : Plan) → (table : model.Table) → IsTrue (F.state flash.old).media.tells → Rests self.old (F.state flash.old) first plan table
+            → (F.state flash.new).work.reads ≤ (F.state flash.old).work.reads + part_mount_limit (shape_of plan LogRing) table.log }
         ensures beside { Beside (log_shape self.old) (search_reads (log_shape self.old) + (F.state flash.old).geometry.block) 1 1 (F.state flash.old) (F.state flash.new) }
         ensures cause { IfErr result (λ e. IfFlash (λ fault. CausedBy (F.state flash.old) fault (F.state flash.new)) e) }
         ensures power { OnOk result ((F.state flash.new).is_on ≡ true) }

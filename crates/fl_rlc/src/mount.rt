@@ -1,12 +1,12 @@
 // The mount of a table with a log.
-ghost use Rattle.std.specs.Prelude.{◌≡◌, ◌≤◌, ◌+◌, ◌*◌, ℕ, Some, None, Err, false, is_ok, length, IsTrue, IfOk, IfErr, OnOk};
+ghost use Rattle.std.specs.Prelude.{◌≡◌, ◌⊎◌, ◌≤◌, ◌+◌, ◌*◌, ℕ, Some, None, Err, true, false, is_ok, length, IsTrue, IfOk, IfErr, OnOk};
 ghost use Rattle.fl_flash.specs.Flash.{FlashState, Goes, page_at};
 ghost use Rattle.fl_flash.specs.declared.flash.FlashFault.{FlashFault};
 ghost use Rattle.fl_model.specs.Record.{Plan};
 ghost use Rattle.fl_model.specs.Table as model;
 ghost use Rattle.fl_table.specs.Causes.{MountCausedBy};
 ghost use Rattle.fl_table.specs.Memory.{pending_in};
-ghost use Rattle.fl_table.specs.Mounting.{FewReads};
+ghost use Rattle.fl_table.specs.Mounting.{FewReads, FewRepairs};
 ghost use Rattle.fl_table.specs.Outcomes.{mounted_of};
 ghost use Rattle.fl_table.specs.Standing as without_log;
 ghost use Rattle.fl_rlc.specs.Table.{mounted_in};
@@ -31,14 +31,16 @@ fn held<const KNOTS: usize, const SLOTS: usize>(table: &Table<KNOTS, SLOTS>) -> 
 
 impl<const KNOTS: usize, const SLOTS: usize> LoggedTable<KNOTS, SLOTS> {
     ghost use Rattle.std.specs.Prelude.{Bool};
+    ghost use Rattle.fl_model.specs.MountLimit.{mount_limit};
     ghost use Rattle.fl_model.specs.Work.{Device};
     ghost use Rattle.fl_ring.specs.Step.{IsWatched};
+    ghost use Rattle.fl_rlc.specs.Left.{LeavesPages};
     ghost use Rattle.fl_rlc.specs.Logged.{Rests};
     ghost use Rattle.fl_rlc.specs.Mounting.{FindsPages, RefusesPages, pages_in};
     ghost use Rattle.fl_rlc.specs.MountingApart.{RestApart, MountApartEnds};
     ghost use Rattle.fl_rlc.specs.Outcomes.{MountEnds};
     ghost use Rattle.fl_rlc.specs.declared.log.RecordLog.{RecordLog};
-    ghost use Rattle.fl_rlc.specs.Table.{is_running, is_stopped, IsPlanned, IsSamePlan, LiesOn, OutsideStands, log_in, table_in};
+    ghost use Rattle.fl_rlc.specs.Table.{is_logged, is_running, is_stopped, rings_in, IsPlanned, IsSamePlan, LiesOn, OutsideStands, log_in, table_in};
 
     /// Mounts the table and then its log, where it has one. The records of the log's newest page that no data page has
     /// become a page of the table, unless its page numbers are spent. It answers what the table holds then.
@@ -69,9 +71,17 @@ impl<const KNOTS: usize, const SLOTS: usize> LoggedTable<KNOTS, SLOTS> {
         ensures calm { is_stopped self.new ≡ false }
         ensures none { OnOk result (pending_in (table_in self.new) ≡ 0) }
         ensures found { IfOk result (λ mounted. IsTrue (F.state flash.old).media.tells → FindsPages self.old (F.state flash.old) mounted self.new (F.state flash.new)) }
+        ensures leaves { OnOk result (IsTrue (F.state flash.old).media.tells → (first : ℕ) → (plan : Plan) → (table : model.Table)
+            → (is_logged self.old ≡ false) ⊎ ((rose : Bool) × (device : Device) × IsWatched (F.state flash.old) (F.state flash.new) rose device)
+            → IsPlanned self.old first plan → Rests (F.state flash.old) first plan table → LeavesPages first plan (page_at (F.state flash.old)) (page_at (F.state flash.new))) }
         ensures refused { IfErr result (λ e. IsTrue (F.state flash.old).media.tells → RefusesPages self.old (F.state flash.old) e (F.state flash.new)) }
         ensures outside { IsTrue (F.state flash.old).media.tells → OutsideStands self.old (page_at (F.state flash.old)) (page_at (F.state flash.new)) }
         ensures reads { IsTrue (F.state flash.old).media.tells → FewReads (4 * pages_in self.old) (F.state flash.old) (F.state flash.new) }
+        ensures limit { (first : ℕ) → (plan : Plan) → (table : model.Table) → (rose : Bool) → (device : Device) → IsWatched (F.state flash.old) (F.state flash.new) rose device
+            → IsPlanned self.old first plan → Rests (F.state flash.old) first plan table → plan.full_index ≡ true
+            → (F.state flash.new).work.reads ≤ (F.state flash.old).work.reads + mount_limit plan table }
+        ensures repairs { is_logged self.old ≡ false → FewRepairs (rings_in self.old) (F.state flash.old) (F.state flash.new) }
+        ensures power { OnOk result ((F.state flash.old).is_on ≡ true → (F.state flash.new).is_on ≡ true) }
         ensures cause { IfErr result (λ e. MountCausedBy (F.state flash.old) e (F.state flash.new)) }
         ensures off { (F.state flash.old).is_on ≡ false → (result ≡ Err (MountFault.Flash FlashFault.PowerLost)) × (F.state flash.new ≡ F.state flash.old) }
     {

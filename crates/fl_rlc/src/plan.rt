@@ -1,31 +1,20 @@
 // A table with a log, of a configuration.
-ghost use Rattle.std.specs.Prelude.{◌≡◌, ◌≤◌, ◌<◌, ◌+◌, ◌^◌, None, false, option_map, IfSome, IfOk, IfErr, OnOk};
+ghost use Rattle.std.specs.Prelude.{◌≡◌, ◌≤◌, ◌<◌, ◌+◌, ◌^◌, ◌⊎◌, Err, None, false, option_map, IfSome, IfOk, IfErr, OnOk};
 ghost use Rattle.fl_flash.specs.Flash.{FlashState, pages};
 ghost use Rattle.fl_plan.specs.Plan.{IsConfigOf, blocks_in};
-ghost use Rattle.fl_plan.specs.Refusal.{config_fault};
+ghost use Rattle.fl_plan.specs.Refusal.{config_fault_with, Tells};
 ghost use Rattle.fl_model.specs.Bare.{bare};
 ghost use Rattle.fl_model.specs.Record.{Plan, blocks_of};
-ghost use Rattle.fl_rlc.specs.Planning.{log_fault, RefusesPlan};
 
 use crate::log::RecordLog;
-use crate::table::{LoggedTable, PlanRefusal};
+use crate::table::LoggedTable;
 use fl_base::RingPlace;
 use fl_plan::{ConfigRefusal, TableConfig};
 use fl_table::Table;
 use std::alloc::Global;
 
-/// The first refusal of a log beside this configuration, if one applies.
-fn log_fault(config: &TableConfig, log: Option<RingPlace>) -> Option<PlanRefusal>
-    ensures { result ≡ log_fault config.now log }
-{
-    let place = log?;
-    if place.blocks < 3 || place.blocks > 16384 {
-        return Some(PlanRefusal::LogBlocks);
-    }
-    config.var.is_some().then_some(PlanRefusal::LogVar)
-}
-
 impl<const KNOTS: usize, const SLOTS: usize> LoggedTable<KNOTS, SLOTS> {
+    ghost use Rattle.fl_plan.specs.declared.refusal.ConfigRefusal.TheVariants.{NoMemory};
     ghost use Rattle.fl_rlc.specs.Memory.{place_in};
     ghost use Rattle.fl_rlc.specs.Table.{is_running, is_stopped, log_in, IsPlanned, LiesOn};
 
@@ -37,10 +26,10 @@ impl<const KNOTS: usize, const SLOTS: usize> LoggedTable<KNOTS, SLOTS> {
         alloc: Global,
         config: &TableConfig,
         log: Option<RingPlace>,
-    ) -> Result<LoggedTable<KNOTS, SLOTS>, PlanRefusal>
+    ) -> Result<LoggedTable<KNOTS, SLOTS>, ConfigRefusal>
         requires knots { (2 ≤ KNOTS) × (KNOTS ≤ 65536) }
         requires slots { (2 ≤ SLOTS) × (SLOTS ≤ 65536) }
-        ensures fits { OnOk result ((config_fault config.now ≡ None) × (log_fault config.now log ≡ None)) }
+        ensures fits { OnOk result (config_fault_with log config.now ≡ None) }
         ensures planned { IfOk result (λ t. (plan : Plan) → IsConfigOf config.now (bare plan) → plan.log_blocks ≡ blocks_in log
             → IfSome log (λ place. place.first_block ≡ config.now.rows.first_block + blocks_of (bare plan)) → IsPlanned t config.now.rows.first_block plan) }
         ensures log { IfOk result (λ t. option_map (λ l. place_in l) (log_in t) ≡ log) }
@@ -48,27 +37,17 @@ impl<const KNOTS: usize, const SLOTS: usize> LoggedTable<KNOTS, SLOTS> {
             → IfSome config.now.index (λ place. place.first_block + place.blocks ≤ f.blocks) → IfSome config.now.var (λ place. place.first_block + place.blocks ≤ f.blocks)
             → IfSome log (λ place. place.first_block + place.blocks ≤ f.blocks) → pages f < 2 ^ 32 → LiesOn t f) }
         ensures fresh { IfOk result (λ t. (is_running t ≡ false) × (is_stopped t ≡ false)) }
-        ensures refused { IfErr result (λ refusal. RefusesPlan config.now log refusal) }
+        ensures refused { IfErr result (λ refusal. ((refusal ≡ NoMemory) × (config_fault_with log config.now ≡ None)) ⊎ Tells {A = LoggedTable KNOTS SLOTS} (Err refusal) (config_fault_with log config.now)) }
     {
-        if let Err(refusal) = config.check() {
-            return Err(PlanRefusal::Table(refusal));
-        }
-        if let Some(refusal) = log_fault(config, log) {
-            return Err(refusal);
-        }
-        let table = match Table::plan(alloc, config) {
-            Ok(table) => table,
-            Err(refusal) => return Err(PlanRefusal::Table(refusal)),
-        };
+        config.check_with(log)?;
+        let table = Table::plan(alloc, config)?;
         let Some(place) = log else {
             return Ok(LoggedTable { table, log: None });
         };
-        match RecordLog::plan(alloc, config.geometry, place) {
-            Ok(log) => Ok(LoggedTable {
-                table,
-                log: Some(log),
-            }),
-            Err(_) => Err(PlanRefusal::Table(ConfigRefusal::NoMemory)),
-        }
+        let log = RecordLog::plan(alloc, config.geometry, place)?;
+        Ok(LoggedTable {
+            table,
+            log: Some(log),
+        })
     }
 }

@@ -1,5 +1,5 @@
 // Puts and flushes of a table with a log.
-ghost use Rattle.std.specs.Prelude.{◌≡◌, ◌≤◌, ◌+◌, true, false, None, length, IsTrue, IfErr, OnOk, option_map};
+ghost use Rattle.std.specs.Prelude.{◌≡◌, ◌≤◌, ◌+◌, ◌++◌, ◌∷◌, [], true, false, None, length, IsTrue, IfErr, OnOk, option_map};
 ghost use Rattle.fl_flash.specs.Flash.{Goes, page_at};
 ghost use Rattle.fl_flash.specs.declared.flash.FlashFault.{FlashFault};
 
@@ -9,19 +9,22 @@ use fl_flash::Flash;
 use fl_table::{FlushFault, PutRefusal};
 
 impl<const KNOTS: usize, const SLOTS: usize> LoggedTable<KNOTS, SLOTS> {
-    ghost use Rattle.std.specs.Prelude.{ℕ, Bool, ◌||◌, ◌&&◌, ◌↔◌, not, Ok, Err};
+    ghost use Rattle.std.specs.Prelude.{ℕ, Bool, List, Some, ◌||◌, ◌&&◌, ◌↔◌, not, Ok, Err};
     ghost use Rattle.fl_model.specs.Record.{Plan};
+    ghost use Rattle.fl_model.specs.Row.{Row};
     ghost use Rattle.fl_model.specs.Table as model;
     ghost use Rattle.fl_model.specs.Work.{Device};
     ghost use Rattle.fl_ring.specs.Step.{IsWatched};
     ghost use Rattle.fl_table.specs.Blobs.{most_pages};
     ghost use Rattle.fl_table.specs.BlobAt.{data_in};
     ghost use Rattle.fl_table.specs.Causes.{PutCausedBy, FlushCausedBy, put_breaks, flush_breaks};
-    ghost use Rattle.fl_table.specs.Memory.{pending_in};
+    ghost use Rattle.fl_table.specs.Look.{last_key_in, layout_in};
+    ghost use Rattle.fl_table.specs.Memory.{next_in, pending_in, HasRoom, PendingAre};
     ghost use Rattle.fl_table.specs.Refusal.{RefusesAs};
     ghost use Rattle.fl_rlc.specs.Logged.{Stands};
     ghost use Rattle.fl_rlc.specs.Outcomes.{PutEnds, FlushEnds};
     ghost use Rattle.fl_rlc.specs.Refusal.{put_refusal, NeedsNoOperation, RefusedSame};
+    ghost use Rattle.fl_rlc.specs.Rows.{AreBegun, HaveLogged};
     ghost use Rattle.fl_rlc.specs.Table.{is_running, is_stopped, table_in, log_in, rings_in, IsSamePlan, LiesOn, OutsideStands};
 
     /// Puts a record. Its row is pending then, as a table's; with a log all pending rows are sealed as a page of it too, before
@@ -40,11 +43,17 @@ impl<const KNOTS: usize, const SLOTS: usize> LoggedTable<KNOTS, SLOTS> {
             → PutEnds first plan (record { key = key; values = values.now; blob = option_map (λ b. b.now) blob.entry }) table rose device result self.new (F.state flash.old) (F.state flash.new) }
         ensures exact { RefusesAs (put_refusal self.old key values.now (option_map (λ b. length b.now) blob.entry)) result }
         ensures refused { IfErr result (λ e. RefusedSame self.old (F.state flash.old) e self.new (F.state flash.new)) }
+        ensures last { OnOk result (last_key_in (table_in self.new) ≡ Some key) }
+        ensures pending { OnOk result (HasRoom (table_in self.old) → pending_in (table_in self.new) ≡ pending_in (table_in self.old) + 1) }
+        ensures rows { OnOk result (HasRoom (table_in self.old) → option_map (λ b. b.now) blob.entry ≡ None → (rows : List Row) → PendingAre (table_in self.old) rows
+            → PendingAre (table_in self.new) (rows ++ (record { key = key; values = values.now; blob = None }) ∷ [])) }
+        ensures logs { OnOk result (HaveLogged (layout_in (table_in self.old)) (record { key = key; values = values.now; blob = None }) (log_in self.old) (log_in self.new)) }
         ensures stopped { is_stopped self.new ≡ (put_breaks result || is_stopped self.old) }
         ensures running { is_running self.new ≡ (is_running self.old && not (put_breaks result)) }
         ensures quiet { put_refusal self.old key values.now (option_map (λ b. length b.now) blob.entry) ≡ None → NeedsNoOperation self.old (option_map (λ b. b.now) blob.entry) → (result ≡ Ok tt) × (F.state flash.new ≡ F.state flash.old) }
         ensures off { put_refusal self.old key values.now (option_map (λ b. length b.now) blob.entry) ≡ None → (NeedsNoOperation self.old (option_map (λ b. b.now) blob.entry) → ⊥)
             → (F.state flash.old).is_on ≡ false → (result ≡ Err (PutRefusal.Flash FlashFault.PowerLost)) × (F.state flash.new ≡ F.state flash.old) }
+        ensures power { OnOk result ((F.state flash.old).is_on ≡ true → (F.state flash.new).is_on ≡ true) }
         ensures cause { IfErr result (λ e. PutCausedBy (F.state flash.old) e (F.state flash.new)) }
         ensures goes { Goes (F.state flash.old) (F.state flash.new) }
         ensures same { IsSamePlan self.old self.new }
@@ -75,8 +84,11 @@ impl<const KNOTS: usize, const SLOTS: usize> LoggedTable<KNOTS, SLOTS> {
         ensures running { is_running self.new ≡ (is_running self.old && not (flush_breaks result)) }
         ensures refused { result ≡ Err FlushFault.Stopped → (table_in self.new ≡ table_in self.old) × (log_in self.new ≡ log_in self.old) }
         ensures none { OnOk result (pending_in (table_in self.new) ≡ 0) }
-        ensures quiet { is_running self.old ≡ true → pending_in (table_in self.old) ≡ 0 → (result ≡ Ok tt) × (table_in self.new ≡ table_in self.old) × (F.state flash.new ≡ F.state flash.old) }
+        ensures seals { OnOk result (1 ≤ pending_in (table_in self.old) → next_in (table_in self.new) ≡ next_in (table_in self.old) + 1) }
+        ensures begins { OnOk result (1 ≤ pending_in (table_in self.old) → AreBegun (log_in self.old) (log_in self.new)) }
+        ensures quiet { is_running self.old ≡ true → pending_in (table_in self.old) ≡ 0 → (result ≡ Ok tt) × (self.new ≡ self.old) × (F.state flash.new ≡ F.state flash.old) }
         ensures off { is_running self.old ≡ true → 1 ≤ pending_in (table_in self.old) → (F.state flash.old).is_on ≡ false → (result ≡ Err (FlushFault.Flash FlashFault.PowerLost)) × (F.state flash.new ≡ F.state flash.old) }
+        ensures power { OnOk result ((F.state flash.old).is_on ≡ true → (F.state flash.new).is_on ≡ true) }
         ensures cause { IfErr result (λ e. FlushCausedBy (F.state flash.old) e (F.state flash.new)) }
         ensures goes { Goes (F.state flash.old) (F.state flash.new) }
         ensures same { IsSamePlan self.old self.new }
@@ -85,6 +97,10 @@ impl<const KNOTS: usize, const SLOTS: usize> LoggedTable<KNOTS, SLOTS> {
         ensures reads { (F.state flash.new).work.reads ≡ (F.state flash.old).work.reads }
         ensures media_reads { (F.state flash.new).media.reads ≤ (F.state flash.old).media.reads + rings_in self.old }
     {
+        // Where no row is pending, none is in the log's next page: nothing changes.
+        if self.table.pending_rows() == 0 {
+            return self.table.flush(flash);
+        }
         self.table.flush(flash)?;
         begin_anew(&mut self.log);
         Ok(())

@@ -3,9 +3,10 @@ ghost use Rattle.std.specs.Prelude.{◌≡◌, ◌+◌, ◌*◌, ◌<◌, ◌≤
 ghost use Rattle.fl_flash.specs.Flash.{FlashState, Goes, page_at};
 ghost use Rattle.fl_model.specs.Bare.{bare, bare_table};
 ghost use Rattle.fl_model.specs.Mount.{ready};
+ghost use Rattle.fl_model.specs.MountLimit.{log_mount_limit};
 ghost use Rattle.fl_model.specs.Record.{Plan, RowLayout, layout_len, blocks_of};
 ghost use Rattle.fl_model.specs.Table as model;
-ghost use Rattle.fl_model.specs.Table.{table_seals};
+ghost use Rattle.fl_model.specs.Table.{LogRing, shape_of, table_seals};
 ghost use Rattle.fl_model.specs.Work.{Device};
 ghost use Rattle.fl_page.specs.Page.{rows_in as page_rows};
 ghost use Rattle.fl_page.specs.Writer.{Gathers};
@@ -26,6 +27,7 @@ ghost use Rattle.fl_rlc.specs.Joining.{HasNewest};
 ghost use Rattle.fl_rlc.specs.Memory.{is_mounted, rows_in, page_in, log_shape, LiesOn, IsSamePlan};
 ghost use Rattle.fl_rlc.specs.Repairing as repairing;
 ghost use Rattle.fl_rlc.specs.Finding.{FindsLog, RefusesLog, StandBeside};
+ghost use Rattle.fl_rlc.specs.Left.{ReplayLeaves};
 ghost use Rattle.fl_rlc.specs.Offering.{AreOffered, AreSealed};
 ghost use Rattle.fl_rlc.specs.Replaying.{MayStand, IsBad, JoinsEnd, ReplayEnds};
 
@@ -109,6 +111,7 @@ fn seal_rows<F: Flash, const KNOTS: usize, const SLOTS: usize>(
     ensures outside { IsTrue (F.state flash.old).media.tells → mounting.OutsideStands table.old (page_at (F.state flash.old)) (page_at (F.state flash.new)) }
     ensures reads { (F.state flash.new).work.reads ≡ (F.state flash.old).work.reads }
     ensures media_reads { (F.state flash.new).media.reads ≤ (F.state flash.old).media.reads + mounting.rings_in table.old }
+    ensures power { OnOk result ((F.state flash.old).is_on ≡ true → (F.state flash.new).is_on ≡ true) }
     ensures cause { IfErr result (λ e. CausedBy (F.state flash.old) e (F.state flash.new)) }
 {
     match table.flush(flash) {
@@ -148,9 +151,15 @@ pub(crate) fn replay<F: Flash, const KNOTS: usize, const SLOTS: usize>(
         → without_log.Stands table.old (F.state flash.old) first (bare plan) (ready (bare plan) (bare_table table_now)) → table_now.pending ≡ 0
         → repairing.Rests log.old (F.state flash.old) (first + blocks_of (bare plan)) plan table_now → ReplayEnds first plan table_now rose device log.old result log.new table.new (F.state flash.new) }
     ensures found { OnOk result (IsTrue (F.state flash.old).media.tells → FindsLog (layout_in table.old) log.old (F.state flash.old) table.old log.new table.new (F.state flash.new)) }
+    ensures leaves { OnOk result ((first : ℕ) → (plan : Plan) → (table_now : model.Table) → (rose : Bool) → (device : Device) → IsWatched (F.state flash.old) (F.state flash.new) rose device
+        → without_log.Stands table.old (F.state flash.old) first (bare plan) (ready (bare plan) (bare_table table_now)) → table_now.pending ≡ 0
+        → repairing.Rests log.old (F.state flash.old) (first + blocks_of (bare plan)) plan table_now → ReplayLeaves first plan table_now (page_at (F.state flash.old)) (page_at (F.state flash.new))) }
     ensures refused { IfErr result (λ e. IsTrue (F.state flash.old).media.tells → RefusesLog (layout_in table.old) log.old (F.state flash.old) table.old e (F.state flash.new)) }
     ensures outside { IsTrue (F.state flash.old).media.tells → StandBeside table.old log.old (page_at (F.state flash.old)) (page_at (F.state flash.new)) }
     ensures reads { mounting.FewReads (4 * room (log_shape log.old)) (F.state flash.old) (F.state flash.new) }
+    ensures limit { (first : ℕ) → (plan : Plan) → (table_now : model.Table) → IsTrue (F.state flash.old).media.tells → repairing.Rests log.old (F.state flash.old) first plan table_now
+        → (F.state flash.new).work.reads ≤ (F.state flash.old).work.reads + log_mount_limit (shape_of plan LogRing) table_now.log }
+    ensures power { OnOk result ((F.state flash.new).is_on ≡ true) }
     ensures cause { IfErr result (λ e. MountCausedBy (F.state flash.old) e (F.state flash.new)) }
 {
     let Some(newest) = log.mount(flash, buf)? else {

@@ -10,7 +10,7 @@ ghost use Rattle.fl_ring.specs.Causes.{CausedBy};
 ghost use Rattle.fl_schema.specs.Schema.{layout_of};
 ghost use Rattle.fl_rlc.specs.Memory.{is_mounted, page_len, LiesOn};
 ghost use Rattle.fl_rlc.specs.Refusal.{log_refused};
-ghost use Rattle.fl_rlc.specs.Rows.{RowEnds, StandOutside, AreBegun};
+ghost use Rattle.fl_rlc.specs.Rows.{RowEnds, StandOutside, AreBegun, HaveLogged};
 ghost use Rattle.fl_rlc.specs.Table.{AreSameLog};
 
 use crate::log::RecordLog;
@@ -36,12 +36,14 @@ pub(crate) fn log_row<F: Flash>(
     ensures mounted { OnOk result (ForSome log.new (λ l. is_mounted l ≡ true)) }
     ensures ends { (first : ℕ) (plan : Plan) (table : model.Table) (rose : Bool) (device : Device) →
         RowEnds log.old (F.state flash.old) first plan table (layout_of schema.now) (record { key = key; values = values.now; blob = None }) rose device result log.new (F.state flash.new) }
+    ensures logs { OnOk result (HaveLogged (layout_of schema.now) (record { key = key; values = values.now; blob = None }) log.old log.new) }
     ensures outside { IsTrue (F.state flash.old).media.tells → StandOutside log.old (page_at (F.state flash.old)) (page_at (F.state flash.new)) }
     ensures reads { (F.state flash.new).work.reads ≡ (F.state flash.old).work.reads }
     ensures media_reads { (F.state flash.new).media.reads ≤ (F.state flash.old).media.reads + (if is_some log.old then 1 else 0) }
     ensures logged { OnErr result (is_some log.old ≡ true) }
     ensures alone { is_some log.old ≡ false → (result ≡ Ok tt) × (F.state flash.new ≡ F.state flash.old) }
     ensures off { is_some log.old ≡ true → OffChangesNothing (F.state flash.old) result (F.state flash.new) }
+    ensures power { OnOk result ((F.state flash.old).is_on ≡ true → (F.state flash.new).is_on ≡ true) }
     ensures cause { IfErr result (λ e. CausedBy (F.state flash.old) e (F.state flash.new)) }
 {
     match log {

@@ -68,12 +68,15 @@ impl RecordLog {
         ensures same { IsSamePlan self.old self.new }
         ensures lies { LiesOn self.new (F.state flash.new) }
         ensures mounted { is_mounted self.new ≡ is_ok result }
+        ensures next { OnOk result (next_in self.new ≡ next_in self.old + 1) }
+        ensures rows { (layout : RowLayout) (rows : List Row) → Gathers layout rows (rows_in self.old) → Gathers layout rows (rows_in self.new) }
         ensures ends { (first : ℕ) (plan : Plan) (table : model.Table) (rose : Bool) (device : Device) → IsWatched (F.state flash.old) (F.state flash.new) rose device
             → IsReady self.old (F.state flash.old) first plan table → SealEnds first plan table rose device self.old (F.state flash.old) result self.new (F.state flash.new) }
         ensures outside { IsTrue (F.state flash.old).media.tells → OutsideStands (log_shape self.old) (page_at (F.state flash.old)) (page_at (F.state flash.new)) }
         ensures reads { (F.state flash.new).work.reads ≡ (F.state flash.old).work.reads }
         ensures media_reads { (F.state flash.new).media.reads ≤ (F.state flash.old).media.reads + 1 }
         ensures off { OffChangesNothing (F.state flash.old) result (F.state flash.new) }
+        ensures power { OnOk result ((F.state flash.new).is_on ≡ true) }
         ensures cause { IfErr result (λ e. CausedBy (F.state flash.old) e (F.state flash.new)) }
     {
         let Some(mut ring) = self.ring.take() else {

@@ -8,7 +8,6 @@ ghost use Rattle.fl_table.specs.Memory as table_words;
 ghost use Rattle.fl_rlc.specs.Memory.{is_mounted, page_len};
 
 use crate::log::RecordLog;
-use fl_plan::ConfigRefusal;
 use fl_table::Table;
 
 /// A table, and its log where it has one. Without a log each call is the table's.
@@ -23,17 +22,6 @@ pub struct LoggedTable<const KNOTS: usize, const SLOTS: usize> {
     ghost running: { ForSome log (λ l. table_words.is_running table ≡ true → is_mounted l ≡ true) },
     ghost no_blobs: { is_some log ≡ true → has_blobs table ≡ false },
     ghost room: { ForSome log (λ l. layout_len (layout_in table) + 24 ≤ page_len l) },
-}
-
-/// Why a table with a log isn't planned: the first of these that applies, but for want of memory, which comes last.
-#[derive(Clone, Copy, Debug, PartialEq, Eq)]
-pub enum PlanRefusal {
-    /// The table's configuration is refused, or memory ran out.
-    Table(ConfigRefusal),
-    /// The log has fewer than 3 blocks or more than 16,384.
-    LogBlocks,
-    /// There is a log, and a ring of variable data.
-    LogVar,
 }
 
 impl<const KNOTS: usize, const SLOTS: usize> LoggedTable<KNOTS, SLOTS> {

@@ -10,6 +10,7 @@ use Rattle.fl_base.specs.declared.types.Geometry.{Geometry}
 use Rattle.fl_base.specs.declared.types.RingPlace.{RingPlace}
 use Rattle.fl_jobs.specs.declared.status.ToolStatus.{ToolStatus}
 use Rattle.fl_jobs.specs.declared.status.ToolStatus.TheVariants.{Done, InputRead, OutWrite, InputLong, NoMemory, NotImage, Device, BadImage, NoTable, BadInput, Unsound}
+use Rattle.fl_model.specs.Bare.{bare}
 use Rattle.fl_model.specs.Record.{Plan, blocks_of}
 use Rattle.fl_plan.specs.Limits.{IsRingSize, IsWithinLimits}
 use Rattle.fl_plan.specs.Plan.{IsConfigOf, Label, blocks_in, label_of, plan_of_table}
@@ -49,11 +50,11 @@ form-with config label plans place size at first =
     ap (λ (r : RingPages). record (form_in config) { rows = r }) rows
     ∙ ap (λ (v : Option RingPages). record (form_in config) { rows = ring_from config.geometry (sum_by blocks_of (take place plans)) config.rows.blocks; var = v }) var
 
-pub form-as : (config : TableConfig) (plans : List Plan) (place : ℕ) (plan : Plan) → IsConfigOf config plan → IsWithinLimits config → config.rows.first_block ≡ sum_by blocks_of (take place plans)
+pub form-as : (config : TableConfig) (plans : List Plan) (place : ℕ) (plan : Plan) → IsConfigOf config (bare plan) → IsWithinLimits config → config.rows.first_block ≡ sum_by blocks_of (take place plans)
     → form_in config ≡ form_at plans place plan
 form-as config plans place plan of limits first =
     let at = subst (λ (p : Plan). IfSome config.var (λ var. var.first_block ≡ config.rows.first_block + p.data_blocks + p.index_blocks)) (sym of.is) of.var in
-    subst (λ (p : Plan). form_in config ≡ form_at plans place p) of.is (form-with config (label_of plan) plans place limits.var at first)
+    subst (λ (p : Plan). form_in config ≡ form_at plans place p) of.is (form-with config (label_of (bare plan)) plans place limits.var at first)
 
 -- ---- the table with a name
 

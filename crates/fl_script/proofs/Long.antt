@@ -7,7 +7,7 @@ use Rattle.fl_base.specs.declared.types.Span.{Span}
 use Rattle.fl_model.specs.Record.{bytes_equal}
 use Rattle.fl_words.specs.Command.{Command}
 use Rattle.fl_words.specs.Command as command
-use Rattle.fl_words.specs.Grammar.{LineFault, Form, form, part, is_name, cursor_of, blob_split, put_blob, with_range, device_line, table_line, cut_line, put_line, name_line, key_line, bare_line, scan_line, open_line, next_line, close_line, select_line, project_line, agg_line, join_line, load_line, line_of}
+use Rattle.fl_words.specs.Grammar.{LineFault, Form, form, part, is_name, cursor_of, blob_split, put_blob, with_range, device_line, log_word, table_line, cut_line, put_line, name_line, key_line, bare_line, scan_line, open_line, next_line, close_line, select_line, project_line, agg_line, join_line, load_line, line_of}
 
 never : {A : Type 0} (b : Bool) → form {A = A} b (Err Form) ≡ Err Form
 never true = refl
@@ -34,6 +34,11 @@ long-device (a ∷ []) long = absurd (omega (arith, long))
 long-device (a ∷ b ∷ []) long = absurd (omega (arith, long))
 long-device (a ∷ b ∷ c ∷ words) long = refl
 
+-- with the word for full entries or without it, too many words are behind it
+long_log : (full : Bool) (l m n o : List ℕ) (words : List (List ℕ)) → log_word (cond full (m ∷ n ∷ o ∷ words) (l ∷ m ∷ n ∷ o ∷ words)) ≡ None
+long_log true l m n o words = refl
+long_log false l m n o words = refl
+
 long-table : (words : List (List ℕ)) → 20 < length words → table_line words ≡ Err Form
 long-table [] long = absurd (omega (arith, long))
 long-table (a ∷ []) long = absurd (omega (arith, long))
@@ -48,7 +53,9 @@ long-table (a ∷ b ∷ c ∷ d ∷ e ∷ f ∷ g ∷ h ∷ i ∷ []) long = abs
 long-table (a ∷ b ∷ c ∷ d ∷ e ∷ f ∷ g ∷ h ∷ i ∷ j ∷ []) long = absurd (omega (arith, long))
 long-table (a ∷ b ∷ c ∷ d ∷ e ∷ f ∷ g ∷ h ∷ i ∷ j ∷ k ∷ []) long = absurd (omega (arith, long))
 long-table (a ∷ b ∷ c ∷ d ∷ e ∷ f ∷ g ∷ h ∷ i ∷ j ∷ k ∷ l ∷ []) long = absurd (omega (arith, long))
-long-table (a ∷ b ∷ c ∷ d ∷ e ∷ f ∷ g ∷ h ∷ i ∷ j ∷ k ∷ l ∷ m ∷ words) long = never (is_name a)
+long-table (a ∷ b ∷ c ∷ d ∷ e ∷ f ∷ g ∷ h ∷ i ∷ j ∷ k ∷ l ∷ m ∷ []) long = absurd (omega (arith, long))
+long-table (a ∷ b ∷ c ∷ d ∷ e ∷ f ∷ g ∷ h ∷ i ∷ j ∷ k ∷ l ∷ m ∷ n ∷ []) long = absurd (omega (arith, long))
+long-table (a ∷ b ∷ c ∷ d ∷ e ∷ f ∷ g ∷ h ∷ i ∷ j ∷ k ∷ l ∷ m ∷ n ∷ o ∷ words) long = rw (long_log (bytes_equal l (codes "index2")) l m n o words) (never (is_name a))
 
 long-cut : (words : List (List ℕ)) → 20 < length words → cut_line words ≡ Err Form
 long-cut [] long = absurd (omega (arith, long))

@@ -17,8 +17,8 @@ fault_view TooLong = grammar.TooLong
 abbrev pub command_view : Command → List ℕ → words.Command
 command_view Nothing room = words.Nothing
 command_view (Device page block) room = words.Device page block
-command_view (Table name key rows index var bits base width error blob full) room =
-    words.Table (record { name = name; key = key; columns = room; data_blocks = rows; index_blocks = index; var_blocks = var; bits = bits; base = base; width = width; error = error; blob_limit = blob; full_index = full })
+command_view (Table name key rows index var bits base width error blob full log) room =
+    words.Table (record { name = name; key = key; columns = room; data_blocks = rows; index_blocks = index; var_blocks = var; bits = bits; base = base; width = width; error = error; blob_limit = blob; full_index = full; log_blocks = log })
 command_view Mount room = words.Mount
 command_view Off room = words.Off
 command_view (Cut n kind) room = words.Cut n kind

@@ -37,7 +37,7 @@ blob_bytes (Some word) = just (grammar.blob_word word)
 
 -- whether a line left bytes in the room
 abbrev pub leaves : Result Command LineFault → Bool
-leaves (Ok (Table name key rows index var bits base width error blob full)) = true
+leaves (Ok (Table name key rows index var bits base width error blob full log)) = true
 leaves (Ok (Put name key values blob)) = blob
 leaves other = false
 

@@ -13,8 +13,8 @@ pub enum Command {
         page: u64,
         block: u64,
     },
-    /// `rows`, `index` and `var` are the blocks of the three rings, `blob` is the greatest length of a blob, and `full` says
-    /// whether index entries are full.
+    /// `rows`, `index` and `var` are the blocks of the three rings, `blob` is the greatest length of a blob, `full` says whether
+    /// index entries are full, and `log` has the blocks of a log, where the line ends with them.
     Table {
         name: Name,
         key: u64,
@@ -27,6 +27,7 @@ pub enum Command {
         error: u64,
         blob: u64,
         full: bool,
+        log: Option<u64>,
     },
     Mount,
     Off,

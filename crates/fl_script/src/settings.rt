@@ -1,8 +1,8 @@
 // Lines that set the store up, and what the lines of several commands share.
-ghost use Rattle.std.specs.Prelude.{◌≡◌, ◌≤◌, ℕ, List, map, [], length, true, Some, None, IsOk, MatchResult};
+ghost use Rattle.std.specs.Prelude.{◌≡◌, ◌≤◌, ℕ, List, map, [], length, true, Some, None, Ok, Err, IsOk, MatchResult};
 ghost use Rattle.std.specs.List.{All};
 ghost use Rattle.fl_words.specs.Grammar as grammar;
-ghost use Rattle.fl_script.specs.Lines.{line_view, leaves};
+ghost use Rattle.fl_script.specs.Lines.{line_view, leaves, word_of};
 ghost use Rattle.fl_script.specs.CommandView.{command_view, fault_view};
 ghost use Rattle.fl_words.specs.Command as command;
 
@@ -23,20 +23,54 @@ pub(crate) fn device_line(words: &[&[u8]]) -> Result<Command, LineFault>
     })
 }
 
-/// Whether index entries are full, by the words behind those of a table: none, or `index2`.
-fn full_index(words: &[&[u8]]) -> Result<bool, LineFault>
-    ensures { MatchResult result
-        (λ full. grammar.full_index_in (map (λ word. word.now) words.now) ≡ Some full)
-        (λ e. (grammar.full_index_in (map (λ word. word.now) words.now) ≡ None) × (e ≡ LineFault.Form)) }
+/// Whether index entries are full: where the word `index2` stands first.
+fn has_full_index(words: &[&[u8]]) -> bool
+    ensures { result ≡ grammar.full_index_in (map (λ word. word.now) words.now) }
 {
     match words {
-        [] => Ok(false),
-        [word] if is(word, b"index2") => Ok(true),
+        [] => false,
+        [word, ..] => is(word, b"index2"),
+    }
+}
+
+/// The word behind `rlc`, where these are the words.
+fn log_word<'a>(words: &[&'a [u8]]) -> Result<Option<&'a [u8]>, LineFault>
+    ensures { MatchResult result
+        (λ log. grammar.log_word (map (λ word. word.now) words.now) ≡ Some (word_of log))
+        (λ e. (grammar.log_word (map (λ word. word.now) words.now) ≡ None) × (e ≡ LineFault.Form)) }
+{
+    match words {
+        [] => Ok(None),
+        [word, log] if is(word, b"rlc") => Ok(Some(log)),
         _ => Err(LineFault::Form),
     }
 }
 
-/// `table` NAME KEY COLUMNS DATA INDEX VAR BITS BASE WIDTH ERROR BLOB, and optionally `index2`
+/// The same, where `index2` may stand before them.
+fn log_word_in<'a>(words: &[&'a [u8]]) -> Result<Option<&'a [u8]>, LineFault>
+    ensures { MatchResult result
+        (λ log. grammar.log_word_in (map (λ word. word.now) words.now) ≡ Some (word_of log))
+        (λ e. (grammar.log_word_in (map (λ word. word.now) words.now) ≡ None) × (e ≡ LineFault.Form)) }
+{
+    match words {
+        [word, others @ ..] if is(word, b"index2") => log_word(others),
+        _ => log_word(words),
+    }
+}
+
+/// The number of a word that may be missing.
+fn maybe_number(word: Option<&[u8]>) -> Result<Option<u64>, LineFault>
+    ensures { MatchResult result
+        (λ n. grammar.maybe_number (word_of word.entry) ≡ Ok n)
+        (λ e. (grammar.maybe_number (word_of word.entry) ≡ Err grammar.Number) × (e ≡ LineFault.Number)) }
+{
+    match word {
+        None => Ok(None),
+        Some(word) => Ok(Some(number(word)?)),
+    }
+}
+
+/// `table` NAME KEY COLUMNS DATA INDEX VAR BITS BASE WIDTH ERROR BLOB, and optionally `index2` and then `rlc` LOG
 pub(crate) fn table_line(words: &[&[u8]], room: &mut LineRoom) -> Result<Command, LineFault>
     requires { All (λ word. length word.now ≤ 4096) words.now }
     ensures command { line_view result room.new ≡ grammar.table_line (map (λ word. word.now) words.now) }
@@ -60,7 +94,7 @@ pub(crate) fn table_line(words: &[&[u8]], room: &mut LineRoom) -> Result<Command
         return Err(LineFault::Form);
     };
     let name = name(table)?;
-    let full = full_index(others)?;
+    let log = log_word_in(others)?;
     room.copy(columns);
     Ok(Command::Table {
         name,
@@ -73,7 +107,8 @@ pub(crate) fn table_line(words: &[&[u8]], room: &mut LineRoom) -> Result<Command
         width: number(width)?,
         error: number(error)?,
         blob: number(blob)?,
-        full,
+        full: has_full_index(others),
+        log: maybe_number(log)?,
     })
 }
 

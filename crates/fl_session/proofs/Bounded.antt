@@ -8,7 +8,7 @@ use Rattle.fl_base.specs.declared.types.Span.{Span}
 use Rattle.fl_model.specs.Record.{bytes_equal}
 use Rattle.fl_words.specs.Command as command
 use Rattle.fl_words.specs.Command.{Command}
-use Rattle.fl_words.specs.Grammar.{LineFault, Number, TooLong, number_in, number, signed, are_digits, value_of, cursor_of, is_name, op_of, columns_of, blob_word, blob_split, ◌>>=◌, form, part, each_signed, with_range, device_line, full_index_in, table_line, cut_kind, cut_line, put_parts, put_blob, put_line, name_line, key_line, bare_line, scan_line, open_line, next_line, close_line, select_line, project_line, agg_line, join_line, load_line, line_of, words_command, words_in, without_return, command_of}
+use Rattle.fl_words.specs.Grammar.{LineFault, Number, TooLong, number_in, number, signed, are_digits, value_of, cursor_of, is_name, op_of, columns_of, blob_word, blob_split, ◌>>=◌, form, part, each_signed, with_range, device_line, log_word_in, maybe_number, table_line, cut_kind, cut_line, put_parts, put_blob, put_line, name_line, key_line, bare_line, scan_line, open_line, next_line, close_line, select_line, project_line, agg_line, join_line, load_line, line_of, words_command, words_in, without_return, command_of}
 use Rattle.fl_session.specs.Runnable.{is_within}
 
 -- a line that is read is such a command
@@ -148,9 +148,9 @@ load-within other = tt
 
 table-within : (words : List (List ℕ)) → Gives (table_line words)
 table-within (name ∷ key ∷ columns ∷ rows ∷ index ∷ var ∷ bits ∷ base ∷ width ∷ error ∷ blob ∷ words) =
-    formed (is_name name) _ (parted (full_index_in words) _ (λ full _.
+    formed (is_name name) _ (parted (log_word_in words) _ (λ log _.
     bound (number key) _ (λ k _. bound (number rows) _ (λ d _. bound (number index) _ (λ i _. bound (number var) _ (λ v _. bound (number bits) _ (λ n _.
-    bound (signed base) _ (λ b _. bound (number width) _ (λ w _. bound (number error) _ (λ e _. bound (number blob) _ (λ l _. refl)))))))))))
+    bound (signed base) _ (λ b _. bound (number width) _ (λ w _. bound (number error) _ (λ e _. bound (number blob) _ (λ l _. bound (maybe_number log) _ (λ r _. refl))))))))))))
 table-within other = tt
 
 -- the lines of one first word, or those of others

@@ -4,7 +4,6 @@ use Rattle.std.proofs.Math.IntN.{ℤ}
 use Rattle.std.specs.Prelude.{is_ok, OnOk}
 use Rattle.std.specs.List.{slice_get}
 use Rattle.fl_flash.specs.Flash.{FlashState, Goes, page_at}
-use Rattle.fl_table.specs.Mounting.{OutsideStands}
 use Rattle.fl_ring.specs.Step.{IsWatched}
 use Rattle.fl_model.specs.Record.{Config, Plan}
 use Rattle.fl_model.specs.Table as model
@@ -13,15 +12,14 @@ use Rattle.fl_words.specs.Command as command
 use Rattle.fl_words.specs.Reply as reply
 use Rattle.fl_words.specs.Reply.{text}
 use Rattle.fl_machine.specs.Machine.{Machine}
-use Rattle.fl_table.specs.Causes.{RefusedSame, put_breaks, flush_breaks}
-use Rattle.fl_table.specs.Look.{counts_of}
-use Rattle.fl_table.specs.Memory.{IsSamePlan}
-use Rattle.fl_table.specs.Outcomes.{PutEnds, FlushEnds}
-use Rattle.fl_table.specs.Standing.{Stands}
-use Rattle.fl_table.specs.declared.counts.TableCounts.{TableCounts}
+use Rattle.fl_table.specs.Causes.{put_breaks, flush_breaks}
 use Rattle.fl_table.specs.declared.faults.FlushFault.{FlushFault}
 use Rattle.fl_table.specs.declared.faults.PutRefusal.{PutRefusal}
-use Rattle.fl_table.specs.declared.table.Table.{Table}
+use Rattle.fl_rlc.specs.Logged.{Stands}
+use Rattle.fl_rlc.specs.Outcomes.{PutEnds, FlushEnds}
+use Rattle.fl_rlc.specs.Refusal.{RefusedSame}
+use Rattle.fl_rlc.specs.Table.{IsSamePlan, OutsideStands}
+use Rattle.fl_rlc.specs.declared.table.LoggedTable.{LoggedTable}
 use Rattle.fl_tables.specs.Tables.{first_of, entries_with, TablesStand, TablesMount}
 use Rattle.fl_tables.specs.declared.tables.BadMount.{BadMount}
 use Rattle.fl_tables.specs.declared.tables.Entry.{Entry}
@@ -33,10 +31,9 @@ use Rattle.fl_session.specs.Standing.{SessionStands}
 use Rattle.fl_session.proofs.Answering.{answers-media}
 use Rattle.fl_session.proofs.MountsOf.{Repairs, stands-powered, mount-watched, mount-answers, answers-already}
 use Rattle.fl_session.proofs.Owning.{own-of}
-use Rattle.fl_session.proofs.Stating.{stat-answers}
 use Rattle.fl_session.proofs.Working.{has_risen, session-watched, put-answers, flush-answers}
 
-pub put-call : (config : Config) (old : Machine) (entries : List Entry) (at : ℕ) (entry : Entry) (u : Table 64 64) (asked : List ℕ) (notes : Notes) (f g : FlashState) (mounted : Bool) (key : ℕ) (values : List ℤ) (blob : Option (List ℕ)) (result : Result (Unit {0}) PutRefusal) (breaks : Bool) (said : List ℕ) →
+pub put-call : (config : Config) (old : Machine) (entries : List Entry) (at : ℕ) (entry : Entry) (u : LoggedTable 64 64) (asked : List ℕ) (notes : Notes) (f g : FlashState) (mounted : Bool) (key : ℕ) (values : List ℤ) (blob : Option (List ℕ)) (result : Result (Unit {0}) PutRefusal) (breaks : Bool) (said : List ℕ) →
     SessionStands config entries f mounted notes old → IsReached entries mounted asked at → slice_get entries at ≡ Some entry → Goes f g → IsSamePlan entry.table u → (IsTrue f.media.tells → OutsideStands entry.table (page_at f) (page_at g)) →
     ((first : ℕ) (plan : Plan) (table : model.Table) (rose : Bool) (device : Device) → IsWatched f g rose device → Stands entry.table f first plan table → PutEnds first plan (record { key = key; values = values; blob = blob }) table rose device result u f g) →
     IfErr result (λ e. RefusedSame entry.table f e u g) → breaks ≡ put_breaks result → said ≡ text (put_reply result) →
@@ -48,7 +45,7 @@ put-call config old entries at entry u asked notes f g mounted key values blob r
     subst (λ s. Answers config old (command.Put asked key values blob) (SessionStands config (entries_with entries at entry u) g (not breaks) notes) f g s) (sym e)
     (put-answers config old entries at entry asked notes u f g h' here own goes same outside key values blob result (not breaks) (ap not b) end refused)
 
-pub flush-call : (config : Config) (old : Machine) (entries : List Entry) (at : ℕ) (entry : Entry) (u : Table 64 64) (asked : List ℕ) (notes : Notes) (f g : FlashState) (mounted : Bool) (result : Result (Unit {0}) FlushFault) (breaks : Bool) (said : List ℕ) →
+pub flush-call : (config : Config) (old : Machine) (entries : List Entry) (at : ℕ) (entry : Entry) (u : LoggedTable 64 64) (asked : List ℕ) (notes : Notes) (f g : FlashState) (mounted : Bool) (result : Result (Unit {0}) FlushFault) (breaks : Bool) (said : List ℕ) →
     SessionStands config entries f mounted notes old → IsReached entries mounted asked at → slice_get entries at ≡ Some entry → Goes f g → IsSamePlan entry.table u → (IsTrue f.media.tells → OutsideStands entry.table (page_at f) (page_at g)) →
     ((first : ℕ) (plan : Plan) (table : model.Table) (rose : Bool) (device : Device) → IsWatched f g rose device → Stands entry.table f first plan table → FlushEnds first plan table rose device result u f g) →
     breaks ≡ flush_breaks result → said ≡ text (flush_reply result) →
@@ -69,8 +66,9 @@ pub mount-call : (config : Config) (old : Machine) (entries now : List Entry) (n
 mount-call config old entries now notes f on g mounted ok result said h off is goes ends repaired n e =
     let h' = stands-powered config old entries notes f on mounted h off is in
     let power : on.is_on ≡ true = ap (λ (x : FlashState). x.is_on) is in
-    let end = ends config.plans old.tables (has_risen on g) old.device (mount-watched config entries notes on g old h' power) h'.tables in
-    let answers = mount-answers config old notes entries now on g h' goes result ok n end repaired in
+    let watched = mount-watched config entries notes on g old h' power in
+    let end = ends config.plans old.tables (has_risen on g) old.device watched h'.tables in
+    let answers = mount-answers config old notes entries now on g h' goes result ok n end watched repaired in
     subst (λ s. Answers config old command.Mount (SessionStands config now g ok (without_cursors notes)) f g s) (sym e)
     (answers-media config old command.Mount (SessionStands config now g ok (without_cursors notes)) on f g (text (mount_reply result)) (ap (λ (x : FlashState). x.media) is) answers)
 
@@ -79,12 +77,3 @@ pub already-call : (config : Config) (old : Machine) (entries : List Entry) (not
 already-call config old entries notes f mounted h on =
     subst (λ m. Answers config old command.Mount (SessionStands config entries f m notes) f f (text reply.AlreadyMounted)) (sym on)
     (answers-already config old entries notes f (subst (λ m. SessionStands config entries f m notes old) on h))
-
-pub stat-call : (config : Config) (old : Machine) (entries : List Entry) (at : ℕ) (entry : Entry) (asked : List ℕ) (notes : Notes) (f : FlashState) (mounted : Bool) (counts : TableCounts) (programs erases : ℕ) →
-    SessionStands config entries f mounted notes old → IsReached entries mounted asked at → slice_get entries at ≡ Some entry → ((f : FlashState) (first : ℕ) (plan : Plan) (table : model.Table) → Stands entry.table f first plan table → counts ≡ counts_of table) →
-    programs ≡ f.work.programs → erases ≡ f.work.erases →
-    Answers config old (command.Stat asked) (SessionStands config entries f mounted notes) f f (text (reply.Stat counts.rows counts.pending counts.pages counts.voids programs erases))
-stat-call config old entries at entry asked notes f mounted counts programs erases h r here holds p e =
-    let h' = subst (λ m. SessionStands config entries f m notes old) r.mounted_is h in
-    subst (λ m. Answers config old (command.Stat asked) (SessionStands config entries f m notes) f f (text (reply.Stat counts.rows counts.pending counts.pages counts.voids programs erases))) (sym r.mounted_is)
-    (stat-answers config old entries asked at entry notes f counts programs erases h' here r.named (holds f) p e)

@@ -16,14 +16,16 @@ use Rattle.fl_ring.specs.Causes.{CausedBy}
 use Rattle.fl_script.specs.ReplyView.{reply_text}
 use Rattle.fl_script.specs.Written.{Written}
 use Rattle.fl_script.specs.declared.reply.Reply as code
-use Rattle.fl_table.specs.Causes.{FlushCausedBy, PutCausedBy, RefusedSame, put_breaks}
+use Rattle.fl_table.specs.Causes.{FlushCausedBy, PutCausedBy, put_breaks}
 use Rattle.fl_table.specs.Look.{last_key_in, layout_in}
-use Rattle.fl_table.specs.Refusal.{RefusesAs, put_refusal}
+use Rattle.fl_table.specs.Refusal.{RefusesAs}
 use Rattle.fl_table.specs.declared.faults.FlushFault.{FlushFault}
 use Rattle.fl_table.specs.declared.faults.FlushFault.TheVariants as flush
 use Rattle.fl_table.specs.declared.faults.PutRefusal.{PutRefusal}
 use Rattle.fl_table.specs.declared.faults.PutRefusal.TheVariants as put
-use Rattle.fl_table.specs.declared.table.Table.{Table}
+use Rattle.fl_rlc.specs.Refusal.{RefusedSame, put_refusal}
+use Rattle.fl_rlc.specs.Table.{table_in}
+use Rattle.fl_rlc.specs.declared.table.LoggedTable.{LoggedTable}
 use Rattle.fl_tables.specs.Tables.{entries_with}
 use Rattle.fl_tables.specs.declared.tables.BadMount.{BadMount}
 use Rattle.fl_tables.specs.declared.tables.Entry.{Entry}
@@ -107,10 +109,10 @@ opened entries mounted old new f n at mark on set is =
     noted entries mounted new (with_cursor old n (Some (record { table = at; mark = on }))) f (set ∙ ap (λ (m : Bookmark). with_cursor old n (Some (record { table = at; mark = m }))) is)
 
 -- a state with the same table, flash and notes
-pub kept-state : (s : State) (at : ℕ) (entry : Entry) (t : Table 64 64) (b : Bool) (g : FlashState) → slice_get s.entries at ≡ Some entry → t ≡ entry.table → b ≡ s.mounted → g ≡ s.flash →
+pub kept-state : (s : State) (at : ℕ) (entry : Entry) (t : LoggedTable 64 64) (b : Bool) (g : FlashState) → slice_get s.entries at ≡ Some entry → t ≡ entry.table → b ≡ s.mounted → g ≡ s.flash →
     state_of (entries_with s.entries at entry t) b s.notes g ≡ s
 kept-state s at entry t b g here same still kept =
-    ap (λ (u : Table 64 64). state_of (entries_with s.entries at entry u) b s.notes g) same
+    ap (λ (u : LoggedTable 64 64). state_of (entries_with s.entries at entry u) b s.notes g) same
     ∙ (ap (λ (es : List Entry). state_of es b s.notes g) (set-same s.entries at entry here)
     ∙ (ap (λ (c : Bool). state_of s.entries c s.notes g) still ∙ ap (λ (x : FlashState). state_of s.entries s.mounted s.notes x) kept))
 
@@ -119,7 +121,7 @@ pub mounts-on : (old new : List Entry) (f on g : FlashState) (outcome : Result (
 mounts-on old new f on g outcome same h = subst (λ (x : FlashState). MountsOver old new x outcome g) same h
 
 -- a put that fails
-put-fails : (s : State) (at : ℕ) (entry : Entry) (t : Table 64 64) (g : FlashState) (e : PutRefusal) → slice_get s.entries at ≡ Some entry → s.mounted ≡ true →
+put-fails : (s : State) (at : ℕ) (entry : Entry) (t : LoggedTable 64 64) (g : FlashState) (e : PutRefusal) → slice_get s.entries at ≡ Some entry → s.mounted ≡ true →
     RefusedSame entry.table s.flash e t g → PutCausedBy s.flash e g → PutFails s (state_of (entries_with s.entries at entry t) (not (put_breaks (Err e))) s.notes g) e
 put-fails s at entry t g (put.Flash fault) here up same cause = cause
 put-fails s at entry t g (put.Key last) here up same cause = kept-state s at entry t true g here same.0 (sym up) same.1
@@ -129,7 +131,7 @@ put-fails s at entry t g (put.Blob limit) here up same cause = kept-state s at e
 put-fails s at entry t g put.Spent here up same cause = kept-state s at entry t true g here same.0 (sym up) same.1
 put-fails s at entry t g put.Stopped here up same cause = kept-state s at entry t true g here same.0 (sym up) same.1
 
-pub put-fails-so : (s : State) (at : ℕ) (entry : Entry) (t : Table 64 64) (g : FlashState) (outcome : Result (Unit {0}) PutRefusal) → slice_get s.entries at ≡ Some entry → s.mounted ≡ true →
+pub put-fails-so : (s : State) (at : ℕ) (entry : Entry) (t : LoggedTable 64 64) (g : FlashState) (outcome : Result (Unit {0}) PutRefusal) → slice_get s.entries at ≡ Some entry → s.mounted ≡ true →
     IfErr outcome (λ e. RefusedSame entry.table s.flash e t g) → IfErr outcome (λ e. PutCausedBy s.flash e g) → IfErr outcome (PutFails s (state_of (entries_with s.entries at entry t) (not (put_breaks outcome)) s.notes g))
 put-fails-so s at entry t g (Ok done) here up same cause = tt
 put-fails-so s at entry t g (Err e) here up same cause = put-fails s at entry t g e here up same cause
@@ -160,6 +162,10 @@ pub when-ok : (P : Type 0) (outcome : Result (Unit {0}) PutRefusal) → is_err o
 when-ok P (Ok done) is p = p
 when-ok P (Err e) is p = absurd (cc is)
 
+pub when-err : (P : Type 0) (outcome : Result (Unit {0}) PutRefusal) → is_err outcome ≡ true → OnOk outcome P
+when-err P (Ok done) is = absurd (cc is)
+when-err P (Err e) is = tt
+
 -- a cause in the last of some calls, of which those before left the power on
 off-before : (P : Type 0) (was now : Bool) → (was ≡ true → now ≡ true) → (now ≡ false) ⊎ P → (was ≡ false) ⊎ P
 off-before P false now kept cause = inl refl
@@ -171,16 +177,16 @@ caused-before f m n PowerLost kept goes (inl off) = off-before (Rose f.cuts n.cu
 caused-before f m n PowerLost kept goes (inr rose) = inr (rose-back f.cuts m.cuts n.cuts goes.cuts rose)
 caused-before f m n Media kept goes rose = rose-back f.media.faults m.media.faults n.media.faults goes.faults rose
 
-module _ (t u : Table 64 64) (f m n : FlashState) (step seed count random key : ℕ) (values : List ℤ) where
-  refuses-now : (e : PutRefusal) → put_breaks (Err e) ≡ false → u ≡ t → key ≡ load_key (unwrap_or (last_key_in t) 0) step random → values ≡ load_values (count + 1) seed 1 (layout_in t).columns → RefusesAs (put_refusal t key values None) (Err e) →
-      (r : ℕ) × (put_refusal u (load_key (unwrap_or (last_key_in u) 0) step r) (load_values (count + 1) seed 1 (layout_in u).columns) None ≡ Some e)
+module _ (t u : LoggedTable 64 64) (f m n : FlashState) (step seed count random key : ℕ) (values : List ℤ) where
+  refuses-now : (e : PutRefusal) → put_breaks (Err e) ≡ false → u ≡ t → key ≡ load_key (unwrap_or (last_key_in (table_in t)) 0) step random → values ≡ load_values (count + 1) seed 1 (layout_in (table_in t)).columns → RefusesAs (put_refusal t key values None) (Err e) →
+      (r : ℕ) × (put_refusal u (load_key (unwrap_or (last_key_in (table_in u)) 0) step r) (load_values (count + 1) seed 1 (layout_in (table_in u)).columns) None ≡ Some e)
   refuses-now e is same k v exact = (
     random,
-    ap (λ (x : Table 64 64). put_refusal x (load_key (unwrap_or (last_key_in x) 0) step random) (load_values (count + 1) seed 1 (layout_in x).columns) None) same
-        ∙ (ap (λ (x : ℕ). put_refusal t x (load_values (count + 1) seed 1 (layout_in t).columns) None) (sym k) ∙ (ap (λ (vs : List ℤ). put_refusal t key vs None) (sym v) ∙ refusal-is (put_refusal t key values None) e is exact)),
+    ap (λ (x : LoggedTable 64 64). put_refusal x (load_key (unwrap_or (last_key_in (table_in x)) 0) step random) (load_values (count + 1) seed 1 (layout_in (table_in x)).columns) None) same
+        ∙ (ap (λ (x : ℕ). put_refusal t x (load_values (count + 1) seed 1 (layout_in (table_in t)).columns) None) (sym k) ∙ (ap (λ (vs : List ℤ). put_refusal t key vs None) (sym v) ∙ refusal-is (put_refusal t key values None) e is exact)),
   )
 
-  pub load-fails : key ≡ load_key (unwrap_or (last_key_in t) 0) step random → values ≡ load_values (count + 1) seed 1 (layout_in t).columns → (outcome : Result (Unit {0}) PutRefusal) → (f.is_on ≡ true → m.is_on ≡ true) → Goes f m → RefusesAs (put_refusal t key values None) outcome →
+  pub load-fails : key ≡ load_key (unwrap_or (last_key_in (table_in t)) 0) step random → values ≡ load_values (count + 1) seed 1 (layout_in (table_in t)).columns → (outcome : Result (Unit {0}) PutRefusal) → (f.is_on ≡ true → m.is_on ≡ true) → Goes f m → RefusesAs (put_refusal t key values None) outcome →
       IfErr outcome (λ e. RefusedSame t m e u n) → IfErr outcome (λ e. PutCausedBy m e n) → IfErr outcome (LoadFails u f n step seed count)
   load-fails k v (Ok done) on goes exact same cause = tt
   load-fails k v (Err (put.Flash fault)) on goes exact same cause = caused-before f m n fault on goes cause

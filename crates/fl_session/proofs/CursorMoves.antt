@@ -10,6 +10,7 @@ use Rattle.fl_cursor.specs.declared.bookmark.Bookmark.{Bookmark}
 use Rattle.fl_flash.specs.Flash.{FlashState}
 use Rattle.fl_flash.specs.declared.armed.Armed.{Armed}
 use Rattle.fl_flash.specs.declared.flash.Work.{Work}
+use Rattle.fl_model.specs.Bare.{bare, bare_table}
 use Rattle.fl_model.specs.Query as query
 use Rattle.fl_model.specs.Query.{moved}
 use Rattle.fl_model.specs.Record.{Config, Plan}
@@ -26,13 +27,14 @@ use Rattle.fl_machine.proofs.Stays.{moment-same}
 use Rattle.fl_model.specs.Limits.{scan_limit}
 use Rattle.fl_machine.specs.Step.{Moment, StepOf, Says, NextStep, cursor_at}
 use Rattle.fl_ring.specs.Device.{ArmsAs}
+use Rattle.fl_rlc.specs.Table.{table_in}
 use Rattle.fl_script.specs.Written.{Written}
 use Rattle.fl_table.specs.Memory.{LiesOn}
 use Rattle.fl_table.specs.Standing.{Stands}
 use Rattle.fl_table.specs.declared.table.Table.{Table}
+use Rattle.fl_table.proofs.StillStands.{lies-moved}
 use Rattle.fl_tables.specs.declared.tables.Entry.{Entry}
 use Rattle.fl_tables.specs.Tables.{first_of}
-use Rattle.fl_tables.proofs.Lying.{lies-on}
 use Rattle.fl_tables.proofs.TablesChanged.{at-place}
 use Rattle.fl_session.specs.Cost.{HasRead, ReadsAsStated}
 use Rattle.fl_session.specs.Execute.{Executes}
@@ -46,11 +48,13 @@ use Rattle.fl_session.proofs.Costing.{read-none}
 use Rattle.fl_session.proofs.CursorsOf.{cursor-told}
 use Rattle.fl_session.proofs.Getting.{goes-reads, tables-looked}
 use Rattle.fl_session.proofs.Rested.{session-ends}
+use Rattle.fl_session.proofs.Tables.{stands-unlogged}
+use Rattle.fl_session.proofs.Unlogged.{nexts-unlogged}
 use Rattle.fl_session.proofs.Working.{medium-goes}
 
 -- reads leave a table where it lies
 pub lies-read : (t : Table 64 64) (f g : FlashState) → OnlyReads f g → LiesOn t f → LiesOn t g
-lies-read t f g only lies = lies-on t f g (goes-reads f g only) lies
+lies-read t f g only lies = lies-moved t f g (goes-reads f g only) lies
 
 -- the session after reads, with a cursor that was moved
 stands-moved : (config : Config) (entries : List Entry) (notes : Notes) (f g : FlashState) (n : ℕ) (cursor : TableCursor) (m : Machine) → OnlyReads f g → SessionStands config entries f true notes m →
@@ -101,14 +105,14 @@ on-cursor config old moment n cursor plan table P on at p t here =
     (at-some (cursor_at old n) (cursor_of cursor) _ _ at (at-some (slice_get config.plans cursor.table) plan _ _ p (at-some (slice_get old.tables cursor.table) table _ _ t here)))
 
 -- the rows were given and the cursor was moved, or a page wasn't read; where the sink failed the cursor may be anywhere
-pub next-executes : (E : Type 0) (config : Config) (old : Machine) (entries : List Entry) (entry : Entry) (notes : Notes) (f g : FlashState) (reads n count : ℕ) (mounted : Bool) (cursor : TableCursor) (new : Bookmark) (told told_now : Option (List ℕ)) (result : Result (Unit {0}) E) →
-    SessionStands config entries f mounted notes old → mounted ≡ true → slice_get notes.cursors n ≡ Some (Some cursor) → slice_get entries cursor.table ≡ Some entry → IfSome cursor.mark.after (λ after. after < 2 ^ 64) → OnlyReads f g → HasRead f reads g → reads ≡ g.work.reads - f.work.reads →
-    ((first : ℕ) (plan : Plan) (table : model.Table) → IsTrue f.media.tells → f.is_on ≡ true → Stands entry.table f first plan table → Nexts plan table count cursor.mark new told told_now f.media.faults g.media.faults f.work.reads g.work.reads result) →
+pub next-executes : (E : Type 0) (config : Config) (old : Machine) (entries : List Entry) (entry : Entry) (t : Table 64 64) (notes : Notes) (f g : FlashState) (reads n count : ℕ) (mounted : Bool) (cursor : TableCursor) (new : Bookmark) (told told_now : Option (List ℕ)) (result : Result (Unit {0}) E) →
+    SessionStands config entries f mounted notes old → mounted ≡ true → slice_get notes.cursors n ≡ Some (Some cursor) → slice_get entries cursor.table ≡ Some entry → t ≡ table_in entry.table → IfSome cursor.mark.after (λ after. after < 2 ^ 64) → OnlyReads f g → HasRead f reads g → reads ≡ g.work.reads - f.work.reads →
+    ((first : ℕ) (plan : Plan) (table : model.Table) → IsTrue f.media.tells → f.is_on ≡ true → Stands t f first plan table → Nexts plan table count cursor.mark new told told_now f.media.faults g.media.faults f.work.reads g.work.reads result) →
     Executes config old (command.Next n count) (SessionStands config entries g mounted (record notes { cursors = set notes.cursors n (Some (record cursor { mark = new })) })) f g told told_now result
-next-executes E config old entries entry notes f g reads n count mounted cursor new told told_now result h on e here fits only counted reads_are nexts =
+next-executes E config old entries entry t notes f g reads n count mounted cursor new told told_now result h on e here table_is fits only counted reads_are nexts =
     let h' = subst (λ m. SessionStands config entries f m notes old) on h in
     let own = at-place f (λ i. true) config.plans entries old.tables cursor.table entry h'.tables here in
-    let s = nexts (first_of config.plans cursor.table) own.plan own.table h'.medium.told (h'.power refl) own.stands.on_flash in
+    let s = nexts-unlogged own.plan own.table (nexts (first_of config.plans cursor.table) (bare own.plan) (bare_table own.table) h'.medium.told (h'.power refl) (stands-unlogged t entry table_is own.stands)) in
     let end : query.Cursor = moved (asked_by cursor.mark) (take s.given (given_of count cursor.mark own.table)) in
     let moment : Moment = record { command = command.Next n count; rose = s.rose; reads = reads; last = None; replies = s.replies; after = with_cursor old n cursor.table end } in
     let at : cursor_at old n ≡ Some (cursor_of cursor) = ap (λ (cs : List (Option OpenCursor)). unwrap_or (slice_get cs n) None) h'.cursors ∙ cursor-told notes.cursors n (Some cursor) e in

@@ -9,6 +9,7 @@ use Rattle.fl_base.specs.declared.types.Span.{Span}
 use Rattle.fl_cursor.specs.Asked.{asked_by}
 use Rattle.fl_cursor.specs.declared.bookmark.Bookmark.{Bookmark}
 use Rattle.fl_flash.specs.Flash.{FlashState}
+use Rattle.fl_model.specs.Bare.{bare, bare_table}
 use Rattle.fl_model.specs.Query.{begin}
 use Rattle.fl_model.specs.Record.{Config, Plan}
 use Rattle.fl_model.specs.Table as model
@@ -17,9 +18,11 @@ use Rattle.fl_words.specs.Reply as reply
 use Rattle.fl_words.specs.Reply.{text}
 use Rattle.fl_machine.specs.Machine.{Machine, OpenCursor}
 use Rattle.fl_machine.specs.Step.{Moment, Says, Located, OpenStep, cursor_at}
+use Rattle.fl_rlc.specs.Table.{table_in}
 use Rattle.fl_script.specs.ReplyView.{reply_text}
 use Rattle.fl_script.specs.declared.reply.Reply as code
 use Rattle.fl_table.specs.Standing.{Stands}
+use Rattle.fl_table.specs.declared.table.Table.{Table}
 use Rattle.fl_tables.specs.declared.tables.Entry.{Entry}
 use Rattle.fl_tables.specs.Tables.{first_of}
 use Rattle.fl_session.specs.Answer.{Answers, Refusal, IsReached}
@@ -30,6 +33,7 @@ use Rattle.fl_session.specs.Standing.{SessionStands}
 use Rattle.fl_session.proofs.Answering.{answers-saying, saying, says, step-is, table-step}
 use Rattle.fl_session.proofs.Owning.{own-of}
 use Rattle.fl_session.proofs.Refusing.{answers-refused}
+use Rattle.fl_session.proofs.Tables.{stands-unlogged}
 
 -- the cursor with a number
 pub cursor-told : (marks : List (Option TableCursor)) (n : ℕ) (mark : Option TableCursor) → slice_get marks n ≡ Some mark → unwrap_or (slice_get (cursors_of marks) n) None ≡ option_map cursor_of mark
@@ -54,17 +58,17 @@ stands-set config entries notes f n mark m h = record {
   power = h.power;
 }
 
-pub open-call : (config : Config) (old : Machine) (entries : List Entry) (at : ℕ) (entry : Entry) (asked : List ℕ) (notes : Notes) (f : FlashState) (mounted : Bool) (n : ℕ) (range : KeyRange) (span : Option Span) (mark : Bookmark) →
-    SessionStands config entries f mounted notes old → IsReached entries mounted asked at → slice_get entries at ≡ Some entry →
-    ((f : FlashState) (first : ℕ) (plan : Plan) (table : model.Table) → Stands entry.table f first plan table → asked_by mark ≡ begin range span table) →
+pub open-call : (config : Config) (old : Machine) (entries : List Entry) (at : ℕ) (entry : Entry) (t : Table 64 64) (asked : List ℕ) (notes : Notes) (f : FlashState) (mounted : Bool) (n : ℕ) (range : KeyRange) (span : Option Span) (mark : Bookmark) →
+    SessionStands config entries f mounted notes old → IsReached entries mounted asked at → slice_get entries at ≡ Some entry → t ≡ table_in entry.table →
+    ((f : FlashState) (first : ℕ) (plan : Plan) (table : model.Table) → Stands t f first plan table → asked_by mark ≡ begin range span table) →
     Answers config old (command.Open n asked range span) (SessionStands config entries f mounted (record notes { cursors = set notes.cursors n (Some (record { table = at; mark = mark })) })) f f (text reply.Done)
-open-call config old entries at entry asked notes f mounted n range span mark h r here begins =
+open-call config old entries at entry t asked notes f mounted n range span mark h r here table_is begins =
     let h' = subst (λ m. SessionStands config entries f m notes old) r.mounted_is h in
     let own = own-of config old entries f notes asked at entry h' here r.named in
     let cursor : TableCursor = record { table = at; mark = mark } in
     let notes' : Notes = record notes { cursors = set notes.cursors n (Some cursor) } in
     let c = command.Open n asked range span in
-    let is = begins f (first_of config.plans at) own.plan own.table own.stands.on_flash in
+    let is : asked_by mark ≡ begin range span own.table = begins f (first_of config.plans at) (bare own.plan) (bare_table own.table) (stands-unlogged t entry table_is own.stands) in
     let after : Machine = record old { cursors = set old.cursors n (Some (cursor_of cursor)) } in
     let place : Located = record { place = at; plan = own.plan; table = own.table } in
     let opened : OpenStep old (saying c (reply.Done ∷ []) after) n range span place =

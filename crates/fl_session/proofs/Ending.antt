@@ -104,6 +104,7 @@ ran-earlier config old commands stands content content_now before mid now told t
   stays = h.stays;
   rose = rose-earlier _ before mid now e h.rose;
   found = h.found;
+  kept = h.kept;
   told_all = h.told_all;
 }
 
@@ -119,6 +120,7 @@ ran_into-earlier config old commands stands content content_now before mid now t
   stays = h.stays;
   rose = rose-earlier _ before mid now e h.rose;
   found = h.found;
+  kept = h.kept;
   before = h.before;
   last = h.last;
   split = h.split;

@@ -1,10 +1,11 @@
 -- The get of a session.
 use Rattle.std.proofs.Common.{◌≡◌, ℕ, Bool, true, false, ◌-◌, IsTrue, Option, Some, None, Result, ◌+◌, ◌⊎◌, List, [], ◌∷◌, length, take, drop, inl, inr, refl, sym, ◌∙◌, ap, subst, arith}
 use Rattle.fl_find.proofs.Looks.{looks-pages}
-use Rattle.fl_flash.specs.Flash.{FlashState, Goes}
+use Rattle.fl_flash.specs.Flash.{FlashState, Goes, page_at}
 use Rattle.fl_flash.specs.Places.{extent}
 use Rattle.fl_flash.specs.declared.armed.Armed.{Armed}
 use Rattle.fl_flash.specs.declared.flash.Work.{Work}
+use Rattle.fl_model.specs.Bare.{bare, bare_table}
 use Rattle.fl_model.specs.Query.{entry_at}
 use Rattle.fl_model.specs.Record.{Config, Plan}
 use Rattle.fl_model.specs.Spline.{retained, is_covered, is_pending_key, lookup_limit, lookup_reads}
@@ -19,16 +20,17 @@ use Rattle.std.specs.List.{slice_get}
 use Rattle.std.specs.Prelude.{MatchBool, MatchOption, not, ◌&&◌}
 use Rattle.fl_machine.specs.Step.{Moment, Located, located, GetStep, found_reply}
 use Rattle.fl_ring.specs.Device.{ArmsAs}
+use Rattle.fl_rlc.specs.Table.{table_in}
 use Rattle.fl_script.specs.ReplyView.{reply_text}
 use Rattle.fl_script.specs.Written.{Written}
 use Rattle.fl_script.specs.declared.reply.Reply as code
 use Rattle.fl_table.specs.Standing.{Stands}
 use Rattle.fl_table.specs.declared.table.Table.{Table}
 use Rattle.fl_tables.specs.declared.tables.Entry.{Entry}
-use Rattle.fl_tables.specs.Tables.{first_of, EntryStands, TablesStand}
+use Rattle.fl_tables.specs.Tables.{first_of, TablesStand}
 use Rattle.fl_table.proofs.Apart.{stands-pages}
-use Rattle.fl_tables.proofs.TablesChanged.{tables-still}
 use Rattle.fl_session.specs.Answer.{Refusal, IsReached}
+use Rattle.fl_session.specs.Caused.{LookSays}
 use Rattle.fl_session.specs.Execute.{Executes}
 use Rattle.fl_session.specs.Looked.{Looks}
 use Rattle.fl_session.specs.Cost.{cost_of, HasRead, ReadsGet}
@@ -41,6 +43,8 @@ use Rattle.fl_session.proofs.Owning.{own-of, own-none}
 use Rattle.fl_session.proofs.Costing.{read-none}
 use Rattle.fl_session.proofs.Executing.{one-text}
 use Rattle.fl_session.proofs.Refusing.{answers-refused}
+use Rattle.fl_session.proofs.Tables.{stands-unlogged, tables-kept}
+use Rattle.fl_session.proofs.Unlogged.{looks-unlogged}
 use Rattle.fl_session.proofs.Working.{medium-goes}
 
 module _ (f g : FlashState) (only : OnlyReads f g) where
@@ -59,19 +63,18 @@ module _ (f g : FlashState) (only : OnlyReads f g) where
     faults = only.faults;
   }
 
+  pages-read : page_at g ≡ page_at f
+  pages-read = looks-pages f g (record { reads = only; power = only.power; cuts = only.cuts })
+
   -- a table still stands
   pub stands-read : (t : Table 64 64) (first : ℕ) (plan : Plan) (table : model.Table) → Stands t f first plan table → Stands t g first plan table
-  stands-read t first plan table h = stands-pages f g (looks-pages f g (record { reads = only; power = only.power; cuts = only.cuts })) t first plan table h
+  stands-read t first plan table h = stands-pages f g pages-read t first plan table h
 
   pub tells-read : IsTrue f.media.tells → IsTrue g.media.tells
   tells-read told = subst IsTrue (sym goes-reads.tells) told
 
-  entry-looked : (entry : Entry) (first : ℕ) (plan : Plan) (table : model.Table) → EntryStands entry f true first plan table → EntryStands entry g true first plan table
-  entry-looked entry first plan table h =
-      record { named = h.named; geometry = h.geometry ∙ sym goes-reads.geometry; planned = h.planned; on_flash = stands-read entry.table first plan table h.on_flash }
-
   pub tables-looked : (plans : List Plan) (entries : List Entry) (tables : List model.Table) → TablesStand f (λ i. true) plans entries tables → TablesStand g (λ i. true) plans entries tables
-  tables-looked plans entries tables h = tables-still f g (λ i. true) plans entries tables h (λ i plan e x k. entry-looked e (first_of plans i) plan x k)
+  tables-looked plans entries tables h = tables-kept f g pages-read goes-reads.geometry (λ i. true) plans entries tables h
 
   -- the session still stands, for a machine that knows what was read
   pub session-read : (config : Config) (entries : List Entry) (notes : Notes) (cost : Cost) (m : Machine) → SessionStands config entries f true notes m →
@@ -111,19 +114,24 @@ has-parts : (pending covered : Bool) → IsTrue (not pending && covered) → (pe
 has-parts true covered e = cc
 has-parts false covered e = (refl, e)
 
+-- why the row isn't told
+pub look-said : (t : Table 64 64) (entry : Entry) (f g : FlashState) (said : Reply) → t ≡ table_in entry.table → LookSays t f g said → LookSays (table_in entry.table) f g said
+look-said t entry f g said is h = subst (λ (x : Table 64 64). LookSays x f g said) is h
+
 -- a get that is executed
-pub get-executes : (E : Type 0) (config : Config) (old : Machine) (entries : List Entry) (at : ℕ) (entry : Entry) (asked : List ℕ) (notes : Notes) (f g : FlashState) (reads limit key : ℕ) (mounted : Bool) (said : code.Reply) (told told_now : Option (List ℕ)) (result : Result (Unit {0}) E) →
-    SessionStands config entries f mounted notes old → IsReached entries mounted asked at → slice_get entries at ≡ Some entry → OnlyReads f g → HasRead f reads g → reads ≡ g.work.reads - f.work.reads →
-    ((f : FlashState) (first : ℕ) (plan : Plan) (table : model.Table) → Stands entry.table f first plan table → limit ≡ lookup_limit 64 plan table key) →
-    ((first : ℕ) (plan : Plan) (table : model.Table) → IsTrue f.media.tells → f.is_on ≡ true → Stands entry.table f first plan table → Looks plan table key f.media.faults g.media.faults f.work.reads g.work.reads (reply_text said)) →
+pub get-executes : (E : Type 0) (config : Config) (old : Machine) (entries : List Entry) (at : ℕ) (entry : Entry) (t : Table 64 64) (asked : List ℕ) (notes : Notes) (f g : FlashState) (reads limit key : ℕ) (mounted : Bool) (said : code.Reply) (told told_now : Option (List ℕ)) (result : Result (Unit {0}) E) →
+    SessionStands config entries f mounted notes old → IsReached entries mounted asked at → slice_get entries at ≡ Some entry → t ≡ table_in entry.table → OnlyReads f g → HasRead f reads g → reads ≡ g.work.reads - f.work.reads →
+    ((f : FlashState) (first : ℕ) (plan : Plan) (table : model.Table) → Stands t f first plan table → limit ≡ lookup_limit 64 plan table key) →
+    ((first : ℕ) (plan : Plan) (table : model.Table) → IsTrue f.media.tells → f.is_on ≡ true → Stands t f first plan table → Looks plan table key f.media.faults g.media.faults f.work.reads g.work.reads (reply_text said)) →
     Written told told_now result (reply_text said) →
     Executes config old (command.Get asked key) (SessionStands config entries g mounted (record notes { cost = code_cost.OfGet reads limit })) f g told told_now result
-get-executes E config old entries at entry asked notes f g reads limit key mounted said told told_now result h r here only counted reads_are limits looks wrote =
+get-executes E config old entries at entry t asked notes f g reads limit key mounted said told told_now result h r here table_is only counted reads_are limits looks wrote =
     let h' = subst (λ m. SessionStands config entries f m notes old) r.mounted_is h in
     let own = own-of config old entries f notes asked at entry h' here r.named in
     let first = first_of config.plans at in
-    let s = looks first own.plan own.table h'.medium.told (h'.power refl) own.stands.on_flash in
-    let is : limit ≡ lookup_limit config.knots own.plan own.table key = limits f first own.plan own.table own.stands.on_flash ∙ ap (λ n. lookup_limit n own.plan own.table key) (sym h'.knots) in
+    let stands = stands-unlogged t entry table_is own.stands in
+    let s = looks-unlogged own.plan own.table (looks first (bare own.plan) (bare_table own.table) h'.medium.told (h'.power refl) stands) in
+    let is : limit ≡ lookup_limit config.knots own.plan own.table key = limits f first (bare own.plan) (bare_table own.table) stands ∙ ap (λ n. lookup_limit n own.plan own.table key) (sym h'.knots) in
     let moment : Moment = record { command = command.Get asked key; rose = s.rose; reads = reads; last = None; replies = s.reply ∷ []; after = record old { cost = OfGet reads (lookup_limit config.knots own.plan own.table key) } } in
     let place : Located = record { place = at; plan = own.plan; table = own.table } in
     let replied : (moment.replies ≡ found_reply own.plan (entry_at key own.table.entries) ∷ []) ⊎ (IsTrue moment.rose × (moment.replies ≡ reply.ReadFault ∷ [])) = elim s.reply_is [ inl e ↦ inl (ap (λ (x : Reply). x ∷ []) e) | inr e ↦ inr (e.0, ap (λ (x : Reply). x ∷ []) e.1) ] in

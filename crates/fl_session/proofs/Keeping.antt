@@ -1,11 +1,11 @@
 -- The pages of the tables on a medium that commands keep.
-use Rattle.std.proofs.Common.{◌≡◌, ℕ, ◌≤◌, Bool, true, false, nat_lt, inl, inr, Option, Some, None, List, length, refl, sym, ◌∙◌, ap, subst, le_trans, arith}
+use Rattle.std.proofs.Common.{◌≡◌, ℕ, ◌≤◌, Bool, true, inl, inr, Option, Some, None, List, length, refl, sym, ◌∙◌, ap, subst, le_trans, arith}
 use Rattle.std.specs.Prelude.{MatchBool}
 use Rattle.std.specs.List.{slice_get}
 use Rattle.std.proofs.lemmas.Bool.Decides.{eqb_tells}
 use Rattle.std.proofs.lemmas.Option.{slice_get_within}
 use Rattle.fl_flash.specs.Flash.{FlashState, page_at}
-use Rattle.fl_model.specs.Facts.{IsTable, is_some_ring}
+use Rattle.fl_model.specs.Facts.{is_some_ring}
 use Rattle.fl_model.specs.Image.{bytes_at}
 use Rattle.fl_model.specs.Record.{Config, Plan}
 use Rattle.fl_model.specs.Ring.{Ring, oldest}
@@ -13,10 +13,11 @@ use Rattle.fl_model.specs.Table.{Table, RingName, DataRing, IndexRing, VarRing, 
 use Rattle.fl_model.proofs.Lists.{slice_get-some}
 use Rattle.fl_machine.specs.Stays.{RingStays, TablesStay}
 use Rattle.fl_ring.specs.Kept.{PagesStand}
-use Rattle.fl_table.specs.Mounting.{OutsideStands}
 use Rattle.fl_table.specs.Pages.{KeptStand, bytes_in}
-use Rattle.fl_table.specs.Standing.{Stands}
-use Rattle.fl_table.specs.declared.table.Table as code
+use Rattle.fl_rlc.specs.Logged.{Stands}
+use Rattle.fl_rlc.specs.Outcomes.{LogStays}
+use Rattle.fl_rlc.specs.Table.{OutsideStands}
+use Rattle.fl_rlc.specs.declared.table.LoggedTable.{LoggedTable}
 use Rattle.fl_table.proofs.Images.{pages-medium}
 use Rattle.fl_tables.specs.Tables.{first_of, EntryStands, TablesStand}
 use Rattle.fl_tables.specs.declared.tables.Entry.{Entry}
@@ -119,21 +120,14 @@ option-of P None (Some y) e h = cc
 option-of P (Some x) None e h = cc
 option-of P (Some x) (Some y) e h = h x y refl refl
 
--- no log is there, where a plan has none
-no-log : (plan : Plan) (table : Table) → plan.log_blocks ≡ 0 → IsTable plan table → (ring : Ring) → table.log ≡ Some ring → ⊥
-no-log plan table none facts ring e = absurd (no (sym (ap is_some_ring e) ∙ (facts.has_rings.2 ∙ ap (λ (n : ℕ). nat_lt 0 n) none)))
-  where
-    no : true ≡ false → ⊥
-    no k = cc
-
 -- the pages that a table's call keeps
-pub table-keeps : (config : Config) (f g : FlashState) (place : ℕ) (plan : Plan) (t u : code.Table 64 64) (before after : Table) → IsOnMedium config f → IsOnMedium config g → KeptStand (first_of config.plans place) plan before after (page_at f) (page_at g) →
+pub table-keeps : (config : Config) (f g : FlashState) (place : ℕ) (plan : Plan) (t u : LoggedTable 64 64) (before after : Table) → IsOnMedium config f → IsOnMedium config g → KeptStand (first_of config.plans place) plan before after (page_at f) (page_at g) → LogStays (first_of config.plans place) plan before after f g →
     Stands t f (first_of config.plans place) plan before → Stands u g (first_of config.plans place) plan after → TableKeeps config f.media.content g.media.content place plan before after
-table-keeps config f g place plan t u before after h k kept stood stands = record {
+table-keeps config f g place plan t u before after h k kept kept-log stood stands = record {
   rows = ring-of DataRing before.rows after.rows kept.rows;
   index = option-of (RingKeeps config f.media.content g.media.content place plan IndexRing) before.index after.index (stood.facts.has_rings.0 ∙ sym stands.facts.has_rings.0) (λ x y i j. ring-of IndexRing x y (kept.index x y i j));
   var = option-of (RingKeeps config f.media.content g.media.content place plan VarRing) before.var after.var (stood.facts.has_rings.1 ∙ sym stands.facts.has_rings.1) (λ x y i j. ring-of VarRing x y (kept.var x y i j));
-  log = option-of (RingKeeps config f.media.content g.media.content place plan LogRing) before.log after.log (stood.facts.has_rings.2 ∙ sym stands.facts.has_rings.2) (λ x y i j. absurd (no-log plan before stood.planned.log stood.facts x i));
+  log = option-of (RingKeeps config f.media.content g.media.content place plan LogRing) before.log after.log (stood.facts.has_rings.2 ∙ sym stands.facts.has_rings.2) (λ x y i j. ring-of LogRing x y (kept-log x y i j));
 }
   where
     ring-of : (ring : RingName) (x y : Ring) → PagesStand x (bytes_in (page_at f) (first_of config.plans place) plan ring) y (bytes_in (page_at g) (first_of config.plans place) plan ring) → RingKeeps config f.media.content g.media.content place plan ring x y
@@ -160,12 +154,13 @@ module _ (config : Config) (f g : FlashState) (entries : List Entry) (tables aft
       let there : Stands e.0.table f (first_of config.plans place) plan x = s.on_flash in
       let has = there.facts.has_rings in
       record {
-        rows = ring-same config f.media.content g.media.content place plan DataRing x.rows (λ n. bytes-same config f g h k place plan DataRing n (pages.rows n));
+        rows = ring-same config f.media.content g.media.content place plan DataRing x.rows (λ n. bytes-same config f g h k place plan DataRing n (pages.table.rows n));
         index = option-same (RingKeeps config f.media.content g.media.content place plan IndexRing) x.index (λ r is.
-            ring-same config f.media.content g.media.content place plan IndexRing r (λ n. bytes-same config f g h k place plan IndexRing n (pages.index (sym has.0 ∙ ap is_some_ring is) n)));
+            ring-same config f.media.content g.media.content place plan IndexRing r (λ n. bytes-same config f g h k place plan IndexRing n (pages.table.index (sym has.0 ∙ ap is_some_ring is) n)));
         var = option-same (RingKeeps config f.media.content g.media.content place plan VarRing) x.var (λ r is.
-            ring-same config f.media.content g.media.content place plan VarRing r (λ n. bytes-same config f g h k place plan VarRing n (pages.var (sym has.1 ∙ ap is_some_ring is) n)));
-        log = option-same (RingKeeps config f.media.content g.media.content place plan LogRing) x.log (λ r is. absurd (no-log plan x there.planned.log there.facts r is));
+            ring-same config f.media.content g.media.content place plan VarRing r (λ n. bytes-same config f g h k place plan VarRing n (pages.table.var (sym has.1 ∙ ap is_some_ring is) n)));
+        log = option-same (RingKeeps config f.media.content g.media.content place plan LogRing) x.log (λ r is.
+            ring-same config f.media.content g.media.content place plan LogRing r (λ n. bytes-same config f g h k place plan LogRing n (pages.log (sym has.2 ∙ ap is_some_ring is) n)));
       }
 
   pub tables-keep_changed : length after ≡ length tables → slice_get after at ≡ Some new → ((i : ℕ) → (at ≡ i → ⊥) → slice_get after i ≡ slice_get tables i) → TableKeeps config f.media.content g.media.content at own table new →

@@ -8,6 +8,8 @@ pub mod Beginning
 pub mod Ready
 pub mod Ending
 pub mod Executing
+pub mod Tables
+pub mod Unlogged
 pub mod Owning
 pub mod Answering
 pub mod Costing

@@ -16,7 +16,7 @@ use Rattle.fl_script.specs.Written.{Written}
 use Rattle.fl_script.specs.declared.reply.Reply as code
 use Rattle.fl_table.specs.Causes.{put_breaks}
 use Rattle.fl_table.specs.declared.faults.PutRefusal.{PutRefusal}
-use Rattle.fl_table.specs.declared.table.Table.{Table}
+use Rattle.fl_rlc.specs.declared.table.LoggedTable.{LoggedTable}
 use Rattle.fl_tables.specs.Tables.{entries_with, IsNamed}
 use Rattle.fl_tables.specs.declared.tables.Entry.{Entry}
 use Rattle.fl_session.specs.Answer.{Answers, Refusal, IsReached, load_replies}
@@ -51,7 +51,7 @@ front-second told mid now count (Err refusal) line e is first h =
     (a ++ h.0, (h.1.0 ++ [], parts), appends-append told mid now a h.0 first h.2)
 
 -- a load that is executed
-pub load-executes : (E : Type 0) (config : Config) (old : Machine) (entries : List Entry) (at : ℕ) (entry : Entry) (u : Table 64 64) (asked : List ℕ) (notes : Notes) (f g : FlashState) (mounted breaks : Bool) (count step seed loaded : ℕ) (outcome : Result (Unit {0}) PutRefusal) (told told_now : Option (List ℕ)) (result : Result (Unit {0}) E) →
+pub load-executes : (E : Type 0) (config : Config) (old : Machine) (entries : List Entry) (at : ℕ) (entry : Entry) (u : LoggedTable 64 64) (asked : List ℕ) (notes : Notes) (f g : FlashState) (mounted breaks : Bool) (count step seed loaded : ℕ) (outcome : Result (Unit {0}) PutRefusal) (told told_now : Option (List ℕ)) (result : Result (Unit {0}) E) →
     SessionStands config entries f mounted notes old → IsReached entries mounted asked at → slice_get entries at ≡ Some entry → g.work.reads ≡ f.work.reads →
     ((config : Config) (entries : List Entry) (at : ℕ) (e : Entry) (name : List ℕ) (notes : Notes) (old : Machine) → SessionStands config entries f true notes old → slice_get entries at ≡ Some e → e.table ≡ entry.table → IsNamed entries name at →
     Answers config old (command.Load name count step seed) (SessionStands config (entries_with entries at e u) g (not (put_breaks outcome)) notes) f g (texts (load_replies loaded outcome))) →

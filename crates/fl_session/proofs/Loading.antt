@@ -7,8 +7,8 @@ use Rattle.std.proofs.Math.IntN.{ℤ}
 use Rattle.fl_base.specs.Causes.{Rose}
 use Rattle.fl_flash.specs.Flash.{FlashState, Goes, page_at}
 use Rattle.fl_flash.specs.declared.flash.FlashFault.{FlashFault}
-use Rattle.fl_table.specs.Mounting.{OutsideStands}
 use Rattle.fl_ring.specs.Step.{IsWatched}
+use Rattle.fl_model.specs.Bare.{bare, bare_table}
 use Rattle.fl_model.specs.Record.{Config, Plan, Record}
 use Rattle.fl_model.specs.Table as model
 use Rattle.fl_model.specs.Table.{refusal_of, put_record, last_entry, Refusal, BadKey, BadColumns, BadValue, BadBlob, Spent}
@@ -27,11 +27,15 @@ use Rattle.fl_machine.specs.Step.{Moment, Says, Located, refused, LoadStep, Load
 use Rattle.fl_table.specs.declared.table.Table.{Table}
 use Rattle.fl_table.specs.declared.faults.PutRefusal.{PutRefusal}
 use Rattle.fl_table.specs.declared.faults.PutRefusal.TheVariants as put
-use Rattle.fl_table.specs.Causes.{RefusedSame, put_breaks}
+use Rattle.fl_table.specs.Causes.{put_breaks}
 use Rattle.fl_table.specs.Look.{layout_in}
-use Rattle.fl_table.specs.Memory.{IsSamePlan}
-use Rattle.fl_table.specs.Outcomes.{FaultEnds, PutEnds}
-use Rattle.fl_table.specs.Standing.{Stands}
+use Rattle.fl_table.specs.Outcomes.{FaultEnds}
+use Rattle.fl_table.specs.Standing as without_log
+use Rattle.fl_rlc.specs.Logged.{Stands}
+use Rattle.fl_rlc.specs.Outcomes.{PutEnds}
+use Rattle.fl_rlc.specs.Refusal.{RefusedSame}
+use Rattle.fl_rlc.specs.Table.{IsSamePlan, OutsideStands, table_in}
+use Rattle.fl_rlc.specs.declared.table.LoggedTable.{LoggedTable}
 use Rattle.fl_tables.specs.Tables.{first_of, entries_with, IsNamed}
 use Rattle.fl_tables.specs.declared.tables.Entry.{Entry}
 use Rattle.fl_tables.proofs.TablesChanged.{set-there, set-elsewhere, set-same, some-is, at-place}
@@ -51,7 +55,7 @@ abbrev pub amid : Machine → Device → List model.Table → Machine
 amid old device tables = record old { device = device; tables = tables }
 
 -- So many records were put to the table at a place, and what the rest of the load is to the machine, the whole is.
-pub record LoadedSoFar (config : Config) (entries : List Entry) (at : ℕ) (entry : Entry) (asked : List ℕ) (notes : Notes) (old : Machine) (start : List ℕ) (t : Table 64 64) (f : FlashState) (rose : Bool) (count step seed loaded random : ℕ) : Type 0 where
+pub record LoadedSoFar (config : Config) (entries : List Entry) (at : ℕ) (entry : Entry) (asked : List ℕ) (notes : Notes) (old : Machine) (start : List ℕ) (t : LoggedTable 64 64) (f : FlashState) (rose : Bool) (count step seed loaded random : ℕ) : Type 0 where
   pub device : Device
   pub tables : List model.Table
   pub stands : SessionStands config (entries_with entries at entry t) f true notes (amid old device tables)
@@ -63,16 +67,16 @@ pub record LoadedSoFar (config : Config) (entries : List Entry) (at : ℕ) (entr
       LoadsFrom config old moment plan at step seed count 1 (next_random seed) 0 old.device old.tables
 
 -- the entry of a table that a load has changed
-abbrev pub entry_now : Entry → Table 64 64 → Entry
+abbrev pub entry_now : Entry → LoggedTable 64 64 → Entry
 entry_now entry t = record { name = entry.name; table = t }
 
-entry-there : (entries : List Entry) (at : ℕ) (entry : Entry) (t : Table 64 64) → slice_get entries at ≡ Some entry → slice_get (entries_with entries at entry t) at ≡ Some (entry_now entry t)
+entry-there : (entries : List Entry) (at : ℕ) (entry : Entry) (t : LoggedTable 64 64) → slice_get entries at ≡ Some entry → slice_get (entries_with entries at entry t) at ≡ Some (entry_now entry t)
 entry-there entries at entry t here = set-there entries at entry (entry_now entry t) here
 
-entries-again : (entries : List Entry) (at : ℕ) (entry : Entry) (t u : Table 64 64) → entries_with (entries_with entries at entry t) at (entry_now entry t) u ≡ entries_with entries at entry u
+entries-again : (entries : List Entry) (at : ℕ) (entry : Entry) (t u : LoggedTable 64 64) → entries_with (entries_with entries at entry t) at (entry_now entry t) u ≡ entries_with entries at entry u
 entries-again entries at entry t u = set-set entries at (entry_now entry t) (entry_now entry u)
 
-still-named : (entries : List Entry) (at : ℕ) (entry : Entry) (t : Table 64 64) (asked : List ℕ) → slice_get entries at ≡ Some entry → IsNamed entries asked at → IsNamed (entries_with entries at entry t) asked at
+still-named : (entries : List Entry) (at : ℕ) (entry : Entry) (t : LoggedTable 64 64) (asked : List ℕ) → slice_get entries at ≡ Some entry → IsNamed entries asked at → IsNamed (entries_with entries at entry t) asked at
 still-named entries at entry t asked here named = record {
   entry = entry_now entry t;
   here = entry-there entries at entry t here;
@@ -80,7 +84,7 @@ still-named entries at entry t asked here named = record {
   first = λ i other lt e. named.first i other lt (sym (set-elsewhere entries at i (entry_now entry t) (λ is. absurd (omega (arith, lt, is)))) ∙ e);
 }
 
-pub loaded-none : (config : Config) (entries : List Entry) (at : ℕ) (entry : Entry) (asked : List ℕ) (notes : Notes) (old : Machine) (t : Table 64 64) (f : FlashState) (rose : Bool) (count step seed random : ℕ) → random ≡ next_random seed →
+pub loaded-none : (config : Config) (entries : List Entry) (at : ℕ) (entry : Entry) (asked : List ℕ) (notes : Notes) (old : Machine) (t : LoggedTable 64 64) (f : FlashState) (rose : Bool) (count step seed random : ℕ) → random ≡ next_random seed →
     SessionStands config entries f true notes old → slice_get entries at ≡ Some entry → entry.table ≡ t →
     LoadedSoFar config entries at entry asked notes old f.media.content t f rose count step seed 0 random
 loaded-none config entries at entry asked notes old t f rose count step seed random e h here is =
@@ -122,11 +126,11 @@ loads-next config old moment plan at step seed count loaded s device tables tabl
 abbrev pub made : ℕ → List ℤ → Record
 made key values = record { key = key; values = values; blob = None }
 
-made-is : (t : Table 64 64) (f : FlashState) (first : ℕ) (plan : Plan) (table : model.Table) (step seed i s key : ℕ) (values : List ℤ) (last : Option ℕ) → Stands t f first plan table → last ≡ option_map (λ entry. entry.kept.key) (last_entry table) →
-    key ≡ load_key (unwrap_or last 0) step s → values ≡ load_values i seed 1 (layout_in t).columns → made key values ≡ load_record plan table step seed i s
+made-is : (t : LoggedTable 64 64) (f : FlashState) (first : ℕ) (plan : Plan) (table : model.Table) (step seed i s key : ℕ) (values : List ℤ) (last : Option ℕ) → Stands t f first plan table → last ≡ option_map (λ entry. entry.kept.key) (last_entry table) →
+    key ≡ load_key (unwrap_or last 0) step s → values ≡ load_values i seed 1 (layout_in (table_in t)).columns → made key values ≡ load_record plan table step seed i s
 made-is t f first plan table step seed i s key values last stands e k v =
     let key_is : key ≡ (load_record plan table step seed i s).key = k ∙ ap (λ o. load_key (unwrap_or o 0) step s) e in
-    let values_are : values ≡ load_values i seed 1 plan.columns = v ∙ ap (λ l. load_values i seed 1 l.columns) (sym stands.planned.layout) in
+    let values_are : values ≡ load_values i seed 1 plan.columns = v ∙ ap (λ l. load_values i seed 1 l.columns) (sym stands.unlogged.planned.layout) in
     ap (λ n. made n values) key_is ∙ ap (λ vs. made (load_record plan table step seed i s).key vs) values_are
 
 -- faults that rose, as a command tells them
@@ -158,7 +162,7 @@ ends-load config entries now at entry asked notes old f g count step seed mounte
     }
 
 -- all records were put
-pub load-finished : (config : Config) (entries : List Entry) (at : ℕ) (entry : Entry) (asked : List ℕ) (notes : Notes) (old : Machine) (u : Table 64 64) (f g : FlashState) (count step seed loaded random : ℕ) → SessionStands config entries f true notes old →
+pub load-finished : (config : Config) (entries : List Entry) (at : ℕ) (entry : Entry) (asked : List ℕ) (notes : Notes) (old : Machine) (u : LoggedTable 64 64) (f g : FlashState) (count step seed loaded random : ℕ) → SessionStands config entries f true notes old →
     slice_get entries at ≡ Some entry → IsNamed entries asked at → loaded ≡ count → LoadedSoFar config entries at entry asked notes old f.media.content u g (has_risen f g) count step seed loaded random →
     Answers config old (command.Load asked count step seed) (SessionStands config (entries_with entries at entry u) g true notes) f g (texts (load_replies count (Ok tt)))
 load-finished config entries at entry asked notes old u f g count step seed loaded random h here named e so_far =
@@ -185,7 +189,7 @@ stops-load old c rose at loaded tables now fault g others (CutIn before) k h = r
 stops-load old c rose at loaded tables now fault g others (FailedIn before) k h = record { replies_are = ap (λ x. reply.Loaded loaded ∷ fault_reply x ∷ []) h.0; after_is = refl; last_is = ap (last_of at tables) k }
 
 -- One put of a load.
-module _ (config : Config) (entries : List Entry) (at : ℕ) (entry : Entry) (asked : List ℕ) (notes : Notes) (old : Machine) (start : List ℕ) (t u : Table 64 64) (f g : FlashState) (rose : Bool) (count step seed loaded random : ℕ)
+module _ (config : Config) (entries : List Entry) (at : ℕ) (entry : Entry) (asked : List ℕ) (notes : Notes) (old : Machine) (start : List ℕ) (t u : LoggedTable 64 64) (f g : FlashState) (rose : Bool) (count step seed loaded random : ℕ)
     (here : slice_get entries at ≡ Some entry) (named : IsNamed entries asked at) (so_far : LoadedSoFar config entries at entry asked notes old start t f rose count step seed loaded random) (left : loaded < count)
     (goes : Goes f g) (same : IsSamePlan t u) (outside : IsTrue f.media.tells → OutsideStands t (page_at f) (page_at g)) where
   abbrev pub mid_old : Machine
@@ -208,15 +212,15 @@ module _ (config : Config) (entries : List Entry) (at : ℕ) (entry : Entry) (as
 
   -- it ended as the put of a record
   pub ends-next : (result : Result (Unit {0}) PutRefusal) (key : ℕ) (values : List ℤ) (last : Option ℕ) → (Rose f.media.faults g.media.faults → IsTrue rose) →
-      ((f : FlashState) (first : ℕ) (plan : Plan) (table : model.Table) → Stands t f first plan table → last ≡ option_map (λ entry. entry.kept.key) (last_entry table)) →
-      key ≡ load_key (unwrap_or last 0) step random → values ≡ load_values (loaded + 1) seed 1 (layout_in t).columns →
+      (read : Table 64 64) → read ≡ table_in t → ((f : FlashState) (first : ℕ) (plan : Plan) (table : model.Table) → without_log.Stands read f first plan table → last ≡ option_map (λ entry. entry.kept.key) (last_entry table)) →
+      key ≡ load_key (unwrap_or last 0) step random → values ≡ load_values (loaded + 1) seed 1 (layout_in (table_in t)).columns →
       ((first : ℕ) (plan : Plan) (table : model.Table) (rose : Bool) (device : Device) → IsWatched f g rose device → Stands t f first plan table → PutEnds first plan (made key values) table rose device result u f g) →
       EndsNext result
-  ends-next result key values last risen told k v ends =
+  ends-next result key values last risen read read_is told k v ends =
       let h = so_far.stands in
       let watched : IsWatched f g rose so_far.device = record { told = h.medium.told; on = h.power refl; risen = risen; counts = h.device } in
       subst (λ r. PutEnds first own.plan r own.table rose so_far.device result u f g)
-      (made-is t f first own.plan own.table step seed (loaded + 1) random key values last own.stands.on_flash (told f first own.plan own.table own.stands.on_flash) k v)
+      (made-is t f first own.plan own.table step seed (loaded + 1) random key values last own.stands.on_flash (told f first (bare own.plan) (bare_table own.table) (subst (λ (x : Table 64 64). without_log.Stands x f first (bare own.plan) (bare_table own.table)) (sym read_is) own.stands.on_flash.unlogged)) k v)
       (ends first own.plan own.table rose so_far.device watched own.stands.on_flash)
 
   -- what is left to do, where the put was accepted
@@ -240,7 +244,7 @@ module _ (config : Config) (entries : List Entry) (at : ℕ) (entry : Entry) (as
         tables = after;
         stands = subst (λ es. SessionStands config es g true notes (amid old fin.now.device after)) (entries-again entries at entry t u) done;
         keeps = tables-on config start f.media.content g.media.content old.tables so_far.tables after so_far.keeps
-            (keeps-done config mid_old mid_entries at (entry_now entry t) asked notes u f g so_far.stands (entry-there entries at entry t here) own goes same outside (put_record own.plan item) fin.stand fin.stands);
+            (keeps-done config mid_old mid_entries at (entry_now entry t) asked notes u f g so_far.stands (entry-there entries at entry t here) own goes same outside (put_record own.plan item) fin.stand fin.log fin.stands);
         plan = own.plan;
         plan_is = own.plan_is;
         whole = λ moment r l.

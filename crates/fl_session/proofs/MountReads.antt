@@ -21,7 +21,7 @@ use Rattle.fl_machine.specs.Reads.{none_read, mounts_limit, WithinMount, LimitOf
 use Rattle.fl_machine.specs.Step.{Moment, Step, StepOf, Says, EndsAs, EndsMount}
 use Rattle.fl_ring.specs.Step.{IsWatched}
 use Rattle.fl_script.specs.Written.{Written}
-use Rattle.fl_table.specs.Mounting.{pages_in}
+use Rattle.fl_rlc.specs.Mounting.{pages_in}
 use Rattle.fl_tables.specs.Tables.{TablesStand, pages_of, first_of}
 use Rattle.fl_tables.specs.declared.tables.Entry.{Entry}
 use Rattle.fl_tables.proofs.TablesReads.{planned-pages}

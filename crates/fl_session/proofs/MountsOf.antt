@@ -19,11 +19,11 @@ use Rattle.fl_machine.specs.Machine.{Machine, stopped, no_cursors}
 use Rattle.fl_machine.specs.Step.{Moment, Step, Says, EndsAs, EndsMount, MountStep, all_ready}
 use Rattle.fl_table.specs.declared.faults.MountFault.{MountFault}
 use Rattle.fl_table.specs.declared.faults.MountFault.TheVariants as mount
-use Rattle.fl_tables.specs.Repaired.{IsRepaired}
-use Rattle.fl_tables.specs.Tables.{first_of, EntryStands, TablesStand, FaultIs, TablesMounted, TablesBroken, MountBreaks, TablesMount}
+use Rattle.fl_tables.specs.Mounting.{AreUnlogged}
+use Rattle.fl_tables.specs.Repaired.{IsLeft}
+use Rattle.fl_tables.specs.Tables.{TablesStand, FaultIs, TablesMounted, TablesBroken, MountBreaks, TablesMount}
 use Rattle.fl_tables.specs.declared.tables.BadMount.{BadMount}
 use Rattle.fl_tables.specs.declared.tables.Entry.{Entry}
-use Rattle.fl_tables.proofs.TablesChanged.{entry-off, tables-still, tables-become}
 use Rattle.fl_session.specs.Answer.{Answers, bad_reply, mount_reply}
 use Rattle.fl_tables.specs.Replies.{fault_reply}
 use Rattle.fl_session.specs.Notes.{without_cursors}
@@ -33,17 +33,15 @@ use Rattle.fl_session.proofs.Answering.{answers-saying, saying, says, step-is}
 use Rattle.fl_session.proofs.Executing.{one-text}
 use Rattle.fl_session.proofs.Rested.{session-ends}
 use Rattle.fl_session.proofs.Repairing.{mount-stays, pages-repaired}
+use Rattle.fl_session.proofs.Tables.{tables-kept}
 use Rattle.fl_session.proofs.Working.{medium-goes, has_risen, risen-rose}
 
 -- the power is on
-entry-on : (entry : Entry) (f : FlashState) (first : ℕ) (plan : Plan) (table : model.Table) → EntryStands entry f false first plan table → EntryStands entry (record f { is_on = true }) false first plan table
-entry-on entry f first plan table h = record { named = h.named; geometry = h.geometry; planned = h.planned; on_flash = record { settled = h.on_flash.settled; pages = h.on_flash.pages } }
-
 stands-on : (config : Config) (old : Machine) (entries : List Entry) (notes : Notes) (f : FlashState) → SessionStands config entries f false notes old → SessionStands config entries (record f { is_on = true }) false notes old
 stands-on config old entries notes f h = record {
   knots = h.knots;
   medium = record { told = h.medium.told; len = h.medium.len; head = h.medium.head; start = h.medium.start; geometry = h.medium.geometry };
-  tables = tables-still f (record f { is_on = true }) (λ i. false) config.plans entries old.tables h.tables (λ i plan e x k. entry-on e f (first_of config.plans i) plan x k);
+  tables = tables-kept f (record f { is_on = true }) refl refl (λ i. false) config.plans entries old.tables h.tables;
   is_mounted = h.is_mounted;
   cursors = h.cursors;
   device = record { armed = h.device.armed; programs = h.device.programs; erases = h.device.erases };
@@ -76,8 +74,9 @@ answers-already config old entries notes f h =
 -- what a mount leaves of each page, where it ends well
 abbrev pub Repairs : FlashState → FlashState → List Entry → Type 0
 Repairs f g entries =
-    IsTrue f.media.tells → (plans : List Plan) → (tables : List model.Table) → TablesStand f (λ i. false) plans entries tables → (page : ℕ) → page < sum_by blocks_of plans * f.geometry.block →
-    IsRepaired f.geometry.page (page_at f page) (page_at g page)
+    IsTrue f.media.tells → (plans : List Plan) → (tables : List model.Table) → TablesStand f (λ i. false) plans entries tables →
+    AreUnlogged entries ⊎ ((rose : Bool) × (device : Device) × IsWatched f g rose device) → (page : ℕ) → page < sum_by blocks_of plans * f.geometry.block →
+    IsLeft plans f.geometry page (page_at f page) (page_at g page)
 
 -- a read of a mount failed, and so did the medium
 unread-later : (rose : Bool) (end : Progress) (o : Outcome) (now : Progress) (others : Type 0) → GoesOn o now (Unread end) others → (others → IsTrue rose) → IsTrue rose
@@ -107,8 +106,8 @@ module _ (config : Config) (old : Machine) (notes : Notes) (entries now : List E
       step-is config old moment command.Mount is
       (by-mounted config old moment false h.is_mounted (how, subst (λ rose. Mounts config.plans rose (turns_from 0 config.plans) old.device old.tables how) (sym risen) m, e))
 
-  answers-well : TablesMounted config.plans old.tables (has_risen f g) old.device now g → Repairs f g entries → Answers config old command.Mount (SessionStands config now g true (without_cursors notes)) f g (text reply.Done)
-  answers-well w repaired =
+  answers-well : TablesMounted config.plans old.tables (has_risen f g) old.device now g → IsWatched f g (has_risen f g) old.device → Repairs f g entries → Answers config old command.Mount (SessionStands config now g true (without_cursors notes)) f g (text reply.Done)
+  answers-well w watched repaired =
       let after : Machine = record old { device = w.end.device; tables = all_ready config.plans w.end.tables; mounted = true; cursors = no_cursors } in
       let moment : Moment = record { command = command.Mount; rose = has_risen f g; reads = 0; last = None; replies = reply.Done ∷ []; after = after } in
       let stands : SessionStands config now g true (without_cursors notes) after = record {
@@ -129,7 +128,7 @@ module _ (config : Config) (old : Machine) (notes : Notes) (entries now : List E
         stands_after = stands;
         stays = record {
           image = session-ends config now (without_cursors notes) g true after stands;
-          stays = λ calm whole. mount-stays config old.mounted f.media.content g.media.content h.is_mounted (pages-repaired config entries old.tables f g (λ i. false) h.medium stands.medium h.tables (λ page within. repaired h.medium.told config.plans old.tables h.tables page within));
+          stays = λ calm whole. mount-stays config old.mounted f.media.content g.media.content h.is_mounted (pages-repaired config entries old.tables f g (λ i. false) h.medium stands.medium h.tables (λ page within. repaired h.medium.told config.plans old.tables h.tables (inr (has_risen f g, old.device, watched)) page within));
         };
         rose = risen-rose f g;
         said_is = one-text reply.Done;
@@ -148,11 +147,7 @@ module _ (config : Config) (old : Machine) (notes : Notes) (entries now : List E
     power = λ k. cc;
   }
 
-  -- what is in memory is lost
-  rest-lost : (end : Progress) → TablesStand g (λ i. false) config.plans now end.tables → TablesStand g (λ i. false) config.plans now (map lose end.tables)
-  rest-lost end rest = tables-become g g (λ i. false) (λ i. false) config.plans now end.tables lose rest (λ i plan e x k. entry-off e g false (first_of config.plans i) plan x k)
-
-  -- an operation of a repair failed
+  -- an operation failed
   abbrev last_in : Outcome → Option (List model.Table)
   last_in Finished = None
   last_in (CutShort before) = Some before
@@ -178,11 +173,11 @@ module _ (config : Config) (old : Machine) (notes : Notes) (entries now : List E
   not-whole fault (CutShort before) x e = let no : ◌≡◌ {A = Option (List model.Table)} (Some before) None = e in cc
   not-whole fault (Failed before) x e = let no : ◌≡◌ {A = Option (List model.Table)} (Some before) None = e in cc
 
-  answers-stopped : (fault : FlashFault) (end : Progress) → Mounts config.plans (has_risen f g) (turns_from 0 config.plans) old.device old.tables (Stopped end) → FaultIs end.outcome fault → SameDevice g end.device → TablesStand g (λ i. false) config.plans now end.tables →
+  answers-stopped : (fault : FlashFault) (end : Progress) → Mounts config.plans (has_risen f g) (turns_from 0 config.plans) old.device old.tables (Stopped end) → FaultIs end.outcome fault → SameDevice g end.device → TablesStand g (λ i. false) config.plans now (map lose end.tables) →
       Answers config old command.Mount (SessionStands config now g false (without_cursors notes)) f g (text (fault_reply fault))
   answers-stopped fault end did answer counts rest =
       let moment = stopped_so end fault in
-      let stands = stands-bad (map lose end.tables) end.device counts (rest-lost end rest) moment.after refl refl refl refl refl in
+      let stands = stands-bad (map lose end.tables) end.device counts rest moment.after refl refl refl refl refl in
       record {
         moment = moment;
         command_is = refl;
@@ -195,12 +190,12 @@ module _ (config : Config) (old : Machine) (notes : Notes) (entries now : List E
       }
 
   -- a read failed
-  answers-unread : (fault : FlashFault) (end : Progress) → Mounts config.plans (has_risen f g) (turns_from 0 config.plans) old.device old.tables (Unread end) → fault ≡ Media → SameDevice g end.device → TablesStand g (λ i. false) config.plans now end.tables →
+  answers-unread : (fault : FlashFault) (end : Progress) → Mounts config.plans (has_risen f g) (turns_from 0 config.plans) old.device old.tables (Unread end) → fault ≡ Media → SameDevice g end.device → TablesStand g (λ i. false) config.plans now (map lose end.tables) →
       Answers config old command.Mount (SessionStands config now g false (without_cursors notes)) f g (text (fault_reply fault))
   answers-unread fault end did is counts rest =
       let after : Machine = record old { device = end.device; tables = map lose end.tables } in
       let moment : Moment = record { command = command.Mount; rose = has_risen f g; reads = 0; last = None; replies = reply.DeviceFault ∷ []; after = after } in
-      let stands = stands-bad (map lose end.tables) end.device counts (rest-lost end rest) after refl h.is_mounted h.cursors refl refl in
+      let stands = stands-bad (map lose end.tables) end.device counts rest after refl h.is_mounted h.cursors refl refl in
       record {
         moment = moment;
         command_is = refl;
@@ -234,7 +229,7 @@ module _ (config : Config) (old : Machine) (notes : Notes) (entries now : List E
   by-fault bad (mount.BadBlob page next) e ends = absurd ends
   by-fault bad (mount.BadEntry page count limit) e ends = absurd ends
 
-  pub mount-answers : (result : Result (Unit {0}) BadMount) (mounted : Bool) → mounted ≡ is_ok result → TablesMount config.plans old.tables (has_risen f g) old.device result now g → OnOk result (Repairs f g entries) →
+  pub mount-answers : (result : Result (Unit {0}) BadMount) (mounted : Bool) → mounted ≡ is_ok result → TablesMount config.plans old.tables (has_risen f g) old.device result now g → IsWatched f g (has_risen f g) old.device → OnOk result (Repairs f g entries) →
       Answers config old command.Mount (SessionStands config now g mounted (without_cursors notes)) f g (text (mount_reply result))
-  mount-answers (Ok done) mounted m ends repaired = rw m (answers-well ends repaired)
-  mount-answers (Err bad) mounted m ends repaired = rw m (by-fault bad bad.fault refl ends)
+  mount-answers (Ok done) mounted m ends watched repaired = rw m (answers-well ends watched repaired)
+  mount-answers (Err bad) mounted m ends watched repaired = rw m (by-fault bad bad.fault refl ends)

@@ -6,6 +6,7 @@ use Rattle.std.specs.List.{slice_get}
 use Rattle.fl_base.specs.declared.types.KeyRange.{KeyRange}
 use Rattle.fl_base.specs.declared.types.Op.{Op}
 use Rattle.fl_flash.specs.Flash.{FlashState}
+use Rattle.fl_model.specs.Bare.{bare, bare_table}
 use Rattle.fl_model.specs.Limits.{scan_limit, least_reads}
 use Rattle.fl_model.specs.Operators.{key_join}
 use Rattle.fl_model.specs.Record.{Config, Plan, RowLayout}
@@ -18,6 +19,7 @@ use Rattle.fl_words.specs.Reply.{Reply, text}
 use Rattle.fl_machine.specs.Machine.{Machine}
 use Rattle.fl_machine.specs.Reads.{none_read, OnTable, OnColumns, FaultHasRead}
 use Rattle.fl_machine.specs.Step.{Moment, Step, Located, WithTable, WithColumns, Counts, Says, no_column, records_of, pair_reply}
+use Rattle.fl_rlc.specs.Table.{table_in}
 use Rattle.fl_script.specs.ReplyView.{reply_text}
 use Rattle.fl_script.specs.Written.{Written}
 use Rattle.fl_script.specs.declared.reply.Reply as code
@@ -40,6 +42,7 @@ use Rattle.fl_session.proofs.Getting.{session-read, on-table, off-table}
 use Rattle.fl_session.proofs.Owning.{own-of}
 use Rattle.fl_session.proofs.Refusing.{answers-refused}
 use Rattle.fl_session.proofs.Scanned.{on-ok-weaker}
+use Rattle.fl_session.proofs.Tables.{planned-unlogged, stands-unlogged}
 
 -- one column that is there, and one that isn't
 pub has-column : (t : Table 64 64) (first : ℕ) (plan : Plan) (column : ℕ) → column ≤ length (layout_in t).columns → IsPlanned t first plan → no_column plan (column ∷ []) ≡ None
@@ -69,19 +72,22 @@ module _ (E : Type 0) (config : Config) (old : Machine) (entries : List Entry) (
     (steps : (at : List ℕ) (moment : Moment) → moment.command ≡ command at → WithTable config old moment at (WithColumns old moment columns (λ place. Counts old moment (lines place) old)) → Step config old moment)
     (states : (g : FlashState) (moment : Moment) → OnTable config old moment asked (OnColumns moment columns (ReadsScan config moment range None g result)) → ReadsAsStated config old moment g result (command asked)) where
   -- it is executed
-  pub operator-executes : (at : ℕ) (entry : Entry) (g : FlashState) (reads : ℕ) → ((moment : Moment) → HasRead f moment.reads g → CountsReads f moment g (command asked)) →
-      SessionStands config entries f mounted notes old → IsReached entries mounted asked at → slice_get entries at ≡ Some entry → OnlyReads f g → HasRead f reads g →
-      ((first : ℕ) (plan : Plan) → IsPlanned entry.table first plan → no_column plan columns ≡ None) →
-      ((first : ℕ) (plan : Plan) (table : model.Table) → IsTrue f.media.tells → f.is_on ≡ true → Stands entry.table f first plan table → Counted (lines (record { place = at; plan = plan; table = table })) (scan_limit 64 plan table range None range.low) (least_reads plan table range None) told told_now f.media.faults g.media.faults f.work.reads g.work.reads result) →
+  pub operator-executes : (at : ℕ) (entry : Entry) (t : Table 64 64) (g : FlashState) (reads : ℕ) → ((moment : Moment) → HasRead f moment.reads g → CountsReads f moment g (command asked)) →
+      SessionStands config entries f mounted notes old → IsReached entries mounted asked at → slice_get entries at ≡ Some entry → t ≡ table_in entry.table → OnlyReads f g → HasRead f reads g →
+      ((plan : Plan) (table : model.Table) → lines (record { place = at; plan = bare plan; table = bare_table table }) ≡ lines (record { place = at; plan = plan; table = table })) →
+      ((first : ℕ) (plan : Plan) → IsPlanned t first plan → no_column plan columns ≡ None) →
+      ((first : ℕ) (plan : Plan) (table : model.Table) → IsTrue f.media.tells → f.is_on ≡ true → Stands t f first plan table → Counted (lines (record { place = at; plan = plan; table = table })) (scan_limit 64 plan table range None range.low) (least_reads plan table range None) told told_now f.media.faults g.media.faults f.work.reads g.work.reads result) →
       Executes config old (command asked) (SessionStands config entries g mounted notes) f g told told_now result
-  operator-executes at entry g reads counts h r there only counted within lists =
+  operator-executes at entry t g reads counts h r there table_is only counted same within lists =
       let h' = subst (λ m. SessionStands config entries f m notes old) r.mounted_is h in
       let own = own-of config old entries f notes asked at entry h' there r.named in
       let first = first_of config.plans at in
-      let s = lists first own.plan own.table h'.medium.told (h'.power refl) own.stands.on_flash in
       let place : Located = record { place = at; plan = own.plan; table = own.table } in
+      let s = subst (λ (rows : List Reply). Counted rows (scan_limit 64 own.plan own.table range None range.low) (least_reads own.plan own.table range None) told told_now f.media.faults g.media.faults f.work.reads g.work.reads result) (same own.plan own.table)
+      (lists first (bare own.plan) (bare_table own.table) h'.medium.told (h'.power refl) (stands-unlogged t entry table_is own.stands)) in
+      let has : no_column own.plan columns ≡ None = within first (bare own.plan) (planned-unlogged t entry table_is own.stands) in
       let moment : Moment = record { command = command asked; rose = s.rose; reads = reads; last = None; replies = s.replies; after = old } in
-      let here = subst (λ (none : Option ℕ). MatchOption none (Counts old moment (lines place) old) (λ column. Says moment (reply.NoColumn column ∷ []) old)) (sym (within first own.plan own.stands.planned)) (refl, refl, s.lists) in
+      let here = subst (λ (none : Option ℕ). MatchOption none (Counts old moment (lines place) old) (λ column. Says moment (reply.NoColumn column ∷ []) old)) (sym has) (refl, refl, s.lists) in
       let step = steps asked moment refl (table-step config old moment asked (WithColumns old moment columns (λ place. Counts old moment (lines place) old)) place h'.is_mounted own.found here) in
       let read : ReadsScan config moment range None g result place = record {
         within = omega (arith, s.within, counted.flash, ap (λ n. scan_limit n own.plan own.table range None range.low) h'.knots);
@@ -89,27 +95,28 @@ module _ (E : Type 0) (config : Config) (old : Machine) (entries : List Entry) (
         failed = λ below unread. let more = s.failed unread below in omega (arith, more, counted.flash);
       } in
       let stated = on-table config old moment asked (OnColumns moment columns (ReadsScan config moment range None g result)) place h'.is_mounted own.found
-      (subst (λ (none : Option ℕ). MatchOption none (ReadsScan config moment range None g result place) (λ column. none_read moment)) (sym (within first own.plan own.stands.planned)) read) in
+      (subst (λ (none : Option ℕ). MatchOption none (ReadsScan config moment range None g result place) (λ column. none_read moment)) (sym has) read) in
       subst (λ m. Executes config old (command asked) (SessionStands config entries g m notes) f g told told_now result) (sym r.mounted_is)
       (executes-read E config old (command asked) entries notes f g true told told_now result moment only refl step (session-still config entries notes f g old only h') (counts moment counted) (states g moment stated) s.risen s.wrote)
 
   -- it asks for a column that isn't there
-  pub operator-no_column : (at : ℕ) (entry : Entry) → ((moment : Moment) → HasRead f moment.reads f → CountsReads f moment f (command asked)) →
-      SessionStands config entries f mounted notes old → IsReached entries mounted asked at → slice_get entries at ≡ Some entry → (column : ℕ) → ((first : ℕ) (plan : Plan) → IsPlanned entry.table first plan → no_column plan columns ≡ Some column) →
+  pub operator-no_column : (at : ℕ) (entry : Entry) (t : Table 64 64) → ((moment : Moment) → HasRead f moment.reads f → CountsReads f moment f (command asked)) →
+      SessionStands config entries f mounted notes old → IsReached entries mounted asked at → slice_get entries at ≡ Some entry → t ≡ table_in entry.table → (column : ℕ) → ((first : ℕ) (plan : Plan) → IsPlanned t first plan → no_column plan columns ≡ Some column) →
       Written told told_now result (text (reply.NoColumn column)) →
       Executes config old (command asked) (SessionStands config entries f mounted notes) f f told told_now result
-  operator-no_column at entry counts h r there column lacks wrote =
+  operator-no_column at entry t counts h r there table_is column lacks wrote =
       let h' = subst (λ m. SessionStands config entries f m notes old) r.mounted_is h in
       let own = own-of config old entries f notes asked at entry h' there r.named in
       let place : Located = record { place = at; plan = own.plan; table = own.table } in
       let moment = saying (command asked) (reply.NoColumn column ∷ []) old in
-      let here = subst (λ (some : Option ℕ). MatchOption some (Counts old moment (lines place) old) (λ column. Says moment (reply.NoColumn column ∷ []) old)) (sym (lacks (first_of config.plans at) own.plan own.stands.planned)) (says (command asked) (reply.NoColumn column ∷ []) old) in
+      let none_there : no_column own.plan columns ≡ Some column = lacks (first_of config.plans at) (bare own.plan) (planned-unlogged t entry table_is own.stands) in
+      let here = subst (λ (some : Option ℕ). MatchOption some (Counts old moment (lines place) old) (λ column. Says moment (reply.NoColumn column ∷ []) old)) (sym none_there) (says (command asked) (reply.NoColumn column ∷ []) old) in
       let step = steps asked moment refl (table-step config old moment asked (WithColumns old moment columns (λ place. Counts old moment (lines place) old)) place h'.is_mounted own.found here) in
       subst (λ m. Executes config old (command asked) (SessionStands config entries f m notes) f f told told_now result) (sym r.mounted_is)
       (executes-answered E config old (command asked) (SessionStands config entries f true notes) f f (text (reply.NoColumn column)) told told_now result
       (answers-saying config old (command asked) (reply.NoColumn column) old entries notes f f true refl step h') (λ moment none. counts moment (read-none f moment.reads none))
       (λ moment none. states f moment (on-table config old moment asked (OnColumns moment columns (ReadsScan config moment range None f result)) place h'.is_mounted own.found
-      (subst (λ (some : Option ℕ). MatchOption some (ReadsScan config moment range None f result place) (λ column. none_read moment)) (sym (lacks (first_of config.plans at) own.plan own.stands.planned)) none))) wrote)
+      (subst (λ (some : Option ℕ). MatchOption some (ReadsScan config moment range None f result place) (λ column. none_read moment)) (sym none_there) none))) wrote)
 
   -- it isn't executed
   pub operator-refused : ((moment : Moment) → HasRead f moment.reads f → CountsReads f moment f (command asked)) →
@@ -140,19 +147,20 @@ module _ (E : Type 0) (config : Config) (old : Machine) (entries : List Entry) (
   join-step moment is w = step-is config old moment (words.Join left right range) is w
 
   -- the pairs of the rows of two tables
-  pub join-executes : (l r : ℕ) (a b : Entry) (g : FlashState) (reads : ℕ) → SessionStands config entries f mounted notes old → IsReached entries mounted left l → slice_get entries l ≡ Some a → IsReached entries mounted right r → slice_get entries r ≡ Some b →
-      OnlyReads f g → HasRead f reads g →
-      ((first second : ℕ) (p q : Plan) (t u : model.Table) → IsTrue f.media.tells → f.is_on ≡ true → Stands a.table f first p t → Stands b.table f second q u →
+  pub join-executes : (l r : ℕ) (a b : Entry) (x y : Table 64 64) (g : FlashState) (reads : ℕ) → SessionStands config entries f mounted notes old → IsReached entries mounted left l → slice_get entries l ≡ Some a → IsReached entries mounted right r → slice_get entries r ≡ Some b →
+      x ≡ table_in a.table → y ≡ table_in b.table → OnlyReads f g → HasRead f reads g →
+      ((first second : ℕ) (p q : Plan) (t u : model.Table) → IsTrue f.media.tells → f.is_on ≡ true → Stands x f first p t → Stands y f second q u →
       Counted (pairs_at (record { place = l; plan = p; table = t }) (record { place = r; plan = q; table = u })) (scan_limit 64 p t range None range.low + scan_limit 64 q u range None range.low) 0
       told told_now f.media.faults g.media.faults f.work.reads g.work.reads result) →
       Executes config old (words.Join left right range) (SessionStands config entries g mounted notes) f g told told_now result
-  join-executes l r a b g reads h at_left left_there at_right right_there only counted lists =
+  join-executes l r a b x y g reads h at_left left_there at_right right_there x_is y_is only counted lists =
       let h' = subst (λ m. SessionStands config entries f m notes old) at_left.mounted_is h in
       let own = own-of config old entries f notes left l a h' left_there at_left.named in
       let other = own-of config old entries f notes right r b h' right_there at_right.named in
-      let s = lists (first_of config.plans l) (first_of config.plans r) own.plan other.plan own.table other.table h'.medium.told (h'.power refl) own.stands.on_flash other.stands.on_flash in
       let place : Located = record { place = l; plan = own.plan; table = own.table } in
       let beside : Located = record { place = r; plan = other.plan; table = other.table } in
+      let s = lists (first_of config.plans l) (first_of config.plans r) (bare own.plan) (bare other.plan) (bare_table own.table) (bare_table other.table) h'.medium.told (h'.power refl)
+      (stands-unlogged x a x_is own.stands) (stands-unlogged y b y_is other.stands) in
       let moment : Moment = record { command = words.Join left right range; rose = s.rose; reads = reads; last = None; replies = s.replies; after = old } in
       let step = join-step moment refl (table-step config old moment left (λ a. WithTable config old moment right (CountsPairs moment a)) place h'.is_mounted own.found
       (table-step config old moment right (CountsPairs moment place) beside h'.is_mounted other.found (refl, refl, s.lists))) in

@@ -1,15 +1,14 @@
 -- The states for which a medium stands are states between two runs.
-use Rattle.std.proofs.Common.{◌≡◌, ℕ, ◌+◌, ◌<◌, ◌≤◌, ◌⊎◌, true, inl, inr, IsTrue, Option, Some, None, List, [], ◌∷◌, length, map, refl, sym, ◌∙◌, ap, subst, arith}
+use Rattle.std.proofs.Common.{◌≡◌, ℕ, ◌+◌, ◌<◌, ◌≤◌, ◌⊎◌, inl, inr, IsTrue, Option, Some, List, [], ◌∷◌, length, map, refl, sym, ◌∙◌, ap, subst, arith}
 use Rattle.std.specs.List.{AllByRecursion}
-use Rattle.std.specs.Prelude.{IfSome, MatchOption, is_some, option_map}
+use Rattle.std.specs.Prelude.{IfSome, MatchOption, option_map}
 use Rattle.std.specs.List.{slice_get}
 use Rattle.std.proofs.lemmas.Bool.{cases_lt}
 use Rattle.std.proofs.lemmas.List.{length-map}
 use Rattle.std.proofs.lemmas.Option.{slice_get-map, slice_get_past}
 use Rattle.fl_model.specs.Record.{Plan, Config, has_log}
-use Rattle.fl_model.specs.Ring.{Ring}
 use Rattle.fl_model.specs.Table.{Table, fresh_table, lose}
-use Rattle.fl_model.specs.Facts.{IsSettled, is_some_ring}
+use Rattle.fl_model.specs.Facts.{IsSettled}
 use Rattle.fl_model.specs.Image.{AreTableImages}
 use Rattle.fl_model.proofs.Fresh.{new-stand}
 use Rattle.fl_model.proofs.Lists.{slice_get-some}
@@ -18,6 +17,7 @@ use Rattle.fl_machine.specs.Machine.{Machine, begins, fresh_tables}
 use Rattle.fl_machine.specs.Found.{IsAtRest, IsLoggedAtRest, RestsAt}
 use Rattle.fl_machine.specs.OpenCursors.{AreWithin}
 use Rattle.fl_machine.proofs.OpenCursors.{none-within}
+use Rattle.fl_machine.proofs.Steps.{rests-settled, rests-logged}
 use Rattle.fl_machine.specs.Script.{Start, Ready, StandsFor, StandsAfter}
 use Rattle.fl_machine.proofs.Accepted.{IsAccepted, StartIsAccepted}
 use Rattle.fl_tables.proofs.TablesChanged.{some-is}
@@ -28,26 +28,11 @@ fresh-rest : (plans : List Plan) → AllByRecursion IsAtRest (map fresh_table pl
 fresh-rest [] = tt
 fresh-rest (plan ∷ plans) = (record { pending = refl; numbered = omega arith }, fresh-rest plans)
 
-settled-rest : (plan : Plan) (table : Table) → IsSettled plan table → IsAtRest table
-settled-rest plan table h = record { pending = ap (λ (t : Table). t.pending) h.lost; numbered = h.facts.rows.not_negative }
-
 images-rest : (config : Config) (bytes : List ℕ) (place : ℕ) (plans : List Plan) (tables : List Table) → AreTableImages config bytes place plans tables → AllByRecursion IsAtRest tables
 images-rest config bytes place [] [] h = tt
 images-rest config bytes place [] (table ∷ tables) h = absurd h
 images-rest config bytes place (plan ∷ plans) [] h = absurd h
-images-rest config bytes place (plan ∷ plans) (table ∷ tables) h = (settled-rest plan table h.0.settled, images-rest config bytes (place + 1) plans tables h.1)
-
--- where a table has a log, its records rest too
-settled-logged : (plan : Plan) (table : Table) → IsSettled plan table → IsTrue (has_log plan) → IsLoggedAtRest table
-settled-logged plan table h logged = record {
-  counted = omega (arith, h.facts.counted, ap (λ (t : Table). t.pending) h.lost);
-  has_log = by_log table.log (h.facts.has_rings.2 ∙ logged);
-  logged = h.facts.logged;
-}
-  where
-    by_log : (o : Option Ring) → is_some_ring o ≡ true → is_some o ≡ true
-    by_log None e = cc
-    by_log (Some ring) e = refl
+images-rest config bytes place (plan ∷ plans) (table ∷ tables) h = (rests-settled plan table h.0.settled, images-rest config bytes (place + 1) plans tables h.1)
 
 -- each table is settled by its plan
 abbrev AreSettled : List Plan → List Table → Type 0
@@ -62,7 +47,7 @@ settled-rests config tables h place = by_place (cases_lt place (length config.pl
         let plan = slice_get-some config.plans place lt in
         let table = slice_get-some tables place (omega (arith, lt, h.0)) in
         subst (λ (o : Option Plan). IfSome o (λ plan. IsTrue (has_log plan) → MatchOption (slice_get tables place) ⊥ IsLoggedAtRest)) (sym plan.1)
-        (λ logged. subst (λ (o : Option Table). MatchOption o ⊥ IsLoggedAtRest) (sym table.1) (settled-logged plan.0 table.0 (h.1 place plan.0 table.0 plan.1 table.1) logged))
+        (λ logged. subst (λ (o : Option Table). MatchOption o ⊥ IsLoggedAtRest) (sym table.1) (rests-logged plan.0 table.0 logged (h.1 place plan.0 table.0 plan.1 table.1)))
     by_place (inr ge) = subst (λ (o : Option Plan). IfSome o (λ plan. IsTrue (has_log plan) → MatchOption (slice_get tables place) ⊥ IsLoggedAtRest)) (sym (slice_get_past config.plans place ge)) tt
 
 fresh-settled : (plans : List Plan) → AreSettled plans (map fresh_table plans)

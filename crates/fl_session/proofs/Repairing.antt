@@ -1,5 +1,5 @@
 -- The pages of a medium after a mount of its tables.
-use Rattle.std.proofs.Common.{◌≡◌, ℕ, zero, suc, ◌+◌, ◌-◌, ◌*◌, ◌<◌, ◌≤◌, Bool, true, false, inl, inr, List, [], ◌∷◌, ◌++◌, length, take, drop, length-drop, sum_by, refl, sym, ◌∙◌, ap, subst, arith}
+use Rattle.std.proofs.Common.{◌≡◌, ◌⊎◌, ℕ, zero, suc, ◌+◌, ◌-◌, ◌*◌, ◌<◌, ◌≤◌, Bool, true, false, inl, inr, List, [], ◌∷◌, ◌++◌, length, take, drop, length-drop, sum_by, refl, sym, ◌∙◌, ap, subst, arith}
 use Rattle.std.specs.Prelude.{MatchBool, replicate}
 use Rattle.std.specs.Int.Bits.{and_zero_r}
 use Rattle.std.proofs.lemmas.List.{drop_all, length-take-le}
@@ -11,7 +11,7 @@ use Rattle.fl_model.specs.Layout.{is_blank}
 use Rattle.fl_model.specs.Record.{Config, Plan, blocks_of}
 use Rattle.fl_model.specs.Table as model
 use Rattle.fl_model.proofs.Lists.{slice_get-some}
-use Rattle.fl_machine.specs.Stays.{IsRepaired, PagesAreRepaired}
+use Rattle.fl_machine.specs.Stays.{IsRepaired, IsReplayed, PagesAreRepaired}
 use Rattle.fl_ring.proofs.Lengths.{page_length}
 use Rattle.fl_table.proofs.Images.{pages-medium}
 use Rattle.fl_tables.specs.Repaired as repaired
@@ -43,27 +43,40 @@ served-by (plan ∷ plans) entries tables f mounted page h within =
     let entry = slice_get-some entries 0 (omega (arith, h.as_many)) in
     let table = slice_get-some tables 0 (omega (arith, h.all)) in
     let s = h.each 0 plan entry.0 table.0 refl entry.1 table.1 in
-    omega (arith, entry.0.table.served.page_least, ap (λ (g : Geometry). g.page) (sym s.planned.geometry ∙ s.geometry))
+    omega (arith, entry.0.table.table.served.page_least, ap (λ (g : Geometry). g.page) (sym s.planned.table.geometry ∙ s.geometry))
 
--- the repairs of a flash's pages, as those of its medium
+-- what a mount leaves of a flash's pages, as of those of its medium
 pub pages-repaired : (config : Config) (entries : List Entry) (tables : List model.Table) (f g : FlashState) (mounted : ℕ → Bool) → IsOnMedium config f → IsOnMedium config g → TablesStand f mounted config.plans entries tables →
-    ((page : ℕ) → page < sum_by blocks_of config.plans * f.geometry.block → repaired.IsRepaired f.geometry.page (page_at f page) (page_at g page)) → PagesAreRepaired config f.media.content g.media.content
+    ((page : ℕ) → page < sum_by blocks_of config.plans * f.geometry.block → repaired.IsLeft config.plans f.geometry page (page_at f page) (page_at g page)) → PagesAreRepaired config f.media.content g.media.content
 pages-repaired config entries tables f g mounted h k stand each page within =
-    let blocks = sum_by blocks_of config.plans in
-    let inside : page < blocks * f.geometry.block = subst (λ (x : Geometry). page < blocks * x.block) (sym h.geometry) within in
-    let least = served-by config.plans entries tables f mounted page stand inside in
-    let reaches : f.start + blocks * f.geometry.block * f.geometry.page ≤ length f.media.content = omega (arith, h.start, h.len, ap (λ (x : Geometry). blocks * x.block * x.page) h.geometry) in
-    let len : length (page_at f page) ≡ f.geometry.page = page_length (record f { blocks = blocks }) page reaches inside in
-    let size : f.geometry.page ≡ config.geometry.page = ap (λ (x : Geometry). x.page) h.geometry in
-    let now : repaired.IsRepaired config.geometry.page (page_at f page) (page_at g page) = subst (λ n. repaired.IsRepaired n (page_at f page) (page_at g page)) size (each page inside) in
-    inl
-    (subst (λ (old : ℕ → List ℕ). IsRepaired config (old page) (page_bytes config g.media.content page)) (sym (pages-medium config f h.start h.geometry))
-    (subst (λ (new : ℕ → List ℕ). IsRepaired config (page_at f page) (new page)) (sym (pages-medium config g k.start k.geometry)) (by-repair (page_at f page) (page_at g page) (len ∙ size) (omega (arith, least, size)) now)))
+    subst (λ (old : ℕ → List ℕ). IsRepaired config (old page) (page_bytes config g.media.content page) ⊎ IsReplayed config page (old page)) (sym (pages-medium config f h.start h.geometry))
+    (subst (λ (new : ℕ → List ℕ). IsRepaired config (page_at f page) (new page) ⊎ IsReplayed config page (page_at f page)) (sym (pages-medium config g k.start k.geometry))
+    (as-left (subst (λ (x : Geometry). repaired.IsLeft config.plans x page (page_at f page) (page_at g page)) h.geometry (each page inside))))
   where
-    by-repair : (old new : List ℕ) → length old ≡ config.geometry.page → 8 ≤ config.geometry.page → repaired.IsRepaired config.geometry.page old new → IsRepaired config old new
-    by-repair old new len least (inl same) = inl same
-    by-repair old new len least (inr (inl void)) = inr (inl ((model_state old (omega (arith, len, least))).torn.0 void.0, void.1 ∙ marked old config.geometry.page len (omega (arith, least))))
-    by-repair old new len least (inr (inr erased)) = inr (inr (ap is_blank erased ∙ blank-is config.geometry.page))
+    blocks : ℕ
+    blocks = sum_by blocks_of config.plans
+
+    inside : page < blocks * f.geometry.block
+    inside = subst (λ (x : Geometry). page < blocks * x.block) (sym h.geometry) within
+
+    size : f.geometry.page ≡ config.geometry.page
+    size = ap (λ (x : Geometry). x.page) h.geometry
+
+    least : 64 ≤ config.geometry.page
+    least = omega (arith, size, served-by config.plans entries tables f mounted page stand inside)
+
+    reaches : f.start + blocks * f.geometry.block * f.geometry.page ≤ length f.media.content
+    reaches = omega (arith, h.start, h.len, ap (λ (x : Geometry). blocks * x.block * x.page) h.geometry)
+
+    len : length (page_at f page) ≡ config.geometry.page
+    len = page_length (record f { blocks = blocks }) page reaches inside ∙ size
+
+    as-left : repaired.IsLeft config.plans config.geometry page (page_at f page) (page_at g page) → IsRepaired config (page_at f page) (page_at g page) ⊎ IsReplayed config page (page_at f page)
+    as-left (inl (inl same)) = inl (inl same)
+    as-left (inl (inr (inl void))) = inl (inr (inl ((model_state (page_at f page) (omega (arith, len, least))).torn.0 void.0, void.1 ∙ marked (page_at f page) config.geometry.page len (omega (arith, least)))))
+    as-left (inl (inr (inr erased))) = inl (inr (inr (ap is_blank erased ∙ blank-is config.geometry.page)))
+    as-left (inr filled) =
+        inr (record { place = filled.place; plan = filled.plan; is = filled.is; logged = filled.logged; from = filled.from; below = filled.below; blank = ap is_blank filled.blank ∙ blank-is config.geometry.page })
 
 -- a mount where nothing is mounted
 pub mount-stays : (config : Config) (mounted : Bool) (bytes now : List ℕ) → mounted ≡ false → PagesAreRepaired config bytes now → MatchBool mounted (now ≡ bytes) (PagesAreRepaired config bytes now)

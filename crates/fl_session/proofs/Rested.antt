@@ -12,7 +12,7 @@ use Rattle.fl_model.specs.Record.{Plan, Config, has_log}
 use Rattle.fl_model.specs.Ring.{fresh}
 use Rattle.fl_model.specs.Table.{Table, RingName, LogRing, shape_of, fresh_table, lose}
 use Rattle.fl_model.specs.Layout.{is_blank}
-use Rattle.fl_model.specs.Image.{medium_len, bytes_at, HoldsLogged, IsRingImage, IsTableImage, AreTableImages}
+use Rattle.fl_model.specs.Image.{medium_len, HoldsLogged, IsRingImage, IsTableImage, AreTableImages}
 use Rattle.fl_model.proofs.Lists.{slice_get-some}
 use Rattle.fl_words.specs.Config.{Lines}
 use Rattle.fl_words.specs.Medium.{header, IsImage}
@@ -27,13 +27,14 @@ use Rattle.fl_tables.specs.Tables.{first_of, AreNewTables, EntryStands, TablesSt
 use Rattle.fl_tables.specs.declared.tables.Entry.{Entry}
 use Rattle.fl_session.specs.Ends.{IsOwn, IsFormed, new_content, opened}
 use Rattle.fl_session.specs.Opening.{Opened}
-use Rattle.fl_table.specs.Memory.{IsPlanned}
-use Rattle.fl_table.specs.Pages.{HoldsTable, Rests, place_in}
+use Rattle.fl_table.specs.Pages.{bytes_in, place_in}
+use Rattle.fl_rlc.specs.Table.{IsPlanned}
 use Rattle.fl_session.specs.Cost.{cost_of}
 use Rattle.fl_session.specs.Notes.{no_notes}
 use Rattle.fl_session.specs.declared.notes.Notes.{Notes}
 use Rattle.fl_session.specs.Standing.{SessionStands, RestsOn}
-use Rattle.fl_table.proofs.Images.{image-rests, rests-image, blank-rests, pages-medium}
+use Rattle.fl_table.proofs.Images.{blank-rests}
+use Rattle.fl_rlc.proofs.Images.{image-rests, rests-image}
 
 -- the images of tables, each at its place
 images-of : (config : Config) (content : List ℕ) (place : ℕ) (plans : List Plan) (tables : List Table) → length tables ≡ length plans →
@@ -82,39 +83,24 @@ blank-part head n at end h =
     ap (λ m. drop m (head ++ replicate n 255)) at_is ∙ (drop-append-add head (replicate n 255) k ∙ drop-replicate k n 255) in
     ap (λ l. is_blank (take (end - at) l)) cut ∙ blank-take (end - at) (n - k)
 
--- the log of an image, where its table has one
-abbrev IsLogImage : Config → List ℕ → ℕ → Plan → Table → Type 0
-IsLogImage config content place plan table = IfSome table.log (λ ring. IsRingImage (shape_of plan LogRing) ring (bytes_at config content place plan LogRing) (HoldsLogged plan table ring))
-
--- a table that rests on a flash, on whose medium its log stands
-logged-image : (config : Config) (place : ℕ) (plan : Plan) (table : Table) (f : FlashState) → f.start ≡ 1024 → f.geometry ≡ config.geometry → IsLogImage config f.media.content place plan table →
-    Rests f (first_of config.plans place) plan table → IsTableImage config f.media.content place plan table
-logged-image config place plan table f start geometry log h =
-    let k = subst (λ (page : ℕ → List ℕ). HoldsTable page (first_of config.plans place) plan table) (sym (pages-medium config f start geometry)) h.pages in
-    record { settled = h.settled; rows = k.rows; index = k.index; var = k.var; log = log }
-
--- an empty one on blank pages
-blank-log : (config : Config) (place : ℕ) (plan : Plan) (f : FlashState) → f.start ≡ 1024 → f.geometry ≡ config.geometry → ((n : ℕ) → is_blank (page_at f (place_in (first_of config.plans place) plan LogRing n)) ≡ true) →
-    IsLogImage config f.media.content place plan (fresh_table plan)
-blank-log config place plan f start geometry blank = by-log (has_log plan)
+-- the log of an empty table on blank pages
+blank-log : (plan : Plan) (at : ℕ → List ℕ) → ((n : ℕ) → is_blank (at n) ≡ true) → IfSome (fresh_table plan).log (λ ring. IsRingImage (shape_of plan LogRing) ring at (HoldsLogged plan (fresh_table plan) ring))
+blank-log plan at blank = by-log (has_log plan)
   where
-    at : (n : ℕ) → is_blank (bytes_at config f.media.content place plan LogRing n) ≡ true
-    at = subst (λ (page : ℕ → List ℕ). (n : ℕ) → is_blank (page (place_in (first_of config.plans place) plan LogRing n)) ≡ true) (sym (pages-medium config f start geometry)) blank
-
     no : false ≡ true → ⊥
     no e = cc
 
     nothing : {n : ℕ} → None ≡ Some n → ⊥
     nothing e = cc
 
-    by-log : (b : Bool) → IfSome (cond b (Some fresh) None) (λ ring. IsRingImage (shape_of plan LogRing) ring (bytes_at config f.media.content place plan LogRing) (HoldsLogged plan (fresh_table plan) ring))
+    by-log : (b : Bool) → IfSome (cond b (Some fresh) None) (λ ring. IsRingImage (shape_of plan LogRing) ring at (HoldsLogged plan (fresh_table plan) ring))
     by-log true = record {
       void = λ i e. absurd (nothing e);
       kept = λ i count e some. absurd (nothing e);
-      blank_next = λ e. at 0;
+      blank_next = λ e. blank 0;
       torn_next = λ e. absurd (no e);
       dirty = λ e. absurd (no e);
-      others = λ k some few clear. at (0 + k);
+      others = λ k some few clear. blank (0 + k);
     }
     by-log false = tt
 
@@ -144,7 +130,9 @@ new-rests config old new f start geometry content room h e = record {
         let blank : (ring : RingName) (n : ℕ) → is_blank (page_at f (place_in first plan ring n)) ≡ true =
         λ ring n. ap (λ c. is_blank (slice_range c (f.start + place_in first plan ring n * f.geometry.page) (f.start + place_in first plan ring n * f.geometry.page + f.geometry.page))) (content ∙ e)
         ∙ blank-part (header config) (medium_len config - 1024) (f.start + place_in first plan ring n * f.geometry.page) (f.start + place_in first plan ring n * f.geometry.page + f.geometry.page) (omega (arith, size, start)) in
-        subst (λ c. IsTableImage config c i plan (fresh_table plan)) content (logged-image config i plan (fresh_table plan) f start geometry (blank-log config i plan f start geometry (blank LogRing)) (blank-rests f first plan blank))
+        let rests = blank-rests f first plan blank in
+        subst (λ c. IsTableImage config c i plan (fresh_table plan)) content
+        (rests-image config i plan (fresh_table plan) f start geometry (record { settled = rests.settled; pages = rests.pages; log = blank-log plan (bytes_in (page_at f) first plan LogRing) (blank LogRing) }))
 
 -- .. and holds what it had, or is new
 pub opened-content : (config : Config) (old new : MediaState) → IsTrue old.tells → Opened config old new → new.content ≡ opened config old.content
@@ -219,7 +207,7 @@ session-ends config entries notes f mounted m h =
       tables_are = images-of config f.media.content 0 config.plans (map lose m.tables) off.all (λ i plan table p r.
           let entry = slice_get-some entries i (omega (arith, slice_get_within config.plans i plan p, off.as_many)) in
           subst (λ n. IsTableImage config f.media.content n plan table) (let m : i ≡ 0 + i = omega arith in m)
-          (let own = off.each i plan entry.0 table p entry.1 r in rests-image config i plan table f own.planned.log h.medium.start h.medium.geometry own.on_flash));
+          (rests-image config i plan table f h.medium.start h.medium.geometry (off.each i plan entry.0 table p entry.1 r).on_flash));
     }
 
 -- a command that leaves its content as it is

@@ -23,6 +23,8 @@ use Rattle.fl_machine.specs.Step.{Moment, Step, Located, located, no_column}
 use Rattle.fl_machine.specs.Run.{Run, end_of, commands_of, written_by, risen_in}
 use Rattle.fl_machine.specs.Script.{Ran, RanInto, RoseBy}
 use Rattle.fl_machine.proofs.Stays.{stays-more}
+use Rattle.fl_machine.specs.Keeping.{KeepsPuts, KeepsPutsAt, standing, sure_at}
+use Rattle.fl_machine.proofs.KeptPuts.{keeps-puts}
 use Rattle.fl_machine.proofs.Steps.{finds}
 use Rattle.fl_session.specs.Cost.{CountsReads, ReadsGet, ReadsScan, ReadsAsStated}
 use Rattle.fl_session.specs.Execute.{Executes, IsAlike, IsReady, StandsAlike}
@@ -192,6 +194,14 @@ finds-none config place old = by_plan (slice_get config.plans place)
     by_plan None = tt
     by_plan (Some plan) = by_log (has_log plan)
 
+-- .. and so none to which anything could be lost
+keeps-none : (config : Config) (place : ℕ) (old : Machine) → KeepsPutsAt config place old []
+keeps-none config place old = by_plan (slice_get config.plans place)
+  where
+    by_plan : (o : Option Plan) → IfSome o (λ plan. IsTrue (has_log plan) → KeepsPuts place (standing (sure_at place old.tables)) old [])
+    by_plan None = tt
+    by_plan (Some plan) = λ logged. tt
+
 -- before any command
 pub ran-none : (config : Config) (old : Machine) (stands : Machine → Type 0) (content : List ℕ) (faults : ℕ) (told : Option (List ℕ)) → stands old → Ran config old [] stands content content faults faults told told
 ran-none config old stands content faults told h = record {
@@ -203,6 +213,7 @@ ran-none config old stands content faults told h = record {
   stays = refl;
   rose = inl (omega arith);
   found = λ place. finds-none config place old;
+  kept = λ place. keeps-none config place old;
   told_all = nothing-added told;
 }
 
@@ -244,6 +255,7 @@ ran-more {E} config old commands command stands stands_now content faults mid no
         stays = stays-more config old h.moments e.moment content mid.media.content now.media.content h.stays e.stays;
         rose = rw risen-more (rose-more (risen_in h.moments) faults mid.media.faults now.media.faults e.moment.rose h.rose later e.rose);
         found = λ place. finds config old (h.moments ++ e.moment ∷ []) place ready.room ready.off ready.rest (ready.logs place) run;
+        kept = λ place. keeps-puts config old (h.moments ++ e.moment ∷ []) place ready.room ready.off ready.rest (ready.logs place) run;
         told_all = rw written-more (appends-more told told_mid told_now (written_by h.moments) (texts e.moment.replies) h.told_all e.told_all);
       },
       omega (arith, reads-more h.moments e.moment, counted, more),
@@ -278,6 +290,7 @@ ran-into config old commands command stands stands_now content faults mid now to
       stays = stays-more config old h.moments e.moment content mid.media.content now.media.content h.stays e.stays;
       rose = rw risen-more (rose-more (risen_in h.moments) faults mid.media.faults now.media.faults e.moment.rose h.rose later e.rose);
       found = λ place. finds config old (h.moments ++ e.moment ∷ []) place ready.room ready.off ready.rest (ready.logs place) run;
+      kept = λ place. keeps-puts config old (h.moments ++ e.moment ∷ []) place ready.room ready.off ready.rest (ready.logs place) run;
       before = h.moments;
       last = e.moment;
       split = refl;
@@ -299,6 +312,7 @@ ran-seen config old commands stands stands_now content content_now faults now to
   stays = h.stays;
   rose = h.rose;
   found = h.found;
+  kept = h.kept;
   told_all = h.told_all;
 }
 
@@ -314,6 +328,7 @@ ran_into-seen config old commands stands stands_now content content_now faults n
   stays = h.stays;
   rose = h.rose;
   found = h.found;
+  kept = h.kept;
   before = h.before;
   last = h.last;
   split = h.split;

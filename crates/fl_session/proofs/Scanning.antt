@@ -4,6 +4,7 @@ use Rattle.std.specs.List.{slice_get}
 use Rattle.fl_base.specs.declared.types.KeyRange.{KeyRange}
 use Rattle.fl_base.specs.declared.types.Span.{Span}
 use Rattle.fl_flash.specs.Flash.{FlashState}
+use Rattle.fl_model.specs.Bare.{bare, bare_table}
 use Rattle.fl_model.specs.Limits.{scan_limit}
 use Rattle.fl_model.specs.Record.{Config, Plan}
 use Rattle.fl_model.specs.Table as model
@@ -11,10 +12,12 @@ use Rattle.fl_page.specs.Contents.{OnlyReads}
 use Rattle.fl_words.specs.Command as command
 use Rattle.fl_machine.specs.Machine.{Machine, OfScan}
 use Rattle.fl_machine.specs.Step.{Moment, Located, ScanStep}
+use Rattle.fl_rlc.specs.Table.{table_in}
 use Rattle.fl_script.specs.ReplyView.{reply_text}
 use Rattle.fl_script.specs.Written.{Written}
 use Rattle.fl_script.specs.declared.reply.Reply as code
 use Rattle.fl_table.specs.Standing.{Stands}
+use Rattle.fl_table.specs.declared.table.Table.{Table}
 use Rattle.fl_tables.specs.declared.tables.Entry.{Entry}
 use Rattle.fl_tables.specs.Tables.{first_of}
 use Rattle.fl_session.specs.Answer.{Refusal, IsReached}
@@ -30,16 +33,18 @@ use Rattle.fl_session.proofs.Costing.{read-none}
 use Rattle.fl_session.proofs.Getting.{session-read, on-table, off-table}
 use Rattle.fl_session.proofs.Refusing.{answers-refused}
 use Rattle.fl_session.proofs.Scanned.{on-ok-weaker}
+use Rattle.fl_session.proofs.Tables.{stands-unlogged}
+use Rattle.fl_session.proofs.Unlogged.{scans-unlogged}
 
 -- a scan that is executed
-pub scan-executes : (E : Type 0) (config : Config) (old : Machine) (entries : List Entry) (at : ℕ) (entry : Entry) (asked : List ℕ) (notes : Notes) (f g : FlashState) (reads : ℕ) (mounted : Bool) (range : KeyRange) (span : Option Span) (told told_now : Option (List ℕ)) (result : Result (Unit {0}) E) →
-    SessionStands config entries f mounted notes old → IsReached entries mounted asked at → slice_get entries at ≡ Some entry → OnlyReads f g → HasRead f reads g → reads ≡ g.work.reads - f.work.reads →
-    ((first : ℕ) (plan : Plan) (table : model.Table) → IsTrue f.media.tells → f.is_on ≡ true → Stands entry.table f first plan table → Scans plan table range span told told_now f.media.faults g.media.faults f.work.reads g.work.reads result) →
+pub scan-executes : (E : Type 0) (config : Config) (old : Machine) (entries : List Entry) (at : ℕ) (entry : Entry) (t : Table 64 64) (asked : List ℕ) (notes : Notes) (f g : FlashState) (reads : ℕ) (mounted : Bool) (range : KeyRange) (span : Option Span) (told told_now : Option (List ℕ)) (result : Result (Unit {0}) E) →
+    SessionStands config entries f mounted notes old → IsReached entries mounted asked at → slice_get entries at ≡ Some entry → t ≡ table_in entry.table → OnlyReads f g → HasRead f reads g → reads ≡ g.work.reads - f.work.reads →
+    ((first : ℕ) (plan : Plan) (table : model.Table) → IsTrue f.media.tells → f.is_on ≡ true → Stands t f first plan table → Scans plan table range span told told_now f.media.faults g.media.faults f.work.reads g.work.reads result) →
     Executes config old (command.Scan asked range span) (SessionStands config entries g mounted (record notes { cost = code_cost.OfScan reads })) f g told told_now result
-scan-executes E config old entries at entry asked notes f g reads mounted range span told told_now result h r here only counted reads_are scans =
+scan-executes E config old entries at entry t asked notes f g reads mounted range span told told_now result h r here table_is only counted reads_are scans =
     let h' = subst (λ m. SessionStands config entries f m notes old) r.mounted_is h in
     let own = own-of config old entries f notes asked at entry h' here r.named in
-    let s = scans (first_of config.plans at) own.plan own.table h'.medium.told (h'.power refl) own.stands.on_flash in
+    let s = scans-unlogged own.plan own.table (scans (first_of config.plans at) (bare own.plan) (bare_table own.table) h'.medium.told (h'.power refl) (stands-unlogged t entry table_is own.stands)) in
     let moment : Moment = record { command = command.Scan asked range span; rose = s.rose; reads = reads; last = None; replies = s.replies; after = record old { cost = OfScan reads } } in
     let place : Located = record { place = at; plan = own.plan; table = own.table } in
     let stated : ReadsScan config moment range span g result place = record {

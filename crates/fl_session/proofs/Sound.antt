@@ -8,8 +8,8 @@ use Rattle.std.proofs.lemmas.List.{length-set}
 use Rattle.fl_base.specs.declared.types.Geometry.{Geometry}
 use Rattle.fl_flash.specs.Flash.{FlashState, Goes}
 use Rattle.fl_flash.specs.declared.armed.Armed.{Armed}
-use Rattle.fl_table.specs.Memory.{LiesOn, is_running}
-use Rattle.fl_table.specs.declared.table.Table.{Table}
+use Rattle.fl_rlc.specs.Table.{LiesOn, is_running}
+use Rattle.fl_rlc.specs.declared.table.LoggedTable.{LoggedTable}
 use Rattle.fl_tables.specs.Tables.{entries_with}
 use Rattle.fl_tables.specs.declared.tables.Entry.{Entry}
 use Rattle.fl_tables.proofs.Going.{goes-set}
@@ -21,7 +21,7 @@ use Rattle.fl_session.specs.declared.notes.Notes.{Notes}
 use Rattle.fl_session.specs.declared.notes.TableCursor.{TableCursor}
 
 -- a session after a call of one of its tables
-pub sound-with : (entries : List Entry) (at : ℕ) (entry : Entry) (u : Table 64 64) (f g : FlashState) (buf : Buffers) (mounted now : Bool) (notes : Notes) → slice_get entries at ≡ Some entry → Goes f g → LiesOn u g → mounted ≡ true → (now ≡ true → is_running u ≡ true) →
+pub sound-with : (entries : List Entry) (at : ℕ) (entry : Entry) (u : LoggedTable 64 64) (f g : FlashState) (buf : Buffers) (mounted now : Bool) (notes : Notes) → slice_get entries at ≡ Some entry → Goes f g → LiesOn u g → mounted ≡ true → (now ≡ true → is_running u ≡ true) →
     IsSound entries f buf mounted notes → IsSound (entries_with entries at entry u) g buf now notes
 sound-with entries at entry u f g buf mounted now notes here goes own on running s = record {
   lie = lie-with entries at entry u f g here goes s.lie own;

@@ -1,10 +1,9 @@
 -- The commands of a session, each by its step.
-use Rattle.std.proofs.Common.{◌≡◌, ℕ, ◌≤◌, Bool, true, false, Option, Some, None, Ok, List, [], ◌∷◌, refl, sym, ap, subst, arith}
+use Rattle.std.proofs.Common.{◌≡◌, ℕ, ◌≤◌, Bool, false, Option, Some, None, Ok, List, [], ◌∷◌, map, refl, sym, ap, subst, arith}
 use Rattle.fl_base.specs.declared.types.CutKind.{CutKind}
 use Rattle.fl_flash.specs.declared.tear.Tear.TheVariants.{Kind}
 use Rattle.fl_flash.specs.Flash.{FlashState}
-use Rattle.fl_model.specs.Record.{Config, Plan}
-use Rattle.fl_model.specs.Table as model
+use Rattle.fl_model.specs.Record.{Config}
 use Rattle.fl_model.specs.Table.{lose}
 use Rattle.fl_words.specs.Command as command
 use Rattle.fl_words.specs.Command.{Command}
@@ -14,10 +13,9 @@ use Rattle.fl_machine.specs.Machine.{Machine, stopped}
 use Rattle.fl_script.specs.Written.{Written}
 use Rattle.fl_script.specs.declared.command.Command as code
 use Rattle.fl_script.specs.CommandView.{command_view}
-use Rattle.fl_tables.specs.Tables.{first_of, EntryStands}
+use Rattle.fl_tables.specs.Tables.{first_of}
 use Rattle.fl_tables.specs.declared.tables.Entry.{Entry}
-use Rattle.fl_table.proofs.Apart.{stands-pages}
-use Rattle.fl_tables.proofs.TablesChanged.{entry-off, tables-still, tables-become}
+use Rattle.fl_tables.proofs.TablesChanged.{entry-off, tables-become}
 use Rattle.fl_session.specs.Answer.{Answers}
 use Rattle.fl_session.specs.Runnable.{IsRunnable}
 use Rattle.fl_session.specs.Execute.{Executes}
@@ -27,6 +25,7 @@ use Rattle.fl_session.proofs.Answering.{answers-saying, saying, says}
 use Rattle.fl_session.proofs.Executing.{executes-by}
 use Rattle.fl_session.proofs.Rested.{stays-still}
 use Rattle.fl_session.proofs.Running.{nothing-added}
+use Rattle.fl_session.proofs.Tables.{tables-kept}
 
 -- nothing is done
 pub executes-nothing : (E : Type 0) (config : Config) (old : Machine) (c : Command) (entries : List Entry) (notes : Notes) (f : FlashState) (mounted : Bool) (told : Option (List ℕ)) → c ≡ command.Nothing → SessionStands config entries f mounted notes old →
@@ -38,15 +37,12 @@ executes-nothing E config old c entries notes f mounted told e s =
     (executes-by E config old command.Nothing (SessionStands config entries f mounted notes) f f told told (Ok tt) moment refl (record { replies_are = refl; after_is = refl; last_is = refl }) s
     (stays-still config old moment entries notes f f mounted s refl) (refl, omega arith) tt (λ t. cc) w)
 
-entry-dark : (entry : Entry) (f : FlashState) (first : ℕ) (plan : Plan) (table : model.Table) → EntryStands entry f false first plan table → EntryStands entry (record f { is_on = false }) false first plan table
-entry-dark entry f first plan table h = record { named = h.named; geometry = h.geometry; planned = h.planned; on_flash = record { settled = h.on_flash.settled; pages = h.on_flash.pages } }
-
 stands-off : (config : Config) (old : Machine) (entries : List Entry) (notes : Notes) (f : FlashState) (mounted : Bool) → SessionStands config entries f mounted notes old → SessionStands config entries (record f { is_on = false }) false notes (stopped old)
 stands-off config old entries notes f mounted h = record {
   knots = h.knots;
   medium = record { told = h.medium.told; len = h.medium.len; head = h.medium.head; start = h.medium.start; geometry = h.medium.geometry };
-  tables = tables-become f (record f { is_on = false }) (λ i. mounted) (λ i. false) config.plans entries old.tables lose h.tables
-      (λ i plan e x k. entry-dark e f (first_of config.plans i) plan (lose x) (entry-off e f mounted (first_of config.plans i) plan x k));
+  tables = tables-kept f (record f { is_on = false }) refl refl (λ i. false) config.plans entries (map lose old.tables)
+      (tables-become f f (λ i. mounted) (λ i. false) config.plans entries old.tables lose h.tables (λ i plan e x k. entry-off e f mounted (first_of config.plans i) plan x k));
   is_mounted = refl;
   cursors = refl;
   device = record { armed = h.device.armed; programs = h.device.programs; erases = h.device.erases };
@@ -60,13 +56,6 @@ answers-off config old entries notes f g mounted is h =
     answers-saying config old command.Off reply.Done (stopped old) entries notes f g false (ap (λ (x : FlashState). x.media.content) is) (says command.Off (reply.Done ∷ []) (stopped old))
     (subst (λ x. SessionStands config entries x false notes (stopped old)) (sym is) (stands-off config old entries notes f mounted h))
 
-entry-cut : (entry : Entry) (f : FlashState) (mounted : Bool) (first : ℕ) (plan : Plan) (table : model.Table) (n : ℕ) (kind : CutKind) → EntryStands entry f mounted first plan table →
-    EntryStands entry (record f { armed = Some (record { left = n; tear = Kind kind }) }) mounted first plan table
-entry-cut entry f true first plan table n kind h =
-    record { named = h.named; geometry = h.geometry; planned = h.planned; on_flash = stands-pages f (record f { armed = Some (record { left = n; tear = Kind kind }) }) refl entry.table first plan table h.on_flash }
-entry-cut entry f false first plan table n kind h =
-    record { named = h.named; geometry = h.geometry; planned = h.planned; on_flash = record { settled = h.on_flash.settled; pages = h.on_flash.pages } }
-
 -- a cut is armed
 abbrev cut_to_come : Machine → ℕ → CutKind → Machine
 cut_to_come old n kind = record old { device = record old.device { armed = Some (n, kind) } }
@@ -76,8 +65,7 @@ stands-cut : (config : Config) (old : Machine) (entries : List Entry) (notes : N
 stands-cut config old entries notes f mounted n kind counted h = record {
   knots = h.knots;
   medium = record { told = h.medium.told; len = h.medium.len; head = h.medium.head; start = h.medium.start; geometry = h.medium.geometry };
-  tables = tables-still f (record f { armed = Some (record { left = n; tear = Kind kind }) }) (λ i. mounted) config.plans entries old.tables h.tables
-      (λ i plan e x k. entry-cut e f mounted (first_of config.plans i) plan x n kind k);
+  tables = tables-kept f (record f { armed = Some (record { left = n; tear = Kind kind }) }) refl refl (λ i. mounted) config.plans entries old.tables h.tables;
   is_mounted = h.is_mounted;
   cursors = h.cursors;
   device = record { armed = (kind, refl, counted, refl); programs = h.device.programs; erases = h.device.erases };
@@ -119,8 +107,8 @@ default-view (code.TheVariants.Device page block) room r m n k p f s t l o u v w
   where
     none : None ≡ Some (command.Device page block) → ⊥
     none e = cc
-default-view (code.TheVariants.Table name key rows index var bits base width error blob full) room r m n k p f s t l o u v w q x y z j b = absurd (none r.runs)
+default-view (code.TheVariants.Table name key rows index var bits base width error blob full log) room r m n k p f s t l o u v w q x y z j b = absurd (none r.runs)
   where
-    none : None ≡ Some (command_view (code.TheVariants.Table name key rows index var bits base width error blob full) room) → ⊥
+    none : None ≡ Some (command_view (code.TheVariants.Table name key rows index var bits base width error blob full log) room) → ⊥
     none e = cc
 default-view (code.TheVariants.Blob name key) room r m n k p f s t l o u v w q x y z j b = absurd (b name key refl)

@@ -7,17 +7,20 @@ use Rattle.std.proofs.lemmas.Bool.Decides.{eqb_tells}
 use Rattle.std.proofs.lemmas.Option.{slice_get_within}
 use Rattle.fl_model.proofs.Lists.{slice_get-some}
 use Rattle.fl_flash.specs.Flash.{FlashState}
+use Rattle.fl_model.specs.Bare.{bare, bare_table}
 use Rattle.fl_model.specs.Record.{Config, Plan}
 use Rattle.fl_model.specs.Table as model
 use Rattle.fl_model.specs.Table.{last_entry}
 use Rattle.fl_machine.specs.Machine.{Machine}
 use Rattle.fl_machine.specs.Step.{Located, located}
+use Rattle.fl_rlc.specs.Logged as logged
+use Rattle.fl_rlc.specs.Table.{table_in}
 use Rattle.fl_script.specs.declared.reply.Reply as code
 use Rattle.fl_table.specs.Look.{counts_of}
-use Rattle.fl_table.specs.Pages.{Rests}
 use Rattle.fl_table.specs.Standing.{Stands}
 use Rattle.fl_table.specs.declared.counts.TableCounts.{TableCounts}
-use Rattle.fl_tables.specs.Tables.{first_of, TablesStand}
+use Rattle.fl_table.specs.declared.table.Table.{Table}
+use Rattle.fl_tables.specs.Tables.{first_of, EntryStands, TablesStand}
 use Rattle.fl_tables.specs.declared.tables.Entry.{Entry}
 use Rattle.fl_tables.proofs.TablesChanged.{at-place}
 use Rattle.fl_session.specs.Answer.{IsReached, Refusal}
@@ -27,6 +30,7 @@ use Rattle.fl_session.specs.declared.notes.Notes.{Notes}
 use Rattle.fl_session.specs.declared.pending.TableRows.{TableRows}
 use Rattle.fl_session.specs.Standing.{SessionStands}
 use Rattle.fl_session.proofs.Owning.{own-of, own-none}
+use Rattle.fl_session.proofs.Tables.{stands-unlogged}
 
 -- why nothing is told of it
 pub told-refused : {A : Type 0} (config : Config) (m : Machine) (entries : List Entry) (notes : Notes) (f : FlashState) (mounted : Bool) (asked : List ℕ) (Tells : Located → A → Type 0) (said : code.Reply) →
@@ -38,23 +42,25 @@ told-refused config m entries notes f mounted asked Tells said h r = absurd r
 -- what is so of each table that the one of the code stands for
 told-of : {A : Type 0} (config : Config) (m : Machine) (entries : List Entry) (notes : Notes) (f : FlashState) (mounted : Bool) (asked : List ℕ) (at : ℕ) (entry : Entry) (Tells : Located → A → Type 0) (value : A) →
     SessionStands config entries f mounted notes m → IsReached entries mounted asked at → slice_get entries at ≡ Some entry →
-    ((first : ℕ) (plan : Plan) (table : model.Table) → Stands entry.table f first plan table → Tells (record { place = at; plan = plan; table = table }) value) → (m.mounted ≡ true) × IsSomeAnd (located config m asked) (λ at. Tells at value)
+    ((first : ℕ) (plan : Plan) (table : model.Table) → EntryStands entry f true first plan table → Tells (record { place = at; plan = plan; table = table }) value) → (m.mounted ≡ true) × IsSomeAnd (located config m asked) (λ at. Tells at value)
 told-of config m entries notes f mounted asked at entry Tells value h r here holds =
     let h' = subst (λ b. SessionStands config entries f b notes m) r.mounted_is h in
     let own = own-of config m entries f notes asked at entry h' here r.named in
-    (h'.is_mounted, subst (λ o. IsSomeAnd o (λ at. Tells at value)) (sym own.found) (holds (first_of config.plans at) own.plan own.table own.stands.on_flash))
+    (h'.is_mounted, subst (λ o. IsSomeAnd o (λ at. Tells at value)) (sym own.found) (holds (first_of config.plans at) own.plan own.table own.stands))
 
-pub last-told : (config : Config) (m : Machine) (entries : List Entry) (notes : Notes) (f : FlashState) (mounted : Bool) (asked : List ℕ) (at : ℕ) (entry : Entry) (key : Option ℕ) →
-    SessionStands config entries f mounted notes m → IsReached entries mounted asked at → slice_get entries at ≡ Some entry →
-    ((f : FlashState) (first : ℕ) (plan : Plan) (table : model.Table) → Stands entry.table f first plan table → key ≡ option_map (λ entry. entry.kept.key) (last_entry table)) →
+pub last-told : (config : Config) (m : Machine) (entries : List Entry) (notes : Notes) (f : FlashState) (mounted : Bool) (asked : List ℕ) (at : ℕ) (entry : Entry) (t : Table 64 64) (key : Option ℕ) →
+    SessionStands config entries f mounted notes m → IsReached entries mounted asked at → slice_get entries at ≡ Some entry → t ≡ table_in entry.table →
+    ((f : FlashState) (first : ℕ) (plan : Plan) (table : model.Table) → Stands t f first plan table → key ≡ option_map (λ entry. entry.kept.key) (last_entry table)) →
     (m.mounted ≡ true) × IsSomeAnd (located config m asked) (λ at. TellsLast at key)
-last-told config m entries notes f mounted asked at entry key h r here holds = told-of config m entries notes f mounted asked at entry TellsLast key h r here (holds f)
+last-told config m entries notes f mounted asked at entry t key h r here table_is holds =
+    told-of config m entries notes f mounted asked at entry TellsLast key h r here (λ first plan table stands. holds f first (bare plan) (bare_table table) (stands-unlogged t entry table_is stands))
 
-pub counts-told : (config : Config) (m : Machine) (entries : List Entry) (notes : Notes) (f : FlashState) (mounted : Bool) (asked : List ℕ) (at : ℕ) (entry : Entry) (counts : TableCounts) →
-    SessionStands config entries f mounted notes m → IsReached entries mounted asked at → slice_get entries at ≡ Some entry →
-    ((f : FlashState) (first : ℕ) (plan : Plan) (table : model.Table) → Stands entry.table f first plan table → counts ≡ counts_of table) →
+pub counts-told : (config : Config) (m : Machine) (entries : List Entry) (notes : Notes) (f : FlashState) (mounted : Bool) (asked : List ℕ) (at : ℕ) (entry : Entry) (t : Table 64 64) (counts : TableCounts) →
+    SessionStands config entries f mounted notes m → IsReached entries mounted asked at → slice_get entries at ≡ Some entry → t ≡ table_in entry.table →
+    ((f : FlashState) (first : ℕ) (plan : Plan) (table : model.Table) → Stands t f first plan table → counts ≡ counts_of table) →
     (m.mounted ≡ true) × IsSomeAnd (located config m asked) (λ at. TellsCounts at counts)
-counts-told config m entries notes f mounted asked at entry counts h r here holds = told-of config m entries notes f mounted asked at entry TellsCounts counts h r here (holds f)
+counts-told config m entries notes f mounted asked at entry t counts h r here table_is holds =
+    told-of config m entries notes f mounted asked at entry TellsCounts counts h r here (λ first plan table stands. holds f first (bare plan) (bare_table table) (stands-unlogged t entry table_is stands))
 
 -- ---- the rows that no flush has written
 
@@ -85,15 +91,16 @@ module _ (config : Config) (m : Machine) (entries : List Entry) (notes : Notes) 
       by_place (Some plan) None p t = refl
       by_place (Some plan) (Some table) p t =
           let entry = slice_get-some entries at (omega (arith, slice_get_within config.plans at plan p, h.tables.as_many)) in
-          let rests = subst (λ b. MatchBool b (Stands entry.0.table f (first_of config.plans at) plan table) (Rests f (first_of config.plans at) plan table)) off (h.tables.each at plan entry.0 table p entry.1 t).on_flash in
+          let rests = subst (λ b. MatchBool b (logged.Stands entry.0.table f (first_of config.plans at) plan table) (logged.Rests f (first_of config.plans at) plan table)) off (h.tables.each at plan entry.0 table p entry.1 t).on_flash in
           rows-zero plan.name table.pending (ap (λ (x : model.Table). x.pending) rests.settled.lost)
 
   -- the table at a place tells what is pending of it
-  module _ (entry : Entry) (rows : ℕ) (on : mounted ≡ true) (e : slice_get entries at ≡ Some entry) (tells : (f : FlashState) (first : ℕ) (plan : Plan) (table : model.Table) → Stands entry.table f first plan table → rows ≡ table.pending) where
+  module _ (entry : Entry) (t : Table 64 64) (rows : ℕ) (on : mounted ≡ true) (e : slice_get entries at ≡ Some entry) (table_is : t ≡ table_in entry.table)
+      (tells : (f : FlashState) (first : ℕ) (plan : Plan) (table : model.Table) → Stands t f first plan table → rows ≡ table.pending) where
     pending-there : here ≡ rows_of entry.name rows
     pending-there =
         let o = at-place f (λ i. true) config.plans entries m.tables at entry (subst (λ b. TablesStand f (λ i. b) config.plans entries m.tables) on h.tables) e in
-        let count : rows ≡ o.table.pending = tells f (first_of config.plans at) o.plan o.table o.stands.on_flash in
+        let count : rows ≡ o.table.pending = tells f (first_of config.plans at) (bare o.plan) (bare_table o.table) (stands-unlogged t entry table_is o.stands) in
         ap (λ p. pending_of p (slice_get m.tables at)) o.plan_is
         ∙ (ap (pending_of (Some o.plan)) o.table_is
         ∙ (ap (rows_of o.plan.name) (sym count) ∙ ap (λ name. rows_of name rows) o.stands.named))

@@ -9,7 +9,6 @@ use Rattle.fl_base.specs.Causes.{Rose}
 use Rattle.fl_flash.specs.Flash.{FlashState, Goes, page_at}
 use Rattle.fl_flash.specs.declared.flash.FlashFault.{FlashFault}
 use Rattle.fl_ring.specs.Device.{SameDevice}
-use Rattle.fl_table.specs.Mounting.{OutsideStands}
 use Rattle.fl_ring.specs.Step.{IsWatched}
 use Rattle.fl_model.specs.Record.{Config, Plan, Record}
 use Rattle.fl_model.specs.Table as model
@@ -26,19 +25,21 @@ use Rattle.fl_words.specs.Reply.{Reply, text, texts}
 use Rattle.fl_machine.specs.Machine.{Machine, stopped}
 use Rattle.fl_machine.specs.Stays.{CommandStays, TablesStay}
 use Rattle.fl_machine.specs.Step.{Moment, Step, Says, EndsAs, Located, refused, PutStep, FlushStep}
-use Rattle.fl_table.specs.declared.table.Table.{Table}
 use Rattle.fl_table.specs.declared.faults.PutRefusal.{PutRefusal}
 use Rattle.fl_table.specs.declared.faults.PutRefusal.TheVariants as put
 use Rattle.fl_table.specs.declared.faults.FlushFault.{FlushFault}
 use Rattle.fl_table.specs.declared.faults.FlushFault.TheVariants as flush
-use Rattle.fl_table.specs.Causes.{RefusedSame, put_breaks, flush_breaks}
-use Rattle.fl_table.specs.Memory.{IsSamePlan}
-use Rattle.fl_table.specs.Outcomes.{BySeals, Finishes, FaultEnds, Breaks, PutEnds, FlushEnds}
-use Rattle.fl_table.specs.Pages.{KeptStand, Rests}
-use Rattle.fl_table.specs.Standing.{Stands}
-use Rattle.fl_table.proofs.SealAnswers.{planned-same}
+use Rattle.fl_table.specs.Causes.{put_breaks, flush_breaks}
+use Rattle.fl_table.specs.Outcomes.{BySeals, FaultEnds}
+use Rattle.fl_table.specs.Pages.{KeptStand}
+use Rattle.fl_rlc.specs.Logged.{Stands, Rests}
+use Rattle.fl_rlc.specs.Outcomes.{Finishes, Breaks, LogStays, PutEnds, FlushEnds}
+use Rattle.fl_rlc.specs.Refusal.{RefusedSame}
+use Rattle.fl_rlc.specs.Table.{IsSamePlan, OutsideStands}
+use Rattle.fl_rlc.specs.declared.table.LoggedTable.{LoggedTable}
 use Rattle.fl_tables.specs.Tables.{first_of, entries_with, EntryStands, TablesStand}
 use Rattle.fl_tables.specs.declared.tables.Entry.{Entry}
+use Rattle.fl_tables.proofs.Going.{planned-same}
 use Rattle.fl_tables.proofs.TablesChanged.{entry-off, some-is, set-same, length-changed, tables-changed, option_map-same}
 use Rattle.fl_session.specs.Answer.{Answers}
 use Rattle.fl_tables.specs.Replies.{fault_reply, put_reply, flush_reply}
@@ -117,7 +118,7 @@ ends-broken c rose old at now fault f (CutIn before) new k h = record { replies_
 ends-broken c rose old at now fault f (FailedIn before) new k h = record { replies_are = ap (λ x. fault_reply x ∷ []) h.0; after_is = refl; last_is = ap (last_of at old.tables) k }
 
 -- A session before a call of one of its tables, which leaves the pages of the others, and after it.
-module _ (config : Config) (old : Machine) (entries : List Entry) (at : ℕ) (entry : Entry) (asked : List ℕ) (notes : Notes) (u : Table 64 64) (f g : FlashState) (h : SessionStands config entries f true notes old) (here : slice_get entries at ≡ Some entry)
+module _ (config : Config) (old : Machine) (entries : List Entry) (at : ℕ) (entry : Entry) (asked : List ℕ) (notes : Notes) (u : LoggedTable 64 64) (f g : FlashState) (h : SessionStands config entries f true notes old) (here : slice_get entries at ≡ Some entry)
     (own : Own config old f asked at entry) (goes : Goes f g) (same : IsSamePlan entry.table u) (outside : IsTrue f.media.tells → OutsideStands entry.table (page_at f) (page_at g)) where
   abbrev pub now_there : Entry
   now_there = record { name = entry.name; table = u }
@@ -178,16 +179,16 @@ module _ (config : Config) (old : Machine) (entries : List Entry) (at : ℕ) (en
   at_own = record { place = at; plan = own.plan; table = own.table }
 
   -- .. and the pages that are kept stand
-  pub keeps-done : (after : model.Table → model.Table) → KeptStand first own.plan own.table (after own.table) (page_at f) (page_at g) → Stands u g first own.plan (after own.table) →
+  pub keeps-done : (after : model.Table → model.Table) → KeptStand first own.plan own.table (after own.table) (page_at f) (page_at g) → LogStays first own.plan own.table (after own.table) f g → Stands u g first own.plan (after own.table) →
       TablesKeep config f.media.content g.media.content old.tables (changed_at at after old.tables)
-  keeps-done after kept stands =
+  keeps-done after kept kept-log stands =
       let now = medium-goes config f g goes h.medium in
       let one : changed_at at after old.tables ≡ changed_at at (λ _. after own.table) old.tables = changed-at at after old.tables own.table own.table_is in
       let left = changed_at at (λ _. after own.table) old.tables in
       subst (λ ts. TablesKeep config f.media.content g.media.content old.tables ts) (sym one)
       (tables-keep_changed config f g entries old.tables left at entry own.plan own.table (after own.table) h.medium now h.tables (outside h.medium.told) own.plan_is own.table_is own.stands
       (length-changed at (after own.table) old.tables) (changed-there at own.table (after own.table) old.tables own.table_is) (λ i other. changed-elsewhere at i (after own.table) old.tables other)
-      (table-keeps config f g at own.plan entry.table u own.table (after own.table) h.medium now kept own.stands.on_flash stands))
+      (table-keeps config f g at own.plan entry.table u own.table (after own.table) h.medium now kept kept-log own.stands.on_flash stands))
 
   -- What the table does is what all tables do. Its operations were done, or one failed.
   abbrev IsOfAll : (PartProgress model.Table → Type 0) → (Bool → Progress → Type 0) → Type 0
@@ -214,7 +215,7 @@ module _ (config : Config) (old : Machine) (entries : List Entry) (at : ℕ) (en
         stands_after = stands;
         stays = record {
           image = session-ends config (entries_with entries at entry u) notes g true after_is stands;
-          stays = λ calm whole. says f.media.content g.media.content after_is (tables-stay config f.media.content g.media.content old.tables after_is.tables (keeps-done after fin.stand fin.stands));
+          stays = λ calm whole. says f.media.content g.media.content after_is (tables-stay config f.media.content g.media.content old.tables after_is.tables (keeps-done after fin.stand fin.log fin.stands));
         };
         rose = risen-rose f g;
         said_is = one-text reply.Done;

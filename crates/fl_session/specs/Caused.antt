@@ -13,24 +13,27 @@ use Rattle.fl_model.specs.Row.{Row}
 use Rattle.fl_page.specs.Contents.{OnlyReads}
 use Rattle.fl_page.specs.declared.fault.BadPage.{BadPage}
 use Rattle.fl_page.specs.declared.fault.ReadFault.TheVariants as fault
+use Rattle.fl_rlc.specs.Refusal.{NeedsNoOperation, put_refusal}
+use Rattle.fl_rlc.specs.Rows.{AreBegun, HaveLogged}
+use Rattle.fl_rlc.specs.Table as logged
+use Rattle.fl_rlc.specs.Table.{IsSamePlan, log_in, table_in}
+use Rattle.fl_rlc.specs.declared.table.LoggedTable.{LoggedTable}
 use Rattle.fl_script.specs.Written.{Written}
 use Rattle.fl_ring.specs.Causes.{CausedBy}
-use Rattle.fl_table.specs.Blobs.{pages_for}
-use Rattle.fl_table.specs.Causes.{flush_breaks, put_breaks}
+use Rattle.fl_table.specs.Causes.{MountCausedBy, flush_breaks, put_breaks}
 use Rattle.fl_table.specs.Finding.{LookupFails}
 use Rattle.fl_table.specs.Look.{counts_in, last_key_in, layout_in}
-use Rattle.fl_table.specs.Memory.{next_in, pending_in, HasRoom, IsSamePlan, PendingAre}
-use Rattle.fl_table.specs.Mounting as mounting
+use Rattle.fl_table.specs.Memory.{next_in, pending_in, HasRoom, PendingAre}
 use Rattle.fl_table.specs.Mounting.{FewRepairs}
-use Rattle.fl_table.specs.Refusal.{RefusesAs, put_refusal}
+use Rattle.fl_table.specs.Refusal.{RefusesAs}
 use Rattle.fl_table.specs.declared.faults.FlushFault.{FlushFault}
 use Rattle.fl_table.specs.declared.faults.FlushFault.TheVariants as flush
 use Rattle.fl_table.specs.declared.faults.PutRefusal.{PutRefusal}
 use Rattle.fl_table.specs.declared.faults.PutRefusal.TheVariants as put
 use Rattle.fl_table.specs.declared.table.Table.{Table}
-use Rattle.fl_tables.specs.Mounting.{MountsInTurn, OutsideStands, RefusesAt, rings_of, tried}
+use Rattle.fl_tables.specs.Mounting.{AreUnlogged, MountsInTurn, OutsideStands, RefusesAt, rings_of, tried}
 use Rattle.fl_tables.specs.Replies.{flush_reply, put_reply}
-use Rattle.fl_tables.specs.Tables.{MountFailsFor, Names, StopsAt, entries_with}
+use Rattle.fl_tables.specs.Tables.{Names, StopsAt, entries_with}
 use Rattle.fl_tables.specs.declared.tables.BadMount.{BadMount}
 use Rattle.fl_tables.specs.declared.tables.Entry.{Entry}
 use Rattle.fl_words.specs.Command.{Command, Nothing, Device, Table as TableOf, Mount, Off, Cut, Put, Flush, Get, Blob, Scan, Open, Next, Close, Select, Project, Agg, Join, Stat, Cost, Load}
@@ -110,8 +113,9 @@ pub record MountsOver (old new : List Entry) (f : FlashState) (outcome : Result 
   pub found : OnOk outcome (IsTrue f.media.tells → MountsInTurn (length old) old new f g)
   pub refused : IfErr outcome (λ bad. IsTrue f.media.tells → RefusesAt old new bad f g)
   pub stops : IfErr outcome (λ bad. StopsAt old new bad)
-  pub cause : IfErr outcome (λ bad. MountFailsFor f bad.fault g)
-  pub repairs : FewRepairs (rings_of (tried outcome old)) f g
+  pub cause : IfErr outcome (λ bad. MountCausedBy f bad.fault g)
+  pub power : OnOk outcome (f.is_on ≡ true → g.is_on ≡ true)
+  pub repairs : AreUnlogged (tried outcome old) → FewRepairs (rings_of (tried outcome old)) f g
   pub outside : IsTrue f.media.tells → OutsideStands (tried outcome old) (page_at f) (page_at g)
 
 -- the power goes on, and no cursor is open afterwards
@@ -129,33 +133,34 @@ MountSays old new said = ((old.mounted ≡ true) × (said ≡ reply.AlreadyMount
 -- What a call on the table at this place leaves: another state of that table, with the same plan, and outside its rings the
 -- bytes that were there. It reads no page.
 pub record LeavesTable (old new : State) (at : ℕ) (entry : Entry) (breaks : Bool) : Type 0 where
-  pub now : Table 64 64
+  pub now : LoggedTable 64 64
   pub same : IsSamePlan entry.table now
   pub entries : new.entries ≡ entries_with old.entries at entry now
   pub mounted : new.mounted ≡ not breaks
   pub notes : new.notes ≡ old.notes
   pub unread : new.flash.work.reads ≡ old.flash.work.reads
-  pub outside : IsTrue old.flash.media.tells → mounting.OutsideStands entry.table (page_at old.flash) (page_at new.flash)
+  pub outside : IsTrue old.flash.media.tells → logged.OutsideStands entry.table (page_at old.flash) (page_at new.flash)
 
 -- a fault of the flash has its cause, and any other refusal changes nothing
 abbrev pub PutFails : State → State → PutRefusal → Type 0
 PutFails old new (put.Flash fault) = CausedBy old.flash fault new.flash
 PutFails old new _ = new ≡ old
 
--- A put is refused exactly as its table says. Then the record is the last one, and pending, and it needs the flash only if
--- the page of pending rows is full or its blob fills pages.
+-- A put is refused exactly as its table says. Then the record is the last one, and pending, and with a log a page of it was
+-- sealed; it needs the flash only if the table has a log, the page of pending rows is full or its blob fills pages.
 pub record PutSays (old new : State) (key : ℕ) (values : List ℤ) (blob : Option (List ℕ)) (at : ℕ) (entry : Entry) (said : Reply) : Type 0 where
   pub outcome : Result (Unit {0}) PutRefusal
   pub said_is : said ≡ put_reply outcome
   pub exact : RefusesAs (put_refusal entry.table key values (option_map (λ bytes. length bytes) blob)) outcome
   pub fails : IfErr outcome (PutFails old new)
   pub leaves : LeavesTable old new at entry (put_breaks outcome)
-  pub last : OnOk outcome (last_key_in leaves.now ≡ Some key)
-  pub pending : OnOk outcome (HasRoom entry.table → pending_in leaves.now ≡ pending_in entry.table + 1)
-  pub rows : OnOk outcome (HasRoom entry.table → blob ≡ None → (rows : List Row) → PendingAre entry.table rows → PendingAre leaves.now (rows ++ (record { key = key; values = values; blob = None }) ∷ []))
+  pub last : OnOk outcome (last_key_in (table_in leaves.now) ≡ Some key)
+  pub pending : OnOk outcome (HasRoom (table_in entry.table) → pending_in (table_in leaves.now) ≡ pending_in (table_in entry.table) + 1)
+  pub rows : OnOk outcome (HasRoom (table_in entry.table) → blob ≡ None → (rows : List Row) → PendingAre (table_in entry.table) rows → PendingAre (table_in leaves.now) (rows ++ (record { key = key; values = values; blob = None }) ∷ []))
+  pub logs : OnOk outcome (HaveLogged (layout_in (table_in entry.table)) (record { key = key; values = values; blob = None }) (log_in entry.table) (log_in leaves.now))
   pub power : OnOk outcome (old.flash.is_on ≡ true → new.flash.is_on ≡ true)
-  pub quiet : put_refusal entry.table key values (option_map (λ bytes. length bytes) blob) ≡ None → HasRoom entry.table → pages_for entry.table.blobs blob ≡ 0 → (outcome ≡ Ok tt) × (new.flash ≡ old.flash)
-  pub off : put_refusal entry.table key values (option_map (λ bytes. length bytes) blob) ≡ None → (HasRoom entry.table → pages_for entry.table.blobs blob ≡ 0 → ⊥) →
+  pub quiet : put_refusal entry.table key values (option_map (λ bytes. length bytes) blob) ≡ None → NeedsNoOperation entry.table blob → (outcome ≡ Ok tt) × (new.flash ≡ old.flash)
+  pub off : put_refusal entry.table key values (option_map (λ bytes. length bytes) blob) ≡ None → (NeedsNoOperation entry.table blob → ⊥) →
       old.flash.is_on ≡ false → (outcome ≡ Err (put.Flash PowerLost)) × (new.flash ≡ old.flash)
 
 -- only a fault of the flash fails it
@@ -163,21 +168,23 @@ abbrev pub FlushFails : FlashState → FlashState → FlushFault → Type 0
 FlushFails f g (flush.Flash fault) = CausedBy f fault g
 FlushFails f g flush.Stopped = ⊥
 
--- A flush changes nothing where no row is pending. Else none is afterwards, and they are the next page.
+-- A flush changes nothing where no row is pending. Else none is afterwards, they are the next page, and the ring of a log is as
+-- it was.
 pub record FlushSays (old new : State) (at : ℕ) (entry : Entry) (said : Reply) : Type 0 where
   pub outcome : Result (Unit {0}) FlushFault
   pub said_is : said ≡ flush_reply outcome
   pub fails : IfErr outcome (FlushFails old.flash new.flash)
-  pub none : pending_in entry.table ≡ 0 → (outcome ≡ Ok tt) × (new ≡ old)
+  pub none : pending_in (table_in entry.table) ≡ 0 → (outcome ≡ Ok tt) × (new ≡ old)
   pub leaves : LeavesTable old new at entry (flush_breaks outcome)
-  pub flushed : OnOk outcome (pending_in leaves.now ≡ 0)
-  pub seals : OnOk outcome (1 ≤ pending_in entry.table → next_in leaves.now ≡ next_in entry.table + 1)
+  pub flushed : OnOk outcome (pending_in (table_in leaves.now) ≡ 0)
+  pub seals : OnOk outcome (1 ≤ pending_in (table_in entry.table) → next_in (table_in leaves.now) ≡ next_in (table_in entry.table) + 1)
+  pub begins : OnOk outcome (1 ≤ pending_in (table_in entry.table) → AreBegun (log_in entry.table) (log_in leaves.now))
   pub power : OnOk outcome (old.flash.is_on ≡ true → new.flash.is_on ≡ true)
-  pub off : 1 ≤ pending_in entry.table → old.flash.is_on ≡ false → (outcome ≡ Err (flush.Flash PowerLost)) × (new.flash ≡ old.flash)
+  pub off : 1 ≤ pending_in (table_in entry.table) → old.flash.is_on ≡ false → (outcome ≡ Err (flush.Flash PowerLost)) × (new.flash ≡ old.flash)
 
 -- what the table has in memory, and what the flash counted
 abbrev pub StatSays : State → State → ℕ → Entry → Reply → Type 0
-StatSays old new at entry said = (new ≡ old) × (let counts = counts_in entry.table in
+StatSays old new at entry said = (new ≡ old) × (let counts = counts_in (table_in entry.table) in
     said ≡ reply.Stat counts.rows counts.pending counts.pages counts.voids old.flash.work.programs old.flash.work.erases)
 
 -- before the first of the rows that are asked for, up to the last one that the table has now
@@ -187,7 +194,7 @@ mark_on t range span = record { after = None; top = option_map (λ last. min ran
 -- a cursor on the table is open there from then on, and nothing else is another
 abbrev pub OpenSays : State → State → ℕ → KeyRange → Option Span → ℕ → Entry → Reply → Type 0
 OpenSays old new cursor range span at entry said =
-    (said ≡ reply.Done) × (new ≡ record old { notes = with_cursor old.notes cursor (Some (record { table = at; mark = mark_on entry.table range span })) })
+    (said ≡ reply.Done) × (new ≡ record old { notes = with_cursor old.notes cursor (Some (record { table = at; mark = mark_on (table_in entry.table) range span })) })
 
 -- the cursor with this number isn't open, or it is
 abbrev pub IsClosed : State → ℕ → Type 0
@@ -213,7 +220,7 @@ LookSays t f g _ = ⊥
 
 -- the row of a key is looked up
 abbrev pub GetSays : State → State → ℕ → Entry → Reply → Type 0
-GetSays old new at entry said = LookSays entry.table old.flash new.flash said × NotesGet old new
+GetSays old new at entry said = LookSays (table_in entry.table) old.flash new.flash said × NotesGet old new
 
 -- the power goes off, and nothing is mounted from then on
 abbrev pub OffSays : State → State → Reply → Type 0
@@ -253,10 +260,10 @@ LoadCounts asked count (Err refusal) = count < asked
 
 -- A fault of the flash has its cause. Any other refusal is the one that the table has now for the next record, whose key is the
 -- last one's and a step that a pseudo-random number gives.
-abbrev pub LoadFails : Table 64 64 → FlashState → FlashState → ℕ → ℕ → ℕ → PutRefusal → Type 0
+abbrev pub LoadFails : LoggedTable 64 64 → FlashState → FlashState → ℕ → ℕ → ℕ → PutRefusal → Type 0
 LoadFails t f g step seed count (put.Flash fault) = CausedBy f fault g
 LoadFails t f g step seed count refusal = (random : ℕ) ×
-    (put_refusal t (load_key (unwrap_or (last_key_in t) 0) step random) (load_values (count + 1) seed 1 (layout_in t).columns) None ≡ Some refusal)
+    (put_refusal t (load_key (unwrap_or (last_key_in (table_in t)) 0) step random) (load_values (count + 1) seed 1 (layout_in (table_in t)).columns) None ≡ Some refusal)
 
 -- a load tells how many records were put, and why the next one wasn't
 pub record LoadSays {E : Type 0} (old new : State) (asked step seed at : ℕ) (entry : Entry) (told told_now : Option (List ℕ)) (result : Result (Unit {0}) E) : Type 0 where
@@ -266,6 +273,7 @@ pub record LoadSays {E : Type 0} (old new : State) (asked step seed at : ℕ) (e
   pub counted : LoadCounts asked count outcome
   pub leaves : LeavesTable old new at entry (put_breaks outcome)
   pub fails : IfErr outcome (LoadFails leaves.now old.flash new.flash step seed count)
+  pub power : OnOk outcome (old.flash.is_on ≡ true → new.flash.is_on ≡ true)
 
 -- ---- any command
 
@@ -285,9 +293,9 @@ Caused (Get name key) old new told told_now result = Writes told told_now result
 Caused (Blob name key) old new told told_now result = Lists old new name told told_now result (λ entry. OnlyLooks old new old.notes)
 Caused (Scan name range span) old new told told_now result = Lists old new name told told_now result (λ entry. NotesScan old new)
 Caused (Next cursor count) old new told told_now result = NextLooks old new cursor told told_now result
-Caused (Select name range column op value) old new told told_now result = Lists old new name told told_now result (λ entry. IfLacks old new told told_now result (lacked_column (layout_in entry.table) (column ∷ [])))
-Caused (Project name range columns) old new told told_now result = Lists old new name told told_now result (λ entry. IfLacks old new told told_now result (lacked_column (layout_in entry.table) columns))
-Caused (Agg name range column width) old new told told_now result = Lists old new name told told_now result (λ entry. IfLacks old new told told_now result (lacked_column (layout_in entry.table) (column ∷ [])))
+Caused (Select name range column op value) old new told told_now result = Lists old new name told told_now result (λ entry. IfLacks old new told told_now result (lacked_column (layout_in (table_in entry.table)) (column ∷ [])))
+Caused (Project name range columns) old new told told_now result = Lists old new name told told_now result (λ entry. IfLacks old new told told_now result (lacked_column (layout_in (table_in entry.table)) columns))
+Caused (Agg name range column width) old new told told_now result = Lists old new name told told_now result (λ entry. IfLacks old new told told_now result (lacked_column (layout_in (table_in entry.table)) (column ∷ [])))
 Caused (Join left right range) old new told told_now result = Lists old new left told told_now result (λ entry. Lists old new right told told_now result (λ other. OnlyLooks old new old.notes))
 Caused (Load name count step seed) old new told told_now result = Writes told told_now result (IsRefused old new name) ⊎ ((at : ℕ) × (entry : Entry) × IsHere old name at entry × LoadSays old new count step seed at entry told told_now result)
 Caused Nothing old new told told_now result = Written told told_now result [] × (new ≡ old)

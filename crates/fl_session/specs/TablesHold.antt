@@ -9,11 +9,10 @@ use Rattle.fl_model.proofs.Lists.{slice_get-some}
 use Rattle.fl_model.specs.Facts.{IsTable}
 use Rattle.fl_model.specs.Record.{Config, Plan, RowLayout}
 use Rattle.fl_model.specs.Table.{Table}
+use Rattle.fl_rlc.specs.Logged.{Rests, Stands}
 use Rattle.fl_schema.specs.Form.{key_width}
 use Rattle.fl_schema.specs.declared.schema.KeyWidth.{KeyWidth}
 use Rattle.fl_schema.specs.declared.schema.KeyWidth.TheVariants.{Four, Eight}
-use Rattle.fl_table.specs.Pages.{Rests}
-use Rattle.fl_table.specs.Standing.{Stands}
 use Rattle.fl_tables.specs.Tables.{first_of}
 use Rattle.fl_tables.specs.declared.tables.Entry.{Entry}
 use Rattle.fl_session.specs.Standing.{SessionStands}
@@ -39,4 +38,4 @@ keys-fit config entries f mounted notes m h place plan p =
     let entry = slice_get-some entries place (subst (λ n. place < n) (sym h.tables.as_many) within) in
     let table = slice_get-some m.tables place (subst (λ n. place < n) (sym h.tables.all) within) in
     let planned = (h.tables.each place plan entry.0 table.0 p entry.1 table.1).planned in
-    subst (λ n. n ≤ 8) (sym (ap (λ (l : RowLayout). l.key_bytes) planned.layout)) (eight-bytes _)
+    subst (λ n. n ≤ 8) (sym (ap (λ (l : RowLayout). l.key_bytes) planned.table.layout)) (eight-bytes _)

@@ -1,15 +1,14 @@
 // The puts of a load.
-ghost use Rattle.std.specs.Prelude.{◌≡◌, ◌≤◌, ℕ, ◌&&◌, List, not, true, IsTrue, IfErr, Some, slice_get};
+ghost use Rattle.std.specs.Prelude.{◌≡◌, ◌≤◌, ℕ, ◌&&◌, List, not, true, IsTrue, IfErr, OnOk, Some, slice_get};
 ghost use Rattle.fl_base.specs.Causes.{HasCause};
 ghost use Rattle.fl_flash.specs.Flash.{Goes, page_at};
 ghost use Rattle.fl_model.specs.Record.{Config};
 ghost use Rattle.fl_words.specs.Command as words;
 ghost use Rattle.fl_words.specs.Reply.{texts};
 ghost use Rattle.fl_machine.specs.Machine.{Machine};
+ghost use Rattle.fl_rlc.specs.Table.{is_running, IsSamePlan, LiesOn, OutsideStands};
 ghost use Rattle.fl_script.specs.Written.{Written};
 ghost use Rattle.fl_table.specs.Causes.{put_breaks};
-ghost use Rattle.fl_table.specs.Memory.{is_running, IsSamePlan, LiesOn};
-ghost use Rattle.fl_table.specs.Mounting.{OutsideStands};
 ghost use Rattle.fl_tables.specs.Tables.{IsNamed, entries_with};
 ghost use Rattle.fl_tables.specs.declared.tables.Entry.{Entry};
 ghost use Rattle.fl_session.specs.Answer.{Answers, load_replies};
@@ -22,7 +21,7 @@ use fl_base::{Sink, SinkFailed};
 use fl_flash::Flash;
 use fl_script::{Reply, write_reply};
 use fl_table::PutRefusal;
-use fl_tables::{Table, put_reply};
+use fl_tables::{LoggedTable, put_reply};
 
 /// How a load ended.
 #[derive(Clone, Copy, Debug)]
@@ -49,7 +48,7 @@ impl Loaded {
 
 /// Puts as many generated records, up to the first one that is refused.
 pub(crate) fn load<F: Flash>(
-    table: &mut Table,
+    table: &mut LoggedTable,
     flash: &mut F,
     count: u64,
     step: u64,
@@ -64,15 +63,16 @@ pub(crate) fn load<F: Flash>(
     ensures same { IsSamePlan table.old table.new }
     ensures counted { LoadCounts count result.count result.outcome }
     ensures fails { IfErr result.outcome (LoadFails table.new (F.state flash.old) (F.state flash.new) step seed result.count) }
+    ensures power { OnOk result.outcome ((F.state flash.old).is_on ≡ true → (F.state flash.new).is_on ≡ true) }
     ensures outside { IsTrue (F.state flash.old).media.tells → OutsideStands table.old (page_at (F.state flash.old)) (page_at (F.state flash.new)) }
     ensures answers { (config : Config) → (entries : List Entry) → (at : ℕ) → (entry : Entry) → (name : List ℕ) → (notes : Notes) → (old : Machine) → SessionStands config entries (F.state flash.old) true notes old →
         slice_get entries at ≡ Some entry → entry.table ≡ table.old → IsNamed entries name at →
         Answers config old (words.Load name count step seed) (SessionStands config (entries_with entries at entry table.new) (F.state flash.new) (not (put_breaks result.outcome)) notes)
         (F.state flash.old) (F.state flash.new) (texts (load_replies result.count result.outcome)) }
 {
-    let mut records = Generator::new(table, step, seed);
+    let mut records = Generator::new(table.table(), step, seed);
     for loaded in 0..count {
-        let record = records.next(table.last_key());
+        let record = records.next(table.table().last_key());
         let outcome = table.put(flash, record.key, record.values.as_slice(), None);
         if outcome.is_err() {
             return Loaded {

@@ -174,7 +174,7 @@ impl<'m, M: Media> Session<'m, M> {
             Ok(at) => at,
             Err(refusal) => return refusal,
         };
-        let counts = self.tables.entries[at].table.counts();
+        let counts = self.tables.entries[at].table.table().counts();
         let work = self.flash.work();
         Reply::Stat {
             rows: counts.rows,
@@ -212,7 +212,7 @@ impl<'m, M: Media> Session<'m, M> {
             Ok(at) => at,
             Err(refusal) => return write_reply(&refusal, out),
         };
-        let table = &self.tables.entries[at].table;
+        let table = self.tables.entries[at].table.table();
         let limit = table.lookup_limit(key);
         let before = self.flash.work().reads;
         let reply = look_up(table, key, &mut self.flash, &mut self.buf.rows);
@@ -237,7 +237,7 @@ impl<'m, M: Media> Session<'m, M> {
             Ok(at) => at,
             Err(refusal) => return write_reply(&refusal, out),
         };
-        let table = &self.tables.entries[at].table;
+        let table = self.tables.entries[at].table.table();
         // Its call tells the proof that the count of reads is within its bounds.
         let _before = self.flash.work();
         show_blob(table, key, &mut self.flash, &mut self.buf.rows, out)
@@ -265,7 +265,7 @@ impl<'m, M: Media> Session<'m, M> {
             Ok(at) => at,
             Err(refusal) => return write_reply(&refusal, out),
         };
-        let table = &self.tables.entries[at].table;
+        let table = self.tables.entries[at].table.table();
         let before = self.flash.work().reads;
         let written = list_rows(table, range, span, &mut self.flash, &mut self.buf, out);
         let reads = self.flash.work().reads.saturating_sub(before);
@@ -406,7 +406,7 @@ impl<'m, M: Media> Executor for Session<'m, M> {
             Ok(at) => at,
             Err(refusal) => return Err(refusal),
         };
-        Ok(self.tables.entries[at].table.last_key())
+        Ok(self.tables.entries[at].table.table().last_key())
     }
 
     fn counts(&self, name: Name) -> Result<TableCounts, Reply> {
@@ -414,7 +414,7 @@ impl<'m, M: Media> Executor for Session<'m, M> {
             Ok(at) => at,
             Err(refusal) => return Err(refusal),
         };
-        Ok(self.tables.entries[at].table.counts())
+        Ok(self.tables.entries[at].table.table().counts())
     }
 
     fn pending(&self) -> PendingRows {

@@ -1,5 +1,6 @@
 // Scripts over media whose calls fail and over images that no run left, and how scripts end.
 mod loads;
+mod logs;
 mod reads;
 
 use crate::script_runs::{run_script, run_source};
@@ -50,7 +51,18 @@ fn is_answered(
     before: Talk,
     after: Talk,
 ) -> Result<bool, Fail> {
-    let mut script = text(alloc, &[CONFIG])?;
+    is_answered_over(alloc, CONFIG, media, before, after)
+}
+
+/// .. over tables of this configuration.
+fn is_answered_over(
+    alloc: Global,
+    config: &str,
+    media: &mut MemMedia,
+    before: Talk,
+    after: Talk,
+) -> Result<bool, Fail> {
+    let mut script = text(alloc, &[config])?;
     let mut wanted = Vec::new(alloc);
     add_talk(&mut script, &mut wanted, before)?;
     add_talk(&mut script, &mut wanted, after)?;

@@ -4,6 +4,7 @@ use Rattle.std.specs.Prelude.{IfSome, IsSomeAnd, slice_get}
 use Rattle.std.specs.List.{flat_map}
 use Rattle.std.proofs.lemmas.Grind.{flat_map-append}
 use Rattle.fl_base.specs.Causes.{Appends, AppendsFront}
+use Rattle.fl_model.specs.Bare.{bare}
 use Rattle.fl_model.specs.Record.{Config, Plan}
 use Rattle.fl_machine.specs.Machine.{Machine}
 use Rattle.fl_machine.specs.Step.{Located, located}
@@ -67,12 +68,12 @@ table-failed config m (Some plan) line told told_now is wrote = front-more told 
 
 -- .. and else what it holds comes behind it
 pub table-written : {E : Type 0} (config : Config) (m : Machine) (o : Option Plan) (table : TableConfig) (line name holds : List ℕ) (told mid told_now : Option (List ℕ)) (result : Result (Unit {0}) E) →
-    IfSome o (λ plan. line ≡ table_text plan) → IfSome o (λ plan. name ≡ plan.name) → IfSome o (λ plan. IsConfigOf table plan) →
+    IfSome o (λ plan. line ≡ table_text plan) → IfSome o (λ plan. name ≡ plan.name) → IfSome o (λ plan. IsConfigOf table (bare plan)) →
     ((label : Label) → holds ≡ sizes_text (plan_of_table label table) ++ held_in config m (plan_of_table label table) name) → Appends told mid line → Written mid told_now result holds →
     IfSome o (λ plan. Written told told_now result (described config m plan))
 table-written config m None table line name holds told mid told_now result is named of held wrote wrote_now = tt
 table-written config m (Some plan) table line name holds told mid told_now result is named of held wrote wrote_now =
-    let own : holds ≡ sizes_text plan ++ held_in config m plan name = subst (λ p. holds ≡ sizes_text p ++ held_in config m p name) of.is (held (label_of plan)) in
+    let own : holds ≡ sizes_text plan ++ held_in config m plan name = subst (λ p. holds ≡ sizes_text p ++ held_in config m p name) of.is (held (label_of (bare plan))) in
     let by_name : holds ≡ sizes_text plan ++ held_in config m plan plan.name = subst (λ n. holds ≡ sizes_text plan ++ held_in config m plan n) named own in
     subst (λ l. Written told told_now result l) (sym (append_assoc (table_text plan) (sizes_text plan) (held_in config m plan plan.name)))
     (written-behind told mid told_now (table_text plan) (sizes_text plan ++ held_in config m plan plan.name) result (subst (λ l. Appends told mid l) is wrote) (subst (λ l. Written mid told_now result l) by_name wrote_now))

@@ -104,16 +104,16 @@ nothing-step E made c room told is = subst (λ x. LeadsBy {E = E} made (step_com
 pub device-step : {page block : ℕ} (made : Lines) (c : script.Command) (room : List ℕ) → c ≡ script.TheVariants.Device page block → step_config (configured made (command_view c room)) ≡ step_command made (Ok (command_view c room))
 device-step made c room is = subst (λ x. step_config (configured made (command_view x room)) ≡ step_command made (Ok (command_view x room))) (sym is) refl
 
-pub table-step : {name : _} {key rows index var bits : ℕ} {base : _} {width error blob : ℕ} {full : Bool} (made : Lines) (c : script.Command) (room : List ℕ) → c ≡ script.TheVariants.Table name key rows index var bits base width error blob full →
+pub table-step : {name : _} {key rows index var bits : ℕ} {base : _} {width error blob : ℕ} {full : Bool} {log : Option ℕ} (made : Lines) (c : script.Command) (room : List ℕ) → c ≡ script.TheVariants.Table name key rows index var bits base width error blob full log →
     step_config (configured made (command_view c room)) ≡ step_command made (Ok (command_view c room))
 table-step made c room is = subst (λ x. step_config (configured made (command_view x room)) ≡ step_command made (Ok (command_view x room))) (sym is) refl
 
 -- another ends the configuration
 pub command-other : (made : Lines) (c : script.Command) (room : List ℕ) → (c ≡ script.TheVariants.Nothing → ⊥) → ((page block : ℕ) → c ≡ script.TheVariants.Device page block → ⊥) →
-    ((name : _) (key rows index var bits : ℕ) (base : _) (width error blob : ℕ) (full : Bool) → c ≡ script.TheVariants.Table name key rows index var bits base width error blob full → ⊥) → step_command made (Ok (command_view c room)) ≡ Ends
+    ((name : _) (key rows index var bits : ℕ) (base : _) (width error blob : ℕ) (full : Bool) (log : Option ℕ) → c ≡ script.TheVariants.Table name key rows index var bits base width error blob full log → ⊥) → step_command made (Ok (command_view c room)) ≡ Ends
 command-other made script.TheVariants.Nothing room n d t = absurd (n refl)
 command-other made (script.TheVariants.Device page block) room n d t = absurd (d page block refl)
-command-other made (script.TheVariants.Table name key rows index var bits base width error blob full) room n d t = absurd (t name key rows index var bits base width error blob full refl)
+command-other made (script.TheVariants.Table name key rows index var bits base width error blob full log) room n d t = absurd (t name key rows index var bits base width error blob full log refl)
 command-other made c room n d t = refl
 
 -- a line that is no command

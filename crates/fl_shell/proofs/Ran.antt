@@ -38,6 +38,7 @@ restood config old commands stands stands_now content content_now faults now h h
   stays = h.stays;
   rose = h.rose;
   found = h.found;
+  kept = h.kept;
   told_all = h.told_all;
 }
 

@@ -60,7 +60,7 @@ fn add_sizes(text: &mut TextLine, table: &TableConfig)
     ensures text { (label : Label) → text.new ≡ sizes_text (plan_of_table label table.now) }
     ensures short { length text.new ≤ 100 }
 {
-    let sizes = TableSizes::of(table);
+    let sizes = TableSizes::of(table, None);
     add_figure(text, b"  rows a page ", sizes.rows_per_page);
     add_figure(text, b"  rows always kept of full pages ", sizes.rows_kept);
 }

@@ -1,10 +1,10 @@
 -- How many reads the mount of a table with full index entries makes.
-use Rattle.std.proofs.Common.{◌≡◌, ℕ, ◌+◌, ◌≤◌, Bool, true, false, cond, ◌&&◌, not, Option, Some, None, IfSome, IsTrue, length, sym, ◌∙◌, ap, subst, arith}
+use Rattle.std.proofs.Common.{◌≡◌, ◌+◌, ◌≤◌, Bool, true, false, cond, ◌&&◌, not, Option, Some, None, IfSome, IsTrue, sym, ◌∙◌, ap, subst, arith}
 use Rattle.std.specs.Prelude.{count_by, if◌then◌else◌}
 use Rattle.fl_model.specs.Facts.{IsTable, is_some_ring}
 use Rattle.fl_model.specs.Limits.{is_listed, numbers_of}
 use Rattle.fl_model.specs.MountLimit.{voids_at_end, part_mount_limit, log_mount_limit, kept_in, full_mount_limit}
-use Rattle.fl_model.specs.Record.{Plan, has_index, has_var}
+use Rattle.fl_model.specs.Record.{Plan, has_index, has_var, has_log}
 use Rattle.fl_model.specs.Ring.{Shape, IsShape, Ring, IsRing}
 use Rattle.fl_model.specs.Table.{Table, DataRing, IndexRing, VarRing, LogRing, shape_of}
 use Rattle.fl_sizing.specs.Laws.{HasNoVoidsAtEnd}
@@ -16,6 +16,11 @@ use Rattle.fl_sizing.proofs.Keeping.{kept-most}
 end-most : (shape : Shape) (ring : Option Ring) (has : Bool) → is_some_ring ring ≡ has → IfSome ring (λ r. voids_at_end r.counts ≡ 0) → part_mount_limit shape ring ≤ cond has (end_reads shape) 0
 end-most shape None has is none = omega arith
 end-most shape (Some ring) has is none = subst (λ b. part_mount_limit shape (Some ring) ≤ cond b (end_reads shape) 0) is (omega (arith, none))
+
+-- .. that of a log, whose newest page is read then
+log-most : (shape : Shape) (ring : Option Ring) (has : Bool) → is_some_ring ring ≡ has → IfSome ring (λ r. voids_at_end r.counts ≡ 0) → log_mount_limit shape ring ≤ cond has (end_reads shape + 1) 0
+log-most shape None has is none = omega arith
+log-most shape (Some ring) has is none = subst (λ b. log_mount_limit shape (Some ring) ≤ cond b (end_reads shape + 1) 0) is (omega (arith, none))
 
 -- .. and its kept pages
 ring-most : (shape : Shape) (before after : Option Ring) (has : Bool) → IsShape shape → is_some_ring before ≡ has → is_some_ring after ≡ has → IfSome before (λ r. voids_at_end r.counts ≡ 0) → IfSome after (IsRing shape) →
@@ -39,5 +44,5 @@ full-entries plan before after b a full main index none few =
     let rows : rows_read plan ≡ unlisted_pages plan + 1 = ap (λ (x : Bool). if x then unlisted_pages plan + 1 else most_pages (shape_of plan DataRing)) full in
     let listed = ring-most (shape_of plan IndexRing) before.index after.index (has_index plan) index b.has_rings.0 a.has_rings.0 none.index a.index in
     let blobs = end-most (shape_of plan VarRing) before.var (has_var plan) b.has_rings.1 none.var in
-    let log = ap (log_mount_limit (shape_of plan LogRing)) none.log in
+    let log = log-most (shape_of plan LogRing) before.log (has_log plan) b.has_rings.2 none.log in
     omega (arith, none.rows, rows, listed, blobs, log, few)

@@ -1,10 +1,10 @@
 -- Laws on the sizes: what is always kept, and what is enough.
-use Rattle.std.specs.Prelude.{◌≡◌, ℕ, ◌+◌, ◌*◌, ◌≤◌, min, not, ◌&&◌, IsTrue, IfSome, None, List, [], ◌∷◌, length, replicate, sum, count_by}
+use Rattle.std.specs.Prelude.{◌≡◌, ℕ, ◌+◌, ◌*◌, ◌≤◌, min, not, ◌&&◌, IsTrue, IfSome, List, [], ◌∷◌, length, replicate, sum, count_by}
 use Rattle.fl_model.specs.Facts.{IsTable}
 use Rattle.fl_model.specs.Limits.{is_listed, numbers_of}
-use Rattle.fl_model.specs.Record.{Plan, has_index, has_var, rows_per_page, entries_per_page}
+use Rattle.fl_model.specs.Record.{Plan, has_index, rows_per_page, entries_per_page}
 use Rattle.fl_model.specs.Ring.{Shape, IsShape, Ring, IsRing, fresh, sealed, erased}
-use Rattle.fl_model.specs.Table.{Table, DataRing, IndexRing, VarRing, shape_of}
+use Rattle.fl_model.specs.Table.{Table, DataRing, IndexRing, shape_of}
 use Rattle.fl_model.specs.MountLimit.{ring_mount_limit, voids_at_end, full_mount_limit}
 use Rattle.fl_sizing.specs.Rings.{least_pages, most_pages, end_reads}
 use Rattle.fl_sizing.specs.Sizes.{rows_kept, index_pages, index_blocks, unlisted_pages, full_reads}
@@ -43,12 +43,12 @@ FullRingsReadMost =
     (shape : Shape) (ring : Ring) → IsShape shape → IsRing shape ring → voids_at_end ring.counts ≡ 0 →
     length ring.counts + ring_mount_limit shape ring ≤ most_pages shape + end_reads shape
 
--- no ring of a table without a log has void pages at its end
+-- no ring of a table has void pages at its end
 pub record HasNoVoidsAtEnd (table : Table) : Type 0 where
   pub rows : voids_at_end table.rows.counts ≡ 0
   pub index : IfSome table.index (λ ring. voids_at_end ring.counts ≡ 0)
   pub var : IfSome table.var (λ ring. voids_at_end ring.counts ≡ 0)
-  pub log : table.log ≡ None
+  pub log : IfSome table.log (λ ring. voids_at_end ring.counts ≡ 0)
 
 -- So it is with such a table whose index entries are full, where no more data pages are unlisted than are told: the reads of its mount,
 -- from the table before it and after its repairs, are at most those that are told.

@@ -1,8 +1,8 @@
 -- The sizes of a table, by its plan alone.
 use Rattle.std.specs.Prelude.{ℕ, ◌+◌, ◌-◌, ◌*◌, min, max, Bool, ◌&&◌, List, sum_by, if◌then◌else◌}
 use Rattle.fl_base.specs.declared.types.Geometry.{Geometry}
-use Rattle.fl_model.specs.Record.{Plan, has_index, has_var, row_len, rows_per_page, entries_per_page, content_per_page, blocks_of}
-use Rattle.fl_model.specs.Table.{DataRing, IndexRing, VarRing, shape_of}
+use Rattle.fl_model.specs.Record.{Plan, has_index, has_var, has_log, row_len, rows_per_page, entries_per_page, content_per_page, blocks_of}
+use Rattle.fl_model.specs.Table.{DataRing, IndexRing, VarRing, LogRing, shape_of}
 use Rattle.fl_sizing.specs.Rings.{rounded_up, least_pages, most_pages, blocks_for, end_reads}
 use Rattle.fl_sizing.specs.declared.sizes.TableSizes.{TableSizes}
 
@@ -33,8 +33,8 @@ one_if b = if b then 1 else 0
 -- page whether it is known to be blank, and a page in hand for each ring.
 abbrev pub table_memory : Plan → ℕ
 table_memory plan =
-    (3 * plan.data_blocks + 9 * plan.index_blocks + plan.var_blocks) * plan.geometry.block
-    + (1 + one_if (has_index plan) + one_if (has_var plan)) * plan.geometry.page
+    (3 * plan.data_blocks + 9 * plan.index_blocks + plan.var_blocks + plan.log_blocks) * plan.geometry.block
+    + (1 + one_if (has_index plan) + one_if (has_var plan) + one_if (has_log plan)) * plan.geometry.page
 
 -- how many data pages no index page lists, where both rings are full and only the entries of the last pages aren't in an index page: they
 -- wait, as many as an index page lists at most, or the kept index pages have no room for so many
@@ -55,10 +55,14 @@ index_reads plan = if has_index plan then most_pages (shape_of plan IndexRing) +
 abbrev pub var_reads : Plan → ℕ
 var_reads plan = if has_var plan then end_reads (shape_of plan VarRing) else 0
 
--- the reads of a mount of full rings without void pages: these data pages, the kept pages of the index, and those that find the ends of
--- the rings
+-- .. and those of a log, whose newest page is read once more for its records
+abbrev pub log_reads : Plan → ℕ
+log_reads plan = if has_log plan then end_reads (shape_of plan LogRing) + 1 else 0
+
+-- the reads of a mount of full rings without void pages: these data pages, the kept pages of the index, the newest page of the log, and
+-- those that find the ends of the rings
 abbrev pub full_reads : Plan → ℕ
-full_reads plan = rows_read plan + end_reads (shape_of plan DataRing) + index_reads plan + var_reads plan
+full_reads plan = rows_read plan + end_reads (shape_of plan DataRing) + index_reads plan + var_reads plan + log_reads plan
 
 -- the reads of a mount at most, whatever the pages hold
 abbrev pub most_reads : Plan → ℕ
@@ -80,7 +84,7 @@ sizes_of plan = record {
 
 -- the blocks of a table whose index has as many as are wanted
 abbrev pub blocks_wanted : Plan → ℕ
-blocks_wanted plan = plan.data_blocks + index_blocks plan + plan.var_blocks
+blocks_wanted plan = plan.data_blocks + index_blocks plan + plan.var_blocks + plan.log_blocks
 
 -- The memory of a device: of its tables, of a block, and of four pages in hand. The texts of a script and of replies take more, the same for each
 -- configuration.

@@ -18,7 +18,7 @@ fn add_tables(text: &mut Vec<u8>, interval: Option<u64>, config: &Config) -> Res
     ensures { OnOk result (text.new.items ≡ text.old.items ++ flat_map (table_text interval) config.now.plans) }
 {
     for i in 0..config.tables() {
-        let sizes = TableSizes::of(config.table(i));
+        let sizes = TableSizes::of(config.table(i), config.log(i));
         let name = config.name(i);
         add_table(text, interval, &name, &sizes)?;
     }
@@ -31,7 +31,7 @@ fn device_blocks(config: &Config) -> u64
 {
     let mut blocks = 0;
     for i in 0..config.tables() {
-        blocks += blocks_wanted(config.table(i));
+        blocks += blocks_wanted(config.table(i), config.log(i));
     }
     blocks
 }
@@ -43,7 +43,7 @@ fn device_bytes(config: &Config) -> u64
 {
     let mut bytes = 0;
     for i in 0..config.tables() {
-        bytes += memory(config.table(i));
+        bytes += memory(config.table(i), config.log(i));
     }
     let Geometry { page, block } = config.geometry();
     bytes + u64::from(page) * u64::from(block) + 4 * u64::from(page)

@@ -1,12 +1,13 @@
 // The sizes of a table.
-ghost use Rattle.std.specs.Prelude.{◌≡◌, ◌≤◌, ◌^◌, ◌-◌, ◌/◌, ◌+◌, IsTrue, if◌then◌else◌};
+ghost use Rattle.std.specs.Prelude.{◌≡◌, ◌≤◌, ◌^◌, ◌-◌, ◌/◌, ◌+◌, IfSome, IsTrue, if◌then◌else◌};
 ghost use Rattle.fl_bitmap.specs.Widths.{is_bits};
 ghost use Rattle.fl_model.specs.Record.{rows_per_page};
-ghost use Rattle.fl_plan.specs.Limits.{IsWithinLimits};
-ghost use Rattle.fl_plan.specs.Plan.{Label, plan_of_table};
-ghost use Rattle.fl_sizing.specs.Sizes.{pages_kept, rows_kept, index_pages, index_blocks, blob_bytes, blocks_wanted, table_memory, rows_read, index_reads, var_reads, full_reads, most_reads, sizes_of};
+ghost use Rattle.fl_plan.specs.Limits.{IsRingSize, IsWithinLimits};
+ghost use Rattle.fl_plan.specs.Plan.{Label, blocks_in, plan_of_table, with_log};
+ghost use Rattle.fl_sizing.specs.Sizes.{pages_kept, rows_kept, index_pages, index_blocks, blob_bytes, blocks_wanted, table_memory, rows_read, index_reads, var_reads, log_reads, full_reads, most_reads, sizes_of};
 
 use crate::rings::{blocks_for, end_reads, least_pages, most_pages, rounded_up};
+use fl_base::RingPlace;
 use fl_plan::TableConfig;
 
 /// What follows for a table from its line, in bytes, rows, pages, blocks and reads.
@@ -117,25 +118,43 @@ fn blob_bytes(config: &TableConfig) -> u64
         )
 }
 
+/// The blocks of a log; none where there is none.
+fn log_blocks(log: Option<RingPlace>) -> u64
+    requires { IfSome log IsRingSize }
+    ensures exact { result ≡ blocks_in log }
+    ensures few { result ≤ 16384 }
+{
+    log.map_or(0, |place| u64::from(place.blocks))
+}
+
 /// The blocks of a table whose index has as many as are wanted.
-pub(crate) fn blocks_wanted(config: &TableConfig) -> u64
-    requires { IsWithinLimits config.now }
-    ensures exact { (label : Label) → result ≡ blocks_wanted (plan_of_table label config.now) }
+pub(crate) fn blocks_wanted(config: &TableConfig, log: Option<RingPlace>) -> u64
+    requires limits { IsWithinLimits config.now }
+    requires log { IfSome log IsRingSize }
+    ensures exact { (label : Label) → result ≡ blocks_wanted (with_log (blocks_in log) (plan_of_table label config.now)) }
     ensures few { result ≤ 2 ^ 35 }
 {
-    u64::from(config.rows.blocks) + index_blocks(config) + u64::from(config.var_blocks())
+    u64::from(config.rows.blocks)
+        + index_blocks(config)
+        + u64::from(config.var_blocks())
+        + log_blocks(log)
 }
 
 /// The bytes of memory that it takes.
-pub(crate) fn memory(config: &TableConfig) -> u64
-    requires { IsWithinLimits config.now }
-    ensures exact { (label : Label) → result ≡ table_memory (plan_of_table label config.now) }
+pub(crate) fn memory(config: &TableConfig, log: Option<RingPlace>) -> u64
+    requires limits { IsWithinLimits config.now }
+    requires log { IfSome log IsRingSize }
+    ensures exact { (label : Label) → result ≡ table_memory (with_log (blocks_in log) (plan_of_table label config.now)) }
     ensures few { result ≤ 2 ^ 32 }
 {
     let blocks = 3 * u64::from(config.rows.blocks)
         + 9 * u64::from(config.index_blocks())
-        + u64::from(config.var_blocks());
-    let rings = 1 + u64::from(config.index.is_some()) + u64::from(config.var.is_some());
+        + u64::from(config.var_blocks())
+        + log_blocks(log);
+    let rings = 1
+        + u64::from(config.index.is_some())
+        + u64::from(config.var.is_some())
+        + u64::from(log.is_some());
     blocks * u64::from(config.geometry.block) + rings * u64::from(config.geometry.page)
 }
 
@@ -184,32 +203,46 @@ fn var_reads(config: &TableConfig) -> u64
     end_reads(u64::from(place.blocks), u64::from(config.geometry.block))
 }
 
+/// The reads that find the end of a full log, and its records.
+fn log_reads(config: &TableConfig, log: Option<RingPlace>) -> u64
+    requires limits { IsWithinLimits config.now }
+    requires log { IfSome log IsRingSize }
+    ensures exact { (label : Label) → result ≡ log_reads (with_log (blocks_in log) (plan_of_table label config.now)) }
+    ensures few { result ≤ 2 ^ 17 }
+{
+    let Some(place) = log else {
+        return 0;
+    };
+    end_reads(u64::from(place.blocks), u64::from(config.geometry.block)) + 1
+}
+
 /// The reads of a mount of full rings without void pages.
-fn full_reads(config: &TableConfig) -> u64
-    requires { IsWithinLimits config.now }
-    ensures { (label : Label) → result ≡ full_reads (plan_of_table label config.now) }
+fn full_reads(config: &TableConfig, log: Option<RingPlace>) -> u64
+    requires limits { IsWithinLimits config.now }
+    requires log { IfSome log IsRingSize }
+    ensures { (label : Label) → result ≡ full_reads (with_log (blocks_in log) (plan_of_table label config.now)) }
 {
     let rows = u64::from(config.rows.blocks);
     let rows_end = end_reads(rows, u64::from(config.geometry.block));
-    rows_read(config) + rows_end + index_reads(config) + var_reads(config)
+    rows_read(config) + rows_end + index_reads(config) + var_reads(config) + log_reads(config, log)
 }
 
 /// The reads of any mount at most.
-fn most_reads(config: &TableConfig) -> u64
-    requires { IsWithinLimits config.now }
-    ensures { (label : Label) → result ≡ most_reads (plan_of_table label config.now) }
+fn most_reads(config: &TableConfig, log: Option<RingPlace>) -> u64
+    requires limits { IsWithinLimits config.now }
+    requires log { IfSome log IsRingSize }
+    ensures { (label : Label) → result ≡ most_reads (with_log (blocks_in log) (plan_of_table label config.now)) }
 {
-    let blocks = u64::from(config.rows.blocks)
-        + u64::from(config.index_blocks())
-        + u64::from(config.var_blocks());
+    let blocks = config.blocks() + log_blocks(log);
     4 * (blocks * u64::from(config.geometry.block))
 }
 
 impl TableSizes {
-    /// Those of a table.
-    pub fn of(config: &TableConfig) -> TableSizes
-        requires { IsWithinLimits config.now }
-        ensures exact { (label : Label) → result ≡ sizes_of (plan_of_table label config.now) }
+    /// Those of a table, and of its log, if it has one.
+    pub fn of(config: &TableConfig, log: Option<RingPlace>) -> TableSizes
+        requires limits { IsWithinLimits config.now }
+        requires log { IfSome log IsRingSize }
+        ensures exact { (label : Label) → result ≡ sizes_of (with_log (blocks_in log) (plan_of_table label config.now)) }
         ensures rows { result.rows_kept ≤ 2 ^ 34 }
         ensures memory { result.memory ≤ 2 ^ 32 }
     {
@@ -221,9 +254,9 @@ impl TableSizes {
             index_pages: index_pages(config),
             index_blocks: index_blocks(config),
             blob_bytes: blob_bytes(config),
-            memory: memory(config),
-            full_reads: full_reads(config),
-            most_reads: most_reads(config),
+            memory: memory(config, log),
+            full_reads: full_reads(config, log),
+            most_reads: most_reads(config, log),
         }
     }
 }

@@ -49,6 +49,7 @@ use Rattle.fl_table.proofs.States.{state_of, state-count, to-ring, HaveSize}
 use Rattle.fl_check.specs.Marks.{kept_page}
 use Rattle.fl_check.specs.Rising.{KeysAscend}
 use Rattle.fl_check.specs.Told.{header_bitmap, full_in, TellsCommitted, TellsVoid, TellsPage}
+use Rattle.fl_check.specs.RingRules.{OverPages}
 use Rattle.fl_check.specs.Whole.{Fits, layout_in, rows_shape, IsRowsForm}
 use Rattle.fl_check.specs.declared.numbering.Numbering.{Numbering}
 use Rattle.fl_check.proofs.KeptPages.{good}
@@ -248,5 +249,5 @@ module _ (label : Label) (config : TableConfig) (f : FlashState) (table : Table)
       (record { layout_is = refl; buckets_are = has-buckets label config; size_is = sym (size (model.oldest table.rows + i)) })
       (good.rows plan table i c p facts e some (is.rests.pages.rows.kept i c e some))
 
-  pub data-sound : SoundRing (IsRowsForm config) (Some (layout_in config)) (page_at f) (rows_shape config) (index_end (plan_of_table label config) table) table.rows
-  data-sound = sound-ring (IsRowsForm config) (Some (layout_in config)) f d (index_end plan table) (state_of plan table) shape good-data table.rows is-of forms keys
+  pub data-sound : SoundRing (IsRowsForm config) (OverPages (layout_in config)) (page_at f) (rows_shape config) (index_end (plan_of_table label config) table) table.rows
+  data-sound = sound-ring f d (index_end plan table) (state_of plan table) shape good-data table.rows is-of (IsRowsForm config) (OverPages (layout_in config)) forms keys

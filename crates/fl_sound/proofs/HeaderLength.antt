@@ -3,7 +3,7 @@ use Rattle.std.proofs.Common.{◌≡◌, ℕ, ℤ, pos, negsuc, suc, ◌+◌, �
 use Rattle.std.specs.Fmt.{signed_decimal}
 use Rattle.std.specs.List.{list_all, slice_split, flat_map, join_with_byte}
 use Rattle.std.specs.Prelude.{◌==◌, unwrap_or, if◌then◌else◌}
-use Rattle.std.proofs.lemmas.Bool.{and_parts, leb-true, ltb-false}
+use Rattle.std.proofs.lemmas.Bool.{and_parts, or_parts, leb-true, ltb-false}
 use Rattle.std.proofs.lemmas.Bool.Decides.{nat_tests}
 use Rattle.std.proofs.lemmas.Fmt.{length-decimal-le}
 use Rattle.std.proofs.lemmas.List.{length-map, length-replicate}
@@ -21,7 +21,7 @@ use Rattle.fl_schema.specs.Types.{column_of}
 use Rattle.fl_schema.specs.declared.column.ColumnType.{ColumnType}
 use Rattle.fl_words.specs.Command.{TableLine}
 use Rattle.fl_words.specs.Config as words
-use Rattle.fl_words.specs.Config.{Lines, plan_of, columns_in, first_fault, table_faults}
+use Rattle.fl_words.specs.Config.{Lines, plan_of, columns_in, bad_log, first_fault, table_faults}
 use Rattle.fl_words.specs.Grammar.{greatest_number, is_name, is_letter, is_digit}
 use Rattle.fl_words.specs.Medium.{column_name, line_text, device_text, table_text, header}
 use Rattle.fl_sound.proofs.Making.{made-by}
@@ -53,6 +53,22 @@ format-short : (full : Bool) → spaced (if full then codes "index2" ∷ [] else
 format-short true = omega arith
 format-short false = omega arith
 
+-- .. and those for a log, whose blocks are few
+log-short : (log : Option ℕ) → bad_log log ≡ false → spaced (if nat_lt 0 (unwrap_or log 0) then codes "rlc" ∷ decimal (unwrap_or log 0) ∷ [] else []) ≤ 10
+log-short None few = omega arith
+log-short (Some blocks) few = by_some (nat_lt 0 blocks)
+  where
+    short : length (decimal blocks) ≤ 5
+    short = let most : blocks ≤ 16384 = ltb-false 16384 blocks (or_parts (nat_lt blocks 3) (nat_lt 16384 blocks) few).1 in length-decimal-le 5 blocks (omega arith) (omega (arith, most)) (omega (arith, most))
+
+    by_some : (some : Bool) → spaced (if some then codes "rlc" ∷ decimal blocks ∷ [] else []) ≤ 10
+    by_some true = omega (arith, short)
+    by_some false = omega arith
+
+spaced-append : (a b : List (List ℕ)) → spaced (a ++ b) ≡ spaced a + spaced b
+spaced-append [] b = omega arith
+spaced-append (word ∷ a) b = omega (arith, spaced-append a b)
+
 name-short : (name : List ℕ) → is_name name ≡ true → length name ≤ 8
 name-short [] h = omega arith
 name-short (byte ∷ bytes) h =
@@ -78,6 +94,12 @@ device-short geometry page block =
     omega (arith, lined (codes "device" ∷ decimal geometry.page ∷ decimal geometry.block ∷ []), decimal-short geometry.page page, decimal-short geometry.block block)
 
 module _ (geometry : Geometry) (before : List Plan) (line : TableLine) (read : IsTableRead line) (passes : first_fault (table_faults geometry before line) ≡ None) where
+  abbrev format_words : List (List ℕ)
+  format_words = if line.full_index then codes "index2" ∷ [] else []
+
+  abbrev log_words : List (List ℕ)
+  log_words = if nat_lt 0 (unwrap_or line.log_blocks 0) then codes "rlc" ∷ decimal (unwrap_or line.log_blocks 0) ∷ [] else []
+
   few-columns : length (unwrap_or (columns_in line.columns) []) ≤ 8
   few-columns =
       ltb-false 8 (length (unwrap_or (columns_in line.columns) []))
@@ -88,6 +110,9 @@ module _ (geometry : Geometry) (before : List Plan) (line : TableLine) (read : I
       let few : line.error ≤ 255 = ltb-false 255 line.error (test-passes (table_faults geometry before line) 10 (nat_lt 255 line.error, words.ErrorBound) passes refl) in
       length-decimal-le 3 line.error (omega arith) (omega (arith, few)) (omega (arith, few))
 
+  few-log : spaced log_words ≤ 10
+  few-log = log-short line.log_blocks (test-passes (table_faults geometry before line) 15 (bad_log line.log_blocks, words.LogBlocks) passes refl)
+
   line-short : length (table_text (plan_of geometry line)) ≤ 240
   line-short =
       omega (
@@ -95,7 +120,9 @@ module _ (geometry : Geometry) (before : List Plan) (line : TableLine) (read : I
         lined
             (codes "table" ∷ line.name ∷ decimal line.key ∷ join_with_byte 44 (map column_name (unwrap_or (columns_in line.columns) []))
             ∷ decimal line.data_blocks ∷ decimal line.index_blocks ∷ decimal line.var_blocks ∷ decimal line.bits ∷ signed_decimal line.base
-            ∷ decimal line.width ∷ decimal line.error ∷ decimal line.blob_limit ∷ (if line.full_index then codes "index2" ∷ [] else [])),
+            ∷ decimal line.width ∷ decimal line.error ∷ decimal line.blob_limit ∷ (format_words ++ log_words)),
+        spaced-append format_words log_words,
+        few-log,
         name-short line.name read.name,
         columns-short (columns_in line.columns) line.columns refl few-columns,
         decimal-short line.key read.key,
@@ -128,7 +155,7 @@ tables-short geometry before (plan ∷ plans) taken =
     omega (arith, length-append (table_text plan) (flat_map table_text plans), taken-short geometry before plan taken.0, tables-short geometry (before ++ plan ∷ []) plans taken.1)
 
 -- the lines of a configuration that was made were taken one behind another
-pub made-stands : (lines : Lines) (config : Config) → IsAccepted lines → Makes lines config → Stands (Some config.geometry) config.plans
+made-stands : (lines : Lines) (config : Config) → IsAccepted lines → Makes lines config → Stands (Some config.geometry) config.plans
 made-stands lines config accepted makes =
     let made = made-by lines config makes in
     subst (λ (device : Option Geometry). Stands device config.plans) made.geometry_is (subst (λ (plans : List Plan). Stands lines.device plans) made.plans_are (accepted-stands lines accepted))

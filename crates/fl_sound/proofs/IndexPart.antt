@@ -29,7 +29,7 @@ use Rattle.fl_table.specs.Pages.{bytes_in}
 use Rattle.fl_table.proofs.Moved.{has-index}
 use Rattle.fl_check.specs.Entries.{entries_in, HaveEntries}
 use Rattle.fl_check.specs.Marks.{kept_page}
-use Rattle.fl_check.specs.RingRules.{IsRingSound}
+use Rattle.fl_check.specs.RingRules.{NoRows, IsRingSound}
 use Rattle.fl_check.specs.Tally.{listed_to}
 use Rattle.fl_check.specs.Whole.{OfRing, shape_in as ring_shape, rows_shape, form_in, layout_in, end_in, indexing, IsIndexForm, IsIndexSound}
 use Rattle.fl_check.specs.Whole as whole
@@ -45,7 +45,7 @@ use Rattle.fl_sound.proofs.RingSound.{SoundRing, AreFormed, sizes, counts-some, 
 -- the index ring in its place
 pub record IndexAt (label : Label) (config : TableConfig) (f : FlashState) (table : Table) (x : Shape) : Type 0 where
   pub n : Numbering
-  pub sound : IsRingSound (IsIndexForm config) None (page_at f) x 0 n
+  pub sound : IsRingSound (IsIndexForm config) NoRows (page_at f) x 0 n
   pub end : listed_to (entries_in config.geometry.page (form_in config)) (page_at f) x n.marks n.marks.kept ≡ index_end (plan_of_table label config) table
   pub entries : (rows : Numbering) → Reads (page_at f) (rows_shape config) (index_end (plan_of_table label config) table) table.rows rows → HaveEntries (page_at f) x (rows_shape config) (indexing config n rows)
 
@@ -136,8 +136,8 @@ module _ (label : Label) (config : TableConfig) (f : FlashState) (table : Table)
         let h = image.kept i c e some_count in
         (size (model.oldest ring + i), record { first = h.holds.first; entries = h.holds.entries; small = low-first i h.holds.first (first-listed i h.holds h.is); full = many i h.holds h.is; bytes = h.bytes })
 
-    sound : SoundRing (IsIndexForm config) None (page_at f) (shape_in (config.rows.first_block + config.rows.blocks) (plan_of_table label config)) 0 found.is.ring
-    sound = sound-ring (IsIndexForm config) None f (shape_in first plan) 0 found.s shape good ring is-of forms (λ n reads. tt)
+    sound : SoundRing (IsIndexForm config) NoRows (page_at f) (shape_in (config.rows.first_block + config.rows.blocks) (plan_of_table label config)) 0 found.is.ring
+    sound = sound-ring f (shape_in first plan) 0 found.s shape good ring is-of (IsIndexForm config) NoRows forms (λ n reads. tt)
 
     listings : (i c : ℕ) → slice_get found.is.ring.counts i ≡ Some c → 0 < c
         → ListsPages (plan_of_table label config) table found.is.ring i (page_at f (kept_page (shape_in (config.rows.first_block + config.rows.blocks) (plan_of_table label config)) sound.n.marks i))
@@ -182,7 +182,7 @@ module _ (label : Label) (config : TableConfig) (f : FlashState) (table : Table)
         by_part : IndexAt label config f table (ring_shape config at) → IndexPart label config f table
         by_part a = record {
           n = Some a.n;
-          sound = of_ring (λ place n. IsRingSound (IsIndexForm config) None (page_at f) (ring_shape config place) 0 n) config.index (Some a.n) at a.n at_is refl a.sound;
+          sound = of_ring (λ place n. IsRingSound (IsIndexForm config) NoRows (page_at f) (ring_shape config place) 0 n) config.index (Some a.n) at a.n at_is refl a.sound;
           end = ap (λ (o : Option RingPlace). end_in config (page_at f) o (Some a.n)) at_is ∙ a.end;
           entries = λ rows reads. of_ring (λ place n. HaveEntries (page_at f) (ring_shape config place) (rows_shape config) (indexing config n rows)) config.index (Some a.n) at a.n at_is refl (a.entries rows reads);
         }
@@ -191,7 +191,7 @@ module _ (label : Label) (config : TableConfig) (f : FlashState) (table : Table)
   index-none : config.index ≡ None → table.index ≡ None → IndexPart label config f table
   index-none none ring_none = record {
     n = None;
-    sound = of_none (λ place n. IsRingSound (IsIndexForm config) None (page_at f) (ring_shape config place) 0 n) config.index none;
+    sound = of_none (λ place n. IsRingSound (IsIndexForm config) NoRows (page_at f) (ring_shape config place) 0 n) config.index none;
     end = ap (λ (o : Option RingPlace). end_in config (page_at f) o None) none ∙ sym (ends (firsts table) (let h = parts.facts label config f table is in firsts-length table.index_pages ∙ h.index_each ∙ ap (λ (o : Option model.Ring). full_pages (counts_in o)) ring_none));
     entries = λ rows reads. of_none (λ place n. HaveEntries (page_at f) (ring_shape config place) (rows_shape config) (indexing config n rows)) config.index none;
   }

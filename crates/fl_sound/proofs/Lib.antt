@@ -8,6 +8,7 @@ pub mod ConfigFacts
 pub mod Told
 pub mod DataPart
 pub mod IndexPart
+pub mod LogPart
 pub mod VarPart
 pub mod Whole
 pub mod Fronts

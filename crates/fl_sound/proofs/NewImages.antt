@@ -2,7 +2,6 @@
 use Rattle.std.proofs.Common.{◌≡◌, ℕ, zero, suc, ◌+◌, ◌-◌, ◌*◌, ◌≤◌, true, None, List, [], ◌∷◌, ◌++◌, length, map, take, drop, replicate, slice_range, sum_by, refl, sym, ◌∙◌, ap, length-append, arith}
 use Rattle.std.proofs.Math.Seq.{drop-append-add, take-append_seam}
 use Rattle.std.proofs.lemmas.List.{drop-replicate, length-replicate}
-use Rattle.fl_base.specs.declared.types.Geometry.{Geometry}
 use Rattle.fl_flash.specs.Flash.{FlashState, page_at}
 use Rattle.fl_machine.specs.Machine.{fresh_tables}
 use Rattle.fl_model.specs.Image.{IsTableImage, AreTableImages, medium_len}
@@ -10,12 +9,11 @@ use Rattle.fl_model.specs.Layout.{is_blank}
 use Rattle.fl_model.specs.Record.{Plan, Config, blocks_of}
 use Rattle.fl_model.specs.Table.{fresh_table}
 use Rattle.fl_table.specs.Pages.{place_in}
-use Rattle.fl_table.proofs.Images.{rests-image, blank-rests}
+use Rattle.fl_rlc.proofs.Images.{rests-image, blank-rests}
 use Rattle.fl_words.specs.Medium.{IsImage, header}
 use Rattle.fl_jobs.specs.Header.{IsMade}
-use Rattle.fl_jobs.proofs.AcceptedLines.{AreTaken}
 use Rattle.fl_sound.specs.Sound.{new_image}
-use Rattle.fl_sound.proofs.HeaderLength.{made-stands, header-length}
+use Rattle.fl_sound.proofs.HeaderLength.{header-length}
 
 -- a part of the bytes behind the header is blank
 blank-take : (m n : ℕ) → is_blank (take m (replicate n 255)) ≡ true
@@ -51,29 +49,26 @@ module _ (config : Config) (size : length (header config) ≡ 1024) where
       let begin = 1024 + p * config.geometry.page in
       blank-part (header config) (medium_len config - 1024) begin (begin + config.geometry.page) (omega (arith, size))
 
-  -- a table without a log
-  one : (place : ℕ) (plan : Plan) → plan.log_blocks ≡ 0 → IsTableImage config (new_image config) place plan (fresh_table plan)
-  one place plan unlogged =
+  one : (place : ℕ) (plan : Plan) → IsTableImage config (new_image config) place plan (fresh_table plan)
+  one place plan =
       let first = sum_by blocks_of (take place config.plans) in
-      rests-image config place plan (fresh_table plan) flash unlogged refl refl (blank-rests flash first plan (λ ring n. blank (place_in first plan ring n)))
+      rests-image config place plan (fresh_table plan) flash refl refl (blank-rests flash first plan (λ ring n. blank (place_in first plan ring n)))
 
-  -- .. as each is that a line makes
-  all : (place : ℕ) (geometry : Geometry) (before plans : List Plan) → AreTaken geometry before plans → AreTableImages config (new_image config) place plans (map fresh_table plans)
-  all place geometry before [] taken = tt
-  all place geometry before (plan ∷ plans) taken =
-      (one place plan (sym (ap (λ (p : Plan). p.log_blocks) taken.0.plan_is)), all (place + 1) geometry (before ++ plan ∷ []) plans taken.1)
+  all : (place : ℕ) (plans : List Plan) → AreTableImages config (new_image config) place plans (map fresh_table plans)
+  all place [] = tt
+  all place (plan ∷ plans) = (one place plan, all (place + 1) plans)
 
   len : length (new_image config) ≡ medium_len config
   len =
       let least : 1024 ≤ medium_len config = omega arith in
       omega (arith, least, size, length-append (header config) (replicate (medium_len config - 1024) 255), length-replicate {A = ℕ} (medium_len config - 1024) 255)
 
-  image : AreTaken config.geometry [] config.plans → IsImage config (new_image config) (fresh_tables config)
-  image taken = record {
+  image : IsImage config (new_image config) (fresh_tables config)
+  image = record {
     len = len;
     head = ap (λ (n : ℕ). take n (new_image config)) (sym size) ∙ take-append_seam (header config) (replicate (medium_len config - 1024) 255);
-    tables_are = all 0 config.geometry [] config.plans taken;
+    tables_are = all 0 config.plans;
   }
 
 pub new-image : (config : Config) → IsMade config → IsImage config (new_image config) (fresh_tables config)
-new-image config made = image config (header-length made.lines config made.accepted made.makes) (made-stands made.lines config made.accepted made.makes).1
+new-image config made = image config (header-length made.lines config made.accepted made.makes)

@@ -6,7 +6,6 @@ use Rattle.std.proofs.Math.Nat.{mod-lt, mul-le-mul_right, add-mul}
 use Rattle.fl_base.specs.declared.types.Geometry.{Geometry}
 use Rattle.fl_flash.specs.Flash.{FlashState, page_at, pages}
 use Rattle.fl_flash.specs.Places.{extent}
-use Rattle.fl_model.specs.Record.{RowLayout}
 use Rattle.fl_model.specs.Ring as model
 use Rattle.fl_model.proofs.Lists.{slice_get-some}
 use Rattle.fl_ring.specs.Counts.{page_count}
@@ -16,7 +15,7 @@ use Rattle.fl_ring.proofs.Lengths.{page_length}
 use Rattle.fl_check.specs.Bodies.{HaveBodies}
 use Rattle.fl_check.specs.Marks.{kept_page}
 use Rattle.fl_check.specs.Numbering.{IsNumbered}
-use Rattle.fl_check.specs.RingRules.{HaveKeys, IsRingSound}
+use Rattle.fl_check.specs.RingRules.{KeyOrder, HaveKeys, IsRingSound}
 use Rattle.fl_check.specs.declared.numbering.Numbering.{Numbering}
 use Rattle.fl_check.proofs.GoodNumbering.{good_numbering}
 use Rattle.fl_check.proofs.GoodStates.{good_rest}
@@ -51,39 +50,39 @@ sizes f g first blocks reaches geometry within some block n =
     page_length f (place (record { first = first * g.block; blocks = blocks; per_block = g.block; size = g.page }) n) reaches (omega (arith, small, all, split, pages_is)) ∙ ap (λ (h : Geometry). h.page) (sym geometry)
 
 -- a ring of which all rules hold, and what a check reads of it
-pub record SoundRing (Form : ℕ → List ℕ → Type 0) (rows : Option RowLayout) (page : ℕ → List ℕ) (r : Shape) (at_least : ℕ) (ring : model.Ring) : Type 0 where
+pub record SoundRing (Form : ℕ → List ℕ → Type 0) (order : KeyOrder) (page : ℕ → List ℕ) (r : Shape) (at_least : ℕ) (ring : model.Ring) : Type 0 where
   pub n : Numbering
   pub reads : Reads page r at_least ring n
-  pub sound : IsRingSound Form rows page r at_least n
+  pub sound : IsRingSound Form order page r at_least n
 
 -- each page with a count has the form of a page with its number
 abbrev pub AreFormed : (ℕ → List ℕ → Type 0) → (ℕ → List ℕ) → Shape → model.Ring → Type 0
 AreFormed Form page r ring = (i c : ℕ) → slice_get ring.counts i ≡ Some c → 0 < c → Form (model.oldest ring + i) (page (place r (model.oldest ring + i)))
 
-module _ (Form : ℕ → List ℕ → Type 0) (rows : Option RowLayout) (f : FlashState) (r : Shape) (at_least : ℕ) (s : RingState) (shape : IsShape r) (good : IsGood f r at_least s) (ring : model.Ring) (same : IsOf s ring)
-    (forms : AreFormed Form (page_at f) r ring) (keys : (n : Numbering) → Reads (page_at f) r at_least ring n → HaveKeys rows (page_at f) r n.marks) where
-  with-numbers : (n : Numbering) → IsNumbered (page_at f) r at_least n.marks n.next → SoundRing Form rows (page_at f) r at_least ring
-  with-numbers n numbered = record {
-    n = n;
-    reads = told;
-    sound = record {
-      formed = record { numbered = numbered; bodies = bodies };
-      keys = keys n told;
-      rest = good_rest r s shape (page_at f) good.on n.marks numbered.marks;
-    };
-  }
-    where
-      told : Reads (page_at f) r at_least ring n
-      told = reads f r at_least s shape good ring same n numbered
+module _ (f : FlashState) (r : Shape) (at_least : ℕ) (s : RingState) (shape : IsShape r) (good : IsGood f r at_least s) (ring : model.Ring) (same : IsOf s ring) where
+  -- so each committed page has it
+  pub formed-bodies : (Form : ℕ → List ℕ → Type 0) → AreFormed Form (page_at f) r ring → (n : Numbering) → Reads (page_at f) r at_least ring n → HaveBodies Form (page_at f) r n
+  formed-bodies Form forms n told i lt number counted committed =
+      let c = slice_get-some ring.counts i (omega (arith, lt, told.kept)) in
+      let some = ltb-true 0 c.0 (sym (told.committed i c.0 c.1) ∙ committed) in
+      let next = told.next i c.0 c.1 some in
+      let own : model.oldest ring + i ≡ number = omega (arith, lt, told.kept, next, same.next, same.count, good.on.ring.not_negative, counted) in
+      subst (λ (k : ℕ). Form k (page_at f (kept_page r n.marks i))) own
+      (subst (Form (model.oldest ring + i)) (sym (told.at i (omega (arith, lt, told.kept)))) (forms i c.0 c.1 some))
 
-      bodies : HaveBodies Form (page_at f) r n
-      bodies i lt number counted committed =
-          let c = slice_get-some ring.counts i (omega (arith, lt, told.kept)) in
-          let some = ltb-true 0 c.0 (sym (told.committed i c.0 c.1) ∙ committed) in
-          let next = told.next i c.0 c.1 some in
-          let own : model.oldest ring + i ≡ number = omega (arith, lt, told.kept, next, same.next, same.count, good.on.ring.not_negative, counted) in
-          subst (λ (k : ℕ). Form k (page_at f (kept_page r n.marks i))) own
-          (subst (Form (model.oldest ring + i)) (sym (told.at i (omega (arith, lt, told.kept)))) (forms i c.0 c.1 some))
+  module _ (Form : ℕ → List ℕ → Type 0) (order : KeyOrder) (forms : AreFormed Form (page_at f) r ring) (keys : (n : Numbering) → Reads (page_at f) r at_least ring n → HaveKeys order (page_at f) r n) where
+    with-numbers : (n : Numbering) → IsNumbered (page_at f) r at_least n.marks n.next → SoundRing Form order (page_at f) r at_least ring
+    with-numbers n numbered =
+        let told = reads f r at_least s shape good ring same n numbered in
+        record {
+          n = n;
+          reads = told;
+          sound = record {
+            formed = record { numbered = numbered; bodies = formed-bodies Form forms n told };
+            keys = keys n told;
+            rest = good_rest r s shape (page_at f) good.on n.marks numbered.marks;
+          };
+        }
 
-  pub sound-ring : SoundRing Form rows (page_at f) r at_least ring
-  sound-ring = let h = good_numbering f r at_least s shape good in with-numbers (record { marks = h.m; next = h.next }) h.is
+    pub sound-ring : SoundRing Form order (page_at f) r at_least ring
+    sound-ring = let h = good_numbering f r at_least s shape good in with-numbers (record { marks = h.m; next = h.next }) h.is

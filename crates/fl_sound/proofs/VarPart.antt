@@ -37,7 +37,7 @@ use Rattle.fl_var.proofs.Bodies.{once, bodies-at}
 use Rattle.fl_var.proofs.States.{state_of, IsStateOf, state-is}
 use Rattle.fl_check.specs.Claims.{AllBelow}
 use Rattle.fl_check.specs.References.{PageLeads}
-use Rattle.fl_check.specs.RingRules.{IsRingSound}
+use Rattle.fl_check.specs.RingRules.{NoRows, IsRingSound}
 use Rattle.fl_check.specs.Tally.{reference_end, blobs_end}
 use Rattle.fl_check.specs.Whole.{OfRing, shape_in as ring_shape, rows_shape, layout_in, IsVarForm}
 use Rattle.fl_check.specs.declared.numbering.Numbering.{Numbering}
@@ -66,14 +66,14 @@ ends-within so_far bound (row ∷ rows) le each = let k = each 0 row refl in end
 -- the ring of variable data in its place
 pub record VarAt (label : Label) (config : TableConfig) (f : FlashState) (table : Table) (r : Shape) : Type 0 where
   pub n : Numbering
-  pub sound : IsRingSound IsVarForm None (page_at f) r (blobs_end 0 (map stored_row table.entries)) n
+  pub sound : IsRingSound IsVarForm NoRows (page_at f) r (blobs_end 0 (map stored_row table.entries)) n
   pub leads : (rows : Numbering) → Reads (page_at f) (rows_shape config) (index_end (plan_of_table label config) table) table.rows rows →
       AllBelow (PageLeads (layout_in config) (page_at f) (rows_shape config) rows.marks r n) rows.marks.kept
 
 -- .. which a table may not have
 pub record VarPart (label : Label) (config : TableConfig) (f : FlashState) (table : Table) : Type 0 where
   pub n : Option Numbering
-  pub sound : OfRing (λ place n. IsRingSound IsVarForm None (page_at f) (ring_shape config place) (blobs_end 0 (map stored_row table.entries)) n) config.var n
+  pub sound : OfRing (λ place n. IsRingSound IsVarForm NoRows (page_at f) (ring_shape config place) (blobs_end 0 (map stored_row table.entries)) n) config.var n
   pub leads : (rows : Numbering) → Reads (page_at f) (rows_shape config) (index_end (plan_of_table label config) table) table.rows rows →
       OfRing (λ place n. AllBelow (PageLeads (layout_in config) (page_at f) (rows_shape config) rows.marks (ring_shape config place) n) rows.marks.kept) config.var n
 
@@ -211,8 +211,8 @@ module _ (label : Label) (config : TableConfig) (f : FlashState) (table : Table)
     forms : AreFormed IsVarForm (page_at f) r ring
     forms i c e some = pages.good.content plan table ring i c (page_at f (place r (model.oldest ring + i))) (facts label config f table is) (pages-are.image.kept i c e some)
 
-    sound : SoundRing IsVarForm None (page_at f) r end ring
-    sound = sound-ring IsVarForm None f r end s shape good ring is-of forms (λ n reads. tt)
+    sound : SoundRing IsVarForm NoRows (page_at f) r end ring
+    sound = sound-ring f r end s shape good ring is-of IsVarForm NoRows forms (λ n reads. tt)
 
     used : (number : ℕ) (content : ContentPage) → model.oldest ring ≤ number → slice_get ring.counts (number - model.oldest ring) ≡ Some 1
         → slice_get table.var_pages (full_pages (take (number - model.oldest ring) ring.counts)) ≡ Some content → page_count (page_at f (place r number)) ≡ content.used
@@ -256,7 +256,7 @@ module _ (label : Label) (config : TableConfig) (f : FlashState) (table : Table)
         by_part : VarAt label config f table (ring_shape config at) → VarPart label config f table
         by_part a = record {
           n = Some a.n;
-          sound = of_ring (λ place n. IsRingSound IsVarForm None (page_at f) (ring_shape config place) (blobs_end 0 (map stored_row table.entries)) n) config.var (Some a.n) at a.n at_is refl a.sound;
+          sound = of_ring (λ place n. IsRingSound IsVarForm NoRows (page_at f) (ring_shape config place) (blobs_end 0 (map stored_row table.entries)) n) config.var (Some a.n) at a.n at_is refl a.sound;
           leads = λ rows reads.
               of_ring (λ place n. AllBelow (PageLeads (layout_in config) (page_at f) (rows_shape config) rows.marks (ring_shape config place) n) rows.marks.kept) config.var (Some a.n) at a.n at_is refl (a.leads rows reads);
         }
@@ -265,7 +265,7 @@ module _ (label : Label) (config : TableConfig) (f : FlashState) (table : Table)
   var-none : config.var ≡ None → VarPart label config f table
   var-none none = record {
     n = None;
-    sound = of_none (λ place n. IsRingSound IsVarForm None (page_at f) (ring_shape config place) (blobs_end 0 (map stored_row table.entries)) n) config.var none;
+    sound = of_none (λ place n. IsRingSound IsVarForm NoRows (page_at f) (ring_shape config place) (blobs_end 0 (map stored_row table.entries)) n) config.var none;
     leads = λ rows reads. of_none (λ place n. AllBelow (PageLeads (layout_in config) (page_at f) (rows_shape config) rows.marks (ring_shape config place) n) rows.marks.kept) config.var none;
   }
 

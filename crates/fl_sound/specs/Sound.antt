@@ -1,6 +1,7 @@
 -- Tables that a flash stands for are sound, and with which counts.
-use Rattle.std.specs.Prelude.{◌≡◌, ℕ, ◌+◌, ◌-◌, ◌≤◌, ◌==◌, Option, Some, List, ◌++◌, length, map, take, replicate, sum, sum_by, count_by, slice_get}
+use Rattle.std.specs.Prelude.{◌≡◌, ℕ, ◌+◌, ◌-◌, ◌≤◌, ◌==◌, Option, Some, IfSome, List, ◌++◌, length, map, take, replicate, sum, sum_by, count_by, slice_get}
 use Rattle.fl_base.specs.Causes.{Appends, AppendsFront}
+use Rattle.fl_base.specs.declared.types.RingPlace.{RingPlace}
 use Rattle.fl_flash.specs.Flash.{FlashState, page_at}
 use Rattle.fl_flash.specs.Places.{extent}
 use Rattle.fl_jobs.specs.Checking.{IsFound, CheckEnds}
@@ -10,15 +11,16 @@ use Rattle.fl_jobs.specs.declared.status.ToolStatus.{ToolStatus}
 use Rattle.fl_jobs.specs.declared.status.ToolStatus.TheVariants.{Done, NotImage, Unsound}
 use Rattle.fl_machine.specs.Machine.{Machine, fresh_tables}
 use Rattle.fl_machine.specs.Script.{Ready, start_of, ended, StandsAfter}
+use Rattle.fl_model.specs.Bare.{bare}
 use Rattle.fl_model.specs.Image.{medium_len}
 use Rattle.fl_model.specs.Record.{Plan, Config, blocks_of}
 use Rattle.fl_model.specs.Table.{Table}
-use Rattle.fl_plan.specs.Plan.{IsConfigOf}
+use Rattle.fl_plan.specs.Plan.{IsConfigOf, IsRingAt}
 use Rattle.fl_plan.specs.declared.table_config.TableConfig.{TableConfig}
-use Rattle.fl_table.specs.Pages.{Rests}
+use Rattle.fl_rlc.specs.Logged.{Rests}
 use Rattle.fl_words.specs.Config.{Lines}
 use Rattle.fl_words.specs.Medium.{IsImage, header}
-use Rattle.fl_check.specs.Whole.{Fits, IsFinding}
+use Rattle.fl_check.specs.Whole.{Fits, LogFits, IsFinding}
 use Rattle.fl_check.specs.declared.finding.Finding.{Finding}
 use Rattle.fl_check.specs.declared.finding.Finding.TheVariants.{Sound}
 
@@ -30,17 +32,25 @@ void_pages counts = count_by (λ count. count == 0) counts
 abbrev pub sound_table : Table → Finding
 sound_table table = Sound (sum table.rows.counts) (length table.rows.counts) (void_pages table.rows.counts)
 
--- a flash whose medium reaches to its end stands for this table of a configuration
-pub record StandsOn (config : TableConfig) (f : FlashState) (plan : Plan) (table : Table) : Type 0 where
+-- the log of a plan stands behind the rings of its configuration, on a flash; no table with one has variable data
+pub record LogStands (config : TableConfig) (log : Option RingPlace) (f : FlashState) (plan : Plan) : Type 0 where
+  pub at : IsRingAt log (config.rows.first_block + plan.data_blocks + plan.index_blocks + plan.var_blocks) plan.log_blocks
+  pub fits : LogFits log f
+  pub alone : IfSome log (λ place. plan.var_blocks ≡ 0)
+
+-- a flash whose medium reaches to its end stands for this table of a configuration, with its log where it has one
+pub record StandsOn (config : TableConfig) (log : Option RingPlace) (f : FlashState) (plan : Plan) (table : Table) : Type 0 where
   pub fits : Fits config f
   pub reaches : f.start + extent f.geometry f.blocks ≤ length f.media.content
-  pub config_is : IsConfigOf config plan
+  pub config_is : IsConfigOf config (bare plan)
+  pub log_stands : LogStands config log f plan
   pub rests : Rests f config.rows.first_block plan table
 
 -- a flash over the bytes of an image, and where the image's i-th table lies on it
-pub record LiesIn (config : Config) (bytes : List ℕ) (i : ℕ) (plan : Plan) (table : TableConfig) (f : FlashState) : Type 0 where
+pub record LiesIn (config : Config) (bytes : List ℕ) (i : ℕ) (plan : Plan) (table : TableConfig) (log : Option RingPlace) (f : FlashState) : Type 0 where
   pub plan_is : slice_get config.plans i ≡ Some plan
-  pub config_is : IsConfigOf table plan
+  pub config_is : IsConfigOf table (bare plan)
+  pub log_stands : LogStands table log f plan
   pub first : table.rows.first_block ≡ sum_by blocks_of (take i config.plans)
   pub fits : Fits table f
   pub content : f.media.content ≡ bytes
@@ -49,13 +59,13 @@ pub record LiesIn (config : Config) (bytes : List ℕ) (i : ℕ) (plan : Plan) (
   pub blocks : f.blocks ≡ sum_by blocks_of config.plans
 
 -- this is what is found, and nothing else
-pub record FindsAlone (config : TableConfig) (f : FlashState) (finding : Finding) : Type 0 where
-  pub found : IsFinding config (page_at f) finding
-  pub alone : (other : Finding) → IsFinding config (page_at f) other → other ≡ finding
+pub record FindsAlone (config : TableConfig) (log : Option RingPlace) (f : FlashState) (finding : Finding) : Type 0 where
+  pub found : IsFinding config log (page_at f) finding
+  pub alone : (other : Finding) → IsFinding config log (page_at f) other → other ≡ finding
 
 -- what is found rightly of a table over a flash
-abbrev pub Finds : TableConfig → FlashState → Finding → Type 0
-Finds config f finding = IsFinding config (page_at f) finding
+abbrev pub Finds : TableConfig → Option RingPlace → FlashState → Finding → Type 0
+Finds config log f finding = IsFinding config log (page_at f) finding
 
 -- the bytes of an image that was just made: its header, and blank pages
 abbrev pub new_image : Config → List ℕ
@@ -75,13 +85,13 @@ pub record TellsSound (config : Config) (tables : List Table) (told told_now : O
 
 pub record TablesAreSound : Type 0 where
   -- a table for which a flash stands
-  pub tables : (config : TableConfig) (f : FlashState) (plan : Plan) (table : Table) → StandsOn config f plan table → FindsAlone config f (sound_table table)
+  pub tables : (config : TableConfig) (log : Option RingPlace) (f : FlashState) (plan : Plan) (table : Table) → StandsOn config log f plan table → FindsAlone config log f (sound_table table)
   -- a table of an image
-  pub images : (config : Config) (bytes : List ℕ) (tables : List Table) (i : ℕ) (plan : Plan) (table : Table) (c : TableConfig) (f : FlashState) →
-      IsImage config bytes tables → slice_get tables i ≡ Some table → LiesIn config bytes i plan c f → FindsAlone c f (sound_table table)
+  pub images : (config : Config) (bytes : List ℕ) (tables : List Table) (i : ℕ) (plan : Plan) (table : Table) (c : TableConfig) (log : Option RingPlace) (f : FlashState) →
+      IsImage config bytes tables → slice_get tables i ≡ Some table → LiesIn config bytes i plan c log f → FindsAlone c log f (sound_table table)
   -- a table of the image that a run leaves
-  pub runs : (config : Config) (bytes : List ℕ) (machine : Machine) (i : ℕ) (plan : Plan) (table : Table) (c : TableConfig) (f : FlashState) →
-      StandsAfter config (Some bytes) machine → slice_get machine.tables i ≡ Some table → LiesIn config bytes i plan c f → FindsAlone c f (sound_table table)
+  pub runs : (config : Config) (bytes : List ℕ) (machine : Machine) (i : ℕ) (plan : Plan) (table : Table) (c : TableConfig) (log : Option RingPlace) (f : FlashState) →
+      StandsAfter config (Some bytes) machine → slice_get machine.tables i ≡ Some table → LiesIn config bytes i plan c log f → FindsAlone c log f (sound_table table)
   -- what a check of an image finds of its i-th table
   pub checks : (config : Config) (lines : Lines) (bytes : List ℕ) (tables : List Table) (i : ℕ) (table : Table) (finding : Finding) →
       lines.device ≡ Some config.geometry → lines.plans ≡ config.plans → IsImage config bytes tables → slice_get tables i ≡ Some table → IsFound Finds lines bytes i finding → finding ≡ sound_table table

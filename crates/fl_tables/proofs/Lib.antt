@@ -1,4 +1,5 @@
 pub mod Going
+pub mod Outsides
 pub mod Apart
 pub mod Stopping
 pub mod TablesChanged
@@ -8,5 +9,4 @@ pub mod TablesMade
 pub mod MountedSoFar
 pub mod TablesReads
 pub mod InTurn
-pub mod RingRepairs
 pub mod TableRepairs

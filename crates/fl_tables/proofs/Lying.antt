@@ -5,22 +5,19 @@ use Rattle.std.proofs.Math.Dec.{eqb}
 use Rattle.std.proofs.lemmas.Bool.Decides.{eqb_tells}
 use Rattle.std.proofs.lemmas.Bool.{cases_lt}
 use Rattle.fl_flash.specs.Flash.{FlashState, Goes}
-use Rattle.fl_table.specs.Memory.{LiesOn, is_running}
-use Rattle.fl_table.specs.declared.table.Table.{Table}
-use Rattle.fl_table.proofs.StillStands.{lies-moved}
+use Rattle.fl_rlc.specs.Table.{LiesOn, is_running}
+use Rattle.fl_rlc.specs.declared.table.LoggedTable.{LoggedTable}
+use Rattle.fl_rlc.proofs.Powered.{lies-on}
 use Rattle.fl_tables.specs.Tables.{entries_with, LieOn, AreRunning}
 use Rattle.fl_tables.specs.declared.tables.Entry.{Entry}
 use Rattle.fl_tables.proofs.TablesChanged.{set-there, set-here, set-elsewhere, some-is}
 
--- a table lies on a flash after a call of another table
-pub lies-on : (t : Table 64 64) (f g : FlashState) → Goes f g → LiesOn t f → LiesOn t g
-lies-on t f g goes lies = lies-moved t f g goes lies
-
+-- tables lie on a flash after a call of another one
 pub lie-on : (entries : List Entry) (f g : FlashState) → Goes f g → LieOn entries f → LieOn entries g
 lie-on entries f g goes lie i entry e = lies-on entry.table f g goes (lie i entry e)
 
 -- one of the tables was changed
-pub lie-with : (entries : List Entry) (at : ℕ) (entry : Entry) (u : Table 64 64) (f g : FlashState) → slice_get entries at ≡ Some entry → Goes f g → LieOn entries f → LiesOn u g → LieOn (entries_with entries at entry u) g
+pub lie-with : (entries : List Entry) (at : ℕ) (entry : Entry) (u : LoggedTable 64 64) (f g : FlashState) → slice_get entries at ≡ Some entry → Goes f g → LieOn entries f → LiesOn u g → LieOn (entries_with entries at entry u) g
 lie-with entries at entry u f g here goes lie own i e k = by-place (eqb_tells at i)
   where
     by-place : ((eqb at i ≡ true) × (at ≡ i)) ⊎ ((eqb at i ≡ false) × (at ≡ i → ⊥)) → LiesOn e.table g
@@ -30,7 +27,7 @@ lie-with entries at entry u f g here goes lie own i e k = by-place (eqb_tells at
         subst (λ (x : Entry). LiesOn x.table g) e_is own
     by-place (inr other) = lie-on entries f g goes lie i e (sym (set-elsewhere entries at i (record { name = entry.name; table = u }) other.1) ∙ k)
 
-pub running-with : (entries : List Entry) (at : ℕ) (entry : Entry) (u : Table 64 64) → slice_get entries at ≡ Some entry → AreRunning entries → is_running u ≡ true → AreRunning (entries_with entries at entry u)
+pub running-with : (entries : List Entry) (at : ℕ) (entry : Entry) (u : LoggedTable 64 64) → slice_get entries at ≡ Some entry → AreRunning entries → is_running u ≡ true → AreRunning (entries_with entries at entry u)
 running-with entries at entry u here running own i e k = by-place (eqb_tells at i)
   where
     by-place : ((eqb at i ≡ true) × (at ≡ i)) ⊎ ((eqb at i ≡ false) × (at ≡ i → ⊥)) → is_running e.table ≡ true
@@ -41,7 +38,7 @@ running-with entries at entry u here running own i e k = by-place (eqb_tells at 
     by-place (inr other) = running i e (sym (set-elsewhere entries at i (record { name = entry.name; table = u }) other.1) ∙ k)
 
 -- .. and one more of the first tables
-pub running-more : (entries : List Entry) (at : ℕ) (entry : Entry) (u : Table 64 64) → slice_get entries at ≡ Some entry → ((i : ℕ) (e : Entry) → i < at → slice_get entries i ≡ Some e → is_running e.table ≡ true) → is_running u ≡ true →
+pub running-more : (entries : List Entry) (at : ℕ) (entry : Entry) (u : LoggedTable 64 64) → slice_get entries at ≡ Some entry → ((i : ℕ) (e : Entry) → i < at → slice_get entries i ≡ Some e → is_running e.table ≡ true) → is_running u ≡ true →
     (i : ℕ) (e : Entry) → i < at + 1 → slice_get (entries_with entries at entry u) i ≡ Some e → is_running e.table ≡ true
 running-more entries at entry u here running own i e lt k = by-order (cases_lt i at)
   where

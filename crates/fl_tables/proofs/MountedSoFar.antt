@@ -1,119 +1,42 @@
 -- The mount of an image's tables, one after another.
-use Rattle.std.proofs.Common.{◌≡◌, ℕ, zero, suc, ◌+◌, ◌<◌, ◌≤◌, ◌⊎◌, Bool, true, false, nat_lt, if◌then◌else◌, cond, inl, inr, None, Some, Err, List, [], ◌∷◌, ◌++◌, length, map, drop, refl, sym, ◌∙◌, ap, subst, arith}
+use Rattle.std.proofs.Common.{◌≡◌, ℕ, zero, suc, ◌+◌, ◌<◌, ◌≤◌, ◌⊎◌, Bool, true, false, nat_lt, if◌then◌else◌, inl, inr, None, Some, Err, List, [], ◌∷◌, ◌++◌, length, map, drop, refl, sym, ◌∙◌, ap, subst, arith}
 use Rattle.std.specs.Prelude.{option_map}
 use Rattle.std.specs.List.{slice_get}
 use Rattle.std.proofs.lemmas.Bool.{cases_lt, lt-ltb, le-ltb}
 use Rattle.std.proofs.lemmas.Bool.Decides.{eqb_tells}
-use Rattle.std.proofs.lemmas.List.{append-nil, drop_all}
+use Rattle.std.proofs.lemmas.List.{drop_all, length-map}
 use Rattle.std.proofs.Math.Dec.{eqb}
 use Rattle.std.proofs.Math.Path.{fun_ext}
-use Rattle.std.proofs.lemmas.Option.{slice_get_within, slice_get_past}
+use Rattle.std.proofs.lemmas.Option.{slice_get-map, slice_get_within, slice_get_past}
 use Rattle.fl_flash.specs.Flash.{FlashState, Goes, page_at}
 use Rattle.fl_flash.specs.declared.flash.FlashFault.{FlashFault}
 use Rattle.fl_flash.specs.declared.flash.FlashFault.TheVariants.{Media}
-use Rattle.fl_model.specs.Mount.{Mounts, MountEnd, Mounted, Stopped, Unread, Turn, Of, Replay, turns_from, turns_of, rings_of, renumber, renumbered, at_least_of, ready}
+use Rattle.fl_model.specs.Mount.{Mounts, MountEnd, Mounted, Stopped, Unread, turns_from, turns_of, ready}
 use Rattle.fl_model.specs.Record.{Plan, has_log}
-use Rattle.fl_model.specs.Ring.{Ring, erased}
 use Rattle.fl_model.specs.Table as model
-use Rattle.fl_model.specs.Table.{RingName, DataRing, IndexRing, VarRing, LogRing, shape_of, lose, is_dirty, is_torn, seal_page, with_ring}
-use Rattle.fl_model.specs.Work.{VoidMark, Erase, Device, Finished, changed_at, PartEnd, Whole, CutIn, FailedIn, PartProgress}
-use Rattle.fl_model.specs.Within.{TableMounts, TableMountEnd, TableMounted, TableStopped, TableUnread, TableGoesOn, MountsAlong, repair_within, effect_within, all_done, with_table, progress_at, outcome_at}
+use Rattle.fl_model.specs.Table.{lose}
+use Rattle.fl_model.specs.Work.{Device, Finished, changed_at, PartEnd, Whole, CutIn, FailedIn}
+use Rattle.fl_model.specs.Within.{TableMounts, TableMountEnd, TableMounted, TableStopped, TableUnread, MountsAlong, with_table, progress_at, outcome_at}
 use Rattle.fl_model.proofs.Among.{changed-there, changed-elsewhere}
 use Rattle.fl_model.proofs.Lists.{slice_get-some}
 use Rattle.fl_model.proofs.Mounting.{mounts-along}
-use Rattle.fl_model.proofs.Performs.{performs-whole}
 use Rattle.fl_ring.specs.Device.{SameDevice}
-use Rattle.fl_table.specs.Mounting.{OutsideStands}
 use Rattle.fl_machine.specs.Step.{all_ready, made_ready}
-use Rattle.fl_table.specs.Memory.{IsSamePlan}
-use Rattle.fl_table.specs.Outcomes.{FaultEnds, MountsWell, MountsBadly, MountEnds}
+use Rattle.fl_table.specs.Outcomes.{FaultEnds}
 use Rattle.fl_table.specs.declared.faults.MountFault.{MountFault}
 use Rattle.fl_table.specs.declared.faults.MountFault.TheVariants as mount
 use Rattle.fl_table.specs.declared.counts.Mounted as found
-use Rattle.fl_table.specs.declared.table.Table.{Table}
-use Rattle.fl_table.proofs.Repaired.{IsIdle, idle-lost, lost-idle}
-use Rattle.fl_table.proofs.SealAnswers.{planned-same}
+use Rattle.fl_rlc.specs.Outcomes.{MountsWell, MountsBadly, MountEnds}
+use Rattle.fl_rlc.specs.Table.{IsSamePlan, OutsideStands}
+use Rattle.fl_rlc.specs.declared.table.LoggedTable.{LoggedTable}
 use Rattle.fl_tables.specs.Tables.{first_of, entries_with, EntryStands, TablesStand, FaultIs, TablesMounted, TablesBroken, MountBreaks}
 use Rattle.fl_tables.specs.declared.tables.Entry.{Entry}
+use Rattle.fl_tables.proofs.Going.{planned-same}
 use Rattle.fl_tables.proofs.TablesChanged.{entry-off, some-is, AtPlace, at-place, tables-changed, option_map-same, length-changed}
-
--- ---- a mount leaves nothing of a table in memory
-
-sealed-idle : (plan : Plan) (ring : RingName) (table : model.Table) → IsIdle table → IsIdle (seal_page plan ring 0 table)
-sealed-idle plan DataRing table idle = record { pending = idle.pending; buffered = idle.buffered; waiting = idle.waiting; points = idle.points }
-sealed-idle plan IndexRing table idle = record { pending = idle.pending; buffered = idle.buffered; waiting = idle.waiting; points = idle.points }
-sealed-idle plan LogRing table idle = record { pending = idle.pending; buffered = idle.buffered; waiting = idle.waiting; points = idle.points }
-sealed-idle plan VarRing table idle = record { pending = idle.pending; buffered = idle.buffered; waiting = idle.waiting; points = idle.points }
-
-ring-idle : (ring : RingName) (change : Ring → Ring) (table : model.Table) → IsIdle table → IsIdle (with_ring ring change table)
-ring-idle DataRing change table idle = record { pending = idle.pending; buffered = idle.buffered; waiting = idle.waiting; points = idle.points }
-ring-idle IndexRing change table idle = record { pending = idle.pending; buffered = idle.buffered; waiting = idle.waiting; points = idle.points }
-ring-idle LogRing change table idle = record { pending = idle.pending; buffered = idle.buffered; waiting = idle.waiting; points = idle.points }
-ring-idle VarRing change table idle = record { pending = idle.pending; buffered = idle.buffered; waiting = idle.waiting; points = idle.points }
-
-repaired-idle : (plan : Plan) (ring : RingName) (table : model.Table) → IsIdle table → IsIdle (all_done (effect_within plan) (repair_within plan ring table) table)
-repaired-idle plan ring table idle = by-torn (is_torn ring table)
-  where
-    by-dirty : (t : model.Table) (d : Bool) → IsIdle t → IsIdle (all_done (effect_within plan) (cond d ((ring, Erase) ∷ []) []) t)
-    by-dirty t true k = ring-idle ring erased t k
-    by-dirty t false k = k
-
-    by-torn : (b : Bool) → IsIdle (all_done (effect_within plan) ((cond b ((ring, VoidMark) ∷ []) []) ++ (cond (is_dirty ring (cond b (seal_page plan ring 0 table) table)) ((ring, Erase) ∷ []) [])) table)
-    by-torn true = by-dirty (seal_page plan ring 0 table) (is_dirty ring (seal_page plan ring 0 table)) (sealed-idle plan ring table idle)
-    by-torn false = by-dirty table (is_dirty ring table) idle
-
-abbrev state_in : TableMountEnd → model.Table
-state_in (TableMounted now) = now.state
-state_in (TableStopped now) = now.state
-state_in (TableUnread now) = now.state
-
-rings-idle : (plan : Plan) (rose : Bool) (rings : List RingName) (device : Device) (table : model.Table) (now : PartProgress model.Table) → IsIdle table → TableMounts plan rose (map (λ ring. Of ring) rings) device table (TableMounted now) → IsIdle now.state
-rings-idle plan rose [] device table now idle did = subst IsIdle (sym (ap state_in did)) idle
-rings-idle plan rose (ring ∷ rings) device table now idle (inl u) = absurd (no u.2)
-  where
-    no : TableMounted now ≡ TableUnread u.0 → ⊥
-    no k = cc
-rings-idle plan rose (ring ∷ rings) device table now idle (inr p) = by-whole (λ state goes. rings-idle plan rose rings p.0.device p.0.state now state goes) p.0.end refl p.2
-  where
-    numbered : model.Table
-    numbered = renumber plan ring table
-
-    by-whole : (IsIdle p.0.state → TableMounts plan rose (map (λ ring. Of ring) rings) p.0.device p.0.state (TableMounted now) → IsIdle now.state) → (e : PartEnd model.Table) → p.0.end ≡ e → TableGoesOn e p.0 (TableMounted now) (TableMounts plan rose (map (λ ring. Of ring) rings) p.0.device p.0.state (TableMounted now)) → IsIdle now.state
-    by-whole others Whole e goes =
-        let state_is = (performs-whole (λ operation. operation.1) (effect_within plan) rose (repair_within plan ring numbered) device numbered p.0 p.1 e).0 in
-        let repaired = repaired-idle plan ring numbered (ring-idle ring (renumbered (shape_of plan ring) (at_least_of plan ring table)) table idle) in
-        others (subst IsIdle (sym state_is) repaired) goes
-    by-whole others (CutIn before) e goes = absurd (no goes)
-      where
-        no : TableMounted now ≡ TableStopped p.0 → ⊥
-        no k = cc
-    by-whole others (FailedIn before) e goes = absurd (no goes)
-      where
-        no : TableMounted now ≡ TableStopped p.0 → ⊥
-        no k = cc
-
-mounted-idle : (plan : Plan) (rose : Bool) (device : Device) (table : model.Table) (now : PartProgress model.Table) → table ≡ lose table → TableMounts plan rose (map (λ ring. Of ring) (rings_of plan)) device table (TableMounted now) → now.state ≡ lose now.state
-mounted-idle plan rose device table now lost did = idle-lost now.state (rings-idle plan rose (rings_of plan) device table now (lost-idle table lost) did)
-
--- ---- a table without a log has no turns but those of its rings, and is made ready once they are mounted
-
-abbrev of_rings : Plan → List Turn
-of_rings plan = map (λ ring. Of ring) (rings_of plan)
-
-no-log : (plan : Plan) → plan.log_blocks ≡ 0 → has_log plan ≡ false
-no-log plan none = ap (λ (n : ℕ). nat_lt 0 n) none
-
-turns-bare : (plan : Plan) → plan.log_blocks ≡ 0 → turns_of plan ≡ of_rings plan
-turns-bare plan none = ap (λ (b : Bool). of_rings plan ++ (if b then Of LogRing ∷ Replay ∷ [] else [])) (no-log plan none) ∙ append-nil (of_rings plan)
-
-made-bare : (plan : Plan) (table : model.Table) → plan.log_blocks ≡ 0 → made_ready plan table ≡ ready plan table
-made-bare plan table none = ap (λ (b : Bool). if b then table else ready plan table) (no-log plan none)
-
--- ---- the first of the tables were mounted
 
 -- a table that was mounted is ready
 abbrev shown_so : ℕ → ℕ → Plan → model.Table → model.Table
-shown_so k i plan table = if nat_lt i k then ready plan table else table
+shown_so k i plan table = if nat_lt i k then made_ready plan table else table
 
 -- The first k tables were mounted; what the mount of the others makes of all tables, the whole mount does.
 pub record MountedSoFar (plans : List Plan) (start : List model.Table) (rose : Bool) (device : Device) (k : ℕ) (entries : List Entry) (f : FlashState) : Type 0 where
@@ -125,7 +48,6 @@ pub record MountedSoFar (plans : List Plan) (start : List model.Table) (rose : B
   pub stand : TablesStand f (λ i. nat_lt i k) plans entries shown
   pub all : length tables ≡ length plans
   pub shows : (i : ℕ) (plan : Plan) (table : model.Table) → slice_get plans i ≡ Some plan → slice_get tables i ≡ Some table → slice_get shown i ≡ Some (shown_so k i plan table)
-  pub idle : (i : ℕ) (table : model.Table) → slice_get tables i ≡ Some table → table ≡ lose table
   pub behind : (i : ℕ) → k ≤ i → slice_get tables i ≡ slice_get start i
   pub whole : (how : MountEnd) → Mounts plans rose (turns_from k (drop k plans)) now tables how → Mounts plans rose (turns_from 0 plans) device start how
 
@@ -139,12 +61,7 @@ mounted-none plans start rose device entries f counts power stand = record {
   power = power;
   stand = subst (λ (m : ℕ → Bool). TablesStand f m plans entries start) none stand;
   all = stand.all;
-  shows = λ i plan table p t. t ∙ ap (λ (b : Bool). Some (if b then ready plan table else table)) (sym (le-ltb i 0 (omega arith)));
-  idle = λ i table t.
-      let within = slice_get_within start i table t in
-      let plan = slice_get-some plans i (omega (arith, within, stand.all)) in
-      let entry = slice_get-some entries i (omega (arith, within, stand.all, stand.as_many)) in
-      (stand.each i plan.0 entry.0 table plan.1 entry.1 t).on_flash.settled.lost;
+  shows = λ i plan table p t. t ∙ ap (λ (b : Bool). Some (if b then made_ready plan table else table)) (sym (le-ltb i 0 (omega arith)));
   behind = λ i le. refl;
   whole = λ how m. m;
 }
@@ -153,7 +70,7 @@ mounted-none plans start rose device entries f counts power stand = record {
     none = fun_ext (λ i. sym (le-ltb i 0 (omega arith)))
 
 -- One more is mounted.
-module _ (plans : List Plan) (start : List model.Table) (rose : Bool) (device : Device) (k : ℕ) (entries : List Entry) (entry : Entry) (u : Table 64 64) (f g : FlashState)
+module _ (plans : List Plan) (start : List model.Table) (rose : Bool) (device : Device) (k : ℕ) (entries : List Entry) (entry : Entry) (u : LoggedTable 64 64) (f g : FlashState)
     (so_far : MountedSoFar plans start rose device k entries f) (here : slice_get entries k ≡ Some entry) (goes : Goes f g) (same : IsSamePlan entry.table u) (outside : OutsideStands entry.table (page_at f) (page_at g)) where
   pub own : AtPlace f (λ i. nat_lt i k) plans entries so_far.shown k entry
   own = at-place f (λ i. nat_lt i k) plans entries so_far.shown k entry so_far.stand here
@@ -168,7 +85,7 @@ module _ (plans : List Plan) (start : List model.Table) (rose : Bool) (device : 
   was_is = (slice_get-some so_far.tables k (omega (arith, within, so_far.all))).1
 
   own_was : own.table ≡ was
-  own_was = some-is (slice_get so_far.shown k) own.table was own.table_is (so_far.shows k own.plan was own.plan_is was_is ∙ ap (λ (b : Bool). Some (if b then ready own.plan was else was)) (le-ltb k k (omega arith)))
+  own_was = some-is (slice_get so_far.shown k) own.table was own.table_is (so_far.shows k own.plan was own.plan_is was_is ∙ ap (λ (b : Bool). Some (if b then made_ready own.plan was else was)) (le-ltb k k (omega arith)))
 
   -- the mounts before it left the table as it was
   pub was_at : slice_get start k ≡ Some was
@@ -178,13 +95,8 @@ module _ (plans : List Plan) (start : List model.Table) (rose : Bool) (device : 
   pub stood : EntryStands entry f false (first_of plans k) own.plan was
   stood = subst (λ x. EntryStands entry f false (first_of plans k) own.plan x) own_was (subst (λ b. EntryStands entry f b (first_of plans k) own.plan own.table) (le-ltb k k (omega arith)) own.stands)
 
-  lost : was ≡ lose was
-  lost = so_far.idle k was was_is
-
-  turns : turns_from k (drop k plans) ≡ map (λ turn. (k, turn)) (of_rings own.plan) ++ turns_from (k + 1) (drop (k + 1) plans)
-  turns =
-      ap (λ (ps : List Plan). turns_from k ps) (drop-at plans k own.plan own.plan_is ∙ ap (λ n. own.plan ∷ drop n plans) (let e : suc k ≡ k + 1 = omega arith in e))
-      ∙ ap (λ (ts : List Turn). map (λ turn. (k, turn)) ts ++ turns_from (k + 1) (drop (k + 1) plans)) (turns-bare own.plan stood.planned.log)
+  turns : turns_from k (drop k plans) ≡ map (λ turn. (k, turn)) (turns_of own.plan) ++ turns_from (k + 1) (drop (k + 1) plans)
+  turns = ap (λ (ps : List Plan). turns_from k ps) (drop-at plans k own.plan own.plan_is ∙ ap (λ n. own.plan ∷ drop n plans) (let e : suc k ≡ k + 1 = omega arith in e))
     where
       drop-at : (ps : List Plan) (n : ℕ) (plan : Plan) → slice_get ps n ≡ Some plan → drop n ps ≡ plan ∷ drop (suc n) ps
       drop-at [] n plan e = absurd (none e)
@@ -195,10 +107,10 @@ module _ (plans : List Plan) (start : List model.Table) (rose : Bool) (device : 
       drop-at (p ∷ ps) (suc n) plan e = drop-at ps n plan e
 
   -- what it mounts
-  along : (how : TableMountEnd) → TableMounts own.plan rose (of_rings own.plan) so_far.now was how → MountsAlong plans rose k (of_rings own.plan) (turns_from (k + 1) (drop (k + 1) plans)) so_far.now so_far.tables how
-  along how did = mounts-along plans own.plan k rose (of_rings own.plan) (turns_from (k + 1) (drop (k + 1) plans)) so_far.now so_far.tables was how own.plan_is was_is did
+  along : (how : TableMountEnd) → TableMounts own.plan rose (turns_of own.plan) so_far.now was how → MountsAlong plans rose k (turns_of own.plan) (turns_from (k + 1) (drop (k + 1) plans)) so_far.now so_far.tables how
+  along how did = mounts-along plans own.plan k rose (turns_of own.plan) (turns_from (k + 1) (drop (k + 1) plans)) so_far.now so_far.tables was how own.plan_is was_is did
 
-  ended : (how : MountEnd) → Mounts plans rose (map (λ turn. (k, turn)) (of_rings own.plan) ++ turns_from (k + 1) (drop (k + 1) plans)) so_far.now so_far.tables how → Mounts plans rose (turns_from 0 plans) device start how
+  ended : (how : MountEnd) → Mounts plans rose (map (λ turn. (k, turn)) (turns_of own.plan) ++ turns_from (k + 1) (drop (k + 1) plans)) so_far.now so_far.tables how → Mounts plans rose (turns_from 0 plans) device start how
   ended how m = so_far.whole how (subst (λ rs. Mounts plans rose rs so_far.now so_far.tables how) (sym turns) m)
 
   abbrev now_there : Entry
@@ -206,15 +118,6 @@ module _ (plans : List Plan) (start : List model.Table) (rose : Bool) (device : 
 
   abbrev left : model.Table → List model.Table
   left state = with_table k so_far.tables state
-
-  left-idle : (state : model.Table) → state ≡ lose state → (i : ℕ) (table : model.Table) → slice_get (left state) i ≡ Some table → table ≡ lose table
-  left-idle state idle i table e = by-place (eqb_tells k i)
-    where
-      by-place : ((eqb k i ≡ true) × (k ≡ i)) ⊎ ((eqb k i ≡ false) × (k ≡ i → ⊥)) → table ≡ lose table
-      by-place (inl is) =
-          let state_is : state ≡ table = some-is (slice_get (left state) k) state table (changed-there k was state so_far.tables was_is) (subst (λ j. slice_get (left state) j ≡ Some table) (sym is.1) e) in
-          subst (λ x. x ≡ lose x) state_is idle
-      by-place (inr other) = so_far.idle i table (sym (changed-elsewhere k i state so_far.tables other.1) ∙ e)
 
   ahead : (i : ℕ) → (k ≡ i → ⊥) → nat_lt i k ≡ nat_lt i (k + 1)
   ahead i other = by-order (cases_lt i k)
@@ -227,12 +130,12 @@ module _ (plans : List Plan) (start : List model.Table) (rose : Bool) (device : 
           beyond (inl lt) = omega (arith, lt)
           beyond (inr le) = absurd (other (omega (arith, ge, le)))
 
-  pub mounted-more : (mounted : found.Mounted) → MountsWell (first_of plans k) own.plan (rings_of own.plan) was rose so_far.now mounted u g → MountedSoFar plans start rose device (k + 1) (entries_with entries k entry u) g
+  pub mounted-more : (mounted : found.Mounted) → MountsWell (first_of plans k) own.plan was rose so_far.now mounted u g → MountedSoFar plans start rose device (k + 1) (entries_with entries k entry u) g
   mounted-more mounted w =
       let state = w.now.state in
-      let shown_now = changed_at k (λ _. ready own.plan state) so_far.shown in
-      let stands : EntryStands now_there g (nat_lt k (k + 1)) (first_of plans k) own.plan (ready own.plan state) =
-      subst (λ b. EntryStands now_there g b (first_of plans k) own.plan (ready own.plan state)) (sym (lt-ltb k (k + 1) (omega arith)))
+      let shown_now = changed_at k (λ _. made_ready own.plan state) so_far.shown in
+      let stands : EntryStands now_there g (nat_lt k (k + 1)) (first_of plans k) own.plan (made_ready own.plan state) =
+      subst (λ b. EntryStands now_there g b (first_of plans k) own.plan (made_ready own.plan state)) (sym (lt-ltb k (k + 1) (omega arith)))
       (record { named = stood.named; geometry = stood.geometry ∙ sym goes.geometry; planned = planned-same entry.table u (first_of plans k) own.plan stood.planned same; on_flash = w.stands }) in
       record {
         now = w.now.device;
@@ -240,54 +143,58 @@ module _ (plans : List Plan) (start : List model.Table) (rose : Bool) (device : 
         shown = shown_now;
         counts = w.counts;
         power = w.power;
-        stand = tables-changed f g (λ i. nat_lt i k) (λ i. nat_lt i (k + 1)) plans entries so_far.shown shown_now k entry now_there (λ x. x) (ready own.plan state) so_far.stand here outside goes.geometry
-            (length-changed k (ready own.plan state) so_far.shown) (changed-there k own.table (ready own.plan state) so_far.shown own.table_is)
-            (λ i other. changed-elsewhere k i (ready own.plan state) so_far.shown other ∙ sym (option_map-same (slice_get so_far.shown i)))
-            (λ plan e. subst (λ p. EntryStands now_there g (nat_lt k (k + 1)) (first_of plans k) p (ready own.plan state)) (some-is (slice_get plans k) own.plan plan own.plan_is e) stands)
+        stand = tables-changed f g (λ i. nat_lt i k) (λ i. nat_lt i (k + 1)) plans entries so_far.shown shown_now k entry now_there (λ x. x) (made_ready own.plan state) so_far.stand here outside goes.geometry
+            (length-changed k (made_ready own.plan state) so_far.shown) (changed-there k own.table (made_ready own.plan state) so_far.shown own.table_is)
+            (λ i other. changed-elsewhere k i (made_ready own.plan state) so_far.shown other ∙ sym (option_map-same (slice_get so_far.shown i)))
+            (λ plan e. subst (λ p. EntryStands now_there g (nat_lt k (k + 1)) (first_of plans k) p (made_ready own.plan state)) (some-is (slice_get plans k) own.plan plan own.plan_is e) stands)
             (λ i plan e x other h. subst (λ b. EntryStands e g b (first_of plans i) plan x) (ahead i other) h);
         all = length-changed k state so_far.tables ∙ so_far.all;
         shows = λ i plan table p t. shows-more state i plan table p t (eqb_tells k i);
-        idle = left-idle state (mounted-idle own.plan rose so_far.now was w.now lost w.did);
         behind = λ i le. changed-elsewhere k i state so_far.tables (λ is. absurd (omega (arith, le, is))) ∙ so_far.behind i (omega (arith, le));
         whole = λ how m. ended how (along (TableMounted w.now) w.did how m);
       }
     where
       shows-more : (state : model.Table) (i : ℕ) (plan : Plan) (table : model.Table) → slice_get plans i ≡ Some plan → slice_get (left state) i ≡ Some table → ((eqb k i ≡ true) × (k ≡ i)) ⊎ ((eqb k i ≡ false) × (k ≡ i → ⊥)) →
-          slice_get (changed_at k (λ _. ready own.plan state) so_far.shown) i ≡ Some (shown_so (k + 1) i plan table)
+          slice_get (changed_at k (λ _. made_ready own.plan state) so_far.shown) i ≡ Some (shown_so (k + 1) i plan table)
       shows-more state i plan table p t (inl is) =
           let state_is : state ≡ table = some-is (slice_get (left state) k) state table (changed-there k was state so_far.tables was_is) (subst (λ j. slice_get (left state) j ≡ Some table) (sym is.1) t) in
           let plan_is : own.plan ≡ plan = some-is (slice_get plans k) own.plan plan own.plan_is (subst (λ j. slice_get plans j ≡ Some plan) (sym is.1) p) in
-          subst (λ j. slice_get (changed_at k (λ _. ready own.plan state) so_far.shown) j ≡ Some (shown_so (k + 1) j plan table)) is.1
-          (changed-there k own.table (ready own.plan state) so_far.shown own.table_is
-          ∙ (ap (λ x. Some (ready x state)) plan_is ∙ (ap (λ x. Some (ready plan x)) state_is ∙ ap (λ (b : Bool). Some (if b then ready plan table else table)) (sym (lt-ltb k (k + 1) (omega arith))))))
+          subst (λ j. slice_get (changed_at k (λ _. made_ready own.plan state) so_far.shown) j ≡ Some (shown_so (k + 1) j plan table)) is.1
+          (changed-there k own.table (made_ready own.plan state) so_far.shown own.table_is
+          ∙ (ap (λ x. Some (made_ready x state)) plan_is ∙ (ap (λ x. Some (made_ready plan x)) state_is ∙ ap (λ (b : Bool). Some (if b then made_ready plan table else table)) (sym (lt-ltb k (k + 1) (omega arith))))))
       shows-more state i plan table p t (inr other) =
-          changed-elsewhere k i (ready own.plan state) so_far.shown other.1
-          ∙ (so_far.shows i plan table p (sym (changed-elsewhere k i state so_far.tables other.1) ∙ t) ∙ ap (λ (b : Bool). Some (if b then ready plan table else table)) (ahead i other.1))
+          changed-elsewhere k i (made_ready own.plan state) so_far.shown other.1
+          ∙ (so_far.shows i plan table p (sym (changed-elsewhere k i state so_far.tables other.1) ∙ t) ∙ ap (λ (b : Bool). Some (if b then made_ready plan table else table)) (ahead i other.1))
 
-  -- it isn't mounted, and neither are the others from then on
-  rest-all : (state : model.Table) → EntryStands now_there g false (first_of plans k) own.plan state → TablesStand g (λ i. false) plans (entries_with entries k entry u) (left state)
+  -- it isn't mounted, and neither are the others from then on: what they had in memory is lost
+  rest-all : (state : model.Table) → EntryStands now_there g false (first_of plans k) own.plan (lose state) → TablesStand g (λ i. false) plans (entries_with entries k entry u) (map lose (left state))
   rest-all state rests =
-      tables-changed f g (λ i. nat_lt i k) (λ i. false) plans entries so_far.shown (left state) k entry now_there lose state so_far.stand here outside goes.geometry
-      (length-changed k state so_far.tables ∙ (so_far.all ∙ sym so_far.stand.all)) (changed-there k was state so_far.tables was_is) lost-there
-      (λ plan e. subst (λ p. EntryStands now_there g false (first_of plans k) p state) (some-is (slice_get plans k) own.plan plan own.plan_is e) rests)
+      tables-changed f g (λ i. nat_lt i k) (λ i. false) plans entries so_far.shown (map lose (left state)) k entry now_there lose (lose state) so_far.stand here outside goes.geometry
+      (length-map (left state) lose ∙ (length-changed k state so_far.tables ∙ (so_far.all ∙ sym so_far.stand.all)))
+      (slice_get-map lose (left state) k ∙ ap (option_map lose) (changed-there k was state so_far.tables was_is)) (λ i other. slice_get-map lose (left state) i ∙ lost-there i other)
+      (λ plan e. subst (λ p. EntryStands now_there g false (first_of plans k) p (lose state)) (some-is (slice_get plans k) own.plan plan own.plan_is e) rests)
       (λ i plan e x other h. entry-off e g (nat_lt i k) (first_of plans i) plan x h)
     where
-      lost-as : (i : ℕ) (plan : Plan) (table : model.Table) (b : Bool) → table ≡ lose table → Some table ≡ option_map lose (Some (if b then ready plan table else table))
-      lost-as i plan table true idle = ap (λ x. Some x) idle
-      lost-as i plan table false idle = ap (λ x. Some x) idle
+      lost-ready : (plan : Plan) (table : model.Table) (logged : Bool) → lose table ≡ lose (if logged then table else ready plan table)
+      lost-ready plan table true = refl
+      lost-ready plan table false = refl
 
-      lost-there : (i : ℕ) → (k ≡ i → ⊥) → slice_get (left state) i ≡ option_map lose (slice_get so_far.shown i)
-      lost-there i other = changed-elsewhere k i state so_far.tables other ∙ by-length (cases_lt i (length plans))
+      lost-as : (plan : Plan) (table : model.Table) (b : Bool) → Some (lose table) ≡ option_map lose (Some (if b then made_ready plan table else table))
+      lost-as plan table true = ap (λ x. Some x) (lost-ready plan table (has_log plan))
+      lost-as plan table false = refl
+
+      lost-there : (i : ℕ) → (k ≡ i → ⊥) → option_map lose (slice_get (left state) i) ≡ option_map lose (slice_get so_far.shown i)
+      lost-there i other = ap (option_map lose) (changed-elsewhere k i state so_far.tables other) ∙ by-length (cases_lt i (length plans))
         where
-          by-length : (i < length plans) ⊎ (length plans ≤ i) → slice_get so_far.tables i ≡ option_map lose (slice_get so_far.shown i)
+          by-length : (i < length plans) ⊎ (length plans ≤ i) → option_map lose (slice_get so_far.tables i) ≡ option_map lose (slice_get so_far.shown i)
           by-length (inl lt) =
               let plan = slice_get-some plans i lt in
               let table = slice_get-some so_far.tables i (omega (arith, lt, so_far.all)) in
-              table.1 ∙ (lost-as i plan.0 table.0 (nat_lt i k) (so_far.idle i table.0 table.1) ∙ ap (option_map lose) (sym (so_far.shows i plan.0 table.0 plan.1 table.1)))
+              ap (option_map lose) table.1 ∙ (lost-as plan.0 table.0 (nat_lt i k) ∙ ap (option_map lose) (sym (so_far.shows i plan.0 table.0 plan.1 table.1)))
           by-length (inr ge) =
-              slice_get_past so_far.tables i (omega (arith, ge, so_far.all)) ∙ ap (option_map lose) (sym (slice_get_past so_far.shown i (omega (arith, ge, so_far.stand.all))))
+              ap (option_map lose) (slice_get_past so_far.tables i (omega (arith, ge, so_far.all)) ∙ sym (slice_get_past so_far.shown i (omega (arith, ge, so_far.stand.all))))
 
-  pub mounted-broken : (fault : FlashFault) → MountsBadly (first_of plans k) own.plan (rings_of own.plan) was rose so_far.now fault g → TablesBroken plans start rose device fault (entries_with entries k entry u) g
+  pub mounted-broken : (fault : FlashFault) → MountsBadly (first_of plans k) own.plan was rose so_far.now fault g → TablesBroken plans start rose device fault (entries_with entries k entry u) g
   mounted-broken fault b = record {
     end = progress_at k so_far.tables b.now;
     did = by-how b.did;
@@ -300,7 +207,7 @@ module _ (plans : List Plan) (start : List model.Table) (rose : Bool) (device : 
       fault-is (CutIn before) h = h.0
       fault-is (FailedIn before) h = h.0
 
-      by-how : (TableMounts own.plan rose (of_rings own.plan) so_far.now was (TableStopped b.now) × FaultEnds b.now.end fault g) ⊎ (TableMounts own.plan rose (of_rings own.plan) so_far.now was (TableUnread b.now) × (fault ≡ Media)) →
+      by-how : (TableMounts own.plan rose (turns_of own.plan) so_far.now was (TableStopped b.now) × FaultEnds b.now.end fault g) ⊎ (TableMounts own.plan rose (turns_of own.plan) so_far.now was (TableUnread b.now) × (fault ≡ Media)) →
           (Mounts plans rose (turns_from 0 plans) device start (Stopped (progress_at k so_far.tables b.now)) × FaultIs (outcome_at k so_far.tables b.now.end) fault)
           ⊎ (Mounts plans rose (turns_from 0 plans) device start (Unread (progress_at k so_far.tables b.now)) × (fault ≡ Media))
       by-how (inl h) = inl (ended (Stopped (progress_at k so_far.tables b.now)) (along (TableStopped b.now) h.0), fault-is b.now.end h.1)
@@ -355,7 +262,6 @@ mounted-all plans start rose device k entries f is so_far = record {
     each i plan entry x p e t =
         let lt : i < k = omega (arith, slice_get_within entries i entry e, is) in
         let table = slice_get-some so_far.tables i (omega (arith, slice_get_within plans i plan p, so_far.all)) in
-        let shown : slice_get so_far.shown i ≡ Some (ready plan table.0) = so_far.shows i plan table.0 p table.1 ∙ ap (λ (b : Bool). Some (if b then ready plan table.0 else table.0)) (lt-ltb i k lt) in
-        let stands = subst (λ b. EntryStands entry f b (first_of plans i) plan (ready plan table.0)) (lt-ltb i k lt) (so_far.stand.each i plan entry (ready plan table.0) p e shown) in
-        let there = all-ready-at plans so_far.tables i plan table.0 p table.1 ∙ ap (λ y. Some y) (made-bare plan table.0 stands.planned.log) in
-        subst (λ y. EntryStands entry f true (first_of plans i) plan y) (some-is (slice_get (all_ready plans so_far.tables) i) (ready plan table.0) x there t) stands
+        let shown : slice_get so_far.shown i ≡ Some (made_ready plan table.0) = so_far.shows i plan table.0 p table.1 ∙ ap (λ (b : Bool). Some (if b then made_ready plan table.0 else table.0)) (lt-ltb i k lt) in
+        let stands = subst (λ b. EntryStands entry f b (first_of plans i) plan (made_ready plan table.0)) (lt-ltb i k lt) (so_far.stand.each i plan entry (made_ready plan table.0) p e shown) in
+        subst (λ y. EntryStands entry f true (first_of plans i) plan y) (some-is (slice_get (all_ready plans so_far.tables) i) (made_ready plan table.0) x (all-ready-at plans so_far.tables i plan table.0 p table.1) t) stands

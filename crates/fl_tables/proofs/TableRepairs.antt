@@ -1,126 +1,83 @@
 -- What the mount of the tables leaves of the pages of a flash.
-use Rattle.std.proofs.Common.{◌≡◌, ℕ, suc, ◌+◌, ◌*◌, ◌<◌, ◌≤◌, Bool, true, false, IsTrue, Option, None, Some, List, sym, ◌∙◌, ap, subst, arith}
-use Rattle.std.specs.Option.{unwrap_or}
+use Rattle.std.proofs.Common.{◌≡◌, ◌⊎◌, ℕ, Bool, false, suc, ◌+◌, ◌*◌, ◌<◌, ◌≤◌, Some, List, inl, inr, refl, sym, ◌∙◌, ap, subst, arith}
 use Rattle.std.specs.List.{slice_get}
-use Rattle.std.proofs.Math.Nat.{mul-le-mul_right, add-mul}
-use Rattle.std.proofs.lemmas.Bool.{ltb-true}
+use Rattle.std.proofs.Math.Nat.{mul-le-mul_right}
+use Rattle.std.proofs.lemmas.Bool.{cases_lt}
 use Rattle.fl_base.specs.declared.types.Geometry.{Geometry}
 use Rattle.fl_flash.specs.Flash.{FlashState, Goes, page_at}
-use Rattle.fl_index.specs.Memory as memory
-use Rattle.fl_index.specs.declared.index.Index.{Index}
-use Rattle.fl_index.proofs.Sealings.{planned-ring as index-ring}
 use Rattle.fl_model.specs.Record.{Plan, blocks_of}
 use Rattle.fl_model.specs.Table as model
-use Rattle.fl_ring.specs.Looking.{OnlyReads}
-use Rattle.fl_ring.specs.Mounting.{HasNumbers}
-use Rattle.fl_ring.specs.Ring.{Shape}
-use Rattle.fl_ring.specs.declared.ring.Ring.{Ring}
-use Rattle.fl_ring.proofs.Founds.{same_pages}
-use Rattle.fl_ring.proofs.Readings.{goes_more, goes_same}
-use Rattle.fl_table.specs.Bitmaps.{ArePlanned}
-use Rattle.fl_table.specs.BlobEnds.{least_of}
-use Rattle.fl_table.specs.BlobMount.{FindsBlobs}
-use Rattle.fl_table.specs.Blobs as variable
-use Rattle.fl_table.specs.Memory.{IsPlanned, ring_shape}
-use Rattle.fl_table.specs.Mounting.{FindsBy, FindsBitmaps, FindsPages}
-use Rattle.fl_table.specs.declared.counts.Mounted.{Mounted}
-use Rattle.fl_table.specs.declared.table.Table.{Table}
-use Rattle.fl_table.proofs.Blobbing as blobbing
-use Rattle.fl_table.proofs.Indexing.{planned-some}
-use Rattle.fl_table.proofs.SealAnswers.{planned-shape, planned-ring}
-use Rattle.fl_var.specs.Memory.{var_shape}
-use Rattle.fl_var.specs.declared.var_data.VarData.{VarData}
+use Rattle.fl_model.specs.Work.{Device}
+use Rattle.fl_ring.specs.Step.{IsWatched}
+use Rattle.fl_rlc.specs.Left as one_table
+use Rattle.fl_rlc.specs.Left.{LeavesPages}
+use Rattle.fl_rlc.specs.Logged.{Rests}
+use Rattle.fl_rlc.specs.Table.{IsPlanned, is_logged}
+use Rattle.fl_rlc.proofs.RestsBehind.{rests-behind}
+use Rattle.fl_tables.specs.Mounting.{AreUnlogged}
+use Rattle.fl_tables.specs.Repaired.{IsRepaired, IsLeft}
 use Rattle.fl_tables.specs.Tables.{first_of, TablesStand}
 use Rattle.fl_tables.specs.declared.tables.Entry.{Entry}
-use Rattle.fl_tables.proofs.RingRepairs.{Repairs, repairs-none, repairs-then, repairs-first, ring-repairs}
+use Rattle.fl_tables.proofs.Going.{rose-front}
 use Rattle.fl_tables.proofs.TablesChanged.{at-place}
 use Rattle.fl_tables.proofs.TablesReads.{sum-more}
 
--- the pages of so many blocks are repaired, and all others stand
-abbrev pub RepairsBlocks : Plan → ℕ → ℕ → FlashState → FlashState → Type 0
-RepairsBlocks plan at blocks old new = Goes old new × Repairs plan.geometry.page (at * plan.geometry.block) ((at + blocks) * plan.geometry.block) (page_at old) (page_at new)
+-- each page of the first tables is left so, and all others stand
+pub record LeavesFirst (plans : List Plan) (geometry : Geometry) (i : ℕ) (old new : ℕ → List ℕ) : Type 0 where
+  pub each : (page : ℕ) → IsLeft plans geometry page (old page) (new page)
+  pub behind : (page : ℕ) → first_of plans i * geometry.block ≤ page → new page ≡ old page
 
--- the shape of a ring on these blocks
-abbrev shape_from : Plan → ℕ → ℕ → Shape
-shape_from plan at blocks = record { first = at * plan.geometry.block; blocks = blocks; per_block = plan.geometry.block; size = plan.geometry.page }
-
-none-there : (plan : Plan) (at blocks : ℕ) (old new : FlashState) → new ≡ old → RepairsBlocks plan at blocks old new
-none-there plan at blocks old new e =
-    subst (λ (f : FlashState). RepairsBlocks plan at blocks old f) (sym e) (goes_same old, repairs-none plan.geometry.page (at * plan.geometry.block) ((at + blocks) * plan.geometry.block) (page_at old))
-
-then-read : (plan : Plan) (at blocks n : ℕ) (old mid new : FlashState) → RepairsBlocks plan at blocks old mid → OnlyReads mid n new → RepairsBlocks plan at blocks old new
-then-read plan at blocks n old mid new h reads = (
-  goes_more old mid new h.0 reads.goes,
-  subst (λ (pages : ℕ → List ℕ). Repairs plan.geometry.page (at * plan.geometry.block) ((at + blocks) * plan.geometry.block) (page_at old) pages) (sym (same_pages mid new n reads)) h.1,
-)
-
-var-ring : (var : VarData) (first : ℕ) (plan : Plan) → variable.IsPlanned var first plan → var_shape var ≡ shape_from plan first plan.var_blocks
-var-ring var first plan h =
-    ap (λ (n : ℕ). record { first = n; blocks = var.place.blocks; per_block = var.geometry.block; size = var.geometry.page }) h.begins
-    ∙ (ap (λ (n : ℕ). record { first = first * plan.geometry.block; blocks = n; per_block = var.geometry.block; size = var.geometry.page }) (sym h.planned.blocks)
-    ∙ ap (λ (g : Geometry). record { first = first * plan.geometry.block; blocks = plan.var_blocks; per_block = g.block; size = g.page }) (sym h.planned.geometry))
-
-module _ (plan : Plan) (pages : 2 ≤ plan.geometry.block) where
-  ring-found : (at blocks least : ℕ) (r : Shape) (ring : Ring) (old new : FlashState) → r ≡ shape_from plan at blocks → 0 < blocks → IsTrue old.media.tells → old.geometry ≡ plan.geometry → HasNumbers old r least ring new → RepairsBlocks plan at blocks old new
-  ring-found at blocks least r ring old new is some told geometry h =
-      let all = ring-repairs (shape_from plan at blocks) some (omega (arith, pages)) least ring old new told (ap (λ (g : Geometry). g.block) geometry) (ap (λ (g : Geometry). g.page) geometry)
-      (subst (λ (s : Shape). HasNumbers old s least ring new) is h) in
-      (all.0, subst (λ (n : ℕ). Repairs plan.geometry.page (at * plan.geometry.block) n (page_at old) (page_at new)) (sym (add-mul at blocks plan.geometry.block)) all.1)
-
-  index-found : (bitmaps now : Option Index) (old new : FlashState) (end : Option ℕ) (first : ℕ) → ArePlanned bitmaps first plan → IsTrue old.media.tells → old.geometry ≡ plan.geometry → FindsBitmaps bitmaps old end now new → RepairsBlocks plan first plan.index_blocks old new
-  index-found None None old new end first planned told geometry h = none-there plan first plan.index_blocks old new h.1
-  index-found None (Some now) old new end first planned told geometry h = absurd h
-  index-found (Some index) None old new end first planned told geometry h = absurd h
-  index-found (Some index) (Some now) old new end first planned told geometry h = by_form (memory.form_in index).full h
-    where
-      found-to : (ring : Ring) (mid : FlashState) → HasNumbers old (memory.ring_shape index) 0 ring mid → RepairsBlocks plan first plan.index_blocks old mid
-      found-to ring mid numbers = ring-found first plan.index_blocks 0 (memory.ring_shape index) ring old mid (index-ring index first plan planned) (ltb-true 0 plan.index_blocks (planned-some index first plan planned)) told geometry numbers
-
-      by_form : (full : Bool) → FindsBy full index old end now new → RepairsBlocks plan first plan.index_blocks old new
-      by_form true h = found-to h.ring new h.numbers
-      by_form false h = let reads = h.ring_reads in then-read plan first plan.index_blocks _ old reads.repaired new (found-to h.ring reads.repaired reads.numbers) reads.reads
-
-  var-found : (blobs now : Option VarData) (old new : FlashState) (least first : ℕ) → variable.ArePlanned blobs first plan → IsTrue old.media.tells → old.geometry ≡ plan.geometry → FindsBlobs blobs old least now new → RepairsBlocks plan first plan.var_blocks old new
-  var-found None now old new least first planned told geometry h = none-there plan first plan.var_blocks old new h.1
-  var-found (Some var) None old new least first planned told geometry h = absurd h
-  var-found (Some var) (Some now) old new least first planned told geometry h =
-      ring-found first plan.var_blocks least (var_shape var) h.ring old new (var-ring var first plan planned) (ltb-true 0 plan.var_blocks (blobbing.planned-some var first plan planned)) told geometry h.numbers
-
--- the rings of a table, of which the index is mounted first
-table-found : (t u : Table 64 64) (first : ℕ) (plan : Plan) (old new : FlashState) (mounted : Mounted) → IsPlanned t first plan → IsTrue old.media.tells → old.geometry ≡ plan.geometry → FindsPages t old mounted u new → RepairsBlocks plan first (blocks_of plan) old new
-table-found t u first plan old new mounted planned told geometry h =
-    let block = plan.geometry.block in
-    let shape = planned-shape t first plan planned in
-    let rows = h.rows in
-    let reads = rows.pages.ring_reads in
-    let index = index-found plan shape.pages t.bitmaps h.found old h.indexed h.end (first + plan.data_blocks) planned.index told geometry h.bitmaps in
-    let found = ring-found plan shape.pages first plan.data_blocks (unwrap_or h.end 0) (ring_shape t) rows.ring h.indexed reads.repaired (planned-ring t first plan planned) (omega (arith, shape.blocks)) (subst IsTrue (sym index.0.tells) told)
-    (index.0.geometry ∙ geometry) reads.numbers in
-    let pages = then-read plan first plan.data_blocks _ h.indexed reads.repaired rows.between found reads.reads in
-    let goes = goes_more old h.indexed rows.between index.0 pages.0 in
-    let var = var-found plan shape.pages t.blobs u.blobs rows.between new (least_of rows.end) (first + plan.data_blocks + plan.index_blocks) planned.var (subst IsTrue (sym goes.tells) told) (goes.geometry ∙ geometry) rows.blobs in
-    let both = repairs-first plan.geometry.page (first * block) ((first + plan.data_blocks) * block) ((first + plan.data_blocks + plan.index_blocks) * block) (page_at old) (page_at h.indexed) (page_at rows.between)
-    (mul-le-mul_right block (omega arith)) (mul-le-mul_right block (omega arith)) index.1 pages.1 in
-    let all = repairs-then plan.geometry.page (first * block) ((first + plan.data_blocks + plan.index_blocks) * block) ((first + plan.data_blocks + plan.index_blocks + plan.var_blocks) * block) (page_at old) (page_at rows.between) (page_at new)
-    (mul-le-mul_right block (omega arith)) (mul-le-mul_right block (omega arith)) both var.1 in
-    let end : first + plan.data_blocks + plan.index_blocks + plan.var_blocks ≡ first + blocks_of plan = omega (arith, planned.log) in
-    (goes_more old rows.between new goes var.0, subst (λ (n : ℕ). Repairs plan.geometry.page (first * block) (n * block) (page_at old) (page_at new)) end all)
-
--- the pages of the first tables are repaired, and all others stand
-abbrev pub RepairsFirst : List Plan → ℕ → FlashState → FlashState → Type 0
-RepairsFirst plans i old new = Repairs old.geometry.page 0 (first_of plans i * old.geometry.block) (page_at old) (page_at new)
-
-pub repaired-none : (plans : List Plan) (f : FlashState) → RepairsFirst plans 0 f f
-repaired-none plans f = repairs-none f.geometry.page 0 (first_of plans 0 * f.geometry.block) (page_at f)
+pub left-none : (plans : List Plan) (geometry : Geometry) (page : ℕ → List ℕ) → LeavesFirst plans geometry 0 page page
+left-none plans geometry page = record { each = λ p. inl (inl refl); behind = λ p le. refl }
 
 -- one more is mounted
-pub repaired-more : (plans : List Plan) (tables : List model.Table) (start : List Entry) (i : ℕ) (entry : Entry) (u : Table 64 64) (f m n : FlashState) (mounted : Mounted) → TablesStand f (λ j. false) plans start tables → slice_get start i ≡ Some entry →
-    Goes f m → IsTrue f.media.tells → FindsPages entry.table m mounted u n → RepairsFirst plans i f m → RepairsFirst plans (i + 1) f n
-repaired-more plans tables start i entry u f m n mounted stand here goes told finds so_far =
-    let at = at-place f (λ j. false) plans start tables i entry stand here in
-    let first = first_of plans i in
-    let more = table-found entry.table u first at.plan m n mounted at.stands.planned (subst IsTrue (sym goes.tells) told) (goes.geometry ∙ sym at.stands.geometry) finds in
-    let next : first_of plans (i + 1) ≡ first + blocks_of at.plan = ap (λ k. first_of plans k) (let s : i + 1 ≡ suc i = omega arith in s) ∙ sum-more blocks_of plans i at.plan at.plan_is in
-    repairs-then f.geometry.page 0 (first * f.geometry.block) (first_of plans (i + 1) * f.geometry.block) (page_at f) (page_at m) (page_at n) (omega arith) (mul-le-mul_right f.geometry.block (omega (arith, next))) so_far
-    (subst (λ (k : ℕ). Repairs f.geometry.page (first * f.geometry.block) (k * f.geometry.block) (page_at m) (page_at n)) (sym next)
-    (subst (λ (g : Geometry). Repairs g.page (first * g.block) ((first + blocks_of at.plan) * g.block) (page_at m) (page_at n)) at.stands.geometry more.1))
+left-more : (plans : List Plan) (geometry : Geometry) (i : ℕ) (plan : Plan) (a b c : ℕ → List ℕ) → slice_get plans i ≡ Some plan → plan.geometry ≡ geometry → LeavesFirst plans geometry i a b → LeavesPages (first_of plans i) plan b c → LeavesFirst plans geometry (i + 1) a c
+left-more plans geometry i plan a b c is same so_far h = subst (λ (g : Geometry). LeavesFirst plans g i a b → LeavesFirst plans g (i + 1) a c) same more so_far
+  where
+    next : first_of plans (i + 1) ≡ first_of plans i + blocks_of plan
+    next = ap (λ k. first_of plans k) (let s : i + 1 ≡ suc i = omega arith in s) ∙ sum-more blocks_of plans i plan is
+
+    upto : (page : ℕ) → first_of plans (i + 1) * plan.geometry.block ≤ page → (first_of plans i + blocks_of plan) * plan.geometry.block ≤ page
+    upto page le = subst (λ (n : ℕ). n * plan.geometry.block ≤ page) next le
+
+    own : (page : ℕ) → IsRepaired plan.geometry.page (b page) (c page) ⊎ one_table.IsReplayed (first_of plans i) plan page (b page) → IsLeft plans plan.geometry page (b page) (c page)
+    own page (inl repaired) = inl repaired
+    own page (inr r) = inr (record { place = i; plan = plan; is = is; logged = r.logged; from = r.from; below = r.below; blank = r.blank })
+
+    more : LeavesFirst plans plan.geometry i a b → LeavesFirst plans plan.geometry (i + 1) a c
+    more x = record {
+      each = λ page. by-place page (cases_lt page (first_of plans i * plan.geometry.block));
+      behind = λ page le. h.behind page (upto page le) ∙ x.behind page (low page le);
+    }
+      where
+        low : (page : ℕ) → first_of plans (i + 1) * plan.geometry.block ≤ page → first_of plans i * plan.geometry.block ≤ page
+        low page le = let k : first_of plans i * plan.geometry.block ≤ (first_of plans i + blocks_of plan) * plan.geometry.block = mul-le-mul_right plan.geometry.block (omega arith) in omega (arith, k, upto page le)
+
+        by-place : (page : ℕ) → (page < first_of plans i * plan.geometry.block) ⊎ (first_of plans i * plan.geometry.block ≤ page) → IsLeft plans plan.geometry page (a page) (c page)
+        by-place page (inl lt) = subst (λ (bytes : List ℕ). IsLeft plans plan.geometry page (a page) bytes) (sym (h.before page lt)) (x.each page)
+        by-place page (inr le) = subst (λ (bytes : List ℕ). IsLeft plans plan.geometry page bytes (c page)) (x.behind page le) (own page (h.each page))
+
+-- none of the tables has a log, or the calls were watched
+abbrev pub IsKnown : List Entry → FlashState → FlashState → Type 0
+IsKnown entries f g = AreUnlogged entries ⊎ ((rose : Bool) × (device : Device) × IsWatched f g rose device)
+
+pub known-before : (entries : List Entry) (f m n : FlashState) → Goes m n → IsKnown entries f n → IsKnown entries f m
+known-before entries f m n goes (inl unlogged) = inl unlogged
+known-before entries f m n goes (inr known) =
+    let w = known.2 in
+    inr (known.0, known.1, record { told = w.told; on = w.on; risen = λ r. w.risen (rose-front f.media.faults m.media.faults n.media.faults goes.faults r); counts = w.counts })
+
+pub known-there : (entries : List Entry) (i : ℕ) (entry : Entry) (f m n : FlashState) → slice_get entries i ≡ Some entry → ((rose : Bool) (device : Device) → IsWatched f n rose device → (now : Device) × IsWatched m n rose now) → IsKnown entries f n →
+    (is_logged entry.table ≡ false) ⊎ ((rose : Bool) × (device : Device) × IsWatched m n rose device)
+known-there entries i entry f m n here watched (inl unlogged) = inl (unlogged i entry here)
+known-there entries i entry f m n here watched (inr known) = let w = watched known.0 known.1 known.2 in inr (known.0, w.0, w.1)
+
+-- the table at the next place rests still, and is mounted
+pub left-next : (plans : List Plan) (tables : List model.Table) (entries : List Entry) (i : ℕ) (entry : Entry) (f m n : FlashState) → TablesStand f (λ j. false) plans entries tables → slice_get entries i ≡ Some entry →
+    LeavesFirst plans f.geometry i (page_at f) (page_at m) →
+    ((plan : Plan) (table : model.Table) → IsPlanned entry.table (first_of plans i) plan → Rests m (first_of plans i) plan table → LeavesPages (first_of plans i) plan (page_at m) (page_at n)) → LeavesFirst plans f.geometry (i + 1) (page_at f) (page_at n)
+left-next plans tables entries i entry f m n stand here so_far mounts =
+    let at = at-place f (λ j. false) plans entries tables i entry stand here in
+    let behind : (page : ℕ) → first_of plans i * at.plan.geometry.block ≤ page → page_at m page ≡ page_at f page =
+    subst (λ (g : Geometry). (page : ℕ) → first_of plans i * g.block ≤ page → page_at m page ≡ page_at f page) (sym at.stands.geometry) so_far.behind in
+    left-more plans f.geometry i at.plan (page_at f) (page_at m) (page_at n) at.plan_is at.stands.geometry so_far (mounts at.plan at.table at.stands.planned (rests-behind f m (first_of plans i) at.plan at.table behind at.stands.on_flash))

@@ -12,12 +12,10 @@ use Rattle.fl_model.specs.Table as model
 use Rattle.fl_model.specs.Table.{lose}
 use Rattle.fl_model.specs.Work.{changed_at}
 use Rattle.fl_model.proofs.Lists.{slice_get-some}
-use Rattle.fl_table.specs.Mounting.{OutsideStands}
-use Rattle.fl_table.specs.declared.table.Table.{Table}
-use Rattle.fl_table.specs.Pages.{Rests}
-use Rattle.fl_table.specs.Standing.{Stands}
-use Rattle.fl_table.proofs.Holding.{lost-twice}
-use Rattle.fl_table.proofs.Plain.{plain-lose, table-facts, table-parts}
+use Rattle.fl_rlc.specs.Logged.{Rests, Stands}
+use Rattle.fl_rlc.specs.Table.{OutsideStands}
+use Rattle.fl_rlc.specs.declared.table.LoggedTable.{LoggedTable}
+use Rattle.fl_rlc.proofs.Others.{logged-rests}
 use Rattle.fl_tables.specs.Tables.{first_of, EntryStands, TablesStand}
 use Rattle.fl_tables.specs.declared.tables.Entry.{Entry}
 use Rattle.fl_tables.proofs.Apart.{other-stands}
@@ -147,15 +145,8 @@ tables-become f g mounted now plans entries tables k h become = record {
 }
 
 -- a table rests where what it has in memory is lost
-stands-rests : (t : Table 64 64) (f : FlashState) (first : ℕ) (plan : Plan) (table : model.Table) → Stands t f first plan table → Rests f first plan (lose table)
-stands-rests t f first plan table h =
-    record {
-      settled = record { facts = table-facts plan (lose table) (plain-lose plan table (table-parts plan table h.planned.log h.facts)); lost = lost-twice table };
-      pages = h.pages;
-    }
-
-pub off-rests : (t : Table 64 64) (f : FlashState) (first : ℕ) (plan : Plan) (table : model.Table) (mounted : Bool) → MatchBool mounted (Stands t f first plan table) (Rests f first plan table) → Rests f first plan (lose table)
-off-rests t f first plan table true h = stands-rests t f first plan table h
+pub off-rests : (t : LoggedTable 64 64) (f : FlashState) (first : ℕ) (plan : Plan) (table : model.Table) (mounted : Bool) → MatchBool mounted (Stands t f first plan table) (Rests f first plan table) → Rests f first plan (lose table)
+off-rests t f first plan table true h = logged-rests t f first plan table h
 off-rests t f first plan table false h = subst (λ x. Rests f first plan x) h.settled.lost h
 
 pub entry-off : (entry : Entry) (f : FlashState) (mounted : Bool) (first : ℕ) (plan : Plan) (table : model.Table) → EntryStands entry f mounted first plan table → EntryStands entry f false first plan (lose table)

@@ -6,14 +6,17 @@ use Rattle.std.proofs.lemmas.List.Sums.{sum_by-cons, sum_by-take-le}
 use Rattle.fl_flash.specs.Flash.{FlashState}
 use Rattle.fl_index.specs.declared.index.Index.{Index}
 use Rattle.fl_machine.specs.Reads.{most_of_mount, mounts_limit}
+use Rattle.fl_model.specs.Bare.{bare}
 use Rattle.fl_model.specs.MountLimit.{mount_limit}
 use Rattle.fl_model.specs.Record.{Plan, blocks_of}
 use Rattle.fl_model.specs.Table as model
 use Rattle.fl_table.specs.Bitmaps.{ArePlanned, room_of}
 use Rattle.fl_table.specs.Blobs as variable
-use Rattle.fl_table.specs.Memory.{IsPlanned}
-use Rattle.fl_table.specs.Mounting.{FewReads, pages_in}
-use Rattle.fl_table.specs.declared.table.Table.{Table}
+use Rattle.fl_table.specs.Mounting.{FewReads}
+use Rattle.fl_rlc.specs.Mounting.{log_pages, pages_in}
+use Rattle.fl_rlc.specs.Table.{IsLogPlanned, IsPlanned}
+use Rattle.fl_rlc.specs.declared.log.RecordLog.{RecordLog}
+use Rattle.fl_rlc.specs.declared.table.LoggedTable.{LoggedTable}
 use Rattle.fl_var.specs.declared.var_data.VarData.{VarData}
 use Rattle.fl_tables.specs.Tables.{pages_of}
 use Rattle.fl_tables.specs.declared.tables.Entry.{Entry}
@@ -46,12 +49,17 @@ var-room : (blobs : Option VarData) (first : ℕ) (plan : Plan) → variable.Are
 var-room None first plan h = omega arith
 var-room (Some var) first plan h = rw (h.planned.blocks, h.planned.geometry) (omega arith)
 
-pub planned-pages : (t : Table 64 64) (first : ℕ) (plan : Plan) → IsPlanned t first plan → pages_in t ≤ blocks_of plan * plan.geometry.block
+log-room : (log : Option RecordLog) (first : ℕ) (plan : Plan) → IsLogPlanned log first plan → log_pages log ≤ plan.log_blocks * plan.geometry.block
+log-room None first plan h = omega arith
+log-room (Some log) first plan h = rw (h.blocks, h.geometry) (omega arith)
+
+pub planned-pages : (t : LoggedTable 64 64) (first : ℕ) (plan : Plan) → IsPlanned t first plan → pages_in t ≤ blocks_of plan * plan.geometry.block
 planned-pages t first plan h =
-    let rows : t.place.blocks * t.geometry.block ≡ plan.data_blocks * plan.geometry.block = rw (h.blocks, sym h.geometry) refl in
-    let index = index-room t.bitmaps (first + plan.data_blocks) plan h.index in
-    let var = var-room t.blobs (first + plan.data_blocks + plan.index_blocks) plan h.var in
-    omega (arith, rows, index, var, add-mul plan.data_blocks plan.index_blocks plan.geometry.block, add-mul (plan.data_blocks + plan.index_blocks) plan.var_blocks plan.geometry.block, add-mul (plan.data_blocks + plan.index_blocks + plan.var_blocks) plan.log_blocks plan.geometry.block)
+    let rows : t.table.place.blocks * t.table.geometry.block ≡ plan.data_blocks * plan.geometry.block = rw (h.table.blocks, sym h.table.geometry) refl in
+    let index = index-room t.table.bitmaps (first + plan.data_blocks) (bare plan) h.table.index in
+    let var = var-room t.table.blobs (first + plan.data_blocks + plan.index_blocks) (bare plan) h.table.var in
+    let log = log-room t.log (first + blocks_of (bare plan)) plan h.log in
+    omega (arith, rows, index, var, log, add-mul plan.data_blocks plan.index_blocks plan.geometry.block, add-mul (plan.data_blocks + plan.index_blocks) plan.var_blocks plan.geometry.block, add-mul (plan.data_blocks + plan.index_blocks + plan.var_blocks) plan.log_blocks plan.geometry.block)
 
 -- ---- the limit by what the tables keep
 
@@ -82,7 +90,7 @@ mounts-most (plan ∷ plans) (table ∷ tables) zero = omega arith
 mounts-most (plan ∷ plans) (table ∷ tables) (suc i) = omega (arith, mounts-most plans tables i)
 
 -- a table's mount, by the limit that it has by its plan
-table-limit : (t : Table 64 64) (first : ℕ) (plan : Plan) (table : model.Table) (m n : FlashState) → IsPlanned t first plan → FewReads (4 * pages_in t) m n →
+table-limit : (t : LoggedTable 64 64) (first : ℕ) (plan : Plan) (table : model.Table) (m n : FlashState) → IsPlanned t first plan → FewReads (4 * pages_in t) m n →
     (plan.full_index ≡ true → n.work.reads ≤ m.work.reads + mount_limit plan table) → n.work.reads ≤ m.work.reads + most_of_mount plan table
 table-limit t first plan table m n planned few full = by_full plan.full_index full
   where
@@ -90,7 +98,7 @@ table-limit t first plan table m n planned few full = by_full plan.full_index fu
     by_full true h = h refl
     by_full false h = omega (arith, few.reads, planned-pages t first plan planned)
 
-pub limit-more : (plans : List Plan) (tables : List model.Table) (i : ℕ) (plan : Plan) (table : model.Table) (t : Table 64 64) (first : ℕ) (f m n : FlashState) → slice_get plans i ≡ Some plan → slice_get tables i ≡ Some table → IsPlanned t first plan →
+pub limit-more : (plans : List Plan) (tables : List model.Table) (i : ℕ) (plan : Plan) (table : model.Table) (t : LoggedTable 64 64) (first : ℕ) (f m n : FlashState) → slice_get plans i ≡ Some plan → slice_get tables i ≡ Some table → IsPlanned t first plan →
     m.work.reads ≤ f.work.reads + mounts_limit (take i plans) tables → FewReads (4 * pages_in t) m n → (plan.full_index ≡ true → n.work.reads ≤ m.work.reads + mount_limit plan table) →
     n.work.reads ≤ f.work.reads + mounts_limit (take (i + 1) plans) tables
 limit-more plans tables i plan table t first f m n p e planned before few full =

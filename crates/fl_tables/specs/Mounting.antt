@@ -1,12 +1,16 @@
 -- What a mount of the tables did, over any bytes.
-use Rattle.std.specs.Prelude.{◌≡◌, ℕ, zero, suc, ◌+◌, Some, IfSome, Result, Ok, Err, List, take, slice_get, sum_by}
+use Rattle.std.specs.Prelude.{◌≡◌, ℕ, false, zero, suc, ◌+◌, Some, IfSome, Result, Ok, Err, List, take, slice_get, sum_by}
 use Rattle.fl_flash.specs.Flash.{FlashState}
 use Rattle.fl_index.specs.Memory as memory
+use Rattle.fl_rlc.specs.Memory.{log_shape}
+use Rattle.fl_rlc.specs.Mounting.{FindsPages, RefusesPages}
+use Rattle.fl_rlc.specs.Table.{IsSamePlan, is_logged, log_in, rings_in, table_in}
+use Rattle.fl_rlc.specs.declared.table.LoggedTable.{LoggedTable}
+use Rattle.fl_table.specs.BlobAt.{data_in}
 use Rattle.fl_table.specs.Bitmaps.{IsOutside}
-use Rattle.fl_table.specs.Memory.{IsSamePlan, ring_shape}
-use Rattle.fl_table.specs.Mounting.{FindsPages, RefusesPages, rings_in}
+use Rattle.fl_table.specs.Memory.{ring_shape}
+use Rattle.fl_table.specs.Skipping.{index_in}
 use Rattle.fl_table.specs.declared.counts.Mounted.{Mounted}
-use Rattle.fl_table.specs.declared.table.Table.{Table}
 use Rattle.fl_var.specs.Memory.{var_shape}
 use Rattle.fl_tables.specs.declared.tables.BadMount.{BadMount}
 use Rattle.fl_tables.specs.declared.tables.Entry.{Entry}
@@ -45,11 +49,16 @@ tried (Err bad) entries = take (bad.at + 1) entries
 abbrev pub rings_of : List Entry → ℕ
 rings_of entries = sum_by (λ entry. rings_in entry.table) entries
 
+-- none of these tables has a log
+abbrev pub AreUnlogged : List Entry → Type 0
+AreUnlogged entries = (i : ℕ) (entry : Entry) → slice_get entries i ≡ Some entry → is_logged entry.table ≡ false
+
 -- a flash page outside the rings of a table
-pub record IsBeside (t : Table 64 64) (page : ℕ) : Type 0 where
-  pub ring : IsOutside (ring_shape t) page
-  pub index : IfSome t.bitmaps (λ index. IsOutside (memory.ring_shape index) page)
-  pub var : IfSome t.blobs (λ var. IsOutside (var_shape var) page)
+pub record IsBeside (t : LoggedTable 64 64) (page : ℕ) : Type 0 where
+  pub ring : IsOutside (ring_shape (table_in t)) page
+  pub index : IfSome (index_in (table_in t)) (λ index. IsOutside (memory.ring_shape index) page)
+  pub var : IfSome (data_in (table_in t)) (λ var. IsOutside (var_shape var) page)
+  pub log : IfSome (log_in t) (λ log. IsOutside (log_shape log) page)
 
 -- each page outside the rings of all these tables stands
 abbrev pub OutsideStands : List Entry → (ℕ → List ℕ) → (ℕ → List ℕ) → Type 0

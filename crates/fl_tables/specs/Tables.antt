@@ -1,23 +1,20 @@
 -- The tables of an image, whose rings stand one after another on its flash.
-use Rattle.std.specs.Prelude.{◌≡◌, ℕ, ◌+◌, ◌^◌, ◌<◌, ◌≤◌, Bool, true, false, ◌⊎◌, MatchBool, Option, Some, None, Result, Ok, Err, List, length, take, slice_get, set, sum_by, IsTrue}
+use Rattle.std.specs.Prelude.{◌≡◌, ℕ, ◌+◌, ◌^◌, ◌<◌, ◌≤◌, Bool, true, false, ◌⊎◌, MatchBool, Option, Some, None, Result, Ok, Err, List, length, map, take, slice_get, set, sum_by}
 use Rattle.fl_flash.specs.Flash.{FlashState, pages}
 use Rattle.fl_flash.specs.declared.flash.FlashFault.{FlashFault}
 use Rattle.fl_flash.specs.declared.flash.FlashFault.TheVariants.{PowerLost, Media}
 use Rattle.fl_model.specs.Mount.{Mounts, Mounted, Stopped, Unread, turns_from}
 use Rattle.fl_model.specs.Record.{Plan, blocks_of}
 use Rattle.fl_model.specs.Table as model
+use Rattle.fl_model.specs.Table.{lose}
 use Rattle.fl_model.specs.Work.{Device, Progress, Outcome, Finished, CutShort, Failed}
-use Rattle.fl_base.specs.Causes.{Rose}
-use Rattle.fl_ring.specs.Causes.{CausedBy}
 use Rattle.fl_ring.specs.Device.{SameDevice}
-use Rattle.fl_ring.specs.declared.fault.RingFault.TheVariants as ring
 use Rattle.fl_words.specs.Config.{Lines}
 use Rattle.fl_machine.specs.Step.{all_ready}
-use Rattle.fl_table.specs.Memory.{IsPlanned, LiesOn, is_running}
-use Rattle.fl_table.specs.Mounting.{pages_in}
-use Rattle.fl_table.specs.Pages.{Rests}
-use Rattle.fl_table.specs.Standing.{Stands}
-use Rattle.fl_table.specs.declared.table.Table.{Table}
+use Rattle.fl_rlc.specs.Logged.{Rests, Stands}
+use Rattle.fl_rlc.specs.Mounting.{pages_in}
+use Rattle.fl_rlc.specs.Table.{IsPlanned, LiesOn, is_running}
+use Rattle.fl_rlc.specs.declared.table.LoggedTable.{LoggedTable}
 use Rattle.fl_table.specs.declared.faults.MountFault.{MountFault}
 use Rattle.fl_table.specs.declared.faults.MountFault.TheVariants as mount
 use Rattle.fl_tables.specs.declared.tables.BadMount.{BadMount}
@@ -52,7 +49,7 @@ Names entries name (Some at) = IsNamed entries name at
 Names entries name None = (i : ℕ) (other : Entry) → slice_get entries i ≡ Some other → other.name ≡ name → ⊥
 
 -- the tables with another one in the place of an entry's
-abbrev pub entries_with : List Entry → ℕ → Entry → Table 64 64 → List Entry
+abbrev pub entries_with : List Entry → ℕ → Entry → LoggedTable 64 64 → List Entry
 entries_with entries at entry t = set entries at (record { name = entry.name; table = t })
 
 -- each table lies on the flash, and each is mounted and goes on
@@ -70,14 +67,6 @@ pub record StopsAt (old new : List Entry) (bad : BadMount) : Type 0 where
   pub down : is_running entry.table ≡ false
   pub before : (i : ℕ) (other : Entry) → i < bad.at → slice_get new i ≡ Some other → is_running other.table ≡ true
   pub behind : (i : ℕ) → bad.at < i → slice_get new i ≡ slice_get old i
-
--- A fault of the medium comes only where its count rose, and one of the flash never as one of a ring. Where the bytes are told the
--- power is lost only where it was off or a cut came.
-abbrev pub MountFailsFor : FlashState → MountFault → FlashState → Type 0
-MountFailsFor old (mount.Flash Media) new = Rose old.media.faults new.media.faults
-MountFailsFor old (mount.Flash PowerLost) new = IsTrue old.media.tells → CausedBy old PowerLost new
-MountFailsFor old (mount.Ring (ring.Flash fault)) new = ⊥
-MountFailsFor old fault new = Unit {0}
 
 -- the pages of their rings
 abbrev pub pages_of : List Entry → ℕ
@@ -112,13 +101,13 @@ FaultIs Finished fault = ⊥
 FaultIs (CutShort before) fault = fault ≡ PowerLost
 FaultIs (Failed before) fault = fault ≡ Media
 
--- an operation of a repair failed, or a read: what was repaired until then stays
+-- an operation of the mount failed, or a read: what was done until then stays, without what was in memory
 pub record TablesBroken (plans : List Plan) (tables : List model.Table) (rose : Bool) (device : Device) (fault : FlashFault) (entries : List Entry) (new : FlashState) : Type 0 where
   pub end : Progress
   pub did : (Mounts plans rose (turns_from 0 plans) device tables (Stopped end) × FaultIs end.outcome fault)
       ⊎ (Mounts plans rose (turns_from 0 plans) device tables (Unread end) × (fault ≡ Media))
   pub counts : SameDevice new end.device
-  pub rest : TablesStand new (λ i. false) plans entries end.tables
+  pub rest : TablesStand new (λ i. false) plans entries (map lose end.tables)
 
 abbrev pub MountBreaks : List Plan → List model.Table → Bool → Device → MountFault → List Entry → FlashState → Type 0
 MountBreaks plans tables rose device (mount.Flash fault) entries new = TablesBroken plans tables rose device fault entries new

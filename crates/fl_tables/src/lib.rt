@@ -6,5 +6,5 @@ mod sizes;
 mod tables;
 
 pub use replies::{fault_reply, flush_reply, put_reply};
-pub use sizes::{Cursor, KNOTS, SLOTS, Table};
+pub use sizes::{Cursor, KNOTS, LoggedTable, SLOTS, Table};
 pub use tables::{BadMount, Entry, Tables};

@@ -1,12 +1,12 @@
 // The tables of an image.
-ghost use Rattle.std.specs.Prelude.{◌≡◌, ◌<◌, ◌≤◌, ◌+◌, ◌*◌, ℕ, Bool, List, false, true, length, sum_by, IsTrue, IfOk, IfErr, OnOk};
+ghost use Rattle.std.specs.Prelude.{◌≡◌, ◌⊎◌, ◌<◌, ◌≤◌, ◌+◌, ◌*◌, ℕ, Bool, List, false, true, length, sum_by, IsTrue, IfOk, IfErr, OnOk};
 ghost use Rattle.fl_flash.specs.Flash.{Goes, page_at};
 ghost use Rattle.fl_model.specs.Record.{Plan, blocks_of};
 ghost use Rattle.fl_model.specs.Table as model;
 ghost use Rattle.fl_model.specs.Work.{Device};
 ghost use Rattle.fl_ring.specs.Step.{IsWatched};
 
-use crate::sizes::Table;
+use crate::sizes::LoggedTable;
 use fl_base::{Name, NoMemory};
 use fl_config::Config;
 use fl_flash::{Flash, PageBuf};
@@ -18,8 +18,8 @@ use std::alloc::Global;
 pub struct Entry {
     /// The name that its line gives it.
     pub name: Name,
-    /// The table, mounted or not.
-    pub table: Table,
+    /// The table and its log, mounted or not.
+    pub table: LoggedTable,
 }
 
 /// The tables of a configuration. Their rings stand one after another on one flash.
@@ -42,10 +42,11 @@ pub struct BadMount {
 
 impl Tables {
     ghost use Rattle.fl_machine.specs.Reads.{mounts_limit};
+    ghost use Rattle.fl_table.specs.Causes.{MountCausedBy};
     ghost use Rattle.fl_table.specs.Mounting.{FewRepairs};
-    ghost use Rattle.fl_tables.specs.Mounting.{MountsInTurn, OutsideStands, RefusesAt, rings_of, tried};
-    ghost use Rattle.fl_tables.specs.Repaired.{IsRepaired};
-    ghost use Rattle.fl_tables.specs.Tables.{AreNewTables, Names, LieOn, AreRunning, StopsAt, MountFailsFor, TablesStand, TablesMount, pages_of};
+    ghost use Rattle.fl_tables.specs.Mounting.{AreUnlogged, MountsInTurn, OutsideStands, RefusesAt, rings_of, tried};
+    ghost use Rattle.fl_tables.specs.Repaired.{IsLeft};
+    ghost use Rattle.fl_tables.specs.Tables.{AreNewTables, Names, LieOn, AreRunning, StopsAt, TablesStand, TablesMount, pages_of};
 
     /// The tables of a configuration, one for each line. None of them is mounted.
     pub fn plan(alloc: Global, config: &Config) -> Result<Tables, NoMemory>
@@ -53,7 +54,7 @@ impl Tables {
     {
         let mut entries = Vec::with_capacity(alloc, config.tables())?;
         for i in 0..config.tables() {
-            let Ok(table) = Table::plan(alloc, config.table(i)) else {
+            let Ok(table) = LoggedTable::plan(alloc, config.table(i), config.log(i)) else {
                 return Err(NoMemory);
             };
             let name = config.name(i);
@@ -87,15 +88,17 @@ impl Tables {
             RefusesAt self.old.entries.items self.new.entries.items bad (F.state flash.old) (F.state flash.new)) }
         ensures running { OnOk result (AreRunning self.new.entries.items) }
         ensures stops { IfErr result (λ bad. StopsAt self.old.entries.items self.new.entries.items bad) }
-        ensures cause { IfErr result (λ bad. MountFailsFor (F.state flash.old) bad.fault (F.state flash.new)) }
+        ensures cause { IfErr result (λ bad. MountCausedBy (F.state flash.old) bad.fault (F.state flash.new)) }
         ensures repaired { OnOk result (IsTrue (F.state flash.old).media.tells → (plans : List Plan) → (tables : List model.Table) → TablesStand (F.state flash.old) (λ i. false) plans self.old.entries.items tables
-            → (page : ℕ) → page < sum_by blocks_of plans * (F.state flash.old).geometry.block → IsRepaired (F.state flash.old).geometry.page (page_at (F.state flash.old) page) (page_at (F.state flash.new) page)) }
-        ensures repairs { FewRepairs (rings_of (tried result self.old.entries.items)) (F.state flash.old) (F.state flash.new) }
+            → AreUnlogged self.old.entries.items ⊎ ((rose : Bool) × (device : Device) × IsWatched (F.state flash.old) (F.state flash.new) rose device)
+            → (page : ℕ) → page < sum_by blocks_of plans * (F.state flash.old).geometry.block → IsLeft plans (F.state flash.old).geometry page (page_at (F.state flash.old) page) (page_at (F.state flash.new) page)) }
+        ensures repairs { AreUnlogged (tried result self.old.entries.items) → FewRepairs (rings_of (tried result self.old.entries.items)) (F.state flash.old) (F.state flash.new) }
         ensures outside { IsTrue (F.state flash.old).media.tells →
             OutsideStands (tried result self.old.entries.items) (page_at (F.state flash.old)) (page_at (F.state flash.new)) }
         ensures reads { IsTrue (F.state flash.old).media.tells → (F.state flash.new).work.reads ≤ (F.state flash.old).work.reads + 4 * pages_of self.old.entries.items }
         ensures limit { (plans : List Plan) → (tables : List model.Table) → (rose : Bool) → (device : Device) → IsWatched (F.state flash.old) (F.state flash.new) rose device
             → TablesStand (F.state flash.old) (λ i. false) plans self.old.entries.items tables → (F.state flash.new).work.reads ≤ (F.state flash.old).work.reads + mounts_limit plans tables }
+        ensures power { OnOk result ((F.state flash.old).is_on ≡ true → (F.state flash.new).is_on ≡ true) }
         ensures goes { Goes (F.state flash.old) (F.state flash.new) }
         ensures lie { LieOn self.new.entries.items (F.state flash.new) }
         ensures room { length buf.new.bytes ≡ length buf.old.bytes }

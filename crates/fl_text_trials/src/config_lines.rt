@@ -3,8 +3,8 @@ use fl_config::Config;
 use fl_plan::ConfigRefusal;
 use fl_plan::ConfigRefusal::{
     Bits, BlobLimit, BlockSize, ColumnCount, ColumnType, DataBlocks, DeviceTooLarge, DeviceTwice,
-    ErrorBound, Format, IndexBlocks, KeyWidth, NameTaken, PageSize, RowTooLong, TableFirst,
-    TooManyTables, VarBlocks, Width,
+    ErrorBound, Format, IndexBlocks, KeyWidth, LogBlocks, LogVar, NameTaken, PageSize, RowTooLong,
+    TableFirst, TooManyTables, VarBlocks, Width,
 };
 use fl_script::{LineRoom, read_line};
 use std::test::Fail;
@@ -82,6 +82,14 @@ fn table_lines(rt: HostRuntime) -> Result<(), Fail> {
         ("table u 8 i64 16384 0 3 8 0 1 1 288 index2", DeviceTooLarge),
         ("table u 8 i64 3 0 3 0 0 1 1 288 index2", Format),
         ("table u 8 i64 3 0 3 7 0 1 1 288 index2", Bits),
+        (
+            "table u 8 i64 3 0 3 8 0 1 1 288 index2 rlc 18446744073709551615",
+            DeviceTooLarge,
+        ),
+        ("table u 8 i64 3 0 3 8 0 1 1 288 index2 rlc 2", Format),
+        ("table u 8 i64 3 3 3 8 0 1 1 288 index2 rlc 2", LogBlocks),
+        ("table u 8 i64 3 0 3 8 0 1 1 288 rlc 0", LogBlocks),
+        ("table u 8 i64 3 3 3 8 0 1 1 288 index2 rlc 3", LogVar),
     ];
     assert_eq!(rt; add(&mut config, &mut room, "device 64 4"), Some(Ok(())));
     let first = "table t 8 i32 3 0 0 8 0 10 1 0";
@@ -128,5 +136,60 @@ fn places(rt: HostRuntime) -> Result<(), Fail> {
     for (i, places) in wanted.into_iter().enumerate() {
         assert_eq!(rt; firsts(&config, i), Some(places));
     }
+    Ok(())
+}
+
+/// The first block and the blocks of a table's log.
+fn log(config: &Config, i: usize) -> Option<(u32, u32)> {
+    if i >= config.tables() {
+        return None;
+    }
+    config.log(i).map(|place| (place.first_block, place.blocks))
+}
+
+#[test]
+fn logs(rt: HostRuntime) -> Result<(), Fail> {
+    let mut config = Config::new();
+    let mut room = LineRoom::new(rt.alloc())?;
+    let lines = [
+        "device 128 4",
+        "table s 4 i16 40 3 0 64 0 100 1 0 index2 rlc 5",
+        "table t 8 i32 3 0 0 8 0 10 1 0 rlc 3",
+        "table u 8 i32 3 3 0 8 0 10 1 0 index2",
+    ];
+    for line in lines {
+        assert_eq!(rt; add(&mut config, &mut room, line), Some(Ok(())), "{line}");
+    }
+    assert_eq!(rt; config.blocks(), 60);
+    let wanted = [Some((43, 5)), Some((51, 3)), None];
+    for (i, place) in wanted.into_iter().enumerate() {
+        assert_eq!(rt; log(&config, i), place);
+    }
+    assert_eq!(rt; firsts(&config, 2), Some((54, 57, 0)));
+    Ok(())
+}
+
+/// The blocks of a log count, on its line and for the tables behind it.
+#[test]
+fn sizes_with_logs(rt: HostRuntime) -> Result<(), Fail> {
+    let mut config = Config::new();
+    let mut room = LineRoom::new(rt.alloc())?;
+    let device = "device 4096 256";
+    assert_eq!(rt; add(&mut config, &mut room, device), Some(Ok(())));
+    let first = "table t 8 i32 61 0 0 8 0 10 1 0 rlc 4";
+    assert!(rt;
+        refuses(&mut config, &mut room, first, DeviceTooLarge),
+        "{first}"
+    );
+    let first = "table t 8 i32 58 0 0 8 0 10 1 0 rlc 3";
+    assert_eq!(rt; add(&mut config, &mut room, first), Some(Ok(())));
+    let behind = "table u 8 i32 4 0 0 8 0 10 1 0";
+    assert!(rt;
+        refuses(&mut config, &mut room, behind, DeviceTooLarge),
+        "{behind}"
+    );
+    let behind = "table u 8 i32 3 0 0 8 0 10 1 0";
+    assert_eq!(rt; add(&mut config, &mut room, behind), Some(Ok(())));
+    assert_eq!(rt; config.blocks(), 64);
     Ok(())
 }

@@ -13,13 +13,16 @@ const TABLE: &str = "table t 8 i32 3 0 0 8 0 10 1 0";
 
 const OTHER_TABLE: &str = "table t 8 i32 3 0 0 8 0 10 2 0";
 
-/// The configuration of a device and a table with this line.
-fn config(room: &mut LineRoom, table: &str) -> Option<Config>
+/// The configuration of a device and the tables with these lines.
+fn config(room: &mut LineRoom, tables: &str) -> Option<Config>
     ensures { IfSome result (λ config. IsTrue (is_whole config)) }
 {
     let mut config = Config::new();
-    for line in ["device 128 4", table] {
-        let command = read_line(line.as_bytes(), room).ok()?;
+    let command = read_line(b"device 128 4", room).ok()?;
+    config.add(&command, room).ok()?;
+    let lines = tables.as_bytes().split(|byte| *byte == b'\n');
+    for line in lines {
+        let command = read_line(line, room).ok()?;
         config.add(&command, room).ok()?;
     }
     if config.is_complete() {
@@ -29,14 +32,14 @@ fn config(room: &mut LineRoom, table: &str) -> Option<Config>
     }
 }
 
-/// The answer of the configuration with that table to a medium.
+/// The answer of the configuration with these tables to a medium.
 fn open(
     alloc: Global,
-    table: &str,
+    tables: &str,
     media: &mut MemMedia,
 ) -> Result<Option<Result<(), ImageRefusal>>, NoMemory> {
     let mut room = LineRoom::new(alloc)?;
-    let Some(config) = config(&mut room, table) else {
+    let Some(config) = config(&mut room, tables) else {
         return Ok(None);
     };
     Ok(Some(config.open_image(media)))
@@ -56,13 +59,52 @@ fn is_image(bytes: &[u8]) -> bool {
 }
 
 #[test]
-fn the_word_for_full_entries_stands_in_the_header(rt: HostRuntime) -> Result<(), Fail> {
+fn both_words_stand_in_the_header(rt: HostRuntime) -> Result<(), Fail> {
     let mut media = MemMedia::new(rt.alloc(), Vec::new(rt.alloc()), 8000)?;
-    let table = "table t 8 i32 6 3 0 8 0 10 1 00  index2";
-    let text = b"device 128 4\ntable t 8 i32 6 3 0 8 0 10 1 0 index2\n ";
+    let table = "table t 8 i32 6 3 0 8 0 10 1 0  index2 rlc 03";
+    let text = b"device 128 4\ntable t 8 i32 6 3 0 8 0 10 1 0 index2 rlc 3\n ";
     assert_eq!(rt; open(rt.alloc(), table, &mut media)?, Some(Ok(())));
     assert!(rt; media.bytes().starts_with(text), "its header");
-    assert_eq!(rt; media.bytes().len(), 5632);
+    assert_eq!(rt; media.bytes().len(), 7168);
+    Ok(())
+}
+
+/// Two tables with logs, of 13 blocks in all.
+const LOGS: &str = "table t 8 i32 3 0 0 8 0 10 1 0 rlc 3\ntable u 8 i32 3 0 0 8 0 10 1 0 rlc 4";
+
+/// The same, but for the blocks of each log.
+const OTHER_LOGS: &str =
+    "table t 8 i32 3 0 0 8 0 10 1 0 rlc 4\ntable u 8 i32 3 0 0 8 0 10 1 0 rlc 3";
+
+/// As many blocks, and a log of the second table alone.
+const ONE_LOG: &str = "table t 8 i32 3 0 0 8 0 10 1 0\ntable u 8 i32 3 0 0 8 0 10 1 0 rlc 7";
+
+#[test]
+fn another_log_is_another_configuration(rt: HostRuntime) -> Result<(), Fail> {
+    let mut media = MemMedia::new(rt.alloc(), Vec::new(rt.alloc()), 8000)?;
+    assert_eq!(rt; open(rt.alloc(), LOGS, &mut media)?, Some(Ok(())));
+    assert_eq!(rt; open(rt.alloc(), LOGS, &mut media)?, Some(Ok(())));
+    let blocks = ImageRefusal::Other {
+        wanted: u64::from(b'4'),
+        found: u64::from(b'3'),
+        at: 48,
+    };
+    assert_eq!(rt;
+        open(rt.alloc(), OTHER_LOGS, &mut media)?,
+        Some(Err(blocks))
+    );
+    let word = ImageRefusal::Other {
+        wanted: u64::from(b'\n'),
+        found: u64::from(b' '),
+        at: 43,
+    };
+    assert_eq!(rt; open(rt.alloc(), ONE_LOG, &mut media)?, Some(Err(word)));
+    let length = ImageRefusal::Other {
+        wanted: 2560,
+        found: 7680,
+        at: 1024,
+    };
+    assert_eq!(rt; open(rt.alloc(), TABLE, &mut media)?, Some(Err(length)));
     Ok(())
 }
 

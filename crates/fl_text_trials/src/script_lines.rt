@@ -12,6 +12,8 @@ fn each_line_is_in_the_language(rt: HostRuntime) -> Result<(), Fail> {
         "device 64 2",
         "table t 8 u8,i32 3 0 0 0 -5 1 255 0\r",
         "table t 8 i32 3 3 0 8 0 10 1 0 index2",
+        "table t 8 i32 3 3 0 8 0 10 1 0 rlc 18446744073709551615",
+        "table t 8 i32 3 3 0 8 0 10 1 0 index2 rlc 3",
         "mount",
         " off ",
         "cut 1 half",
@@ -65,8 +67,10 @@ fn the_first_fault_is_told(rt: HostRuntime) -> Result<(), Fail> {
         ("table t x i32 3 3 0 8 0 10 1 0 index3", Form),
         ("table t 8 i32 3 3 0 8 0 10 1 0 index2 index2", Form),
         ("table t 8 i32 3 3 0 8 0 10 x 0 index2", Number),
-        ("table t 8 i32 3 3 0 8 0 10 1 0 rlc 3", Form),
-        ("table t 8 i32 3 3 0 8 0 10 1 0 index2 rlc 3", Form),
+        ("table t 8 i32 3 3 0 8 0 10 1 0 rlc 3 index2", Form),
+        ("table t 8 i32 3 3 0 8 0 10 1 0 rlc 3 3", Form),
+        ("table t 8 i32 3 3 0 8 0 10 1 0 index2 rlc", Form),
+        ("table t 8 i32 3 3 0 8 0 10 1 0 index2 rlc x", Number),
         ("device 64 2\r\r", Number),
     ];
     for (line, fault) in lines {

@@ -6,8 +6,7 @@ ghost use Rattle.fl_rlc.specs.Table.{LiesOn};
 use arrayvec::ArrayVec;
 use fl_base::{CutKind, Geometry, NoMemory, RingPlace};
 use fl_flash::{Flash, FlashFault, MemMedia, PageBuf, SimFlash};
-use fl_plan::TableConfig;
-use fl_rlc::PlanRefusal;
+use fl_plan::{ConfigRefusal, TableConfig};
 use fl_schema::{ColumnType, KeyWidth};
 use fl_table::{MountFault, Mounted, PutRefusal};
 use std::alloc::Global;
@@ -27,7 +26,7 @@ const LOG: RingPlace = RingPlace {
 };
 
 // Eight rows a page, in a ring of three blocks, and a log in this place of six blocks.
-fn table(alloc: Global, log: Option<RingPlace>) -> Result<LoggedTable, PlanRefusal>
+fn table(alloc: Global, log: Option<RingPlace>) -> Result<LoggedTable, ConfigRefusal>
     requires { IfSome log (λ place. place.first_block + place.blocks ≤ 6) }
     ensures { IfOk result (λ t. (f : FlashState) → f.geometry ≡ record { page = 128; block = 4 } → f.blocks ≡ 6 → LiesOn t f) }
 {

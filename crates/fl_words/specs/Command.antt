@@ -18,8 +18,9 @@ pub record TableLine : Type 0 where
   pub width : ℕ
   pub error : ℕ
   pub blob_limit : ℕ
-  -- whether the line ends with the word for full index entries
+  -- whether the word for full index entries is there, and then the blocks of the log, where the line ends with them
   pub full_index : Bool
+  pub log_blocks : Option ℕ
 
 pub data Command : Type 0 where
   -- an empty line or a comment

@@ -1,5 +1,5 @@
 -- The configuration that device and table lines make, or the refusal of one of them.
-use Rattle.std.specs.Prelude.{ℕ, ◌-◌, ◌*◌, ◌%◌, Bool, true, false, not, ◌&&◌, ◌||◌, nat_lt, nat_le, ◌==◌, Option, Some, None, is_none, unwrap_or, Result, Ok, Err, List, [], ◌∷◌, ◌++◌, length, sum_by, codes, if◌then◌else◌}
+use Rattle.std.specs.Prelude.{ℕ, ◌-◌, ◌*◌, ◌%◌, Bool, true, false, not, ◌&&◌, ◌||◌, nat_lt, nat_le, ◌==◌, Option, Some, None, is_none, is_some, unwrap_or, Result, Ok, Err, List, [], ◌∷◌, ◌++◌, length, sum_by, codes, if◌then◌else◌}
 use Rattle.std.specs.List.{slice_split, list_any}
 use Rattle.fl_base.specs.declared.types.Geometry.{Geometry}
 use Rattle.fl_model.specs.Record.{Column, Plan, row_len, content_per_page, Config, bytes_equal, blocks_of}
@@ -9,7 +9,8 @@ use Rattle.fl_words.specs.Command.{Command, TableLine}
 -- why a configuration line is refused
 pub data ConfigFault : Type 0 where
   DeviceTwice TableFirst PageSize BlockSize TooManyTables NameTaken KeyWidth ColumnType ColumnCount : ConfigFault
-  DataBlocks IndexBlocks VarBlocks Bits Width ErrorBound BlobLimit RowTooLong DeviceTooLarge Format : ConfigFault
+  DataBlocks IndexBlocks VarBlocks Bits Width ErrorBound BlobLimit RowTooLong DeviceTooLarge : ConfigFault
+  Format LogBlocks LogVar : ConfigFault
 
 -- the configuration so far
 pub record Lines : Type 0 where
@@ -43,7 +44,7 @@ columns_named (name ∷ names) = cons_column (column_named name) (columns_named 
 abbrev pub columns_in : List ℕ → Option (List Column)
 columns_in word = columns_named (slice_split (λ byte. byte == 44) word)
 
--- a table line as a plan; no line asks for a log
+-- a table line as a plan
 abbrev pub plan_of : Geometry → TableLine → Plan
 plan_of geometry line = record {
   geometry = geometry;
@@ -59,11 +60,15 @@ plan_of geometry line = record {
   error = line.error;
   blob_limit = line.blob_limit;
   full_index = line.full_index;
-  log_blocks = 0;
+  log_blocks = unwrap_or line.log_blocks 0;
 }
 
 abbrev pub is_odd_ring : ℕ → Bool
 is_odd_ring blocks = (blocks == 1) || (blocks == 2) || nat_lt 16384 blocks
+
+abbrev pub bad_log : Option ℕ → Bool
+bad_log None = false
+bad_log (Some blocks) = nat_lt blocks 3 || nat_lt 16384 blocks
 
 abbrev pub bad_blob_limit : Plan → Bool
 bad_blob_limit plan =
@@ -98,7 +103,9 @@ table_faults geometry plans line =
     ∷ (bad_blob_limit plan, BlobLimit)
     ∷ (nat_lt (geometry.page - 24) (row_len plan), RowTooLong)
     ∷ (too_large geometry (plans ++ plan ∷ []), DeviceTooLarge)
-    ∷ (line.full_index && (line.index_blocks == 0), Format) ∷ []
+    ∷ (line.full_index && (line.index_blocks == 0), Format)
+    ∷ (bad_log line.log_blocks, LogBlocks)
+    ∷ (is_some line.log_blocks && not (line.var_blocks == 0), LogVar) ∷ []
 
 abbrev pub device_faults : Geometry → List (Bool × ConfigFault)
 device_faults geometry =

@@ -1,5 +1,5 @@
 -- The script: its lines, their words, and the command that a line is.
-use Rattle.std.specs.Prelude.{ℕ, ◌+◌, ◌-◌, ◌*◌, Bool, true, false, ◌&&◌, ◌||◌, nat_lt, nat_le, ◌==◌, ℤ, pos, neg_ℤ, Option, Some, None, Result, Ok, Err, List, [], ◌∷◌, length, map, filter, fold, codes, if◌then◌else◌}
+use Rattle.std.specs.Prelude.{ℕ, ◌+◌, ◌-◌, ◌*◌, Bool, false, ◌&&◌, ◌||◌, nat_lt, nat_le, ◌==◌, ℤ, pos, neg_ℤ, Option, Some, None, Result, Ok, Err, List, [], ◌∷◌, length, map, filter, fold, codes, if◌then◌else◌}
 use Rattle.std.specs.List.{slice_split, list_all, starts_with}
 use Rattle.fl_base.specs.declared.types.CutKind.{CutKind}
 use Rattle.fl_base.specs.declared.types.CutKind.TheVariants.{Before, After, Half, Noise}
@@ -160,15 +160,30 @@ device_line (page ∷ block ∷ []) = do
   Ok (command.Device p b)
 device_line other = Err Form
 
--- the words behind those of a table: none, or the word for full index entries
-abbrev pub full_index_in : List (List ℕ) → Option Bool
-full_index_in [] = Some false
-full_index_in (word ∷ []) = if bytes_equal word (codes "index2") then Some true else None
-full_index_in other = None
+-- the words behind those of a table: first the word for full index entries, where it is there
+abbrev pub full_index_in : List (List ℕ) → Bool
+full_index_in [] = false
+full_index_in (word ∷ words) = bytes_equal word (codes "index2")
+
+-- .. and then the word for a log and its blocks
+abbrev pub log_word : List (List ℕ) → Option (Option (List ℕ))
+log_word [] = Some None
+log_word (word ∷ log ∷ []) = if bytes_equal word (codes "rlc") then Some (Some log) else None
+log_word other = None
+
+abbrev pub log_word_in : List (List ℕ) → Option (Option (List ℕ))
+log_word_in [] = Some None
+log_word_in (word ∷ words) = log_word (if bytes_equal word (codes "index2") then words else word ∷ words)
+
+abbrev pub maybe_number : Option (List ℕ) → Result (Option ℕ) LineFault
+maybe_number None = Ok None
+maybe_number (Some word) = do
+  n ← number word
+  Ok (Some n)
 
 abbrev pub table_line : List (List ℕ) → Result Command LineFault
 table_line (name ∷ key ∷ columns ∷ rows ∷ index ∷ var ∷ bits ∷ base ∷ width ∷ error ∷ blob ∷ words) =
-    form (is_name name) (part (full_index_in words) (λ full. do
+    form (is_name name) (part (log_word_in words) (λ log. do
       k ← number key
       d ← number rows
       i ← number index
@@ -178,7 +193,8 @@ table_line (name ∷ key ∷ columns ∷ rows ∷ index ∷ var ∷ bits ∷ bas
       w ← number width
       e ← number error
       l ← number blob
-      Ok (command.Table (record { name = name; key = k; columns = columns; data_blocks = d; index_blocks = i; var_blocks = v; bits = n; base = b; width = w; error = e; blob_limit = l; full_index = full }))))
+      r ← maybe_number log
+      Ok (command.Table (record { name = name; key = k; columns = columns; data_blocks = d; index_blocks = i; var_blocks = v; bits = n; base = b; width = w; error = e; blob_limit = l; full_index = full_index_in words; log_blocks = r }))))
 table_line other = Err Form
 
 abbrev pub cut_kind : List ℕ → Option CutKind

@@ -3,7 +3,7 @@ use Rattle.std.specs.Prelude.{◌≡◌, ℕ, ◌-◌, ◌*◌, List, [], ◌∷
 use Rattle.std.specs.List.{flat_map, join_with_byte}
 use Rattle.std.specs.Fmt.{signed_decimal}
 use Rattle.fl_base.specs.declared.types.Geometry.{Geometry}
-use Rattle.fl_model.specs.Record.{Column, Plan, Config}
+use Rattle.fl_model.specs.Record.{Column, Plan, Config, has_log}
 use Rattle.fl_model.specs.Table.{Table}
 use Rattle.fl_model.specs.Image.{AreTableImages, medium_len}
 
@@ -25,7 +25,7 @@ table_text plan =
     line_text (codes "table" ∷ plan.name ∷ decimal plan.key_bytes ∷ join_with_byte 44 (map column_name plan.columns)
     ∷ decimal plan.data_blocks ∷ decimal plan.index_blocks ∷ decimal plan.var_blocks ∷ decimal plan.bits ∷ signed_decimal plan.base
     ∷ decimal plan.width ∷ decimal plan.error ∷ decimal plan.blob_limit
-    ∷ (if plan.full_index then codes "index2" ∷ [] else []))
+    ∷ ((if plan.full_index then codes "index2" ∷ [] else []) ++ (if has_log plan then codes "rlc" ∷ decimal plan.log_blocks ∷ [] else [])))
 
 -- the first 1,024 bytes of a medium
 abbrev pub header : Config → List ℕ

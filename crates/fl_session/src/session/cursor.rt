@@ -41,7 +41,7 @@ impl<'m, M: Media> Session<'m, M> {
             Ok(at) => at,
             Err(refusal) => return refusal,
         };
-        let table = &self.tables.entries[at].table;
+        let table = self.tables.entries[at].table.table();
         let mark = open_cursor(table, range, span, &mut self.buf);
         self.notes
             .set_cursor(cursor, Some(TableCursor { table: at, mark }));
@@ -97,7 +97,7 @@ impl<'m, M: Media> Session<'m, M> {
         // Its call tells the proof that the count of reads is within its bounds.
         let _before = self.flash.work();
         let written = next_rows(
-            &self.tables.entries[open.table].table,
+            self.tables.entries[open.table].table.table(),
             &mut open.mark,
             count,
             &mut self.flash,

@@ -39,7 +39,7 @@ impl<'m, M: Media> Session<'m, M> {
             Ok(at) => at,
             Err(refusal) => return write_reply(&refusal, out),
         };
-        let table = &self.tables.entries[at].table;
+        let table = self.tables.entries[at].table.table();
         if table.columns() < comparison.column {
             let column = comparison.column as u64;
             return write_reply(&Reply::NoColumn { column }, out);
@@ -78,7 +78,7 @@ impl<'m, M: Media> Session<'m, M> {
             Ok(at) => at,
             Err(refusal) => return write_reply(&refusal, out),
         };
-        let table = &self.tables.entries[at].table;
+        let table = self.tables.entries[at].table.table();
         if let Some(column) = lacked_column(table, columns.as_slice()) {
             return write_reply(&Reply::NoColumn { column }, out);
         }
@@ -112,7 +112,7 @@ impl<'m, M: Media> Session<'m, M> {
             Ok(at) => at,
             Err(refusal) => return write_reply(&refusal, out),
         };
-        let table = &self.tables.entries[at].table;
+        let table = self.tables.entries[at].table.table();
         if table.columns() < column {
             let column = column as u64;
             return write_reply(&Reply::NoColumn { column }, out);
@@ -156,8 +156,8 @@ impl<'m, M: Media> Session<'m, M> {
             Ok(at) => at,
             Err(refusal) => return write_reply(&refusal, out),
         };
-        let left_table = &self.tables.entries[left_at].table;
-        let right_table = &self.tables.entries[right_at].table;
+        let left_table = self.tables.entries[left_at].table.table();
+        let right_table = self.tables.entries[right_at].table.table();
         // The reads of this command are a difference of two counts, of which this is the first.
         let _before = self.flash.work();
         join(

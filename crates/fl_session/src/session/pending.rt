@@ -22,7 +22,7 @@ impl<'m, M: Media> Session<'m, M> {
             return None;
         }
         let entry = &self.tables.entries[at];
-        let rows = entry.table.pending_rows();
+        let rows = entry.table.table().pending_rows();
         if rows == 0 {
             return None;
         }

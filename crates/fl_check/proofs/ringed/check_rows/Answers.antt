@@ -1,10 +1,11 @@
-use Rattle.std.proofs.Common.{ℕ, List, Some, sym, subst, arith}
+use Rattle.std.proofs.Common.{ℕ, List, sym, subst, arith}
 use Rattle.std.proofs.lemmas.Result.{err_from_is_err_and}
 use Rattle.fl_flash.specs.Flash.{page_at}
 use Rattle.fl_ring.specs.Place.{shape_of}
 use Rattle.fl_schema.specs.Schema.{layout_of, types_of}
 use Rattle.fl_check.specs.DataPage.{IsDataPage}
 use Rattle.fl_check.specs.Rest.{IsRestBlank, RestBreaks}
+use Rattle.fl_check.specs.RingRules.{OverPages}
 use Rattle.fl_check.specs.Rising.{HaveRows, KeysAscend, KeysBreak}
 use Rattle.fl_check.proofs.FormedRows.{page_short, have_rows}
 use Rattle.fl_check.proofs.Halts.{broken_so}
@@ -15,7 +16,7 @@ use Rattle.fl_check.proofs.ringed.check_rows.Goals as goal
 pub returns-in_err-n-clause-broken : goal.returns-in_err-n-clause-broken
 returns-in_err-n-clause-broken g c =
     let p = err_from_is_err_and c.from_residual.result c.from_residual.ensures.1 in
-    rw (p.1, p.2) (broken_so _ _ c.in_err-n.field-0.0 (λ b breaks told. breaks told (Some (layout_of c.args.form.now.schema.now))) c.in_err-n.ensures.broken)
+    rw (p.1, p.2) (broken_so _ _ c.in_err-n.field-0.0 (λ b breaks told. breaks told (OverPages (layout_of c.args.form.now.schema.now))) c.in_err-n.ensures.broken)
 
 pub returns-in_err-check_keys-clause-broken : goal.returns-in_err-check_keys-clause-broken
 returns-in_err-check_keys-clause-broken g c =
@@ -34,7 +35,7 @@ returns-in_err-check_keys-clause-broken g c =
     let have = have_rows schema.key (types_of schema) schema.blobs buckets (page_at f) r c.args.at_least n
     (λ p. let few = page_short f p in let small = c.args.ring.now.small_pages in let size = c.requires.lies.page in omega (arith, few, small, size)) formed in
     let both = breaks (told_still f mid looks told) (subst (λ (page : ℕ → List ℕ). HaveRows layout page r n.marks) (sym (same_pages f mid looks)) have) in
-    keys_break (λ number bytes. IsDataPage layout buckets number bytes) (Some layout) (page_at f) r c.args.at_least n b formed
+    keys_break (λ number bytes. IsDataPage layout buckets number bytes) (OverPages layout) (page_at f) r c.args.at_least n b formed
     (both.0, subst (λ (page : ℕ → List ℕ). KeysBreak layout page r n.marks b.page) (same_pages f mid looks) both.1))
     c.in_err-check_keys.ensures.broken)
 
@@ -52,7 +53,7 @@ returns-in_err-check_rest-clause-broken g c =
     rw (p.1, p.2) (broken_so _ _ c.in_err-check_rest.field-0.0
     (λ b breaks told.
     let both = breaks (told_still f late later told) in
-    rest_break (λ number bytes. IsDataPage layout c.args.form.now.buckets number bytes) (Some layout) (page_at f) r c.args.at_least n b (c.in_ok-n.ensures.formed told)
+    rest_break (λ number bytes. IsDataPage layout c.args.form.now.buckets number bytes) (OverPages layout) (page_at f) r c.args.at_least n b (c.in_ok-n.ensures.formed told)
     (seen f mid (λ (page : ℕ → List ℕ). KeysAscend layout page r n.marks) looks c.in_ok-check_keys.ensures.keys told)
     (both.0, subst (λ (page : ℕ → List ℕ). RestBreaks page r n.marks b.page) (same_pages f late later) both.1))
     c.in_err-check_rest.ensures.broken)

@@ -14,4 +14,4 @@ returns-clause-bodies g c = λ told.
     let n = c.args.n in
     let body = c.in_ok-body.body in
     bodies_told form page r n body c.is_none.result c.then_some.result c.then_some.ensures c.is_none.ensures
-    (told_by c.check_bodies.result body _ (HaveBodies form page r n) Body (λ p. BodiesBreak form page r n p) (sym c.first_page.ensures ∙ c.in_ok-body.was) c.check_bodies.ensures.bodies c.check_bodies.ensures.broken told)
+    (told_by c.check_forms.result body _ (HaveBodies form page r n) Body (λ p. BodiesBreak form page r n p) (sym c.first_page.ensures ∙ c.in_ok-body.was) c.check_forms.ensures.bodies c.check_forms.ensures.broken told)

@@ -1,7 +1,11 @@
-use Rattle.std.proofs.Common.{◌≡◌, IsTrue, false, Some, length, refl, sym, ◌∙◌, subst, arith}
+use Rattle.std.proofs.Common.{◌≡◌, inr, IsTrue, false, true, Some, length, refl, sym, ◌∙◌, subst, arith}
 use Rattle.std.specs.List.{slice_get}
 use Rattle.std.proofs.lemmas.Option.{slice_get_within}
 use Rattle.fl_jobs.specs.declared.status.ToolStatus.{ToolStatus}
+use Rattle.fl_model.specs.Bare.{bare, bare_table}
+use Rattle.fl_table.specs.Memory.{is_running, LiesOn}
+use Rattle.fl_table.specs.Standing.{Stands}
+use Rattle.fl_table.specs.declared.table.Table.{Table}
 use Rattle.fl_tables.specs.Tables.{first_of}
 use Rattle.fl_tables.proofs.TablesChanged.{item-there}
 use Rattle.fl_export.specs.Ends.{at_rest}
@@ -50,13 +54,13 @@ pub write_table-requires-clause-running : goal.write_table-requires-clause-runni
 write_table-requires-clause-running g c =
     let here : slice_get c.mount.new.self.entries.items c.args.at ≡ Some c.index.result.now =
     item-there c.mount.new.self.entries.items (length c.mount.new.self.entries.items) c.args.at c.index.result.now refl (omega (arith, c.requires.at, c.mount.ensures.as_many)) c.index.ensures in
-    c.in_default.ensures.running c.args.at c.index.result.now here
+    subst (λ (t : Table 64 64). is_running t ≡ true) (sym c.table-table.ensures) (c.in_default.ensures.running c.args.at c.index.result.now here)
 
 pub write_table-requires-clause-lies : goal.write_table-requires-clause-lies
 write_table-requires-clause-lies g c =
     let here : slice_get c.mount.new.self.entries.items c.args.at ≡ Some c.index.result.now =
     item-there c.mount.new.self.entries.items (length c.mount.new.self.entries.items) c.args.at c.index.result.now refl (omega (arith, c.requires.at, c.mount.ensures.as_many)) c.index.ensures in
-    c.mount.ensures.lie c.args.at c.index.result.now here
+    subst (λ (t : Table 64 64). LiesOn t (g.F.Flash.state c.mount.new.flash)) (sym c.table-table.ensures) (c.mount.ensures.lie c.args.at c.index.result.now here).table
 
 pub returns-in-Ok-clause-ends : goal.returns-in-Ok-clause-ends
 returns-in-Ok-clause-ends g c = λ plans ts name tells on calm stand named.
@@ -69,8 +73,9 @@ returns-in-Ok-clause-ends g c = λ plans ts name tells on calm stand named.
     let mounted = c.in_default.ensures.ends plans ts (has_risen f m) at_rest (watched f m at_rest tells on calm) stand in
     let told : IsTrue m.media.tells = subst IsTrue (sym c.mount.ensures.goes.tells) tells in
     let at = own plans ts name c.args.range f m h (g.K.Sink.written c.args.out.now) (g.K.Sink.written c.write_table.new.out) c.args.tables.now.entries.items now c.args.at c.index.result.now c.mount.ensures.goes.faults c.write_table.ensures.counts stand named here mounted in
+    let stood = subst (λ (t : Table 64 64). Stands t m (first_of plans c.args.at) (bare at.plan) (bare_table at.table)) (sym c.table-table.ensures) at.stands.on_flash.unlogged in
     done plans ts name c.args.range f m h (g.K.Sink.written c.args.out.now) (g.K.Sink.written c.write_table.new.out) c.args.tables.now.entries.items now c.args.at c.index.result.now c.mount.ensures.goes.faults c.write_table.ensures.counts stand named here mounted
-    (c.in-Ok.ensures.writes (first_of plans c.args.at) at.plan at.table told at.stands.on_flash)
+    (c.in-Ok.ensures.writes (first_of plans c.args.at) (bare at.plan) (bare_table at.table) told stood)
 
 pub returns-in-Err-write_table-clause-ends : goal.returns-in-Err-write_table-clause-ends
 returns-in-Err-write_table-clause-ends g c = λ plans ts name tells on calm stand named.
@@ -83,8 +88,9 @@ returns-in-Err-write_table-clause-ends g c = λ plans ts name tells on calm stan
     let mounted = c.in_default.ensures.ends plans ts (has_risen f m) at_rest (watched f m at_rest tells on calm) stand in
     let told : IsTrue m.media.tells = subst IsTrue (sym c.mount.ensures.goes.tells) tells in
     let at = own plans ts name c.args.range f m h (g.K.Sink.written c.args.out.now) (g.K.Sink.written c.write_table.new.out) c.args.tables.now.entries.items now c.args.at c.index.result.now c.mount.ensures.goes.faults c.write_table.ensures.counts stand named here mounted in
+    let stood = subst (λ (t : Table 64 64). Stands t m (first_of plans c.args.at) (bare at.plan) (bare_table at.table)) (sym c.table-table.ensures) at.stands.on_flash.unlogged in
     let end = failed plans ts name c.args.range f m h (g.K.Sink.written c.args.out.now) (g.K.Sink.written c.write_table.new.out) c.args.tables.now.entries.items now c.args.at c.index.result.now c.mount.ensures.goes.faults c.write_table.ensures.counts stand named here mounted
-    c.in-Err-write_table.fault c.args.at (c.in-Err-write_table.ensures.writes (first_of plans c.args.at) at.plan at.table told at.stands.on_flash) c.in-Err-write_table.ensures.unread in
+    c.in-Err-write_table.fault c.args.at (c.in-Err-write_table.ensures.writes (first_of plans c.args.at) (bare at.plan) (bare_table at.table) told stood) c.in-Err-write_table.ensures.unread in
     subst (λ (s : ToolStatus). EndsOn plans ts name c.args.range (g.F.Flash.state c.args.flash.now) (g.F.Flash.state c.write_table.new.flash) (g.K.Sink.written c.args.out.now) (g.K.Sink.written c.write_table.new.out) c.mount.new.self.entries.items s) (sym c.status_of.ensures) end
 
 pub returns-in-Err-clause-repairs : goal.returns-in-Err-clause-repairs
@@ -97,10 +103,10 @@ returns-in-Err-clause-repairs g c = λ plans ts name tells on calm stand named w
 
 pub returns-in-Ok-clause-repairs : goal.returns-in-Ok-clause-repairs
 returns-in-Ok-clause-repairs g c = λ plans ts name tells on calm stand named well page lt.
-    repaired-read (g.F.Flash.state c.args.flash.now).geometry.page page (g.F.Flash.state c.args.flash.now) (g.F.Flash.state c.mount.new.flash) (g.F.Flash.state c.write_table.new.flash) c.write_table.ensures.counts
-    (c.in_default.ensures.repaired tells plans ts stand page lt)
+    repaired-read plans (g.F.Flash.state c.args.flash.now).geometry page (g.F.Flash.state c.args.flash.now) (g.F.Flash.state c.mount.new.flash) (g.F.Flash.state c.write_table.new.flash) c.write_table.ensures.counts
+    (c.in_default.ensures.repaired tells plans ts stand (inr (has_risen (g.F.Flash.state c.args.flash.now) (g.F.Flash.state c.mount.new.flash), at_rest, watched (g.F.Flash.state c.args.flash.now) (g.F.Flash.state c.mount.new.flash) at_rest tells on calm)) page lt)
 
 pub returns-in-Err-write_table-clause-repairs : goal.returns-in-Err-write_table-clause-repairs
 returns-in-Err-write_table-clause-repairs g c = λ plans ts name tells on calm stand named well page lt.
-    repaired-read (g.F.Flash.state c.args.flash.now).geometry.page page (g.F.Flash.state c.args.flash.now) (g.F.Flash.state c.mount.new.flash) (g.F.Flash.state c.write_table.new.flash) c.write_table.ensures.counts
-    (c.in_default.ensures.repaired tells plans ts stand page lt)
+    repaired-read plans (g.F.Flash.state c.args.flash.now).geometry page (g.F.Flash.state c.args.flash.now) (g.F.Flash.state c.mount.new.flash) (g.F.Flash.state c.write_table.new.flash) c.write_table.ensures.counts
+    (c.in_default.ensures.repaired tells plans ts stand (inr (has_risen (g.F.Flash.state c.args.flash.now) (g.F.Flash.state c.mount.new.flash), at_rest, watched (g.F.Flash.state c.args.flash.now) (g.F.Flash.state c.mount.new.flash) at_rest tells on calm)) page lt)

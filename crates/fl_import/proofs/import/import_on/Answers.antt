@@ -1,4 +1,4 @@
-use Rattle.std.proofs.Common.{◌≡◌, true, false, is_some, IsTrue, IfSome, Some, length, refl, sym, ◌∙◌, subst, arith}
+use Rattle.std.proofs.Common.{◌≡◌, inr, true, false, is_some, IsTrue, IfSome, Some, length, refl, sym, ◌∙◌, subst, arith}
 use Rattle.std.specs.List.{slice_get}
 use Rattle.std.proofs.lemmas.Option.{slice_get_within}
 use Rattle.fl_export.specs.Ends.{at_rest}
@@ -118,7 +118,7 @@ returns-clause-repairs g c = λ plans ts name tells on calm stand named well.
     let h = g.F.Flash.state c.import_table-status.new.flash in
     let mounted = c.in_default.ensures.ends plans ts (has_risen f m) at_rest (watched f m at_rest tells on calm) stand in
     others-repaired plans ts _ name f m h c.args.tables.now.entries.items c.mount.new.self.entries.items c.args.at c.index_mut.result.now stand named mounted.stand here
-    (c.import_table-status.ensures.outside (subst IsTrue (sym c.mount.ensures.goes.tells) tells)) (c.in_default.ensures.repaired tells plans ts stand)
+    (c.import_table-status.ensures.outside (subst IsTrue (sym c.mount.ensures.goes.tells) tells)) (c.in_default.ensures.repaired tells plans ts stand (inr (has_risen f m, at_rest, watched f m at_rest tells on calm)))
 
 pub returns-in-Err-clause-form : goal.returns-in-Err-clause-form
 returns-in-Err-clause-form g c = as-end (λ end. IfSome end.form (λ given. given ≡ c.args.form)) c.of.result _ _ c.of.ensures c.mount_status.ensures tt

@@ -1,7 +1,7 @@
 use Rattle.std.proofs.Common.{List, ◌+◌, ℕ, IsTrue, Err, refl, sym, subst, arith, le_trans}
 use Rattle.std.proofs.lemmas.Result.{err_from_is_err_and}
 use Rattle.fl_flash.specs.Flash.{page_at}
-use Rattle.fl_table.proofs.Outsides.{outside-then}
+use Rattle.fl_tables.proofs.Outsides.{outside-then}
 use Rattle.fl_tables.proofs.Going.{goes-same, goes-on, same-plan, same-on}
 use Rattle.fl_import.specs.Lines.{lacks, meaning}
 use Rattle.fl_import.specs.Steps.{LineEnds}
@@ -13,7 +13,7 @@ lines-init g c = record {
   goes = goes-same _;
   same = same-plan c.args.table.now;
   lies = c.requires.lies;
-  outside = λ tells page rows index blobs. refl;
+  outside = λ tells page rows index blobs log. refl;
   input = omega arith;
   output = omega arith;
   few = rw c.requires.first (omega (arith, c.requires.most));

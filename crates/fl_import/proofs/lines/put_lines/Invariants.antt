@@ -1,7 +1,6 @@
 use Rattle.std.proofs.Common.{◌+◌, ◌^◌, ◌<◌, ◌≤◌, ℕ, List, [], ◌∷◌, IsTrue}
 use Rattle.fl_flash.specs.Flash.{Goes, page_at}
-use Rattle.fl_table.specs.Memory.{IsSamePlan, LiesOn}
-use Rattle.fl_table.specs.Mounting.{OutsideStands}
+use Rattle.fl_rlc.specs.Table.{IsSamePlan, LiesOn, OutsideStands}
 use Rattle.fl_import.specs.Taking.{TakesSoFar}
 use Rattle.fl_import.proofs.AllLines.{SoFar}
 use Rattle.fl_import.proofs.lines.put_lines.Given as goal

@@ -1,7 +1,7 @@
 use Rattle.std.proofs.Common.{◌≡◌, false, IsTrue, Err, sym, ◌∙◌, subst}
 use Rattle.fl_flash.specs.Flash.{page_at}
 use Rattle.fl_jobs.specs.declared.status.ToolStatus.TheVariants.{Device}
-use Rattle.fl_table.proofs.Outsides.{outside-then}
+use Rattle.fl_tables.proofs.Outsides.{outside-then}
 use Rattle.fl_tables.proofs.Going.{goes-on, rose-back, same-on}
 use Rattle.fl_import.specs.Steps.{IsOfTable, is_broken}
 use Rattle.fl_import.proofs.Flushing.{failed-ends, broken-is, flush-broken, flush-ended, flush-of, flush-read, flush-rose, flush-write, lines, all-ends, all-ended, all-of, all-read, all-rose, all-write}

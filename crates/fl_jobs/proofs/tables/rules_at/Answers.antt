@@ -1,5 +1,5 @@
 use Rattle.std.proofs.Common.{refl}
-use Rattle.fl_jobs.proofs.Telling.{plan-there, config-there, lies-at}
+use Rattle.fl_jobs.proofs.Telling.{plan-there, config-there, lies-at, log-there, log-alone, log-lies-at}
 use Rattle.fl_jobs.proofs.tables.rules_at.Goals as goal
 
 pub check_rules-requires : goal.check_rules-requires
@@ -9,6 +9,8 @@ check_rules-requires g c =
     let is = config-there lines.plans c.args.i p.0 c.table.result.now p.1 c.table.ensures.plan in
     record {
       lies = lies-at lines (g.F.Flash.state c.args.flash.now) c.args.i p.0 c.table.result.now c.requires.over p.1 is c.table.ensures.first c.table.ensures.device c.table.ensures.limits c.table.ensures.passes;
+      log = log-lies-at lines (g.F.Flash.state c.args.flash.now) c.args.i p.0 c.table.result.now c.log.result c.requires.over p.1 is c.table.ensures.first c.log.ensures.size
+          (log-there lines c.args.i p.0 c.table.result.now c.log.result p.1 c.table.ensures.first c.log.ensures.place);
     }
 
 pub returns-in-Ok-clause-found : goal.returns-in-Ok-clause-found
@@ -22,9 +24,14 @@ returns-in-Ok-clause-found g c told =
       config = c.table.result.now;
       config_is = is;
       first = c.table.ensures.first;
+      log = c.log.result;
+      log_is = log-there lines c.args.i p.0 c.table.result.now c.log.result p.1 c.table.ensures.first c.log.ensures.place;
+      log_alone = log-alone lines.plans c.args.i p.0 c.log.result p.1 c.log.ensures.blobs;
       flash = g.F.Flash.state c.args.flash.now;
       over = c.requires.over;
       lies = lies-at lines (g.F.Flash.state c.args.flash.now) c.args.i p.0 c.table.result.now c.requires.over p.1 is c.table.ensures.first c.table.ensures.device c.table.ensures.limits c.table.ensures.passes;
+      log_lies = log-lies-at lines (g.F.Flash.state c.args.flash.now) c.args.i p.0 c.table.result.now c.log.result c.requires.over p.1 is c.table.ensures.first c.log.ensures.size
+          (log-there lines c.args.i p.0 c.table.result.now c.log.result p.1 c.table.ensures.first c.log.ensures.place);
       content = refl;
       finds = c.in-Ok.ensures.found told;
     }

@@ -1,4 +1,4 @@
-use Rattle.std.proofs.Common.{◌≡◌, true, false, eqb, List, ℕ, [], ◌∷◌, refl, sym, ◌∙◌, ap}
+use Rattle.std.proofs.Common.{◌≡◌, eqb, List, ℕ, [], ◌∷◌, refl, sym, ◌∙◌, ap}
 use Rattle.std.specs.List.{starts_with}
 use Rattle.fl_csv.proofs.Numbers.{no-plus, plus-number, parsed-text}
 use Rattle.fl_jobs.proofs.words.number.Goals as goal

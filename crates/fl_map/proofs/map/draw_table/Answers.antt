@@ -1,8 +1,8 @@
 use Rattle.std.proofs.Common.{◌≡◌, IfSome, Option, refl, subst}
 use Rattle.fl_model.specs.Record.{Plan}
-use Rattle.fl_check.proofs.Looking.{fits_still, told_still}
-use Rattle.fl_jobs.proofs.Telling.{plan-there, config-there, lies-at}
-use Rattle.fl_jobs.proofs.Ringed.{fits}
+use Rattle.fl_check.proofs.Looking.{fits_still, log_still, told_still}
+use Rattle.fl_jobs.proofs.Telling.{plan-there, config-there, lies-at, log-there, log-alone, log-lies-at}
+use Rattle.fl_jobs.proofs.Ringed.{fits, log-fits}
 use Rattle.fl_map.specs.Canvas.{drawn_of}
 use Rattle.fl_map.proofs.Tables.{table-drawn}
 use Rattle.fl_map.proofs.map.draw_table.Goals as goal
@@ -14,7 +14,12 @@ check_table-requires g c =
     let table = c.table-table.ensures in
     let p = plan-there lines.plans c.args.i c.requires.table in
     let is = config-there lines.plans c.args.i p.0 c.table-table.result.now p.1 table.plan in
-    record { fits = fits c.table-table.result.now f (lies-at lines f c.args.i p.0 c.table-table.result.now c.requires.over p.1 is table.first table.device table.limits table.passes) }
+    record {
+      fits = fits c.table-table.result.now f (lies-at lines f c.args.i p.0 c.table-table.result.now c.requires.over p.1 is table.first table.device table.limits table.passes);
+      log = log-fits c.table-table.result.now c.log-log.result f
+          (log-lies-at lines f c.args.i p.0 c.table-table.result.now c.log-log.result c.requires.over p.1 is table.first c.log-log.ensures.size
+          (log-there lines c.args.i p.0 c.table-table.result.now c.log-log.result p.1 table.first c.log-log.ensures.place));
+    }
 
 pub draw_rings-requires-clause-fits : goal.draw_rings-requires-clause-fits
 draw_rings-requires-clause-fits g c =
@@ -25,6 +30,18 @@ draw_rings-requires-clause-fits g c =
     let is = config-there lines.plans c.args.i p.0 c.table-table.result.now p.1 table.plan in
     fits_still c.table-table.result.now f (g.F.Flash.state c.check_table.new.flash) c.check_table.ensures.looks
     (fits c.table-table.result.now f (lies-at lines f c.args.i p.0 c.table-table.result.now c.requires.over p.1 is table.first table.device table.limits table.passes))
+
+pub draw_rings-requires-clause-log : goal.draw_rings-requires-clause-log
+draw_rings-requires-clause-log g c =
+    let lines = c.args.config.now in
+    let f = g.F.Flash.state c.args.flash.now in
+    let table = c.table-table.ensures in
+    let p = plan-there lines.plans c.args.i c.requires.table in
+    let is = config-there lines.plans c.args.i p.0 c.table-table.result.now p.1 table.plan in
+    log_still c.log-log.result f (g.F.Flash.state c.check_table.new.flash) c.check_table.ensures.looks
+    (log-fits c.table-table.result.now c.log-log.result f
+    (log-lies-at lines f c.args.i p.0 c.table-table.result.now c.log-log.result c.requires.over p.1 is table.first c.log-log.ensures.size
+    (log-there lines c.args.i p.0 c.table-table.result.now c.log-log.result p.1 table.first c.log-log.ensures.place)))
 
 pub returns-in-Ok-draw_fault-clause-drawn : goal.returns-in-Ok-draw_fault-clause-drawn
 returns-in-Ok-draw_fault-clause-drawn g c = λ told.
@@ -44,13 +61,18 @@ returns-in-Ok-draw_fault-clause-drawn g c = λ told.
         config = config;
         config_is = is;
         first = table.first;
+        log = c.log-log.result;
+        log_is = log-there lines c.args.i p.0 config c.log-log.result p.1 table.first c.log-log.ensures.place;
+        log_alone = log-alone lines.plans c.args.i p.0 c.log-log.result p.1 c.log-log.ensures.blobs;
         flash = f;
         over = c.requires.over;
         lies = lies-at lines f c.args.i p.0 config c.requires.over p.1 is table.first table.device table.limits table.passes;
+        log_lies = log-lies-at lines f c.args.i p.0 config c.log-log.result c.requires.over p.1 is table.first c.log-log.ensures.size
+            (log-there lines c.args.i p.0 config c.log-log.result p.1 table.first c.log-log.ensures.place);
         content = refl;
         finds = c.in-Ok.ensures.finding told;
       };
-      drawn = table-drawn c.args.canvas.now.drawing c.args.canvas.now.drawing c.draw_rings.new.canvas.drawing c.name-name.result p.0.name config c.in-Ok.finding f f1
+      drawn = table-drawn c.args.canvas.now.drawing c.args.canvas.now.drawing c.draw_rings.new.canvas.drawing c.name-name.result p.0.name config c.log-log.result c.in-Ok.finding f f1
           (drawn_of c.args.canvas.now) (drawn_of c.draw_rings.new.canvas) (drawn_of c.draw_fault.new.canvas) refl c.draw_rings.ensures.drawing called c.check_table.ensures.looks
           (c.in-Ok-draw_rings.ensures.drawn (told_still f f1 c.check_table.ensures.looks told)) c.in-Ok-draw_fault.ensures.drawn;
     }

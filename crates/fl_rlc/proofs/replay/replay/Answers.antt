@@ -5,6 +5,8 @@ use Rattle.fl_flash.specs.Flash.{page_at}
 use Rattle.fl_model.specs.Bare.{bare, bare_table}
 use Rattle.fl_model.specs.Mount.{ready, joined}
 use Rattle.fl_model.specs.Record.{blocks_of}
+use Rattle.fl_model.specs.Table.{Table}
+use Rattle.fl_model.specs.Table.{LogRing, shape_of}
 use Rattle.fl_ring.specs.declared.newest.NewestPage.{NewestPage}
 use Rattle.fl_ring.proofs.Founds.{same_pages}
 use Rattle.fl_ring.proofs.Readings.{goes_more}
@@ -22,8 +24,10 @@ use Rattle.fl_rlc.specs.Finding.{OffersNewest}
 use Rattle.fl_rlc.specs.Replaying.{IsBad}
 use Rattle.fl_rlc.proofs.JoinedRow.{same-pages}
 use Rattle.fl_rlc.proofs.LogReads.{log-reads, few-rings, found-none, found-some}
+use Rattle.fl_rlc.proofs.MountLimits.{log-more}
 use Rattle.fl_rlc.proofs.NewestRead.{if-told, device-reads}
 use Rattle.fl_rlc.proofs.PutFrames.{log-moved}
+use Rattle.fl_rlc.proofs.ReplayLeft.{no-var-blocks, joined-rings, none-leaves, seal-leaves}
 use Rattle.fl_rlc.proofs.Replays.{begun-stands, begun-none, begun-ring, log-fault, none-well, page-fault, seal-well, seal-badly}
 use Rattle.fl_rlc.proofs.Sealings.{pages-size}
 use Rattle.fl_rlc.proofs.replay.replay.Goals as goal
@@ -47,6 +51,11 @@ returns-in_err-newest-clause-reads g c =
     let all = log-reads c.args.log.now in
     let block = ap (λ x. x.block) c.requires.lies.geometry in
     record { reads = omega (arith, c.in_err-newest.ensures.beside.few_reads, all, block); media_reads = omega (arith, c.in_err-newest.ensures.beside.media_reads, all, block) }
+
+pub returns-in_err-newest-clause-limit : goal.returns-in_err-newest-clause-limit
+returns-in_err-newest-clause-limit g c = λ first plan table told rests.
+    let more = log-more (shape_of plan LogRing) table.log rests.ring rests.ring_is in
+    omega (arith, c.in_err-newest.ensures.reads first plan table told rests, more)
 
 -- ---- it keeps no page with records
 
@@ -83,6 +92,11 @@ returns-in_default-clause-found g c = λ told.
       replays = (refl, refl);
     }
 
+pub returns-in_default-clause-leaves : goal.returns-in_default-clause-leaves
+returns-in_default-clause-leaves g c = λ first plan table rose device watched s none rests.
+    let found = subst (λ (o : Option NewestPage). Finds c.args.log.now (g.F.Flash.state c.args.flash.now) o c.mount.new.self (g.F.Flash.state c.mount.new.flash)) c.in_default.is c.in_ok-newest.ensures.found in
+    none-leaves c.args.log.now (g.F.Flash.state c.args.flash.now) (g.F.Flash.state c.mount.new.flash) first plan table rests.planned watched.told c.requires.lies.geometry found.ring found.numbers
+
 pub returns-in_default-clause-outside : goal.returns-in_default-clause-outside
 returns-in_default-clause-outside g c = λ told page rows index var log. c.in_ok-newest.ensures.beside.outside told page log
 
@@ -91,6 +105,11 @@ returns-in_default-clause-reads g c =
     let all = log-reads c.args.log.now in
     let block = ap (λ x. x.block) c.requires.lies.geometry in
     record { reads = omega (arith, c.in_ok-newest.ensures.beside.few_reads, all, block); media_reads = omega (arith, c.in_ok-newest.ensures.beside.media_reads, all, block) }
+
+pub returns-in_default-clause-limit : goal.returns-in_default-clause-limit
+returns-in_default-clause-limit g c = λ first plan table told rests.
+    let more = log-more (shape_of plan LogRing) table.log rests.ring rests.ring_is in
+    omega (arith, c.in_ok-newest.ensures.reads first plan table told rests, more)
 
 -- ---- its newest page
 
@@ -187,6 +206,11 @@ returns-in_err-joined-clause-cause g c =
     rw (p.1, p.2) (pages-cause (g.F.Flash.state c.args.flash.now) (g.F.Flash.state c.mount.new.flash) (g.F.Flash.state c.join_newest-joined.new.flash) c.in_ok-newest.ensures.beside.goes c.in_ok-newest.ensures.power c.in_err-joined.field-0.0
     c.in_err-joined.ensures.only c.in_err-joined.ensures.fails)
 
+pub returns-in_err-joined-clause-limit : goal.returns-in_err-joined-clause-limit
+returns-in_err-joined-clause-limit g c = λ first plan table told rests.
+    let more = log-more (shape_of plan LogRing) table.log rests.ring rests.ring_is in
+    omega (arith, c.in_ok-newest.ensures.reads first plan table told rests, c.in_err-joined.ensures.reads.reads, more)
+
 -- ---- the seal fails
 
 pub returns-in_err-seal_rows-clause-goes : goal.returns-in_err-seal_rows-clause-goes
@@ -277,6 +301,11 @@ returns-in_err-seal_rows-clause-cause g c =
     let p = err_from_is_err_and c.from_residual-in_err-seal_rows.result c.from_residual-in_err-seal_rows.ensures.1 in
     rw (p.1, p.2) (cause-later old f2 f3 (goes_more old f1 f2 c.in_ok-newest.ensures.beside.goes c.in_ok-joined.ensures.reads.goes) (λ on. c.in_ok-joined.ensures.power) c.in_err-seal_rows.field-0.0 c.in_err-seal_rows.ensures.cause)
 
+pub returns-in_err-seal_rows-clause-limit : goal.returns-in_err-seal_rows-clause-limit
+returns-in_err-seal_rows-clause-limit g c = λ first plan table told rests.
+    let more = log-more (shape_of plan LogRing) table.log rests.ring rests.ring_is in
+    omega (arith, c.in_ok-newest.ensures.reads first plan table told rests, c.in_ok-joined.ensures.reads.reads, c.in_err-seal_rows.ensures.reads, more)
+
 -- ---- all is done
 
 pub returns-clause-goes : goal.returns-clause-goes
@@ -339,6 +368,34 @@ returns-clause-found g c = λ told.
       );
     }
 
+pub returns-clause-leaves : goal.returns-clause-leaves
+returns-clause-leaves g c = λ first plan table rose device watched s none rests.
+    let t = c.args.table.now in
+    let l = c.args.log.now in
+    let l1 = c.mount.new.self in
+    let old = g.F.Flash.state c.args.flash.now in
+    let f1 = g.F.Flash.state c.mount.new.flash in
+    let f2 = g.F.Flash.state c.join_newest-joined.new.flash in
+    let f3 = g.F.Flash.state c.seal_rows.new.flash in
+    let k = c.in_ok-newest.ensures in
+    let reads = c.in_ok-joined.ensures.reads in
+    let watched2 = watched-front old f2 f3 rose device watched c.in_ok-seal_rows.ensures.goes in
+    let m = k.ends (first + blocks_of (bare plan)) plan table rose device (watched-front old f1 f2 rose device watched2 reads.goes) rests in
+    let outside = k.beside.outside watched.told in
+    let sizes = pages-size l1 f1 (g.met.F.Flash.reaches c.mount.new.flash) k.lies.geometry k.lies.within in
+    let ring = begun-ring t l old first plan table rose device s none rests.planned l1 k.same f1 outside m in
+    let newest = found-some l l1 old f1 (first + blocks_of (bare plan)) plan (ready plan m.now.state) k.same ring sizes watched.told c.in_ok-newest.field-0 k.found c.in-Some.newest c.in-Some.is in
+    let joins = c.in_ok-joined.ensures.joins first plan (ready plan m.now.state) rose m.now.device (watched-then old f1 f2 rose device m.now.device watched2 k.beside.goes m.power m.counts)
+    (begun-stands t l old first plan table rose device s none rests.planned l1 k.same f1 outside m) (begun-none t l old first plan table rose device s none rests.planned l1 k.same f1 outside m) newest in
+    let later = watched-then old f2 f3 rose device m.now.device watched (goes_more old f1 f2 k.beside.goes reads.goes) c.in_ok-joined.ensures.power (device-reads f1 f2 1 m.now.device reads m.counts) in
+    let p = c.in_ok-seal_rows.ensures.ends first (bare plan) (bare_table (joined (ready plan m.now.state))) rose m.now.device later joins in
+    let found = subst (λ (o : Option NewestPage). Finds l old o l1 f1) c.in-Some.is k.found in
+    let rings = joined-rings (ready plan m.now.state) in
+    let goes = goes_more old f1 f3 k.beside.goes (goes_more f1 f2 f3 reads.goes c.in_ok-seal_rows.ensures.goes) in
+    seal-leaves l old f1 first plan table rests.planned watched.told c.requires.lies.geometry found.ring found.numbers c.join_newest-joined.new.table c.seal_rows.new.table f2 f3 (same_pages f1 f2 1 reads) (bare_table (joined (ready plan m.now.state)))
+    (rings.0 ∙ ap (λ (x : Table). x.rows) m.rest) (rings.1 ∙ ap (λ (x : Table). x.index) m.rest) joins p.stands (no-var-blocks t.blobs (first + plan.data_blocks + plan.index_blocks) (bare plan) c.requires.no_blobs s.planned.var) (c.in_ok-seal_rows.ensures.outside later.told) p.stand
+    (g.met.F.Flash.reaches c.seal_rows.new.flash) (goes.geometry ∙ (c.requires.lies.geometry ∙ sym rests.planned.geometry)) (omega (arith, goes.blocks, c.requires.lies.within, rests.planned.begins))
+
 pub returns-clause-outside : goal.returns-clause-outside
 returns-clause-outside g c = λ told page rows index var log.
     let f1 = g.F.Flash.state c.mount.new.flash in
@@ -358,3 +415,11 @@ returns-clause-reads g c =
       reads = omega (arith, c.in_ok-newest.ensures.beside.few_reads, c.in_ok-joined.ensures.reads.reads, c.in_ok-seal_rows.ensures.reads, all, block);
       media_reads = omega (arith, c.in_ok-newest.ensures.beside.media_reads, c.in_ok-joined.ensures.reads.media_reads, c.in_ok-seal_rows.ensures.media_reads, all, block, rings);
     }
+
+pub returns-clause-limit : goal.returns-clause-limit
+returns-clause-limit g c = λ first plan table told rests.
+    let more = log-more (shape_of plan LogRing) table.log rests.ring rests.ring_is in
+    omega (arith, c.in_ok-newest.ensures.reads first plan table told rests, c.in_ok-joined.ensures.reads.reads, c.in_ok-seal_rows.ensures.reads, more)
+
+pub returns-clause-power : goal.returns-clause-power
+returns-clause-power g c = c.in_ok-seal_rows.ensures.power c.in_ok-joined.ensures.power

@@ -1,10 +1,10 @@
 use Rattle.std.proofs.Common.{Option, Some, sym, subst}
-use Rattle.fl_rlc.specs.Rows.{RowEnds}
+use Rattle.fl_rlc.specs.Rows.{RowEnds, HaveLogged}
 use Rattle.fl_rlc.specs.declared.log.RecordLog.{RecordLog}
-use Rattle.fl_rlc.proofs.JoinedRow.{joined-ready, seal-moved}
+use Rattle.fl_rlc.proofs.JoinedRow.{joined-ready, joined-logged, seal-moved}
 use Rattle.fl_rlc.proofs.rows.log_row.Goals as goal
 use Rattle.fl_schema.specs.Schema.{layout_of}
-use Rattle.std.specs.Prelude.{None}
+use Rattle.std.specs.Prelude.{None, OnOk}
 
 pub returns-in-Some-clause-ends : goal.returns-in-Some-clause-ends
 returns-in-Some-clause-ends g c = λ first plan table rose device.
@@ -16,3 +16,9 @@ returns-in-Some-clause-ends g c = λ first plan table rose device.
     (λ watched joins. seal-moved l c.add.new.self f first plan table rose device c.seal.result c.seal.new.self new c.add.ensures.same
     (c.seal.ensures.ends first plan table rose device watched
     (joined-ready l c.add.new.self f first plan table layout (record { key = c.args.key; values = c.args.values.now; blob = None }) c.add.ensures.same c.add.ensures.ring joins (c.add.ensures.joins joins.rows joins.gathers))))
+
+pub returns-in-Some-clause-logs : goal.returns-in-Some-clause-logs
+returns-in-Some-clause-logs g c =
+    subst (λ (o : Option RecordLog). OnOk c.seal.result (HaveLogged (layout_of c.args.schema.now) (record { key = c.args.key; values = c.args.values.now; blob = None }) o (Some c.seal.new.self))) (sym c.in-Some.is)
+    (joined-logged (layout_of c.args.schema.now) (record { key = c.args.key; values = c.args.values.now; blob = None }) c.in-Some.log c.add.new.self c.seal.new.self c.seal.result c.add.ensures.ring c.add.ensures.joins
+    c.seal.ensures.next c.seal.ensures.rows)

@@ -3,14 +3,16 @@ use Rattle.std.specs.Prelude.{unwrap_or}
 use Rattle.fl_model.specs.Record.{RowLayout}
 use Rattle.fl_tables.proofs.Going.{goes-same, goes-on, rose-front, rose-back, same-plan, same-on}
 use Rattle.fl_session.specs.Load.{StandsBefore, load_key, random_of}
-use Rattle.fl_table.proofs.Outsides.{outside-then}
-use Rattle.fl_session.proofs.Causing.{load-counts, load-fails, when-ok}
+use Rattle.fl_tables.proofs.Outsides.{outside-then}
+use Rattle.fl_session.proofs.Causing.{load-counts, load-fails, when-ok, when-err}
 use Rattle.fl_session.proofs.Loading.{LoadedSoFar, loaded-none, loaded-more, ends-next, ends-done, load-finished, load-stopped, rose-risen}
 use Rattle.fl_session.proofs.Working.{has_risen}
 use Rattle.fl_session.proofs.LoadLines.{unbroken}
 use Rattle.std.proofs.Math.Bool.{and-true}
 use Rattle.fl_table.specs.Causes.{put_breaks}
-use Rattle.fl_table.specs.Memory.{is_running}
+use Rattle.fl_table.specs.Look.{last_key_in, layout_in}
+use Rattle.fl_table.specs.declared.table.Table.{Table}
+use Rattle.fl_rlc.specs.Table.{is_running}
 use Rattle.fl_session.proofs.load.load.Goals as goal
 
 pub loop-loaded-init : goal.loop-loaded-init
@@ -20,10 +22,10 @@ loop-loaded-init g c = record {
   goes = goes-same _;
   power = λ on. on;
   unread = refl;
-  makes = c.new-records.ensures.stands;
+  makes = subst (λ (t : Table 64 64). StandsBefore (layout_in t).columns c.args.seed 1 c.new-records.result) c.table.ensures c.new-records.ensures.stands;
   step_is = c.new-records.ensures.step;
   same = same-plan c.args.table.now;
-  outside = λ told page ring index blobs. refl;
+  outside = λ told page ring index blobs log. refl;
   so_far = λ config entries at entry asked notes old rose h here is named risen. loaded-none config entries at entry asked notes old _ _ rose _ _ _ _ c.new-records.ensures.random h here is;
 }
 
@@ -37,7 +39,7 @@ returns-then-is_err-clause-answers g c = λ config entries at entry asked notes 
     let so_far = i.so_far config entries at entry asked notes old (has_risen f n) h here is named (λ r. rose-risen f n (rose-front f.media.faults m.media.faults n.media.faults p.goes.faults r)) in
     let key = c.next-record.ensures.key ∙ ap (λ s. load_key (unwrap_or c.last_key.result 0) s (random_of c.loop-loaded.records)) i.step_is in
     let ends = ends-next config entries at entry asked notes old f.media.content _ _ m n (has_risen f n) _ _ _ _ _ here named so_far c.loop-loaded-test.true p.goes p.same p.outside c.put-outcome.result _ _ c.last_key.result
-    (λ r. rose-risen f n (rose-back f.media.faults m.media.faults n.media.faults i.goes.faults r)) c.last_key.ensures.stands key (c.as_slice.ensures.value ∙ c.next-record.ensures.values _ _ _ i.makes) p.ends in
+    (λ r. rose-risen f n (rose-back f.media.faults m.media.faults n.media.faults i.goes.faults r)) c.table-in-loop-loaded.result.now c.table-in-loop-loaded.ensures c.last_key.ensures.stands key (c.as_slice.ensures.value ∙ c.next-record.ensures.values _ _ _ i.makes) p.ends in
     load-stopped config entries at entry asked notes old f.media.content _ _ m n (has_risen f n) _ _ _ _ _ here named so_far c.loop-loaded-test.true p.goes p.same p.outside f c.put-outcome.result refl h refl (sym c.is_err.ensures.value ∙ c.if-is_err.true) ends p.refused
 
 pub loop-loaded-preserved : goal.loop-loaded-preserved
@@ -54,14 +56,14 @@ loop-loaded-preserved g c =
       goes = goes-on _ _ _ i.goes p.goes;
       power = λ on. when-ok (m.is_on ≡ true → n.is_on ≡ true) c.put-outcome.result (sym c.is_err.ensures.value ∙ c.if-is_err.false) p.power (i.power on);
       unread = p.reads ∙ i.unread;
-      makes = subst (λ (l : RowLayout). StandsBefore l.columns c.args.seed (c.loop-loaded.loaded + 1 + 1) c.next-record.new.self) (sym p.same.layout) (c.next-record.ensures.stands _ _ _ i.makes);
+      makes = subst (λ (l : RowLayout). StandsBefore l.columns c.args.seed (c.loop-loaded.loaded + 1 + 1) c.next-record.new.self) (sym p.same.table.layout) (c.next-record.ensures.stands _ _ _ i.makes);
       step_is = c.next-record.ensures.step ∙ i.step_is;
       same = same-on _ _ _ i.same p.same;
       outside = λ told. outside-then c.args.table.now c.loop-loaded.table _ _ _ i.same (i.outside told) (p.outside (subst IsTrue (sym i.goes.tells) told));
       so_far = λ config entries at entry asked notes old rose h here is named risen.
           let so_far = i.so_far config entries at entry asked notes old rose h here is named (λ r. risen (rose-front f.media.faults m.media.faults n.media.faults p.goes.faults r)) in
           let ends = ends-next config entries at entry asked notes old f.media.content _ _ m n rose _ _ _ _ _ here named so_far c.loop-loaded-test.true p.goes p.same p.outside c.put-outcome.result _ _ c.last_key.result
-          (λ r. risen (rose-back f.media.faults m.media.faults n.media.faults i.goes.faults r)) c.last_key.ensures.stands key (c.as_slice.ensures.value ∙ c.next-record.ensures.values _ _ _ i.makes) p.ends in
+          (λ r. risen (rose-back f.media.faults m.media.faults n.media.faults i.goes.faults r)) c.table-in-loop-loaded.result.now c.table-in-loop-loaded.ensures c.last_key.ensures.stands key (c.as_slice.ensures.value ∙ c.next-record.ensures.values _ _ _ i.makes) p.ends in
           let done = ends-done config entries at entry asked notes old f.media.content _ _ m n rose _ _ _ _ _ here named so_far c.loop-loaded-test.true p.goes p.same p.outside c.put-outcome.result (sym c.is_err.ensures.value ∙ c.if-is_err.false) ends in
           subst (λ s. LoadedSoFar config entries at entry asked notes old f.media.content c.put-outcome.new.self n rose c.args.count c.args.step c.args.seed (c.loop-loaded.loaded + 1) s) (sym c.next-record.ensures.random)
           (loaded-more config entries at entry asked notes old f.media.content _ _ m n rose _ _ _ _ _ here named so_far c.loop-loaded-test.true p.goes p.same p.outside done);
@@ -89,7 +91,7 @@ returns-clause-counted g c = refl
 pub returns-then-is_err-clause-fails : goal.returns-then-is_err-clause-fails
 returns-then-is_err-clause-fails g c =
     let i = c.loop-loaded.invariant in
-    let key = c.next-record.ensures.key ∙ (ap (λ s. load_key (unwrap_or c.last_key.result 0) s (random_of c.loop-loaded.records)) i.step_is ∙ ap (λ last. load_key (unwrap_or last 0) c.args.step (random_of c.loop-loaded.records)) c.last_key.ensures.exact) in
+    let key = c.next-record.ensures.key ∙ (ap (λ s. load_key (unwrap_or c.last_key.result 0) s (random_of c.loop-loaded.records)) i.step_is ∙ ap (λ last. load_key (unwrap_or last 0) c.args.step (random_of c.loop-loaded.records)) (c.last_key.ensures.exact ∙ ap last_key_in c.table-in-loop-loaded.ensures)) in
     load-fails c.loop-loaded.table c.put-outcome.new.self _ _ _ c.args.step c.args.seed c.loop-loaded.loaded (random_of c.loop-loaded.records) c.next-record.result.key _ key (c.as_slice.ensures.value ∙ c.next-record.ensures.values _ _ _ i.makes)
     c.put-outcome.result i.power i.goes c.put-outcome.ensures.exact c.put-outcome.ensures.refused c.put-outcome.ensures.cause
 
@@ -100,3 +102,15 @@ returns-then-is_err-clause-outside g c = λ told.
 
 pub returns-clause-outside : goal.returns-clause-outside
 returns-clause-outside g c = c.loop-loaded.invariant.outside
+
+pub returns-then-is_err-clause-goes : goal.returns-then-is_err-clause-goes
+returns-then-is_err-clause-goes g c = goes-on _ _ _ c.loop-loaded.invariant.goes c.put-outcome.ensures.goes
+
+pub returns-then-is_err-clause-same : goal.returns-then-is_err-clause-same
+returns-then-is_err-clause-same g c = same-on _ _ _ c.loop-loaded.invariant.same c.put-outcome.ensures.same
+
+pub returns-clause-power : goal.returns-clause-power
+returns-clause-power g c = c.loop-loaded.invariant.power
+
+pub returns-then-is_err-clause-power : goal.returns-then-is_err-clause-power
+returns-then-is_err-clause-power g c = when-err _ c.put-outcome.result (sym c.is_err.ensures.value ∙ c.if-is_err.true)

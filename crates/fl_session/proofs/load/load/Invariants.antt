@@ -5,8 +5,7 @@ use Rattle.fl_flash.specs.Flash.{Goes, page_at}
 use Rattle.fl_model.specs.Record.{Config}
 use Rattle.fl_machine.specs.Machine.{Machine}
 use Rattle.fl_table.specs.Look.{layout_in}
-use Rattle.fl_table.specs.Memory.{is_running, IsSamePlan, LiesOn}
-use Rattle.fl_table.specs.Mounting.{OutsideStands}
+use Rattle.fl_rlc.specs.Table.{is_running, IsSamePlan, LiesOn, OutsideStands, table_in}
 use Rattle.fl_tables.specs.Tables.{IsNamed}
 use Rattle.fl_tables.specs.declared.tables.Entry.{Entry}
 use Rattle.fl_session.specs.Load.{StandsBefore, random_of, step_of}
@@ -22,7 +21,7 @@ invariant-loop-loaded g l = record {
   goes : Goes (g.F.Flash.state l.fn.flash) (g.F.Flash.state l.flash);
   power : (g.F.Flash.state l.fn.flash).is_on ≡ true → (g.F.Flash.state l.flash).is_on ≡ true;
   unread : (g.F.Flash.state l.flash).work.reads ≡ (g.F.Flash.state l.fn.flash).work.reads;
-  makes : StandsBefore (layout_in l.table).columns l.seed (l.loaded + 1) l.records;
+  makes : StandsBefore (layout_in (table_in l.table)).columns l.seed (l.loaded + 1) l.records;
   step_is : step_of l.records ≡ l.step;
   same : IsSamePlan l.fn.table l.table;
   outside : IsTrue (g.F.Flash.state l.fn.flash).media.tells → OutsideStands l.fn.table (page_at (g.F.Flash.state l.fn.flash)) (page_at (g.F.Flash.state l.flash));

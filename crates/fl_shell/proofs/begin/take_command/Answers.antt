@@ -38,7 +38,7 @@ returns-in_default g c =
     let lines = c.args.config.now in
     record {
       takes = subst (λ step. TakesBy lines step c.end_with.result lines (g.K.Sink.written c.args.out.now) (g.K.Sink.written c.end_with.new.out))
-          (sym (command-other lines c.args.command.now c.args.room.now c.in_default.not-Nothing (λ page block e. c.in_default.not-Device page block e) (λ name key rows index var bits base width error blob full e. c.in_default.not-Table name key rows index var bits base width error blob full e)))
+          (sym (command-other lines c.args.command.now c.args.room.now c.in_default.not-Nothing (λ page block e. c.in_default.not-Device page block e) (λ name key rows index var bits base width error blob full log e. c.in_default.not-Table name key rows index var bits base width error blob full log e)))
           c.end_with.ensures.takes;
       cause = c.end_with.ensures.cause;
     }

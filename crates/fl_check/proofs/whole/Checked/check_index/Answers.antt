@@ -1,11 +1,11 @@
-use Rattle.std.proofs.Common.{◌≡◌, Some, None, refl, sym, ◌∙◌, ap, subst}
+use Rattle.std.proofs.Common.{◌≡◌, Some, refl, sym, ◌∙◌, ap, subst}
 use Rattle.std.proofs.lemmas.Result.{err_from_is_err_and}
 use Rattle.fl_base.specs.declared.types.Geometry.{Geometry}
 use Rattle.fl_flash.specs.Flash.{page_at}
 use Rattle.fl_ring.specs.Mounting.{shape_at}
 use Rattle.fl_ring.specs.Place.{shape_of}
 use Rattle.fl_ring.specs.Ring.{Shape}
-use Rattle.fl_check.specs.RingRules.{IsRingSound, BreaksRing}
+use Rattle.fl_check.specs.RingRules.{NoRows, IsRingSound, BreaksRing}
 use Rattle.fl_check.specs.Stop.{breach}
 use Rattle.fl_check.specs.Whole.{shape_in, IsIndexForm}
 use Rattle.fl_check.proofs.Halts.{found_so, ok_of, found_of}
@@ -25,7 +25,7 @@ returns-in_err-n-clause-broken g c =
       (record {
         place = c.in-Some.place;
         is = c.in-Some.is;
-        breaks = subst (λ (r : Shape). BreaksRing (IsIndexForm config) None (page_at f) r 0 fault.rule fault.page) before
+        breaks = subst (λ (r : Shape). BreaksRing (IsIndexForm config) NoRows (page_at f) r 0 fault.rule fault.page) before
             (found_of c.check_ring.result _ (breach fault.rule fault.page) is.1 c.check_ring.ensures.broken told);
       }),
     ))
@@ -38,5 +38,5 @@ returns-clause-sound g c = λ told.
     let n = c.in_ok-n.n in
     let before : shape_of c.unnumbered-ring.result ≡ shape_in c.args.self.now.config.now c.in-Some.place =
     c.unnumbered-ring.ensures.shape ∙ ap (λ (x : Geometry). shape_at c.in-Some.place x) (sym c.requires.fits.geometry) in
-    of_ring (λ place n. IsRingSound (IsIndexForm config) None (page_at f) (shape_in config place) 0 n) config.index (Some n) c.in-Some.place n c.in-Some.is refl
-    (subst (λ (r : Shape). IsRingSound (IsIndexForm config) None (page_at f) r 0 n) before (ok_of c.check_ring.result _ n c.in_ok-n.ensures.ok c.check_ring.ensures.sound told))
+    of_ring (λ place n. IsRingSound (IsIndexForm config) NoRows (page_at f) (shape_in config place) 0 n) config.index (Some n) c.in-Some.place n c.in-Some.is refl
+    (subst (λ (r : Shape). IsRingSound (IsIndexForm config) NoRows (page_at f) r 0 n) before (ok_of c.check_ring.result _ n c.in_ok-n.ensures.ok c.check_ring.ensures.sound told))

@@ -25,7 +25,7 @@ returns-clause-broken g c =
     let place = c.in-Some.place in
     let n = c.in-Some-index.n in
     if_found _ _ c.found.result
-    (λ fault is told rings. entries_fault config page c.args.t rings place n fault c.in-Some.is c.in-Some-index.is is.1 is.2
+    (λ fault is told rings. entries_fault config c.args.self.now.log page c.args.t rings place n fault c.in-Some.is c.in-Some-index.is is.1 is.2
     (subst (λ (o : Option ℕ). MatchOption o (HaveEntries page (shape_in config place) (rows_shape config) (indexing config n c.args.t.rows))
     (λ p. EntriesBreak page (shape_in config place) (rows_shape config) (indexing config n c.args.t.rows) p)) is.0 (c.in_ok-broken.ensures.entries told)))
     c.found.ensures.found

@@ -8,6 +8,7 @@ use Rattle.fl_ring.specs.Ring.{Shape}
 use Rattle.fl_check.specs.DataPage.{IsDataPage}
 use Rattle.fl_check.specs.Faults.{with_keys}
 use Rattle.fl_check.specs.Rising.{HaveRows}
+use Rattle.fl_check.specs.RingRules.{OverPages}
 use Rattle.fl_check.specs.Ruled.{RingTold, KeysTold, RowsTold}
 use Rattle.fl_check.specs.Whole.{rows_shape, layout_in, IsRowsForm}
 use Rattle.fl_check.specs.declared.faults.RingFaults.{RingFaults}
@@ -31,8 +32,8 @@ returns-clause-rules g c = λ told.
     subst (λ (s : Shape). RingTold (λ number bytes. IsDataPage (layout_in config) buckets number bytes) (page_at f) s at_least faults n) before
     (subst (λ (l : RowLayout). RingTold (λ number bytes. IsDataPage l buckets number bytes) (page_at f) r at_least faults n) c.args.self.now.layout (c.in_ok-told.ensures.rules told)) in
     let have = rows_told config f at_least faults n c.requires.fits ring in
-    let known : KeysTold (layout_in config) (page_at f) (rows_shape config) n keys =
-    seen f mid (λ page. IfSome n (λ n. HaveRows (layout_in config) page (rows_shape config) n.marks) → KeysTold (layout_in config) page (rows_shape config) n keys) c.rule_ring.ensures.looks c.in_ok-keys.ensures.keys told have in
-    let rows : RowsTold (IsRowsForm config) (layout_in config) (page_at f) (rows_shape config) at_least (with_keys keys faults) n =
+    let known : KeysTold (OverPages (layout_in config)) (page_at f) (rows_shape config) n keys =
+    seen f mid (λ page. IfSome n (λ n. HaveRows (layout_in config) page (rows_shape config) n.marks) → KeysTold (OverPages (layout_in config)) page (rows_shape config) n keys) c.rule_ring.ensures.looks c.in_ok-keys.ensures.keys told have in
+    let rows : RowsTold (IsRowsForm config) (OverPages (layout_in config)) (page_at f) (rows_shape config) at_least (with_keys keys faults) n =
     record { ring = keyless (IsRowsForm config) (page_at f) (rows_shape config) at_least keys faults n ring; keys = known } in
-    subst (λ (x : RingFaults). RowsTold (IsRowsForm config) (layout_in config) (page_at f) (rows_shape config) at_least x n) (sym c.with_keys.ensures) rows
+    subst (λ (x : RingFaults). RowsTold (IsRowsForm config) (OverPages (layout_in config)) (page_at f) (rows_shape config) at_least x n) (sym c.with_keys.ensures) rows

@@ -1,9 +1,9 @@
-use Rattle.std.proofs.Common.{◌≡◌, [], ◌∷◌, ◌++◌, map, codes, decimal, rules}
+use Rattle.std.proofs.Common.{◌≡◌, [], ◌∷◌, ◌++◌, map, nat_lt, codes, decimal, rules}
 use Rattle.std.specs.List.{join_with_byte}
 use Rattle.std.specs.Fmt.{signed_decimal}
 use Rattle.fl_words.specs.Medium.{column_name}
 use Rattle.fl_config.specs.Entry.{plan_in}
-use Rattle.fl_config.proofs.Texts.{ending-onto}
+use Rattle.fl_config.proofs.Texts.{endings-onto}
 use Rattle.fl_config.proofs.header.HeaderText.add_table.Goals as goal
 
 pub returns-clause-text : goal.returns-clause-text
@@ -12,6 +12,8 @@ returns-clause-text c =
     let base : c.add_number-6.new.self ≡ c.add_number-5.new.self ++ 32 ∷ signed_decimal plan.base = search rules in
     rw (
       c.add-2.ensures,
+      c.add_log.ensures.text,
+      c.log_blocks.ensures,
       c.add_format.ensures.text,
       c.add_number-9.ensures.text,
       c.add_number-8.ensures.text,
@@ -33,6 +35,6 @@ returns-clause-text c =
       c.bits.ensures,
       c.width-2.ensures,
     )
-    (ending-onto c.args.self.now (codes "table") (plan.name ∷ decimal plan.key_bytes ∷ join_with_byte 44 (map column_name plan.columns)
+    (endings-onto c.args.self.now (codes "table") (plan.name ∷ decimal plan.key_bytes ∷ join_with_byte 44 (map column_name plan.columns)
     ∷ decimal plan.data_blocks ∷ decimal plan.index_blocks ∷ decimal plan.var_blocks ∷ decimal plan.bits ∷ signed_decimal plan.base
-    ∷ decimal plan.width ∷ decimal plan.error ∷ decimal plan.blob_limit ∷ []) plan.full_index (codes "index2"))
+    ∷ decimal plan.width ∷ decimal plan.error ∷ decimal plan.blob_limit ∷ []) plan.full_index (nat_lt 0 plan.log_blocks) (codes "index2") (codes "rlc") (decimal plan.log_blocks))

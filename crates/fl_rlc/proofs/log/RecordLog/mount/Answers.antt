@@ -11,7 +11,7 @@ use Rattle.fl_ring.specs.Place.{next_of, oldest_of, shape_of}
 use Rattle.fl_ring.specs.Ring.{Shape}
 use Rattle.fl_ring.specs.declared.fault.RingFault.{RingFault}
 use Rattle.fl_ring.specs.declared.ring.Ring.{Ring}
-use Rattle.fl_rlc.proofs.Mountings.{good, mount-well, mount-badly, mount-fault, mount-err}
+use Rattle.fl_rlc.proofs.Mountings.{few-read, good, mount-well, mount-badly, mount-fault, mount-err}
 use Rattle.fl_rlc.proofs.Sealings.{pages-size}
 use Rattle.fl_rlc.proofs.States.{state_of}
 use Rattle.fl_rlc.proofs.Writers.{kept-clear}
@@ -86,3 +86,19 @@ returns-clause-found g c =
       numbers = subst (λ (x : Geometry). HasNumbers f (shape_at v.place x) 0 c.in_ok-ring.ring h) c.requires.lies.geometry c.in_ok-ring.ensures.mounts.found;
       newest_is = λ told. subst (λ (r : Shape). NewestAmong (page_at h) r (oldest_of c.in_ok-ring.ring) (next_of c.in_ok-ring.ring) c.in_ok-ring.newest) (c.in_ok-ring.ensures.mounts.shape ∙ ap (shape_at v.place) c.requires.lies.geometry) (c.in_ok-ring.ensures.newest told);
     }
+
+pub returns-in_err-ring-clause-reads : goal.returns-in_err-ring-clause-reads
+returns-in_err-ring-clause-reads g c = λ first plan table told rests.
+    let v = c.args.self.now in
+    let f = g.F.Flash.state c.args.flash.now in
+    let lies = c.requires.lies in
+    few-read v f (g.F.Flash.state c.mount_with_newest.new.flash) first plan table rests lies.geometry (pages-size v f (g.met.F.Flash.reaches c.args.flash.now) lies.geometry lies.within)
+    (λ s on. c.in_err-ring.ensures.mounts.reads s told on)
+
+pub returns-clause-reads : goal.returns-clause-reads
+returns-clause-reads g c = λ first plan table told rests.
+    let v = c.args.self.now in
+    let f = g.F.Flash.state c.args.flash.now in
+    let lies = c.requires.lies in
+    few-read v f (g.F.Flash.state c.mount_with_newest.new.flash) first plan table rests lies.geometry (pages-size v f (g.met.F.Flash.reaches c.args.flash.now) lies.geometry lies.within)
+    (λ s on. c.in_ok-ring.ensures.mounts.reads s told on)

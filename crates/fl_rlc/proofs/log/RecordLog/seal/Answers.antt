@@ -1,4 +1,4 @@
-use Rattle.std.proofs.Common.{rules, ◌≡◌, ℕ, ◌-◌, ◌<◌, ◌≤◌, None, Some, Ok, Err, map, length, refl, sym, ◌∙◌, ap, subst, arith}
+use Rattle.std.proofs.Common.{rules, ◌≡◌, ℕ, ◌+◌, ◌-◌, ◌<◌, ◌≤◌, None, Some, Ok, Err, map, length, refl, sym, ◌∙◌, ap, subst, arith}
 use Rattle.std.proofs.lemmas.Result.{err_from_is_err_and}
 use Rattle.fl_flash.specs.Flash.{page_at}
 use Rattle.fl_flash.specs.declared.flash.FlashFault.{FlashFault}
@@ -10,6 +10,7 @@ use Rattle.fl_ring.specs.Operations.{change, seal_kinds}
 use Rattle.fl_ring.specs.Place.{StandsFor, shape_of}
 use Rattle.fl_ring.specs.Ring.{Shape, OutsideStands, oldest, place, sealed}
 use Rattle.fl_ring.specs.Sealing.{Performed}
+use Rattle.fl_index.proofs.SealAnswers.{seal-on}
 use Rattle.fl_rlc.specs.Memory.{next_in}
 use Rattle.fl_rlc.specs.Pages.{log_body}
 use Rattle.fl_rlc.proofs.Sealings.{seal-breaks, seal-finishes, seal-err, ready, pages-size, next-is}
@@ -116,3 +117,11 @@ invariant_of-self-2 g c =
   where
     one : {x y : Ring} → Some x ≡ Some y → x ≡ y
     one e = cc
+
+pub returns-clause-power : goal.returns-clause-power
+returns-clause-power g c = seal-on _ _ _ _ _ _ _ c.in_ok-seal.ensures.calls
+
+pub returns-clause-next : goal.returns-clause-next
+returns-clause-next g c =
+    let ring_is : c.args.self.now.ring ≡ Some c.in-Some.ring = search rules in
+    c.in_ok-seal.ensures.next ∙ ap (λ n. n + 1) (sym (next-is c.args.self.now c.in-Some.ring ring_is))

@@ -1,14 +1,49 @@
-use Rattle.std.proofs.Common.{◌≡◌, true, Result, Ok, Err, refl, sym, ◌∙◌, arith}
+use Rattle.std.proofs.Common.{◌≡◌, ◌≤◌, true, Result, Ok, Err, refl, sym, ◌∙◌, arith}
 use Rattle.std.proofs.lemmas.Result.{err_from_is_err_and}
+use Rattle.std.specs.Prelude.{OnOk}
 use Rattle.fl_model.specs.Bare.{bare, bare_table}
 use Rattle.fl_table.proofs.Sizes.{table-fits}
 use Rattle.fl_flash.specs.declared.flash.FlashFault.TheVariants.{PowerLost}
 use Rattle.fl_table.specs.Memory as table_words
+use Rattle.fl_table.specs.Memory.{pending_in}
 use Rattle.fl_table.specs.declared.faults.FlushFault.{FlushFault}
 use Rattle.fl_table.specs.declared.faults.FlushFault.TheVariants as flush
-use Rattle.fl_rlc.proofs.FlushEnded.{flush-done, flush-failed}
-use Rattle.fl_rlc.proofs.PutFrames.{log-self, log-lies, blobs-same, room-same, some-same, and-left, begun-same, begun-lies, begun-mounted}
+use Rattle.fl_rlc.specs.Rows.{AreBegun}
+use Rattle.fl_rlc.proofs.FlushEnded.{flush-done, flush-failed, flush-idle, begun-emptied}
+use Rattle.fl_rlc.proofs.PutFrames.{logged-same, log-self, log-lies, blobs-same, room-same, some-same, and-left, begun-same, begun-lies, begun-mounted}
 use Rattle.fl_rlc.proofs.table.LoggedTable.flush.Goals as goal
+
+-- ---- nothing is pending
+
+pub returns-then-pending_rows-eq0-clause-ends : goal.returns-then-pending_rows-eq0-clause-ends
+returns-then-pending_rows-eq0-clause-ends g c = λ first plan table rose device watched h.
+    let t = c.args.self.now in
+    let f = g.F.Flash.state c.args.flash.now in
+    let new = g.F.Flash.state c.flush.new.flash in
+    flush-idle t f first plan table h rose device new (c.flush.ensures.outside watched.told) _ c.flush.new.self refl refl (sym (c.pending_rows.ensures.stands f first (bare plan) (bare_table table) h.unlogged) ∙ c.if-pending_rows-eq0.true) c.flush.result (c.flush.ensures.ends first (bare plan) (bare_table table) rose device watched h.unlogged)
+
+pub returns-then-pending_rows-eq0-clause-quiet : goal.returns-then-pending_rows-eq0-clause-quiet
+returns-then-pending_rows-eq0-clause-quiet g c = λ running none. let h = c.flush.ensures.quiet running none in (h.0, logged-same c.args.self.now _ h.1 refl, h.2)
+
+pub returns-then-pending_rows-eq0-clause-begins : goal.returns-then-pending_rows-eq0-clause-begins
+returns-then-pending_rows-eq0-clause-begins g c = idle c.flush.result
+  where
+    idle : (r : Result (Unit {0}) FlushFault) → OnOk r (1 ≤ pending_in c.args.self.now.table → AreBegun c.args.self.now.log c.args.self.now.log)
+    idle (Ok done) = λ some. absurd (omega (arith, some, c.pending_rows.ensures.exact, c.if-pending_rows-eq0.true))
+    idle (Err e) = tt
+
+pub returns-then-pending_rows-eq0-clause-lies : goal.returns-then-pending_rows-eq0-clause-lies
+returns-then-pending_rows-eq0-clause-lies g c = record {
+  table = c.flush.ensures.lies;
+  log = log-lies c.args.self.now.log (g.F.Flash.state c.args.flash.now) (g.F.Flash.state c.flush.new.flash) c.flush.ensures.goes c.requires.lies.log;
+}
+
+pub invariant_of-self : goal.invariant_of-self
+invariant_of-self g c = record {
+  running = λ l is up. c.args.self.now.running l is (and-left (table_words.is_running c.args.self.now.table) _ (sym c.flush.ensures.running ∙ up));
+  no_blobs = λ some. blobs-same c.args.self.now.table c.flush.new.self c.flush.ensures.same ∙ c.args.self.now.no_blobs some;
+  room = room-same c.args.self.now.table c.flush.new.self c.args.self.now.log c.args.self.now.log c.flush.ensures.same (log-self c.args.self.now.log) c.args.self.now.room;
+}
 
 -- ---- it fails
 
@@ -16,9 +51,9 @@ pub returns-in_err-flush-clause-ends : goal.returns-in_err-flush-clause-ends
 returns-in_err-flush-clause-ends g c = λ first plan table rose device watched h.
     let t = c.args.self.now in
     let f = g.F.Flash.state c.args.flash.now in
-    let new = g.F.Flash.state c.flush.new.flash in
+    let new = g.F.Flash.state c.flush-2.new.flash in
     let p = err_from_is_err_and c.from_residual.result c.from_residual.ensures.1 in
-    rw (p.1, p.2) (flush-failed t f first plan table h rose device new (c.in_err-flush.ensures.outside watched.told) _ c.flush.new.self c.in_err-flush.field-0.0
+    rw (p.1, p.2) (flush-failed t f first plan table h rose device new (c.in_err-flush.ensures.outside watched.told) _ c.flush-2.new.self c.in_err-flush.field-0.0
     (c.in_err-flush.ensures.ends first (bare plan) (bare_table table) rose device watched h.unlogged))
 
 pub returns-in_err-flush-clause-exact : goal.returns-in_err-flush-clause-exact
@@ -42,7 +77,7 @@ returns-in_err-flush-clause-same g c = record { table = c.in_err-flush.ensures.s
 pub returns-in_err-flush-clause-lies : goal.returns-in_err-flush-clause-lies
 returns-in_err-flush-clause-lies g c = record {
   table = c.in_err-flush.ensures.lies;
-  log = log-lies c.args.self.now.log (g.F.Flash.state c.args.flash.now) (g.F.Flash.state c.flush.new.flash) c.in_err-flush.ensures.goes c.requires.lies.log;
+  log = log-lies c.args.self.now.log (g.F.Flash.state c.args.flash.now) (g.F.Flash.state c.flush-2.new.flash) c.in_err-flush.ensures.goes c.requires.lies.log;
 }
 
 pub returns-in_err-flush-clause-outside : goal.returns-in_err-flush-clause-outside
@@ -68,11 +103,11 @@ returns-in_err-flush-clause-off g c = λ running some down.
     let p = err_from_is_err_and c.from_residual.result c.from_residual.ensures.1 in
     rw (p.1, p.2) (c.in_err-flush.ensures.off running some down)
 
-pub invariant_of-self : goal.invariant_of-self
-invariant_of-self g c = record {
+pub invariant_of-self-in-Break-1 : goal.invariant_of-self-in-Break-1
+invariant_of-self-in-Break-1 g c = record {
   running = λ l is up. c.args.self.now.running l is (and-left (table_words.is_running c.args.self.now.table) _ (sym c.in_err-flush.ensures.running ∙ up));
-  no_blobs = λ some. blobs-same c.args.self.now.table c.flush.new.self c.in_err-flush.ensures.same ∙ c.args.self.now.no_blobs some;
-  room = room-same c.args.self.now.table c.flush.new.self c.args.self.now.log c.args.self.now.log c.in_err-flush.ensures.same (log-self c.args.self.now.log) c.args.self.now.room;
+  no_blobs = λ some. blobs-same c.args.self.now.table c.flush-2.new.self c.in_err-flush.ensures.same ∙ c.args.self.now.no_blobs some;
+  room = room-same c.args.self.now.table c.flush-2.new.self c.args.self.now.log c.args.self.now.log c.in_err-flush.ensures.same (log-self c.args.self.now.log) c.args.self.now.room;
 }
 
 -- ---- it is done
@@ -81,8 +116,8 @@ pub returns-clause-ends : goal.returns-clause-ends
 returns-clause-ends g c = λ first plan table rose device watched h.
     let t = c.args.self.now in
     let f = g.F.Flash.state c.args.flash.now in
-    let new = g.F.Flash.state c.flush.new.flash in
-    flush-done t f first plan table h rose device new (c.in_ok-flush.ensures.outside watched.told) _ c.flush.new.self refl c.begin_anew.ensures.begun (c.in_ok-flush.ensures.ends first (bare plan) (bare_table table) rose device watched h.unlogged)
+    let new = g.F.Flash.state c.flush-2.new.flash in
+    flush-done t f first plan table h rose device new (c.in_ok-flush.ensures.outside watched.told) _ c.flush-2.new.self refl (begun-emptied plan table t.log c.begin_anew.new.log c.begin_anew.ensures.begun) (c.in_ok-flush.ensures.ends first (bare plan) (bare_table table) rose device watched h.unlogged)
 
 pub returns-clause-exact : goal.returns-clause-exact
 returns-clause-exact g c = c.in_ok-flush.ensures.exact
@@ -102,8 +137,17 @@ returns-clause-refused g c = λ stopped. absurd (no stopped)
 pub returns-clause-none : goal.returns-clause-none
 returns-clause-none g c = c.in_ok-flush.ensures.none
 
+pub returns-clause-seals : goal.returns-clause-seals
+returns-clause-seals g c = c.in_ok-flush.ensures.seals
+
+pub returns-clause-begins : goal.returns-clause-begins
+returns-clause-begins g c = λ some. c.begin_anew.ensures.begun
+
+pub returns-clause-power : goal.returns-clause-power
+returns-clause-power g c = c.in_ok-flush.ensures.power
+
 pub returns-clause-quiet : goal.returns-clause-quiet
-returns-clause-quiet g c = λ running none. let h = c.in_ok-flush.ensures.quiet running none in (refl, h.1, h.2)
+returns-clause-quiet g c = λ running none. absurd (c.if-pending_rows-eq0.false (c.pending_rows.ensures.exact ∙ none))
 
 pub returns-clause-off : goal.returns-clause-off
 returns-clause-off g c = λ running some down. absurd (no (c.in_ok-flush.ensures.off running some down).0)
@@ -120,7 +164,7 @@ returns-clause-same g c = record { table = c.in_ok-flush.ensures.same; log = beg
 pub returns-clause-lies : goal.returns-clause-lies
 returns-clause-lies g c = record {
   table = c.in_ok-flush.ensures.lies;
-  log = begun-lies c.args.self.now.log c.begin_anew.new.log (g.F.Flash.state c.flush.new.flash) c.begin_anew.ensures.begun (log-lies c.args.self.now.log (g.F.Flash.state c.args.flash.now) (g.F.Flash.state c.flush.new.flash) c.in_ok-flush.ensures.goes c.requires.lies.log);
+  log = begun-lies c.args.self.now.log c.begin_anew.new.log (g.F.Flash.state c.flush-2.new.flash) c.begin_anew.ensures.begun (log-lies c.args.self.now.log (g.F.Flash.state c.args.flash.now) (g.F.Flash.state c.flush-2.new.flash) c.in_ok-flush.ensures.goes c.requires.lies.log);
 }
 
 pub returns-clause-outside : goal.returns-clause-outside
@@ -134,12 +178,12 @@ returns-clause-media_reads g c = omega (arith, c.in_ok-flush.ensures.media_reads
 
 pub invariant_of-self-2 : goal.invariant_of-self-2
 invariant_of-self-2 g c = record {
-  running = begun-mounted c.args.self.now.log c.begin_anew.new.log (table_words.is_running c.flush.new.self ≡ true) c.begin_anew.ensures.begun
+  running = begun-mounted c.args.self.now.log c.begin_anew.new.log (table_words.is_running c.flush-2.new.self ≡ true) c.begin_anew.ensures.begun
       (λ l is up. c.args.self.now.running l is (and-left (table_words.is_running c.args.self.now.table) _ (sym c.in_ok-flush.ensures.running ∙ up)));
   no_blobs = λ some.
-      blobs-same c.args.self.now.table c.flush.new.self c.in_ok-flush.ensures.same
+      blobs-same c.args.self.now.table c.flush-2.new.self c.in_ok-flush.ensures.same
       ∙ c.args.self.now.no_blobs (some-same c.args.self.now.log c.begin_anew.new.log (begun-same c.args.self.now.log c.begin_anew.new.log c.begin_anew.ensures.begun) some);
-  room = room-same c.args.self.now.table c.flush.new.self c.args.self.now.log c.begin_anew.new.log c.in_ok-flush.ensures.same (begun-same c.args.self.now.log c.begin_anew.new.log c.begin_anew.ensures.begun) c.args.self.now.room;
+  room = room-same c.args.self.now.table c.flush-2.new.self c.args.self.now.log c.begin_anew.new.log c.in_ok-flush.ensures.same (begun-same c.args.self.now.log c.begin_anew.new.log c.begin_anew.ensures.begun) c.args.self.now.room;
 }
 
 pub flush-requires : goal.flush-requires

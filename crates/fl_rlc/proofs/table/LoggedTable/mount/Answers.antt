@@ -1,23 +1,32 @@
-use Rattle.std.proofs.Common.{◌≡◌, ◌+◌, Bool, Option, Some, Ok, Err, IsTrue, is_some, inl, refl, sym, ◌∙◌, ap, subst}
+use Rattle.std.proofs.Common.{◌≡◌, ◌⊎◌, ℕ, ◌+◌, Bool, true, false, Option, Some, Ok, Err, IsTrue, is_some, inl, inr, refl, sym, ◌∙◌, ap, subst, arith}
 use Rattle.std.proofs.lemmas.Result.{err_from_is_err_and}
 use Rattle.fl_flash.specs.Flash.{page_at}
 use Rattle.fl_model.specs.Bare.{bare, bare_table, log_of, beside}
-use Rattle.fl_model.specs.Record.{row_layout, blocks_of}
+use Rattle.fl_model.specs.Record.{Plan, row_layout, blocks_of}
+use Rattle.fl_model.specs.Table.{Table}
+use Rattle.fl_model.specs.Work.{Device}
 use Rattle.fl_ring.specs.declared.ring.Ring.{Ring}
+use Rattle.fl_ring.specs.Step.{IsWatched}
 use Rattle.fl_ring.proofs.Readings.{goes_more}
 use Rattle.fl_table.proofs.Following.{watched-front, watched-then}
 use Rattle.fl_table.proofs.MountJoined.{mount-cause-later}
 use Rattle.fl_table.proofs.SealAnswers.{same-then}
 use Rattle.fl_table.proofs.Sizes.{table-fits}
+use Rattle.fl_rlc.specs.Left.{LeavesPages}
+use Rattle.fl_rlc.specs.Logged.{Rests as LoggedRests}
 use Rattle.fl_rlc.specs.Repairing.{Rests}
 use Rattle.fl_rlc.specs.Replaying.{ReplayEnds}
-use Rattle.fl_rlc.specs.Table.{AreSameLog}
+use Rattle.fl_rlc.specs.Table.{AreSameLog, IsLogPlanned, IsPlanned, is_logged, log_in}
 use Rattle.fl_rlc.specs.declared.log.RecordLog.{RecordLog}
-use Rattle.fl_rlc.proofs.MountApart.{table-ends, between-stands, between-none, between-rests, replay-ends, replayed}
+use Rattle.fl_rlc.specs.declared.table.LoggedTable.{LoggedTable}
+use Rattle.fl_rlc.proofs.Assembled.{log-there}
+use Rattle.fl_rlc.proofs.MountApart.{table-ends, log-stays, between-stands, between-none, between-rests, replay-ends, replayed}
 use Rattle.fl_rlc.proofs.MountEnded.{bare-rests, fails, mounts-alone, apart-of, badly-of, well-of}
+use Rattle.fl_rlc.proofs.MountLimits.{limit-alone, limit-behind}
 use Rattle.fl_rlc.proofs.MountFound.{finds-alone, finds-behind, refuses-behind, outside-both, few-both, log-here}
+use Rattle.fl_rlc.proofs.MountLeaves.{bare-leaves, mount-leaves}
 use Rattle.fl_rlc.proofs.Planned.{none-some, one-log}
-use Rattle.fl_rlc.proofs.PutFrames.{log-lies, log-moved, blobs-same}
+use Rattle.fl_rlc.proofs.PutFrames.{log-lies, log-moved, blobs-same, not-both}
 use Rattle.fl_rlc.proofs.table.LoggedTable.mount.Goals as goal
 
 -- ---- the table's mount fails
@@ -51,6 +60,15 @@ returns-in_err-mounted-clause-refused g c =
 pub returns-in_err-mounted-clause-outside : goal.returns-in_err-mounted-clause-outside
 returns-in_err-mounted-clause-outside g c = λ told page rows index var log. c.in_err-mounted.ensures.outside told page rows index var
 
+pub returns-in_err-mounted-clause-limit : goal.returns-in_err-mounted-clause-limit
+returns-in_err-mounted-clause-limit g c = λ first plan table rose device watched planned rests full.
+    let t = c.args.self.now in
+    let old = g.F.Flash.state c.args.flash.now in
+    limit-alone plan table old.work.reads (g.F.Flash.state c.mount.new.flash).work.reads (c.in_err-mounted.ensures.limit first (bare plan) (bare_table table) rose device watched planned.table (bare-rests t old first plan table planned rests) full)
+
+pub returns-in_err-mounted-clause-repairs : goal.returns-in_err-mounted-clause-repairs
+returns-in_err-mounted-clause-repairs g c = λ alone. let few = c.in_err-mounted.ensures.repairs in record { programs = omega (arith, few.programs); erases = omega (arith, few.erases) }
+
 -- ---- it has no log
 
 pub returns-in_default-clause-ends : goal.returns-in_default-clause-ends
@@ -68,11 +86,27 @@ pub returns-in_default-clause-found : goal.returns-in_default-clause-found
 returns-in_default-clause-found g c = λ told.
     finds-alone c.args.self.now (g.F.Flash.state c.args.flash.now) c.in_ok-mounted.mounted _ (g.F.Flash.state c.mount.new.flash) c.in_default.is c.in_default.is (c.in_ok-mounted.ensures.found told)
 
+pub returns-in_default-clause-leaves : goal.returns-in_default-clause-leaves
+returns-in_default-clause-leaves g c = λ told first plan table seen planned rests.
+    let t = c.args.self.now in
+    let none : plan.log_blocks ≡ 0 = subst (λ (o : Option RecordLog). IsLogPlanned o (first + blocks_of (bare plan)) plan) c.in_default.is planned.log in
+    bare-leaves t.table (g.F.Flash.state c.args.flash.now) (g.F.Flash.state c.mount.new.flash) first plan planned.table told (c.requires.lies.table.geometry ∙ sym planned.table.geometry)
+    c.in_ok-mounted.mounted c.mount.new.self (c.in_ok-mounted.ensures.found told) none
+
 pub returns-in_default-clause-outside : goal.returns-in_default-clause-outside
 returns-in_default-clause-outside g c = λ told page rows index var log. c.in_ok-mounted.ensures.outside told page rows index var
 
 pub returns-in_default-clause-none : goal.returns-in_default-clause-none
 returns-in_default-clause-none g c = c.in_ok-mounted.ensures.none
+
+pub returns-in_default-clause-limit : goal.returns-in_default-clause-limit
+returns-in_default-clause-limit g c = λ first plan table rose device watched planned rests full.
+    let t = c.args.self.now in
+    let old = g.F.Flash.state c.args.flash.now in
+    limit-alone plan table old.work.reads (g.F.Flash.state c.mount.new.flash).work.reads (c.in_ok-mounted.ensures.limit first (bare plan) (bare_table table) rose device watched planned.table (bare-rests t old first plan table planned rests) full)
+
+pub returns-in_default-clause-repairs : goal.returns-in_default-clause-repairs
+returns-in_default-clause-repairs g c = λ alone. let few = c.in_ok-mounted.ensures.repairs in record { programs = omega (arith, few.programs); erases = omega (arith, few.erases) }
 
 -- ---- the replay
 
@@ -177,6 +211,21 @@ returns-in-Err-clause-reads g c = λ told.
     let k = c.in_ok-mounted.ensures in
     few-both c.args.self.now (g.F.Flash.state c.args.flash.now) c.in-Some.log c.in-Some.is (g.F.Flash.state c.mount.new.flash) (g.F.Flash.state c.replay.new.flash) (k.reads told) c.in-Err.ensures.reads
 
+pub returns-in-Err-clause-limit : goal.returns-in-Err-clause-limit
+returns-in-Err-clause-limit g c = λ first plan table rose device watched planned rests full.
+    let t = c.args.self.now in
+    let old = g.F.Flash.state c.args.flash.now in
+    let f1 = g.F.Flash.state c.mount.new.flash in
+    let f2 = g.F.Flash.state c.replay.new.flash in
+    let k = c.in_ok-mounted.ensures in
+    let apart = apart-of t old first plan table planned rests c.in-Some.log c.in-Some.is in
+    limit-behind plan table old.work.reads f1.work.reads f2.work.reads
+    (k.limit first (bare plan) (bare_table table) rose device (watched-front old f1 f2 rose device watched c.in-Err.ensures.goes) planned.table (bare-rests t old first plan table planned rests) full)
+    (c.in-Err.ensures.limit (first + blocks_of (bare plan)) plan table (subst IsTrue (sym k.goes.tells) watched.told) (log-stays t old first plan table planned c.in-Some.log apart f1 (k.outside watched.told)))
+
+pub returns-in-Err-clause-repairs : goal.returns-in-Err-clause-repairs
+returns-in-Err-clause-repairs g c = λ alone. absurd (not-both (is_some c.args.self.now.log) (ap {B = Bool} (λ (o : Option RecordLog). is_some o) c.in-Some.is) alone)
+
 -- ---- all is mounted
 
 pub returns-clause-goes : goal.returns-clause-goes
@@ -207,7 +256,7 @@ returns-clause-apart g c = λ first plan table rose device l watched planned is 
       c.replay.new.log,
       (
         refl,
-        replayed t old first plan table planned l apart rose device c.in_ok-mounted.mounted c.mount.new.self f1 outside w k.none c.replay.new.log c.replay.new.table f2 c.held.result (c.held.ensures.stands f2 first (bare plan))
+        replayed t old first plan table planned l apart rose device c.in_ok-mounted.mounted c.mount.new.self f1 outside w k.none c.replay.new.log _ f2 c.held.result refl (c.in_default-replay.ensures.empty (row_layout plan)) (c.held.ensures.stands f2 first (bare plan))
             (c.in_default-replay.ensures.ends first plan (beside (log_of table) w.now.state) rose w.now.device (watched-then old f1 f2 rose device w.now.device watched k.goes w.power w.counts)
             (between-stands t old first plan table planned l apart rose device c.in_ok-mounted.mounted c.mount.new.self f1 outside w k.none) (between-none t old first plan table planned l apart rose device c.in_ok-mounted.mounted c.mount.new.self f1 outside w k.none)
             (subst (λ (x : RecordLog). Rests x f1 (first + blocks_of (bare plan)) plan (beside (log_of table) w.now.state)) (sym here)
@@ -227,8 +276,9 @@ returns-clause-ends g c = λ first plan table rose device watched planned rests.
     let apart = apart-of t old first plan table planned rests l is in
     let outside = k.outside watched.told in
     let w = k.ends first (bare plan) (bare_table table) rose device (watched-front old f1 f2 rose device watched c.in_default-replay.ensures.goes) planned.table apart.unlogged in
-    well-of t old first plan table planned rests l is rose device c.replay.new.log c.replay.new.table _ f2 c.held.result refl refl (c.in_default-replay.ensures.empty (row_layout plan))
-    (replayed t old first plan table planned l apart rose device c.in_ok-mounted.mounted c.mount.new.self f1 outside w k.none c.replay.new.log c.replay.new.table f2 c.held.result (c.held.ensures.stands f2 first (bare plan))
+    let empty = c.in_default-replay.ensures.empty (row_layout plan) in
+    well-of t old first plan table planned rests l is rose device c.replay.new.log _ f2 c.held.result refl empty
+    (replayed t old first plan table planned l apart rose device c.in_ok-mounted.mounted c.mount.new.self f1 outside w k.none c.replay.new.log _ f2 c.held.result refl empty (c.held.ensures.stands f2 first (bare plan))
     (c.in_default-replay.ensures.ends first plan (beside (log_of table) w.now.state) rose w.now.device (watched-then old f1 f2 rose device w.now.device watched k.goes w.power w.counts)
     (between-stands t old first plan table planned l apart rose device c.in_ok-mounted.mounted c.mount.new.self f1 outside w k.none) (between-none t old first plan table planned l apart rose device c.in_ok-mounted.mounted c.mount.new.self f1 outside w k.none)
     (between-rests t old first plan table planned l apart rose device c.in_ok-mounted.mounted c.mount.new.self f1 outside w k.none)))
@@ -242,6 +292,36 @@ returns-clause-found g c = λ told.
     finds-behind c.args.self.now (g.F.Flash.state c.args.flash.now) c.in-Some.log c.in-Some.is c.in_ok-mounted.mounted c.mount.new.self (g.F.Flash.state c.mount.new.flash) (k.found told) k.same c.held.result _ c.replay.new.log
     (g.F.Flash.state c.replay.new.flash) refl (c.in_default-replay.ensures.found (subst IsTrue (sym k.goes.tells) told)) c.held.ensures.exact
 
+pub returns-clause-leaves : goal.returns-clause-leaves
+returns-clause-leaves g c = λ told first plan table seen planned rests. by-seen first plan table seen planned rests
+  where
+    not-none : (t : LoggedTable g.row.KNOTS g.row.SLOTS) (l : RecordLog) → log_in t ≡ Some l → is_logged t ≡ false → ⊥
+    not-none t l is none = no (sym (ap (λ (o : Option RecordLog). is_some o) is) ∙ none)
+      where
+        no : true ≡ false → ⊥
+        no e = cc
+
+    by-seen : (first : ℕ) (plan : Plan) (table : Table) → (is_logged c.args.self.now ≡ false) ⊎ ((rose : Bool) × (device : Device) × IsWatched (g.F.Flash.state c.args.flash.now) (g.F.Flash.state c.replay.new.flash) rose device) →
+        IsPlanned c.args.self.now first plan → LoggedRests (g.F.Flash.state c.args.flash.now) first plan table → LeavesPages first plan (page_at (g.F.Flash.state c.args.flash.now)) (page_at (g.F.Flash.state c.replay.new.flash))
+    by-seen first plan table (inl none) planned rests = absurd (not-none c.args.self.now c.in-Some.log c.in-Some.is none)
+    by-seen first plan table (inr (rose, device, watched)) planned rests =
+        let t = c.args.self.now in
+        let l = c.in-Some.log in
+        let is = c.in-Some.is in
+        let old = g.F.Flash.state c.args.flash.now in
+        let f1 = g.F.Flash.state c.mount.new.flash in
+        let f2 = g.F.Flash.state c.replay.new.flash in
+        let k = c.in_ok-mounted.ensures in
+        let apart = apart-of t old first plan table planned rests l is in
+        let outside = k.outside watched.told in
+        let w = k.ends first (bare plan) (bare_table table) rose device (watched-front old f1 f2 rose device watched c.in_default-replay.ensures.goes) planned.table apart.unlogged in
+        let leaves = c.in_default-replay.ensures.leaves first plan (beside (log_of table) w.now.state) rose w.now.device (watched-then old f1 f2 rose device w.now.device watched k.goes w.power w.counts)
+        (between-stands t old first plan table planned l apart rose device c.in_ok-mounted.mounted c.mount.new.self f1 outside w k.none) (between-none t old first plan table planned l apart rose device c.in_ok-mounted.mounted c.mount.new.self f1 outside w k.none)
+        (between-rests t old first plan table planned l apart rose device c.in_ok-mounted.mounted c.mount.new.self f1 outside w k.none) in
+        mount-leaves t.table old f1 first plan planned.table watched.told (c.requires.lies.table.geometry ∙ sym planned.table.geometry) c.in_ok-mounted.mounted c.mount.new.self (k.found watched.told)
+        f2 table rose device w.now w.did rests.settled.facts rests.pages (beside (log_of table) w.now.state) refl refl w.stands.facts.has_rings.0 leaves (log-there l (first + blocks_of (bare plan)) plan apart.log.planned)
+        (g.met.F.Flash.reaches c.args.flash.now) (omega (arith, (c.requires.lies.log l is).within, apart.log.planned.begins))
+
 pub returns-clause-outside : goal.returns-clause-outside
 returns-clause-outside g c = λ told.
     let k = c.in_ok-mounted.ensures in
@@ -252,3 +332,21 @@ pub returns-clause-reads : goal.returns-clause-reads
 returns-clause-reads g c = λ told.
     let k = c.in_ok-mounted.ensures in
     few-both c.args.self.now (g.F.Flash.state c.args.flash.now) c.in-Some.log c.in-Some.is (g.F.Flash.state c.mount.new.flash) (g.F.Flash.state c.replay.new.flash) (k.reads told) c.in_default-replay.ensures.reads
+
+pub returns-clause-limit : goal.returns-clause-limit
+returns-clause-limit g c = λ first plan table rose device watched planned rests full.
+    let t = c.args.self.now in
+    let old = g.F.Flash.state c.args.flash.now in
+    let f1 = g.F.Flash.state c.mount.new.flash in
+    let f2 = g.F.Flash.state c.replay.new.flash in
+    let k = c.in_ok-mounted.ensures in
+    let apart = apart-of t old first plan table planned rests c.in-Some.log c.in-Some.is in
+    limit-behind plan table old.work.reads f1.work.reads f2.work.reads
+    (k.limit first (bare plan) (bare_table table) rose device (watched-front old f1 f2 rose device watched c.in_default-replay.ensures.goes) planned.table (bare-rests t old first plan table planned rests) full)
+    (c.in_default-replay.ensures.limit (first + blocks_of (bare plan)) plan table (subst IsTrue (sym k.goes.tells) watched.told) (log-stays t old first plan table planned c.in-Some.log apart f1 (k.outside watched.told)))
+
+pub returns-clause-repairs : goal.returns-clause-repairs
+returns-clause-repairs g c = λ alone. absurd (not-both (is_some c.args.self.now.log) (ap {B = Bool} (λ (o : Option RecordLog). is_some o) c.in-Some.is) alone)
+
+pub returns-clause-power : goal.returns-clause-power
+returns-clause-power g c = λ on. c.in_default-replay.ensures.power

@@ -16,7 +16,7 @@ use Rattle.fl_table.specs.declared.faults.PutRefusal.TheVariants as put
 use Rattle.fl_table.specs.Blobs.{pages_for}
 use Rattle.fl_table.specs.Memory.{HasRoom}
 use Rattle.fl_rlc.specs.Refusal.{put_refusal, NeedsNoOperation}
-use Rattle.fl_rlc.specs.Rows.{RowEnds}
+use Rattle.fl_rlc.specs.Rows.{RowEnds, HaveLogged}
 use Rattle.fl_rlc.proofs.PutEnded.{logged-refused, logged-accepted, failed-ends, row-failed, row-done, bare-none, log-none}
 use Rattle.fl_rlc.proofs.PutFrames.{log-self, log-lies, blobs-same, room-same, logged-calm, refused-same, flash-alone, log-outside, some-same, and-left, and-false, not-both}
 use Rattle.fl_ring.proofs.Readings.{no_reads, goes_more}
@@ -310,6 +310,23 @@ returns-in-Err-clause-off g c = λ none busy down.
     same e = cc
 
 -- ---- the log has it
+
+pub returns-clause-last : goal.returns-clause-last
+returns-clause-last g c = c.in_ok-put.ensures.last
+
+pub returns-clause-logs : goal.returns-clause-logs
+returns-clause-logs g c =
+    subst (λ (l : RowLayout). HaveLogged l (record { key = c.args.key; values = c.args.values.now; blob = None }) c.args.self.now.log c.log_row.new.log)
+    (c.schema.ensures.exact ∙ c.in_ok-put.ensures.same.layout) c.in_default-log_row.ensures.logs
+
+pub returns-clause-pending : goal.returns-clause-pending
+returns-clause-pending g c = c.in_ok-put.ensures.pending
+
+pub returns-clause-rows : goal.returns-clause-rows
+returns-clause-rows g c = c.in_ok-put.ensures.rows
+
+pub returns-clause-power : goal.returns-clause-power
+returns-clause-power g c = λ on. c.in_default-log_row.ensures.power (c.in_ok-put.ensures.power on)
 
 pub returns-clause-quiet : goal.returns-clause-quiet
 returns-clause-quiet g c = λ none idle.

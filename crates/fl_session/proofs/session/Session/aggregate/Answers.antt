@@ -1,10 +1,12 @@
-use Rattle.std.proofs.Common.{◌≡◌, ◌^◌, ◌<◌, ◌≤◌, length, Some, rules, refl, ap, map, [], ◌∷◌, arith, inl, inr}
+use Rattle.std.proofs.Common.{◌≡◌, ◌^◌, ◌<◌, ◌≤◌, length, Some, rules, refl, sym, ◌∙◌, ap, map, [], ◌∷◌, arith, inl, inr}
 use Rattle.std.specs.List.{slice_get}
 use Rattle.fl_flash.specs.declared.flash.Work.{Work}
 use Rattle.fl_model.specs.Operators as operators
 use Rattle.fl_table.specs.Look.{layout_in}
+use Rattle.fl_table.specs.declared.table.Table.{Table}
 use Rattle.fl_words.specs.Command as words
 use Rattle.fl_machine.specs.Step.{group_reply, records_of}
+use Rattle.fl_session.specs.Asked.{lacked_column}
 use Rattle.fl_session.proofs.Answering.{step-is}
 use Rattle.fl_session.proofs.Costing.{has-read}
 use Rattle.fl_session.proofs.Getting.{goes-reads}
@@ -12,6 +14,7 @@ use Rattle.fl_session.proofs.Owning.{reached-here, reached-within}
 use Rattle.fl_session.proofs.Sound.{sound-roomed}
 use Rattle.fl_session.proofs.Operations.{operator-executes, operator-no_column, operator-refused, has-column, lacks-column}
 use Rattle.fl_session.proofs.Causing.{refusal-says, says-written, is-here, only-looks, lacks-one, lacks-says, has-one, has-says}
+use Rattle.fl_session.proofs.Tables.{lies-unlogged, runs-unlogged}
 use Rattle.fl_session.proofs.session.Session.aggregate.Goals as goal
 
 pub returns-in-Err-clause-step : goal.returns-in-Err-clause-step
@@ -24,27 +27,28 @@ returns-in-Err-clause-step g c = λ config old h.
 
 pub returns-then-columns-column-clause-step : goal.returns-then-columns-column-clause-step
 returns-then-columns-column-clause-step g c = λ config old h.
-    let beyond : length (layout_in c.index.result.now.table).columns < c.args.column = search rules in
+    let beyond : length (layout_in c.table-table.result.now).columns < c.args.column = search rules in
     let here : slice_get c.args.self.now.tables.entries.items c.in-Ok.at ≡ Some c.index.result.now = reached-here c.args.self.now.tables.entries.items _ _ c.in-Ok.at c.index.result.now c.in-Ok.ensures c.index.ensures in
     operator-no_column _ config old _ c.args.name _ _ _
     (λ name. words.Agg name c.args.range c.args.column c.args.width) (c.args.column ∷ []) c.args.range
     (λ at. map group_reply (operators.aggregate c.args.column c.args.width (records_of c.args.range at))) _ _ _
     (λ at moment is w. step-is config old moment (words.Agg at c.args.range c.args.column c.args.width) is w) (λ now moment read. read)
-    c.in-Ok.at c.index.result.now (λ moment read. read) h c.in-Ok.ensures here c.args.column (λ first plan planned. lacks-column c.index.result.now.table first plan _ beyond planned) c.write_reply-then-columns-column.ensures.text
+    c.in-Ok.at c.index.result.now c.table-table.result.now (λ moment read. read) h c.in-Ok.ensures here c.table-table.ensures c.args.column (λ first plan planned. lacks-column c.table-table.result.now first plan _ beyond planned) c.write_reply-then-columns-column.ensures.text
 
 pub returns-clause-step : goal.returns-clause-step
 returns-clause-step g c = λ config old h.
     let before : c.work-before.result.reads ≡ c.args.self.now.flash.work.reads = ap (λ (w : Work). w.reads) c.work-before.ensures in
     let fits : c.work-before.result.reads < 2 ^ 64 = search rules in
     let small : c.args.self.now.flash.work.reads < 2 ^ 64 = omega (arith, fits, before) in
-    let within : c.args.column ≤ length (layout_in c.index.result.now.table).columns = search rules in
+    let within : c.args.column ≤ length (layout_in c.table-table.result.now).columns = search rules in
     let here : slice_get c.args.self.now.tables.entries.items c.in-Ok.at ≡ Some c.index.result.now = reached-here c.args.self.now.tables.entries.items _ _ c.in-Ok.at c.index.result.now c.in-Ok.ensures c.index.ensures in
     operator-executes _ config old _ c.args.name _ _ _
     (λ name. words.Agg name c.args.range c.args.column c.args.width) (c.args.column ∷ []) c.args.range
     (λ at. map group_reply (operators.aggregate c.args.column c.args.width (records_of c.args.range at))) _ _ _
     (λ at moment is w. step-is config old moment (words.Agg at c.args.range c.args.column c.args.width) is w) (λ now moment read. read)
-    c.in-Ok.at c.index.result.now _ _ (λ moment read. read) h c.in-Ok.ensures here c.aggregate.ensures.reads_only (has-read _ _ c.aggregate.ensures.reads_only _ small refl)
-    (λ first plan planned. has-column c.index.result.now.table first plan _ within planned)
+    c.in-Ok.at c.index.result.now c.table-table.result.now _ _ (λ moment read. read) h c.in-Ok.ensures here c.table-table.ensures c.aggregate.ensures.reads_only (has-read _ _ c.aggregate.ensures.reads_only _ small refl)
+    (λ plan table. refl)
+    (λ first plan planned. has-column c.table-table.result.now first plan _ within planned)
     (λ first plan table tells on stands. c.aggregate.ensures.counted first plan table tells on stands)
 
 pub index-requires : goal.index-requires
@@ -53,12 +57,15 @@ index-requires g c = reached-within c.args.self.now.tables.entries.items _ _ _ c
 pub aggregate-requires-clause-running : goal.aggregate-requires-clause-running
 aggregate-requires-clause-running g c =
     let here : slice_get c.args.self.now.tables.entries.items c.in-Ok.at ≡ Some c.index.result.now = reached-here c.args.self.now.tables.entries.items _ _ c.in-Ok.at c.index.result.now c.in-Ok.ensures c.index.ensures in
-    c.requires.sound.running c.in-Ok.ensures.mounted_is c.in-Ok.at c.index.result.now here
+    runs-unlogged c.table-table.result.now c.index.result.now c.table-table.ensures (c.requires.sound.running c.in-Ok.ensures.mounted_is c.in-Ok.at c.index.result.now here)
 
 pub aggregate-requires-clause-lies : goal.aggregate-requires-clause-lies
 aggregate-requires-clause-lies g c =
     let here : slice_get c.args.self.now.tables.entries.items c.in-Ok.at ≡ Some c.index.result.now = reached-here c.args.self.now.tables.entries.items _ _ c.in-Ok.at c.index.result.now c.in-Ok.ensures c.index.ensures in
-    c.requires.sound.lie c.in-Ok.at c.index.result.now here
+    lies-unlogged c.table-table.result.now c.index.result.now c.table-table.ensures (c.requires.sound.lie c.in-Ok.at c.index.result.now here)
+
+pub returns-clause-goes : goal.returns-clause-goes
+returns-clause-goes g c = goes-reads _ _ c.aggregate.ensures.reads_only
 
 pub returns-clause-sound : goal.returns-clause-sound
 returns-clause-sound g c = sound-roomed c.args.self.now.tables.entries.items _ _ _ _ _ _ (goes-reads _ _ c.aggregate.ensures.reads_only) c.aggregate.ensures.room c.requires.sound
@@ -69,16 +76,16 @@ returns-in-Err-clause-cause g c = inl (says-written _ _ _ _ _ _ (refusal-says _ 
 pub returns-then-columns-column-clause-cause : goal.returns-then-columns-column-clause-cause
 returns-then-columns-column-clause-cause g c =
     let here : slice_get c.args.self.now.tables.entries.items c.in-Ok.at ≡ Some c.index.result.now = reached-here c.args.self.now.tables.entries.items _ _ c.in-Ok.at c.index.result.now c.in-Ok.ensures c.index.ensures in
-    let beyond : length (layout_in c.index.result.now.table).columns < c.args.column = search rules in
+    let beyond : length (layout_in c.table-table.result.now).columns < c.args.column = search rules in
     inr (
       c.in-Ok.at,
       c.index.result.now,
       is-here _ c.args.name c.in-Ok.at c.index.result.now c.in-Ok.ensures here,
-      lacks-says _ _ _ _ _ _ _ c.args.column (lacks-one (layout_in c.index.result.now.table) c.args.column beyond) refl c.write_reply-then-columns-column.ensures.text,
+      lacks-says _ _ _ _ _ _ _ c.args.column (sym (ap (λ (t : Table 64 64). lacked_column (layout_in t) (c.args.column ∷ [])) c.table-table.ensures) ∙ lacks-one (layout_in c.table-table.result.now) c.args.column beyond) refl c.write_reply-then-columns-column.ensures.text,
     )
 
 pub returns-clause-cause : goal.returns-clause-cause
 returns-clause-cause g c =
     let here : slice_get c.args.self.now.tables.entries.items c.in-Ok.at ≡ Some c.index.result.now = reached-here c.args.self.now.tables.entries.items _ _ c.in-Ok.at c.index.result.now c.in-Ok.ensures c.index.ensures in
-    let within : c.args.column ≤ length (layout_in c.index.result.now.table).columns = search rules in
-    inr (c.in-Ok.at, c.index.result.now, is-here _ c.args.name c.in-Ok.at c.index.result.now c.in-Ok.ensures here, has-says _ _ _ _ _ _ _ (has-one (layout_in c.index.result.now.table) c.args.column within) (only-looks _ _ _ _ _ _ _ refl c.aggregate.ensures.reads_only))
+    let within : c.args.column ≤ length (layout_in c.table-table.result.now).columns = search rules in
+    inr (c.in-Ok.at, c.index.result.now, is-here _ c.args.name c.in-Ok.at c.index.result.now c.in-Ok.ensures here, has-says _ _ _ _ _ _ _ (sym (ap (λ (t : Table 64 64). lacked_column (layout_in t) (c.args.column ∷ [])) c.table-table.ensures) ∙ has-one (layout_in c.table-table.result.now) c.args.column within) (only-looks _ _ _ _ _ _ _ refl c.aggregate.ensures.reads_only))

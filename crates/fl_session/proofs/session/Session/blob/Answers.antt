@@ -7,6 +7,7 @@ use Rattle.fl_session.proofs.Getting.{goes-reads}
 use Rattle.fl_session.proofs.Owning.{reached-here, reached-within}
 use Rattle.fl_session.proofs.Sound.{sound-read}
 use Rattle.fl_session.proofs.Causing.{refusal-says, says-written, is-here, only-looks}
+use Rattle.fl_session.proofs.Tables.{lies-unlogged, runs-unlogged}
 use Rattle.fl_session.proofs.session.Session.blob.Goals as goal
 
 pub returns-in-Err-clause-step : goal.returns-in-Err-clause-step
@@ -18,12 +19,12 @@ index-requires g c = reached-within c.args.self.now.tables.entries.items _ _ _ c
 pub show_blob-requires-clause-running : goal.show_blob-requires-clause-running
 show_blob-requires-clause-running g c =
     let here : slice_get c.args.self.now.tables.entries.items c.in-Ok.at ≡ Some c.index.result.now = reached-here c.args.self.now.tables.entries.items _ _ c.in-Ok.at c.index.result.now c.in-Ok.ensures c.index.ensures in
-    c.requires.sound.running c.in-Ok.ensures.mounted_is c.in-Ok.at c.index.result.now here
+    runs-unlogged c.table-table.result.now c.index.result.now c.table-table.ensures (c.requires.sound.running c.in-Ok.ensures.mounted_is c.in-Ok.at c.index.result.now here)
 
 pub show_blob-requires-clause-lies : goal.show_blob-requires-clause-lies
 show_blob-requires-clause-lies g c =
     let here : slice_get c.args.self.now.tables.entries.items c.in-Ok.at ≡ Some c.index.result.now = reached-here c.args.self.now.tables.entries.items _ _ c.in-Ok.at c.index.result.now c.in-Ok.ensures c.index.ensures in
-    c.requires.sound.lie c.in-Ok.at c.index.result.now here
+    lies-unlogged c.table-table.result.now c.index.result.now c.table-table.ensures (c.requires.sound.lie c.in-Ok.at c.index.result.now here)
 
 pub returns-clause-goes : goal.returns-clause-goes
 returns-clause-goes g c = goes-reads _ _ c.show_blob.ensures.counts
@@ -37,7 +38,7 @@ returns-clause-step g c = λ config old h.
     let fits : c.work-before.result.reads < 2 ^ 64 = search rules in
     let small : c.args.self.now.flash.work.reads < 2 ^ 64 = omega (arith, fits, before) in
     let here : slice_get c.args.self.now.tables.entries.items c.in-Ok.at ≡ Some c.index.result.now = reached-here c.args.self.now.tables.entries.items _ _ c.in-Ok.at c.index.result.now c.in-Ok.ensures c.index.ensures in
-    blob-executes _ config old _ c.in-Ok.at c.index.result.now c.args.name _ _ _ (c.show_blob.new.flash.work.reads - c.args.self.now.flash.work.reads) c.args.key _ _ _ _ h c.in-Ok.ensures here c.show_blob.ensures.counts
+    blob-executes _ config old _ c.in-Ok.at c.index.result.now c.table-table.result.now c.args.name _ _ _ (c.show_blob.new.flash.work.reads - c.args.self.now.flash.work.reads) c.args.key _ _ _ _ h c.in-Ok.ensures here c.table-table.ensures c.show_blob.ensures.counts
     (has-read _ _ c.show_blob.ensures.counts _ small refl) refl c.show_blob.ensures.shows
 
 pub returns-in-Err-clause-cause : goal.returns-in-Err-clause-cause

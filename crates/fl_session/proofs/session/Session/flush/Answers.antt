@@ -6,7 +6,7 @@ use Rattle.fl_session.proofs.Refusing.{flush-refused_so}
 use Rattle.fl_session.proofs.Sound.{sound-with, runs-after}
 use Rattle.fl_session.proofs.Causing.{on-refusal, is-here, flush-fails, kept-state}
 use Rattle.fl_table.specs.Causes.{flush_breaks}
-use Rattle.fl_table.specs.Memory.{is_running}
+use Rattle.fl_rlc.specs.Table.{is_running}
 use Rattle.fl_tables.specs.Replies.{flush_reply}
 use Rattle.fl_session.proofs.session.Session.flush.Goals as goal
 
@@ -56,6 +56,7 @@ returns-clause-cause g c =
           leaves = record { now = c.flush-outcome.new.self; same = c.flush-outcome.ensures.same; entries = refl; mounted = ap not c.flush_breaks.ensures; notes = refl; unread = c.flush-outcome.ensures.reads; outside = c.flush-outcome.ensures.outside };
           flushed = c.flush-outcome.ensures.none;
           seals = c.flush-outcome.ensures.seals;
+          begins = c.flush-outcome.ensures.begins;
           power = c.flush-outcome.ensures.power;
           off = c.flush-outcome.ensures.off runs;
         },

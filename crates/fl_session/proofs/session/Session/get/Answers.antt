@@ -3,10 +3,11 @@ use Rattle.std.specs.List.{slice_get}
 use Rattle.fl_flash.specs.declared.flash.Work.{Work}
 use Rattle.fl_session.specs.declared.cost.Cost.TheVariants.{OfGet}
 use Rattle.fl_session.proofs.Costing.{has-read}
-use Rattle.fl_session.proofs.Getting.{get-executes, get-refused, goes-reads}
+use Rattle.fl_session.proofs.Getting.{get-executes, get-refused, goes-reads, look-said}
 use Rattle.fl_session.proofs.Owning.{reached-here, reached-within}
 use Rattle.fl_session.proofs.Sound.{sound-read}
 use Rattle.fl_session.proofs.Causing.{on-refusal, says-written, is-here, only-looks}
+use Rattle.fl_session.proofs.Tables.{lies-unlogged, runs-unlogged}
 use Rattle.fl_session.proofs.session.Session.get.Goals as goal
 
 pub returns-in-Err-clause-step : goal.returns-in-Err-clause-step
@@ -18,12 +19,12 @@ index-requires g c = reached-within c.args.self.now.tables.entries.items _ _ _ c
 pub look_up-reply-requires-clause-running : goal.look_up-reply-requires-clause-running
 look_up-reply-requires-clause-running g c =
     let here : slice_get c.args.self.now.tables.entries.items c.in-Ok.at ≡ Some c.index.result.now = reached-here c.args.self.now.tables.entries.items _ _ c.in-Ok.at c.index.result.now c.in-Ok.ensures c.index.ensures in
-    c.requires.sound.running c.in-Ok.ensures.mounted_is c.in-Ok.at c.index.result.now here
+    runs-unlogged c.table-table.result.now c.index.result.now c.table-table.ensures (c.requires.sound.running c.in-Ok.ensures.mounted_is c.in-Ok.at c.index.result.now here)
 
 pub look_up-reply-requires-clause-lies : goal.look_up-reply-requires-clause-lies
 look_up-reply-requires-clause-lies g c =
     let here : slice_get c.args.self.now.tables.entries.items c.in-Ok.at ≡ Some c.index.result.now = reached-here c.args.self.now.tables.entries.items _ _ c.in-Ok.at c.index.result.now c.in-Ok.ensures c.index.ensures in
-    c.requires.sound.lie c.in-Ok.at c.index.result.now here
+    lies-unlogged c.table-table.result.now c.index.result.now c.table-table.ensures (c.requires.sound.lie c.in-Ok.at c.index.result.now here)
 
 pub returns-clause-goes : goal.returns-clause-goes
 returns-clause-goes g c = goes-reads _ _ c.look_up-reply.ensures.counts
@@ -39,7 +40,7 @@ returns-clause-step g c = λ config old h.
     let after : c.work.result.reads ≡ c.look_up-reply.new.flash.work.reads = ap (λ (w : Work). w.reads) c.work.ensures in
     let reads : c.saturating_sub-reads.result ≡ c.look_up-reply.new.flash.work.reads - c.args.self.now.flash.work.reads = omega (arith, c.saturating_sub-reads.ensures, before, after) in
     let here : slice_get c.args.self.now.tables.entries.items c.in-Ok.at ≡ Some c.index.result.now = reached-here c.args.self.now.tables.entries.items _ _ c.in-Ok.at c.index.result.now c.in-Ok.ensures c.index.ensures in
-    get-executes _ config old _ c.in-Ok.at c.index.result.now c.args.name _ _ _ _ _ c.args.key _ c.look_up-reply.result _ _ _ h c.in-Ok.ensures here c.look_up-reply.ensures.counts
+    get-executes _ config old _ c.in-Ok.at c.index.result.now c.table-table.result.now c.args.name _ _ _ _ _ c.args.key _ c.look_up-reply.result _ _ _ h c.in-Ok.ensures here c.table-table.ensures c.look_up-reply.ensures.counts
     (has-read _ _ c.look_up-reply.ensures.counts _ small reads) reads c.lookup_limit-limit.ensures.stands c.look_up-reply.ensures.looks c.write_reply-2.ensures.text
 
 pub returns-in-Err-clause-cause : goal.returns-in-Err-clause-cause
@@ -55,5 +56,5 @@ returns-clause-cause g c =
     says-written _ _ _ _ _ _ (record {
       reply = says.reply;
       said_is = says.said_is;
-      holds = inr (c.in-Ok.at, c.index.result.now, is-here _ c.args.name c.in-Ok.at c.index.result.now c.in-Ok.ensures here, (says.holds, (c.lookup_limit-limit.result, only-looks _ _ _ _ _ _ _ (ap (λ n. record c.args.self.now.notes { cost = OfGet n c.lookup_limit-limit.result }) reads) c.look_up-reply.ensures.counts)));
+      holds = inr (c.in-Ok.at, c.index.result.now, is-here _ c.args.name c.in-Ok.at c.index.result.now c.in-Ok.ensures here, (look-said c.table-table.result.now c.index.result.now _ _ says.reply c.table-table.ensures says.holds, (c.lookup_limit-limit.result, only-looks _ _ _ _ _ _ _ (ap (λ n. record c.args.self.now.notes { cost = OfGet n c.lookup_limit-limit.result }) reads) c.look_up-reply.ensures.counts)));
     }) c.write_reply-2.ensures.text

@@ -7,6 +7,7 @@ use Rattle.fl_session.proofs.Operations.{join-executes, join-refused, join-alone
 use Rattle.fl_session.proofs.Owning.{reached-here, reached-within}
 use Rattle.fl_session.proofs.Sound.{sound-roomed}
 use Rattle.fl_session.proofs.Causing.{reached-entry, refusal-says, says-written, is-here, only-looks}
+use Rattle.fl_session.proofs.Tables.{lies-unlogged, runs-unlogged}
 use Rattle.fl_session.proofs.session.Session.join.Goals as goal
 
 pub returns-in-Err-clause-step : goal.returns-in-Err-clause-step
@@ -24,22 +25,25 @@ index-requires-2 g c = reached-within c.args.self.now.tables.entries.items _ _ _
 pub join-requires-clause-left_running : goal.join-requires-clause-left_running
 join-requires-clause-left_running g c =
     let here : slice_get c.args.self.now.tables.entries.items c.in-Ok.at ≡ Some c.index.result.now = reached-here c.args.self.now.tables.entries.items _ _ c.in-Ok.at c.index.result.now c.in-Ok.ensures c.index.ensures in
-    c.requires.sound.running c.in-Ok.ensures.mounted_is c.in-Ok.at c.index.result.now here
+    runs-unlogged c.table-left_table.result.now c.index.result.now c.table-left_table.ensures (c.requires.sound.running c.in-Ok.ensures.mounted_is c.in-Ok.at c.index.result.now here)
 
 pub join-requires-clause-right_running : goal.join-requires-clause-right_running
 join-requires-clause-right_running g c =
     let here : slice_get c.args.self.now.tables.entries.items c.in-Ok-find.at ≡ Some c.index-2.result.now = reached-here c.args.self.now.tables.entries.items _ _ c.in-Ok-find.at c.index-2.result.now c.in-Ok-find.ensures c.index-2.ensures in
-    c.requires.sound.running c.in-Ok-find.ensures.mounted_is c.in-Ok-find.at c.index-2.result.now here
+    runs-unlogged c.table-right_table.result.now c.index-2.result.now c.table-right_table.ensures (c.requires.sound.running c.in-Ok-find.ensures.mounted_is c.in-Ok-find.at c.index-2.result.now here)
 
 pub join-requires-clause-left_lies : goal.join-requires-clause-left_lies
 join-requires-clause-left_lies g c =
     let here : slice_get c.args.self.now.tables.entries.items c.in-Ok.at ≡ Some c.index.result.now = reached-here c.args.self.now.tables.entries.items _ _ c.in-Ok.at c.index.result.now c.in-Ok.ensures c.index.ensures in
-    c.requires.sound.lie c.in-Ok.at c.index.result.now here
+    lies-unlogged c.table-left_table.result.now c.index.result.now c.table-left_table.ensures (c.requires.sound.lie c.in-Ok.at c.index.result.now here)
 
 pub join-requires-clause-right_lies : goal.join-requires-clause-right_lies
 join-requires-clause-right_lies g c =
     let here : slice_get c.args.self.now.tables.entries.items c.in-Ok-find.at ≡ Some c.index-2.result.now = reached-here c.args.self.now.tables.entries.items _ _ c.in-Ok-find.at c.index-2.result.now c.in-Ok-find.ensures c.index-2.ensures in
-    c.requires.sound.lie c.in-Ok-find.at c.index-2.result.now here
+    lies-unlogged c.table-right_table.result.now c.index-2.result.now c.table-right_table.ensures (c.requires.sound.lie c.in-Ok-find.at c.index-2.result.now here)
+
+pub returns-clause-goes : goal.returns-clause-goes
+returns-clause-goes g c = goes-reads _ _ c.join.ensures.reads_only
 
 pub returns-clause-sound : goal.returns-clause-sound
 returns-clause-sound g c = sound-roomed c.args.self.now.tables.entries.items _ _ _ _ _ _ (goes-reads _ _ c.join.ensures.reads_only) c.join.ensures.room c.requires.sound
@@ -51,7 +55,7 @@ returns-clause-step g c = λ config old h.
     let small : c.args.self.now.flash.work.reads < 2 ^ 64 = omega (arith, fits, before) in
     let left : slice_get c.args.self.now.tables.entries.items c.in-Ok.at ≡ Some c.index.result.now = reached-here c.args.self.now.tables.entries.items _ _ c.in-Ok.at c.index.result.now c.in-Ok.ensures c.index.ensures in
     let right : slice_get c.args.self.now.tables.entries.items c.in-Ok-find.at ≡ Some c.index-2.result.now = reached-here c.args.self.now.tables.entries.items _ _ c.in-Ok-find.at c.index-2.result.now c.in-Ok-find.ensures c.index-2.ensures in
-    join-executes _ config old _ c.args.left c.args.right _ _ _ c.args.range _ _ _ c.in-Ok.at c.in-Ok-find.at c.index.result.now c.index-2.result.now _ _ h c.in-Ok.ensures left c.in-Ok-find.ensures right c.join.ensures.reads_only
+    join-executes _ config old _ c.args.left c.args.right _ _ _ c.args.range _ _ _ c.in-Ok.at c.in-Ok-find.at c.index.result.now c.index-2.result.now c.table-left_table.result.now c.table-right_table.result.now _ _ h c.in-Ok.ensures left c.in-Ok-find.ensures right c.table-left_table.ensures c.table-right_table.ensures c.join.ensures.reads_only
     (has-read _ _ c.join.ensures.reads_only _ small refl) c.join.ensures.counted
 
 pub returns-in-Err-clause-cause : goal.returns-in-Err-clause-cause

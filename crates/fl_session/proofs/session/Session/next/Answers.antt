@@ -10,6 +10,7 @@ use Rattle.fl_session.proofs.Getting.{goes-reads}
 use Rattle.fl_session.proofs.Sound.{sound-read, cursors-set}
 use Rattle.fl_session.proofs.Causing.{only-looks}
 use Rattle.fl_words.specs.Reply as reply
+use Rattle.fl_session.proofs.Tables.{lies-unlogged, runs-unlogged}
 use Rattle.fl_session.proofs.session.Session.next.Goals as goal
 
 pub returns-then-not-self-clause-step : goal.returns-then-not-self-clause-step
@@ -22,13 +23,13 @@ pub next_rows-written-requires-clause-running : goal.next_rows-written-requires-
 next_rows-written-requires-clause-running g c =
     let here : slice_get c.args.self.now.tables.entries.items c.in-Some.open.table ≡ Some c.index.result.now =
     item-there c.args.self.now.tables.entries.items _ c.in-Some.open.table c.index.result.now refl (c.requires.sound.cursors c.args.cursor c.in-Some.open c.in-Some.ensures) c.index.ensures in
-    c.requires.sound.running c.if-not-self.false c.in-Some.open.table c.index.result.now here
+    runs-unlogged c.table.result.now c.index.result.now c.table.ensures (c.requires.sound.running c.if-not-self.false c.in-Some.open.table c.index.result.now here)
 
 pub next_rows-written-requires-clause-lies : goal.next_rows-written-requires-clause-lies
 next_rows-written-requires-clause-lies g c =
     let here : slice_get c.args.self.now.tables.entries.items c.in-Some.open.table ≡ Some c.index.result.now =
     item-there c.args.self.now.tables.entries.items _ c.in-Some.open.table c.index.result.now refl (c.requires.sound.cursors c.args.cursor c.in-Some.open c.in-Some.ensures) c.index.ensures in
-    c.requires.sound.lie c.in-Some.open.table c.index.result.now here
+    lies-unlogged c.table.result.now c.index.result.now c.table.ensures (c.requires.sound.lie c.in-Some.open.table c.index.result.now here)
 
 pub returns-clause-sound : goal.returns-clause-sound
 returns-clause-sound g c =
@@ -45,8 +46,8 @@ returns-clause-step g c = λ config old h.
     let here : slice_get c.args.self.now.tables.entries.items c.in-Some.open.table ≡ Some c.index.result.now =
     item-there c.args.self.now.tables.entries.items _ c.in-Some.open.table c.index.result.now refl (c.requires.sound.cursors c.args.cursor c.in-Some.open c.in-Some.ensures) c.index.ensures in
     let fits_after : IfSome c.in-Some.open.mark.after (λ after. after < 2 ^ 64) = search rules in
-    rw c.set_cursor.ensures (next-executes _ config old _ c.index.result.now _ _ _ (c.next_rows-written.new.flash.work.reads - c.args.self.now.flash.work.reads) c.args.cursor c.args.count _ c.in-Some.open c.next_rows-written.new.mark _ _ _ h c.if-not-self.false
-    c.in-Some.ensures here fits_after c.next_rows-written.ensures.counts (has-read _ _ c.next_rows-written.ensures.counts _ small refl) refl c.next_rows-written.ensures.nexts)
+    rw c.set_cursor.ensures (next-executes _ config old _ c.index.result.now c.table.result.now _ _ _ (c.next_rows-written.new.flash.work.reads - c.args.self.now.flash.work.reads) c.args.cursor c.args.count _ c.in-Some.open c.next_rows-written.new.mark _ _ _ h c.if-not-self.false
+    c.in-Some.ensures here c.table.ensures fits_after c.next_rows-written.ensures.counts (has-read _ _ c.next_rows-written.ensures.counts _ small refl) refl c.next_rows-written.ensures.nexts)
 
 pub returns-then-not-self-clause-cause : goal.returns-then-not-self-clause-cause
 returns-then-not-self-clause-cause g c = inl (c.if-not-self.true, record { reply = reply.NotMounted; written = c.write_reply.ensures.text; holds = (refl, refl) })

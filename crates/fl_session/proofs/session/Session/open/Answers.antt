@@ -1,13 +1,16 @@
-use Rattle.std.proofs.Common.{◌≡◌, ◌<◌, Some, Option, length, refl, ap, subst, inr}
+use Rattle.std.proofs.Common.{◌≡◌, ◌<◌, Some, Option, length, refl, ◌∙◌, ap, subst, inr}
 use Rattle.std.specs.List.{slice_get}
 use Rattle.std.specs.Prelude.{option_map, unwrap_or}
 use Rattle.fl_tables.proofs.Going.{goes-same}
+use Rattle.fl_table.specs.declared.table.Table.{Table}
+use Rattle.fl_session.specs.Caused.{mark_on}
 use Rattle.fl_session.specs.declared.notes.TableCursor.{TableCursor}
 use Rattle.fl_session.proofs.CursorsOf.{open-call, open-refused}
 use Rattle.fl_session.proofs.Owning.{reached-here, reached-within}
 use Rattle.fl_session.proofs.Sound.{sound-read, cursors-set}
 use Rattle.fl_session.proofs.Causing.{on-refusal, is-here, opened}
 use Rattle.fl_words.specs.Reply as reply
+use Rattle.fl_session.proofs.Tables.{runs-unlogged}
 use Rattle.fl_session.proofs.session.Session.open.Goals as goal
 
 pub returns-in-Err-clause-step : goal.returns-in-Err-clause-step
@@ -19,7 +22,7 @@ index-requires g c = reached-within c.args.self.now.tables.entries.items _ _ _ c
 pub open_cursor-mark-requires : goal.open_cursor-mark-requires
 open_cursor-mark-requires g c =
     let here : slice_get c.args.self.now.tables.entries.items c.in-Ok.at ≡ Some c.index.result.now = reached-here c.args.self.now.tables.entries.items _ _ c.in-Ok.at c.index.result.now c.in-Ok.ensures c.index.ensures in
-    c.requires.sound.running c.in-Ok.ensures.mounted_is c.in-Ok.at c.index.result.now here
+    runs-unlogged c.table-table.result.now c.index.result.now c.table-table.ensures (c.requires.sound.running c.in-Ok.ensures.mounted_is c.in-Ok.at c.index.result.now here)
 
 pub returns-clause-sound : goal.returns-clause-sound
 returns-clause-sound g c =
@@ -32,7 +35,7 @@ returns-clause-sound g c =
 pub returns-clause-step : goal.returns-clause-step
 returns-clause-step g c = λ config old h.
     let here : slice_get c.args.self.now.tables.entries.items c.in-Ok.at ≡ Some c.index.result.now = reached-here c.args.self.now.tables.entries.items _ _ c.in-Ok.at c.index.result.now c.in-Ok.ensures c.index.ensures in
-    rw c.set_cursor.ensures (open-call config old _ c.in-Ok.at c.index.result.now c.args.name _ _ _ c.args.cursor c.args.range c.args.span c.open_cursor-mark.result h c.in-Ok.ensures here c.open_cursor-mark.ensures.begins)
+    rw c.set_cursor.ensures (open-call config old _ c.in-Ok.at c.index.result.now c.table-table.result.now c.args.name _ _ _ c.args.cursor c.args.range c.args.span c.open_cursor-mark.result h c.in-Ok.ensures here c.table-table.ensures c.open_cursor-mark.ensures.begins)
 
 pub returns-in-Err-clause-cause : goal.returns-in-Err-clause-cause
 returns-in-Err-clause-cause g c = on-refusal _ c.args.name _ c.in-Err.refusal c.in-Err.ensures
@@ -43,5 +46,5 @@ returns-clause-cause g c =
     record {
       reply = reply.Done;
       said_is = refl;
-      holds = inr (c.in-Ok.at, c.index.result.now, is-here _ c.args.name c.in-Ok.at c.index.result.now c.in-Ok.ensures here, (refl, opened _ _ _ _ _ c.args.cursor c.in-Ok.at _ _ c.set_cursor.ensures c.open_cursor-mark.ensures.mark));
+      holds = inr (c.in-Ok.at, c.index.result.now, is-here _ c.args.name c.in-Ok.at c.index.result.now c.in-Ok.ensures here, (refl, opened _ _ _ _ _ c.args.cursor c.in-Ok.at _ _ c.set_cursor.ensures (c.open_cursor-mark.ensures.mark ∙ ap (λ (t : Table 64 64). mark_on t c.args.range c.args.span) c.table-table.ensures)));
     }

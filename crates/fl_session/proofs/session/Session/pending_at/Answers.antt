@@ -12,11 +12,11 @@ returns-then-rows-eq0 g c = λ config m h.
     let entries = c.args.self.now.tables.entries.items in
     let within : c.args.at < length entries = omega (arith, c.len.ensures, c.if-at-len.false) in
     let here : slice_get entries c.args.at ≡ Some c.index-entry.result.now = item-there entries (length entries) c.args.at c.index-entry.result.now refl within c.index-entry.ensures in
-    sym (pending-zero config m entries c.args.self.now.notes _ c.args.self.now.mounted c.args.at h c.index-entry.result.now c.pending_rows-rows.result c.if-not-self.false here c.pending_rows-rows.ensures.stands c.if-rows-eq0.true)
+    sym (pending-zero config m entries c.args.self.now.notes _ c.args.self.now.mounted c.args.at h c.index-entry.result.now c.table.result.now c.pending_rows-rows.result c.if-not-self.false here c.table.ensures c.pending_rows-rows.ensures.stands c.if-rows-eq0.true)
 
 pub returns : goal.returns
 returns g c = λ config m h.
     let entries = c.args.self.now.tables.entries.items in
     let within : c.args.at < length entries = omega (arith, c.len.ensures, c.if-at-len.false) in
     let here : slice_get entries c.args.at ≡ Some c.index-entry.result.now = item-there entries (length entries) c.args.at c.index-entry.result.now refl within c.index-entry.ensures in
-    sym (pending-some config m entries c.args.self.now.notes _ c.args.self.now.mounted c.args.at h c.index-entry.result.now c.pending_rows-rows.result c.if-not-self.false here c.pending_rows-rows.ensures.stands c.if-rows-eq0.false)
+    sym (pending-some config m entries c.args.self.now.notes _ c.args.self.now.mounted c.args.at h c.index-entry.result.now c.table.result.now c.pending_rows-rows.result c.if-not-self.false here c.table.ensures c.pending_rows-rows.ensures.stands c.if-rows-eq0.false)

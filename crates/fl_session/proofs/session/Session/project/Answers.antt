@@ -2,7 +2,9 @@ use Rattle.std.proofs.Common.{◌≡◌, ◌^◌, ◌<◌, Some, None, rules, re
 use Rattle.std.specs.List.{slice_get}
 use Rattle.fl_flash.specs.declared.flash.Work.{Work}
 use Rattle.fl_model.specs.Operators as operators
+use Rattle.fl_rlc.specs.Table.{table_in}
 use Rattle.fl_table.specs.Look.{layout_in}
+use Rattle.fl_table.specs.declared.table.Table.{Table}
 use Rattle.fl_words.specs.Command as words
 use Rattle.fl_words.specs.Reply as reply
 use Rattle.fl_machine.specs.Step.{records_of}
@@ -15,6 +17,7 @@ use Rattle.fl_session.proofs.Sound.{sound-roomed}
 use Rattle.fl_session.proofs.Operations.{operator-executes, operator-no_column, operator-refused, lacked-column}
 use Rattle.fl_session.proofs.Causing.{refusal-says, says-written, is-here, only-looks, lacks-says, has-says}
 use Rattle.fl_words.specs.Reply as reply
+use Rattle.fl_session.proofs.Tables.{lies-unlogged, runs-unlogged}
 use Rattle.fl_session.proofs.session.Session.project.Goals as goal
 
 pub returns-in-Err-clause-step : goal.returns-in-Err-clause-step
@@ -28,27 +31,28 @@ returns-in-Err-clause-step g c = λ config old h.
 pub returns-in-Some-clause-step : goal.returns-in-Some-clause-step
 returns-in-Some-clause-step g c = λ config old h.
     let column = c.in-Some.column in
-    let lacks : Some column ≡ lacked_column (layout_in c.index.result.now.table) c.args.columns.now.items = c.in-Some.ensures ∙ ap (lacked_column (layout_in c.index.result.now.table)) c.as_slice.ensures.value in
+    let lacks : Some column ≡ lacked_column (layout_in c.table-table.result.now) c.args.columns.now.items = c.in-Some.ensures ∙ ap (lacked_column (layout_in c.table-table.result.now)) c.as_slice.ensures.value in
     let here : slice_get c.args.self.now.tables.entries.items c.in-Ok.at ≡ Some c.index.result.now = reached-here c.args.self.now.tables.entries.items _ _ c.in-Ok.at c.index.result.now c.in-Ok.ensures c.index.ensures in
     operator-no_column _ config old _ c.args.name _ _ _
     (λ name. words.Project name c.args.range c.args.columns.now.items) c.args.columns.now.items c.args.range
     (λ at. map reply.Fields (operators.project c.args.columns.now.items (records_of c.args.range at))) _ _ _
     (λ at moment is w. step-is config old moment (words.Project at c.args.range c.args.columns.now.items) is w) (λ now moment read. read)
-    c.in-Ok.at c.index.result.now (λ moment read. read) h c.in-Ok.ensures here column (λ first plan planned. lacked-column c.index.result.now.table first plan c.args.columns.now.items (Some column) lacks planned) c.write_reply-in-Some.ensures.text
+    c.in-Ok.at c.index.result.now c.table-table.result.now (λ moment read. read) h c.in-Ok.ensures here c.table-table.ensures column (λ first plan planned. lacked-column c.table-table.result.now first plan c.args.columns.now.items (Some column) lacks planned) c.write_reply-in-Some.ensures.text
 
 pub returns-clause-step : goal.returns-clause-step
 returns-clause-step g c = λ config old h.
     let before : c.work-before.result.reads ≡ c.args.self.now.flash.work.reads = ap (λ (w : Work). w.reads) c.work-before.ensures in
     let fits : c.work-before.result.reads < 2 ^ 64 = search rules in
     let small : c.args.self.now.flash.work.reads < 2 ^ 64 = omega (arith, fits, before) in
-    let none : None ≡ lacked_column (layout_in c.index.result.now.table) c.args.columns.now.items = c.in_default.ensures ∙ ap (lacked_column (layout_in c.index.result.now.table)) c.as_slice.ensures.value in
+    let none : None ≡ lacked_column (layout_in c.table-table.result.now) c.args.columns.now.items = c.in_default.ensures ∙ ap (lacked_column (layout_in c.table-table.result.now)) c.as_slice.ensures.value in
     let here : slice_get c.args.self.now.tables.entries.items c.in-Ok.at ≡ Some c.index.result.now = reached-here c.args.self.now.tables.entries.items _ _ c.in-Ok.at c.index.result.now c.in-Ok.ensures c.index.ensures in
     operator-executes _ config old _ c.args.name _ _ _
     (λ name. words.Project name c.args.range c.args.columns.now.items) c.args.columns.now.items c.args.range
     (λ at. map reply.Fields (operators.project c.args.columns.now.items (records_of c.args.range at))) _ _ _
     (λ at moment is w. step-is config old moment (words.Project at c.args.range c.args.columns.now.items) is w) (λ now moment read. read)
-    c.in-Ok.at c.index.result.now _ _ (λ moment read. read) h c.in-Ok.ensures here c.project.ensures.reads_only (has-read _ _ c.project.ensures.reads_only _ small refl)
-    (λ first plan planned. lacked-column c.index.result.now.table first plan c.args.columns.now.items None none planned)
+    c.in-Ok.at c.index.result.now c.table-table.result.now _ _ (λ moment read. read) h c.in-Ok.ensures here c.table-table.ensures c.project.ensures.reads_only (has-read _ _ c.project.ensures.reads_only _ small refl)
+    (λ plan table. refl)
+    (λ first plan planned. lacked-column c.table-table.result.now first plan c.args.columns.now.items None none planned)
     (λ first plan table tells on stands. rw c.as_slice-columns.ensures.value at (c.project.ensures.counted first plan table tells on stands))
 
 pub index-requires : goal.index-requires
@@ -57,12 +61,15 @@ index-requires g c = reached-within c.args.self.now.tables.entries.items _ _ _ c
 pub project-requires-clause-running : goal.project-requires-clause-running
 project-requires-clause-running g c =
     let here : slice_get c.args.self.now.tables.entries.items c.in-Ok.at ≡ Some c.index.result.now = reached-here c.args.self.now.tables.entries.items _ _ c.in-Ok.at c.index.result.now c.in-Ok.ensures c.index.ensures in
-    c.requires.sound.running c.in-Ok.ensures.mounted_is c.in-Ok.at c.index.result.now here
+    runs-unlogged c.table-table.result.now c.index.result.now c.table-table.ensures (c.requires.sound.running c.in-Ok.ensures.mounted_is c.in-Ok.at c.index.result.now here)
 
 pub project-requires-clause-lies : goal.project-requires-clause-lies
 project-requires-clause-lies g c =
     let here : slice_get c.args.self.now.tables.entries.items c.in-Ok.at ≡ Some c.index.result.now = reached-here c.args.self.now.tables.entries.items _ _ c.in-Ok.at c.index.result.now c.in-Ok.ensures c.index.ensures in
-    c.requires.sound.lie c.in-Ok.at c.index.result.now here
+    lies-unlogged c.table-table.result.now c.index.result.now c.table-table.ensures (c.requires.sound.lie c.in-Ok.at c.index.result.now here)
+
+pub returns-clause-goes : goal.returns-clause-goes
+returns-clause-goes g c = goes-reads _ _ c.project.ensures.reads_only
 
 pub returns-clause-sound : goal.returns-clause-sound
 returns-clause-sound g c = sound-roomed c.args.self.now.tables.entries.items _ _ _ _ _ _ (goes-reads _ _ c.project.ensures.reads_only) c.project.ensures.room c.requires.sound
@@ -73,7 +80,8 @@ returns-in-Err-clause-cause g c = inl (says-written _ _ _ _ _ _ (refusal-says _ 
 pub returns-in-Some-clause-cause : goal.returns-in-Some-clause-cause
 returns-in-Some-clause-cause g c =
     let here : slice_get c.args.self.now.tables.entries.items c.in-Ok.at ≡ Some c.index.result.now = reached-here c.args.self.now.tables.entries.items _ _ c.in-Ok.at c.index.result.now c.in-Ok.ensures c.index.ensures in
-    let lacks : Some c.in-Some.column ≡ lacked_column (layout_in c.index.result.now.table) c.args.columns.now.items = c.in-Some.ensures ∙ ap (lacked_column (layout_in c.index.result.now.table)) c.as_slice.ensures.value in
+    let lacks : Some c.in-Some.column ≡ lacked_column (layout_in (table_in c.index.result.now.table)) c.args.columns.now.items =
+    c.in-Some.ensures ∙ (ap (lacked_column (layout_in c.table-table.result.now)) c.as_slice.ensures.value ∙ ap (λ (t : Table 64 64). lacked_column (layout_in t) c.args.columns.now.items) c.table-table.ensures) in
     inr (
       c.in-Ok.at,
       c.index.result.now,
@@ -84,5 +92,6 @@ returns-in-Some-clause-cause g c =
 pub returns-clause-cause : goal.returns-clause-cause
 returns-clause-cause g c =
     let here : slice_get c.args.self.now.tables.entries.items c.in-Ok.at ≡ Some c.index.result.now = reached-here c.args.self.now.tables.entries.items _ _ c.in-Ok.at c.index.result.now c.in-Ok.ensures c.index.ensures in
-    let none : None ≡ lacked_column (layout_in c.index.result.now.table) c.args.columns.now.items = c.in_default.ensures ∙ ap (lacked_column (layout_in c.index.result.now.table)) c.as_slice.ensures.value in
+    let none : None ≡ lacked_column (layout_in (table_in c.index.result.now.table)) c.args.columns.now.items =
+    c.in_default.ensures ∙ (ap (lacked_column (layout_in c.table-table.result.now)) c.as_slice.ensures.value ∙ ap (λ (t : Table 64 64). lacked_column (layout_in t) c.args.columns.now.items) c.table-table.ensures) in
     inr (c.in-Ok.at, c.index.result.now, is-here _ c.args.name c.in-Ok.at c.index.result.now c.in-Ok.ensures here, has-says _ _ _ _ _ _ _ (sym none) (only-looks _ _ _ _ _ _ _ refl c.project.ensures.reads_only))

@@ -6,7 +6,8 @@ use Rattle.fl_session.proofs.Refusing.{put-refused_so}
 use Rattle.fl_session.proofs.Sound.{sound-with, runs-after}
 use Rattle.fl_session.proofs.Causing.{on-refusal, is-here, put-fails-so}
 use Rattle.fl_tables.specs.Replies.{put_reply}
-use Rattle.fl_table.specs.Refusal.{RefusesAs, put_refusal}
+use Rattle.fl_table.specs.Refusal.{RefusesAs}
+use Rattle.fl_rlc.specs.Refusal.{put_refusal}
 use Rattle.fl_table.proofs.PutAnswers.{map-twice}
 use Rattle.std.specs.Borrow.{Bor}
 use Rattle.std.specs.Prelude.{length}
@@ -57,6 +58,7 @@ returns-clause-cause g c =
           last = c.put-outcome.ensures.last;
           pending = c.put-outcome.ensures.pending;
           rows = c.put-outcome.ensures.rows;
+          logs = c.put-outcome.ensures.logs;
           power = c.put-outcome.ensures.power;
           quiet = λ none. c.put-outcome.ensures.quiet (ap (λ n. put_refusal c.index_mut.result.now.table c.args.key c.args.values.now n) (sym (map-twice (λ (b : Bor (List ℕ)). b.now) (λ (xs : List ℕ). length xs) c.args.blob)) ∙ none);
           off = λ none. c.put-outcome.ensures.off (ap (λ n. put_refusal c.index_mut.result.now.table c.args.key c.args.values.now n) (sym (map-twice (λ (b : Bor (List ℕ)). b.now) (λ (xs : List ℕ). length xs) c.args.blob)) ∙ none);

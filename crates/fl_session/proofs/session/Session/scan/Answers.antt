@@ -8,6 +8,7 @@ use Rattle.fl_session.proofs.Owning.{reached-here, reached-within}
 use Rattle.fl_session.proofs.Scanning.{scan-executes, scan-refused}
 use Rattle.fl_session.proofs.Sound.{sound-read}
 use Rattle.fl_session.proofs.Causing.{refusal-says, says-written, is-here, only-looks}
+use Rattle.fl_session.proofs.Tables.{lies-unlogged, runs-unlogged}
 use Rattle.fl_session.proofs.session.Session.scan.Goals as goal
 
 pub returns-in-Err-clause-step : goal.returns-in-Err-clause-step
@@ -19,12 +20,12 @@ index-requires g c = reached-within c.args.self.now.tables.entries.items _ _ _ c
 pub list_rows-written-requires-clause-running : goal.list_rows-written-requires-clause-running
 list_rows-written-requires-clause-running g c =
     let here : slice_get c.args.self.now.tables.entries.items c.in-Ok.at ≡ Some c.index.result.now = reached-here c.args.self.now.tables.entries.items _ _ c.in-Ok.at c.index.result.now c.in-Ok.ensures c.index.ensures in
-    c.requires.sound.running c.in-Ok.ensures.mounted_is c.in-Ok.at c.index.result.now here
+    runs-unlogged c.table-table.result.now c.index.result.now c.table-table.ensures (c.requires.sound.running c.in-Ok.ensures.mounted_is c.in-Ok.at c.index.result.now here)
 
 pub list_rows-written-requires-clause-lies : goal.list_rows-written-requires-clause-lies
 list_rows-written-requires-clause-lies g c =
     let here : slice_get c.args.self.now.tables.entries.items c.in-Ok.at ≡ Some c.index.result.now = reached-here c.args.self.now.tables.entries.items _ _ c.in-Ok.at c.index.result.now c.in-Ok.ensures c.index.ensures in
-    c.requires.sound.lie c.in-Ok.at c.index.result.now here
+    lies-unlogged c.table-table.result.now c.index.result.now c.table-table.ensures (c.requires.sound.lie c.in-Ok.at c.index.result.now here)
 
 pub returns-clause-goes : goal.returns-clause-goes
 returns-clause-goes g c = goes-reads _ _ c.list_rows-written.ensures.counts
@@ -40,7 +41,7 @@ returns-clause-step g c = λ config old h.
     let after : c.work.result.reads ≡ c.list_rows-written.new.flash.work.reads = ap (λ (w : Work). w.reads) c.work.ensures in
     let reads : c.saturating_sub-reads.result ≡ c.list_rows-written.new.flash.work.reads - c.args.self.now.flash.work.reads = omega (arith, c.saturating_sub-reads.ensures, before, after) in
     let here : slice_get c.args.self.now.tables.entries.items c.in-Ok.at ≡ Some c.index.result.now = reached-here c.args.self.now.tables.entries.items _ _ c.in-Ok.at c.index.result.now c.in-Ok.ensures c.index.ensures in
-    scan-executes _ config old _ c.in-Ok.at c.index.result.now c.args.name _ _ _ _ _ c.args.range c.args.span _ _ _ h c.in-Ok.ensures here c.list_rows-written.ensures.counts
+    scan-executes _ config old _ c.in-Ok.at c.index.result.now c.table-table.result.now c.args.name _ _ _ _ _ c.args.range c.args.span _ _ _ h c.in-Ok.ensures here c.table-table.ensures c.list_rows-written.ensures.counts
     (has-read _ _ c.list_rows-written.ensures.counts _ small reads) reads c.list_rows-written.ensures.scans
 
 pub returns-in-Err-clause-cause : goal.returns-in-Err-clause-cause

@@ -1,10 +1,14 @@
-use Rattle.std.proofs.Common.{◌≡◌, ◌^◌, ◌<◌, ◌≤◌, length, Some, rules, refl, ap, map, [], ◌∷◌, arith, inl, inr}
+use Rattle.std.proofs.Common.{◌≡◌, ◌^◌, ◌<◌, ◌≤◌, length, Some, rules, refl, sym, ◌∙◌, ap, map, [], ◌∷◌, arith, inl, inr}
 use Rattle.std.specs.List.{slice_get}
 use Rattle.fl_flash.specs.declared.flash.Work.{Work}
 use Rattle.fl_model.specs.Operators as operators
+use Rattle.fl_model.specs.Record.{Record}
 use Rattle.fl_table.specs.Look.{layout_in}
+use Rattle.fl_table.specs.declared.table.Table.{Table}
 use Rattle.fl_words.specs.Command as words
+use Rattle.fl_words.specs.Reply.{Reply}
 use Rattle.fl_machine.specs.Step.{note_of, records_of}
+use Rattle.fl_session.specs.Asked.{lacked_column}
 use Rattle.fl_session.proofs.Answering.{step-is}
 use Rattle.fl_session.proofs.Costing.{has-read}
 use Rattle.fl_session.proofs.Getting.{goes-reads}
@@ -12,6 +16,8 @@ use Rattle.fl_session.proofs.Owning.{reached-here, reached-within}
 use Rattle.fl_session.proofs.Sound.{sound-roomed}
 use Rattle.fl_session.proofs.Operations.{operator-executes, operator-no_column, operator-refused, has-column, lacks-column}
 use Rattle.fl_session.proofs.Causing.{refusal-says, says-written, is-here, only-looks, lacks-one, lacks-says, has-one, has-says}
+use Rattle.fl_session.proofs.Tables.{lies-unlogged, runs-unlogged}
+use Rattle.fl_session.proofs.Unlogged.{notes-bare}
 use Rattle.fl_session.proofs.session.Session.select.Goals as goal
 
 pub returns-in-Err-clause-step : goal.returns-in-Err-clause-step
@@ -24,27 +30,28 @@ returns-in-Err-clause-step g c = λ config old h.
 
 pub returns-then-columns-comparison-clause-step : goal.returns-then-columns-comparison-clause-step
 returns-then-columns-comparison-clause-step g c = λ config old h.
-    let beyond : length (layout_in c.index.result.now.table).columns < c.args.comparison.column = search rules in
+    let beyond : length (layout_in c.table-table.result.now).columns < c.args.comparison.column = search rules in
     let here : slice_get c.args.self.now.tables.entries.items c.in-Ok.at ≡ Some c.index.result.now = reached-here c.args.self.now.tables.entries.items _ _ c.in-Ok.at c.index.result.now c.in-Ok.ensures c.index.ensures in
     operator-no_column _ config old _ c.args.name _ _ _
     (λ name. words.Select name c.args.range c.args.comparison.column c.args.comparison.op c.args.comparison.value) (c.args.comparison.column ∷ []) c.args.range
     (λ at. map (note_of at.plan) (operators.select c.args.comparison.column c.args.comparison.op c.args.comparison.value (records_of c.args.range at))) _ _ _
     (λ at moment is w. step-is config old moment (words.Select at c.args.range c.args.comparison.column c.args.comparison.op c.args.comparison.value) is w) (λ now moment read. read)
-    c.in-Ok.at c.index.result.now (λ moment read. read) h c.in-Ok.ensures here c.args.comparison.column (λ first plan planned. lacks-column c.index.result.now.table first plan _ beyond planned) c.write_reply-then-columns-comparison.ensures.text
+    c.in-Ok.at c.index.result.now c.table-table.result.now (λ moment read. read) h c.in-Ok.ensures here c.table-table.ensures c.args.comparison.column (λ first plan planned. lacks-column c.table-table.result.now first plan _ beyond planned) c.write_reply-then-columns-comparison.ensures.text
 
 pub returns-clause-step : goal.returns-clause-step
 returns-clause-step g c = λ config old h.
     let before : c.work-before.result.reads ≡ c.args.self.now.flash.work.reads = ap (λ (w : Work). w.reads) c.work-before.ensures in
     let fits : c.work-before.result.reads < 2 ^ 64 = search rules in
     let small : c.args.self.now.flash.work.reads < 2 ^ 64 = omega (arith, fits, before) in
-    let within : c.args.comparison.column ≤ length (layout_in c.index.result.now.table).columns = search rules in
+    let within : c.args.comparison.column ≤ length (layout_in c.table-table.result.now).columns = search rules in
     let here : slice_get c.args.self.now.tables.entries.items c.in-Ok.at ≡ Some c.index.result.now = reached-here c.args.self.now.tables.entries.items _ _ c.in-Ok.at c.index.result.now c.in-Ok.ensures c.index.ensures in
     operator-executes _ config old _ c.args.name _ _ _
     (λ name. words.Select name c.args.range c.args.comparison.column c.args.comparison.op c.args.comparison.value) (c.args.comparison.column ∷ []) c.args.range
     (λ at. map (note_of at.plan) (operators.select c.args.comparison.column c.args.comparison.op c.args.comparison.value (records_of c.args.range at))) _ _ _
     (λ at moment is w. step-is config old moment (words.Select at c.args.range c.args.comparison.column c.args.comparison.op c.args.comparison.value) is w) (λ now moment read. read)
-    c.in-Ok.at c.index.result.now _ _ (λ moment read. read) h c.in-Ok.ensures here c.select.ensures.reads_only (has-read _ _ c.select.ensures.reads_only _ small refl)
-    (λ first plan planned. has-column c.index.result.now.table first plan _ within planned)
+    c.in-Ok.at c.index.result.now c.table-table.result.now _ _ (λ moment read. read) h c.in-Ok.ensures here c.table-table.ensures c.select.ensures.reads_only (has-read _ _ c.select.ensures.reads_only _ small refl)
+    (λ plan table. ap (λ (note : Record → Reply). map note (operators.select c.args.comparison.column c.args.comparison.op c.args.comparison.value (records_of c.args.range (record { place = c.in-Ok.at; plan = plan; table = table })))) (notes-bare plan))
+    (λ first plan planned. has-column c.table-table.result.now first plan _ within planned)
     c.select.ensures.counted
 
 pub index-requires : goal.index-requires
@@ -53,12 +60,15 @@ index-requires g c = reached-within c.args.self.now.tables.entries.items _ _ _ c
 pub select-requires-clause-running : goal.select-requires-clause-running
 select-requires-clause-running g c =
     let here : slice_get c.args.self.now.tables.entries.items c.in-Ok.at ≡ Some c.index.result.now = reached-here c.args.self.now.tables.entries.items _ _ c.in-Ok.at c.index.result.now c.in-Ok.ensures c.index.ensures in
-    c.requires.sound.running c.in-Ok.ensures.mounted_is c.in-Ok.at c.index.result.now here
+    runs-unlogged c.table-table.result.now c.index.result.now c.table-table.ensures (c.requires.sound.running c.in-Ok.ensures.mounted_is c.in-Ok.at c.index.result.now here)
 
 pub select-requires-clause-lies : goal.select-requires-clause-lies
 select-requires-clause-lies g c =
     let here : slice_get c.args.self.now.tables.entries.items c.in-Ok.at ≡ Some c.index.result.now = reached-here c.args.self.now.tables.entries.items _ _ c.in-Ok.at c.index.result.now c.in-Ok.ensures c.index.ensures in
-    c.requires.sound.lie c.in-Ok.at c.index.result.now here
+    lies-unlogged c.table-table.result.now c.index.result.now c.table-table.ensures (c.requires.sound.lie c.in-Ok.at c.index.result.now here)
+
+pub returns-clause-goes : goal.returns-clause-goes
+returns-clause-goes g c = goes-reads _ _ c.select.ensures.reads_only
 
 pub returns-clause-sound : goal.returns-clause-sound
 returns-clause-sound g c = sound-roomed c.args.self.now.tables.entries.items _ _ _ _ _ _ (goes-reads _ _ c.select.ensures.reads_only) c.select.ensures.room c.requires.sound
@@ -69,16 +79,16 @@ returns-in-Err-clause-cause g c = inl (says-written _ _ _ _ _ _ (refusal-says _ 
 pub returns-then-columns-comparison-clause-cause : goal.returns-then-columns-comparison-clause-cause
 returns-then-columns-comparison-clause-cause g c =
     let here : slice_get c.args.self.now.tables.entries.items c.in-Ok.at ≡ Some c.index.result.now = reached-here c.args.self.now.tables.entries.items _ _ c.in-Ok.at c.index.result.now c.in-Ok.ensures c.index.ensures in
-    let beyond : length (layout_in c.index.result.now.table).columns < c.args.comparison.column = search rules in
+    let beyond : length (layout_in c.table-table.result.now).columns < c.args.comparison.column = search rules in
     inr (
       c.in-Ok.at,
       c.index.result.now,
       is-here _ c.args.name c.in-Ok.at c.index.result.now c.in-Ok.ensures here,
-      lacks-says _ _ _ _ _ _ _ c.args.comparison.column (lacks-one (layout_in c.index.result.now.table) c.args.comparison.column beyond) refl c.write_reply-then-columns-comparison.ensures.text,
+      lacks-says _ _ _ _ _ _ _ c.args.comparison.column (sym (ap (λ (t : Table 64 64). lacked_column (layout_in t) (c.args.comparison.column ∷ [])) c.table-table.ensures) ∙ lacks-one (layout_in c.table-table.result.now) c.args.comparison.column beyond) refl c.write_reply-then-columns-comparison.ensures.text,
     )
 
 pub returns-clause-cause : goal.returns-clause-cause
 returns-clause-cause g c =
     let here : slice_get c.args.self.now.tables.entries.items c.in-Ok.at ≡ Some c.index.result.now = reached-here c.args.self.now.tables.entries.items _ _ c.in-Ok.at c.index.result.now c.in-Ok.ensures c.index.ensures in
-    let within : c.args.comparison.column ≤ length (layout_in c.index.result.now.table).columns = search rules in
-    inr (c.in-Ok.at, c.index.result.now, is-here _ c.args.name c.in-Ok.at c.index.result.now c.in-Ok.ensures here, has-says _ _ _ _ _ _ _ (has-one (layout_in c.index.result.now.table) c.args.comparison.column within) (only-looks _ _ _ _ _ _ _ refl c.select.ensures.reads_only))
+    let within : c.args.comparison.column ≤ length (layout_in c.table-table.result.now).columns = search rules in
+    inr (c.in-Ok.at, c.index.result.now, is-here _ c.args.name c.in-Ok.at c.index.result.now c.in-Ok.ensures here, has-says _ _ _ _ _ _ _ (sym (ap (λ (t : Table 64 64). lacked_column (layout_in t) (c.args.comparison.column ∷ [])) c.table-table.ensures) ∙ has-one (layout_in c.table-table.result.now) c.args.comparison.column within) (only-looks _ _ _ _ _ _ _ refl c.select.ensures.reads_only))

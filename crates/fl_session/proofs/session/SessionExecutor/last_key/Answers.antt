@@ -14,4 +14,4 @@ index-requires g c = reached-within c.args.self.now.tables.entries.items _ _ _ c
 pub returns : goal.returns
 returns g c = λ config m h.
     let here : slice_get c.args.self.now.tables.entries.items c.in-Ok.at ≡ Some c.index.result.now = reached-here c.args.self.now.tables.entries.items _ _ c.in-Ok.at c.index.result.now c.in-Ok.ensures c.index.ensures in
-    last-told config m c.args.self.now.tables.entries.items c.args.self.now.notes _ c.args.self.now.mounted c.args.name c.in-Ok.at c.index.result.now c.last_key.result h c.in-Ok.ensures here c.last_key.ensures.stands
+    last-told config m c.args.self.now.tables.entries.items c.args.self.now.notes _ c.args.self.now.mounted c.args.name c.in-Ok.at c.index.result.now c.table.result.now c.last_key.result h c.in-Ok.ensures here c.table.ensures c.last_key.ensures.stands

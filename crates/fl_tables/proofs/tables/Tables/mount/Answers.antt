@@ -6,16 +6,17 @@ use Rattle.fl_base.specs.declared.types.Geometry.{Geometry}
 use Rattle.fl_flash.specs.Flash.{page_at}
 use Rattle.fl_ring.specs.Step.{IsWatched}
 use Rattle.fl_table.specs.Mounting.{FewRepairs}
-use Rattle.fl_tables.specs.Mounting.{MountsInTurn, OutsideStands, rings_of}
+use Rattle.fl_table.proofs.MountJoined.{mount-cause-later}
+use Rattle.fl_tables.specs.Mounting.{AreUnlogged, MountsInTurn, OutsideStands, rings_of}
 use Rattle.fl_tables.specs.Tables.{first_of}
 use Rattle.fl_tables.specs.declared.tables.Entry.{Entry}
-use Rattle.fl_tables.proofs.InTurn.{turn-before, turn-more, turn-on, repairs-none, repairs-more, outside-none, outside-more}
+use Rattle.fl_tables.proofs.InTurn.{turn-before, turn-more, repairs-none, repairs-more, outside-none, outside-more}
 use Rattle.fl_tables.proofs.Going.{goes-same, goes-on, rose-front, rose-back}
 use Rattle.fl_tables.proofs.Lying.{lie-with, running-more}
 use Rattle.fl_tables.proofs.MountedSoFar.{mounted-none, mounted-more, mounted-err, mounted-all, own, was, was_at, stood}
-use Rattle.fl_tables.proofs.TableRepairs.{repaired-none, repaired-more}
+use Rattle.fl_tables.proofs.TableRepairs.{known-before, known-there, left-next, left-none}
 use Rattle.fl_tables.proofs.TablesReads.{reads-more, reads-most, limit-more, limit-most}
-use Rattle.fl_tables.proofs.Stopping.{name-after, stops-at, fails-for}
+use Rattle.fl_tables.proofs.Stopping.{name-after, stops-at}
 use Rattle.fl_tables.proofs.TablesChanged.{item-there, set-elsewhere}
 use Rattle.fl_tables.proofs.tables.Tables.mount.Goals as goal
 
@@ -26,13 +27,14 @@ loop-i-init g c = record {
   same_room = refl;
   as_many = refl;
   goes = goes-same _;
+  power = λ on. on;
   running = λ j entry lt e. absurd (omega (arith, lt));
   ahead = λ j le. refl;
   reads = λ told. omega arith;
   in_turn = λ told. refl;
-  repairs = repairs-none c.args.self.now.entries.items (g.F.Flash.state c.args.flash.now);
+  repairs = λ unlogged. repairs-none c.args.self.now.entries.items (g.F.Flash.state c.args.flash.now);
   outside = λ told. outside-none c.args.self.now.entries.items (page_at (g.F.Flash.state c.args.flash.now));
-  repaired = λ told plans tables stand. repaired-none plans (g.F.Flash.state c.args.flash.now);
+  leaves = λ told plans tables stand known. left-none plans (g.F.Flash.state c.args.flash.now).geometry (page_at (g.F.Flash.state c.args.flash.now));
   so_far = λ plans tables rose device told on counts stand risen. (mounted-none plans tables rose device c.args.self.now.entries.items (g.F.Flash.state c.args.flash.now) counts on stand, omega arith);
 }
 
@@ -127,10 +129,7 @@ returns-in-Err-clause-outside g c = λ told.
 
 pub returns-in-Err-clause-cause : goal.returns-in-Err-clause-cause
 returns-in-Err-clause-cause g c =
-    let f = g.F.Flash.state c.args.flash.now in
-    let m = g.F.Flash.state c.loop-i.flash in
-    let i = c.loop-i.invariant in
-    fails-for f m (g.F.Flash.state c.mount.new.flash) c.in-Err.fault i.goes (λ told. turn-on c.loop-i.i c.args.self.now.entries.items c.loop-i.self.entries.items f m (i.in_turn told)) c.in-Err.ensures.cause
+    mount-cause-later (g.F.Flash.state c.args.flash.now) (g.F.Flash.state c.loop-i.flash) (g.F.Flash.state c.mount.new.flash) c.loop-i.invariant.goes c.loop-i.invariant.power c.in-Err.fault c.in-Err.ensures.cause
 
 pub loop-i-preserved : goal.loop-i-preserved
 loop-i-preserved g c =
@@ -148,6 +147,7 @@ loop-i-preserved g c =
       same_room = p.room ∙ i.same_room;
       as_many = length-set c.loop-i.self.entries.items c.loop-i.i (record { name = c.index_mut.result.now.name; table = c.mount.new.self }) ∙ i.as_many;
       goes = goes-on f m n i.goes p.goes;
+      power = λ on. c.in_default.ensures.power (i.power on);
       running = running-more c.loop-i.self.entries.items c.loop-i.i c.index_mut.result.now c.mount.new.self here i.running c.in_default.ensures.mounted;
       ahead = λ j le. set-elsewhere c.loop-i.self.entries.items c.loop-i.i j (record { name = c.index_mut.result.now.name; table = c.mount.new.self }) (λ is. absurd (omega (arith, le, is))) ∙ i.ahead j (omega (arith, le));
       reads = λ told. reads-more c.args.self.now.entries.items c.loop-i.i c.index_mut.result.now f m n was_here (i.reads told) (p.reads (subst IsTrue (sym i.goes.tells) told));
@@ -155,9 +155,13 @@ loop-i-preserved g c =
           (c.in_default.ensures.found (subst IsTrue (sym i.goes.tells) told)) (i.in_turn told);
       repairs = repairs-more c.args.self.now.entries.items c.loop-i.i c.index_mut.result.now f m n was_here i.repairs p.repairs;
       outside = λ told. outside-more c.args.self.now.entries.items c.loop-i.i c.index_mut.result.now (page_at f) (page_at m) (page_at n) was_here (i.outside told) (p.outside (subst IsTrue (sym i.goes.tells) told));
-      repaired = λ told plans tables stand.
-          repaired-more plans tables c.args.self.now.entries.items c.loop-i.i c.index_mut.result.now c.mount.new.self f m n c.in_default.field-0 stand was_here i.goes told
-          (c.in_default.ensures.found (subst IsTrue (sym i.goes.tells) told)) (i.repaired told plans tables stand);
+      leaves = λ told plans tables stand known.
+          left-next plans tables c.args.self.now.entries.items c.loop-i.i c.index_mut.result.now f m n stand was_here (i.leaves told plans tables stand (known-before c.args.self.now.entries.items f m n p.goes known))
+          (λ plan table. c.in_default.ensures.leaves (subst IsTrue (sym i.goes.tells) told) (first_of plans c.loop-i.i) plan table
+          (known-there c.args.self.now.entries.items c.loop-i.i c.index_mut.result.now f m n was_here
+          (λ rose device w.
+          let so_far = (i.so_far plans tables rose device w.told w.on w.counts stand (λ r. w.risen (rose-front f.media.faults m.media.faults n.media.faults p.goes.faults r))).0 in
+          (so_far.now, record { told = subst IsTrue (sym i.goes.tells) w.told; on = so_far.power; risen = λ r. w.risen (rose-back f.media.faults m.media.faults n.media.faults i.goes.faults r); counts = so_far.counts })) known));
       so_far = λ plans tables rose device told on counts stand risen.
           let told' : IsTrue m.media.tells = subst IsTrue (sym i.goes.tells) told in
           let first = i.so_far plans tables rose device told on counts stand (λ r. risen (rose-front f.media.faults m.media.faults n.media.faults p.goes.faults r)) in
@@ -196,7 +200,7 @@ returns-clause-found g c = λ told.
 pub returns-clause-repairs : goal.returns-clause-repairs
 returns-clause-repairs g c =
     let all : c.loop-i.i ≡ length c.args.self.now.entries.items = omega (arith, c.loop-i-test.false, c.loop-i.auto.i-end, c.len-i-end.ensures, c.args.self.now.entries.ok.0) in
-    subst (λ (es : List Entry). FewRepairs (rings_of es) (g.F.Flash.state c.args.flash.now) (g.F.Flash.state c.loop-i.flash)) (take_all c.loop-i.i c.args.self.now.entries.items (omega (arith, all))) c.loop-i.invariant.repairs
+    subst (λ (es : List Entry). AreUnlogged es → FewRepairs (rings_of es) (g.F.Flash.state c.args.flash.now) (g.F.Flash.state c.loop-i.flash)) (take_all c.loop-i.i c.args.self.now.entries.items (omega (arith, all))) c.loop-i.invariant.repairs
 
 pub returns-clause-outside : goal.returns-clause-outside
 returns-clause-outside g c = λ told.
@@ -216,4 +220,7 @@ pub returns-clause-reads : goal.returns-clause-reads
 returns-clause-reads g c = λ told. reads-most c.args.self.now.entries.items c.loop-i.i (g.F.Flash.state c.args.flash.now) (g.F.Flash.state c.loop-i.flash) (c.loop-i.invariant.reads told)
 
 pub returns-clause-repaired : goal.returns-clause-repaired
-returns-clause-repaired g c = λ told plans tables stand page within. (c.loop-i.invariant.repaired told plans tables stand).each page
+returns-clause-repaired g c = λ told plans tables stand known page within. (c.loop-i.invariant.leaves told plans tables stand known).each page
+
+pub returns-clause-power : goal.returns-clause-power
+returns-clause-power g c = c.loop-i.invariant.power

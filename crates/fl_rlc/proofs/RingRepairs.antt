@@ -17,7 +17,7 @@ use Rattle.fl_ring.specs.declared.ring.Ring.{Ring}
 use Rattle.fl_ring.proofs.Founds.{same_pages}
 use Rattle.fl_ring.proofs.Readings.{goes_more, goes_same}
 use Rattle.fl_ring.proofs.TornPages.{torn_there}
-use Rattle.fl_tables.specs.Repaired.{IsRepaired}
+use Rattle.fl_rlc.specs.Left.{IsRepaired}
 
 -- each page is repaired, and the pages before `begin` and from `end` on stand
 pub record Repairs (size begin end : ℕ) (old new : ℕ → List ℕ) : Type 0 where

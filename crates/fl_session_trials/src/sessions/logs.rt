@@ -1,0 +1,104 @@
+// Tables with logs: a record whose put was answered `ok` survives the next cut.
+use super::*;
+
+const LOGGED: &str = "device 128 4\ntable t 8 i32 3 0 0 0 0 1 1 0 rlc 3\n";
+
+/// The bytes of the medium that `LOGGED` makes: a header, and 24 pages.
+const LOGGED_ROOM: usize = 4096;
+
+fn logged_medium(alloc: Global) -> Result<MemMedia, Fail> {
+    Ok(MemMedia::new(alloc, Vec::new(alloc), LOGGED_ROOM)?)
+}
+
+/// Three records that no flush has written are there after a mount, which writes a page of them.
+const THREE: Talk = &[
+    ("mount", "ok"),
+    ("put t 1 0", "ok"),
+    ("put t 2 0", "ok"),
+    ("put t 3 0", "ok"),
+    (
+        "stat t",
+        "stat rows 3 pending 3 pages 0 voids 0 programs 6 erases 0",
+    ),
+    ("off", "ok"),
+    ("mount", "ok"),
+    ("scan t 0 100", "row 1 0\nrow 2 0\nrow 3 0\nend 3"),
+    (
+        "stat t",
+        "stat rows 3 pending 0 pages 1 voids 0 programs 8 erases 0",
+    ),
+];
+
+/// The put that is cut: its record is there where the mark of the log's page is.
+#[test]
+fn puts_that_are_cut(rt: HostRuntime) -> Result<(), Fail> {
+    let alloc = rt.alloc();
+    let without: Talk = &[
+        ("put t 4 0", "ok"),
+        ("cut 1 half", "ok"),
+        ("put t 5 0", "power lost"),
+        ("mount", "ok"),
+        ("scan t 4 100", "row 4 0\nend 1"),
+    ];
+    let with: Talk = &[
+        ("put t 4 0", "ok"),
+        ("cut 2 after", "ok"),
+        ("put t 5 0", "power lost"),
+        ("mount", "ok"),
+        ("scan t 4 100", "row 4 0\nrow 5 0\nend 2"),
+    ];
+    for after in [without, with] {
+        let mut media = logged_medium(alloc)?;
+        assert!(rt; is_answered_over(alloc, LOGGED, &mut media, THREE, after)?);
+    }
+    Ok(())
+}
+
+/// A run ends with pending records, and the next one has them.
+#[test]
+fn runs_that_end(rt: HostRuntime) -> Result<(), Fail> {
+    let alloc = rt.alloc();
+    let first: Talk = &[
+        ("mount", "ok"),
+        ("put t 1 0", "ok"),
+        ("flush t", "ok"),
+        ("put t 2 7", "ok"),
+    ];
+    let second: Talk = &[
+        ("mount", "ok"),
+        ("get t 2", "row 2 7"),
+        ("put t 2 0", "refused key 2"),
+        ("scan t 0 100", "row 1 0\nrow 2 7\nend 2"),
+    ];
+    let mut media = logged_medium(alloc)?;
+    assert!(rt; is_answered_over(alloc, LOGGED, &mut media, first, &[])?);
+    assert!(rt; is_answered_over(alloc, LOGGED, &mut media, second, &[])?);
+    Ok(())
+}
+
+/// The medium fails in each of the two writes of a put: the table is to be mounted again, and has the records before.
+#[test]
+fn puts_that_fail(rt: HostRuntime) -> Result<(), Fail> {
+    let alloc = rt.alloc();
+    let good: Talk = &[("mount", "ok"), ("put t 1 0", "ok"), ("put t 2 0", "ok")];
+    let fails: Talk = &[
+        ("mount", "ok"),
+        ("put t 1 0", "ok"),
+        ("put t 2 0", "device fault"),
+        ("put t 3 0", "not mounted"),
+        ("mount", "ok"),
+        ("scan t 0 100", "row 1 0\nend 1"),
+        ("put t 3 0", "ok"),
+    ];
+    let mut media = logged_medium(alloc)?;
+    assert!(rt; is_answered_over(alloc, LOGGED, &mut media, good, &[])?);
+    let calls = media.calls();
+    assert!(rt; 2 <= calls);
+    let mut body = logged_medium(alloc)?;
+    body.fail_call(calls - 1);
+    assert!(rt; is_answered_over(alloc, LOGGED, &mut body, fails, &[])?);
+    let mut mark = logged_medium(alloc)?;
+    mark.fail_call(calls);
+    assert!(rt; is_answered_over(alloc, LOGGED, &mut mark, fails, &[])?);
+    Ok(())
+}
