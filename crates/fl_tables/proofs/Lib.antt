@@ -4,6 +4,7 @@ pub mod Apart
 pub mod Stopping
 pub mod TablesChanged
 pub mod Lying
+pub mod Planned
 pub mod Naming
 pub mod TablesMade
 pub mod MountedSoFar

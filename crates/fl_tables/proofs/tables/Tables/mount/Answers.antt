@@ -13,6 +13,7 @@ use Rattle.fl_tables.specs.declared.tables.Entry.{Entry}
 use Rattle.fl_tables.proofs.InTurn.{turn-before, turn-more, repairs-none, repairs-more, outside-none, outside-more}
 use Rattle.fl_tables.proofs.Going.{goes-same, goes-on, rose-front, rose-back}
 use Rattle.fl_tables.proofs.Lying.{lie-with, running-more}
+use Rattle.fl_tables.proofs.Planned.{plans-still, plans-with}
 use Rattle.fl_tables.proofs.MountedSoFar.{mounted-none, mounted-more, mounted-err, mounted-all, own, was, was_at, stood}
 use Rattle.fl_tables.proofs.TableRepairs.{known-before, known-there, left-next, left-none}
 use Rattle.fl_tables.proofs.TablesReads.{reads-more, reads-most, limit-more, limit-most}
@@ -26,6 +27,7 @@ loop-i-init g c = record {
   room = c.requires.room;
   same_room = refl;
   as_many = refl;
+  same = plans-still c.args.self.now.entries.items;
   goes = goes-same _;
   power = λ on. on;
   running = λ j entry lt e. absurd (omega (arith, lt));
@@ -146,6 +148,7 @@ loop-i-preserved g c =
       room = p.room ∙ (i.room ∙ ap (λ (x : Geometry). x.page) (sym p.goes.geometry));
       same_room = p.room ∙ i.same_room;
       as_many = length-set c.loop-i.self.entries.items c.loop-i.i (record { name = c.index_mut.result.now.name; table = c.mount.new.self }) ∙ i.as_many;
+      same = plans-with c.args.self.now.entries.items c.loop-i.self.entries.items c.loop-i.i c.index_mut.result.now c.mount.new.self here p.same i.same;
       goes = goes-on f m n i.goes p.goes;
       power = λ on. c.in_default.ensures.power (i.power on);
       running = running-more c.loop-i.self.entries.items c.loop-i.i c.index_mut.result.now c.mount.new.self here i.running c.in_default.ensures.mounted;
@@ -224,3 +227,12 @@ returns-clause-repaired g c = λ told plans tables stand known page within. (c.l
 
 pub returns-clause-power : goal.returns-clause-power
 returns-clause-power g c = c.loop-i.invariant.power
+
+pub returns-in-Err-clause-same : goal.returns-in-Err-clause-same
+returns-in-Err-clause-same g c =
+    let here : slice_get c.loop-i.self.entries.items c.loop-i.i ≡ Some c.index_mut.result.now =
+    item-there c.loop-i.self.entries.items (length c.loop-i.self.entries.items) c.loop-i.i c.index_mut.result.now refl (omega (arith, c.loop-i-test.true, c.len-i-end.ensures, c.args.self.now.entries.ok.0, c.loop-i.invariant.as_many)) c.index_mut.ensures.value in
+    plans-with c.args.self.now.entries.items c.loop-i.self.entries.items c.loop-i.i c.index_mut.result.now c.mount.new.self here c.mount.ensures.same c.loop-i.invariant.same
+
+pub returns-clause-same : goal.returns-clause-same
+returns-clause-same g c = c.loop-i.invariant.same

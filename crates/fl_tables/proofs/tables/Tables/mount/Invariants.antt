@@ -9,7 +9,7 @@ use Rattle.fl_model.specs.Work.{Device}
 use Rattle.fl_ring.specs.Device.{SameDevice}
 use Rattle.fl_rlc.specs.Table.{is_running}
 use Rattle.fl_table.specs.Mounting.{FewRepairs}
-use Rattle.fl_tables.specs.Mounting.{AreUnlogged, MountsInTurn, OutsideStands, rings_of}
+use Rattle.fl_tables.specs.Mounting.{AreSamePlans, AreUnlogged, MountsInTurn, OutsideStands, rings_of}
 use Rattle.fl_tables.specs.Tables.{LieOn, TablesStand, pages_of}
 use Rattle.fl_tables.specs.declared.tables.Entry.{Entry}
 use Rattle.fl_tables.proofs.MountedSoFar.{MountedSoFar}
@@ -22,6 +22,7 @@ invariant-loop-i g l = record {
   room : length l.buf.bytes ≡ (g.F.Flash.state l.flash).geometry.page;
   same_room : length l.buf.bytes ≡ length l.fn.buf.bytes;
   as_many : length l.self.entries.items ≡ length l.fn.self.entries.items;
+  same : AreSamePlans l.fn.self.entries.items l.self.entries.items;
   goes : Goes (g.F.Flash.state l.fn.flash) (g.F.Flash.state l.flash);
   power : (g.F.Flash.state l.fn.flash).is_on ≡ true → (g.F.Flash.state l.flash).is_on ≡ true;
   running : (j : ℕ) (entry : Entry) → j < l.i → slice_get l.self.entries.items j ≡ Some entry → is_running entry.table ≡ true;
