@@ -12,6 +12,7 @@ mod image;
 mod job_end;
 mod report;
 mod rings;
+mod ship_words;
 mod status;
 mod tables;
 mod values;
@@ -26,9 +27,10 @@ pub use image::config_of_image;
 pub use job_end::{JobEnd, LinesTaken};
 pub use report::{write_finding, write_rules};
 pub use rings::RingChecker;
+pub use ship_words::{ShipJob, ship_of};
 pub use status::{ToolStatus, flash_status};
 pub use values::values_of;
-pub use words::{ToolJob, tool_of};
+pub use words::{ToolJob, names_image, tool_of};
 
 #[cfg(test)]
 mod tests;

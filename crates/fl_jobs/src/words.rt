@@ -33,13 +33,14 @@ const ALL_KEYS: KeyRange = KeyRange {
     high: u64::MAX,
 };
 
-fn is_word(word: &str, wanted: &str) -> bool
+pub(crate) fn is_word(word: &str, wanted: &str) -> bool
     ensures { result ≡ bytes_equal word.now wanted.now }
 {
     word == wanted
 }
 
-fn names_image(word: &str) -> bool
+/// Whether the word can be the name of an image: it isn't empty and doesn't begin with a dash.
+pub fn names_image(word: &str) -> bool
     ensures { result ≡ is_image_name word.now }
 {
     match word.as_bytes() {
@@ -49,14 +50,14 @@ fn names_image(word: &str) -> bool
 }
 
 /// The name of a table that the word is.
-fn name(word: &str) -> Option<Name>
+pub(crate) fn name(word: &str) -> Option<Name>
     ensures { MatchOption result (grammar.is_name word.now ≡ false) (λ name. (grammar.is_name word.now ≡ true) × (name ≡ word.now)) }
 {
     Name::of(word.as_bytes())
 }
 
 /// The number that the word is. It has no sign, and `parse` takes a plus.
-fn number(word: &str) -> Option<u64>
+pub(crate) fn number(word: &str) -> Option<u64>
     ensures { MatchOption result (grammar.number word.now ≡ Err grammar.Number) (λ value. grammar.number word.now ≡ Ok value) }
 {
     if word.as_bytes().starts_with(b"+") {

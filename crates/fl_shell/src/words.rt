@@ -2,22 +2,14 @@
 ghost use Rattle.std.specs.Prelude.{◌≡◌, codes, map, string_bytes};
 ghost use Rattle.std.specs.Option.{option_copied};
 ghost use Rattle.fl_model.specs.Record.{bytes_equal};
-ghost use Rattle.fl_jobs.specs.Words.{is_image_name};
 ghost use Rattle.fl_shell.specs.Words.{shell_named};
+
+use fl_jobs::names_image;
 
 fn is_shell(word: &str) -> bool
     ensures { result ≡ bytes_equal word.now (codes "shell") }
 {
     word == "shell"
-}
-
-fn names_image(word: &str) -> bool
-    ensures { result ≡ is_image_name word.now }
-{
-    match word.as_bytes() {
-        [] => false,
-        [first, ..] => *first != b'-',
-    }
 }
 
 /// The image of the shell that the words name: `shell`, and one word that isn't empty and doesn't begin with a dash.
