@@ -3,7 +3,7 @@ mod Taking
 pub mod Lines
 mod Records
 mod Walking
-mod Reading
+pub mod Reading
 pub mod Risen
 pub mod Locating
 pub mod Images

@@ -211,7 +211,7 @@ fits-early bytes name text status (inl is) none = subst (StatusFits bytes name t
 fits-early bytes name text status (inr is) none = subst (StatusFits bytes name text text) (sym is) (inl refl)
 
 -- the first plan with a name
-find-first : (plans : List Plan) (at : ℕ) (name : List ℕ) (plan : Plan) → slice_get plans at ≡ Some plan → plan.name ≡ name → ((i : ℕ) (other : Plan) → i < at → slice_get plans i ≡ Some other → other.name ≡ name → ⊥) →
+pub find-first : (plans : List Plan) (at : ℕ) (name : List ℕ) (plan : Plan) → slice_get plans at ≡ Some plan → plan.name ≡ name → ((i : ℕ) (other : Plan) → i < at → slice_get plans i ≡ Some other → other.name ≡ name → ⊥) →
     find (λ p. bytes_equal p.name name) plans ≡ Some plan
 find-first [] at name plan e named others = absurd (none e)
   where

@@ -1,9 +1,6 @@
 -- How an import ends over a flash that stands for tables.
-use Rattle.std.proofs.Common.{◌≡◌, ℕ, ◌+◌, ◌≤◌, inl, inr, true, false, IsTrue, Option, None, Some, List, length, map, refl, sym, ◌∙◌, ap, subst, arith}
-use Rattle.std.specs.Prelude.{option_map}
+use Rattle.std.proofs.Common.{◌≡◌, ℕ, ◌+◌, inl, inr, true, false, IsTrue, Option, None, Some, List, length, refl, sym, ◌∙◌, ap, subst, arith}
 use Rattle.std.specs.List.{slice_get}
-use Rattle.std.proofs.lemmas.List.{length-map}
-use Rattle.std.proofs.lemmas.Option.{slice_get-map}
 use Rattle.fl_base.specs.Causes.{Rose}
 use Rattle.fl_export.specs.Ends.{at_rest, has_name}
 use Rattle.fl_export.specs.Tables.{mount_status}
@@ -17,25 +14,22 @@ use Rattle.fl_jobs.specs.declared.job_end.LinesTaken.{LinesTaken}
 use Rattle.fl_jobs.specs.declared.status.ToolStatus.{ToolStatus}
 use Rattle.fl_jobs.specs.declared.status.ToolStatus.TheVariants.{Done, InputRead, OutWrite, InputLong, NoMemory, NotImage, Device, BadImage, NoTable, BadInput, Unsound}
 use Rattle.fl_machine.specs.Step.{all_ready}
-use Rattle.fl_model.specs.Mount.{turns_from}
 use Rattle.fl_model.specs.Record.{Plan}
 use Rattle.fl_model.specs.Table as model
 use Rattle.fl_model.specs.Table.{lose}
-use Rattle.fl_model.specs.Within.{with_table}
-use Rattle.fl_model.proofs.Among.{changed-there, changed-elsewhere}
 use Rattle.fl_rlc.specs.Logged.{Rests, Stands}
 use Rattle.fl_rlc.specs.Table.{IsSamePlan, OutsideStands}
 use Rattle.fl_rlc.specs.declared.table.LoggedTable.{LoggedTable}
 use Rattle.fl_table.specs.declared.faults.MountFault.{MountFault}
-use Rattle.fl_tables.specs.Tables.{first_of, entries_with, IsNamed, EntryStands, TablesStand, TablesMounted, MountBreaks}
+use Rattle.fl_tables.specs.Tables.{first_of, entries_with, IsNamed, TablesStand, TablesMounted, MountBreaks}
 use Rattle.fl_tables.specs.declared.tables.Entry.{Entry}
-use Rattle.fl_tables.proofs.Going.{rose-front, planned-same}
-use Rattle.fl_tables.proofs.TablesChanged.{AtPlace, at-place, entry-off, some-is, length-changed, tables-changed}
+use Rattle.fl_tables.proofs.Going.{rose-front}
+use Rattle.fl_tables.proofs.TablesChanged.{AtPlace}
 use Rattle.fl_import.specs.Ends.{Imports, Leaves, table_after}
 use Rattle.fl_import.specs.Images.{EndsOn, told_of}
-use Rattle.fl_import.specs.Steps.{TableEnds, Works}
+use Rattle.fl_import.specs.Steps.{TableEnds}
 use Rattle.fl_import.proofs.Flushing.{flushed-whole}
-use Rattle.fl_import.proofs.Mounted.{mounts-unarmed}
+use Rattle.fl_import.proofs.Changed.{own, holds}
 
 -- the tables aren't mounted, and no byte was read
 pub unmounted : (gone : GoneBlobs) (plans : List Plan) (tables : List model.Table) (name text : List ℕ) (f g : FlashState) (told rest : Option (List ℕ)) (now : List Entry) → has_name name plans ≡ true → (bad : MountFault) (at : ℕ) → MountBreaks plans tables (has_risen f g) at_rest bad now g → rest ≡ Some text →
@@ -47,64 +41,30 @@ unmounted gone plans tables name text f g told rest now has bad at ends is =
 -- ---- the tables are mounted, and one of them was imported into
 
 module _ (plans : List Plan) (tables : List model.Table) (name text : List ℕ) (f m h : FlashState) (gone : GoneBlobs) (counts : LinesTaken) (told told_now rest : Option (List ℕ)) (entries now : List Entry) (at : ℕ) (entry : Entry) (u : LoggedTable 64 64)
-    (earlier : f.media.faults ≤ m.media.faults) (goes : Goes m h) (same : IsSamePlan entry.table u) (outside : IsTrue m.media.tells → OutsideStands entry.table (page_at m) (page_at h)) (tells : IsTrue m.media.tells)
+    (goes : Goes m h) (same : IsSamePlan entry.table u) (outside : IsTrue m.media.tells → OutsideStands entry.table (page_at m) (page_at h)) (tells : IsTrue m.media.tells)
     (stood : TablesStand f (λ i. false) plans entries tables) (named : IsNamed entries name at) (here : slice_get now at ≡ Some entry) (mt : TablesMounted plans tables (has_risen f m) at_rest now m) where
-  abbrev pub ready_tables : List model.Table
-  ready_tables = all_ready plans mt.end.tables
+  abbrev place : AtPlace m (λ i. true) plans now (all_ready plans mt.end.tables) at entry
+  place = own plans tables f m now at entry tells here mt
 
-  pub own : AtPlace m (λ i. true) plans now ready_tables at entry
-  own = at-place m (λ i. true) plans now ready_tables at entry mt.stand here
-
-  pub own-works : Works entry.table m (first_of plans at) own.plan own.table
-  own-works = record {
-    stands = own.stands.on_flash;
-    told = tells;
-    power = mt.power;
-    device = mt.end.device;
-    counts = mt.counts;
-    unarmed = mounts-unarmed plans (has_risen f m) (turns_from 0 plans) at_rest tables mt.end refl mt.did;
-  }
-
-  abbrev now_there : Entry
-  now_there = record { name = entry.name; table = u }
-
-  module _ (after : model.Table) (rests : Rests h (first_of plans at) own.plan (lose after)) where
-    left : List model.Table
-    left = with_table at ready_tables after
-
-    entry-rests : EntryStands now_there h false (first_of plans at) own.plan (lose after)
-    entry-rests = record { named = own.stands.named; geometry = own.stands.geometry ∙ sym goes.geometry; planned = planned-same entry.table u (first_of plans at) own.plan own.stands.planned same; on_flash = rests }
-
-    own-plan : (plan : Plan) → slice_get plans at ≡ Some plan → own.plan ≡ plan
-    own-plan plan e = some-is (slice_get plans at) own.plan plan own.plan_is e
-
-    pub holds : TablesStand h (λ i. false) plans (entries_with now at entry u) (map lose (with_table at ready_tables after))
-    holds = tables-changed m h (λ i. true) (λ i. false) plans now ready_tables (map lose (with_table at ready_tables after)) at entry now_there lose (lose after)
-        mt.stand here (outside tells) goes.geometry (length-map (with_table at ready_tables after) lose ∙ length-changed at after ready_tables)
-        (slice_get-map lose (with_table at ready_tables after) at ∙ ap (option_map lose) (changed-there at own.table after ready_tables own.table_is))
-        (λ i other. slice_get-map lose (with_table at ready_tables after) i ∙ ap (option_map lose) (changed-elsewhere at i after ready_tables other))
-        (λ plan e. subst (λ p. EntryStands now_there h false (first_of plans at) p (lose after)) (own-plan plan e) entry-rests)
-        (λ i plan e x other k. entry-off e h true (first_of plans i) plan x k)
-
-  imports : (Left : Plan → model.Table → model.Table → Type 0) (after : model.Table) → Left own.plan own.table after → Rests h (first_of plans at) own.plan (lose after) →
+  imports : (Left : Plan → model.Table → model.Table → Type 0) (after : model.Table) → Left place.plan place.table after → Rests h (first_of plans at) place.plan (lose after) →
       Imports plans tables name (told_of gone counts told told_now rest) f.media.faults h.media.faults (TablesStand h (λ i. false) plans (entries_with now at entry u)) Left
   imports Left after left rests =
-      let own_name = first-named plans entries (stand-named f (λ i. false) plans entries tables stood) name at named own.plan own.plan_is in
+      let own_name = first-named plans entries (stand-named f (λ i. false) plans entries tables stood) name at named place.plan place.plan_is in
       record {
         rose = has_risen f m;
         risen = λ r. rose-front f.media.faults m.media.faults h.media.faults goes.faults (risen-rose f m r);
         end = mt.end;
         did = mt.did;
-        at = record { place = at; plan = own.plan; table = own.table };
-        found = located-first plans ready_tables 0 at name own.plan own.table own.plan_is own.table_is own_name.0 own_name.1
-            ∙ ap (λ n. Some (record { place = n; plan = own.plan; table = own.table })) (let e : 0 + at ≡ at = omega arith in e);
+        at = record { place = at; plan = place.plan; table = place.table };
+        found = located-first plans (all_ready plans mt.end.tables) 0 at name place.plan place.table place.plan_is place.table_is own_name.0 own_name.1
+            ∙ ap (λ n. Some (record { place = n; plan = place.plan; table = place.table })) (let e : 0 + at ≡ at = omega arith in e);
         after = after;
         left = left;
-        holds = holds after rests;
+        holds = holds plans tables f m now at entry tells here mt h u goes same outside after rests;
       }
 
   abbrev pub Ends : ToolStatus → Type 0
-  Ends status = TableEnds (first_of plans at) own.plan own.table text u h (told_of gone counts told told_now rest) status
+  Ends status = TableEnds (first_of plans at) place.plan place.table text u h (told_of gone counts told told_now rest) status
 
   imports-so : (status : ToolStatus) → Ends status →
       Imports plans tables name (told_of gone counts told told_now rest) f.media.faults h.media.faults (TablesStand h (λ i. false) plans (entries_with now at entry u)) (λ plan table after. Leaves plan table text (told_of gone counts told told_now rest) after status)
@@ -117,10 +77,10 @@ module _ (plans : List Plan) (tables : List model.Table) (name text : List ℕ) 
   imported kept Device rises rows ends = (rises refl, inr (imports-so Device ends))
   imported kept Done rises rows ends =
       imports (λ plan table after. Leaves plan table text (told_of gone counts told told_now rest) after Done × (kept ≡ Some (length (lose after).entries))) ends.after
-      (ends.leaves, rows h (first_of plans at) own.plan ends.after refl (ends.stands refl) ∙ ap (λ n. Some n) (sym (whole ends.after ends.leaves))) ends.rests
+      (ends.leaves, rows h (first_of plans at) place.plan ends.after refl (ends.stands refl) ∙ ap (λ n. Some n) (sym (whole ends.after ends.leaves))) ends.rests
     where
-      whole : (after : model.Table) → Leaves own.plan own.table text (told_of gone counts told told_now rest) after Done → length (lose after).entries ≡ length after.entries
-      whole after leaves = subst (λ (t : model.Table). length (lose t).entries ≡ length t.entries) (sym leaves.after_is) (flushed-whole own.plan (table_after gone own.plan own.table leaves.puts.taken))
+      whole : (after : model.Table) → Leaves place.plan place.table text (told_of gone counts told told_now rest) after Done → length (lose after).entries ≡ length after.entries
+      whole after leaves = subst (λ (t : model.Table). length (lose t).entries ≡ length t.entries) (sym leaves.after_is) (flushed-whole place.plan (table_after gone place.plan place.table leaves.puts.taken))
   imported kept InputRead rises rows ends = imports-so InputRead ends
   imported kept OutWrite rises rows ends = imports-so OutWrite ends
   imported kept InputLong rises rows ends = imports-so InputLong ends

@@ -1,10 +1,11 @@
 mod Putting
 mod Taken
-mod Failing
-mod OneLine
+pub mod Failing
+pub mod OneLine
 mod AllLines
 mod Flushing
-mod Mounted
+pub mod Mounted
+pub mod Changed
 mod Importing
-mod Closing
-mod Others
+pub mod Closing
+pub mod Others

@@ -11,7 +11,8 @@ use Rattle.fl_tables.proofs.Going.{goes-on, rose-back}
 use Rattle.fl_tables.proofs.TablesChanged.{item-there}
 use Rattle.fl_import.specs.Images.{EndsOn, HasCauses, told_of}
 use Rattle.fl_import.specs.Taking.{EndedOver}
-use Rattle.fl_import.proofs.Importing.{unmounted, own, own-works, imported}
+use Rattle.fl_import.proofs.Changed.{own, own-works}
+use Rattle.fl_import.proofs.Importing.{unmounted, imported}
 use Rattle.fl_import.proofs.Closing.{as-end, mount-causes, mount-ended, mount-unread, of-mounted, table-bad, table-ended}
 use Rattle.fl_import.proofs.Others.{others-repaired}
 use Rattle.fl_import.proofs.import.import_on.Goals as goal
@@ -72,9 +73,9 @@ returns-clause-ends g c = λ plans ts name text tells on calm stand named forms 
     let entries = c.args.tables.now.entries.items in
     let entry = c.index_mut.result.now in
     let u = c.import_table-status.new.table in
-    let place = own plans ts name text f m h c.args.gone c.import_table-status.new.taken told told_now rest entries now c.args.at entry u c.mount.ensures.goes.faults e.goes e.same e.outside tell stand named here mounted in
-    let works = own-works plans ts name text f m h c.args.gone c.import_table-status.new.taken told told_now rest entries now c.args.at entry u c.mount.ensures.goes.faults e.goes e.same e.outside tell stand named here mounted in
-    imported plans ts name text f m h c.args.gone c.import_table-status.new.taken told told_now rest entries now c.args.at entry u c.mount.ensures.goes.faults e.goes e.same e.outside tell stand named here mounted c.kept_rows-kept.result c.import_table-status.result
+    let place = own plans ts f m now c.args.at entry tell here mounted in
+    let works = own-works plans ts f m now c.args.at entry tell here mounted in
+    imported plans ts name text f m h c.args.gone c.import_table-status.new.taken told told_now rest entries now c.args.at entry u e.goes e.same e.outside tell stand named here mounted c.kept_rows-kept.result c.import_table-status.result
     (λ device. rose-back f.media.faults m.media.faults h.media.faults c.mount.ensures.goes.faults (e.device device)) c.kept_rows-kept.ensures.rows
     (e.ends text (first_of plans c.args.at) place.plan place.table is (forms place.plan place.plan_is) works)
 

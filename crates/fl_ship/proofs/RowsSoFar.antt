@@ -1,0 +1,341 @@
+-- Rows that are put into the table of a copy one after another, as far as they have come.
+use Rattle.std.proofs.Common.{◌≡◌, ℕ, suc, ◌+◌, ◌-◌, ◌<◌, ◌≤◌, Bool, true, false, IsTrue, Option, Some, None, Result, Ok, Err, List, [], ◌∷◌, ◌++◌, length, take, drop, refl, sym, ◌∙◌, ap, subst, append_assoc, append-nil, length-append, arith}
+use Rattle.std.specs.List.{slice_get}
+use Rattle.std.proofs.Math.Seq.{take-append-add}
+use Rattle.std.proofs.lemmas.List.{map-append, map_push, take_at, take_all, drop_at, length-map, length_push, length-take}
+use Rattle.std.proofs.lemmas.Bool.{ltb-true}
+use Rattle.std.proofs.lemmas.Option.{same_Some}
+use Rattle.fl_export.proofs.Risen.{has_risen, watched}
+use Rattle.fl_flash.specs.Flash.{FlashState, Goes}
+use Rattle.fl_flash.specs.declared.flash.FlashFault.TheVariants.{PowerLost, Media}
+use Rattle.fl_import.specs.Steps.{Works}
+use Rattle.fl_import.proofs.Failing.{put-work}
+use Rattle.fl_import.proofs.OneLine.{works-broken, works-uncut}
+use Rattle.fl_model.specs.Puts.{TablePuts}
+use Rattle.fl_model.specs.Query.{is_above}
+use Rattle.fl_model.specs.Record.{Record, Plan}
+use Rattle.fl_model.specs.Row.{Row}
+use Rattle.fl_model.specs.Ship.{records_in}
+use Rattle.fl_model.specs.Table as model
+use Rattle.fl_model.specs.Table.{refusal_of, put_record, lose}
+use Rattle.fl_model.specs.Work.{Device, PartProgress}
+use Rattle.fl_model.proofs.ShipWork.{drops-none}
+use Rattle.fl_ops.specs.Columns.{record_of, records_of}
+use Rattle.fl_page.specs.declared.fault.ReadFault.{ReadFault}
+use Rattle.fl_ring.specs.Device.{SameDevice}
+use Rattle.fl_ring.specs.Step.{IsWatched}
+use Rattle.fl_rlc.specs.Logged.{Rests, Stands}
+use Rattle.fl_rlc.specs.Outcomes.{PutEnds}
+use Rattle.fl_rlc.specs.Refusal.{RefusedSame}
+use Rattle.fl_rlc.specs.declared.table.LoggedTable.{LoggedTable}
+use Rattle.fl_table.specs.declared.faults.PutRefusal.{PutRefusal}
+use Rattle.fl_table.specs.declared.faults.PutRefusal.TheVariants as put
+use Rattle.fl_tables.proofs.TablesChanged.{off-rests}
+use Rattle.fl_ship.specs.Puts.{AreAccepted, ComesTo, HasPut, put_all}
+use Rattle.fl_ship.specs.Rows.{PutCausedBy, RowsKeep, RowsPut, Runs}
+use Rattle.fl_ship.specs.declared.fault.ShipFault.{ShipFault}
+use Rattle.fl_ship.specs.declared.fault.ShipFault.TheVariants.{Read, Put}
+use Rattle.fl_ship.proofs.Keeping.{keeps-some, keeps-next, keeps-lost}
+
+never : IsTrue false → ⊥
+never e = cc
+
+-- ---- one more record behind others
+
+put_all-push : (plan : Plan) (items : List Record) (item : Record) (table : model.Table) → put_all plan (items ++ item ∷ []) table ≡ put_record plan item (put_all plan items table)
+put_all-push plan [] item table = refl
+put_all-push plan (first ∷ items) item table = put_all-push plan items item (put_record plan first table)
+
+accepted-push : (plan : Plan) (items : List Record) (item : Record) (table : model.Table) → AreAccepted plan items table → refusal_of plan (put_all plan items table) item ≡ None → AreAccepted plan (items ++ item ∷ []) table
+accepted-push plan [] item table accepted own = (own, tt)
+accepted-push plan (first ∷ items) item table accepted own = (accepted.0, accepted-push plan items item (put_record plan first table) accepted.1 own)
+
+-- what was put is a front of what was given
+has-front : (plan : Plan) (items others : List Record) (n : ℕ) (table : model.Table) → length items ≡ n → AreAccepted plan items table → HasPut plan (items ++ others) n table (put_all plan items table)
+has-front plan items others n table many accepted =
+    let front : take n (items ++ others) ≡ items = take_at items others n many in
+    record {
+      few = omega (arith, many, length-append items others);
+      accepted = subst (λ (l : List Record). AreAccepted plan l table) (sym front) accepted;
+      after_is = ap (λ (l : List Record). put_all plan l table) (sym front);
+    }
+
+has-whole : (plan : Plan) (items : List Record) (n : ℕ) (table : model.Table) → length items ≡ n → AreAccepted plan items table → HasPut plan items n table (put_all plan items table)
+has-whole plan items n table many accepted = subst (λ (l : List Record). HasPut plan l n table (put_all plan items table)) (append-nil items) (has-front plan items [] n table many accepted)
+
+next-at : (items others : List Record) (item : Record) (n : ℕ) → length items ≡ n → slice_get (items ++ item ∷ others) n ≡ Some item
+next-at items others item n many = subst (λ (k : ℕ). slice_get (items ++ item ∷ others) k ≡ Some item) many (here items)
+  where
+    here : (items : List Record) → slice_get (items ++ item ∷ others) (length items) ≡ Some item
+    here [] = refl
+    here (first ∷ items) = here items
+
+-- a key above that of the last row is above the last key
+pub above-next : (last above : Option ℕ) (key before other : ℕ) → last ≡ Some key → above ≡ Some key → last ≡ Some before → is_above above other ≡ true → before < other
+above-next last above key before other last_is above_is before_is more =
+    let same : key ≡ before = same_Some key before (sym last_is ∙ before_is) in
+    let lt = ltb-true key other (subst (λ (o : Option ℕ). is_above o other ≡ true) above_is more) in
+    omega (arith, same, lt)
+
+-- ---- some rows were put, whether a cut is armed or not
+
+pub record SoFar (first : ℕ) (plan : Plan) (table : model.Table) (done : List Record) (start : Device) (t : LoggedTable 64 64) (g : FlashState) : Type 0 where
+  pub accepted : AreAccepted plan done table
+  pub stands : Stands t g first plan (put_all plan done table)
+  pub told : IsTrue g.media.tells
+  pub power : g.is_on ≡ true
+  pub device : Device
+  pub counts : SameDevice g device
+  pub unarmed : start.armed ≡ None → device.armed ≡ None
+
+-- .. and those are left
+pub record Far (Told : Type 0) (all left : List Row) (n : ℕ) (t : LoggedTable 64 64) (g : FlashState) (u : LoggedTable 64 64) (h : FlashState) : Type 0 where
+  pub done : List Row
+  pub as_many : length done ≡ n
+  pub split : Told → all ≡ done ++ left
+  pub puts : (first : ℕ) (plan : Plan) (table : model.Table) (runs : Runs t g first plan table) → SoFar first plan table (records_of done) runs.device u h
+
+pub far-none : (Told : Type 0) (all : List Row) (t : LoggedTable 64 64) (g : FlashState) → Far Told all all 0 t g t g
+far-none Told all t g = record {
+  done = [];
+  as_many = refl;
+  split = λ told. refl;
+  puts = λ first plan table runs. record { accepted = tt; stands = runs.stands; told = runs.told; power = runs.power; device = runs.device; counts = runs.counts; unarmed = λ none. none };
+}
+
+abbrev runs-of : (t : LoggedTable 64 64) (g : FlashState) (first : ℕ) (plan : Plan) (table : model.Table) → Works t g first plan table → Runs t g first plan table
+runs-of t g first plan table works = record { stands = works.stands; told = works.told; power = works.power; device = works.device; counts = works.counts }
+
+module _ (Told : Type 0) (all left : List Row) (n count : ℕ) (t : LoggedTable 64 64) (g : FlashState) (u : LoggedTable 64 64) (h : FlashState) (far : Far Told all left n t g u h) (few : n ≤ count) where
+  many : length (records_of far.done) ≡ n
+  many = length-map far.done record_of ∙ far.as_many
+
+  -- those that were put, and some more where some are left
+  wanted-is : Told → take count (records_of all) ≡ records_of far.done ++ take (count - n) (records_of left)
+  wanted-is told =
+      ap (take count) (ap records_of (far.split told) ∙ map-append record_of far.done left)
+      ∙ (ap (λ (k : ℕ). take k (records_of far.done ++ records_of left)) (let e : count ≡ length (records_of far.done) + (count - n) = omega (arith, many, few) in e)
+      ∙ take-append-add (records_of far.done) (records_of left) (count - n))
+
+  wanted-then : Told → records_of far.done ++ drop n (take count (records_of all)) ≡ take count (records_of all)
+  wanted-then told =
+      ap (λ (l : List Record). records_of far.done ++ drop n l) (wanted-is told)
+      ∙ (ap (λ (l : List Record). records_of far.done ++ l) (drop_at (records_of far.done) (take (count - n) (records_of left)) n many) ∙ sym (wanted-is told))
+
+  -- none is left, or as many as were asked for were put
+  wanted-end : (left ≡ []) → Told → records_of far.done ≡ take count (records_of all)
+  wanted-end none told = sym (wanted-is told ∙ (ap (λ (l : List Row). records_of far.done ++ take (count - n) (records_of l)) none ∙ (ap (λ (l : List Record). records_of far.done ++ l) (take-nil (count - n)) ∙ append-nil (records_of far.done))))
+    where
+      take-nil : (k : ℕ) → take k (records_of []) ≡ []
+      take-nil k = take_all k [] (omega arith)
+
+  wanted-whole : n ≡ count → Told → records_of far.done ≡ take count (records_of all)
+  wanted-whole is told = sym (wanted-is told ∙ (ap (λ (k : ℕ). records_of far.done ++ take k (records_of left)) (let e : count - n ≡ 0 = omega (arith, is) in e) ∙ (ap (λ (l : List Record). records_of far.done ++ l) (take-zero (records_of left)) ∙ append-nil (records_of far.done))))
+    where
+      take-zero : (l : List Record) → take 0 l ≡ []
+      take-zero [] = refl
+      take-zero (item ∷ items) = refl
+
+  pub number-end : (Told → left ≡ []) → Told → n ≡ length (take count all)
+  number-end none told =
+      let is : all ≡ far.done = far.split told ∙ (ap (λ (l : List Row). far.done ++ l) (none told) ∙ append-nil far.done) in
+      sym (ap (λ (l : List Row). length (take count l)) is ∙ (ap (λ (l : List Row). length l) (take_all count far.done (omega (arith, few, far.as_many))) ∙ far.as_many))
+
+  pub number-whole : n ≡ count → Told → n ≡ length (take count all)
+  number-whole is told =
+      let size = length-append far.done left in
+      let total : length all ≡ n + length left = ap (λ (l : List Row). length l) (far.split told) ∙ omega (arith, size, far.as_many) in
+      let front = length-take count all in
+      omega (arith, front, total, is)
+
+  pub left-behind : Told → left ≡ drop n all
+  left-behind told = sym (ap (drop n) (far.split told) ∙ drop_at far.done left n far.as_many)
+
+  -- ---- where no cut is armed
+
+  module _ (first : ℕ) (plan : Plan) (table : model.Table) where
+    rests-so : {start : Device} → SoFar first plan table (records_of far.done) start u h → Rests h first plan (lose (put_all plan (records_of far.done) table))
+    rests-so so_far = off-rests u h first plan (put_all plan (records_of far.done) table) true so_far.stands
+
+    abbrev works-so : (works : Works t g first plan table) → Works u h first plan (put_all plan (records_of far.done) table)
+    works-so works =
+        let so_far = far.puts first plan table (runs-of t g first plan table works) in
+        record { stands = so_far.stands; told = so_far.told; power = so_far.power; device = so_far.device; counts = so_far.counts; unarmed = so_far.unarmed works.unarmed }
+
+    -- all are put
+    pub put-all : Works t g first plan table → (Told → records_of far.done ≡ take count (records_of all)) → RowsPut first plan table Told (take count (records_of all)) u h (Ok n)
+    put-all works are =
+        let so_far = far.puts first plan table (runs-of t g first plan table works) in
+        record {
+          given = records_of far.done;
+          are = are;
+          after = put_all plan (records_of far.done) table;
+          puts = (sym many, has-whole plan (records_of far.done) n table many so_far.accepted);
+          rests = rests-so so_far;
+          works = λ goes. works-so works;
+        }
+
+    pub put-end : Works t g first plan table → (Told → left ≡ []) → RowsPut first plan table Told (take count (records_of all)) u h (Ok n)
+    put-end works none = put-all works (λ told. wanted-end (none told) told)
+
+    pub put-whole : Works t g first plan table → n ≡ count → RowsPut first plan table Told (take count (records_of all)) u h (Ok count)
+    put-whole works is = subst (λ (k : ℕ). RowsPut first plan table Told (take count (records_of all)) u h (Ok k)) is (put-all works (wanted-whole is))
+
+    -- .. or a read failed
+    pub put-unread : Works t g first plan table → (fault : ReadFault) → RowsPut first plan table Told (take count (records_of all)) u h (Err (Read fault))
+    put-unread works fault =
+        let so_far = far.puts first plan table (runs-of t g first plan table works) in
+        record {
+          given = records_of far.done ++ drop n (take count (records_of all));
+          are = wanted-then;
+          after = put_all plan (records_of far.done) table;
+          puts = (n, has-front plan (records_of far.done) (drop n (take count (records_of all))) n table many so_far.accepted);
+          rests = rests-so so_far;
+          works = λ goes. works-so works;
+        }
+
+    -- ---- whether one is armed or not
+
+    runs-so : {start : Device} → SoFar first plan table (records_of far.done) start u h → Runs u h first plan (put_all plan (records_of far.done) table)
+    runs-so so_far = record { stands = so_far.stands; told = so_far.told; power = so_far.power; device = so_far.device; counts = so_far.counts }
+
+    pub keep-so : (result : Result ℕ ShipFault) → Runs t g first plan table → RowsKeep first plan table Told (take count (records_of all)) u h result
+    keep-so result runs =
+        let so_far = far.puts first plan table runs in
+        let given = records_of far.done ++ drop n (take count (records_of all)) in
+        let all_put = has-front plan (records_of far.done) (drop n (take count (records_of all))) n table many so_far.accepted in
+        let after = put_all plan (records_of far.done) table in
+        let keeps = keeps-some plan given table n after after all_put (drops-none (records_in after)) in
+        record {
+          given = records_of far.done ++ drop n (take count (records_of all));
+          are = wanted-then;
+          after = put_all plan (records_of far.done) table;
+          keeps = (keeps, keeps-lost (records_in table) given after keeps);
+          rests = rests-so so_far;
+          runs = λ goes. runs-so so_far;
+        }
+
+  -- ---- the next row
+
+  module _ (row : Row) (others : List Row) (v : LoggedTable 64 64) (k : FlashState) (goes : Goes h k) where
+    -- it is put
+    pub far-more : (Told → left ≡ row ∷ others) →
+        ((first : ℕ) (plan : Plan) (x : model.Table) (rose : Bool) (device : Device) → IsWatched h k rose device → Stands u h first plan x → PutEnds first plan (record_of row) x rose device (Ok tt) v h k) →
+        Far Told all others (n + 1) t g v k
+    far-more gives ends = record {
+      done = far.done ++ row ∷ [];
+      as_many = length_push far.done row ∙ ap (λ (m : ℕ). m + 1) far.as_many;
+      split = λ told. far.split told ∙ (ap (λ (l : List Row). far.done ++ l) (gives told) ∙ sym (append_assoc far.done (row ∷ []) others));
+      puts = λ first plan table runs. subst (λ (l : List Record). SoFar first plan table l runs.device v k) (sym (map_push record_of far.done row)) (one-more first plan table runs);
+    }
+      where
+        one-more : (first : ℕ) (plan : Plan) (table : model.Table) (runs : Runs t g first plan table) → SoFar first plan table (records_of far.done ++ record_of row ∷ []) runs.device v k
+        one-more first plan table runs =
+            let so_far = far.puts first plan table runs in
+            let x = put_all plan (records_of far.done) table in
+            let did = ends first plan x (has_risen h k) so_far.device (watched h k so_far.device so_far.told so_far.power so_far.counts) so_far.stands in
+            record {
+              accepted = accepted-push plan (records_of far.done) (record_of row) table so_far.accepted did.0;
+              stands = subst (λ (y : model.Table). Stands v k first plan y) (sym (put_all-push plan (records_of far.done) (record_of row) table)) did.1.stands;
+              told = subst IsTrue (sym goes.tells) so_far.told;
+              power = did.1.power;
+              device = did.1.now.device;
+              counts = did.1.counts;
+              unarmed = λ none. (put-work plan (record_of row) x (has_risen h k) so_far.device did.1.now (so_far.unarmed none) did.1.did).unarmed did.1.whole;
+            }
+
+    -- .. or not
+    module _ (gives : Told → left ≡ row ∷ others) (below : n < count) (refusal : PutRefusal) (cause : PutCausedBy h k refusal) (same : RefusedSame u h refusal v k)
+        (ends : (first : ℕ) (plan : Plan) (x : model.Table) (rose : Bool) (device : Device) → IsWatched h k rose device → Stands u h first plan x → PutEnds first plan (record_of row) x rose device (Err refusal) v h k)
+        (first : ℕ) (plan : Plan) (table : model.Table) where
+      abbrev behind : List Record
+      behind = record_of row ∷ drop (suc n) (take count (records_of all))
+
+      wanted-next : Told → records_of far.done ++ behind ≡ take count (records_of all)
+      wanted-next told =
+          let is : take count (records_of all) ≡ records_of far.done ++ record_of row ∷ take (count - n - 1) (records_of others) =
+          wanted-is told
+          ∙ ap (λ (l : List Record). records_of far.done ++ l) (ap (λ (l : List Row). take (count - n) (records_of l)) (gives told) ∙ ap (λ (m : ℕ). take m (record_of row ∷ records_of others)) (let e : count - n ≡ suc (count - n - 1) = omega (arith, below) in e)) in
+          let tail : drop (suc n) (take count (records_of all)) ≡ take (count - n - 1) (records_of others) =
+          ap (drop (suc n)) (is ∙ sym (append_assoc (records_of far.done) (record_of row ∷ []) (take (count - n - 1) (records_of others))))
+          ∙ drop_at (records_of far.done ++ record_of row ∷ []) (take (count - n - 1) (records_of others)) (suc n) (length_push (records_of far.done) (record_of row) ∙ omega (arith, many)) in
+          ap (λ (l : List Record). records_of far.done ++ record_of row ∷ l) tail ∙ sym is
+
+      abbrev x : model.Table
+      x = put_all plan (records_of far.done) table
+
+      abbrev comes : {start : Device} → SoFar first plan table (records_of far.done) start u h → ComesTo plan (records_of far.done ++ behind) table (record_of row) x
+      comes so_far = record {
+        n = n;
+        next = next-at (records_of far.done) (drop (suc n) (take count (records_of all))) (record_of row) n many;
+        has_put = has-front plan (records_of far.done) behind n table many so_far.accepted;
+      }
+
+      pub put-refused : Works t g first plan table → RowsPut first plan table Told (take count (records_of all)) v k (Err (Put refusal))
+      put-refused works = by-refusal refusal cause same (ends first plan x (has_risen h k) so_far.device (watched h k so_far.device so_far.told so_far.power so_far.counts) so_far.stands)
+        where
+          so_far : SoFar first plan table (records_of far.done) works.device u h
+          so_far = far.puts first plan table (runs-of t g first plan table works)
+
+          mid : Works u h first plan x
+          mid = works-so first plan table works
+
+          DidPut : Bool → Device → PartProgress model.Table → Type 0
+          DidPut rose device now = TablePuts plan rose (record_of row) device x now
+
+          by-refusal : (refusal : PutRefusal) → PutCausedBy h k refusal → RefusedSame u h refusal v k → PutEnds first plan (record_of row) x (has_risen h k) so_far.device (Err refusal) v h k →
+              RowsPut first plan table Told (take count (records_of all)) v k (Err (Put refusal))
+          by-refusal put.Spent cause same ends = record {
+            given = records_of far.done ++ behind;
+            are = wanted-next;
+            after = x;
+            puts = (record_of row, comes so_far, ends);
+            rests = subst (λ (f : FlashState). Rests f first plan (lose x)) (sym same.1) (rests-so first plan table so_far);
+            works = λ goes. subst (λ (f : FlashState). Works v f first plan x) (sym same.1) (subst (λ (w : LoggedTable 64 64). Works w h first plan x) (sym same.0) mid);
+          }
+          by-refusal (put.Flash Media) cause same ends =
+              let broken = works-broken first plan x u v h k mid DidPut (put-work plan (record_of row) x) Media ends.1 in
+              record {
+                given = records_of far.done ++ behind;
+                are = wanted-next;
+                after = broken.after;
+                puts = (record_of row, (x, comes so_far, ends.0, broken.fails));
+                rests = broken.rests;
+                works = λ goes. absurd (never goes);
+              }
+          by-refusal (put.Flash PowerLost) cause same ends = absurd (works-uncut first plan x u v h k mid DidPut (put-work plan (record_of row) x) ends.1)
+          by-refusal (put.Key last) cause same ends = absurd cause
+          by-refusal (put.Columns wanted) cause same ends = absurd cause
+          by-refusal (put.Value column) cause same ends = absurd cause
+          by-refusal (put.Blob limit) cause same ends = absurd cause
+          by-refusal put.Stopped cause same ends = absurd cause
+
+      pub keep-refused : Runs t g first plan table → RowsKeep first plan table Told (take count (records_of all)) v k (Err (Put refusal))
+      keep-refused runs = by-refusal refusal cause same (ends first plan x (has_risen h k) so_far.device (watched h k so_far.device so_far.told so_far.power so_far.counts) so_far.stands)
+        where
+          so_far : SoFar first plan table (records_of far.done) runs.device u h
+          so_far = far.puts first plan table runs
+
+          by-refusal : (refusal : PutRefusal) → PutCausedBy h k refusal → RefusedSame u h refusal v k → PutEnds first plan (record_of row) x (has_risen h k) so_far.device (Err refusal) v h k →
+              RowsKeep first plan table Told (take count (records_of all)) v k (Err (Put refusal))
+          by-refusal put.Spent cause same ends =
+              subst (λ (f : FlashState). RowsKeep first plan table Told (take count (records_of all)) v f (Err (Put put.Spent))) (sym same.1)
+              (subst (λ (w : LoggedTable 64 64). RowsKeep first plan table Told (take count (records_of all)) w h (Err (Put put.Spent))) (sym same.0) (keep-so first plan table (Err (Put put.Spent)) runs))
+          by-refusal (put.Flash fault) cause same ends =
+              let given = records_of far.done ++ behind in
+              let b = ends.1 in
+              let c = comes so_far in
+              let keeps = keeps-next plan given table n (record_of row) x c.next c.has_put (has_risen h k) so_far.device b.now b.did in
+              record {
+                given = records_of far.done ++ behind;
+                are = wanted-next;
+                after = b.now.state;
+                keeps = (keeps, keeps-lost (records_in table) given b.now.state keeps);
+                rests = b.rests;
+                runs = λ goes. absurd (never goes);
+              }
+          by-refusal (put.Key last) cause same ends = absurd cause
+          by-refusal (put.Columns wanted) cause same ends = absurd cause
+          by-refusal (put.Value column) cause same ends = absurd cause
+          by-refusal (put.Blob limit) cause same ends = absurd cause
+          by-refusal put.Stopped cause same ends = absurd cause

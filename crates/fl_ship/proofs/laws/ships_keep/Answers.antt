@@ -1,0 +1,5 @@
+use Rattle.fl_ship.proofs.Keeping.{ships-keep}
+use Rattle.fl_ship.proofs.laws.ships_keep.Goals as goal
+
+pub returns : goal.returns
+returns c = ships-keep

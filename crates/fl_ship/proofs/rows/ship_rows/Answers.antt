@@ -1,0 +1,55 @@
+use Rattle.std.proofs.Common.{IsTrue, Ok, Err, refl, sym, subst}
+use Rattle.std.proofs.lemmas.Result.{err_from_is_err_and}
+use Rattle.fl_flash.specs.Flash.{page_at}
+use Rattle.fl_tables.proofs.Outsides.{outside-then}
+use Rattle.fl_ship.proofs.Flushing.{flush-stops, ship-done, ship-unput, ship-unflushed, keep-flushed}
+use Rattle.fl_ship.proofs.rows.ship_rows.Goals as goal
+
+pub returns-in_err-shipped-clause-ships : goal.returns-in_err-shipped-clause-ships
+returns-in_err-shipped-clause-ships g c = λ first plan t works.
+    let p = err_from_is_err_and c.from_residual.result c.from_residual.ensures.1 in
+    rw (p.1, p.2) (ship-unput first plan t _ _ c.put_rows.new.to c.put_rows.new.to (g.B.Flash.state c.put_rows.new.onto) (g.B.Flash.state c.put_rows.new.onto) c.in_err-shipped.field-0.0 (c.in_err-shipped.ensures.puts first plan t works))
+
+pub returns-in_err-shipped-clause-cut : goal.returns-in_err-shipped-clause-cut
+returns-in_err-shipped-clause-cut g c = λ first plan t runs.
+    let p = err_from_is_err_and c.from_residual.result c.from_residual.ensures.1 in
+    rw (p.1, p.2) (c.in_err-shipped.ensures.cut first plan t runs)
+
+pub returns-in_err-flush_copy-clause-ships : goal.returns-in_err-flush_copy-clause-ships
+returns-in_err-flush_copy-clause-ships g c = λ first plan t works.
+    let p = err_from_is_err_and c.from_residual-in_err-flush_copy.result c.from_residual-in_err-flush_copy.ensures.1 in
+    let rows = c.in_ok-shipped.ensures.puts first plan t works in
+    rw (p.1, p.2) (ship-unflushed first plan t _ _ c.put_rows.new.to c.flush_copy.new.to (g.B.Flash.state c.put_rows.new.onto) (g.B.Flash.state c.flush_copy.new.onto) c.in_ok-shipped.shipped rows c.in_err-flush_copy.field-0.0
+    (c.in_err-flush_copy.ensures.flushes first plan rows.after (rows.works refl)))
+
+pub returns-in_err-flush_copy-clause-cut : goal.returns-in_err-flush_copy-clause-cut
+returns-in_err-flush_copy-clause-cut g c = λ first plan t runs.
+    let p = err_from_is_err_and c.from_residual-in_err-flush_copy.result c.from_residual-in_err-flush_copy.ensures.1 in
+    let rows = c.in_ok-shipped.ensures.cut first plan t runs in
+    rw (p.1, p.2) (keep-flushed first plan t _ _ c.put_rows.new.to c.flush_copy.new.to (g.B.Flash.state c.put_rows.new.onto) (g.B.Flash.state c.flush_copy.new.onto) c.in_ok-shipped.shipped (Err c.in_err-flush_copy.field-0.0) (Err c.in_err-flush_copy.field-0.0) rows
+    (c.in_err-flush_copy.ensures.cut first plan rows.after (rows.runs refl))
+    (λ goes keep. absurd (flush-stops (g.B.Flash.state c.put_rows.new.onto) (g.B.Flash.state c.flush_copy.new.onto) c.in_err-flush_copy.field-0.0 c.in_err-flush_copy.ensures.cause goes)))
+
+pub returns-in_err-flush_copy-clause-outside : goal.returns-in_err-flush_copy-clause-outside
+returns-in_err-flush_copy-clause-outside g c = λ tells.
+    let p = c.put_rows.ensures in
+    outside-then c.args.to.now c.put_rows.new.to (page_at (g.B.Flash.state c.args.onto.now)) (page_at (g.B.Flash.state c.put_rows.new.onto)) (page_at (g.B.Flash.state c.flush_copy.new.onto)) p.same (p.outside tells)
+    (c.flush_copy.ensures.outside (subst IsTrue (sym p.goes.tells) tells))
+
+pub returns-clause-ships : goal.returns-clause-ships
+returns-clause-ships g c = λ first plan t works.
+    let rows = c.in_ok-shipped.ensures.puts first plan t works in
+    ship-done first plan t _ _ c.put_rows.new.to c.flush_copy.new.to (g.B.Flash.state c.put_rows.new.onto) (g.B.Flash.state c.flush_copy.new.onto) c.in_ok-shipped.shipped rows
+    (c.in_ok-flush_copy.ensures.flushes first plan rows.after (rows.works refl))
+
+pub returns-clause-cut : goal.returns-clause-cut
+returns-clause-cut g c = λ first plan t runs.
+    let rows = c.in_ok-shipped.ensures.cut first plan t runs in
+    keep-flushed first plan t _ _ c.put_rows.new.to c.flush_copy.new.to (g.B.Flash.state c.put_rows.new.onto) (g.B.Flash.state c.flush_copy.new.onto) c.in_ok-shipped.shipped (Ok c.in_ok-flush_copy.field-0) (Ok c.in_ok-shipped.shipped) rows
+    (c.in_ok-flush_copy.ensures.cut first plan rows.after (rows.runs refl)) (λ goes keep. keep.runs)
+
+pub returns-clause-outside : goal.returns-clause-outside
+returns-clause-outside g c = λ tells.
+    let p = c.put_rows.ensures in
+    outside-then c.args.to.now c.put_rows.new.to (page_at (g.B.Flash.state c.args.onto.now)) (page_at (g.B.Flash.state c.put_rows.new.onto)) (page_at (g.B.Flash.state c.flush_copy.new.onto)) p.same (p.outside tells)
+    (c.flush_copy.ensures.outside (subst IsTrue (sym p.goes.tells) tells))

@@ -1,0 +1,320 @@
+use Rattle.std.proofs.Common.{◌≡◌, inr, true, false, IsTrue, Err, Some, length, refl, sym, ◌∙◌, ap, subst, arith}
+use Rattle.std.specs.List.{slice_get}
+use Rattle.std.proofs.lemmas.Option.{slice_get_within}
+use Rattle.fl_export.specs.Ends.{at_rest}
+use Rattle.fl_export.proofs.Locating.{stands-there}
+use Rattle.fl_export.proofs.Repairing.{repaired-read}
+use Rattle.fl_export.proofs.Risen.{has_risen, watched}
+use Rattle.fl_import.proofs.Changed.{own, own-works}
+use Rattle.fl_import.proofs.Others.{others-repaired}
+use Rattle.fl_model.specs.Bare.{bare, bare_table}
+use Rattle.fl_table.specs.Look.{layout_in}
+use Rattle.fl_table.specs.Memory.{is_running, LiesOn}
+use Rattle.fl_table.specs.Standing.{Stands}
+use Rattle.fl_table.specs.declared.table.Table.{Table}
+use Rattle.fl_rlc.specs.Table.{table_in}
+use Rattle.fl_tables.specs.Tables.{first_of}
+use Rattle.fl_tables.proofs.TablesChanged.{item-there}
+use Rattle.fl_ship.specs.declared.side.Side.TheVariants.{Source, Copy}
+use Rattle.fl_ship.specs.declared.stop.Stop.{Stop}
+use Rattle.fl_ship.proofs.Forms.{form-after}
+use Rattle.fl_ship.proofs.Shipping.{source-fails, copy-fails, shipped, stopped, broken-left, broken-device, read-left, mounted-left, changed-left}
+use Rattle.fl_ship.proofs.Statuses.{mount-place, good-device, stop-good}
+use Rattle.fl_ship.proofs.tables.ship_on.Goals as goal
+
+-- ---- the source's tables aren't mounted
+
+pub returns-in-Err-clause-ends : goal.returns-in-Err-clause-ends
+returns-in-Err-clause-ends g c = λ plans ts cs name tells c_tells on c_on calm c_calm stand c_stand named c_named.
+    let f = g.A.Flash.state c.args.from.now in
+    let m = g.A.Flash.state c.mount.new.flash in
+    let has = stands-there f (λ i. false) plans c.args.sources.now.entries.items ts name c.args.at stand named in
+    let breaks = c.in-Err.ensures.ends plans ts (has_risen f m) at_rest (watched f m at_rest tells on calm) stand in
+    rw c.mount_status.ensures
+    (source-fails plans ts cs name c.args.count has (g.K.Sink.written c.args.out.now) f m (g.B.Flash.state c.args.onto.now) c.mount.new.self.entries.items c.args.copies.now.entries.items c_stand c.in-Err.bad.fault c.in-Err.bad.at breaks)
+
+pub returns-in-Err-clause-repairs : goal.returns-in-Err-clause-repairs
+returns-in-Err-clause-repairs g c = λ plans ts name tells on calm stand named well.
+    let f = g.A.Flash.state c.args.from.now in
+    let m = g.A.Flash.state c.mount.new.flash in
+    let has = stands-there f (λ i. false) plans c.args.sources.now.entries.items ts name c.args.at stand named in
+    let breaks = c.in-Err.ensures.ends plans ts (has_risen f m) at_rest (watched f m at_rest tells on calm) stand in
+    absurd (well (c.mount_status.ensures ∙ broken-device plans ts name has f m c.mount.new.self.entries.items c.in-Err.bad.fault c.in-Err.bad.at breaks Source))
+
+pub returns-in-Err-clause-stands : goal.returns-in-Err-clause-stands
+returns-in-Err-clause-stands g c = λ plans ts name tells on calm stand named.
+    let f = g.A.Flash.state c.args.from.now in
+    let m = g.A.Flash.state c.mount.new.flash in
+    let has = stands-there f (λ i. false) plans c.args.sources.now.entries.items ts name c.args.at stand named in
+    let breaks = c.in-Err.ensures.ends plans ts (has_risen f m) at_rest (watched f m at_rest tells on calm) stand in
+    broken-left plans ts name has f m c.mount.new.self.entries.items c.in-Err.bad.fault c.in-Err.bad.at breaks
+
+pub returns-in-Err-clause-good : goal.returns-in-Err-clause-good
+returns-in-Err-clause-good g c = λ plans ts name table tells on calm stand named is.
+    let f = g.A.Flash.state c.args.from.now in
+    let m = g.A.Flash.state c.mount.new.flash in
+    let has = stands-there f (λ i. false) plans c.args.sources.now.entries.items ts name c.args.at stand named in
+    let breaks = c.in-Err.ensures.ends plans ts (has_risen f m) at_rest (watched f m at_rest tells on calm) stand in
+    good-device Source Source table c.mount_status.result (c.mount_status.ensures ∙ broken-device plans ts name has f m c.mount.new.self.entries.items c.in-Err.bad.fault c.in-Err.bad.at breaks Source) is
+
+pub returns-in-Err-clause-bad : goal.returns-in-Err-clause-bad
+returns-in-Err-clause-bad g c = λ side table is.
+    omega (arith, mount-place Source side c.in-Err.bad.fault c.in-Err.bad.at table (sym c.mount_status.ensures ∙ is), slice_get_within c.mount.new.self.entries.items c.in-Err.bad.at c.in-Err.ensures.stops.entry c.in-Err.ensures.stops.here, c.mount.ensures.as_many)
+
+-- ---- the copy's aren't
+
+pub mount_status-requires-in-Err-mount : goal.mount_status-requires-in-Err-mount
+mount_status-requires-in-Err-mount g c =
+    omega (arith, slice_get_within c.mount-2.new.self.entries.items c.in-Err-mount.bad.at c.in-Err-mount.ensures.stops.entry c.in-Err-mount.ensures.stops.here, c.mount-2.ensures.as_many, c.requires.as_many, c.requires.few)
+
+pub returns-in-Err-mount-clause-ends : goal.returns-in-Err-mount-clause-ends
+returns-in-Err-mount-clause-ends g c = λ plans ts cs name tells c_tells on c_on calm c_calm stand c_stand named c_named.
+    let f = g.A.Flash.state c.args.from.now in
+    let m = g.A.Flash.state c.mount.new.flash in
+    let o = g.B.Flash.state c.args.onto.now in
+    let n = g.B.Flash.state c.mount-2.new.flash in
+    let has = stands-there f (λ i. false) plans c.args.sources.now.entries.items ts name c.args.at stand named in
+    let mounted = c.in_default.ensures.ends plans ts (has_risen f m) at_rest (watched f m at_rest tells on calm) stand in
+    let breaks = c.in-Err-mount.ensures.ends plans cs (has_risen o n) at_rest (watched o n at_rest c_tells c_on c_calm) c_stand in
+    rw c.mount_status-in-Err-mount.ensures
+    (copy-fails plans ts cs name c.args.count has (g.K.Sink.written c.args.out.now) f m o n c.mount.new.self.entries.items c.mount-2.new.self.entries.items mounted c.in-Err-mount.bad.fault c.in-Err-mount.bad.at breaks)
+
+pub returns-in-Err-mount-clause-repairs : goal.returns-in-Err-mount-clause-repairs
+returns-in-Err-mount-clause-repairs g c = λ plans ts name tells on calm stand named well.
+    let f = g.A.Flash.state c.args.from.now in
+    let m = g.A.Flash.state c.mount.new.flash in
+    c.in_default.ensures.repaired tells plans ts stand (inr (has_risen f m, at_rest, watched f m at_rest tells on calm))
+
+pub returns-in-Err-mount-clause-others : goal.returns-in-Err-mount-clause-others
+returns-in-Err-mount-clause-others g c = λ plans cs name tells on calm stand named well.
+    let o = g.B.Flash.state c.args.onto.now in
+    let n = g.B.Flash.state c.mount-2.new.flash in
+    let has = stands-there o (λ i. false) plans c.args.copies.now.entries.items cs name c.args.at stand named in
+    let breaks = c.in-Err-mount.ensures.ends plans cs (has_risen o n) at_rest (watched o n at_rest tells on calm) stand in
+    absurd (well (c.mount_status-in-Err-mount.ensures ∙ broken-device plans cs name has o n c.mount-2.new.self.entries.items c.in-Err-mount.bad.fault c.in-Err-mount.bad.at breaks Copy))
+
+pub returns-in-Err-mount-clause-stands : goal.returns-in-Err-mount-clause-stands
+returns-in-Err-mount-clause-stands g c = λ plans ts name tells on calm stand named.
+    let f = g.A.Flash.state c.args.from.now in
+    let m = g.A.Flash.state c.mount.new.flash in
+    mounted-left plans ts f m c.mount.new.self.entries.items (c.in_default.ensures.ends plans ts (has_risen f m) at_rest (watched f m at_rest tells on calm) stand)
+
+pub returns-in-Err-mount-clause-copy_stands : goal.returns-in-Err-mount-clause-copy_stands
+returns-in-Err-mount-clause-copy_stands g c = λ plans cs name tells on calm stand named.
+    let o = g.B.Flash.state c.args.onto.now in
+    let n = g.B.Flash.state c.mount-2.new.flash in
+    let has = stands-there o (λ i. false) plans c.args.copies.now.entries.items cs name c.args.at stand named in
+    let breaks = c.in-Err-mount.ensures.ends plans cs (has_risen o n) at_rest (watched o n at_rest tells on calm) stand in
+    broken-left plans cs name has o n c.mount-2.new.self.entries.items c.in-Err-mount.bad.fault c.in-Err-mount.bad.at breaks
+
+pub returns-in-Err-mount-clause-good_copy : goal.returns-in-Err-mount-clause-good_copy
+returns-in-Err-mount-clause-good_copy g c = λ plans cs name table tells on calm stand named is.
+    let o = g.B.Flash.state c.args.onto.now in
+    let n = g.B.Flash.state c.mount-2.new.flash in
+    let has = stands-there o (λ i. false) plans c.args.copies.now.entries.items cs name c.args.at stand named in
+    let breaks = c.in-Err-mount.ensures.ends plans cs (has_risen o n) at_rest (watched o n at_rest tells on calm) stand in
+    good-device Copy Copy table c.mount_status-in-Err-mount.result (c.mount_status-in-Err-mount.ensures ∙ broken-device plans cs name has o n c.mount-2.new.self.entries.items c.in-Err-mount.bad.fault c.in-Err-mount.bad.at breaks Copy) is
+
+pub returns-in-Err-mount-clause-bad : goal.returns-in-Err-mount-clause-bad
+returns-in-Err-mount-clause-bad g c = λ side table is.
+    omega (
+      arith,
+      mount-place Copy side c.in-Err-mount.bad.fault c.in-Err-mount.bad.at table (sym c.mount_status-in-Err-mount.ensures ∙ is),
+      slice_get_within c.mount-2.new.self.entries.items c.in-Err-mount.bad.at c.in-Err-mount.ensures.stops.entry c.in-Err-mount.ensures.stops.here,
+      c.mount-2.ensures.as_many,
+      c.requires.as_many,
+    )
+
+-- ---- both are mounted
+
+pub ship_table-requires-clause-running : goal.ship_table-requires-clause-running
+ship_table-requires-clause-running g c =
+    let here : slice_get c.mount.new.self.entries.items c.args.at ≡ Some c.index.result.now =
+    item-there c.mount.new.self.entries.items (length c.mount.new.self.entries.items) c.args.at c.index.result.now refl (omega (arith, c.requires.at, c.mount.ensures.as_many)) c.index.ensures in
+    subst (λ (t : Table 64 64). is_running t ≡ true) (sym c.table-source.ensures) (c.in_default.ensures.running c.args.at c.index.result.now here)
+
+pub ship_table-requires-clause-lies : goal.ship_table-requires-clause-lies
+ship_table-requires-clause-lies g c =
+    let here : slice_get c.mount.new.self.entries.items c.args.at ≡ Some c.index.result.now =
+    item-there c.mount.new.self.entries.items (length c.mount.new.self.entries.items) c.args.at c.index.result.now refl (omega (arith, c.requires.at, c.mount.ensures.as_many)) c.index.ensures in
+    subst (λ (t : Table 64 64). LiesOn t (g.A.Flash.state c.mount.new.flash)) (sym c.table-source.ensures) (c.mount.ensures.lie c.args.at c.index.result.now here).table
+
+pub ship_table-requires-clause-copy_running : goal.ship_table-requires-clause-copy_running
+ship_table-requires-clause-copy_running g c =
+    let here : slice_get c.mount-2.new.self.entries.items c.args.at ≡ Some c.index_mut.result.now =
+    item-there c.mount-2.new.self.entries.items (length c.mount-2.new.self.entries.items) c.args.at c.index_mut.result.now refl (omega (arith, c.requires.at, c.requires.as_many, c.mount-2.ensures.as_many)) c.index_mut.ensures.value in
+    c.in_default-mount.ensures.running c.args.at c.index_mut.result.now here
+
+pub ship_table-requires-clause-copy_lies : goal.ship_table-requires-clause-copy_lies
+ship_table-requires-clause-copy_lies g c =
+    let here : slice_get c.mount-2.new.self.entries.items c.args.at ≡ Some c.index_mut.result.now =
+    item-there c.mount-2.new.self.entries.items (length c.mount-2.new.self.entries.items) c.args.at c.index_mut.result.now refl (omega (arith, c.requires.at, c.requires.as_many, c.mount-2.ensures.as_many)) c.index_mut.ensures.value in
+    c.mount-2.ensures.lie c.args.at c.index_mut.result.now here
+
+pub ship_table-requires-clause-form : goal.ship_table-requires-clause-form
+ship_table-requires-clause-form g c =
+    let here : slice_get c.mount.new.self.entries.items c.args.at ≡ Some c.index.result.now =
+    item-there c.mount.new.self.entries.items (length c.mount.new.self.entries.items) c.args.at c.index.result.now refl (omega (arith, c.requires.at, c.mount.ensures.as_many)) c.index.ensures in
+    let c_here : slice_get c.mount-2.new.self.entries.items c.args.at ≡ Some c.index_mut.result.now =
+    item-there c.mount-2.new.self.entries.items (length c.mount-2.new.self.entries.items) c.args.at c.index_mut.result.now refl (omega (arith, c.requires.at, c.requires.as_many, c.mount-2.ensures.as_many)) c.index_mut.ensures.value in
+    subst (λ (t : Table 64 64). layout_in t ≡ layout_in (table_in c.index_mut.result.now.table)) (sym c.table-source.ensures)
+    (form-after c.args.sources.now.entries.items c.mount.new.self.entries.items c.args.copies.now.entries.items c.mount-2.new.self.entries.items c.args.at c.index.result.now c.index_mut.result.now c.requires.form
+    (sym c.mount.ensures.as_many) (sym c.mount-2.ensures.as_many) c.mount.ensures.same c.mount-2.ensures.same here c_here).0
+
+pub ship_table-requires-clause-no_blobs : goal.ship_table-requires-clause-no_blobs
+ship_table-requires-clause-no_blobs g c =
+    let here : slice_get c.mount.new.self.entries.items c.args.at ≡ Some c.index.result.now =
+    item-there c.mount.new.self.entries.items (length c.mount.new.self.entries.items) c.args.at c.index.result.now refl (omega (arith, c.requires.at, c.mount.ensures.as_many)) c.index.ensures in
+    let c_here : slice_get c.mount-2.new.self.entries.items c.args.at ≡ Some c.index_mut.result.now =
+    item-there c.mount-2.new.self.entries.items (length c.mount-2.new.self.entries.items) c.args.at c.index_mut.result.now refl (omega (arith, c.requires.at, c.requires.as_many, c.mount-2.ensures.as_many)) c.index_mut.ensures.value in
+    (form-after c.args.sources.now.entries.items c.mount.new.self.entries.items c.args.copies.now.entries.items c.mount-2.new.self.entries.items c.args.at c.index.result.now c.index_mut.result.now c.requires.form
+    (sym c.mount.ensures.as_many) (sym c.mount-2.ensures.as_many) c.mount.ensures.same c.mount-2.ensures.same here c_here).1
+
+-- .. and the records were shipped
+
+pub returns-in-Ok-clause-ends : goal.returns-in-Ok-clause-ends
+returns-in-Ok-clause-ends g c = λ plans ts cs name tells c_tells on c_on calm c_calm stand c_stand named c_named.
+    let f = g.A.Flash.state c.args.from.now in
+    let m = g.A.Flash.state c.mount.new.flash in
+    let h = g.A.Flash.state c.ship_table.new.from in
+    let now = c.mount.new.self.entries.items in
+    let here : slice_get c.mount.new.self.entries.items c.args.at ≡ Some c.index.result.now =
+    item-there c.mount.new.self.entries.items (length c.mount.new.self.entries.items) c.args.at c.index.result.now refl (omega (arith, c.requires.at, c.mount.ensures.as_many)) c.index.ensures in
+    let told_m : IsTrue m.media.tells = subst IsTrue (sym c.mount.ensures.goes.tells) tells in
+    let mounted = c.in_default.ensures.ends plans ts (has_risen f m) at_rest (watched f m at_rest tells on calm) stand in
+    let from = own plans ts f m now c.args.at c.index.result.now told_m here mounted in
+    let stood = subst (λ (t : Table 64 64). Stands t m (first_of plans c.args.at) (bare from.plan) (bare_table from.table)) (sym c.table-source.ensures) from.stands.on_flash.unlogged in
+    let o = g.B.Flash.state c.args.onto.now in
+    let n = g.B.Flash.state c.mount-2.new.flash in
+    let k = g.B.Flash.state c.ship_table.new.onto in
+    let c_now = c.mount-2.new.self.entries.items in
+    let c_here : slice_get c.mount-2.new.self.entries.items c.args.at ≡ Some c.index_mut.result.now =
+    item-there c.mount-2.new.self.entries.items (length c.mount-2.new.self.entries.items) c.args.at c.index_mut.result.now refl (omega (arith, c.requires.at, c.requires.as_many, c.mount-2.ensures.as_many)) c.index_mut.ensures.value in
+    let told_n : IsTrue n.media.tells = subst IsTrue (sym c.mount-2.ensures.goes.tells) c_tells in
+    let c_mounted = c.in_default-mount.ensures.ends plans cs (has_risen o n) at_rest (watched o n at_rest c_tells c_on c_calm) c_stand in
+    let to = own plans cs o n c_now c.args.at c.index_mut.result.now told_n c_here c_mounted in
+    let works = own-works plans cs o n c_now c.args.at c.index_mut.result.now told_n c_here c_mounted in
+    shipped plans ts cs name c.args.count f m h o n k c.args.sources.now.entries.items now c.args.copies.now.entries.items c_now c.args.at c.index.result.now c.index_mut.result.now c.ship_table.new.copy
+    c.mount.ensures.goes.faults c.ship_table.ensures.reads_only stand named here mounted c.mount-2.ensures.goes.faults c.ship_table.ensures.goes c.ship_table.ensures.same c.ship_table.ensures.outside told_m told_n c_stand c_named c_here c_mounted
+    (g.K.Sink.written c.args.out.now) (g.K.Sink.written c.told.new.out) (g.K.Sink.faults c.args.out.now) (g.K.Sink.faults c.told.new.out) c.in-Ok.shipped c.told.result
+    (c.in-Ok.ensures.ships (first_of plans c.args.at) (first_of plans c.args.at) (bare from.plan) to.plan (bare_table from.table) to.table told_m stood works) c.told.ensures.tells
+
+pub returns-in-Ok-clause-repairs : goal.returns-in-Ok-clause-repairs
+returns-in-Ok-clause-repairs g c = λ plans ts name tells on calm stand named well page lt.
+    let f = g.A.Flash.state c.args.from.now in
+    let m = g.A.Flash.state c.mount.new.flash in
+    repaired-read plans f.geometry page f m (g.A.Flash.state c.ship_table.new.from) c.ship_table.ensures.reads_only
+    (c.in_default.ensures.repaired tells plans ts stand (inr (has_risen f m, at_rest, watched f m at_rest tells on calm)) page lt)
+
+pub returns-in-Ok-clause-others : goal.returns-in-Ok-clause-others
+returns-in-Ok-clause-others g c = λ plans cs name c_tells c_on c_calm c_stand c_named well.
+    let o = g.B.Flash.state c.args.onto.now in
+    let n = g.B.Flash.state c.mount-2.new.flash in
+    let c_here : slice_get c.mount-2.new.self.entries.items c.args.at ≡ Some c.index_mut.result.now =
+    item-there c.mount-2.new.self.entries.items (length c.mount-2.new.self.entries.items) c.args.at c.index_mut.result.now refl (omega (arith, c.requires.at, c.requires.as_many, c.mount-2.ensures.as_many)) c.index_mut.ensures.value in
+    let c_mounted = c.in_default-mount.ensures.ends plans cs (has_risen o n) at_rest (watched o n at_rest c_tells c_on c_calm) c_stand in
+    others-repaired plans cs _ name o n (g.B.Flash.state c.ship_table.new.onto) c.args.copies.now.entries.items c.mount-2.new.self.entries.items c.args.at c.index_mut.result.now c_stand c_named c_mounted.stand c_here
+    (c.ship_table.ensures.outside (subst IsTrue (sym c.mount-2.ensures.goes.tells) c_tells)) (c.in_default-mount.ensures.repaired c_tells plans cs c_stand (inr (has_risen o n, at_rest, watched o n at_rest c_tells c_on c_calm)))
+
+pub returns-in-Ok-clause-stands : goal.returns-in-Ok-clause-stands
+returns-in-Ok-clause-stands g c = λ plans ts name tells on calm stand named.
+    let f = g.A.Flash.state c.args.from.now in
+    let m = g.A.Flash.state c.mount.new.flash in
+    read-left plans ts f m (g.A.Flash.state c.ship_table.new.from) c.mount.new.self.entries.items c.ship_table.ensures.reads_only (c.in_default.ensures.ends plans ts (has_risen f m) at_rest (watched f m at_rest tells on calm) stand)
+
+pub returns-in-Ok-clause-copy_stands : goal.returns-in-Ok-clause-copy_stands
+returns-in-Ok-clause-copy_stands g c = λ plans cs name c_tells c_on c_calm c_stand c_named.
+    let o = g.B.Flash.state c.args.onto.now in
+    let n = g.B.Flash.state c.mount-2.new.flash in
+    let k = g.B.Flash.state c.ship_table.new.onto in
+    let c_now = c.mount-2.new.self.entries.items in
+    let c_here : slice_get c.mount-2.new.self.entries.items c.args.at ≡ Some c.index_mut.result.now =
+    item-there c.mount-2.new.self.entries.items (length c.mount-2.new.self.entries.items) c.args.at c.index_mut.result.now refl (omega (arith, c.requires.at, c.requires.as_many, c.mount-2.ensures.as_many)) c.index_mut.ensures.value in
+    let told_n : IsTrue n.media.tells = subst IsTrue (sym c.mount-2.ensures.goes.tells) c_tells in
+    let c_mounted = c.in_default-mount.ensures.ends plans cs (has_risen o n) at_rest (watched o n at_rest c_tells c_on c_calm) c_stand in
+    let to = own plans cs o n c_now c.args.at c.index_mut.result.now told_n c_here c_mounted in
+    let works = own-works plans cs o n c_now c.args.at c.index_mut.result.now told_n c_here c_mounted in
+    changed-left plans cs o n c_now c.args.at c.index_mut.result.now told_n c_here c_mounted k c.ship_table.new.copy c.ship_table.ensures.goes c.ship_table.ensures.same c.ship_table.ensures.outside
+    (c.ship_table.ensures.copy_stands (first_of plans c.args.at) to.plan to.table works)
+
+-- .. or they weren't, to the end
+
+pub returns-in-Err-ship_table-clause-ends : goal.returns-in-Err-ship_table-clause-ends
+returns-in-Err-ship_table-clause-ends g c = λ plans ts cs name tells c_tells on c_on calm c_calm stand c_stand named c_named.
+    let f = g.A.Flash.state c.args.from.now in
+    let m = g.A.Flash.state c.mount.new.flash in
+    let h = g.A.Flash.state c.ship_table.new.from in
+    let now = c.mount.new.self.entries.items in
+    let here : slice_get c.mount.new.self.entries.items c.args.at ≡ Some c.index.result.now =
+    item-there c.mount.new.self.entries.items (length c.mount.new.self.entries.items) c.args.at c.index.result.now refl (omega (arith, c.requires.at, c.mount.ensures.as_many)) c.index.ensures in
+    let told_m : IsTrue m.media.tells = subst IsTrue (sym c.mount.ensures.goes.tells) tells in
+    let mounted = c.in_default.ensures.ends plans ts (has_risen f m) at_rest (watched f m at_rest tells on calm) stand in
+    let from = own plans ts f m now c.args.at c.index.result.now told_m here mounted in
+    let stood = subst (λ (t : Table 64 64). Stands t m (first_of plans c.args.at) (bare from.plan) (bare_table from.table)) (sym c.table-source.ensures) from.stands.on_flash.unlogged in
+    let o = g.B.Flash.state c.args.onto.now in
+    let n = g.B.Flash.state c.mount-2.new.flash in
+    let k = g.B.Flash.state c.ship_table.new.onto in
+    let c_now = c.mount-2.new.self.entries.items in
+    let c_here : slice_get c.mount-2.new.self.entries.items c.args.at ≡ Some c.index_mut.result.now =
+    item-there c.mount-2.new.self.entries.items (length c.mount-2.new.self.entries.items) c.args.at c.index_mut.result.now refl (omega (arith, c.requires.at, c.requires.as_many, c.mount-2.ensures.as_many)) c.index_mut.ensures.value in
+    let told_n : IsTrue n.media.tells = subst IsTrue (sym c.mount-2.ensures.goes.tells) c_tells in
+    let c_mounted = c.in_default-mount.ensures.ends plans cs (has_risen o n) at_rest (watched o n at_rest c_tells c_on c_calm) c_stand in
+    let to = own plans cs o n c_now c.args.at c.index_mut.result.now told_n c_here c_mounted in
+    let works = own-works plans cs o n c_now c.args.at c.index_mut.result.now told_n c_here c_mounted in
+    rw c.stop_status.ensures
+    (stopped plans ts cs name c.args.count f m h o n k c.args.sources.now.entries.items now c.args.copies.now.entries.items c_now c.args.at c.index.result.now c.index_mut.result.now c.ship_table.new.copy
+    c.mount.ensures.goes.faults c.ship_table.ensures.reads_only stand named here mounted c.mount-2.ensures.goes.faults c.ship_table.ensures.goes c.ship_table.ensures.same c.ship_table.ensures.outside told_m told_n c_stand c_named c_here c_mounted
+    (g.K.Sink.written c.args.out.now) c.in-Err-ship_table.stop
+    (c.in-Err-ship_table.ensures.ships (first_of plans c.args.at) (first_of plans c.args.at) (bare from.plan) to.plan (bare_table from.table) to.table told_m stood works) c.in-Err-ship_table.ensures.cause)
+
+pub returns-in-Err-ship_table-clause-repairs : goal.returns-in-Err-ship_table-clause-repairs
+returns-in-Err-ship_table-clause-repairs g c = λ plans ts name tells on calm stand named well page lt.
+    let f = g.A.Flash.state c.args.from.now in
+    let m = g.A.Flash.state c.mount.new.flash in
+    repaired-read plans f.geometry page f m (g.A.Flash.state c.ship_table.new.from) c.ship_table.ensures.reads_only
+    (c.in_default.ensures.repaired tells plans ts stand (inr (has_risen f m, at_rest, watched f m at_rest tells on calm)) page lt)
+
+pub returns-in-Err-ship_table-clause-others : goal.returns-in-Err-ship_table-clause-others
+returns-in-Err-ship_table-clause-others g c = λ plans cs name c_tells c_on c_calm c_stand c_named well.
+    let o = g.B.Flash.state c.args.onto.now in
+    let n = g.B.Flash.state c.mount-2.new.flash in
+    let c_here : slice_get c.mount-2.new.self.entries.items c.args.at ≡ Some c.index_mut.result.now =
+    item-there c.mount-2.new.self.entries.items (length c.mount-2.new.self.entries.items) c.args.at c.index_mut.result.now refl (omega (arith, c.requires.at, c.requires.as_many, c.mount-2.ensures.as_many)) c.index_mut.ensures.value in
+    let c_mounted = c.in_default-mount.ensures.ends plans cs (has_risen o n) at_rest (watched o n at_rest c_tells c_on c_calm) c_stand in
+    others-repaired plans cs _ name o n (g.B.Flash.state c.ship_table.new.onto) c.args.copies.now.entries.items c.mount-2.new.self.entries.items c.args.at c.index_mut.result.now c_stand c_named c_mounted.stand c_here
+    (c.ship_table.ensures.outside (subst IsTrue (sym c.mount-2.ensures.goes.tells) c_tells)) (c.in_default-mount.ensures.repaired c_tells plans cs c_stand (inr (has_risen o n, at_rest, watched o n at_rest c_tells c_on c_calm)))
+
+pub returns-in-Err-ship_table-clause-stands : goal.returns-in-Err-ship_table-clause-stands
+returns-in-Err-ship_table-clause-stands g c = λ plans ts name tells on calm stand named.
+    let f = g.A.Flash.state c.args.from.now in
+    let m = g.A.Flash.state c.mount.new.flash in
+    read-left plans ts f m (g.A.Flash.state c.ship_table.new.from) c.mount.new.self.entries.items c.ship_table.ensures.reads_only (c.in_default.ensures.ends plans ts (has_risen f m) at_rest (watched f m at_rest tells on calm) stand)
+
+pub returns-in-Err-ship_table-clause-copy_stands : goal.returns-in-Err-ship_table-clause-copy_stands
+returns-in-Err-ship_table-clause-copy_stands g c = λ plans cs name c_tells c_on c_calm c_stand c_named.
+    let o = g.B.Flash.state c.args.onto.now in
+    let n = g.B.Flash.state c.mount-2.new.flash in
+    let k = g.B.Flash.state c.ship_table.new.onto in
+    let c_now = c.mount-2.new.self.entries.items in
+    let c_here : slice_get c.mount-2.new.self.entries.items c.args.at ≡ Some c.index_mut.result.now =
+    item-there c.mount-2.new.self.entries.items (length c.mount-2.new.self.entries.items) c.args.at c.index_mut.result.now refl (omega (arith, c.requires.at, c.requires.as_many, c.mount-2.ensures.as_many)) c.index_mut.ensures.value in
+    let told_n : IsTrue n.media.tells = subst IsTrue (sym c.mount-2.ensures.goes.tells) c_tells in
+    let c_mounted = c.in_default-mount.ensures.ends plans cs (has_risen o n) at_rest (watched o n at_rest c_tells c_on c_calm) c_stand in
+    let to = own plans cs o n c_now c.args.at c.index_mut.result.now told_n c_here c_mounted in
+    let works = own-works plans cs o n c_now c.args.at c.index_mut.result.now told_n c_here c_mounted in
+    changed-left plans cs o n c_now c.args.at c.index_mut.result.now told_n c_here c_mounted k c.ship_table.new.copy c.ship_table.ensures.goes c.ship_table.ensures.same c.ship_table.ensures.outside
+    (c.ship_table.ensures.copy_stands (first_of plans c.args.at) to.plan to.table works)
+
+pub returns-in-Err-ship_table-clause-good : goal.returns-in-Err-ship_table-clause-good
+returns-in-Err-ship_table-clause-good g c = λ plans ts name table tells on calm stand named is.
+    let f = g.A.Flash.state c.args.from.now in
+    let m = g.A.Flash.state c.mount.new.flash in
+    let now = c.mount.new.self.entries.items in
+    let here : slice_get c.mount.new.self.entries.items c.args.at ≡ Some c.index.result.now =
+    item-there c.mount.new.self.entries.items (length c.mount.new.self.entries.items) c.args.at c.index.result.now refl (omega (arith, c.requires.at, c.mount.ensures.as_many)) c.index.ensures in
+    let told_m : IsTrue m.media.tells = subst IsTrue (sym c.mount.ensures.goes.tells) tells in
+    let mounted = c.in_default.ensures.ends plans ts (has_risen f m) at_rest (watched f m at_rest tells on calm) stand in
+    let from = own plans ts f m now c.args.at c.index.result.now told_m here mounted in
+    let stood = subst (λ (t : Table 64 64). Stands t m (first_of plans c.args.at) (bare from.plan) (bare_table from.table)) (sym c.table-source.ensures) from.stands.on_flash.unlogged in
+    stop-good c.in-Err-ship_table.stop c.args.at table
+    (λ bad e. c.ship_table.ensures.none_bad (first_of plans c.args.at) (bare from.plan) (bare_table from.table) told_m stood bad (c.in-Err-ship_table.is ∙ ap (λ (s : Stop). Err s) e)) (sym c.stop_status.ensures ∙ is)

@@ -1,0 +1,117 @@
+use Rattle.std.proofs.Common.{◌≡◌, true, Err, sym, ◌∙◌, ap}
+use Rattle.std.specs.Option.{option_map}
+use Rattle.std.proofs.lemmas.Result.{err_from_is_err_and}
+use Rattle.fl_export.proofs.Reading.{is-standing, lies-read, stands-read, tells-read}
+use Rattle.fl_model.specs.Bare.{bare, bare_table}
+use Rattle.fl_model.specs.Ship.{records_in}
+use Rattle.fl_model.specs.Table.{Entry, last_entry, lose}
+use Rattle.fl_page.specs.Contents.{contents_of}
+use Rattle.fl_page.specs.declared.fault.ReadFault.TheVariants as read
+use Rattle.fl_page.proofs.Reading.{OnlyReads-then}
+use Rattle.fl_rlc.specs.Table.{table_in}
+use Rattle.fl_table.specs.Look.{layout_in}
+use Rattle.fl_tables.proofs.TablesChanged.{off-rests}
+use Rattle.fl_ship.specs.declared.fault.ShipFault.{ShipFault}
+use Rattle.fl_ship.specs.declared.fault.ShipFault.TheVariants.{Read}
+use Rattle.fl_ship.specs.declared.stop.Stop.TheVariants as stop
+use Rattle.fl_ship.proofs.OneTable.{caused-later, flush-rests, leaves-gap, leaves-none, leaves-shipped, leaves-stopped, leaves-unflushed, look-good, same-fault, same-stop, source-plain, table-stands, wanted-are}
+use Rattle.fl_ship.proofs.tables.ship_table.Goals as goal
+
+pub returns-in_err-look_for_gap-clause-ships : goal.returns-in_err-look_for_gap-clause-ships
+returns-in_err-look_for_gap-clause-ships g c = λ source_first first source_plan plan s t tells stands works.
+    let last_is : c.last_key-last.result ≡ option_map (λ (entry : Entry). entry.kept.key) (last_entry t) =
+    c.last_key-last.ensures.stands (g.B.Flash.state c.args.onto.now) first (bare plan) (bare_table t) (table-stands c.table.result.now c.args.copy.now (g.B.Flash.state c.args.onto.now) first plan t c.table.ensures works) in
+    let p = err_from_is_err_and c.from_residual.result c.from_residual.ensures.1 in
+    rw (p.1, p.2) (leaves-gap first plan s t c.args.count c.last_key-last.result last_is c.args.copy.now (g.B.Flash.state c.args.onto.now) works c.in_err-look_for_gap.field-0.0 (c.in_err-look_for_gap.ensures.looks source_first source_plan s tells stands))
+
+pub returns-in_err-look_for_gap-clause-copy_stands : goal.returns-in_err-look_for_gap-clause-copy_stands
+returns-in_err-look_for_gap-clause-copy_stands g c = λ first plan t works. (lose t, off-rests c.args.copy.now (g.B.Flash.state c.args.onto.now) first plan t true works.stands)
+
+pub returns-in_err-look_for_gap-clause-none_bad : goal.returns-in_err-look_for_gap-clause-none_bad
+returns-in_err-look_for_gap-clause-none_bad g c = λ first plan s tells stands bad is.
+    let p = err_from_is_err_and c.from_residual.result c.from_residual.ensures.1 in
+    look-good (records_in s) c.last_key-last.result c.in_err-look_for_gap.field-0.0 bad (same-stop c.in_err-look_for_gap.field-0.0 (stop.Ship (Read (read.BadPage bad))) (rw (p.1, p.2) at is)) (c.in_err-look_for_gap.ensures.looks first plan s tells stands)
+
+pub returns-in_err-flush_copy-clause-ships : goal.returns-in_err-flush_copy-clause-ships
+returns-in_err-flush_copy-clause-ships g c = λ source_first first source_plan plan s t tells stands works.
+    let last_is : c.last_key-last.result ≡ option_map (λ (entry : Entry). entry.kept.key) (last_entry t) =
+    c.last_key-last.ensures.stands (g.B.Flash.state c.args.onto.now) first (bare plan) (bare_table t) (table-stands c.table.result.now c.args.copy.now (g.B.Flash.state c.args.onto.now) first plan t c.table.ensures works) in
+    let plain = source-plain c.args.source.now (g.A.Flash.state c.args.from.now) source_first source_plan s (layout_in (table_in c.args.copy.now)) stands c.requires.form c.requires.no_blobs in
+    let follows = c.in_ok-look_for_gap.ensures.looks source_first source_plan s tells stands in
+    let p = err_from_is_err_and c.from_residual-in_err-flush_copy.result c.from_residual-in_err-flush_copy.ensures.1 in
+    rw (p.1, p.2) (leaves-unflushed first plan s t c.args.count c.last_key-last.result last_is follows (sym c.keys_above.ensures ∙ c.in_default.is) plain c.flush_copy.new.to (g.B.Flash.state c.flush_copy.new.onto) c.in_err-flush_copy.field-0.0
+    (c.in_err-flush_copy.ensures.flushes first plan t works))
+
+pub returns-in_err-flush_copy-clause-copy_stands : goal.returns-in_err-flush_copy-clause-copy_stands
+returns-in_err-flush_copy-clause-copy_stands g c = λ first plan t works. flush-rests first plan t c.flush_copy.new.to (g.B.Flash.state c.flush_copy.new.onto) c.flush_copy.result (c.flush_copy.ensures.flushes first plan t works)
+
+pub returns-in_default-clause-ships : goal.returns-in_default-clause-ships
+returns-in_default-clause-ships g c = λ source_first first source_plan plan s t tells stands works.
+    let last_is : c.last_key-last.result ≡ option_map (λ (entry : Entry). entry.kept.key) (last_entry t) =
+    c.last_key-last.ensures.stands (g.B.Flash.state c.args.onto.now) first (bare plan) (bare_table t) (table-stands c.table.result.now c.args.copy.now (g.B.Flash.state c.args.onto.now) first plan t c.table.ensures works) in
+    let plain = source-plain c.args.source.now (g.A.Flash.state c.args.from.now) source_first source_plan s (layout_in (table_in c.args.copy.now)) stands c.requires.form c.requires.no_blobs in
+    let follows = c.in_ok-look_for_gap.ensures.looks source_first source_plan s tells stands in
+    leaves-none first plan s t c.args.count c.last_key-last.result last_is follows (sym c.keys_above.ensures ∙ c.in_default.is) plain c.flush_copy.new.to (g.B.Flash.state c.flush_copy.new.onto) (c.in_ok-flush_copy.ensures.flushes first plan t works)
+
+pub returns-in_default-clause-copy_stands : goal.returns-in_default-clause-copy_stands
+returns-in_default-clause-copy_stands g c = λ first plan t works. flush-rests first plan t c.flush_copy.new.to (g.B.Flash.state c.flush_copy.new.onto) c.flush_copy.result (c.flush_copy.ensures.flushes first plan t works)
+
+pub returns-in_err-shipped-clause-ships : goal.returns-in_err-shipped-clause-ships
+returns-in_err-shipped-clause-ships g c = λ source_first first source_plan plan s t tells stands works.
+    let last_is : c.last_key-last.result ≡ option_map (λ (entry : Entry). entry.kept.key) (last_entry t) =
+    c.last_key-last.ensures.stands (g.B.Flash.state c.args.onto.now) first (bare plan) (bare_table t) (table-stands c.table.result.now c.args.copy.now (g.B.Flash.state c.args.onto.now) first plan t c.table.ensures works) in
+    let plain = source-plain c.args.source.now (g.A.Flash.state c.args.from.now) source_first source_plan s (layout_in (table_in c.args.copy.now)) stands c.requires.form c.requires.no_blobs in
+    let follows = c.in_ok-look_for_gap.ensures.looks source_first source_plan s tells stands in
+    let f = g.A.Flash.state c.args.from.now in
+    let m = g.A.Flash.state c.look_for_gap.new.from in
+    let only = c.look_for_gap.ensures.reads_only in
+    let told = c.begin-cursor.ensures.told (contents_of (g.A.Flash.state c.look_for_gap.new.from)) (is-standing c.args.source.now (g.A.Flash.state c.look_for_gap.new.from) source_first source_plan s
+    (tells-read f m only tells) (g.met.A.Flash.reaches c.look_for_gap.new.from) (lies-read f m only c.args.source.now c.requires.lies) (stands-read f m only c.args.source.now source_first source_plan s stands)) in
+    let left = c.begin-cursor.ensures.left m source_first source_plan s (tells-read f m only tells) (g.met.A.Flash.reaches c.look_for_gap.new.from) (lies-read f m only c.args.source.now c.requires.lies) (stands-read f m only c.args.source.now source_first source_plan s stands) in
+    let are = wanted-are c.args.count s t c.last_key-last.result c.in-Some.range _ last_is (sym c.keys_above.ensures ∙ c.in-Some.is) plain left in
+    let p = err_from_is_err_and c.from_residual-in_err-shipped.result c.from_residual-in_err-shipped.ensures.1 in
+    rw (p.1, p.2) (leaves-stopped first plan s t c.args.count c.last_key-last.result last_is follows _ told _ are c.ship_rows-shipped.new.to (g.B.Flash.state c.ship_rows-shipped.new.onto) c.in_err-shipped.field-0.0
+    (λ bad is. c.in_err-shipped.ensures.none_bad told bad (ap (λ (fault : ShipFault). Err fault) is)) (c.in_err-shipped.ensures.ships first plan t works))
+
+pub returns-in_err-shipped-clause-copy_stands : goal.returns-in_err-shipped-clause-copy_stands
+returns-in_err-shipped-clause-copy_stands g c = λ first plan t works. let rows = c.in_err-shipped.ensures.ships first plan t works in (lose rows.after, rows.rests)
+
+pub returns-in_err-shipped-clause-none_bad : goal.returns-in_err-shipped-clause-none_bad
+returns-in_err-shipped-clause-none_bad g c = λ source_first source_plan s tells stands bad is.
+    let f = g.A.Flash.state c.args.from.now in
+    let m = g.A.Flash.state c.look_for_gap.new.from in
+    let only = c.look_for_gap.ensures.reads_only in
+    let told = c.begin-cursor.ensures.told (contents_of (g.A.Flash.state c.look_for_gap.new.from)) (is-standing c.args.source.now (g.A.Flash.state c.look_for_gap.new.from) source_first source_plan s
+    (tells-read f m only tells) (g.met.A.Flash.reaches c.look_for_gap.new.from) (lies-read f m only c.args.source.now c.requires.lies) (stands-read f m only c.args.source.now source_first source_plan s stands)) in
+    let p = err_from_is_err_and c.from_residual-in_err-shipped.result c.from_residual-in_err-shipped.ensures.1 in
+    c.in_err-shipped.ensures.none_bad told bad (same-fault c.in_err-shipped.field-0.0 (Read (read.BadPage bad)) (rw (p.1, p.2) at is))
+
+pub returns-in_err-shipped-clause-cause : goal.returns-in_err-shipped-clause-cause
+returns-in_err-shipped-clause-cause g c =
+    let p = err_from_is_err_and c.from_residual-in_err-shipped.result c.from_residual-in_err-shipped.ensures.1 in
+    rw (p.1, p.2) (caused-later (g.A.Flash.state c.args.from.now) (g.A.Flash.state c.look_for_gap.new.from) (g.A.Flash.state c.ship_rows-shipped.new.from) (g.B.Flash.state c.args.onto.now) (g.B.Flash.state c.ship_rows-shipped.new.onto) c.in_err-shipped.field-0.0
+    c.look_for_gap.ensures.reads_only c.in_err-shipped.ensures.cause)
+
+pub returns-in_err-shipped-clause-reads_only : goal.returns-in_err-shipped-clause-reads_only
+returns-in_err-shipped-clause-reads_only g c = OnlyReads-then _ _ _ c.look_for_gap.ensures.reads_only c.ship_rows-shipped.ensures.reads_only
+
+pub returns-clause-ships : goal.returns-clause-ships
+returns-clause-ships g c = λ source_first first source_plan plan s t tells stands works.
+    let last_is : c.last_key-last.result ≡ option_map (λ (entry : Entry). entry.kept.key) (last_entry t) =
+    c.last_key-last.ensures.stands (g.B.Flash.state c.args.onto.now) first (bare plan) (bare_table t) (table-stands c.table.result.now c.args.copy.now (g.B.Flash.state c.args.onto.now) first plan t c.table.ensures works) in
+    let plain = source-plain c.args.source.now (g.A.Flash.state c.args.from.now) source_first source_plan s (layout_in (table_in c.args.copy.now)) stands c.requires.form c.requires.no_blobs in
+    let follows = c.in_ok-look_for_gap.ensures.looks source_first source_plan s tells stands in
+    let f = g.A.Flash.state c.args.from.now in
+    let m = g.A.Flash.state c.look_for_gap.new.from in
+    let only = c.look_for_gap.ensures.reads_only in
+    let told = c.begin-cursor.ensures.told (contents_of (g.A.Flash.state c.look_for_gap.new.from)) (is-standing c.args.source.now (g.A.Flash.state c.look_for_gap.new.from) source_first source_plan s
+    (tells-read f m only tells) (g.met.A.Flash.reaches c.look_for_gap.new.from) (lies-read f m only c.args.source.now c.requires.lies) (stands-read f m only c.args.source.now source_first source_plan s stands)) in
+    let left = c.begin-cursor.ensures.left m source_first source_plan s (tells-read f m only tells) (g.met.A.Flash.reaches c.look_for_gap.new.from) (lies-read f m only c.args.source.now c.requires.lies) (stands-read f m only c.args.source.now source_first source_plan s stands) in
+    let are = wanted-are c.args.count s t c.last_key-last.result c.in-Some.range _ last_is (sym c.keys_above.ensures ∙ c.in-Some.is) plain left in
+    leaves-shipped first plan s t c.args.count c.last_key-last.result last_is follows _ told _ are c.ship_rows-shipped.new.to (g.B.Flash.state c.ship_rows-shipped.new.onto) c.in_ok-shipped.field-0 (c.in_ok-shipped.ensures.ships first plan t works)
+
+pub returns-clause-copy_stands : goal.returns-clause-copy_stands
+returns-clause-copy_stands g c = λ first plan t works. let rows = c.in_ok-shipped.ensures.ships first plan t works in (lose rows.after, rows.rests)
+
+pub returns-clause-reads_only : goal.returns-clause-reads_only
+returns-clause-reads_only g c = OnlyReads-then _ _ _ c.look_for_gap.ensures.reads_only c.ship_rows-shipped.ensures.reads_only

@@ -1,0 +1,12 @@
+pub mod Number
+pub mod Text
+pub mod Puts
+pub mod Rows
+pub mod Missing
+pub mod Ends
+pub mod Fits
+pub mod Tables
+pub mod Media
+pub mod Needs
+pub mod Ready
+pub mod Laws

@@ -1,0 +1,50 @@
+-- Two media between which a ship may begin, and the end of one that doesn't.
+use Rattle.std.specs.Prelude.{◌≡◌, ◌⊎◌, ℕ, ◌<◌, IsTrue, true, Option, Some, List, [], length, slice_get}
+use Rattle.fl_config.specs.Whole.{is_whole, Makes}
+use Rattle.fl_flash.specs.Media.{MediaState}
+use Rattle.fl_jobs.specs.Header.{IsAccepted, IsMade}
+use Rattle.fl_jobs.specs.Image.{IsImageOf}
+use Rattle.fl_model.specs.Image.{medium_len}
+use Rattle.fl_model.specs.Record.{Config, Plan}
+use Rattle.fl_model.specs.Table.{Table}
+use Rattle.fl_tables.specs.Tables.{IsNamed}
+use Rattle.fl_words.specs.Medium.{IsImage}
+use Rattle.fl_ship.specs.Ends.{IsCopy, ShipEnds, is_shipped}
+use Rattle.fl_ship.specs.Media.{bytes_of}
+use Rattle.fl_ship.specs.Needs.{AreNeedsOf}
+use Rattle.fl_ship.specs.Tables.{told_of}
+use Rattle.fl_ship.specs.declared.ready.Ready.{Ready}
+use Rattle.fl_ship.specs.declared.status.ShipStatus.{ShipStatus}
+use Rattle.fl_ship.specs.declared.status.ShipStatus.TheVariants.{Done, OutWrite, NoMemory, NotImage, Device, BadImage, NoTable, Gap, OtherForm, Spent}
+
+-- The source is an image of the configuration, whose table at the place has the name, and is shipped; the copy is another one, or
+-- is empty.
+pub record IsReady (ready : Ready) (name : List ℕ) (source copy : MediaState) : Type 0 where
+  pub whole : IsTrue (is_whole ready.config)
+  pub needs : AreNeedsOf ready.needs ready.config
+  pub at : ready.at < length ready.config.plans
+  pub named : IsNamed ready.needs.sources.entries.items name ready.at
+  pub shipped : (plan : Plan) → slice_get ready.config.plans ready.at ≡ Some plan → is_shipped plan ≡ true
+  pub size : (config : Config) → Makes ready.config config → length source.content ≡ medium_len config
+  pub copy_size : (config : Config) → Makes ready.config config → (copy.content ≡ [] → ⊥) → length copy.content ≡ medium_len config
+  pub image : IsTrue source.tells → IsAccepted ready.config × IsImageOf source.content ready.config
+  pub own : IsTrue copy.tells → (copy.content ≡ []) ⊎ IsImageOf copy.content ready.config
+
+-- a ship that ended so has begun with neither medium
+abbrev pub IsEarly : ShipStatus → Type 0
+IsEarly NoMemory = Unit {0}
+IsEarly (NotImage side) = Unit {0}
+IsEarly (Device side) = Unit {0}
+IsEarly NoTable = Unit {0}
+IsEarly OtherForm = Unit {0}
+IsEarly (Done shipped) = ⊥
+IsEarly OutWrite = ⊥
+IsEarly (BadImage side table) = ⊥
+IsEarly (Gap last oldest) = ⊥
+IsEarly Spent = ⊥
+
+-- .. over media that stand for tables
+abbrev pub EndsEarly : List ℕ → MediaState → MediaState → MediaState → MediaState → ShipStatus → Type 0
+EndsEarly name source source_now copy copy_now status =
+    (config : Config) (sources copies : List Table) (count : ℕ) (told : Option (List ℕ)) → IsTrue source.tells → IsTrue copy.tells → IsMade config → IsImage config source.content sources → IsCopy config copy.content copies →
+    ShipEnds config sources copies name count (told_of source source_now copy copy_now told told) (bytes_of source source_now copy copy_now) status

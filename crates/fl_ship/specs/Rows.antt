@@ -1,0 +1,115 @@
+-- How a ship of rows ends, over the flash of the copy.
+use Rattle.std.specs.Prelude.{◌≡◌, ℕ, Bool, true, false, IsTrue, OnOk, Result, Ok, Err, List, [], length}
+use Rattle.fl_flash.specs.Flash.{FlashState}
+use Rattle.fl_flash.specs.declared.flash.FlashFault.{FlashFault}
+use Rattle.fl_flash.specs.declared.flash.FlashFault.TheVariants as flash
+use Rattle.fl_import.specs.Puts.{FailsInFlush}
+use Rattle.fl_import.specs.Steps.{Works}
+use Rattle.fl_model.specs.Record.{Record, Plan}
+use Rattle.fl_model.specs.Ship.{KeepsOf, records_in}
+use Rattle.fl_model.specs.Table as model
+use Rattle.fl_model.specs.Table.{flushed, lose}
+use Rattle.fl_model.specs.Work.{Device}
+use Rattle.fl_page.specs.Contents.{IsCaused}
+use Rattle.fl_ring.specs.Causes.{CausedBy}
+use Rattle.fl_ring.specs.Device.{SameDevice}
+use Rattle.fl_rlc.specs.Logged.{Rests, Stands}
+use Rattle.fl_rlc.specs.declared.table.LoggedTable.{LoggedTable}
+use Rattle.fl_table.specs.declared.faults.FlushFault.TheVariants as flush
+use Rattle.fl_table.specs.declared.faults.PutRefusal.{PutRefusal}
+use Rattle.fl_table.specs.declared.faults.PutRefusal.TheVariants as put
+use Rattle.fl_ship.specs.Puts.{HasPut, ShipsGiven}
+use Rattle.fl_ship.specs.declared.fault.ShipFault.{ShipFault}
+use Rattle.fl_ship.specs.declared.fault.ShipFault.TheVariants.{Read, Put, Flush}
+
+-- Why a ship of rows isn't done, over any bytes: a read of the source's flash failed, or one of its pages is bad; the copy has no
+-- page number left; or an operation of its flash failed. No other refusal comes.
+abbrev pub ShipCausedBy : FlashState → FlashState → FlashState → FlashState → ShipFault → Type 0
+ShipCausedBy from from_now onto onto_now (Read fault) = IsCaused from fault from_now
+ShipCausedBy from from_now onto onto_now (Put put.Spent) = Unit {0}
+ShipCausedBy from from_now onto onto_now (Put (put.Flash fault)) = CausedBy onto fault onto_now
+ShipCausedBy from from_now onto onto_now (Put (put.Key last)) = ⊥
+ShipCausedBy from from_now onto onto_now (Put (put.Columns wanted)) = ⊥
+ShipCausedBy from from_now onto onto_now (Put (put.Value column)) = ⊥
+ShipCausedBy from from_now onto onto_now (Put (put.Blob limit)) = ⊥
+ShipCausedBy from from_now onto onto_now (Put put.Stopped) = ⊥
+ShipCausedBy from from_now onto onto_now (Flush (flush.Flash fault)) = CausedBy onto fault onto_now
+ShipCausedBy from from_now onto onto_now (Flush flush.Stopped) = ⊥
+
+-- .. and why one row isn't put
+abbrev pub PutCausedBy : FlashState → FlashState → PutRefusal → Type 0
+PutCausedBy onto onto_now refusal = ShipCausedBy onto onto onto onto_now (Put refusal)
+
+-- .. and why its table isn't flushed
+abbrev pub FlushCausedBy : FlashState → FlashState → ShipFault → Type 0
+FlushCausedBy onto onto_now fault = (failed : FlashFault) × (fault ≡ Flush (flush.Flash failed)) × CausedBy onto failed onto_now
+
+-- no operation of the copy failed: its table goes on
+abbrev pub goes_on : Result ℕ ShipFault → Bool
+goes_on (Ok n) = true
+goes_on (Err (Read fault)) = true
+goes_on (Err (Put put.Spent)) = true
+goes_on (Err fault) = false
+
+-- ---- no cut is armed
+
+-- Some of these records were put: all of them, or those before a read that failed, or before one that is refused or whose put
+-- failed. Nothing is flushed.
+abbrev pub PutsGiven : Plan → List Record → model.Table → Result ℕ ShipFault → model.Table → Type 0
+PutsGiven plan given table (Ok n) after = (n ≡ length given) × HasPut plan given n table after
+PutsGiven plan given table (Err fault) after = ShipsGiven plan given table (Err fault) after
+
+-- The records that came were put so: those that were wanted, where they are told.
+pub record RowsPut (first : ℕ) (plan : Plan) (table : model.Table) (Told : Type 0) (wanted : List Record) (t : LoggedTable 64 64) (g : FlashState) (result : Result ℕ ShipFault) : Type 0 where
+  pub given : List Record
+  pub are : Told → given ≡ wanted
+  pub after : model.Table
+  pub puts : PutsGiven plan given table result after
+  pub rests : Rests g first plan (lose after)
+  pub works : IsTrue (goes_on result) → Works t g first plan after
+
+-- .. or shipped so, and the flash stands for what is left of the table without what is in memory alone; where no operation failed,
+-- the table goes on.
+pub record RowsShip (first : ℕ) (plan : Plan) (table : model.Table) (Told : Type 0) (wanted : List Record) (t : LoggedTable 64 64) (g : FlashState) (result : Result ℕ ShipFault) : Type 0 where
+  pub given : List Record
+  pub are : Told → given ≡ wanted
+  pub after : model.Table
+  pub ships : ShipsGiven plan given table result after
+  pub rests : Rests g first plan (lose after)
+  pub works : IsTrue (goes_on result) → Works t g first plan after
+
+-- The table was flushed, or an operation failed in its flush.
+abbrev pub FlushesCopy : ℕ → Plan → model.Table → LoggedTable 64 64 → FlashState → Result (Unit {0}) ShipFault → Type 0
+FlushesCopy first plan table t g (Ok done) = Works t g first plan (flushed plan table)
+FlushesCopy first plan table t g (Err (Read fault)) = ⊥
+FlushesCopy first plan table t g (Err (Put refusal)) = ⊥
+FlushesCopy first plan table t g (Err (Flush (flush.Flash flash.Media))) = (after : model.Table) × FailsInFlush plan table after × Rests g first plan (lose after)
+FlushesCopy first plan table t g (Err (Flush (flush.Flash flash.PowerLost))) = ⊥
+FlushesCopy first plan table t g (Err (Flush flush.Stopped)) = ⊥
+
+-- ---- a cut may be armed
+
+-- a table that is mounted over a flash that tells its bytes, with the power on
+pub record Runs (t : LoggedTable 64 64) (g : FlashState) (first : ℕ) (plan : Plan) (table : model.Table) : Type 0 where
+  pub stands : Stands t g first plan table
+  pub told : IsTrue g.media.tells
+  pub power : g.is_on ≡ true
+  pub device : Device
+  pub counts : SameDevice g device
+
+-- The flash stands for a table that keeps a front of what it had and was given, without its oldest records. It was given those that
+-- were wanted, where they are told. Where no operation failed, the table goes on.
+pub record RowsKeep (first : ℕ) (plan : Plan) (table : model.Table) (Told : Type 0) (wanted : List Record) (t : LoggedTable 64 64) (g : FlashState) (result : Result ℕ ShipFault) : Type 0 where
+  pub given : List Record
+  pub are : Told → given ≡ wanted
+  pub after : model.Table
+  pub keeps : KeepsOf (records_in table) given (records_in after) × KeepsOf (records_in table) given (records_in (lose after))
+  pub rests : Rests g first plan (lose after)
+  pub runs : IsTrue (goes_on result) → Runs t g first plan after
+
+-- .. of what it had, after a flush
+pub record FlushKeeps (first : ℕ) (plan : Plan) (table : model.Table) (t : LoggedTable 64 64) (g : FlashState) (result : Result (Unit {0}) ShipFault) : Type 0 where
+  pub after : model.Table
+  pub keeps : KeepsOf (records_in table) [] (records_in after)
+  pub rests : Rests g first plan (lose after)
+  pub runs : OnOk result (Runs t g first plan after)

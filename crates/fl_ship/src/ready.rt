@@ -1,0 +1,86 @@
+// Two media between which a ship may begin.
+ghost use Rattle.std.specs.Prelude.{◌≡◌, ◌<◌, Some, length, slice_get, IsTrue, IfErr, IfOk, Err};
+ghost use Rattle.fl_base.specs.Causes.{Rose};
+ghost use Rattle.fl_jobs.specs.Image.{OnlyLooksAt};
+ghost use Rattle.fl_model.specs.Record.{Plan};
+ghost use Rattle.fl_ship.specs.Ends.{is_shipped};
+ghost use Rattle.fl_ship.specs.Fits.{StatusFits};
+ghost use Rattle.fl_ship.specs.Media.{source_status};
+ghost use Rattle.fl_ship.specs.Ready.{EndsEarly, IsEarly, IsReady};
+ghost use Rattle.fl_ship.specs.declared.side.Side.{Side};
+ghost use Rattle.fl_ship.specs.declared.status.ShipStatus.{ShipStatus};
+
+use crate::copy::look_at_copy;
+use crate::needs::Needs;
+use crate::{ShipStatus, Side};
+use fl_base::Name;
+use fl_config::Config;
+use fl_flash::Media;
+use fl_jobs::{ToolStatus, config_of_image};
+use fl_script::LineRoom;
+use std::alloc::Global;
+
+/// What a ship begins with, where neither medium is refused.
+#[derive(Drop)]
+pub(crate) struct Ready {
+    /// The configuration of both.
+    pub(crate) config: Config,
+    pub(crate) needs: Needs,
+    /// The place of the table, from 0.
+    pub(crate) at: usize,
+}
+
+/// The status of a ship whose source isn't opened.
+fn source_status(status: ToolStatus) -> ShipStatus
+    ensures { result ≡ source_status status }
+{
+    match status {
+        ToolStatus::Device => ShipStatus::Device { side: Side::Source },
+        _ => ShipStatus::NotImage { side: Side::Source },
+    }
+}
+
+/// Whether the table at this place is one that is shipped: it has neither variable data nor a log.
+fn is_shipped(config: &Config, at: usize) -> bool
+    requires { at < length config.now.plans }
+    ensures { (plan : Plan) → slice_get config.now.plans at ≡ Some plan → result ≡ is_shipped plan }
+{
+    config.table(at).var.is_none() && config.log(at).is_none()
+}
+
+/// What a ship of the table with this name needs, where the source is an image that has it, and the copy is empty or an image of the
+/// same configuration. Nothing of the media changes.
+pub(crate) fn make_ready<M: Media, C: Media>(
+    alloc: Global,
+    name: Name,
+    media: &mut M,
+    copy: &mut C,
+) -> Result<Ready, ShipStatus>
+    ensures ready { IfOk result (λ ready. IsReady ready name (M.state media.old) (C.state copy.old)) }
+    ensures early { IfErr result IsEarly }
+    ensures ends { IfErr result (EndsEarly name (M.state media.old) (M.state media.new) (C.state copy.old) (C.state copy.new)) }
+    ensures fits { IfErr result (λ status. IsTrue (M.state media.old).tells → IsTrue (C.state copy.old).tells → StatusFits (M.state media.old).content (C.state copy.old).content name status) }
+    ensures device { result ≡ Err (ShipStatus.Device Side.Source) → Rose (M.state media.old).faults (M.state media.new).faults }
+    ensures copy_device { result ≡ Err (ShipStatus.Device Side.Copy) → Rose (C.state copy.old).faults (C.state copy.new).faults }
+    ensures looks { OnlyLooksAt (M.state media.old) (M.state media.new) }
+    ensures copy_looks { OnlyLooksAt (C.state copy.old) (C.state copy.new) }
+{
+    let Ok(mut lines) = LineRoom::new(alloc) else {
+        return Err(ShipStatus::NoMemory);
+    };
+    let config = match config_of_image(media, &mut lines) {
+        Ok(config) => config,
+        Err(status) => return Err(source_status(status)),
+    };
+    look_at_copy(&config, copy)?;
+    let Ok(needs) = Needs::new(alloc, &config) else {
+        return Err(ShipStatus::NoMemory);
+    };
+    let Some(at) = needs.sources.find(name) else {
+        return Err(ShipStatus::NoTable);
+    };
+    if !is_shipped(&config, at) {
+        return Err(ShipStatus::OtherForm);
+    }
+    Ok(Ready { config, needs, at })
+}
