@@ -1,0 +1,5 @@
+use Rattle.fl_shipped.proofs.Growing.{ascend}
+use Rattle.fl_shipped.proofs.keys_ascend.Goals as goal
+
+pub returns : goal.returns
+returns c = ascend
