@@ -8,7 +8,7 @@ import sys
 import time
 from collections.abc import Callable
 
-from works import FILE, Task, Work
+from works import COPY, FILE, Task, Work
 
 
 @dataclasses.dataclass(frozen=True)
@@ -59,9 +59,11 @@ class Folder:
         return shutil.copy(made, path) if work.changes else made
 
     def execute(self, contender, work, path, replies):
-        """A run of a work over a file, with its script as standard input."""
+        """A run of a work over a file, with its script as standard input; if it makes a second one, that isn't there yet."""
         task = contender.task(work)
-        words = [path if word == FILE else word for word in task.words]
+        copy = self.path / "copy"
+        copy.unlink(missing_ok=True)
+        words = [path if word == FILE else word.replace(COPY, str(copy)) for word in task.words]
         with self.script(task.text).open("rb") as text:
             return subprocess.run([contender.program, *words], stdin=text, stdout=replies, stderr=subprocess.PIPE, check=True)
 
@@ -72,6 +74,7 @@ class Folder:
     def seconds(self, contender, work):
         """How long a run of a work takes; its replies are thrown away."""
         path = self.file_for(contender, work)
+        (self.path / "copy").unlink(missing_ok=True)
         begin = time.perf_counter()
         self.execute(contender, work, path, subprocess.DEVNULL)
         return time.perf_counter() - begin

@@ -7,6 +7,7 @@ import math
 import random
 
 FILE = "FILE"  # in the words of a task it stands for the image or the database
+COPY = "COPY"  # .. and in a word for a second file, which isn't there yet
 PAGE, BLOCK, ROW = 512, 16, 12
 SPANS, ONE_LOAD, LONGEST_SCRIPT = 200, 1_000_000, 400_000
 
@@ -111,7 +112,7 @@ def all_works(rows):
                sql(FAST, CREATE, "BEGIN;",
                    *in_batches((f"INSERT INTO t VALUES({k},{v});" for k, v in readings), 40, "COMMIT; BEGIN;"), "COMMIT;"))
     return [loaded, put, *queries(begin, loaded, put, rows, few), *full_entries(rows, readings), *logged(rows, readings),
-            *blobs(min(few, 40_000)), *tools(begin, loaded, readings)]
+            *blobs(min(few, 40_000)), *tools(begin, loaded, readings), shipped(put, few)]
 
 
 def queries(begin, loaded, put, rows, few):
@@ -191,3 +192,11 @@ def tools(begin, loaded, readings):
              Task(("-csv", "-header", FILE, "SELECT k AS key, v AS c1 FROM t;")), loaded, has_answers=True),
         Work("check the image", Task(("check", FILE)), sql("PRAGMA integrity_check;"), loaded),
     ]
+
+
+def shipped(put, rows):
+    """The rows that were put become those of a new copy."""
+    return Work(f"ship {rows:,} rows into a new copy", Task(("ship", FILE, COPY, "t", "1000000")),
+                Task((FILE, f"ATTACH '{COPY}' AS copy; PRAGMA copy.journal_mode=OFF; PRAGMA copy.synchronous=OFF;",
+                      CREATE.replace("TABLE t", "TABLE copy.t") + " INSERT INTO copy.t SELECT k, v FROM main.t ORDER BY k;")),
+                put, is_plain=False)

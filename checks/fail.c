@@ -1,9 +1,11 @@
 // Stands before the C library's calls on files: counts those on the descriptors that FAIL_ON names (source, sink or image), and
 // makes the one whose number, from 1 on, is in FAIL_AT fail with EIO. If FAIL_HALF is set, that one does half of its work first, and
-// the next one fails. At the end it writes on file descriptor 9 how many calls there were.
+// the next one fails. If FAIL_KILL is set, the program is killed in place of the failure. At the end it writes on file descriptor 9
+// how many calls there were.
 #define _GNU_SOURCE
 #include <dlfcn.h>
 #include <errno.h>
+#include <signal.h>
 #include <stdio.h>
 #include <stdlib.h>
 #include <string.h>
@@ -13,12 +15,13 @@
 enum { GO_ON, HALF, FAIL };
 
 static long calls, failing = -1;
-static int is_half, on_source, on_sink, on_image;
+static int is_half, is_kill, on_source, on_sink, on_image;
 
 __attribute__((constructor)) static void read_words(void) {
     const char *on = getenv("FAIL_ON"), *at = getenv("FAIL_AT");
     if (at) failing = atol(at);
     is_half = getenv("FAIL_HALF") != NULL;
+    is_kill = getenv("FAIL_KILL") != NULL;
     on_source = on && !strcmp(on, "source");
     on_sink = on && !strcmp(on, "sink");
     on_image = on && !strcmp(on, "image");
@@ -26,19 +29,17 @@ __attribute__((constructor)) static void read_words(void) {
 
 static int is_watched(int file) { return (on_source && file == 0) || (on_sink && file == 1) || (on_image && file > 2 && file != 9); }
 
+static int fail(void) {
+    if (is_kill) kill(getpid(), SIGKILL);
+    errno = EIO;
+    return FAIL;
+}
+
 static int next_of(int file) {
     if (!is_watched(file)) return GO_ON;
     calls++;
-    if (calls == failing) {
-        if (is_half) return HALF;
-        errno = EIO;
-        return FAIL;
-    }
-    if (is_half && calls == failing + 1) {
-        errno = EIO;
-        return FAIL;
-    }
-    return GO_ON;
+    if (calls == failing) return is_half ? HALF : fail();
+    return is_half && calls == failing + 1 ? fail() : GO_ON;
 }
 
 #define NEXT(name, ...) ((ssize_t (*)(__VA_ARGS__))dlsym(RTLD_NEXT, #name))

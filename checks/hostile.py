@@ -112,14 +112,20 @@ class Program:
 
     def fail(self, image, script, on, at, half=False):
         """Runs a script while one call fails; also how many calls there were."""
+        ran, calls = self.call(["run", image], script, on, at, half)
+        return ran.returncode, ran.stdout.decode().splitlines(), calls
+
+    def call(self, words, text, on, at, half=False, kill=False):
+        """Calls the program with these words while one call of its own fails, or is its last one; also how many calls there were."""
         told, tell = os.pipe()
-        words = {**os.environ, "SHIM": str(self.shim), "FAIL_ON": on, "FAIL_AT": str(at), **({"FAIL_HALF": "1"} if half else {})}
-        start = ["bash", "-c", f'LD_PRELOAD=$SHIM exec "$0" "$@" 9>&{tell} {tell}>&-', self.path, "run", image]
-        ran = subprocess.run(start, input=script.encode(), capture_output=True, env=words, pass_fds=[tell], timeout=100)
+        how = {**({"FAIL_HALF": "1"} if half else {}), **({"FAIL_KILL": "1"} if kill else {})}
+        env = {**os.environ, "SHIM": str(self.shim), "FAIL_ON": on, "FAIL_AT": str(at), **how}
+        start = ["bash", "-c", f'LD_PRELOAD=$SHIM exec "$0" "$@" 9>&{tell} {tell}>&-', self.path, *words]
+        ran = subprocess.run(start, input=text.encode(), capture_output=True, env=env, pass_fds=[tell], timeout=100)
         os.close(tell)
         with os.fdopen(told) as told:
             calls = told.read()
-        return ran.returncode, ran.stdout.decode().splitlines(), int(calls or 0)
+        return ran, int(calls or 0)
 
 
 def wanted_lines(state, extra=()):

@@ -20,6 +20,7 @@ chmod 755 "$folder" && cp "$1" "$folder/flashts" && chmod 755 "$folder/flashts" 
 . "$here/files.sh"
 . "$here/shared.sh"
 . "$here/synced.sh"
+. "$here/ships.sh"
 
 echo "program: $held rows hold, $missed don't, $left_out left out"
 [ $missed = 0 ]

@@ -17,7 +17,7 @@ rm two
 flashts help
 told=$(printf '%s' "$(cat err)$(grep -v '^flashts \|^    ' out)")
 [ $status = 0 ] || told="status $status"
-for words in 'run [sync] IMAGE' 'shell [sync] IMAGE' 'plan [SECONDS]' 'check IMAGE [all]' 'map IMAGE [svg]' 'export IMAGE NAME [LOW HIGH]' 'import IMAGE NAME [gone]' 'salvage IMAGE NAME' 'help'; do
+for words in 'run [sync] IMAGE' 'shell [sync] IMAGE' 'plan [SECONDS]' 'check IMAGE [all]' 'map IMAGE [svg]' 'export IMAGE NAME [LOW HIGH]' 'import IMAGE NAME [gone]' 'salvage IMAGE NAME' 'ship IMAGE COPY NAME COUNT' 'help'; do
     grep -qxF "flashts $words" out || told="no $words"
 done
 tell "the help has each job" "$told"

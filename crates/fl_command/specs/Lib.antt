@@ -2,3 +2,4 @@ pub mod Number
 pub mod Text
 pub mod Ends
 pub mod Plan
+pub mod Ships

@@ -2,7 +2,7 @@
 use Rattle.std.specs.Prelude.{ℕ, ◌==◌, Option, Some, None, is_some, List, [], ◌∷◌, ◌++◌, codes, decimal, if◌then◌else◌}
 use Rattle.std.specs.List.{list_any}
 use Rattle.fl_command.specs.declared.exit.Exit.{Exit}
-use Rattle.fl_command.specs.declared.exit.Exit.TheVariants.{Run, Shell, Plan, Job, Salvage, Words, Help, InUse}
+use Rattle.fl_command.specs.declared.exit.Exit.TheVariants.{Run, Shell, Plan, Job, Salvage, Ship, Words, Help, InUse, CopyInUse, CopyIsImage}
 use Rattle.fl_jobs.specs.Number.{number_of}
 use Rattle.fl_csv.specs.declared.record.LineForm.{LineForm}
 use Rattle.fl_jobs.specs.declared.job_end.JobEnd.{JobEnd}
@@ -18,6 +18,10 @@ use Rattle.fl_shell.specs.declared.end.Flushed.{Flushed}
 use Rattle.fl_shell.specs.declared.end.ShellEnd.{ShellEnd}
 use Rattle.fl_shell.specs.declared.end.ShellStatus.{ShellStatus}
 use Rattle.fl_shell.specs.declared.end.ShellStatus.TheVariants as shell
+use Rattle.fl_ship.specs.Number as ship_number
+use Rattle.fl_ship.specs.declared.side.Side.TheVariants.{Source, Copy}
+use Rattle.fl_ship.specs.declared.status.ShipStatus.{ShipStatus}
+use Rattle.fl_ship.specs.declared.status.ShipStatus.TheVariants as ship
 use Rattle.fl_sizing.specs.declared.end.PlanStatus.{PlanStatus}
 use Rattle.fl_sizing.specs.declared.end.PlanStatus.TheVariants as plan
 
@@ -149,6 +153,35 @@ passed_over_text status passed = []
 abbrev pub salvage_text : SalvageEnd → List ℕ
 salvage_text end = status_text end.status None ++ passed_over_text end.status end.passed_over
 
+-- the keys of a gap
+abbrev pub gap_text : ℕ → ℕ → List ℕ
+gap_text last oldest = line_of (codes "the image has no record with the copy's last key " ++ decimal last ++ codes ", its first one is " ++ decimal oldest ++ codes "\n")
+
+-- what a status of a ship means that has a number alone, on which side, and what to do
+abbrev pub ship_meaning_text : ShipStatus → List ℕ
+ship_meaning_text (ship.NotImage Source) = line_of (codes "the first file is no image, is missing, or can't be opened: look at its name and its rights\n")
+ship_meaning_text (ship.NotImage Copy) =
+    line_of (codes "the copy is neither empty nor an image of the same configuration: name another file, or remove it if its making failed\n")
+ship_meaning_text (ship.Device Source) = line_of (codes "the image can't be read or repaired: look for room and for its rights, and call again\n")
+ship_meaning_text (ship.Device Copy) = line_of (codes "the copy can't be made, read or written: look at its name, for room and for its rights, and call again\n")
+ship_meaning_text (ship.BadImage Source table) =
+    line_of (codes "no run has left what the pages of table " ++ decimal table ++ codes " of the image, counted from 0, have: flashts check IMAGE all tells which\n")
+ship_meaning_text (ship.BadImage Copy table) =
+    line_of (codes "no run has left what the pages of table " ++ decimal table ++ codes " of the copy, counted from 0, have: flashts check COPY all tells which\n")
+ship_meaning_text ship.NoTable = meaning_text job.NoTable
+ship_meaning_text (ship.Gap last oldest) =
+    gap_text last oldest ++ line_of (codes "records between were reclaimed, or the copy is of another image: keep it, and begin a new one\n")
+ship_meaning_text ship.OtherForm = line_of (codes "a table with variable data or a log isn't shipped: export it and import it\n")
+ship_meaning_text ship.Spent = line_of (codes "the copy's table has no page number left: keep this copy, and begin a new one\n")
+ship_meaning_text other = []
+
+-- of a ship: the words of the same statuses of a run, and the number of the others
+abbrev pub ship_text : ShipStatus → List ℕ
+ship_text (ship.Done shipped) = []
+ship_text ship.OutWrite = run_text OutWrite ++ line_of (codes "what was shipped is in the copy: call again to ship what is left\n")
+ship_text ship.NoMemory = run_text NoMemory
+ship_text status = line_of (codes "status " ++ decimal (ship_number.number_of status) ++ codes "\n") ++ ship_meaning_text status
+
 -- the forms of the command line, below that of a run
 abbrev pub form_of : List ℕ → List ℕ
 form_of words = codes "                flashts " ++ words
@@ -156,7 +189,7 @@ form_of words = codes "                flashts " ++ words
 abbrev pub forms_text : List ℕ
 forms_text =
     run_text Usage ++ form_of (codes "shell [sync] IMAGE\n") ++ form_of (codes "plan [SECONDS]\n") ++ form_of (codes "check IMAGE [all]\n") ++ form_of (codes "map IMAGE [svg]\n") ++ form_of (codes "export IMAGE NAME [LOW HIGH]\n")
-    ++ form_of (codes "import IMAGE NAME [gone]\n") ++ form_of (codes "salvage IMAGE NAME\n") ++ form_of (codes "help\n")
+    ++ form_of (codes "import IMAGE NAME [gone]\n") ++ form_of (codes "salvage IMAGE NAME\n") ++ form_of (codes "ship IMAGE COPY NAME COUNT\n") ++ form_of (codes "help\n")
 
 abbrev pub exit_text : Exit → List ℕ
 exit_text (Run status) = run_text status
@@ -164,6 +197,9 @@ exit_text (Shell end) = shell_text end
 exit_text (Plan status) = plan_text status
 exit_text (Job end) = job_text end
 exit_text (Salvage end) = salvage_text end
+exit_text (Ship status) = ship_text status
 exit_text Words = forms_text
 exit_text Help = []
 exit_text InUse = line_of (codes "another program uses the image\n") ++ line_of (codes "it is left as it is; call again if that one has ended\n")
+exit_text CopyInUse = line_of (codes "another program uses the copy\n") ++ line_of (codes "it is left as it is; call again if that one has ended\n")
+exit_text CopyIsImage = line_of (codes "the copy is the image itself\n") ++ line_of (codes "it is left as it is; name another file for the copy\n")

@@ -4,11 +4,13 @@ ghost use Rattle.fl_command.specs.Number.{number_of, unwritten};
 
 use crate::lines::{Forms, JobLines, PlanLines, RunLines, SalvageLines};
 use crate::shell_lines::ShellLines;
+use crate::ship_lines::ShipLines;
 use fl_base::SinkFailed;
 use fl_jobs::{JobEnd, ToolStatus};
 use fl_salvage::SalvageEnd;
 use fl_session::Status;
 use fl_shell::{ShellEnd, ShellStatus};
+use fl_ship::ShipStatus;
 use fl_sizing::PlanStatus;
 use std::fmt::{self, Display};
 
@@ -25,12 +27,18 @@ pub enum Exit {
     Job(JobEnd),
     /// The salvage of a table ended so.
     Salvage(SalvageEnd),
+    /// A ship between two images ended so.
+    Ship(ShipStatus),
     /// The words name neither a run nor a job, and no file was looked at.
     Words,
     /// The jobs were asked for, and told.
     Help,
     /// Another program uses the image, and nothing was read or changed.
     InUse,
+    /// Another program uses the copy of a ship, and nothing was read or changed.
+    CopyInUse,
+    /// The copy of a ship is the image itself, and nothing was read or changed.
+    CopyIsImage,
 }
 
 impl Exit {
@@ -44,9 +52,10 @@ impl Exit {
             Exit::Plan(status) => status.number(),
             Exit::Job(end) => end.status.number(),
             Exit::Salvage(end) => end.status.number(),
+            Exit::Ship(status) => status.number(),
             Exit::Words => 1,
             Exit::Help => 0,
-            Exit::InUse => 20,
+            Exit::InUse | Exit::CopyInUse | Exit::CopyIsImage => 20,
         }
     }
 
@@ -73,6 +82,7 @@ impl Exit {
                 status: ToolStatus::OutWrite,
                 ..end
             }),
+            (Err(_), Exit::Ship(_)) => Exit::Ship(ShipStatus::OutWrite),
             (Err(_), Exit::Help) => Exit::Run(Status::OutWrite),
             (Err(_), exit) => exit,
         }
@@ -93,10 +103,17 @@ impl Display for Exit {
             Exit::Plan(status) => PlanLines(*status).fmt(f),
             Exit::Job(end) => JobLines(*end).fmt(f),
             Exit::Salvage(end) => SalvageLines(*end).fmt(f),
+            Exit::Ship(status) => ShipLines(*status).fmt(f),
             Exit::Words => Forms.fmt(f),
             Exit::Help => Ok(()),
             Exit::InUse => f.write_str(
                 "flashts: another program uses the image\nflashts: it is left as it is; call again if that one has ended\n",
+            ),
+            Exit::CopyInUse => f.write_str(
+                "flashts: another program uses the copy\nflashts: it is left as it is; call again if that one has ended\n",
+            ),
+            Exit::CopyIsImage => f.write_str(
+                "flashts: the copy is the image itself\nflashts: it is left as it is; name another file for the copy\n",
             ),
         }
     }

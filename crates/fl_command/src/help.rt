@@ -13,7 +13,7 @@ struct JobForm {
 }
 
 /// The jobs, in the order in which they are told: one more is an entry more here, and one of the usage's forms.
-const JOBS: [JobForm; 9] = [
+const JOBS: [JobForm; 10] = [
     JobForm {
         form: "run [sync] IMAGE",
         does: "runs the script on standard input, and makes an image that is missing; with sync each page is on the disk before it is answered",
@@ -53,6 +53,11 @@ const JOBS: [JobForm; 9] = [
         form: "salvage IMAGE NAME",
         does: "writes the rows of a table that a damaged image still holds, as CSV",
         example: "flashts salvage sensor.img env > env.csv",
+    },
+    JobForm {
+        form: "ship IMAGE COPY NAME COUNT",
+        does: "puts the next rows of a table, at most so many, into the same table of a copy, and makes a copy that is missing",
+        example: "flashts ship sensor.img copy.img env 1000",
     },
     JobForm {
         form: "help",

@@ -1,4 +1,4 @@
-//! The command line as calls: a job over an image by the words that name it, and how the program ends, with the number of its
+//! The command line as calls: a job over an image, or a ship between two, by the words that name it, and how the program ends, with the number of its
 //! status and the text on standard error.
 #![tactic(auto)]
 
@@ -11,6 +11,8 @@ mod pending_line;
 mod planning;
 mod reason;
 mod shell_lines;
+mod ship_lines;
+mod shipping;
 
 pub use ending::Ending;
 pub use exit::Exit;
@@ -18,3 +20,4 @@ pub use help::Help;
 pub use jobs::tool;
 pub use planning::plan;
 pub use reason::reason_of;
+pub use shipping::ship;

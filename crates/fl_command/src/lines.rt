@@ -132,7 +132,7 @@ impl Display for StatusLines {
 
 /// What a status means that has a number alone, and what to do, in a line; none for the others.
 #[derive(Drop)]
-struct Meaning(ToolStatus);
+pub(crate) struct Meaning(pub(crate) ToolStatus);
 
 impl Display for Meaning {
     ghost use Rattle.std.specs.Prelude.{Some};
@@ -316,11 +316,15 @@ impl Display for Forms {
         f.write_str(
             "                flashts shell [sync] IMAGE\n                flashts plan [SECONDS]\n",
         )?;
-        f.write_str("                flashts check IMAGE [all]\n")?;
-        f.write_str("                flashts map IMAGE [svg]\n")?;
+        f.write_str(
+            "                flashts check IMAGE [all]\n                flashts map IMAGE [svg]\n",
+        )?;
         f.write_str(
             "                flashts export IMAGE NAME [LOW HIGH]\n                flashts import IMAGE NAME [gone]\n",
         )?;
-        f.write_str("                flashts salvage IMAGE NAME\n                flashts help\n")
+        f.write_str("                flashts salvage IMAGE NAME\n")?;
+        f.write_str(
+            "                flashts ship IMAGE COPY NAME COUNT\n                flashts help\n",
+        )
     }
 }

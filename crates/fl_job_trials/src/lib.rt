@@ -1,5 +1,5 @@
-//! Tests of checks, maps, salvages, exports and imports, over images made by hand, through public calls. They stand above all that they call, so that
-//! each crate below is proved once.
+//! Tests of checks, maps, salvages, exports, imports and ships, over images made by hand, through public calls. They stand above all that they call,
+//! so that each crate below is proved once.
 #![tactic(auto)]
 
 #[cfg(test)]
@@ -18,3 +18,5 @@ mod logs;
 mod maps;
 #[cfg(test)]
 mod salvages;
+#[cfg(test)]
+mod ships;

@@ -3,11 +3,15 @@
 //! IMAGE NAME LOW HIGH` writes the records of a table whose keys are in the range, `flashts salvage IMAGE NAME` those that a damaged
 //! image still holds, and `flashts import IMAGE NAME` puts those that standard input has into a table. `flashts plan` tells what the
 //! tables of a configuration keep and take, without an image, and `flashts help` tells the jobs. `flashts shell IMAGE` answers commands
-//! one by one, and goes on after a line that is none.
+//! one by one, and goes on after a line that is none. `flashts ship IMAGE COPY NAME COUNT` puts the next records of a table into a
+//! copy, which is an image of its own.
 #![tactic(auto)]
+
+mod ships;
 
 ghost use Rattle.std.specs.Prelude.{◌≤◌, IfSome};
 
+use crate::ships::ship_told;
 use fl_base::{Sink, Source};
 use fl_command::{Ending, Exit, Help, plan, reason_of, tool};
 use fl_edge::{
@@ -15,7 +19,7 @@ use fl_edge::{
     SyncedMedia, is_missing, remove_empty,
 };
 use fl_flash::Media;
-use fl_jobs::{ToolJob, tool_of};
+use fl_jobs::{ToolJob, ship_of, tool_of};
 use fl_reason::{Tail, TailSource};
 use fl_session::{Status, image_of, run};
 use fl_shell::{ShellEnd, ShellStatus, shell, shell_of};
@@ -116,6 +120,9 @@ where
 {
     if let Some(job) = plan_of(words) {
         return plan_told(rt, job);
+    }
+    if let Some(job) = ship_of(words) {
+        return ship_told(rt, job, words[1].as_str(), words[2].as_str());
     }
     let job = tool_of(words);
     let named = match job {
