@@ -63,7 +63,7 @@ class Folder:
         task = contender.task(work)
         copy = self.path / "copy"
         copy.unlink(missing_ok=True)
-        words = [path if word == FILE else word.replace(COPY, str(copy)) for word in task.words]
+        words = [path if word == FILE else str(word).replace(COPY, str(copy)) for word in task.words]
         with self.script(task.text).open("rb") as text:
             return subprocess.run([contender.program, *words], stdin=text, stdout=replies, stderr=subprocess.PIPE, check=True)
 
