@@ -71,6 +71,7 @@ pub mod StandingKnown
 pub mod KeyOrder
 pub mod KeptPages
 pub mod Looks
+pub mod RingsKept
 pub mod KeptRead
 pub mod StillStands
 pub mod Apart

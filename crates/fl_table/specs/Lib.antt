@@ -18,6 +18,7 @@ pub mod Knowing
 pub mod Mounting
 pub mod MountLimits
 pub mod Look
+pub mod Rings
 pub mod Kept
 pub mod BlobAt
 pub mod Finding

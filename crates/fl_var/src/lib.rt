@@ -1,6 +1,7 @@
 //! Variable-length data: blobs in the pages of a ring of their own, and those that wait in memory for their page.
 #![tactic(auto)]
 
+mod kept;
 mod mount;
 mod open;
 mod page;

@@ -33,7 +33,7 @@ impl VarData {
     ghost use Rattle.std.specs.Prelude.{◌^◌, ◌<◌, false, [], IfOk};
     ghost use Rattle.fl_flash.specs.Flash.{FlashState, pages};
     ghost use Rattle.fl_model.specs.Record.{Plan};
-    ghost use Rattle.fl_var.specs.Memory.{is_mounted, next_in, oldest_in, waiting_in, var_shape, IsPlanned, LiesOn};
+    ghost use Rattle.fl_var.specs.Memory.{is_mounted, next_in, waiting_in, var_shape, IsPlanned, LiesOn};
 
     /// Variable data in a ring at this place of a flash of this shape. It isn't mounted.
     pub fn plan(alloc: Global, geometry: Geometry, place: RingPlace) -> Result<VarData, NoMemory>
@@ -59,16 +59,6 @@ impl VarData {
     {
         match &self.ring {
             Some(ring) => ring.next_number(),
-            None => 0,
-        }
-    }
-
-    /// The number of the oldest kept page, or of the next page where none is kept.
-    pub(crate) fn oldest(&self) -> u32
-        ensures { result ≡ oldest_in self.now }
-    {
-        match &self.ring {
-            Some(ring) => ring.oldest(),
             None => 0,
         }
     }
