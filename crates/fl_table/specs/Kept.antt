@@ -1,5 +1,5 @@
 -- A kept page that was read, over any bytes and for a table of the model.
-use Rattle.std.specs.Prelude.{◌≡◌, ℕ, ◌<◌, Bool, true, false, option_map, unwrap_or, Result, Ok, Err, List, map}
+use Rattle.std.specs.Prelude.{◌≡◌, ℕ, ◌<◌, Bool, true, false, Option, None, Some, option_map, unwrap_or, Result, Ok, Err, List, map}
 use Rattle.fl_mark.specs.Mark.{state_of_page}
 use Rattle.fl_mark.specs.declared.page_state.PageState.TheVariants.{Committed}
 use Rattle.fl_model.specs.Image.{rows_at}
@@ -22,6 +22,12 @@ abbrev pub IfRead : Result Bool ReadFault → Type 0 → Type 0
 IfRead (Ok found) P = P
 IfRead (Err (BadPage bad)) P = P
 IfRead (Err (Flash fault)) P = Unit {0}
+
+-- the buffer holds the flash page that was read, and none where the read failed
+abbrev pub IsHeldAt : ℕ → Result Bool ReadFault → Option ℕ → Type 0
+IsHeldAt at (Ok found) holds = holds ≡ Some at
+IsHeldAt at (Err (BadPage bad)) holds = holds ≡ Some at
+IsHeldAt at (Err (Flash fault)) holds = holds ≡ None
 
 -- The bytes that were read for the page with this number: a page with rows, one that isn't committed, or one that is
 -- committed and has another number or no count that a page has.

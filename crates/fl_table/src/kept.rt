@@ -17,7 +17,7 @@ impl<const KNOTS: usize, const SLOTS: usize> Table<KNOTS, SLOTS> {
     ghost use Rattle.fl_model.specs.Table as model;
     ghost use Rattle.fl_page.specs.Page.{IsGoodPage, rows_in};
     ghost use Rattle.fl_page.specs.View.{page_of, layout_of_page, count_of, rows_of};
-    ghost use Rattle.fl_table.specs.Kept.{place_of, IfRead, IsFound, ShowsRows};
+    ghost use Rattle.fl_table.specs.Kept.{place_of, IfRead, IsFound, IsHeldAt, ShowsRows};
     ghost use Rattle.fl_table.specs.Look.{layout_in, oldest_in};
     ghost use Rattle.fl_table.specs.Memory.{next_in, LiesOn};
     ghost use Rattle.fl_table.specs.Standing.{Stands};
@@ -38,6 +38,7 @@ impl<const KNOTS: usize, const SLOTS: usize> Table<KNOTS, SLOTS> {
         ensures one { OnOk result ((F.state flash.new).work.reads ≡ next_count (F.state flash.old).work.reads) }
         ensures room { length buf.new.bytes ≡ length buf.old.bytes }
         ensures found { IsFound (layout_in self.now) number buf.new.bytes result }
+        ensures holds { IsHeldAt (place_of self.now number) result buf.new.holds }
         ensures page { IfRead result (IsTrue (F.state flash.old).media.tells → buf.new.bytes ≡ page_at (F.state flash.old) (place_of self.now number)) }
         ensures stands { (first : ℕ) → (plan : Plan) → (table : model.Table) → (count : ℕ) → IsTrue (F.state flash.old).media.tells →
             Stands self.now (F.state flash.old) first plan table → slice_get table.rows.counts (number - rings.oldest table.rows) ≡ Some count →

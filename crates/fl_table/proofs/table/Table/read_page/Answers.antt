@@ -1,4 +1,4 @@
-use Rattle.std.proofs.Common.{rules, ℕ, List, subst, ◌≡◌, ◌≤◌, true, false, Ok, Err, sym, ◌∙◌, ap, arith}
+use Rattle.std.proofs.Common.{rules, ℕ, List, subst, ◌≡◌, ◌≤◌, true, false, Some, Ok, Err, sym, ◌∙◌, ap, arith}
 use Rattle.fl_flash.specs.Flash.{page_at}
 use Rattle.fl_model.specs.Ring as rings
 use Rattle.fl_page.specs.declared.fault.ReadFault.TheVariants.{BadPage}
@@ -73,3 +73,15 @@ returns-in-Ok-clause-reads g c = read-once _ _ _ _ _ _ c.read.ensures
 
 pub returns-in-Err-of-clause-reads : goal.returns-in-Err-of-clause-reads
 returns-in-Err-of-clause-reads g c = read-once _ _ _ _ _ _ c.read.ensures
+
+pub returns-in_default-state_of-clause-holds : goal.returns-in_default-state_of-clause-holds
+returns-in_default-state_of-clause-holds g c = c.in_default-read.ensures.holds ∙ ap Some (c.place_of.ensures.place ∙ sym (ring-place c.args.self.now c.in-Some.ring c.args.number c.in-Some.is))
+
+pub returns-in-Ok-clause-holds : goal.returns-in-Ok-clause-holds
+returns-in-Ok-clause-holds g c = c.in_default-read.ensures.holds ∙ ap Some (c.place_of.ensures.place ∙ sym (ring-place c.args.self.now c.in-Some.ring c.args.number c.in-Some.is))
+
+pub returns-in-Err-of-clause-holds : goal.returns-in-Err-of-clause-holds
+returns-in-Err-of-clause-holds g c = c.in_default-read.ensures.holds ∙ ap Some (c.place_of.ensures.place ∙ sym (ring-place c.args.self.now c.in-Some.ring c.args.number c.in-Some.is))
+
+pub returns-in-Err-clause-holds : goal.returns-in-Err-clause-holds
+returns-in-Err-clause-holds g c = c.in-Err.ensures.none
