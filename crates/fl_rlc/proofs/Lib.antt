@@ -47,3 +47,4 @@ pub mod MountLeaves
 pub mod ReplayLeft
 pub mod RestsBehind
 pub mod Images
+pub mod RingsKept

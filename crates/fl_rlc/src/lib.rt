@@ -9,8 +9,10 @@ mod plan;
 mod put;
 mod refusal;
 mod replay;
+mod rings;
 mod rows;
 mod seal;
 mod table;
 
+pub use rings::RingCounts;
 pub use table::LoggedTable;
