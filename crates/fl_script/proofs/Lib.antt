@@ -12,3 +12,4 @@ pub mod Reading
 pub mod Spaces
 pub mod Splitting
 pub mod Texts
+pub mod RowTexts

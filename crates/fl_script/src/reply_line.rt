@@ -3,7 +3,7 @@ ghost use Rattle.std.specs.Prelude.{◌≡◌, ◌≤◌, [], length};
 ghost use Rattle.fl_words.specs.Reply as reply;
 ghost use Rattle.fl_script.specs.ReplyView.{note_view, reply_text};
 
-use crate::{BlobNote, Reply, TextLine};
+use crate::{BlobNote, Reply, RowLine, TextLine};
 use fl_base::Name;
 
 fn add_row(line: &mut TextLine, key: u64, values: &[i64], note: BlobNote)
@@ -11,13 +11,9 @@ fn add_row(line: &mut TextLine, key: u64, values: &[i64], note: BlobNote)
     requires few { length values.now ≤ 8 }
     ensures { line.new ≡ reply.text (reply.Row key values.now (note_view note)) }
 {
-    line.add_number(b"row ", key);
-    line.add_numbers(values);
-    match note {
-        BlobNote::NoRing => line.add(b"\n"),
-        BlobNote::Nothing => line.add(b" blob none\n"),
-        BlobNote::Length(length) => line.end_with_number(b" blob ", length),
-    }
+    let mut row = RowLine::new();
+    row.show(key, values, note);
+    line.add(row.bytes());
 }
 
 fn add_fields(line: &mut TextLine, fields: &[i128])
