@@ -12,7 +12,7 @@ use crate::rows::{RowForm, show_row};
 use fl_base::{Sink, SinkFailed};
 use fl_flash::Flash;
 use fl_page::{ReadFault, RowHere};
-use fl_script::{Reply, write_reply};
+use fl_script::{Reply, RowLine, write_reply};
 use fl_tables::Cursor;
 
 /// Why rows aren't listed to the end.
@@ -61,11 +61,12 @@ pub(crate) fn give_rows<F: Flash, K: Sink>(
     ensures gives { IsTold cursor.old (contents_of (F.state flash.old)) → Gives form.blobs count cursor.old cursor.new (contents_of (F.state flash.old)) (K.written out.old) (K.written out.new) result }
     ensures reads { IsTold cursor.old (contents_of (F.state flash.old)) → ReadsToGive count cursor.old (contents_of (F.state flash.old)) (F.state flash.old).work.reads (F.state flash.new).work.reads result }
 {
+    let mut line = RowLine::new();
     for given in 0..count {
         if !cursor.advance(flash)? {
             return Ok(given);
         }
-        show_row(&cursor.row(), form, out)?;
+        show_row(&cursor.row(), form, &mut line, out)?;
     }
     Ok(count)
 }

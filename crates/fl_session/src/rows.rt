@@ -13,7 +13,7 @@ use crate::blob_note::note_of;
 use arrayvec::ArrayVec;
 use fl_base::{Sink, SinkFailed};
 use fl_schema::RowRef;
-use fl_script::{Reply, write_reply};
+use fl_script::{Reply, RowLine, write_all};
 use fl_tables::Table;
 
 /// What the lines of a table's rows say beside their keys.
@@ -65,10 +65,12 @@ pub(crate) fn line_of(row: &RowRef<'_>, form: RowForm) -> Reply
     }
 }
 
-/// Writes the line of a row.
+/// Writes the line of a row, for which there is room in `line`.
+#[inline(always)]
 pub(crate) fn show_row<K: Sink>(
     row: &RowRef<'_>,
     form: RowForm,
+    line: &mut RowLine,
     out: &mut K,
 ) -> Result<(), SinkFailed>
     requires columns { form.columns ≡ length (layout_of_row row.now).columns }
@@ -76,5 +78,11 @@ pub(crate) fn show_row<K: Sink>(
     ensures text { Written (K.written out.old) (K.written out.new) result (text (row_reply form.blobs (row_of row.now))) }
     ensures cause { HasCause (K.faults out.old) (K.faults out.new) result }
 {
-    write_reply(&line_of(row, form), out)
+    let values = values_of(row, form.columns);
+    line.show(
+        row.key(),
+        values.as_slice(),
+        note_of(form.blobs, row.blob()),
+    );
+    write_all(line.bytes(), out)
 }
