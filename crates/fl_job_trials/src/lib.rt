@@ -19,4 +19,6 @@ mod maps;
 #[cfg(test)]
 mod salvages;
 #[cfg(test)]
+mod ship_cuts;
+#[cfg(test)]
 mod ships;

@@ -26,7 +26,7 @@ const WITH_BLOBS: &str = "device 64 2\ntable t 8 i32 3 0 3 8 0 10 1 30\n";
 const BESIDE_BYTES: u16 = 768;
 
 // A data page with one row: the value 0 with a key below 256.
-fn row_page(number: [u8; 4], key: u8) -> [u8; 28] {
+pub(crate) fn row_page(number: [u8; 4], key: u8) -> [u8; 28] {
     [
         number[0], number[1], number[2], number[3], 1, 0, 0, 0, 1, 0, 0, 0, 0, 0, 0, 0, key, 0, 0,
         0, 0, 0, 0, 0, 0, 0, 0, 0,
@@ -34,7 +34,7 @@ fn row_page(number: [u8; 4], key: u8) -> [u8; 28] {
 }
 
 // Ships at most so many records of the table with a name, into a sink with so much room, and tells how that ended.
-fn ship(
+pub(crate) fn ship(
     alloc: Global,
     name: &[u8],
     count: u64,
