@@ -21,7 +21,9 @@ use Rattle.fl_model.specs.Table.{refusal_of, put_record, lose}
 use Rattle.fl_model.specs.Work.{Device, PartProgress}
 use Rattle.fl_model.proofs.ShipWork.{drops-none}
 use Rattle.fl_ops.specs.Columns.{record_of, records_of}
+use Rattle.fl_page.specs.Steps.{Steps}
 use Rattle.fl_page.specs.declared.fault.ReadFault.{ReadFault}
+use Rattle.fl_page.specs.declared.fault.ReadFault.TheVariants as read
 use Rattle.fl_ring.specs.Device.{SameDevice}
 use Rattle.fl_ring.specs.Step.{IsWatched}
 use Rattle.fl_rlc.specs.Logged.{Rests, Stands}
@@ -150,6 +152,11 @@ module _ (Told : Type 0) (all left : List Row) (n count : ℕ) (t : LoggedTable 
 
   pub left-behind : Told → left ≡ drop n all
   left-behind told = sym (ap (drop n) (far.split told) ∙ drop_at far.done left n far.as_many)
+
+  -- a read that fails leaves them
+  pub unread-behind : (fault : ReadFault) (row : Row) (others : List Row) → (Told → Steps (Err fault) left row others) → n < count → Told → (m : ℕ) × (m < count) × (others ≡ drop m all)
+  unread-behind (read.Flash fault) row others steps below told = (n, below, steps told ∙ left-behind told)
+  unread-behind (read.BadPage bad) row others steps below told = absurd (steps told)
 
   -- ---- where no cut is armed
 

@@ -90,6 +90,8 @@ fn put_rows<A: Flash, B: Flash, R: Rows<A>>(
     ensures power { OnOk result ((B.state onto.old).is_on ≡ true → (B.state onto.new).is_on ≡ true) }
     ensures rows { Continues R.names R.schema R.above R.ready R.told R.passes (contents_of (A.state from.old)) rows.old rows.new }
     ensures left { R.told rows.old (contents_of (A.state from.old)) → IfOk result (λ shipped. R.left rows.new (contents_of (A.state from.old)) ≡ drop shipped (R.left rows.old (contents_of (A.state from.old)))) }
+    ensures unread { R.told rows.old (contents_of (A.state from.old)) → (fault : ReadFault) → result ≡ Err (ShipFault.Read fault)
+        → (n : ℕ) × (n < count) × (R.left rows.new (contents_of (A.state from.old)) ≡ drop n (R.left rows.old (contents_of (A.state from.old)))) }
     ensures above { OnOk result ((last key : ℕ) → last_key_in (table_in to.new) ≡ Some last → is_above (R.above rows.new) key ≡ true → last < key) }
     ensures reads { R.told rows.old (contents_of (A.state from.old)) → (A.state from.new).work.reads ≤ (A.state from.old).work.reads + R.most rows.old (contents_of (A.state from.old)) }
     ensures reads_only { OnlyReads (A.state from.old) (A.state from.new) }
@@ -154,9 +156,12 @@ pub fn ship_rows<A: Flash, B: Flash, R: Rows<A>>(
     ensures spent { result ≡ Err (ShipFault.Put PutRefusal.Spent) → (key : ℕ) × (values : List ℤ) × (put_refusal to.new key values None ≡ Some PutRefusal.Spent) }
     ensures few { IfOk result (λ shipped. shipped ≤ count) }
     ensures running { is_running to.new ≡ goes_on result }
-    // The rows go on behind those that were put.
+    // The rows go on behind those that were put. Where a read fails, fewer than `count` of them were taken: no row is looked for behind
+    // the last one that is asked for.
     ensures rows { Continues R.names R.schema R.above R.ready R.told R.passes (contents_of (A.state from.old)) rows.old rows.new }
     ensures left { R.told rows.old (contents_of (A.state from.old)) → IfOk result (λ shipped. R.left rows.new (contents_of (A.state from.old)) ≡ drop shipped (R.left rows.old (contents_of (A.state from.old)))) }
+    ensures unread { R.told rows.old (contents_of (A.state from.old)) → (fault : ReadFault) → result ≡ Err (ShipFault.Read fault)
+        → (n : ℕ) × (n < count) × (R.left rows.new (contents_of (A.state from.old)) ≡ drop n (R.left rows.old (contents_of (A.state from.old)))) }
     ensures reads { R.told rows.old (contents_of (A.state from.old)) → (A.state from.new).work.reads ≤ (A.state from.old).work.reads + R.most rows.old (contents_of (A.state from.old)) }
     ensures reads_only { OnlyReads (A.state from.old) (A.state from.new) }
     ensures goes { Goes (B.state onto.old) (B.state onto.new) }

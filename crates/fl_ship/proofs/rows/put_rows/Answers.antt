@@ -1,4 +1,4 @@
-use Rattle.std.proofs.Common.{◌+◌, ◌<◌, ◌≤◌, true, false, Some, Ok, ◌∷◌, IsTrue, refl, sym, ◌∙◌, ap, subst, arith}
+use Rattle.std.proofs.Common.{◌+◌, ◌<◌, ◌≤◌, true, false, Some, Ok, Err, ◌∷◌, IsTrue, refl, sym, ◌∙◌, ap, subst, arith}
 use Rattle.std.proofs.lemmas.Result.{err_from_is_err_and}
 use Rattle.fl_flash.specs.Flash.{page_at}
 use Rattle.fl_model.specs.Row.{Row}
@@ -11,7 +11,7 @@ use Rattle.fl_schema.specs.Schema.{row_of}
 use Rattle.fl_table.specs.Look.{last_key_in}
 use Rattle.fl_tables.proofs.Going.{goes-same, goes-on, same-plan, same-on}
 use Rattle.fl_tables.proofs.Outsides.{outside-then}
-use Rattle.fl_ship.proofs.RowsSoFar.{above-next, far-none, far-more, keep-refused, keep-so, put-end, put-refused, put-unread, put-whole}
+use Rattle.fl_ship.proofs.RowsSoFar.{above-next, far-none, far-more, keep-refused, keep-so, put-end, put-refused, put-unread, put-whole, unread-behind}
 use Rattle.fl_ship.proofs.rows.put_rows.Goals as goal
 
 pub puts-init : goal.puts-init
@@ -48,6 +48,13 @@ pub returns-in_err-step-clause-cause : goal.returns-in_err-step-clause-cause
 returns-in_err-step-clause-cause g c =
     let p = err_from_is_err_and c.from_residual.result c.from_residual.ensures.1 in
     rw (p.1, p.2) (IsCaused-later (g.A.Flash.state c.args.from.now) (g.A.Flash.state c.puts.from) (g.A.Flash.state c.step.new.flash) c.in_err-step.field-0.0 c.puts.invariant.counts c.in_err-step.ensures.cause)
+
+pub returns-in_err-step-clause-unread : goal.returns-in_err-step-clause-unread
+returns-in_err-step-clause-unread g c = λ told fault is.
+    let inv = c.puts.invariant in
+    let steps = subst (λ (k : Contents). g.R.Rows.told c.puts.rows k → Steps (Err c.in_err-step.field-0.0) (g.R.Rows.left c.puts.rows k) (g.R.RowHere.present c.step.new.self) (g.R.Rows.left c.step.new.self k)) inv.counts.contents
+    c.in_err-step.ensures.steps in
+    unread-behind _ _ _ _ c.args.count _ _ _ _ inv.far (omega (arith, c.puts-test.true)) c.in_err-step.field-0.0 (g.R.RowHere.present c.step.new.self) _ (λ told. steps (inv.input.stays_told told)) c.puts-test.true told
 
 pub returns-in_err-step-clause-reads_only : goal.returns-in_err-step-clause-reads_only
 returns-in_err-step-clause-reads_only g c = OnlyReads-then _ _ _ c.puts.invariant.counts c.step.ensures.reads_only

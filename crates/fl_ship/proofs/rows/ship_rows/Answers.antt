@@ -15,6 +15,11 @@ returns-in_err-shipped-clause-cut g c = λ first plan t runs.
     let p = err_from_is_err_and c.from_residual.result c.from_residual.ensures.1 in
     rw (p.1, p.2) (c.in_err-shipped.ensures.cut first plan t runs)
 
+pub returns-in_err-shipped-clause-unread : goal.returns-in_err-shipped-clause-unread
+returns-in_err-shipped-clause-unread g c =
+    let p = err_from_is_err_and c.from_residual.result c.from_residual.ensures.1 in
+    rw (p.1, p.2) c.in_err-shipped.ensures.unread
+
 pub returns-in_err-flush_copy-clause-ships : goal.returns-in_err-flush_copy-clause-ships
 returns-in_err-flush_copy-clause-ships g c = λ first plan t works.
     let p = err_from_is_err_and c.from_residual-in_err-flush_copy.result c.from_residual-in_err-flush_copy.ensures.1 in
