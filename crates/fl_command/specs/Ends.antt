@@ -4,34 +4,36 @@ use Rattle.fl_base.specs.Causes.{Rose}
 use Rattle.fl_base.specs.declared.types.KeyRange.{KeyRange}
 use Rattle.fl_check.specs.Rules.{AreRules}
 use Rattle.fl_check.specs.Whole.{IsFinding}
-use Rattle.fl_command.specs.declared.exit.Exit.{Exit}
-use Rattle.fl_command.specs.declared.exit.Exit.TheVariants as ending
 use Rattle.fl_csv.specs.declared.record.GoneBlobs.{GoneBlobs}
-use Rattle.fl_export.specs.Ends.{AreRepaired, ExportEnds, IsImageWith, Keeps, StatusFits as ExportFits}
-use Rattle.fl_export.specs.Tables.{told_of as export_told}
+use Rattle.fl_export.specs.Ends.{ExportEnds, StatusFits as ExportFits}
 use Rattle.fl_flash.specs.Flash.{page_at}
 use Rattle.fl_flash.specs.Media.{MediaState}
-use Rattle.fl_import.specs.Ends.{ImportEnds, IsFormIn, OthersAreRepaired, StatusFits as ImportFits}
+use Rattle.fl_image.specs.Header.{IsMade}
+use Rattle.fl_image.specs.Image.{OnlyLooksAt}
+use Rattle.fl_image.specs.Status.{is_done}
+use Rattle.fl_image.specs.declared.status.ToolStatus.TheVariants.{Done, InputRead, OutWrite, NotImage, Device, BadImage, NoTable, BadInput, Unsound}
+use Rattle.fl_image_check.specs.Checking.{CheckedTo}
+use Rattle.fl_image_check.specs.declared.extent.Extent.{Extent}
+use Rattle.fl_image_check.specs.declared.extent.Extent.TheVariants.{FirstFault, AllTables}
+use Rattle.fl_import.specs.Ends.{ImportEnds, IsFormIn, StatusFits as ImportFits}
 use Rattle.fl_import.specs.Images.{told_of as import_told}
-use Rattle.fl_jobs.specs.Checking.{CheckedTo}
-use Rattle.fl_jobs.specs.Header.{IsMade}
-use Rattle.fl_jobs.specs.Image.{OnlyLooksAt}
-use Rattle.fl_jobs.specs.Status.{is_done}
-use Rattle.fl_jobs.specs.Taken.{end_of}
-use Rattle.fl_jobs.specs.declared.job_end.JobEnd.{JobEnd}
-use Rattle.fl_jobs.specs.declared.status.ToolStatus.TheVariants.{Done, InputRead, OutWrite, NotImage, Device, BadImage, NoTable, BadInput, Unsound}
-use Rattle.fl_jobs.specs.declared.drawing.Drawing.{Drawing}
-use Rattle.fl_jobs.specs.declared.extent.Extent.{Extent}
-use Rattle.fl_jobs.specs.declared.extent.Extent.TheVariants.{FirstFault, AllTables}
-use Rattle.fl_jobs.specs.declared.words.ToolJob.{ToolJob}
-use Rattle.fl_jobs.specs.declared.words.ToolJob.TheVariants.{Check, CheckAll, Map, Export, Import, Salvage}
+use Rattle.fl_import.specs.Taken.{end_of}
+use Rattle.fl_import.specs.declared.job_end.JobEnd.{JobEnd}
+use Rattle.fl_map.specs.declared.drawing.Drawing.{Drawing}
+use Rattle.fl_map.specs.Map.{MapEnds}
 use Rattle.fl_model.specs.Record.{Config}
 use Rattle.fl_model.specs.Table.{Table}
-use Rattle.fl_map.specs.Map.{MapEnds}
 use Rattle.fl_salvage.specs.Ends.{SalvageEnds}
 use Rattle.fl_salvage.specs.Pages.{none_passed}
 use Rattle.fl_salvage.specs.declared.salvage.SalvageEnd.{SalvageEnd}
+use Rattle.fl_store.specs.Repaired.{AreRepaired, OthersAreRepaired}
+use Rattle.fl_store.specs.Named.{IsImageWith}
+use Rattle.fl_store.specs.MountEnds.{Keeps, told_of as export_told}
 use Rattle.fl_words.specs.Medium.{IsImage}
+use Rattle.fl_command.specs.declared.exit.Exit.{Exit}
+use Rattle.fl_command.specs.declared.exit.Exit.TheVariants as ending
+use Rattle.fl_command.specs.declared.words.ToolJob.{ToolJob}
+use Rattle.fl_command.specs.declared.words.ToolJob.TheVariants.{Check, CheckAll, Map, Export, Import, Salvage}
 
 -- What a job reads and writes: the medium of its image; its input, with the bytes that are left of it, where it tells them; and
 -- its output, with the bytes that it has taken; and how often each of these two failed.

@@ -1,3 +1,5 @@
+pub mod Words
+pub mod ShipWords
 pub mod Number
 pub mod Text
 pub mod Ends

@@ -1,9 +1,7 @@
 -- The number of an exit, and the exit of what couldn't be handed out.
 use Rattle.std.specs.Prelude.{ℕ, None}
-use Rattle.fl_command.specs.declared.exit.Exit.{Exit}
-use Rattle.fl_command.specs.declared.exit.Exit.TheVariants.{Run, Shell, Plan, Job, Salvage, Ship, Words, Help, InUse, CopyInUse, CopyIsImage}
-use Rattle.fl_jobs.specs.Number as job
-use Rattle.fl_jobs.specs.declared.status.ToolStatus.TheVariants as job_status
+use Rattle.fl_image.specs.Number as job
+use Rattle.fl_image.specs.declared.status.ToolStatus.TheVariants as job_status
 use Rattle.fl_session.specs.Number as run
 use Rattle.fl_session.specs.declared.status.Status.TheVariants as run_status
 use Rattle.fl_shell.specs.Number as shell
@@ -12,6 +10,8 @@ use Rattle.fl_ship.specs.Number as ship
 use Rattle.fl_ship.specs.declared.status.ShipStatus.TheVariants as ship_status
 use Rattle.fl_sizing.specs.Number as plan
 use Rattle.fl_sizing.specs.declared.end.PlanStatus.TheVariants as plan_status
+use Rattle.fl_command.specs.declared.exit.Exit.{Exit}
+use Rattle.fl_command.specs.declared.exit.Exit.TheVariants.{Run, Shell, Plan, Job, Salvage, Ship, Words, Help, InUse, CopyInUse, CopyIsImage}
 
 -- that of the run's, the plan's, the job's or the ship's status; other words have that of a run's
 abbrev pub number_of : Exit → ℕ

@@ -1,14 +1,9 @@
 -- How a ship ends: just as the call that does it says, with the table and the count that the words have.
 use Rattle.std.specs.Prelude.{◌≡◌, ◌⊎◌, ℕ, ◌≤◌, IsTrue, true, Option, List}
 use Rattle.fl_base.specs.Causes.{Rose}
-use Rattle.fl_command.specs.declared.exit.Exit.{Exit}
-use Rattle.fl_command.specs.declared.exit.Exit.TheVariants as ending
-use Rattle.fl_export.specs.Ends.{AreRepaired, Keeps}
 use Rattle.fl_flash.specs.Media.{MediaState}
-use Rattle.fl_import.specs.Ends.{OthersAreRepaired}
-use Rattle.fl_jobs.specs.Header.{IsMade}
-use Rattle.fl_jobs.specs.Image.{OnlyLooksAt}
-use Rattle.fl_jobs.specs.declared.ship_words.ShipJob.{ShipJob}
+use Rattle.fl_image.specs.Header.{IsMade}
+use Rattle.fl_image.specs.Image.{OnlyLooksAt}
 use Rattle.fl_model.specs.Record.{Config}
 use Rattle.fl_model.specs.Table.{Table}
 use Rattle.fl_ship.specs.Ends.{IsCopy, ShipEnds}
@@ -18,7 +13,12 @@ use Rattle.fl_ship.specs.Tables.{told_of}
 use Rattle.fl_ship.specs.declared.side.Side.TheVariants.{Source, Copy}
 use Rattle.fl_ship.specs.declared.status.ShipStatus.{ShipStatus}
 use Rattle.fl_ship.specs.declared.status.ShipStatus.TheVariants.{OutWrite, Device, BadImage}
+use Rattle.fl_store.specs.Repaired.{AreRepaired, OthersAreRepaired}
+use Rattle.fl_store.specs.MountEnds.{Keeps}
 use Rattle.fl_words.specs.Medium.{IsImage}
+use Rattle.fl_command.specs.declared.exit.Exit.{Exit}
+use Rattle.fl_command.specs.declared.exit.Exit.TheVariants as ending
+use Rattle.fl_command.specs.declared.ship_words.ShipJob.{ShipJob}
 
 -- What a ship reads and writes: the media of the image and of its copy; and its output, with the bytes that it has taken, where it
 -- tells them, and how often it failed.

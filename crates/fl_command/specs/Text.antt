@@ -1,16 +1,14 @@
 -- The text that standard error has of an exit.
 use Rattle.std.specs.Prelude.{ℕ, ◌==◌, Option, Some, None, is_some, List, [], ◌∷◌, ◌++◌, codes, decimal, if◌then◌else◌}
 use Rattle.std.specs.List.{list_any}
-use Rattle.fl_command.specs.declared.exit.Exit.{Exit}
-use Rattle.fl_command.specs.declared.exit.Exit.TheVariants.{Run, Shell, Plan, Job, Salvage, Ship, Words, Help, InUse, CopyInUse, CopyIsImage}
-use Rattle.fl_jobs.specs.Number.{number_of}
 use Rattle.fl_csv.specs.declared.record.LineForm.{LineForm}
-use Rattle.fl_jobs.specs.declared.job_end.JobEnd.{JobEnd}
-use Rattle.fl_jobs.specs.declared.job_end.LinesTaken.{LinesTaken}
+use Rattle.fl_image.specs.Number.{number_of}
+use Rattle.fl_image.specs.declared.status.ToolStatus.{ToolStatus}
+use Rattle.fl_image.specs.declared.status.ToolStatus.TheVariants as job
+use Rattle.fl_import.specs.declared.job_end.JobEnd.{JobEnd}
+use Rattle.fl_import.specs.declared.job_end.LinesTaken.{LinesTaken}
 use Rattle.fl_salvage.specs.declared.passed_over.PassedOver.{PassedOver}
 use Rattle.fl_salvage.specs.declared.salvage.SalvageEnd.{SalvageEnd}
-use Rattle.fl_jobs.specs.declared.status.ToolStatus.{ToolStatus}
-use Rattle.fl_jobs.specs.declared.status.ToolStatus.TheVariants as job
 use Rattle.fl_session.specs.declared.pending.TableRows.{TableRows}
 use Rattle.fl_session.specs.declared.status.Status.{Status}
 use Rattle.fl_session.specs.declared.status.Status.TheVariants.{Done, Usage, Line, ScriptRead, OutWrite, MediaMake, Config, OtherConfig, ScriptLong, NoMemory}
@@ -24,6 +22,8 @@ use Rattle.fl_ship.specs.declared.status.ShipStatus.{ShipStatus}
 use Rattle.fl_ship.specs.declared.status.ShipStatus.TheVariants as ship
 use Rattle.fl_sizing.specs.declared.end.PlanStatus.{PlanStatus}
 use Rattle.fl_sizing.specs.declared.end.PlanStatus.TheVariants as plan
+use Rattle.fl_command.specs.declared.exit.Exit.{Exit}
+use Rattle.fl_command.specs.declared.exit.Exit.TheVariants.{Run, Shell, Plan, Job, Salvage, Ship, Words, Help, InUse, CopyInUse, CopyIsImage}
 
 -- a line of the program
 abbrev pub line_of : List ℕ → List ℕ

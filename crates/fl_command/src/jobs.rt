@@ -1,12 +1,12 @@
 // A job over an image.
 ghost use Rattle.fl_command.specs.Ends.{ToolEnds, ends_of};
 
-use crate::Exit;
+use crate::{Exit, ToolJob};
 use fl_base::{Sink, Source};
 use fl_export::export_image;
 use fl_flash::Media;
-use fl_import::import_image;
-use fl_jobs::{JobEnd, RingChecker, ToolJob, check_all, check_image};
+use fl_image_check::{RingChecker, check_all, check_image};
+use fl_import::{JobEnd, import_image};
 use fl_map::map_image;
 use fl_salvage::salvage_image;
 use std::alloc::Global;

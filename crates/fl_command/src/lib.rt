@@ -1,5 +1,5 @@
-//! The command line as calls: a job over an image, or a ship between two, by the words that name it, and how the program ends, with the number of its
-//! status and the text on standard error.
+//! The command line as calls: the words that name a job over an image, or a ship between two, the job, and how the program ends,
+//! with the number of its status and the text on standard error.
 #![tactic(auto)]
 
 mod ending;
@@ -12,7 +12,9 @@ mod planning;
 mod reason;
 mod shell_lines;
 mod ship_lines;
+mod ship_words;
 mod shipping;
+mod words;
 
 pub use ending::Ending;
 pub use exit::Exit;
@@ -20,4 +22,6 @@ pub use help::Help;
 pub use jobs::tool;
 pub use planning::plan;
 pub use reason::reason_of;
+pub use ship_words::{ShipJob, ship_of};
 pub use shipping::ship;
+pub use words::{ToolJob, tool_of};

@@ -1,7 +1,8 @@
 // What standard error says of a run, of a job, and of words that name neither.
 use crate::pending_line::PendingLine;
 use fl_csv::LineForm;
-use fl_jobs::{JobEnd, LinesTaken, ToolStatus};
+use fl_image::ToolStatus;
+use fl_import::{JobEnd, LinesTaken};
 use fl_salvage::{PassedOver, SalvageEnd};
 use fl_session::Status;
 use fl_sizing::PlanStatus;

@@ -1,6 +1,6 @@
 // What standard error says of a shell.
 use crate::lines::{RunLines, StatusLines};
-use fl_jobs::ToolStatus;
+use fl_image::ToolStatus;
 use fl_session::Status;
 use fl_shell::{Flushed, ShellEnd, ShellStatus};
 use std::fmt::{self, Display};

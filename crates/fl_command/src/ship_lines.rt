@@ -1,6 +1,6 @@
 // What standard error says of a ship.
 use crate::lines::{Meaning, RunLines};
-use fl_jobs::ToolStatus;
+use fl_image::ToolStatus;
 use fl_session::Status;
 use fl_ship::{ShipStatus, Side};
 use std::fmt::{self, Display};

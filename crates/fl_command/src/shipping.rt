@@ -1,10 +1,9 @@
 // The ship of records between two images.
 ghost use Rattle.fl_command.specs.Ships.{ShipEndsAs, sides_of};
 
-use crate::Exit;
+use crate::{Exit, ShipJob};
 use fl_base::Sink;
 use fl_flash::Media;
-use fl_jobs::ShipJob;
 use fl_ship::ship_image;
 use std::alloc::Global;
 

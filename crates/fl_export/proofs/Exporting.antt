@@ -1,32 +1,36 @@
 -- How an export ends over a flash that stands for tables.
-use Rattle.std.proofs.Common.{◌≡◌, ℕ, ◌+◌, ◌≤◌, inl, inr, true, false, Option, Some, Err, List, sym, ◌∙◌, ap, subst, arith}
+use Rattle.std.proofs.Common.{◌≡◌, ℕ, ◌≤◌, inl, inr, true, false, Option, Some, Err, List, sym, subst, arith}
 use Rattle.std.specs.List.{slice_get}
 use Rattle.fl_base.specs.Causes.{Rose, Appends, AppendsFront}
 use Rattle.fl_base.specs.declared.types.KeyRange.{KeyRange}
 use Rattle.fl_flash.specs.Flash.{FlashState}
 use Rattle.fl_flash.specs.declared.flash.FlashFault.TheVariants.{PowerLost, Media}
-use Rattle.fl_jobs.specs.declared.status.ToolStatus.{ToolStatus}
-use Rattle.fl_jobs.specs.declared.status.ToolStatus.TheVariants.{Done, Device}
+use Rattle.fl_image.specs.declared.status.ToolStatus.{ToolStatus}
+use Rattle.fl_image.specs.declared.status.ToolStatus.TheVariants.{Done, Device}
 use Rattle.fl_machine.specs.Step.{all_ready}
 use Rattle.fl_model.specs.Record.{Plan}
 use Rattle.fl_model.specs.Table as model
 use Rattle.fl_page.specs.Contents.{OnlyReads}
 use Rattle.fl_page.specs.declared.fault.ReadFault.TheVariants.{Flash, BadPage}
 use Rattle.fl_table.specs.declared.faults.MountFault.{MountFault}
-use Rattle.fl_tables.specs.Tables.{IsNamed, TablesStand, TablesMounted, MountBreaks}
-use Rattle.fl_tables.specs.declared.tables.Entry.{Entry}
-use Rattle.fl_tables.proofs.TablesChanged.{AtPlace, at-place}
-use Rattle.fl_export.specs.Ends.{at_rest, has_name, Exports}
-use Rattle.fl_export.specs.Tables.{status_of, mount_status, told_of, EndsOn}
+use Rattle.fl_store.specs.Tables.{IsNamed, TablesStand, TablesMounted, MountBreaks}
+use Rattle.fl_store.specs.declared.tables.Entry.{Entry}
+use Rattle.fl_store.proofs.TablesChanged.{AtPlace, at-place}
+use Rattle.fl_store.specs.Store.{at_rest}
+use Rattle.fl_store.specs.Named.{has_name}
+use Rattle.fl_export.specs.Ends.{Exports}
+use Rattle.fl_export.specs.Tables.{status_of, EndsOn}
+use Rattle.fl_store.specs.MountEnds.{told_of}
+use Rattle.fl_store.specs.Status.{mount_status}
 use Rattle.fl_export.specs.Text.{table_text}
 use Rattle.fl_export.specs.Writing.{IfUnread, Writes}
 use Rattle.fl_export.specs.declared.fault.ExportFault.{ExportFault}
 use Rattle.fl_export.specs.declared.fault.ExportFault.TheVariants as fault
-use Rattle.fl_export.proofs.Locating.{located-first, stand-named, first-named}
-use Rattle.fl_export.proofs.Reading.{tables-read}
-use Rattle.fl_export.proofs.Risen.{has_risen, risen-rose}
-use Rattle.fl_export.proofs.Unmounted as mount
-use Rattle.fl_export.proofs.Unmounted.{off}
+use Rattle.fl_store.proofs.Locating.{located-own}
+use Rattle.fl_store.proofs.Reading.{tables-read}
+use Rattle.fl_store.proofs.Risen.{has_risen, risen-rose}
+use Rattle.fl_store.proofs.Unmounted as mount
+use Rattle.fl_store.proofs.Unmounted.{off}
 
 module _ (plans : List Plan) (tables : List model.Table) (name : List ℕ) (range : KeyRange) (f g : FlashState) (told : Option (List ℕ)) (now : List Entry) (has : has_name name plans ≡ true) where
   -- ---- the tables aren't mounted
@@ -55,20 +59,16 @@ module _ (plans : List Plan) (tables : List model.Table) (name : List ℕ) (rang
   rises rose = omega (arith, rose, only.faults)
 
   exported : (Wrote : List ℕ → Type 0) → Wrote (table_text own.plan own.table range) → Exports plans tables name range (told_of f.media h.media told told_now) (TablesStand h (λ i. false) plans now) Wrote
-  exported Wrote wrote =
-      let alike = stand-named f (λ i. false) plans entries tables stood in
-      let own_name = first-named plans entries alike name at named own.plan own.plan_is in
-      record {
-        rose = has_risen f g;
-        risen = λ r. rises (risen-rose f g r);
-        end = m.end;
-        did = m.did;
-        holds = off h true plans now (all_ready plans m.end.tables) (tables-read g h only plans now (all_ready plans m.end.tables) m.stand);
-        at = record { place = at; plan = own.plan; table = own.table };
-        found = located-first plans (all_ready plans m.end.tables) 0 at name own.plan own.table own.plan_is own.table_is own_name.0 own_name.1
-            ∙ ap (λ n. Some (record { place = n; plan = own.plan; table = own.table })) (let e : 0 + at ≡ at = omega arith in e);
-        wrote = wrote;
-      }
+  exported Wrote wrote = record {
+    rose = has_risen f g;
+    risen = λ r. rises (risen-rose f g r);
+    end = m.end;
+    did = m.did;
+    holds = off h true plans now (all_ready plans m.end.tables) (tables-read g h only plans now (all_ready plans m.end.tables) m.stand);
+    at = record { place = at; plan = own.plan; table = own.table };
+    found = located-own f g (λ i. true) plans entries now tables (all_ready plans m.end.tables) name at entry stood named own;
+    wrote = wrote;
+  }
 
   pub done : Appends told told_now (table_text own.plan own.table range) → EndsOn plans tables name range f h told told_now now Done
   done wrote = exported (λ text. Appends told told_now text) wrote

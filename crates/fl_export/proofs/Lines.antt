@@ -1,5 +1,5 @@
 -- Lines that are written one after another.
-use Rattle.std.proofs.Common.{◌≡◌, ℕ, suc, ◌+◌, Bool, true, false, Option, Some, None, Result, Ok, Err, List, [], ◌∷◌, ◌++◌, map, filter, refl, sym, ◌∙◌, ap, append_assoc, append-nil, arith, if◌then◌else◌}
+use Rattle.std.proofs.Common.{◌≡◌, ℕ, suc, ◌+◌, Bool, true, false, Option, Some, Result, Ok, Err, List, [], ◌∷◌, ◌++◌, map, filter, refl, ◌∙◌, ap, arith, if◌then◌else◌}
 use Rattle.std.specs.List.{flat_map, slice_get}
 use Rattle.std.proofs.lemmas.Grind.{flat_map-append}
 use Rattle.std.proofs.lemmas.List.{map-append}
@@ -9,14 +9,11 @@ use Rattle.fl_csv.specs.declared.record.CsvFault.{CsvFault}
 use Rattle.fl_csv.specs.declared.record.CsvFault.TheVariants as line
 use Rattle.fl_model.specs.Record.{Plan}
 use Rattle.fl_model.specs.Table.{Table, Entry}
-use Rattle.fl_script.proofs.Sending.{appends-append, sent-failed}
+use Rattle.fl_script.proofs.Sending.{appends-append}
 use Rattle.fl_export.specs.Text.{said_of, AreAmong}
 use Rattle.fl_export.specs.Writing.{of_line, NoneBad, Writes}
+use Rattle.fl_store.proofs.Appends.{appends-none, front-behind}
 use Rattle.fl_export.specs.declared.fault.ExportFault.{ExportFault}
-
-pub appends-none : (o : Option (List ℕ)) → Appends o o []
-appends-none None = tt
-appends-none (Some bytes) = ap (λ (l : List ℕ). Some l) (sym (append-nil bytes))
 
 -- nothing was written
 pub front-none : (o : Option (List ℕ)) (text : List ℕ) → AppendsFront o o text
@@ -24,15 +21,6 @@ front-none o text = ([], (text, refl), appends-none o)
 
 pub writes-none : (o : Option (List ℕ)) (text : List ℕ) (fault : ExportFault) → NoneBad fault → Writes text o o (Err fault)
 writes-none o text fault good = (good, front-none o text)
-
--- the whole of a front was written, and then a front of the rest
-pub front-behind : (a b c : Option (List ℕ)) (before text : List ℕ) → Appends a b before → AppendsFront b c text → AppendsFront a c (before ++ text)
-front-behind a b c before text wrote front =
-    sent-failed a b c (before ++ text) text [] text (record { front = before; parts = refl; appended = wrote }) front (append-nil text)
-
--- a front of a front is one of all
-pub front-more : (a b : Option (List ℕ)) (text others : List ℕ) → AppendsFront a b text → AppendsFront a b (text ++ others)
-front-more a b text others front = (front.0, (front.1.0 ++ others, sym (append_assoc front.0 front.1.0 others) ∙ ap (λ (l : List ℕ). l ++ others) front.1.1), front.2)
 
 -- a text behind one that was written
 pub writes-behind : (a b c : Option (List ℕ)) (before text : List ℕ) (result : Result (Unit {0}) ExportFault) → Appends a b before → Writes text b c result → Writes (before ++ text) a c result

@@ -22,7 +22,9 @@ use Rattle.fl_export.specs.Text.{said_of, AreAmong}
 use Rattle.fl_export.specs.Writing.{NoneBad, Writes}
 use Rattle.fl_export.specs.declared.fault.ExportFault.{ExportFault}
 use Rattle.fl_export.specs.declared.fault.ExportFault.TheVariants.{Read}
-use Rattle.fl_export.proofs.Lines.{lines, lines-more, appends-none, front-behind, front-more}
+use Rattle.fl_store.proofs.Appends.{appends-none}
+use Rattle.fl_export.proofs.Lines.{lines, lines-more}
+use Rattle.fl_store.proofs.Appends.{front-behind, front-more}
 
 -- ---- each row has a greater key
 

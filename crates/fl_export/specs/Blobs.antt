@@ -6,7 +6,7 @@ use Rattle.fl_model.specs.Table as model
 use Rattle.fl_page.specs.declared.fault.ReadFault.{ReadFault}
 use Rattle.fl_ring.specs.Looking as looking
 use Rattle.fl_var.specs.Reading as reading
-use Rattle.fl_var.specs.Reading.{turned, Reads, IfUnread}
+use Rattle.fl_var.specs.Reading.{turned, Reads}
 use Rattle.fl_var.specs.declared.reader.BlobReader.{BlobReader}
 use Rattle.fl_export.specs.Writing.{NoneBad}
 use Rattle.fl_export.specs.declared.fault.ExportFault.{ExportFault}

@@ -1,20 +1,17 @@
 -- How an export ends over a flash on which the tables of an image lie.
-use Rattle.std.specs.Prelude.{◌≡◌, ◌⊎◌, ℕ, false, Option, List}
+use Rattle.std.specs.Prelude.{ℕ, false, Option, List}
 use Rattle.fl_base.specs.declared.types.KeyRange.{KeyRange}
 use Rattle.fl_flash.specs.Flash.{FlashState}
-use Rattle.fl_flash.specs.Media.{MediaState}
-use Rattle.fl_jobs.specs.Status.{flash_status}
-use Rattle.fl_jobs.specs.declared.status.ToolStatus.{ToolStatus}
-use Rattle.fl_jobs.specs.declared.status.ToolStatus.TheVariants.{Done, InputRead, OutWrite, InputLong, NoMemory, NotImage, Device, BadImage, NoTable, BadInput, Unsound}
-use Rattle.fl_model.specs.Record.{Plan, Config}
+use Rattle.fl_image.specs.Status.{flash_status}
+use Rattle.fl_image.specs.declared.status.ToolStatus.{ToolStatus}
+use Rattle.fl_image.specs.declared.status.ToolStatus.TheVariants.{Done, OutWrite, NoMemory, Device, BadImage}
+use Rattle.fl_model.specs.Record.{Plan}
 use Rattle.fl_model.specs.Table.{Table}
 use Rattle.fl_page.specs.declared.fault.ReadFault.TheVariants.{Flash, BadPage}
-use Rattle.fl_table.specs.declared.faults.MountFault.{MountFault}
-use Rattle.fl_table.specs.declared.faults.MountFault.TheVariants as mount
-use Rattle.fl_tables.specs.Tables.{TablesStand}
-use Rattle.fl_tables.specs.declared.tables.Entry.{Entry}
-use Rattle.fl_words.specs.Medium.{IsImage}
-use Rattle.fl_export.specs.Ends.{Told, TablesEnd, IsUntouched}
+use Rattle.fl_store.specs.Tables.{TablesStand}
+use Rattle.fl_store.specs.declared.tables.Entry.{Entry}
+use Rattle.fl_store.specs.MountEnds.{told_of}
+use Rattle.fl_export.specs.Ends.{TablesEnd}
 use Rattle.fl_export.specs.declared.fault.ExportFault.{ExportFault}
 use Rattle.fl_export.specs.declared.fault.ExportFault.TheVariants as fault
 
@@ -25,11 +22,6 @@ status_of (fault.Sink failed) at = OutWrite
 status_of (fault.Read (Flash e)) at = flash_status e
 status_of (fault.Read (BadPage bad)) at = BadImage at
 
--- .. and of a job whose tables aren't mounted, since this one isn't
-abbrev pub mount_status : MountFault → ℕ → ToolStatus
-mount_status (mount.Flash e) at = flash_status e
-mount_status bad at = BadImage at
-
 -- a status that comes once the table is found
 abbrev pub IsOfTable : ToolStatus → Type 0
 IsOfTable Done = Unit {0}
@@ -37,23 +29,9 @@ IsOfTable OutWrite = Unit {0}
 IsOfTable NoMemory = Unit {0}
 IsOfTable Device = Unit {0}
 IsOfTable (BadImage table) = Unit {0}
-IsOfTable NotImage = ⊥
-IsOfTable NoTable = ⊥
-IsOfTable Unsound = ⊥
-IsOfTable InputRead = ⊥
-IsOfTable InputLong = ⊥
-IsOfTable (BadInput number) = ⊥
-
-abbrev pub told_of : MediaState → MediaState → Option (List ℕ) → Option (List ℕ) → Told
-told_of old new told told_now = record { written = told; written_now = told_now; faults = old.faults; faults_now = new.faults }
+IsOfTable status = ⊥
 
 -- how it ends over a flash: that stands for the tables afterwards
 abbrev pub EndsOn : List Plan → List Table → List ℕ → KeyRange → FlashState → FlashState → Option (List ℕ) → Option (List ℕ) → List Entry → ToolStatus → Type 0
 EndsOn plans tables name range old new told told_now entries status =
     TablesEnd plans tables name range (told_of old.media new.media told told_now) (TablesStand new (λ i. false) plans entries) status
-
--- .. and over a medium; where there was no room for the flash nothing was done
-abbrev pub EndsOver : Config → List Table → List ℕ → KeyRange → MediaState → MediaState → Option (List ℕ) → Option (List ℕ) → ToolStatus → Type 0
-EndsOver config tables name range old new told told_now status =
-    ((status ≡ NoMemory) × IsUntouched old.content new.content (told_of old new told told_now))
-    ⊎ TablesEnd config.plans tables name range (told_of old new told told_now) (IsImage config new.content) status

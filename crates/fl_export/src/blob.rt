@@ -20,7 +20,7 @@ use crate::rooms::BlobRoom;
 use fl_base::BlobRef;
 use fl_flash::Flash;
 use fl_page::ReadFault;
-use fl_tables::Table;
+use fl_store::Table;
 use fl_var::BlobReader;
 
 /// Takes the bytes that a reader has left, chunk by chunk, behind those that are there.

@@ -11,7 +11,7 @@ mod rooms;
 mod rows;
 mod table;
 
-pub use export::{export_image, mount_status};
+pub use export::export_image;
 
 /// The text of an export, read line by line, means just the records that it selects, where none of their blobs is gone.
 pub fn exports_read_back()

@@ -24,9 +24,9 @@ use crate::rooms::BlobRoom;
 use fl_base::{BlobRef, Sink};
 use fl_csv::{CsvBlob, write_record};
 use fl_flash::Flash;
-use fl_jobs::values_of;
+use fl_ops::values_of;
 use fl_schema::RowRef;
-use fl_tables::Table;
+use fl_store::Table;
 use std::alloc::Global;
 
 /// What is told of the blob that a row names, whose bytes stand in the room where they aren't gone.

@@ -21,7 +21,7 @@ use crate::rooms::BlobRoom;
 use fl_base::Sink;
 use fl_flash::Flash;
 use fl_page::RowHere;
-use fl_tables::{Cursor, Table};
+use fl_store::{Cursor, Table};
 use std::alloc::Global;
 
 /// Writes the lines of the rows that a cursor over the table has left.

@@ -16,7 +16,7 @@ use crate::rows::write_rows;
 use fl_base::{KeyRange, Sink};
 use fl_csv::header_line;
 use fl_flash::Flash;
-use fl_tables::{Cursor, Table};
+use fl_store::{Cursor, Table};
 use std::alloc::Global;
 
 /// Writes the text of the table's records whose keys are in the range.

@@ -5,10 +5,10 @@ use Rattle.fl_csv.specs.declared.record.GoneBlobs.{GoneBlobs}
 use Rattle.fl_csv.specs.declared.record.LineForm.{LineForm}
 use Rattle.fl_csv.specs.declared.record.CsvRefusal.{CsvRefusal}
 use Rattle.fl_flash.specs.Flash.{FlashState}
-use Rattle.fl_jobs.specs.Taken.{none_taken}
-use Rattle.fl_jobs.specs.declared.job_end.LinesTaken.{LinesTaken}
-use Rattle.fl_jobs.specs.declared.status.ToolStatus.{ToolStatus}
-use Rattle.fl_jobs.specs.declared.status.ToolStatus.TheVariants.{Done, InputRead, OutWrite, InputLong, NoMemory, NotImage, Device, BadImage, NoTable, BadInput, Unsound}
+use Rattle.fl_import.specs.Taken.{none_taken}
+use Rattle.fl_import.specs.declared.job_end.LinesTaken.{LinesTaken}
+use Rattle.fl_image.specs.declared.status.ToolStatus.{ToolStatus}
+use Rattle.fl_image.specs.declared.status.ToolStatus.TheVariants.{Done, InputRead, OutWrite, InputLong, NoMemory, NotImage, Device, BadImage, NoTable, BadInput, Unsound}
 use Rattle.fl_lines.specs.Stream.{LinesState, Advances}
 use Rattle.fl_lines.specs.Taken.{TakesFew}
 use Rattle.fl_model.specs.Record.{Record, Plan, has_var}
@@ -21,15 +21,16 @@ use Rattle.fl_import.specs.Lines.{lacks, meaning, Takes}
 use Rattle.fl_import.specs.Puts.{is_put, after_put, after_puts, put_count}
 use Rattle.fl_import.specs.Report.{told_line, told_lines}
 use Rattle.fl_import.specs.Reading.{Stops, TakesUntil}
-use Rattle.fl_import.specs.Steps.{AllEnds, LineEnds, LinesEnd, IsFormOf, IsOfLine, Works}
+use Rattle.fl_import.specs.Steps.{AllEnds, LineEnds, LinesEnd, IsFormOf, IsOfLine}
+use Rattle.fl_store.specs.Works.{Works}
 use Rattle.fl_import.specs.Taking.{Ended, IsOfNames, NextOf, NextLine, TakesSoFar, TakesThese}
 use Rattle.fl_import.specs.declared.line_end.LineEnd.{LineEnd}
 use Rattle.fl_import.specs.declared.line_end.LineEnd.TheVariants.{Refused, Put, PutWithoutBlob}
-use Rattle.fl_export.proofs.Lines.{appends-none}
+use Rattle.fl_store.proofs.Appends.{appends-none}
 use Rattle.fl_import.proofs.Putting.{after-more, told-more, count-more, gone-more, means-behind, means-length}
 use Rattle.fl_import.proofs.Taken.{Shows, taken-next, shows-next, stops-done, stops-next}
 
-as-plan : (P : ℕ → Bool → Type 0) (form : LineForm) (plan : Plan) → IsFormOf form plan → P form.columns form.blobs → P (length plan.columns) (has_var plan)
+pub as-plan : (P : ℕ → Bool → Type 0) (form : LineForm) (plan : Plan) → IsFormOf form plan → P form.columns form.blobs → P (length plan.columns) (has_var plan)
 as-plan P form plan is h = subst (λ b. P (length plan.columns) b) is.blobs (subst (λ n. P n form.blobs) is.columns h)
 
 -- the lines that were taken were put and told

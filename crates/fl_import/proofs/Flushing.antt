@@ -3,12 +3,12 @@ use Rattle.std.proofs.Common.{◌≡◌, ℕ, ◌-◌, ◌≤◌, ◌==◌, ◌&
 use Rattle.std.proofs.lemmas.Bool.{eqb-true}
 use Rattle.fl_base.specs.Causes.{Rose, Appends, AppendsFront}
 use Rattle.fl_csv.specs.declared.record.GoneBlobs.{GoneBlobs}
-use Rattle.fl_jobs.specs.declared.job_end.LinesTaken.{LinesTaken}
-use Rattle.fl_export.proofs.Risen.{has_risen}
+use Rattle.fl_import.specs.declared.job_end.LinesTaken.{LinesTaken}
+use Rattle.fl_store.proofs.Risen.{has_risen}
 use Rattle.fl_flash.specs.Flash.{FlashState, Goes}
 use Rattle.fl_flash.specs.declared.flash.FlashFault.TheVariants.{PowerLost, Media}
-use Rattle.fl_jobs.specs.declared.status.ToolStatus.{ToolStatus}
-use Rattle.fl_jobs.specs.declared.status.ToolStatus.TheVariants.{Done, InputRead, OutWrite, InputLong, NoMemory, NotImage, Device, BadImage, NoTable, BadInput, Unsound}
+use Rattle.fl_image.specs.declared.status.ToolStatus.{ToolStatus}
+use Rattle.fl_image.specs.declared.status.ToolStatus.TheVariants.{Done, InputRead, OutWrite, InputLong, NoMemory, NotImage, Device, BadImage, NoTable, BadInput, Unsound}
 use Rattle.fl_model.specs.Record.{Plan}
 use Rattle.fl_model.specs.Table as model
 use Rattle.fl_model.specs.Work as work
@@ -22,22 +22,57 @@ use Rattle.fl_rlc.specs.Outcomes.{FlushEnds}
 use Rattle.fl_rlc.specs.declared.table.LoggedTable.{LoggedTable}
 use Rattle.fl_table.specs.declared.faults.FlushFault.{FlushFault}
 use Rattle.fl_table.specs.declared.faults.FlushFault.TheVariants as flush
-use Rattle.fl_tables.proofs.Going.{rose-back}
-use Rattle.fl_tables.proofs.TablesChanged.{off-rests}
+use Rattle.fl_store.proofs.Going.{rose-back}
+use Rattle.fl_store.proofs.TablesChanged.{off-rests}
 use Rattle.fl_import.specs.Counting.{count_text}
 use Rattle.fl_import.specs.Ends.{Leaves, Flushes, table_after}
 use Rattle.fl_import.specs.Images.{told_of}
 use Rattle.fl_import.specs.Reading.{TakesSome, TakesUntil}
 use Rattle.fl_import.specs.Steps.{AllEnds, LinesEnd, IsOfLines, IsOfTable, TableEnds, TellsCounts, flush_status, is_broken, status_of}
 use Rattle.fl_import.specs.Taking.{Ended, EndedAs}
-use Rattle.fl_import.proofs.Failing.{seals-work}
-use Rattle.fl_import.proofs.OneLine.{no-false, not-device, works-done, works-broken, works-uncut}
+use Rattle.fl_store.proofs.Failing.{seals-work}
+use Rattle.fl_store.proofs.Works.{works-broken, works-done, works-uncut}
+use Rattle.fl_import.proofs.OneLine.{no-false, not-device}
 
 not-done : Device ≡ Done → ⊥
 not-done e = cc
 
 not-written : OutWrite ≡ Done → ⊥
 not-written e = cc
+
+-- ---- what holds of each of the statuses
+
+-- of lines that aren't taken to their end
+by-lines : (P : ToolStatus → Type 0) (status : ToolStatus) → IsOfLines status → P InputRead → P OutWrite → P InputLong → P NoMemory → P Device → ((number : ℕ) → P (BadInput number)) → P status
+by-lines P InputRead of read write long memory device bad = read
+by-lines P OutWrite of read write long memory device bad = write
+by-lines P InputLong of read write long memory device bad = long
+by-lines P NoMemory of read write long memory device bad = memory
+by-lines P Device of read write long memory device bad = device
+by-lines P (BadInput number) of read write long memory device bad = bad number
+by-lines P Done of read write long memory device bad = absurd of
+by-lines P NotImage of read write long memory device bad = absurd of
+by-lines P (BadImage n) of read write long memory device bad = absurd of
+by-lines P NoTable of read write long memory device bad = absurd of
+by-lines P Unsound of read write long memory device bad = absurd of
+
+-- .. and once it is told how many were put
+module _ (gone : GoneBlobs) (counts : LinesTaken) (told told_now : Option (List ℕ)) (faults faults_now : ℕ) where
+  abbrev Tells : ToolStatus → Type 0
+  Tells status = TellsCounts gone counts told told_now faults faults_now status
+
+  by-counts : (P : ToolStatus → Type 0) (status : ToolStatus) → Tells status → (Tells Done → P Done) → (Tells OutWrite → P OutWrite) → P status
+  by-counts P Done tells done write = done tells
+  by-counts P OutWrite tells done write = write tells
+  by-counts P InputRead tells done write = absurd tells
+  by-counts P InputLong tells done write = absurd tells
+  by-counts P NoMemory tells done write = absurd tells
+  by-counts P NotImage tells done write = absurd tells
+  by-counts P Device tells done write = absurd tells
+  by-counts P (BadImage n) tells done write = absurd tells
+  by-counts P NoTable tells done write = absurd tells
+  by-counts P (BadInput n) tells done write = absurd tells
+  by-counts P Unsound tells done write = absurd tells
 
 -- ---- nothing is pending after a flush
 
@@ -114,27 +149,20 @@ module _ (gone : GoneBlobs) (counts : LinesTaken) (first : ℕ) (plan : Plan) (t
 
   pub flush-told : (done : Unit {0}) (d : AllEnds gone counts first plan table text u g told told_mid rest (Ok done)) → Goes g h → FlushEnds first plan (then_table (Ok done) refl d) (has_risen g h) (lines (Ok done) refl d).works.device (Ok tt) v g h →
       (faults faults_now : ℕ) (status : ToolStatus) → TellsCounts gone counts told_mid told_now faults faults_now status → TableEnds first plan table text v h (told_of gone counts told told_now rest) status
-  flush-told done d goes flushes faults faults_now Done tells = record {
-    after = after (Ok done) refl d;
-    leaves = record { written_then = told_mid; puts = d.puts; after_is = refl; counts = subst (λ c. Appends told_mid told_now (count_text gone c)) d.puts.counted tells };
-    rests = rested (Ok done) refl d goes flushes;
-    stands = λ e. stood (Ok done) refl d goes flushes;
-  }
-  flush-told done d goes flushes faults faults_now OutWrite tells = record {
-    after = after (Ok done) refl d;
-    leaves = inr (record { written_then = told_mid; puts = d.puts; after_is = refl; counts = subst (λ c. AppendsFront told_mid told_now (count_text gone c)) d.puts.counted tells.0 });
-    rests = rested (Ok done) refl d goes flushes;
-    stands = λ e. absurd (not-written e);
-  }
-  flush-told done d goes flushes faults faults_now InputRead tells = absurd tells
-  flush-told done d goes flushes faults faults_now InputLong tells = absurd tells
-  flush-told done d goes flushes faults faults_now NoMemory tells = absurd tells
-  flush-told done d goes flushes faults faults_now NotImage tells = absurd tells
-  flush-told done d goes flushes faults faults_now Device tells = absurd tells
-  flush-told done d goes flushes faults faults_now (BadImage n) tells = absurd tells
-  flush-told done d goes flushes faults faults_now NoTable tells = absurd tells
-  flush-told done d goes flushes faults faults_now (BadInput n) tells = absurd tells
-  flush-told done d goes flushes faults faults_now Unsound tells = absurd tells
+  flush-told done d goes flushes faults faults_now status tells =
+      by-counts gone counts told_mid told_now faults faults_now (TableEnds first plan table text v h (told_of gone counts told told_now rest)) status tells
+      (λ t. record {
+        after = after (Ok done) refl d;
+        leaves = record { written_then = told_mid; puts = d.puts; after_is = refl; counts = subst (λ c. Appends told_mid told_now (count_text gone c)) d.puts.counted t };
+        rests = rested (Ok done) refl d goes flushes;
+        stands = λ e. stood (Ok done) refl d goes flushes;
+      })
+      (λ t. record {
+        after = after (Ok done) refl d;
+        leaves = inr (record { written_then = told_mid; puts = d.puts; after_is = refl; counts = subst (λ c. AppendsFront told_mid told_now (count_text gone c)) d.puts.counted t.0 });
+        rests = rested (Ok done) refl d goes flushes;
+        stands = λ e. absurd (not-written e);
+      })
 
 -- the lines weren't taken to their end
 pub flush-status : (gone : GoneBlobs) (counts : LinesTaken) (first : ℕ) (plan : Plan) (table : model.Table) (text : List ℕ) (u v : LoggedTable 64 64) (g h : FlashState) (told told_now rest : Option (List ℕ)) (status : ToolStatus) → IsOfLines status → (other : is_broken (Err status) ≡ false) →
@@ -152,31 +180,14 @@ flush-status gone counts first plan table text u v g h told told_now rest status
     not-broken e = let no = sym other ∙ ap (λ (s : ToolStatus). is_broken (Err s)) e in cc
 
     by-status : (status : ToolStatus) {x : model.Table} → IsOfLines status → (status ≡ Device → ⊥) → Flushes plan table text (told_of gone counts told told_now rest) x status → Leaves plan table text (told_of gone counts told told_now rest) x status
-    by-status InputRead of other l = l
-    by-status OutWrite of other l = inl l
-    by-status InputLong of other l = l
-    by-status NoMemory of other l = l
-    by-status (BadInput n) of other l = l
-    by-status Device of other l = absurd (other refl)
-    by-status Done of other l = absurd of
-    by-status NotImage of other l = absurd of
-    by-status (BadImage n) of other l = absurd of
-    by-status NoTable of other l = absurd of
-    by-status Unsound of other l = absurd of
+    by-status status {x} of =
+        by-lines (λ s. (s ≡ Device → ⊥) → Flushes plan table text (told_of gone counts told told_now rest) x s → Leaves plan table text (told_of gone counts told told_now rest) x s) status of
+        (λ other l. l) (λ other l. inl l) (λ other l. l) (λ other l. l) (λ other l. absurd (other refl)) (λ n other l. l)
 
 -- the lines of the import, by its status
 pub ended-as : (columns : ℕ) (blobs : Bool) (text : List ℕ) (rest : Option (List ℕ)) (status : ToolStatus) → IsOfLines status → Ended columns blobs text rest status → EndedAs columns blobs text rest status
-ended-as columns blobs text rest InputRead of h = h
-ended-as columns blobs text rest OutWrite of h = inl h
-ended-as columns blobs text rest InputLong of h = h
-ended-as columns blobs text rest NoMemory of h = h
-ended-as columns blobs text rest Device of h = h
-ended-as columns blobs text rest (BadInput n) of h = h
-ended-as columns blobs text rest Done of h = absurd of
-ended-as columns blobs text rest NotImage of h = absurd of
-ended-as columns blobs text rest (BadImage n) of h = absurd of
-ended-as columns blobs text rest NoTable of h = absurd of
-ended-as columns blobs text rest Unsound of h = absurd of
+ended-as columns blobs text rest status of =
+    by-lines (λ s. Ended columns blobs text rest s → EndedAs columns blobs text rest s) status of (λ h. h) (λ h. inl h) (λ h. h) (λ h. h) (λ h. h) (λ n h. h)
 
 -- .. and where the flush fails
 some-until : (columns : ℕ) (blobs : Bool) (text : List ℕ) (rest : Option (List ℕ)) (status : ToolStatus) → TakesUntil columns blobs text rest status → TakesSome columns blobs text rest
@@ -221,46 +232,6 @@ flush-write (flush.Flash Media) is = cc is
 flush-write (flush.Flash PowerLost) is = cc is
 flush-write flush.Stopped is = cc is
 
-pub ended-told : (gone : GoneBlobs) (columns : ℕ) (blobs : Bool) (text : List ℕ) (rest told told_now : Option (List ℕ)) (faults faults_now : ℕ) (counts : LinesTaken) (status : ToolStatus) → TellsCounts gone counts told told_now faults faults_now status → TakesUntil columns blobs text rest Done → EndedAs columns blobs text rest status
-ended-told gone columns blobs text rest told told_now faults faults_now counts Done tells h = h
-ended-told gone columns blobs text rest told told_now faults faults_now counts OutWrite tells h = inr h
-ended-told gone columns blobs text rest told told_now faults faults_now counts InputRead tells h = absurd tells
-ended-told gone columns blobs text rest told told_now faults faults_now counts InputLong tells h = absurd tells
-ended-told gone columns blobs text rest told told_now faults faults_now counts NoMemory tells h = absurd tells
-ended-told gone columns blobs text rest told told_now faults faults_now counts NotImage tells h = absurd tells
-ended-told gone columns blobs text rest told told_now faults faults_now counts Device tells h = absurd tells
-ended-told gone columns blobs text rest told told_now faults faults_now counts (BadImage n) tells h = absurd tells
-ended-told gone columns blobs text rest told told_now faults faults_now counts NoTable tells h = absurd tells
-ended-told gone columns blobs text rest told told_now faults faults_now counts (BadInput n) tells h = absurd tells
-ended-told gone columns blobs text rest told told_now faults faults_now counts Unsound tells h = absurd tells
-
--- the statuses of an import of a table
-pub of-lines : (status : ToolStatus) → IsOfLines status → IsOfTable status
-of-lines InputRead of = tt
-of-lines OutWrite of = tt
-of-lines InputLong of = tt
-of-lines NoMemory of = tt
-of-lines Device of = tt
-of-lines (BadInput n) of = tt
-of-lines Done of = absurd of
-of-lines NotImage of = absurd of
-of-lines (BadImage n) of = absurd of
-of-lines NoTable of = absurd of
-of-lines Unsound of = absurd of
-
-pub of-told : (gone : GoneBlobs) (told told_now : Option (List ℕ)) (faults faults_now : ℕ) (counts : LinesTaken) (status : ToolStatus) → TellsCounts gone counts told told_now faults faults_now status → IsOfTable status
-of-told gone told told_now faults faults_now counts Done tells = tt
-of-told gone told told_now faults faults_now counts OutWrite tells = tt
-of-told gone told told_now faults faults_now counts InputRead tells = tt
-of-told gone told told_now faults faults_now counts InputLong tells = tt
-of-told gone told told_now faults faults_now counts NoMemory tells = tt
-of-told gone told told_now faults faults_now counts Device tells = tt
-of-told gone told told_now faults faults_now counts (BadInput n) tells = tt
-of-told gone told told_now faults faults_now counts NotImage tells = absurd tells
-of-told gone told told_now faults faults_now counts (BadImage n) tells = absurd tells
-of-told gone told told_now faults faults_now counts NoTable tells = absurd tells
-of-told gone told told_now faults faults_now counts Unsound tells = absurd tells
-
 pub broken-is : (taken : Result (Unit {0}) ToolStatus) → is_broken taken ≡ true → taken ≡ Err Device
 broken-is (Ok all) is = cc
 broken-is (Err Device) is = refl
@@ -299,12 +270,12 @@ module _ {X : Type 0} (gone : GoneBlobs) (counts : LinesTaken) (written : X → 
       (flush-status gone counts first plan table text u v g h (written start) (written mid) rest status of other ends goes flushes))
 
   pub all-ended : (columns : ℕ) (blobs : Bool) (text : List ℕ) (rest : Option (List ℕ)) (taken : Result (Unit {0}) ToolStatus) → IfErr taken IsOfLines → IfErr taken Untold → IfOk taken Told? → Ended columns blobs text rest (status_of taken) → EndedAs columns blobs text rest result
-  all-ended columns blobs text rest (Ok all) of none tells ended = ended-told gone columns blobs text rest (written mid) (written now) (faults mid) (faults now) counts result tells ended
+  all-ended columns blobs text rest (Ok all) of none tells ended = by-counts gone counts (written mid) (written now) (faults mid) (faults now) (EndedAs columns blobs text rest) result tells (λ t. ended) (λ t. inr ended)
   all-ended columns blobs text rest (Err status) of none tells ended = subst (λ (s : ToolStatus). EndedAs columns blobs text rest s) (sym none.0) (ended-as columns blobs text rest status of ended)
 
   pub all-of : (taken : Result (Unit {0}) ToolStatus) → IfErr taken IsOfLines → IfErr taken Untold → IfOk taken Told? → IsOfTable result
-  all-of (Ok all) of none tells = of-told gone (written mid) (written now) (faults mid) (faults now) counts result tells
-  all-of (Err status) of none tells = subst IsOfTable (sym none.0) (of-lines status of)
+  all-of (Ok all) of none tells = by-counts gone counts (written mid) (written now) (faults mid) (faults now) IsOfTable result tells (λ t. tt) (λ t. tt)
+  all-of (Err status) of none tells = subst IsOfTable (sym none.0) (by-lines IsOfTable status of tt tt tt tt tt (λ n. tt))
 
   pub all-rose : (f g : ℕ) → (taken : Result (Unit {0}) ToolStatus) → IfErr taken Untold → IfOk taken Told? → is_broken taken ≡ false → result ≡ Device → Rose f g
   all-rose f g (Ok all) none tells other is = absurd (subst (λ (s : ToolStatus). TellsCounts gone counts (written mid) (written now) (faults mid) (faults now) s) is tells)

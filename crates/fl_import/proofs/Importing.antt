@@ -1,18 +1,19 @@
 -- How an import ends over a flash that stands for tables.
-use Rattle.std.proofs.Common.{◌≡◌, ℕ, ◌+◌, inl, inr, true, false, IsTrue, Option, None, Some, List, length, refl, sym, ◌∙◌, ap, subst, arith}
+use Rattle.std.proofs.Common.{◌≡◌, ℕ, inl, inr, true, false, IsTrue, Option, None, Some, List, length, refl, sym, ◌∙◌, ap, subst}
 use Rattle.std.specs.List.{slice_get}
 use Rattle.fl_base.specs.Causes.{Rose}
-use Rattle.fl_export.specs.Ends.{at_rest, has_name}
-use Rattle.fl_export.specs.Tables.{mount_status}
-use Rattle.fl_export.proofs.Locating.{located-first, stand-named, first-named}
-use Rattle.fl_export.proofs.Risen.{has_risen, risen-rose}
-use Rattle.fl_export.proofs.Unmounted as export
+use Rattle.fl_store.specs.Store.{at_rest}
+use Rattle.fl_store.specs.Named.{has_name}
+use Rattle.fl_store.specs.Status.{mount_status}
+use Rattle.fl_store.proofs.Locating.{located-own}
+use Rattle.fl_store.proofs.Risen.{has_risen, risen-rose}
+use Rattle.fl_store.proofs.Unmounted as mount
 use Rattle.fl_flash.specs.Flash.{FlashState, Goes, page_at}
 use Rattle.fl_csv.specs.declared.record.GoneBlobs.{GoneBlobs}
-use Rattle.fl_jobs.specs.Taken.{none_taken}
-use Rattle.fl_jobs.specs.declared.job_end.LinesTaken.{LinesTaken}
-use Rattle.fl_jobs.specs.declared.status.ToolStatus.{ToolStatus}
-use Rattle.fl_jobs.specs.declared.status.ToolStatus.TheVariants.{Done, InputRead, OutWrite, InputLong, NoMemory, NotImage, Device, BadImage, NoTable, BadInput, Unsound}
+use Rattle.fl_import.specs.Taken.{none_taken}
+use Rattle.fl_import.specs.declared.job_end.LinesTaken.{LinesTaken}
+use Rattle.fl_image.specs.declared.status.ToolStatus.{ToolStatus}
+use Rattle.fl_image.specs.declared.status.ToolStatus.TheVariants.{Done, InputRead, OutWrite, InputLong, NoMemory, NotImage, Device, BadImage, NoTable, BadInput, Unsound}
 use Rattle.fl_machine.specs.Step.{all_ready}
 use Rattle.fl_model.specs.Record.{Plan}
 use Rattle.fl_model.specs.Table as model
@@ -21,21 +22,21 @@ use Rattle.fl_rlc.specs.Logged.{Rests, Stands}
 use Rattle.fl_rlc.specs.Table.{IsSamePlan, OutsideStands}
 use Rattle.fl_rlc.specs.declared.table.LoggedTable.{LoggedTable}
 use Rattle.fl_table.specs.declared.faults.MountFault.{MountFault}
-use Rattle.fl_tables.specs.Tables.{first_of, entries_with, IsNamed, TablesStand, TablesMounted, MountBreaks}
-use Rattle.fl_tables.specs.declared.tables.Entry.{Entry}
-use Rattle.fl_tables.proofs.Going.{rose-front}
-use Rattle.fl_tables.proofs.TablesChanged.{AtPlace}
+use Rattle.fl_store.specs.Tables.{first_of, entries_with, IsNamed, TablesStand, TablesMounted, MountBreaks}
+use Rattle.fl_store.specs.declared.tables.Entry.{Entry}
+use Rattle.fl_store.proofs.Going.{rose-front}
+use Rattle.fl_store.proofs.TablesChanged.{AtPlace}
 use Rattle.fl_import.specs.Ends.{Imports, Leaves, table_after}
 use Rattle.fl_import.specs.Images.{EndsOn, told_of}
 use Rattle.fl_import.specs.Steps.{TableEnds}
 use Rattle.fl_import.proofs.Flushing.{flushed-whole}
-use Rattle.fl_import.proofs.Changed.{own, holds}
+use Rattle.fl_store.proofs.Changed.{own, holds}
 
 -- the tables aren't mounted, and no byte was read
 pub unmounted : (gone : GoneBlobs) (plans : List Plan) (tables : List model.Table) (name text : List ℕ) (f g : FlashState) (told rest : Option (List ℕ)) (now : List Entry) → has_name name plans ≡ true → (bad : MountFault) (at : ℕ) → MountBreaks plans tables (has_risen f g) at_rest bad now g → rest ≡ Some text →
     EndsOn plans tables name text (told_of gone none_taken told told rest) f g now None (mount_status bad at)
 unmounted gone plans tables name text f g told rest now has bad at ends is =
-    let u = export.unmounted plans tables name f g told now has bad at ends in
+    let u = mount.unmounted plans tables name f g told now has bad at ends in
     subst (λ (s : ToolStatus). EndsOn plans tables name text (told_of gone none_taken told told rest) f g now None s) (sym u.0) (u.1.0, inl (u.1.1, (is, refl)))
 
 -- ---- the tables are mounted, and one of them was imported into
@@ -48,20 +49,17 @@ module _ (plans : List Plan) (tables : List model.Table) (name text : List ℕ) 
 
   imports : (Left : Plan → model.Table → model.Table → Type 0) (after : model.Table) → Left place.plan place.table after → Rests h (first_of plans at) place.plan (lose after) →
       Imports plans tables name (told_of gone counts told told_now rest) f.media.faults h.media.faults (TablesStand h (λ i. false) plans (entries_with now at entry u)) Left
-  imports Left after left rests =
-      let own_name = first-named plans entries (stand-named f (λ i. false) plans entries tables stood) name at named place.plan place.plan_is in
-      record {
-        rose = has_risen f m;
-        risen = λ r. rose-front f.media.faults m.media.faults h.media.faults goes.faults (risen-rose f m r);
-        end = mt.end;
-        did = mt.did;
-        at = record { place = at; plan = place.plan; table = place.table };
-        found = located-first plans (all_ready plans mt.end.tables) 0 at name place.plan place.table place.plan_is place.table_is own_name.0 own_name.1
-            ∙ ap (λ n. Some (record { place = n; plan = place.plan; table = place.table })) (let e : 0 + at ≡ at = omega arith in e);
-        after = after;
-        left = left;
-        holds = holds plans tables f m now at entry tells here mt h u goes same outside after rests;
-      }
+  imports Left after left rests = record {
+    rose = has_risen f m;
+    risen = λ r. rose-front f.media.faults m.media.faults h.media.faults goes.faults (risen-rose f m r);
+    end = mt.end;
+    did = mt.did;
+    at = record { place = at; plan = place.plan; table = place.table };
+    found = located-own f m (λ i. true) plans entries now tables (all_ready plans mt.end.tables) name at entry stood named place;
+    after = after;
+    left = left;
+    holds = holds plans tables f m now at entry tells here mt h u goes same outside after rests;
+  }
 
   abbrev pub Ends : ToolStatus → Type 0
   Ends status = TableEnds (first_of plans at) place.plan place.table text u h (told_of gone counts told told_now rest) status

@@ -1,48 +1,47 @@
 -- One line of an import over a table that is mounted.
-use Rattle.std.proofs.Common.{None, ◌≡◌, ℕ, ◌⊎◌, inl, inr, Bool, true, false, IsTrue, IsErr, IfErr, Option, Some, Result, Ok, Err, List, [], ◌++◌, refl, sym, ◌∙◌, ap, subst}
+use Rattle.std.proofs.Common.{None, ◌≡◌, ℕ, ◌⊎◌, inl, inr, Bool, true, false, IsErr, IfErr, Option, Some, Result, Ok, Err, List, [], ◌++◌, refl, sym, ◌∙◌, ap, subst}
 use Rattle.fl_base.specs.Causes.{Rose, HasCause, Appends, AppendsFront}
 use Rattle.fl_base.specs.declared.stream.SinkFailed.{SinkFailed}
 use Rattle.fl_csv.specs.declared.record.GoneBlobs.{GoneBlobs}
 use Rattle.fl_csv.specs.declared.record.CsvRefusal.{CsvRefusal}
 use Rattle.fl_csv.specs.declared.record.CsvRefusal.TheVariants as unread
-use Rattle.fl_export.proofs.Lines.{appends-none, front-behind, front-more}
-use Rattle.fl_export.proofs.Risen.{has_risen, watched}
+use Rattle.fl_store.proofs.Appends.{appends-none, front-behind, front-more}
+use Rattle.fl_store.proofs.MountStatuses.{by-flash}
+use Rattle.fl_store.proofs.Risen.{has_risen}
 use Rattle.fl_flash.specs.Flash.{FlashState, Goes}
 use Rattle.fl_flash.specs.declared.flash.FlashFault.{FlashFault}
 use Rattle.fl_flash.specs.declared.flash.FlashFault.TheVariants.{PowerLost, Media}
-use Rattle.fl_jobs.specs.Status.{flash_status}
+use Rattle.fl_image.specs.Status.{flash_status}
 use Rattle.fl_ring.specs.Causes.{CausedBy}
-use Rattle.fl_jobs.specs.declared.status.ToolStatus.{ToolStatus}
-use Rattle.fl_jobs.specs.declared.status.ToolStatus.TheVariants.{OutWrite, NoMemory, Device}
+use Rattle.fl_image.specs.declared.status.ToolStatus.{ToolStatus}
+use Rattle.fl_image.specs.declared.status.ToolStatus.TheVariants.{OutWrite, NoMemory, Device}
 use Rattle.fl_machine.specs.Step.{refused}
 use Rattle.fl_model.specs.Record.{Record, Plan}
 use Rattle.fl_model.specs.Table as model
-use Rattle.fl_model.specs.Table.{refusal_of, put_record, lose, Refusal, BadKey, BadColumns, BadValue, BadBlob, Spent}
+use Rattle.fl_model.specs.Table.{refusal_of, put_record, Refusal, BadKey, BadColumns, BadValue, BadBlob, Spent}
 use Rattle.fl_model.specs.Puts.{TablePuts}
 use Rattle.fl_model.specs.Work as work
-use Rattle.fl_model.specs.Work.{PartEnd, Whole, CutIn, FailedIn, PartProgress}
-use Rattle.fl_ring.specs.Step.{IsWatched}
+use Rattle.fl_model.specs.Work.{PartProgress}
 use Rattle.fl_script.specs.Written.{Written}
 use Rattle.fl_script.proofs.Sending.{appends-append, written-err}
-use Rattle.fl_rlc.specs.Logged.{Rests}
-use Rattle.fl_rlc.specs.Outcomes.{PutEnds, Finishes, Breaks}
+use Rattle.fl_rlc.specs.Outcomes.{PutEnds, Breaks}
 use Rattle.fl_rlc.specs.Refusal.{RefusedSame}
 use Rattle.fl_table.specs.Causes.{PutCausedBy}
-use Rattle.fl_table.specs.Outcomes.{FaultEnds}
 use Rattle.fl_rlc.specs.declared.table.LoggedTable.{LoggedTable}
 use Rattle.fl_table.specs.declared.faults.PutRefusal.{PutRefusal}
 use Rattle.fl_table.specs.declared.faults.PutRefusal.TheVariants as refusal
-use Rattle.fl_tables.specs.Replies.{put_reply}
+use Rattle.fl_store.specs.Replies.{put_reply}
 use Rattle.fl_words.specs.Reply.{Reply, text}
 use Rattle.fl_words.specs.Grammar.{without_return}
 use Rattle.fl_csv.specs.Lines.{line_put}
 use Rattle.fl_import.specs.Counting.{put_end}
 use Rattle.fl_import.specs.Lines.{meaning}
-use Rattle.fl_import.specs.Puts.{FailsIn}
 use Rattle.fl_import.specs.Report.{number_text, reason_line}
-use Rattle.fl_import.specs.Steps.{IsOfLine, LineEnds, Works, by_told, fault_in, is_unread}
+use Rattle.fl_import.specs.Steps.{IsOfLine, LineEnds, by_told, fault_in, is_unread}
 use Rattle.fl_import.specs.declared.line_end.LineEnd.{LineEnd}
-use Rattle.fl_import.proofs.Failing.{IsWork, put-work}
+use Rattle.fl_store.specs.Works.{Works}
+use Rattle.fl_store.proofs.Failing.{put-work}
+use Rattle.fl_store.proofs.Works.{works-broken, works-done, works-uncut}
 
 -- two answers are two
 pub no-false : true ≡ false → ⊥
@@ -53,9 +52,6 @@ no-fault fault e = cc
 
 one-fault : (a b : FlashFault) → Some a ≡ Some b → a ≡ b
 one-fault a b e = cc
-
-not-media : PowerLost ≡ Media → ⊥
-not-media e = cc
 
 pub not-device : NoMemory ≡ Device → ⊥
 not-device e = cc
@@ -74,12 +70,10 @@ put-rose f g (Err (refusal.Flash own)) Media breaks cause device = subst (λ (x 
 
 -- .. and its status is one of a line, and no other
 pub fault-status : (fault : FlashFault) → IsOfLine (flash_status fault)
-fault-status Media = tt
-fault-status PowerLost = tt
+fault-status fault = by-flash IsOfLine fault tt tt
 
 pub fault-unwritten : {P : Type 0} (fault : FlashFault) → flash_status fault ≡ OutWrite → P
-fault-unwritten Media is = absurd (cc is)
-fault-unwritten PowerLost is = absurd (cc is)
+fault-unwritten {P} fault = by-flash (λ s. s ≡ OutWrite → P) fault (λ is. absurd (cc is)) (λ is. absurd (cc is))
 
 pub one-status : (a b : ToolStatus) → ◌≡◌ {A = Result LineEnd ToolStatus} (Err a) (Err b) → a ≡ b
 one-status a b e = cc
@@ -112,45 +106,6 @@ told-status (Ok done) = tt
 told-status (Err failed) = tt
 
 module _ (first : ℕ) (plan : Plan) (table : model.Table) (t u : LoggedTable 64 64) (f g : FlashState) (works : Works t f first plan table) where
-  pub works-watched : IsWatched f g (has_risen f g) works.device
-  works-watched = watched f g works.device works.told works.power works.counts
-
-  -- some work was done on the table
-  module _ (Did : Bool → work.Device → PartProgress model.Table → Type 0) (calm : IsWork Did) where
-    pub works-done : Goes f g → (after : model.Table) → Finishes first plan (Did (has_risen f g) works.device) table after u f g → Works u g first plan after
-    works-done goes after fin = record {
-      stands = fin.stands;
-      told = subst IsTrue (sym goes.tells) works.told;
-      power = fin.power;
-      device = fin.now.device;
-      counts = fin.counts;
-      unarmed = (calm (has_risen f g) works.device fin.now works.unarmed fin.did).unarmed fin.whole;
-    }
-
-    -- .. or an operation failed
-    pub record IsBroken : Type 0 where
-      pub after : model.Table
-      pub fails : FailsIn (Did true) after
-      pub rests : Rests g first plan (lose after)
-
-    pub works-broken : (fault : FlashFault) → Breaks first plan (Did (has_risen f g) works.device) fault g → IsBroken
-    works-broken fault b =
-        let bad : b.now.end ≡ Whole → ⊥ = λ e. subst (λ (x : PartEnd model.Table). FaultEnds x fault g) e b.answer in
-        record {
-          after = b.now.state;
-          fails = record { device = works.device; unarmed = works.unarmed; now = b.now; did = (calm (has_risen f g) works.device b.now works.unarmed b.did).did; failed = bad; left_is = refl };
-          rests = b.rests;
-        }
-
-    -- no cut is armed, so that none falls into it
-    pub works-uncut : Breaks first plan (Did (has_risen f g) works.device) PowerLost g → ⊥
-    works-uncut b = by-end b.now.end refl b.answer
-      where
-        by-end : (end : PartEnd model.Table) → b.now.end ≡ end → FaultEnds end PowerLost g → ⊥
-        by-end Whole is answer = answer
-        by-end (CutIn before) is answer = (calm (has_risen f g) works.device b.now works.unarmed b.did).uncut before is
-        by-end (FailedIn before) is answer = not-media answer.0
-
   works-same : u ≡ t → g ≡ f → Works u g first plan table
   works-same e k = subst (λ (x : FlashState). Works u x first plan table) (sym k) (subst (λ (x : LoggedTable 64 64). Works x f first plan table) (sym e) works)
 
@@ -180,15 +135,15 @@ module _ (first : ℕ) (plan : Plan) (table : model.Table) (t u : LoggedTable 64
 
       pub ends-put : Goes f g → told_now ≡ told → PutEnds first plan item table (has_risen f g) works.device (Ok tt) u f g → LineEnds lacking first plan table number put u g told told_now (Ok (put_end lacking))
       ends-put goes same ends =
-          let done = works-done DidPut (put-work plan item table) goes (put_record plan item table) ends.1 in
+          let done = works-done first plan table t u f g works DidPut (put-work plan item table) goes (put_record plan item table) ends.1 in
           rw (is, ends.0) (refl, done, subst (λ (o : Option (List ℕ)). Appends told o []) (sym same) (appends-none told))
 
       broken-by : (fault : FlashFault) → told_now ≡ told → refusal_of plan table item ≡ None → Breaks first plan (DidPut (has_risen f g) works.device) fault g →
           LineEnds lacking first plan table number put u g told told_now (Err (flash_status fault))
       broken-by Media same accepted ends =
-          let b = works-broken DidPut (put-work plan item table) Media ends in
+          let b = works-broken first plan table t u f g works DidPut (put-work plan item table) Media ends in
           (subst (λ (o : Option (List ℕ)). Appends told o []) (sym same) (appends-none told), (item, is, accepted, (b.after, b.fails, b.rests)))
-      broken-by PowerLost same accepted ends = absurd (works-uncut DidPut (put-work plan item table) ends)
+      broken-by PowerLost same accepted ends = absurd (works-uncut first plan table t u f g works DidPut (put-work plan item table) ends)
 
       pub ends-broken : (outcome : Result (Unit {0}) PutRefusal) (fault : FlashFault) → fault_in outcome ≡ Some fault → told_now ≡ told → PutEnds first plan item table (has_risen f g) works.device outcome u f g →
           LineEnds lacking first plan table number put u g told told_now (Err (flash_status fault))

@@ -3,7 +3,7 @@ use Rattle.std.specs.Prelude.{ℕ, ◌+◌, ◌-◌, Bool, true, false, Result, 
 use Rattle.fl_csv.specs.declared.record.GoneBlobs.{GoneBlobs}
 use Rattle.fl_csv.specs.declared.record.GoneBlobs.TheVariants as lost
 use Rattle.fl_csv.specs.declared.record.CsvRefusal.{CsvRefusal}
-use Rattle.fl_jobs.specs.declared.job_end.LinesTaken.{LinesTaken}
+use Rattle.fl_import.specs.declared.job_end.LinesTaken.{LinesTaken}
 use Rattle.fl_model.specs.Record.{Record, Plan, has_var}
 use Rattle.fl_model.specs.Table.{Table}
 use Rattle.fl_import.specs.Lines.{lacks, meaning, meanings}

@@ -1,31 +1,31 @@
 -- How an import ends, by its status.
-use Rattle.std.specs.Prelude.{◌≡◌, ◌⊎◌, ℕ, ◌+◌, ◌*◌, ◌<◌, ◌≤◌, IsTrue, Bool, false, Option, None, Some, Result, Ok, List, [], ◌∷◌, ◌++◌, length, map, find, slice_get}
+use Rattle.std.specs.Prelude.{◌≡◌, ◌⊎◌, ℕ, ◌+◌, ◌≤◌, IsTrue, Bool, false, Option, None, Some, Result, Ok, List, [], ◌∷◌, ◌++◌, length, map, find}
 use Rattle.fl_base.specs.Causes.{Rose, Appends, AppendsFront, IsFront}
 use Rattle.fl_csv.specs.declared.record.GoneBlobs.{GoneBlobs}
 use Rattle.fl_csv.specs.declared.record.CsvRefusal.{CsvRefusal}
 use Rattle.fl_csv.specs.declared.record.LineForm.{LineForm}
-use Rattle.fl_export.specs.Ends as export
-use Rattle.fl_export.specs.Ends.{IsImageOver, IsImageWith, IsUntouched, MountFails, at_rest}
-use Rattle.fl_jobs.specs.Header.{IsAccepted}
-use Rattle.fl_jobs.specs.Image.{IsImageOf}
-use Rattle.fl_jobs.specs.Taken.{none_taken}
-use Rattle.fl_jobs.specs.declared.job_end.LinesTaken.{LinesTaken}
-use Rattle.fl_jobs.specs.declared.status.ToolStatus.{ToolStatus}
-use Rattle.fl_jobs.specs.declared.status.ToolStatus.TheVariants.{Done, InputRead, OutWrite, InputLong, NoMemory, NotImage, Device, BadImage, NoTable, BadInput, Unsound}
+use Rattle.fl_store.specs.MountEnds as store
+use Rattle.fl_store.specs.Named.{IsImageOver, IsImageWith}
+use Rattle.fl_store.specs.MountEnds.{IsUntouched, MountFails}
+use Rattle.fl_store.specs.Store.{at_rest}
+use Rattle.fl_image.specs.Header.{IsAccepted}
+use Rattle.fl_image.specs.Image.{IsImageOf}
+use Rattle.fl_import.specs.Taken.{none_taken}
+use Rattle.fl_import.specs.declared.job_end.LinesTaken.{LinesTaken}
+use Rattle.fl_image.specs.declared.status.ToolStatus.{ToolStatus}
+use Rattle.fl_image.specs.declared.status.ToolStatus.TheVariants.{Done, InputRead, OutWrite, InputLong, NoMemory, NotImage, Device, BadImage, NoTable, BadInput, Unsound}
 use Rattle.fl_machine.specs.Step.{Located, located_from, all_ready}
-use Rattle.fl_model.specs.Image.{page_bytes}
 use Rattle.fl_model.specs.Mount.{Mounts, Mounted, turns_from}
-use Rattle.fl_model.specs.Record.{Record, Plan, Config, blocks_of, has_var, bytes_equal}
+use Rattle.fl_model.specs.Record.{Record, Plan, Config, has_var, bytes_equal}
 use Rattle.fl_model.specs.Table.{Table, refusal_of, flushed, lose}
 use Rattle.fl_model.specs.Within.{with_table}
 use Rattle.fl_model.specs.Work.{Progress}
-use Rattle.fl_tables.specs.Repaired.{IsLeft}
-use Rattle.fl_tables.specs.Tables.{first_of}
 use Rattle.fl_words.specs.Config.{Lines}
 use Rattle.fl_words.specs.Medium.{IsImage}
 use Rattle.fl_import.specs.Counting.{count_text, counts_of}
 use Rattle.fl_import.specs.Lines.{meaning, meanings, Takes}
-use Rattle.fl_import.specs.Puts.{after_puts, FailsInFlush, FailsInPut}
+use Rattle.fl_store.specs.Works.{FailsInFlush, FailsInPut}
+use Rattle.fl_import.specs.Puts.{after_puts}
 use Rattle.fl_import.specs.Reading.{Stops, TakesSome, TakesUntil}
 use Rattle.fl_lines.specs.Taken.{TakesFew}
 use Rattle.fl_import.specs.Report.{told_line, told_lines}
@@ -116,10 +116,7 @@ Leaves plan table text told after InputLong = Flushes plan table text told after
 Leaves plan table text told after (BadInput number) = Flushes plan table text told after (BadInput number)
 Leaves plan table text told after NoMemory = Flushes plan table text told after NoMemory
 Leaves plan table text told after Device = PutFails told.gone told.taken plan table text told.written told.written_now told.left_now after ⊎ FlushFails plan table text told after
-Leaves plan table text told after NotImage = ⊥
-Leaves plan table text told after (BadImage number) = ⊥
-Leaves plan table text told after NoTable = ⊥
-Leaves plan table text told after Unsound = ⊥
+Leaves plan table text told after status = ⊥
 
 -- ---- how an import of an image of tables ends
 
@@ -128,7 +125,7 @@ abbrev pub IsUnread : List ℕ → Told → Type 0
 IsUnread text told = (told.left_now ≡ Some text) × (told.taken ≡ none_taken)
 
 -- what is told of the mount alone
-abbrev pub of_mount : Told → ℕ → ℕ → export.Told
+abbrev pub of_mount : Told → ℕ → ℕ → store.Told
 of_mount told faults faults_now = record { written = told.written; written_now = told.written_now; faults = faults; faults_now = faults_now }
 
 -- The tables were mounted, and the one with the name is left so.
@@ -169,23 +166,6 @@ ImportEnds config tables name text told faults faults_now content content_now ke
     (Rose faults faults_now × IsUnbegun content content_now text told faults faults_now)
     ⊎ TablesEnd config.plans tables name text told faults faults_now (IsImage config content_now) kept Device
 ImportEnds config tables name text told faults faults_now content content_now kept status = TablesEnd config.plans tables name text told faults faults_now (IsImage config content_now) kept status
-
--- ---- what an import of an image leaves of the other tables
-
--- a page of the rings of a table that has another name
-pub record IsOfOther (plans : List Plan) (name : List ℕ) (block page : ℕ) : Type 0 where
-  pub at : ℕ
-  pub plan : Plan
-  pub here : slice_get plans at ≡ Some plan
-  pub other : plan.name ≡ name → ⊥
-  pub from : first_of plans at * block ≤ page
-  pub upto : page < (first_of plans at + blocks_of plan) * block
-
--- Each page of the rings of the other tables stands, or was torn and is void now, or is erased; or it was blank, and has records
--- that only a log had.
-abbrev pub OthersAreRepaired : Config → List ℕ → List ℕ → List ℕ → Type 0
-OthersAreRepaired config name content content_now =
-    (page : ℕ) → IsOfOther config.plans name config.geometry.block page → IsLeft config.plans config.geometry page (page_bytes config content page) (page_bytes config content_now page)
 
 -- ---- the causes of statuses, over any bytes
 

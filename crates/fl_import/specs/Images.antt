@@ -1,20 +1,18 @@
--- How an import ends over a flash on which the tables of an image lie, and over its medium.
-use Rattle.std.specs.Prelude.{◌≡◌, ◌⊎◌, ◌<◌, ◌≤◌, ℕ, false, is_some, Option, Some, List, slice_get}
+-- How an import ends over a flash on which the tables of an image lie.
+use Rattle.std.specs.Prelude.{◌≡◌, ◌<◌, ◌≤◌, ℕ, false, is_some, Option, Some, List, slice_get}
 use Rattle.fl_base.specs.Causes.{Rose}
 use Rattle.fl_csv.specs.declared.record.GoneBlobs.{GoneBlobs}
 use Rattle.fl_csv.specs.declared.record.LineForm.{LineForm}
 use Rattle.fl_flash.specs.Flash.{FlashState}
-use Rattle.fl_flash.specs.Media.{MediaState}
-use Rattle.fl_jobs.specs.Status.{is_done}
-use Rattle.fl_jobs.specs.declared.job_end.LinesTaken.{LinesTaken}
-use Rattle.fl_jobs.specs.declared.status.ToolStatus.{ToolStatus}
-use Rattle.fl_jobs.specs.declared.status.ToolStatus.TheVariants.{InputRead, OutWrite, NoMemory, Device, BadImage}
-use Rattle.fl_model.specs.Record.{Plan, Config}
+use Rattle.fl_image.specs.Status.{is_done}
+use Rattle.fl_import.specs.declared.job_end.LinesTaken.{LinesTaken}
+use Rattle.fl_image.specs.declared.status.ToolStatus.{ToolStatus}
+use Rattle.fl_image.specs.declared.status.ToolStatus.TheVariants.{InputRead, OutWrite, Device, BadImage}
+use Rattle.fl_model.specs.Record.{Plan}
 use Rattle.fl_model.specs.Table.{Table}
-use Rattle.fl_tables.specs.Tables.{TablesStand}
-use Rattle.fl_tables.specs.declared.tables.Entry.{Entry}
-use Rattle.fl_words.specs.Medium.{IsImage}
-use Rattle.fl_import.specs.Ends.{Told, TablesEnd, IsUnbegun}
+use Rattle.fl_store.specs.Tables.{TablesStand}
+use Rattle.fl_store.specs.declared.tables.Entry.{Entry}
+use Rattle.fl_import.specs.Ends.{Told, TablesEnd}
 use Rattle.fl_import.specs.Steps.{IsFormOf, IsOfTable}
 
 -- a status that comes once the table is found
@@ -42,9 +40,3 @@ told_of gone taken told told_now rest = record { gone = gone; taken = taken; wri
 -- how it ends over a flash: that stands for the tables afterwards
 abbrev pub EndsOn : List Plan → List Table → List ℕ → List ℕ → Told → FlashState → FlashState → List Entry → Option ℕ → ToolStatus → Type 0
 EndsOn plans tables name text told old new entries kept status = TablesEnd plans tables name text told old.media.faults new.media.faults (TablesStand new (λ i. false) plans entries) kept status
-
--- .. and over a medium; where there was no room for the flash nothing was done
-abbrev pub EndsOver : Config → List Table → List ℕ → List ℕ → Told → MediaState → MediaState → Option ℕ → ToolStatus → Type 0
-EndsOver config tables name text told old new kept status =
-    ((status ≡ NoMemory) × IsUnbegun old.content new.content text told old.faults new.faults)
-    ⊎ TablesEnd config.plans tables name text told old.faults new.faults (IsImage config new.content) kept status

@@ -1,11 +1,8 @@
 -- Records that are put into a table, one after another.
-use Rattle.std.specs.Prelude.{◌≡◌, ℕ, ◌+◌, Bool, true, false, not, is_some, None, Result, Ok, Err, List, [], ◌∷◌, if◌then◌else◌}
+use Rattle.std.specs.Prelude.{ℕ, ◌+◌, Bool, false, not, is_some, Result, Ok, Err, List, [], ◌∷◌, if◌then◌else◌}
 use Rattle.fl_csv.specs.declared.record.CsvRefusal.{CsvRefusal}
 use Rattle.fl_model.specs.Record.{Record, Plan}
-use Rattle.fl_model.specs.Table.{Table, refusal_of, put_record, table_seals}
-use Rattle.fl_model.specs.Puts.{TablePuts}
-use Rattle.fl_model.specs.Within.{TablePerforms, seals_within}
-use Rattle.fl_model.specs.Work.{Device, PartProgress, Whole}
+use Rattle.fl_model.specs.Table.{Table, refusal_of, put_record}
 
 -- the record of a line joins the table, where the line is one and the table doesn't refuse it
 abbrev pub is_put : Plan → Table → Result Record CsvRefusal → Bool
@@ -25,19 +22,3 @@ after_puts plan table (put ∷ puts) = after_puts plan (after_put plan table put
 abbrev pub put_count : Plan → Table → List (Result Record CsvRefusal) → ℕ
 put_count plan table [] = 0
 put_count plan table (put ∷ puts) = (if is_put plan table put then 1 else 0) + put_count plan (after_put plan table put) puts
-
--- One of the operations of some work on a table failed, while no cut was armed. This is left of the table.
-pub record FailsIn (Did : Device → PartProgress Table → Type 0) (left : Table) : Type 0 where
-  pub device : Device
-  pub unarmed : device.armed ≡ None
-  pub now : PartProgress Table
-  pub did : Did device now
-  pub failed : now.end ≡ Whole → ⊥
-  pub left_is : left ≡ now.state
-
--- .. in the put of a record that isn't refused, and in a flush
-abbrev pub FailsInPut : Plan → Record → Table → Table → Type 0
-FailsInPut plan item table left = FailsIn (λ device now. TablePuts plan true item device table now) left
-
-abbrev pub FailsInFlush : Plan → Table → Table → Type 0
-FailsInFlush plan table left = FailsIn (λ device now. TablePerforms plan true (seals_within plan (table_seals plan table) table) device table now) left

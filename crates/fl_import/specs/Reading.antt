@@ -1,7 +1,7 @@
 -- Why no more lines of an input are taken, and how far it was read.
 use Rattle.std.specs.Prelude.{◌≡◌, ℕ, ◌+◌, ◌≤◌, Bool, true, false, Option, Some, List, [], length, take, drop}
-use Rattle.fl_jobs.specs.declared.status.ToolStatus.{ToolStatus}
-use Rattle.fl_jobs.specs.declared.status.ToolStatus.TheVariants.{Done, InputRead, OutWrite, InputLong, NoMemory, NotImage, Device, BadImage, NoTable, BadInput, Unsound}
+use Rattle.fl_image.specs.declared.status.ToolStatus.{ToolStatus}
+use Rattle.fl_image.specs.declared.status.ToolStatus.TheVariants.{Done, InputRead, OutWrite, InputLong, NoMemory, BadInput}
 use Rattle.fl_lines.specs.Taken.{HasTaken, TakesFew}
 use Rattle.fl_lines.specs.Texts.{is_long, most_bytes, rest_of, whole_lines}
 use Rattle.fl_import.specs.Lines.{Takes, IsBad}
@@ -32,11 +32,7 @@ Stops columns blobs text taken left rest InputRead = FailsBehind text taken rest
 -- the next one was given, and then the sink failed, or there was no memory, also for the first one
 Stops columns blobs text taken left rest OutWrite = HasNext taken left
 Stops columns blobs text taken left rest NoMemory = 1 ≤ length left
-Stops columns blobs text taken left rest NotImage = ⊥
-Stops columns blobs text taken left rest Device = ⊥
-Stops columns blobs text taken left rest (BadImage table) = ⊥
-Stops columns blobs text taken left rest NoTable = ⊥
-Stops columns blobs text taken left rest Unsound = ⊥
+Stops columns blobs text taken left rest status = ⊥
 
 -- The lines of a text were taken so far, and at most 4,097 bytes were read from the first byte of the next one on.
 pub record TakesUntil (columns : ℕ) (blobs : Bool) (text : List ℕ) (rest : Option (List ℕ)) (status : ToolStatus) : Type 0 where

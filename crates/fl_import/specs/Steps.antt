@@ -1,5 +1,5 @@
 -- How the steps of an import of a table end.
-use Rattle.std.specs.Prelude.{◌≡◌, ℕ, IsTrue, Bool, true, false, Option, None, Some, Result, Ok, Err, List, [], length}
+use Rattle.std.specs.Prelude.{◌≡◌, ℕ, Bool, true, false, Option, None, Some, Result, Ok, Err, List, [], length}
 use Rattle.fl_base.specs.Causes.{Rose, Appends, AppendsFront}
 use Rattle.fl_base.specs.declared.stream.SinkFailed.{SinkFailed}
 use Rattle.fl_csv.specs.declared.record.GoneBlobs.{GoneBlobs}
@@ -9,15 +9,14 @@ use Rattle.fl_csv.specs.declared.record.CsvRefusal.TheVariants as unread
 use Rattle.fl_flash.specs.Flash.{FlashState}
 use Rattle.fl_flash.specs.declared.flash.FlashFault.{FlashFault}
 use Rattle.fl_flash.specs.declared.flash.FlashFault.TheVariants.{PowerLost}
-use Rattle.fl_jobs.specs.Status.{flash_status}
-use Rattle.fl_jobs.specs.declared.job_end.LinesTaken.{LinesTaken}
-use Rattle.fl_jobs.specs.declared.status.ToolStatus.{ToolStatus}
-use Rattle.fl_jobs.specs.declared.status.ToolStatus.TheVariants.{Done, InputRead, OutWrite, InputLong, NoMemory, NotImage, Device, BadImage, NoTable, BadInput, Unsound}
+use Rattle.fl_image.specs.Status.{flash_status}
+use Rattle.fl_import.specs.declared.job_end.LinesTaken.{LinesTaken}
+use Rattle.fl_image.specs.declared.status.ToolStatus.{ToolStatus}
+use Rattle.fl_image.specs.declared.status.ToolStatus.TheVariants.{Done, InputRead, OutWrite, InputLong, NoMemory, Device, BadInput}
 use Rattle.fl_model.specs.Record.{Record, Plan, has_var}
 use Rattle.fl_model.specs.Table as model
 use Rattle.fl_model.specs.Table.{refusal_of, lose}
 use Rattle.fl_model.specs.Work as work
-use Rattle.fl_ring.specs.Device.{SameDevice}
 use Rattle.fl_rlc.specs.Logged.{Rests, Stands}
 use Rattle.fl_rlc.specs.declared.table.LoggedTable.{LoggedTable}
 use Rattle.fl_table.specs.declared.faults.FlushFault.{FlushFault}
@@ -26,19 +25,11 @@ use Rattle.fl_table.specs.declared.faults.PutRefusal.{PutRefusal}
 use Rattle.fl_table.specs.declared.faults.PutRefusal.TheVariants as refusal
 use Rattle.fl_import.specs.Ends.{Told, Puts, PutFails, Leaves, table_after}
 use Rattle.fl_import.specs.Counting.{count_text, end_of}
-use Rattle.fl_import.specs.Puts.{after_put, FailsInPut}
+use Rattle.fl_store.specs.Works.{FailsInPut, Works}
+use Rattle.fl_import.specs.Puts.{after_put}
 use Rattle.fl_import.specs.Report.{told_line}
 use Rattle.fl_import.specs.declared.line_end.LineEnd.{LineEnd}
 use Rattle.fl_import.specs.declared.line_end.LineEnd.TheVariants.{Refused}
-
--- a table that is mounted over a flash that tells its bytes, with the power on and no cut armed
-pub record Works (t : LoggedTable 64 64) (f : FlashState) (first : ℕ) (plan : Plan) (table : model.Table) : Type 0 where
-  pub stands : Stands t f first plan table
-  pub told : IsTrue f.media.tells
-  pub power : f.is_on ≡ true
-  pub device : work.Device
-  pub counts : SameDevice f device
-  pub unarmed : device.armed ≡ None
 
 -- the lines of a plan's records
 pub record IsFormOf (form : LineForm) (plan : Plan) : Type 0 where
@@ -138,10 +129,7 @@ IsOfTable InputLong = Unit {0}
 IsOfTable NoMemory = Unit {0}
 IsOfTable Device = Unit {0}
 IsOfTable (BadInput number) = Unit {0}
-IsOfTable (BadImage table) = ⊥
-IsOfTable NotImage = ⊥
-IsOfTable NoTable = ⊥
-IsOfTable Unsound = ⊥
+IsOfTable status = ⊥
 
 -- it was imported so, and the flash stands for what is left of it without what is in memory alone; where it is done the table
 -- goes on

@@ -1,8 +1,8 @@
 -- How the lines of an input are taken, step by step.
 use Rattle.std.specs.Prelude.{◌≡◌, ◌⊎◌, ℕ, ◌<◌, ◌≤◌, Bool, true, Option, Some, Result, Ok, Err, List, ◌++◌, length}
 use Rattle.std.specs.List.{AllByRecursion}
-use Rattle.fl_jobs.specs.declared.status.ToolStatus.{ToolStatus}
-use Rattle.fl_jobs.specs.declared.status.ToolStatus.TheVariants.{Done, InputRead, OutWrite, InputLong, NoMemory, NotImage, Device, BadImage, NoTable, BadInput, Unsound}
+use Rattle.fl_image.specs.declared.status.ToolStatus.{ToolStatus}
+use Rattle.fl_image.specs.declared.status.ToolStatus.TheVariants.{Done, InputRead, OutWrite, InputLong, NoMemory, Device, BadImage, BadInput}
 use Rattle.fl_lines.specs.Given.{Given}
 use Rattle.fl_lines.specs.Stream.{LinesState, Advances}
 use Rattle.fl_lines.specs.Taken.{TakesFew}
@@ -63,10 +63,7 @@ EndedAs columns blobs text rest (BadInput number) = TakesUntil columns blobs tex
 EndedAs columns blobs text rest OutWrite = TakesUntil columns blobs text rest OutWrite ⊎ TakesUntil columns blobs text rest Done
 EndedAs columns blobs text rest NoMemory = TakesSome columns blobs text rest
 EndedAs columns blobs text rest Device = TakesSome columns blobs text rest
-EndedAs columns blobs text rest (BadImage table) = ⊥
-EndedAs columns blobs text rest NotImage = ⊥
-EndedAs columns blobs text rest NoTable = ⊥
-EndedAs columns blobs text rest Unsound = ⊥
+EndedAs columns blobs text rest status = ⊥
 
 -- .. or none was, since the tables weren't mounted or there was no memory before
 abbrev pub EndedOver : ℕ → Bool → List ℕ → Option (List ℕ) → ToolStatus → Type 0

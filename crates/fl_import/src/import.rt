@@ -1,36 +1,35 @@
 // The import of records into a table of an image.
-ghost use Rattle.std.specs.Prelude.{◌≡◌, ◌⊎◌, ◌≤◌, ◌<◌, ◌^◌, ℕ, false, true, is_some, Some, [], List, length, slice_get, IsTrue, IfSome};
+ghost use Rattle.std.specs.Prelude.{◌≡◌, ◌⊎◌, ◌≤◌, ◌<◌, ◌^◌, ℕ, false, true, is_some, Some, [], List, length, IsTrue, IfSome};
 ghost use Rattle.fl_base.specs.Causes.{Rose};
-ghost use Rattle.fl_config.specs.Whole.{is_whole, Makes};
-ghost use Rattle.fl_export.specs.Ends.{at_rest, IsImageWith, Keeps};
 ghost use Rattle.fl_flash.specs.Flash.{FlashState, Goes, page_at};
-ghost use Rattle.fl_jobs.specs.Header.{IsMade};
-ghost use Rattle.fl_jobs.specs.Image.{OnlyLooksAt};
-ghost use Rattle.fl_jobs.specs.Status.{is_done};
-ghost use Rattle.fl_jobs.specs.declared.status.ToolStatus.{ToolStatus};
-ghost use Rattle.fl_model.specs.Image.{medium_len};
-ghost use Rattle.fl_model.specs.Record.{Config as Configured, Plan, has_var};
+ghost use Rattle.fl_image.specs.Header.{IsMade};
+ghost use Rattle.fl_image.specs.Image.{OnlyLooksAt};
+ghost use Rattle.fl_image.specs.Status.{is_done};
+ghost use Rattle.fl_image.specs.declared.status.ToolStatus.{ToolStatus};
+ghost use Rattle.fl_model.specs.Record.{Config as Configured, Plan};
 ghost use Rattle.fl_model.specs.Table as model;
 ghost use Rattle.fl_ring.specs.Device.{SameDevice};
 ghost use Rattle.fl_rlc.specs.Logged.{Stands};
-ghost use Rattle.fl_tables.specs.Repaired.{IsLeft};
-ghost use Rattle.fl_tables.specs.Tables.{AreNewTables, IsNamed, LieOn, TablesStand};
+ghost use Rattle.fl_store.specs.MountEnds.{Keeps};
+ghost use Rattle.fl_store.specs.Named.{IsImageWith};
+ghost use Rattle.fl_store.specs.Repaired.{IsLeft, IsOfOther, OthersAreRepaired};
+ghost use Rattle.fl_store.specs.Store.{at_rest};
+ghost use Rattle.fl_store.specs.Tables.{AreNewTables, IsNamed, LieOn, TablesStand};
 ghost use Rattle.fl_words.specs.Config as words;
 ghost use Rattle.fl_words.specs.Medium.{IsImage};
-ghost use Rattle.fl_import.specs.Ends.{ImportEnds, IsFormIn, IsOfOther, OthersAreRepaired, StatusFits};
-ghost use Rattle.fl_import.specs.Images.{EndsOn, EndsOver, FormsAt, HasCauses, told_of};
+ghost use Rattle.fl_import.specs.Ends.{ImportEnds, IsFormIn, StatusFits};
+ghost use Rattle.fl_import.specs.Images.{EndsOn, FormsAt, HasCauses, told_of};
 ghost use Rattle.fl_import.specs.Taking.{EndedOver};
 
+use crate::begin::{Begun, begin};
+use crate::job_end::{JobEnd, LinesTaken};
 use crate::table::import_table;
 use fl_base::{Name, Sink, Source};
-use fl_config::Config;
 use fl_csv::{GoneBlobs, LineForm};
-use fl_export::mount_status;
-use fl_flash::{Flash, FlashRoom, Media, PageBuf, SimFlash};
-use fl_jobs::{HEADER, JobEnd, LinesTaken, ToolStatus, config_of_image};
+use fl_flash::{Flash, Media, PageBuf};
+use fl_image::ToolStatus;
 use fl_lines::Lines;
-use fl_script::LineRoom;
-use fl_tables::{LoggedTable, Tables};
+use fl_store::{FoundTable, LoggedTable, Store, Tables, mount_status};
 use std::alloc::Global;
 
 /// The rows that the table holds, where the import is done.
@@ -109,55 +108,6 @@ fn form_at(tables: &Tables, at: usize) -> LineForm
     }
 }
 
-/// Imports into the table at this place of the configuration, whose image is on the medium.
-fn import_at<M: Media, S: Source, K: Sink>(
-    alloc: Global,
-    config: &Config,
-    tables: &mut Tables,
-    at: usize,
-    gone: GoneBlobs,
-    media: &mut M,
-    input: &mut S,
-    out: &mut K,
-) -> JobEnd
-    requires whole { IsTrue (is_whole config.now) }
-    requires tables { AreNewTables tables.old.entries.items config.now }
-    requires at { at < length tables.old.entries.items }
-    requires size { (configured : Configured) → Makes config.now configured → length (M.state media.old).content ≡ medium_len configured }
-    ensures keeps { Keeps (M.state media.old) (M.state media.new) }
-    ensures causes { HasCauses (length tables.old.entries.items) (M.state media.old).faults (M.state media.new).faults (S.faults input.old) (S.faults input.new) (K.faults out.old) (K.faults out.new) result.kept result.status }
-    ensures unread { (table : ℕ) → result.status ≡ ToolStatus.BadImage table → (input.new ≡ input.old) × (out.new ≡ out.old) }
-    ensures ended { (plan : Plan) (text : List ℕ) → slice_get config.now.plans at ≡ Some plan → S.left input.old ≡ Some text → EndedOver (length plan.columns) (has_var plan) text (S.left input.new) result.status }
-    ensures ends { (configured : Configured) (ts : List model.Table) (name text : List ℕ) → IsTrue (M.state media.old).tells → Makes config.now configured → IsImage configured (M.state media.old).content ts
-        → IsNamed tables.old.entries.items name at → S.left input.old ≡ Some text
-        → EndsOver configured ts name text (told_of gone result.taken (K.written out.old) (K.written out.new) (S.left input.new)) (M.state media.old) (M.state media.new) result.kept result.status }
-    ensures form { IfSome result.form (λ form. FormsAt form config.now.plans at) }
-    ensures formed { (line : ℕ) → result.status ≡ ToolStatus.BadInput line → is_some result.form ≡ true }
-    ensures repairs { (configured : Configured) (ts : List model.Table) (name : List ℕ) → IsTrue (M.state media.old).tells → Makes config.now configured → IsImage configured (M.state media.old).content ts
-        → IsNamed tables.old.entries.items name at → (result.status ≡ ToolStatus.Device → ⊥) → OthersAreRepaired configured name (M.state media.old).content (M.state media.new).content }
-{
-    // Its call tells the proof how few tables there are.
-    let _tables = config.tables();
-    let geometry = config.geometry();
-    let blocks = config.blocks();
-    let form = form_at(tables, at);
-    let Ok(mut lines) = Lines::new(alloc) else {
-        return JobEnd::of(ToolStatus::NoMemory);
-    };
-    let Ok(mut page) = PageBuf::new(alloc, geometry.page) else {
-        return JobEnd::of(ToolStatus::NoMemory);
-    };
-    let Ok(room) = FlashRoom::new(alloc, geometry, blocks) else {
-        return JobEnd::of(ToolStatus::NoMemory);
-    };
-    let mut flash = SimFlash::with_room(media, geometry, blocks, HEADER as u64, room);
-    let end = import_on(
-        alloc, form, gone, tables, at, &mut flash, &mut page, &mut lines, input, out,
-    );
-    let _media = flash.into_media();
-    end
-}
-
 /// Puts the records of an input into a table of the image on a medium. The first line of the input names the fields, and each
 /// line below it is a record of CSV, which is put, or refused and told of; one whose blob is gone is put without it, or refused.
 /// The last line that is written tells how many were. How far the lines were taken is handed up, and the form that those of this
@@ -201,18 +151,32 @@ pub fn import_image<M: Media, S: Source, K: Sink>(
     ensures later { (S.faults input.old ≤ S.faults input.new) × (K.faults out.old ≤ K.faults out.new) }
     ensures keeps { Keeps (M.state media.old) (M.state media.new) }
 {
-    let Ok(mut lines) = LineRoom::new(alloc) else {
-        return JobEnd::of(ToolStatus::NoMemory);
-    };
-    let config = match config_of_image(media, &mut lines) {
-        Ok(config) => config,
+    let Begun {
+        found,
+        mut lines,
+        mut page,
+    } = match begin(alloc, name, media) {
+        Ok(begun) => begun,
         Err(status) => return JobEnd::of(status),
     };
-    let Ok(mut tables) = Tables::plan(alloc, &config) else {
-        return JobEnd::of(ToolStatus::NoMemory);
-    };
-    let Some(at) = tables.find(name) else {
-        return JobEnd::of(ToolStatus::NoTable);
-    };
-    import_at(alloc, &config, &mut tables, at, gone, media, input, out)
+    let FoundTable { config, layout, at } = found;
+    let form = form_at(&layout.tables, at);
+    let Store {
+        mut flash,
+        mut tables,
+    } = Store::over(media, &config, false, layout);
+    let end = import_on(
+        alloc,
+        form,
+        gone,
+        &mut tables,
+        at,
+        &mut flash,
+        &mut page,
+        &mut lines,
+        input,
+        out,
+    );
+    let _media = Store { flash, tables }.close();
+    end
 }

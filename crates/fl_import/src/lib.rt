@@ -1,7 +1,9 @@
 //! The import of records into a table of an image: the lines of CSV that a source gives, each a put or a refusal.
 #![tactic(auto)]
 
+mod begin;
 mod import;
+mod job_end;
 mod line;
 mod line_end;
 mod lines;
@@ -11,3 +13,4 @@ mod table;
 mod taking;
 
 pub use import::import_image;
+pub use job_end::{JobEnd, LinesTaken};

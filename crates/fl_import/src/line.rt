@@ -4,7 +4,7 @@ ghost use Rattle.fl_base.specs.Causes.{Rose};
 ghost use Rattle.fl_csv.specs.Lines.{line_put};
 ghost use Rattle.fl_csv.specs.Views.{put_view};
 ghost use Rattle.fl_flash.specs.Flash.{Goes, page_at};
-ghost use Rattle.fl_jobs.specs.declared.status.ToolStatus.{ToolStatus};
+ghost use Rattle.fl_image.specs.declared.status.ToolStatus.{ToolStatus};
 ghost use Rattle.fl_model.specs.Record.{Plan};
 ghost use Rattle.fl_model.specs.Table as model;
 ghost use Rattle.fl_model.specs.Work.{Device};
@@ -15,8 +15,9 @@ ghost use Rattle.fl_rlc.specs.Refusal.{RefusedSame};
 ghost use Rattle.fl_rlc.specs.Table.{is_running, IsSamePlan, LiesOn, OutsideStands};
 ghost use Rattle.fl_table.specs.Causes.{PutCausedBy};
 ghost use Rattle.fl_words.specs.Grammar as grammar;
+ghost use Rattle.fl_store.specs.Works.{Works};
 ghost use Rattle.fl_import.specs.Lines.{lacks, meaning};
-ghost use Rattle.fl_import.specs.Steps.{IsFormOf, IsOfLine, LineEnds, Works, by_told, fault_in, is_unread};
+ghost use Rattle.fl_import.specs.Steps.{IsFormOf, IsOfLine, LineEnds, by_told, fault_in, is_unread};
 
 use crate::line_end::{LineEnd, put_end};
 use crate::names::without_return;
@@ -24,9 +25,9 @@ use crate::report::{tell_reason, tell_refusal};
 use fl_base::{Sink, SinkFailed};
 use fl_csv::{CsvPut, CsvRefusal, GoneBlobs, LineForm, read_record};
 use fl_flash::{Flash, FlashFault};
-use fl_jobs::{ToolStatus, flash_status};
+use fl_image::{ToolStatus, flash_status};
+use fl_store::LoggedTable;
 use fl_table::PutRefusal;
-use fl_tables::LoggedTable;
 use std::alloc::Global;
 
 /// Puts a record that was read.

@@ -2,24 +2,26 @@
 ghost use Rattle.std.specs.Prelude.{◌≡◌, ◌≤◌, ◌<◌, ◌+◌, ◌^◌, ℕ, Bool, true, List, [], ◌∷◌, length, IsTrue, IfOk, IfErr, Ok, Err};
 ghost use Rattle.fl_base.specs.Causes.{Rose};
 ghost use Rattle.fl_flash.specs.Flash.{Goes, page_at};
-ghost use Rattle.fl_jobs.specs.declared.status.ToolStatus.{ToolStatus};
+ghost use Rattle.fl_image.specs.declared.status.ToolStatus.{ToolStatus};
 ghost use Rattle.fl_lines.specs.Stream.{LinesState};
 ghost use Rattle.fl_model.specs.Record.{Plan};
 ghost use Rattle.fl_model.specs.Table as model;
 ghost use Rattle.fl_rlc.specs.Table.{IsSamePlan, LiesOn, OutsideStands};
+ghost use Rattle.fl_store.specs.Works.{Works};
 ghost use Rattle.fl_import.specs.Counting.{after_end};
-ghost use Rattle.fl_import.specs.Steps.{AllEnds, IsFormOf, IsOfLines, Works, status_of};
+ghost use Rattle.fl_import.specs.Steps.{AllEnds, IsFormOf, IsOfLines, status_of};
 ghost use Rattle.fl_import.specs.Taking.{Ended, TakesSoFar};
 
+use crate::job_end::LinesTaken;
 use crate::line::put_line;
 use crate::line_end::LineEnd;
 use crate::taking::next_line;
 use fl_base::{Sink, Source};
 use fl_csv::{GoneBlobs, LineForm};
 use fl_flash::Flash;
-use fl_jobs::{LinesTaken, ToolStatus};
+use fl_image::ToolStatus;
 use fl_lines::Lines;
-use fl_tables::LoggedTable;
+use fl_store::LoggedTable;
 use std::alloc::Global;
 
 /// How far the lines were taken, after one more.

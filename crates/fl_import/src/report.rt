@@ -2,17 +2,17 @@
 ghost use Rattle.std.specs.Prelude.{◌≡◌, ◌≤◌, ◌+◌, ◌++◌, [], ◌∷◌, length, Err};
 ghost use Rattle.fl_base.specs.Causes.{HasCause};
 ghost use Rattle.fl_script.specs.Written.{Written};
-ghost use Rattle.fl_tables.specs.Replies.{put_reply};
+ghost use Rattle.fl_store.specs.Replies.{put_reply};
 ghost use Rattle.fl_words.specs.Reply.{text};
 ghost use Rattle.fl_import.specs.Counting.{count_text};
 ghost use Rattle.fl_import.specs.Report.{number_text, reason, reason_line};
 
+use crate::job_end::LinesTaken;
 use fl_base::{Sink, SinkFailed};
 use fl_csv::{CsvRefusal, GoneBlobs};
-use fl_jobs::LinesTaken;
 use fl_script::{TextLine, write_all, write_reply};
+use fl_store::put_reply;
 use fl_table::PutRefusal;
-use fl_tables::put_reply;
 
 /// The number of the line that is told of.
 fn add_line_number(line: &mut TextLine, number: u64)

@@ -2,26 +2,28 @@
 ghost use Rattle.std.specs.Prelude.{◌≡◌, ◌≤◌, ◌^◌, ℕ, false, List, [], IsTrue, IfErr, IfOk, Err, Some};
 ghost use Rattle.fl_base.specs.Causes.{Rose};
 ghost use Rattle.fl_flash.specs.Flash.{Goes, page_at};
-ghost use Rattle.fl_jobs.specs.Taken.{none_taken};
-ghost use Rattle.fl_jobs.specs.declared.status.ToolStatus.{ToolStatus};
+ghost use Rattle.fl_import.specs.Taken.{none_taken};
+ghost use Rattle.fl_image.specs.declared.status.ToolStatus.{ToolStatus};
 ghost use Rattle.fl_lines.specs.Stream.{LinesState};
 ghost use Rattle.fl_model.specs.Record.{Plan};
 ghost use Rattle.fl_model.specs.Table as model;
 ghost use Rattle.fl_rlc.specs.Table.{IsSamePlan, LiesOn, OutsideStands};
+ghost use Rattle.fl_store.specs.Works.{Works};
 ghost use Rattle.fl_import.specs.Images.{told_of};
-ghost use Rattle.fl_import.specs.Steps.{AllEnds, IsFormOf, IsOfLines, IsOfTable, TableEnds, TellsCounts, Works, flush_status, is_broken, status_of};
+ghost use Rattle.fl_import.specs.Steps.{AllEnds, IsFormOf, IsOfLines, IsOfTable, TableEnds, TellsCounts, flush_status, is_broken, status_of};
 ghost use Rattle.fl_import.specs.Taking.{Ended, EndedAs};
 
+use crate::job_end::LinesTaken;
 use crate::lines::put_lines;
 use crate::report::tell_counts;
 use crate::taking::take_names;
 use fl_base::{Sink, Source};
 use fl_csv::{GoneBlobs, LineForm};
 use fl_flash::{Flash, FlashFault};
-use fl_jobs::{LinesTaken, ToolStatus, flash_status};
+use fl_image::{ToolStatus, flash_status};
 use fl_lines::Lines;
+use fl_store::LoggedTable;
 use fl_table::FlushFault;
-use fl_tables::LoggedTable;
 use std::alloc::Global;
 
 /// Takes all lines of an input, of which none was taken: puts them, and tells of those that are refused.

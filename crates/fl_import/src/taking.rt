@@ -1,14 +1,14 @@
 // The next line of an input, and the first one.
 ghost use Rattle.std.specs.Prelude.{◌≡◌, ◌≤◌, ◌<◌, ◌^◌, ℕ, List, [], ◌∷◌, false, IfOk, IfErr, Err, Some};
 ghost use Rattle.fl_base.specs.Causes.{Rose};
-ghost use Rattle.fl_jobs.specs.declared.status.ToolStatus.{ToolStatus};
+ghost use Rattle.fl_image.specs.declared.status.ToolStatus.{ToolStatus};
 ghost use Rattle.fl_lines.specs.Stream.{LinesState};
 ghost use Rattle.fl_import.specs.Taking.{IsOfNames, NextLine, TakesSoFar, TakesThese};
 
 use crate::names::without_return;
 use fl_base::Source;
 use fl_csv::{LineForm, is_header};
-use fl_jobs::ToolStatus;
+use fl_image::ToolStatus;
 use fl_lines::{Lines, LinesFault};
 use std::alloc::Global;
 

@@ -1,7 +1,8 @@
 // Images made by hand, and what a check says of them: of sound ones, and of some that break each rule.
 use fl_base::{MemSink, NoMemory};
 use fl_flash::MemMedia;
-use fl_jobs::{RingChecker, ToolStatus, check_all, check_image};
+use fl_image::ToolStatus;
+use fl_image_check::{RingChecker, check_all, check_image};
 use std::alloc::Global;
 use std::test::Fail;
 

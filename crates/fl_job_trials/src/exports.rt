@@ -3,7 +3,7 @@ use crate::checks::{Piece, SEAL, image};
 use fl_base::{KeyRange, MemSink, Name, NoMemory};
 use fl_export::export_image;
 use fl_flash::MemMedia;
-use fl_jobs::ToolStatus;
+use fl_image::ToolStatus;
 use std::alloc::Global;
 use std::test::Fail;
 

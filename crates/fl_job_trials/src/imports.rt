@@ -4,8 +4,8 @@ use fl_base::{KeyRange, MemSink, MemSource, Name, NoMemory};
 use fl_csv::{GoneBlobs, LineForm};
 use fl_export::export_image;
 use fl_flash::MemMedia;
-use fl_import::import_image;
-use fl_jobs::{JobEnd, LinesTaken, ToolStatus};
+use fl_image::ToolStatus;
+use fl_import::{JobEnd, LinesTaken, import_image};
 use std::alloc::Global;
 use std::test::Fail;
 

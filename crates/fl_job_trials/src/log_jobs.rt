@@ -5,7 +5,7 @@ use crate::imports::{import, records};
 use crate::logs::{LOGGED, LOGGED_BYTES, ROW};
 use fl_base::NoMemory;
 use fl_flash::MemMedia;
-use fl_jobs::ToolStatus;
+use fl_image::ToolStatus;
 use std::alloc::Global;
 use std::test::Fail;
 

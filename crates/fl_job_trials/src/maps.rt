@@ -2,8 +2,8 @@
 use crate::checks::{Piece, SEAL, image};
 use fl_base::{MemSink, NoMemory};
 use fl_flash::MemMedia;
-use fl_jobs::{Drawing, ToolStatus};
-use fl_map::map_image;
+use fl_image::ToolStatus;
+use fl_map::{Drawing, map_image};
 use std::alloc::Global;
 use std::test::Fail;
 

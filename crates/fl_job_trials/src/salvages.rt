@@ -2,7 +2,7 @@
 use crate::checks::{Piece, SEAL, image};
 use fl_base::{MemSink, MemSource, Name, NoMemory};
 use fl_flash::MemMedia;
-use fl_jobs::ToolStatus;
+use fl_image::ToolStatus;
 use fl_salvage::{PassedOver, SalvageEnd, salvage_image};
 use std::alloc::Global;
 use std::test::Fail;

@@ -4,7 +4,7 @@ use crate::exports::export;
 use crate::imports::{import, records};
 use fl_base::{MemSink, Name, NoMemory};
 use fl_flash::MemMedia;
-use fl_jobs::ToolStatus;
+use fl_image::ToolStatus;
 use fl_ship::{ShipStatus, Side, ship_image};
 use std::alloc::Global;
 use std::test::Fail;

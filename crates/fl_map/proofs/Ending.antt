@@ -8,12 +8,12 @@ use Rattle.fl_flash.specs.Flash.{FlashState}
 use Rattle.fl_flash.specs.Media.{MediaState}
 use Rattle.fl_flash.specs.Sim.{on_medium}
 use Rattle.fl_words.specs.Config.{Lines}
-use Rattle.fl_jobs.proofs.Telling.{told-none}
-use Rattle.fl_jobs.specs.Header.{IsAccepted}
-use Rattle.fl_jobs.specs.Image.{IsImageOf}
-use Rattle.fl_jobs.specs.declared.status.ToolStatus.{ToolStatus}
-use Rattle.fl_jobs.specs.declared.status.ToolStatus.TheVariants.{Done, OutWrite, NotImage, Device}
-use Rattle.fl_jobs.specs.declared.drawing.Drawing.{Drawing}
+use Rattle.fl_image_check.proofs.Telling.{told-none}
+use Rattle.fl_image.specs.Header.{IsAccepted}
+use Rattle.fl_image.specs.Image.{IsImageOf}
+use Rattle.fl_image.specs.declared.status.ToolStatus.{ToolStatus}
+use Rattle.fl_image.specs.declared.status.ToolStatus.TheVariants.{Done, OutWrite, NotImage, Device}
+use Rattle.fl_map.specs.declared.drawing.Drawing.{Drawing}
 use Rattle.fl_map.specs.Drawn.{Drawn}
 use Rattle.fl_map.specs.Map.{AreDrawn, IsDrawnNext, IsMapOf, MapEnds}
 

@@ -11,7 +11,7 @@ use Rattle.fl_ring.specs.Looking.{OnlyReads}
 use Rattle.fl_ring.specs.Place.{shape_of, LiesOn}
 use Rattle.fl_ring.specs.Ring.{room}
 use Rattle.fl_ring.proofs.Exists.{page_exists}
-use Rattle.fl_jobs.specs.declared.drawing.Drawing.{Drawing}
+use Rattle.fl_map.specs.declared.drawing.Drawing.{Drawing}
 use Rattle.fl_map.specs.declared.note.RingNote.{RingNote}
 use Rattle.fl_map.specs.Drawn.{cell_text, cells_to}
 use Rattle.fl_map.specs.Pages.{states_to, figures_to, with_page}

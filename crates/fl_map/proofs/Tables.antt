@@ -17,7 +17,7 @@ use Rattle.fl_plan.specs.Refusal.{nameless}
 use Rattle.fl_plan.specs.declared.table_config.TableConfig.{TableConfig}
 use Rattle.fl_ring.specs.Mounting.{shape_at}
 use Rattle.fl_ring.specs.Ring.{room}
-use Rattle.fl_jobs.specs.declared.drawing.Drawing.{Drawing}
+use Rattle.fl_map.specs.declared.drawing.Drawing.{Drawing}
 use Rattle.fl_map.specs.declared.fault.MapFault.{MapFault}
 use Rattle.fl_map.specs.declared.fault.MapFault.TheVariants.{Flash, NoMemory}
 use Rattle.fl_map.specs.declared.note.RingNote.{RingNote}

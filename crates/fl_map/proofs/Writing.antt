@@ -2,7 +2,7 @@
 use Rattle.std.proofs.Common.{ℕ, Option, Result, Ok, Err, List, [], ◌++◌, refl, sym, append-nil, append_assoc}
 use Rattle.fl_base.specs.Causes.{Appends, AppendsFront}
 use Rattle.fl_script.specs.Written.{Written}
-use Rattle.fl_jobs.proofs.Telling.{told-none}
+use Rattle.fl_image_check.proofs.Telling.{told-none}
 use Rattle.fl_script.proofs.Sending.{appends-append, sent-failed}
 
 -- the first wasn't written whole

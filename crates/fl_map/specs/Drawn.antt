@@ -2,8 +2,8 @@
 use Rattle.std.specs.Prelude.{ℕ, zero, suc, ◌+◌, ◌*◌, ◌/◌, max, List, [], ◌++◌, length, get_or, codes}
 use Rattle.fl_mark.specs.declared.page_state.PageState.{PageState}
 use Rattle.fl_mark.specs.declared.page_state.PageState.TheVariants.{Blank}
-use Rattle.fl_jobs.specs.declared.drawing.Drawing.{Drawing}
-use Rattle.fl_jobs.specs.declared.drawing.Drawing.TheVariants.{Text, Svg}
+use Rattle.fl_map.specs.declared.drawing.Drawing.{Drawing}
+use Rattle.fl_map.specs.declared.drawing.Drawing.TheVariants.{Text, Svg}
 use Rattle.fl_map.specs.declared.note.RingNote.{RingNote}
 use Rattle.fl_map.specs.Svg.{square_text, words_text, opening_text, colours, background, meanings}
 use Rattle.fl_map.specs.Text.{letter_text, legend}

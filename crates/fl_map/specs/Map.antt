@@ -6,15 +6,15 @@ use Rattle.fl_base.specs.declared.types.RingPlace.{RingPlace}
 use Rattle.fl_flash.specs.Flash.{FlashState, page_at}
 use Rattle.fl_plan.specs.declared.table_config.TableConfig.{TableConfig}
 use Rattle.fl_words.specs.Config.{Lines}
-use Rattle.fl_jobs.specs.Checking.{IsFound}
-use Rattle.fl_jobs.specs.Header.{IsAccepted}
-use Rattle.fl_jobs.specs.Image.{IsImageOf}
-use Rattle.fl_jobs.specs.declared.status.ToolStatus.{ToolStatus}
-use Rattle.fl_jobs.specs.declared.status.ToolStatus.TheVariants.{Done, InputRead, OutWrite, InputLong, NoMemory, NotImage, Device, BadImage, NoTable, BadInput, Unsound}
-use Rattle.fl_jobs.specs.Status.{flash_status}
+use Rattle.fl_image_check.specs.Checking.{IsFound}
+use Rattle.fl_image.specs.Header.{IsAccepted}
+use Rattle.fl_image.specs.Image.{IsImageOf}
+use Rattle.fl_image.specs.declared.status.ToolStatus.{ToolStatus}
+use Rattle.fl_image.specs.declared.status.ToolStatus.TheVariants.{Done, InputRead, OutWrite, InputLong, NoMemory, NotImage, Device, BadImage, NoTable, BadInput, Unsound}
+use Rattle.fl_image.specs.Status.{flash_status}
 use Rattle.fl_check.specs.Whole.{IsFinding}
 use Rattle.fl_check.specs.declared.finding.Finding.{Finding}
-use Rattle.fl_jobs.specs.declared.drawing.Drawing.{Drawing}
+use Rattle.fl_map.specs.declared.drawing.Drawing.{Drawing}
 use Rattle.fl_map.specs.declared.fault.MapFault.{MapFault}
 use Rattle.fl_map.specs.declared.fault.MapFault.TheVariants as fault
 use Rattle.fl_map.specs.Drawn.{Drawn, no_tables, map_text}

@@ -11,7 +11,7 @@ use Rattle.fl_plan.specs.Refusal.{nameless}
 use Rattle.fl_plan.specs.declared.table_config.TableConfig.{TableConfig}
 use Rattle.fl_ring.specs.Mounting.{shape_at}
 use Rattle.fl_ring.specs.Ring.{room}
-use Rattle.fl_jobs.specs.declared.drawing.Drawing.{Drawing}
+use Rattle.fl_map.specs.declared.drawing.Drawing.{Drawing}
 use Rattle.fl_map.specs.Drawn.{Drawn, with_ring, with_words}
 use Rattle.fl_map.specs.Finding.{title_text, fault_text, fault_page}
 use Rattle.fl_map.specs.Pages.{states_to, note_of}

@@ -5,12 +5,12 @@ ghost use Rattle.fl_script.specs.Written.{Written};
 ghost use Rattle.fl_map.specs.Canvas.{drawn_of};
 ghost use Rattle.fl_map.specs.Drawn.{cell_text, cells_to, caption, ring_end, with_ring, with_words, no_tables, width_of, opening, closing, map_text};
 
+use crate::Drawing;
 use crate::note::RingNote;
 use crate::picture::{add_intro, add_opening, add_square, add_words};
 use crate::text::{add_letter, legend};
 use crate::words::{add_note, line_pages};
 use fl_base::{NoMemory, Sink, SinkFailed};
-use fl_jobs::Drawing;
 use fl_mark::PageState;
 use fl_script::{TextLine, write_all};
 use std::alloc::Global;

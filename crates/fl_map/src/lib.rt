@@ -2,6 +2,7 @@
 #![tactic(auto)]
 
 mod canvas;
+mod drawing;
 mod fault;
 mod finding;
 mod map;
@@ -12,4 +13,5 @@ mod table;
 mod text;
 mod words;
 
+pub use drawing::Drawing;
 pub use map::map_image;

@@ -2,13 +2,14 @@
 ghost use Rattle.std.specs.Prelude.{◌≡◌, ◌≤◌, ◌<◌, ◌⊎◌, ◌+◌, ◌*◌, ◌^◌, Err, length, IsTrue, IfOk, IfErr, OnOk};
 ghost use Rattle.fl_base.specs.Causes.{Appends, AppendsFront, Rose};
 ghost use Rattle.fl_flash.specs.Flash.{pages};
-ghost use Rattle.fl_jobs.specs.Checking.{OnlyLooks, IsOver};
-ghost use Rattle.fl_jobs.specs.Image.{OnlyLooksAt};
-ghost use Rattle.fl_jobs.specs.declared.status.ToolStatus.{ToolStatus};
+ghost use Rattle.fl_image_check.specs.Checking.{OnlyLooks, IsOver};
+ghost use Rattle.fl_image.specs.Image.{OnlyLooksAt};
+ghost use Rattle.fl_image.specs.declared.status.ToolStatus.{ToolStatus};
 ghost use Rattle.fl_map.specs.Canvas.{drawn_of};
 ghost use Rattle.fl_map.specs.Drawn.{map_text, no_tables};
 ghost use Rattle.fl_map.specs.Map.{AreDrawn, IsDrawnNext, MapEnds, status_of};
 
+use crate::Drawing;
 use crate::canvas::Canvas;
 use crate::fault::MapFault;
 use crate::table::{Checked, Rooms, draw_fault, draw_rings};
@@ -16,7 +17,7 @@ use fl_base::{NoMemory, Sink};
 use fl_check::{CheckFault, check_table};
 use fl_config::Config;
 use fl_flash::{Flash, FlashRoom, Media, PageBuf, SimFlash};
-use fl_jobs::{Drawing, HEADER, ToolStatus, config_of_image, flash_status};
+use fl_image::{HEADER, ToolStatus, config_of_image, flash_status};
 use fl_script::LineRoom;
 use std::alloc::Global;
 

@@ -9,6 +9,7 @@ mod project;
 mod select;
 mod selection;
 mod tally;
+mod values;
 
 pub use aggregate::Aggregate;
 pub use group::Group;
@@ -16,6 +17,7 @@ pub use join::{KeyJoin, next_pair};
 pub use project::Project;
 pub use select::Select;
 pub use selection::selection_is_the_models;
+pub use values::values_of;
 
 #[cfg(test)]
 mod tests;

@@ -1,6 +1,6 @@
 -- The configuration that is given where there is no image.
 use Rattle.std.proofs.Common.{◌≡◌, ℕ, inr, Option, Some, None, IfSome, Result, Ok, Err, IfOk, List, refl}
-use Rattle.fl_jobs.specs.declared.status.ToolStatus.{ToolStatus}
+use Rattle.fl_image.specs.declared.status.ToolStatus.{ToolStatus}
 use Rattle.fl_words.specs.Config.{Lines}
 use Rattle.fl_salvage.specs.Given.{IsConfigured, IsGiven, IsNoImage}
 

@@ -5,7 +5,7 @@ use Rattle.fl_base.specs.declared.stream.SinkFailed.{SinkFailed}
 use Rattle.fl_csv.specs.declared.record.CsvFault.{CsvFault}
 use Rattle.fl_csv.specs.declared.record.CsvFault.TheVariants as line
 use Rattle.fl_flash.specs.Media.{MediaState}
-use Rattle.fl_jobs.specs.Image.{OnlyLooksAt}
+use Rattle.fl_image.specs.Image.{OnlyLooksAt}
 use Rattle.fl_salvage.specs.Faults.{IsCaused, IsUnread, of_line}
 use Rattle.fl_salvage.specs.declared.fault.SalvageFault.{SalvageFault}
 use Rattle.fl_salvage.specs.declared.fault.SalvageFault.TheVariants.{Media, Sink, NoMemory}

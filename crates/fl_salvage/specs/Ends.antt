@@ -1,8 +1,8 @@
 -- How a salvage ends, by its status.
 use Rattle.std.specs.Prelude.{◌≡◌, ◌⊎◌, ℕ, ◌+◌, ◌*◌, Option, Some, None, Result, Ok, Err, List, [], slice_get, take, sum_by, if◌then◌else◌}
 use Rattle.fl_base.specs.Causes.{Appends, AppendsFront}
-use Rattle.fl_jobs.specs.declared.status.ToolStatus.{ToolStatus}
-use Rattle.fl_jobs.specs.declared.status.ToolStatus.TheVariants.{Done, InputRead, OutWrite, InputLong, NoMemory, NotImage, Device, BadImage, NoTable, BadInput, Unsound}
+use Rattle.fl_image.specs.declared.status.ToolStatus.{ToolStatus}
+use Rattle.fl_image.specs.declared.status.ToolStatus.TheVariants.{Done, InputRead, OutWrite, InputLong, NoMemory, NotImage, Device, BadImage, NoTable, BadInput, Unsound}
 use Rattle.fl_model.specs.Record.{Plan, blocks_of, has_var, row_layout}
 use Rattle.fl_words.specs.Config.{Lines}
 use Rattle.fl_salvage.specs.Given.{IsConfigured, IsUnconfigured}

@@ -4,8 +4,8 @@ use Rattle.fl_base.specs.Causes.{Rose}
 use Rattle.fl_csv.specs.declared.record.CsvFault.{CsvFault}
 use Rattle.fl_csv.specs.declared.record.CsvFault.TheVariants as line
 use Rattle.fl_flash.specs.Media.{MediaState}
-use Rattle.fl_jobs.specs.declared.status.ToolStatus.{ToolStatus}
-use Rattle.fl_jobs.specs.declared.status.ToolStatus.TheVariants.{Device, OutWrite, NoMemory}
+use Rattle.fl_image.specs.declared.status.ToolStatus.{ToolStatus}
+use Rattle.fl_image.specs.declared.status.ToolStatus.TheVariants.{Device, OutWrite, NoMemory}
 use Rattle.fl_salvage.specs.declared.fault.SalvageFault.{SalvageFault}
 use Rattle.fl_salvage.specs.declared.fault.SalvageFault.TheVariants as fault
 

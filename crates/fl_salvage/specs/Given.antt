@@ -1,10 +1,10 @@
 -- The configuration of an image that may be damaged.
 use Rattle.std.specs.Prelude.{◌≡◌, ◌⊎◌, ℕ, ◌<◌, IsTrue, Option, Some, IfSome, List, length}
 use Rattle.fl_config.specs.Whole.{is_whole}
-use Rattle.fl_jobs.specs.Header.{after_lines, parts_of, IsAccepted}
-use Rattle.fl_jobs.specs.Image.{IsImageOf}
-use Rattle.fl_jobs.specs.declared.status.ToolStatus.{ToolStatus}
-use Rattle.fl_jobs.specs.declared.status.ToolStatus.TheVariants.{Done, InputRead, OutWrite, InputLong, NoMemory, NotImage, Device, BadImage, NoTable, BadInput, Unsound}
+use Rattle.fl_image.specs.Header.{after_lines, parts_of, IsAccepted}
+use Rattle.fl_image.specs.Image.{IsImageOf}
+use Rattle.fl_image.specs.declared.status.ToolStatus.{ToolStatus}
+use Rattle.fl_image.specs.declared.status.ToolStatus.TheVariants.{Done, InputRead, OutWrite, InputLong, NoMemory, NotImage, Device, BadImage, NoTable, BadInput, Unsound}
 use Rattle.fl_words.specs.Config.{Lines, no_lines}
 
 -- the bytes are no image: their header is that of no configuration, or their length isn't that one's

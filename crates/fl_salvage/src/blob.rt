@@ -1,7 +1,7 @@
 // The bytes of a blob, where the pages of variable data that hold them are there.
 ghost use Rattle.std.specs.Prelude.{◌≡◌, ◌≤◌, ◌+◌, ◌-◌, None, Some, IfSome, length, slice_range, IsTrue, IfOk, IfErr, MatchOption};
 ghost use Rattle.std.specs.Bool.{OnTrue, OnFalse};
-ghost use Rattle.fl_jobs.specs.Image.{OnlyLooksAt};
+ghost use Rattle.fl_image.specs.Image.{OnlyLooksAt};
 ghost use Rattle.fl_salvage.specs.Blobs.{blob_from, content_at, content_in, content_room};
 ghost use Rattle.fl_salvage.specs.Faults.{IsUnread};
 ghost use Rattle.fl_salvage.specs.Pages.{IsRing};

@@ -2,14 +2,14 @@
 ghost use Rattle.std.specs.Prelude.{◌≡◌, ◌≤◌, ◌<◌, ◌⊎◌, ℕ, List, Some, length, take, IsTrue, IfOk, IfErr, Err};
 ghost use Rattle.fl_base.specs.Causes.{Rose};
 ghost use Rattle.fl_config.specs.Whole.{is_whole};
-ghost use Rattle.fl_jobs.specs.Image.{OnlyLooksAt};
-ghost use Rattle.fl_jobs.specs.declared.status.ToolStatus.{ToolStatus};
+ghost use Rattle.fl_image.specs.Image.{OnlyLooksAt};
+ghost use Rattle.fl_image.specs.declared.status.ToolStatus.{ToolStatus};
 ghost use Rattle.fl_salvage.specs.Given.{IsConfigured, IsUnconfigured, IsOfConfig, IsGiven, IsNoneGiven};
 
 use fl_base::Source;
 use fl_config::Config;
 use fl_flash::Media;
-use fl_jobs::{ToolStatus, config_of_image, config_of_lines};
+use fl_image::{ToolStatus, config_of_image, config_of_lines};
 use fl_script::LineRoom;
 
 /// One byte more than the text of a configuration may have that is given.

@@ -4,7 +4,7 @@ ghost use Rattle.std.specs.Prelude.{◌≡◌};
 use fl_base::{NoMemory, SinkFailed};
 use fl_csv::CsvFault;
 use fl_flash::MediaFailed;
-use fl_jobs::ToolStatus;
+use fl_image::ToolStatus;
 use std::alloc::AllocError;
 
 /// Why rows aren't written to the end.

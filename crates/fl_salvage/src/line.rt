@@ -2,7 +2,7 @@
 ghost use Rattle.std.specs.Prelude.{◌≡◌, ◌≤◌, length, IsTrue, IfOk, IfErr};
 ghost use Rattle.fl_base.specs.declared.types.BlobRef.{BlobRef};
 ghost use Rattle.fl_csv.specs.Views.{blob_view};
-ghost use Rattle.fl_jobs.specs.Image.{OnlyLooksAt};
+ghost use Rattle.fl_image.specs.Image.{OnlyLooksAt};
 ghost use Rattle.fl_schema.specs.Schema.{layout_of, layout_of_row, row_of};
 ghost use Rattle.fl_script.specs.Written.{Written};
 ghost use Rattle.fl_salvage.specs.Faults.{IsCaused, IsUnread};
@@ -16,7 +16,7 @@ use crate::table_pages::TablePages;
 use fl_base::{BlobRef, Sink};
 use fl_csv::{CsvBlob, write_record};
 use fl_flash::Media;
-use fl_jobs::values_of;
+use fl_ops::values_of;
 use fl_schema::RowRef;
 use std::alloc::Global;
 

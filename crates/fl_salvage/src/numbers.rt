@@ -1,6 +1,6 @@
 // The numbers of the pages of a data ring that are written, in order.
 ghost use Rattle.std.specs.Prelude.{◌≡◌, ◌<◌, ◌≤◌, length, IsTrue, IfOk, IfErr, OnOk, []};
-ghost use Rattle.fl_jobs.specs.Image.{OnlyLooksAt};
+ghost use Rattle.fl_image.specs.Image.{OnlyLooksAt};
 ghost use Rattle.fl_page.specs.Header.{page_number};
 ghost use Rattle.fl_schema.specs.Schema.{layout_of};
 ghost use Rattle.fl_salvage.specs.Faults.{IsUnread};

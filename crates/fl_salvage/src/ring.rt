@@ -1,13 +1,13 @@
 // The pages of a ring of an image, read from the medium alone.
 ghost use Rattle.std.specs.Prelude.{◌≡◌, ◌<◌, ◌*◌, ◌+◌, length, true, false, IsTrue, IfErr, Ok};
 ghost use Rattle.fl_base.specs.Causes.{Rose};
-ghost use Rattle.fl_jobs.specs.Image.{OnlyLooksAt};
+ghost use Rattle.fl_image.specs.Image.{OnlyLooksAt};
 ghost use Rattle.fl_plan.specs.Limits.{IsWithin, IsRingSize};
 ghost use Rattle.fl_salvage.specs.Pages.{IsRing, page_of, ring_at};
 
 use fl_base::{Geometry, RingPlace};
 use fl_flash::{Media, MediaFailed};
-use fl_jobs::HEADER;
+use fl_image::HEADER;
 
 /// Where a ring lies: the pages of the image before it, its own, and the bytes of each.
 #[derive(Clone, Copy)]

@@ -1,7 +1,7 @@
 // The rows of pages as lines, page by page.
 ghost use Rattle.std.specs.Prelude.{◌≡◌, ◌≤◌, length, IsTrue, IfErr};
 ghost use Rattle.std.specs.List.{flat_map};
-ghost use Rattle.fl_jobs.specs.Image.{OnlyLooksAt};
+ghost use Rattle.fl_image.specs.Image.{OnlyLooksAt};
 ghost use Rattle.fl_page.specs.View.{layout_of_page, rows_of};
 ghost use Rattle.fl_schema.specs.Schema.{layout_of};
 ghost use Rattle.fl_script.specs.Written.{Written};

@@ -1,8 +1,8 @@
 // The salvage of a table of an image.
 ghost use Rattle.std.specs.Prelude.{◌≡◌, ◌⊎◌, ◌≤◌, ◌<◌, ℕ, Some, length, slice_get, IsTrue, IfErr, IfSome, IfNone};
 ghost use Rattle.fl_base.specs.Causes.{Rose};
-ghost use Rattle.fl_jobs.specs.Image.{OnlyLooksAt};
-ghost use Rattle.fl_jobs.specs.declared.status.ToolStatus.{ToolStatus};
+ghost use Rattle.fl_image.specs.Image.{OnlyLooksAt};
+ghost use Rattle.fl_image.specs.declared.status.ToolStatus.{ToolStatus};
 ghost use Rattle.fl_model.specs.Record.{Plan};
 ghost use Rattle.fl_salvage.specs.Ends.{AtEnds, SalvageEnds, TableEnds, form_at};
 ghost use Rattle.fl_salvage.specs.Faults.{IsCaused};
@@ -19,7 +19,7 @@ use crate::table_pages::TablePages;
 use fl_base::{Name, Sink, Source};
 use fl_config::Config;
 use fl_flash::Media;
-use fl_jobs::ToolStatus;
+use fl_image::ToolStatus;
 use fl_script::LineRoom;
 use std::alloc::Global;
 

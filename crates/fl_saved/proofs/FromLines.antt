@@ -6,10 +6,10 @@ use Rattle.std.proofs.Math.Nat.{mul-le-mul_right}
 use Rattle.std.proofs.lemmas.Bool.{eqb-true, ltb-false, or_parts}
 use Rattle.std.proofs.lemmas.List.Sums.{sum_by-take-le}
 use Rattle.fl_base.specs.declared.types.Geometry.{Geometry}
-use Rattle.fl_jobs.specs.Header.{IsAccepted}
-use Rattle.fl_jobs.proofs.AcceptedLines.{AreTaken, Stands, accepted-stands}
-use Rattle.fl_jobs.proofs.ColumnWords.{AreTyped, named-are_typed}
-use Rattle.fl_jobs.proofs.ReadBack.{test-passes}
+use Rattle.fl_image.specs.Header.{IsAccepted}
+use Rattle.fl_image.proofs.AcceptedLines.{AreTaken, Stands, accepted-stands}
+use Rattle.fl_image.proofs.ColumnWords.{AreTyped, named-are_typed}
+use Rattle.fl_image.proofs.ReadBack.{test-passes}
 use Rattle.fl_model.specs.Image.{IsTableImage, medium_len}
 use Rattle.fl_model.specs.Record.{Column, Plan, Config, blocks_of, has_var, row_len}
 use Rattle.fl_model.specs.Table.{Table}

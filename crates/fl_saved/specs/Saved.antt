@@ -2,8 +2,8 @@
 use Rattle.std.specs.Prelude.{◌≡◌, ℕ, ◌≤◌, false, Option, Some, List, length, slice_get}
 use Rattle.fl_base.specs.Causes.{Appends}
 use Rattle.fl_base.specs.declared.types.KeyRange.{KeyRange}
-use Rattle.fl_jobs.specs.Header.{IsAccepted, IsMade}
-use Rattle.fl_jobs.specs.declared.status.ToolStatus.TheVariants.{Done}
+use Rattle.fl_image.specs.Header.{IsAccepted, IsMade}
+use Rattle.fl_image.specs.declared.status.ToolStatus.TheVariants.{Done}
 use Rattle.fl_model.specs.Image.{IsTableImage, medium_len}
 use Rattle.fl_model.specs.Record.{Plan, Config, key_limit}
 use Rattle.fl_model.specs.Table.{Table, DataRing, VarRing, is_dirty}

@@ -17,7 +17,7 @@ use Rattle.fl_words.specs.Reply.{hex_digit, hex_text, text, texts}
 use Rattle.fl_session.specs.BlobLine.{GivesDigits, IsTurned, ShowsBytes, read_reply}
 use Rattle.fl_session.specs.declared.listing.ListFault.TheVariants.{Read}
 use Rattle.fl_session.proofs.Resumed.{rose-read, read-counted}
-use Rattle.fl_session.proofs.RowLines.{appends-none}
+use Rattle.fl_store.proofs.Appends.{appends-none}
 
 pub hex-append : (xs ys : List ℕ) → hex_text (xs ++ ys) ≡ hex_text xs ++ hex_text ys
 hex-append xs ys = flat_map-append (λ x. hex_digit (x / 16) ∷ hex_digit (x % 16) ∷ []) xs ys

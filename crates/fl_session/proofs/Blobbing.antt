@@ -16,8 +16,8 @@ use Rattle.fl_script.specs.Written.{Written}
 use Rattle.fl_script.specs.declared.reply.Reply as code
 use Rattle.fl_table.specs.Standing.{Stands}
 use Rattle.fl_table.specs.declared.table.Table.{Table}
-use Rattle.fl_tables.specs.declared.tables.Entry.{Entry}
-use Rattle.fl_tables.specs.Tables.{first_of}
+use Rattle.fl_store.specs.declared.tables.Entry.{Entry}
+use Rattle.fl_store.specs.Tables.{first_of}
 use Rattle.fl_session.specs.Answer.{Refusal, IsReached}
 use Rattle.fl_session.specs.BlobShown.{ShowsBlob}
 use Rattle.fl_session.specs.Cost.{HasRead}
@@ -30,7 +30,7 @@ use Rattle.fl_session.proofs.Getting.{on-table, off-table}
 use Rattle.fl_session.proofs.Operations.{session-still}
 use Rattle.fl_session.proofs.Owning.{own-of}
 use Rattle.fl_session.proofs.Refusing.{answers-refused}
-use Rattle.fl_session.proofs.Tables.{stands-unlogged}
+use Rattle.fl_store.proofs.Queried.{stands-unlogged}
 use Rattle.fl_session.proofs.Unlogged.{shows-unlogged}
 
 -- the question is answered

@@ -20,18 +20,19 @@ use Rattle.fl_rlc.specs.Outcomes.{PutEnds, FlushEnds}
 use Rattle.fl_rlc.specs.Refusal.{RefusedSame}
 use Rattle.fl_rlc.specs.Table.{IsSamePlan, OutsideStands}
 use Rattle.fl_rlc.specs.declared.table.LoggedTable.{LoggedTable}
-use Rattle.fl_tables.specs.Tables.{first_of, entries_with, TablesStand, TablesMount}
-use Rattle.fl_tables.specs.declared.tables.BadMount.{BadMount}
-use Rattle.fl_tables.specs.declared.tables.Entry.{Entry}
+use Rattle.fl_store.specs.Tables.{first_of, entries_with, TablesStand, TablesMount}
+use Rattle.fl_store.specs.declared.tables.BadMount.{BadMount}
+use Rattle.fl_store.specs.declared.tables.Entry.{Entry}
 use Rattle.fl_session.specs.Answer.{Answers, IsReached, mount_reply}
-use Rattle.fl_tables.specs.Replies.{put_reply, flush_reply}
+use Rattle.fl_store.specs.Replies.{put_reply, flush_reply}
 use Rattle.fl_session.specs.Notes.{without_cursors}
 use Rattle.fl_session.specs.declared.notes.Notes.{Notes}
 use Rattle.fl_session.specs.Standing.{SessionStands}
 use Rattle.fl_session.proofs.Answering.{answers-media}
 use Rattle.fl_session.proofs.MountsOf.{Repairs, stands-powered, mount-watched, mount-answers, answers-already}
 use Rattle.fl_session.proofs.Owning.{own-of}
-use Rattle.fl_session.proofs.Working.{has_risen, session-watched, put-answers, flush-answers}
+use Rattle.fl_store.proofs.Risen.{has_risen}
+use Rattle.fl_session.proofs.Working.{session-watched, put-answers, flush-answers}
 
 pub put-call : (config : Config) (old : Machine) (entries : List Entry) (at : ℕ) (entry : Entry) (u : LoggedTable 64 64) (asked : List ℕ) (notes : Notes) (f g : FlashState) (mounted : Bool) (key : ℕ) (values : List ℤ) (blob : Option (List ℕ)) (result : Result (Unit {0}) PutRefusal) (breaks : Bool) (said : List ℕ) →
     SessionStands config entries f mounted notes old → IsReached entries mounted asked at → slice_get entries at ≡ Some entry → Goes f g → IsSamePlan entry.table u → (IsTrue f.media.tells → OutsideStands entry.table (page_at f) (page_at g)) →

@@ -26,11 +26,11 @@ use Rattle.fl_table.specs.declared.faults.PutRefusal.TheVariants as put
 use Rattle.fl_rlc.specs.Refusal.{RefusedSame, put_refusal}
 use Rattle.fl_rlc.specs.Table.{table_in}
 use Rattle.fl_rlc.specs.declared.table.LoggedTable.{LoggedTable}
-use Rattle.fl_tables.specs.Tables.{entries_with}
-use Rattle.fl_tables.specs.declared.tables.BadMount.{BadMount}
-use Rattle.fl_tables.specs.declared.tables.Entry.{Entry}
-use Rattle.fl_tables.proofs.Going.{rose-back}
-use Rattle.fl_tables.proofs.TablesChanged.{set-same}
+use Rattle.fl_store.specs.Tables.{entries_with}
+use Rattle.fl_store.specs.declared.tables.BadMount.{BadMount}
+use Rattle.fl_store.specs.declared.tables.Entry.{Entry}
+use Rattle.fl_store.proofs.Going.{rose-back}
+use Rattle.fl_store.proofs.TablesChanged.{set-same}
 use Rattle.fl_words.specs.Command.{Command, Nothing}
 use Rattle.fl_words.specs.Reply as reply
 use Rattle.fl_words.specs.Reply.{Reply, text}

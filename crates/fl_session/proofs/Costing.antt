@@ -9,7 +9,7 @@ use Rattle.fl_words.specs.Command as command
 use Rattle.fl_words.specs.Reply.{text}
 use Rattle.fl_machine.specs.Machine.{Machine}
 use Rattle.fl_machine.specs.Step.{cost_reply}
-use Rattle.fl_tables.specs.declared.tables.Entry.{Entry}
+use Rattle.fl_store.specs.declared.tables.Entry.{Entry}
 use Rattle.fl_session.specs.Answer.{Answers}
 use Rattle.fl_session.specs.Cost.{cost_of, HasRead}
 use Rattle.fl_session.specs.declared.notes.Notes.{Notes}

@@ -33,9 +33,9 @@ use Rattle.fl_table.specs.Memory.{LiesOn}
 use Rattle.fl_table.specs.Standing.{Stands}
 use Rattle.fl_table.specs.declared.table.Table.{Table}
 use Rattle.fl_table.proofs.StillStands.{lies-moved}
-use Rattle.fl_tables.specs.declared.tables.Entry.{Entry}
-use Rattle.fl_tables.specs.Tables.{first_of}
-use Rattle.fl_tables.proofs.TablesChanged.{at-place}
+use Rattle.fl_store.specs.declared.tables.Entry.{Entry}
+use Rattle.fl_store.specs.Tables.{first_of}
+use Rattle.fl_store.proofs.TablesChanged.{at-place}
 use Rattle.fl_session.specs.Cost.{HasRead, ReadsAsStated}
 use Rattle.fl_session.specs.Execute.{Executes}
 use Rattle.fl_session.specs.Nexts.{Nexts, given_of}
@@ -48,9 +48,9 @@ use Rattle.fl_session.proofs.Costing.{read-none}
 use Rattle.fl_session.proofs.CursorsOf.{cursor-told}
 use Rattle.fl_session.proofs.Getting.{goes-reads, tables-looked}
 use Rattle.fl_session.proofs.Rested.{session-ends}
-use Rattle.fl_session.proofs.Tables.{stands-unlogged}
+use Rattle.fl_store.proofs.Queried.{stands-unlogged}
 use Rattle.fl_session.proofs.Unlogged.{nexts-unlogged}
-use Rattle.fl_session.proofs.Working.{medium-goes}
+use Rattle.fl_store.proofs.Worked.{medium-goes}
 
 -- reads leave a table where it lies
 pub lies-read : (t : Table 64 64) (f g : FlashState) → OnlyReads f g → LiesOn t f → LiesOn t g

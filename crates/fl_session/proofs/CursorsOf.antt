@@ -23,8 +23,8 @@ use Rattle.fl_script.specs.ReplyView.{reply_text}
 use Rattle.fl_script.specs.declared.reply.Reply as code
 use Rattle.fl_table.specs.Standing.{Stands}
 use Rattle.fl_table.specs.declared.table.Table.{Table}
-use Rattle.fl_tables.specs.declared.tables.Entry.{Entry}
-use Rattle.fl_tables.specs.Tables.{first_of}
+use Rattle.fl_store.specs.declared.tables.Entry.{Entry}
+use Rattle.fl_store.specs.Tables.{first_of}
 use Rattle.fl_session.specs.Answer.{Answers, Refusal, IsReached}
 use Rattle.fl_session.specs.Notes.{cursor_of, cursors_of}
 use Rattle.fl_session.specs.declared.notes.Notes.{Notes}
@@ -33,7 +33,7 @@ use Rattle.fl_session.specs.Standing.{SessionStands}
 use Rattle.fl_session.proofs.Answering.{answers-saying, saying, says, step-is, table-step}
 use Rattle.fl_session.proofs.Owning.{own-of}
 use Rattle.fl_session.proofs.Refusing.{answers-refused}
-use Rattle.fl_session.proofs.Tables.{stands-unlogged}
+use Rattle.fl_store.proofs.Queried.{stands-unlogged}
 
 -- the cursor with a number
 pub cursor-told : (marks : List (Option TableCursor)) (n : ℕ) (mark : Option TableCursor) → slice_get marks n ≡ Some mark → unwrap_or (slice_get (cursors_of marks) n) None ≡ option_map cursor_of mark

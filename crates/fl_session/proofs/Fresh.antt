@@ -12,8 +12,10 @@ use Rattle.fl_model.specs.Record.{Config, blocks_of}
 use Rattle.fl_words.specs.Medium.{header}
 use Rattle.fl_words.specs.Config.{Lines}
 use Rattle.fl_session.specs.Ends.{new_content}
-use Rattle.fl_session.specs.Opening.{Opened, IsBlankBehind}
-use Rattle.fl_session.proofs.Over.{AreParts}
+use Rattle.fl_config.specs.Whole.{Makes}
+use Rattle.fl_store.specs.Store.{IsBlankBehind}
+use Rattle.fl_image.proofs.Made.{made-by}
+use Rattle.fl_session.specs.Opening.{Opened}
 use Rattle.fl_session.proofs.Rested.{new-header}
 
 -- a medium without a byte
@@ -30,13 +32,14 @@ bytes-behind head n at size h e =
     let count : at + size - at ≡ size = omega arith in
     ap (λ l. take (at + size - at) l) cut ∙ (ap (λ m. take m (replicate (n - k) 255)) count ∙ take-replicate size (n - k) 255 (omega arith))
 
-pub new-blank : (knots : ℕ) (lines : Lines) (config : Config) (old new : MediaState) (geometry : Geometry) → AreParts knots lines config → lines.device ≡ Some geometry → Opened config old new → new.content ≡ new_content config → IsBlankBehind geometry (sum_by blocks_of lines.plans) new.content
-new-blank knots lines config old new geometry parts device h e p within =
+pub new-blank : (lines : Lines) (config : Config) (old new : MediaState) (geometry : Geometry) → Makes lines config → lines.device ≡ Some geometry → Opened config old new → new.content ≡ new_content config → IsBlankBehind geometry (sum_by blocks_of lines.plans) new.content
+new-blank lines config old new geometry makes device h e p within =
+    let made = made-by lines config makes in
     let size = new-header config old new h e in
-    let same : geometry ≡ config.geometry = cc (device, parts.device) in
+    let same : geometry ≡ config.geometry = cc (device, made.device_is) in
     let blocks = sum_by blocks_of lines.plans in
     let all : medium_len config ≡ 1024 + blocks * geometry.block * geometry.page =
-    ap (λ ps. 1024 + sum_by blocks_of ps * config.geometry.block * config.geometry.page) (sym parts.plans) ∙ ap (λ (g : Geometry). 1024 + blocks * g.block * g.page) (sym same) in
+    ap (λ ps. 1024 + sum_by blocks_of ps * config.geometry.block * config.geometry.page) (sym made.plans_are) ∙ ap (λ (g : Geometry). 1024 + blocks * g.block * g.page) (sym same) in
     let fits : (p + 1) * geometry.page ≤ blocks * geometry.block * geometry.page = mul-le-mul_right geometry.page (omega (arith, within)) in
     ap (λ c. slice_range c (1024 + p * geometry.page) (1024 + p * geometry.page + geometry.page)) e
     ∙ bytes-behind (header config) (medium_len config - 1024) (1024 + p * geometry.page) geometry.page (omega (arith, size)) (omega (arith, size, all, fits))

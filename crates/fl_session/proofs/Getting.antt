@@ -26,8 +26,8 @@ use Rattle.fl_script.specs.Written.{Written}
 use Rattle.fl_script.specs.declared.reply.Reply as code
 use Rattle.fl_table.specs.Standing.{Stands}
 use Rattle.fl_table.specs.declared.table.Table.{Table}
-use Rattle.fl_tables.specs.declared.tables.Entry.{Entry}
-use Rattle.fl_tables.specs.Tables.{first_of, TablesStand}
+use Rattle.fl_store.specs.declared.tables.Entry.{Entry}
+use Rattle.fl_store.specs.Tables.{first_of, TablesStand}
 use Rattle.fl_table.proofs.Apart.{stands-pages}
 use Rattle.fl_session.specs.Answer.{Refusal, IsReached}
 use Rattle.fl_session.specs.Caused.{LookSays}
@@ -43,9 +43,10 @@ use Rattle.fl_session.proofs.Owning.{own-of, own-none}
 use Rattle.fl_session.proofs.Costing.{read-none}
 use Rattle.fl_session.proofs.Executing.{one-text}
 use Rattle.fl_session.proofs.Refusing.{answers-refused}
-use Rattle.fl_session.proofs.Tables.{stands-unlogged, tables-kept}
+use Rattle.fl_store.proofs.Queried.{stands-unlogged}
+use Rattle.fl_store.proofs.Reading.{tables-kept}
 use Rattle.fl_session.proofs.Unlogged.{looks-unlogged}
-use Rattle.fl_session.proofs.Working.{medium-goes}
+use Rattle.fl_store.proofs.Worked.{medium-goes}
 
 module _ (f g : FlashState) (only : OnlyReads f g) where
   -- what reads leave as it is

@@ -21,7 +21,7 @@ use Rattle.fl_words.specs.Reply.{text, texts}
 use Rattle.fl_session.specs.Gives.{Gave, Gives}
 use Rattle.fl_session.specs.Rows.{row_reply}
 use Rattle.fl_session.specs.declared.listing.ListFault.TheVariants.{Read}
-use Rattle.fl_session.proofs.RowLines.{appends-none}
+use Rattle.fl_store.proofs.Appends.{appends-none}
 
 -- the lines of rows, and of one more
 abbrev pub lines : Bool → List Row → List ℕ

@@ -19,11 +19,11 @@ use Rattle.fl_rlc.specs.Outcomes.{LogStays}
 use Rattle.fl_rlc.specs.Table.{OutsideStands}
 use Rattle.fl_rlc.specs.declared.table.LoggedTable.{LoggedTable}
 use Rattle.fl_table.proofs.Images.{pages-medium}
-use Rattle.fl_tables.specs.Tables.{first_of, EntryStands, TablesStand}
-use Rattle.fl_tables.specs.declared.tables.Entry.{Entry}
-use Rattle.fl_tables.proofs.Apart.{other-pages}
-use Rattle.fl_tables.proofs.TablesChanged.{some-is}
-use Rattle.fl_session.specs.Standing.{IsOnMedium}
+use Rattle.fl_store.specs.Tables.{first_of, EntryStands, TablesStand}
+use Rattle.fl_store.specs.declared.tables.Entry.{Entry}
+use Rattle.fl_store.proofs.Apart.{other-pages}
+use Rattle.fl_store.proofs.TablesChanged.{some-is}
+use Rattle.fl_store.specs.Store.{IsOnMedium}
 
 -- The numbers of a ring go on, and the pages that it keeps stand.
 pub record RingKeeps (config : Config) (bytes now : List ℕ) (place : ℕ) (plan : Plan) (ring : RingName) (before after : Ring) : Type 0 where

@@ -8,7 +8,6 @@ pub mod Beginning
 pub mod Ready
 pub mod Ending
 pub mod Executing
-pub mod Tables
 pub mod Unlogged
 pub mod Owning
 pub mod Answering

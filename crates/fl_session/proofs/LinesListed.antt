@@ -17,7 +17,7 @@ use Rattle.fl_session.specs.declared.listing.ListFault.TheVariants.{Sink, Read}
 use Rattle.fl_session.proofs.Executing.{one-text}
 use Rattle.fl_session.proofs.ListsAll.{lists-then, lists-stop}
 use Rattle.fl_session.proofs.Resumed.{read-counted}
-use Rattle.fl_session.proofs.RowLines.{appends-none}
+use Rattle.fl_store.proofs.Appends.{appends-none}
 
 -- a front of the lines was written and counted
 pub record Fronted (all left : List words.Reply) (told now : Option (List ℕ)) (faults count : ℕ) : Type 0 where

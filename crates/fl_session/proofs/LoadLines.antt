@@ -17,10 +17,10 @@ use Rattle.fl_script.specs.declared.reply.Reply as code
 use Rattle.fl_table.specs.Causes.{put_breaks}
 use Rattle.fl_table.specs.declared.faults.PutRefusal.{PutRefusal}
 use Rattle.fl_rlc.specs.declared.table.LoggedTable.{LoggedTable}
-use Rattle.fl_tables.specs.Tables.{entries_with, IsNamed}
-use Rattle.fl_tables.specs.declared.tables.Entry.{Entry}
+use Rattle.fl_store.specs.Tables.{entries_with, IsNamed}
+use Rattle.fl_store.specs.declared.tables.Entry.{Entry}
 use Rattle.fl_session.specs.Answer.{Answers, Refusal, IsReached, load_replies}
-use Rattle.fl_tables.specs.Replies.{put_reply}
+use Rattle.fl_store.specs.Replies.{put_reply}
 use Rattle.fl_session.specs.Execute.{Executes}
 use Rattle.fl_session.specs.declared.notes.Notes.{Notes}
 use Rattle.fl_session.specs.Standing.{SessionStands}

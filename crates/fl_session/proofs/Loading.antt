@@ -36,11 +36,11 @@ use Rattle.fl_rlc.specs.Outcomes.{PutEnds}
 use Rattle.fl_rlc.specs.Refusal.{RefusedSame}
 use Rattle.fl_rlc.specs.Table.{IsSamePlan, OutsideStands, table_in}
 use Rattle.fl_rlc.specs.declared.table.LoggedTable.{LoggedTable}
-use Rattle.fl_tables.specs.Tables.{first_of, entries_with, IsNamed}
-use Rattle.fl_tables.specs.declared.tables.Entry.{Entry}
-use Rattle.fl_tables.proofs.TablesChanged.{set-there, set-elsewhere, set-same, some-is, at-place}
+use Rattle.fl_store.specs.Tables.{first_of, entries_with, IsNamed}
+use Rattle.fl_store.specs.declared.tables.Entry.{Entry}
+use Rattle.fl_store.proofs.TablesChanged.{set-there, set-elsewhere, set-same, some-is, at-place}
 use Rattle.fl_session.specs.Answer.{Answers, load_replies}
-use Rattle.fl_tables.specs.Replies.{fault_reply}
+use Rattle.fl_store.specs.Replies.{fault_reply}
 use Rattle.fl_session.specs.Load.{load_key}
 use Rattle.fl_session.specs.declared.notes.Notes.{Notes}
 use Rattle.fl_session.specs.Standing.{SessionStands}
@@ -48,7 +48,8 @@ use Rattle.fl_session.proofs.Answering.{step-is, table-step}
 use Rattle.fl_session.proofs.Keeping.{TablesKeep, tables-keep_all, tables-on, tables-stay, mounted-stays}
 use Rattle.fl_session.proofs.Owning.{Own, own-of}
 use Rattle.fl_session.proofs.Rested.{session-ends}
-use Rattle.fl_session.proofs.Working.{has_risen, risen-rose, stands-done, stands-broken, keeps-done, last_of, not-whole}
+use Rattle.fl_store.proofs.Risen.{has_risen, risen-rose}
+use Rattle.fl_session.proofs.Working.{stands-done, stands-broken, keeps-done, last_of, not-whole}
 
 -- the machine in the midst of a load
 abbrev pub amid : Machine → Device → List model.Table → Machine

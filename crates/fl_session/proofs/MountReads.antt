@@ -22,9 +22,9 @@ use Rattle.fl_machine.specs.Step.{Moment, Step, StepOf, Says, EndsAs, EndsMount}
 use Rattle.fl_ring.specs.Step.{IsWatched}
 use Rattle.fl_script.specs.Written.{Written}
 use Rattle.fl_rlc.specs.Mounting.{pages_in}
-use Rattle.fl_tables.specs.Tables.{TablesStand, pages_of, first_of}
-use Rattle.fl_tables.specs.declared.tables.Entry.{Entry}
-use Rattle.fl_tables.proofs.TablesReads.{planned-pages}
+use Rattle.fl_store.specs.Tables.{TablesStand, pages_of, first_of}
+use Rattle.fl_store.specs.declared.tables.Entry.{Entry}
+use Rattle.fl_store.proofs.TablesReads.{planned-pages}
 use Rattle.fl_session.specs.Answer.{Answers}
 use Rattle.fl_session.specs.Cost.{ReadsMount}
 use Rattle.fl_session.specs.Execute.{Executes}
@@ -33,7 +33,7 @@ use Rattle.fl_session.specs.declared.notes.Notes.{Notes}
 use Rattle.fl_session.proofs.Answering.{step-is}
 use Rattle.fl_session.proofs.Executing.{executes-by}
 use Rattle.fl_session.proofs.MountsOf.{stands-powered, mount-watched}
-use Rattle.fl_session.proofs.Working.{has_risen}
+use Rattle.fl_store.proofs.Risen.{has_risen}
 
 -- the same moment, with so many reads
 abbrev again : Moment → ℕ → Moment

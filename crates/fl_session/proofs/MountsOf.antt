@@ -5,8 +5,8 @@ use Rattle.fl_flash.specs.declared.flash.FlashFault.{FlashFault}
 use Rattle.fl_flash.specs.declared.flash.FlashFault.TheVariants.{Media}
 use Rattle.fl_ring.specs.Device.{SameDevice}
 use Rattle.fl_ring.specs.Step.{IsWatched}
-use Rattle.std.proofs.lemmas.Bool.{le-leb, false≢true}
-use Rattle.std.specs.Prelude.{◌+◌, ◌-◌, ◌*◌, ◌^◌, ◌<◌, min, sum_by, MatchBool, is_ok, OnOk}
+use Rattle.std.proofs.lemmas.Bool.{false≢true}
+use Rattle.std.specs.Prelude.{◌-◌, ◌*◌, ◌<◌, sum_by, MatchBool, is_ok, OnOk}
 use Rattle.fl_model.specs.Record.{Config, Plan, blocks_of}
 use Rattle.fl_model.specs.Table as model
 use Rattle.fl_model.specs.Table.{lose}
@@ -14,18 +14,18 @@ use Rattle.fl_model.specs.Work.{Device, Progress, Outcome, Finished, CutShort, F
 use Rattle.fl_model.specs.Mount.{Mounts, GoesOn, MountEnd, Mounted, Stopped, Unread, Turn, turns_from}
 use Rattle.fl_words.specs.Command as command
 use Rattle.fl_words.specs.Reply as reply
-use Rattle.fl_words.specs.Reply.{Reply, text}
+use Rattle.fl_words.specs.Reply.{text}
 use Rattle.fl_machine.specs.Machine.{Machine, stopped, no_cursors}
 use Rattle.fl_machine.specs.Step.{Moment, Step, Says, EndsAs, EndsMount, MountStep, all_ready}
 use Rattle.fl_table.specs.declared.faults.MountFault.{MountFault}
 use Rattle.fl_table.specs.declared.faults.MountFault.TheVariants as mount
-use Rattle.fl_tables.specs.Mounting.{AreUnlogged}
-use Rattle.fl_tables.specs.Repaired.{IsLeft}
-use Rattle.fl_tables.specs.Tables.{TablesStand, FaultIs, TablesMounted, TablesBroken, MountBreaks, TablesMount}
-use Rattle.fl_tables.specs.declared.tables.BadMount.{BadMount}
-use Rattle.fl_tables.specs.declared.tables.Entry.{Entry}
+use Rattle.fl_store.specs.Mounting.{AreUnlogged}
+use Rattle.fl_store.specs.Repaired.{IsLeft}
+use Rattle.fl_store.specs.Tables.{TablesStand, FaultIs, TablesMounted, TablesBroken, MountBreaks, TablesMount}
+use Rattle.fl_store.specs.declared.tables.BadMount.{BadMount}
+use Rattle.fl_store.specs.declared.tables.Entry.{Entry}
 use Rattle.fl_session.specs.Answer.{Answers, bad_reply, mount_reply}
-use Rattle.fl_tables.specs.Replies.{fault_reply}
+use Rattle.fl_store.specs.Replies.{fault_reply}
 use Rattle.fl_session.specs.Notes.{without_cursors}
 use Rattle.fl_session.specs.declared.notes.Notes.{Notes}
 use Rattle.fl_session.specs.Standing.{SessionStands}
@@ -33,8 +33,9 @@ use Rattle.fl_session.proofs.Answering.{answers-saying, saying, says, step-is}
 use Rattle.fl_session.proofs.Executing.{one-text}
 use Rattle.fl_session.proofs.Rested.{session-ends}
 use Rattle.fl_session.proofs.Repairing.{mount-stays, pages-repaired}
-use Rattle.fl_session.proofs.Tables.{tables-kept}
-use Rattle.fl_session.proofs.Working.{medium-goes, has_risen, risen-rose}
+use Rattle.fl_store.proofs.Reading.{tables-kept}
+use Rattle.fl_store.proofs.Risen.{has_risen, risen-rose, watched}
+use Rattle.fl_store.proofs.Worked.{medium-goes}
 
 -- the power is on
 stands-on : (config : Config) (old : Machine) (entries : List Entry) (notes : Notes) (f : FlashState) → SessionStands config entries f false notes old → SessionStands config entries (record f { is_on = true }) false notes old
@@ -55,7 +56,7 @@ stands-powered config old entries notes f on mounted h off is =
     subst (λ x. SessionStands config entries x false notes old) (sym is) (stands-on config old entries notes f (subst (λ m. SessionStands config entries f m notes old) off h))
 
 pub mount-watched : (config : Config) (entries : List Entry) (notes : Notes) (f g : FlashState) (m : Machine) → SessionStands config entries f false notes m → f.is_on ≡ true → IsWatched f g (has_risen f g) m.device
-mount-watched config entries notes f g m h on = record { told = h.medium.told; on = on; risen = λ r. le-leb (min (f.media.faults + 1) (2 ^ 64 - 1)) g.media.faults r; counts = h.device }
+mount-watched config entries notes f g m h on = watched f g m.device h.medium.told on h.device
 
 -- a mount where a session is mounted, and where none is
 by-mounted : (config : Config) (old : Machine) (moment : Moment) (mounted : Bool) → old.mounted ≡ mounted →

@@ -27,8 +27,8 @@ use Rattle.fl_table.specs.Look.{layout_in}
 use Rattle.fl_table.specs.Memory.{IsPlanned}
 use Rattle.fl_table.specs.Standing.{Stands}
 use Rattle.fl_table.specs.declared.table.Table.{Table}
-use Rattle.fl_tables.specs.Tables.{first_of}
-use Rattle.fl_tables.specs.declared.tables.Entry.{Entry}
+use Rattle.fl_store.specs.Tables.{first_of}
+use Rattle.fl_store.specs.declared.tables.Entry.{Entry}
 use Rattle.fl_session.specs.Answer.{Refusal, IsReached}
 use Rattle.fl_session.specs.Asked.{lacked_column}
 use Rattle.fl_session.specs.Cost.{HasRead, CountsReads, ReadsScan, ReadsAsStated}
@@ -42,7 +42,7 @@ use Rattle.fl_session.proofs.Getting.{session-read, on-table, off-table}
 use Rattle.fl_session.proofs.Owning.{own-of}
 use Rattle.fl_session.proofs.Refusing.{answers-refused}
 use Rattle.fl_session.proofs.Scanned.{on-ok-weaker}
-use Rattle.fl_session.proofs.Tables.{planned-unlogged, stands-unlogged}
+use Rattle.fl_store.proofs.Queried.{planned-unlogged, stands-unlogged}
 
 -- one column that is there, and one that isn't
 pub has-column : (t : Table 64 64) (first : ℕ) (plan : Plan) (column : ℕ) → column ≤ length (layout_in t).columns → IsPlanned t first plan → no_column plan (column ∷ []) ≡ None

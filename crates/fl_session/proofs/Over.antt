@@ -1,27 +1,18 @@
 -- A session that was begun over an opened image, and ended.
-use Rattle.std.proofs.Common.{◌≡◌, ℕ, zero, suc, ◌+◌, Bool, true, false, IsTrue, Option, Some, None, Result, Ok, Err, inl, inr, length, take, List, [], ◌∷◌, ◌≤◌, sum_by, refl, sym, ◌∙◌, ap, subst, le_trans, arith}
-use Rattle.std.specs.Prelude.{if◌then◌else◌, ◌*◌, ◌^◌, ◌<◌, ◌||◌, nat_lt, IfSome, slice_get, replicate}
-use Rattle.std.proofs.lemmas.Bool.{ltb-false}
-use Rattle.std.proofs.lemmas.List.Sums.{sum_by-take-le}
-use Rattle.std.proofs.lemmas.Option.{slice_get_within}
-use Rattle.fl_model.proofs.Lists.{slice_get-some}
+use Rattle.std.proofs.Common.{◌≡◌, ℕ, zero, suc, Bool, true, false, IsTrue, Option, Some, None, Result, Ok, Err, inl, inr, length, take, List, ◌≤◌, refl, sym, ◌∙◌, ap, subst, le_trans}
+use Rattle.std.specs.Prelude.{if◌then◌else◌, slice_get, replicate}
 use base.Fml.{GName}
-use Rattle.fl_base.specs.declared.types.Geometry.{Geometry}
-use Rattle.fl_flash.specs.Flash.{FlashState, pages, Goes}
+use Rattle.fl_flash.specs.Flash.{FlashState, Goes}
 use Rattle.fl_flash.specs.Media.{MediaState}
-use Rattle.fl_flash.specs.Sim.{on_medium}
-use Rattle.fl_flash.specs.Places.{extent}
 use Rattle.fl_model.specs.Image.{medium_len}
-use Rattle.fl_model.specs.Record.{Config, Plan, blocks_of}
-use Rattle.fl_words.specs.Config.{Lines, whole, whole_of, too_large}
+use Rattle.fl_model.specs.Record.{Config}
+use Rattle.fl_words.specs.Config.{Lines, whole}
 use Rattle.fl_machine.specs.Machine.{Machine}
 use Rattle.fl_machine.specs.Script.{start_of, ended}
 use Rattle.fl_machine.proofs.Accepted.{StartIsAccepted, accepted-room, accepted-room-ended}
 use Rattle.fl_script.specs.declared.command.Command as code
-use Rattle.fl_tables.specs.Tables.{first_of, AreNewTables, LieOn}
-use Rattle.fl_tables.specs.declared.tables.Entry.{Entry}
-use Rattle.fl_tables.proofs.Apart.{blocks-apart}
-use Rattle.fl_tables.proofs.TablesChanged.{some-is}
+use Rattle.fl_store.specs.Tables.{LieOn}
+use Rattle.fl_store.specs.declared.tables.Entry.{Entry}
 use Rattle.fl_session.specs.declared.status.Status.{Status}
 use Rattle.fl_lines.specs.Stream.{LinesState}
 use Rattle.fl_session.specs.Notes.{no_notes}
@@ -43,56 +34,10 @@ use Rattle.fl_session.specs.ScriptEnds.{unsaid, start_in, ScriptEnds}
 use Rattle.fl_words.specs.Medium.{header}
 use Rattle.fl_config.specs.Opening as opening
 use Rattle.fl_config.specs.Opening.{Opens}
-use Rattle.fl_config.specs.Whole.{is_whole, is_whole_of, Makes}
 use Rattle.fl_session.proofs.Running.{nothing-added}
 use Rattle.fl_session.proofs.Ready.{ready-accepted, stands-ready}
 use Rattle.fl_session.proofs.Ending.{runs-seen, ends-over, begins-ready, ends-making, ends-other}
-use Rattle.fl_session.proofs.Rested.{session-begins, session-ends, opened-rests, opened-content, opened-formed}
-
--- the parts of a whole configuration
-pub record AreParts (knots : ℕ) (lines : Lines) (config : Config) : Type 0 where
-  pub knots_are : config.knots ≡ knots
-  pub device : lines.device ≡ Some config.geometry
-  pub plans : lines.plans ≡ config.plans
-  pub some : config.plans ≡ [] → ⊥
-
-parts_of : (knots : ℕ) (lines : Lines) (device : Option Geometry) (plans : List Plan) (config : Config) → lines.device ≡ device → lines.plans ≡ plans → whole_of knots device plans ≡ Some config → AreParts knots lines config
-parts_of knots lines None plans config d p e = cc
-parts_of knots lines (Some geometry) [] config d p e = cc
-parts_of knots lines (Some geometry) (plan ∷ plans) config d p e =
-    let same : record { geometry = geometry; plans = plan ∷ plans; knots = knots } ≡ config = cc in
-    record {
-      knots_are = ap (λ (c : Config). c.knots) (sym same);
-      device = d ∙ ap (λ (c : Config). Some c.geometry) same;
-      plans = p ∙ ap (λ (c : Config). c.plans) same;
-      some = λ none. absurd (filled (ap (λ (c : Config). c.plans) same ∙ none));
-    }
-  where
-    filled : plan ∷ plans ≡ [] → ⊥
-    filled k = cc
-
-pub whole-parts : (knots : ℕ) (lines : Lines) (config : Config) → whole knots lines ≡ Some config → AreParts knots lines config
-whole-parts knots lines config e = parts_of knots lines lines.device lines.plans config refl refl e
-
-or-left : (a b : Bool) → (a || b) ≡ false → a ≡ false
-or-left true b e = e
-or-left false b e = refl
-
--- new tables lie on a flash of their configuration
-blocks-within : (plans : List Plan) (i : ℕ) (plan : Plan) → slice_get plans i ≡ Some plan → first_of plans i + blocks_of plan ≤ sum_by blocks_of plans
-blocks-within plans i plan e =
-    le_trans (blocks-apart plans i (length plans) plan e (slice_get_within plans i plan e)) (sum_by-take-le blocks_of plans (length plans))
-
-few-pages : (f : FlashState) (plans : List Plan) → f.blocks ≡ sum_by blocks_of plans → too_large f.geometry plans ≡ false → pages f < 2 ^ 32
-few-pages f plans e fits =
-    let few = ltb-false 65536 (sum_by blocks_of plans * f.geometry.block) (or-left (nat_lt 65536 (sum_by blocks_of plans * f.geometry.block)) (nat_lt 67108864 (sum_by blocks_of plans * f.geometry.block * f.geometry.page)) fits) in
-    subst (λ blocks. blocks * f.geometry.block < 2 ^ 32) (sym e) (omega (arith, few))
-
-new-lie : (entries : List Entry) (lines : Lines) (f : FlashState) → AreNewTables entries lines → lines.device ≡ Some f.geometry → f.blocks ≡ sum_by blocks_of lines.plans → too_large f.geometry lines.plans ≡ false → LieOn entries f
-new-lie entries lines f new device blocks fits i entry e =
-    let plan = slice_get-some lines.plans i (omega (arith, slice_get_within entries i entry e, new.as_many)) in
-    let made = new.each i plan.0 entry plan.1 e in
-    made.lies f (some-is lines.device f.geometry plan.0.geometry device made.device) (omega (arith, blocks, blocks-within lines.plans i plan.0 plan.1)) (few-pages f lines.plans blocks fits)
+use Rattle.fl_session.proofs.Rested.{session-ends, opened-rests, opened-content, opened-formed}
 
 no-cursor : (n i : ℕ) (c : TableCursor) → slice_get (replicate n None) i ≡ Some (Some c) → ⊥
 no-cursor zero i c e = none e
@@ -105,54 +50,33 @@ no-cursor (suc n) zero c e = none e
     none k = cc
 no-cursor (suc n) (suc i) c e = no-cursor n i c e
 
--- a session that begins over them is sound
-pub new-sound : (entries entries' : List Entry) (lines : Lines) (f f' : FlashState) (buf buf' : Buffers) (notes : Notes) → entries' ≡ entries → f' ≡ f → buf' ≡ buf → notes ≡ no_notes → AreNewTables entries lines → lines.device ≡ Some f.geometry → f.blocks ≡ sum_by blocks_of lines.plans →
-    IfSome lines.device (λ geometry. too_large geometry lines.plans ≡ false) → ((geometry : Geometry) → lines.device ≡ Some geometry → HasRooms buf geometry.page) → (mounted : Bool) → mounted ≡ false → IsSound entries' f' buf' mounted notes
-new-sound entries entries' lines f f' buf buf' notes entries_are f_is buf_is fresh new device blocks fits page mounted off =
-    let small : too_large f.geometry lines.plans ≡ false = subst (λ d. IfSome d (λ geometry. too_large geometry lines.plans ≡ false)) device fits in
-    rw (entries_are, f_is, buf_is) (record {
-      lie = new-lie entries lines f new device blocks small;
-      room = page f.geometry device;
-      running = λ on. absurd (not_on (sym on ∙ off));
-      cursors = λ i c e. absurd (no-cursor 4 i c (ap (λ (n : Notes). slice_get n.cursors i) (sym fresh) ∙ e));
-    })
+-- a session that begins is sound
+pub new-sound : (entries entries' : List Entry) (f f' : FlashState) (buf buf' : Buffers) (mounted : Bool) (notes : Notes) → entries' ≡ entries → f' ≡ f → buf' ≡ buf → mounted ≡ false → notes ≡ no_notes →
+    LieOn entries f → HasRooms buf f.geometry.page → IsSound entries' f' buf' mounted notes
+new-sound entries entries' f f' buf buf' mounted notes entries_are f_is buf_is off fresh lie room = rw (entries_are, f_is, buf_is) (record {
+  lie = lie;
+  room = room;
+  running = λ on. absurd (not_on (sym on ∙ off));
+  cursors = λ i c e. absurd (no-cursor 4 i c (ap (λ (n : Notes). slice_get n.cursors i) (sym fresh) ∙ e));
+})
   where
     not_on : true ≡ false → ⊥
     not_on e = cc
 
--- .. and stands for each state that the medium represents
-pub over-stands : (config : Config) (lines : Lines) (entries : List Entry) (notes : Notes) (f : FlashState) (old : MediaState) (mounted : Bool) (geometry : Geometry) (blocks : ℕ) (origin : GName) (m : Machine) →
-    f ≡ on_medium geometry blocks 1024 origin true None 0 (record { reads = 0; programs = 0; erases = 0 }) old → geometry ≡ config.geometry → lines.device ≡ Some config.geometry → lines.plans ≡ config.plans → AreNewTables entries lines → mounted ≡ false → notes ≡ no_notes → config.knots ≡ 64 →
-    RestsTold config old m → SessionStands config entries f mounted notes m
-over-stands config lines entries notes f old mounted geometry blocks origin m is g_is device plans made off fresh knots r =
-    subst (λ b. SessionStands config entries f b notes m) (sym off)
-    (subst (λ x. SessionStands config entries x false notes m) (sym is)
-    (session-begins config lines entries notes (on_medium geometry blocks 1024 origin true None 0 (record { reads = 0; programs = 0; erases = 0 }) old) m fresh r.0 refl g_is refl refl refl device plans made knots r.1))
-
 -- what was run in the session was run over the medium
-pub session-runs : (config : Config) (lines : Lines) (entries entries' : List Entry) (notes notes' : Notes) (f f' : FlashState) (old new : MediaState) (mounted mounted' : Bool) (geometry : Geometry) (blocks : ℕ) (origin : GName) →
-    f ≡ on_medium geometry blocks 1024 origin true None 0 (record { reads = 0; programs = 0; erases = 0 }) old → geometry ≡ config.geometry → new ≡ f'.media →
-    lines.device ≡ Some config.geometry → lines.plans ≡ config.plans → AreNewTables entries lines → mounted ≡ false → notes ≡ no_notes → config.knots ≡ 64 →
+pub session-runs : (config : Config) (entries entries' : List Entry) (notes notes' : Notes) (f f' : FlashState) (old new : MediaState) (mounted mounted' : Bool) → f.media ≡ old → new ≡ f'.media →
+    ((m : Machine) → RestsTold config old m → SessionStands config entries f mounted notes m) →
     (first : Option code.Command) (number : ℕ) (state : LinesState) (left left_now told told_now : Option (List ℕ)) (status : Status) →
     ((m : Machine) → SessionStands config entries' f' mounted' notes' m → TellsPending config status m) →
     RunsFrom first number state left left_now (around_of config f.media f'.media told told_now) (SessionStands config entries f mounted notes) (SessionStands config entries' f' mounted' notes') status →
     RunsFrom first number state left left_now (around_of config old new told told_now) (RestsTold config old) (EndsAt config status new.content) status
-session-runs config lines entries entries' notes notes' f f' old new mounted mounted' geometry blocks origin is g_is media device plans made off fresh knots first number state left left_now told told_now status tells h =
-    let begin : (m : Machine) → RestsTold config old m → SessionStands config entries f mounted notes m =
-    λ m r. over-stands config lines entries notes f old mounted geometry blocks origin m is g_is device plans made off fresh knots r in
+session-runs config entries entries' notes notes' f f' old new mounted mounted' begun ended begin first number state left left_now told told_now status tells h =
     let end : (m : Machine) → SessionStands config entries' f' mounted' notes' m → EndsAt config status f'.media.content m = λ m s. (session-ends config entries' notes' f' mounted' m s, tells m s) in
     let seen = runs-seen first number state left left_now (around_of config f.media f'.media told told_now) (SessionStands config entries f mounted notes) (SessionStands config entries' f' mounted' notes')
     (RestsTold config old) (EndsAt config status f'.media.content) status begin end h in
     let from : RunsFrom first number state left left_now (around_of config old f'.media told told_now) (RestsTold config old) (EndsAt config status f'.media.content) status =
-    subst (λ (x : FlashState). RunsFrom first number state left left_now (around_of config x.media f'.media told told_now) (RestsTold config old) (EndsAt config status f'.media.content) status) is seen in
-    subst (λ x. RunsFrom first number state left left_now (around_of config old x told told_now) (RestsTold config old) (EndsAt config status x.content) status) (sym media) from
-
--- the medium reaches to the end of the flash
-pub reach-of : (knots : ℕ) (lines : Lines) (config : Config) (len : ℕ) (geometry : Geometry) → AreParts knots lines config → lines.device ≡ Some geometry → len ≡ medium_len config → 1024 + extent geometry (sum_by blocks_of lines.plans) ≤ len
-reach-of knots lines config len geometry parts e size =
-    let same : geometry ≡ config.geometry = cc (e, parts.device) in
-    let all : 1024 + extent geometry (sum_by blocks_of lines.plans) ≡ medium_len config = rw (same, parts.plans) refl in
-    omega (arith, all, size)
+    subst (λ (x : MediaState). RunsFrom first number state left left_now (around_of config x f'.media told told_now) (RestsTold config old) (EndsAt config status f'.media.content) status) begun seen in
+    subst (λ x. RunsFrom first number state left left_now (around_of config old x told told_now) (RestsTold config old) (EndsAt config status x.content) status) (sym ended) from
 
 start-accepted : (knots : ℕ) (text : List ℕ) → StartIsAccepted (start_in knots text)
 start-accepted knots text = by_test (is_long text)
@@ -166,14 +90,10 @@ pub kept-formed : (config : Config) (mid new : MediaState) → IsFormed config m
 kept-formed config mid new formed tells kept = (kept.len ∙ formed.0, kept.head tells ∙ formed.1)
 
 -- .. as a flash on it goes
-pub flash-keeps : (f f' : FlashState) → f.start ≡ 1024 → Goes f f' → KeepsForm f.media f'.media
-flash-keeps f f' start goes = record { len = goes.size; head = λ tells. subst (λ n. take n f'.media.content ≡ take n f.media.content) start (goes.front tells) }
-
-pub session-keeps : (f f' : FlashState) (old new : MediaState) (geometry : Geometry) (blocks : ℕ) (origin : GName) →
-    f ≡ on_medium geometry blocks 1024 origin true None 0 (record { reads = 0; programs = 0; erases = 0 }) old → new ≡ f'.media → Goes f f' → KeepsForm old new
-session-keeps f f' old new geometry blocks origin is media goes =
-    let goes' = subst (λ x. Goes x f') is goes in
-    subst (λ m. KeepsForm old m) (sym media) (record { len = goes'.size; head = goes'.front })
+pub flash-keeps : (f f' : FlashState) (old new : MediaState) → f.media ≡ old → new ≡ f'.media → f.start ≡ 1024 → Goes f f' → KeepsForm old new
+flash-keeps f f' old new begun ended start goes =
+    subst (KeepsForm old) (sym ended)
+    (subst (λ (m : MediaState). KeepsForm m f'.media) begun (record { len = goes.size; head = λ tells. subst (λ n. take n f'.media.content ≡ take n f.media.content) start (goes.front tells) }))
 
 -- a run over an image that was opened
 pub ends-opened : (knots : ℕ) (text : List ℕ) (lines : Lines) (first : Option code.Command) (number : ℕ) (state : LinesState) (left left_now told told_now : Option (List ℕ)) (config : Config) (old mid new : MediaState) (origin : GName) (status : Status) →
@@ -234,18 +154,6 @@ early-refused config old new told (Other wanted found at) h = record { written =
 pub make-refused : (config : Config) (old new : MediaState) (refusal : ImageRefusal) → OpensAs config old (Err refusal) new → refused_status refusal ≡ MediaMake → Rose old.faults new.faults
 make-refused config old new Media h e = h.rose
 make-refused config old new (Other wanted found at) h e = cc
-
--- a whole configuration
-whole-cases : (knots : ℕ) (device : Option Geometry) (plans : List Plan) → IsTrue (is_whole_of device plans) → (config : Config) × (whole_of knots device plans ≡ Some config)
-whole-cases knots None plans e = cc
-whole-cases knots (Some geometry) [] e = cc
-whole-cases knots (Some geometry) (plan ∷ plans) e = (record { geometry = geometry; plans = plan ∷ plans; knots = knots }, refl)
-
-pub whole-of : (knots : ℕ) (lines : Lines) → IsTrue (is_whole lines) → (config : Config) × (whole knots lines ≡ Some config)
-whole-of knots lines e = whole-cases knots lines.device lines.plans e
-
-pub makes-of : (knots : ℕ) (lines : Lines) (config : Config) → whole knots lines ≡ Some config → Makes lines config
-makes-of knots lines config e = ap (λ n. whole n lines) (whole-parts knots lines config e).knots_are ∙ e
 
 differs : (config : Config) (old : MediaState) (wanted found at : ℕ) → opening.Differs (header config) (take 1024 old.content) at wanted found → Differs (header config) (take 1024 old.content) at wanted found
 differs config old wanted found at h = record { same = h.same; wanted_is = h.wanted_is; found_is = h.found_is; differ = h.differ }

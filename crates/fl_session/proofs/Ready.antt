@@ -20,9 +20,9 @@ use Rattle.fl_machine.proofs.OpenCursors.{none-within}
 use Rattle.fl_machine.proofs.Steps.{rests-settled, rests-logged}
 use Rattle.fl_machine.specs.Script.{Start, Ready, StandsFor, StandsAfter}
 use Rattle.fl_machine.proofs.Accepted.{IsAccepted, StartIsAccepted}
-use Rattle.fl_tables.proofs.TablesChanged.{some-is}
+use Rattle.fl_store.proofs.TablesChanged.{some-is}
 use Rattle.fl_session.specs.Execute.{IsReady, StandsAlike}
-use Rattle.fl_session.proofs.Rested.{images-at, images-many}
+use Rattle.fl_store.proofs.Images.{images-at, images-many}
 
 fresh-rest : (plans : List Plan) → AllByRecursion IsAtRest (map fresh_table plans)
 fresh-rest [] = tt

@@ -14,10 +14,10 @@ use Rattle.fl_model.proofs.Lists.{slice_get-some}
 use Rattle.fl_machine.specs.Stays.{IsRepaired, IsReplayed, PagesAreRepaired}
 use Rattle.fl_ring.proofs.Lengths.{page_length}
 use Rattle.fl_table.proofs.Images.{pages-medium}
-use Rattle.fl_tables.specs.Repaired as repaired
-use Rattle.fl_tables.specs.Tables.{TablesStand}
-use Rattle.fl_tables.specs.declared.tables.Entry.{Entry}
-use Rattle.fl_session.specs.Standing.{IsOnMedium}
+use Rattle.fl_store.specs.Repaired as repaired
+use Rattle.fl_store.specs.Tables.{TablesStand}
+use Rattle.fl_store.specs.declared.tables.Entry.{Entry}
+use Rattle.fl_store.specs.Store.{IsOnMedium}
 
 -- zeros that are programmed stand then
 and-zeros : (xs : List ℕ) → and_bytes xs (replicate (length xs) 0) ≡ replicate (length xs) 0

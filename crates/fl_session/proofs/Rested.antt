@@ -3,71 +3,38 @@ use Rattle.std.proofs.Common.{◌≡◌, ℕ, zero, suc, ◌+◌, ◌-◌, ◌*�
 use Rattle.std.specs.Prelude.{replicate, option_map}
 use Rattle.std.specs.List.{AllByRecursion, slice_get}
 use Rattle.std.proofs.lemmas.List.{drop-replicate, length-replicate, length-map}
-use Rattle.std.proofs.lemmas.Option.{slice_get-map, slice_get_within}
+use Rattle.std.proofs.lemmas.Option.{slice_get-map}
 use Rattle.std.proofs.Math.Seq.{drop-append-add, take-append_seam}
 use Rattle.fl_flash.specs.Flash.{FlashState, page_at}
 use Rattle.fl_flash.specs.Media.{MediaState}
-use Rattle.fl_ring.specs.Device.{SameDevice, ArmsAs}
+use Rattle.fl_ring.specs.Device.{SameDevice}
 use Rattle.fl_model.specs.Record.{Plan, Config, has_log}
 use Rattle.fl_model.specs.Ring.{fresh}
 use Rattle.fl_model.specs.Table.{Table, RingName, LogRing, shape_of, fresh_table, lose}
 use Rattle.fl_model.specs.Layout.{is_blank}
-use Rattle.fl_model.specs.Image.{medium_len, HoldsLogged, IsRingImage, IsTableImage, AreTableImages}
-use Rattle.fl_model.proofs.Lists.{slice_get-some}
-use Rattle.fl_words.specs.Config.{Lines}
+use Rattle.fl_model.specs.Image.{medium_len, HoldsLogged, IsRingImage, IsTableImage}
 use Rattle.fl_words.specs.Medium.{header, IsImage}
-use Rattle.fl_machine.specs.Machine.{Machine, fresh_tables}
+use Rattle.fl_machine.specs.Machine.{Machine, begins, fresh_tables}
 use Rattle.fl_machine.specs.Found.{HasRoom}
 use Rattle.fl_machine.specs.Script.{StandsFor, StandsAfter}
 use Rattle.fl_machine.specs.Stays.{MomentStays}
 use Rattle.fl_machine.specs.Step.{Moment}
 use Rattle.fl_machine.proofs.Stays.{moment-same}
-use Rattle.fl_tables.proofs.TablesChanged.{entry-off, some-is, tables-become}
-use Rattle.fl_tables.specs.Tables.{first_of, AreNewTables, EntryStands, TablesStand}
-use Rattle.fl_tables.specs.declared.tables.Entry.{Entry}
+use Rattle.fl_store.proofs.Images.{images-of, tables-image}
+use Rattle.fl_store.proofs.TablesChanged.{some-is}
+use Rattle.fl_store.proofs.Unmounted.{off}
+use Rattle.fl_store.specs.Store.{at_rest, Holds}
+use Rattle.fl_store.specs.Tables.{first_of}
+use Rattle.fl_store.specs.declared.tables.Entry.{Entry}
 use Rattle.fl_session.specs.Ends.{IsOwn, IsFormed, new_content, opened}
 use Rattle.fl_session.specs.Opening.{Opened}
 use Rattle.fl_table.specs.Pages.{bytes_in, place_in}
-use Rattle.fl_rlc.specs.Table.{IsPlanned}
 use Rattle.fl_session.specs.Cost.{cost_of}
 use Rattle.fl_session.specs.Notes.{no_notes}
 use Rattle.fl_session.specs.declared.notes.Notes.{Notes}
 use Rattle.fl_session.specs.Standing.{SessionStands, RestsOn}
 use Rattle.fl_table.proofs.Images.{blank-rests}
-use Rattle.fl_rlc.proofs.Images.{image-rests, rests-image}
-
--- the images of tables, each at its place
-images-of : (config : Config) (content : List ℕ) (place : ℕ) (plans : List Plan) (tables : List Table) → length tables ≡ length plans →
-    ((i : ℕ) (plan : Plan) (table : Table) → slice_get plans i ≡ Some plan → slice_get tables i ≡ Some table → IsTableImage config content (place + i) plan table) → AreTableImages config content place plans tables
-images-of config content place [] [] n each = tt
-images-of config content place [] (table ∷ tables) n each = absurd (omega (arith, n))
-images-of config content place (plan ∷ plans) [] n each = absurd (omega (arith, n))
-images-of config content place (plan ∷ plans) (table ∷ tables) n each = (
-  subst (λ p. IsTableImage config content p plan table) (let e : place + 0 ≡ place = omega arith in e) (each 0 plan table refl refl),
-  images-of config content (place + 1) plans tables (omega (arith, n)) (λ i p t e k.
-      subst (λ q. IsTableImage config content q p t) (let m : place + suc i ≡ place + 1 + i = omega arith in m) (each (suc i) p t e k)),
-)
-
-pub images-many : (config : Config) (content : List ℕ) (place : ℕ) (plans : List Plan) (tables : List Table) → AreTableImages config content place plans tables → length tables ≡ length plans
-images-many config content place [] [] h = refl
-images-many config content place [] (table ∷ tables) h = absurd h
-images-many config content place (plan ∷ plans) [] h = absurd h
-images-many config content place (plan ∷ plans) (table ∷ tables) h = ap suc (images-many config content (place + 1) plans tables h.1)
-
-pub images-at : (config : Config) (content : List ℕ) (place : ℕ) (plans : List Plan) (tables : List Table) → AreTableImages config content place plans tables → (i : ℕ) (plan : Plan) (table : Table) → slice_get plans i ≡ Some plan → slice_get tables i ≡ Some table →
-    IsTableImage config content (place + i) plan table
-images-at config content place [] tables h i plan table e k = absurd (none e)
-  where
-    none : None ≡ Some plan → ⊥
-    none x = cc
-images-at config content place (p ∷ plans) [] h i plan table e k = absurd h
-images-at config content place (p ∷ plans) (t ∷ tables) h zero plan table e k =
-    let plan_is : p ≡ plan = cc in
-    let table_is : t ≡ table = cc in
-    subst (λ q. IsTableImage config content q plan table) (let m : place ≡ place + 0 = omega arith in m)
-    (subst (λ x. IsTableImage config content place x table) plan_is (subst (λ x. IsTableImage config content place p x) table_is h.0))
-images-at config content place (p ∷ plans) (t ∷ tables) h (suc i) plan table e k =
-    subst (λ q. IsTableImage config content q plan table) (let m : place + 1 + i ≡ place + suc i = omega arith in m) (images-at config content (place + 1) plans tables h.1 i plan table e k)
+use Rattle.fl_rlc.proofs.Images.{rests-image}
 
 -- a part of blank bytes is blank
 blank-take : (m n : ℕ) → is_blank (take m (replicate n 255)) ≡ true
@@ -171,44 +138,24 @@ opened-rests config old new f m start geometry content room told h (inr s) = (
     some : medium_len config ≡ 0 → ⊥
     some e = absurd (omega (arith, e))
 
--- .. and the session that begins on it for the same
-pub session-begins : (config : Config) (lines : Lines) (entries : List Entry) (notes : Notes) (f : FlashState) (m : Machine) → notes ≡ no_notes → IsTrue f.media.tells → f.start ≡ 1024 → f.geometry ≡ config.geometry →
-    f.armed ≡ None → f.work.programs ≡ 0 → f.work.erases ≡ 0 → lines.device ≡ Some config.geometry → lines.plans ≡ config.plans → AreNewTables entries lines → config.knots ≡ 64 → RestsOn config f.media.content m → SessionStands config entries f false notes m
-session-begins config lines entries notes f m fresh told start geometry armed programs erases device plans new knots h = record {
+-- .. and the session that begins over its tables for the same
+pub session-begins : (config : Config) (entries entries' : List Entry) (notes : Notes) (f f' : FlashState) (mounted : Bool) (m : Machine) (tables : List Table) → entries' ≡ entries → f' ≡ f → mounted ≡ false → notes ≡ no_notes → config.knots ≡ 64 →
+    SameDevice f at_rest → Holds config entries f false tables → m ≡ begins tables → SessionStands config entries' f' mounted notes m
+session-begins config entries entries' notes f f' mounted m tables entries_are f_is off fresh knots calm holds is = rw (entries_are, f_is, off, is) (record {
   knots = knots;
-  medium = record { told = told; len = h.1.len; head = h.1.head; start = start; geometry = geometry };
-  tables = subst (λ (m : Machine). TablesStand f (λ i. false) config.plans entries m.tables) (sym h.2) (record {
-    as_many = new.as_many ∙ ap length plans;
-    all = images-many config f.media.content 0 config.plans h.0 h.1.tables_are;
-    each = each;
-  });
-  is_mounted = ap (λ (m : Machine). m.mounted) h.2;
-  cursors = ap (λ (m : Machine). m.cursors) h.2;
-  device = subst (λ (m : Machine). SameDevice f m.device) (sym h.2) (record { armed = subst (λ a. ArmsAs None a) (sym armed) refl; programs = sym programs; erases = sym erases });
-  cost_is = ap (λ (m : Machine). m.cost) h.2 ∙ ap (λ (n : Notes). cost_of n.cost) (sym fresh);
+  medium = holds.medium;
+  tables = holds.stand;
+  is_mounted = refl;
+  cursors = refl;
+  device = calm;
+  cost_is = ap (λ (n : Notes). cost_of n.cost) (sym fresh);
   power = λ k. cc;
-}
-  where
-    each : (i : ℕ) (plan : Plan) (entry : Entry) (table : Table) → slice_get config.plans i ≡ Some plan → slice_get entries i ≡ Some entry → slice_get h.0 i ≡ Some table → EntryStands entry f false (first_of config.plans i) plan table
-    each i plan entry table p q r =
-        let made = new.each i plan entry (ap (λ (ps : List Plan). slice_get ps i) plans ∙ p) q in
-        let planned : IsPlanned entry.table (first_of config.plans i) plan = subst (λ (ps : List Plan). IsPlanned entry.table (first_of ps i) plan) plans made.planned in
-        let own : plan.geometry ≡ config.geometry = some-is lines.device plan.geometry config.geometry made.device device in
-        let image = subst (λ n. IsTableImage config f.media.content n plan table) (let m : 0 + i ≡ i = omega arith in m) (images-at config f.media.content 0 config.plans h.0 h.1.tables_are i plan table p r) in
-        record { named = made.named; geometry = own ∙ sym geometry; planned = planned; on_flash = image-rests config i plan table f start geometry image }
+})
 
 -- the medium on which a session ended stands for what it had on it
 pub session-ends : (config : Config) (entries : List Entry) (notes : Notes) (f : FlashState) (mounted : Bool) (m : Machine) → SessionStands config entries f mounted notes m → StandsAfter config (Some f.media.content) m
 session-ends config entries notes f mounted m h =
-    let off = tables-become f f (λ i. mounted) (λ i. false) config.plans entries m.tables lose h.tables (λ i plan e x k. entry-off e f mounted (first_of config.plans i) plan x k) in
-    record {
-      len = h.medium.len;
-      head = h.medium.head;
-      tables_are = images-of config f.media.content 0 config.plans (map lose m.tables) off.all (λ i plan table p r.
-          let entry = slice_get-some entries i (omega (arith, slice_get_within config.plans i plan p, off.as_many)) in
-          subst (λ n. IsTableImage config f.media.content n plan table) (let m : i ≡ 0 + i = omega arith in m)
-          (rests-image config i plan table f h.medium.start h.medium.geometry (off.each i plan entry.0 table p entry.1 r).on_flash));
-    }
+    tables-image config entries f (map lose m.tables) h.medium.len h.medium.head h.medium.start h.medium.geometry (off f mounted config.plans entries m.tables h.tables)
 
 -- a command that leaves its content as it is
 pub stays-still : (config : Config) (old : Machine) (moment : Moment) (entries : List Entry) (notes : Notes) (f g : FlashState) (mounted : Bool) → SessionStands config entries g mounted notes moment.after → g.media.content ≡ f.media.content →

@@ -1,10 +1,10 @@
 -- The lines of rows, and a reply behind them.
-use Rattle.std.proofs.Common.{◌≡◌, ℕ, suc, Bool, Option, Some, None, Result, Ok, Err, List, [], ◌∷◌, ◌++◌, length, map, drop, take, refl, sym, ◌∙◌, ap, subst, append-nil, append_assoc, arith}
+use Rattle.std.proofs.Common.{◌≡◌, ℕ, Bool, Option, Result, Ok, Err, List, [], ◌∷◌, ◌++◌, length, map, take, refl, sym, ◌∙◌, ap, subst, append-nil, append_assoc, arith}
 use Rattle.std.proofs.lemmas.List.{take-map, take_all, take-append-le}
 use Rattle.fl_base.specs.Causes.{Appends, AppendsFront}
 use Rattle.fl_flash.specs.Flash.{FlashState}
-use Rattle.fl_model.specs.Record.{Column, Plan, RowLayout, has_var}
-use Rattle.fl_model.specs.Row.{Row, stored_row, values_in}
+use Rattle.fl_model.specs.Record.{Plan, RowLayout, has_var}
+use Rattle.fl_model.specs.Row.{Row, stored_row}
 use Rattle.fl_model.specs.Table as model
 use Rattle.fl_model.specs.Table.{Entry}
 use Rattle.fl_machine.specs.Step.{rows_of, row_of}
@@ -18,14 +18,6 @@ use Rattle.fl_words.specs.Reply.{Reply, text, texts}
 use Rattle.fl_session.specs.BlobNotes.{note_of}
 use Rattle.fl_session.specs.Rows.{row_reply}
 use Rattle.fl_session.proofs.BlobNotes.{note-record}
-
-pub length-values_in : (columns : List Column) (bytes : List ℕ) → length (values_in columns bytes) ≡ length columns
-length-values_in [] bytes = refl
-length-values_in (column ∷ columns) bytes = ap suc (length-values_in columns (drop column.width bytes))
-
-pub appends-none : (o : Option (List ℕ)) → Appends o o []
-appends-none None = tt
-appends-none (Some bytes) = ap (λ (l : List ℕ). Some l) (sym (append-nil bytes))
 
 -- a table has blobs where its plan has variable data
 pub blobs-as : (t : Table 64 64) (f : FlashState) (first : ℕ) (plan : Plan) (table : model.Table) → Stands t f first plan table → has_blobs t ≡ has_var plan

@@ -17,15 +17,15 @@ use Rattle.fl_table.specs.Look.{counts_of}
 use Rattle.fl_table.specs.Standing.{Stands}
 use Rattle.fl_table.specs.declared.counts.TableCounts.{TableCounts}
 use Rattle.fl_table.specs.declared.table.Table.{Table}
-use Rattle.fl_tables.specs.declared.tables.Entry.{Entry}
-use Rattle.fl_tables.specs.Tables.{first_of, IsNamed}
+use Rattle.fl_store.specs.declared.tables.Entry.{Entry}
+use Rattle.fl_store.specs.Tables.{first_of, IsNamed}
 use Rattle.fl_session.specs.Answer.{Answers, Refusal, IsReached}
 use Rattle.fl_session.specs.declared.notes.Notes.{Notes}
 use Rattle.fl_session.specs.Standing.{SessionStands}
 use Rattle.fl_session.proofs.Answering.{answers-saying, saying, says, step-is, table-step}
 use Rattle.fl_session.proofs.Owning.{own-of}
 use Rattle.fl_session.proofs.Refusing.{answers-refused}
-use Rattle.fl_session.proofs.Tables.{stands-unlogged}
+use Rattle.fl_store.proofs.Queried.{stands-unlogged}
 
 stat-answers : (config : Config) (old : Machine) (entries : List Entry) (asked : List ℕ) (at : ℕ) (entry : Entry) (t : Table 64 64) (notes : Notes) (f : FlashState) (counts : TableCounts) (programs erases : ℕ) →
     (h : SessionStands config entries f true notes old) → slice_get entries at ≡ Some entry → IsNamed entries asked at → t ≡ table_in entry.table → ((first : ℕ) (plan : Plan) (table : model.Table) → Stands t f first plan table → counts ≡ counts_of table) →

@@ -13,9 +13,9 @@ use Rattle.fl_machine.specs.Machine.{Machine, stopped}
 use Rattle.fl_script.specs.Written.{Written}
 use Rattle.fl_script.specs.declared.command.Command as code
 use Rattle.fl_script.specs.CommandView.{command_view}
-use Rattle.fl_tables.specs.Tables.{first_of}
-use Rattle.fl_tables.specs.declared.tables.Entry.{Entry}
-use Rattle.fl_tables.proofs.TablesChanged.{entry-off, tables-become}
+use Rattle.fl_store.specs.Tables.{first_of}
+use Rattle.fl_store.specs.declared.tables.Entry.{Entry}
+use Rattle.fl_store.proofs.TablesChanged.{entry-off, tables-become}
 use Rattle.fl_session.specs.Answer.{Answers}
 use Rattle.fl_session.specs.Runnable.{IsRunnable}
 use Rattle.fl_session.specs.Execute.{Executes}
@@ -25,7 +25,7 @@ use Rattle.fl_session.proofs.Answering.{answers-saying, saying, says}
 use Rattle.fl_session.proofs.Executing.{executes-by}
 use Rattle.fl_session.proofs.Rested.{stays-still}
 use Rattle.fl_session.proofs.Running.{nothing-added}
-use Rattle.fl_session.proofs.Tables.{tables-kept}
+use Rattle.fl_store.proofs.Reading.{tables-kept}
 
 -- nothing is done
 pub executes-nothing : (E : Type 0) (config : Config) (old : Machine) (c : Command) (entries : List Entry) (notes : Notes) (f : FlashState) (mounted : Bool) (told : Option (List ℕ)) → c ≡ command.Nothing → SessionStands config entries f mounted notes old →

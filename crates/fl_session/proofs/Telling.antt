@@ -20,9 +20,9 @@ use Rattle.fl_table.specs.Look.{counts_of}
 use Rattle.fl_table.specs.Standing.{Stands}
 use Rattle.fl_table.specs.declared.counts.TableCounts.{TableCounts}
 use Rattle.fl_table.specs.declared.table.Table.{Table}
-use Rattle.fl_tables.specs.Tables.{first_of, EntryStands, TablesStand}
-use Rattle.fl_tables.specs.declared.tables.Entry.{Entry}
-use Rattle.fl_tables.proofs.TablesChanged.{at-place}
+use Rattle.fl_store.specs.Tables.{first_of, EntryStands, TablesStand}
+use Rattle.fl_store.specs.declared.tables.Entry.{Entry}
+use Rattle.fl_store.proofs.TablesChanged.{at-place}
 use Rattle.fl_session.specs.Answer.{IsReached, Refusal}
 use Rattle.fl_session.specs.Held.{TellsTable, TellsLast, TellsCounts}
 use Rattle.fl_session.specs.Pending.{rows_of, pending_of}
@@ -30,7 +30,7 @@ use Rattle.fl_session.specs.declared.notes.Notes.{Notes}
 use Rattle.fl_session.specs.declared.pending.TableRows.{TableRows}
 use Rattle.fl_session.specs.Standing.{SessionStands}
 use Rattle.fl_session.proofs.Owning.{own-of, own-none}
-use Rattle.fl_session.proofs.Tables.{stands-unlogged}
+use Rattle.fl_store.proofs.Queried.{stands-unlogged}
 
 -- why nothing is told of it
 pub told-refused : {A : Type 0} (config : Config) (m : Machine) (entries : List Entry) (notes : Notes) (f : FlashState) (mounted : Bool) (asked : List ℕ) (Tells : Located → A → Type 0) (said : code.Reply) →

@@ -1,11 +1,9 @@
 -- The puts and flushes of a session.
-use Rattle.std.proofs.Common.{◌≡◌, ℕ, ◌+◌, ◌-◌, ◌^◌, min, Bool, true, false, not, nat_le, IsTrue, IfErr, Option, Some, None, Result, Ok, Err, List, [], ◌∷◌, map, take, set, slice_get, refl, sym, ◌∙◌, ap, subst}
+use Rattle.std.proofs.Common.{◌≡◌, ℕ, ◌-◌, Bool, true, false, not, IsTrue, IfErr, Option, Some, None, Result, Ok, Err, List, [], ◌∷◌, map, set, slice_get, refl, sym, ◌∙◌, ap, subst}
 use Rattle.std.specs.Prelude.{option_map}
-use Rattle.std.proofs.lemmas.Bool.{leb-true, le-leb}
 use Rattle.std.proofs.lemmas.List.{length-map}
 use Rattle.std.proofs.lemmas.Option.{slice_get-map}
 use Rattle.std.proofs.Math.IntN.{ℤ}
-use Rattle.fl_base.specs.Causes.{Rose}
 use Rattle.fl_flash.specs.Flash.{FlashState, Goes, page_at}
 use Rattle.fl_flash.specs.declared.flash.FlashFault.{FlashFault}
 use Rattle.fl_ring.specs.Device.{SameDevice}
@@ -21,7 +19,7 @@ use Rattle.fl_model.proofs.Putting.{puts-at}
 use Rattle.fl_words.specs.Command as command
 use Rattle.fl_words.specs.Command.{Command}
 use Rattle.fl_words.specs.Reply as reply
-use Rattle.fl_words.specs.Reply.{Reply, text, texts}
+use Rattle.fl_words.specs.Reply.{text}
 use Rattle.fl_machine.specs.Machine.{Machine, stopped}
 use Rattle.fl_machine.specs.Stays.{CommandStays, TablesStay}
 use Rattle.fl_machine.specs.Step.{Moment, Step, Says, EndsAs, Located, refused, PutStep, FlushStep}
@@ -37,40 +35,25 @@ use Rattle.fl_rlc.specs.Outcomes.{Finishes, Breaks, LogStays, PutEnds, FlushEnds
 use Rattle.fl_rlc.specs.Refusal.{RefusedSame}
 use Rattle.fl_rlc.specs.Table.{IsSamePlan, OutsideStands}
 use Rattle.fl_rlc.specs.declared.table.LoggedTable.{LoggedTable}
-use Rattle.fl_tables.specs.Tables.{first_of, entries_with, EntryStands, TablesStand}
-use Rattle.fl_tables.specs.declared.tables.Entry.{Entry}
-use Rattle.fl_tables.proofs.Going.{planned-same}
-use Rattle.fl_tables.proofs.TablesChanged.{entry-off, some-is, set-same, length-changed, tables-changed, option_map-same}
+use Rattle.fl_store.specs.Tables.{first_of, entries_with, EntryStands, TablesStand}
+use Rattle.fl_store.specs.declared.tables.Entry.{Entry}
+use Rattle.fl_store.proofs.Going.{planned-same}
+use Rattle.fl_store.proofs.Risen.{has_risen, risen-rose, watched}
+use Rattle.fl_store.proofs.Worked.{medium-goes}
+use Rattle.fl_store.proofs.TablesChanged.{entry-off, some-is, set-same, length-changed, tables-changed, option_map-same}
 use Rattle.fl_session.specs.Answer.{Answers}
-use Rattle.fl_tables.specs.Replies.{fault_reply, put_reply, flush_reply}
+use Rattle.fl_store.specs.Replies.{fault_reply, put_reply, flush_reply}
 use Rattle.fl_session.specs.declared.notes.Notes.{Notes}
-use Rattle.fl_session.specs.Standing.{SessionStands, IsOnMedium}
+use Rattle.fl_session.specs.Standing.{SessionStands}
 use Rattle.fl_session.proofs.Answering.{answers-saying, saying, says, step-is, table-step}
 use Rattle.fl_session.proofs.Executing.{one-text}
 use Rattle.fl_session.proofs.Keeping.{TablesKeep, table-keeps, tables-keep_changed, tables-stay, mounted-stays}
 use Rattle.fl_session.proofs.Owning.{Own}
 use Rattle.fl_session.proofs.Rested.{session-ends}
 
--- what the calls of a table leave as it is
-pub medium-goes : (config : Config) (f g : FlashState) → Goes f g → IsOnMedium config f → IsOnMedium config g
-medium-goes config f g goes h = record {
-  told = subst IsTrue (sym goes.tells) h.told;
-  len = goes.size ∙ h.len;
-  head = subst (λ n. take n g.media.content ≡ take n f.media.content) h.start (goes.front h.told) ∙ h.head;
-  start = goes.start ∙ h.start;
-  geometry = goes.geometry ∙ h.geometry;
-}
-
--- whether the medium's faults rose
-abbrev pub has_risen : FlashState → FlashState → Bool
-has_risen f g = nat_le (min (f.media.faults + 1) (2 ^ 64 - 1)) g.media.faults
-
-pub risen-rose : (f g : FlashState) → IsTrue (has_risen f g) → Rose f.media.faults g.media.faults
-risen-rose f g e = leb-true (min (f.media.faults + 1) (2 ^ 64 - 1)) g.media.faults e
-
 pub session-watched : (config : Config) (entries : List Entry) (notes : Notes) (f g : FlashState) (m : Machine) → SessionStands config entries f true notes m → IsWatched f g (has_risen f g) m.device
 session-watched config entries notes f g m h =
-    record { told = h.medium.told; on = h.power refl; risen = λ r. le-leb (min (f.media.faults + 1) (2 ^ 64 - 1)) g.media.faults r; counts = h.device }
+    watched f g m.device h.medium.told (h.power refl) h.device
 
 -- what the table at a place performs, all tables perform
 performs-all : (config : Config) (old : Machine) (plan : Plan) (table : model.Table) (at : ℕ) (rose : Bool) (rings : List RingName) (now : PartProgress model.Table) → slice_get config.plans at ≡ Some plan → slice_get old.tables at ≡ Some table →

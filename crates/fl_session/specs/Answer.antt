@@ -14,10 +14,10 @@ use Rattle.fl_script.specs.declared.reply.Reply as code
 use Rattle.fl_table.specs.declared.faults.PutRefusal.{PutRefusal}
 use Rattle.fl_table.specs.declared.faults.MountFault.{MountFault}
 use Rattle.fl_table.specs.declared.faults.MountFault.TheVariants as mount
-use Rattle.fl_tables.specs.Replies.{fault_reply, put_reply}
-use Rattle.fl_tables.specs.Tables.{IsNamed, Names}
-use Rattle.fl_tables.specs.declared.tables.BadMount.{BadMount}
-use Rattle.fl_tables.specs.declared.tables.Entry.{Entry}
+use Rattle.fl_store.specs.Replies.{fault_reply, put_reply}
+use Rattle.fl_store.specs.Tables.{IsNamed, Names}
+use Rattle.fl_store.specs.declared.tables.BadMount.{BadMount}
+use Rattle.fl_store.specs.declared.tables.Entry.{Entry}
 
 -- From a state of the machine a command that reads no rows went on to another one, for which the session stands; this is
 -- the text of its replies.

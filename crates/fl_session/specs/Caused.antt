@@ -31,11 +31,11 @@ use Rattle.fl_table.specs.declared.faults.FlushFault.TheVariants as flush
 use Rattle.fl_table.specs.declared.faults.PutRefusal.{PutRefusal}
 use Rattle.fl_table.specs.declared.faults.PutRefusal.TheVariants as put
 use Rattle.fl_table.specs.declared.table.Table.{Table}
-use Rattle.fl_tables.specs.Mounting.{AreUnlogged, MountsInTurn, OutsideStands, RefusesAt, rings_of, tried}
-use Rattle.fl_tables.specs.Replies.{flush_reply, put_reply}
-use Rattle.fl_tables.specs.Tables.{Names, StopsAt, entries_with}
-use Rattle.fl_tables.specs.declared.tables.BadMount.{BadMount}
-use Rattle.fl_tables.specs.declared.tables.Entry.{Entry}
+use Rattle.fl_store.specs.Mounting.{AreUnlogged, MountsInTurn, OutsideStands, RefusesAt, rings_of, tried}
+use Rattle.fl_store.specs.Replies.{flush_reply, put_reply}
+use Rattle.fl_store.specs.Tables.{Names, StopsAt, entries_with}
+use Rattle.fl_store.specs.declared.tables.BadMount.{BadMount}
+use Rattle.fl_store.specs.declared.tables.Entry.{Entry}
 use Rattle.fl_words.specs.Command.{Command, Nothing, Device, Table as TableOf, Mount, Off, Cut, Put, Flush, Get, Blob, Scan, Open, Next, Close, Select, Project, Agg, Join, Stat, Cost, Load}
 use Rattle.fl_words.specs.Reply as reply
 use Rattle.fl_words.specs.Reply.{Reply, text, texts}

@@ -1,7 +1,7 @@
 -- A session that its caller holds: the room that it needs, and what it tells of a table beside its replies.
-use Rattle.std.specs.Prelude.{◌≡◌, ℕ, true, false, Option, None, option_map, IsSomeAnd, Some, Result, Ok, Err, List, sum_by}
+use Rattle.std.specs.Prelude.{◌≡◌, ℕ, true, false, Option, None, option_map, IsSomeAnd, Some, Result, Ok, Err, List}
 use Rattle.fl_base.specs.declared.types.Geometry.{Geometry}
-use Rattle.fl_model.specs.Record.{Config, blocks_of}
+use Rattle.fl_model.specs.Record.{Config}
 use Rattle.fl_model.specs.Table.{last_entry}
 use Rattle.fl_words.specs.Config.{Lines}
 use Rattle.fl_machine.specs.Machine.{Machine}
@@ -10,16 +10,14 @@ use Rattle.fl_script.specs.declared.reply.Reply.{Reply}
 use Rattle.fl_script.specs.declared.reply.Reply.TheVariants.{NotMounted, NoTable}
 use Rattle.fl_table.specs.Look.{counts_of}
 use Rattle.fl_table.specs.declared.counts.TableCounts.{TableCounts}
-use Rattle.fl_tables.specs.Tables.{AreNewTables}
-use Rattle.fl_session.specs.Run.{HasRoom}
+use Rattle.fl_store.specs.Store.{IsLayoutOf}
 use Rattle.fl_session.specs.Standing.{HasRooms}
 use Rattle.fl_session.specs.declared.opened.Rooms.{Rooms}
 
 -- there is room for a session of the configuration that these lines make
 pub record AreRoomsFor (rooms : Rooms) (lines : Lines) : Type 0 where
-  pub tables : AreNewTables rooms.tables.entries.items lines
+  pub layout : IsLayoutOf rooms.layout lines
   pub page : (g : Geometry) → lines.device ≡ Some g → HasRooms rooms.buf g.page
-  pub flash : (g : Geometry) → lines.device ≡ Some g → HasRoom rooms.flash g (sum_by blocks_of lines.plans)
 
 -- This is told of the table with the name; or nothing is mounted, or no table has the name.
 abbrev pub TellsTable : {A : Type 0} → Config → Machine → List ℕ → (Located → A → Type 0) → Result A Reply → Type 0

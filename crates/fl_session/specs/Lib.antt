@@ -33,3 +33,4 @@ pub mod Asked
 pub mod Complete
 pub mod Determined
 pub mod Operations
+pub mod Keys

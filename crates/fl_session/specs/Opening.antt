@@ -1,11 +1,8 @@
 -- What the opening of an image does to its medium.
-use Rattle.std.specs.Prelude.{◌≡◌, ℕ, ◌*◌, ◌<◌, ◌≤◌, IsTrue, Result, Ok, Err, List, [], length, take}
+use Rattle.std.specs.Prelude.{◌≡◌, ℕ, ◌≤◌, IsTrue, Result, Ok, Err, [], length, take}
 use Rattle.fl_config.specs.declared.image.ImageRefusal.{ImageRefusal}
 use Rattle.fl_config.specs.declared.image.ImageRefusal.TheVariants.{Media, Other}
 use Rattle.fl_base.specs.Causes.{Rose}
-use Rattle.fl_base.specs.declared.types.Geometry.{Geometry}
-use Rattle.fl_flash.specs.Flash.{blank}
-use Rattle.fl_flash.specs.Places.{page_of}
 use Rattle.fl_model.specs.Record.{Config}
 use Rattle.fl_model.specs.Image.{medium_len}
 use Rattle.fl_flash.specs.Media.{MediaState}
@@ -44,7 +41,3 @@ pub record KeepsForm (old new : MediaState) : Type 0 where
 pub record MediaGoes (old new : MediaState) : Type 0 where
   pub tells : new.tells ≡ old.tells
   pub faults : old.faults ≤ new.faults
-
--- each page behind the header is blank
-abbrev pub IsBlankBehind : Geometry → ℕ → List ℕ → Type 0
-IsBlankBehind geometry blocks content = (p : ℕ) → p < blocks * geometry.block → page_of content 1024 geometry.page p ≡ blank geometry.page

@@ -10,7 +10,7 @@ use Rattle.fl_machine.specs.Operations.{operations_by, programs_in, erases_in}
 use Rattle.fl_machine.specs.Plain.{plain}
 use Rattle.fl_machine.specs.Script.{StandsAfter}
 use Rattle.fl_machine.specs.Stays.{CommandStays}
-use Rattle.fl_tables.specs.declared.tables.Entry.{Entry}
+use Rattle.fl_store.specs.declared.tables.Entry.{Entry}
 use Rattle.fl_session.specs.Execute.{Executes}
 use Rattle.fl_session.specs.Standing.{SessionStands}
 use Rattle.fl_session.specs.declared.notes.Notes.{Notes}

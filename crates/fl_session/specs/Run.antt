@@ -1,8 +1,6 @@
 -- What a session over an opened image does.
-use Rattle.std.specs.Prelude.{◌≡◌, ℕ, ◌*◌, ◌≤◌, true, Option, Some, None, List, [], ◌++◌, length}
-use Rattle.fl_base.specs.declared.types.Geometry.{Geometry}
+use Rattle.std.specs.Prelude.{◌≡◌, ℕ, true, Option, Some, None, List, [], ◌++◌, length}
 use Rattle.fl_flash.specs.Media.{MediaState}
-use Rattle.fl_flash.specs.Room.{RoomSizes}
 use Rattle.fl_model.specs.Record.{Config}
 use Rattle.fl_machine.specs.Machine.{Machine}
 use Rattle.fl_script.specs.declared.command.Command as code
@@ -45,11 +43,6 @@ IsOfCommands ScriptRead = Unit {0}
 IsOfCommands OutWrite = Unit {0}
 IsOfCommands ScriptLong = Unit {0}
 IsOfCommands status = ⊥
-
--- there is room for a flash of so many blocks
-pub record HasRoom (room : RoomSizes) (geometry : Geometry) (blocks : ℕ) : Type 0 where
-  pub bytes : geometry.block * geometry.page ≤ room.bytes
-  pub flags : blocks * geometry.block ≤ room.pages
 
 -- how a run ends whose image isn't opened
 abbrev pub refused_status : ImageRefusal → Status

@@ -1,28 +1,20 @@
 -- A session, and the states of the machine for which it stands.
-use Rattle.std.specs.Prelude.{◌≡◌, ℕ, ◌<◌, Bool, true, IsTrue, List, length, take, Some, slice_get, if◌then◌else◌}
+use Rattle.std.specs.Prelude.{◌≡◌, ℕ, ◌<◌, Bool, true, IsTrue, List, length, Some, slice_get, if◌then◌else◌}
 use Rattle.fl_flash.specs.Flash.{FlashState}
 use Rattle.fl_flash.specs.Media.{MediaState}
 use Rattle.fl_ring.specs.Device.{SameDevice}
 use Rattle.fl_model.specs.Record.{Config}
 use Rattle.fl_model.specs.Table as model
-use Rattle.fl_model.specs.Image.{medium_len}
-use Rattle.fl_words.specs.Medium.{header, IsImage}
+use Rattle.fl_words.specs.Medium.{IsImage}
 use Rattle.fl_machine.specs.Machine.{Machine, begins, no_cursors}
-use Rattle.fl_tables.specs.Tables.{TablesStand, LieOn, AreRunning}
-use Rattle.fl_tables.specs.declared.tables.Entry.{Entry}
+use Rattle.fl_store.specs.Store.{IsOnMedium}
+use Rattle.fl_store.specs.Tables.{TablesStand, LieOn, AreRunning}
+use Rattle.fl_store.specs.declared.tables.Entry.{Entry}
 use Rattle.fl_session.specs.Cost.{cost_of}
 use Rattle.fl_session.specs.Notes.{cursors_of}
 use Rattle.fl_session.specs.declared.buffers.Buffers.{Buffers}
 use Rattle.fl_session.specs.declared.notes.Notes.{Notes}
 use Rattle.fl_session.specs.declared.notes.TableCursor.{TableCursor}
-
--- the header and the length of the medium are those of the configuration
-pub record IsOnMedium (config : Config) (f : FlashState) : Type 0 where
-  pub told : IsTrue f.media.tells
-  pub len : length f.media.content ≡ medium_len config
-  pub head : take 1024 f.media.content ≡ header config
-  pub start : f.start ≡ 1024
-  pub geometry : f.geometry ≡ config.geometry
 
 -- a session over tables; it notes the cost of the last get or scan and, while it is mounted, the cursors that are open
 pub record SessionStands (config : Config) (entries : List Entry) (f : FlashState) (mounted : Bool) (notes : Notes) (m : Machine) : Type 0 where

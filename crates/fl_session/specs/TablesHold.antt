@@ -13,8 +13,8 @@ use Rattle.fl_rlc.specs.Logged.{Rests, Stands}
 use Rattle.fl_schema.specs.Form.{key_width}
 use Rattle.fl_schema.specs.declared.schema.KeyWidth.{KeyWidth}
 use Rattle.fl_schema.specs.declared.schema.KeyWidth.TheVariants.{Four, Eight}
-use Rattle.fl_tables.specs.Tables.{first_of}
-use Rattle.fl_tables.specs.declared.tables.Entry.{Entry}
+use Rattle.fl_store.specs.Tables.{first_of}
+use Rattle.fl_store.specs.declared.tables.Entry.{Entry}
 use Rattle.fl_session.specs.Standing.{SessionStands}
 use Rattle.fl_session.specs.declared.notes.Notes.{Notes}
 

@@ -23,7 +23,7 @@ use fl_flash::{Flash, PageBuf};
 use fl_page::ReadFault;
 use fl_schema::RowRef;
 use fl_script::{Reply, write_reply};
-use fl_tables::Table;
+use fl_store::Table;
 use fl_var::BlobReader;
 
 /// What a lookup finds of a record's blob.

@@ -22,7 +22,7 @@ use fl_base::{KeyRange, Sink, SinkFailed, Span};
 use fl_cursor::Bookmark;
 use fl_flash::Flash;
 use fl_script::{Reply, write_reply};
-use fl_tables::{Cursor, Table};
+use fl_store::{Cursor, Table};
 
 /// A cursor over the rows that are asked for, before its first row.
 pub(crate) fn open_cursor(

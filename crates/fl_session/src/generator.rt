@@ -5,7 +5,7 @@ ghost use Rattle.fl_schema.specs.Types.{column_of};
 
 use arrayvec::ArrayVec;
 use fl_schema::ColumnType;
-use fl_tables::Table;
+use fl_store::Table;
 
 // A pseudo-random number is the one before it times this, plus that, in 64 bits.
 const FACTOR: u64 = 6364136223846793005;

@@ -34,11 +34,11 @@ mod whole_run;
 mod words;
 
 pub use executor::Executor;
-pub use fl_tables::{KNOTS, SLOTS};
+pub use fl_store::{KNOTS, SLOTS};
 pub use laws::commands_are_exact;
 pub use opened::Rooms;
 pub use pending::{PendingRows, TableRows};
 pub use session::Session;
 pub use status::Status;
 pub use whole_run::run;
-pub use words::image_of;
+pub use words::{image_of, names_image};

@@ -13,7 +13,7 @@ use fl_base::{Sink, SinkFailed};
 use fl_flash::Flash;
 use fl_page::{ReadFault, RowHere};
 use fl_script::{Reply, RowLine, write_reply};
-use fl_tables::Cursor;
+use fl_store::Cursor;
 
 /// Why rows aren't listed to the end.
 #[derive(Clone, Copy, Debug)]

@@ -9,8 +9,8 @@ ghost use Rattle.fl_machine.specs.Machine.{Machine};
 ghost use Rattle.fl_rlc.specs.Table.{is_running, IsSamePlan, LiesOn, OutsideStands};
 ghost use Rattle.fl_script.specs.Written.{Written};
 ghost use Rattle.fl_table.specs.Causes.{put_breaks};
-ghost use Rattle.fl_tables.specs.Tables.{IsNamed, entries_with};
-ghost use Rattle.fl_tables.specs.declared.tables.Entry.{Entry};
+ghost use Rattle.fl_store.specs.Tables.{IsNamed, entries_with};
+ghost use Rattle.fl_store.specs.declared.tables.Entry.{Entry};
 ghost use Rattle.fl_session.specs.Answer.{Answers, load_replies};
 ghost use Rattle.fl_session.specs.Caused.{LoadCounts, LoadFails};
 ghost use Rattle.fl_session.specs.Standing.{SessionStands};
@@ -20,8 +20,8 @@ use crate::generator::Generator;
 use fl_base::{Sink, SinkFailed};
 use fl_flash::Flash;
 use fl_script::{Reply, write_reply};
+use fl_store::{LoggedTable, put_reply};
 use fl_table::PutRefusal;
-use fl_tables::{LoggedTable, put_reply};
 
 /// How a load ended.
 #[derive(Clone, Copy, Debug)]

@@ -15,7 +15,7 @@ use fl_base::Steps;
 use fl_flash::{Flash, PageBuf};
 use fl_page::ReadFault;
 use fl_script::Reply;
-use fl_tables::Table;
+use fl_store::Table;
 
 /// The reply to a get: the row with the key, that there is none, or why a page isn't read.
 pub(crate) fn look_up<F: Flash>(table: &Table, key: u64, flash: &mut F, buf: &mut PageBuf) -> Reply

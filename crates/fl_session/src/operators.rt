@@ -32,7 +32,7 @@ use arrayvec::ArrayVec;
 use fl_base::{KeyRange, Op, Sink, SinkFailed};
 use fl_flash::Flash;
 use fl_ops::{Aggregate, Project, Select};
-use fl_tables::{Cursor, Table};
+use fl_store::{Cursor, Table};
 
 /// A column that is compared with a value. Column 0 is the key.
 #[derive(Clone, Copy)]

@@ -14,10 +14,9 @@ ghost use Rattle.fl_session.specs.Lines.{LineSteps, ListsAll, HasSinkCause};
 ghost use Rattle.fl_session.specs.Paired.{pair_lines};
 
 use crate::listing::ListFault;
-use crate::rows::values_of;
 use fl_base::Sink;
 use fl_flash::Flash;
-use fl_ops::next_pair;
+use fl_ops::{next_pair, values_of};
 use fl_page::{ReadFault, Rows};
 use fl_schema::RowRef;
 use fl_script::{Reply, write_reply};

@@ -9,8 +9,8 @@ ghost use Rattle.fl_table.specs.Causes as causes;
 
 use crate::cost::Cost;
 use fl_script::Reply;
+use fl_store::{BadMount, fault_reply};
 use fl_table::{FlushFault, MountFault, PutRefusal};
-use fl_tables::{BadMount, fault_reply};
 
 /// Whether an operation failed in a put.
 pub(crate) fn put_breaks(outcome: &Result<(), PutRefusal>) -> bool

@@ -10,11 +10,11 @@ ghost use Rattle.fl_table.specs.Look.{layout_in};
 ghost use Rattle.fl_session.specs.Rows.{row_reply};
 
 use crate::blob_note::note_of;
-use arrayvec::ArrayVec;
 use fl_base::{Sink, SinkFailed};
+use fl_ops::values_of;
 use fl_schema::RowRef;
 use fl_script::{Reply, RowLine, write_all};
-use fl_tables::Table;
+use fl_store::Table;
 
 /// What the lines of a table's rows say beside their keys.
 #[derive(Clone, Copy)]
@@ -35,20 +35,6 @@ pub(crate) fn form_of(table: &Table) -> RowForm
         columns: table.columns(),
         blobs: table.has_blobs(),
     }
-}
-
-/// The values of a row.
-#[inline(always)]
-pub(crate) fn values_of(row: &RowRef<'_>, columns: usize) -> ArrayVec<i64, 8>
-    requires columns { columns ≡ length (layout_of_row row.now).columns }
-    requires few { columns ≤ 8 }
-    ensures { result.items ≡ (row_of row.now).values }
-{
-    let mut values = ArrayVec::new();
-    for i in 0..columns {
-        values.push(row.value(i));
-    }
-    values
 }
 
 /// The line of a row.

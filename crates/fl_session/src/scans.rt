@@ -15,7 +15,7 @@ use crate::rows::form_of;
 use fl_base::{KeyRange, Sink, SinkFailed, Span};
 use fl_flash::Flash;
 use fl_script::{Reply, write_reply};
-use fl_tables::{Cursor, Table};
+use fl_store::{Cursor, Table};
 
 /// Writes the replies to a scan: the rows that are asked for and their number, or why a page isn't read.
 pub(crate) fn list_rows<F: Flash, K: Sink>(

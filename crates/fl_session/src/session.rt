@@ -10,7 +10,7 @@ ghost use Rattle.fl_machine.specs.Machine.{Machine};
 ghost use Rattle.fl_machine.specs.Reads.{mounts_limit};
 ghost use Rattle.fl_script.specs.CommandView.{command_view};
 ghost use Rattle.fl_script.specs.ReplyView.{reply_text};
-ghost use Rattle.fl_tables.specs.Tables.{pages_of};
+ghost use Rattle.fl_store.specs.Tables.{pages_of};
 ghost use Rattle.fl_session.specs.Answer.{Answers, Reaches};
 ghost use Rattle.fl_session.specs.Caused.{Caused, CostSays, FlushSays, MountSays, OnTable, PutSays, Says, StatSays};
 ghost use Rattle.fl_session.specs.Runnable.{IsRunnable};
@@ -32,8 +32,8 @@ use crate::scans::list_rows;
 use fl_base::{KeyRange, Name, Sink, SinkFailed, Span};
 use fl_flash::{Flash, Media, SimFlash};
 use fl_script::{Command, LineRoom, Reply, write_reply};
+use fl_store::{Tables, flush_reply, put_reply};
 use fl_table::TableCounts;
-use fl_tables::{Tables, flush_reply, put_reply};
 
 mod cursor;
 mod operate;

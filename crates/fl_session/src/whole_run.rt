@@ -1,5 +1,5 @@
 // The run of a script over an image.
-ghost use Rattle.std.specs.Prelude.{◌≡◌, ℕ, ◌+◌, ◌*◌, ◌^◌, ◌<◌, ◌≤◌, ◌↔◌, map, string_bytes, true, Bool, IsTrue, Some, None, [], List, ◌++◌, length, is_some, vec_len, sum_by};
+ghost use Rattle.std.specs.Prelude.{◌≡◌, ℕ, ◌+◌, ◌<◌, ◌≤◌, ◌↔◌, map, string_bytes, true, IsTrue, Some, None, List, length, sum_by};
 ghost use Rattle.fl_base.specs.Causes.{Rose};
 ghost use Rattle.fl_flash.specs.Flash.{Goes};
 ghost use Rattle.fl_flash.specs.Places.{extent};
@@ -8,22 +8,23 @@ ghost use Rattle.fl_model.specs.Record.{Config as Configuration, blocks_of};
 ghost use Rattle.fl_words.specs.Command.{Command as Commanded};
 ghost use Rattle.fl_words.specs.Config.{whole};
 ghost use Rattle.fl_config.specs.Whole.{is_whole};
-ghost use Rattle.fl_tables.specs.Tables.{AreNewTables};
+ghost use Rattle.fl_store.specs.Store.{IsBlankBehind};
 ghost use Rattle.fl_session.specs.Begin.{HoldsFirst};
 ghost use Rattle.fl_session.specs.Words.{image_named};
 ghost use Rattle.fl_session.specs.Complete.{IsInPlace, Completes};
 ghost use Rattle.fl_session.specs.Ends.{Ends, told_of, IsEarlyBy, IsOwn};
 ghost use Rattle.fl_session.specs.ScriptEnds.{ScriptEnds};
-ghost use Rattle.fl_session.specs.Opening.{MediaGoes, KeepsForm, IsBlankBehind};
+ghost use Rattle.fl_session.specs.Held.{AreRoomsFor};
+ghost use Rattle.fl_session.specs.Opening.{MediaGoes, KeepsForm};
 ghost use Rattle.fl_session.specs.Pending.{EndsAt, TellsPending};
-ghost use Rattle.fl_session.specs.Run.{RunsFrom, HasRoom, around_of, IsOfCommands, refused_status};
-ghost use Rattle.fl_session.specs.Standing.{RestsTold, HasRooms};
+ghost use Rattle.fl_session.specs.Run.{RunsFrom, around_of, IsOfCommands, refused_status};
+ghost use Rattle.fl_session.specs.Standing.{RestsTold};
 ghost use Rattle.fl_machine.specs.Machine.{Machine};
 
 use crate::begin::{Begun, read_config};
 use crate::commands::run_commands;
 use crate::executor::Executor;
-use crate::opened::{Rooms, flash_on, make_rooms};
+use crate::opened::Rooms;
 use crate::session::Session;
 use crate::{Status, image_of};
 use fl_base::{Sink, Source};
@@ -31,7 +32,7 @@ use fl_config::{Config, ImageRefusal};
 use fl_flash::Media;
 use fl_lines::Lines;
 use fl_script::{Command, LineRoom};
-use fl_tables::KNOTS;
+use fl_store::KNOTS;
 use std::alloc::Global;
 
 // Runs the commands from the first on, if there is one.
@@ -80,9 +81,7 @@ fn run_session<M: Media, S: Source, K: Sink>(
     requires in_hand { HoldsFirst begun.first begun.number room.old lines.old }
     requires reach { (g : Geometry) → config.now.device ≡ Some g → 1024 + extent g (sum_by blocks_of config.now.plans) ≤ length (M.state media.old).content }
     requires blank { is_new ≡ true → IsTrue (M.state media.old).tells → (g : Geometry) → config.now.device ≡ Some g → IsBlankBehind g (sum_by blocks_of config.now.plans) (M.state media.old).content }
-    requires tables { AreNewTables rooms.tables.entries.items config.now }
-    requires page { (g : Geometry) → config.now.device ≡ Some g → HasRooms rooms.buf g.page }
-    requires flash { (g : Geometry) → config.now.device ≡ Some g → HasRoom rooms.flash g (sum_by blocks_of config.now.plans) }
+    requires rooms { AreRoomsFor rooms config.now }
     ensures runs { (configured : Configuration) → whole KNOTS config.now ≡ Some configured →
         RunsFrom begun.first begun.number lines.old (S.left script.old) (S.left script.new) (around_of configured (M.state media.old) (M.state media.new) (K.written out.old) (K.written out.new))
         (RestsTold configured (M.state media.old)) (EndsAt configured result (M.state media.new).content) result }
@@ -94,9 +93,7 @@ fn run_session<M: Media, S: Source, K: Sink>(
     ensures later { (S.faults script.old ≤ S.faults script.new) × (K.faults out.old ≤ K.faults out.new) }
 {
     let Begun { first, number } = begun;
-    let Rooms { tables, buf, flash } = rooms;
-    let flash = flash_on(media, config.geometry(), config.blocks(), is_new, flash);
-    let mut session = Session::new(flash, tables, buf);
+    let mut session = Session::over(media, config, is_new, rooms);
     let status = run_first(&mut session, first, number, lines, room, script, out);
     let _media = session.end();
     status
@@ -141,9 +138,8 @@ fn run_script<M: Media, S: Source, K: Sink>(
         Ok(begun) => begun,
         Err(status) => return status,
     };
-    let rooms = match make_rooms(alloc, &config) {
-        Ok(rooms) => rooms,
-        Err(_) => return Status::NoMemory,
+    let Ok(rooms) = Rooms::new(alloc, &config) else {
+        return Status::NoMemory;
     };
     let is_new = media.len() == 0;
     match config.open_image(media) {

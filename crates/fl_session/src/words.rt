@@ -10,7 +10,8 @@ fn is_run(word: &str) -> bool
     word == "run"
 }
 
-fn names_image(word: &str) -> bool
+/// Whether the word can be the name of an image: it isn't empty and doesn't begin with a dash.
+pub fn names_image(word: &str) -> bool
     ensures { result ≡ is_image_name word.now }
 {
     match word.as_bytes() {

@@ -1,14 +1,14 @@
 -- The configuration of a shell's image is one that is accepted.
 use Rattle.std.proofs.Common.{◌≡◌, ℕ, Option, Some, None, Result, Ok, Err, List, [], ◌∷◌, refl, sym, subst}
 use Rattle.std.proofs.lemmas.Option.{option_and_then_some}
+use Rattle.fl_image.specs.Header.{unless_refused, after_command, after_lines, IsAccepted}
+use Rattle.fl_machine.proofs.Accepted as machine
+use Rattle.fl_machine.proofs.Accepted.{LinesHaveRoom, configured-room, no_lines-room, whole-accepted}
 use Rattle.fl_model.specs.Record.{Config}
 use Rattle.fl_words.specs.Command as command
 use Rattle.fl_words.specs.Command.{Command}
 use Rattle.fl_words.specs.Config.{ConfigFault, Lines, configured, no_lines, whole}
 use Rattle.fl_words.specs.Grammar.{LineFault, command_of}
-use Rattle.fl_machine.proofs.Accepted as machine
-use Rattle.fl_machine.proofs.Accepted.{LinesHaveRoom, configured-room, no_lines-room, whole-accepted}
-use Rattle.fl_jobs.specs.Header.{unless_refused, after_command, after_lines, IsAccepted}
 use Rattle.fl_shell.specs.Own.{Own, Echo, own_of}
 use Rattle.fl_shell.specs.Begin.{Leads, LeadsTo, step_command, step_config, step_own}
 

@@ -1,18 +1,18 @@
 -- How a shell ends before its image is opened, and where no image is.
 use Rattle.std.proofs.Common.{◌≡◌, ℕ, inl, inr, IsTrue, Option, Some, Ok, Err, List, [], ◌∷◌, length, refl, sym, ◌∙◌, subst, ◌+◌, ◌-◌, ◌^◌, ◌≤◌, min, arith}
 use Rattle.fl_base.specs.Causes.{Appends, Rose}
-use Rattle.fl_flash.specs.Media.{MediaState}
-use Rattle.fl_model.specs.Record.{Config}
-use Rattle.fl_words.specs.Config.{Lines, whole}
-use Rattle.fl_words.specs.Grammar.{lines_of}
-use Rattle.fl_lines.specs.Stream.{LinesState}
 use Rattle.fl_config.specs.declared.image.ImageRefusal.{ImageRefusal}
 use Rattle.fl_config.specs.declared.image.ImageRefusal.TheVariants.{Media, Other}
+use Rattle.fl_flash.specs.Media.{MediaState}
+use Rattle.fl_image.specs.Image.{IsImageOf, OnlyLooksAt}
+use Rattle.fl_lines.specs.Stream.{LinesState}
 use Rattle.fl_machine.proofs.Accepted.{IsAccepted}
-use Rattle.fl_jobs.specs.Image.{IsImageOf, OnlyLooksAt}
+use Rattle.fl_model.specs.Record.{Config}
 use Rattle.fl_session.specs.Ends.{Told, IsOther, IsUntouched, told_of}
 use Rattle.fl_session.specs.Opening.{MediaGoes, OpensAs}
 use Rattle.fl_session.proofs.Running.{nothing-added}
+use Rattle.fl_words.specs.Config.{Lines, whole}
+use Rattle.fl_words.specs.Grammar.{lines_of}
 use Rattle.fl_shell.specs.Ends.{BeginsWith, ShellEnds, Unbegun, UnbegunInto, none_pending}
 use Rattle.fl_shell.specs.Leading.{BeginsAs, Led, LedInto, LeavesOn, others_of}
 use Rattle.fl_shell.specs.Statuses.{opening_status}

@@ -3,21 +3,21 @@ use Rattle.std.proofs.Common.{◌≡◌, ℕ, ◌^◌, ◌≤◌, inl, true, fal
 use base.Fml.{GName}
 use Rattle.fl_flash.specs.Flash.{FlashState, Goes}
 use Rattle.fl_flash.specs.Media.{MediaState}
-use Rattle.fl_model.specs.Record.{Config}
-use Rattle.fl_words.specs.Grammar.{lines_of}
+use Rattle.fl_image.specs.Image.{OnlyLooksAt}
 use Rattle.fl_lines.specs.Stream.{LinesState}
 use Rattle.fl_machine.specs.Machine.{Machine}
 use Rattle.fl_machine.specs.Run.{commands_of}
 use Rattle.fl_machine.specs.Script.{StandsFor, StandsAfter}
-use Rattle.fl_jobs.specs.Image.{OnlyLooksAt}
+use Rattle.fl_model.specs.Record.{Config}
 use Rattle.fl_session.specs.Ends.{opened, told_of}
 use Rattle.fl_session.specs.Execute.{IsReady}
 use Rattle.fl_session.specs.Opening.{KeepsForm, MediaGoes, Opened}
 use Rattle.fl_session.specs.Standing.{RestsTold}
 use Rattle.fl_session.proofs.Ending.{ran-earlier}
-use Rattle.fl_session.proofs.Over.{flash-keeps, kept-formed}
+use Rattle.fl_session.proofs.Over.{kept-formed}
 use Rattle.fl_session.proofs.Ready.{stands-ready}
 use Rattle.fl_session.proofs.Rested.{opened-content, opened-formed, opened-rests}
+use Rattle.fl_words.specs.Grammar.{lines_of}
 use Rattle.fl_shell.specs.Ends.{Ended, ShellEnds}
 use Rattle.fl_shell.specs.Leading.{BeginsAs, others_of}
 use Rattle.fl_shell.specs.Reading.{IsLeft, rest_in}
@@ -106,9 +106,6 @@ over-medium config old all total stands f f' before after told told_now left_now
     subst (λ (x : MediaState). MediumEnds config old all total (StandsAfter config (Some after.content)) x.content after.content x.faults after.faults told told_now left_now flushed status) is
     (subst (λ (y : MediaState). MediumEnds config old all total (StandsAfter config (Some after.content)) f.media.content y.content f.media.faults y.faults told told_now left_now flushed status) (sym after_is)
     (medium-ends config old all total stands (StandsAfter config (Some after.content)) f.media.content f.media.faults f' told told_now left_now flushed status seen of h))
-
-pub over-keeps : (f f' : FlashState) (before after : MediaState) → f.media ≡ before → after ≡ f'.media → f.start ≡ 1024 → Goes f f' → KeepsForm before after
-over-keeps f f' before after is after_is start goes = subst (λ x. KeepsForm x after) is (subst (λ y. KeepsForm f.media y) (sym after_is) (flash-keeps f f' start goes))
 
 pub over-goes : (f f' : FlashState) (before after : MediaState) → f.media ≡ before → after ≡ f'.media → Goes f f' → MediaGoes before after
 over-goes f f' before after is after_is goes = subst (λ x. MediaGoes x after) is (subst (λ y. MediaGoes f.media y) (sym after_is) (record { tells = goes.tells; faults = goes.faults }))

@@ -12,24 +12,24 @@ use Rattle.std.proofs.lemmas.List.Splits.{slice_split_at}
 use Rattle.fl_base.specs.Causes.{HasCause}
 use Rattle.fl_base.specs.declared.stream.SinkFailed.{SinkFailed}
 use Rattle.fl_flash.specs.Flash.{FlashState}
-use Rattle.fl_jobs.specs.Words.{all_keys}
-use Rattle.fl_jobs.proofs.LineWords.{IsWord, all-append, all-weaker}
+use Rattle.fl_image.proofs.LineWords.{IsWord, all-append, all-weaker}
+use Rattle.fl_machine.proofs.LoggedSteps.{located-is}
+use Rattle.fl_machine.specs.Machine.{Machine}
+use Rattle.fl_machine.specs.Small.{AreTables}
+use Rattle.fl_machine.specs.Step.{Counts, Located, Moment, Says, Step, StepOf, WithColumns, group_reply, located, no_column, records_of}
 use Rattle.fl_model.proofs.Lists.{slice_get-some, slice_get-short}
 use Rattle.fl_model.specs.Facts.{FitsPlan, IsTable}
 use Rattle.fl_model.specs.Operators.{aggregate}
 use Rattle.fl_model.specs.Query.{matches, selected}
 use Rattle.fl_model.specs.Record.{Config, Plan, Record}
 use Rattle.fl_model.specs.Table.{Entry}
+use Rattle.fl_script.specs.Written.{Written}
+use Rattle.fl_session.specs.Keys.{all_keys}
+use Rattle.fl_session.proofs.Few.{length-filter}
+use Rattle.fl_session.specs.Execute.{Executes}
 use Rattle.fl_words.specs.Grammar.{words_in}
 use Rattle.fl_words.specs.Reply as reply
 use Rattle.fl_words.specs.Reply.{Reply, text, texts}
-use Rattle.fl_machine.proofs.LoggedSteps.{located-is}
-use Rattle.fl_machine.specs.Machine.{Machine}
-use Rattle.fl_machine.specs.Small.{AreTables}
-use Rattle.fl_machine.specs.Step.{Counts, Located, Moment, Says, Step, StepOf, WithColumns, group_reply, located, no_column, records_of}
-use Rattle.fl_script.specs.Written.{Written}
-use Rattle.fl_session.proofs.Few.{length-filter}
-use Rattle.fl_session.specs.Execute.{Executes}
 use Rattle.fl_shell.specs.FirstKey.{BeginsShort, IsBelow}
 use Rattle.fl_shell.specs.Heard.{Kept, IsFullOnFault}
 use Rattle.fl_shell.specs.Refusal.{line_of}

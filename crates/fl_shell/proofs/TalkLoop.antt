@@ -6,10 +6,7 @@ use Rattle.fl_flash.specs.Flash.{FlashState}
 use Rattle.fl_lines.specs.Stream.{LinesState}
 use Rattle.fl_lines.specs.declared.lines.LinesFault.{LinesFault}
 use Rattle.fl_lines.specs.declared.lines.LinesFault.TheVariants.{Failed, Long}
-use Rattle.fl_base.specs.declared.types.Geometry.{Geometry}
-use Rattle.fl_config.specs.Whole.{Makes}
-use Rattle.fl_model.specs.Record.{Config, Plan}
-use Rattle.fl_words.specs.Config.{Lines, whole_of}
+use Rattle.fl_model.specs.Record.{Config}
 use Rattle.fl_words.specs.Grammar.{lines_of}
 use Rattle.fl_machine.specs.Machine.{Machine}
 use Rattle.fl_machine.specs.Run.{end_of, commands_of}
@@ -229,15 +226,6 @@ session-ends config old all total stands stands_now content faults flash flash_n
     let k = h.1 in
     (h.0, (k.0, k.1, k.2, done-flushed config old k.0 stands stands_now content faults flash flash_now told told_now flushed k.3.0 (flush (moments_of k.3.0.turns) k.3.1 k.3.0.runs)))
 session-ends config old all total stands stands_now content faults flash flash_now told told_now left_now flushed status of h flush = absurd of
-
--- the plans of a configuration are those of its lines
-pub makes-plans : (lines : Lines) (config : Config) → Makes lines config → config.plans ≡ lines.plans
-makes-plans lines config makes = by_device lines.device lines.plans makes
-  where
-    by_device : (device : Option Geometry) (plans : List Plan) → whole_of config.knots device plans ≡ Some config → config.plans ≡ plans
-    by_device None plans e = cc
-    by_device (Some g) [] e = cc
-    by_device (Some g) (p ∷ plans) e = let made : Config = record { geometry = g; plans = p ∷ plans; knots = config.knots } in let same : made ≡ config = cc in sym (ap (λ (c : Config). c.plans) same)
 
 -- nothing is left to be answered
 pub talk-ended : (config : Config) (old : Machine) (total : ℕ) (stands : Machine → Type 0) (flash : FlashState) (told left_now : Option (List ℕ)) (left : List ℕ) → flash.work.reads ≡ 0 → stands old → left_now ≡ Some left → left ≡ [] →

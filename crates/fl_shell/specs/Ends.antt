@@ -2,15 +2,15 @@
 use Rattle.std.specs.Prelude.{◌≡◌, ℕ, ◌^◌, ◌<◌, ◌≤◌, ◌⊎◌, true, IsTrue, Option, Some, List, [], ◌∷◌, ◌++◌, length}
 use Rattle.fl_base.specs.Causes.{Appends, IsFront}
 use Rattle.fl_config.specs.Whole.{is_whole}
-use Rattle.fl_jobs.specs.Header.{IsAccepted}
-use Rattle.fl_jobs.specs.Image.{IsImageOf}
-use Rattle.fl_model.specs.Image.{medium_len}
-use Rattle.fl_model.specs.Record.{Config}
-use Rattle.fl_words.specs.Config.{Lines, no_lines, whole}
-use Rattle.fl_words.specs.Grammar.{lines_of}
+use Rattle.fl_image.specs.Header.{IsAccepted}
+use Rattle.fl_image.specs.Image.{IsImageOf}
 use Rattle.fl_machine.specs.Machine.{Machine}
 use Rattle.fl_machine.specs.Script.{StandsFor, StandsAfter}
+use Rattle.fl_model.specs.Image.{medium_len}
+use Rattle.fl_model.specs.Record.{Config}
 use Rattle.fl_session.specs.Ends.{Told, IsFormed, IsOther, IsUntouched, opened}
+use Rattle.fl_words.specs.Config.{Lines, no_lines, whole}
+use Rattle.fl_words.specs.Grammar.{lines_of}
 use Rattle.fl_shell.specs.Begin.{Leads, LeadsTo, IsEnded, step_of}
 use Rattle.fl_shell.specs.Talking.{MediumEnds}
 use Rattle.fl_shell.specs.declared.end.Flushed.{Flushed}

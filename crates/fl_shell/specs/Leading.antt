@@ -2,8 +2,8 @@
 use Rattle.std.specs.Prelude.{◌≡◌, ℕ, ◌^◌, ◌<◌, IsTrue, Option, Some, Result, Ok, Err, List, [], ◌∷◌, ◌++◌, length}
 use Rattle.fl_base.specs.Causes.{Appends, IsFront}
 use Rattle.fl_config.specs.Whole.{is_whole}
-use Rattle.fl_jobs.specs.Header.{IsAccepted}
-use Rattle.fl_jobs.specs.Image.{IsImageOf}
+use Rattle.fl_image.specs.Header.{IsAccepted}
+use Rattle.fl_image.specs.Image.{IsImageOf}
 use Rattle.fl_lines.specs.Stream.{LinesState}
 use Rattle.fl_words.specs.Config.{Lines, no_lines}
 use Rattle.fl_words.specs.Grammar.{lines_of}

@@ -1,13 +1,13 @@
 -- How a part of a shell may end.
 use Rattle.std.specs.Prelude.{Bool, false}
+use Rattle.fl_config.specs.declared.image.ImageRefusal.{ImageRefusal}
+use Rattle.fl_config.specs.declared.image.ImageRefusal.TheVariants.{Media, Other}
+use Rattle.fl_image.specs.declared.status.ToolStatus.{ToolStatus}
+use Rattle.fl_image.specs.declared.status.ToolStatus.TheVariants as tool
 use Rattle.fl_lines.specs.declared.lines.LinesFault.{LinesFault}
 use Rattle.fl_lines.specs.declared.lines.LinesFault.TheVariants.{Failed, Long}
 use Rattle.fl_shell.specs.declared.end.ShellStatus.{ShellStatus}
 use Rattle.fl_shell.specs.declared.end.ShellStatus.TheVariants.{Done, InputRead, OutWrite, MediaMake, Unconfigured, InputLong, NotImage, Unflushed}
-use Rattle.fl_jobs.specs.declared.status.ToolStatus.{ToolStatus}
-use Rattle.fl_jobs.specs.declared.status.ToolStatus.TheVariants as tool
-use Rattle.fl_config.specs.declared.image.ImageRefusal.{ImageRefusal}
-use Rattle.fl_config.specs.declared.image.ImageRefusal.TheVariants.{Media, Other}
 
 -- where the reading of the input fails
 abbrev pub reading_status : LinesFault → ShellStatus

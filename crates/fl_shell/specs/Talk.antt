@@ -3,21 +3,21 @@ use Rattle.std.specs.Prelude.{◌≡◌, ℕ, ◌-◌, ◌*◌, ◌^◌, ◌==�
 use Rattle.std.specs.List.{AllByRecursion, flat_map}
 use Rattle.std.specs.Fmt.{signed_decimal}
 use Rattle.fl_base.specs.Causes.{Appends, IsFront}
-use Rattle.fl_model.specs.Record.{Config, Plan, rows_per_page}
-use Rattle.fl_model.specs.Table.{Table, last_entry}
-use Rattle.fl_jobs.specs.Words.{all_keys}
-use Rattle.fl_words.specs.Command as command
-use Rattle.fl_words.specs.Command.{Command}
-use Rattle.fl_words.specs.Reply as reply
-use Rattle.fl_words.specs.Reply.{Reply, text, texts}
 use Rattle.fl_machine.specs.Machine.{Machine}
 use Rattle.fl_machine.specs.Run.{Run, end_of, commands_of}
 use Rattle.fl_machine.specs.Script.{Ran, runs}
 use Rattle.fl_machine.specs.Step.{Located, located, Moment}
+use Rattle.fl_model.specs.Record.{Config, Plan, rows_per_page}
+use Rattle.fl_model.specs.Table.{Table, last_entry}
+use Rattle.fl_session.specs.Keys.{all_keys}
 use Rattle.fl_sizing.specs.Sizes.{rows_kept}
 use Rattle.fl_sizing.specs.Text.{figure_line}
 use Rattle.fl_table.specs.Look.{counts_of}
 use Rattle.fl_table.specs.declared.counts.TableCounts.{TableCounts}
+use Rattle.fl_words.specs.Command as command
+use Rattle.fl_words.specs.Command.{Command}
+use Rattle.fl_words.specs.Reply as reply
+use Rattle.fl_words.specs.Reply.{Reply, text, texts}
 use Rattle.fl_words.specs.Medium.{device_text, table_text}
 use Rattle.fl_shell.specs.Refusal.{IsRefusal, line_of}
 use Rattle.fl_shell.specs.declared.end.Flushed.{Flushed}

@@ -2,19 +2,19 @@
 use Rattle.std.proofs.Common.{◌≡◌, ℕ, ◌<◌, ◌≤◌, ◌⊎◌, inl, inr, Bool, true, Some, None, List, [], length, refl, sym, ◌∙◌, ap, subst, arith}
 use Rattle.std.specs.List.{slice_get}
 use Rattle.std.proofs.lemmas.Option.{slice_get_within}
-use Rattle.fl_export.specs.Ends.{Keeps}
-use Rattle.fl_export.proofs.Ending.{keeps-then, looks-keeps}
-use Rattle.fl_export.proofs.Locating.{first-named, name-none, new-named, none-named}
 use Rattle.fl_flash.specs.Media.{MediaState}
-use Rattle.fl_import.proofs.Closing.{find-first}
-use Rattle.fl_jobs.specs.Header.{IsAccepted}
-use Rattle.fl_jobs.specs.Image.{IsImageOf, OnlyLooksAt}
-use Rattle.fl_jobs.specs.declared.status.ToolStatus.{ToolStatus}
-use Rattle.fl_jobs.specs.declared.status.ToolStatus.TheVariants as job
+use Rattle.fl_image.specs.Header.{IsAccepted}
+use Rattle.fl_image.specs.Image.{IsImageOf, OnlyLooksAt}
+use Rattle.fl_image.specs.declared.status.ToolStatus.{ToolStatus}
+use Rattle.fl_image.specs.declared.status.ToolStatus.TheVariants as job
+use Rattle.fl_store.proofs.Locating.{find-first}
 use Rattle.fl_model.specs.Record.{Plan}
 use Rattle.fl_model.proofs.Lists.{slice_get-some}
-use Rattle.fl_tables.specs.Tables.{AreNewTables, IsNamed, Names}
-use Rattle.fl_tables.specs.declared.tables.Entry.{Entry}
+use Rattle.fl_store.specs.MountEnds.{Keeps}
+use Rattle.fl_store.proofs.Opened.{keeps-then, looks-keeps}
+use Rattle.fl_store.proofs.Locating.{first-named, name-none, new-named, none-named}
+use Rattle.fl_store.specs.Tables.{AreNewTables, IsNamed, Names}
+use Rattle.fl_store.specs.declared.tables.Entry.{Entry}
 use Rattle.fl_words.specs.Config.{Lines}
 use Rattle.fl_ship.specs.Ends.{is_shipped}
 use Rattle.fl_ship.specs.Fits.{AreImages, AreImagesFor, AreImagesWithout, CopyKeeps, StatusFits}
@@ -27,9 +27,10 @@ use Rattle.fl_ship.specs.declared.status.ShipStatus.TheVariants.{Done, OutWrite,
 
 -- ---- causes
 
-pub fits-source : (bytes copy name : List ℕ) (status : ToolStatus) → (status ≡ job.NotImage) ⊎ (status ≡ job.Device) → (status ≡ job.NotImage → (lines : Lines) → IsAccepted lines → IsImageOf bytes lines → ⊥) → StatusFits bytes copy name (source_status status)
+pub fits-source : (bytes copy name : List ℕ) (status : ToolStatus) → (status ≡ job.NotImage) ⊎ (status ≡ job.Device) ⊎ (status ≡ job.NoMemory) → (status ≡ job.NotImage → (lines : Lines) → IsAccepted lines → IsImageOf bytes lines → ⊥) → StatusFits bytes copy name (source_status status)
 fits-source bytes copy name status (inl is) none = subst (λ (s : ToolStatus). StatusFits bytes copy name (source_status s)) (sym is) (none is)
-fits-source bytes copy name status (inr is) none = subst (λ (s : ToolStatus). StatusFits bytes copy name (source_status s)) (sym is) tt
+fits-source bytes copy name status (inr (inl is)) none = subst (λ (s : ToolStatus). StatusFits bytes copy name (source_status s)) (sym is) tt
+fits-source bytes copy name status (inr (inr is)) none = subst (λ (s : ToolStatus). StatusFits bytes copy name (source_status s)) (sym is) tt
 
 pub fits-look : (bytes copy name : List ℕ) (lines : Lines) → IsAccepted lines → IsImageOf bytes lines → (status : ShipStatus) → (status ≡ NotImage Copy) ⊎ (status ≡ Device Copy) → (status ≡ NotImage Copy → (copy ≡ [] → ⊥) × (IsImageOf copy lines → ⊥)) → StatusFits bytes copy name status
 fits-look bytes copy name lines accepted is status (inl e) other =

@@ -1,36 +1,36 @@
--- How a ship of an image ends, from how one between two images of a configuration does, and where it ends before.
-use Rattle.std.proofs.Common.{◌≡◌, ℕ, ◌+◌, ◌<◌, ◌≤◌, ◌⊎◌, inl, inr, Bool, true, false, Option, None, Some, List, [], length, sym, ◌∙◌, ap, subst, arith}
+-- How a ship of an image ends, from how one over its tables does, and where it ends before.
+use Rattle.std.proofs.Common.{◌≡◌, ℕ, ◌+◌, ◌<◌, ◌≤◌, ◌⊎◌, inl, inr, Bool, true, false, IsTrue, Option, None, Some, List, [], ◌∷◌, length, refl, sym, ◌∙◌, ap, subst, arith}
 use Rattle.std.specs.List.{slice_get}
 use Rattle.std.proofs.lemmas.Option.{slice_get_within}
 use Rattle.fl_base.specs.Causes.{Rose}
-use Rattle.fl_config.specs.Whole.{Makes}
-use Rattle.fl_export.proofs.Ending.{made-image, same-lines}
-use Rattle.fl_export.proofs.Images.{images-many, made-by}
-use Rattle.fl_export.proofs.Lines.{appends-none}
-use Rattle.fl_export.proofs.Locating.{first-named, located-first, located-none, new-named, none-named}
+use Rattle.fl_config.specs.Whole.{is_whole, Makes}
 use Rattle.fl_flash.specs.Media.{MediaState}
-use Rattle.fl_jobs.specs.Header.{IsAccepted, IsMade}
-use Rattle.fl_jobs.specs.Image.{IsImageOf, OnlyLooksAt}
-use Rattle.fl_jobs.specs.declared.status.ToolStatus.{ToolStatus}
-use Rattle.fl_jobs.specs.declared.status.ToolStatus.TheVariants as job
-use Rattle.fl_machine.specs.Machine.{Machine}
+use Rattle.fl_image.specs.Header.{IsAccepted, IsMade}
+use Rattle.fl_image.specs.Image.{IsImageOf, OnlyLooksAt}
+use Rattle.fl_image.specs.declared.status.ToolStatus.{ToolStatus}
+use Rattle.fl_image.specs.declared.status.ToolStatus.TheVariants as job
+use Rattle.fl_machine.specs.Machine.{Machine, fresh_tables}
 use Rattle.fl_machine.specs.Step.{located_from}
 use Rattle.fl_model.specs.Image.{medium_len}
 use Rattle.fl_model.specs.Record.{Plan, Config}
 use Rattle.fl_model.specs.Table.{Table}
 use Rattle.fl_model.proofs.Lists.{slice_get-some}
 use Rattle.fl_sound.proofs.NewImages.{new-image}
-use Rattle.fl_tables.specs.Tables.{AreNewTables, IsNamed, Names}
-use Rattle.fl_tables.specs.declared.tables.Entry.{Entry}
+use Rattle.fl_store.proofs.Opened.{made-image, same-lines}
+use Rattle.fl_image.proofs.Made.{made, made-by}
+use Rattle.fl_store.proofs.Images.{images-many}
+use Rattle.fl_store.proofs.Appends.{appends-none}
+use Rattle.fl_store.proofs.Locating.{first-named, located-first, located-none, new-named, none-named}
+use Rattle.fl_store.specs.Tables.{AreNewTables, IsNamed, Names}
+use Rattle.fl_store.specs.declared.tables.Entry.{Entry}
 use Rattle.fl_words.specs.Config.{Lines}
 use Rattle.fl_words.specs.Medium.{IsImage}
 use Rattle.fl_ship.specs.Ends.{Bytes, IsCopy, IsOfForm, IsUnbegun, ShipEnds, TablesShip, Told, held_in, is_shipped}
-use Rattle.fl_ship.specs.Media.{EndsOver, bytes_of, made_copy, source_status}
+use Rattle.fl_ship.specs.Media.{bytes_of, made_copy, source_status}
 use Rattle.fl_ship.specs.Tables.{IsOfTables, told_of}
 use Rattle.fl_ship.specs.declared.side.Side.TheVariants.{Source, Copy}
 use Rattle.fl_ship.specs.declared.status.ShipStatus.{ShipStatus}
 use Rattle.fl_ship.specs.declared.status.ShipStatus.TheVariants.{Done, OutWrite, NoMemory, NotImage, Device, BadImage, NoTable, Gap, OtherForm, Spent}
-use Rattle.fl_ship.proofs.Ending.{ends-seen}
 use Rattle.fl_ship.proofs.Making.{kept-copy}
 
 -- ---- the copy
@@ -66,14 +66,34 @@ no-image bytes lines config makes image empty =
     let least : 1024 ≤ medium_len config = omega arith in
     omega (arith, none, least, image.size config makes)
 
--- it is an image of the lines that the source's header tells
-pub copy-lines : (config : Config) (made : IsMade config) (content copy : List ℕ) (sources copies : List Table) (lines : Lines) → IsImage config content sources → IsAccepted lines → IsImageOf content lines → IsImage config copy copies → IsImageOf copy lines
-copy-lines config made content copy sources copies lines image accepted is copy_image =
-    made-image config (record { lines = lines; accepted = accepted; makes = same-lines config made content sources lines image accepted is }) copy copies copy_image
+-- its lines make its configuration
+pub copy-makes : (config : Config) (made : IsMade config) (bytes : List ℕ) (copies : List Table) (lines : Lines) → IsImage config bytes copies → IsAccepted lines → (bytes ≡ []) ⊎ IsImageOf bytes lines → Makes lines config
+copy-makes config made bytes copies lines image accepted own = same-lines config made bytes copies lines image accepted (own-image bytes lines own (image-some config bytes copies image))
+
+-- It is one of some tables once it is made, of a configuration that the lines make.
+pub copy-known : (config : Config) (made_so : IsMade config) (bytes now : List ℕ) (copies : List Table) (lines : Lines) → IsTrue (is_whole lines) → IsAccepted lines → (bytes ≡ []) ⊎ IsImageOf bytes lines → IsCopy config bytes copies →
+    ((configured : Config) → Makes lines configured → now ≡ made_copy configured bytes) → (configured : Config) × (tables : List Table) × Makes lines configured × IsImage configured now tables
+copy-known config made_so bytes now copies lines whole accepted (inl empty) stands content =
+    let own = made lines whole in
+    let own_made : IsMade own.0 = record { lines = lines; accepted = accepted; makes = own.1 } in
+    (own.0, fresh_tables own.0, own.1, subst (λ (l : List ℕ). IsImage own.0 l (fresh_tables own.0)) (sym (content own.0 own.1)) (copy-made own.0 bytes (fresh_tables own.0) own_made (inl (empty, refl))))
+copy-known config made_so bytes now copies lines whole accepted (inr is) stands content =
+    let own = made lines whole in
+    let image = copy-image config bytes copies stands (no-image bytes lines own.0 own.1 is) in
+    let makes = same-lines config made_so bytes copies lines image accepted is in
+    (config, copies, makes, subst (λ (l : List ℕ). IsImage config l copies) (sym (content config makes)) (copy-made config bytes copies made_so stands))
+
+-- the length of one that is made where it is empty
+pub made-length : (lines : Lines) (bytes now : List ℕ) → ((bytes ≡ [] → ⊥) → now ≡ bytes) → ((config : Config) → Makes lines config → bytes ≡ [] → length now ≡ medium_len config) → ((config : Config) → Makes lines config → (bytes ≡ [] → ⊥) → length bytes ≡ medium_len config) →
+    (config : Config) → Makes lines config → length now ≡ medium_len config
+made-length lines [] now kept fresh size config makes = fresh config makes refl
+made-length lines (byte ∷ bytes) now kept fresh size config makes =
+    let some : byte ∷ bytes ≡ [] → ⊥ = λ empty. cc empty in
+    ap (λ (l : List ℕ). length l) (kept some) ∙ size config makes some
 
 -- ---- both were mounted, or were to be
 
-table-ends : (config : Config) (sources copies : List Table) (name : List ℕ) (count : ℕ) (told : Told) (bytes : Bytes) (status : ShipStatus) → IsOfForm config sources name true → IsOfTables status →
+pub table-ends : (config : Config) (sources copies : List Table) (name : List ℕ) (count : ℕ) (told : Told) (bytes : Bytes) (status : ShipStatus) → IsOfForm config sources name true → IsOfTables status →
     TablesShip config.plans sources copies name count told (held_in config bytes) status → ShipEnds config sources copies name count told bytes status
 table-ends config sources copies name count told bytes (Done shipped) form of h = (form, h)
 table-ends config sources copies name count told bytes OutWrite form of h = (form, h)
@@ -87,17 +107,10 @@ table-ends config sources copies name count told bytes (NotImage side) form of h
 table-ends config sources copies name count told bytes NoTable form of h = absurd of
 table-ends config sources copies name count told bytes OtherForm form of h = absurd of
 
-pub over-ends : (config : Config) (sources copies : List Table) (name : List ℕ) (count : ℕ) (old mid new copy copy_mid copy_new : MediaState) (told told_now : Option (List ℕ)) (status : ShipStatus) → IsOfForm config sources name true → IsOfTables status → old.faults ≤ mid.faults → copy.faults ≤ copy_mid.faults →
-    EndsOver config sources copies name count mid new copy_mid copy_new told told_now status → ShipEnds config sources copies name count (told_of old new copy copy_new told told_now) (bytes_of old new copy copy_new) status
-over-ends config sources copies name count old mid new copy copy_mid copy_new told told_now status form of later copy_later h =
-    table-ends config sources copies name count (told_of old new copy copy_new told told_now) (bytes_of old new copy copy_new) status form of
-    (ends-seen config.plans sources copies name count (told_of mid new copy_mid copy_new told told_now) old.faults copy.faults (held_in config (bytes_of mid new copy_mid copy_new)) (held_in config (bytes_of old new copy copy_new)) (λ ts i. i) (λ ts i. i)
-    (λ rose. omega (arith, later, rose)) (λ rose. omega (arith, copy_later, rose)) status h)
-
 -- the table with the name is shipped, or isn't
-module _ (config : Config) (sources : List Table) (name content : List ℕ) (made : IsMade config) (image : IsImage config content sources) (lines : Lines) (entries : List Entry) (accepted : IsAccepted lines) (is : IsImageOf content lines) (fresh : AreNewTables entries lines) where
+module _ (config : Config) (sources : List Table) (name content : List ℕ) (image : IsImage config content sources) (lines : Lines) (entries : List Entry) (makes : Makes lines config) (fresh : AreNewTables entries lines) where
   plans_are : lines.plans ≡ config.plans
-  plans_are = (made-by lines config (same-lines config made content sources lines image accepted is)).plans_are
+  plans_are = (made-by lines config makes).plans_are
 
   pub not-named : Names entries name None → located_from 0 config.plans sources name ≡ None
   not-named none =
@@ -119,7 +132,7 @@ module _ (config : Config) (sources : List Table) (name content : List ℕ) (mad
 
 -- ---- the ship ended before
 
-module _ (config : Config) (sources copies : List Table) (name : List ℕ) (count : ℕ) (old new copy copy_new : MediaState) (told : Option (List ℕ)) (made : IsMade config) (image : IsImage config old.content sources) (stands : IsCopy config copy.content copies) (looks : OnlyLooksAt old new) where
+module _ (config : Config) (sources copies : List Table) (name : List ℕ) (count : ℕ) (old new copy copy_new : MediaState) (told : Option (List ℕ)) (image : IsImage config old.content sources) (stands : IsCopy config copy.content copies) (looks : OnlyLooksAt old new) where
   abbrev Ends : ShipStatus → Type 0
   Ends status = ShipEnds config sources copies name count (told_of old new copy copy_new told told) (bytes_of old new copy copy_new) status
 
@@ -131,27 +144,28 @@ module _ (config : Config) (sources copies : List Table) (name : List ℕ) (coun
   memory-ends copy_looks = unbegun copy_looks
 
   -- since the source wasn't opened
-  pub source-ends : OnlyLooksAt copy copy_new → (status : ToolStatus) → (status ≡ job.NotImage) ⊎ (status ≡ job.Device) → (status ≡ job.NotImage → (lines : Lines) → IsAccepted lines → IsImageOf old.content lines → ⊥) → (status ≡ job.Device → Rose old.faults new.faults) → Ends (source_status status)
-  source-ends copy_looks status (inl is) none device = absurd (none is made.lines made.accepted (made-image config made old.content sources image))
-  source-ends copy_looks status (inr is) none device = subst (λ (s : ToolStatus). Ends (source_status s)) (sym is) (inl (device is, unbegun copy_looks))
+  pub source-ends : OnlyLooksAt copy copy_new → (status : ToolStatus) → (status ≡ job.NoMemory) ⊎ (status ≡ job.Device) → (status ≡ job.Device → Rose old.faults new.faults) → Ends (source_status status)
+  source-ends copy_looks status (inl is) device = subst (λ (s : ToolStatus). Ends (source_status s)) (sym is) (unbegun copy_looks)
+  source-ends copy_looks status (inr is) device = subst (λ (s : ToolStatus). Ends (source_status s)) (sym is) (inl (device is, unbegun copy_looks))
 
   -- or since the copy was looked at in vain
-  pub look-ends : OnlyLooksAt copy copy_new → (lines : Lines) → IsAccepted lines → IsImageOf old.content lines → (status : ShipStatus) → (status ≡ NotImage Copy) ⊎ (status ≡ Device Copy) → (status ≡ NotImage Copy → (copy.content ≡ [] → ⊥) × (IsImageOf copy.content lines → ⊥)) →
+  pub look-ends : OnlyLooksAt copy copy_new → (lines : Lines) → IsAccepted lines → Makes lines config → (status : ShipStatus) → (status ≡ NotImage Copy) ⊎ (status ≡ Device Copy) → (status ≡ NotImage Copy → (copy.content ≡ [] → ⊥) × (IsImageOf copy.content lines → ⊥)) →
       (status ≡ Device Copy → Rose copy.faults copy_new.faults) → Ends status
-  look-ends copy_looks lines accepted is status (inl e) other device =
+  look-ends copy_looks lines accepted makes status (inl e) other device =
       let no = other e in
-      absurd (no.1 (copy-lines config made old.content copy.content sources copies lines image accepted is (copy-image config copy.content copies stands no.0)))
-  look-ends copy_looks lines accepted is status (inr e) other device = subst (λ (s : ShipStatus). Ends s) (sym e) (inl (device e, inl (unbegun copy_looks)))
+      let own : IsMade config = record { lines = lines; accepted = accepted; makes = makes } in
+      absurd (no.1 (made-image config own copy.content copies (copy-image config copy.content copies stands no.0)))
+  look-ends copy_looks lines accepted makes status (inr e) other device = subst (λ (s : ShipStatus). Ends s) (sym e) (inl (device e, inl (unbegun copy_looks)))
 
   -- an empty copy was made in part
   pub half-made : copy.content ≡ [] → length copy_new.content ≤ medium_len config → Rose copy.faults copy_new.faults → Ends (Device Copy)
   half-made empty part rose = inl (rose, inr (record { empty = empty; part = part; source = looks.content; quiet = appends-none told }))
 
-  module _ (lines : Lines) (entries : List Entry) (accepted : IsAccepted lines) (is : IsImageOf old.content lines) (fresh : AreNewTables entries lines) (copy_looks : OnlyLooksAt copy copy_new) where
+  module _ (lines : Lines) (entries : List Entry) (makes : Makes lines config) (fresh : AreNewTables entries lines) (copy_looks : OnlyLooksAt copy copy_new) where
     -- no table has the name
     pub nameless-ends : Names entries name None → Ends NoTable
-    nameless-ends none = (not-named config sources name old.content made image lines entries accepted is fresh none, unbegun copy_looks)
+    nameless-ends none = (not-named config sources name old.content image lines entries makes fresh none, unbegun copy_looks)
 
     -- the one that has it isn't shipped
     pub form-ends : (at : ℕ) → IsNamed entries name at → ((plan : Plan) → slice_get lines.plans at ≡ Some plan → is_shipped plan ≡ false) → Ends OtherForm
-    form-ends at named other = (formed config sources name old.content made image lines entries accepted is fresh at named false other, unbegun copy_looks)
+    form-ends at named other = (formed config sources name old.content image lines entries makes fresh at named false other, unbegun copy_looks)

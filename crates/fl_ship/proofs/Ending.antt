@@ -1,29 +1,20 @@
--- How a ship between two media ends, from how one between flashes on them does.
-use Rattle.std.proofs.Common.{◌≡◌, ℕ, inl, inr, true, false, IsTrue, Option, Some, None, List, refl, sym, ◌∙◌, ap, subst}
-use base.Fml.{GName}
+-- How a ship between two media ends, from how one between the flashes on them does.
+use Rattle.std.proofs.Common.{◌≡◌, ℕ, ◌≤◌, inl, inr, Option, List, sym, ap, subst, arith}
 use Rattle.fl_base.specs.Causes.{Rose}
-use Rattle.fl_base.specs.declared.types.Geometry.{Geometry}
-use Rattle.fl_config.specs.Whole.{Makes}
-use Rattle.fl_export.specs.Ends.{at_rest}
-use Rattle.fl_export.proofs.Ending.{at-rest}
-use Rattle.fl_export.proofs.Images.{made-by, image-tables, tables-image}
-use Rattle.fl_flash.specs.Flash.{FlashState, Goes}
+use Rattle.fl_flash.specs.Flash.{FlashState}
 use Rattle.fl_flash.specs.Media.{MediaState}
-use Rattle.fl_flash.specs.Sim.{on_medium}
 use Rattle.fl_model.specs.Record.{Plan, Config}
 use Rattle.fl_model.specs.Table.{Table}
-use Rattle.fl_ring.specs.Device.{SameDevice}
-use Rattle.fl_tables.specs.Tables.{AreNewTables, IsNamed, TablesStand}
-use Rattle.fl_tables.specs.declared.tables.Entry.{Entry}
+use Rattle.fl_store.specs.Store.{IsOnMedium}
+use Rattle.fl_store.specs.declared.tables.Entry.{Entry}
+use Rattle.fl_store.proofs.Worked.{Worked, worked-image}
 use Rattle.fl_words.specs.Config.{Lines}
-use Rattle.fl_words.specs.Medium.{IsImage}
 use Rattle.fl_ship.specs.Ends.{BothMounted, CopyFails, Holding, MountsAll, SourceFails, TablesShip, Told, held_in}
-use Rattle.fl_ship.specs.Media.{EndsOver, bytes_of}
+use Rattle.fl_ship.specs.Media.{bytes_of}
 use Rattle.fl_ship.specs.Tables.{standing_on, told_of}
 use Rattle.fl_ship.specs.declared.side.Side.TheVariants.{Source, Copy}
 use Rattle.fl_ship.specs.declared.status.ShipStatus.{ShipStatus}
 use Rattle.fl_ship.specs.declared.status.ShipStatus.TheVariants.{Done, OutWrite, NoMemory, NotImage, Device, BadImage, NoTable, Gap, OtherForm, Spent}
-use Rattle.fl_ship.proofs.Forms.{named-alike}
 
 -- ---- what stands at the end in other words, and faults that are counted from an earlier moment on
 
@@ -77,67 +68,16 @@ module _ (plans : List Plan) (sources copies : List Table) (name : List ℕ) (co
   ends-seen NoTable h = absurd h
   ends-seen OtherForm h = absurd h
 
--- ---- over flashes that were made on the media
+-- ---- over the media on which their stores were opened
 
--- one of them: its tables stand, and at the end its medium is an image of those that stand then
-module _ (config : Config) (lines : Lines) (tables : List Table) (f g : FlashState) (old new : MediaState) (geometry : Geometry) (blocks : ℕ) (origin : GName) (entries now : List Entry) (is : f ≡ on_medium geometry blocks 1024 origin true None 0 (record { reads = 0; programs = 0; erases = 0 }) old)
-    (media : new ≡ g.media) (goes : Goes f g) (device : lines.device ≡ Some geometry) (tells : IsTrue old.tells) (makes : Makes lines config) (image : IsImage config old.content tables) (made : AreNewTables entries lines) where
-  abbrev on-old : FlashState
-  on-old = on_medium geometry blocks 1024 origin true None 0 (record { reads = 0; programs = 0; erases = 0 }) old
-
-  same-geometry : geometry ≡ config.geometry
-  same-geometry = let k : ◌≡◌ {A = Option Geometry} (Some geometry) (Some config.geometry) = sym device ∙ (made-by lines config makes).device_is in cc
-
-  pub side-tells : IsTrue f.media.tells
-  side-tells = subst (λ (x : FlashState). IsTrue x.media.tells) (sym is) tells
-
-  pub side-on : f.is_on ≡ true
-  side-on = ap (λ (x : FlashState). x.is_on) is
-
-  pub side-rests : SameDevice f at_rest
-  side-rests = at-rest f geometry blocks origin old is
-
-  pub side-stands : TablesStand f (λ i. false) config.plans entries tables
-  side-stands = subst (λ x. TablesStand x (λ i. false) config.plans entries tables) (sym is) (image-tables config lines entries on-old tables refl same-geometry makes made image)
-
-  pub side-image : (ts : List Table) → TablesStand g (λ i. false) config.plans now ts → IsImage config new.content ts
-  side-image ts h =
-      let goes' : Goes on-old g = subst (λ x. Goes x g) is goes in
-      subst (λ (m : MediaState). IsImage config m.content ts) (sym media)
-      (tables-image config now g ts (goes'.size ∙ image.len) (goes'.front tells ∙ image.head) goes'.start (goes'.geometry ∙ same-geometry) h)
-
-  -- where they stand afterwards, it is one of some tables
-  pub side-now : (name : List ℕ) (at : ℕ) → IsNamed entries name at →
-      ((plans : List Plan) (ts : List Table) (asked : List ℕ) → IsTrue f.media.tells → f.is_on ≡ true → SameDevice f at_rest → TablesStand f (λ i. false) plans entries ts → IsNamed entries asked at → (after : List Table) × TablesStand g (λ i. false) plans now after) →
-      (after : List Table) × IsImage config new.content after
-  side-now name at named stands =
-      let h = stands config.plans tables name side-tells side-on side-rests side-stands named in
-      (h.0, side-image h.0 h.1)
-
-  -- .. and none of its tables is bad, where none of theirs is
-  pub side-good : (name : List ℕ) (at : ℕ) → IsNamed entries name at → (P : Type 0) →
-      ((plans : List Plan) (ts : List Table) (asked : List ℕ) → IsTrue f.media.tells → f.is_on ≡ true → SameDevice f at_rest → TablesStand f (λ i. false) plans entries ts → IsNamed entries asked at → P) → P
-  side-good name at named P good = good config.plans tables name side-tells side-on side-rests side-stands named
-
--- a ship between the flashes is one between the media
-pub flash-ends : (config : Config) (lines : Lines) (sources copies : List Table) (name : List ℕ) (count : ℕ) (f g a b : FlashState) (old new copy copy_now : MediaState) (geometry : Geometry) (blocks : ℕ) (origin copy_origin : GName) (told told_now : Option (List ℕ)) (entries now c_entries c_now : List Entry) (at : ℕ) (status : ShipStatus) →
-    f ≡ on_medium geometry blocks 1024 origin true None 0 (record { reads = 0; programs = 0; erases = 0 }) old → new ≡ g.media → Goes f g →
-    a ≡ on_medium geometry blocks 1024 copy_origin true None 0 (record { reads = 0; programs = 0; erases = 0 }) copy → copy_now ≡ b.media → Goes a b →
-    lines.device ≡ Some geometry → IsTrue old.tells → IsTrue copy.tells → Makes lines config → IsImage config old.content sources → IsImage config copy.content copies → AreNewTables entries lines → AreNewTables c_entries lines → IsNamed entries name at →
-    ((plans : List Plan) (ts cs : List Table) (asked : List ℕ) → IsTrue f.media.tells → IsTrue a.media.tells → f.is_on ≡ true → a.is_on ≡ true → SameDevice f at_rest → SameDevice a at_rest → TablesStand f (λ i. false) plans entries ts → TablesStand a (λ i. false) plans c_entries cs →
-    IsNamed entries asked at → IsNamed c_entries asked at → TablesShip plans ts cs asked count (told_of f.media g.media a.media b.media told told_now) (standing_on plans g now b c_now) status) →
-    EndsOver config sources copies name count old new copy copy_now told told_now status
-flash-ends config lines sources copies name count f g a b old new copy copy_now geometry blocks origin copy_origin told told_now entries now c_entries c_now at status is media goes c_is c_media c_goes device tells c_tells makes image c_image made c_made named ends =
-    let end = ends config.plans sources copies name (side-tells config lines sources f g old new geometry blocks origin entries now is media goes device tells makes image made) (side-tells config lines copies a b copy copy_now geometry blocks copy_origin c_entries c_now c_is c_media c_goes device c_tells makes c_image c_made)
-    (side-on config lines sources f g old new geometry blocks origin entries now is media goes device tells makes image made) (side-on config lines copies a b copy copy_now geometry blocks copy_origin c_entries c_now c_is c_media c_goes device c_tells makes c_image c_made)
-    (side-rests config lines sources f g old new geometry blocks origin entries now is media goes device tells makes image made) (side-rests config lines copies a b copy copy_now geometry blocks copy_origin c_entries c_now c_is c_media c_goes device c_tells makes c_image c_made)
-    (side-stands config lines sources f g old new geometry blocks origin entries now is media goes device tells makes image made) (side-stands config lines copies a b copy copy_now geometry blocks copy_origin c_entries c_now c_is c_media c_goes device c_tells makes c_image c_made)
-    named (named-alike entries c_entries lines made c_made name at named) in
-    let here : TablesShip config.plans sources copies name count (told_of old new copy copy_now told told_now) (standing_on config.plans g now b c_now) status =
-    subst (λ (x : MediaState). TablesShip config.plans sources copies name count (told_of old new copy x told told_now) (standing_on config.plans g now b c_now) status) (sym c_media)
-    (subst (λ (x : MediaState). TablesShip config.plans sources copies name count (told_of old x copy b.media told told_now) (standing_on config.plans g now b c_now) status) (sym media)
-    (subst (λ (x : FlashState). TablesShip config.plans sources copies name count (told_of old g.media x.media b.media told told_now) (standing_on config.plans g now b c_now) status) c_is
-    (subst (λ (x : FlashState). TablesShip config.plans sources copies name count (told_of x.media g.media a.media b.media told told_now) (standing_on config.plans g now b c_now) status) is end))) in
-    ends-seen config.plans sources copies name count (told_of old new copy copy_now told told_now) old.faults copy.faults (standing_on config.plans g now b c_now) (held_in config (bytes_of old new copy copy_now))
-    (side-image config lines sources f g old new geometry blocks origin entries now is media goes device tells makes image made) (side-image config lines copies a b copy copy_now geometry blocks copy_origin c_entries c_now c_is c_media c_goes device c_tells makes c_image c_made)
-    (λ r. r) (λ r. r) status here
+pub store-ends : (config : Config) (sources copies : List Table) (name : List ℕ) (count : ℕ) (lines : Lines) (old mid new copy copy_mid copy_new : MediaState) (f g a b : FlashState) (told told_now : Option (List ℕ)) (now copies_now : List Entry) (status : ShipStatus) →
+    Worked lines mid new f g → Worked lines copy_mid copy_new a b → IsOnMedium config f → IsOnMedium config a → old.faults ≤ mid.faults → copy.faults ≤ copy_mid.faults →
+    TablesShip config.plans sources copies name count (told_of f.media g.media a.media b.media told told_now) (standing_on config.plans g now b copies_now) status →
+    TablesShip config.plans sources copies name count (told_of old new copy copy_new told told_now) (held_in config (bytes_of old new copy copy_new)) status
+store-ends config sources copies name count lines old mid new copy copy_mid copy_new f g a b told told_now now copies_now status from onto on copy_on later copy_later h =
+    let here : TablesShip config.plans sources copies name count (told_of f.media new a.media copy_new told told_now) (standing_on config.plans g now b copies_now) status =
+    subst (λ (x : MediaState). TablesShip config.plans sources copies name count (told_of f.media new a.media x told told_now) (standing_on config.plans g now b copies_now) status) (sym onto.closed)
+    (subst (λ (x : MediaState). TablesShip config.plans sources copies name count (told_of f.media x a.media b.media told told_now) (standing_on config.plans g now b copies_now) status) (sym from.closed) h) in
+    ends-seen config.plans sources copies name count (told_of f.media new a.media copy_new told told_now) old.faults copy.faults (standing_on config.plans g now b copies_now) (held_in config (bytes_of old new copy copy_new))
+    (worked-image lines mid new f g from config on now) (worked-image lines copy_mid copy_new a b onto config copy_on copies_now)
+    (λ rose. omega (arith, later, ap (λ (m : MediaState). m.faults) from.opened.media, rose)) (λ rose. omega (arith, copy_later, ap (λ (m : MediaState). m.faults) onto.opened.media, rose)) status here

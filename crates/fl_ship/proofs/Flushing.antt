@@ -1,12 +1,12 @@
 -- The flush behind the rows of a ship.
 use Rattle.std.proofs.Common.{◌≡◌, ℕ, ◌+◌, Bool, true, false, IsTrue, Result, Ok, Err, List, [], ◌++◌, take, drop, refl, sym, ◌∙◌, ap, subst, append-nil, arith}
 use Rattle.std.proofs.lemmas.List.{drop-drop}
-use Rattle.fl_export.proofs.Risen.{has_risen}
+use Rattle.fl_store.proofs.Risen.{has_risen}
 use Rattle.fl_flash.specs.Flash.{FlashState, Goes}
 use Rattle.fl_flash.specs.declared.flash.FlashFault.TheVariants.{PowerLost, Media}
-use Rattle.fl_import.specs.Steps.{Works}
-use Rattle.fl_import.proofs.Failing.{seals-work}
-use Rattle.fl_import.proofs.OneLine.{works-broken, works-done, works-uncut}
+use Rattle.fl_store.specs.Works.{Works}
+use Rattle.fl_store.proofs.Failing.{seals-work}
+use Rattle.fl_store.proofs.Works.{works-broken, works-done, works-uncut}
 use Rattle.fl_model.specs.Record.{Record, Plan}
 use Rattle.fl_model.specs.Ship.{KeepsOf, records_in}
 use Rattle.fl_model.specs.Table as model
@@ -20,7 +20,7 @@ use Rattle.fl_table.specs.Causes as table
 use Rattle.fl_table.specs.Outcomes.{BySeals}
 use Rattle.fl_table.specs.declared.faults.FlushFault.{FlushFault}
 use Rattle.fl_table.specs.declared.faults.FlushFault.TheVariants as flush
-use Rattle.fl_tables.proofs.TablesChanged.{off-rests}
+use Rattle.fl_store.proofs.TablesChanged.{off-rests}
 use Rattle.fl_ship.specs.Puts.{HasPut}
 use Rattle.fl_ship.specs.Rows.{goes_on, FlushCausedBy, FlushesCopy, FlushKeeps, RowsKeep, RowsPut, RowsShip, Runs}
 use Rattle.fl_ship.specs.declared.fault.ShipFault.{ShipFault}

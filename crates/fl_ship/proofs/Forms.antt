@@ -2,15 +2,15 @@
 use Rattle.std.proofs.Common.{◌≡◌, ℕ, Bool, true, false, ◌||◌, not, Some, List, length, refl, sym, ◌∙◌, ap, arith}
 use Rattle.std.specs.List.{slice_get}
 use Rattle.std.proofs.lemmas.Option.{slice_get_within}
-use Rattle.fl_export.proofs.Locating.{new-named, first-named}
+use Rattle.fl_store.proofs.Locating.{new-named, first-named}
 use Rattle.fl_model.specs.Bare.{bare}
 use Rattle.fl_model.specs.Record.{Plan, RowLayout, has_log, has_var, row_layout}
 use Rattle.fl_model.proofs.Lists.{slice_get-some}
 use Rattle.fl_rlc.specs.Table.{table_in}
 use Rattle.fl_table.specs.Look.{layout_in}
-use Rattle.fl_tables.specs.Mounting.{AreSamePlans}
-use Rattle.fl_tables.specs.Tables.{AreNewTables, IsNamed}
-use Rattle.fl_tables.specs.declared.tables.Entry.{Entry}
+use Rattle.fl_store.specs.Mounting.{AreSamePlans}
+use Rattle.fl_store.specs.Tables.{AreNewTables, IsNamed}
+use Rattle.fl_store.specs.declared.tables.Entry.{Entry}
 use Rattle.fl_words.specs.Config.{Lines}
 use Rattle.fl_ship.specs.Ends.{is_shipped}
 use Rattle.fl_ship.specs.Tables.{HaveOneForm}

@@ -14,7 +14,7 @@ use Rattle.fl_model.proofs.ShipWork.{Drops, drops-none, drops-trans, effect-drop
 use Rattle.fl_flash.specs.declared.flash.FlashFault.TheVariants as flash
 use Rattle.fl_table.specs.declared.faults.FlushFault.TheVariants as flush
 use Rattle.fl_table.specs.declared.faults.PutRefusal.TheVariants as put
-use Rattle.fl_import.specs.Puts.{FailsInPut, FailsInFlush}
+use Rattle.fl_store.specs.Works.{FailsInPut, FailsInFlush}
 use Rattle.fl_ship.specs.Puts.{HasPut, ShipsKeep, put_all}
 use Rattle.fl_ship.specs.declared.fault.ShipFault.TheVariants.{Read, Put, Flush}
 

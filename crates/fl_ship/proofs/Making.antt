@@ -6,8 +6,8 @@ use Rattle.fl_base.specs.Causes.{Rose}
 use Rattle.fl_config.specs.Opening.{Differs, IsBroken, IsFound, IsMade, IsOther}
 use Rattle.fl_config.specs.Whole.{is_whole, Makes}
 use Rattle.fl_flash.specs.Media.{MediaState}
-use Rattle.fl_jobs.specs.Image.{IsImageOf, OnlyLooksAt}
-use Rattle.fl_jobs.proofs.Made.{made}
+use Rattle.fl_image.specs.Image.{IsImageOf, OnlyLooksAt}
+use Rattle.fl_image.proofs.Made.{made}
 use Rattle.fl_model.specs.Image.{medium_len}
 use Rattle.fl_model.specs.Record.{Config}
 use Rattle.fl_words.specs.Config.{Lines}

@@ -6,7 +6,7 @@ use Rattle.std.proofs.lemmas.List.{take_all}
 use Rattle.fl_base.specs.declared.types.KeyRange.{KeyRange}
 use Rattle.fl_flash.specs.Flash.{FlashState}
 use Rattle.fl_flash.specs.declared.flash.FlashFault.TheVariants as flash
-use Rattle.fl_import.specs.Steps.{Works}
+use Rattle.fl_store.specs.Works.{Works}
 use Rattle.fl_model.specs.Bare.{bare, bare_table}
 use Rattle.fl_model.specs.Query.{selected}
 use Rattle.fl_model.specs.Record.{Record, Plan, RowLayout, has_var}
@@ -27,7 +27,7 @@ use Rattle.fl_table.specs.Standing.{Stands}
 use Rattle.fl_table.specs.declared.faults.FlushFault.TheVariants as flush
 use Rattle.fl_table.specs.declared.faults.PutRefusal.TheVariants as put
 use Rattle.fl_table.specs.declared.table.Table as memory
-use Rattle.fl_tables.proofs.TablesChanged.{off-rests}
+use Rattle.fl_store.proofs.TablesChanged.{off-rests}
 use Rattle.fl_ship.specs.Ends.{shipped_records}
 use Rattle.fl_ship.specs.Missing.{keys_above, FollowsOn, LooksForGap}
 use Rattle.fl_ship.specs.Puts.{HasPut, ShipsGiven}

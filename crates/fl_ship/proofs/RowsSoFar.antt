@@ -5,12 +5,12 @@ use Rattle.std.proofs.Math.Seq.{take-append-add}
 use Rattle.std.proofs.lemmas.List.{map-append, map_push, take_at, take_all, drop_at, length-map, length_push, length-take}
 use Rattle.std.proofs.lemmas.Bool.{ltb-true}
 use Rattle.std.proofs.lemmas.Option.{same_Some}
-use Rattle.fl_export.proofs.Risen.{has_risen, watched}
+use Rattle.fl_store.proofs.Risen.{has_risen, watched}
 use Rattle.fl_flash.specs.Flash.{FlashState, Goes}
 use Rattle.fl_flash.specs.declared.flash.FlashFault.TheVariants.{PowerLost, Media}
-use Rattle.fl_import.specs.Steps.{Works}
-use Rattle.fl_import.proofs.Failing.{put-work}
-use Rattle.fl_import.proofs.OneLine.{works-broken, works-uncut}
+use Rattle.fl_store.specs.Works.{Works}
+use Rattle.fl_store.proofs.Failing.{put-work}
+use Rattle.fl_store.proofs.Works.{works-broken, works-uncut}
 use Rattle.fl_model.specs.Puts.{TablePuts}
 use Rattle.fl_model.specs.Query.{is_above}
 use Rattle.fl_model.specs.Record.{Record, Plan}
@@ -32,7 +32,7 @@ use Rattle.fl_rlc.specs.Refusal.{RefusedSame}
 use Rattle.fl_rlc.specs.declared.table.LoggedTable.{LoggedTable}
 use Rattle.fl_table.specs.declared.faults.PutRefusal.{PutRefusal}
 use Rattle.fl_table.specs.declared.faults.PutRefusal.TheVariants as put
-use Rattle.fl_tables.proofs.TablesChanged.{off-rests}
+use Rattle.fl_store.proofs.TablesChanged.{off-rests}
 use Rattle.fl_ship.specs.Puts.{AreAccepted, ComesTo, HasPut, put_all}
 use Rattle.fl_ship.specs.Rows.{PutCausedBy, RowsKeep, RowsPut, Runs}
 use Rattle.fl_ship.specs.declared.fault.ShipFault.{ShipFault}

@@ -2,16 +2,17 @@
 use Rattle.std.proofs.Common.{◌≡◌, ℕ, ◌+◌, ◌≤◌, inl, inr, true, false, IsTrue, Option, None, Some, Result, Ok, Err, List, [], map, sym, ◌∙◌, ap, subst, arith}
 use Rattle.std.specs.List.{slice_get}
 use Rattle.fl_base.specs.Causes.{Rose, Appends}
-use Rattle.fl_export.specs.Ends.{at_rest, has_name}
-use Rattle.fl_export.proofs.Lines.{appends-none}
-use Rattle.fl_export.proofs.Locating.{located-first, stand-named, first-named}
-use Rattle.fl_export.proofs.Reading.{tables-read}
-use Rattle.fl_export.proofs.Risen.{has_risen, risen-rose}
-use Rattle.fl_export.proofs.Unmounted.{off, unmounted}
+use Rattle.fl_store.specs.Store.{at_rest}
+use Rattle.fl_store.specs.Named.{has_name}
+use Rattle.fl_store.proofs.Appends.{appends-none}
+use Rattle.fl_store.proofs.Locating.{located-first, stand-named, first-named}
+use Rattle.fl_store.proofs.Reading.{tables-read}
+use Rattle.fl_store.proofs.Risen.{has_risen, risen-rose}
+use Rattle.fl_store.proofs.Unmounted.{off, unmounted}
 use Rattle.fl_flash.specs.Flash.{FlashState, Goes, page_at}
 use Rattle.fl_flash.specs.declared.flash.FlashFault.{FlashFault}
 use Rattle.fl_flash.specs.declared.flash.FlashFault.TheVariants.{PowerLost, Media}
-use Rattle.fl_import.proofs.Changed.{own, holds}
+use Rattle.fl_store.proofs.Changed.{own, holds}
 use Rattle.fl_machine.specs.Step.{located_from, all_ready}
 use Rattle.fl_model.specs.Bare.{bare_table}
 use Rattle.fl_model.specs.Record.{Plan}
@@ -26,10 +27,10 @@ use Rattle.fl_rlc.specs.declared.table.LoggedTable.{LoggedTable}
 use Rattle.fl_table.specs.declared.faults.FlushFault.TheVariants as flush
 use Rattle.fl_table.specs.declared.faults.MountFault.{MountFault}
 use Rattle.fl_table.specs.declared.faults.PutRefusal.TheVariants as put
-use Rattle.fl_tables.specs.Tables.{first_of, entries_with, IsNamed, TablesStand, TablesMounted, MountBreaks}
-use Rattle.fl_tables.specs.declared.tables.Entry.{Entry}
-use Rattle.fl_tables.proofs.Going.{rose-front, rose-back}
-use Rattle.fl_tables.proofs.TablesChanged.{AtPlace, some-is}
+use Rattle.fl_store.specs.Tables.{first_of, entries_with, IsNamed, TablesStand, TablesMounted, MountBreaks}
+use Rattle.fl_store.specs.declared.tables.Entry.{Entry}
+use Rattle.fl_store.proofs.Going.{rose-front, rose-back}
+use Rattle.fl_store.proofs.TablesChanged.{AtPlace, some-is}
 use Rattle.fl_ship.specs.Ends.{BothMounted, Holding, IsBroken, IsGapBetween, IsUnread, MountsAll, ShipsSo, TablesShip}
 use Rattle.fl_ship.specs.Tables.{StopCausedBy, ShipLeaves, TellsShipped, mount_status, standing_on, stop_status, told_of}
 use Rattle.fl_ship.specs.declared.fault.ShipFault.TheVariants.{Read, Put, Flush}

@@ -1,9 +1,9 @@
 -- The statuses of a ship of tables.
 use Rattle.std.proofs.Common.{◌≡◌, ℕ, true, refl, sym, ◌∙◌}
-use Rattle.fl_export.specs.Tables as export
+use Rattle.fl_store.specs.Status as store
 use Rattle.fl_flash.specs.declared.flash.FlashFault.{FlashFault}
 use Rattle.fl_flash.specs.declared.flash.FlashFault.TheVariants.{PowerLost, Media}
-use Rattle.fl_jobs.specs.declared.status.ToolStatus.TheVariants as job
+use Rattle.fl_image.specs.declared.status.ToolStatus.TheVariants as job
 use Rattle.fl_page.specs.declared.fault.BadPage.{BadPage}
 use Rattle.fl_page.specs.declared.fault.ReadFault.TheVariants as read
 use Rattle.fl_table.specs.declared.faults.FlushFault.TheVariants as flush
@@ -37,7 +37,7 @@ not-refused OtherForm of is = of
 -- ---- a mount that failed
 
 -- its status tells the device where that of another job does
-pub mount-device : (side : Side) (e : MountFault) (at : ℕ) → export.mount_status e at ≡ job.Device → mount_status side e at ≡ Device side
+pub mount-device : (side : Side) (e : MountFault) (at : ℕ) → store.mount_status e at ≡ job.Device → mount_status side e at ≡ Device side
 mount-device side (mount.Flash Media) at is = refl
 mount-device side (mount.Flash PowerLost) at is = absurd (cc is)
 mount-device side (mount.Ring e) at is = absurd (cc is)

@@ -5,7 +5,7 @@ use Rattle.std.specs.Option.{option_map}
 use Rattle.std.proofs.lemmas.List.{append-nil}
 use Rattle.std.proofs.lemmas.Option.{slice_get-map}
 use Rattle.std.proofs.Math.Seq.{take-length}
-use Rattle.fl_export.specs.Ends.{at_rest}
+use Rattle.fl_store.specs.Store.{at_rest}
 use Rattle.fl_machine.specs.Machine.{Machine, begins}
 use Rattle.fl_machine.specs.Step.{Located, all_ready, located_from}
 use Rattle.fl_machine.proofs.LogMoves.{changed_at-there}

@@ -1,8 +1,6 @@
 -- How a ship ends, by its status, over two media of which each stands for tables.
 use Rattle.std.specs.Prelude.{◌≡◌, ◌⊎◌, ℕ, ◌≤◌, Bool, true, false, not, ◌||◌, IsTrue, Option, Some, None, Result, Ok, Err, List, [], length, map, take}
 use Rattle.fl_base.specs.Causes.{Rose, Appends, AppendsFront}
-use Rattle.fl_export.specs.Ends as export
-use Rattle.fl_export.specs.Ends.{MountFails, at_rest}
 use Rattle.fl_flash.specs.declared.flash.FlashFault.{FlashFault}
 use Rattle.fl_flash.specs.declared.flash.FlashFault.TheVariants as flash
 use Rattle.fl_machine.specs.Machine.{begins}
@@ -16,6 +14,9 @@ use Rattle.fl_model.specs.Table.{Table, lose}
 use Rattle.fl_model.specs.Within.{with_table}
 use Rattle.fl_model.specs.Work.{Progress}
 use Rattle.fl_page.specs.declared.fault.ReadFault.TheVariants as read
+use Rattle.fl_store.specs.MountEnds as store
+use Rattle.fl_store.specs.MountEnds.{MountFails}
+use Rattle.fl_store.specs.Store.{at_rest}
 use Rattle.fl_table.specs.declared.faults.FlushFault.TheVariants as flush
 use Rattle.fl_table.specs.declared.faults.PutRefusal.TheVariants as put
 use Rattle.fl_words.specs.Medium.{IsImage}
@@ -38,10 +39,10 @@ pub record Told : Type 0 where
   pub written_now : Option (List ℕ)
 
 -- how the faults of a medium rose, for a mount of its tables
-abbrev pub of_source : Told → export.Told
+abbrev pub of_source : Told → store.Told
 of_source told = record { written = told.written; written_now = told.written_now; faults = told.source; faults_now = told.source_now }
 
-abbrev pub of_copy : Told → export.Told
+abbrev pub of_copy : Told → store.Told
 of_copy told = record { written = told.written; written_now = told.written_now; faults = told.copy; faults_now = told.copy_now }
 
 -- all tables of a medium were mounted

@@ -1,10 +1,11 @@
 -- The causes of a ship's statuses, over any bytes, and what becomes of the two media.
 use Rattle.std.specs.Prelude.{◌≡◌, ◌⊎◌, ℕ, ◌≤◌, ◌<◌, Bool, true, false, Some, List, [], length, find}
-use Rattle.fl_export.specs.Ends.{IsImageWith, Keeps}
 use Rattle.fl_flash.specs.Media.{MediaState}
-use Rattle.fl_jobs.specs.Header.{IsAccepted}
-use Rattle.fl_jobs.specs.Image.{IsImageOf}
+use Rattle.fl_image.specs.Header.{IsAccepted}
+use Rattle.fl_image.specs.Image.{IsImageOf}
 use Rattle.fl_model.specs.Record.{Plan, bytes_equal}
+use Rattle.fl_store.specs.Named.{IsImageWith}
+use Rattle.fl_store.specs.MountEnds.{Keeps}
 use Rattle.fl_words.specs.Config.{Lines}
 use Rattle.fl_ship.specs.Ends.{is_shipped}
 use Rattle.fl_ship.specs.declared.side.Side.TheVariants.{Source, Copy}

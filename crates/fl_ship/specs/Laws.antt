@@ -2,7 +2,7 @@
 -- a part of all that the first one ever had, and reaches its end.
 use Rattle.std.specs.Prelude.{◌≡◌, ◌⊎◌, ℕ, ◌<◌, None, Some, Result, Ok, List, [], slice_get}
 use Rattle.std.specs.List.{last_or}
-use Rattle.fl_jobs.specs.Header.{IsMade}
+use Rattle.fl_image.specs.Header.{IsMade}
 use Rattle.fl_machine.specs.Step.{located_from}
 use Rattle.fl_model.specs.Record.{Record, Plan, Config}
 use Rattle.fl_model.specs.Ship as model

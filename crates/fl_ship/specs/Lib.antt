@@ -7,6 +7,5 @@ pub mod Ends
 pub mod Fits
 pub mod Tables
 pub mod Media
-pub mod Needs
 pub mod Ready
 pub mod Laws

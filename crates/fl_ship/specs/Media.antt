@@ -1,16 +1,14 @@
--- How a ship ends over two media, and what is made of the copy's.
-use Rattle.std.specs.Prelude.{◌⊎◌, ℕ, Option, Result, Ok, Err, List, [], ◌∷◌}
+-- The bytes of two media, and what is made of the copy's.
+use Rattle.std.specs.Prelude.{◌⊎◌, ℕ, Result, Ok, Err, List, [], ◌∷◌}
 use Rattle.fl_config.specs.Opening as opening
 use Rattle.fl_flash.specs.Media.{MediaState}
-use Rattle.fl_jobs.specs.declared.status.ToolStatus.{ToolStatus}
-use Rattle.fl_jobs.specs.declared.status.ToolStatus.TheVariants as job
+use Rattle.fl_image.specs.declared.status.ToolStatus.{ToolStatus}
+use Rattle.fl_image.specs.declared.status.ToolStatus.TheVariants as job
 use Rattle.fl_model.specs.Image.{medium_len}
 use Rattle.fl_model.specs.Record.{Config}
-use Rattle.fl_model.specs.Table.{Table}
 use Rattle.fl_sound.specs.Sound.{new_image}
 use Rattle.fl_words.specs.Medium.{header}
-use Rattle.fl_ship.specs.Ends.{Bytes, TablesShip, held_in}
-use Rattle.fl_ship.specs.Tables.{told_of}
+use Rattle.fl_ship.specs.Ends.{Bytes}
 use Rattle.fl_ship.specs.declared.side.Side.TheVariants.{Source, Copy}
 use Rattle.fl_ship.specs.declared.status.ShipStatus.{ShipStatus}
 use Rattle.fl_ship.specs.declared.status.ShipStatus.TheVariants.{Done, OutWrite, NoMemory, NotImage, Device, BadImage, NoTable, Gap, OtherForm, Spent}
@@ -27,6 +25,7 @@ made_copy config (byte ∷ bytes) = byte ∷ bytes
 -- the status of a source that isn't opened
 abbrev pub source_status : ToolStatus → ShipStatus
 source_status job.Device = Device Source
+source_status job.NoMemory = NoMemory
 source_status status = NotImage Source
 
 -- a copy is opened as an image of the configuration: an empty one is made
@@ -44,8 +43,3 @@ OpensCopy config old (Err NoTable) new = ⊥
 OpensCopy config old (Err (Gap last oldest)) new = ⊥
 OpensCopy config old (Err OtherForm) new = ⊥
 OpensCopy config old (Err Spent) new = ⊥
-
--- how a ship ends over two media that are images of a configuration
-abbrev pub EndsOver : Config → List Table → List Table → List ℕ → ℕ → MediaState → MediaState → MediaState → MediaState → Option (List ℕ) → Option (List ℕ) → ShipStatus → Type 0
-EndsOver config sources copies name count source source_now copy copy_now told told_now status =
-    TablesShip config.plans sources copies name count (told_of source source_now copy copy_now told told_now) (held_in config (bytes_of source source_now copy copy_now)) status

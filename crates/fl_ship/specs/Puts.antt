@@ -1,7 +1,7 @@
 -- Records that are put into a table one after another, and the flush behind them.
 use Rattle.std.specs.Prelude.{◌≡◌, ℕ, ◌≤◌, None, Some, Result, Ok, Err, List, [], ◌∷◌, length, take, slice_get}
 use Rattle.fl_flash.specs.declared.flash.FlashFault.TheVariants as flash
-use Rattle.fl_import.specs.Puts.{FailsInPut, FailsInFlush}
+use Rattle.fl_store.specs.Works.{FailsInPut, FailsInFlush}
 use Rattle.fl_model.specs.Record.{Record, Plan}
 use Rattle.fl_model.specs.Ship.{KeepsOf, records_in}
 use Rattle.fl_model.specs.Table as model

@@ -1,17 +1,18 @@
 -- Two media between which a ship may begin, and the end of one that doesn't.
 use Rattle.std.specs.Prelude.{◌≡◌, ◌⊎◌, ℕ, ◌<◌, IsTrue, true, Option, Some, List, [], length, slice_get}
+use Rattle.fl_base.specs.declared.types.Geometry.{Geometry}
 use Rattle.fl_config.specs.Whole.{is_whole, Makes}
 use Rattle.fl_flash.specs.Media.{MediaState}
-use Rattle.fl_jobs.specs.Header.{IsAccepted, IsMade}
-use Rattle.fl_jobs.specs.Image.{IsImageOf}
+use Rattle.fl_image.specs.Header.{IsAccepted, IsMade}
+use Rattle.fl_image.specs.Image.{IsImageOf}
 use Rattle.fl_model.specs.Image.{medium_len}
 use Rattle.fl_model.specs.Record.{Config, Plan}
 use Rattle.fl_model.specs.Table.{Table}
-use Rattle.fl_tables.specs.Tables.{IsNamed}
+use Rattle.fl_store.specs.Store.{IsLayoutOf}
+use Rattle.fl_store.specs.Tables.{IsNamed}
 use Rattle.fl_words.specs.Medium.{IsImage}
 use Rattle.fl_ship.specs.Ends.{IsCopy, ShipEnds, is_shipped}
 use Rattle.fl_ship.specs.Media.{bytes_of}
-use Rattle.fl_ship.specs.Needs.{AreNeedsOf}
 use Rattle.fl_ship.specs.Tables.{told_of}
 use Rattle.fl_ship.specs.declared.ready.Ready.{Ready}
 use Rattle.fl_ship.specs.declared.status.ShipStatus.{ShipStatus}
@@ -21,12 +22,17 @@ use Rattle.fl_ship.specs.declared.status.ShipStatus.TheVariants.{Done, OutWrite,
 -- is empty.
 pub record IsReady (ready : Ready) (name : List ℕ) (source copy : MediaState) : Type 0 where
   pub whole : IsTrue (is_whole ready.config)
-  pub needs : AreNeedsOf ready.needs ready.config
+  pub source_layout : IsLayoutOf ready.source ready.config
+  pub copy_layout : IsLayoutOf ready.copy ready.config
+  pub rows : (geometry : Geometry) → ready.config.device ≡ Some geometry → length ready.rooms.rows.bytes ≡ geometry.page
+  pub index : (geometry : Geometry) → ready.config.device ≡ Some geometry → length ready.rooms.index.bytes ≡ geometry.page
   pub at : ready.at < length ready.config.plans
-  pub named : IsNamed ready.needs.sources.entries.items name ready.at
+  pub named : IsNamed ready.source.tables.entries.items name ready.at
+  pub copy_named : IsNamed ready.copy.tables.entries.items name ready.at
   pub shipped : (plan : Plan) → slice_get ready.config.plans ready.at ≡ Some plan → is_shipped plan ≡ true
   pub size : (config : Config) → Makes ready.config config → length source.content ≡ medium_len config
   pub copy_size : (config : Config) → Makes ready.config config → (copy.content ≡ [] → ⊥) → length copy.content ≡ medium_len config
+  pub makes : (config : Config) (tables : List Table) → IsTrue source.tells → IsMade config → IsImage config source.content tables → Makes ready.config config
   pub image : IsTrue source.tells → IsAccepted ready.config × IsImageOf source.content ready.config
   pub own : IsTrue copy.tells → (copy.content ≡ []) ⊎ IsImageOf copy.content ready.config
 

@@ -3,8 +3,8 @@ use Rattle.std.specs.Prelude.{◌≡◌, ℕ, Bool, true, false, IsTrue, OnOk, R
 use Rattle.fl_flash.specs.Flash.{FlashState}
 use Rattle.fl_flash.specs.declared.flash.FlashFault.{FlashFault}
 use Rattle.fl_flash.specs.declared.flash.FlashFault.TheVariants as flash
-use Rattle.fl_import.specs.Puts.{FailsInFlush}
-use Rattle.fl_import.specs.Steps.{Works}
+use Rattle.fl_store.specs.Works.{FailsInFlush}
+use Rattle.fl_store.specs.Works.{Works}
 use Rattle.fl_model.specs.Record.{Record, Plan}
 use Rattle.fl_model.specs.Ship.{KeepsOf, records_in}
 use Rattle.fl_model.specs.Table as model

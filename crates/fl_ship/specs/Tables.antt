@@ -11,13 +11,13 @@ use Rattle.fl_model.specs.Table.{lose}
 use Rattle.fl_page.specs.declared.fault.ReadFault.TheVariants as read
 use Rattle.fl_rlc.specs.Logged.{Rests}
 use Rattle.fl_rlc.specs.Table.{table_in}
+use Rattle.fl_store.specs.Tables.{TablesStand}
+use Rattle.fl_store.specs.declared.tables.Entry.{Entry}
 use Rattle.fl_table.specs.Look.{layout_in}
 use Rattle.fl_table.specs.declared.faults.FlushFault.TheVariants as flush
 use Rattle.fl_table.specs.declared.faults.MountFault.{MountFault}
 use Rattle.fl_table.specs.declared.faults.MountFault.TheVariants as mount
 use Rattle.fl_table.specs.declared.faults.PutRefusal.TheVariants as put
-use Rattle.fl_tables.specs.Tables.{TablesStand}
-use Rattle.fl_tables.specs.declared.tables.Entry.{Entry}
 use Rattle.fl_ship.specs.Ends.{Told, Holding, IsGapBetween, IsUnread, ShipsSo}
 use Rattle.fl_ship.specs.Rows.{ShipCausedBy}
 use Rattle.fl_ship.specs.Text.{shipped_text}

@@ -2,7 +2,7 @@
 ghost use Rattle.std.specs.Prelude.{◌≡◌, ◌⊎◌, ◌≤◌, [], Err, IfErr, IsTrue, OnOk, length};
 ghost use Rattle.fl_base.specs.Causes.{Rose};
 ghost use Rattle.fl_config.specs.Whole.{is_whole, Makes};
-ghost use Rattle.fl_jobs.specs.Image.{IsImageOf, OnlyLooksAt};
+ghost use Rattle.fl_image.specs.Image.{IsImageOf, OnlyLooksAt};
 ghost use Rattle.fl_model.specs.Image.{medium_len};
 ghost use Rattle.fl_model.specs.Record.{Config as Configured};
 ghost use Rattle.fl_ship.specs.Media.{OpensCopy, made_copy};

@@ -5,7 +5,6 @@ mod copy;
 mod fault;
 mod laws;
 mod missing;
-mod needs;
 mod ready;
 mod report;
 mod rooms;

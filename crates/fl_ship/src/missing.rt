@@ -19,7 +19,7 @@ use crate::stop::Stop;
 use fl_base::{KeyRange, Steps};
 use fl_flash::Flash;
 use fl_page::{ReadFault, RowHere};
-use fl_tables::{Cursor, Table};
+use fl_store::{Cursor, Table};
 
 /// The range of all keys.
 const ALL_KEYS: KeyRange = KeyRange {

@@ -1,7 +1,7 @@
 // Two media between which a ship may begin.
 ghost use Rattle.std.specs.Prelude.{◌≡◌, ◌<◌, Some, length, slice_get, IsTrue, IfErr, IfOk, Err};
 ghost use Rattle.fl_base.specs.Causes.{Rose};
-ghost use Rattle.fl_jobs.specs.Image.{OnlyLooksAt};
+ghost use Rattle.fl_image.specs.Image.{OnlyLooksAt};
 ghost use Rattle.fl_model.specs.Record.{Plan};
 ghost use Rattle.fl_ship.specs.Ends.{is_shipped};
 ghost use Rattle.fl_ship.specs.Fits.{StatusFits};
@@ -11,21 +11,26 @@ ghost use Rattle.fl_ship.specs.declared.side.Side.{Side};
 ghost use Rattle.fl_ship.specs.declared.status.ShipStatus.{ShipStatus};
 
 use crate::copy::look_at_copy;
-use crate::needs::Needs;
+use crate::rooms::Rooms;
 use crate::{ShipStatus, Side};
 use fl_base::Name;
 use fl_config::Config;
 use fl_flash::Media;
-use fl_jobs::{ToolStatus, config_of_image};
-use fl_script::LineRoom;
+use fl_image::ToolStatus;
+use fl_store::{FoundImage, Layout};
 use std::alloc::Global;
 
-/// What a ship begins with, where neither medium is refused.
+/// What a ship begins with, where neither medium is refused. All memory is taken before anything of the copy is made.
 #[derive(Drop)]
 pub(crate) struct Ready {
     /// The configuration of both.
     pub(crate) config: Config,
-    pub(crate) needs: Needs,
+    /// What the store of the source takes.
+    pub(crate) source: Layout,
+    /// .. and that of the copy.
+    pub(crate) copy: Layout,
+    /// Room for pages of either.
+    pub(crate) rooms: Rooms,
     /// The place of the table, from 0.
     pub(crate) at: usize,
 }
@@ -36,6 +41,7 @@ fn source_status(status: ToolStatus) -> ShipStatus
 {
     match status {
         ToolStatus::Device => ShipStatus::Device { side: Side::Source },
+        ToolStatus::NoMemory => ShipStatus::NoMemory,
         _ => ShipStatus::NotImage { side: Side::Source },
     }
 }
@@ -65,22 +71,31 @@ pub(crate) fn make_ready<M: Media, C: Media>(
     ensures looks { OnlyLooksAt (M.state media.old) (M.state media.new) }
     ensures copy_looks { OnlyLooksAt (C.state copy.old) (C.state copy.new) }
 {
-    let Ok(mut lines) = LineRoom::new(alloc) else {
-        return Err(ShipStatus::NoMemory);
-    };
-    let config = match config_of_image(media, &mut lines) {
-        Ok(config) => config,
+    let FoundImage {
+        config,
+        layout: source,
+    } = match FoundImage::on(alloc, media) {
+        Ok(found) => found,
         Err(status) => return Err(source_status(status)),
     };
     look_at_copy(&config, copy)?;
-    let Ok(needs) = Needs::new(alloc, &config) else {
+    let Ok(layout) = Layout::new(alloc, &config) else {
         return Err(ShipStatus::NoMemory);
     };
-    let Some(at) = needs.sources.find(name) else {
+    let Ok(rooms) = Rooms::new(alloc, config.geometry().page) else {
+        return Err(ShipStatus::NoMemory);
+    };
+    let Some(at) = source.find(name) else {
         return Err(ShipStatus::NoTable);
     };
     if !is_shipped(&config, at) {
         return Err(ShipStatus::OtherForm);
     }
-    Ok(Ready { config, needs, at })
+    Ok(Ready {
+        config,
+        source,
+        copy: layout,
+        rooms,
+        at,
+    })
 }

@@ -1,7 +1,7 @@
 // Rows that are put into the table of a copy.
 ghost use Rattle.std.specs.Prelude.{◌≡◌, ◌≤◌, ◌<◌, ◌+◌, ℕ, ℤ, Bool, true, false, not, None, Some, IsTrue, IfErr, IfOk, OnOk, Err, is_ok, slice_index, List, length, take, drop};
 ghost use Rattle.fl_flash.specs.Flash.{Goes, page_at};
-ghost use Rattle.fl_import.specs.Steps.{Works};
+ghost use Rattle.fl_store.specs.Works.{Works};
 ghost use Rattle.fl_model.specs.Query.{is_above};
 ghost use Rattle.fl_model.specs.Record.{Plan};
 ghost use Rattle.fl_model.specs.Table as model;
@@ -25,11 +25,11 @@ ghost use Rattle.fl_ship.specs.declared.fault.ShipFault.{ShipFault};
 
 use crate::ShipFault;
 use fl_flash::Flash;
-use fl_jobs::values_of;
+use fl_ops::values_of;
 use fl_page::{RowHere, Rows};
 use fl_schema::RowRef;
+use fl_store::LoggedTable;
 use fl_table::PutRefusal;
-use fl_tables::LoggedTable;
 
 /// No byte is above 255: so each row that is read from bytes fits its layout.
 fn bytes_are_small(bytes: &[u8])

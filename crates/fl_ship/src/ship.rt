@@ -1,102 +1,28 @@
 // The ship of records of a table between two media.
-ghost use Rattle.std.specs.Prelude.{◌≡◌, ◌⊎◌, ◌≤◌, ◌<◌, ℕ, true, Some, List, length, slice_get, IsTrue};
+ghost use Rattle.std.specs.Prelude.{◌≡◌, ◌⊎◌, ◌≤◌, ℕ, true, List, IsTrue};
 ghost use Rattle.fl_base.specs.Causes.{Rose};
-ghost use Rattle.fl_config.specs.Whole.{is_whole, Makes};
-ghost use Rattle.fl_export.specs.Ends.{AreRepaired, Keeps};
-ghost use Rattle.fl_import.specs.Ends.{OthersAreRepaired};
-ghost use Rattle.fl_jobs.specs.Header.{IsMade};
-ghost use Rattle.fl_jobs.specs.Image.{OnlyLooksAt};
-ghost use Rattle.fl_model.specs.Image.{medium_len};
-ghost use Rattle.fl_model.specs.Record.{Config as Configured, Plan};
+ghost use Rattle.fl_image.specs.Header.{IsMade};
+ghost use Rattle.fl_image.specs.Image.{OnlyLooksAt};
+ghost use Rattle.fl_model.specs.Record.{Config as Configured};
 ghost use Rattle.fl_model.specs.Table as model;
-ghost use Rattle.fl_tables.specs.Tables.{IsNamed};
+ghost use Rattle.fl_store.specs.MountEnds.{Keeps};
+ghost use Rattle.fl_store.specs.Repaired.{AreRepaired, OthersAreRepaired};
 ghost use Rattle.fl_words.specs.Medium.{IsImage};
-ghost use Rattle.fl_ship.specs.Ends.{IsCopy, ShipEnds, is_shipped};
+ghost use Rattle.fl_ship.specs.Ends.{IsCopy, ShipEnds};
 ghost use Rattle.fl_ship.specs.Fits.{AreImagesFor, CopyKeeps, StatusFits, is_refused};
-ghost use Rattle.fl_ship.specs.Media.{EndsOver, bytes_of};
-ghost use Rattle.fl_ship.specs.Needs.{AreNeedsOf};
-ghost use Rattle.fl_ship.specs.Tables.{IsOfTables, told_of};
+ghost use Rattle.fl_ship.specs.Media.{bytes_of};
+ghost use Rattle.fl_ship.specs.Tables.{told_of};
 ghost use Rattle.fl_ship.specs.declared.side.Side.{Side};
 ghost use Rattle.fl_ship.specs.declared.status.ShipStatus.{ShipStatus};
 
 use crate::ShipStatus;
 use crate::copy::make_copy;
-use crate::needs::Needs;
 use crate::ready::{Ready, make_ready};
 use crate::tables::ship_on;
 use fl_base::{Name, Sink};
-use fl_config::Config;
-use fl_flash::{Media, SimFlash};
-use fl_jobs::HEADER;
+use fl_flash::Media;
+use fl_store::Store;
 use std::alloc::Global;
-
-/// Ships records of the table at this place, where both media are images of the configuration.
-fn ship_over<M: Media, C: Media, K: Sink>(
-    config: &Config,
-    needs: Needs,
-    at: usize,
-    count: u64,
-    media: &mut M,
-    copy: &mut C,
-    out: &mut K,
-) -> ShipStatus
-    requires whole { IsTrue (is_whole config.now) }
-    requires needs { AreNeedsOf needs config.now }
-    requires at { at < length config.now.plans }
-    requires shipped { (plan : Plan) → slice_get config.now.plans at ≡ Some plan → is_shipped plan ≡ true }
-    requires size { (configured : Configured) → Makes config.now configured → length (M.state media.old).content ≡ medium_len configured }
-    requires copy_size { (configured : Configured) → Makes config.now configured → length (C.state copy.old).content ≡ medium_len configured }
-    ensures ends { (configured : Configured) (ts cs : List model.Table) (name : List ℕ) → IsTrue (M.state media.old).tells → IsTrue (C.state copy.old).tells → Makes config.now configured
-        → IsImage configured (M.state media.old).content ts → IsImage configured (C.state copy.old).content cs → IsNamed needs.sources.entries.items name at
-        → EndsOver configured ts cs name count (M.state media.old) (M.state media.new) (C.state copy.old) (C.state copy.new) (K.written out.old) (K.written out.new) result }
-    ensures repairs { (configured : Configured) (ts : List model.Table) (name : List ℕ) → IsTrue (M.state media.old).tells → Makes config.now configured → IsImage configured (M.state media.old).content ts
-        → IsNamed needs.sources.entries.items name at → (result ≡ ShipStatus.Device Side.Source → ⊥) → AreRepaired configured (M.state media.old).content (M.state media.new).content }
-    ensures others { (configured : Configured) (cs : List model.Table) (name : List ℕ) → IsTrue (C.state copy.old).tells → Makes config.now configured → IsImage configured (C.state copy.old).content cs
-        → IsNamed needs.sources.entries.items name at → (result ≡ ShipStatus.Device Side.Copy → ⊥) → OthersAreRepaired configured name (C.state copy.old).content (C.state copy.new).content }
-    ensures stands { (configured : Configured) (ts : List model.Table) (name : List ℕ) → IsTrue (M.state media.old).tells → Makes config.now configured → IsImage configured (M.state media.old).content ts
-        → IsNamed needs.sources.entries.items name at → (now : List model.Table) × IsImage configured (M.state media.new).content now }
-    ensures copy_stands { (configured : Configured) (cs : List model.Table) (name : List ℕ) → IsTrue (C.state copy.old).tells → Makes config.now configured → IsImage configured (C.state copy.old).content cs
-        → IsNamed needs.sources.entries.items name at → (now : List model.Table) × IsImage configured (C.state copy.new).content now }
-    ensures good { (configured : Configured) (ts : List model.Table) (name : List ℕ) (table : ℕ) → IsTrue (M.state media.old).tells → Makes config.now configured → IsImage configured (M.state media.old).content ts
-        → IsNamed needs.sources.entries.items name at → result ≡ ShipStatus.BadImage Side.Source table → ⊥ }
-    ensures good_copy { (configured : Configured) (cs : List model.Table) (name : List ℕ) (table : ℕ) → IsTrue (C.state copy.old).tells → Makes config.now configured → IsImage configured (C.state copy.old).content cs
-        → IsNamed needs.sources.entries.items name at → result ≡ ShipStatus.BadImage Side.Copy table → ⊥ }
-    ensures statuses { IsOfTables result }
-    ensures device { result ≡ ShipStatus.Device Side.Source → Rose (M.state media.old).faults (M.state media.new).faults }
-    ensures copy_device { result ≡ ShipStatus.Device Side.Copy → Rose (C.state copy.old).faults (C.state copy.new).faults }
-    ensures write { result ≡ ShipStatus.OutWrite → Rose (K.faults out.old) (K.faults out.new) }
-    ensures bad { (side : Side) (table : ℕ) → result ≡ ShipStatus.BadImage side table → table < length config.now.plans }
-    ensures later { K.faults out.old ≤ K.faults out.new }
-    ensures keeps { Keeps (M.state media.old) (M.state media.new) }
-    ensures copy_keeps { Keeps (C.state copy.old) (C.state copy.new) }
-{
-    let Needs {
-        mut sources,
-        mut copies,
-        mut rooms,
-        flash,
-        copy_flash,
-    } = needs;
-    // Its call tells the proof how few tables there are.
-    let _tables = config.tables();
-    let geometry = config.geometry();
-    let blocks = config.blocks();
-    let mut from = SimFlash::with_room(media, geometry, blocks, HEADER as u64, flash);
-    let mut onto = SimFlash::with_room(copy, geometry, blocks, HEADER as u64, copy_flash);
-    let status = ship_on(
-        &mut sources,
-        &mut from,
-        &mut copies,
-        &mut onto,
-        at,
-        count,
-        &mut rooms,
-        out,
-    );
-    let _copy = onto.into_media();
-    let _media = from.into_media();
-    status
-}
 
 /// Puts the records of a table of the image on a medium that come after those of a copy's table, at most `count`, into that table,
 /// flushes it, and writes how many they were. The copy is an image of the same configuration on a medium of its own, and is made
@@ -149,12 +75,40 @@ pub fn ship_image<M: Media, C: Media, K: Sink>(
     ensures keeps { Keeps (M.state media.old) (M.state media.new) }
     ensures copy_keeps { CopyKeeps (M.state media.old).content (C.state copy.old) (C.state copy.new) }
 {
-    let Ready { config, needs, at } = match make_ready(alloc, name, media, copy) {
+    let Ready {
+        config,
+        source,
+        copy: layout,
+        mut rooms,
+        at,
+    } = match make_ready(alloc, name, media, copy) {
         Ok(ready) => ready,
         Err(status) => return status,
     };
     if let Err(status) = make_copy(&config, copy) {
         return status;
     }
-    ship_over(&config, needs, at, count, media, copy, out)
+    // Its call tells the proof how few tables there are.
+    let _tables = config.tables();
+    let Store {
+        flash: mut from,
+        tables: mut sources,
+    } = Store::over(media, &config, false, source);
+    let Store {
+        flash: mut onto,
+        tables: mut copies,
+    } = Store::over(copy, &config, false, layout);
+    let status = ship_on(
+        &mut sources,
+        &mut from,
+        &mut copies,
+        &mut onto,
+        at,
+        count,
+        &mut rooms,
+        out,
+    );
+    let _copy = onto.into_media();
+    let _media = from.into_media();
+    status
 }

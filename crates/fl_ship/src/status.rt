@@ -7,8 +7,8 @@ use crate::stop::Stop;
 use crate::{ShipFault, Side};
 use fl_flash::FlashFault;
 use fl_page::ReadFault;
+use fl_store::BadMount;
 use fl_table::{FlushFault, MountFault, PutRefusal};
-use fl_tables::BadMount;
 
 /// How a ship ends.
 #[derive(Clone, Copy, Debug, PartialEq, Eq)]

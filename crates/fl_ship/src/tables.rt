@@ -1,10 +1,10 @@
 // The ship of a table between two flashes.
 ghost use Rattle.std.specs.Prelude.{◌≡◌, ◌≤◌, ◌<◌, ◌*◌, ℕ, false, true, None, Some, IsTrue, IfErr, IfOk, Err, List, length, sum_by};
 ghost use Rattle.fl_base.specs.Causes.{Rose};
-ghost use Rattle.fl_export.specs.Ends.{at_rest};
+ghost use Rattle.fl_store.specs.Store.{at_rest};
 ghost use Rattle.fl_flash.specs.Flash.{Goes, page_at};
-ghost use Rattle.fl_import.specs.Ends.{IsOfOther};
-ghost use Rattle.fl_import.specs.Steps.{Works};
+ghost use Rattle.fl_store.specs.Repaired.{IsOfOther};
+ghost use Rattle.fl_store.specs.Works.{Works};
 ghost use Rattle.fl_model.specs.Record.{Plan, blocks_of};
 ghost use Rattle.fl_model.specs.Table as model;
 ghost use Rattle.fl_page.specs.Contents.{OnlyReads};
@@ -17,9 +17,9 @@ ghost use Rattle.fl_rlc.specs.Table.{table_in, IsSamePlan, OutsideStands};
 ghost use Rattle.fl_table.specs.Look.{last_key_in, layout_in};
 ghost use Rattle.fl_table.specs.Memory.{is_running, LiesOn};
 ghost use Rattle.fl_table.specs.Standing.{Stands};
-ghost use Rattle.fl_tables.specs.Repaired.{IsLeft};
-ghost use Rattle.fl_tables.specs.Tables.{IsNamed, LieOn, TablesStand};
-ghost use Rattle.fl_tables.specs.declared.tables.Entry.{Entry};
+ghost use Rattle.fl_store.specs.Repaired.{IsLeft};
+ghost use Rattle.fl_store.specs.Tables.{IsNamed, LieOn, TablesStand};
+ghost use Rattle.fl_store.specs.declared.tables.Entry.{Entry};
 ghost use Rattle.fl_ship.specs.Ends.{TablesShip};
 ghost use Rattle.fl_ship.specs.Tables.{HaveOneForm, IsOfTables, ShipLeaves, StopCausedBy, TellsShipped, standing_on, told_of};
 ghost use Rattle.fl_ship.specs.declared.fault.ShipFault.{ShipFault};
@@ -36,7 +36,7 @@ use crate::stop::Stop;
 use crate::{ShipStatus, Side};
 use fl_base::Sink;
 use fl_flash::Flash;
-use fl_tables::{Cursor, LoggedTable, Table, Tables};
+use fl_store::{Cursor, LoggedTable, Table, Tables};
 
 /// Ships the records of a table that come after those of its copy, at most `count`, and tells how many they were. Both are mounted.
 fn ship_table<A: Flash, B: Flash>(

@@ -4,7 +4,7 @@ use Rattle.std.specs.List.{slice_get}
 use Rattle.std.specs.Option.{unwrap_or}
 use Rattle.std.proofs.lemmas.List.{append-nil}
 use Rattle.std.proofs.Math.Seq.{drop-length, take-length}
-use Rattle.fl_jobs.specs.Header.{IsMade}
+use Rattle.fl_image.specs.Header.{IsMade}
 use Rattle.fl_machine.specs.Machine.{Machine, begins, fresh_tables}
 use Rattle.fl_machine.specs.Run.{Run, end_of}
 use Rattle.fl_machine.specs.Script.{StandsFor}
@@ -14,14 +14,14 @@ use Rattle.fl_model.specs.Record.{Config, Plan, Record, bytes_equal}
 use Rattle.fl_model.specs.Ship as model
 use Rattle.fl_model.specs.Ship.{CopyRests, IsPart, KeepsOf, Shipment, records_in}
 use Rattle.fl_model.specs.Table.{Table, fresh_table, lose}
-use Rattle.fl_words.specs.Command.{Command}
-use Rattle.fl_words.specs.Medium.{IsImage}
 use Rattle.fl_model.proofs.ShipWork.{Drops, drops-none, drops-trans}
 use Rattle.fl_ship.specs.Ends.{IsHalfMade, is_shipped}
 use Rattle.fl_ship.specs.Laws.{AreSteps, shipment_of}
 use Rattle.fl_ship.specs.declared.side.Side.TheVariants.{Copy}
 use Rattle.fl_ship.specs.declared.status.ShipStatus.TheVariants.{Device}
 use Rattle.fl_ship.proofs.Steps.{copies-rest, lost-there, no-log, ships-are-steps}
+use Rattle.fl_words.specs.Command.{Command}
+use Rattle.fl_words.specs.Medium.{IsImage}
 use Rattle.fl_shipped.specs.Growing.{written_in}
 use Rattle.fl_shipped.specs.Shipped.{AllHappen, CopiesOfImagesAreParts, CopyEmptied, CopyRuns, CopyRunsOver, Event, Happens, HasPart, KeepParts, Media, RunsTo, Ships, ShipsOver, SourceRuns, Stand, State, Writes, bytes_of, empty_media, first_state}
 use Rattle.fl_shipped.proofs.Growing.{ascends-on, begins-kept, run-keeps}

@@ -1,6 +1,6 @@
 -- Over everything that is done to a source and its copy: the copy has a part of all that was ever written into the source.
 use Rattle.std.specs.Prelude.{◌≡◌, ◌⊎◌, ℕ, true, Some, List, [], ◌∷◌, ◌++◌, map}
-use Rattle.fl_jobs.specs.Header.{IsMade}
+use Rattle.fl_image.specs.Header.{IsMade}
 use Rattle.fl_machine.specs.Machine.{Machine, begins, fresh_tables}
 use Rattle.fl_machine.specs.Run.{Run, commands_of, end_of}
 use Rattle.fl_machine.specs.Script.{StandsAfter, StandsFor}

@@ -5,13 +5,13 @@ use Rattle.std.proofs.lemmas.List.{length-map}
 use Rattle.fl_base.specs.Causes.{IsFront, Appends, AppendsFront}
 use Rattle.fl_base.specs.declared.types.Geometry.{Geometry}
 use Rattle.fl_config.specs.Whole.{Makes}
-use Rattle.fl_jobs.specs.Checking.{IsFound, AreFound, ImageEnds, CheckEnds, TellsSound as Tells}
-use Rattle.fl_jobs.specs.Header.{IsAccepted}
-use Rattle.fl_jobs.specs.Image.{IsImageOf}
-use Rattle.fl_jobs.specs.Report.{is_sound, report_text}
-use Rattle.fl_jobs.specs.declared.status.ToolStatus.{ToolStatus}
-use Rattle.fl_jobs.specs.declared.status.ToolStatus.TheVariants.{Done, InputRead, OutWrite, InputLong, NoMemory, NotImage, Device, BadImage, NoTable, BadInput, Unsound}
-use Rattle.fl_jobs.proofs.ReadBack.{one-header}
+use Rattle.fl_image_check.specs.Checking.{IsFound, AreFound, ImageEnds, CheckEnds, TellsSound as Tells}
+use Rattle.fl_image.specs.Header.{IsAccepted}
+use Rattle.fl_image.specs.Image.{IsImageOf}
+use Rattle.fl_image_check.specs.Report.{is_sound, report_text}
+use Rattle.fl_image.specs.declared.status.ToolStatus.{ToolStatus}
+use Rattle.fl_image.specs.declared.status.ToolStatus.TheVariants.{Done, InputRead, OutWrite, InputLong, NoMemory, NotImage, Device, BadImage, NoTable, BadInput, Unsound}
+use Rattle.fl_image.proofs.ReadBack.{one-header}
 use Rattle.fl_model.specs.Image.{AreTableImages, medium_len}
 use Rattle.fl_model.specs.Record.{Plan, Config}
 use Rattle.fl_model.specs.Table.{Table}
@@ -22,7 +22,7 @@ use Rattle.fl_check.specs.declared.finding.Finding.{Finding}
 use Rattle.fl_sound.specs.Sound.{sound_table, sound_text, Finds, TablesAreSound}
 use Rattle.fl_sound.specs.Sound as law
 use Rattle.fl_sound.proofs.Fronts.{all-of, report-front, front-nothing, front-all, front-longer}
-use Rattle.fl_sound.proofs.Making.{made-by}
+use Rattle.fl_image.proofs.Made.{made-by}
 use Rattle.fl_sound.proofs.NewImages.{new-image}
 use Rattle.fl_sound.proofs.Scripts.{made}
 use Rattle.fl_sound.proofs.Whole.{table-sound, image-sound, run-sound, check-sound}
@@ -33,7 +33,7 @@ same-geometry q = cc
 -- the same lines make the same header and the same length
 module _ (lines : Lines) (a b : Config) (makes_a : Makes lines a) (makes_b : Makes lines b) where
   one-geometry : a.geometry ≡ b.geometry
-  one-geometry = same-geometry (sym (made-by lines a makes_a).geometry_is ∙ (made-by lines b makes_b).geometry_is)
+  one-geometry = same-geometry (sym (made-by lines a makes_a).device_is ∙ (made-by lines b makes_b).device_is)
 
   one-plans : a.plans ≡ b.plans
   one-plans = sym (made-by lines a makes_a).plans_are ∙ (made-by lines b makes_b).plans_are
@@ -78,7 +78,7 @@ module _ (lines : Lines) (config : Config) (bytes : List ℕ) (tables : List Tab
       one-header (take 1024 bytes) found lines (let k = length-take 1024 bytes in omega (arith, k)) accepted_found is.head accepted is-image.head
 
   finds : (i : ℕ) (table : Table) (finding : Finding) → slice_get tables i ≡ Some table → IsFound Finds lines bytes i finding → finding ≡ sound_table table
-  finds i table finding there found = check-sound config lines bytes tables i table finding (made-by lines config makes).geometry_is (made-by lines config makes).plans_are image there found
+  finds i table finding there found = check-sound config lines bytes tables i table finding (made-by lines config makes).device_is (made-by lines config makes).plans_are image there found
 
   -- one that was found of some table is sound
   all-good : (i : ℕ) (finding : Finding) → IsFound Finds lines bytes i finding → is_sound finding ≡ true

@@ -1,7 +1,7 @@
 -- Fronts of a report, and what is written of one.
 use Rattle.std.proofs.Common.{◌≡◌, ℕ, Option, List, [], ◌∷◌, ◌++◌, length, length-append, append_assoc, append-nil, refl, sym, ◌∙◌, ap, arith}
 use Rattle.fl_base.specs.Causes.{IsFront, Appends, AppendsFront}
-use Rattle.fl_jobs.specs.Report.{finding_text, report_text}
+use Rattle.fl_image_check.specs.Report.{finding_text, report_text}
 use Rattle.fl_model.specs.Record.{Plan}
 use Rattle.fl_check.specs.declared.finding.Finding.{Finding}
 

@@ -10,12 +10,12 @@ use Rattle.std.proofs.lemmas.List.{length-map, length-replicate}
 use Rattle.fl_base.specs.declared.types.Geometry.{Geometry}
 use Rattle.fl_config.specs.Whole.{Makes}
 use Rattle.fl_config.proofs.Texts.{column_name-is, name_of-short}
-use Rattle.fl_jobs.specs.Header.{IsAccepted}
-use Rattle.fl_jobs.proofs.AcceptedLines.{IsTaken, AreTaken, Stands, accepted-stands}
-use Rattle.fl_jobs.proofs.ColumnWords.{named-are_typed}
-use Rattle.fl_jobs.proofs.Numbers.{IsSigned}
-use Rattle.fl_jobs.proofs.ReadBack.{test-passes}
-use Rattle.fl_jobs.proofs.ReadWords.{IsTableRead}
+use Rattle.fl_image.specs.Header.{IsAccepted}
+use Rattle.fl_image.proofs.AcceptedLines.{IsTaken, AreTaken, Stands, accepted-stands}
+use Rattle.fl_image.proofs.ColumnWords.{named-are_typed}
+use Rattle.fl_image.proofs.Numbers.{IsSigned}
+use Rattle.fl_image.proofs.ReadBack.{test-passes}
+use Rattle.fl_image.proofs.ReadWords.{IsTableRead}
 use Rattle.fl_model.specs.Record.{Column, Plan, Config}
 use Rattle.fl_schema.specs.Types.{column_of}
 use Rattle.fl_schema.specs.declared.column.ColumnType.{ColumnType}
@@ -24,7 +24,7 @@ use Rattle.fl_words.specs.Config as words
 use Rattle.fl_words.specs.Config.{Lines, plan_of, columns_in, bad_log, first_fault, table_faults}
 use Rattle.fl_words.specs.Grammar.{greatest_number, is_name, is_letter, is_digit}
 use Rattle.fl_words.specs.Medium.{column_name, line_text, device_text, table_text, header}
-use Rattle.fl_sound.proofs.Making.{made-by}
+use Rattle.fl_image.proofs.Made.{made-by}
 
 -- the bytes of words with one more for each
 abbrev spaced : List (List ℕ) → ℕ
@@ -158,7 +158,7 @@ tables-short geometry before (plan ∷ plans) taken =
 made-stands : (lines : Lines) (config : Config) → IsAccepted lines → Makes lines config → Stands (Some config.geometry) config.plans
 made-stands lines config accepted makes =
     let made = made-by lines config makes in
-    subst (λ (device : Option Geometry). Stands device config.plans) made.geometry_is (subst (λ (plans : List Plan). Stands lines.device plans) made.plans_are (accepted-stands lines accepted))
+    subst (λ (device : Option Geometry). Stands device config.plans) made.device_is (subst (λ (plans : List Plan). Stands lines.device plans) made.plans_are (accepted-stands lines accepted))
 
 -- the header has its 1,024 bytes
 pub header-length : (lines : Lines) (config : Config) → IsAccepted lines → Makes lines config → length (header config) ≡ 1024

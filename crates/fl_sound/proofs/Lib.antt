@@ -12,7 +12,6 @@ pub mod LogPart
 pub mod VarPart
 pub mod Whole
 pub mod Fronts
-pub mod Making
 pub mod HeaderLength
 pub mod NewImages
 pub mod Checks

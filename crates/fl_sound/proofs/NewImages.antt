@@ -11,7 +11,7 @@ use Rattle.fl_model.specs.Table.{fresh_table}
 use Rattle.fl_table.specs.Pages.{place_in}
 use Rattle.fl_rlc.proofs.Images.{rests-image, blank-rests}
 use Rattle.fl_words.specs.Medium.{IsImage, header}
-use Rattle.fl_jobs.specs.Header.{IsMade}
+use Rattle.fl_image.specs.Header.{IsMade}
 use Rattle.fl_sound.specs.Sound.{new_image}
 use Rattle.fl_sound.proofs.HeaderLength.{header-length}
 

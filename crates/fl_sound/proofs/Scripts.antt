@@ -3,7 +3,7 @@ use Rattle.std.proofs.Common.{◌≡◌, ℕ, ◌+◌, Option, Some, None, Resul
 use Rattle.std.specs.Option.{option_and_then}
 use Rattle.fl_base.specs.declared.types.Geometry.{Geometry}
 use Rattle.fl_config.specs.Whole.{Makes}
-use Rattle.fl_jobs.specs.Header.{unless_refused, after_command, after_lines, IsMade}
+use Rattle.fl_image.specs.Header.{unless_refused, after_command, after_lines, IsMade}
 use Rattle.fl_machine.specs.Script.{Ready, start_with, start_config, start_line, start_from, start_of, ended}
 use Rattle.fl_model.specs.Record.{Plan, Config}
 use Rattle.fl_words.specs.Command as command

@@ -7,8 +7,8 @@ use Rattle.fl_base.specs.declared.types.Geometry.{Geometry}
 use Rattle.fl_base.specs.declared.types.RingPlace.{RingPlace}
 use Rattle.fl_flash.specs.Flash.{FlashState, page_at}
 use Rattle.fl_flash.specs.Places.{extent}
-use Rattle.fl_jobs.specs.Checking.{IsFound}
-use Rattle.fl_jobs.proofs.Ringed.{fits, log-fits}
+use Rattle.fl_image_check.specs.Checking.{IsFound}
+use Rattle.fl_image_check.proofs.Ringed.{fits, log-fits}
 use Rattle.fl_machine.specs.Machine.{Machine}
 use Rattle.fl_machine.specs.Script.{StandsAfter}
 use Rattle.fl_model.specs.Bare.{bare, bare_table}

@@ -4,11 +4,11 @@ use Rattle.fl_base.specs.Causes.{Appends, AppendsFront}
 use Rattle.fl_base.specs.declared.types.RingPlace.{RingPlace}
 use Rattle.fl_flash.specs.Flash.{FlashState, page_at}
 use Rattle.fl_flash.specs.Places.{extent}
-use Rattle.fl_jobs.specs.Checking.{IsFound, CheckEnds}
-use Rattle.fl_jobs.specs.Header.{IsMade}
-use Rattle.fl_jobs.specs.Report.{report_text}
-use Rattle.fl_jobs.specs.declared.status.ToolStatus.{ToolStatus}
-use Rattle.fl_jobs.specs.declared.status.ToolStatus.TheVariants.{Done, NotImage, Unsound}
+use Rattle.fl_image_check.specs.Checking.{IsFound, CheckEnds}
+use Rattle.fl_image.specs.Header.{IsMade}
+use Rattle.fl_image_check.specs.Report.{report_text}
+use Rattle.fl_image.specs.declared.status.ToolStatus.{ToolStatus}
+use Rattle.fl_image.specs.declared.status.ToolStatus.TheVariants.{Done, NotImage, Unsound}
 use Rattle.fl_machine.specs.Machine.{Machine, fresh_tables}
 use Rattle.fl_machine.specs.Script.{Ready, start_of, ended, StandsAfter}
 use Rattle.fl_model.specs.Bare.{bare}

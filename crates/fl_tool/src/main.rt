@@ -13,13 +13,12 @@ ghost use Rattle.std.specs.Prelude.{◌≤◌, IfSome};
 
 use crate::ships::ship_told;
 use fl_base::{Sink, Source};
-use fl_command::{Ending, Exit, Help, plan, reason_of, tool};
+use fl_command::{Ending, Exit, Help, ToolJob, plan, reason_of, ship_of, tool, tool_of};
 use fl_edge::{
     Access, FileMedia, Prompted, ReplyBuffer, StandardDescriptors, StandardInput, StandardOutput,
     SyncedMedia, is_missing, remove_empty,
 };
 use fl_flash::Media;
-use fl_jobs::{ToolJob, ship_of, tool_of};
 use fl_reason::{Tail, TailSource};
 use fl_session::{Status, image_of, run};
 use fl_shell::{ShellEnd, ShellStatus, shell, shell_of};

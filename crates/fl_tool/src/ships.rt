@@ -1,10 +1,9 @@
 // A ship between two files.
-use fl_command::{Ending, Exit, ship};
+use fl_command::{Ending, Exit, ShipJob, ship};
 use fl_edge::{
     Access, FileMedia, ReplyBuffer, StandardOutput, is_missing, is_same_file, remove_empty,
 };
 use fl_flash::Media;
-use fl_jobs::ShipJob;
 use fl_session::Status;
 use std::alloc::Global;
 use std::cell::RefCell;

@@ -3,7 +3,7 @@ use Rattle.std.proofs.lemmas.Result.{err_from_is_err_and}
 use Rattle.fl_model.specs.Query.{Stands, blob_of}
 use Rattle.fl_var.specs.Reading.{bytes_left}
 use Rattle.fl_export.proofs.Readers.{reads-kept, bytes-kept, whole-kept}
-use Rattle.fl_export.proofs.Reading.{unread-later}
+use Rattle.fl_export.proofs.Unread.{unread-later}
 use Rattle.fl_export.proofs.blob.take_opened.Goals as goal
 
 pub returns-in_err-take_bytes-clause-unread : goal.returns-in_err-take_bytes-clause-unread

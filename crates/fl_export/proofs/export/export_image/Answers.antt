@@ -1,97 +1,110 @@
-use Rattle.std.proofs.Common.{◌<◌, Err, refl, inl, arith, length, IsTrue, List, ℕ, sym, ap, subst}
-use Rattle.fl_jobs.specs.declared.status.ToolStatus.{ToolStatus}
-use Rattle.fl_words.specs.Medium.{IsImage}
-use Rattle.fl_export.proofs.Ending.{over-ends, looks-keeps, keeps-then, same-lines}
-use Rattle.fl_export.proofs.Repairing.{still-repaired, repaired-after}
-use Rattle.fl_export.proofs.Statuses.{looks-same, fits-table, fits-early, image-without, image-with, not-early, not-unsound, memory-ends, early-ends, nameless-ends}
+use Rattle.std.proofs.Common.{◌≡◌, ◌<◌, ◌≤◌, inl, rules, length, sym, ◌∙◌, ap, subst, arith}
+use Rattle.std.proofs.lemmas.Option.{slice_get_within}
+use Rattle.fl_base.specs.declared.types.Geometry.{Geometry}
+use Rattle.fl_image.specs.declared.status.ToolStatus.TheVariants.{NoMemory}
+use Rattle.fl_store.specs.FoundTable.{FindsNone}
+use Rattle.fl_store.specs.Tables.{IsNamed}
+use Rattle.fl_store.specs.declared.tables.Tables.{Tables}
+use Rattle.fl_store.proofs.FoundTables.{found-holds}
+use Rattle.fl_store.proofs.Going.{rose-back}
+use Rattle.fl_store.proofs.Named.{image-with}
+use Rattle.fl_store.proofs.Opened.{looks-keeps, keeps-then}
+use Rattle.fl_store.proofs.Repairing.{still-repaired, repaired-after}
+use Rattle.fl_store.proofs.TablesChanged.{some-is}
+use Rattle.fl_store.proofs.Worked.{worked-by, worked-keeps, worked-repaired, worked-rose}
+use Rattle.fl_export.specs.Rooms.{HasRooms}
+use Rattle.fl_export.specs.Tables.{IsOfTable}
+use Rattle.fl_export.proofs.Ending.{early-ends, ends-seen}
+use Rattle.fl_export.proofs.Statuses.{fits-early, fits-table, not-early}
 use Rattle.fl_export.proofs.export.export_image.Goals as goal
 
-pub returns-in_default-clause-ends : goal.returns-in_default-clause-ends
-returns-in_default-clause-ends g c = λ config tables tells made image. memory-ends config tables c.args.name c.args.range (g.M.Media.state c.args.media.now) (g.M.Media.state c.args.media.now) (g.K.Sink.written c.args.out.now) (looks-same _)
-
-pub returns-in_default-clause-keeps : goal.returns-in_default-clause-keeps
-returns-in_default-clause-keeps g c = looks-keeps _ _ (looks-same _)
-
 pub returns-in-Err-clause-ends : goal.returns-in-Err-clause-ends
-returns-in-Err-clause-ends g c = λ config tables tells made image.
-    early-ends config tables c.args.name c.args.range (g.M.Media.state c.args.media.now) (g.M.Media.state c.config_of_image.new.media) (g.K.Sink.written c.args.out.now) c.in-Err.status made image c.in-Err.ensures.looks c.in-Err.ensures.statuses
-    (λ is. c.in-Err.ensures.none (ap (λ (s : ToolStatus). Err s) is) tells) (λ is. c.in-Err.ensures.device (ap (λ (s : ToolStatus). Err s) is))
-
-pub returns-in-Err-clause-fits : goal.returns-in-Err-clause-fits
-returns-in-Err-clause-fits g c = λ tells. fits-early (g.M.Media.state c.args.media.now).content c.args.name c.in-Err.status c.in-Err.ensures.statuses (λ is. c.in-Err.ensures.none (ap (λ (s : ToolStatus). Err s) is) tells)
-
-pub returns-in-Err-clause-keeps : goal.returns-in-Err-clause-keeps
-returns-in-Err-clause-keeps g c = looks-keeps _ _ c.in-Err.ensures.looks
-
-pub returns-in_default-plan-clause-ends : goal.returns-in_default-plan-clause-ends
-returns-in_default-plan-clause-ends g c = λ config tables tells made image.
-    memory-ends config tables c.args.name c.args.range (g.M.Media.state c.args.media.now) (g.M.Media.state c.config_of_image.new.media) (g.K.Sink.written c.args.out.now) c.in-Ok-config_of_image.ensures.looks
-
-pub returns-in_default-plan-clause-keeps : goal.returns-in_default-plan-clause-keeps
-returns-in_default-plan-clause-keeps g c = looks-keeps _ _ c.in-Ok-config_of_image.ensures.looks
-
-pub returns-in_default-find-clause-ends : goal.returns-in_default-find-clause-ends
-returns-in_default-find-clause-ends g c = λ config tables tells made image.
-    let found = c.in-Ok-config_of_image.ensures.image tells in
-    nameless-ends config tables c.args.name c.args.range (g.M.Media.state c.args.media.now) (g.M.Media.state c.config_of_image.new.media) (g.K.Sink.written c.args.out.now) c.in-Ok-config_of_image.config c.in-Ok-plan.tables.entries.items
-    made image c.in-Ok-config_of_image.ensures.looks found.0 found.1 c.in-Ok-plan.ensures c.in_default-find.ensures
-
-pub returns-in_default-find-clause-fits : goal.returns-in_default-find-clause-fits
-returns-in_default-find-clause-fits g c = λ tells.
-    let found = c.in-Ok-config_of_image.ensures.image tells in
-    image-without (g.M.Media.state c.args.media.now).content c.args.name c.in-Ok-config_of_image.config c.in-Ok-plan.tables.entries.items found.0 found.1 c.in-Ok-plan.ensures c.in_default-find.ensures
-
-pub returns-in_default-find-clause-keeps : goal.returns-in_default-find-clause-keeps
-returns-in_default-find-clause-keeps g c = looks-keeps _ _ c.in-Ok-config_of_image.ensures.looks
-
-pub returns-clause-ends : goal.returns-clause-ends
-returns-clause-ends g c = λ config tables tells made image.
-    let looks = c.in-Ok-config_of_image.ensures.looks in
-    let found = c.in-Ok-config_of_image.ensures.image tells in
-    let makes = same-lines config made (g.M.Media.state c.args.media.now).content tables c.in-Ok-config_of_image.config image found.0 found.1 in
-    over-ends config tables c.args.name c.args.range (g.M.Media.state c.args.media.now) (g.M.Media.state c.config_of_image.new.media) (g.M.Media.state c.export_at.new.media) (g.K.Sink.written c.args.out.now) (g.K.Sink.written c.export_at.new.out) c.export_at.result looks
-    (c.export_at.ensures.ends config tables c.args.name (subst IsTrue (sym looks.tells) tells) makes (subst (λ (l : List ℕ). IsImage config l tables) (sym looks.content) image) c.in-Some.ensures)
-
-pub returns-clause-fits : goal.returns-clause-fits
-returns-clause-fits g c = λ tells.
-    let found = c.in-Ok-config_of_image.ensures.image tells in
-    fits-table (g.M.Media.state c.args.media.now).content c.args.name c.export_at.result c.export_at.ensures.statuses
-    (image-with (g.M.Media.state c.args.media.now).content c.args.name c.in-Ok-config_of_image.config c.in-Ok-plan.tables.entries.items found.0 found.1 c.in-Ok-plan.ensures c.in-Some.at c.in-Some.ensures)
-    (λ table is. let lt : table < length c.in-Ok-config_of_image.config.plans = omega (arith, c.export_at.ensures.bad table is, c.in-Ok-plan.ensures.as_many) in lt)
-
-pub returns-clause-changes : goal.returns-clause-changes
-returns-clause-changes g c = λ tells.
-    let found = c.in-Ok-config_of_image.ensures.image tells in
-    inl (image-with (g.M.Media.state c.args.media.now).content c.args.name c.in-Ok-config_of_image.config c.in-Ok-plan.tables.entries.items found.0 found.1 c.in-Ok-plan.ensures c.in-Some.at c.in-Some.ensures)
-
-pub returns-clause-device : goal.returns-clause-device
-returns-clause-device g c = λ is. omega (arith, c.export_at.ensures.device is, c.in-Ok-config_of_image.ensures.looks.later)
-
-pub returns-clause-known : goal.returns-clause-known
-returns-clause-known g c = λ is. not-unsound c.export_at.result c.export_at.ensures.statuses is
-
-pub returns-clause-untouched : goal.returns-clause-untouched
-returns-clause-untouched g c = λ early. not-early c.export_at.result c.export_at.ensures.statuses early
-
-pub returns-clause-keeps : goal.returns-clause-keeps
-returns-clause-keeps g c = keeps-then _ _ _ c.in-Ok-config_of_image.ensures.looks c.export_at.ensures.keeps
-
-pub returns-in_default-clause-repairs : goal.returns-in_default-clause-repairs
-returns-in_default-clause-repairs g c = λ config tables tells made image well. still-repaired config _ _ refl
+returns-in-Err-clause-ends g c = λ config tables tells made image. early-ends config tables c.args.name c.args.range (g.M.Media.state c.args.media.now) (g.M.Media.state c.on.new.media) (g.K.Sink.written c.args.out.now) made tells image c.in-Err.ensures.looks c.in-Err.status c.in-Err.ensures.none
 
 pub returns-in-Err-clause-repairs : goal.returns-in-Err-clause-repairs
 returns-in-Err-clause-repairs g c = λ config tables tells made image well. still-repaired config _ _ c.in-Err.ensures.looks.content
 
-pub returns-in_default-plan-clause-repairs : goal.returns-in_default-plan-clause-repairs
-returns-in_default-plan-clause-repairs g c = λ config tables tells made image well. still-repaired config _ _ c.in-Ok-config_of_image.ensures.looks.content
+pub returns-in-Err-clause-fits : goal.returns-in-Err-clause-fits
+returns-in-Err-clause-fits g c = λ tells. fits-early (g.M.Media.state c.args.media.now) (g.M.Media.state c.on.new.media) c.args.name c.in-Err.status tells c.in-Err.ensures.none
 
-pub returns-in_default-find-clause-repairs : goal.returns-in_default-find-clause-repairs
-returns-in_default-find-clause-repairs g c = λ config tables tells made image well. still-repaired config _ _ c.in-Ok-config_of_image.ensures.looks.content
+pub returns-in-Err-clause-device : goal.returns-in-Err-clause-device
+returns-in-Err-clause-device g c = λ is. subst (FindsNone (g.M.Media.state c.args.media.now) (g.M.Media.state c.on.new.media) c.args.name) is c.in-Err.ensures.none
+
+pub returns-in-Err-clause-known : goal.returns-in-Err-clause-known
+returns-in-Err-clause-known g c = λ is. subst (FindsNone (g.M.Media.state c.args.media.now) (g.M.Media.state c.on.new.media) c.args.name) is c.in-Err.ensures.none
+
+pub returns-in-Err-clause-write : goal.returns-in-Err-clause-write
+returns-in-Err-clause-write g c = λ is. absurd (subst (FindsNone (g.M.Media.state c.args.media.now) (g.M.Media.state c.on.new.media) c.args.name) is c.in-Err.ensures.none)
+
+pub returns-in-Err-clause-keeps : goal.returns-in-Err-clause-keeps
+returns-in-Err-clause-keeps g c = looks-keeps _ _ c.in-Err.ensures.looks
+
+pub returns-in_default-clause-ends : goal.returns-in_default-clause-ends
+returns-in_default-clause-ends g c = λ config tables tells made image. early-ends config tables c.args.name c.args.range (g.M.Media.state c.args.media.now) (g.M.Media.state c.on.new.media) (g.K.Sink.written c.args.out.now) made tells image c.in-Ok.ensures.looks NoMemory tt
+
+pub returns-in_default-clause-repairs : goal.returns-in_default-clause-repairs
+returns-in_default-clause-repairs g c = λ config tables tells made image well. still-repaired config _ _ c.in-Ok.ensures.looks.content
+
+pub returns-in_default-clause-keeps : goal.returns-in_default-clause-keeps
+returns-in_default-clause-keeps g c = looks-keeps _ _ c.in-Ok.ensures.looks
+
+pub export_on-status-requires-clause-rooms : goal.export_on-status-requires-clause-rooms
+export_on-status-requires-clause-rooms g c =
+    subst (λ (x : Geometry). HasRooms c.in-Ok-new.rooms x.page) (some-is c.in-Ok.found.config.device c.geometry-page.result _ c.geometry-page.ensures.device c.over-flash.ensures.opened.device) c.in-Ok-new.ensures
+
+pub export_on-status-requires-clause-at : goal.export_on-status-requires-clause-at
+export_on-status-requires-clause-at g c =
+    let named = c.in-Ok.ensures.table.named in
+    subst (λ (t : Tables). c.in-Ok.found.at < length t.entries.items) (sym c.over-flash.ensures.tables) (slice_get_within c.in-Ok.found.layout.tables.entries.items c.in-Ok.found.at named.entry named.here)
+
+pub export_on-status-requires-clause-few : goal.export_on-status-requires-clause-few
+export_on-status-requires-clause-few g c = subst (λ (t : Tables). length t.entries.items ≤ 4) (sym c.over-flash.ensures.tables) c.in-Ok.ensures.table.few
+
+pub returns-clause-ends : goal.returns-clause-ends
+returns-clause-ends g c = λ config tables tells made image.
+    let looks = c.in-Ok.ensures.looks in
+    let holds = found-holds (g.M.Media.state c.args.media.now) (g.M.Media.state c.on.new.media) c.args.name config made tables tells image looks c.in-Ok.found c.in-Ok.ensures.table _ _ c.over-flash.ensures.holds in
+    let opened = c.over-flash.ensures.opened in
+    let e : g.M.Media.state c.media-1.given.0 ≡ g.M.Media.state c.close-media.result.now = search rules in
+    let worked = worked-by opened c.export_on-status.ensures.goes (e ∙ c.close-media.ensures.state) in
+    ends-seen config tables c.args.name c.args.range (g.M.Media.state c.args.media.now) _ _ _ _ _ (g.K.Sink.written c.args.out.now) (g.K.Sink.written c.export_on-status.new.out) c.export_on-status.new.tables.entries.items looks worked holds.medium c.export_on-status.result
+    (c.export_on-status.ensures.ends config.plans tables c.args.name holds.medium.told opened.on opened.calm holds.stand (subst (λ (t : Tables). IsNamed t.entries.items c.args.name c.in-Ok.found.at) (sym c.over-flash.ensures.tables) c.in-Ok.ensures.table.named))
 
 pub returns-clause-repairs : goal.returns-clause-repairs
 returns-clause-repairs g c = λ config tables tells made image well.
-    let looks = c.in-Ok-config_of_image.ensures.looks in
-    let found = c.in-Ok-config_of_image.ensures.image tells in
-    let makes = same-lines config made (g.M.Media.state c.args.media.now).content tables c.in-Ok-config_of_image.config image found.0 found.1 in
-    repaired-after config _ _ _ looks.content
-    (c.export_at.ensures.repairs config tables c.args.name (subst IsTrue (sym looks.tells) tells) makes (subst (λ (l : List ℕ). IsImage config l tables) (sym looks.content) image) c.in-Some.ensures well)
+    let looks = c.in-Ok.ensures.looks in
+    let holds = found-holds (g.M.Media.state c.args.media.now) (g.M.Media.state c.on.new.media) c.args.name config made tables tells image looks c.in-Ok.found c.in-Ok.ensures.table _ _ c.over-flash.ensures.holds in
+    let opened = c.over-flash.ensures.opened in
+    let e : g.M.Media.state c.media-1.given.0 ≡ g.M.Media.state c.close-media.result.now = search rules in
+    let worked = worked-by opened c.export_on-status.ensures.goes (e ∙ c.close-media.ensures.state) in
+    repaired-after config _ _ _ looks.content (worked-repaired _ _ _ _ _ worked config holds.medium
+    (c.export_on-status.ensures.repairs config.plans tables c.args.name holds.medium.told opened.on opened.calm holds.stand (subst (λ (t : Tables). IsNamed t.entries.items c.args.name c.in-Ok.found.at) (sym c.over-flash.ensures.tables) c.in-Ok.ensures.table.named) well))
+
+pub returns-clause-fits : goal.returns-clause-fits
+returns-clause-fits g c = λ tells.
+    let table = c.in-Ok.ensures.table in
+    let is = table.image tells in
+    fits-table _ c.args.name c.export_on-status.result c.export_on-status.ensures.statuses (image-with _ c.args.name c.in-Ok.found.config c.in-Ok.found.layout.tables.entries.items is.0 is.1 table.layout.tables c.in-Ok.found.at table.named)
+    (λ at bad. let lt : at < length c.in-Ok.found.config.plans = omega (arith, c.export_on-status.ensures.bad at bad, ap (λ (t : Tables). length t.entries.items) c.over-flash.ensures.tables, table.layout.tables.as_many) in lt)
+
+pub returns-clause-device : goal.returns-clause-device
+returns-clause-device g c = λ is.
+    let e : g.M.Media.state c.media-1.given.0 ≡ g.M.Media.state c.close-media.result.now = search rules in
+    rose-back _ _ _ c.in-Ok.ensures.looks.later (worked-rose _ _ _ _ _ (worked-by c.over-flash.ensures.opened c.export_on-status.ensures.goes (e ∙ c.close-media.ensures.state)) (c.export_on-status.ensures.device is))
+
+pub returns-clause-known : goal.returns-clause-known
+returns-clause-known g c = λ is. subst IsOfTable is c.export_on-status.ensures.statuses
+
+pub returns-clause-untouched : goal.returns-clause-untouched
+returns-clause-untouched g c = not-early c.export_on-status.result c.export_on-status.ensures.statuses
+
+pub returns-clause-changes : goal.returns-clause-changes
+returns-clause-changes g c = λ tells.
+    let table = c.in-Ok.ensures.table in
+    let is = table.image tells in
+    inl (image-with _ c.args.name c.in-Ok.found.config c.in-Ok.found.layout.tables.entries.items is.0 is.1 table.layout.tables c.in-Ok.found.at table.named)
+
+pub returns-clause-keeps : goal.returns-clause-keeps
+returns-clause-keeps g c =
+    let e : g.M.Media.state c.media-1.given.0 ≡ g.M.Media.state c.close-media.result.now = search rules in
+    keeps-then _ _ _ c.in-Ok.ensures.looks (worked-keeps _ _ _ _ _ (worked-by c.over-flash.ensures.opened c.export_on-status.ensures.goes (e ∙ c.close-media.ensures.state)))

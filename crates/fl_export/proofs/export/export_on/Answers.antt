@@ -1,30 +1,32 @@
 use Rattle.std.proofs.Common.{◌≡◌, inr, IsTrue, false, true, Some, length, refl, sym, ◌∙◌, subst, arith}
 use Rattle.std.specs.List.{slice_get}
 use Rattle.std.proofs.lemmas.Option.{slice_get_within}
-use Rattle.fl_jobs.specs.declared.status.ToolStatus.{ToolStatus}
+use Rattle.fl_image.specs.declared.status.ToolStatus.{ToolStatus}
+use Rattle.fl_image.specs.declared.status.ToolStatus.TheVariants.{OutWrite}
 use Rattle.fl_model.specs.Bare.{bare, bare_table}
 use Rattle.fl_table.specs.Memory.{is_running, LiesOn}
 use Rattle.fl_table.specs.Standing.{Stands}
 use Rattle.fl_table.specs.declared.table.Table.{Table}
-use Rattle.fl_tables.specs.Tables.{first_of}
-use Rattle.fl_tables.proofs.TablesChanged.{item-there}
-use Rattle.fl_export.specs.Ends.{at_rest}
+use Rattle.fl_store.specs.Tables.{first_of}
+use Rattle.fl_store.proofs.TablesChanged.{item-there}
+use Rattle.fl_store.specs.Store.{at_rest}
 use Rattle.fl_export.specs.Tables.{EndsOn, IsOfTable}
 use Rattle.fl_export.proofs.Exporting.{unmounted, broken-device, own, done, failed}
-use Rattle.fl_export.proofs.Locating.{stands-there}
-use Rattle.fl_export.proofs.Repairing.{repaired-read}
-use Rattle.fl_export.proofs.Statuses.{of-mount, mount-unwritten, mount-rose, mount-place, fault-rose, fault-place}
-use Rattle.fl_export.proofs.Risen.{has_risen, watched}
+use Rattle.fl_store.proofs.Locating.{stands-there}
+use Rattle.fl_store.proofs.Repairing.{repaired-read}
+use Rattle.fl_export.proofs.Statuses.{fault-rose, fault-place}
+use Rattle.fl_store.proofs.MountStatuses.{by-mount, mount-rose, mount-place}
+use Rattle.fl_store.proofs.Risen.{has_risen, watched}
 use Rattle.fl_export.proofs.export.export_on.Goals as goal
 
 pub mount_status-requires : goal.mount_status-requires
 mount_status-requires g c = omega (arith, slice_get_within c.mount.new.self.entries.items c.in-Err.bad.at c.in-Err.ensures.stops.entry c.in-Err.ensures.stops.here, c.mount.ensures.as_many, c.requires.few)
 
 pub returns-in-Err-clause-statuses : goal.returns-in-Err-clause-statuses
-returns-in-Err-clause-statuses g c = subst IsOfTable (sym c.mount_status.ensures) (of-mount c.in-Err.bad.fault c.in-Err.bad.at)
+returns-in-Err-clause-statuses g c = subst IsOfTable (sym c.mount_status.ensures) (by-mount IsOfTable c.in-Err.bad.fault c.in-Err.bad.at tt tt tt)
 
 pub returns-in-Err-clause-write : goal.returns-in-Err-clause-write
-returns-in-Err-clause-write g c = λ is. mount-unwritten c.in-Err.bad.fault c.in-Err.bad.at (sym c.mount_status.ensures ∙ is)
+returns-in-Err-clause-write g c = λ is. absurd (by-mount (λ s. s ≡ OutWrite → ⊥) c.in-Err.bad.fault c.in-Err.bad.at (λ k. cc k) (λ k. cc k) (λ k. cc k) (sym c.mount_status.ensures ∙ is))
 
 pub returns-in-Err-clause-device : goal.returns-in-Err-clause-device
 returns-in-Err-clause-device g c = λ is. mount-rose (g.F.Flash.state c.args.flash.now) (g.F.Flash.state c.mount.new.flash) c.in-Err.bad.fault c.in-Err.bad.at (sym c.mount_status.ensures ∙ is) c.in-Err.ensures.cause

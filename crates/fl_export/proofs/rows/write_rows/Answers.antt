@@ -7,7 +7,8 @@ use Rattle.fl_cursor.proofs.Whole.{keeps-then}
 use Rattle.fl_page.specs.Contents.{Contents, contents_of}
 use Rattle.fl_page.proofs.Reading.{OnlyReads-same, OnlyReads-then, IsCaused-later}
 use Rattle.fl_schema.specs.Schema.{row_of}
-use Rattle.fl_export.proofs.Reading.{tells-read, lies-read, page-read, stands-read, unread-later}
+use Rattle.fl_export.proofs.Unread.{unread-later}
+use Rattle.fl_store.proofs.Reading.{tells-read, lies-read, page-read, stands-read}
 use Rattle.fl_export.proofs.Walking.{far-none, far-next, far-stopped, far-unread, far-all, row-smaller}
 use Rattle.fl_export.proofs.rows.write_rows.Goals as goal
 

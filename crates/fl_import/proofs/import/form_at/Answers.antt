@@ -3,8 +3,8 @@ use Rattle.std.specs.List.{slice_get}
 use Rattle.fl_model.specs.Bare.{bare}
 use Rattle.fl_table.specs.Memory.{IsPlanned}
 use Rattle.fl_table.specs.declared.table.Table.{Table}
-use Rattle.fl_tables.specs.Tables.{first_of}
-use Rattle.fl_tables.proofs.TablesChanged.{item-there}
+use Rattle.fl_store.specs.Tables.{first_of}
+use Rattle.fl_store.proofs.TablesChanged.{item-there}
 use Rattle.fl_import.proofs.Closing.{formed}
 use Rattle.fl_import.proofs.import.form_at.Goals as goal
 

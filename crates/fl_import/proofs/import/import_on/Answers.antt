@@ -1,20 +1,20 @@
 use Rattle.std.proofs.Common.{◌≡◌, inr, true, false, is_some, IsTrue, IfSome, Some, length, refl, sym, ◌∙◌, subst, arith}
 use Rattle.std.specs.List.{slice_get}
 use Rattle.std.proofs.lemmas.Option.{slice_get_within}
-use Rattle.fl_export.specs.Ends.{at_rest}
-use Rattle.fl_export.proofs.Locating.{stands-there}
-use Rattle.fl_export.proofs.Risen.{has_risen, watched}
-use Rattle.fl_export.proofs.Unmounted as export
-use Rattle.fl_jobs.specs.declared.status.ToolStatus.TheVariants.{Device, BadInput}
-use Rattle.fl_tables.specs.Tables.{first_of}
-use Rattle.fl_tables.proofs.Going.{goes-on, rose-back}
-use Rattle.fl_tables.proofs.TablesChanged.{item-there}
+use Rattle.fl_store.specs.Store.{at_rest}
+use Rattle.fl_store.proofs.Locating.{stands-there}
+use Rattle.fl_store.proofs.Risen.{has_risen, watched}
+use Rattle.fl_store.proofs.Unmounted as mount
+use Rattle.fl_image.specs.declared.status.ToolStatus.TheVariants.{Device, BadInput}
+use Rattle.fl_store.specs.Tables.{first_of}
+use Rattle.fl_store.proofs.Going.{goes-on, rose-back}
+use Rattle.fl_store.proofs.TablesChanged.{item-there}
 use Rattle.fl_import.specs.Images.{EndsOn, HasCauses, told_of}
 use Rattle.fl_import.specs.Taking.{EndedOver}
-use Rattle.fl_import.proofs.Changed.{own, own-works}
+use Rattle.fl_store.proofs.Changed.{own, own-works}
 use Rattle.fl_import.proofs.Importing.{unmounted, imported}
 use Rattle.fl_import.proofs.Closing.{as-end, mount-causes, mount-ended, mount-unread, of-mounted, table-bad, table-ended}
-use Rattle.fl_import.proofs.Others.{others-repaired}
+use Rattle.fl_store.proofs.Others.{others-repaired}
 use Rattle.fl_import.proofs.import.import_on.Goals as goal
 
 pub mount_status-requires : goal.mount_status-requires
@@ -107,7 +107,7 @@ returns-in-Err-clause-repairs g c = λ plans ts name tells on calm stand named w
     let m = g.F.Flash.state c.mount.new.flash in
     let breaks = c.in-Err.ensures.ends plans ts (has_risen f m) at_rest (watched f m at_rest tells on calm) stand in
     let has = stands-there f (λ i. false) plans c.args.tables.now.entries.items ts name c.args.at stand named in
-    let device = (export.unmounted plans ts name f m (g.K.Sink.written c.args.out.now) c.mount.new.self.entries.items has c.in-Err.bad.fault c.in-Err.bad.at breaks).0 in
+    let device = (mount.unmounted plans ts name f m (g.K.Sink.written c.args.out.now) c.mount.new.self.entries.items has c.in-Err.bad.fault c.in-Err.bad.at breaks).0 in
     absurd (well (as-end (λ end. end.status ≡ Device) c.of.result _ _ c.of.ensures (c.mount_status.ensures ∙ device) refl))
 
 pub returns-clause-repairs : goal.returns-clause-repairs

@@ -1,10 +1,11 @@
 use Rattle.std.proofs.Common.{◌≡◌, ℕ, List, false, None, Ok, Err, refl, sym, ◌∙◌, ap, subst}
 use Rattle.fl_csv.specs.Lines.{lacks_blob, line_put}
 use Rattle.fl_csv.specs.Views.{put_view}
-use Rattle.fl_jobs.specs.declared.status.ToolStatus.TheVariants.{OutWrite, NoMemory, Device}
+use Rattle.fl_image.specs.declared.status.ToolStatus.TheVariants.{OutWrite, NoMemory, Device}
 use Rattle.fl_import.specs.Lines.{lacks, meaning}
 use Rattle.fl_import.specs.Steps.{IsOfLine, fault_in, is_unread}
-use Rattle.fl_import.proofs.OneLine.{means-either, ends-reason, ends-memory, ends-put, ends-broken, ends-told, works-watched, put-rose, fault-status, fault-unwritten, not-device, one-status, told-device}
+use Rattle.fl_store.proofs.Works.{works-watched}
+use Rattle.fl_import.proofs.OneLine.{means-either, ends-reason, ends-memory, ends-put, ends-broken, ends-told, put-rose, fault-status, fault-unwritten, not-device, one-status, told-device}
 use Rattle.fl_import.proofs.line.put_line.Goals as goal
 
 pub returns-in-Err-clause-ends : goal.returns-in-Err-clause-ends

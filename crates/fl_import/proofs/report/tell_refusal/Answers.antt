@@ -1,5 +1,5 @@
 use Rattle.std.proofs.Common.{Err, ◌∙◌}
-use Rattle.fl_tables.specs.Replies.{put_reply}
+use Rattle.fl_store.specs.Replies.{put_reply}
 use Rattle.fl_words.specs.Reply.{text}
 use Rattle.fl_import.specs.Report.{number_text}
 use Rattle.fl_import.proofs.OneLine.{told-behind, told-front}

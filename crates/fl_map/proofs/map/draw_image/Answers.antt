@@ -2,7 +2,7 @@ use Rattle.std.proofs.Common.{length, sym, ◌∙◌, ap, subst}
 use Rattle.fl_map.specs.Canvas.{drawn_of}
 use Rattle.fl_map.specs.Drawn.{no_tables}
 use Rattle.fl_map.specs.Map.{AreDrawn}
-use Rattle.fl_jobs.specs.declared.drawing.Drawing.{Drawing}
+use Rattle.fl_map.specs.declared.drawing.Drawing.{Drawing}
 use Rattle.fl_map.proofs.map.draw_image.Goals as goal
 
 pub draw_tables-requires-clause-fresh : goal.draw_tables-requires-clause-fresh

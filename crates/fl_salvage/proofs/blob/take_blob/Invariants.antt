@@ -1,5 +1,5 @@
 use Rattle.std.proofs.Common.{◌≡◌, ◌+◌, ◌-◌, IsTrue, length}
-use Rattle.fl_jobs.specs.Image.{OnlyLooksAt}
+use Rattle.fl_image.specs.Image.{OnlyLooksAt}
 use Rattle.fl_salvage.specs.Blobs.{blob_from, content_at, content_room, joined}
 use Rattle.fl_salvage.proofs.blob.take_blob.Given as goal
 

@@ -1,5 +1,5 @@
 use Rattle.std.proofs.Common.{◌≡◌, Err, rules}
-use Rattle.fl_jobs.specs.declared.status.ToolStatus.TheVariants.{NotImage}
+use Rattle.fl_image.specs.declared.status.ToolStatus.TheVariants.{NotImage}
 use Rattle.fl_salvage.proofs.Giving.{given-configured}
 use Rattle.fl_salvage.proofs.config.config_of.Goals as goal
 

@@ -1,5 +1,5 @@
 use Rattle.std.proofs.Common.{◌≡◌, IsTrue, length}
-use Rattle.fl_jobs.specs.Image.{OnlyLooksAt}
+use Rattle.fl_image.specs.Image.{OnlyLooksAt}
 use Rattle.fl_schema.specs.Schema.{layout_of}
 use Rattle.fl_salvage.specs.Pages.{AreFew, numbers_at, passed_at}
 use Rattle.fl_salvage.proofs.numbers.find_numbers.Given as goal

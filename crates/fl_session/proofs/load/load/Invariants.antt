@@ -6,8 +6,8 @@ use Rattle.fl_model.specs.Record.{Config}
 use Rattle.fl_machine.specs.Machine.{Machine}
 use Rattle.fl_table.specs.Look.{layout_in}
 use Rattle.fl_rlc.specs.Table.{is_running, IsSamePlan, LiesOn, OutsideStands, table_in}
-use Rattle.fl_tables.specs.Tables.{IsNamed}
-use Rattle.fl_tables.specs.declared.tables.Entry.{Entry}
+use Rattle.fl_store.specs.Tables.{IsNamed}
+use Rattle.fl_store.specs.declared.tables.Entry.{Entry}
 use Rattle.fl_session.specs.Load.{StandsBefore, random_of, step_of}
 use Rattle.fl_session.specs.declared.notes.Notes.{Notes}
 use Rattle.fl_session.specs.Standing.{SessionStands}

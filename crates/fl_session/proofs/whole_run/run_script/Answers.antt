@@ -1,11 +1,13 @@
 use Rattle.std.proofs.Common.{◌≡◌, inl, inr, [], IsTrue, Ok, Err, refl, sym, ◌∙◌, subst}
 use Rattle.fl_words.specs.Medium.{header}
 use Rattle.fl_model.specs.Image.{medium_len}
+use Rattle.fl_image.proofs.Made.{whole-of, makes-of}
+use Rattle.fl_image.proofs.Reach.{reach}
 use Rattle.fl_session.specs.Ends.{told_of, effects_of}
 use Rattle.fl_session.specs.ScriptEnds.{unsaid}
 use Rattle.fl_session.proofs.Running.{nothing-added}
 use Rattle.fl_session.proofs.Ending.{begins-takes, ends-in_begin, script-over, commands-early}
-use Rattle.fl_session.proofs.Over.{whole-parts, reach-of, ends-opened, whole-of, makes-of, opens-as, opens-goes, media-goes_on, ends-refused, script-refused, early-refused, make-refused, commands-words}
+use Rattle.fl_session.proofs.Over.{ends-opened, opens-as, opens-goes, media-goes_on, ends-refused, script-refused, early-refused, make-refused, commands-words}
 use Rattle.fl_session.proofs.Fresh.{new-blank, none-of}
 use Rattle.fl_session.proofs.whole_run.run_script.Goals as goal
 
@@ -18,9 +20,9 @@ returns-in-Err-clause-script g c = λ text l. ends-in_begin unsaid 64 text _ c.i
 
 pub run_session-requires-clause-reach : goal.run_session-requires-clause-reach
 run_session-requires-clause-reach g c = λ geometry e.
-    let lines = c.read_config.new.config in
-    let w = whole-of 0 lines c.in-Ok-read_config.ensures.whole in
-    reach-of 0 lines w.0 _ geometry (whole-parts 0 lines w.0 w.1) e (opens-as w.0 _ (Ok tt) _ (c.in-Ok-open_image.ensures w.0 (makes-of 0 lines w.0 w.1))).len
+    let made = g.M.Media.state c.open_image.new.media in
+    reach c.read_config.new.config geometry _ made.content made.content c.in-Ok-read_config.ensures.whole e refl
+    (λ config makes. (opens-as config (g.M.Media.state c.args.media.now) (Ok tt) made (c.in-Ok-open_image.ensures config makes)).len) refl
 
 pub run_session-requires-clause-blank : goal.run_session-requires-clause-blank
 run_session-requires-clause-blank g c = λ new told geometry device.
@@ -31,7 +33,7 @@ run_session-requires-clause-blank g c = λ new told geometry device.
     let opened = opens-as w.0 old (Ok tt) made (c.in-Ok-open_image.ensures w.0 (makes-of 0 lines w.0 w.1)) in
     let goes = opens-goes (medium_len w.0) (header w.0) old (Ok tt) made (c.in-Ok-open_image.ensures w.0 (makes-of 0 lines w.0 w.1)) in
     let empty : old.content ≡ [] = none-of old.content c.len-is_new.result c.len-is_new.ensures new in
-    new-blank 0 lines w.0 old made geometry (whole-parts 0 lines w.0 w.1) device opened (opened.made (subst IsTrue goes.tells told) empty)
+    new-blank lines w.0 old made geometry (makes-of 0 lines w.0 w.1) device opened (opened.made (subst IsTrue goes.tells told) empty)
 
 pub returns-in-Ok-open_image-clause-ends : goal.returns-in-Ok-open_image-clause-ends
 returns-in-Ok-open_image-clause-ends g c = λ text told l.
@@ -90,8 +92,8 @@ returns-clause-goes g c =
     let w = whole-of 0 c.read_config.new.config c.in-Ok-read_config.ensures.whole in
     opens-goes (medium_len w.0) (header w.0) (g.M.Media.state c.args.media.now) (Err c.in-Err-open_image.refusal) (g.M.Media.state c.open_image.new.media) (c.in-Err-open_image.ensures w.0 (makes-of 0 c.read_config.new.config w.0 w.1))
 
-pub returns-in-Err-make_rooms-clause-ends : goal.returns-in-Err-make_rooms-clause-ends
-returns-in-Err-make_rooms-clause-ends g c = λ text told l. ((nothing-added _, inl refl), inr (begins-takes 64 text _ _ _ _ _ (c.in-Ok-read_config.ensures.begins 64 text l)))
+pub returns-in_default-new-2-clause-ends : goal.returns-in_default-new-2-clause-ends
+returns-in_default-new-2-clause-ends g c = λ text told l. ((nothing-added _, inl refl), inr (begins-takes 64 text _ _ _ _ _ (c.in-Ok-read_config.ensures.begins 64 text l)))
 
-pub returns-in-Err-make_rooms-clause-script : goal.returns-in-Err-make_rooms-clause-script
-returns-in-Err-make_rooms-clause-script g c = λ text l. (tt, inr (begins-takes 64 text _ _ _ _ _ (c.in-Ok-read_config.ensures.begins 64 text l)))
+pub returns-in_default-new-2-clause-script : goal.returns-in_default-new-2-clause-script
+returns-in_default-new-2-clause-script g c = λ text l. (tt, inr (begins-takes 64 text _ _ _ _ _ (c.in-Ok-read_config.ensures.begins 64 text l)))

@@ -1,8 +1,9 @@
 use Rattle.std.proofs.Common.{sym, subst}
+use Rattle.fl_image.proofs.Made.{made-by}
 use Rattle.fl_words.specs.Grammar.{lines_of}
 use Rattle.fl_shell.specs.Reading.{rest_in}
 use Rattle.fl_shell.specs.Talking.{SessionEnds, lines_from}
-use Rattle.fl_shell.proofs.TalkLoop.{session-ends, makes-plans}
+use Rattle.fl_shell.proofs.TalkLoop.{session-ends}
 use Rattle.fl_shell.proofs.talk.talk_and_flush.Goals as goal
 
 pub returns-clause-ends : goal.returns-clause-ends
@@ -17,5 +18,5 @@ returns-clause-ends g c = λ configured old left hand total makes ready here unr
     let talked = c.talk_from-status.ensures.talks configured old left hand total makes ready here unread most told ended within is in
     let done =
     session-ends configured old all total (E.stands x.session configured) (E.stands y configured) f.media.content f.media.faults (E.flash x.session) (E.flash y) (K.written c.args.out.now) (K.written x.out) (S.left x.input) c.flush_all-flushed.result c.talk_from-status.result c.talk_from-status.ensures.statuses talked
-    (λ moments few runs. c.flush_all-flushed.ensures.flushes configured old moments f.media.content f.media.faults (makes-plans c.args.config.now configured makes) ready few runs) in
+    (λ moments few runs. c.flush_all-flushed.ensures.flushes configured old moments f.media.content f.media.faults (sym (made-by c.args.config.now configured makes).plans_are) ready few runs) in
     subst (λ status. SessionEnds configured old all total (E.stands y configured) f.media.content f.media.faults (E.flash y) (K.written c.args.out.now) (K.written x.out) (S.left x.input) c.flush_all-flushed.result status) (sym c.status_behind.ensures.exact) done

@@ -2,8 +2,10 @@ use Rattle.std.proofs.Common.{◌≡◌, [], IsTrue, inl, Ok, Err, refl, ◌∙�
 use Rattle.fl_model.specs.Image.{medium_len}
 use Rattle.fl_words.specs.Grammar.{lines_of}
 use Rattle.fl_words.specs.Medium.{header}
+use Rattle.fl_image.proofs.Made.{whole-of, makes-of}
+use Rattle.fl_image.proofs.Reach.{reach}
 use Rattle.fl_session.specs.Ends.{told_of}
-use Rattle.fl_session.proofs.Over.{whole-parts, reach-of, whole-of, makes-of, media-goes_on, opens-as, opens-goes}
+use Rattle.fl_session.proofs.Over.{media-goes_on, opens-as, opens-goes}
 use Rattle.fl_session.proofs.Fresh.{new-blank, none-of}
 use Rattle.fl_shell.specs.Statuses.{IsOfSession, opening_status}
 use Rattle.fl_shell.specs.declared.end.ShellStatus.TheVariants.{NoMemory}
@@ -13,9 +15,9 @@ use Rattle.fl_shell.proofs.whole_shell.shell.Goals as goal
 
 pub talk_over-requires-clause-reach : goal.talk_over-requires-clause-reach
 talk_over-requires-clause-reach g c = λ geometry e.
-    let lines = c.in-Ok-begin.begun.config in
-    let w = whole-of 0 lines c.in-Ok-begin.ensures.whole in
-    reach-of 0 lines w.0 _ geometry (whole-parts 0 lines w.0 w.1) e (opens-as w.0 _ (Ok tt) _ (c.in-Ok-open_image.ensures w.0 (makes-of 0 lines w.0 w.1))).len
+    let made = g.M.Media.state c.open_image.new.media in
+    reach c.in-Ok-begin.begun.config geometry _ made.content made.content c.in-Ok-begin.ensures.whole e refl
+    (λ config makes. (opens-as config (g.M.Media.state c.begin.new.media) (Ok tt) made (c.in-Ok-open_image.ensures config makes)).len) refl
 
 pub talk_over-requires-clause-blank : goal.talk_over-requires-clause-blank
 talk_over-requires-clause-blank g c = λ new told geometry device.
@@ -26,7 +28,7 @@ talk_over-requires-clause-blank g c = λ new told geometry device.
     let opened = opens-as w.0 old (Ok tt) made (c.in-Ok-open_image.ensures w.0 (makes-of 0 lines w.0 w.1)) in
     let goes = opens-goes (medium_len w.0) (header w.0) old (Ok tt) made (c.in-Ok-open_image.ensures w.0 (makes-of 0 lines w.0 w.1)) in
     let empty : old.content ≡ [] = none-of old.content c.len-is_new.result c.len-is_new.ensures new in
-    new-blank 0 lines w.0 old made geometry (whole-parts 0 lines w.0 w.1) device opened (opened.made (subst IsTrue goes.tells told) empty)
+    new-blank lines w.0 old made geometry (makes-of 0 lines w.0 w.1) device opened (opened.made (subst IsTrue goes.tells told) empty)
 
 pub returns-in-Ok-open_image-clause-ends : goal.returns-in-Ok-open_image-clause-ends
 returns-in-Ok-open_image-clause-ends g c = λ text tells told.

@@ -1,8 +1,9 @@
 use Rattle.std.proofs.Common.{◌≡◌, Some, rules, ◌∙◌, sym, subst}
 use Rattle.fl_flash.specs.Media.{MediaState}
 use Rattle.fl_machine.specs.Script.{StandsAfter}
-use Rattle.fl_session.proofs.Over.{makes-of}
-use Rattle.fl_shell.proofs.Ending.{over-medium, over-keeps, over-goes}
+use Rattle.fl_image.proofs.Made.{makes-of}
+use Rattle.fl_session.proofs.Over.{flash-keeps}
+use Rattle.fl_shell.proofs.Ending.{over-medium, over-goes}
 use Rattle.fl_shell.proofs.whole_shell.talk_over.Goals as goal
 
 pub returns : goal.returns
@@ -16,7 +17,7 @@ returns g c =
           (λ m stood. subst (λ (x : MediaState). StandsAfter configured (Some x.content) m) (sym e) (c.into_media-media.ensures.rests configured m stood)) c.talk_and_flush-end.ensures.statuses
           (c.talk_and_flush-end.ensures.ends configured old left hand total (makes-of 64 c.args.begun.now.config configured w) ready (c.over-session.ensures.begins configured old w rests) c.over-session.ensures.unread most told ended within is);
       statuses = c.talk_and_flush-end.ensures.statuses;
-      keeps = over-keeps _ _ before after c.over-session.ensures.medium (e ∙ c.into_media-media.ensures.state) c.over-session.ensures.start c.talk_and_flush-end.ensures.goes;
+      keeps = flash-keeps _ _ before after c.over-session.ensures.medium (e ∙ c.into_media-media.ensures.state) c.over-session.ensures.start c.talk_and_flush-end.ensures.goes;
       goes = over-goes _ _ before after c.over-session.ensures.medium (e ∙ c.into_media-media.ensures.state) c.talk_and_flush-end.ensures.goes;
       read = c.talk_and_flush-end.ensures.read;
       write = c.talk_and_flush-end.ensures.write;

@@ -1,6 +1,6 @@
 use Rattle.std.proofs.lemmas.Result.{err_from_is_err_and}
-use Rattle.fl_export.proofs.Risen.{has_risen, watched}
-use Rattle.fl_import.proofs.OneLine.{works-watched}
+use Rattle.fl_store.proofs.Risen.{has_risen, watched}
+use Rattle.fl_store.proofs.Works.{works-watched}
 use Rattle.fl_ship.proofs.Flushing.{flush-done, flush-fails, flush-keeps, flush-breaks}
 use Rattle.fl_ship.proofs.rows.flush_copy.Goals as goal
 

@@ -9,8 +9,8 @@ use Rattle.fl_page.proofs.Reading.{OnlyReads-same, OnlyReads-then, IsCaused-late
 use Rattle.fl_rlc.specs.Table.{table_in}
 use Rattle.fl_schema.specs.Schema.{row_of}
 use Rattle.fl_table.specs.Look.{last_key_in}
-use Rattle.fl_tables.proofs.Going.{goes-same, goes-on, same-plan, same-on}
-use Rattle.fl_tables.proofs.Outsides.{outside-then}
+use Rattle.fl_store.proofs.Going.{goes-same, goes-on, same-plan, same-on}
+use Rattle.fl_store.proofs.Outsides.{outside-then}
 use Rattle.fl_ship.proofs.RowsSoFar.{above-next, far-none, far-more, keep-refused, keep-so, put-end, put-refused, put-unread, put-whole, unread-behind}
 use Rattle.fl_ship.proofs.rows.put_rows.Goals as goal
 

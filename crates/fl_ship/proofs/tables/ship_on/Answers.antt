@@ -1,20 +1,20 @@
 use Rattle.std.proofs.Common.{◌≡◌, inr, true, false, IsTrue, Err, Some, length, refl, sym, ◌∙◌, ap, subst, arith}
 use Rattle.std.specs.List.{slice_get}
 use Rattle.std.proofs.lemmas.Option.{slice_get_within}
-use Rattle.fl_export.specs.Ends.{at_rest}
-use Rattle.fl_export.proofs.Locating.{stands-there}
-use Rattle.fl_export.proofs.Repairing.{repaired-read}
-use Rattle.fl_export.proofs.Risen.{has_risen, watched}
-use Rattle.fl_import.proofs.Changed.{own, own-works}
-use Rattle.fl_import.proofs.Others.{others-repaired}
+use Rattle.fl_store.specs.Store.{at_rest}
+use Rattle.fl_store.proofs.Locating.{stands-there}
+use Rattle.fl_store.proofs.Repairing.{repaired-read}
+use Rattle.fl_store.proofs.Risen.{has_risen, watched}
+use Rattle.fl_store.proofs.Changed.{own, own-works}
+use Rattle.fl_store.proofs.Others.{others-repaired}
 use Rattle.fl_model.specs.Bare.{bare, bare_table}
 use Rattle.fl_table.specs.Look.{layout_in}
 use Rattle.fl_table.specs.Memory.{is_running, LiesOn}
 use Rattle.fl_table.specs.Standing.{Stands}
 use Rattle.fl_table.specs.declared.table.Table.{Table}
 use Rattle.fl_rlc.specs.Table.{table_in}
-use Rattle.fl_tables.specs.Tables.{first_of}
-use Rattle.fl_tables.proofs.TablesChanged.{item-there}
+use Rattle.fl_store.specs.Tables.{first_of}
+use Rattle.fl_store.proofs.TablesChanged.{item-there}
 use Rattle.fl_ship.specs.declared.side.Side.TheVariants.{Source, Copy}
 use Rattle.fl_ship.specs.declared.stop.Stop.{Stop}
 use Rattle.fl_ship.proofs.Forms.{form-after}

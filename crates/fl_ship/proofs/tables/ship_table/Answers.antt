@@ -1,7 +1,7 @@
 use Rattle.std.proofs.Common.{◌≡◌, true, Err, sym, ◌∙◌, ap}
 use Rattle.std.specs.Option.{option_map}
 use Rattle.std.proofs.lemmas.Result.{err_from_is_err_and}
-use Rattle.fl_export.proofs.Reading.{is-standing, lies-read, stands-read, tells-read}
+use Rattle.fl_store.proofs.Reading.{is-standing, lies-read, stands-read, tells-read}
 use Rattle.fl_model.specs.Bare.{bare, bare_table}
 use Rattle.fl_model.specs.Ship.{records_in}
 use Rattle.fl_model.specs.Table.{Entry, last_entry, lose}
@@ -10,7 +10,7 @@ use Rattle.fl_page.specs.declared.fault.ReadFault.TheVariants as read
 use Rattle.fl_page.proofs.Reading.{OnlyReads-then}
 use Rattle.fl_rlc.specs.Table.{table_in}
 use Rattle.fl_table.specs.Look.{layout_in}
-use Rattle.fl_tables.proofs.TablesChanged.{off-rests}
+use Rattle.fl_store.proofs.TablesChanged.{off-rests}
 use Rattle.fl_ship.specs.declared.fault.ShipFault.{ShipFault}
 use Rattle.fl_ship.specs.declared.fault.ShipFault.TheVariants.{Read}
 use Rattle.fl_ship.specs.declared.stop.Stop.TheVariants as stop

@@ -7,7 +7,7 @@ use Rattle.fl_session.proofs.Sound.{sound-with, runs-after}
 use Rattle.fl_session.proofs.Causing.{on-refusal, is-here, flush-fails, kept-state}
 use Rattle.fl_table.specs.Causes.{flush_breaks}
 use Rattle.fl_rlc.specs.Table.{is_running}
-use Rattle.fl_tables.specs.Replies.{flush_reply}
+use Rattle.fl_store.specs.Replies.{flush_reply}
 use Rattle.fl_session.proofs.session.Session.flush.Goals as goal
 
 pub returns-in-Err-clause-step : goal.returns-in-Err-clause-step

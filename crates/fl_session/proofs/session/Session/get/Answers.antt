@@ -7,7 +7,7 @@ use Rattle.fl_session.proofs.Getting.{get-executes, get-refused, goes-reads, loo
 use Rattle.fl_session.proofs.Owning.{reached-here, reached-within}
 use Rattle.fl_session.proofs.Sound.{sound-read}
 use Rattle.fl_session.proofs.Causing.{on-refusal, says-written, is-here, only-looks}
-use Rattle.fl_session.proofs.Tables.{lies-unlogged, runs-unlogged}
+use Rattle.fl_store.proofs.Queried.{lies-unlogged, runs-unlogged}
 use Rattle.fl_session.proofs.session.Session.get.Goals as goal
 
 pub returns-in-Err-clause-step : goal.returns-in-Err-clause-step

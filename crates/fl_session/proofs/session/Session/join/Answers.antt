@@ -7,7 +7,7 @@ use Rattle.fl_session.proofs.Operations.{join-executes, join-refused, join-alone
 use Rattle.fl_session.proofs.Owning.{reached-here, reached-within}
 use Rattle.fl_session.proofs.Sound.{sound-roomed}
 use Rattle.fl_session.proofs.Causing.{reached-entry, refusal-says, says-written, is-here, only-looks}
-use Rattle.fl_session.proofs.Tables.{lies-unlogged, runs-unlogged}
+use Rattle.fl_store.proofs.Queried.{lies-unlogged, runs-unlogged}
 use Rattle.fl_session.proofs.session.Session.join.Goals as goal
 
 pub returns-in-Err-clause-step : goal.returns-in-Err-clause-step

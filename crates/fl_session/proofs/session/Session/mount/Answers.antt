@@ -1,8 +1,8 @@
 use Rattle.std.proofs.Common.{◌≡◌, true, IsTrue, refl, sym, ap, subst, arith, inl, inr}
 use Rattle.fl_flash.specs.Flash.{FlashState}
-use Rattle.fl_tables.specs.Tables.{LieOn}
-use Rattle.fl_tables.proofs.Going.{goes-set}
-use Rattle.fl_tables.proofs.Lying.{lie-on}
+use Rattle.fl_store.specs.Tables.{LieOn}
+use Rattle.fl_store.proofs.Going.{goes-set}
+use Rattle.fl_store.proofs.Lying.{lie-on}
 use Rattle.fl_session.proofs.Calls.{mount-call, already-call}
 use Rattle.fl_session.proofs.MountReads.{limit-call}
 use Rattle.fl_session.proofs.Causing.{mounts-on}

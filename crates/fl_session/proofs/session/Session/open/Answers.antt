@@ -1,7 +1,7 @@
 use Rattle.std.proofs.Common.{◌≡◌, ◌<◌, Some, Option, length, refl, ◌∙◌, ap, subst, inr}
 use Rattle.std.specs.List.{slice_get}
 use Rattle.std.specs.Prelude.{option_map, unwrap_or}
-use Rattle.fl_tables.proofs.Going.{goes-same}
+use Rattle.fl_store.proofs.Going.{goes-same}
 use Rattle.fl_table.specs.declared.table.Table.{Table}
 use Rattle.fl_session.specs.Caused.{mark_on}
 use Rattle.fl_session.specs.declared.notes.TableCursor.{TableCursor}
@@ -10,7 +10,7 @@ use Rattle.fl_session.proofs.Owning.{reached-here, reached-within}
 use Rattle.fl_session.proofs.Sound.{sound-read, cursors-set}
 use Rattle.fl_session.proofs.Causing.{on-refusal, is-here, opened}
 use Rattle.fl_words.specs.Reply as reply
-use Rattle.fl_session.proofs.Tables.{runs-unlogged}
+use Rattle.fl_store.proofs.Queried.{runs-unlogged}
 use Rattle.fl_session.proofs.session.Session.open.Goals as goal
 
 pub returns-in-Err-clause-step : goal.returns-in-Err-clause-step

@@ -17,7 +17,7 @@ use Rattle.fl_session.proofs.Sound.{sound-roomed}
 use Rattle.fl_session.proofs.Operations.{operator-executes, operator-no_column, operator-refused, lacked-column}
 use Rattle.fl_session.proofs.Causing.{refusal-says, says-written, is-here, only-looks, lacks-says, has-says}
 use Rattle.fl_words.specs.Reply as reply
-use Rattle.fl_session.proofs.Tables.{lies-unlogged, runs-unlogged}
+use Rattle.fl_store.proofs.Queried.{lies-unlogged, runs-unlogged}
 use Rattle.fl_session.proofs.session.Session.project.Goals as goal
 
 pub returns-in-Err-clause-step : goal.returns-in-Err-clause-step

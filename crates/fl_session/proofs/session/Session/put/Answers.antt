@@ -5,7 +5,7 @@ use Rattle.fl_session.proofs.Owning.{reached-here, reached-within}
 use Rattle.fl_session.proofs.Refusing.{put-refused_so}
 use Rattle.fl_session.proofs.Sound.{sound-with, runs-after}
 use Rattle.fl_session.proofs.Causing.{on-refusal, is-here, put-fails-so}
-use Rattle.fl_tables.specs.Replies.{put_reply}
+use Rattle.fl_store.specs.Replies.{put_reply}
 use Rattle.fl_table.specs.Refusal.{RefusesAs}
 use Rattle.fl_rlc.specs.Refusal.{put_refusal}
 use Rattle.fl_table.proofs.PutAnswers.{map-twice}

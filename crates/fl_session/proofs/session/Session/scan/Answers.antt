@@ -8,7 +8,7 @@ use Rattle.fl_session.proofs.Owning.{reached-here, reached-within}
 use Rattle.fl_session.proofs.Scanning.{scan-executes, scan-refused}
 use Rattle.fl_session.proofs.Sound.{sound-read}
 use Rattle.fl_session.proofs.Causing.{refusal-says, says-written, is-here, only-looks}
-use Rattle.fl_session.proofs.Tables.{lies-unlogged, runs-unlogged}
+use Rattle.fl_store.proofs.Queried.{lies-unlogged, runs-unlogged}
 use Rattle.fl_session.proofs.session.Session.scan.Goals as goal
 
 pub returns-in-Err-clause-step : goal.returns-in-Err-clause-step

@@ -1,0 +1,10 @@
+pub mod Lines
+pub mod Made
+pub mod LineWords
+pub mod Numbers
+pub mod ColumnWords
+pub mod ReadWords
+pub mod AcceptedLines
+pub mod ReadBack
+pub mod Found
+pub mod Reach

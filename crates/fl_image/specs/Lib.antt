@@ -1,0 +1,4 @@
+pub mod Number
+pub mod Status
+pub mod Header
+pub mod Image

@@ -1,0 +1,4 @@
+pub mod Telling
+pub mod Writing
+pub mod Ending
+pub mod Ringed

@@ -1,0 +1,37 @@
+use Rattle.std.proofs.Common.{refl}
+use Rattle.fl_image_check.proofs.Telling.{plan-there, config-there, lies-at, log-there, log-alone, log-lies-at}
+use Rattle.fl_image_check.proofs.tables.rules_at.Goals as goal
+
+pub check_rules-requires : goal.check_rules-requires
+check_rules-requires g c =
+    let lines = c.args.config.now in
+    let p = plan-there lines.plans c.args.i c.requires.table in
+    let is = config-there lines.plans c.args.i p.0 c.table.result.now p.1 c.table.ensures.plan in
+    record {
+      lies = lies-at lines (g.F.Flash.state c.args.flash.now) c.args.i p.0 c.table.result.now c.requires.over p.1 is c.table.ensures.first c.table.ensures.device c.table.ensures.limits c.table.ensures.passes;
+      log = log-lies-at lines (g.F.Flash.state c.args.flash.now) c.args.i p.0 c.table.result.now c.log.result c.requires.over p.1 is c.table.ensures.first c.log.ensures.size
+          (log-there lines c.args.i p.0 c.table.result.now c.log.result p.1 c.table.ensures.first c.log.ensures.place);
+    }
+
+pub returns-in-Ok-clause-found : goal.returns-in-Ok-clause-found
+returns-in-Ok-clause-found g c told =
+    let lines = c.args.config.now in
+    let p = plan-there lines.plans c.args.i c.requires.table in
+    let is = config-there lines.plans c.args.i p.0 c.table.result.now p.1 c.table.ensures.plan in
+    record {
+      plan = p.0;
+      plan_is = p.1;
+      config = c.table.result.now;
+      config_is = is;
+      first = c.table.ensures.first;
+      log = c.log.result;
+      log_is = log-there lines c.args.i p.0 c.table.result.now c.log.result p.1 c.table.ensures.first c.log.ensures.place;
+      log_alone = log-alone lines.plans c.args.i p.0 c.log.result p.1 c.log.ensures.blobs;
+      flash = g.F.Flash.state c.args.flash.now;
+      over = c.requires.over;
+      lies = lies-at lines (g.F.Flash.state c.args.flash.now) c.args.i p.0 c.table.result.now c.requires.over p.1 is c.table.ensures.first c.table.ensures.device c.table.ensures.limits c.table.ensures.passes;
+      log_lies = log-lies-at lines (g.F.Flash.state c.args.flash.now) c.args.i p.0 c.table.result.now c.log.result c.requires.over p.1 is c.table.ensures.first c.log.ensures.size
+          (log-there lines c.args.i p.0 c.table.result.now c.log.result p.1 c.table.ensures.first c.log.ensures.place);
+      content = refl;
+      finds = c.in-Ok.ensures.found told;
+    }

@@ -1,0 +1,1 @@
+use Rattle.fl_import.proofs.begin.begin.Goals as goal

@@ -1,6 +1,0 @@
-use Rattle.std.proofs.Common.{◌∙◌}
-use Rattle.fl_config.proofs.Names.{bytes_equal-is}
-use Rattle.fl_jobs.proofs.words.is_word.Goals as goal
-
-pub returns : goal.returns
-returns c = c.eq.ensures ∙ bytes_equal-is c.args.word.now c.args.wanted.now

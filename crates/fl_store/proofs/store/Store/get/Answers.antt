@@ -1,0 +1,45 @@
+use Rattle.std.proofs.Common.{rules, ◌≡◌, Some, refl, sym, ◌∙◌, ap}
+use Rattle.std.specs.List.{slice_get}
+use Rattle.fl_model.specs.Bare.{bare, bare_table}
+use Rattle.fl_page.proofs.Reading.{OnlyReads-goes}
+use Rattle.fl_store.specs.Tables.{first_of}
+use Rattle.fl_store.proofs.Called.{entry-at}
+use Rattle.fl_store.proofs.Lying.{lie-on}
+use Rattle.fl_store.proofs.Queried.{fails-at, get-ends, lies-unlogged, rows-in, runs-unlogged, stands-at}
+use Rattle.fl_store.proofs.Reading.{page-read, tables-read}
+use Rattle.fl_store.proofs.Worked.{medium-goes}
+use Rattle.fl_store.proofs.store.Store.get.Goals as goal
+
+pub find-requires : goal.find-requires
+find-requires g c =
+    let here : slice_get c.args.self.now.tables.entries.items c.args.at ≡ Some c.index.result.now = entry-at c.args.self.now.tables.entries.items c.args.at c.index.result.now c.requires.at c.index.ensures in
+    (search rules, (runs-unlogged c.table-table.result.now c.index.result.now c.table-table.ensures (c.requires.running c.index.result.now here), (lies-unlogged c.table-table.result.now c.index.result.now c.table-table.ensures (c.requires.lie c.args.at c.index.result.now here), c.requires.room.rows)))
+
+pub returns-clause-finds : goal.returns-clause-finds
+returns-clause-finds g c = λ config tables plan table h own.
+    let here : slice_get c.args.self.now.tables.entries.items c.args.at ≡ Some c.index.result.now = entry-at c.args.self.now.tables.entries.items c.args.at c.index.result.now c.requires.at c.index.ensures in
+    get-ends plan table c.args.key _ _ c.find.new.buf c.find.result
+    (c.find.ensures.finds (first_of config.plans c.args.at) (bare plan) (bare_table table) h.medium.told
+    (stands-at c.table-table.result.now c.index.result.now c.table-table.ensures c.args.self.now.tables.entries.items c.args.at here config _ tables plan table h own))
+
+pub returns-clause-here : goal.returns-clause-here
+returns-clause-here g c =
+    let here : slice_get c.args.self.now.tables.entries.items c.args.at ≡ Some c.index.result.now = entry-at c.args.self.now.tables.entries.items c.args.at c.index.result.now c.requires.at c.index.ensures in
+    rows-in c.table-table.result.now c.index.result.now c.table-table.ensures c.args.self.now.tables.entries.items c.args.at here c.find.new.buf c.find.result c.find.ensures.here
+
+pub returns-clause-holds : goal.returns-clause-holds
+returns-clause-holds g c = λ config tables h.
+    record { medium = medium-goes config _ _ (OnlyReads-goes _ _ c.find.ensures.counts) h.medium; stand = tables-read _ _ c.find.ensures.counts config.plans c.args.self.now.tables.entries.items tables h.stand }
+
+pub returns-clause-fails : goal.returns-clause-fails
+returns-clause-fails g c =
+    let here : slice_get c.args.self.now.tables.entries.items c.args.at ≡ Some c.index.result.now = entry-at c.args.self.now.tables.entries.items c.args.at c.index.result.now c.requires.at c.index.ensures in
+    fails-at c.table-table.result.now c.index.result.now c.table-table.ensures c.args.self.now.tables.entries.items c.args.at here _ _ c.find.result c.find.ensures.fails
+
+pub returns-clause-lie : goal.returns-clause-lie
+returns-clause-lie g c = lie-on c.args.self.now.tables.entries.items _ _ (OnlyReads-goes _ _ c.find.ensures.counts) c.requires.lie
+
+pub returns-clause-room : goal.returns-clause-room
+returns-clause-room g c =
+    let page = sym (page-read _ _ c.find.ensures.counts) in
+    record { rows = c.find.ensures.room ∙ (c.requires.room.rows ∙ page); index = c.requires.room.index ∙ page }

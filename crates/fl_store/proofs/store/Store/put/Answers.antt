@@ -1,0 +1,37 @@
+use Rattle.std.proofs.Common.{rules, ◌≡◌, Some}
+use Rattle.std.specs.List.{slice_get}
+use Rattle.fl_store.proofs.Called.{entry-at, put-ends, put-refused, put-runs, stands-here}
+use Rattle.fl_store.proofs.Lying.{lie-with}
+use Rattle.fl_store.proofs.TablesChanged.{some-is}
+use Rattle.fl_store.specs.Tables.{first_of}
+use Rattle.fl_store.proofs.store.Store.put.Goals as goal
+
+pub put-requires : goal.put-requires
+put-requires g c = (search rules, c.requires.lie c.args.at c.index_mut-entry.result.now (entry-at c.args.self.now.tables.entries.items c.args.at c.index_mut-entry.result.now c.requires.at c.index_mut-entry.ensures.value))
+
+pub returns-clause-ends : goal.returns-clause-ends
+returns-clause-ends g c = λ config tables plan table rose device watched h own.
+    let here : slice_get c.args.self.now.tables.entries.items c.args.at ≡ Some c.index_mut-entry.result.now = entry-at c.args.self.now.tables.entries.items c.args.at c.index_mut-entry.result.now c.requires.at c.index_mut-entry.ensures.value in
+    put-ends config tables c.args.self.now.tables.entries.items c.args.at c.index_mut-entry.result.now plan table c.put.new.self _ _ h here own c.put.ensures.goes c.put.ensures.same c.put.ensures.outside _ rose device c.put.result
+    (c.put.ensures.ends (first_of config.plans c.args.at) plan table rose device watched
+    (stands-here config tables c.args.self.now.tables.entries.items c.args.at c.index_mut-entry.result.now plan table _ h here own))
+
+pub returns-clause-exact : goal.returns-clause-exact
+returns-clause-exact g c = λ entry e.
+    let here : slice_get c.args.self.now.tables.entries.items c.args.at ≡ Some c.index_mut-entry.result.now = entry-at c.args.self.now.tables.entries.items c.args.at c.index_mut-entry.result.now c.requires.at c.index_mut-entry.ensures.value in
+    rw (some-is (slice_get c.args.self.now.tables.entries.items c.args.at) entry c.index_mut-entry.result.now e here) c.put.ensures.exact
+
+pub returns-clause-refused : goal.returns-clause-refused
+returns-clause-refused g c =
+    put-refused c.args.self.now.tables.entries.items c.args.at c.index_mut-entry.result.now c.put.new.self
+    (entry-at c.args.self.now.tables.entries.items c.args.at c.index_mut-entry.result.now c.requires.at c.index_mut-entry.ensures.value) _ _ c.put.result c.put.ensures.refused
+
+pub returns-clause-running : goal.returns-clause-running
+returns-clause-running g c =
+    put-runs c.args.self.now.tables.entries.items c.args.at c.index_mut-entry.result.now c.put.new.self
+    (entry-at c.args.self.now.tables.entries.items c.args.at c.index_mut-entry.result.now c.requires.at c.index_mut-entry.ensures.value) c.put.result c.put.ensures.running
+
+pub returns-clause-lie : goal.returns-clause-lie
+returns-clause-lie g c =
+    lie-with c.args.self.now.tables.entries.items c.args.at c.index_mut-entry.result.now c.put.new.self _ _
+    (entry-at c.args.self.now.tables.entries.items c.args.at c.index_mut-entry.result.now c.requires.at c.index_mut-entry.ensures.value) c.put.ensures.goes c.requires.lie c.put.ensures.lies

@@ -1,0 +1,13 @@
+pub mod Tables
+pub mod Mounting
+pub mod Repaired
+pub mod Replies
+pub mod Store
+pub mod Found
+pub mod Named
+pub mod FoundTable
+pub mod MountEnds
+pub mod Status
+pub mod Calls
+pub mod Works
+pub mod Made

@@ -1,0 +1,185 @@
+// The calls of a store: its tables mounted, and records put, flushed and looked up.
+ghost use Rattle.std.specs.Prelude.{◌≡◌, ◌<◌, ◌↔◌, ℕ, Bool, List, false, true, None, Some, length, option_map, slice_get, Err, IsTrue, IfOk, IfErr, IfSome, OnOk};
+ghost use Rattle.fl_flash.specs.Flash.{Goes};
+ghost use Rattle.fl_model.specs.Record.{Config, Plan};
+ghost use Rattle.fl_model.specs.Table as model;
+ghost use Rattle.fl_model.specs.Table.{last_entry};
+ghost use Rattle.fl_model.specs.Work.{Device};
+ghost use Rattle.fl_page.specs.Contents.{OnlyReads};
+ghost use Rattle.fl_ring.specs.Step.{IsWatched};
+ghost use Rattle.fl_rlc.specs.Refusal.{put_refusal};
+ghost use Rattle.fl_rlc.specs.Table.{is_running, table_in};
+ghost use Rattle.fl_schema.specs.Schema.{layout_of_row, row_of};
+ghost use Rattle.fl_table.specs.Causes.{FlushCausedBy, MountCausedBy, PutCausedBy};
+ghost use Rattle.fl_table.specs.Finding.{LookupFails, row_of_place};
+ghost use Rattle.fl_table.specs.Look.{counts_in, counts_of, last_key_in};
+ghost use Rattle.fl_table.specs.Refusal.{RefusesAs};
+ghost use Rattle.fl_store.specs.Calls.{Finds, FlushEnds, GetEnds, HavePage, IsRefusedSame, IsRowIn, Located, PutEnds, RunsAt, columns_at, powered};
+ghost use Rattle.fl_store.specs.Mounting.{MountsInTurn, RefusesAt};
+ghost use Rattle.fl_store.specs.Store.{Holds, IsOnMedium};
+ghost use Rattle.fl_store.specs.Tables.{AreRunning, LieOn, StopsAt, TablesMount};
+ghost use Rattle.fl_store.specs.declared.tables.Entry.{Entry};
+
+use crate::pages::Pages;
+use crate::store::Store;
+use crate::tables::BadMount;
+use fl_base::{Name, Steps};
+use fl_flash::{Flash, Media, SimFlash};
+use fl_page::ReadFault;
+use fl_schema::RowRef;
+use fl_table::{FlushFault, PutRefusal, RowAt, TableCounts};
+
+impl<'m, M: Media> Store<'m, M> {
+    /// Mounts the tables: the power goes on, and what stands on the flash is found and repaired.
+    /// # Errors
+    /// Which table isn't mounted, and why. Those before it are mounted; those behind it weren't touched.
+    pub fn mount(&mut self, pages: &mut Pages) -> Result<(), BadMount>
+        requires lie { LieOn self.old.tables.entries.items (⟦<SimFlash<'m, M> as Flash>⟧.state self.old.flash) }
+        requires room { HavePage pages.old (⟦<SimFlash<'m, M> as Flash>⟧.state self.old.flash).geometry.page }
+        // A store that holds tables on its pages is mounted as the model mounts them, unless the flash fails.
+        ensures mounts { (config : Config) (tables : List model.Table) (rose : Bool) (device : Device) → IsWatched (powered (⟦<SimFlash<'m, M> as Flash>⟧.state self.old.flash)) (⟦<SimFlash<'m, M> as Flash>⟧.state self.new.flash) rose device → Holds config self.old.tables.entries.items (⟦<SimFlash<'m, M> as Flash>⟧.state self.old.flash) false tables →
+            IsOnMedium config (⟦<SimFlash<'m, M> as Flash>⟧.state self.new.flash) × TablesMount config.plans tables rose device result self.new.tables.entries.items (⟦<SimFlash<'m, M> as Flash>⟧.state self.new.flash) }
+        ensures found { OnOk result (IsTrue (⟦<SimFlash<'m, M> as Flash>⟧.state self.old.flash).media.tells → MountsInTurn (length self.old.tables.entries.items) self.old.tables.entries.items self.new.tables.entries.items (powered (⟦<SimFlash<'m, M> as Flash>⟧.state self.old.flash)) (⟦<SimFlash<'m, M> as Flash>⟧.state self.new.flash)) }
+        ensures refused { IfErr result (λ bad. IsTrue (⟦<SimFlash<'m, M> as Flash>⟧.state self.old.flash).media.tells → RefusesAt self.old.tables.entries.items self.new.tables.entries.items bad (powered (⟦<SimFlash<'m, M> as Flash>⟧.state self.old.flash)) (⟦<SimFlash<'m, M> as Flash>⟧.state self.new.flash)) }
+        ensures stops { IfErr result (λ bad. StopsAt self.old.tables.entries.items self.new.tables.entries.items bad) }
+        ensures cause { IfErr result (λ bad. MountCausedBy (powered (⟦<SimFlash<'m, M> as Flash>⟧.state self.old.flash)) bad.fault (⟦<SimFlash<'m, M> as Flash>⟧.state self.new.flash)) }
+        ensures running { OnOk result (AreRunning self.new.tables.entries.items) }
+        ensures power { OnOk result ((⟦<SimFlash<'m, M> as Flash>⟧.state self.new.flash).is_on ≡ true) }
+        ensures goes { Goes (⟦<SimFlash<'m, M> as Flash>⟧.state self.old.flash) (⟦<SimFlash<'m, M> as Flash>⟧.state self.new.flash) }
+        ensures lie { LieOn self.new.tables.entries.items (⟦<SimFlash<'m, M> as Flash>⟧.state self.new.flash) }
+        ensures room { HavePage pages.new (⟦<SimFlash<'m, M> as Flash>⟧.state self.new.flash).geometry.page }
+        ensures as_many { length self.new.tables.entries.items ≡ length self.old.tables.entries.items }
+    {
+        self.flash.power_on();
+        self.tables.mount(&mut self.flash, &mut pages.rows)
+    }
+
+    /// The place of the first table with this name, from 0, if there is one. All other calls take it.
+    pub fn find(&self, name: &[u8]) -> Option<usize>
+        ensures { Finds self.now.tables.entries.items name.now result }
+    {
+        let Some(name) = Name::of(name) else {
+            return None;
+        };
+        self.tables.find(name)
+    }
+
+    /// Puts a record into the table at a place. Its row waits in memory then, until a flush or the put that finds the page full; with
+    /// a log it is in the log too.
+    /// # Errors
+    /// `Stopped`, `Key`, `Columns`, `Value`, `Blob`, `Spent`: the first of them that applies, and nothing changed. `Flash`: an
+    /// operation failed. The table is stopped, and the store is to be mounted again.
+    pub fn put(
+        &mut self,
+        at: usize,
+        key: u64,
+        values: &[i64],
+        blob: Option<&[u8]>,
+    ) -> Result<(), PutRefusal>
+        requires at { at < length self.old.tables.entries.items }
+        requires lie { LieOn self.old.tables.entries.items (⟦<SimFlash<'m, M> as Flash>⟧.state self.old.flash) }
+        // A mounted store that holds tables holds the one with this record in its place, or says why not.
+        ensures ends { (config : Config) (tables : List model.Table) (plan : Plan) (table : model.Table) (rose : Bool) (device : Device) → IsWatched (⟦<SimFlash<'m, M> as Flash>⟧.state self.old.flash) (⟦<SimFlash<'m, M> as Flash>⟧.state self.new.flash) rose device →
+            Holds config self.old.tables.entries.items (⟦<SimFlash<'m, M> as Flash>⟧.state self.old.flash) true tables → Located config tables at plan table →
+            PutEnds config tables at plan table (record { key = key; values = values.now; blob = option_map (λ b. b.now) blob.entry }) rose device result self.new.tables.entries.items (⟦<SimFlash<'m, M> as Flash>⟧.state self.new.flash) }
+        ensures exact { (entry : Entry) → slice_get self.old.tables.entries.items at ≡ Some entry → RefusesAs (put_refusal entry.table key values.now (option_map (λ b. length b.now) blob.entry)) result }
+        ensures refused { IfErr result (λ e. IsRefusedSame self.old.tables.entries.items (⟦<SimFlash<'m, M> as Flash>⟧.state self.old.flash) e self.new.tables.entries.items (⟦<SimFlash<'m, M> as Flash>⟧.state self.new.flash)) }
+        ensures cause { IfErr result (λ e. PutCausedBy (⟦<SimFlash<'m, M> as Flash>⟧.state self.old.flash) e (⟦<SimFlash<'m, M> as Flash>⟧.state self.new.flash)) }
+        ensures running { OnOk result (AreRunning self.old.tables.entries.items → AreRunning self.new.tables.entries.items) }
+        ensures goes { Goes (⟦<SimFlash<'m, M> as Flash>⟧.state self.old.flash) (⟦<SimFlash<'m, M> as Flash>⟧.state self.new.flash) }
+        ensures lie { LieOn self.new.tables.entries.items (⟦<SimFlash<'m, M> as Flash>⟧.state self.new.flash) }
+        ensures as_many { length self.new.tables.entries.items ≡ length self.old.tables.entries.items }
+    {
+        let entry = &mut self.tables.entries[at];
+        entry.table.put(&mut self.flash, key, values, blob)
+    }
+
+    /// Makes a page of the rows of the table at a place that wait in memory.
+    /// # Errors
+    /// `Stopped`: the table isn't mounted, and nothing changed. `Flash`: an operation failed. The table is stopped, and the store is to
+    /// be mounted again.
+    pub fn flush(&mut self, at: usize) -> Result<(), FlushFault>
+        requires at { at < length self.old.tables.entries.items }
+        requires lie { LieOn self.old.tables.entries.items (⟦<SimFlash<'m, M> as Flash>⟧.state self.old.flash) }
+        ensures ends { (config : Config) (tables : List model.Table) (plan : Plan) (table : model.Table) (rose : Bool) (device : Device) → IsWatched (⟦<SimFlash<'m, M> as Flash>⟧.state self.old.flash) (⟦<SimFlash<'m, M> as Flash>⟧.state self.new.flash) rose device →
+            Holds config self.old.tables.entries.items (⟦<SimFlash<'m, M> as Flash>⟧.state self.old.flash) true tables → Located config tables at plan table →
+            FlushEnds config tables at plan table rose device result self.new.tables.entries.items (⟦<SimFlash<'m, M> as Flash>⟧.state self.new.flash) }
+        ensures stopped { (entry : Entry) → slice_get self.old.tables.entries.items at ≡ Some entry → (result ≡ Err FlushFault.Stopped) ↔ (is_running entry.table ≡ false) }
+        ensures cause { IfErr result (λ e. FlushCausedBy (⟦<SimFlash<'m, M> as Flash>⟧.state self.old.flash) e (⟦<SimFlash<'m, M> as Flash>⟧.state self.new.flash)) }
+        ensures running { OnOk result (AreRunning self.old.tables.entries.items → AreRunning self.new.tables.entries.items) }
+        ensures goes { Goes (⟦<SimFlash<'m, M> as Flash>⟧.state self.old.flash) (⟦<SimFlash<'m, M> as Flash>⟧.state self.new.flash) }
+        ensures lie { LieOn self.new.tables.entries.items (⟦<SimFlash<'m, M> as Flash>⟧.state self.new.flash) }
+        ensures as_many { length self.new.tables.entries.items ≡ length self.old.tables.entries.items }
+    {
+        self.tables.entries[at].table.flush(&mut self.flash)
+    }
+
+    /// How much the table at a place holds.
+    pub fn counts(&self, at: usize) -> TableCounts
+        requires { at < length self.now.tables.entries.items }
+        ensures holds { (config : Config) (tables : List model.Table) (plan : Plan) (table : model.Table) → Holds config self.now.tables.entries.items (⟦<SimFlash<'m, M> as Flash>⟧.state self.now.flash) true tables → Located config tables at plan table → result ≡ counts_of table }
+        ensures exact { (entry : Entry) → slice_get self.now.tables.entries.items at ≡ Some entry → result ≡ counts_in (table_in entry.table) }
+    {
+        self.tables.entries[at].table.table().counts()
+    }
+
+    /// The key of the last record of the table at a place, if it has one.
+    pub fn last_key(&self, at: usize) -> Option<u64>
+        requires { at < length self.now.tables.entries.items }
+        ensures holds { (config : Config) (tables : List model.Table) (plan : Plan) (table : model.Table) → Holds config self.now.tables.entries.items (⟦<SimFlash<'m, M> as Flash>⟧.state self.now.flash) true tables → Located config tables at plan table →
+            result ≡ option_map (λ entry. entry.kept.key) (last_entry table) }
+        ensures exact { (entry : Entry) → slice_get self.now.tables.entries.items at ≡ Some entry → result ≡ last_key_in (table_in entry.table) }
+    {
+        self.tables.entries[at].table.table().last_key()
+    }
+
+    /// How many columns the rows of the table at a place have.
+    pub fn columns(&self, at: usize) -> usize
+        requires { at < length self.now.tables.entries.items }
+        ensures { result ≡ columns_at self.now.tables.entries.items at }
+    {
+        self.tables.entries[at].table.table().columns()
+    }
+
+    /// The place of the row with this key in the table at a place, and none where no record has it. `row` lends the row.
+    /// # Errors
+    /// Why a page isn't read.
+    pub fn get(
+        &mut self,
+        at: usize,
+        key: u64,
+        pages: &mut Pages,
+    ) -> Result<Option<RowAt>, ReadFault>
+        requires at { at < length self.old.tables.entries.items }
+        requires running { RunsAt self.old.tables.entries.items at }
+        requires lie { LieOn self.old.tables.entries.items (⟦<SimFlash<'m, M> as Flash>⟧.state self.old.flash) }
+        requires room { HavePage pages.old (⟦<SimFlash<'m, M> as Flash>⟧.state self.old.flash).geometry.page }
+        ensures finds { (config : Config) (tables : List model.Table) (plan : Plan) (table : model.Table) → Holds config self.old.tables.entries.items (⟦<SimFlash<'m, M> as Flash>⟧.state self.old.flash) true tables → Located config tables at plan table →
+            GetEnds plan table key pages.new.rows result }
+        ensures here { IfOk result (λ found. IfSome found (IsRowIn self.new.tables.entries.items at pages.new.rows)) }
+        ensures holds { (config : Config) (tables : List model.Table) → Holds config self.old.tables.entries.items (⟦<SimFlash<'m, M> as Flash>⟧.state self.old.flash) true tables → Holds config self.new.tables.entries.items (⟦<SimFlash<'m, M> as Flash>⟧.state self.new.flash) true tables }
+        ensures fails { IfErr result (λ e. (entry : Entry) → slice_get self.old.tables.entries.items at ≡ Some entry → LookupFails (table_in entry.table) (⟦<SimFlash<'m, M> as Flash>⟧.state self.old.flash) e (⟦<SimFlash<'m, M> as Flash>⟧.state self.new.flash)) }
+        ensures reads { OnlyReads (⟦<SimFlash<'m, M> as Flash>⟧.state self.old.flash) (⟦<SimFlash<'m, M> as Flash>⟧.state self.new.flash) }
+        ensures same { self.new.tables ≡ self.old.tables }
+        ensures lie { LieOn self.new.tables.entries.items (⟦<SimFlash<'m, M> as Flash>⟧.state self.new.flash) }
+        ensures room { HavePage pages.new (⟦<SimFlash<'m, M> as Flash>⟧.state self.new.flash).geometry.page }
+    {
+        let mut steps = Steps::new();
+        let table = self.tables.entries[at].table.table();
+        table.find(&mut self.flash, key, &mut pages.rows, &mut steps)
+    }
+
+    /// The row that `get` found, while neither the table nor the pages changed since.
+    pub fn row<'b>(&'b self, at: usize, place: RowAt, pages: &'b Pages) -> RowRef<'b>
+        requires at { at < length self.now.tables.entries.items }
+        requires here { IsRowIn self.now.tables.entries.items at pages.now.rows place }
+        ensures row { (config : Config) (tables : List model.Table) (plan : Plan) (table : model.Table) → Holds config self.now.tables.entries.items (⟦<SimFlash<'m, M> as Flash>⟧.state self.now.flash) true tables → Located config tables at plan table →
+            row_of_place plan table pages.now.rows place ≡ Some (row_of result) }
+        ensures columns { length (layout_of_row result).columns ≡ columns_at self.now.tables.entries.items at }
+    {
+        self.tables.entries[at]
+            .table
+            .table()
+            .row_at(&pages.rows, place)
+    }
+}

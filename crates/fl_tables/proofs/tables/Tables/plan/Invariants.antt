@@ -1,7 +1,0 @@
-use Rattle.fl_tables.proofs.TablesMade.{MadeSoFar}
-use Rattle.fl_tables.proofs.tables.Tables.plan.Given as goal
-
-abbrev pub invariant-loop-i : goal.invariant-loop-i
-invariant-loop-i l = record {
-  made : MadeSoFar l.config l.i l.entries.items;
-}

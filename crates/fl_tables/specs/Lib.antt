@@ -1,4 +1,0 @@
-pub mod Tables
-pub mod Mounting
-pub mod Repaired
-pub mod Replies
