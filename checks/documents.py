@@ -1,7 +1,7 @@
 #!/usr/bin/env python3
 """documents.py PROGRAM: what the pages show is what the program answers.
 
-Of README.md and of each page of docs/ the fenced blocks of four forms are run, those of one page in their order, in one new folder,
+Of README.md and of each page of docs/ the fenced blocks of five forms are run or compared, those of one page in their order, in one new folder,
 in which `./flashts` is the program and `examples/` and `clients/` lie:
 
   ```console                the lines behind `$ ` are commands of a shell (one that ends in a word like <<END goes on up to END), and
@@ -14,6 +14,8 @@ in which `./flashts` is the program and `examples/` and `clients/` lie:
   ```shell sensor.img       the same in a shell over this image, to whose lines also those of standard error belong, at its end
 
   ```config                 the lines of a configuration, which has to be accepted; other lines are a drawing that explains them
+
+  ```rattle FILE            lines of this file of the repository, in its order, but for how far they are indented
 
 Every other block is a drawing, bytes, or a text that the program neither reads nor writes: one that begins as a script or as a
 command does (`device `, `table `, `$ `, `./flashts`, `flashts`) is refused, indented or fenced, so that none goes unseen.
@@ -161,6 +163,11 @@ def run_block(folder, page, block):
         answered = [line.strip() for line in shell(folder, f"./flashts shell {block.form[1]}", asked)]
         if not matches(shown, answered):
             yield difference(f"{where}: the shell's answers", shown, answered)
+    elif form == "rattle":
+        lines = iter([line.strip() for line in (ROOT / block.form[1]).read_text().splitlines()])
+        lost = [line for line in block.lines if line.strip() and line.strip() not in lines]
+        if lost:
+            yield f"{where}: no line of {block.form[1]}, or not behind the one before it: {lost[0]}"
     elif form == "open":
         yield f"{where}: a fence that isn't closed"
     elif form == "config":
@@ -185,7 +192,7 @@ def main():
             for beside in ("examples", "clients"):
                 shutil.copytree(ROOT / beside, pathlib.Path(folder) / beside)
             for block in blocks(page.read_text()):
-                count += block.form[:1] in (["console"], ["script"], ["shell"], ["config"])
+                count += block.form[:1] in (["console"], ["script"], ["shell"], ["config"], ["rattle"])
                 wrong += run_block(folder, page.relative_to(ROOT), block)
     for text in wrong:
         print(text)
