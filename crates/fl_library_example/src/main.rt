@@ -1,4 +1,4 @@
-//! A logger of a sensor: it stores readings in an image in memory, loses the power, and reads a range again.
+//! A logger of a sensor: it stores readings in an image in memory, closes it, and reads a range again.
 #![tactic(auto)]
 
 ghost use Rattle.std.specs.Prelude.{◌≡◌, ◌<◌, length, IfOk, IsTrue};
@@ -43,7 +43,7 @@ impl Reading {
     }
 }
 
-/// Makes the image, and stores readings in it. The power is lost at the end, and with it what is in memory alone.
+/// Makes the image, and stores readings in it. The store is closed at the end, and what is in memory alone is lost.
 fn store(alloc: Global, config: &Config, media: &mut MemMedia) -> Result<(), StoreFault>
     requires { IsTrue (is_whole config.now) }
 {
