@@ -1,13 +1,21 @@
 -- What a cursor that begins has left: all that matches.
-use Rattle.std.proofs.Common.{◌≡◌, ℕ, ◌≤◌, min, Bool, true, false, ◌&&◌, cond, nat_le, Option, Some, None, option_map, List, [], ◌∷◌, map, filter, refl, sym, ◌∙◌, ap, subst, arith}
+use Rattle.std.proofs.Common.{◌≡◌, ℕ, ◌+◌, ◌-◌, ◌^◌, ◌<◌, ◌≤◌, min, Bool, true, false, ◌&&◌, cond, nat_le, Option, Some, None, option_map, List, [], ◌∷◌, map, filter, refl, sym, ◌∙◌, ap, subst, arith}
 use Rattle.std.specs.List.{slice_get, last_or, AllByRecursion}
 use Rattle.std.proofs.lemmas.Bool.{leb-true, le-leb, ltb-true}
 use Rattle.fl_base.specs.declared.types.KeyRange.{KeyRange}
 use Rattle.fl_base.specs.declared.types.Span.{Span}
+use Rattle.fl_model.specs.Facts.{FitsPlan}
 use Rattle.fl_model.specs.Query.{begin, left_of, selected, matches, in_range, in_span, is_up_to}
+use Rattle.fl_model.specs.Record.{Plan, RowLayout, greatest_key, key_limit}
 use Rattle.fl_model.specs.Row.{stored_row}
 use Rattle.fl_model.specs.Table.{Table, Entry, last_entry}
 use Rattle.fl_page.specs.Steps.{Ascends}
+use Rattle.fl_schema.specs.Form.{layout_with}
+use Rattle.fl_schema.specs.Schema.{types_of}
+use Rattle.fl_schema.specs.declared.schema.KeyWidth.{KeyWidth}
+use Rattle.fl_schema.specs.declared.schema.KeyWidth.TheVariants.{Four, Eight}
+use Rattle.fl_table.specs.Memory.{IsPlanned}
+use Rattle.fl_table.specs.declared.table.Table as memory
 use Rattle.fl_cursor.specs.Ascending.{both}
 use Rattle.fl_cursor.specs.Asked.{is_asked}
 use Rattle.fl_cursor.proofs.Passing.{each-weaker}
@@ -104,3 +112,27 @@ all-up range span table ascends = by_entries table.entries refl ascends
         let top : last_entry table ≡ Some l.0 = ap (last_or None) are ∙ l.1 in
         each-weaker (λ (e : Entry). e.kept.key ≤ l.0.kept.key) (λ (e : Entry). e.kept.key ≤ range.high → is_up_to (begin range span table).top e.kept.key ≡ true) (first ∷ entries)
         (λ e le high. up l.0 e top le high) (h.first_too, h.others)
+
+-- ---- all of them
+
+and-true : (b : Bool) → (b && true) ≡ b
+and-true true = refl
+and-true false = refl
+
+-- a range without an upper end
+pub range-at : (low high key : ℕ) → key ≤ high → in_range (record { low = low; high = high }) key ≡ nat_le low key
+range-at low high key within = rw (le-leb key high within) (and-true (nat_le low key))
+
+-- no key has more than 64 bits
+pub few-keys : {KNOTS SLOTS : ℕ} (t : memory.Table KNOTS SLOTS) (first : ℕ) (plan : Plan) → IsPlanned t first plan → key_limit plan < 2 ^ 64
+few-keys t first plan planned = subst (λ (layout : RowLayout). greatest_key layout < 2 ^ 64) (sym planned.layout) (by-width t.schema.key)
+  where
+    by-width : (key : KeyWidth) → greatest_key (layout_with key (types_of t.schema) t.schema.blobs) < 2 ^ 64
+    by-width Four = omega arith
+    by-width Eight = omega arith
+
+pub all-selected : (plan : Plan) (entries : List Entry) (low : ℕ) → low ≡ 0 → key_limit plan < 2 ^ 64 → AllByRecursion (FitsPlan plan) entries → selected (record { low = low; high = 2 ^ 64 - 1 }) None entries ≡ entries
+all-selected plan [] low none few fit = refl
+all-selected plan (entry ∷ entries) low none few fit =
+    let key = fit.0.key in
+    rw (range-at low (2 ^ 64 - 1) entry.kept.key (omega (arith, key, few)), le-leb low entry.kept.key (omega (arith, none))) (ap (λ (l : List Entry). entry ∷ l) (all-selected plan entries low none few fit.1))

@@ -249,6 +249,19 @@ located-stands first (plan ∷ plans) (table ∷ tables) name = by_name (bytes_e
     by_name true o h = (0, refl, refl)
     by_name false o h = later o h
 
+-- how many pages a scan of a table reads at most
+abbrev pub most_of_a_scan : ℕ
+most_of_a_scan = 514 + 65536 + 65536 + 65536
+
+pub scan-of-name : (config : Config) (m : Machine) → IsSmall config → AllByRecursion HasRoom config.plans → AreTables config.plans m.tables → (name : List ℕ) (range : KeyRange) (span : Option Span) (lowest : ℕ) →
+    IfSome (located config m name) (λ at. scan_limit config.knots at.plan at.table range span lowest ≤ most_of_a_scan)
+scan-of-name config m small room tables name range span lowest = by_place (located config m name) (located-stands 0 config.plans m.tables name)
+  where
+    by_place : (o : Option Located) → IfSome o (StandsAt config.plans m.tables) → IfSome o (λ at. scan_limit config.knots at.plan at.table range span lowest ≤ most_of_a_scan)
+    by_place None s = tt
+    by_place (Some at) s =
+        scan-few config.knots at.plan at.table (at-place IsSmallPlan config.plans s.0 at.plan small.plans s.1) (at-place HasRoom config.plans s.0 at.plan room s.1) (tables s.0 at.plan at.table s.1 s.2) range span lowest
+
 -- the reads of a command from a state of a small configuration
 module _ (config : Config) (old : Machine) (moment : Moment) (small : IsSmall config) (room : AllByRecursion HasRoom config.plans) (tables : AreTables config.plans old.tables) where
   abbrev Few : Type 0

@@ -49,6 +49,8 @@ pub mod CursorsOf
 pub mod Giving
 pub mod Following
 pub mod Resumed
+pub mod OldestBlobs
+pub mod LookingFor
 pub mod CursorMoves
 pub mod MountReads
 pub mod Plainly

@@ -59,7 +59,7 @@ appends-more (Some bytes) mid now a b h k =
     k' ∙ ap Some (append_assoc bytes a b)
 
 -- counts go on
-at_end : (n before mid now : ℕ) → RoseBy n before mid → mid ≤ now → RoseBy n before now
+pub at_end : (n before mid now : ℕ) → RoseBy n before mid → mid ≤ now → RoseBy n before now
 at_end n before mid now h later = elim h [ inl a ↦ inl (omega arith) | inr a ↦ inr (omega arith) ]
 
 one_more : (n before mid now : ℕ) → RoseBy n before mid → mid ≤ now → Rose mid now → RoseBy (n + 1) before now
@@ -229,18 +229,19 @@ next-limit config old moments command stands mid now result moment ready run her
     let within = limit config (end_of old moments) moment mid now result command is (run-within config old moments ready.cursors run) reads stated in
     (within, limit-few config (end_of old moments) moment ready.small ready.room (hold (end_of old moments) here) moment.command within)
 
--- the commands before, and one more
-pub ran-more : {E : Type 0} (config : Config) (old : Machine) (commands : List Command) (command : Command) (stands stands_now : Machine → Type 0) (content : List ℕ) (faults : ℕ) (mid now : FlashState) (told told_mid told_now : Option (List ℕ)) →
-    IsReady config old → length commands < 2 ^ 44 + 2 ^ 10 → ((m : Machine) → stands m → AreTables config.plans m.tables) →
-    RanSoFar config old commands stands content mid.media.content faults mid.media.faults mid.work.reads told told_mid → mid.media.faults ≤ now.media.faults →
-    ((m : Machine) → stands m → Executes {E = E} config m command stands_now mid now told_mid told_now (Ok tt)) →
-    RanSoFar config old (commands ++ command ∷ []) stands_now content now.media.content faults now.media.faults now.work.reads told told_now
-ran-more {E} config old commands command stands stands_now content faults mid now told told_mid told_now ready lines hold (h, counted) later executes =
+-- the commands before, and one more, which the flash can count
+pub ran-further : {E : Type 0} (config : Config) (old : Machine) (commands : List Command) (command : Command) (stands stands_now : Machine → Type 0) (content : List ℕ) (faults : ℕ) (mid now : FlashState) (told told_mid told_now : Option (List ℕ)) →
+    IsReady config old → ((m : Machine) → stands m → AreTables config.plans m.tables) →
+    (h : Ran config old commands stands content mid.media.content faults mid.media.faults told told_mid) → mid.work.reads + most_of_a_command < 2 ^ 64 - 1 → mid.media.faults ≤ now.media.faults →
+    (executes : (m : Machine) → stands m → Executes {E = E} config m command stands_now mid now told_mid told_now (Ok tt)) →
+    (ran : Ran config old (commands ++ command ∷ []) stands_now content now.media.content faults now.media.faults told told_now)
+    × (now.work.reads ≤ mid.work.reads + (executes (end_of old h.moments) h.stands_after).moment.reads) × ((executes (end_of old h.moments) h.stands_after).moment.reads ≤ most_of_a_command)
+ran-further {E} config old commands command stands stands_now content faults mid now told told_mid told_now ready hold h room later executes =
     let e = executes (end_of old h.moments) h.stands_after in
     let run = run-more config old h.moments e.moment h.run e.step in
     let more = counted-by mid e.moment now command e.reads in
     let limited = next-limit config old h.moments command stands mid now (Ok tt) e.moment ready h.run h.stands_after hold e.command_is e.reads e.stated in
-    let below = counted-below h.moments commands now.work.reads h.commands_are lines h.reads.few (omega (arith, counted, more, limited.1)) in (
+    let below : now.work.reads < 2 ^ 64 - 1 = omega (arith, room, more, limited.1) in (
       record {
         moments = h.moments ++ e.moment ∷ [];
         commands_are = map-append (λ (m : Moment). m.command) h.moments (e.moment ∷ []) ∙ (ap (λ cs. cs ++ e.moment.command ∷ []) h.commands_are ∙ ap (λ c. commands ++ c ∷ []) e.command_is);
@@ -258,17 +259,31 @@ ran-more {E} config old commands command stands stands_now content faults mid no
         kept = λ place. keeps-puts config old (h.moments ++ e.moment ∷ []) place ready.room ready.off ready.rest (ready.logs place) run;
         told_all = rw written-more (appends-more told told_mid told_now (written_by h.moments) (texts e.moment.replies) h.told_all e.told_all);
       },
-      omega (arith, reads-more h.moments e.moment, counted, more),
+      more,
+      limited.1,
     )
 
 -- .. of which the last moment is that of the command
-pub ran-more_moments : {E : Type 0} (config : Config) (old : Machine) (commands : List Command) (command : Command) (stands stands_now : Machine → Type 0) (content : List ℕ) (faults : ℕ) (mid now : FlashState) (told told_mid told_now : Option (List ℕ)) →
-    (ready : IsReady config old) → (lines : length commands < 2 ^ 44 + 2 ^ 10) → (hold : (m : Machine) → stands m → AreTables config.plans m.tables) →
-    (so_far : RanSoFar config old commands stands content mid.media.content faults mid.media.faults mid.work.reads told told_mid) → (later : mid.media.faults ≤ now.media.faults) →
+pub ran-further_moments : {E : Type 0} (config : Config) (old : Machine) (commands : List Command) (command : Command) (stands stands_now : Machine → Type 0) (content : List ℕ) (faults : ℕ) (mid now : FlashState) (told told_mid told_now : Option (List ℕ)) →
+    (ready : IsReady config old) → (hold : (m : Machine) → stands m → AreTables config.plans m.tables) →
+    (h : Ran config old commands stands content mid.media.content faults mid.media.faults told told_mid) → (room : mid.work.reads + most_of_a_command < 2 ^ 64 - 1) → (later : mid.media.faults ≤ now.media.faults) →
     (executes : (m : Machine) → stands m → Executes {E = E} config m command stands_now mid now told_mid told_now (Ok tt)) →
-    (ran-more config old commands command stands stands_now content faults mid now told told_mid told_now ready lines hold so_far later executes).0.moments ≡ so_far.0.moments ++ (executes (end_of old so_far.0.moments) so_far.0.stands_after).moment ∷ []
-unfolding ran-more
-ran-more_moments config old commands command stands stands_now content faults mid now told told_mid told_now ready lines hold so_far later executes = refl
+    (ran-further config old commands command stands stands_now content faults mid now told told_mid told_now ready hold h room later executes).0.moments ≡ h.moments ++ (executes (end_of old h.moments) h.stands_after).moment ∷ []
+unfolding ran-further
+ran-further_moments config old commands command stands stands_now content faults mid now told told_mid told_now ready hold h room later executes = refl
+
+-- the commands before, and one more
+pub ran-more : {E : Type 0} (config : Config) (old : Machine) (commands : List Command) (command : Command) (stands stands_now : Machine → Type 0) (content : List ℕ) (faults : ℕ) (mid now : FlashState) (told told_mid told_now : Option (List ℕ)) →
+    IsReady config old → length commands < 2 ^ 44 + 2 ^ 10 → ((m : Machine) → stands m → AreTables config.plans m.tables) →
+    RanSoFar config old commands stands content mid.media.content faults mid.media.faults mid.work.reads told told_mid → mid.media.faults ≤ now.media.faults →
+    ((m : Machine) → stands m → Executes {E = E} config m command stands_now mid now told_mid told_now (Ok tt)) →
+    RanSoFar config old (commands ++ command ∷ []) stands_now content now.media.content faults now.media.faults now.work.reads told told_now
+ran-more {E} config old commands command stands stands_now content faults mid now told told_mid told_now ready lines hold (h, counted) later executes =
+    let e = executes (end_of old h.moments) h.stands_after in
+    let room : mid.work.reads + most_of_a_command < 2 ^ 64 - 1 = counted-below h.moments commands (mid.work.reads + most_of_a_command) h.commands_are lines h.reads.few (omega (arith, counted)) in
+    let further = ran-further {E = E} config old commands command stands stands_now content faults mid now told told_mid told_now ready hold h room later executes in
+    let which : further.0.moments ≡ h.moments ++ e.moment ∷ [] = ran-further_moments {E = E} config old commands command stands stands_now content faults mid now told told_mid told_now ready hold h room later executes in
+    (further.0, omega (arith, ap reads_in which, reads-more h.moments e.moment, counted, further.1))
 
 -- .. and into the reply of one more
 pub ran-into : {E : Type 0} (config : Config) (old : Machine) (commands : List Command) (command : Command) (stands stands_now : Machine → Type 0) (content : List ℕ) (faults : ℕ) (mid now : FlashState) (told told_mid told_now : Option (List ℕ)) (error : E) →

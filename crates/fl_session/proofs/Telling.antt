@@ -14,7 +14,10 @@ use Rattle.fl_model.specs.Table.{last_entry}
 use Rattle.fl_machine.specs.Machine.{Machine}
 use Rattle.fl_machine.specs.Step.{Located, located}
 use Rattle.fl_rlc.specs.Logged as logged
+use Rattle.fl_rlc.specs.Rings.{rings_of}
 use Rattle.fl_rlc.specs.Table.{table_in}
+use Rattle.fl_rlc.specs.declared.rings.RingCounts.{RingCounts}
+use Rattle.fl_rlc.specs.declared.table.LoggedTable.{LoggedTable}
 use Rattle.fl_script.specs.declared.reply.Reply as code
 use Rattle.fl_table.specs.Look.{counts_of}
 use Rattle.fl_table.specs.Standing.{Stands}
@@ -24,7 +27,7 @@ use Rattle.fl_store.specs.Tables.{first_of, EntryStands, TablesStand}
 use Rattle.fl_store.specs.declared.tables.Entry.{Entry}
 use Rattle.fl_store.proofs.TablesChanged.{at-place}
 use Rattle.fl_session.specs.Answer.{IsReached, Refusal}
-use Rattle.fl_session.specs.Held.{TellsTable, TellsLast, TellsCounts}
+use Rattle.fl_session.specs.Held.{TellsTable, TellsLast, TellsCounts, TellsRings}
 use Rattle.fl_session.specs.Pending.{rows_of, pending_of}
 use Rattle.fl_session.specs.declared.notes.Notes.{Notes}
 use Rattle.fl_session.specs.declared.pending.TableRows.{TableRows}
@@ -61,6 +64,14 @@ pub counts-told : (config : Config) (m : Machine) (entries : List Entry) (notes 
     (m.mounted ≡ true) × IsSomeAnd (located config m asked) (λ at. TellsCounts at counts)
 counts-told config m entries notes f mounted asked at entry t counts h r here table_is holds =
     told-of config m entries notes f mounted asked at entry TellsCounts counts h r here (λ first plan table stands. holds f first (bare plan) (bare_table table) (stands-unlogged t entry table_is stands))
+
+pub rings-told : (config : Config) (m : Machine) (entries : List Entry) (notes : Notes) (f : FlashState) (mounted : Bool) (asked : List ℕ) (at : ℕ) (entry : Entry) (t : LoggedTable 64 64) (rings : RingCounts) →
+    SessionStands config entries f mounted notes m → IsReached entries mounted asked at → slice_get entries at ≡ Some entry → t ≡ entry.table →
+    ((f : FlashState) (first : ℕ) (plan : Plan) (table : model.Table) → logged.Stands t f first plan table → rings ≡ rings_of table) →
+    (m.mounted ≡ true) × IsSomeAnd (located config m asked) (λ at. TellsRings at rings)
+rings-told config m entries notes f mounted asked at entry t rings h r here table_is holds =
+    told-of config m entries notes f mounted asked at entry TellsRings rings h r here
+    (λ first plan table stands. holds f first plan table (subst (λ x. logged.Stands x f first plan table) (sym table_is) stands.on_flash))
 
 -- ---- the rows that no flush has written
 

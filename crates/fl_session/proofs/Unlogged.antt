@@ -45,7 +45,7 @@ left-bare : (table : Table) (entry : Entry) (blob : Option (List ℕ)) → blob_
 left-bare table entry None = refl
 left-bare table entry (Some bytes) = refl
 
-blobs-bare : (table : Table) → blob_of (bare_table table) ≡ blob_of table
+pub blobs-bare : (table : Table) → blob_of (bare_table table) ≡ blob_of table
 blobs-bare table = fun_ext (λ (entry : Entry). left-bare table entry entry.kept.blob)
 
 -- ---- limits

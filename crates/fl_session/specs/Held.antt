@@ -6,6 +6,8 @@ use Rattle.fl_model.specs.Table.{last_entry}
 use Rattle.fl_words.specs.Config.{Lines}
 use Rattle.fl_machine.specs.Machine.{Machine}
 use Rattle.fl_machine.specs.Step.{Located, located}
+use Rattle.fl_rlc.specs.Rings.{rings_of}
+use Rattle.fl_rlc.specs.declared.rings.RingCounts.{RingCounts}
 use Rattle.fl_script.specs.declared.reply.Reply.{Reply}
 use Rattle.fl_script.specs.declared.reply.Reply.TheVariants.{NotMounted, NoTable}
 use Rattle.fl_table.specs.Look.{counts_of}
@@ -33,3 +35,7 @@ TellsLast at key = key ≡ option_map (λ entry. entry.kept.key) (last_entry at.
 -- how much it holds
 abbrev pub TellsCounts : Located → TableCounts → Type 0
 TellsCounts at counts = counts ≡ counts_of at.table
+
+-- how many pages its rings keep
+abbrev pub TellsRings : Located → RingCounts → Type 0
+TellsRings at rings = rings ≡ rings_of at.table

@@ -14,6 +14,8 @@ pub mod Loop
 pub mod Begin
 pub mod Opening
 pub mod Held
+pub mod Keys
+pub mod Oldest
 pub mod Pending
 pub mod Answer
 pub mod Caused

@@ -8,12 +8,14 @@ ghost use Rattle.fl_machine.specs.Small.{AreTables};
 ghost use Rattle.fl_script.specs.CommandView.{command_view};
 ghost use Rattle.fl_session.specs.Caused.{Caused, State};
 ghost use Rattle.fl_session.specs.Execute.{Executes};
-ghost use Rattle.fl_session.specs.Held.{TellsTable, TellsCounts, TellsLast};
+ghost use Rattle.fl_session.specs.Held.{TellsTable, TellsCounts, TellsLast, TellsRings};
+ghost use Rattle.fl_session.specs.Oldest.{LooksFor};
 ghost use Rattle.fl_session.specs.Pending.{pending_in};
 ghost use Rattle.fl_session.specs.Runnable.{IsRunnable};
 
 use crate::PendingRows;
 use fl_base::{Name, Sink, SinkFailed};
+use fl_rlc::RingCounts;
 use fl_script::{Command, LineRoom, Reply};
 use fl_table::TableCounts;
 
@@ -63,6 +65,23 @@ pub trait Executor {
     /// `NotMounted` and `NoTable`, as a command on the table answers.
     fn counts(&self, name: Name) -> Result<TableCounts, Reply>
         ensures { (config : Config) (m : Machine) → stands self.now config m → TellsTable config m name TellsCounts result };
+
+    /// How many pages each ring of the table with this name keeps; or why nothing is told. No page is read.
+    /// # Errors
+    /// `NotMounted` and `NoTable`, as a command on the table answers.
+    fn rings(&self, name: Name) -> Result<RingCounts, Reply>
+        ensures { (config : Config) (m : Machine) → stands self.now config m → TellsTable config m name TellsRings result };
+
+    /// The key of the oldest record of the table with this name whose blob isn't gone, if there is one; or why none is told. A
+    /// blob without a byte is never gone. Pages of rows are read, up to that of the record.
+    /// # Errors
+    /// `NotMounted`, `NoTable` and `ReadFault`, as a command on the table answers; and `BadPage`, which comes from no state
+    /// for which it stands.
+    fn oldest_blob(&mut self, name: Name) -> Result<Option<u64>, Reply>
+        requires { sound self.old }
+        ensures sound { sound self.new }
+        ensures goes { Goes (flash self.old) (flash self.new) }
+        ensures looks { (config : Config) (m : Machine) → stands self.old config m → LooksFor config m name (stands self.new config) (flash self.old) (flash self.new) result };
 
     /// The rows that no flush has written. They are in memory: no page is read.
     fn pending(&self) -> PendingRows

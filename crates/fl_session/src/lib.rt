@@ -19,6 +19,7 @@ mod load;
 mod lookup;
 mod next;
 mod notes;
+mod oldest;
 mod opened;
 mod operators;
 mod pair_lines;

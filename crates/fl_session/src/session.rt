@@ -26,11 +26,13 @@ use crate::executor::Executor;
 use crate::load::load;
 use crate::lookup::look_up;
 use crate::notes::{NO_CURSORS, Notes};
+use crate::oldest::oldest_blob;
 use crate::operators::Comparison;
 use crate::replies::{cost_reply, flush_breaks, mount_reply, put_breaks};
 use crate::scans::list_rows;
 use fl_base::{KeyRange, Name, Sink, SinkFailed, Span};
 use fl_flash::{Flash, Media, SimFlash};
+use fl_rlc::RingCounts;
 use fl_script::{Command, LineRoom, Reply, write_reply};
 use fl_store::{Tables, flush_reply, put_reply};
 use fl_table::TableCounts;
@@ -415,6 +417,23 @@ impl<'m, M: Media> Executor for Session<'m, M> {
             Err(refusal) => return Err(refusal),
         };
         Ok(self.tables.entries[at].table.table().counts())
+    }
+
+    fn rings(&self, name: Name) -> Result<RingCounts, Reply> {
+        let at = match self.find(name) {
+            Ok(at) => at,
+            Err(refusal) => return Err(refusal),
+        };
+        Ok(self.tables.entries[at].table.rings())
+    }
+
+    fn oldest_blob(&mut self, name: Name) -> Result<Option<u64>, Reply> {
+        let at = match self.find(name) {
+            Ok(at) => at,
+            Err(refusal) => return Err(refusal),
+        };
+        let table = self.tables.entries[at].table.table();
+        oldest_blob(table, &mut self.flash, &mut self.buf)
     }
 
     fn pending(&self) -> PendingRows {
