@@ -42,6 +42,43 @@ $configuration
   last key 1
 end 1
 " ''
+# of twelve blobs of 100 bytes those that begin on the first four of eleven pages are gone
+rm -f new.img
+{
+    printf 'device 128 4\ntable b 4 u8 3 3 3 8 0 32 2 100\ntable l 4 u8 3 0 0 0 0 1 2 0 rlc 3\nmount\n'
+    for key in 1 2 3 4 5 6 7 8 9 10 11 12; do printf 'put b %d 5 blob %0200d\n' $key 0; done
+    printf 'put l 1 5\ndescribe\n'
+} > lines.text
+flashts shell new.img < lines.text
+ends "what each ring keeps, and the oldest blob" 0 "$(printf 'ok\n%.0s' 1 2 3 4 5 6 7 8 9 10 11 12 13 14)
+device 128 4
+table b 4 u8 3 3 3 8 0 32 2 100
+  rows a page 6
+  rows always kept of full pages 42
+  rows kept 12
+  rows pending 6
+  pages kept 1
+  pages void 0
+  pages free 11
+  last key 12
+  index pages kept 0
+  index pages free 12
+  blob pages kept 7
+  blob pages free 5
+  oldest blob 6
+table l 4 u8 3 0 0 0 0 1 2 0 rlc 3
+  rows a page 20
+  rows always kept of full pages 140
+  rows kept 1
+  rows pending 1
+  pages kept 0
+  pages void 0
+  pages free 12
+  last key 1
+  log pages kept 1
+  log pages free 11
+end 2
+" $'flashts: pending rows flushed: 7\nflashts: a new image was made\n'
 
 # a line that is too long is answered once, however long it is, and nothing of it is done
 for length in 4095 4096 4097 4098 8193 8194 8195 100000; do

@@ -133,8 +133,9 @@ class Store:
             # (an image that has a configuration answers that these lines come too late: then they have to be its own)
             for line in lines:
                 self._configure(line)
-            self.mount()
+            # (before the mount, since to describe what a mounted table holds may read its pages)
             self.tables: dict[str, Table] = {table.name: table for table in self._tables()}
+            self.mount()
         except BaseException:
             # (not by a signal: at the end of its input the program leaves no empty file)
             self._process.communicate()

@@ -16,8 +16,8 @@ use Rattle.fl_rlc.specs.Table.{table_in}
 use Rattle.fl_script.specs.declared.reply.Reply as code
 use Rattle.fl_table.specs.Standing.{Stands}
 use Rattle.fl_table.specs.declared.table.Table.{Table}
-use Rattle.fl_tables.specs.Tables.{first_of}
-use Rattle.fl_tables.specs.declared.tables.Entry.{Entry}
+use Rattle.fl_store.specs.Tables.{first_of}
+use Rattle.fl_store.specs.declared.tables.Entry.{Entry}
 use Rattle.fl_session.specs.Answer.{IsReached, Refusal}
 use Rattle.fl_session.specs.Keys.{all_keys}
 use Rattle.fl_session.specs.Oldest.{is_left, oldest_blob, reads_of, FindsOf, FindsOldest, LooksFor}

@@ -35,4 +35,3 @@ pub mod Asked
 pub mod Complete
 pub mod Determined
 pub mod Operations
-pub mod Keys

@@ -19,7 +19,7 @@ use fl_flash::Flash;
 use fl_page::{ReadFault, Rows};
 use fl_schema::RowRef;
 use fl_script::Reply;
-use fl_tables::{Cursor, Table};
+use fl_store::{Cursor, Table};
 
 /// The range of all keys.
 const ALL_KEYS: KeyRange = KeyRange {

@@ -30,6 +30,7 @@ use Rattle.fl_shell.specs.declared.end.ShellStatus.{ShellStatus}
 use Rattle.fl_shell.specs.declared.end.ShellStatus.TheVariants.{Done, InputRead, InputLong, OutWrite, Unflushed}
 use Rattle.fl_shell.proofs.Beginning.{BeginsOn}
 use Rattle.fl_shell.proofs.TalkLoop.{medium-ends}
+use Rattle.fl_shell.proofs.Talking.{causes-earlier}
 
 -- the faults are counted from before the image was opened
 talked-earlier : (config : Config) (old : Machine) (lines : List (List ℕ)) (flushed : Flushed) (stands : Machine → Type 0) (content content_now : List ℕ) (before mid now : ℕ) (told told_now : Option (List ℕ)) → before ≤ mid →
@@ -41,6 +42,7 @@ talked-earlier config old lines flushed stands content content_now before mid no
   flushes_all = h.flushes_all;
   ran = ran-earlier config old (commands_of (moments_of h.turns ++ h.flushes)) stands content content_now before mid now None None later h.ran;
   moments_are = h.moments_are;
+  causes = causes-earlier before mid now h.turns later h.causes;
   told_all = h.told_all;
 }
 

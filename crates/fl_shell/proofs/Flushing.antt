@@ -81,17 +81,26 @@ unsaid config old c stands flash flash_now told told_now e = record {
 
 -- ---- one after another
 
+more-lines : (lines a b : ℕ) → b ≡ a + 1 → lines + a + 1 ≡ lines + b
+more-lines lines a b e = omega (arith, e)
+
+-- none was flushed yet
+pub none-flushed : (config : Config) (old : Machine) (lines : ℕ) (moments : List Moment) (stands : Machine → Type 0) (content : List ℕ) (faults : ℕ) (flash : FlashState) → RanThese config old lines moments stands content faults flash → RanThese config old (lines + 0) (moments ++ []) stands content faults flash
+none-flushed config old lines moments stands content faults flash h =
+    let same : lines ≡ lines + 0 = omega arith in
+    subst (λ n. RanThese config old n (moments ++ []) stands content faults flash) same (subst (λ ms. RanThese config old lines ms stands content faults flash) (sym (append-nil moments)) h)
+
 -- what was flushed so far
-pub record FlushedSoFar (config : Config) (old : Machine) (moments : List Moment) (commands : List Command) (stands : Machine → Type 0) (content : List ℕ) (faults : ℕ) (flash : FlashState) (done : Bool) : Type 0 where
+pub record FlushedSoFar (config : Config) (old : Machine) (lines : ℕ) (moments : List Moment) (commands : List Command) (stands : Machine → Type 0) (content : List ℕ) (faults : ℕ) (flash : FlashState) (done : Bool) : Type 0 where
   pub flushes : List Moment
   pub commands_are : commands_of flushes ≡ commands
   pub is_done : done ≡ true → AllByRecursion IsDone flushes
   pub is_undone : done ≡ false → AllByRecursion IsDone flushes → ⊥
-  pub runs : RanThese config old (moments ++ flushes) stands content faults flash
+  pub runs : RanThese config old (lines + length flushes) (moments ++ flushes) stands content faults flash
 
-pub flushed-none : (config : Config) (old : Machine) (moments : List Moment) (stands : Machine → Type 0) (content : List ℕ) (faults : ℕ) (flash : FlashState) → RanThese config old moments stands content faults flash → FlushedSoFar config old moments [] stands content faults flash true
-flushed-none config old moments stands content faults flash h =
-    record { flushes = []; commands_are = refl; is_done = λ e. tt; is_undone = λ e. cc; runs = subst (λ ms. RanThese config old ms stands content faults flash) (sym (append-nil moments)) h }
+pub flushed-none : (config : Config) (old : Machine) (lines : ℕ) (moments : List Moment) (stands : Machine → Type 0) (content : List ℕ) (faults : ℕ) (flash : FlashState) → RanThese config old lines moments stands content faults flash → FlushedSoFar config old lines moments [] stands content faults flash true
+flushed-none config old lines moments stands content faults flash h =
+    record { flushes = []; commands_are = refl; is_done = λ e. tt; is_undone = λ e. cc; runs = none-flushed config old lines moments stands content faults flash h }
 
 all-more : (flushes : List Moment) (moment : Moment) → AllByRecursion IsDone flushes → IsDone moment → AllByRecursion IsDone (flushes ++ moment ∷ [])
 all-more [] moment all one = (one, tt)
@@ -114,21 +123,22 @@ one-undone : (a b : Bool) → (if a then b else false) ≡ false → (a ≡ fals
 one-undone true b e = inr e
 one-undone false b e = inl refl
 
-pub flushed-more : (config : Config) (old : Machine) (moments : List Moment) (commands : List Command) (name : List ℕ) (stands stands_now : Machine → Type 0) (content : List ℕ) (faults : ℕ) (flash flash_now : FlashState) (done one : Bool) →
-    IsReady config old → length moments + length commands < 2 ^ 44 + 2 ^ 10 → ((m : Machine) → stands m → AreTables config.plans m.tables) → flash.media.faults ≤ flash_now.media.faults →
-    FlushedSoFar config old moments commands stands content faults flash done → ((m : Machine) → stands m → FlushesOne config m name stands_now flash flash_now one) →
-    FlushedSoFar config old moments (commands ++ command.Flush name ∷ []) stands_now content faults flash_now (if done then one else false)
-flushed-more config old moments commands name stands stands_now content faults flash flash_now done one ready few hold later h flush =
+pub flushed-more : (config : Config) (old : Machine) (lines : ℕ) (moments : List Moment) (commands : List Command) (name : List ℕ) (stands stands_now : Machine → Type 0) (content : List ℕ) (faults : ℕ) (flash flash_now : FlashState) (done one : Bool) →
+    IsReady config old → lines + length commands < 2 ^ 44 + 2 ^ 10 → ((m : Machine) → stands m → AreTables config.plans m.tables) → flash.media.faults ≤ flash_now.media.faults →
+    FlushedSoFar config old lines moments commands stands content faults flash done → ((m : Machine) → stands m → FlushesOne config m name stands_now flash flash_now one) →
+    FlushedSoFar config old lines moments (commands ++ command.Flush name ∷ []) stands_now content faults flash_now (if done then one else false)
+flushed-more config old lines moments commands name stands stands_now content faults flash flash_now done one ready few hold later h flush =
     let Told : Moment → Type 0 = λ moment. (one ≡ true → IsDone moment) × (one ≡ false → IsDone moment → ⊥) in
     let many : length h.flushes ≡ length commands = sym (length-map h.flushes (λ (m : Moment). m.command)) ∙ ap length h.commands_are in
-    let g = ran-goes_on {E = SinkFailed} config old (moments ++ h.flushes) (command.Flush name) stands stands_now content faults flash flash_now Told ready (omega (arith, few, many, length-append moments h.flushes)) hold later h.runs
+    let g = ran-goes_on {E = SinkFailed} config old (lines + length h.flushes) (moments ++ h.flushes) (command.Flush name) stands stands_now content faults flash flash_now Told ready (omega (arith, few, many)) hold later h.runs
     (λ m here. (flush m here).executes) (λ m here is. ((flush m here).is_done, (flush m here).is_undone)) in
     record {
       flushes = h.flushes ++ g.0 ∷ [];
       commands_are = map-append (λ (m : Moment). m.command) h.flushes (g.0 ∷ []) ∙ (ap (λ cs. cs ++ g.0.command ∷ []) h.commands_are ∙ ap (λ c. commands ++ c ∷ []) g.2);
       is_done = λ e. let b = both-done done one e in all-more h.flushes g.0 (h.is_done b.0) (g.1.0 b.1);
       is_undone = λ e all. elim (one-undone done one e) [ inl a ↦ h.is_undone a (all-before h.flushes g.0 all) | inr b ↦ g.1.1 b (all-last h.flushes g.0 all) ];
-      runs = subst (λ ms. RanThese config old ms stands_now content faults flash_now) (append_assoc moments h.flushes (g.0 ∷ [])) g.3;
+      runs = subst (λ n. RanThese config old n (moments ++ (h.flushes ++ g.0 ∷ [])) stands_now content faults flash_now) (more-lines lines (length h.flushes) (length (h.flushes ++ g.0 ∷ [])) (length-append h.flushes (g.0 ∷ [])))
+          (subst (λ ms. RanThese config old (lines + length h.flushes + 1) ms stands_now content faults flash_now) (append_assoc moments h.flushes (g.0 ∷ [])) g.3);
     }
 
 -- one table more
@@ -173,12 +183,12 @@ some-pending : (config : Config) (m : Machine) (n : ℕ) → n ≡ pending_rows 
 some-pending config m n is some = ap (λ (b : Bool). if b then [] else map flush_of config.plans) (ne_eqb (pending_rows config m) 0 (λ e. some (is ∙ e)))
 
 -- each table was flushed
-pub flushed-all : (config : Config) (old : Machine) (moments : List Moment) (stands : Machine → Type 0) (content : List ℕ) (faults : ℕ) (flash : FlashState) (pending left : ℕ) (done all : Bool) →
-    (h : FlushedSoFar config old moments (map flush_of config.plans) stands content faults flash done) → pending ≡ pending_rows config (end_of old moments) → (pending ≡ 0 → ⊥) → ((m : Machine) → stands m → left ≡ pending_rows config m) →
+pub flushed-all : (config : Config) (old : Machine) (lines : ℕ) (moments : List Moment) (stands : Machine → Type 0) (content : List ℕ) (faults : ℕ) (flash : FlashState) (pending left : ℕ) (done all : Bool) →
+    (h : FlushedSoFar config old lines moments (map flush_of config.plans) stands content faults flash done) → pending ≡ pending_rows config (end_of old moments) → (pending ≡ 0 → ⊥) → ((m : Machine) → stands m → left ≡ pending_rows config m) →
     (all ≡ true → (done ≡ true) × (left ≡ 0)) → (all ≡ false → (done ≡ false) ⊎ (left ≡ 0 → ⊥)) →
-    FlushesBehind config old moments stands content faults flash (record { pending = pending; all = all })
-flushed-all config old moments stands content faults flash pending left done all h is some left_is if_all if_not =
-    let here : stands (end_of old (moments ++ h.flushes)) = ran-stands config old (moments ++ h.flushes) stands content faults flash h.runs in
+    FlushesBehind config old lines moments stands content faults flash (record { pending = pending; all = all })
+flushed-all config old lines moments stands content faults flash pending left done all h is some left_is if_all if_not =
+    let here : stands (end_of old (moments ++ h.flushes)) = ran-stands config old (lines + length h.flushes) (moments ++ h.flushes) stands content faults flash h.runs in
     let left_here : left ≡ pending_rows config (end_of (end_of old moments) h.flushes) = left_is (end_of old (moments ++ h.flushes)) here ∙ ap (pending_rows config) (end_of-append old moments h.flushes) in
     record {
       flushes = h.flushes;
@@ -222,7 +232,7 @@ flush-heard {T} config m name stands flash flash_now kept error e full cause =
     omega (arith, short, long)
 
 -- when the loop over the tables has ended
-pub all-plans : (config : Config) (old : Machine) (moments : List Moment) (plans : List Plan) (at : ℕ) (stands : Machine → Type 0) (content : List ℕ) (faults : ℕ) (flash : FlashState) (done : Bool) → length plans ≤ at → config.plans ≡ plans →
-    FlushedSoFar config old moments (map flush_of (take at plans)) stands content faults flash done → FlushedSoFar config old moments (map flush_of config.plans) stands content faults flash done
-all-plans config old moments plans at stands content faults flash done end same h =
-    subst (λ ps. FlushedSoFar config old moments (map flush_of ps) stands content faults flash done) (take_all at plans end ∙ sym same) h
+pub all-plans : (config : Config) (old : Machine) (lines : ℕ) (moments : List Moment) (plans : List Plan) (at : ℕ) (stands : Machine → Type 0) (content : List ℕ) (faults : ℕ) (flash : FlashState) (done : Bool) → length plans ≤ at → config.plans ≡ plans →
+    FlushedSoFar config old lines moments (map flush_of (take at plans)) stands content faults flash done → FlushedSoFar config old lines moments (map flush_of config.plans) stands content faults flash done
+all-plans config old lines moments plans at stands content faults flash done end same h =
+    subst (λ ps. FlushedSoFar config old lines moments (map flush_of ps) stands content faults flash done) (take_all at plans end ∙ sym same) h

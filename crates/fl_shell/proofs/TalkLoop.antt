@@ -25,7 +25,7 @@ use Rattle.fl_shell.specs.declared.end.ShellStatus.{ShellStatus}
 use Rattle.fl_shell.specs.declared.end.ShellStatus.TheVariants.{Done, InputRead, OutWrite, InputLong, Unflushed}
 use Rattle.fl_shell.proofs.LongLines.{long-own, long-runs}
 use Rattle.fl_shell.proofs.Ran.{ran-kept, ran-stands, restood}
-use Rattle.fl_shell.proofs.Talking.{talked-more, talked-into, talked-none}
+use Rattle.fl_shell.proofs.Talking.{causes-later, talked-more, talked-into, talked-none}
 
 -- ---- a line that is too long
 
@@ -43,7 +43,7 @@ long-as : {E : Type 0} (config : Config) (old : Machine) (line given : List ℕ)
 long-as {E} config old line given stands flash flash_now told told_now result long longer h =
     let s : Says {E = E} config old given stands flash flash_now told told_now result = subst (λ o. Turns {E = E} config old given o stands flash flash_now told told_now result) (long-command given long) h in
     let says : Says {E = E} config old line stands flash flash_now told told_now result =
-    record { stays = s.stays; same = s.same; answer = s.answer; answers = long-answers config old line given (record { moment = None; answer = s.answer }) long longer s.answers; written = s.written } in
+    record { unread = s.unread; few = s.few; looked = s.looked; answer = s.answer; answers = long-answers config old line given (record { moment = None; answer = s.answer; unread = s.unread }) long longer s.answers; written = s.written } in
     subst (λ o. Turns {E = E} config old line o stands flash flash_now told told_now result) (sym (long-command line longer)) says
 
 -- what is answered to a line is so to the line as it was given
@@ -77,20 +77,6 @@ pub record Between (config : Config) (old : Machine) (all : List (List ℕ)) (to
   pub so_far : TalkedSoFar config old given stands content faults flash told told_now
   pub few : length given + state.most ≤ 2 ^ 44 + 1
 
--- at most one moment is made of a line
-each-few : (config : Config) (old : Machine) (lines : List (List ℕ)) (turns : List Turn) → AnswersEach config old lines turns → length (moments_of turns) ≤ length lines
-each-few config old [] [] each = omega arith
-each-few config old [] (t ∷ turns) each = absurd each
-each-few config old (l ∷ lines) [] each = absurd each
-each-few config old (l ∷ lines) (t ∷ turns) each = by_moment t.moment (each-few config (after_turn old t) lines turns each.1)
-  where
-    by_moment : (o : Option Moment) → length (moments_of turns) ≤ length lines → length (moments_onto o (moments_of turns)) ≤ suc (length lines)
-    by_moment None h = omega (arith, h)
-    by_moment (Some m) h = omega (arith, h)
-
-moments-few : (config : Config) (old : Machine) (lines : List (List ℕ)) (stands : Machine → Type 0) (content : List ℕ) (faults : ℕ) (flash : FlashState) (told told_now : Option (List ℕ)) → (h : TalkedSoFar config old lines stands content faults flash told told_now) → length (moments_of h.turns) ≤ length lines
-moments-few config old lines stands content faults flash told told_now h = each-few config old lines h.turns h.each
-
 -- before any line
 pub hand-first : (config : Config) (old : Machine) (total : ℕ) (stands : Machine → Type 0) (flash : FlashState) (told : Option (List ℕ)) (in_hand : Bool) (state : LinesState) (left_now : Option (List ℕ)) (left hand : List ℕ) →
     flash.work.reads ≡ 0 → stands old → state.most ≤ 2 ^ 44 → left_now ≡ Some left → IsLeft state left (2 ^ 44) total → IsGivenAs hand state.line →
@@ -117,7 +103,7 @@ pub hand-answered : (E : Type 0) (config : Config) (old : Machine) (all : List (
     ((m : Machine) → stands m → TurnsIf {E = E} has_line config m state.line (command_for state.line) stands_now flash flash_now told_mid told_now (Ok tt)) →
     Between config old all total stands_now content faults flash_now told told_now state left
 hand-answered E config old all total stands stands_now content faults flash flash_now told told_mid told_now true state left ready hold later h turn_at =
-    let few : length (moments_of h.so_far.turns) < 2 ^ 44 + 2 ^ 10 = omega (arith, moments-few config old h.given stands content faults flash told told_mid h.so_far, h.few) in
+    let few : length h.given < 2 ^ 44 + 2 ^ 10 = omega (arith, h.few) in
     record {
       given = h.given ++ h.hand ∷ [];
       rest = h.rest;
@@ -129,7 +115,7 @@ hand-answered E config old all total stands stands_now content faults flash flas
       few = omega (arith, h.few, length-append h.given (h.hand ∷ []));
     }
 hand-answered E config old all total stands stands_now content faults flash flash_now told told_mid told_now false state left ready hold later h turn_at =
-    let here = ran-stands config old (moments_of h.so_far.turns) stands content faults flash h.so_far.runs in
+    let here = ran-stands config old (length h.given) (moments_of h.so_far.turns) stands content faults flash h.so_far.runs in
     let t = turn_at (end_of old (moments_of h.so_far.turns)) here in
     record {
       given = h.given;
@@ -140,7 +126,8 @@ hand-answered E config old all total stands stands_now content faults flash flas
       so_far = record {
         turns = h.so_far.turns;
         each = h.so_far.each;
-        runs = ran-kept config old (moments_of h.so_far.turns) stands stands_now content faults flash flash_now h.so_far.runs t.0 t.1;
+        runs = ran-kept config old (length h.given) (moments_of h.so_far.turns) stands stands_now content faults flash flash_now h.so_far.runs t.0 t.1;
+        causes = causes-later faults flash.media.faults flash_now.media.faults h.so_far.turns later h.so_far.causes;
         told_all = subst (λ told_x. Appends told told_x (answers_of h.so_far.turns)) (sym t.2) h.so_far.told_all;
       };
       few = omega (arith, h.few);
@@ -159,7 +146,7 @@ hand-into {E} config old all total stands stands_now content faults flash flash_
       (λ m here. turns-as {E = E} config m h.hand state.line stands_now flash flash_now told_mid told_now (Err error) h.hand_is (turn_at m here)),
 )
 hand-into {E} config old all total stands stands_now content faults flash flash_now told told_mid told_now left_now false state left error h turn_at =
-    let t = turn_at (end_of old (moments_of h.so_far.turns)) (ran-stands config old (moments_of h.so_far.turns) stands content faults flash h.so_far.runs) in
+    let t = turn_at (end_of old (moments_of h.so_far.turns)) (ran-stands config old (length h.given) (moments_of h.so_far.turns) stands content faults flash h.so_far.runs) in
     let wrong : Err error ≡ Ok tt = t.3 in
     cc
 
@@ -187,66 +174,67 @@ pub between-done : (config : Config) (old : Machine) (all : List (List ℕ)) (to
 between-done config old all total stands content faults flash told told_now state new left left_now source source_now h asks =
     let g = asks.gives h.rest h.rest_told (2 ^ 44) total h.within in
     let same : h.given ≡ all = sym (append-nil h.given) ∙ (ap (λ ls. h.given ++ ls) (sym g.2.0) ∙ h.order) in
-    let few : length (moments_of h.so_far.turns) ≤ 2 ^ 44 + 1 = omega (arith, moments-few config old h.given stands content faults flash told told_now h.so_far, h.few) in
+    let few : length h.given ≤ 2 ^ 44 + 1 = omega (arith, h.few) in
     (subst (λ lines. TalkedFew config old lines stands content faults flash told told_now) same (h.so_far, few), g.1 ∙ ap Some g.2.1)
 
 -- .. or the input fails
 pub between-failed : (config : Config) (old : Machine) (all : List (List ℕ)) (total : ℕ) (stands : Machine → Type 0) (content : List ℕ) (faults : ℕ) (flash : FlashState) (told told_now : Option (List ℕ)) (state new : LinesState) (left left_now : Option (List ℕ)) (source source_now : ℕ) (fault : LinesFault) →
     Between config old all total stands content faults flash told told_now state left → AsksNext state left source (Err fault) new left_now source_now → TalkEnds config old all total stands content faults flash told told_now left_now (reading_status fault)
 between-failed config old all total stands content faults flash told told_now state new left left_now source source_now Failed h asks =
-    (h.given, lines_of (rest_in state h.rest), h.order, (h.so_far, omega (arith, moments-few config old h.given stands content faults flash told told_now h.so_far, h.few)))
+    (h.given, lines_of (rest_in state h.rest), h.order, (h.so_far, omega (arith, h.few)))
 between-failed config old all total stands content faults flash told told_now state new left left_now source source_now Long h asks =
     let g = asks.gives h.rest h.rest_told (2 ^ 44) total h.within in
-    (g.2, (h.given, lines_of (rest_in state h.rest), h.order, (h.so_far, omega (arith, moments-few config old h.given stands content faults flash told told_now h.so_far, h.few))))
+    (g.2, (h.given, lines_of (rest_in state h.rest), h.order, (h.so_far, omega (arith, h.few))))
 
 -- ---- and the flush
 
-done-flushed : (config : Config) (old : Machine) (lines : List (List ℕ)) (stands stands_now : Machine → Type 0) (content : List ℕ) (faults : ℕ) (flash flash_now : FlashState) (told told_now : Option (List ℕ)) (flushed : Flushed) →
-    (h : TalkedSoFar config old lines stands content faults flash told told_now) → FlushesBehind config old (moments_of h.turns) stands_now content faults flash_now flushed → SessionDone config old lines stands_now content faults flash_now told told_now flushed
-done-flushed config old lines stands stands_now content faults flash flash_now told told_now flushed h f =
-    record { turns = h.turns; each = h.each; flushes = f.flushes; flushes_all = f.flushes_all; runs = f.runs; told_all = h.told_all }
+done-flushed : (config : Config) (old : Machine) (lines : List (List ℕ)) (stands stands_now : Machine → Type 0) (content : List ℕ) (faults : ℕ) (flash flash_now : FlashState) (told told_now : Option (List ℕ)) (flushed : Flushed) → flash.media.faults ≤ flash_now.media.faults →
+    (h : TalkedSoFar config old lines stands content faults flash told told_now) → FlushesBehind config old (length lines) (moments_of h.turns) stands_now content faults flash_now flushed → SessionDone config old lines stands_now content faults flash_now told told_now flushed
+done-flushed config old lines stands stands_now content faults flash flash_now told told_now flushed later h f =
+    record { turns = h.turns; each = h.each; flushes = f.flushes; flushes_all = f.flushes_all; runs = f.runs; causes = causes-later faults flash.media.faults flash_now.media.faults h.turns later h.causes; told_all = h.told_all }
 
 -- how the flush ends a session
 pub session-ends : (config : Config) (old : Machine) (all : List (List ℕ)) (total : ℕ) (stands stands_now : Machine → Type 0) (content : List ℕ) (faults : ℕ) (flash flash_now : FlashState) (told told_now left_now : Option (List ℕ)) (flushed : Flushed) (status : ShellStatus) →
-    IsOfTalk status → TalkEnds config old all total stands content faults flash told told_now left_now status →
-    ((moments : List Moment) → length moments ≤ 2 ^ 44 + 1 → RanThese config old moments stands content faults flash → FlushesBehind config old moments stands_now content faults flash_now flushed) →
+    IsOfTalk status → flash.media.faults ≤ flash_now.media.faults → TalkEnds config old all total stands content faults flash told told_now left_now status →
+    ((lines : ℕ) (moments : List Moment) → lines ≤ 2 ^ 44 + 1 → RanThese config old lines moments stands content faults flash → FlushesBehind config old lines moments stands_now content faults flash_now flushed) →
     SessionEnds config old all total stands_now content faults flash_now told told_now left_now flushed (behind status flushed.all)
-session-ends config old all total stands stands_now content faults flash flash_now told told_now left_now flushed Done of h flush = by_all flushed.all refl
+session-ends config old all total stands stands_now content faults flash flash_now told told_now left_now flushed status of later h flush = by-status status of h
   where
-    done : SessionDone config old all stands_now content faults flash_now told told_now flushed
-    done = done-flushed config old all stands stands_now content faults flash flash_now told told_now flushed h.0.0 (flush (moments_of h.0.0.turns) h.0.1 h.0.0.runs)
+    done : (lines : List (List ℕ)) → TalkedFew config old lines stands content faults flash told told_now → SessionDone config old lines stands_now content faults flash_now told told_now flushed
+    done lines t = done-flushed config old lines stands stands_now content faults flash flash_now told told_now flushed later t.0 (flush (length lines) (moments_of t.0.turns) t.1 t.0.runs)
 
-    by_all : (b : Bool) → flushed.all ≡ b → SessionEnds config old all total stands_now content faults flash_now told told_now left_now flushed (behind Done b)
-    by_all true e = (done, h.1, e)
-    by_all false e = (done, h.1, e)
-session-ends config old all total stands stands_now content faults flash flash_now told told_now left_now flushed InputRead of h flush =
-    (h.0, h.1, h.2, done-flushed config old h.0 stands stands_now content faults flash flash_now told told_now flushed h.3.0 (flush (moments_of h.3.0.turns) h.3.1 h.3.0.runs))
-session-ends config old all total stands stands_now content faults flash flash_now told told_now left_now flushed OutWrite of h flush = h
-session-ends config old all total stands stands_now content faults flash flash_now told told_now left_now flushed InputLong of h flush =
-    let k = h.1 in
-    (h.0, (k.0, k.1, k.2, done-flushed config old k.0 stands stands_now content faults flash flash_now told told_now flushed k.3.0 (flush (moments_of k.3.0.turns) k.3.1 k.3.0.runs)))
-session-ends config old all total stands stands_now content faults flash flash_now told told_now left_now flushed status of h flush = absurd of
+    by_all : TalkEnds config old all total stands content faults flash told told_now left_now Done → (b : Bool) → flushed.all ≡ b → SessionEnds config old all total stands_now content faults flash_now told told_now left_now flushed (behind Done b)
+    by_all h true e = (done all h.0, h.1, e)
+    by_all h false e = (done all h.0, h.1, e)
+
+    by-status : (status : ShellStatus) → IsOfTalk status → TalkEnds config old all total stands content faults flash told told_now left_now status → SessionEnds config old all total stands_now content faults flash_now told told_now left_now flushed (behind status flushed.all)
+    by-status Done of h = by_all h flushed.all refl
+    by-status InputRead of h = (h.0, h.1, h.2, done h.0 h.3)
+    by-status OutWrite of h = h
+    by-status InputLong of h = let k = h.1 in (h.0, (k.0, k.1, k.2, done k.0 k.3))
+    by-status status of h = absurd of
 
 -- nothing is left to be answered
 pub talk-ended : (config : Config) (old : Machine) (total : ℕ) (stands : Machine → Type 0) (flash : FlashState) (told left_now : Option (List ℕ)) (left : List ℕ) → flash.work.reads ≡ 0 → stands old → left_now ≡ Some left → left ≡ [] →
     TalkEnds config old [] total stands flash.media.content flash.media.faults flash told told left_now Done
 talk-ended config old total stands flash told left_now left unread here is none =
-    let h = talked-none config old stands flash told unread here in
-    ((h, omega (arith, moments-few config old [] stands flash.media.content flash.media.faults flash told told h)), is ∙ ap Some none)
+    ((talked-none config old stands flash told unread here, omega arith), is ∙ ap Some none)
 
 -- ---- over a medium
 
 done-over : (config : Config) (old : Machine) (lines : List (List ℕ)) (stands stands_now : Machine → Type 0) (content : List ℕ) (faults : ℕ) (flash : FlashState) (told told_now : Option (List ℕ)) (flushed : Flushed) → ((m : Machine) → stands m → stands_now m) →
     SessionDone config old lines stands content faults flash told told_now flushed → Talked config old lines flushed stands_now content flash.media.content faults flash.media.faults told told_now
 done-over config old lines stands stands_now content faults flash told told_now flushed seen h =
-    let ran = h.runs.ran.0 in
+    let ran = h.runs.ran in
+    let r = restood config old (commands_of (moments_of h.turns ++ h.flushes)) stands stands_now content flash.media.content faults flash.media.faults flash.media.faults ran (omega arith) (seen (end_of old ran.moments) ran.stands_after) in
     record {
       turns = h.turns;
       each = h.each;
       flushes = h.flushes;
       flushes_all = h.flushes_all;
-      ran = restood config old (commands_of (moments_of h.turns ++ h.flushes)) stands stands_now content flash.media.content faults flash.media.faults ran (seen (end_of old ran.moments) ran.stands_after);
-      moments_are = h.runs.are;
+      ran = r.0;
+      moments_are = r.1 ∙ h.runs.are;
+      causes = h.causes;
       told_all = h.told_all;
     }
 

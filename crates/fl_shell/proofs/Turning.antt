@@ -1,5 +1,5 @@
 -- The answer to one line, by what it asks.
-use Rattle.std.proofs.Common.{◌≡◌, ℕ, true, Option, Some, None, Result, Ok, Err, List, refl, sym, ◌∙◌, ap, subst}
+use Rattle.std.proofs.Common.{◌≡◌, ℕ, ◌+◌, ◌*◌, ◌≤◌, true, false, Option, Some, None, Result, Ok, Err, List, [], length, refl, sym, ◌∙◌, ap, subst, arith}
 use Rattle.fl_flash.specs.Flash.{FlashState}
 use Rattle.fl_model.specs.Record.{Config}
 use Rattle.fl_words.specs.Command as command
@@ -14,41 +14,52 @@ use Rattle.fl_reason.specs.declared.line.LineReason.{LineReason}
 use Rattle.fl_reason.specs.declared.line.LineReason.TheVariants.{TooLong, Unknown, Form, Number, Late}
 use Rattle.fl_script.specs.Written.{Written}
 use Rattle.fl_session.specs.Execute.{Executes}
-use Rattle.fl_shell.specs.Own.{Own, First, own_of}
+use Rattle.fl_shell.specs.Own.{Own, Describe, First, own_of}
 use Rattle.fl_shell.specs.Refusal.{Refuses}
-use Rattle.fl_shell.specs.Talk.{AnswersAs, AnswersRun, Turn, first_text, groups_of}
-use Rattle.fl_shell.specs.Turning.{Executed, ExecutedInto, Says, TellsFirst, Turns, command_by, command_for}
+use Rattle.fl_shell.specs.Talk.{AnswersAs, AnswersRun, Turn, description, first_text, groups_of}
+use Rattle.fl_shell.specs.Turning.{Describes, Executed, ExecutedInto, Looked, Says, TellsFirst, Turns, command_by, command_for}
 use Rattle.fl_shell.proofs.Flushing.{unsaid}
+
+-- nothing was read
+pub looked-none : (config : Config) (m : Machine) (stands : Machine → Type 0) (flash : FlashState) → stands m → Looked config m [] stands flash flash
+looked-none config m stands flash here = record { stays = here; content = refl; reads = λ most few. omega arith; cause = λ e. cc }
 
 -- a line to which nothing is executed
 pub silent-turn : {E : Type 0} (config : Config) (m : Machine) (line : List ℕ) (own : Own) (stands : Machine → Type 0) (flash : FlashState) (told told_now : Option (List ℕ)) (result : Result (Unit {0}) E) (answer : List ℕ) →
-    own_of line ≡ Some own → command_by (Some own) line ≡ None → AnswersAs config m (Some own) line (record { moment = None; answer = answer }) → stands m → Written told told_now result answer →
+    own_of line ≡ Some own → command_by (Some own) line ≡ None → AnswersAs config m (Some own) line (record { moment = None; answer = answer; unread = [] }) → stands m → Written told told_now result answer →
     Turns {E = E} config m line (command_by (Some own) line) stands flash flash told told_now result
 silent-turn {E} config m line own stands flash told told_now result answer own_is none answers here written =
-    let turn : Turn = record { moment = None; answer = answer } in
-    let says : Says {E = E} config m line stands flash flash told told_now result = record { stays = here; same = refl; answer = answer; answers = subst (λ o. AnswersAs config m o line turn) (sym own_is) answers; written = written } in
+    let turn : Turn = record { moment = None; answer = answer; unread = [] } in
+    let says : Says {E = E} config m line stands flash flash told told_now result = record { unread = []; few = omega arith; looked = looked-none config m stands flash here; answer = answer; answers = subst (λ o. AnswersAs config m o line turn) (sym own_is) answers; written = written } in
     subst (λ o. Turns {E = E} config m line o stands flash flash told told_now result) (sym none) says
+
+-- .. but for which pages may be read
+pub describe-turn : {E : Type 0} (config : Config) (m : Machine) (line : List ℕ) (stands : Machine → Type 0) (flash flash_now : FlashState) (told told_now : Option (List ℕ)) (result : Result (Unit {0}) E) →
+    own_of line ≡ Some Describe → Describes {E = E} config m stands flash flash_now told told_now result → Turns {E = E} config m line (command_by (Some Describe) line) stands flash flash_now told told_now result
+describe-turn {E} config m line stands flash flash_now told told_now result own_is h =
+    let turn : Turn = record { moment = None; answer = description config m h.unread; unread = h.unread } in
+    record { unread = h.unread; few = h.few; looked = h.looked; answer = description config m h.unread; answers = subst (λ o. AnswersAs config m o line turn) (sym own_is) (refl, refl); written = h.written }
 
 -- a line that is no command
 pub refused-turn : {E : Type 0} (config : Config) (m : Machine) (line : List ℕ) (stands : Machine → Type 0) (flash : FlashState) (told told_now : Option (List ℕ)) (result : Result (Unit {0}) E) →
     own_of line ≡ None → runs line ≡ None → stands m → Refuses told told_now result → Turns {E = E} config m line (runs line) stands flash flash told told_now result
 refused-turn {E} config m line stands flash told told_now result own_is none here refuses =
-    let turn : Turn = record { moment = None; answer = refuses.0 } in
+    let turn : Turn = record { moment = None; answer = refuses.0; unread = [] } in
     let run : AnswersRun (runs line) turn = subst (λ o. AnswersRun o turn) (sym none) (refl, refuses.1) in
-    let says : Says {E = E} config m line stands flash flash told told_now result = record { stays = here; same = refl; answer = refuses.0; answers = subst (λ o. AnswersAs config m o line turn) (sym own_is) run; written = refuses.2 } in
+    let says : Says {E = E} config m line stands flash flash told told_now result = record { unread = []; few = omega arith; looked = looked-none config m stands flash here; answer = refuses.0; answers = subst (λ o. AnswersAs config m o line turn) (sym own_is) run; written = refuses.2 } in
     subst (λ o. Turns {E = E} config m line o stands flash flash told told_now result) (sym none) says
 
 -- .. and one that is
 pub ran-turn : {E : Type 0} (config : Config) (m : Machine) (line : List ℕ) (c : Command) (stands : Machine → Type 0) (flash flash_now : FlashState) (told told_now : Option (List ℕ)) (result : Result (Unit {0}) E) →
     own_of line ≡ None → runs line ≡ Some c → Executes {E = E} config m c stands flash flash_now told told_now result → Turns {E = E} config m line (runs line) stands flash flash_now told told_now result
 ran-turn {E} config m line c stands flash flash_now told told_now (Ok done) own_is is e =
-    let turn : Turn = record { moment = Some e.moment; answer = texts e.moment.replies } in
+    let turn : Turn = record { moment = Some e.moment; answer = texts e.moment.replies; unread = [] } in
     let run : AnswersRun (runs line) turn = subst (λ o. AnswersRun o turn) (sym is) (e.moment, refl, e.command_is, refl) in
     let executed : Executed E config m line c stands flash flash_now told told_now =
     record { executes = unsaid {E = E} config m c stands flash flash_now told told_now e; answer = texts e.moment.replies; answers = subst (λ o. AnswersAs config m o line turn) (sym own_is) run; written = e.told_all } in
     subst (λ o. Turns {E = E} config m line o stands flash flash_now told told_now (Ok done)) (sym is) executed
 ran-turn {E} config m line c stands flash flash_now told told_now (Err failed) own_is is e =
-    let turn : Turn = record { moment = Some e.moment; answer = texts e.moment.replies } in
+    let turn : Turn = record { moment = Some e.moment; answer = texts e.moment.replies; unread = [] } in
     let run : AnswersRun (runs line) turn = subst (λ o. AnswersRun o turn) (sym is) (e.moment, refl, e.command_is, refl) in
     let into : ExecutedInto config m line c told told_now =
     record { moment = e.moment; command_is = e.command_is; step = e.step; answer = texts e.moment.replies; answers = subst (λ o. AnswersAs config m o line turn) (sym own_is) run; written = e.told_front } in
@@ -59,11 +70,11 @@ pub first-turn : {E : Type 0} (config : Config) (m : Machine) (line name : List 
     own_of line ≡ Some (First name) → TellsFirst {E = E} config m name stands flash flash_now told told_now result → Turns {E = E} config m line (Some (groups_of name)) stands flash flash_now told told_now result
 first-turn {E} config m line name stands flash flash_now told told_now (Ok done) own_is h =
     let moment = h.executes.moment in
-    let turn : Turn = record { moment = Some moment; answer = first_text moment.replies } in
+    let turn : Turn = record { moment = Some moment; answer = first_text moment.replies; unread = [] } in
     record { executes = h.executes; answer = first_text moment.replies; answers = subst (λ o. AnswersAs config m o line turn) (sym own_is) (moment, refl, h.executes.command_is, refl); written = h.written }
 first-turn {E} config m line name stands flash flash_now told told_now (Err failed) own_is h =
     let moment = h.executes.moment in
-    let turn : Turn = record { moment = Some moment; answer = first_text moment.replies } in
+    let turn : Turn = record { moment = Some moment; answer = first_text moment.replies; unread = [] } in
     record { moment = moment; command_is = h.executes.command_is; step = h.executes.step; answer = first_text moment.replies; answers = subst (λ o. AnswersAs config m o line turn) (sym own_is) (moment, refl, h.executes.command_is, refl); written = h.written }
 
 -- ---- why a line is no command

@@ -10,6 +10,7 @@ pub mod FirstKey
 pub mod Talk
 pub mod Ends
 pub mod Turning
+pub mod Beside
 pub mod Flushing
 pub mod Talking
 pub mod Leading

@@ -1,15 +1,18 @@
 -- What a shell answers, line by line, and the run of the machine that its commands are.
-use Rattle.std.specs.Prelude.{◌≡◌, ℕ, ◌-◌, ◌*◌, ◌^◌, ◌==◌, true, false, Option, Some, None, option_map, List, [], ◌∷◌, ◌++◌, length, map, sum_by, decimal, codes, if◌then◌else◌}
-use Rattle.std.specs.List.{AllByRecursion, flat_map}
+use Rattle.std.specs.Prelude.{◌≡◌, ℕ, ◌-◌, ◌*◌, ◌^◌, ◌==◌, Bool, true, false, Option, Some, None, option_map, List, [], ◌∷◌, ◌++◌, length, map, sum_by, decimal, codes, if◌then◌else◌}
+use Rattle.std.specs.List.{AllByRecursion, flat_map, list_any}
 use Rattle.std.specs.Fmt.{signed_decimal}
-use Rattle.fl_base.specs.Causes.{Appends, IsFront}
+use Rattle.fl_base.specs.Causes.{Appends, IsFront, Rose}
 use Rattle.fl_machine.specs.Machine.{Machine}
 use Rattle.fl_machine.specs.Run.{Run, end_of, commands_of}
 use Rattle.fl_machine.specs.Script.{Ran, runs}
 use Rattle.fl_machine.specs.Step.{Located, located, Moment}
-use Rattle.fl_model.specs.Record.{Config, Plan, rows_per_page}
+use Rattle.fl_model.specs.Record.{Config, Plan, has_var, rows_per_page}
 use Rattle.fl_model.specs.Table.{Table, last_entry}
+use Rattle.fl_rlc.specs.Rings.{rings_of}
+use Rattle.fl_rlc.specs.declared.rings.RingCounts.{RingCounts}
 use Rattle.fl_session.specs.Keys.{all_keys}
+use Rattle.fl_session.specs.Oldest.{oldest_blob}
 use Rattle.fl_sizing.specs.Sizes.{rows_kept}
 use Rattle.fl_sizing.specs.Text.{figure_line}
 use Rattle.fl_table.specs.Look.{counts_of}
@@ -23,10 +26,12 @@ use Rattle.fl_shell.specs.Refusal.{IsRefusal, line_of}
 use Rattle.fl_shell.specs.declared.end.Flushed.{Flushed}
 use Rattle.fl_shell.specs.Own.{Own, Echo, First, Last, Describe, Misformed, own_of}
 
--- What was done for a line: the command that the machine executed for it, if any, and the bytes that were written.
+-- What was done for a line: the command that the machine executed for it, if any, the bytes that were written, and where pages were
+-- read beside commands, of which tables, by their places, such a read failed.
 pub record Turn : Type 0 where
   pub moment : Option Moment
   pub answer : List ℕ
+  pub unread : List Bool
 
 -- the machine executed nothing, and so is as it was
 abbrev pub IsSilent : Turn → Type 0
@@ -60,9 +65,30 @@ counts_text counts pages =
     figure_line (codes "  rows kept ") counts.rows ++ figure_line (codes "  rows pending ") counts.pending ++ figure_line (codes "  pages kept ") counts.pages
     ++ figure_line (codes "  pages void ") counts.voids ++ figure_line (codes "  pages free ") (pages - counts.pages)
 
+-- how many pages a ring of so many pages keeps, and how many are free: all others
+abbrev pub ring_text : List ℕ → List ℕ → ℕ → Option ℕ → List ℕ
+ring_text kept_is free_is pages None = []
+ring_text kept_is free_is pages (Some kept) = figure_line kept_is kept ++ figure_line free_is (pages - kept)
+
+-- .. those of a table beside the data's
+abbrev pub rings_text : Plan → RingCounts → List ℕ
+rings_text plan rings =
+    ring_text (codes "  index pages kept ") (codes "  index pages free ") (plan.index_blocks * plan.geometry.block) rings.table.index
+    ++ ring_text (codes "  blob pages kept ") (codes "  blob pages free ") (plan.var_blocks * plan.geometry.block) rings.table.blobs
+    ++ ring_text (codes "  log pages kept ") (codes "  log pages free ") (plan.log_blocks * plan.geometry.block) rings.log
+
 abbrev pub key_line : Option ℕ → List ℕ
 key_line (Some key) = figure_line (codes "  last key ") key
 key_line None = codes "  last key none\n"
+
+-- the key of the oldest record whose blob isn't gone, or that a page of rows isn't read
+abbrev pub oldest_line : Bool → Option ℕ → List ℕ
+oldest_line true key = codes "  oldest blob read fault\n"
+oldest_line false (Some key) = figure_line (codes "  oldest blob ") key
+oldest_line false None = codes "  oldest blob none\n"
+
+abbrev pub blobs_text : Bool → Plan → Table → List ℕ
+blobs_text unread plan table = if has_var plan then oldest_line unread (oldest_blob table) else []
 
 -- what the table of a plan holds, while it is mounted
 abbrev pub held_text : Plan → Table → List ℕ
@@ -76,17 +102,31 @@ held_of plan (Some at) = held_text plan at.table
 abbrev pub held_in : Config → Machine → Plan → List ℕ → List ℕ
 held_in config old plan name = if old.mounted then held_of plan (located config old name) else []
 
+-- .. and what its other rings keep, and its oldest blob
+abbrev pub beside_of : Bool → Plan → Option Located → List ℕ
+beside_of unread plan None = []
+beside_of unread plan (Some at) = rings_text plan (rings_of at.table) ++ blobs_text unread plan at.table
+
+abbrev pub beside_in : Config → Machine → Bool → Plan → List ℕ → List ℕ
+beside_in config old unread plan name = if old.mounted then beside_of unread plan (located config old name) else []
+
 -- how many rows a page has room for, and how many are always kept
 abbrev pub sizes_text : Plan → List ℕ
 sizes_text plan = figure_line (codes "  rows a page ") (rows_per_page plan) ++ figure_line (codes "  rows always kept of full pages ") (rows_kept plan)
 
-abbrev pub described : Config → Machine → Plan → List ℕ
-described config old plan =
-    table_text plan ++ sizes_text plan ++ held_in config old plan plan.name
+abbrev pub described : Config → Machine → Bool → Plan → List ℕ
+described config old unread plan =
+    table_text plan ++ sizes_text plan ++ held_in config old plan plan.name ++ beside_in config old unread plan plan.name
+
+-- .. of one after another; no read failed of those that aren't told of
+abbrev pub described_each : Config → Machine → List Bool → List Plan → List ℕ
+described_each config old unread [] = []
+described_each config old [] (plan ∷ plans) = described config old false plan ++ described_each config old [] plans
+described_each config old (failed ∷ unread) (plan ∷ plans) = described config old failed plan ++ described_each config old unread plans
 
 -- the lines of the configuration, below that of each table what it holds, and how many tables there are
-abbrev pub description : Config → Machine → List ℕ
-description config old = device_text config.geometry ++ flat_map (described config old) config.plans ++ text (reply.EndCount (length config.plans))
+abbrev pub description : Config → Machine → List Bool → List ℕ
+description config old unread = device_text config.geometry ++ described_each config old unread config.plans ++ text (reply.EndCount (length config.plans))
 
 -- the machine executed this command
 abbrev pub Executed : Command → Turn → (Moment → Type 0) → Type 0
@@ -103,7 +143,7 @@ AnswersAs config old None line turn = AnswersRun (runs line) turn
 AnswersAs config old (Some (Echo word)) line turn = IsSilent turn × (turn.answer ≡ line_of word)
 AnswersAs config old (Some (First name)) line turn = Executed (groups_of name) turn (λ moment. turn.answer ≡ first_text moment.replies)
 AnswersAs config old (Some (Last name)) line turn = IsSilent turn × (turn.answer ≡ last_text config old name)
-AnswersAs config old (Some Describe) line turn = IsSilent turn × (turn.answer ≡ description config old)
+AnswersAs config old (Some Describe) line turn = IsSilent turn × (turn.answer ≡ description config old turn.unread)
 AnswersAs config old (Some Misformed) line turn = IsSilent turn × IsRefusal turn.answer
 
 abbrev pub Answers : Config → Machine → List ℕ → Turn → Type 0
@@ -162,6 +202,10 @@ pub record FlushesAll (config : Config) (m : Machine) (flushes : List Moment) (f
   pub done : flushed.all ≡ true → AllByRecursion IsDone flushes × (pending_rows config (end_of m flushes) ≡ 0)
   pub undone : flushed.all ≡ false → (AllByRecursion IsDone flushes × (pending_rows config (end_of m flushes) ≡ 0)) → ⊥
 
+-- a read that failed beside the commands of a turn has its cause
+abbrev pub HasCauses : ℕ → ℕ → Turn → Type 0
+HasCauses faults faults_now turn = list_any (λ failed. failed) turn.unread ≡ true → Rose faults faults_now
+
 -- Each of these lines was answered, and then what was pending was flushed. What the machine executed is a run of it, to which the
 -- other lines add nothing; and the bytes written are the answers.
 pub record Talked (config : Config) (old : Machine) (lines : List (List ℕ)) (flushed : Flushed) (stands : Machine → Type 0) (content content_now : List ℕ) (faults faults_now : ℕ) (told told_now : Option (List ℕ)) : Type 0 where
@@ -171,6 +215,7 @@ pub record Talked (config : Config) (old : Machine) (lines : List (List ℕ)) (f
   pub flushes_all : FlushesAll config (end_of old (moments_of turns)) flushes flushed
   pub ran : Ran config old (commands_of (moments_of turns ++ flushes)) stands content content_now faults faults_now None None
   pub moments_are : ran.moments ≡ moments_of turns ++ flushes
+  pub causes : AllByRecursion (HasCauses faults faults_now) turns
   pub told_all : Appends told told_now (answers_of turns)
 
 -- .. up to a line in whose answer the sink failed: the answers before it are written, and a front of its own

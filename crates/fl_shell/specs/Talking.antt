@@ -1,5 +1,6 @@
 -- The lines of an input are answered one after another.
 use Rattle.std.specs.Prelude.{◌≡◌, ℕ, ◌+◌, ◌^◌, ◌<◌, ◌≤◌, Bool, true, false, Option, Some, List, [], ◌∷◌, ◌++◌, length}
+use Rattle.std.specs.List.{AllByRecursion}
 use Rattle.fl_base.specs.Causes.{Appends}
 use Rattle.fl_flash.specs.Flash.{FlashState}
 use Rattle.fl_model.specs.Record.{Config}
@@ -7,7 +8,7 @@ use Rattle.fl_machine.specs.Machine.{Machine}
 use Rattle.fl_shell.specs.Flushing.{RanThese}
 use Rattle.fl_machine.specs.Run.{end_of}
 use Rattle.fl_machine.specs.Step.{Moment}
-use Rattle.fl_shell.specs.Talk.{Turn, AnswersEach, FlushesAll, Talked, TalkedInto, answers_of, moments_of}
+use Rattle.fl_shell.specs.Talk.{Turn, AnswersEach, FlushesAll, HasCauses, Talked, TalkedInto, answers_of, moments_of}
 use Rattle.fl_shell.specs.declared.end.Flushed.{Flushed}
 use Rattle.fl_shell.specs.declared.talk.Next.{Next}
 use Rattle.fl_shell.specs.declared.talk.Next.TheVariants.{InHand, Unread, Ended}
@@ -18,7 +19,8 @@ use Rattle.fl_shell.specs.declared.end.ShellStatus.TheVariants.{Done, InputLong,
 pub record TalkedSoFar (config : Config) (old : Machine) (lines : List (List ℕ)) (stands : Machine → Type 0) (content : List ℕ) (faults : ℕ) (flash : FlashState) (told told_now : Option (List ℕ)) : Type 0 where
   pub turns : List Turn
   pub each : AnswersEach config old lines turns
-  pub runs : RanThese config old (moments_of turns) stands content faults flash
+  pub runs : RanThese config old (length lines) (moments_of turns) stands content faults flash
+  pub causes : AllByRecursion (HasCauses faults flash.media.faults) turns
   pub told_all : Appends told told_now (answers_of turns)
 
 -- the line in hand, if there is one, and those behind it
@@ -32,10 +34,10 @@ lines_from InHand hand lines = hand ∷ lines
 lines_from Unread hand lines = lines
 lines_from Ended hand lines = []
 
--- so few moments were made of lines that a flash can count their reads
+-- so few lines were answered that a flash can count their reads
 abbrev pub TalkedFew : Config → Machine → List (List ℕ) → (Machine → Type 0) → List ℕ → ℕ → FlashState → Option (List ℕ) → Option (List ℕ) → Type 0
 TalkedFew config old lines stands content faults flash told told_now =
-    (so_far : TalkedSoFar config old lines stands content faults flash told told_now) × (length (moments_of so_far.turns) ≤ 2 ^ 44 + 1)
+    TalkedSoFar config old lines stands content faults flash told told_now × (length lines ≤ 2 ^ 44 + 1)
 
 -- all lines were answered, or a front of them, or so far that the sink failed; `total` is the length of the text
 abbrev pub TalkEnds : Config → Machine → List (List ℕ) → ℕ → (Machine → Type 0) → List ℕ → ℕ → FlashState → Option (List ℕ) → Option (List ℕ) → Option (List ℕ) → ShellStatus → Type 0
@@ -50,7 +52,8 @@ pub record SessionDone (config : Config) (old : Machine) (lines : List (List ℕ
   pub each : AnswersEach config old lines turns
   pub flushes : List Moment
   pub flushes_all : FlushesAll config (end_of old (moments_of turns)) flushes flushed
-  pub runs : RanThese config old (moments_of turns ++ flushes) stands content faults flash
+  pub runs : RanThese config old (length lines + length flushes) (moments_of turns ++ flushes) stands content faults flash
+  pub causes : AllByRecursion (HasCauses faults flash.media.faults) turns
   pub told_all : Appends told told_now (answers_of turns)
 
 abbrev pub SessionEnds : Config → Machine → List (List ℕ) → ℕ → (Machine → Type 0) → List ℕ → ℕ → FlashState → Option (List ℕ) → Option (List ℕ) → Option (List ℕ) → Flushed → ShellStatus → Type 0

@@ -1,6 +1,7 @@
 -- What one line does to a session.
-use Rattle.std.specs.Prelude.{◌≡◌, ℕ, Bool, true, false, Option, Some, None, Result, Ok, Err, List}
-use Rattle.fl_base.specs.Causes.{Appends, AppendsFront}
+use Rattle.std.specs.Prelude.{◌≡◌, ℕ, ◌+◌, ◌*◌, ◌≤◌, Bool, true, false, Option, Some, None, Result, Ok, Err, List, [], length}
+use Rattle.std.specs.List.{list_any}
+use Rattle.fl_base.specs.Causes.{Appends, AppendsFront, Rose}
 use Rattle.fl_flash.specs.Flash.{FlashState}
 use Rattle.fl_model.specs.Record.{Config}
 use Rattle.fl_words.specs.Command.{Command}
@@ -9,8 +10,9 @@ use Rattle.fl_machine.specs.Script.{runs}
 use Rattle.fl_machine.specs.Step.{Moment, Step}
 use Rattle.fl_script.specs.Written.{Written}
 use Rattle.fl_session.specs.Execute.{Executes}
+use Rattle.fl_session.specs.Oldest.{reads_of}
 use Rattle.fl_shell.specs.Own.{Own, First, own_of}
-use Rattle.fl_shell.specs.Talk.{Answers, first_text, groups_of}
+use Rattle.fl_shell.specs.Talk.{Answers, description, first_text, groups_of}
 
 -- the command that the machine executes for a line, if any
 abbrev pub command_by : Option Own → List ℕ → Option Command
@@ -26,19 +28,34 @@ pub record TellsFirst {E : Type 0} (config : Config) (old : Machine) (name : Lis
   pub executes : Executes {E = E} config old (groups_of name) stands flash flash_now None None (Ok tt)
   pub written : Written told told_now result (first_text executes.moment.replies)
 
--- nothing is executed: the session stands for what it stood for
-pub record Says {E : Type 0} (config : Config) (old : Machine) (line : List ℕ) (stands : Machine → Type 0) (flash flash_now : FlashState) (told told_now : Option (List ℕ)) (result : Result (Unit {0}) E) : Type 0 where
+-- Pages of so many tables were read beside commands, of these a read failed, and the session stands for what it stood for.
+pub record Looked (config : Config) (old : Machine) (unread : List Bool) (stands : Machine → Type 0) (flash flash_now : FlashState) : Type 0 where
   pub stays : stands old
-  pub same : flash_now ≡ flash
+  pub content : flash_now.media.content ≡ flash.media.content
+  pub reads : (most : ℕ) → ((name : List ℕ) → reads_of config old name ≤ most) → flash_now.work.reads ≤ flash.work.reads + length unread * most
+  pub cause : list_any (λ failed. failed) unread ≡ true → Rose flash.media.faults flash_now.media.faults
+
+-- nothing is executed
+pub record Says {E : Type 0} (config : Config) (old : Machine) (line : List ℕ) (stands : Machine → Type 0) (flash flash_now : FlashState) (told told_now : Option (List ℕ)) (result : Result (Unit {0}) E) : Type 0 where
+  pub unread : List Bool
+  pub few : length unread ≤ 4
+  pub looked : Looked config old unread stands flash flash_now
   pub answer : List ℕ
-  pub answers : Answers config old line (record { moment = None; answer = answer })
+  pub answers : Answers config old line (record { moment = None; answer = answer; unread = unread })
   pub written : Written told told_now result answer
+
+-- what each table is and holds is written
+pub record Describes {E : Type 0} (config : Config) (old : Machine) (stands : Machine → Type 0) (flash flash_now : FlashState) (told told_now : Option (List ℕ)) (result : Result (Unit {0}) E) : Type 0 where
+  pub unread : List Bool
+  pub few : length unread ≤ 4
+  pub looked : Looked config old unread stands flash flash_now
+  pub written : Written told told_now result (description config old unread)
 
 -- the command is executed, and the line answered
 pub record Executed (E : Type 0) (config : Config) (old : Machine) (line : List ℕ) (c : Command) (stands : Machine → Type 0) (flash flash_now : FlashState) (told told_now : Option (List ℕ)) : Type 0 where
   pub executes : Executes {E = E} config old c stands flash flash_now None None (Ok tt)
   pub answer : List ℕ
-  pub answers : Answers config old line (record { moment = Some executes.moment; answer = answer })
+  pub answers : Answers config old line (record { moment = Some executes.moment; answer = answer; unread = [] })
   pub written : Appends told told_now answer
 
 -- .. but for the end of its answer, where the sink failed
@@ -47,7 +64,7 @@ pub record ExecutedInto (config : Config) (old : Machine) (line : List ℕ) (c :
   pub command_is : moment.command ≡ c
   pub step : Step config old moment
   pub answer : List ℕ
-  pub answers : Answers config old line (record { moment = Some moment; answer = answer })
+  pub answers : Answers config old line (record { moment = Some moment; answer = answer; unread = [] })
   pub written : AppendsFront told told_now answer
 
 abbrev pub Turns : {E : Type 0} → Config → Machine → List ℕ → Option Command → (Machine → Type 0) → FlashState → FlashState → Option (List ℕ) → Option (List ℕ) → Result (Unit {0}) E → Type 0

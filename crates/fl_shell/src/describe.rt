@@ -1,18 +1,22 @@
 // What a shell tells of its image: the lines of its configuration, and below that of each table what it holds.
-ghost use Rattle.std.specs.Prelude.{◌≡◌, ◌≤◌, ◌<◌, ◌+◌, ◌*◌, ◌++◌, [], length, slice_get, IfSome, IsTrue};
+ghost use Rattle.std.specs.Prelude.{◌≡◌, ◌≤◌, ◌<◌, ◌+◌, ◌*◌, ◌++◌, [], length, slice_get, true, Some, IfSome, IsTrue};
 ghost use Rattle.fl_base.specs.Causes.{HasCause};
 ghost use Rattle.fl_config.specs.Whole.{is_whole, Makes};
+ghost use Rattle.fl_flash.specs.Flash.{Goes};
 ghost use Rattle.fl_machine.specs.Machine.{Machine};
+ghost use Rattle.fl_machine.specs.Step.{Located, located};
 ghost use Rattle.fl_model.specs.Record.{Config as Configuration};
 ghost use Rattle.fl_plan.specs.Limits.{IsWithinLimits};
-ghost use Rattle.fl_plan.specs.Plan.{Label, plan_of_table};
-ghost use Rattle.fl_script.specs.Written.{Written};
-ghost use Rattle.fl_shell.specs.Talk.{counts_text, described, description, held_in, key_line, sizes_text};
+ghost use Rattle.fl_plan.specs.Plan.{Label, blocks_in, plan_of_table, with_log};
+ghost use Rattle.fl_shell.specs.Beside.{AddsBlobs, TellsBeside, WritesTable};
+ghost use Rattle.fl_shell.specs.Talk.{counts_text, held_in, key_line, ring_text, rings_text, sizes_text};
+ghost use Rattle.fl_shell.specs.Turning.{Describes};
 ghost use Rattle.fl_sizing.specs.Text.{figure_line};
 
-use fl_base::{Name, Sink, SinkFailed};
+use fl_base::{Geometry, Name, RingPlace, Sink, SinkFailed};
 use fl_config::Config;
 use fl_plan::TableConfig;
+use fl_rlc::RingCounts;
 use fl_script::{LINE_BYTES, Reply, TextLine, write_all, write_reply};
 use fl_session::Executor;
 use fl_sizing::TableSizes;
@@ -65,12 +69,18 @@ fn add_sizes(text: &mut TextLine, table: &TableConfig)
     add_figure(text, b"  rows always kept of full pages ", sizes.rows_kept);
 }
 
-/// The pages of the data ring of a table.
-fn data_pages(table: &TableConfig) -> u64
-    requires { IsWithinLimits table.now }
-    ensures { result ≡ table.now.rows.blocks * table.now.geometry.block }
+/// The blocks of a ring; none where there is no ring.
+fn blocks_in(place: Option<RingPlace>) -> u32
+    ensures { result ≡ blocks_in place }
 {
-    u64::from(table.rows.blocks) * u64::from(table.geometry.block)
+    place.map_or(0, |place| place.blocks)
+}
+
+/// The pages of a ring of so many blocks.
+fn ring_pages(blocks: u32, geometry: Geometry) -> u64
+    ensures { result ≡ blocks * geometry.block }
+{
+    u64::from(blocks) * u64::from(geometry.block)
 }
 
 /// How many rows a page of the table has room for, and what it holds, while it is mounted.
@@ -85,7 +95,8 @@ fn held<E: Executor>(session: &E, name: Name, table: &TableConfig) -> TextLine
         Ok(counts) => counts,
         Err(_) => return text,
     };
-    add_counts(&mut text, &counts, data_pages(table));
+    let pages = ring_pages(table.rows.blocks, table.geometry);
+    add_counts(&mut text, &counts, pages);
     let key = match session.last_key(name) {
         Ok(key) => key,
         Err(_) => return text,
@@ -94,32 +105,142 @@ fn held<E: Executor>(session: &E, name: Name, table: &TableConfig) -> TextLine
     text
 }
 
+/// How many pages a ring of so many pages keeps and how many are free, if there is such a ring.
+fn add_ring(
+    text: &mut TextLine,
+    kept_is: &[u8],
+    free_is: &[u8],
+    pages: u64,
+    kept: Option<u32>,
+)
+    requires { length text.old + length kept_is.now + length free_is.now + 42 ≤ LINE_BYTES }
+    ensures text { text.new ≡ text.old ++ ring_text kept_is.now free_is.now pages kept }
+    ensures short { length text.new ≤ length text.old + length kept_is.now + length free_is.now + 42 }
+{
+    let Some(kept) = kept else {
+        return;
+    };
+    let kept = u64::from(kept);
+    add_figure(text, kept_is, kept);
+    add_figure(text, free_is, pages.saturating_sub(kept));
+}
+
+/// How many pages the rings of a table keep beside that of its data, and how many of theirs are free.
+fn add_rings(text: &mut TextLine, rings: &RingCounts, table: &TableConfig, log_blocks: u32)
+    requires empty { text.old ≡ [] }
+    ensures text { (label : Label) → text.new ≡ rings_text (with_log log_blocks (plan_of_table label table.now)) rings.now }
+    ensures short { length text.new ≤ 250 }
+{
+    let index = ring_pages(table.index_blocks(), table.geometry);
+    let blobs = ring_pages(table.var_blocks(), table.geometry);
+    let log = ring_pages(log_blocks, table.geometry);
+    add_ring(
+        text,
+        b"  index pages kept ",
+        b"  index pages free ",
+        index,
+        rings.table.index,
+    );
+    add_ring(
+        text,
+        b"  blob pages kept ",
+        b"  blob pages free ",
+        blobs,
+        rings.table.blobs,
+    );
+    add_ring(
+        text,
+        b"  log pages kept ",
+        b"  log pages free ",
+        log,
+        rings.log,
+    );
+}
+
+/// The key of the oldest record whose blob isn't gone, if the table may have blobs; or that a page isn't read.
+fn add_blobs<E: Executor>(
+    session: &mut E,
+    name: Name,
+    table: &TableConfig,
+    text: &mut TextLine,
+)
+    requires sound { E.sound session.old }
+    requires short { length text.old ≤ 300 }
+    ensures sound { E.sound session.new }
+    ensures goes { Goes (E.flash session.old) (E.flash session.new) }
+    ensures text { (label : Label) (config : Configuration) (m : Machine) (at : Located) → E.stands session.old config m → m.mounted ≡ true → located config m name ≡ Some at →
+        AddsBlobs config m (plan_of_table label table.now) at.table (E.stands session.new config) (E.flash session.old) (E.flash session.new) text.old text.new }
+{
+    if table.var_blocks() == 0 {
+        return;
+    }
+    match session.oldest_blob(name) {
+        Ok(Some(key)) => add_figure(text, b"  oldest blob ", key),
+        Ok(None) => text.add(b"  oldest blob none\n"),
+        Err(_) => text.add(b"  oldest blob read fault\n"),
+    }
+}
+
+/// What the other rings of a table keep, and its oldest blob, while it is mounted.
+fn beside<E: Executor>(
+    session: &mut E,
+    name: Name,
+    table: &TableConfig,
+    log_blocks: u32,
+) -> TextLine
+    requires { E.sound session.old }
+    ensures sound { E.sound session.new }
+    ensures goes { Goes (E.flash session.old) (E.flash session.new) }
+    ensures tells { (label : Label) (config : Configuration) (m : Machine) → E.stands session.old config m →
+        TellsBeside config m (with_log log_blocks (plan_of_table label table.now)) name (E.stands session.new config) (E.flash session.old) (E.flash session.new) result }
+{
+    let mut text = TextLine::new();
+    let rings = match session.rings(name) {
+        Ok(rings) => rings,
+        Err(_) => return text,
+    };
+    add_rings(&mut text, &rings, table, log_blocks);
+    add_blobs(session, name, table, &mut text);
+    text
+}
+
 /// The line of a table, and below it what it holds.
 fn write_table<E: Executor, K: Sink>(
-    session: &E,
+    session: &mut E,
     config: &Config,
     at: usize,
     out: &mut K,
 ) -> Result<(), SinkFailed>
-    requires { at < length config.now.plans }
-    ensures text { (configured : Configuration) (m : Machine) → E.stands session.now configured m →
-        IfSome (slice_get config.now.plans at) (λ plan. Written (K.written out.old) (K.written out.new) result (described configured m plan)) }
+    requires sound { E.sound session.old }
+    requires within { at < length config.now.plans }
+    ensures sound { E.sound session.new }
+    ensures goes { Goes (E.flash session.old) (E.flash session.new) }
+    ensures text { (configured : Configuration) (m : Machine) → E.stands session.old configured m →
+        IfSome (slice_get config.now.plans at) (λ plan. WritesTable configured m plan (E.stands session.new configured) (E.flash session.old) (E.flash session.new) (K.written out.old) (K.written out.new) result) }
     ensures cause { HasCause (K.faults out.old) (K.faults out.new) result }
 {
     write_all(config.table_line(at).bytes(), out)?;
-    let text = held(session, config.name(at), config.table(at));
-    write_all(text.bytes(), out)
+    let name = config.name(at);
+    let table = config.table(at);
+    let figures = held(session, name, table);
+    write_all(figures.bytes(), out)?;
+    let log_blocks = blocks_in(config.log(at));
+    let rings = beside(session, name, table, log_blocks);
+    write_all(rings.bytes(), out)
 }
 
 /// Tells the lines of the configuration, below that of each table what it holds, and their number.
 pub(crate) fn describe<E: Executor, K: Sink>(
-    session: &E,
+    session: &mut E,
     config: &Config,
     out: &mut K,
 ) -> Result<(), SinkFailed>
-    requires { IsTrue (is_whole config.now) }
-    ensures text { (configured : Configuration) (m : Machine) → Makes config.now configured → E.stands session.now configured m →
-        Written (K.written out.old) (K.written out.new) result (description configured m) }
+    requires sound { E.sound session.old }
+    requires whole { IsTrue (is_whole config.now) }
+    ensures sound { E.sound session.new }
+    ensures goes { Goes (E.flash session.old) (E.flash session.new) }
+    ensures text { (configured : Configuration) (m : Machine) → Makes config.now configured → E.stands session.old configured m →
+        Describes configured m (E.stands session.new configured) (E.flash session.old) (E.flash session.new) (K.written out.old) (K.written out.new) result }
     ensures cause { HasCause (K.faults out.old) (K.faults out.new) result }
 {
     write_all(config.device_line().bytes(), out)?;

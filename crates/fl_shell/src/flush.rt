@@ -1,5 +1,5 @@
 // The flush of what is pending when a shell ends.
-ghost use Rattle.std.specs.Prelude.{◌≡◌, ℕ, ◌+◌, ◌^◌, ◌≤◌, List, length};
+ghost use Rattle.std.specs.Prelude.{◌≡◌, ℕ, ◌+◌, ◌^◌, ◌≤◌, List};
 ghost use Rattle.fl_flash.specs.Flash.{Goes};
 ghost use Rattle.fl_model.specs.Record.{Config as Configuration};
 ghost use Rattle.fl_machine.specs.Machine.{Machine};
@@ -60,10 +60,10 @@ pub(crate) fn flush_all<E: Executor>(session: &mut E, config: &Config, room: &Li
     ensures sound { E.sound session.new }
     ensures goes { Goes (E.flash session.old) (E.flash session.new) }
     // Behind a run of some moments the flushes go on with it.
-    ensures flushes { (configured : Configuration) (old : Machine) (moments : List Moment) (content : List ℕ) (faults : ℕ) →
-        configured.plans ≡ config.now.plans → IsReady configured old → length moments ≤ 2 ^ 44 + 1 →
-        RanThese configured old moments (E.stands session.old configured) content faults (E.flash session.old) →
-        FlushesBehind configured old moments (E.stands session.new configured) content faults (E.flash session.new) result }
+    ensures flushes { (configured : Configuration) (old : Machine) (lines : ℕ) (moments : List Moment) (content : List ℕ) (faults : ℕ) →
+        configured.plans ≡ config.now.plans → IsReady configured old → lines ≤ 2 ^ 44 + 1 →
+        RanThese configured old lines moments (E.stands session.old configured) content faults (E.flash session.old) →
+        FlushesBehind configured old lines moments (E.stands session.new configured) content faults (E.flash session.new) result }
 {
     let pending = pending_rows(session, config);
     if pending == 0 {

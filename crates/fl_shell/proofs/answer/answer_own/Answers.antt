@@ -2,8 +2,8 @@ use Rattle.std.proofs.Common.{ap, refl, rules}
 use Rattle.fl_shell.specs.Own.{Echo, First, Last, Describe, Misformed}
 use Rattle.fl_shell.specs.OwnView.{own_view}
 use Rattle.fl_shell.specs.Refusal.{line_of}
-use Rattle.fl_shell.specs.Talk.{description, last_text}
-use Rattle.fl_shell.proofs.Turning.{turn-as, silent-turn, first-turn}
+use Rattle.fl_shell.specs.Talk.{last_text}
+use Rattle.fl_shell.proofs.Turning.{turn-as, silent-turn, first-turn, describe-turn}
 use Rattle.fl_shell.proofs.answer.answer_own.Goals as goal
 
 pub returns-in-Echo : goal.returns-in-Echo
@@ -38,12 +38,12 @@ returns-in-Last g c = record {
 
 pub returns-in-Describe : goal.returns-in-Describe
 returns-in-Describe g c = record {
-  sound = c.requires.sound;
-  goes = search rules;
+  sound = c.describe.ensures.sound;
+  goes = c.describe.ensures.goes;
   cause = c.describe.ensures.cause;
   turn = λ configured m line makes own_is here.
       turn-as configured m line (own_view c.args.own.now) Describe _ _ _ _ _ _ (ap own_view c.in-Describe.is) own_is
-      (λ is. silent-turn configured m line Describe _ _ _ _ _ (description configured m) is refl (refl, refl) here (c.describe.ensures.text configured m makes here));
+      (λ is. describe-turn configured m line _ _ _ _ _ _ is (c.describe.ensures.text configured m makes here));
 }
 
 pub returns-in-Misformed : goal.returns-in-Misformed

@@ -1,13 +1,19 @@
 use Rattle.std.proofs.Common.{◌≤◌, take}
-use Rattle.fl_base.specs.Causes.{Appends}
 use Rattle.fl_config.specs.Whole.{Makes}
+use Rattle.fl_flash.specs.Flash.{Goes}
 use Rattle.fl_model.specs.Record.{Config}
 use Rattle.fl_machine.specs.Machine.{Machine}
-use Rattle.fl_shell.proofs.Describing.{so_far}
+use Rattle.fl_shell.proofs.Describing.{SentSoFar}
 use Rattle.fl_shell.proofs.describe.describe.Given as goal
 
 abbrev pub invariant-tables : goal.invariant-tables
-invariant-tables g l = record {
-  later : g.K.Sink.faults l.fn.out ≤ g.K.Sink.faults l.out;
-  sent : (configured : Config) (m : Machine) → Makes l.config configured → g.E.Executor.stands l.session configured m → Appends (g.K.Sink.written l.fn.out) (g.K.Sink.written l.out) (so_far configured m (take l.at l.config.plans));
-}
+invariant-tables g l =
+    let E = g.E.Executor in
+    let K = g.K.Sink in
+    record {
+      sound : E.sound l.session;
+      goes : Goes (E.flash l.fn.session) (E.flash l.session);
+      later : K.faults l.fn.out ≤ K.faults l.out;
+      sent : (configured : Config) (m : Machine) → Makes l.config configured → E.stands l.fn.session configured m →
+          SentSoFar configured m (take l.at l.config.plans) (E.stands l.session configured) (E.flash l.fn.session) (E.flash l.session) (K.written l.fn.out) (K.written l.out);
+    }

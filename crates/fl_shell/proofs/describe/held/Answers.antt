@@ -16,5 +16,5 @@ pub returns : goal.returns
 returns g c = λ label config m here.
     let plan = plan_of_table label c.args.table.now in
     held-is config m plan c.args.name c.in-Ok.counts c.in-Ok-last_key.key _ c.add_counts.new.text (sizes_text plan)
-    (c.add_counts.ensures.text ∙ (ap (λ l. l ++ counts_text c.in-Ok.counts c.data_pages.result) (c.add_sizes.ensures.text label) ∙ ap (λ n. sizes_text plan ++ counts_text c.in-Ok.counts n) c.data_pages.ensures))
+    (c.add_counts.ensures.text ∙ (ap (λ l. l ++ counts_text c.in-Ok.counts c.ring_pages-pages.result) (c.add_sizes.ensures.text label) ∙ ap (λ n. sizes_text plan ++ counts_text c.in-Ok.counts n) c.ring_pages-pages.ensures))
     c.add_last.ensures (c.in-Ok.ensures config m here) (c.in-Ok-last_key.ensures config m here)

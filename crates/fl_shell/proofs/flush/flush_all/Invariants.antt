@@ -1,4 +1,4 @@
-use Rattle.std.proofs.Common.{◌≡◌, ℕ, ◌+◌, ◌^◌, ◌≤◌, List, length, map, take}
+use Rattle.std.proofs.Common.{◌≡◌, ℕ, ◌+◌, ◌^◌, ◌≤◌, List, map, take}
 use Rattle.fl_flash.specs.Flash.{Goes}
 use Rattle.fl_model.specs.Record.{Config}
 use Rattle.fl_machine.specs.Machine.{Machine}
@@ -15,7 +15,7 @@ invariant-tables g l =
     record {
       sound : E.sound l.session;
       goes : Goes (E.flash l.fn.session) (E.flash l.session);
-      flushed : (configured : Config) (old : Machine) (moments : List Moment) (content : List ℕ) (faults : ℕ) → configured.plans ≡ l.config.plans → IsReady configured old → length moments ≤ 2 ^ 44 + 1 →
-          RanThese configured old moments (E.stands l.fn.session configured) content faults (E.flash l.fn.session) →
-          FlushedSoFar configured old moments (map flush_of (take l.at l.config.plans)) (E.stands l.session configured) content faults (E.flash l.session) l.done;
+      flushed : (configured : Config) (old : Machine) (lines : ℕ) (moments : List Moment) (content : List ℕ) (faults : ℕ) → configured.plans ≡ l.config.plans → IsReady configured old → lines ≤ 2 ^ 44 + 1 →
+          RanThese configured old lines moments (E.stands l.fn.session configured) content faults (E.flash l.fn.session) →
+          FlushedSoFar configured old lines moments (map flush_of (take l.at l.config.plans)) (E.stands l.session configured) content faults (E.flash l.session) l.done;
     }

@@ -17,6 +17,6 @@ returns-clause-ends g c = λ configured old left hand total makes ready here unr
     let y = c.flush_all-flushed.new.session in
     let talked = c.talk_from-status.ensures.talks configured old left hand total makes ready here unread most told ended within is in
     let done =
-    session-ends configured old all total (E.stands x.session configured) (E.stands y configured) f.media.content f.media.faults (E.flash x.session) (E.flash y) (K.written c.args.out.now) (K.written x.out) (S.left x.input) c.flush_all-flushed.result c.talk_from-status.result c.talk_from-status.ensures.statuses talked
-    (λ moments few runs. c.flush_all-flushed.ensures.flushes configured old moments f.media.content f.media.faults (sym (made-by c.args.config.now configured makes).plans_are) ready few runs) in
+    session-ends configured old all total (E.stands x.session configured) (E.stands y configured) f.media.content f.media.faults (E.flash x.session) (E.flash y) (K.written c.args.out.now) (K.written x.out) (S.left x.input) c.flush_all-flushed.result c.talk_from-status.result c.talk_from-status.ensures.statuses c.flush_all-flushed.ensures.goes.faults talked
+    (λ lines moments few runs. c.flush_all-flushed.ensures.flushes configured old lines moments f.media.content f.media.faults (sym (made-by c.args.config.now configured makes).plans_are) ready few runs) in
     subst (λ status. SessionEnds configured old all total (E.stands y configured) f.media.content f.media.faults (E.flash y) (K.written c.args.out.now) (K.written x.out) (S.left x.input) c.flush_all-flushed.result status) (sym c.status_behind.ensures.exact) done
