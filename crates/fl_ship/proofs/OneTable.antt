@@ -38,7 +38,8 @@ use Rattle.fl_ship.specs.declared.fault.ShipFault.TheVariants.{Read, Put, Flush}
 use Rattle.fl_ship.specs.declared.stop.Stop.{Stop}
 use Rattle.fl_ship.specs.declared.stop.Stop.TheVariants as stop
 use Rattle.fl_ship.proofs.Gaps.{is-gap, may-ship}
-use Rattle.fl_ship.proofs.ToShip.{IsPlain, all-plain, few-keys, none-to-ship, rows-to-ship}
+use Rattle.fl_cursor.proofs.Selected.{few-keys}
+use Rattle.fl_ship.proofs.ToShip.{IsPlain, all-plain, none-to-ship, rows-to-ship}
 
 -- the records of the source have no blobs, since its rows have the form of the copy's
 pub source-plain : (t : memory.Table 64 64) (f : FlashState) (first : ℕ) (plan : Plan) (source : model.Table) (layout : RowLayout) → Stands t f first plan source → layout_in t ≡ layout → layout.blobs ≡ false → AllByRecursion IsPlain source.entries

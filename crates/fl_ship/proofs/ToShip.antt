@@ -1,22 +1,16 @@
 -- The rows that a cursor over the keys above a copy's last one gives are the records that come after the copy's.
-use Rattle.std.proofs.Common.{◌≡◌, ℕ, ◌+◌, ◌-◌, ◌^◌, ◌<◌, ◌≤◌, ◌&&◌, ◌==◌, Bool, true, false, nat_le, nat_lt, if◌then◌else◌, Option, Some, None, List, [], ◌∷◌, map, refl, sym, ◌∙◌, ap, subst, arith}
+use Rattle.std.proofs.Common.{◌≡◌, ℕ, ◌+◌, ◌-◌, ◌^◌, ◌<◌, ◌≤◌, ◌==◌, Bool, true, false, nat_le, nat_lt, if◌then◌else◌, Option, Some, None, List, [], ◌∷◌, map, refl, sym, ◌∙◌, ap, subst, arith}
 use Rattle.std.specs.List.{AllByRecursion, filter, last_or}
 use Rattle.std.specs.Option.{option_map, unwrap_or}
 use Rattle.std.proofs.lemmas.Bool.{le-leb, leb-true, ltb-true, ltb-false, eqb-true}
 use Rattle.fl_base.specs.declared.types.KeyRange.{KeyRange}
 use Rattle.fl_model.specs.Facts.{BlobFits, FitsPlan}
 use Rattle.fl_model.specs.Query.{in_range, selected}
-use Rattle.fl_model.specs.Record.{Record, Plan, RowLayout, greatest_key, has_var, key_limit}
+use Rattle.fl_model.specs.Record.{Record, Plan, has_var, key_limit}
 use Rattle.fl_model.specs.Row.{stored_row}
 use Rattle.fl_model.specs.Ship.{comes_after, records_in, to_ship}
 use Rattle.fl_model.specs.Table.{Table, Entry, last_entry}
 use Rattle.fl_ops.specs.Columns.{record_of, records_of}
-use Rattle.fl_schema.specs.Form.{layout_with}
-use Rattle.fl_schema.specs.Schema.{types_of}
-use Rattle.fl_schema.specs.declared.schema.KeyWidth.{KeyWidth}
-use Rattle.fl_schema.specs.declared.schema.KeyWidth.TheVariants.{Four, Eight}
-use Rattle.fl_table.specs.Memory.{IsPlanned}
-use Rattle.fl_table.specs.declared.table.Table as memory
 use Rattle.fl_ship.specs.Missing.{keys_above}
 
 -- an entry without a blob, with a key of at most 64 bits
@@ -68,13 +62,6 @@ last-record o (entry ∷ entries) = last-record (Some entry) entries
 
 comes-behind : (copy : Table) (item : Record) → comes_after (records_in copy) item ≡ unwrap_or (option_map (λ (other : Record). nat_lt other.key item.key) (option_map (λ (entry : Entry). entry.kept) (last_entry copy))) true
 comes-behind copy item = ap (λ (o : Option Record). unwrap_or (option_map (λ (other : Record). nat_lt other.key item.key) o) true) (last-record None copy.entries)
-
-range-at : (low high key : ℕ) → key ≤ high → in_range (record { low = low; high = high }) key ≡ nat_le low key
-range-at low high key within = rw (le-leb key high within) (and-true (nat_le low key))
-  where
-    and-true : (b : Bool) → (b && true) ≡ b
-    and-true true = refl
-    and-true false = refl
 
 next-le : (last key : ℕ) → nat_le (last + 1) key ≡ nat_lt last key
 next-le last key = by-test (nat_lt last key) refl
@@ -131,19 +118,3 @@ none-to-ship source copy last last_is is plain = each source.entries plain
     each : (entries : List Entry) → AllByRecursion IsPlain entries → filter (comes_after (records_in copy)) (map (λ (entry : Entry). entry.kept) entries) ≡ []
     each [] plain = refl
     each (entry ∷ entries) plain = rw (never entry.kept plain.0.key) (each entries plain.1)
-
--- ---- all of them
-
--- no key has more than 64 bits
-pub few-keys : (t : memory.Table 64 64) (first : ℕ) (plan : Plan) → IsPlanned t first plan → key_limit plan < 2 ^ 64
-few-keys t first plan planned = subst (λ (layout : RowLayout). greatest_key layout < 2 ^ 64) (sym planned.layout) (by-width t.schema.key)
-  where
-    by-width : (key : KeyWidth) → greatest_key (layout_with key (types_of t.schema) t.schema.blobs) < 2 ^ 64
-    by-width Four = omega arith
-    by-width Eight = omega arith
-
-pub all-selected : (plan : Plan) (entries : List Entry) (low : ℕ) → low ≡ 0 → key_limit plan < 2 ^ 64 → AllByRecursion (FitsPlan plan) entries → selected (record { low = low; high = 2 ^ 64 - 1 }) None entries ≡ entries
-all-selected plan [] low none few fit = refl
-all-selected plan (entry ∷ entries) low none few fit =
-    let key = fit.0.key in
-    rw (range-at low (2 ^ 64 - 1) entry.kept.key (omega (arith, key, few)), le-leb low entry.kept.key (omega (arith, none))) (ap (λ (l : List Entry). entry ∷ l) (all-selected plan entries low none few fit.1))
