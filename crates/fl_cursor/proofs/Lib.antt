@@ -21,3 +21,4 @@ pub mod Later
 pub mod PageBehind
 pub mod Limited
 pub mod Least
+pub mod Retrying

@@ -6,3 +6,4 @@ pub mod Reads
 pub mod Ends
 pub mod Going
 pub mod Ascending
+pub mod Retried

@@ -13,4 +13,4 @@ mod walk;
 
 pub use bookmark::Bookmark;
 pub use cursor::Cursor;
-pub use laws::cursor_is_the_models;
+pub use laws::{cursor_is_the_models, faults_read_once};
