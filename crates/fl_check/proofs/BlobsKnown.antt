@@ -19,7 +19,7 @@ use Rattle.fl_check.specs.declared.marks.Marks.{Marks}
 use Rattle.fl_check.specs.declared.numbering.Numbering.{Numbering}
 use Rattle.fl_check.specs.declared.rule.Rule.TheVariants.{Blob}
 use Rattle.fl_check.specs.declared.whole.TableNumbers.{TableNumbers}
-use Rattle.fl_check.proofs.Looking.{same_pages, told_still}
+use Rattle.fl_check.proofs.LooksChangeNothing.{same_pages, told_still}
 use Rattle.fl_check.proofs.RingsKnown.{sound_rows, sound_content}
 use Rattle.fl_check.proofs.RulesTold.{told_of}
 use Rattle.fl_check.proofs.Wholes.{of_ring, in_ring, references_fault}

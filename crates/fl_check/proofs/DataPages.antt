@@ -14,7 +14,7 @@ use Rattle.fl_model.specs.Row.{Row, le, bytes_of_row}
 use Rattle.fl_page.specs.Header.{page_count}
 use Rattle.fl_page.specs.Page.{rows_from, rows_in, IsGoodPage}
 use Rattle.fl_page.proofs.DataPages.{length-rows, good_body, rows_in-rows_body}
-use Rattle.fl_page.proofs.Gathering.{layout_some}
+use Rattle.fl_page.proofs.WriterSteps.{layout_some}
 use Rattle.fl_schema.specs.Form.{layout_with}
 use Rattle.fl_schema.specs.declared.column.ColumnType.{ColumnType}
 use Rattle.fl_schema.specs.declared.schema.KeyWidth.{KeyWidth}

@@ -16,7 +16,7 @@ use Rattle.fl_check.specs.Marks.{AreMarks, kept_page}
 use Rattle.fl_check.specs.Numbers.{NewestOf, next_of, FitsPlace, HasItsNumber, IsLeft, NumbersBreak}
 use Rattle.fl_check.specs.declared.marks.Marks.{Marks}
 use Rattle.fl_check.proofs.GoodStates.{all_ordered, torn_is, kept_is, holds_kept}
-use Rattle.fl_check.proofs.Numberings.{none_numbered, least_is}
+use Rattle.fl_check.proofs.NumbersOfRing.{none_numbered, least_is}
 
 module _ (f : FlashState) (r : Shape) (at_least : ℕ) (s : RingState) (shape : IsShape r) (good : IsGood f r at_least s) (m : Marks) (marks : AreMarks (page_at f) r m) where
   head : HasHead f r m.pages.front

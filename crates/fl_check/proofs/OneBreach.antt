@@ -14,7 +14,7 @@ use Rattle.fl_check.specs.declared.rule.Breach.{Breach}
 use Rattle.fl_check.specs.declared.rule.Rule.{Rule}
 use Rattle.fl_check.specs.declared.rule.Rule.TheVariants.{Head, State, Number, Body, Keys, Entry, Blob, Rest}
 use Rattle.fl_check.proofs.Decisions.{Decided, After, then_claimed, claim_decided}
-use Rattle.fl_check.proofs.OneNumbering.{kept_once, kept_never, numbering_decided}
+use Rattle.fl_check.proofs.NumbersAreUnique.{kept_once, kept_never, numbering_decided}
 
 module _ (page : ℕ → List ℕ) (r : Shape) (m : Marks) where
   written_once : (at from to i j : ℕ) → IsWritten page r at from to i → IsWritten page r at from to j → i ≡ j

@@ -22,7 +22,7 @@ use Rattle.fl_check.specs.declared.tally.Tally.{Tally}
 use Rattle.fl_check.specs.declared.whole.TableNumbers.{TableNumbers}
 use Rattle.fl_check.proofs.Decisions.{Decided, After, then_decided, then_claimed}
 use Rattle.fl_check.proofs.OneBreach.{ring_decided}
-use Rattle.fl_check.proofs.OneNumbering.{fails_once}
+use Rattle.fl_check.proofs.NumbersAreUnique.{fails_once}
 use Rattle.fl_check.proofs.Wholes.{in_ring}
 
 -- ---- the rings of a table

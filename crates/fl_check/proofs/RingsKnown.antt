@@ -20,7 +20,7 @@ use Rattle.fl_check.specs.declared.numbering.Numbering.{Numbering}
 use Rattle.fl_check.specs.declared.tally.Tally.{Tally}
 use Rattle.fl_check.proofs.ContentPages.{content_count}
 use Rattle.fl_check.proofs.FormedRows.{rows_of, page_short}
-use Rattle.fl_check.proofs.Looking.{looks_more, seen}
+use Rattle.fl_check.proofs.LooksChangeNothing.{looks_more, seen}
 
 -- no page of a table is long
 pages_short : (config : TableConfig) (f : FlashState) → Fits config f → (p : ℕ) → length (page_at f p) < 65536

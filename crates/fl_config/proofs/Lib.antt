@@ -6,5 +6,5 @@ pub mod Takes
 pub mod Tables
 pub mod TableAt
 pub mod Texts
-pub mod Growing
+pub mod PiecewiseAppends
 pub mod Opened

@@ -6,7 +6,7 @@ use Rattle.std.proofs.lemmas.Grind.{flat_map-append}
 use Rattle.std.proofs.lemmas.List.{append-nil, at_drop_more, at_drop_all}
 use Rattle.fl_base.specs.Causes.{Appends}
 use Rattle.fl_words.specs.Reply.{hex_text}
-use Rattle.fl_script.proofs.Sending.{Sent, sent-piece}
+use Rattle.fl_script.proofs.SinkPieces.{Sent, sent-piece}
 use Rattle.fl_csv.specs.Text.{Blob, Absent, Nothing, Bytes, Gone, blob_digits, blob_fields, blob_mark, line_text}
 
 abbrev behind : List (List ℕ) → List ℕ

@@ -1,4 +1,4 @@
-pub mod Reading
+pub mod CsvRecords
 pub mod Blobs
 pub mod Numbers
 pub mod Fields
@@ -7,6 +7,6 @@ pub mod Plain
 pub mod Sends
 pub mod Gathers
 pub mod Places
-pub mod Splitting
+pub mod BareLines
 pub mod ReadBack
 pub mod TextBack

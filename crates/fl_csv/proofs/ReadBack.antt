@@ -20,7 +20,7 @@ use Rattle.fl_csv.specs.declared.record.GoneBlobs.TheVariants.{Refused, LeftOut}
 use Rattle.fl_csv.proofs.Blobs.{blob-written, never-left}
 use Rattle.fl_csv.proofs.Numbers.{decimal-number, signed-written}
 use Rattle.fl_csv.proofs.Plain.{ArePlain, IsPlain, blob-plain, decimal-plain, values-plain}
-use Rattle.fl_csv.proofs.Splitting.{only-joined}
+use Rattle.fl_csv.proofs.BareLines.{only-joined}
 
 pub as-fits : (value : ℤ) → IsValue value → FitsSigned w64 value
 as-fits (pos n) h = record { sfits = omega (arith, h) }

@@ -5,7 +5,7 @@ use Rattle.std.proofs.lemmas.Grind.{flat_map-append}
 use Rattle.std.proofs.lemmas.List.{append-nil}
 use Rattle.fl_base.specs.Causes.{Appends}
 use Rattle.fl_script.specs.Written.{Written}
-use Rattle.fl_script.proofs.Sending.{Sent, sent-piece, sent-failed}
+use Rattle.fl_script.proofs.SinkPieces.{Sent, sent-piece, sent-failed}
 use Rattle.fl_csv.specs.Text.{column_names, header_text}
 
 abbrev pub last_text : Bool → List ℕ

@@ -13,7 +13,7 @@ use Rattle.fl_csv.specs.Laws.{Fits, HeadersReadBack, TextsReadBack, blob_told, e
 use Rattle.fl_csv.specs.declared.record.GoneBlobs.TheVariants.{Refused}
 use Rattle.fl_csv.proofs.Plain.{ArePlain, IsPlain, blob-plain, decimal-plain, values-plain}
 use Rattle.fl_csv.proofs.ReadBack.{all-fit, line-back}
-use Rattle.fl_csv.proofs.Splitting.{only-joined}
+use Rattle.fl_csv.proofs.BareLines.{only-joined}
 
 -- a line of bytes that are no control bytes
 abbrev IsLine : List ℕ → Type 0

@@ -16,8 +16,8 @@ use Rattle.fl_cursor.specs.Asked.{is_asked, is_last, row_matches}
 use Rattle.fl_cursor.specs.Cursor.{Passes}
 use Rattle.fl_cursor.specs.Listed.{rows_on, rows_over, rows_from}
 use Rattle.fl_cursor.specs.Reads.{begins_above, has_full, has_last, is_beyond, is_indexed_in, pages_asked, pages_looked_up}
-use Rattle.fl_cursor.proofs.Looked.{looked-over, none-up}
-use Rattle.fl_cursor.proofs.Passing.{NotLeft, each-front, each-back, none-asked, none-past, passes-above, passes-same}
+use Rattle.fl_cursor.proofs.IndexLookups.{looked-over, none-up}
+use Rattle.fl_cursor.proofs.PassedRows.{NotLeft, each-front, each-back, none-asked, none-past, passes-above, passes-same}
 use Rattle.fl_cursor.proofs.Walks.{asked-over}
 
 no : false ≡ true → ⊥

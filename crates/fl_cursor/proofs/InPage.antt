@@ -24,9 +24,9 @@ use Rattle.fl_cursor.specs.declared.place.Here.TheVariants.{PageRow}
 use Rattle.fl_cursor.specs.declared.place.Place.TheVariants.{Pages, InPage, Ended}
 use Rattle.fl_cursor.specs.declared.search.Sought.TheVariants.{Row as At, Behind, Nowhere}
 use Rattle.fl_cursor.specs.declared.place.Place.{Place}
-use Rattle.fl_cursor.proofs.Looked.{due-nothing, looked-over}
-use Rattle.fl_cursor.proofs.Passing.{passes-all, passes-same, passes-end, passes-above, none-past, taken, each-front, each-back, Above}
-use Rattle.fl_cursor.proofs.Taking.{takes-row, moves-on, pages-taken}
+use Rattle.fl_cursor.proofs.IndexLookups.{due-nothing, looked-over}
+use Rattle.fl_cursor.proofs.PassedRows.{passes-all, passes-same, passes-end, passes-above, none-past, taken, each-front, each-back, Above}
+use Rattle.fl_cursor.proofs.TakenRows.{takes-row, moves-on, pages-taken}
 use Rattle.fl_cursor.proofs.Walks.{reached, passed, stopped, asked-over}
 
 -- a good page is seen as one

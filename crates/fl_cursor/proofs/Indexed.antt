@@ -8,7 +8,7 @@ use Rattle.fl_flash.specs.Buffer.{BufferState}
 use Rattle.fl_flash.specs.Flash.{FlashState, page_at}
 use Rattle.fl_flash.specs.Places.{page_of}
 use Rattle.fl_index.specs.Looking as looking
-use Rattle.fl_index.specs.declared.index.Index.{Index}
+use Rattle.fl_index.specs.declared.index.BitmapIndex.{BitmapIndex}
 use Rattle.fl_model.specs.Image.{rows_at}
 use Rattle.fl_model.specs.Query.{selected}
 use Rattle.fl_model.specs.Record.{Plan}
@@ -16,7 +16,7 @@ use Rattle.fl_model.specs.Ring as rings
 use Rattle.fl_model.specs.Row.{Row}
 use Rattle.fl_model.specs.Table as model
 use Rattle.fl_page.specs.Contents.{Contents, contents_of, OnlyReads}
-use Rattle.fl_page.proofs.Reading.{OnlyReads-reads}
+use Rattle.fl_page.proofs.ReadsInTurn.{OnlyReads-reads}
 use Rattle.fl_page.specs.declared.fault.ReadFault.{ReadFault}
 use Rattle.fl_page.specs.declared.fault.ReadFault.TheVariants.{Flash, BadPage}
 use Rattle.fl_table.specs.Kept.{place_of}
@@ -35,41 +35,41 @@ use Rattle.fl_cursor.specs.Reads.{is_beyond, is_missed}
 use Rattle.fl_cursor.specs.declared.cursor.Cursor.{Cursor}
 use Rattle.fl_cursor.specs.declared.place.Place.{Place}
 use Rattle.fl_cursor.specs.declared.place.Place.TheVariants.{Start, Pages, InPage, Pending, Ended}
-use Rattle.fl_cursor.proofs.Beginning.{stands-moved}
-use Rattle.fl_cursor.proofs.Passing.{NotLeft}
+use Rattle.fl_cursor.proofs.LowestPage.{stands-moved}
+use Rattle.fl_cursor.proofs.PassedRows.{NotLeft}
 use Rattle.fl_cursor.proofs.Stood.{standing-tells, at-number, back}
-use Rattle.fl_cursor.proofs.Turning.{Looked, ahead_at}
+use Rattle.fl_cursor.proofs.NextPages.{Looked, ahead_at}
 use Rattle.fl_cursor.proofs.Wanted.{beyond-same, missed-wanted, rows-are, none-matches, unmatched-left, unmatched-asked}
 
 -- what a buffer holds, by a flash and by what that holds
-fresh-on : (bitmaps : Option Index) (f : FlashState) (buf : BufferState) → AreFreshIn bitmaps (contents_of f) buf → AreFresh bitmaps f buf
+fresh-on : (bitmaps : Option BitmapIndex) (f : FlashState) (buf : BufferState) → AreFreshIn bitmaps (contents_of f) buf → AreFresh bitmaps f buf
 fresh-on None f buf h = tt
 fresh-on (Some index) f buf h = h
 
-fresh-in : (bitmaps : Option Index) (f : FlashState) (buf : BufferState) → AreFresh bitmaps f buf → AreFreshIn bitmaps (contents_of f) buf
+fresh-in : (bitmaps : Option BitmapIndex) (f : FlashState) (buf : BufferState) → AreFresh bitmaps f buf → AreFreshIn bitmaps (contents_of f) buf
 fresh-in None f buf h = tt
 fresh-in (Some index) f buf h = h
 
 -- a buffer that holds no page
-pub fresh-none : (bitmaps : Option Index) (contents : Contents) (buf : BufferState) → buf.holds ≡ None → AreFreshIn bitmaps contents buf
+pub fresh-none : (bitmaps : Option BitmapIndex) (contents : Contents) (buf : BufferState) → buf.holds ≡ None → AreFreshIn bitmaps contents buf
 fresh-none None contents buf none = tt
 fresh-none (Some index) contents buf none = λ number held. absurd (no (sym none ∙ held.place))
   where
     no : {n : ℕ} → ◌≡◌ {A = Option ℕ} None (Some n) → ⊥
     no e = cc
 
-pub good-none : (bitmaps : Option Index) (buf : BufferState) → buf.holds ≡ None → HoldGood bitmaps buf
+pub good-none : (bitmaps : Option BitmapIndex) (buf : BufferState) → buf.holds ≡ None → HoldGood bitmaps buf
 good-none None buf none = tt
 good-none (Some index) buf none = λ number held. absurd (no (sym none ∙ held.place))
   where
     no : {n : ℕ} → ◌≡◌ {A = Option ℕ} None (Some n) → ⊥
     no e = cc
 
-pub scanning-none : (bitmaps : Option Index) (number : ℕ) (buf : BufferState) → buf.holds ≡ None → AreScanning bitmaps number buf
+pub scanning-none : (bitmaps : Option BitmapIndex) (number : ℕ) (buf : BufferState) → buf.holds ≡ None → AreScanning bitmaps number buf
 scanning-none None number buf none = tt
 scanning-none (Some index) number buf none = inl (none, ap (looking.after_held _ _) none)
 
-pub looking-none : (bitmaps : Option Index) (place : Place) (buf : BufferState) → buf.holds ≡ None → IsLooking bitmaps place buf
+pub looking-none : (bitmaps : Option BitmapIndex) (place : Place) (buf : BufferState) → buf.holds ≡ None → IsLooking bitmaps place buf
 looking-none bitmaps Start buf none = scanning-none bitmaps 0 buf none
 looking-none bitmaps (Pages next) buf none = scanning-none bitmaps next buf none
 looking-none bitmaps (InPage number row) buf none = scanning-none bitmaps (number + 1) buf none
@@ -148,7 +148,7 @@ pub bad-index : {KNOTS SLOTS : ℕ} (t : Table KNOTS SLOTS) (f : FlashState) (bu
 bad-index t f buf (Flash fault) good h = tt
 bad-index t f buf (BadPage bad) good h = λ tells. inr (by_index t.bitmaps (h tells good))
   where
-    by_index : (bitmaps : Option Index) → IsBadIndex bitmaps f bad → AreBadIn bitmaps (contents_of f) bad
+    by_index : (bitmaps : Option BitmapIndex) → IsBadIndex bitmaps f bad → AreBadIn bitmaps (contents_of f) bad
     by_index None e = e
     by_index (Some index) e = record { from = e.from; before = e.before; committed = e.committed; not_good = e.not_good; told = e.told }
 

@@ -10,7 +10,7 @@ use Rattle.fl_find.specs.Pages.{first_key}
 use Rattle.fl_index.specs.Looking.{is_looked_at, after_held, next_to_read, due}
 use Rattle.fl_index.specs.Memory as indexes
 use Rattle.fl_index.specs.Page.{page_number}
-use Rattle.fl_index.specs.declared.index.Index.{Index}
+use Rattle.fl_index.specs.declared.index.BitmapIndex.{BitmapIndex}
 use Rattle.fl_index.proofs.Spanned.{listed-looked, due-firsts}
 use Rattle.fl_flash.specs.Buffer.{BufferState}
 use Rattle.fl_model.specs.Limits.{first_page, last_page, in_pages}
@@ -29,16 +29,16 @@ use Rattle.fl_table.specs.Memory.{next_in}
 use Rattle.fl_table.specs.declared.table.Table.{Table}
 use Rattle.fl_table.proofs.KeptPages.{sum-next}
 use Rattle.fl_table.proofs.KeyRows.{drop-row}
-use Rattle.fl_table.proofs.Looks.{next-is, oldest-is}
+use Rattle.fl_table.proofs.MemoryTells.{next-is, oldest-is}
 use Rattle.fl_table.proofs.Skips.{index-stands}
 use Rattle.fl_cursor.specs.Cursor.{IsStanding}
 use Rattle.fl_cursor.specs.Listed.{rows_on, rows_over, rows_of}
 use Rattle.fl_cursor.specs.Reads.{begins_by, start_of, pages_looked_up}
-use Rattle.fl_cursor.proofs.Beginning.{standing-start, start-is, over-split}
-use Rattle.fl_cursor.proofs.Finding.{begins, first-front}
-use Rattle.fl_cursor.proofs.Passing.{each-front, each-back}
+use Rattle.fl_cursor.proofs.LowestPage.{standing-start, start-is, over-split}
+use Rattle.fl_cursor.proofs.StartSearch.{begins, first-front}
+use Rattle.fl_cursor.proofs.PassedRows.{each-front, each-back}
 use Rattle.fl_cursor.proofs.Selected.{all-up}
-use Rattle.fl_cursor.proofs.Starting.{ascends-front}
+use Rattle.fl_cursor.proofs.StartPlaces.{ascends-front}
 use Rattle.fl_cursor.proofs.Stood.{kept-rows, standing-rows, standing-ascends}
 
 no : true ≡ false → ⊥
@@ -305,7 +305,7 @@ module _ {KNOTS SLOTS : ℕ} (t : Table KNOTS SLOTS) (contents : Contents) (h : 
     none-counted below = count-false lists_later (firsts h.table) (none-later below)
 
     -- the index pages that list one are due
-    pub due-later : (index : Index) (buf : BufferState) → t.bitmaps ≡ Some index → buf.holds ≡ None →
+    pub due-later : (index : BitmapIndex) (buf : BufferState) → t.bitmaps ≡ Some index → buf.holds ≡ None →
         count_by lists_later (firsts h.table)
         ≤ due index (pages_looked_up t contents (begin range span h.table).top (start_of t contents range.low + 1) (next_in t - (start_of t contents range.low + 1))) (next_to_read index buf)
     due-later index buf is empty =

@@ -23,7 +23,7 @@ use Rattle.fl_table.specs.Memory.{next_in}
 use Rattle.fl_table.specs.declared.table.Table.{Table}
 use Rattle.fl_table.proofs.KeptPages.{sum-next}
 use Rattle.fl_table.proofs.KeyRows.{drop-row}
-use Rattle.fl_table.proofs.Looks.{next-is, oldest-is}
+use Rattle.fl_table.proofs.MemoryTells.{next-is, oldest-is}
 use Rattle.fl_cursor.specs.Ascending.{both}
 use Rattle.fl_cursor.specs.Asked.{is_asked, row_matches, lowest_of}
 use Rattle.fl_cursor.specs.Cursor.{IsStanding}
@@ -31,19 +31,19 @@ use Rattle.fl_cursor.specs.Listed.{rows_on, rows_over}
 use Rattle.fl_cursor.specs.Reads.{pages_asked, raised, start_of, pages_looked_up, index_least, least_from, IsBegun}
 use Rattle.fl_cursor.specs.declared.place.Place.{Place}
 use Rattle.fl_cursor.specs.declared.place.Place.TheVariants.{Start, Pages, InPage, Pending, Ended}
-use Rattle.fl_cursor.proofs.Beginning.{raised-below}
-use Rattle.fl_cursor.proofs.Finding.{begins}
+use Rattle.fl_cursor.proofs.LowestPage.{raised-below}
+use Rattle.fl_cursor.proofs.StartSearch.{begins}
 use Rattle.fl_cursor.proofs.Later.{lists_later, due-later, none-counted, first-over}
-use Rattle.fl_cursor.proofs.Looked.{due-both}
+use Rattle.fl_cursor.proofs.IndexLookups.{due-both}
 use Rattle.fl_flash.specs.Buffer.{BufferState}
-use Rattle.fl_index.specs.declared.index.Index.{Index}
+use Rattle.fl_index.specs.declared.index.BitmapIndex.{BitmapIndex}
 use Rattle.fl_index.specs.Looking.{due, next_to_read}
 use Rattle.fl_index.proofs.Lists.{firsts-length}
 use Rattle.fl_table.specs.Bitmaps.{ArePlanned}
 use Rattle.fl_table.specs.Skipping.{due_of}
-use Rattle.fl_cursor.proofs.Passing.{each-weaker}
+use Rattle.fl_cursor.proofs.PassedRows.{each-weaker}
 use Rattle.fl_cursor.proofs.Selected.{all-asked}
-use Rattle.fl_cursor.proofs.Starting.{ascends-front}
+use Rattle.fl_cursor.proofs.StartPlaces.{ascends-front}
 use Rattle.fl_cursor.proofs.Stood.{kept-rows, standing-rows, standing-ascends}
 
 no : true ≡ false → ⊥
@@ -226,15 +226,15 @@ module _ {KNOTS SLOTS : ℕ} (t : Table KNOTS SLOTS) (contents : Contents) (h : 
       by_values true listed none = none
       by_values false listed none = refl
 
-      by_index : (bitmaps : Option Index) → t.bitmaps ≡ bitmaps →
+      by_index : (bitmaps : Option BitmapIndex) → t.bitmaps ≡ bitmaps →
           pages_listed range (Some span) ≤ index_least t contents (begin range (Some span) h.table) index (start_of t contents range.low + 1)
       by_index None is =
-          let plain = subst (λ (o : Option Index). ArePlanned o (h.first + h.plan.data_blocks) h.plan) is h.stands.planned.index in
+          let plain = subst (λ (o : Option BitmapIndex). ArePlanned o (h.first + h.plan.data_blocks) h.plan) is h.stands.planned.index in
           let none = no-firsts (ap (λ n. nat_lt 0 n) plain.0) in
           let nothing = by_values (asks_values (Some span)) (count_by (lists_later t contents h range (Some span)) (firsts h.table)) (ap (λ (xs : List ℕ). count_by (lists_later t contents h range (Some span)) xs) none) in
           omega (arith, nothing)
       by_index (Some b) is =
-          subst (λ (o : Option Index). pages_listed range (Some span) ≤ due_of (Some span) o (pages_looked_up t contents (begin range (Some span) h.table).top (start_of t contents range.low + 1) (next_in t - (start_of t contents range.low + 1))) index) (sym is)
+          subst (λ (o : Option BitmapIndex). pages_listed range (Some span) ≤ due_of (Some span) o (pages_looked_up t contents (begin range (Some span) h.table).top (start_of t contents range.low + 1) (next_in t - (start_of t contents range.low + 1))) index) (sym is)
           (due-both (asks_values (Some span)) (count_by (lists_later t contents h range (Some span)) (firsts h.table)) (due b (pages_looked_up t contents (begin range (Some span) h.table).top (start_of t contents range.low + 1) (next_in t - (start_of t contents range.low + 1))) (next_to_read b index))
           (due-later t contents h range (Some span) b index is empty))
 

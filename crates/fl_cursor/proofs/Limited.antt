@@ -20,7 +20,7 @@ use Rattle.fl_table.specs.Look.{oldest_in, rows_noted, buffered_rows}
 use Rattle.fl_table.specs.Memory.{next_in}
 use Rattle.fl_table.specs.declared.table.Table.{Table}
 use Rattle.fl_table.proofs.Finds.{limit-told}
-use Rattle.fl_table.proofs.Looks.{next-is, oldest-is, pages-is}
+use Rattle.fl_table.proofs.MemoryTells.{next-is, oldest-is, pages-is}
 use Rattle.fl_cursor.specs.Ascending.{both}
 use Rattle.fl_cursor.specs.Asked.{lowest_of}
 use Rattle.fl_cursor.specs.Cursor.{IsStanding}
@@ -28,8 +28,8 @@ use Rattle.fl_cursor.specs.Listed.{rows_on}
 use Rattle.fl_cursor.specs.Reads.{begins_by, has_last, start_of, most_to_find, is_beyond, is_missed, is_skipped, pages_to_last, most_from, IsBegun, IsBounded}
 use Rattle.fl_cursor.specs.declared.place.Place.{Place}
 use Rattle.fl_cursor.specs.declared.place.Place.TheVariants.{Start, Pages, InPage, Pending, Ended}
-use Rattle.fl_cursor.proofs.Beginning.{standing-start, start-is, pending-same}
-use Rattle.fl_cursor.proofs.Finding.{begins}
+use Rattle.fl_cursor.proofs.LowestPage.{standing-start, start-is, pending-same}
+use Rattle.fl_cursor.proofs.StartSearch.{begins}
 use Rattle.fl_cursor.proofs.Later.{earlier}
 use Rattle.fl_cursor.proofs.PageBehind.{IsBehind, behind-before, behind-beyond, behind-is}
 use Rattle.fl_cursor.proofs.Stood.{standing-many}
@@ -38,8 +38,8 @@ use Rattle.fl_flash.specs.Buffer.{BufferState}
 use Rattle.fl_index.specs.Looking.{after_held, unread}
 use Rattle.fl_index.specs.Memory as indexes
 use Rattle.fl_index.specs.Page.{page_number}
-use Rattle.fl_index.specs.declared.index.Index.{Index}
-use Rattle.fl_index.proofs.Showing.{some_index}
+use Rattle.fl_index.specs.declared.index.BitmapIndex.{BitmapIndex}
+use Rattle.fl_index.proofs.LookupsOfTable.{some_index}
 use Rattle.fl_index.proofs.Spanned.{unread-full}
 use Rattle.fl_model.specs.Image.{rows_at}
 use Rattle.fl_model.specs.Ring as rings
@@ -286,7 +286,7 @@ module _ {KNOTS SLOTS : ℕ} (t : Table KNOTS SLOTS) (contents : Contents) (h : 
   few-unread None number index none = omega arith
   few-unread (Some span) number index none = by_index t.bitmaps refl
     where
-      by_index : (bitmaps : Option Index) → t.bitmaps ≡ bitmaps → unread_of (Some span) bitmaps number index ≤ index_pages (Some span)
+      by_index : (bitmaps : Option BitmapIndex) → t.bitmaps ≡ bitmaps → unread_of (Some span) bitmaps number index ≤ index_pages (Some span)
       by_index None is = omega arith
       by_index (Some b) is =
           let stands = index-stands t h.flash h.first h.plan h.table h.stands b is in

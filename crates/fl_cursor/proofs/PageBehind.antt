@@ -17,7 +17,7 @@ use Rattle.fl_page.specs.Contents.{Contents}
 use Rattle.fl_table.specs.Look.{oldest_in, rows_noted}
 use Rattle.fl_table.specs.Memory.{next_in}
 use Rattle.fl_table.specs.declared.table.Table.{Table}
-use Rattle.fl_table.proofs.Looks.{next-is, oldest-is}
+use Rattle.fl_table.proofs.MemoryTells.{next-is, oldest-is}
 use Rattle.fl_cursor.specs.Cursor.{IsStanding}
 use Rattle.fl_cursor.specs.Listed.{rows_on}
 use Rattle.fl_cursor.specs.Reads.{is_beyond, IsBounded}

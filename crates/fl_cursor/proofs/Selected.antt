@@ -18,7 +18,7 @@ use Rattle.fl_table.specs.Memory.{IsPlanned}
 use Rattle.fl_table.specs.declared.table.Table as memory
 use Rattle.fl_cursor.specs.Ascending.{both}
 use Rattle.fl_cursor.specs.Asked.{is_asked}
-use Rattle.fl_cursor.proofs.Passing.{each-weaker}
+use Rattle.fl_cursor.proofs.PassedRows.{each-weaker}
 
 some-same : {a b : Entry} → Some a ≡ Some b → a ≡ b
 some-same e = cc

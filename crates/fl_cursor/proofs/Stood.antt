@@ -34,7 +34,7 @@ use Rattle.fl_table.specs.Memory.{next_in}
 use Rattle.fl_table.specs.declared.table.Table.{Table}
 use Rattle.fl_table.proofs.KeptPages.{sum-next}
 use Rattle.fl_table.proofs.KeptRead.{place-is, shown, rows-lose}
-use Rattle.fl_table.proofs.Looks.{next-is, oldest-is, noted-is}
+use Rattle.fl_table.proofs.MemoryTells.{next-is, oldest-is, noted-is}
 use Rattle.fl_table.proofs.States.{shape_in}
 use Rattle.fl_cursor.specs.Asked.{is_left}
 use Rattle.fl_cursor.specs.Cursor.{IsStanding}

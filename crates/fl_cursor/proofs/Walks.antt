@@ -13,7 +13,7 @@ use Rattle.fl_cursor.specs.Reads.{has_last, pages_asked}
 use Rattle.fl_cursor.specs.Sought.{first_left}
 use Rattle.fl_cursor.specs.declared.search.Sought.{Sought}
 use Rattle.fl_cursor.specs.declared.search.Sought.TheVariants.{Row as At, Behind, Nowhere}
-use Rattle.fl_cursor.proofs.Passing.{passes-all, passes-next, Above, each-front, each-back, none-asked}
+use Rattle.fl_cursor.proofs.PassedRows.{passes-all, passes-next, Above, each-front, each-back, none-asked}
 
 -- the row at place k, where the first of these has place i
 pub record Reached (asked : Cursor) (all xs rest : List Row) (i k : ℕ) : Type 0 where

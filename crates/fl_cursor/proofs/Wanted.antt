@@ -9,7 +9,7 @@ use Rattle.fl_base.specs.declared.types.Span.{Span}
 use Rattle.fl_bitmap.specs.Bucket.{AreBucketsOf, bucket_in, mask_in, with_value}
 use Rattle.fl_bitmap.specs.declared.buckets.Buckets.{Buckets}
 use Rattle.fl_bitmap.proofs.Spans.{bucket_of-is}
-use Rattle.fl_index.specs.declared.index.Index.{Index}
+use Rattle.fl_index.specs.declared.index.BitmapIndex.{BitmapIndex}
 use Rattle.fl_index.proofs.Spanned.{indexed-is}
 use Rattle.fl_model.specs.Image.{rows_at}
 use Rattle.fl_model.specs.Layout.{bitmap_of, bucket_of}
@@ -33,7 +33,7 @@ use Rattle.fl_cursor.specs.Asked.{is_asked}
 use Rattle.fl_cursor.specs.Cursor.{IsStanding}
 use Rattle.fl_cursor.specs.Listed.{rows_on}
 use Rattle.fl_cursor.specs.Reads.{begins_above, bitmap_in, has_full, mask_for, is_beyond, is_indexed_in, is_missed}
-use Rattle.fl_cursor.proofs.Passing.{NotLeft}
+use Rattle.fl_cursor.proofs.PassedRows.{NotLeft}
 use Rattle.fl_cursor.proofs.Stood.{kept-rows, at-number, back, standing-many}
 
 -- ---- the rows of a page
@@ -138,17 +138,17 @@ module _ {KNOTS SLOTS : ℕ} (t : Table KNOTS SLOTS) (contents : Contents) (h : 
 
     plain : t.bitmaps ≡ None → is_indexed h.plan h.table number ≡ false
     plain is =
-        let none = subst (λ (o : Option Index). ArePlanned o (h.first + h.plan.data_blocks) h.plan) is h.stands.planned.index in
+        let none = subst (λ (o : Option BitmapIndex). ArePlanned o (h.first + h.plan.data_blocks) h.plan) is h.stands.planned.index in
         ap (λ n. nat_lt 0 n && (waits h.table number || is_listed h.plan h.table number)) none.0
 
-    with_index : (span : Span) (index : Index) → t.bitmaps ≡ Some index → (buckets : Option Buckets) → t.buckets ≡ buckets →
+    with_index : (span : Span) (index : BitmapIndex) → t.bitmaps ≡ Some index → (buckets : Option Buckets) → t.buckets ≡ buckets →
         (is_indexed_in t.bitmaps number && (bit_and (bitmap_in buckets (rows_on t contents number)) (mask_for buckets span) == 0)) ≡ not (wants_page h.plan h.table (Some span) number entries)
     with_index span index is None has = absurd (some-bits t h.flash h.first h.plan h.table h.stands index is (subst (HasBuckets h.plan) has h.stands.planned.buckets))
     with_index span index is (Some buckets) has =
         let same = subst (HasBuckets h.plan) has h.stands.planned.buckets in
         let indexed = indexed-is index h.flash (h.first + h.plan.data_blocks) h.plan h.table (index-stands t h.flash h.first h.plan h.table h.stands index is) number in
         let bits = ap (bitmap_in (Some buckets)) rows-are ∙ sym (bitmap-same h.plan buckets entries same (some-bits t h.flash h.first h.plan h.table h.stands index is)) in
-        ap (λ (o : Option Index). is_indexed_in o number && (bit_and (bitmap_in (Some buckets) (rows_on t contents number)) (mask_in buckets span) == 0)) is
+        ap (λ (o : Option BitmapIndex). is_indexed_in o number && (bit_and (bitmap_in (Some buckets) (rows_on t contents number)) (mask_in buckets span) == 0)) is
         ∙ (ap (λ b. b && (bit_and (bitmap_in (Some buckets) (rows_on t contents number)) (mask_in buckets span) == 0)) (sym indexed)
         ∙ (ap (λ n. is_indexed h.plan h.table number && (bit_and n (mask_in buckets span) == 0)) bits
         ∙ (ap (λ n. is_indexed h.plan h.table number && (bit_and (bitmap_of h.plan entries) n == 0)) (sym (mask-same h.plan buckets span same))
@@ -158,9 +158,9 @@ module _ {KNOTS SLOTS : ℕ} (t : Table KNOTS SLOTS) (contents : Contents) (h : 
     missed-wanted None = refl
     missed-wanted (Some span) = by_index t.bitmaps refl
       where
-        by_index : (bitmaps : Option Index) → t.bitmaps ≡ bitmaps → (is_indexed_in t.bitmaps number && (bit_and (bitmap_in t.buckets (rows_on t contents number)) (mask_for t.buckets span) == 0)) ≡ not (wants_page h.plan h.table (Some span) number entries)
+        by_index : (bitmaps : Option BitmapIndex) → t.bitmaps ≡ bitmaps → (is_indexed_in t.bitmaps number && (bit_and (bitmap_in t.buckets (rows_on t contents number)) (mask_for t.buckets span) == 0)) ≡ not (wants_page h.plan h.table (Some span) number entries)
         by_index None is =
-            ap (λ (o : Option Index). is_indexed_in o number && (bit_and (bitmap_in t.buckets (rows_on t contents number)) (mask_for t.buckets span) == 0)) is
+            ap (λ (o : Option BitmapIndex). is_indexed_in o number && (bit_and (bitmap_in t.buckets (rows_on t contents number)) (mask_for t.buckets span) == 0)) is
             ∙ sym (ap (λ b. not (not b || nat_lt 0 (bit_and (bitmap_of h.plan entries) (mask_of h.plan span)))) (plain is))
         by_index (Some index) is = with_index span index is t.buckets refl
 
@@ -184,14 +184,14 @@ module _ {KNOTS SLOTS : ℕ} (t : Table KNOTS SLOTS) (contents : Contents) (h : 
             no : true ≡ false → ⊥
             no e = cc
 
-        by_index : (bitmaps : Option Index) → t.bitmaps ≡ bitmaps → ((has_full t.bitmaps && is_indexed_in t.bitmaps number) && begins_above top (rows_on t contents number)) ≡ ((h.plan.full_index && is_indexed h.plan h.table number) && not (is_up_to top (model.first_key entries)))
+        by_index : (bitmaps : Option BitmapIndex) → t.bitmaps ≡ bitmaps → ((has_full t.bitmaps && is_indexed_in t.bitmaps number) && begins_above top (rows_on t contents number)) ≡ ((h.plan.full_index && is_indexed h.plan h.table number) && not (is_up_to top (model.first_key entries)))
         by_index None is =
-            ap (λ (o : Option Index). (has_full o && is_indexed_in o number) && begins_above top (rows_on t contents number)) is
+            ap (λ (o : Option BitmapIndex). (has_full o && is_indexed_in o number) && begins_above top (rows_on t contents number)) is
             ∙ sym (and-none h.plan.full_index (is_indexed h.plan h.table number) (not (is_up_to top (model.first_key entries))) (plain is))
         by_index (Some index) is =
-            let planned = subst (λ (o : Option Index). ArePlanned o (h.first + h.plan.data_blocks) h.plan) is h.stands.planned.index in
+            let planned = subst (λ (o : Option BitmapIndex). ArePlanned o (h.first + h.plan.data_blocks) h.plan) is h.stands.planned.index in
             let indexed = indexed-is index h.flash (h.first + h.plan.data_blocks) h.plan h.table (index-stands t h.flash h.first h.plan h.table h.stands index is) number in
-            ap (λ (o : Option Index). (has_full o && is_indexed_in o number) && begins_above top (rows_on t contents number)) is
+            ap (λ (o : Option BitmapIndex). (has_full o && is_indexed_in o number) && begins_above top (rows_on t contents number)) is
             ∙ (ap (λ b. (b && is_indexed_in (Some index) number) && begins_above top (rows_on t contents number)) (sym planned.full)
             ∙ (ap (λ b. (h.plan.full_index && b) && begins_above top (rows_on t contents number)) (sym indexed)
             ∙ ap (λ b. (h.plan.full_index && is_indexed h.plan h.table number) && b) (begins-same top some)))

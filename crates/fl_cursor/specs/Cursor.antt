@@ -10,7 +10,7 @@ use Rattle.fl_index.specs.Looking.{IsHeld}
 use Rattle.fl_index.specs.Memory as indexes
 use Rattle.fl_index.specs.Memory.{per_page, place_in}
 use Rattle.fl_index.specs.Page as index_pages
-use Rattle.fl_index.specs.declared.index.Index.{Index}
+use Rattle.fl_index.specs.declared.index.BitmapIndex.{BitmapIndex}
 use Rattle.fl_mark.specs.Mark.{state_of_page}
 use Rattle.fl_mark.specs.declared.page_state.PageState.TheVariants.{Committed}
 use Rattle.fl_model.specs.Query as model
@@ -145,13 +145,13 @@ pub record IsStanding {KNOTS SLOTS : ℕ} (t : Table KNOTS SLOTS) (contents : Co
   pub stands : Stands t flash first plan table
 
 -- a kept index page that a buffer holds has the bytes that stand on the flash
-abbrev pub AreFreshIn : Option Index → Contents → BufferState → Type 0
+abbrev pub AreFreshIn : Option BitmapIndex → Contents → BufferState → Type 0
 AreFreshIn None contents buf = Unit {0}
 AreFreshIn (Some index) contents buf =
     (number : ℕ) → IsHeld index number buf → buf.bytes ≡ page_of contents.bytes contents.start contents.geometry.page (place_in index number)
 
 -- the buffer of index pages goes with the place: it holds none, or the one that was looked at last
-abbrev pub IsLooking : Option Index → Place → BufferState → Type 0
+abbrev pub IsLooking : Option BitmapIndex → Place → BufferState → Type 0
 IsLooking bitmaps Start buf = AreScanning bitmaps 0 buf
 IsLooking bitmaps (Pages next) buf = AreScanning bitmaps next buf
 IsLooking bitmaps (InPage number row) buf = AreScanning bitmaps (number + 1) buf
@@ -198,17 +198,17 @@ pub record IsBadPage {KNOTS SLOTS : ℕ} (t : Table KNOTS SLOTS) (contents : Con
   pub told : bad ≡ bad_page bad.wanted (bytes_at t contents bad.wanted)
 
 -- .. or the page at the place of a kept index page is, and has another number or another count than an index page
-abbrev pub index_bytes : Index → Contents → ℕ → List ℕ
+abbrev pub index_bytes : BitmapIndex → Contents → ℕ → List ℕ
 index_bytes index contents number = page_of contents.bytes contents.start contents.geometry.page (place_in index number)
 
-pub record IsBadIndexPage (index : Index) (contents : Contents) (bad : BadPage) : Type 0 where
+pub record IsBadIndexPage (index : BitmapIndex) (contents : Contents) (bad : BadPage) : Type 0 where
   pub from : indexes.oldest_in index ≤ bad.wanted
   pub before : bad.wanted < indexes.next_in index
   pub committed : state_of_page (index_bytes index contents bad.wanted) ≡ Committed
   pub not_good : index_pages.IsGoodPage (per_page index) bad.wanted (index_bytes index contents bad.wanted) → ⊥
   pub told : bad ≡ looking.bad_page bad.wanted (index_bytes index contents bad.wanted)
 
-abbrev pub AreBadIn : Option Index → Contents → BadPage → Type 0
+abbrev pub AreBadIn : Option BitmapIndex → Contents → BadPage → Type 0
 AreBadIn None contents bad = ⊥
 AreBadIn (Some index) contents bad = IsBadIndexPage index contents bad
 

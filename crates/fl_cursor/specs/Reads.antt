@@ -8,7 +8,7 @@ use Rattle.fl_bitmap.specs.Bucket.{mask_in, with_value}
 use Rattle.fl_bitmap.specs.declared.buckets.Buckets.{Buckets}
 use Rattle.fl_flash.specs.Buffer.{BufferState}
 use Rattle.fl_index.specs.Memory.{form_in, is_waiting, listing_in}
-use Rattle.fl_index.specs.declared.index.Index.{Index}
+use Rattle.fl_index.specs.declared.index.BitmapIndex.{BitmapIndex}
 use Rattle.fl_model.specs.Row.{Row}
 use Rattle.fl_page.specs.Contents.{Contents}
 use Rattle.fl_page.specs.Page.{rows_in}
@@ -40,7 +40,7 @@ mask_for None span = 0
 mask_for (Some buckets) span = mask_in buckets span
 
 -- an index page lists a data page, or its entry waits
-abbrev pub is_indexed_in : Option Index → ℕ → Bool
+abbrev pub is_indexed_in : Option BitmapIndex → ℕ → Bool
 is_indexed_in None number = false
 is_indexed_in (Some index) number = is_waiting index number || is_some (listing_in index number)
 
@@ -50,7 +50,7 @@ is_missed t None number rows = false
 is_missed t (Some span) number rows = is_indexed_in (index_in t) number && (bit_and (bitmap_in (buckets_in t) rows) (mask_for (buckets_in t) span) == 0)
 
 -- the entries of an index tell more of a data page than its bitmap
-abbrev pub has_full : Option Index → Bool
+abbrev pub has_full : Option BitmapIndex → Bool
 has_full None = false
 has_full (Some index) = (form_in index).full
 

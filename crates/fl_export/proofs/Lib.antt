@@ -1,10 +1,10 @@
 mod Readers
-mod Taking
+mod TakenChunks
 pub mod Lines
 mod Unread
 mod Records
-mod Walking
-mod Exporting
-pub mod Ending
+mod WrittenRecords
+mod FlashEnds
+pub mod ImageEnds
 pub mod Statuses
 pub mod ReadBack

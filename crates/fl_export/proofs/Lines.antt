@@ -9,7 +9,7 @@ use Rattle.fl_csv.specs.declared.record.CsvFault.{CsvFault}
 use Rattle.fl_csv.specs.declared.record.CsvFault.TheVariants as line
 use Rattle.fl_model.specs.Record.{Plan}
 use Rattle.fl_model.specs.Table.{Table, Entry}
-use Rattle.fl_script.proofs.Sending.{appends-append}
+use Rattle.fl_script.proofs.SinkPieces.{appends-append}
 use Rattle.fl_export.specs.Text.{said_of, AreAmong}
 use Rattle.fl_export.specs.Writing.{of_line, NoneBad, Writes}
 use Rattle.fl_store.proofs.Appends.{appends-none, front-behind}

@@ -1,4 +1,4 @@
-pub mod Looks
+pub mod PageLooks
 pub mod Moves
 pub mod Sound
 pub mod Firsts
@@ -6,7 +6,7 @@ pub mod Windows
 pub mod Ends
 pub mod Modelled
 pub mod Indexed
-pub mod Seeking
+pub mod RowSearch
 pub mod Entries
 pub mod Lookups
 pub mod Points

@@ -24,7 +24,7 @@ use Rattle.fl_find.specs.Standing.{HoldsPages}
 use Rattle.fl_find.specs.Finding.{IsFound, FindsPage}
 use Rattle.fl_find.specs.Rows.{RowsRise, HasKey, LacksKey, HoldsEntry, IsLookedUp, LooksUp}
 use Rattle.fl_find.specs.declared.row.PageRow.{PageRow}
-use Rattle.fl_find.proofs.Looks.{looks-pages, looks-tell}
+use Rattle.fl_find.proofs.PageLooks.{looks-pages, looks-tell}
 use Rattle.fl_find.proofs.Firsts.{key_of, Ascending}
 use Rattle.fl_find.proofs.Modelled.{first-stored, found}
 use Rattle.fl_find.proofs.Entries.{part, part-ascends, rows-rise, lacks-page, has-row, lacks-row}

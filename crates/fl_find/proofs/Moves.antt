@@ -11,7 +11,7 @@ use Rattle.fl_ring.specs.declared.ring.Ring.{Ring}
 use Rattle.fl_search.specs.Search.{IsPageOf, Ascends, starts_by}
 use Rattle.fl_find.specs.Pages.{Holds, rows_on, first_key, first_on}
 use Rattle.fl_find.specs.Looking.{OnlyLooks}
-use Rattle.fl_find.proofs.Looks.{looks-pages}
+use Rattle.fl_find.proofs.PageLooks.{looks-pages}
 
 pub lies-looked : (ring : Ring) (old new : FlashState) → LiesOn ring old → OnlyLooks old new → LiesOn ring new
 lies-looked ring old new lies looks = record {

@@ -13,7 +13,7 @@ use Rattle.fl_ring.specs.declared.ring.Ring.{Ring}
 use Rattle.fl_search.specs.Search.{IsPageOf, starts_by}
 use Rattle.fl_find.specs.Pages.{bytes_at, rows_on, first_key, first_on, IsBadPage}
 use Rattle.fl_find.specs.Looking.{OnlyLooks, IsKept, IsSound, NoneIsBad, Tells}
-use Rattle.fl_find.proofs.Looks.{looks-pages, looks-tell}
+use Rattle.fl_find.proofs.PageLooks.{looks-pages, looks-tell}
 
 no : false ≡ true → ⊥
 no e = cc

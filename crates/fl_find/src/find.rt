@@ -13,7 +13,7 @@ ghost use Rattle.fl_find.specs.Standing.{HoldsPages, HasPoints};
 ghost use Rattle.fl_find.specs.Index.{knots_in, shift_in, IndexOf, window_end};
 ghost use Rattle.fl_find.specs.Rows.{HasKey, LooksUp};
 
-use crate::index::LearnedIndex;
+use crate::index::KeyIndex;
 use crate::row::PageRow;
 use crate::seek::row_of;
 use fl_base::Steps;
@@ -22,7 +22,7 @@ use fl_page::ReadFault;
 use fl_ring::Ring;
 use fl_schema::Schema;
 
-impl<const KNOTS: usize, const SLOTS: usize> LearnedIndex<KNOTS, SLOTS> {
+impl<const KNOTS: usize, const SLOTS: usize> KeyIndex<KNOTS, SLOTS> {
     /// The row with the key among the rows of the kept pages, and none where no row has it. The buffer holds its page
     /// then. Pages are read and comparisons counted as `page_of` does.
     pub fn find<F: Flash>(

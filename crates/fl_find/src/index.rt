@@ -15,7 +15,7 @@ use fl_spline::Spline;
 /// Where the pages of keys are: a spline over the first keys of pages, with its KNOTS newest knots, and a radix table
 /// of SLOTS slots over these.
 #[derive(Drop)]
-pub struct LearnedIndex<const KNOTS: usize, const SLOTS: usize> {
+pub struct KeyIndex<const KNOTS: usize, const SLOTS: usize> {
     error: u32,
     spline: Spline<KNOTS>,
     radix: Radix<SLOTS>,
@@ -23,7 +23,7 @@ pub struct LearnedIndex<const KNOTS: usize, const SLOTS: usize> {
     ghost follows: { Follows (kept spline) radix },
 }
 
-impl<const KNOTS: usize, const SLOTS: usize> LearnedIndex<KNOTS, SLOTS> {
+impl<const KNOTS: usize, const SLOTS: usize> KeyIndex<KNOTS, SLOTS> {
     ghost use Rattle.std.specs.Prelude.{◌≤◌, ◌<◌, ◌+◌, ◌-◌, ◌^◌, min, ℕ, true, false, IsTrue, List, [], ◌∷◌, ◌++◌, length, Option, Some, IfSome, IfOk, IfErr, OnOk, if◌then◌else◌, unwrap_or};
     ghost use Rattle.fl_model.specs.Record.{Plan};
     ghost use Rattle.fl_model.specs.Facts.{IsTable};
@@ -42,12 +42,12 @@ impl<const KNOTS: usize, const SLOTS: usize> LearnedIndex<KNOTS, SLOTS> {
     ghost use Rattle.fl_find.specs.Index.{error_in, knots_in, shift_in, is_further, IndexOf, window_end, most_reads};
 
     /// The index of no pages, whose lines may be off by `error` pages.
-    pub fn new(error: u32) -> LearnedIndex<KNOTS, SLOTS>
+    pub fn new(error: u32) -> KeyIndex<KNOTS, SLOTS>
         requires knots { 2 ≤ KNOTS }
         requires slots { 2 ≤ SLOTS }
         ensures { IndexOf error [] result }
     {
-        LearnedIndex {
+        KeyIndex {
             error,
             spline: Spline::new(error),
             radix: Radix::new(),

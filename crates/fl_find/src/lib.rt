@@ -12,7 +12,7 @@ mod row;
 mod search;
 mod seek;
 
-pub use index::LearnedIndex;
+pub use index::KeyIndex;
 pub use keys::PageKeys;
 pub use laws::points_go_with_pages;
 pub use row::PageRow;

@@ -15,7 +15,7 @@ use Rattle.fl_flash.specs.Programs.{left_at, SecondEnds, FirstEnds, ProgramsBoth
 use Rattle.fl_flash.specs.Sim.{on_medium, AreBlank}
 use Rattle.fl_flash.specs.Tear.{Rewrites, torn_now, armed_after}
 use Rattle.fl_flash.proofs.Clean.{CleanBefore, program_keeps}
-use Rattle.fl_flash.proofs.Rewriting.{torn_wider}
+use Rattle.fl_flash.proofs.RangeOperations.{torn_wider}
 use Rattle.fl_flash.proofs.SimCalls.{programs_ok, programs_failed}
 
 -- one range behind the other

@@ -1,4 +1,4 @@
-pub mod Telling
-pub mod Writing
-pub mod Ending
+pub mod ToldTables
+pub mod FindingLines
+pub mod CheckEnds
 pub mod Ringed

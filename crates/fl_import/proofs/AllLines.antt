@@ -13,7 +13,7 @@ use Rattle.fl_lines.specs.Stream.{LinesState, Advances}
 use Rattle.fl_lines.specs.Taken.{TakesFew}
 use Rattle.fl_model.specs.Record.{Record, Plan, has_var}
 use Rattle.fl_model.specs.Table as model
-use Rattle.fl_script.proofs.Sending.{appends-append}
+use Rattle.fl_script.proofs.SinkPieces.{appends-append}
 use Rattle.fl_rlc.specs.declared.table.LoggedTable.{LoggedTable}
 use Rattle.fl_import.specs.Ends.{Reports, puts_of, table_after, told_of_lines}
 use Rattle.fl_import.specs.Counting.{after_end, counts_of, end_of, gone_count, put_end}
@@ -27,7 +27,7 @@ use Rattle.fl_import.specs.Taking.{Ended, IsOfNames, NextOf, NextLine, TakesSoFa
 use Rattle.fl_import.specs.declared.line_end.LineEnd.{LineEnd}
 use Rattle.fl_import.specs.declared.line_end.LineEnd.TheVariants.{Refused, Put, PutWithoutBlob}
 use Rattle.fl_store.proofs.Appends.{appends-none}
-use Rattle.fl_import.proofs.Putting.{after-more, told-more, count-more, gone-more, means-behind, means-length}
+use Rattle.fl_import.proofs.NextPut.{after-more, told-more, count-more, gone-more, means-behind, means-length}
 use Rattle.fl_import.proofs.Taken.{Shows, taken-next, shows-next, stops-done, stops-next}
 
 pub as-plan : (P : ℕ → Bool → Type 0) (form : LineForm) (plan : Plan) → IsFormOf form plan → P form.columns form.blobs → P (length plan.columns) (has_var plan)

@@ -1,7 +1,7 @@
-mod Putting
+mod NextPut
 mod Taken
 pub mod OneLine
 mod AllLines
-mod Flushing
-mod Importing
-pub mod Closing
+mod LastFlush
+mod FlashEnds
+pub mod ImageEnds

@@ -23,7 +23,7 @@ use Rattle.fl_model.specs.Puts.{TablePuts}
 use Rattle.fl_model.specs.Work as work
 use Rattle.fl_model.specs.Work.{PartProgress}
 use Rattle.fl_script.specs.Written.{Written}
-use Rattle.fl_script.proofs.Sending.{appends-append, written-err}
+use Rattle.fl_script.proofs.SinkPieces.{appends-append, written-err}
 use Rattle.fl_rlc.specs.Outcomes.{PutEnds, Breaks}
 use Rattle.fl_rlc.specs.Refusal.{RefusedSame}
 use Rattle.fl_table.specs.Causes.{PutCausedBy}

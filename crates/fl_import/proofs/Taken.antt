@@ -11,7 +11,7 @@ use Rattle.fl_lines.specs.Taken.{HasTaken, TakesFew, begin_behind}
 use Rattle.fl_lines.specs.Texts.{most_bytes, lines_read, lines_within}
 use Rattle.fl_lines.specs.declared.lines.LinesFault.{LinesFault}
 use Rattle.fl_lines.specs.declared.lines.LinesFault.TheVariants.{Failed, Long}
-use Rattle.fl_lines.proofs.Reading.{IsTooLong, given-none, given-line, given-last, given-all, given-few, given-most, given-over, given-part, given-taken, given-too_long}
+use Rattle.fl_lines.proofs.LinesInTurn.{IsTooLong, given-none, given-line, given-last, given-all, given-few, given-most, given-over, given-part, given-taken, given-too_long}
 use Rattle.fl_words.specs.Grammar.{without_return}
 use Rattle.fl_import.specs.Lines.{IsHeaded, Takes, IsBad}
 use Rattle.fl_import.specs.Taking.{NextOf, TakesSoFar, TakesThese}

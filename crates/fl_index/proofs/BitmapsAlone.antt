@@ -6,13 +6,13 @@ use Rattle.fl_model.specs.Record.{Plan}
 use Rattle.fl_model.specs.Table.{Table}
 use Rattle.fl_page.specs.declared.fault.ReadFault.{ReadFault}
 use Rattle.fl_page.specs.declared.fault.ReadFault.TheVariants.{Flash, BadPage}
-use Rattle.fl_index.specs.declared.index.Index.{Index}
+use Rattle.fl_index.specs.declared.index.BitmapIndex.{BitmapIndex}
 use Rattle.fl_index.specs.declared.page.Found.{Found}
 use Rattle.fl_index.specs.Looking.{entire, bitmap_alone, IsFound, IfRead, ByMemory, ShowsEntry, ShowsBitmap, bitmaps_of}
 use Rattle.fl_index.specs.Memory.{found_waiting, first_waiting, is_waiting}
-use Rattle.fl_index.proofs.Showing.{told-some}
+use Rattle.fl_index.proofs.LookupsOfTable.{told-some}
 
-pub memory-alone : (t : Index) (number : ℕ) (f : FlashState) (before : BufferState) (r : Result (Option Found) ReadFault) (now : FlashState) (after : BufferState) →
+pub memory-alone : (t : BitmapIndex) (number : ℕ) (f : FlashState) (before : BufferState) (r : Result (Option Found) ReadFault) (now : FlashState) (after : BufferState) →
     ByMemory entire t number f before r now after → ByMemory bitmap_alone t number f before (bitmaps_of r) now after
 memory-alone t number f before r now after m = record {
   answer = ap bitmaps_of m.answer ∙ by_waiting (is_waiting t number) (found_waiting t (number - first_waiting t));
@@ -24,7 +24,7 @@ memory-alone t number f before r now after m = record {
     by_waiting true found = refl
     by_waiting false found = refl
 
-pub found-alone : (t : Index) (number : ℕ) (bytes : List ℕ) (r : Result (Option Found) ReadFault) (looked : Option ℕ) →
+pub found-alone : (t : BitmapIndex) (number : ℕ) (bytes : List ℕ) (r : Result (Option Found) ReadFault) (looked : Option ℕ) →
     IfSome looked (λ listing. IsFound entire t listing number bytes r) → IfSome looked (λ listing. IsFound bitmap_alone t listing number bytes (bitmaps_of r))
 found-alone t number bytes r None h = h
 found-alone t number bytes r (Some listing) h = by_result r h

@@ -21,17 +21,17 @@ use Rattle.fl_ring.proofs.Exists.{lies_exists}
 use Rattle.fl_ring.proofs.Lengths.{page_length}
 use Rattle.std.proofs.Math.Nat.{mod-lt}
 use Rattle.fl_ring.specs.Ring.{place as place_at}
-use Rattle.fl_index.specs.declared.index.Index.{Index}
+use Rattle.fl_index.specs.declared.index.BitmapIndex.{BitmapIndex}
 use Rattle.fl_index.specs.Memory.{next_in, oldest_in, per_page, place_in, LiesOn}
 use Rattle.fl_index.specs.Page.{IsGoodPage}
 use Rattle.fl_index.specs.Standing.{Stands, bytes_in}
 use Rattle.fl_index.proofs.Lists.{below-end, first-at}
 use Rattle.fl_index.proofs.Lookups.{place-same}
-use Rattle.fl_index.proofs.Sealings.{planned-ring}
-use Rattle.fl_index.proofs.Showing.{KeptPage, kept-page, index-page, X_is}
+use Rattle.fl_index.proofs.SealEnds.{planned-ring}
+use Rattle.fl_index.proofs.LookupsOfTable.{KeptPage, kept-page, index-page, X_is}
 
 -- a page of the ring has the page size
-page-size : (t : Index) (f : FlashState) (ring : Ring) → t.ring ≡ Some ring → LiesOn t f → f.start + extent f.geometry f.blocks ≤ length f.media.content → (number : ℕ) → length (page_at f (place_in t number)) ≡ t.geometry.page
+page-size : (t : BitmapIndex) (f : FlashState) (ring : Ring) → t.ring ≡ Some ring → LiesOn t f → f.start + extent f.geometry f.blocks ≤ length f.media.content → (number : ℕ) → length (page_at f (place_in t number)) ≡ t.geometry.page
 page-size t f ring has lies reaches number =
     let on = lies.ring ring has in
     let lt = mod-lt number (some_room ring.blocks ring.per_block ring.served.blocks ring.served.per_block) in
@@ -42,7 +42,7 @@ page-size t f ring has lies reaches number =
     some_room : (a b : ℕ) → 3 ≤ a → 2 ≤ b → 0 < a * b
     some_room a b x y = grind (arith, x, y)
 
-module _ (t : Index) (f : FlashState) (first : ℕ) (plan : Plan) (table : Table) (stands : Stands t f first plan table) (lies : LiesOn t f) (reaches : f.start + extent f.geometry f.blocks ≤ length f.media.content) where
+module _ (t : BitmapIndex) (f : FlashState) (first : ℕ) (plan : Plan) (table : Table) (stands : Stands t f first plan table) (lies : LiesOn t f) (reaches : f.start + extent f.geometry f.blocks ≤ length f.media.content) where
   pub kept-good : (number : ℕ) → oldest_in t ≤ number → number < next_in t → state_of_page (page_at f (place_in t number)) ≡ Committed → IsGoodPage (per_page t) number (page_at f (place_in t number))
   kept-good number low high is = by_count (kept-page t f first plan table stands number low high)
     where

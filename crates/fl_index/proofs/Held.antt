@@ -5,21 +5,21 @@ use Rattle.fl_flash.specs.Buffer.{BufferState}
 use Rattle.fl_flash.specs.Flash.{FlashState}
 use Rattle.fl_model.specs.Record.{Plan}
 use Rattle.fl_model.specs.Table.{Table}
-use Rattle.fl_index.specs.declared.index.Index.{Index}
+use Rattle.fl_index.specs.declared.index.BitmapIndex.{BitmapIndex}
 use Rattle.fl_index.specs.Looking.{IsHeld, is_page, is_kept, held_lists, listing_by}
 use Rattle.fl_index.specs.Memory.{first_in, next_in, oldest_in, per_page, lists, listing_in, place_in}
 use Rattle.fl_index.specs.Page.{page_number}
 use Rattle.fl_index.specs.Standing.{Stands}
 use Rattle.fl_model.proofs.FullPages.{full-below}
-use Rattle.fl_index.proofs.Listings.{listing-is, listing-no}
-use Rattle.fl_index.proofs.Showing.{both_true, ListingPage, listing-page}
+use Rattle.fl_index.proofs.ListingPages.{listing-is, listing-no}
+use Rattle.fl_index.proofs.LookupsOfTable.{both_true, ListingPage, listing-page}
 
 page-some : (number : ℕ) (o : Option ℕ) → is_page number o ≡ true → o ≡ Some number
 page-some number None e = absurd (false≢true e)
 page-some number (Some page) e = ap (λ (n : ℕ). Some n) (eqb-true page number e)
 
 -- the page in the buffer is kept
-pub kept-held : (t : Index) (buf : BufferState) → is_kept t buf ≡ true → IsHeld t (page_number buf.bytes) buf
+pub kept-held : (t : BitmapIndex) (buf : BufferState) → is_kept t buf ≡ true → IsHeld t (page_number buf.bytes) buf
 kept-held t buf e =
     let b = both_true (nat_le (oldest_in t) (page_number buf.bytes) && nat_lt (page_number buf.bytes) (next_in t)) (is_page (place_in t (page_number buf.bytes)) buf.holds) e in
     let c = both_true (nat_le (oldest_in t) (page_number buf.bytes)) (nat_lt (page_number buf.bytes) (next_in t)) b.0 in
@@ -30,16 +30,16 @@ kept-held t buf e =
     }
 
 -- what is looked at is kept and lists the data page
-pub record IsListed (t : Index) (number page : ℕ) : Type 0 where
+pub record IsListed (t : BitmapIndex) (number page : ℕ) : Type 0 where
   pub kept : (oldest_in t ≤ page) × (page < next_in t)
   pub here : lists (per_page t) number (first_in t page) ≡ true
 
-pub listed-in : (t : Index) (number page : ℕ) → listing_in t number ≡ Some page → IsListed t number page
+pub listed-in : (t : BitmapIndex) (number page : ℕ) → listing_in t number ≡ Some page → IsListed t number page
 listed-in t number page e =
     let at = listing-is (per_page t) (first_in t) number (next_in t - oldest_in t) (oldest_in t) page e in
     record { kept = (at.low, omega (arith, at.low, at.high)); here = at.here }
 
-pub listed-by : (t : Index) (number page : ℕ) (buf : BufferState) → listing_by t number buf ≡ Some page → IsListed t number page
+pub listed-by : (t : BitmapIndex) (number page : ℕ) (buf : BufferState) → listing_by t number buf ≡ Some page → IsListed t number page
 listed-by t number page buf e = by_held (held_lists t number buf) refl e
   where
     same : {n : ℕ} → ◌≡◌ {A = Option ℕ} (Some n) (Some page) → n ≡ page
@@ -56,7 +56,7 @@ listed-by t number page buf e = by_held (held_lists t number buf) refl e
         }
 
 -- no index page lists it
-pub none-by : (t : Index) (number : ℕ) (buf : BufferState) → listing_by t number buf ≡ None → listing_in t number ≡ None
+pub none-by : (t : BitmapIndex) (number : ℕ) (buf : BufferState) → listing_by t number buf ≡ None → listing_in t number ≡ None
 none-by t number buf e = by_held (held_lists t number buf) e
   where
     none : {n : ℕ} → ◌≡◌ {A = Option ℕ} (Some n) None → ⊥
@@ -66,7 +66,7 @@ none-by t number buf e = by_held (held_lists t number buf) e
     by_held false e = e
     by_held true e = absurd (none e)
 
-module _ (t : Index) (f : FlashState) (first : ℕ) (plan : Plan) (table : Table) (stands : Stands t f first plan table) where
+module _ (t : BitmapIndex) (f : FlashState) (first : ℕ) (plan : Plan) (table : Table) (stands : Stands t f first plan table) where
   one-lists : (number a b : ℕ) → ListingPage t f first plan table stands number a → ListingPage t f first plan table stands number b → a < b → ⊥
   one-lists number a b la lb lt =
       let less = full-below stands.in_ring.ring.counts la.kept.i lb.kept.i la.kept.c (omega (arith, la.kept.at, lb.kept.at, lt)) la.kept.here la.some in

@@ -13,7 +13,7 @@ use Rattle.fl_page.specs.declared.fault.ReadFault.TheVariants.{Flash, BadPage}
 use Rattle.fl_ring.specs.Place.{shape_of, oldest_of, next_of}
 use Rattle.fl_ring.specs.Ring.{Shape, place}
 use Rattle.fl_ring.specs.declared.ring.Ring.{Ring}
-use Rattle.fl_index.specs.declared.index.Index.{Index}
+use Rattle.fl_index.specs.declared.index.BitmapIndex.{BitmapIndex}
 use Rattle.fl_index.specs.Looking.{looked_at, listing_by, IsHeld, IsFresh, IfRead, ends_above, unread, HoldsLast, IsScanning, ScansOn}
 use Rattle.fl_index.specs.Memory.{first_in, is_waiting, next_in, oldest_in, per_page, listing_in, place_in}
 use Rattle.fl_index.specs.Page.{page_number}
@@ -21,8 +21,8 @@ use Rattle.fl_index.specs.declared.page.Found.{Found}
 use Rattle.fl_index.specs.Standing.{Stands}
 use Rattle.fl_model.proofs.FullPages.{full-below}
 use Rattle.fl_index.proofs.Held.{listed-by, listed-first}
-use Rattle.fl_index.proofs.Listings.{IsListing, listing-is}
-use Rattle.fl_index.proofs.Showing.{KeptPage, kept-page, ListingPage, listing-page, PageIs, page-is, X_is}
+use Rattle.fl_index.proofs.ListingPages.{IsListing, listing-is}
+use Rattle.fl_index.proofs.LookupsOfTable.{KeptPage, kept-page, ListingPage, listing-page, PageIs, page-is, X_is}
 
 pub some-of : {A : Type 0} (b : Bool) (x y : A) → ◌≡◌ {A = Option A} (cond b (Some x) None) (Some y) → (b ≡ true) × (y ≡ x)
 some-of {A} true x y h = (refl, sym (same h))
@@ -50,7 +50,7 @@ pub ok-any : (result : Result (Option Found) ReadFault) (P : Type 0) → P → O
 ok-any (Ok found) P p = p
 ok-any (Err fault) P p = tt
 
-module _ (t : Index) (ring : Ring) (has : t.ring ≡ Some ring) where
+module _ (t : BitmapIndex) (ring : Ring) (has : t.ring ≡ Some ring) where
   pub place-same : (page : ℕ) → place (shape_of ring) page ≡ place_in t page
   place-same page = ap (λ (r : Shape). place r page) (t.lies ring has)
 
@@ -95,14 +95,14 @@ count-later p (suc n) m from page e h =
     ap (λ k. count_by p (range_with_len from k)) (let s : suc n + suc m ≡ suc (n + suc m) = omega arith in s) in
     omega (arith, one, same, rest)
 
-pub unread-later : (t : Index) (number from page : ℕ) → from ≤ page → page < next_in t → ends_above (per_page t) number (first_in t page) ≡ true → unread t number (page + 1) + 1 ≤ unread t number from
+pub unread-later : (t : BitmapIndex) (number from page : ℕ) → from ≤ page → page < next_in t → ends_above (per_page t) number (first_in t page) ≡ true → unread t number (page + 1) + 1 ≤ unread t number from
 unread-later t number from page low high h =
     let n = page - from in
     let m = next_in t - (page + 1) in
     subst (λ k. unread t number (page + 1) + 1 ≤ count_by (λ n. ends_above (per_page t) number (first_in t n)) (range_with_len from k)) (let s : n + suc m ≡ next_in t - from = omega (arith, low, high) in s)
     (count-later (λ n. ends_above (per_page t) number (first_in t n)) n m from page (omega (arith, low)) h)
 
-module _ (t : Index) (f : FlashState) (first : ℕ) (plan : Plan) (table : Table) (stands : Stands t f first plan table) (number page : ℕ) (listing : listing_in t number ≡ Some page) where
+module _ (t : BitmapIndex) (f : FlashState) (first : ℕ) (plan : Plan) (table : Table) (stands : Stands t f first plan table) (number page : ℕ) (listing : listing_in t number ≡ Some page) where
   at-page : IsListing (per_page t) (first_in t) number (oldest_in t) (next_in t - oldest_in t) page
   at-page = listing-is (per_page t) (first_in t) number (next_in t - oldest_in t) (oldest_in t) page listing
 

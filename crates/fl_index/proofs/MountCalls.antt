@@ -19,9 +19,9 @@ use Rattle.fl_ring.specs.declared.fault.RingFault.{RingFault}
 use Rattle.fl_ring.specs.declared.fault.RingFault.TheVariants.{Flash, BadHead, BadGap, BadPage, NoNumber}
 use Rattle.fl_ring.specs.declared.ring.Ring.{Ring}
 use Rattle.fl_ring.proofs.Founds.{same_pages}
-use Rattle.fl_ring.proofs.Readings.{same_page}
+use Rattle.fl_ring.proofs.ReadsInTurn.{same_page}
 use Rattle.fl_ring.proofs.TornPages.{kept_few}
-use Rattle.fl_index.specs.declared.index.Index.{Index}
+use Rattle.fl_index.specs.declared.index.BitmapIndex.{BitmapIndex}
 use Rattle.fl_index.specs.Finding.{FewReads, ReadsRing, FindsEnd, FindsIndex, RefusesEnd, RefusesIndex, HasEnd, IsEnd, pages_of}
 use Rattle.fl_index.specs.Headers.{AreRemembered, kept_page}
 use Rattle.fl_index.specs.Memory.{IsSamePlan, first_in, per_page}
@@ -29,7 +29,7 @@ use Rattle.fl_index.specs.Page.{page_entries, newest_of, first_on}
 use Rattle.fl_index.proofs.MountEnded.{IsBadEnd, same-ring}
 
 -- a first data page is remembered by its page's number
-pub remembered-at : (now : Index) (ring : Ring) (page : ℕ → List ℕ) → AreRemembered page (oldest_of ring) (next_of ring - oldest_of ring) now.firsts.items →
+pub remembered-at : (now : BitmapIndex) (ring : Ring) (page : ℕ → List ℕ) → AreRemembered page (oldest_of ring) (next_of ring - oldest_of ring) now.firsts.items →
     (number : ℕ) → oldest_of ring ≤ number → number < next_of ring → first_in now number ≡ first_on (page number)
 remembered-at now ring page h number low high =
     let at : oldest_of ring + (number - oldest_of ring) ≡ number = omega (arith, low) in
@@ -38,10 +38,10 @@ remembered-at now ring page h number low high =
     ∙ (h (number - oldest_of ring) (omega (arith, low, high)) ∙ ap (λ k. first_on (page k)) at))
 
 -- where its ring lies
-pub same-shape : (old new : Index) (f : FlashState) → IsSamePlan old new → f.geometry ≡ old.geometry → shape_at new.place f.geometry ≡ shape_at old.place old.geometry
+pub same-shape : (old new : BitmapIndex) (f : FlashState) → IsSamePlan old new → f.geometry ≡ old.geometry → shape_at new.place f.geometry ≡ shape_at old.place old.geometry
 same-shape old new f same geometry = ap (λ (p : RingPlace). shape_at p f.geometry) same.place ∙ ap (λ (g : Geometry). shape_at old.place g) geometry
 
-pub same-entries : (old new : Index) → IsSamePlan old new → per_page new ≡ per_page old
+pub same-entries : (old new : BitmapIndex) → IsSamePlan old new → per_page new ≡ per_page old
 same-entries old new same = rw (same.geometry, same.bits, same.full) refl
 
 -- a call within another is watched as that is
@@ -52,7 +52,7 @@ pub risen-later : (old mid new : FlashState) (rose : Bool) (device : Device) →
 risen-later old mid new rose device w goes rises = w.risen (omega (arith, rises, goes.faults))
 
 -- the ring was refused
-pub refuses-ring : (old new : Index) (f g : FlashState) (e : RingFault) → IsSamePlan old new → f.geometry ≡ old.geometry → FoundFault f (shape_at new.place f.geometry) 0 e → FailsAs f (shape_at new.place f.geometry) 0 e g → RefusesEnd old f e g
+pub refuses-ring : (old new : BitmapIndex) (f g : FlashState) (e : RingFault) → IsSamePlan old new → f.geometry ≡ old.geometry → FoundFault f (shape_at new.place f.geometry) 0 e → FailsAs f (shape_at new.place f.geometry) 0 e g → RefusesEnd old f e g
 refuses-ring old new f g e same geometry found fails =
     by_fault e (subst (λ (r : Shape). FoundFault f r 0 e) (same-shape old new f same geometry) found) (subst (λ (r : Shape). FailsAs f r 0 e g) (same-shape old new f same geometry) fails)
   where
@@ -64,7 +64,7 @@ refuses-ring old new f g e same geometry found fails =
     by_fault (NoNumber least) found fails = record { found = found; reads = fails }
 
 -- the ring was found, and its newest page tells the end of the index
-module _ (old new : Index) (f g : FlashState) (same : IsSamePlan old new) (geometry : f.geometry ≡ old.geometry) (ring : Ring) (numbers : HasNumbers f (shape_at new.place f.geometry) 0 ring g) (shape : shape_of ring ≡ shape_at new.place f.geometry) where
+module _ (old new : BitmapIndex) (f g : FlashState) (same : IsSamePlan old new) (geometry : f.geometry ≡ old.geometry) (ring : Ring) (numbers : HasNumbers f (shape_at new.place f.geometry) 0 ring g) (shape : shape_of ring ≡ shape_at new.place f.geometry) where
   numbers-of : HasNumbers f (shape_at old.place old.geometry) 0 ring g
   numbers-of = subst (λ (r : Shape). HasNumbers f r 0 ring g) (same-shape old new f same geometry) numbers
 
@@ -86,7 +86,7 @@ module _ (old new : Index) (f g : FlashState) (same : IsSamePlan old new) (geome
         ∙ ap (λ (page : ℕ → List ℕ). BadPage (place (shape_at old.place old.geometry) bad.number) (per_page old) (page_entries (page bad.number))) pages_are);
   }))
 
-  pub finds-end : (now : Index) (end : Option ℕ) → now.ring ≡ Some ring →
+  pub finds-end : (now : BitmapIndex) (end : Option ℕ) → now.ring ≡ Some ring →
       IsEnd (per_page new) (kept_page ring g) (newest_of (kept_page ring g) (oldest_of ring) (next_of ring - oldest_of ring)) end → FindsEnd old f end now g
   finds-end now end ring_is end_is = record {
     ring = ring;
@@ -97,7 +97,7 @@ module _ (old new : Index) (f g : FlashState) (same : IsSamePlan old new) (geome
   }
 
 -- a refusal of the first part refuses the mount
-pub refuses-index : (old : Index) (f g : FlashState) (e : RingFault) → RefusesEnd old f e g → RefusesIndex old f e g
+pub refuses-index : (old : BitmapIndex) (f g : FlashState) (e : RingFault) → RefusesEnd old f e g → RefusesIndex old f e g
 refuses-index old f g (Flash fault) h = inl h
 refuses-index old f g (BadHead heads) h = h
 refuses-index old f g (BadGap page) h = h
@@ -129,7 +129,7 @@ four-each blocks pages b p =
     omega (arith, rows, columns)
 
 -- the kept pages are read on the flash that the first part left
-module _ (old found : Index) (f mid g : FlashState) (end : Option ℕ) (h : FindsEnd old f end found mid) (ring : Ring) (same : IsSamePlan old found) (was : found.ring ≡ Some ring) (reads : OnlyReads mid (next_of ring - oldest_of ring) g) where
+module _ (old found : BitmapIndex) (f mid g : FlashState) (end : Option ℕ) (h : FindsEnd old f end found mid) (ring : Ring) (same : IsSamePlan old found) (was : found.ring ≡ Some ring) (reads : OnlyReads mid (next_of ring - oldest_of ring) g) where
   ring-is : h.ring ≡ ring
   ring-is = same-ring (sym h.ring_is ∙ was)
 
@@ -157,7 +157,7 @@ module _ (old found : Index) (f mid g : FlashState) (end : Option ℕ) (h : Find
   pages_before : pages_of old mid ≡ pages_of old g
   pages_before = let by_pages : (ℕ → List ℕ) → ℕ → List ℕ = λ page number. page (place (shape_at old.place old.geometry) number) in ap by_pages (sym (same_pages mid g (next_of ring - oldest_of ring) reads))
 
-  pub finds-index : (now : Index) → now.ring ≡ Some ring → AreRemembered (kept_page ring mid) (oldest_of ring) (next_of ring - oldest_of ring) now.firsts.items → FindsIndex old f end now g
+  pub finds-index : (now : BitmapIndex) → now.ring ≡ Some ring → AreRemembered (kept_page ring mid) (oldest_of ring) (next_of ring - oldest_of ring) now.firsts.items → FindsIndex old f end now g
   finds-index now ring_is firsts = record {
     ring = ring;
     ring_is = ring_is;

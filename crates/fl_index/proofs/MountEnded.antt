@@ -30,7 +30,7 @@ use Rattle.fl_ring.specs.declared.fault.RingFault.TheVariants.{Flash, BadHead, B
 use Rattle.fl_ring.specs.declared.ring.Ring.{Ring}
 use Rattle.fl_ring.proofs.Founds.{same_pages}
 use Rattle.fl_ring.proofs.VoidsAtEnd.{voids_are}
-use Rattle.fl_index.specs.declared.index.Index.{Index}
+use Rattle.fl_index.specs.declared.index.BitmapIndex.{BitmapIndex}
 use Rattle.fl_index.specs.declared.mount.Newest.{Newest}
 use Rattle.fl_index.specs.Finding.{HasEnd, IsEnd}
 use Rattle.fl_index.specs.Headers.{IsNewest, AreRemembered, kept_page}
@@ -39,8 +39,8 @@ use Rattle.fl_index.specs.Outcomes.{MountsWell, EndsAs, MountEnds, FindEnds}
 use Rattle.fl_index.specs.Page.{page_entries, first_on, newest_of}
 use Rattle.fl_index.specs.Standing.{HoldsIndex, Rests, bytes_in}
 use Rattle.fl_index.proofs.MountPages.{IsNewestEnd, newest-end, first-there}
-use Rattle.fl_index.proofs.Mountings.{state-old, renumbered-state, good-ring, IndexMount, mount-lifts, mount-fails}
-use Rattle.fl_index.proofs.Sealings.{planned-shape, planned-large, served-shape, some-entries, planned-page, lies-size, few-kept}
+use Rattle.fl_index.proofs.MountsInTable.{state-old, renumbered-state, good-ring, IndexMount, mount-lifts, mount-fails}
+use Rattle.fl_index.proofs.SealEnds.{planned-shape, planned-large, served-shape, some-entries, planned-page, lies-size, few-kept}
 use Rattle.fl_index.proofs.State.{shape_in, full_count, has-some, HaveSize, IsStateOf, to-state, to-index}
 
 -- what a mount is told of the index
@@ -55,7 +55,7 @@ pub record IsMounting (first : ℕ) (plan : Plan) (table : Table) (old : FlashSt
   pub is : IsStateOf plan table s
   pub on : OnRing (shape_in first plan) (page_at old) s
 
-pub mounting-of : (t : Index) (f : FlashState) (first : ℕ) (plan : Plan) (table : Table) → IsPlanned t first plan → LiesOn t f → f.start + extent f.geometry f.blocks ≤ length f.media.content → Rests f first plan table →
+pub mounting-of : (t : BitmapIndex) (f : FlashState) (first : ℕ) (plan : Plan) (table : Table) → IsPlanned t first plan → LiesOn t f → f.start + extent f.geometry f.blocks ≤ length f.media.content → Rests f first plan table →
     IsMounting first plan table f
 mounting-of t f first plan table planned lies reaches rests =
     let sizes = lies-size t f first plan planned lies.geometry lies.within reaches in
@@ -117,7 +117,7 @@ module _ (first : ℕ) (plan : Plan) (table : Table) (rose : Bool) (device : Dev
       ∙ ap (λ (n : ℕ). plan.index_blocks + 2 * plan.geometry.block + 1 + n) (voids_are (full_count plan) h.s (has-some plan h.some h.s))
 
   -- the mount of the ring failed
-  pub ring-fails : (Remembers : Index → Plan → Table → model.Ring → Type 0) (e : RingFault) (now : Index) (new : FlashState) → HaveSize first plan (page_at new) →
+  pub ring-fails : (Remembers : BitmapIndex → Plan → Table → model.Ring → Type 0) (e : RingFault) (now : BitmapIndex) (new : FlashState) → HaveSize first plan (page_at new) →
       ring_mount.MountEnds (shape_in first plan) rose device (renumbered (shape_in first plan) 0 h.s) (Err e) new → EndsAs Remembers first plan table rose device (Err e) now new
   ring-fails Remembers (Flash fault) now new sizes m =
       let l = mount-fails first plan h.shape (renumber plan IndexRing table) (renumbered (shape_in first plan) 0 h.s) after h.idle rose device fault new m in
@@ -165,14 +165,14 @@ module _ (first : ℕ) (plan : Plan) (table : Table) (rose : Bool) (device : Dev
         ∙ (ap (λ k. newest_of (bytes_in (page_at new) first plan) k (next_of ring - oldest_of ring)) old_is ∙ ap (newest_of (bytes_in (page_at new) first plan) (model.oldest l.is_now.ring)) many)
 
     -- it is no bad one
-    pub no-bad-end : (t : Index) (e : RingFault) (now : Index) → IsPlanned t first plan → place.shape_of ring ≡ shape_in first plan →
+    pub no-bad-end : (t : BitmapIndex) (e : RingFault) (now : BitmapIndex) → IsPlanned t first plan → place.shape_of ring ≡ shape_in first plan →
         IsBadEnd (place_at (place.shape_of ring)) (kept_page ring new) (per_page t) (newest_of (kept_page ring new) (oldest_of ring) (next_of ring - oldest_of ring)) e → FindEnds first plan table rose device (Err e) now new
     no-bad-end t e now planned is bad =
         absurd (bad.unfit (subst (λ (page : ℕ → List ℕ). HasEnd (per_page t) (page bad.number)) (sym (pages_are is))
         (subst (λ k. HasEnd k (bytes_in (page_at new) first plan bad.number)) (sym (planned-page t first plan planned)) (newest_is.fits bad.number (sym (newest_same is) ∙ bad.newest)))))
 
     -- the ring of the index was found
-    pub finds-well : (now : Index) (end : Option ℕ) → IsPlanned now first plan → place.shape_of ring ≡ shape_in first plan → now.ring ≡ Some ring → waiting_in now ≡ 0 →
+    pub finds-well : (now : BitmapIndex) (end : Option ℕ) → IsPlanned now first plan → place.shape_of ring ≡ shape_in first plan → now.ring ≡ Some ring → waiting_in now ≡ 0 →
         IsEnd (per_page now) (kept_page ring new) (newest_of (kept_page ring new) (oldest_of ring) (next_of ring - oldest_of ring)) end → FindEnds first plan table rose device (Ok end) now new
     finds-well now end planned is ring_is none end_is = record {
       now = l.now;
@@ -202,7 +202,7 @@ module _ (first : ℕ) (plan : Plan) (table : Table) (rose : Bool) (device : Dev
     }
 
 -- the reads of the kept pages of an index whose ring was found
-module _ (first : ℕ) (plan : Plan) (table : Table) (rose : Bool) (device : Device) (found : Index) (mid new : FlashState) (n : ℕ) (end : Option ℕ) (w : FindEnds first plan table rose device (Ok end) found mid) (reads : OnlyReads mid n new) where
+module _ (first : ℕ) (plan : Plan) (table : Table) (rose : Bool) (device : Device) (found : BitmapIndex) (mid new : FlashState) (n : ℕ) (end : Option ℕ) (w : FindEnds first plan table rose device (Ok end) found mid) (reads : OnlyReads mid n new) where
   same_device : SameDevice new w.now.device
   same_device = record {
     armed = subst (λ (a : Option Armed). ArmsAs w.now.device.armed a) (sym reads.armed) w.counts.armed;
@@ -213,7 +213,7 @@ module _ (first : ℕ) (plan : Plan) (table : Table) (rose : Bool) (device : Dev
   image_now : HoldsIndex (page_at new) first plan w.now.state w.stands.ring
   image_now = subst (λ (page : ℕ → List ℕ). HoldsIndex page first plan w.now.state w.stands.ring) (sym (same_pages mid new n reads)) w.stands.pages
 
-  pub reads-fail : (fault : FlashFault) (now : Index) → ReadFails mid fault new → (Rose mid.media.faults new.media.faults → IsTrue rose) → MountEnds first plan table rose device (Err (Flash fault)) now new
+  pub reads-fail : (fault : FlashFault) (now : BitmapIndex) → ReadFails mid fault new → (Rose mid.media.faults new.media.faults → IsTrue rose) → MountEnds first plan table rose device (Err (Flash fault)) now new
   reads-fail PowerLost now off risen = absurd (not_both w.power off)
     where
       not_both : mid.is_on ≡ true → mid.is_on ≡ false → ⊥
@@ -236,7 +236,7 @@ module _ (first : ℕ) (plan : Plan) (table : Table) (rose : Bool) (device : Dev
   }
 
   -- the index that was mounted
-  pub mounts-well : (ring : Ring) (now : Index) → IsPlanned now first plan → place.shape_of ring ≡ shape_in first plan → HaveSize first plan (page_at mid) → model.IsShape (shape_of plan IndexRing) → 64 ≤ plan.geometry.page → plan.geometry.page ≤ 4096 →
+  pub mounts-well : (ring : Ring) (now : BitmapIndex) → IsPlanned now first plan → place.shape_of ring ≡ shape_in first plan → HaveSize first plan (page_at mid) → model.IsShape (shape_of plan IndexRing) → 64 ≤ plan.geometry.page → plan.geometry.page ≤ 4096 →
       found.ring ≡ Some ring → now.ring ≡ Some ring → waiting_in now ≡ 0 →
       (next_of ring - oldest_of ring ≤ length now.firsts.items → AreRemembered (kept_page ring mid) (oldest_of ring) (next_of ring - oldest_of ring) now.firsts.items) → MountsWell first plan table rose device end now new
   mounts-well ring now planned is sizes shape large few was ring_is none remembered =

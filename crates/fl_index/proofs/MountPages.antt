@@ -22,7 +22,7 @@ use Rattle.fl_index.specs.Page.{page_first, first_on, first_where, newest_of, ne
 use Rattle.fl_index.specs.Standing.{HasIndex, HoldsIndex, bytes_in}
 use Rattle.fl_model.proofs.FullPages.{full-one, full-cons}
 use Rattle.fl_index.proofs.Lists.{below-end, first-at, firsts-length}
-use Rattle.fl_index.proofs.Showing.{IsIndexPage, index-page}
+use Rattle.fl_index.proofs.LookupsOfTable.{IsIndexPage, index-page}
 use Rattle.fl_index.proofs.State.{HaveSize}
 
 module _ (page : ℕ → List ℕ) (first : ℕ) (plan : Plan) (table : Table) (ring : model.Ring) (facts : HasIndex plan table ring) (image : HoldsIndex page first plan table ring) (sizes : HaveSize first plan page) (large : 64 ≤ plan.geometry.page) (few : plan.geometry.page ≤ 4096) where

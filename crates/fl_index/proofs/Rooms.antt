@@ -10,12 +10,12 @@ use Rattle.fl_model.specs.Table.{Table, RingName, IndexRing, after_seal, after_s
 use Rattle.fl_model.specs.Work.{Kind, Device, Whole}
 use Rattle.fl_model.specs.Within.{seal_within, seals_within}
 use Rattle.fl_ring.specs.Step.{IsWatched}
-use Rattle.fl_index.specs.declared.index.Index.{Index}
+use Rattle.fl_index.specs.declared.index.BitmapIndex.{BitmapIndex}
 use Rattle.fl_index.specs.Memory.{per_page, waiting_in}
 use Rattle.fl_index.specs.Standing.{Stands}
 use Rattle.fl_index.specs.Outcomes.{index_seals, Finishes, Breaks, MakesRoom, SealEnds}
-use Rattle.fl_index.proofs.Sealings.{planned-page}
-use Rattle.fl_index.proofs.Stays.{nothing-stands}
+use Rattle.fl_index.proofs.SealEnds.{planned-page}
+use Rattle.fl_index.proofs.KeptPagesStay.{nothing-stands}
 
 none-sealed : (plan : Plan) (table : Table) → length table.waiting < entries_per_page plan → index_seals plan table ≡ []
 none-sealed plan table lt = by_test (length table.waiting == entries_per_page plan) refl
@@ -27,7 +27,7 @@ none-sealed plan table lt = by_test (length table.waiting == entries_per_page pl
 one-sealed : (plan : Plan) (table : Table) → length table.waiting ≡ entries_per_page plan → index_seals plan table ≡ IndexRing ∷ []
 one-sealed plan table e = ap (λ (b : Bool). cond b (IndexRing ∷ []) []) (eq-eqb (length table.waiting) (entries_per_page plan) e)
 
-pub makes-nothing : (index : Index) (f : FlashState) (first : ℕ) (plan : Plan) (table : Table) (rose : Bool) (device : Device) → IsWatched f f rose device → Stands index f first plan table → waiting_in index < per_page index →
+pub makes-nothing : (index : BitmapIndex) (f : FlashState) (first : ℕ) (plan : Plan) (table : Table) (rose : Bool) (device : Device) → IsWatched f f rose device → Stands index f first plan table → waiting_in index < per_page index →
     MakesRoom first plan table rose device (Ok tt) index f f
 makes-nothing index f first plan table rose device watched stands lt =
     let few : length table.waiting < entries_per_page plan = omega (arith, lt, stands.waits.count_is, planned-page index first plan stands.in_ring.planned) in
@@ -42,8 +42,8 @@ makes-nothing index f first plan table rose device watched stands lt =
       stand = nothing-stands first plan table (page_at f);
     })
 
-pub makes-room : (index : Index) (f : FlashState) (first : ℕ) (plan : Plan) (table : Table) (rose : Bool) (device : Device) → Stands index f first plan table → waiting_in index ≡ per_page index →
-    (result : Result (Unit {0}) FlashFault) (now : Index) (new : FlashState) → SealEnds first plan table rose device result now f new → MakesRoom first plan table rose device result now f new
+pub makes-room : (index : BitmapIndex) (f : FlashState) (first : ℕ) (plan : Plan) (table : Table) (rose : Bool) (device : Device) → Stands index f first plan table → waiting_in index ≡ per_page index →
+    (result : Result (Unit {0}) FlashFault) (now : BitmapIndex) (new : FlashState) → SealEnds first plan table rose device result now f new → MakesRoom first plan table rose device result now f new
 makes-room index f first plan table rose device stands full result now new h = by_result result h
   where
     all : length table.waiting ≡ entries_per_page plan

@@ -10,19 +10,19 @@ use Rattle.fl_model.specs.Table.{Table}
 use Rattle.fl_page.specs.Contents.{IsCaused}
 use Rattle.fl_page.specs.declared.fault.ReadFault.{ReadFault}
 use Rattle.fl_page.specs.declared.fault.ReadFault.TheVariants.{Flash, BadPage}
-use Rattle.fl_index.specs.declared.index.Index.{Index}
+use Rattle.fl_index.specs.declared.index.BitmapIndex.{BitmapIndex}
 use Rattle.fl_index.specs.Looking.{bad_page, HoldsGood, IsBadPage, IfBad, IfUnread, entire, IsFound, listing_of, IsHeld, ends_above, unread, IsScanning, after_held, next_to_read, is_page, is_looked_at, due}
 use Rattle.fl_index.specs.Memory.{first_in, is_waiting, next_in, oldest_in, per_page, lists, listing_in, place_in}
 use Rattle.fl_index.specs.Page.{page_number, IsGoodPage}
 use Rattle.fl_index.specs.declared.page.Found.{Found}
 use Rattle.fl_index.specs.Standing.{Stands}
 use Rattle.fl_index.proofs.Counts.{count-cons, count-split, count-none, count-fewer, at-most-one}
-use Rattle.fl_index.proofs.Listings.{listing-is}
+use Rattle.fl_index.proofs.ListingPages.{listing-is}
 use Rattle.fl_index.proofs.Lookups.{within, ends, before-it, unread-later}
-use Rattle.fl_index.proofs.Showing.{both_true}
+use Rattle.fl_index.proofs.LookupsOfTable.{both_true}
 
 -- the index page from which a scan may still read
-pub scanning-from : (t : Index) (number from : ℕ) (buf : BufferState) → IsScanning t number from buf → from ≡ next_to_read t buf
+pub scanning-from : (t : BitmapIndex) (number from : ℕ) (buf : BufferState) → IsScanning t number from buf → from ≡ next_to_read t buf
 scanning-from t number from buf (inl h) = h.1 ∙ sym (ap (after_held (oldest_in t) (page_number buf.bytes)) h.0)
 scanning-from t number from buf (inr h) = h.1 ∙ (ap (λ n. n + 1) (sym h.2.is_held.number_is) ∙ sym (ap (after_held (oldest_in t) (page_number buf.bytes)) h.2.is_held.place))
 
@@ -31,7 +31,7 @@ ends-later most number later None le e = e
 ends-later most number later (Some first) le e = let lt = ltb-true later (first + most) e in lt-ltb number (first + most) (omega (arith, lt, le))
 
 -- .. and so on for greater numbers
-pub scanning-later : (t : Index) (number later from : ℕ) (buf : BufferState) → number ≤ later → IsScanning t number from buf → IsScanning t later from buf
+pub scanning-later : (t : BitmapIndex) (number later from : ℕ) (buf : BufferState) → number ≤ later → IsScanning t number from buf → IsScanning t later from buf
 scanning-later t number later from buf le (inl h) = inl h
 scanning-later t number later from buf le (inr h) = inr (
   h.0,
@@ -42,7 +42,7 @@ scanning-later t number later from buf le (inr h) = inr (
   },
 )
 
-pub unread-fewer : (t : Index) (number later from : ℕ) → number ≤ later → unread t later from ≤ unread t number from
+pub unread-fewer : (t : BitmapIndex) (number later from : ℕ) → number ≤ later → unread t later from ≤ unread t number from
 unread-fewer t number later from le =
     count-fewer (λ n. ends_above (per_page t) later (first_in t n)) (λ n. ends_above (per_page t) number (first_in t n)) (next_in t - from) from
     (λ k low high e. ends-later (per_page t) number later (first_in t k) le e)
@@ -67,38 +67,38 @@ looked-listed true o page e = absurd (none e)
     none e = cc
 looked-listed false o page e = e
 
-looked-lists : (t : Index) (listing number : ℕ) → is_looked_at t listing number ≡ true → lists (per_page t) number (first_in t listing) ≡ true
+looked-lists : (t : BitmapIndex) (listing number : ℕ) → is_looked_at t listing number ≡ true → lists (per_page t) number (first_in t listing) ≡ true
 looked-lists t listing number e =
     let h = looked-listed (is_waiting t number) (listing_in t number) listing (page-is listing (listing_of t number) e) in
     (listing-is (per_page t) (first_in t) number (next_in t - oldest_in t) (oldest_in t) listing h).here
 
-none-looked : (t : Index) (listing number : ℕ) (numbers : List ℕ) → ends_above (per_page t) number (first_in t listing) ≡ false → AllByRecursion (λ n. number ≤ n) numbers → list_any (is_looked_at t listing) numbers ≡ false
+none-looked : (t : BitmapIndex) (listing number : ℕ) (numbers : List ℕ) → ends_above (per_page t) number (first_in t listing) ≡ false → AllByRecursion (λ n. number ≤ n) numbers → list_any (is_looked_at t listing) numbers ≡ false
 none-looked t listing number [] ended later = refl
 none-looked t listing number (n ∷ numbers) ended later =
     let here : is_looked_at t listing n ≡ false = false_from_ne_true (is_looked_at t listing n) (λ e. false≢true (sym ended ∙ lists-ends (per_page t) number n (first_in t listing) later.0 (looked-lists t listing n e))) in
     ap (λ b. b || list_any (is_looked_at t listing) numbers) here ∙ none-looked t listing number numbers ended later.1
 
-abbrev looked-by : Index → List ℕ → ℕ → Bool
+abbrev looked-by : BitmapIndex → List ℕ → ℕ → Bool
 looked-by t numbers n = list_any (is_looked_at t n) numbers
 
 -- a data page that is looked up in another index page adds nothing
-pub due-same : (t : Index) (number from : ℕ) (numbers : List ℕ) → ((k : ℕ) → from ≤ k → is_looked_at t k number ≡ false) → due t (number ∷ numbers) from ≤ due t numbers from
+pub due-same : (t : BitmapIndex) (number from : ℕ) (numbers : List ℕ) → ((k : ℕ) → from ≤ k → is_looked_at t k number ≡ false) → due t (number ∷ numbers) from ≤ due t numbers from
 due-same t number from numbers other =
     count-fewer (λ n. list_any (is_looked_at t n) (number ∷ numbers)) (λ n. list_any (is_looked_at t n) numbers) (next_in t - from) from
     (λ k low high e. sym (ap (λ b. b || list_any (is_looked_at t k) numbers) (other k low)) ∙ e)
 
-pub none-at : (t : Index) (number : ℕ) → listing_of t number ≡ None → (k : ℕ) → is_looked_at t k number ≡ false
+pub none-at : (t : BitmapIndex) (number : ℕ) → listing_of t number ≡ None → (k : ℕ) → is_looked_at t k number ≡ false
 none-at t number none k = ap (is_page k) none
 
 -- without a look nothing is read
-pub memory-least : (t : Index) (number from reads : ℕ) (numbers : List ℕ) (buf : BufferState) → listing_of t number ≡ None → IsScanning t number from buf → reads + due t (number ∷ numbers) from ≤ reads + due t numbers (next_to_read t buf)
+pub memory-least : (t : BitmapIndex) (number from reads : ℕ) (numbers : List ℕ) (buf : BufferState) → listing_of t number ≡ None → IsScanning t number from buf → reads + due t (number ∷ numbers) from ≤ reads + due t numbers (next_to_read t buf)
 memory-least t number from reads numbers buf none scanning =
     let few = due-same t number from numbers (λ k low. none-at t number none k) in
     let moved = ap (due t numbers) (scanning-from t number from buf scanning) in
     omega (arith, few, moved)
 
 -- what is found in a good page is no fault
-pub good-found : (t : Index) (page number : ℕ) (bytes : List ℕ) (result : Result (Option Found) ReadFault) (P : Type 0) → IsGoodPage (per_page t) page bytes → IsFound entire t page number bytes result → IfErr result (IfUnread (λ e. ⊥)) → OnErr result P
+pub good-found : (t : BitmapIndex) (page number : ℕ) (bytes : List ℕ) (result : Result (Option Found) ReadFault) (P : Type 0) → IsGoodPage (per_page t) page bytes → IsFound entire t page number bytes result → IfErr result (IfUnread (λ e. ⊥)) → OnErr result P
 good-found t page number bytes (Ok found) P good is none = tt
 good-found t page number bytes (Err (Flash fault)) P good is none = absurd none
 good-found t page number bytes (Err (BadPage bad)) P good is none = absurd (is.1 good)
@@ -110,7 +110,7 @@ caused-none f g (Err (Flash fault)) none = absurd none
 caused-none f g (Err (BadPage bad)) none = tt
 
 -- a bad page stands on the flash, where none is held
-pub bad-page : (t : Index) (f : FlashState) (number page : ℕ) (old new : BufferState) (result : Result (Option Found) ReadFault) → (oldest_in t ≤ page) × (page < next_in t) → IsFound entire t page number new.bytes result →
+pub bad-page : (t : BitmapIndex) (f : FlashState) (number page : ℕ) (old new : BufferState) (result : Result (Option Found) ReadFault) → (oldest_in t ≤ page) × (page < next_in t) → IsFound entire t page number new.bytes result →
     (IsTrue f.media.tells → (new.bytes ≡ page_at f (place_in t page)) ⊎ (IsHeld t page old × (new ≡ old))) → IfErr result (IfBad (λ bad. IsTrue f.media.tells → HoldsGood t old → IsBadPage t f bad))
 bad-page t f number page old new (Ok found) kept is bytes = tt
 bad-page t f number page old new (Err (Flash fault)) kept is bytes = tt
@@ -128,7 +128,7 @@ bad-page t f number page old new (Err (BadPage bad)) kept is bytes = λ tells go
         let same = ap (λ (b : BufferState). b.bytes) h.1 in
         absurd (is.1 (subst (IsGoodPage (per_page t) page) (sym same) (good page h.0 (ap state_of_page (sym same) ∙ is.0))))
 
-module _ (t : Index) (f : FlashState) (first : ℕ) (plan : Plan) (table : Table) (stands : Stands t f first plan table) (number page : ℕ) (listing : listing_in t number ≡ Some page) where
+module _ (t : BitmapIndex) (f : FlashState) (first : ℕ) (plan : Plan) (table : Table) (stands : Stands t f first plan table) (number page : ℕ) (listing : listing_in t number ≡ Some page) where
   abbrev here : (oldest_in t ≤ page) × (page < next_in t)
   here = within t f first plan table stands number page listing
 

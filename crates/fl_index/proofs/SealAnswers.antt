@@ -13,17 +13,17 @@ use Rattle.fl_flash.specs.declared.flash.FlashFault.{FlashFault}
 use Rattle.fl_ring.specs.Ring.{RingState, Shape}
 use Rattle.fl_ring.specs.Sealing.{SealCalls, ErasesWhere}
 use Rattle.fl_ring.specs.declared.ring.Ring.{Ring}
-use Rattle.fl_index.specs.declared.index.Index.{Index}
+use Rattle.fl_index.specs.declared.index.BitmapIndex.{BitmapIndex}
 use Rattle.fl_index.specs.Memory.{next_in, per_page, waiting_in, len_in}
 use Rattle.fl_index.specs.Page.{header_bytes}
 use Rattle.fl_index.specs.Standing.{Stands}
-use Rattle.fl_index.proofs.Gathering.{InFront, plan_form, body-is}
+use Rattle.fl_index.proofs.WaitingEntries.{InFront, plan_form, body-is}
 use Rattle.fl_index.specs.declared.page.EntryForm.{EntryForm}
-use Rattle.fl_index.proofs.Lifted.{MakesBody}
+use Rattle.fl_index.proofs.RingInTable.{MakesBody}
 use Rattle.fl_index.proofs.State.{HaveSize, IsStateOf, to-state}
-use Rattle.fl_index.proofs.Sealings.{IsSealing, planned-page, planned-form, planned-len, served-shape, some-entries}
+use Rattle.fl_index.proofs.SealEnds.{IsSealing, planned-page, planned-form, planned-len, served-shape, some-entries}
 
-pub some-room : (index : Index) (len : ℕ) → len ≡ index.firsts.len → 0 < len
+pub some-room : (index : BitmapIndex) (len : ℕ) → len ≡ index.firsts.len → 0 < len
 some-room index len is =
     let up : 3 * index.geometry.block ≤ index.place.blocks * index.geometry.block = mul-le-mul_right index.geometry.block index.some_blocks in
     omega (arith, is, index.remembered, up, index.served.block_least)
@@ -31,7 +31,7 @@ some-room index len is =
 one_ring : {a b : Ring} → ◌≡◌ {A = Option Ring} (Some a) (Some b) → a ≡ b
 one_ring e = cc
 
-pub sealing-of : (index : Index) (f : FlashState) (first : ℕ) (plan : Plan) (table : Table) (ring : Ring) (number : ℕ) → Stands index f first plan table → HaveSize first plan (page_at f) →
+pub sealing-of : (index : BitmapIndex) (f : FlashState) (first : ℕ) (plan : Plan) (table : Table) (ring : Ring) (number : ℕ) → Stands index f first plan table → HaveSize first plan (page_at f) →
     index.ring ≡ Some ring → number ≡ place.next_of ring → next_in index + 1 < 2 ^ 32 → waiting_in index ≡ per_page index →
     IsSealing index f first plan table (splice index.body.items 0 (header_bytes number index.first index.waiting))
 sealing-of index f first plan table ring number stands sizes has at left full =
@@ -81,7 +81,7 @@ sealing-of index f first plan table ring number stands sizes has at left full =
     next_is r e = ap (λ (o : Option Ring). unwrap_or (option_map (λ r. place.next_of r) o) 0) e
 
 -- the number in memory is that of the table's index
-pub number-of : (index : Index) (f : FlashState) (first : ℕ) (plan : Plan) (table : Table) (ring : Ring) (number : ℕ) → Stands index f first plan table → index.ring ≡ Some ring → number ≡ place.next_of ring →
+pub number-of : (index : BitmapIndex) (f : FlashState) (first : ℕ) (plan : Plan) (table : Table) (ring : Ring) (number : ℕ) → Stands index f first plan table → index.ring ≡ Some ring → number ≡ place.next_of ring →
     (s : RingState) (is : IsStateOf plan table s) → number ≡ is.ring.next
 number-of index f first plan table ring number stands has at s is =
     let in_ring = stands.in_ring in

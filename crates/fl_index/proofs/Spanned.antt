@@ -9,7 +9,7 @@ use Rattle.fl_model.specs.Limits.{is_indexed}
 use Rattle.fl_model.specs.Record.{Plan, entries_per_page}
 use Rattle.fl_model.specs.Table.{Table, full_pages, firsts}
 use Rattle.fl_model.proofs.Lists.{slice_get-some, slice_get-short}
-use Rattle.fl_index.specs.declared.index.Index.{Index}
+use Rattle.fl_index.specs.declared.index.BitmapIndex.{BitmapIndex}
 use Rattle.fl_index.specs.Looking.{ends_above, unread, is_page, is_looked_at, due}
 use Rattle.fl_index.specs.Memory.{first_in, first_waiting, waiting_in, is_waiting, next_in, oldest_in, per_page, lists, listing_in}
 use Rattle.fl_index.specs.Standing.{Stands}
@@ -17,8 +17,8 @@ use Rattle.fl_index.proofs.Counts.{count-cons, at-most-one}
 use Rattle.fl_model.proofs.FullPages.{full-one, full-void, full-append, full-within}
 use Rattle.fl_index.proofs.Lists.{below-end, firsts-length}
 use Rattle.fl_index.proofs.Held.{listed-first}
-use Rattle.fl_index.proofs.Listings.{listing-is}
-use Rattle.fl_index.proofs.Showing.{both_true, ListingPage, listing-page, listed-indexed, waits-indexed, none-shows, number_old, kept_len, X_is}
+use Rattle.fl_index.proofs.ListingPages.{listing-is}
+use Rattle.fl_index.proofs.LookupsOfTable.{both_true, ListingPage, listing-page, listed-indexed, waits-indexed, none-shows, number_old, kept_len, X_is}
 
 drop-at : (i x : ℕ) (xs : List ℕ) → slice_get xs i ≡ Some x → drop i xs ≡ x ∷ drop (suc i) xs
 drop-at i x [] e = absurd (none e)
@@ -54,7 +54,7 @@ take-at (suc i) x (y ∷ xs) e =
 zero-case : (c : ℕ) → 0 < c → (o : Option ℕ) → cond (c == 0) None o ≡ o
 zero-case c some o = ap (λ b. cond b None o) (false_from_ne_true (c == 0) (λ e. let z = eqb-true c 0 e in omega (arith, z, some)))
 
-module _ (t : Index) (f : FlashState) (first : ℕ) (plan : Plan) (table : Table) (stands : Stands t f first plan table) where
+module _ (t : BitmapIndex) (f : FlashState) (first : ℕ) (plan : Plan) (table : Table) (stands : Stands t f first plan table) where
   abbrev counts : List ℕ
   counts = stands.in_ring.ring.counts
 

@@ -11,7 +11,7 @@ use Rattle.fl_model.specs.Layout.{IndexPage, committed}
 use Rattle.fl_model.specs.Agrees.{TellPages}
 use Rattle.fl_model.specs.Image.{HoldsEntries}
 use Rattle.fl_model.proofs.Lists.{each-push, each-drop, slice_get-drop, slice_get-left, slice_get-short}
-use Rattle.fl_model.proofs.Rings.{ring-sealed}
+use Rattle.fl_model.proofs.RingFactsStay.{ring-sealed}
 use Rattle.fl_ring.specs.Counts.{page_count, ring_counts}
 use Rattle.fl_ring.specs.Ring.{RingState, count, is_due, is_due_at, appended, trimmed}
 use Rattle.fl_ring.proofs.Counts.{counts_sealed, counts_voided}

@@ -16,27 +16,27 @@ use Rattle.fl_model.specs.Table.{Table, Entry}
 use Rattle.fl_page.specs.declared.fault.BadPage.{BadPage as Refusal}
 use Rattle.fl_page.specs.declared.fault.ReadFault.{ReadFault}
 use Rattle.fl_page.specs.declared.fault.ReadFault.TheVariants.{Flash, BadPage}
-use Rattle.fl_index.specs.declared.index.Index.{Index}
+use Rattle.fl_index.specs.declared.index.BitmapIndex.{BitmapIndex}
 use Rattle.fl_index.specs.Memory.{oldest_in, next_in, place_in, per_page, form_in, first_in, lists, listing_in, is_waiting, found_waiting, first_waiting}
 use Rattle.fl_index.specs.Page.{page_number, page_entries, found_at, fields_of, IsGoodPage}
 use Rattle.fl_index.specs.declared.page.Found.{Found}
 
 -- a buffer holds the kept index page with this number
-pub record IsHeld (index : Index) (number : ℕ) (buf : BufferState) : Type 0 where
+pub record IsHeld (index : BitmapIndex) (number : ℕ) (buf : BufferState) : Type 0 where
   pub kept : (oldest_in index ≤ number) × (number < next_in index)
   pub place : buf.holds ≡ Some (place_in index number)
   pub number_is : page_number buf.bytes ≡ number
 
 -- a kept index page that a buffer holds has the bytes that stand on the flash, as after a read since the last mount
-abbrev pub IsFresh : Index → FlashState → BufferState → Type 0
+abbrev pub IsFresh : BitmapIndex → FlashState → BufferState → Type 0
 IsFresh index f buf = (number : ℕ) → IsHeld index number buf → buf.bytes ≡ page_at f (place_in index number)
 
 -- the place of a data page among those that a kept index page lists
-abbrev pub entry_of : Index → ℕ → ℕ → ℕ
+abbrev pub entry_of : BitmapIndex → ℕ → ℕ → ℕ
 entry_of index listing number = number - unwrap_or (first_in index listing) 0
 
 -- a kept index page lists a data page, and the place of its bitmap there is this one
-abbrev pub HasEntry : Index → ℕ → ℕ → ℕ → Type 0
+abbrev pub HasEntry : BitmapIndex → ℕ → ℕ → ℕ → Type 0
 HasEntry index number listing entry =
     (lists (per_page index) number (first_in index listing) ≡ true) × (entry ≡ entry_of index listing number) × (entry < per_page index)
 
@@ -52,7 +52,7 @@ bitmap_alone found = found.bitmap
 
 -- what the bytes of the index page that lists a data page say of its entry, as far as it is asked for: a page that isn't
 -- committed lists none, and one that is committed has to have its number and its count
-abbrev pub IsFound : {X : Type 0} → (Found → X) → Index → ℕ → ℕ → List ℕ → Result (Option X) ReadFault → Type 0
+abbrev pub IsFound : {X : Type 0} → (Found → X) → BitmapIndex → ℕ → ℕ → List ℕ → Result (Option X) ReadFault → Type 0
 IsFound asked index listing number page (Ok None) = state_of_page page ≡ Committed → ⊥
 IsFound asked index listing number page (Ok (Some answer)) =
     (state_of_page page ≡ Committed) × IsGoodPage (per_page index) listing page × (answer ≡ asked (found_at (form_in index) page (entry_of index listing number)))
@@ -76,24 +76,24 @@ is_page number None = false
 is_page number (Some page) = page == number
 
 -- a buffer holds the place of the kept index page whose number stands in its bytes
-abbrev pub is_kept : Index → BufferState → Bool
+abbrev pub is_kept : BitmapIndex → BufferState → Bool
 is_kept index buf =
     nat_le (oldest_in index) (page_number buf.bytes) && nat_lt (page_number buf.bytes) (next_in index) && is_page (place_in index (page_number buf.bytes)) buf.holds
 
 -- .. and it lists a data page
-abbrev pub held_lists : Index → ℕ → BufferState → Bool
+abbrev pub held_lists : BitmapIndex → ℕ → BufferState → Bool
 held_lists index number buf = is_kept index buf && lists (per_page index) number (first_in index (page_number buf.bytes))
 
 -- the kept index page that lists a data page: that in the buffer, where it does, or else the first one
-abbrev pub listing_by : Index → ℕ → BufferState → Option ℕ
+abbrev pub listing_by : BitmapIndex → ℕ → BufferState → Option ℕ
 listing_by index number buf = if held_lists index number buf then Some (page_number buf.bytes) else listing_in index number
 
 -- the index page to be looked at, where there is one: the bitmap doesn't wait, and a kept index page lists the data page
-abbrev pub looked_at : Index → ℕ → BufferState → Option ℕ
+abbrev pub looked_at : BitmapIndex → ℕ → BufferState → Option ℕ
 looked_at index number buf = if is_waiting index number then None else listing_by index number buf
 
 -- Nothing was read, and this was answered: what is asked for of the entry where it waits.
-pub record ByMemory {X : Type 0} (asked : Found → X) (index : Index) (number : ℕ) (old : FlashState) (before : BufferState) (result : Result (Option X) ReadFault) (new : FlashState) (after : BufferState) : Type 0 where
+pub record ByMemory {X : Type 0} (asked : Found → X) (index : BitmapIndex) (number : ℕ) (old : FlashState) (before : BufferState) (result : Result (Option X) ReadFault) (new : FlashState) (after : BufferState) : Type 0 where
   pub answer : result ≡ Ok (if is_waiting index number then Some (asked (found_waiting index (number - first_waiting index))) else None)
   pub flash : new ≡ old
   pub buffer : after ≡ before
@@ -137,21 +137,21 @@ ends_above per_page number None = false
 ends_above per_page number (Some first) = nat_lt number (first + per_page)
 
 -- of the kept index pages from one on those that end above a number
-abbrev pub unread : Index → ℕ → ℕ → ℕ
+abbrev pub unread : BitmapIndex → ℕ → ℕ → ℕ
 unread index number from = count_by (λ n. ends_above (per_page index) number (first_in index n)) (range_with_len from (next_in index - from))
 
 -- the buffer holds a kept index page, and each kept index page before that ends at or below a number
-pub record HoldsLast (index : Index) (number held : ℕ) (buf : BufferState) : Type 0 where
+pub record HoldsLast (index : BitmapIndex) (number held : ℕ) (buf : BufferState) : Type 0 where
   pub is_held : IsHeld index held buf
   pub before : (k : ℕ) → oldest_in index ≤ k → k < held → ends_above (per_page index) number (first_in index k) ≡ false
 
 -- a scan has come to a number: the buffer holds no page, or such a one, and index pages from `from` on may still be read
-abbrev pub IsScanning : Index → ℕ → ℕ → BufferState → Type 0
+abbrev pub IsScanning : BitmapIndex → ℕ → ℕ → BufferState → Type 0
 IsScanning index number from buf =
     ((buf.holds ≡ None) × (from ≡ oldest_in index)) ⊎ ((held : ℕ) × (from ≡ held + 1) × HoldsLast index number held buf)
 
 -- the scan goes on, and what was read isn't read again
-pub record ScansOn (index : Index) (number from : ℕ) (old new : FlashState) (after : BufferState) : Type 0 where
+pub record ScansOn (index : BitmapIndex) (number from : ℕ) (old new : FlashState) (after : BufferState) : Type 0 where
   pub next : ℕ
   pub scanning : IsScanning index number next after
   pub once : new.work.reads + unread index number next ≤ old.work.reads + unread index number from
@@ -162,27 +162,27 @@ abbrev pub after_held : ℕ → ℕ → Option ℕ → ℕ
 after_held oldest number None = oldest
 after_held oldest number (Some page) = number + 1
 
-abbrev pub next_to_read : Index → BufferState → ℕ
+abbrev pub next_to_read : BitmapIndex → BufferState → ℕ
 next_to_read index buf = after_held (oldest_in index) (page_number buf.bytes) buf.holds
 
 -- the first index page that lists a data page whose bitmap doesn't wait
-abbrev pub listing_of : Index → ℕ → Option ℕ
+abbrev pub listing_of : BitmapIndex → ℕ → Option ℕ
 listing_of index number = if is_waiting index number then None else listing_in index number
 
 -- .. is this one
-abbrev pub is_looked_at : Index → ℕ → ℕ → Bool
+abbrev pub is_looked_at : BitmapIndex → ℕ → ℕ → Bool
 is_looked_at index listing number = is_page listing (listing_of index number)
 
 -- of the kept index pages from one on those to be looked at for some of these data pages
-abbrev pub due : Index → List ℕ → ℕ → ℕ
+abbrev pub due : BitmapIndex → List ℕ → ℕ → ℕ
 due index numbers from = count_by (λ n. list_any (is_looked_at index n) numbers) (range_with_len from (next_in index - from))
 
 -- a kept index page that a buffer holds is good, or not committed
-abbrev pub HoldsGood : Index → BufferState → Type 0
+abbrev pub HoldsGood : BitmapIndex → BufferState → Type 0
 HoldsGood index buf = (number : ℕ) → IsHeld index number buf → state_of_page buf.bytes ≡ Committed → IsGoodPage (per_page index) number buf.bytes
 
 -- a kept index page that is committed on a flash, and isn't good
-pub record IsBadPage (index : Index) (f : FlashState) (bad : Refusal) : Type 0 where
+pub record IsBadPage (index : BitmapIndex) (f : FlashState) (bad : Refusal) : Type 0 where
   pub from : oldest_in index ≤ bad.wanted
   pub before : bad.wanted < next_in index
   pub committed : state_of_page (page_at f (place_in index bad.wanted)) ≡ Committed

@@ -14,7 +14,7 @@ use Rattle.fl_ring.specs.Device.{SameDevice}
 use Rattle.fl_ring.specs.Kept.{PagesStand}
 use Rattle.fl_ring.specs.declared.fault.RingFault.{RingFault}
 use Rattle.fl_ring.specs.declared.fault.RingFault.TheVariants.{Flash, BadHead, BadGap, BadPage, NoNumber}
-use Rattle.fl_index.specs.declared.index.Index.{Index}
+use Rattle.fl_index.specs.declared.index.BitmapIndex.{BitmapIndex}
 use Rattle.fl_index.specs.Memory.{oldest_in, waiting_in}
 use Rattle.fl_index.specs.Standing.{Rests, RemembersAll, RemembersBelow, StandsWith, Stands, bytes_in}
 
@@ -48,13 +48,13 @@ pub record Breaks (first : ℕ) (plan : Plan) (operations : List (RingName × Ki
   pub rests : Rests new first plan (lose now.state)
 
 -- the seal of an index page
-abbrev pub SealEnds : ℕ → Plan → Table → Bool → Device → Result (Unit {0}) FlashFault → Index → FlashState → FlashState → Type 0
+abbrev pub SealEnds : ℕ → Plan → Table → Bool → Device → Result (Unit {0}) FlashFault → BitmapIndex → FlashState → FlashState → Type 0
 SealEnds first plan table rose device (Ok done) index old new =
     Finishes first plan (seal_within plan IndexRing table) table (after_seal plan IndexRing table) rose device index old new
 SealEnds first plan table rose device (Err fault) index old new = Breaks first plan (seal_within plan IndexRing table) table rose device fault new
 
 -- the seal of a full list of bitmaps
-abbrev pub MakesRoom : ℕ → Plan → Table → Bool → Device → Result (Unit {0}) FlashFault → Index → FlashState → FlashState → Type 0
+abbrev pub MakesRoom : ℕ → Plan → Table → Bool → Device → Result (Unit {0}) FlashFault → BitmapIndex → FlashState → FlashState → Type 0
 MakesRoom first plan table rose device (Ok done) index old new =
     Finishes first plan (seals_within plan (index_seals plan table) table) table (after_seals plan (index_seals plan table) table) rose device index old new
 MakesRoom first plan table rose device (Err fault) index old new = Breaks first plan (seals_within plan (index_seals plan table) table) table rose device fault new
@@ -65,7 +65,7 @@ end_of plan table = option_map (λ page. page + entries_per_page plan) (last_or 
 
 -- A mount that ended well, or its first part: the ring is that of the table's index, of whose pages this much is remembered, and no
 -- entry waits.
-pub record EndsWell (Remembers : Index → Plan → Table → Ring → Type 0) (first : ℕ) (plan : Plan) (table : Table) (rose : Bool) (device : Device) (end : Option ℕ) (index : Index) (new : FlashState) : Type 0 where
+pub record EndsWell (Remembers : BitmapIndex → Plan → Table → Ring → Type 0) (first : ℕ) (plan : Plan) (table : Table) (rose : Bool) (device : Device) (end : Option ℕ) (index : BitmapIndex) (new : FlashState) : Type 0 where
   pub now : PartProgress Table
   pub did : TablePerforms plan rose (repair_within plan IndexRing (renumber plan IndexRing table)) device (renumber plan IndexRing table) now
   pub whole : now.end ≡ Whole
@@ -76,7 +76,7 @@ pub record EndsWell (Remembers : Index → Plan → Table → Ring → Type 0) (
   pub idle_now : now.state.waiting ≡ []
   pub answer : end ≡ end_of plan now.state
 
-abbrev pub MountsWell : ℕ → Plan → Table → Bool → Device → Option ℕ → Index → FlashState → Type 0
+abbrev pub MountsWell : ℕ → Plan → Table → Bool → Device → Option ℕ → BitmapIndex → FlashState → Type 0
 MountsWell first plan table rose device end index new = EndsWell RemembersAll first plan table rose device end index new
 
 -- It failed in an operation of a repair, or in a read: what was repaired until then stays.
@@ -88,7 +88,7 @@ pub record MountsBadly (first : ℕ) (plan : Plan) (table : Table) (rose : Bool)
   pub rests : Rests new first plan now.state
 
 -- how a mount ends, or its first part
-abbrev pub EndsAs : (Index → Plan → Table → Ring → Type 0) → ℕ → Plan → Table → Bool → Device → Result (Option ℕ) RingFault → Index → FlashState → Type 0
+abbrev pub EndsAs : (BitmapIndex → Plan → Table → Ring → Type 0) → ℕ → Plan → Table → Bool → Device → Result (Option ℕ) RingFault → BitmapIndex → FlashState → Type 0
 EndsAs Remembers first plan table rose device (Ok end) index new = EndsWell Remembers first plan table rose device end index new
 EndsAs Remembers first plan table rose device (Err (Flash fault)) index new = MountsBadly first plan table rose device fault new
 EndsAs Remembers first plan table rose device (Err (BadHead heads)) index new = ⊥
@@ -96,9 +96,9 @@ EndsAs Remembers first plan table rose device (Err (BadGap page)) index new = �
 EndsAs Remembers first plan table rose device (Err (BadPage page wanted found)) index new = ⊥
 EndsAs Remembers first plan table rose device (Err (NoNumber at_least)) index new = ⊥
 
-abbrev pub MountEnds : ℕ → Plan → Table → Bool → Device → Result (Option ℕ) RingFault → Index → FlashState → Type 0
+abbrev pub MountEnds : ℕ → Plan → Table → Bool → Device → Result (Option ℕ) RingFault → BitmapIndex → FlashState → Type 0
 MountEnds first plan table rose device result index new = EndsAs RemembersAll first plan table rose device result index new
 
 -- .. after the first part the first data page of no index page is known
-abbrev pub FindEnds : ℕ → Plan → Table → Bool → Device → Result (Option ℕ) RingFault → Index → FlashState → Type 0
+abbrev pub FindEnds : ℕ → Plan → Table → Bool → Device → Result (Option ℕ) RingFault → BitmapIndex → FlashState → Type 0
 FindEnds first plan table rose device result index new = EndsAs (RemembersBelow (oldest_in index)) first plan table rose device result index new

@@ -11,7 +11,7 @@ use Rattle.fl_model.specs.Layout.{IndexEntry, IndexPage}
 use Rattle.fl_model.specs.Mount.{index_end}
 use Rattle.fl_ring.specs.Place as memory
 use Rattle.fl_ring.specs.declared.ring.Ring as code
-use Rattle.fl_index.specs.declared.index.Index.{Index}
+use Rattle.fl_index.specs.declared.index.BitmapIndex.{BitmapIndex}
 use Rattle.fl_index.specs.Memory.{IsPlanned, first_in, first_waiting, waiting_in, Gathers}
 
 -- the bytes at the place of a number of the index ring, whose blocks begin at `first`
@@ -52,16 +52,16 @@ abbrev pub first_told : Plan → Table → Ring → ℕ → ℕ → Option ℕ
 first_told plan table ring i count = if count == 0 then None else slice_get (firsts table) (full_pages (take i ring.counts))
 
 -- what is remembered of the kept index pages: the first data page of each of them ..
-abbrev pub RemembersAll : Index → Plan → Table → Ring → Type 0
+abbrev pub RemembersAll : BitmapIndex → Plan → Table → Ring → Type 0
 RemembersAll index plan table ring = (i count : ℕ) → slice_get ring.counts i ≡ Some count → first_in index (oldest ring + i) ≡ first_told plan table ring i count
 
 -- .. or of those below a number
-abbrev pub RemembersBelow : ℕ → Index → Plan → Table → Ring → Type 0
+abbrev pub RemembersBelow : ℕ → BitmapIndex → Plan → Table → Ring → Type 0
 RemembersBelow number index plan table ring =
     (i count : ℕ) → oldest ring + i < number → slice_get ring.counts i ≡ Some count → first_in index (oldest ring + i) ≡ first_told plan table ring i count
 
 -- the ring in memory and on a flash is that of the table's index, which has no torn page, and no block that waits for its erase
-pub record StandsWith (Remembers : Index → Plan → Table → Ring → Type 0) (index : Index) (f : FlashState) (first : ℕ) (plan : Plan) (table : Table) : Type 0 where
+pub record StandsWith (Remembers : BitmapIndex → Plan → Table → Ring → Type 0) (index : BitmapIndex) (f : FlashState) (first : ℕ) (plan : Plan) (table : Table) : Type 0 where
   pub planned : IsPlanned index first plan
   pub ring : Ring
   pub facts : HasIndex plan table ring
@@ -75,19 +75,19 @@ pub record StandsWith (Remembers : Index → Plan → Table → Ring → Type 0)
   pub first_of : Remembers index plan table ring
 
 -- .. and the first data page of each kept index page is remembered, or of each that was loaded so far
-abbrev pub StandsForRing : Index → FlashState → ℕ → Plan → Table → Type 0
+abbrev pub StandsForRing : BitmapIndex → FlashState → ℕ → Plan → Table → Type 0
 StandsForRing index f first plan table = StandsWith RemembersAll index f first plan table
 
-abbrev pub StandsBelow : ℕ → Index → FlashState → ℕ → Plan → Table → Type 0
+abbrev pub StandsBelow : ℕ → BitmapIndex → FlashState → ℕ → Plan → Table → Type 0
 StandsBelow number index f first plan table = StandsWith (RemembersBelow number) index f first plan table
 
 -- these entries wait in memory, those of the data pages from one on
-pub record Waits (index : Index) (first : ℕ) (entries : List IndexEntry) : Type 0 where
+pub record Waits (index : BitmapIndex) (first : ℕ) (entries : List IndexEntry) : Type 0 where
   pub first_is : first_waiting index ≡ first
   pub count_is : waiting_in index ≡ length entries
   pub gathered : Gathers index entries
 
 -- the index stands for that of the table: its ring, and the waiting entries, which are those of the last data pages
-pub record Stands (index : Index) (f : FlashState) (first : ℕ) (plan : Plan) (table : Table) : Type 0 where
+pub record Stands (index : BitmapIndex) (f : FlashState) (first : ℕ) (plan : Plan) (table : Table) : Type 0 where
   pub in_ring : StandsForRing index f first plan table
   pub waits : Waits index (table.rows.next - length table.waiting) table.waiting

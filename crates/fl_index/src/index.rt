@@ -16,7 +16,7 @@ use std::alloc::Global;
 /// full list of them becomes a page of a ring of index pages.
 /// It is mounted before its first use; each call that takes a flash is given the one on which it was mounted.
 #[derive(Drop)]
-pub struct Index {
+pub struct BitmapIndex {
     pub(crate) geometry: Geometry,
     /// The blocks of the index ring.
     pub(crate) place: RingPlace,
@@ -45,7 +45,7 @@ pub struct Index {
     ghost lies: { ForSome ring (λ r. shape_of r ≡ shape_at place geometry) },
 }
 
-impl Index {
+impl BitmapIndex {
     ghost use Rattle.std.specs.Prelude.{ℕ};
     ghost use Rattle.fl_flash.specs.Flash.{FlashState, pages};
     ghost use Rattle.fl_model.specs.Record.{Plan, entries_per_page};
@@ -60,7 +60,7 @@ impl Index {
         place: RingPlace,
         bits: u32,
         full: bool,
-    ) -> Result<Index, NoMemory>
+    ) -> Result<BitmapIndex, NoMemory>
         requires geometry { IsGeometry geometry }
         requires blocks { 3 ≤ place.blocks }
         requires few { place.blocks ≤ 16384 }
@@ -71,7 +71,7 @@ impl Index {
         ensures fresh { IfOk result (λ index. (is_running index ≡ false) × (waiting_in index ≡ 0)) }
     {
         let pages = place.blocks as usize * geometry.block as usize;
-        Ok(Index {
+        Ok(BitmapIndex {
             geometry,
             place,
             bits,

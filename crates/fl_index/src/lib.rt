@@ -9,6 +9,6 @@ mod page;
 mod seal;
 mod waiting;
 
-pub use index::Index;
+pub use index::BitmapIndex;
 pub use load::Loaded;
 pub use page::{EntryForm, Found, Full, bitmap_in, entry_len, first_in, found_in};

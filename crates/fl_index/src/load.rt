@@ -4,7 +4,7 @@ ghost use Rattle.fl_flash.specs.Flash.{page_at, OffChangesNothing};
 ghost use Rattle.fl_flash.specs.Media.{next_count};
 ghost use Rattle.fl_ring.specs.Looking.{OnlyReads, ReadFails};
 
-use crate::index::Index;
+use crate::index::BitmapIndex;
 use crate::page::{copy_entries, entry_len, first_in};
 use fl_flash::{Flash, FlashFault, PageBuf};
 use fl_page::BadPage;
@@ -21,7 +21,7 @@ pub enum Loaded {
     Bad { first: u32, bad: BadPage },
 }
 
-impl Index {
+impl BitmapIndex {
     ghost use Rattle.std.specs.Prelude.{ℕ};
     ghost use Rattle.fl_flash.specs.Flash.{FlashState};
     ghost use Rattle.fl_model.specs.Record.{Plan};

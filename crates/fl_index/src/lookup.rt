@@ -12,7 +12,7 @@ ghost use Rattle.fl_mark.specs.declared.page_state.PageState.TheVariants.{Commit
 ghost use Rattle.fl_index.specs.Looking.{bad_page, bitmap_found};
 ghost use Rattle.fl_index.specs.Page.{page_number, IsGoodPage};
 
-use crate::index::Index;
+use crate::index::BitmapIndex;
 use crate::page::{Found, count_in, found_in, number_in};
 use fl_flash::{Flash, FlashFault, PageBuf};
 use fl_mark::{PageState, state_of};
@@ -26,7 +26,7 @@ struct Listing {
     entry: usize,
 }
 
-impl Index {
+impl BitmapIndex {
     ghost use Rattle.std.specs.Prelude.{ℕ, List, ◌∷◌};
     ghost use Rattle.std.specs.List.{AllByRecursion};
     ghost use Rattle.fl_model.specs.Record.{Plan};

@@ -10,7 +10,7 @@ ghost use Rattle.fl_flash.specs.declared.flash.FlashFault.{FlashFault};
 ghost use Rattle.fl_index.specs.Headers.{header_of, AreRemembered, kept_page};
 ghost use Rattle.fl_index.specs.Page.{first_on};
 
-use crate::index::Index;
+use crate::index::BitmapIndex;
 use crate::page::{count_in, first_in};
 use fl_flash::{Flash, FlashFault, PageBuf};
 use fl_mark::{PageState, state_of};
@@ -24,7 +24,7 @@ pub(crate) struct Newest {
     pub(crate) count: u32,
 }
 
-impl Index {
+impl BitmapIndex {
     ghost use Rattle.std.specs.Prelude.{ℕ, Bool};
     ghost use Rattle.fl_model.specs.Record.{Plan};
     ghost use Rattle.fl_model.specs.Table as model;

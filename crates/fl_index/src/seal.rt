@@ -3,11 +3,11 @@ ghost use Rattle.std.specs.Prelude.{Ok, ◌≡◌, ◌+◌, ◌-◌, ◌<◌, �
 ghost use Rattle.fl_flash.specs.Flash.{Goes, OffChangesNothing, page_at};
 ghost use Rattle.fl_ring.specs.Causes.{CausedBy};
 
-use crate::index::Index;
+use crate::index::BitmapIndex;
 use crate::page::write_header;
 use fl_flash::{Flash, FlashFault};
 
-impl Index {
+impl BitmapIndex {
     ghost use Rattle.std.specs.Prelude.{ℕ, Bool, List};
     ghost use Rattle.fl_model.specs.Record.{Plan};
     ghost use Rattle.fl_model.specs.Table as model;

@@ -2,10 +2,10 @@
 ghost use Rattle.std.specs.Prelude.{◌≡◌, ◌+◌, ◌-◌, ◌%◌, ◌^◌, ◌<◌, true, if◌then◌else◌, Some, None};
 ghost use Rattle.fl_index.specs.Page.{full_view};
 
-use crate::index::Index;
+use crate::index::BitmapIndex;
 use crate::page::{Found, Full, found_in, write_entry};
 
-impl Index {
+impl BitmapIndex {
     ghost use Rattle.std.specs.Prelude.{ℕ, List, [], ◌∷◌, ◌++◌};
     ghost use Rattle.fl_flash.specs.Flash.{FlashState};
     ghost use Rattle.fl_model.specs.Layout.{IndexEntry};

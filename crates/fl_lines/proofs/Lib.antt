@@ -1,5 +1,5 @@
 pub mod Pieces
 pub mod Untouched
 pub mod Parts
-pub mod Reading
-pub mod Leaving
+pub mod LinesInTurn
+pub mod LongLinesLeft

@@ -19,7 +19,7 @@ use Rattle.fl_machine.specs.Found.{trimmed, ring_at, HasRoom, IsLoggedAtRest, Is
 use Rattle.fl_machine.specs.Keeping.{sure, unsure, sure_at, tables_of, newer, PutSoFar, given_up_by, session_adds, mount_gives_up, standing_at, put_after, kept_of, IsKept, KeepsPuts, PutsAreKept}
 use Rattle.fl_machine.proofs.Logs.{Tops, drop_none, filter_all, filter_none, all_weaker, all_drop, is_last, last-key, not-lt}
 use Rattle.fl_machine.proofs.Trimmed.{take_none}
-use Rattle.fl_machine.proofs.Adding.{GoesOn, append-assoc}
+use Rattle.fl_machine.proofs.RecordsChange.{GoesOn, append-assoc}
 use Rattle.fl_machine.proofs.LoggedSteps.{IsLogKept, InSession, LogKeeps, stands-tops, stands-full, log-step, log-start}
 
 -- ---- the new records of a moment

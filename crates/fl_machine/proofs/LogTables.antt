@@ -13,7 +13,7 @@ use Rattle.fl_model.proofs.Among.{after_seals-append, seal-all_done, seals-all_d
 use Rattle.fl_machine.specs.Found.{HasRoom}
 use Rattle.fl_machine.proofs.Trimmed.{take_none, trimmed-sealed}
 use Rattle.fl_machine.proofs.Effects.{shape_ok}
-use Rattle.fl_machine.proofs.Adding.{IsGreatest, IsLasting, Rows, marked_rows, rows_in, rows_with, sure_in, sure-idle, sure-ready, sure-joining}
+use Rattle.fl_machine.proofs.RecordsChange.{IsGreatest, IsLasting, Rows, marked_rows, rows_in, rows_with, sure_in, sure-idle, sure-ready, sure-joining}
 use Rattle.fl_machine.proofs.Logs.{Core, core, log_in, rest_of, owed_of, IsFine, front_of, EndsWhole, IsIdle, IsReady, IsJoining, Phase, Idle, Ready, Joining, past_in, lost, RestsAs, IsMarked, sealed-at, trimmed-seals, IsThere, rests-here, joining-some, marked-rests, marked-fine, marked-owed, marked-few, ready-owed, last-drop, begun-fine, begun-joining, logged-ready, logged-fine, logged-rests, joins, joins-fine, joins-ready, joins-idle, any-end}
 
 -- what was trimmed between two states

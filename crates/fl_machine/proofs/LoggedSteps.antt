@@ -22,9 +22,9 @@ use Rattle.fl_machine.specs.Step.{Moment, StepOf, Says, Stops, EndsAs, EndsMount
 use Rattle.fl_machine.specs.Run.{Run}
 use Rattle.fl_machine.specs.Found.{trimmed, ring_at, HasRoom, IsLoggedAtRest, IsAtRest, LoggedPast, nothing_held, past_of, logged_stop_at, logged_passing, logged_past_on, logged_past_after, IsLoggedFound, LoggedFinds}
 use Rattle.fl_machine.specs.Keeping.{sure, unsure, sure_at, tables_of}
-use Rattle.fl_machine.proofs.Mounting.{room_at}
+use Rattle.fl_machine.proofs.MountsAtPlace.{room_at}
 use Rattle.fl_machine.proofs.Logs.{core, log_in, IsReady, Tops, front-all, RestsAs, IsOwedFound, owed_of, IsFine, IsSafePage, IsThere, rests-here, owed-found}
-use Rattle.fl_machine.proofs.Adding.{adds-all, Rows, GoesFrom, from-none, from-last, Any, rows_in, rows_with, sure_in, sure-lost, sure-tops, sure-full, pending-lost, all-logged}
+use Rattle.fl_machine.proofs.RecordsChange.{adds-all, Rows, GoesFrom, from-none, from-last, Any, rows_in, rows_with, sure_in, sure-lost, sure-tops, sure-full, pending-lost, all-logged}
 use Rattle.fl_machine.proofs.LogTables as tables
 use Rattle.fl_machine.proofs.LogTables.{trimmed_in, Goes, Between, Resting, Pending, between-fine, between-phase, between-kept, between-as, stops-here, flush-goes, flush-between, put-goes, put-joined, join-goes-on, trimmed-none}
 use Rattle.fl_machine.proofs.LogMounts.{pass, rests-lost}

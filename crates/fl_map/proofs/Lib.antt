@@ -1,5 +1,5 @@
 pub mod Chains
 pub mod Pages
-pub mod Writing
+pub mod ThreeTexts
 pub mod Tables
-pub mod Ending
+pub mod MapEnds

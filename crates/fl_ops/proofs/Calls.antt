@@ -3,7 +3,7 @@ use Rattle.std.proofs.Common.{Result, Ok, Err, IfErr}
 use Rattle.fl_flash.specs.Flash.{FlashState}
 use Rattle.fl_page.specs.Contents.{OnlyReads, IsCaused}
 use Rattle.fl_page.specs.declared.fault.ReadFault.{ReadFault}
-use Rattle.fl_page.proofs.Reading.{OnlyReads-then, OnlyReads-reads, IsCaused-later}
+use Rattle.fl_page.proofs.ReadsInTurn.{OnlyReads-then, OnlyReads-reads, IsCaused-later}
 
 pub ruleset calls = (OnlyReads-then, OnlyReads-reads)
 

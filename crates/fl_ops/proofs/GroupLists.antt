@@ -11,7 +11,7 @@ use Rattle.fl_model.specs.Record.{Record}
 use Rattle.fl_model.specs.Operators.{column_of, group_of, group_numbers, group_values, group_from, aggregate, total_of}
 use Rattle.fl_ops.specs.declared.tally.Tally.{Tally}
 use Rattle.fl_ops.specs.Tally.{tally_of, tally_more, tallied}
-use Rattle.fl_ops.proofs.Climbing.{Climbs}
+use Rattle.fl_ops.proofs.AscendingKeys.{Climbs}
 
 -- the groups of these records are above g
 abbrev Beyond : ℕ → ℕ → List Record → Type 0

@@ -11,7 +11,7 @@ use Rattle.fl_page.specs.declared.fault.ReadFault.{ReadFault}
 use Rattle.fl_page.specs.declared.fault.ReadFault.TheVariants.{Flash, BadPage}
 use Rattle.fl_ops.specs.Columns.{record_of, records_of}
 use Rattle.fl_ops.specs.Pairs.{pairs_from, PairsGo}
-use Rattle.fl_ops.proofs.Climbing.{Climbs, Climbs-rows}
+use Rattle.fl_ops.proofs.AscendingKeys.{Climbs, Climbs-rows}
 
 -- no later record has this key or one below
 find-none : (key low : ℕ) (items : List Record) → Climbs key items → low ≤ key → find (λ item. item.key == low) items ≡ None

@@ -1,7 +1,7 @@
 pub mod Calls
-pub mod Climbing
+pub mod AscendingKeys
 pub mod ColumnValues
-pub mod Continuing
+pub mod ContinuedRows
 pub mod GroupLists
 pub mod Joins
 pub mod Room

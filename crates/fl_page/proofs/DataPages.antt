@@ -16,7 +16,7 @@ use Rattle.fl_schema.proofs.Numbers.{number_of-le}
 use Rattle.fl_schema.proofs.RoundTrip.{length-bytes_of_row}
 use Rattle.fl_page.specs.Header.{page_count}
 use Rattle.fl_page.specs.Page.{rows_from, rows_in, IsGoodPage}
-use Rattle.fl_page.proofs.Gathering.{layout_some}
+use Rattle.fl_page.proofs.WriterSteps.{layout_some}
 use Rattle.fl_page.proofs.RowBytes.{rows_from-rows}
 
 pub length-rows : (key : KeyWidth) (types : List ColumnType) (blobs : Bool) (rows : List Row) → AllByRecursion (IsStorable (layout_with key types blobs)) rows

@@ -1,4 +1,4 @@
 pub mod RowBytes
-pub mod Gathering
+pub mod WriterSteps
 pub mod DataPages
-pub mod Reading
+pub mod ReadsInTurn

@@ -1,3 +1,3 @@
 pub mod Bits
-pub mod Rising
-pub mod Passing
+pub mod RisingKnots
+pub mod PassedSlots

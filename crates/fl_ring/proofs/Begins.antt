@@ -15,7 +15,7 @@ use Rattle.fl_ring.specs.Ring.{RingState, place, OnRing, blank_end, begun}
 use Rattle.fl_ring.proofs.CutPages.{Reaches, nothing_written, same_content, written_page, programs_there}
 use Rattle.fl_ring.proofs.Numbered.{numbered_begun}
 use Rattle.fl_ring.proofs.PageBytes.{and_same, body_programmed, is_torn, torn_body}
-use Rattle.fl_ring.proofs.Stepping.{OneOf, Exact, either_of}
+use Rattle.fl_ring.proofs.StepEnds.{OneOf, Exact, either_of}
 use Rattle.fl_ring.proofs.Steps.{on_page, on_torn, not_blank}
 
 -- the first bytes of a page into which a front of the body was written

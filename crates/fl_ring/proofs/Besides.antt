@@ -8,7 +8,7 @@ use Rattle.fl_ring.specs.Looking.{OnlyReads}
 use Rattle.fl_ring.specs.Repairing.{Beside}
 use Rattle.fl_ring.specs.Ring.{Shape}
 use Rattle.fl_ring.specs.Step.{Operates}
-use Rattle.fl_ring.proofs.Readings.{goes_more, same_page}
+use Rattle.fl_ring.proofs.ReadsInTurn.{goes_more, same_page}
 use Rattle.fl_ring.proofs.Sums.{outside_more}
 
 pub beside_reads : (r : Shape) (n : ℕ) (a b : FlashState) → OnlyReads a n b → Beside r n 0 0 a b

@@ -14,7 +14,7 @@ use Rattle.fl_ring.specs.Ring.{RingState, place, OnRing, blank_end, committed_en
 use Rattle.fl_ring.proofs.Added.{kept_on}
 use Rattle.fl_ring.proofs.CutPages.{Reaches, nothing_written, same_content, written_page, programs_there}
 use Rattle.fl_ring.proofs.PageBytes.{is_torn, mark_on_body, torn_mark}
-use Rattle.fl_ring.proofs.Stepping.{OneOf, Exact, either_of}
+use Rattle.fl_ring.proofs.StepEnds.{OneOf, Exact, either_of}
 use Rattle.fl_ring.proofs.Steps.{on_torn}
 
 abbrev zeros : List ℕ

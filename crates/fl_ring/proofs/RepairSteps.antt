@@ -13,7 +13,7 @@ use Rattle.fl_ring.specs.Operations.{change, repair_kinds}
 use Rattle.fl_ring.specs.Ring.{Shape, RingState, OnRing, voided, erased}
 use Rattle.fl_ring.specs.Step.{IsWatched, StepDone, StepEnds}
 use Rattle.fl_ring.proofs.Founds.{same_pages}
-use Rattle.fl_ring.proofs.Performing.{performed_err, performed_more, performed_none, performed_last}
+use Rattle.fl_ring.proofs.OperationsInTurn.{performed_err, performed_more, performed_none, performed_last}
 
 -- reads leave the device as it is
 pub device_still : (a b : FlashState) (n : ℕ) (device : Device) → OnlyReads a n b → SameDevice a device → SameDevice b device

@@ -19,10 +19,10 @@ use Rattle.fl_ring.proofs.Begins.{begin_any, begin_bytes, begin_ok, begin_exact}
 use Rattle.fl_ring.proofs.Commits.{commit_any, commit_ok, commit_exact}
 use Rattle.fl_ring.proofs.Exists.{lies_exists, lies_still}
 use Rattle.fl_ring.proofs.Numbered.{numbered_begun}
-use Rattle.fl_ring.proofs.Operating.{operates_program, step_program, others_by}
+use Rattle.fl_ring.proofs.OperationsOutside.{operates_program, step_program, others_by}
 use Rattle.fl_ring.proofs.Outcomes.{on_ok_from, ok_at}
-use Rattle.fl_ring.proofs.Performing.{performed_err, watched_first, watched_then}
-use Rattle.fl_ring.proofs.Readings.{goes_more}
+use Rattle.fl_ring.proofs.OperationsInTurn.{performed_err, watched_first, watched_then}
+use Rattle.fl_ring.proofs.ReadsInTurn.{goes_more}
 use Rattle.fl_ring.proofs.SealSteps.{seals_of, begun_stands, mark_failed}
 use Rattle.fl_ring.proofs.Sums.{outside_more}
 

@@ -10,8 +10,8 @@ use Rattle.fl_ring.specs.Ring.{Shape, RingState, place, is_due_at, begun, append
 use Rattle.fl_ring.specs.Repairing.{ahead_first}
 use Rattle.fl_ring.specs.Sealing.{IsReady, AnswersEnd, Performed, Seals, ErasesWhere, SealCalls}
 use Rattle.fl_ring.specs.Step.{StepDone, StepEnds}
-use Rattle.fl_ring.proofs.Advancing.{due_as}
-use Rattle.fl_ring.proofs.Performing.{performed_err, performed_more, performed_none, performed_last}
+use Rattle.fl_ring.proofs.NumbersAfterSeal.{due_as}
+use Rattle.fl_ring.proofs.OperationsInTurn.{performed_err, performed_more, performed_none, performed_last}
 use Rattle.fl_ring.proofs.Whole.{dirty_due, whole_seal}
 
 -- an Ok comes where all is done

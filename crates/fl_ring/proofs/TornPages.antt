@@ -14,7 +14,7 @@ use Rattle.fl_ring.specs.Looking.{state_at}
 use Rattle.fl_ring.specs.Numbers.{next_by, NumbersFit}
 use Rattle.fl_ring.specs.Ring.{Shape, place, room}
 use Rattle.fl_ring.proofs.Modulo.{parts, more, last_block}
-use Rattle.fl_ring.proofs.Moved.{in_block, least_is_alike}
+use Rattle.fl_ring.proofs.SamePlaces.{in_block, least_is_alike}
 
 not_false : (b : Bool) → not b ≡ true → b ≡ false
 not_false true e = sym e

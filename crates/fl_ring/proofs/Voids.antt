@@ -13,7 +13,7 @@ use Rattle.fl_ring.specs.Ring.{RingState, place, OnRing, voided}
 use Rattle.fl_ring.proofs.Added.{kept_on}
 use Rattle.fl_ring.proofs.CutPages.{Reaches, nothing_written, same_content, written_page, programs_there, splice_programmed}
 use Rattle.fl_ring.proofs.Lengths.{page_length}
-use Rattle.fl_ring.proofs.Stepping.{OneOf, Exact, either_of}
+use Rattle.fl_ring.proofs.StepEnds.{OneOf, Exact, either_of}
 use Rattle.fl_ring.proofs.Steps.{on_torn}
 use Rattle.fl_ring.proofs.VoidBytes.{void_or_torn, void_programmed, half_void, last_four}
 

@@ -17,8 +17,8 @@ use Rattle.fl_ring.proofs.Facts.{Due, due_true, sizes, two_blocks}
 use Rattle.fl_ring.proofs.Founds.{same_pages}
 use Rattle.fl_ring.proofs.GoodNumbers.{good_found}
 use Rattle.fl_ring.proofs.Modulo.{parts, place_in_block}
-use Rattle.fl_ring.proofs.Moved.{alike_add, renumbered_on, renumbered_same, renumbered_oldest, renumbered_dirty}
-use Rattle.fl_ring.proofs.Wearing.{one_yes, one_no, quotients, worn_alike, due_block, oldest_not, oldest_due}
+use Rattle.fl_ring.proofs.SamePlaces.{alike_add, renumbered_on, renumbered_same, renumbered_oldest, renumbered_dirty}
+use Rattle.fl_ring.proofs.EvenWear.{one_yes, one_no, quotients, worn_alike, due_block, oldest_not, oldest_due}
 use Rattle.fl_ring.proofs.Whole.{whole_seal, whole_repair, erased_clean, trimmed_torn}
 
 -- all was done where the call ended well

@@ -9,7 +9,7 @@ use Rattle.fl_model.specs.Log.{IsLog}
 use Rattle.fl_model.specs.Record.{Plan, blocks_of, has_log}
 use Rattle.fl_model.specs.Ring.{Ring}
 use Rattle.fl_model.specs.Table.{Table, Entry, LogRing, shape_of, has_rows, log_pages, lose}
-use Rattle.fl_machine.proofs.Adding.{Any}
+use Rattle.fl_machine.proofs.RecordsChange.{Any}
 use Rattle.fl_machine.proofs.Logs.{core, IsFine, lost}
 use Rattle.fl_machine.proofs.LogTables.{Between, between-fine}
 use Rattle.fl_table.specs.Pages as pages
@@ -17,7 +17,7 @@ use Rattle.fl_table.specs.Pages.{bytes_in}
 use Rattle.fl_table.specs.Standing as table
 use Rattle.fl_table.specs.declared.table.Table as code
 use Rattle.fl_table.proofs.Bare.{bare-table}
-use Rattle.fl_table.proofs.Holding.{lost-twice}
+use Rattle.fl_table.proofs.TablePages.{lost-twice}
 use Rattle.fl_table.proofs.Plain.{plain-lose, table-facts, table-parts}
 use Rattle.fl_rlc.specs.Logged.{Stands, Rests, LogStands, IsKept}
 use Rattle.fl_rlc.specs.Memory.{page_in, IsPlanned}
@@ -26,7 +26,7 @@ use Rattle.fl_rlc.specs.Standing as log
 use Rattle.fl_rlc.specs.declared.log.RecordLog.{RecordLog}
 use Rattle.fl_rlc.specs.declared.table.LoggedTable.{LoggedTable}
 use Rattle.fl_rlc.proofs.Frames.{log-bytes}
-use Rattle.fl_rlc.proofs.Keeping.{log-of, kept-of}
+use Rattle.fl_rlc.proofs.KeptRecords.{log-of, kept-of}
 use Rattle.fl_rlc.proofs.LoggedFacts.{LogFacts, table-of}
 
 -- a table with these is the table that has its log beside it

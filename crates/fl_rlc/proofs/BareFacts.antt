@@ -9,7 +9,7 @@ use Rattle.fl_model.specs.Record.{Plan}
 use Rattle.fl_model.specs.Ring.{Ring}
 use Rattle.fl_model.specs.Table.{Table, Entry, RingName, DataRing, IndexRing, VarRing, LogRing, ring_of}
 use Rattle.fl_rlc.proofs.LoggedFacts.{all-weaker}
-use Rattle.fl_rlc.proofs.Taking.{fits-bare}
+use Rattle.fl_rlc.proofs.TakenRecord.{fits-bare}
 
 contents : (plan : Plan) (page : ContentPage) → IsContent plan page → IsContent (bare plan) page
 contents plan page h = record { some = h.some; most = h.most; length = h.length }

@@ -9,7 +9,7 @@ use Rattle.fl_model.specs.Table.{Table, Entry, LogRing, table_seals, flushed, pe
 use Rattle.fl_model.specs.Within.{seals_within}
 use Rattle.fl_model.specs.Work.{Device, PartProgress}
 use Rattle.fl_model.proofs.Bare.{bare-tables}
-use Rattle.fl_machine.proofs.Adding.{Any, any-last}
+use Rattle.fl_machine.proofs.RecordsChange.{Any, any-last}
 use Rattle.fl_machine.proofs.LogTables.{Between, flush-goes, flush-between}
 use Rattle.fl_page.specs.Writer.{Gathers}
 use Rattle.fl_table.specs.Mounting.{OutsideStands}
@@ -21,7 +21,7 @@ use Rattle.fl_table.specs.Standing as without_log
 use Rattle.fl_table.specs.declared.table.Table as code
 use Rattle.fl_table.specs.declared.faults.FlushFault.{FlushFault}
 use Rattle.fl_table.specs.declared.faults.FlushFault.TheVariants as flush
-use Rattle.fl_table.proofs.Staying.{ring-same}
+use Rattle.fl_table.proofs.KeptPagesStay.{ring-same}
 use Rattle.fl_rlc.specs.Logged.{Stands, LogStands, IsKept}
 use Rattle.fl_rlc.specs.Memory.{rows_in, page_in, IsSamePlan}
 use Rattle.fl_rlc.specs.Outcomes.{Finishes, Breaks, FlushEnds, LogStays}

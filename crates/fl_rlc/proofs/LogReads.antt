@@ -18,7 +18,7 @@ use Rattle.fl_rlc.specs.Standing.{HasRing}
 use Rattle.fl_rlc.specs.declared.log.RecordLog.{RecordLog}
 use Rattle.fl_rlc.proofs.JoinedRow.{same-shape}
 use Rattle.fl_rlc.proofs.NewestRows.{newest-none, newest-some}
-use Rattle.fl_rlc.proofs.Sealings.{next-is, oldest-is}
+use Rattle.fl_rlc.proofs.SealsInTable.{next-is, oldest-is}
 
 -- the search, the repairs, the read of the newest page, and one read for each ring that is sealed
 pub log-reads : (l : RecordLog) → search_reads (log_shape l) + l.geometry.block + 4 ≤ 4 * room (log_shape l)

@@ -7,7 +7,7 @@ use Rattle.fl_flash.specs.declared.flash.FlashFault.{FlashFault}
 use Rattle.fl_flash.specs.declared.flash.FlashFault.TheVariants.{Media}
 use Rattle.fl_machine.specs.Found.{HasRoom}
 use Rattle.fl_machine.specs.Step.{made_ready}
-use Rattle.fl_machine.proofs.Adding.{adds-all, sure_in}
+use Rattle.fl_machine.proofs.RecordsChange.{adds-all, sure_in}
 use Rattle.fl_machine.proofs.Logs.{core, IsFine, lost}
 use Rattle.fl_machine.proofs.LogTables.{Resting}
 use Rattle.fl_model.specs.Bare.{bare, bare_table}
@@ -33,7 +33,7 @@ use Rattle.fl_table.specs.declared.faults.MountFault.{MountFault}
 use Rattle.fl_table.specs.declared.faults.MountFault.TheVariants as mount
 use Rattle.fl_table.specs.declared.table.Table as code
 use Rattle.fl_table.proofs.Bare.{bare-table}
-use Rattle.fl_table.proofs.Blobbing.{planned-none}
+use Rattle.fl_table.proofs.BlobsOfTable.{planned-none}
 use Rattle.fl_table.proofs.SealAnswers.{planned-shape}
 use Rattle.fl_var.specs.declared.var_data.VarData.{VarData}
 use Rattle.fl_rlc.specs.Logged.{Stands, Rests, LogStands}

@@ -4,8 +4,8 @@ use Rattle.std.proofs.Math.Nat.{mod-lt, mul-le-mul_right, add-mul}
 use Rattle.std.proofs.lemmas.Bool.{cases_lt}
 use Rattle.fl_flash.specs.Flash.{FlashState, page_at, blank}
 use Rattle.fl_flash.specs.Places.{extent}
-use Rattle.fl_index.specs.declared.index.Index.{Index}
-use Rattle.fl_index.proofs.Sealings as index
+use Rattle.fl_index.specs.declared.index.BitmapIndex.{BitmapIndex}
+use Rattle.fl_index.proofs.SealEnds as index
 use Rattle.fl_model.specs.Bare.{bare, bare_table}
 use Rattle.fl_model.specs.Facts.{IsTable, is_some_ring}
 use Rattle.fl_model.specs.Image.{IsRingImage, HoldsRows, HoldsEntries}
@@ -24,7 +24,7 @@ use Rattle.fl_table.specs.Pages.{HoldsTable, place_in, bytes_in}
 use Rattle.fl_table.specs.declared.counts.Mounted.{Mounted}
 use Rattle.fl_table.specs.declared.table.Table as code
 use Rattle.fl_table.proofs.Apart.{some-pages}
-use Rattle.fl_table.proofs.Indexing.{planned-none}
+use Rattle.fl_table.proofs.IndexOfTable.{planned-none}
 use Rattle.fl_table.proofs.SealAnswers.{planned-shape}
 use Rattle.fl_table.proofs.States.{blank-bytes}
 use Rattle.fl_rlc.specs.Left.{IsRepaired, IsReplayed, LeavesPages, ReplayLeaves, IsNextPage}
@@ -95,7 +95,7 @@ module _ {K S : ℕ} (t : code.Table K S) (f between : FlashState) (first : ℕ)
         same-ring : {x y : Ring} → Some x ≡ Some y → x ≡ y
         same-ring e = cc
 
-        by-index : (o : Option Index) → ArePlanned o (first + plan.data_blocks) (bare plan) → (x : Ring) × (table.index ≡ Some x) → IsReplayed first plan page (page_at f page)
+        by-index : (o : Option BitmapIndex) → ArePlanned o (first + plan.data_blocks) (bare plan) → (x : Ring) × (table.index ≡ Some x) → IsReplayed first plan page (page_at f page)
         by-index None p x = absurd (no (sym (planned-none (first + plan.data_blocks) (bare plan) p) ∙ has))
           where
             no : false ≡ true → ⊥

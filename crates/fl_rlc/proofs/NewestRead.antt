@@ -27,7 +27,7 @@ use Rattle.fl_table.proofs.Refused.{IsPageFault, of_keys}
 use Rattle.fl_rlc.specs.Pages.{log_body, IsPage}
 use Rattle.fl_rlc.specs.Replaying.{MayStand, IsBad}
 use Rattle.fl_rlc.proofs.NewestRows.{IsRead, log-page}
-use Rattle.fl_rlc.proofs.Taking.{plain-of}
+use Rattle.fl_rlc.proofs.TakenRecord.{plain-of}
 
 -- a page that may stand isn't bad
 pub never-bad : (layout : RowLayout) (number : ℕ) (page : List ℕ) (fault : MountFault) → MayStand layout number page → IsBad layout number page fault → ⊥

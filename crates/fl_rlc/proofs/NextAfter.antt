@@ -10,7 +10,7 @@ use Rattle.fl_model.specs.Within.{TableMounts, TableMounted, TableStopped, Table
 use Rattle.fl_model.specs.Work.{VoidMark, Erase, Device, PartEnd, Whole, CutIn, FailedIn, PartProgress}
 use Rattle.fl_model.proofs.Performs.{performs-whole}
 use Rattle.fl_ring.specs.Head.{one}
-use Rattle.fl_ring.proofs.Moved.{least_is_alike}
+use Rattle.fl_ring.proofs.SamePlaces.{least_is_alike}
 
 -- what a turn makes of a table
 abbrev turn_done : Plan → Turn → Table → Table

@@ -3,9 +3,9 @@ use Rattle.std.proofs.Common.{◌≡◌, ℕ, ◌+◌, ◌*◌, true, Option, So
 use Rattle.std.proofs.Math.Path.{fun_ext}
 use Rattle.fl_base.specs.declared.types.Geometry.{Geometry}
 use Rattle.fl_flash.specs.Flash.{FlashState, page_at}
-use Rattle.fl_index.specs.declared.index.Index.{Index}
+use Rattle.fl_index.specs.declared.index.BitmapIndex.{BitmapIndex}
 use Rattle.fl_index.specs.Memory as memory
-use Rattle.fl_index.proofs.Sealings.{planned-ring as index-ring}
+use Rattle.fl_index.proofs.SealEnds.{planned-ring as index-ring}
 use Rattle.fl_index.proofs.State.{shape_in as index_shape}
 use Rattle.fl_machine.proofs.Logs.{core, fine-lost}
 use Rattle.fl_model.specs.Bare.{bare, bare_table}
@@ -34,7 +34,7 @@ use Rattle.fl_rlc.specs.declared.table.LoggedTable.{LoggedTable}
 use Rattle.fl_rlc.proofs.Assembled.{bare-same, log-there, rests-of, stands-rest}
 use Rattle.fl_rlc.proofs.BareFacts.{bare-facts}
 use Rattle.fl_rlc.proofs.Frames.{log-bytes}
-use Rattle.fl_rlc.proofs.Keeping.{fine-of}
+use Rattle.fl_rlc.proofs.KeptRecords.{fine-of}
 
 -- one that stands rests without what is in memory
 pub logged-rests : {KNOTS SLOTS : ℕ} (t : LoggedTable KNOTS SLOTS) (f : FlashState) (first : ℕ) (plan : Plan) (s : Table) → Stands t f first plan s → Rests f first plan (lose s)
@@ -107,7 +107,7 @@ logged-beside t first plan old new planned outside page beside =
     outside page (subst (λ r. IsOutside r page) (sym (planned-ring t.table first (bare plan) planned.table)) (outside-ring first first plan.data_blocks plan (shape_in first (bare plan)) page refl refl (omega arith) (omega arith) beside))
     (by-index t.table.bitmaps planned.table.index) (by-var (data_in t.table) planned.table.var) (by-log t.log planned.log)
   where
-    by-index : (bitmaps : Option Index) → ArePlanned bitmaps (first + plan.data_blocks) (bare plan) → IfSome bitmaps (λ index. IsOutside (memory.ring_shape index) page)
+    by-index : (bitmaps : Option BitmapIndex) → ArePlanned bitmaps (first + plan.data_blocks) (bare plan) → IfSome bitmaps (λ index. IsOutside (memory.ring_shape index) page)
     by-index None p = tt
     by-index (Some index) p =
         subst (λ r. IsOutside r page) (sym (index-ring index (first + plan.data_blocks) (bare plan) p)) (outside-ring first (first + plan.data_blocks) plan.index_blocks plan (index_shape (first + plan.data_blocks) (bare plan)) page refl refl (omega arith) (omega arith) beside)

@@ -2,7 +2,7 @@
 use Rattle.std.proofs.Common.{ℕ, Bool, Option, refl, arith}
 use Rattle.fl_flash.specs.Flash.{FlashState, Goes}
 use Rattle.fl_flash.specs.declared.armed.Armed.{Armed}
-use Rattle.fl_table.proofs.StillStands.{lies-moved}
+use Rattle.fl_table.proofs.ReadsKeepTable.{lies-moved}
 use Rattle.fl_rlc.specs.Table.{LiesOn}
 use Rattle.fl_rlc.specs.declared.table.LoggedTable.{LoggedTable}
 use Rattle.fl_rlc.proofs.PutFrames.{log-lies}

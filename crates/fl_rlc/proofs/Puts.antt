@@ -14,7 +14,7 @@ use Rattle.fl_model.specs.Within.{TablePerforms, seals_within}
 use Rattle.fl_model.specs.Work.{Device, PartEnd, Whole, CutIn, FailedIn, PartProgress}
 use Rattle.fl_model.proofs.Bare.{bare-tables}
 use Rattle.fl_machine.specs.Found.{HasRoom}
-use Rattle.fl_machine.proofs.Adding.{Any, any-last}
+use Rattle.fl_machine.proofs.RecordsChange.{Any, any-last}
 use Rattle.fl_machine.proofs.Logs.{core, IsFine, lost}
 use Rattle.fl_machine.proofs.LogTables.{Between, put-goes, put-joined, join-goes-on}
 use Rattle.fl_ring.specs.Kept.{PagesStand}
@@ -29,7 +29,7 @@ use Rattle.fl_table.specs.Standing as table_words
 use Rattle.fl_table.specs.declared.table.Table as code
 use Rattle.fl_table.specs.declared.faults.PutRefusal.TheVariants.{Spent}
 use Rattle.fl_table.specs.Refusal.{refused_if}
-use Rattle.fl_table.proofs.Blobbing.{planned-none}
+use Rattle.fl_table.proofs.BlobsOfTable.{planned-none}
 use Rattle.fl_table.proofs.SealAnswers.{planned-shape}
 use Rattle.fl_var.specs.declared.var_data.VarData.{VarData}
 use Rattle.fl_table.proofs.Apart.{PagesApart, stands-apart}
@@ -44,7 +44,7 @@ use Rattle.fl_rlc.specs.declared.log.RecordLog.{RecordLog}
 use Rattle.fl_rlc.specs.declared.table.LoggedTable.{LoggedTable}
 use Rattle.fl_rlc.proofs.Assembled.{bare-same, log-there, stands-of, stands-rest, rests-of}
 use Rattle.fl_rlc.proofs.Frames.{log-bytes, log-still, table-still}
-use Rattle.fl_rlc.proofs.Keeping.{between-of}
+use Rattle.fl_rlc.proofs.KeptRecords.{between-of}
 use Rattle.fl_rlc.proofs.PutSteps.{put-is, put-then, put-fails}
 use Rattle.fl_rlc.proofs.Stops.{stops-fine, unbeside}
 

@@ -9,7 +9,7 @@ use Rattle.fl_model.specs.Ring.{Shape, Ring, IsRing, IsShape, oldest}
 use Rattle.fl_ring.specs.Head.{one}
 use Rattle.fl_ring.specs.Kept.{PagesStand}
 use Rattle.fl_ring.proofs.Modulo.{last_block}
-use Rattle.fl_ring.proofs.Moved.{least_is_alike}
+use Rattle.fl_ring.proofs.SamePlaces.{least_is_alike}
 
 -- the pages of a ring of so many pages, by their numbers
 abbrev pub on_ring : ℕ → ℕ → (ℕ → List ℕ) → ℕ → List ℕ

@@ -15,7 +15,7 @@ use Rattle.fl_ring.specs.Repairing.{ahead_first, VoidsNext, CleansAhead}
 use Rattle.fl_ring.specs.Ring.{Shape, place, room}
 use Rattle.fl_ring.specs.declared.ring.Ring.{Ring}
 use Rattle.fl_ring.proofs.Founds.{same_pages}
-use Rattle.fl_ring.proofs.Readings.{goes_more, goes_same}
+use Rattle.fl_ring.proofs.ReadsInTurn.{goes_more, goes_same}
 use Rattle.fl_ring.proofs.TornPages.{torn_there}
 use Rattle.fl_rlc.specs.Left.{IsRepaired}
 

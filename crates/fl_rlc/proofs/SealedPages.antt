@@ -4,7 +4,7 @@ use Rattle.std.proofs.Math.Nat.{add-mul, mul-le-mul_right}
 use Rattle.std.proofs.lemmas.Bool.{cases_lt}
 use Rattle.fl_flash.specs.Flash.{FlashState, page_at, pages, blank}
 use Rattle.fl_flash.specs.Places.{extent}
-use Rattle.fl_index.specs.declared.index.Index.{Index}
+use Rattle.fl_index.specs.declared.index.BitmapIndex.{BitmapIndex}
 use Rattle.fl_model.specs.Facts.{is_some_ring}
 use Rattle.fl_model.specs.Image.{HoldsRows, HoldsEntries}
 use Rattle.fl_model.specs.Layout.{is_blank}
@@ -95,7 +95,7 @@ module _ {K S : ℕ} (old_t t : code.Table K S) (f g : FlashState) (first : ℕ)
           no : false ≡ true → ⊥
           no e = cc
 
-      by-index : (o : Option Index) → ArePlanned o (first + plan.data_blocks) plan → Stand o g (first + plan.data_blocks) plan (after_seals plan (table_seals plan table) table) → IsLeft page
+      by-index : (o : Option BitmapIndex) → ArePlanned o (first + plan.data_blocks) plan → Stand o g (first + plan.data_blocks) plan (after_seals plan (table_seals plan table) table) → IsLeft page
       by-index None p s = absurd (omega (arith, low, high, ap (λ (b : ℕ). b * plan.geometry.block) p.0))
       by-index (Some index) p s =
           let after = after_seals plan (table_seals plan table) table in

@@ -6,7 +6,7 @@ use Rattle.fl_model.specs.Record.{Plan}
 use Rattle.fl_model.specs.Table.{Table, RingName}
 use Rattle.fl_model.specs.Within.{effect_within, TablePerforms}
 use Rattle.fl_model.specs.Work.{Kind, Ending, AsBefore, AsAfter, Either, Leaves, ending_of, Device, cut_now, counted, PartEnd, Whole, CutIn, FailedIn, PartProgress, PartFirst}
-use Rattle.fl_machine.proofs.Adding.{Any}
+use Rattle.fl_machine.proofs.RecordsChange.{Any}
 use Rattle.fl_machine.proofs.Logs.{core, IsFine, lost}
 use Rattle.fl_machine.proofs.LogTables.{Goes, Stops}
 

@@ -6,15 +6,15 @@ use Rattle.std.proofs.lemmas.Bool.{ltb-true}
 use Rattle.fl_base.specs.declared.types.Geometry.{Geometry}
 use Rattle.fl_flash.specs.Flash.{FlashState, Goes, page_at}
 use Rattle.fl_index.specs.Memory as memory
-use Rattle.fl_index.specs.declared.index.Index.{Index}
-use Rattle.fl_index.proofs.Sealings.{planned-ring as index-ring}
+use Rattle.fl_index.specs.declared.index.BitmapIndex.{BitmapIndex}
+use Rattle.fl_index.proofs.SealEnds.{planned-ring as index-ring}
 use Rattle.fl_model.specs.Record.{Plan, blocks_of}
 use Rattle.fl_ring.specs.Looking.{OnlyReads}
 use Rattle.fl_ring.specs.Mounting.{HasNumbers}
 use Rattle.fl_ring.specs.Ring.{Shape}
 use Rattle.fl_ring.specs.declared.ring.Ring.{Ring}
 use Rattle.fl_ring.proofs.Founds.{same_pages}
-use Rattle.fl_ring.proofs.Readings.{goes_more, goes_same}
+use Rattle.fl_ring.proofs.ReadsInTurn.{goes_more, goes_same}
 use Rattle.fl_table.specs.Bitmaps.{ArePlanned}
 use Rattle.fl_table.specs.BlobEnds.{least_of}
 use Rattle.fl_table.specs.BlobMount.{FindsBlobs}
@@ -23,8 +23,8 @@ use Rattle.fl_table.specs.Memory.{IsPlanned, ring_shape}
 use Rattle.fl_table.specs.Mounting.{FindsBy, FindsBitmaps, FindsPages}
 use Rattle.fl_table.specs.declared.counts.Mounted.{Mounted}
 use Rattle.fl_table.specs.declared.table.Table.{Table}
-use Rattle.fl_table.proofs.Blobbing as blobbing
-use Rattle.fl_table.proofs.Indexing.{planned-some}
+use Rattle.fl_table.proofs.BlobsOfTable as blobbing
+use Rattle.fl_table.proofs.IndexOfTable.{planned-some}
 use Rattle.fl_table.proofs.SealAnswers.{planned-shape, planned-ring}
 use Rattle.fl_var.specs.Memory.{var_shape}
 use Rattle.fl_var.specs.declared.var_data.VarData.{VarData}
@@ -61,7 +61,7 @@ module _ (plan : Plan) (pages : 2 ≤ plan.geometry.block) where
       (subst (λ (s : Shape). HasNumbers old s least ring new) is h) in
       (all.0, subst (λ (n : ℕ). Repairs plan.geometry.page (at * plan.geometry.block) n (page_at old) (page_at new)) (sym (add-mul at blocks plan.geometry.block)) all.1)
 
-  index-found : (bitmaps now : Option Index) (old new : FlashState) (end : Option ℕ) (first : ℕ) → ArePlanned bitmaps first plan → IsTrue old.media.tells → old.geometry ≡ plan.geometry → FindsBitmaps bitmaps old end now new → RepairsBlocks plan first plan.index_blocks old new
+  index-found : (bitmaps now : Option BitmapIndex) (old new : FlashState) (end : Option ℕ) (first : ℕ) → ArePlanned bitmaps first plan → IsTrue old.media.tells → old.geometry ≡ plan.geometry → FindsBitmaps bitmaps old end now new → RepairsBlocks plan first plan.index_blocks old new
   index-found None None old new end first planned told geometry h = none-there plan first plan.index_blocks old new h.1
   index-found None (Some now) old new end first planned told geometry h = absurd h
   index-found (Some index) None old new end first planned told geometry h = absurd h

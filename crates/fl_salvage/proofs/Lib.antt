@@ -1,7 +1,7 @@
-pub mod Looking
+pub mod MediaOnlyRead
 pub mod Lines
 pub mod Pieces
-pub mod Reading
-pub mod Ending
-pub mod Counting
-pub mod Giving
+pub mod SourceToEnd
+pub mod SalvageEnds
+pub mod CountedPages
+pub mod GivenConfig

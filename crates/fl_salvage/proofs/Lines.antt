@@ -5,7 +5,7 @@ use Rattle.fl_base.specs.Causes.{Appends, AppendsFront}
 use Rattle.fl_csv.specs.Text.{Blob, entry_text}
 use Rattle.fl_model.specs.Row.{Row}
 use Rattle.fl_script.specs.Written.{Written}
-use Rattle.fl_script.proofs.Sending.{Sent, sent-piece, sent-failed, appends-append}
+use Rattle.fl_script.proofs.SinkPieces.{Sent, sent-piece, sent-failed, appends-append}
 use Rattle.fl_salvage.specs.Text.{Form, blob_told, row_text}
 
 pub appends-none : (o : Option (List ℕ)) → Appends o o []

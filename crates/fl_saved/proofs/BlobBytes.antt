@@ -13,7 +13,7 @@ use Rattle.fl_model.specs.Table.{Table, Entry}
 use Rattle.fl_model.proofs.Lists.{slice_get-short, slice_get-take}
 use Rattle.fl_salvage.specs.Blobs.{content_at, content_room}
 use Rattle.fl_salvage.specs.Ends.{form_at}
-use Rattle.fl_saved.proofs.Rings.{IsHere, size_is}
+use Rattle.fl_saved.proofs.RingsOfImage.{IsHere, size_is}
 use Rattle.fl_saved.proofs.VarPages.{used_of, known-content}
 use Rattle.fl_saved.proofs.WholeBlobs.{HoldBytes}
 

@@ -18,7 +18,7 @@ use Rattle.fl_salvage.specs.Ends.{form_at}
 use Rattle.fl_salvage.specs.Text.{blob_told, told_bytes}
 use Rattle.fl_salvage.specs.Text as salvage
 use Rattle.fl_saved.proofs.BlobBytes.{blob-held}
-use Rattle.fl_saved.proofs.Rings.{IsHere, facts, idle}
+use Rattle.fl_saved.proofs.RingsOfImage.{IsHere, facts, idle}
 use Rattle.fl_export.specs.Text.{told_blob}
 use Rattle.fl_saved.proofs.VarPages.{gone-content}
 use Rattle.fl_saved.proofs.WholeBlobs.{found-whole, found-gone}

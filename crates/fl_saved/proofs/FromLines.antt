@@ -20,7 +20,7 @@ use Rattle.fl_schema.specs.declared.schema.KeyWidth.TheVariants.{Four, Eight}
 use Rattle.fl_table.proofs.KeptPages.{sum-next}
 use Rattle.fl_words.specs.Command.{TableLine}
 use Rattle.fl_words.specs.Config.{Lines, columns_in, device_faults, first_fault, plan_of, table_faults}
-use Rattle.fl_saved.proofs.Rings.{IsHere, IsMadePlan}
+use Rattle.fl_saved.proofs.RingsOfImage.{IsHere, IsMadePlan}
 
 -- a key of 4 or 8 bytes
 record IsKeyOf (bytes : ℕ) : Type 0 where

@@ -3,9 +3,9 @@ pub mod Gathered
 pub mod WholeBlobs
 pub mod Places
 pub mod States
-pub mod Rings
+pub mod RingsOfImage
 pub mod RowPages
-pub mod Passing
+pub mod PassedPages
 pub mod VarPages
 pub mod BlobBytes
 pub mod BlobsTold

@@ -23,7 +23,7 @@ use Rattle.fl_model.proofs.Lists.{slice_get-short, slice_get-drop, slice_get-fro
 use Rattle.fl_page.specs.Header.{page_number, page_count}
 use Rattle.fl_page.specs.Page.{IsGoodPage, rows_in}
 use Rattle.fl_page.proofs.DataPages.{IsDataPage, data_page}
-use Rattle.fl_page.proofs.Gathering.{layout_some}
+use Rattle.fl_page.proofs.WriterSteps.{layout_some}
 use Rattle.fl_ring.proofs.Found.{committed_state}
 use Rattle.fl_table.proofs.BlobEnds.{AreNumbered}
 use Rattle.fl_table.proofs.KeptPages.{all-stored, sum-next}
@@ -35,7 +35,7 @@ use Rattle.fl_salvage.specs.Ends.{form_at}
 use Rattle.fl_saved.proofs.Gathered.{gather, gather-next, gather-turned, number-of-place, number_if, if_some}
 use Rattle.fl_saved.proofs.Places.{IsKept, IsOther, count_of, kept-count, placed, uncommitted, no-number}
 use Rattle.fl_saved.proofs.States.{state_in, state-is}
-use Rattle.fl_saved.proofs.Rings.{IsHere, facts, idle, rows-at, rows-size}
+use Rattle.fl_saved.proofs.RingsOfImage.{IsHere, facts, idle, rows-at, rows-size}
 
 -- a committed page
 pub state-committed : (body page : List ℕ) → page ≡ committed body → state_of_page page ≡ Committed

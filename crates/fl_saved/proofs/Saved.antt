@@ -30,8 +30,8 @@ use Rattle.fl_saved.specs.Saved.{HasAllKeys, IsErased, IsSaved, IsUndamaged, Sav
 use Rattle.fl_saved.specs.ShortBlobs.{HasShortBlobs}
 use Rattle.fl_export.specs.Text.{said_of, table_text}
 use Rattle.fl_saved.proofs.FromLines.{here-from}
-use Rattle.fl_saved.proofs.Passing.{passed}
-use Rattle.fl_saved.proofs.Rings.{IsHere, facts}
+use Rattle.fl_saved.proofs.PassedPages.{passed}
+use Rattle.fl_saved.proofs.RingsOfImage.{IsHere, facts}
 use Rattle.fl_saved.proofs.Texts.{saved}
 
 -- a range of all keys selects all records

@@ -19,7 +19,7 @@ use Rattle.fl_saved.proofs.BlobsTold.{blob-is}
 use Rattle.fl_saved.proofs.Gathered.{gather, gather-add, gather-none, gather-parts, flat-gather, number_if, if_some, gathered-rise}
 use Rattle.fl_saved.proofs.Orders.{sorted-is}
 use Rattle.fl_saved.proofs.Places.{IsKept, count_of, kept-count}
-use Rattle.fl_saved.proofs.Rings.{IsHere, facts, rows-at}
+use Rattle.fl_saved.proofs.RingsOfImage.{IsHere, facts, rows-at}
 use Rattle.fl_saved.proofs.RowPages.{among, ascending, counted, kept-rows, kept-round, numbers-are}
 use Rattle.fl_export.specs.Text.{said_of}
 

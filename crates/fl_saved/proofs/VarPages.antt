@@ -25,7 +25,7 @@ use Rattle.fl_salvage.specs.Ends.{form_at}
 use Rattle.fl_salvage.specs.Pages.{numbered, page_of}
 use Rattle.fl_saved.proofs.Gathered.{number-of-place}
 use Rattle.fl_saved.proofs.Places.{IsKept, IsOther, placed, uncommitted, no-content}
-use Rattle.fl_saved.proofs.Rings.{IsHere, facts, var-at, var-size, pages_is, size_is}
+use Rattle.fl_saved.proofs.RingsOfImage.{IsHere, facts, var-at, var-size, pages_is, size_is}
 use Rattle.fl_saved.proofs.RowPages.{state-committed}
 
 -- the bytes of content that a page uses

@@ -1,5 +1,5 @@
 pub mod Numbers
 pub mod Places
-pub mod Writing
+pub mod RowColumns
 pub mod References
 pub mod RoundTrip

@@ -10,7 +10,7 @@ use Rattle.std.specs.List.{list_all}
 use Rattle.std.specs.Int.{w16, w32, from_le_bytes}
 use Rattle.fl_base.specs.Bytes.{splice}
 use Rattle.fl_base.proofs.Ranges.{drop-splice}
-use Rattle.fl_schema.proofs.Writing.{take-splice_end}
+use Rattle.fl_schema.proofs.RowColumns.{take-splice_end}
 use Rattle.fl_base.specs.declared.types.BlobRef.{BlobRef}
 use Rattle.fl_model.specs.Row.{number_of, reference_in}
 

@@ -1,4 +1,4 @@
-pub mod Sending
+pub mod SinkPieces
 pub mod Digits16
 pub mod Blobs
 pub mod Blocks
@@ -8,8 +8,8 @@ pub mod Few
 pub mod Lists
 pub mod Long
 pub mod Puts
-pub mod Reading
+pub mod LineForms
 pub mod Spaces
-pub mod Splitting
+pub mod WordsOfLine
 pub mod Texts
 pub mod RowTexts

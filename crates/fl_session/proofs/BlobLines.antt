@@ -7,7 +7,7 @@ use Rattle.fl_flash.specs.Flash.{FlashState}
 use Rattle.fl_page.specs.Contents.{IsCaused}
 use Rattle.fl_page.specs.declared.fault.ReadFault.{ReadFault}
 use Rattle.fl_page.specs.declared.fault.ReadFault.TheVariants.{Flash, BadPage}
-use Rattle.fl_script.proofs.Sending.{appends-append, sent-failed, written-err}
+use Rattle.fl_script.proofs.SinkPieces.{appends-append, sent-failed, written-err}
 use Rattle.fl_script.specs.Written.{Written}
 use Rattle.fl_search.specs.Search.{RoseSome}
 use Rattle.fl_var.specs.Reading.{count_left, pages_left, has_here, bytes_left, Reads, IsWholeIn, NoneBad}

@@ -50,7 +50,7 @@ use Rattle.fl_words.specs.Reply as words
 use Rattle.fl_words.specs.Reply.{text}
 use Rattle.fl_session.specs.BlobLine.{ShowsBytes, read_reply}
 use Rattle.fl_session.specs.BlobShown.{found_in, IfNamed, FindsBlob, NamesBlob, SaysBlob, ShowsBlob}
-use Rattle.fl_session.proofs.Executing.{one-text}
+use Rattle.fl_session.proofs.ExecutedCommand.{one-text}
 use Rattle.fl_session.proofs.Lookups.{found-place}
 
 same-some : {X : Type 0} (a b : X) → Some a ≡ Some b → a ≡ b

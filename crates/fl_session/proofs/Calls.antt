@@ -28,11 +28,11 @@ use Rattle.fl_store.specs.Replies.{put_reply, flush_reply}
 use Rattle.fl_session.specs.Notes.{without_cursors}
 use Rattle.fl_session.specs.declared.notes.Notes.{Notes}
 use Rattle.fl_session.specs.Standing.{SessionStands}
-use Rattle.fl_session.proofs.Answering.{answers-media}
+use Rattle.fl_session.proofs.CommandReplies.{answers-media}
 use Rattle.fl_session.proofs.MountsOf.{Repairs, stands-powered, mount-watched, mount-answers, answers-already}
-use Rattle.fl_session.proofs.Owning.{own-of}
+use Rattle.fl_session.proofs.NamedTable.{own-of}
 use Rattle.fl_store.proofs.Risen.{has_risen}
-use Rattle.fl_session.proofs.Working.{session-watched, put-answers, flush-answers}
+use Rattle.fl_session.proofs.PutsAndFlushes.{session-watched, put-answers, flush-answers}
 
 pub put-call : (config : Config) (old : Machine) (entries : List Entry) (at : ℕ) (entry : Entry) (u : LoggedTable 64 64) (asked : List ℕ) (notes : Notes) (f g : FlashState) (mounted : Bool) (key : ℕ) (values : List ℤ) (blob : Option (List ℕ)) (result : Result (Unit {0}) PutRefusal) (breaks : Bool) (said : List ℕ) →
     SessionStands config entries f mounted notes old → IsReached entries mounted asked at → slice_get entries at ≡ Some entry → Goes f g → IsSamePlan entry.table u → (IsTrue f.media.tells → OutsideStands entry.table (page_at f) (page_at g)) →

@@ -23,7 +23,7 @@ use Rattle.fl_machine.specs.Machine.{Machine, OpenCursor}
 use Rattle.fl_machine.specs.OpenCursors.{IsWithin, IsOpenWithin, AreWithin}
 use Rattle.fl_machine.specs.Reads.{none_read, lowest_of, OnCursor, FaultHasRead, LimitOf}
 use Rattle.fl_machine.proofs.OpenCursors.{within-at}
-use Rattle.fl_machine.proofs.Stays.{moment-same}
+use Rattle.fl_machine.proofs.BytesStay.{moment-same}
 use Rattle.fl_model.specs.Limits.{scan_limit}
 use Rattle.fl_machine.specs.Step.{Moment, StepOf, Says, NextStep, cursor_at}
 use Rattle.fl_ring.specs.Device.{ArmsAs}
@@ -32,7 +32,7 @@ use Rattle.fl_script.specs.Written.{Written}
 use Rattle.fl_table.specs.Memory.{LiesOn}
 use Rattle.fl_table.specs.Standing.{Stands}
 use Rattle.fl_table.specs.declared.table.Table.{Table}
-use Rattle.fl_table.proofs.StillStands.{lies-moved}
+use Rattle.fl_table.proofs.ReadsKeepTable.{lies-moved}
 use Rattle.fl_store.specs.declared.tables.Entry.{Entry}
 use Rattle.fl_store.specs.Tables.{first_of}
 use Rattle.fl_store.proofs.TablesChanged.{at-place}
@@ -43,10 +43,10 @@ use Rattle.fl_session.specs.Notes.{cursor_of}
 use Rattle.fl_session.specs.declared.notes.Notes.{Notes}
 use Rattle.fl_session.specs.declared.notes.TableCursor.{TableCursor}
 use Rattle.fl_session.specs.Standing.{SessionStands}
-use Rattle.fl_session.proofs.Answering.{answers-saying, executes-answered, saying, says}
-use Rattle.fl_session.proofs.Costing.{read-none}
+use Rattle.fl_session.proofs.CommandReplies.{answers-saying, executes-answered, saying, says}
+use Rattle.fl_session.proofs.CountedReads.{read-none}
 use Rattle.fl_session.proofs.CursorsOf.{cursor-told}
-use Rattle.fl_session.proofs.Getting.{goes-reads, tables-looked}
+use Rattle.fl_session.proofs.GetReplies.{goes-reads, tables-looked}
 use Rattle.fl_session.proofs.Rested.{session-ends}
 use Rattle.fl_store.proofs.Queried.{stands-unlogged}
 use Rattle.fl_session.proofs.Unlogged.{nexts-unlogged}

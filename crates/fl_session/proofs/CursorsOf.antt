@@ -30,9 +30,9 @@ use Rattle.fl_session.specs.Notes.{cursor_of, cursors_of}
 use Rattle.fl_session.specs.declared.notes.Notes.{Notes}
 use Rattle.fl_session.specs.declared.notes.TableCursor.{TableCursor}
 use Rattle.fl_session.specs.Standing.{SessionStands}
-use Rattle.fl_session.proofs.Answering.{answers-saying, saying, says, step-is, table-step}
-use Rattle.fl_session.proofs.Owning.{own-of}
-use Rattle.fl_session.proofs.Refusing.{answers-refused}
+use Rattle.fl_session.proofs.CommandReplies.{answers-saying, saying, says, step-is, table-step}
+use Rattle.fl_session.proofs.NamedTable.{own-of}
+use Rattle.fl_session.proofs.RefusedCommands.{answers-refused}
 use Rattle.fl_store.proofs.Queried.{stands-unlogged}
 
 -- the cursor with a number

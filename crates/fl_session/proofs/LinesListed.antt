@@ -14,7 +14,7 @@ use Rattle.fl_script.specs.declared.reply.Reply.{Reply}
 use Rattle.fl_session.specs.Lines.{IsFirstLine, LineSteps, ListsAll}
 use Rattle.fl_session.specs.Listed.{FaultIsRead}
 use Rattle.fl_session.specs.declared.listing.ListFault.TheVariants.{Sink, Read}
-use Rattle.fl_session.proofs.Executing.{one-text}
+use Rattle.fl_session.proofs.ExecutedCommand.{one-text}
 use Rattle.fl_session.proofs.ListsAll.{lists-then, lists-stop}
 use Rattle.fl_session.proofs.Resumed.{read-counted}
 use Rattle.fl_store.proofs.Appends.{appends-none}

@@ -4,7 +4,7 @@ use Rattle.std.proofs.lemmas.Grind.{flat_map-append}
 use Rattle.std.proofs.lemmas.List.{take-append-le}
 use Rattle.fl_base.specs.Causes.{Rose, Appends}
 use Rattle.fl_page.specs.declared.fault.ReadFault.TheVariants.{Flash, BadPage}
-use Rattle.fl_script.proofs.Sending.{appends-append, sent-failed}
+use Rattle.fl_script.proofs.SinkPieces.{appends-append, sent-failed}
 use Rattle.fl_words.specs.Reply.{Reply, text, texts}
 use Rattle.fl_session.specs.Lines.{ListsAll}
 use Rattle.fl_session.specs.declared.listing.ListFault.{ListFault}

@@ -10,7 +10,7 @@ use Rattle.fl_words.specs.Reply as reply
 use Rattle.fl_words.specs.Reply.{Reply, text, texts}
 use Rattle.fl_machine.specs.Machine.{Machine}
 use Rattle.fl_machine.specs.Step.{LoadStep}
-use Rattle.fl_script.proofs.Sending.{appends-append}
+use Rattle.fl_script.proofs.SinkPieces.{appends-append}
 use Rattle.fl_script.specs.ReplyView.{reply_text}
 use Rattle.fl_script.specs.Written.{Written}
 use Rattle.fl_script.specs.declared.reply.Reply as code
@@ -24,8 +24,8 @@ use Rattle.fl_store.specs.Replies.{put_reply}
 use Rattle.fl_session.specs.Execute.{Executes}
 use Rattle.fl_session.specs.declared.notes.Notes.{Notes}
 use Rattle.fl_session.specs.Standing.{SessionStands}
-use Rattle.fl_session.proofs.Answering.{executes-answered, step-is}
-use Rattle.fl_session.proofs.Refusing.{answers-refused}
+use Rattle.fl_session.proofs.CommandReplies.{executes-answered, step-is}
+use Rattle.fl_session.proofs.RefusedCommands.{answers-refused}
 
 -- a front of a line is one of all lines
 front-of_more : (told now : Option (List ℕ)) (line others : List ℕ) → AppendsFront told now line → AppendsFront told now (line ++ others)

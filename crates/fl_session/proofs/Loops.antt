@@ -22,9 +22,9 @@ use Rattle.fl_lines.specs.declared.lines.LinesFault.TheVariants.{Failed, Long}
 use Rattle.fl_session.specs.declared.status.Status.{Status}
 use Rattle.fl_session.specs.declared.status.Status.TheVariants.{Line, ScriptRead, ScriptLong}
 use Rattle.fl_lines.specs.Given.{Given}
-use Rattle.fl_lines.proofs.Reading.{given-few, given-over, given-none, given-line, given-last, given-all, given-taken, given-most, given-too_long, IsTooLong}
-use Rattle.fl_session.proofs.Accepting.{AllRun, all_run-none, all_run-more, all_run-all, all_run-refused, accepted-more, too_long-command}
-use Rattle.fl_session.proofs.Running.{RanSoFar, none-counted, ran-more, ran-into}
+use Rattle.fl_lines.proofs.LinesInTurn.{given-few, given-over, given-none, given-line, given-last, given-all, given-taken, given-most, given-too_long, IsTooLong}
+use Rattle.fl_session.proofs.AcceptedLines.{AllRun, all_run-none, all_run-more, all_run-all, all_run-refused, accepted-more, too_long-command}
+use Rattle.fl_session.proofs.NextCommand.{RanSoFar, none-counted, ran-more, ran-into}
 
 -- what the loop is told, but for the session
 abbrev pub around_to : Config → List ℕ → List ℕ → ℕ → ℕ → Option (List ℕ) → Option (List ℕ) → Around

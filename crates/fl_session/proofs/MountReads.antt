@@ -30,8 +30,8 @@ use Rattle.fl_session.specs.Cost.{ReadsMount}
 use Rattle.fl_session.specs.Execute.{Executes}
 use Rattle.fl_session.specs.Standing.{SessionStands}
 use Rattle.fl_session.specs.declared.notes.Notes.{Notes}
-use Rattle.fl_session.proofs.Answering.{step-is}
-use Rattle.fl_session.proofs.Executing.{executes-by}
+use Rattle.fl_session.proofs.CommandReplies.{step-is}
+use Rattle.fl_session.proofs.ExecutedCommand.{executes-by}
 use Rattle.fl_session.proofs.MountsOf.{stands-powered, mount-watched}
 use Rattle.fl_store.proofs.Risen.{has_risen}
 

@@ -29,11 +29,11 @@ use Rattle.fl_store.specs.Replies.{fault_reply}
 use Rattle.fl_session.specs.Notes.{without_cursors}
 use Rattle.fl_session.specs.declared.notes.Notes.{Notes}
 use Rattle.fl_session.specs.Standing.{SessionStands}
-use Rattle.fl_session.proofs.Answering.{answers-saying, saying, says, step-is}
-use Rattle.fl_session.proofs.Executing.{one-text}
+use Rattle.fl_session.proofs.CommandReplies.{answers-saying, saying, says, step-is}
+use Rattle.fl_session.proofs.ExecutedCommand.{one-text}
 use Rattle.fl_session.proofs.Rested.{session-ends}
-use Rattle.fl_session.proofs.Repairing.{mount-stays, pages-repaired}
-use Rattle.fl_store.proofs.Reading.{tables-kept}
+use Rattle.fl_session.proofs.MountRepairs.{mount-stays, pages-repaired}
+use Rattle.fl_store.proofs.TablesOnlyRead.{tables-kept}
 use Rattle.fl_store.proofs.Risen.{has_risen, risen-rose, watched}
 use Rattle.fl_store.proofs.Worked.{medium-goes}
 

@@ -36,11 +36,11 @@ use Rattle.fl_session.specs.Execute.{Executes}
 use Rattle.fl_session.specs.Lines.{Counted}
 use Rattle.fl_session.specs.Standing.{SessionStands}
 use Rattle.fl_session.specs.declared.notes.Notes.{Notes}
-use Rattle.fl_session.proofs.Answering.{executes-answered, executes-read, answers-saying, saying, says, step-is, table-step}
-use Rattle.fl_session.proofs.Costing.{read-none}
-use Rattle.fl_session.proofs.Getting.{session-read, on-table, off-table}
-use Rattle.fl_session.proofs.Owning.{own-of}
-use Rattle.fl_session.proofs.Refusing.{answers-refused}
+use Rattle.fl_session.proofs.CommandReplies.{executes-answered, executes-read, answers-saying, saying, says, step-is, table-step}
+use Rattle.fl_session.proofs.CountedReads.{read-none}
+use Rattle.fl_session.proofs.GetReplies.{session-read, on-table, off-table}
+use Rattle.fl_session.proofs.NamedTable.{own-of}
+use Rattle.fl_session.proofs.RefusedCommands.{answers-refused}
 use Rattle.fl_session.proofs.Scanned.{on-ok-weaker}
 use Rattle.fl_store.proofs.Queried.{planned-unlogged, stands-unlogged}
 

@@ -34,9 +34,9 @@ use Rattle.fl_session.specs.ScriptEnds.{unsaid, start_in, ScriptEnds}
 use Rattle.fl_words.specs.Medium.{header}
 use Rattle.fl_config.specs.Opening as opening
 use Rattle.fl_config.specs.Opening.{Opens}
-use Rattle.fl_session.proofs.Running.{nothing-added}
+use Rattle.fl_session.proofs.NextCommand.{nothing-added}
 use Rattle.fl_session.proofs.Ready.{ready-accepted, stands-ready}
-use Rattle.fl_session.proofs.Ending.{runs-seen, ends-over, begins-ready, ends-making, ends-other}
+use Rattle.fl_session.proofs.RunEnds.{runs-seen, ends-over, begins-ready, ends-making, ends-other}
 use Rattle.fl_session.proofs.Rested.{session-ends, opened-rests, opened-content, opened-formed}
 
 no-cursor : (n i : ℕ) (c : TableCursor) → slice_get (replicate n None) i ≡ Some (Some c) → ⊥

@@ -19,7 +19,7 @@ use Rattle.fl_machine.specs.Found.{HasRoom}
 use Rattle.fl_machine.specs.Script.{StandsFor, StandsAfter}
 use Rattle.fl_machine.specs.Stays.{MomentStays}
 use Rattle.fl_machine.specs.Step.{Moment}
-use Rattle.fl_machine.proofs.Stays.{moment-same}
+use Rattle.fl_machine.proofs.BytesStay.{moment-same}
 use Rattle.fl_store.proofs.Images.{images-of, tables-image}
 use Rattle.fl_store.proofs.TablesChanged.{some-is}
 use Rattle.fl_store.proofs.Unmounted.{off}

@@ -12,7 +12,7 @@ use Rattle.fl_script.specs.Written.{Written}
 use Rattle.fl_table.specs.BlobAt.{has_blobs}
 use Rattle.fl_table.specs.Standing.{Stands}
 use Rattle.fl_table.specs.declared.table.Table.{Table}
-use Rattle.fl_script.proofs.Sending.{appends-append, sent-failed}
+use Rattle.fl_script.proofs.SinkPieces.{appends-append, sent-failed}
 use Rattle.fl_words.specs.Reply as reply
 use Rattle.fl_words.specs.Reply.{Reply, text, texts}
 use Rattle.fl_session.specs.BlobNotes.{note_of}

@@ -12,8 +12,8 @@ use Rattle.fl_rlc.specs.Table.{LiesOn, is_running}
 use Rattle.fl_rlc.specs.declared.table.LoggedTable.{LoggedTable}
 use Rattle.fl_store.specs.Tables.{entries_with}
 use Rattle.fl_store.specs.declared.tables.Entry.{Entry}
-use Rattle.fl_store.proofs.Going.{goes-set}
-use Rattle.fl_store.proofs.Lying.{lie-on, lie-with, running-with}
+use Rattle.fl_store.proofs.CallsInTurn.{goes-set}
+use Rattle.fl_store.proofs.TablesLie.{lie-on, lie-with, running-with}
 use Rattle.fl_store.proofs.TablesChanged.{set-here, set-elsewhere}
 use Rattle.fl_session.specs.Standing.{HasRooms, IsSound}
 use Rattle.fl_session.specs.declared.buffers.Buffers.{Buffers}

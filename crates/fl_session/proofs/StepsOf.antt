@@ -21,11 +21,11 @@ use Rattle.fl_session.specs.Runnable.{IsRunnable}
 use Rattle.fl_session.specs.Execute.{Executes}
 use Rattle.fl_session.specs.declared.notes.Notes.{Notes}
 use Rattle.fl_session.specs.Standing.{SessionStands}
-use Rattle.fl_session.proofs.Answering.{answers-saying, saying, says}
-use Rattle.fl_session.proofs.Executing.{executes-by}
+use Rattle.fl_session.proofs.CommandReplies.{answers-saying, saying, says}
+use Rattle.fl_session.proofs.ExecutedCommand.{executes-by}
 use Rattle.fl_session.proofs.Rested.{stays-still}
-use Rattle.fl_session.proofs.Running.{nothing-added}
-use Rattle.fl_store.proofs.Reading.{tables-kept}
+use Rattle.fl_session.proofs.NextCommand.{nothing-added}
+use Rattle.fl_store.proofs.TablesOnlyRead.{tables-kept}
 
 -- nothing is done
 pub executes-nothing : (E : Type 0) (config : Config) (old : Machine) (c : Command) (entries : List Entry) (notes : Notes) (f : FlashState) (mounted : Bool) (told : Option (List ℕ)) → c ≡ command.Nothing → SessionStands config entries f mounted notes old →

@@ -35,7 +35,7 @@ use Rattle.fl_shell.specs.Heard.{Kept, IsFullOnFault}
 use Rattle.fl_shell.specs.Refusal.{line_of}
 use Rattle.fl_shell.specs.Talk.{first_text, groups_of}
 use Rattle.fl_shell.specs.Turning.{TellsFirst}
-use Rattle.fl_shell.proofs.Flushing.{heard-all, heard-over, unsaid}
+use Rattle.fl_shell.proofs.TableFlushes.{heard-all, heard-over, unsaid}
 use Rattle.fl_shell.proofs.GroupLines.{AreHalves, all-filter, all-groups, begins-short, replies-short}
 
 -- ---- the rows of a table

@@ -16,7 +16,7 @@ use Rattle.fl_machine.proofs.FewReads.{most_of_a_scan, scan-of-name}
 use Rattle.fl_session.specs.Execute.{Executes, IsReady}
 use Rattle.fl_session.specs.Keys.{all_keys}
 use Rattle.fl_session.specs.Oldest.{reads_of}
-use Rattle.fl_session.proofs.Running.{at_end, ran-none, ran-further, ran-further_moments}
+use Rattle.fl_session.proofs.NextCommand.{at_end, ran-none, ran-further, ran-further_moments}
 use Rattle.fl_shell.specs.Flushing.{RanThese}
 use Rattle.fl_shell.specs.Turning.{Looked}
 

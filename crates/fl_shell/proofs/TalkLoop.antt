@@ -25,7 +25,7 @@ use Rattle.fl_shell.specs.declared.end.ShellStatus.{ShellStatus}
 use Rattle.fl_shell.specs.declared.end.ShellStatus.TheVariants.{Done, InputRead, OutWrite, InputLong, Unflushed}
 use Rattle.fl_shell.proofs.LongLines.{long-own, long-runs}
 use Rattle.fl_shell.proofs.Ran.{ran-kept, ran-stands, restood}
-use Rattle.fl_shell.proofs.Talking.{causes-later, talked-more, talked-into, talked-none}
+use Rattle.fl_shell.proofs.AnsweredLines.{causes-later, talked-more, talked-into, talked-none}
 
 -- ---- a line that is too long
 

@@ -7,12 +7,12 @@ use Rattle.fl_image.specs.Header.{IsAccepted}
 use Rattle.fl_image.specs.Image.{IsImageOf, OnlyLooksAt}
 use Rattle.fl_image.specs.declared.status.ToolStatus.{ToolStatus}
 use Rattle.fl_image.specs.declared.status.ToolStatus.TheVariants as job
-use Rattle.fl_store.proofs.Locating.{find-first}
+use Rattle.fl_store.proofs.TableByName.{find-first}
 use Rattle.fl_model.specs.Record.{Plan}
 use Rattle.fl_model.proofs.Lists.{slice_get-some}
 use Rattle.fl_store.specs.MountEnds.{Keeps}
 use Rattle.fl_store.proofs.Opened.{keeps-then, looks-keeps}
-use Rattle.fl_store.proofs.Locating.{first-named, name-none, new-named, none-named}
+use Rattle.fl_store.proofs.TableByName.{first-named, name-none, new-named, none-named}
 use Rattle.fl_store.specs.Tables.{AreNewTables, IsNamed, Names}
 use Rattle.fl_store.specs.declared.tables.Entry.{Entry}
 use Rattle.fl_words.specs.Config.{Lines}

@@ -2,7 +2,7 @@
 use Rattle.std.proofs.Common.{◌≡◌, ℕ, Bool, true, false, ◌||◌, not, Some, List, length, refl, sym, ◌∙◌, ap, arith}
 use Rattle.std.specs.List.{slice_get}
 use Rattle.std.proofs.lemmas.Option.{slice_get_within}
-use Rattle.fl_store.proofs.Locating.{new-named, first-named}
+use Rattle.fl_store.proofs.TableByName.{new-named, first-named}
 use Rattle.fl_model.specs.Bare.{bare}
 use Rattle.fl_model.specs.Record.{Plan, RowLayout, has_log, has_var, row_layout}
 use Rattle.fl_model.proofs.Lists.{slice_get-some}

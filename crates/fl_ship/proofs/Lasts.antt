@@ -9,12 +9,12 @@ use Rattle.fl_model.specs.Ring.{IsShape, Ring, Shape, extended, given_up, is_ful
 use Rattle.fl_model.specs.Ship.{records_in, to_ship}
 use Rattle.fl_model.specs.Table.{Table, Entry, RingName, DataRing, IndexRing, VarRing, LogRing, after_seal, after_seals, blob_len, fill, flushed, join_seals, lose, put_joined, put_record, shape_of, start_offset, start_page, table_seals, with_room}
 use Rattle.fl_model.proofs.ShipWork.{map-append, map-drop}
-use Rattle.fl_model.proofs.Shipping.{ships-all, ships-parts}
+use Rattle.fl_model.proofs.CopiesAreParts.{ships-all, ships-parts}
 use Rattle.fl_machine.proofs.LogTables.{seals_by}
 use Rattle.fl_ship.specs.Ends.{shipped_records}
 use Rattle.fl_ship.specs.Laws.{ShipsLeaveParts, ShipsReachTheEnd}
 use Rattle.fl_ship.specs.Puts.{put_all}
-use Rattle.fl_ship.proofs.Keeping.{ships-keep}
+use Rattle.fl_ship.proofs.KeptRecords.{ships-keep}
 
 -- ---- the last of a list
 

@@ -1,16 +1,16 @@
-mod Keeping
+mod KeptRecords
 mod RowsSoFar
-mod Flushing
+mod LastFlush
 mod ToShip
 mod Gaps
 mod Firsts
-mod Fitting
+mod RowsFit
 mod Statuses
 mod Forms
-mod Shipping
-mod Ending
-mod Making
-mod Closing
+mod FlashEnds
+mod MediaEnds
+mod MadeCopy
+mod ImageEnds
 mod Causes
 mod OneTable
 pub mod MountDrops

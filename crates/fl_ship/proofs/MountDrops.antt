@@ -14,10 +14,10 @@ use Rattle.fl_model.specs.Work.{CutShort, Device, Either, Erase, Body, Failed, F
 use Rattle.fl_model.proofs.Among.{seals-at}
 use Rattle.fl_model.proofs.ShipWork.{Drops, drops-none, drops-trans, effect-drops, map-take}
 use Rattle.fl_machine.specs.Step.{all_ready}
-use Rattle.fl_machine.proofs.Finding.{has-turns}
+use Rattle.fl_machine.proofs.MountsFindRecords.{has-turns}
 use Rattle.fl_machine.proofs.LogMoves.{AllAt, all-at}
 use Rattle.fl_machine.proofs.Logs.{all_front, all_weaker}
-use Rattle.fl_machine.proofs.Mounting.{HasTurns, IsOtherTurn}
+use Rattle.fl_machine.proofs.MountsAtPlace.{HasTurns, IsOtherTurn}
 use Rattle.fl_machine.proofs.Performed.{either_ending}
 use Rattle.fl_machine.proofs.Places.{Both, RelAt, both-refl, both-trans, rel-changed_by}
 

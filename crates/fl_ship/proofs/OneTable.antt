@@ -18,7 +18,7 @@ use Rattle.fl_ops.specs.Columns.{records_of}
 use Rattle.fl_page.specs.Contents.{OnlyReads}
 use Rattle.fl_page.specs.declared.fault.BadPage.{BadPage}
 use Rattle.fl_page.specs.declared.fault.ReadFault.TheVariants as read
-use Rattle.fl_page.proofs.Reading.{IsCaused-later}
+use Rattle.fl_page.proofs.ReadsInTurn.{IsCaused-later}
 use Rattle.fl_rlc.specs.Logged.{Rests}
 use Rattle.fl_rlc.specs.Table.{table_in}
 use Rattle.fl_rlc.specs.declared.table.LoggedTable.{LoggedTable}

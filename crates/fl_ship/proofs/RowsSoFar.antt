@@ -37,7 +37,7 @@ use Rattle.fl_ship.specs.Puts.{AreAccepted, ComesTo, HasPut, put_all}
 use Rattle.fl_ship.specs.Rows.{PutCausedBy, RowsKeep, RowsPut, Runs}
 use Rattle.fl_ship.specs.declared.fault.ShipFault.{ShipFault}
 use Rattle.fl_ship.specs.declared.fault.ShipFault.TheVariants.{Read, Put}
-use Rattle.fl_ship.proofs.Keeping.{keeps-some, keeps-next, keeps-lost}
+use Rattle.fl_ship.proofs.KeptRecords.{keeps-some, keeps-next, keeps-lost}
 
 never : IsTrue false → ⊥
 never e = cc

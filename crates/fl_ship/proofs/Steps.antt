@@ -30,7 +30,7 @@ use Rattle.fl_ship.specs.declared.fault.ShipFault.TheVariants.{Flush, Put, Read}
 use Rattle.fl_ship.specs.declared.side.Side.TheVariants.{Copy, Source}
 use Rattle.fl_ship.specs.declared.status.ShipStatus.{ShipStatus}
 use Rattle.fl_ship.specs.declared.status.ShipStatus.TheVariants.{BadImage, Device, Done, Gap, NoMemory, NoTable, NotImage, OtherForm, OutWrite, Spent}
-use Rattle.fl_ship.proofs.Keeping.{ships-keep}
+use Rattle.fl_ship.proofs.KeptRecords.{ships-keep}
 use Rattle.fl_ship.proofs.MountDrops.{DropsOldest, IsLeft, lose-records, mount-drops, mounted-drops}
 
 no-table : {X : Type 0} (x : X) → None ≡ Some x → ⊥

@@ -24,7 +24,7 @@ use Rattle.fl_words.specs.Command.{Command}
 use Rattle.fl_words.specs.Medium.{IsImage}
 use Rattle.fl_shipped.specs.Growing.{written_in}
 use Rattle.fl_shipped.specs.Shipped.{AllHappen, CopiesOfImagesAreParts, CopyEmptied, CopyRuns, CopyRunsOver, Event, Happens, HasPart, KeepParts, Media, RunsTo, Ships, ShipsOver, SourceRuns, Stand, State, Writes, bytes_of, empty_media, first_state}
-use Rattle.fl_shipped.proofs.Growing.{ascends-on, begins-kept, run-keeps}
+use Rattle.fl_shipped.proofs.RunsGrow.{ascends-on, begins-kept, run-keeps}
 use Rattle.fl_shipped.proofs.Orders.{DropsFrom, drops-from, from-drop, from-more}
 use Rattle.fl_shipped.proofs.Pasts.{Past, past-begins, past-more, past-on, past-part}
 

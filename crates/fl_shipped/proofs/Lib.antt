@@ -1,7 +1,7 @@
 pub mod Orders
-pub mod Sealing
-pub mod Placing
-pub mod Stepping
-pub mod Growing
+pub mod SealedPages
+pub mod PagesAtPlace
+pub mod CommandWrites
+pub mod RunsGrow
 pub mod Pasts
 pub mod Histories

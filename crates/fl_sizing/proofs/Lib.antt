@@ -1,8 +1,8 @@
 pub mod Chains
-pub mod Keeping
-pub mod Mounting
-pub mod Planning
-pub mod Reading
+pub mod KeptRows
+pub mod MountReads
+pub mod PlanEnds
+pub mod SourceToEnd
 pub mod Rows
-pub mod Starting
+pub mod ConfigLines
 pub mod Tables

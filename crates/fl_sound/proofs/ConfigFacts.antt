@@ -9,7 +9,7 @@ use Rattle.fl_bitmap.specs.declared.buckets.Buckets.{Buckets}
 use Rattle.fl_check.specs.DataPage.{HasBuckets}
 use Rattle.fl_index.specs.Page.{form_len}
 use Rattle.fl_index.specs.declared.page.EntryForm.{EntryForm}
-use Rattle.fl_index.proofs.Gathering.{width-le, width-le22}
+use Rattle.fl_index.proofs.WaitingEntries.{width-le, width-le22}
 use Rattle.fl_model.specs.Record.{has_index}
 use Rattle.fl_plan.specs.declared.table_config.TableConfig.{TableConfig}
 use Rattle.fl_plan.specs.Limits.{IsWithinLimits}

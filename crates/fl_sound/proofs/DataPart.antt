@@ -10,8 +10,8 @@ use Rattle.fl_flash.specs.Places.{extent}
 use Rattle.fl_index.specs.Page.{bitmap_at, full_at, found_at, full_view, fields_of}
 use Rattle.fl_index.specs.declared.page.Full as code
 use Rattle.fl_index.specs.declared.page.Found.{Found}
-use Rattle.fl_index.proofs.Gathering.{plan_form, bitmap-small}
-use Rattle.fl_index.proofs.Showing.{IsAt}
+use Rattle.fl_index.proofs.WaitingEntries.{plan_form, bitmap-small}
+use Rattle.fl_index.proofs.LookupsOfTable.{IsAt}
 use Rattle.fl_mark.specs.Mark.{state_of_page}
 use Rattle.fl_mark.specs.declared.page_state.PageState.{PageState}
 use Rattle.fl_mark.specs.declared.page_state.PageState.TheVariants.{Blank, Torn, Committed, Void}
@@ -28,7 +28,7 @@ use Rattle.fl_model.proofs.Lists.{slice_get-short, slice_get-drop, slice_get-fro
 use Rattle.fl_model.proofs.Pages.{pages-at}
 use Rattle.fl_page.specs.Header.{page_number}
 use Rattle.fl_page.specs.Page.{rows_in, IsGoodPage}
-use Rattle.fl_page.proofs.Gathering.{layout_some}
+use Rattle.fl_page.proofs.WriterSteps.{layout_some}
 use Rattle.fl_plan.specs.Plan.{Label, blocks_in, plan_of_table}
 use Rattle.fl_plan.specs.declared.table_config.TableConfig.{TableConfig}
 use Rattle.fl_ring.specs.Mounting.{IsGood}
@@ -36,7 +36,7 @@ use Rattle.fl_ring.specs.Newest.{commits}
 use Rattle.fl_ring.specs.Ring.{Shape, IsShape, OnRing, place}
 use Rattle.fl_table.specs.Pages.{Rests}
 use Rattle.fl_table.specs.Reading.{bitmap_where, page_bitmap}
-use Rattle.fl_table.proofs.Gathering.{page-bitmap}
+use Rattle.fl_table.proofs.NotedEntries.{page-bitmap}
 use Rattle.fl_schema.specs.Form.{key_width}
 use Rattle.fl_schema.specs.declared.schema.KeyWidth.{KeyWidth}
 use Rattle.fl_schema.specs.declared.schema.KeyWidth.TheVariants.{Four, Eight}
@@ -55,7 +55,7 @@ use Rattle.fl_check.specs.declared.numbering.Numbering.{Numbering}
 use Rattle.fl_check.proofs.KeptPages.{good}
 use Rattle.fl_check.proofs.TablePages.{is_data_page}
 use Rattle.fl_sound.proofs.ConfigFacts.{few-indexed, has-buckets}
-use Rattle.fl_sound.proofs.DataRing.{HaveRowsOf, keys-ascend}
+use Rattle.fl_sound.proofs.DataPages.{HaveRowsOf, keys-ascend}
 use Rattle.fl_sound.proofs.Lists.{take-none}
 use Rattle.fl_sound.proofs.RingReads.{IsOf, Reads}
 use Rattle.fl_sound.proofs.RingSound.{SoundRing, AreFormed, sizes, sound-ring}

@@ -9,8 +9,8 @@ use Rattle.fl_bitmap.specs.Widths.{is_bits}
 use Rattle.fl_flash.specs.Flash.{FlashState, page_at}
 use Rattle.fl_index.specs.Standing.{HasIndex, HoldsIndex}
 use Rattle.fl_index.proofs.Lists.{below-end, first-at, firsts-length}
-use Rattle.fl_index.proofs.Mountings.{good-ring, state-len}
-use Rattle.fl_index.proofs.Showing.{index-page}
+use Rattle.fl_index.proofs.MountsInTable.{good-ring, state-len}
+use Rattle.fl_index.proofs.LookupsOfTable.{index-page}
 use Rattle.fl_index.proofs.State.{shape_in, full_count, HaveSize, Found, to-state, to-index}
 use Rattle.fl_model.specs.Facts.{is_some_ring, counts_in}
 use Rattle.fl_model.specs.Image.{IsRingImage, HoldsEntries}
@@ -26,7 +26,7 @@ use Rattle.fl_plan.specs.declared.table_config.TableConfig.{TableConfig}
 use Rattle.fl_ring.specs.Mounting.{IsGood}
 use Rattle.fl_ring.specs.Ring.{Shape, IsShape, place}
 use Rattle.fl_table.specs.Pages.{bytes_in}
-use Rattle.fl_table.proofs.Moved.{has-index}
+use Rattle.fl_table.proofs.ListsStay.{has-index}
 use Rattle.fl_check.specs.Entries.{entries_in, HaveEntries}
 use Rattle.fl_check.specs.Marks.{kept_page}
 use Rattle.fl_check.specs.RingRules.{NoRows, IsRingSound}

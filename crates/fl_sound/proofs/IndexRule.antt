@@ -9,8 +9,8 @@ use Rattle.fl_index.specs.Standing.{HasIndex}
 use Rattle.fl_model.proofs.FullPages.{full-append, full-one, full-void, full-below}
 use Rattle.fl_index.proofs.Lists.{below-end, firsts-length}
 use Rattle.fl_index.specs.declared.page.Found.{Found}
-use Rattle.fl_index.proofs.Gathering.{plan_form}
-use Rattle.fl_index.proofs.Showing.{IsAt}
+use Rattle.fl_index.proofs.WaitingEntries.{plan_form}
+use Rattle.fl_index.proofs.LookupsOfTable.{IsAt}
 use Rattle.fl_model.specs.Image.{rows_at}
 use Rattle.fl_model.specs.Agrees.{Tells, TellsAt, TellPages, is_told}
 use Rattle.fl_model.specs.Layout.{IndexEntry}

@@ -1,6 +1,6 @@
 pub mod RingReads
 pub mod Lists
-pub mod DataRing
+pub mod DataPages
 pub mod IndexRule
 pub mod ReferenceRule
 pub mod RingSound

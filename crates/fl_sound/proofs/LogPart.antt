@@ -18,7 +18,7 @@ use Rattle.fl_model.specs.Table.{Table, Entry, LogRing, shape_of, full_pages, lo
 use Rattle.fl_model.proofs.FullPages.{full-cons, full-one, full-void}
 use Rattle.fl_model.proofs.Lists.{slice_get-short, each-at}
 use Rattle.fl_page.specs.Steps.{Ascends}
-use Rattle.fl_page.proofs.Gathering.{layout_some}
+use Rattle.fl_page.proofs.WriterSteps.{layout_some}
 use Rattle.fl_plan.specs.Limits.{IsRingSize}
 use Rattle.fl_plan.specs.Plan.{Label, blocks_in, plan_of_table, with_log}
 use Rattle.fl_plan.specs.declared.table_config.TableConfig.{TableConfig}

@@ -22,7 +22,7 @@ use Rattle.fl_check.specs.Marks.{kept_page}
 use Rattle.fl_check.specs.References.{numbered, IsThere, last_part, HoldsPart, IsWhole, Leads, BlobLeads, RowsLead, PageLeads}
 use Rattle.fl_check.specs.Tally.{reference_end, blobs_end}
 use Rattle.fl_check.specs.declared.numbering.Numbering.{Numbering}
-use Rattle.fl_sound.proofs.DataRing.{HaveRowsOf}
+use Rattle.fl_sound.proofs.DataPages.{HaveRowsOf}
 use Rattle.fl_sound.proofs.RingReads.{Reads}
 
 -- ---- rows and entries

@@ -17,7 +17,7 @@ use Rattle.fl_check.specs.Marks.{kept_page}
 use Rattle.fl_check.specs.Numbering.{IsNumbered}
 use Rattle.fl_check.specs.RingRules.{KeyOrder, HaveKeys, IsRingSound}
 use Rattle.fl_check.specs.declared.numbering.Numbering.{Numbering}
-use Rattle.fl_check.proofs.GoodNumbering.{good_numbering}
+use Rattle.fl_check.proofs.StandingRingHasNumbers.{good_numbering}
 use Rattle.fl_check.proofs.GoodStates.{good_rest}
 use Rattle.fl_sound.proofs.RingReads.{IsOf, Reads, reads}
 

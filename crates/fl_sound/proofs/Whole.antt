@@ -37,7 +37,7 @@ use Rattle.fl_check.proofs.OneFinding.{one_finding}
 use Rattle.fl_sound.specs.Sound.{sound_table, LiesIn, Finds, FindsAlone}
 use Rattle.fl_sound.specs.Sound as law
 use Rattle.fl_sound.proofs.DataPart.{StandsOn, counted, rows-of, data-sound}
-use Rattle.fl_sound.proofs.DataRing.{rows-are, voids-are, blobs-are}
+use Rattle.fl_sound.proofs.DataPages.{rows-are, voids-are, blobs-are}
 use Rattle.fl_sound.proofs.IndexPart.{IndexPart, index-part}
 use Rattle.fl_sound.proofs.LogPart.{log-part}
 use Rattle.fl_sound.proofs.RingSound.{SoundRing}

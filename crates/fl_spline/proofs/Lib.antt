@@ -4,4 +4,4 @@ pub mod Scans
 pub mod Retained
 pub mod Segments
 pub mod Window
-pub mod Moved
+pub mod MovedPoints

@@ -1,7 +1,7 @@
 -- Texts that are written one behind another, and what nothing was written to.
 use Rattle.std.proofs.Common.{ℕ, Option, Some, None, List, [], ◌++◌, refl, sym, ◌∙◌, ap, append_assoc, append-nil}
 use Rattle.fl_base.specs.Causes.{Appends, AppendsFront}
-use Rattle.fl_script.proofs.Sending.{sent-failed}
+use Rattle.fl_script.proofs.SinkPieces.{sent-failed}
 
 pub appends-none : (o : Option (List ℕ)) → Appends o o []
 appends-none None = tt

@@ -25,8 +25,8 @@ use Rattle.fl_store.specs.Calls.{Located, PutEnds, FlushEnds, IsRefusedSame}
 use Rattle.fl_store.specs.Store.{Holds}
 use Rattle.fl_store.specs.Tables.{first_of, entries_with, AreRunning, EntryStands, TablesStand}
 use Rattle.fl_store.specs.declared.tables.Entry.{Entry}
-use Rattle.fl_store.proofs.Going.{planned-same}
-use Rattle.fl_store.proofs.Lying.{running-with}
+use Rattle.fl_store.proofs.CallsInTurn.{planned-same}
+use Rattle.fl_store.proofs.TablesLie.{running-with}
 use Rattle.fl_store.proofs.TablesChanged.{entry-off, item-there, length-changed, option_map-same, set-same, some-is, tables-changed}
 use Rattle.fl_store.proofs.Worked.{medium-goes}
 

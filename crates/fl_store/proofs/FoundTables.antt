@@ -19,7 +19,7 @@ use Rattle.fl_store.specs.Store.{Holds}
 use Rattle.fl_store.specs.declared.found_table.FoundTable.{FoundTable}
 use Rattle.fl_store.specs.declared.tables.Entry.{Entry}
 use Rattle.fl_image.proofs.Made.{made-by}
-use Rattle.fl_store.proofs.Locating.{located-none, name-there}
+use Rattle.fl_store.proofs.TableByName.{located-none, name-there}
 use Rattle.fl_store.proofs.Opened.{made-image, same-lines}
 use Rattle.fl_store.proofs.Worked.{held-since}
 

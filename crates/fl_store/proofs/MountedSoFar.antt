@@ -19,7 +19,7 @@ use Rattle.fl_model.specs.Work.{Device, Finished, changed_at, PartEnd, Whole, Cu
 use Rattle.fl_model.specs.Within.{TableMounts, TableMountEnd, TableMounted, TableStopped, TableUnread, MountsAlong, with_table, progress_at, outcome_at}
 use Rattle.fl_model.proofs.Among.{changed-there, changed-elsewhere}
 use Rattle.fl_model.proofs.Lists.{slice_get-some}
-use Rattle.fl_model.proofs.Mounting.{mounts-along}
+use Rattle.fl_model.proofs.MountAmongTables.{mounts-along}
 use Rattle.fl_ring.specs.Device.{SameDevice}
 use Rattle.fl_machine.specs.Step.{all_ready, made_ready}
 use Rattle.fl_table.specs.Outcomes.{FaultEnds}
@@ -31,7 +31,7 @@ use Rattle.fl_rlc.specs.Table.{IsSamePlan, OutsideStands}
 use Rattle.fl_rlc.specs.declared.table.LoggedTable.{LoggedTable}
 use Rattle.fl_store.specs.Tables.{first_of, entries_with, EntryStands, TablesStand, FaultIs, TablesMounted, TablesBroken, MountBreaks}
 use Rattle.fl_store.specs.declared.tables.Entry.{Entry}
-use Rattle.fl_store.proofs.Going.{planned-same}
+use Rattle.fl_store.proofs.CallsInTurn.{planned-same}
 use Rattle.fl_store.proofs.TablesChanged.{entry-off, some-is, AtPlace, at-place, tables-changed, option_map-same, length-changed}
 
 -- a table that was mounted is ready

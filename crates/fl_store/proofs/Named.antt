@@ -10,7 +10,7 @@ use Rattle.fl_words.specs.Config.{Lines}
 use Rattle.fl_store.specs.Named.{IsImageWith}
 use Rattle.fl_store.specs.Tables.{AreNewTables, IsNamed, Names}
 use Rattle.fl_store.specs.declared.tables.Entry.{Entry}
-use Rattle.fl_store.proofs.Locating.{new-named, first-named, none-named, name-there, name-none}
+use Rattle.fl_store.proofs.TableByName.{new-named, first-named, none-named, name-there, name-none}
 
 module _ (bytes : List ℕ) (name : List ℕ) (lines : Lines) (entries : List Entry) (accepted : IsAccepted lines) (image : IsImageOf bytes lines) (new : AreNewTables entries lines) where
   pub image-without : Names entries name None → IsImageWith bytes name false

@@ -15,7 +15,7 @@ use Rattle.fl_store.specs.Repaired.{IsLeft, IsOfOther}
 use Rattle.fl_store.specs.Tables.{first_of, IsNamed, TablesStand}
 use Rattle.fl_store.specs.declared.tables.Entry.{Entry}
 use Rattle.fl_store.proofs.Apart.{AllApart, blocks-apart, other-pages}
-use Rattle.fl_store.proofs.Locating.{first-named, stand-named}
+use Rattle.fl_store.proofs.TableByName.{first-named, stand-named}
 use Rattle.fl_store.proofs.TablesChanged.{at-place, some-is}
 
 -- ---- the pages of a table's blocks are those of its rings

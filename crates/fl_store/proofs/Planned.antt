@@ -8,7 +8,7 @@ use Rattle.fl_rlc.specs.declared.table.LoggedTable.{LoggedTable}
 use Rattle.fl_store.specs.Mounting.{AreSamePlans}
 use Rattle.fl_store.specs.Tables.{entries_with}
 use Rattle.fl_store.specs.declared.tables.Entry.{Entry}
-use Rattle.fl_store.proofs.Going.{same-plan, same-on}
+use Rattle.fl_store.proofs.CallsInTurn.{same-plan, same-on}
 use Rattle.fl_store.proofs.TablesChanged.{set-there, set-elsewhere, some-is}
 
 -- nothing was called

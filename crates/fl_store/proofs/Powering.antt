@@ -16,9 +16,9 @@ use Rattle.fl_store.specs.Tables.{LieOn, TablesMount, TablesStand}
 use Rattle.fl_store.specs.declared.tables.BadMount.{BadMount}
 use Rattle.fl_store.specs.declared.tables.Entry.{Entry}
 use Rattle.fl_store.proofs.Called.{on-ok}
-use Rattle.fl_store.proofs.Going.{goes-on}
-use Rattle.fl_store.proofs.Lying.{lie-on}
-use Rattle.fl_store.proofs.Reading.{tables-kept}
+use Rattle.fl_store.proofs.CallsInTurn.{goes-on}
+use Rattle.fl_store.proofs.TablesLie.{lie-on}
+use Rattle.fl_store.proofs.TablesOnlyRead.{tables-kept}
 use Rattle.fl_store.proofs.Worked.{medium-goes}
 
 module _ (f on : FlashState) (is : on ≡ powered f) where

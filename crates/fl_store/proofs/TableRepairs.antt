@@ -18,7 +18,7 @@ use Rattle.fl_store.specs.Mounting.{AreUnlogged}
 use Rattle.fl_store.specs.Repaired.{IsRepaired, IsLeft}
 use Rattle.fl_store.specs.Tables.{first_of, TablesStand}
 use Rattle.fl_store.specs.declared.tables.Entry.{Entry}
-use Rattle.fl_store.proofs.Going.{rose-front}
+use Rattle.fl_store.proofs.CallsInTurn.{rose-front}
 use Rattle.fl_store.proofs.TablesChanged.{at-place}
 use Rattle.fl_store.proofs.TablesReads.{sum-more}
 

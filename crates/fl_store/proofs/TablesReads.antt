@@ -4,7 +4,7 @@ use Rattle.std.specs.List.{slice_get}
 use Rattle.std.proofs.Math.Nat.{add-mul}
 use Rattle.std.proofs.lemmas.List.Sums.{sum_by-cons, sum_by-take-le}
 use Rattle.fl_flash.specs.Flash.{FlashState}
-use Rattle.fl_index.specs.declared.index.Index.{Index}
+use Rattle.fl_index.specs.declared.index.BitmapIndex.{BitmapIndex}
 use Rattle.fl_machine.specs.Reads.{most_of_mount, mounts_limit}
 use Rattle.fl_model.specs.Bare.{bare}
 use Rattle.fl_model.specs.MountLimit.{mount_limit}
@@ -41,7 +41,7 @@ reads-most entries i f n h = omega (arith, h, sum_by-take-le (λ (e : Entry). pa
 
 -- ---- the pages of a table's rings
 
-index-room : (bitmaps : Option Index) (first : ℕ) (plan : Plan) → ArePlanned bitmaps first plan → room_of bitmaps ≤ plan.index_blocks * plan.geometry.block
+index-room : (bitmaps : Option BitmapIndex) (first : ℕ) (plan : Plan) → ArePlanned bitmaps first plan → room_of bitmaps ≤ plan.index_blocks * plan.geometry.block
 index-room None first plan h = omega arith
 index-room (Some index) first plan h = rw (h.blocks, h.geometry) (omega arith)
 

@@ -3,9 +3,9 @@ use Rattle.std.proofs.Common.{◌≡◌, ℕ, ◌+◌, ◌*◌, ◌%◌, ◌<◌
 use Rattle.std.proofs.Math.Path.{fun_ext}
 use Rattle.std.proofs.Math.Nat.{mod-lt, mul-le-mul_right, add-mul}
 use Rattle.fl_flash.specs.Flash.{FlashState, page_at}
-use Rattle.fl_index.specs.declared.index.Index.{Index}
+use Rattle.fl_index.specs.declared.index.BitmapIndex.{BitmapIndex}
 use Rattle.fl_index.specs.Memory as memory
-use Rattle.fl_index.proofs.Sealings.{planned-ring as index-ring}
+use Rattle.fl_index.proofs.SealEnds.{planned-ring as index-ring}
 use Rattle.fl_index.proofs.State.{shape_in as index_shape}
 use Rattle.fl_model.specs.Facts.{IsTable, is_some_ring}
 use Rattle.fl_model.specs.Image.{IsRingImage, HoldsRows, HoldsEntries, HoldsContent}
@@ -21,8 +21,8 @@ use Rattle.fl_table.specs.Mounting.{OutsideStands}
 use Rattle.fl_table.specs.Pages.{HoldsTable, Rests, bytes_in, place_in}
 use Rattle.fl_table.specs.Standing.{Stands}
 use Rattle.fl_table.specs.declared.table.Table.{Table}
-use Rattle.fl_table.proofs.Blobbing as blobbing
-use Rattle.fl_table.proofs.Indexing.{planned-some, stand-moved}
+use Rattle.fl_table.proofs.BlobsOfTable as blobbing
+use Rattle.fl_table.proofs.IndexOfTable.{planned-some, stand-moved}
 use Rattle.fl_table.proofs.Plain.{IsPlainTable, plain-lose, table-facts, table-parts}
 use Rattle.fl_table.proofs.SealAnswers.{planned-ring}
 use Rattle.fl_table.proofs.States.{shape_in}
@@ -47,7 +47,7 @@ pub beside-stands : {KNOTS SLOTS : ℕ} (t : Table KNOTS SLOTS) (first : ℕ) (p
 beside-stands t first plan old new planned outside page beside =
     outside page (subst (λ r. IsOutside r page) (sym (planned-ring t first plan planned)) (outside-ring first first plan.data_blocks plan (shape_in first plan) page refl refl (omega arith) (omega arith) beside)) (by-index t.bitmaps planned.index) (by-var t.blobs planned.var)
   where
-    by-index : (bitmaps : Option Index) → ArePlanned bitmaps (first + plan.data_blocks) plan → IfSome bitmaps (λ index. IsOutside (memory.ring_shape index) page)
+    by-index : (bitmaps : Option BitmapIndex) → ArePlanned bitmaps (first + plan.data_blocks) plan → IfSome bitmaps (λ index. IsOutside (memory.ring_shape index) page)
     by-index None p = tt
     by-index (Some index) p =
         subst (λ r. IsOutside r page) (sym (index-ring index (first + plan.data_blocks) plan p)) (outside-ring first (first + plan.data_blocks) plan.index_blocks plan (index_shape (first + plan.data_blocks) plan) page refl refl (omega arith) (omega arith) beside)
@@ -117,7 +117,7 @@ module _ (f g : FlashState) (first : ℕ) (plan : Plan) (same-rows : (n : ℕ) �
         points = h.points;
       }
     where
-      by-bitmaps : (bitmaps : Option Index) → ArePlanned bitmaps (first + plan.data_blocks) plan → IsPlainTable plan table → Stand bitmaps f (first + plan.data_blocks) plan table → Stand bitmaps g (first + plan.data_blocks) plan table
+      by-bitmaps : (bitmaps : Option BitmapIndex) → ArePlanned bitmaps (first + plan.data_blocks) plan → IsPlainTable plan table → Stand bitmaps f (first + plan.data_blocks) plan table → Stand bitmaps g (first + plan.data_blocks) plan table
       by-bitmaps None p facts s = s
       by-bitmaps (Some index) p facts s =
           stand-moved (Some index) f g first plan table table refl refl refl refl facts (same-index (planned-some index (first + plan.data_blocks) plan p)) s

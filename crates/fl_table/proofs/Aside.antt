@@ -14,8 +14,8 @@ use Rattle.fl_table.specs.declared.faults.MountFault.{MountFault}
 use Rattle.fl_table.specs.declared.faults.MountFault.TheVariants.{BadPage, BadKeys}
 use Rattle.fl_table.specs.declared.known.Known.{Known}
 use Rattle.fl_table.specs.declared.known.Listed.{Listed}
-use Rattle.fl_table.proofs.Checking.{is-void, listed-unread, unlisted-read, no_both}
-use Rattle.fl_table.proofs.Passing.{void-run, end-split, noted-more, noted-next, noted-here, noted-other}
+use Rattle.fl_table.proofs.PageChecks.{is-void, listed-unread, unlisted-read, no_both}
+use Rattle.fl_table.proofs.NextPage.{void-run, end-split, noted-more, noted-next, noted-here, noted-other}
 
 abbrev pub fault_of : Option Refusal → Option MountFault
 fault_of fault = option_map (λ bad. BadPage bad) fault

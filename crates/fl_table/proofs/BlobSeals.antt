@@ -21,7 +21,7 @@ use Rattle.fl_table.specs.Pages.{HoldsTable, Rests, bytes_in, place_in}
 use Rattle.fl_table.proofs.BlobSteps.{AreVar}
 use Rattle.fl_table.proofs.VarFacts.{HasVar, blobs-in, front-of, var-begun, var-erased, var-sealed}
 use Rattle.fl_table.proofs.BlobTables.{HoldsVar, IsBlobbed, planned-var, ring-blobbed, ring-holds, standing-holds, var-shape}
-use Rattle.fl_table.proofs.Holding.{lost-twice}
+use Rattle.fl_table.proofs.TablePages.{lost-twice}
 use Rattle.fl_table.proofs.IndexSeals.{IsFront, front-left}
 use Rattle.fl_table.proofs.Plain.{IsPlainTable, table-facts}
 use Rattle.fl_var.specs.Memory.{next_in, page_in, var_shape}

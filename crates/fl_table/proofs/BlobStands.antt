@@ -5,7 +5,7 @@ use Rattle.std.proofs.Math.Nat.{mul-le-mul_right}
 use Rattle.std.proofs.lemmas.Bool.{ltb-true}
 use Rattle.fl_flash.specs.Flash.{FlashState, page_at}
 use Rattle.fl_flash.specs.declared.flash.FlashFault.{FlashFault}
-use Rattle.fl_index.specs.declared.index.Index.{Index}
+use Rattle.fl_index.specs.declared.index.BitmapIndex.{BitmapIndex}
 use Rattle.fl_model.specs.Content.{ContentPage}
 use Rattle.fl_model.specs.Facts.{IsTable, is_some_ring}
 use Rattle.fl_model.specs.Record.{Plan}
@@ -28,10 +28,10 @@ use Rattle.fl_table.specs.declared.table.Table as code
 use Rattle.fl_table.proofs.BlobSeals.{IsBesideVar, with_var, before-var, blobs-break, blobs-finish, facts-with_var, seals-keep}
 use Rattle.fl_table.proofs.BlobSteps.{AreVar, after-var, rest-var}
 use Rattle.fl_table.proofs.BlobTables.{IsBlobbed, standing-blobbed, standing-has, var-pages, var-shape}
-use Rattle.fl_table.proofs.Indexing.{stand-moved}
+use Rattle.fl_table.proofs.IndexOfTable.{stand-moved}
 use Rattle.fl_table.proofs.Plain.{IsPlainTable, plain-lose, table-parts}
 use Rattle.fl_table.proofs.SealAnswers.{planned-shape}
-use Rattle.fl_table.proofs.Staying.{kept-same, pages-same, ring-same}
+use Rattle.fl_table.proofs.KeptPagesStay.{kept-same, pages-same, ring-same}
 use Rattle.fl_table.proofs.VarFacts.{HasVar}
 use Rattle.fl_var.specs.Memory.{next_in, page_in, var_shape, waiting_in}
 use Rattle.fl_var.specs.Placing as placing
@@ -199,7 +199,7 @@ index-before None old new first plan planned outside some n = outside _
 index-before (Some v) old new first plan planned outside some n = (before-var v old new first plan planned outside n).1 some
 
 -- so the index stands where other parts of its table changed
-pub bitmaps-moved : (indexed : Option Index) (f g : FlashState) (first : ℕ) (plan : Plan) (table new : Table) → bitmaps.ArePlanned indexed (first + plan.data_blocks) plan → 2 ≤ plan.geometry.block → new.index ≡ table.index → new.index_pages ≡ table.index_pages → new.waiting ≡ table.waiting →
+pub bitmaps-moved : (indexed : Option BitmapIndex) (f g : FlashState) (first : ℕ) (plan : Plan) (table new : Table) → bitmaps.ArePlanned indexed (first + plan.data_blocks) plan → 2 ≤ plan.geometry.block → new.index ≡ table.index → new.index_pages ≡ table.index_pages → new.waiting ≡ table.waiting →
     new.rows.next ≡ table.rows.next → IsPlainTable plan new → (0 < plan.index_blocks * plan.geometry.block → (n : ℕ) → bytes_in (page_at g) first plan IndexRing n ≡ bytes_in (page_at f) first plan IndexRing n) →
     bitmaps.Stand indexed f (first + plan.data_blocks) plan table → bitmaps.Stand indexed g (first + plan.data_blocks) plan new
 bitmaps-moved None f g first plan table new planned pages index listed waiting next after same s = waiting ∙ s
@@ -208,7 +208,7 @@ bitmaps-moved (Some indexed) f g first plan table new planned pages index listed
     stand-moved (Some indexed) f g first plan table new index listed waiting next after (same (omega (arith, k, pages))) s
 
 -- .. as its variable data
-pub bitmaps-stand : (indexed : Option Index) (f g : FlashState) (first : ℕ) (plan : Plan) (table : Table) (ring : Option Ring) (pages : List ContentPage) (bytes : List ℕ) → bitmaps.ArePlanned indexed (first + plan.data_blocks) plan → 2 ≤ plan.geometry.block →
+pub bitmaps-stand : (indexed : Option BitmapIndex) (f g : FlashState) (first : ℕ) (plan : Plan) (table : Table) (ring : Option Ring) (pages : List ContentPage) (bytes : List ℕ) → bitmaps.ArePlanned indexed (first + plan.data_blocks) plan → 2 ≤ plan.geometry.block →
     IsPlainTable plan (with_var table ring pages bytes) → (0 < plan.index_blocks * plan.geometry.block → (n : ℕ) → bytes_in (page_at g) first plan IndexRing n ≡ bytes_in (page_at f) first plan IndexRing n) →
     bitmaps.Stand indexed f (first + plan.data_blocks) plan table → bitmaps.Stand indexed g (first + plan.data_blocks) plan (with_var table ring pages bytes)
 bitmaps-stand indexed f g first plan table ring pages bytes planned some after same s =

@@ -13,7 +13,7 @@ use Rattle.fl_ring.specs.Ring.{Shape}
 use Rattle.fl_ring.specs.Step.{IsWatched}
 use Rattle.fl_table.specs.Blobs.{ArePlaced, IsPlanned, IsStanding, Finishes, RestEnds, PlaceEnds, rest_seals, reference_of}
 use Rattle.fl_table.proofs.BlobTables.{var-shape}
-use Rattle.fl_table.proofs.Staying.{ring-same}
+use Rattle.fl_table.proofs.KeptPagesStay.{ring-same}
 use Rattle.fl_table.proofs.VarFacts.{numbered-sealed, placed-sealed, placed-joined}
 use Rattle.fl_var.specs.Memory.{waiting_in, room_in, page_in, IsSamePlan}
 use Rattle.fl_var.specs.Placing as placing

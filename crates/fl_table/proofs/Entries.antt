@@ -9,7 +9,7 @@ use Rattle.fl_flash.specs.Flash.{FlashState}
 use Rattle.fl_index.specs.Looking as looking
 use Rattle.fl_index.specs.Looking.{HoldsGood, IfBad, IsFresh, ShowsEntry, TellsRows}
 use Rattle.fl_index.specs.Page.{fields_of, full_view}
-use Rattle.fl_index.specs.declared.index.Index.{Index}
+use Rattle.fl_index.specs.declared.index.BitmapIndex.{BitmapIndex}
 use Rattle.fl_index.specs.declared.page.Found.{Found}
 use Rattle.fl_base.specs.declared.types.Geometry.{Geometry}
 use Rattle.fl_model.specs.Agrees.{is_told, reach_of}
@@ -148,7 +148,7 @@ shows-found t f first plan table stands number (Err (BadPage bad)) shown = shown
 
 -- ---- a lookup in the index of a table
 
-module _ (bitmaps : Option Index) (index : Index) (is : bitmaps ≡ Some index) where
+module _ (bitmaps : Option BitmapIndex) (index : BitmapIndex) (is : bitmaps ≡ Some index) where
   pub bad-answer : {X : Type 0} (f : FlashState) (buf : BufferState) (result : Result X ReadFault) → IfErr result (IfBad (λ bad. IsTrue f.media.tells → HoldsGood index buf → looking.IsBadPage index f bad)) →
       IfErr result (IfBad (λ bad. IsTrue f.media.tells → HoldGood bitmaps buf → IsBadIndex bitmaps f bad))
   bad-answer f buf (Ok x) h = tt
@@ -156,9 +156,9 @@ module _ (bitmaps : Option Index) (index : Index) (is : bitmaps ≡ Some index) 
 
   pub looks-up : {X : Type 0} (asked : Found → X) (number : ℕ) (old : FlashState) (before : BufferState) (result : Result (Option X) ReadFault) (new : FlashState) (after : BufferState) → LooksUp asked index number old before result new after →
       LookUp asked bitmaps number old before result new after
-  looks-up asked number old before result new after h = subst (λ (o : Option Index). LookUp asked o number old before result new after) (sym is) h
+  looks-up asked number old before result new after h = subst (λ (o : Option BitmapIndex). LookUp asked o number old before result new after) (sym is) h
 
   pub looks-from : {X : Type 0} (number : ℕ) (old : FlashState) (before : BufferState) (result : Result X ReadFault) (new : FlashState) (after : BufferState) → (IsFresh index old before → LooksFrom index number old before result new after) →
       AreFresh bitmaps old before → LookFrom bitmaps number old before result new after
   looks-from number old before result new after h fresh =
-      subst (λ (o : Option Index). LookFrom o number old before result new after) (sym is) (h (subst (λ (o : Option Index). AreFresh o old before) is fresh))
+      subst (λ (o : Option BitmapIndex). LookFrom o number old before result new after) (sym is) (h (subst (λ (o : Option BitmapIndex). AreFresh o old before) is fresh))

@@ -8,7 +8,7 @@ use Rattle.fl_index.specs.Finding.{pages_of}
 use Rattle.fl_index.specs.Loading.{IsLoaded}
 use Rattle.fl_index.specs.Memory.{first_in, form_in, len_in, next_in, oldest_in, per_page, place_in, ring_shape, IsSamePlan, IsSameRing}
 use Rattle.fl_index.specs.Page.{first_on, form_len, IsGoodPage}
-use Rattle.fl_index.specs.declared.index.Index.{Index}
+use Rattle.fl_index.specs.declared.index.BitmapIndex.{BitmapIndex}
 use Rattle.fl_index.specs.declared.load.Loaded.{Loaded}
 use Rattle.fl_index.specs.declared.load.Loaded.TheVariants.{Nothing, Listing, Bad}
 use Rattle.fl_index.specs.declared.page.EntryForm.{EntryForm}
@@ -20,7 +20,7 @@ use Rattle.fl_ring.specs.Mounting.{shape_at}
 use Rattle.fl_ring.specs.Ring as rings
 use Rattle.fl_ring.specs.Ring.{Shape, room}
 use Rattle.fl_ring.proofs.Modulo.{apart}
-use Rattle.fl_ring.proofs.Readings.{same_page}
+use Rattle.fl_ring.proofs.ReadsInTurn.{same_page}
 use Rattle.fl_model.specs.Record.{RowLayout}
 use Rattle.fl_ring.specs.Newest.{commits}
 use Rattle.fl_ring.specs.declared.ring.Ring.{Ring}
@@ -33,17 +33,17 @@ use Rattle.fl_table.proofs.IndexPages.{unfit-check}
 use Rattle.fl_table.proofs.ListedPages.{are-full}
 
 -- it stays where the ring does
-pub same-first : (old new : Index) (number : ℕ) → IsSameRing old new → first_in new number ≡ first_in old number
+pub same-first : (old new : BitmapIndex) (number : ℕ) → IsSameRing old new → first_in new number ≡ first_in old number
 same-first old new number still = ap (λ firsts. slice_index_or firsts.items (number % vec_len firsts) None) still.firsts
 
 -- of a page that was loaded, unless it is bad
-pub first-loaded : (index now : Index) (number : ℕ) (page : List ℕ) (l : Loaded) → IsLoaded index number page l now → (state_of_page page ≡ Committed → IsGoodPage (per_page index) number page) → first_in now number ≡ first_on page
+pub first-loaded : (index now : BitmapIndex) (number : ℕ) (page : List ℕ) (l : Loaded) → IsLoaded index number page l now → (state_of_page page ≡ Committed → IsGoodPage (per_page index) number page) → first_in now number ≡ first_on page
 first-loaded index now number page Nothing h fine = h.1.remembered ∙ sym (no-first-on page h.0)
 first-loaded index now number page (Listing first) h fine = h.remembered ∙ (ap (λ (n : ℕ). Some n) h.first_is ∙ sym (first-on page h.committed))
 first-loaded index now number page (Bad first bad) h fine = absurd (h.1 (fine h.0))
 
 -- one more is read
-module _ (index old now : Index) (f g : FlashState) (n from page : ℕ) (same : IsSamePlan index old) (reads : OnlyReads f n g) (before : AreRemembered index f from page old)
+module _ (index old now : BitmapIndex) (f g : FlashState) (n from page : ℕ) (same : IsSamePlan index old) (reads : OnlyReads f n g) (before : AreRemembered index f from page old)
     (others : (m : ℕ) → (place_in old m ≡ place_in old page → ⊥) → first_in now m ≡ first_in old m) (here : IsFineListing old g page → first_in now page ≡ first_on (pages_of old g page)) where
   form : form_in old ≡ form_in index
   form = ap (λ bits. record { width = bits / 8; full = old.full }) same.bits ∙ ap (λ full. record { width = index.bits / 8; full = full }) same.full
@@ -71,16 +71,16 @@ module _ (index old now : Index) (f g : FlashState) (n from page : ℕ) (same : 
           ap (first_in now) at ∙ (here fine' ∙ (ap first_on bytes ∙ ap (λ k. first_on (pages_of index f k)) (sym at)))
 
 -- all were read
-pub full-firsts : (index old now : Index) (f : FlashState) → (form_in index).full ≡ true → IsSameRing old now → RememberedBy true index f old → RememberedBy (form_in index).full index f now
+pub full-firsts : (index old now : BitmapIndex) (f : FlashState) → (form_in index).full ≡ true → IsSameRing old now → RememberedBy true index f old → RememberedBy (form_in index).full index f now
 full-firsts index old now f full still h = subst (λ (b : Bool). RememberedBy b index f now) (sym full) (λ number low high few fine. same-first old now number still ∙ h number low high few fine)
 
 -- entries aren't full
-pub bare-firsts : (bitmaps now : Option Index) (f : FlashState) → are-full bitmaps ≡ false → AreSamePlan bitmaps now → FirstsKnown bitmaps f now
+pub bare-firsts : (bitmaps now : Option BitmapIndex) (f : FlashState) → are-full bitmaps ≡ false → AreSamePlan bitmaps now → FirstsKnown bitmaps f now
 bare-firsts None now f bare same = tt
 bare-firsts (Some index) None f bare same = absurd same
 bare-firsts (Some index) (Some now) f bare same = subst (λ (b : Bool). RememberedBy b index f now) (sym bare) tt
 
-pub firsts-then : (a b c : Option Index) (f : FlashState) → FirstsKnown a f b → AreSameRing b c → FirstsKnown a f c
+pub firsts-then : (a b c : Option BitmapIndex) (f : FlashState) → FirstsKnown a f b → AreSameRing b c → FirstsKnown a f c
 firsts-then None b c f h still = tt
 firsts-then (Some x) None c f h still = absurd h
 firsts-then (Some x) (Some y) None f h still = absurd still
@@ -124,7 +124,7 @@ good-page t k none committed = by_test (is_fit t k) refl
         record { number_is = eqb-true _ _ both.0; full = eqb-true _ _ both.1 }
     by_test false e = absurd (cc (sym none ∙ unfit-check t k committed e))
 
-pub kept-firsts : (layout : RowLayout) (most : ℕ) (bitmaps now : Option Index) (ring : Ring) (f : FlashState) → mount_fault (come_of layout most bitmaps ring f) ≡ None → index_pages_of bitmaps ≤ room_of bitmaps → FirstsKnown bitmaps f now → RemembersKept bitmaps f now
+pub kept-firsts : (layout : RowLayout) (most : ℕ) (bitmaps now : Option BitmapIndex) (ring : Ring) (f : FlashState) → mount_fault (come_of layout most bitmaps ring f) ≡ None → index_pages_of bitmaps ≤ room_of bitmaps → FirstsKnown bitmaps f now → RemembersKept bitmaps f now
 kept-firsts layout most None now ring f fine few h = tt
 kept-firsts layout most (Some index) None ring f fine few h = absurd h
 kept-firsts layout most (Some index) (Some now) ring f fine few h = by_form (form_in index).full refl h
@@ -142,7 +142,7 @@ kept-firsts layout most (Some index) (Some now) ring f fine few h = by_form (for
     by_form false e h = tt
 
 -- the pages stand where they are only read
-pub firsts-read : (bitmaps now : Option Index) (f g : FlashState) (n : ℕ) → OnlyReads f n g → RemembersKept bitmaps f now → RemembersKept bitmaps g now
+pub firsts-read : (bitmaps now : Option BitmapIndex) (f g : FlashState) (n : ℕ) → OnlyReads f n g → RemembersKept bitmaps f now → RemembersKept bitmaps g now
 firsts-read None now f g n reads h = tt
 firsts-read (Some index) None f g n reads h = absurd h
 firsts-read (Some index) (Some now) f g n reads h = by_form (form_in index).full h
@@ -152,7 +152,7 @@ firsts-read (Some index) (Some now) f g n reads h = by_form (form_in index).full
     by_form false h = tt
 
 -- its ring has as many pages where the plan is the same
-pub room-same : (was now : Option Index) → AreSamePlan was now → room_of now ≡ room_of was
+pub room-same : (was now : Option BitmapIndex) → AreSamePlan was now → room_of now ≡ room_of was
 room-same None None same = refl
 room-same None (Some now) same = absurd same
 room-same (Some was) None same = absurd same

@@ -5,7 +5,7 @@ use Rattle.std.proofs.Math.Nat.{mul-le-mul_right, mul-le-mul_left}
 use Rattle.fl_flash.specs.Flash.{FlashState}
 use Rattle.fl_index.specs.Finding.{FindsEnd}
 use Rattle.fl_index.specs.Memory.{next_in, oldest_in, ring_shape}
-use Rattle.fl_index.specs.declared.index.Index.{Index}
+use Rattle.fl_index.specs.declared.index.BitmapIndex.{BitmapIndex}
 use Rattle.fl_index.proofs.MountCalls.{ring-few}
 use Rattle.fl_ring.specs.Mounting.{search_reads}
 use Rattle.fl_ring.specs.Place.{next_of, oldest_of}
@@ -24,7 +24,7 @@ four-each blocks pages b p =
     omega (arith, rows, columns)
 
 -- the ring of an index that was found keeps no more pages than it has
-kept-within : (index now : Index) (f g : FlashState) (end : Option ℕ) (full : Bool) → FindsEnd index f end now g → IsTrue f.media.tells → cond full (next_in now - oldest_in now) 0 ≤ index.place.blocks * index.geometry.block
+kept-within : (index now : BitmapIndex) (f g : FlashState) (end : Option ℕ) (full : Bool) → FindsEnd index f end now g → IsTrue f.media.tells → cond full (next_in now - oldest_in now) 0 ≤ index.place.blocks * index.geometry.block
 kept-within index now f g end full found told =
     let few = ring-few f g (ring_shape index) found.ring (omega (arith, index.some_blocks)) found.numbers told in
     let next : next_in now ≡ next_of found.ring = ap (λ (o : Option Ring). unwrap_or (option_map (λ ring. next_of ring) o) 0) found.ring_is in
@@ -35,7 +35,7 @@ kept-within index now f g end full found told =
     by_form true le = le
     by_form false le = omega arith
 
-pub index-within : (was now : Option Index) (f g : FlashState) (end : Option ℕ) → AreSamePlan was now → FindsBitmaps was f end now g → IsTrue f.media.tells → index_pages_of now ≤ room_of was
+pub index-within : (was now : Option BitmapIndex) (f g : FlashState) (end : Option ℕ) → AreSamePlan was now → FindsBitmaps was f end now g → IsTrue f.media.tells → index_pages_of now ≤ room_of was
 index-within None None f g end same found told = omega arith
 index-within None (Some now) f g end same found told = absurd found
 index-within (Some was) None f g end same found told = absurd found
@@ -52,7 +52,7 @@ reads-joined index kept rows blobs old mid new within first then = record {
   media_reads = omega (arith, within, first.media_reads, then.media_reads);
 }
 
-module _ (index now : Index) (f g : FlashState) (beside : Beside (ring_shape index) (search_reads (ring_shape index) + (ring_shape index).per_block) 1 1 f g) where
+module _ (index now : BitmapIndex) (f g : FlashState) (beside : Beside (ring_shape index) (search_reads (ring_shape index) + (ring_shape index).per_block) 1 1 f g) where
   all : index.place.blocks + index.geometry.block + index.place.blocks * index.geometry.block + index.geometry.block + index.place.blocks * index.geometry.block ≤ 4 * (index.place.blocks * index.geometry.block)
   all = four-each index.place.blocks index.geometry.block index.some_blocks index.served.block_least
 

@@ -3,12 +3,12 @@ use Rattle.std.proofs.Common.{◌≡◌, ℕ, zero, suc, ◌+◌, ◌-◌, ◌<�
 use Rattle.std.specs.Prelude.{◌^◌, IfSome, option_map, unwrap_or, not}
 use Rattle.std.proofs.lemmas.Bool.{cases_lt, eqb-true, eq-eqb, leb-true, ltb-true, le-leb, lt-ltb}
 use Rattle.fl_find.specs.Index.{IndexOf}
-use Rattle.fl_find.specs.declared.index.LearnedIndex.{LearnedIndex}
+use Rattle.fl_find.specs.declared.index.KeyIndex.{KeyIndex}
 use Rattle.fl_flash.specs.Flash.{FlashState}
 use Rattle.fl_index.specs.Finding.{pages_of}
 use Rattle.fl_index.specs.Loading.{IsLoaded}
 use Rattle.fl_index.specs.Memory.{per_page, is_waiting, found_waiting, first_waiting, waiting_in}
-use Rattle.fl_index.specs.declared.index.Index.{Index}
+use Rattle.fl_index.specs.declared.index.BitmapIndex.{BitmapIndex}
 use Rattle.fl_index.specs.declared.load.Loaded.TheVariants.{Nothing, Listing, Bad}
 use Rattle.fl_mark.specs.Mark.{state_of_page}
 use Rattle.fl_mark.specs.declared.page_state.PageState.{PageState}
@@ -30,12 +30,12 @@ use Rattle.fl_table.specs.declared.faults.MountFault.{MountFault}
 use Rattle.fl_table.specs.declared.faults.MountFault.TheVariants.{BadPage, BadEntry}
 use Rattle.fl_table.specs.declared.known.Known.{Known}
 use Rattle.fl_table.specs.declared.known.Listed.{Listed}
-use Rattle.fl_table.proofs.Checking.{left-index}
-use Rattle.fl_table.proofs.Listing.{entry-in}
-use Rattle.fl_table.proofs.Settling.{knows-all, knows-aside, none-of}
+use Rattle.fl_table.proofs.PageChecks.{left-index}
+use Rattle.fl_table.proofs.ListingPage.{entry-in}
+use Rattle.fl_table.proofs.WaitingPageComes.{knows-all, knows-aside, none-of}
 use Rattle.fl_table.proofs.Steps.{index-all, index-aside, index-refused, index-waits}
 
-module _ {KNOTS SLOTS : ℕ} (error : ℕ) (t : Come) (k n : ℕ) (lt : k < t.index_pages) (seen : seen_before t k ≤ n) (known : Known) (counts : List ℕ) (index : LearnedIndex KNOTS SLOTS) (h : KnowsWith error t k n known counts index) where
+module _ {KNOTS SLOTS : ℕ} (error : ℕ) (t : Come) (k n : ℕ) (lt : k < t.index_pages) (seen : seen_before t k ≤ n) (known : Known) (counts : List ℕ) (index : KeyIndex KNOTS SLOTS) (h : KnowsWith error t k n known counts index) where
   -- it is well
   pub index-passes : index_check t k ≡ None → KnowsWith error t (suc k) n known counts index
   index-passes fine = by_newest known.newest refl
@@ -123,7 +123,7 @@ module _ (t : Come) (k : ℕ) where
 
 -- ---- what is loaded
 
-pub none-loaded : (index : Index) (number : ℕ) → waiting_in index ≡ 0 → loaded_full index number ≡ None
+pub none-loaded : (index : BitmapIndex) (number : ℕ) → waiting_in index ≡ 0 → loaded_full index number ≡ None
 none-loaded index number none = by_test (is_waiting index number) refl
   where
     both_true : (a b : Bool) → (a && b) ≡ true → (a ≡ true) × (b ≡ true)
@@ -144,7 +144,7 @@ uncommitted Blank h = refl
 uncommitted Torn h = refl
 uncommitted Void h = refl
 
-module _ (t : Come) (layout : RowLayout) (most : ℕ) (bitmaps now : Index) (ring : Ring) (f : FlashState) (is : IsComeTo t layout most bitmaps ring f) (k page : ℕ) (at : page ≡ t.index_oldest + k) where
+module _ (t : Come) (layout : RowLayout) (most : ℕ) (bitmaps now : BitmapIndex) (ring : Ring) (f : FlashState) (is : IsComeTo t layout most bitmaps ring f) (k page : ℕ) (at : page ≡ t.index_oldest + k) where
   -- the page that is loaded
   pub loaded-page : index_page t k ≡ pages_of bitmaps f page
   loaded-page = is.index (t.index_oldest + k) ∙ ap (pages_of bitmaps f) (sym at)

@@ -6,12 +6,12 @@ use Rattle.std.specs.List.{AllByRecursion}
 use Rattle.fl_base.specs.declared.types.CutKind.{CutKind}
 use Rattle.fl_flash.specs.Flash.{FlashState, page_at}
 use Rattle.fl_flash.specs.declared.flash.FlashFault.{FlashFault}
-use Rattle.fl_index.specs.declared.index.Index.{Index}
+use Rattle.fl_index.specs.declared.index.BitmapIndex.{BitmapIndex}
 use Rattle.fl_index.specs.Memory as memory
 use Rattle.fl_index.specs.Outcomes as outcomes
 use Rattle.fl_index.specs.Standing as standing
 use Rattle.fl_index.specs.Standing.{HasIndex}
-use Rattle.fl_index.proofs.Sealings.{planned-ring}
+use Rattle.fl_index.proofs.SealEnds.{planned-ring}
 use Rattle.fl_model.specs.Facts.{IsTable, is_some_ring, counts_in}
 use Rattle.fl_model.specs.Image.{IsRingImage, HoldsRows, HoldsEntries}
 use Rattle.fl_model.specs.Index.{IndexEntry, IndexPage}
@@ -31,14 +31,14 @@ use Rattle.fl_table.specs.Outcomes.{Finishes, Breaks, FaultEnds, BySeals}
 use Rattle.fl_table.specs.Pages.{HoldsTable, KeptStand, bytes_in, place_in}
 use Rattle.fl_table.specs.Standing.{Stands}
 use Rattle.fl_table.specs.declared.table.Table as code
-use Rattle.fl_table.proofs.Holding.{lost-twice}
+use Rattle.fl_table.proofs.TablePages.{lost-twice}
 use Rattle.fl_table.proofs.BlobTables.{HoldsVar}
-use Rattle.fl_table.proofs.Blobbing.{var-behind, var-same}
+use Rattle.fl_table.proofs.BlobsOfTable.{var-behind, var-same}
 use Rattle.fl_table.proofs.SealAnswers.{planned-shape}
 use Rattle.fl_table.proofs.Plain.{IsPlainTable, IsIndexed, blobbed-moved, stand-as, table-parts, table-facts, plain-lose}
-use Rattle.fl_table.proofs.Indexing.{planned-some, planned-none, index-next}
-use Rattle.fl_table.proofs.Moved.{HoldsIndexed}
-use Rattle.fl_table.proofs.Staying.{kept-same, pages-same, ring-same}
+use Rattle.fl_table.proofs.IndexOfTable.{planned-some, planned-none, index-next}
+use Rattle.fl_table.proofs.ListsStay.{HoldsIndexed}
+use Rattle.fl_table.proofs.KeptPagesStay.{kept-same, pages-same, ring-same}
 
 -- What is left of a list of operations, of which one may have failed, is what some of the first ones make.
 pub record IsFront {O S : Type 0} (change : O → S → S) (operations : List O) (s left : S) : Type 0 where
@@ -189,7 +189,7 @@ rows-stand old new first plan r some at stands n =
     stands (place_in first plan DataRing n) (inl (omega (arith, at, small, add-mul first plan.data_blocks plan.geometry.block)))
 
 -- .. and those of variable data behind it
-pub var-stand : (bitmaps : Option Index) (old new : ℕ → List ℕ) (first : ℕ) (plan : Plan) → ArePlanned bitmaps (first + plan.data_blocks) plan → StandOutside bitmaps old new → (n : ℕ) → bytes_in new first plan VarRing n ≡ bytes_in old first plan VarRing n
+pub var-stand : (bitmaps : Option BitmapIndex) (old new : ℕ → List ℕ) (first : ℕ) (plan : Plan) → ArePlanned bitmaps (first + plan.data_blocks) plan → StandOutside bitmaps old new → (n : ℕ) → bytes_in new first plan VarRing n ≡ bytes_in old first plan VarRing n
 var-stand None old new first plan planned outside n = outside (place_in first plan VarRing n)
 var-stand (Some index) old new first plan planned outside n =
     let at = planned-ring index (first + plan.data_blocks) plan planned in
@@ -234,10 +234,10 @@ pub record IsMade {KNOTS SLOTS : ℕ} (t : code.Table KNOTS SLOTS) (first : ℕ)
   pub stand : KeptStand first plan table (after_seals plan rings table) (page_at old) (page_at new)
 
 -- what a seal of the waiting bitmaps is told of its table
-module _ {KNOTS SLOTS : ℕ} (t : code.Table KNOTS SLOTS) (f new : FlashState) (first : ℕ) (plan : Plan) (table : Table) (rose : Bool) (device : Device) (index : Index) (some : t.bitmaps ≡ Some index) (stands : Stands t f first plan table) (pending : table.pending ≡ 0 → ⊥)
+module _ {KNOTS SLOTS : ℕ} (t : code.Table KNOTS SLOTS) (f new : FlashState) (first : ℕ) (plan : Plan) (table : Table) (rose : Bool) (device : Device) (index : BitmapIndex) (some : t.bitmaps ≡ Some index) (stands : Stands t f first plan table) (pending : table.pending ≡ 0 → ⊥)
     (left : memory.next_in index + (cond (memory.waiting_in index == memory.per_page index) 1 0) ≤ spent_from + 1) (outside : OutsideStands (memory.ring_shape index) (page_at f) (page_at new)) where
   planned : memory.IsPlanned index (first + plan.data_blocks) plan
-  planned = subst (λ (o : Option Index). ArePlanned o (first + plan.data_blocks) plan) some stands.planned.index
+  planned = subst (λ (o : Option BitmapIndex). ArePlanned o (first + plan.data_blocks) plan) some stands.planned.index
 
   facts : IsPlainTable plan table
   facts = table-parts plan table stands.planned.log stands.facts
@@ -256,7 +256,7 @@ module _ {KNOTS SLOTS : ℕ} (t : code.Table KNOTS SLOTS) (f new : FlashState) (
   same_var = var-stand (Some index) (page_at f) (page_at new) first plan planned outside
 
   in_model : standing.Stands index f (first + plan.data_blocks) plan table
-  in_model = subst (λ (o : Option Index). Stand o f (first + plan.data_blocks) plan table) some stands.bitmaps
+  in_model = subst (λ (o : Option BitmapIndex). Stand o f (first + plan.data_blocks) plan table) some stands.bitmaps
 
   -- where all was done
   after-facts : (ring : model.Ring) (after : Table) → IsBeside table after → HasIndex plan after ring → ring.next + (cond ring.torn 1 0) ≤ spent_from + 64 → IsPlainTable plan after
@@ -328,7 +328,7 @@ module _ {KNOTS SLOTS : ℕ} (t : code.Table KNOTS SLOTS) (f new : FlashState) (
       fault_ends (FailedIn before) a = a
 
   -- all were done
-  pub index-finishes : (now : Index) → IsRoomMade index now → (h : outcomes.Finishes (first + plan.data_blocks) plan (seals_within plan (outcomes.index_seals plan table) table) table (after_seals plan (outcomes.index_seals plan table) table) rose device now f new) →
+  pub index-finishes : (now : BitmapIndex) → IsRoomMade index now → (h : outcomes.Finishes (first + plan.data_blocks) plan (seals_within plan (outcomes.index_seals plan table) table) table (after_seals plan (outcomes.index_seals plan table) table) rose device now f new) →
       IsMade t first plan (outcomes.index_seals plan table) table rose device (Some now) f new
   index-finishes now made h =
       let after = after_seals plan (outcomes.index_seals plan table) table in
@@ -370,7 +370,7 @@ abbrev pub MadeEnds : {KNOTS SLOTS : ℕ} → code.Table KNOTS SLOTS → ℕ →
 MadeEnds t first plan rings table rose device (Ok done) now old new = IsMade t first plan rings table rose device now old new
 MadeEnds t first plan rings table rose device (Err fault) now old new = Breaks first plan (BySeals plan rings table rose device) fault new
 
-pub bitmaps-end : {KNOTS SLOTS : ℕ} (t : code.Table KNOTS SLOTS) (f new : FlashState) (first : ℕ) (plan : Plan) (table : Table) (rose : Bool) (device : Device) (bitmaps : Option Index) (result : Result (Unit {0}) FlashFault) (now : Option Index) → t.bitmaps ≡ bitmaps → Stands t f first plan table →
+pub bitmaps-end : {KNOTS SLOTS : ℕ} (t : code.Table KNOTS SLOTS) (f new : FlashState) (first : ℕ) (plan : Plan) (table : Table) (rose : Bool) (device : Device) (bitmaps : Option BitmapIndex) (result : Result (Unit {0}) FlashFault) (now : Option BitmapIndex) → t.bitmaps ≡ bitmaps → Stands t f first plan table →
     (table.pending ≡ 0 → ⊥) → IsWatched f new rose device → next_after bitmaps ≤ spent_from + 1 → StandOutside bitmaps (page_at f) (page_at new) → OnOk result (RoomMade bitmaps now) → MakesRoomOf bitmaps f (first + plan.data_blocks) plan table rose device result now new →
     MadeEnds t first plan (bitmap_seals plan table) table rose device result now f new
 bitmaps-end t f new first plan table rose device None result now is stands pending watched left outside made ends =
@@ -383,23 +383,23 @@ bitmaps-end t f new first plan table rose device None result now is stands pendi
       beside = (table.index, table.index_pages, table.waiting, refl);
       facts = stands.facts;
       pages = stands.pages;
-      bitmaps = subst (λ (o : Option Index). Stand o f (first + plan.data_blocks) plan table) is stands.bitmaps;
+      bitmaps = subst (λ (o : Option BitmapIndex). Stand o f (first + plan.data_blocks) plan table) is stands.bitmaps;
       stand = kept-same first plan table table (page_at f) (page_at f) refl refl refl (λ ring n. refl);
     }))
   where
     none : bitmap_seals plan table ≡ []
     none = ap (λ b. cond (b && (length table.waiting == entries_per_page plan)) (IndexRing ∷ []) [])
-        (planned-none (first + plan.data_blocks) plan (subst (λ (o : Option Index). ArePlanned o (first + plan.data_blocks) plan) is stands.planned.index))
+        (planned-none (first + plan.data_blocks) plan (subst (λ (o : Option BitmapIndex). ArePlanned o (first + plan.data_blocks) plan) is stands.planned.index))
 bitmaps-end t f new first plan table rose device (Some index) result None is stands pending watched left outside made ends = absurd ends
 bitmaps-end t f new first plan table rose device (Some index) result (Some now) is stands pending watched left outside made ends =
     subst (λ (rings : List RingName). MadeEnds t first plan rings table rose device result (Some now) f new) (sym same) (by_result result made (ends watched s))
   where
     s : standing.Stands index f (first + plan.data_blocks) plan table
-    s = subst (λ (o : Option Index). Stand o f (first + plan.data_blocks) plan table) is stands.bitmaps
+    s = subst (λ (o : Option BitmapIndex). Stand o f (first + plan.data_blocks) plan table) is stands.bitmaps
 
     same : bitmap_seals plan table ≡ outcomes.index_seals plan table
     same = ap (λ b. cond (b && (length table.waiting == entries_per_page plan)) (IndexRing ∷ []) [])
-        (planned-some index (first + plan.data_blocks) plan (subst (λ (o : Option Index). ArePlanned o (first + plan.data_blocks) plan) is stands.planned.index))
+        (planned-some index (first + plan.data_blocks) plan (subst (λ (o : Option BitmapIndex). ArePlanned o (first + plan.data_blocks) plan) is stands.planned.index))
 
     by_result : (result : Result (Unit {0}) FlashFault) → OnOk result (IsRoomMade index now) → outcomes.MakesRoom (first + plan.data_blocks) plan table rose device result now f new → MadeEnds t first plan (outcomes.index_seals plan table) table rose device result (Some now) f new
     by_result (Ok u) made h = index-finishes t f new first plan table rose device index is stands pending left outside now made h

@@ -27,7 +27,7 @@ use Rattle.fl_table.specs.Kept.{place_of, IsFound, ShowsRows}
 use Rattle.fl_table.specs.Memory.{LiesOn}
 use Rattle.fl_table.specs.Standing.{Stands}
 use Rattle.fl_table.specs.declared.table.Table.{Table}
-use Rattle.fl_table.proofs.Holding.{plain-on}
+use Rattle.fl_table.proofs.TablePages.{plain-on}
 use Rattle.fl_table.proofs.KeptPages.{kept, length-kept, sum-next}
 use Rattle.fl_table.proofs.KeyRows.{length-rows_from}
 use Rattle.fl_table.proofs.SealAnswers.{planned-ring, planned-large, lies-size}

@@ -3,13 +3,13 @@ use Rattle.std.proofs.Common.{◌≡◌, ℕ, zero, suc, ◌+◌, ◌-◌, ◌*�
 use Rattle.std.specs.Prelude.{◌/◌, ◌%◌, Result, Ok, Err, OnOk, option_map, unwrap_or, slice_index_or, vec_len}
 use Rattle.std.proofs.lemmas.Bool.{cases_lt}
 use Rattle.fl_base.specs.declared.types.Geometry.{Geometry}
-use Rattle.fl_find.specs.declared.index.LearnedIndex.{LearnedIndex}
+use Rattle.fl_find.specs.declared.index.KeyIndex.{KeyIndex}
 use Rattle.fl_flash.specs.Flash.{FlashState, Goes, page_at}
 use Rattle.fl_flash.specs.Places.{extent, page_of}
 use Rattle.fl_index.specs.Finding as finding
 use Rattle.fl_index.specs.Memory.{first_in, form_in, len_in, per_page, oldest_in, next_in, place_in, ring_shape, IsSamePlan, IsSameRing, LiesOn as IndexLies}
 use Rattle.fl_index.specs.Standing.{StandsBelow, HoldsIndex}
-use Rattle.fl_index.specs.declared.index.Index.{Index}
+use Rattle.fl_index.specs.declared.index.BitmapIndex.{BitmapIndex}
 use Rattle.fl_index.specs.declared.page.EntryForm.{EntryForm}
 use Rattle.fl_index.specs.Page.{form_len}
 use Rattle.fl_model.specs.Record.{Plan, RowLayout}
@@ -23,7 +23,7 @@ use Rattle.fl_ring.specs.Ring as rings
 use Rattle.fl_ring.specs.Ring.{Shape, room}
 use Rattle.fl_ring.specs.declared.ring.Ring.{Ring}
 use Rattle.fl_ring.proofs.CutPages.{same_content}
-use Rattle.fl_ring.proofs.Readings.{same_page}
+use Rattle.fl_ring.proofs.ReadsInTurn.{same_page}
 use Rattle.fl_index.proofs.Memories.{planned-same, ring-same}
 use Rattle.fl_model.specs.Ring.{oldest as model_oldest}
 use Rattle.fl_table.specs.ByEntries.{Come, end_before, listing_among, told_at, page_check, seen_before, unlisted_of, first_of}
@@ -34,13 +34,13 @@ use Rattle.fl_table.specs.Coming.{AreRowsOf, ComesBy, ComesTo, IsComeTo, AreLoad
 use Rattle.fl_table.specs.Bitmaps.{AreSamePlan, AreSameRing, StandForRing}
 use Rattle.fl_table.specs.Knowing.{left, KnowsWith}
 use Rattle.fl_table.specs.declared.known.Known.{Known}
-use Rattle.fl_table.proofs.Checking.{left-page, left-tail}
-use Rattle.fl_table.proofs.Comings.{rows-still}
-use Rattle.fl_table.proofs.Indexing.{lies-goes}
-use Rattle.fl_table.proofs.Listing.{end-next, unlisted}
+use Rattle.fl_table.proofs.PageChecks.{left-page, left-tail}
+use Rattle.fl_table.proofs.MountProgress.{rows-still}
+use Rattle.fl_table.proofs.IndexOfTable.{lies-goes}
+use Rattle.fl_table.proofs.ListingPage.{end-next, unlisted}
 
 -- when k index pages were read, and the data pages below a number came
-pub record HasPassed {KNOTS SLOTS : ℕ} (error : ℕ) (t : Come) (k number end before reads : ℕ) (known : Known) (counts : List ℕ) (index : LearnedIndex KNOTS SLOTS) (bitmaps : Index) : Type 0 where
+pub record HasPassed {KNOTS SLOTS : ℕ} (error : ℕ) (t : Come) (k number end before reads : ℕ) (known : Known) (counts : List ℕ) (index : KeyIndex KNOTS SLOTS) (bitmaps : BitmapIndex) : Type 0 where
   pub end_is : end ≡ end_before t k
   pub seen : number ≤ max t.oldest (min end (t.oldest + t.pages))
   pub loaded : AreLoaded t number end bitmaps
@@ -48,7 +48,7 @@ pub record HasPassed {KNOTS SLOTS : ℕ} (error : ℕ) (t : Come) (k number end 
   pub few : reads ≤ before + k + unlisted_of t t.oldest (number - t.oldest)
 
 -- at first
-pub passed-none : {KNOTS SLOTS : ℕ} (error : ℕ) (t : Come) (before : ℕ) (known : Known) (counts : List ℕ) (index : LearnedIndex KNOTS SLOTS) (bitmaps : Index) → KnowsWith error t 0 0 known counts index → HasPassed error t 0 t.oldest 0 before before known counts index bitmaps
+pub passed-none : {KNOTS SLOTS : ℕ} (error : ℕ) (t : Come) (before : ℕ) (known : Known) (counts : List ℕ) (index : KeyIndex KNOTS SLOTS) (bitmaps : BitmapIndex) → KnowsWith error t 0 0 known counts index → HasPassed error t 0 t.oldest 0 before before known counts index bitmaps
 passed-none error t before known counts index bitmaps h = record {
   end_is = refl;
   seen = omega arith;
@@ -83,7 +83,7 @@ no-page-lists t none = record {
 -- ---- what reads leave
 
 -- an index that stands below a number does so still
-pub below-same : (old new : Index) (f g : FlashState) (number first : ℕ) (plan : Plan) (table : model.Table) → IsSamePlan old new → IsSameRing old new → page_at g ≡ page_at f → StandsBelow number old f first plan table → StandsBelow number new g first plan table
+pub below-same : (old new : BitmapIndex) (f g : FlashState) (number first : ℕ) (plan : Plan) (table : model.Table) → IsSamePlan old new → IsSameRing old new → page_at g ≡ page_at f → StandsBelow number old f first plan table → StandsBelow number new g first plan table
 below-same old new f g number first plan table same still pages h = record {
   planned = planned-same old new first plan h.planned same;
   ring = h.ring;
@@ -101,14 +101,14 @@ below-same old new f g number first plan table same still pages h = record {
     remembered : (n : ℕ) → first_in new n ≡ first_in old n
     remembered n = ap (λ firsts. slice_index_or firsts.items (n % vec_len firsts) None) still.firsts
 
-pub below-read : (bitmaps : Index) (f g : FlashState) (n number first : ℕ) (plan : Plan) (table : model.Table) → OnlyReads f n g → StandsBelow number bitmaps f first plan table → StandsBelow number bitmaps g first plan table
+pub below-read : (bitmaps : BitmapIndex) (f g : FlashState) (n number first : ℕ) (plan : Plan) (table : model.Table) → OnlyReads f n g → StandsBelow number bitmaps f first plan table → StandsBelow number bitmaps g first plan table
 below-read bitmaps f g n number first plan table reads h =
     below-same bitmaps bitmaps f g number first plan table (record { geometry = refl; place = refl; bits = refl; full = refl }) (record { ring = refl; firsts = refl }) (same_content f g reads.goes reads.same) h
 
 pub data-lies : (ring : Ring) (f g : FlashState) → Goes f g → place.LiesOn ring f → place.LiesOn ring g
 data-lies ring f g goes h = record { page = ap (λ (x : Geometry). x.page) goes.geometry ∙ h.page; block = ap (λ (x : Geometry). x.block) goes.geometry ∙ h.block; within = omega (arith, h.within, goes.blocks) }
 
-pub ring-read : (bitmaps : Option Index) (f g : FlashState) (n first : ℕ) (plan : Plan) (table : model.Table) → OnlyReads f n g → StandForRing bitmaps f first plan table → StandForRing bitmaps g first plan table
+pub ring-read : (bitmaps : Option BitmapIndex) (f g : FlashState) (n first : ℕ) (plan : Plan) (table : model.Table) → OnlyReads f n g → StandForRing bitmaps f first plan table → StandForRing bitmaps g first plan table
 ring-read None f g n first plan table reads h = tt
 ring-read (Some index) f g n first plan table reads h = record {
   planned = h.planned;
@@ -125,17 +125,17 @@ ring-read (Some index) f g n first plan table reads h = record {
 }
 
 -- .. and so does one whose ring is the same
-pub ring-stays : (old new : Option Index) (f : FlashState) (first : ℕ) (plan : Plan) (table : model.Table) → AreSamePlan old new → AreSameRing old new → StandForRing old f first plan table → StandForRing new f first plan table
+pub ring-stays : (old new : Option BitmapIndex) (f : FlashState) (first : ℕ) (plan : Plan) (table : model.Table) → AreSamePlan old new → AreSameRing old new → StandForRing old f first plan table → StandForRing new f first plan table
 ring-stays None None f first plan table same still h = tt
 ring-stays None (Some new) f first plan table same still h = absurd same
 ring-stays (Some old) None f first plan table same still h = absurd same
 ring-stays (Some old) (Some new) f first plan table same still h = ring-same old new f first plan table same still h
 
-pub index-lies-read : (bitmaps : Index) (f g : FlashState) (n : ℕ) → OnlyReads f n g → IndexLies bitmaps f → IndexLies bitmaps g
+pub index-lies-read : (bitmaps : BitmapIndex) (f g : FlashState) (n : ℕ) → OnlyReads f n g → IndexLies bitmaps f → IndexLies bitmaps g
 index-lies-read bitmaps f g n reads h = lies-goes (Some bitmaps) f g reads.goes h
 
 -- what a mount comes to stays what it comes to
-pub come-still : (t : Come) (layout : RowLayout) (most : ℕ) (old new : Index) (ring : Ring) (f g : FlashState) (n : ℕ) → IsSamePlan old new → oldest_in new ≡ oldest_in old → next_in new ≡ next_in old → OnlyReads f n g → IsComeTo t layout most old ring f → IsComeTo t layout most new ring g
+pub come-still : (t : Come) (layout : RowLayout) (most : ℕ) (old new : BitmapIndex) (ring : Ring) (f g : FlashState) (n : ℕ) → IsSamePlan old new → oldest_in new ≡ oldest_in old → next_in new ≡ next_in old → OnlyReads f n g → IsComeTo t layout most old ring f → IsComeTo t layout most new ring g
 come-still t layout most old new ring f g n same oldest next reads is = record {
   rows_are = rows-still t layout ring f g n reads is.rows_are;
   most_is = is.most_is;
@@ -158,7 +158,7 @@ come-still t layout most old new ring f g n same oldest next reads is = record {
 
 -- ---- a step
 
-module _ {KNOTS SLOTS : ℕ} (error : ℕ) (t : Come) (k number end to after before reads mid more : ℕ) (known known' : Known) (counts counts' : List ℕ) (index index' : LearnedIndex KNOTS SLOTS) (old new : Index) (h : HasPassed error t k number end before reads known counts index old)
+module _ {KNOTS SLOTS : ℕ} (error : ℕ) (t : Come) (k number end to after before reads mid more : ℕ) (known known' : Known) (counts counts' : List ℕ) (index index' : KeyIndex KNOTS SLOTS) (old new : BitmapIndex) (h : HasPassed error t k number end before reads known counts index old)
     (low : t.oldest ≤ number) (high : number ≤ t.oldest + t.pages) (to_is : to ≡ max number (min end (t.oldest + t.pages))) where
   -- the data pages below the end came
   pub seen-is : to - t.oldest ≡ seen_before t k
@@ -194,7 +194,7 @@ some-room ring = some ring.blocks ring.per_block ring.served.blocks ring.served.
     some a b x y = grind (arith, x, y)
 
 -- the oldest kept index page is no later than the next
-pub in-order : (bitmaps : Index) → oldest_in bitmaps ≤ next_in bitmaps
+pub in-order : (bitmaps : BitmapIndex) → oldest_in bitmaps ≤ next_in bitmaps
 in-order bitmaps = by_ring bitmaps.ring
   where
     by_ring : (o : Option Ring) → unwrap_or (option_map (λ ring. oldest_of ring) o) 0 ≤ unwrap_or (option_map (λ ring. next_of ring) o) 0
@@ -207,24 +207,24 @@ any-ok (Err e) p = tt
 
 -- ---- a table whose entries aren't full, or that has no index
 
-abbrev pub are-full : Option Index → Bool
+abbrev pub are-full : Option BitmapIndex → Bool
 are-full bitmaps = unwrap_or (option_map (λ index. (form_in index).full) bitmaps) false
 
-pub comes-bare : (t : Come) (layout : RowLayout) (most : ℕ) (bitmaps : Option Index) (ring : Ring) (f : FlashState) → are-full bitmaps ≡ false → ComesTo t layout most bitmaps ring f → AreRowsOf t layout ring f × (t.index_pages ≡ 0)
+pub comes-bare : (t : Come) (layout : RowLayout) (most : ℕ) (bitmaps : Option BitmapIndex) (ring : Ring) (f : FlashState) → are-full bitmaps ≡ false → ComesTo t layout most bitmaps ring f → AreRowsOf t layout ring f × (t.index_pages ≡ 0)
 comes-bare t layout most None ring f bare h = h
 comes-bare t layout most (Some index) ring f bare h = subst (λ full. ComesBy full t layout most index ring f) bare h
 
-pub knows-bare : {KNOTS SLOTS : ℕ} (error : ℕ) (t : Come) (known : Known) (counts : List ℕ) (index : LearnedIndex KNOTS SLOTS) (from : ℕ) → t.index_pages ≡ 0 → from ≡ t.oldest → KnowsWith error t 0 0 known counts index → KnowsWith error t t.index_pages (from - t.oldest) known counts index
+pub knows-bare : {KNOTS SLOTS : ℕ} (error : ℕ) (t : Come) (known : Known) (counts : List ℕ) (index : KeyIndex KNOTS SLOTS) (from : ℕ) → t.index_pages ≡ 0 → from ≡ t.oldest → KnowsWith error t 0 0 known counts index → KnowsWith error t t.index_pages (from - t.oldest) known counts index
 knows-bare error t known counts index from none is h =
     subst (λ k. KnowsWith error t k (from - t.oldest) known counts index) (sym none) (subst (λ n. KnowsWith error t 0 n known counts index) (let e : 0 ≡ from - t.oldest = omega (arith, is) in e) h)
 
-pub stands-bare : (bitmaps : Option Index) (f : FlashState) (first : ℕ) (plan : Plan) (table : model.Table) → are-full bitmaps ≡ false → StandFound bitmaps f first plan table → StandForRing bitmaps f first plan table
+pub stands-bare : (bitmaps : Option BitmapIndex) (f : FlashState) (first : ℕ) (plan : Plan) (table : model.Table) → are-full bitmaps ≡ false → StandFound bitmaps f first plan table → StandForRing bitmaps f first plan table
 stands-bare None f first plan table bare h = tt
 stands-bare (Some index) f first plan table bare h = subst (λ full. StandsFoundBy full index f first plan table) bare h
 
 -- .. and one whose entries are
-pub comes-full : (t : Come) (layout : RowLayout) (most : ℕ) (index : Index) (ring : Ring) (f : FlashState) → (form_in index).full ≡ true → ComesBy (form_in index).full t layout most index ring f → IsComeTo t layout most index ring f
+pub comes-full : (t : Come) (layout : RowLayout) (most : ℕ) (index : BitmapIndex) (ring : Ring) (f : FlashState) → (form_in index).full ≡ true → ComesBy (form_in index).full t layout most index ring f → IsComeTo t layout most index ring f
 comes-full t layout most index ring f full h = subst (λ full. ComesBy full t layout most index ring f) full h
 
-pub stands-full : (index : Index) (f : FlashState) (first : ℕ) (plan : Plan) (table : model.Table) → (form_in index).full ≡ true → StandsFoundBy (form_in index).full index f first plan table → StandsBelow (oldest_in index) index f first plan table
+pub stands-full : (index : BitmapIndex) (f : FlashState) (first : ℕ) (plan : Plan) (table : model.Table) → (form_in index).full ≡ true → StandsFoundBy (form_in index).full index f first plan table → StandsBelow (oldest_in index) index f first plan table
 stands-full index f first plan table full h = subst (λ full. StandsFoundBy full index f first plan table) full h

@@ -19,17 +19,17 @@ use Rattle.fl_ring.specs.declared.fault.RingFault.{RingFault}
 use Rattle.fl_ring.specs.declared.fault.RingFault.TheVariants as ring
 use Rattle.fl_ring.specs.declared.ring.Ring.{Ring}
 use Rattle.fl_ring.proofs.Founds.{same_pages}
-use Rattle.fl_ring.proofs.Readings.{same_page}
+use Rattle.fl_ring.proofs.ReadsInTurn.{same_page}
 use Rattle.fl_schema.specs.Schema.{layout_of}
 use Rattle.fl_table.specs.Causes.{IfFlash, IfPage, MountCausedBy, is_of_pages, of_ring}
 use Rattle.fl_model.specs.Table.{IndexRing, VarRing}
 use Rattle.fl_table.specs.Memory.{IsPlanned, IsSamePlan}
 use Rattle.fl_table.specs.Pages.{bytes_in, place_in}
-use Rattle.fl_table.proofs.Blobbing.{var-stands}
-use Rattle.fl_table.proofs.Moved.{index-stands}
+use Rattle.fl_table.proofs.BlobsOfTable.{var-stands}
+use Rattle.fl_table.proofs.ListsStay.{index-stands}
 use Rattle.fl_table.proofs.SealAnswers.{planned-ring}
-use Rattle.fl_find.specs.declared.index.LearnedIndex.{LearnedIndex}
-use Rattle.fl_index.specs.declared.index.Index.{Index}
+use Rattle.fl_find.specs.declared.index.KeyIndex.{KeyIndex}
+use Rattle.fl_index.specs.declared.index.BitmapIndex.{BitmapIndex}
 use Rattle.fl_table.specs.Bitmaps.{room_of}
 use Rattle.fl_table.specs.ByEntries.{Come, facts_on, rows_of, voids_of, end_of, known_after, mount_fault}
 use Rattle.fl_table.specs.Coming.{FirstsKnown, WaitUnlisted, index_pages_of, most_in}
@@ -42,7 +42,7 @@ use Rattle.fl_table.specs.declared.known.Listed.{Listed}
 use Rattle.fl_table.specs.declared.faults.MountFault.{MountFault}
 use Rattle.fl_table.specs.declared.faults.MountFault.TheVariants.{Flash, Ring as OfRing, BadPage, BadKeys, BadIndex, BadBlob, BadEntry}
 use Rattle.fl_table.specs.declared.table.Table.{Table}
-use Rattle.fl_table.proofs.Comings.{come-as, come-rows}
+use Rattle.fl_table.proofs.MountProgress.{come-as, come-rows}
 use Rattle.fl_table.proofs.Firsts.{firsts-read, kept-firsts}
 use Rattle.fl_table.proofs.Steps.{ends-well}
 
@@ -73,7 +73,7 @@ module _ {KNOTS SLOTS : ℕ} (old new : Table KNOTS SLOTS) (f mid g : FlashState
   pub outside-stands : OutsideStands (shape_at new.place f.geometry) (page_at f) (page_at mid) → OutsideStands (shape_at old.place old.geometry) (page_at f) (page_at g)
   outside-stands h q out = same_page mid g n q reads ∙ subst (λ (r : Shape). OutsideStands r (page_at f) (page_at mid)) (same-shape old new f same geometry) h q out
 
-  module _ (bitmaps : Option Index) (ring : Ring) (least : ℕ) (numbers : HasNumbers f (shape_at new.place f.geometry) least ring mid) (lies : shape_of ring ≡ shape_at new.place f.geometry) (within : least ≤ next_of ring) (all : n ≡ index_pages_of bitmaps + (next_of ring - oldest_of ring)) where
+  module _ (bitmaps : Option BitmapIndex) (ring : Ring) (least : ℕ) (numbers : HasNumbers f (shape_at new.place f.geometry) least ring mid) (lies : shape_of ring ≡ shape_at new.place f.geometry) (within : least ≤ next_of ring) (all : n ≡ index_pages_of bitmaps + (next_of ring - oldest_of ring)) where
     pub reads-ring : ReadsRing old bitmaps f least ring g
     reads-ring = record {
       repaired = mid;
@@ -88,7 +88,7 @@ module _ {KNOTS SLOTS : ℕ} (old new : Table KNOTS SLOTS) (f mid g : FlashState
     same-come = come-as (layout_of old.schema) (most_in old.geometry.page (layout_of old.schema)) bitmaps ring mid g (same_pages mid g n reads)
 
     -- .. and the same entries wait
-    pub same-waits : (end next : ℕ) (now : Option Index) → WaitUnlisted (comes_in old bitmaps ring mid) (pages_of ring mid) bitmaps end next now → WaitUnlisted (comes_in old bitmaps ring g) (pages_of ring g) bitmaps end next now
+    pub same-waits : (end next : ℕ) (now : Option BitmapIndex) → WaitUnlisted (comes_in old bitmaps ring mid) (pages_of ring mid) bitmaps end next now → WaitUnlisted (comes_in old bitmaps ring g) (pages_of ring g) bitmaps end next now
     same-waits end next now h =
         subst (λ (page : ℕ → List ℕ). WaitUnlisted (comes_in old bitmaps ring g) page bitmaps end next now) (sym (ap (λ (page : ℕ → List ℕ). λ (number : ℕ). page (place (shape_of ring) number)) (same_pages mid g n reads)))
         (subst (λ (t : Come). WaitUnlisted t (pages_of ring mid) bitmaps end next now) (sym same-come) h)
@@ -107,7 +107,7 @@ module _ {KNOTS SLOTS : ℕ} (old new : Table KNOTS SLOTS) (f mid g : FlashState
     refuses-page (BadEntry number count limit) only fails h = refused-page (BadEntry number count limit) h
 
     -- what is known of all data pages is what the mount answers
-    pub finds-data : (error : ℕ) (known : Known) (counts : List ℕ) (index : LearnedIndex KNOTS SLOTS) → known.newest ≡ None →
+    pub finds-data : (error : ℕ) (known : Known) (counts : List ℕ) (index : KeyIndex KNOTS SLOTS) → known.newest ≡ None →
         KnowsWith error (comes_in old bitmaps ring mid) (comes_in old bitmaps ring mid).index_pages (comes_in old bitmaps ring mid).pages known counts index →
         FindsData old bitmaps f least ring (record { rows = known.rows; pages = next_of ring - oldest_of ring; voids = known.voids }) known.last known.blob_end g
     finds-data error known counts index none h =
@@ -133,7 +133,7 @@ module _ {KNOTS SLOTS : ℕ} (old new : Table KNOTS SLOTS) (f mid g : FlashState
         mounted_as rows voids e k = rw (e, k) refl
 
     -- .. and the first data page of each kept index page is remembered
-    pub finds-firsts : (error : ℕ) (known : Known) (counts : List ℕ) (index : LearnedIndex KNOTS SLOTS) (now : Option Index) → known.newest ≡ None →
+    pub finds-firsts : (error : ℕ) (known : Known) (counts : List ℕ) (index : KeyIndex KNOTS SLOTS) (now : Option BitmapIndex) → known.newest ≡ None →
         KnowsWith error (comes_in old bitmaps ring mid) (comes_in old bitmaps ring mid).index_pages (comes_in old bitmaps ring mid).pages known counts index →
         index_pages_of bitmaps ≤ room_of bitmaps → FirstsKnown bitmaps mid now → RemembersKept bitmaps g now
     finds-firsts error known counts index now none h few firsts =
@@ -141,7 +141,7 @@ module _ {KNOTS SLOTS : ℕ} (old new : Table KNOTS SLOTS) (f mid g : FlashState
         (kept-firsts (layout_of old.schema) (most_in old.geometry.page (layout_of old.schema)) bitmaps now ring mid (ap mount_fault (sym same-come) ∙ (finds-data error known counts index none h).fine) few firsts)
 
 -- the ring was refused
-pub refuses-ring : {KNOTS SLOTS : ℕ} (old new : Table KNOTS SLOTS) (bitmaps : Option Index) (f g : FlashState) (least : ℕ) (e : RingFault) → IsSamePlan old new → f.geometry ≡ old.geometry → FoundFault f (shape_at new.place f.geometry) least e → FailsAs f (shape_at new.place f.geometry) least e g →
+pub refuses-ring : {KNOTS SLOTS : ℕ} (old new : Table KNOTS SLOTS) (bitmaps : Option BitmapIndex) (f g : FlashState) (least : ℕ) (e : RingFault) → IsSamePlan old new → f.geometry ≡ old.geometry → FoundFault f (shape_at new.place f.geometry) least e → FailsAs f (shape_at new.place f.geometry) least e g →
     RefusesData old bitmaps f least (of_ring e) g
 refuses-ring old new bitmaps f g least e same geometry found fails =
     by_fault e (subst (λ (r : Shape). FoundFault f r least e) (same-shape old new f same geometry) found) (subst (λ (r : Shape). FailsAs f r least e g) (same-shape old new f same geometry) fails)
@@ -154,7 +154,7 @@ refuses-ring old new bitmaps f g least e same geometry found fails =
     by_fault (ring.NoNumber least) found fails = record { found = found; reads = fails }
 
 -- the ring was found, and the index ends behind it
-pub refuses-end : {KNOTS SLOTS : ℕ} (old new : Table KNOTS SLOTS) (bitmaps : Option Index) (f g : FlashState) (least next : ℕ) (ring : Ring) → IsSamePlan old new → f.geometry ≡ old.geometry → HasNumbers f (shape_at new.place f.geometry) least ring g → next ≡ next_of ring → next < least →
+pub refuses-end : {KNOTS SLOTS : ℕ} (old new : Table KNOTS SLOTS) (bitmaps : Option BitmapIndex) (f g : FlashState) (least next : ℕ) (ring : Ring) → IsSamePlan old new → f.geometry ≡ old.geometry → HasNumbers f (shape_at new.place f.geometry) least ring g → next ≡ next_of ring → next < least →
     RefusesData old bitmaps f least (BadIndex least next) g
 refuses-end old new bitmaps f g least next ring same geometry numbers is beyond = record {
   ring = ring;

@@ -5,12 +5,12 @@ use Rattle.std.specs.Option.{is_none}
 use Rattle.std.specs.Prelude.{not}
 use Rattle.fl_flash.specs.Flash.{FlashState, page_at}
 use Rattle.fl_flash.specs.Places.{extent}
-use Rattle.fl_index.specs.declared.index.Index.{Index}
+use Rattle.fl_index.specs.declared.index.BitmapIndex.{BitmapIndex}
 use Rattle.fl_index.specs.Memory.{form_in, oldest_in}
 use Rattle.fl_index.specs.Memory as memory
 use Rattle.fl_index.specs.Standing.{HasIndex, RemembersBelow}
 use Rattle.fl_index.specs.declared.page.EntryForm.{EntryForm}
-use Rattle.fl_index.proofs.Sealings.{lies-size, planned-form}
+use Rattle.fl_index.proofs.SealEnds.{lies-size, planned-form}
 use Rattle.fl_model.specs.Image.{rows_at}
 use Rattle.fl_model.specs.Index.{IndexPage}
 use Rattle.fl_model.specs.Limits.{is_listed, numbers_from, numbers_of}
@@ -33,17 +33,17 @@ use Rattle.fl_table.specs.Coming.{ComesBy, ComesTo, StandFound, StandsFoundBy, m
 use Rattle.fl_table.specs.Memory.{IsPlanned}
 use Rattle.fl_table.specs.Reading.{pages_of}
 use Rattle.fl_table.specs.declared.table.Table as code
-use Rattle.fl_table.proofs.Comings.{rows-come}
+use Rattle.fl_table.proofs.MountProgress.{rows-come}
 use Rattle.fl_table.proofs.Entries.{fields-fit}
-use Rattle.fl_table.proofs.Indexing.{planned-none}
+use Rattle.fl_table.proofs.IndexOfTable.{planned-none}
 use Rattle.fl_table.proofs.MountCalls.{OthersStill}
 use Rattle.fl_table.proofs.MountLifted.{RowsMount}
 use Rattle.fl_table.proofs.MountRead.{HoldRows, hold-rows, page-of}
-use Rattle.fl_table.proofs.Moved.{has-index, below-moved, ring-moved}
+use Rattle.fl_table.proofs.ListsStay.{has-index, below-moved, ring-moved}
 use Rattle.fl_table.proofs.Plain.{none-listed, table-facts}
 use Rattle.fl_table.proofs.Repaired.{idle-lost}
 use Rattle.fl_table.proofs.SealAnswers.{planned-large}
-use Rattle.fl_table.proofs.Standing.{IsOf, IsPageOf, IsIndexOf}
+use Rattle.fl_table.proofs.StandingMount.{IsOf, IsPageOf, IsIndexOf}
 use Rattle.fl_table.proofs.StandingIndex.{index-of, ends-within, few-kept, listed-told}
 use Rattle.fl_table.proofs.StandingTotals.{unlisted-counted, unlisted-few}
 use Rattle.fl_table.proofs.States.{shape_in, state_of, state-oldest, HaveSize}
@@ -77,11 +77,11 @@ module _ {KNOTS SLOTS : ℕ} (t : code.Table KNOTS SLOTS) (first : ℕ) (plan : 
         has : (r : model.Ring) → table.index ≡ Some r → HasIndex plan l.now.state r
         has r e = has-index plan l.now.state r (l.repaired.index ∙ e) l.facts (omega (arith, ap length l.repaired.idle.waiting))
 
-        by_form : (index : Index) (full : Bool) → StandsFoundBy full index old (first + plan.data_blocks) plan table → StandsFoundBy full index mid (first + plan.data_blocks) plan l.now.state
+        by_form : (index : BitmapIndex) (full : Bool) → StandsFoundBy full index old (first + plan.data_blocks) plan table → StandsFoundBy full index mid (first + plan.data_blocks) plan l.now.state
         by_form index true h = below-moved (oldest_in index) index old mid (first + plan.data_blocks) plan table l.now.state h l.repaired.index_pages (has h.ring h.facts.ring_is) (λ n. (still n).0)
         by_form index false h = ring-moved index old mid (first + plan.data_blocks) plan table l.now.state h l.repaired.index_pages (has h.ring h.facts.ring_is) (λ n. (still n).0)
 
-        by_index : (o : Option Index) → StandFound o old (first + plan.data_blocks) plan table → StandFound o mid (first + plan.data_blocks) plan l.now.state
+        by_index : (o : Option BitmapIndex) → StandFound o old (first + plan.data_blocks) plan table → StandFound o mid (first + plan.data_blocks) plan l.now.state
         by_index None h = tt
         by_index (Some index) h = by_form index (form_in index).full h
 
@@ -113,10 +113,10 @@ module _ {KNOTS SLOTS : ℕ} (t : code.Table KNOTS SLOTS) (first : ℕ) (plan : 
 
           bare : t.bitmaps ≡ None → (number : ℕ) → is_listed plan l.now.state number ≡ false
           bare is number =
-              let has = planned-none (first + plan.data_blocks) plan (subst (λ (o : Option Index). ArePlanned o (first + plan.data_blocks) plan) is planned.index) in
+              let has = planned-none (first + plan.data_blocks) plan (subst (λ (o : Option BitmapIndex). ArePlanned o (first + plan.data_blocks) plan) is planned.index) in
               ap (λ (pages : List IndexPage). is_listed plan (record l.now.state { index_pages = pages }) number) (none-listed plan l.now.state has l.facts)
 
-          by_form : (index : Index) (full : Bool) → (form_in index).full ≡ full → StandsFoundBy full index mid (first + plan.data_blocks) plan l.now.state → ComesBy full c (layout_of t.schema) (most_in t.geometry.page (layout_of t.schema)) index ring mid → memory.LiesOn index mid → IsIndexed
+          by_form : (index : BitmapIndex) (full : Bool) → (form_in index).full ≡ full → StandsFoundBy full index mid (first + plan.data_blocks) plan l.now.state → ComesBy full c (layout_of t.schema) (most_in t.geometry.page (layout_of t.schema)) index ring mid → memory.LiesOn index mid → IsIndexed
           by_form index false e h k lie = none k.1 (λ full number. absurd (not_both (sym full ∙ (sym (ap (λ (form : EntryForm). form.full) (planned-form index (first + plan.data_blocks) plan h.planned)) ∙ e))))
           by_form index true e h k lie =
               let size = lies-size index mid (first + plan.data_blocks) plan h.planned lie.geometry lie.within reaches in
@@ -128,7 +128,7 @@ module _ {KNOTS SLOTS : ℕ} (t : code.Table KNOTS SLOTS) (first : ℕ) (plan : 
                 few = few-kept (RemembersBelow (oldest_in index)) c (layout_of t.schema) (most_in t.geometry.page (layout_of t.schema)) index ring mid (first + plan.data_blocks) plan l.now.state k h size begin-is fit;
               }
 
-          by_index : (o : Option Index) → t.bitmaps ≡ o → StandFound o mid (first + plan.data_blocks) plan l.now.state → ComesTo c (layout_of t.schema) (most_in t.geometry.page (layout_of t.schema)) o ring mid → LieOn o mid → IsIndexed
+          by_index : (o : Option BitmapIndex) → t.bitmaps ≡ o → StandFound o mid (first + plan.data_blocks) plan l.now.state → ComesTo c (layout_of t.schema) (most_in t.geometry.page (layout_of t.schema)) o ring mid → LieOn o mid → IsIndexed
           by_index None is h k lie = none k.1 (λ full. bare is)
           by_index (Some index) is h k lie = by_form index (form_in index).full refl h k lie
 

@@ -1,5 +1,5 @@
 -- How the mount of a table ends, by the mount of its ring and the read of the kept pages.
-use Rattle.fl_model.proofs.Telling.{telling-stays}
+use Rattle.fl_model.proofs.EntriesStayTold.{telling-stays}
 use Rattle.std.specs.List.{slice_get, sum}
 use Rattle.std.proofs.lemmas.Bool.{cases_lt}
 use Rattle.std.proofs.Common.{◌≡◌, ℕ, ◌+◌, ◌-◌, ◌*◌, ◌%◌, ◌≤◌, min, max, Bool, true, false, cond, ◌==◌, Option, Some, None, Result, Ok, Err, List, [], ◌∷◌, map, length, drop, get_or, refl, sym, ◌∙◌, ap, subst, ◌⊎◌, inl, inr, arith, IsTrue, ◌<◌, take}
@@ -21,11 +21,11 @@ use Rattle.fl_model.specs.Work.{Device, PartProgress}
 use Rattle.fl_model.specs.Within.{TableMounts, TableStopped, TableUnread}
 use Rattle.fl_model.proofs.Lists.{slice_get-some}
 use Rattle.fl_table.proofs.BlobTables.{HoldsVar}
-use Rattle.fl_table.proofs.Blobbing.{var-as, var-same}
+use Rattle.fl_table.proofs.BlobsOfTable.{var-as, var-same}
 use Rattle.fl_table.proofs.MountCalls.{OthersStill}
 use Rattle.fl_table.proofs.Plain.{IsPlainTable, indexed-as, blobbed-moved, stand-as, table-parts, table-facts}
 use Rattle.fl_table.proofs.PageRows.{page-rows, entries-length}
-use Rattle.fl_table.proofs.Moved.{HoldsIndexed, has-index, indexed-moved, indexed-same, ring-moved}
+use Rattle.fl_table.proofs.ListsStay.{HoldsIndexed, has-index, indexed-moved, indexed-same, ring-moved}
 use Rattle.fl_page.specs.Writer.{Gathers}
 use Rattle.fl_ring.specs.Device.{ArmsAs, SameDevice}
 use Rattle.fl_ring.specs.Looking.{OnlyReads, ReadFails}
@@ -47,34 +47,34 @@ use Rattle.fl_table.specs.Memory.{IsPlanned, HoldsInMemory}
 use Rattle.fl_table.specs.Outcomes.{FaultEnds, MountsBadly, DataEnds, mounted_of}
 use Rattle.fl_model.specs.Spline.{points_of}
 use Rattle.fl_bitmap.specs.Widths.{is_bits}
-use Rattle.fl_index.specs.declared.index.Index.{Index}
+use Rattle.fl_index.specs.declared.index.BitmapIndex.{BitmapIndex}
 use Rattle.fl_index.specs.Memory as memory
 use Rattle.fl_index.specs.Page.{full_view}
 use Rattle.fl_index.specs.Standing.{Waits}
 use Rattle.fl_index.proofs.Lists.{end_after}
-use Rattle.fl_index.proofs.Sealings.{planned-bits, planned-page}
+use Rattle.fl_index.proofs.SealEnds.{planned-bits, planned-page}
 use Rattle.fl_model.specs.Image.{rows_at, IsRingImage, HoldsRows}
 use Rattle.fl_table.specs.Bitmaps.{AreSamePlan, Stand, StandForRing, first_to_wait}
 use Rattle.fl_table.specs.Coming.{WaitUnlisted}
-use Rattle.fl_table.proofs.Gathering.{first-same, page-bitmap, void-bitmap}
-use Rattle.fl_table.proofs.Indexing.{planned-none, planned-some, still-planned}
+use Rattle.fl_table.proofs.NotedEntries.{first-same, page-bitmap, void-bitmap}
+use Rattle.fl_table.proofs.IndexOfTable.{planned-none, planned-some, still-planned}
 use Rattle.fl_table.specs.Pages.{Rests, bytes_in}
-use Rattle.fl_find.specs.declared.index.LearnedIndex.{LearnedIndex}
+use Rattle.fl_find.specs.declared.index.KeyIndex.{KeyIndex}
 use Rattle.fl_table.specs.Reading.{pages_of, HaveEntries, entries_from, bitmap_on, full_on}
 use Rattle.fl_table.specs.declared.counts.Mounted.{Mounted}
 use Rattle.fl_table.specs.declared.known.Known.{Known}
 use Rattle.fl_table.specs.declared.faults.MountFault.{MountFault}
 use Rattle.fl_table.specs.declared.faults.MountFault.TheVariants as mount
 use Rattle.fl_table.specs.declared.table.Table as code
-use Rattle.fl_table.proofs.Holding.{plain-on, plain-rests}
-use Rattle.fl_table.proofs.Lifted.{TableAnswers}
+use Rattle.fl_table.proofs.TablePages.{plain-on, plain-rests}
+use Rattle.fl_table.proofs.RingInTable.{TableAnswers}
 use Rattle.fl_table.proofs.MountGood.{ring-renumbered, numbered-facts, numbered-idle, good-ring}
 use Rattle.fl_table.proofs.MountLifted.{RowsMount, mount-lifts, mount-fails}
 use Rattle.fl_table.proofs.MountComes.{pages-hold}
 use Rattle.fl_table.proofs.Repaired.{IsIdle, IsRepaired, idle-lost, lost-idle}
 use Rattle.fl_table.proofs.SealAnswers.{planned-shape, planned-large, planned-few, lies-size, counts-room}
-use Rattle.fl_table.proofs.Sealings.{fault-ends}
-use Rattle.fl_table.proofs.Standing.{IsOf}
+use Rattle.fl_table.proofs.SealEnds.{fault-ends}
+use Rattle.fl_table.proofs.StandingMount.{IsOf}
 use Rattle.fl_table.proofs.StandingKeys.{mount-fine}
 use Rattle.fl_table.proofs.StandingKnown.{KnowsTable}
 use Rattle.fl_table.proofs.States.{shape_in, state_of, state-oldest, HaveSize, to-image}
@@ -320,7 +320,7 @@ module _ (first : ℕ) (plan : Plan) (table : Table) (rose : Bool) (device : Dev
         }
 
     -- what it answers
-    pub mount-answer : {KNOTS SLOTS : ℕ} (c : Come) (known : Known) (counts : List ℕ) (index : LearnedIndex KNOTS SLOTS) → KnowsTable plan.error c l.now.state known counts index →
+    pub mount-answer : {KNOTS SLOTS : ℕ} (c : Come) (known : Known) (counts : List ℕ) (index : KeyIndex KNOTS SLOTS) → KnowsTable plan.error c l.now.state known counts index →
         ◌≡◌ {A = Mounted} (record { rows = known.rows; pages = next_of ring - oldest_of ring; voids = known.voids }) (mounted_of (ready plan l.now.state))
     mount-answer c known counts index knows =
         let many : next_of ring - oldest_of ring ≡ length l.now.state.rows.counts = omega (arith, l.stands.next, old_is, l.facts.rows.not_negative) in
@@ -366,7 +366,7 @@ module _ (first : ℕ) (plan : Plan) (table : Table) (rose : Bool) (device : Dev
                 ∙ sym (ap (bitmap_of plan) nothing ∙ no_values (plan.bits == 0))
 
     -- the index stands for that of the table that was started, where entries of the data pages wait that it doesn't list
-    pub started-stand : {KNOTS SLOTS : ℕ} (t : code.Table KNOTS SLOTS) (c : Come) (now : Option Index) (least : ℕ) → IsPlanned t first plan → place.shape_of ring ≡ shape_in first plan → c.layout ≡ layout_of t.schema → c.oldest ≡ oldest_of ring →
+    pub started-stand : {KNOTS SLOTS : ℕ} (t : code.Table KNOTS SLOTS) (c : Come) (now : Option BitmapIndex) (least : ℕ) → IsPlanned t first plan → place.shape_of ring ≡ shape_in first plan → c.layout ≡ layout_of t.schema → c.oldest ≡ oldest_of ring →
         end_before c c.index_pages ≤ index_end plan l.now.state → least ≡ index_end plan table → AreSamePlan t.bitmaps now → StandForRing now new (first + plan.data_blocks) plan l.now.state →
         WaitUnlisted c (pages_of ring mid) t.bitmaps least (next_of ring) now → Stand now new (first + plan.data_blocks) plan (ready plan l.now.state)
     started-stand t c None least planned is layout begin ends end same stands waits =

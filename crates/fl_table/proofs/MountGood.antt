@@ -11,7 +11,7 @@ use Rattle.fl_model.specs.Mount.{renumber, at_least_of, index_end}
 use Rattle.fl_model.specs.Mount as numbering
 use Rattle.fl_model.proofs.Lists.{slice_get-some}
 use Rattle.fl_model.proofs.Pages.{pages-at}
-use Rattle.fl_ring.proofs.Moved.{renumbered_on}
+use Rattle.fl_ring.proofs.SamePlaces.{renumbered_on}
 use Rattle.fl_table.proofs.Memories.{few-kept}
 use Rattle.fl_table.proofs.Plain.{IsPlainTable, plain-renumber}
 use Rattle.fl_ring.specs.Head.{one}

@@ -5,7 +5,7 @@ use Rattle.std.specs.List.{list_any}
 use Rattle.fl_flash.specs.Flash.{FlashState, page_at}
 use Rattle.fl_flash.specs.declared.flash.FlashFault.{FlashFault}
 use Rattle.fl_flash.specs.declared.flash.FlashFault.TheVariants.{Media}
-use Rattle.fl_index.specs.declared.index.Index.{Index}
+use Rattle.fl_index.specs.declared.index.BitmapIndex.{BitmapIndex}
 use Rattle.fl_index.specs.Outcomes as outcomes
 use Rattle.fl_index.specs.Standing as standing
 use Rattle.fl_index.specs.Standing.{HasIndex}
@@ -193,12 +193,12 @@ module _ (old new : FlashState) (first : ℕ) (plan : Plan) (table : Table) (ros
           record { front = g.front; others = g.others ++ u.0.others; split = u.0.split ∙ (ap (λ (ops : List (RingName × Kind)). ops ++ u.0.others) g.split ∙ append_assoc g.front g.others u.0.others); state = g.state }
 
   -- it ended well, and then the data ring is mounted
-  pub index-mounts : (Remembers : Index → Plan → Table → model.Ring → Type 0) (end : Option ℕ) (now : Index) (h : outcomes.EndsWell Remembers (first + plan.data_blocks) plan table rose device end now new) → Rests new first plan h.now.state
+  pub index-mounts : (Remembers : BitmapIndex → Plan → Table → model.Ring → Type 0) (end : Option ℕ) (now : BitmapIndex) (h : outcomes.EndsWell Remembers (first + plan.data_blocks) plan table rose device end now new) → Rests new first plan h.now.state
   index-mounts Remembers end now h =
       left-rests h.now.state h.stands.ring (front-left (λ (o : RingName × Kind). o.1) (effect_within plan) rose (repair_within plan IndexRing (renumber plan IndexRing table)) device (renumber plan IndexRing table) h.now h.did)
       h.stands.facts h.stands.pages
 
-  pub then-rows : {KNOTS SLOTS : ℕ} (Remembers : Index → Plan → Table → model.Ring → Type 0) (end : Option ℕ) (now : Index) (h : outcomes.EndsWell Remembers (first + plan.data_blocks) plan table rose device end now new) (result : Result Mounted MountFault) (t : code.Table KNOTS SLOTS) (last : FlashState) →
+  pub then-rows : {KNOTS SLOTS : ℕ} (Remembers : BitmapIndex → Plan → Table → model.Ring → Type 0) (end : Option ℕ) (now : BitmapIndex) (h : outcomes.EndsWell Remembers (first + plan.data_blocks) plan table rose device end now new) (result : Result Mounted MountFault) (t : code.Table KNOTS SLOTS) (last : FlashState) →
       RingsEnd first plan (DataRing ∷ var_rings plan) h.now.state rose h.now.device result t last → MountEnds first plan table rose device result t last
   then-rows Remembers end now h result t last k = by_result result k
     where

@@ -5,15 +5,15 @@ use Rattle.std.proofs.Math.Nat.{mul-le-mul_right}
 use Rattle.fl_base.specs.declared.types.Geometry.{Geometry}
 use Rattle.fl_base.specs.declared.types.RingPlace.{RingPlace}
 use Rattle.fl_flash.specs.Flash.{FlashState, Goes, page_at}
-use Rattle.fl_index.specs.declared.index.Index.{Index}
+use Rattle.fl_index.specs.declared.index.BitmapIndex.{BitmapIndex}
 use Rattle.fl_index.specs.Memory as memory
 use Rattle.fl_index.specs.Outcomes as outcomes
-use Rattle.fl_index.proofs.Sealings.{planned-ring}
+use Rattle.fl_index.proofs.SealEnds.{planned-ring}
 use Rattle.fl_model.specs.Facts.{is_some_ring}
 use Rattle.fl_model.specs.Image.{IsRingImage, HoldsEntries}
 use Rattle.fl_index.specs.Standing as standing
 use Rattle.fl_ring.specs.Mounting.{shape_at}
-use Rattle.fl_table.proofs.Moved.{has-index}
+use Rattle.fl_table.proofs.ListsStay.{has-index}
 use Rattle.fl_model.specs.Mount.{rings_of, index_end}
 use Rattle.fl_model.specs.MountLimit.{repaired, all_repaired, part_mount_limit, mount_limit}
 use Rattle.fl_model.specs.Record.{Plan, RowLayout, has_index}
@@ -47,8 +47,8 @@ use Rattle.fl_table.specs.declared.counts.Mounted.{Mounted as Found}
 use Rattle.fl_table.specs.declared.faults.MountFault.{MountFault}
 use Rattle.fl_table.specs.declared.faults.MountFault.TheVariants as mount
 use Rattle.fl_table.specs.declared.table.Table as code
-use Rattle.fl_table.proofs.Following.{cause-later}
-use Rattle.fl_table.proofs.Indexing.{planned-none, planned-some}
+use Rattle.fl_table.proofs.SealsInTurn.{cause-later}
+use Rattle.fl_table.proofs.IndexOfTable.{planned-none, planned-some}
 use Rattle.fl_table.proofs.IndexSeals.{rows-stand, var-stand}
 use Rattle.fl_var.specs.declared.var_data.VarData.{VarData}
 use Rattle.fl_table.specs.MountLimits.{IsIndexLimited, rows_mount_limit}
@@ -67,9 +67,9 @@ module _ {KNOTS SLOTS : ℕ} (t : code.Table KNOTS SLOTS) (old new : FlashState)
       let shape = planned-shape t first plan planned in
       let k : 3 * plan.geometry.block ≤ plan.data_blocks * plan.geometry.block = mul-le-mul_right plan.geometry.block shape.blocks in omega (arith, k, shape.pages)
 
-  module _ (index : Index) (is : t.bitmaps ≡ Some index) (outside : StandOutside (Some index) (page_at old) (page_at new)) where
+  module _ (index : BitmapIndex) (is : t.bitmaps ≡ Some index) (outside : StandOutside (Some index) (page_at old) (page_at new)) where
     planned_index : memory.IsPlanned index (first + plan.data_blocks) plan
-    planned_index = subst (λ (o : Option Index). ArePlanned o (first + plan.data_blocks) plan) is planned.index
+    planned_index = subst (λ (o : Option BitmapIndex). ArePlanned o (first + plan.data_blocks) plan) is planned.index
 
     some_pages : 0 < plan.index_blocks * plan.geometry.block
     some_pages =
@@ -107,7 +107,7 @@ module _ {KNOTS SLOTS : ℕ} (t : code.Table KNOTS SLOTS) (old new : FlashState)
       ap (λ (o : Option ℕ). unwrap_or o 0) k ∙ sym (ap (λ (pages : List IndexPage). index_end plan (record table { index_pages = pages })) (none-listed plan table none facts))
 
   -- the index failed
-  pub mount-fails : (bitmaps now : Option Index) (e : RingFault) (t' : code.Table KNOTS SLOTS) → t.bitmaps ≡ bitmaps → StandOutside bitmaps (page_at old) (page_at new) → MountEndsOf bitmaps old (first + plan.data_blocks) plan table rose device (Err e) now new →
+  pub mount-fails : (bitmaps now : Option BitmapIndex) (e : RingFault) (t' : code.Table KNOTS SLOTS) → t.bitmaps ≡ bitmaps → StandOutside bitmaps (page_at old) (page_at new) → MountEndsOf bitmaps old (first + plan.data_blocks) plan table rose device (Err e) now new →
       MountEnds first plan table rose device (Err (of_ring e)) t' new
   mount-fails None now e t' is outside h = absurd (no h.0)
     where
@@ -124,16 +124,16 @@ module _ {KNOTS SLOTS : ℕ} (t : code.Table KNOTS SLOTS) (old new : FlashState)
       by_fault (ring.NoNumber least) m = absurd m
 
   -- the index was mounted, and then the data ring
-  pub mount-then : (bitmaps now : Option Index) (end : Option ℕ) (result : Result Found MountFault) (t' : code.Table KNOTS SLOTS) (last : FlashState) → t.bitmaps ≡ bitmaps → AreSamePlan bitmaps now → StandOutside bitmaps (page_at old) (page_at new) →
+  pub mount-then : (bitmaps now : Option BitmapIndex) (end : Option ℕ) (result : Result Found MountFault) (t' : code.Table KNOTS SLOTS) (last : FlashState) → t.bitmaps ≡ bitmaps → AreSamePlan bitmaps now → StandOutside bitmaps (page_at old) (page_at new) →
       MountEndsOf bitmaps old (first + plan.data_blocks) plan table rose device (Ok end) now new →
       ((x : Table) (later : Device) → new.is_on ≡ true → SameDevice new later → Rests new first plan x → StandFound now new (first + plan.data_blocks) plan x → unwrap_or end 0 ≡ index_end plan x →
       RingsEnd first plan (DataRing ∷ var_rings plan) x rose later result t' last) → MountEnds first plan table rose device result t' last
   mount-then None now end result t' last is same outside h go =
-      let none = planned-none (first + plan.data_blocks) plan (subst (λ (o : Option Index). ArePlanned o (first + plan.data_blocks) plan) is planned.index) in
+      let none = planned-none (first + plan.data_blocks) plan (subst (λ (o : Option BitmapIndex). ArePlanned o (first + plan.data_blocks) plan) is planned.index) in
       let one : rings_of plan ≡ DataRing ∷ var_rings plan = ap (λ (b : Bool). (cond b (IndexRing ∷ []) []) ++ DataRing ∷ [] ++ var_rings plan) none in
       subst (λ (rings : List RingName). RingsEnd first plan rings table rose device result t' last) (sym one)
       (go table device (ap (λ (f : FlashState). f.is_on) h.2 ∙ watched.on) (subst (λ (f : FlashState). SameDevice f device) (sym h.2) watched.counts) (subst (λ (f : FlashState). Rests f first plan table) (sym h.2) rests)
-      (subst (λ (o : Option Index). StandFound o new (first + plan.data_blocks) plan table) (sym h.1) tt) (none-ends end h.0 none))
+      (subst (λ (o : Option BitmapIndex). StandFound o new (first + plan.data_blocks) plan table) (sym h.1) tt) (none-ends end h.0 none))
   mount-then (Some index) None end result t' last is same outside h go = absurd h
   mount-then (Some index) (Some now) end result t' last is same outside h go =
       let Remembers = RemembersFound (memory.form_in index).full now in
@@ -144,7 +144,7 @@ module _ {KNOTS SLOTS : ℕ} (t : code.Table KNOTS SLOTS) (old new : FlashState)
       (go m.now.state m.now.device m.power m.counts at_rest stands (ap (λ (o : Option ℕ). unwrap_or o 0) m.answer))
 
   -- what it reads at most, where entries are full
-  pub index-limit : (bitmaps : Option Index) → t.bitmaps ≡ bitmaps → StandOutside bitmaps (page_at old) (page_at new) → IsIndexLimited bitmaps old (first + plan.data_blocks) plan table new → plan.full_index ≡ true →
+  pub index-limit : (bitmaps : Option BitmapIndex) → t.bitmaps ≡ bitmaps → StandOutside bitmaps (page_at old) (page_at new) → IsIndexLimited bitmaps old (first + plan.data_blocks) plan table new → plan.full_index ≡ true →
       new.work.reads ≤ old.work.reads + mount_limit plan table
   index-limit None is outside few full = omega (arith, few)
   index-limit (Some index) is outside few full =
@@ -152,15 +152,15 @@ module _ {KNOTS SLOTS : ℕ} (t : code.Table KNOTS SLOTS) (old new : FlashState)
       omega (arith, part, index-within plan table (all_repaired plan (rings_of plan) table))
 
   -- .. and both
-  pub limit-then : (bitmaps now : Option Index) (end : Option ℕ) (last : FlashState) → t.bitmaps ≡ bitmaps → AreSamePlan bitmaps now → StandOutside bitmaps (page_at old) (page_at new) → MountEndsOf bitmaps old (first + plan.data_blocks) plan table rose device (Ok end) now new →
+  pub limit-then : (bitmaps now : Option BitmapIndex) (end : Option ℕ) (last : FlashState) → t.bitmaps ≡ bitmaps → AreSamePlan bitmaps now → StandOutside bitmaps (page_at old) (page_at new) → MountEndsOf bitmaps old (first + plan.data_blocks) plan table rose device (Ok end) now new →
       IsIndexLimited bitmaps old (first + plan.data_blocks) plan table new → plan.full_index ≡ true →
       ((x : Table) (later : Device) → new.is_on ≡ true → SameDevice new later → Rests new first plan x → StandFound now new (first + plan.data_blocks) plan x → unwrap_or end 0 ≡ index_end plan x →
       last.work.reads ≤ new.work.reads + (rows_mount_limit plan x (repaired plan DataRing x) + part_mount_limit (shape_of plan VarRing) x.var)) → last.work.reads ≤ old.work.reads + mount_limit plan table
   limit-then None now end last is same outside h few full go =
-      let none = planned-none (first + plan.data_blocks) plan (subst (λ (o : Option Index). ArePlanned o (first + plan.data_blocks) plan) is planned.index) in
+      let none = planned-none (first + plan.data_blocks) plan (subst (λ (o : Option BitmapIndex). ArePlanned o (first + plan.data_blocks) plan) is planned.index) in
       limit-bare plan table old.work.reads new.work.reads last.work.reads none few
       (go table device (ap (λ (f : FlashState). f.is_on) h.2 ∙ watched.on) (subst (λ (f : FlashState). SameDevice f device) (sym h.2) watched.counts) (subst (λ (f : FlashState). Rests f first plan table) (sym h.2) rests)
-      (subst (λ (o : Option Index). StandFound o new (first + plan.data_blocks) plan table) (sym h.1) tt) (none-ends end h.0 none))
+      (subst (λ (o : Option BitmapIndex). StandFound o new (first + plan.data_blocks) plan table) (sym h.1) tt) (none-ends end h.0 none))
   limit-then (Some index) None end last is same outside h few full go = absurd h
   limit-then (Some index) (Some now) end last is same outside h few full go =
       let Remembers = RemembersFound (memory.form_in index).full now in
@@ -171,7 +171,7 @@ module _ {KNOTS SLOTS : ℕ} (t : code.Table KNOTS SLOTS) (old new : FlashState)
       (few (planned_index index is outside) (rests_index index is outside) full) (go m.now.state m.now.device m.power m.counts at_rest stands (ap (λ (o : Option ℕ). unwrap_or o 0) m.answer))
 
 -- Where entries aren't full, the index that was found is the same where its ring and what is remembered of its pages are.
-pub still-found : (was mid now : Option Index) (old new : FlashState) (end : Option ℕ) → FindsBitmaps was old end mid new → AreSamePlan was mid → AreStillFound mid now → IfSome was (λ index. (memory.form_in index).full ≡ false) →
+pub still-found : (was mid now : Option BitmapIndex) (old new : FlashState) (end : Option ℕ) → FindsBitmaps was old end mid new → AreSamePlan was mid → AreStillFound mid now → IfSome was (λ index. (memory.form_in index).full ≡ false) →
     FindsBitmaps was old end now new
 still-found None None None old new end h same still bare = h
 still-found None None (Some now) old new end h same still bare = absurd still
@@ -195,7 +195,7 @@ still-found (Some was) (Some mid) (Some now) old new end h same still bare =
 shape_as : {KNOTS SLOTS : ℕ} (t t1 : code.Table KNOTS SLOTS) → IsSamePlan t t1 → ring_shape t1 ≡ ring_shape t
 shape_as t t1 same = ap (λ (p : RingPlace). shape_at p t1.geometry) same.place ∙ ap (λ (g : Geometry). shape_at t.place g) same.geometry
 
-reads_as : {KNOTS SLOTS : ℕ} (t t1 : code.Table KNOTS SLOTS) (bitmaps : Option Index) (f new : FlashState) (least : ℕ) (ring : Ring) → IsSamePlan t t1 → ReadsRing t1 bitmaps f least ring new → ReadsRing t bitmaps f least ring new
+reads_as : {KNOTS SLOTS : ℕ} (t t1 : code.Table KNOTS SLOTS) (bitmaps : Option BitmapIndex) (f new : FlashState) (least : ℕ) (ring : Ring) → IsSamePlan t t1 → ReadsRing t1 bitmaps f least ring new → ReadsRing t bitmaps f least ring new
 reads_as t t1 bitmaps f new least ring same h = record {
   repaired = h.repaired;
   numbers = subst (λ (r : Shape). HasNumbers f r least ring h.repaired) (shape_as t t1 same) h.numbers;
@@ -205,12 +205,12 @@ reads_as t t1 bitmaps f new least ring same h = record {
 }
 
 -- it comes to the same pages
-comes_as : {KNOTS SLOTS : ℕ} (t t1 : code.Table KNOTS SLOTS) (bitmaps : Option Index) (ring : Ring) (f : FlashState) → IsSamePlan t t1 → comes_in t1 bitmaps ring f ≡ comes_in t bitmaps ring f
+comes_as : {KNOTS SLOTS : ℕ} (t t1 : code.Table KNOTS SLOTS) (bitmaps : Option BitmapIndex) (ring : Ring) (f : FlashState) → IsSamePlan t t1 → comes_in t1 bitmaps ring f ≡ comes_in t bitmaps ring f
 comes_as t t1 bitmaps ring f same =
     ap (λ (l : RowLayout). come_of l (most_in t1.geometry.page l) bitmaps ring f) same.layout
     ∙ ap (λ (g : Geometry). come_of (layout_of t.schema) (most_in g.page (layout_of t.schema)) bitmaps ring f) same.geometry
 
-data_as : {KNOTS SLOTS : ℕ} (t t1 : code.Table KNOTS SLOTS) (bitmaps : Option Index) (f : FlashState) (least : ℕ) (ring : Ring) (mounted : Found) (last : Option ℕ) (end : ℕ) (new : FlashState) → IsSamePlan t t1 →
+data_as : {KNOTS SLOTS : ℕ} (t t1 : code.Table KNOTS SLOTS) (bitmaps : Option BitmapIndex) (f : FlashState) (least : ℕ) (ring : Ring) (mounted : Found) (last : Option ℕ) (end : ℕ) (new : FlashState) → IsSamePlan t t1 →
     FindsData t1 bitmaps f least ring mounted last end new → FindsData t bitmaps f least ring mounted last end new
 data_as t t1 bitmaps f least ring mounted last end new same h =
     let pages = next_of ring - oldest_of ring in
@@ -223,7 +223,7 @@ data_as t t1 bitmaps f least ring mounted last end new same h =
       end_is = h.end_is ∙ ap (λ (c : Come). end_of (facts_on c) (oldest_of ring) pages) comes;
     }
 
-pub finds-as : {KNOTS SLOTS : ℕ} (t t1 : code.Table KNOTS SLOTS) (bitmaps : Option Index) (f : FlashState) (was least : ℕ) (mounted : Found) (now : code.Table KNOTS SLOTS) (new : FlashState) → FindsRows t1 bitmaps f was mounted now new → IsSamePlan t t1 →
+pub finds-as : {KNOTS SLOTS : ℕ} (t t1 : code.Table KNOTS SLOTS) (bitmaps : Option BitmapIndex) (f : FlashState) (was least : ℕ) (mounted : Found) (now : code.Table KNOTS SLOTS) (new : FlashState) → FindsRows t1 bitmaps f was mounted now new → IsSamePlan t t1 →
     t1.blobs ≡ t.blobs → was ≡ least → FindsRows t bitmaps f least mounted now new
 finds-as t t1 bitmaps f was least mounted now new h same blobs e = subst (λ (n : ℕ). FindsRows t bitmaps f n mounted now new) e (record {
   ring = h.ring;
@@ -238,14 +238,14 @@ finds-as t t1 bitmaps f was least mounted now new h same blobs e = subst (λ (n 
   below = h.below;
 })
 
-bad_page_as : {KNOTS SLOTS : ℕ} (t t1 : code.Table KNOTS SLOTS) (bitmaps : Option Index) (f : FlashState) (least : ℕ) (fault : MountFault) (new : FlashState) → IsSamePlan t t1 → HasBadPage t1 bitmaps f least fault new → HasBadPage t bitmaps f least fault new
+bad_page_as : {KNOTS SLOTS : ℕ} (t t1 : code.Table KNOTS SLOTS) (bitmaps : Option BitmapIndex) (f : FlashState) (least : ℕ) (fault : MountFault) (new : FlashState) → IsSamePlan t t1 → HasBadPage t1 bitmaps f least fault new → HasBadPage t bitmaps f least fault new
 bad_page_as t t1 bitmaps f least fault new same h = record {
   ring = h.ring;
   ring_reads = reads_as t t1 bitmaps f new least h.ring same h.ring_reads;
   refused = subst (λ (c : Come). mount_fault c ≡ Some fault) (comes_as t t1 bitmaps h.ring new same) h.refused;
 }
 
-refuses_as : {KNOTS SLOTS : ℕ} (t t1 : code.Table KNOTS SLOTS) (bitmaps : Option Index) (f : FlashState) (least : ℕ) (fault : MountFault) (new : FlashState) → IsSamePlan t t1 → RefusesData t1 bitmaps f least fault new → RefusesData t bitmaps f least fault new
+refuses_as : {KNOTS SLOTS : ℕ} (t t1 : code.Table KNOTS SLOTS) (bitmaps : Option BitmapIndex) (f : FlashState) (least : ℕ) (fault : MountFault) (new : FlashState) → IsSamePlan t t1 → RefusesData t1 bitmaps f least fault new → RefusesData t bitmaps f least fault new
 unfolding reads_as
 refuses_as t t1 bitmaps f least (mount.Flash fault) new same (inl h) = inl (subst (λ (r : Shape). FailsAs f r least (ring.Flash fault) new) (shape_as t t1 same) h)
 refuses_as t t1 bitmaps f least (mount.Flash fault) new same (inr h) = inr (record { ring = h.ring; ring_reads = reads_as t t1 bitmaps f new least h.ring same h.ring_reads; fails = h.fails })
@@ -265,7 +265,7 @@ refuses_as t t1 bitmaps f least (mount.BadIndex end next) new same h = record {
 refuses_as t t1 bitmaps f least (mount.BadBlob page next) new same h = h
 refuses_as t t1 bitmaps f least (mount.BadEntry page count limit) new same h = bad_page_as t t1 bitmaps f least (mount.BadEntry page count limit) new same h
 
-pub refuses-by : {KNOTS SLOTS : ℕ} (t t1 : code.Table KNOTS SLOTS) (bitmaps : Option Index) (f : FlashState) (was least : ℕ) (fault : MountFault) (new : FlashState) → RefusesRows t1 bitmaps f was fault new → IsSamePlan t t1 → t1.blobs ≡ t.blobs → was ≡ least → RefusesRows t bitmaps f least fault new
+pub refuses-by : {KNOTS SLOTS : ℕ} (t t1 : code.Table KNOTS SLOTS) (bitmaps : Option BitmapIndex) (f : FlashState) (was least : ℕ) (fault : MountFault) (new : FlashState) → RefusesRows t1 bitmaps f was fault new → IsSamePlan t t1 → t1.blobs ≡ t.blobs → was ≡ least → RefusesRows t bitmaps f least fault new
 refuses-by t t1 bitmaps f was least fault new h same blobs e = subst (λ (n : ℕ). RefusesRows t bitmaps f n fault new) e (by_part h)
   where
     by_part : RefusesRows t1 bitmaps f was fault new → RefusesRows t bitmaps f was fault new
@@ -295,6 +295,6 @@ mount-cause-later old mid new goes on (mount.BadBlob page next) h = tt
 mount-cause-later old mid new goes on (mount.BadEntry page count limit) h = tt
 
 -- a page outside the index ring stands
-pub stand-outside : (bitmaps : Option Index) (old new : ℕ → List ℕ) (page : ℕ) → StandOutside bitmaps old new → IfSome bitmaps (λ index. IsOutside (memory.ring_shape index) page) → new page ≡ old page
+pub stand-outside : (bitmaps : Option BitmapIndex) (old new : ℕ → List ℕ) (page : ℕ) → StandOutside bitmaps old new → IfSome bitmaps (λ index. IsOutside (memory.ring_shape index) page) → new page ≡ old page
 stand-outside None old new page h out = h page
 stand-outside (Some index) old new page h out = h page out

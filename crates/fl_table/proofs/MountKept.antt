@@ -34,16 +34,16 @@ use Rattle.fl_table.specs.Reading.{pages_of}
 use Rattle.fl_table.specs.declared.faults.MountFault.{MountFault}
 use Rattle.fl_table.specs.declared.known.Known.{Known}
 use Rattle.fl_table.specs.declared.table.Table as code
-use Rattle.fl_table.proofs.Comings.{come-most, come-rows, comes-of}
-use Rattle.fl_table.proofs.Following.{watched-front}
-use Rattle.fl_table.proofs.Indexing.{lies-goes}
+use Rattle.fl_table.proofs.MountProgress.{come-most, come-rows, comes-of}
+use Rattle.fl_table.proofs.SealsInTurn.{watched-front}
+use Rattle.fl_table.proofs.IndexOfTable.{lies-goes}
 use Rattle.fl_table.proofs.MountCalls.{OthersStill, index-read, index-still, risen-later, same-shape}
 use Rattle.fl_table.proofs.MountComes.{comes-to, few-come, few-unlisted, found-there, index-ends}
 use Rattle.fl_table.proofs.MountEnded.{IsMounting, mounting-of, mount-answer, reads-end, ready_facts, rests_now, ring-ends, ring-mounts, same_device, started-memory, started-stand}
 use Rattle.fl_table.proofs.MountLifted.{RowsMount}
 use Rattle.fl_table.proofs.MountLimits.{data-voids, mount-repaired}
 use Rattle.fl_table.proofs.SealAnswers.{lies-size, plan-self, planned-ring, planned-same}
-use Rattle.fl_table.proofs.Standing.{IsOf}
+use Rattle.fl_table.proofs.StandingMount.{IsOf}
 use Rattle.fl_table.proofs.StandingKnown.{KnowsTable, knows-table}
 use Rattle.fl_table.proofs.States.{shape_in, state_of, HaveSize}
 

@@ -19,11 +19,11 @@ use Rattle.fl_schema.specs.declared.column.ColumnType.{ColumnType}
 use Rattle.fl_schema.specs.declared.schema.KeyWidth.{KeyWidth}
 use Rattle.fl_table.specs.ByEntries.{Come, is_committed}
 use Rattle.fl_table.specs.Reading.{full_on}
-use Rattle.fl_table.proofs.Checking.{uncommitted-rows}
+use Rattle.fl_table.proofs.PageChecks.{uncommitted-rows}
 use Rattle.fl_table.proofs.KeptPages.{kept, length-kept, full-kept}
 use Rattle.fl_table.proofs.KeyRows.{page-length}
 use Rattle.fl_table.proofs.Plain.{IsPlainTable}
-use Rattle.fl_table.proofs.Standing.{IsPageOf}
+use Rattle.fl_table.proofs.StandingMount.{IsPageOf}
 use Rattle.fl_table.proofs.States.{shape_in, state_of, HaveSize}
 use Rattle.fl_table.proofs.Unlisted.{committed-is, good-form}
 

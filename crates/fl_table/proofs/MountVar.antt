@@ -32,7 +32,7 @@ use Rattle.fl_table.specs.declared.table.Table as code
 use Rattle.fl_table.proofs.BlobSeals.{with_var, facts-with_var, holds-with_var}
 use Rattle.fl_table.proofs.BlobStands.{bitmaps-stand, index-before, index-pages}
 use Rattle.fl_table.proofs.BlobTables.{IsBlobbed, ring-blobbed, ring-holds, rests-var, standing-holds}
-use Rattle.fl_table.proofs.Blobbing.{planned-none, planned-some, stand-moved}
+use Rattle.fl_table.proofs.BlobsOfTable.{planned-none, planned-some, stand-moved}
 use Rattle.fl_table.proofs.Renumbered.{IsMounting}
 use Rattle.fl_table.proofs.VarFacts.{blobs-as, front-of, in-some}
 use Rattle.fl_table.proofs.Plain.{IsPlainTable, table-facts, table-parts}

@@ -4,7 +4,7 @@ use Rattle.std.specs.Prelude.{cond, ◌==◌, unwrap_or, slice_set}
 use Rattle.std.proofs.lemmas.Bool.{eqb-true}
 use Rattle.fl_find.specs.Index.{IndexOf}
 use Rattle.fl_find.specs.Pages.{first_key, rows_on}
-use Rattle.fl_find.specs.declared.index.LearnedIndex.{LearnedIndex}
+use Rattle.fl_find.specs.declared.index.KeyIndex.{KeyIndex}
 use Rattle.fl_model.specs.Layout.{Full}
 use Rattle.fl_model.specs.Record.{RowLayout}
 use Rattle.fl_page.specs.declared.fault.BadPage.{BadPage as Refusal}
@@ -17,13 +17,13 @@ use Rattle.fl_table.specs.declared.faults.MountFault.{MountFault}
 use Rattle.fl_table.specs.declared.faults.MountFault.TheVariants.{BadPage}
 use Rattle.fl_table.specs.declared.known.Known.{Known}
 use Rattle.fl_table.specs.declared.known.Listed.{Listed}
-use Rattle.fl_table.proofs.Passing.{void-run}
+use Rattle.fl_table.proofs.NextPage.{void-run}
 use Rattle.fl_table.proofs.PointsKnown.{further-known}
-use Rattle.fl_table.proofs.Settling.{knows-aside, points-aside}
+use Rattle.fl_table.proofs.WaitingPageComes.{knows-aside, points-aside}
 use Rattle.fl_table.proofs.Steps.{newest-read, newest-check, newest-refused, fault-refused, newest-all}
 use Rattle.fl_table.proofs.Unlisted.{first-some, last-some}
 
-module _ {KNOTS SLOTS : ℕ} (error : ℕ) (t : Come) (known : Known) (counts : List ℕ) (index : LearnedIndex KNOTS SLOTS) (h : KnowsWith error t t.index_pages t.pages known counts index)
+module _ {KNOTS SLOTS : ℕ} (error : ℕ) (t : Come) (known : Known) (counts : List ℕ) (index : KeyIndex KNOTS SLOTS) (h : KnowsWith error t t.index_pages t.pages known counts index)
     (listed : Listed) (e : known.newest ≡ Some listed) (layout : RowLayout) (bytes : List ℕ) (layout_is : t.layout ≡ layout) (bytes_are : t.rows listed.number ≡ bytes) where
   abbrev waits : KnowsAside t t.index_pages t.pages listed known counts
   waits = knows-aside error t t.index_pages t.pages known counts index h listed e
@@ -42,7 +42,7 @@ module _ {KNOTS SLOTS : ℕ} (error : ℕ) (t : Come) (known : Known) (counts : 
   pub found-blamed : (bad : Refusal) → read_fault layout listed.number bytes true known.last ≡ None → known.fault ≡ Some bad → mount_fault t ≡ Some (BadPage bad)
   found-blamed bad fine is = fault-refused t known counts listed waits bad (check-here ∙ fine) is
 
-  pub found-all : (now : Known) (new : LearnedIndex KNOTS SLOTS) (key rows last end : ℕ) → read_fault layout listed.number bytes true known.last ≡ None → known.fault ≡ None → t.pages ≤ length counts → first_key (rows_on layout bytes) ≡ Some key →
+  pub found-all : (now : Known) (new : KeyIndex KNOTS SLOTS) (key rows last end : ℕ) → read_fault layout listed.number bytes true known.last ≡ None → known.fault ≡ None → t.pages ≤ length counts → first_key (rows_on layout bytes) ≡ Some key →
       rows ≡ length (rows_on layout bytes) → last ≡ unwrap_or (last_in known.last (rows_on layout bytes)) key → end ≡ blobs_end 0 (rows_on layout bytes) →
       now ≡ record known { rows = known.rows + rows; last = Some last; blob_end = max known.blob_end end; newest = None } →
       ((error : ℕ) (points : List (ℕ × ℕ)) → IndexOf error points index → IsFurther points (key, listed.number) → IndexOf error (points ++ (key, listed.number) ∷ []) new) →

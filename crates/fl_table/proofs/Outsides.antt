@@ -2,7 +2,7 @@
 use Rattle.std.proofs.Common.{◌≡◌, ℕ, Option, Some, None, IfSome, List, sym, ◌∙◌, ap, subst}
 use Rattle.fl_base.specs.declared.types.Geometry.{Geometry}
 use Rattle.fl_base.specs.declared.types.RingPlace.{RingPlace}
-use Rattle.fl_index.specs.declared.index.Index.{Index}
+use Rattle.fl_index.specs.declared.index.BitmapIndex.{BitmapIndex}
 use Rattle.fl_index.specs.Memory as memory
 use Rattle.fl_ring.specs.Mounting.{shape_at}
 use Rattle.fl_ring.specs.Ring.{Shape}
@@ -16,7 +16,7 @@ use Rattle.fl_var.specs.declared.var_data.VarData.{VarData}
 use Rattle.fl_var.proofs.Joins.{same-shape}
 
 -- the same rings
-pub bitmaps-outside : (a b : Option Index) (page : ℕ) → AreSamePlan a b → IfSome a (λ index. IsOutside (memory.ring_shape index) page) → IfSome b (λ index. IsOutside (memory.ring_shape index) page)
+pub bitmaps-outside : (a b : Option BitmapIndex) (page : ℕ) → AreSamePlan a b → IfSome a (λ index. IsOutside (memory.ring_shape index) page) → IfSome b (λ index. IsOutside (memory.ring_shape index) page)
 bitmaps-outside None None page same h = h
 bitmaps-outside None (Some b) page same h = absurd same
 bitmaps-outside (Some a) None page same h = absurd same

@@ -16,8 +16,8 @@ use Rattle.fl_model.proofs.FullIndex.{entries-stand}
 use Rattle.fl_model.proofs.Lists.{slice_get-drop, slice_get-front, each-at}
 use Rattle.fl_model.proofs.Kept.{AreKept, kept-lose}
 use Rattle.fl_model.proofs.Sealed.{sealed-next, sealed-torn, kept-sealed, entries_after}
-use Rattle.fl_model.proofs.Rings.{ring-sealed}
-use Rattle.fl_model.proofs.Telling.{telling-stays}
+use Rattle.fl_model.proofs.RingFactsStay.{ring-sealed}
+use Rattle.fl_model.proofs.EntriesStayTold.{telling-stays}
 use Rattle.fl_index.proofs.Lists.{below-end, first-at}
 use Rattle.fl_table.proofs.Bare.{IsBare, bare-table, bare-pages, bare-log}
 use Rattle.fl_table.proofs.BlobTables.{AreInPages, IsBlobbed, blobbed-in, blobbed-stand, facts-blobbed}
@@ -25,7 +25,7 @@ use Rattle.fl_table.proofs.VarFacts.{blobs-as, blobs-in, front-of}
 use Rattle.fl_ring.proofs.Modulo.{apart}
 use Rattle.fl_table.specs.Bitmaps.{bitmap_seals}
 use Rattle.fl_table.specs.Blobs.{rest_seals}
-use Rattle.fl_ring.proofs.Moved.{least_is_alike}
+use Rattle.fl_ring.proofs.SamePlaces.{least_is_alike}
 
 -- ---- the facts of a table
 

@@ -6,7 +6,7 @@ use Rattle.std.proofs.Math.Dec.{eqb-suc-zero}
 use Rattle.std.proofs.lemmas.List.{take-append-le, drop-append-le}
 use Rattle.fl_find.specs.Index.{IndexOf}
 use Rattle.fl_find.specs.Standing.{HasPoints}
-use Rattle.fl_find.specs.declared.index.LearnedIndex.{LearnedIndex}
+use Rattle.fl_find.specs.declared.index.KeyIndex.{KeyIndex}
 use Rattle.fl_find.proofs.Firsts.{sum-cons}
 use Rattle.fl_find.proofs.Points.{further, seals}
 use Rattle.fl_model.specs.Facts.{IsTable}
@@ -66,7 +66,7 @@ first-some [] some = absurd (omega (arith, some))
 first-some (e ∷ es) some = refl
 
 -- the point of a page that is sealed joins the others
-pub index-sealed : {KNOTS SLOTS : ℕ} (plan : Plan) (table : Table) (index new : LearnedIndex KNOTS SLOTS) (key number : ℕ) → IsTable plan table → HasPoints table → IndexOf plan.error table.points index →
+pub index-sealed : {KNOTS SLOTS : ℕ} (plan : Plan) (table : Table) (index new : KeyIndex KNOTS SLOTS) (key number : ℕ) → IsTable plan table → HasPoints table → IndexOf plan.error table.points index →
     first_pending table ≡ Some key → number ≡ table.rows.next →
     ((error : ℕ) (points : List (ℕ × ℕ)) → IndexOf error points index → IsFurther points (key, number) → IndexOf error (points ++ (key, number) ∷ []) new) →
     IndexOf plan.error (after_seal plan DataRing table).points new

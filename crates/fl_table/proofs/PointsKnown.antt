@@ -14,7 +14,7 @@ use Rattle.fl_table.specs.ByEntries.{Come, entry, is_committed, has_rows, is_rea
 use Rattle.fl_table.specs.Reading.{rises, last_in, keys_fault}
 use Rattle.fl_table.specs.declared.faults.MountFault.{MountFault}
 use Rattle.fl_table.specs.declared.faults.MountFault.TheVariants.{BadPage, BadKeys}
-use Rattle.fl_table.proofs.Checking.{uncommitted-rows, no_both}
+use Rattle.fl_table.proofs.PageChecks.{uncommitted-rows, no_both}
 use Rattle.fl_table.proofs.KeyRuns.{rises-on, last-up}
 
 -- the last point comes before a number, and its key is at most the last key

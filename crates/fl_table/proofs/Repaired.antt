@@ -21,7 +21,7 @@ use Rattle.fl_ring.specs.Ring.{RingState, voided, unerased, erased}
 use Rattle.fl_ring.specs.Sealing.{Performed}
 use Rattle.fl_table.proofs.States.{shape_in, state_of, state-count, page-some}
 use Rattle.fl_table.proofs.Sealed.{state-voided, state-erased}
-use Rattle.fl_table.proofs.Lifted.{of_rows, TablePerformed, performed-lifts, AreErases}
+use Rattle.fl_table.proofs.RingInTable.{of_rows, TablePerformed, performed-lifts, AreErases}
 
 -- nothing of the table is in memory
 pub record IsIdle (table : Table) : Type 0 where

@@ -3,7 +3,7 @@ use Rattle.std.proofs.Common.{◌≡◌, ℕ, zero, suc, ◌+◌, ◌-◌, ◌<�
 use Rattle.std.specs.Prelude.{nat_lt}
 use Rattle.fl_flash.specs.Flash.{FlashState}
 use Rattle.fl_index.specs.Memory as of_index
-use Rattle.fl_index.specs.declared.index.Index.{Index}
+use Rattle.fl_index.specs.declared.index.BitmapIndex.{BitmapIndex}
 use Rattle.fl_model.specs.Facts.{is_some_ring}
 use Rattle.fl_model.specs.Record.{Plan}
 use Rattle.fl_model.specs.Ring.{Ring, oldest}
@@ -18,7 +18,7 @@ use Rattle.fl_table.specs.Rings.{index_pages, blob_pages, oldest_page, rings_in,
 use Rattle.fl_table.specs.Standing.{Stands}
 use Rattle.fl_table.specs.declared.rings.TableRings.{TableRings}
 use Rattle.fl_table.specs.declared.table.Table.{Table}
-use Rattle.fl_table.proofs.Looks.{pages-is}
+use Rattle.fl_table.proofs.MemoryTells.{pages-is}
 use Rattle.fl_var.specs.Memory as of_var
 use Rattle.fl_var.specs.declared.var_data.VarData.{VarData}
 
@@ -33,7 +33,7 @@ no-ring of (Some ring) blocks has none = absurd (no (has ∙ ap (nat_lt 0) none)
 pub kept-length : (next old : ℕ) (ring : Ring) → length ring.counts ≤ ring.next → next ≡ ring.next → old ≡ oldest ring → next - old ≡ length ring.counts
 kept-length next old ring few next_is old_is = omega (arith, few, next_is, old_is)
 
-index-kept : (o : Option Index) (f : FlashState) (first : ℕ) (plan : Plan) (table : model.Table) → bitmaps.ArePlanned o first plan → is_some_ring table.index ≡ nat_lt 0 plan.index_blocks → bitmaps.Stand o f first plan table →
+index-kept : (o : Option BitmapIndex) (f : FlashState) (first : ℕ) (plan : Plan) (table : model.Table) → bitmaps.ArePlanned o first plan → is_some_ring table.index ≡ nat_lt 0 plan.index_blocks → bitmaps.Stand o f first plan table →
     index_pages o ≡ option_map (λ (ring : Ring). length ring.counts) table.index
 index-kept None f first plan table planned has stands = sym (no-ring (λ (ring : Ring). length ring.counts) table.index plan.index_blocks has planned.0)
 index-kept (Some i) f first plan table planned has stands =

@@ -11,10 +11,10 @@ use Rattle.fl_model.specs.Layout.{data_body, rows_body, bitmap_of}
 use Rattle.fl_model.specs.Table.{Table, DataRing, shape_of, pending_entries, lose}
 use Rattle.fl_table.specs.Blobs.{AreEmpty}
 use Rattle.fl_table.proofs.Plain.{table-parts, plain-lose}
-use Rattle.fl_table.proofs.Blobbing as blobbing
-use Rattle.fl_table.proofs.Settled.{settled-pages}
-use Rattle.fl_table.proofs.Indexing.{still-planned, plan-same, plan-then, planned-none, room-left}
-use Rattle.fl_index.specs.declared.index.Index.{Index}
+use Rattle.fl_table.proofs.BlobsOfTable as blobbing
+use Rattle.fl_table.proofs.BlobsOnPages.{settled-pages}
+use Rattle.fl_table.proofs.IndexOfTable.{still-planned, plan-same, plan-then, planned-none, room-left}
+use Rattle.fl_index.specs.declared.index.BitmapIndex.{BitmapIndex}
 use Rattle.fl_table.specs.Bitmaps.{ArePlanned, HaveRoom}
 use Rattle.fl_page.specs.Writer.{Gathers}
 use Rattle.fl_page.specs.WriterState.{WriterState}
@@ -28,8 +28,8 @@ use Rattle.fl_schema.specs.Schema.{layout_of}
 use Rattle.fl_table.specs.Memory.{IsPlanned, IsSamePlan, HasBuckets}
 use Rattle.fl_table.specs.Standing.{Stands}
 use Rattle.fl_table.specs.declared.table.Table as code
-use Rattle.fl_table.proofs.Holding.{plain-on, have-size}
-use Rattle.fl_table.proofs.Sealings.{IsSealing}
+use Rattle.fl_table.proofs.TablePages.{plain-on, have-size}
+use Rattle.fl_table.proofs.SealEnds.{IsSealing}
 use Rattle.fl_table.proofs.States.{shape_in, state_of, state-oldest, HaveSize}
 
 pub planned-shape : {KNOTS SLOTS : ℕ} (t : code.Table KNOTS SLOTS) (first : ℕ) (plan : Plan) → IsPlanned t first plan → model.IsShape (shape_of plan DataRing)
@@ -45,7 +45,7 @@ planned-plain t first plan h = h.log
 pub planned-few : {KNOTS SLOTS : ℕ} (t : code.Table KNOTS SLOTS) (first : ℕ) (plan : Plan) → IsPlanned t first plan → IsTrue (has_index plan) → plan.data_blocks * plan.geometry.block + 6 ≤ 65536
 planned-few t first plan h some = by_index t.bitmaps refl h.index
   where
-    by_index : (o : Option Index) → t.bitmaps ≡ o → ArePlanned o (first + plan.data_blocks) plan → plan.data_blocks * plan.geometry.block + 6 ≤ 65536
+    by_index : (o : Option BitmapIndex) → t.bitmaps ≡ o → ArePlanned o (first + plan.data_blocks) plan → plan.data_blocks * plan.geometry.block + 6 ≤ 65536
     by_index None e planned = absurd (no (sym (planned-none (first + plan.data_blocks) plan planned) ∙ some))
       where
         no : false ≡ true → ⊥

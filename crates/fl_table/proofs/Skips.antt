@@ -11,7 +11,7 @@ use Rattle.fl_index.specs.Looking as looking
 use Rattle.fl_index.specs.Looking.{IfBad, HoldsGood, IsFresh, IsScanning, ScansOn, TellsRows, is_looked_at, next_to_read, unread, due, ShowsEntry}
 use Rattle.fl_index.specs.Memory.{next_in, oldest_in}
 use Rattle.fl_index.specs.Page.{fields_of}
-use Rattle.fl_index.specs.declared.index.Index.{Index}
+use Rattle.fl_index.specs.declared.index.BitmapIndex.{BitmapIndex}
 use Rattle.fl_index.specs.declared.page.Found.{Found}
 use Rattle.fl_index.specs.declared.page.Full.{Full}
 use Rattle.fl_index.proofs.Counts.{count-none}
@@ -33,10 +33,10 @@ use Rattle.fl_table.specs.Standing.{Stands}
 use Rattle.fl_table.specs.declared.table.Table.{Table}
 
 -- without a span, or without an index, nothing is read
-pub looks-none : {X : Type 0} (x : X) (bitmaps : Option Index) (number reads : ℕ) (buf : BufferState) → AreScanning bitmaps number buf → LooksOn bitmaps None number buf reads (Ok x) reads buf
+pub looks-none : {X : Type 0} (x : X) (bitmaps : Option BitmapIndex) (number reads : ℕ) (buf : BufferState) → AreScanning bitmaps number buf → LooksOn bitmaps None number buf reads (Ok x) reads buf
 looks-none x bitmaps number reads buf scanning = record { scanning = scanning; once = omega arith; most = omega arith; fewer = omega arith; least = λ numbers later lt. omega arith }
 
-pub looks-plain : {X : Type 0} (x : X) (bitmaps : Option Index) (is : bitmaps ≡ None) (span : Option Span) (number reads : ℕ) (buf : BufferState) → LooksOn bitmaps span number buf reads (Ok x) reads buf
+pub looks-plain : {X : Type 0} (x : X) (bitmaps : Option BitmapIndex) (is : bitmaps ≡ None) (span : Option Span) (number reads : ℕ) (buf : BufferState) → LooksOn bitmaps span number buf reads (Ok x) reads buf
 looks-plain x None is span number reads buf = record {
   scanning = tt;
   once = omega arith;
@@ -55,14 +55,14 @@ due-asked : (b : Bool) (reads reads_now before after : ℕ) → reads + before �
 due-asked true reads reads_now before after due later = due
 due-asked false reads reads_now before after due later = omega (arith, later)
 
-module _ (bitmaps : Option Index) (index : Index) (is : bitmaps ≡ Some index) (span : Span) (number : ℕ) (before : BufferState) where
+module _ (bitmaps : Option BitmapIndex) (index : BitmapIndex) (is : bitmaps ≡ Some index) (span : Span) (number : ℕ) (before : BufferState) where
   -- the index page was read, or held
   pub looks-found : {X : Type 0} (old new : FlashState) (after : BufferState) (x : X) → ScansOn index number (next_to_read index before) old new after → new.work.reads ≤ old.work.reads + unread index number (next_to_read index before) →
       ((numbers : List ℕ) → AllByRecursion (λ n. number ≤ n) numbers → new.work.reads < 2 ^ 64 - 1 → old.work.reads + due index (number ∷ numbers) (next_to_read index before) ≤ new.work.reads + due index numbers (next_to_read index after)) →
       LooksOn bitmaps (Some span) number before old.work.reads (Ok x) new.work.reads after
   looks-found {X} old new after x scans most least =
       let next = scanning-from index number scans.next after scans.scanning in
-      subst (λ (o : Option Index). LooksOn {X = X} o (Some span) number before old.work.reads (Ok x) new.work.reads after) (sym is) (record {
+      subst (λ (o : Option BitmapIndex). LooksOn {X = X} o (Some span) number before old.work.reads (Ok x) new.work.reads after) (sym is) (record {
         scanning = subst (λ n. IsScanning index number n after) next scans.scanning;
         once = let same = ap (unread index number) next in omega (arith, scans.once, same);
         most = most;
@@ -80,7 +80,7 @@ module _ (bitmaps : Option Index) (index : Index) (is : bitmaps ≡ Some index) 
       unread index number (oldest_in index) ≤ unread index number (next_to_read index before) → after.holds ≡ None →
       LooksOn {X = X} bitmaps (Some span) number before old.work.reads (Err fault) new.work.reads after
   looks-failed {X} old new after fault most again none =
-      subst (λ (o : Option Index). LooksOn {X = X} o (Some span) number before old.work.reads (Err fault) new.work.reads after) (sym is) (record {
+      subst (λ (o : Option BitmapIndex). LooksOn {X = X} o (Some span) number before old.work.reads (Err fault) new.work.reads after) (sym is) (record {
         scanning = inl (none, ap (looking.after_held _ _) none);
         once = tt;
         most = most;
@@ -110,7 +110,7 @@ shows-none plan table span top number entries e =
     and-none false b e = refl
 
 -- .. and without an index none is
-pub shows-unindexed : (bitmaps : Option Index) (start : ℕ) (plan : Plan) (table : model.Table) (span : Span) (top : Option ℕ) (number : ℕ) (entries : List model.Entry) → ((index : Index) → bitmaps ≡ Some index → ⊥) → ArePlanned bitmaps start plan → ShowsPage plan table (Some span) top number entries (Ok Wanted)
+pub shows-unindexed : (bitmaps : Option BitmapIndex) (start : ℕ) (plan : Plan) (table : model.Table) (span : Span) (top : Option ℕ) (number : ℕ) (entries : List model.Entry) → ((index : BitmapIndex) → bitmaps ≡ Some index → ⊥) → ArePlanned bitmaps start plan → ShowsPage plan table (Some span) top number entries (Ok Wanted)
 shows-unindexed None start plan table span top number entries none planned =
     shows-none plan table span top number entries (sym (ap (λ n. nat_lt 0 n && (waits table number || is_listed plan table number)) planned.0))
 shows-unindexed (Some index) start plan table span top number entries none planned = absurd (none index refl)
@@ -139,25 +139,25 @@ shows-fault plan table span top number entries (BadPage bad) h = absurd h
 
 -- ---- the index of a table that stands
 
-module _ {KNOTS SLOTS : ℕ} (t : Table KNOTS SLOTS) (f : FlashState) (first : ℕ) (plan : Plan) (table : model.Table) (stands : Stands t f first plan table) (index : Index) (is : t.bitmaps ≡ Some index) where
+module _ {KNOTS SLOTS : ℕ} (t : Table KNOTS SLOTS) (f : FlashState) (first : ℕ) (plan : Plan) (table : model.Table) (stands : Stands t f first plan table) (index : BitmapIndex) (is : t.bitmaps ≡ Some index) where
   pub index-stands : standing.Stands index f (first + plan.data_blocks) plan table
-  index-stands = subst (λ (o : Option Index). Stand o f (first + plan.data_blocks) plan table) is stands.bitmaps
+  index-stands = subst (λ (o : Option BitmapIndex). Stand o f (first + plan.data_blocks) plan table) is stands.bitmaps
 
   pub some-bits : plan.bits ≡ 0 → ⊥
   some-bits none =
-      let planned = subst (λ (o : Option Index). ArePlanned o (first + plan.data_blocks) plan) is stands.planned.index in
+      let planned = subst (λ (o : Option BitmapIndex). ArePlanned o (first + plan.data_blocks) plan) is stands.planned.index in
       no (subst (λ n. IsTrue (is_bits n)) (sym planned.bits ∙ none) index.some_bits)
     where
       no : IsTrue (is_bits 0) → ⊥
       no e = cc
 
 -- a buffer stays fresh where it does for the index
-pub fresh-still : (bitmaps : Option Index) (index : Index) → bitmaps ≡ Some index → (f g : FlashState) (old new : BufferState) → (IsFresh index f old → IsFresh index g new) → AreFresh bitmaps f old → AreFresh bitmaps g new
+pub fresh-still : (bitmaps : Option BitmapIndex) (index : BitmapIndex) → bitmaps ≡ Some index → (f g : FlashState) (old new : BufferState) → (IsFresh index f old → IsFresh index g new) → AreFresh bitmaps f old → AreFresh bitmaps g new
 fresh-still bitmaps index is f g old new still fresh =
-    subst (λ (o : Option Index). AreFresh o g new) (sym is) (still (subst (λ (o : Option Index). AreFresh o f old) is fresh))
+    subst (λ (o : Option BitmapIndex). AreFresh o g new) (sym is) (still (subst (λ (o : Option BitmapIndex). AreFresh o f old) is fresh))
 
 -- a bad page that the index answers
-pub bad-index : (bitmaps : Option Index) (index : Index) → bitmaps ≡ Some index → (f : FlashState) (buf : BufferState) (fault : ReadFault) → IfBad (λ bad. IsTrue f.media.tells → HoldsGood index buf → looking.IsBadPage index f bad) fault →
+pub bad-index : (bitmaps : Option BitmapIndex) (index : BitmapIndex) → bitmaps ≡ Some index → (f : FlashState) (buf : BufferState) (fault : ReadFault) → IfBad (λ bad. IsTrue f.media.tells → HoldsGood index buf → looking.IsBadPage index f bad) fault →
     IfBad (λ bad. IsTrue f.media.tells → HoldGood bitmaps buf → IsBadIndex bitmaps f bad) fault
 bad-index bitmaps index is f buf fault h =
-    subst (λ (o : Option Index). IfBad (λ bad. IsTrue f.media.tells → HoldGood o buf → IsBadIndex o f bad) fault) (sym is) h
+    subst (λ (o : Option BitmapIndex). IfBad (λ bad. IsTrue f.media.tells → HoldGood o buf → IsBadIndex o f bad) fault) (sym is) h

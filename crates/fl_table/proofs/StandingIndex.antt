@@ -5,17 +5,17 @@ use Rattle.std.specs.List.{list_any, slice_get}
 use Rattle.std.specs.Option.{is_none}
 use Rattle.std.proofs.lemmas.Bool.{cases_lt, eq-eqb, le-leb, leb-true, lt-ltb, ltb-true}
 use Rattle.fl_flash.specs.Flash.{FlashState, page_at}
-use Rattle.fl_index.specs.declared.index.Index.{Index}
+use Rattle.fl_index.specs.declared.index.BitmapIndex.{BitmapIndex}
 use Rattle.fl_index.specs.declared.page.EntryForm.{EntryForm}
 use Rattle.fl_index.specs.declared.page.Full as code
 use Rattle.fl_index.specs.Memory.{next_in, oldest_in}
 use Rattle.fl_index.specs.Page.{page_number, page_first, page_entries, found_at, full_view, fields_of}
 use Rattle.fl_index.specs.Standing.{StandsWith, bytes_in}
-use Rattle.fl_index.proofs.Gathering.{plan_form}
+use Rattle.fl_index.proofs.WaitingEntries.{plan_form}
 use Rattle.fl_index.proofs.Lists.{firsts-length}
 use Rattle.fl_index.proofs.MountPages.{IsListed, is-listed, void-none}
-use Rattle.fl_index.proofs.Sealings.{planned-bits, planned-form, planned-large, planned-page, planned-ring}
-use Rattle.fl_index.proofs.Showing.{told-found}
+use Rattle.fl_index.proofs.SealEnds.{planned-bits, planned-form, planned-large, planned-page, planned-ring}
+use Rattle.fl_index.proofs.LookupsOfTable.{told-found}
 use Rattle.fl_index.proofs.State.{HaveSize}
 use Rattle.fl_model.specs.Agrees.{TellsAt, is_told, rows_at}
 use Rattle.fl_model.specs.Index.{full_of}
@@ -34,7 +34,7 @@ use Rattle.fl_ring.specs.Ring.{Shape}
 use Rattle.fl_ring.specs.declared.ring.Ring.{Ring}
 use Rattle.fl_table.specs.ByEntries.{Come, index_page, is_committed, is_fit, end_before, entry, lists, listing_among, told, told_at, no_rows}
 use Rattle.fl_table.specs.Coming.{IsComeTo}
-use Rattle.fl_table.proofs.Standing.{IsIndexOf}
+use Rattle.fl_table.proofs.StandingMount.{IsIndexOf}
 
 -- the committed ones of the first m index pages end by a number
 ends-by : (c : Come) (most m : ℕ) → ((j : ℕ) → j < m → is_committed (index_page c j) ≡ true → page_first (index_page c j) + page_entries (index_page c j) ≤ most) → end_before c m ≤ most
@@ -80,7 +80,7 @@ both_true false b h = cc
 all_true : (a b c d : Bool) → a ≡ true → b ≡ true → c ≡ true → d ≡ true → (((a && b) && c) && d) ≡ true
 all_true a b c d x y z w = rw (x, y, z, w) refl
 
-module _ (R : Index → Plan → Table → model.Ring → Type 0) (c : Come) (layout : RowLayout) (most : ℕ) (index : Index) (ring : Ring) (f : FlashState) (first : ℕ) (plan : Plan) (table : Table)
+module _ (R : BitmapIndex → Plan → Table → model.Ring → Type 0) (c : Come) (layout : RowLayout) (most : ℕ) (index : BitmapIndex) (ring : Ring) (f : FlashState) (first : ℕ) (plan : Plan) (table : Table)
     (comes : IsComeTo c layout most index ring f) (stands : StandsWith R index f first plan table) (sizes : HaveSize first plan (page_at f)) (old : c.oldest ≡ model.oldest table.rows)
     (fit : (n rows : ℕ) → slice_get table.rows.counts n ≡ Some rows → full_view (fields_of (full_of (rows_at table n rows))) ≡ full_of (rows_at table n rows)) where
   large : 64 ≤ plan.geometry.page

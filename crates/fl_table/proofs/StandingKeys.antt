@@ -18,9 +18,9 @@ use Rattle.fl_table.specs.Reading.{rises, last_in, keys_fault}
 use Rattle.fl_table.specs.declared.faults.MountFault.{MountFault}
 use Rattle.fl_table.specs.declared.faults.MountFault.TheVariants.{BadKeys}
 use Rattle.fl_table.proofs.KeyOrder.{key_before, rising}
-use Rattle.fl_table.proofs.Checking.{is-void, no_both}
+use Rattle.fl_table.proofs.PageChecks.{is-void, no_both}
 use Rattle.fl_table.proofs.KeptPages.{sum-next}
-use Rattle.fl_table.proofs.Standing.{IsOf, IsPageOf, facts-of, rows-of, count-of, index-fine, AtMost, at-most, AreBehind, are-behind}
+use Rattle.fl_table.proofs.StandingMount.{IsOf, IsPageOf, facts-of, rows-of, count-of, index-fine, AtMost, at-most, AreBehind, are-behind}
 
 module _ (t : Come) (table : Table) (is : IsOf t table) where
   -- the key before the n-th page

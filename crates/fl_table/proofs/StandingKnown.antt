@@ -3,7 +3,7 @@ use Rattle.std.proofs.Common.{◌≡◌, ℕ, ◌+◌, ◌%◌, Some, None, List
 use Rattle.std.specs.Prelude.{slice_index}
 use Rattle.std.specs.List.{slice_get}
 use Rattle.fl_find.specs.Index.{IndexOf}
-use Rattle.fl_find.specs.declared.index.LearnedIndex.{LearnedIndex}
+use Rattle.fl_find.specs.declared.index.KeyIndex.{KeyIndex}
 use Rattle.fl_model.specs.Mount.{blob_end}
 use Rattle.fl_model.specs.Spline.{points_of, voids_of}
 use Rattle.fl_model.specs.Table.{Table, Entry, last_entry}
@@ -12,12 +12,12 @@ use Rattle.fl_table.specs.ByEntries.{Come}
 use Rattle.fl_table.specs.Knowing.{KnowsWith}
 use Rattle.fl_table.specs.declared.known.Known.{Known}
 use Rattle.fl_table.proofs.KeyOrder.{key-last}
-use Rattle.fl_table.proofs.Settling.{knows-all, points-all}
-use Rattle.fl_table.proofs.Standing.{IsOf, count-of}
+use Rattle.fl_table.proofs.WaitingPageComes.{knows-all, points-all}
+use Rattle.fl_table.proofs.StandingMount.{IsOf, count-of}
 use Rattle.fl_table.proofs.StandingKeys.{last-known}
 use Rattle.fl_table.proofs.StandingTotals.{are-all}
 
-pub record KnowsTable {KNOTS SLOTS : ℕ} (error : ℕ) (c : Come) (table : Table) (known : Known) (counts : List ℕ) (index : LearnedIndex KNOTS SLOTS) : Type 0 where
+pub record KnowsTable {KNOTS SLOTS : ℕ} (error : ℕ) (c : Come) (table : Table) (known : Known) (counts : List ℕ) (index : KeyIndex KNOTS SLOTS) : Type 0 where
   pub rows : known.rows ≡ length table.entries
   pub voids : known.voids ≡ voids_of table
   pub last : known.last ≡ option_map (λ (entry : Entry). entry.kept.key) (last_entry table)
@@ -25,7 +25,7 @@ pub record KnowsTable {KNOTS SLOTS : ℕ} (error : ℕ) (c : Come) (table : Tabl
   pub points : IndexOf error (points_of table) index
   pub noted : (i count : ℕ) → slice_get table.rows.counts i ≡ Some count → slice_index counts ((c.oldest + i) % length counts) ≡ count
 
-pub knows-table : {KNOTS SLOTS : ℕ} (error : ℕ) (c : Come) (table : Table) (known : Known) (counts : List ℕ) (index : LearnedIndex KNOTS SLOTS) → IsOf c table → KnowsWith error c c.index_pages c.pages known counts index → known.newest ≡ None →
+pub knows-table : {KNOTS SLOTS : ℕ} (error : ℕ) (c : Come) (table : Table) (known : Known) (counts : List ℕ) (index : KeyIndex KNOTS SLOTS) → IsOf c table → KnowsWith error c c.index_pages c.pages known counts index → known.newest ≡ None →
     KnowsTable error c table known counts index
 knows-table error c table known counts index is knows none =
     let all = knows-all error c c.index_pages c.pages known counts index knows none in

@@ -15,8 +15,8 @@ use Rattle.fl_table.specs.declared.faults.MountFault.TheVariants.{BadPage, BadKe
 use Rattle.fl_table.specs.declared.known.Known.{Known}
 use Rattle.fl_table.specs.declared.known.Listed.{Listed}
 use Rattle.fl_table.proofs.Aside.{fault_of, has-rows}
-use Rattle.fl_table.proofs.Checking.{is-void, listed-unread, unlisted-read, no_both, left-none}
-use Rattle.fl_table.proofs.Passing.{void-run, end-split, noted-more, noted-next, noted-here, noted-other}
+use Rattle.fl_table.proofs.PageChecks.{is-void, listed-unread, unlisted-read, no_both, left-none}
+use Rattle.fl_table.proofs.NextPage.{void-run, end-split, noted-more, noted-next, noted-here, noted-other}
 
 -- ---- a page that is counted: its check found nothing, and these are its count of rows and its last key
 

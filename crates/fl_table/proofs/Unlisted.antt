@@ -4,7 +4,7 @@ use Rattle.std.specs.Prelude.{cond, ◌==◌, ◌&&◌, nat_le, nat_lt, IfSome, 
 use Rattle.std.proofs.lemmas.Bool.{eqb-true, eq-eqb, cases_lt, le-leb, leb-true}
 use Rattle.fl_find.specs.Index.{IndexOf}
 use Rattle.fl_find.specs.Pages.{first_key, rows_on, rows_where}
-use Rattle.fl_find.specs.declared.index.LearnedIndex.{LearnedIndex}
+use Rattle.fl_find.specs.declared.index.KeyIndex.{KeyIndex}
 use Rattle.fl_mark.specs.Mark.{state_of_page}
 use Rattle.fl_mark.specs.declared.page_state.PageState.{PageState}
 use Rattle.fl_mark.specs.declared.page_state.PageState.TheVariants.{Blank, Torn, Committed, Void}
@@ -23,11 +23,11 @@ use Rattle.fl_table.specs.declared.faults.MountFault.{MountFault}
 use Rattle.fl_table.specs.declared.faults.MountFault.TheVariants.{BadPage}
 use Rattle.fl_table.specs.declared.known.Known.{Known}
 use Rattle.fl_table.specs.declared.known.Listed.{Listed}
-use Rattle.fl_table.proofs.Checking.{uncommitted-rows, no_both}
+use Rattle.fl_table.proofs.PageChecks.{uncommitted-rows, no_both}
 use Rattle.fl_table.proofs.KeyRows.{page-length}
 use Rattle.fl_table.proofs.PointsKnown.{further-known}
-use Rattle.fl_table.proofs.Settling.{knows-all, points-all}
-use Rattle.fl_table.proofs.Seeing.{saw-void}
+use Rattle.fl_table.proofs.WaitingPageComes.{knows-all, points-all}
+use Rattle.fl_table.proofs.ListedPageComes.{saw-void}
 use Rattle.fl_table.proofs.Steps.{read-check, read-refused, read-facts, read-all}
 
 -- ---- a page by its bytes
@@ -100,7 +100,7 @@ last-some (row ∷ rows) before key other e = some row.key rows
     some k [] = refl
     some k (row ∷ rows) = some row.key rows
 
-module _ {KNOTS SLOTS : ℕ} (error : ℕ) (t : Come) (k n : ℕ) (known : Known) (counts : List ℕ) (index : LearnedIndex KNOTS SLOTS) (h : KnowsWith error t k n known counts index)
+module _ {KNOTS SLOTS : ℕ} (error : ℕ) (t : Come) (k n : ℕ) (known : Known) (counts : List ℕ) (index : KeyIndex KNOTS SLOTS) (h : KnowsWith error t k n known counts index)
     (next : left t k n ≡ first_of (page_check t n) (left t k (suc n))) (layout : RowLayout) (number : ℕ) (bytes : List ℕ) (at : number ≡ t.oldest + n) (un : IsUnlisted t layout number bytes) where
   unlisted : entry t (t.oldest + n) ≡ None
   unlisted = ap (entry t) (sym at) ∙ un.none
@@ -126,7 +126,7 @@ module _ {KNOTS SLOTS : ℕ} (error : ℕ) (t : Come) (k n : ℕ) (known : Known
   saw-refused e none refused = read-refused t k n next known counts (knows-all error t k n known counts index h none) unlisted e (check-here none ∙ read-faulty layout number bytes known.last e refused)
 
   -- it has rows, and is counted
-  pub saw-rows : (now : Known) (new : LearnedIndex KNOTS SLOTS) (key rows last end : ℕ) → known.newest ≡ None → IsRead layout number bytes known.last → n < length counts → first_key (rows_on layout bytes) ≡ Some key → rows ≡ length (rows_on layout bytes) →
+  pub saw-rows : (now : Known) (new : KeyIndex KNOTS SLOTS) (key rows last end : ℕ) → known.newest ≡ None → IsRead layout number bytes known.last → n < length counts → first_key (rows_on layout bytes) ≡ Some key → rows ≡ length (rows_on layout bytes) →
       last ≡ unwrap_or (last_in known.last (rows_on layout bytes)) key → end ≡ blobs_end 0 (rows_on layout bytes) → now ≡ record known { rows = known.rows + rows; last = Some last; blob_end = max known.blob_end end } →
       ((error : ℕ) (points : List (ℕ × ℕ)) → IndexOf error points index → IsFurther points (key, number) → IndexOf error (points ++ (key, number) ∷ []) new) →
       KnowsWith error t k (suc n) now (slice_set counts (number % length counts) rows) new

@@ -17,7 +17,7 @@ use Rattle.fl_table.specs.Look.{oldest_in, rows_noted, kept_counts}
 use Rattle.fl_table.specs.Memory.{next_in}
 use Rattle.fl_table.specs.Standing.{Stands}
 use Rattle.fl_table.specs.declared.table.Table as code
-use Rattle.fl_table.proofs.Looks.{oldest-is, pages-is, kept-is}
+use Rattle.fl_table.proofs.MemoryTells.{oldest-is, pages-is, kept-is}
 
 -- how many of these counts are zero
 abbrev pub voids_in : List ℕ → ℕ

@@ -7,7 +7,7 @@ use Rattle.fl_flash.specs.Media.{next_count}
 use Rattle.fl_index.specs.Looking.{looked_at, due, next_to_read, unread, ByMemory, IfRead, IfUnread, IsFound, IsFresh, IsHeld, IsScanning, ScansOn}
 use Rattle.fl_index.specs.Memory.{oldest_in, place_in}
 use Rattle.fl_index.specs.Page.{full_view, page_number}
-use Rattle.fl_index.specs.declared.index.Index.{Index}
+use Rattle.fl_index.specs.declared.index.BitmapIndex.{BitmapIndex}
 use Rattle.fl_index.specs.declared.page.Found.{Found}
 use Rattle.fl_model.specs.Agrees.{is_told}
 use Rattle.fl_model.specs.Image.{rows_at}
@@ -23,7 +23,7 @@ use Rattle.fl_page.specs.declared.fault.ReadFault.TheVariants.{Flash, BadPage}
 
 -- An entry that waits, and that of a data page that no index page lists, need no look. Any other one is looked up in the one
 -- index page that lists it, which isn't read where the buffer holds it.
-pub record LooksUp {X : Type 0} (asked : Found → X) (index : Index) (number : ℕ) (old : FlashState) (before : BufferState) (result : Result (Option X) ReadFault) (new : FlashState) (after : BufferState) : Type 0 where
+pub record LooksUp {X : Type 0} (asked : Found → X) (index : BitmapIndex) (number : ℕ) (old : FlashState) (before : BufferState) (result : Result (Option X) ReadFault) (new : FlashState) (after : BufferState) : Type 0 where
   pub memory : looked_at index number before ≡ None → ByMemory asked index number old before result new after
   pub found : IfSome (looked_at index number before) (λ listing. IsFound asked index listing number after.bytes result)
   pub page : IfSome (looked_at index number before) (λ listing. IsTrue old.media.tells → IsFresh index old before → IfRead result (after.bytes ≡ page_at old (place_in index listing)))
@@ -33,7 +33,7 @@ pub record LooksUp {X : Type 0} (asked : Found → X) (index : Index) (number : 
   pub unread : IfErr result (IfUnread (λ e. after.holds ≡ None))
 
 -- without an index there is no entry, and nothing is read
-abbrev pub LookUp : {X : Type 0} → (Found → X) → Option Index → ℕ → FlashState → BufferState → Result (Option X) ReadFault → FlashState → BufferState → Type 0
+abbrev pub LookUp : {X : Type 0} → (Found → X) → Option BitmapIndex → ℕ → FlashState → BufferState → Result (Option X) ReadFault → FlashState → BufferState → Type 0
 LookUp asked None number old before result new after = (result ≡ Ok None) × (new ≡ old) × (after ≡ before)
 LookUp asked (Some index) number old before result new after = LooksUp asked index number old before result new after
 
@@ -56,13 +56,13 @@ ShowsFound plan table number (Err (BadPage bad)) = ⊥
 
 -- A scan that has come to the data page, and may still read the index pages from one on, goes on: what was read isn't read
 -- again, and what had to be read was. After a fault it may begin anew.
-pub record LooksFrom {X : Type 0} (index : Index) (number : ℕ) (old : FlashState) (before : BufferState) (result : Result X ReadFault) (new : FlashState) (after : BufferState) : Type 0 where
+pub record LooksFrom {X : Type 0} (index : BitmapIndex) (number : ℕ) (old : FlashState) (before : BufferState) (result : Result X ReadFault) (new : FlashState) (after : BufferState) : Type 0 where
   pub scans : (from : ℕ) → IsScanning index number from before → OnOk result (ScansOn index number from old new after)
   pub most : (from : ℕ) → IsScanning index number from before → new.work.reads ≤ old.work.reads + unread index number from
   pub least : (from : ℕ) (numbers : List ℕ) → IsScanning index number from before → AllByRecursion (λ n. number ≤ n) numbers → new.work.reads < 2 ^ 64 - 1 →
       OnOk result (old.work.reads + due index (number ∷ numbers) from ≤ new.work.reads + due index numbers (next_to_read index after))
   pub again : (from : ℕ) → IsScanning index number from before → OnErr result (unread index number (oldest_in index) ≤ unread index number from)
 
-abbrev pub LookFrom : {X : Type 0} → Option Index → ℕ → FlashState → BufferState → Result X ReadFault → FlashState → BufferState → Type 0
+abbrev pub LookFrom : {X : Type 0} → Option BitmapIndex → ℕ → FlashState → BufferState → Result X ReadFault → FlashState → BufferState → Type 0
 LookFrom None number old before result new after = Unit {0}
 LookFrom (Some index) number old before result new after = LooksFrom index number old before result new after

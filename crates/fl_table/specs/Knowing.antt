@@ -1,7 +1,7 @@
 -- What a mount knows of the data pages that it has come to, over any bytes.
 use Rattle.std.specs.Prelude.{◌≡◌, ℕ, suc, ◌+◌, ◌-◌, ◌*◌, ◌%◌, ◌<◌, ◌≤◌, max, true, Option, Some, None, IfSome, option_map, List, slice_index, length}
 use Rattle.fl_find.specs.Index.{IndexOf}
-use Rattle.fl_find.specs.declared.index.LearnedIndex.{LearnedIndex}
+use Rattle.fl_find.specs.declared.index.KeyIndex.{KeyIndex}
 use Rattle.fl_flash.specs.Flash.{FlashState}
 use Rattle.fl_index.specs.Page.{full_view}
 use Rattle.fl_model.specs.Record.{RowLayout}
@@ -63,7 +63,7 @@ counted_to t n None = n
 counted_to t n (Some listed) = listed.number - t.oldest
 
 -- .. and the index of pages has the points of those that are counted
-pub record KnowsWith {KNOTS SLOTS : ℕ} (error : ℕ) (t : Come) (k n : ℕ) (known : Known) (counts : List ℕ) (index : LearnedIndex KNOTS SLOTS) : Type 0 where
+pub record KnowsWith {KNOTS SLOTS : ℕ} (error : ℕ) (t : Come) (k n : ℕ) (known : Known) (counts : List ℕ) (index : KeyIndex KNOTS SLOTS) : Type 0 where
   pub knows : Knows t k n known counts
   pub points : IndexOf error (points_of (facts_on t) t.oldest (counted_to t n known.newest)) index
 

@@ -2,7 +2,7 @@
 use Rattle.std.specs.Prelude.{ℕ, ◌+◌, ◌-◌, ◌%◌, ◌==◌, Option, option_map, unwrap_or, List, length, drop, map, sum, count_by, slice_index, vec_len}
 use Rattle.std.specs.List.{range_with_len}
 use Rattle.fl_bitmap.specs.declared.buckets.Buckets.{Buckets}
-use Rattle.fl_find.specs.declared.index.LearnedIndex.{LearnedIndex}
+use Rattle.fl_find.specs.declared.index.KeyIndex.{KeyIndex}
 use Rattle.fl_model.specs.Record.{RowLayout}
 use Rattle.fl_model.specs.Row.{Row}
 use Rattle.fl_model.specs.Spline.{voids_of}
@@ -39,7 +39,7 @@ abbrev pub voids_noted : {KNOTS SLOTS : ℕ} → Table KNOTS SLOTS → ℕ
 voids_noted t = t.voids
 
 -- where the pages of keys are
-abbrev pub learned_in : {KNOTS SLOTS : ℕ} → Table KNOTS SLOTS → LearnedIndex KNOTS SLOTS
+abbrev pub learned_in : {KNOTS SLOTS : ℕ} → Table KNOTS SLOTS → KeyIndex KNOTS SLOTS
 learned_in t = t.index
 
 -- the buckets of its bitmaps, where its pages have any

@@ -3,7 +3,7 @@ use Rattle.std.specs.Prelude.{◌≡◌, ℕ, ◌+◌, ◌≤◌, true, not, Opt
 use Rattle.fl_flash.specs.Flash.{FlashState}
 use Rattle.fl_index.specs.Memory.{IsPlanned}
 use Rattle.fl_index.specs.Standing as standing
-use Rattle.fl_index.specs.declared.index.Index.{Index}
+use Rattle.fl_index.specs.declared.index.BitmapIndex.{BitmapIndex}
 use Rattle.fl_model.specs.Limits.{is_listed, numbers_of}
 use Rattle.fl_model.specs.MountLimit.{ring_mount_limit, part_mount_limit, kept_in}
 use Rattle.fl_model.specs.Record.{Plan}
@@ -12,7 +12,7 @@ use Rattle.fl_table.specs.BlobMount.{Rests}
 use Rattle.fl_var.specs.declared.var_data.VarData.{VarData}
 
 -- the part of the index: its ring alone is mounted
-abbrev pub IsIndexLimited : Option Index → FlashState → ℕ → Plan → Table → FlashState → Type 0
+abbrev pub IsIndexLimited : Option BitmapIndex → FlashState → ℕ → Plan → Table → FlashState → Type 0
 IsIndexLimited None old first plan table new = new.work.reads ≤ old.work.reads
 IsIndexLimited (Some index) old first plan table new =
     IsPlanned index first plan → standing.Rests old first plan table → plan.full_index ≡ true →

@@ -14,7 +14,7 @@ use Rattle.fl_index.specs.Memory as memory
 use Rattle.fl_index.specs.Finding as finding
 use Rattle.fl_index.specs.Finding.{FindsEnd, FindsIndex, RefusesEnd, RefusesIndex}
 use Rattle.fl_index.specs.Page.{first_on}
-use Rattle.fl_index.specs.declared.index.Index.{Index}
+use Rattle.fl_index.specs.declared.index.BitmapIndex.{BitmapIndex}
 use Rattle.fl_ring.specs.Ring.{room}
 use Rattle.fl_table.specs.Bitmaps.{room_of, rings_of, IsOutside, AreSamePlan, AreStillFound}
 use Rattle.fl_table.specs.Blobs as variable
@@ -50,34 +50,34 @@ pages_in t = room (ring_shape t) + room_of t.bitmaps + variable.room_of t.blobs
 
 -- The index was found and repaired, where the table has one; it is this one now, and ends at this number. Where entries are full,
 -- its kept pages are read later.
-abbrev pub FindsBy : Bool → Index → FlashState → Option ℕ → Index → FlashState → Type 0
+abbrev pub FindsBy : Bool → BitmapIndex → FlashState → Option ℕ → BitmapIndex → FlashState → Type 0
 FindsBy true index old end now new = FindsEnd index old end now new
 FindsBy false index old end now new = FindsIndex index old end now new
 
-abbrev pub FindsBitmaps : Option Index → FlashState → Option ℕ → Option Index → FlashState → Type 0
+abbrev pub FindsBitmaps : Option BitmapIndex → FlashState → Option ℕ → Option BitmapIndex → FlashState → Type 0
 FindsBitmaps None old end None new = (end ≡ None) × (new ≡ old)
 FindsBitmaps None old end (Some now) new = ⊥
 FindsBitmaps (Some index) old end None new = ⊥
 FindsBitmaps (Some index) old end (Some now) new = FindsBy (memory.form_in index).full index old end now new
 
 -- why it is refused, and what was done
-abbrev pub RefusesBy : Bool → Index → FlashState → RingFault → FlashState → Type 0
+abbrev pub RefusesBy : Bool → BitmapIndex → FlashState → RingFault → FlashState → Type 0
 RefusesBy true index old fault new = RefusesEnd index old fault new
 RefusesBy false index old fault new = RefusesIndex index old fault new
 
-abbrev pub RefusesBitmaps : Option Index → FlashState → RingFault → FlashState → Type 0
+abbrev pub RefusesBitmaps : Option BitmapIndex → FlashState → RingFault → FlashState → Type 0
 RefusesBitmaps None old fault new = ⊥
 RefusesBitmaps (Some index) old fault new = RefusesBy (memory.form_in index).full index old fault new
 
 -- the index was found, and ends at this number
 pub record Indexed {KNOTS SLOTS : ℕ} (t : Table KNOTS SLOTS) (old : FlashState) (end : Option ℕ) (found : FlashState) : Type 0 where
-  pub now : Option Index
+  pub now : Option BitmapIndex
   pub same : AreSamePlan t.bitmaps now
   pub bitmaps : FindsBitmaps t.bitmaps old end now found
 
 -- The data ring was found and repaired, whose void pages follow a number. Then kept pages were read, no more than there are: those of
 -- the data ring, and where entries are full those of the index that was found.
-pub record ReadsRing {KNOTS SLOTS : ℕ} (t : Table KNOTS SLOTS) (bitmaps : Option Index) (old : FlashState) (least : ℕ) (ring : Ring) (new : FlashState) : Type 0 where
+pub record ReadsRing {KNOTS SLOTS : ℕ} (t : Table KNOTS SLOTS) (bitmaps : Option BitmapIndex) (old : FlashState) (least : ℕ) (ring : Ring) (new : FlashState) : Type 0 where
   pub repaired : FlashState
   pub numbers : HasNumbers old (ring_shape t) least ring repaired
   pub shape : shape_of ring ≡ ring_shape t
@@ -85,11 +85,11 @@ pub record ReadsRing {KNOTS SLOTS : ℕ} (t : Table KNOTS SLOTS) (bitmaps : Opti
   pub reads : OnlyReads repaired (index_pages_of bitmaps + (next_of ring - oldest_of ring)) new
 
 -- what the mount of a table comes to behind the index that was found
-abbrev pub comes_in : {KNOTS SLOTS : ℕ} → Table KNOTS SLOTS → Option Index → Ring → FlashState → Come
+abbrev pub comes_in : {KNOTS SLOTS : ℕ} → Table KNOTS SLOTS → Option BitmapIndex → Ring → FlashState → Come
 comes_in t bitmaps ring f = come_of (layout_of t.schema) (most_in t.geometry.page (layout_of t.schema)) bitmaps ring f
 
 -- nothing is wrong with the kept pages, and what is known of the data pages is counted
-pub record FindsData {KNOTS SLOTS : ℕ} (t : Table KNOTS SLOTS) (bitmaps : Option Index) (old : FlashState) (least : ℕ) (ring : Ring) (mounted : Mounted) (last : Option ℕ) (end : ℕ) (new : FlashState) : Type 0 where
+pub record FindsData {KNOTS SLOTS : ℕ} (t : Table KNOTS SLOTS) (bitmaps : Option BitmapIndex) (old : FlashState) (least : ℕ) (ring : Ring) (mounted : Mounted) (last : Option ℕ) (end : ℕ) (new : FlashState) : Type 0 where
   pub ring_reads : ReadsRing t bitmaps old least ring new
   pub fine : mount_fault (comes_in t bitmaps ring new) ≡ None
   pub mounted_is : mounted ≡ record {
@@ -101,19 +101,19 @@ pub record FindsData {KNOTS SLOTS : ℕ} (t : Table KNOTS SLOTS) (bitmaps : Opti
   pub end_is : end ≡ end_of (facts_on (comes_in t bitmaps ring new)) (oldest_of ring) (next_of ring - oldest_of ring)
 
 -- Where entries are full, the first data page of each kept index page is remembered.
-abbrev pub RemembersPages : Bool → Index → FlashState → Index → Type 0
+abbrev pub RemembersPages : Bool → BitmapIndex → FlashState → BitmapIndex → Type 0
 RemembersPages true index f now =
     (number : ℕ) → memory.oldest_in index ≤ number → number < memory.next_in index → memory.first_in now number ≡ first_on (finding.pages_of index f number)
 RemembersPages false index f now = Unit {0}
 
-abbrev pub RemembersKept : Option Index → FlashState → Option Index → Type 0
+abbrev pub RemembersKept : Option BitmapIndex → FlashState → Option BitmapIndex → Type 0
 RemembersKept None f now = Unit {0}
 RemembersKept (Some index) f None = ⊥
 RemembersKept (Some index) f (Some now) = RemembersPages (memory.form_in index).full index f now
 
 -- The entries of the last data pages wait that no index page lists, and no row is pending. The variable data were found then, where the table has any:
 -- each blob begins before their next page.
-pub record FindsRows {KNOTS SLOTS : ℕ} (t : Table KNOTS SLOTS) (bitmaps : Option Index) (old : FlashState) (least : ℕ) (mounted : Mounted) (now : Table KNOTS SLOTS) (new : FlashState) : Type 0 where
+pub record FindsRows {KNOTS SLOTS : ℕ} (t : Table KNOTS SLOTS) (bitmaps : Option BitmapIndex) (old : FlashState) (least : ℕ) (mounted : Mounted) (now : Table KNOTS SLOTS) (new : FlashState) : Type 0 where
   pub ring : Ring
   pub ring_is : now.ring ≡ Some ring
   pub end : ℕ
@@ -129,20 +129,20 @@ pub record FindsRows {KNOTS SLOTS : ℕ} (t : Table KNOTS SLOTS) (bitmaps : Opti
 pub record FindsPages {KNOTS SLOTS : ℕ} (t : Table KNOTS SLOTS) (old : FlashState) (mounted : Mounted) (now : Table KNOTS SLOTS) (new : FlashState) : Type 0 where
   pub end : Option ℕ
   pub indexed : FlashState
-  pub found : Option Index
+  pub found : Option BitmapIndex
   pub same : AreSamePlan t.bitmaps found
   pub bitmaps : FindsBitmaps t.bitmaps old end found indexed
   pub still : AreStillFound found now.bitmaps
   pub rows : FindsRows t found indexed (unwrap_or end 0) mounted now new
 
 -- a page of them is refused, and it is the first
-pub record HasBadPage {KNOTS SLOTS : ℕ} (t : Table KNOTS SLOTS) (bitmaps : Option Index) (old : FlashState) (least : ℕ) (fault : MountFault) (new : FlashState) : Type 0 where
+pub record HasBadPage {KNOTS SLOTS : ℕ} (t : Table KNOTS SLOTS) (bitmaps : Option BitmapIndex) (old : FlashState) (least : ℕ) (fault : MountFault) (new : FlashState) : Type 0 where
   pub ring : Ring
   pub ring_reads : ReadsRing t bitmaps old least ring new
   pub refused : mount_fault (comes_in t bitmaps ring new) ≡ Some fault
 
 -- the ring was found and repaired, and then a read of a kept page failed
-pub record PagesUnread {KNOTS SLOTS : ℕ} (t : Table KNOTS SLOTS) (bitmaps : Option Index) (old : FlashState) (least : ℕ) (fault : FlashFault) (new : FlashState) : Type 0 where
+pub record PagesUnread {KNOTS SLOTS : ℕ} (t : Table KNOTS SLOTS) (bitmaps : Option BitmapIndex) (old : FlashState) (least : ℕ) (fault : FlashFault) (new : FlashState) : Type 0 where
   pub ring : Ring
   pub ring_reads : ReadsRing t bitmaps old least ring new
   pub fails : ReadFails ring_reads.repaired fault new
@@ -161,7 +161,7 @@ pub record HasBadEnd {KNOTS SLOTS : ℕ} (t : Table KNOTS SLOTS) (old : FlashSta
   pub beyond : next < end
 
 -- why the mount of the data ring and the read of its pages fail, and what was done
-abbrev pub RefusesData : {KNOTS SLOTS : ℕ} → Table KNOTS SLOTS → Option Index → FlashState → ℕ → MountFault → FlashState → Type 0
+abbrev pub RefusesData : {KNOTS SLOTS : ℕ} → Table KNOTS SLOTS → Option BitmapIndex → FlashState → ℕ → MountFault → FlashState → Type 0
 RefusesData t bitmaps old least (mount.Flash fault) new = FailsAs old (ring_shape t) least (ring.Flash fault) new ⊎ PagesUnread t bitmaps old least fault new
 RefusesData t bitmaps old least (mount.Ring fault) new = HasBadRing t old least fault new
 RefusesData t bitmaps old least (mount.BadPage bad) new = HasBadPage t bitmaps old least (mount.BadPage bad) new
@@ -171,7 +171,7 @@ RefusesData t bitmaps old least (mount.BadBlob page next) new = ⊥
 RefusesData t bitmaps old least (mount.BadEntry page count limit) new = HasBadPage t bitmaps old least (mount.BadEntry page count limit) new
 
 -- the data pages were found, and the variable data are refused
-pub record BlobsRefused {KNOTS SLOTS : ℕ} (t : Table KNOTS SLOTS) (bitmaps : Option Index) (old : FlashState) (least : ℕ) (fault : MountFault) (new : FlashState) : Type 0 where
+pub record BlobsRefused {KNOTS SLOTS : ℕ} (t : Table KNOTS SLOTS) (bitmaps : Option BitmapIndex) (old : FlashState) (least : ℕ) (fault : MountFault) (new : FlashState) : Type 0 where
   pub ring : Ring
   pub mounted : Mounted
   pub last : Option ℕ
@@ -181,7 +181,7 @@ pub record BlobsRefused {KNOTS SLOTS : ℕ} (t : Table KNOTS SLOTS) (bitmaps : O
   pub why : RefusesWithin t.blobs between end fault new
 
 -- why the mount of the data ring and of the variable data fails
-abbrev pub RefusesRows : {KNOTS SLOTS : ℕ} → Table KNOTS SLOTS → Option Index → FlashState → ℕ → MountFault → FlashState → Type 0
+abbrev pub RefusesRows : {KNOTS SLOTS : ℕ} → Table KNOTS SLOTS → Option BitmapIndex → FlashState → ℕ → MountFault → FlashState → Type 0
 RefusesRows t bitmaps old least fault new = RefusesData t bitmaps old least fault new ⊎ BlobsRefused t bitmaps old least fault new
 
 -- why a mount fails: the index is refused, or it is found, and the data pages or the variable data aren't

@@ -5,7 +5,7 @@ use Rattle.fl_flash.specs.Flash.{FlashState, page_at}
 use Rattle.fl_mark.specs.Mark.{state_of_page}
 use Rattle.fl_mark.specs.declared.page_state.PageState.{PageState}
 use Rattle.fl_mark.specs.declared.page_state.PageState.TheVariants.{Blank, Torn, Committed, Void}
-use Rattle.fl_index.specs.declared.index.Index.{Index}
+use Rattle.fl_index.specs.declared.index.BitmapIndex.{BitmapIndex}
 use Rattle.fl_index.specs.declared.page.Full.{Full}
 use Rattle.fl_index.specs.Memory.{first_waiting, waiting_in, per_page}
 use Rattle.fl_index.specs.Page.{full_view}
@@ -70,7 +70,7 @@ abbrev pub bitmap_on : List ℕ → ℕ
 bitmap_on page = bitmap_where (state_of_page page) (page_bitmap page)
 
 -- no entry waits, and those of the pages from one of these on are to wait, which have room
-abbrev pub WaitFor : Option Index → ℕ → ℕ → Type 0
+abbrev pub WaitFor : Option BitmapIndex → ℕ → ℕ → Type 0
 WaitFor None oldest next = Unit {0}
 WaitFor (Some index) oldest next =
     (waiting_in index ≡ 0) × (oldest ≤ first_waiting index) × (first_waiting index ≤ next) × (next ≤ first_waiting index + per_page index)
@@ -96,7 +96,7 @@ abbrev pub entries_from : Plan → model.Table → ℕ → ℕ → List IndexEnt
 entries_from plan table first count = map (λ number. index_entry plan (rows_of_page table number)) (numbers_from first count)
 
 -- the entries of the pages before a number wait then
-abbrev pub GatherUpTo : RowLayout → Option Index → (ℕ → List ℕ) → ℕ → Option Index → Type 0
+abbrev pub GatherUpTo : RowLayout → Option BitmapIndex → (ℕ → List ℕ) → ℕ → Option BitmapIndex → Type 0
 GatherUpTo layout None page next new = new ≡ None
 GatherUpTo layout (Some old) page next None = ⊥
 GatherUpTo layout (Some old) page next (Some new) =
@@ -104,12 +104,12 @@ GatherUpTo layout (Some old) page next (Some new) =
     model_oldest table.rows ≤ first_waiting old → next ≤ table.rows.next → Waits new (first_waiting old) (entries_from plan table (first_waiting old) (next - first_waiting old))
 
 -- those of the pages from a number on wait then
-abbrev pub WaitFrom : RowLayout → (ℕ → List ℕ) → ℕ → ℕ → Option Index → Type 0
+abbrev pub WaitFrom : RowLayout → (ℕ → List ℕ) → ℕ → ℕ → Option BitmapIndex → Type 0
 WaitFrom layout page first next new =
     (plan : Plan) (table : model.Table) → HaveEntries layout plan table page → model_oldest table.rows ≤ first → next ≤ table.rows.next → AreWaiting new first (entries_from plan table first (next - first))
 
 -- .. as many as there are from the first that waits on
-abbrev pub AreGathered : Option Index → ℕ → Option Index → Type 0
+abbrev pub AreGathered : Option BitmapIndex → ℕ → Option BitmapIndex → Type 0
 AreGathered None next new = new ≡ None
 AreGathered (Some old) next None = ⊥
 AreGathered (Some old) next (Some new) = (first_waiting new ≡ first_waiting old) × (waiting_in new ≡ next - first_waiting old)

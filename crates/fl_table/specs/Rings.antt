@@ -1,7 +1,7 @@
 -- How many pages the rings of a table keep, in memory and in the model.
 use Rattle.std.specs.Prelude.{ℕ, ◌-◌, Option, option_map, length}
 use Rattle.fl_index.specs.Memory as index
-use Rattle.fl_index.specs.declared.index.Index.{Index}
+use Rattle.fl_index.specs.declared.index.BitmapIndex.{BitmapIndex}
 use Rattle.fl_model.specs.Table as model
 use Rattle.fl_table.specs.declared.rings.TableRings.{TableRings}
 use Rattle.fl_table.specs.declared.table.Table.{Table}
@@ -11,7 +11,7 @@ use Rattle.fl_var.specs.Memory as var
 use Rattle.fl_var.specs.declared.var_data.VarData.{VarData}
 
 -- the kept pages of the rings in memory; a ring that isn't mounted keeps none
-abbrev pub index_pages : Option Index → Option ℕ
+abbrev pub index_pages : Option BitmapIndex → Option ℕ
 index_pages bitmaps = option_map (λ i. index.next_in i - index.oldest_in i) bitmaps
 
 abbrev pub blob_pages : Option VarData → Option ℕ

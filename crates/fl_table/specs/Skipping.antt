@@ -6,7 +6,7 @@ use Rattle.fl_flash.specs.Buffer.{BufferState}
 use Rattle.fl_flash.specs.Flash.{FlashState}
 use Rattle.fl_index.specs.Looking as looking
 use Rattle.fl_index.specs.Looking.{IsFresh, IsScanning, HoldsGood, next_to_read, unread, due}
-use Rattle.fl_index.specs.declared.index.Index.{Index}
+use Rattle.fl_index.specs.declared.index.BitmapIndex.{BitmapIndex}
 use Rattle.fl_index.specs.declared.page.Found.{Found}
 use Rattle.fl_index.specs.declared.page.Full.{Full}
 use Rattle.fl_model.specs.Layout.{bitmap_of}
@@ -22,38 +22,38 @@ use Rattle.fl_table.specs.declared.skip.Ahead.TheVariants.{Wanted, Missed, Beyon
 use Rattle.fl_table.specs.declared.table.Table as code
 
 -- the index of a table, where it has one
-abbrev pub index_in : {KNOTS SLOTS : ℕ} → code.Table KNOTS SLOTS → Option Index
+abbrev pub index_in : {KNOTS SLOTS : ℕ} → code.Table KNOTS SLOTS → Option BitmapIndex
 index_in t = t.bitmaps
 
 -- a kept index page that a buffer holds has the bytes that stand on the flash
-abbrev pub AreFresh : Option Index → FlashState → BufferState → Type 0
+abbrev pub AreFresh : Option BitmapIndex → FlashState → BufferState → Type 0
 AreFresh None f buf = Unit {0}
 AreFresh (Some index) f buf = IsFresh index f buf
 
 -- .. and is good, or not committed
-abbrev pub HoldGood : Option Index → BufferState → Type 0
+abbrev pub HoldGood : Option BitmapIndex → BufferState → Type 0
 HoldGood None buf = Unit {0}
 HoldGood (Some index) buf = HoldsGood index buf
 
 -- a scan has come to a data page, and the buffer holds no index page or the one that was looked at last
-abbrev pub AreScanning : Option Index → ℕ → BufferState → Type 0
+abbrev pub AreScanning : Option BitmapIndex → ℕ → BufferState → Type 0
 AreScanning None number buf = Unit {0}
 AreScanning (Some index) number buf = IsScanning index number (next_to_read index buf) buf
 
 -- the index pages that a scan of a span may still read from a data page on
-abbrev pub unread_of : Option Span → Option Index → ℕ → BufferState → ℕ
+abbrev pub unread_of : Option Span → Option BitmapIndex → ℕ → BufferState → ℕ
 unread_of None bitmaps number buf = 0
 unread_of (Some span) None number buf = 0
 unread_of (Some span) (Some index) number buf = unread index number (next_to_read index buf)
 
 -- .. and those that it has to read for some data pages: none where the span has no value
-abbrev pub due_of : Option Span → Option Index → List ℕ → BufferState → ℕ
+abbrev pub due_of : Option Span → Option BitmapIndex → List ℕ → BufferState → ℕ
 due_of None bitmaps numbers buf = 0
 due_of (Some span) None numbers buf = 0
 due_of (Some span) (Some index) numbers buf = if asks_values (Some span) then due index numbers (next_to_read index buf) else 0
 
 -- a kept index page that is committed on a flash, and isn't good
-abbrev pub IsBadIndex : Option Index → FlashState → Refusal → Type 0
+abbrev pub IsBadIndex : Option BitmapIndex → FlashState → Refusal → Type 0
 IsBadIndex None f bad = ⊥
 IsBadIndex (Some index) f bad = looking.IsBadPage index f bad
 
@@ -91,7 +91,7 @@ ahead_by mask top found =
 
 -- Over a flash that stands for a table: the scan goes on, what was read isn't read again, and what had to be read was. After a
 -- fault too no more is left to be read than before.
-pub record LooksOn {X : Type 0} (bitmaps : Option Index) (span : Option Span) (number : ℕ) (before : BufferState) (reads : ℕ) (result : Result X ReadFault) (reads_now : ℕ) (after : BufferState) : Type 0 where
+pub record LooksOn {X : Type 0} (bitmaps : Option BitmapIndex) (span : Option Span) (number : ℕ) (before : BufferState) (reads : ℕ) (result : Result X ReadFault) (reads_now : ℕ) (after : BufferState) : Type 0 where
   pub scanning : AreScanning bitmaps number after
   pub once : OnOk result (reads_now + unread_of span bitmaps number after ≤ reads + unread_of span bitmaps number before)
   pub most : reads_now ≤ reads + unread_of span bitmaps number before

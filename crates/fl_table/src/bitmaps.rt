@@ -12,13 +12,13 @@ ghost use Rattle.fl_table.specs.MountLimits.{IsIndexLimited};
 ghost use Rattle.fl_table.specs.Mounting.{FewReads, FewRepairs, FindsBitmaps, RefusesBitmaps};
 
 use fl_flash::{Flash, FlashFault, PageBuf};
-use fl_index::{Full, Index};
+use fl_index::{Full, BitmapIndex};
 use fl_ring::RingFault;
 
 /// Mounts the index, or finds its end alone where entries are full: its pages are read later then. It answers the number after
 /// the data pages that it lists, where it lists any.
 pub(crate) fn mount_bitmaps<F: Flash>(
-    bitmaps: &mut Option<Index>,
+    bitmaps: &mut Option<BitmapIndex>,
     flash: &mut F,
     buf: &mut PageBuf,
 ) -> Result<Option<u32>, RingFault>
@@ -53,7 +53,7 @@ pub(crate) fn mount_bitmaps<F: Flash>(
 
 /// The first data page whose entry waits after a mount that found these pages: those wait that the index doesn't list,
 /// as many of the last ones as an index page holds.
-pub(crate) fn first_to_wait(bitmaps: &Option<Index>, end: u32, oldest: u32, next: u32) -> u32
+pub(crate) fn first_to_wait(bitmaps: &Option<BitmapIndex>, end: u32, oldest: u32, next: u32) -> u32
     requires end { end ≤ next }
     requires oldest { oldest ≤ next }
     ensures { result ≡ first_to_wait bitmaps.now end oldest next }
@@ -65,7 +65,7 @@ pub(crate) fn first_to_wait(bitmaps: &Option<Index>, end: u32, oldest: u32, next
 }
 
 /// The entry of this data page is the first that waits.
-pub(crate) fn restart(bitmaps: &mut Option<Index>, first: u32)
+pub(crate) fn restart(bitmaps: &mut Option<BitmapIndex>, first: u32)
     requires idle { AreIdle bitmaps.old }
     ensures same { AreSamePlan bitmaps.old bitmaps.new }
     ensures still { AreSameRing bitmaps.old bitmaps.new }
@@ -81,7 +81,7 @@ pub(crate) fn restart(bitmaps: &mut Option<Index>, first: u32)
 
 /// The entry of this data page waits behind the others, where it is the next one to wait. Only full entries tell more
 /// than the bitmap.
-pub(crate) fn note_entry(bitmaps: &mut Option<Index>, number: u32, bitmap: u64, full: Full)
+pub(crate) fn note_entry(bitmaps: &mut Option<BitmapIndex>, number: u32, bitmap: u64, full: Full)
     requires room { EndAt bitmaps.old number → HaveRoom bitmaps.old }
     requires left { number + 1 < 2 ^ 32 }
     ensures same { AreSamePlan bitmaps.old bitmaps.new }
@@ -96,7 +96,7 @@ pub(crate) fn note_entry(bitmaps: &mut Option<Index>, number: u32, bitmap: u64, 
 
 /// Seals the waiting entries where they fill an index page.
 pub(crate) fn make_room<F: Flash>(
-    bitmaps: &mut Option<Index>,
+    bitmaps: &mut Option<BitmapIndex>,
     flash: &mut F,
 ) -> Result<(), FlashFault>
     requires running { AreRunning bitmaps.old }

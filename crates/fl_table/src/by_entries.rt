@@ -24,15 +24,15 @@ ghost use Rattle.fl_index.specs.Page.{first_on, full_view};
 use crate::MountFault;
 use crate::known::{Known, blame, see_entry, settle};
 use crate::reading::read_page;
-use fl_find::LearnedIndex;
+use fl_find::KeyIndex;
 use fl_flash::{Flash, PageBuf};
-use fl_index::{Full, Index, Loaded};
+use fl_index::{Full, BitmapIndex, Loaded};
 use fl_page::BadPage;
 use fl_ring::Ring;
 use fl_schema::Schema;
 
 /// What the entry of a data page tells beside its bitmap, where the index page that was loaded last lists it.
-fn listed(bitmaps: &Index, number: u32) -> Option<Full>
+fn listed(bitmaps: &BitmapIndex, number: u32) -> Option<Full>
     ensures { result ≡ loaded_full bitmaps.now number }
 {
     match bitmaps.waiting_entry(number) {
@@ -43,7 +43,7 @@ fn listed(bitmaps: &Index, number: u32) -> Option<Full>
 
 /// The first entry of a kept data page that tells more rows than a page holds, among those of the index page that was loaded
 /// last, which lists data pages from one number to another.
-fn bad_entry(bitmaps: &Index, from: u32, to: u32, limit: u32) -> Option<MountFault>
+fn bad_entry(bitmaps: &BitmapIndex, from: u32, to: u32, limit: u32) -> Option<MountFault>
     ensures none { result ≡ None → (number : ℕ) → from ≤ number → number < to → IfSome (loaded_full bitmaps.now number) (λ full. full.count ≤ limit) }
     ensures first { IfSome result (λ e. (number : ℕ) × (count : ℕ) × (from ≤ number) × (number < to) × (limit < count) × (e ≡ MountFault.BadEntry number count limit)
         × IfSome (loaded_full bitmaps.now number) (λ full. full.count ≡ count) × ((before : ℕ) → from ≤ before → before < number → IfSome (loaded_full bitmaps.now before) (λ full. full.count ≤ limit))) }
@@ -67,11 +67,11 @@ fn bad_entry(bitmaps: &Index, from: u32, to: u32, limit: u32) -> Option<MountFau
 fn see_one<F: Flash, const KNOTS: usize, const SLOTS: usize>(
     schema: &Schema<8>,
     ring: &Ring,
-    bitmaps: &Index,
+    bitmaps: &BitmapIndex,
     number: u32,
     known: &mut Known,
     counts: &mut [u16],
-    index: &mut LearnedIndex<KNOTS, SLOTS>,
+    index: &mut KeyIndex<KNOTS, SLOTS>,
     flash: &mut F,
     buf: &mut PageBuf,
 ) -> Result<(), MountFault>
@@ -111,12 +111,12 @@ fn see_one<F: Flash, const KNOTS: usize, const SLOTS: usize>(
 fn see_pages<F: Flash, const KNOTS: usize, const SLOTS: usize>(
     schema: &Schema<8>,
     ring: &Ring,
-    bitmaps: &Index,
+    bitmaps: &BitmapIndex,
     from: u32,
     end: u64,
     known: &mut Known,
     counts: &mut [u16],
-    index: &mut LearnedIndex<KNOTS, SLOTS>,
+    index: &mut KeyIndex<KNOTS, SLOTS>,
     flash: &mut F,
     buf: &mut PageBuf,
 ) -> Result<u32, MountFault>
@@ -158,13 +158,13 @@ fn see_pages<F: Flash, const KNOTS: usize, const SLOTS: usize>(
 /// pages that it or one before it says to list.
 fn take_index_page<F: Flash, const KNOTS: usize, const SLOTS: usize>(
     ring: &Ring,
-    bitmaps: &mut Index,
+    bitmaps: &mut BitmapIndex,
     page: u32,
     end: u64,
     limit: u32,
     known: &mut Known,
     counts: &mut [u16],
-    index: &mut LearnedIndex<KNOTS, SLOTS>,
+    index: &mut KeyIndex<KNOTS, SLOTS>,
     flash: &mut F,
     buf: &mut PageBuf,
 ) -> Result<u64, MountFault>
@@ -229,11 +229,11 @@ fn take_index_page<F: Flash, const KNOTS: usize, const SLOTS: usize>(
 fn see_listed<F: Flash, const KNOTS: usize, const SLOTS: usize>(
     schema: &Schema<8>,
     ring: &Ring,
-    bitmaps: &mut Index,
+    bitmaps: &mut BitmapIndex,
     limit: u32,
     known: &mut Known,
     counts: &mut [u16],
-    index: &mut LearnedIndex<KNOTS, SLOTS>,
+    index: &mut KeyIndex<KNOTS, SLOTS>,
     flash: &mut F,
     buf: &mut PageBuf,
 ) -> Result<u32, MountFault>
@@ -292,11 +292,11 @@ fn see_listed<F: Flash, const KNOTS: usize, const SLOTS: usize>(
 pub(crate) fn read_listed<F: Flash, const KNOTS: usize, const SLOTS: usize>(
     schema: &Schema<8>,
     ring: &Ring,
-    bitmaps: &mut Option<Index>,
+    bitmaps: &mut Option<BitmapIndex>,
     limit: u32,
     known: &mut Known,
     counts: &mut [u16],
-    index: &mut LearnedIndex<KNOTS, SLOTS>,
+    index: &mut KeyIndex<KNOTS, SLOTS>,
     flash: &mut F,
     buf: &mut PageBuf,
 ) -> Result<u32, MountFault>

@@ -11,7 +11,7 @@ ghost use Rattle.fl_table.specs.declared.faults.MountFault.{MountFault};
 
 use crate::MountFault;
 use crate::seal::note;
-use fl_find::LearnedIndex;
+use fl_find::KeyIndex;
 use fl_index::Full;
 use fl_page::BadPage;
 
@@ -80,7 +80,7 @@ impl Known {
 pub(crate) fn count_page<const KNOTS: usize, const SLOTS: usize>(
     known: &mut Known,
     counts: &mut [u16],
-    index: &mut LearnedIndex<KNOTS, SLOTS>,
+    index: &mut KeyIndex<KNOTS, SLOTS>,
     number: u32,
     page: PageFacts,
 )
@@ -132,7 +132,7 @@ pub(crate) fn check_rise(number: u32, last: Option<u64>, key: u64) -> Result<(),
 pub(crate) fn settle<const KNOTS: usize, const SLOTS: usize>(
     known: &mut Known,
     counts: &mut [u16],
-    index: &mut LearnedIndex<KNOTS, SLOTS>,
+    index: &mut KeyIndex<KNOTS, SLOTS>,
 ) -> Result<(), MountFault>
     requires some { 1 ≤ length counts.old }
     requires few { known.old.rows + 65536 < 2 ^ 64 }
@@ -163,7 +163,7 @@ pub(crate) fn settle<const KNOTS: usize, const SLOTS: usize>(
 pub(crate) fn see_entry<const KNOTS: usize, const SLOTS: usize>(
     known: &mut Known,
     counts: &mut [u16],
-    index: &mut LearnedIndex<KNOTS, SLOTS>,
+    index: &mut KeyIndex<KNOTS, SLOTS>,
     number: u32,
     full: Full,
 ) -> Result<(), MountFault>

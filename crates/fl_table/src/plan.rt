@@ -16,8 +16,8 @@ ghost use Rattle.fl_table.specs.Look.{layout_in};
 ghost use Rattle.fl_table.specs.Memory.{is_running, is_stopped, IsPlanned, LiesOn};
 
 use crate::table::Table;
-use fl_find::LearnedIndex;
-use fl_index::Index;
+use fl_find::KeyIndex;
+use fl_index::BitmapIndex;
 use fl_page::PageWriter;
 use fl_plan::{ConfigRefusal, TableConfig};
 use fl_schema::Schema;
@@ -41,7 +41,7 @@ fn schema_of(config: &TableConfig) -> Schema<8>
 }
 
 /// The index of a configuration that isn't refused.
-fn bitmaps_of(alloc: Global, config: &TableConfig) -> Result<Option<Index>, fl_base::NoMemory>
+fn bitmaps_of(alloc: Global, config: &TableConfig) -> Result<Option<BitmapIndex>, fl_base::NoMemory>
     requires fits { config_fault config.now ≡ None }
     requires limits { IsWithinLimits config.now }
     ensures planned { IfOk result (λ bitmaps. (plan : Plan) → IsConfigOf config.now plan → ArePlanned bitmaps (config.now.rows.first_block + plan.data_blocks) plan) }
@@ -53,7 +53,7 @@ fn bitmaps_of(alloc: Global, config: &TableConfig) -> Result<Option<Index>, fl_b
     let (Some(place), Some(buckets)) = (config.index, config.buckets) else {
         return Ok(None);
     };
-    let index = Index::plan(
+    let index = BitmapIndex::plan(
         alloc,
         config.geometry,
         place,
@@ -116,7 +116,7 @@ impl<const KNOTS: usize, const SLOTS: usize> Table<KNOTS, SLOTS> {
             counts,
             voids: 0,
             blob_end: 0,
-            index: LearnedIndex::new(config.error),
+            index: KeyIndex::new(config.error),
             bitmaps,
             blobs,
             blob_limit: config.blob_limit,

@@ -23,9 +23,9 @@ use crate::blob_end::{blobs_end, least_of};
 use crate::keys::last_key_after;
 use crate::known::{Known, PageFacts, count_page, count_void, settle};
 use fl_base::{get_u16, get_u32, get_u64};
-use fl_find::LearnedIndex;
+use fl_find::KeyIndex;
 use fl_flash::{Flash, PageBuf};
-use fl_index::{Full, Index};
+use fl_index::{Full, BitmapIndex};
 use fl_mark::{PageState, state_of};
 use fl_page::{BadPage, PageView};
 use fl_ring::Ring;
@@ -137,7 +137,7 @@ fn make_way<const KNOTS: usize, const SLOTS: usize>(
     bytes: &[u8],
     known: &mut Known,
     counts: &mut [u16],
-    index: &mut LearnedIndex<KNOTS, SLOTS>,
+    index: &mut KeyIndex<KNOTS, SLOTS>,
 ) -> Result<(), MountFault>
     requires least { 24 ≤ length bytes.now }
     requires some { 1 ≤ length counts.old }
@@ -166,7 +166,7 @@ fn see_page<const KNOTS: usize, const SLOTS: usize>(
     number: u32,
     known: &mut Known,
     counts: &mut [u16],
-    index: &mut LearnedIndex<KNOTS, SLOTS>,
+    index: &mut KeyIndex<KNOTS, SLOTS>,
 ) -> Result<PageRows, MountFault>
     requires least { 24 ≤ length bytes.now }
     requires most { length bytes.now ≤ 4096 }
@@ -203,7 +203,7 @@ pub(crate) fn read_page<F: Flash, const KNOTS: usize, const SLOTS: usize>(
     number: u32,
     known: &mut Known,
     counts: &mut [u16],
-    index: &mut LearnedIndex<KNOTS, SLOTS>,
+    index: &mut KeyIndex<KNOTS, SLOTS>,
     buf: &mut PageBuf,
 ) -> Result<PageRows, MountFault>
     requires row { 1 ≤ layout_len (layout_of schema.now) }
@@ -245,8 +245,8 @@ pub(crate) fn read_pages<F: Flash, const KNOTS: usize, const SLOTS: usize>(
     from: u32,
     known: &mut Known,
     counts: &mut [u16],
-    index: &mut LearnedIndex<KNOTS, SLOTS>,
-    bitmaps: &mut Option<Index>,
+    index: &mut KeyIndex<KNOTS, SLOTS>,
+    bitmaps: &mut Option<BitmapIndex>,
     flash: &mut F,
     buf: &mut PageBuf,
 ) -> Result<(), MountFault>
@@ -320,7 +320,7 @@ pub(crate) fn read_newest<F: Flash, const KNOTS: usize, const SLOTS: usize>(
     ring: &Ring,
     known: &mut Known,
     counts: &mut [u16],
-    index: &mut LearnedIndex<KNOTS, SLOTS>,
+    index: &mut KeyIndex<KNOTS, SLOTS>,
     flash: &mut F,
     buf: &mut PageBuf,
 ) -> Result<(), MountFault>

@@ -3,7 +3,7 @@ ghost use Rattle.std.specs.Prelude.{◌≡◌};
 ghost use Rattle.fl_table.specs.Rings.{index_pages, blob_pages, oldest_page};
 
 use crate::table::Table;
-use fl_index::Index;
+use fl_index::BitmapIndex;
 use fl_var::VarData;
 
 /// How many pages a table's rings keep, the void ones among them: that of its data pages, that of its index pages and that
@@ -15,7 +15,7 @@ pub struct TableRings {
     pub blobs: Option<u32>,
 }
 
-fn index_pages(bitmaps: &Option<Index>) -> Option<u32>
+fn index_pages(bitmaps: &Option<BitmapIndex>) -> Option<u32>
     ensures { result ≡ index_pages bitmaps.now }
 {
     match bitmaps {

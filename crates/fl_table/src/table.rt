@@ -12,8 +12,8 @@ ghost use Rattle.fl_table.specs.Blobs as variable;
 
 use fl_base::{Geometry, RingPlace};
 use fl_bitmap::Buckets;
-use fl_find::LearnedIndex;
-use fl_index::Index;
+use fl_find::KeyIndex;
+use fl_index::BitmapIndex;
 use fl_page::PageWriter;
 use fl_ring::Ring;
 use fl_schema::Schema;
@@ -45,9 +45,9 @@ pub struct Table<const KNOTS: usize, const SLOTS: usize> {
     /// One more than the greatest page at which a blob of the pending rows begins, and 0 where none has a page.
     pub(crate) blob_end: u32,
     /// Where the pages of keys are.
-    pub(crate) index: LearnedIndex<KNOTS, SLOTS>,
+    pub(crate) index: KeyIndex<KNOTS, SLOTS>,
     /// The entries of sealed pages, where there is an index of them.
-    pub(crate) bitmaps: Option<Index>,
+    pub(crate) bitmaps: Option<BitmapIndex>,
     /// The blobs of its records, where it keeps any, and the greatest length of one.
     pub(crate) blobs: Option<VarData>,
     pub(crate) blob_limit: u32,

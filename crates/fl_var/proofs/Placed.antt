@@ -20,7 +20,7 @@ use Rattle.fl_var.specs.declared.var_data.VarData.{VarData}
 use Rattle.fl_var.proofs.Joins.{has-joined, seals-none, seals-join, breaks-join, breaks-front, buffered-after, watched-then, replicate-split}
 use Rattle.fl_var.proofs.Lists.{drop-none, drop-short}
 use Rattle.fl_var.proofs.PageImages.{waiting-length, waiting-room}
-use Rattle.fl_var.proofs.Sealings.{room-planned}
+use Rattle.fl_var.proofs.SealsInTable.{room-planned}
 
 -- the buffer is full where its body is
 pub full-same : (v : VarData) → (8 + v.waiting.fill == length v.waiting.body) ≡ is_full_in v

@@ -1,4 +1,4 @@
-use Rattle.fl_model.proofs.Shipping.{parts}
+use Rattle.fl_model.proofs.CopiesAreParts.{parts}
 use Rattle.fl_model.proofs.copies_are_parts.Goals as goal
 
 pub returns : goal.returns

@@ -1,4 +1,4 @@
-use Rattle.fl_model.proofs.Shipping.{ships-all}
+use Rattle.fl_model.proofs.CopiesAreParts.{ships-all}
 use Rattle.fl_model.proofs.ships_all.Goals as goal
 
 pub returns : goal.returns

@@ -1,4 +1,4 @@
-use Rattle.fl_model.proofs.Shipping.{ships-parts}
+use Rattle.fl_model.proofs.CopiesAreParts.{ships-parts}
 use Rattle.fl_model.proofs.ships_parts.Goals as goal
 
 pub returns : goal.returns

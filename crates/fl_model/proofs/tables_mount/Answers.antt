@@ -1,4 +1,4 @@
-use Rattle.fl_model.proofs.Mounting.{mounts-along}
+use Rattle.fl_model.proofs.MountAmongTables.{mounts-along}
 use Rattle.fl_model.proofs.tables_mount.Goals as goal
 
 pub returns : goal.returns

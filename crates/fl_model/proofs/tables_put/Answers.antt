@@ -1,4 +1,4 @@
-use Rattle.fl_model.proofs.Putting.{puts-at}
+use Rattle.fl_model.proofs.PutAmongTables.{puts-at}
 use Rattle.fl_model.proofs.tables_put.Goals as goal
 
 pub returns : goal.returns

@@ -1,4 +1,4 @@
-use Rattle.fl_model.proofs.Telling.{telling-stays}
+use Rattle.fl_model.proofs.EntriesStayTold.{telling-stays}
 use Rattle.fl_model.proofs.telling_stays.Goals as goal
 
 pub returns : goal.returns

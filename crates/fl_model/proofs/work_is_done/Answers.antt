@@ -2,7 +2,7 @@ use Rattle.std.proofs.Common.{◌∙◌}
 use Rattle.fl_model.specs.Within.{effect_within, seals_within}
 use Rattle.fl_model.proofs.Among.{seals-all_done}
 use Rattle.fl_model.proofs.Performs.{performs-whole}
-use Rattle.fl_model.proofs.Putting.{put-whole}
+use Rattle.fl_model.proofs.PutAmongTables.{put-whole}
 use Rattle.fl_model.proofs.work_is_done.Goals as goal
 
 pub returns : goal.returns

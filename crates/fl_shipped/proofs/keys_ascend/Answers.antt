@@ -1,4 +1,4 @@
-use Rattle.fl_shipped.proofs.Growing.{ascend}
+use Rattle.fl_shipped.proofs.RunsGrow.{ascend}
 use Rattle.fl_shipped.proofs.keys_ascend.Goals as goal
 
 pub returns : goal.returns

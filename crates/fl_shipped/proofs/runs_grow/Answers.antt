@@ -1,4 +1,4 @@
-use Rattle.fl_shipped.proofs.Growing.{grow}
+use Rattle.fl_shipped.proofs.RunsGrow.{grow}
 use Rattle.fl_shipped.proofs.runs_grow.Goals as goal
 
 pub returns : goal.returns

@@ -3,12 +3,12 @@ use Rattle.fl_flash.specs.Flash.{page_at}
 use Rattle.fl_ring.specs.Looking.{OnlyReads}
 use Rattle.fl_ring.specs.Place.{shape_of}
 use Rattle.fl_ring.proofs.Founds.{same_pages}
-use Rattle.fl_ring.proofs.Readings.{no_reads, more_reads, told_still}
+use Rattle.fl_ring.proofs.ReadsInTurn.{no_reads, more_reads, told_still}
 use Rattle.fl_check.specs.Claims.{FailsFirst}
 use Rattle.fl_check.specs.Entries.{over, kept_below, AreSeen, HasEntries}
 use Rattle.fl_check.specs.declared.entries.Seen.{Seen}
-use Rattle.fl_check.proofs.Listings.{none_seen, all_entered, overrun}
-use Rattle.fl_check.proofs.Looks.{few_reads}
+use Rattle.fl_check.proofs.ListedPages.{none_seen, all_entered, overrun}
+use Rattle.fl_check.proofs.FewerReads.{few_reads}
 use Rattle.fl_check.proofs.entries.first_misentered.Goals as goal
 
 pub loop-i-init : goal.loop-i-init

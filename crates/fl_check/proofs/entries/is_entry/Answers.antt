@@ -5,7 +5,7 @@ use Rattle.fl_ring.specs.Newest.{page_back}
 use Rattle.fl_ring.specs.Place.{shape_of}
 use Rattle.fl_check.specs.Entries.{over}
 use Rattle.fl_check.specs.Told.{TellsPage}
-use Rattle.fl_check.proofs.Listings.{entry_for, told_for, no_entry}
+use Rattle.fl_check.proofs.ListedPages.{entry_for, told_for, no_entry}
 use Rattle.fl_check.proofs.Stops.{if_ok}
 use Rattle.fl_check.proofs.entries.is_entry.Goals as goal
 

@@ -1,5 +1,5 @@
 use Rattle.std.proofs.Common.{◌≡◌, ℕ, ◌+◌, ◌-◌, ◌*◌, ◌/◌, ◌^◌, ◌<◌, ◌≤◌, take, drop, length, refl, sym, ◌∙◌, ap, subst, arith}
-use Rattle.fl_index.proofs.Gathering.{width-le}
+use Rattle.fl_index.proofs.WaitingEntries.{width-le}
 use Rattle.fl_model.specs.Record.{entry_len, entries_per_page}
 use Rattle.fl_model.specs.Row.{number_of}
 use Rattle.fl_page.specs.Header.{page_number}

@@ -1,6 +1,6 @@
 use Rattle.std.proofs.Common.{◌∙◌}
 use Rattle.fl_flash.specs.Flash.{page_at}
-use Rattle.fl_check.proofs.GoodNumbering.{good_numbering}
+use Rattle.fl_check.proofs.StandingRingHasNumbers.{good_numbering}
 use Rattle.fl_check.proofs.GoodNumbers.{good_next}
 use Rattle.fl_check.proofs.GoodStates.{kept_is, good_rest}
 use Rattle.fl_check.proofs.Kept.{unbroken}

@@ -7,7 +7,7 @@ use Rattle.fl_check.specs.Faults.{with_keys}
 use Rattle.fl_check.specs.RingRules.{WithinPages}
 use Rattle.fl_check.specs.Ruled.{KeysTold, RowsTold}
 use Rattle.fl_check.specs.declared.faults.RingFaults.{RingFaults}
-use Rattle.fl_check.proofs.Looking.{seen}
+use Rattle.fl_check.proofs.LooksChangeNothing.{seen}
 use Rattle.fl_check.proofs.TableTold.{keyless}
 use Rattle.fl_check.proofs.log.rule_log.Goals as goal
 

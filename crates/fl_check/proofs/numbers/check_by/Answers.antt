@@ -6,7 +6,7 @@ use Rattle.fl_check.proofs.Stops.{if_ok, if_at}
 use Rattle.fl_flash.specs.Flash.{page_at}
 use Rattle.fl_ring.specs.Place.{shape_of}
 use Rattle.fl_ring.specs.Ring.{room}
-use Rattle.fl_check.proofs.Numberings.{all_for, misnumbered_for, numbers_for, too_great_for}
+use Rattle.fl_check.proofs.NumbersOfRing.{all_for, misnumbered_for, numbers_for, too_great_for}
 use Rattle.fl_check.proofs.numbers.check_by.Goals as goal
 
 pub returns-in-Some-clause-broken : goal.returns-in-Some-clause-broken

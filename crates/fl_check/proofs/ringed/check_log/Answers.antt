@@ -8,8 +8,8 @@ use Rattle.fl_check.specs.DataPage.{IsDataPage}
 use Rattle.fl_check.specs.Rest.{IsRestBlank, RestBreaks}
 use Rattle.fl_check.specs.RingRules.{WithinPages, IsAscending}
 use Rattle.fl_check.proofs.Halts.{broken_so}
-use Rattle.fl_check.proofs.Looking.{looks_by, looks_more, same_pages, seen, told_still}
-use Rattle.fl_check.proofs.RingRuling.{keys_break, rest_break}
+use Rattle.fl_check.proofs.LooksChangeNothing.{looks_by, looks_more, same_pages, seen, told_still}
+use Rattle.fl_check.proofs.RingRules.{keys_break, rest_break}
 use Rattle.fl_check.proofs.ringed.check_log.Goals as goal
 
 pub returns-in_err-n-clause-broken : goal.returns-in_err-n-clause-broken

@@ -1,7 +1,7 @@
 use Rattle.std.proofs.Common.{ℕ, List}
 use Rattle.fl_ring.specs.Place.{shape_of}
 use Rattle.fl_check.specs.Rest.{IsRestBlank}
-use Rattle.fl_check.proofs.Looking.{seen}
+use Rattle.fl_check.proofs.LooksChangeNothing.{seen}
 use Rattle.fl_check.proofs.ringed.check_ring.Goals as goal
 
 pub returns-clause-sound : goal.returns-clause-sound

@@ -1,7 +1,7 @@
 use Rattle.std.proofs.Common.{◌-◌, replicate, subst, arith}
 use Rattle.std.proofs.lemmas.List.{take-replicate}
 use Rattle.fl_config.specs.Opening.{Grown}
-use Rattle.fl_config.proofs.Growing.{grown-blank}
+use Rattle.fl_config.proofs.PiecewiseAppends.{grown-blank}
 use Rattle.fl_config.proofs.image.append_blank.Goals as goal
 
 pub loop-left-preserved : goal.loop-left-preserved

@@ -1,5 +1,5 @@
 use Rattle.std.proofs.Common.{◌≢◌, ◌<◌, get_or, length, rules}
-use Rattle.fl_csv.proofs.Splitting.{bare-is}
+use Rattle.fl_csv.proofs.BareLines.{bare-is}
 use Rattle.fl_csv.proofs.bare.is_bare.Goals as goal
 
 pub returns : goal.returns

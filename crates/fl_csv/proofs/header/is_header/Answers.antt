@@ -1,7 +1,7 @@
 use Rattle.std.proofs.Common.{◌≡◌, Some, sym, subst, ◌∙◌, Option, List, ℕ}
 use Rattle.std.specs.Bool.{OnTrue, OnFalse}
 use Rattle.fl_csv.specs.Text.{header_fields}
-use Rattle.fl_csv.proofs.Splitting.{bare-line}
+use Rattle.fl_csv.proofs.BareLines.{bare-line}
 use Rattle.fl_csv.proofs.header.is_header.Goals as goal
 
 pub returns-then-is_bare-clause-yes : goal.returns-then-is_bare-clause-yes

@@ -1,7 +1,7 @@
 use Rattle.std.proofs.Common.{◌≡◌, IfOk, sym, subst, ◌∙◌, Option, List, ℕ}
 use Rattle.fl_csv.specs.Lines.{lacks_in, record_put}
 use Rattle.fl_csv.specs.Views.{Meant}
-use Rattle.fl_csv.proofs.Splitting.{bare-line}
+use Rattle.fl_csv.proofs.BareLines.{bare-line}
 use Rattle.fl_csv.proofs.read.read_record.Goals as goal
 
 pub returns-then-is_bare-clause-means : goal.returns-then-is_bare-clause-means

@@ -2,7 +2,7 @@ use Rattle.std.proofs.Common.{Bor, List, [], ℕ, Option, ◌∙◌, refl, inl, 
 use Rattle.csv.specs.Reading.{default_config, strip_bom}
 use Rattle.csv.specs.declared.parser.State.TheVariants as st
 use Rattle.csv.proofs.ReadFacts.{rows-end, rows-more}
-use Rattle.fl_csv.proofs.Reading.{no-record, one-record, two-records, none-of, reached-start}
+use Rattle.fl_csv.proofs.CsvRecords.{no-record, one-record, two-records, none-of, reached-start}
 use Rattle.fl_csv.proofs.row.only.Goals as goal
 
 -- the bytes that a slice has left

@@ -1,6 +1,6 @@
 use Rattle.std.proofs.Common.{sym, refl, ◌∙◌, arith, rules, ◌≡◌, ◌+◌}
 use Rattle.fl_csv.specs.Text.{header_text}
-use Rattle.fl_script.proofs.Sending.{sent-failed, sent-piece, written-err}
+use Rattle.fl_script.proofs.SinkPieces.{sent-failed, sent-piece, written-err}
 use Rattle.fl_csv.proofs.Sends.{last_text, left_of, header-parts, header-next, header-end, sent-start, sent-last}
 use Rattle.fl_csv.proofs.write.header_line.Goals.{then-blobs, else-blobs}
 use Rattle.fl_csv.proofs.write.header_line.Goals as goal

@@ -1,5 +1,5 @@
 use Rattle.std.proofs.Common.{◌≤◌}
-use Rattle.fl_script.proofs.Sending.{Sent}
+use Rattle.fl_script.proofs.SinkPieces.{Sent}
 use Rattle.fl_csv.specs.Text.{header_text}
 use Rattle.fl_csv.proofs.Sends.{left_of}
 use Rattle.fl_csv.proofs.write.header_line.Given as goal

@@ -4,7 +4,7 @@ use Rattle.std.specs.Int.{w64}
 use Rattle.std.specs.Prelude.{FitsSigned}
 use Rattle.std.proofs.lemmas.Int.{to_z-of_z}
 use Rattle.std.proofs.lemmas.List.{nil_from_length}
-use Rattle.fl_script.proofs.Sending.{Sent, sent-failed, written-err}
+use Rattle.fl_script.proofs.SinkPieces.{Sent, sent-failed, written-err}
 use Rattle.fl_csv.specs.Text.{entry_text}
 use Rattle.fl_csv.specs.Views.{blob_view}
 use Rattle.fl_csv.proofs.Gathers.{flushed, left_at, mark-added, value-added}

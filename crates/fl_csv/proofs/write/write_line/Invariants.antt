@@ -1,5 +1,5 @@
 use Rattle.std.proofs.Common.{◌≤◌, ◌++◌, length}
-use Rattle.fl_script.proofs.Sending.{Sent}
+use Rattle.fl_script.proofs.SinkPieces.{Sent}
 use Rattle.fl_csv.specs.Text.{entry_text}
 use Rattle.fl_csv.specs.Views.{blob_view}
 use Rattle.fl_csv.proofs.Gathers.{left_at}

@@ -1,8 +1,8 @@
 use Rattle.std.proofs.Common.{◌≡◌, Bool, List, ℕ, refl, ◌∙◌, ap, ◌++◌}
 use Rattle.std.proofs.lemmas.Result.{err_from_is_err_and}
-use Rattle.fl_page.proofs.Reading.{OnlyReads-same, OnlyReads-then, IsCaused-later}
+use Rattle.fl_page.proofs.ReadsInTurn.{OnlyReads-same, OnlyReads-then, IsCaused-later}
 use Rattle.fl_var.specs.Reading.{chunk_of}
-use Rattle.fl_export.proofs.Taking.{took-none, took-more, took-all, read-good}
+use Rattle.fl_export.proofs.TakenChunks.{took-none, took-more, took-all, read-good}
 use Rattle.fl_export.proofs.blob.take_bytes.Goals as goal
 
 pub chunks-init : goal.chunks-init

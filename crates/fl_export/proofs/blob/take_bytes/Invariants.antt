@@ -2,7 +2,7 @@ use Rattle.std.proofs.Common.{◌≡◌}
 use Rattle.fl_page.specs.Contents.{OnlyReads}
 use Rattle.fl_var.specs.Memory.{LiesOn}
 use Rattle.fl_var.specs.Reading.{data_of, buffer_of, count_left, Reads, IsWholeIn}
-use Rattle.fl_export.proofs.Taking.{Took}
+use Rattle.fl_export.proofs.TakenChunks.{Took}
 use Rattle.fl_export.proofs.blob.take_bytes.Given as goal
 
 abbrev pub invariant-chunks : goal.invariant-chunks

@@ -6,15 +6,15 @@ use Rattle.fl_store.specs.FoundTable.{FindsNone}
 use Rattle.fl_store.specs.Tables.{IsNamed}
 use Rattle.fl_store.specs.declared.tables.Tables.{Tables}
 use Rattle.fl_store.proofs.FoundTables.{found-holds}
-use Rattle.fl_store.proofs.Going.{rose-back}
+use Rattle.fl_store.proofs.CallsInTurn.{rose-back}
 use Rattle.fl_store.proofs.Named.{image-with}
 use Rattle.fl_store.proofs.Opened.{looks-keeps, keeps-then}
-use Rattle.fl_store.proofs.Repairing.{still-repaired, repaired-after}
+use Rattle.fl_store.proofs.ImageRepairs.{still-repaired, repaired-after}
 use Rattle.fl_store.proofs.TablesChanged.{some-is}
 use Rattle.fl_store.proofs.Worked.{worked-by, worked-keeps, worked-repaired, worked-rose}
 use Rattle.fl_export.specs.Rooms.{HasRooms}
 use Rattle.fl_export.specs.Tables.{IsOfTable}
-use Rattle.fl_export.proofs.Ending.{early-ends, ends-seen}
+use Rattle.fl_export.proofs.ImageEnds.{early-ends, ends-seen}
 use Rattle.fl_export.proofs.Statuses.{fits-early, fits-table, not-early}
 use Rattle.fl_export.proofs.export.export_image.Goals as goal
 

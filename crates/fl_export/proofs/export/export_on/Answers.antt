@@ -11,9 +11,9 @@ use Rattle.fl_store.specs.Tables.{first_of}
 use Rattle.fl_store.proofs.TablesChanged.{item-there}
 use Rattle.fl_store.specs.Store.{at_rest}
 use Rattle.fl_export.specs.Tables.{EndsOn, IsOfTable}
-use Rattle.fl_export.proofs.Exporting.{unmounted, broken-device, own, done, failed}
-use Rattle.fl_store.proofs.Locating.{stands-there}
-use Rattle.fl_store.proofs.Repairing.{repaired-read}
+use Rattle.fl_export.proofs.FlashEnds.{unmounted, broken-device, own, done, failed}
+use Rattle.fl_store.proofs.TableByName.{stands-there}
+use Rattle.fl_store.proofs.ImageRepairs.{repaired-read}
 use Rattle.fl_export.proofs.Statuses.{fault-rose, fault-place}
 use Rattle.fl_store.proofs.MountStatuses.{by-mount, mount-rose, mount-place}
 use Rattle.fl_store.proofs.Risen.{has_risen, watched}

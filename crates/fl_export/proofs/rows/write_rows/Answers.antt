@@ -2,14 +2,14 @@ use Rattle.std.proofs.Common.{◌≡◌, true, false, Ok, Err, refl, sym, ◌∙
 use Rattle.std.proofs.lemmas.Result.{err_from_is_err_and}
 use Rattle.fl_cursor.specs.Cursor.{table_of, present_of, has_ended, IfBad, MayBeBad}
 use Rattle.fl_cursor.specs.Going.{Goes, Fails}
-use Rattle.fl_cursor.proofs.Stepping.{steps-after}
+use Rattle.fl_cursor.proofs.StepsOfRows.{steps-after}
 use Rattle.fl_cursor.proofs.Whole.{keeps-then}
 use Rattle.fl_page.specs.Contents.{Contents, contents_of}
-use Rattle.fl_page.proofs.Reading.{OnlyReads-same, OnlyReads-then, IsCaused-later}
+use Rattle.fl_page.proofs.ReadsInTurn.{OnlyReads-same, OnlyReads-then, IsCaused-later}
 use Rattle.fl_schema.specs.Schema.{row_of}
 use Rattle.fl_export.proofs.Unread.{unread-later}
-use Rattle.fl_store.proofs.Reading.{tells-read, lies-read, page-read, stands-read}
-use Rattle.fl_export.proofs.Walking.{far-none, far-next, far-stopped, far-unread, far-all, row-smaller}
+use Rattle.fl_store.proofs.TablesOnlyRead.{tells-read, lies-read, page-read, stands-read}
+use Rattle.fl_export.proofs.WrittenRecords.{far-none, far-next, far-stopped, far-unread, far-all, row-smaller}
 use Rattle.fl_export.proofs.rows.write_rows.Goals as goal
 
 pub rows-init : goal.rows-init

@@ -8,7 +8,7 @@ use Rattle.fl_model.specs.Table.{Entry}
 use Rattle.fl_page.specs.Contents.{contents_of, OnlyReads}
 use Rattle.fl_table.specs.Standing.{Stands}
 use Rattle.fl_export.specs.Text.{AreAmong}
-use Rattle.fl_export.proofs.Walking.{room, SoFar}
+use Rattle.fl_export.proofs.WrittenRecords.{room, SoFar}
 use Rattle.fl_export.proofs.rows.write_rows.Given as goal
 
 abbrev pub invariant-rows : goal.invariant-rows

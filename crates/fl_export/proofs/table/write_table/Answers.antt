@@ -8,7 +8,7 @@ use Rattle.fl_model.specs.Table.{Entry}
 use Rattle.fl_page.specs.Contents.{contents_of}
 use Rattle.fl_export.proofs.Lines.{lines, writes-behind, picked-among}
 use Rattle.fl_store.proofs.Appends.{front-more}
-use Rattle.fl_store.proofs.Reading.{is-standing}
+use Rattle.fl_store.proofs.TablesOnlyRead.{is-standing}
 use Rattle.fl_export.proofs.Records.{blobs-as, columns-as}
 use Rattle.fl_export.proofs.table.write_table.Goals as goal
 

@@ -3,7 +3,7 @@ use Rattle.fl_flash.specs.Flash.{page_at}
 use Rattle.fl_schema.specs.Schema.{layout_of}
 use Rattle.fl_ring.proofs.Exists.{lies_exists}
 use Rattle.fl_find.specs.Looking.{IsSound}
-use Rattle.fl_find.proofs.Looks.{looks-read, fresh-read}
+use Rattle.fl_find.proofs.PageLooks.{looks-read, fresh-read}
 use Rattle.fl_find.proofs.first.read_first.Goals as goal
 
 pub read-requires-clause-exists : goal.read-requires-clause-exists

@@ -3,7 +3,7 @@ use Rattle.std.specs.Option.{is_some}
 use Rattle.std.proofs.lemmas.Result.{err_from_is_err_and}
 use Rattle.fl_ring.specs.Place.{shape_of}
 use Rattle.fl_schema.specs.Schema.{layout_of}
-use Rattle.fl_find.proofs.Looks.{looks-then, looks-tell, fails-later, rose-later}
+use Rattle.fl_find.proofs.PageLooks.{looks-then, looks-tell, fails-later, rose-later}
 use Rattle.fl_find.proofs.Moves.{starts-none}
 use Rattle.fl_find.proofs.search.page_by_halves.Goals as goal
 

@@ -2,8 +2,8 @@ use Rattle.std.proofs.Common.{◌≡◌, ℕ, List, ◌++◌, length, take, drop
 use Rattle.std.proofs.lemmas.List.{take_at, drop_at}
 use Rattle.fl_flash.specs.Media.{MediaState, WritesPair}
 use Rattle.fl_flash.specs.Programs.{left_at}
-use Rattle.fl_flash.proofs.Joining.{both_end, pair_reads}
-use Rattle.fl_flash.proofs.Rewriting.{left_is, left_length}
+use Rattle.fl_flash.proofs.PairWrites.{both_end, pair_reads}
+use Rattle.fl_flash.proofs.RangeOperations.{left_is, left_length}
 use Rattle.fl_flash.proofs.programs.program_both.Goals as goal
 
 pub returns : goal.returns

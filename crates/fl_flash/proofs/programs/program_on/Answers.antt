@@ -1,7 +1,7 @@
 use Rattle.std.proofs.Common.{ℕ, List, refl, ◌∙◌, ap, arith}
 use Rattle.std.proofs.lemmas.List.{length-take}
 use Rattle.fl_flash.specs.Tear.{front_of}
-use Rattle.fl_flash.proofs.Rewriting.{left_is, left_length, rewrites_from}
+use Rattle.fl_flash.proofs.RangeOperations.{left_is, left_length, rewrites_from}
 use Rattle.fl_flash.proofs.programs.program_on.Goals as goal
 
 pub returns-clause-rewrites : goal.returns-clause-rewrites

@@ -3,8 +3,8 @@ use Rattle.fl_words.specs.Config.{Lines}
 use Rattle.fl_image_check.specs.Checking.{TablesEndBy}
 use Rattle.fl_image.specs.declared.status.ToolStatus.{ToolStatus}
 use Rattle.fl_image.proofs.Reach.{reach}
-use Rattle.fl_image_check.proofs.Ending.{over-of, ends-over, image-ends, early-ends, ends-known}
-use Rattle.fl_image_check.proofs.Telling.{told-none}
+use Rattle.fl_image_check.proofs.CheckEnds.{over-of, ends-over, image-ends, early-ends, ends-known}
+use Rattle.fl_image_check.proofs.ToldTables.{told-none}
 use Rattle.fl_image_check.proofs.check.check_tables_of.Goals as goal
 
 pub with_room-flash-requires-clause-reach : goal.with_room-flash-requires-clause-reach

@@ -1,9 +1,9 @@
 use Rattle.std.proofs.Common.{[], ◌∷◌, ◌++◌}
-use Rattle.fl_script.proofs.Sending.{written-err}
+use Rattle.fl_script.proofs.SinkPieces.{written-err}
 use Rattle.fl_check.specs.Faults.{fault_of, ring_faults}
 use Rattle.fl_check.specs.declared.finding.RingName.TheVariants.{Index, Data, Var, Log}
 use Rattle.fl_check.specs.declared.rule.Rule.TheVariants.{Entry, Blob}
-use Rattle.fl_image_check.proofs.Writing.{more, more-front, front-of_all, then-written}
+use Rattle.fl_image_check.proofs.FindingLines.{more, more-front, front-of_all, then-written}
 use Rattle.fl_image_check.proofs.report.write_faults.Goals as goal
 
 pub returns-in_err-write_ring-clause-text : goal.returns-in_err-write_ring-clause-text

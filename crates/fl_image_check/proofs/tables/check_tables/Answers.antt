@@ -1,7 +1,7 @@
 use Rattle.std.proofs.Common.{◌≡◌, ◌<◌, ℕ, Bool, true, false, IsTrue, Ok, Err, List, length, refl, sym, subst, arith, rules}
 use Rattle.fl_base.specs.Causes.{Appends}
 use Rattle.fl_image_check.specs.Checking.{FindsBy, TableEnds, Tells, TellsOne}
-use Rattle.fl_image_check.proofs.Telling.{looks-none, looks-on, over-on, sound-none, sound-next, unsound-next, ends-all, ends-failed, ends-fault, not-first}
+use Rattle.fl_image_check.proofs.ToldTables.{looks-none, looks-on, over-on, sound-none, sound-next, unsound-next, ends-all, ends-failed, ends-fault, not-first}
 use Rattle.fl_image_check.proofs.tables.check_tables.Goals as goal
 
 pub loop-i-init : goal.loop-i-init

@@ -1,5 +1,5 @@
 use Rattle.std.proofs.Common.{refl}
-use Rattle.fl_image_check.proofs.Telling.{plan-there, config-there, lies-at, log-there, log-alone, log-lies-at}
+use Rattle.fl_image_check.proofs.ToldTables.{plan-there, config-there, lies-at, log-there, log-alone, log-lies-at}
 use Rattle.fl_image_check.proofs.tables.rules_at.Goals as goal
 
 pub check_rules-requires : goal.check_rules-requires

@@ -2,7 +2,7 @@ use Rattle.std.proofs.Common.{ℕ, List, refl}
 use Rattle.std.specs.Prelude.{slice_get}
 use Rattle.fl_base.specs.Causes.{AppendsFront}
 use Rattle.fl_image_check.specs.Report.{is_sound, finding_text}
-use Rattle.fl_image_check.proofs.Telling.{named}
+use Rattle.fl_image_check.proofs.ToldTables.{named}
 use Rattle.fl_image_check.proofs.tables.tell_first.Goals as goal
 
 pub returns-in-Err-clause-told : goal.returns-in-Err-clause-told

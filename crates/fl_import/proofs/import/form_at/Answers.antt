@@ -5,7 +5,7 @@ use Rattle.fl_table.specs.Memory.{IsPlanned}
 use Rattle.fl_table.specs.declared.table.Table.{Table}
 use Rattle.fl_store.specs.Tables.{first_of}
 use Rattle.fl_store.proofs.TablesChanged.{item-there}
-use Rattle.fl_import.proofs.Closing.{formed}
+use Rattle.fl_import.proofs.ImageEnds.{formed}
 use Rattle.fl_import.proofs.import.form_at.Goals as goal
 
 pub returns-clause-form : goal.returns-clause-form

@@ -6,15 +6,15 @@ use Rattle.fl_store.specs.FoundTable.{FindsNone}
 use Rattle.fl_store.specs.Tables.{IsNamed}
 use Rattle.fl_store.specs.declared.tables.Tables.{Tables}
 use Rattle.fl_store.proofs.FoundTables.{found-holds}
-use Rattle.fl_store.proofs.Going.{rose-back}
+use Rattle.fl_store.proofs.CallsInTurn.{rose-back}
 use Rattle.fl_store.proofs.Named.{image-with}
 use Rattle.fl_store.proofs.Opened.{looks-keeps, keeps-then, same-lines}
-use Rattle.fl_store.proofs.Repairing.{others-after, others-still}
+use Rattle.fl_store.proofs.ImageRepairs.{others-after, others-still}
 use Rattle.fl_store.proofs.Worked.{worked-by, worked-keeps, worked-others, worked-rose}
 use Rattle.fl_import.specs.Images.{FormsAt, IsOfMounted, told_of}
 use Rattle.fl_import.specs.Taking.{EndedOver}
 use Rattle.fl_import.proofs.AllLines.{as-plan}
-use Rattle.fl_import.proofs.Closing.{early-ends, early-fits, early-undone, ends-seen, fits-table, form-own, form-then, not-early}
+use Rattle.fl_import.proofs.ImageEnds.{early-ends, early-fits, early-undone, ends-seen, fits-table, form-own, form-then, not-early}
 use Rattle.fl_import.proofs.import.import_image.Goals as goal
 
 -- ---- no table was found

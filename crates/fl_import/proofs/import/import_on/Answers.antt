@@ -2,18 +2,18 @@ use Rattle.std.proofs.Common.{◌≡◌, inr, true, false, is_some, IsTrue, IfSo
 use Rattle.std.specs.List.{slice_get}
 use Rattle.std.proofs.lemmas.Option.{slice_get_within}
 use Rattle.fl_store.specs.Store.{at_rest}
-use Rattle.fl_store.proofs.Locating.{stands-there}
+use Rattle.fl_store.proofs.TableByName.{stands-there}
 use Rattle.fl_store.proofs.Risen.{has_risen, watched}
 use Rattle.fl_store.proofs.Unmounted as mount
 use Rattle.fl_image.specs.declared.status.ToolStatus.TheVariants.{Device, BadInput}
 use Rattle.fl_store.specs.Tables.{first_of}
-use Rattle.fl_store.proofs.Going.{goes-on, rose-back}
+use Rattle.fl_store.proofs.CallsInTurn.{goes-on, rose-back}
 use Rattle.fl_store.proofs.TablesChanged.{item-there}
 use Rattle.fl_import.specs.Images.{EndsOn, HasCauses, told_of}
 use Rattle.fl_import.specs.Taking.{EndedOver}
 use Rattle.fl_store.proofs.Changed.{own, own-works}
-use Rattle.fl_import.proofs.Importing.{unmounted, imported}
-use Rattle.fl_import.proofs.Closing.{as-end, mount-causes, mount-ended, mount-unread, of-mounted, table-bad, table-ended}
+use Rattle.fl_import.proofs.FlashEnds.{unmounted, imported}
+use Rattle.fl_import.proofs.ImageEnds.{as-end, mount-causes, mount-ended, mount-unread, of-mounted, table-bad, table-ended}
 use Rattle.fl_store.proofs.Others.{others-repaired}
 use Rattle.fl_import.proofs.import.import_on.Goals as goal
 

@@ -2,7 +2,7 @@ use Rattle.std.proofs.Common.{List, ◌+◌, ℕ, IsTrue, Err, refl, sym, subst,
 use Rattle.std.proofs.lemmas.Result.{err_from_is_err_and}
 use Rattle.fl_flash.specs.Flash.{page_at}
 use Rattle.fl_store.proofs.Outsides.{outside-then}
-use Rattle.fl_store.proofs.Going.{goes-same, goes-on, same-plan, same-on}
+use Rattle.fl_store.proofs.CallsInTurn.{goes-same, goes-on, same-plan, same-on}
 use Rattle.fl_import.specs.Lines.{lacks, meaning}
 use Rattle.fl_import.specs.Steps.{LineEnds}
 use Rattle.fl_import.proofs.AllLines.{counts-on, so_far-first, far-next, far-stops, far-done, far-ended, ended-done, ended-next, ended-stops}

@@ -2,7 +2,7 @@ use Rattle.std.proofs.Common.{◌+◌, ◌*◌, take, drop, ◌∙◌, ap, subst
 use Rattle.std.specs.Prelude.{◌≤◌, length}
 use Rattle.fl_model.specs.Row.{number_of}
 use Rattle.fl_index.proofs.Bytes.{entry-read}
-use Rattle.fl_index.proofs.Gathering.{entry-within}
+use Rattle.fl_index.proofs.WaitingEntries.{entry-within}
 use Rattle.fl_index.proofs.page.bitmap_in.Goals as goal
 
 pub returns : goal.returns

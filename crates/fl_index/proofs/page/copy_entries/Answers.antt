@@ -1,4 +1,4 @@
-use Rattle.fl_index.proofs.Loadings.{copied}
+use Rattle.fl_index.proofs.LoadedPages.{copied}
 use Rattle.fl_index.proofs.page.copy_entries.Goals as goal
 
 pub returns : goal.returns

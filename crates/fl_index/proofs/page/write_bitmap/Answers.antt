@@ -1,5 +1,5 @@
 use Rattle.std.proofs.Common.{◌∙◌, ap, take}
-use Rattle.fl_index.proofs.Gathering.{low-written}
+use Rattle.fl_index.proofs.WaitingEntries.{low-written}
 use Rattle.fl_index.proofs.page.write_bitmap.Goals as goal
 
 pub returns : goal.returns

@@ -3,7 +3,7 @@ use Rattle.fl_base.specs.Bytes.{splice}
 use Rattle.fl_model.specs.Layout.{full_bytes}
 use Rattle.fl_model.specs.Row.{le}
 use Rattle.fl_index.specs.Page.{form_len, full_view}
-use Rattle.fl_index.proofs.Gathering.{whole-written, short-written}
+use Rattle.fl_index.proofs.WaitingEntries.{whole-written, short-written}
 use Rattle.fl_index.proofs.page.write_entry.Goals as goal
 
 pub returns-then-form : goal.returns-then-form

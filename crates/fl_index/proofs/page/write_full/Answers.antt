@@ -2,7 +2,7 @@ use Rattle.std.proofs.Common.{◌+◌, List, ℕ, ◌∙◌, ap}
 use Rattle.fl_base.specs.Bytes.{splice}
 use Rattle.fl_model.specs.Row.{le}
 use Rattle.fl_index.specs.Page.{full_view}
-use Rattle.fl_index.proofs.Gathering.{full-written}
+use Rattle.fl_index.proofs.WaitingEntries.{full-written}
 use Rattle.fl_index.proofs.page.write_full.Goals as goal
 
 pub returns : goal.returns

@@ -1,11 +1,11 @@
 use Rattle.std.proofs.Common.{ℕ, IsTrue, List, refl, sym, ◌∙◌, ap, subst, arith}
 use Rattle.fl_base.specs.declared.types.Geometry.{Geometry}
-use Rattle.fl_image_check.proofs.Telling.{looks-none, looks-on, over-on}
+use Rattle.fl_image_check.proofs.ToldTables.{looks-none, looks-on, over-on}
 use Rattle.fl_map.specs.Canvas.{drawn_of}
 use Rattle.fl_map.specs.Drawn.{Drawn}
 use Rattle.fl_map.specs.Map.{IsDrawnNext}
 use Rattle.fl_map.specs.declared.drawing.Drawing.{Drawing}
-use Rattle.fl_map.proofs.Ending.{drawn-next}
+use Rattle.fl_map.proofs.MapEnds.{drawn-next}
 use Rattle.fl_map.proofs.map.draw_tables.Goals as goal
 
 pub loop-i-init : goal.loop-i-init

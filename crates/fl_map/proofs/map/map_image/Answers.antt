@@ -1,13 +1,13 @@
 use Rattle.std.proofs.Common.{ℕ, Err, List, length, refl, ap, subst}
 use Rattle.fl_base.specs.Causes.{Appends, AppendsFront}
 use Rattle.fl_image.proofs.Reach.{reach}
-use Rattle.fl_image_check.proofs.Ending.{over-of}
-use Rattle.fl_image_check.proofs.Telling.{told-none}
+use Rattle.fl_image_check.proofs.CheckEnds.{over-of}
+use Rattle.fl_image_check.proofs.ToldTables.{told-none}
 use Rattle.fl_map.specs.Canvas.{drawn_of}
 use Rattle.fl_map.specs.Drawn.{map_text}
 use Rattle.fl_map.specs.Map.{AreDrawn}
 use Rattle.fl_map.specs.declared.drawing.Drawing.{Drawing}
-use Rattle.fl_map.proofs.Ending.{over-medium, early-ends, written-ends}
+use Rattle.fl_map.proofs.MapEnds.{over-medium, early-ends, written-ends}
 use Rattle.fl_map.proofs.map.map_image.Goals as goal
 
 pub with_room-flash-requires-clause-reach : goal.with_room-flash-requires-clause-reach

@@ -2,9 +2,9 @@ use Rattle.std.proofs.Common.{arith, rules, ◌≡◌, ◌∙◌, ◌≤◌, ◌
 use Rattle.std.proofs.lemmas.Result.{err_from_is_err_and}
 use Rattle.fl_page.specs.Contents.{contents_of}
 use Rattle.fl_page.specs.Steps.{Ascends}
-use Rattle.fl_page.proofs.Reading.{OnlyReads-then, IsCaused-later}
+use Rattle.fl_page.proofs.ReadsInTurn.{OnlyReads-then, IsCaused-later}
 use Rattle.fl_ops.specs.Pairs.{pairs_from}
-use Rattle.fl_ops.proofs.Continuing.{Continues-then}
+use Rattle.fl_ops.proofs.ContinuedRows.{Continues-then}
 use Rattle.fl_ops.proofs.Joins.{pair-equal}
 use Rattle.fl_ops.proofs.join.next_pair.Goals as goal
 

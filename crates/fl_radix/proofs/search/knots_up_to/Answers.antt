@@ -1,7 +1,7 @@
 use Rattle.std.proofs.Common.{arith, ◌≡◌, ◌+◌, ◌-◌, ◌/◌, ◌≤◌}
 use Rattle.fl_model.specs.Spline.{bits}
 use Rattle.fl_radix.proofs.Bits.{bits-half, bits-twice, bits-one}
-use Rattle.fl_radix.proofs.Rising.{up-to-more, beyond-from}
+use Rattle.fl_radix.proofs.RisingKnots.{up-to-more, beyond-from}
 use Rattle.fl_radix.proofs.search.knots_up_to.Goals as goal
 
 pub loop-low-preserved-then-knots-middle : goal.loop-low-preserved-then-knots-middle

@@ -1,5 +1,5 @@
 use Rattle.std.proofs.Common.{arith}
-use Rattle.fl_radix.proofs.Passing.{passes-more, passes-none, passed-by}
+use Rattle.fl_radix.proofs.PassedSlots.{passes-more, passes-none, passed-by}
 use Rattle.fl_radix.proofs.slots.pass_last.Goals as goal
 
 pub loop-passed-init : goal.loop-passed-init

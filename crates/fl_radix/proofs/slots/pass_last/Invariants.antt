@@ -1,4 +1,4 @@
-use Rattle.fl_radix.proofs.Passing.{Passes}
+use Rattle.fl_radix.proofs.PassedSlots.{Passes}
 use Rattle.fl_radix.proofs.slots.pass_last.Given as goal
 
 abbrev pub invariant-loop-passed : goal.invariant-loop-passed

@@ -1,5 +1,5 @@
 use Rattle.std.proofs.Common.{arith}
-use Rattle.fl_radix.proofs.Rising.{slot-rises}
+use Rattle.fl_radix.proofs.RisingKnots.{slot-rises}
 use Rattle.fl_radix.proofs.slots.start_of.Goals as goal
 
 pub returns-else-knots-start : goal.returns-else-knots-start

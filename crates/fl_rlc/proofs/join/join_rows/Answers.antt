@@ -26,9 +26,9 @@ use Rattle.fl_table.proofs.Sizes.{table-fits}
 use Rattle.fl_rlc.specs.Joining.{all_taken}
 use Rattle.fl_rlc.specs.Offering.{AreOffered}
 use Rattle.fl_rlc.proofs.Joined.{taken-push, joined-is}
-use Rattle.fl_rlc.proofs.Offerings.{offered-next}
+use Rattle.fl_rlc.proofs.OfferedRecords.{offered-next}
 use Rattle.fl_rlc.proofs.PutFrames.{blobs-same}
-use Rattle.fl_rlc.proofs.Taking.{fits-bare, room-for}
+use Rattle.fl_rlc.proofs.TakenRecord.{fits-bare, room-for}
 use Rattle.fl_rlc.proofs.join.join_rows.Goals as goal
 
 take-none : {X : Type 0} (xs : List X) → take 0 xs ≡ []

@@ -5,7 +5,7 @@ use Rattle.fl_table.specs.Memory.{is_running, is_stopped, pending_in, HasRoom}
 use Rattle.fl_table.specs.declared.faults.PutRefusal.{PutRefusal}
 use Rattle.fl_table.specs.declared.table.Table.{Table}
 use Rattle.fl_rlc.specs.Offering.{IsOffered}
-use Rattle.fl_rlc.proofs.Taking.{Ends, Done, Refused, ends, calm, still, offers, takes}
+use Rattle.fl_rlc.proofs.TakenRecord.{Ends, Done, Refused, ends, calm, still, offers, takes}
 use Rattle.fl_rlc.proofs.join.take_record.Goals as goal
 
 pub returns-clause-still : goal.returns-clause-still

@@ -8,11 +8,11 @@ use Rattle.fl_ring.specs.Looking.{ReadFails}
 use Rattle.fl_ring.proofs.Founds.{same_pages}
 use Rattle.fl_table.specs.Look.{layout_in}
 use Rattle.fl_table.proofs.Apart.{stands-pages}
-use Rattle.fl_table.proofs.Following.{watched-then}
+use Rattle.fl_table.proofs.SealsInTurn.{watched-then}
 use Rattle.fl_table.proofs.Refused.{page-page}
 use Rattle.fl_table.proofs.SealAnswers.{plan-self}
 use Rattle.fl_table.proofs.Sizes.{table-fits}
-use Rattle.fl_table.proofs.StillStands.{lies-moved}
+use Rattle.fl_table.proofs.ReadsKeepTable.{lies-moved}
 use Rattle.fl_rlc.specs.Memory.{page_in}
 use Rattle.fl_rlc.specs.Offering.{AreOffered}
 use Rattle.fl_rlc.specs.Pages.{log_body}

@@ -9,15 +9,15 @@ use Rattle.fl_model.specs.Table.{Table}
 use Rattle.fl_model.specs.Table.{LogRing, shape_of}
 use Rattle.fl_ring.specs.declared.newest.NewestPage.{NewestPage}
 use Rattle.fl_ring.proofs.Founds.{same_pages}
-use Rattle.fl_ring.proofs.Readings.{goes_more}
+use Rattle.fl_ring.proofs.ReadsInTurn.{goes_more}
 use Rattle.fl_table.specs.Causes.{IfPage}
 use Rattle.fl_table.specs.Look.{layout_in}
-use Rattle.fl_table.proofs.Following.{watched-front, watched-then, cause-later}
+use Rattle.fl_table.proofs.SealsInTurn.{watched-front, watched-then, cause-later}
 use Rattle.fl_table.proofs.MountCalls.{pages-cause}
 use Rattle.fl_table.proofs.Outsides.{outside-same}
 use Rattle.fl_table.proofs.SealAnswers.{plan-self, same-then}
 use Rattle.fl_table.proofs.Sizes.{table-fits}
-use Rattle.fl_table.proofs.StillStands.{lies-moved}
+use Rattle.fl_table.proofs.ReadsKeepTable.{lies-moved}
 use Rattle.fl_rlc.specs.Memory.{page_in}
 use Rattle.fl_rlc.specs.Repairing.{Finds}
 use Rattle.fl_rlc.specs.Finding.{OffersNewest}
@@ -29,7 +29,7 @@ use Rattle.fl_rlc.proofs.NewestRead.{if-told, device-reads}
 use Rattle.fl_rlc.proofs.PutFrames.{log-moved}
 use Rattle.fl_rlc.proofs.ReplayLeft.{no-var-blocks, joined-rings, none-leaves, seal-leaves}
 use Rattle.fl_rlc.proofs.Replays.{begun-stands, begun-none, begun-ring, log-fault, none-well, page-fault, seal-well, seal-badly}
-use Rattle.fl_rlc.proofs.Sealings.{pages-size}
+use Rattle.fl_rlc.proofs.SealsInTable.{pages-size}
 use Rattle.fl_rlc.proofs.replay.replay.Goals as goal
 
 -- ---- the ring is refused

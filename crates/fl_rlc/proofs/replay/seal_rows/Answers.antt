@@ -2,7 +2,7 @@ use Rattle.std.proofs.Common.{◌≡◌, Result, Ok, Err, subst}
 use Rattle.fl_table.specs.Outcomes.{FlushEnds}
 use Rattle.fl_table.specs.declared.faults.FlushFault.{FlushFault}
 use Rattle.fl_table.specs.Memory.{pending_in}
-use Rattle.fl_rlc.proofs.Offerings.{some-there}
+use Rattle.fl_rlc.proofs.OfferedRecords.{some-there}
 use Rattle.fl_rlc.proofs.replay.seal_rows.Goals as goal
 
 pub returns-in-Ok-clause-ends : goal.returns-in-Ok-clause-ends

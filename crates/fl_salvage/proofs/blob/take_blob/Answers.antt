@@ -1,7 +1,7 @@
 use Rattle.std.proofs.Common.{◌≡◌, ℕ, ◌+◌, ◌≤◌, ◌++◌, None, Some, List, length, drop, slice_range, sym, ◌∙◌, ap, subst, arith, rules}
 use Rattle.std.proofs.lemmas.List.{take_at, take_rest}
 use Rattle.fl_salvage.specs.Blobs.{content_at, content_room}
-use Rattle.fl_salvage.proofs.Looking.{looks-then, tells-on}
+use Rattle.fl_salvage.proofs.MediaOnlyRead.{looks-then, tells-on}
 use Rattle.fl_salvage.proofs.Pieces.{length-range, piece-none, piece-behind, piece-last, piece-short, piece-next}
 use Rattle.fl_salvage.proofs.blob.take_blob.Goals as goal
 

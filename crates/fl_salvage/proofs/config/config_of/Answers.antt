@@ -1,6 +1,6 @@
 use Rattle.std.proofs.Common.{◌≡◌, Err, rules}
 use Rattle.fl_image.specs.declared.status.ToolStatus.TheVariants.{NotImage}
-use Rattle.fl_salvage.proofs.Giving.{given-configured}
+use Rattle.fl_salvage.proofs.GivenConfig.{given-configured}
 use Rattle.fl_salvage.proofs.config.config_of.Goals as goal
 
 pub returns-in-Err-NotImage-clause-configured : goal.returns-in-Err-NotImage-clause-configured

@@ -2,8 +2,8 @@ use Rattle.std.proofs.Common.{◌≡◌, ℕ, List, sym, subst}
 use Rattle.fl_salvage.specs.Pages.{AreFew, found_at, page_of}
 use Rattle.fl_salvage.specs.declared.passed_over.PassedOver.{PassedOver}
 use Rattle.fl_schema.specs.Schema.{layout_of}
-use Rattle.fl_salvage.proofs.Counting.{few-none, numbers-next, passed-next}
-use Rattle.fl_salvage.proofs.Looking.{looks-same, looks-then, tells-on}
+use Rattle.fl_salvage.proofs.CountedPages.{few-none, numbers-next, passed-next}
+use Rattle.fl_salvage.proofs.MediaOnlyRead.{looks-same, looks-then, tells-on}
 use Rattle.fl_salvage.proofs.numbers.find_numbers.Goals as goal
 
 pub loop-place-init : goal.loop-place-init

@@ -1,7 +1,7 @@
 use Rattle.std.proofs.Common.{◌≤◌, IsTrue, drop}
 use Rattle.std.specs.List.{flat_map}
 use Rattle.fl_image.specs.Image.{OnlyLooksAt}
-use Rattle.fl_script.proofs.Sending.{Sent}
+use Rattle.fl_script.proofs.SinkPieces.{Sent}
 use Rattle.fl_salvage.specs.Rooms.{HasRooms}
 use Rattle.fl_salvage.specs.Text.{form_of, page_text}
 use Rattle.fl_salvage.proofs.rows.write_pages.Given as goal

@@ -2,7 +2,7 @@ use Rattle.std.proofs.Common.{◌≡◌, ◌≤◌, IsTrue, length, drop}
 use Rattle.std.specs.List.{flat_map}
 use Rattle.fl_image.specs.Image.{OnlyLooksAt}
 use Rattle.fl_page.specs.View.{rows_of}
-use Rattle.fl_script.proofs.Sending.{Sent}
+use Rattle.fl_script.proofs.SinkPieces.{Sent}
 use Rattle.fl_salvage.specs.Text.{form_of, row_text}
 use Rattle.fl_salvage.proofs.rows.write_rows.Given as goal
 

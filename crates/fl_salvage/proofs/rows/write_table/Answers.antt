@@ -4,7 +4,7 @@ use Rattle.fl_base.specs.Causes.{Appends, AppendsFront}
 use Rattle.fl_csv.specs.Text.{header_text}
 use Rattle.fl_schema.specs.Schema.{layout_of, types_of}
 use Rattle.fl_schema.specs.Types.{column_of}
-use Rattle.fl_script.proofs.Sending.{written-err}
+use Rattle.fl_script.proofs.SinkPieces.{written-err}
 use Rattle.fl_salvage.specs.Text.{form_of, pages_text}
 use Rattle.fl_salvage.proofs.Lines.{front-more, written-behind}
 use Rattle.fl_salvage.proofs.rows.write_table.Goals as goal

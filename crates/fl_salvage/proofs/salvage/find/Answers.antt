@@ -1,6 +1,6 @@
 use Rattle.std.proofs.Common.{arith}
 use Rattle.std.proofs.lemmas.Option.{slice_get_within}
-use Rattle.fl_salvage.proofs.Ending.{name-differs, others-more}
+use Rattle.fl_salvage.proofs.SalvageEnds.{name-differs, others-more}
 use Rattle.fl_salvage.proofs.salvage.find.Goals as goal
 
 pub loop-at-preserved : goal.loop-at-preserved

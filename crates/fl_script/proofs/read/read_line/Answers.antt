@@ -1,5 +1,5 @@
 use Rattle.std.proofs.Common.{sym, ◌∙◌, arith}
-use Rattle.fl_script.proofs.Reading.{others_short, as_line, by_fault}
+use Rattle.fl_script.proofs.LineForms.{others_short, as_line, by_fault}
 use Rattle.fl_script.proofs.read.read_line.Goals as goal
 
 pub command-result-requires-clause-short : goal.command-result-requires-clause-short

@@ -1,5 +1,5 @@
 use Rattle.std.proofs.Common.{sym, ◌∙◌}
-use Rattle.fl_script.proofs.Splitting.{first, none_left}
+use Rattle.fl_script.proofs.WordsOfLine.{first, none_left}
 use Rattle.fl_script.proofs.words.first_word.Goals as goal
 
 pub returns-then-is_empty-clause-words : goal.returns-then-is_empty-clause-words

@@ -1,4 +1,4 @@
-use Rattle.fl_script.proofs.Splitting.{dropped, kept}
+use Rattle.fl_script.proofs.WordsOfLine.{dropped, kept}
 use Rattle.fl_script.proofs.words.without_return.Goals as goal
 
 pub returns-then-last-eq13-clause-trimmed : goal.returns-then-last-eq13-clause-trimmed

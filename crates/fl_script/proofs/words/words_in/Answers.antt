@@ -1,4 +1,4 @@
-use Rattle.fl_script.proofs.Splitting.{all_there}
+use Rattle.fl_script.proofs.WordsOfLine.{all_there}
 use Rattle.fl_script.proofs.words.words_in.Goals as goal
 
 pub returns-in_default-clause-words : goal.returns-in_default-clause-words

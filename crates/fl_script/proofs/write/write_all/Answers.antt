@@ -1,6 +1,6 @@
 use Rattle.std.proofs.Common.{arith}
 use Rattle.std.proofs.lemmas.Grind.{common_steps}
-use Rattle.fl_script.proofs.Sending.{sent-next}
+use Rattle.fl_script.proofs.SinkPieces.{sent-next}
 use Rattle.fl_script.proofs.write.write_all.Goals as goal
 
 pub loop-left-preserved : goal.loop-left-preserved

@@ -1,5 +1,5 @@
 use Rattle.std.proofs.Common.{◌≤◌, length}
-use Rattle.fl_script.proofs.Sending.{Sent}
+use Rattle.fl_script.proofs.SinkPieces.{Sent}
 use Rattle.fl_script.proofs.write.write_all.Given as goal
 
 abbrev pub invariant-loop-left : goal.invariant-loop-left

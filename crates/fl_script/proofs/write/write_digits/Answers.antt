@@ -1,7 +1,7 @@
 use Rattle.std.proofs.Common.{◌++◌, drop, take, ap, arith, ◌∙◌}
 use Rattle.std.proofs.lemmas.Grind.{common_steps}
 use Rattle.fl_words.specs.Reply.{hex_text}
-use Rattle.fl_script.proofs.Sending.{sent-piece, sent-failed, written-err}
+use Rattle.fl_script.proofs.SinkPieces.{sent-piece, sent-failed, written-err}
 use Rattle.fl_script.proofs.Digits16.{hex_text-parts}
 use Rattle.fl_script.proofs.write.write_digits.Goals as goal
 

@@ -1,6 +1,6 @@
 use Rattle.std.proofs.Common.{◌≤◌, length}
 use Rattle.fl_words.specs.Reply.{hex_text}
-use Rattle.fl_script.proofs.Sending.{Sent}
+use Rattle.fl_script.proofs.SinkPieces.{Sent}
 use Rattle.fl_script.proofs.write.write_digits.Given as goal
 
 abbrev pub invariant-loop-left : goal.invariant-loop-left

@@ -1,5 +1,5 @@
 use Rattle.std.proofs.Common.{arith, ◌∙◌}
-use Rattle.fl_script.proofs.Sending.{written-ok}
+use Rattle.fl_script.proofs.SinkPieces.{written-ok}
 use Rattle.fl_script.proofs.Digits16.{encode_lower-is}
 use Rattle.fl_script.proofs.write.write_piece.Goals as goal
 

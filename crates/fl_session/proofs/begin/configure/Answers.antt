@@ -1,5 +1,5 @@
 use Rattle.fl_script.specs.CommandView.{command_view}
-use Rattle.fl_session.proofs.Configuring.{configured-goes_on, takes-ok}
+use Rattle.fl_session.proofs.ConfigSteps.{configured-goes_on, takes-ok}
 use Rattle.fl_session.proofs.begin.configure.Goals as goal
 
 pub returns : goal.returns

@@ -1,5 +1,5 @@
 use Rattle.std.proofs.Common.{arith, le_trans}
-use Rattle.fl_session.proofs.Beginning.{configured-first, configured-more, at-command, at-end, ends-begin, ends-incomplete, ends-empty, configure-ends, finish-begins, finish-ends}
+use Rattle.fl_session.proofs.ConfigLines.{configured-first, configured-more, at-command, at-end, ends-begin, ends-incomplete, ends-empty, configure-ends, finish-begins, finish-ends}
 use Rattle.fl_session.proofs.begin.read_config.Goals as goal
 
 pub lines-init : goal.lines-init

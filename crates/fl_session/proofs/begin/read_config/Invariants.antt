@@ -1,5 +1,5 @@
 use Rattle.std.proofs.Common.{◌≡◌, ℕ, ◌+◌, ◌^◌, ◌<◌, ◌≤◌, List, Some}
-use Rattle.fl_session.proofs.Beginning.{Configured}
+use Rattle.fl_session.proofs.ConfigLines.{Configured}
 use Rattle.fl_session.proofs.begin.read_config.Given as goal
 
 abbrev pub invariant-lines : goal.invariant-lines

@@ -1,6 +1,6 @@
 use Rattle.std.proofs.Common.{rules, ◌/◌, ◌≤◌, length, sym, ◌∙◌, ap, arith}
 use Rattle.fl_base.specs.declared.types.BlobRef.{BlobRef}
-use Rattle.fl_page.proofs.Reading.{OnlyReads-then}
+use Rattle.fl_page.proofs.ReadsInTurn.{OnlyReads-then}
 use Rattle.fl_table.specs.BlobAt.{content_in}
 use Rattle.fl_var.specs.Reading.{data_of}
 use Rattle.fl_session.proofs.BlobShows.{says-empty, opened-ready, few-left, holds-blob, buffer-fits, data-lies, room-same, data-stands}

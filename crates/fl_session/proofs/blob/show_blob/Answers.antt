@@ -1,8 +1,8 @@
 use Rattle.std.proofs.Common.{◌∙◌, ℕ, List, refl, subst}
-use Rattle.fl_page.proofs.Reading.{OnlyReads-then, OnlyReads-reads}
+use Rattle.fl_page.proofs.ReadsInTurn.{OnlyReads-then, OnlyReads-reads}
 use Rattle.fl_script.specs.Written.{Written}
 use Rattle.fl_session.proofs.BlobShows.{shows-absent, shows-none, shows-said, shows-unread, content-same}
-use Rattle.fl_session.proofs.Getting.{stands-read, tells-read}
+use Rattle.fl_session.proofs.GetReplies.{stands-read, tells-read}
 use Rattle.fl_session.proofs.blob.show_blob.Goals as goal
 
 pub returns-in-Ok-NoRecord-clause-shows : goal.returns-in-Ok-NoRecord-clause-shows

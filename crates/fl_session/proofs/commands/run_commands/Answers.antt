@@ -1,5 +1,5 @@
 use Rattle.std.proofs.Common.{refl, arith, le_trans}
-use Rattle.fl_store.proofs.Going.{goes-same, goes-on}
+use Rattle.fl_store.proofs.CallsInTurn.{goes-same, goes-on}
 use Rattle.fl_session.proofs.Nexts.{runs-runnable}
 use Rattle.fl_session.proofs.Loops.{in_hand-first, all_done-next, ends-in_reply, step-result, then-in_hand, then-done, then-ends}
 use Rattle.fl_session.proofs.commands.run_commands.Goals as goal

@@ -1,7 +1,7 @@
 use Rattle.std.proofs.Common.{◌∙◌, List, ℕ, sym, subst}
 use Rattle.fl_page.specs.Contents.{contents_of}
 use Rattle.fl_script.specs.Written.{Written}
-use Rattle.fl_session.proofs.Following.{nexts-given, nexts-fault, reads-within}
+use Rattle.fl_session.proofs.NextRows.{nexts-given, nexts-fault, reads-within}
 use Rattle.fl_session.proofs.RowLines.{blobs-as}
 use Rattle.fl_session.proofs.Resumed.{is-standing, left-there, nexts-by}
 use Rattle.fl_session.proofs.cursors.next_rows.Goals as goal

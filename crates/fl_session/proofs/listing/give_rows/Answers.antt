@@ -3,14 +3,14 @@ use Rattle.std.proofs.lemmas.Result.{err_from_is_err_and}
 use Rattle.fl_base.specs.Causes.{Appends, AppendsFront}
 use Rattle.fl_cursor.specs.Cursor.{table_of, present_of, has_ended, IfBad, MayBeBad}
 use Rattle.fl_cursor.specs.Going.{Goes, Fails}
-use Rattle.fl_cursor.proofs.Stepping.{steps-after}
+use Rattle.fl_cursor.proofs.StepsOfRows.{steps-after}
 use Rattle.fl_cursor.proofs.Whole.{keeps-then}
 use Rattle.fl_model.specs.Row.{Row}
 use Rattle.fl_page.specs.Contents.{Contents, contents_of}
-use Rattle.fl_page.proofs.Reading.{OnlyReads-same, OnlyReads-then, IsCaused-later}
+use Rattle.fl_page.proofs.ReadsInTurn.{OnlyReads-same, OnlyReads-then, IsCaused-later}
 use Rattle.fl_words.specs.Reply.{text}
 use Rattle.fl_session.specs.Rows.{row_reply}
-use Rattle.fl_session.proofs.Giving.{gave-none, gave-next, gave-failed, gives-fault, gives-all, least-ended}
+use Rattle.fl_session.proofs.GivenRows.{gave-none, gave-next, gave-failed, gives-fault, gives-all, least-ended}
 use Rattle.fl_session.proofs.listing.give_rows.Goals as goal
 
 pub loop-given-init : goal.loop-given-init

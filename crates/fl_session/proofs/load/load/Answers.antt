@@ -1,11 +1,11 @@
 use Rattle.std.proofs.Common.{◌≡◌, ◌+◌, true, not, ◌&&◌, IsTrue, refl, ap, sym, ◌∙◌, subst, arith}
 use Rattle.std.specs.Prelude.{unwrap_or}
 use Rattle.fl_model.specs.Record.{RowLayout}
-use Rattle.fl_store.proofs.Going.{goes-same, goes-on, rose-front, rose-back, same-plan, same-on}
+use Rattle.fl_store.proofs.CallsInTurn.{goes-same, goes-on, rose-front, rose-back, same-plan, same-on}
 use Rattle.fl_session.specs.Load.{StandsBefore, load_key, random_of}
 use Rattle.fl_store.proofs.Outsides.{outside-then}
-use Rattle.fl_session.proofs.Causing.{load-counts, load-fails, when-ok, when-err}
-use Rattle.fl_session.proofs.Loading.{LoadedSoFar, loaded-none, loaded-more, ends-next, ends-done, load-finished, load-stopped, rose-risen}
+use Rattle.fl_session.proofs.ReplyCauses.{load-counts, load-fails, when-ok, when-err}
+use Rattle.fl_session.proofs.LoadPuts.{LoadedSoFar, loaded-none, loaded-more, ends-next, ends-done, load-finished, load-stopped, rose-risen}
 use Rattle.fl_store.proofs.Risen.{has_risen}
 use Rattle.fl_session.proofs.LoadLines.{unbroken}
 use Rattle.std.proofs.Math.Bool.{and-true}

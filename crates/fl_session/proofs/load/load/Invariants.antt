@@ -11,7 +11,7 @@ use Rattle.fl_store.specs.declared.tables.Entry.{Entry}
 use Rattle.fl_session.specs.Load.{StandsBefore, random_of, step_of}
 use Rattle.fl_session.specs.declared.notes.Notes.{Notes}
 use Rattle.fl_session.specs.Standing.{SessionStands}
-use Rattle.fl_session.proofs.Loading.{LoadedSoFar}
+use Rattle.fl_session.proofs.LoadPuts.{LoadedSoFar}
 use Rattle.fl_session.proofs.load.load.Given as goal
 
 abbrev pub invariant-loop-loaded : goal.invariant-loop-loaded

@@ -1,4 +1,4 @@
-use Rattle.fl_session.proofs.Operating.{first-same, second-same}
+use Rattle.fl_session.proofs.OperatorLines.{first-same, second-same}
 use Rattle.fl_session.proofs.oldest.first_of.Goals as goal
 
 pub returns-clause-counts : goal.returns-clause-counts

@@ -12,10 +12,10 @@ use Rattle.fl_ops.specs.Columns.{records_of, record_of}
 use Rattle.fl_ops.specs.Groups.{groups_left}
 use Rattle.fl_page.specs.Contents.{contents_of}
 use Rattle.fl_session.specs.Lines.{Counted}
-use Rattle.fl_session.proofs.Grouping.{grouped-records, groups-fewer}
+use Rattle.fl_session.proofs.GroupLines.{grouped-records, groups-fewer}
 use Rattle.fl_session.proofs.CountedLines.{counted-wider}
 use Rattle.fl_session.proofs.CursorMoves.{lies-read}
-use Rattle.fl_session.proofs.Operating.{few-asked}
+use Rattle.fl_session.proofs.OperatorLines.{few-asked}
 use Rattle.fl_session.proofs.Resumed.{is-standing}
 use Rattle.fl_session.proofs.operators.aggregate.Goals as goal
 

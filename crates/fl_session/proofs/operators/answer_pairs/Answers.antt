@@ -1,5 +1,5 @@
-use Rattle.fl_page.proofs.Reading.{OnlyReads-reads}
-use Rattle.fl_session.proofs.Pairing.{reads-no-least}
+use Rattle.fl_page.proofs.ReadsInTurn.{OnlyReads-reads}
+use Rattle.fl_session.proofs.PairLines.{reads-no-least}
 use Rattle.fl_session.proofs.operators.answer_pairs.Goals as goal
 
 pub returns-clause-counted : goal.returns-clause-counted

@@ -13,8 +13,8 @@ use Rattle.fl_words.specs.Reply.{Reply}
 use Rattle.fl_session.specs.Lines.{Counted}
 use Rattle.fl_session.specs.Paired.{pair_lines}
 use Rattle.fl_session.proofs.CountedLines.{counted-wider}
-use Rattle.fl_session.proofs.Operating.{few-asked}
-use Rattle.fl_session.proofs.Pairing.{joined-records, pairs-fewer}
+use Rattle.fl_session.proofs.OperatorLines.{few-asked}
+use Rattle.fl_session.proofs.PairLines.{joined-records, pairs-fewer}
 use Rattle.fl_session.proofs.Resumed.{is-standing}
 use Rattle.fl_session.proofs.operators.join.Goals as goal
 

@@ -5,7 +5,7 @@ use Rattle.fl_ops.specs.Columns.{row_passes}
 use Rattle.fl_ops.specs.Select.{input_of, comparison_of}
 use Rattle.fl_page.specs.Contents.{contents_of}
 use Rattle.fl_session.specs.Rows.{row_reply}
-use Rattle.fl_session.proofs.Operating.{first-same, second-same}
+use Rattle.fl_session.proofs.OperatorLines.{first-same, second-same}
 use Rattle.fl_session.proofs.Few.{length-filter}
 use Rattle.fl_session.proofs.operators.list_selected.Goals as goal
 

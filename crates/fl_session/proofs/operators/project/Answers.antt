@@ -16,7 +16,7 @@ use Rattle.fl_session.specs.Lines.{Counted}
 use Rattle.fl_session.proofs.Fields.{lacks-none}
 use Rattle.fl_session.proofs.CountedLines.{counted-wider}
 use Rattle.fl_session.proofs.CursorMoves.{lies-read}
-use Rattle.fl_session.proofs.Operating.{few-asked, projected-fields}
+use Rattle.fl_session.proofs.OperatorLines.{few-asked, projected-fields}
 use Rattle.fl_session.proofs.Resumed.{is-standing}
 use Rattle.fl_session.proofs.operators.project.Goals as goal
 

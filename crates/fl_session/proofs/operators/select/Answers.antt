@@ -16,7 +16,7 @@ use Rattle.fl_table.specs.declared.table.Table.{Table}
 use Rattle.fl_words.specs.Reply.{Reply}
 use Rattle.fl_session.specs.Lines.{Counted}
 use Rattle.fl_session.specs.Rows.{row_reply}
-use Rattle.fl_session.proofs.Operating.{few-asked, selected-lines}
+use Rattle.fl_session.proofs.OperatorLines.{few-asked, selected-lines}
 use Rattle.fl_session.proofs.CountedLines.{counted-wider}
 use Rattle.fl_session.proofs.CursorMoves.{lies-read}
 use Rattle.fl_session.proofs.RowLines.{blobs-as}

@@ -1,12 +1,12 @@
 use Rattle.std.proofs.Common.{◌+◌, ◌≤◌, Ok, Err, Option, sym, ◌∙◌, subst, arith}
 use Rattle.std.proofs.lemmas.Result.{err_from_is_err_and}
-use Rattle.fl_ops.proofs.Continuing.{Continues-then}
+use Rattle.fl_ops.proofs.ContinuedRows.{Continues-then}
 use Rattle.fl_page.specs.Contents.{Contents, contents_of}
-use Rattle.fl_page.proofs.Reading.{OnlyReads-same, OnlyReads-then, IsCaused-later}
+use Rattle.fl_page.proofs.ReadsInTurn.{OnlyReads-same, OnlyReads-then, IsCaused-later}
 use Rattle.fl_script.specs.declared.reply.Reply.{Reply}
 use Rattle.fl_session.specs.Lines.{LineSteps, IsFirstLine}
 use Rattle.fl_session.specs.Paired.{pair_lines}
-use Rattle.fl_session.proofs.Pairing.{continues-same}
+use Rattle.fl_session.proofs.PairLines.{continues-same}
 use Rattle.fl_session.proofs.LinesListed.{front-none, front-next, front-failed, front-unread, front-read}
 use Rattle.fl_session.proofs.pair_lines.list_pairs.Goals as goal
 

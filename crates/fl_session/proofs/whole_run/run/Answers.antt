@@ -1,6 +1,6 @@
 use Rattle.std.proofs.Common.{◌≡◌, None, map, string_bytes, rules}
 use Rattle.fl_session.specs.Words.{image_named}
-use Rattle.fl_session.proofs.Completing.{completes}
+use Rattle.fl_session.proofs.CompleteRuns.{completes}
 use Rattle.fl_session.proofs.whole_run.run.Goals as goal
 
 pub returns-clause-complete : goal.returns-clause-complete

@@ -5,8 +5,8 @@ use Rattle.fl_image.proofs.Made.{whole-of, makes-of}
 use Rattle.fl_image.proofs.Reach.{reach}
 use Rattle.fl_session.specs.Ends.{told_of, effects_of}
 use Rattle.fl_session.specs.ScriptEnds.{unsaid}
-use Rattle.fl_session.proofs.Running.{nothing-added}
-use Rattle.fl_session.proofs.Ending.{begins-takes, ends-in_begin, script-over, commands-early}
+use Rattle.fl_session.proofs.NextCommand.{nothing-added}
+use Rattle.fl_session.proofs.RunEnds.{begins-takes, ends-in_begin, script-over, commands-early}
 use Rattle.fl_session.proofs.Over.{ends-opened, opens-as, opens-goes, media-goes_on, ends-refused, script-refused, early-refused, make-refused, commands-words}
 use Rattle.fl_session.proofs.Fresh.{new-blank, none-of}
 use Rattle.fl_session.proofs.whole_run.run_script.Goals as goal

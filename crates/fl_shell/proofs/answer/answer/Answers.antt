@@ -2,7 +2,7 @@ use Rattle.std.proofs.Common.{◌≡◌, None, Some, ap, sym, ◌∙◌}
 use Rattle.std.specs.Prelude.{option_map}
 use Rattle.fl_shell.specs.Own.{own_of}
 use Rattle.fl_shell.specs.OwnView.{own_view}
-use Rattle.fl_shell.proofs.Turning.{turn-for}
+use Rattle.fl_shell.proofs.LineAnswer.{turn-for}
 use Rattle.fl_shell.proofs.answer.answer.Goals as goal
 
 pub answer_own-requires : goal.answer_own-requires

@@ -3,7 +3,7 @@ use Rattle.fl_words.specs.Grammar.{command_of}
 use Rattle.fl_reason.specs.Reason.{Explains, configures}
 use Rattle.fl_script.specs.CommandView.{command_view}
 use Rattle.fl_shell.proofs.Runnable.{to_run}
-use Rattle.fl_shell.proofs.Turning.{refused-turn, ran-turn, refused-none, runs-some, no-fault}
+use Rattle.fl_shell.proofs.LineAnswer.{refused-turn, ran-turn, refused-none, runs-some, no-fault}
 use Rattle.fl_shell.proofs.answer.answer_command.Goals as goal
 
 pub execute-requires-clause-runnable : goal.execute-requires-clause-runnable

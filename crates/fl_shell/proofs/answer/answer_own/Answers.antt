@@ -3,7 +3,7 @@ use Rattle.fl_shell.specs.Own.{Echo, First, Last, Describe, Misformed}
 use Rattle.fl_shell.specs.OwnView.{own_view}
 use Rattle.fl_shell.specs.Refusal.{line_of}
 use Rattle.fl_shell.specs.Talk.{last_text}
-use Rattle.fl_shell.proofs.Turning.{turn-as, silent-turn, first-turn, describe-turn}
+use Rattle.fl_shell.proofs.LineAnswer.{turn-as, silent-turn, first-turn, describe-turn}
 use Rattle.fl_shell.proofs.answer.answer_own.Goals as goal
 
 pub returns-in-Echo : goal.returns-in-Echo

@@ -1,7 +1,7 @@
 use Rattle.std.proofs.Common.{rules}
 use Rattle.fl_base.specs.declared.stream.SinkFailed.{SinkFailed}
 use Rattle.fl_script.specs.CommandView.{command_view}
-use Rattle.fl_shell.proofs.Leading.{adds, adds-not}
+use Rattle.fl_shell.proofs.LeadingLines.{adds, adds-not}
 use Rattle.fl_shell.proofs.begin.add_line.Goals as goal
 
 pub returns-in-Some-clause-leads : goal.returns-in-Some-clause-leads

@@ -1,7 +1,7 @@
 use Rattle.std.proofs.Common.{refl, sym, ◌∙◌}
 use Rattle.std.proofs.lemmas.Bool.{false≢true}
 use Rattle.fl_shell.specs.Begin.{Ends}
-use Rattle.fl_shell.proofs.Leading.{caused-on, ends-refused, takes-on}
+use Rattle.fl_shell.proofs.LeadingLines.{caused-on, ends-refused, takes-on}
 use Rattle.fl_shell.proofs.begin.end_with.Goals as goal
 
 pub returns-then-is_complete-clause-takes : goal.returns-then-is_complete-clause-takes

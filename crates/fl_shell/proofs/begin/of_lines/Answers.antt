@@ -7,7 +7,7 @@ use Rattle.fl_shell.specs.Begin.{Ends, LeadsBy, step_of}
 use Rattle.fl_shell.specs.Leading.{LeadsAs, TakesBy}
 use Rattle.fl_shell.specs.declared.begin.Step as code
 use Rattle.fl_shell.specs.Reading.{AsksNext, rest_in}
-use Rattle.fl_shell.proofs.Leading.{LedSoFar, LedToLine, led-first, led-next, led-more, led-into, led-ends, led-ended, led-unended, led-failed}
+use Rattle.fl_shell.proofs.LeadingLines.{LedSoFar, LedToLine, led-first, led-next, led-more, led-into, led-ends, led-ended, led-unended, led-failed}
 use Rattle.fl_shell.proofs.begin.of_lines.Goals as goal
 
 pub lines-init : goal.lines-init

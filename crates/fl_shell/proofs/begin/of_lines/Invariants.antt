@@ -1,7 +1,7 @@
 use Rattle.std.proofs.Common.{◌≡◌, ◌≤◌, ◌^◌, ℕ, List, Some}
 use Rattle.fl_words.specs.Grammar.{lines_of}
 use Rattle.fl_shell.specs.Reading.{IsLeft, rest_in}
-use Rattle.fl_shell.proofs.Leading.{LedSoFar}
+use Rattle.fl_shell.proofs.LeadingLines.{LedSoFar}
 use Rattle.fl_shell.proofs.begin.of_lines.Given as goal
 
 abbrev pub invariant-lines : goal.invariant-lines

@@ -1,7 +1,7 @@
 use Rattle.std.proofs.Common.{subst}
 use Rattle.fl_words.specs.Grammar.{command_of}
 use Rattle.fl_reason.specs.Reason.{Explains}
-use Rattle.fl_shell.proofs.Turning.{no-fault}
+use Rattle.fl_shell.proofs.LineAnswer.{no-fault}
 use Rattle.fl_shell.proofs.begin.refuse_line.Goals as goal
 
 pub returns-in-Some-clause-refuses : goal.returns-in-Some-clause-refuses

@@ -3,7 +3,7 @@ use Rattle.fl_base.specs.declared.stream.SinkFailed.{SinkFailed}
 use Rattle.fl_script.specs.CommandView.{command_view}
 use Rattle.fl_shell.specs.Begin.{LeadsBy, step_command}
 use Rattle.fl_shell.specs.Leading.{TakesBy}
-use Rattle.fl_shell.proofs.Leading.{caused-on, command-other, device-step, nothing-step, table-step, takes-on}
+use Rattle.fl_shell.proofs.LeadingLines.{caused-on, command-other, device-step, nothing-step, table-step, takes-on}
 use Rattle.fl_shell.proofs.begin.take_command.Goals as goal
 
 pub returns-in-Nothing-clause-takes : goal.returns-in-Nothing-clause-takes

@@ -2,7 +2,7 @@ use Rattle.std.proofs.Common.{sym, subst}
 use Rattle.fl_shell.specs.Begin.{step_asked}
 use Rattle.fl_shell.specs.Leading.{TakesBy}
 use Rattle.fl_shell.specs.OwnView.{own_view}
-use Rattle.fl_shell.proofs.Leading.{asked-other, caused-on, echo-step, misformed-step, takes-on}
+use Rattle.fl_shell.proofs.LeadingLines.{asked-other, caused-on, echo-step, misformed-step, takes-on}
 use Rattle.fl_shell.proofs.begin.take_own.Goals as goal
 
 pub returns-in-Echo : goal.returns-in-Echo

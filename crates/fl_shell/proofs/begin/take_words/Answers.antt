@@ -2,7 +2,7 @@ use Rattle.std.proofs.Common.{sym, subst}
 use Rattle.fl_words.specs.Grammar.{command_of}
 use Rattle.fl_shell.specs.Begin.{step_command}
 use Rattle.fl_shell.specs.Leading.{TakesBy}
-use Rattle.fl_shell.proofs.Leading.{caused-on, refused-step, takes-on}
+use Rattle.fl_shell.proofs.LeadingLines.{caused-on, refused-step, takes-on}
 use Rattle.fl_shell.proofs.begin.take_words.Goals as goal
 
 pub returns-in-Ok : goal.returns-in-Ok

@@ -1,6 +1,6 @@
 use Rattle.std.proofs.Common.{◌≡◌, Some, None, ◌∙◌, sym}
 use Rattle.fl_plan.specs.Plan.{plan_of_table}
-use Rattle.fl_shell.proofs.Describing.{blobs-none, blobs-told, blobs-unread}
+use Rattle.fl_shell.proofs.DescribedImage.{blobs-none, blobs-told, blobs-unread}
 use Rattle.fl_shell.proofs.describe.add_blobs.Goals as goal
 
 pub returns-then-var_blocks-eq0-clause-text : goal.returns-then-var_blocks-eq0-clause-text

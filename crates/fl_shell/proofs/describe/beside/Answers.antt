@@ -1,5 +1,5 @@
 use Rattle.fl_plan.specs.Plan.{plan_of_table, with_log}
-use Rattle.fl_shell.proofs.Describing.{beside-not, beside-is}
+use Rattle.fl_shell.proofs.DescribedImage.{beside-not, beside-is}
 use Rattle.fl_shell.proofs.describe.beside.Goals as goal
 
 pub returns-in-Err-clause-tells : goal.returns-in-Err-clause-tells

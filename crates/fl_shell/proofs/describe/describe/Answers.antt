@@ -3,7 +3,7 @@ use Rattle.std.proofs.lemmas.Result.{err_from_is_err_and}
 use Rattle.fl_base.specs.declared.stream.SinkFailed.{SinkFailed}
 use Rattle.fl_model.specs.Record.{Plan}
 use Rattle.fl_image.proofs.Made.{made-by}
-use Rattle.fl_shell.proofs.Describing.{SentSoFar, sent-first, sent-more, sent-into, sent-all, device-failed}
+use Rattle.fl_shell.proofs.DescribedImage.{SentSoFar, sent-first, sent-more, sent-into, sent-all, device-failed}
 use Rattle.fl_shell.proofs.describe.describe.Goals as goal
 
 pub returns-in_err-write_all-clause-text : goal.returns-in_err-write_all-clause-text

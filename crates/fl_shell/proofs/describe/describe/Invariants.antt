@@ -3,7 +3,7 @@ use Rattle.fl_config.specs.Whole.{Makes}
 use Rattle.fl_flash.specs.Flash.{Goes}
 use Rattle.fl_model.specs.Record.{Config}
 use Rattle.fl_machine.specs.Machine.{Machine}
-use Rattle.fl_shell.proofs.Describing.{SentSoFar}
+use Rattle.fl_shell.proofs.DescribedImage.{SentSoFar}
 use Rattle.fl_shell.proofs.describe.describe.Given as goal
 
 abbrev pub invariant-tables : goal.invariant-tables

@@ -1,7 +1,7 @@
 use Rattle.std.proofs.Common.{◌∙◌, ap, ◌++◌}
 use Rattle.fl_plan.specs.Plan.{plan_of_table}
 use Rattle.fl_shell.specs.Talk.{counts_text, sizes_text}
-use Rattle.fl_shell.proofs.Describing.{held-not, held-both, held-is}
+use Rattle.fl_shell.proofs.DescribedImage.{held-not, held-both, held-is}
 use Rattle.fl_shell.proofs.describe.held.Goals as goal
 
 pub returns-in-Err : goal.returns-in-Err

@@ -3,7 +3,7 @@ use Rattle.std.specs.Prelude.{IfSome, slice_get, sum_by}
 use Rattle.std.proofs.lemmas.Result.{err_from_is_err_and}
 use Rattle.fl_model.specs.Record.{blocks_of}
 use Rattle.fl_words.specs.Medium.{table_text}
-use Rattle.fl_shell.proofs.Describing.{table-failed, figures-failed, table-written}
+use Rattle.fl_shell.proofs.DescribedImage.{table-failed, figures-failed, table-written}
 use Rattle.fl_shell.proofs.describe.write_table.Goals as goal
 
 pub returns-in_err-write_all-clause-text : goal.returns-in_err-write_all-clause-text

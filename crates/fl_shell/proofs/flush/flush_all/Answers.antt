@@ -3,7 +3,7 @@ use Rattle.std.specs.Prelude.{if◌then◌else◌}
 use Rattle.std.proofs.lemmas.List.{length-map, length-take}
 use Rattle.std.proofs.lemmas.Bool.{eqb-true, false≢true}
 use Rattle.fl_shell.specs.Talk.{flush_of}
-use Rattle.fl_shell.proofs.Flushing.{FlushedSoFar, none-flushed, flushed-none, flushed-more, flushes-more, flushed-nothing, flushed-all, all-plans}
+use Rattle.fl_shell.proofs.TableFlushes.{FlushedSoFar, none-flushed, flushed-none, flushed-more, flushes-more, flushed-nothing, flushed-all, all-plans}
 use Rattle.fl_shell.proofs.Ran.{ran-stands}
 use Rattle.fl_shell.proofs.flush.flush_all.Goals.{then-done, else-done}
 use Rattle.fl_shell.proofs.flush.flush_all.Goals as goal

@@ -6,7 +6,7 @@ use Rattle.fl_machine.specs.Step.{Moment}
 use Rattle.fl_session.specs.Execute.{IsReady}
 use Rattle.fl_shell.specs.Flushing.{RanThese}
 use Rattle.fl_shell.specs.Talk.{flush_of}
-use Rattle.fl_shell.proofs.Flushing.{FlushedSoFar}
+use Rattle.fl_shell.proofs.TableFlushes.{FlushedSoFar}
 use Rattle.fl_shell.proofs.flush.flush_all.Given as goal
 
 abbrev pub invariant-tables : goal.invariant-tables

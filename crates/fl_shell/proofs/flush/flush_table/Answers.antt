@@ -7,7 +7,7 @@ use Rattle.fl_words.specs.Reply as reply
 use Rattle.fl_words.specs.Reply.{text}
 use Rattle.fl_session.specs.Execute.{Executes}
 use Rattle.fl_shell.specs.Heard.{Kept}
-use Rattle.fl_shell.proofs.Flushing.{flushed-one, flush-heard}
+use Rattle.fl_shell.proofs.TableFlushes.{flushed-one, flush-heard}
 use Rattle.fl_shell.proofs.flush.flush_table.Goals as goal
 
 pub returns-in-Ok-clause-flushes : goal.returns-in-Ok-clause-flushes

@@ -1,6 +1,6 @@
 use Rattle.std.proofs.Common.{◌≡◌, ◌<◌, ◌≤◌, ℕ, List, length, ◌∙◌, arith}
 use Rattle.fl_shell.specs.Talk.{pending_in}
-use Rattle.fl_shell.proofs.Flushing.{sum-more}
+use Rattle.fl_shell.proofs.TableFlushes.{sum-more}
 use Rattle.fl_shell.proofs.flush.pending_rows.Goals as goal
 
 pub tables-preserved : goal.tables-preserved

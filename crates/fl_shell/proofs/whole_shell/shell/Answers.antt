@@ -9,8 +9,8 @@ use Rattle.fl_session.proofs.Over.{media-goes_on, opens-as, opens-goes}
 use Rattle.fl_session.proofs.Fresh.{new-blank, none-of}
 use Rattle.fl_shell.specs.Statuses.{IsOfSession, opening_status}
 use Rattle.fl_shell.specs.declared.end.ShellStatus.TheVariants.{NoMemory}
-use Rattle.fl_shell.proofs.Beginning.{begin-failed, begins-on, ends-of, looks-goes, no-room, not-opened, open-rose, untouched}
-use Rattle.fl_shell.proofs.Ending.{shell-ends, unread-begins, unread-few, unread-left, unread-short}
+use Rattle.fl_shell.proofs.EarlyEnds.{begin-failed, begins-on, ends-of, looks-goes, no-room, not-opened, open-rose, untouched}
+use Rattle.fl_shell.proofs.ShellEnds.{shell-ends, unread-begins, unread-few, unread-left, unread-short}
 use Rattle.fl_shell.proofs.whole_shell.shell.Goals as goal
 
 pub talk_over-requires-clause-reach : goal.talk_over-requires-clause-reach

@@ -3,7 +3,7 @@ use Rattle.fl_flash.specs.Media.{MediaState}
 use Rattle.fl_machine.specs.Script.{StandsAfter}
 use Rattle.fl_image.proofs.Made.{makes-of}
 use Rattle.fl_session.proofs.Over.{flash-keeps}
-use Rattle.fl_shell.proofs.Ending.{over-medium, over-goes}
+use Rattle.fl_shell.proofs.ShellEnds.{over-medium, over-goes}
 use Rattle.fl_shell.proofs.whole_shell.talk_over.Goals as goal
 
 pub returns : goal.returns

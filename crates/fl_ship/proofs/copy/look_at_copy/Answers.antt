@@ -1,4 +1,4 @@
-use Rattle.fl_ship.proofs.Making.{some-bytes, looks-at, own-image, other-image, broken-copy, status-in}
+use Rattle.fl_ship.proofs.MadeCopy.{some-bytes, looks-at, own-image, other-image, broken-copy, status-in}
 use Rattle.fl_ship.proofs.copy.look_at_copy.Goals as goal
 
 pub returns-clause-looks : goal.returns-clause-looks

@@ -1,5 +1,5 @@
 use Rattle.std.proofs.Common.{arith}
-use Rattle.fl_ship.proofs.Making.{no-bytes, counts-in, failed-in}
+use Rattle.fl_ship.proofs.MadeCopy.{no-bytes, counts-in, failed-in}
 use Rattle.fl_ship.proofs.copy.make_copy.Goals as goal
 
 pub returns-clause-tells : goal.returns-clause-tells

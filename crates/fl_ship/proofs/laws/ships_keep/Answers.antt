@@ -1,4 +1,4 @@
-use Rattle.fl_ship.proofs.Keeping.{ships-keep}
+use Rattle.fl_ship.proofs.KeptRecords.{ships-keep}
 use Rattle.fl_ship.proofs.laws.ships_keep.Goals as goal
 
 pub returns : goal.returns

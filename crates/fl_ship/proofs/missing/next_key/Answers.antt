@@ -2,7 +2,7 @@ use Rattle.std.proofs.Common.{◌≡◌, true, false, Some, Ok, Err, map, sym, �
 use Rattle.std.proofs.lemmas.Result.{err_from_is_err_and}
 use Rattle.fl_cursor.specs.Cursor.{left_of, present_of, has_ended}
 use Rattle.fl_cursor.specs.Going.{Goes}
-use Rattle.fl_cursor.proofs.Stepping.{steps-after}
+use Rattle.fl_cursor.proofs.StepsOfRows.{steps-after}
 use Rattle.fl_model.specs.Row.{Row}
 use Rattle.fl_model.specs.Table.{Entry}
 use Rattle.fl_page.specs.Contents.{contents_of}

@@ -11,7 +11,7 @@ use Rattle.fl_ship.specs.Media.{bytes_of}
 use Rattle.fl_ship.specs.Tables.{told_of}
 use Rattle.fl_ship.specs.declared.status.ShipStatus.{ShipStatus}
 use Rattle.fl_ship.proofs.Causes.{fits-look, fits-source, images-for, images-without}
-use Rattle.fl_ship.proofs.Closing.{form-ends, look-ends, memory-ends, nameless-ends, source-ends}
+use Rattle.fl_ship.proofs.ImageEnds.{form-ends, look-ends, memory-ends, nameless-ends, source-ends}
 use Rattle.fl_ship.proofs.Forms.{named-alike}
 use Rattle.fl_ship.proofs.ready.make_ready.Goals as goal
 

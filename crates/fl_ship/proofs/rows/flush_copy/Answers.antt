@@ -1,7 +1,7 @@
 use Rattle.std.proofs.lemmas.Result.{err_from_is_err_and}
 use Rattle.fl_store.proofs.Risen.{has_risen, watched}
 use Rattle.fl_store.proofs.Works.{works-watched}
-use Rattle.fl_ship.proofs.Flushing.{flush-done, flush-fails, flush-keeps, flush-breaks}
+use Rattle.fl_ship.proofs.LastFlush.{flush-done, flush-fails, flush-keeps, flush-breaks}
 use Rattle.fl_ship.proofs.rows.flush_copy.Goals as goal
 
 pub returns-in_err-flush-clause-flushes : goal.returns-in_err-flush-clause-flushes

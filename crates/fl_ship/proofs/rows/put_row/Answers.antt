@@ -3,7 +3,7 @@ use Rattle.fl_model.specs.Record.{RowLayout}
 use Rattle.fl_model.specs.Row.{FitsRow}
 use Rattle.fl_rlc.specs.Refusal.{put_refusal}
 use Rattle.fl_schema.specs.Schema.{row_of}
-use Rattle.fl_ship.proofs.Fitting.{row-fits, put-spent, put-caused, spent-is}
+use Rattle.fl_ship.proofs.RowsFit.{row-fits, put-spent, put-caused, spent-is}
 use Rattle.fl_ship.proofs.rows.put_row.Goals as goal
 
 pub returns-clause-ends : goal.returns-clause-ends

@@ -2,14 +2,14 @@ use Rattle.std.proofs.Common.{◌+◌, ◌<◌, ◌≤◌, true, false, Some, Ok
 use Rattle.std.proofs.lemmas.Result.{err_from_is_err_and}
 use Rattle.fl_flash.specs.Flash.{page_at}
 use Rattle.fl_model.specs.Row.{Row}
-use Rattle.fl_ops.proofs.Continuing.{Continues-then}
+use Rattle.fl_ops.proofs.ContinuedRows.{Continues-then}
 use Rattle.fl_page.specs.Contents.{Contents, contents_of}
 use Rattle.fl_page.specs.Steps.{Steps}
-use Rattle.fl_page.proofs.Reading.{OnlyReads-same, OnlyReads-then, IsCaused-later}
+use Rattle.fl_page.proofs.ReadsInTurn.{OnlyReads-same, OnlyReads-then, IsCaused-later}
 use Rattle.fl_rlc.specs.Table.{table_in}
 use Rattle.fl_schema.specs.Schema.{row_of}
 use Rattle.fl_table.specs.Look.{last_key_in}
-use Rattle.fl_store.proofs.Going.{goes-same, goes-on, same-plan, same-on}
+use Rattle.fl_store.proofs.CallsInTurn.{goes-same, goes-on, same-plan, same-on}
 use Rattle.fl_store.proofs.Outsides.{outside-then}
 use Rattle.fl_ship.proofs.RowsSoFar.{above-next, far-none, far-more, keep-refused, keep-so, put-end, put-refused, put-unread, put-whole, unread-behind}
 use Rattle.fl_ship.proofs.rows.put_rows.Goals as goal

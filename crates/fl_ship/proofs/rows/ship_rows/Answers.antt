@@ -2,7 +2,7 @@ use Rattle.std.proofs.Common.{IsTrue, Ok, Err, refl, sym, subst}
 use Rattle.std.proofs.lemmas.Result.{err_from_is_err_and}
 use Rattle.fl_flash.specs.Flash.{page_at}
 use Rattle.fl_store.proofs.Outsides.{outside-then}
-use Rattle.fl_ship.proofs.Flushing.{flush-stops, ship-done, ship-unput, ship-unflushed, keep-flushed}
+use Rattle.fl_ship.proofs.LastFlush.{flush-stops, ship-done, ship-unput, ship-unflushed, keep-flushed}
 use Rattle.fl_ship.proofs.rows.ship_rows.Goals as goal
 
 pub returns-in_err-shipped-clause-ships : goal.returns-in_err-shipped-clause-ships

@@ -9,7 +9,7 @@ use Rattle.fl_store.specs.Tables.{AreNewTables, IsNamed}
 use Rattle.fl_store.specs.declared.layout.Layout.{Layout}
 use Rattle.fl_store.specs.declared.tables.Tables.{Tables}
 use Rattle.fl_store.proofs.Opened.{keeps-then, looks-keeps, looks-then}
-use Rattle.fl_store.proofs.Repairing.{others-after, others-still, repaired-after, still-repaired}
+use Rattle.fl_store.proofs.ImageRepairs.{others-after, others-still, repaired-after, still-repaired}
 use Rattle.fl_store.proofs.TablesChanged.{some-is}
 use Rattle.fl_store.proofs.Worked.{held-since, worked-by, worked-image, worked-keeps, worked-others, worked-repaired, worked-rose}
 use Rattle.fl_words.specs.Config.{Lines}
@@ -24,8 +24,8 @@ use Rattle.fl_ship.specs.declared.side.Side.TheVariants.{Source, Copy}
 use Rattle.fl_ship.specs.declared.status.ShipStatus.{ShipStatus}
 use Rattle.fl_ship.specs.declared.status.ShipStatus.TheVariants.{OutWrite, Device, BadImage}
 use Rattle.fl_ship.proofs.Causes.{copy-keeps, fits-table, half-keeps, images-for, looks-copy}
-use Rattle.fl_ship.proofs.Closing.{copy-known, copy-made, copy-makes, formed, half-made, image-some, made-length, table-ends}
-use Rattle.fl_ship.proofs.Ending.{store-ends}
+use Rattle.fl_ship.proofs.ImageEnds.{copy-known, copy-made, copy-makes, formed, half-made, image-some, made-length, table-ends}
+use Rattle.fl_ship.proofs.MediaEnds.{store-ends}
 use Rattle.fl_ship.proofs.Forms.{one-form}
 use Rattle.fl_ship.proofs.Statuses.{not-refused}
 use Rattle.fl_ship.proofs.ship.ship_image.Goals as goal

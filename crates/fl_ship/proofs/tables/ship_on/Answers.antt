@@ -2,8 +2,8 @@ use Rattle.std.proofs.Common.{◌≡◌, inr, true, false, IsTrue, Err, Some, le
 use Rattle.std.specs.List.{slice_get}
 use Rattle.std.proofs.lemmas.Option.{slice_get_within}
 use Rattle.fl_store.specs.Store.{at_rest}
-use Rattle.fl_store.proofs.Locating.{stands-there}
-use Rattle.fl_store.proofs.Repairing.{repaired-read}
+use Rattle.fl_store.proofs.TableByName.{stands-there}
+use Rattle.fl_store.proofs.ImageRepairs.{repaired-read}
 use Rattle.fl_store.proofs.Risen.{has_risen, watched}
 use Rattle.fl_store.proofs.Changed.{own, own-works}
 use Rattle.fl_store.proofs.Others.{others-repaired}
@@ -18,7 +18,7 @@ use Rattle.fl_store.proofs.TablesChanged.{item-there}
 use Rattle.fl_ship.specs.declared.side.Side.TheVariants.{Source, Copy}
 use Rattle.fl_ship.specs.declared.stop.Stop.{Stop}
 use Rattle.fl_ship.proofs.Forms.{form-after}
-use Rattle.fl_ship.proofs.Shipping.{source-fails, copy-fails, shipped, stopped, broken-left, broken-device, read-left, mounted-left, changed-left}
+use Rattle.fl_ship.proofs.FlashEnds.{source-fails, copy-fails, shipped, stopped, broken-left, broken-device, read-left, mounted-left, changed-left}
 use Rattle.fl_ship.proofs.Statuses.{mount-place, good-device, stop-good}
 use Rattle.fl_ship.proofs.tables.ship_on.Goals as goal
 

@@ -1,13 +1,13 @@
 use Rattle.std.proofs.Common.{◌≡◌, true, Err, sym, ◌∙◌, ap}
 use Rattle.std.specs.Option.{option_map}
 use Rattle.std.proofs.lemmas.Result.{err_from_is_err_and}
-use Rattle.fl_store.proofs.Reading.{is-standing, lies-read, stands-read, tells-read}
+use Rattle.fl_store.proofs.TablesOnlyRead.{is-standing, lies-read, stands-read, tells-read}
 use Rattle.fl_model.specs.Bare.{bare, bare_table}
 use Rattle.fl_model.specs.Ship.{records_in}
 use Rattle.fl_model.specs.Table.{Entry, last_entry, lose}
 use Rattle.fl_page.specs.Contents.{contents_of}
 use Rattle.fl_page.specs.declared.fault.ReadFault.TheVariants as read
-use Rattle.fl_page.proofs.Reading.{OnlyReads-then}
+use Rattle.fl_page.proofs.ReadsInTurn.{OnlyReads-then}
 use Rattle.fl_rlc.specs.Table.{table_in}
 use Rattle.fl_table.specs.Look.{layout_in}
 use Rattle.fl_store.proofs.TablesChanged.{off-rests}

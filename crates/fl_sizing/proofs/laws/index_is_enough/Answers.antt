@@ -1,4 +1,4 @@
-use Rattle.fl_sizing.proofs.Keeping.{enough}
+use Rattle.fl_sizing.proofs.KeptRows.{enough}
 use Rattle.fl_sizing.proofs.laws.index_is_enough.Goals as goal
 
 pub returns : goal.returns

@@ -1,4 +1,4 @@
-use Rattle.fl_sizing.proofs.Keeping.{rows-stay}
+use Rattle.fl_sizing.proofs.KeptRows.{rows-stay}
 use Rattle.fl_sizing.proofs.laws.rows_are_kept.Goals as goal
 
 pub returns : goal.returns

@@ -3,7 +3,7 @@ use Rattle.std.proofs.lemmas.List.{length_push, at_drop_all}
 use Rattle.std.proofs.lemmas.Iterator.Consumers.{YieldsList-turn, YieldsList-end}
 use Rattle.std.proofs.lemmas.Iterator.Splits.{YieldsList-from_slice_split}
 use Rattle.fl_sizing.specs.Lines.{parts_of}
-use Rattle.fl_sizing.proofs.Starting.{passed-more, ended-all, ended-there, refused-there, finished-ended, finished-refused}
+use Rattle.fl_sizing.proofs.ConfigLines.{passed-more, ended-all, ended-there, refused-there, finished-ended, finished-refused}
 use Rattle.fl_sizing.proofs.lines.config_of.Goals as goal
 
 pub returns-in-Ok-false-clause-ended : goal.returns-in-Ok-false-clause-ended

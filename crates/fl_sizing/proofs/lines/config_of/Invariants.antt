@@ -1,5 +1,5 @@
 use Rattle.std.proofs.Common.{length}
-use Rattle.fl_sizing.proofs.Starting.{Passed}
+use Rattle.fl_sizing.proofs.ConfigLines.{Passed}
 use Rattle.fl_sizing.proofs.lines.config_of.Given as goal
 
 abbrev pub invariant-loop-line : goal.invariant-loop-line

@@ -6,7 +6,7 @@ use Rattle.fl_sizing.specs.Lines.{IsEnded, RefusesText}
 use Rattle.fl_sizing.specs.declared.end.PlanEnd.{PlanEnd}
 use Rattle.fl_sizing.specs.declared.end.PlanStatus.{PlanStatus}
 use Rattle.fl_sizing.specs.declared.end.PlanStatus.TheVariants.{Done, InputRead, OutWrite}
-use Rattle.fl_sizing.proofs.Planning.{if-ok, if-err, text-refused, has-status, unread-refused, unread-statuses}
+use Rattle.fl_sizing.proofs.PlanEnds.{if-ok, if-err, text-refused, has-status, unread-refused, unread-statuses}
 use Rattle.fl_sizing.proofs.plan.config_of_text.Goals as goal
 
 pub returns-in-Ok-clause-ended : goal.returns-in-Ok-clause-ended

@@ -1,4 +1,4 @@
-use Rattle.fl_sizing.proofs.Planning.{planned}
+use Rattle.fl_sizing.proofs.PlanEnds.{planned}
 use Rattle.fl_sizing.proofs.plan.plan_tables.Goals as goal
 
 pub returns-in-Ok-clause-ends : goal.returns-in-Ok-clause-ends

@@ -1,5 +1,5 @@
 use Rattle.std.proofs.Common.{Option, Some, inl, inr, sym, subst}
-use Rattle.fl_index.specs.declared.index.Index.{Index}
+use Rattle.fl_index.specs.declared.index.BitmapIndex.{BitmapIndex}
 use Rattle.fl_table.specs.Bitmaps.{MakesRoomOf}
 use Rattle.std.proofs.lemmas.Bool.{cases_lt}
 use Rattle.fl_index.specs.Memory.{waiting_in, per_page}
@@ -8,7 +8,7 @@ use Rattle.fl_table.proofs.bitmaps.make_room.Goals as goal
 
 pub returns-in-Some-clause-ends : goal.returns-in-Some-clause-ends
 returns-in-Some-clause-ends g c = λ first plan table rose device.
-    subst (λ (o : Option Index). MakesRoomOf o (g.F.Flash.state c.args.flash.now) first plan table rose device c.make_room.result (Some c.make_room.new.self) (g.F.Flash.state c.make_room.new.flash))
+    subst (λ (o : Option BitmapIndex). MakesRoomOf o (g.F.Flash.state c.args.flash.now) first plan table rose device c.make_room.result (Some c.make_room.new.self) (g.F.Flash.state c.make_room.new.flash))
     (sym c.in-Some.is) (λ watched stands. c.make_room.ensures.ends first plan table rose device watched stands)
 
 pub returns-in-Some-clause-off : goal.returns-in-Some-clause-off

@@ -1,5 +1,5 @@
 use Rattle.std.proofs.Common.{◌≡◌, ◌+◌, Option, Some, sym, subst, arith}
-use Rattle.fl_index.specs.declared.index.Index.{Index}
+use Rattle.fl_index.specs.declared.index.BitmapIndex.{BitmapIndex}
 use Rattle.fl_index.specs.Memory.{first_waiting, waiting_in}
 use Rattle.fl_table.specs.Bitmaps.{AreNoted, IsNoted}
 use Rattle.fl_table.proofs.bitmaps.note_entry.Goals as goal
@@ -15,4 +15,4 @@ returns-in-Some-clause-noted c =
       one = c.note.ensures.one;
       waits = c.note.ensures.waits;
     } in
-    subst (λ (o : Option Index). AreNoted o c.args.number c.args.bitmap c.args.full (Some c.note.new.self)) (sym c.in-Some.is) ((λ e. noted), (λ other. absurd (other next)))
+    subst (λ (o : Option BitmapIndex). AreNoted o c.args.number c.args.bitmap c.args.full (Some c.note.new.self)) (sym c.in-Some.is) ((λ e. noted), (λ other. absurd (other next)))

@@ -1,6 +1,6 @@
 use Rattle.std.proofs.Common.{rules, ◌≡◌, ◌-◌, cond, arith, false, true, Option, Some, None, sym, ◌∙◌, ap, subst}
 use Rattle.std.proofs.lemmas.Result.{err_from_is_err_and}
-use Rattle.fl_index.specs.declared.index.Index.{Index}
+use Rattle.fl_index.specs.declared.index.BitmapIndex.{BitmapIndex}
 use Rattle.fl_index.specs.Memory.{form_in, next_in, oldest_in}
 use Rattle.fl_index.specs.Standing.{StandsBelow}
 use Rattle.fl_schema.specs.Schema.{layout_of}
@@ -9,7 +9,7 @@ use Rattle.fl_table.specs.Coming.{ComesTo, AreListedBefore, FirstsKnown, StandFo
 use Rattle.fl_table.proofs.Firsts.{bare-firsts, full-firsts}
 use Rattle.fl_table.proofs.ListedPages.{are-full, comes-bare, comes-full, knows-bare, no-page-lists, stands-full}
 use Rattle.fl_table.proofs.by_entries.read_listed.Goals.{in_default-via-in-Some+else-is_full, in_default-via-in_default}
-use Rattle.fl_table.proofs.Sparing.{spared-none, spared-within}
+use Rattle.fl_table.proofs.SparedReads.{spared-none, spared-within}
 use Rattle.fl_table.proofs.by_entries.read_listed.Goals as goal
 
 pub returns-in_err-from-in-Some-clause-knows : goal.returns-in_err-from-in-Some-clause-knows
@@ -19,7 +19,7 @@ returns-in_err-from-in-Some-clause-knows g c = λ told few error t comes h.
     let layout = layout_of c.args.schema.now in
     let entries = c.in-Some.entries in
     let full : (form_in entries).full ≡ true = sym c.is_full.ensures ∙ c.if-is_full.true in
-    let comes' = comes-full t layout c.args.limit entries c.args.ring.now f full (subst (λ (o : Option Index). ComesTo t layout c.args.limit o c.args.ring.now f) c.in-Some.is comes) in
+    let comes' = comes-full t layout c.args.limit entries c.args.ring.now f full (subst (λ (o : Option BitmapIndex). ComesTo t layout c.args.limit o c.args.ring.now f) c.in-Some.is comes) in
     rw (p.1, p.2) (tt, (c.in_err-from-in-Some.ensures.knows told few error t comes' h).1)
 
 pub returns-in_err-from-in-Some-clause-few_reads : goal.returns-in_err-from-in-Some-clause-few_reads
@@ -29,7 +29,7 @@ returns-in_err-from-in-Some-clause-few_reads g c = λ told few error t comes h.
     let layout = layout_of c.args.schema.now in
     let entries = c.in-Some.entries in
     let full : (form_in entries).full ≡ true = sym c.is_full.ensures ∙ c.if-is_full.true in
-    let comes' = comes-full t layout c.args.limit entries c.args.ring.now f full (subst (λ (o : Option Index). ComesTo t layout c.args.limit o c.args.ring.now f) c.in-Some.is comes) in
+    let comes' = comes-full t layout c.args.limit entries c.args.ring.now f full (subst (λ (o : Option BitmapIndex). ComesTo t layout c.args.limit o c.args.ring.now f) c.in-Some.is comes) in
     rw p.1 (tt, (c.in_err-from-in-Some.ensures.few_reads told few error t comes' h).1)
 
 pub returns-in_ok-from-in-Some-clause-few_reads : goal.returns-in_ok-from-in-Some-clause-few_reads
@@ -39,7 +39,7 @@ returns-in_ok-from-in-Some-clause-few_reads g c = λ told few error t comes h.
     let entries = c.in-Some.entries in
     let full : (form_in entries).full ≡ true = sym c.is_full.ensures ∙ c.if-is_full.true in
     c.in_ok-from-in-Some.ensures.few_reads told few error t
-    (comes-full t layout c.args.limit entries c.args.ring.now f full (subst (λ (o : Option Index). ComesTo t layout c.args.limit o c.args.ring.now f) c.in-Some.is comes)) h
+    (comes-full t layout c.args.limit entries c.args.ring.now f full (subst (λ (o : Option BitmapIndex). ComesTo t layout c.args.limit o c.args.ring.now f) c.in-Some.is comes)) h
 
 pub returns-in_ok-from-in-Some-clause-stands : goal.returns-in_ok-from-in-Some-clause-stands
 returns-in_ok-from-in-Some-clause-stands g c = λ first plan table told stands.
@@ -47,7 +47,7 @@ returns-in_ok-from-in-Some-clause-stands g c = λ first plan table told stands.
     let new = g.F.Flash.state c.see_listed.new.flash in
     let entries = c.in-Some.entries in
     let full : (form_in entries).full ≡ true = sym c.is_full.ensures ∙ c.if-is_full.true in
-    let below = c.in_ok-from-in-Some.ensures.stands first plan table told (stands-full entries f first plan table full (subst (λ (o : Option Index). StandFound o f first plan table) c.in-Some.is stands)) in
+    let below = c.in_ok-from-in-Some.ensures.stands first plan table told (stands-full entries f first plan table full (subst (λ (o : Option BitmapIndex). StandFound o f first plan table) c.in-Some.is stands)) in
     c.unload.ensures.ring new first plan table (subst (λ k. StandsBelow k c.see_listed.new.bitmaps new first plan table) (sym c.in_ok-from-in-Some.ensures.ring.2) below)
 
 pub returns-in_ok-from-in-Some-clause-bitmaps_lie : goal.returns-in_ok-from-in-Some-clause-bitmaps_lie
@@ -89,7 +89,7 @@ returns-in_ok-from-in-Some-clause-knows g c = λ told few error t comes h.
     let layout = layout_of c.args.schema.now in
     let entries = c.in-Some.entries in
     let full : (form_in entries).full ≡ true = sym c.is_full.ensures ∙ c.if-is_full.true in
-    let comes' = comes-full t layout c.args.limit entries c.args.ring.now f full (subst (λ (o : Option Index). ComesTo t layout c.args.limit o c.args.ring.now f) c.in-Some.is comes) in
+    let comes' = comes-full t layout c.args.limit entries c.args.ring.now f full (subst (λ (o : Option BitmapIndex). ComesTo t layout c.args.limit o c.args.ring.now f) c.in-Some.is comes) in
     ((c.in_ok-from-in-Some.ensures.knows told few error t comes' h).0, tt)
 
 pub returns-in_ok-from-in-Some-clause-unlisted : goal.returns-in_ok-from-in-Some-clause-unlisted
@@ -98,7 +98,7 @@ returns-in_ok-from-in-Some-clause-unlisted g c = λ told few error t comes h.
     let layout = layout_of c.args.schema.now in
     let entries = c.in-Some.entries in
     let full : (form_in entries).full ≡ true = sym c.is_full.ensures ∙ c.if-is_full.true in
-    let comes' = comes-full t layout c.args.limit entries c.args.ring.now f full (subst (λ (o : Option Index). ComesTo t layout c.args.limit o c.args.ring.now f) c.in-Some.is comes) in
+    let comes' = comes-full t layout c.args.limit entries c.args.ring.now f full (subst (λ (o : Option BitmapIndex). ComesTo t layout c.args.limit o c.args.ring.now f) c.in-Some.is comes) in
     c.in_ok-from-in-Some.ensures.unlisted told few error t comes' h
 
 pub returns-in_ok-from-in-Some-clause-remembers : goal.returns-in_ok-from-in-Some-clause-remembers
@@ -106,7 +106,7 @@ returns-in_ok-from-in-Some-clause-remembers g c = λ told.
     let f = g.F.Flash.state c.args.flash.now in
     let entries = c.in-Some.entries in
     let full : (form_in entries).full ≡ true = sym c.is_full.ensures ∙ c.if-is_full.true in
-    subst (λ (o : Option Index). FirstsKnown o f (Some c.unload.new.self)) (sym c.in-Some.is)
+    subst (λ (o : Option BitmapIndex). FirstsKnown o f (Some c.unload.new.self)) (sym c.in-Some.is)
     (full-firsts entries c.see_listed.new.bitmaps c.unload.new.self f full c.unload.ensures.still (c.in_ok-from-in-Some.ensures.remembers told))
 
 pub returns-in_default-clause-remembers : goal.returns-in_default-clause-remembers

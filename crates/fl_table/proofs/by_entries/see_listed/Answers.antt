@@ -12,11 +12,11 @@ use Rattle.fl_table.specs.Causes.{IfFlash, IfPage}
 use Rattle.fl_table.specs.Coming.{AreListedBefore, AreRemembered}
 use Rattle.fl_table.specs.declared.faults.MountFault.{MountFault}
 use Rattle.fl_table.specs.Knowing.{KnowsWith, IsWithin, ReadsBut, is_waiting}
-use Rattle.fl_ring.proofs.Readings.{no_reads, more_reads, told_still}
-use Rattle.fl_table.proofs.Comings.{rows-still, unlisted-rises, fewer-reads}
+use Rattle.fl_ring.proofs.ReadsInTurn.{no_reads, more_reads, told_still}
+use Rattle.fl_table.proofs.MountProgress.{rows-still, unlisted-rises, fewer-reads}
 use Rattle.fl_table.proofs.Firsts.{remembers-more}
 use Rattle.fl_table.proofs.ListedPages.{HasPassed, passed-none, next-before, next-behind, listed-before, below-read, index-lies-read, come-still, seen-is, passed-page, fails-later, some-room, in-order, any-ok}
-use Rattle.fl_table.proofs.Sparing.{spared-none, spared-more, spared-reads, spared-within, ok-two}
+use Rattle.fl_table.proofs.SparedReads.{spared-none, spared-more, spared-reads, spared-within, ok-two}
 use Rattle.fl_table.proofs.by_entries.see_listed.Goals as goal
 
 pub loop-page-init : goal.loop-page-init

@@ -5,13 +5,13 @@ use Rattle.fl_flash.specs.Flash.{page_at}
 use Rattle.fl_index.specs.Page.{full_view}
 use Rattle.fl_index.specs.declared.page.Full as code
 use Rattle.fl_ring.proofs.Exists.{page_exists}
-use Rattle.fl_ring.proofs.Readings.{no_reads}
+use Rattle.fl_ring.proofs.ReadsInTurn.{no_reads}
 use Rattle.fl_table.specs.ByEntries.{mount_fault}
 use Rattle.fl_table.specs.Knowing.{IsWithin, is_waiting}
 use Rattle.fl_table.specs.declared.faults.MountFault.{MountFault}
 use Rattle.fl_table.proofs.Refused.{page-page}
 use Rattle.fl_table.proofs.ListedPages.{any-ok}
-use Rattle.fl_table.proofs.Sparing.{waiting-few, spared-none, spared-reads}
+use Rattle.fl_table.proofs.SparedReads.{waiting-few, spared-none, spared-reads}
 use Rattle.fl_table.proofs.by_entries.see_one.Goals as goal
 
 pub returns-in-Some-clause-knows : goal.returns-in-Some-clause-knows

@@ -7,9 +7,9 @@ use Rattle.fl_schema.specs.Schema.{layout_of}
 use Rattle.fl_table.specs.ByEntries.{Come, unlisted_of}
 use Rattle.fl_table.specs.Coming.{AreRowsOf, AreLoaded, AreNext}
 use Rattle.fl_table.specs.Knowing.{KnowsWith, IsWithin, ReadsBut, is_waiting}
-use Rattle.fl_ring.proofs.Readings.{no_reads, more_reads, told_still, same_page}
-use Rattle.fl_table.proofs.Sparing.{spared-none, spared-more, spared-within}
-use Rattle.fl_table.proofs.Comings.{rows-still, more-unlisted, unlisted-rises, fewer-reads}
+use Rattle.fl_ring.proofs.ReadsInTurn.{no_reads, more_reads, told_still, same_page}
+use Rattle.fl_table.proofs.SparedReads.{spared-none, spared-more, spared-within}
+use Rattle.fl_table.proofs.MountProgress.{rows-still, more-unlisted, unlisted-rises, fewer-reads}
 use Rattle.fl_table.proofs.by_entries.see_pages.Goals as goal
 
 pub returns-in_err-see_one-clause-knows : goal.returns-in_err-see_one-clause-knows

@@ -3,7 +3,7 @@ use Rattle.std.proofs.lemmas.Bool.{cases_lt, lt-ltb}
 use Rattle.std.proofs.lemmas.Result.{err_from_is_err_and}
 use Rattle.fl_table.specs.ByEntries.{has_rows}
 use Rattle.fl_table.specs.Knowing.{KnowsWith}
-use Rattle.fl_table.proofs.Seeing.{listed-rows, saw-entry, saw-listed}
+use Rattle.fl_table.proofs.ListedPageComes.{listed-rows, saw-entry, saw-listed}
 use Rattle.fl_table.proofs.known.see_entry.Goals as goal
 
 pub returns-then-full-eq0-clause-knows : goal.returns-then-full-eq0-clause-knows

@@ -5,7 +5,7 @@ use Rattle.fl_find.specs.Index.{IndexOf}
 use Rattle.fl_spline.specs.Points.{IsFurther}
 use Rattle.fl_table.specs.declared.known.Known.{Known}
 use Rattle.fl_table.specs.declared.known.PageFacts.{PageFacts}
-use Rattle.fl_table.proofs.Settling.{settle-refused, settle-blamed, settled, within-settled, none-of}
+use Rattle.fl_table.proofs.WaitingPageComes.{settle-refused, settle-blamed, settled, within-settled, none-of}
 use Rattle.fl_table.proofs.known.settle.Goals as goal
 
 pub returns-in_err-check_rise-clause-knows : goal.returns-in_err-check_rise-clause-knows

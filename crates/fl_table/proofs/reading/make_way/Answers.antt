@@ -1,7 +1,7 @@
 use Rattle.std.proofs.Common.{◌≡◌, ℕ, Some, Ok, sym, ◌∙◌, ap, arith}
 use Rattle.fl_ring.specs.Newest.{commits}
 use Rattle.std.proofs.lemmas.Result.{on_ok_weaker}
-use Rattle.fl_table.proofs.Sparing.{none-waits}
+use Rattle.fl_table.proofs.SparedReads.{none-waits}
 use Rattle.fl_table.proofs.reading.make_way.Goals as goal
 
 pub returns-clause-knows : goal.returns-clause-knows

@@ -4,7 +4,7 @@ use Rattle.fl_find.specs.Index.{IndexOf}
 use Rattle.fl_find.specs.Pages.{rows_on}
 use Rattle.fl_flash.specs.Flash.{page_at}
 use Rattle.fl_ring.proofs.Exists.{page_exists}
-use Rattle.fl_ring.proofs.Readings.{no_reads}
+use Rattle.fl_ring.proofs.ReadsInTurn.{no_reads}
 use Rattle.fl_schema.specs.Schema.{layout_of}
 use Rattle.fl_spline.specs.Points.{IsFurther}
 use Rattle.fl_table.specs.ByEntries.{mount_fault, read_fault}
@@ -14,10 +14,10 @@ use Rattle.fl_ring.specs.Looking.{OnlyReads}
 use Rattle.fl_table.specs.declared.known.Known.{Known}
 use Rattle.fl_table.specs.declared.known.Listed.{Listed}
 use Rattle.fl_table.specs.declared.known.PageFacts.{PageFacts}
-use Rattle.fl_table.proofs.Comings.{fewer-reads}
+use Rattle.fl_table.proofs.MountProgress.{fewer-reads}
 use Rattle.fl_table.proofs.Newest.{found-refused, found-blamed, found-all}
 use Rattle.fl_table.proofs.Refused.{page-no_flash, page-page}
-use Rattle.fl_table.proofs.StillStands.{read-once, read-fails}
+use Rattle.fl_table.proofs.ReadsKeepTable.{read-once, read-fails}
 use Rattle.fl_table.proofs.Unlisted.{read-some}
 use Rattle.fl_table.proofs.reading.read_newest.Goals as goal
 

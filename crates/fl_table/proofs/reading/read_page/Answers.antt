@@ -9,7 +9,7 @@ use Rattle.fl_table.specs.Knowing.{IsUnlisted}
 use Rattle.fl_table.specs.Reading.{bitmap_on}
 use Rattle.fl_table.specs.declared.faults.MountFault.{MountFault}
 use Rattle.fl_table.proofs.Refused.{page-pages, page-no_flash, page-page}
-use Rattle.fl_table.proofs.StillStands.{read-once, read-fails}
+use Rattle.fl_table.proofs.ReadsKeepTable.{read-once, read-fails}
 use Rattle.fl_table.proofs.reading.read_page.Goals as goal
 
 pub returns-clause-fails : goal.returns-clause-fails

@@ -9,12 +9,12 @@ use Rattle.fl_table.specs.Coming.{AreRowsOf}
 use Rattle.fl_table.specs.ByEntries.{Come}
 use Rattle.fl_table.specs.Knowing.{KnowsWith, IsWithin, IsUnlisted}
 use Rattle.fl_table.specs.Reading.{pages_of, GatherUpTo, bitmap_on, full_on}
-use Rattle.fl_table.proofs.Checking.{left-tail}
+use Rattle.fl_table.proofs.PageChecks.{left-tail}
 use Rattle.fl_table.proofs.FullEntries.{full-read}
-use Rattle.fl_table.proofs.Gathering.{gathers-none, gather-first, gather-room, gathers-more, gather-more}
-use Rattle.fl_table.proofs.Indexing.{plan-same, plan-then, ring-same, ring-then}
+use Rattle.fl_table.proofs.NotedEntries.{gathers-none, gather-first, gather-room, gathers-more, gather-more}
+use Rattle.fl_table.proofs.IndexOfTable.{plan-same, plan-then, ring-same, ring-then}
 use Rattle.fl_ring.proofs.Exists.{page_exists}
-use Rattle.fl_ring.proofs.Readings.{no_reads, more_reads, told_still, same_page}
+use Rattle.fl_ring.proofs.ReadsInTurn.{no_reads, more_reads, told_still, same_page}
 use Rattle.fl_table.proofs.reading.read_pages.Goals as goal
 
 pub read_page-requires : goal.read_page-requires

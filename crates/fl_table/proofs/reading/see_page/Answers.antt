@@ -10,7 +10,7 @@ use Rattle.fl_table.specs.declared.faults.MountFault.{MountFault}
 use Rattle.fl_table.specs.declared.known.Known.{Known}
 use Rattle.fl_table.specs.declared.known.PageFacts.{PageFacts}
 use Rattle.fl_table.proofs.Refused.{refused-refused}
-use Rattle.fl_table.proofs.Seeing.{within-void}
+use Rattle.fl_table.proofs.ListedPageComes.{within-void}
 use Rattle.fl_table.proofs.Unlisted.{unlisted-rows, saw-refused, saw-rows, saw-none, read-bare, some-committed, first-none, within-rows, within-more}
 use Rattle.fl_table.proofs.reading.see_page.Goals as goal
 

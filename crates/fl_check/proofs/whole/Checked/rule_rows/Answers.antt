@@ -12,7 +12,7 @@ use Rattle.fl_check.specs.RingRules.{OverPages}
 use Rattle.fl_check.specs.Ruled.{RingTold, KeysTold, RowsTold}
 use Rattle.fl_check.specs.Whole.{rows_shape, layout_in, IsRowsForm}
 use Rattle.fl_check.specs.declared.faults.RingFaults.{RingFaults}
-use Rattle.fl_check.proofs.Looking.{seen}
+use Rattle.fl_check.proofs.LooksChangeNothing.{seen}
 use Rattle.fl_check.proofs.TableTold.{keyless, rows_told}
 use Rattle.fl_check.proofs.whole.Checked.rule_rows.Goals as goal
 

@@ -1,6 +1,6 @@
 use Rattle.std.proofs.Common.{ℕ, Option, sym, subst}
 use Rattle.fl_cursor.specs.Ends.{EndsPages}
-use Rattle.fl_cursor.proofs.Ending.{ends-by}
+use Rattle.fl_cursor.proofs.BehindLastPage.{ends-by}
 use Rattle.fl_cursor.proofs.bookmark.Bookmark.end_of_pages.Goals as goal
 
 pub returns-in-Some : goal.returns-in-Some

@@ -2,7 +2,7 @@ use Rattle.std.proofs.Common.{◌≡◌, true, false, sym, ◌∙◌, rules}
 use Rattle.fl_page.specs.View.{rows_of}
 use Rattle.fl_schema.specs.Schema.{row_of}
 use Rattle.fl_cursor.specs.Asked.{asked_by, is_left, is_last}
-use Rattle.fl_cursor.proofs.Searching.{first-taken, first-last, first-next}
+use Rattle.fl_cursor.proofs.SearchedRows.{first-taken, first-last, first-next}
 use Rattle.fl_cursor.proofs.bookmark.Bookmark.first_in_page.Goals as goal
 
 pub returns-then-wants : goal.returns-then-wants

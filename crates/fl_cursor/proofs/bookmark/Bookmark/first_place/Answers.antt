@@ -2,7 +2,7 @@ use Rattle.std.proofs.Common.{rules, ◌≡◌, ◌≤◌, false, arith}
 use Rattle.fl_model.specs.Query.{is_up_to}
 use Rattle.fl_schema.specs.Schema.{row_of}
 use Rattle.fl_cursor.specs.Asked.{asked_by, lowest_of}
-use Rattle.fl_cursor.proofs.Starting.{starts-nowhere, starts-pending}
+use Rattle.fl_cursor.proofs.StartPlaces.{starts-nowhere, starts-pending}
 use Rattle.fl_cursor.proofs.bookmark.Bookmark.first_place.Goals as goal
 
 pub returns-then-not-is_up_to-clause-passes : goal.returns-then-not-is_up_to-clause-passes

@@ -2,12 +2,12 @@ use Rattle.std.proofs.Common.{rules, ◌≡◌, ◌<◌, ◌^◌, true, false, O
 use Rattle.std.specs.Borrow.{Bor}
 use Rattle.std.proofs.lemmas.Result.{err_from_is_err_and}
 use Rattle.fl_page.specs.Contents.{Contents, contents_of}
-use Rattle.fl_page.proofs.Reading.{OnlyReads-then}
+use Rattle.fl_page.proofs.ReadsInTurn.{OnlyReads-then}
 use Rattle.fl_table.specs.Memory.{next_in}
 use Rattle.fl_table.specs.declared.table.Table.{Table}
 use Rattle.fl_cursor.specs.Cursor.{is_end}
 use Rattle.fl_cursor.specs.Going.{Goes, Fails, is_at_pages, pages_left}
-use Rattle.fl_cursor.proofs.Ending.{ends-kept}
+use Rattle.fl_cursor.proofs.BehindLastPage.{ends-kept}
 use Rattle.fl_cursor.proofs.Whole.{goes-then, fails-then, goes-nowhere, here-after, behind-pages}
 use Rattle.fl_cursor.proofs.cursor.Cursor.advance.Goals as goal
 

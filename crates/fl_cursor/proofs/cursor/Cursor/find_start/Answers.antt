@@ -3,7 +3,7 @@ use Rattle.std.proofs.lemmas.Result.{err_from_is_err_and}
 use Rattle.fl_find.specs.Pages.{first_key}
 use Rattle.fl_flash.specs.Places.{page_of}
 use Rattle.fl_page.specs.Contents.{Contents, contents_of}
-use Rattle.fl_page.proofs.Reading.{OnlyReads-reads}
+use Rattle.fl_page.proofs.ReadsInTurn.{OnlyReads-reads}
 use Rattle.fl_search.specs.Search.{IsPageOf, RoseSome}
 use Rattle.fl_table.specs.Finding.{HoldsKept}
 use Rattle.fl_table.specs.Kept.{place_of}
@@ -11,8 +11,8 @@ use Rattle.fl_table.specs.Look.{oldest_in}
 use Rattle.fl_table.specs.Memory.{next_in}
 use Rattle.fl_cursor.specs.Listed.{rows_on}
 use Rattle.fl_cursor.specs.Reads.{most_to_find}
-use Rattle.fl_cursor.proofs.Beginning.{stands-moved, standing-start, few-reads}
-use Rattle.fl_cursor.proofs.Finding.{start-fails, start-none, start-some}
+use Rattle.fl_cursor.proofs.LowestPage.{stands-moved, standing-start, few-reads}
+use Rattle.fl_cursor.proofs.StartSearch.{start-fails, start-none, start-some}
 use Rattle.fl_cursor.proofs.Stood.{standing-tells}
 use Rattle.fl_cursor.proofs.cursor.Cursor.find_start.Goals as goal
 

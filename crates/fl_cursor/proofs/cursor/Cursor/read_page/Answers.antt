@@ -7,10 +7,10 @@ use Rattle.fl_page.specs.Page.{IsGoodPage}
 use Rattle.fl_table.specs.Look.{layout_in, rows_noted}
 use Rattle.fl_table.specs.Memory.{next_in}
 use Rattle.fl_cursor.specs.Cursor.{IsPlaced}
-use Rattle.fl_cursor.proofs.Ending.{pages-end, within-end}
+use Rattle.fl_cursor.proofs.BehindLastPage.{pages-end, within-end}
 use Rattle.fl_cursor.proofs.Indexed.{looked, looked-as, page-bytes}
-use Rattle.fl_cursor.proofs.Turning.{page-skipped, page-beyond, page-missed, page-entered, page-void, page-fails, look-fails}
-use Rattle.fl_page.proofs.Reading.{OnlyReads-then, IsCaused-later}
+use Rattle.fl_cursor.proofs.NextPages.{page-skipped, page-beyond, page-missed, page-entered, page-void, page-fails, look-fails}
+use Rattle.fl_page.proofs.ReadsInTurn.{OnlyReads-then, IsCaused-later}
 use Rattle.std.proofs.lemmas.Result.{err_from_is_err_and}
 use Rattle.fl_mark.specs.Mark.{state_of_page}
 use Rattle.fl_mark.specs.declared.page_state.PageState.TheVariants.{Committed}

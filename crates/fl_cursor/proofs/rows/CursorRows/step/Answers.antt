@@ -1,5 +1,5 @@
 use Rattle.fl_page.specs.Contents.{contents_of}
-use Rattle.fl_cursor.proofs.Stepping.{told-after, steps-after, most-after, least-after, none-left}
+use Rattle.fl_cursor.proofs.StepsOfRows.{told-after, steps-after, most-after, least-after, none-left}
 use Rattle.fl_cursor.proofs.rows.CursorRows.step.Goals as goal
 
 pub returns-clause-stays_told : goal.returns-clause-stays_told

@@ -1,5 +1,5 @@
 use Rattle.std.proofs.lemmas.Result.{IfErr-weaker}
-use Rattle.fl_find.proofs.Looks.{since-then, fails-later}
+use Rattle.fl_find.proofs.PageLooks.{since-then, fails-later}
 use Rattle.fl_find.proofs.Sound.{key-told, tells-looked}
 use Rattle.fl_find.proofs.keys.PageKeysFirstKeys.first_key.Goals as goal
 

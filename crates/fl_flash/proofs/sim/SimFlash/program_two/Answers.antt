@@ -3,7 +3,7 @@ use Rattle.fl_base.proofs.Ranges.{take_slice}
 use Rattle.fl_flash.specs.Flash.{FlashState, begin_of}
 use Rattle.fl_flash.specs.Programs.{left_at, ProgramsBoth}
 use Rattle.fl_flash.proofs.Blocks.{front_of_page}
-use Rattle.fl_flash.proofs.Joining.{both_after}
+use Rattle.fl_flash.proofs.PairWrites.{both_after}
 use Rattle.fl_flash.proofs.Pages.{page_within}
 use Rattle.fl_flash.proofs.Pairs.{pair_keeps}
 use Rattle.fl_flash.proofs.sim.SimFlash.program_two.Goals as goal

@@ -3,7 +3,7 @@ use Rattle.std.specs.Prelude.{slice_get}
 use Rattle.fl_base.specs.declared.stream.SourceFailed.{SourceFailed}
 use Rattle.fl_lines.specs.Stream.{LinesState, IsOneLine}
 use Rattle.fl_lines.proofs.Pieces.{advances-line}
-use Rattle.fl_lines.proofs.Leaving.{leaves-rest}
+use Rattle.fl_lines.proofs.LongLinesLeft.{leaves-rest}
 use Rattle.fl_lines.proofs.Untouched.{untouched-first, untouched-source, untouched-more, needs-more, told-more}
 use Rattle.fl_lines.proofs.lines.Lines.advance.Goals as goal
 

@@ -3,7 +3,7 @@ use Rattle.std.proofs.lemmas.Result.{err_from_is_err_and}
 use Rattle.fl_base.specs.Causes.{Appends, AppendsFront}
 use Rattle.fl_script.specs.Written.{Written}
 use Rattle.fl_map.specs.Drawn.{opening, closing}
-use Rattle.fl_map.proofs.Writing.{first-failed, second-failed, third-written}
+use Rattle.fl_map.proofs.ThreeTexts.{first-failed, second-failed, third-written}
 use Rattle.fl_map.proofs.canvas.Canvas.write.Goals as goal
 
 pub returns-in_err-write_all-clause-text : goal.returns-in_err-write_all-clause-text

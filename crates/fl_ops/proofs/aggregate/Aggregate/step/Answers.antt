@@ -4,12 +4,12 @@ use Rattle.fl_model.specs.Operators.{Group, column_of, aggregate}
 use Rattle.std.proofs.lemmas.Result.{err_from_is_err_and}
 use Rattle.fl_page.specs.Contents.{contents_of}
 use Rattle.fl_page.specs.Steps.{Ascends}
-use Rattle.fl_page.proofs.Reading.{OnlyReads-then, OnlyReads-reads, IsCaused-later}
+use Rattle.fl_page.proofs.ReadsInTurn.{OnlyReads-then, OnlyReads-reads, IsCaused-later}
 use Rattle.fl_ops.specs.Columns.{record_of, records_of}
 use Rattle.fl_ops.specs.Groups.{ungrouped}
 use Rattle.fl_ops.specs.Tally.{tally_of, tally_more, tallied, HasBounds}
-use Rattle.fl_ops.proofs.Climbing.{Climbs-rows}
-use Rattle.fl_ops.proofs.Continuing.{Continues-then}
+use Rattle.fl_ops.proofs.AscendingKeys.{Climbs-rows}
+use Rattle.fl_ops.proofs.ContinuedRows.{Continues-then}
 use Rattle.fl_ops.proofs.GroupLists.{take_group, take_group-more, take_group-stop, aggregate-taken}
 use Rattle.fl_ops.proofs.Room.{next_key, next_key-above}
 use Rattle.fl_ops.proofs.Sums.{HasBounds-later}

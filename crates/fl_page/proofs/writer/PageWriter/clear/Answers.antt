@@ -4,7 +4,7 @@ use Rattle.fl_base.specs.Bytes.{splice}
 use Rattle.fl_base.proofs.Ranges.{length-splice}
 use Rattle.fl_page.specs.Writer.{Gathers}
 use Rattle.fl_page.specs.WriterState.{WriterState}
-use Rattle.fl_page.proofs.Gathering.{cleared, Gathers-cleared}
+use Rattle.fl_page.proofs.WriterSteps.{cleared, Gathers-cleared}
 use Rattle.fl_page.proofs.writer.PageWriter.clear.Goals as goal
 
 pub returns-clause-exact : goal.returns-clause-exact

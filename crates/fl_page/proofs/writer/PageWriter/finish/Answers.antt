@@ -2,7 +2,7 @@ use Rattle.std.proofs.Common.{◌∙◌, ap, rules, sym, subst, arith}
 use Rattle.std.proofs.lemmas.Grind.{common_steps}
 use Rattle.fl_page.specs.Writer.{Gathers}
 use Rattle.fl_page.specs.WriterState.{WriterState}
-use Rattle.fl_page.proofs.Gathering.{Gathers-body, Gathers-finished}
+use Rattle.fl_page.proofs.WriterSteps.{Gathers-body, Gathers-finished}
 use Rattle.fl_page.proofs.writer.PageWriter.finish.Goals as goal
 
 pub returns-clause-exact : goal.returns-clause-exact

@@ -4,7 +4,7 @@ use Rattle.fl_model.specs.Row.{Row}
 use Rattle.fl_schema.specs.Schema.{types_of, layout_of}
 use Rattle.fl_page.specs.Writer.{Gathers}
 use Rattle.fl_page.specs.WriterState.{WriterState}
-use Rattle.fl_page.proofs.Gathering.{Gathers-push}
+use Rattle.fl_page.proofs.WriterSteps.{Gathers-push}
 use Rattle.fl_page.proofs.writer.PageWriter.push_row.Goals as goal
 
 pub returns-clause-exact : goal.returns-clause-exact

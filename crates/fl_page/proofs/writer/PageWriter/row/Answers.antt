@@ -3,7 +3,7 @@ use Rattle.fl_model.specs.Record.{RowLayout, layout_len}
 use Rattle.fl_model.specs.Row.{row_in}
 use Rattle.fl_schema.specs.Schema.{types_of, layout_of, layout_of_row, bytes_of}
 use Rattle.fl_page.specs.WriterState.{WriterState}
-use Rattle.fl_page.proofs.Gathering.{row_part, row_gathered}
+use Rattle.fl_page.proofs.WriterSteps.{row_part, row_gathered}
 use Rattle.fl_page.proofs.writer.PageWriter.row.Goals as goal
 
 pub returns-clause-bytes : goal.returns-clause-bytes

@@ -1,6 +1,6 @@
 use Rattle.std.proofs.Common.{arith}
 use Rattle.fl_radix.specs.Slots.{IsStart}
-use Rattle.fl_radix.proofs.Rising.{at-push}
+use Rattle.fl_radix.proofs.RisingKnots.{at-push}
 use Rattle.fl_radix.proofs.radix.Radix.follow.Goals as goal
 
 pub loop-slot-preserved : goal.loop-slot-preserved

@@ -2,7 +2,7 @@ use Rattle.std.proofs.Common.{arith, refl, ◌<◌, length}
 use Rattle.fl_spline.specs.Points.{Rises, LastMoved}
 use Rattle.fl_radix.specs.Radix.{IsTableOf}
 use Rattle.fl_radix.specs.Slots.{slot_of, last_key}
-use Rattle.fl_radix.proofs.Passing.{table-moved, passed-refilled}
+use Rattle.fl_radix.proofs.PassedSlots.{table-moved, passed-refilled}
 use Rattle.fl_radix.proofs.radix.Radix.follow_last.Goals as goal
 
 pub returns : goal.returns

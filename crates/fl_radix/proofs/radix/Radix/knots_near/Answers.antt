@@ -1,7 +1,7 @@
 use Rattle.std.proofs.Common.{arith, ◌+◌, ◌-◌, ◌<◌, ◌≤◌}
 use Rattle.fl_radix.specs.Radix.{shift_of}
 use Rattle.fl_radix.specs.Slots.{slot_of, last_key}
-use Rattle.fl_radix.proofs.Rising.{slot-within, slot-between, slot-last}
+use Rattle.fl_radix.proofs.RisingKnots.{slot-within, slot-between, slot-last}
 use Rattle.fl_radix.proofs.radix.Radix.knots_near.Goals as goal
 
 pub returns-then-slot : goal.returns-then-slot

@@ -1,9 +1,9 @@
 use Rattle.std.proofs.Common.{refl}
 use Rattle.fl_model.specs.Work.{Erase}
 use Rattle.fl_ring.specs.Ring.{erased}
-use Rattle.fl_ring.proofs.Erasing.{erase_ok, erase_any, erase_exact}
+use Rattle.fl_ring.proofs.EraseAhead.{erase_ok, erase_any, erase_exact}
 use Rattle.fl_ring.proofs.Exists.{ahead_exists}
-use Rattle.fl_ring.proofs.Operating.{operates_erase, step_erase}
+use Rattle.fl_ring.proofs.OperationsOutside.{operates_erase, step_erase}
 use Rattle.fl_ring.proofs.ring.Ring.erase_ahead.Goals as goal
 
 pub returns-clause-operates : goal.returns-clause-operates

@@ -4,7 +4,7 @@ use Rattle.fl_model.specs.Work.{VoidMark}
 use Rattle.fl_ring.specs.Place.{shape_of}
 use Rattle.fl_ring.specs.Ring.{place, voided}
 use Rattle.fl_ring.proofs.Exists.{lies_exists}
-use Rattle.fl_ring.proofs.Operating.{operates_program, step_program, others_by}
+use Rattle.fl_ring.proofs.OperationsOutside.{operates_program, step_program, others_by}
 use Rattle.fl_ring.proofs.Voids.{void_any, void_ok, void_exact}
 use Rattle.fl_ring.proofs.ring.Ring.void_page.Goals as goal
 

@@ -11,8 +11,8 @@ use Rattle.fl_ring.specs.Place.{next_of, oldest_of, shape_of}
 use Rattle.fl_ring.specs.Ring.{Shape}
 use Rattle.fl_ring.specs.declared.fault.RingFault.{RingFault}
 use Rattle.fl_ring.specs.declared.ring.Ring.{Ring}
-use Rattle.fl_rlc.proofs.Mountings.{few-read, good, mount-well, mount-badly, mount-fault, mount-err}
-use Rattle.fl_rlc.proofs.Sealings.{pages-size}
+use Rattle.fl_rlc.proofs.MountsInTable.{few-read, good, mount-well, mount-badly, mount-fault, mount-err}
+use Rattle.fl_rlc.proofs.SealsInTable.{pages-size}
 use Rattle.fl_rlc.proofs.States.{state_of}
 use Rattle.fl_rlc.proofs.Writers.{kept-clear}
 use Rattle.fl_rlc.proofs.log.RecordLog.mount.Goals as goal

@@ -13,7 +13,7 @@ use Rattle.fl_ring.specs.Sealing.{Performed}
 use Rattle.fl_index.proofs.SealAnswers.{seal-on}
 use Rattle.fl_rlc.specs.Memory.{next_in}
 use Rattle.fl_rlc.specs.Pages.{log_body}
-use Rattle.fl_rlc.proofs.Sealings.{seal-breaks, seal-finishes, seal-err, ready, pages-size, next-is}
+use Rattle.fl_rlc.proofs.SealsInTable.{seal-breaks, seal-finishes, seal-err, ready, pages-size, next-is}
 use Rattle.fl_rlc.proofs.States.{state_of}
 use Rattle.fl_ring.specs.Mounting.{shape_at}
 use Rattle.fl_ring.specs.declared.ring.Ring.{Ring}

@@ -7,8 +7,8 @@ use Rattle.fl_model.specs.Table.{Table}
 use Rattle.fl_model.specs.Work.{Device}
 use Rattle.fl_ring.specs.declared.ring.Ring.{Ring}
 use Rattle.fl_ring.specs.Step.{IsWatched}
-use Rattle.fl_ring.proofs.Readings.{goes_more}
-use Rattle.fl_table.proofs.Following.{watched-front, watched-then}
+use Rattle.fl_ring.proofs.ReadsInTurn.{goes_more}
+use Rattle.fl_table.proofs.SealsInTurn.{watched-front, watched-then}
 use Rattle.fl_table.proofs.MountJoined.{mount-cause-later}
 use Rattle.fl_table.proofs.SealAnswers.{same-then}
 use Rattle.fl_table.proofs.Sizes.{table-fits}

@@ -7,7 +7,7 @@ use Rattle.fl_flash.specs.declared.flash.FlashFault.TheVariants.{PowerLost}
 use Rattle.fl_model.specs.Bare.{bare, bare_table, log_of, beside}
 use Rattle.fl_model.specs.Record.{Record, RowLayout, blocks_of}
 use Rattle.fl_model.specs.Table.{put_record}
-use Rattle.fl_table.proofs.Following.{watched-front, watched-then, cause-later}
+use Rattle.fl_table.proofs.SealsInTurn.{watched-front, watched-then, cause-later}
 use Rattle.fl_table.proofs.PutAnswers.{map-twice, and-true}
 use Rattle.fl_schema.specs.Schema.{layout_of}
 use Rattle.fl_table.specs.Refusal.{RefusesAs}
@@ -19,7 +19,7 @@ use Rattle.fl_rlc.specs.Refusal.{put_refusal, NeedsNoOperation}
 use Rattle.fl_rlc.specs.Rows.{RowEnds, HaveLogged}
 use Rattle.fl_rlc.proofs.PutEnded.{logged-refused, logged-accepted, failed-ends, row-failed, row-done, bare-none, log-none}
 use Rattle.fl_rlc.proofs.PutFrames.{log-self, log-lies, blobs-same, room-same, logged-calm, refused-same, flash-alone, log-outside, some-same, and-left, and-false, not-both}
-use Rattle.fl_ring.proofs.Readings.{no_reads, goes_more}
+use Rattle.fl_ring.proofs.ReadsInTurn.{no_reads, goes_more}
 use Rattle.fl_model.specs.Record.{layout_len}
 use Rattle.fl_model.specs.Row.{FitsRow}
 use Rattle.fl_rlc.specs.Memory.{page_len}
@@ -28,7 +28,7 @@ use Rattle.fl_rlc.proofs.PowerOff.{idle-put}
 use Rattle.fl_table.proofs.Refusals.{told-running, fits-row, calm-cause}
 use Rattle.fl_table.proofs.SealAnswers.{plan-self, same-then}
 use Rattle.fl_table.proofs.Sizes.{table-fits}
-use Rattle.fl_table.proofs.StillStands.{lies-moved}
+use Rattle.fl_table.proofs.ReadsKeepTable.{lies-moved}
 use Rattle.fl_table.specs.Memory as table_words
 use Rattle.fl_rlc.proofs.Sizes.{logged-fits}
 use Rattle.fl_rlc.proofs.table.LoggedTable.put.Goals as goal

@@ -8,7 +8,7 @@ use Rattle.fl_model.specs.Record.{columns_len}
 use Rattle.fl_model.specs.Row.{le}
 use Rattle.fl_schema.proofs.Numbers.{length-le}
 use Rattle.fl_schema.proofs.Places.{length-columns_in, fits_at, place_within}
-use Rattle.fl_schema.proofs.Writing.{Written-more}
+use Rattle.fl_schema.proofs.RowColumns.{Written-more}
 use Rattle.fl_schema.proofs.schema.Schema.encode.Goals as goal
 
 pub write-requires-in-loop-i-clause-fits : goal.write-requires-in-loop-i-clause-fits

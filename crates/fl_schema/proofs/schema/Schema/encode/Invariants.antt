@@ -1,7 +1,7 @@
 use Rattle.std.proofs.Common.{length}
 use Rattle.fl_model.specs.Row.{le}
 use Rattle.fl_schema.specs.Form.{key_width}
-use Rattle.fl_schema.proofs.Writing.{Written}
+use Rattle.fl_schema.proofs.RowColumns.{Written}
 use Rattle.fl_schema.proofs.schema.Schema.encode.Given as goal
 
 abbrev pub invariant-loop-i : goal.invariant-loop-i

@@ -1,6 +1,6 @@
 use Rattle.std.proofs.Common.{ap}
 use Rattle.fl_model.specs.Record.{RowLayout}
-use Rattle.fl_session.proofs.Generating.{signs-more}
+use Rattle.fl_session.proofs.LoadedValues.{signs-more}
 use Rattle.fl_session.proofs.generator.Generator.new.Goals as goal
 
 pub loop-i-preserved : goal.loop-i-preserved

@@ -1,4 +1,4 @@
-use Rattle.fl_session.proofs.Generating.{values_so_far-all}
+use Rattle.fl_session.proofs.LoadedValues.{values_so_far-all}
 use Rattle.fl_session.proofs.generator.Generator.values.Goals as goal
 
 pub returns : goal.returns

@@ -1,4 +1,4 @@
-use Rattle.fl_session.proofs.Generating.{ValuesSoFar}
+use Rattle.fl_session.proofs.LoadedValues.{ValuesSoFar}
 use Rattle.fl_session.proofs.generator.Generator.values.Given as goal
 
 abbrev pub invariant-loop-i : goal.invariant-loop-i

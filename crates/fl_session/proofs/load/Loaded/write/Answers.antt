@@ -1,5 +1,5 @@
 use Rattle.std.proofs.Common.{sym, ◌∙◌}
-use Rattle.fl_script.proofs.Sending.{written-err}
+use Rattle.fl_script.proofs.SinkPieces.{written-err}
 use Rattle.fl_session.proofs.LoadLines.{front-first, front-second}
 use Rattle.fl_session.proofs.load.Loaded.write.Goals as goal
 

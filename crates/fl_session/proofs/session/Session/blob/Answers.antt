@@ -1,12 +1,12 @@
 use Rattle.std.proofs.Common.{◌≡◌, ◌-◌, ◌^◌, ◌<◌, Some, rules, refl, ap, arith, inl, inr}
 use Rattle.std.specs.List.{slice_get}
 use Rattle.fl_flash.specs.declared.flash.Work.{Work}
-use Rattle.fl_session.proofs.Blobbing.{blob-executes, blob-refused}
-use Rattle.fl_session.proofs.Costing.{has-read}
-use Rattle.fl_session.proofs.Getting.{goes-reads}
-use Rattle.fl_session.proofs.Owning.{reached-here, reached-within}
+use Rattle.fl_session.proofs.BlobReplies.{blob-executes, blob-refused}
+use Rattle.fl_session.proofs.CountedReads.{has-read}
+use Rattle.fl_session.proofs.GetReplies.{goes-reads}
+use Rattle.fl_session.proofs.NamedTable.{reached-here, reached-within}
 use Rattle.fl_session.proofs.Sound.{sound-read}
-use Rattle.fl_session.proofs.Causing.{refusal-says, says-written, is-here, only-looks}
+use Rattle.fl_session.proofs.ReplyCauses.{refusal-says, says-written, is-here, only-looks}
 use Rattle.fl_store.proofs.Queried.{lies-unlogged, runs-unlogged}
 use Rattle.fl_session.proofs.session.Session.blob.Goals as goal
 

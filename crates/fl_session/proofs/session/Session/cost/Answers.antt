@@ -1,4 +1,4 @@
-use Rattle.fl_session.proofs.Costing.{cost-answers}
+use Rattle.fl_session.proofs.CountedReads.{cost-answers}
 use Rattle.fl_session.specs.Cost.{cost_of}
 use Rattle.fl_machine.specs.Step.{cost_reply}
 use Rattle.std.proofs.Common.{refl}

@@ -1,10 +1,10 @@
 use Rattle.std.proofs.Common.{rules, ◌≡◌, ◌∙◌, true, Some, not, refl, sym, ap, inr}
 use Rattle.std.specs.List.{slice_get}
 use Rattle.fl_session.proofs.Calls.{flush-call}
-use Rattle.fl_session.proofs.Owning.{reached-here, reached-within}
-use Rattle.fl_session.proofs.Refusing.{flush-refused_so}
+use Rattle.fl_session.proofs.NamedTable.{reached-here, reached-within}
+use Rattle.fl_session.proofs.RefusedCommands.{flush-refused_so}
 use Rattle.fl_session.proofs.Sound.{sound-with, runs-after}
-use Rattle.fl_session.proofs.Causing.{on-refusal, is-here, flush-fails, kept-state}
+use Rattle.fl_session.proofs.ReplyCauses.{on-refusal, is-here, flush-fails, kept-state}
 use Rattle.fl_table.specs.Causes.{flush_breaks}
 use Rattle.fl_rlc.specs.Table.{is_running}
 use Rattle.fl_store.specs.Replies.{flush_reply}

@@ -2,11 +2,11 @@ use Rattle.std.proofs.Common.{◌≡◌, ◌-◌, ◌^◌, ◌<◌, Some, rules,
 use Rattle.std.specs.List.{slice_get}
 use Rattle.fl_flash.specs.declared.flash.Work.{Work}
 use Rattle.fl_session.specs.declared.cost.Cost.TheVariants.{OfGet}
-use Rattle.fl_session.proofs.Costing.{has-read}
-use Rattle.fl_session.proofs.Getting.{get-executes, get-refused, goes-reads, look-said}
-use Rattle.fl_session.proofs.Owning.{reached-here, reached-within}
+use Rattle.fl_session.proofs.CountedReads.{has-read}
+use Rattle.fl_session.proofs.GetReplies.{get-executes, get-refused, goes-reads, look-said}
+use Rattle.fl_session.proofs.NamedTable.{reached-here, reached-within}
 use Rattle.fl_session.proofs.Sound.{sound-read}
-use Rattle.fl_session.proofs.Causing.{on-refusal, says-written, is-here, only-looks}
+use Rattle.fl_session.proofs.ReplyCauses.{on-refusal, says-written, is-here, only-looks}
 use Rattle.fl_store.proofs.Queried.{lies-unlogged, runs-unlogged}
 use Rattle.fl_session.proofs.session.Session.get.Goals as goal
 

@@ -1,9 +1,9 @@
 use Rattle.std.proofs.Common.{◌≡◌, Some, not, refl, ap, inl, inr}
 use Rattle.std.specs.List.{slice_get}
 use Rattle.fl_session.proofs.LoadLines.{load-executes, load-refused}
-use Rattle.fl_session.proofs.Owning.{reached-here, reached-within}
+use Rattle.fl_session.proofs.NamedTable.{reached-here, reached-within}
 use Rattle.fl_session.proofs.Sound.{sound-with, runs-after}
-use Rattle.fl_session.proofs.Causing.{refusal-says, says-written, is-here}
+use Rattle.fl_session.proofs.ReplyCauses.{refusal-says, says-written, is-here}
 use Rattle.fl_session.proofs.session.Session.load.Goals as goal
 
 pub returns-in-Err-clause-step : goal.returns-in-Err-clause-step

@@ -1,11 +1,11 @@
 use Rattle.std.proofs.Common.{◌≡◌, true, IsTrue, refl, sym, ap, subst, arith, inl, inr}
 use Rattle.fl_flash.specs.Flash.{FlashState}
 use Rattle.fl_store.specs.Tables.{LieOn}
-use Rattle.fl_store.proofs.Going.{goes-set}
-use Rattle.fl_store.proofs.Lying.{lie-on}
+use Rattle.fl_store.proofs.CallsInTurn.{goes-set}
+use Rattle.fl_store.proofs.TablesLie.{lie-on}
 use Rattle.fl_session.proofs.Calls.{mount-call, already-call}
 use Rattle.fl_session.proofs.MountReads.{limit-call}
-use Rattle.fl_session.proofs.Causing.{mounts-on}
+use Rattle.fl_session.proofs.ReplyCauses.{mounts-on}
 use Rattle.fl_session.specs.Answer.{mount_reply}
 use Rattle.fl_words.specs.Reply as reply
 use Rattle.fl_session.proofs.session.Session.mount.Goals as goal

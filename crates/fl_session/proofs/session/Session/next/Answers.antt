@@ -4,11 +4,11 @@ use Rattle.std.specs.List.{slice_get}
 use Rattle.fl_flash.specs.declared.flash.Work.{Work}
 use Rattle.fl_store.proofs.TablesChanged.{item-there}
 use Rattle.fl_session.specs.declared.notes.TableCursor.{TableCursor}
-use Rattle.fl_session.proofs.Costing.{has-read}
+use Rattle.fl_session.proofs.CountedReads.{has-read}
 use Rattle.fl_session.proofs.CursorMoves.{next-executes, next-off, next-none}
-use Rattle.fl_session.proofs.Getting.{goes-reads}
+use Rattle.fl_session.proofs.GetReplies.{goes-reads}
 use Rattle.fl_session.proofs.Sound.{sound-read, cursors-set}
-use Rattle.fl_session.proofs.Causing.{only-looks}
+use Rattle.fl_session.proofs.ReplyCauses.{only-looks}
 use Rattle.fl_words.specs.Reply as reply
 use Rattle.fl_store.proofs.Queried.{lies-unlogged, runs-unlogged}
 use Rattle.fl_session.proofs.session.Session.next.Goals as goal

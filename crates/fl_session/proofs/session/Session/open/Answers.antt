@@ -1,14 +1,14 @@
 use Rattle.std.proofs.Common.{◌≡◌, ◌<◌, Some, Option, length, refl, ◌∙◌, ap, subst, inr}
 use Rattle.std.specs.List.{slice_get}
 use Rattle.std.specs.Prelude.{option_map, unwrap_or}
-use Rattle.fl_store.proofs.Going.{goes-same}
+use Rattle.fl_store.proofs.CallsInTurn.{goes-same}
 use Rattle.fl_table.specs.declared.table.Table.{Table}
 use Rattle.fl_session.specs.Caused.{mark_on}
 use Rattle.fl_session.specs.declared.notes.TableCursor.{TableCursor}
 use Rattle.fl_session.proofs.CursorsOf.{open-call, open-refused}
-use Rattle.fl_session.proofs.Owning.{reached-here, reached-within}
+use Rattle.fl_session.proofs.NamedTable.{reached-here, reached-within}
 use Rattle.fl_session.proofs.Sound.{sound-read, cursors-set}
-use Rattle.fl_session.proofs.Causing.{on-refusal, is-here, opened}
+use Rattle.fl_session.proofs.ReplyCauses.{on-refusal, is-here, opened}
 use Rattle.fl_words.specs.Reply as reply
 use Rattle.fl_store.proofs.Queried.{runs-unlogged}
 use Rattle.fl_session.proofs.session.Session.open.Goals as goal

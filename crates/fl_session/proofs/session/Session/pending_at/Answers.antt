@@ -1,7 +1,7 @@
 use Rattle.std.proofs.Common.{◌≡◌, ◌<◌, Some, length, refl, sym, arith}
 use Rattle.std.specs.List.{slice_get}
 use Rattle.fl_store.proofs.TablesChanged.{item-there}
-use Rattle.fl_session.proofs.Telling.{pending-off, pending-zero, pending-some}
+use Rattle.fl_session.proofs.ToldOfTable.{pending-off, pending-zero, pending-some}
 use Rattle.fl_session.proofs.session.Session.pending_at.Goals as goal
 
 pub returns-then-not-self : goal.returns-then-not-self

@@ -1,10 +1,10 @@
 use Rattle.std.proofs.Common.{rules, ◌≡◌, ◌∙◌, Some, ℕ, List, not, refl, ap, subst, sym, inr}
 use Rattle.std.specs.List.{slice_get}
 use Rattle.fl_session.proofs.Calls.{put-call}
-use Rattle.fl_session.proofs.Owning.{reached-here, reached-within}
-use Rattle.fl_session.proofs.Refusing.{put-refused_so}
+use Rattle.fl_session.proofs.NamedTable.{reached-here, reached-within}
+use Rattle.fl_session.proofs.RefusedCommands.{put-refused_so}
 use Rattle.fl_session.proofs.Sound.{sound-with, runs-after}
-use Rattle.fl_session.proofs.Causing.{on-refusal, is-here, put-fails-so}
+use Rattle.fl_session.proofs.ReplyCauses.{on-refusal, is-here, put-fails-so}
 use Rattle.fl_store.specs.Replies.{put_reply}
 use Rattle.fl_table.specs.Refusal.{RefusesAs}
 use Rattle.fl_rlc.specs.Refusal.{put_refusal}

@@ -2,12 +2,12 @@ use Rattle.std.proofs.Common.{◌≡◌, ◌-◌, ◌^◌, ◌<◌, Some, rules,
 use Rattle.std.specs.List.{slice_get}
 use Rattle.fl_flash.specs.declared.flash.Work.{Work}
 use Rattle.fl_session.specs.declared.cost.Cost.TheVariants.{OfScan}
-use Rattle.fl_session.proofs.Costing.{has-read}
-use Rattle.fl_session.proofs.Getting.{goes-reads}
-use Rattle.fl_session.proofs.Owning.{reached-here, reached-within}
-use Rattle.fl_session.proofs.Scanning.{scan-executes, scan-refused}
+use Rattle.fl_session.proofs.CountedReads.{has-read}
+use Rattle.fl_session.proofs.GetReplies.{goes-reads}
+use Rattle.fl_session.proofs.NamedTable.{reached-here, reached-within}
+use Rattle.fl_session.proofs.ScanReplies.{scan-executes, scan-refused}
 use Rattle.fl_session.proofs.Sound.{sound-read}
-use Rattle.fl_session.proofs.Causing.{refusal-says, says-written, is-here, only-looks}
+use Rattle.fl_session.proofs.ReplyCauses.{refusal-says, says-written, is-here, only-looks}
 use Rattle.fl_store.proofs.Queried.{lies-unlogged, runs-unlogged}
 use Rattle.fl_session.proofs.session.Session.scan.Goals as goal
 

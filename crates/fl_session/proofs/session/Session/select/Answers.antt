@@ -9,13 +9,13 @@ use Rattle.fl_words.specs.Command as words
 use Rattle.fl_words.specs.Reply.{Reply}
 use Rattle.fl_machine.specs.Step.{note_of, records_of}
 use Rattle.fl_session.specs.Asked.{lacked_column}
-use Rattle.fl_session.proofs.Answering.{step-is}
-use Rattle.fl_session.proofs.Costing.{has-read}
-use Rattle.fl_session.proofs.Getting.{goes-reads}
-use Rattle.fl_session.proofs.Owning.{reached-here, reached-within}
+use Rattle.fl_session.proofs.CommandReplies.{step-is}
+use Rattle.fl_session.proofs.CountedReads.{has-read}
+use Rattle.fl_session.proofs.GetReplies.{goes-reads}
+use Rattle.fl_session.proofs.NamedTable.{reached-here, reached-within}
 use Rattle.fl_session.proofs.Sound.{sound-roomed}
 use Rattle.fl_session.proofs.Operations.{operator-executes, operator-no_column, operator-refused, has-column, lacks-column}
-use Rattle.fl_session.proofs.Causing.{refusal-says, says-written, is-here, only-looks, lacks-one, lacks-says, has-one, has-says}
+use Rattle.fl_session.proofs.ReplyCauses.{refusal-says, says-written, is-here, only-looks, lacks-one, lacks-says, has-one, has-says}
 use Rattle.fl_store.proofs.Queried.{lies-unlogged, runs-unlogged}
 use Rattle.fl_session.proofs.Unlogged.{notes-bare}
 use Rattle.fl_session.proofs.session.Session.select.Goals as goal

@@ -1,9 +1,9 @@
 use Rattle.std.proofs.Common.{◌≡◌, Some, ap, refl, inr, ◌∙◌}
 use Rattle.std.specs.List.{slice_get}
 use Rattle.fl_flash.specs.declared.flash.Work.{Work}
-use Rattle.fl_session.proofs.Owning.{reached-here, reached-within}
-use Rattle.fl_session.proofs.Stating.{stat-call, stat-refused}
-use Rattle.fl_session.proofs.Causing.{on-refusal, is-here}
+use Rattle.fl_session.proofs.NamedTable.{reached-here, reached-within}
+use Rattle.fl_session.proofs.StatReply.{stat-call, stat-refused}
+use Rattle.fl_session.proofs.ReplyCauses.{on-refusal, is-here}
 use Rattle.fl_words.specs.Reply as reply
 use Rattle.fl_table.specs.declared.counts.TableCounts.{TableCounts}
 use Rattle.fl_rlc.specs.Table.{table_in}

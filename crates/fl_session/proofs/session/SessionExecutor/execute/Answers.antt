@@ -2,12 +2,12 @@ use Rattle.std.proofs.Common.{FitsSigned, rules, refl, sym, arith}
 use Rattle.std.proofs.lemmas.Int.{to_z-of_z}
 use Rattle.std.specs.Int.{w64}
 use Rattle.fl_base.specs.declared.stream.SinkFailed.{SinkFailed}
-use Rattle.fl_store.proofs.Going.{goes-same}
+use Rattle.fl_store.proofs.CallsInTurn.{goes-same}
 use Rattle.fl_session.proofs.StepsOf.{default-view, executes-nothing}
-use Rattle.fl_session.proofs.Answering.{executes-answered}
+use Rattle.fl_session.proofs.CommandReplies.{executes-answered}
 use Rattle.fl_session.proofs.Operations.{select-by}
 use Rattle.fl_session.proofs.MountReads.{executes-mounted}
-use Rattle.fl_session.proofs.Causing.{caused-nothing, says-written}
+use Rattle.fl_session.proofs.ReplyCauses.{caused-nothing, says-written}
 use Rattle.fl_session.proofs.session.SessionExecutor.execute.Goals as goal
 use Rattle.fl_session.proofs.session.SessionExecutor.execute.Goals.{in-Mount, in-Off, in-Cut, in-Put, in-Flush, in-Stat, in-Open, in-Close, in-Cost}
 

@@ -1,8 +1,8 @@
 use Rattle.std.proofs.Common.{◌≡◌, Some}
 use Rattle.std.specs.List.{slice_get}
 use Rattle.fl_session.specs.Held.{TellsLast}
-use Rattle.fl_session.proofs.Owning.{reached-here, reached-within}
-use Rattle.fl_session.proofs.Telling.{told-refused, last-told}
+use Rattle.fl_session.proofs.NamedTable.{reached-here, reached-within}
+use Rattle.fl_session.proofs.ToldOfTable.{told-refused, last-told}
 use Rattle.fl_session.proofs.session.SessionExecutor.last_key.Goals as goal
 
 pub returns-in-Err : goal.returns-in-Err

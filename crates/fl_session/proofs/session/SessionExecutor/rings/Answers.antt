@@ -1,8 +1,8 @@
 use Rattle.std.proofs.Common.{◌≡◌, Some, refl}
 use Rattle.std.specs.List.{slice_get}
 use Rattle.fl_session.specs.Held.{TellsRings}
-use Rattle.fl_session.proofs.Owning.{reached-here, reached-within}
-use Rattle.fl_session.proofs.Telling.{told-refused, rings-told}
+use Rattle.fl_session.proofs.NamedTable.{reached-here, reached-within}
+use Rattle.fl_session.proofs.ToldOfTable.{told-refused, rings-told}
 use Rattle.fl_session.proofs.session.SessionExecutor.rings.Goals as goal
 
 pub returns-in-Err : goal.returns-in-Err

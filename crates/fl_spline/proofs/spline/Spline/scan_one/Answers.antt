@@ -1,6 +1,6 @@
 use Rattle.std.proofs.Common.{arith, rules, ap, ◌≡◌, ◌∷◌, [], length, Some, None, length-append}
 use Rattle.fl_spline.proofs.Scans.{scan-first, scan-break, scan-second, scan-more}
-use Rattle.fl_spline.proofs.Moved.{moved-push, moved-replace}
+use Rattle.fl_spline.proofs.MovedPoints.{moved-push, moved-replace}
 use Rattle.fl_spline.specs.Points.{IsPast, Rises, last_of}
 use Rattle.fl_spline.proofs.spline.Spline.scan_one.Goals as goal
 

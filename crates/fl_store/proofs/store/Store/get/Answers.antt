@@ -1,12 +1,12 @@
 use Rattle.std.proofs.Common.{rules, ◌≡◌, Some, refl, sym, ◌∙◌, ap}
 use Rattle.std.specs.List.{slice_get}
 use Rattle.fl_model.specs.Bare.{bare, bare_table}
-use Rattle.fl_page.proofs.Reading.{OnlyReads-goes}
+use Rattle.fl_page.proofs.ReadsInTurn.{OnlyReads-goes}
 use Rattle.fl_store.specs.Tables.{first_of}
 use Rattle.fl_store.proofs.Called.{entry-at}
-use Rattle.fl_store.proofs.Lying.{lie-on}
+use Rattle.fl_store.proofs.TablesLie.{lie-on}
 use Rattle.fl_store.proofs.Queried.{fails-at, get-ends, lies-unlogged, rows-in, runs-unlogged, stands-at}
-use Rattle.fl_store.proofs.Reading.{page-read, tables-read}
+use Rattle.fl_store.proofs.TablesOnlyRead.{page-read, tables-read}
 use Rattle.fl_store.proofs.Worked.{medium-goes}
 use Rattle.fl_store.proofs.store.Store.get.Goals as goal
 

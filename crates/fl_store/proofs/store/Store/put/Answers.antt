@@ -1,7 +1,7 @@
 use Rattle.std.proofs.Common.{rules, ◌≡◌, Some}
 use Rattle.std.specs.List.{slice_get}
 use Rattle.fl_store.proofs.Called.{entry-at, put-ends, put-refused, put-runs, stands-here}
-use Rattle.fl_store.proofs.Lying.{lie-with}
+use Rattle.fl_store.proofs.TablesLie.{lie-with}
 use Rattle.fl_store.proofs.TablesChanged.{some-is}
 use Rattle.fl_store.specs.Tables.{first_of}
 use Rattle.fl_store.proofs.store.Store.put.Goals as goal

@@ -11,13 +11,13 @@ use Rattle.fl_store.specs.Mounting.{AreUnlogged, MountsInTurn, OutsideStands, ri
 use Rattle.fl_store.specs.Tables.{first_of}
 use Rattle.fl_store.specs.declared.tables.Entry.{Entry}
 use Rattle.fl_store.proofs.InTurn.{turn-before, turn-more, repairs-none, repairs-more, outside-none, outside-more}
-use Rattle.fl_store.proofs.Going.{goes-same, goes-on, rose-front, rose-back}
-use Rattle.fl_store.proofs.Lying.{lie-with, running-more}
+use Rattle.fl_store.proofs.CallsInTurn.{goes-same, goes-on, rose-front, rose-back}
+use Rattle.fl_store.proofs.TablesLie.{lie-with, running-more}
 use Rattle.fl_store.proofs.Planned.{plans-still, plans-with}
 use Rattle.fl_store.proofs.MountedSoFar.{mounted-none, mounted-more, mounted-err, mounted-all, own, was, was_at, stood}
 use Rattle.fl_store.proofs.TableRepairs.{known-before, known-there, left-next, left-none}
 use Rattle.fl_store.proofs.TablesReads.{reads-more, reads-most, limit-more, limit-most}
-use Rattle.fl_store.proofs.Stopping.{name-after, stops-at}
+use Rattle.fl_store.proofs.MountStops.{name-after, stops-at}
 use Rattle.fl_store.proofs.TablesChanged.{item-there, set-elsewhere}
 use Rattle.fl_store.proofs.tables.Tables.mount.Goals as goal
 

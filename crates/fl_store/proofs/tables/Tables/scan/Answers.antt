@@ -7,7 +7,7 @@ use Rattle.fl_table.specs.declared.table.Table.{Table}
 use Rattle.fl_store.specs.Tables.{first_of}
 use Rattle.fl_store.proofs.Called.{entry-at}
 use Rattle.fl_store.proofs.Queried.{columns-are, lies-unlogged, runs-unlogged, stands-at}
-use Rattle.fl_store.proofs.Reading.{is-standing}
+use Rattle.fl_store.proofs.TablesOnlyRead.{is-standing}
 use Rattle.fl_store.proofs.tables.Tables.scan.Goals as goal
 
 pub begin-requires : goal.begin-requires

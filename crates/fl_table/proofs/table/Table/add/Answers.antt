@@ -15,13 +15,13 @@ use Rattle.fl_table.specs.BlobEnds.{reference_end, least_of}
 use Rattle.fl_table.specs.Memory.{bitmap_with}
 use Rattle.fl_table.proofs.BlobEnds.{ends-push, least-few}
 use Rattle.fl_table.proofs.Writers.{rest-push}
-use Rattle.fl_table.proofs.Putting.{bits-more, last-more, pending-more}
+use Rattle.fl_table.proofs.PendingAndFull.{bits-more, last-more, pending-more}
 use Rattle.fl_index.specs.Memory as memory
-use Rattle.fl_index.specs.declared.index.Index.{Index}
+use Rattle.fl_index.specs.declared.index.BitmapIndex.{BitmapIndex}
 use Rattle.fl_page.specs.WriterState.{WriterState}
 use Rattle.fl_table.specs.Bitmaps.{next_of, next_after}
-use Rattle.fl_table.proofs.Blobbing as blobbing
-use Rattle.fl_table.proofs.Indexing.{plan-same}
+use Rattle.fl_table.proofs.BlobsOfTable as blobbing
+use Rattle.fl_table.proofs.IndexOfTable.{plan-same}
 use Rattle.fl_table.proofs.Finds.{next-in}
 use Rattle.fl_table.proofs.table.Table.add.Goals as goal
 
@@ -34,7 +34,7 @@ one-more : (b : Bool) (m n : ℕ) → m ≤ n → m + cond b 1 0 ≤ n + 1
 one-more true m n le = omega (arith, le)
 one-more false m n le = omega (arith, le)
 
-after-next : (bitmaps : Option Index) (n : ℕ) → next_of bitmaps ≤ n → next_after bitmaps ≤ n + 1
+after-next : (bitmaps : Option BitmapIndex) (n : ℕ) → next_of bitmaps ≤ n → next_after bitmaps ≤ n + 1
 after-next None n le = omega arith
 after-next (Some index) n le = one-more (memory.waiting_in index == memory.per_page index) (memory.next_in index) n le
 

@@ -10,7 +10,7 @@ use Rattle.fl_model.specs.Agrees.{BlobsOf}
 use Rattle.fl_model.specs.Record.{Plan}
 use Rattle.fl_model.specs.Ring.{Ring}
 use Rattle.fl_model.specs.Table.{Table}
-use Rattle.fl_table.proofs.StillStands.{lies-still}
+use Rattle.fl_table.proofs.ReadsKeepTable.{lies-still}
 use Rattle.fl_table.proofs.table.Table.blob_at.Goals as goal
 
 -- what follows from what is said of the reader that is answered

@@ -4,7 +4,7 @@ use Rattle.std.specs.List.{sum, count_by, range_with_len}
 use Rattle.fl_table.specs.Look.{oldest_in, rows_noted}
 use Rattle.fl_table.specs.Memory.{next_in}
 use Rattle.fl_table.specs.declared.counts.TableCounts.{TableCounts}
-use Rattle.fl_table.proofs.Looks.{counts-is, counts-told}
+use Rattle.fl_table.proofs.MemoryTells.{counts-is, counts-told}
 use Rattle.fl_table.proofs.Sizes.{table-fits}
 use Rattle.fl_table.proofs.Voids.{is-void, not-void, voids_few}
 use Rattle.fl_table.proofs.table.Table.counts.Goals as goal

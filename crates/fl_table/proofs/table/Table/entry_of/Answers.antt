@@ -1,6 +1,6 @@
 use Rattle.std.proofs.Common.{◌+◌, Option, subst}
 use Rattle.fl_index.specs.Looking.{entire}
-use Rattle.fl_index.specs.declared.index.Index.{Index}
+use Rattle.fl_index.specs.declared.index.BitmapIndex.{BitmapIndex}
 use Rattle.fl_table.specs.Skipping.{AreFresh}
 use Rattle.fl_table.proofs.Entries.{bad-answer, looks-from, looks-up, shows-found}
 use Rattle.fl_table.proofs.Skips.{fresh-still, index-stands}
@@ -9,7 +9,7 @@ use Rattle.fl_table.proofs.table.Table.entry_of.Goals as goal
 pub returns-in-Some-clause-stands : goal.returns-in-Some-clause-stands
 returns-in-Some-clause-stands g c = λ first plan table told stands fresh.
     let f = g.F.Flash.state c.args.flash.now in
-    let known = subst (λ (o : Option Index). AreFresh o (g.F.Flash.state c.args.flash.now) c.args.buf.now) c.in-Some.is fresh in
+    let known = subst (λ (o : Option BitmapIndex). AreFresh o (g.F.Flash.state c.args.flash.now) c.args.buf.now) c.in-Some.is fresh in
     shows-found c.args.self.now f first plan table stands c.args.number c.entry_of.result (c.entry_of.ensures.stands (first + plan.data_blocks) plan table told (index-stands c.args.self.now f first plan table stands c.in-Some.index c.in-Some.is) known)
 
 pub returns-in-Some-clause-scans : goal.returns-in-Some-clause-scans

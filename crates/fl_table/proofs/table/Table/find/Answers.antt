@@ -8,7 +8,7 @@ use Rattle.fl_table.specs.declared.find.RowAt.{RowAt}
 use Rattle.fl_table.specs.declared.find.RowAt.TheVariants as at
 use Rattle.fl_table.proofs.Finds.{lookup-fails, holds-pages, finds-page, finds-fault, finds-pending, here-page, holds-page}
 use Rattle.fl_table.proofs.Slots.{steps-model}
-use Rattle.fl_table.proofs.StillStands.{lies-read}
+use Rattle.fl_table.proofs.ReadsKeepTable.{lies-read}
 use Rattle.fl_table.proofs.Sizes.{table-fits}
 use Rattle.fl_table.proofs.table.Table.find.Goals as goal
 

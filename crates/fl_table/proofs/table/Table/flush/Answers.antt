@@ -1,7 +1,7 @@
 use Rattle.std.proofs.Common.{◌≡◌, Result, Err, ap, arith}
 use Rattle.std.proofs.lemmas.Result.{err_from_is_err_and}
 use Rattle.fl_table.proofs.SealAnswers.{writer-count}
-use Rattle.fl_table.proofs.Putting.{flush-idle}
+use Rattle.fl_table.proofs.PendingAndFull.{flush-idle}
 use Rattle.fl_flash.specs.declared.flash.FlashFault.{FlashFault}
 use Rattle.fl_flash.specs.declared.flash.FlashFault.TheVariants.{PowerLost}
 use Rattle.fl_table.specs.declared.faults.FlushFault.TheVariants as flush

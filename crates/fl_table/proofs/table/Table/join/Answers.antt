@@ -3,22 +3,22 @@ use Rattle.fl_base.specs.declared.types.BlobRef.{BlobRef}
 use Rattle.fl_model.specs.Record.{Record, RowLayout}
 use Rattle.fl_model.specs.Row.{stored_row, FitsReference}
 use Rattle.fl_model.specs.Table as model
-use Rattle.fl_index.specs.declared.index.Index.{Index}
+use Rattle.fl_index.specs.declared.index.BitmapIndex.{BitmapIndex}
 use Rattle.fl_table.specs.Bitmaps as bitmaps
 use Rattle.fl_table.specs.BlobEnds.{reference_end}
 use Rattle.fl_table.specs.Blobs as variable
 use Rattle.fl_table.specs.Memory.{PendingAre}
 use Rattle.fl_table.specs.Standing.{Stands}
 use Rattle.fl_flash.specs.Flash.{page_at}
-use Rattle.fl_table.proofs.Blobbing.{after-most, pages-few, same-some, still-planned}
-use Rattle.fl_table.proofs.Indexing.{few-goes, lies-goes, none-is, none-there, plan-same}
+use Rattle.fl_table.proofs.BlobsOfTable.{after-most, pages-few, same-some, still-planned}
+use Rattle.fl_table.proofs.IndexOfTable.{few-goes, lies-goes, none-is, none-there, plan-same}
 use Rattle.fl_table.proofs.Outsides.{var-outside}
-use Rattle.fl_table.proofs.Joining.{entry_of, entry-row, join-done, join-breaks, joined_to}
+use Rattle.fl_table.proofs.JoinedRecord.{entry_of, entry-row, join-done, join-breaks, joined_to}
 use Rattle.fl_table.proofs.Plain.{table-facts}
 use Rattle.fl_table.proofs.Pointed.{points-added}
 use Rattle.fl_table.proofs.SealAnswers.{planned-same}
 use Rattle.fl_table.proofs.PowerOff.{off-ok, off-err}
-use Rattle.fl_table.proofs.StillStands.{lies-moved}
+use Rattle.fl_table.proofs.ReadsKeepTable.{lies-moved}
 use Rattle.fl_schema.specs.Schema.{layout_of}
 use Rattle.fl_ring.specs.declared.ring.Ring.{Ring}
 use Rattle.fl_table.proofs.Sizes.{table-fits}
@@ -84,7 +84,7 @@ returns-clause-ends g c = λ first plan table rose device watched stands ok.
           voids = memory.voids;
           index = memory.index;
         }) (record { rows = refl; points = refl }) refl refl (omega (arith, stands.facts.counted)) stands.planned.buckets row;
-        bitmaps = subst (λ (o : Option Index). bitmaps.Stand o new (first + plan.data_blocks) plan (joined_to table entry h.ring h.content h.bytes)) (sym c.add.ensures.bitmaps) h.bitmaps;
+        bitmaps = subst (λ (o : Option BitmapIndex). bitmaps.Stand o new (first + plan.data_blocks) plan (joined_to table entry h.ring h.content h.bytes)) (sym c.add.ensures.bitmaps) h.bitmaps;
         blobs = subst (λ (o : Option VarData). variable.Stand o new (first + plan.data_blocks + plan.index_blocks) plan (joined_to table entry h.ring h.content h.bytes)) (sym c.add.ensures.blobs) h.blobs;
         points = record { older = points.older; points = points.points; last = points.last };
       });

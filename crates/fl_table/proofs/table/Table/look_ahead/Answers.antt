@@ -1,7 +1,7 @@
 use Rattle.std.proofs.Common.{◌+◌, Option, Result, Ok, Err, sym, ap, subst, ◌≡◌, [], ◌∙◌}
 use Rattle.fl_base.specs.declared.types.Span.{Span}
 use Rattle.fl_flash.specs.Buffer.{BufferState}
-use Rattle.fl_index.specs.declared.index.Index.{Index}
+use Rattle.fl_index.specs.declared.index.BitmapIndex.{BitmapIndex}
 use Rattle.fl_index.specs.declared.page.Found.{Found}
 use Rattle.fl_index.specs.Looking.{ShowsEntry, next_to_read}
 use Rattle.fl_model.specs.Image.{rows_at}
@@ -26,7 +26,7 @@ returns-in-Ok-None-clause-shows g c = λ first plan table n rows told stands fre
     let is = c.in-Some-bitmaps.is in
     let index = c.in-Some-bitmaps.index in
     let shown = c.in-Ok-None.ensures.stands (first + plan.data_blocks) plan table told (index-stands t f first plan table stands index is)
-    (subst (λ (o : Option Index). AreFresh o (g.F.Flash.state c.args.flash.now) c.args.buf.now) is fresh) in
+    (subst (λ (o : Option BitmapIndex). AreFresh o (g.F.Flash.state c.args.flash.now) c.args.buf.now) is fresh) in
     let none = subst (λ (o : Option Found). ShowsEntry plan table c.args.number (Ok o)) c.in-Ok-None.field-0-is shown in
     subst (λ (s : Option Span). ShowsPage plan table s c.args.top c.args.number (rows_at table n rows) (Ok Wanted)) (sym c.in-Some.is)
     (shows-none plan table c.in-Some.span c.args.top c.args.number (rows_at table n rows) none.0)
@@ -38,7 +38,7 @@ returns-in-Ok-Some-clause-shows g c = λ first plan table n rows told stands fre
     let is = c.in-Some-bitmaps.is in
     let index = c.in-Some-bitmaps.index in
     let shown = c.in-Ok-Some.ensures.stands (first + plan.data_blocks) plan table told (index-stands t f first plan table stands index is)
-    (subst (λ (o : Option Index). AreFresh o (g.F.Flash.state c.args.flash.now) c.args.buf.now) is fresh) in
+    (subst (λ (o : Option BitmapIndex). AreFresh o (g.F.Flash.state c.args.flash.now) c.args.buf.now) is fresh) in
     let found = subst (λ (o : Option Found). ShowsEntry plan table c.args.number (Ok o)) c.in-Ok-Some.field-0-is shown in
     let tells = found.1 n rows at here (told-some plan rows some) in
     subst (λ (s : Option Span). ShowsPage plan table s c.args.top c.args.number (rows_at table n rows) (Ok c.ahead_by.result)) (sym c.in-Some.is)
@@ -52,7 +52,7 @@ returns-in-Err-clause-shows g c = λ first plan table n rows told stands fresh a
     let is = c.in-Some-bitmaps.is in
     let index = c.in-Some-bitmaps.index in
     let shown = c.in-Err.ensures.stands (first + plan.data_blocks) plan table told (index-stands t f first plan table stands index is)
-    (subst (λ (o : Option Index). AreFresh o (g.F.Flash.state c.args.flash.now) c.args.buf.now) is fresh) in
+    (subst (λ (o : Option BitmapIndex). AreFresh o (g.F.Flash.state c.args.flash.now) c.args.buf.now) is fresh) in
     shows-fault plan table c.args.span c.args.top c.args.number (rows_at table n rows) c.in-Err.fault shown
 
 pub returns-in-Ok-None-clause-looks : goal.returns-in-Ok-None-clause-looks
@@ -62,8 +62,8 @@ returns-in-Ok-None-clause-looks g c = λ first plan table told stands fresh scan
     let is = c.in-Some-bitmaps.is in
     let index = c.in-Some-bitmaps.index in
     let indexed = index-stands t f first plan table stands index is in
-    let known = subst (λ (o : Option Index). AreFresh o (g.F.Flash.state c.args.flash.now) c.args.buf.now) is fresh in
-    let scans = subst (λ (o : Option Index). AreScanning o c.args.number c.args.buf.now) is scanning in
+    let known = subst (λ (o : Option BitmapIndex). AreFresh o (g.F.Flash.state c.args.flash.now) c.args.buf.now) is fresh in
+    let scans = subst (λ (o : Option BitmapIndex). AreScanning o c.args.number c.args.buf.now) is scanning in
     subst (λ (s : Option Span). LooksOn c.args.self.now.bitmaps s c.args.number c.args.buf.now (g.F.Flash.state c.args.flash.now).work.reads (Ok Wanted) (g.F.Flash.state c.entry_of.new.flash).work.reads c.entry_of.new.buf) (sym c.in-Some.is)
     (looks-found t.bitmaps index is c.in-Some.span c.args.number c.args.buf.now f (g.F.Flash.state c.entry_of.new.flash) c.entry_of.new.buf Wanted
     (c.in-Ok-None.ensures.scans (first + plan.data_blocks) plan table (next_to_read index c.args.buf.now) told indexed known scans)
@@ -77,8 +77,8 @@ returns-in-Ok-Some-clause-looks g c = λ first plan table told stands fresh scan
     let is = c.in-Some-bitmaps.is in
     let index = c.in-Some-bitmaps.index in
     let indexed = index-stands t f first plan table stands index is in
-    let known = subst (λ (o : Option Index). AreFresh o (g.F.Flash.state c.args.flash.now) c.args.buf.now) is fresh in
-    let scans = subst (λ (o : Option Index). AreScanning o c.args.number c.args.buf.now) is scanning in
+    let known = subst (λ (o : Option BitmapIndex). AreFresh o (g.F.Flash.state c.args.flash.now) c.args.buf.now) is fresh in
+    let scans = subst (λ (o : Option BitmapIndex). AreScanning o c.args.number c.args.buf.now) is scanning in
     subst (λ (s : Option Span). LooksOn c.args.self.now.bitmaps s c.args.number c.args.buf.now (g.F.Flash.state c.args.flash.now).work.reads (Ok c.ahead_by.result) (g.F.Flash.state c.entry_of.new.flash).work.reads c.entry_of.new.buf) (sym c.in-Some.is)
     (looks-found t.bitmaps index is c.in-Some.span c.args.number c.args.buf.now f (g.F.Flash.state c.entry_of.new.flash) c.entry_of.new.buf c.ahead_by.result
     (c.in-Ok-Some.ensures.scans (first + plan.data_blocks) plan table (next_to_read index c.args.buf.now) told indexed known scans)
@@ -92,8 +92,8 @@ returns-in-Err-clause-looks g c = λ first plan table told stands fresh scanning
     let is = c.in-Some-bitmaps.is in
     let index = c.in-Some-bitmaps.index in
     let indexed = index-stands t f first plan table stands index is in
-    let known = subst (λ (o : Option Index). AreFresh o (g.F.Flash.state c.args.flash.now) c.args.buf.now) is fresh in
-    let scans = subst (λ (o : Option Index). AreScanning o c.args.number c.args.buf.now) is scanning in
+    let known = subst (λ (o : Option BitmapIndex). AreFresh o (g.F.Flash.state c.args.flash.now) c.args.buf.now) is fresh in
+    let scans = subst (λ (o : Option BitmapIndex). AreScanning o c.args.number c.args.buf.now) is scanning in
     subst (λ (s : Option Span). LooksOn {X = Ahead} c.args.self.now.bitmaps s c.args.number c.args.buf.now (g.F.Flash.state c.args.flash.now).work.reads (Err c.in-Err.fault) (g.F.Flash.state c.entry_of.new.flash).work.reads c.forget.new.self) (sym c.in-Some.is)
     (looks-failed t.bitmaps index is c.in-Some.span c.args.number c.args.buf.now f (g.F.Flash.state c.entry_of.new.flash) c.forget.new.self c.in-Err.fault
     (c.in-Err.ensures.most (first + plan.data_blocks) plan table (next_to_read index c.args.buf.now) told indexed known scans)
@@ -110,7 +110,7 @@ returns-in-Ok-Some-clause-misses g c = λ first plan table n rows range told sta
     let is = c.in-Some-bitmaps.is in
     let index = c.in-Some-bitmaps.index in
     let shown = c.in-Ok-Some.ensures.stands (first + plan.data_blocks) plan table told (index-stands t f first plan table stands index is)
-    (subst (λ (o : Option Index). AreFresh o (g.F.Flash.state c.args.flash.now) c.args.buf.now) is fresh) in
+    (subst (λ (o : Option BitmapIndex). AreFresh o (g.F.Flash.state c.args.flash.now) c.args.buf.now) is fresh) in
     let found = subst (λ (o : Option Found). ShowsEntry plan table c.args.number (Ok o)) c.in-Ok-Some.field-0-is shown in
     subst (λ (s : Option Span). selected range s (rows_at table n rows) ≡ []) (sym c.in-Some.is)
     (c.ahead_by.ensures.misses plan (rows_at table n rows) range stands.planned.buckets (some-bits t f first plan table stands index is)

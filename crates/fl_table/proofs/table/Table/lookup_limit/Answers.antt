@@ -1,7 +1,7 @@
 use Rattle.std.proofs.Common.{◌-◌, sym, ◌∙◌, ap}
 use Rattle.fl_table.specs.Memory.{next_in}
 use Rattle.fl_table.proofs.Finds.{limit-pending, limit-told}
-use Rattle.fl_table.proofs.Looks.{pages-is}
+use Rattle.fl_table.proofs.MemoryTells.{pages-is}
 use Rattle.fl_table.proofs.Sizes.{table-fits}
 use Rattle.fl_table.proofs.table.Table.lookup_limit.Goals as goal
 

@@ -7,8 +7,8 @@ use Rattle.fl_model.proofs.TableSeals.{full-room_seals, room-room_seals}
 use Rattle.fl_flash.specs.Flash.{page_at}
 use Rattle.fl_schema.specs.Schema.{layout_of}
 use Rattle.fl_table.specs.Outcomes.{SealsEnd}
-use Rattle.fl_table.proofs.Putting.{has-room, is-full}
-use Rattle.fl_table.proofs.Staying.{kept-same}
+use Rattle.fl_table.proofs.PendingAndFull.{has-room, is-full}
+use Rattle.fl_table.proofs.KeptPagesStay.{kept-same}
 use Rattle.fl_table.proofs.Sizes.{table-fits}
 use Rattle.fl_table.proofs.table.Table.make_room.Goals as goal
 

@@ -2,7 +2,7 @@ use Rattle.std.proofs.Common.{arith, ◌*◌, ◌≡◌, ◌+◌, ◌-◌, Optio
 use Rattle.std.proofs.lemmas.Result.{err_from_is_err_and, IfErr-weaker, IfOk-weaker}
 use Rattle.fl_flash.specs.Flash.{FlashState, page_at}
 use Rattle.std.specs.Option.{unwrap_or}
-use Rattle.fl_index.specs.declared.index.Index.{Index}
+use Rattle.fl_index.specs.declared.index.BitmapIndex.{BitmapIndex}
 use Rattle.fl_base.specs.declared.types.Geometry.{Geometry}
 use Rattle.fl_base.specs.declared.types.RingPlace.{RingPlace}
 use Rattle.fl_ring.specs.Mounting.{shape_at}
@@ -12,16 +12,16 @@ use Rattle.fl_table.specs.Coming.{index_pages_of}
 use Rattle.fl_table.specs.Mounting.{FewReads, FindsBitmaps}
 use Rattle.fl_table.proofs.Firsts.{room-same}
 use Rattle.fl_table.proofs.FoundReads.{index-within, reads-joined}
-use Rattle.fl_table.proofs.Following.{watched-front, watched-then}
+use Rattle.fl_table.proofs.SealsInTurn.{watched-front, watched-then}
 use Rattle.fl_table.proofs.MountJoined.{index-limit, limit-then, mount-cause-later, mount-fails, mount-then, finds-as, refuses-by, stand-outside}
 use Rattle.fl_table.proofs.Outsides.{blobs-outside}
 use Rattle.fl_table.proofs.SealAnswers.{planned-same, same-then}
 use Rattle.fl_ring.specs.declared.fault.RingFault.{RingFault}
 use Rattle.fl_table.specs.Causes.{of_ring}
-use Rattle.fl_ring.proofs.Readings.{goes_more}
+use Rattle.fl_ring.proofs.ReadsInTurn.{goes_more}
 use Rattle.fl_table.specs.Blobs as variable
-use Rattle.fl_table.proofs.Blobbing as blobbing
-use Rattle.fl_table.proofs.Indexing.{few-goes, none-is, none-there, still-few}
+use Rattle.fl_table.proofs.BlobsOfTable as blobbing
+use Rattle.fl_table.proofs.IndexOfTable.{few-goes, none-is, none-there, still-few}
 use Rattle.fl_var.specs.declared.var_data.VarData.{VarData}
 use Rattle.fl_table.proofs.Sizes.{table-fits}
 use Rattle.fl_table.proofs.PowerOn.{on-then}
@@ -51,7 +51,7 @@ returns-clause-ends g c = λ first plan table rose device watched planned rests.
       place = c.forget.ensures.same.place;
       buckets = c.forget.ensures.same.buckets;
       error = c.forget.ensures.same.error;
-      bitmaps = subst (λ (o : Option Index). AreSamePlan o c.mount_bitmaps.new.bitmaps) c.forget.ensures.bitmaps c.in_ok-end.ensures.same;
+      bitmaps = subst (λ (o : Option BitmapIndex). AreSamePlan o c.mount_bitmaps.new.bitmaps) c.forget.ensures.bitmaps c.in_ok-end.ensures.same;
       blobs = c.forget.ensures.same.blobs;
       limit = c.forget.ensures.same.limit;
     })) at_rest stands (c.unwrap_or.ensures ∙ end))
@@ -76,7 +76,7 @@ returns-clause-limit g c = λ first plan table rose device watched planned rests
       place = c.forget.ensures.same.place;
       buckets = c.forget.ensures.same.buckets;
       error = c.forget.ensures.same.error;
-      bitmaps = subst (λ (o : Option Index). AreSamePlan o c.mount_bitmaps.new.bitmaps) c.forget.ensures.bitmaps c.in_ok-end.ensures.same;
+      bitmaps = subst (λ (o : Option BitmapIndex). AreSamePlan o c.mount_bitmaps.new.bitmaps) c.forget.ensures.bitmaps c.in_ok-end.ensures.same;
       blobs = c.forget.ensures.same.blobs;
       limit = c.forget.ensures.same.limit;
     })) at_rest stands (c.unwrap_or.ensures ∙ end) full)
@@ -93,8 +93,8 @@ returns-clause-found g c =
       end = end;
       indexed = mid;
       found = c.mount_bitmaps.new.bitmaps;
-      same = subst (λ (o : Option Index). AreSamePlan o c.mount_bitmaps.new.bitmaps) c.forget.ensures.bitmaps c.in_ok-end.ensures.same;
-      bitmaps = subst (λ (o : Option Index). FindsBitmaps o old end c.mount_bitmaps.new.bitmaps mid) c.forget.ensures.bitmaps (c.in_ok-end.ensures.found told);
+      same = subst (λ (o : Option BitmapIndex). AreSamePlan o c.mount_bitmaps.new.bitmaps) c.forget.ensures.bitmaps c.in_ok-end.ensures.same;
+      bitmaps = subst (λ (o : Option BitmapIndex). FindsBitmaps o old end c.mount_bitmaps.new.bitmaps mid) c.forget.ensures.bitmaps (c.in_ok-end.ensures.found told);
       still = c.mount_rows.ensures.still;
       rows = finds-as t _ c.mount_bitmaps.new.bitmaps mid c.unwrap_or.result (unwrap_or end 0) mounted now new (h (subst IsTrue (sym c.in_ok-end.ensures.goes.tells) told)) (record {
         geometry = c.forget.ensures.same.geometry;
@@ -102,7 +102,7 @@ returns-clause-found g c =
         place = c.forget.ensures.same.place;
         buckets = c.forget.ensures.same.buckets;
         error = c.forget.ensures.same.error;
-        bitmaps = subst (λ (o : Option Index). AreSamePlan o c.mount_bitmaps.new.bitmaps) c.forget.ensures.bitmaps c.in_ok-end.ensures.same;
+        bitmaps = subst (λ (o : Option BitmapIndex). AreSamePlan o c.mount_bitmaps.new.bitmaps) c.forget.ensures.bitmaps c.in_ok-end.ensures.same;
         blobs = c.forget.ensures.same.blobs;
         limit = c.forget.ensures.same.limit;
       }) c.forget.ensures.blobs c.unwrap_or.ensures;
@@ -120,8 +120,8 @@ returns-clause-refused g c =
       mid,
       record {
         now = c.mount_bitmaps.new.bitmaps;
-        same = subst (λ (o : Option Index). AreSamePlan o c.mount_bitmaps.new.bitmaps) c.forget.ensures.bitmaps c.in_ok-end.ensures.same;
-        bitmaps = subst (λ (o : Option Index). FindsBitmaps o old end c.mount_bitmaps.new.bitmaps mid) c.forget.ensures.bitmaps (c.in_ok-end.ensures.found told);
+        same = subst (λ (o : Option BitmapIndex). AreSamePlan o c.mount_bitmaps.new.bitmaps) c.forget.ensures.bitmaps c.in_ok-end.ensures.same;
+        bitmaps = subst (λ (o : Option BitmapIndex). FindsBitmaps o old end c.mount_bitmaps.new.bitmaps mid) c.forget.ensures.bitmaps (c.in_ok-end.ensures.found told);
       },
       refuses-by t _ c.mount_bitmaps.new.bitmaps mid c.unwrap_or.result (unwrap_or end 0) e new (h (subst IsTrue (sym c.in_ok-end.ensures.goes.tells) told)) (record {
         geometry = c.forget.ensures.same.geometry;
@@ -129,7 +129,7 @@ returns-clause-refused g c =
         place = c.forget.ensures.same.place;
         buckets = c.forget.ensures.same.buckets;
         error = c.forget.ensures.same.error;
-        bitmaps = subst (λ (o : Option Index). AreSamePlan o c.mount_bitmaps.new.bitmaps) c.forget.ensures.bitmaps c.in_ok-end.ensures.same;
+        bitmaps = subst (λ (o : Option BitmapIndex). AreSamePlan o c.mount_bitmaps.new.bitmaps) c.forget.ensures.bitmaps c.in_ok-end.ensures.same;
         blobs = c.forget.ensures.same.blobs;
         limit = c.forget.ensures.same.limit;
       }) c.forget.ensures.blobs c.unwrap_or.ensures,
@@ -143,7 +143,7 @@ returns-clause-same g c =
       place = c.forget.ensures.same.place;
       buckets = c.forget.ensures.same.buckets;
       error = c.forget.ensures.same.error;
-      bitmaps = subst (λ (o : Option Index). AreSamePlan o c.mount_bitmaps.new.bitmaps) c.forget.ensures.bitmaps c.in_ok-end.ensures.same;
+      bitmaps = subst (λ (o : Option BitmapIndex). AreSamePlan o c.mount_bitmaps.new.bitmaps) c.forget.ensures.bitmaps c.in_ok-end.ensures.same;
       blobs = c.forget.ensures.same.blobs;
       limit = c.forget.ensures.same.limit;
     }) c.mount_rows.ensures.same
@@ -160,7 +160,7 @@ returns-clause-outside g c = λ told page out index blobs.
     let t = c.args.self.now in
     let old = g.F.Flash.state c.args.flash.now in
     let mid = g.F.Flash.state c.mount_bitmaps.new.flash in
-    let first = stand-outside t.bitmaps (page_at old) (page_at mid) page (subst (λ (o : Option Index). StandOutside o (page_at old) (page_at mid)) c.forget.ensures.bitmaps (c.in_ok-end.ensures.outside told)) index in
+    let first = stand-outside t.bitmaps (page_at old) (page_at mid) page (subst (λ (o : Option BitmapIndex). StandOutside o (page_at old) (page_at mid)) c.forget.ensures.bitmaps (c.in_ok-end.ensures.outside told)) index in
     let shape : shape_at c.forget.new.self.place c.forget.new.self.geometry ≡ shape_at t.place t.geometry =
     ap (λ (p : RingPlace). shape_at p c.forget.new.self.geometry) c.forget.ensures.same.place ∙ ap (λ (x : Geometry). shape_at t.place x) c.forget.ensures.same.geometry in
     c.mount_rows.ensures.outside (subst IsTrue (sym c.in_ok-end.ensures.goes.tells) told) page (subst (λ (r : Shape). IsOutside r page) (sym shape) out) (blobs-outside t.blobs c.forget.new.self.blobs page c.forget.ensures.same.blobs blobs) ∙ first
@@ -172,9 +172,9 @@ returns-clause-reads g c = λ told.
     let mid = g.F.Flash.state c.mount_bitmaps.new.flash in
     let new = g.F.Flash.state c.mount_rows.new.flash in
     let now = c.mount_bitmaps.new.bitmaps in
-    let within = index-within t.bitmaps now old mid c.in_ok-end.end (subst (λ (o : Option Index). AreSamePlan o now) c.forget.ensures.bitmaps c.in_ok-end.ensures.same)
-    (subst (λ (o : Option Index). FindsBitmaps o old c.in_ok-end.end now mid) c.forget.ensures.bitmaps (c.in_ok-end.ensures.found told)) told in
-    let spared = subst (λ (o : Option Index). FewReads (4 * room_of o - index_pages_of now) old mid) c.forget.ensures.bitmaps (c.in_ok-end.ensures.spared told) in
+    let within = index-within t.bitmaps now old mid c.in_ok-end.end (subst (λ (o : Option BitmapIndex). AreSamePlan o now) c.forget.ensures.bitmaps c.in_ok-end.ensures.same)
+    (subst (λ (o : Option BitmapIndex). FindsBitmaps o old c.in_ok-end.end now mid) c.forget.ensures.bitmaps (c.in_ok-end.ensures.found told)) told in
+    let spared = subst (λ (o : Option BitmapIndex). FewReads (4 * room_of o - index_pages_of now) old mid) c.forget.ensures.bitmaps (c.in_ok-end.ensures.spared told) in
     let shape : shape_at c.forget.new.self.place c.forget.new.self.geometry ≡ shape_at t.place t.geometry =
     ap (λ (p : RingPlace). shape_at p c.forget.new.self.geometry) c.forget.ensures.same.place ∙ ap (λ (x : Geometry). shape_at t.place x) c.forget.ensures.same.geometry in
     let few = subst (λ (r : Shape). FewReads (4 * (room r + variable.room_of t.blobs) + index_pages_of now) mid new) shape
@@ -214,7 +214,7 @@ pub returns-in_err-end-clause-outside : goal.returns-in_err-end-clause-outside
 returns-in_err-end-clause-outside g c = λ told page rows index blobs.
     let old = g.F.Flash.state c.args.flash.now in
     let mid = g.F.Flash.state c.mount_bitmaps.new.flash in
-    stand-outside c.args.self.now.bitmaps (page_at old) (page_at mid) page (subst (λ (o : Option Index). StandOutside o (page_at old) (page_at mid)) c.forget.ensures.bitmaps (c.in_err-end.ensures.outside told)) index
+    stand-outside c.args.self.now.bitmaps (page_at old) (page_at mid) page (subst (λ (o : Option BitmapIndex). StandOutside o (page_at old) (page_at mid)) c.forget.ensures.bitmaps (c.in_err-end.ensures.outside told)) index
 
 pub returns-clause-goes : goal.returns-clause-goes
 returns-clause-goes g c =

@@ -3,15 +3,15 @@ use Rattle.std.proofs.lemmas.Result.{err_from_is_err_and}
 use Rattle.fl_flash.specs.Flash.{page_at}
 use Rattle.fl_find.proofs.Points.{mounts-points}
 use Rattle.fl_model.specs.Mount.{ready}
-use Rattle.fl_ring.proofs.Readings.{goes_more}
+use Rattle.fl_ring.proofs.ReadsInTurn.{goes_more}
 use Rattle.fl_table.specs.Bitmaps.{EndAt, IsOutside}
 use Rattle.fl_table.specs.BlobEnds.{least_of}
 use Rattle.fl_table.specs.BlobMount.{FindsBlobs, RefusesWithin}
 use Rattle.fl_table.specs.Blobs.{room_of, rings_of}
 use Rattle.fl_table.proofs.Outsides.{var-outside}
 use Rattle.fl_var.specs.Memory.{var_shape}
-use Rattle.fl_table.proofs.Blobbing as blobbing
-use Rattle.fl_table.proofs.Following.{watched-front, watched-then}
+use Rattle.fl_table.proofs.BlobsOfTable as blobbing
+use Rattle.fl_table.proofs.SealsInTurn.{watched-front, watched-then}
 use Rattle.fl_table.proofs.MountJoined.{mount-cause-later}
 use Rattle.fl_table.proofs.BlobSeals.{with_var}
 use Rattle.fl_table.proofs.MountVar.{data-fails, mounted-ends, rows-fail, rows-mount, var-limit}
@@ -22,8 +22,8 @@ use Rattle.fl_ring.specs.Mounting.{shape_at}
 use Rattle.fl_ring.specs.Place as place
 use Rattle.fl_ring.specs.Place.{next_of, shape_of}
 use Rattle.fl_ring.specs.declared.ring.Ring.{Ring}
-use Rattle.fl_table.proofs.Indexing.{none-is}
-use Rattle.fl_table.proofs.StillStands.{lies-moved}
+use Rattle.fl_table.proofs.IndexOfTable.{none-is}
+use Rattle.fl_table.proofs.ReadsKeepTable.{lies-moved}
 use Rattle.fl_table.proofs.Sizes.{table-fits}
 use Rattle.fl_table.proofs.PowerOn.{blobs-on}
 use Rattle.fl_table.proofs.table.Table.mount_rows.Goals as goal

@@ -1,6 +1,6 @@
 use Rattle.std.proofs.lemmas.Result.{IfErr-weaker}
 use Rattle.fl_table.proofs.Finds.{holds-in, holds-pages, lookup-fails}
-use Rattle.fl_table.proofs.StillStands.{lies-read}
+use Rattle.fl_table.proofs.ReadsKeepTable.{lies-read}
 use Rattle.fl_table.proofs.Slots.{steps-model}
 use Rattle.fl_table.proofs.table.Table.page_of.Goals as goal
 

@@ -4,7 +4,7 @@ use Rattle.fl_schema.specs.Schema.{layout_of}
 use Rattle.fl_plan.proofs.Fits.{few-blobs}
 use Rattle.fl_table.proofs.Writers.{gathers-end, gathers-blank}
 use Rattle.fl_ring.specs.declared.ring.Ring.{Ring}
-use Rattle.fl_table.proofs.Indexing.{none-is, none-there}
+use Rattle.fl_table.proofs.IndexOfTable.{none-is, none-there}
 use Rattle.fl_table.proofs.table.Table.plan.Goals as goal
 
 pub invariant_of-result-clause-rows_end : goal.invariant_of-result-clause-rows_end

@@ -6,9 +6,9 @@ use Rattle.fl_table.specs.Memory.{is_running, is_stopped, PendingAre}
 use Rattle.fl_table.specs.declared.table.Table.{Table}
 use Rattle.fl_table.proofs.Refusals.{fits-row, told-running, calm-cause, few-blob, not-spent, refusal-calm}
 use Rattle.fl_flash.specs.Flash.{page_at}
-use Rattle.fl_table.proofs.Blobbing.{pages-most}
+use Rattle.fl_table.proofs.BlobsOfTable.{pages-most}
 use Rattle.fl_table.proofs.Outsides.{outside-then}
-use Rattle.fl_table.proofs.Following.{cause-later, watched-front, watched-then}
+use Rattle.fl_table.proofs.SealsInTurn.{cause-later, watched-front, watched-then}
 use Rattle.fl_table.proofs.PutAnswers.{accepts, and-true, broken-ends, join-fails, map-twice, put-ends, refused-ends}
 use Rattle.fl_flash.specs.declared.flash.FlashFault.{FlashFault}
 use Rattle.fl_flash.specs.declared.flash.FlashFault.TheVariants.{PowerLost}
@@ -17,7 +17,7 @@ use Rattle.fl_table.specs.declared.faults.PutRefusal.TheVariants as put
 use Rattle.fl_table.proofs.PowerOff.{put-off}
 use Rattle.fl_model.specs.Record.{RowLayout}
 use Rattle.fl_model.specs.Row.{FitsRow}
-use Rattle.fl_ring.proofs.Readings.{goes_more}
+use Rattle.fl_ring.proofs.ReadsInTurn.{goes_more}
 use Rattle.fl_schema.specs.Schema.{layout_of}
 use Rattle.fl_table.proofs.SealAnswers.{same-then}
 use Rattle.fl_table.proofs.Sizes.{table-fits}

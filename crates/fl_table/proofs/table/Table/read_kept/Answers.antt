@@ -13,15 +13,15 @@ use Rattle.fl_table.specs.Mounting.{comes_in}
 use Rattle.fl_table.specs.Reading.{WaitFrom}
 use Rattle.fl_table.specs.declared.known.Known.{Known}
 use Rattle.fl_ring.proofs.Founds.{same_pages}
-use Rattle.fl_ring.proofs.Readings.{goes_more, more_reads, told_still}
-use Rattle.fl_table.proofs.Comings.{unlisted-behind, come-rows, nothing-within, rows-still}
+use Rattle.fl_ring.proofs.ReadsInTurn.{goes_more, more_reads, told_still}
+use Rattle.fl_table.proofs.MountProgress.{unlisted-behind, come-rows, nothing-within, rows-still}
 use Rattle.fl_table.proofs.Firsts.{firsts-then}
-use Rattle.fl_table.proofs.Gathering.{first-same, gathers-end, wait-between, wait-for, waits-from}
+use Rattle.fl_table.proofs.NotedEntries.{first-same, gathers-end, wait-between, wait-for, waits-from}
 use Rattle.fl_table.proofs.KeptStart.{kept-start}
-use Rattle.fl_table.proofs.Indexing.{few-goes, found-then, lies-goes, none-is, none-there, plan-then, ring-then, still-few, still-lies, still-running}
+use Rattle.fl_table.proofs.IndexOfTable.{few-goes, found-then, lies-goes, none-is, none-there, plan-then, ring-then, still-few, still-lies, still-running}
 use Rattle.fl_table.proofs.ListedPages.{data-lies, fails-later, ring-read, ring-stays, some-room}
-use Rattle.fl_table.proofs.Blobbing as blobbing
-use Rattle.fl_table.proofs.Sparing.{waiting-few, reads-unlisted, reads-newest}
+use Rattle.fl_table.proofs.BlobsOfTable as blobbing
+use Rattle.fl_table.proofs.SparedReads.{waiting-few, reads-unlisted, reads-newest}
 use Rattle.fl_table.proofs.SealAnswers.{written-back}
 use Rattle.fl_table.proofs.table.Table.read_kept.Goals as goal
 

@@ -3,13 +3,13 @@ use Rattle.fl_flash.specs.Flash.{page_at}
 use Rattle.fl_model.specs.Ring as rings
 use Rattle.fl_page.specs.declared.fault.ReadFault.TheVariants.{BadPage}
 use Rattle.fl_page.specs.Page.{IsGoodPage, bad_page}
-use Rattle.fl_page.proofs.Reading.{OnlyReads-read, IsCaused-read}
+use Rattle.fl_page.proofs.ReadsInTurn.{OnlyReads-read, IsCaused-read}
 use Rattle.fl_ring.proofs.Exists.{lies_exists}
 use Rattle.fl_table.specs.Kept.{place_of, IsFound}
 use Rattle.fl_table.specs.Look.{layout_in}
 use Rattle.fl_table.proofs.KeptRead.{ring-place, shows-rows}
-use Rattle.fl_table.proofs.Looks.{oldest-is}
-use Rattle.fl_table.proofs.StillStands.{read-once}
+use Rattle.fl_table.proofs.MemoryTells.{oldest-is}
+use Rattle.fl_table.proofs.ReadsKeepTable.{read-once}
 use Rattle.fl_table.proofs.table.Table.read_page.Goals as goal
 
 pub read-requires-clause-exists : goal.read-requires-clause-exists

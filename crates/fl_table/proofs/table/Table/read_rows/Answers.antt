@@ -9,16 +9,16 @@ use Rattle.fl_ring.specs.Place.{next_of, oldest_of}
 use Rattle.fl_ring.specs.Ring.{Shape, OutsideStands}
 use Rattle.fl_table.specs.Coming.{index_pages_of}
 use Rattle.fl_find.specs.Index.{error_in}
-use Rattle.fl_table.proofs.Following.{watched-front}
-use Rattle.fl_table.proofs.Indexing.{found-same, none-is, none-there}
+use Rattle.fl_table.proofs.SealsInTurn.{watched-front}
+use Rattle.fl_table.proofs.IndexOfTable.{found-same, none-is, none-there}
 use Rattle.fl_table.proofs.MountCalls.{same-shape, outside-stands, index-still, refuses-ring, refuses-end, refuses-page, finds-data, finds-firsts, same-waits, ring-cause, pages-cause}
 use Rattle.fl_table.proofs.MountEnded.{mounting-of, ring-fails, ring-ends, ring-mounts, ends-within}
 use Rattle.fl_table.proofs.MountKept.{kept-fails, kept-limit, kept-well, ring-limit}
 use Rattle.fl_table.proofs.MountLimits.{rows-within}
 use Rattle.fl_table.proofs.MountReads.{few-first, few-all, kept-room}
 use Rattle.fl_table.proofs.SealAnswers.{plan-self, planned-ring, lies-size}
-use Rattle.fl_table.proofs.StillStands.{lies-moved}
-use Rattle.fl_ring.proofs.Readings.{goes_more}
+use Rattle.fl_table.proofs.ReadsKeepTable.{lies-moved}
+use Rattle.fl_ring.proofs.ReadsInTurn.{goes_more}
 use Rattle.fl_table.proofs.table.Table.read_rows.Goals as goal
 
 -- the ring was refused

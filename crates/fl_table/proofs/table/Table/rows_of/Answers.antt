@@ -2,7 +2,7 @@ use Rattle.std.proofs.Common.{◌≡◌, ℕ, ◌%◌, ◌<◌, Some, length, ge
 use Rattle.std.proofs.lemmas.List.{get_or_read}
 use Rattle.std.proofs.Math.Nat.{mod-lt}
 use Rattle.fl_table.specs.Look.{rows_noted}
-use Rattle.fl_table.proofs.Looks.{noted-is}
+use Rattle.fl_table.proofs.MemoryTells.{noted-is}
 use Rattle.fl_table.proofs.Writers.{some-room}
 use Rattle.fl_table.proofs.table.Table.rows_of.Goals as goal
 

@@ -5,12 +5,12 @@ use Rattle.fl_table.specs.Bitmaps.{HaveRoom, bitmap_seals, next_of}
 use Rattle.fl_table.specs.Blobs as variable
 use Rattle.fl_table.specs.Blobs.{rest_seals}
 use Rattle.fl_table.specs.Outcomes.{SealsEnd}
-use Rattle.fl_table.proofs.Following.{cause-later, seals-stop, seals-then, watched-front, watched-then}
+use Rattle.fl_table.proofs.SealsInTurn.{cause-later, seals-stop, seals-then, watched-front, watched-then}
 use Rattle.fl_flash.specs.Flash.{page_at}
 use Rattle.fl_table.proofs.Outsides.{outside-then}
 use Rattle.fl_table.proofs.Plain.{some-table_seals}
-use Rattle.fl_ring.proofs.Readings.{goes_more}
-use Rattle.fl_index.specs.declared.index.Index.{Index}
+use Rattle.fl_ring.proofs.ReadsInTurn.{goes_more}
+use Rattle.fl_index.specs.declared.index.BitmapIndex.{BitmapIndex}
 use Rattle.fl_table.proofs.SealAnswers.{same-then, writer-count}
 use Rattle.fl_flash.specs.declared.flash.FlashFault.{FlashFault}
 use Rattle.fl_table.proofs.PowerOff.{off-then}
@@ -163,7 +163,7 @@ returns-clause-power g c =
 pub seal_rows-requires : goal.seal_rows-requires
 seal_rows-requires g c = (
   table-fits g.row.KNOTS g.row.SLOTS c.args.self.now.few_knots c.args.self.now.few_slots,
-  (c.in_ok-seal_blobs.ensures.running, (omega (arith, c.in_ok-seal_blobs.ensures.some, c.in_ok-seal_bitmaps.ensures.some, c.requires.some), (subst (λ (o : Option Index). HaveRoom o) (sym c.in_ok-seal_blobs.ensures.bitmaps) c.in_ok-seal_bitmaps.ensures.room, (c.in_ok-seal_blobs.ensures.empty, c.in_ok-seal_blobs.ensures.lies)))),
+  (c.in_ok-seal_blobs.ensures.running, (omega (arith, c.in_ok-seal_blobs.ensures.some, c.in_ok-seal_bitmaps.ensures.some, c.requires.some), (subst (λ (o : Option BitmapIndex). HaveRoom o) (sym c.in_ok-seal_blobs.ensures.bitmaps) c.in_ok-seal_bitmaps.ensures.room, (c.in_ok-seal_blobs.ensures.empty, c.in_ok-seal_blobs.ensures.lies)))),
 )
 
 pub seal_bitmaps-requires : goal.seal_bitmaps-requires

@@ -18,16 +18,16 @@ use Rattle.fl_table.proofs.States.{shape_in, state_of, HaveSize}
 use Rattle.fl_table.proofs.Writers.{rest-finish, rest-clear, gathers-none, few-rows, some-room, end-same, end-none}
 use Rattle.fl_table.proofs.Pointed.{first-some, index-sealed, points-sealed}
 use Rattle.std.specs.List.{sum}
-use Rattle.fl_table.proofs.Blobbing as blobbing
-use Rattle.fl_table.proofs.Blobbing.{var-stands}
+use Rattle.fl_table.proofs.BlobsOfTable as blobbing
+use Rattle.fl_table.proofs.BlobsOfTable.{var-stands}
 use Rattle.fl_index.proofs.SealAnswers.{seal-on}
 use Rattle.fl_table.proofs.SealAnswers.{planned-ring, planned-shape, lies-size, sealing-of, seal-ready, writer-count, pending-length, ring-next, counts-room, note-same, written-back}
 use Rattle.fl_table.proofs.VarFacts.{rest-of}
 use Rattle.fl_table.proofs.VoidPages.{voids-told}
-use Rattle.fl_table.proofs.Sealings.{IsSealing, KeepsAll, seal-breaks, seal-finishes}
-use Rattle.fl_table.proofs.Following.{ends-alone}
-use Rattle.fl_table.proofs.Indexing.{few-goes, lies-goes, plan-same, still-few, still-lies, still-next, still-planned, still-running, noted-end, stand-sealed, none-there, none-is}
-use Rattle.fl_table.proofs.Moved.{index-stands}
+use Rattle.fl_table.proofs.SealEnds.{IsSealing, KeepsAll, seal-breaks, seal-finishes}
+use Rattle.fl_table.proofs.SealsInTurn.{ends-alone}
+use Rattle.fl_table.proofs.IndexOfTable.{few-goes, lies-goes, plan-same, still-few, still-lies, still-next, still-planned, still-running, noted-end, stand-sealed, none-there, none-is}
+use Rattle.fl_table.proofs.ListsStay.{index-stands}
 use Rattle.fl_table.proofs.Plain.{table-parts, table-facts}
 use Rattle.fl_ring.specs.Mounting.{shape_at}
 use Rattle.fl_page.specs.WriterState.{WriterState}

@@ -1,11 +1,11 @@
 use Rattle.std.proofs.Common.{Option, sym, subst, ◌∙◌, arith, ap}
 use Rattle.fl_base.specs.declared.types.RingPlace.{RingPlace}
 use Rattle.fl_flash.specs.Flash.{FlashState}
-use Rattle.fl_index.specs.declared.index.Index.{Index}
+use Rattle.fl_index.specs.declared.index.BitmapIndex.{BitmapIndex}
 use Rattle.fl_var.specs.declared.var_data.VarData.{VarData}
 use Rattle.fl_table.specs.Bitmaps.{LieOn}
 use Rattle.fl_table.specs.Blobs as variable
-use Rattle.fl_table.proofs.Indexing.{none-there}
+use Rattle.fl_table.proofs.IndexOfTable.{none-there}
 use Rattle.fl_table.proofs.Sizes.{table-fits}
 use Rattle.fl_table.proofs.table.Table.unmount.Goals as goal
 
@@ -17,7 +17,7 @@ returns-clause-lies g c = λ f lies.
       within = omega (arith, lies.within, ap (λ (p : RingPlace). p.first_block) same.place, ap (λ (p : RingPlace). p.blocks) same.place);
       few = lies.few;
       ring = λ ring is. absurd (none-there c.forget.new.self.ring ring c.forget.ensures.forgotten.down is);
-      bitmaps = subst (λ (o : Option Index). LieOn o f) (sym c.forget.ensures.bitmaps) lies.bitmaps;
+      bitmaps = subst (λ (o : Option BitmapIndex). LieOn o f) (sym c.forget.ensures.bitmaps) lies.bitmaps;
       blobs = subst (λ (o : Option VarData). variable.LieOn o f) (sym c.forget.ensures.blobs) lies.blobs;
     }
 

@@ -1,7 +1,7 @@
 use Rattle.std.proofs.Common.{rules, ◌<◌, ◌≤◌, Err, refl, arith}
 use Rattle.fl_var.specs.Memory.{room_in}
 use Rattle.fl_var.proofs.Found.{found-none, found-some, found-err}
-use Rattle.fl_var.proofs.Sealings.{pages-size}
+use Rattle.fl_var.proofs.SealsInTable.{pages-size}
 use Rattle.fl_var.proofs.Wholes.{pages-few}
 use Rattle.fl_var.proofs.reader.BlobReader.open.Goals as goal
 

@@ -6,8 +6,8 @@ use Rattle.fl_ring.specs.Numbers.{renumbered}
 use Rattle.fl_ring.specs.declared.fault.RingFault.{RingFault}
 use Rattle.fl_var.proofs.States.{state_of}
 use Rattle.std.proofs.lemmas.Result.{err_from_is_err_and}
-use Rattle.fl_var.proofs.Mountings.{few-read, good, mount-well, mount-badly, mount-fault, mount-err}
-use Rattle.fl_var.proofs.Sealings.{pages-size}
+use Rattle.fl_var.proofs.MountsInTable.{few-read, good, mount-well, mount-badly, mount-fault, mount-err}
+use Rattle.fl_var.proofs.SealsInTable.{pages-size}
 use Rattle.fl_var.proofs.var_data.VarData.mount.Goals as goal
 
 pub returns-in_err-ring-clause-ends : goal.returns-in_err-ring-clause-ends

@@ -9,9 +9,9 @@ use Rattle.fl_ring.specs.Ring.{Shape, OutsideStands, oldest, place, sealed}
 use Rattle.fl_ring.specs.Sealing.{Performed}
 use Rattle.fl_var.specs.Content.{content_body}
 use Rattle.fl_var.specs.Memory.{next_in, waiting_in, room_in}
-use Rattle.fl_var.proofs.Sealings.{seal-breaks, seal-finishes, seal-err, ready, pages-size, next-is}
+use Rattle.fl_var.proofs.SealsInTable.{seal-breaks, seal-finishes, seal-err, ready, pages-size, next-is}
 use Rattle.fl_var.proofs.States.{state_of}
-use Rattle.fl_var.proofs.Writing.{seal-power, seal-lost, lost-on}
+use Rattle.fl_var.proofs.BufferedBytes.{seal-power, seal-lost, lost-on}
 use Rattle.fl_var.proofs.var_data.VarData.seal.Goals as goal
 
 pub returns-in_err-seal-clause-ends : goal.returns-in_err-seal-clause-ends

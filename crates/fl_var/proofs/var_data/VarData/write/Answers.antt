@@ -3,7 +3,7 @@ use Rattle.std.proofs.lemmas.List.{places}
 use Rattle.std.proofs.lemmas.Result.{err_from_is_err_and}
 use Rattle.fl_flash.specs.declared.flash.FlashFault.{FlashFault}
 use Rattle.fl_var.specs.Memory.{room_in}
-use Rattle.fl_var.proofs.Writing.{writes-first, writes-next, writes-fail, writes-waits, writes-quiet, writes-end, writes-off, wrote-on, ok-on, cause-err, lost-on}
+use Rattle.fl_var.proofs.BufferedBytes.{writes-first, writes-next, writes-fail, writes-waits, writes-quiet, writes-end, writes-off, wrote-on, ok-on, cause-err, lost-on}
 use Rattle.fl_var.proofs.var_data.VarData.write.Goals as goal
 
 pub loop-done-init : goal.loop-done-init

@@ -1,6 +1,6 @@
 use Rattle.std.proofs.Common.{length, ◌-◌, ◌≡◌, ◌+◌, ◌^◌, ◌<◌, ◌≤◌}
 use Rattle.fl_var.specs.Memory.{next_in}
-use Rattle.fl_var.proofs.Writing.{Writes}
+use Rattle.fl_var.proofs.BufferedBytes.{Writes}
 use Rattle.fl_var.proofs.var_data.VarData.write.Given as goal
 
 abbrev pub invariant-loop-done : goal.invariant-loop-done

@@ -2,7 +2,7 @@ use Rattle.std.proofs.Common.{rules, ◌≡◌, ◌+◌, ◌-◌, ◌≤◌, ℕ
 use Rattle.std.proofs.lemmas.List.{with_items_is, places}
 use borrow.Rule.Slice.PartMut.{put_mid}
 use Rattle.fl_var.specs.WaitingState.{IsBlankBehind}
-use Rattle.fl_var.proofs.Waitings.{blank-clear}
+use Rattle.fl_var.proofs.WaitingContent.{blank-clear}
 use Rattle.fl_var.proofs.waiting.Waiting.clear.Goals as goal
 
 pub returns-clause-blank : goal.returns-clause-blank

@@ -2,7 +2,7 @@ use Rattle.std.proofs.Common.{rules, ◌≡◌, ◌+◌, ◌-◌, ◌≤◌, ◌
 use Rattle.std.proofs.lemmas.List.{with_items_is, places}
 use borrow.Rule.Slice.PartMut.{put_mid}
 use Rattle.fl_var.specs.WaitingState.{WaitingState, content_in, IsBlankBehind}
-use Rattle.fl_var.proofs.Waitings.{content-put, blank-put}
+use Rattle.fl_var.proofs.WaitingContent.{content-put, blank-put}
 use Rattle.fl_var.proofs.waiting.Waiting.put.Goals as goal
 
 pub returns-clause-content : goal.returns-clause-content

@@ -1,0 +1,68 @@
+use Rattle.std.proofs.Common.{◌≡◌, ℕ, true, false, sym, ap, subst, ◌∙◌, arith}
+use Rattle.std.specs.Prelude.{OnOk, unwrap_or}
+use Rattle.std.proofs.lemmas.Result.{IfOk-weaker}
+use Rattle.fl_ring.specs.Place.{shape_of, oldest_of, next_of}
+use Rattle.fl_search.specs.Search.{IsPageOf}
+use Rattle.fl_spline.proofs.Segments.{segment-covered}
+use Rattle.fl_spline.specs.Spline.{kept}
+use Rattle.fl_schema.specs.Schema.{layout_of}
+use Rattle.fl_find.specs.Pages.{first_on}
+use Rattle.fl_find.specs.Looking.{NoneIsBad}
+use Rattle.fl_find.specs.Index.{window_end}
+use Rattle.fl_find.proofs.Moves.{if-some}
+use Rattle.fl_find.proofs.Modelled.{near-found, near-limit, far-found, far-limit, ascend-ring}
+use Rattle.fl_find.proofs.Indexed.{index-covered, index-end}
+use Rattle.fl_find.proofs.index.KeyIndex.page_of.Goals as goal
+
+no : true ≡ false → ⊥
+no e = cc
+
+pub returns-in-Some-clause-far : goal.returns-in-Some-clause-far
+returns-in-Some-clause-far g c = λ uncovered.
+    absurd (no (sym (segment-covered (kept c.args.self.now.spline) c.args.key c.in-Some.segment c.args.self.now.spline.rises c.in-Some.ensures.segment) ∙ uncovered))
+
+pub returns-in-Some-clause-some : goal.returns-in-Some-clause-some
+returns-in-Some-clause-some g c = λ uncovered.
+    absurd (no (sym (segment-covered (kept c.args.self.now.spline) c.args.key c.in-Some.segment c.args.self.now.spline.rises c.in-Some.ensures.segment) ∙ uncovered))
+
+pub returns-in-Some-clause-few : goal.returns-in-Some-clause-few
+returns-in-Some-clause-few g c = λ uncovered.
+    absurd (no (sym (segment-covered (kept c.args.self.now.spline) c.args.key c.in-Some.segment c.args.self.now.spline.rises c.in-Some.ensures.segment) ∙ uncovered))
+
+pub returns-in-Some-clause-found : goal.returns-in-Some-clause-found
+returns-in-Some-clause-found g c = λ plan table holds points index.
+    let near = segment-covered (kept c.args.self.now.spline) c.args.key c.in-Some.segment c.args.self.now.spline.rises c.in-Some.ensures.segment in
+    near-found (layout_of c.args.schema.now) c.args.ring.now (g.F.Flash.state c.args.flash.now) plan table holds g.row.KNOTS points c.args.key _ _ c.end_of_window-end.result (g.F.Flash.state c.page_downwards.new.flash)
+    c.page_downwards.result index.rises (index-covered c.args.self.now plan.error c.args.key table.points true index near) (index-end c.args.self.now plan table c.args.key c.next_number.result c.end_of_window-end.result index (c.next_number.ensures ∙ holds.next) c.end_of_window-end.ensures)
+    (c.page_downwards.ensures.page holds.tells) c.page_downwards.ensures.exact c.page_downwards.ensures.fails
+
+pub returns-in-Some-clause-reads : goal.returns-in-Some-clause-reads
+returns-in-Some-clause-reads g c = λ plan table holds points index pending.
+    let near = segment-covered (kept c.args.self.now.spline) c.args.key c.in-Some.segment c.args.self.now.spline.rises c.in-Some.ensures.segment in
+    near-limit (layout_of c.args.schema.now) c.args.ring.now (g.F.Flash.state c.args.flash.now) plan table holds g.row.KNOTS points c.args.key _ _ c.end_of_window-end.result
+    index.rises (index-covered c.args.self.now plan.error c.args.key table.points true index near) pending (index-end c.args.self.now plan table c.args.key c.next_number.result c.end_of_window-end.result index (c.next_number.ensures ∙ holds.next) c.end_of_window-end.ensures)
+    (λ page is. c.page_downwards.ensures.limit page holds.tells is)
+
+pub returns-in-None-clause-found : goal.returns-in-None-clause-found
+returns-in-None-clause-found g c = λ plan table holds points index.
+    far-found (layout_of c.args.schema.now) c.args.ring.now (g.F.Flash.state c.args.flash.now) plan table holds g.row.KNOTS c.args.key _ _ (g.F.Flash.state c.page_by_halves.new.flash)
+    c.page_by_halves.result (index-covered c.args.self.now plan.error c.args.key table.points false index c.in-None.ensures.segment)
+    (c.page_by_halves.ensures.page holds.tells (ascend-ring (layout_of c.args.schema.now) c.args.ring.now (g.F.Flash.state c.args.flash.now) plan table holds)) c.page_by_halves.ensures.some c.page_by_halves.ensures.fails
+
+pub returns-in-None-clause-reads : goal.returns-in-None-clause-reads
+returns-in-None-clause-reads g c = λ plan table holds points index pending.
+    far-limit (layout_of c.args.schema.now) c.args.ring.now (g.F.Flash.state c.args.flash.now) plan table holds g.row.KNOTS c.args.key _ _ (index-covered c.args.self.now plan.error c.args.key table.points false index c.in-None.ensures.segment) pending
+    (c.page_by_halves.ensures.limit holds.tells)
+
+pub returns-in-Some-clause-sound : goal.returns-in-Some-clause-sound
+returns-in-Some-clause-sound g c = λ page covered told is.
+    let end : c.end_of_window-end.result ≡ window_end c.args.self.now (next_of c.args.ring.now) c.args.key = c.end_of_window-end.ensures ∙ ap (λ (n : ℕ). window_end c.args.self.now n c.args.key) c.next_number.ensures in
+    subst (λ (e : ℕ). IsPageOf (first_on (layout_of c.args.schema.now) (shape_of c.args.ring.now) (g.F.Flash.state c.args.flash.now)) (oldest_of c.args.ring.now) e c.args.key page →
+    OnOk c.page_downwards.result (NoneIsBad (layout_of c.args.schema.now) c.args.ring.now (g.F.Flash.state c.args.flash.now) (unwrap_or page (oldest_of c.args.ring.now)) e))
+    end (c.page_downwards.ensures.sound page told) is
+
+pub returns-in-Some-clause-within : goal.returns-in-Some-clause-within
+returns-in-Some-clause-within g c =
+    let is = c.end_of_window-end.ensures in
+    let next = c.next_number.ensures in
+    IfOk-weaker c.page_downwards.result _ _ (λ page h. if-some _ _ page (λ n k. let before = k.1 in (k.0, omega (arith, before, is, next))) h) c.page_downwards.ensures.within

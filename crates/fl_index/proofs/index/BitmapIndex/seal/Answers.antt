@@ -1,0 +1,131 @@
+use Rattle.fl_ring.specs.declared.ring.Ring.{Ring}
+use Rattle.std.proofs.Common.{◌≡◌, Option, None, ◌+◌, ◌*◌, ◌%◌, ℕ, ◌<◌, ◌≤◌, List, ◌++◌, Some, Ok, Err, length, take, drop, set, arith, refl, sym, ◌∙◌, ap, subst}
+use Rattle.std.proofs.lemmas.Result.{err_from_is_err_and}
+use Rattle.fl_base.specs.Bytes.{splice}
+use Rattle.fl_flash.specs.Flash.{page_at}
+use Rattle.fl_ring.specs.Operations.{change, seal_kinds}
+use Rattle.fl_ring.specs.Place.{shape_of, StandsFor}
+use Rattle.fl_ring.specs.Ring.{Shape, OutsideStands, oldest, place, sealed}
+use Rattle.fl_ring.specs.Sealing.{Performed, Seals}
+use Rattle.fl_index.specs.Page.{header_bytes}
+use Rattle.fl_index.proofs.WaitingEntries.{written-back, headed-length, rest-headed}
+use Rattle.fl_index.specs.Memory.{per_page, len_in}
+use Rattle.fl_index.proofs.State.{shape_in, HaveSize}
+use Rattle.fl_index.proofs.SealEnds.{planned-ring, lies-size, seal-ready, seal-breaks, seal-finishes}
+use Rattle.fl_index.proofs.SealAnswers.{sealing-of, some-room, number-of, seal-on}
+use Rattle.fl_index.proofs.index.BitmapIndex.seal.Goals as goal
+
+pub nonzero_rem-at : goal.nonzero_rem-at
+nonzero_rem-at g c = let t = c.args.self.now in some-room t c.len.result c.len.ensures
+
+pub returns-in_err-seal-clause-ends : goal.returns-in_err-seal-clause-ends
+returns-in_err-seal-clause-ends g c = λ first plan table rose device watched stands.
+    let t = c.args.self.now in
+    let old = g.F.Flash.state c.args.flash.now in
+    let new = g.F.Flash.state c.seal.new.flash in
+    let ring = c.in-Some.ring in
+    let has : t.ring ≡ Some ring = sym c.take.ensures.value ∙ c.in-Some.is in
+    let shape : shape_of ring ≡ shape_in first plan = t.lies ring has ∙ planned-ring t first plan stands.in_ring.planned in
+    let lies = c.requires.lies in
+    let goes = c.seal.ensures.goes in
+    let sizes : HaveSize first plan (page_at old) = lies-size t old first plan stands.in_ring.planned lies.geometry lies.within (g.met.F.Flash.reaches c.args.flash.now) in
+    let sizes_now : HaveSize first plan (page_at new) = lies-size t new first plan stands.in_ring.planned (goes.geometry ∙ lies.geometry) (omega (arith, goes.blocks, lies.within)) (g.met.F.Flash.reaches c.seal.new.flash) in
+    let headed : take t.body.len (c.write_header.new.body ++ drop (length c.write_header.new.body) t.body.items) ≡ splice t.body.items 0 (header_bytes c.next_number-number.result t.first t.waiting) =
+    written-back t.body.len t.body.items c.write_header.new.body _ (c.write_header.ensures ∙ ap (λ (l : List ℕ). splice l 0 (header_bytes c.next_number-number.result t.first t.waiting)) c.deref_mut.ensures.value)
+    (headed-length c.next_number-number.result t.first t.waiting t.body.items (omega (arith, t.page, t.served.page_least))) t.body.ok.0 in
+    let is = sealing-of t old first plan table ring c.next_number-number.result stands sizes has c.next_number-number.ensures c.requires.left c.requires.full in
+    let body = splice t.body.items 0 (header_bytes c.next_number-number.result t.first t.waiting) in
+    let seals : Seals is.s body rose device ring (Err c.in_err-seal.field-0.0) c.seal.new.self new =
+    subst (λ (b : List ℕ). Seals is.s b rose device ring (Err c.in_err-seal.field-0.0) c.seal.new.self new) (c.deref.ensures.value ∙ headed)
+    (c.in_err-seal.ensures.seals is.s rose device (seal-ready t old first plan table body is ring has shape) watched) in
+    let p = err_from_is_err_and c.from_residual.result c.from_residual.ensures.1 in
+    rw (p.1, p.2) (seal-breaks t old first plan table body is rose device new sizes_now c.in_err-seal.field-0.0
+    (subst (λ (r : Shape). Performed r (change r body) rose (seal_kinds r is.s body) device is.s (Err c.in_err-seal.field-0.0) new) shape seals.performed))
+
+pub returns-clause-ends : goal.returns-clause-ends
+returns-clause-ends g c = λ first plan table rose device watched stands.
+    let t = c.args.self.now in
+    let old = g.F.Flash.state c.args.flash.now in
+    let new = g.F.Flash.state c.seal.new.flash in
+    let ring = c.in-Some.ring in
+    let after = c.seal.new.self in
+    let has : t.ring ≡ Some ring = sym c.take.ensures.value ∙ c.in-Some.is in
+    let shape : shape_of ring ≡ shape_in first plan = t.lies ring has ∙ planned-ring t first plan stands.in_ring.planned in
+    let lies = c.requires.lies in
+    let goes = c.seal.ensures.goes in
+    let sizes : HaveSize first plan (page_at old) = lies-size t old first plan stands.in_ring.planned lies.geometry lies.within (g.met.F.Flash.reaches c.args.flash.now) in
+    let sizes_now : HaveSize first plan (page_at new) = lies-size t new first plan stands.in_ring.planned (goes.geometry ∙ lies.geometry) (omega (arith, goes.blocks, lies.within)) (g.met.F.Flash.reaches c.seal.new.flash) in
+    let headed : take t.body.len (c.write_header.new.body ++ drop (length c.write_header.new.body) t.body.items) ≡ splice t.body.items 0 (header_bytes c.next_number-number.result t.first t.waiting) =
+    written-back t.body.len t.body.items c.write_header.new.body _ (c.write_header.ensures ∙ ap (λ (l : List ℕ). splice l 0 (header_bytes c.next_number-number.result t.first t.waiting)) c.deref_mut.ensures.value)
+    (headed-length c.next_number-number.result t.first t.waiting t.body.items (omega (arith, t.page, t.served.page_least))) t.body.ok.0 in
+    let is = sealing-of t old first plan table ring c.next_number-number.result stands sizes has c.next_number-number.ensures c.requires.left c.requires.full in
+    let body = splice t.body.items 0 (header_bytes c.next_number-number.result t.first t.waiting) in
+    let u = c.in_ok-seal.field-0 in
+    let seals : Seals is.s body rose device ring (Ok u) after new =
+    subst (λ (b : List ℕ). Seals is.s b rose device ring (Ok u) after new) (c.deref.ensures.value ∙ headed)
+    (c.in_ok-seal.ensures.seals is.s rose device (seal-ready t old first plan table body is ring has shape) watched) in
+    let both : (h : Performed (shape_in first plan) (change (shape_in first plan) body) rose (seal_kinds (shape_in first plan) is.s body) device is.s (Ok u) new) × StandsFor after h.now.state =
+    subst (λ (r : Shape). (h : Performed r (change r body) rose (seal_kinds r is.s body) device is.s (Ok u) new) × StandsFor after h.now.state) shape (seals.performed, seals.stands) in
+    let keeps : (n : ℕ) → oldest (sealed (shape_in first plan) is.s body) ≤ n → n < is.s.next → page_at new (place (shape_in first plan) n) ≡ page_at old (place (shape_in first plan) n) =
+    subst (λ (r : Shape). (n : ℕ) → oldest (sealed r is.s body) ≤ n → n < is.s.next → page_at new (place r n) ≡ page_at old (place r n)) shape
+    (subst (λ (b : List ℕ). (n : ℕ) → oldest (sealed (shape_of ring) is.s b) ≤ n → n < is.s.next → page_at new (place (shape_of ring) n) ≡ page_at old (place (shape_of ring) n)) (c.deref.ensures.value ∙ headed)
+    (c.in_ok-seal.ensures.keeps watched.told is.s (seal-ready t old first plan table body is ring has shape))) in
+    let number : c.next_number-number.result ≡ is.is.ring.next = number-of t old first plan table ring c.next_number-number.result stands has c.next_number-number.ensures is.s is.is in
+    let len : c.len.result ≡ length t.firsts.items = c.len.ensures ∙ t.firsts.ok.0 in
+    seal-finishes t old first plan table body is rose device new sizes_now after u _ both.0 both.1
+    (record { geometry = refl; place = refl; bits = refl; full = refl }) refl refl refl
+    (ap (λ n. set t.firsts.items (n % c.len.result) (Some t.first)) number ∙ ap (λ n. set t.firsts.items (is.is.ring.next % n) (Some t.first)) len)
+    keeps
+
+pub returns-in_err-seal-clause-outside : goal.returns-in_err-seal-clause-outside
+returns-in_err-seal-clause-outside g c = λ told.
+    let t = c.args.self.now in
+    let has : t.ring ≡ Some c.in-Some.ring = sym c.take.ensures.value ∙ c.in-Some.is in
+    subst (λ (r : Shape). OutsideStands r (page_at (g.F.Flash.state c.args.flash.now)) (page_at (g.F.Flash.state c.seal.new.flash))) (t.lies c.in-Some.ring has) (c.seal.ensures.outside told)
+
+pub returns-clause-outside : goal.returns-clause-outside
+returns-clause-outside g c = λ told.
+    let t = c.args.self.now in
+    let has : t.ring ≡ Some c.in-Some.ring = sym c.take.ensures.value ∙ c.in-Some.is in
+    subst (λ (r : Shape). OutsideStands r (page_at (g.F.Flash.state c.args.flash.now)) (page_at (g.F.Flash.state c.seal.new.flash))) (t.lies c.in-Some.ring has) (c.seal.ensures.outside told)
+
+pub returns-clause-power : goal.returns-clause-power
+returns-clause-power g c = λ on. seal-on _ _ _ _ _ _ _ c.in_ok-seal.ensures.calls
+
+pub invariant_of-self : goal.invariant_of-self
+invariant_of-self g c =
+    let t = c.args.self.now in
+    let back : take t.body.len (c.write_header.new.body ++ drop (length c.write_header.new.body) t.body.items) ≡ splice t.body.items 0 (header_bytes c.next_number-number.result t.first t.waiting) =
+    written-back t.body.len t.body.items c.write_header.new.body _ (c.write_header.ensures ∙ ap (λ (l : List ℕ). splice l 0 (header_bytes c.next_number-number.result t.first t.waiting)) c.deref_mut.ensures.value)
+    (headed-length c.next_number-number.result t.first t.waiting t.body.items (omega (arith, t.page, t.served.page_least))) t.body.ok.0 in
+    record {
+      served = t.served;
+      some_blocks = t.some_blocks;
+      few_blocks = t.few_blocks;
+      some_bits = t.some_bits;
+      remembered = t.remembered;
+      page = ap (λ (l : List ℕ). length l + 8) back ∙ (ap (λ n. n + 8) (headed-length c.next_number-number.result t.first t.waiting t.body.items (omega (arith, t.page, t.served.page_least))) ∙ t.page);
+      blank_rest = rest-headed c.next_number-number.result t.first t.waiting (per_page t * len_in t) t.body.items _ (omega (arith, t.page, t.served.page_least)) back t.blank_rest;
+      few = t.few;
+      left = t.left;
+      lies = λ r has. absurd (none r (sym c.take.ensures.after ∙ has));
+    }
+  where
+    none : (r : Ring) → ◌≡◌ {A = Option Ring} None (Some r) → ⊥
+    none r e = cc
+
+pub invariant_of-self-2-clause-blank_rest : goal.invariant_of-self-2-clause-blank_rest
+invariant_of-self-2-clause-blank_rest g c =
+    let t = c.args.self.now in
+    let back : take t.body.len (c.write_header.new.body ++ drop (length c.write_header.new.body) t.body.items) ≡ splice t.body.items 0 (header_bytes c.next_number-number.result t.first t.waiting) =
+    written-back t.body.len t.body.items c.write_header.new.body _ (c.write_header.ensures ∙ ap (λ (l : List ℕ). splice l 0 (header_bytes c.next_number-number.result t.first t.waiting)) c.deref_mut.ensures.value)
+    (headed-length c.next_number-number.result t.first t.waiting t.body.items (omega (arith, t.page, t.served.page_least))) t.body.ok.0 in
+    rest-headed c.next_number-number.result t.first t.waiting (per_page t * len_in t) t.body.items _ (omega (arith, t.page, t.served.page_least)) back t.blank_rest
+
+pub invariant_of-self-2-clause-page : goal.invariant_of-self-2-clause-page
+invariant_of-self-2-clause-page g c =
+    let t = c.args.self.now in
+    let back : take t.body.len (c.write_header.new.body ++ drop (length c.write_header.new.body) t.body.items) ≡ splice t.body.items 0 (header_bytes c.next_number-number.result t.first t.waiting) =
+    written-back t.body.len t.body.items c.write_header.new.body _ (c.write_header.ensures ∙ ap (λ (l : List ℕ). splice l 0 (header_bytes c.next_number-number.result t.first t.waiting)) c.deref_mut.ensures.value)
+    (headed-length c.next_number-number.result t.first t.waiting t.body.items (omega (arith, t.page, t.served.page_least))) t.body.ok.0 in
+    ap (λ (l : List ℕ). length l + 8) back ∙ (ap (λ n. n + 8) (headed-length c.next_number-number.result t.first t.waiting t.body.items (omega (arith, t.page, t.served.page_least))) ∙ t.page)

@@ -1,0 +1,198 @@
+-- The causes of replies, over any bytes.
+use Rattle.std.proofs.Common.{◌≡◌, ◌⊎◌, ℕ, ◌+◌, ◌<◌, ◌≤◌, Bool, true, false, not, nat_lt, inl, inr, Option, None, Some, Result, Ok, Err, IfErr, List, [], ◌∷◌, length, refl, sym, ◌∙◌, ap, subst}
+use Rattle.std.specs.Prelude.{◌↔◌, is_err, unwrap_or, OnOk, ℤ}
+use Rattle.std.specs.List.{slice_get}
+use Rattle.std.specs.Option.{is_none}
+use Rattle.std.proofs.lemmas.Bool.{lt-ltb, le-ltb}
+use Rattle.fl_model.specs.Record.{RowLayout}
+use Rattle.fl_page.specs.Contents.{OnlyReads}
+use Rattle.fl_base.specs.Causes.{Rose}
+use Rattle.fl_cursor.specs.declared.bookmark.Bookmark.{Bookmark}
+use Rattle.fl_flash.specs.Flash.{FlashState, Goes}
+use Rattle.fl_flash.specs.declared.flash.FlashFault.{FlashFault}
+use Rattle.fl_flash.specs.declared.flash.FlashFault.TheVariants.{PowerLost, Media}
+use Rattle.fl_machine.specs.Step.{load_values}
+use Rattle.fl_ring.specs.Causes.{CausedBy}
+use Rattle.fl_script.specs.ReplyView.{reply_text}
+use Rattle.fl_script.specs.Written.{Written}
+use Rattle.fl_script.specs.declared.reply.Reply as code
+use Rattle.fl_table.specs.Causes.{FlushCausedBy, PutCausedBy, put_breaks}
+use Rattle.fl_table.specs.Look.{last_key_in, layout_in}
+use Rattle.fl_table.specs.Refusal.{RefusesAs}
+use Rattle.fl_table.specs.declared.faults.FlushFault.{FlushFault}
+use Rattle.fl_table.specs.declared.faults.FlushFault.TheVariants as flush
+use Rattle.fl_table.specs.declared.faults.PutRefusal.{PutRefusal}
+use Rattle.fl_table.specs.declared.faults.PutRefusal.TheVariants as put
+use Rattle.fl_rlc.specs.Refusal.{RefusedSame, put_refusal}
+use Rattle.fl_rlc.specs.Table.{table_in}
+use Rattle.fl_rlc.specs.declared.table.LoggedTable.{LoggedTable}
+use Rattle.fl_store.specs.Tables.{entries_with}
+use Rattle.fl_store.specs.declared.tables.BadMount.{BadMount}
+use Rattle.fl_store.specs.declared.tables.Entry.{Entry}
+use Rattle.fl_store.proofs.CallsInTurn.{rose-back}
+use Rattle.fl_store.proofs.TablesChanged.{set-same}
+use Rattle.fl_words.specs.Command.{Command, Nothing}
+use Rattle.fl_words.specs.Reply as reply
+use Rattle.fl_words.specs.Reply.{Reply, text}
+use Rattle.fl_session.proofs.NextCommand.{nothing-added}
+use Rattle.fl_session.specs.Answer.{IsReached, Refusal}
+use Rattle.fl_session.specs.Asked.{lacked_column}
+use Rattle.fl_session.specs.Caused.{Caused, State, state_of, Says, Writes, IsRefused, IsHere, OnTable, IfLacks, OnlyLooks, MountsOver, PutFails, FlushFails, LoadCounts, LoadFails}
+use Rattle.fl_session.specs.Load.{load_key}
+use Rattle.fl_session.specs.Notes.{with_cursor}
+use Rattle.fl_session.specs.declared.notes.Notes.{Notes}
+use Rattle.fl_session.specs.declared.notes.TableCursor.{TableCursor}
+
+-- a command that is refused
+pub refusal-says : (s : State) (name : List ℕ) (said : code.Reply) → Refusal s.entries s.mounted name said → Says (reply_text said) (IsRefused s s name)
+refusal-says s name code.TheVariants.NotMounted r = record { reply = reply.NotMounted; said_is = refl; holds = (inl (r, refl), refl) }
+refusal-says s name code.TheVariants.NoTable r = record { reply = reply.NoTable; said_is = refl; holds = (inr (r.0, r.1, refl), refl) }
+refusal-says s name said r = absurd r
+
+pub on-refusal : (s : State) (name : List ℕ) (Holds : ℕ → Entry → Reply → Type 0) (said : code.Reply) → Refusal s.entries s.mounted name said → Says (reply_text said) (OnTable s s name Holds)
+on-refusal s name Holds said r = let x = refusal-says s name said r in record { reply = x.reply; said_is = x.said_is; holds = inl x.holds }
+
+-- a reply that was written
+pub says-written : (E : Type 0) (told told_now : Option (List ℕ)) (result : Result (Unit {0}) E) (said : List ℕ) (Holds : Reply → Type 0) → Says said Holds → Written told told_now result said → Writes told told_now result Holds
+says-written E told told_now result said Holds x wrote = record { reply = x.reply; written = subst (λ (bytes : List ℕ). Written told told_now result bytes) x.said_is wrote; holds = x.holds }
+
+-- a line that is no command
+pub caused-nothing : (E : Type 0) (command : Command) (old new : State) (told : Option (List ℕ)) → command ≡ Nothing → new ≡ old → Caused {E = E} command old new told told (Ok tt)
+caused-nothing E command old new told is same = subst (λ (x : Command). Caused {E = E} x old new told told (Ok tt)) (sym is) (nothing-added told, same)
+
+-- a table that is looked at
+pub only-looks : (entries : List Entry) (mounted : Bool) (a b c : Notes) (f g : FlashState) → b ≡ c → OnlyReads f g → OnlyLooks (state_of entries mounted a f) (state_of entries mounted b g) c
+only-looks entries mounted a b c f g noted reads = record { entries = refl; mounted = refl; notes_are = noted; reads = reads }
+
+-- other notes alone
+pub noted : (entries : List Entry) (mounted : Bool) (a b : Notes) (f : FlashState) → a ≡ b → state_of entries mounted a f ≡ state_of entries mounted b f
+noted entries mounted a b f same = ap (λ (notes : Notes). state_of entries mounted notes f) same
+
+pub is-here : (s : State) (name : List ℕ) (at : ℕ) (entry : Entry) → IsReached s.entries s.mounted name at → slice_get s.entries at ≡ Some entry → IsHere s name at entry
+is-here s name at entry reached here = record { reached = reached; here = here }
+
+-- a column that a table lacks, and one that it has
+pub lacks-one : (layout : RowLayout) (column : ℕ) → length layout.columns < column → lacked_column layout (column ∷ []) ≡ Some column
+lacks-one layout column beyond =
+    let is : nat_lt (length layout.columns) column ≡ true = lt-ltb (length layout.columns) column beyond in
+    rw is refl
+
+pub has-one : (layout : RowLayout) (column : ℕ) → column ≤ length layout.columns → lacked_column layout (column ∷ []) ≡ None
+has-one layout column within =
+    let is : nat_lt (length layout.columns) column ≡ false = le-ltb (length layout.columns) column within in
+    rw is refl
+
+module _ (E : Type 0) (old new : State) (told told_now : Option (List ℕ)) (result : Result (Unit {0}) E) (o : Option ℕ) where
+  pub lacks-says : (column : ℕ) → o ≡ Some column → new ≡ old → Written told told_now result (text (reply.NoColumn column)) → IfLacks old new told told_now result o
+  lacks-says column lacks same wrote = subst (λ (x : Option ℕ). IfLacks old new told told_now result x) (sym lacks) (record { reply = reply.NoColumn column; written = wrote; holds = (refl, same) })
+
+  pub has-says : o ≡ None → OnlyLooks old new old.notes → IfLacks old new told told_now result o
+  has-says none looks = subst (λ (x : Option ℕ). IfLacks old new told told_now result x) (sym none) looks
+
+-- a cursor that isn't open, and one that is
+pub closed-as : (cursors : List (Option TableCursor)) (n : ℕ) (o : Option TableCursor) → slice_get cursors n ≡ Some o → is_none o ≡ true → slice_get cursors n ≡ Some None
+closed-as cursors n None there none = there
+closed-as cursors n (Some held) there none = absurd (cc none)
+
+pub open-as : (cursors : List (Option TableCursor)) (n : ℕ) (o : Option TableCursor) → slice_get cursors n ≡ Some o → is_none o ≡ false → (held : TableCursor) × (slice_get cursors n ≡ Some (Some held))
+open-as cursors n None there some = absurd (cc some)
+open-as cursors n (Some held) there some = (held, there)
+
+-- the table that is reached
+pub reached-entry : (entries : List Entry) (mounted : Bool) (name : List ℕ) (at : ℕ) → IsReached entries mounted name at → (entry : Entry) × (slice_get entries at ≡ Some entry)
+reached-entry entries mounted name at r = (r.named.entry, r.named.here)
+
+-- a cursor that was opened
+pub opened : (entries : List Entry) (mounted : Bool) (old new : Notes) (f : FlashState) (n at : ℕ) (mark on : Bookmark) → new ≡ with_cursor old n (Some (record { table = at; mark = mark })) → mark ≡ on →
+    state_of entries mounted new f ≡ record (state_of entries mounted old f) { notes = with_cursor old n (Some (record { table = at; mark = on })) }
+opened entries mounted old new f n at mark on set is =
+    noted entries mounted new (with_cursor old n (Some (record { table = at; mark = on }))) f (set ∙ ap (λ (m : Bookmark). with_cursor old n (Some (record { table = at; mark = m }))) is)
+
+-- a state with the same table, flash and notes
+pub kept-state : (s : State) (at : ℕ) (entry : Entry) (t : LoggedTable 64 64) (b : Bool) (g : FlashState) → slice_get s.entries at ≡ Some entry → t ≡ entry.table → b ≡ s.mounted → g ≡ s.flash →
+    state_of (entries_with s.entries at entry t) b s.notes g ≡ s
+kept-state s at entry t b g here same still kept =
+    ap (λ (u : LoggedTable 64 64). state_of (entries_with s.entries at entry u) b s.notes g) same
+    ∙ (ap (λ (es : List Entry). state_of es b s.notes g) (set-same s.entries at entry here)
+    ∙ (ap (λ (c : Bool). state_of s.entries c s.notes g) still ∙ ap (λ (x : FlashState). state_of s.entries s.mounted s.notes x) kept))
+
+-- a mount on the flash of which the power went on
+pub mounts-on : (old new : List Entry) (f on g : FlashState) (outcome : Result (Unit {0}) BadMount) → on ≡ f → MountsOver old new on outcome g → MountsOver old new f outcome g
+mounts-on old new f on g outcome same h = subst (λ (x : FlashState). MountsOver old new x outcome g) same h
+
+-- a put that fails
+put-fails : (s : State) (at : ℕ) (entry : Entry) (t : LoggedTable 64 64) (g : FlashState) (e : PutRefusal) → slice_get s.entries at ≡ Some entry → s.mounted ≡ true →
+    RefusedSame entry.table s.flash e t g → PutCausedBy s.flash e g → PutFails s (state_of (entries_with s.entries at entry t) (not (put_breaks (Err e))) s.notes g) e
+put-fails s at entry t g (put.Flash fault) here up same cause = cause
+put-fails s at entry t g (put.Key last) here up same cause = kept-state s at entry t true g here same.0 (sym up) same.1
+put-fails s at entry t g (put.Columns count) here up same cause = kept-state s at entry t true g here same.0 (sym up) same.1
+put-fails s at entry t g (put.Value column) here up same cause = kept-state s at entry t true g here same.0 (sym up) same.1
+put-fails s at entry t g (put.Blob limit) here up same cause = kept-state s at entry t true g here same.0 (sym up) same.1
+put-fails s at entry t g put.Spent here up same cause = kept-state s at entry t true g here same.0 (sym up) same.1
+put-fails s at entry t g put.Stopped here up same cause = kept-state s at entry t true g here same.0 (sym up) same.1
+
+pub put-fails-so : (s : State) (at : ℕ) (entry : Entry) (t : LoggedTable 64 64) (g : FlashState) (outcome : Result (Unit {0}) PutRefusal) → slice_get s.entries at ≡ Some entry → s.mounted ≡ true →
+    IfErr outcome (λ e. RefusedSame entry.table s.flash e t g) → IfErr outcome (λ e. PutCausedBy s.flash e g) → IfErr outcome (PutFails s (state_of (entries_with s.entries at entry t) (not (put_breaks outcome)) s.notes g))
+put-fails-so s at entry t g (Ok done) here up same cause = tt
+put-fails-so s at entry t g (Err e) here up same cause = put-fails s at entry t g e here up same cause
+
+-- a flush that fails
+pub flush-fails : (f g : FlashState) (running : Bool) (outcome : Result (Unit {0}) FlushFault) → running ≡ true → ((outcome ≡ Err flush.Stopped) ↔ (running ≡ false)) → IfErr outcome (λ e. FlushCausedBy f e g) → IfErr outcome (FlushFails f g)
+flush-fails f g running (Ok done) runs exact cause = tt
+flush-fails f g running (Err (flush.Flash fault)) runs exact cause = cause
+flush-fails f g running (Err flush.Stopped) runs exact cause = absurd (let off = exact.0 refl in cc (runs, off))
+
+-- a load that stops
+pub load-counts : (asked count : ℕ) (outcome : Result (Unit {0}) PutRefusal) → is_err outcome ≡ true → count < asked → LoadCounts asked count outcome
+load-counts asked count (Ok done) is below = absurd (cc is)
+load-counts asked count (Err e) is below = below
+
+refusal-is : (o : Option PutRefusal) (e : PutRefusal) → put_breaks (Err e) ≡ false → RefusesAs o (Err e) → o ≡ Some e
+refusal-is None (put.Flash fault) is exact = absurd (cc is)
+refusal-is None (put.Key last) is exact = absurd exact
+refusal-is None (put.Columns count) is exact = absurd exact
+refusal-is None (put.Value column) is exact = absurd exact
+refusal-is None (put.Blob limit) is exact = absurd exact
+refusal-is None put.Spent is exact = absurd exact
+refusal-is None put.Stopped is exact = absurd exact
+refusal-is (Some refusal) e is exact = let same : e ≡ refusal = cc exact in ap Some (sym same)
+
+-- .. and one that doesn't
+pub when-ok : (P : Type 0) (outcome : Result (Unit {0}) PutRefusal) → is_err outcome ≡ false → OnOk outcome P → P
+when-ok P (Ok done) is p = p
+when-ok P (Err e) is p = absurd (cc is)
+
+pub when-err : (P : Type 0) (outcome : Result (Unit {0}) PutRefusal) → is_err outcome ≡ true → OnOk outcome P
+when-err P (Ok done) is = absurd (cc is)
+when-err P (Err e) is = tt
+
+-- a cause in the last of some calls, of which those before left the power on
+off-before : (P : Type 0) (was now : Bool) → (was ≡ true → now ≡ true) → (now ≡ false) ⊎ P → (was ≡ false) ⊎ P
+off-before P false now kept cause = inl refl
+off-before P true now kept (inl off) = absurd (let on = kept refl in cc (on, off))
+off-before P true now kept (inr p) = inr p
+
+caused-before : (f m n : FlashState) (fault : FlashFault) → (f.is_on ≡ true → m.is_on ≡ true) → Goes f m → CausedBy m fault n → CausedBy f fault n
+caused-before f m n PowerLost kept goes (inl off) = off-before (Rose f.cuts n.cuts) f.is_on m.is_on kept (inl off)
+caused-before f m n PowerLost kept goes (inr rose) = inr (rose-back f.cuts m.cuts n.cuts goes.cuts rose)
+caused-before f m n Media kept goes rose = rose-back f.media.faults m.media.faults n.media.faults goes.faults rose
+
+module _ (t u : LoggedTable 64 64) (f m n : FlashState) (step seed count random key : ℕ) (values : List ℤ) where
+  refuses-now : (e : PutRefusal) → put_breaks (Err e) ≡ false → u ≡ t → key ≡ load_key (unwrap_or (last_key_in (table_in t)) 0) step random → values ≡ load_values (count + 1) seed 1 (layout_in (table_in t)).columns → RefusesAs (put_refusal t key values None) (Err e) →
+      (r : ℕ) × (put_refusal u (load_key (unwrap_or (last_key_in (table_in u)) 0) step r) (load_values (count + 1) seed 1 (layout_in (table_in u)).columns) None ≡ Some e)
+  refuses-now e is same k v exact = (
+    random,
+    ap (λ (x : LoggedTable 64 64). put_refusal x (load_key (unwrap_or (last_key_in (table_in x)) 0) step random) (load_values (count + 1) seed 1 (layout_in (table_in x)).columns) None) same
+        ∙ (ap (λ (x : ℕ). put_refusal t x (load_values (count + 1) seed 1 (layout_in (table_in t)).columns) None) (sym k) ∙ (ap (λ (vs : List ℤ). put_refusal t key vs None) (sym v) ∙ refusal-is (put_refusal t key values None) e is exact)),
+  )
+
+  pub load-fails : key ≡ load_key (unwrap_or (last_key_in (table_in t)) 0) step random → values ≡ load_values (count + 1) seed 1 (layout_in (table_in t)).columns → (outcome : Result (Unit {0}) PutRefusal) → (f.is_on ≡ true → m.is_on ≡ true) → Goes f m → RefusesAs (put_refusal t key values None) outcome →
+      IfErr outcome (λ e. RefusedSame t m e u n) → IfErr outcome (λ e. PutCausedBy m e n) → IfErr outcome (LoadFails u f n step seed count)
+  load-fails k v (Ok done) on goes exact same cause = tt
+  load-fails k v (Err (put.Flash fault)) on goes exact same cause = caused-before f m n fault on goes cause
+  load-fails k v (Err (put.Key last)) on goes exact same cause = refuses-now (put.Key last) refl same.0 k v exact
+  load-fails k v (Err (put.Columns wanted)) on goes exact same cause = refuses-now (put.Columns wanted) refl same.0 k v exact
+  load-fails k v (Err (put.Value column)) on goes exact same cause = refuses-now (put.Value column) refl same.0 k v exact
+  load-fails k v (Err (put.Blob limit)) on goes exact same cause = refuses-now (put.Blob limit) refl same.0 k v exact
+  load-fails k v (Err put.Spent) on goes exact same cause = refuses-now put.Spent refl same.0 k v exact
+  load-fails k v (Err put.Stopped) on goes exact same cause = refuses-now put.Stopped refl same.0 k v exact

@@ -1,0 +1,159 @@
+-- The answers to lines go on by one line.
+use Rattle.std.proofs.Common.{◌≡◌, ℕ, ◌+◌, ◌^◌, ◌<◌, ◌≤◌, true, false, inl, inr, Option, Some, None, Ok, Err, List, [], ◌∷◌, ◌++◌, length, refl, sym, ◌∙◌, ap, subst, append-nil, length-append, arith}
+use Rattle.std.specs.List.{AllByRecursion}
+use Rattle.std.proofs.lemmas.Grind.{flat_map-append}
+use Rattle.fl_base.specs.Causes.{Appends, AppendsFront, Rose}
+use Rattle.fl_flash.specs.Flash.{FlashState}
+use Rattle.fl_model.specs.Record.{Config}
+use Rattle.fl_words.specs.Command.{Command}
+use Rattle.fl_machine.specs.Machine.{Machine}
+use Rattle.fl_machine.specs.Run.{Run, end_of, risen_in}
+use Rattle.fl_machine.specs.Script.{RoseBy}
+use Rattle.fl_machine.specs.Small.{AreTables}
+use Rattle.fl_machine.specs.Step.{Moment}
+use Rattle.fl_session.specs.Execute.{IsReady}
+use Rattle.fl_session.proofs.NextCommand.{run-more, appends-more, nothing-added}
+use Rattle.fl_shell.specs.Flushing.{RanThese}
+use Rattle.fl_shell.specs.Talk.{Turn, Answers, AnswersEach, HasCauses, TalkedInto, moments_of, moments_onto, answers_of, after_turn}
+use Rattle.fl_shell.specs.Talking.{TalkedSoFar}
+use Rattle.fl_shell.specs.Turning.{Turns, Says, Executed}
+use Rattle.fl_shell.proofs.Ran.{ran-begins, ran-looked, ran-stands, ran-goes_on}
+
+moments-onto : (o : Option Moment) (front others : List Moment) → moments_onto o (front ++ others) ≡ moments_onto o front ++ others
+moments-onto None front others = refl
+moments-onto (Some m) front others = refl
+
+-- the moments and the answers of some turns and one more
+pub moments-more : (turns : List Turn) (turn : Turn) → moments_of (turns ++ turn ∷ []) ≡ moments_of turns ++ moments_onto turn.moment []
+moments-more [] turn = refl
+moments-more (t ∷ turns) turn = ap (moments_onto t.moment) (moments-more turns turn) ∙ moments-onto t.moment (moments_of turns) (moments_onto turn.moment [])
+
+pub answers-more : (turns : List Turn) (turn : Turn) → answers_of (turns ++ turn ∷ []) ≡ answers_of turns ++ turn.answer
+answers-more turns turn = flat_map-append (λ (t : Turn). t.answer) turns (turn ∷ []) ∙ ap (λ ys. answers_of turns ++ ys) (append-nil turn.answer)
+
+-- the state behind a turn and others
+after-moments : (old : Machine) (turn : Turn) (turns : List Turn) → end_of (after_turn old turn) (moments_of turns) ≡ end_of old (moments_onto turn.moment (moments_of turns))
+after-moments old turn turns = by_moment turn.moment
+  where
+    by_moment : (o : Option Moment) → end_of (end_of old (moments_onto o [])) (moments_of turns) ≡ end_of old (moments_onto o (moments_of turns))
+    by_moment None = refl
+    by_moment (Some m) = refl
+
+-- each line was answered, and so was one more
+pub each-more : (config : Config) (old : Machine) (lines : List (List ℕ)) (turns : List Turn) (line : List ℕ) (turn : Turn) → AnswersEach config old lines turns → Answers config (end_of old (moments_of turns)) line turn → AnswersEach config old (lines ++ line ∷ []) (turns ++ turn ∷ [])
+each-more config old [] [] line turn each more = (more, tt)
+each-more config old [] (t ∷ turns) line turn each more = absurd each
+each-more config old (l ∷ lines) [] line turn each more = absurd each
+each-more config old (l ∷ lines) (t ∷ turns) line turn each more =
+    (each.0, each-more config (after_turn old t) lines turns line turn each.1 (subst (λ m. Answers config m line turn) (sym (after-moments old t turns)) more))
+
+-- before any line
+pub talked-none : (config : Config) (old : Machine) (stands : Machine → Type 0) (flash : FlashState) (told : Option (List ℕ)) → flash.work.reads ≡ 0 → stands old → TalkedSoFar config old [] stands flash.media.content flash.media.faults flash told told
+talked-none config old stands flash told unread here = record { turns = []; each = tt; runs = ran-begins config old stands flash unread here; causes = tt; told_all = nothing-added told }
+
+-- ---- reads that failed beside commands
+
+-- a count that rose after others did
+rose-since : (n faults mid now : ℕ) → RoseBy n faults mid → Rose mid now → Rose faults now
+rose-since n faults mid now h rose = elim h [ inl a ↦ omega (arith, a, rose) | inr b ↦ omega (arith, b, rose) ]
+
+-- their causes stay, as the medium fails more often
+cause-later : (faults mid now : ℕ) (turn : Turn) → mid ≤ now → HasCauses faults mid turn → HasCauses faults now turn
+cause-later faults mid now turn later h = λ e. let rose = h e in omega (arith, rose, later)
+
+pub causes-later : (faults mid now : ℕ) (turns : List Turn) → mid ≤ now → AllByRecursion (HasCauses faults mid) turns → AllByRecursion (HasCauses faults now) turns
+causes-later faults mid now [] later all = tt
+causes-later faults mid now (t ∷ turns) later all = (cause-later faults mid now t later all.0, causes-later faults mid now turns later all.1)
+
+-- .. and are those of counts from before
+pub causes-earlier : (before mid now : ℕ) (turns : List Turn) → before ≤ mid → AllByRecursion (HasCauses mid now) turns → AllByRecursion (HasCauses before now) turns
+causes-earlier before mid now [] le all = tt
+causes-earlier before mid now (t ∷ turns) le all = (λ e. let rose = all.0 e in omega (arith, rose, le), causes-earlier before mid now turns le all.1)
+
+causes-more : (faults mid now : ℕ) (turns : List Turn) (turn : Turn) → mid ≤ now → AllByRecursion (HasCauses faults mid) turns → HasCauses faults now turn → AllByRecursion (HasCauses faults now) (turns ++ turn ∷ [])
+causes-more faults mid now [] turn later all more = (more, tt)
+causes-more faults mid now (t ∷ turns) turn later all more = (cause-later faults mid now t later all.0, causes-more faults mid now turns turn later all.1 more)
+
+-- a line to which the machine executes nothing
+talked-silent : {E : Type 0} (config : Config) (old : Machine) (lines : List (List ℕ)) (stands stands_now : Machine → Type 0) (content : List ℕ) (faults : ℕ) (flash flash_now : FlashState) (told told_mid told_now : Option (List ℕ)) (line : List ℕ) →
+    IsReady config old → ((m : Machine) → stands m → AreTables config.plans m.tables) → flash.media.faults ≤ flash_now.media.faults →
+    TalkedSoFar config old lines stands content faults flash told told_mid → ((m : Machine) → stands m → Says {E = E} config m line stands_now flash flash_now told_mid told_now (Ok tt)) →
+    TalkedSoFar config old (lines ++ line ∷ []) stands_now content faults flash_now told told_now
+talked-silent config old lines stands stands_now content faults flash flash_now told told_mid told_now line ready hold later h says =
+    let here = ran-stands config old (length lines) (moments_of h.turns) stands content faults flash h.runs in
+    let s = says (end_of old (moments_of h.turns)) here in
+    let turn : Turn = record { moment = None; answer = s.answer; unread = s.unread } in
+    let same : moments_of h.turns ≡ moments_of (h.turns ++ turn ∷ []) = sym (moments-more h.turns turn ∙ append-nil (moments_of h.turns)) in
+    let runs = ran-looked config old (length lines) (moments_of h.turns) s.unread stands stands_now content faults flash flash_now ready hold later h.runs s.few s.looked in
+    record {
+      turns = h.turns ++ turn ∷ [];
+      each = each-more config old lines h.turns line turn h.each s.answers;
+      runs = subst (λ n. RanThese config old n (moments_of (h.turns ++ turn ∷ [])) stands_now content faults flash_now) (sym (length-append lines (line ∷ [])))
+          (subst (λ ms. RanThese config old (length lines + 1) ms stands_now content faults flash_now) same runs);
+      causes = causes-more faults flash.media.faults flash_now.media.faults h.turns turn later h.causes (λ e. rose-since (risen_in h.runs.ran.moments) faults flash.media.faults flash_now.media.faults h.runs.ran.rose (s.looked.cause e));
+      told_all = subst (λ text. Appends told told_now text) (sym (answers-more h.turns turn)) (appends-more told told_mid told_now (answers_of h.turns) s.answer h.told_all s.written);
+    }
+
+none-failed : false ≡ true → ⊥
+none-failed e = cc
+
+-- .. and one for which it executes a command
+talked-command : {E : Type 0} (config : Config) (old : Machine) (lines : List (List ℕ)) (stands stands_now : Machine → Type 0) (content : List ℕ) (faults : ℕ) (flash flash_now : FlashState) (told told_mid told_now : Option (List ℕ)) (line : List ℕ) (c : Command) →
+    IsReady config old → TalkedSoFar config old lines stands content faults flash told told_mid → length lines < 2 ^ 44 + 2 ^ 10 → ((m : Machine) → stands m → AreTables config.plans m.tables) → flash.media.faults ≤ flash_now.media.faults →
+    ((m : Machine) → stands m → Executed E config m line c stands_now flash flash_now told_mid told_now) →
+    TalkedSoFar config old (lines ++ line ∷ []) stands_now content faults flash_now told told_now
+talked-command {E} config old lines stands stands_now content faults flash flash_now told told_mid told_now line c ready h few hold later turn_at =
+    let Turned : Moment → Type 0 = λ moment. (answer : List ℕ) × Answers config (end_of old (moments_of h.turns)) line (record { moment = Some moment; answer = answer; unread = [] }) × Appends told_mid told_now answer in
+    let g = ran-goes_on {E = E} config old (length lines) (moments_of h.turns) c stands stands_now content faults flash flash_now Turned ready few hold later h.runs (λ m here. (turn_at m here).executes)
+    (λ m here is. let t = turn_at m here in (t.answer, subst (λ x. Answers config x line (record { moment = Some t.executes.moment; answer = t.answer; unread = [] })) is t.answers, t.written)) in
+    let answer = g.1.0 in
+    let turn : Turn = record { moment = Some g.0; answer = answer; unread = [] } in
+    record {
+      turns = h.turns ++ turn ∷ [];
+      each = each-more config old lines h.turns line turn h.each g.1.1;
+      runs = subst (λ n. RanThese config old n (moments_of (h.turns ++ turn ∷ [])) stands_now content faults flash_now) (sym (length-append lines (line ∷ [])))
+          (subst (λ ms. RanThese config old (length lines + 1) ms stands_now content faults flash_now) (sym (moments-more h.turns turn)) g.3);
+      causes = causes-more faults flash.media.faults flash_now.media.faults h.turns turn later h.causes (λ e. absurd (none-failed e));
+      told_all = subst (λ text. Appends told told_now text) (sym (answers-more h.turns turn)) (appends-more told told_mid told_now (answers_of h.turns) answer h.told_all g.1.2);
+    }
+
+-- a line is answered
+pub talked-more : (E : Type 0) (config : Config) (old : Machine) (lines : List (List ℕ)) (stands stands_now : Machine → Type 0) (content : List ℕ) (faults : ℕ) (flash flash_now : FlashState) (told told_mid told_now : Option (List ℕ)) (line : List ℕ) (o : Option Command) →
+    IsReady config old → TalkedSoFar config old lines stands content faults flash told told_mid → length lines < 2 ^ 44 + 2 ^ 10 → ((m : Machine) → stands m → AreTables config.plans m.tables) → flash.media.faults ≤ flash_now.media.faults →
+    ((m : Machine) → stands m → Turns {E = E} config m line o stands_now flash flash_now told_mid told_now (Ok tt)) →
+    TalkedSoFar config old (lines ++ line ∷ []) stands_now content faults flash_now told told_now
+talked-more E config old lines stands stands_now content faults flash flash_now told told_mid told_now line None ready h few hold later turn_at =
+    talked-silent {E = E} config old lines stands stands_now content faults flash flash_now told told_mid told_now line ready hold later h turn_at
+talked-more E config old lines stands stands_now content faults flash flash_now told told_mid told_now line (Some c) ready h few hold later turn_at =
+    talked-command {E = E} config old lines stands stands_now content faults flash flash_now told told_mid told_now line c ready h few hold later turn_at
+
+-- the sink fails in an answer
+pub talked-into : {E : Type 0} (config : Config) (old : Machine) (lines : List (List ℕ)) (stands stands_now : Machine → Type 0) (content : List ℕ) (faults : ℕ) (flash flash_now : FlashState) (told told_mid told_now : Option (List ℕ)) (line : List ℕ) (o : Option Command) (error : E) →
+    TalkedSoFar config old lines stands content faults flash told told_mid →
+    ((m : Machine) → stands m → Turns {E = E} config m line o stands_now flash flash_now told_mid told_now (Err error)) → TalkedInto config old (lines ++ line ∷ []) told told_now
+talked-into {E} config old lines stands stands_now content faults flash flash_now told told_mid told_now line o error h turn_at =
+    by_command o (turn_at (end_of old (moments_of h.turns)) (ran-stands config old (length lines) (moments_of h.turns) stands content faults flash h.runs))
+  where
+    run : Run config old (moments_of h.turns)
+    run = subst (λ ms. Run config old ms) h.runs.are h.runs.ran.run
+
+    into : (turn : Turn) → Answers config (end_of old (moments_of h.turns)) line turn → Run config old (moments_of (h.turns ++ turn ∷ [])) → AppendsFront told_mid told_now turn.answer → TalkedInto config old (lines ++ line ∷ []) told told_now
+    into turn answers ran wrote = record {
+      turns = h.turns ++ turn ∷ [];
+      each = each-more config old lines h.turns line turn h.each answers;
+      run = ran;
+      before = h.turns;
+      last = turn;
+      split = refl;
+      front = wrote.0;
+      is_front = wrote.1;
+      told_front = appends-more told told_mid told_now (answers_of h.turns) wrote.0 h.told_all wrote.2;
+    }
+
+    by_command : (o : Option Command) → Turns {E = E} config (end_of old (moments_of h.turns)) line o stands_now flash flash_now told_mid told_now (Err error) → TalkedInto config old (lines ++ line ∷ []) told told_now
+    by_command None s =
+        let turn : Turn = record { moment = None; answer = s.answer; unread = s.unread } in
+        into turn s.answers (subst (λ ms. Run config old ms) (sym (moments-more h.turns turn ∙ append-nil (moments_of h.turns))) run) s.written
+    by_command (Some c) s =
+        let turn : Turn = record { moment = Some s.moment; answer = s.answer; unread = [] } in
+        into turn s.answers (subst (λ ms. Run config old ms) (sym (moments-more h.turns turn)) (run-more config old (moments_of h.turns) s.moment run s.step)) s.written

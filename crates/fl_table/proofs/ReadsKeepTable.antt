@@ -1,0 +1,130 @@
+-- Reads leave a table as it stands.
+use Rattle.std.proofs.Common.{◌≡◌, ℕ, ◌<◌, ◌^◌, ◌*◌, ◌+◌, Bool, true, false, Result, Err, List, length, take, drop, refl, sym, ◌∙◌, ap, subst, arith}
+use Rattle.fl_flash.specs.Buffer.{BufferState}
+use Rattle.fl_flash.specs.Flash.{FlashState, Goes, ReadsPage, page_at, pages}
+use Rattle.fl_flash.specs.Media.{next_count}
+use Rattle.fl_flash.specs.Places.{extent}
+use Rattle.fl_page.specs.Contents as contents
+use Rattle.fl_page.specs.Contents.{Contents}
+use Rattle.fl_flash.specs.declared.flash.FlashFault.{FlashFault}
+use Rattle.fl_flash.specs.declared.flash.Work.{Work}
+use Rattle.fl_model.specs.Record.{Plan}
+use Rattle.fl_model.specs.Table as model
+use Rattle.fl_model.specs.Table.{IndexRing, VarRing, lose}
+use Rattle.fl_flash.specs.declared.flash.FlashFault.TheVariants.{PowerLost, Media}
+use Rattle.fl_ring.specs.Looking.{OnlyReads, ReadFails}
+use Rattle.fl_ring.proofs.ReadsInTurn.{no_reads, same_page}
+use Rattle.fl_table.specs.Memory.{LiesOn}
+use Rattle.fl_table.specs.Pages.{place_in}
+use Rattle.fl_table.specs.Standing.{Stands}
+use Rattle.fl_table.specs.declared.table.Table.{Table}
+use Rattle.fl_table.proofs.Images.{holds-same}
+use Rattle.fl_table.proofs.IndexOfTable.{lies-goes, stand-moved}
+use Rattle.fl_table.proofs.BlobsOfTable as blobbing
+use Rattle.fl_table.proofs.Plain.{IsPlainTable, table-parts}
+
+pub stands-still : {KNOTS SLOTS : ℕ} (t : Table KNOTS SLOTS) (f g : FlashState) (n first : ℕ) (plan : Plan) (table : model.Table) → OnlyReads f n g → Stands t f first plan table → Stands t g first plan table
+stands-still t f g n first plan table reads stands = record {
+  planned = stands.planned;
+  facts = stands.facts;
+  whole = stands.whole;
+  clean = stands.clean;
+  pages = holds-same (page_at f) (page_at g) first plan (lose table) (λ ring number. same_page f g n (place_in first plan ring number) reads) stands.pages;
+  memory = stands.memory;
+  bitmaps = stand-moved t.bitmaps f g first plan table table refl refl refl refl facts (λ m. same_page f g n (place_in first plan IndexRing m) reads) stands.bitmaps;
+  blobs = blobbing.stand-moved t.blobs f g first plan table table (λ m. same_page f g n (place_in first plan VarRing m) reads) refl refl refl (λ i entry e. (i, e)) stands.blobs;
+  points = stands.points;
+}
+  where
+    facts : IsPlainTable plan table
+    facts = table-parts plan table stands.planned.log stands.facts
+
+-- where it lies on a flash, it does on one of that size
+pub lies-moved : {KNOTS SLOTS : ℕ} (t : Table KNOTS SLOTS) (f g : FlashState) → Goes f g → LiesOn t f → LiesOn t g
+lies-moved t f g goes lies = record {
+  geometry = goes.geometry ∙ lies.geometry;
+  within = omega (arith, lies.within, goes.blocks);
+  few = subst (λ k. k < 2 ^ 32) (sym pages-same) lies.few;
+  ring = λ ring is.
+      let h = lies.ring ring is in
+      record {
+        page = ap (λ x. x.page) goes.geometry ∙ h.page;
+        block = ap (λ x. x.block) goes.geometry ∙ h.block;
+        within = omega (arith, h.within, goes.blocks);
+      };
+  bitmaps = lies-goes t.bitmaps f g goes lies.bitmaps;
+  blobs = blobbing.lies-goes t.blobs f g goes lies.blobs;
+}
+  where
+    pages-same : pages g ≡ pages f
+    pages-same = ap (λ k. k * g.geometry.block) goes.blocks ∙ ap (λ x. f.blocks * x.block) goes.geometry
+
+pub lies-still : {KNOTS SLOTS : ℕ} (t : Table KNOTS SLOTS) (f g : FlashState) (n : ℕ) → OnlyReads f n g → LiesOn t f → LiesOn t g
+lies-still t f g n reads lies = lies-moved t f g reads.goes lies
+
+-- the power came on again
+pub lies-powered : {KNOTS SLOTS : ℕ} (t : Table KNOTS SLOTS) (f : FlashState) (on : Bool) → LiesOn t f → LiesOn t (record f { is_on = on })
+lies-powered t f on lies =
+    lies-moved t f (record f { is_on = on }) (record { geometry = refl; blocks = refl; start = refl; origin = refl; tells = refl; size = refl; front = λ told. refl; back = λ told. refl; cuts = omega arith; faults = omega arith }) lies
+
+-- why a read of a page failed
+pub read-fails : (old new : FlashState) (page size : ℕ) (fault : FlashFault) (into : BufferState) → ReadsPage old page size (Err fault) into new → ReadFails old fault new
+read-fails old new page size PowerLost into is = by_power old.is_on refl
+  where
+    by_power : (on : Bool) → old.is_on ≡ on → old.is_on ≡ false
+    by_power true e = absurd (is.never_lost e refl)
+    by_power false e = e
+read-fails old new page size Media into is = is.cause.media refl
+
+-- one read of a page
+pub read-once : (old new : FlashState) (page size : ℕ) (result : Result (Unit {0}) FlashFault) (into : BufferState) → ReadsPage old page size result into new → OnlyReads old 1 new
+read-once old new page size result into is = by_power old.is_on refl
+  where
+    by_power : (on : Bool) → old.is_on ≡ on → OnlyReads old 1 new
+    by_power true e =
+        let work = is.counted e in
+        let reads : new.work.reads ≡ next_count old.work.reads = ap (λ (w : Work). w.reads) work in
+        record {
+          goes = is.goes;
+          same = is.same;
+          armed = is.armed;
+          power = is.power;
+          cuts = is.cuts;
+          reads = omega (arith, reads);
+          media_reads = omega (arith, is.one_read e);
+          programs = ap (λ (w : Work). w.programs) work;
+          erases = ap (λ (w : Work). w.erases) work;
+        }
+    by_power false e =
+        let none = no_reads old in
+        subst (λ (f : FlashState). OnlyReads old 1 f) (sym (is.off e).1) (record {
+          goes = none.goes;
+          same = refl;
+          armed = refl;
+          power = refl;
+          cuts = refl;
+          reads = omega arith;
+          media_reads = omega arith;
+          programs = refl;
+          erases = refl;
+        })
+
+-- calls that only read leave all in its place
+pub read-goes : (f g : FlashState) → contents.OnlyReads f g → Goes f g
+read-goes f g reads =
+    let bytes : g.media.content ≡ f.media.content = ap (λ (c : Contents). c.bytes) reads.contents in
+    record {
+      geometry = ap (λ (c : Contents). c.geometry) reads.contents;
+      blocks = ap (λ (c : Contents). c.blocks) reads.contents;
+      start = ap (λ (c : Contents). c.start) reads.contents;
+      origin = reads.origin;
+      tells = ap (λ (c : Contents). c.tells) reads.contents;
+      size = ap (λ (xs : List ℕ). length xs) bytes;
+      front = λ told. ap (λ (xs : List ℕ). take f.start xs) bytes;
+      back = λ told. ap (λ (xs : List ℕ). drop (f.start + extent f.geometry f.blocks) xs) bytes;
+      cuts = omega (arith, reads.cuts);
+      faults = reads.faults;
+    }
+
+pub lies-read : {KNOTS SLOTS : ℕ} (t : Table KNOTS SLOTS) (f g : FlashState) → contents.OnlyReads f g → LiesOn t f → LiesOn t g
+lies-read t f g reads lies = lies-moved t f g (read-goes f g reads) lies

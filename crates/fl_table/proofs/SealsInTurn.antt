@@ -1,0 +1,111 @@
+-- Seals of a table, one after another.
+use Rattle.std.proofs.Common.{◌≡◌, inl, inr, ℕ, Bool, true, false, IsTrue, arith, Result, Ok, Err, List, [], ◌∷◌, ◌++◌, refl, sym, ◌∙◌, ap, subst, append_assoc}
+use Rattle.fl_flash.specs.Flash.{FlashState, Goes, page_at}
+use Rattle.fl_flash.specs.declared.flash.FlashFault.TheVariants.{PowerLost, Media}
+use Rattle.fl_ring.specs.Causes.{CausedBy}
+use Rattle.fl_ring.specs.Device.{SameDevice}
+use Rattle.fl_ring.specs.Step.{IsWatched}
+use Rattle.fl_flash.specs.declared.flash.FlashFault.{FlashFault}
+use Rattle.fl_model.specs.Record.{Plan}
+use Rattle.fl_model.specs.Table.{Table, RingName, DataRing, after_seal, after_seals}
+use Rattle.fl_model.specs.Within.{seal_within, seals_within, effect_within, TablePerforms}
+use Rattle.fl_model.specs.Work.{Kind, Device, PartEnd, PartProgress}
+use Rattle.fl_model.proofs.Among.{after_seals-append, seals-all_done}
+use Rattle.fl_model.proofs.Performs.{performs-front, performs-more, performs-whole}
+use Rattle.fl_table.specs.Outcomes.{Finishes, Breaks, FaultEnds, BySeals, SealsEnd}
+use Rattle.fl_table.specs.Pages.{KeptStand}
+use Rattle.fl_table.specs.Standing.{Stands}
+use Rattle.fl_table.specs.declared.table.Table as code
+use Rattle.fl_table.proofs.SealEnds.{ByRows}
+use Rattle.fl_table.proofs.KeptPagesStay.{kept-then}
+
+pub within-append : (plan : Plan) (rings others : List RingName) (table : Table) → seals_within plan (rings ++ others) table ≡ seals_within plan rings table ++ seals_within plan others (after_seals plan rings table)
+within-append plan [] others table = refl
+within-append plan (ring ∷ rings) others table =
+    ap (λ (ops : List (RingName × Kind)). seal_within plan ring table ++ ops) (within-append plan rings others (after_seal plan ring table))
+    ∙ sym (append_assoc (seal_within plan ring table) (seals_within plan rings (after_seal plan ring table)) (seals_within plan others (after_seals plan rings (after_seal plan ring table))))
+
+module _ (first : ℕ) (plan : Plan) (rings others : List RingName) (table : Table) (rose : Bool) (device : Device) where
+  -- the first ones stopped
+  pub seals-stop : (fault : FlashFault) (new : FlashState) → Breaks first plan (BySeals plan rings table rose device) fault new → Breaks first plan (BySeals plan (rings ++ others) table rose device) fault new
+  seals-stop fault new h = record {
+    now = h.now;
+    did = subst (λ (ops : List (RingName × Kind)). TablePerforms plan rose ops device table h.now) (sym (within-append plan rings others table))
+        (performs-front (λ (o : RingName × Kind). o.1) (effect_within plan) rose (seals_within plan rings table) (seals_within plan others (after_seals plan rings table)) device table h.now h.did
+        (λ whole. subst (λ (e : PartEnd Table). FaultEnds e fault new) whole h.answer));
+    answer = h.answer;
+    counts = h.counts;
+    rests = h.rests;
+  }
+
+  -- the first ones were done, and the others follow
+  pub seals-then : {KNOTS SLOTS : ℕ} (t : code.Table KNOTS SLOTS) (old mid : FlashState) (result : Result (Unit {0}) FlashFault) (last : code.Table KNOTS SLOTS) (new : FlashState) (h : Finishes first plan (BySeals plan rings table rose device) table (after_seals plan rings table) t old mid) →
+      SealsEnd first plan others (after_seals plan rings table) rose h.now.device result last mid new → SealsEnd first plan (rings ++ others) table rose device result last old new
+  seals-then t old mid result last new h k = by_result result k
+    where
+      did : (now : PartProgress Table) → TablePerforms plan rose (seals_within plan others (after_seals plan rings table)) h.now.device (after_seals plan rings table) now → TablePerforms plan rose (seals_within plan (rings ++ others) table) device table now
+      did now d =
+          let done : h.now.state ≡ after_seals plan rings table = (performs-whole (λ (o : RingName × Kind). o.1) (effect_within plan) rose (seals_within plan rings table) device table h.now h.did h.whole).0 ∙ seals-all_done plan rings table in
+          subst (λ (ops : List (RingName × Kind)). TablePerforms plan rose ops device table now) (sym (within-append plan rings others table))
+          (performs-more (λ (o : RingName × Kind). o.1) (effect_within plan) rose (seals_within plan rings table) (seals_within plan others (after_seals plan rings table)) device table h.now now h.did h.whole
+          (subst (λ (x : Table). TablePerforms plan rose (seals_within plan others (after_seals plan rings table)) h.now.device x now) (sym done) d))
+
+      by_result : (result : Result (Unit {0}) FlashFault) → SealsEnd first plan others (after_seals plan rings table) rose h.now.device result last mid new → SealsEnd first plan (rings ++ others) table rose device result last old new
+      by_result (Ok u) k = record {
+        now = k.now;
+        did = did k.now k.did;
+        whole = k.whole;
+        counts = k.counts;
+        power = k.power;
+        stands = subst (λ (x : Table). Stands last new first plan x) (sym (after_seals-append plan rings others table)) k.stands;
+        stand = subst (λ (x : Table). KeptStand first plan table x (page_at old) (page_at new)) (sym (after_seals-append plan rings others table))
+            (kept-then first plan table (after_seals plan rings table) (after_seals plan others (after_seals plan rings table)) (page_at old) (page_at mid) (page_at new) h.stands.facts k.stands.facts h.stand k.stand);
+      }
+      by_result (Err fault) k = record { now = k.now; did = did k.now k.did; answer = k.answer; counts = k.counts; rests = k.rests }
+
+append-nil : {X : Type 0} (xs : List X) → xs ++ [] ≡ xs
+append-nil [] = refl
+append-nil (x ∷ xs) = ap (λ ys. x ∷ ys) (append-nil xs)
+
+-- how a seal of the pending rows alone ends
+abbrev pub RowsEnd : {KNOTS SLOTS : ℕ} → ℕ → Plan → Table → Bool → Device → Result (Unit {0}) FlashFault → code.Table KNOTS SLOTS → FlashState → FlashState → Type 0
+RowsEnd first plan table rose device (Ok done) t old new = Finishes first plan (ByRows plan table rose device) table (after_seal plan DataRing table) t old new
+RowsEnd first plan table rose device (Err fault) t old new = Breaks first plan (ByRows plan table rose device) fault new
+
+pub ends-alone : {KNOTS SLOTS : ℕ} (first : ℕ) (plan : Plan) (table : Table) (rose : Bool) (device : Device) (result : Result (Unit {0}) FlashFault) (t : code.Table KNOTS SLOTS) (old new : FlashState) → RowsEnd first plan table rose device result t old new →
+    SealsEnd first plan (DataRing ∷ []) table rose device result t old new
+ends-alone first plan table rose device (Ok u) t old new h =
+    subst (λ (ops : List (RingName × Kind)). Finishes first plan (λ now. TablePerforms plan rose ops device table now) table (after_seal plan DataRing table) t old new) (sym (append-nil (seal_within plan DataRing table))) h
+ends-alone first plan table rose device (Err fault) t old new h =
+    subst (λ (ops : List (RingName × Kind)). Breaks first plan (λ now. TablePerforms plan rose ops device table now) fault new) (sym (append-nil (seal_within plan DataRing table))) h
+
+-- a call within another is watched as that is
+pub watched-front : (old mid new : FlashState) (rose : Bool) (device : Device) → IsWatched old new rose device → Goes mid new → IsWatched old mid rose device
+watched-front old mid new rose device w goes = record {
+  told = w.told;
+  on = w.on;
+  risen = λ rises. w.risen (omega (arith, rises, goes.faults));
+  counts = w.counts;
+}
+
+-- .. and the next one, from what the device counts then
+pub watched-then : (old mid new : FlashState) (rose : Bool) (device later : Device) → IsWatched old new rose device → Goes old mid → mid.is_on ≡ true → SameDevice mid later → IsWatched mid new rose later
+watched-then old mid new rose device later w goes on counts = record {
+  told = subst IsTrue (sym goes.tells) w.told;
+  on = on;
+  risen = λ rises. w.risen (omega (arith, rises, goes.faults));
+  counts = counts;
+}
+
+-- .. whose fault has its cause in both
+pub cause-later : (old mid new : FlashState) → Goes old mid → (old.is_on ≡ true → mid.is_on ≡ true) → (e : FlashFault) → CausedBy mid e new → CausedBy old e new
+cause-later old mid new goes on PowerLost (inl off) = inl (by_power old.is_on refl)
+  where
+    by_power : (b : Bool) → old.is_on ≡ b → old.is_on ≡ false
+    by_power true e = absurd (not_both (sym off ∙ on e))
+      where
+        not_both : false ≡ true → ⊥
+        not_both k = cc
+    by_power false e = e
+cause-later old mid new goes on PowerLost (inr rises) = inr (omega (arith, rises, goes.cuts))
+cause-later old mid new goes on Media rises = omega (arith, rises, goes.faults)

@@ -1,0 +1,305 @@
+-- The mount of the ring, in the words of its table.
+use Rattle.std.proofs.Common.{◌≡◌, inl, inr, ℕ, ◌+◌, ◌-◌, ◌*◌, ◌<◌, ◌≤◌, Bool, true, false, cond, Option, Some, None, unwrap_or, Result, Ok, Err, List, [], ◌∷◌, ◌++◌, map, length, take, drop, get_or, refl, sym, ◌∙◌, ap, subst, arith, IsTrue}
+use Rattle.std.specs.Prelude.{option_map, is_some, IfSome}
+use Rattle.std.specs.List.{list_any}
+use Rattle.fl_base.specs.declared.types.Geometry.{Geometry}
+use Rattle.fl_flash.specs.Flash.{FlashState, page_at}
+use Rattle.fl_flash.specs.declared.flash.FlashFault.{FlashFault}
+use Rattle.fl_flash.specs.declared.flash.FlashFault.TheVariants.{PowerLost, Media}
+use Rattle.fl_model.specs.Layout.{le, ContentPage, content_body}
+use Rattle.fl_model.specs.Row.{number_of as model_number}
+use Rattle.fl_model.specs.Mount as numbering
+use Rattle.fl_model.specs.Mount.{renumber, blob_end}
+use Rattle.fl_model.specs.MountLimit.{ring_mount_limit, part_mount_limit}
+use Rattle.fl_model.specs.Record.{Plan}
+use Rattle.fl_model.specs.Ring as model
+use Rattle.fl_model.specs.Table.{Table, RingName, VarRing, shape_of, seal_page, is_dirty, is_torn}
+use Rattle.fl_model.specs.Work.{Kind, VoidMark, Erase, Device, PartEnd, Whole, CutIn, FailedIn}
+use Rattle.fl_model.specs.Within.{repair_within, TablePerforms, effect_within, all_done}
+use Rattle.fl_model.proofs.Performs.{performs-whole}
+use Rattle.fl_ring.specs.Head.{one}
+use Rattle.fl_ring.specs.Mounting.{shape_at, IsGood, Mounted, RepairEnds}
+use Rattle.fl_ring.specs.Mounting as ring_mounting
+use Rattle.fl_ring.specs.Newest.{number_of}
+use Rattle.fl_ring.specs.Numbers.{renumbered, least_alike, voids_at_end}
+use Rattle.fl_ring.specs.Operations.{change, repair_kinds}
+use Rattle.fl_ring.specs.Ring.{Shape, RingState, IsShape, OnRing, room, place, count, oldest, voided}
+use Rattle.fl_ring.specs.Sealing.{AnswersEnd}
+use Rattle.fl_ring.specs.declared.fault.RingFault.{RingFault}
+use Rattle.fl_ring.specs.declared.fault.RingFault.TheVariants as ring_fault
+use Rattle.fl_ring.specs.declared.ring.Ring as memory
+use Rattle.fl_ring.proofs.Counts.{counts_length, counts_renumbered, counts_voided}
+use Rattle.fl_ring.proofs.VoidsAtEnd.{voids_are}
+use Rattle.fl_ring.proofs.SamePlaces.{renumbered_on, renumbered_same}
+use Rattle.fl_schema.proofs.Numbers.{number_of-le}
+use Rattle.fl_schema.proofs.References.{field_4}
+use Rattle.fl_var.specs.Memory.{waiting_in, page_in, var_shape, IsSamePlan}
+use Rattle.fl_var.specs.Mounting.{Rests, MountEnds}
+use Rattle.fl_var.specs.Standing.{IsVarRing}
+use Rattle.fl_var.specs.declared.var_data.VarData.{VarData}
+use Rattle.fl_var.proofs.Bodies.{counted, once, HoldBodies, bodies-at, bodies-anew, kept-torn}
+use Rattle.fl_var.proofs.Lists.{drop-none}
+use Rattle.fl_var.proofs.RingInTable.{of_var, AreErases, HasCome, IsRingOf, come-front, come-small, performed-lifts, fault-ends, all-whole}
+use Rattle.fl_var.proofs.SealsInTable.{shape-is, shape-here, next-is, oldest-is}
+use Rattle.fl_var.proofs.States.{all-once, state_of, IsStateOf, state-is, var-ring-of}
+
+-- a body begins with its number
+body-number : (n : ℕ) (p : ContentPage) (body : List ℕ) → body ≡ content_body n p → n < 4294967296 → number_of body ≡ n
+body-number n p body is small =
+    let four : take 4 body ≡ le 4 n = ap (take 4) is in
+    let long : 4 ≤ length body = omega (arith, ap length is) in
+    field_4 body 0 0 0 4 refl refl long
+    ∙ (ap (λ (l : List ℕ). model_number (take 4 l)) (drop-none (drop 0 body) ∙ drop-none body) ∙ (ap model_number four ∙ number_of-le 4 n small))
+
+-- the same bodies have other numbers only where there are none
+renumbered-bodies : (plan : Plan) (r : Shape) (at_least : ℕ) (s : RingState) (pages : List ContentPage) → HoldBodies plan (oldest s) s.kept pages →
+    HoldBodies plan (oldest (renumbered r at_least s)) (renumbered r at_least s).kept pages
+renumbered-bodies plan r at_least s pages h = by_any (list_any is_some s.kept) refl
+  where
+    by_any : (b : Bool) → list_any is_some s.kept ≡ b → HoldBodies plan (oldest (cond b s (record s { next = least_alike (room r) s.next (at_least + length s.kept) })))
+        (cond b s (record s { next = least_alike (room r) s.next (at_least + length s.kept) })).kept pages
+    by_any true e = h
+    by_any false e = bodies-anew plan (oldest s) _ s.kept pages e h
+
+one-is : (b : Bool) → one b ≡ cond b 1 0
+one-is true = refl
+one-is false = refl
+
+-- what all repairs leave
+pub record IsClean (left : RingState) : Type 0 where
+  pub whole : left.torn ≡ false
+  pub clean : left.dirty ≡ false
+
+pub repairs-clean : (r : Shape) (s : RingState) → IsShape r → count s ≤ s.next → IsClean (all_done (change r []) (repair_kinds r s) s)
+repairs-clean r s shape known = by_torn s.torn refl
+  where
+    by_dirty : (t : RingState) (d : Bool) → t.dirty ≡ d → t.torn ≡ false → IsClean (all_done (change r []) (cond d (Erase ∷ []) []) t)
+    by_dirty t true e whole = record { whole = whole; clean = refl }
+    by_dirty t false e whole = record { whole = whole; clean = e }
+
+    by_torn : (b : Bool) → s.torn ≡ b → IsClean (all_done (change r []) ((cond b (VoidMark ∷ []) []) ++ (cond (cond b (voided r s) s).dirty (Erase ∷ []) [])) s)
+    by_torn true e = by_dirty (voided r s) (voided r s).dirty refl (kept-torn r s None shape known)
+    by_torn false e = by_dirty s s.dirty refl e
+
+-- repairs leave the bytes that wait
+repairs-waits : (plan : Plan) (table : Table) → (all_done (effect_within plan) (repair_within plan VarRing table) table).buffered ≡ table.buffered
+repairs-waits plan table = by_torn (is_torn VarRing table)
+  where
+    by_dirty : (d : Bool) (t : Table) → (all_done (effect_within plan) (cond d ((VarRing, Erase) ∷ []) []) t).buffered ≡ t.buffered
+    by_dirty true t = refl
+    by_dirty false t = refl
+
+    by_torn : (b : Bool) → (all_done (effect_within plan) ((cond b ((VarRing, VoidMark) ∷ []) []) ++ (cond (is_dirty VarRing (cond b (seal_page plan VarRing 0 table) table)) ((VarRing, Erase) ∷ []) [])) table).buffered ≡ table.buffered
+    by_torn true = by_dirty (is_dirty VarRing (seal_page plan VarRing 0 table)) (seal_page plan VarRing 0 table)
+    by_torn false = by_dirty (is_dirty VarRing table) table
+
+-- the limit on its reads, as the ring's mount has it
+pub few-read : (v : VarData) (f g : FlashState) (plan : Plan) (table : Table) → Rests v f plan table → f.geometry ≡ v.geometry → ((n : ℕ) → length (page_at f (place (var_shape v) n)) ≡ v.geometry.page) →
+    ((s : RingState) → OnRing (shape_at v.place f.geometry) (page_at f) s → g.work.reads ≤ f.work.reads + (v.place.blocks + 2 * f.geometry.block + 1 + voids_at_end s.kept)) →
+    g.work.reads ≤ f.work.reads + part_mount_limit (shape_of plan VarRing) table.var
+few-read v f g plan table rests geometry sizes few =
+    let s = state_of rests.ring table.var_pages in
+    let is = state-is (var_shape v) plan (page_at f) sizes (shape-is v) (shape-here v plan rests.planned) rests.ring table.var_pages rests.pages in
+    let limit : part_mount_limit (shape_of plan VarRing) table.var ≡ plan.var_blocks + 2 * plan.geometry.block + 1 + voids_at_end s.kept =
+    ap (λ (o : Option model.Ring). part_mount_limit (shape_of plan VarRing) o) rests.ring_is
+    ∙ (ap (λ (x : model.Ring). ring_mount_limit (shape_of plan VarRing) x) (sym is.counts)
+    ∙ ap (λ (n : ℕ). plan.var_blocks + 2 * plan.geometry.block + 1 + n) (voids_are once s (all-once s))) in
+    let reads = few s (subst (λ (x : Geometry). OnRing (shape_at v.place x) (page_at f) s) (sym geometry) is.on) in
+    omega (arith, reads, limit, rests.planned.blocks, ap (λ (x : Geometry). x.block) (geometry ∙ sym rests.planned.geometry))
+
+module _ (v : VarData) (f g : FlashState) (plan : Plan) (table : Table) (at_least : ℕ) (rests : Rests v f plan table) (least_is : at_least ≡ blob_end table)
+    (sizes : (n : ℕ) → length (page_at f (place (var_shape v) n)) ≡ v.geometry.page) (later_sizes : (n : ℕ) → length (page_at g (place (var_shape v) n)) ≡ v.geometry.page) where
+  abbrev r : Shape
+  r = var_shape v
+
+  abbrev s : RingState
+  s = state_of rests.ring table.var_pages
+
+  abbrev numbered : RingState
+  numbered = renumbered (var_shape v) at_least (state_of rests.ring table.var_pages)
+
+  abbrev table_now : Table
+  table_now = renumber plan VarRing table
+
+  is : IsStateOf (var_shape v) plan (page_at f) sizes (shape-is v) (shape-here v plan rests.planned) rests.ring table.var_pages (state_of rests.ring table.var_pages)
+  is = state-is (var_shape v) plan (page_at f) sizes (shape-is v) (shape-here v plan rests.planned) rests.ring table.var_pages rests.pages
+
+  on_now : OnRing (var_shape v) (page_at f) numbered
+  on_now = renumbered_on (var_shape v) (page_at f) s at_least (shape-is v) is.on
+
+  var_now : (renumber plan VarRing table).var ≡ Some (counted numbered)
+  var_now =
+      ap (option_map (numbering.renumbered (shape_of plan VarRing) (blob_end table))) rests.ring_is
+      ∙ ap (λ (x : model.Ring). Some x)
+      (ap (λ n. numbering.renumbered (shape_of plan VarRing) n rests.ring) (sym least_is)
+      ∙ (ap (λ (x : model.Ring). numbering.renumbered (shape_of plan VarRing) at_least x) (sym is.counts)
+      ∙ (ap (λ (m : model.Shape). numbering.renumbered m at_least (counted (state_of rests.ring table.var_pages))) (sym (shape-here v plan rests.planned))
+      ∙ sym (counts_renumbered once (var_shape v) at_least s (all-once s)))))
+
+  small : numbered.next + one numbered.torn < 4294967296
+  small =
+      let torn : one numbered.torn ≡ cond rests.ring.torn 1 0 = ap one (renumbered_same (var_shape v) s at_least) ∙ one-is rests.ring.torn in
+      let k = rests.fits (counted numbered) var_now in
+      omega (arith, torn, k)
+
+  -- the ring is good
+  pub good : IsTrue f.media.tells → IsGood f (var_shape v) at_least (state_of rests.ring table.var_pages)
+  good told = record {
+    told = told;
+    on = is.on;
+    numbered = λ i lt. by_page i lt (get_or s.kept i None) refl;
+    fits = let torn = renumbered_same (var_shape v) s at_least in subst (λ b. numbered.next + one b < 4294967296) torn small;
+  }
+    where
+      by_page : (i : ℕ) → i < count (state_of rests.ring table.var_pages) → (x : Option (List ℕ)) → get_or (state_of rests.ring table.var_pages).kept i None ≡ x →
+          IfSome (get_or (state_of rests.ring table.var_pages).kept i None) (λ body. number_of body ≡ oldest (state_of rests.ring table.var_pages) + i)
+      by_page i lt None e = rw e tt
+      by_page i lt (Some body) e =
+          let held = bodies-at plan (oldest s) s.kept table.var_pages i body is.bodies e in
+          let number = body-number (oldest s + i) held.page body held.body_is (omega (arith, lt, is.on.ring.not_negative, rests.pages.number)) in
+          subst (λ (x : Option (List ℕ)). IfSome x (λ body. number_of body ≡ oldest (state_of rests.ring table.var_pages) + i)) (sym e) number
+
+  come : HasCome plan [] (repair_kinds (var_shape v) numbered) numbered table_now.buffered
+  come = by_torn numbered.torn refl
+    where
+      erases : (b : Bool) → AreErases (cond b (Erase ∷ []) [])
+      erases true = tt
+      erases false = tt
+
+      by_dirty : (b : Bool) → numbered.next < 4294967296 → HasCome plan [] (cond b (Erase ∷ []) []) numbered table_now.buffered
+      by_dirty true k = (k, tt)
+      by_dirty false k = k
+
+      by_torn : (b : Bool) → numbered.torn ≡ b → HasCome plan [] ((cond b (VoidMark ∷ []) []) ++ (cond (cond b (voided (var_shape v) numbered) numbered).dirty (Erase ∷ []) [])) numbered table_now.buffered
+      by_torn true e = let k = subst (λ b. numbered.next + one b < 4294967296) e small in (k, erases (voided r numbered).dirty)
+      by_torn false e = let k = subst (λ b. numbered.next + one b < 4294967296) e small in by_dirty numbered.dirty (omega (arith, k))
+
+  begins : (kinds : List Kind) → HasCome plan [] kinds numbered table_now.buffered → IsRingOf plan [] kinds numbered (renumber plan VarRing table)
+  begins kinds h = record { var_is = var_now; bodies = renumbered-bodies plan r at_least s table.var_pages is.bodies; known = on_now.ring.not_negative; come = h }
+
+  kinds-are : map of_var (repair_kinds (var_shape v) numbered) ≡ repair_within plan VarRing (renumber plan VarRing table)
+  kinds-are = by_torn numbered.torn refl ∙ ap (λ (b : Bool). (cond b ((VarRing, VoidMark) ∷ []) []) ++ (cond (is_dirty VarRing (cond b (seal_page plan VarRing 0 table_now) table_now)) ((VarRing, Erase) ∷ []) [])) torn_is
+    where
+      torn_is : numbered.torn ≡ is_torn VarRing (renumber plan VarRing table)
+      torn_is = ap (λ (o : Option model.Ring). unwrap_or (option_map (λ (x : model.Ring). x.torn) o) false) (sym var_now)
+
+      dirty_is : numbered.dirty ≡ is_dirty VarRing (renumber plan VarRing table)
+      dirty_is = ap (λ (o : Option model.Ring). unwrap_or (option_map (λ (x : model.Ring). x.dirty) o) false) (sym var_now)
+
+      voided_is : (voided (var_shape v) numbered).dirty ≡ is_dirty VarRing (seal_page plan VarRing 0 (renumber plan VarRing table))
+      voided_is =
+          let ring_is : (seal_page plan VarRing 0 (renumber plan VarRing table)).var ≡ Some (counted (voided (var_shape v) numbered)) =
+          ap (option_map (model.sealed (shape_of plan VarRing) 0)) var_now
+          ∙ ap (λ (x : model.Ring). Some x) (ap (λ (m : model.Shape). model.sealed m 0 (counted numbered)) (sym (shape-here v plan rests.planned)) ∙ sym (counts_voided once (var_shape v) numbered)) in
+          ap (λ (o : Option model.Ring). unwrap_or (option_map (λ (x : model.Ring). x.dirty) o) false) (sym ring_is)
+
+      by_dirty : (b : Bool) → map of_var (cond b (Erase ∷ []) []) ≡ cond b ((VarRing, Erase) ∷ []) []
+      by_dirty true = refl
+      by_dirty false = refl
+
+      by_torn : (b : Bool) → numbered.torn ≡ b → map of_var ((cond b (VoidMark ∷ []) []) ++ (cond (cond b (voided (var_shape v) numbered) numbered).dirty (Erase ∷ []) []))
+          ≡ (cond b ((VarRing, VoidMark) ∷ []) []) ++ (cond (is_dirty VarRing (cond b (seal_page plan VarRing 0 (renumber plan VarRing table)) (renumber plan VarRing table))) ((VarRing, Erase) ∷ []) [])
+      by_torn true e = ap (λ l. (VarRing, VoidMark) ∷ l) (by_dirty (voided r numbered).dirty ∙ ap (λ (b : Bool). cond b ((VarRing, Erase) ∷ []) []) voided_is)
+      by_torn false e = by_dirty numbered.dirty ∙ ap (λ (b : Bool). cond b ((VarRing, Erase) ∷ []) []) dirty_is
+
+  -- all repairs were done
+  pub mount-well : (rose : Bool) (device : Device) (w : VarData) (ring : memory.Ring) → Mounted (var_shape v) rose device numbered ring g → w.ring ≡ Some ring → IsSamePlan v w → page_in w g ≡ page_in v g → waiting_in w ≡ [] → MountEnds plan table rose device v (Ok tt) w g
+  mount-well rose device w ring m ring_is same page_is empty =
+      let kinds = repair_kinds r numbered in
+      let l = performed-lifts (var_shape v) plan [] (shape-is v) (shape-here v plan rests.planned) rose kinds device numbered table_now (Ok tt) g (begins (repair_kinds r numbered) come) m.performed in
+      let all = all-whole (var_shape v) plan [] (shape-is v) (shape-here v plan rests.planned) l.now.end tt g l.answer in
+      let did : TablePerforms plan rose (repair_within plan VarRing table_now) device table_now l.now = subst (λ (ops : List (RingName × Kind)). TablePerforms plan rose ops device table_now l.now) kinds-are l.did in
+      let clean : IsClean m.performed.now.state = subst IsClean (sym (performs-whole (λ kind. kind) (change (var_shape v) []) rose (repair_kinds r numbered) device numbered m.performed.now m.performed.did (answers m.performed.now.end m.performed.answer)).0)
+      (repairs-clean (var_shape v) numbered (shape-is v) on_now.ring.not_negative) in
+      record {
+        now = l.now;
+        did = did;
+        whole = all.0;
+        counts = l.counts;
+        power = all.1;
+        stands = record {
+          ring = record {
+            planned = record { geometry = rests.planned.geometry ∙ sym same.geometry; blocks = rests.planned.blocks ∙ ap (λ p. p.blocks) (sym same.place) };
+            mounted = ap is_some ring_is;
+            ring = counted m.performed.now.state;
+            ring_is = l.is.var_is;
+            pages = subst (λ (pg : ℕ → List ℕ). IsVarRing plan l.now.state.var_pages (counted m.performed.now.state) pg) (sym page_is)
+                (var-ring-of (var_shape v) plan (page_at g) later_sizes (shape-is v) (shape-here v plan rests.planned) m.performed.now.state l.now.state.var_pages m.performed.on l.is.bodies
+                (come-small plan [] l.kinds m.performed.now.state l.now.state.buffered l.is.come));
+            whole = clean.whole;
+            clean = clean.clean;
+            next = next-is w ring ring_is ∙ m.stands.next;
+            oldest_is = oldest-is w ring ring_is ∙ (m.stands.oldest ∙ ap (λ n. m.performed.now.state.next - n) (sym (counts_length once m.performed.now.state)));
+          };
+          buffered = ap (λ (t : Table). t.buffered) (performs-whole (λ operation. operation.1) (effect_within plan) rose (repair_within plan VarRing table_now) device table_now l.now did all.0).0
+              ∙ (repairs-waits plan table_now ∙ (rests.empty ∙ sym empty));
+        };
+      }
+    where
+      answers : (e : PartEnd RingState) → AnswersEnd e (Ok tt) g → e ≡ Whole
+      answers Whole a = refl
+      answers (CutIn b) a = absurd (not_err PowerLost a.0)
+        where
+          not_err : (fault : FlashFault) → ◌≡◌ {A = Result (Unit {0}) FlashFault} (Ok tt) (Err fault) → ⊥
+          not_err fault e = cc
+      answers (FailedIn b) a = absurd (not_err Media a.0)
+        where
+          not_err : (fault : FlashFault) → ◌≡◌ {A = Result (Unit {0}) FlashFault} (Ok tt) (Err fault) → ⊥
+          not_err fault e = cc
+
+  -- a repair failed, or a read
+  pub mount-badly : (rose : Bool) (device : Device) (fault : FlashFault) (w : VarData) → RepairEnds (var_shape v) rose (repair_kinds (var_shape v) numbered) device numbered (Err fault) g → MountEnds plan table rose device v (Err (ring_fault.Flash fault)) w g
+  mount-badly rose device fault w (inl p) =
+      let l = performed-lifts (var_shape v) plan [] (shape-is v) (shape-here v plan rests.planned) rose (repair_kinds r numbered) device numbered table_now (Err fault) g (begins (repair_kinds r numbered) come) p in
+      record {
+        now = l.now;
+        did = inl (subst (λ (ops : List (RingName × Kind)). TablePerforms plan rose ops device table_now l.now) kinds-are l.did, fault-ends (var_shape v) plan [] (shape-is v) (shape-here v plan rests.planned) l.now.end fault g l.answer);
+        counts = l.counts;
+        ring = counted p.now.state;
+        ring_is = l.is.var_is;
+        pages = var-ring-of (var_shape v) plan (page_at g) later_sizes (shape-is v) (shape-here v plan rests.planned) p.now.state l.now.state.var_pages p.on l.is.bodies
+            (come-small plan [] l.kinds p.now.state l.now.state.buffered l.is.come);
+      }
+  mount-badly rose device fault w (inr u) =
+      let l = performed-lifts (var_shape v) plan [] (shape-is v) (shape-here v plan rests.planned) rose u.front device numbered table_now (Ok tt) g
+      (begins u.front (come-front plan [] u.front u.others numbered table_now.buffered (subst (λ (kinds : List Kind). HasCome plan [] kinds numbered table_now.buffered) u.split come))) u.did in
+      let all = all-whole (var_shape v) plan [] (shape-is v) (shape-here v plan rests.planned) l.now.end tt g l.answer in
+      record {
+        now = l.now;
+        did = inr (
+          record {
+            may_fail = u.risen;
+            front = map of_var u.front;
+            others = map of_var u.others;
+            split = sym kinds-are ∙ (ap (map of_var) u.split ∙ map-append u.front u.others);
+            did = l.did;
+            whole = all.0;
+          },
+          is_media u.is,
+        );
+        counts = l.counts;
+        ring = counted u.did.now.state;
+        ring_is = l.is.var_is;
+        pages = var-ring-of (var_shape v) plan (page_at g) later_sizes (shape-is v) (shape-here v plan rests.planned) u.did.now.state l.now.state.var_pages u.did.on l.is.bodies
+            (come-small plan [] l.kinds u.did.now.state l.now.state.buffered l.is.come);
+      }
+    where
+      is_media : ◌≡◌ {A = Result (Unit {0}) FlashFault} (Err fault) (Err Media) → fault ≡ Media
+      is_media e = cc
+
+      map-append : (xs ys : List Kind) → map of_var (xs ++ ys) ≡ map of_var xs ++ map of_var ys
+      map-append [] ys = refl
+      map-append (x ∷ xs) ys = ap (λ zs. of_var x ∷ zs) (map-append xs ys)
+
+-- how the mount of the ring ended
+pub mount-fault : (plan : Plan) (table : Table) (rose : Bool) (device : Device) (v : VarData) (w : VarData) (g : FlashState) (x : Shape) (t : RingState) (e : RingFault) → ring_mounting.MountEnds x rose device t (Err e) g →
+    ((fault : FlashFault) → RepairEnds x rose (repair_kinds x t) device t (Err fault) g → MountEnds plan table rose device v (Err (ring_fault.Flash fault)) w g) → MountEnds plan table rose device v (Err e) w g
+mount-fault plan table rose device v w g x t (ring_fault.Flash e) h go = go e h
+mount-fault plan table rose device v w g x t (ring_fault.BadHead heads) h go = absurd h
+mount-fault plan table rose device v w g x t (ring_fault.BadGap page) h go = absurd h
+mount-fault plan table rose device v w g x t (ring_fault.BadPage page wanted found) h go = absurd h
+mount-fault plan table rose device v w g x t (ring_fault.NoNumber least) h go = absurd h
+
+pub mount-err : (plan : Plan) (table : Table) (rose : Bool) (device : Device) (v : VarData) (w : VarData) (g : FlashState) (result : Result (Unit {0}) RingFault) (e : RingFault) → result ≡ Err e →
+    MountEnds plan table rose device v (Err e) w g → MountEnds plan table rose device v result w g
+mount-err plan table rose device v w g result e is h = subst (λ (x : Result (Unit {0}) RingFault). MountEnds plan table rose device v x w g) (sym is) h
