@@ -18,7 +18,7 @@ use Rattle.fl_check.specs.declared.halt.Fault.{Fault}
 use Rattle.fl_check.specs.declared.marks.Marks.{Marks}
 use Rattle.fl_check.specs.declared.numbering.Numbering.{Numbering}
 use Rattle.fl_check.specs.declared.rule.Rule.TheVariants.{Blob}
-use Rattle.fl_check.specs.declared.whole.TableNumbers.{TableNumbers}
+use Rattle.fl_check.specs.declared.table.TableNumbers.{TableNumbers}
 use Rattle.fl_check.proofs.LooksChangeNothing.{same_pages, told_still}
 use Rattle.fl_check.proofs.RingsKnown.{sound_rows, sound_content}
 use Rattle.fl_check.proofs.RulesTold.{told_of}

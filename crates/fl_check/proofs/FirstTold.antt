@@ -25,7 +25,7 @@ use Rattle.fl_check.specs.declared.finding.RingName.TheVariants as named
 use Rattle.fl_check.specs.declared.marks.Marks.{Marks}
 use Rattle.fl_check.specs.declared.numbering.Numbering.{Numbering}
 use Rattle.fl_check.specs.declared.rule.Rule.{Rule}
-use Rattle.fl_check.specs.declared.whole.TableNumbers.{TableNumbers}
+use Rattle.fl_check.specs.declared.table.TableNumbers.{TableNumbers}
 use Rattle.fl_check.specs.declared.rule.Rule.TheVariants.{Head, State, Number, Body, Keys, Entry, Blob, Rest}
 
 -- ---- one list of what is told after another

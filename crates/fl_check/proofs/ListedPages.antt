@@ -8,7 +8,7 @@ use Rattle.fl_check.specs.Claims.{AllBelow, FailsFirst}
 use Rattle.fl_check.specs.Entries.{IndexOver, entries_in, IsEntry, Lists, first_listed, IsListing, AreSeen, HasEntries, HaveEntries}
 use Rattle.fl_check.specs.Marks.{kept_page}
 use Rattle.fl_check.specs.Told.{TellsPage}
-use Rattle.fl_check.specs.declared.entries.Seen.{Seen}
+use Rattle.fl_check.specs.declared.rule_6_entry.Seen.{Seen}
 use Rattle.fl_check.specs.declared.numbering.Numbering.{Numbering}
 
 -- one entry, by how many pages before the next one its data page stands

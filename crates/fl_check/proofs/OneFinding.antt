@@ -19,7 +19,7 @@ use Rattle.fl_check.specs.declared.rule.Breach.{Breach}
 use Rattle.fl_check.specs.declared.rule.Rule.{Rule}
 use Rattle.fl_check.specs.declared.rule.Rule.TheVariants.{Entry, Blob}
 use Rattle.fl_check.specs.declared.tally.Tally.{Tally}
-use Rattle.fl_check.specs.declared.whole.TableNumbers.{TableNumbers}
+use Rattle.fl_check.specs.declared.table.TableNumbers.{TableNumbers}
 use Rattle.fl_check.proofs.Decisions.{Decided, After, then_decided, then_claimed}
 use Rattle.fl_check.proofs.OneBreach.{ring_decided}
 use Rattle.fl_check.proofs.NumbersAreUnique.{fails_once}

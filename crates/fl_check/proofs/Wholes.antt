@@ -11,7 +11,7 @@ use Rattle.fl_check.specs.declared.finding.RingName.TheVariants.{Index, Data, Va
 use Rattle.fl_check.specs.declared.halt.Fault.{Fault}
 use Rattle.fl_check.specs.declared.numbering.Numbering.{Numbering}
 use Rattle.fl_check.specs.declared.rule.Rule.TheVariants.{Entry, Blob}
-use Rattle.fl_check.specs.declared.whole.TableNumbers.{TableNumbers}
+use Rattle.fl_check.specs.declared.table.TableNumbers.{TableNumbers}
 
 -- of a ring that is there
 pub of_ring : (Holds : RingPlace → Numbering → Type 0) (o : Option RingPlace) (x : Option Numbering) (place : RingPlace) (n : Numbering) → o ≡ Some place → x ≡ Some n → Holds place n → OfRing Holds o x

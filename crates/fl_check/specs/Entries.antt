@@ -11,8 +11,8 @@ use Rattle.fl_schema.specs.Schema.{layout_of}
 use Rattle.fl_check.specs.Claims.{AllBelow, FailsFirst}
 use Rattle.fl_check.specs.Marks.{kept_page}
 use Rattle.fl_check.specs.Told.{TellsPage}
-use Rattle.fl_check.specs.declared.entries.Indexing.{Indexing}
-use Rattle.fl_check.specs.declared.entries.Seen.{Seen}
+use Rattle.fl_check.specs.declared.rule_6_entry.Indexing.{Indexing}
+use Rattle.fl_check.specs.declared.rule_6_entry.Seen.{Seen}
 use Rattle.fl_check.specs.declared.marks.Marks.{Marks}
 use Rattle.fl_check.specs.declared.numbering.Numbering.{Numbering}
 

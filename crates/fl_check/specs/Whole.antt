@@ -29,7 +29,7 @@ use Rattle.fl_check.specs.declared.numbering.Numbering.{Numbering}
 use Rattle.fl_check.specs.declared.rule.Rule.{Rule}
 use Rattle.fl_check.specs.declared.rule.Rule.TheVariants.{Head, State, Number, Body, Keys, Entry, Blob, Rest}
 use Rattle.fl_check.specs.declared.tally.Tally.{Tally}
-use Rattle.fl_check.specs.declared.whole.TableNumbers.{TableNumbers}
+use Rattle.fl_check.specs.declared.table.TableNumbers.{TableNumbers}
 
 -- ---- a table on a flash
 

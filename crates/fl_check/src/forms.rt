@@ -2,7 +2,7 @@
 ghost use Rattle.std.specs.Prelude.{◌≤◌, length};
 ghost use Rattle.fl_schema.specs.Schema.{types_of};
 
-use crate::bodies::Form;
+use crate::rule_4_body::Form;
 use crate::content_page::content_page_is_good;
 use crate::data_page::data_page_is_good;
 use crate::keys::keys_ascend;

@@ -1,11 +1,9 @@
 //! A check of the rings of a table: it reads their pages, repairs nothing, and tells the first rule that doesn't hold.
 #![tactic(auto)]
 
-mod bodies;
 mod bytes;
 mod content_page;
 mod data_page;
-mod entries;
 mod faults;
 mod finding;
 mod forms;
@@ -17,24 +15,24 @@ mod laws;
 mod log;
 mod marks;
 mod numbering;
-mod numbers;
 mod reaches;
-mod references;
-mod rest;
-mod ringed;
-mod rising;
+mod ring;
+mod ring_rules;
 mod rule;
-mod ruled;
-mod rules;
-mod states;
+mod rule_2_state;
+mod rule_3_number;
+mod rule_4_body;
+mod rule_5_keys;
+mod rule_6_entry;
+mod rule_7_blob;
+mod rule_8_blank;
+mod table;
+mod table_rules;
 mod tally;
-mod told;
-mod whole;
+mod told_entry;
 
-pub use bodies::{Form, check_forms};
 pub use content_page::content_page_is_good;
 pub use data_page::data_page_is_good;
-pub use entries::{Indexing, check_entries};
 pub use faults::{RingFaults, TableFaults, TableRules};
 pub use finding::{CheckFault, Finding, RingName};
 pub use forms::{AscendingForm, ContentForm, DataForm};
@@ -46,8 +44,10 @@ pub use laws::{
 };
 pub use marks::{HeadPages, Marks};
 pub use numbering::{Numbering, check_numbering};
-pub use rest::check_rest;
-pub use rising::check_keys;
 pub use rule::{Breach, Rule, Stop};
-pub use rules::check_rules;
-pub use whole::{TableNumbers, check_table, schema_of};
+pub use rule_4_body::{Form, check_forms};
+pub use rule_5_keys::check_keys;
+pub use rule_6_entry::{Indexing, check_entries};
+pub use rule_8_blank::check_rest;
+pub use table::{TableNumbers, check_table, schema_of};
+pub use table_rules::check_rules;

@@ -24,8 +24,8 @@ use Rattle.fl_table.specs.Look.{oldest_in, rows_noted}
 use Rattle.fl_table.specs.Memory.{next_in}
 use Rattle.fl_table.specs.Skipping as skipping
 use Rattle.fl_table.specs.Skipping.{AreFresh, AreScanning, HoldGood, IsBadIndex, LooksOn, ShowsPage, wants_page}
-use Rattle.fl_table.specs.declared.skip.Ahead.{Ahead}
-use Rattle.fl_table.specs.declared.skip.Ahead.TheVariants.{Wanted, Missed, Beyond}
+use Rattle.fl_table.specs.declared.look_ahead.Ahead.{Ahead}
+use Rattle.fl_table.specs.declared.look_ahead.Ahead.TheVariants.{Wanted, Missed, Beyond}
 use Rattle.fl_table.specs.Standing.{Stands}
 use Rattle.fl_table.specs.declared.table.Table.{Table}
 use Rattle.fl_cursor.specs.Asked.{is_asked}

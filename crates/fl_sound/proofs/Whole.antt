@@ -32,7 +32,7 @@ use Rattle.fl_check.specs.Whole.{OfRing, Fits, shape_in, rows_shape, layout_in, 
 use Rattle.fl_check.specs.declared.finding.Finding.{Finding}
 use Rattle.fl_check.specs.declared.finding.Finding.TheVariants.{Sound}
 use Rattle.fl_check.specs.declared.numbering.Numbering.{Numbering}
-use Rattle.fl_check.specs.declared.whole.TableNumbers.{TableNumbers}
+use Rattle.fl_check.specs.declared.table.TableNumbers.{TableNumbers}
 use Rattle.fl_check.proofs.OneFinding.{one_finding}
 use Rattle.fl_sound.specs.Sound.{sound_table, LiesIn, Finds, FindsAlone}
 use Rattle.fl_sound.specs.Sound as law

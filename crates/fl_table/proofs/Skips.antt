@@ -27,8 +27,8 @@ use Rattle.fl_page.specs.declared.fault.ReadFault.TheVariants.{Flash, BadPage}
 use Rattle.fl_index.specs.Standing as standing
 use Rattle.fl_table.specs.Bitmaps.{ArePlanned, Stand}
 use Rattle.fl_table.specs.Skipping.{AreFresh, AreScanning, HoldGood, IsBadIndex, LooksOn, ShowsPage, ahead_by, ahead_of, begins_above, due_of}
-use Rattle.fl_table.specs.declared.skip.Ahead.{Ahead}
-use Rattle.fl_table.specs.declared.skip.Ahead.TheVariants.{Wanted, Missed, Beyond}
+use Rattle.fl_table.specs.declared.look_ahead.Ahead.{Ahead}
+use Rattle.fl_table.specs.declared.look_ahead.Ahead.TheVariants.{Wanted, Missed, Beyond}
 use Rattle.fl_table.specs.Standing.{Stands}
 use Rattle.fl_table.specs.declared.table.Table.{Table}
 

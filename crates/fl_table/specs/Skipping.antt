@@ -17,8 +17,8 @@ use Rattle.fl_model.specs.Table.{Table, Entry, first_key}
 use Rattle.fl_page.specs.declared.fault.BadPage.{BadPage as Refusal}
 use Rattle.fl_page.specs.declared.fault.ReadFault.{ReadFault}
 use Rattle.fl_page.specs.declared.fault.ReadFault.TheVariants.{Flash, BadPage}
-use Rattle.fl_table.specs.declared.skip.Ahead.{Ahead}
-use Rattle.fl_table.specs.declared.skip.Ahead.TheVariants.{Wanted, Missed, Beyond}
+use Rattle.fl_table.specs.declared.look_ahead.Ahead.{Ahead}
+use Rattle.fl_table.specs.declared.look_ahead.Ahead.TheVariants.{Wanted, Missed, Beyond}
 use Rattle.fl_table.specs.declared.table.Table as code
 
 -- the index of a table, where it has one

@@ -23,7 +23,7 @@ ghost use Rattle.fl_index.specs.Page.{first_on, full_view};
 
 use crate::MountFault;
 use crate::known::{Known, blame, see_entry, settle};
-use crate::reading::read_page;
+use crate::load::read_page;
 use fl_find::KeyIndex;
 use fl_flash::{Flash, PageBuf};
 use fl_index::{Full, BitmapIndex, Loaded};

@@ -8,7 +8,7 @@ use crate::bitmaps::{first_to_wait, mount_bitmaps, restart};
 use crate::blobs::mount_within;
 use crate::by_entries::read_listed;
 use crate::known::Known;
-use crate::reading::{read_newest, read_pages};
+use crate::load::{read_newest, read_pages};
 use crate::table::Table;
 use crate::{MountFault, Mounted};
 use fl_flash::{Flash, PageBuf};

@@ -1,0 +1,46 @@
+use Rattle.std.proofs.Common.{ℕ, List, ◌+◌, ◌*◌, ◌≤◌, inl, inr, sym, subst, arith}
+use Rattle.std.proofs.Math.Nat.{mul-le-mul_right}
+use Rattle.std.proofs.lemmas.Bool.{cases_eq}
+use Rattle.fl_flash.specs.Flash.{page_at}
+use Rattle.fl_index.specs.Page.{form_len}
+use Rattle.fl_ring.specs.Place.{shape_of}
+use Rattle.fl_ring.proofs.Founds.{same_pages}
+use Rattle.fl_ring.proofs.ReadsInTurn.{more_reads, told_still}
+use Rattle.fl_check.specs.Entries.{over, IsEntry}
+use Rattle.fl_check.proofs.FewerReads.{few_reads}
+use Rattle.fl_check.proofs.rule_6_entry.has_entries.Goals as goal
+
+pub is_entry-requires-clause-entry : goal.is_entry-requires-clause-entry
+is_entry-requires-clause-entry g c =
+    let up : (c.loop-j.j + 1) * form_len c.args.l.form ≤ c.args.many * form_len c.args.l.form = mul-le-mul_right (form_len c.args.l.form) (omega (arith, c.loop-j-test.true)) in
+    omega (arith, up, c.requires.entries)
+
+pub returns-then-not-is-clause-reads : goal.returns-then-not-is-clause-reads
+returns-then-not-is-clause-reads g c =
+    let f = g.F.Flash.state c.args.flash.now in
+    few_reads f (g.F.Flash.state c.is_entry.new.flash) _ _ (more_reads f (g.F.Flash.state c.loop-j.flash) (g.F.Flash.state c.is_entry.new.flash) _ _ c.loop-j.invariant.reads c.is_entry.ensures.reads)
+    (omega (arith, c.loop-j-test.true))
+
+pub returns-then-not-is-clause-no : goal.returns-then-not-is-clause-no
+returns-then-not-is-clause-no g c =
+    let f = g.F.Flash.state c.args.flash.now in
+    let before = g.F.Flash.state c.loop-j.flash in
+    λ no told all. c.in_ok-is.ensures.no c.if-not-is.true (told_still f before _ c.loop-j.invariant.reads told)
+    (subst (λ (page : ℕ → List ℕ). IsEntry page (shape_of c.args.rows.now) (over c.args.l) c.args.listing.now c.loop-j.j) (sym (same_pages f before _ c.loop-j.invariant.reads)) (all c.loop-j.j c.loop-j-test.true))
+
+pub loop-j-preserved : goal.loop-j-preserved
+loop-j-preserved g c =
+    let f = g.F.Flash.state c.args.flash.now in
+    let before = g.F.Flash.state c.loop-j.flash in
+    let reads = c.loop-j.invariant.reads in
+    record {
+      reads = few_reads f (g.F.Flash.state c.is_entry.new.flash) _ _ (more_reads f before (g.F.Flash.state c.is_entry.new.flash) _ _ reads c.is_entry.ensures.reads) (omega arith);
+      room = c.is_entry.ensures.room;
+      entries = λ told i lt. elim (cases_eq i c.loop-j.j) [
+        | inl same ↦
+            subst (λ (k : ℕ). IsEntry (page_at f) (shape_of c.args.rows.now) (over c.args.l) c.args.listing.now k) (sym same)
+            (subst (λ (page : ℕ → List ℕ). IsEntry page (shape_of c.args.rows.now) (over c.args.l) c.args.listing.now c.loop-j.j) (same_pages f before _ reads)
+            (c.in_ok-is.ensures.yes c.if-not-is.false (told_still f before _ reads told)))
+        | inr other ↦ c.loop-j.invariant.entries told i (omega (arith, other, lt))
+      ];
+    }

@@ -1,0 +1,83 @@
+use Rattle.std.proofs.Common.{ℕ, ◌+◌, length, refl, sym, ◌∙◌, ap, arith}
+use Rattle.std.proofs.lemmas.Bool.{true≢false}
+use Rattle.fl_flash.specs.Flash.{page_at}
+use Rattle.fl_index.specs.Page.{page_first}
+use Rattle.fl_ring.specs.Looking.{state_at}
+use Rattle.fl_ring.specs.Newest.{commits}
+use Rattle.fl_ring.specs.Place.{shape_of}
+use Rattle.fl_ring.proofs.Exists.{lies_exists}
+use Rattle.fl_ring.proofs.Founds.{same_pages}
+use Rattle.fl_ring.proofs.ReadsInTurn.{more_reads, told_still}
+use Rattle.fl_check.specs.Entries.{over, entries_in}
+use Rattle.fl_check.proofs.ListedPages.{one_more, descends, misentered, listing_more, entries_move}
+use Rattle.fl_check.proofs.FewerReads.{few_reads}
+use Rattle.fl_check.proofs.rule_6_entry.see_listing.Goals as goal
+
+pub look-requires-clause-exists : goal.look-requires-clause-exists
+look-requires-clause-exists g c = lies_exists c.args.index.now (g.F.Flash.state c.args.flash.now) c.page_back-page.result c.requires.index c.page_back-page.ensures.within
+
+pub returns-then-not-is_committed-clause-some : goal.returns-then-not-is_committed-clause-some
+returns-then-not-is_committed-clause-some g c =
+    let f = g.F.Flash.state c.args.flash.now in
+    λ told seen. one_more (page_at f) (shape_of c.args.index.now) (shape_of c.args.rows.now) (over c.args.l) c.args.i c.args.seen seen
+    (λ lists. true≢false (sym lists ∙ ap (λ (p : ℕ). commits (state_at f p)) (sym c.page_back-page.ensures.page) ∙ ap commits (sym (c.in_ok-state.ensures.state told)) ∙ sym c.is_committed.ensures ∙ c.if-not-is_committed.true))
+
+pub returns-then-first-seen-clause-none : goal.returns-then-first-seen-clause-none
+returns-then-first-seen-clause-none g c =
+    let f = g.F.Flash.state c.args.flash.now in
+    λ told seen.
+    let first = c.from-first.ensures ∙ c.first_in.ensures ∙ ap page_first (c.bytes-held.ensures ∙ c.in_ok-state.ensures.bytes told ∙ ap (page_at f) c.page_back-page.ensures.page) in
+    descends (page_at f) (shape_of c.args.index.now) (shape_of c.args.rows.now) (over c.args.l) c.args.i c.args.seen seen
+    (ap (λ (p : ℕ). commits (state_at f p)) (sym c.page_back-page.ensures.page) ∙ ap commits (sym (c.in_ok-state.ensures.state told)) ∙ sym c.is_committed.ensures ∙ c.if-not-is_committed.false)
+    c.requires.kept (omega (arith, first, c.if-first-seen.true))
+
+pub returns-then-not-has-clause-reads : goal.returns-then-not-has-clause-reads
+returns-then-not-has-clause-reads g c =
+    let f = g.F.Flash.state c.args.flash.now in
+    few_reads f (g.F.Flash.state c.has_entries.new.flash) (1 + _) _ (more_reads f (g.F.Flash.state c.look.new.flash) (g.F.Flash.state c.has_entries.new.flash) 1 _ c.look.ensures.reads c.has_entries.ensures.reads)
+    (omega (arith, c.from-first.ensures, c.first_in.ensures, c.if-first-seen.false))
+
+pub returns-then-not-has-clause-none : goal.returns-then-not-has-clause-none
+returns-then-not-has-clause-none g c =
+    let f = g.F.Flash.state c.args.flash.now in
+    let mid = g.F.Flash.state c.look.new.flash in
+    let index = shape_of c.args.index.now in
+    let l = over c.args.l in
+    λ told seen.
+    misentered (page_at f) index (shape_of c.args.rows.now) l c.args.i c.args.seen seen
+    (ap (λ (p : ℕ). commits (state_at f p)) (sym c.page_back-page.ensures.page) ∙ ap commits (sym (c.in_ok-state.ensures.state told)) ∙ sym c.is_committed.ensures ∙ c.if-not-is_committed.false)
+    c.requires.kept
+    (λ all. c.in_ok-has.ensures.no c.if-not-has.true (told_still f mid 1 c.look.ensures.reads told)
+    (entries_move (page_at mid) (page_at f) (shape_of c.args.rows.now) l _ c.bytes-held.result.now (entries_in index.size l.form) c.entries_in-many.result
+    (sym (same_pages f mid 1 c.look.ensures.reads)) (sym (c.bytes-held.ensures ∙ c.in_ok-state.ensures.bytes told ∙ ap (page_at f) c.page_back-page.ensures.page))
+    (sym (c.entries_in-many.ensures.exact ∙ ap (λ (n : ℕ). entries_in n l.form) (ap length c.bytes-held.ensures ∙ c.look.ensures.room ∙ c.requires.listing))) all))
+
+pub returns-clause-reads : goal.returns-clause-reads
+returns-clause-reads g c =
+    let f = g.F.Flash.state c.args.flash.now in
+    few_reads f (g.F.Flash.state c.has_entries.new.flash) (1 + _) _ (more_reads f (g.F.Flash.state c.look.new.flash) (g.F.Flash.state c.has_entries.new.flash) 1 _ c.look.ensures.reads c.has_entries.ensures.reads)
+    (omega (arith, c.from-first.ensures, c.first_in.ensures, c.if-first-seen.false))
+
+pub returns-clause-few_reads : goal.returns-clause-few_reads
+returns-clause-few_reads g c =
+    let f = g.F.Flash.state c.args.flash.now in (
+      few_reads f (g.F.Flash.state c.has_entries.new.flash) (1 + _) _ (more_reads f (g.F.Flash.state c.look.new.flash) (g.F.Flash.state c.has_entries.new.flash) 1 _ c.look.ensures.reads c.has_entries.ensures.reads)
+          (omega (arith, c.from-first.ensures, c.from.ensures, c.first_in.ensures, c.if-first-seen.false)),
+      omega (arith, c.if-first-seen.false),
+    )
+
+pub returns-clause-some : goal.returns-clause-some
+returns-clause-some g c =
+    let f = g.F.Flash.state c.args.flash.now in
+    let mid = g.F.Flash.state c.look.new.flash in
+    let index = shape_of c.args.index.now in
+    let l = over c.args.l in
+    λ told seen.
+    let bytes = c.bytes-held.ensures ∙ c.in_ok-state.ensures.bytes told ∙ ap (page_at f) c.page_back-page.ensures.page in
+    let first = c.from-first.ensures ∙ c.first_in.ensures ∙ ap page_first bytes in
+    let many = c.entries_in-many.ensures.exact ∙ ap (λ (n : ℕ). entries_in n l.form) (ap length c.bytes-held.ensures ∙ c.look.ensures.room ∙ c.requires.listing) in
+    listing_more (page_at f) index (shape_of c.args.rows.now) l c.args.i c.args.seen seen
+    (ap (λ (p : ℕ). commits (state_at f p)) (sym c.page_back-page.ensures.page) ∙ ap commits (sym (c.in_ok-state.ensures.state told)) ∙ sym c.is_committed.ensures ∙ c.if-not-is_committed.false)
+    (record { last = c.args.i; end = c.from-first.result + c.from.result }) refl (omega (arith, first, c.from.ensures, many)) (omega (arith, first, c.if-first-seen.false))
+    (entries_move (page_at f) (page_at mid) (shape_of c.args.rows.now) l c.bytes-held.result.now _ c.entries_in-many.result (entries_in index.size l.form)
+    (same_pages f mid 1 c.look.ensures.reads) bytes many (c.in_ok-has.ensures.yes c.if-not-has.false (told_still f mid 1 c.look.ensures.reads told)))

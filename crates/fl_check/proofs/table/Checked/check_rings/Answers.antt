@@ -1,0 +1,116 @@
+use Rattle.std.proofs.Common.{◌≡◌, ℕ, IsTrue, ap, subst}
+use Rattle.std.proofs.lemmas.Result.{err_from_is_err_and}
+use Rattle.fl_flash.specs.Flash.{page_at}
+use Rattle.fl_check.specs.ContentPage.{IsContentPage}
+use Rattle.fl_check.specs.RingRules.{NoRows, IsRingSound}
+use Rattle.fl_check.specs.Whole.{OfRing, shape_in, tally_in, AreRowsSound, IsVarSound, IsLogSound, BreaksVarBy, BreaksLogRing}
+use Rattle.fl_check.specs.declared.finding.RingName.TheVariants.{Var, Log}
+use Rattle.fl_check.specs.declared.tally.Tally.{Tally}
+use Rattle.fl_check.proofs.Halts.{found_so}
+use Rattle.fl_check.proofs.LooksChangeNothing.{looks_more, seen}
+use Rattle.fl_check.proofs.RingsKnown.{rows_known, tally_known}
+use Rattle.fl_check.proofs.Wholes.{var_fault, log_fault}
+use Rattle.fl_check.proofs.table.Checked.check_rings.Goals as goal
+
+pub returns-in_err-var-clause-broken : goal.returns-in_err-var-clause-broken
+returns-in_err-var-clause-broken g c =
+    let config = c.args.self.now.config.now in
+    let first = g.F.Flash.state c.args.flash.now in
+    let listed = g.F.Flash.state c.check_index.new.flash in
+    let ended = g.F.Flash.state c.find_index_end.new.flash in
+    let index = c.in_ok-index.index in
+    let rows = c.in_ok-rows.rows in
+    let rows_sound : IsTrue first.media.tells → AreRowsSound config (page_at first) index rows =
+    rows_known config first listed ended index c.in_ok-end.end rows c.check_index.ensures.looks c.find_index_end.ensures.looks c.in_ok-end.ensures.end c.in_ok-rows.ensures.sound in
+    let numbered = g.F.Flash.state c.check_data.new.flash in
+    let to_data = looks_more first ended numbered (looks_more first listed ended c.check_index.ensures.looks c.find_index_end.ensures.looks) c.check_data.ensures.looks in
+    let tally_is : IsTrue first.media.tells → c.in_ok-tally.tally ≡ tally_in config (page_at first) rows =
+    λ told. tally_known config first numbered index rows c.in_ok-tally.tally c.requires.fits to_data c.in_ok-tally.ensures.tally (rows_sound told) told in
+    let tallied = g.F.Flash.state c.tally_rows.new.flash in
+    let to_tally = looks_more first numbered tallied to_data c.tally_rows.ensures.looks in
+    let least : IsTrue first.media.tells → c.in_ok-tally.tally.blob_end ≡ (tally_in config (page_at first) rows).blob_end =
+    λ told. ap (λ (tally : Tally). tally.blob_end) (tally_is told) in
+    let p = err_from_is_err_and c.from_residual-in_err-var.result c.from_residual-in_err-var.ensures.1 in
+    rw (p.1, p.2) (found_so _ _ c.in_err-var.field-0.0
+    (λ fault is told. var_fault config c.args.self.now.log (page_at first) index rows c.in_ok-tally.tally.blob_end fault (c.in_ok-index.ensures.sound told) (rows_sound told) (least told)
+    (seen first tallied (λ page. (fault.ring ≡ Var) × BreaksVarBy config page c.in_ok-tally.tally.blob_end fault.page fault.rule) to_tally is told))
+    c.in_err-var.ensures.broken)
+
+pub returns-in_err-log-clause-broken : goal.returns-in_err-log-clause-broken
+returns-in_err-log-clause-broken g c =
+    let config = c.args.self.now.config.now in
+    let first = g.F.Flash.state c.args.flash.now in
+    let listed = g.F.Flash.state c.check_index.new.flash in
+    let ended = g.F.Flash.state c.find_index_end.new.flash in
+    let index = c.in_ok-index.index in
+    let rows = c.in_ok-rows.rows in
+    let rows_sound : IsTrue first.media.tells → AreRowsSound config (page_at first) index rows =
+    rows_known config first listed ended index c.in_ok-end.end rows c.check_index.ensures.looks c.find_index_end.ensures.looks c.in_ok-end.ensures.end c.in_ok-rows.ensures.sound in
+    let numbered = g.F.Flash.state c.check_data.new.flash in
+    let to_data = looks_more first ended numbered (looks_more first listed ended c.check_index.ensures.looks c.find_index_end.ensures.looks) c.check_data.ensures.looks in
+    let tally_is : IsTrue first.media.tells → c.in_ok-tally.tally ≡ tally_in config (page_at first) rows =
+    λ told. tally_known config first numbered index rows c.in_ok-tally.tally c.requires.fits to_data c.in_ok-tally.ensures.tally (rows_sound told) told in
+    let tallied = g.F.Flash.state c.tally_rows.new.flash in
+    let to_tally = looks_more first numbered tallied to_data c.tally_rows.ensures.looks in
+    let least : IsTrue first.media.tells → c.in_ok-tally.tally.blob_end ≡ (tally_in config (page_at first) rows).blob_end =
+    λ told. ap (λ (tally : Tally). tally.blob_end) (tally_is told) in
+    let var = c.in_ok-var.var in
+    let var_sound : IsTrue first.media.tells → IsVarSound config (page_at first) rows var =
+    λ told. subst (λ (k : ℕ). OfRing (λ place n. IsRingSound (λ number bytes. IsContentPage number bytes) NoRows (page_at first) (shape_in config place) k n) config.var var) (least told)
+    (seen first tallied (λ page. OfRing (λ place n. IsRingSound (λ number bytes. IsContentPage number bytes) NoRows page (shape_in config place) c.in_ok-tally.tally.blob_end n) config.var var)
+    to_tally c.in_ok-var.ensures.sound told) in
+    let seen_var = g.F.Flash.state c.check_var.new.flash in
+    let to_var = looks_more first tallied seen_var to_tally c.check_var.ensures.looks in
+    let p = err_from_is_err_and c.from_residual-in_err-log.result c.from_residual-in_err-log.ensures.1 in
+    rw (p.1, p.2) (found_so _ _ c.in_err-log.field-0.0
+    (λ fault is told. log_fault config c.args.self.now.log (page_at first) index rows var fault (c.in_ok-index.ensures.sound told) (rows_sound told) (var_sound told)
+    (seen first seen_var (λ page. (fault.ring ≡ Log) × BreaksLogRing config c.args.self.now.log page fault.page fault.rule) to_var is told))
+    c.in_err-log.ensures.broken)
+
+pub returns-clause-sound : goal.returns-clause-sound
+returns-clause-sound g c = λ told.
+    let config = c.args.self.now.config.now in
+    let first = g.F.Flash.state c.args.flash.now in
+    let listed = g.F.Flash.state c.check_index.new.flash in
+    let ended = g.F.Flash.state c.find_index_end.new.flash in
+    let index = c.in_ok-index.index in
+    let rows = c.in_ok-rows.rows in
+    let rows_sound : IsTrue first.media.tells → AreRowsSound config (page_at first) index rows =
+    rows_known config first listed ended index c.in_ok-end.end rows c.check_index.ensures.looks c.find_index_end.ensures.looks c.in_ok-end.ensures.end c.in_ok-rows.ensures.sound in
+    let numbered = g.F.Flash.state c.check_data.new.flash in
+    let to_data = looks_more first ended numbered (looks_more first listed ended c.check_index.ensures.looks c.find_index_end.ensures.looks) c.check_data.ensures.looks in
+    let tally_is : IsTrue first.media.tells → c.in_ok-tally.tally ≡ tally_in config (page_at first) rows =
+    λ told. tally_known config first numbered index rows c.in_ok-tally.tally c.requires.fits to_data c.in_ok-tally.ensures.tally (rows_sound told) told in
+    let tallied = g.F.Flash.state c.tally_rows.new.flash in
+    let to_tally = looks_more first numbered tallied to_data c.tally_rows.ensures.looks in
+    let least : IsTrue first.media.tells → c.in_ok-tally.tally.blob_end ≡ (tally_in config (page_at first) rows).blob_end =
+    λ told. ap (λ (tally : Tally). tally.blob_end) (tally_is told) in
+    let var = c.in_ok-var.var in
+    let var_sound : IsTrue first.media.tells → IsVarSound config (page_at first) rows var =
+    λ told. subst (λ (k : ℕ). OfRing (λ place n. IsRingSound (λ number bytes. IsContentPage number bytes) NoRows (page_at first) (shape_in config place) k n) config.var var) (least told)
+    (seen first tallied (λ page. OfRing (λ place n. IsRingSound (λ number bytes. IsContentPage number bytes) NoRows page (shape_in config place) c.in_ok-tally.tally.blob_end n) config.var var)
+    to_tally c.in_ok-var.ensures.sound told) in
+    let seen_var = g.F.Flash.state c.check_var.new.flash in
+    let to_var = looks_more first tallied seen_var to_tally c.check_var.ensures.looks in
+    record {
+      index = c.in_ok-index.ensures.sound told;
+      rows = rows_sound told;
+      var = var_sound told;
+      logged = seen first seen_var (λ page. IsLogSound config c.args.self.now.log page c.in_ok-log.log) to_var c.in_ok-log.ensures.sound told;
+    }
+
+pub returns-clause-tally : goal.returns-clause-tally
+returns-clause-tally g c =
+    let config = c.args.self.now.config.now in
+    let first = g.F.Flash.state c.args.flash.now in
+    let listed = g.F.Flash.state c.check_index.new.flash in
+    let ended = g.F.Flash.state c.find_index_end.new.flash in
+    let index = c.in_ok-index.index in
+    let rows = c.in_ok-rows.rows in
+    let rows_sound : IsTrue first.media.tells → AreRowsSound config (page_at first) index rows =
+    rows_known config first listed ended index c.in_ok-end.end rows c.check_index.ensures.looks c.find_index_end.ensures.looks c.in_ok-end.ensures.end c.in_ok-rows.ensures.sound in
+    let numbered = g.F.Flash.state c.check_data.new.flash in
+    let to_data = looks_more first ended numbered (looks_more first listed ended c.check_index.ensures.looks c.find_index_end.ensures.looks) c.check_data.ensures.looks in
+    let tally_is : IsTrue first.media.tells → c.in_ok-tally.tally ≡ tally_in config (page_at first) rows =
+    λ told. tally_known config first numbered index rows c.in_ok-tally.tally c.requires.fits to_data c.in_ok-tally.ensures.tally (rows_sound told) told in
+    tally_is

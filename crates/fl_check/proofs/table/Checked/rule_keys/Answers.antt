@@ -1,0 +1,31 @@
+use Rattle.std.proofs.Common.{◌≡◌, ℕ, IsTrue, MatchOption, Option, sym, ◌∙◌, ap, subst}
+use Rattle.fl_base.specs.declared.types.Geometry.{Geometry}
+use Rattle.fl_flash.specs.Flash.{page_at}
+use Rattle.fl_model.specs.Record.{RowLayout}
+use Rattle.fl_ring.specs.Mounting.{shape_at}
+use Rattle.fl_ring.specs.Place.{shape_of}
+use Rattle.fl_ring.specs.Ring.{Shape}
+use Rattle.fl_schema.specs.Schema.{layout_of}
+use Rattle.fl_check.specs.Rising.{KeysAscend, KeysBreak, HaveRows}
+use Rattle.fl_check.specs.Whole.{rows_shape, layout_in}
+use Rattle.fl_check.specs.declared.rule.Rule.TheVariants.{Keys}
+use Rattle.fl_check.proofs.RulesTold.{if_told}
+use Rattle.fl_check.proofs.Stops.{if_ok}
+use Rattle.fl_check.proofs.TableTold.{keys_at}
+use Rattle.fl_check.proofs.table.Checked.rule_keys.Goals as goal
+
+pub returns-clause-keys : goal.returns-clause-keys
+returns-clause-keys g c =
+    let f = g.F.Flash.state c.args.flash.now in
+    let page = page_at f in
+    let config = c.args.self.now.config.now in
+    let m = c.in-Some.n.marks in
+    let layout = layout_of c.args.self.now.schema in
+    let r = shape_of c.unnumbered-ring.result in
+    let before : r ≡ rows_shape config = c.unnumbered-ring.ensures.shape ∙ ap (λ (x : Geometry). shape_at config.rows x) (sym c.requires.fits.geometry) in
+    let Is : RowLayout → Shape → Option ℕ → Type 0 = λ l s keys. HaveRows l page s m → MatchOption keys (KeysAscend l page s m) (λ p. KeysBreak l page s m p) in
+    if_ok _ _ c.first_page.result
+    (λ keys is told. keys_at (layout_in config) page (rows_shape config) c.args.rows c.in-Some.n keys c.in-Some.is
+    (subst (λ (s : Shape). Is (layout_in config) s keys) before (subst (λ (l : RowLayout). Is l r keys) c.args.self.now.layout (is told))))
+    (if_told c.check_keys.result c.first_page.result (IsTrue f.media.tells) (HaveRows layout page r m) (KeysAscend layout page r m) Keys (λ p. KeysBreak layout page r m p) c.first_page.ensures c.check_keys.ensures.keys
+    c.check_keys.ensures.broken)

@@ -1,0 +1,105 @@
+use Rattle.std.proofs.Common.{◌≡◌, ℕ, Option, None, IfSome, sym, ap, subst}
+use Rattle.fl_flash.specs.Flash.{page_at}
+use Rattle.fl_check.specs.ContentPage.{IsContentPage}
+use Rattle.fl_check.specs.DataPage.{IsDataPage}
+use Rattle.fl_check.specs.Faults.{with_keys}
+use Rattle.fl_check.specs.Marks.{AreWithin}
+use Rattle.fl_check.specs.Rising.{HaveRows}
+use Rattle.fl_check.specs.RingRules.{OverPages, WithinPages}
+use Rattle.fl_check.specs.Ruled.{RingTold, RowsTold}
+use Rattle.fl_check.specs.Rules.{OfRing, EntriesTold, BlobsTold, HaveContent, AreTold, in_order, tally_told}
+use Rattle.fl_check.specs.Whole.{IfWithin, shape_in, rows_shape, layout_in, index_end, IsRowsForm}
+use Rattle.fl_check.specs.declared.faults.TableFaults.{TableFaults}
+use Rattle.fl_check.specs.declared.numbering.Numbering.{Numbering}
+use Rattle.fl_check.specs.declared.tally.Tally.{Tally}
+use Rattle.fl_check.proofs.LooksChangeNothing.{looks_more, seen}
+use Rattle.fl_check.proofs.TableTold.{rows_told, content_told, if_in_order, none_within, no_content, are_rules}
+use Rattle.fl_check.proofs.table.Checked.rules.Goals as goal
+
+pub rule_entries-requires-clause-rows : goal.rule_entries-requires-clause-rows
+rule_entries-requires-clause-rows g c =
+    let rows = c.in_ok-rows.rows in
+    let r = rows_shape c.args.self.now.config.now in
+    subst (λ (x : Option Numbering). IfSome x (λ n. AreWithin r n.marks)) (sym c.in_order-listed.ensures)
+    (if_in_order (λ (x : Option Numbering). IfSome x (λ n. AreWithin r n.marks)) rows.faults.state rows.numbering tt c.in_ok-rows.ensures.within)
+
+pub rule_blobs-requires-clause-rows : goal.rule_blobs-requires-clause-rows
+rule_blobs-requires-clause-rows g c =
+    let rows = c.in_ok-rows.rows in
+    let r = rows_shape c.args.self.now.config.now in
+    subst (λ (x : Option Numbering). IfSome x (λ n. AreWithin r n.marks)) (sym c.in_order-listed.ensures)
+    (if_in_order (λ (x : Option Numbering). IfSome x (λ n. AreWithin r n.marks)) rows.faults.state rows.numbering tt c.in_ok-rows.ensures.within)
+
+pub rule_blobs-requires-clause-var : goal.rule_blobs-requires-clause-var
+rule_blobs-requires-clause-var g c =
+    let var = c.in_ok-var.var in
+    let config = c.args.self.now.config.now in
+    subst (λ (x : Option Numbering). IfWithin config config.var x) (sym c.in_order-content.ensures)
+    (if_in_order (λ (x : Option Numbering). IfWithin config config.var x) var.faults.state var.numbering (none_within config config.var) c.in_ok-var.ensures.within)
+
+pub returns-clause-rules : goal.returns-clause-rules
+returns-clause-rules g c = λ told.
+    let config = c.args.self.now.config.now in
+    let f0 = g.F.Flash.state c.args.flash.now in
+    let f1 = g.F.Flash.state c.rule_index.new.flash in
+    let f2 = g.F.Flash.state c.find_index_end.new.flash in
+    let f3 = g.F.Flash.state c.rule_rows.new.flash in
+    let f4 = g.F.Flash.state c.tally_told.new.flash in
+    let f5 = g.F.Flash.state c.rule_var.new.flash in
+    let f6 = g.F.Flash.state c.rule_log.new.flash in
+    let f7 = g.F.Flash.state c.rule_entries.new.flash in
+    let index = c.in_ok-index.index in
+    let end = c.in_ok-end.end in
+    let rows = c.in_ok-rows.rows in
+    let tally = c.in_ok-tally.tally in
+    let var = c.in_ok-var.var in
+    let log = c.in_ok-log.log in
+    let place = c.args.self.now.log in
+    let entry = c.in_ok-entry.entry in
+    let blob = c.in_ok-blob.blob in
+    let listed = c.in_order-listed.result in
+    let blobs = c.in_order-content.result in
+    let to1 = c.rule_index.ensures.looks in
+    let to2 = looks_more f0 f1 f2 to1 c.find_index_end.ensures.looks in
+    let to3 = looks_more f0 f2 f3 to2 c.rule_rows.ensures.looks in
+    let to4 = looks_more f0 f3 f4 to3 c.tally_told.ensures.looks in
+    let to5 = looks_more f0 f4 f5 to4 c.rule_var.ensures.looks in
+    let to6 = looks_more f0 f5 f6 to5 c.rule_log.ensures.looks in
+    let to7 = looks_more f0 f6 f7 to6 c.rule_entries.ensures.looks in
+    let end_is : end ≡ index_end config (page_at f0) index.numbering = seen f0 f1 (λ page. end ≡ index_end config page index.numbering) to1 c.in_ok-end.ensures.end told in
+    let in_rows : RowsTold (IsRowsForm config) (OverPages (layout_in config)) (page_at f0) (rows_shape config) (index_end config (page_at f0) index.numbering) rows.faults rows.numbering =
+    subst (λ (k : ℕ). RowsTold (IsRowsForm config) (OverPages (layout_in config)) (page_at f0) (rows_shape config) k rows.faults rows.numbering) end_is
+    (seen f0 f2 (λ page. RowsTold (IsRowsForm config) (OverPages (layout_in config)) page (rows_shape config) end rows.faults rows.numbering) to2 c.in_ok-rows.ensures.rules told) in
+    let have = rows_told config f0 (index_end config (page_at f0) index.numbering) (with_keys None rows.faults) rows.numbering c.requires.fits in_rows.ring in
+    let tally_is : tally ≡ tally_told config (page_at f0) rows.numbering =
+    seen f0 f3 (λ page. IfSome rows.numbering (λ n. HaveRows (layout_in config) page (rows_shape config) n.marks) → tally ≡ tally_told config page rows.numbering) to3 c.in_ok-tally.ensures.tally told have in
+    let least : tally.blob_end ≡ (tally_told config (page_at f0) rows.numbering).blob_end = ap (λ (x : Tally). x.blob_end) tally_is in
+    let in_var : OfRing (λ place faults n. RingTold (λ number bytes. IsContentPage number bytes) (page_at f0) (shape_in config place) (tally_told config (page_at f0) rows.numbering).blob_end faults n) config.var var.faults var.numbering =
+    subst (λ (k : ℕ). OfRing (λ place faults n. RingTold (λ number bytes. IsContentPage number bytes) (page_at f0) (shape_in config place) k faults n) config.var var.faults var.numbering) least
+    (seen f0 f4 (λ page. OfRing (λ place faults n. RingTold (λ number bytes. IsContentPage number bytes) page (shape_in config place) tally.blob_end faults n) config.var var.faults var.numbering) to4
+    c.in_ok-var.ensures.rules told) in
+    let content = content_told config f0 (tally_told config (page_at f0) rows.numbering).blob_end config.var var.faults var.numbering c.requires.fits in_var in
+    let faults : TableFaults = record { index = index.faults; rows = rows.faults; var = var.faults; log = log.faults; entry = entry; blob = blob } in
+    let a : AreTold config place (page_at f0) faults = record {
+      index = index.numbering;
+      rows = rows.numbering;
+      var = var.numbering;
+      logged = log.numbering;
+      in_index = c.in_ok-index.ensures.rules told;
+      in_rows = in_rows;
+      in_var = in_var;
+      in_log = seen f0 f5
+          (λ page. OfRing (λ place faults n. RowsTold (λ number bytes. IsDataPage (layout_in config) None number bytes) (WithinPages (layout_in config)) page (shape_in config place) 0 faults n) place log.faults log.numbering) to5
+          c.in_ok-log.ensures.rules told;
+      entry = subst (λ (x : Option Numbering). EntriesTold config (page_at f0) config.index index.numbering x entry) c.in_order-listed.ensures
+          (seen f0 f6 (λ page. EntriesTold config page config.index index.numbering listed entry) to6 c.in_ok-entry.ensures.entries told);
+      blob = subst (λ (x : Option Numbering). BlobsTold config (page_at f0) config.var x (in_order rows.faults.state rows.numbering) blob) c.in_order-content.ensures
+          (subst (λ (x : Option Numbering). BlobsTold config (page_at f0) config.var blobs x blob) c.in_order-listed.ensures
+          (seen f0 f7 (λ page. IfSome listed (λ n. HaveRows (layout_in config) page (rows_shape config) n.marks) → HaveContent config page config.var blobs → BlobsTold config page config.var blobs listed blob)
+          to7 c.in_ok-blob.ensures.blobs told
+          (subst (λ (x : Option Numbering). IfSome x (λ n. HaveRows (layout_in config) (page_at f0) (rows_shape config) n.marks)) (sym c.in_order-listed.ensures)
+          (if_in_order (λ (x : Option Numbering). IfSome x (λ n. HaveRows (layout_in config) (page_at f0) (rows_shape config) n.marks)) rows.faults.state rows.numbering tt have))
+          (subst (λ (x : Option Numbering). HaveContent config (page_at f0) config.var x) (sym c.in_order-content.ensures)
+          (if_in_order (λ (x : Option Numbering). HaveContent config (page_at f0) config.var x) var.faults.state var.numbering (no_content config (page_at f0) config.var) content))));
+    } in
+    rw c.rules_of.ensures (are_rules config place (page_at f0) faults a tally tally_is)

@@ -1,0 +1,142 @@
+use Rattle.std.proofs.Common.{rules, None, ◌≡◌, ◌%◌, length, length-set, ◌+◌, ◌-◌, ◌<◌, ◌≤◌, ℕ, suc, IsTrue, arith, sym, ◌∙◌, ap, subst, refl}
+use Rattle.std.proofs.lemmas.Result.{err_from_is_err_and}
+use Rattle.fl_base.specs.declared.types.Geometry.{Geometry}
+use Rattle.fl_flash.specs.Flash.{page_at}
+use Rattle.fl_ring.specs.Looking.{OnlyReads}
+use Rattle.fl_ring.specs.Place.{next_of, oldest_of}
+use Rattle.fl_schema.specs.Schema.{layout_of}
+use Rattle.fl_table.specs.Coming.{AreRowsOf}
+use Rattle.fl_table.specs.ByEntries.{Come}
+use Rattle.fl_table.specs.Knowing.{KnowsWith, IsWithin, IsUnlisted}
+use Rattle.fl_table.specs.Reading.{pages_of, GatherUpTo, bitmap_on, full_on}
+use Rattle.fl_table.proofs.PageChecks.{left-tail}
+use Rattle.fl_table.proofs.FullEntries.{full-read}
+use Rattle.fl_table.proofs.NotedEntries.{gathers-none, gather-first, gather-room, gathers-more, gather-more}
+use Rattle.fl_table.proofs.IndexOfTable.{plan-same, plan-then, ring-same, ring-then}
+use Rattle.fl_ring.proofs.Exists.{page_exists}
+use Rattle.fl_ring.proofs.ReadsInTurn.{no_reads, more_reads, told_still, same_page}
+use Rattle.fl_table.proofs.load.read_pages.Goals as goal
+
+pub read_page-requires : goal.read_page-requires
+read_page-requires g c =
+    let old = g.F.Flash.state c.args.flash.now in
+    let flash = g.F.Flash.state c.loop-number.flash in
+    let inv = c.loop-number.invariant in
+    let low : oldest_of c.args.ring.now ≤ c.loop-number.number = omega (arith, inv.from, c.requires.from.0) in
+    let high : c.loop-number.number < next_of c.args.ring.now = omega (arith, c.loop-number-test.true, c.next_number-number-end.ensures) in
+    let small : next_of c.args.ring.now < 4294967296 = omega (arith, c.next_number-number-end.ensures, c.next_number-number-end.type_inv) in (
+      search (rules, arith),
+      (
+        c.requires.row,
+        (
+          page_exists c.args.ring.now old flash _ c.place_of-at.result c.requires.lies inv.reads c.place_of-at.ensures.within,
+          (
+            inv.room ∙ (c.requires.room ∙ sym (ap (λ (x : Geometry). x.page) inv.reads.goes.geometry)),
+            (
+              omega (arith, inv.counts, c.requires.some),
+              (omega (arith, inv.within.rows, low, high, small), omega (arith, inv.within.voids, low, high, small)),
+            ),
+          ),
+        ),
+      ),
+    )
+
+pub returns-in_err-page-clause-knows : goal.returns-in_err-page-clause-knows
+returns-in_err-page-clause-knows g c = λ told few error t is end h.
+    let p = err_from_is_err_and c.from_residual.result c.from_residual.ensures.1 in
+    let old = g.F.Flash.state c.args.flash.now in
+    let flash = g.F.Flash.state c.loop-number.flash in
+    let ring = c.args.ring.now in
+    let number = c.loop-number.number in
+    let n = number - t.oldest in
+    let inv = c.loop-number.invariant in
+    let at : number ≡ t.oldest + n = omega (arith, inv.from, c.requires.from.0, is.oldest) in
+    let lt : n < t.pages = omega (arith, inv.from, c.requires.from.0, is.oldest, is.pages, c.loop-number-test.true, c.next_number-number-end.ensures) in
+    let same = same_page old flash _ c.place_of-at.result inv.reads ∙ ap (page_at old) c.place_of-at.ensures.place in
+    rw (p.1, p.2) (
+      tt,
+      (c.in_err-page.ensures.knows (told_still old flash _ inv.reads told) error t t.index_pages n (inv.knows told few error t is end h) lt (omega (arith, is.pages, few, inv.counts)) at
+          (record { layout_is = is.layout_is; bytes_are = is.rows number ∙ sym same; none = end number inv.from (omega (arith, at, lt)) }) (left-tail t n lt)).1,
+    )
+
+pub returns-clause-knows : goal.returns-clause-knows
+returns-clause-knows g c =
+    let last : c.loop-number.number ≡ next_of c.args.ring.now = search (rules, arith) in
+    λ told few error t is end h.
+    let all : c.loop-number.number - t.oldest ≡ t.pages = omega (arith, last, is.oldest, is.pages) in
+    (subst (λ n. KnowsWith error t t.index_pages n c.loop-number.known c.loop-number.counts c.loop-number.index) all (c.loop-number.invariant.knows told few error t is end h), tt)
+
+pub loop-number-preserved : goal.loop-number-preserved
+loop-number-preserved g c =
+    let old = g.F.Flash.state c.args.flash.now in
+    let flash = g.F.Flash.state c.loop-number.flash in
+    let new = g.F.Flash.state c.read_page.new.flash in
+    let ring = c.args.ring.now in
+    let layout = layout_of c.args.schema.now in
+    let number = c.loop-number.number in
+    let from = c.args.from in
+    let n = number - from in
+    let inv = c.loop-number.invariant in
+    let page = c.in_ok-page.page in
+    let bytes = page_at flash c.place_of-at.result in
+    let pages = pages_of ring old in
+    let low : oldest_of ring ≤ number = omega (arith, inv.from, c.requires.from.0) in
+    let same : bytes ≡ pages number = same_page old flash n c.place_of-at.result inv.reads ∙ ap (page_at old) c.place_of-at.ensures.place in
+    record {
+      from = omega (arith, inv.from);
+      reads = subst (λ k. OnlyReads old k new) (let e : n + 1 ≡ number + 1 - from = omega (arith, inv.from) in e) (more_reads old flash new n 1 inv.reads c.in_ok-page.ensures.reads);
+      room = c.in_ok-page.ensures.room ∙ inv.room;
+      none = c.in_ok-page.ensures.none;
+      counts = c.in_ok-page.ensures.size ∙ inv.counts;
+      error = c.in_ok-page.ensures.error ∙ inv.error;
+      within = subst (λ k. IsWithin (oldest_of ring) k c.read_page.new.known) (let e : suc (number - oldest_of ring) ≡ number + 1 - oldest_of ring = omega (arith, low) in e)
+          (c.in_ok-page.ensures.within (oldest_of ring) (number - oldest_of ring) inv.within);
+      newest = omega (arith, c.in_ok-page.ensures.waits, inv.newest);
+      same = plan-then c.args.bitmaps.now c.loop-number.bitmaps c.note_entry.new.bitmaps inv.same c.note_entry.ensures.same;
+      still = ring-then c.args.bitmaps.now c.loop-number.bitmaps c.note_entry.new.bitmaps inv.still c.note_entry.ensures.still;
+      gathered = gathers-more c.args.bitmaps.now c.loop-number.bitmaps c.note_entry.new.bitmaps from (next_of ring) number page.bitmap c.full.result c.requires.bitmaps inv.gathered c.note_entry.ensures.noted;
+      waits = λ told.
+          let still = told_still old flash n inv.reads told in
+          gather-more layout c.args.bitmaps.now c.loop-number.bitmaps c.note_entry.new.bitmaps from (next_of ring) number page.bitmap c.full.result pages c.requires.bitmaps inv.gathered c.note_entry.ensures.noted
+          (c.in_ok-page.ensures.bitmap still ∙ ap bitmap_on same)
+          (c.full.ensures ∙ (full-read layout bytes page.first page.rows page.blob_end (c.in_ok-page.ensures.first still) (c.in_ok-page.ensures.rows still) (c.in_ok-page.ensures.blob_end still) ∙ ap (full_on layout) same)) (inv.waits told);
+      knows = λ told few error t is end h.
+          let m = number - t.oldest in
+          let at : number ≡ t.oldest + m = omega (arith, low, is.oldest) in
+          let lt : m < t.pages = omega (arith, low, is.oldest, is.pages, c.loop-number-test.true, c.next_number-number-end.ensures) in
+          subst (λ k. KnowsWith error t t.index_pages k c.read_page.new.known c.read_page.new.counts c.read_page.new.index) (let e : suc m ≡ number + 1 - t.oldest = omega (arith, low, is.oldest) in e)
+          (c.in_ok-page.ensures.knows (told_still old flash n inv.reads told) error t t.index_pages m (inv.knows told few error t is end h) lt (omega (arith, is.pages, few, inv.counts)) at
+          (record { layout_is = is.layout_is; bytes_are = is.rows number ∙ sym same; none = end number inv.from (omega (arith, at, lt)) }) (left-tail t m lt)).0;
+    }
+
+pub note_entry-requires-clause-room : goal.note_entry-requires-clause-room
+note_entry-requires-clause-room g c = λ end.
+    gather-room c.args.bitmaps.now c.loop-number.bitmaps c.args.from (next_of c.args.ring.now) c.loop-number.number c.requires.bitmaps (search (rules, arith)) c.loop-number.invariant.same c.loop-number.invariant.gathered end
+
+pub loop-number-init : goal.loop-number-init
+loop-number-init g c =
+    let old = g.F.Flash.state c.args.flash.now in
+    let ring = c.args.ring.now in
+    let layout = layout_of c.args.schema.now in
+    record {
+      from = omega arith;
+      reads = subst (λ k. OnlyReads old k old) (let e : 0 ≡ c.args.from - c.args.from = omega arith in e) (no_reads old);
+      room = refl;
+      none = c.requires.none;
+      counts = refl;
+      error = refl;
+      within = c.requires.within;
+      newest = omega arith;
+      same = plan-same c.args.bitmaps.now;
+      still = ring-same c.args.bitmaps.now;
+      gathered = gathers-none c.args.bitmaps.now c.args.from (next_of ring) c.args.from refl c.requires.bitmaps;
+      waits = λ told. gather-first layout c.args.bitmaps.now c.args.from (next_of ring) c.args.from (pages_of ring old) refl c.requires.bitmaps;
+      knows = λ told few error t is end h. h;
+    }
+
+pub returns-clause-waits : goal.returns-clause-waits
+returns-clause-waits g c = λ told.
+    let old = g.F.Flash.state c.args.flash.now in
+    let ring = c.args.ring.now in
+    let last : c.loop-number.number ≡ next_of ring = search (rules, arith) in
+    subst (λ n. GatherUpTo (layout_of c.args.schema.now) c.args.bitmaps.now (pages_of ring old) n c.loop-number.bitmaps) last (c.loop-number.invariant.waits told)
