@@ -2,10 +2,10 @@
 ghost use Rattle.std.specs.Prelude.{◌≤◌, length};
 ghost use Rattle.fl_schema.specs.Schema.{types_of};
 
-use crate::rule_4_body::Form;
 use crate::content_page::content_page_is_good;
 use crate::data_page::data_page_is_good;
 use crate::keys::keys_ascend;
+use crate::rule_4_body::Form;
 use fl_bitmap::Buckets;
 use fl_page::PageView;
 use fl_schema::Schema;

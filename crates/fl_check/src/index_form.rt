@@ -2,8 +2,8 @@
 ghost use Rattle.std.specs.Prelude.{◌≡◌, ◌≤◌};
 ghost use Rattle.fl_check.specs.Whole.{form_in};
 
-use crate::rule_4_body::Form;
 use crate::index_page::index_page_is_good;
+use crate::rule_4_body::Form;
 use fl_index::EntryForm;
 use fl_plan::TableConfig;
 

@@ -13,14 +13,14 @@ ghost use Rattle.fl_check.specs.Rules.{OfRing};
 ghost use Rattle.fl_check.specs.Whole.{Fits, LogFits, shape_in, layout_in, IsLogForm, IsLogSound, BreaksLogRing};
 ghost use Rattle.fl_check.specs.declared.finding.RingName.{RingName};
 
-use crate::rule_4_body::check_forms;
 use crate::finding::RingName;
 use crate::forms::{AscendingForm, DataForm};
 use crate::halt::{Halt, in_ring};
 use crate::numbering::Numbering;
 use crate::ring::check_log;
-use crate::rule::Rule;
 use crate::ring_rules::{Ruled, first_page, rule_ring};
+use crate::rule::Rule;
+use crate::rule_4_body::check_forms;
 use crate::table::Checked;
 use fl_flash::{Flash, FlashFault, PageBuf};
 use fl_ring::Ring;

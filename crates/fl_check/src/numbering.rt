@@ -11,9 +11,9 @@ ghost use Rattle.fl_check.specs.Stop.{IfFlash, IfBroken};
 ghost use Rattle.fl_check.specs.declared.rule.Stop.{Stop};
 
 use crate::marks::{Marks, read_marks};
-use crate::rule_3_number::check_numbers;
 use crate::rule::Stop;
 use crate::rule_2_state::check_states;
+use crate::rule_3_number::check_numbers;
 use fl_flash::{Flash, PageBuf};
 use fl_ring::Ring;
 

@@ -13,12 +13,12 @@ ghost use Rattle.fl_check.specs.RingRules.{KeyOrder, NoRows, OverPages, WithinPa
 ghost use Rattle.fl_check.specs.Stop.{IfFlash, IfBroken};
 ghost use Rattle.fl_check.specs.declared.rule.Stop.{Stop};
 
-use crate::rule_4_body::{Form, check_forms};
 use crate::forms::{AscendingForm, DataForm};
 use crate::numbering::{Numbering, check_numbering};
-use crate::rule_8_blank::check_rest;
-use crate::rule_5_keys::check_keys;
 use crate::rule::{Rule, Stop};
+use crate::rule_4_body::{Form, check_forms};
+use crate::rule_5_keys::check_keys;
+use crate::rule_8_blank::check_rest;
 use fl_flash::{Flash, PageBuf};
 use fl_ring::Ring;
 

@@ -9,14 +9,14 @@ ghost use Rattle.fl_check.specs.Marks.{AreMarks, AreWithin};
 ghost use Rattle.fl_check.specs.Ruled.{BodiesTold, NumbersTold, HeadHolds, RingTold};
 ghost use Rattle.fl_check.specs.Stop.{first_page};
 
-use crate::rule_4_body::{Form, check_forms};
 use crate::faults::RingFaults;
 use crate::marks::{Marks, read_marks};
 use crate::numbering::Numbering;
-use crate::rule_3_number::check_numbers;
-use crate::rule_8_blank::check_rest;
 use crate::rule::{Rule, Stop};
 use crate::rule_2_state::check_states;
+use crate::rule_3_number::check_numbers;
+use crate::rule_4_body::{Form, check_forms};
+use crate::rule_8_blank::check_rest;
 use fl_flash::{Flash, FlashFault, PageBuf};
 use fl_ring::Ring;
 

@@ -16,9 +16,9 @@ ghost use Rattle.fl_flash.specs.declared.flash.FlashFault.{FlashFault};
 
 use crate::fault::RingFault;
 use crate::front::Front;
-use crate::page_state::{is_committed, is_sealed, look};
 use crate::newest::{Newest, NewestPage, newest_page};
 use crate::numbers::Numbers;
+use crate::page_state::{is_committed, is_sealed, look};
 use crate::ring::Ring;
 use crate::scan::Scan;
 use fl_base::get_u32;

@@ -38,18 +38,21 @@ ran-stands config old lines moments stands content faults flash h = subst (λ ms
 pub restood : (config : Config) (old : Machine) (commands : List Command) (stands stands_now : Machine → Type 0) (content content_now : List ℕ) (faults mid now : ℕ) →
     (h : Ran config old commands stands content content_now faults mid None None) → mid ≤ now → stands_now (end_of old h.moments) →
     (ran : Ran config old commands stands_now content content_now faults now None None) × (ran.moments ≡ h.moments)
-restood config old commands stands stands_now content content_now faults mid now h later here = (record {
-  moments = h.moments;
-  commands_are = h.commands_are;
-  run = h.run;
-  stands_after = here;
-  reads = h.reads;
-  stays = h.stays;
-  rose = at_end _ faults mid now h.rose later;
-  found = h.found;
-  kept = h.kept;
-  told_all = h.told_all;
-}, refl)
+restood config old commands stands stands_now content content_now faults mid now h later here = (
+  record {
+    moments = h.moments;
+    commands_are = h.commands_are;
+    run = h.run;
+    stands_after = here;
+    reads = h.reads;
+    stays = h.stays;
+    rose = at_end _ faults mid now h.rose later;
+    found = h.found;
+    kept = h.kept;
+    told_all = h.told_all;
+  },
+  refl,
+)
 
 -- what executes nothing leaves a run
 pub ran-kept : (config : Config) (old : Machine) (lines : ℕ) (moments : List Moment) (stands stands_now : Machine → Type 0) (content : List ℕ) (faults : ℕ) (flash flash_now : FlashState) → RanThese config old lines moments stands content faults flash → stands_now (end_of old moments) →

@@ -106,13 +106,7 @@ fn held<E: Executor>(session: &E, name: Name, table: &TableConfig) -> TextLine
 }
 
 /// How many pages a ring of so many pages keeps and how many are free, if there is such a ring.
-fn add_ring(
-    text: &mut TextLine,
-    kept_is: &[u8],
-    free_is: &[u8],
-    pages: u64,
-    kept: Option<u32>,
-)
+fn add_ring(text: &mut TextLine, kept_is: &[u8], free_is: &[u8], pages: u64, kept: Option<u32>)
     requires { length text.old + length kept_is.now + length free_is.now + 42 ≤ LINE_BYTES }
     ensures text { text.new ≡ text.old ++ ring_text kept_is.now free_is.now pages kept }
     ensures short { length text.new ≤ length text.old + length kept_is.now + length free_is.now + 42 }
@@ -158,12 +152,7 @@ fn add_rings(text: &mut TextLine, rings: &RingCounts, table: &TableConfig, log_b
 }
 
 /// The key of the oldest record whose blob isn't gone, if the table may have blobs; or that a page isn't read.
-fn add_blobs<E: Executor>(
-    session: &mut E,
-    name: Name,
-    table: &TableConfig,
-    text: &mut TextLine,
-)
+fn add_blobs<E: Executor>(session: &mut E, name: Name, table: &TableConfig, text: &mut TextLine)
     requires sound { E.sound session.old }
     requires short { length text.old ≤ 300 }
     ensures sound { E.sound session.new }

@@ -4,7 +4,7 @@ ghost use Rattle.fl_index.specs.Memory.{is_running, LiesOn};
 
 use fl_base::{Geometry, NoMemory, RingPlace};
 use fl_flash::{Flash, FlashFault, MemMedia, PageBuf, SimFlash};
-use fl_index::{Full, BitmapIndex};
+use fl_index::{BitmapIndex, Full};
 use fl_page::ReadFault;
 use fl_ring::RingFault;
 use std::alloc::Global;

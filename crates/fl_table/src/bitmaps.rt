@@ -12,7 +12,7 @@ ghost use Rattle.fl_table.specs.MountLimits.{IsIndexLimited};
 ghost use Rattle.fl_table.specs.Mounting.{FewReads, FewRepairs, FindsBitmaps, RefusesBitmaps};
 
 use fl_flash::{Flash, FlashFault, PageBuf};
-use fl_index::{Full, BitmapIndex};
+use fl_index::{BitmapIndex, Full};
 use fl_ring::RingFault;
 
 /// Mounts the index, or finds its end alone where entries are full: its pages are read later then. It answers the number after

@@ -26,7 +26,7 @@ use crate::known::{Known, blame, see_entry, settle};
 use crate::load::read_page;
 use fl_find::KeyIndex;
 use fl_flash::{Flash, PageBuf};
-use fl_index::{Full, BitmapIndex, Loaded};
+use fl_index::{BitmapIndex, Full, Loaded};
 use fl_page::BadPage;
 use fl_ring::Ring;
 use fl_schema::Schema;

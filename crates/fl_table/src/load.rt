@@ -25,7 +25,7 @@ use crate::known::{Known, PageFacts, count_page, count_void, settle};
 use fl_base::{get_u16, get_u32, get_u64};
 use fl_find::KeyIndex;
 use fl_flash::{Flash, PageBuf};
-use fl_index::{Full, BitmapIndex};
+use fl_index::{BitmapIndex, Full};
 use fl_mark::{PageState, state_of};
 use fl_page::{BadPage, PageView};
 use fl_ring::Ring;
