@@ -19,7 +19,7 @@ pub(crate) enum Sought {
     Nowhere,
 }
 
-#[tactic(auto, using(crate::proofs::Searching::searching))]
+#[tactic(auto, using(crate::proofs::SearchedRows::searching))]
 impl Bookmark {
     ghost use Rattle.fl_cursor.specs.Asked.{asked_by};
     ghost use Rattle.fl_cursor.specs.Sought.{first_left};

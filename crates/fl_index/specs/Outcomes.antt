@@ -24,7 +24,7 @@ index_seals plan table = if length table.waiting == entries_per_page plan then I
 
 -- The operations of a call were all done, and it left this table's index. The index pages that are kept have the bytes
 -- that they had.
-pub record Finishes (first : ℕ) (plan : Plan) (operations : List (RingName × Kind)) (table after : Table) (rose : Bool) (device : Device) (index : Index) (old new : FlashState) : Type 0 where
+pub record Finishes (first : ℕ) (plan : Plan) (operations : List (RingName × Kind)) (table after : Table) (rose : Bool) (device : Device) (index : BitmapIndex) (old new : FlashState) : Type 0 where
   pub now : PartProgress Table
   pub did : TablePerforms plan rose operations device table now
   pub whole : now.end ≡ Whole

@@ -20,7 +20,7 @@ pub fn without_return(line: &[u8]) -> &[u8]
 }
 
 /// How many spaces the line begins with.
-#[tactic(auto, using(crate::proofs::Splitting::prefix_fits))]
+#[tactic(auto, using(crate::proofs::WordsOfLine::prefix_fits))]
 fn spaces(line: &[u8]) -> usize
     ensures { (result ≡ prefix_len (λ byte. byte == 32) line.now) × (result ≤ length line.now) }
 {

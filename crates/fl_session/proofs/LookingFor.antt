@@ -25,7 +25,7 @@ use Rattle.fl_session.specs.Standing.{SessionStands}
 use Rattle.fl_session.specs.declared.notes.Notes.{Notes}
 use Rattle.fl_session.proofs.Operations.{session-still}
 use Rattle.fl_session.proofs.NamedTable.{own-none, own-of}
-use Rattle.fl_session.proofs.Tables.{stands-unlogged}
+use Rattle.fl_store.proofs.Queried.{stands-unlogged}
 use Rattle.fl_session.proofs.Unlogged.{blobs-bare}
 
 -- a log changes no blob

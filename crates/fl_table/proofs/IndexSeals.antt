@@ -221,7 +221,7 @@ append-nil [] = refl
 append-nil (x ∷ xs) = ap (λ ys. x ∷ ys) (append-nil xs)
 
 -- These seals of the index ring were done, and the table stands beside them.
-pub record IsMade {KNOTS SLOTS : ℕ} (t : code.Table KNOTS SLOTS) (first : ℕ) (plan : Plan) (rings : List RingName) (table : Table) (rose : Bool) (device : Device) (left : Option Index) (old new : FlashState) : Type 0 where
+pub record IsMade {KNOTS SLOTS : ℕ} (t : code.Table KNOTS SLOTS) (first : ℕ) (plan : Plan) (rings : List RingName) (table : Table) (rose : Bool) (device : Device) (left : Option BitmapIndex) (old new : FlashState) : Type 0 where
   pub now : PartProgress Table
   pub did : TablePerforms plan rose (seals_within plan rings table) device table now
   pub whole : now.end ≡ Whole
@@ -366,7 +366,7 @@ module _ {KNOTS SLOTS : ℕ} (t : code.Table KNOTS SLOTS) (f new : FlashState) (
       up_by false le = omega (arith, le)
 
 -- how a call ends that makes room for one bitmap more
-abbrev pub MadeEnds : {KNOTS SLOTS : ℕ} → code.Table KNOTS SLOTS → ℕ → Plan → List RingName → Table → Bool → Device → Result (Unit {0}) FlashFault → Option Index → FlashState → FlashState → Type 0
+abbrev pub MadeEnds : {KNOTS SLOTS : ℕ} → code.Table KNOTS SLOTS → ℕ → Plan → List RingName → Table → Bool → Device → Result (Unit {0}) FlashFault → Option BitmapIndex → FlashState → FlashState → Type 0
 MadeEnds t first plan rings table rose device (Ok done) now old new = IsMade t first plan rings table rose device now old new
 MadeEnds t first plan rings table rose device (Err fault) now old new = Breaks first plan (BySeals plan rings table rose device) fault new
 
@@ -406,7 +406,7 @@ bitmaps-end t f new first plan table rose device (Some index) result (Some now) 
     by_result (Err fault) made h = index-breaks t f new first plan table rose device index is stands pending left outside fault h
 
 -- the table in memory stands where it stands with any index
-pub made-finishes : {KNOTS SLOTS : ℕ} (t t' : code.Table KNOTS SLOTS) (old new : FlashState) (first : ℕ) (plan : Plan) (rings : List RingName) (table : Table) (rose : Bool) (device : Device) (left : Option Index) → IsMade t first plan rings table rose device left old new →
+pub made-finishes : {KNOTS SLOTS : ℕ} (t t' : code.Table KNOTS SLOTS) (old new : FlashState) (first : ℕ) (plan : Plan) (rings : List RingName) (table : Table) (rose : Bool) (device : Device) (left : Option BitmapIndex) → IsMade t first plan rings table rose device left old new →
     ((index : Option model.Ring) (pages : List IndexPage) (waiting : List IndexEntry) → IsTable plan (with_index table index pages waiting) → HoldsTable (page_at new) first plan (lose (with_index table index pages waiting)) →
     Stand left new (first + plan.data_blocks) plan (with_index table index pages waiting) → Stands t' new first plan (with_index table index pages waiting)) →
     Finishes first plan (BySeals plan rings table rose device) table (after_seals plan rings table) t' old new

@@ -4,7 +4,7 @@ use Rattle.fl_session.proofs.GetReplies.{goes-reads}
 use Rattle.fl_session.proofs.LookingFor.{looks-refused, looks-there}
 use Rattle.fl_session.proofs.NamedTable.{reached-here, reached-within}
 use Rattle.fl_session.proofs.Sound.{sound-roomed}
-use Rattle.fl_session.proofs.Tables.{lies-unlogged, runs-unlogged}
+use Rattle.fl_store.proofs.Queried.{lies-unlogged, runs-unlogged}
 use Rattle.fl_session.proofs.session.SessionExecutor.oldest_blob.Goals as goal
 
 pub returns-in-Err-clause-looks : goal.returns-in-Err-clause-looks
