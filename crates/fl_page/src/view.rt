@@ -38,8 +38,9 @@ impl<'b, const COLS: usize> PageView<'b, COLS> {
     {
         let found = number_in(bytes);
         let count = count_in(bytes);
-        let most = (bytes.len() - 24) / schema.row_len() as usize;
-        if found != number || count == 0 || count as usize > most {
+        // By a product: a listing comes by here for each row, where a division would take longest.
+        let rows = count as usize * schema.row_len() as usize;
+        if found != number || count == 0 || rows > bytes.len() - 24 {
             return Err(BadPage {
                 wanted: number,
                 found,
