@@ -1,5 +1,5 @@
 -- Replies and their bytes as the definitions of replies have them.
-use Rattle.std.specs.Prelude.{ℕ, Option, Some, None, List, [], ◌∷◌, codes}
+use Rattle.std.specs.Prelude.{ℕ, Bool, true, false, Option, Some, None, List, [], ◌∷◌, codes}
 use Rattle.fl_words.specs.Reply as words
 use Rattle.fl_script.specs.declared.reply.BlobNote.{BlobNote}
 use Rattle.fl_script.specs.declared.reply.BlobNote.TheVariants.{NoRing, Nothing, Length}
@@ -57,3 +57,8 @@ abbrev pub reply_text : Reply → List ℕ
 reply_text BytesBegin = codes "bytes "
 reply_text LineEnd = 10 ∷ []
 reply_text reply = line_or [] (reply_view reply)
+
+-- whether it is a row
+abbrev pub is_row : Reply → Bool
+is_row (Row key values blob) = true
+is_row reply = false

@@ -1,20 +1,10 @@
 // Replies as lines of text.
-ghost use Rattle.std.specs.Prelude.{◌≡◌, ◌≤◌, [], length};
+ghost use Rattle.std.specs.Prelude.{◌≡◌, ◌≤◌, [], false, length};
 ghost use Rattle.fl_words.specs.Reply as reply;
-ghost use Rattle.fl_script.specs.ReplyView.{note_view, reply_text};
+ghost use Rattle.fl_script.specs.ReplyView.{is_row, reply_text};
 
-use crate::{BlobNote, Reply, RowLine, TextLine};
+use crate::{Reply, TextLine};
 use fl_base::Name;
-
-fn add_row(line: &mut TextLine, key: u64, values: &[i64], note: BlobNote)
-    requires empty { line.old ≡ [] }
-    requires few { length values.now ≤ 8 }
-    ensures { line.new ≡ reply.text (reply.Row key values.now (note_view note)) }
-{
-    let mut row = RowLine::new();
-    row.show(key, values, note);
-    line.add(row.bytes());
-}
 
 fn add_fields(line: &mut TextLine, fields: &[i128])
     requires empty { line.old ≡ [] }
@@ -77,9 +67,10 @@ fn add_stat(
     line.end_with_number(b" erases ", erases);
 }
 
-/// The whole text of a reply.
+/// The whole text of a reply that isn't a row.
 pub(crate) fn add_reply(line: &mut TextLine, reply: &Reply)
-    requires { line.old ≡ [] }
+    requires empty { line.old ≡ [] }
+    requires other { is_row reply.now ≡ false }
     ensures { line.new ≡ reply_text reply.now }
 {
     match reply {
@@ -97,7 +88,7 @@ pub(crate) fn add_reply(line: &mut TextLine, reply: &Reply)
         Reply::PowerLost => line.add(b"power lost\n"),
         Reply::DeviceFault => line.add(b"device fault\n"),
         Reply::BadImage { name } => add_bad_image(line, name),
-        Reply::Row { key, values, blob } => add_row(line, *key, values.as_slice(), *blob),
+        Reply::Row { .. } => unreachable!(),
         Reply::Fields { fields } => add_fields(line, fields.as_slice()),
         Reply::Absent => line.add(b"none\n"),
         Reply::BytesBegin => line.add(b"bytes "),

@@ -1,12 +1,13 @@
 // Replies, written to a sink.
 ghost use Rattle.std.specs.Prelude.{◌≤◌, length};
 ghost use Rattle.fl_base.specs.Causes.{HasCause};
+ghost use Rattle.fl_words.specs.Reply as reply;
 ghost use Rattle.fl_words.specs.Reply.{hex_text};
-ghost use Rattle.fl_script.specs.ReplyView.{reply_text};
+ghost use Rattle.fl_script.specs.ReplyView.{note_view, reply_text};
 ghost use Rattle.fl_script.specs.Written.{Written};
 
 use crate::reply_line::add_reply;
-use crate::{Reply, TextLine};
+use crate::{BlobNote, Reply, RowLine, TextLine};
 use fl_base::{Sink, SinkFailed};
 
 /// How many bytes of a blob become digits at a time.
@@ -19,8 +20,27 @@ pub fn write_reply<K: Sink>(reply: &Reply, out: &mut K) -> Result<(), SinkFailed
     ensures text { Written (K.written out.old) (K.written out.new) result (reply_text reply.now) }
     ensures cause { HasCause (K.faults out.old) (K.faults out.new) result }
 {
+    if let Reply::Row { key, values, blob } = reply {
+        return write_row(*key, values.as_slice(), *blob, out);
+    }
     let mut line = TextLine::new();
     add_reply(&mut line, reply);
+    write_all(line.bytes(), out)
+}
+
+/// Appends the line of a row.
+fn write_row<K: Sink>(
+    key: u64,
+    values: &[i64],
+    note: BlobNote,
+    out: &mut K,
+) -> Result<(), SinkFailed>
+    requires { length values.now ≤ 8 }
+    ensures text { Written (K.written out.old) (K.written out.new) result (reply.text (reply.Row key values.now (note_view note))) }
+    ensures cause { HasCause (K.faults out.old) (K.faults out.new) result }
+{
+    let mut line = RowLine::new();
+    line.show(key, values, note);
     write_all(line.bytes(), out)
 }
 
