@@ -34,6 +34,7 @@ impl<const KNOTS: usize, const SLOTS: usize> Cursor<'_, '_, '_, KNOTS, SLOTS> {
     }
 
     /// Goes to the next row in the page in hand, and says whether there is one.
+    #[inline(always)]
     fn step_in_page(&mut self) -> bool
         requires placed { IsPlaced (table_of self.old) (buffer_of self.old) (place_of self.old) }
         requires begun { is_start (place_of self.old) ≡ false }
@@ -186,6 +187,7 @@ impl<const KNOTS: usize, const SLOTS: usize> Cursor<'_, '_, '_, KNOTS, SLOTS> {
 
     /// Goes to the next row, and says whether there is one. After a fault the key given last stays, and the same rows are
     /// left.
+    #[inline(always)]
     pub fn advance<F: Flash>(&mut self, flash: &mut F) -> Result<bool, ReadFault>
         requires { IsReady self.old (contents_of (F.state flash.old)) }
         ensures reads_only { OnlyReads (F.state flash.old) (F.state flash.new) }

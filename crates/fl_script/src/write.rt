@@ -71,6 +71,7 @@ fn write_piece<K: Sink>(piece: &[u8], out: &mut K) -> Result<(), SinkFailed>
 }
 
 /// Appends all the bytes. Where the sink fails a front of them was written.
+#[inline(always)]
 pub fn write_all<K: Sink>(bytes: &[u8], out: &mut K) -> Result<(), SinkFailed>
     ensures text { Written (K.written out.old) (K.written out.new) result bytes.now }
     ensures cause { HasCause (K.faults out.old) (K.faults out.new) result }
