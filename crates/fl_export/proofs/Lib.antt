@@ -1,4 +1,3 @@
-mod Readers
 mod TakenChunks
 pub mod Lines
 mod Unread

@@ -1,6 +1,6 @@
 -- What is said of the blob of a record.
 use Rattle.std.proofs.Common.{◌≡◌, ◌⊎◌, ℕ, ◌+◌, ◌-◌, ◌/◌, ◌^◌, ◌<◌, ◌≤◌, Bool, true, false, cond, inl, inr, IsTrue, Option, Some, None, Result, Ok, Err, List, [], ◌∷◌, length, take, drop, refl, sym, ◌∙◌, ap, subst, arith}
-use Rattle.std.specs.Prelude.{IfOk, IfSome, OnErr, MatchOption, if◌then◌else◌, ◌==◌, is_some, option_map, unwrap_or, slice_get}
+use Rattle.std.specs.Prelude.{IfOk, IfSome, OnErr, MatchOption, if◌then◌else◌, ◌==◌, option_map, unwrap_or, slice_get}
 use Rattle.std.proofs.lemmas.Bool.{eq-eqb}
 use Rattle.fl_base.specs.Causes.{Rose}
 use Rattle.fl_base.specs.declared.types.BlobRef.{BlobRef}
@@ -20,32 +20,23 @@ use Rattle.fl_model.specs.Table as model
 use Rattle.fl_model.specs.Ring.{Ring}
 use Rattle.fl_model.specs.Table.{Entry}
 use Rattle.fl_page.specs.Contents.{IsCaused}
-use Rattle.fl_page.specs.Header.{page_count}
 use Rattle.fl_page.specs.declared.fault.ReadFault.{ReadFault}
 use Rattle.fl_page.specs.declared.fault.ReadFault.TheVariants.{Flash, BadPage}
-use Rattle.fl_ring.specs.Looking as looking
 use Rattle.fl_ring.specs.Ring.{place}
-use Rattle.fl_ring.proofs.Founds.{same_pages}
 use Rattle.fl_schema.specs.Schema.{row_of, layout_of_row, bytes_of}
 use Rattle.fl_schema.specs.declared.row.RowRef.{RowRef}
 use Rattle.fl_script.specs.Written.{Written}
 use Rattle.fl_search.specs.Search.{RoseSome}
-use Rattle.fl_table.specs.BlobAt.{data_in, has_blobs, blob_page_len, content_in}
-use Rattle.fl_table.specs.Blobs as variable
+use Rattle.fl_table.specs.BlobAt.{has_blobs, content_in}
 use Rattle.fl_table.specs.Finding.{Finds, ShowsEntry, LookupFails, row_of_place}
 use Rattle.fl_table.specs.Look.{layout_in}
-use Rattle.fl_table.specs.Memory.{LiesOn as LiesAll}
 use Rattle.fl_table.specs.Standing.{Stands}
 use Rattle.fl_table.specs.declared.find.RowAt.{RowAt}
 use Rattle.fl_table.specs.declared.table.Table.{Table}
-use Rattle.fl_var.specs.Blobs.{IsWhole, contents_from}
-use Rattle.fl_var.specs.Content.{content_of}
-use Rattle.fl_var.specs.Memory.{LiesOn, next_in, room_in, var_shape, image_in}
+use Rattle.fl_var.specs.Memory.{room_in}
 use Rattle.fl_var.specs.Reading as reading
-use Rattle.fl_var.specs.Reading.{bytes_left, count_left, pages_left, Reads, IsWholeIn}
+use Rattle.fl_var.specs.Reading.{count_left, pages_left}
 use Rattle.fl_var.specs.declared.reader.BlobReader.{BlobReader}
-use Rattle.fl_var.specs.declared.var_data.VarData.{VarData}
-use Rattle.fl_var.proofs.Wholes.{images-same}
 use Rattle.fl_words.specs.Reply as words
 use Rattle.fl_words.specs.Reply.{text}
 use Rattle.fl_session.specs.BlobLine.{ShowsBytes, read_reply}
@@ -100,50 +91,7 @@ pub finds-unread : (knots : ℕ) (plan : Plan) (table : model.Table) (key before
 finds-unread knots plan table key before now buf (Flash fault) h = tt
 finds-unread knots plan table key before now buf (BadPage bad) h = h
 
--- ---- a reader of a table's variable data, over a flash on which the table lies
-
-module _ (t : Table 64 64) (f : FlashState) (lies : LiesAll t f) where
-  pub buffer-fits : has_blobs t ≡ true → f.geometry.page ≡ blob_page_len t
-  buffer-fits some = by_blobs t.blobs some lies.blobs
-    where
-      by_blobs : (o : Option VarData) → is_some o ≡ true → variable.LieOn o f → f.geometry.page ≡ unwrap_or (option_map (λ (v : VarData). v.geometry.page) o) 0
-      by_blobs None e h = absurd (no e)
-      by_blobs (Some v) e h = ap (λ (g : Geometry). g.page) h.geometry
-
-  module _ (v : VarData) (is : Some v ≡ data_in t) where
-    pub data-lies : LiesOn v f
-    data-lies = subst (λ (o : Option VarData). variable.LieOn o f) (sym is) lies.blobs
-
-    pub room-same : room_in v ≡ content_in t
-    room-same = ap (λ (g : Geometry). g.page - 16) (sym data-lies.geometry ∙ lies.geometry)
-
-    pub data-stands : (first : ℕ) (plan : Plan) (table : model.Table) → Stands t f first plan table → variable.IsStanding v f (first + plan.data_blocks + plan.index_blocks) plan table
-    data-stands first plan table h = subst (λ (o : Option VarData). variable.Stand o f (first + plan.data_blocks + plan.index_blocks) plan table) (sym is) h.blobs
-
 -- ---- a reader after its opening
-
-module _ (r : BlobReader) (f g : FlashState) (n : ℕ) (only : looking.OnlyReads f n g) where
-  image : image_in r.var.now g ≡ image_in r.var.now f
-  image = images-same r.var.now f g n only
-
-  pub reads-kept : Reads r f → Reads r g
-  reads-kept h = record {
-    told = subst IsTrue (sym only.goes.tells) h.told;
-    within = h.within;
-    used = λ some. h.used some ∙ ap (λ (at : ℕ → List ℕ). page_count (at r.page)) (sym image);
-    size = λ some. ap (λ (at : ℕ → List ℕ). length (content_of (at r.page))) image ∙ h.size some;
-    bytes = λ more sealed. h.bytes more sealed ∙ ap (λ (at : ℕ → List ℕ). at (place (var_shape r.var.now) r.page)) (sym (same_pages f g n only));
-  }
-
-  pub bytes-kept : bytes_left r g ≡ bytes_left r f
-  bytes-kept = ap (λ (at : ℕ → List ℕ). take r.left (drop r.end (contents_from at r.page (next_in r.var.now + 1 - r.page)))) image
-
-  pub whole-kept : IsWholeIn r f → IsWholeIn r g
-  whole-kept h = λ some. subst (λ (at : ℕ → List ℕ). IsWhole at (next_in r.var.now) (room_in r.var.now) r.page r.end r.left) (sym image) (h some)
-
--- .. where it stands
-pub opened-ready : (v : VarData) (f : FlashState) (at : BlobRef) (stands : Result Bool ReadFault) (r : BlobReader) → reading.Opens v f at (reading.turned stands r) → stands ≡ Ok true → Reads r f
-opened-ready v f at stands r opens is = let o = rw is at opens in o.reads
 
 -- the pages on which its bytes stand, which are none where it wasn't opened
 none-left : (r : BlobReader) → count_left r ≡ 0 → pages_left r ≡ 0

@@ -25,8 +25,7 @@ use Rattle.fl_session.specs.Standing.{SessionStands}
 use Rattle.fl_session.specs.declared.notes.Notes.{Notes}
 use Rattle.fl_session.proofs.Operations.{session-still}
 use Rattle.fl_session.proofs.NamedTable.{own-none, own-of}
-use Rattle.fl_store.proofs.Queried.{stands-unlogged}
-use Rattle.fl_session.proofs.Unlogged.{blobs-bare}
+use Rattle.fl_store.proofs.Queried.{blobs-bare, stands-unlogged}
 
 -- a log changes no blob
 oldest-bare : (table : model.Table) → oldest_blob (bare_table table) ≡ oldest_blob table

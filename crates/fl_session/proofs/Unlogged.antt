@@ -10,12 +10,13 @@ use Rattle.fl_machine.specs.Reads.{blob_limit, length_of}
 use Rattle.fl_machine.specs.Step.{BlobReplies, Lists, found_reply, note_of, row_note, row_of, rows_of}
 use Rattle.fl_model.specs.Bare.{bare, bare_table}
 use Rattle.fl_model.specs.Limits.{scan_limit}
-use Rattle.fl_model.specs.Query.{BlobState, blob_in, blob_of, entry_at, selected}
+use Rattle.fl_model.specs.Query.{BlobState, entry_at, selected}
 use Rattle.fl_model.specs.Record.{Plan, Record, content_per_page}
 use Rattle.fl_model.specs.Spline.{lookup_limit}
 use Rattle.fl_model.specs.Table.{Entry, Table}
 use Rattle.fl_words.specs.Reply as reply
 use Rattle.fl_words.specs.Reply.{Reply}
+use Rattle.fl_store.proofs.Queried.{blobs-bare}
 use Rattle.fl_session.specs.BlobShown.{ShowsBlob}
 use Rattle.fl_session.specs.Listed.{Scans}
 use Rattle.fl_session.specs.Looked.{Looks}
@@ -40,13 +41,6 @@ notes-bare plan = fun_ext (λ (item : Record). row-bare plan (record { kept = it
 found-bare : (plan : Plan) (found : Option Entry) → found_reply (bare plan) found ≡ found_reply plan found
 found-bare plan None = refl
 found-bare plan (Some entry) = row-bare plan entry
-
-left-bare : (table : Table) (entry : Entry) (blob : Option (List ℕ)) → blob_in (bare_table table) entry blob ≡ blob_in table entry blob
-left-bare table entry None = refl
-left-bare table entry (Some bytes) = refl
-
-pub blobs-bare : (table : Table) → blob_of (bare_table table) ≡ blob_of table
-blobs-bare table = fun_ext (λ (entry : Entry). left-bare table entry entry.kept.blob)
 
 -- ---- limits
 

@@ -15,7 +15,7 @@ use Rattle.fl_model.specs.Image.{medium_len}
 use Rattle.fl_model.specs.Record.{Plan, Config}
 use Rattle.fl_model.specs.Table.{Table}
 use Rattle.fl_model.proofs.Lists.{slice_get-some}
-use Rattle.fl_sound.proofs.NewImages.{new-image}
+use Rattle.fl_store.proofs.NewImages.{new-image}
 use Rattle.fl_store.proofs.Opened.{made-image, same-lines}
 use Rattle.fl_image.proofs.Made.{made, made-by}
 use Rattle.fl_store.proofs.Images.{images-many}

@@ -6,7 +6,7 @@ use Rattle.fl_image.specs.declared.status.ToolStatus.{ToolStatus}
 use Rattle.fl_image.specs.declared.status.ToolStatus.TheVariants as job
 use Rattle.fl_model.specs.Image.{medium_len}
 use Rattle.fl_model.specs.Record.{Config}
-use Rattle.fl_sound.specs.Sound.{new_image}
+use Rattle.fl_store.specs.Laws.{new_image}
 use Rattle.fl_words.specs.Medium.{header}
 use Rattle.fl_ship.specs.Ends.{Bytes}
 use Rattle.fl_ship.specs.declared.side.Side.TheVariants.{Source, Copy}

@@ -23,7 +23,6 @@ use Rattle.fl_sound.specs.Sound.{sound_table, sound_text, Finds, TablesAreSound}
 use Rattle.fl_sound.specs.Sound as law
 use Rattle.fl_sound.proofs.Fronts.{all-of, report-front, front-nothing, front-all, front-longer}
 use Rattle.fl_image.proofs.Made.{made-by}
-use Rattle.fl_sound.proofs.NewImages.{new-image}
 use Rattle.fl_sound.proofs.Scripts.{made}
 use Rattle.fl_sound.proofs.Whole.{table-sound, image-sound, run-sound, check-sound}
 
@@ -167,6 +166,5 @@ all-sound = record {
   runs = run-sound;
   checks = check-sound;
   ends = λ config bytes tables told told_now status is_made image h. ends-sound is_made.lines config bytes tables is_made.accepted is_made.makes image told told_now status h;
-  made = new-image;
   scripts = made;
 }

@@ -12,7 +12,5 @@ pub mod LogPart
 pub mod VarPart
 pub mod Whole
 pub mod Fronts
-pub mod HeaderLength
-pub mod NewImages
 pub mod Checks
 pub mod Scripts

@@ -1,5 +1,5 @@
 -- Tables that a flash stands for are sound, and with which counts.
-use Rattle.std.specs.Prelude.{◌≡◌, ℕ, ◌+◌, ◌-◌, ◌≤◌, ◌==◌, Option, Some, IfSome, List, ◌++◌, length, map, take, replicate, sum, sum_by, count_by, slice_get}
+use Rattle.std.specs.Prelude.{◌≡◌, ℕ, ◌+◌, ◌-◌, ◌≤◌, ◌==◌, Option, Some, IfSome, List, length, map, take, sum, sum_by, count_by, slice_get}
 use Rattle.fl_base.specs.Causes.{Appends, AppendsFront}
 use Rattle.fl_base.specs.declared.types.RingPlace.{RingPlace}
 use Rattle.fl_flash.specs.Flash.{FlashState, page_at}
@@ -9,17 +9,16 @@ use Rattle.fl_image.specs.Header.{IsMade}
 use Rattle.fl_image_check.specs.Report.{report_text}
 use Rattle.fl_image.specs.declared.status.ToolStatus.{ToolStatus}
 use Rattle.fl_image.specs.declared.status.ToolStatus.TheVariants.{Done, NotImage, Unsound}
-use Rattle.fl_machine.specs.Machine.{Machine, fresh_tables}
+use Rattle.fl_machine.specs.Machine.{Machine}
 use Rattle.fl_machine.specs.Script.{Ready, start_of, ended, StandsAfter}
 use Rattle.fl_model.specs.Bare.{bare}
-use Rattle.fl_model.specs.Image.{medium_len}
 use Rattle.fl_model.specs.Record.{Plan, Config, blocks_of}
 use Rattle.fl_model.specs.Table.{Table}
 use Rattle.fl_plan.specs.Plan.{IsConfigOf, IsRingAt}
 use Rattle.fl_plan.specs.declared.table_config.TableConfig.{TableConfig}
 use Rattle.fl_rlc.specs.Logged.{Rests}
 use Rattle.fl_words.specs.Config.{Lines}
-use Rattle.fl_words.specs.Medium.{IsImage, header}
+use Rattle.fl_words.specs.Medium.{IsImage}
 use Rattle.fl_check.specs.Whole.{Fits, LogFits, IsFinding}
 use Rattle.fl_check.specs.declared.finding.Finding.{Finding}
 use Rattle.fl_check.specs.declared.finding.Finding.TheVariants.{Sound}
@@ -67,10 +66,6 @@ pub record FindsAlone (config : TableConfig) (log : Option RingPlace) (f : Flash
 abbrev pub Finds : TableConfig → Option RingPlace → FlashState → Finding → Type 0
 Finds config log f finding = IsFinding config log (page_at f) finding
 
--- the bytes of an image that was just made: its header, and blank pages
-abbrev pub new_image : Config → List ℕ
-new_image config = header config ++ replicate (medium_len config - 1024) 255
-
 -- the lines of sound tables
 abbrev pub sound_text : Config → List Table → List ℕ
 sound_text config tables = report_text config.plans (map sound_table tables)
@@ -98,7 +93,5 @@ pub record TablesAreSound : Type 0 where
   -- .. and how it ends, where accepted lines made the configuration
   pub ends : (config : Config) (bytes : List ℕ) (tables : List Table) (told told_now : Option (List ℕ)) (status : ToolStatus) →
       IsMade config → IsImage config bytes tables → CheckEnds Finds bytes told told_now status → TellsSound config tables told told_now status
-  -- an image that was just made stands for empty tables
-  pub made : (config : Config) → IsMade config → IsImage config (new_image config) (fresh_tables config)
   -- the configuration of each script is made so
   pub scripts : (knots : ℕ) (lines : List (List ℕ)) (config : Config) (line : ℕ) (rest : List (List ℕ)) → ended (start_of knots lines) ≡ Ready config line rest → IsMade config

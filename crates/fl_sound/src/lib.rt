@@ -4,8 +4,7 @@
 ghost use Rattle.fl_sound.specs.Sound.{TablesAreSound};
 
 /// Of a table for which a flash stands, and so of each table of an image, a check finds that it is sound, and nothing else:
-/// with the rows that the table keeps, their pages, and those of them that are void. An image that was just made stands for
-/// empty tables.
+/// with the rows that the table keeps, their pages, and those of them that are void.
 pub fn tables_are_sound()
     ensures { TablesAreSound }
 {}

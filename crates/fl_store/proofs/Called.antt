@@ -1,5 +1,5 @@
 -- A store after a call of one of its tables, which leaves the pages of the others.
-use Rattle.std.proofs.Common.{◌≡◌, ℕ, ◌<◌, Bool, true, false, not, ◌&&◌, IsTrue, IfErr, Option, Some, Result, Ok, Err, List, length, map, get_or, refl, sym, ◌∙◌, ap, subst}
+use Rattle.std.proofs.Common.{◌≡◌, ℕ, ◌<◌, Bool, true, false, IsTrue, IfErr, Some, Result, Ok, Err, List, length, map, get_or, refl, sym, ◌∙◌, ap, subst}
 use Rattle.std.specs.Prelude.{MatchBool, OnOk, option_map}
 use Rattle.std.specs.List.{slice_get}
 use Rattle.std.proofs.lemmas.List.{length-map}
@@ -14,19 +14,18 @@ use Rattle.fl_model.proofs.Among.{changed-there, changed-elsewhere}
 use Rattle.fl_rlc.specs.Logged.{Rests, Stands}
 use Rattle.fl_rlc.specs.Outcomes as outcomes
 use Rattle.fl_rlc.specs.Refusal.{RefusedSame}
-use Rattle.fl_rlc.specs.Table.{is_running, IsSamePlan, OutsideStands}
+use Rattle.fl_rlc.specs.Table.{IsSamePlan, OutsideStands, log_in, table_in}
 use Rattle.fl_rlc.specs.declared.table.LoggedTable.{LoggedTable}
-use Rattle.fl_table.specs.Causes.{put_breaks, flush_breaks}
+use Rattle.fl_rlc.proofs.PutFrames.{logged-same}
 use Rattle.fl_table.specs.declared.faults.FlushFault.{FlushFault}
 use Rattle.fl_table.specs.declared.faults.FlushFault.TheVariants as flush
 use Rattle.fl_table.specs.declared.faults.PutRefusal.{PutRefusal}
 use Rattle.fl_table.specs.declared.faults.PutRefusal.TheVariants as put
 use Rattle.fl_store.specs.Calls.{Located, PutEnds, FlushEnds, IsRefusedSame}
 use Rattle.fl_store.specs.Store.{Holds}
-use Rattle.fl_store.specs.Tables.{first_of, entries_with, AreRunning, EntryStands, TablesStand}
+use Rattle.fl_store.specs.Tables.{first_of, entries_with, EntryStands, TablesStand}
 use Rattle.fl_store.specs.declared.tables.Entry.{Entry}
 use Rattle.fl_store.proofs.CallsInTurn.{planned-same}
-use Rattle.fl_store.proofs.TablesLie.{running-with}
 use Rattle.fl_store.proofs.TablesChanged.{entry-off, item-there, length-changed, option_map-same, set-same, some-is, tables-changed}
 use Rattle.fl_store.proofs.Worked.{medium-goes}
 
@@ -112,7 +111,7 @@ pub entry-at : (entries : List Entry) (at : ℕ) (entry : Entry) → at < length
 entry-at entries at entry within is = item-there entries (length entries) at entry refl within is
 
 module _ (entries : List Entry) (at : ℕ) (entry : Entry) (u : LoggedTable 64 64) (here : slice_get entries at ≡ Some entry) where
-  same-entries : u ≡ entry.table → entries_with entries at entry u ≡ entries
+  pub same-entries : u ≡ entry.table → entries_with entries at entry u ≡ entries
   same-entries e = ap (λ t. entries_with entries at entry t) e ∙ set-same entries at entry here
 
   refused-so : (f g : FlashState) (e : PutRefusal) → RefusedSame entry.table f e u g → IsRefusedSame entries f e (entries_with entries at entry u) g
@@ -128,16 +127,9 @@ module _ (entries : List Entry) (at : ℕ) (entry : Entry) (u : LoggedTable 64 6
   put-refused f g (Ok done) h = tt
   put-refused f g (Err e) h = refused-so f g e h
 
-  still-run : is_running u ≡ (is_running entry.table && true) → AreRunning entries → AreRunning (entries_with entries at entry u)
-  still-run is runs = running-with entries at entry u here runs (is ∙ ap (λ b. b && true) (runs at entry here))
-
-  pub put-runs : (result : Result (Unit {0}) PutRefusal) → is_running u ≡ (is_running entry.table && not (put_breaks result)) → OnOk result (AreRunning entries → AreRunning (entries_with entries at entry u))
-  put-runs (Ok done) is = still-run is
-  put-runs (Err e) is = tt
-
-  pub flush-runs : (result : Result (Unit {0}) FlushFault) → is_running u ≡ (is_running entry.table && not (flush_breaks result)) → OnOk result (AreRunning entries → AreRunning (entries_with entries at entry u))
-  flush-runs (Ok done) is = still-run is
-  flush-runs (Err e) is = tt
+  -- a flush of a table that isn't mounted
+  pub flush-refused : (result : Result (Unit {0}) FlushFault) → (result ≡ Err flush.Stopped → (table_in u ≡ table_in entry.table) × (log_in u ≡ log_in entry.table)) → result ≡ Err flush.Stopped → entries_with entries at entry u ≡ entries
+  flush-refused result h is = let k = h is in same-entries (logged-same entry.table u k.0 k.1)
 
 pub on-ok : {T E : Type 0} (A B : Type 0) (result : Result T E) → OnOk result (A → B) → A → OnOk result B
 on-ok A B (Ok done) h a = h a

@@ -25,6 +25,7 @@ pub mod MountStatuses
 pub mod Named
 pub mod Queried
 pub mod Called
+pub mod InMemory
 pub mod Powering
 pub mod Making
 pub mod FoundTables
@@ -33,3 +34,7 @@ pub mod Others
 pub mod Failing
 pub mod Works
 pub mod Changed
+pub mod Readers
+pub mod HeaderLength
+pub mod NewImages
+pub mod HeldStores

@@ -1,5 +1,5 @@
 -- The pages of a medium that was just made.
-use Rattle.std.proofs.Common.{◌≡◌, ℕ, ◌+◌, ◌-◌, ◌*◌, ◌<◌, ◌≤◌, inl, inr, Bool, true, false, ◌==◌, IsTrue, Option, Some, Ok, [], ◌∷◌, List, ◌++◌, length, take, drop, slice_range, sum_by, refl, sym, ◌∙◌, ap, subst, arith}
+use Rattle.std.proofs.Common.{◌≡◌, ℕ, ◌+◌, ◌-◌, ◌*◌, ◌≤◌, inl, inr, Bool, true, false, ◌==◌, IsTrue, Option, Some, Ok, [], ◌∷◌, List, ◌++◌, length, take, drop, slice_range, sum_by, refl, sym, ◌∙◌, ap, subst, arith}
 use Rattle.std.specs.Prelude.{replicate}
 use Rattle.std.proofs.Common.{length-append}
 use Rattle.std.proofs.lemmas.List.{drop-replicate, length-replicate, take-replicate}
@@ -7,16 +7,19 @@ use Rattle.std.proofs.lemmas.Bool.{eqb-true}
 use Rattle.std.proofs.Math.Seq.{drop-append-add}
 use Rattle.std.proofs.Math.Nat.{mul-le-mul_right}
 use Rattle.fl_base.specs.declared.types.Geometry.{Geometry}
-use Rattle.fl_config.specs.Opening.{IsMade, IsFound, Opens}
+use Rattle.fl_config.specs.Opening.{IsMade, Opens}
 use Rattle.fl_config.specs.Whole.{is_whole, Makes}
 use Rattle.fl_flash.specs.Media.{MediaState}
+use Rattle.fl_image.specs.Header.{IsAccepted}
 use Rattle.fl_image.proofs.Made.{made, made-by}
+use Rattle.fl_machine.specs.Machine.{fresh_tables}
 use Rattle.fl_model.specs.Image.{medium_len}
 use Rattle.fl_model.specs.Record.{Plan, Config, blocks_of}
 use Rattle.fl_words.specs.Config.{Lines}
-use Rattle.fl_words.specs.Medium.{header}
+use Rattle.fl_words.specs.Medium.{IsImage, header}
 use Rattle.fl_store.specs.Made.{MakesImage}
 use Rattle.fl_store.specs.Store.{IsBlankBehind}
+use Rattle.fl_store.proofs.NewImages.{new-image}
 
 -- a medium without a byte
 pub none-of : (bytes : List ℕ) (n : ℕ) → n ≡ length bytes → (n == 0) ≡ true → bytes ≡ []
@@ -73,3 +76,11 @@ makes-blank lines old new true whole makes is told geometry device =
     let some = made lines whole in
     new-blank lines some.0 old new geometry some.1 device (makes some.0 some.1) told
 makes-blank lines old new false whole makes is told geometry device = absurd (cc is)
+
+-- it stands for empty tables then
+pub makes-empty : (lines : Lines) (old new : MediaState) (is_new : Bool) → ((config : Config) → Makes lines config → MakesImage (medium_len config) (header config) old (Ok is_new) new) → is_new ≡ true → IsTrue new.tells → IsAccepted lines → (config : Config) → Makes lines config →
+    IsImage config new.content (fresh_tables config)
+makes-empty lines old new true makes is told accepted config own =
+    let h = makes config own in
+    subst (λ (content : List ℕ). IsImage config content (fresh_tables config)) (sym (h.content (subst IsTrue h.tells told))) (new-image config (record { lines = lines; accepted = accepted; makes = own }))
+makes-empty lines old new false makes is told accepted config own = absurd (cc is)

@@ -1,6 +1,5 @@
 -- An image has a table with a name, or it has none.
-use Rattle.std.proofs.Common.{◌≡◌, true, false, None, List, ℕ, length, refl, arith}
-use Rattle.std.specs.List.{slice_get}
+use Rattle.std.proofs.Common.{true, false, None, List, ℕ, refl, arith}
 use Rattle.std.proofs.lemmas.Option.{slice_get_within}
 use Rattle.fl_flash.specs.Media.{MediaState}
 use Rattle.fl_image.specs.Header.{IsAccepted}

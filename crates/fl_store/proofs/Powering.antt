@@ -1,18 +1,18 @@
 -- The mount of a store, whose power goes on first.
-use Rattle.std.proofs.Common.{◌≡◌, Bool, true, false, IsTrue, IfErr, Result, List, length, refl, sym, ◌∙◌, ap, subst}
+use Rattle.std.proofs.Common.{◌≡◌, ◌+◌, ◌*◌, ◌≤◌, Bool, true, false, IsTrue, IfErr, Result, List, length, refl, sym, ap, subst}
 use Rattle.std.specs.Prelude.{OnOk}
-use Rattle.fl_base.specs.declared.types.Geometry.{Geometry}
-use Rattle.fl_flash.specs.Flash.{FlashState, Goes}
+use Rattle.fl_flash.specs.Flash.{FlashState, Goes, page_at}
 use Rattle.fl_model.specs.Record.{Config, Plan}
 use Rattle.fl_model.specs.Table as model
 use Rattle.fl_model.specs.Work.{Device}
 use Rattle.fl_ring.specs.Step.{IsWatched}
 use Rattle.fl_rlc.proofs.Powered.{goes-powered}
 use Rattle.fl_table.specs.Causes.{MountCausedBy}
-use Rattle.fl_store.specs.Calls.{HavePage, powered}
-use Rattle.fl_store.specs.Mounting.{MountsInTurn, RefusesAt}
+use Rattle.fl_table.specs.Mounting.{FewRepairs}
+use Rattle.fl_store.specs.Calls.{powered}
+use Rattle.fl_store.specs.Mounting.{AreUnlogged, MountsInTurn, OutsideStands, RefusesAt, rings_of, tried}
 use Rattle.fl_store.specs.Store.{Holds, IsOnMedium}
-use Rattle.fl_store.specs.Tables.{LieOn, TablesMount, TablesStand}
+use Rattle.fl_store.specs.Tables.{LieOn, TablesMount, TablesStand, pages_of}
 use Rattle.fl_store.specs.declared.tables.BadMount.{BadMount}
 use Rattle.fl_store.specs.declared.tables.Entry.{Entry}
 use Rattle.fl_store.proofs.Called.{on-ok}
@@ -56,3 +56,14 @@ module _ (f on : FlashState) (is : on ≡ powered f) where
 
       pub power-through : Goes on g → OnOk result (on.is_on ≡ true → g.is_on ≡ true) → OnOk result (g.is_on ≡ true)
       power-through goes h = on-ok (on.is_on ≡ true) (g.is_on ≡ true) result h (ap (λ (x : FlashState). x.is_on) is)
+
+      pub repairs-through : (AreUnlogged (tried result entries) → FewRepairs (rings_of (tried result entries)) on g) → AreUnlogged (tried result entries) → FewRepairs (rings_of (tried result entries)) f g
+      repairs-through h unlogged =
+          let few = subst (λ (x : FlashState). FewRepairs (rings_of (tried result entries)) x g) is (h unlogged) in
+          record { programs = few.programs; erases = few.erases }
+
+      pub outside-through : (IsTrue on.media.tells → OutsideStands (tried result entries) (page_at on) (page_at g)) → IsTrue f.media.tells → OutsideStands (tried result entries) (page_at f) (page_at g)
+      outside-through h = subst (λ (x : FlashState). IsTrue x.media.tells → OutsideStands (tried result entries) (page_at x) (page_at g)) is h
+
+      pub reads-through : (IsTrue on.media.tells → g.work.reads ≤ on.work.reads + 4 * pages_of entries) → IsTrue f.media.tells → g.work.reads ≤ f.work.reads + 4 * pages_of entries
+      reads-through h = subst (λ (x : FlashState). IsTrue x.media.tells → g.work.reads ≤ x.work.reads + 4 * pages_of entries) is h

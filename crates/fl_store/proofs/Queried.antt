@@ -1,18 +1,20 @@
 -- The table of a store that queries are asked of: it stands without its log.
-use Rattle.std.proofs.Common.{◌≡◌, ℕ, ◌<◌, true, Option, None, Some, Result, Ok, Err, IfErr, List, length, sym, ◌∙◌, ap, subst}
+use Rattle.std.proofs.Common.{◌≡◌, ℕ, true, false, Option, None, Some, Result, Ok, Err, IfErr, List, length, refl, sym, ◌∙◌, ap, subst}
 use Rattle.std.specs.Prelude.{IfOk, IfSome, option_map, unwrap_or}
 use Rattle.std.specs.List.{slice_get}
+use Rattle.std.proofs.Math.Path.{fun_ext}
 use Rattle.std.proofs.lemmas.Option.{slice_get_within}
-use Rattle.fl_base.specs.NameForm.{is_name}
 use Rattle.fl_flash.specs.Buffer.{BufferState}
 use Rattle.fl_flash.specs.Flash.{FlashState}
 use Rattle.fl_model.specs.Bare.{bare, bare_table}
+use Rattle.fl_model.specs.Query.{blob_in, blob_of}
 use Rattle.fl_model.specs.Record.{Config, Plan}
 use Rattle.fl_model.specs.Row.{Row}
 use Rattle.fl_model.specs.Table as model
 use Rattle.fl_page.specs.declared.fault.ReadFault.{ReadFault}
 use Rattle.fl_page.specs.declared.fault.ReadFault.TheVariants as fault
 use Rattle.fl_rlc.specs.Table.{is_running, LiesOn, table_in}
+use Rattle.fl_table.specs.BlobAt.{has_blobs}
 use Rattle.fl_table.specs.Finding.{Finds, IsRowAt, LookupFails, row_of_place}
 use Rattle.fl_table.specs.Look.{layout_in}
 use Rattle.fl_table.specs.Memory as memory
@@ -22,6 +24,7 @@ use Rattle.fl_table.specs.declared.find.RowAt.TheVariants as at
 use Rattle.fl_table.specs.declared.table.Table.{Table}
 use Rattle.fl_store.specs.Calls as calls
 use Rattle.fl_store.specs.Calls.{GetEnds, IsRowIn, Located, columns_at}
+use Rattle.fl_store.specs.InMemory.{has_blobs_at}
 use Rattle.fl_store.specs.Store.{Holds}
 use Rattle.fl_store.specs.Tables.{first_of, EntryStands, IsNamed, Names}
 use Rattle.fl_store.specs.declared.tables.Entry.{Entry}
@@ -51,6 +54,11 @@ module _ (t : Table 64 64) (entry : Entry) (is : t ≡ table_in entry.table) whe
         ap (λ (x : Table 64 64). length (layout_in x).columns) is
         ∙ sym (ap (λ (o : Option Entry). unwrap_or (option_map (λ (e : Entry). length (layout_in (table_in e.table)).columns) o) 0) here)
 
+    pub blobs-are : has_blobs t ≡ has_blobs_at entries at
+    blobs-are =
+        ap (λ (x : Table 64 64). has_blobs x) is
+        ∙ sym (ap (λ (o : Option Entry). unwrap_or (option_map (λ (e : Entry). has_blobs (table_in e.table)) o) false) here)
+
     row-in : (buf : BufferState) (place : RowAt) → IsRowAt t buf place → IsRowIn entries at buf place
     row-in buf place h other e =
         subst (λ (x : Entry). IsRowAt (table_in x.table) buf place) (some-is (slice_get entries at) entry other here e) (subst (λ (x : Table 64 64). IsRowAt x buf place) is h)
@@ -79,6 +87,15 @@ get-ends plan table key before now buf (Ok None) h = h.entry
 get-ends plan table key before now buf (Ok (Some place)) h = record { entry = h.entry.entry; found = h.entry.found; row = row-bare plan table buf place _ h.entry.row }
 get-ends plan table key before now buf (Err (fault.Flash e)) h = h
 get-ends plan table key before now buf (Err (fault.BadPage bad)) h = absurd h
+
+-- ---- what is left of a blob
+
+left-bare : (table : model.Table) (entry : model.Entry) (blob : Option (List ℕ)) → blob_in (bare_table table) entry blob ≡ blob_in table entry blob
+left-bare table entry None = refl
+left-bare table entry (Some bytes) = refl
+
+pub blobs-bare : (table : model.Table) → blob_of (bare_table table) ≡ blob_of table
+blobs-bare table = fun_ext (λ (entry : model.Entry). left-bare table entry entry.kept.blob)
 
 -- ---- the table with a name
 

@@ -8,6 +8,7 @@ use Rattle.fl_flash.specs.Flash.{FlashState, Goes}
 use Rattle.fl_rlc.specs.Table.{LiesOn, is_running}
 use Rattle.fl_rlc.specs.declared.table.LoggedTable.{LoggedTable}
 use Rattle.fl_rlc.proofs.Powered.{lies-on}
+use Rattle.fl_store.specs.Calls.{RunsAt}
 use Rattle.fl_store.specs.Tables.{entries_with, LieOn, AreRunning}
 use Rattle.fl_store.specs.declared.tables.Entry.{Entry}
 use Rattle.fl_store.proofs.TablesChanged.{set-there, set-here, set-elsewhere, some-is}
@@ -27,15 +28,18 @@ lie-with entries at entry u f g here goes lie own i e k = by-place (eqb_tells at
         subst (λ (x : Entry). LiesOn x.table g) e_is own
     by-place (inr other) = lie-on entries f g goes lie i e (sym (set-elsewhere entries at i (record { name = entry.name; table = u }) other.1) ∙ k)
 
-pub running-with : (entries : List Entry) (at : ℕ) (entry : Entry) (u : LoggedTable 64 64) → slice_get entries at ≡ Some entry → AreRunning entries → is_running u ≡ true → AreRunning (entries_with entries at entry u)
-running-with entries at entry u here running own i e k = by-place (eqb_tells at i)
+-- those that ran run on, if the changed one does
+pub runs-with : (entries : List Entry) (at : ℕ) (entry : Entry) (u : LoggedTable 64 64) → slice_get entries at ≡ Some entry → (i : ℕ) → RunsAt entries i → (at ≡ i → is_running u ≡ true) → RunsAt (entries_with entries at entry u) i
+runs-with entries at entry u here i running own e k = by-place (eqb_tells at i)
   where
     by-place : ((eqb at i ≡ true) × (at ≡ i)) ⊎ ((eqb at i ≡ false) × (at ≡ i → ⊥)) → is_running e.table ≡ true
     by-place (inl is) =
-        let there = set-there entries at entry (record { name = entry.name; table = u }) here in
-        let e_is = some-is (slice_get (entries_with entries at entry u) at) (record { name = entry.name; table = u }) e there (subst (λ j. slice_get (entries_with entries at entry u) j ≡ Some e) (sym is.1) k) in
-        subst (λ (x : Entry). is_running x.table ≡ true) e_is own
-    by-place (inr other) = running i e (sym (set-elsewhere entries at i (record { name = entry.name; table = u }) other.1) ∙ k)
+        let e_is = set-here entries at (record { name = entry.name; table = u }) e (subst (λ j. slice_get (entries_with entries at entry u) j ≡ Some e) (sym is.1) k) in
+        subst (λ (x : Entry). is_running x.table ≡ true) e_is (own is.1)
+    by-place (inr other) = running e (sym (set-elsewhere entries at i (record { name = entry.name; table = u }) other.1) ∙ k)
+
+pub running-with : (entries : List Entry) (at : ℕ) (entry : Entry) (u : LoggedTable 64 64) → slice_get entries at ≡ Some entry → AreRunning entries → is_running u ≡ true → AreRunning (entries_with entries at entry u)
+running-with entries at entry u here running own i = runs-with entries at entry u here i (running i) (λ is. own)
 
 -- .. and one more of the first tables
 pub running-more : (entries : List Entry) (at : ℕ) (entry : Entry) (u : LoggedTable 64 64) → slice_get entries at ≡ Some entry → ((i : ℕ) (e : Entry) → i < at → slice_get entries i ≡ Some e → is_running e.table ≡ true) → is_running u ≡ true →

@@ -6,7 +6,7 @@ use Rattle.fl_model.specs.Bare.{bare}
 use Rattle.fl_model.specs.Record.{Plan}
 use Rattle.fl_model.specs.Table as model
 use Rattle.fl_page.specs.Contents.{Contents, contents_of, OnlyReads}
-use Rattle.fl_page.proofs.ReadsInTurn.{OnlyReads-goes, IsCaused-later}
+use Rattle.fl_page.proofs.ReadsInTurn.{OnlyReads-goes}
 use Rattle.fl_cursor.specs.Cursor.{IsStanding}
 use Rattle.fl_table.specs.Memory.{LiesOn}
 use Rattle.fl_table.specs.Standing.{Stands}

@@ -1,5 +1,5 @@
 -- What is left of a medium on which a store was opened and closed.
-use Rattle.std.proofs.Common.{◌≡◌, ℕ, ◌*◌, ◌<◌, false, IsTrue, List, take, sum_by, sym, ◌∙◌, ap, subst}
+use Rattle.std.proofs.Common.{◌≡◌, ℕ, ◌*◌, ◌<◌, false, IsTrue, List, take, sum_by, sym, ◌∙◌, subst}
 use Rattle.fl_base.specs.Causes.{Rose}
 use Rattle.fl_base.specs.declared.types.Geometry.{Geometry}
 use Rattle.fl_config.specs.Whole.{Makes}

@@ -9,5 +9,7 @@ pub mod FoundTable
 pub mod MountEnds
 pub mod Status
 pub mod Calls
+pub mod InMemory
 pub mod Works
 pub mod Made
+pub mod Laws

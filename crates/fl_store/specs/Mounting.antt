@@ -64,6 +64,10 @@ pub record IsBeside (t : LoggedTable 64 64) (page : ℕ) : Type 0 where
 abbrev pub OutsideStands : List Entry → (ℕ → List ℕ) → (ℕ → List ℕ) → Type 0
 OutsideStands entries old new = (page : ℕ) → ((i : ℕ) (entry : Entry) → slice_get entries i ≡ Some entry → IsBeside entry.table page) → new page ≡ old page
 
--- no table became one of another plan
+-- no table has another name
+abbrev pub AreSameNames : List Entry → List Entry → Type 0
+AreSameNames old new = (i : ℕ) (was now : Entry) → slice_get old i ≡ Some was → slice_get new i ≡ Some now → now.name ≡ was.name
+
+-- .. or became one of another plan
 abbrev pub AreSamePlans : List Entry → List Entry → Type 0
 AreSamePlans old new = (i : ℕ) (was now : Entry) → slice_get old i ≡ Some was → slice_get new i ≡ Some now → IsSamePlan was.table now.table

@@ -1,23 +1,27 @@
 // The calls of a store: its tables mounted, and records put, flushed and looked up.
-ghost use Rattle.std.specs.Prelude.{◌≡◌, ◌<◌, ◌↔◌, ℕ, Bool, List, false, true, None, Some, length, option_map, slice_get, Err, IsTrue, IfOk, IfErr, IfSome, OnOk};
-ghost use Rattle.fl_flash.specs.Flash.{Goes};
+ghost use Rattle.std.specs.Prelude.{◌≡◌, ◌<◌, ◌≤◌, ◌+◌, ◌*◌, ◌↔◌, ℕ, Bool, List, false, true, None, Some, length, option_map, slice_get, Ok, Err, IsTrue, IfOk, IfErr, IfSome, OnOk};
+ghost use Rattle.fl_flash.specs.Flash.{Goes, page_at};
+ghost use Rattle.fl_flash.specs.declared.flash.FlashFault.{FlashFault};
 ghost use Rattle.fl_model.specs.Record.{Config, Plan};
 ghost use Rattle.fl_model.specs.Table as model;
 ghost use Rattle.fl_model.specs.Table.{last_entry};
 ghost use Rattle.fl_model.specs.Work.{Device};
 ghost use Rattle.fl_page.specs.Contents.{OnlyReads};
 ghost use Rattle.fl_ring.specs.Step.{IsWatched};
-ghost use Rattle.fl_rlc.specs.Refusal.{put_refusal};
+ghost use Rattle.fl_rlc.specs.Refusal.{put_refusal, NeedsNoOperation};
 ghost use Rattle.fl_rlc.specs.Table.{is_running, table_in};
 ghost use Rattle.fl_schema.specs.Schema.{layout_of_row, row_of};
-ghost use Rattle.fl_table.specs.Causes.{FlushCausedBy, MountCausedBy, PutCausedBy};
+ghost use Rattle.fl_table.specs.Causes.{FlushCausedBy, MountCausedBy, PutCausedBy, flush_breaks, put_breaks};
 ghost use Rattle.fl_table.specs.Finding.{LookupFails, row_of_place};
 ghost use Rattle.fl_table.specs.Look.{counts_in, counts_of, last_key_in};
+ghost use Rattle.fl_table.specs.Memory.{pending_in};
+ghost use Rattle.fl_table.specs.Mounting.{FewRepairs};
 ghost use Rattle.fl_table.specs.Refusal.{RefusesAs};
 ghost use Rattle.fl_store.specs.Calls.{Finds, FlushEnds, GetEnds, HavePage, IsRefusedSame, IsRowIn, Located, PutEnds, RunsAt, columns_at, powered};
-ghost use Rattle.fl_store.specs.Mounting.{MountsInTurn, RefusesAt};
+ghost use Rattle.fl_store.specs.InMemory.{AreSameTables, Becomes, Flushes, LeavesOthers, Takes, has_blobs_at};
+ghost use Rattle.fl_store.specs.Mounting.{AreUnlogged, MountsInTurn, OutsideStands, RefusesAt, rings_of, tried};
 ghost use Rattle.fl_store.specs.Store.{Holds, IsOnMedium};
-ghost use Rattle.fl_store.specs.Tables.{AreRunning, LieOn, StopsAt, TablesMount};
+ghost use Rattle.fl_store.specs.Tables.{AreRunning, LieOn, StopsAt, TablesMount, pages_of};
 ghost use Rattle.fl_store.specs.declared.tables.Entry.{Entry};
 
 use crate::pages::Pages;
@@ -45,6 +49,10 @@ impl<'m, M: Media> Store<'m, M> {
         ensures cause { IfErr result (λ bad. MountCausedBy (powered (⟦<SimFlash<'m, M> as Flash>⟧.state self.old.flash)) bad.fault (⟦<SimFlash<'m, M> as Flash>⟧.state self.new.flash)) }
         ensures running { OnOk result (AreRunning self.new.tables.entries.items) }
         ensures power { OnOk result ((⟦<SimFlash<'m, M> as Flash>⟧.state self.new.flash).is_on ≡ true) }
+        ensures repairs { AreUnlogged (tried result self.old.tables.entries.items) → FewRepairs (rings_of (tried result self.old.tables.entries.items)) (⟦<SimFlash<'m, M> as Flash>⟧.state self.old.flash) (⟦<SimFlash<'m, M> as Flash>⟧.state self.new.flash) }
+        ensures outside { IsTrue (⟦<SimFlash<'m, M> as Flash>⟧.state self.old.flash).media.tells → OutsideStands (tried result self.old.tables.entries.items) (page_at (⟦<SimFlash<'m, M> as Flash>⟧.state self.old.flash)) (page_at (⟦<SimFlash<'m, M> as Flash>⟧.state self.new.flash)) }
+        ensures reads { IsTrue (⟦<SimFlash<'m, M> as Flash>⟧.state self.old.flash).media.tells → (⟦<SimFlash<'m, M> as Flash>⟧.state self.new.flash).work.reads ≤ (⟦<SimFlash<'m, M> as Flash>⟧.state self.old.flash).work.reads + 4 * pages_of self.old.tables.entries.items }
+        ensures same { AreSameTables self.old.tables.entries.items self.new.tables.entries.items }
         ensures goes { Goes (⟦<SimFlash<'m, M> as Flash>⟧.state self.old.flash) (⟦<SimFlash<'m, M> as Flash>⟧.state self.new.flash) }
         ensures lie { LieOn self.new.tables.entries.items (⟦<SimFlash<'m, M> as Flash>⟧.state self.new.flash) }
         ensures room { HavePage pages.new (⟦<SimFlash<'m, M> as Flash>⟧.state self.new.flash).geometry.page }
@@ -82,10 +90,16 @@ impl<'m, M: Media> Store<'m, M> {
         ensures ends { (config : Config) (tables : List model.Table) (plan : Plan) (table : model.Table) (rose : Bool) (device : Device) → IsWatched (⟦<SimFlash<'m, M> as Flash>⟧.state self.old.flash) (⟦<SimFlash<'m, M> as Flash>⟧.state self.new.flash) rose device →
             Holds config self.old.tables.entries.items (⟦<SimFlash<'m, M> as Flash>⟧.state self.old.flash) true tables → Located config tables at plan table →
             PutEnds config tables at plan table (record { key = key; values = values.now; blob = option_map (λ b. b.now) blob.entry }) rose device result self.new.tables.entries.items (⟦<SimFlash<'m, M> as Flash>⟧.state self.new.flash) }
+        // Whatever the flash holds, and with the power off too, an accepted record is in memory, or an operation failed.
+        ensures takes { OnOk result (Becomes (Takes (record { key = key; values = values.now; blob = option_map (λ b. b.now) blob.entry })) self.old.tables.entries.items at self.new.tables.entries.items) }
         ensures exact { (entry : Entry) → slice_get self.old.tables.entries.items at ≡ Some entry → RefusesAs (put_refusal entry.table key values.now (option_map (λ b. length b.now) blob.entry)) result }
         ensures refused { IfErr result (λ e. IsRefusedSame self.old.tables.entries.items (⟦<SimFlash<'m, M> as Flash>⟧.state self.old.flash) e self.new.tables.entries.items (⟦<SimFlash<'m, M> as Flash>⟧.state self.new.flash)) }
+        ensures quiet { (entry : Entry) → slice_get self.old.tables.entries.items at ≡ Some entry → put_refusal entry.table key values.now (option_map (λ b. length b.now) blob.entry) ≡ None → NeedsNoOperation entry.table (option_map (λ b. b.now) blob.entry) → (result ≡ Ok tt) × ((⟦<SimFlash<'m, M> as Flash>⟧.state self.new.flash) ≡ (⟦<SimFlash<'m, M> as Flash>⟧.state self.old.flash)) }
+        ensures off { (entry : Entry) → slice_get self.old.tables.entries.items at ≡ Some entry → put_refusal entry.table key values.now (option_map (λ b. length b.now) blob.entry) ≡ None → (NeedsNoOperation entry.table (option_map (λ b. b.now) blob.entry) → ⊥) → (⟦<SimFlash<'m, M> as Flash>⟧.state self.old.flash).is_on ≡ false → (result ≡ Err (PutRefusal.Flash FlashFault.PowerLost)) × ((⟦<SimFlash<'m, M> as Flash>⟧.state self.new.flash) ≡ (⟦<SimFlash<'m, M> as Flash>⟧.state self.old.flash)) }
         ensures cause { IfErr result (λ e. PutCausedBy (⟦<SimFlash<'m, M> as Flash>⟧.state self.old.flash) e (⟦<SimFlash<'m, M> as Flash>⟧.state self.new.flash)) }
-        ensures running { OnOk result (AreRunning self.old.tables.entries.items → AreRunning self.new.tables.entries.items) }
+        ensures leaves { LeavesOthers (put_breaks result) self.old.tables.entries.items at self.new.tables.entries.items }
+        ensures running { OnOk result ((i : ℕ) → RunsAt self.old.tables.entries.items i → RunsAt self.new.tables.entries.items i) }
+        ensures same { AreSameTables self.old.tables.entries.items self.new.tables.entries.items }
         ensures goes { Goes (⟦<SimFlash<'m, M> as Flash>⟧.state self.old.flash) (⟦<SimFlash<'m, M> as Flash>⟧.state self.new.flash) }
         ensures lie { LieOn self.new.tables.entries.items (⟦<SimFlash<'m, M> as Flash>⟧.state self.new.flash) }
         ensures as_many { length self.new.tables.entries.items ≡ length self.old.tables.entries.items }
@@ -104,9 +118,16 @@ impl<'m, M: Media> Store<'m, M> {
         ensures ends { (config : Config) (tables : List model.Table) (plan : Plan) (table : model.Table) (rose : Bool) (device : Device) → IsWatched (⟦<SimFlash<'m, M> as Flash>⟧.state self.old.flash) (⟦<SimFlash<'m, M> as Flash>⟧.state self.new.flash) rose device →
             Holds config self.old.tables.entries.items (⟦<SimFlash<'m, M> as Flash>⟧.state self.old.flash) true tables → Located config tables at plan table →
             FlushEnds config tables at plan table rose device result self.new.tables.entries.items (⟦<SimFlash<'m, M> as Flash>⟧.state self.new.flash) }
+        // Whatever the flash holds, and with the power off too, no row waits in memory then, or an operation failed.
+        ensures flushes { OnOk result (Becomes Flushes self.old.tables.entries.items at self.new.tables.entries.items) }
         ensures stopped { (entry : Entry) → slice_get self.old.tables.entries.items at ≡ Some entry → (result ≡ Err FlushFault.Stopped) ↔ (is_running entry.table ≡ false) }
+        ensures refused { result ≡ Err FlushFault.Stopped → self.new.tables.entries.items ≡ self.old.tables.entries.items }
+        ensures quiet { (entry : Entry) → slice_get self.old.tables.entries.items at ≡ Some entry → is_running entry.table ≡ true → pending_in (table_in entry.table) ≡ 0 → (result ≡ Ok tt) × (self.new.tables.entries.items ≡ self.old.tables.entries.items) × ((⟦<SimFlash<'m, M> as Flash>⟧.state self.new.flash) ≡ (⟦<SimFlash<'m, M> as Flash>⟧.state self.old.flash)) }
+        ensures off { (entry : Entry) → slice_get self.old.tables.entries.items at ≡ Some entry → is_running entry.table ≡ true → 1 ≤ pending_in (table_in entry.table) → (⟦<SimFlash<'m, M> as Flash>⟧.state self.old.flash).is_on ≡ false → (result ≡ Err (FlushFault.Flash FlashFault.PowerLost)) × ((⟦<SimFlash<'m, M> as Flash>⟧.state self.new.flash) ≡ (⟦<SimFlash<'m, M> as Flash>⟧.state self.old.flash)) }
         ensures cause { IfErr result (λ e. FlushCausedBy (⟦<SimFlash<'m, M> as Flash>⟧.state self.old.flash) e (⟦<SimFlash<'m, M> as Flash>⟧.state self.new.flash)) }
-        ensures running { OnOk result (AreRunning self.old.tables.entries.items → AreRunning self.new.tables.entries.items) }
+        ensures leaves { LeavesOthers (flush_breaks result) self.old.tables.entries.items at self.new.tables.entries.items }
+        ensures running { OnOk result ((i : ℕ) → RunsAt self.old.tables.entries.items i → RunsAt self.new.tables.entries.items i) }
+        ensures same { AreSameTables self.old.tables.entries.items self.new.tables.entries.items }
         ensures goes { Goes (⟦<SimFlash<'m, M> as Flash>⟧.state self.old.flash) (⟦<SimFlash<'m, M> as Flash>⟧.state self.new.flash) }
         ensures lie { LieOn self.new.tables.entries.items (⟦<SimFlash<'m, M> as Flash>⟧.state self.new.flash) }
         ensures as_many { length self.new.tables.entries.items ≡ length self.old.tables.entries.items }
@@ -139,6 +160,14 @@ impl<'m, M: Media> Store<'m, M> {
         ensures { result ≡ columns_at self.now.tables.entries.items at }
     {
         self.tables.entries[at].table.table().columns()
+    }
+
+    /// Whether the records of the table at a place may have blobs.
+    pub fn has_blobs(&self, at: usize) -> bool
+        requires { at < length self.now.tables.entries.items }
+        ensures { result ≡ has_blobs_at self.now.tables.entries.items at }
+    {
+        self.tables.entries[at].table.table().has_blobs()
     }
 
     /// The place of the row with this key in the table at a place, and none where no record has it. `row` lends the row.

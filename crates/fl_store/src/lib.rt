@@ -2,10 +2,12 @@
 //! the flash on its medium.
 #![tactic(auto)]
 
+mod blob;
 mod calls;
 mod fault;
 mod found;
 mod found_table;
+mod laws;
 mod layout;
 mod made;
 mod pages;
@@ -19,6 +21,7 @@ mod tables;
 pub use fault::StoreFault;
 pub use found::FoundImage;
 pub use found_table::FoundTable;
+pub use laws::{new_images_are_empty, stores_hold};
 pub use layout::Layout;
 pub use made::{config_of, make_image};
 pub use pages::Pages;

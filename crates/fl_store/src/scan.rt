@@ -1,6 +1,6 @@
 // The rows of a table in a range.
-ghost use Rattle.std.specs.Prelude.{◌≡◌, ◌<◌, List, true, None, length, map};
-ghost use Rattle.fl_cursor.specs.Cursor.{IsReady, IsTold, asked_of, index_name, left_of, rows_name, table_of};
+ghost use Rattle.std.specs.Prelude.{◌≡◌, ◌<◌, List, true, None, Some, length, map, min, option_map, slice_get};
+ghost use Rattle.fl_cursor.specs.Cursor.{IsReady, IsTold, index_name, index_page, left_of, mark_of, rows_name, rows_page, table_of};
 ghost use Rattle.fl_flash.specs.Flash.{FlashState};
 ghost use Rattle.fl_flash.specs.Places.{extent};
 ghost use Rattle.fl_model.specs.Query as query;
@@ -8,7 +8,9 @@ ghost use Rattle.fl_model.specs.Record.{Config, Plan};
 ghost use Rattle.fl_model.specs.Row.{stored_row};
 ghost use Rattle.fl_model.specs.Table as model;
 ghost use Rattle.fl_page.specs.Contents.{contents_of};
-ghost use Rattle.fl_table.specs.Look.{layout_in};
+ghost use Rattle.fl_rlc.specs.Table.{table_in};
+ghost use Rattle.fl_table.specs.Look.{last_key_in, layout_in};
+ghost use Rattle.fl_store.specs.declared.tables.Entry.{Entry};
 
 use crate::sizes::Cursor;
 use crate::tables::Tables;
@@ -40,6 +42,11 @@ impl Tables {
             IsTold result (contents_of f) × (left_of result (contents_of f) ≡ map stored_row (query.selected range span table.entries)) }
         ensures ready { (f : FlashState) → LieOn self.now.entries.items f → length rows.old.bytes ≡ f.geometry.page → length index.old.bytes ≡ f.geometry.page → IsReady result (contents_of f) }
         ensures columns { length (layout_in (table_of result)).columns ≡ columns_at self.now.entries.items at }
+        ensures mark { (entry : Entry) → slice_get self.now.entries.items at ≡ Some entry →
+            mark_of result ≡ record { after = None; top = option_map (λ last. min range.high last) (last_key_in (table_in entry.table)); range = range; span = span } }
+        ensures table { (entry : Entry) → slice_get self.now.entries.items at ≡ Some entry → table_of result ≡ table_in entry.table }
+        ensures rows_forget { rows_page result ≡ record rows.old { holds = None } }
+        ensures index_forget { index_page result ≡ record index.old { holds = None } }
         ensures rows_name { rows_name result ≡ rows.entry.ghost_name }
         ensures index_name { index_name result ≡ index.entry.ghost_name }
     {

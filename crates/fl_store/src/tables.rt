@@ -44,7 +44,7 @@ impl Tables {
     ghost use Rattle.fl_machine.specs.Reads.{mounts_limit};
     ghost use Rattle.fl_table.specs.Causes.{MountCausedBy};
     ghost use Rattle.fl_table.specs.Mounting.{FewRepairs};
-    ghost use Rattle.fl_store.specs.Mounting.{AreSamePlans, AreUnlogged, MountsInTurn, OutsideStands, RefusesAt, rings_of, tried};
+    ghost use Rattle.fl_store.specs.Mounting.{AreSameNames, AreSamePlans, AreUnlogged, MountsInTurn, OutsideStands, RefusesAt, rings_of, tried};
     ghost use Rattle.fl_store.specs.Repaired.{IsLeft};
     ghost use Rattle.fl_store.specs.Tables.{AreNewTables, Names, LieOn, AreRunning, StopsAt, TablesStand, TablesMount, pages_of};
 
@@ -104,6 +104,7 @@ impl Tables {
         ensures room { length buf.new.bytes ≡ length buf.old.bytes }
         ensures as_many { length self.new.entries.items ≡ length self.old.entries.items }
         ensures same { AreSamePlans self.old.entries.items self.new.entries.items }
+        ensures names { AreSameNames self.old.entries.items self.new.entries.items }
     {
         for i in 0..self.entries.len() {
             if let Err(fault) = self.entries[i].table.mount(flash, buf) {

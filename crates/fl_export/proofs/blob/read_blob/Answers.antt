@@ -4,7 +4,7 @@ use Rattle.fl_model.specs.Agrees.{BlobsOf}
 use Rattle.fl_model.specs.Ring.{Ring}
 use Rattle.fl_page.proofs.ReadsInTurn.{OnlyReads-then}
 use Rattle.fl_var.specs.Reading.{data_of}
-use Rattle.fl_export.proofs.Readers.{buffer-fits, data-lies, data-stands, opened-ready}
+use Rattle.fl_store.proofs.Readers.{buffer-fits, data-lies, data-stands, opened-ready}
 use Rattle.fl_export.proofs.Records.{empty-stands}
 use Rattle.fl_export.proofs.blob.read_blob.Goals as goal
 

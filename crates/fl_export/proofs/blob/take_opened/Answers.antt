@@ -2,7 +2,7 @@ use Rattle.std.proofs.Common.{◌≡◌, Ok, true, List, ℕ, ◌++◌, sym, ◌
 use Rattle.std.proofs.lemmas.Result.{err_from_is_err_and}
 use Rattle.fl_model.specs.Query.{Stands, blob_of}
 use Rattle.fl_var.specs.Reading.{bytes_left}
-use Rattle.fl_export.proofs.Readers.{reads-kept, bytes-kept, whole-kept}
+use Rattle.fl_store.proofs.Readers.{reads-kept, bytes-kept, whole-kept}
 use Rattle.fl_export.proofs.Unread.{unread-later}
 use Rattle.fl_export.proofs.blob.take_opened.Goals as goal
 

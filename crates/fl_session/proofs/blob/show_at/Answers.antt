@@ -3,7 +3,8 @@ use Rattle.fl_base.specs.declared.types.BlobRef.{BlobRef}
 use Rattle.fl_page.proofs.ReadsInTurn.{OnlyReads-then}
 use Rattle.fl_table.specs.BlobAt.{content_in}
 use Rattle.fl_var.specs.Reading.{data_of}
-use Rattle.fl_session.proofs.BlobShows.{says-empty, opened-ready, few-left, holds-blob, buffer-fits, data-lies, room-same, data-stands}
+use Rattle.fl_store.proofs.Readers.{buffer-fits, data-lies, data-stands, opened-ready, room-same}
+use Rattle.fl_session.proofs.BlobShows.{says-empty, few-left, holds-blob}
 use Rattle.fl_session.proofs.blob.show_at.Goals as goal
 
 pub returns-then-at-eq0-clause-says : goal.returns-then-at-eq0-clause-says

@@ -5,7 +5,8 @@ use Rattle.fl_script.specs.Written.{Written}
 use Rattle.fl_var.specs.Reading.{bytes_left}
 use Rattle.fl_words.specs.Reply.{text}
 use Rattle.fl_session.specs.BlobLine.{ShowsBytes}
-use Rattle.fl_session.proofs.BlobShows.{reads-kept, bytes-kept, whole-kept, says-gone, says-unread, says-bytes, unread-rose}
+use Rattle.fl_store.proofs.Readers.{bytes-kept, reads-kept, whole-kept}
+use Rattle.fl_session.proofs.BlobShows.{says-gone, says-unread, says-bytes, unread-rose}
 use Rattle.fl_session.proofs.blob.show_opened.Goals as goal
 
 pub returns-in-Ok-true-clause-says : goal.returns-in-Ok-true-clause-says

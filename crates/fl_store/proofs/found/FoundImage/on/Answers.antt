@@ -1,4 +1,4 @@
-use Rattle.std.proofs.Common.{Err, inl, refl, ap, ◌∙◌}
+use Rattle.std.proofs.Common.{Err, inl, refl, ap}
 use Rattle.std.proofs.lemmas.Result.{err_from_is_err_and}
 use Rattle.fl_image.proofs.Reach.{reach}
 use Rattle.fl_image.specs.declared.status.ToolStatus.{ToolStatus}

@@ -1,9 +1,14 @@
-use Rattle.std.proofs.Common.{rules, ◌≡◌, Some}
+use Rattle.std.proofs.Common.{rules, ◌≡◌, Some, ap, sym, ◌∙◌}
 use Rattle.std.specs.List.{slice_get}
-use Rattle.fl_store.proofs.Called.{entry-at, flush-ends, flush-runs, stands-here}
-use Rattle.fl_store.proofs.TablesLie.{lie-with}
-use Rattle.fl_store.proofs.TablesChanged.{some-is}
+use Rattle.fl_rlc.specs.Table.{is_running, table_in}
+use Rattle.fl_table.specs.Causes.{flush_breaks}
+use Rattle.fl_table.specs.Memory.{pending_in}
 use Rattle.fl_store.specs.Tables.{first_of}
+use Rattle.fl_store.specs.declared.tables.Entry.{Entry}
+use Rattle.fl_store.proofs.Called.{entry-at, flush-ends, flush-refused, same-entries, stands-here}
+use Rattle.fl_store.proofs.InMemory.{flush-flushes, flush-runs, leaves-others, same-after}
+use Rattle.fl_store.proofs.TablesChanged.{some-is}
+use Rattle.fl_store.proofs.TablesLie.{lie-with}
 use Rattle.fl_store.proofs.store.Store.flush.Goals as goal
 
 pub flush-requires : goal.flush-requires
@@ -30,3 +35,35 @@ pub returns-clause-lie : goal.returns-clause-lie
 returns-clause-lie g c =
     lie-with c.args.self.now.tables.entries.items c.args.at c.index_mut.result.now c.flush.new.self _ _
     (entry-at c.args.self.now.tables.entries.items c.args.at c.index_mut.result.now c.requires.at c.index_mut.ensures.value) c.flush.ensures.goes c.requires.lie c.flush.ensures.lies
+
+pub returns-clause-flushes : goal.returns-clause-flushes
+returns-clause-flushes g c =
+    flush-flushes c.args.self.now.tables.entries.items c.args.at c.index_mut.result.now c.flush.new.self
+    (entry-at c.args.self.now.tables.entries.items c.args.at c.index_mut.result.now c.requires.at c.index_mut.ensures.value) c.flush.result c.flush.ensures.none c.flush.ensures.seals c.flush.ensures.begins
+
+pub returns-clause-refused : goal.returns-clause-refused
+returns-clause-refused g c =
+    flush-refused c.args.self.now.tables.entries.items c.args.at c.index_mut.result.now c.flush.new.self
+    (entry-at c.args.self.now.tables.entries.items c.args.at c.index_mut.result.now c.requires.at c.index_mut.ensures.value) c.flush.result c.flush.ensures.refused
+
+pub returns-clause-quiet : goal.returns-clause-quiet
+returns-clause-quiet g c = λ entry e running none.
+    let here : slice_get c.args.self.now.tables.entries.items c.args.at ≡ Some c.index_mut.result.now = entry-at c.args.self.now.tables.entries.items c.args.at c.index_mut.result.now c.requires.at c.index_mut.ensures.value in
+    let is = some-is (slice_get c.args.self.now.tables.entries.items c.args.at) entry c.index_mut.result.now e here in
+    let quiet = c.flush.ensures.quiet (ap (λ (x : Entry). is_running x.table) (sym is) ∙ running) (ap (λ (x : Entry). pending_in (table_in x.table)) (sym is) ∙ none) in
+    (quiet.0, same-entries c.args.self.now.tables.entries.items c.args.at c.index_mut.result.now c.flush.new.self here quiet.1, quiet.2)
+
+pub returns-clause-off : goal.returns-clause-off
+returns-clause-off g c = λ entry e.
+    let here : slice_get c.args.self.now.tables.entries.items c.args.at ≡ Some c.index_mut.result.now = entry-at c.args.self.now.tables.entries.items c.args.at c.index_mut.result.now c.requires.at c.index_mut.ensures.value in
+    rw (some-is (slice_get c.args.self.now.tables.entries.items c.args.at) entry c.index_mut.result.now e here) c.flush.ensures.off
+
+pub returns-clause-leaves : goal.returns-clause-leaves
+returns-clause-leaves g c =
+    leaves-others c.args.self.now.tables.entries.items c.args.at c.index_mut.result.now c.flush.new.self
+    (entry-at c.args.self.now.tables.entries.items c.args.at c.index_mut.result.now c.requires.at c.index_mut.ensures.value) (flush_breaks c.flush.result) c.flush.ensures.running c.flush.ensures.stopped
+
+pub returns-clause-same : goal.returns-clause-same
+returns-clause-same g c =
+    same-after c.args.self.now.tables.entries.items c.args.at c.index_mut.result.now c.flush.new.self
+    (entry-at c.args.self.now.tables.entries.items c.args.at c.index_mut.result.now c.requires.at c.index_mut.ensures.value) c.flush.ensures.same

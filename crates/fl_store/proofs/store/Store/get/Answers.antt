@@ -1,4 +1,4 @@
-use Rattle.std.proofs.Common.{rules, ◌≡◌, Some, refl, sym, ◌∙◌, ap}
+use Rattle.std.proofs.Common.{rules, ◌≡◌, Some, sym, ◌∙◌}
 use Rattle.std.specs.List.{slice_get}
 use Rattle.fl_model.specs.Bare.{bare, bare_table}
 use Rattle.fl_page.proofs.ReadsInTurn.{OnlyReads-goes}
@@ -6,8 +6,8 @@ use Rattle.fl_store.specs.Tables.{first_of}
 use Rattle.fl_store.proofs.Called.{entry-at}
 use Rattle.fl_store.proofs.TablesLie.{lie-on}
 use Rattle.fl_store.proofs.Queried.{fails-at, get-ends, lies-unlogged, rows-in, runs-unlogged, stands-at}
-use Rattle.fl_store.proofs.TablesOnlyRead.{page-read, tables-read}
-use Rattle.fl_store.proofs.Worked.{medium-goes}
+use Rattle.fl_store.proofs.HeldStores.{held-read}
+use Rattle.fl_store.proofs.TablesOnlyRead.{page-read}
 use Rattle.fl_store.proofs.store.Store.get.Goals as goal
 
 pub find-requires : goal.find-requires
@@ -29,7 +29,7 @@ returns-clause-here g c =
 
 pub returns-clause-holds : goal.returns-clause-holds
 returns-clause-holds g c = λ config tables h.
-    record { medium = medium-goes config _ _ (OnlyReads-goes _ _ c.find.ensures.counts) h.medium; stand = tables-read _ _ c.find.ensures.counts config.plans c.args.self.now.tables.entries.items tables h.stand }
+    held-read config c.args.self.now.tables.entries.items _ _ tables c.find.ensures.counts h
 
 pub returns-clause-fails : goal.returns-clause-fails
 returns-clause-fails g c =

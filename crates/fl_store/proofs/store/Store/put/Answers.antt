@@ -1,9 +1,11 @@
 use Rattle.std.proofs.Common.{rules, ◌≡◌, Some}
 use Rattle.std.specs.List.{slice_get}
-use Rattle.fl_store.proofs.Called.{entry-at, put-ends, put-refused, put-runs, stands-here}
-use Rattle.fl_store.proofs.TablesLie.{lie-with}
-use Rattle.fl_store.proofs.TablesChanged.{some-is}
+use Rattle.fl_table.specs.Causes.{put_breaks}
 use Rattle.fl_store.specs.Tables.{first_of}
+use Rattle.fl_store.proofs.Called.{entry-at, put-ends, put-refused, stands-here}
+use Rattle.fl_store.proofs.InMemory.{leaves-others, put-runs, put-takes, same-after}
+use Rattle.fl_store.proofs.TablesChanged.{some-is}
+use Rattle.fl_store.proofs.TablesLie.{lie-with}
 use Rattle.fl_store.proofs.store.Store.put.Goals as goal
 
 pub put-requires : goal.put-requires
@@ -35,3 +37,28 @@ pub returns-clause-lie : goal.returns-clause-lie
 returns-clause-lie g c =
     lie-with c.args.self.now.tables.entries.items c.args.at c.index_mut-entry.result.now c.put.new.self _ _
     (entry-at c.args.self.now.tables.entries.items c.args.at c.index_mut-entry.result.now c.requires.at c.index_mut-entry.ensures.value) c.put.ensures.goes c.requires.lie c.put.ensures.lies
+
+pub returns-clause-takes : goal.returns-clause-takes
+returns-clause-takes g c =
+    put-takes c.args.self.now.tables.entries.items c.args.at c.index_mut-entry.result.now c.put.new.self
+    (entry-at c.args.self.now.tables.entries.items c.args.at c.index_mut-entry.result.now c.requires.at c.index_mut-entry.ensures.value) _ c.put.result c.put.ensures.last c.put.ensures.pending c.put.ensures.rows c.put.ensures.logs
+
+pub returns-clause-quiet : goal.returns-clause-quiet
+returns-clause-quiet g c = λ entry e.
+    let here : slice_get c.args.self.now.tables.entries.items c.args.at ≡ Some c.index_mut-entry.result.now = entry-at c.args.self.now.tables.entries.items c.args.at c.index_mut-entry.result.now c.requires.at c.index_mut-entry.ensures.value in
+    rw (some-is (slice_get c.args.self.now.tables.entries.items c.args.at) entry c.index_mut-entry.result.now e here) c.put.ensures.quiet
+
+pub returns-clause-off : goal.returns-clause-off
+returns-clause-off g c = λ entry e.
+    let here : slice_get c.args.self.now.tables.entries.items c.args.at ≡ Some c.index_mut-entry.result.now = entry-at c.args.self.now.tables.entries.items c.args.at c.index_mut-entry.result.now c.requires.at c.index_mut-entry.ensures.value in
+    rw (some-is (slice_get c.args.self.now.tables.entries.items c.args.at) entry c.index_mut-entry.result.now e here) c.put.ensures.off
+
+pub returns-clause-leaves : goal.returns-clause-leaves
+returns-clause-leaves g c =
+    leaves-others c.args.self.now.tables.entries.items c.args.at c.index_mut-entry.result.now c.put.new.self
+    (entry-at c.args.self.now.tables.entries.items c.args.at c.index_mut-entry.result.now c.requires.at c.index_mut-entry.ensures.value) (put_breaks c.put.result) c.put.ensures.running c.put.ensures.stopped
+
+pub returns-clause-same : goal.returns-clause-same
+returns-clause-same g c =
+    same-after c.args.self.now.tables.entries.items c.args.at c.index_mut-entry.result.now c.put.new.self
+    (entry-at c.args.self.now.tables.entries.items c.args.at c.index_mut-entry.result.now c.requires.at c.index_mut-entry.ensures.value) c.put.ensures.same

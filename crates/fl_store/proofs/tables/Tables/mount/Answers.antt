@@ -13,7 +13,7 @@ use Rattle.fl_store.specs.declared.tables.Entry.{Entry}
 use Rattle.fl_store.proofs.InTurn.{turn-before, turn-more, repairs-none, repairs-more, outside-none, outside-more}
 use Rattle.fl_store.proofs.CallsInTurn.{goes-same, goes-on, rose-front, rose-back}
 use Rattle.fl_store.proofs.TablesLie.{lie-with, running-more}
-use Rattle.fl_store.proofs.Planned.{plans-still, plans-with}
+use Rattle.fl_store.proofs.Planned.{names-still, names-with, plans-still, plans-with}
 use Rattle.fl_store.proofs.MountedSoFar.{mounted-none, mounted-more, mounted-err, mounted-all, own, was, was_at, stood}
 use Rattle.fl_store.proofs.TableRepairs.{known-before, known-there, left-next, left-none}
 use Rattle.fl_store.proofs.TablesReads.{reads-more, reads-most, limit-more, limit-most}
@@ -28,6 +28,7 @@ loop-i-init g c = record {
   same_room = refl;
   as_many = refl;
   same = plans-still c.args.self.now.entries.items;
+  names = names-still c.args.self.now.entries.items;
   goes = goes-same _;
   power = λ on. on;
   running = λ j entry lt e. absurd (omega (arith, lt));
@@ -149,6 +150,7 @@ loop-i-preserved g c =
       same_room = p.room ∙ i.same_room;
       as_many = length-set c.loop-i.self.entries.items c.loop-i.i (record { name = c.index_mut.result.now.name; table = c.mount.new.self }) ∙ i.as_many;
       same = plans-with c.args.self.now.entries.items c.loop-i.self.entries.items c.loop-i.i c.index_mut.result.now c.mount.new.self here p.same i.same;
+      names = names-with c.args.self.now.entries.items c.loop-i.self.entries.items c.loop-i.i c.index_mut.result.now c.mount.new.self here i.names;
       goes = goes-on f m n i.goes p.goes;
       power = λ on. c.in_default.ensures.power (i.power on);
       running = running-more c.loop-i.self.entries.items c.loop-i.i c.index_mut.result.now c.mount.new.self here i.running c.in_default.ensures.mounted;
@@ -236,3 +238,12 @@ returns-in-Err-clause-same g c =
 
 pub returns-clause-same : goal.returns-clause-same
 returns-clause-same g c = c.loop-i.invariant.same
+
+pub returns-in-Err-clause-names : goal.returns-in-Err-clause-names
+returns-in-Err-clause-names g c =
+    let here : slice_get c.loop-i.self.entries.items c.loop-i.i ≡ Some c.index_mut.result.now =
+    item-there c.loop-i.self.entries.items (length c.loop-i.self.entries.items) c.loop-i.i c.index_mut.result.now refl (omega (arith, c.loop-i-test.true, c.len-i-end.ensures, c.args.self.now.entries.ok.0, c.loop-i.invariant.as_many)) c.index_mut.ensures.value in
+    names-with c.args.self.now.entries.items c.loop-i.self.entries.items c.loop-i.i c.index_mut.result.now c.mount.new.self here c.loop-i.invariant.names
+
+pub returns-clause-names : goal.returns-clause-names
+returns-clause-names g c = c.loop-i.invariant.names

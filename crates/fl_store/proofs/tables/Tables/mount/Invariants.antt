@@ -9,7 +9,7 @@ use Rattle.fl_model.specs.Work.{Device}
 use Rattle.fl_ring.specs.Device.{SameDevice}
 use Rattle.fl_rlc.specs.Table.{is_running}
 use Rattle.fl_table.specs.Mounting.{FewRepairs}
-use Rattle.fl_store.specs.Mounting.{AreSamePlans, AreUnlogged, MountsInTurn, OutsideStands, rings_of}
+use Rattle.fl_store.specs.Mounting.{AreSameNames, AreSamePlans, AreUnlogged, MountsInTurn, OutsideStands, rings_of}
 use Rattle.fl_store.specs.Tables.{LieOn, TablesStand, pages_of}
 use Rattle.fl_store.specs.declared.tables.Entry.{Entry}
 use Rattle.fl_store.proofs.MountedSoFar.{MountedSoFar}
@@ -23,6 +23,7 @@ invariant-loop-i g l = record {
   same_room : length l.buf.bytes ≡ length l.fn.buf.bytes;
   as_many : length l.self.entries.items ≡ length l.fn.self.entries.items;
   same : AreSamePlans l.fn.self.entries.items l.self.entries.items;
+  names : AreSameNames l.fn.self.entries.items l.self.entries.items;
   goes : Goes (g.F.Flash.state l.fn.flash) (g.F.Flash.state l.flash);
   power : (g.F.Flash.state l.fn.flash).is_on ≡ true → (g.F.Flash.state l.flash).is_on ≡ true;
   running : (j : ℕ) (entry : Entry) → j < l.i → slice_get l.self.entries.items j ≡ Some entry → is_running entry.table ≡ true;

@@ -1,4 +1,4 @@
-use Rattle.std.proofs.Common.{rules, ◌≡◌, Some, length, ◌∙◌, ap}
+use Rattle.std.proofs.Common.{rules, ◌≡◌, Some, length, sym, ◌∙◌, ap}
 use Rattle.std.specs.List.{slice_get}
 use Rattle.fl_model.specs.Bare.{bare, bare_table}
 use Rattle.fl_page.specs.Contents.{contents_of}
@@ -7,6 +7,7 @@ use Rattle.fl_table.specs.declared.table.Table.{Table}
 use Rattle.fl_store.specs.Tables.{first_of}
 use Rattle.fl_store.proofs.Called.{entry-at}
 use Rattle.fl_store.proofs.Queried.{columns-are, lies-unlogged, runs-unlogged, stands-at}
+use Rattle.fl_store.proofs.TablesChanged.{some-is}
 use Rattle.fl_store.proofs.TablesOnlyRead.{is-standing}
 use Rattle.fl_store.proofs.tables.Tables.scan.Goals as goal
 
@@ -33,3 +34,13 @@ pub returns-clause-columns : goal.returns-clause-columns
 returns-clause-columns c =
     let here : slice_get c.args.self.now.entries.items c.args.at ≡ Some c.index.result.now = entry-at c.args.self.now.entries.items c.args.at c.index.result.now c.requires.at c.index.ensures in
     ap (λ (t : Table 64 64). length (layout_in t).columns) c.begin.ensures.table ∙ columns-are c.table.result.now c.index.result.now c.table.ensures c.args.self.now.entries.items c.args.at here
+
+pub returns-clause-mark : goal.returns-clause-mark
+returns-clause-mark c = λ entry e.
+    let here : slice_get c.args.self.now.entries.items c.args.at ≡ Some c.index.result.now = entry-at c.args.self.now.entries.items c.args.at c.index.result.now c.requires.at c.index.ensures in
+    rw (some-is (slice_get c.args.self.now.entries.items c.args.at) entry c.index.result.now e here, sym c.table.ensures) c.begin.ensures.mark
+
+pub returns-clause-table : goal.returns-clause-table
+returns-clause-table c = λ entry e.
+    let here : slice_get c.args.self.now.entries.items c.args.at ≡ Some c.index.result.now = entry-at c.args.self.now.entries.items c.args.at c.index.result.now c.requires.at c.index.ensures in
+    rw (some-is (slice_get c.args.self.now.entries.items c.args.at) entry c.index.result.now e here) (c.begin.ensures.table ∙ c.table.ensures)

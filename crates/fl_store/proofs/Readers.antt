@@ -1,17 +1,21 @@
--- Readers of a table's variable data, over a flash on which the table lies.
-use Rattle.std.proofs.Common.{◌≡◌, ℕ, ◌+◌, ◌-◌, Bool, true, false, IsTrue, Option, Some, None, Result, Ok, List, length, take, drop, sym, ◌∙◌, ap, subst}
-use Rattle.std.specs.Prelude.{is_some, option_map, unwrap_or}
+-- Readers of a table's blobs, over a flash on which the table lies.
+use Rattle.std.proofs.Common.{◌≡◌, ℕ, ◌+◌, ◌-◌, Bool, true, false, IsTrue, Option, Some, None, Result, Ok, Err, List, length, take, drop, sym, ◌∙◌, ap, subst}
+use Rattle.std.specs.Prelude.{IfOk, IfSome, is_some, option_map, unwrap_or}
 use Rattle.fl_base.specs.declared.types.BlobRef.{BlobRef}
 use Rattle.fl_base.specs.declared.types.Geometry.{Geometry}
 use Rattle.fl_flash.specs.Flash.{FlashState}
+use Rattle.fl_model.specs.Bare.{bare_table}
+use Rattle.fl_model.specs.Query.{BlobState}
 use Rattle.fl_model.specs.Record.{Plan}
 use Rattle.fl_model.specs.Table as model
+use Rattle.fl_model.specs.Table.{Entry}
 use Rattle.fl_page.specs.Header.{page_count}
 use Rattle.fl_page.specs.declared.fault.ReadFault.{ReadFault}
+use Rattle.fl_page.specs.declared.fault.ReadFault.TheVariants as fault
 use Rattle.fl_ring.specs.Looking as looking
 use Rattle.fl_ring.specs.Ring.{place}
 use Rattle.fl_ring.proofs.Founds.{same_pages}
-use Rattle.fl_table.specs.BlobAt.{data_in, has_blobs, blob_page_len}
+use Rattle.fl_table.specs.BlobAt.{data_in, has_blobs, blob_page_len, content_in}
 use Rattle.fl_table.specs.Blobs as variable
 use Rattle.fl_table.specs.Memory.{LiesOn as LiesAll}
 use Rattle.fl_table.specs.Standing.{Stands}
@@ -24,6 +28,7 @@ use Rattle.fl_var.specs.Reading.{bytes_left, Reads, IsWholeIn}
 use Rattle.fl_var.specs.declared.reader.BlobReader.{BlobReader}
 use Rattle.fl_var.specs.declared.var_data.VarData.{VarData}
 use Rattle.fl_var.proofs.Wholes.{images-same}
+use Rattle.fl_store.proofs.Queried.{blobs-bare}
 
 no : false ≡ true → ⊥
 no e = cc
@@ -40,10 +45,14 @@ module _ (t : Table 64 64) (f : FlashState) (lies : LiesAll t f) where
     pub data-lies : LiesOn v f
     data-lies = subst (λ (o : Option VarData). variable.LieOn o f) (sym is) lies.blobs
 
+    pub room-same : room_in v ≡ content_in t
+    room-same = ap (λ (g : Geometry). g.page - 16) (sym data-lies.geometry ∙ lies.geometry)
+
     pub data-stands : (first : ℕ) (plan : Plan) (table : model.Table) → Stands t f first plan table → variable.IsStanding v f (first + plan.data_blocks + plan.index_blocks) plan table
     data-stands first plan table h = subst (λ (o : Option VarData). variable.Stand o f (first + plan.data_blocks + plan.index_blocks) plan table) (sym is) h.blobs
 
--- a reader after its opening
+-- ---- a reader after its opening
+
 module _ (r : BlobReader) (f g : FlashState) (n : ℕ) (only : looking.OnlyReads f n g) where
   image : image_in r.var.now g ≡ image_in r.var.now f
   image = images-same r.var.now f g n only
@@ -66,3 +75,23 @@ module _ (r : BlobReader) (f g : FlashState) (n : ℕ) (only : looking.OnlyReads
 -- .. where it stands
 pub opened-ready : (v : VarData) (f : FlashState) (at : BlobRef) (stands : Result Bool ReadFault) (r : BlobReader) → reading.Opens v f at (reading.turned stands r) → stands ≡ Ok true → Reads r f
 opened-ready v f at stands r opens is = let o = rw is at opens in o.reads
+
+-- What is found of an entry's blob in a table without its log, is so of the table, and after reads too.
+pub finds-held : (table : model.Table) (entry : Entry) (bytes : List ℕ) (f g : FlashState) (n : ℕ) → looking.OnlyReads f n g → (result : Result (Option BlobReader) ReadFault) → reading.Finds (bare_table table) entry bytes f result → reading.Finds table entry bytes g result
+finds-held table entry bytes f g n only (Ok None) h = ap (λ (left : Entry → BlobState). left entry) (sym (blobs-bare table)) ∙ h
+finds-held table entry bytes f g n only (Ok (Some r)) h = (ap (λ (left : Entry → BlobState). left entry) (sym (blobs-bare table)) ∙ h.0, bytes-kept r f g n only ∙ h.1, whole-kept r f g n only h.2)
+finds-held table entry bytes f g n only (Err (fault.BadPage bad)) h = h
+finds-held table entry bytes f g n only (Err (fault.Flash e)) h = h
+
+-- .. and a reader that was made over any bytes reads on
+pub ready-kept : (var : Option VarData) (f g : FlashState) (n : ℕ) (at : BlobRef) → looking.OnlyReads f n g → is_some var ≡ true → (result : Result (Option BlobReader) ReadFault) → IfSome var (λ v. reading.Opens v f at result) → IfOk result (λ reader. IfSome reader (λ r. Reads r g))
+ready-kept None f g n at only some result h = absurd (no some)
+ready-kept (Some v) f g n at only some (Ok None) h = tt
+ready-kept (Some v) f g n at only some (Ok (Some r)) h = reads-kept r f g n only h.reads
+ready-kept (Some v) f g n at only some (Err e) h = tt
+
+-- what holds of a reader that was made
+pub made-so : (P Q : BlobReader → Type 0) → ((r : BlobReader) → P r → Q r) → (result : Result (Option BlobReader) ReadFault) → IfOk result (λ reader. IfSome reader P) → IfOk result (λ reader. IfSome reader Q)
+made-so P Q so (Ok None) h = tt
+made-so P Q so (Ok (Some r)) h = so r h
+made-so P Q so (Err e) h = tt

@@ -12,8 +12,8 @@ use Rattle.fl_table.specs.Pages.{place_in}
 use Rattle.fl_rlc.proofs.Images.{rests-image, blank-rests}
 use Rattle.fl_words.specs.Medium.{IsImage, header}
 use Rattle.fl_image.specs.Header.{IsMade}
-use Rattle.fl_sound.specs.Sound.{new_image}
-use Rattle.fl_sound.proofs.HeaderLength.{header-length}
+use Rattle.fl_store.specs.Laws.{new_image}
+use Rattle.fl_store.proofs.HeaderLength.{header-length}
 
 -- a part of the bytes behind the header is blank
 blank-take : (m n : ℕ) → is_blank (take m (replicate n 255)) ≡ true
