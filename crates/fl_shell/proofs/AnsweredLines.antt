@@ -7,17 +7,17 @@ use Rattle.fl_flash.specs.Flash.{FlashState}
 use Rattle.fl_model.specs.Record.{Config}
 use Rattle.fl_words.specs.Command.{Command}
 use Rattle.fl_machine.specs.Machine.{Machine}
-use Rattle.fl_machine.specs.Run.{Run, end_of, risen_in}
+use Rattle.fl_machine.specs.Run.{end_of, risen_in}
 use Rattle.fl_machine.specs.Script.{RoseBy}
 use Rattle.fl_machine.specs.Small.{AreTables}
 use Rattle.fl_machine.specs.Step.{Moment}
-use Rattle.fl_session.specs.Execute.{IsReady}
-use Rattle.fl_session.proofs.NextCommand.{run-more, appends-more, nothing-added}
+use Rattle.fl_session.specs.Execute.{IsReady, StandsAlike}
+use Rattle.fl_session.proofs.NextCommand.{appends-more, nothing-added}
 use Rattle.fl_shell.specs.Flushing.{RanThese}
-use Rattle.fl_shell.specs.Talk.{Turn, Answers, AnswersEach, HasCauses, TalkedInto, moments_of, moments_onto, answers_of, after_turn}
-use Rattle.fl_shell.specs.Talking.{TalkedSoFar}
+use Rattle.fl_shell.specs.Talk.{Turn, Answers, AnswersEach, HasCauses, RanOver, moments_of, moments_onto, answers_of, after_turn}
+use Rattle.fl_shell.specs.Talking.{Answered, TalkedSoFar}
 use Rattle.fl_shell.specs.Turning.{Turns, Says, Executed}
-use Rattle.fl_shell.proofs.Ran.{ran-begins, ran-looked, ran-stands, ran-goes_on}
+use Rattle.fl_shell.proofs.Ran.{over-more, ran-begins, ran-goes_on, ran-looked, ran-over, ran-reads, ran-stands}
 
 moments-onto : (o : Option Moment) (front others : List Moment) → moments_onto o (front ++ others) ≡ moments_onto o front ++ others
 moments-onto None front others = refl
@@ -100,7 +100,7 @@ none-failed e = cc
 -- .. and one for which it executes a command
 talked-command : {E : Type 0} (config : Config) (old : Machine) (lines : List (List ℕ)) (stands stands_now : Machine → Type 0) (content : List ℕ) (faults : ℕ) (flash flash_now : FlashState) (told told_mid told_now : Option (List ℕ)) (line : List ℕ) (c : Command) →
     IsReady config old → TalkedSoFar config old lines stands content faults flash told told_mid → length lines < 2 ^ 44 + 2 ^ 10 → ((m : Machine) → stands m → AreTables config.plans m.tables) → flash.media.faults ≤ flash_now.media.faults →
-    ((m : Machine) → stands m → Executed E config m line c stands_now flash flash_now told_mid told_now) →
+    ((m : Machine) → stands m → Executed {E = E} config m line c stands_now flash flash_now told_mid told_now (Ok tt)) →
     TalkedSoFar config old (lines ++ line ∷ []) stands_now content faults flash_now told told_now
 talked-command {E} config old lines stands stands_now content faults flash flash_now told told_mid told_now line c ready h few hold later turn_at =
     let Turned : Moment → Type 0 = λ moment. (answer : List ℕ) × Answers config (end_of old (moments_of h.turns)) line (record { moment = Some moment; answer = answer; unread = [] }) × Appends told_mid told_now answer in
@@ -127,33 +127,56 @@ talked-more E config old lines stands stands_now content faults flash flash_now 
 talked-more E config old lines stands stands_now content faults flash flash_now told told_mid told_now line (Some c) ready h few hold later turn_at =
     talked-command {E = E} config old lines stands stands_now content faults flash flash_now told told_mid told_now line c ready h few hold later turn_at
 
+-- all answers are written
+pub answered-whole : (config : Config) (old : Machine) (lines : List (List ℕ)) (stands : Machine → Type 0) (content : List ℕ) (faults : ℕ) (flash : FlashState) (told told_now : Option (List ℕ)) →
+    TalkedSoFar config old lines stands content faults flash told told_now → Answered config old lines true (StandsAlike stands) content flash.media.content faults flash.media.faults told told_now
+answered-whole config old lines stands content faults flash told told_now h = record {
+  turns = h.turns;
+  each = h.each;
+  ran = ran-over config old (length lines) (moments_of h.turns) stands content faults flash h.runs;
+  causes = h.causes;
+  before = h.turns;
+  text = answers_of h.turns;
+  written = (refl, refl);
+  told_all = h.told_all;
+  reads = ran-reads config old (length lines) (moments_of h.turns) stands content faults flash h.runs;
+}
+
 -- the sink fails in an answer
-pub talked-into : {E : Type 0} (config : Config) (old : Machine) (lines : List (List ℕ)) (stands stands_now : Machine → Type 0) (content : List ℕ) (faults : ℕ) (flash flash_now : FlashState) (told told_mid told_now : Option (List ℕ)) (line : List ℕ) (o : Option Command) (error : E) →
-    TalkedSoFar config old lines stands content faults flash told told_mid →
-    ((m : Machine) → stands m → Turns {E = E} config m line o stands_now flash flash_now told_mid told_now (Err error)) → TalkedInto config old (lines ++ line ∷ []) told told_now
-talked-into {E} config old lines stands stands_now content faults flash flash_now told told_mid told_now line o error h turn_at =
+pub answered-into : {E : Type 0} (config : Config) (old : Machine) (lines : List (List ℕ)) (stands stands_now : Machine → Type 0) (content : List ℕ) (faults : ℕ) (flash flash_now : FlashState) (told told_mid told_now : Option (List ℕ)) (line : List ℕ) (o : Option Command) (error : E) →
+    IsReady config old → ((m : Machine) → stands m → AreTables config.plans m.tables) → flash.media.faults ≤ flash_now.media.faults → TalkedSoFar config old lines stands content faults flash told told_mid →
+    ((m : Machine) → stands m → Turns {E = E} config m line o stands_now flash flash_now told_mid told_now (Err error)) →
+    Answered config old (lines ++ line ∷ []) false (StandsAlike stands_now) content flash_now.media.content faults flash_now.media.faults told told_now
+answered-into {E} config old lines stands stands_now content faults flash flash_now told told_mid told_now line o error ready hold later h turn_at =
     by_command o (turn_at (end_of old (moments_of h.turns)) (ran-stands config old (length lines) (moments_of h.turns) stands content faults flash h.runs))
   where
-    run : Run config old (moments_of h.turns)
-    run = subst (λ ms. Run config old ms) h.runs.are h.runs.ran.run
+    Over : List Moment → Type 0
+    Over moments = RanOver config old moments (StandsAlike stands_now) content flash_now.media.content faults flash_now.media.faults
 
-    into : (turn : Turn) → Answers config (end_of old (moments_of h.turns)) line turn → Run config old (moments_of (h.turns ++ turn ∷ [])) → AppendsFront told_mid told_now turn.answer → TalkedInto config old (lines ++ line ∷ []) told told_now
-    into turn answers ran wrote = record {
+    into : (turn : Turn) → Answers config (end_of old (moments_of h.turns)) line turn → Over (moments_of h.turns ++ moments_onto turn.moment []) → HasCauses faults flash_now.media.faults turn → AppendsFront told_mid told_now turn.answer →
+        Answered config old (lines ++ line ∷ []) false (StandsAlike stands_now) content flash_now.media.content faults flash_now.media.faults told told_now
+    into turn answers ran cause wrote = record {
       turns = h.turns ++ turn ∷ [];
       each = each-more config old lines h.turns line turn h.each answers;
-      run = ran;
+      ran = subst Over (sym (moments-more h.turns turn)) ran;
+      causes = causes-more faults flash.media.faults flash_now.media.faults h.turns turn later h.causes cause;
       before = h.turns;
-      last = turn;
-      split = refl;
-      front = wrote.0;
-      is_front = wrote.1;
-      told_front = appends-more told told_mid told_now (answers_of h.turns) wrote.0 h.told_all wrote.2;
+      text = answers_of h.turns ++ wrote.0;
+      written = (turn, wrote.0, refl, wrote.1, refl);
+      told_all = appends-more told told_mid told_now (answers_of h.turns) wrote.0 h.told_all wrote.2;
+      reads = ran-reads config old (length lines) (moments_of h.turns) stands content faults flash h.runs;
     }
 
-    by_command : (o : Option Command) → Turns {E = E} config (end_of old (moments_of h.turns)) line o stands_now flash flash_now told_mid told_now (Err error) → TalkedInto config old (lines ++ line ∷ []) told told_now
+    by_command : (o : Option Command) → Turns {E = E} config (end_of old (moments_of h.turns)) line o stands_now flash flash_now told_mid told_now (Err error) →
+        Answered config old (lines ++ line ∷ []) false (StandsAlike stands_now) content flash_now.media.content faults flash_now.media.faults told told_now
     by_command None s =
-        let turn : Turn = record { moment = None; answer = s.answer; unread = s.unread } in
-        into turn s.answers (subst (λ ms. Run config old ms) (sym (moments-more h.turns turn ∙ append-nil (moments_of h.turns))) run) s.written
+        let runs = ran-looked config old (length lines) (moments_of h.turns) s.unread stands stands_now content faults flash flash_now ready hold later h.runs s.few s.looked in
+        into (record { moment = None; answer = s.answer; unread = s.unread }) s.answers
+        (subst Over (sym (append-nil (moments_of h.turns))) (ran-over config old (length lines + 1) (moments_of h.turns) stands_now content faults flash_now runs))
+        (λ e. rose-since (risen_in h.runs.ran.moments) faults flash.media.faults flash_now.media.faults h.runs.ran.rose (s.looked.cause e)) s.written
     by_command (Some c) s =
-        let turn : Turn = record { moment = Some s.moment; answer = s.answer; unread = [] } in
-        into turn s.answers (subst (λ ms. Run config old ms) (sym (moments-more h.turns turn)) (run-more config old (moments_of h.turns) s.moment run s.step)) s.written
+        let e = s.executes in
+        let over = ran-over config old (length lines) (moments_of h.turns) stands content faults flash h.runs in
+        into (record { moment = Some e.moment; answer = s.answer; unread = [] }) s.answers
+        (over-more config old (moments_of h.turns) e.moment (StandsAlike stands) (StandsAlike stands_now) content flash.media.content flash_now.media.content faults flash.media.faults flash_now.media.faults ready over e.step e.stays later e.rose (e.after, e.stands_after, e.alike))
+        (λ e. absurd (none-failed e)) s.written

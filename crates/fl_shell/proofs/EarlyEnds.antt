@@ -1,18 +1,22 @@
 -- How a shell ends before its image is opened, and where no image is.
-use Rattle.std.proofs.Common.{◌≡◌, ℕ, inl, inr, IsTrue, Option, Some, Ok, Err, List, [], ◌∷◌, length, refl, sym, ◌∙◌, subst, ◌+◌, ◌-◌, ◌^◌, ◌≤◌, min, arith}
+use Rattle.std.proofs.Common.{◌≡◌, ℕ, inl, inr, IsTrue, Option, Some, Ok, Err, List, [], ◌∷◌, length, take, refl, sym, ◌∙◌, ap, subst, ◌+◌, ◌-◌, ◌^◌, ◌≤◌, min, arith}
+use Rattle.std.specs.Prelude.{slice_get}
 use Rattle.fl_base.specs.Causes.{Appends, Rose}
+use Rattle.fl_config.specs.Whole.{Makes}
 use Rattle.fl_config.specs.declared.image.ImageRefusal.{ImageRefusal}
 use Rattle.fl_config.specs.declared.image.ImageRefusal.TheVariants.{Media, Other}
 use Rattle.fl_flash.specs.Media.{MediaState}
 use Rattle.fl_image.specs.Image.{IsImageOf, OnlyLooksAt}
+use Rattle.fl_image.proofs.Made.{makes-of}
 use Rattle.fl_lines.specs.Stream.{LinesState}
 use Rattle.fl_machine.proofs.Accepted.{IsAccepted}
 use Rattle.fl_model.specs.Record.{Config}
-use Rattle.fl_session.specs.Ends.{Told, IsOther, IsUntouched, told_of}
+use Rattle.fl_session.specs.Ends.{Differs, Told, IsOther, IsUntouched, told_of}
 use Rattle.fl_session.specs.Opening.{MediaGoes, OpensAs}
 use Rattle.fl_session.proofs.NextCommand.{nothing-added}
 use Rattle.fl_words.specs.Config.{Lines, whole}
 use Rattle.fl_words.specs.Grammar.{lines_of}
+use Rattle.fl_words.specs.Medium.{header}
 use Rattle.fl_shell.specs.Ends.{BeginsWith, ShellEnds, Unbegun, UnbegunInto, none_pending}
 use Rattle.fl_shell.specs.Leading.{BeginsAs, Led, LedInto, LeavesOn, others_of}
 use Rattle.fl_shell.specs.Statuses.{opening_status}
@@ -99,7 +103,7 @@ begin-failed knots text old new state left told told_now flushed status none loo
     by_content [] e Unconfigured h = let k = h.0 in (none, (k.0, led-unbegun old new left told told_now (lines_of text) k.0 e looks.content k.1, k.2), h.1)
     by_content [] e other h = absurd h
     by_content (byte ∷ bytes) e NotImage h =
-        (none, some byte bytes e, untouched old new left told told_now looks.content h.1, inl (λ lines accepted image. h.0 lines accepted (subst (λ c. IsImageOf c lines) e image)))
+        (none, some byte bytes e, untouched old new left told told_now looks.content h.1, λ lines accepted image. h.0 lines accepted (subst (λ c. IsImageOf c lines) e image))
     by_content (byte ∷ bytes) e other h = subst (ShellEnds knots text (told_of old new left told told_now) flushed) (sym h.0) (none, inl (some byte bytes e, untouched old new left told told_now looks.content h.1))
 
 -- .. or there is no memory for a session
@@ -111,7 +115,20 @@ no-room knots text begun old new state left told told_now flushed none looks h =
     by_content [] e h = (none, inr (h.front, others_of begun (length text) state left h.leaves, h.split, (begun.config, led-unbegun old new left told told_now h.front begun.config e looks.content h.led)))
     by_content (byte ∷ bytes) e h = (none, inl (untouched old new left told told_now looks.content h.silent))
 
--- .. or the medium failed, or is no image
+-- a medium that is an image of a configuration isn't one of another
+differs-none : (a b : List ℕ) (at x y : ℕ) → a ≡ b → Differs a b at x y → ⊥
+differs-none a b at x y same h =
+    let both : Some x ≡ Some y = sym h.wanted_is ∙ (ap (λ l. slice_get l at) same ∙ h.found_is) in
+    let equal : x ≡ y = cc in
+    h.differ equal
+
+no-other : (lines : Lines) (config : Config) (content : List ℕ) (wanted found at : ℕ) → Makes lines config → IsImageOf content lines → IsOther config content wanted found at → ⊥
+no-other lines config content wanted found at makes image other = elim other.1 [
+  | inl k ↦ k.3 (k.0 ∙ (sym (image.size config makes) ∙ sym k.1))
+  | inr k ↦ differs-none (header config) (take 1024 content) at wanted found (sym (image.head.text config makes)) k.1
+]
+
+-- .. or the medium failed
 pub not-opened : (knots : ℕ) (text : List ℕ) (begun : Begun) (config : Config) (old looked new : MediaState) (state : LinesState) (left told told_now : Option (List ℕ)) (flushed : Flushed) (refusal : ImageRefusal) → flushed ≡ none_pending → IsTrue old.tells → OnlyLooksAt old looked →
     whole knots begun.config ≡ Some config → BeginsAs old.content (lines_of text) (length text) (Ok begun) state left told told_now → OpensAs config looked (Err refusal) new →
     ShellEnds knots text (told_of old new left told told_now) flushed (opening_status refusal)
@@ -131,14 +148,11 @@ not-opened knots text begun config old looked new state left told told_now flush
     )
 not-opened knots text begun config old looked new state left told told_now flushed (Other wanted found at) none tells looks w h opens =
     let looked_tells : IsTrue looked.tells = subst IsTrue (sym looks.tells) tells in
-    let other : IsOther config old.content wanted found at = subst (λ c. IsOther config c wanted found at) looks.content (opens.other looked_tells) in
-    by_content old.content refl h other (opens.kept looked_tells ∙ looks.content)
+    by_content old.content h (subst (λ c. IsOther config c wanted found at) looks.content (opens.other looked_tells))
   where
-    by_content : (content : List ℕ) → old.content ≡ content → BeginsAs content (lines_of text) (length text) (Ok begun) state left told told_now → IsOther config old.content wanted found at → new.content ≡ old.content →
-        ShellEnds knots text (told_of old new left told told_now) flushed NotImage
-    by_content [] e h other same = absurd (other.0 e)
-    by_content (byte ∷ bytes) e h other same =
-        (none, other.0, untouched old new left told told_now same h.silent, inr (begun.config, config, h.accepted, subst (λ c. IsImageOf c begun.config) (sym e) h.image, w, (wanted, found, at, other)))
+    by_content : (content : List ℕ) → BeginsAs content (lines_of text) (length text) (Ok begun) state left told told_now → IsOther config content wanted found at → ShellEnds knots text (told_of old new left told told_now) flushed NotImage
+    by_content [] h other = absurd (other.0 refl)
+    by_content (byte ∷ bytes) h other = absurd (no-other begun.config config (byte ∷ bytes) wanted found at (makes-of knots begun.config config w) h.image other)
 
 -- what fails is the medium
 pub open-rose : (config : Config) (old looked new : MediaState) (refusal : ImageRefusal) (status : ShellStatus) → status ≡ opening_status refusal → status ≡ MediaMake → old.faults ≤ looked.faults → OpensAs config looked (Err refusal) new → Rose old.faults new.faults

@@ -212,7 +212,7 @@ pub first-heard : {E : Type 0} (config : Config) (m : Machine) (name : List ℕ)
     (e : Executes {E = E} config m (groups_of name) stands flash flash_now (Some []) (Some kept.text) (Ok tt)) → ((said : List Reply) → BeginsShort said → kept.text ≡ texts said → Written told told_now result (first_text said)) →
     TellsFirst {E = E} config m name stands flash flash_now told told_now result
 first-heard {E} config m name stands flash flash_now kept told told_now result tables fit e written = record {
-  executes = unsaid {E = E} config m (groups_of name) stands flash flash_now (Some []) (Some kept.text) e;
+  executes = unsaid {E = E} config m (groups_of name) stands flash flash_now (Some []) (Some kept.text) (Ok tt) e;
   written = written e.moment.replies (first-replies config m e.moment name tables fit e.command_is e.step).1 (heard-all kept e.moment.replies e.told_all);
 }
 

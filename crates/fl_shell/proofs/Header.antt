@@ -9,13 +9,14 @@ use Rattle.fl_image.specs.declared.status.ToolStatus.TheVariants as tool
 use Rattle.fl_lines.specs.Stream.{LinesState}
 use Rattle.fl_words.specs.Config.{Lines}
 use Rattle.fl_words.specs.Grammar.{lines_of}
-use Rattle.fl_shell.specs.Leading.{BeginsAs}
+use Rattle.fl_shell.specs.Leading.{BeginsAs, LeavesOn}
 use Rattle.fl_shell.specs.Reading.{IsLeft, rest_in}
 use Rattle.fl_shell.specs.Statuses.{header_status}
 use Rattle.fl_shell.specs.Talking.{lines_from}
 use Rattle.fl_shell.specs.declared.begin.Begun.{Begun}
 use Rattle.fl_shell.specs.declared.end.ShellStatus.{ShellStatus}
 use Rattle.fl_shell.specs.declared.end.ShellStatus.TheVariants.{MediaMake, NotImage}
+use Rattle.fl_shell.specs.declared.talk.Next.{Next}
 use Rattle.fl_shell.specs.declared.talk.Next.TheVariants.{Unread, Ended}
 
 -- ---- why there is none
@@ -41,13 +42,21 @@ empty-at (byte ∷ bytes) n e none = absurd (omega (arith, e, none))
 pub some-at : (content : List ℕ) (n : ℕ) → n ≡ length content → (n ≡ 0 → ⊥) → content ≡ [] → ⊥
 some-at content n e some none = some (e ∙ ap length none)
 
--- the configuration is that of its header, and no line was read
+pub unread-ended : {A : Type 0} (next : Next) → next ≡ Unread → next ≡ Ended → A
+unread-ended next is ended = let odd : Unread ≡ Ended = sym is ∙ ended in cc
+
+-- no line was read
+abbrev pub header-leaves : (begun : Begun) (total : ℕ) (state : LinesState) (left : List ℕ) (left_now : Option (List ℕ)) → left_now ≡ Some left → IsLeft state left (2 ^ 44) total → begun.next ≡ Unread → LeavesOn begun total state left_now
+header-leaves begun total state left left_now is within next =
+    record { rest = left; rest_told = is; ended = λ e. unread-ended begun.next next e; within = λ e. within; hand = state.line; hand_is = inl refl }
+
+-- the configuration is that of its header
 pub header-begins : (content : List ℕ) (state : LinesState) (total : ℕ) (left : List ℕ) (left_now told : Option (List ℕ)) (before now : ℕ) (tells : Bool) (result : Result Begun ShellStatus) → IsTrue tells → (content ≡ [] → ⊥) → left_now ≡ Some left → IsLeft state left (2 ^ 44) total →
     IfOk result (λ begun. IsTrue tells → IsAccepted begun.config × IsImageOf content begun.config) → IfOk result (λ begun. begun.next ≡ Unread) → (result ≡ Err NotImage → IsTrue tells → (lines : Lines) → IsAccepted lines → IsImageOf content lines → ⊥) →
     IfErr result (λ status. (status ≡ NotImage) ⊎ ((status ≡ MediaMake) × Rose before now)) → BeginsAs content (lines_of (rest_in state left)) total result state left_now told told
 header-begins [] state total left left_now told before now tells result sure some is within image next none statuses = absurd (some refl)
 header-begins (byte ∷ bytes) state total left left_now told before now tells (Ok begun) sure some is within image next none statuses = record {
-  leaves = record { rest = left; rest_told = is; ended = λ e. let odd : Unread ≡ Ended = sym next ∙ e in cc; within = λ e. within; hand = state.line; hand_is = inl refl };
+  leaves = header-leaves begun total state left left_now is within next;
   others = ap (λ n. lines_from n state.line (lines_of (rest_in state left))) next;
   accepted = (image sure).0;
   image = (image sure).1;

@@ -2,11 +2,13 @@ pub mod Ran
 pub mod LongLines
 pub mod AnsweredLines
 pub mod ToldOfTable
+pub mod AlikeFlushes
 pub mod TableFlushes
 pub mod LineAnswer
 pub mod GroupLines
 pub mod FirstKey
 pub mod TalkLoop
+pub mod TalkEnds
 pub mod Newlines
 pub mod NextLine
 pub mod LeadingLines
@@ -16,3 +18,5 @@ pub mod EarlyEnds
 pub mod ShellEnds
 pub mod DescribedImage
 pub mod Header
+pub mod InputEnds
+pub mod CompleteEnds

@@ -1,23 +1,30 @@
 -- A run of some moments goes on.
-use Rattle.std.proofs.Common.{◌≡◌, ℕ, ◌+◌, ◌-◌, ◌*◌, ◌^◌, ◌<◌, ◌≤◌, Bool, None, Ok, Option, Some, List, [], ◌∷◌, ◌++◌, length, refl, sym, ◌∙◌, ap, subst, arith}
+use Rattle.std.proofs.Common.{◌≡◌, ℕ, ◌+◌, ◌-◌, ◌*◌, ◌^◌, ◌<◌, ◌≤◌, Bool, IsTrue, None, Ok, Option, Some, List, [], ◌∷◌, ◌++◌, length, refl, sym, ◌∙◌, ap, subst, arith}
 use Rattle.std.specs.Prelude.{IfSome, option_map, unwrap_or}
 use Rattle.std.proofs.lemmas.List.{map-append}
 use Rattle.std.proofs.Math.Nat.{mul-le-mul_right}
+use Rattle.fl_base.specs.Causes.{Rose}
 use Rattle.fl_flash.specs.Flash.{FlashState}
 use Rattle.fl_model.specs.Limits.{scan_limit}
 use Rattle.fl_model.specs.Record.{Config}
 use Rattle.fl_words.specs.Command.{Command}
 use Rattle.fl_machine.specs.Machine.{Machine}
-use Rattle.fl_machine.specs.Run.{end_of, commands_of}
-use Rattle.fl_machine.specs.Script.{Ran}
+use Rattle.fl_machine.specs.Run.{end_of, commands_of, risen_in}
+use Rattle.fl_machine.specs.Script.{KeepsReads, Ran}
 use Rattle.fl_machine.specs.Small.{AreTables}
-use Rattle.fl_machine.specs.Step.{Moment, Located, located}
+use Rattle.fl_machine.specs.Stays.{MomentStays}
+use Rattle.fl_machine.specs.Step.{Moment, Step, Located, located}
+use Rattle.fl_machine.proofs.BytesStay.{stays-more}
 use Rattle.fl_machine.proofs.FewReads.{most_of_a_scan, scan-of-name}
-use Rattle.fl_session.specs.Execute.{Executes, IsReady}
+use Rattle.fl_machine.proofs.KeptPuts.{keeps-puts}
+use Rattle.fl_machine.proofs.Steps.{finds}
+use Rattle.fl_session.specs.Execute.{Executes, IsAlike, IsReady, StandsAlike}
 use Rattle.fl_session.specs.Keys.{all_keys}
 use Rattle.fl_session.specs.Oldest.{reads_of}
-use Rattle.fl_session.proofs.NextCommand.{at_end, ran-none, ran-further, ran-further_moments}
+use Rattle.fl_session.proofs.NextCommand.{at_end, end_of-more, ran-none, ran-further, ran-further_moments, risen-more, rose-more, run-more}
+use Rattle.fl_session.proofs.RunEnds.{rose-earlier}
 use Rattle.fl_shell.specs.Flushing.{RanThese}
+use Rattle.fl_shell.specs.Talk.{RanOver}
 use Rattle.fl_shell.specs.Turning.{Looked}
 
 none-of : (moments : List Moment) → commands_of moments ≡ [] → moments ≡ []
@@ -61,6 +68,49 @@ ran-kept config old lines moments stands stands_now content faults flash flash_n
     let here' : stands_now (end_of old h.ran.moments) = subst (λ ms. stands_now (end_of old ms)) (sym h.are) here in
     let r = restood config old (commands_of moments) stands stands_now content flash.media.content faults flash.media.faults flash.media.faults h.ran (omega arith) here' in
     subst (λ f. RanThese config old lines moments stands_now content faults f) (sym same) (record { ran = r.0; are = r.1 ∙ h.are; counted = h.counted })
+
+-- ---- what a run says without its count of reads
+
+pub alike-same : (m : Machine) → IsAlike m m
+alike-same m = record { cost = refl; tables = refl; mounted = refl; device = refl }
+
+pub ran-over : (config : Config) (old : Machine) (lines : ℕ) (moments : List Moment) (stands : Machine → Type 0) (content : List ℕ) (faults : ℕ) (flash : FlashState) → RanThese config old lines moments stands content faults flash →
+    RanOver config old moments (StandsAlike stands) content flash.media.content faults flash.media.faults
+ran-over config old lines moments stands content faults flash h =
+    let end = end_of old h.ran.moments in
+    let over : RanOver config old h.ran.moments (StandsAlike stands) content flash.media.content faults flash.media.faults =
+    record { run = h.ran.run; stands_after = (end, h.ran.stands_after, alike-same end); stays = h.ran.stays; rose = h.ran.rose; found = h.ran.found; kept = h.ran.kept } in
+    subst (λ ms. RanOver config old ms (StandsAlike stands) content flash.media.content faults flash.media.faults) h.are over
+
+pub ran-reads : (config : Config) (old : Machine) (lines : ℕ) (moments : List Moment) (stands : Machine → Type 0) (content : List ℕ) (faults : ℕ) (flash : FlashState) → RanThese config old lines moments stands content faults flash → KeepsReads config old moments
+ran-reads config old lines moments stands content faults flash h = subst (λ ms. KeepsReads config old ms) h.are h.ran.reads
+
+-- it goes on by a moment
+pub over-more : (config : Config) (old : Machine) (moments : List Moment) (moment : Moment) (stands stands_now : Machine → Type 0) (content mid content_now : List ℕ) (faults before now : ℕ) → IsReady config old →
+    RanOver config old moments stands content mid faults before → Step config (end_of old moments) moment → MomentStays config (end_of old moments) moment mid content_now → before ≤ now → (IsTrue moment.rose → Rose before now) → stands_now moment.after →
+    RanOver config old (moments ++ moment ∷ []) stands_now content content_now faults now
+over-more config old moments moment stands stands_now content mid content_now faults before now ready h step stays later rose here =
+    let run = run-more config old moments moment h.run step in
+    record {
+      run = run;
+      stands_after = subst stands_now (sym (end_of-more old moments moment)) here;
+      stays = stays-more config old moments moment content mid content_now h.stays stays;
+      rose = rw risen-more (rose-more (risen_in moments) faults before now moment.rose h.rose later rose);
+      found = λ place. finds config old (moments ++ moment ∷ []) place ready.room ready.off ready.rest (ready.logs place) run;
+      kept = λ place. keeps-puts config old (moments ++ moment ∷ []) place ready.room ready.off ready.rest (ready.logs place) run;
+    }
+
+-- .. and is seen through another relation to the state after it, and the faults are counted from before
+pub over-seen : (config : Config) (old : Machine) (moments : List Moment) (stands stands_now : Machine → Type 0) (content content_now : List ℕ) (before mid now : ℕ) → ((m : Machine) → stands m → stands_now m) → before ≤ mid →
+    RanOver config old moments stands content content_now mid now → RanOver config old moments stands_now content content_now before now
+over-seen config old moments stands stands_now content content_now before mid now seen later h = record {
+  run = h.run;
+  stands_after = seen (end_of old moments) h.stands_after;
+  stays = h.stays;
+  rose = rose-earlier (risen_in moments) before mid now later h.rose;
+  found = h.found;
+  kept = h.kept;
+}
 
 -- ---- reads beside the commands
 

@@ -1,59 +1,32 @@
 -- How a shell ends over an image that was opened.
-use Rattle.std.proofs.Common.{◌≡◌, ℕ, ◌^◌, ◌≤◌, inl, true, false, IsTrue, Option, Some, None, Result, List, [], ◌++◌, length, lit≤, refl, sym, ◌∙◌, ap, subst, le_trans}
+use Rattle.std.proofs.Common.{◌≡◌, ℕ, ◌^◌, ◌≤◌, inl, true, false, IsTrue, Option, Some, None, Result, List, [], length, lit≤, refl, sym, ◌∙◌, ap, subst, le_trans, arith}
 use base.Fml.{GName}
 use Rattle.fl_flash.specs.Flash.{FlashState, Goes}
 use Rattle.fl_flash.specs.Media.{MediaState}
 use Rattle.fl_image.specs.Image.{OnlyLooksAt}
 use Rattle.fl_lines.specs.Stream.{LinesState}
 use Rattle.fl_machine.specs.Machine.{Machine}
-use Rattle.fl_machine.specs.Run.{commands_of}
 use Rattle.fl_machine.specs.Script.{StandsFor, StandsAfter}
 use Rattle.fl_model.specs.Record.{Config}
 use Rattle.fl_session.specs.Ends.{opened, told_of}
-use Rattle.fl_session.specs.Execute.{IsReady}
+use Rattle.fl_session.specs.Execute.{IsReady, StandsAlike}
 use Rattle.fl_session.specs.Opening.{KeepsForm, MediaGoes, Opened}
 use Rattle.fl_session.specs.Standing.{RestsTold}
-use Rattle.fl_session.proofs.RunEnds.{ran-earlier}
 use Rattle.fl_session.proofs.Over.{kept-formed}
-use Rattle.fl_session.proofs.Ready.{stands-ready}
+use Rattle.fl_session.proofs.Ready.{after-alike, stands-ready}
 use Rattle.fl_session.proofs.Rested.{opened-content, opened-formed, opened-rests}
 use Rattle.fl_words.specs.Grammar.{lines_of}
 use Rattle.fl_shell.specs.Ends.{Ended, ShellEnds}
 use Rattle.fl_shell.specs.Leading.{BeginsAs, others_of}
 use Rattle.fl_shell.specs.Reading.{IsLeft, rest_in}
 use Rattle.fl_shell.specs.Statuses.{IsOfSession}
-use Rattle.fl_shell.specs.Talk.{Talked, moments_of}
-use Rattle.fl_shell.specs.Talking.{MediumEnds, SessionEnds}
+use Rattle.fl_shell.specs.Talking.{MediumEnds}
 use Rattle.fl_shell.specs.declared.begin.Begun.{Begun}
 use Rattle.fl_shell.specs.declared.end.Flushed.{Flushed}
 use Rattle.fl_shell.specs.declared.end.ShellStatus.{ShellStatus}
 use Rattle.fl_shell.specs.declared.end.ShellStatus.TheVariants.{Done, InputRead, InputLong, OutWrite, Unflushed}
 use Rattle.fl_shell.proofs.EarlyEnds.{BeginsOn}
-use Rattle.fl_shell.proofs.TalkLoop.{medium-ends}
-use Rattle.fl_shell.proofs.AnsweredLines.{causes-earlier}
-
--- the faults are counted from before the image was opened
-talked-earlier : (config : Config) (old : Machine) (lines : List (List ℕ)) (flushed : Flushed) (stands : Machine → Type 0) (content content_now : List ℕ) (before mid now : ℕ) (told told_now : Option (List ℕ)) → before ≤ mid →
-    Talked config old lines flushed stands content content_now mid now told told_now → Talked config old lines flushed stands content content_now before now told told_now
-talked-earlier config old lines flushed stands content content_now before mid now told told_now later h = record {
-  turns = h.turns;
-  each = h.each;
-  flushes = h.flushes;
-  flushes_all = h.flushes_all;
-  ran = ran-earlier config old (commands_of (moments_of h.turns ++ h.flushes)) stands content content_now before mid now None None later h.ran;
-  moments_are = h.moments_are;
-  causes = causes-earlier before mid now h.turns later h.causes;
-  told_all = h.told_all;
-}
-
-medium-earlier : (config : Config) (old : Machine) (all : List (List ℕ)) (total : ℕ) (stands : Machine → Type 0) (content content_now : List ℕ) (before mid now : ℕ) (told told_now left_now : Option (List ℕ)) (flushed : Flushed) (status : ShellStatus) → before ≤ mid → IsOfSession status →
-    MediumEnds config old all total stands content content_now mid now told told_now left_now flushed status → MediumEnds config old all total stands content content_now before now told told_now left_now flushed status
-medium-earlier config old all total stands content content_now before mid now told told_now left_now flushed Done later of h = (talked-earlier config old all flushed stands content content_now before mid now told told_now later h.0, h.1, h.2)
-medium-earlier config old all total stands content content_now before mid now told told_now left_now flushed Unflushed later of h = (talked-earlier config old all flushed stands content content_now before mid now told told_now later h.0, h.1, h.2)
-medium-earlier config old all total stands content content_now before mid now told told_now left_now flushed OutWrite later of h = h
-medium-earlier config old all total stands content content_now before mid now told told_now left_now flushed InputRead later of h = (h.0, h.1, h.2, talked-earlier config old h.0 flushed stands content content_now before mid now told told_now later h.3)
-medium-earlier config old all total stands content content_now before mid now told told_now left_now flushed InputLong later of h = let k = h.1 in (h.0, (k.0, k.1, k.2, talked-earlier config old k.0 flushed stands content content_now before mid now told told_now later k.3))
-medium-earlier config old all total stands content content_now before mid now told told_now left_now flushed status later of h = absurd of
+use Rattle.fl_shell.proofs.TalkEnds.{medium-over}
 
 ended-over : (knots : ℕ) (text : List ℕ) (begun : Begun) (config : Config) (old looked made new : MediaState) (state : LinesState) (left left_now told told_mid told_now : Option (List ℕ)) (origin : GName) (flushed : Flushed) (status : ShellStatus) → IsTrue old.tells → OnlyLooksAt old looked →
     (b : BeginsOn knots old.content (lines_of text) (length text) begun config state left told told_mid) → Opened config looked made → MediaGoes looked made → KeepsForm made new → IsOfSession status →
@@ -77,7 +50,7 @@ ended-over knots text begun config old looked made new state left left_now told 
       talks = λ m stood.
           let rests : RestsTold config made m = (made_tells, opened-rests config looked made f m refl refl refl b.accepted.room looked_tells opens (subst (λ c. StandsFor config c m) (sym looks.content) stood)) in
           subst (λ c. MediumEnds config m others (length text) (StandsAfter config (Some new.content)) c new.content old.faults new.faults told_mid told_now left_now flushed status) is
-          (medium-earlier config m others (length text) (StandsAfter config (Some new.content)) made.content new.content old.faults made.faults new.faults told_mid told_now left_now flushed status (le_trans looks.later goes.faults) of
+          (medium-over config m others (length text) (StandsAfter config (Some new.content)) (StandsAfter config (Some new.content)) made.content new.content old.faults made.faults new.faults told_mid told_now left_now flushed status (λ x stands. stands) (le_trans looks.later goes.faults)
           (talks m (stands-ready config old.content m b.accepted stood) rests));
     }
 
@@ -101,13 +74,14 @@ shell-ends knots text begun config old looked made new state left left_now told 
 -- ---- a session over the medium
 
 -- what a session did, seen as its medium is given back
-pub over-medium : (config : Config) (old : Machine) (all : List (List ℕ)) (total : ℕ) (stands : Machine → Type 0) (f f' : FlashState) (before after : MediaState) (told told_now left_now : Option (List ℕ)) (flushed : Flushed) (status : ShellStatus) → Goes f f' → f.media ≡ before → after ≡ f'.media →
-    ((m : Machine) → stands m → StandsAfter config (Some after.content) m) → IsOfSession status → SessionEnds config old all total stands f.media.content f.media.faults f' told told_now left_now flushed status →
+pub over-medium : (config : Config) (old : Machine) (all : List (List ℕ)) (total : ℕ) (stands : Machine → Type 0) (f f' : FlashState) (before after : MediaState) (told told_now left_now : Option (List ℕ)) (flushed : Flushed) (status : ShellStatus) → f.media ≡ before → after ≡ f'.media →
+    ((m : Machine) → stands m → StandsAfter config (Some after.content) m) → MediumEnds config old all total (StandsAlike stands) f.media.content f'.media.content f.media.faults f'.media.faults told told_now left_now flushed status →
     MediumEnds config old all total (StandsAfter config (Some after.content)) before.content after.content before.faults after.faults told told_now left_now flushed status
-over-medium config old all total stands f f' before after told told_now left_now flushed status goes is after_is seen of h =
+over-medium config old all total stands f f' before after told told_now left_now flushed status is after_is seen h =
     subst (λ (x : MediaState). MediumEnds config old all total (StandsAfter config (Some after.content)) x.content after.content x.faults after.faults told told_now left_now flushed status) is
     (subst (λ (y : MediaState). MediumEnds config old all total (StandsAfter config (Some after.content)) f.media.content y.content f.media.faults y.faults told told_now left_now flushed status) (sym after_is)
-    (medium-ends config old all total stands (StandsAfter config (Some after.content)) f.media.content f.media.faults f' told told_now left_now flushed status seen of h))
+    (medium-over config old all total (StandsAlike stands) (StandsAfter config (Some after.content)) f.media.content f'.media.content f.media.faults f.media.faults f'.media.faults told told_now left_now flushed status
+    (after-alike config (Some after.content) stands seen) (omega arith) h))
 
 pub over-goes : (f f' : FlashState) (before after : MediaState) → f.media ≡ before → after ≡ f'.media → Goes f f' → MediaGoes before after
 over-goes f f' before after is after_is goes = subst (λ x. MediaGoes x after) is (subst (λ y. MediaGoes f.media y) (sym after_is) (record { tells = goes.tells; faults = goes.faults }))

@@ -1,10 +1,10 @@
 -- The flush of a table, and of one after another.
 use Rattle.std.proofs.Common.{◌≡◌, ℕ, zero, suc, ◌+◌, ◌-◌, ◌^◌, ◌<◌, ◌≤◌, min, Bool, true, false, inl, inr, Option, Some, None, Ok, Err, List, [], ◌∷◌, ◌++◌, length, map, take, sum_by, lit≤, refl, sym, ◌∙◌, ap, subst, append_assoc, append-nil, length-append, arith}
-use Rattle.std.specs.Prelude.{MatchBool, MatchOption, IfSome, ◌⊎◌, if◌then◌else◌, slice_get}
+use Rattle.std.specs.Prelude.{MatchBool, MatchOption, IfSome, OnErr, OnOk, Result, ◌⊎◌, if◌then◌else◌, slice_get}
 use Rattle.std.proofs.lemmas.Bool.{ne_eqb}
 use Rattle.fl_base.specs.declared.stream.SinkFailed.{SinkFailed}
 use Rattle.std.specs.List.{AllByRecursion}
-use Rattle.std.proofs.lemmas.List.{map-append, length-map, take_all}
+use Rattle.std.proofs.lemmas.List.{map-append, take_all}
 use Rattle.std.proofs.lemmas.List.Sums.{sum_by-append}
 use Rattle.fl_base.specs.Causes.{HasCause, Appends, AppendsFront}
 use Rattle.fl_flash.specs.Flash.{FlashState}
@@ -15,16 +15,16 @@ use Rattle.fl_words.specs.Command.{Command}
 use Rattle.fl_words.specs.Reply as reply
 use Rattle.fl_words.specs.Reply.{Reply, texts, text}
 use Rattle.fl_machine.specs.Machine.{Machine}
+use Rattle.fl_machine.specs.Reads.{none_read}
 use Rattle.fl_machine.specs.Run.{end_of, commands_of}
-use Rattle.fl_machine.specs.Small.{AreTables}
 use Rattle.fl_machine.specs.Step.{Moment, Step, StepOf, Located, located, Says, EndsAs, FlushStep}
-use Rattle.fl_session.specs.Execute.{Executes, IsReady}
-use Rattle.fl_shell.specs.Flushing.{RanThese, FlushesOne, FlushesBehind}
+use Rattle.fl_session.specs.Execute.{Executes, IsReady, StandsAlike}
+use Rattle.fl_shell.specs.Flushing.{FlushesOne, FlushesBehind}
 use Rattle.fl_shell.specs.Heard.{Kept, IsFullOnFault}
-use Rattle.fl_shell.specs.Talk.{IsDone, flush_of, pending_rows, flushes_of, FlushesAll}
+use Rattle.fl_shell.specs.Talk.{IsDone, RanOver, flush_of, pending_rows, flushes_of, FlushesAll}
 use Rattle.fl_config.proofs.Names.{bytes_equal-same}
 use Rattle.fl_model.specs.Record.{bytes_equal}
-use Rattle.fl_shell.proofs.Ran.{ran-goes_on, ran-stands}
+use Rattle.fl_shell.proofs.AlikeFlushes.{flush-goes_on, pending-stands}
 
 -- ---- a reply that is kept
 
@@ -61,9 +61,19 @@ heard-over kept replies error full cause wrote =
     let long : length kept.text ≡ 512 = full some in
     omega (arith, long, ap length same, ap length wrote.1.1, length-append wrote.0 wrote.1.0)
 
+-- where nothing is told, nothing is said of it
+abbrev pub none-told : {E : Type 0} (result : Result (Unit {0}) E) (text : List ℕ) → OnOk result (Appends None None text)
+none-told (Ok done) text = tt
+none-told (Err failed) text = tt
+
+abbrev pub none-told_front : {E : Type 0} (result : Result (Unit {0}) E) (text : List ℕ) → OnErr result (AppendsFront None None text)
+none-told_front (Ok done) text = tt
+none-told_front (Err failed) text = ([], (text, refl), tt)
+
 -- a command whose replies aren't handed on
-abbrev pub unsaid : {E : Type 0} (config : Config) (old : Machine) (c : Command) (stands : Machine → Type 0) (flash flash_now : FlashState) (told told_now : Option (List ℕ)) → Executes {E = E} config old c stands flash flash_now told told_now (Ok tt) → Executes {E = E} config old c stands flash flash_now None None (Ok tt)
-unsaid config old c stands flash flash_now told told_now e = record {
+abbrev pub unsaid : {E : Type 0} (config : Config) (old : Machine) (c : Command) (stands : Machine → Type 0) (flash flash_now : FlashState) (told told_now : Option (List ℕ)) (result : Result (Unit {0}) E) →
+    Executes {E = E} config old c stands flash flash_now told told_now result → Executes {E = E} config old c stands flash flash_now None None result
+unsaid {E} config old c stands flash flash_now told told_now result e = record {
   moment = e.moment;
   command_is = e.command_is;
   step = e.step;
@@ -75,36 +85,34 @@ unsaid config old c stands flash flash_now told told_now e = record {
   stated = e.stated;
   stays = e.stays;
   rose = e.rose;
-  told_all = tt;
-  told_front = tt;
+  told_all = none-told {E = E} result (texts e.moment.replies);
+  told_front = none-told_front {E = E} result (texts e.moment.replies);
 }
 
 -- ---- one after another
 
-more-lines : (lines a b : ℕ) → b ≡ a + 1 → lines + a + 1 ≡ lines + b
-more-lines lines a b e = omega (arith, e)
-
 -- none was flushed yet
-pub none-flushed : (config : Config) (old : Machine) (lines : ℕ) (moments : List Moment) (stands : Machine → Type 0) (content : List ℕ) (faults : ℕ) (flash : FlashState) → RanThese config old lines moments stands content faults flash → RanThese config old (lines + 0) (moments ++ []) stands content faults flash
-none-flushed config old lines moments stands content faults flash h =
-    let same : lines ≡ lines + 0 = omega arith in
-    subst (λ n. RanThese config old n (moments ++ []) stands content faults flash) same (subst (λ ms. RanThese config old lines ms stands content faults flash) (sym (append-nil moments)) h)
+pub none-flushed : (config : Config) (old : Machine) (moments : List Moment) (stands : Machine → Type 0) (content content_now : List ℕ) (faults faults_now : ℕ) → RanOver config old moments stands content content_now faults faults_now →
+    RanOver config old (moments ++ []) stands content content_now faults faults_now
+none-flushed config old moments stands content content_now faults faults_now h = subst (λ ms. RanOver config old ms stands content content_now faults faults_now) (sym (append-nil moments)) h
 
 -- what was flushed so far
-pub record FlushedSoFar (config : Config) (old : Machine) (lines : ℕ) (moments : List Moment) (commands : List Command) (stands : Machine → Type 0) (content : List ℕ) (faults : ℕ) (flash : FlashState) (done : Bool) : Type 0 where
+pub record FlushedSoFar (config : Config) (old : Machine) (moments : List Moment) (commands : List Command) (stands : Machine → Type 0) (content content_now : List ℕ) (faults faults_now : ℕ) (done : Bool) : Type 0 where
   pub flushes : List Moment
   pub commands_are : commands_of flushes ≡ commands
   pub is_done : done ≡ true → AllByRecursion IsDone flushes
   pub is_undone : done ≡ false → AllByRecursion IsDone flushes → ⊥
-  pub runs : RanThese config old (lines + length flushes) (moments ++ flushes) stands content faults flash
+  pub ran : RanOver config old (moments ++ flushes) stands content content_now faults faults_now
+  pub unread : AllByRecursion none_read flushes
 
-pub flushed-none : (config : Config) (old : Machine) (lines : ℕ) (moments : List Moment) (stands : Machine → Type 0) (content : List ℕ) (faults : ℕ) (flash : FlashState) → RanThese config old lines moments stands content faults flash → FlushedSoFar config old lines moments [] stands content faults flash true
-flushed-none config old lines moments stands content faults flash h =
-    record { flushes = []; commands_are = refl; is_done = λ e. tt; is_undone = λ e. cc; runs = none-flushed config old lines moments stands content faults flash h }
+pub flushed-none : (config : Config) (old : Machine) (moments : List Moment) (stands : Machine → Type 0) (content content_now : List ℕ) (faults faults_now : ℕ) → RanOver config old moments stands content content_now faults faults_now →
+    FlushedSoFar config old moments [] stands content content_now faults faults_now true
+flushed-none config old moments stands content content_now faults faults_now h =
+    record { flushes = []; commands_are = refl; is_done = λ e. tt; is_undone = λ e. cc; ran = none-flushed config old moments stands content content_now faults faults_now h; unread = tt }
 
-all-more : (flushes : List Moment) (moment : Moment) → AllByRecursion IsDone flushes → IsDone moment → AllByRecursion IsDone (flushes ++ moment ∷ [])
-all-more [] moment all one = (one, tt)
-all-more (m ∷ flushes) moment all one = (all.0, all-more flushes moment all.1 one)
+all-more : (P : Moment → Type 0) (flushes : List Moment) (moment : Moment) → AllByRecursion P flushes → P moment → AllByRecursion P (flushes ++ moment ∷ [])
+all-more P [] moment all one = (one, tt)
+all-more P (m ∷ flushes) moment all one = (all.0, all-more P flushes moment all.1 one)
 
 all-before : (flushes : List Moment) (moment : Moment) → AllByRecursion IsDone (flushes ++ moment ∷ []) → AllByRecursion IsDone flushes
 all-before [] moment all = tt
@@ -123,22 +131,18 @@ one-undone : (a b : Bool) → (if a then b else false) ≡ false → (a ≡ fals
 one-undone true b e = inr e
 one-undone false b e = inl refl
 
-pub flushed-more : (config : Config) (old : Machine) (lines : ℕ) (moments : List Moment) (commands : List Command) (name : List ℕ) (stands stands_now : Machine → Type 0) (content : List ℕ) (faults : ℕ) (flash flash_now : FlashState) (done one : Bool) →
-    IsReady config old → lines + length commands < 2 ^ 44 + 2 ^ 10 → ((m : Machine) → stands m → AreTables config.plans m.tables) → flash.media.faults ≤ flash_now.media.faults →
-    FlushedSoFar config old lines moments commands stands content faults flash done → ((m : Machine) → stands m → FlushesOne config m name stands_now flash flash_now one) →
-    FlushedSoFar config old lines moments (commands ++ command.Flush name ∷ []) stands_now content faults flash_now (if done then one else false)
-flushed-more config old lines moments commands name stands stands_now content faults flash flash_now done one ready few hold later h flush =
-    let Told : Moment → Type 0 = λ moment. (one ≡ true → IsDone moment) × (one ≡ false → IsDone moment → ⊥) in
-    let many : length h.flushes ≡ length commands = sym (length-map h.flushes (λ (m : Moment). m.command)) ∙ ap length h.commands_are in
-    let g = ran-goes_on {E = SinkFailed} config old (lines + length h.flushes) (moments ++ h.flushes) (command.Flush name) stands stands_now content faults flash flash_now Told ready (omega (arith, few, many)) hold later h.runs
-    (λ m here. (flush m here).executes) (λ m here is. ((flush m here).is_done, (flush m here).is_undone)) in
+pub flushed-more : (config : Config) (old : Machine) (moments : List Moment) (commands : List Command) (name : List ℕ) (stands stands_now : Machine → Type 0) (content : List ℕ) (faults : ℕ) (flash flash_now : FlashState) (done one : Bool) →
+    IsReady config old → flash.media.faults ≤ flash_now.media.faults → FlushedSoFar config old moments commands (StandsAlike stands) content flash.media.content faults flash.media.faults done → ((m : Machine) → stands m → FlushesOne config m name stands_now flash flash_now one) →
+    FlushedSoFar config old moments (commands ++ command.Flush name ∷ []) (StandsAlike stands_now) content flash_now.media.content faults flash_now.media.faults (if done then one else false)
+flushed-more config old moments commands name stands stands_now content faults flash flash_now done one ready later h flush =
+    let g = flush-goes_on config old (moments ++ h.flushes) name stands stands_now content faults flash flash_now one ready later h.ran flush in
     record {
       flushes = h.flushes ++ g.0 ∷ [];
-      commands_are = map-append (λ (m : Moment). m.command) h.flushes (g.0 ∷ []) ∙ (ap (λ cs. cs ++ g.0.command ∷ []) h.commands_are ∙ ap (λ c. commands ++ c ∷ []) g.2);
-      is_done = λ e. let b = both-done done one e in all-more h.flushes g.0 (h.is_done b.0) (g.1.0 b.1);
-      is_undone = λ e all. elim (one-undone done one e) [ inl a ↦ h.is_undone a (all-before h.flushes g.0 all) | inr b ↦ g.1.1 b (all-last h.flushes g.0 all) ];
-      runs = subst (λ n. RanThese config old n (moments ++ (h.flushes ++ g.0 ∷ [])) stands_now content faults flash_now) (more-lines lines (length h.flushes) (length (h.flushes ++ g.0 ∷ [])) (length-append h.flushes (g.0 ∷ [])))
-          (subst (λ ms. RanThese config old (lines + length h.flushes + 1) ms stands_now content faults flash_now) (append_assoc moments h.flushes (g.0 ∷ [])) g.3);
+      commands_are = map-append (λ (m : Moment). m.command) h.flushes (g.0 ∷ []) ∙ (ap (λ cs. cs ++ g.0.command ∷ []) h.commands_are ∙ ap (λ c. commands ++ c ∷ []) g.1);
+      is_done = λ e. let b = both-done done one e in all-more IsDone h.flushes g.0 (h.is_done b.0) (g.2 b.1);
+      is_undone = λ e all. elim (one-undone done one e) [ inl a ↦ h.is_undone a (all-before h.flushes g.0 all) | inr b ↦ g.3 b (all-last h.flushes g.0 all) ];
+      ran = subst (λ ms. RanOver config old ms (StandsAlike stands_now) content flash_now.media.content faults flash_now.media.faults) (append_assoc moments h.flushes (g.0 ∷ [])) g.5;
+      unread = all-more none_read h.flushes g.0 h.unread g.4;
     }
 
 -- one table more
@@ -183,13 +187,13 @@ some-pending : (config : Config) (m : Machine) (n : ℕ) → n ≡ pending_rows 
 some-pending config m n is some = ap (λ (b : Bool). if b then [] else map flush_of config.plans) (ne_eqb (pending_rows config m) 0 (λ e. some (is ∙ e)))
 
 -- each table was flushed
-pub flushed-all : (config : Config) (old : Machine) (lines : ℕ) (moments : List Moment) (stands : Machine → Type 0) (content : List ℕ) (faults : ℕ) (flash : FlashState) (pending left : ℕ) (done all : Bool) →
-    (h : FlushedSoFar config old lines moments (map flush_of config.plans) stands content faults flash done) → pending ≡ pending_rows config (end_of old moments) → (pending ≡ 0 → ⊥) → ((m : Machine) → stands m → left ≡ pending_rows config m) →
+pub flushed-all : (config : Config) (old : Machine) (moments : List Moment) (stands : Machine → Type 0) (content content_now : List ℕ) (faults faults_now pending left : ℕ) (done all : Bool) →
+    (h : FlushedSoFar config old moments (map flush_of config.plans) (StandsAlike stands) content content_now faults faults_now done) → pending ≡ pending_rows config (end_of old moments) → (pending ≡ 0 → ⊥) → ((m : Machine) → stands m → left ≡ pending_rows config m) →
     (all ≡ true → (done ≡ true) × (left ≡ 0)) → (all ≡ false → (done ≡ false) ⊎ (left ≡ 0 → ⊥)) →
-    FlushesBehind config old lines moments stands content faults flash (record { pending = pending; all = all })
-flushed-all config old lines moments stands content faults flash pending left done all h is some left_is if_all if_not =
-    let here : stands (end_of old (moments ++ h.flushes)) = ran-stands config old (lines + length h.flushes) (moments ++ h.flushes) stands content faults flash h.runs in
-    let left_here : left ≡ pending_rows config (end_of (end_of old moments) h.flushes) = left_is (end_of old (moments ++ h.flushes)) here ∙ ap (pending_rows config) (end_of-append old moments h.flushes) in
+    FlushesBehind config old moments (StandsAlike stands) content content_now faults faults_now (record { pending = pending; all = all })
+flushed-all config old moments stands content content_now faults faults_now pending left done all h is some left_is if_all if_not =
+    let left_here : left ≡ pending_rows config (end_of (end_of old moments) h.flushes) =
+    pending-stands config stands (end_of old (moments ++ h.flushes)) left left_is h.ran.stands_after ∙ ap (pending_rows config) (end_of-append old moments h.flushes) in
     record {
       flushes = h.flushes;
       flushes_all = record {
@@ -198,7 +202,8 @@ flushed-all config old lines moments stands content faults flash pending left do
         done = λ e. (h.is_done (if_all e).0, sym left_here ∙ (if_all e).1);
         undone = λ e both. elim (if_not e) [ inl a ↦ h.is_undone a both.0 | inr b ↦ b (left_here ∙ both.1) ];
       };
-      runs = h.runs;
+      ran = h.ran;
+      unread = h.unread;
     }
 
 -- ---- the answer to a flush
@@ -218,7 +223,7 @@ pub flushed-one : (config : Config) (m : Machine) (name : List ℕ) (stands : Ma
 flushed-one config m name stands flash flash_now kept done e is =
     let all : kept.text ≡ texts e.moment.replies = heard-all kept e.moment.replies e.told_all in
     record {
-      executes = unsaid config m (command.Flush name) stands flash flash_now (Some []) (Some kept.text) e;
+      executes = unsaid {E = SinkFailed} config m (command.Flush name) stands flash flash_now (Some []) (Some kept.text) (Ok tt) e;
       is_done = λ said. heard-done kept.text e.moment all (sym is ∙ said);
       is_undone = λ said. heard-undone kept.text e.moment all (sym is ∙ said);
     }
@@ -232,7 +237,7 @@ flush-heard {T} config m name stands flash flash_now kept error e full cause =
     omega (arith, short, long)
 
 -- when the loop over the tables has ended
-pub all-plans : (config : Config) (old : Machine) (lines : ℕ) (moments : List Moment) (plans : List Plan) (at : ℕ) (stands : Machine → Type 0) (content : List ℕ) (faults : ℕ) (flash : FlashState) (done : Bool) → length plans ≤ at → config.plans ≡ plans →
-    FlushedSoFar config old lines moments (map flush_of (take at plans)) stands content faults flash done → FlushedSoFar config old lines moments (map flush_of config.plans) stands content faults flash done
-all-plans config old lines moments plans at stands content faults flash done end same h =
-    subst (λ ps. FlushedSoFar config old lines moments (map flush_of ps) stands content faults flash done) (take_all at plans end ∙ sym same) h
+pub all-plans : (config : Config) (old : Machine) (moments : List Moment) (plans : List Plan) (at : ℕ) (stands : Machine → Type 0) (content content_now : List ℕ) (faults faults_now : ℕ) (done : Bool) → length plans ≤ at → config.plans ≡ plans →
+    FlushedSoFar config old moments (map flush_of (take at plans)) stands content content_now faults faults_now done → FlushedSoFar config old moments (map flush_of config.plans) stands content content_now faults faults_now done
+all-plans config old moments plans at stands content content_now faults faults_now done end same h =
+    subst (λ ps. FlushedSoFar config old moments (map flush_of ps) stands content content_now faults faults_now done) (take_all at plans end ∙ sym same) h

@@ -9,23 +9,19 @@ use Rattle.fl_lines.specs.declared.lines.LinesFault.TheVariants.{Failed, Long}
 use Rattle.fl_model.specs.Record.{Config}
 use Rattle.fl_words.specs.Grammar.{lines_of}
 use Rattle.fl_machine.specs.Machine.{Machine}
-use Rattle.fl_machine.specs.Run.{end_of, commands_of}
+use Rattle.fl_machine.specs.Run.{end_of}
 use Rattle.fl_machine.specs.Script.{runs}
 use Rattle.fl_machine.specs.Small.{AreTables}
-use Rattle.fl_machine.specs.Step.{Moment}
-use Rattle.fl_session.specs.Execute.{IsReady}
-use Rattle.fl_shell.specs.Flushing.{FlushesBehind, RanThese}
+use Rattle.fl_session.specs.Execute.{IsReady, StandsAlike}
 use Rattle.fl_shell.specs.Reading.{AsksNext, IsGivenAs, IsLeft, rest_in}
-use Rattle.fl_shell.specs.Statuses.{IsOfSession, IsOfTalk, behind, reading_status}
-use Rattle.fl_shell.specs.Talk.{Answers, AnswersAs, AnswersEach, AnswersRun, Talked, Turn, after_turn, answers_of, moments_of, moments_onto}
-use Rattle.fl_shell.specs.Talking.{MediumEnds, SessionDone, SessionEnds, TalkEnds, TalkedFew, TalkedSoFar, with_hand}
+use Rattle.fl_shell.specs.Statuses.{reading_status}
+use Rattle.fl_shell.specs.Talk.{Answers, AnswersAs, AnswersRun, Turn, answers_of, moments_of}
+use Rattle.fl_shell.specs.Talking.{Answered, OfFront, TalkEnds, TalkedSoFar, with_hand}
 use Rattle.fl_shell.specs.Turning.{Says, Turns, TurnsIf, command_by, command_for}
-use Rattle.fl_shell.specs.declared.end.Flushed.{Flushed}
-use Rattle.fl_shell.specs.declared.end.ShellStatus.{ShellStatus}
-use Rattle.fl_shell.specs.declared.end.ShellStatus.TheVariants.{Done, InputRead, OutWrite, InputLong, Unflushed}
+use Rattle.fl_shell.specs.declared.end.ShellStatus.TheVariants.{Done, OutWrite}
 use Rattle.fl_shell.proofs.LongLines.{long-own, long-runs}
-use Rattle.fl_shell.proofs.Ran.{ran-kept, ran-stands, restood}
-use Rattle.fl_shell.proofs.AnsweredLines.{causes-later, talked-more, talked-into, talked-none}
+use Rattle.fl_shell.proofs.Ran.{ran-kept, ran-stands}
+use Rattle.fl_shell.proofs.AnsweredLines.{answered-into, answered-whole, causes-later, talked-more, talked-none}
 
 -- ---- a line that is too long
 
@@ -135,17 +131,17 @@ hand-answered E config old all total stands stands_now content faults flash flas
 
 -- the sink fails in its answer
 pub hand-into : {E : Type 0} (config : Config) (old : Machine) (all : List (List ℕ)) (total : ℕ) (stands stands_now : Machine → Type 0) (content : List ℕ) (faults : ℕ) (flash flash_now : FlashState) (told told_mid told_now left_now : Option (List ℕ)) (has_line : Bool) (state : LinesState) (left : Option (List ℕ)) (error : E) →
-    InHand config old all total stands content faults flash told told_mid has_line state left →
+    IsReady config old → ((m : Machine) → stands m → AreTables config.plans m.tables) → flash.media.faults ≤ flash_now.media.faults → InHand config old all total stands content faults flash told told_mid has_line state left →
     ((m : Machine) → stands m → TurnsIf {E = E} has_line config m state.line (command_for state.line) stands_now flash flash_now told_mid told_now (Err error)) →
-    TalkEnds config old all total stands_now content faults flash_now told told_now left_now OutWrite
-hand-into {E} config old all total stands stands_now content faults flash flash_now told told_mid told_now left_now true state left error h turn_at = (
+    TalkEnds config old all total (StandsAlike stands_now) content flash_now.media.content faults flash_now.media.faults told told_now left_now OutWrite
+hand-into {E} config old all total stands stands_now content faults flash flash_now told told_mid told_now left_now true state left error ready hold later h turn_at = (
   h.given ++ h.hand ∷ [],
   lines_of (rest_in state h.rest),
   append_assoc h.given (h.hand ∷ []) (lines_of (rest_in state h.rest)) ∙ h.order,
-  talked-into {E = E} config old h.given stands stands_now content faults flash flash_now told told_mid told_now h.hand (command_for h.hand) error h.so_far
+  answered-into {E = E} config old h.given stands stands_now content faults flash flash_now told told_mid told_now h.hand (command_for h.hand) error ready hold later h.so_far
       (λ m here. turns-as {E = E} config m h.hand state.line stands_now flash flash_now told_mid told_now (Err error) h.hand_is (turn_at m here)),
 )
-hand-into {E} config old all total stands stands_now content faults flash flash_now told told_mid told_now left_now false state left error h turn_at =
+hand-into {E} config old all total stands stands_now content faults flash flash_now told told_mid told_now left_now false state left error ready hold later h turn_at =
     let t = turn_at (end_of old (moments_of h.so_far.turns)) (ran-stands config old (length h.given) (moments_of h.so_far.turns) stands content faults flash h.so_far.runs) in
     let wrong : Err error ≡ Ok tt = t.3 in
     cc
@@ -170,80 +166,30 @@ between-next config old all total stands content faults flash told told_now stat
 
 -- .. or none is left
 pub between-done : (config : Config) (old : Machine) (all : List (List ℕ)) (total : ℕ) (stands : Machine → Type 0) (content : List ℕ) (faults : ℕ) (flash : FlashState) (told told_now : Option (List ℕ)) (state new : LinesState) (left left_now : Option (List ℕ)) (source source_now : ℕ) →
-    Between config old all total stands content faults flash told told_now state left → AsksNext state left source (Ok false) new left_now source_now → TalkEnds config old all total stands content faults flash told told_now left_now Done
+    Between config old all total stands content faults flash told told_now state left → AsksNext state left source (Ok false) new left_now source_now →
+    TalkEnds config old all total (StandsAlike stands) content flash.media.content faults flash.media.faults told told_now left_now Done
 between-done config old all total stands content faults flash told told_now state new left left_now source source_now h asks =
     let g = asks.gives h.rest h.rest_told (2 ^ 44) total h.within in
-    let same : h.given ≡ all = sym (append-nil h.given) ∙ (ap (λ ls. h.given ++ ls) (sym g.2.0) ∙ h.order) in
-    let few : length h.given ≤ 2 ^ 44 + 1 = omega (arith, h.few) in
-    (subst (λ lines. TalkedFew config old lines stands content faults flash told told_now) same (h.so_far, few), g.1 ∙ ap Some g.2.1)
+    let same : h.given ≡ all = sym (append-nil h.given) ∙ (ap (λ ls. h.given ++ ls) (sym g.2.0) ∙ h.order) in (
+      subst (λ lines. Answered config old lines true (StandsAlike stands) content flash.media.content faults flash.media.faults told told_now) same (answered-whole config old h.given stands content faults flash told told_now h.so_far),
+      g.1 ∙ ap Some g.2.1,
+    )
 
 -- .. or the input fails
 pub between-failed : (config : Config) (old : Machine) (all : List (List ℕ)) (total : ℕ) (stands : Machine → Type 0) (content : List ℕ) (faults : ℕ) (flash : FlashState) (told told_now : Option (List ℕ)) (state new : LinesState) (left left_now : Option (List ℕ)) (source source_now : ℕ) (fault : LinesFault) →
-    Between config old all total stands content faults flash told told_now state left → AsksNext state left source (Err fault) new left_now source_now → TalkEnds config old all total stands content faults flash told told_now left_now (reading_status fault)
-between-failed config old all total stands content faults flash told told_now state new left left_now source source_now Failed h asks =
-    (h.given, lines_of (rest_in state h.rest), h.order, (h.so_far, omega (arith, h.few)))
-between-failed config old all total stands content faults flash told told_now state new left left_now source source_now Long h asks =
-    let g = asks.gives h.rest h.rest_told (2 ^ 44) total h.within in
-    (g.2, (h.given, lines_of (rest_in state h.rest), h.order, (h.so_far, omega (arith, h.few))))
-
--- ---- and the flush
-
-done-flushed : (config : Config) (old : Machine) (lines : List (List ℕ)) (stands stands_now : Machine → Type 0) (content : List ℕ) (faults : ℕ) (flash flash_now : FlashState) (told told_now : Option (List ℕ)) (flushed : Flushed) → flash.media.faults ≤ flash_now.media.faults →
-    (h : TalkedSoFar config old lines stands content faults flash told told_now) → FlushesBehind config old (length lines) (moments_of h.turns) stands_now content faults flash_now flushed → SessionDone config old lines stands_now content faults flash_now told told_now flushed
-done-flushed config old lines stands stands_now content faults flash flash_now told told_now flushed later h f =
-    record { turns = h.turns; each = h.each; flushes = f.flushes; flushes_all = f.flushes_all; runs = f.runs; causes = causes-later faults flash.media.faults flash_now.media.faults h.turns later h.causes; told_all = h.told_all }
-
--- how the flush ends a session
-pub session-ends : (config : Config) (old : Machine) (all : List (List ℕ)) (total : ℕ) (stands stands_now : Machine → Type 0) (content : List ℕ) (faults : ℕ) (flash flash_now : FlashState) (told told_now left_now : Option (List ℕ)) (flushed : Flushed) (status : ShellStatus) →
-    IsOfTalk status → flash.media.faults ≤ flash_now.media.faults → TalkEnds config old all total stands content faults flash told told_now left_now status →
-    ((lines : ℕ) (moments : List Moment) → lines ≤ 2 ^ 44 + 1 → RanThese config old lines moments stands content faults flash → FlushesBehind config old lines moments stands_now content faults flash_now flushed) →
-    SessionEnds config old all total stands_now content faults flash_now told told_now left_now flushed (behind status flushed.all)
-session-ends config old all total stands stands_now content faults flash flash_now told told_now left_now flushed status of later h flush = by-status status of h
+    Between config old all total stands content faults flash told told_now state left → AsksNext state left source (Err fault) new left_now source_now →
+    TalkEnds config old all total (StandsAlike stands) content flash.media.content faults flash.media.faults told told_now left_now (reading_status fault)
+between-failed config old all total stands content faults flash told told_now state new left left_now source source_now fault h asks = by_fault fault asks
   where
-    done : (lines : List (List ℕ)) → TalkedFew config old lines stands content faults flash told told_now → SessionDone config old lines stands_now content faults flash_now told told_now flushed
-    done lines t = done-flushed config old lines stands stands_now content faults flash flash_now told told_now flushed later t.0 (flush (length lines) (moments_of t.0.turns) t.1 t.0.runs)
+    front : OfFront all (λ lines. Answered config old lines true (StandsAlike stands) content flash.media.content faults flash.media.faults told told_now)
+    front = (h.given, lines_of (rest_in state h.rest), h.order, answered-whole config old h.given stands content faults flash told told_now h.so_far)
 
-    by_all : TalkEnds config old all total stands content faults flash told told_now left_now Done → (b : Bool) → flushed.all ≡ b → SessionEnds config old all total stands_now content faults flash_now told told_now left_now flushed (behind Done b)
-    by_all h true e = (done all h.0, h.1, e)
-    by_all h false e = (done all h.0, h.1, e)
-
-    by-status : (status : ShellStatus) → IsOfTalk status → TalkEnds config old all total stands content faults flash told told_now left_now status → SessionEnds config old all total stands_now content faults flash_now told told_now left_now flushed (behind status flushed.all)
-    by-status Done of h = by_all h flushed.all refl
-    by-status InputRead of h = (h.0, h.1, h.2, done h.0 h.3)
-    by-status OutWrite of h = h
-    by-status InputLong of h = let k = h.1 in (h.0, (k.0, k.1, k.2, done k.0 k.3))
-    by-status status of h = absurd of
+    by_fault : (fault : LinesFault) → AsksNext state left source (Err fault) new left_now source_now → TalkEnds config old all total (StandsAlike stands) content flash.media.content faults flash.media.faults told told_now left_now (reading_status fault)
+    by_fault Failed asks = front
+    by_fault Long asks = let g = asks.gives h.rest h.rest_told (2 ^ 44) total h.within in (g.2, front)
 
 -- nothing is left to be answered
 pub talk-ended : (config : Config) (old : Machine) (total : ℕ) (stands : Machine → Type 0) (flash : FlashState) (told left_now : Option (List ℕ)) (left : List ℕ) → flash.work.reads ≡ 0 → stands old → left_now ≡ Some left → left ≡ [] →
-    TalkEnds config old [] total stands flash.media.content flash.media.faults flash told told left_now Done
+    TalkEnds config old [] total (StandsAlike stands) flash.media.content flash.media.content flash.media.faults flash.media.faults told told left_now Done
 talk-ended config old total stands flash told left_now left unread here is none =
-    ((talked-none config old stands flash told unread here, omega arith), is ∙ ap Some none)
-
--- ---- over a medium
-
-done-over : (config : Config) (old : Machine) (lines : List (List ℕ)) (stands stands_now : Machine → Type 0) (content : List ℕ) (faults : ℕ) (flash : FlashState) (told told_now : Option (List ℕ)) (flushed : Flushed) → ((m : Machine) → stands m → stands_now m) →
-    SessionDone config old lines stands content faults flash told told_now flushed → Talked config old lines flushed stands_now content flash.media.content faults flash.media.faults told told_now
-done-over config old lines stands stands_now content faults flash told told_now flushed seen h =
-    let ran = h.runs.ran in
-    let r = restood config old (commands_of (moments_of h.turns ++ h.flushes)) stands stands_now content flash.media.content faults flash.media.faults flash.media.faults ran (omega arith) (seen (end_of old ran.moments) ran.stands_after) in
-    record {
-      turns = h.turns;
-      each = h.each;
-      flushes = h.flushes;
-      flushes_all = h.flushes_all;
-      ran = r.0;
-      moments_are = r.1 ∙ h.runs.are;
-      causes = h.causes;
-      told_all = h.told_all;
-    }
-
--- what a session did, seen as the medium is left
-pub medium-ends : (config : Config) (old : Machine) (all : List (List ℕ)) (total : ℕ) (stands stands_now : Machine → Type 0) (content : List ℕ) (faults : ℕ) (flash : FlashState) (told told_now left_now : Option (List ℕ)) (flushed : Flushed) (status : ShellStatus) → ((m : Machine) → stands m → stands_now m) → IsOfSession status →
-    SessionEnds config old all total stands content faults flash told told_now left_now flushed status → MediumEnds config old all total stands_now content flash.media.content faults flash.media.faults told told_now left_now flushed status
-medium-ends config old all total stands stands_now content faults flash told told_now left_now flushed Done seen of h = (done-over config old all stands stands_now content faults flash told told_now flushed seen h.0, h.1, h.2)
-medium-ends config old all total stands stands_now content faults flash told told_now left_now flushed Unflushed seen of h = (done-over config old all stands stands_now content faults flash told told_now flushed seen h.0, h.1, h.2)
-medium-ends config old all total stands stands_now content faults flash told told_now left_now flushed OutWrite seen of h = h
-medium-ends config old all total stands stands_now content faults flash told told_now left_now flushed InputRead seen of h = (h.0, h.1, h.2, done-over config old h.0 stands stands_now content faults flash told told_now flushed seen h.3)
-medium-ends config old all total stands stands_now content faults flash told told_now left_now flushed InputLong seen of h = let k = h.1 in (h.0, (k.0, k.1, k.2, done-over config old k.0 stands stands_now content faults flash told told_now flushed seen k.3))
-medium-ends config old all total stands stands_now content faults flash told told_now left_now flushed status seen of h = absurd of
+    (answered-whole config old [] stands flash.media.content flash.media.faults flash told told (talked-none config old stands flash told unread here), is ∙ ap Some none)

@@ -2,17 +2,18 @@
 use Rattle.std.specs.Prelude.{◌≡◌, ℕ, ◌^◌, ◌<◌, ◌≤◌, ◌⊎◌, true, IsTrue, Option, Some, List, [], ◌∷◌, ◌++◌, length}
 use Rattle.fl_base.specs.Causes.{Appends, IsFront}
 use Rattle.fl_config.specs.Whole.{is_whole}
+use Rattle.fl_flash.specs.Media.{MediaState}
 use Rattle.fl_image.specs.Header.{IsAccepted}
 use Rattle.fl_image.specs.Image.{IsImageOf}
 use Rattle.fl_machine.specs.Machine.{Machine}
 use Rattle.fl_machine.specs.Script.{StandsFor, StandsAfter}
 use Rattle.fl_model.specs.Image.{medium_len}
 use Rattle.fl_model.specs.Record.{Config}
-use Rattle.fl_session.specs.Ends.{Told, IsFormed, IsOther, IsUntouched, opened}
+use Rattle.fl_session.specs.Ends.{Told, IsFormed, IsUntouched, opened}
 use Rattle.fl_words.specs.Config.{Lines, no_lines, whole}
 use Rattle.fl_words.specs.Grammar.{lines_of}
 use Rattle.fl_shell.specs.Begin.{Leads, LeadsTo, IsEnded, step_of}
-use Rattle.fl_shell.specs.Talking.{MediumEnds}
+use Rattle.fl_shell.specs.Talking.{MediumEnds, OfFront}
 use Rattle.fl_shell.specs.declared.end.Flushed.{Flushed}
 use Rattle.fl_shell.specs.declared.end.ShellStatus.{ShellStatus}
 use Rattle.fl_shell.specs.declared.end.ShellStatus.TheVariants.{Done, InputRead, OutWrite, MediaMake, Unconfigured, InputLong, NoMemory, NotImage, Unflushed}
@@ -76,15 +77,9 @@ pub record HalfMade (knots : ℕ) (lines : List (List ℕ)) (told : Told) : Type
   pub kept : (told.content ≡ [] → ⊥) → told.content_now ≡ told.content
   pub part : told.content ≡ [] → length told.content_now ≤ medium_len config
 
--- no configuration has an image that begins with these bytes, or not with these very words
-abbrev pub IsNoImage : ℕ → List ℕ → Type 0
-IsNoImage knots content =
-    ((lines : Lines) → IsAccepted lines → IsImageOf content lines → ⊥)
-    ⊎ ((made : Lines) × (config : Config) × IsAccepted made × IsImageOf content made × (whole knots made ≡ Some config) × ((wanted : ℕ) × (found : ℕ) × (at : ℕ) × IsOther config content wanted found at))
-
--- this is so of a front of the lines
-abbrev pub OfFront : List (List ℕ) → (List (List ℕ) → Type 0) → Type 0
-OfFront all P = (front : List (List ℕ)) × (others : List (List ℕ)) × (front ++ others ≡ all) × P front
+-- no configuration has images of this length that begin with this header
+abbrev pub IsNoImage : List ℕ → Type 0
+IsNoImage content = (lines : Lines) → IsAccepted lines → IsImageOf content lines → ⊥
 
 -- no more than leading lines was read
 abbrev pub EndedEarly : List ℕ → Told → Type 0
@@ -106,4 +101,12 @@ ShellEnds knots text told flushed OutWrite = Ended knots text flushed OutWrite t
 ShellEnds knots text told flushed MediaMake = (flushed ≡ none_pending) × (((told.content ≡ [] → ⊥) × IsUntouched told) ⊎ HalfMade knots (lines_of text) told)
 ShellEnds knots text told flushed Unconfigured = (flushed ≡ none_pending) × ((made : Lines) × Unbegun (lines_of text) made told × (IsTrue (is_whole made) → ⊥)) × (told.left_now ≡ Some [])
 ShellEnds knots text told flushed NoMemory = (flushed ≡ none_pending) × (IsUntouched told ⊎ EndedEarly text told)
-ShellEnds knots text told flushed NotImage = (flushed ≡ none_pending) × (told.content ≡ [] → ⊥) × IsUntouched told × IsNoImage knots told.content
+ShellEnds knots text told flushed NotImage = (flushed ≡ none_pending) × (told.content ≡ [] → ⊥) × IsUntouched told × IsNoImage told.content
+
+-- the statuses before the image was opened: the medium is unchanged, or was empty where it failed while the image was made
+abbrev pub IsEarlyBy : MediaState → MediaState → ShellStatus → Type 0
+IsEarlyBy old new Unconfigured = IsTrue old.tells → new.content ≡ old.content
+IsEarlyBy old new NoMemory = IsTrue old.tells → new.content ≡ old.content
+IsEarlyBy old new NotImage = IsTrue old.tells → new.content ≡ old.content
+IsEarlyBy old new MediaMake = IsTrue old.tells → (old.content ≡ [] → ⊥) → new.content ≡ old.content
+IsEarlyBy old new status = Unit {0}

@@ -8,9 +8,8 @@ use Rattle.fl_lines.specs.Stream.{LinesState}
 use Rattle.fl_words.specs.Config.{Lines, no_lines}
 use Rattle.fl_words.specs.Grammar.{lines_of}
 use Rattle.fl_shell.specs.Begin.{Step, Ends, Leads, LeadsBy, LeadsTo, IsEnded, step_of}
-use Rattle.fl_shell.specs.Ends.{OfFront}
 use Rattle.fl_shell.specs.Reading.{IsGivenAs, IsLeft, rest_in}
-use Rattle.fl_shell.specs.Talking.{lines_from}
+use Rattle.fl_shell.specs.Talking.{OfFront, lines_from}
 use Rattle.fl_shell.specs.declared.begin.Begun.{Begun}
 use Rattle.fl_shell.specs.declared.begin.Step as code
 use Rattle.fl_shell.specs.declared.end.ShellStatus.{ShellStatus}

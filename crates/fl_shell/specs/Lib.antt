@@ -14,4 +14,6 @@ pub mod Beside
 pub mod Flushing
 pub mod Talking
 pub mod Leading
+pub mod Input
+pub mod Complete
 pub mod Statuses

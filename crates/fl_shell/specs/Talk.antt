@@ -4,8 +4,12 @@ use Rattle.std.specs.List.{AllByRecursion, flat_map, list_any}
 use Rattle.std.specs.Fmt.{signed_decimal}
 use Rattle.fl_base.specs.Causes.{Appends, IsFront, Rose}
 use Rattle.fl_machine.specs.Machine.{Machine}
-use Rattle.fl_machine.specs.Run.{Run, end_of, commands_of}
-use Rattle.fl_machine.specs.Script.{Ran, runs}
+use Rattle.fl_machine.specs.Found.{FindsAt}
+use Rattle.fl_machine.specs.Keeping.{KeepsPutsAt}
+use Rattle.fl_machine.specs.Reads.{none_read}
+use Rattle.fl_machine.specs.Run.{Run, end_of, commands_of, risen_in}
+use Rattle.fl_machine.specs.Script.{KeepsReads, RoseBy, runs}
+use Rattle.fl_machine.specs.Stays.{StaysEach}
 use Rattle.fl_machine.specs.Step.{Located, located, Moment}
 use Rattle.fl_model.specs.Record.{Config, Plan, has_var, rows_per_page}
 use Rattle.fl_model.specs.Table.{Table, last_entry}
@@ -206,26 +210,40 @@ pub record FlushesAll (config : Config) (m : Machine) (flushes : List Moment) (f
 abbrev pub HasCauses : ℕ → ℕ → Turn → Type 0
 HasCauses faults faults_now turn = list_any (λ failed. failed) turn.unread ≡ true → Rose faults faults_now
 
--- Each of these lines was answered, and then what was pending was flushed. What the machine executed is a run of it, to which the
--- other lines add nothing; and the bytes written are the answers.
-pub record Talked (config : Config) (old : Machine) (lines : List (List ℕ)) (flushed : Flushed) (stands : Machine → Type 0) (content content_now : List ℕ) (faults faults_now : ℕ) (told told_now : Option (List ℕ)) : Type 0 where
+-- What the machine executed: these moments are a run of it. `stands` says for which states the session stands then; `content` is the
+-- medium's before and after.
+pub record RanOver (config : Config) (old : Machine) (moments : List Moment) (stands : Machine → Type 0) (content content_now : List ℕ) (faults faults_now : ℕ) : Type 0 where
+  pub run : Run config old moments
+  pub stands_after : stands (end_of old moments)
+  -- each leaves the medium as its state says, and what it doesn't touch there as it was
+  pub stays : StaysEach config old moments content content_now
+  -- the medium's faults rose in no more of them than it failed
+  pub rose : RoseBy (risen_in moments) faults faults_now
+  -- each mount that succeeds finds the records of each table
+  pub found : (place : ℕ) → FindsAt config place old moments
+  -- .. and of each table with a log all that was put
+  pub kept : (place : ℕ) → KeepsPutsAt config place old moments
+
+-- Of some turns `before` were answered whole, and these bytes are written: where all were, their answers; and where the sink failed,
+-- those of all turns but the last, and a front of the last one's.
+abbrev pub AreWritten : Bool → List Turn → List Turn → List ℕ → Type 0
+AreWritten true turns before text = (before ≡ turns) × (text ≡ answers_of turns)
+AreWritten false turns before text =
+    (last : Turn) × (front : List ℕ) × (turns ≡ before ++ last ∷ []) × IsFront front last.answer × (text ≡ answers_of before ++ front)
+
+-- Each of these lines was answered, whole or but for the end of the last answer, and then what was pending was flushed. What the
+-- machine executed is a run of it, to which the other lines add nothing.
+pub record Talked (config : Config) (old : Machine) (lines : List (List ℕ)) (whole : Bool) (flushed : Flushed) (stands : Machine → Type 0) (content content_now : List ℕ) (faults faults_now : ℕ) (told told_now : Option (List ℕ)) : Type 0 where
   pub turns : List Turn
   pub each : AnswersEach config old lines turns
   pub flushes : List Moment
   pub flushes_all : FlushesAll config (end_of old (moments_of turns)) flushes flushed
-  pub ran : Ran config old (commands_of (moments_of turns ++ flushes)) stands content content_now faults faults_now None None
-  pub moments_are : ran.moments ≡ moments_of turns ++ flushes
+  pub ran : RanOver config old (moments_of turns ++ flushes) stands content content_now faults faults_now
   pub causes : AllByRecursion (HasCauses faults faults_now) turns
-  pub told_all : Appends told told_now (answers_of turns)
-
--- .. up to a line in whose answer the sink failed: the answers before it are written, and a front of its own
-pub record TalkedInto (config : Config) (old : Machine) (lines : List (List ℕ)) (told told_now : Option (List ℕ)) : Type 0 where
-  pub turns : List Turn
-  pub each : AnswersEach config old lines turns
-  pub run : Run config old (moments_of turns)
   pub before : List Turn
-  pub last : Turn
-  pub split : turns ≡ before ++ last ∷ []
-  pub front : List ℕ
-  pub is_front : IsFront front last.answer
-  pub told_front : Appends told told_now (answers_of before ++ front)
+  pub text : List ℕ
+  pub written : AreWritten whole turns before text
+  pub told_all : Appends told told_now text
+  -- the commands of the turns that were answered whole read as many pages as each may, and the flushes none
+  pub reads : KeepsReads config old (moments_of before)
+  pub unread : AllByRecursion none_read flushes

@@ -1,13 +1,12 @@
 -- What one line does to a session.
-use Rattle.std.specs.Prelude.{◌≡◌, ℕ, ◌+◌, ◌*◌, ◌≤◌, Bool, true, false, Option, Some, None, Result, Ok, Err, List, [], length}
+use Rattle.std.specs.Prelude.{◌≡◌, ℕ, ◌+◌, ◌*◌, ◌≤◌, Bool, true, false, Option, Some, None, Result, Ok, List, [], length}
 use Rattle.std.specs.List.{list_any}
-use Rattle.fl_base.specs.Causes.{Appends, AppendsFront, Rose}
+use Rattle.fl_base.specs.Causes.{Rose}
 use Rattle.fl_flash.specs.Flash.{FlashState}
 use Rattle.fl_model.specs.Record.{Config}
 use Rattle.fl_words.specs.Command.{Command}
 use Rattle.fl_machine.specs.Machine.{Machine}
 use Rattle.fl_machine.specs.Script.{runs}
-use Rattle.fl_machine.specs.Step.{Moment, Step}
 use Rattle.fl_script.specs.Written.{Written}
 use Rattle.fl_session.specs.Execute.{Executes}
 use Rattle.fl_session.specs.Oldest.{reads_of}
@@ -51,26 +50,16 @@ pub record Describes {E : Type 0} (config : Config) (old : Machine) (stands : Ma
   pub looked : Looked config old unread stands flash flash_now
   pub written : Written told told_now result (description config old unread)
 
--- the command is executed, and the line answered
-pub record Executed (E : Type 0) (config : Config) (old : Machine) (line : List ℕ) (c : Command) (stands : Machine → Type 0) (flash flash_now : FlashState) (told told_now : Option (List ℕ)) : Type 0 where
-  pub executes : Executes {E = E} config old c stands flash flash_now None None (Ok tt)
+-- The command is executed, and the line answered; where the sink fails in the answer, a front of it is written.
+pub record Executed {E : Type 0} (config : Config) (old : Machine) (line : List ℕ) (c : Command) (stands : Machine → Type 0) (flash flash_now : FlashState) (told told_now : Option (List ℕ)) (result : Result (Unit {0}) E) : Type 0 where
+  pub executes : Executes {E = E} config old c stands flash flash_now None None result
   pub answer : List ℕ
   pub answers : Answers config old line (record { moment = Some executes.moment; answer = answer; unread = [] })
-  pub written : Appends told told_now answer
-
--- .. but for the end of its answer, where the sink failed
-pub record ExecutedInto (config : Config) (old : Machine) (line : List ℕ) (c : Command) (told told_now : Option (List ℕ)) : Type 0 where
-  pub moment : Moment
-  pub command_is : moment.command ≡ c
-  pub step : Step config old moment
-  pub answer : List ℕ
-  pub answers : Answers config old line (record { moment = Some moment; answer = answer; unread = [] })
-  pub written : AppendsFront told told_now answer
+  pub written : Written told told_now result answer
 
 abbrev pub Turns : {E : Type 0} → Config → Machine → List ℕ → Option Command → (Machine → Type 0) → FlashState → FlashState → Option (List ℕ) → Option (List ℕ) → Result (Unit {0}) E → Type 0
 Turns {E} config old line None stands flash flash_now told told_now result = Says {E = E} config old line stands flash flash_now told told_now result
-Turns {E} config old line (Some c) stands flash flash_now told told_now (Ok done) = Executed E config old line c stands flash flash_now told told_now
-Turns {E} config old line (Some c) stands flash flash_now told told_now (Err failed) = ExecutedInto config old line c told told_now
+Turns {E} config old line (Some c) stands flash flash_now told told_now result = Executed {E = E} config old line c stands flash flash_now told told_now result
 
 -- .. of the line in hand, if there is one
 abbrev pub TurnsIf : {E : Type 0} → Bool → Config → Machine → List ℕ → Option Command → (Machine → Type 0) → FlashState → FlashState → Option (List ℕ) → Option (List ℕ) → Result (Unit {0}) E → Type 0

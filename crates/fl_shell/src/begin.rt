@@ -9,6 +9,7 @@ ghost use Rattle.fl_words.specs.Config.{Lines as ConfigLines, configured};
 ghost use Rattle.fl_words.specs.Grammar.{LineFault, command_of, lines_of};
 ghost use Rattle.fl_shell.specs.Begin as spec;
 ghost use Rattle.fl_shell.specs.Begin.{LeadsBy, step_asked, step_command, step_config, step_of};
+ghost use Rattle.fl_shell.specs.Input.{InputBegins};
 ghost use Rattle.fl_shell.specs.Leading.{BeginsAs, LeadsAs, TakesBy, going_on};
 ghost use Rattle.fl_shell.specs.OwnView.{own_view};
 ghost use Rattle.fl_shell.specs.Reading.{IsLeft, rest_in};
@@ -260,6 +261,7 @@ pub(crate) fn begin<M: Media, S: Source, K: Sink>(
 ) -> Result<Begun, ShellStatus>
     ensures begins { (left : List ℕ) (total : ℕ) → IsTrue (M.state media.old).tells → S.left input.old ≡ Some left → IsLeft lines.old left (2 ^ 44) total → length lines.old.line ≤ 4096 →
         BeginsAs (M.state media.old).content (lines_of (rest_in lines.old left)) total result lines.new (S.left input.new) (K.written out.old) (K.written out.new) }
+    ensures input { (left : List ℕ) (total : ℕ) → S.left input.old ≡ Some left → IsLeft lines.old left (2 ^ 44) total → InputBegins total result lines.new (S.left input.new) }
     ensures fewer { IfOk result (λ begun. (begun.next ≡ Next.Ended → ⊥) → lines.new.most ≤ lines.old.most) }
     ensures whole { IfOk result (λ begun. IsTrue (is_whole begun.config)) }
     ensures read { result ≡ Err ShellStatus.InputRead → Rose (S.faults input.old) (S.faults input.new) }

@@ -1,12 +1,12 @@
 // The flush of what is pending when a shell ends.
-ghost use Rattle.std.specs.Prelude.{◌≡◌, ℕ, ◌+◌, ◌^◌, ◌≤◌, List};
+ghost use Rattle.std.specs.Prelude.{◌≡◌, ℕ, List};
 ghost use Rattle.fl_flash.specs.Flash.{Goes};
 ghost use Rattle.fl_model.specs.Record.{Config as Configuration};
 ghost use Rattle.fl_machine.specs.Machine.{Machine};
 ghost use Rattle.fl_machine.specs.Step.{Moment};
-ghost use Rattle.fl_session.specs.Execute.{IsReady};
-ghost use Rattle.fl_shell.specs.Flushing.{FlushesBehind, FlushesOne, RanThese};
-ghost use Rattle.fl_shell.specs.Talk.{pending_in, pending_rows};
+ghost use Rattle.fl_session.specs.Execute.{IsReady, StandsAlike};
+ghost use Rattle.fl_shell.specs.Flushing.{FlushesBehind, FlushesOne};
+ghost use Rattle.fl_shell.specs.Talk.{RanOver, pending_in, pending_rows};
 
 use crate::Flushed;
 use crate::heard::Heard;
@@ -59,11 +59,11 @@ pub(crate) fn flush_all<E: Executor>(session: &mut E, config: &Config, room: &Li
     requires { E.sound session.old }
     ensures sound { E.sound session.new }
     ensures goes { Goes (E.flash session.old) (E.flash session.new) }
-    // Behind a run of some moments the flushes go on with it.
-    ensures flushes { (configured : Configuration) (old : Machine) (lines : ℕ) (moments : List Moment) (content : List ℕ) (faults : ℕ) →
-        configured.plans ≡ config.now.plans → IsReady configured old → lines ≤ 2 ^ 44 + 1 →
-        RanThese configured old lines moments (E.stands session.old configured) content faults (E.flash session.old) →
-        FlushesBehind configured old lines moments (E.stands session.new configured) content faults (E.flash session.new) result }
+    // Behind a run of some moments the flushes go on with it, whatever cursors are open then.
+    ensures flushes { (configured : Configuration) (old : Machine) (moments : List Moment) (content : List ℕ) (faults : ℕ) →
+        configured.plans ≡ config.now.plans → IsReady configured old →
+        RanOver configured old moments (StandsAlike (E.stands session.old configured)) content (E.flash session.old).media.content faults (E.flash session.old).media.faults →
+        FlushesBehind configured old moments (StandsAlike (E.stands session.new configured)) content (E.flash session.new).media.content faults (E.flash session.new).media.faults result }
 {
     let pending = pending_rows(session, config);
     if pending == 0 {

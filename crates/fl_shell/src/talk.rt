@@ -1,15 +1,16 @@
 // The lines of a shell, one after another, and the flush behind them.
-ghost use Rattle.std.specs.Prelude.{◌≡◌, ℕ, ◌^◌, ◌≤◌, ◌++◌, true, Some, List, [], IsTrue};
+ghost use Rattle.std.specs.Prelude.{◌≡◌, ℕ, ◌^◌, ◌≤◌, true, Some, List, [], IsTrue};
 ghost use Rattle.fl_base.specs.Causes.{HasCause, Rose};
 ghost use Rattle.fl_config.specs.Whole.{is_whole, Makes};
 ghost use Rattle.fl_flash.specs.Flash.{Goes};
 ghost use Rattle.fl_machine.specs.Machine.{Machine};
 ghost use Rattle.fl_model.specs.Record.{Config as Configuration};
-ghost use Rattle.fl_session.specs.Execute.{IsReady};
+ghost use Rattle.fl_session.specs.Execute.{IsReady, StandsAlike};
 ghost use Rattle.fl_words.specs.Grammar.{lines_of};
+ghost use Rattle.fl_shell.specs.Input.{InputEnds};
 ghost use Rattle.fl_shell.specs.Reading.{IsGivenAs, IsLeft, rest_in};
 ghost use Rattle.fl_shell.specs.Statuses.{IsOfSession, IsOfTalk, behind, reading_status};
-ghost use Rattle.fl_shell.specs.Talking.{SessionEnds, TalkEnds, lines_from, with_hand};
+ghost use Rattle.fl_shell.specs.Talking.{MediumEnds, TalkEnds, lines_from, with_hand};
 ghost use Rattle.fl_shell.specs.Turning.{TurnsIf, command_for};
 
 use crate::answer::answer;
@@ -87,8 +88,9 @@ fn talk<E: Executor, S: Source, K: Sink>(
     ensures talks { (configured : Configuration) (old : Machine) (left hand : List ℕ) (total : ℕ) →
         Makes config.now configured → IsReady configured old → E.stands session.old configured old → (E.flash session.old).work.reads ≡ 0 →
         lines.old.most ≤ 2 ^ 44 → S.left input.old ≡ Some left → IsLeft lines.old left (2 ^ 44) total → IsGivenAs hand lines.old.line →
-        TalkEnds configured old (with_hand in_hand hand (lines_of (rest_in lines.old left))) total (E.stands session.new configured) (E.flash session.old).media.content (E.flash session.old).media.faults (E.flash session.new)
+        TalkEnds configured old (with_hand in_hand hand (lines_of (rest_in lines.old left))) total (StandsAlike (E.stands session.new configured)) (E.flash session.old).media.content (E.flash session.new).media.content (E.flash session.old).media.faults (E.flash session.new).media.faults
         (K.written out.old) (K.written out.new) (S.left input.new) result }
+    ensures input { (left : List ℕ) (total : ℕ) → S.left input.old ≡ Some left → IsLeft lines.old left (2 ^ 44) total → InputEnds total (S.left input.new) result }
     ensures statuses { IsOfTalk result }
     ensures read { result ≡ ShellStatus.InputRead → Rose (S.faults input.old) (S.faults input.new) }
     ensures write { result ≡ ShellStatus.OutWrite → Rose (K.faults out.old) (K.faults out.new) }
@@ -126,8 +128,9 @@ fn talk_from<E: Executor, S: Source, K: Sink>(
     ensures talks { (configured : Configuration) (old : Machine) (left hand : List ℕ) (total : ℕ) →
         Makes config.now configured → IsReady configured old → E.stands session.old configured old → (E.flash session.old).work.reads ≡ 0 →
         ((next ≡ Next.Ended → ⊥) → lines.old.most ≤ 2 ^ 44) → S.left input.old ≡ Some left → (next ≡ Next.Ended → left ≡ []) → ((next ≡ Next.Ended → ⊥) → IsLeft lines.old left (2 ^ 44) total) → IsGivenAs hand lines.old.line →
-        TalkEnds configured old (lines_from next hand (lines_of (rest_in lines.old left))) total (E.stands session.new configured) (E.flash session.old).media.content (E.flash session.old).media.faults (E.flash session.new)
+        TalkEnds configured old (lines_from next hand (lines_of (rest_in lines.old left))) total (StandsAlike (E.stands session.new configured)) (E.flash session.old).media.content (E.flash session.new).media.content (E.flash session.old).media.faults (E.flash session.new).media.faults
         (K.written out.old) (K.written out.new) (S.left input.new) result }
+    ensures input { (left : List ℕ) (total : ℕ) → S.left input.old ≡ Some left → (next ≡ Next.Ended → left ≡ []) → ((next ≡ Next.Ended → ⊥) → IsLeft lines.old left (2 ^ 44) total) → InputEnds total (S.left input.new) result }
     ensures statuses { IsOfTalk result }
     ensures read { result ≡ ShellStatus.InputRead → Rose (S.faults input.old) (S.faults input.new) }
     ensures write { result ≡ ShellStatus.OutWrite → Rose (K.faults out.old) (K.faults out.new) }
@@ -172,8 +175,9 @@ pub(crate) fn talk_and_flush<E: Executor, S: Source, K: Sink>(
     ensures ends { (configured : Configuration) (old : Machine) (left hand : List ℕ) (total : ℕ) →
         Makes config.now configured → IsReady configured old → E.stands session.old configured old → (E.flash session.old).work.reads ≡ 0 →
         ((next ≡ Next.Ended → ⊥) → lines.old.most ≤ 2 ^ 44) → S.left input.old ≡ Some left → (next ≡ Next.Ended → left ≡ []) → ((next ≡ Next.Ended → ⊥) → IsLeft lines.old left (2 ^ 44) total) → IsGivenAs hand lines.old.line →
-        SessionEnds configured old (lines_from next hand (lines_of (rest_in lines.old left))) total (E.stands session.new configured) (E.flash session.old).media.content (E.flash session.old).media.faults (E.flash session.new)
+        MediumEnds configured old (lines_from next hand (lines_of (rest_in lines.old left))) total (StandsAlike (E.stands session.new configured)) (E.flash session.old).media.content (E.flash session.new).media.content (E.flash session.old).media.faults (E.flash session.new).media.faults
         (K.written out.old) (K.written out.new) (S.left input.new) result.flushed result.status }
+    ensures input { (left : List ℕ) (total : ℕ) → S.left input.old ≡ Some left → (next ≡ Next.Ended → left ≡ []) → ((next ≡ Next.Ended → ⊥) → IsLeft lines.old left (2 ^ 44) total) → InputEnds total (S.left input.new) result.status }
     ensures statuses { IsOfSession result.status }
     ensures read { result.status ≡ ShellStatus.InputRead → Rose (S.faults input.old) (S.faults input.new) }
     ensures write { result.status ≡ ShellStatus.OutWrite → Rose (K.faults out.old) (K.faults out.new) }

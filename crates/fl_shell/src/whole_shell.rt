@@ -15,7 +15,9 @@ ghost use Rattle.fl_session.specs.Standing.{RestsTold};
 ghost use Rattle.fl_store.specs.Store.{IsBlankBehind};
 ghost use Rattle.fl_words.specs.Config.{whole};
 ghost use Rattle.fl_words.specs.Grammar.{lines_of};
-ghost use Rattle.fl_shell.specs.Ends.{ShellEnds};
+ghost use Rattle.fl_shell.specs.Complete.{Completes, IsConfigured};
+ghost use Rattle.fl_shell.specs.Ends.{IsEarlyBy, ShellEnds};
+ghost use Rattle.fl_shell.specs.Input.{InputEnds};
 ghost use Rattle.fl_shell.specs.Reading.{IsGivenAs, IsLeft, rest_in};
 ghost use Rattle.fl_shell.specs.Statuses.{IsOfSession, opening_status};
 ghost use Rattle.fl_shell.specs.Talking.{MediumEnds, lines_from};
@@ -65,6 +67,7 @@ fn talk_over<M: Media, S: Source, K: Sink>(
         ((begun.now.next ≡ Next.Ended → ⊥) → lines.old.most ≤ 2 ^ 44) → S.left input.old ≡ Some left → (begun.now.next ≡ Next.Ended → left ≡ []) → ((begun.now.next ≡ Next.Ended → ⊥) → IsLeft lines.old left (2 ^ 44) total) → IsGivenAs hand lines.old.line →
         MediumEnds configured old (lines_from begun.now.next hand (lines_of (rest_in lines.old left))) total (StandsAfter configured (Some (M.state media.new).content)) (M.state media.old).content (M.state media.new).content (M.state media.old).faults (M.state media.new).faults
         (K.written out.old) (K.written out.new) (S.left input.new) result.flushed result.status }
+    ensures input { (left : List ℕ) (total : ℕ) → S.left input.old ≡ Some left → (begun.now.next ≡ Next.Ended → left ≡ []) → ((begun.now.next ≡ Next.Ended → ⊥) → IsLeft lines.old left (2 ^ 44) total) → InputEnds total (S.left input.new) result.status }
     ensures statuses { IsOfSession result.status }
     ensures keeps { KeepsForm (M.state media.old) (M.state media.new) }
     ensures goes { MediaGoes (M.state media.old) (M.state media.new) }
@@ -92,13 +95,24 @@ pub fn shell<M: Media, S: Source, K: Sink>(
     ensures ends { (text : List ℕ) → IsTrue (M.state media.old).tells → S.left input.old ≡ Some text →
         ShellEnds KNOTS text (told_of (M.state media.old) (M.state media.new) (S.left input.new) (K.written out.old) (K.written out.new)) result.flushed result.status }
 
+    // What the input alone decides, whatever the medium tells.
+    ensures input { (text : List ℕ) → S.left input.old ≡ Some text → InputEnds (length text) (S.left input.new) result.status }
+
     // Each status has its cause.
     ensures read { result.status ≡ ShellStatus.InputRead → Rose (S.faults input.old) (S.faults input.new) }
     ensures write { result.status ≡ ShellStatus.OutWrite → Rose (K.faults out.old) (K.faults out.new) }
     ensures make { result.status ≡ ShellStatus.MediaMake → Rose (M.state media.old).faults (M.state media.new).faults }
 
+    // An early status leaves the medium as it was, whoever tells the input.
+    ensures early { IsEarlyBy (M.state media.old) (M.state media.new) result.status }
     ensures goes { MediaGoes (M.state media.old) (M.state media.new) }
     ensures later { (S.faults input.old ≤ S.faults input.new) × (K.faults out.old ≤ K.faults out.new) }
+
+    // An input of at most 17,592,186,044,416 bytes over an image, or over an empty medium that its first lines configure, is
+    // answered to its end where no count rises; or memory is wanted before the first command.
+    ensures complete { (text : List ℕ) → IsTrue (M.state media.old).tells → S.left input.old ≡ Some text → length text ≤ 2 ^ 44 → IsConfigured KNOTS (M.state media.old).content (lines_of text) →
+        (Rose (S.faults input.old) (S.faults input.new) → ⊥) → (Rose (K.faults out.old) (K.faults out.new) → ⊥) → (Rose (M.state media.old).faults (M.state media.new).faults → ⊥) →
+        Completes KNOTS text (told_of (M.state media.old) (M.state media.new) (S.left input.new) (K.written out.old) (K.written out.new)) result.flushed result.status }
 {
     let Ok(mut lines) = Lines::of_most(alloc, MOST) else {
         return ShellEnd::of(ShellStatus::NoMemory);

@@ -1,4 +1,4 @@
-use Rattle.std.proofs.Common.{◌<◌, ◌≤◌, List, length, refl, ◌∙◌, subst, take_all, le_trans, rules, arith}
+use Rattle.std.proofs.Common.{◌<◌, ◌≤◌, List, length, refl, sym, ◌∙◌, subst, take_all, le_trans, rules, arith}
 use Rattle.std.proofs.lemmas.Result.{err_from_is_err_and}
 use Rattle.fl_base.specs.declared.stream.SinkFailed.{SinkFailed}
 use Rattle.fl_model.specs.Record.{Plan}

@@ -1,10 +1,13 @@
-use Rattle.std.proofs.Common.{◌≡◌, Ok, Err, true, false, sym, le_trans, subst, rules, arith}
+use Rattle.std.proofs.Common.{◌≡◌, ◌^◌, Some, Ok, Err, true, false, sym, ◌∙◌, ap, le_trans, subst, rules, arith}
 use Rattle.fl_base.specs.declared.stream.SinkFailed.{SinkFailed}
+use Rattle.fl_session.specs.Execute.{StandsAlike}
 use Rattle.fl_words.specs.Grammar.{lines_of}
+use Rattle.fl_shell.specs.Input.{InputEnds}
 use Rattle.fl_shell.specs.Reading.{AsksNext, rest_in}
 use Rattle.fl_shell.specs.Talking.{TalkEnds, with_hand}
 use Rattle.fl_shell.specs.Turning.{TurnsIf, command_for}
 use Rattle.fl_shell.proofs.TalkLoop.{hand-first, hand-answered, hand-into, between-next, between-done, between-failed}
+use Rattle.fl_shell.proofs.InputEnds.{input-failed}
 use Rattle.fl_shell.proofs.talk.talk.Goals as goal
 
 pub lines-init : goal.lines-init
@@ -13,6 +16,7 @@ lines-init g c = record {
   sink_later = omega arith;
   sound = c.requires.sound;
   goes = search rules;
+  input = λ left total told within. (left, told, within);
   talks = λ configured old left hand total makes ready here unread most told within is. hand-first configured old total _ _ _ _ _ _ left hand unread here most told within is;
 }
 
@@ -25,7 +29,7 @@ returns-in-Err-clause-talks g c = λ configured old left hand total makes ready 
     let f = E.flash c.args.session.now in
     hand-into {E = SinkFailed} configured old (with_hand c.args.in_hand hand (lines_of (rest_in c.args.lines.now left))) total (E.stands c.lines.session configured) (E.stands x.session configured) f.media.content f.media.faults (E.flash c.lines.session) (E.flash x.session)
     (K.written c.args.out.now) (K.written c.lines.out) (K.written x.out) (S.left c.lines.input) c.lines.has_line c.lines.lines (S.left c.lines.input) c.in-Err.field-0
-    (c.lines.invariant.talks configured old left hand total makes ready here unread most told within is)
+    ready (g.met.E.Executor.tables_hold _ configured) c.answer_in_hand.ensures.goes.faults (c.lines.invariant.talks configured old left hand total makes ready here unread most told within is)
     (λ m stood. subst (λ line. TurnsIf {E = SinkFailed} c.lines.has_line configured m line (command_for line) (E.stands x.session configured) (E.flash c.lines.session) (E.flash x.session) (K.written c.lines.out) (K.written x.out) (Err c.in-Err.field-0)) c.line.ensures
     (c.in-Err.ensures.turn configured m makes stood))
 
@@ -45,6 +49,10 @@ lines-preserved g c =
       sink_later = le_trans c.lines.invariant.sink_later c.answer_in_hand.ensures.cause.later;
       sound = c.answer_in_hand.ensures.sound;
       goes = search rules;
+      input = λ left total told within.
+          let i = c.lines.invariant.input left total told within in
+          let g = asks.gives i.0 i.1 (2 ^ 44) total i.2 in
+          (g.0, g.1, g.2.0);
       talks = λ configured old left hand total makes ready here unread most told within is.
           between-next configured old (with_hand c.args.in_hand hand (lines_of (rest_in c.args.lines.now left))) total (E.stands x.session configured) f.media.content f.media.faults (E.flash x.session) (K.written c.args.out.now) (K.written x.out) c.lines.lines n.lines (S.left c.lines.input) (S.left n.input) (S.faults c.lines.input) (S.faults n.input)
           (hand-answered SinkFailed configured old (with_hand c.args.in_hand hand (lines_of (rest_in c.args.lines.now left))) total (E.stands c.lines.session configured) (E.stands x.session configured) f.media.content f.media.faults (E.flash c.lines.session) (E.flash x.session)
@@ -88,4 +96,27 @@ returns-in-Err-next_line-clause-talks g c = λ configured old left hand total ma
     (c.lines.invariant.talks configured old left hand total makes ready here unread most told within is)
     (λ m stood. subst (λ line. TurnsIf {E = SinkFailed} c.lines.has_line configured m line (command_for line) (E.stands x.session configured) (E.flash c.lines.session) (E.flash x.session) (K.written c.lines.out) (K.written x.out) (Ok tt)) c.line.ensures (c.in-Ok.ensures.turn configured m makes stood)))
     c.in-Err-next_line.ensures in
-    subst (λ status. TalkEnds configured old all total (E.stands x.session configured) f.media.content f.media.faults (E.flash x.session) (K.written c.args.out.now) (K.written x.out) (S.left n.input) status) (sym c.status_of.ensures) failed
+    let f' = E.flash x.session in
+    subst (λ status. TalkEnds configured old all total (StandsAlike (E.stands x.session configured)) f.media.content f'.media.content f.media.faults f'.media.faults (K.written c.args.out.now) (K.written x.out) (S.left n.input) status) (sym c.status_of.ensures) failed
+
+pub returns-in-Err-clause-input : goal.returns-in-Err-clause-input
+returns-in-Err-clause-input g c = λ left total told within. tt
+
+pub returns-in-Ok-false-clause-input : goal.returns-in-Ok-false-clause-input
+returns-in-Ok-false-clause-input g c = λ left total told within.
+    let S = g.S.Source in
+    let n = c.next_line.new in
+    let given : c.in-Ok-false.field-0 ≡ false = search rules in
+    let asks : AsksNext c.lines.lines (S.left c.lines.input) (S.faults c.lines.input) (Ok false) n.lines (S.left n.input) (S.faults n.input) =
+    subst (λ b. AsksNext c.lines.lines (S.left c.lines.input) (S.faults c.lines.input) (Ok b) n.lines (S.left n.input) (S.faults n.input)) given c.in-Ok-false.ensures in
+    let i = c.lines.invariant.input left total told within in
+    let end = asks.gives i.0 i.1 (2 ^ 44) total i.2 in
+    end.1 ∙ ap Some end.2.1
+
+pub returns-in-Err-next_line-clause-input : goal.returns-in-Err-next_line-clause-input
+returns-in-Err-next_line-clause-input g c = λ left total told within.
+    let S = g.S.Source in
+    let n = c.next_line.new in
+    let i = c.lines.invariant.input left total told within in
+    subst (λ status. InputEnds total (S.left n.input) status) (sym c.status_of.ensures)
+    (input-failed total c.lines.lines n.lines (S.left c.lines.input) (S.left n.input) (S.faults c.lines.input) (S.faults n.input) c.in-Err-next_line.fault i.0 i.1 i.2 c.in-Err-next_line.ensures)

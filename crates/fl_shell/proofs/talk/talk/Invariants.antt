@@ -20,6 +20,7 @@ invariant-lines g l =
       sink_later : K.faults l.fn.out ≤ K.faults l.out;
       sound : E.sound l.session;
       goes : Goes (E.flash l.fn.session) (E.flash l.session);
+      input : (left : List ℕ) (total : ℕ) → S.left l.fn.input ≡ Some left → IsLeft l.fn.lines left (2 ^ 44) total → (rest : List ℕ) × (S.left l.input ≡ Some rest) × IsLeft l.lines rest (2 ^ 44) total;
       talks : (configured : Config) (old : Machine) (left hand : List ℕ) (total : ℕ) → Makes l.config configured → IsReady configured old → E.stands l.fn.session configured old → (E.flash l.fn.session).work.reads ≡ 0 →
           l.fn.lines.most ≤ 2 ^ 44 → S.left l.fn.input ≡ Some left → IsLeft l.fn.lines left (2 ^ 44) total → IsGivenAs hand l.fn.lines.line →
           InHand configured old (with_hand l.fn.in_hand hand (lines_of (rest_in l.fn.lines left))) total (E.stands l.session configured) (E.flash l.fn.session).media.content (E.flash l.fn.session).media.faults (E.flash l.session)

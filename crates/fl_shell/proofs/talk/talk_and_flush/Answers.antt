@@ -1,9 +1,12 @@
 use Rattle.std.proofs.Common.{sym, subst}
 use Rattle.fl_image.proofs.Made.{made-by}
+use Rattle.fl_session.specs.Execute.{StandsAlike}
 use Rattle.fl_words.specs.Grammar.{lines_of}
+use Rattle.fl_shell.specs.Input.{InputEnds}
 use Rattle.fl_shell.specs.Reading.{rest_in}
-use Rattle.fl_shell.specs.Talking.{SessionEnds, lines_from}
-use Rattle.fl_shell.proofs.TalkLoop.{session-ends}
+use Rattle.fl_shell.specs.Talking.{MediumEnds, lines_from}
+use Rattle.fl_shell.proofs.InputEnds.{input-behind}
+use Rattle.fl_shell.proofs.TalkEnds.{flush-ends}
 use Rattle.fl_shell.proofs.talk.talk_and_flush.Goals as goal
 
 pub returns-clause-ends : goal.returns-clause-ends
@@ -14,9 +17,17 @@ returns-clause-ends g c = λ configured old left hand total makes ready here unr
     let all = lines_from c.args.next hand (lines_of (rest_in c.args.lines.now left)) in
     let f = E.flash c.args.session.now in
     let x = c.talk_from-status.new in
-    let y = c.flush_all-flushed.new.session in
-    let talked = c.talk_from-status.ensures.talks configured old left hand total makes ready here unread most told ended within is in
+    let talked = E.flash x.session in
+    let flushed = E.flash c.flush_all-flushed.new.session in
+    let stands = StandsAlike (E.stands x.session configured) in
+    let stands_now = StandsAlike (E.stands c.flush_all-flushed.new.session configured) in
     let done =
-    session-ends configured old all total (E.stands x.session configured) (E.stands y configured) f.media.content f.media.faults (E.flash x.session) (E.flash y) (K.written c.args.out.now) (K.written x.out) (S.left x.input) c.flush_all-flushed.result c.talk_from-status.result c.talk_from-status.ensures.statuses c.flush_all-flushed.ensures.goes.faults talked
-    (λ lines moments few runs. c.flush_all-flushed.ensures.flushes configured old lines moments f.media.content f.media.faults (sym (made-by c.args.config.now configured makes).plans_are) ready few runs) in
-    subst (λ status. SessionEnds configured old all total (E.stands y configured) f.media.content f.media.faults (E.flash y) (K.written c.args.out.now) (K.written x.out) (S.left x.input) c.flush_all-flushed.result status) (sym c.status_behind.ensures.exact) done
+    flush-ends configured old all total stands stands_now f.media.content talked.media.content flushed.media.content f.media.faults talked.media.faults flushed.media.faults (K.written c.args.out.now) (K.written x.out) (S.left x.input) c.flush_all-flushed.result c.talk_from-status.result
+    c.talk_from-status.ensures.statuses c.flush_all-flushed.ensures.goes.faults (c.talk_from-status.ensures.talks configured old left hand total makes ready here unread most told ended within is)
+    (λ moments ran. c.flush_all-flushed.ensures.flushes configured old moments f.media.content f.media.faults (sym (made-by c.args.config.now configured makes).plans_are) ready ran) in
+    subst (λ status. MediumEnds configured old all total stands_now f.media.content flushed.media.content f.media.faults flushed.media.faults (K.written c.args.out.now) (K.written x.out) (S.left x.input) c.flush_all-flushed.result status) (sym c.status_behind.ensures.exact) done
+
+pub returns-clause-input : goal.returns-clause-input
+returns-clause-input g c = λ left total told ended within.
+    let left_now = g.S.Source.left c.talk_from-status.new.input in
+    subst (InputEnds total left_now) (sym c.status_behind.ensures.exact) (input-behind total left_now c.talk_from-status.result c.flush_all-flushed.result.all (c.talk_from-status.ensures.input left total told ended within))

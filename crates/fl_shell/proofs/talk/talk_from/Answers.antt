@@ -1,4 +1,5 @@
-use Rattle.std.proofs.Common.{◌≡◌, ◌∙◌, sym, subst}
+use Rattle.std.proofs.Common.{◌≡◌, ◌∙◌, Some, ap, sym, subst}
+use Rattle.fl_session.specs.Execute.{StandsAlike}
 use Rattle.fl_words.specs.Grammar.{lines_of}
 use Rattle.fl_shell.specs.Reading.{rest_in}
 use Rattle.fl_shell.specs.Talking.{TalkEnds, lines_from}
@@ -15,7 +16,7 @@ returns-in-InHand-clause-talks g c = λ configured old left hand total makes rea
     let f = E.flash c.args.session.now in
     let x = c.talk.new in
     let open_now : c.args.next ≡ Ended → ⊥ = λ e. let k = sym c.in-InHand.is ∙ e in cc in
-    subst (λ n. TalkEnds configured old (lines_from n hand (lines_of (rest_in c.args.lines.now left))) total (E.stands x.session configured) f.media.content f.media.faults (E.flash x.session) (K.written c.args.out.now) (K.written x.out) (S.left x.input) c.talk.result) (sym c.in-InHand.is)
+    subst (λ n. TalkEnds configured old (lines_from n hand (lines_of (rest_in c.args.lines.now left))) total (StandsAlike (E.stands x.session configured)) f.media.content (E.flash x.session).media.content f.media.faults (E.flash x.session).media.faults (K.written c.args.out.now) (K.written x.out) (S.left x.input) c.talk.result) (sym c.in-InHand.is)
     (c.talk.ensures.talks configured old left hand total makes ready here unread (most open_now) told (within open_now) is)
 
 pub returns-in-Unread-clause-talks : goal.returns-in-Unread-clause-talks
@@ -26,7 +27,7 @@ returns-in-Unread-clause-talks g c = λ configured old left hand total makes rea
     let f = E.flash c.args.session.now in
     let x = c.talk-in-Unread.new in
     let open_now : c.args.next ≡ Ended → ⊥ = λ e. let k = sym c.in-Unread.is ∙ e in cc in
-    subst (λ n. TalkEnds configured old (lines_from n hand (lines_of (rest_in c.args.lines.now left))) total (E.stands x.session configured) f.media.content f.media.faults (E.flash x.session) (K.written c.args.out.now) (K.written x.out) (S.left x.input) c.talk-in-Unread.result) (sym c.in-Unread.is)
+    subst (λ n. TalkEnds configured old (lines_from n hand (lines_of (rest_in c.args.lines.now left))) total (StandsAlike (E.stands x.session configured)) f.media.content (E.flash x.session).media.content f.media.faults (E.flash x.session).media.faults (K.written c.args.out.now) (K.written x.out) (S.left x.input) c.talk-in-Unread.result) (sym c.in-Unread.is)
     (c.talk-in-Unread.ensures.talks configured old left hand total makes ready here unread (most open_now) told (within open_now) is)
 
 pub returns-in-Ended-clause-talks : goal.returns-in-Ended-clause-talks
@@ -35,5 +36,18 @@ returns-in-Ended-clause-talks g c = λ configured old left hand total makes read
     let S = g.S.Source in
     let K = g.K.Sink in
     let f = E.flash c.args.session.now in
-    subst (λ n. TalkEnds configured old (lines_from n hand (lines_of (rest_in c.args.lines.now left))) total (E.stands c.args.session.now configured) f.media.content f.media.faults f (K.written c.args.out.now) (K.written c.args.out.now) (S.left c.args.input.now) Done) (sym c.in-Ended.is)
+    subst (λ n. TalkEnds configured old (lines_from n hand (lines_of (rest_in c.args.lines.now left))) total (StandsAlike (E.stands c.args.session.now configured)) f.media.content f.media.content f.media.faults f.media.faults (K.written c.args.out.now) (K.written c.args.out.now) (S.left c.args.input.now) Done) (sym c.in-Ended.is)
     (talk-ended configured old total (E.stands c.args.session.now configured) f (K.written c.args.out.now) (S.left c.args.input.now) left unread here told (none c.in-Ended.is))
+
+pub returns-in-InHand-clause-input : goal.returns-in-InHand-clause-input
+returns-in-InHand-clause-input g c = λ left total told ended within.
+    let open_now : c.args.next ≡ Ended → ⊥ = λ e. let k = sym c.in-InHand.is ∙ e in cc in
+    c.talk.ensures.input left total told (within open_now)
+
+pub returns-in-Unread-clause-input : goal.returns-in-Unread-clause-input
+returns-in-Unread-clause-input g c = λ left total told ended within.
+    let open_now : c.args.next ≡ Ended → ⊥ = λ e. let k = sym c.in-Unread.is ∙ e in cc in
+    c.talk-in-Unread.ensures.input left total told (within open_now)
+
+pub returns-in-Ended-clause-input : goal.returns-in-Ended-clause-input
+returns-in-Ended-clause-input g c = λ left total told ended within. told ∙ ap Some (ended c.in-Ended.is)

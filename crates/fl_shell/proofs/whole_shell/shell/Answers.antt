@@ -1,4 +1,4 @@
-use Rattle.std.proofs.Common.{◌≡◌, [], IsTrue, inl, Ok, Err, refl, ◌∙◌, length, subst}
+use Rattle.std.proofs.Common.{◌≡◌, [], IsTrue, inl, Ok, Err, refl, sym, ◌∙◌, ap, length, subst}
 use Rattle.fl_model.specs.Image.{medium_len}
 use Rattle.fl_words.specs.Grammar.{lines_of}
 use Rattle.fl_words.specs.Medium.{header}
@@ -7,9 +7,12 @@ use Rattle.fl_image.proofs.Reach.{reach}
 use Rattle.fl_session.specs.Ends.{told_of}
 use Rattle.fl_session.proofs.Over.{media-goes_on, opens-as, opens-goes}
 use Rattle.fl_session.proofs.Fresh.{new-blank, none-of}
+use Rattle.fl_shell.specs.Input.{InputEnds}
 use Rattle.fl_shell.specs.Statuses.{IsOfSession, opening_status}
 use Rattle.fl_shell.specs.declared.end.ShellStatus.TheVariants.{NoMemory}
+use Rattle.fl_shell.proofs.CompleteEnds.{completes, completes-none, early-at, looks-early, opening-early, opening-made, rose-after, session-early}
 use Rattle.fl_shell.proofs.EarlyEnds.{begin-failed, begins-on, ends-of, looks-goes, no-room, not-opened, open-rose, untouched}
+use Rattle.fl_shell.proofs.InputEnds.{input-opening}
 use Rattle.fl_shell.proofs.ShellEnds.{shell-ends, unread-begins, unread-few, unread-left, unread-short}
 use Rattle.fl_shell.proofs.whole_shell.shell.Goals as goal
 
@@ -139,3 +142,94 @@ returns-clause-goes g c =
     let lines = c.in-Ok-begin.begun.config in
     let w = whole-of 0 lines c.in-Ok-begin.ensures.whole in
     media-goes_on old looked made (looks-goes old looked c.in-Ok-begin.ensures.looks) (opens-goes (medium_len w.0) (header w.0) looked (Err c.in-Err-open_image.refusal) made (c.in-Err-open_image.ensures w.0 (makes-of 0 lines w.0 w.1)))
+
+-- ---- what the input alone decides
+
+pub returns-in-Ok-open_image-clause-input : goal.returns-in-Ok-open_image-clause-input
+returns-in-Ok-open_image-clause-input g c = λ text told.
+    let leaves = c.in-Ok-begin.ensures.input text (length text) told (unread-left c.in-Ok.lines text c.in-Ok.ensures) in
+    c.talk_over.ensures.input leaves.rest (length text) leaves.rest_told leaves.ended leaves.within
+
+pub returns-in_default-clause-input : goal.returns-in_default-clause-input
+returns-in_default-clause-input g c = λ text told. subst (InputEnds (length text) (g.S.Source.left c.args.input.now)) (sym c.of.ensures.status) tt
+
+pub returns-in_default-new-clause-input : goal.returns-in_default-new-clause-input
+returns-in_default-new-clause-input g c = λ text told. subst (InputEnds (length text) (g.S.Source.left c.args.input.now)) (sym c.of-in_default-new.ensures.status) tt
+
+pub returns-in-Err-clause-input : goal.returns-in-Err-clause-input
+returns-in-Err-clause-input g c = λ text told.
+    subst (InputEnds (length text) (g.S.Source.left c.begin.new.input)) (sym c.of-in-Err.ensures.status) (c.in-Err.ensures.input text (length text) told (unread-left c.in-Ok.lines text c.in-Ok.ensures))
+
+pub returns-in_default-new-2-clause-input : goal.returns-in_default-new-2-clause-input
+returns-in_default-new-2-clause-input g c = λ text told. subst (InputEnds (length text) (g.S.Source.left c.begin.new.input)) (sym c.of-in_default-new-2.ensures.status) tt
+
+pub returns-clause-input : goal.returns-clause-input
+returns-clause-input g c = λ text told.
+    let left = g.S.Source.left c.begin.new.input in
+    subst (InputEnds (length text) left) (sym (c.of-in-Err-open_image.ensures.status ∙ c.status_of.ensures)) (input-opening (length text) left c.in-Err-open_image.refusal)
+
+-- ---- the medium where no image was opened
+
+pub returns-in-Ok-open_image-clause-early : goal.returns-in-Ok-open_image-clause-early
+returns-in-Ok-open_image-clause-early g c = session-early (g.M.Media.state c.args.media.now) (g.M.Media.state c.talk_over.new.media) c.talk_over.result.status c.talk_over.ensures.statuses
+
+pub returns-in_default-clause-early : goal.returns-in_default-clause-early
+returns-in_default-clause-early g c = let old = g.M.Media.state c.args.media.now in looks-early old old c.of.result.status refl
+
+pub returns-in_default-new-clause-early : goal.returns-in_default-new-clause-early
+returns-in_default-new-clause-early g c = let old = g.M.Media.state c.args.media.now in looks-early old old c.of-in_default-new.result.status refl
+
+pub returns-in-Err-clause-early : goal.returns-in-Err-clause-early
+returns-in-Err-clause-early g c = looks-early (g.M.Media.state c.args.media.now) (g.M.Media.state c.begin.new.media) c.of-in-Err.result.status c.in-Err.ensures.looks.content
+
+pub returns-in_default-new-2-clause-early : goal.returns-in_default-new-2-clause-early
+returns-in_default-new-2-clause-early g c = looks-early (g.M.Media.state c.args.media.now) (g.M.Media.state c.begin.new.media) c.of-in_default-new-2.result.status c.in-Ok-begin.ensures.looks.content
+
+pub returns-clause-early : goal.returns-clause-early
+returns-clause-early g c =
+    let old = g.M.Media.state c.args.media.now in
+    let looked = g.M.Media.state c.begin.new.media in
+    let made = g.M.Media.state c.open_image.new.media in
+    let lines = c.in-Ok-begin.begun.config in
+    let w = whole-of 0 lines c.in-Ok-begin.ensures.whole in
+    let refusal = c.in-Err-open_image.refusal in
+    early-at old made c.of-in-Err-open_image.result.status (opening_status refusal) (c.of-in-Err-open_image.ensures.status ∙ c.status_of.ensures)
+    (opening-early w.0 old looked made refusal c.in-Ok-begin.ensures.looks (opens-as w.0 looked (Err refusal) made (c.in-Err-open_image.ensures w.0 (makes-of 0 lines w.0 w.1))))
+
+-- ---- an input is answered to its end
+
+pub returns-in-Ok-open_image-clause-complete : goal.returns-in-Ok-open_image-clause-complete
+returns-in-Ok-open_image-clause-complete g c = λ text tells told short is read write make.
+    let S = g.S.Source in
+    let K = g.K.Sink in
+    let later = c.in-Ok-begin.ensures.later in
+    completes 64 text _ c.talk_over.result.flushed c.talk_over.result.status short is (returns-in-Ok-open_image-clause-input g c text told)
+    (λ e. read (rose-after (S.faults c.args.input.now) (S.faults c.begin.new.input) (S.faults c.talk_over.new.input) later.0 (c.talk_over.ensures.read e)))
+    (λ e. write (rose-after (K.faults c.args.out.now) (K.faults c.begin.new.out) (K.faults c.talk_over.new.out) later.1 (c.talk_over.ensures.write e)))
+    (λ e. absurd (subst IsOfSession e c.talk_over.ensures.statuses)) (returns-in-Ok-open_image-clause-ends g c text tells told)
+
+pub returns-in_default-clause-complete : goal.returns-in_default-clause-complete
+returns-in_default-clause-complete g c = λ text tells told short is read write make. completes-none 64 text _ c.of.result.flushed c.of.result.status c.of.ensures.status (returns-in_default-clause-ends g c text tells told)
+
+pub returns-in_default-new-clause-complete : goal.returns-in_default-new-clause-complete
+returns-in_default-new-clause-complete g c = λ text tells told short is read write make.
+    completes-none 64 text _ c.of-in_default-new.result.flushed c.of-in_default-new.result.status c.of-in_default-new.ensures.status (returns-in_default-new-clause-ends g c text tells told)
+
+pub returns-in-Err-clause-complete : goal.returns-in-Err-clause-complete
+returns-in-Err-clause-complete g c = λ text tells told short is read write make.
+    let same = c.of-in-Err.ensures.status in
+    completes 64 text _ c.of-in-Err.result.flushed c.of-in-Err.result.status short is (returns-in-Err-clause-input g c text told)
+    (λ e. read (c.in-Err.ensures.read (ap Err (sym same ∙ e)))) (λ e. write (c.in-Err.ensures.write (ap Err (sym same ∙ e)))) (λ e. make (c.in-Err.ensures.make (ap Err (sym same ∙ e))))
+    (returns-in-Err-clause-ends g c text tells told)
+
+pub returns-in_default-new-2-clause-complete : goal.returns-in_default-new-2-clause-complete
+returns-in_default-new-2-clause-complete g c = λ text tells told short is read write make.
+    completes-none 64 text _ c.of-in_default-new-2.result.flushed c.of-in_default-new-2.result.status c.of-in_default-new-2.ensures.status (returns-in_default-new-2-clause-ends g c text tells told)
+
+pub returns-clause-complete : goal.returns-clause-complete
+returns-clause-complete g c = λ text tells told short is read write make.
+    let status = c.of-in-Err-open_image.result.status in
+    let refused = c.of-in-Err-open_image.ensures.status ∙ c.status_of.ensures in
+    completes 64 text _ c.of-in-Err-open_image.result.flushed status short is (returns-clause-input g c text told)
+    (λ e. opening-made c.in-Err-open_image.refusal status refused (subst IsOfSession (sym e) tt)) (λ e. opening-made c.in-Err-open_image.refusal status refused (subst IsOfSession (sym e) tt))
+    (λ e. make (returns-clause-make g c e)) (returns-clause-ends g c text tells told)
