@@ -43,4 +43,4 @@ command-same config old (command.Load name count step seed) after bytes now e = 
 command-same config old c after bytes now e = e
 
 pub moment-same : (config : Config) (old : Machine) (moment : Moment) (bytes now : List ℕ) → IsImage config now (map lose moment.after.tables) → now ≡ bytes → MomentStays config old moment bytes now
-moment-same config old moment bytes now image e = record { image = image; stays = λ calm whole. command-same config old moment.command moment.after bytes now e }
+moment-same config old moment bytes now image e = record { image = image; idle = λ idle. e; stays = λ calm whole. command-same config old moment.command moment.after bytes now e }

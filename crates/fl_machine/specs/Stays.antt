@@ -1,6 +1,6 @@
 -- The bytes of a medium after each command of a run: they stand for the state, and what the command's operations don't
 -- touch is as it was.
-use Rattle.std.specs.Prelude.{◌≡◌, ◌⊎◌, ℕ, ◌-◌, ◌*◌, ◌<◌, ◌≤◌, true, false, Some, None, List, [], ◌∷◌, ◌++◌, map, take, replicate, slice_get, sum_by, MatchBool, IsTrue}
+use Rattle.std.specs.Prelude.{◌≡◌, ◌⊎◌, ℕ, ◌-◌, ◌*◌, ◌<◌, ◌≤◌, Bool, true, false, Some, None, List, [], ◌∷◌, ◌++◌, map, take, replicate, slice_get, sum_by, MatchBool, IsTrue}
 use Rattle.fl_model.specs.Image.{bytes_at, page_bytes, first_block}
 use Rattle.fl_model.specs.Layout.{is_blank, IsTornPage}
 use Rattle.fl_model.specs.Record.{Plan, Config, blocks_of, has_log}
@@ -9,6 +9,8 @@ use Rattle.fl_model.specs.Table.{Table, RingName, DataRing, IndexRing, VarRing, 
 use Rattle.fl_words.specs.Command as command
 use Rattle.fl_words.specs.Command.{Command}
 use Rattle.fl_words.specs.Medium.{IsImage}
+use Rattle.fl_words.specs.Reply as reply
+use Rattle.fl_words.specs.Reply.{Reply}
 use Rattle.fl_machine.specs.Machine.{Machine}
 use Rattle.fl_machine.specs.Step.{Moment}
 
@@ -59,11 +61,40 @@ CommandStays config old (command.Flush name) after bytes now = MatchBool old.mou
 CommandStays config old (command.Load name count step seed) after bytes now = MatchBool old.mounted (TablesStay config bytes now old.tables after.tables) (now ≡ bytes)
 CommandStays config old _ after bytes now = now ≡ bytes
 
+-- this reply refuses a put, a flush, a load or a mount
+abbrev pub is_refusal : Reply → Bool
+is_refusal reply.NotMounted = true
+is_refusal reply.AlreadyMounted = true
+is_refusal reply.NoTable = true
+is_refusal (reply.RefusedKey last) = true
+is_refusal (reply.RefusedColumns wanted) = true
+is_refusal (reply.RefusedValue column) = true
+is_refusal (reply.RefusedBlob limit) = true
+is_refusal reply.RefusedSpent = true
+is_refusal _ = false
+
+-- .. and is all that was replied
+abbrev pub are_refusal : List Reply → Bool
+are_refusal [] = false
+are_refusal (said ∷ []) = is_refusal said
+are_refusal (said ∷ next ∷ more) = false
+
+-- a command that has no operations, or was refused
+abbrev pub IsIdle : Command → List Reply → Type 0
+IsIdle command.Mount replies = IsTrue (are_refusal replies)
+IsIdle (command.Put name key values blob) replies = IsTrue (are_refusal replies)
+IsIdle (command.Flush name) replies = IsTrue (are_refusal replies)
+IsIdle (command.Load name count step seed) replies = IsTrue (are_refusal replies)
+IsIdle _ replies = Unit {0}
+
 -- the bytes before and after a moment
 pub record MomentStays (config : Config) (old : Machine) (moment : Moment) (bytes now : List ℕ) : Type 0 where
   -- they stand for the state after it, whatever failed
   pub image : IsImage config now (map lose moment.after.tables)
-  pub stays : moment.rose ≡ false → moment.last ≡ None → CommandStays config old moment.command moment.after bytes now
+  -- an idle one changes no byte, though a read or whatever else of the medium failed
+  pub idle : IsIdle moment.command moment.replies → now ≡ bytes
+  -- all its operations were done, and the reads of a mount
+  pub stays : (moment.command ≡ command.Mount → moment.rose ≡ false) → moment.last ≡ None → CommandStays config old moment.command moment.after bytes now
 
 -- .. and those before and after each of these moments
 abbrev pub StaysEach : Config → Machine → List Moment → List ℕ → List ℕ → Type 0

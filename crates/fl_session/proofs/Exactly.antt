@@ -56,7 +56,7 @@ commands-exact config old command entries entries_now f f_now mounted mounted_no
     let erases : m.after.device.erases ≡ f_now.work.erases = sym (ap (λ (d : Device). d.erases) device) ∙ after.device.erases in
     let left : m.after.tables ≡ (plain config old command).after.tables = ap (λ (x : Machine). x.tables) s.same.ends ∙ ap (λ (c : Command). (plain config old c).after.tables) e.command_is in
     let tables : e.after.tables ≡ (plain config old command).after.tables = e.alike.tables ∙ left in
-    let stays : CommandStays config old command m.after f.media.content f_now.media.content = subst (λ c. CommandStays config old c m.after f.media.content f_now.media.content) e.command_is (e.stays.stays rose s.whole) in record {
+    let stays : CommandStays config old command m.after f.media.content f_now.media.content = subst (λ c. CommandStays config old c m.after f.media.content f_now.media.content) e.command_is (e.stays.stays (λ mount. rose) s.whole) in record {
       programs = λ less. sym programs ∙ (counts.programs (subst (λ n. n < 2 ^ 64 - 1) (sym programs) less) ∙ ap (λ n. n + programs_in (operations_by config old command)) stands.device.programs);
       erases = λ less. sym erases ∙ (counts.erases (subst (λ n. n < 2 ^ 64 - 1) (sym erases) less) ∙ ap (λ n. n + erases_in (operations_by config old command)) stands.device.erases);
       content = subst (λ ts. IsImage config f_now.media.content (map lose ts)) tables (session-ends config entries_now notes_now f_now mounted_now e.after after);

@@ -22,7 +22,7 @@ use Rattle.fl_words.specs.Reply as reply
 use Rattle.fl_words.specs.Reply.{Reply, texts}
 use Rattle.fl_machine.specs.Machine.{Machine, stopped}
 use Rattle.fl_machine.specs.Reads.{none_read}
-use Rattle.fl_machine.specs.Stays.{CommandStays, TablesStay}
+use Rattle.fl_machine.specs.Stays.{CommandStays, TablesStay, IsIdle, are_refusal}
 use Rattle.fl_machine.specs.Step.{Moment, Says, Located, refused, LoadStep, LoadsFrom, LoadsOn, load_record, load_values, next_random}
 use Rattle.fl_table.specs.declared.table.Table.{Table}
 use Rattle.fl_table.specs.declared.faults.PutRefusal.{PutRefusal}
@@ -49,7 +49,7 @@ use Rattle.fl_session.proofs.KeptPages.{TablesKeep, tables-keep_all, tables-on, 
 use Rattle.fl_session.proofs.NamedTable.{Own, own-of}
 use Rattle.fl_session.proofs.Rested.{session-ends}
 use Rattle.fl_store.proofs.Risen.{has_risen, risen-rose}
-use Rattle.fl_session.proofs.PutsAndFlushes.{stands-done, stands-broken, keeps-done, last_of, not-whole}
+use Rattle.fl_session.proofs.PutsAndFlushes.{works-on, stands-done, stands-broken, keeps-done, last_of, not-whole}
 
 -- the machine in the midst of a load
 abbrev pub amid : Machine → Device → List model.Table → Machine
@@ -142,8 +142,9 @@ rose-risen f g r = le-leb (min (f.media.faults + 1) (2 ^ 64 - 1)) g.media.faults
 ends-load : (config : Config) (entries now : List Entry) (at : ℕ) (entry : Entry) (asked : List ℕ) (notes : Notes) (old : Machine) (f g : FlashState) (count step seed : ℕ) (mounted : Bool) (plan : Plan) (moment : Moment) →
     SessionStands config entries f true notes old → slice_get entries at ≡ Some entry → IsNamed entries asked at → moment.command ≡ command.Load asked count step seed → moment.rose ≡ has_risen f g → none_read moment → slice_get config.plans at ≡ Some plan →
     LoadsFrom config old moment plan at step seed count 1 (next_random seed) 0 old.device old.tables → SessionStands config now g mounted notes moment.after →
-    (moment.last ≡ None → TablesStay config f.media.content g.media.content old.tables moment.after.tables) → Answers config old (command.Load asked count step seed) (SessionStands config now g mounted notes) f g (texts moment.replies)
-ends-load config entries now at entry asked notes old f g count step seed mounted plan moment h here named is rose none plan_is loads stands stay =
+    (moment.last ≡ None → TablesStay config f.media.content g.media.content old.tables moment.after.tables) → are_refusal moment.replies ≡ false →
+    Answers config old (command.Load asked count step seed) (SessionStands config now g mounted notes) f g (texts moment.replies)
+ends-load config entries now at entry asked notes old f g count step seed mounted plan moment h here named is rose none plan_is loads stands stay tells =
     let own = own-of config old entries f notes asked at entry h here named in
     let place : Located = record { place = at; plan = own.plan; table = own.table } in
     let load : LoadStep config old moment count step seed place = subst (λ p. LoadsFrom config old moment p at step seed count 1 (next_random seed) 0 old.device old.tables) (some-is (slice_get config.plans at) plan own.plan plan_is own.plan_is) loads in
@@ -154,6 +155,7 @@ ends-load config entries now at entry asked notes old f g count step seed mounte
       stands_after = stands;
       stays = record {
         image = session-ends config now notes g mounted moment.after stands;
+        idle = λ idle. absurd (works-on moment.replies tells (subst (λ c. IsIdle c moment.replies) is idle));
         stays = λ calm whole. subst (λ c. CommandStays config old c moment.after f.media.content g.media.content) (sym is)
             (mounted-stays config old.mounted f.media.content g.media.content old.tables moment.after.tables h.is_mounted (stay whole));
       };
@@ -170,7 +172,7 @@ load-finished config entries at entry asked notes old u f g count step seed load
     let moment : Moment = record { command = command.Load asked count step seed; rose = has_risen f g; reads = 0; last = None; replies = reply.Loaded count ∷ []; after = amid old so_far.device so_far.tables } in
     let ended : LoadsFrom config old moment so_far.plan at step seed 0 (loaded + 1) random loaded so_far.device so_far.tables = record { replies_are = ap (λ n. reply.Loaded n ∷ []) (sym e); after_is = refl; last_is = refl } in
     let loads = so_far.whole moment refl (subst (λ turns. LoadsFrom config old moment so_far.plan at step seed turns (loaded + 1) random loaded so_far.device so_far.tables) (let k : 0 ≡ count - loaded = omega arith in k) ended) in
-    ends-load config entries (entries_with entries at entry u) at entry asked notes old f g count step seed true so_far.plan moment h here named refl refl refl so_far.plan_is loads so_far.stands (λ whole. tables-stay config f.media.content g.media.content old.tables so_far.tables so_far.keeps)
+    ends-load config entries (entries_with entries at entry u) at entry asked notes old f g count step seed true so_far.plan moment h here named refl refl refl so_far.plan_is loads so_far.stands (λ whole. tables-stay config f.media.content g.media.content old.tables so_far.tables so_far.keeps) refl
 
 -- an operation of a put failed
 abbrev stopped_so : Machine → Command → Bool → ℕ → ℕ → List model.Table → PartProgress model.Table → FlashFault → Moment
@@ -277,7 +279,7 @@ module _ (config : Config) (entries : List Entry) (at : ℕ) (entry : Entry) (as
       let loads = loads-so moment None refl ends.0 (progress_at at so_far.tables b.now, does, stops-load old (command.Load asked count step seed) rose at loaded so_far.tables b.now fault g others b.now.end refl b.answer) in
       let broken = stands-broken config mid_old mid_entries at (entry_now entry t) asked notes u f g so_far.stands (entry-there entries at entry t here) own goes same outside b.now.state b.now.device b.counts b.rests in
       ends-load config entries (entries_with entries at entry u) at entry asked notes old before g count step seed false own.plan moment stood here named refl risen refl own.plan_is loads
-      (subst (λ es. SessionStands config es g false notes moment.after) (entries-again entries at entry t u) broken) (λ whole. absurd (not-whole at so_far.tables b.now.end fault g b.answer whole))
+      (subst (λ es. SessionStands config es g false notes moment.after) (entries-again entries at entry t u) broken) (λ whole. absurd (not-whole at so_far.tables b.now.end fault g b.answer whole)) refl
 
   load-refused : (before : FlashState) (refusal : Refusal) → start ≡ before.media.content → SessionStands config entries before true notes old → rose ≡ has_risen before g → u ≡ t → g ≡ f → refusal_of own.plan own.table item ≡ Some refusal →
       Answers config old (command.Load asked count step seed) (SessionStands config (entries_with entries at entry u) g true notes) before g (texts (reply.Loaded loaded ∷ refused refusal ∷ []))
@@ -286,7 +288,7 @@ module _ (config : Config) (entries : List Entry) (at : ℕ) (entry : Entry) (as
       let loads = loads-so moment (Some refusal) refl is (record { replies_are = refl; after_is = refl; last_is = refl }) in
       ends-load config entries (entries_with entries at entry u) at entry asked notes old before g count step seed true own.plan moment stood here named refl risen refl own.plan_is loads (rw (e, k) so_far.stands)
       (λ whole. tables-stay config before.media.content g.media.content old.tables so_far.tables (subst (λ (x : FlashState). TablesKeep config before.media.content x.media.content old.tables so_far.tables) (sym k)
-      (subst (λ c. TablesKeep config c f.media.content old.tables so_far.tables) begun so_far.keeps)))
+      (subst (λ c. TablesKeep config c f.media.content old.tables so_far.tables) begun so_far.keeps))) refl
 
   pub load-stopped : (before : FlashState) (result : Result (Unit {0}) PutRefusal) → start ≡ before.media.content → SessionStands config entries before true notes old → rose ≡ has_risen before g → is_err result ≡ true → EndsNext result →
       IfErr result (λ e. RefusedSame t f e u g) →

@@ -103,5 +103,5 @@ module _ (config : Config) (old : Machine) (entries : List Entry) (notes : Notes
       let n = g.work.reads - f.work.reads in
       let before : StepOf config old a.moment command.Mount = subst (λ x. StepOf config old a.moment x) a.command_is a.step in
       let step : Step config old (again a.moment n) = step-is config old (again a.moment n) command.Mount a.command_is (mount-again config old a.moment n before) in
-      executes-by E config old command.Mount stands f g told told_now result (again a.moment n) a.command_is step a.stands_after (record { image = a.stays.image; stays = a.stays.stays }) refl (mount-limit (again a.moment n) few limited refl) a.rose
+      executes-by E config old command.Mount stands f g told told_now result (again a.moment n) a.command_is step a.stands_after (record { image = a.stays.image; idle = a.stays.idle; stays = a.stays.stays }) refl (mount-limit (again a.moment n) few limited refl) a.rose
       (subst (λ t. Written {E = E} told told_now result t) (sym a.said_is) w)

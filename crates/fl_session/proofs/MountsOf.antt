@@ -36,6 +36,7 @@ use Rattle.fl_session.proofs.MountRepairs.{mount-stays, pages-repaired}
 use Rattle.fl_store.proofs.TablesOnlyRead.{tables-kept}
 use Rattle.fl_store.proofs.Risen.{has_risen, risen-rose, watched}
 use Rattle.fl_store.proofs.Worked.{medium-goes}
+use Rattle.fl_session.proofs.PutsAndFlushes.{works-on, fault-no-refusal}
 
 -- the power is on
 stands-on : (config : Config) (old : Machine) (entries : List Entry) (notes : Notes) (f : FlashState) → SessionStands config entries f false notes old → SessionStands config entries (record f { is_on = true }) false notes old
@@ -129,6 +130,7 @@ module _ (config : Config) (old : Machine) (notes : Notes) (entries now : List E
         stands_after = stands;
         stays = record {
           image = session-ends config now (without_cursors notes) g true after stands;
+          idle = λ idle. absurd (works-on (reply.Done ∷ []) refl idle);
           stays = λ calm whole. mount-stays config old.mounted f.media.content g.media.content h.is_mounted (pages-repaired config entries old.tables f g (λ i. false) h.medium stands.medium h.tables (λ page within. repaired h.medium.told config.plans old.tables h.tables (inr (has_risen f g, old.device, watched)) page within));
         };
         rose = risen-rose f g;
@@ -185,7 +187,7 @@ module _ (config : Config) (old : Machine) (notes : Notes) (entries now : List E
         none = refl;
         step = mount-step moment refl refl (Stopped end) did (ends-stopped end fault end.outcome refl answer);
         stands_after = stands;
-        stays = record { image = session-ends config now (without_cursors notes) g false moment.after stands; stays = λ calm whole. absurd (not-whole fault end.outcome answer whole) };
+        stays = record { image = session-ends config now (without_cursors notes) g false moment.after stands; idle = λ idle. absurd (works-on (fault_reply fault ∷ []) (fault-no-refusal fault) idle); stays = λ calm whole. absurd (not-whole fault end.outcome answer whole) };
         rose = risen-rose f g;
         said_is = one-text (fault_reply fault);
       }
@@ -203,7 +205,7 @@ module _ (config : Config) (old : Machine) (notes : Notes) (entries now : List E
         none = refl;
         step = mount-step moment refl refl (Unread end) did (record { replies_are = refl; after_is = refl; last_is = refl });
         stands_after = stands;
-        stays = record { image = session-ends config now (without_cursors notes) g false after stands; stays = λ calm whole. absurd (both calm (unread-rose config.plans (has_risen f g) (turns_from 0 config.plans) old.device old.tables end did)) };
+        stays = record { image = session-ends config now (without_cursors notes) g false after stands; idle = λ idle. absurd (works-on (reply.DeviceFault ∷ []) refl idle); stays = λ calm whole. absurd (both (calm refl) (unread-rose config.plans (has_risen f g) (turns_from 0 config.plans) old.device old.tables end did)) };
         rose = risen-rose f g;
         said_is = one-text reply.DeviceFault ∙ ap (λ x. text (fault_reply x)) (sym is);
       }

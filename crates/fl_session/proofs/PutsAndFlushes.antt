@@ -1,11 +1,13 @@
 -- The puts and flushes of a session.
 use Rattle.std.proofs.Common.{◌≡◌, ℕ, ◌-◌, Bool, true, false, not, IsTrue, IfErr, Option, Some, None, Result, Ok, Err, List, [], ◌∷◌, map, set, slice_get, refl, sym, ◌∙◌, ap, subst}
 use Rattle.std.specs.Prelude.{option_map}
+use Rattle.std.proofs.lemmas.Bool.{false≢true}
 use Rattle.std.proofs.lemmas.List.{length-map}
 use Rattle.std.proofs.lemmas.Option.{slice_get-map}
 use Rattle.std.proofs.Math.IntN.{ℤ}
 use Rattle.fl_flash.specs.Flash.{FlashState, Goes, page_at}
 use Rattle.fl_flash.specs.declared.flash.FlashFault.{FlashFault}
+use Rattle.fl_flash.specs.declared.flash.FlashFault.TheVariants.{PowerLost, Media}
 use Rattle.fl_ring.specs.Device.{SameDevice}
 use Rattle.fl_ring.specs.Step.{IsWatched}
 use Rattle.fl_model.specs.Record.{Config, Plan, Record}
@@ -19,9 +21,9 @@ use Rattle.fl_model.proofs.PutAmongTables.{puts-at}
 use Rattle.fl_words.specs.Command as command
 use Rattle.fl_words.specs.Command.{Command}
 use Rattle.fl_words.specs.Reply as reply
-use Rattle.fl_words.specs.Reply.{text}
+use Rattle.fl_words.specs.Reply.{Reply, text}
 use Rattle.fl_machine.specs.Machine.{Machine, stopped}
-use Rattle.fl_machine.specs.Stays.{CommandStays, TablesStay}
+use Rattle.fl_machine.specs.Stays.{CommandStays, TablesStay, IsIdle, are_refusal}
 use Rattle.fl_machine.specs.Step.{Moment, Step, Says, EndsAs, Located, refused, PutStep, FlushStep}
 use Rattle.fl_table.specs.declared.faults.PutRefusal.{PutRefusal}
 use Rattle.fl_table.specs.declared.faults.PutRefusal.TheVariants as put
@@ -50,6 +52,14 @@ use Rattle.fl_session.proofs.ExecutedCommand.{one-text}
 use Rattle.fl_session.proofs.KeptPages.{TablesKeep, table-keeps, tables-keep_changed, tables-stay, mounted-stays}
 use Rattle.fl_session.proofs.NamedTable.{Own}
 use Rattle.fl_session.proofs.Rested.{session-ends}
+
+-- a reply that isn't a refusal is none of a command that did nothing
+pub works-on : (replies : List Reply) → are_refusal replies ≡ false → IsTrue (are_refusal replies) → ⊥
+works-on replies other is = false≢true (sym other ∙ is)
+
+pub fault-no-refusal : (fault : FlashFault) → are_refusal (fault_reply fault ∷ []) ≡ false
+fault-no-refusal PowerLost = refl
+fault-no-refusal Media = refl
 
 pub session-watched : (config : Config) (entries : List Entry) (notes : Notes) (f g : FlashState) (m : Machine) → SessionStands config entries f true notes m → IsWatched f g (has_risen f g) m.device
 session-watched config entries notes f g m h =
@@ -181,8 +191,9 @@ module _ (config : Config) (old : Machine) (entries : List Entry) (at : ℕ) (en
       Finishes first own.plan Does own.table (after own.table) u f g →
       ((bytes now : List ℕ) (m : Machine) → TablesStay config bytes now old.tables m.tables → CommandStays config old c m bytes now) →
       ((moment : Moment) → Works old moment Did (record old { tables = changed_at at after old.tables }) → moment.command ≡ c → Step config old moment) →
+      ((replies : List Reply) → are_refusal replies ≡ false → IsIdle c replies → ⊥) →
       Answers config old c (SessionStands config (entries_with entries at entry u) g true notes) f g (text reply.Done)
-  answers-done c Does Did after all fin says step =
+  answers-done c Does Did after all fin says step works =
       let after_is : Machine = record old { device = fin.now.device; tables = changed_at at after old.tables } in
       let moment = done_so c (has_risen f g) after_is in
       let stands = stands-done after fin.now.device fin.counts fin.power fin.stands in
@@ -198,6 +209,7 @@ module _ (config : Config) (old : Machine) (entries : List Entry) (at : ℕ) (en
         stands_after = stands;
         stays = record {
           image = session-ends config (entries_with entries at entry u) notes g true after_is stands;
+          idle = λ idle. absurd (works (reply.Done ∷ []) refl idle);
           stays = λ calm whole. says f.media.content g.media.content after_is (tables-stay config f.media.content g.media.content old.tables after_is.tables (keeps-done after fin.stand fin.log fin.stands));
         };
         rose = risen-rose f g;
@@ -206,8 +218,9 @@ module _ (config : Config) (old : Machine) (entries : List Entry) (at : ℕ) (en
 
   answers-broken : (c : Command) (Does : PartProgress model.Table → Type 0) (Did : Bool → Progress → Type 0) (new : Machine) (fault : FlashFault) → IsOfAll Does Did → Breaks first own.plan Does fault g →
       ((moment : Moment) → Works old moment Did new → moment.command ≡ c → Step config old moment) →
+      ((replies : List Reply) → are_refusal replies ≡ false → IsIdle c replies → ⊥) →
       Answers config old c (SessionStands config (entries_with entries at entry u) g false notes) f g (text (fault_reply fault))
-  answers-broken c Does Did new fault all b step =
+  answers-broken c Does Did new fault all b step works =
       let moment = broken_so c (has_risen f g) old at b.now fault in
       let stands = stands-broken b.now.state b.now.device b.counts b.rests in
       record {
@@ -220,7 +233,7 @@ module _ (config : Config) (old : Machine) (entries : List Entry) (at : ℕ) (en
         ) refl;
         none = refl;
         stands_after = stands;
-        stays = record { image = session-ends config (entries_with entries at entry u) notes g false moment.after stands; stays = λ calm whole. absurd (not-whole at old.tables b.now.end fault g b.answer whole) };
+        stays = record { image = session-ends config (entries_with entries at entry u) notes g false moment.after stands; idle = λ idle. absurd (works (fault_reply fault ∷ []) (fault-no-refusal fault) idle); stays = λ calm whole. absurd (not-whole at old.tables b.now.end fault g b.answer whole) };
         rose = risen-rose f g;
         said_is = one-text (fault_reply fault);
       }
@@ -265,9 +278,9 @@ module _ (config : Config) (old : Machine) (entries : List Entry) (at : ℕ) (en
         PutEnds first own.plan item own.table (has_risen f g) old.device result u f g → IfErr result (λ e. RefusedSame entry.table f e u g) →
         Answers config old (command.Put asked key values blob) (SessionStands config (entries_with entries at entry u) g mounted notes) f g (text (put_reply result))
     put-answers (Ok done) mounted m ends r =
-        rw m (answers-done (command.Put asked key values blob) PutsTable PutsAll (put_record own.plan item) puts-all ends.1 (λ bytes now m stay. mounted-stays config old.mounted bytes now old.tables m.tables h.is_mounted stay) (put-works ends.0))
+        rw m (answers-done (command.Put asked key values blob) PutsTable PutsAll (put_record own.plan item) puts-all ends.1 (λ bytes now m stay. mounted-stays config old.mounted bytes now old.tables m.tables h.is_mounted stay) (put-works ends.0) works-on)
     put-answers (Err (put.Flash fault)) mounted m ends r =
-        rw m (answers-broken (command.Put asked key values blob) PutsTable PutsAll (record old { tables = changed_at at (put_record own.plan item) old.tables }) fault puts-all ends.1 (put-works ends.0))
+        rw m (answers-broken (command.Put asked key values blob) PutsTable PutsAll (record old { tables = changed_at at (put_record own.plan item) old.tables }) fault puts-all ends.1 (put-works ends.0) works-on)
     put-answers (Err (put.Key last)) mounted m ends r = rw m (put-refused (BadKey last) r.0 r.1 ends)
     put-answers (Err (put.Columns wanted)) mounted m ends r = rw m (put-refused (BadColumns wanted) r.0 r.1 ends)
     put-answers (Err (put.Value column)) mounted m ends r = rw m (put-refused (BadValue column) r.0 r.1 ends)
@@ -291,7 +304,7 @@ module _ (config : Config) (old : Machine) (entries : List Entry) (at : ℕ) (en
 
   pub flush-answers : (result : Result (Unit {0}) FlushFault) (mounted : Bool) → mounted ≡ not (flush_breaks result) → FlushEnds first own.plan own.table (has_risen f g) old.device result u f g →
       Answers config old (command.Flush asked) (SessionStands config (entries_with entries at entry u) g mounted notes) f g (text (flush_reply result))
-  flush-answers (Ok done) mounted m ends = rw m (answers-done (command.Flush asked) FlushesTable FlushesAll (flushed own.plan) flushes-all ends (λ bytes now m stay. mounted-stays config old.mounted bytes now old.tables m.tables h.is_mounted stay) flush-works)
+  flush-answers (Ok done) mounted m ends = rw m (answers-done (command.Flush asked) FlushesTable FlushesAll (flushed own.plan) flushes-all ends (λ bytes now m stay. mounted-stays config old.mounted bytes now old.tables m.tables h.is_mounted stay) flush-works works-on)
   flush-answers (Err (flush.Flash fault)) mounted m ends =
-      rw m (answers-broken (command.Flush asked) FlushesTable FlushesAll (record old { tables = changed_at at (flushed own.plan) old.tables }) fault flushes-all ends flush-works)
+      rw m (answers-broken (command.Flush asked) FlushesTable FlushesAll (record old { tables = changed_at at (flushed own.plan) old.tables }) fault flushes-all ends flush-works works-on)
   flush-answers (Err flush.Stopped) mounted m ends = absurd ends
