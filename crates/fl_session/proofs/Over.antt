@@ -17,7 +17,7 @@ use Rattle.fl_session.specs.declared.status.Status.{Status}
 use Rattle.fl_lines.specs.Stream.{LinesState}
 use Rattle.fl_session.specs.Notes.{no_notes}
 use Rattle.fl_session.specs.declared.notes.Notes.{Notes}
-use Rattle.fl_session.specs.Standing.{SessionStands, IsSound, RestsTold, HasRooms}
+use Rattle.fl_session.specs.Standing.{SessionStands, IsSound, AreForgotten, RestsTold, HasRooms}
 use Rattle.fl_session.specs.declared.notes.TableCursor.{TableCursor}
 use Rattle.fl_session.specs.declared.buffers.Buffers.{Buffers}
 use Rattle.fl_session.specs.Run.{RunsFrom, around_of, IsOfCommands, refused_status}
@@ -52,11 +52,12 @@ no-cursor (suc n) (suc i) c e = no-cursor n i c e
 
 -- a session that begins is sound
 pub new-sound : (entries entries' : List Entry) (f f' : FlashState) (buf buf' : Buffers) (mounted : Bool) (notes : Notes) → entries' ≡ entries → f' ≡ f → buf' ≡ buf → mounted ≡ false → notes ≡ no_notes →
-    LieOn entries f → HasRooms buf f.geometry.page → IsSound entries' f' buf' mounted notes
-new-sound entries entries' f f' buf buf' mounted notes entries_are f_is buf_is off fresh lie room = rw (entries_are, f_is, buf_is) (record {
+    LieOn entries f → HasRooms buf f.geometry.page → AreForgotten buf → IsSound entries' f' buf' mounted notes
+new-sound entries entries' f f' buf buf' mounted notes entries_are f_is buf_is off fresh lie room forgotten = rw (entries_are, f_is, buf_is) (record {
   lie = lie;
   room = room;
   running = λ on. absurd (not_on (sym on ∙ off));
+  forgotten = λ ended. forgotten;
   cursors = λ i c e. absurd (no-cursor 4 i c (ap (λ (n : Notes). slice_get n.cursors i) (sym fresh) ∙ e));
 })
   where

@@ -15,18 +15,21 @@ use Rattle.fl_store.specs.declared.tables.Entry.{Entry}
 use Rattle.fl_store.proofs.CallsInTurn.{goes-set}
 use Rattle.fl_store.proofs.TablesLie.{lie-on, lie-with, running-with}
 use Rattle.fl_store.proofs.TablesChanged.{set-here, set-elsewhere}
-use Rattle.fl_session.specs.Standing.{HasRooms, IsSound}
+use Rattle.fl_session.specs.Standing.{AreForgotten, HasRooms, IsSound}
 use Rattle.fl_session.specs.declared.buffers.Buffers.{Buffers}
 use Rattle.fl_session.specs.declared.notes.Notes.{Notes}
 use Rattle.fl_session.specs.declared.notes.TableCursor.{TableCursor}
 
 -- a session after a call of one of its tables
-pub sound-with : (entries : List Entry) (at : ℕ) (entry : Entry) (u : LoggedTable 64 64) (f g : FlashState) (buf : Buffers) (mounted now : Bool) (notes : Notes) → slice_get entries at ≡ Some entry → Goes f g → LiesOn u g → mounted ≡ true → (now ≡ true → is_running u ≡ true) →
-    IsSound entries f buf mounted notes → IsSound (entries_with entries at entry u) g buf now notes
-sound-with entries at entry u f g buf mounted now notes here goes own on running s = record {
+pub sound-with : (entries : List Entry) (at : ℕ) (entry : Entry) (u : LoggedTable 64 64) (f g : FlashState) (buf buf' : Buffers) (mounted now : Bool) (notes : Notes) → slice_get entries at ≡ Some entry → Goes f g → LiesOn u g → mounted ≡ true → (now ≡ true → is_running u ≡ true) →
+    length buf'.rows.bytes ≡ length buf.rows.bytes → length buf'.index.bytes ≡ length buf.index.bytes →
+    (length buf'.right_rows.bytes ≡ length buf.right_rows.bytes) × (length buf'.right_index.bytes ≡ length buf.right_index.bytes) →
+    (now ≡ false → AreForgotten buf') → IsSound entries f buf mounted notes → IsSound (entries_with entries at entry u) g buf' now notes
+sound-with entries at entry u f g buf buf' mounted now notes here goes own on running rows index right forgotten s = record {
   lie = lie-with entries at entry u f g here goes s.lie own;
-  room = subst (λ (x : Geometry). HasRooms buf x.page) (sym goes.geometry) s.room;
+  room = subst (λ (x : Geometry). HasRooms buf' x.page) (sym goes.geometry) (rows ∙ s.room.0, index ∙ s.room.1, right.0 ∙ s.room.2, right.1 ∙ s.room.3);
   running = λ is. running-with entries at entry u here (s.running on) (running is);
+  forgotten = forgotten;
   cursors = λ i c e. subst (λ n. c.table < n) (sym (length-set entries at (record { name = entry.name; table = u }))) (s.cursors i c e);
 }
 
@@ -37,19 +40,21 @@ runs-after old new breaks said o e s n = e ∙ (ap (λ b. b && not breaks) o ∙
 -- .. and after reads, with other buffers
 pub sound-read : (entries : List Entry) (f g : FlashState) (buf buf' : Buffers) (mounted : Bool) (notes notes' : Notes) → Goes f g → length buf'.rows.bytes ≡ length buf.rows.bytes → length buf'.index.bytes ≡ length buf.index.bytes →
     (length buf'.right_rows.bytes ≡ length buf.right_rows.bytes) × (length buf'.right_index.bytes ≡ length buf.right_index.bytes) →
-    ((i : ℕ) (c : TableCursor) → slice_get notes'.cursors i ≡ Some (Some c) → c.table < length entries) → IsSound entries f buf mounted notes → IsSound entries g buf' mounted notes'
-sound-read entries f g buf buf' mounted notes notes' goes rows index right cursors s = record {
+    ((i : ℕ) (c : TableCursor) → slice_get notes'.cursors i ≡ Some (Some c) → c.table < length entries) → mounted ≡ true → IsSound entries f buf mounted notes → IsSound entries g buf' mounted notes'
+sound-read entries f g buf buf' mounted notes notes' goes rows index right cursors on s = record {
   lie = lie-on entries f g goes s.lie;
   room = subst (λ (x : Geometry). HasRooms buf' x.page) (sym goes.geometry) (rows ∙ s.room.0, index ∙ s.room.1, right.0 ∙ s.room.2, right.1 ∙ s.room.3);
   running = s.running;
+  forgotten = λ off. absurd (false≢true (sym off ∙ on));
   cursors = cursors;
 }
 
-pub sound-roomed : (entries : List Entry) (f g : FlashState) (buf buf' : Buffers) (mounted : Bool) (notes : Notes) → Goes f g → HasRooms buf' f.geometry.page → IsSound entries f buf mounted notes → IsSound entries g buf' mounted notes
-sound-roomed entries f g buf buf' mounted notes goes room s = record {
+pub sound-roomed : (entries : List Entry) (f g : FlashState) (buf buf' : Buffers) (mounted : Bool) (notes : Notes) → Goes f g → HasRooms buf' f.geometry.page → mounted ≡ true → IsSound entries f buf mounted notes → IsSound entries g buf' mounted notes
+sound-roomed entries f g buf buf' mounted notes goes room on s = record {
   lie = lie-on entries f g goes s.lie;
   room = subst (λ (x : Geometry). HasRooms buf' x.page) (sym goes.geometry) room;
   running = s.running;
+  forgotten = λ off. absurd (false≢true (sym off ∙ on));
   cursors = s.cursors;
 }
 
@@ -64,11 +69,12 @@ cursors-set entries cursors n mark within own i c e = by-place (eqb_tells n i)
 
 pub sound-off : (entries : List Entry) (f g : FlashState) (buf buf' : Buffers) (mounted : Bool) (notes : Notes) → g ≡ record f { is_on = false } → length buf'.rows.bytes ≡ length buf.rows.bytes → length buf'.index.bytes ≡ length buf.index.bytes →
     (length buf'.right_rows.bytes ≡ length buf.right_rows.bytes) × (length buf'.right_index.bytes ≡ length buf.right_index.bytes) →
-    IsSound entries f buf mounted notes → IsSound entries g buf' false notes
-sound-off entries f g buf buf' mounted notes is rows index right s = rw is (record {
+    AreForgotten buf' → IsSound entries f buf mounted notes → IsSound entries g buf' false notes
+sound-off entries f g buf buf' mounted notes is rows index right forgotten s = rw is (record {
   lie = lie-on entries f (record f { is_on = false }) (goes-set f false f.armed) s.lie;
   room = (rows ∙ s.room.0, index ∙ s.room.1, right.0 ∙ s.room.2, right.1 ∙ s.room.3);
   running = λ on. absurd (false≢true on);
+  forgotten = λ off. forgotten;
   cursors = s.cursors;
 })
 
@@ -77,5 +83,6 @@ sound-cut entries f g buf armed mounted notes is s = rw is (record {
   lie = lie-on entries f (record f { armed = armed }) (goes-set f f.is_on armed) s.lie;
   room = s.room;
   running = s.running;
+  forgotten = s.forgotten;
   cursors = s.cursors;
 })

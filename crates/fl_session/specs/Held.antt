@@ -13,13 +13,14 @@ use Rattle.fl_script.specs.declared.reply.Reply.TheVariants.{NotMounted, NoTable
 use Rattle.fl_table.specs.Look.{counts_of}
 use Rattle.fl_table.specs.declared.counts.TableCounts.{TableCounts}
 use Rattle.fl_store.specs.Store.{IsLayoutOf}
-use Rattle.fl_session.specs.Standing.{HasRooms}
+use Rattle.fl_session.specs.Standing.{AreForgotten, HasRooms}
 use Rattle.fl_session.specs.declared.opened.Rooms.{Rooms}
 
 -- there is room for a session of the configuration that these lines make
 pub record AreRoomsFor (rooms : Rooms) (lines : Lines) : Type 0 where
   pub layout : IsLayoutOf rooms.layout lines
   pub page : (g : Geometry) → lines.device ≡ Some g → HasRooms rooms.buf g.page
+  pub forgotten : AreForgotten rooms.buf
 
 -- This is told of the table with the name; or nothing is mounted, or no table has the name.
 abbrev pub TellsTable : {A : Type 0} → Config → Machine → List ℕ → (Located → A → Type 0) → Result A Reply → Type 0

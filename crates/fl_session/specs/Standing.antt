@@ -1,5 +1,5 @@
 -- A session, and the states of the machine for which it stands.
-use Rattle.std.specs.Prelude.{◌≡◌, ℕ, ◌<◌, Bool, true, IsTrue, List, length, Some, slice_get, if◌then◌else◌}
+use Rattle.std.specs.Prelude.{◌≡◌, ℕ, ◌<◌, Bool, true, false, IsTrue, List, length, None, Some, slice_get, if◌then◌else◌}
 use Rattle.fl_flash.specs.Flash.{FlashState}
 use Rattle.fl_flash.specs.Media.{MediaState}
 use Rattle.fl_ring.specs.Device.{SameDevice}
@@ -32,11 +32,17 @@ abbrev pub HasRooms : Buffers → ℕ → Type 0
 HasRooms buf size =
     (length buf.rows.bytes ≡ size) × (length buf.index.bytes ≡ size) × (length buf.right_rows.bytes ≡ size) × (length buf.right_index.bytes ≡ size)
 
+-- no buffer holds a page
+abbrev pub AreForgotten : Buffers → Type 0
+AreForgotten buf = (buf.rows.holds ≡ None) × (buf.index.holds ≡ None) × (buf.right_rows.holds ≡ None) × (buf.right_index.holds ≡ None)
+
 -- what holds of a session always: a cursor that is open is over one of its tables
 pub record IsSound (entries : List Entry) (f : FlashState) (buf : Buffers) (mounted : Bool) (notes : Notes) : Type 0 where
   pub lie : LieOn entries f
   pub room : HasRooms buf f.geometry.page
   pub running : mounted ≡ true → AreRunning entries
+  -- a session that isn't mounted, because it ended or hasn't begun, keeps no page
+  pub forgotten : mounted ≡ false → AreForgotten buf
   pub cursors : (i : ℕ) (c : TableCursor) → slice_get notes.cursors i ≡ Some (Some c) → c.table < length entries
 
 -- a medium stands for a state between two runs; it is no empty one

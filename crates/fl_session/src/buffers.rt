@@ -1,5 +1,6 @@
 // Room for the pages in hand.
-ghost use Rattle.std.specs.Prelude.{◌≡◌, length, IfOk};
+ghost use Rattle.std.specs.Prelude.{◌≡◌, false, length, IfOk};
+ghost use Rattle.fl_session.specs.Standing.{AreForgotten};
 
 use fl_base::NoMemory;
 use fl_flash::PageBuf;
@@ -21,6 +22,7 @@ impl Buffers {
         ensures index { IfOk result (λ b. length b.index.bytes ≡ size) }
         ensures right_rows { IfOk result (λ b. length b.right_rows.bytes ≡ size) }
         ensures right_index { IfOk result (λ b. length b.right_index.bytes ≡ size) }
+        ensures none { IfOk result AreForgotten }
     {
         Ok(Buffers {
             rows: PageBuf::new(alloc, size)?,
@@ -35,10 +37,23 @@ impl Buffers {
         ensures rows { length self.new.rows.bytes ≡ length self.old.rows.bytes }
         ensures index { length self.new.index.bytes ≡ length self.old.index.bytes }
         ensures right { (length self.new.right_rows.bytes ≡ length self.old.right_rows.bytes) × (length self.new.right_index.bytes ≡ length self.old.right_index.bytes) }
+        ensures none { AreForgotten self.new }
     {
         self.rows.forget();
         self.index.forget();
         self.right_rows.forget();
         self.right_index.forget();
+    }
+
+    /// They hold no page from then on if the session isn't mounted any more.
+    pub(crate) fn keep_while(&mut self, mounted: bool)
+        ensures rows { length self.new.rows.bytes ≡ length self.old.rows.bytes }
+        ensures index { length self.new.index.bytes ≡ length self.old.index.bytes }
+        ensures right { (length self.new.right_rows.bytes ≡ length self.old.right_rows.bytes) × (length self.new.right_index.bytes ≡ length self.old.right_index.bytes) }
+        ensures none { mounted ≡ false → AreForgotten self.new }
+    {
+        if !mounted {
+            self.forget();
+        }
     }
 }

@@ -105,6 +105,7 @@ impl<'m, M: Media> Session<'m, M> {
         self.flash.power_on();
         let outcome = self.tables.mount(&mut self.flash, &mut self.buf.rows);
         self.mounted = outcome.is_ok();
+        self.buf.keep_while(self.mounted);
         self.notes.cursors = NO_CURSORS;
         mount_reply(outcome)
     }
@@ -142,6 +143,7 @@ impl<'m, M: Media> Session<'m, M> {
             .table
             .put(&mut self.flash, key, values, blob);
         self.mounted = !put_breaks(&outcome);
+        self.buf.keep_while(self.mounted);
         put_reply(outcome)
     }
 
@@ -162,6 +164,7 @@ impl<'m, M: Media> Session<'m, M> {
         };
         let outcome = self.tables.entries[at].table.flush(&mut self.flash);
         self.mounted = !flush_breaks(&outcome);
+        self.buf.keep_while(self.mounted);
         flush_reply(outcome)
     }
 
@@ -303,6 +306,7 @@ impl<'m, M: Media> Session<'m, M> {
         let table = &mut self.tables.entries[at].table;
         let loaded = load(table, &mut self.flash, count, step, seed);
         self.mounted = !put_breaks(&loaded.outcome);
+        self.buf.keep_while(self.mounted);
         loaded.write(out)
     }
 }

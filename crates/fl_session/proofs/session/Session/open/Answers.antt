@@ -30,7 +30,7 @@ returns-clause-sound g c =
     rw c.set_cursor.ensures (sound-read c.args.self.now.tables.entries.items _ _ _ _ _ _ _ (goes-same _) c.open_cursor-mark.ensures.rows c.open_cursor-mark.ensures.index c.open_cursor-mark.ensures.right
     (cursors-set c.args.self.now.tables.entries.items c.args.self.now.notes.cursors c.args.cursor (Some (record { table = c.in-Ok.at; mark = c.open_cursor-mark.result })) c.requires.sound.cursors
     (λ x e. let is : c.in-Ok.at ≡ x.table = ap (λ (o : Option TableCursor). unwrap_or (option_map (λ y. y.table) o) 0) e in subst (λ n. n < length c.args.self.now.tables.entries.items) is within))
-    c.requires.sound)
+    c.in-Ok.ensures.mounted_is c.requires.sound)
 
 pub returns-clause-step : goal.returns-clause-step
 returns-clause-step g c = λ config old h.

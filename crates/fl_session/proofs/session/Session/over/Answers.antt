@@ -24,7 +24,7 @@ returns-clause-fresh g c = (
 pub returns-clause-sound : goal.returns-clause-sound
 returns-clause-sound g c =
     new-sound _ _ _ _ _ _ _ _ (ap (λ (t : Tables). t.entries.items) c.new.ensures.rooms.0) c.new.ensures.flash c.new.ensures.rooms.1 c.new.ensures.off c.new.ensures.fresh
-    c.over-flash.ensures.lie (c.requires.rooms.page _ c.over-flash.ensures.opened.device)
+    c.over-flash.ensures.lie (c.requires.rooms.page _ c.over-flash.ensures.opened.device) c.requires.rooms.forgotten
 
 pub returns-clause-unread : goal.returns-clause-unread
 returns-clause-unread g c = ap (λ (x : FlashState). x.work.reads) c.new.ensures.flash ∙ c.over-flash.ensures.opened.unread
