@@ -82,6 +82,7 @@ flush-stays : (config : Config) (a after : Machine) (cursors : List (Option Open
     MomentStays config (with_cursors a cursors) moment bytes now → MomentStays config a (record moment { after = after }) bytes now
 flush-stays config a after cursors moment name bytes now is alike h = record {
   image = subst (λ tables. IsImage config now (map lose tables)) alike.tables h.image;
+  idle = h.idle;
   stays = λ calm done. command-stays config a after moment.after cursors moment.command name bytes now is alike (h.stays calm done);
 }
 
