@@ -46,9 +46,10 @@ pub(crate) fn next_run<S: Source>(
 ) -> Result<Option<Command>, Status>
     ensures { NextRun lines.old (S.left script.old) (S.faults script.old) number result room.new lines.new (S.left script.new) (S.faults script.new) }
 {
-    let next = next_command(lines, room, script, number)?;
+    let next = next_command(lines, room, script, number);
+    // By a reference: a command has so many bytes that each move of one is felt.
     match &next {
-        Some(command) if is_config(command) => Err(Status::Line { line: number }),
-        _ => Ok(next),
+        Ok(Some(command)) if is_config(command) => Err(Status::Line { line: number }),
+        _ => next,
     }
 }
