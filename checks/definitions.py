@@ -3,9 +3,10 @@
 
 It begins at the names in the clauses of `run` (crates/fl_session/src/whole_run.rt) and follows the `use` lines of the files of
 definitions (crates/*/specs/*.antt), as long as they lead to crates of this repository. Types of the code that a definition names, and
-the traits and constants of `run`'s contract, are listed by the file that declares them. The list stands in docs/PROMISES.md between the heading
-`## What you have to read to believe the promise` and the next one; where it isn't what is found, this fails and prints the
-difference. With --write the list is written anew.
+the traits and constants of `run`'s contract, are listed by the file that declares them. The clause `causes`, of bytes that no run left, speaks
+of a session's memory and so of that of every crate below: what it needs beside the other clauses is only counted. The list stands in
+docs/PROMISES.md between the heading `## What you have to read to believe the promise` and the next one; where it isn't what is found, this
+fails and prints the difference. With --write the list is written anew.
 """
 import difflib
 import pathlib
@@ -16,6 +17,7 @@ ROOT = pathlib.Path(__file__).resolve().parent.parent
 RUN = "fl_session/src/whole_run.rt"
 PAGE = ROOT / "docs" / "PROMISES.md"
 HEADING = "## What you have to read to believe the promise"
+CAUSES = re.compile(r"\n    ensures causes \{.*?(?=\n    (?:ensures|//)|\Z)", re.S)
 USE = re.compile(r"^\s*(?:ghost |pub )*use Rattle\.(fl_\w+)\.specs\.([\w.]+?)(?:\.\{(.*)\}|\s+as\s+\w+)?;?\s*$", re.M)
 
 
@@ -67,8 +69,8 @@ def constants(contract):
             yield str(code.relative_to(ROOT / "crates"))
 
 
-def found():
-    code, contract = contract_of_run()
+def found(contract):
+    code, _ = contract_of_run()
     todo = [file_of(crate, path) for crate, path, names in uses(code) if names is None or any(occurs(n, contract) for n in names)]
     seen = set(traits(contract)) | set(constants(contract))
     while todo:
@@ -95,15 +97,21 @@ def rows(names, folder):
             yield f"| {crate} | {shown} | {lines} |"
 
 
-def section():
-    names = found()
+def counted(names):
+    """How many files of definitions these are, and in how many lines and crates."""
     specs = [n for n in names if n.endswith(".antt")]
-    lines = sum(text_of(n).count("\n") for n in specs)
-    crates = len({n.split("/")[0] for n in specs})
+    return specs, sum(text_of(n).count("\n") for n in specs), len({n.split("/")[0] for n in specs})
+
+
+def section():
+    _, contract = contract_of_run()
+    names = found(CAUSES.sub("", contract))
+    specs, lines, crates = counted(names)
+    more, more_lines, more_crates = counted(found(contract) - names)
     return "\n".join([
         HEADING,
         "",
-        f"The contract of `run` in `crates/{RUN}`, and what its words mean: {len(specs)} files of definitions in {crates} crates, {lines:,} lines.",
+        f"The contract of `run` in `crates/{RUN}` but for its clause `causes`, and what its words mean: {len(specs)} files of definitions in {crates} crates, {lines:,} lines.",
         "The code, the other definitions and the proofs needn't be read for it: the prover has checked that the code keeps this contract",
         "([what is trusted](PROVED.md#what-is-trusted)). `checks/definitions.py` makes the list: it follows the `use` lines from the contract on,",
         "and the gate fails if it finds another one.",
@@ -118,6 +126,9 @@ def section():
         "| Crate | Types, traits and constants, in `src/` | Lines |",
         "|---|---|---|",
         *rows([n for n in names if n.endswith(".rt")], "src"),
+        "",
+        f"The clause `causes`, [whatever bytes the image has](#whatever-bytes-the-image-has), speaks of what the tables have in memory: it needs {len(more)} further files of definitions",
+        f"in {more_crates} crates, {more_lines:,} lines, from `crates/fl_session/specs/CausedEach.antt` on. The promise above needs none of them.",
         "",
         "",
     ])

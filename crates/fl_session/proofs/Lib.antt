@@ -19,6 +19,8 @@ pub mod StatReply
 pub mod ToldOfTable
 pub mod MountsOf
 pub mod ReplyCauses
+pub mod CausesInTurn
+pub mod RanTo
 pub mod Calls
 pub mod Sound
 pub mod Rested

@@ -1,16 +1,11 @@
 -- The loop over the commands of a script, step by step.
 use Rattle.std.proofs.Common.{◌≡◌, ℕ, ◌+◌, ◌^◌, ◌<◌, ◌≤◌, Bool, true, false, inl, inr, Option, Some, None, Result, Ok, Err, List, [], ◌∷◌, ◌++◌, length, take, drop, refl, sym, ◌∙◌, ap, subst, append_assoc, length-append, arith}
 use Rattle.std.proofs.lemmas.Bool.{ltb-false}
-use Rattle.fl_flash.specs.Flash.{FlashState}
-use Rattle.fl_model.specs.Record.{Config}
 use Rattle.fl_words.specs.Command.{Command}
 use Rattle.fl_words.specs.Grammar as grammar
 use Rattle.fl_words.specs.Grammar.{command_of}
-use Rattle.fl_machine.specs.Machine.{Machine}
-use Rattle.fl_machine.specs.Small.{AreTables}
-use Rattle.fl_machine.specs.Script.{Ran, runs, runs_read, accepted, first_refused}
+use Rattle.fl_machine.specs.Script.{runs, runs_read, accepted, first_refused}
 use Rattle.fl_lines.specs.Texts.{whole_lines, lines_within}
-use Rattle.fl_session.specs.Execute.{Executes, Around, IsReady}
 use Rattle.fl_lines.specs.Stream.{LinesState, Gives, TakesPart, TakesAhead}
 use Rattle.std.proofs.Math.Seq.{drop-append_seam}
 use Rattle.fl_script.specs.declared.command.Command as code
@@ -24,14 +19,9 @@ use Rattle.fl_session.specs.declared.status.Status.TheVariants.{Line, ScriptRead
 use Rattle.fl_lines.specs.Given.{Given}
 use Rattle.fl_lines.proofs.LinesInTurn.{given-few, given-over, given-none, given-line, given-last, given-all, given-taken, given-most, given-too_long, IsTooLong}
 use Rattle.fl_session.proofs.AcceptedLines.{AllRun, all_run-none, all_run-more, all_run-all, all_run-refused, accepted-more, too_long-command}
-use Rattle.fl_session.proofs.NextCommand.{RanSoFar, none-counted, ran-more, ran-into}
-
--- what the loop is told, but for the session
-abbrev pub around_to : Config → List ℕ → List ℕ → ℕ → ℕ → Option (List ℕ) → Option (List ℕ) → Around
-around_to config content content_now faults now told told_now = record { config = config; content = content; content_now = content_now; faults = faults; faults_now = now; told = told; told_now = told_now }
 
 -- a line is in hand, and those before it were run
-pub record InHand (tail : Tail) (config : Config) (stands stands_now : Machine → Type 0) (content content_now : List ℕ) (faults now reads : ℕ) (told told_now : Option (List ℕ)) (number : ℕ) (state : LinesState) (left : Option (List ℕ)) : Type 0 where
+pub record InHand (tail : Tail) (All : List Command → Type 0) (number : ℕ) (state : LinesState) (left : Option (List ℕ)) : Type 0 where
   pub ran : List (List ℕ)
   pub given : List (List ℕ)
   pub left_is : List ℕ
@@ -40,14 +30,14 @@ pub record InHand (tail : Tail) (config : Config) (stands stands_now : Machine �
   pub reading : Given tail.most tail.text given state.closed state.most (state.ahead ++ left_is)
   pub all_run : AllRun ran
   pub numbered : number ≡ tail.number + length ran
-  pub runs : (old : Machine) → stands old → IsReady config old → RanSoFar config old (accepted ran) stands_now content content_now faults now reads told told_now
+  pub runs : All (accepted ran)
   pub was_open : tail.closed ≡ true → state.closed ≡ true
   pub few : TakesTail tail ran left
 
-pub in_hand-first : (tail : Tail) (config : Config) (stands : Machine → Type 0) (content : List ℕ) (faults reads : ℕ) (told : Option (List ℕ)) (state : LinesState) (left : List ℕ) (left_now : Option (List ℕ)) → reads ≡ 0 → left_now ≡ Some left → (state.closed ≡ true → state.ahead ++ left ≡ []) →
+pub in_hand-first : (tail : Tail) (All : List Command → Type 0) (state : LinesState) (left : List ℕ) (left_now : Option (List ℕ)) → All [] → left_now ≡ Some left → (state.closed ≡ true → state.ahead ++ left ≡ []) →
     tail.first ≡ state.line → tail.text ≡ state.ahead ++ left → tail.most ≡ state.most → tail.closed ≡ state.closed → tail.taken ≡ length state.ahead →
-    InHand tail config stands stands content content faults faults reads told told tail.number state left_now
-in_hand-first tail config stands content faults reads told state left left_now unread told_left ended first text most closed taken = record {
+    InHand tail All tail.number state left_now
+in_hand-first tail All state left left_now none told_left ended first text most closed taken = record {
   ran = [];
   given = [];
   left_is = left;
@@ -58,25 +48,24 @@ in_hand-first tail config stands content faults reads told state left left_now u
       (subst (λ m. Given tail.most tail.text [] state.closed m tail.text) most (given-none tail.most tail.text state.closed (λ c. text ∙ ended c)));
   all_run = all_run-none;
   numbered = omega arith;
-  runs = λ old h ready. none-counted config old stands content faults reads told unread h;
+  runs = none;
   was_open = λ e. sym closed ∙ e;
   few = told_left ∙ ap Some (sym (ap (λ n. drop n tail.text) taken ∙ (ap (drop (length state.ahead)) text ∙ drop-append_seam state.ahead left)));
 }
 
 -- all lines that were given were run
-pub record AllDone (tail : Tail) (config : Config) (stands stands_now : Machine → Type 0) (content content_now : List ℕ) (faults now reads : ℕ) (told told_now : Option (List ℕ)) (number : ℕ) (state : LinesState) (left : List ℕ) : Type 0 where
+pub record AllDone (tail : Tail) (All : List Command → Type 0) (number : ℕ) (state : LinesState) (left : List ℕ) : Type 0 where
   pub given : List (List ℕ)
   pub reading : Given tail.most tail.text given state.closed state.most (state.ahead ++ left)
   pub all_run : AllRun (tail.first ∷ given)
   pub numbered : number ≡ tail.number + length (tail.first ∷ given)
-  pub runs : (old : Machine) → stands old → IsReady config old → RanSoFar config old (accepted (tail.first ∷ given)) stands_now content content_now faults now reads told told_now
+  pub runs : All (accepted (tail.first ∷ given))
   pub was_open : tail.closed ≡ true → state.closed ≡ true
 
-pub all_done-next : {E : Type 0} (tail : Tail) (config : Config) (stands stands_mid stands_now : Machine → Type 0) (content : List ℕ) (faults : ℕ) (mid now : FlashState) (told told_mid told_now : Option (List ℕ)) (number : ℕ) (state : LinesState) (left : Option (List ℕ)) (c : Command) →
-    InHand tail config stands stands_mid content mid.media.content faults mid.media.faults mid.work.reads told told_mid number state left → runs state.line ≡ Some c → number < 2 ^ 32 → ((m : Machine) → stands_mid m → AreTables config.plans m.tables) → mid.media.faults ≤ now.media.faults →
-    ((m : Machine) → stands_mid m → Executes {E = E} config m c stands_now mid now told_mid told_now (Ok tt)) →
-    (left_is : List ℕ) × (left ≡ Some left_is) × AllDone tail config stands stands_now content now.media.content faults now.media.faults now.work.reads told told_now (number + 1) state left_is
-all_done-next tail config stands stands_mid stands_now content faults mid now told told_mid told_now number state left c h e lines hold later executes = (
+pub all_done-next : (tail : Tail) (Before All : List Command → Type 0) (number : ℕ) (state : LinesState) (left : Option (List ℕ)) (c : Command) →
+    InHand tail Before number state left → runs state.line ≡ Some c → number < 2 ^ 32 → ((commands : List Command) → length commands < 2 ^ 32 → Before commands → All (commands ++ c ∷ [])) →
+    (left_is : List ℕ) × (left ≡ Some left_is) × AllDone tail All (number + 1) state left_is
+all_done-next tail Before All number state left c h e lines more = (
   h.left_is,
   h.left_told,
   record {
@@ -84,19 +73,14 @@ all_done-next tail config stands stands_mid stands_now content faults mid now to
     reading = h.reading;
     all_run = subst AllRun h.order (all_run-more h.ran state.line c h.all_run e);
     numbered = omega (arith, h.numbered, ap length h.order, length-append h.ran (state.line ∷ []));
-    runs = λ old s ready.
-        subst (λ cs. RanSoFar config old cs stands_now content now.media.content faults now.media.faults now.work.reads told told_now)
-        (sym (accepted-more h.ran state.line c h.all_run e) ∙ ap accepted h.order)
-        (ran-more config old (accepted h.ran) c stands_mid stands_now content faults mid now told told_mid told_now ready (omega (arith, lines, h.numbered, h.all_run.count)) hold (h.runs old s ready) later executes);
+    runs = subst All (sym (accepted-more h.ran state.line c h.all_run e) ∙ ap accepted h.order) (more (accepted h.ran) (omega (arith, lines, h.numbered, h.all_run.count)) h.runs);
     was_open = h.was_open;
   },
 )
 
-pub ends-in_reply : {E : Type 0} (tail : Tail) (config : Config) (stands stands_mid stands_now : Machine → Type 0) (content : List ℕ) (faults : ℕ) (mid now : FlashState) (told told_mid told_now : Option (List ℕ)) (number : ℕ) (state : LinesState) (left : Option (List ℕ)) (c : Command) (error : E) →
-    InHand tail config stands stands_mid content mid.media.content faults mid.media.faults mid.work.reads told told_mid number state left → runs state.line ≡ Some c → ((m : Machine) → stands_mid m → AreTables config.plans m.tables) → mid.media.faults ≤ now.media.faults →
-    ((m : Machine) → stands_mid m → Executes {E = E} config m c stands_now mid now told_mid told_now (Err error)) →
-    EndsInReply tail left (around_to config content now.media.content faults now.media.faults told told_now) stands stands_now
-ends-in_reply tail config stands stands_mid stands_now content faults mid now told told_mid told_now number state left c error h e hold later executes =
+pub ends-in_reply : (tail : Tail) (Before Part : List Command → Type 0) (number : ℕ) (state : LinesState) (left : Option (List ℕ)) (c : Command) →
+    InHand tail Before number state left → runs state.line ≡ Some c → ((commands : List Command) → Before commands → Part (commands ++ c ∷ [])) → EndsInReply tail left Part
+ends-in_reply tail Before Part number state left c h e into =
     let more = all_run-more h.ran state.line c h.all_run e in
     let others = lines_within state.most (state.ahead ++ h.left_is) in
     let lines : lines_in tail ≡ (h.ran ++ state.line ∷ []) ++ others = ap (λ ls. tail.first ∷ ls) h.reading.lines ∙ ap (λ ls. ls ++ others) (sym h.order) in
@@ -107,7 +91,7 @@ ends-in_reply tail config stands stands_mid stands_now content faults mid now to
       number = number;
       number_is = omega (arith, h.numbered, h.all_run.count, length-append (accepted h.ran) (c ∷ []));
       takes = record { before = h.ran; others = state.line ∷ others; split = lines ∙ append_assoc h.ran (state.line ∷ []) others; number_is = h.numbered; few = h.few };
-      runs = λ old s ready. ran-into config old (accepted h.ran) c stands_mid stands_now content faults mid now told told_mid told_now error ready hold (h.runs old s ready) later executes;
+      runs = into (accepted h.ran) h.runs;
     }
 
 -- what a line that is given is: the next one, or the front of one that is too long
@@ -142,9 +126,9 @@ next_line tail given old new left left_now g o (inr (inr w)) =
     too_long (given-too_long tail.most tail.text given old.closed old.most (old.ahead ++ left) new.line w.others g w.split w.one w.long w.fits) w.long
 
 -- what was taken with the next line
-pub tail-takes : (tail : Tail) (config : Config) (stands stands_now : Machine → Type 0) (content content_now : List ℕ) (faults now reads : ℕ) (told told_now : Option (List ℕ)) (number : ℕ) (old : LinesState) (left left_now : List ℕ) →
-    AllDone tail config stands stands_now content content_now faults now reads told told_now number old left → TakesAhead old (old.ahead ++ left) (Ok true) left_now → TailTakes tail number (Some left_now)
-tail-takes tail config stands stands_now content content_now faults now reads told told_now number old left left_now h t = record {
+pub tail-takes : (tail : Tail) (All : List Command → Type 0) (number : ℕ) (old : LinesState) (left left_now : List ℕ) →
+    AllDone tail All number old left → TakesAhead old (old.ahead ++ left) (Ok true) left_now → TailTakes tail number (Some left_now)
+tail-takes tail All number old left left_now h t = record {
   before = tail.first ∷ h.given;
   others = lines_within old.most (old.ahead ++ left);
   split = ap (λ ls. tail.first ∷ ls) h.reading.lines;
@@ -153,10 +137,10 @@ tail-takes tail config stands stands_now content content_now faults now reads to
 }
 
 -- the next line comes into the hand
-pub in_hand-next : (tail : Tail) (config : Config) (stands stands_now : Machine → Type 0) (content content_now : List ℕ) (faults now reads : ℕ) (told told_now : Option (List ℕ)) (number : ℕ) (old new : LinesState) (left left_now : List ℕ) (c : Command) →
-    AllDone tail config stands stands_now content content_now faults now reads told told_now number old left → command_of new.line ≡ Ok c → Gives old (old.ahead ++ left) (Ok true) new left_now → TakesAhead old (old.ahead ++ left) (Ok true) left_now →
-    InHand tail config stands stands_now content content_now faults now reads told told_now number new (Some left_now)
-in_hand-next tail config stands stands_now content content_now faults now reads told told_now number old new left left_now c h read gives takes =
+pub in_hand-next : (tail : Tail) (All : List Command → Type 0) (number : ℕ) (old new : LinesState) (left left_now : List ℕ) (c : Command) →
+    AllDone tail All number old left → command_of new.line ≡ Ok c → Gives old (old.ahead ++ left) (Ok true) new left_now → TakesAhead old (old.ahead ++ left) (Ok true) left_now →
+    InHand tail All number new (Some left_now)
+in_hand-next tail All number old new left left_now c h read gives takes =
     elim (next_line tail h.given old new left left_now h.reading h.was_open gives) [
       | fits g is_open ↦ record {
         ran = tail.first ∷ h.given;
@@ -180,48 +164,47 @@ in_hand-next tail config stands stands_now content content_now faults now reads 
     not_long : Ok c ≡ Err grammar.TooLong → ⊥
     not_long k = cc
 
-pub ends-done : (tail : Tail) (config : Config) (stands stands_now : Machine → Type 0) (content content_now : List ℕ) (faults now reads : ℕ) (told told_now : Option (List ℕ)) (number : ℕ) (state : LinesState) (left : List ℕ) →
-    AllDone tail config stands stands_now content content_now faults now reads told told_now number state left → state.ahead ++ left ≡ [] →
-    (length tail.text ≤ tail.most) × EndsAll tail (around_to config content content_now faults now told told_now) stands stands_now
-ends-done tail config stands stands_now content content_now faults now reads told told_now number state left h e =
+pub ends-done : (tail : Tail) (All : List Command → Type 0) (number : ℕ) (state : LinesState) (left : List ℕ) →
+    AllDone tail All number state left → state.ahead ++ left ≡ [] →
+    (length tail.text ≤ tail.most) × EndsAll tail All
+ends-done tail All number state left h e =
     let all = given-all tail.most tail.text h.given state.closed state.most (state.ahead ++ left) h.reading e in
     let lines : tail.first ∷ h.given ≡ lines_in tail = ap (λ ls. tail.first ∷ ls) (sym all.0) in (
       ltb-false tail.most (length tail.text) all.1,
       record {
         accepts = ap (first_refused tail.number) (sym lines) ∙ all_run-all tail.number (tail.first ∷ h.given) h.all_run;
-        runs = λ old s ready. subst (λ ls. Ran config old (accepted ls) stands_now content content_now faults now told told_now) lines (h.runs old s ready).0;
+        runs = subst (λ ls. All (accepted ls)) lines h.runs;
       },
     )
 
-bad_at : (tail : Tail) (config : Config) (stands stands_now : Machine → Type 0) (content content_now : List ℕ) (faults now reads : ℕ) (told told_now : Option (List ℕ)) (number : ℕ) (state : LinesState) (left : List ℕ) (line : List ℕ) (others : List (List ℕ)) →
-    (h : AllDone tail config stands stands_now content content_now faults now reads told told_now number state left) → runs line ≡ None → lines_within tail.most tail.text ≡ h.given ++ line ∷ others →
-    EndsBad tail (around_to config content content_now faults now told told_now) stands stands_now number
-bad_at tail config stands stands_now content content_now faults now reads told told_now number state left line others h e lines =
+bad_at : (tail : Tail) (All : List Command → Type 0) (number : ℕ) (state : LinesState) (left : List ℕ) (line : List ℕ) (others : List (List ℕ)) →
+    (h : AllDone tail All number state left) → runs line ≡ None → lines_within tail.most tail.text ≡ h.given ++ line ∷ others →
+    EndsBad tail All number
+bad_at tail All number state left line others h e lines =
     let bad = all_run-refused tail.number (tail.first ∷ h.given) line others h.all_run e in
     let is : lines_in tail ≡ (tail.first ∷ h.given) ++ line ∷ others = ap (λ ls. tail.first ∷ ls) lines in
     record {
       refuses = ap (first_refused tail.number) is ∙ (bad.0 ∙ ap Some (sym h.numbered));
-      runs = λ old s ready.
-          subst (λ cs. Ran config old cs stands_now content content_now faults now told told_now) (sym (ap accepted is ∙ bad.1)) (h.runs old s ready).0;
+      runs = subst All (sym (ap accepted is ∙ bad.1)) h.runs;
     }
 
-pub ends-bad : (tail : Tail) (config : Config) (stands stands_now : Machine → Type 0) (content content_now : List ℕ) (faults now reads : ℕ) (told told_now : Option (List ℕ)) (number : ℕ) (old new : LinesState) (left left_now : List ℕ) →
-    AllDone tail config stands stands_now content content_now faults now reads told told_now number old left → runs new.line ≡ None → Gives old (old.ahead ++ left) (Ok true) new left_now →
-    EndsBad tail (around_to config content content_now faults now told told_now) stands stands_now number
-ends-bad tail config stands stands_now content content_now faults now reads told told_now number old new left left_now h e gives =
+pub ends-bad : (tail : Tail) (All : List Command → Type 0) (number : ℕ) (old new : LinesState) (left left_now : List ℕ) →
+    AllDone tail All number old left → runs new.line ≡ None → Gives old (old.ahead ++ left) (Ok true) new left_now →
+    EndsBad tail All number
+ends-bad tail All number old new left left_now h e gives =
     elim (next_line tail h.given old new left left_now h.reading h.was_open gives) [
       | fits g is_open ↦
-          bad_at tail config stands stands_now content content_now faults now reads told told_now number old left new.line (lines_within new.most (new.ahead ++ left_now)) h e
+          bad_at tail All number old left new.line (lines_within new.most (new.ahead ++ left_now)) h e
           (g.lines ∙ append_assoc h.given (new.line ∷ []) (lines_within new.most (new.ahead ++ left_now)))
       | too_long t long ↦
-          bad_at tail config stands stands_now content content_now faults now reads told told_now number old left t.line t.others h
+          bad_at tail All number old left t.line t.others h
           (ap runs_read (too_long-command t.line t.long)) t.lines
     ]
 
-pub ends-taken : (tail : Tail) (config : Config) (stands stands_now : Machine → Type 0) (content content_now : List ℕ) (faults now reads : ℕ) (told told_now : Option (List ℕ)) (number : ℕ) (old new : LinesState) (left left_now : List ℕ) →
-    AllDone tail config stands stands_now content content_now faults now reads told told_now number old left → TakesPart old (old.ahead ++ left) new left_now →
-    EndsTaken tail (Some left_now) (around_to config content content_now faults now told told_now) stands stands_now
-ends-taken tail config stands stands_now content content_now faults now reads told told_now number old new left left_now h part =
+pub ends-taken : (tail : Tail) (All : List Command → Type 0) (number : ℕ) (old new : LinesState) (left left_now : List ℕ) →
+    AllDone tail All number old left → TakesPart old (old.ahead ++ left) new left_now →
+    EndsTaken tail (Some left_now) All
+ends-taken tail All number old new left left_now h part =
     let g : Given tail.most tail.text h.given false old.most (old.ahead ++ left) = subst (λ b. Given tail.most tail.text h.given b old.most (old.ahead ++ left)) part.open_before h.reading in
     let t = given-taken tail.most tail.text h.given old.most (old.ahead ++ left) new.ahead left_now g part.split part.one part.fits part.short in
     let lines : tail.first ∷ h.given ≡ tail.first ∷ whole_lines (take t.taken tail.text) = ap (λ ls. tail.first ∷ ls) (sym t.whole) in
@@ -233,74 +216,68 @@ ends-taken tail config stands stands_now content content_now faults now reads to
       short = t.short;
       left = ap Some (sym t.left_is);
       accepts = ap (first_refused tail.number) (sym lines) ∙ all_run-all tail.number (tail.first ∷ h.given) h.all_run;
-      runs = λ old s ready. subst (λ ls. Ran config old (accepted ls) stands_now content content_now faults now told told_now) lines (h.runs old s ready).0;
+      runs = subst (λ ls. All (accepted ls)) lines h.runs;
     }
 
-pub ends-long : (tail : Tail) (config : Config) (stands stands_now : Machine → Type 0) (content content_now : List ℕ) (faults now reads : ℕ) (told told_now : Option (List ℕ)) (number : ℕ) (old new : LinesState) (left more : List ℕ) →
-    AllDone tail config stands stands_now content content_now faults now reads told told_now number old left → TakesPart old (old.ahead ++ left) new more → length new.ahead ≡ old.most → 0 < length more →
-    (tail.most < length tail.text) × EndsAll tail (around_to config content content_now faults now told told_now) stands stands_now
-ends-long tail config stands stands_now content content_now faults now reads told told_now number old new left more h part full some =
+pub ends-long : (tail : Tail) (All : List Command → Type 0) (number : ℕ) (old new : LinesState) (left more : List ℕ) →
+    AllDone tail All number old left → TakesPart old (old.ahead ++ left) new more → length new.ahead ≡ old.most → 0 < length more →
+    (tail.most < length tail.text) × EndsAll tail All
+ends-long tail All number old new left more h part full some =
     let g : Given tail.most tail.text h.given false old.most (old.ahead ++ left) = subst (λ b. Given tail.most tail.text h.given b old.most (old.ahead ++ left)) part.open_before h.reading in
     let t = given-most tail.most tail.text h.given old.most (old.ahead ++ left) new.ahead more g part.split part.one full part.short some in
     let lines : tail.first ∷ h.given ≡ lines_in tail = ap (λ ls. tail.first ∷ ls) (sym t.0) in (
       t.1,
       record {
         accepts = ap (first_refused tail.number) (sym lines) ∙ all_run-all tail.number (tail.first ∷ h.given) h.all_run;
-        runs = λ old s ready. subst (λ ls. Ran config old (accepted ls) stands_now content content_now faults now told told_now) lines (h.runs old s ready).0;
+        runs = subst (λ ls. All (accepted ls)) lines h.runs;
       },
     )
 
 -- how the script ends at the next line
-pub ends-there_run : (tail : Tail) (config : Config) (stands stands_now : Machine → Type 0) (content content_now : List ℕ) (faults now reads : ℕ) (told told_now : Option (List ℕ)) (number : ℕ) (old new : LinesState) (left left_now : List ℕ) (given : Result Bool LinesFault) (status : Status) →
-    AllDone tail config stands stands_now content content_now faults now reads told told_now number old left → Gives old (old.ahead ++ left) given new left_now → TakesAhead old (old.ahead ++ left) given left_now → EndsThere given new.line number (runs new.line ≡ None) status →
-    EndsCommands tail (Some left_now) (around_to config content content_now faults now told told_now) stands stands_now status
-ends-there_run tail config stands stands_now content content_now faults now reads told told_now number old new left left_now (Ok true) (Line n) h gives takes e =
-    subst (λ m. EndsBad tail (around_to config content content_now faults now told told_now) stands stands_now m × TailTakes tail m (Some left_now)) (sym e.0)
-    (ends-bad tail config stands stands_now content content_now faults now reads told told_now number old new left left_now h e.1 gives, tail-takes tail config stands stands_now content content_now faults now reads told told_now number old left left_now h takes)
-ends-there_run tail config stands stands_now content content_now faults now reads told told_now number old new left left_now (Ok true) status h gives takes e = absurd e
-ends-there_run tail config stands stands_now content content_now faults now reads told told_now number old new left left_now (Ok false) status h gives takes e = absurd e
-ends-there_run tail config stands stands_now content content_now faults now reads told told_now number old new left left_now (Err Failed) ScriptRead h gives takes e =
-    ends-taken tail config stands stands_now content content_now faults now reads told told_now number old new left left_now h gives
-ends-there_run tail config stands stands_now content content_now faults now reads told told_now number old new left left_now (Err Failed) status h gives takes e = absurd e
-ends-there_run tail config stands stands_now content content_now faults now reads told told_now number old new left left_now (Err Long) ScriptLong h gives takes e =
-    let long = ends-long tail config stands stands_now content content_now faults now reads told told_now number old new left gives.0 h gives.1 gives.2 gives.3 in
+pub ends-there_run : (tail : Tail) (All Part : List Command → Type 0) (number : ℕ) (old new : LinesState) (left left_now : List ℕ) (given : Result Bool LinesFault) (status : Status) →
+    AllDone tail All number old left → Gives old (old.ahead ++ left) given new left_now → TakesAhead old (old.ahead ++ left) given left_now → EndsThere given new.line number (runs new.line ≡ None) status →
+    EndsCommands tail (Some left_now) All Part status
+ends-there_run tail All Part number old new left left_now (Ok true) (Line n) h gives takes e =
+    subst (λ m. EndsBad tail All m × TailTakes tail m (Some left_now)) (sym e.0)
+    (ends-bad tail All number old new left left_now h e.1 gives, tail-takes tail All number old left left_now h takes)
+ends-there_run tail All Part number old new left left_now (Ok true) status h gives takes e = absurd e
+ends-there_run tail All Part number old new left left_now (Ok false) status h gives takes e = absurd e
+ends-there_run tail All Part number old new left left_now (Err Failed) ScriptRead h gives takes e =
+    ends-taken tail All number old new left left_now h gives
+ends-there_run tail All Part number old new left left_now (Err Failed) status h gives takes e = absurd e
+ends-there_run tail All Part number old new left left_now (Err Long) ScriptLong h gives takes e =
+    let long = ends-long tail All number old new left gives.0 h gives.1 gives.2 gives.3 in
     (long.0, long.1, given-over tail.most tail.text h.given old left left_now h.reading gives.1.open_before takes)
-ends-there_run tail config stands stands_now content content_now faults now reads told told_now number old new left left_now (Err Long) status h gives takes e = absurd e
-
--- a step whose result is known
-pub step-result : {E : Type 0} (config : Config) (c : Command) (stands stands_now : Machine → Type 0) (mid now : FlashState) (told_mid told_now : Option (List ℕ)) (result result_is : Result (Unit {0}) E) → result ≡ result_is →
-    ((m : Machine) → stands m → Executes config m c stands_now mid now told_mid told_now result) → (m : Machine) → stands m → Executes config m c stands_now mid now told_mid told_now result_is
-step-result config c stands stands_now mid now told_mid told_now result result_is r h m s =
-    subst (λ x. Executes config m c stands_now mid now told_mid told_now x) r (h m s)
+ends-there_run tail All Part number old new left left_now (Err Long) status h gives takes e = absurd e
 
 -- all lines that were given were run, and this is left of the script
-abbrev pub Done_so_far : Tail → Config → (Machine → Type 0) → (Machine → Type 0) → List ℕ → List ℕ → ℕ → ℕ → ℕ → Option (List ℕ) → Option (List ℕ) → ℕ → LinesState → Option (List ℕ) → Type 0
-Done_so_far tail config stands stands_now content content_now faults now reads told told_now number state left =
-    (left_is : List ℕ) × (left ≡ Some left_is) × AllDone tail config stands stands_now content content_now faults now reads told told_now number state left_is
+abbrev pub Done_so_far : Tail → (List Command → Type 0) → ℕ → LinesState → Option (List ℕ) → Type 0
+Done_so_far tail All number state left =
+    (left_is : List ℕ) × (left ≡ Some left_is) × AllDone tail All number state left_is
 
-pub then-in_hand : (tail : Tail) (config : Config) (stands stands_now : Machine → Type 0) (content content_now : List ℕ) (faults now reads : ℕ) (told told_now : Option (List ℕ)) (number : ℕ) (old new : LinesState) (left left_now : Option (List ℕ)) (f f_now : ℕ) (c : code.Command) (room : List ℕ) →
-    Done_so_far tail config stands stands_now content content_now faults now reads told told_now number old left → NextRun old left f number (Ok (Some c)) room new left_now f_now →
-    InHand tail config stands stands_now content content_now faults now reads told told_now number new left_now
-then-in_hand tail config stands stands_now content content_now faults now reads told told_now number old new left left_now f f_now c room d n =
+pub then-in_hand : (tail : Tail) (All : List Command → Type 0) (number : ℕ) (old new : LinesState) (left left_now : Option (List ℕ)) (f f_now : ℕ) (c : code.Command) (room : List ℕ) →
+    Done_so_far tail All number old left → NextRun old left f number (Ok (Some c)) room new left_now f_now →
+    InHand tail All number new left_now
+then-in_hand tail All number old new left left_now f f_now c room d n =
     let g = n.advances.gives d.0 d.1 d.2.reading.ended in
-    subst (λ l. InHand tail config stands stands_now content content_now faults now reads told told_now number new l) (sym g.1)
-    (in_hand-next tail config stands stands_now content content_now faults now reads told told_now number old new d.0 g.0 (command_view c room) d.2 n.next.1.reads
+    subst (λ l. InHand tail All number new l) (sym g.1)
+    (in_hand-next tail All number old new d.0 g.0 (command_view c room) d.2 n.next.1.reads
     (subst (λ r. Gives old (old.ahead ++ d.0) r new g.0) n.next.0 g.2) (subst (λ r. TakesAhead old (old.ahead ++ d.0) r g.0) n.next.0 g.3))
 
-pub then-done : (tail : Tail) (config : Config) (stands stands_now : Machine → Type 0) (content content_now : List ℕ) (faults now reads : ℕ) (told told_now : Option (List ℕ)) (number : ℕ) (old new : LinesState) (left left_now : Option (List ℕ)) (f f_now : ℕ) (room : List ℕ) →
-    Done_so_far tail config stands stands_now content content_now faults now reads told told_now number old left → NextRun old left f number (Ok None) room new left_now f_now →
-    (length tail.text ≤ tail.most) × EndsAll tail (around_to config content content_now faults now told told_now) stands stands_now × (left_now ≡ Some [])
-then-done tail config stands stands_now content content_now faults now reads told told_now number old new left left_now f f_now room d n =
+pub then-done : (tail : Tail) (All : List Command → Type 0) (number : ℕ) (old new : LinesState) (left left_now : Option (List ℕ)) (f f_now : ℕ) (room : List ℕ) →
+    Done_so_far tail All number old left → NextRun old left f number (Ok None) room new left_now f_now →
+    (length tail.text ≤ tail.most) × EndsAll tail All × (left_now ≡ Some [])
+then-done tail All number old new left left_now f f_now room d n =
     let g = n.advances.gives d.0 d.1 d.2.reading.ended in
     let k : old.ahead ++ d.0 ≡ [] = subst (λ r. Gives old (old.ahead ++ d.0) r new g.0) n.next g.2 in
     let nothing : g.0 ≡ [] = subst (λ r. TakesAhead old (old.ahead ++ d.0) r g.0) n.next g.3 in
-    let done = ends-done tail config stands stands_now content content_now faults now reads told told_now number old d.0 d.2 k in
+    let done = ends-done tail All number old d.0 d.2 k in
     (done.0, done.1, g.1 ∙ ap Some nothing)
 
-pub then-ends : (tail : Tail) (config : Config) (stands stands_now : Machine → Type 0) (content content_now : List ℕ) (faults now reads : ℕ) (told told_now : Option (List ℕ)) (number : ℕ) (old new : LinesState) (left left_now : Option (List ℕ)) (f f_now : ℕ) (room : List ℕ) (status : Status) →
-    Done_so_far tail config stands stands_now content content_now faults now reads told told_now number old left → NextRun old left f number (Err status) room new left_now f_now →
-    EndsCommands tail left_now (around_to config content content_now faults now told told_now) stands stands_now status
-then-ends tail config stands stands_now content content_now faults now reads told told_now number old new left left_now f f_now room status d n =
+pub then-ends : (tail : Tail) (All Part : List Command → Type 0) (number : ℕ) (old new : LinesState) (left left_now : Option (List ℕ)) (f f_now : ℕ) (room : List ℕ) (status : Status) →
+    Done_so_far tail All number old left → NextRun old left f number (Err status) room new left_now f_now →
+    EndsCommands tail left_now All Part status
+then-ends tail All Part number old new left left_now f f_now room status d n =
     let g = n.advances.gives d.0 d.1 d.2.reading.ended in
-    subst (λ l. EndsCommands tail l (around_to config content content_now faults now told told_now) stands stands_now status) (sym g.1)
-    (ends-there_run tail config stands stands_now content content_now faults now reads told told_now number old new d.0 g.0 n.given status d.2 g.2 g.3 n.next)
+    subst (λ l. EndsCommands tail l All Part status) (sym g.1)
+    (ends-there_run tail All Part number old new d.0 g.0 n.given status d.2 g.2 g.3 n.next)

@@ -20,7 +20,7 @@ use Rattle.fl_session.specs.declared.notes.Notes.{Notes}
 use Rattle.fl_session.specs.Standing.{SessionStands, IsSound, AreForgotten, RestsTold, HasRooms}
 use Rattle.fl_session.specs.declared.notes.TableCursor.{TableCursor}
 use Rattle.fl_session.specs.declared.buffers.Buffers.{Buffers}
-use Rattle.fl_session.specs.Run.{RunsFrom, around_of, IsOfCommands, refused_status}
+use Rattle.fl_session.specs.Run.{RanFrom, around_of, IsOfCommands, refused_status}
 use Rattle.fl_session.specs.declared.status.Status.TheVariants.{Usage, MediaMake, OtherConfig}
 use Rattle.fl_config.specs.declared.image.ImageRefusal.{ImageRefusal}
 use Rattle.fl_config.specs.declared.image.ImageRefusal.TheVariants.{Media, Other}
@@ -36,7 +36,7 @@ use Rattle.fl_config.specs.Opening as opening
 use Rattle.fl_config.specs.Opening.{Opens}
 use Rattle.fl_session.proofs.NextCommand.{nothing-added}
 use Rattle.fl_session.proofs.Ready.{ready-accepted, stands-ready}
-use Rattle.fl_session.proofs.RunEnds.{runs-seen, ends-over, begins-ready, ends-making, ends-other}
+use Rattle.fl_session.proofs.RunEnds.{ran-through, ends-over, begins-ready, ends-making, ends-other}
 use Rattle.fl_session.proofs.Rested.{session-ends, opened-rests, opened-content, opened-formed}
 
 no-cursor : (n i : ℕ) (c : TableCursor) → slice_get (replicate n None) i ≡ Some (Some c) → ⊥
@@ -69,15 +69,15 @@ pub session-runs : (config : Config) (entries entries' : List Entry) (notes note
     ((m : Machine) → RestsTold config old m → SessionStands config entries f mounted notes m) →
     (first : Option code.Command) (number : ℕ) (state : LinesState) (left left_now told told_now : Option (List ℕ)) (status : Status) →
     ((m : Machine) → SessionStands config entries' f' mounted' notes' m → TellsPending config status m) →
-    RunsFrom first number state left left_now (around_of config f.media f'.media told told_now) (SessionStands config entries f mounted notes) (SessionStands config entries' f' mounted' notes') status →
-    RunsFrom first number state left left_now (around_of config old new told told_now) (RestsTold config old) (EndsAt config status new.content) status
+    RanFrom first number state left left_now (around_of config f.media f'.media told told_now) (SessionStands config entries f mounted notes) (SessionStands config entries' f' mounted' notes') status →
+    RanFrom first number state left left_now (around_of config old new told told_now) (RestsTold config old) (EndsAt config status new.content) status
 session-runs config entries entries' notes notes' f f' old new mounted mounted' begun ended begin first number state left left_now told told_now status tells h =
     let end : (m : Machine) → SessionStands config entries' f' mounted' notes' m → EndsAt config status f'.media.content m = λ m s. (session-ends config entries' notes' f' mounted' m s, tells m s) in
-    let seen = runs-seen first number state left left_now (around_of config f.media f'.media told told_now) (SessionStands config entries f mounted notes) (SessionStands config entries' f' mounted' notes')
+    let seen = ran-through first number state left left_now (around_of config f.media f'.media told told_now) (SessionStands config entries f mounted notes) (SessionStands config entries' f' mounted' notes')
     (RestsTold config old) (EndsAt config status f'.media.content) status begin end h in
-    let from : RunsFrom first number state left left_now (around_of config old f'.media told told_now) (RestsTold config old) (EndsAt config status f'.media.content) status =
-    subst (λ (x : MediaState). RunsFrom first number state left left_now (around_of config x f'.media told told_now) (RestsTold config old) (EndsAt config status f'.media.content) status) begun seen in
-    subst (λ x. RunsFrom first number state left left_now (around_of config old x told told_now) (RestsTold config old) (EndsAt config status x.content) status) (sym ended) from
+    let from : RanFrom first number state left left_now (around_of config old f'.media told told_now) (RestsTold config old) (EndsAt config status f'.media.content) status =
+    subst (λ (x : MediaState). RanFrom first number state left left_now (around_of config x f'.media told told_now) (RestsTold config old) (EndsAt config status f'.media.content) status) begun seen in
+    subst (λ x. RanFrom first number state left left_now (around_of config old x told told_now) (RestsTold config old) (EndsAt config status x.content) status) (sym ended) from
 
 start-accepted : (knots : ℕ) (text : List ℕ) → StartIsAccepted (start_in knots text)
 start-accepted knots text = by_test (is_long text)
@@ -98,10 +98,10 @@ flash-keeps f f' old new begun ended start goes =
 
 -- a run over an image that was opened
 pub ends-opened : (knots : ℕ) (text : List ℕ) (lines : Lines) (first : Option code.Command) (number : ℕ) (state : LinesState) (left left_now told told_now : Option (List ℕ)) (config : Config) (old mid new : MediaState) (origin : GName) (status : Status) →
-    BeginsAt knots text lines first number state left → whole knots lines ≡ Some config → IsTrue old.tells → Opened config old mid → KeepsForm mid new → mid.tells ≡ old.tells → old.faults ≤ mid.faults → mid.faults ≤ new.faults →
-    RunsFrom first number state left left_now (around_of config mid new told told_now) (RestsTold config mid) (EndsAt config status new.content) status →
+    BeginsAt knots text lines first number state left → whole knots lines ≡ Some config → IsTrue old.tells → Opened config old mid → KeepsForm mid new → mid.tells ≡ old.tells → old.faults ≤ mid.faults →
+    RanFrom first number state left left_now (around_of config mid new told told_now) (RestsTold config mid) (EndsAt config status new.content) status →
     Ends knots text (told_of old new left_now told told_now) status
-ends-opened knots text lines first number state left left_now told told_now config old mid new origin status begins w tells opened kept same_tells later later' h =
+ends-opened knots text lines first number state left left_now told told_now config old mid new origin status begins w tells opened kept same_tells later h =
     let ready = begins-ready knots text lines first number state left config begins w in
     let accepted = ready-accepted config ready.0 ready.1 (start_in knots text) (start-accepted knots text) ready.2 in
     let f : FlashState = record { geometry = config.geometry; blocks = 0; start = 1024; origin = origin; media = mid; is_on = true; armed = None; cuts = 0; work = record { reads = 0; programs = 0; erases = 0 } } in
@@ -119,7 +119,7 @@ ends-opened knots text lines first number state left left_now told told_now conf
       begins = λ m s. ((subst IsTrue (sym same_tells) tells, opened-rests config old mid f m refl refl refl accepted.room tells opened s), stands-ready config old.content m accepted s);
       ends = λ m s. s;
     })
-    (le_trans later later') h
+    h
 
 -- a run whose image wasn't opened: the medium failed, or is another's
 pub ends-half : (knots : ℕ) (text : List ℕ) (lines : Lines) (first : Option code.Command) (number : ℕ) (state : LinesState) (left told : Option (List ℕ)) (config : Config) (old new : MediaState) →

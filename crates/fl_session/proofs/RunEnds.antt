@@ -17,7 +17,7 @@ use Rattle.fl_session.specs.Taken.{TakesLine, TakesBegin, IsUnended}
 use Rattle.fl_lines.specs.Taken.{HasTaken, TakesFew, begin_behind}
 use Rattle.std.proofs.lemmas.List.Sums.{sum_by-append}
 use Rattle.fl_script.specs.declared.command.Command as code
-use Rattle.fl_session.specs.Run.{tail_of, RunsFrom, IsOfCommands}
+use Rattle.fl_session.specs.Run.{tail_of, RanFrom, RunsFrom, IsOfCommands}
 use Rattle.fl_session.specs.Begin.{AtCommand, AtEnd, EndsBegin, BeginsAt}
 use Rattle.fl_session.specs.Ends.{Told, IsOwn, IsFormed, opened, RunsAll, RunsInto, effects_of, Ends, IsEarlyBy}
 use Rattle.fl_session.specs.Pending.{EndsAt}
@@ -26,7 +26,7 @@ use Rattle.fl_session.specs.ScriptEnds.{Effects, unsaid, start_in, EndsEarly, En
 use Rattle.fl_session.specs.declared.status.Status.{Status}
 use Rattle.fl_session.specs.declared.status.Status.TheVariants.{Done, Line, ScriptRead, OutWrite, MediaMake, Config as BadConfiguration, OtherConfig, ScriptLong}
 use Rattle.fl_session.proofs.ConfigLines.{command-takes}
-use Rattle.fl_session.proofs.NextCommand.{ran-none, ran-seen, ran_into-seen}
+use Rattle.fl_session.proofs.NextCommand.{ran-seen, ran_into-seen}
 use Rattle.fl_session.proofs.Ready.{after-alike}
 use Rattle.fl_session.proofs.Plainly.{ran-plainly, ran_into-plainly}
 
@@ -245,23 +245,18 @@ tail-over knots text now number state left_now left a more h =
     still-open true h = absurd (h refl)
     still-open false h = refl
 
--- what was run in the session gives what is said of it
-pub record Says (effects : Effects) (config : Config) (around : Around) (stands stands_now : Machine → Type 0) : Type 0 where
-  pub all : (commands : List Command) → RanAll around stands stands_now commands → effects.all config commands
-  pub into : (commands : List Command) → RanPart around stands stands_now commands → effects.into config commands
-  pub none : around.told_now ≡ around.told → around.content_now ≡ around.content → ((m : Machine) → stands m → stands_now m) → effects.all config []
-
-ends-of_commands : (effects : Effects) (knots : ℕ) (text : List ℕ) (now : Lines) (number : ℕ) (state : LinesState) (left left_now : Option (List ℕ)) (config : Config) (around : Around) (stands stands_now : Machine → Type 0) (status : Status) →
-    (a : AtCommand knots text now number state left) → whole knots now ≡ Some config → Says effects config around stands stands_now →
-    EndsCommands (tail_of number state a.left) left_now around stands stands_now status → EndsWith effects knots text left_now status
-ends-of_commands effects knots text now number state left left_now config around stands stands_now (Done pending) a w s h = (
+-- what is said of the commands that were run is said of the whole run
+ends-of_commands : (effects : Effects) (knots : ℕ) (text : List ℕ) (now : Lines) (number : ℕ) (state : LinesState) (left left_now : Option (List ℕ)) (config : Config) (status : Status) →
+    (a : AtCommand knots text now number state left) → whole knots now ≡ Some config →
+    EndsCommands (tail_of number state a.left) left_now (effects.all config) (effects.into config) status → EndsWith effects knots text left_now status
+ends-of_commands effects knots text now number state left left_now config (Done pending) a w h = (
   ltb-false most_bytes (length text) (a.given.long ∙ le-ltb state.most (length (state.ahead ++ a.left)) h.0),
-  subst (λ x. EndsDone effects x) (sym (start-at_command knots text now number state left config a w)) (h.1.accepts, s.all _ h.1.runs),
+  subst (λ x. EndsDone effects x) (sym (start-at_command knots text now number state left config a w)) (h.1.accepts, h.1.runs),
   h.2,
 )
-ends-of_commands effects knots text now number state left left_now config around stands stands_now (Line n) a w s h =
-    (subst (λ x. EndsLine effects x n) (sym (start-at_command knots text now number state left config a w)) (h.0.refuses, s.all _ h.0.runs), tail-line knots text now number state left n left_now a h.1)
-ends-of_commands effects knots text now number state left left_now config around stands stands_now ScriptRead a w s h =
+ends-of_commands effects knots text now number state left left_now config (Line n) a w h =
+    (subst (λ x. EndsLine effects x n) (sym (start-at_command knots text now number state left config a w)) (h.0.refuses, h.0.runs), tail-line knots text now number state left n left_now a h.1)
+ends-of_commands effects knots text now number state left left_now config ScriptRead a w h =
     let t = taken-whole knots text now number state left h.taken a h.is_open in
     let count : length text ≡ length a.given.front + length (state.ahead ++ a.left) = ap length (a.given.split h.is_open) ∙ length-append a.given.front (state.ahead ++ a.left) in
     let lines : whole_lines (take (length a.given.front + h.taken) text) ≡ a.before ++ state.line ∷ whole_lines (take h.taken (state.ahead ++ a.left)) =
@@ -276,99 +271,89 @@ ends-of_commands effects knots text now number state left left_now config around
       ends =
           subst (λ x. EndsEarly effects x)
           (sym (ap (start_of knots) lines ∙ start-behind knots text now number state left config (whole_lines (take h.taken (state.ahead ++ a.left))) a w))
-          (h.accepts, s.all _ h.runs);
+          (h.accepts, h.runs);
     }
-ends-of_commands effects knots text now number state left left_now config around stands stands_now OutWrite a w s h =
+ends-of_commands effects knots text now number state left left_now config OutWrite a w h =
     subst (λ x. EndsInto effects text x left_now) (sym (start-at_command knots text now number state left config a w))
     (record {
       commands = h.commands;
       others = h.others;
       split = h.split;
-      runs = s.into h.commands h.runs;
+      runs = h.runs;
       number = h.number;
       number_is = h.number_is;
       takes = tail-line knots text now number state left h.number left_now a h.takes;
     })
-ends-of_commands effects knots text now number state left left_now config around stands stands_now ScriptLong a w s h = (
+ends-of_commands effects knots text now number state left left_now config ScriptLong a w h = (
   ltb-true most_bytes (length text) (a.given.long ∙ lt-ltb state.most (length (state.ahead ++ a.left)) h.0),
-  subst (λ x. EndsEarly effects x) (sym (start-of_lines knots text now number state left config a w)) (h.1.accepts, s.all _ h.1.runs),
+  subst (λ x. EndsEarly effects x) (sym (start-of_lines knots text now number state left config a w)) (h.1.accepts, h.1.runs),
   tail-over knots text now number state left left_now a h.0 h.2,
 )
-ends-of_commands effects knots text now number state left left_now config around stands stands_now status a w s h = absurd h
+ends-of_commands effects knots text now number state left left_now config status a w h = absurd h
 
 -- a script without commands
 ends-empty : (effects : Effects) (knots : ℕ) (text : List ℕ) (now : Lines) (number : ℕ) (config : Config) (left : Option (List ℕ)) (pending : PendingRows) → AtEnd knots text now number left → whole knots now ≡ Some config → effects.all config [] → EndsWith effects knots text left (Done pending)
 ends-empty effects knots text now number config left pending a w none = (a.short, subst (λ x. EndsDone effects x) (sym (start-at_end knots text now number left config a w)) (refl, none), a.nothing)
 
--- no command was run over the medium
-runs-none : (config : Config) (told : Told) (status : Status) → IsOwn config told.content → IsFormed config told.content_now → ((old : Machine) → StandsFor config told.content old → EndsAt config status told.content_now old) →
-    told.faults ≤ told.faults_now → told.written_now ≡ told.written → told.content_now ≡ opened config told.content → RunsAll config [] told status
-runs-none config told status own formed stands later written kept =
-    runs-with config [] told status own formed (λ old s.
-    ran-earlier config old [] (EndsAt config status told.content_now) (opened config told.content) told.content_now told.faults told.faults_now told.faults_now told.written told.written_now later
-    (subst (λ c. Ran config old [] (EndsAt config status told.content_now) (opened config told.content) c told.faults_now told.faults_now told.written told.written_now) (sym kept)
-    (subst (λ t. Ran config old [] (EndsAt config status told.content_now) (opened config told.content) (opened config told.content) told.faults_now told.faults_now told.written t) (sym written)
-    (ran-none config old (EndsAt config status told.content_now) (opened config told.content) told.faults_now told.written (stands old s)))))
-
 all-seen : (around : Around) (s s' r r' : Machine → Type 0) (commands : List Command) → ((m : Machine) → r m → s m) → ((m : Machine) → s' m → r' m) → RanAll around s s' commands → RanAll around r r' commands
 all-seen around s s' r r' commands f g h old k ready =
     ran-seen around.config old commands s' r' around.content around.content_now around.faults around.faults_now around.told around.told_now g (h old (f old k) ready)
 
--- the same commands, seen through other relations to the states before and after them
-commands-seen : (tail : Tail) (left : Option (List ℕ)) (around : Around) (s s' r r' : Machine → Type 0) (status : Status) → ((m : Machine) → r m → s m) → ((m : Machine) → s' m → r' m) →
-    EndsCommands tail left around s s' status → EndsCommands tail left around r r' status
-commands-seen tail left around s s' r r' (Done pending) f g h = (h.0, record { accepts = h.1.accepts; runs = all-seen around s s' r r' _ f g h.1.runs }, h.2)
-commands-seen tail left around s s' r r' (Line n) f g h = (record { refuses = h.0.refuses; runs = all-seen around s s' r r' _ f g h.0.runs }, h.1)
-commands-seen tail left around s s' r r' ScriptRead f g h =
-    record { is_open = h.is_open; taken = h.taken; within = h.within; few = h.few; short = h.short; left = h.left; accepts = h.accepts; runs = all-seen around s s' r r' _ f g h.runs }
-commands-seen tail left around s s' r r' OutWrite f g h = record {
-  commands = h.commands;
-  others = h.others;
-  split = h.split;
-  number = h.number;
-  number_is = h.number_is;
-  takes = h.takes;
-  runs = λ old k ready.
-      ran_into-seen around.config old h.commands (StandsAlike s') (StandsAlike r') around.content around.content_now around.faults around.faults_now around.told around.told_now (λ m a. (a.0, g a.0 a.1, a.2)) (h.runs old (f old k) ready);
-}
-commands-seen tail left around s s' r r' ScriptLong f g h = (h.0, record { accepts = h.1.accepts; runs = all-seen around s s' r r' _ f g h.1.runs }, h.2)
-commands-seen tail left around s s' r r' status f g h = absurd h
+part-seen : (around : Around) (s s' r r' : Machine → Type 0) (commands : List Command) → ((m : Machine) → r m → s m) → ((m : Machine) → s' m → r' m) → RanPart around s s' commands → RanPart around r r' commands
+part-seen around s s' r r' commands f g h old k ready =
+    ran_into-seen around.config old commands (StandsAlike s') (StandsAlike r') around.content around.content_now around.faults around.faults_now around.told around.told_now (λ m a. (a.0, g a.0 a.1, a.2)) (h old (f old k) ready)
 
-pub runs-seen : (first : Option code.Command) (number : ℕ) (state : LinesState) (left left_now : Option (List ℕ)) (around : Around) (s s' r r' : Machine → Type 0) (status : Status) → ((m : Machine) → r m → s m) → ((m : Machine) → s' m → r' m) →
-    RunsFrom first number state left left_now around s s' status → RunsFrom first number state left left_now around r r' status
-runs-seen None number state left left_now around s s' r r' status f g h = record { pending = h.pending; done = h.done; untaken = h.untaken; written = h.written; content = h.content; goes_on = λ m k. g m (h.goes_on m (f m k)) }
-runs-seen (Some first) number state left left_now around s s' r r' status f g h = λ l e ended. commands-seen (tail_of number state l) left_now around s s' r r' status f g (h l e ended)
+-- the same commands, of which something else is said that follows
+pub commands-seen : (tail : Tail) (left : Option (List ℕ)) (All Part Now Into : List Command → Type 0) (status : Status) → ((commands : List Command) → All commands → Now commands) → ((commands : List Command) → Part commands → Into commands) →
+    EndsCommands tail left All Part status → EndsCommands tail left Now Into status
+commands-seen tail left All Part Now Into (Done pending) f g h = (h.0, record { accepts = h.1.accepts; runs = f _ h.1.runs }, h.2)
+commands-seen tail left All Part Now Into (Line n) f g h = (record { refuses = h.0.refuses; runs = f _ h.0.runs }, h.1)
+commands-seen tail left All Part Now Into ScriptRead f g h =
+    record { is_open = h.is_open; taken = h.taken; within = h.within; few = h.few; short = h.short; left = h.left; accepts = h.accepts; runs = f _ h.runs }
+commands-seen tail left All Part Now Into OutWrite f g h =
+    record { commands = h.commands; others = h.others; split = h.split; number = h.number; number_is = h.number_is; takes = h.takes; runs = g h.commands h.runs }
+commands-seen tail left All Part Now Into ScriptLong f g h = (h.0, record { accepts = h.1.accepts; runs = f _ h.1.runs }, h.2)
+commands-seen tail left All Part Now Into status f g h = absurd h
+
+pub runs-seen : (first : Option code.Command) (number : ℕ) (state : LinesState) (left left_now : Option (List ℕ)) (All Part Now Into : List Command → Type 0) (status : Status) → ((commands : List Command) → All commands → Now commands) → ((commands : List Command) → Part commands → Into commands) →
+    RunsFrom first number state left left_now All Part status → RunsFrom first number state left left_now Now Into status
+runs-seen None number state left left_now All Part Now Into status f g h = record { pending = h.pending; done = h.done; untaken = h.untaken; runs = f [] h.runs }
+runs-seen (Some first) number state left left_now All Part Now Into status f g h = λ l e ended. commands-seen (tail_of number state l) left_now All Part Now Into status f g (h l e ended)
+
+-- .. seen through other relations to the states before and after them
+pub ran-through : (first : Option code.Command) (number : ℕ) (state : LinesState) (left left_now : Option (List ℕ)) (around : Around) (s s' r r' : Machine → Type 0) (status : Status) → ((m : Machine) → r m → s m) → ((m : Machine) → s' m → r' m) →
+    RanFrom first number state left left_now around s s' status → RanFrom first number state left left_now around r r' status
+ran-through first number state left left_now around s s' r r' status f g h =
+    runs-seen first number state left left_now (λ commands. RanAll around s s' commands) (λ commands. RanPart around s s' commands) (λ commands. RanAll around r r' commands) (λ commands. RanPart around r r' commands) status
+    (λ commands ran. all-seen around s s' r r' commands f g ran) (λ commands ran. part-seen around s s' r r' commands f g ran) h
 
 -- how a run ends over an image that was opened
-ends-of_run : (effects : Effects) (knots : ℕ) (text : List ℕ) (now : Lines) (first : Option code.Command) (number : ℕ) (state : LinesState) (left left_now : Option (List ℕ)) (config : Config) (around : Around) (stands stands_now : Machine → Type 0) (status : Status) →
-    BeginsAt knots text now first number state left → whole knots now ≡ Some config → Says effects config around stands stands_now →
-    RunsFrom first number state left left_now around stands stands_now status → EndsWith effects knots text left_now status
-ends-of_run effects knots text now None number state left left_now config around stands stands_now status a w s h =
+pub ends-of_run : (effects : Effects) (knots : ℕ) (text : List ℕ) (now : Lines) (first : Option code.Command) (number : ℕ) (state : LinesState) (left left_now : Option (List ℕ)) (config : Config) (status : Status) →
+    BeginsAt knots text now first number state left → whole knots now ≡ Some config →
+    RunsFrom first number state left left_now (effects.all config) (effects.into config) status → EndsWith effects knots text left_now status
+ends-of_run effects knots text now None number state left left_now config status a w h =
     subst (λ x. EndsWith effects knots text left_now x) (sym h.done)
     (subst (λ l. EndsWith effects knots text l (Done h.pending)) (sym h.untaken)
-    (ends-empty effects knots text now number config left h.pending a w (s.none h.written h.content h.goes_on)))
-ends-of_run effects knots text now (Some first) number state left left_now config around stands stands_now status a w s h =
-    ends-of_commands effects knots text now number state left left_now config around stands stands_now status a w s (h a.left a.left_is a.given.ended)
+    (ends-empty effects knots text now number config left h.pending a w h.runs))
+ends-of_run effects knots text now (Some first) number state left left_now config status a w h =
+    ends-of_commands effects knots text now number state left left_now config status a w (h a.left a.left_is a.given.ended)
 
 -- .. over a medium that tells its content
 pub ends-over : (knots : ℕ) (text : List ℕ) (now : Lines) (first : Option code.Command) (number : ℕ) (state : LinesState) (left : Option (List ℕ)) (config : Config) (told : Told) (around : Around) (stands stands_now : Machine → Type 0) (status : Status) →
-    BeginsAt knots text now first number state left → whole knots now ≡ Some config → Over config told status around stands stands_now → told.faults ≤ told.faults_now →
-    RunsFrom first number state left told.left_now around stands stands_now status → Ends knots text told status
-ends-over knots text now first number state left config told around stands stands_now status a w o later h =
-    ends-of_run (effects_of told status) knots text now first number state left told.left_now config around stands stands_now status a w
-    (record {
-      all = λ commands ran. runs-all config told status around stands stands_now commands o ran;
-      into = λ commands ran. runs-into config told status around stands stands_now commands o ran;
-      none = λ written content goes_on.
-          runs-none config told status o.own o.formed (λ old s. o.ends old (goes_on old (o.begins old s).0)) later (sym o.written_now ∙ (written ∙ o.written)) (sym o.content_now ∙ (content ∙ o.content));
-    })
-    h
+    BeginsAt knots text now first number state left → whole knots now ≡ Some config → Over config told status around stands stands_now →
+    RanFrom first number state left told.left_now around stands stands_now status → Ends knots text told status
+ends-over knots text now first number state left config told around stands stands_now status a w o h =
+    ends-of_run (effects_of told status) knots text now first number state left told.left_now config status a w
+    (runs-seen first number state left told.left_now (λ commands. RanAll around stands stands_now commands) (λ commands. RanPart around stands stands_now commands)
+    (λ commands. RunsAll config commands told status) (λ commands. RunsInto config commands told) status
+    (λ commands ran. runs-all config told status around stands stands_now commands o ran) (λ commands ran. runs-into config told status around stands stands_now commands o ran) h)
 
 -- .. and over any
-pub script-over : (knots : ℕ) (text : List ℕ) (now : Lines) (first : Option code.Command) (number : ℕ) (state : LinesState) (left left_now : Option (List ℕ)) (config : Config) (around : Around) (stands stands_now : Machine → Type 0) (status : Status) →
-    BeginsAt knots text now first number state left → whole knots now ≡ Some config → RunsFrom first number state left left_now around stands stands_now status → ScriptEnds knots text left_now status
-script-over knots text now first number state left left_now config around stands stands_now status a w h =
-    ends-of_run unsaid knots text now first number state left left_now config around stands stands_now status a w (record { all = λ commands ran. tt; into = λ commands ran. tt; none = λ written content goes_on. tt }) h
+pub script-over : (knots : ℕ) (text : List ℕ) (now : Lines) (first : Option code.Command) (number : ℕ) (state : LinesState) (left left_now : Option (List ℕ)) (config : Config) (All Part : List Command → Type 0) (status : Status) →
+    BeginsAt knots text now first number state left → whole knots now ≡ Some config → RunsFrom first number state left left_now All Part status → ScriptEnds knots text left_now status
+script-over knots text now first number state left left_now config All Part status a w h =
+    ends-of_run unsaid knots text now first number state left left_now config status a w
+    (runs-seen first number state left left_now All Part (λ commands. Unit {0}) (λ commands. Unit {0}) status (λ commands ran. tt) (λ commands ran. tt) h)
 
 -- the configuration is ready
 pub begins-ready : (knots : ℕ) (text : List ℕ) (now : Lines) (first : Option code.Command) (number : ℕ) (state : LinesState) (left : Option (List ℕ)) (config : Config) → BeginsAt knots text now first number state left → whole knots now ≡ Some config →

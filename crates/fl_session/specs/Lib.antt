@@ -19,6 +19,7 @@ pub mod Oldest
 pub mod Pending
 pub mod Answer
 pub mod Caused
+pub mod CausedEach
 pub mod Cost
 pub mod Notes
 pub mod Gives

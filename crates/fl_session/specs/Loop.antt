@@ -1,11 +1,10 @@
--- How the commands of a script are run one after another, from a first one on that was read.
+-- How the commands of a script are run one after another, from a first one on that was read: what is said of all that were run
+-- (`All`), and of some in the reply of the last of which the sink failed (`Part`).
 use Rattle.std.specs.Prelude.{◌≡◌, ℕ, ◌+◌, ◌<◌, ◌≤◌, Bool, false, Option, Some, None, List, [], ◌∷◌, ◌++◌, length, take, drop}
 use Rattle.fl_words.specs.Command.{Command}
-use Rattle.fl_machine.specs.Machine.{Machine}
 use Rattle.fl_machine.specs.Script.{accepted, first_refused}
 use Rattle.fl_lines.specs.Taken.{HasTaken, TakesFew}
 use Rattle.fl_lines.specs.Texts.{whole_lines, rest_of, lines_within}
-use Rattle.fl_session.specs.Execute.{Around, RanAll, RanPart}
 use Rattle.fl_session.specs.declared.status.Status.{Status}
 use Rattle.fl_session.specs.declared.status.Status.TheVariants.{Done, Usage, Line, ScriptRead, OutWrite, MediaMake, Config, OtherConfig, ScriptLong, NoMemory}
 
@@ -37,27 +36,27 @@ pub record TailTakes (tail : Tail) (number : ℕ) (left_now : Option (List ℕ))
   pub few : TakesTail tail before left_now
 
 -- all lines were run
-pub record EndsAll (tail : Tail) (around : Around) (stands stands_now : Machine → Type 0) : Type 0 where
+pub record EndsAll (tail : Tail) (All : List Command → Type 0) : Type 0 where
   pub accepts : first_refused tail.number (lines_in tail) ≡ None
-  pub runs : RanAll around stands stands_now (accepted (lines_in tail))
+  pub runs : All (accepted (lines_in tail))
 
 -- the lines before one that is refused
-pub record EndsBad (tail : Tail) (around : Around) (stands stands_now : Machine → Type 0) (line : ℕ) : Type 0 where
+pub record EndsBad (tail : Tail) (All : List Command → Type 0) (line : ℕ) : Type 0 where
   pub refuses : first_refused tail.number (lines_in tail) ≡ Some line
-  pub runs : RanAll around stands stands_now (accepted (lines_in tail))
+  pub runs : All (accepted (lines_in tail))
 
 -- .. some of the lines, and in the reply of the last of them the sink failed
-pub record EndsInReply (tail : Tail) (left_now : Option (List ℕ)) (around : Around) (stands stands_now : Machine → Type 0) : Type 0 where
+pub record EndsInReply (tail : Tail) (left_now : Option (List ℕ)) (Part : List Command → Type 0) : Type 0 where
   pub commands : List Command
   pub others : List Command
   pub split : commands ++ others ≡ accepted (lines_in tail)
   pub number : ℕ
   pub number_is : number + 1 ≡ tail.number + length commands
   pub takes : TailTakes tail number left_now
-  pub runs : RanPart around stands stands_now commands
+  pub runs : Part commands
 
 -- .. the whole lines of what was taken from the source
-pub record EndsTaken (tail : Tail) (left_now : Option (List ℕ)) (around : Around) (stands stands_now : Machine → Type 0) : Type 0 where
+pub record EndsTaken (tail : Tail) (left_now : Option (List ℕ)) (All : List Command → Type 0) : Type 0 where
   pub is_open : tail.closed ≡ false
   pub taken : ℕ
   pub within : taken ≤ length tail.text
@@ -65,16 +64,16 @@ pub record EndsTaken (tail : Tail) (left_now : Option (List ℕ)) (around : Arou
   pub short : length (rest_of (take taken tail.text)) ≤ 4096
   pub left : left_now ≡ Some (drop taken tail.text)
   pub accepts : first_refused tail.number (tail.first ∷ whole_lines (take taken tail.text)) ≡ None
-  pub runs : RanAll around stands stands_now (accepted (tail.first ∷ whole_lines (take taken tail.text)))
+  pub runs : All (accepted (tail.first ∷ whole_lines (take taken tail.text)))
 
-abbrev pub EndsCommands : Tail → Option (List ℕ) → Around → (Machine → Type 0) → (Machine → Type 0) → Status → Type 0
-EndsCommands tail left_now around stands stands_now (Done pending) = (length tail.text ≤ tail.most) × EndsAll tail around stands stands_now × (left_now ≡ Some [])
-EndsCommands tail left_now around stands stands_now (Line n) = EndsBad tail around stands stands_now n × TailTakes tail n left_now
-EndsCommands tail left_now around stands stands_now ScriptRead = EndsTaken tail left_now around stands stands_now
-EndsCommands tail left_now around stands stands_now OutWrite = EndsInReply tail left_now around stands stands_now
-EndsCommands tail left_now around stands stands_now ScriptLong = (tail.most < length tail.text) × EndsAll tail around stands stands_now × HasTaken tail.text (tail.most + 1) left_now
-EndsCommands tail left_now around stands stands_now Usage = ⊥
-EndsCommands tail left_now around stands stands_now MediaMake = ⊥
-EndsCommands tail left_now around stands stands_now (Config n) = ⊥
-EndsCommands tail left_now around stands stands_now (OtherConfig wanted found at) = ⊥
-EndsCommands tail left_now around stands stands_now NoMemory = ⊥
+abbrev pub EndsCommands : Tail → Option (List ℕ) → (List Command → Type 0) → (List Command → Type 0) → Status → Type 0
+EndsCommands tail left_now All Part (Done pending) = (length tail.text ≤ tail.most) × EndsAll tail All × (left_now ≡ Some [])
+EndsCommands tail left_now All Part (Line n) = EndsBad tail All n × TailTakes tail n left_now
+EndsCommands tail left_now All Part ScriptRead = EndsTaken tail left_now All
+EndsCommands tail left_now All Part OutWrite = EndsInReply tail left_now Part
+EndsCommands tail left_now All Part ScriptLong = (tail.most < length tail.text) × EndsAll tail All × HasTaken tail.text (tail.most + 1) left_now
+EndsCommands tail left_now All Part Usage = ⊥
+EndsCommands tail left_now All Part MediaMake = ⊥
+EndsCommands tail left_now All Part (Config n) = ⊥
+EndsCommands tail left_now All Part (OtherConfig wanted found at) = ⊥
+EndsCommands tail left_now All Part NoMemory = ⊥

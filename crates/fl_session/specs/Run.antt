@@ -2,6 +2,7 @@
 use Rattle.std.specs.Prelude.{◌≡◌, ℕ, true, Option, Some, None, List, [], ◌++◌, length}
 use Rattle.fl_flash.specs.Media.{MediaState}
 use Rattle.fl_model.specs.Record.{Config}
+use Rattle.fl_words.specs.Command.{Command}
 use Rattle.fl_machine.specs.Machine.{Machine}
 use Rattle.fl_script.specs.declared.command.Command as code
 use Rattle.fl_session.specs.declared.pending.PendingRows.{PendingRows}
@@ -10,7 +11,7 @@ use Rattle.fl_session.specs.declared.status.Status.TheVariants.{Done, Line, Scri
 use Rattle.fl_config.specs.declared.image.ImageRefusal.{ImageRefusal}
 use Rattle.fl_config.specs.declared.image.ImageRefusal.TheVariants.{Media, Other}
 use Rattle.fl_lines.specs.Stream.{LinesState}
-use Rattle.fl_session.specs.Execute.{Around}
+use Rattle.fl_session.specs.Execute.{Around, RanAll, RanPart}
 use Rattle.fl_session.specs.Loop.{Tail, EndsCommands}
 
 -- the lines from the command on that ended the configuration
@@ -21,19 +22,22 @@ abbrev pub around_of : Config → MediaState → MediaState → Option (List ℕ
 around_of config old new told told_now = record { config = config; content = old.content; content_now = new.content; faults = old.faults; faults_now = new.faults; told = told; told_now = told_now }
 
 -- nothing was run
-pub record RunsNothing (left left_now : Option (List ℕ)) (around : Around) (stands stands_now : Machine → Type 0) (status : Status) : Type 0 where
+pub record RunsNothing (left left_now : Option (List ℕ)) (All : List Command → Type 0) (status : Status) : Type 0 where
   pub pending : PendingRows
   pub done : status ≡ Done pending
   pub untaken : left_now ≡ left
-  pub written : around.told_now ≡ around.told
-  pub content : around.content_now ≡ around.content
-  pub goes_on : (m : Machine) → stands m → stands_now m
+  pub runs : All []
 
 -- the commands from the first on were run, if there is one and the source tells
-abbrev pub RunsFrom : Option code.Command → ℕ → LinesState → Option (List ℕ) → Option (List ℕ) → Around → (Machine → Type 0) → (Machine → Type 0) → Status → Type 0
-RunsFrom None number state left left_now around stands stands_now status = RunsNothing left left_now around stands stands_now status
-RunsFrom (Some first) number state left left_now around stands stands_now status =
-    (l : List ℕ) → left ≡ Some l → (state.closed ≡ true → state.ahead ++ l ≡ []) → EndsCommands (tail_of number state l) left_now around stands stands_now status
+abbrev pub RunsFrom : Option code.Command → ℕ → LinesState → Option (List ℕ) → Option (List ℕ) → (List Command → Type 0) → (List Command → Type 0) → Status → Type 0
+RunsFrom None number state left left_now All Part status = RunsNothing left left_now All status
+RunsFrom (Some first) number state left left_now All Part status =
+    (l : List ℕ) → left ≡ Some l → (state.closed ≡ true → state.ahead ++ l ≡ []) → EndsCommands (tail_of number state l) left_now All Part status
+
+-- .. from each state for which the session stood
+abbrev pub RanFrom : Option code.Command → ℕ → LinesState → Option (List ℕ) → Option (List ℕ) → Around → (Machine → Type 0) → (Machine → Type 0) → Status → Type 0
+RanFrom first number state left left_now around stands stands_now status =
+    RunsFrom first number state left left_now (λ commands. RanAll around stands stands_now commands) (λ commands. RanPart around stands stands_now commands) status
 
 -- a status of the commands
 abbrev pub IsOfCommands : Status → Type 0

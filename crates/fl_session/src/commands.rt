@@ -1,13 +1,15 @@
 // Commands, one after another.
-ghost use Rattle.std.specs.Prelude.{◌≡◌, ℕ, ◌+◌, ◌^◌, ◌<◌, ◌≤◌, List, ◌++◌, length, Some, Ok, true, []};
+ghost use Rattle.std.specs.Prelude.{◌≡◌, ℕ, ◌+◌, ◌^◌, ◌<◌, ◌≤◌, List, ◌++◌, Some, Ok, true, []};
 ghost use Rattle.fl_base.specs.Causes.{Rose};
 ghost use Rattle.fl_model.specs.Record.{Config};
 ghost use Rattle.fl_flash.specs.Flash.{Goes};
 ghost use Rattle.fl_script.specs.CommandView.{command_view};
+ghost use Rattle.fl_session.specs.CausedEach.{CausedEach, CausedInto};
+ghost use Rattle.fl_session.specs.Execute.{RanAll, RanPart};
 ghost use Rattle.fl_session.specs.Next.{IsToRun};
 ghost use Rattle.fl_session.specs.Loop.{EndsCommands};
 ghost use Rattle.fl_session.specs.Pending.{TellsPending};
-ghost use Rattle.fl_session.specs.Run.{IsOfCommands};
+ghost use Rattle.fl_session.specs.Run.{IsOfCommands, around_of, tail_of};
 ghost use Rattle.fl_machine.specs.Machine.{Machine};
 
 use crate::Status;
@@ -33,11 +35,13 @@ pub(crate) fn run_commands<T: Executor, S: Source, K: Sink>(
     requires numbered { number + lines.old.most < 2 ^ 32 }
     requires reads { IsToRun lines.old.line (command_view first room.old) }
     ensures runs { (config : Config) (left : List ℕ) → S.left script.old ≡ Some left → (lines.old.closed ≡ true → lines.old.ahead ++ left ≡ []) →
-        EndsCommands
-        (record { number = number; first = lines.old.line; text = lines.old.ahead ++ left; taken = length lines.old.ahead; most = lines.old.most; closed = lines.old.closed })
-        (S.left script.new)
-        (record { config = config; content = (T.flash session.old).media.content; content_now = (T.flash session.new).media.content; faults = (T.flash session.old).media.faults; faults_now = (T.flash session.new).media.faults; told = K.written out.old; told_now = K.written out.new })
-        (T.stands session.old config) (T.stands session.new config) result }
+        EndsCommands (tail_of number lines.old left) (S.left script.new)
+        (λ commands. RanAll (around_of config (T.flash session.old).media (T.flash session.new).media (K.written out.old) (K.written out.new)) (T.stands session.old config) (T.stands session.new config) commands)
+        (λ commands. RanPart (around_of config (T.flash session.old).media (T.flash session.new).media (K.written out.old) (K.written out.new)) (T.stands session.old config) (T.stands session.new config) commands) result }
+    ensures causes { (left : List ℕ) → S.left script.old ≡ Some left → (lines.old.closed ≡ true → lines.old.ahead ++ left ≡ []) →
+        EndsCommands (tail_of number lines.old left) (S.left script.new)
+        (λ commands. CausedEach commands (T.state session.old) (T.state session.new) (K.written out.old) (K.written out.new))
+        (λ commands. CausedInto commands (T.state session.old) (T.state session.new) (K.written out.old) (K.written out.new)) result }
     ensures tells { (config : Config) (m : Machine) → T.stands session.new config m → TellsPending config result m }
     ensures read { result ≡ Status.ScriptRead → Rose (S.faults script.old) (S.faults script.new) }
     ensures write { result ≡ Status.OutWrite → Rose (K.faults out.old) (K.faults out.new) }

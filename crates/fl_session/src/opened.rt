@@ -1,5 +1,5 @@
 // A session that its caller holds, over an image that was opened.
-ghost use Rattle.std.specs.Prelude.{◌≡◌, ◌+◌, ◌≤◌, Some, false, true, length, IfOk, IsTrue, sum_by};
+ghost use Rattle.std.specs.Prelude.{◌≡◌, ◌+◌, ◌≤◌, Some, true, length, IfOk, IsTrue, sum_by};
 ghost use Rattle.fl_base.specs.declared.types.Geometry.{Geometry};
 ghost use Rattle.fl_flash.specs.Places.{extent};
 ghost use Rattle.fl_model.specs.Record.{Config as Configuration, blocks_of};
@@ -8,9 +8,8 @@ ghost use Rattle.fl_config.specs.Whole.{is_whole};
 ghost use Rattle.fl_machine.specs.Machine.{Machine};
 ghost use Rattle.fl_machine.specs.Script.{StandsAfter};
 ghost use Rattle.fl_store.specs.Store.{IsBlankBehind};
-ghost use Rattle.fl_store.specs.Tables.{AreNewTables};
+ghost use Rattle.fl_session.specs.CausedEach.{IsNewSession};
 ghost use Rattle.fl_session.specs.Held.{AreRoomsFor};
-ghost use Rattle.fl_session.specs.Notes.{no_notes};
 ghost use Rattle.fl_session.specs.Standing.{RestsTold};
 
 use crate::buffers::Buffers;
@@ -51,7 +50,7 @@ impl<'m, M: Media> Session<'m, M> {
         requires blank { is_new ≡ true → IsTrue (M.state media.old).tells → (g : Geometry) → config.now.device ≡ Some g → IsBlankBehind g (sum_by blocks_of config.now.plans) (M.state media.old).content }
         // It stands for each state that the medium represents.
         ensures begins { (configured : Configuration) (m : Machine) → whole KNOTS config.now ≡ Some configured → RestsTold configured (M.state media.old) m → ⟦<Self as Executor>⟧.stands result configured m }
-        ensures fresh { AreNewTables (⟦<Self as Executor>⟧.state result).entries config.now × ((⟦<Self as Executor>⟧.state result).mounted ≡ false) × ((⟦<Self as Executor>⟧.state result).notes ≡ no_notes) }
+        ensures fresh { IsNewSession config.now (M.state media.old) (⟦<Self as Executor>⟧.state result) }
         ensures sound { ⟦<Self as Executor>⟧.sound result }
         ensures unread { (⟦<Self as Executor>⟧.flash result).work.reads ≡ 0 }
         ensures medium { (⟦<Self as Executor>⟧.flash result).media ≡ M.state media.old }

@@ -11,13 +11,14 @@ ghost use Rattle.fl_config.specs.Whole.{is_whole};
 ghost use Rattle.fl_store.specs.Store.{IsBlankBehind};
 ghost use Rattle.fl_session.specs.Begin.{HoldsFirst};
 ghost use Rattle.fl_session.specs.Words.{image_named};
+ghost use Rattle.fl_session.specs.CausedEach.{CausedEach, CausedInto, EndsCaused, SessionOver};
 ghost use Rattle.fl_session.specs.Complete.{IsInPlace, Completes};
 ghost use Rattle.fl_session.specs.Ends.{Ends, told_of, IsEarlyBy, IsOwn};
 ghost use Rattle.fl_session.specs.ScriptEnds.{ScriptEnds};
 ghost use Rattle.fl_session.specs.Held.{AreRoomsFor};
 ghost use Rattle.fl_session.specs.Opening.{MediaGoes, KeepsForm};
 ghost use Rattle.fl_session.specs.Pending.{EndsAt, TellsPending};
-ghost use Rattle.fl_session.specs.Run.{RunsFrom, around_of, IsOfCommands, refused_status};
+ghost use Rattle.fl_session.specs.Run.{RanFrom, RunsFrom, around_of, IsOfCommands, refused_status};
 ghost use Rattle.fl_session.specs.Standing.{RestsTold};
 ghost use Rattle.fl_machine.specs.Machine.{Machine};
 
@@ -48,8 +49,11 @@ fn run_first<E: Executor, S: Source, K: Sink>(
     requires sound { E.sound session.old }
     requires unread { (E.flash session.old).work.reads ≡ 0 }
     requires in_hand { HoldsFirst first number room.old lines.old }
-    ensures runs { (configured : Configuration) → RunsFrom first number lines.old (S.left script.old) (S.left script.new) (around_of configured (E.flash session.old).media (E.flash session.new).media (K.written out.old) (K.written out.new))
+    ensures runs { (configured : Configuration) → RanFrom first number lines.old (S.left script.old) (S.left script.new) (around_of configured (E.flash session.old).media (E.flash session.new).media (K.written out.old) (K.written out.new))
         (E.stands session.old configured) (E.stands session.new configured) result }
+    ensures causes { RunsFrom first number lines.old (S.left script.old) (S.left script.new)
+        (λ commands. CausedEach commands (E.state session.old) (E.state session.new) (K.written out.old) (K.written out.new))
+        (λ commands. CausedInto commands (E.state session.old) (E.state session.new) (K.written out.old) (K.written out.new)) result }
     ensures tells { (configured : Configuration) (m : Machine) → E.stands session.new configured m → TellsPending configured result m }
     ensures goes { Goes (E.flash session.old) (E.flash session.new) }
     ensures read { result ≡ Status.ScriptRead → Rose (S.faults script.old) (S.faults script.new) }
@@ -83,8 +87,11 @@ fn run_session<M: Media, S: Source, K: Sink>(
     requires blank { is_new ≡ true → IsTrue (M.state media.old).tells → (g : Geometry) → config.now.device ≡ Some g → IsBlankBehind g (sum_by blocks_of config.now.plans) (M.state media.old).content }
     requires rooms { AreRoomsFor rooms config.now }
     ensures runs { (configured : Configuration) → whole KNOTS config.now ≡ Some configured →
-        RunsFrom begun.first begun.number lines.old (S.left script.old) (S.left script.new) (around_of configured (M.state media.old) (M.state media.new) (K.written out.old) (K.written out.new))
+        RanFrom begun.first begun.number lines.old (S.left script.old) (S.left script.new) (around_of configured (M.state media.old) (M.state media.new) (K.written out.old) (K.written out.new))
         (RestsTold configured (M.state media.old)) (EndsAt configured result (M.state media.new).content) result }
+    ensures causes { RunsFrom begun.first begun.number lines.old (S.left script.old) (S.left script.new)
+        (λ commands. SessionOver config.now (M.state media.old) (M.state media.new) (λ begin end. CausedEach commands begin end (K.written out.old) (K.written out.new)))
+        (λ commands. SessionOver config.now (M.state media.old) (M.state media.new) (λ begin end. CausedInto commands begin end (K.written out.old) (K.written out.new))) result }
     ensures form { KeepsForm (M.state media.old) (M.state media.new) }
     ensures goes { MediaGoes (M.state media.old) (M.state media.new) }
     ensures read { result ≡ Status.ScriptRead → Rose (S.faults script.old) (S.faults script.new) }
@@ -119,6 +126,8 @@ fn run_script<M: Media, S: Source, K: Sink>(
     ensures ends { (text : List ℕ) → IsTrue (M.state media.old).tells → S.left script.old ≡ Some text →
         Ends KNOTS text (told_of (M.state media.old) (M.state media.new) (S.left script.new) (K.written out.old) (K.written out.new)) result }
     ensures script { (text : List ℕ) → S.left script.old ≡ Some text → ScriptEnds KNOTS text (S.left script.new) result }
+    ensures causes { (text : List ℕ) → S.left script.old ≡ Some text →
+        EndsCaused KNOTS text (M.state media.old) (M.state media.new) (S.left script.new) (K.written out.old) (K.written out.new) result }
     ensures words { result ≡ Status.Usage → ⊥ }
     ensures read { result ≡ Status.ScriptRead → Rose (S.faults script.old) (S.faults script.new) }
     ensures write { result ≡ Status.OutWrite → Rose (K.faults out.old) (K.faults out.new) }
@@ -167,6 +176,11 @@ pub fn run<M: Media, S: Source, K: Sink>(
 
     // What the script alone decides, whatever the medium tells.
     ensures script { (text : List ℕ) → S.left script.old ≡ Some text → ScriptEnds KNOTS text (S.left script.new) result }
+
+    // Whatever bytes the medium holds, and whether it tells them: each command that was run has its cause in the session's
+    // memory and in the counts of its flash, which leaves the medium as it is.
+    ensures causes { (text : List ℕ) → S.left script.old ≡ Some text →
+        EndsCaused KNOTS text (M.state media.old) (M.state media.new) (S.left script.new) (K.written out.old) (K.written out.new) result }
 
     // Each status has its cause.
     ensures usage { (result ≡ Status.Usage) ↔ (image_named (map (λ word. string_bytes word) words.now) ≡ None) }

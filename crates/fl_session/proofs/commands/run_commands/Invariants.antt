@@ -1,9 +1,12 @@
-use Rattle.std.proofs.Common.{◌≡◌, ℕ, ◌+◌, ◌^◌, ◌<◌, ◌≤◌, List, [], ◌++◌, length, Some, true}
+use Rattle.std.proofs.Common.{◌≡◌, ℕ, ◌+◌, ◌^◌, ◌<◌, ◌≤◌, List, [], ◌++◌, Some, true}
 use Rattle.fl_model.specs.Record.{Config}
 use Rattle.fl_flash.specs.Flash.{Goes}
 use Rattle.fl_script.specs.CommandView.{command_view}
+use Rattle.fl_session.specs.CausedEach.{CausedEach}
 use Rattle.fl_session.specs.Next.{IsToRun}
+use Rattle.fl_session.specs.Run.{tail_of}
 use Rattle.fl_session.proofs.Loops.{InHand}
+use Rattle.fl_session.proofs.RanTo.{RanTo}
 use Rattle.fl_session.proofs.commands.run_commands.Given as goal
 
 abbrev pub invariant-lines : goal.invariant-lines
@@ -19,9 +22,12 @@ invariant-lines g l =
       sound : T.sound l.session;
       goes : Goes (T.flash l.fn.session) (T.flash l.session);
       runs : (config : Config) (left : List ℕ) → S.left l.fn.script ≡ Some left → (l.fn.lines.closed ≡ true → l.fn.lines.ahead ++ left ≡ []) →
-          InHand
-          (record { number = l.fn.number; first = l.fn.lines.line; text = l.fn.lines.ahead ++ left; taken = length l.fn.lines.ahead; most = l.fn.lines.most; closed = l.fn.lines.closed })
-          config (T.stands l.fn.session config) (T.stands l.session config) (T.flash l.fn.session).media.content (T.flash l.session).media.content (T.flash l.fn.session).media.faults (T.flash l.session).media.faults (T.flash l.session).work.reads (K.written l.fn.out) (K.written l.out)
+          InHand (tail_of l.fn.number l.fn.lines left)
+          (RanTo config (T.stands l.fn.session config) (T.stands l.session config) (T.flash l.fn.session) (T.flash l.session) (K.written l.fn.out) (K.written l.out))
+          l.line l.lines (S.left l.script);
+      causes : (left : List ℕ) → S.left l.fn.script ≡ Some left → (l.fn.lines.closed ≡ true → l.fn.lines.ahead ++ left ≡ []) →
+          InHand (tail_of l.fn.number l.fn.lines left)
+          (λ commands. CausedEach commands (T.state l.fn.session) (T.state l.session) (K.written l.fn.out) (K.written l.out))
           l.line l.lines (S.left l.script);
     }
 

@@ -1,4 +1,16 @@
+use Rattle.std.proofs.Common.{refl}
+use Rattle.fl_session.proofs.NextCommand.{ran-none}
 use Rattle.fl_session.proofs.whole_run.run_first.Goals as goal
 
 pub returns-in-Some-clause-runs : goal.returns-in-Some-clause-runs
 returns-in-Some-clause-runs g c = λ configured. rw c.in-Some.is (λ left e ended. c.run_commands.ensures.runs configured left e ended)
+
+pub returns-in-Some-clause-causes : goal.returns-in-Some-clause-causes
+returns-in-Some-clause-causes g c = rw c.in-Some.is (λ left e ended. c.run_commands.ensures.causes left e ended)
+
+pub returns-in-None-clause-runs : goal.returns-in-None-clause-runs
+returns-in-None-clause-runs g c = λ configured.
+    rw c.in-None.is (record { pending = c.pending.result; done = refl; untaken = refl; runs = λ old s ready. ran-none configured old _ _ _ _ s })
+
+pub returns-in-None-clause-causes : goal.returns-in-None-clause-causes
+returns-in-None-clause-causes g c = rw c.in-None.is (record { pending = c.pending.result; done = refl; untaken = refl; runs = (refl, refl) })

@@ -5,6 +5,8 @@ use Rattle.fl_image.proofs.Made.{whole-of, makes-of}
 use Rattle.fl_image.proofs.Reach.{reach}
 use Rattle.fl_session.specs.Ends.{told_of, effects_of}
 use Rattle.fl_session.specs.ScriptEnds.{unsaid}
+use Rattle.fl_session.specs.CausedEach.{causes_of}
+use Rattle.fl_session.proofs.CausesInTurn.{causes-opened, causes-refused}
 use Rattle.fl_session.proofs.NextCommand.{nothing-added}
 use Rattle.fl_session.proofs.RunEnds.{begins-takes, ends-in_begin, script-over, commands-early}
 use Rattle.fl_session.proofs.Over.{ends-opened, opens-as, opens-goes, media-goes_on, ends-refused, script-refused, early-refused, make-refused, commands-words}
@@ -17,6 +19,10 @@ returns-in-Err-clause-ends g c = λ text told l.
 
 pub returns-in-Err-clause-script : goal.returns-in-Err-clause-script
 returns-in-Err-clause-script g c = λ text l. ends-in_begin unsaid 64 text _ c.in-Err.status (c.in-Err.ensures.ends 64 text l) tt
+
+pub returns-in-Err-clause-causes : goal.returns-in-Err-clause-causes
+returns-in-Err-clause-causes g c = λ text l.
+    ends-in_begin (causes_of 64 (g.M.Media.state c.args.media.now) (g.M.Media.state c.args.media.now) (g.K.Sink.written c.args.out.now) (g.K.Sink.written c.args.out.now)) 64 text _ c.in-Err.status (c.in-Err.ensures.ends 64 text l) (refl, refl)
 
 pub run_session-requires-clause-reach : goal.run_session-requires-clause-reach
 run_session-requires-clause-reach g c = λ geometry e.
@@ -42,14 +48,24 @@ returns-in-Ok-open_image-clause-ends g c = λ text told l.
     let goes = opens-goes (medium_len w.0) (header w.0) (g.M.Media.state c.args.media.now) (Ok tt) (g.M.Media.state c.open_image.new.media) (c.in-Ok-open_image.ensures w.0 (makes-of 64 lines w.0 w.1)) in
     ends-opened 64 text lines c.in-Ok-read_config.begun.first c.in-Ok-read_config.begun.number _ _ _ _ _ w.0
     (g.M.Media.state c.args.media.now) (g.M.Media.state c.open_image.new.media) (g.M.Media.state c.run_session.new.media) c.args.media.ghost_name _
-    (c.in-Ok-read_config.ensures.begins 64 text l) w.1 told (opens-as w.0 (g.M.Media.state c.args.media.now) (Ok tt) (g.M.Media.state c.open_image.new.media) (c.in-Ok-open_image.ensures w.0 (makes-of 64 lines w.0 w.1))) c.run_session.ensures.form goes.tells goes.faults c.run_session.ensures.goes.faults
+    (c.in-Ok-read_config.ensures.begins 64 text l) w.1 told (opens-as w.0 (g.M.Media.state c.args.media.now) (Ok tt) (g.M.Media.state c.open_image.new.media) (c.in-Ok-open_image.ensures w.0 (makes-of 64 lines w.0 w.1))) c.run_session.ensures.form goes.tells goes.faults
     (c.run_session.ensures.runs w.0 w.1)
 
 pub returns-in-Ok-open_image-clause-script : goal.returns-in-Ok-open_image-clause-script
 returns-in-Ok-open_image-clause-script g c = λ text l.
     let lines = c.read_config.new.config in
     let w = whole-of 64 lines c.in-Ok-read_config.ensures.whole in
-    script-over 64 text lines c.in-Ok-read_config.begun.first c.in-Ok-read_config.begun.number _ _ _ w.0 _ _ _ _ (c.in-Ok-read_config.ensures.begins 64 text l) w.1 (c.run_session.ensures.runs w.0 w.1)
+    script-over 64 text lines c.in-Ok-read_config.begun.first c.in-Ok-read_config.begun.number _ _ _ w.0 _ _ _ (c.in-Ok-read_config.ensures.begins 64 text l) w.1 c.run_session.ensures.causes
+
+pub returns-in-Ok-open_image-clause-causes : goal.returns-in-Ok-open_image-clause-causes
+returns-in-Ok-open_image-clause-causes g c = λ text l.
+    let lines = c.read_config.new.config in
+    let w = whole-of 64 lines c.in-Ok-read_config.ensures.whole in
+    let opens = c.in-Ok-open_image.ensures w.0 (makes-of 64 lines w.0 w.1) in
+    let old = g.M.Media.state c.args.media.now in
+    let made = g.M.Media.state c.open_image.new.media in
+    causes-opened 64 text lines c.in-Ok-read_config.begun.first c.in-Ok-read_config.begun.number _ _ _ _ _ w.0 old made (g.M.Media.state c.run_session.new.media) _
+    (c.in-Ok-read_config.ensures.begins 64 text l) w.1 (opens-as w.0 old (Ok tt) made opens) (opens-goes (medium_len w.0) (header w.0) old (Ok tt) made opens) c.run_session.ensures.causes
 
 pub returns-in-Ok-open_image-clause-words : goal.returns-in-Ok-open_image-clause-words
 returns-in-Ok-open_image-clause-words g c = commands-words _ c.run_session.ensures.statuses
@@ -70,6 +86,12 @@ returns-clause-script g c = λ text l.
     let lines = c.read_config.new.config in
     let w = whole-of 64 lines c.in-Ok-read_config.ensures.whole in
     rw c.status_of.ensures (script-refused 64 text lines c.in-Ok-read_config.begun.first c.in-Ok-read_config.begun.number _ _ w.0 c.in-Err-open_image.refusal (c.in-Ok-read_config.ensures.begins 64 text l) w.1)
+
+pub returns-clause-causes : goal.returns-clause-causes
+returns-clause-causes g c = λ text l.
+    let lines = c.read_config.new.config in
+    let w = whole-of 64 lines c.in-Ok-read_config.ensures.whole in
+    rw c.status_of.ensures (causes-refused 64 text lines c.in-Ok-read_config.begun.first c.in-Ok-read_config.begun.number _ _ _ w.0 _ _ c.in-Err-open_image.refusal (c.in-Ok-read_config.ensures.begins 64 text l) w.1)
 
 pub returns-clause-make : goal.returns-clause-make
 returns-clause-make g c = λ e.
@@ -97,3 +119,6 @@ returns-in_default-new-2-clause-ends g c = λ text told l. ((nothing-added _, in
 
 pub returns-in_default-new-2-clause-script : goal.returns-in_default-new-2-clause-script
 returns-in_default-new-2-clause-script g c = λ text l. (tt, inr (begins-takes 64 text _ _ _ _ _ (c.in-Ok-read_config.ensures.begins 64 text l)))
+
+pub returns-in_default-new-2-clause-causes : goal.returns-in_default-new-2-clause-causes
+returns-in_default-new-2-clause-causes g c = λ text l. ((refl, refl), inr (begins-takes 64 text _ _ _ _ _ (c.in-Ok-read_config.ensures.begins 64 text l)))

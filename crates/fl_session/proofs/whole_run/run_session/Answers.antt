@@ -1,4 +1,5 @@
 use Rattle.std.proofs.Common.{◌≡◌, rules, ◌∙◌}
+use Rattle.fl_session.proofs.CausesInTurn.{over-session}
 use Rattle.fl_session.proofs.Over.{session-runs, flash-keeps}
 use Rattle.fl_session.proofs.whole_run.run_session.Goals as goal
 
@@ -8,6 +9,11 @@ returns-clause-runs g c = λ configured w.
     session-runs configured _ _ _ _ _ _ _ _ _ _ c.over-session.ensures.medium (e ∙ c.end-media.ensures.state) (λ m rests. c.over-session.ensures.begins configured m w rests)
     _ _ _ _ _ _ _ _
     (c.run_first-status.ensures.tells configured) (c.run_first-status.ensures.runs configured)
+
+pub returns-clause-causes : goal.returns-clause-causes
+returns-clause-causes g c =
+    let e : g.M.Media.state c.media-1.given.0 ≡ g.M.Media.state c.end-media.result.now = search rules in
+    over-session _ _ _ _ _ _ _ _ _ _ _ _ _ c.over-session.ensures.fresh c.run_first-status.ensures.goes (e ∙ c.end-media.ensures.state) c.run_first-status.ensures.causes
 
 pub returns-clause-form : goal.returns-clause-form
 returns-clause-form g c =

@@ -1,6 +1,7 @@
 use Rattle.std.proofs.Common.{sym, ◌∙◌, ap, subst, List}
 use Rattle.fl_flash.specs.Flash.{FlashState}
 use Rattle.fl_image.proofs.Made.{knots-of, makes-of}
+use Rattle.fl_store.specs.Store.{IsOpened}
 use Rattle.fl_store.specs.Tables.{AreNewTables}
 use Rattle.fl_store.specs.declared.tables.Entry.{Entry}
 use Rattle.fl_store.specs.declared.tables.Tables.{Tables}
@@ -15,11 +16,12 @@ returns-clause-begins g c = λ configured m w rests.
     c.over-flash.ensures.opened.calm (c.over-flash.ensures.holds configured rests.1.0 rests.0 (makes-of 64 lines configured w) rests.1.1) rests.1.2
 
 pub returns-clause-fresh : goal.returns-clause-fresh
-returns-clause-fresh g c = (
-  subst (λ (es : List Entry). AreNewTables es c.args.config.now) (sym (ap (λ (t : Tables). t.entries.items) (c.new.ensures.rooms.0 ∙ c.over-flash.ensures.tables))) c.requires.rooms.layout.tables,
-  c.new.ensures.off,
-  c.new.ensures.fresh,
-)
+returns-clause-fresh g c = record {
+  tables = subst (λ (es : List Entry). AreNewTables es c.args.config.now) (sym (ap (λ (t : Tables). t.entries.items) (c.new.ensures.rooms.0 ∙ c.over-flash.ensures.tables))) c.requires.rooms.layout.tables;
+  down = c.new.ensures.off;
+  notes = c.new.ensures.fresh;
+  flash = subst (λ (f : FlashState). IsOpened c.args.config.now (g.M.Media.state c.args.media.now) f) (sym c.new.ensures.flash) c.over-flash.ensures.opened;
+}
 
 pub returns-clause-sound : goal.returns-clause-sound
 returns-clause-sound g c =
