@@ -4,6 +4,7 @@ use Rattle.std.specs.List.{AllByRecursion, filter, last_or}
 use Rattle.std.specs.Option.{option_map, unwrap_or}
 use Rattle.std.proofs.lemmas.Bool.{le-leb, leb-true, ltb-true, ltb-false, eqb-true}
 use Rattle.fl_base.specs.declared.types.KeyRange.{KeyRange}
+use Rattle.fl_cursor.proofs.Selected.{range-at}
 use Rattle.fl_model.specs.Facts.{BlobFits, FitsPlan}
 use Rattle.fl_model.specs.Query.{in_range, selected}
 use Rattle.fl_model.specs.Record.{Record, Plan, has_var, key_limit}
