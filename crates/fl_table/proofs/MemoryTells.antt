@@ -1,5 +1,5 @@
 -- What a table in memory tells of the table of the model for which it stands.
-use Rattle.std.proofs.Common.{◌≡◌, ℕ, ◌+◌, ◌-◌, ◌%◌, ◌<◌, ◌≤◌, ◌==◌, Option, Some, option_map, unwrap_or, map, length, get_or, sym, ◌∙◌, ap, arith}
+use Rattle.std.proofs.Common.{◌≡◌, ℕ, ◌+◌, ◌-◌, ◌%◌, ◌<◌, ◌≤◌, ◌==◌, Bool, false, Option, None, Some, is_some, option_map, unwrap_or, map, length, get_or, refl, sym, ◌∙◌, ap, arith}
 use Rattle.std.proofs.lemmas.List.{ext_get_or}
 use Rattle.std.proofs.lemmas.List.FromFn.{length-map-range_with_len, get_or-map-range_with_len}
 use Rattle.std.proofs.lemmas.Option.{get_or_from_slice_get}
@@ -11,8 +11,8 @@ use Rattle.fl_model.specs.Table as model
 use Rattle.fl_model.proofs.Lists.{slice_get-some}
 use Rattle.fl_ring.specs.Place.{next_of, oldest_of}
 use Rattle.fl_ring.specs.declared.ring.Ring.{Ring}
-use Rattle.fl_table.specs.Look.{oldest_in, rows_noted, kept_counts, counts_in, counts_of}
-use Rattle.fl_table.specs.Memory.{next_in, pending_in}
+use Rattle.fl_table.specs.Look.{oldest_in, rows_noted, kept_counts, counts_in, counts_of, lost_counts}
+use Rattle.fl_table.specs.Memory.{is_running, next_in, pending_in}
 use Rattle.fl_table.specs.Standing.{Stands}
 use Rattle.fl_table.specs.declared.counts.TableCounts.{TableCounts}
 use Rattle.fl_table.specs.declared.table.Table.{Table}
@@ -75,3 +75,19 @@ counts-told t counts n last rows pending pages voids =
     let with_voids : ℕ → TableCounts = λ k. record { rows = sum (kept_counts t) + pending_in t; pending = pending_in t; pages = next_in t - oldest_in t; voids = k } in
     ap with_rows (rows ∙ ap (λ k. sum (map (rows_noted t) (range_with_len (oldest_in t) k)) + pending_in t) last)
     ∙ (ap with_pending pending ∙ (ap with_pages pages ∙ ap with_voids (voids ∙ ap (λ k. count_by (λ count. count == 0) (map (rows_noted t) (range_with_len (oldest_in t) k))) last)))
+
+-- what a table with this ring counts
+abbrev counts-by : {KNOTS SLOTS : ℕ} → Table KNOTS SLOTS → Option Ring → TableCounts
+counts-by t ring =
+    let from = unwrap_or (option_map (λ r. oldest_of r) ring) 0 in
+    let many = unwrap_or (option_map (λ r. next_of r) ring) 0 - from in
+    let counts = map (rows_noted t) (range_with_len from many) in
+    record { rows = sum counts + pending_in t; pending = pending_in t; pages = many; voids = count_by (λ count. count == 0) counts }
+
+no-ring : (ring : Option Ring) → is_some ring ≡ false → ring ≡ None
+no-ring None e = refl
+no-ring (Some ring) e = absurd (cc e)
+
+-- .. and one without a ring
+pub counts-lost : {KNOTS SLOTS : ℕ} (t : Table KNOTS SLOTS) → is_running t ≡ false → counts_in t ≡ lost_counts t
+counts-lost t e = ap (counts-by t) (no-ring t.ring e) ∙ ap (λ (rows : ℕ). record { rows = rows; pending = pending_in t; pages = 0; voids = 0 }) (let z : 0 + pending_in t ≡ pending_in t = omega arith in z)

@@ -58,6 +58,10 @@ counts_in t = record {
   voids = count_by (λ count. count == 0) (kept_counts t);
 }
 
+-- Of a table that isn't running the rows in its page buffer are counted, which are lost, and no page.
+abbrev pub lost_counts : {KNOTS SLOTS : ℕ} → Table KNOTS SLOTS → TableCounts
+lost_counts t = record { rows = pending_in t; pending = pending_in t; pages = 0; voids = 0 }
+
 -- what a table of the model holds
 abbrev pub counts_of : model.Table → TableCounts
 counts_of table = record {

@@ -104,6 +104,7 @@ pub record IsForgotten {KNOTS SLOTS : ℕ} (t : Table KNOTS SLOTS) : Type 0 wher
   pub down : t.ring ≡ None
   pub calm : t.stopped ≡ false
   pub none : t.writer.count ≡ 0
+  pub last : t.last_key ≡ None
   pub empty : (layout : RowLayout) → Gathers layout [] t.writer
   pub bits : t.bitmap ≡ 0
   pub ends : t.blob_end ≡ 0

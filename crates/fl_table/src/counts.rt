@@ -1,5 +1,5 @@
 // How much a table holds.
-ghost use Rattle.std.specs.Prelude.{◌≡◌};
+ghost use Rattle.std.specs.Prelude.{◌≡◌, false};
 
 use crate::table::Table;
 
@@ -25,12 +25,15 @@ impl<const KNOTS: usize, const SLOTS: usize> Table<KNOTS, SLOTS> {
     ghost use Rattle.fl_flash.specs.Flash.{FlashState};
     ghost use Rattle.fl_model.specs.Record.{Plan};
     ghost use Rattle.fl_model.specs.Table as model;
-    ghost use Rattle.fl_table.specs.Look.{counts_in, counts_of};
+    ghost use Rattle.fl_table.specs.Look.{counts_in, counts_of, lost_counts};
+    ghost use Rattle.fl_table.specs.Memory.{is_running};
     ghost use Rattle.fl_table.specs.Standing.{Stands};
 
-    /// How much it holds. A table that isn't running keeps no pages.
+    /// How much it holds. Of a table that isn't running no page is counted: after a fault of the flash its rows are those that
+    /// were pending, which are lost.
     pub fn counts(&self) -> TableCounts
         ensures exact { result ≡ counts_in self.now }
+        ensures stopped { is_running self.now ≡ false → result ≡ lost_counts self.now }
         ensures stands { (f : FlashState) → (first : ℕ) → (plan : Plan) → (table : model.Table) → Stands self.now f first plan table → result ≡ counts_of table }
     {
         let oldest = self.oldest();

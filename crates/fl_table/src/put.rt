@@ -64,6 +64,8 @@ impl<const KNOTS: usize, const SLOTS: usize> Table<KNOTS, SLOTS> {
         ensures room { OnOk result (HasRoom self.new) }
         ensures quiet { HasRoom self.old → (result ≡ Ok tt) × (self.new ≡ self.old) × (F.state flash.new ≡ F.state flash.old) }
         ensures running { OnOk result (is_running self.new ≡ true) }
+        ensures last { last_key_in self.new ≡ last_key_in self.old }
+        ensures pending_stays { OnErr result (pending_in self.new ≡ pending_in self.old) }
         ensures next { OnOk result (next_in self.new ≤ next_in self.old + 1) }
         ensures index_next { OnOk result (index_next self.new.bitmaps ≤ index_next self.old.bitmaps + 1) }
         ensures blob_next { OnOk result (variable.next_of self.new.blobs ≤ variable.next_of self.old.blobs + 1) }
@@ -139,6 +141,8 @@ impl<const KNOTS: usize, const SLOTS: usize> Table<KNOTS, SLOTS> {
         ensures running { OnOk result (is_running self.new ≡ true) }
         ensures calm { OnOk result (is_stopped self.new ≡ is_stopped self.old) }
         ensures stopped { OnErr result ((is_running self.new ≡ false) × (is_stopped self.new ≡ true)) }
+        ensures pending_stays { OnErr result (pending_in self.new ≡ pending_in self.old) }
+        ensures last_stays { OnErr result (last_key_in self.new ≡ last_key_in self.old) }
         ensures outside { IsTrue (F.state flash.old).media.tells → OutsideStands self.old (page_at (F.state flash.old)) (page_at (F.state flash.new)) }
         ensures reads { (F.state flash.new).work.reads ≡ (F.state flash.old).work.reads }
         ensures media_reads { (F.state flash.new).media.reads ≤ (F.state flash.old).media.reads + variable.pages_for self.old.blobs (option_map (λ b. b.now) blob.entry) }
@@ -177,6 +181,8 @@ impl<const KNOTS: usize, const SLOTS: usize> Table<KNOTS, SLOTS> {
         ensures refused { IfErr result (λ e. RefusedSame self.old (F.state flash.old) e self.new (F.state flash.new)) }
         ensures stopped { is_stopped self.new ≡ (put_breaks result || is_stopped self.old) }
         ensures running { is_running self.new ≡ (is_running self.old && not (put_breaks result)) }
+        ensures pending_stays { OnErr result (HasRoom self.old → pending_in self.new ≡ pending_in self.old) }
+        ensures last_stays { OnErr result (last_key_in self.new ≡ last_key_in self.old) }
         ensures quiet { put_refusal self.old key values.now (option_map (λ b. length b.now) blob.entry) ≡ None → HasRoom self.old → variable.pages_for self.old.blobs (option_map (λ b. b.now) blob.entry) ≡ 0
             → (result ≡ Ok tt) × (F.state flash.new ≡ F.state flash.old) }
         ensures pending { OnOk result (HasRoom self.old → pending_in self.new ≡ pending_in self.old + 1) }
@@ -209,6 +215,8 @@ impl<const KNOTS: usize, const SLOTS: usize> Table<KNOTS, SLOTS> {
         ensures exact { (result ≡ Err FlushFault.Stopped) ↔ (is_running self.old ≡ false) }
         ensures stopped { is_stopped self.new ≡ (flush_breaks result || is_stopped self.old) }
         ensures running { is_running self.new ≡ (is_running self.old && not (flush_breaks result)) }
+        ensures last { last_key_in self.new ≡ last_key_in self.old }
+        ensures pending_stays { OnErr result (pending_in self.new ≡ pending_in self.old) }
         ensures refused { result ≡ Err FlushFault.Stopped → self.new ≡ self.old }
         ensures quiet { is_running self.old ≡ true → pending_in self.old ≡ 0 → (result ≡ Ok tt) × (self.new ≡ self.old) × (F.state flash.new ≡ F.state flash.old) }
         ensures none { OnOk result (pending_in self.new ≡ 0) }

@@ -20,7 +20,8 @@ impl<const KNOTS: usize, const SLOTS: usize> Table<KNOTS, SLOTS> {
     ghost use Rattle.fl_model.specs.Table as model;
     ghost use Rattle.fl_model.specs.Work.{Device};
     ghost use Rattle.fl_ring.specs.Step.{IsWatched};
-    ghost use Rattle.fl_table.specs.Memory.{is_running, is_stopped, next_in, IsSamePlan, LiesOn};
+    ghost use Rattle.fl_table.specs.Look.{last_key_in};
+    ghost use Rattle.fl_table.specs.Memory.{is_running, is_stopped, next_in, pending_in, IsSamePlan, LiesOn};
     ghost use Rattle.fl_table.specs.Standing.{Stands};
     ghost use Rattle.fl_table.specs.Bitmaps.{HaveRoom, bitmap_seals, next_of as index_next, rings_of};
     ghost use Rattle.fl_table.specs.Blobs as variable;
@@ -41,6 +42,8 @@ impl<const KNOTS: usize, const SLOTS: usize> Table<KNOTS, SLOTS> {
         ensures ends { (first : ℕ) → (plan : Plan) → (table : model.Table) → (rose : Bool) → (device : Device) → IsWatched (F.state flash.old) (F.state flash.new) rose device
             → Stands self.old (F.state flash.old) first plan table → SealsEnd first plan (table_seals plan table) table rose device result self.new (F.state flash.old) (F.state flash.new) }
         ensures empty { OnOk result (self.new.writer.count ≡ 0) }
+        ensures last { last_key_in self.new ≡ last_key_in self.old }
+        ensures pending_stays { OnErr result (pending_in self.new ≡ pending_in self.old) }
         ensures running { OnOk result (is_running self.new ≡ true) }
         ensures next { OnOk result (next_in self.new ≡ next_in self.old + 1) }
         ensures index_next { OnOk result (index_next self.new.bitmaps ≤ index_next self.old.bitmaps + 1) }
@@ -71,6 +74,7 @@ impl<const KNOTS: usize, const SLOTS: usize> Table<KNOTS, SLOTS> {
             → Stands self.old (F.state flash.old) first plan table → SealsEnd first plan (bitmap_seals plan table) table rose device result self.new (F.state flash.old) (F.state flash.new) }
         ensures room { OnOk result (HaveRoom self.new.bitmaps) }
         ensures some { self.new.writer.count ≡ self.old.writer.count }
+        ensures last { last_key_in self.new ≡ last_key_in self.old }
         ensures blobs { self.new.blobs ≡ self.old.blobs }
         ensures running { OnOk result (is_running self.new ≡ true) }
         ensures next { OnOk result (next_in self.new ≡ next_in self.old) }
@@ -104,6 +108,7 @@ impl<const KNOTS: usize, const SLOTS: usize> Table<KNOTS, SLOTS> {
             → Stands self.old (F.state flash.old) first plan table → SealsEnd first plan (rest_seals table) table rose device result self.new (F.state flash.old) (F.state flash.new) }
         ensures empty { OnOk result (AreEmpty self.new.blobs) }
         ensures some { self.new.writer.count ≡ self.old.writer.count }
+        ensures last { last_key_in self.new ≡ last_key_in self.old }
         ensures bitmaps { self.new.bitmaps ≡ self.old.bitmaps }
         ensures running { OnOk result (is_running self.new ≡ true) }
         ensures next { OnOk result (next_in self.new ≡ next_in self.old) }
@@ -150,6 +155,8 @@ impl<const KNOTS: usize, const SLOTS: usize> Table<KNOTS, SLOTS> {
         ensures ends { (first : ℕ) → (plan : Plan) → (table : model.Table) → (rose : Bool) → (device : Device) → IsWatched (F.state flash.old) (F.state flash.new) rose device
             → Stands self.old (F.state flash.old) first plan table → SealsEnd first plan (DataRing ∷ []) table rose device result self.new (F.state flash.old) (F.state flash.new) }
         ensures empty { OnOk result (self.new.writer.count ≡ 0) }
+        ensures last { last_key_in self.new ≡ last_key_in self.old }
+        ensures pending_stays { OnErr result (pending_in self.new ≡ pending_in self.old) }
         ensures running { OnOk result (is_running self.new ≡ true) }
         ensures next { OnOk result (next_in self.new ≡ next_in self.old + 1) }
         ensures index_next { OnOk result (index_next self.new.bitmaps ≡ index_next self.old.bitmaps) }

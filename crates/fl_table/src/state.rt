@@ -6,7 +6,8 @@ use crate::table::Table;
 impl<const KNOTS: usize, const SLOTS: usize> Table<KNOTS, SLOTS> {
     ghost use Rattle.std.specs.Prelude.{◌||◌};
     ghost use Rattle.fl_flash.specs.Flash.{FlashState};
-    ghost use Rattle.fl_table.specs.Memory.{is_running, is_stopped, is_mounted, IsForgotten, IsSamePlan, LiesOn};
+    ghost use Rattle.fl_table.specs.Look.{last_key_in};
+    ghost use Rattle.fl_table.specs.Memory.{is_running, is_stopped, is_mounted, pending_in, IsForgotten, IsSamePlan, LiesOn};
 
     /// The last mount succeeded.
     pub fn is_mounted(&self) -> bool
@@ -34,6 +35,8 @@ impl<const KNOTS: usize, const SLOTS: usize> Table<KNOTS, SLOTS> {
         ensures stopped { is_stopped self.new ≡ (is_running self.old || is_stopped self.old) }
         ensures running { is_running self.new ≡ false }
         ensures still { is_running self.old ≡ false → self.new ≡ self.old }
+        ensures pending { pending_in self.new ≡ pending_in self.old }
+        ensures last { last_key_in self.new ≡ last_key_in self.old }
         ensures same { IsSamePlan self.old self.new }
         ensures lies { (f : FlashState) → LiesOn self.old f → LiesOn self.new f }
     {

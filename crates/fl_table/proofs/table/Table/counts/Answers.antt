@@ -4,7 +4,7 @@ use Rattle.std.specs.List.{sum, count_by, range_with_len}
 use Rattle.fl_table.specs.Look.{oldest_in, rows_noted}
 use Rattle.fl_table.specs.Memory.{next_in}
 use Rattle.fl_table.specs.declared.counts.TableCounts.{TableCounts}
-use Rattle.fl_table.proofs.MemoryTells.{counts-is, counts-told}
+use Rattle.fl_table.proofs.MemoryTells.{counts-is, counts-told, counts-lost}
 use Rattle.fl_table.proofs.Sizes.{table-fits}
 use Rattle.fl_table.proofs.Voids.{is-void, not-void, voids_few}
 use Rattle.fl_table.proofs.table.Table.counts.Goals as goal
@@ -79,3 +79,6 @@ pending_rows-pending-requires g c = table-fits g.row.KNOTS g.row.SLOTS c.args.se
 
 pub rows_of-rows-requires : goal.rows_of-rows-requires
 rows_of-rows-requires g c = table-fits g.row.KNOTS g.row.SLOTS c.args.self.now.few_knots c.args.self.now.few_slots
+
+pub returns-clause-stopped : goal.returns-clause-stopped
+returns-clause-stopped g c = λ down. returns-clause-exact g c ∙ counts-lost c.args.self.now down

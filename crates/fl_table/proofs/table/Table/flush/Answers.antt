@@ -1,4 +1,4 @@
-use Rattle.std.proofs.Common.{◌≡◌, Result, Err, ap, arith}
+use Rattle.std.proofs.Common.{◌≡◌, Result, Err, refl, ap, arith}
 use Rattle.std.proofs.lemmas.Result.{err_from_is_err_and}
 use Rattle.fl_table.proofs.SealAnswers.{writer-count}
 use Rattle.fl_table.proofs.PendingAndFull.{flush-idle}
@@ -51,3 +51,24 @@ is_running-requires g c = table-fits g.row.KNOTS g.row.SLOTS c.args.self.now.few
 
 pub returns-clause-power : goal.returns-clause-power
 returns-clause-power g c = c.in_ok-seal.ensures.power
+
+pub returns-then-not-is_running-clause-last : goal.returns-then-not-is_running-clause-last
+returns-then-not-is_running-clause-last g c = refl
+
+pub returns-then-not-is_running-clause-pending_stays : goal.returns-then-not-is_running-clause-pending_stays
+returns-then-not-is_running-clause-pending_stays g c = refl
+
+pub returns-then-count-eq0-clause-last : goal.returns-then-count-eq0-clause-last
+returns-then-count-eq0-clause-last g c = refl
+
+pub returns-then-count-eq0-clause-pending_stays : goal.returns-then-count-eq0-clause-pending_stays
+returns-then-count-eq0-clause-pending_stays g c = tt
+
+pub returns-in_err-seal-clause-last : goal.returns-in_err-seal-clause-last
+returns-in_err-seal-clause-last g c = c.in_err-seal.ensures.last
+
+pub returns-clause-last : goal.returns-clause-last
+returns-clause-last g c = c.in_ok-seal.ensures.last
+
+pub returns-clause-pending_stays : goal.returns-clause-pending_stays
+returns-clause-pending_stays g c = tt

@@ -15,6 +15,7 @@ returns-clause-forgotten g c =
       down = refl;
       calm = refl;
       none = ap (λ w. w.count) c.clear.ensures.exact;
+      last = refl;
       empty = λ layout. gathers-none layout c.clear.new.self (ap (λ w. w.count) c.clear.ensures.exact) (ap (λ w. w.end) c.clear.ensures.exact)
           (rest-clear t.writer c.clear.new.self c.clear.ensures.exact (omega (arith, t.rows_end)) t.rows_room t.blank_rest);
       bits = refl;

@@ -329,3 +329,15 @@ place-requires-clause-few g c = c.requires.few
 
 pub returns-clause-power : goal.returns-clause-power
 returns-clause-power g c = c.in-Ok.ensures.power
+
+pub returns-in-Err-clause-pending_stays : goal.returns-in-Err-clause-pending_stays
+returns-in-Err-clause-pending_stays g c = refl
+
+pub returns-in-Err-clause-last_stays : goal.returns-in-Err-clause-last_stays
+returns-in-Err-clause-last_stays g c = refl
+
+pub returns-clause-pending_stays : goal.returns-clause-pending_stays
+returns-clause-pending_stays g c = tt
+
+pub returns-clause-last_stays : goal.returns-clause-last_stays
+returns-clause-last_stays g c = tt

@@ -94,3 +94,15 @@ seal-requires g c =
 
 pub is_full-requires : goal.is_full-requires
 is_full-requires g c = table-fits g.row.KNOTS g.row.SLOTS c.args.self.now.few_knots c.args.self.now.few_slots
+
+pub returns-then-not-is_full-clause-last : goal.returns-then-not-is_full-clause-last
+returns-then-not-is_full-clause-last g c = refl
+
+pub returns-then-not-is_full-clause-pending_stays : goal.returns-then-not-is_full-clause-pending_stays
+returns-then-not-is_full-clause-pending_stays g c = tt
+
+pub returns-clause-last : goal.returns-clause-last
+returns-clause-last g c = c.seal.ensures.last
+
+pub returns-clause-pending_stays : goal.returns-clause-pending_stays
+returns-clause-pending_stays g c = c.seal.ensures.pending_stays

@@ -1,8 +1,8 @@
-use Rattle.std.proofs.Common.{Bool, true, false, refl, ◌≡◌, ℕ, Bor, List, [], ◌∷◌, ◌++◌, Option, Some, None, Result, Ok, Err, length, option_map, not, ◌&&◌, ◌||◌, IsTrue, arith, sym, ◌∙◌, ap, subst}
+use Rattle.std.proofs.Common.{Bool, true, false, refl, ◌≡◌, ℕ, Bor, List, [], ◌∷◌, ◌++◌, Option, Some, None, Result, Ok, Err, OnErr, length, option_map, not, ◌&&◌, ◌||◌, IsTrue, arith, sym, ◌∙◌, ap, subst}
 use Rattle.std.proofs.lemmas.Result.{err_from_is_err_and}
 use Rattle.fl_model.specs.Table.{after_seals, make_room_seals}
 use Rattle.fl_table.specs.Refusal.{put_refusal}
-use Rattle.fl_table.specs.Memory.{is_running, is_stopped, PendingAre}
+use Rattle.fl_table.specs.Memory.{is_running, is_stopped, pending_in, PendingAre}
 use Rattle.fl_table.specs.declared.table.Table.{Table}
 use Rattle.fl_table.proofs.Refusals.{fits-row, told-running, calm-cause, few-blob, not-spent, refusal-calm}
 use Rattle.fl_flash.specs.Flash.{page_at}
@@ -220,3 +220,23 @@ pub returns-clause-rows : goal.returns-clause-rows
 returns-clause-rows g c = λ room none rows h.
     let same = (c.in_ok-make_room.ensures.quiet room).1 in
     subst (λ (x : Table g.row.KNOTS g.row.SLOTS). PendingAre x rows → PendingAre c.join.new.self (rows ++ (record { key = c.args.key; values = c.args.values.now; blob = None }) ∷ [])) same (c.in_ok-join.ensures.rows none rows) h
+
+pub returns-in-Some-clause-pending_stays : goal.returns-in-Some-clause-pending_stays
+returns-in-Some-clause-pending_stays g c = λ room. refl
+
+pub returns-in-Some-clause-last_stays : goal.returns-in-Some-clause-last_stays
+returns-in-Some-clause-last_stays g c = refl
+
+pub returns-clause-pending_stays : goal.returns-clause-pending_stays
+returns-clause-pending_stays g c = tt
+
+pub returns-clause-last_stays : goal.returns-clause-last_stays
+returns-clause-last_stays g c = tt
+
+on-err : {P : Type 0} (result : Result (Unit {0}) PutRefusal) → P → OnErr result P
+on-err (Ok done) h = tt
+on-err (Err refusal) h = h
+
+pub returns-in_err-join-clause-pending_stays : goal.returns-in_err-join-clause-pending_stays
+returns-in_err-join-clause-pending_stays g c =
+    on-err c.from_residual-in_err-join.result (λ room. c.in_err-join.ensures.pending_stays ∙ ap (λ (t : Table g.row.KNOTS g.row.SLOTS). pending_in t) (c.in_ok-make_room.ensures.quiet room).1)

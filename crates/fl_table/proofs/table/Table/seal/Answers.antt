@@ -1,5 +1,5 @@
-use Rattle.std.proofs.Common.{◌≡◌, ◌+◌, ◌≤◌, true, Option, Result, Ok, OnOk, ◌∷◌, [], ◌++◌, List, Err, IsTrue, arith, sym, ap, subst}
-use Rattle.std.proofs.lemmas.Result.{err_from_is_err_and, IfErr-weaker}
+use Rattle.std.proofs.Common.{◌≡◌, ◌+◌, ◌≤◌, true, Option, Result, Ok, OnOk, ◌∷◌, [], ◌++◌, List, Err, IsTrue, arith, sym, ◌∙◌, ap, subst}
+use Rattle.std.proofs.lemmas.Result.{err_from_is_err_and, on_err_weaker, IfErr-weaker}
 use Rattle.fl_model.specs.Table.{RingName, DataRing, after_seals}
 use Rattle.fl_table.specs.Bitmaps.{HaveRoom, bitmap_seals, next_of}
 use Rattle.fl_table.specs.Blobs as variable
@@ -174,3 +174,16 @@ seal_blobs-requires g c = (
   table-fits g.row.KNOTS g.row.SLOTS c.args.self.now.few_knots c.args.self.now.few_slots,
   (c.in_ok-seal_bitmaps.ensures.running, (omega (arith, c.in_ok-seal_bitmaps.ensures.some, c.requires.some), c.in_ok-seal_bitmaps.ensures.lies)),
 )
+
+pub returns-in_err-seal_bitmaps-clause-last : goal.returns-in_err-seal_bitmaps-clause-last
+returns-in_err-seal_bitmaps-clause-last g c = c.in_err-seal_bitmaps.ensures.last
+
+pub returns-in_err-seal_blobs-clause-last : goal.returns-in_err-seal_blobs-clause-last
+returns-in_err-seal_blobs-clause-last g c = c.in_err-seal_blobs.ensures.last ∙ c.in_ok-seal_bitmaps.ensures.last
+
+pub returns-clause-last : goal.returns-clause-last
+returns-clause-last g c = c.seal_rows.ensures.last ∙ (c.in_ok-seal_blobs.ensures.last ∙ c.in_ok-seal_bitmaps.ensures.last)
+
+pub returns-clause-pending_stays : goal.returns-clause-pending_stays
+returns-clause-pending_stays g c =
+    on_err_weaker c.seal_rows.result (λ same. same ∙ (c.in_ok-seal_blobs.ensures.some ∙ c.in_ok-seal_bitmaps.ensures.some)) c.seal_rows.ensures.pending_stays

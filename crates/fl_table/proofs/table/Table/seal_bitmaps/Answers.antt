@@ -272,3 +272,9 @@ returns-clause-off g c = c.in_default.ensures.off
 
 pub returns-clause-cause : goal.returns-clause-cause
 returns-clause-cause g c = tt
+
+pub returns-in-Err-clause-last : goal.returns-in-Err-clause-last
+returns-in-Err-clause-last g c = refl
+
+pub returns-clause-last : goal.returns-clause-last
+returns-clause-last g c = refl

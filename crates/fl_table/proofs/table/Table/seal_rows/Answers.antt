@@ -413,3 +413,15 @@ returns-clause-off g c = c.in_default-seal.ensures.off
 
 pub returns-clause-cause : goal.returns-clause-cause
 returns-clause-cause g c = tt
+
+pub returns-in-Err-clause-last : goal.returns-in-Err-clause-last
+returns-in-Err-clause-last g c = refl
+
+pub returns-in-Err-clause-pending_stays : goal.returns-in-Err-clause-pending_stays
+returns-in-Err-clause-pending_stays g c = ap (λ (w : WriterState). w.count) c.finish.ensures.exact
+
+pub returns-clause-last : goal.returns-clause-last
+returns-clause-last g c = refl
+
+pub returns-clause-pending_stays : goal.returns-clause-pending_stays
+returns-clause-pending_stays g c = tt
