@@ -84,6 +84,7 @@ impl<const KNOTS: usize, const SLOTS: usize> LoggedTable<KNOTS, SLOTS> {
         ensures running { is_running self.new ≡ (is_running self.old && not (flush_breaks result)) }
         ensures refused { result ≡ Err FlushFault.Stopped → (table_in self.new ≡ table_in self.old) × (log_in self.new ≡ log_in self.old) }
         ensures none { OnOk result (pending_in (table_in self.new) ≡ 0) }
+        ensures last { last_key_in (table_in self.new) ≡ last_key_in (table_in self.old) }
         ensures seals { OnOk result (1 ≤ pending_in (table_in self.old) → next_in (table_in self.new) ≡ next_in (table_in self.old) + 1) }
         ensures begins { OnOk result (1 ≤ pending_in (table_in self.old) → AreBegun (log_in self.old) (log_in self.new)) }
         ensures quiet { is_running self.old ≡ true → pending_in (table_in self.old) ≡ 0 → (result ≡ Ok tt) × (self.new ≡ self.old) × (F.state flash.new ≡ F.state flash.old) }

@@ -22,6 +22,9 @@ returns-then-pending_rows-eq0-clause-ends g c = λ first plan table rose device 
     let new = g.F.Flash.state c.flush.new.flash in
     flush-idle t f first plan table h rose device new (c.flush.ensures.outside watched.told) _ c.flush.new.self refl refl (sym (c.pending_rows.ensures.stands f first (bare plan) (bare_table table) h.unlogged) ∙ c.if-pending_rows-eq0.true) c.flush.result (c.flush.ensures.ends first (bare plan) (bare_table table) rose device watched h.unlogged)
 
+pub returns-then-pending_rows-eq0-clause-last : goal.returns-then-pending_rows-eq0-clause-last
+returns-then-pending_rows-eq0-clause-last g c = c.flush.ensures.last
+
 pub returns-then-pending_rows-eq0-clause-quiet : goal.returns-then-pending_rows-eq0-clause-quiet
 returns-then-pending_rows-eq0-clause-quiet g c = λ running none. let h = c.flush.ensures.quiet running none in (h.0, logged-same c.args.self.now _ h.1 refl, h.2)
 
@@ -67,6 +70,9 @@ returns-in_err-flush-clause-running g c = let p = err_from_is_err_and c.from_res
 
 pub returns-in_err-flush-clause-cause : goal.returns-in_err-flush-clause-cause
 returns-in_err-flush-clause-cause g c = let p = err_from_is_err_and c.from_residual.result c.from_residual.ensures.1 in rw (p.1, p.2) c.in_err-flush.ensures.cause
+
+pub returns-in_err-flush-clause-last : goal.returns-in_err-flush-clause-last
+returns-in_err-flush-clause-last g c = c.in_err-flush.ensures.last
 
 pub returns-in_err-flush-clause-goes : goal.returns-in_err-flush-clause-goes
 returns-in_err-flush-clause-goes g c = c.in_err-flush.ensures.goes
@@ -136,6 +142,9 @@ returns-clause-refused g c = λ stopped. absurd (no stopped)
 
 pub returns-clause-none : goal.returns-clause-none
 returns-clause-none g c = c.in_ok-flush.ensures.none
+
+pub returns-clause-last : goal.returns-clause-last
+returns-clause-last g c = c.in_ok-flush.ensures.last
 
 pub returns-clause-seals : goal.returns-clause-seals
 returns-clause-seals g c = c.in_ok-flush.ensures.seals
