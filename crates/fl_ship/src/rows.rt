@@ -116,6 +116,7 @@ pub(crate) fn flush_copy<B: Flash>(to: &mut LoggedTable, onto: &mut B) -> Result
     ensures flushes { (first : ℕ) (plan : Plan) (t : model.Table) → Works to.old (B.state onto.old) first plan t → FlushesCopy first plan t to.new (B.state onto.new) result }
     ensures cut { (first : ℕ) (plan : Plan) (t : model.Table) → Runs to.old (B.state onto.old) first plan t → FlushKeeps first plan t to.new (B.state onto.new) result }
     ensures cause { IfErr result (FlushCausedBy (B.state onto.old) (B.state onto.new)) }
+    ensures last { last_key_in (table_in to.new) ≡ last_key_in (table_in to.old) }
     ensures running { is_running to.new ≡ is_ok result }
     ensures goes { Goes (B.state onto.old) (B.state onto.new) }
     ensures outside { IsTrue (B.state onto.old).media.tells → OutsideStands to.old (page_at (B.state onto.old)) (page_at (B.state onto.new)) }
@@ -156,12 +157,13 @@ pub fn ship_rows<A: Flash, B: Flash, R: Rows<A>>(
     ensures spent { result ≡ Err (ShipFault.Put PutRefusal.Spent) → (key : ℕ) × (values : List ℤ) × (put_refusal to.new key values None ≡ Some PutRefusal.Spent) }
     ensures few { IfOk result (λ shipped. shipped ≤ count) }
     ensures running { is_running to.new ≡ goes_on result }
-    // The rows go on behind those that were put. Where a read fails, fewer than `count` of them were taken: no row is looked for behind
-    // the last one that is asked for.
+    // The rows go on behind those that were put, above the copy's last key. Where a read fails, fewer than `count` of them were taken:
+    // no row is looked for behind the last one that is asked for.
     ensures rows { Continues R.names R.schema R.above R.ready R.told R.passes (contents_of (A.state from.old)) rows.old rows.new }
     ensures left { R.told rows.old (contents_of (A.state from.old)) → IfOk result (λ shipped. R.left rows.new (contents_of (A.state from.old)) ≡ drop shipped (R.left rows.old (contents_of (A.state from.old)))) }
     ensures unread { R.told rows.old (contents_of (A.state from.old)) → (fault : ReadFault) → result ≡ Err (ShipFault.Read fault)
         → (n : ℕ) × (n < count) × (R.left rows.new (contents_of (A.state from.old)) ≡ drop n (R.left rows.old (contents_of (A.state from.old)))) }
+    ensures above { OnOk result ((last key : ℕ) → last_key_in (table_in to.new) ≡ Some last → is_above (R.above rows.new) key ≡ true → last < key) }
     ensures reads { R.told rows.old (contents_of (A.state from.old)) → (A.state from.new).work.reads ≤ (A.state from.old).work.reads + R.most rows.old (contents_of (A.state from.old)) }
     ensures reads_only { OnlyReads (A.state from.old) (A.state from.new) }
     ensures goes { Goes (B.state onto.old) (B.state onto.new) }

@@ -1,4 +1,4 @@
-use Rattle.std.proofs.Common.{IsTrue, Ok, Err, refl, sym, subst}
+use Rattle.std.proofs.Common.{IsTrue, Ok, Err, refl, sym, ◌∙◌, subst}
 use Rattle.std.proofs.lemmas.Result.{err_from_is_err_and}
 use Rattle.fl_flash.specs.Flash.{page_at}
 use Rattle.fl_store.proofs.Outsides.{outside-then}
@@ -52,6 +52,9 @@ returns-clause-cut g c = λ first plan t runs.
     let rows = c.in_ok-shipped.ensures.cut first plan t runs in
     keep-flushed first plan t _ _ c.put_rows.new.to c.flush_copy.new.to (g.B.Flash.state c.put_rows.new.onto) (g.B.Flash.state c.flush_copy.new.onto) c.in_ok-shipped.shipped (Ok c.in_ok-flush_copy.field-0) (Ok c.in_ok-shipped.shipped) rows
     (c.in_ok-flush_copy.ensures.cut first plan rows.after (rows.runs refl)) (λ goes keep. keep.runs)
+
+pub returns-clause-above : goal.returns-clause-above
+returns-clause-above g c = λ last key is above. c.in_ok-shipped.ensures.above last key (sym c.flush_copy.ensures.last ∙ is) above
 
 pub returns-clause-outside : goal.returns-clause-outside
 returns-clause-outside g c = λ tells.
