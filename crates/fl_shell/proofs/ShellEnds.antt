@@ -74,13 +74,13 @@ shell-ends knots text begun config old looked made new state left left_now told 
 -- ---- a session over the medium
 
 -- what a session did, seen as its medium is given back
-pub over-medium : (config : Config) (old : Machine) (all : List (List ℕ)) (total : ℕ) (stands : Machine → Type 0) (f f' : FlashState) (before after : MediaState) (told told_now left_now : Option (List ℕ)) (flushed : Flushed) (status : ShellStatus) → Goes f f' → f.media ≡ before → after ≡ f'.media →
-    ((m : Machine) → stands m → StandsAfter config (Some after.content) m) → MediumEnds config old all total (StandsAlike stands) f.media.content f'.media.content f.media.faults f'.media.faults told told_now left_now flushed status →
+pub over-medium : (config : Config) (old : Machine) (all : List (List ℕ)) (total : ℕ) (stands : Machine → Type 0) (m m' before after : MediaState) (told told_now left_now : Option (List ℕ)) (flushed : Flushed) (status : ShellStatus) → m ≡ before → after ≡ m' →
+    ((x : Machine) → stands x → StandsAfter config (Some after.content) x) → MediumEnds config old all total (StandsAlike stands) m.content m'.content m.faults m'.faults told told_now left_now flushed status →
     MediumEnds config old all total (StandsAfter config (Some after.content)) before.content after.content before.faults after.faults told told_now left_now flushed status
-over-medium config old all total stands f f' before after told told_now left_now flushed status goes is after_is seen h =
+over-medium config old all total stands m m' before after told told_now left_now flushed status is after_is seen h =
     subst (λ (x : MediaState). MediumEnds config old all total (StandsAfter config (Some after.content)) x.content after.content x.faults after.faults told told_now left_now flushed status) is
-    (subst (λ (y : MediaState). MediumEnds config old all total (StandsAfter config (Some after.content)) f.media.content y.content f.media.faults y.faults told told_now left_now flushed status) (sym after_is)
-    (medium-over config old all total (StandsAlike stands) (StandsAfter config (Some after.content)) f.media.content f'.media.content f.media.faults f.media.faults f'.media.faults told told_now left_now flushed status
+    (subst (λ (y : MediaState). MediumEnds config old all total (StandsAfter config (Some after.content)) m.content y.content m.faults y.faults told told_now left_now flushed status) (sym after_is)
+    (medium-over config old all total (StandsAlike stands) (StandsAfter config (Some after.content)) m.content m'.content m.faults m.faults m'.faults told told_now left_now flushed status
     (after-alike config (Some after.content) stands seen) (omega arith) h))
 
 pub over-goes : (f f' : FlashState) (before after : MediaState) → f.media ≡ before → after ≡ f'.media → Goes f f' → MediaGoes before after

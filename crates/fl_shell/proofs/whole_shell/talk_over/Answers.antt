@@ -13,7 +13,7 @@ returns g c =
     let e : g.M.Media.state c.media-1.given.0 ≡ g.M.Media.state c.into_media-media.result.now = search rules in
     record {
       ends = λ configured old left hand total w ready rests most told ended within is.
-          over-medium configured old _ total _ _ _ before after _ _ _ _ _ c.talk_and_flush-end.ensures.goes c.over-session.ensures.medium (e ∙ c.into_media-media.ensures.state)
+          over-medium configured old _ total _ _ _ before after _ _ _ _ _ c.over-session.ensures.medium (e ∙ c.into_media-media.ensures.state)
           (λ m stood. subst (λ (x : MediaState). StandsAfter configured (Some x.content) m) (sym e) (c.into_media-media.ensures.rests configured m stood))
           (c.talk_and_flush-end.ensures.ends configured old left hand total (makes-of 64 c.args.begun.now.config configured w) ready (c.over-session.ensures.begins configured old w rests) c.over-session.ensures.unread most told ended within is);
       input = c.talk_and_flush-end.ensures.input;
