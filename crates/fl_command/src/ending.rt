@@ -9,7 +9,7 @@ use std::fmt::{self, Display};
 use std::process::{ExitCode, Termination};
 
 /// How the program ends, and what is told behind the lines of its exit.
-#[derive(Clone, Copy, Debug, PartialEq, Eq)]
+#[derive(Clone, Copy)]
 pub struct Ending {
     /// How it ends.
     pub exit: Exit,

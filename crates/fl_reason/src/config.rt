@@ -11,7 +11,7 @@ use fl_schema::ColumnType;
 use fl_script::{Command, LineRoom, read_line};
 
 /// Why a line of a configuration is refused, with its words.
-#[derive(Clone, Copy, Debug, PartialEq, Eq)]
+#[derive(Clone, Copy)]
 pub struct ConfigReason {
     /// The first refusal that applies.
     pub refusal: ConfigRefusal,
@@ -20,7 +20,7 @@ pub struct ConfigReason {
 }
 
 /// What a line of a configuration says, and the device line before it.
-#[derive(Clone, Copy, Debug, PartialEq, Eq)]
+#[derive(Clone, Copy)]
 pub struct ConfigLine {
     /// The bytes of a page and the pages of a block: those of the line, or of the device line before it.
     pub page: u64,

@@ -11,7 +11,7 @@ use fl_script::LineRoom;
 const HEADER: usize = 1024;
 
 /// Where the configuration of an image is another than a script's.
-#[derive(Clone, Copy, Debug, PartialEq, Eq)]
+#[derive(Clone, Copy)]
 pub enum HeaderReason {
     /// Its lines are the same, and the image has another length than they make.
     Length {

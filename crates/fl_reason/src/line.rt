@@ -10,7 +10,7 @@ use crate::word::{Word, count_words, without_return, word_at};
 use fl_script::{Command, LineFault, LineRoom, read_line};
 
 /// Why a line is no command.
-#[derive(Clone, Copy, Debug, PartialEq, Eq)]
+#[derive(Clone, Copy)]
 pub enum LineReason {
     /// It has more than 4,096 bytes.
     TooLong,
@@ -25,7 +25,7 @@ pub enum LineReason {
 }
 
 /// The words of a line beside the form that is wanted.
-#[derive(Clone, Copy, Debug, PartialEq, Eq)]
+#[derive(Clone, Copy)]
 pub struct Shape {
     /// How many words it has.
     pub words: usize,
@@ -36,7 +36,7 @@ pub struct Shape {
 }
 
 /// A word that isn't what is wanted in its place.
-#[derive(Clone, Copy, Debug, PartialEq, Eq)]
+#[derive(Clone, Copy)]
 pub struct Misfit {
     /// Its number, counted from 1.
     pub number: usize,

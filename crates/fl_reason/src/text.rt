@@ -8,7 +8,7 @@ use fl_plan::ConfigRefusal;
 use std::fmt::{self, Display};
 
 /// Why a script is refused.
-#[derive(Clone, Copy, Debug, PartialEq, Eq)]
+#[derive(Clone, Copy)]
 pub enum Reason {
     /// A line is no command.
     Line(LineReason),

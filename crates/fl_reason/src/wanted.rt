@@ -5,7 +5,7 @@ use fl_base::Name;
 use std::str;
 
 /// What a word has to be.
-#[derive(Clone, Copy, Debug, PartialEq, Eq)]
+#[derive(Clone, Copy)]
 pub enum Wanted {
     /// The name of a table.
     Name,

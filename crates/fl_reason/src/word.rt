@@ -6,7 +6,7 @@ use std::str;
 const MOST: usize = 24;
 
 /// A word as it is told: its first 24 bytes, with a dot for each byte that isn't printed, and two dots for those behind.
-#[derive(Clone, Copy, Debug, PartialEq, Eq)]
+#[derive(Clone, Copy)]
 pub struct Word {
     bytes: [u8; MOST],
     len: usize,

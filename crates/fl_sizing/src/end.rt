@@ -41,7 +41,7 @@ impl PlanStatus {
 }
 
 /// How a plan ends, and why where a line was refused.
-#[derive(Clone, Copy, Debug, PartialEq, Eq)]
+#[derive(Clone, Copy)]
 pub struct PlanEnd {
     pub status: PlanStatus,
     pub reason: Option<Reason>,
