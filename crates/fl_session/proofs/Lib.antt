@@ -38,6 +38,7 @@ pub mod ScanReplies
 pub mod GetReplies
 pub mod Lookups
 pub mod LoadLines
+pub mod AnyLines
 pub mod ListsAll
 pub mod LinesListed
 pub mod CountedLines

@@ -38,6 +38,7 @@ use Rattle.fl_session.proofs.NextCommand.{nothing-added}
 use Rattle.fl_session.specs.Answer.{IsReached, Refusal}
 use Rattle.fl_session.specs.Asked.{lacked_column}
 use Rattle.fl_session.specs.Caused.{Caused, State, state_of, Says, Writes, IsRefused, IsHere, OnTable, IfLacks, OnlyLooks, MountsOver, PutFails, FlushFails, LoadCounts, LoadFails}
+use Rattle.fl_session.specs.ListSays.{EndsOn, ListSays}
 use Rattle.fl_session.specs.Load.{load_key}
 use Rattle.fl_session.specs.Notes.{with_cursor}
 use Rattle.fl_session.specs.declared.notes.Notes.{Notes}
@@ -82,12 +83,12 @@ has-one layout column within =
     let is : nat_lt (length layout.columns) column ≡ false = le-ltb (length layout.columns) column within in
     rw is refl
 
-module _ (E : Type 0) (old new : State) (told told_now : Option (List ℕ)) (result : Result (Unit {0}) E) (o : Option ℕ) where
-  pub lacks-says : (column : ℕ) → o ≡ Some column → new ≡ old → Written told told_now result (text (reply.NoColumn column)) → IfLacks old new told told_now result o
-  lacks-says column lacks same wrote = subst (λ (x : Option ℕ). IfLacks old new told told_now result x) (sym lacks) (record { reply = reply.NoColumn column; written = wrote; holds = (refl, same) })
+module _ (E : Type 0) (old new : State) (IsLine : Reply → Type 0) (entry : Entry) (told told_now : Option (List ℕ)) (result : Result (Unit {0}) E) (o : Option ℕ) where
+  pub lacks-says : (column : ℕ) → o ≡ Some column → new ≡ old → Written told told_now result (text (reply.NoColumn column)) → IfLacks old new IsLine entry told told_now result o
+  lacks-says column lacks same wrote = subst (λ (x : Option ℕ). IfLacks old new IsLine entry told told_now result x) (sym lacks) (record { reply = reply.NoColumn column; written = wrote; holds = (refl, same) })
 
-  pub has-says : o ≡ None → OnlyLooks old new old.notes → IfLacks old new told told_now result o
-  has-says none looks = subst (λ (x : Option ℕ). IfLacks old new told told_now result x) (sym none) looks
+  pub has-says : o ≡ None → OnlyLooks old new old.notes × ListSays IsLine (EndsOn (table_in entry.table) old.flash new.flash) told told_now result → IfLacks old new IsLine entry told told_now result o
+  has-says none both = subst (λ (x : Option ℕ). IfLacks old new IsLine entry told told_now result x) (sym none) both
 
 -- a cursor that isn't open, and one that is
 pub closed-as : (cursors : List (Option TableCursor)) (n : ℕ) (o : Option TableCursor) → slice_get cursors n ≡ Some o → is_none o ≡ true → slice_get cursors n ≡ Some None

@@ -42,6 +42,7 @@ use Rattle.fl_words.specs.Reply.{Reply, text, texts}
 use Rattle.fl_session.specs.Answer.{IsReached, load_replies, mount_reply}
 use Rattle.fl_session.specs.Asked.{lacked_column}
 use Rattle.fl_session.specs.Cost.{cost_of}
+use Rattle.fl_session.specs.ListSays.{EndsNext, EndsOn, EndsOnBoth, IsFields, IsGroup, IsPair, IsRow, ListSays}
 use Rattle.fl_session.specs.Load.{load_key}
 use Rattle.fl_session.specs.Notes.{with_cursor, without_cursors}
 use Rattle.fl_session.specs.declared.cost.Cost.TheVariants.{OfGet, OfScan}
@@ -241,17 +242,26 @@ abbrev pub Lists : {E : Type 0} → State → State → List ℕ → Option (Lis
 Lists old new name told told_now result Holds =
     Writes told told_now result (IsRefused old new name) ⊎ ((at : ℕ) × (entry : Entry) × IsHere old name at entry × Holds entry)
 
--- it is refused since the table lacks this column, or it only looks
-abbrev pub IfLacks : {E : Type 0} → State → State → Option (List ℕ) → Option (List ℕ) → Result (Unit {0}) E → Option ℕ → Type 0
-IfLacks old new told told_now result (Some column) = Writes told told_now result (λ said. (said ≡ reply.NoColumn column) × (new ≡ old))
-IfLacks old new told told_now result None = OnlyLooks old new old.notes
+-- it is refused since the table lacks this column, or it only looks, and lists lines of this kind
+abbrev pub IfLacks : {E : Type 0} → State → State → (Reply → Type 0) → Entry → Option (List ℕ) → Option (List ℕ) → Result (Unit {0}) E → Option ℕ → Type 0
+IfLacks old new IsLine entry told told_now result (Some column) = Writes told told_now result (λ said. (said ≡ reply.NoColumn column) × (new ≡ old))
+IfLacks old new IsLine entry told told_now result None = OnlyLooks old new old.notes × ListSays IsLine (EndsOn (table_in entry.table) old.flash new.flash) told told_now result
 
--- an open cursor goes on, and moves
-abbrev pub NextLooks : {E : Type 0} → State → State → ℕ → Option (List ℕ) → Option (List ℕ) → Result (Unit {0}) E → Type 0
-NextLooks old new cursor told told_now result =
+-- an open cursor lists rows of its table, and moves
+pub record NextMoves {E : Type 0} (old new : State) (cursor count : ℕ) (told told_now : Option (List ℕ)) (result : Result (Unit {0}) E) : Type 0 where
+  pub held : TableCursor
+  pub is_open : IsOpen old cursor held
+  pub entry : Entry
+  pub here : slice_get old.entries held.table ≡ Some entry
+  pub lists : ListSays IsRow (EndsNext count (table_in entry.table) old.flash new.flash) told told_now result
+  pub mark : Bookmark
+  pub looks : OnlyLooks old new (with_cursor old.notes cursor (Some (record held { mark = mark })))
+
+abbrev pub NextLooks : {E : Type 0} → State → State → ℕ → ℕ → Option (List ℕ) → Option (List ℕ) → Result (Unit {0}) E → Type 0
+NextLooks old new cursor count told told_now result =
     ((old.mounted ≡ false) × Writes told told_now result (λ said. (said ≡ reply.NotMounted) × (new ≡ old)))
     ⊎ ((old.mounted ≡ true) × IsClosed old cursor × Writes told told_now result (λ said. (said ≡ reply.NoCursor) × (new ≡ old)))
-    ⊎ ((old.mounted ≡ true) × ((held : TableCursor) × IsOpen old cursor held × ((mark : Bookmark) × OnlyLooks old new (with_cursor old.notes cursor (Some (record held { mark = mark }))))))
+    ⊎ ((old.mounted ≡ true) × NextMoves old new cursor count told told_now result)
 
 -- a load puts all the records that are asked for, or goes up to one that isn't put
 abbrev pub LoadCounts : ℕ → ℕ → Result (Unit {0}) PutRefusal → Type 0
@@ -277,8 +287,9 @@ pub record LoadSays {E : Type 0} (old new : State) (asked step seed at : ℕ) (e
 
 -- ---- any command
 
--- What a command of a script answers and leaves: of its replies the one that refuses it has its cause in memory, and so has the
--- only one of a command that lists nothing. A command that doesn't put, flush or mount changes no byte.
+-- What a command of a script answers and leaves: a reply that refuses it has its cause in memory, and so has the only one of a
+-- command that lists nothing. A list has lines of one kind, and behind them one that ends it, which has its cause too. A command
+-- that doesn't put, flush or mount changes no byte.
 abbrev pub Caused : {E : Type 0} → Command → State → State → Option (List ℕ) → Option (List ℕ) → Result (Unit {0}) E → Type 0
 Caused Mount old new told told_now result = Writes told told_now result (MountSays old new)
 Caused Off old new told told_now result = Writes told told_now result (OffSays old new)
@@ -291,12 +302,12 @@ Caused (Open cursor name range span) old new told told_now result = Writes told 
 Caused (Close cursor) old new told told_now result = Writes told told_now result (CloseSays old new cursor)
 Caused (Get name key) old new told told_now result = Writes told told_now result (OnTable old new name (GetSays old new))
 Caused (Blob name key) old new told told_now result = Lists old new name told told_now result (λ entry. OnlyLooks old new old.notes)
-Caused (Scan name range span) old new told told_now result = Lists old new name told told_now result (λ entry. NotesScan old new)
-Caused (Next cursor count) old new told told_now result = NextLooks old new cursor told told_now result
-Caused (Select name range column op value) old new told told_now result = Lists old new name told told_now result (λ entry. IfLacks old new told told_now result (lacked_column (layout_in (table_in entry.table)) (column ∷ [])))
-Caused (Project name range columns) old new told told_now result = Lists old new name told told_now result (λ entry. IfLacks old new told told_now result (lacked_column (layout_in (table_in entry.table)) columns))
-Caused (Agg name range column width) old new told told_now result = Lists old new name told told_now result (λ entry. IfLacks old new told told_now result (lacked_column (layout_in (table_in entry.table)) (column ∷ [])))
-Caused (Join left right range) old new told told_now result = Lists old new left told told_now result (λ entry. Lists old new right told told_now result (λ other. OnlyLooks old new old.notes))
+Caused (Scan name range span) old new told told_now result = Lists old new name told told_now result (λ entry. NotesScan old new × ListSays IsRow (EndsOn (table_in entry.table) old.flash new.flash) told told_now result)
+Caused (Next cursor count) old new told told_now result = NextLooks old new cursor count told told_now result
+Caused (Select name range column op value) old new told told_now result = Lists old new name told told_now result (λ entry. IfLacks old new IsRow entry told told_now result (lacked_column (layout_in (table_in entry.table)) (column ∷ [])))
+Caused (Project name range columns) old new told told_now result = Lists old new name told told_now result (λ entry. IfLacks old new IsFields entry told told_now result (lacked_column (layout_in (table_in entry.table)) columns))
+Caused (Agg name range column width) old new told told_now result = Lists old new name told told_now result (λ entry. IfLacks old new IsGroup entry told told_now result (lacked_column (layout_in (table_in entry.table)) (column ∷ [])))
+Caused (Join left right range) old new told told_now result = Lists old new left told told_now result (λ entry. Lists old new right told told_now result (λ other. OnlyLooks old new old.notes × ListSays IsPair (EndsOnBoth (table_in entry.table) (table_in other.table) old.flash new.flash) told told_now result))
 Caused (Load name count step seed) old new told told_now result = Writes told told_now result (IsRefused old new name) ⊎ ((at : ℕ) × (entry : Entry) × IsHere old name at entry × LoadSays old new count step seed at entry told told_now result)
 Caused Nothing old new told told_now result = Written told told_now result [] × (new ≡ old)
 Caused (Device page block) old new told told_now result = Written told told_now result [] × (new ≡ old)

@@ -30,6 +30,7 @@ pub mod Load
 pub mod Run
 pub mod Rows
 pub mod Listed
+pub mod ListSays
 pub mod Looked
 pub mod Lines
 pub mod Asked

@@ -4,11 +4,11 @@ use Rattle.std.specs.List.{slice_get}
 use Rattle.fl_flash.specs.declared.flash.Work.{Work}
 use Rattle.fl_store.proofs.TablesChanged.{item-there}
 use Rattle.fl_session.specs.declared.notes.TableCursor.{TableCursor}
+use Rattle.fl_session.proofs.AnyLines.{next-moves}
 use Rattle.fl_session.proofs.CountedReads.{has-read}
 use Rattle.fl_session.proofs.CursorMoves.{next-executes, next-off, next-none}
 use Rattle.fl_session.proofs.GetReplies.{goes-reads}
 use Rattle.fl_session.proofs.Sound.{sound-read, cursors-set}
-use Rattle.fl_session.proofs.ReplyCauses.{only-looks}
 use Rattle.fl_words.specs.Reply as reply
 use Rattle.fl_store.proofs.Queried.{lies-unlogged, runs-unlogged}
 use Rattle.fl_session.proofs.session.Session.next.Goals as goal
@@ -56,4 +56,10 @@ pub returns-in_default-clause-cause : goal.returns-in_default-clause-cause
 returns-in_default-clause-cause g c = inr (inl (c.if-not-self.false, c.in_default.ensures, record { reply = reply.NoCursor; written = c.write_reply-in_default.ensures.text; holds = (refl, refl) }))
 
 pub returns-clause-cause : goal.returns-clause-cause
-returns-clause-cause g c = inr (inr (c.if-not-self.false, (c.in-Some.open, c.in-Some.ensures, (c.next_rows-written.new.mark, only-looks _ _ _ _ _ _ _ c.set_cursor.ensures c.next_rows-written.ensures.counts))))
+returns-clause-cause g c =
+    let here : slice_get c.args.self.now.tables.entries.items c.in-Some.open.table ≡ Some c.index.result.now =
+    item-there c.args.self.now.tables.entries.items _ c.in-Some.open.table c.index.result.now refl (c.requires.sound.cursors c.args.cursor c.in-Some.open c.in-Some.ensures) c.index.ensures in
+    inr (inr (
+      c.if-not-self.false,
+      next-moves _ _ _ _ c.args.cursor c.args.count c.in-Some.open c.index.result.now _ c.next_rows-written.new.mark _ _ _ _ _ c.in-Some.ensures here c.set_cursor.ensures c.next_rows-written.ensures.counts c.table.ensures c.next_rows-written.ensures.lines,
+    ))
