@@ -64,7 +64,7 @@ module _ (f g : FlashState) (only : OnlyReads f g) where
     faults = only.faults;
   }
 
-  pages-read : page_at g ≡ page_at f
+  pub pages-read : page_at g ≡ page_at f
   pages-read = looks-pages f g (record { reads = only; power = only.power; cuts = only.cuts })
 
   -- a table still stands

@@ -38,6 +38,8 @@ pub mod ScanReplies
 pub mod GetReplies
 pub mod Lookups
 pub mod LoadLines
+pub mod AnyBlobs
+pub mod BadBlobs
 pub mod AnyLines
 pub mod ListsAll
 pub mod LinesListed

@@ -41,6 +41,7 @@ use Rattle.fl_words.specs.Reply as reply
 use Rattle.fl_words.specs.Reply.{Reply, text, texts}
 use Rattle.fl_session.specs.Answer.{IsReached, load_replies, mount_reply}
 use Rattle.fl_session.specs.Asked.{lacked_column}
+use Rattle.fl_session.specs.BlobSays.{BlobSays, MayBeBadFor}
 use Rattle.fl_session.specs.Cost.{cost_of}
 use Rattle.fl_session.specs.ListSays.{EndsNext, EndsOn, EndsOnBoth, IsFields, IsGroup, IsPair, IsRow, ListSays}
 use Rattle.fl_session.specs.Load.{load_key}
@@ -301,7 +302,7 @@ Caused Cost old new told told_now result = Writes told told_now result (CostSays
 Caused (Open cursor name range span) old new told told_now result = Writes told told_now result (OnTable old new name (OpenSays old new cursor range span))
 Caused (Close cursor) old new told told_now result = Writes told told_now result (CloseSays old new cursor)
 Caused (Get name key) old new told told_now result = Writes told told_now result (OnTable old new name (GetSays old new))
-Caused (Blob name key) old new told told_now result = Lists old new name told told_now result (λ entry. OnlyLooks old new old.notes)
+Caused (Blob name key) old new told told_now result = Lists old new name told told_now result (λ entry. OnlyLooks old new old.notes × BlobSays (MayBeBadFor (table_in entry.table) old.flash) old.flash new.flash told told_now result)
 Caused (Scan name range span) old new told told_now result = Lists old new name told told_now result (λ entry. NotesScan old new × ListSays IsRow (EndsOn (table_in entry.table) old.flash new.flash) told told_now result)
 Caused (Next cursor count) old new told told_now result = NextLooks old new cursor count told told_now result
 Caused (Select name range column op value) old new told told_now result = Lists old new name told told_now result (λ entry. IfLacks old new IsRow entry told told_now result (lacked_column (layout_in (table_in entry.table)) (column ∷ [])))
