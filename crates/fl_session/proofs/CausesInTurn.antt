@@ -15,7 +15,9 @@ use Rattle.fl_session.specs.Caused.{Caused, State}
 use Rattle.fl_session.specs.CausedEach.{CausedEach, CausedInto, EndsCaused, IsNewSession, RunOver, SessionOver, causes_of}
 use Rattle.fl_session.specs.Opening.{MediaGoes, Opened}
 use Rattle.fl_session.specs.Run.{RunsFrom, refused_status}
+use Rattle.fl_session.specs.Told.{TellsRows}
 use Rattle.fl_session.specs.declared.status.Status.{Status}
+use Rattle.fl_session.specs.declared.status.Status.TheVariants.{MediaMake, OtherConfig}
 use Rattle.fl_session.proofs.RunEnds.{ends-making, ends-of_run, ends-other, runs-seen}
 
 caused-more : (commands : List Command) (command : Command) (old mid new : State) (told told_mid told_now : Option (List ℕ)) → CausedEach commands old mid told told_mid → Caused {E = SinkFailed} command mid new told_mid told_now (Ok tt) →
@@ -50,29 +52,29 @@ caused-into command old mid new told told_mid told_now result failed is cause co
 
 -- what a session that was just made executed until it ended
 pub over-session : (first : Option code.Command) (number : ℕ) (state : LinesState) (left left_now told told_now : Option (List ℕ)) (lines : Lines) (opened new : MediaState) (begin end : State) (status : Status) →
-    IsNewSession lines opened begin → Goes begin.flash end.flash → new ≡ end.flash.media →
+    IsNewSession lines opened begin → Goes begin.flash end.flash → new ≡ end.flash.media → TellsRows end status →
     RunsFrom first number state left left_now (λ commands. CausedEach commands begin end told told_now) (λ commands. CausedInto commands begin end told told_now) status →
-    RunsFrom first number state left left_now (λ commands. SessionOver lines opened new (λ begin end. CausedEach commands begin end told told_now)) (λ commands. SessionOver lines opened new (λ begin end. CausedInto commands begin end told told_now)) status
-over-session first number state left left_now told told_now lines opened new begin end status begun goes left_as h =
+    RunsFrom first number state left left_now (λ commands. SessionOver lines opened new (λ begin end. CausedEach commands begin end told told_now × TellsRows end status)) (λ commands. SessionOver lines opened new (λ begin end. CausedInto commands begin end told told_now)) status
+over-session first number state left left_now told told_now lines opened new begin end status begun goes left_as rows h =
     runs-seen first number state left left_now (λ commands. CausedEach commands begin end told told_now) (λ commands. CausedInto commands begin end told told_now)
-    (λ commands. SessionOver lines opened new (λ begin end. CausedEach commands begin end told told_now)) (λ commands. SessionOver lines opened new (λ begin end. CausedInto commands begin end told told_now)) status
-    (λ commands each. record { begin = begin; begun = begun; end = end; executed = each; goes = goes; left = sym left_as })
+    (λ commands. SessionOver lines opened new (λ begin end. CausedEach commands begin end told told_now × TellsRows end status)) (λ commands. SessionOver lines opened new (λ begin end. CausedInto commands begin end told told_now)) status
+    (λ commands each. record { begin = begin; begun = begun; end = end; executed = (each, rows); goes = goes; left = sym left_as })
     (λ commands into. record { begin = begin; begun = begun; end = end; executed = into; goes = goes; left = sym left_as }) h
 
 -- .. over an image that was opened
 pub causes-opened : (knots : ℕ) (text : List ℕ) (lines : Lines) (first : Option code.Command) (number : ℕ) (state : LinesState) (left left_now told told_now : Option (List ℕ)) (config : Config) (old opened new : MediaState) (status : Status) →
     BeginsAt knots text lines first number state left → whole knots lines ≡ Some config → Opened config old opened → MediaGoes old opened →
-    RunsFrom first number state left left_now (λ commands. SessionOver lines opened new (λ begin end. CausedEach commands begin end told told_now)) (λ commands. SessionOver lines opened new (λ begin end. CausedInto commands begin end told told_now)) status →
+    RunsFrom first number state left left_now (λ commands. SessionOver lines opened new (λ begin end. CausedEach commands begin end told told_now × TellsRows end status)) (λ commands. SessionOver lines opened new (λ begin end. CausedInto commands begin end told told_now)) status →
     EndsCaused knots text old new left_now told told_now status
 causes-opened knots text lines first number state left left_now told told_now config old opened new status begins w opens goes h =
-    ends-of_run (causes_of knots old new told told_now) knots text lines first number state left left_now config status begins w
-    (runs-seen first number state left left_now (λ commands. SessionOver lines opened new (λ begin end. CausedEach commands begin end told told_now)) (λ commands. SessionOver lines opened new (λ begin end. CausedInto commands begin end told told_now))
-    (λ commands. RunOver knots config old new (λ begin end. CausedEach commands begin end told told_now)) (λ commands. RunOver knots config old new (λ begin end. CausedInto commands begin end told told_now)) status
+    ends-of_run (causes_of knots old new told told_now status) knots text lines first number state left left_now config status begins w
+    (runs-seen first number state left left_now (λ commands. SessionOver lines opened new (λ begin end. CausedEach commands begin end told told_now × TellsRows end status)) (λ commands. SessionOver lines opened new (λ begin end. CausedInto commands begin end told told_now))
+    (λ commands. RunOver knots config old new (λ begin end. CausedEach commands begin end told told_now × TellsRows end status)) (λ commands. RunOver knots config old new (λ begin end. CausedInto commands begin end told told_now)) status
     (λ commands s. record { lines = lines; lines_are = w; opened = opened; opens = opens; opening = goes; session = s })
     (λ commands s. record { lines = lines; lines_are = w; opened = opened; opens = opens; opening = goes; session = s }) h)
 
 -- a run whose image wasn't opened
 pub causes-refused : (knots : ℕ) (text : List ℕ) (lines : Lines) (first : Option code.Command) (number : ℕ) (state : LinesState) (left told : Option (List ℕ)) (config : Config) (old new : MediaState) (refusal : ImageRefusal) →
     BeginsAt knots text lines first number state left → whole knots lines ≡ Some config → EndsCaused knots text old new left told told (refused_status refusal)
-causes-refused knots text lines first number state left told config old new Media begins w = ends-making (causes_of knots old new told told) knots text lines first number state left config begins w refl
-causes-refused knots text lines first number state left told config old new (Other wanted found at) begins w = ends-other (causes_of knots old new told told) knots text lines first number state left config wanted found at begins w refl
+causes-refused knots text lines first number state left told config old new Media begins w = ends-making (causes_of knots old new told told MediaMake) knots text lines first number state left config begins w refl
+causes-refused knots text lines first number state left told config old new (Other wanted found at) begins w = ends-other (causes_of knots old new told told (OtherConfig wanted found at)) knots text lines first number state left config wanted found at begins w refl

@@ -1,10 +1,10 @@
 -- What a session tells of a table beside its replies.
-use Rattle.std.proofs.Common.{◌≡◌, ◌⊎◌, inl, inr, ℕ, true, false, Bool, Option, None, Some, Err, List, ◌∙◌, refl, sym, ap, subst, arith}
+use Rattle.std.proofs.Common.{◌≡◌, ◌⊎◌, ◌≤◌, inl, inr, ℕ, true, false, Bool, Option, None, Some, Err, List, length, ◌∙◌, refl, sym, ap, subst, arith}
 use Rattle.std.specs.Prelude.{if◌then◌else◌, MatchBool, option_map, IsSomeAnd}
 use Rattle.std.specs.List.{slice_get}
 use Rattle.std.proofs.Math.Dec.{eqb}
 use Rattle.std.proofs.lemmas.Bool.Decides.{eqb_tells}
-use Rattle.std.proofs.lemmas.Option.{slice_get_within}
+use Rattle.std.proofs.lemmas.Option.{slice_get_past, slice_get_within}
 use Rattle.fl_model.proofs.Lists.{slice_get-some}
 use Rattle.fl_flash.specs.Flash.{FlashState}
 use Rattle.fl_model.specs.Bare.{bare, bare_table}
@@ -20,6 +20,7 @@ use Rattle.fl_rlc.specs.declared.rings.RingCounts.{RingCounts}
 use Rattle.fl_rlc.specs.declared.table.LoggedTable.{LoggedTable}
 use Rattle.fl_script.specs.declared.reply.Reply as code
 use Rattle.fl_table.specs.Look.{counts_of}
+use Rattle.fl_table.specs.Memory as memory
 use Rattle.fl_table.specs.Standing.{Stands}
 use Rattle.fl_table.specs.declared.counts.TableCounts.{TableCounts}
 use Rattle.fl_table.specs.declared.table.Table.{Table}
@@ -27,8 +28,10 @@ use Rattle.fl_store.specs.Tables.{first_of, EntryStands, TablesStand}
 use Rattle.fl_store.specs.declared.tables.Entry.{Entry}
 use Rattle.fl_store.proofs.TablesChanged.{at-place}
 use Rattle.fl_session.specs.Answer.{IsReached, Refusal}
+use Rattle.fl_session.specs.Caused.{State}
 use Rattle.fl_session.specs.Held.{TellsTable, TellsLast, TellsCounts, TellsRings}
 use Rattle.fl_session.specs.Pending.{rows_of, pending_of}
+use Rattle.fl_session.specs.Told.{pending_at, rows_there}
 use Rattle.fl_session.specs.declared.notes.Notes.{Notes}
 use Rattle.fl_session.specs.declared.pending.TableRows.{TableRows}
 use Rattle.fl_session.specs.Standing.{SessionStands}
@@ -121,3 +124,27 @@ module _ (config : Config) (m : Machine) (entries : List Entry) (notes : Notes) 
 
     pub pending-some : (rows ≡ 0 → ⊥) → here ≡ Some (record { name = entry.name; rows = rows })
     pending-some some = pending-there ∙ rows-some entry.name rows some
+
+-- .. over any bytes, of a state of the session
+module _ (s : State) (at : ℕ) where
+  pub none-off : s.mounted ≡ false → None ≡ pending_at s at
+  none-off off = ap (λ (b : Bool). if b then rows_there (slice_get s.entries at) else None) (sym off)
+
+  pub none-past : length s.entries ≤ at → None ≡ pending_at s at
+  none-past past = by_test s.mounted
+    where
+      by_test : (b : Bool) → None ≡ (if b then rows_there (slice_get s.entries at) else None)
+      by_test true = ap rows_there (sym (slice_get_past s.entries at past))
+      by_test false = refl
+
+  module _ (entry : Entry) (t : Table 64 64) (rows : ℕ) (on : s.mounted ≡ true) (e : slice_get s.entries at ≡ Some entry) (table_is : t ≡ table_in entry.table) (is : rows ≡ memory.pending_in t) where
+    are-there : rows_of entry.name rows ≡ pending_at s at
+    are-there =
+        ap (rows_of entry.name) (is ∙ ap (λ (x : Table 64 64). memory.pending_in x) table_is)
+        ∙ (ap rows_there (sym e) ∙ ap (λ (b : Bool). if b then rows_there (slice_get s.entries at) else None) (sym on))
+
+    pub rows-none : rows ≡ 0 → None ≡ pending_at s at
+    rows-none none = sym (rows-zero entry.name rows none) ∙ are-there
+
+    pub rows-are : (rows ≡ 0 → ⊥) → Some (record { name = entry.name; rows = rows }) ≡ pending_at s at
+    rows-are some = sym (rows-some entry.name rows some) ∙ are-there

@@ -12,6 +12,7 @@ use Rattle.fl_session.specs.Caused.{Caused, State}
 use Rattle.fl_session.specs.Notes.{no_notes}
 use Rattle.fl_session.specs.Opening.{MediaGoes, Opened}
 use Rattle.fl_session.specs.ScriptEnds.{Effects, EndsWith}
+use Rattle.fl_session.specs.Told.{TellsRows}
 use Rattle.fl_session.specs.declared.status.Status.{Status}
 
 -- A session over a medium that was just made for these lines: its tables were never mounted, no cursor is open, no cost is noted. Its
@@ -58,10 +59,11 @@ pub record RunOver (knots : ℕ) (config : Config) (old new : MediaState) (Execu
   pub opening : MediaGoes old opened
   pub session : SessionOver lines opened new Executed
 
--- What is said of the commands that were run. Where the run ended before the first of them, medium and sink are as they were.
-abbrev pub causes_of : ℕ → MediaState → MediaState → Option (List ℕ) → Option (List ℕ) → Effects
-causes_of knots old new told told_now = record {
-  all = λ config commands. RunOver knots config old new (λ begin end. CausedEach commands begin end told told_now);
+-- What is said of the commands that were run; the status tells the rows that are pending after them, where it tells any. Where the
+-- run ended before the first of them, medium and sink are as they were.
+abbrev pub causes_of : ℕ → MediaState → MediaState → Option (List ℕ) → Option (List ℕ) → Status → Effects
+causes_of knots old new told told_now status = record {
+  all = λ config commands. RunOver knots config old new (λ begin end. CausedEach commands begin end told told_now × TellsRows end status);
   into = λ config commands. RunOver knots config old new (λ begin end. CausedInto commands begin end told told_now);
   untouched = (new ≡ old) × (told_now ≡ told);
   making = λ config. told_now ≡ told;
@@ -71,4 +73,4 @@ causes_of knots old new told told_now = record {
 
 -- Each command of the script that was run has its cause. `text` is the script.
 abbrev pub EndsCaused : ℕ → List ℕ → MediaState → MediaState → Option (List ℕ) → Option (List ℕ) → Option (List ℕ) → Status → Type 0
-EndsCaused knots text old new left_now told told_now status = EndsWith (causes_of knots old new told told_now) knots text left_now status
+EndsCaused knots text old new left_now told told_now status = EndsWith (causes_of knots old new told told_now status) knots text left_now status

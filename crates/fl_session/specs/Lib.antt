@@ -21,6 +21,7 @@ pub mod Pending
 pub mod Answer
 pub mod Caused
 pub mod CausedEach
+pub mod Told
 pub mod Cost
 pub mod Notes
 pub mod Gives

@@ -5,6 +5,8 @@ ghost use Rattle.fl_flash.specs.Flash.{FlashState, Goes};
 ghost use Rattle.fl_model.specs.Record.{Config, Plan};
 ghost use Rattle.fl_machine.specs.Machine.{Machine};
 ghost use Rattle.fl_machine.specs.Small.{AreTables};
+ghost use Rattle.fl_rlc.specs.Rings.{rings_in};
+ghost use Rattle.fl_rlc.specs.Table.{table_in};
 ghost use Rattle.fl_script.specs.CommandView.{command_view};
 ghost use Rattle.fl_session.specs.Caused.{Caused, State};
 ghost use Rattle.fl_session.specs.Execute.{Executes};
@@ -12,6 +14,8 @@ ghost use Rattle.fl_session.specs.Held.{TellsTable, TellsCounts, TellsLast, Tell
 ghost use Rattle.fl_session.specs.Oldest.{LooksFor};
 ghost use Rattle.fl_session.specs.Pending.{pending_in};
 ghost use Rattle.fl_session.specs.Runnable.{IsRunnable};
+ghost use Rattle.fl_session.specs.Told.{OldestSays, TellsOf, pending_rows};
+ghost use Rattle.fl_table.specs.Look.{counts_in, last_key_in};
 
 use crate::PendingRows;
 use fl_base::{Name, Sink, SinkFailed};
@@ -58,19 +62,22 @@ pub trait Executor {
     /// # Errors
     /// `NotMounted` and `NoTable`, as a command on the table answers.
     fn last_key(&self, name: Name) -> Result<Option<u64>, Reply>
-        ensures { (config : Config) (m : Machine) → stands self.now config m → TellsTable config m name TellsLast result };
+        ensures holds { (config : Config) (m : Machine) → stands self.now config m → TellsTable config m name TellsLast result }
+        ensures cause { TellsOf (state self.now) name (λ entry key. key ≡ last_key_in (table_in entry.table)) result };
 
     /// How much the table with this name holds; or why nothing is told. No page is read.
     /// # Errors
     /// `NotMounted` and `NoTable`, as a command on the table answers.
     fn counts(&self, name: Name) -> Result<TableCounts, Reply>
-        ensures { (config : Config) (m : Machine) → stands self.now config m → TellsTable config m name TellsCounts result };
+        ensures holds { (config : Config) (m : Machine) → stands self.now config m → TellsTable config m name TellsCounts result }
+        ensures cause { TellsOf (state self.now) name (λ entry counts. counts ≡ counts_in (table_in entry.table)) result };
 
     /// How many pages each ring of the table with this name keeps; or why nothing is told. No page is read.
     /// # Errors
     /// `NotMounted` and `NoTable`, as a command on the table answers.
     fn rings(&self, name: Name) -> Result<RingCounts, Reply>
-        ensures { (config : Config) (m : Machine) → stands self.now config m → TellsTable config m name TellsRings result };
+        ensures holds { (config : Config) (m : Machine) → stands self.now config m → TellsTable config m name TellsRings result }
+        ensures cause { TellsOf (state self.now) name (λ entry rings. rings ≡ rings_in entry.table) result };
 
     /// The key of the oldest record of the table with this name whose blob isn't gone, if there is one; or why none is told. A
     /// blob without a byte is never gone. Pages of rows are read, up to that of the record.
@@ -79,13 +86,15 @@ pub trait Executor {
     /// for which it stands.
     fn oldest_blob(&mut self, name: Name) -> Result<Option<u64>, Reply>
         requires { sound self.old }
+        ensures cause { OldestSays (state self.old) (state self.new) name result }
         ensures sound { sound self.new }
         ensures goes { Goes (flash self.old) (flash self.new) }
         ensures looks { (config : Config) (m : Machine) → stands self.old config m → LooksFor config m name (stands self.new config) (flash self.old) (flash self.new) result };
 
     /// The rows that no flush has written. They are in memory: no page is read.
     fn pending(&self) -> PendingRows
-        ensures { (config : Config) (m : Machine) → stands self.now config m → result.tables ≡ pending_in config m };
+        ensures holds { (config : Config) (m : Machine) → stands self.now config m → result.tables ≡ pending_in config m }
+        ensures cause { result.tables ≡ pending_rows (state self.now) };
 
     /// Each table of a state for which it stands is one of its plan.
     ghost tables_hold: { (s : Self) (config : Config) (m : Machine) → stands s config m → AreTables config.plans m.tables };

@@ -22,7 +22,7 @@ returns-in-Err-clause-script g c = λ text l. ends-in_begin unsaid 64 text _ c.i
 
 pub returns-in-Err-clause-causes : goal.returns-in-Err-clause-causes
 returns-in-Err-clause-causes g c = λ text l.
-    ends-in_begin (causes_of 64 (g.M.Media.state c.args.media.now) (g.M.Media.state c.args.media.now) (g.K.Sink.written c.args.out.now) (g.K.Sink.written c.args.out.now)) 64 text _ c.in-Err.status (c.in-Err.ensures.ends 64 text l) (refl, refl)
+    ends-in_begin (causes_of 64 (g.M.Media.state c.args.media.now) (g.M.Media.state c.args.media.now) (g.K.Sink.written c.args.out.now) (g.K.Sink.written c.args.out.now) c.in-Err.status) 64 text _ c.in-Err.status (c.in-Err.ensures.ends 64 text l) (refl, refl)
 
 pub run_session-requires-clause-reach : goal.run_session-requires-clause-reach
 run_session-requires-clause-reach g c = λ geometry e.

@@ -1,9 +1,12 @@
-use Rattle.std.proofs.Common.{◌≡◌, Some}
+use Rattle.std.proofs.Common.{◌≡◌, Some, inl, inr, refl, subst}
 use Rattle.std.specs.List.{slice_get}
 use Rattle.fl_session.proofs.GetReplies.{goes-reads}
 use Rattle.fl_session.proofs.LookingFor.{looks-refused, looks-there}
 use Rattle.fl_session.proofs.NamedTable.{reached-here, reached-within}
+use Rattle.fl_session.proofs.ReplyCauses.{is-here, only-looks}
 use Rattle.fl_session.proofs.Sound.{sound-roomed}
+use Rattle.fl_session.specs.Told.{OldestIn}
+use Rattle.fl_table.specs.declared.table.Table.{Table}
 use Rattle.fl_store.proofs.Queried.{lies-unlogged, runs-unlogged}
 use Rattle.fl_session.proofs.session.SessionExecutor.oldest_blob.Goals as goal
 
@@ -37,3 +40,17 @@ returns-clause-looks g c = λ config m h.
     let here : slice_get c.args.self.now.tables.entries.items c.in-Ok.at ≡ Some c.index.result.now = reached-here c.args.self.now.tables.entries.items _ _ c.in-Ok.at c.index.result.now c.in-Ok.ensures c.index.ensures in
     looks-there config m c.args.self.now.tables.entries.items c.args.self.now.notes _ _ c.args.self.now.mounted c.args.name c.in-Ok.at c.index.result.now c.table-table.result.now c.oldest_blob.result h c.in-Ok.ensures here c.table-table.ensures
     c.oldest_blob.ensures.counts c.oldest_blob.ensures.finds c.oldest_blob.ensures.reads
+
+pub returns-in-Err-clause-cause : goal.returns-in-Err-clause-cause
+returns-in-Err-clause-cause g c = inl (c.in-Err.refusal, refl, c.in-Err.ensures, refl)
+
+pub returns-clause-cause : goal.returns-clause-cause
+returns-clause-cause g c =
+    let here : slice_get c.args.self.now.tables.entries.items c.in-Ok.at ≡ Some c.index.result.now = reached-here c.args.self.now.tables.entries.items _ _ c.in-Ok.at c.index.result.now c.in-Ok.ensures c.index.ensures in
+    inr (
+      c.in-Ok.at,
+      c.index.result.now,
+      is-here _ c.args.name c.in-Ok.at c.index.result.now c.in-Ok.ensures here,
+      subst (λ (t : Table 64 64). OldestIn t _ _ c.oldest_blob.result) c.table-table.ensures c.oldest_blob.ensures.cause,
+      only-looks _ _ _ _ _ _ _ refl c.oldest_blob.ensures.counts,
+    )
