@@ -13,7 +13,7 @@ use Rattle.fl_script.specs.declared.command.Command as code
 use Rattle.fl_session.specs.Begin.{BeginsAt}
 use Rattle.fl_session.specs.Caused.{Caused, State}
 use Rattle.fl_session.specs.CausedEach.{CausedEach, CausedInto, EndsCaused, IsNewSession, RunOver, SessionOver, causes_of}
-use Rattle.fl_session.specs.Opening.{MediaGoes, Opened}
+use Rattle.fl_session.specs.Opening.{MediaGoes, Opened, OpensAs}
 use Rattle.fl_session.specs.Run.{RunsFrom, refused_status}
 use Rattle.fl_session.specs.Told.{TellsRows}
 use Rattle.fl_session.specs.declared.status.Status.{Status}
@@ -75,6 +75,6 @@ causes-opened knots text lines first number state left left_now told told_now co
 
 -- a run whose image wasn't opened
 pub causes-refused : (knots : ℕ) (text : List ℕ) (lines : Lines) (first : Option code.Command) (number : ℕ) (state : LinesState) (left told : Option (List ℕ)) (config : Config) (old new : MediaState) (refusal : ImageRefusal) →
-    BeginsAt knots text lines first number state left → whole knots lines ≡ Some config → EndsCaused knots text old new left told told (refused_status refusal)
-causes-refused knots text lines first number state left told config old new Media begins w = ends-making (causes_of knots old new told told MediaMake) knots text lines first number state left config begins w refl
-causes-refused knots text lines first number state left told config old new (Other wanted found at) begins w = ends-other (causes_of knots old new told told (OtherConfig wanted found at)) knots text lines first number state left config wanted found at begins w refl
+    BeginsAt knots text lines first number state left → whole knots lines ≡ Some config → OpensAs config old (Err refusal) new → EndsCaused knots text old new left told told (refused_status refusal)
+causes-refused knots text lines first number state left told config old new Media begins w opens = ends-making (causes_of knots old new told told MediaMake) knots text lines first number state left config begins w (refl, opens)
+causes-refused knots text lines first number state left told config old new (Other wanted found at) begins w opens = ends-other (causes_of knots old new told told (OtherConfig wanted found at)) knots text lines first number state left config wanted found at begins w (refl, opens)

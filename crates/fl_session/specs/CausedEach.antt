@@ -10,7 +10,7 @@ use Rattle.fl_store.specs.Store.{IsOpened}
 use Rattle.fl_store.specs.Tables.{AreNewTables}
 use Rattle.fl_session.specs.Caused.{Caused, State}
 use Rattle.fl_session.specs.Notes.{no_notes}
-use Rattle.fl_session.specs.Opening.{MediaGoes, Opened}
+use Rattle.fl_session.specs.Opening.{Foreign, HalfOpened, MediaGoes, Opened}
 use Rattle.fl_session.specs.ScriptEnds.{Effects, EndsWith}
 use Rattle.fl_session.specs.Told.{TellsRows}
 use Rattle.fl_session.specs.declared.status.Status.{Status}
@@ -60,14 +60,14 @@ pub record RunOver (knots : ℕ) (config : Config) (old new : MediaState) (Execu
   pub session : SessionOver lines opened new Executed
 
 -- What is said of the commands that were run; the status tells the rows that are pending after them, where it tells any. Where the
--- run ended before the first of them, medium and sink are as they were.
+-- run ended before the first of them, the sink is as it was, and so is the medium but where it failed while it was made.
 abbrev pub causes_of : ℕ → MediaState → MediaState → Option (List ℕ) → Option (List ℕ) → Status → Effects
 causes_of knots old new told told_now status = record {
   all = λ config commands. RunOver knots config old new (λ begin end. CausedEach commands begin end told told_now × TellsRows end status);
   into = λ config commands. RunOver knots config old new (λ begin end. CausedInto commands begin end told told_now);
   untouched = (new ≡ old) × (told_now ≡ told);
-  making = λ config. told_now ≡ told;
-  other = λ config wanted found at. told_now ≡ told;
+  making = λ config. (told_now ≡ told) × HalfOpened config old new;
+  other = λ config wanted found at. (told_now ≡ told) × Foreign config old new wanted found at;
   unbegun = λ start. (new ≡ old) × (told_now ≡ told);
 }
 

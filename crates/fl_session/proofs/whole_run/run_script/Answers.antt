@@ -91,7 +91,7 @@ pub returns-clause-causes : goal.returns-clause-causes
 returns-clause-causes g c = λ text l.
     let lines = c.read_config.new.config in
     let w = whole-of 64 lines c.in-Ok-read_config.ensures.whole in
-    rw c.status_of.ensures (causes-refused 64 text lines c.in-Ok-read_config.begun.first c.in-Ok-read_config.begun.number _ _ _ w.0 _ _ c.in-Err-open_image.refusal (c.in-Ok-read_config.ensures.begins 64 text l) w.1)
+    rw c.status_of.ensures (causes-refused 64 text lines c.in-Ok-read_config.begun.first c.in-Ok-read_config.begun.number _ _ _ w.0 _ _ c.in-Err-open_image.refusal (c.in-Ok-read_config.ensures.begins 64 text l) w.1 (opens-as w.0 (g.M.Media.state c.args.media.now) (Err c.in-Err-open_image.refusal) (g.M.Media.state c.open_image.new.media) (c.in-Err-open_image.ensures w.0 (makes-of 64 lines w.0 w.1))))
 
 pub returns-clause-make : goal.returns-clause-make
 returns-clause-make g c = λ e.
