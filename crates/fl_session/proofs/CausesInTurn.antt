@@ -11,7 +11,7 @@ use Rattle.fl_words.specs.Command.{Command}
 use Rattle.fl_words.specs.Config.{Lines, whole}
 use Rattle.fl_script.specs.declared.command.Command as code
 use Rattle.fl_session.specs.Begin.{BeginsAt}
-use Rattle.fl_session.specs.Caused.{Caused, State}
+use Rattle.fl_session.specs.Caused.{Caused, IsPowered, State}
 use Rattle.fl_session.specs.CausedEach.{CausedEach, CausedInto, EndsCaused, IsNewSession, RunOver, SessionOver, causes_of}
 use Rattle.fl_session.specs.Opening.{MediaGoes, Opened, OpensAs}
 use Rattle.fl_session.specs.Run.{RunsFrom, refused_status}
@@ -20,32 +20,34 @@ use Rattle.fl_session.specs.declared.status.Status.{Status}
 use Rattle.fl_session.specs.declared.status.Status.TheVariants.{MediaMake, OtherConfig}
 use Rattle.fl_session.proofs.RunEnds.{ends-making, ends-of_run, ends-other, runs-seen}
 
-caused-more : (commands : List Command) (command : Command) (old mid new : State) (told told_mid told_now : Option (List ℕ)) → CausedEach commands old mid told told_mid → Caused {E = SinkFailed} command mid new told_mid told_now (Ok tt) →
+caused-more : (commands : List Command) (command : Command) (old mid new : State) (told told_mid told_now : Option (List ℕ)) → CausedEach commands old mid told told_mid → IsPowered mid → Caused {E = SinkFailed} command mid new told_mid told_now (Ok tt) →
     CausedEach (commands ++ command ∷ []) old new told told_now
-caused-more [] command old mid new told told_mid told_now h cause = (
+caused-more [] command old mid new told told_mid told_now h powered cause = (
   new,
   told_now,
+  subst IsPowered h.0 powered,
   subst (λ s. Caused {E = SinkFailed} command s new told told_now (Ok tt)) h.0 (subst (λ t. Caused {E = SinkFailed} command mid new t told_now (Ok tt)) h.1 cause),
   (refl, refl),
 )
-caused-more (first ∷ commands) command old mid new told told_mid told_now h cause = (h.0, h.1, h.2, caused-more commands command h.0 mid new h.1 told_mid told_now h.3 cause)
+caused-more (first ∷ commands) command old mid new told told_mid told_now h powered cause = (h.0, h.1, h.2, h.3, caused-more commands command h.0 mid new h.1 told_mid told_now h.4 powered cause)
 
 -- one more command
-pub caused-next : (command : Command) (old mid new : State) (told told_mid told_now : Option (List ℕ)) (result : Result (Unit {0}) SinkFailed) → result ≡ Ok tt → Caused command mid new told_mid told_now result →
+pub caused-next : (command : Command) (old mid new : State) (told told_mid told_now : Option (List ℕ)) (result : Result (Unit {0}) SinkFailed) → result ≡ Ok tt → IsPowered mid → Caused command mid new told_mid told_now result →
     (commands : List Command) → CausedEach commands old mid told told_mid → CausedEach (commands ++ command ∷ []) old new told told_now
-caused-next command old mid new told told_mid told_now result is cause commands h =
-    caused-more commands command old mid new told told_mid told_now h (subst (λ r. Caused {E = SinkFailed} command mid new told_mid told_now r) is cause)
+caused-next command old mid new told told_mid told_now result is powered cause commands h =
+    caused-more commands command old mid new told told_mid told_now h powered (subst (λ r. Caused {E = SinkFailed} command mid new told_mid told_now r) is cause)
 
 -- .. in whose reply the sink failed
-pub caused-into : (command : Command) (old mid new : State) (told told_mid told_now : Option (List ℕ)) (result : Result (Unit {0}) SinkFailed) (failed : SinkFailed) → result ≡ Err failed → Caused command mid new told_mid told_now result →
+pub caused-into : (command : Command) (old mid new : State) (told told_mid told_now : Option (List ℕ)) (result : Result (Unit {0}) SinkFailed) (failed : SinkFailed) → result ≡ Err failed → IsPowered mid → Caused command mid new told_mid told_now result →
     (commands : List Command) → CausedEach commands old mid told told_mid → CausedInto (commands ++ command ∷ []) old new told told_now
-caused-into command old mid new told told_mid told_now result failed is cause commands h = record {
+caused-into command old mid new told told_mid told_now result failed is powered cause commands h = record {
   before = commands;
   last = command;
   split = refl;
   mid = mid;
   told_mid = told_mid;
   each = h;
+  powered = powered;
   failed = failed;
   cause = subst (λ r. Caused {E = SinkFailed} command mid new told_mid told_now r) is cause;
 }

@@ -39,7 +39,8 @@ use Rattle.fl_session.proofs.Ready.{ready-accepted, stands-ready}
 use Rattle.fl_session.proofs.RunEnds.{ran-through, ends-over, begins-ready, ends-making, ends-other}
 use Rattle.fl_session.proofs.Rested.{session-ends, opened-rests, opened-content, opened-formed}
 
-no-cursor : (n i : ℕ) (c : TableCursor) → slice_get (replicate n None) i ≡ Some (Some c) → ⊥
+-- none of so many cursors is open
+pub no-cursor : (n i : ℕ) (c : TableCursor) → slice_get (replicate n None) i ≡ Some (Some c) → ⊥
 no-cursor zero i c e = none e
   where
     none : ◌≡◌ {A = Option (Option TableCursor)} None (Some (Some c)) → ⊥
@@ -57,6 +58,7 @@ new-sound entries entries' f f' buf buf' mounted notes entries_are f_is buf_is o
   lie = lie;
   room = room;
   running = λ on. absurd (not_on (sym on ∙ off));
+  power = λ on. absurd (not_on (sym on ∙ off));
   forgotten = λ ended. forgotten;
   cursors = λ i c e. absurd (no-cursor 4 i c (ap (λ (n : Notes). slice_get n.cursors i) (sym fresh) ∙ e));
 })

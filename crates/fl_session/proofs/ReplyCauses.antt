@@ -163,10 +163,6 @@ pub when-ok : (P : Type 0) (outcome : Result (Unit {0}) PutRefusal) → is_err o
 when-ok P (Ok done) is p = p
 when-ok P (Err e) is p = absurd (cc is)
 
-pub when-err : (P : Type 0) (outcome : Result (Unit {0}) PutRefusal) → is_err outcome ≡ true → OnOk outcome P
-when-err P (Ok done) is = absurd (cc is)
-when-err P (Err e) is = tt
-
 -- a cause in the last of some calls, of which those before left the power on
 off-before : (P : Type 0) (was now : Bool) → (was ≡ true → now ≡ true) → (now ≡ false) ⊎ P → (was ≡ false) ⊎ P
 off-before P false now kept cause = inl refl

@@ -60,6 +60,10 @@ pub record State : Type 0 where
 abbrev pub state_of : List Entry → Bool → Notes → FlashState → State
 state_of entries mounted notes flash = record { entries = entries; mounted = mounted; notes = notes; flash = flash }
 
+-- where something is mounted the power is on
+abbrev pub IsPowered : State → Type 0
+IsPowered s = s.mounted ≡ true → s.flash.is_on ≡ true
+
 -- ---- one reply
 
 -- these bytes are the text of a reply of which this holds
@@ -171,7 +175,7 @@ FlushFails f g (flush.Flash fault) = CausedBy f fault g
 FlushFails f g flush.Stopped = ⊥
 
 -- A flush changes nothing where no row is pending. Else none is afterwards, they are the next page, and the ring of a log is as
--- it was.
+-- it was. The last record is the one that it was, however the flush ends.
 pub record FlushSays (old new : State) (at : ℕ) (entry : Entry) (said : Reply) : Type 0 where
   pub outcome : Result (Unit {0}) FlushFault
   pub said_is : said ≡ flush_reply outcome
@@ -179,6 +183,7 @@ pub record FlushSays (old new : State) (at : ℕ) (entry : Entry) (said : Reply)
   pub none : pending_in (table_in entry.table) ≡ 0 → (outcome ≡ Ok tt) × (new ≡ old)
   pub leaves : LeavesTable old new at entry (flush_breaks outcome)
   pub flushed : OnOk outcome (pending_in (table_in leaves.now) ≡ 0)
+  pub last : last_key_in (table_in leaves.now) ≡ last_key_in (table_in entry.table)
   pub seals : OnOk outcome (1 ≤ pending_in (table_in entry.table) → next_in (table_in leaves.now) ≡ next_in (table_in entry.table) + 1)
   pub begins : OnOk outcome (1 ≤ pending_in (table_in entry.table) → AreBegun (log_in entry.table) (log_in leaves.now))
   pub power : OnOk outcome (old.flash.is_on ≡ true → new.flash.is_on ≡ true)
@@ -284,7 +289,7 @@ pub record LoadSays {E : Type 0} (old new : State) (asked step seed at : ℕ) (e
   pub counted : LoadCounts asked count outcome
   pub leaves : LeavesTable old new at entry (put_breaks outcome)
   pub fails : IfErr outcome (LoadFails leaves.now old.flash new.flash step seed count)
-  pub power : OnOk outcome (old.flash.is_on ≡ true → new.flash.is_on ≡ true)
+  pub power : put_breaks outcome ≡ false → old.flash.is_on ≡ true → new.flash.is_on ≡ true
 
 -- ---- any command
 

@@ -8,7 +8,7 @@ use Rattle.fl_words.specs.Command.{Command}
 use Rattle.fl_words.specs.Config.{Lines, whole}
 use Rattle.fl_store.specs.Store.{IsOpened}
 use Rattle.fl_store.specs.Tables.{AreNewTables}
-use Rattle.fl_session.specs.Caused.{Caused, State}
+use Rattle.fl_session.specs.Caused.{Caused, IsPowered, State}
 use Rattle.fl_session.specs.Notes.{no_notes}
 use Rattle.fl_session.specs.Opening.{Foreign, HalfOpened, MediaGoes, Opened}
 use Rattle.fl_session.specs.ScriptEnds.{Effects, EndsWith}
@@ -23,11 +23,12 @@ pub record IsNewSession (lines : Lines) (medium : MediaState) (s : State) : Type
   pub notes : s.notes ≡ no_notes
   pub flash : IsOpened lines medium s.flash
 
--- Each of these commands has its cause: it was executed in the state that those before it left, and its replies stand behind theirs.
+-- Each of these commands has its cause: it was executed in the state that those before it left, with the power on where something
+-- was mounted, and its replies stand behind theirs.
 abbrev pub CausedEach : List Command → State → State → Option (List ℕ) → Option (List ℕ) → Type 0
 CausedEach [] old new told told_now = (new ≡ old) × (told_now ≡ told)
 CausedEach (command ∷ commands) old new told told_now =
-    (mid : State) × (told_mid : Option (List ℕ)) × Caused {E = SinkFailed} command old mid told told_mid (Ok tt) × CausedEach commands mid new told_mid told_now
+    (mid : State) × (told_mid : Option (List ℕ)) × IsPowered old × Caused {E = SinkFailed} command old mid told told_mid (Ok tt) × CausedEach commands mid new told_mid told_now
 
 -- .. and in the reply of the last of them the sink failed
 pub record CausedInto (commands : List Command) (old new : State) (told told_now : Option (List ℕ)) : Type 0 where
@@ -37,6 +38,7 @@ pub record CausedInto (commands : List Command) (old new : State) (told told_now
   pub mid : State
   pub told_mid : Option (List ℕ)
   pub each : CausedEach before old mid told told_mid
+  pub powered : IsPowered mid
   pub failed : SinkFailed
   pub cause : Caused last mid new told_mid told_now (Err failed)
 

@@ -8,7 +8,7 @@ ghost use Rattle.fl_machine.specs.Small.{AreTables};
 ghost use Rattle.fl_rlc.specs.Rings.{rings_in};
 ghost use Rattle.fl_rlc.specs.Table.{table_in};
 ghost use Rattle.fl_script.specs.CommandView.{command_view};
-ghost use Rattle.fl_session.specs.Caused.{Caused, State};
+ghost use Rattle.fl_session.specs.Caused.{Caused, IsPowered, State};
 ghost use Rattle.fl_session.specs.Execute.{Executes};
 ghost use Rattle.fl_session.specs.Held.{TellsTable, TellsCounts, TellsLast, TellsRings};
 ghost use Rattle.fl_session.specs.Oldest.{LooksFor};
@@ -39,6 +39,9 @@ pub trait Executor {
 
     /// The flash of its state is the one on which it stands.
     ghost state_flash: { (s : Self) → (state s).flash ≡ flash s };
+
+    /// Where something is mounted the power is on.
+    ghost is_powered: { (s : Self) → sound s → IsPowered (state s) };
 
     /// Executes a command and writes its replies.
     /// # Errors

@@ -1,5 +1,5 @@
 // The puts of a load.
-ghost use Rattle.std.specs.Prelude.{◌≡◌, ◌≤◌, ℕ, ◌&&◌, List, not, true, IsTrue, IfErr, OnOk, Some, slice_get};
+ghost use Rattle.std.specs.Prelude.{◌≡◌, ◌≤◌, ℕ, ◌&&◌, List, not, true, false, IsTrue, IfErr, Some, slice_get};
 ghost use Rattle.fl_base.specs.Causes.{HasCause};
 ghost use Rattle.fl_flash.specs.Flash.{Goes, page_at};
 ghost use Rattle.fl_model.specs.Record.{Config};
@@ -63,7 +63,7 @@ pub(crate) fn load<F: Flash>(
     ensures same { IsSamePlan table.old table.new }
     ensures counted { LoadCounts count result.count result.outcome }
     ensures fails { IfErr result.outcome (LoadFails table.new (F.state flash.old) (F.state flash.new) step seed result.count) }
-    ensures power { OnOk result.outcome ((F.state flash.old).is_on ≡ true → (F.state flash.new).is_on ≡ true) }
+    ensures power { put_breaks result.outcome ≡ false → (F.state flash.old).is_on ≡ true → (F.state flash.new).is_on ≡ true }
     ensures outside { IsTrue (F.state flash.old).media.tells → OutsideStands table.old (page_at (F.state flash.old)) (page_at (F.state flash.new)) }
     ensures answers { (config : Config) → (entries : List Entry) → (at : ℕ) → (entry : Entry) → (name : List ℕ) → (notes : Notes) → (old : Machine) → SessionStands config entries (F.state flash.old) true notes old →
         slice_get entries at ≡ Some entry → entry.table ≡ table.old → IsNamed entries name at →

@@ -4,7 +4,8 @@ use Rattle.fl_model.specs.Record.{RowLayout}
 use Rattle.fl_store.proofs.CallsInTurn.{goes-same, goes-on, rose-front, rose-back, same-plan, same-on}
 use Rattle.fl_session.specs.Load.{StandsBefore, load_key, random_of}
 use Rattle.fl_store.proofs.Outsides.{outside-then}
-use Rattle.fl_session.proofs.ReplyCauses.{load-counts, load-fails, when-ok, when-err}
+use Rattle.fl_session.proofs.ReplyCauses.{load-counts, load-fails, when-ok}
+use Rattle.fl_session.proofs.Sound.{put-stays}
 use Rattle.fl_session.proofs.LoadPuts.{LoadedSoFar, loaded-none, loaded-more, ends-next, ends-done, load-finished, load-stopped, rose-risen}
 use Rattle.fl_store.proofs.Risen.{has_risen}
 use Rattle.fl_session.proofs.LoadLines.{unbroken}
@@ -110,7 +111,8 @@ pub returns-then-is_err-clause-same : goal.returns-then-is_err-clause-same
 returns-then-is_err-clause-same g c = same-on _ _ _ c.loop-loaded.invariant.same c.put-outcome.ensures.same
 
 pub returns-clause-power : goal.returns-clause-power
-returns-clause-power g c = c.loop-loaded.invariant.power
+returns-clause-power g c = λ goes. c.loop-loaded.invariant.power
 
 pub returns-then-is_err-clause-power : goal.returns-then-is_err-clause-power
-returns-then-is_err-clause-power g c = when-err _ c.put-outcome.result (sym c.is_err.ensures.value ∙ c.if-is_err.true)
+returns-then-is_err-clause-power g c = λ goes on.
+    put-stays c.loop-loaded.table c.put-outcome.new.self _ _ c.put-outcome.result c.put-outcome.ensures.power c.put-outcome.ensures.refused goes (c.loop-loaded.invariant.power on)

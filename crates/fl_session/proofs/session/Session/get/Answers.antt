@@ -30,7 +30,7 @@ pub returns-clause-goes : goal.returns-clause-goes
 returns-clause-goes g c = goes-reads _ _ c.look_up-reply.ensures.counts
 
 pub returns-clause-sound : goal.returns-clause-sound
-returns-clause-sound g c = sound-read c.args.self.now.tables.entries.items _ _ _ _ _ _ _ (goes-reads _ _ c.look_up-reply.ensures.counts) c.look_up-reply.ensures.room refl (refl, refl) c.requires.sound.cursors c.in-Ok.ensures.mounted_is c.requires.sound
+returns-clause-sound g c = sound-read c.args.self.now.tables.entries.items _ _ _ _ _ _ _ (goes-reads _ _ c.look_up-reply.ensures.counts) c.look_up-reply.ensures.counts.power c.look_up-reply.ensures.room refl (refl, refl) c.requires.sound.cursors c.in-Ok.ensures.mounted_is c.requires.sound
 
 pub returns-clause-step : goal.returns-clause-step
 returns-clause-step g c = λ config old h.

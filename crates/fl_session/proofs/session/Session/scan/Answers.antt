@@ -33,7 +33,7 @@ pub returns-clause-goes : goal.returns-clause-goes
 returns-clause-goes g c = goes-reads _ _ c.list_rows-written.ensures.counts
 
 pub returns-clause-sound : goal.returns-clause-sound
-returns-clause-sound g c = sound-read c.args.self.now.tables.entries.items _ _ _ _ _ _ _ (goes-reads _ _ c.list_rows-written.ensures.counts) c.list_rows-written.ensures.rows c.list_rows-written.ensures.index c.list_rows-written.ensures.right c.requires.sound.cursors c.in-Ok.ensures.mounted_is c.requires.sound
+returns-clause-sound g c = sound-read c.args.self.now.tables.entries.items _ _ _ _ _ _ _ (goes-reads _ _ c.list_rows-written.ensures.counts) c.list_rows-written.ensures.counts.power c.list_rows-written.ensures.rows c.list_rows-written.ensures.index c.list_rows-written.ensures.right c.requires.sound.cursors c.in-Ok.ensures.mounted_is c.requires.sound
 
 pub returns-clause-step : goal.returns-clause-step
 returns-clause-step g c = λ config old h.

@@ -73,7 +73,7 @@ pub returns-clause-goes : goal.returns-clause-goes
 returns-clause-goes g c = goes-reads _ _ c.select.ensures.reads_only
 
 pub returns-clause-sound : goal.returns-clause-sound
-returns-clause-sound g c = sound-roomed c.args.self.now.tables.entries.items _ _ _ _ _ _ (goes-reads _ _ c.select.ensures.reads_only) c.select.ensures.room c.in-Ok.ensures.mounted_is c.requires.sound
+returns-clause-sound g c = sound-roomed c.args.self.now.tables.entries.items _ _ _ _ _ _ (goes-reads _ _ c.select.ensures.reads_only) c.select.ensures.reads_only.power c.select.ensures.room c.in-Ok.ensures.mounted_is c.requires.sound
 
 pub returns-in-Err-clause-cause : goal.returns-in-Err-clause-cause
 returns-in-Err-clause-cause g c = inl (says-written _ _ _ _ _ _ (refusal-says _ c.args.name c.in-Err.refusal c.in-Err.ensures) c.write_reply.ensures.text)

@@ -33,7 +33,7 @@ pub returns-clause-goes : goal.returns-clause-goes
 returns-clause-goes g c = goes-reads _ _ c.oldest_blob.ensures.counts
 
 pub returns-clause-sound : goal.returns-clause-sound
-returns-clause-sound g c = sound-roomed c.args.self.now.tables.entries.items _ _ _ _ _ _ (goes-reads _ _ c.oldest_blob.ensures.counts) c.oldest_blob.ensures.room c.in-Ok.ensures.mounted_is c.requires
+returns-clause-sound g c = sound-roomed c.args.self.now.tables.entries.items _ _ _ _ _ _ (goes-reads _ _ c.oldest_blob.ensures.counts) c.oldest_blob.ensures.counts.power c.oldest_blob.ensures.room c.in-Ok.ensures.mounted_is c.requires
 
 pub returns-clause-looks : goal.returns-clause-looks
 returns-clause-looks g c = λ config m h.
