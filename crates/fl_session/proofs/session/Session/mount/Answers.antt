@@ -53,7 +53,7 @@ returns-clause-cause g c =
         outcome = c.mount-outcome.result;
         said_is = refl;
         mounts = mounts-on _ _ _ _ _ c.mount-outcome.result c.power_on.ensures
-            (record { found = e.found; refused = e.refused; stops = e.stops; cause = e.cause; power = e.power; repairs = e.repairs; outside = e.outside });
+            (record { found = e.found; refused = e.refused; stops = e.stops; cause = e.cause; running = e.running; none = e.none; power = e.power; as_many = e.as_many; names = e.names; same = e.same; repairs = e.repairs; outside = e.outside });
         mounted = c.is_ok-self.ensures.value;
         notes = refl;
       });
