@@ -30,6 +30,7 @@ pub mod CompleteRuns
 pub mod BlobLines
 pub mod BlobNotes
 pub mod LoadedValues
+pub mod LoadReads
 pub mod LoadPuts
 pub mod RowLines
 pub mod Few

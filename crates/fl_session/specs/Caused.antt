@@ -1,5 +1,5 @@
 -- What a command answers and leaves, and why, over any bytes and on any medium.
-use Rattle.std.specs.Prelude.{◌≡◌, ◌⊎◌, ℕ, ◌+◌, ◌-◌, ◌<◌, ◌≤◌, min, unwrap_or, ◌++◌, Bool, true, false, not, is_ok, IsTrue, Option, None, Some, option_map, Result, Ok, Err, OnOk, IfErr, List, [], ◌∷◌, length, slice_get, ℤ}
+use Rattle.std.specs.Prelude.{◌≡◌, ◌⊎◌, ℕ, ◌+◌, ◌-◌, ◌*◌, ◌<◌, ◌≤◌, min, unwrap_or, ◌++◌, Bool, true, false, not, is_ok, IsTrue, Option, None, Some, option_map, Result, Ok, Err, OnOk, IfErr, List, [], ◌∷◌, length, slice_get, ℤ}
 use Rattle.fl_base.specs.declared.types.CutKind.{CutKind}
 use Rattle.fl_base.specs.declared.types.KeyRange.{KeyRange}
 use Rattle.fl_base.specs.declared.types.Span.{Span}
@@ -16,13 +16,15 @@ use Rattle.fl_page.specs.declared.fault.ReadFault.TheVariants as fault
 use Rattle.fl_rlc.specs.Refusal.{NeedsNoOperation, put_refusal}
 use Rattle.fl_rlc.specs.Rows.{AreBegun, HaveLogged}
 use Rattle.fl_rlc.specs.Table as logged
-use Rattle.fl_rlc.specs.Table.{IsSamePlan, log_in, table_in}
+use Rattle.fl_rlc.specs.Table.{IsSamePlan, log_in, rings_in, table_in}
 use Rattle.fl_rlc.specs.declared.table.LoggedTable.{LoggedTable}
 use Rattle.fl_script.specs.Written.{Written}
 use Rattle.fl_ring.specs.Causes.{CausedBy}
 use Rattle.fl_table.specs.Causes.{MountCausedBy, flush_breaks, put_breaks}
 use Rattle.fl_table.specs.Finding.{LookupFails}
-use Rattle.fl_table.specs.Look.{counts_in, last_key_in, layout_in}
+use Rattle.fl_table.specs.BlobAt.{data_in}
+use Rattle.fl_table.specs.Blobs.{most_pages}
+use Rattle.fl_table.specs.Look.{counts_in, last_key_in, layout_in, oldest_in}
 use Rattle.fl_table.specs.Memory.{next_in, pending_in, HasRoom, PendingAre}
 use Rattle.fl_table.specs.Mounting.{FewRepairs}
 use Rattle.fl_table.specs.Refusal.{RefusesAs}
@@ -143,7 +145,7 @@ abbrev pub MountSays : State → State → Reply → Type 0
 MountSays old new said = ((old.mounted ≡ true) × (said ≡ reply.AlreadyMounted) × (new ≡ old)) ⊎ MountsAll old new said
 
 -- What a call on the table at this place leaves: another state of that table, with the same plan, and outside its rings the
--- bytes that were there. It reads no page.
+-- bytes that were there. It reads no page; the medium may be read where a page is sealed.
 pub record LeavesTable (old new : State) (at : ℕ) (entry : Entry) (breaks : Bool) : Type 0 where
   pub now : LoggedTable 64 64
   pub same : IsSamePlan entry.table now
@@ -174,6 +176,7 @@ pub record PutSays (old new : State) (key : ℕ) (values : List ℤ) (blob : Opt
   pub quiet : put_refusal entry.table key values (option_map (λ bytes. length bytes) blob) ≡ None → NeedsNoOperation entry.table blob → (outcome ≡ Ok tt) × (new.flash ≡ old.flash)
   pub off : put_refusal entry.table key values (option_map (λ bytes. length bytes) blob) ≡ None → (NeedsNoOperation entry.table blob → ⊥) →
       old.flash.is_on ≡ false → (outcome ≡ Err (put.Flash PowerLost)) × (new.flash ≡ old.flash)
+  pub media_reads : new.flash.media.reads ≤ old.flash.media.reads + rings_in entry.table + most_pages (data_in (table_in entry.table)) blob
 
 -- only a fault of the flash fails it
 abbrev pub FlushFails : FlashState → FlashState → FlushFault → Type 0
@@ -194,6 +197,7 @@ pub record FlushSays (old new : State) (at : ℕ) (entry : Entry) (said : Reply)
   pub begins : OnOk outcome (1 ≤ pending_in (table_in entry.table) → AreBegun (log_in entry.table) (log_in leaves.now))
   pub power : OnOk outcome (old.flash.is_on ≡ true → new.flash.is_on ≡ true)
   pub off : 1 ≤ pending_in (table_in entry.table) → old.flash.is_on ≡ false → (outcome ≡ Err (flush.Flash PowerLost)) × (new.flash ≡ old.flash)
+  pub media_reads : new.flash.media.reads ≤ old.flash.media.reads + rings_in entry.table
 
 -- what the table has in memory, and what the flash counted
 abbrev pub StatSays : State → State → ℕ → Entry → Reply → Type 0
@@ -231,9 +235,13 @@ LookSays t f g reply.ReadFault = (e : FlashFault) × LookupFails t f (fault.Flas
 LookSays t f g (reply.BadPage number) = (bad : BadPage) × (bad.wanted ≡ number) × LookupFails t f (fault.BadPage bad) g
 LookSays t f g _ = ⊥
 
+-- a lookup reads no more pages than the table keeps, and one
+abbrev pub ReadsFew : Table 64 64 → FlashState → FlashState → Type 0
+ReadsFew t f g = g.work.reads ≤ f.work.reads + (next_in t - oldest_in t) + 1
+
 -- the row of a key is looked up
 abbrev pub GetSays : State → State → ℕ → Entry → Reply → Type 0
-GetSays old new at entry said = LookSays (table_in entry.table) old.flash new.flash said × NotesGet old new
+GetSays old new at entry said = LookSays (table_in entry.table) old.flash new.flash said × ReadsFew (table_in entry.table) old.flash new.flash × NotesGet old new
 
 -- the power goes off, and nothing is mounted from then on
 abbrev pub OffSays : State → State → Reply → Type 0
@@ -296,6 +304,7 @@ pub record LoadSays {E : Type 0} (old new : State) (asked step seed at : ℕ) (e
   pub leaves : LeavesTable old new at entry (put_breaks outcome)
   pub fails : IfErr outcome (LoadFails leaves.now old.flash new.flash step seed count)
   pub power : put_breaks outcome ≡ false → old.flash.is_on ≡ true → new.flash.is_on ≡ true
+  pub media_reads : new.flash.media.reads ≤ old.flash.media.reads + (count + 1) * rings_in entry.table
 
 -- ---- any command
 

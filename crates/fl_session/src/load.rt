@@ -1,12 +1,12 @@
 // The puts of a load.
-ghost use Rattle.std.specs.Prelude.{◌≡◌, ◌≤◌, ℕ, ◌&&◌, List, not, true, false, IsTrue, IfErr, Some, slice_get};
+ghost use Rattle.std.specs.Prelude.{◌≡◌, ◌≤◌, ◌+◌, ◌*◌, ℕ, ◌&&◌, List, not, true, false, IsTrue, IfErr, Some, slice_get};
 ghost use Rattle.fl_base.specs.Causes.{HasCause};
 ghost use Rattle.fl_flash.specs.Flash.{Goes, page_at};
 ghost use Rattle.fl_model.specs.Record.{Config};
 ghost use Rattle.fl_words.specs.Command as words;
 ghost use Rattle.fl_words.specs.Reply.{texts};
 ghost use Rattle.fl_machine.specs.Machine.{Machine};
-ghost use Rattle.fl_rlc.specs.Table.{is_running, IsSamePlan, LiesOn, OutsideStands};
+ghost use Rattle.fl_rlc.specs.Table.{is_running, rings_in, IsSamePlan, LiesOn, OutsideStands};
 ghost use Rattle.fl_script.specs.Written.{Written};
 ghost use Rattle.fl_table.specs.Causes.{put_breaks};
 ghost use Rattle.fl_store.specs.Tables.{IsNamed, entries_with};
@@ -59,6 +59,7 @@ pub(crate) fn load<F: Flash>(
     ensures lies { LiesOn table.new (F.state flash.new) }
     ensures goes { Goes (F.state flash.old) (F.state flash.new) }
     ensures reads { (F.state flash.new).work.reads ≡ (F.state flash.old).work.reads }
+    ensures media_reads { (F.state flash.new).media.reads ≤ (F.state flash.old).media.reads + (result.count + 1) * rings_in table.old }
     ensures running { is_running table.new ≡ (is_running table.old && not (put_breaks result.outcome)) }
     ensures same { IsSamePlan table.old table.new }
     ensures counted { LoadCounts count result.count result.outcome }

@@ -36,7 +36,7 @@ asked-same ask none (was ∷ old) [] many each at = absurd (omega (arith, many))
 asked-same ask none (was ∷ old) (now ∷ new) many each zero = each 0 was now refl refl
 asked-same ask none (was ∷ old) (now ∷ new) many each (suc at) = asked-same ask none old new (omega (arith, many)) (λ i. each (suc i)) at
 
-data-same : (old new : Option VarData) → variable.AreSamePlan old new → is_some new ≡ is_some old
+pub data-same : (old new : Option VarData) → variable.AreSamePlan old new → is_some new ≡ is_some old
 data-same None None same = refl
 data-same None (Some new) same = absurd same
 data-same (Some old) None same = absurd same

@@ -9,11 +9,12 @@ use Rattle.fl_session.proofs.Sound.{put-stays}
 use Rattle.fl_session.proofs.LoadPuts.{LoadedSoFar, loaded-none, loaded-more, ends-next, ends-done, load-finished, load-stopped, rose-risen}
 use Rattle.fl_store.proofs.Risen.{has_risen}
 use Rattle.fl_session.proofs.LoadLines.{unbroken}
+use Rattle.fl_session.proofs.LoadReads.{media-all, media-more}
 use Rattle.std.proofs.Math.Bool.{and-true}
 use Rattle.fl_table.specs.Causes.{put_breaks}
 use Rattle.fl_table.specs.Look.{last_key_in, layout_in}
 use Rattle.fl_table.specs.declared.table.Table.{Table}
-use Rattle.fl_rlc.specs.Table.{is_running}
+use Rattle.fl_rlc.specs.Table.{is_running, rings_in}
 use Rattle.fl_session.proofs.load.load.Goals as goal
 
 pub loop-loaded-init : goal.loop-loaded-init
@@ -23,6 +24,7 @@ loop-loaded-init g c = record {
   goes = goes-same _;
   power = λ on. on;
   unread = refl;
+  media_reads = omega arith;
   makes = subst (λ (t : Table 64 64). StandsBefore (layout_in t).columns c.args.seed 1 c.new-records.result) c.table.ensures c.new-records.ensures.stands;
   step_is = c.new-records.ensures.step;
   same = same-plan c.args.table.now;
@@ -57,6 +59,7 @@ loop-loaded-preserved g c =
       goes = goes-on _ _ _ i.goes p.goes;
       power = λ on. when-ok (m.is_on ≡ true → n.is_on ≡ true) c.put-outcome.result (sym c.is_err.ensures.value ∙ c.if-is_err.false) p.power (i.power on);
       unread = p.reads ∙ i.unread;
+      media_reads = media-more c.args.table.now c.loop-loaded.table f.media.reads m.media.reads n.media.reads c.loop-loaded.loaded i.same i.media_reads p.media_reads;
       makes = subst (λ (l : RowLayout). StandsBefore l.columns c.args.seed (c.loop-loaded.loaded + 1 + 1) c.next-record.new.self) (sym p.same.table.layout) (c.next-record.ensures.stands _ _ _ i.makes);
       step_is = c.next-record.ensures.step ∙ i.step_is;
       same = same-on _ _ _ i.same p.same;
@@ -116,3 +119,13 @@ returns-clause-power g c = λ goes. c.loop-loaded.invariant.power
 pub returns-then-is_err-clause-power : goal.returns-then-is_err-clause-power
 returns-then-is_err-clause-power g c = λ goes on.
     put-stays c.loop-loaded.table c.put-outcome.new.self _ _ c.put-outcome.result c.put-outcome.ensures.power c.put-outcome.ensures.refused goes (c.loop-loaded.invariant.power on)
+
+pub returns-then-is_err-clause-media_reads : goal.returns-then-is_err-clause-media_reads
+returns-then-is_err-clause-media_reads g c =
+    media-more c.args.table.now c.loop-loaded.table (g.F.Flash.state c.args.flash.now).media.reads (g.F.Flash.state c.loop-loaded.flash).media.reads (g.F.Flash.state c.put-outcome.new.flash).media.reads c.loop-loaded.loaded
+    c.loop-loaded.invariant.same c.loop-loaded.invariant.media_reads c.put-outcome.ensures.media_reads
+
+pub returns-clause-media_reads : goal.returns-clause-media_reads
+returns-clause-media_reads g c =
+    let all : c.loop-loaded.loaded ≡ c.args.count = omega arith in
+    media-all (rings_in c.args.table.now) (g.F.Flash.state c.args.flash.now).media.reads (g.F.Flash.state c.loop-loaded.flash).media.reads c.loop-loaded.loaded c.args.count all c.loop-loaded.invariant.media_reads

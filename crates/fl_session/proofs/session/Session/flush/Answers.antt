@@ -61,6 +61,7 @@ returns-clause-cause g c =
           begins = c.flush-outcome.ensures.begins;
           power = c.flush-outcome.ensures.power;
           off = c.flush-outcome.ensures.off runs;
+          media_reads = c.flush-outcome.ensures.media_reads;
         },
       );
     }

@@ -47,5 +47,6 @@ returns-clause-cause g c =
         leaves = record { now = c.load-loaded.new.table; same = c.load-loaded.ensures.same; entries = refl; mounted = ap not c.put_breaks.ensures; notes = refl; unread = c.load-loaded.ensures.reads; outside = c.load-loaded.ensures.outside };
         fails = c.load-loaded.ensures.fails;
         power = c.load-loaded.ensures.power;
+        media_reads = c.load-loaded.ensures.media_reads;
       },
     )
