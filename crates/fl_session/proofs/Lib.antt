@@ -31,6 +31,7 @@ pub mod BlobLines
 pub mod BlobNotes
 pub mod LoadedValues
 pub mod LoadReads
+pub mod LoadsInTurn
 pub mod LoadPuts
 pub mod RowLines
 pub mod Few

@@ -1,5 +1,5 @@
 -- What a command answers and leaves, and why, over any bytes and on any medium.
-use Rattle.std.specs.Prelude.{◌≡◌, ◌⊎◌, ℕ, ◌+◌, ◌-◌, ◌*◌, ◌<◌, ◌≤◌, min, unwrap_or, ◌++◌, Bool, true, false, not, is_ok, IsTrue, Option, None, Some, option_map, Result, Ok, Err, OnOk, IfErr, List, [], ◌∷◌, length, slice_get, ℤ}
+use Rattle.std.specs.Prelude.{◌≡◌, ◌⊎◌, ℕ, ◌+◌, ◌-◌, ◌*◌, ◌<◌, ◌≤◌, min, ◌++◌, Bool, true, false, not, is_ok, IsTrue, Option, None, Some, option_map, Result, Ok, Err, OnOk, IfErr, List, [], ◌∷◌, length, slice_get, ℤ}
 use Rattle.fl_base.specs.declared.types.CutKind.{CutKind}
 use Rattle.fl_base.specs.declared.types.KeyRange.{KeyRange}
 use Rattle.fl_base.specs.declared.types.Span.{Span}
@@ -8,7 +8,7 @@ use Rattle.fl_flash.specs.Flash.{FlashState, page_at}
 use Rattle.fl_flash.specs.declared.flash.FlashFault.{FlashFault}
 use Rattle.fl_flash.specs.declared.flash.FlashFault.TheVariants.{PowerLost}
 use Rattle.fl_flash.specs.declared.tear.Tear.TheVariants.{Kind}
-use Rattle.fl_machine.specs.Step.{cost_reply, load_values}
+use Rattle.fl_machine.specs.Step.{cost_reply}
 use Rattle.fl_model.specs.Row.{Row}
 use Rattle.fl_page.specs.Contents.{OnlyReads}
 use Rattle.fl_page.specs.declared.fault.BadPage.{BadPage}
@@ -46,7 +46,7 @@ use Rattle.fl_session.specs.Asked.{lacked_column}
 use Rattle.fl_session.specs.BlobSays.{BlobSays, MayBeBadFor}
 use Rattle.fl_session.specs.Cost.{cost_of}
 use Rattle.fl_session.specs.ListSays.{EndsNext, EndsOn, EndsOnBoth, IsFields, IsGroup, IsPair, IsRow, ListSays}
-use Rattle.fl_session.specs.Load.{load_key}
+use Rattle.fl_session.specs.LoadSays.{LoadFails, PutsRecords}
 use Rattle.fl_session.specs.Notes.{with_cursor, without_cursors}
 use Rattle.fl_session.specs.declared.cost.Cost.TheVariants.{OfGet, OfScan}
 use Rattle.fl_session.specs.declared.notes.Notes.{Notes}
@@ -288,21 +288,15 @@ abbrev pub LoadCounts : ℕ → ℕ → Result (Unit {0}) PutRefusal → Type 0
 LoadCounts asked count (Ok done) = count ≡ asked
 LoadCounts asked count (Err refusal) = count < asked
 
--- A fault of the flash has its cause. Any other refusal is the one that the table has now for the next record, whose key is the
--- last one's and a step that a pseudo-random number gives.
-abbrev pub LoadFails : LoggedTable 64 64 → FlashState → FlashState → ℕ → ℕ → ℕ → PutRefusal → Type 0
-LoadFails t f g step seed count (put.Flash fault) = CausedBy f fault g
-LoadFails t f g step seed count refusal = (random : ℕ) ×
-    (put_refusal t (load_key (unwrap_or (last_key_in (table_in t)) 0) step random) (load_values (count + 1) seed 1 (layout_in (table_in t)).columns) None ≡ Some refusal)
-
--- a load tells how many records were put, and why the next one wasn't
+-- a load puts its records one after another, and tells how many were put, and why the next one wasn't
 pub record LoadSays {E : Type 0} (old new : State) (asked step seed at : ℕ) (entry : Entry) (told told_now : Option (List ℕ)) (result : Result (Unit {0}) E) : Type 0 where
   pub count : ℕ
   pub outcome : Result (Unit {0}) PutRefusal
   pub written : Written told told_now result (texts (load_replies count outcome))
   pub counted : LoadCounts asked count outcome
   pub leaves : LeavesTable old new at entry (put_breaks outcome)
-  pub fails : IfErr outcome (LoadFails leaves.now old.flash new.flash step seed count)
+  pub puts : PutsRecords step seed count entry.table old.flash outcome leaves.now new.flash
+  pub fails : IfErr outcome (LoadFails old.flash new.flash)
   pub power : put_breaks outcome ≡ false → old.flash.is_on ≡ true → new.flash.is_on ≡ true
   pub media_reads : new.flash.media.reads ≤ old.flash.media.reads + (count + 1) * rings_in entry.table
 

@@ -29,6 +29,7 @@ pub mod Nexts
 pub mod Standing
 pub mod TablesHold
 pub mod Load
+pub mod LoadSays
 pub mod Run
 pub mod Rows
 pub mod Listed
