@@ -47,29 +47,29 @@ pub runs-after : (old new breaks said : Bool) → old ≡ true → new ≡ (old 
 runs-after old new breaks said o e s n = e ∙ (ap (λ b. b && not breaks) o ∙ (ap not (sym s) ∙ n))
 
 -- .. and whether the power is on then: a fault of the flash breaks it off, and any other refusal leaves the flash as it is
-pub put-stays : (t u : LoggedTable 64 64) (f g : FlashState) (outcome : Result (Unit {0}) PutRefusal) → OnOk outcome (f.is_on ≡ true → g.is_on ≡ true) → IfErr outcome (λ e. RefusedSame t f e u g) → put_breaks outcome ≡ false → f.is_on ≡ true → g.is_on ≡ true
-put-stays t u f g (Ok done) power same goes on = power on
-put-stays t u f g (Err (put.Flash fault)) power same goes on = absurd (false≢true (sym goes))
-put-stays t u f g (Err (put.Key last)) power same goes on = ap (λ (x : FlashState). x.is_on) same.1 ∙ on
-put-stays t u f g (Err (put.Columns count)) power same goes on = ap (λ (x : FlashState). x.is_on) same.1 ∙ on
-put-stays t u f g (Err (put.Value column)) power same goes on = ap (λ (x : FlashState). x.is_on) same.1 ∙ on
-put-stays t u f g (Err (put.Blob limit)) power same goes on = ap (λ (x : FlashState). x.is_on) same.1 ∙ on
-put-stays t u f g (Err put.Spent) power same goes on = ap (λ (x : FlashState). x.is_on) same.1 ∙ on
-put-stays t u f g (Err put.Stopped) power same goes on = ap (λ (x : FlashState). x.is_on) same.1 ∙ on
+pub put-stays : (t u : LoggedTable 64 64) (f g : FlashState) → Goes f g → (outcome : Result (Unit {0}) PutRefusal) → OnOk outcome (f.is_on ≡ true → g.is_on ≡ true) → IfErr outcome (λ e. RefusedSame t f e u g) → put_breaks outcome ≡ false → f.is_on ≡ true → g.is_on ≡ true
+put-stays t u f g all (Ok done) power same goes on = power on
+put-stays t u f g all (Err (put.Flash fault)) power same goes on = absurd (false≢true (sym goes))
+put-stays t u f g all (Err (put.Key last)) power same goes on = ap (λ (x : FlashState). x.is_on) same.1 ∙ on
+put-stays t u f g all (Err (put.Columns count)) power same goes on = ap (λ (x : FlashState). x.is_on) same.1 ∙ on
+put-stays t u f g all (Err (put.Value column)) power same goes on = ap (λ (x : FlashState). x.is_on) same.1 ∙ on
+put-stays t u f g all (Err (put.Blob limit)) power same goes on = ap (λ (x : FlashState). x.is_on) same.1 ∙ on
+put-stays t u f g all (Err put.Spent) power same goes on = ap (λ (x : FlashState). x.is_on) same.1 ∙ on
+put-stays t u f g all (Err put.Stopped) power same goes on = ap (λ (x : FlashState). x.is_on) same.1 ∙ on
 
-pub flush-stays : (f g : FlashState) (running : Bool) (outcome : Result (Unit {0}) FlushFault) → running ≡ true → ((outcome ≡ Err flush.Stopped) ↔ (running ≡ false)) → OnOk outcome (f.is_on ≡ true → g.is_on ≡ true) → flush_breaks outcome ≡ false → f.is_on ≡ true → g.is_on ≡ true
-flush-stays f g running (Ok done) runs exact power goes on = power on
-flush-stays f g running (Err (flush.Flash fault)) runs exact power goes on = absurd (false≢true (sym goes))
-flush-stays f g running (Err flush.Stopped) runs exact power goes on = absurd (false≢true (sym (exact.0 refl) ∙ runs))
+pub flush-stays : (f g : FlashState) (running : Bool) → Goes f g → (outcome : Result (Unit {0}) FlushFault) → running ≡ true → ((outcome ≡ Err flush.Stopped) ↔ (running ≡ false)) → OnOk outcome (f.is_on ≡ true → g.is_on ≡ true) → flush_breaks outcome ≡ false → f.is_on ≡ true → g.is_on ≡ true
+flush-stays f g running all (Ok done) runs exact power goes on = power on
+flush-stays f g running all (Err (flush.Flash fault)) runs exact power goes on = absurd (false≢true (sym goes))
+flush-stays f g running all (Err flush.Stopped) runs exact power goes on = absurd (false≢true (sym (exact.0 refl) ∙ runs))
 
-pub stays-on : (said breaks : Bool) (f g : FlashState) → said ≡ breaks → (breaks ≡ false → f.is_on ≡ true → g.is_on ≡ true) → f.is_on ≡ true → not said ≡ true → g.is_on ≡ true
-stays-on true breaks f g is stays on n = absurd (false≢true n)
-stays-on false breaks f g is stays on n = stays (sym is) on
+pub stays-on : (said breaks : Bool) (f g : FlashState) → Goes f g → said ≡ breaks → (breaks ≡ false → f.is_on ≡ true → g.is_on ≡ true) → f.is_on ≡ true → not said ≡ true → g.is_on ≡ true
+stays-on true breaks f g all is stays on n = absurd (false≢true n)
+stays-on false breaks f g all is stays on n = stays (sym is) on
 
 -- .. and after a mount
 when-mounted : (P : Type 0) (outcome : Result (Unit {0}) BadMount) (now : Bool) → now ≡ is_ok outcome → OnOk outcome P → now ≡ true → P
-when-mounted P (Ok done) now is h yes = h
-when-mounted P (Err bad) now is h yes = absurd (false≢true (sym is ∙ yes))
+when-mounted P (Ok done) now is h mounts = h
+when-mounted P (Err bad) now is h mounts = absurd (false≢true (sym is ∙ mounts))
 
 pub sound-mounted : (entries entries' : List Entry) (f on g : FlashState) (buf buf' : Buffers) (mounted now : Bool) (notes notes' : Notes) (outcome : Result (Unit {0}) BadMount) → on ≡ record f { is_on = true } → Goes on g → LieOn entries' g → now ≡ is_ok outcome →
     OnOk outcome (AreRunning entries') → OnOk outcome (on.is_on ≡ true → g.is_on ≡ true) → length buf'.rows.bytes ≡ length buf.rows.bytes → length buf'.index.bytes ≡ length buf.index.bytes →
@@ -79,7 +79,7 @@ sound-mounted entries entries' f on g buf buf' mounted now notes notes' outcome 
   lie = lie;
   room = subst (λ (x : Geometry). HasRooms buf' x.page) (sym (goes.geometry ∙ ap (λ (x : FlashState). x.geometry) up)) (rows ∙ s.room.0, index ∙ s.room.1, right.0 ∙ s.room.2, right.1 ∙ s.room.3);
   running = when-mounted (AreRunning entries') outcome now is running;
-  power = λ yes. when-mounted (on.is_on ≡ true → g.is_on ≡ true) outcome now is power yes (ap (λ (x : FlashState). x.is_on) up);
+  power = λ mounts. when-mounted (on.is_on ≡ true → g.is_on ≡ true) outcome now is power mounts (ap (λ (x : FlashState). x.is_on) up);
   forgotten = forgotten;
   cursors = λ i c e. absurd (closed i c e);
 }

@@ -147,7 +147,7 @@ returns-clause-power g c = λ goes. c.loop-loaded.invariant.power
 
 pub returns-then-is_err-clause-power : goal.returns-then-is_err-clause-power
 returns-then-is_err-clause-power g c = λ goes on.
-    put-stays c.loop-loaded.table c.put-outcome.new.self _ _ c.put-outcome.result c.put-outcome.ensures.power c.put-outcome.ensures.refused goes (c.loop-loaded.invariant.power on)
+    put-stays c.loop-loaded.table c.put-outcome.new.self _ _ c.put-outcome.ensures.goes c.put-outcome.result c.put-outcome.ensures.power c.put-outcome.ensures.refused goes (c.loop-loaded.invariant.power on)
 
 pub returns-then-is_err-clause-media_reads : goal.returns-then-is_err-clause-media_reads
 returns-then-is_err-clause-media_reads g c =

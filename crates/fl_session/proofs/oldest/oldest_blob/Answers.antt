@@ -85,9 +85,8 @@ pub returns-in-Err-Flash-clause-cause : goal.returns-in-Err-Flash-clause-cause
 returns-in-Err-Flash-clause-cause g c = (c.in-Err-Flash.field-0-0, rw c.in-Err-Flash.field-0-is at c.in-Err-Flash.ensures.cause)
 
 pub returns-in-Err-BadPage-clause-cause : goal.returns-in-Err-BadPage-clause-cause
-returns-in-Err-BadPage-clause-cause g c =
-    rw c.in-Err-BadPage.field-0-is (
-      c.in-Err-BadPage.bad,
-      refl,
-      subst (λ (t : Table 64 64). MayBeBad t (contents_of (g.F.Flash.state c.args.flash.now)) c.in-Err-BadPage.bad) c.begin-cursor.ensures.table (rw c.in-Err-BadPage.field-0-is at c.in-Err-BadPage.ensures.bad_page),
-    )
+returns-in-Err-BadPage-clause-cause g c = (
+  c.in-Err-BadPage.bad,
+  refl,
+  subst (λ (t : Table 64 64). MayBeBad t (contents_of (g.F.Flash.state c.args.flash.now)) c.in-Err-BadPage.bad) c.begin-cursor.ensures.table (rw c.in-Err-BadPage.field-0-is at c.in-Err-BadPage.ensures.bad_page),
+)

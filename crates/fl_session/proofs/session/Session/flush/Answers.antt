@@ -26,7 +26,7 @@ returns-clause-sound g c =
     let here : slice_get c.args.self.now.tables.entries.items c.in-Ok.at ≡ Some c.index_mut.result.now = reached-here c.args.self.now.tables.entries.items _ _ c.in-Ok.at c.index_mut.result.now c.in-Ok.ensures c.index_mut.ensures.value in
     sound-with c.args.self.now.tables.entries.items c.in-Ok.at c.index_mut.result.now _ _ _ _ _ _ _ _ here c.flush-outcome.ensures.goes c.flush-outcome.ensures.lies c.in-Ok.ensures.mounted_is
     (runs-after _ _ _ _ (c.requires.sound.running c.in-Ok.ensures.mounted_is c.in-Ok.at c.index_mut.result.now here) c.flush-outcome.ensures.running c.flush_breaks.ensures)
-    (stays-on _ _ _ _ c.flush_breaks.ensures (flush-stays _ _ _ c.flush-outcome.result (c.requires.sound.running c.in-Ok.ensures.mounted_is c.in-Ok.at c.index_mut.result.now here) c.flush-outcome.ensures.exact c.flush-outcome.ensures.power) (c.requires.sound.power c.in-Ok.ensures.mounted_is)) c.keep_while.ensures.rows c.keep_while.ensures.index c.keep_while.ensures.right c.keep_while.ensures.none c.requires.sound
+    (stays-on _ _ _ _ c.flush-outcome.ensures.goes c.flush_breaks.ensures (flush-stays _ _ _ c.flush-outcome.ensures.goes c.flush-outcome.result (c.requires.sound.running c.in-Ok.ensures.mounted_is c.in-Ok.at c.index_mut.result.now here) c.flush-outcome.ensures.exact c.flush-outcome.ensures.power) (c.requires.sound.power c.in-Ok.ensures.mounted_is)) c.keep_while.ensures.rows c.keep_while.ensures.index c.keep_while.ensures.right c.keep_while.ensures.none c.requires.sound
 
 pub returns-clause-step : goal.returns-clause-step
 returns-clause-step g c = λ config old h.

@@ -22,21 +22,21 @@ returns-clause-holds g c = λ config m h.
     sym (pending-some config m entries c.args.self.now.notes _ c.args.self.now.mounted c.args.at h c.index-entry.result.now c.table.result.now c.pending_rows-rows.result c.if-not-self.false here c.table.ensures c.pending_rows-rows.ensures.stands c.if-rows-eq0.false)
 
 pub returns-then-not-self-clause-cause : goal.returns-then-not-self-clause-cause
-returns-then-not-self-clause-cause g c = none-off _ c.args.at c.if-not-self.true
+returns-then-not-self-clause-cause g c = none-off c.args.self.now.tables.entries.items c.args.self.now.mounted c.args.at c.if-not-self.true
 
 pub returns-then-at-len-clause-cause : goal.returns-then-at-len-clause-cause
-returns-then-at-len-clause-cause g c = none-past _ c.args.at (omega (arith, c.len.ensures, c.if-at-len.true))
+returns-then-at-len-clause-cause g c = none-past c.args.self.now.tables.entries.items c.args.self.now.mounted c.args.at (omega (arith, c.len.ensures, c.if-at-len.true))
 
 pub returns-then-rows-eq0-clause-cause : goal.returns-then-rows-eq0-clause-cause
 returns-then-rows-eq0-clause-cause g c =
     let entries = c.args.self.now.tables.entries.items in
     let within : c.args.at < length entries = omega (arith, c.len.ensures, c.if-at-len.false) in
     let here : slice_get entries c.args.at ≡ Some c.index-entry.result.now = item-there entries (length entries) c.args.at c.index-entry.result.now refl within c.index-entry.ensures in
-    rows-none _ c.args.at c.index-entry.result.now c.table.result.now c.pending_rows-rows.result c.if-not-self.false here c.table.ensures c.pending_rows-rows.ensures.exact c.if-rows-eq0.true
+    rows-none c.args.self.now.tables.entries.items c.args.self.now.mounted c.args.at c.index-entry.result.now c.table.result.now c.pending_rows-rows.result c.if-not-self.false here c.table.ensures c.pending_rows-rows.ensures.exact c.if-rows-eq0.true
 
 pub returns-clause-cause : goal.returns-clause-cause
 returns-clause-cause g c =
     let entries = c.args.self.now.tables.entries.items in
     let within : c.args.at < length entries = omega (arith, c.len.ensures, c.if-at-len.false) in
     let here : slice_get entries c.args.at ≡ Some c.index-entry.result.now = item-there entries (length entries) c.args.at c.index-entry.result.now refl within c.index-entry.ensures in
-    rows-are _ c.args.at c.index-entry.result.now c.table.result.now c.pending_rows-rows.result c.if-not-self.false here c.table.ensures c.pending_rows-rows.ensures.exact c.if-rows-eq0.false
+    rows-are c.args.self.now.tables.entries.items c.args.self.now.mounted c.args.at c.index-entry.result.now c.table.result.now c.pending_rows-rows.result c.if-not-self.false here c.table.ensures c.pending_rows-rows.ensures.exact c.if-rows-eq0.false

@@ -1,12 +1,11 @@
-use Rattle.std.proofs.Common.{◌≡◌, Some, inl, inr, refl, subst}
+use Rattle.std.proofs.Common.{◌≡◌, Some, inl, inr, refl}
 use Rattle.std.specs.List.{slice_get}
 use Rattle.fl_session.proofs.GetReplies.{goes-reads}
 use Rattle.fl_session.proofs.LookingFor.{looks-refused, looks-there}
 use Rattle.fl_session.proofs.NamedTable.{reached-here, reached-within}
 use Rattle.fl_session.proofs.ReplyCauses.{is-here, only-looks}
 use Rattle.fl_session.proofs.Sound.{sound-roomed}
-use Rattle.fl_session.specs.Told.{OldestIn}
-use Rattle.fl_table.specs.declared.table.Table.{Table}
+use Rattle.fl_session.proofs.ToldOfTable.{oldest-told}
 use Rattle.fl_store.proofs.Queried.{lies-unlogged, runs-unlogged}
 use Rattle.fl_session.proofs.session.SessionExecutor.oldest_blob.Goals as goal
 
@@ -51,6 +50,6 @@ returns-clause-cause g c =
       c.in-Ok.at,
       c.index.result.now,
       is-here _ c.args.name c.in-Ok.at c.index.result.now c.in-Ok.ensures here,
-      subst (λ (t : Table 64 64). OldestIn t _ _ c.oldest_blob.result) c.table-table.ensures c.oldest_blob.ensures.cause,
+      oldest-told c.table-table.result.now c.index.result.now _ _ c.oldest_blob.result c.table-table.ensures c.oldest_blob.ensures.counts c.oldest_blob.ensures.cause,
       only-looks _ _ _ _ _ _ _ refl c.oldest_blob.ensures.counts,
     )
