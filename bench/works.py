@@ -192,15 +192,13 @@ def blobs(rows):
 
 
 def blobs_over_made(rows):
-    """The same rows without and with a blob of 100 random bytes each, over an image that was made before. A page of rows has five of blobs."""
+    """Rows with a blob of 100 random bytes each, into a new image and into one that was made before. A page of rows has five of blobs."""
     begin = (blob_table(rows, 100, 5), "mount")
     chance = random.Random(7)
+    put = script(*begin, *(f"put t {k} 1 blob {chance.randbytes(100).hex()}" for k in range(1, rows + 1)), "flush t")
     made = Work("an image for blobs", script(*begin), is_plain=False)
-    return [Work(f"put of {rows:,} rows without blobs over a made image",
-                 script(*begin, *(f"put t {k} 1" for k in range(1, rows + 1)), "flush t"), start=made, changes=True, is_plain=False),
-            Work(f"put of {rows:,} rows with blobs of 100 bytes over a made image",
-                 script(*begin, *(f"put t {k} 1 blob {chance.randbytes(100).hex()}" for k in range(1, rows + 1)), "flush t"),
-                 start=made, changes=True, is_plain=False)]
+    return [Work(f"put of {rows:,} rows with blobs of 100 bytes", put, is_plain=False),
+            Work("put of them into an image that was made before", put, start=made, changes=True, is_plain=False)]
 
 
 def tools(begin, loaded, readings):
