@@ -1,5 +1,5 @@
 -- Reads leave a table as it stands.
-use Rattle.std.proofs.Common.{◌≡◌, ℕ, ◌<◌, ◌^◌, ◌*◌, ◌+◌, Bool, true, false, Result, Err, List, length, take, drop, refl, sym, ◌∙◌, ap, subst, arith}
+use Rattle.std.proofs.Common.{◌≡◌, ℕ, ◌<◌, ◌≤◌, ◌^◌, ◌*◌, ◌+◌, ◌-◌, Bool, true, false, Option, Some, option_map, unwrap_or, Result, Err, List, length, take, drop, refl, sym, ◌∙◌, ap, subst, arith}
 use Rattle.fl_flash.specs.Buffer.{BufferState}
 use Rattle.fl_flash.specs.Flash.{FlashState, Goes, ReadsPage, page_at, pages}
 use Rattle.fl_flash.specs.Media.{next_count}
@@ -13,8 +13,11 @@ use Rattle.fl_model.specs.Table as model
 use Rattle.fl_model.specs.Table.{IndexRing, VarRing, lose}
 use Rattle.fl_flash.specs.declared.flash.FlashFault.TheVariants.{PowerLost, Media}
 use Rattle.fl_ring.specs.Looking.{OnlyReads, ReadFails}
+use Rattle.fl_ring.specs.Place.{next_of, oldest_of}
+use Rattle.fl_ring.specs.declared.ring.Ring.{Ring}
 use Rattle.fl_ring.proofs.ReadsInTurn.{no_reads, same_page}
-use Rattle.fl_table.specs.Memory.{LiesOn}
+use Rattle.fl_table.specs.Look.{oldest_in}
+use Rattle.fl_table.specs.Memory.{next_in, LiesOn}
 use Rattle.fl_table.specs.Pages.{place_in}
 use Rattle.fl_table.specs.Standing.{Stands}
 use Rattle.fl_table.specs.declared.table.Table.{Table}
@@ -128,3 +131,8 @@ read-goes f g reads =
 
 pub lies-read : {KNOTS SLOTS : ℕ} (t : Table KNOTS SLOTS) (f g : FlashState) → contents.OnlyReads f g → LiesOn t f → LiesOn t g
 lies-read t f g reads lies = lies-moved t f g (read-goes f g reads) lies
+
+-- no more pages are read than its ring keeps, and one
+pub most-kept : {KNOTS SLOTS : ℕ} (t : Table KNOTS SLOTS) (f g : FlashState) (ring : Ring) → t.ring ≡ Some ring → g.work.reads ≤ f.work.reads + (next_of ring - oldest_of ring) + 1 → g.work.reads ≤ f.work.reads + (next_in t - oldest_in t) + 1
+most-kept t f g ring is most =
+    subst (λ (o : Option Ring). g.work.reads ≤ f.work.reads + (unwrap_or (option_map (λ ring. next_of ring) o) 0 - unwrap_or (option_map (λ ring. oldest_of ring) o) 0) + 1) (sym is) most

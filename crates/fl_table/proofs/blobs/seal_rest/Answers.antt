@@ -1,4 +1,4 @@
-use Rattle.std.proofs.Common.{rules, ◌≡◌, ◌⊎◌, inl, inr, ℕ, List, [], ◌∷◌, length, Ok, Option, Some, refl, sym, ap, subst, arith}
+use Rattle.std.proofs.Common.{◌≡◌, ◌⊎◌, inl, inr, ℕ, List, [], ◌∷◌, length, Ok, Option, Some, refl, sym, ap, subst, arith}
 use Rattle.fl_table.specs.Blobs.{RestEndsOf}
 use Rattle.fl_table.proofs.BlobSteps.{rest-ends}
 use Rattle.fl_flash.specs.Flash.{OffChangesNothing}
@@ -12,7 +12,7 @@ returns-in-Some-clause-ends g c = λ first plan table rose device.
     let f = g.F.Flash.state c.args.flash.now in
     let h = g.F.Flash.state c.seal_rest.new.flash in
     let e = c.seal_rest.ensures in
-    let is : c.args.blobs.now ≡ Some c.in-Some.var = search rules in
+    let is : c.args.blobs.now ≡ Some c.in-Some.var = c.in-Some.is in
     subst (λ (o : Option VarData). RestEndsOf o f first plan table rose device c.seal_rest.result (Some c.seal_rest.new.self) h) (sym is)
     (λ watched stands. rest-ends c.in-Some.var c.seal_rest.new.self f h first plan table e.same stands rose device c.seal_rest.result (e.ends plan table rose device watched stands.in_pages))
 

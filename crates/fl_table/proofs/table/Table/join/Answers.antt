@@ -341,3 +341,22 @@ returns-clause-pending_stays g c = tt
 
 pub returns-clause-last_stays : goal.returns-clause-last_stays
 returns-clause-last_stays g c = tt
+
+few-left : (blobs : Option VarData) → variable.next_of blobs ≤ model.spent_from → variable.NumbersLeft blobs
+few-left None le = tt
+few-left (Some var) le = omega (arith, le)
+
+no-error : false ≡ true → ⊥
+no-error e = cc
+
+pub place-requires-clause-left : goal.place-requires-clause-left
+place-requires-clause-left g c = few-left c.args.self.now.blobs c.requires.blobs_left
+
+pub returns-in-Err-clause-quiet : goal.returns-in-Err-clause-quiet
+returns-in-Err-clause-quiet g c = λ few. absurd (no-error (c.in-Err.ensures.quiet few).0)
+
+pub returns-clause-quiet : goal.returns-clause-quiet
+returns-clause-quiet g c = λ few. (refl, (c.in-Ok.ensures.quiet few).1)
+
+pub returns-clause-pending : goal.returns-clause-pending
+returns-clause-pending g c = c.add.ensures.pending

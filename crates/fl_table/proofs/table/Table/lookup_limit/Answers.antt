@@ -1,8 +1,8 @@
-use Rattle.std.proofs.Common.{◌-◌, sym, ◌∙◌, ap}
+use Rattle.std.proofs.Common.{ℕ, ◌-◌, ◌≤◌, sym, ◌∙◌, ap, subst}
 use Rattle.fl_table.specs.Memory.{next_in}
 use Rattle.fl_table.proofs.Finds.{limit-pending, limit-told}
 use Rattle.fl_table.proofs.MemoryTells.{pages-is}
-use Rattle.fl_table.proofs.Sizes.{table-fits}
+use Rattle.fl_table.proofs.Sizes.{table-fits, index-fits}
 use Rattle.fl_table.proofs.table.Table.lookup_limit.Goals as goal
 
 pub returns : goal.returns
@@ -26,3 +26,9 @@ next_number-requires g c = table-fits g.row.KNOTS g.row.SLOTS c.args.self.now.fe
 
 pub oldest-requires : goal.oldest-requires
 oldest-requires g c = table-fits g.row.KNOTS g.row.SLOTS c.args.self.now.few_knots c.args.self.now.few_slots
+
+pub overflow_sub-pages : goal.overflow_sub-pages
+overflow_sub-pages g c = subst (λ (n : ℕ). n ≤ c.next_number.result) (sym c.oldest.ensures.exact) c.next_number.ensures.ordered
+
+pub lookup_limit-requires : goal.lookup_limit-requires
+lookup_limit-requires g c = index-fits g.row.KNOTS g.row.SLOTS c.args.self.now.few_knots c.args.self.now.few_slots

@@ -1,4 +1,4 @@
-use Rattle.std.proofs.Common.{arith, ◌*◌, ◌≡◌, ◌+◌, ◌-◌, Option, Err, IsTrue, sym, ◌∙◌, ap, subst, inr}
+use Rattle.std.proofs.Common.{arith, ◌*◌, ◌≡◌, ◌+◌, ◌-◌, Option, Err, IsTrue, sym, ◌∙◌, ap, subst, inr, is_some}
 use Rattle.std.proofs.lemmas.Result.{err_from_is_err_and, IfErr-weaker, IfOk-weaker}
 use Rattle.fl_flash.specs.Flash.{FlashState, page_at}
 use Rattle.std.specs.Option.{unwrap_or}
@@ -25,6 +25,8 @@ use Rattle.fl_table.proofs.IndexOfTable.{few-goes, none-is, none-there, still-fe
 use Rattle.fl_var.specs.declared.var_data.VarData.{VarData}
 use Rattle.fl_table.proofs.Sizes.{table-fits}
 use Rattle.fl_table.proofs.PowerOn.{on-then}
+use Rattle.fl_ring.specs.declared.ring.Ring.{Ring}
+use Rattle.fl_table.proofs.Untouched.{no-success}
 use Rattle.fl_table.proofs.table.Table.mount.Goals as goal
 
 pub returns-in_err-end-clause-ends : goal.returns-in_err-end-clause-ends
@@ -303,3 +305,61 @@ forget-requires g c = table-fits g.row.KNOTS g.row.SLOTS c.args.self.now.few_kno
 
 pub returns-clause-power : goal.returns-clause-power
 returns-clause-power g c = on-then (g.F.Flash.state c.args.flash.now) (g.F.Flash.state c.mount_bitmaps.new.flash) (g.F.Flash.state c.mount_rows.new.flash) c.mount_rows.result c.in_ok-end.ensures.power c.mount_rows.ensures.power
+
+pub returns-in_err-end-clause-goes : goal.returns-in_err-end-clause-goes
+returns-in_err-end-clause-goes g c = c.in_err-end.ensures.goes
+
+pub returns-in_err-end-clause-room : goal.returns-in_err-end-clause-room
+returns-in_err-end-clause-room g c = c.in_err-end.ensures.room
+
+pub returns-in_err-end-clause-holds : goal.returns-in_err-end-clause-holds
+returns-in_err-end-clause-holds g c = c.in_err-end.ensures.holds
+
+pub returns-in_err-end-clause-calm : goal.returns-in_err-end-clause-calm
+returns-in_err-end-clause-calm g c = c.forget.ensures.forgotten.calm
+
+pub returns-in_err-end-clause-none : goal.returns-in_err-end-clause-none
+returns-in_err-end-clause-none g c = c.forget.ensures.forgotten.none
+
+pub returns-in_err-end-clause-mounted : goal.returns-in_err-end-clause-mounted
+returns-in_err-end-clause-mounted g c =
+    let p = err_from_is_err_and c.from_residual.result c.from_residual.ensures.1 in
+    rw p.1 (ap (λ (o : Option Ring). is_some o) c.forget.ensures.forgotten.down)
+
+pub returns-in_err-end-clause-found : goal.returns-in_err-end-clause-found
+returns-in_err-end-clause-found g c = no-success _ _ c.from_residual.result c.from_residual.ensures.1
+
+pub returns-in_err-end-clause-power : goal.returns-in_err-end-clause-power
+returns-in_err-end-clause-power g c = no-success _ _ c.from_residual.result c.from_residual.ensures.1
+
+pub returns-in_err-end-clause-same : goal.returns-in_err-end-clause-same
+returns-in_err-end-clause-same g c =
+    let same = c.forget.ensures.same in
+    record {
+      geometry = same.geometry;
+      layout = same.layout;
+      place = same.place;
+      buckets = same.buckets;
+      error = same.error;
+      bitmaps = subst (λ (o : Option BitmapIndex). AreSamePlan o c.mount_bitmaps.new.bitmaps) c.forget.ensures.bitmaps c.in_err-end.ensures.same;
+      blobs = same.blobs;
+      limit = same.limit;
+    }
+
+pub returns-clause-lies : goal.returns-clause-lies
+returns-clause-lies g c = c.mount_rows.ensures.lies
+
+pub returns-clause-holds : goal.returns-clause-holds
+returns-clause-holds g c = c.mount_rows.ensures.holds
+
+pub returns-clause-mounted : goal.returns-clause-mounted
+returns-clause-mounted g c = c.mount_rows.ensures.mounted
+
+pub returns-clause-calm : goal.returns-clause-calm
+returns-clause-calm g c = c.mount_rows.ensures.calm
+
+pub returns-clause-none : goal.returns-clause-none
+returns-clause-none g c = c.mount_rows.ensures.none
+
+pub returns-clause-room : goal.returns-clause-room
+returns-clause-room g c = c.mount_rows.ensures.room ∙ c.in_ok-end.ensures.room
