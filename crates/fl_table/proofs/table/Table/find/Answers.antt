@@ -3,10 +3,11 @@ use Rattle.std.specs.Prelude.{IfSome, MatchOption}
 use Rattle.std.specs.Option.{IsSomeAnd}
 use Rattle.fl_model.specs.Spline.{is_pending_key}
 use Rattle.fl_base.specs.declared.types.Geometry.{Geometry}
-use Rattle.fl_table.specs.Finding.{Finds, FindsPending, IsRowAt, HoldsIts}
+use Rattle.fl_table.specs.Finding.{Finds, FindsPending, HasKeyAt, IsAnswered, IsRowAt, HoldsIts}
 use Rattle.fl_table.specs.declared.find.RowAt.{RowAt}
 use Rattle.fl_table.specs.declared.find.RowAt.TheVariants as at
-use Rattle.fl_table.proofs.Finds.{lookup-fails, holds-pages, finds-page, finds-fault, finds-pending, here-page, holds-page}
+use Rattle.fl_table.proofs.Finds.{answers-in_pages, answers-pending, key-in_page, key-pending, lookup-fails, holds-pages, finds-page, finds-fault, finds-pending, here-page, holds-page}
+use Rattle.fl_table.proofs.PendingKey.{found-stored}
 use Rattle.fl_table.proofs.Slots.{steps-model}
 use Rattle.fl_flash.specs.Buffer.{BufferState}
 use Rattle.fl_flash.specs.Flash.{FlashState}
@@ -34,7 +35,7 @@ returns-then-is_pending_key-clause-finds g c = λ first plan table tells stands.
     let e : c.map.result ≡ option_map at.Pending c.pending_place.result = mapped at.Pending c.pending_place.result c.map.result c.map.ensures.cases in
     subst (λ (o : Option RowAt). Finds g.row.KNOTS plan table c.args.key f.work.reads f.work.reads c.args.buf.now (Ok o)) (sym e)
     (finds-pending c.args.self.now f first plan table stands c.args.key f.work.reads f.work.reads c.args.buf.now c.pending_place.result
-    (sym (c.is_pending_key.ensures.stands f first plan table stands) ∙ c.if-is_pending_key.true) (c.pending_place.ensures.stands f first plan table stands))
+    (sym (c.is_pending_key.ensures.stands f first plan table stands) ∙ c.if-is_pending_key.true) (found-stored c.args.self.now f first plan table stands c.args.key c.pending_place.result c.pending_place.ensures.found))
 
 pub returns-in-Ok-clause-finds : goal.returns-in-Ok-clause-finds
 returns-in-Ok-clause-finds g c = λ first plan table tells stands.
@@ -101,7 +102,7 @@ returns-then-is_pending_key-clause-pending g c = λ first plan table stands is.
       refl,
       refl,
       subst (λ (o : Option RowAt). FindsPending plan table c.args.key c.args.buf.now (Ok o)) (sym e)
-          (finds-pending c.args.self.now f first plan table stands c.args.key 0 0 c.args.buf.now c.pending_place.result is (c.pending_place.ensures.stands f first plan table stands)).entry,
+          (finds-pending c.args.self.now f first plan table stands c.args.key 0 0 c.args.buf.now c.pending_place.result is (found-stored c.args.self.now f first plan table stands c.args.key c.pending_place.result c.pending_place.ensures.found)).entry,
     )
 
 pub returns-in-Ok-clause-lies : goal.returns-in-Ok-clause-lies
@@ -224,3 +225,42 @@ returns-in-Err-clause-most g c = most-kept c.args.self.now (g.F.Flash.state c.ar
 
 pub returns-in-Err-clause-counts : goal.returns-in-Err-clause-counts
 returns-in-Err-clause-counts g c = c.find.ensures.looks.reads
+
+-- ---- over any bytes
+
+pub returns-then-is_pending_key-clause-key : goal.returns-then-is_pending_key-clause-key
+returns-then-is_pending_key-clause-key g c =
+    let e : c.map.result ≡ option_map at.Pending c.pending_place.result = mapped at.Pending c.pending_place.result c.map.result c.map.ensures.cases in
+    subst (λ (o : Option RowAt). IfSome o (HasKeyAt c.args.self.now c.args.buf.now c.args.key)) (sym e) (key-pending c.args.self.now c.args.buf.now c.args.key c.pending_place.result c.pending_place.ensures.found)
+
+pub returns-in-Ok-clause-key : goal.returns-in-Ok-clause-key
+returns-in-Ok-clause-key g c =
+    let e : c.map-in-Ok.result ≡ option_map at.InPage c.in-Ok.found = mapped at.InPage c.in-Ok.found c.map-in-Ok.result c.map-in-Ok.ensures.cases in
+    subst (λ (o : Option RowAt). IfSome o (HasKeyAt c.args.self.now c.find.new.buf c.args.key)) (sym e) (key-in_page c.args.self.now c.find.new.buf c.args.key c.in-Ok.found c.in-Ok.ensures.row)
+
+pub returns-then-is_pending_key-clause-answers : goal.returns-then-is_pending_key-clause-answers
+returns-then-is_pending_key-clause-answers g c =
+    let e : c.map.result ≡ option_map at.Pending c.pending_place.result = mapped at.Pending c.pending_place.result c.map.result c.map.ensures.cases in
+    subst (λ (o : Option RowAt). IsAnswered c.args.self.now (g.F.Flash.state c.args.flash.now) c.args.key o) (sym e)
+    (record {
+      pending = λ is. answers-pending c.args.self.now c.args.buf.now c.args.key c.pending_place.result c.pending_place.ensures.found;
+      kept = λ is. absurd (no (sym is ∙ (sym c.is_pending_key.ensures.exact ∙ c.if-is_pending_key.true)));
+    })
+
+pub returns-in-Ok-clause-answers : goal.returns-in-Ok-clause-answers
+returns-in-Ok-clause-answers g c =
+    let e : c.map-in-Ok.result ≡ option_map at.InPage c.in-Ok.found = mapped at.InPage c.in-Ok.found c.map-in-Ok.result c.map-in-Ok.ensures.cases in
+    subst (λ (o : Option RowAt). IsAnswered c.args.self.now (g.F.Flash.state c.args.flash.now) c.args.key o) (sym e)
+    (record {
+      pending = λ is. absurd (no (sym c.if-is_pending_key.false ∙ (c.is_pending_key.ensures.exact ∙ is)));
+      kept = λ is. answers-in_pages c.args.self.now c.in-Some.ring (g.F.Flash.state c.args.flash.now) c.args.key c.in-Some.is c.in-Ok.found c.in-Ok.ensures.sound c.in-Ok.ensures.near c.in-Ok.ensures.far;
+    })
+
+pub returns-then-is_pending_key-clause-unread : goal.returns-then-is_pending_key-clause-unread
+returns-then-is_pending_key-clause-unread g c = λ is. (refl, refl, refl)
+
+pub returns-in-Ok-clause-unread : goal.returns-in-Ok-clause-unread
+returns-in-Ok-clause-unread g c = λ is. absurd (no (sym c.if-is_pending_key.false ∙ (c.is_pending_key.ensures.exact ∙ is)))
+
+pub returns-in-Err-clause-unread : goal.returns-in-Err-clause-unread
+returns-in-Err-clause-unread g c = λ is. absurd (no (sym c.if-is_pending_key.false ∙ (c.is_pending_key.ensures.exact ∙ is)))
