@@ -116,8 +116,8 @@ has-parts true covered e = cc
 has-parts false covered e = (refl, e)
 
 -- why the row isn't told
-pub look-said : (t : Table 64 64) (entry : Entry) (f g : FlashState) (said : Reply) → t ≡ table_in entry.table → LookSays t f g said → LookSays (table_in entry.table) f g said
-look-said t entry f g said is h = subst (λ (x : Table 64 64). LookSays x f g said) is h
+pub look-said : (t : Table 64 64) (entry : Entry) (key : ℕ) (f g : FlashState) (said : Reply) → t ≡ table_in entry.table → LookSays t key f g said → LookSays (table_in entry.table) key f g said
+look-said t entry key f g said is h = subst (λ (x : Table 64 64). LookSays x key f g said) is h
 
 pub reads-few : (t : Table 64 64) (entry : Entry) (f g : FlashState) → t ≡ table_in entry.table → OnlyReads f g → ReadsFew t f g → ReadsFew (table_in entry.table) f g
 reads-few t entry f g is only few = subst (λ (x : Table 64 64). ReadsFew x f g) is few

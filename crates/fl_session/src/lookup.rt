@@ -22,7 +22,7 @@ pub(crate) fn look_up<F: Flash>(table: &Table, key: u64, flash: &mut F, buf: &mu
     requires running { is_running table.now ≡ true }
     requires lies { LiesOn table.now (F.state flash.old) }
     requires room { length buf.old.bytes ≡ (F.state flash.old).geometry.page }
-    ensures cause { Says (reply_text result) (LookSays table.now (F.state flash.old) (F.state flash.new)) }
+    ensures cause { Says (reply_text result) (LookSays table.now key (F.state flash.old) (F.state flash.new)) }
     ensures few { ReadsFew table.now (F.state flash.old) (F.state flash.new) }
     ensures counts { OnlyReads (F.state flash.old) (F.state flash.new) }
     ensures lies { LiesOn table.now (F.state flash.new) }

@@ -149,11 +149,11 @@ module _ {KNOTS SLOTS : ℕ} (t : Table KNOTS SLOTS) (ring : Ring) (f : FlashSta
 
   pub answers-in_pages : (found : Option PageRow) →
       ((page : Option ℕ) → is_covered (knots_in t.index) key ≡ true → IsTrue f.media.tells → IsPageOf (first_on (layout_in t) (shape_of ring) f) (oldest_of ring) (window_end t.index (next_of ring) key) key page →
-          find.NoneIsBad (layout_in t) ring f (unwrap_or page (oldest_of ring)) (window_end t.index (next_of ring) key)) →
+      find.NoneIsBad (layout_in t) ring f (unwrap_or page (oldest_of ring)) (window_end t.index (next_of ring) key)) →
       ((page : Option ℕ) → is_covered (knots_in t.index) key ≡ true → IsTrue f.media.tells → IsPageOf (first_on (layout_in t) (shape_of ring) f) (oldest_of ring) (window_end t.index (next_of ring) key) key page →
-          IsOn (layout_in t) (shape_of ring) f key page found) →
+      IsOn (layout_in t) (shape_of ring) f key page found) →
       ((page : Option ℕ) → is_covered (knots_in t.index) key ≡ false → IsTrue f.media.tells → Ascends (first_on (layout_in t) (shape_of ring) f) (oldest_of ring) (next_of ring) →
-          IsPageOf (first_on (layout_in t) (shape_of ring) f) (oldest_of ring) (next_of ring) key page → IsOn (layout_in t) (shape_of ring) f key page found) →
+      IsPageOf (first_on (layout_in t) (shape_of ring) f) (oldest_of ring) (next_of ring) key page → IsOn (layout_in t) (shape_of ring) f key page found) →
       AnswersInPages t f key (option_map at.InPage found)
   answers-in_pages found sound near far = record {
     near = λ page told covered h.
