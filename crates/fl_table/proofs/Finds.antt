@@ -3,7 +3,7 @@ use Rattle.std.proofs.Common.{◌≡◌, ℕ, ◌+◌, ◌*◌, ◌<◌, ◌≤�
 use Rattle.std.specs.Prelude.{IfOk, IfSome, MatchOption, if◌then◌else◌, unwrap_or}
 use Rattle.std.specs.List.{slice_get}
 use Rattle.fl_find.specs.Index.{error_in, knots_in, most_reads, window_end}
-use Rattle.fl_find.specs.Looking.{IsSound, LookFails}
+use Rattle.fl_find.specs.Looking.{LookFails}
 use Rattle.fl_find.specs.Looking as find
 use Rattle.fl_find.specs.Pages.{first_key, first_on, rows_on, rows_where, Holds, IsBadPage, bytes_at}
 use Rattle.fl_find.specs.Rows.{RowsRise, HasKey, IsOn, LacksKey, LooksUp}
@@ -35,7 +35,6 @@ use Rattle.fl_ring.specs.declared.ring.Ring.{Ring}
 use Rattle.fl_schema.specs.Schema.{layout_of}
 use Rattle.fl_search.specs.Search.{Ascends, IsPageOf}
 use Rattle.fl_table.specs.Finding.{AnswersInPages, AnswersPending, EndsOn, Finds, HasKeyAt, IsRowAt, HoldsIts, HoldsKept, HasBadPage, LookupFails, first_at, rows_at as rows_of_page, window_in}
-use Rattle.fl_table.specs.Kept.{place_of}
 use Rattle.fl_table.specs.Look.{buffered_rows, layout_in, oldest_in}
 use Rattle.fl_table.specs.Memory.{next_in, IsPlanned, LiesOn}
 use Rattle.fl_table.specs.Standing.{Stands}

@@ -1,5 +1,5 @@
 -- The pending rows by their bytes, and whether a key is pending.
-use Rattle.std.proofs.Common.{◌≡◌, ℕ, Option, Some, None, option_map, List, [], length, drop, map, refl, sym, ◌∙◌, ap, subst}
+use Rattle.std.proofs.Common.{◌≡◌, ℕ, Option, Some, None, option_map, List, length, drop, map, sym, ◌∙◌, ap, subst}
 use Rattle.std.specs.Prelude.{MatchOption, nat_le, unwrap_or, false}
 use Rattle.std.specs.List.{slice_get}
 use Rattle.fl_find.specs.Rows.{RowsRise, HasKey, LacksKey}
