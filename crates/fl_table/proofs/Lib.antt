@@ -96,3 +96,4 @@ pub mod Slots
 pub mod Sizes
 pub mod Skips
 pub mod Entries
+pub mod Writing

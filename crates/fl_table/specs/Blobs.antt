@@ -1,6 +1,6 @@
 -- The variable data of a table, where it has any: the blobs of its records.
 use Rattle.std.specs.Prelude.{◌≡◌, ◌⊎◌, ℕ, ◌+◌, ◌-◌, ◌*◌, ◌/◌, ◌^◌, ◌<◌, ◌≤◌, Bool, true, ◌==◌, Result, Ok, Err, Option, Some, None, is_some, option_map, unwrap_or, List, [], length, slice_get, if◌then◌else◌}
-use Rattle.std.specs.Option.{ForSome}
+use Rattle.std.specs.Option.{ForSome, IsSomeAnd}
 use Rattle.fl_base.specs.declared.types.BlobRef.{BlobRef}
 use Rattle.fl_flash.specs.Flash.{FlashState}
 use Rattle.fl_flash.specs.declared.flash.FlashFault.{FlashFault}
@@ -148,6 +148,10 @@ PlaceEndsOf (Some var) old first plan item table rose device result (Some now) n
 abbrev pub StandOutside : Option VarData → (ℕ → List ℕ) → (ℕ → List ℕ) → Type 0
 StandOutside None old new = (page : ℕ) → new page ≡ old page
 StandOutside (Some var) old new = OutsideStands (var_shape var) old new
+
+-- the flash pages that a seal of it changes
+abbrev pub MaySeal : Option VarData → ℕ → Type 0
+MaySeal blobs page = IsSomeAnd blobs (λ var. memory.MaySeal var page)
 
 -- how many pages the ring has, and how many rings there are
 abbrev pub room_of : Option VarData → ℕ

@@ -13,6 +13,9 @@ use Rattle.fl_table.specs.Memory.{is_running}
 use Rattle.fl_table.specs.declared.faults.FlushFault.{FlushFault}
 use Rattle.fl_table.proofs.PutAnswers.{and-true}
 use Rattle.fl_table.proofs.Untouched.{at-most, and-false, no-ring, on-err, no-success}
+use Rattle.fl_ring.proofs.Written.{writes-none, writes-fewer}
+use Rattle.fl_table.specs.Memory.{MaySeal}
+use Rattle.fl_table.specs.Mounting.{rings_in}
 use Rattle.fl_table.proofs.table.Table.flush.Goals as goal
 
 pub returns-then-count-eq0-clause-ends : goal.returns-then-count-eq0-clause-ends
@@ -282,3 +285,29 @@ seal-requires g c =
 
 pub returns-in_err-seal-clause-pending_stays : goal.returns-in_err-seal-clause-pending_stays
 returns-in_err-seal-clause-pending_stays g c = on-err c.from_residual.result c.in_err-seal.ensures.pending_stays
+
+pub returns-then-not-is_running-clause-writes : goal.returns-then-not-is_running-clause-writes
+returns-then-not-is_running-clause-writes g c = writes-none (MaySeal c.args.self.now) (rings_in c.args.self.now) (g.F.Flash.state c.args.flash.now)
+
+pub returns-then-count-eq0-clause-writes : goal.returns-then-count-eq0-clause-writes
+returns-then-count-eq0-clause-writes g c = writes-none (MaySeal c.args.self.now) (rings_in c.args.self.now) (g.F.Flash.state c.args.flash.now)
+
+pub returns-in_err-seal-clause-writes : goal.returns-in_err-seal-clause-writes
+returns-in_err-seal-clause-writes g c = writes-fewer (MaySeal c.args.self.now) 0 (rings_in c.args.self.now) _ _ c.in_err-seal.ensures.writes
+
+pub returns-clause-writes : goal.returns-clause-writes
+returns-clause-writes g c = writes-fewer (MaySeal c.args.self.now) 1 (rings_in c.args.self.now) _ _ c.in_ok-seal.ensures.writes
+
+pub returns-then-not-is_running-clause-sealed : goal.returns-then-not-is_running-clause-sealed
+returns-then-not-is_running-clause-sealed g c = tt
+
+pub returns-then-count-eq0-clause-sealed : goal.returns-then-count-eq0-clause-sealed
+returns-then-count-eq0-clause-sealed g c = λ some. absurd (omega (arith, some, c.if-count-eq0.true, c.count.ensures))
+
+pub returns-in_err-seal-clause-sealed : goal.returns-in_err-seal-clause-sealed
+returns-in_err-seal-clause-sealed g c =
+    let p = err_from_is_err_and c.from_residual.result c.from_residual.ensures.1 in
+    rw p.1 tt
+
+pub returns-clause-sealed : goal.returns-clause-sealed
+returns-clause-sealed g c = λ some. c.in_ok-seal.ensures.writes

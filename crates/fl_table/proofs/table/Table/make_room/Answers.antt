@@ -14,6 +14,10 @@ use Rattle.fl_ring.proofs.ReadsInTurn.{goes_same}
 use Rattle.fl_table.proofs.SealAnswers.{plan-self}
 use Rattle.fl_table.specs.Memory.{HasRoom, next_in}
 use Rattle.fl_table.proofs.Untouched.{at-most, at-most-same, above, on-ok}
+use Rattle.fl_ring.specs.Written.{done}
+use Rattle.fl_ring.proofs.Written.{writes-none, writes-fewer}
+use Rattle.fl_table.specs.Memory.{MaySeal}
+use Rattle.fl_table.specs.Mounting.{rings_in}
 use Rattle.fl_table.proofs.table.Table.make_room.Goals as goal
 
 pub returns-then-not-is_full-clause-ends : goal.returns-then-not-is_full-clause-ends
@@ -214,3 +218,9 @@ returns-clause-next g c = on-ok c.seal.result (next_in c.seal.new.self ≡ next_
 pub returns-clause-room : goal.returns-clause-room
 returns-clause-room g c = on-ok c.seal.result (c.seal.new.self.writer.count ≡ 0) (HasRoom c.seal.new.self) (λ none.
     let u = c.seal.new.self in row-fits u.writer.count (layout_len (layout_of u.schema)) u.geometry.page (length u.writer.body) u.writer.end none u.rows_end u.page u.room_for_row) c.seal.ensures.empty
+
+pub returns-then-not-is_full-clause-writes : goal.returns-then-not-is_full-clause-writes
+returns-then-not-is_full-clause-writes g c = writes-none (MaySeal c.args.self.now) (rings_in c.args.self.now) (g.F.Flash.state c.args.flash.now)
+
+pub returns-clause-writes : goal.returns-clause-writes
+returns-clause-writes g c = writes-fewer (MaySeal c.args.self.now) (done c.seal.result) (rings_in c.args.self.now) _ _ c.seal.ensures.writes

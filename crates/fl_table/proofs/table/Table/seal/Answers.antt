@@ -18,6 +18,8 @@ use Rattle.fl_table.proofs.Sizes.{table-fits}
 use Rattle.fl_table.specs.Memory.{is_stopped, next_in}
 use Rattle.fl_var.specs.declared.var_data.VarData.{VarData}
 use Rattle.fl_table.proofs.Untouched.{on-ok, on-err, no-success}
+use Rattle.fl_ring.specs.Written.{done}
+use Rattle.fl_table.proofs.Writing.{index-writes, blob-writes, row-writes}
 use Rattle.fl_table.proofs.table.Table.seal.Goals as goal
 
 pub returns-in_err-seal_bitmaps-clause-ends : goal.returns-in_err-seal_bitmaps-clause-ends
@@ -322,3 +324,22 @@ returns-in_err-seal_bitmaps-clause-pending_stays g c = on-err c.from_residual.re
 
 pub returns-in_err-seal_blobs-clause-pending_stays : goal.returns-in_err-seal_blobs-clause-pending_stays
 returns-in_err-seal_blobs-clause-pending_stays g c = on-err c.from_residual-in_err-seal_blobs.result (c.in_err-seal_blobs.ensures.some ∙ c.in_ok-seal_bitmaps.ensures.some)
+
+pub returns-in_err-seal_bitmaps-clause-writes : goal.returns-in_err-seal_bitmaps-clause-writes
+returns-in_err-seal_bitmaps-clause-writes g c =
+    let p = err_from_is_err_and c.from_residual.result c.from_residual.ensures.1 in
+    let none : done c.from_residual.result ≡ 0 = ap (λ (x : Result (Unit {0}) FlashFault). done x) p.1 in
+    index-writes c.args.self.now (done c.from_residual.result) (g.F.Flash.state c.args.flash.now) (g.F.Flash.state c.seal_bitmaps.new.flash) (omega (arith, none)) c.in_err-seal_bitmaps.ensures.writes
+
+pub returns-in_err-seal_blobs-clause-writes : goal.returns-in_err-seal_blobs-clause-writes
+returns-in_err-seal_blobs-clause-writes g c =
+    let p = err_from_is_err_and c.from_residual-in_err-seal_blobs.result c.from_residual-in_err-seal_blobs.ensures.1 in
+    let none : done c.from_residual-in_err-seal_blobs.result ≡ 0 = ap (λ (x : Result (Unit {0}) FlashFault). done x) p.1 in
+    blob-writes c.args.self.now c.seal_bitmaps.new.self.blobs (done c.from_residual-in_err-seal_blobs.result) (g.F.Flash.state c.args.flash.now) (g.F.Flash.state c.seal_bitmaps.new.flash) (g.F.Flash.state c.seal_blobs.new.flash)
+    c.in_ok-seal_bitmaps.ensures.goes.tells c.in_ok-seal_bitmaps.ensures.blobs (omega (arith, none)) c.in_ok-seal_bitmaps.ensures.writes c.in_err-seal_blobs.ensures.writes
+
+pub returns-clause-writes : goal.returns-clause-writes
+returns-clause-writes g c =
+    row-writes c.args.self.now c.seal_bitmaps.new.self.blobs c.seal_blobs.new.self.ring (done c.seal_rows.result) (g.F.Flash.state c.args.flash.now) (g.F.Flash.state c.seal_bitmaps.new.flash) (g.F.Flash.state c.seal_blobs.new.flash) (g.F.Flash.state c.seal_rows.new.flash)
+    c.in_ok-seal_bitmaps.ensures.goes.tells (c.in_ok-seal_blobs.ensures.goes.tells ∙ c.in_ok-seal_bitmaps.ensures.goes.tells) c.in_ok-seal_bitmaps.ensures.blobs (c.in_ok-seal_blobs.ensures.ring ∙ c.in_ok-seal_bitmaps.ensures.ring)
+    c.in_ok-seal_bitmaps.ensures.writes c.in_ok-seal_blobs.ensures.writes c.seal_rows.ensures.writes

@@ -35,6 +35,7 @@ use Rattle.fl_model.specs.Record.{layout_len}
 use Rattle.fl_ring.specs.Place as place
 use Rattle.fl_table.proofs.Finds.{next-in}
 use Rattle.fl_table.proofs.Sizes.{table-fits, index-fits}
+use Rattle.fl_ring.proofs.Written.{held-writes}
 use Rattle.fl_table.proofs.table.Table.seal_rows.Goals as goal
 
 pub note-requires-clause-some : goal.note-requires-clause-some
@@ -438,3 +439,15 @@ unreachable-unreachable g c = c.unreachable.type_inv
 
 pub add_further-requires : goal.add_further-requires
 add_further-requires g c = index-fits g.row.KNOTS g.row.SLOTS c.args.self.now.few_knots c.args.self.now.few_slots
+
+pub returns-in-Err-clause-writes : goal.returns-in-Err-clause-writes
+returns-in-Err-clause-writes g c =
+    let t = c.args.self.now in
+    let has : t.ring ≡ Some c.in-Some.ring = sym c.take.ensures.value ∙ c.in-Some.is in
+    held-writes t.ring c.in-Some.ring 0 0 _ _ has (omega arith) c.in-Err.ensures.writes
+
+pub returns-clause-writes : goal.returns-clause-writes
+returns-clause-writes g c =
+    let t = c.args.self.now in
+    let has : t.ring ≡ Some c.in-Some.ring = sym c.take.ensures.value ∙ c.in-Some.is in
+    held-writes t.ring c.in-Some.ring 1 1 _ _ has (omega arith) c.in_default-seal.ensures.writes
