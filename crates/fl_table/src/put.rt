@@ -64,6 +64,7 @@ impl<const KNOTS: usize, const SLOTS: usize> Table<KNOTS, SLOTS> {
             → Stands self.old (F.state flash.old) first plan table → SealsEnd first plan (make_room_seals plan table) table rose device result self.new (F.state flash.old) (F.state flash.new) }
         ensures room { OnOk result (HasRoom self.new) }
         ensures quiet { HasRoom self.old → (result ≡ Ok tt) × (self.new ≡ self.old) × (F.state flash.new ≡ F.state flash.old) }
+        ensures full { OnOk result ((HasRoom self.old → ⊥) → (next_in self.new ≡ next_in self.old + 1) × (pending_in self.new ≡ 0)) }
         ensures running { OnOk result (is_running self.new ≡ true) }
         ensures last { last_key_in self.new ≡ last_key_in self.old }
         ensures pending_stays { OnErr result (pending_in self.new ≡ pending_in self.old) }
@@ -140,6 +141,7 @@ impl<const KNOTS: usize, const SLOTS: usize> Table<KNOTS, SLOTS> {
         ensures pending { OnOk result (pending_in self.new ≡ pending_in self.old + 1) }
         ensures last { OnOk result (last_key_in self.new ≡ Some key) }
         ensures rows { OnOk result (option_map (λ b. b.now) blob.entry ≡ None → (rows : List Row) → PendingAre self.old rows → PendingAre self.new (rows ++ (record { key = key; values = values.now; blob = None }) ∷ [])) }
+        ensures next { OnOk result (next_in self.new ≡ next_in self.old) }
         ensures running { OnOk result (is_running self.new ≡ true) }
         ensures calm { OnOk result (is_stopped self.new ≡ is_stopped self.old) }
         ensures stopped { OnErr result ((is_running self.new ≡ false) × (is_stopped self.new ≡ true)) }
@@ -190,6 +192,9 @@ impl<const KNOTS: usize, const SLOTS: usize> Table<KNOTS, SLOTS> {
         ensures pending { OnOk result (HasRoom self.old → pending_in self.new ≡ pending_in self.old + 1) }
         ensures last { OnOk result (last_key_in self.new ≡ Some key) }
         ensures rows { OnOk result (HasRoom self.old → option_map (λ b. b.now) blob.entry ≡ None → (rows : List Row) → PendingAre self.old rows → PendingAre self.new (rows ++ (record { key = key; values = values.now; blob = None }) ∷ [])) }
+        // A page that was full is sealed, and the record's row is the only one that is pending then.
+        ensures full { OnOk result ((HasRoom self.old → ⊥) → (next_in self.new ≡ next_in self.old + 1) × (pending_in self.new ≡ 1)) }
+        ensures first_row { OnOk result ((HasRoom self.old → ⊥) → option_map (λ b. b.now) blob.entry ≡ None → PendingAre self.new ((record { key = key; values = values.now; blob = None }) ∷ [])) }
         ensures power { OnOk result ((F.state flash.old).is_on ≡ true → (F.state flash.new).is_on ≡ true) }
         ensures off { put_refusal self.old key values.now (option_map (λ b. length b.now) blob.entry) ≡ None → (HasRoom self.old → variable.pages_for self.old.blobs (option_map (λ b. b.now) blob.entry) ≡ 0 → ⊥)
             → (F.state flash.old).is_on ≡ false → (result ≡ Err (PutRefusal.Flash FlashFault.PowerLost)) × (F.state flash.new ≡ F.state flash.old) }

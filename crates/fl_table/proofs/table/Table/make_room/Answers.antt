@@ -5,6 +5,7 @@ use Rattle.fl_model.specs.Table.{RingName, make_room_seals}
 use Rattle.fl_model.specs.Work.{Whole}
 use Rattle.fl_model.proofs.TableSeals.{full-room_seals, room-room_seals}
 use Rattle.fl_flash.specs.Flash.{page_at}
+use Rattle.fl_flash.specs.declared.flash.FlashFault.{FlashFault}
 use Rattle.fl_schema.specs.Schema.{layout_of}
 use Rattle.fl_table.specs.Outcomes.{SealsEnd}
 use Rattle.fl_table.proofs.PendingAndFull.{has-room, is-full}
@@ -224,3 +225,18 @@ returns-then-not-is_full-clause-writes g c = writes-none (MaySeal c.args.self.no
 
 pub returns-clause-writes : goal.returns-clause-writes
 returns-clause-writes g c = writes-fewer (MaySeal c.args.self.now) (done c.seal.result) (rings_in c.args.self.now) _ _ c.seal.ensures.writes
+
+pub returns-then-not-is_full-clause-full : goal.returns-then-not-is_full-clause-full
+returns-then-not-is_full-clause-full g c = λ full.
+    let t = c.args.self.now in
+    absurd (full (ltb-false (length t.writer.body) (t.writer.end + layout_len (layout_of t.schema)) (sym c.is_full.ensures.room ∙ c.if-not-is_full.true)))
+
+on-both : (result : Result (Unit {0}) FlashFault) (P Q R : Type 0) → (P → Q → R) → OnOk result P → OnOk result Q → OnOk result R
+on-both (Ok done) P Q R f p q = f p q
+on-both (Err e) P Q R f p q = tt
+
+pub returns-clause-full : goal.returns-clause-full
+returns-clause-full g c =
+    let t = c.args.self.now in
+    let u = c.seal.new.self in
+    on-both c.seal.result (next_in u ≡ next_in t + 1) (u.writer.count ≡ 0) ((HasRoom t → ⊥) → (next_in u ≡ next_in t + 1) × (u.writer.count ≡ 0)) (λ next none full. (next, none)) c.seal.ensures.next c.seal.ensures.empty

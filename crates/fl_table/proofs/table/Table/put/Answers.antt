@@ -1,4 +1,4 @@
-use Rattle.std.proofs.Common.{refl, ◌≡◌, ℕ, Bor, List, [], ◌∷◌, ◌++◌, Option, Some, None, Result, Ok, Err, length, option_map, not, ◌&&◌, ◌||◌, IsTrue, arith, sym, ◌∙◌, ap, subst, ◌+◌}
+use Rattle.std.proofs.Common.{refl, ◌≡◌, ℕ, Bor, List, [], ◌∷◌, ◌++◌, Option, Some, None, Result, Ok, Err, length, option_map, not, ◌&&◌, ◌||◌, IsTrue, arith, sym, ◌∙◌, ap, subst, ◌+◌, Bool, true, false, OnErr, ◌*◌, ◌≤◌}
 use Rattle.std.proofs.lemmas.Result.{err_from_is_err_and}
 use Rattle.fl_model.specs.Table.{after_seals, make_room_seals}
 use Rattle.fl_table.specs.Refusal.{put_refusal, RefusesAs}
@@ -15,7 +15,7 @@ use Rattle.fl_flash.specs.declared.flash.FlashFault.TheVariants.{PowerLost}
 use Rattle.fl_table.specs.declared.faults.PutRefusal.{PutRefusal}
 use Rattle.fl_table.specs.declared.faults.PutRefusal.TheVariants as put
 use Rattle.fl_table.proofs.PowerOff.{put-off}
-use Rattle.fl_model.specs.Record.{RowLayout}
+use Rattle.fl_model.specs.Record.{RowLayout, layout_len}
 use Rattle.fl_model.specs.Row.{FitsRow}
 use Rattle.fl_ring.proofs.ReadsInTurn.{goes_more, goes_same}
 use Rattle.fl_schema.specs.Schema.{layout_of}
@@ -29,6 +29,7 @@ use Rattle.fl_ring.proofs.Written.{writes-none}
 use Rattle.fl_table.specs.Memory.{MaySeal}
 use Rattle.fl_table.specs.Mounting.{rings_in}
 use Rattle.fl_table.proofs.Writing.{pages-none}
+use Rattle.fl_table.proofs.Writers.{gathers-none}
 use Rattle.fl_table.proofs.table.Table.put.Goals as goal
 
 pub returns-in-Some-clause-ends : goal.returns-in-Some-clause-ends
@@ -429,3 +430,33 @@ pub returns-clause-writes : goal.returns-clause-writes
 returns-clause-writes g c = λ none.
     subst (λ (f : FlashState). Writes (MaySeal c.args.self.now) 0 (rings_in c.args.self.now) (g.F.Flash.state c.args.flash.now) f)
     (sym (c.in_ok-join.ensures.quiet (ap (pages_for c.make_room.new.self.blobs) none ∙ pages-none c.make_room.new.self.blobs)).1) c.in_ok-make_room.ensures.writes
+
+pub returns-in-Some-clause-full : goal.returns-in-Some-clause-full
+returns-in-Some-clause-full g c = tt
+
+pub returns-in_err-make_room-clause-full : goal.returns-in_err-make_room-clause-full
+returns-in_err-make_room-clause-full g c = let p = err_from_is_err_and c.from_residual.result c.from_residual.ensures.1 in rw p.1 tt
+
+pub returns-in_err-join-clause-full : goal.returns-in_err-join-clause-full
+returns-in_err-join-clause-full g c = let p = err_from_is_err_and c.from_residual-in_err-join.result c.from_residual-in_err-join.ensures.1 in rw p.1 tt
+
+pub returns-in-Some-clause-first_row : goal.returns-in-Some-clause-first_row
+returns-in-Some-clause-first_row g c = tt
+
+pub returns-in_err-make_room-clause-first_row : goal.returns-in_err-make_room-clause-first_row
+returns-in_err-make_room-clause-first_row g c = let p = err_from_is_err_and c.from_residual.result c.from_residual.ensures.1 in rw p.1 tt
+
+pub returns-in_err-join-clause-first_row : goal.returns-in_err-join-clause-first_row
+returns-in_err-join-clause-first_row g c = let p = err_from_is_err_and c.from_residual-in_err-join.result c.from_residual-in_err-join.ensures.1 in rw p.1 tt
+
+pub returns-clause-full : goal.returns-clause-full
+returns-clause-full g c = λ full.
+    let sealed = c.in_ok-make_room.ensures.full full in
+    (c.in_ok-join.ensures.next ∙ sealed.0, c.in_ok-join.ensures.pending ∙ ap (λ n. n + 1) sealed.1)
+
+pub returns-clause-first_row : goal.returns-clause-first_row
+returns-clause-first_row g c = λ full none.
+    let u = c.make_room.new.self in
+    let empty : u.writer.count ≡ 0 = (c.in_ok-make_room.ensures.full full).1 in
+    let end : u.writer.end ≡ 16 + 0 * layout_len (layout_of u.schema) = u.rows_end ∙ ap (λ n. 16 + n * layout_len (layout_of u.schema)) empty in
+    c.in_ok-join.ensures.rows none [] (gathers-none (layout_of u.schema) u.writer empty (omega (arith, end)) u.blank_rest)
