@@ -1,6 +1,6 @@
 -- What a lookup in a table finds, and how many pages it reads.
-use Rattle.std.specs.Prelude.{◌≡◌, ℕ, ◌-◌, ◌<◌, ◌≤◌, nat_le, Bool, true, false, Option, Some, None, option_map, unwrap_or, List, IsTrue, length, Result, Ok, Err, slice_get, map}
-use Rattle.fl_find.specs.Index.{knots_in, shift_in, window_end}
+use Rattle.std.specs.Prelude.{◌≡◌, ℕ, ◌-◌, ◌<◌, ◌≤◌, nat_le, Bool, true, false, Option, Some, None, option_map, unwrap_or, List, IsTrue, length, Result, Ok, Err, slice_get, map, if◌then◌else◌}
+use Rattle.fl_find.specs.Index.{knots_in, most_reads, shift_in, window_end}
 use Rattle.fl_find.specs.Looking.{IsSound}
 use Rattle.fl_find.specs.Pages.{first_key, rows_on, IsBadPage}
 use Rattle.fl_find.specs.Rows.{RowsRise, LacksKey}
@@ -24,7 +24,7 @@ use Rattle.fl_radix.specs.Slots.{knots_in_slot, IsLeastShift}
 use Rattle.fl_ring.specs.Looking.{ReadFails}
 use Rattle.fl_search.specs.Search.{Ascends, IsPageOf, RoseBy, RoseSome}
 use Rattle.fl_table.specs.Kept.{place_of}
-use Rattle.fl_table.specs.Look.{buffered_rows, layout_in, oldest_in}
+use Rattle.fl_table.specs.Look.{buffered_rows, layout_in, oldest_in, voids_noted}
 use Rattle.fl_table.specs.Memory.{next_in, pending_in}
 use Rattle.fl_table.specs.declared.find.RowAt.{RowAt}
 use Rattle.fl_table.specs.declared.find.RowAt.TheVariants as at
@@ -127,6 +127,10 @@ first_at t f number = first_key (rows_at t f number)
 -- the number after the last page that is looked at for a covered key
 abbrev pub window_in : {KNOTS SLOTS : ℕ} → Table KNOTS SLOTS → ℕ → ℕ
 window_in t key = window_end t.index (next_in t) key
+
+-- the greatest number of reads of a lookup
+abbrev pub limit_in : {KNOTS SLOTS : ℕ} → Table KNOTS SLOTS → ℕ → ℕ
+limit_in t key = if is_pending_in t key then 0 else most_reads t.index (next_in t - oldest_in t) (voids_noted t) key
 
 -- no page from one number to before another is bad
 abbrev pub NoneIsBad : {KNOTS SLOTS : ℕ} → Table KNOTS SLOTS → FlashState → ℕ → ℕ → Type 0

@@ -24,7 +24,7 @@ impl<const KNOTS: usize, const SLOTS: usize> Table<KNOTS, SLOTS> {
     ghost use Rattle.fl_model.specs.Record.{Plan};
     ghost use Rattle.fl_model.specs.Spline.{bits, is_pending_key, lookup_limit, page_at};
     ghost use Rattle.fl_model.specs.Table as model;
-    ghost use Rattle.fl_table.specs.Finding.{Finds, FindsPending, HasKeyAt, IsAnswered, IsRowAt, HoldsIts, HoldsKept, LookupFails, IsInSlot, is_pending_in, knots_near, row_in, row_of_place};
+    ghost use Rattle.fl_table.specs.Finding.{Finds, FindsPending, HasKeyAt, IsAnswered, IsRowAt, HoldsIts, HoldsKept, LookupFails, IsInSlot, is_pending_in, knots_near, limit_in, row_in, row_of_place};
     ghost use Rattle.fl_schema.specs.Schema.{layout_of_row, row_of};
     ghost use Rattle.fl_table.specs.Look.{layout_in, oldest_in};
     ghost use Rattle.fl_table.specs.Memory.{is_running, next_in, LiesOn};
@@ -32,6 +32,7 @@ impl<const KNOTS: usize, const SLOTS: usize> Table<KNOTS, SLOTS> {
 
     /// The greatest number of reads of `find`.
     pub fn lookup_limit(&self, key: u64) -> u64
+        ensures exact { result ≡ limit_in self.now key }
         ensures stands { (f : FlashState) → (first : ℕ) → (plan : Plan) → (table : model.Table) → Stands self.now f first plan table → result ≡ lookup_limit KNOTS plan table key }
     {
         if self.is_pending_key(key) {
