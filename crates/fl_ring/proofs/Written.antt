@@ -7,6 +7,7 @@ use Rattle.fl_flash.specs.Flash.{FlashState, page_at, OffChangesNothing, Program
 use Rattle.fl_flash.specs.Media.{next_count}
 use Rattle.fl_flash.specs.Tear.{armed_after}
 use Rattle.fl_flash.specs.declared.flash.FlashFault.{FlashFault}
+use Rattle.fl_flash.specs.declared.flash.FlashFault.TheVariants.{PowerLost}
 use Rattle.fl_flash.specs.declared.flash.Work.{Work}
 use Rattle.fl_ring.specs.Repairing.{ahead_first}
 use Rattle.fl_ring.specs.Place.{shape_of, next_of, oldest_of, LiesOn}
@@ -77,26 +78,32 @@ module _ (r : Shape) (next : ℕ) (due : Bool) (body : List ℕ) (old : FlashSta
   on-page : (page : ℕ) → page ≡ place r next → IsSealedBy r next due page
   on-page page e = inl e
 
-  ok-on : {T : Type 0} (f g : FlashState) (x : T) → OffChangesNothing f (Ok x) g → f.is_on ≡ true
-  ok-on f g x off = by_power f.is_on refl
+  ok-on : (f g : FlashState) → OffChangesNothing {T = Unit {0}} f (Ok tt) g → f.is_on ≡ true
+  ok-on f g off = by_power f.is_on refl
     where
+      never : ◌≡◌ {A = Result (Unit {0}) FlashFault} (Ok tt) (Err PowerLost) → ⊥
+      never k = cc
+
       by_power : (b : Bool) → f.is_on ≡ b → b ≡ true
       by_power true e = refl
-      by_power false e = absurd (off e).0
+      by_power false e = absurd (never (off e).0)
 
   few : (result : Result (Unit {0}) FlashFault) → done result ≤ 1
   few (Ok u) = omega arith
   few (Err e) = omega arith
 
   none-done : (result : Result (Unit {0}) FlashFault) → IsErr result → done result ≡ 0
-  none-done (Ok u) fails = absurd fails
+  none-done (Ok u) fails = absurd (no fails)
+    where
+      no : false ≡ true → ⊥
+      no e = cc
   none-done (Err e) fails = refl
 
   -- a body and a mark, of which the first one was done
   both-tried : (begun marked : FlashState) (result : Result (Unit {0}) FlashFault) → ProgramsPage old (place r next) 0 body (Ok tt) begun → ProgramsPage begun (place r next) (r.size - 8) (replicate 4 0) result marked →
       Tries (IsSealedBy r next due) 2 0 old marked
   both-tried begun marked result first then = tries-then (IsSealedBy r next due) 1 0 1 0 old begun marked first.goes.tells
-      (tries-wider (λ page. page ≡ place r next) (IsSealedBy r next due) 1 0 old begun on-page (program-tries old (place r next) 0 body (Ok tt) begun (ok-on old begun tt first.off) first))
+      (tries-wider (λ page. page ≡ place r next) (IsSealedBy r next due) 1 0 old begun on-page (program-tries old (place r next) 0 body (Ok tt) begun (ok-on old begun first.off) first))
       (tries-wider (λ page. page ≡ place r next) (IsSealedBy r next due) 1 0 begun marked on-page (program-tries begun (place r next) (r.size - 8) (replicate 4 0) result marked first.cause.on then))
 
   seal-last : (result : Result (Unit {0}) FlashFault) (new : FlashState) → SealsLast r next due body old result new → Writes (IsSealedBy r next due) (done result) 1 old new
@@ -117,7 +124,7 @@ module _ (r : Shape) (next : ℕ) (due : Bool) (body : List ℕ) (old : FlashSta
         most_erases = omega arith;
         tries = tries-then (IsSealedBy r next due) 2 0 0 1 old h.marked new (h.mark_then.goes.tells ∙ h.body_first.goes.tells) both
             (tries-wider (λ page. (ahead_first r (next + 1) ≤ page) × (page < ahead_first r (next + 1) + h.marked.geometry.block)) (IsSealedBy r next due) 0 1 h.marked new
-            (λ page k. inr (is, (k.0, subst (λ n. page < ahead_first r (next + 1) + n) per_block k.1)))
+            (λ page k. inr (is, k.0, subst (λ n. page < ahead_first r (next + 1) + n) per_block k.1))
             (erase-tries h.marked e.block (ahead_first r (next + 1)) result new h.mark_then.cause.on (ap (λ n. e.block * n) per_block ∙ e.at) e.erases));
       }
       by_due false is e = record {
