@@ -6,6 +6,7 @@ use Rattle.fl_flash.specs.Media.{MediaState}
 use Rattle.fl_flash.specs.declared.flash.FlashFault.TheVariants.{PowerLost, Media}
 use Rattle.fl_image.specs.declared.status.ToolStatus.{ToolStatus}
 use Rattle.fl_image.specs.declared.status.ToolStatus.TheVariants.{Done, InputRead, OutWrite, InputLong, NoMemory, NotImage, Device, BadImage, NoTable, BadInput, Unsound}
+use Rattle.fl_page.specs.declared.fault.BadPage as page
 use Rattle.fl_page.specs.declared.fault.ReadFault.TheVariants.{Flash, BadPage}
 use Rattle.fl_store.specs.FoundTable.{FindsNone}
 use Rattle.fl_store.specs.Named.{IsImageWith}
@@ -13,7 +14,7 @@ use Rattle.fl_store.proofs.FoundTables.{by-none}
 use Rattle.fl_store.proofs.MountStatuses.{by-flash}
 use Rattle.fl_export.specs.Ends.{StatusFits}
 use Rattle.fl_export.specs.Tables.{status_of, IsOfTable}
-use Rattle.fl_export.specs.Writing.{IfSink, IfUnread}
+use Rattle.fl_export.specs.Writing.{IfBadPage, IfSink, IfUnread}
 use Rattle.fl_export.specs.declared.fault.ExportFault.{ExportFault}
 use Rattle.fl_export.specs.declared.fault.ExportFault.TheVariants as fault
 
@@ -43,6 +44,13 @@ fault-place fault.NoMemory at table is = absurd (cc is)
 fault-place (fault.Sink failed) at table is = absurd (cc is)
 fault-place (fault.Read (Flash e)) at table is = by-flash (λ s. s ≡ BadImage table → at ≡ table) e (λ k. absurd (cc k)) (λ k. absurd (cc k)) is
 fault-place (fault.Read (BadPage bad)) at table is = cc is
+
+-- .. of which a page is bad
+pub fault-bad : (P : page.BadPage → Type 0) (e : ExportFault) (at table : ℕ) → status_of e at ≡ BadImage table → IfBadPage P e → (bad : page.BadPage) × P bad
+fault-bad P fault.NoMemory at table is h = absurd (cc is)
+fault-bad P (fault.Sink failed) at table is h = absurd (cc is)
+fault-bad P (fault.Read (Flash e)) at table is h = absurd (by-flash (λ s. s ≡ BadImage table → ⊥) e (λ k. cc k) (λ k. cc k) is)
+fault-bad P (fault.Read (BadPage bad)) at table is h = (bad, h)
 
 -- ---- over any bytes
 

@@ -15,6 +15,7 @@ use Rattle.fl_session.specs.Execute.{Around, IsReady, StandsAlike, RanAll, RanPa
 use Rattle.fl_session.specs.Loop.{Tail, TakesTail, TailTakes, lines_in, EndsCommands}
 use Rattle.fl_session.specs.Taken.{TakesLine, TakesBegin, IsUnended}
 use Rattle.fl_lines.specs.Taken.{HasTaken, TakesFew, begin_behind}
+use Rattle.fl_lines.proofs.LinesInTurn.{begin-fits}
 use Rattle.std.proofs.lemmas.List.Sums.{sum_by-append}
 use Rattle.fl_script.specs.declared.command.Command as code
 use Rattle.fl_session.specs.Run.{tail_of, RanFrom, RunsFrom, IsOfCommands}
@@ -204,10 +205,11 @@ tail-few knots text now number state left_now (first ∷ given) others left a sp
     let first_is : state.line ≡ first = same_head split in
     let behind : begin_behind (a.before ++ first ∷ given) ≡ begin_behind (a.before ++ state.line ∷ []) + begin_behind given =
     ap begin_behind (sym (append_assoc a.before (first ∷ []) given) ∙ ap (λ l. (a.before ++ l ∷ []) ++ given) (sym first_is)) ∙ sum_by-append (λ (l : List ℕ). length l + 1) (a.before ++ state.line ∷ []) given in
+    let fits = begin-fits most_bytes text (a.before ++ state.line ∷ []) state.closed state.most rest h.taken a.given h.within (omega (arith, h.few)) in
     record {
       taken = length a.given.begin + h.taken;
       within = omega (arith, h.within, ap length a.given.parts, length-append a.given.begin rest);
-      few = omega (arith, h.few, a.given.size, behind);
+      few = omega (arith, h.few, a.given.size, behind, fits);
       left = h.left ∙ ap Some (sym (ap (drop (length a.given.begin + h.taken)) a.given.parts ∙ drop-append-add a.given.begin rest h.taken));
     }
   where

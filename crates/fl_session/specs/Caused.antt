@@ -20,13 +20,12 @@ use Rattle.fl_rlc.specs.Table.{IsSamePlan, log_in, rings_in, table_in}
 use Rattle.fl_rlc.specs.declared.table.LoggedTable.{LoggedTable}
 use Rattle.fl_script.specs.Written.{Written}
 use Rattle.fl_ring.specs.Causes.{CausedBy}
-use Rattle.fl_table.specs.Causes.{MountCausedBy, flush_breaks, put_breaks}
+use Rattle.fl_table.specs.Causes.{flush_breaks, put_breaks}
 use Rattle.fl_table.specs.BlobAt.{data_in, has_blobs}
 use Rattle.fl_table.specs.Blobs.{most_pages}
 use Rattle.fl_table.specs.Finding.{IsAnswered, LookupFails, rows_at}
 use Rattle.fl_table.specs.Look.{buffered_rows, counts_in, last_key_in, layout_in, oldest_in}
 use Rattle.fl_table.specs.Memory.{next_in, pending_in, HasRoom, PendingAre}
-use Rattle.fl_table.specs.Mounting.{FewRepairs}
 use Rattle.fl_table.specs.Refusal.{RefusesAs}
 use Rattle.fl_table.specs.declared.faults.FlushFault.{FlushFault}
 use Rattle.fl_table.specs.declared.faults.FlushFault.TheVariants as flush
@@ -35,9 +34,9 @@ use Rattle.fl_table.specs.declared.faults.PutRefusal.TheVariants as put
 use Rattle.fl_table.specs.declared.find.RowAt.{RowAt}
 use Rattle.fl_table.specs.declared.find.RowAt.TheVariants as placed
 use Rattle.fl_table.specs.declared.table.Table.{Table}
-use Rattle.fl_store.specs.Mounting.{AreSameNames, AreSamePlans, AreUnlogged, MountsInTurn, OutsideStands, RefusesAt, rings_of, tried}
+use Rattle.fl_store.specs.MountsOver.{MountsOver}
 use Rattle.fl_store.specs.Replies.{flush_reply, put_reply}
-use Rattle.fl_store.specs.Tables.{AreRunning, Names, NonePending, StopsAt, entries_with}
+use Rattle.fl_store.specs.Tables.{Names, entries_with}
 use Rattle.fl_store.specs.declared.tables.BadMount.{BadMount}
 use Rattle.fl_store.specs.declared.tables.Entry.{Entry}
 use Rattle.fl_words.specs.Command.{Command, Nothing, Device, Table as TableOf, Mount, Off, Cut, Put, Flush, Get, Blob, Scan, Open, Next, Close, Select, Project, Agg, Join, Stat, Cost, Load}
@@ -118,22 +117,6 @@ abbrev pub NotesScan : State → State → Type 0
 NotesScan old new = OnlyLooks old new (record old.notes { cost = OfScan (reads_in old new) })
 
 -- ---- the commands
-
--- What a mount of tables found, why it failed, what it repaired and what it left alone. No table became another one; where all are
--- mounted, no row is pending.
-pub record MountsOver (old new : List Entry) (f : FlashState) (outcome : Result (Unit {0}) BadMount) (g : FlashState) : Type 0 where
-  pub found : OnOk outcome (IsTrue f.media.tells → MountsInTurn (length old) old new f g)
-  pub refused : IfErr outcome (λ bad. IsTrue f.media.tells → RefusesAt old new bad f g)
-  pub stops : IfErr outcome (λ bad. StopsAt old new bad)
-  pub cause : IfErr outcome (λ bad. MountCausedBy f bad.fault g)
-  pub running : OnOk outcome (AreRunning new)
-  pub none : OnOk outcome (NonePending new)
-  pub power : OnOk outcome (f.is_on ≡ true → g.is_on ≡ true)
-  pub as_many : length new ≡ length old
-  pub names : AreSameNames old new
-  pub same : AreSamePlans old new
-  pub repairs : AreUnlogged (tried outcome old) → FewRepairs (rings_of (tried outcome old)) f g
-  pub outside : IsTrue f.media.tells → OutsideStands (tried outcome old) (page_at f) (page_at g)
 
 -- the power goes on, and no cursor is open afterwards
 pub record MountsAll (old new : State) (said : Reply) : Type 0 where

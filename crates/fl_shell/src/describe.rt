@@ -8,7 +8,9 @@ ghost use Rattle.fl_machine.specs.Step.{Located, located};
 ghost use Rattle.fl_model.specs.Record.{Config as Configuration};
 ghost use Rattle.fl_plan.specs.Limits.{IsWithinLimits};
 ghost use Rattle.fl_plan.specs.Plan.{Label, blocks_in, plan_of_table, with_log};
+ghost use Rattle.fl_session.specs.Caused.{OnlyLooks};
 ghost use Rattle.fl_shell.specs.Beside.{AddsBlobs, TellsBeside, WritesTable};
+ghost use Rattle.fl_shell.specs.Caused.{WritesSome};
 ghost use Rattle.fl_shell.specs.Talk.{counts_text, held_in, key_line, ring_text, rings_text, sizes_text};
 ghost use Rattle.fl_shell.specs.Turning.{Describes};
 ghost use Rattle.fl_sizing.specs.Text.{figure_line};
@@ -157,6 +159,7 @@ fn add_blobs<E: Executor>(session: &mut E, name: Name, table: &TableConfig, text
     requires short { length text.old ≤ 300 }
     ensures sound { E.sound session.new }
     ensures goes { Goes (E.flash session.old) (E.flash session.new) }
+    ensures looks { OnlyLooks (E.state session.old) (E.state session.new) (E.state session.old).notes }
     ensures text { (label : Label) (config : Configuration) (m : Machine) (at : Located) → E.stands session.old config m → m.mounted ≡ true → located config m name ≡ Some at →
         AddsBlobs config m (plan_of_table label table.now) at.table (E.stands session.new config) (E.flash session.old) (E.flash session.new) text.old text.new }
 {
@@ -180,6 +183,7 @@ fn beside<E: Executor>(
     requires { E.sound session.old }
     ensures sound { E.sound session.new }
     ensures goes { Goes (E.flash session.old) (E.flash session.new) }
+    ensures looks { OnlyLooks (E.state session.old) (E.state session.new) (E.state session.old).notes }
     ensures tells { (label : Label) (config : Configuration) (m : Machine) → E.stands session.old config m →
         TellsBeside config m (with_log log_blocks (plan_of_table label table.now)) name (E.stands session.new config) (E.flash session.old) (E.flash session.new) result }
 {
@@ -204,6 +208,8 @@ fn write_table<E: Executor, K: Sink>(
     requires within { at < length config.now.plans }
     ensures sound { E.sound session.new }
     ensures goes { Goes (E.flash session.old) (E.flash session.new) }
+    ensures looks { OnlyLooks (E.state session.old) (E.state session.new) (E.state session.old).notes }
+    ensures told { WritesSome (K.written out.old) (K.written out.new) result }
     ensures text { (configured : Configuration) (m : Machine) → E.stands session.old configured m →
         IfSome (slice_get config.now.plans at) (λ plan. WritesTable configured m plan (E.stands session.new configured) (E.flash session.old) (E.flash session.new) (K.written out.old) (K.written out.new) result) }
     ensures cause { HasCause (K.faults out.old) (K.faults out.new) result }
@@ -228,6 +234,8 @@ pub(crate) fn describe<E: Executor, K: Sink>(
     requires whole { IsTrue (is_whole config.now) }
     ensures sound { E.sound session.new }
     ensures goes { Goes (E.flash session.old) (E.flash session.new) }
+    ensures looks { OnlyLooks (E.state session.old) (E.state session.new) (E.state session.old).notes }
+    ensures told { WritesSome (K.written out.old) (K.written out.new) result }
     ensures text { (configured : Configuration) (m : Machine) → Makes config.now configured → E.stands session.old configured m →
         Describes configured m (E.stands session.new configured) (E.flash session.old) (E.flash session.new) (K.written out.old) (K.written out.new) result }
     ensures cause { HasCause (K.faults out.old) (K.faults out.new) result }

@@ -29,6 +29,7 @@ pub mod InMemory
 pub mod Powering
 pub mod Making
 pub mod FoundTables
+pub mod Jobs
 pub mod MountEnds
 pub mod Others
 pub mod Failing

@@ -2,7 +2,7 @@ use Rattle.std.proofs.Common.{◌≡◌, inr, IsTrue, false, true, Some, length,
 use Rattle.std.specs.List.{slice_get}
 use Rattle.std.proofs.lemmas.Option.{slice_get_within}
 use Rattle.fl_image.specs.declared.status.ToolStatus.{ToolStatus}
-use Rattle.fl_image.specs.declared.status.ToolStatus.TheVariants.{OutWrite}
+use Rattle.fl_image.specs.declared.status.ToolStatus.TheVariants.{Done, OutWrite}
 use Rattle.fl_model.specs.Bare.{bare, bare_table}
 use Rattle.fl_table.specs.Memory.{is_running, LiesOn}
 use Rattle.fl_table.specs.Standing.{Stands}
@@ -17,6 +17,8 @@ use Rattle.fl_store.proofs.ImageRepairs.{repaired-read}
 use Rattle.fl_export.proofs.Statuses.{fault-rose, fault-place}
 use Rattle.fl_store.proofs.MountStatuses.{by-mount, mount-rose, mount-place}
 use Rattle.fl_store.proofs.Risen.{has_risen, watched}
+use Rattle.fl_store.specs.MountsOver.{MountsOver}
+use Rattle.fl_export.proofs.OverBytes.{bad-table, reads-over, refuses-over}
 use Rattle.fl_export.proofs.export.export_on.Goals as goal
 
 pub mount_status-requires : goal.mount_status-requires
@@ -112,3 +114,27 @@ pub returns-in-Err-write_table-clause-repairs : goal.returns-in-Err-write_table-
 returns-in-Err-write_table-clause-repairs g c = λ plans ts name tells on calm stand named well page lt.
     repaired-read plans (g.F.Flash.state c.args.flash.now).geometry page (g.F.Flash.state c.args.flash.now) (g.F.Flash.state c.mount.new.flash) (g.F.Flash.state c.write_table.new.flash) c.write_table.ensures.counts
     (c.in_default.ensures.repaired tells plans ts stand (inr (has_risen (g.F.Flash.state c.args.flash.now) (g.F.Flash.state c.mount.new.flash), at_rest, watched (g.F.Flash.state c.args.flash.now) (g.F.Flash.state c.mount.new.flash) at_rest tells on calm)) page lt)
+
+pub returns-in-Err-clause-over : goal.returns-in-Err-clause-over
+returns-in-Err-clause-over g c =
+    let e = c.mount.ensures in
+    let mounts : MountsOver c.args.tables.now.entries.items c.mount.new.self.entries.items (g.F.Flash.state c.args.flash.now) c.mount.result (g.F.Flash.state c.mount.new.flash) =
+    record { found = e.found; refused = e.refused; stops = e.stops; cause = e.cause; running = e.running; none = e.none; power = e.power; as_many = e.as_many; names = e.names; same = e.same; repairs = e.repairs; outside = e.outside } in
+    refuses-over _ _ _ _ c.mount.result mounts c.mount_status.result c.args.at c.in-Err.bad c.in-Err.is c.mount_status.ensures
+
+pub returns-in-Ok-clause-over : goal.returns-in-Ok-clause-over
+returns-in-Ok-clause-over g c =
+    let e = c.mount.ensures in
+    let mounts : MountsOver c.args.tables.now.entries.items c.mount.new.self.entries.items (g.F.Flash.state c.args.flash.now) c.mount.result (g.F.Flash.state c.mount.new.flash) =
+    record { found = e.found; refused = e.refused; stops = e.stops; cause = e.cause; running = e.running; none = e.none; power = e.power; as_many = e.as_many; names = e.names; same = e.same; repairs = e.repairs; outside = e.outside } in
+    reads-over _ _ _ _ c.mount.result mounts Done c.args.at (g.F.Flash.state c.write_table.new.flash) tt c.in_default.is c.write_table.ensures.counts (λ table is. absurd (cc is))
+
+pub returns-in-Err-write_table-clause-over : goal.returns-in-Err-write_table-clause-over
+returns-in-Err-write_table-clause-over g c =
+    let e = c.mount.ensures in
+    let mounts : MountsOver c.args.tables.now.entries.items c.mount.new.self.entries.items (g.F.Flash.state c.args.flash.now) c.mount.result (g.F.Flash.state c.mount.new.flash) =
+    record { found = e.found; refused = e.refused; stops = e.stops; cause = e.cause; running = e.running; none = e.none; power = e.power; as_many = e.as_many; names = e.names; same = e.same; repairs = e.repairs; outside = e.outside } in
+    let here : slice_get c.mount.new.self.entries.items c.args.at ≡ Some c.index.result.now =
+    item-there c.mount.new.self.entries.items (length c.mount.new.self.entries.items) c.args.at c.index.result.now refl (omega (arith, c.requires.at, c.mount.ensures.as_many)) c.index.ensures in
+    reads-over _ _ _ _ c.mount.result mounts c.status_of.result c.args.at (g.F.Flash.state c.write_table.new.flash) tt c.in_default.is c.write_table.ensures.counts
+    (λ table is. bad-table c.mount.new.self.entries.items c.args.at c.index.result.now c.table-table.result.now (g.F.Flash.state c.mount.new.flash) c.in-Err-write_table.fault c.status_of.result table here c.table-table.ensures c.status_of.ensures is c.in-Err-write_table.ensures.bad)

@@ -25,6 +25,11 @@ returns-in_err-header_line-clause-writes g c = λ first plan t tells stands.
           (subst (λ (l : List ℕ). AppendsFront (g.K.Sink.written c.args.out.now) (g.K.Sink.written c.header_line.new.out) l) head c.in_err-header_line.ensures.text),
     )
 
+pub returns-in_err-header_line-clause-bad : goal.returns-in_err-header_line-clause-bad
+returns-in_err-header_line-clause-bad g c =
+    let p = err_from_is_err_and c.from_residual.result c.from_residual.ensures.1 in
+    rw (p.1, p.2) tt
+
 pub returns-clause-writes : goal.returns-clause-writes
 returns-clause-writes g c = λ first plan t tells stands.
     let f = g.F.Flash.state c.args.flash.now in

@@ -15,6 +15,10 @@ use Rattle.fl_store.proofs.Changed.{own, own-works}
 use Rattle.fl_import.proofs.FlashEnds.{unmounted, imported}
 use Rattle.fl_import.proofs.ImageEnds.{as-end, mount-causes, mount-ended, mount-unread, of-mounted, table-bad, table-ended}
 use Rattle.fl_store.proofs.Others.{others-repaired}
+use Rattle.fl_store.specs.MountsOver.{MountsOver}
+use Rattle.fl_store.proofs.Jobs.{own-changes}
+use Rattle.fl_import.specs.Over.{ImportsOver}
+use Rattle.fl_import.proofs.OverBytes.{puts-over, refuses-over}
 use Rattle.fl_import.proofs.import.import_on.Goals as goal
 
 pub mount_status-requires : goal.mount_status-requires
@@ -132,3 +136,30 @@ returns-clause-form g c = refl
 
 pub returns-clause-formed : goal.returns-clause-formed
 returns-clause-formed g c = λ line is. refl
+
+pub returns-in-Err-clause-over : goal.returns-in-Err-clause-over
+returns-in-Err-clause-over g c =
+    let e = c.mount.ensures in
+    let entries = c.args.tables.now.entries.items in
+    let now = c.mount.new.self.entries.items in
+    let f = g.F.Flash.state c.args.flash.now in
+    let m = g.F.Flash.state c.mount.new.flash in
+    let mounts : MountsOver c.args.tables.now.entries.items c.mount.new.self.entries.items (g.F.Flash.state c.args.flash.now) c.mount.result (g.F.Flash.state c.mount.new.flash) =
+    record { found = e.found; refused = e.refused; stops = e.stops; cause = e.cause; running = e.running; none = e.none; power = e.power; as_many = e.as_many; names = e.names; same = e.same; repairs = e.repairs; outside = e.outside } in
+    as-end (λ end. ImportsOver end.status c.args.at c.args.tables.now.entries.items (g.F.Flash.state c.args.flash.now) (g.F.Flash.state c.mount.new.flash)) c.of.result _ _ c.of.ensures c.mount_status.ensures
+    (refuses-over entries now f m c.mount.result mounts c.args.at c.in-Err.bad c.in-Err.is)
+
+pub returns-clause-over : goal.returns-clause-over
+returns-clause-over g c =
+    let e = c.mount.ensures in
+    let entries = c.args.tables.now.entries.items in
+    let now = c.mount.new.self.entries.items in
+    let f = g.F.Flash.state c.args.flash.now in
+    let m = g.F.Flash.state c.mount.new.flash in
+    let h = g.F.Flash.state c.import_table-status.new.flash in
+    let here : slice_get c.mount.new.self.entries.items c.args.at ≡ Some c.index_mut.result.now =
+    item-there c.mount.new.self.entries.items (length c.mount.new.self.entries.items) c.args.at c.index_mut.result.now refl (omega (arith, c.requires.at, c.mount.ensures.as_many)) c.index_mut.ensures.value in
+    let mounts : MountsOver c.args.tables.now.entries.items c.mount.new.self.entries.items (g.F.Flash.state c.args.flash.now) c.mount.result (g.F.Flash.state c.mount.new.flash) =
+    record { found = e.found; refused = e.refused; stops = e.stops; cause = e.cause; running = e.running; none = e.none; power = e.power; as_many = e.as_many; names = e.names; same = e.same; repairs = e.repairs; outside = e.outside } in
+    puts-over entries now f m c.mount.result mounts c.import_table-status.result c.args.at h tt c.in_default.is e.goes (λ table is. table-bad c.import_table-status.result table c.import_table-status.ensures.statuses is)
+    (own-changes entries now c.args.at c.index_mut.result.now m h e.same c.requires.at here c.import_table-status.ensures.outside)

@@ -1,4 +1,4 @@
-use Rattle.std.proofs.Common.{◌≡◌, inr, true, false, IsTrue, Err, Some, length, refl, sym, ◌∙◌, ap, subst, arith}
+use Rattle.std.proofs.Common.{◌≡◌, ◌<◌, inr, true, false, IsTrue, Err, Some, length, refl, sym, ◌∙◌, ap, subst, arith}
 use Rattle.std.specs.List.{slice_get}
 use Rattle.std.proofs.lemmas.Option.{slice_get_within}
 use Rattle.fl_store.specs.Store.{at_rest}
@@ -20,6 +20,10 @@ use Rattle.fl_ship.specs.declared.stop.Stop.{Stop}
 use Rattle.fl_ship.proofs.Forms.{form-after}
 use Rattle.fl_ship.proofs.FlashEnds.{source-fails, copy-fails, shipped, stopped, broken-left, broken-device, read-left, mounted-left, changed-left}
 use Rattle.fl_ship.proofs.Statuses.{mount-place, good-device, stop-good}
+use Rattle.fl_store.specs.MountsOver.{MountsOver}
+use Rattle.fl_store.proofs.Jobs.{own-changes}
+use Rattle.fl_ship.specs.Over.{ShipsOver}
+use Rattle.fl_ship.proofs.OverBytes.{bad-there, copy-refused, gap-there, source-refused, tables-shipped, tells-shipped, tells-stopped}
 use Rattle.fl_ship.proofs.tables.ship_on.Goals as goal
 
 -- ---- the source's tables aren't mounted
@@ -318,3 +322,62 @@ returns-in-Err-ship_table-clause-good g c = λ plans ts name table tells on calm
     let stood = subst (λ (t : Table 64 64). Stands t m (first_of plans c.args.at) (bare from.plan) (bare_table from.table)) (sym c.table-source.ensures) from.stands.on_flash.unlogged in
     stop-good c.in-Err-ship_table.stop c.args.at table
     (λ bad e. c.ship_table.ensures.none_bad (first_of plans c.args.at) (bare from.plan) (bare_table from.table) told_m stood bad (c.in-Err-ship_table.is ∙ ap (λ (s : Stop). Err s) e)) (sym c.stop_status.ensures ∙ is)
+
+-- ---- over any bytes
+
+pub returns-in-Err-clause-over : goal.returns-in-Err-clause-over
+returns-in-Err-clause-over g c =
+    let e = c.mount.ensures in
+    let mounts : MountsOver c.args.sources.now.entries.items c.mount.new.self.entries.items (g.A.Flash.state c.args.from.now) c.mount.result (g.A.Flash.state c.mount.new.flash) =
+    record { found = e.found; refused = e.refused; stops = e.stops; cause = e.cause; running = e.running; none = e.none; power = e.power; as_many = e.as_many; names = e.names; same = e.same; repairs = e.repairs; outside = e.outside } in
+    rw c.mount_status.ensures (source-refused c.args.count c.args.at _ _ _ _ c.mount.result mounts c.args.copies.now.entries.items (g.B.Flash.state c.args.onto.now) c.in-Err.bad c.in-Err.is)
+
+pub returns-in-Err-mount-clause-over : goal.returns-in-Err-mount-clause-over
+returns-in-Err-mount-clause-over g c =
+    let e = c.mount.ensures in
+    let mounts : MountsOver c.args.sources.now.entries.items c.mount.new.self.entries.items (g.A.Flash.state c.args.from.now) c.mount.result (g.A.Flash.state c.mount.new.flash) =
+    record { found = e.found; refused = e.refused; stops = e.stops; cause = e.cause; running = e.running; none = e.none; power = e.power; as_many = e.as_many; names = e.names; same = e.same; repairs = e.repairs; outside = e.outside } in
+    let d = c.mount-2.ensures in
+    let c_mounts : MountsOver c.args.copies.now.entries.items c.mount-2.new.self.entries.items (g.B.Flash.state c.args.onto.now) c.mount-2.result (g.B.Flash.state c.mount-2.new.flash) =
+    record { found = d.found; refused = d.refused; stops = d.stops; cause = d.cause; running = d.running; none = d.none; power = d.power; as_many = d.as_many; names = d.names; same = d.same; repairs = d.repairs; outside = d.outside } in
+    rw c.mount_status-in-Err-mount.ensures (copy-refused c.args.count c.args.at _ _ _ _ c.mount.result mounts c.args.copies.now.entries.items (g.B.Flash.state c.args.onto.now) tt c.in_default.is _ _ c.mount-2.result c_mounts c.in-Err-mount.bad c.in-Err-mount.is)
+
+pub returns-in-Ok-clause-over : goal.returns-in-Ok-clause-over
+returns-in-Ok-clause-over g c =
+    let e = c.mount.ensures in
+    let mounts : MountsOver c.args.sources.now.entries.items c.mount.new.self.entries.items (g.A.Flash.state c.args.from.now) c.mount.result (g.A.Flash.state c.mount.new.flash) =
+    record { found = e.found; refused = e.refused; stops = e.stops; cause = e.cause; running = e.running; none = e.none; power = e.power; as_many = e.as_many; names = e.names; same = e.same; repairs = e.repairs; outside = e.outside } in
+    let d = c.mount-2.ensures in
+    let c_mounts : MountsOver c.args.copies.now.entries.items c.mount-2.new.self.entries.items (g.B.Flash.state c.args.onto.now) c.mount-2.result (g.B.Flash.state c.mount-2.new.flash) =
+    record { found = d.found; refused = d.refused; stops = d.stops; cause = d.cause; running = d.running; none = d.none; power = d.power; as_many = d.as_many; names = d.names; same = d.same; repairs = d.repairs; outside = d.outside } in
+    let c_here : slice_get c.mount-2.new.self.entries.items c.args.at ≡ Some c.index_mut.result.now =
+    item-there c.mount-2.new.self.entries.items (length c.mount-2.new.self.entries.items) c.args.at c.index_mut.result.now refl (omega (arith, c.requires.at, c.requires.as_many, c.mount-2.ensures.as_many)) c.index_mut.ensures.value in
+    let within : c.args.at < length c.args.copies.now.entries.items = omega (arith, c.requires.at, c.requires.as_many) in
+    let changes = own-changes c.args.copies.now.entries.items c.mount-2.new.self.entries.items c.args.at c.index_mut.result.now (g.B.Flash.state c.mount-2.new.flash) (g.B.Flash.state c.ship_table.new.onto) d.same within c_here c.ship_table.ensures.outside in
+    let tells = tells-shipped c.args.count c.args.at c.mount.new.self.entries.items (g.A.Flash.state c.mount.new.flash) c.mount-2.new.self.entries.items (g.B.Flash.state c.mount-2.new.flash) (g.B.Flash.state c.ship_table.new.onto)
+    c.in-Ok.shipped _ _ _ _ c.told.result c.in-Ok.ensures.few c.told.ensures.tells in
+    tables-shipped c.args.count c.args.at _ _ _ _ c.mount.result mounts c.args.copies.now.entries.items (g.B.Flash.state c.args.onto.now) tt c.in_default.is _ _ c.mount-2.result c_mounts c.told.result
+    (g.A.Flash.state c.ship_table.new.from) (g.B.Flash.state c.ship_table.new.onto) tt c.in_default-mount.is d.goes c.ship_table.ensures.reads_only changes tells
+
+pub returns-in-Err-ship_table-clause-over : goal.returns-in-Err-ship_table-clause-over
+returns-in-Err-ship_table-clause-over g c =
+    let e = c.mount.ensures in
+    let mounts : MountsOver c.args.sources.now.entries.items c.mount.new.self.entries.items (g.A.Flash.state c.args.from.now) c.mount.result (g.A.Flash.state c.mount.new.flash) =
+    record { found = e.found; refused = e.refused; stops = e.stops; cause = e.cause; running = e.running; none = e.none; power = e.power; as_many = e.as_many; names = e.names; same = e.same; repairs = e.repairs; outside = e.outside } in
+    let d = c.mount-2.ensures in
+    let c_mounts : MountsOver c.args.copies.now.entries.items c.mount-2.new.self.entries.items (g.B.Flash.state c.args.onto.now) c.mount-2.result (g.B.Flash.state c.mount-2.new.flash) =
+    record { found = d.found; refused = d.refused; stops = d.stops; cause = d.cause; running = d.running; none = d.none; power = d.power; as_many = d.as_many; names = d.names; same = d.same; repairs = d.repairs; outside = d.outside } in
+    let here : slice_get c.mount.new.self.entries.items c.args.at ≡ Some c.index.result.now =
+    item-there c.mount.new.self.entries.items (length c.mount.new.self.entries.items) c.args.at c.index.result.now refl (omega (arith, c.requires.at, c.mount.ensures.as_many)) c.index.ensures in
+    let c_here : slice_get c.mount-2.new.self.entries.items c.args.at ≡ Some c.index_mut.result.now =
+    item-there c.mount-2.new.self.entries.items (length c.mount-2.new.self.entries.items) c.args.at c.index_mut.result.now refl (omega (arith, c.requires.at, c.requires.as_many, c.mount-2.ensures.as_many)) c.index_mut.ensures.value in
+    let within : c.args.at < length c.args.copies.now.entries.items = omega (arith, c.requires.at, c.requires.as_many) in
+    let changes = own-changes c.args.copies.now.entries.items c.mount-2.new.self.entries.items c.args.at c.index_mut.result.now (g.B.Flash.state c.mount-2.new.flash) (g.B.Flash.state c.ship_table.new.onto) d.same within c_here c.ship_table.ensures.outside in
+    let tells = tells-stopped c.args.count c.args.at c.mount.new.self.entries.items (g.A.Flash.state c.mount.new.flash) c.mount-2.new.self.entries.items (g.B.Flash.state c.mount-2.new.flash) (g.B.Flash.state c.ship_table.new.onto) c.in-Err-ship_table.stop
+    (λ bad is. bad-there c.mount.new.self.entries.items c.args.at c.index.result.now c.table-source.result.now (g.A.Flash.state c.mount.new.flash) bad here c.table-source.ensures (c.ship_table.ensures.bad_page bad (c.in-Err-ship_table.is ∙ ap (λ (s : Stop). Err s) is)))
+    (λ last oldest is.
+    let stops = c.in-Err-ship_table.is ∙ ap (λ (s : Stop). Err s) is in
+    (gap-there c.mount.new.self.entries.items c.mount-2.new.self.entries.items c.args.at last c.index.result.now c.index_mut.result.now c.table-source.result.now here c_here c.table-source.ensures (c.ship_table.ensures.gap last oldest stops), c.ship_table.ensures.gap_leaves last oldest stops)) in
+    rw c.stop_status.ensures
+    (tables-shipped c.args.count c.args.at _ _ _ _ c.mount.result mounts c.args.copies.now.entries.items (g.B.Flash.state c.args.onto.now) tt c.in_default.is _ _ c.mount-2.result c_mounts _
+    (g.A.Flash.state c.ship_table.new.from) (g.B.Flash.state c.ship_table.new.onto) tt c.in_default-mount.is d.goes c.ship_table.ensures.reads_only changes tells)
