@@ -1,5 +1,5 @@
 -- A session that was begun over an opened image, and ended.
-use Rattle.std.proofs.Common.{◌≡◌, ℕ, zero, suc, Bool, true, false, IsTrue, Option, Some, None, Result, Ok, Err, inl, inr, length, take, List, ◌≤◌, refl, sym, ◌∙◌, ap, subst, le_trans}
+use Rattle.std.proofs.Common.{◌≡◌, ℕ, zero, suc, Bool, true, false, IsTrue, Option, Some, None, Result, Ok, Err, inl, inr, length, take, List, ◌≤◌, refl, sym, ◌∙◌, ap, subst, le_trans, arith}
 use Rattle.std.specs.Prelude.{if◌then◌else◌, slice_get, replicate}
 use base.Fml.{GName}
 use Rattle.fl_flash.specs.Flash.{FlashState, Goes}
@@ -112,6 +112,8 @@ ends-opened knots text lines first number state left left_now told told_now conf
       content_now = refl;
       faults_now = refl;
       faults = later;
+      reads_now = refl;
+      reads = opened.reads;
       written = refl;
       written_now = refl;
       own = opened.own tells;
@@ -166,12 +168,14 @@ opens-as config old (Ok done) new (inl h) = record {
   own = λ t. inl h.empty;
   made = λ t e. h.content (subst IsTrue refl t);
   kept = λ t some. absurd (some h.empty);
+  reads = omega (arith, h.reads);
 }
 opens-as config old (Ok done) new (inr h) = record {
   len = ap length h.same ∙ h.len_is;
   own = λ t. inr (h.len_is, h.head_is t);
   made = λ t e. absurd (h.some e);
   kept = λ t some. h.same;
+  reads = omega (arith, h.reads);
 }
 opens-as config old (Err Media) new h = record { rose = h.rose; kept = λ t some. h.same some; part = λ t e. h.part e }
 opens-as config old (Err (Other wanted found at)) new h = record { other = λ t. (h.some, elim h.other [ inl k ↦ inl k | inr k ↦ inr (k.0, differs config old wanted found at (k.1 t)) ]); kept = λ t. h.same }

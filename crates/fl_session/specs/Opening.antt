@@ -1,5 +1,5 @@
 -- What the opening of an image does to its medium.
-use Rattle.std.specs.Prelude.{◌≡◌, ℕ, ◌≤◌, IsTrue, Result, Ok, Err, [], length, take}
+use Rattle.std.specs.Prelude.{◌≡◌, ℕ, ◌+◌, ◌≤◌, IsTrue, Result, Ok, Err, [], length, take}
 use Rattle.fl_config.specs.declared.image.ImageRefusal.{ImageRefusal}
 use Rattle.fl_config.specs.declared.image.ImageRefusal.TheVariants.{Media, Other}
 use Rattle.fl_base.specs.Causes.{Rose}
@@ -8,12 +8,13 @@ use Rattle.fl_model.specs.Image.{medium_len}
 use Rattle.fl_flash.specs.Media.{MediaState}
 use Rattle.fl_session.specs.Ends.{IsOwn, IsOther, new_content}
 
--- an empty medium was made, and another is one of the configuration
+-- an empty medium was made, and another is one of the configuration, for which its header was read once
 pub record Opened (config : Config) (old new : MediaState) : Type 0 where
   pub len : length new.content ≡ medium_len config
   pub own : IsTrue old.tells → IsOwn config old.content
   pub made : IsTrue old.tells → old.content ≡ [] → new.content ≡ new_content config
   pub kept : IsTrue old.tells → (old.content ≡ [] → ⊥) → new.content ≡ old.content
+  pub reads : new.reads ≤ old.reads + 1
 
 -- the medium failed: it is unchanged, or it was empty and is made in part
 pub record HalfOpened (config : Config) (old new : MediaState) : Type 0 where
