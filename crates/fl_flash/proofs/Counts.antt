@@ -1,6 +1,6 @@
 -- How often calls read the medium, by the flash's counts of reads and programs.
-use Rattle.std.proofs.Common.{◌≡◌, ℕ, ◌+◌, ◌-◌, ◌^◌, ◌<◌, ◌≤◌, ap, arith}
-use Rattle.fl_flash.specs.Flash.{FlashState, CountsMedium, IsCounted}
+use Rattle.std.proofs.Common.{◌≡◌, ◌+◌, ◌≤◌, ap, arith}
+use Rattle.fl_flash.specs.Flash.{FlashState, IsCounted}
 use Rattle.fl_flash.specs.Media.{next_count}
 use Rattle.fl_flash.specs.declared.flash.Work.{Work}
 

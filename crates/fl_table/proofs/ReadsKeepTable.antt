@@ -1,5 +1,5 @@
 -- Reads leave a table as it stands.
-use Rattle.std.proofs.Common.{◌≡◌, ℕ, ◌<◌, ◌^◌, ◌*◌, ◌+◌, Bool, true, false, Result, Err, List, refl, sym, ◌∙◌, ap, subst, arith}
+use Rattle.std.proofs.Common.{◌≡◌, ℕ, ◌<◌, ◌^◌, ◌*◌, Bool, true, false, Result, Err, refl, sym, ◌∙◌, ap, subst, arith}
 use Rattle.fl_flash.specs.Buffer.{BufferState}
 use Rattle.fl_flash.specs.Flash.{FlashState, Goes, ReadsPage, page_at, pages}
 use Rattle.fl_flash.specs.Media.{next_count}
