@@ -16,6 +16,7 @@ pub mod GoodNumbers
 pub mod GoodStates
 pub mod Halts
 pub mod Heads
+pub mod HeadsFound
 pub mod IndexPages
 pub mod Kept
 pub mod KeptPages
@@ -34,6 +35,7 @@ pub mod RingRules
 pub mod RingsKnown
 pub mod RowsBack
 pub mod RowsLead
+pub mod RulesStand
 pub mod RulesTold
 pub mod Stops
 pub mod TablePages
