@@ -37,6 +37,7 @@ pub mod RowsBack
 pub mod RowsLead
 pub mod RulesStand
 pub mod RulesTold
+pub mod SoundRings
 pub mod Stops
 pub mod TablePages
 pub mod TableTold

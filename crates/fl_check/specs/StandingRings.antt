@@ -1,11 +1,17 @@
--- A ring whose pages keep the rules stands for a state.
-use Rattle.std.specs.Prelude.{◌≡◌, ℕ, ◌+◌, ◌<◌, ◌≤◌, List, length}
-use Rattle.fl_flash.specs.Flash.{FlashState}
+-- The rings of a sound table stand for states of them.
+use Rattle.std.specs.Prelude.{◌≡◌, ℕ, ◌+◌, ◌<◌, ◌≤◌, IsTrue, Option, List, length}
+use Rattle.fl_base.specs.declared.types.RingPlace.{RingPlace}
+use Rattle.fl_flash.specs.Flash.{FlashState, page_at}
+use Rattle.fl_flash.specs.Places.{extent}
+use Rattle.fl_plan.specs.declared.table_config.TableConfig.{TableConfig}
 use Rattle.fl_ring.specs.Mounting.{IsGood}
 use Rattle.fl_ring.specs.Numbers.{renumbered}
 use Rattle.fl_ring.specs.Ring.{Shape, RingState, room, count}
 use Rattle.fl_check.specs.Endings.{IsEnded}
+use Rattle.fl_check.specs.Whole.{Fits, LogFits, OfRing, IsSound, IsFinding, shape_in, rows_shape, index_end, tally_in}
+use Rattle.fl_check.specs.declared.finding.Finding.TheVariants.{Sound}
 use Rattle.fl_check.specs.declared.numbering.Numbering.{Numbering}
+use Rattle.fl_check.specs.declared.table.TableNumbers.{TableNumbers}
 
 -- the pages of a ring have its size
 abbrev pub HaveSize : (ℕ → List ℕ) → Shape → Type 0
@@ -22,3 +28,20 @@ pub record StandsRuled (f : FlashState) (r : Shape) (at_least : ℕ) (n : Number
   pub kept : count s ≡ n.marks.kept
   pub next : (renumbered r at_least s).next ≡ n.next
   pub torn : s.torn ≡ n.marks.pages.front.torn
+
+-- .. of each ring of a table, whose numbers begin where a check begins them
+pub record RingsStand (config : TableConfig) (log : Option RingPlace) (f : FlashState) (pages : ℕ) : Type 0 where
+  pub t : TableNumbers
+  pub sound : IsSound config log (page_at f) t
+  pub index : OfRing (λ place n. StandsRuled f (shape_in config place) 0 n) config.index t.index
+  pub rows : StandsRuled f (rows_shape config) (index_end config (page_at f) t.index) t.rows
+  pub var : OfRing (λ place n. StandsRuled f (shape_in config place) (tally_in config (page_at f) t.rows).blob_end n) config.var t.var
+  pub logged : OfRing (λ place n. StandsRuled f (shape_in config place) 0 n) log t.log
+  pub kept : count rows.s ≡ pages
+
+-- where a check finds a table sound, on a flash whose medium reaches to its end
+abbrev pub SoundRingsStand : Type 0
+SoundRingsStand =
+    (config : TableConfig) (log : Option RingPlace) (f : FlashState) (rows pages voids : ℕ) → Fits config f → LogFits log f →
+    f.start + extent f.geometry f.blocks ≤ length f.media.content → IsTrue f.media.tells →
+    IsFinding config log (page_at f) (Sound rows pages voids) → RingsStand config log f pages

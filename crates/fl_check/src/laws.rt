@@ -1,5 +1,5 @@
 // Laws on the rules of a table's rings.
-ghost use Rattle.std.specs.Prelude.{◌≡◌, ℕ, IsTrue, Option, List};
+ghost use Rattle.std.specs.Prelude.{◌≡◌, ℕ, Option, List};
 ghost use Rattle.fl_base.specs.declared.types.RingPlace.{RingPlace};
 ghost use Rattle.fl_flash.specs.Flash.{FlashState, page_at};
 ghost use Rattle.fl_plan.specs.declared.table_config.TableConfig.{TableConfig};
@@ -9,14 +9,12 @@ ghost use Rattle.fl_check.specs.KeptPages.{KeptPagesAreGood};
 ghost use Rattle.fl_check.specs.Laws.{KeepsRules};
 ghost use Rattle.fl_check.specs.MountLaw.{FindsNumbers};
 ghost use Rattle.fl_check.specs.Numbering.{IsNumbered};
-ghost use Rattle.fl_check.specs.RingRules.{NoRows, IsRingSound};
 ghost use Rattle.fl_check.specs.Rules.{AreRules, TellsFirst};
-ghost use Rattle.fl_check.specs.StandingRings.{HaveSize, EndsCommitted, StandsRuled};
-ghost use Rattle.fl_check.specs.Whole.{IsFinding, IsRowsForm};
+ghost use Rattle.fl_check.specs.StandingRings.{SoundRingsStand};
+ghost use Rattle.fl_check.specs.Whole.{IsFinding};
 ghost use Rattle.fl_check.specs.declared.faults.TableRules.{TableRules};
 ghost use Rattle.fl_check.specs.declared.finding.Finding.{Finding};
 ghost use Rattle.fl_check.specs.declared.marks.Marks.{Marks};
-ghost use Rattle.fl_check.specs.declared.numbering.Numbering.{Numbering};
 
 /// A flash that stands for a ring keeps the rules on the ring's pages, torn and waiting for an erase or not.
 pub fn rings_keep_rules()
@@ -26,7 +24,7 @@ pub fn rings_keep_rules()
 /// Each ring of a sound table stands for a state of it, with the kept pages and the numbers that the rules tell: so a mount of the ring
 /// ends as the model says.
 pub fn sound_rings_stand()
-    ensures { (config : TableConfig) → (log : Option RingPlace) → (f : FlashState) → (r : Shape) → (at_least : ℕ) → (n : Numbering) → IsShape r → HaveSize (page_at f) r → IsTrue f.media.tells → IsRingSound (IsRowsForm config) NoRows (page_at f) r at_least n → StandsRuled f r at_least n }
+    ensures { SoundRingsStand }
 {}
 
 /// Where the rules on the head, the states and the numbers of a ring hold, a mount finds the numbers that they tell.
