@@ -1,5 +1,5 @@
 -- What one head says of the blocks of a ring.
-use Rattle.std.proofs.Common.{◌≡◌, ℕ, zero, suc, ◌+◌, ◌-◌, ◌≤◌, ◌<◌, ◌==◌, Bool, true, false, not, inl, inr, refl, sym, ◌∙◌, ap, arith}
+use Rattle.std.proofs.Common.{◌≡◌, ℕ, zero, suc, ◌≤◌, ◌<◌, ◌==◌, Bool, true, false, not, inl, inr, refl, sym, ◌∙◌, ap, arith}
 use Rattle.std.proofs.lemmas.Bool.{true≢false, cases_eq, cases_Bool, and_left, and_right, not_from_true, ne_eqb, cond-true, cond-false}
 use Rattle.fl_ring.specs.Head.{one, fulls, before, is_head, ends, last_head, heads, head_of}
 

@@ -1,5 +1,5 @@
 -- Pages that keep the rules of a ring stand for a state of it.
-use Rattle.std.proofs.Common.{◌≡◌, ◌⊎◌, ℕ, zero, suc, ◌+◌, ◌-◌, ◌*◌, ◌/◌, ◌%◌, ◌^◌, ◌≤◌, ◌<◌, ◌==◌, ◌++◌, Bool, true, false, not, cond, min, List, map, length, take, drop, get_or, is_some, Option, Some, None, IfSome, IsTrue, inl, inr, refl, sym, ◌∙◌, ap, subst, arith}
+use Rattle.std.proofs.Common.{◌≡◌, ◌⊎◌, ℕ, zero, suc, ◌+◌, ◌-◌, ◌*◌, ◌/◌, ◌%◌, ◌≤◌, ◌<◌, ◌==◌, ◌++◌, Bool, true, false, not, cond, min, List, map, length, take, drop, get_or, is_some, Option, Some, None, IfSome, IsTrue, inl, inr, refl, sym, ◌∙◌, ap, subst, arith}
 use Rattle.std.specs.Prelude.{MatchBool}
 use Rattle.std.specs.List.{list_any, range_with_len}
 use Rattle.std.proofs.Math.Nat.{mul-le-mul_right, add-mul, mul_assoc, mod-lt, mod-eq_of_lt, mod-add-mod, add-mod_right, mul-add-mod_self_right, mul-mod_left}
@@ -13,10 +13,8 @@ use Rattle.fl_mark.specs.Mark.{state_of_page}
 use Rattle.fl_mark.specs.declared.page_state.PageState.{PageState}
 use Rattle.fl_mark.specs.declared.page_state.PageState.TheVariants.{Blank, Torn, Committed, Void}
 use Rattle.fl_ring.specs.declared.newest.Newest.{Newest}
-use Rattle.fl_ring.specs.Finding.{kept_pages}
 use Rattle.fl_ring.specs.Front.{IsFront, blanks}
-use Rattle.fl_ring.specs.Head.{one, seals, is_sealed, page_in, counts_full, fulls, head_of}
-use Rattle.fl_ring.specs.Mounting.{IsGood}
+use Rattle.fl_ring.specs.Head.{seals, is_sealed, page_in, counts_full, fulls}
 use Rattle.fl_ring.specs.Newest.{commits, page_back, number_of}
 use Rattle.fl_ring.specs.Numbers.{least_alike, renumbered, IsNumbered}
 use Rattle.fl_ring.specs.Ring.{Shape, RingState, IsShape, IsRing, OnRing, HoldsKept, count, oldest, room, place, committed_end}

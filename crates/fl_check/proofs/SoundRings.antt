@@ -1,5 +1,5 @@
 -- Each ring of a sound table stands for a state of it.
-use Rattle.std.proofs.Common.{◌≡◌, ℕ, ◌+◌, ◌-◌, ◌*◌, ◌≤◌, ◌<◌, ◌++◌, IsTrue, IfSome, Option, Some, None, List, length, drop, replicate, append_assoc, length-append, refl, sym, ◌∙◌, ap, subst, arith}
+use Rattle.std.proofs.Common.{◌≡◌, ℕ, ◌+◌, ◌-◌, ◌*◌, ◌≤◌, ◌++◌, IsTrue, IfSome, Option, Some, None, List, length, drop, replicate, append_assoc, length-append, sym, ◌∙◌, ap, arith}
 use Rattle.std.proofs.Math.Nat.{mul-le-mul_right, add-mul}
 use Rattle.std.proofs.lemmas.List.{drop_at}
 use Rattle.fl_base.specs.declared.types.Geometry.{Geometry}
@@ -11,7 +11,6 @@ use Rattle.fl_plan.specs.Limits.{IsRingSize}
 use Rattle.fl_plan.specs.Plan.{plan_of_table}
 use Rattle.fl_plan.specs.Refusal.{nameless}
 use Rattle.fl_plan.specs.declared.table_config.TableConfig.{TableConfig}
-use Rattle.fl_ring.specs.Ring.{Shape, IsShape, room}
 use Rattle.fl_ring.proofs.Lengths.{page_length}
 use Rattle.fl_check.specs.DataPage.{bitmap_in}
 use Rattle.fl_check.specs.Endings.{IsEnded}
