@@ -3,6 +3,8 @@ pub mod BlobReaches
 pub mod BlobsKnown
 pub mod Breaks
 pub mod BytesBack
+pub mod Collected
+pub mod ConfigFacts
 pub mod ContentPages
 pub mod DataPages
 pub mod Decisions
@@ -17,6 +19,7 @@ pub mod GoodStates
 pub mod Halts
 pub mod Heads
 pub mod HeadsFound
+pub mod HeldRings
 pub mod IndexPages
 pub mod Kept
 pub mod KeptPages
@@ -37,6 +40,7 @@ pub mod RowsBack
 pub mod RowsLead
 pub mod RulesStand
 pub mod RulesTold
+pub mod SoundImages
 pub mod SoundRings
 pub mod Stops
 pub mod TablePages

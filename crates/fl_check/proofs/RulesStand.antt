@@ -153,13 +153,13 @@ module _ (page : ℕ → List ℕ) (r : Shape) (at_least : ℕ) (n : Numbering) 
   ]
 
   whole_few : whole ≤ r.blocks - 1
-  whole_few = elim most_is [ | inl last ↦ omega (arith, last.1) | inr other ↦ omega (arith, other.1) ]
+  whole_few = elim most_is [ inl last ↦ omega (arith, last.1) | inr other ↦ omega (arith, other.1) ]
 
   whole_last : sealed + 1 ≡ r.per_block → whole ≤ r.blocks - 2
-  whole_last e = elim most_is [ | inl last ↦ omega (arith, last.1) | inr other ↦ absurd (let never : ⊥ = omega (arith, other.0, e) in never) ]
+  whole_last e = elim most_is [ inl last ↦ omega (arith, last.1) | inr other ↦ absurd (let never : ⊥ = omega (arith, other.0, e) in never) ]
 
   whole_none : whole ≡ 0 → fulls (counts_full r page) r.blocks ≡ 0
-  whole_none e = elim most_is [ | inl last ↦ omega (arith, last.1, e, shape.blocks) | inr other ↦ omega (arith, other.1, e, shape.blocks) ]
+  whole_none e = elim most_is [ inl last ↦ omega (arith, last.1, e, shape.blocks) | inr other ↦ omega (arith, other.1, e, shape.blocks) ]
 
   kept_most : m.kept ≤ (r.blocks - 1) * r.per_block + sealed
   kept_most = let up : whole * r.per_block ≤ (r.blocks - 1) * r.per_block = mul-le-mul_right r.per_block whole_few in omega (arith, kept_is, up)
@@ -282,6 +282,20 @@ module _ (page : ℕ → List ℕ) (r : Shape) (at_least : ℕ) (n : Numbering) 
           subst (λ (x : Option (List ℕ)). IfSome x (λ b. number_of b ≡ n.next - m.kept + i)) (sym (cond-false (commits (state_of_page (page_of i))) (Some (body_of r.size (page_of i))) None void)) tt
     ]
 
+    formed_at : (i : ℕ) (body : List ℕ) → i < m.kept → body_at i ≡ Some body → Form (n.next - m.kept + i) (page (r.first + (n.next - m.kept + i) % room r))
+    unfolding body_at
+    formed_at i body lt here = elim (cases_Bool (commits (state_of_page (page_of i)))) [
+      | inl committed ↦
+          let own = is.numbers.each i lt in
+          let number : n.next - (m.kept - i) ≡ n.next - m.kept + i = omega (arith, lt, kept_within) in
+          subst (λ (k : ℕ). Form k (page (r.first + (n.next - m.kept + i) % room r))) number
+          (subst (λ (p : ℕ). Form (n.next - (m.kept - i)) (page p)) (place_is i lt) (forms i lt (n.next - (m.kept - i)) (omega (arith, own.not_negative)) committed))
+      | inr void ↦ absurd (none (sym (cond-false (commits (state_of_page (page_of i))) (Some (body_of r.size (page_of i))) None void) ∙ here))
+    ]
+      where
+        none : None ≡ Some body → ⊥
+        none e = cc
+
     -- ---- the page after them, and the others
 
     abbrev next_page : List ℕ
@@ -399,6 +413,11 @@ module _ (page : ℕ → List ℕ) (r : Shape) (at_least : ℕ) (n : Numbering) 
           subst (λ (x : Option (List ℕ)). IfSome x (λ body. number_of body ≡ oldest state + i)) (sym (body_there i few))
           (subst (λ (k : ℕ). IfSome (body_at i) (λ body. number_of body ≡ n.next - k + i)) (sym count_is) (number_at i few))
 
+      formed : (i : ℕ) (body : List ℕ) → i < count state → get_or bodies i None ≡ Some body → Form (oldest state + i) (page (place r (oldest state + i)))
+      formed i body lt here =
+          let few : i < m.kept = omega (arith, lt, count_is) in
+          subst (λ (k : ℕ). Form (n.next - k + i) (page (r.first + (n.next - k + i) % room r))) (sym count_is) (formed_at i body few (sym (body_there i few) ∙ here))
+
       -- a mount gives them these numbers
       renumbered_next : (renumbered r at_least state).next ≡ n.next
       renumbered_next = elim (cases_Bool (list_any is_some bodies)) [
@@ -421,7 +440,7 @@ module _ (page : ℕ → List ℕ) (r : Shape) (at_least : ℕ) (n : Numbering) 
 
 -- on a flash
 pub rules-stand : (Form : ℕ → List ℕ → Type 0) (f : FlashState) (r : Shape) (at_least : ℕ) (n : Numbering) → IsShape r → HaveSize (page_at f) r → IsTrue f.media.tells → EndsCommitted Form r.size →
-    numbering.IsNumbered (page_at f) r at_least n.marks n.next → HaveBodies Form (page_at f) r n → IsRestBlank (page_at f) r n.marks → StandsRuled f r at_least n
+    numbering.IsNumbered (page_at f) r at_least n.marks n.next → HaveBodies Form (page_at f) r n → IsRestBlank (page_at f) r n.marks → StandsRuled Form f r at_least n
 rules-stand Form f r at_least n shape size told ends is forms rest =
     let b = behind (page_at f) r at_least n shape size is Form ends forms rest in
     let next = renumbered_next (page_at f) r at_least n shape size is Form ends forms b in
@@ -434,6 +453,8 @@ rules-stand Form f r at_least n shape size told ends is forms rest =
         fits = omega (arith, next, is.numbers.left);
       };
       kept = count_is (page_at f) r at_least n shape size is Form ends forms b;
-      next = next;
+      next = refl;
+      renumbered_next = next;
       torn = refl;
+      forms = formed (page_at f) r at_least n shape size is Form ends forms b;
     }

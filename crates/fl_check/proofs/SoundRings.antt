@@ -50,7 +50,7 @@ module _ (config : TableConfig) (f : FlashState) (fits : Fits config f) (reaches
   block_same : config.geometry.block ≡ f.geometry.block
   block_same = ap (λ (g : Geometry). g.block) fits.geometry
 
-  have_size : (place : RingPlace) → place.first_block + place.blocks ≤ f.blocks → HaveSize (page_at f) (shape_in config place)
+  pub have_size : (place : RingPlace) → place.first_block + place.blocks ≤ f.blocks → HaveSize (page_at f) (shape_in config place)
   have_size place within p low high =
       let ring : (place.first_block + place.blocks) * config.geometry.block ≡ place.first_block * config.geometry.block + place.blocks * config.geometry.block = add-mul place.first_block place.blocks config.geometry.block in
       let up : (place.first_block + place.blocks) * config.geometry.block ≤ f.blocks * config.geometry.block = mul-le-mul_right config.geometry.block within in
@@ -58,19 +58,19 @@ module _ (config : TableConfig) (f : FlashState) (fits : Fits config f) (reaches
       page_length f p reaches (omega (arith, high, ring, up, all)) ∙ sym page_same
 
   ring-stands : (Form : ℕ → List ℕ → Type 0) (order : KeyOrder) (place : RingPlace) (at_least : ℕ) (n : Numbering) → IsRingSize place → place.first_block + place.blocks ≤ f.blocks → EndsCommitted Form config.geometry.page →
-      IsRingSound Form order (page_at f) (shape_in config place) at_least n → StandsRuled f (shape_in config place) at_least n
+      IsRingSound Form order (page_at f) (shape_in config place) at_least n → StandsRuled Form f (shape_in config place) at_least n
   ring-stands Form order place at_least n size within ends is =
       rules-stand Form f (shape_in config place) at_least n (record { blocks = size.0; per_block = fits.limits.geometry.block_low; size = fits.limits.geometry.page_low })
       (have_size place within) told ends is.formed.numbered is.formed.bodies is.rest
 
   of-ring : (Form : ℕ → List ℕ → Type 0) (order : KeyOrder) (o : Option RingPlace) (at_least : ℕ) (n : Option Numbering) → IfSome o IsRingSize → IfSome o (λ place. place.first_block + place.blocks ≤ f.blocks) → EndsCommitted Form config.geometry.page →
-      OfRing (λ place n. IsRingSound Form order (page_at f) (shape_in config place) at_least n) o n → OfRing (λ place n. StandsRuled f (shape_in config place) at_least n) o n
+      OfRing (λ place n. IsRingSound Form order (page_at f) (shape_in config place) at_least n) o n → OfRing (λ place n. StandsRuled Form f (shape_in config place) at_least n) o n
   of-ring Form order None at_least None size within ends is = tt
   of-ring Form order None at_least (Some n) size within ends is = is
   of-ring Form order (Some place) at_least None size within ends is = is
   of-ring Form order (Some place) at_least (Some n) size within ends is = ring-stands Form order place at_least n size within ends is
 
-log-sizes : (log : Option RingPlace) (f : FlashState) → IfSome log (λ place. IsRingSize place × (place.first_block + place.blocks ≤ f.blocks)) → IfSome log IsRingSize × IfSome log (λ place. place.first_block + place.blocks ≤ f.blocks)
+pub log-sizes : (log : Option RingPlace) (f : FlashState) → IfSome log (λ place. IsRingSize place × (place.first_block + place.blocks ≤ f.blocks)) → IfSome log IsRingSize × IfSome log (λ place. place.first_block + place.blocks ≤ f.blocks)
 log-sizes None f h = (tt, tt)
 log-sizes (Some place) f h = h
 

@@ -10,6 +10,7 @@ ghost use Rattle.fl_check.specs.Laws.{KeepsRules};
 ghost use Rattle.fl_check.specs.MountLaw.{FindsNumbers};
 ghost use Rattle.fl_check.specs.Numbering.{IsNumbered};
 ghost use Rattle.fl_check.specs.Rules.{AreRules, TellsFirst};
+ghost use Rattle.fl_check.specs.SoundImages.{SoundImages};
 ghost use Rattle.fl_check.specs.StandingRings.{SoundRingsStand};
 ghost use Rattle.fl_check.specs.Whole.{IsFinding};
 ghost use Rattle.fl_check.specs.declared.faults.TableRules.{TableRules};
@@ -25,6 +26,12 @@ pub fn rings_keep_rules()
 /// ends as the model says.
 pub fn sound_rings_stand()
     ensures { SoundRingsStand }
+{}
+
+/// The pages of a sound table are the image of a table of the model that has nothing in memory, with as many kept data pages as the check
+/// tells.
+pub fn sound_images_stand()
+    ensures { SoundImages }
 {}
 
 /// Where the rules on the head, the states and the numbers of a ring hold, a mount finds the numbers that they tell.

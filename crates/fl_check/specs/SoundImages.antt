@@ -1,0 +1,47 @@
+-- The pages of a sound table are the image of a table of the model, whether or not the model's facts hold of it.
+use Rattle.std.specs.Prelude.{◌≡◌, ℕ, ◌+◌, ◌≤◌, IsTrue, Option, Some, None, List, length}
+use Rattle.fl_base.specs.declared.types.RingPlace.{RingPlace}
+use Rattle.fl_flash.specs.Flash.{FlashState, page_at}
+use Rattle.fl_flash.specs.Places.{extent}
+use Rattle.fl_model.specs.Image.{IsRingImage, HoldsRows, HoldsEntries, HoldsContent, HoldsLogged}
+use Rattle.fl_model.specs.Record.{Plan}
+use Rattle.fl_model.specs.Ring as model
+use Rattle.fl_model.specs.Table.{Table, lose}
+use Rattle.fl_plan.specs.Plan.{Label, blocks_in, plan_of_table, with_log}
+use Rattle.fl_plan.specs.declared.table_config.TableConfig.{TableConfig}
+use Rattle.fl_ring.specs.Counts.{model_shape}
+use Rattle.fl_ring.specs.Ring.{Shape, place}
+use Rattle.fl_check.specs.Whole.{Fits, LogFits, IsFinding, shape_in, rows_shape}
+use Rattle.fl_check.specs.declared.finding.Finding.TheVariants.{Sound}
+
+-- the pages of a ring are the image of this one; `Holds` says what its kept pages hold
+abbrev pub RingImage : (ℕ → List ℕ) → Shape → model.Ring → (ℕ → ℕ → List ℕ → Type 0) → Type 0
+RingImage page r ring Holds = IsRingImage (model_shape r) ring (λ number. page (place r number)) Holds
+
+-- .. of a ring that a table may not have
+abbrev pub OfPlace : (RingPlace → model.Ring → Type 0) → Option RingPlace → Option model.Ring → Type 0
+OfPlace Holds None None = Unit {0}
+OfPlace Holds (Some place) (Some ring) = Holds place ring
+OfPlace Holds None (Some ring) = ⊥
+OfPlace Holds (Some place) None = ⊥
+
+-- the pages of each ring of a table between two runs
+pub record TableImage (config : TableConfig) (log : Option RingPlace) (page : ℕ → List ℕ) (plan : Plan) (table : Table) : Type 0 where
+  pub lost : table ≡ lose table
+  pub rows : RingImage page (rows_shape config) table.rows (HoldsRows plan table)
+  pub index : OfPlace (λ place ring. RingImage page (shape_in config place) ring (HoldsEntries plan table ring)) config.index table.index
+  pub var : OfPlace (λ place ring. RingImage page (shape_in config place) ring (HoldsContent table ring)) config.var table.var
+  pub logged : OfPlace (λ place ring. RingImage page (shape_in config place) ring (HoldsLogged plan table ring)) log table.log
+
+-- a table whose image the pages are, with as many kept data pages as a check tells
+pub record HasImage (config : TableConfig) (log : Option RingPlace) (page : ℕ → List ℕ) (plan : Plan) (pages : ℕ) : Type 0 where
+  pub table : Table
+  pub image : TableImage config log page plan table
+  pub kept : length table.rows.counts ≡ pages
+
+-- where a check finds a table sound, on a flash whose medium reaches to its end: the plan has any name, base and width
+abbrev pub SoundImages : Type 0
+SoundImages =
+    (label : Label) (config : TableConfig) (log : Option RingPlace) (f : FlashState) (rows pages voids : ℕ) → Fits config f → LogFits log f →
+    f.start + extent f.geometry f.blocks ≤ length f.media.content → IsTrue f.media.tells →
+    IsFinding config log (page_at f) (Sound rows pages voids) → HasImage config log (page_at f) (with_log (blocks_in log) (plan_of_table label config)) pages
