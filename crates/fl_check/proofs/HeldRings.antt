@@ -1,5 +1,6 @@
 -- The pages of a ring that stands for a state are the image of a ring of the model, where each committed page holds something.
 use Rattle.std.proofs.Common.{◌≡◌, ℕ, ◌+◌, ◌-◌, ◌*◌, ◌%◌, ◌^◌, ◌≤◌, ◌<◌, ◌++◌, inl, inr, Option, Some, None, IfSome, List, length, get_or, refl, sym, ◌∙◌, ap, subst, arith}
+use Rattle.std.specs.List.{AllByRecursion}
 use Rattle.std.proofs.Math.ListN.{get_or-eq_default}
 use Rattle.std.proofs.Math.Nat.{mod-lt, mul-le-mul_right}
 use Rattle.std.proofs.lemmas.Bool.{cases_lt}
@@ -10,11 +11,12 @@ use Rattle.fl_model.specs.Layout.{committed}
 use Rattle.fl_model.specs.Ring as model
 use Rattle.fl_ring.specs.Counts.{page_count, ring_counts}
 use Rattle.fl_ring.specs.Ring.{Shape, RingState, IsShape, HoldsKept, count, oldest, place, room, committed_end}
+use Rattle.fl_ring.proofs.Counts.{counts_ring}
 use Rattle.fl_ring.proofs.Images.{image_from_on}
 use Rattle.fl_check.specs.SoundImages.{RingImage}
 use Rattle.fl_check.specs.StandingRings.{HaveSize, StandsRuled}
 use Rattle.fl_check.specs.declared.numbering.Numbering.{Numbering}
-use Rattle.fl_check.proofs.Collected.{Collected, collect}
+use Rattle.fl_check.proofs.Collected.{Held, Collected, all-map, collect}
 
 module _ (Form : ℕ → List ℕ → Type 0) (f : FlashState) (r : Shape) (at_least : ℕ) (n : Numbering) (shape : IsShape r) (size : HaveSize (page_at f) r) (st : StandsRuled Form f r at_least n) where
   abbrev s : RingState
@@ -52,7 +54,7 @@ module _ (Form : ℕ → List ℕ → Type 0) (f : FlashState) (r : Shape) (at_l
     abbrev pub ring : model.Ring
     ring = ring_counts count_of s
 
-    read : (i : ℕ) (body : List ℕ) → i < count s → get_or s.kept i None ≡ Some body → (0 < count_of body) × Read (oldest s + i) (page_of i) body
+    pub read : (i : ℕ) (body : List ℕ) → i < count s → get_or s.kept i None ≡ Some body → (0 < count_of body) × Read (oldest s + i) (page_of i) body
     read i body lt is = reads (oldest s + i) (page_of i) body (low i lt) (sizes (oldest s + i)) (bytes_is i body lt is) (st.forms i body lt is)
 
     some : (i : ℕ) → i < count s → IfSome (get_or s.kept i None) (λ body. 0 < count_of body)
@@ -65,21 +67,35 @@ module _ (Form : ℕ → List ℕ → Type 0) (f : FlashState) (r : Shape) (at_l
     pub first_same : model.oldest ring ≡ oldest s
     first_same = ap (λ (k : ℕ). s.next - k) (length-map s.kept (page_count count_of))
 
+    -- each count of the ring is so, where those of void pages and of committed ones are
+    pub counts_are : (Counts : ℕ → Type 0) → Counts 0 → ((number : ℕ) (page body : List ℕ) → Read number page body → Counts (count_of body)) → AllByRecursion Counts ring.counts
+    counts_are Counts none each = all-map (page_count count_of) Counts s.kept None (λ i lt. by_kept i lt (get_or s.kept i None) refl)
+      where
+        by_kept : (i : ℕ) → i < count s → (x : Option (List ℕ)) → get_or s.kept i None ≡ x → Counts (page_count count_of x)
+        by_kept i lt None is = none
+        by_kept i lt (Some body) is = each (oldest s + i) (page_of i) body (read i body lt is).1
+
     pub held_as : (Holds : ℕ → ℕ → List ℕ → Type 0) → ((i : ℕ) (body : List ℕ) → get_or s.kept i None ≡ Some body → Read (oldest s + i) (page_of i) body → Holds i (count_of body) (page_of i)) → RingImage (page_at f) r ring Holds
-    held_as Holds holds = image_from_on r (page_at f) s count_of sizes shape some Holds (λ i body is bytes. holds i body is (read i body (within i body is) is).1) st.good.on
+    held_as Holds holds = record {
+      is = counts_ring count_of r s st.good.on.ring;
+      pages = image_from_on r (page_at f) s count_of sizes shape some Holds (λ i body is bytes. holds i body is (read i body (within i body is) is).1) st.good.on;
+    }
 
   -- .. where a list of the model has what each page holds
-  module _ (X : Type 0) (count_of : List ℕ → ℕ) (body_of : ℕ → X → List ℕ)
-      (reads : (number : ℕ) (page body : List ℕ) → number < 2 ^ 32 → length page ≡ r.size → page ≡ body ++ committed_end → Form number page → (0 < count_of body) × ((x : X) × (page ≡ committed (body_of number x)))) where
-    pub collected : Collected X count_of s.kept (λ i body x. page_of i ≡ committed (body_of (oldest s + i) x))
-    collected = collect X count_of s.kept (λ i body x. page_of i ≡ committed (body_of (oldest s + i) x)) (read count_of (λ number page body. (x : X) × (page ≡ committed (body_of number x))) reads)
+  module _ (X : Type 0) (Fits : X → Type 0) (count_of : List ℕ → ℕ) (body_of : ℕ → X → List ℕ)
+      (reads : (number : ℕ) (page body : List ℕ) → number < 2 ^ 32 → length page ≡ r.size → page ≡ body ++ committed_end → Form number page → (0 < count_of body) × Held X Fits (λ x. page ≡ committed (body_of number x))) where
+    abbrev Read : ℕ → List ℕ → List ℕ → Type 0
+    Read number page body = Held X Fits (λ x. page ≡ committed (body_of number x))
+
+    pub collected : Collected X Fits count_of s.kept (λ i body x. page_of i ≡ committed (body_of (oldest s + i) x))
+    collected = collect X Fits count_of s.kept (λ i body x. page_of i ≡ committed (body_of (oldest s + i) x)) (read count_of Read reads)
 
     pub held : RingImage (page_at f) r (ring_counts count_of s) (λ i count page. HoldsPage collected.pages body_of (ring_counts count_of s) i count page)
-    held = held_as count_of (λ number page body. (x : X) × (page ≡ committed (body_of number x))) reads (λ i count page. HoldsPage collected.pages body_of (ring_counts count_of s) i count page)
+    held = held_as count_of Read reads (λ i count page. HoldsPage collected.pages body_of (ring_counts count_of s) i count page)
         (λ i body is found.
         let listed = collected.each i body (within i body is) is in
         record {
           holds = listed.0;
           is = listed.1;
-          bytes = listed.2 ∙ ap (λ (k : ℕ). committed (body_of (k + i) listed.0)) (sym (first_same count_of (λ number page body. (x : X) × (page ≡ committed (body_of number x))) reads));
+          bytes = listed.2 ∙ ap (λ (k : ℕ). committed (body_of (k + i) listed.0)) (sym (first_same count_of Read reads));
         })

@@ -43,6 +43,7 @@ pub mod RulesTold
 pub mod SoundImages
 pub mod SoundRings
 pub mod Stops
+pub mod StoredRows
 pub mod TablePages
 pub mod TableTold
 pub mod Tallies

@@ -1,16 +1,16 @@
 -- The pages of a sound table are the image of a table of the model.
-use Rattle.std.proofs.Common.{◌≡◌, ℕ, zero, suc, ◌+◌, ◌-◌, ◌^◌, ◌≤◌, ◌<◌, ◌++◌, ◌∷◌, nat_lt, Bool, true, ◌||◌, cond, IsTrue, Option, Some, None, IfSome, List, [], length, map, take, drop, sum, replicate, get_or, refl, sym, ◌∙◌, ap, subst, arith, append_assoc}
-use Rattle.std.specs.List.{flat_map, list_any}
+use Rattle.std.proofs.Common.{◌≡◌, ℕ, zero, suc, ◌+◌, ◌-◌, ◌/◌, ◌^◌, ◌≤◌, ◌<◌, ◌++◌, ◌∷◌, nat_lt, Bool, true, ◌||◌, cond, IsTrue, Option, Some, None, IfSome, List, [], length, map, take, drop, sum, replicate, get_or, refl, sym, ◌∙◌, ap, subst, arith, append_assoc, length-drop}
+use Rattle.std.specs.List.{flat_map, list_any, AllByRecursion}
 use Rattle.std.proofs.lemmas.Bool.{lt-ltb}
-use Rattle.std.proofs.lemmas.List.{take_all, take-append-drop, length-map, drop-drop}
+use Rattle.std.proofs.lemmas.List.{take_all, take-append-drop, length-map, length-take-le, drop-drop}
 use Rattle.fl_base.specs.declared.types.RingPlace.{RingPlace}
 use Rattle.fl_bitmap.specs.declared.buckets.Buckets.{Buckets}
 use Rattle.fl_flash.specs.Flash.{FlashState, page_at}
 use Rattle.fl_flash.specs.Places.{extent}
-use Rattle.fl_model.specs.Facts.{counts_in}
+use Rattle.fl_model.specs.Facts.{FitsPlan, IsContent, counts_in}
 use Rattle.fl_model.specs.Image.{HoldsPage}
 use Rattle.fl_model.specs.Layout.{committed, rows_body, data_body, index_body, content_body, IndexPage, ContentPage}
-use Rattle.fl_model.specs.Record.{Plan, row_layout, entries_per_page}
+use Rattle.fl_model.specs.Record.{Plan, row_layout, layout_len, rows_per_page, entries_per_page}
 use Rattle.fl_model.specs.Ring as model
 use Rattle.fl_model.specs.Row.{Row, stored_row, le}
 use Rattle.fl_model.specs.Table.{Table, Entry, full_pages, has_rows}
@@ -23,28 +23,32 @@ use Rattle.fl_ring.specs.Counts.{page_count, ring_counts}
 use Rattle.fl_ring.specs.Ring.{IsShape, count, oldest, committed_end}
 use Rattle.fl_check.specs.ContentPage.{IsContentPage}
 use Rattle.fl_check.specs.DataPage.{HasBuckets, HasForm, IsDataPage}
-use Rattle.fl_check.specs.SoundImages.{RingImage, OfPlace, TableImage, SoundImages}
+use Rattle.fl_check.specs.SoundImages.{RingImage, OfPlace, TableImage, PagesFit, SoundImages}
 use Rattle.fl_check.specs.StandingRings.{HaveSize, StandsRuled, RingsStand}
 use Rattle.fl_check.specs.Whole.{Fits, LogFits, OfRing, IsIndexForm, IsRowsForm, IsVarForm, IsLogForm, form_in, layout_in, shape_in, rows_shape, index_end, tally_in}
 use Rattle.fl_check.specs.declared.numbering.Numbering.{Numbering}
-use Rattle.fl_check.proofs.Collected.{piece}
+use Rattle.fl_check.proofs.Collected.{Held, all-flat, sum-flat, piece}
 use Rattle.fl_check.proofs.ConfigFacts.{has-buckets, some-bits, some-room}
 use Rattle.fl_check.proofs.DataPages.{data_rows}
-use Rattle.fl_check.proofs.HeldRings.{within, first_same, held_as, collected, held}
+use Rattle.fl_check.proofs.HeldRings.{within, first_same, read, counts_are, held_as, collected, held}
 use Rattle.fl_check.proofs.SoundRings.{have_size, log-sizes, rings-stand}
-use Rattle.fl_check.proofs.TablePages.{entry_of, stored_rows, body-same}
+use Rattle.fl_check.proofs.StoredRows.{rows-fit}
+use Rattle.fl_check.proofs.TablePages.{entry_of, stored_rows, body-same, room-same}
 
 -- ---- what a page holds
 
 -- the content of a page of variable data
-content_of_page : (number : ℕ) (page : List ℕ) → 64 ≤ length page → IsContentPage number page → (x : ContentPage) × (page ≡ committed (content_body number x))
-content_of_page number page large is = (record { used = is.used; bytes = bytes }, whole)
+content_of_page : (plan : Plan) (number : ℕ) (page : List ℕ) → length page ≡ plan.geometry.page → 64 ≤ length page → IsContentPage number page → Held ContentPage (IsContent plan) (λ x. page ≡ committed (content_body number x))
+content_of_page plan number page size large is = record { holds = record { used = is.used; bytes = bytes }; fit = record { some = is.some; most = omega (arith, is.most, size); length = many }; is = whole }
   where
     bytes : List ℕ
     bytes = take (length page - 16) (drop 8 page)
 
     head : List ℕ
     head = le 4 number ++ le 2 is.used ++ le 2 0
+
+    many : length bytes ≡ plan.geometry.page - 16
+    many = length-take-le (length page - 16) (drop 8 page) (omega (arith, length-drop 8 page)) ∙ omega (arith, size)
 
     back : drop 8 page ≡ bytes ++ (replicate 4 0 ++ replicate 4 255)
     back =
@@ -133,17 +137,25 @@ module _ (label : Label) (config : TableConfig) (log : Option RingPlace) where
       data_ring = ring_counts rows_count st.s
 
       -- a data page with these rows
-      Read : ℕ → List ℕ → List ℕ → Type 0
-      Read number page body = page ≡ committed (data_body plan number (entries_of body))
+      record Read (number : ℕ) (page body : List ℕ) : Type 0 where
+        pub bytes : page ≡ committed (data_body plan number (entries_of body))
+        pub fit : AllByRecursion (FitsPlan plan) (entries_of body)
+        pub few : rows_count body ≤ rows_per_page plan
 
       reads : (number : ℕ) (page body : List ℕ) → number < 2 ^ 32 → length page ≡ config.geometry.page → page ≡ body ++ committed_end → IsRowsForm config number page → (0 < rows_count body) × Read number page body
-      unfolding Read
+      unfolding rows_count
       reads number page body small size bytes is =
           let some = some_rows config.buckets page body number small (omega (arith, size, large)) (omega (arith, size, short)) bytes is in
-          let rows = rows_of_page config.buckets page body number small (omega (arith, size, large)) (omega (arith, size, short)) bytes is in (
+          let rows : entries_of body ≡ map entry_of is.rows = rows_of_page config.buckets page body number small (omega (arith, size, large)) (omega (arith, size, short)) bytes is in
+          let same : length (entries_of body) ≡ length (map entry_of is.rows) = ap (λ (l : List Entry). length l) rows in
+          let room : rows_per_page plan ≡ (length page - 24) / layout_len (layout_in config) = room-same plan (layout_in config) config.buckets number page (form page size) in (
             some,
-            is.bytes ∙ body-same plan (layout_in config) config.buckets number page (form page size) (map entry_of is.rows) is.rows (stored_rows is.rows)
-                ∙ ap (λ (l : List Entry). committed (data_body plan number l)) (sym rows),
+            record {
+              bytes = is.bytes ∙ body-same plan (layout_in config) config.buckets number page (form page size) (map entry_of is.rows) is.rows (stored_rows is.rows)
+                  ∙ ap (λ (l : List Entry). committed (data_body plan number l)) (sym rows);
+              fit = subst (AllByRecursion (FitsPlan plan)) (sym rows) (rows-fit plan is.rows is.plain is.storable);
+              few = omega (arith, same, length-map is.rows entry_of, is.few, room);
+            },
           )
 
       lengths : (x : Option (List ℕ)) → page_count rows_count x ≡ length (entries_in x)
@@ -159,57 +171,72 @@ module _ (label : Label) (config : TableConfig) (log : Option RingPlace) where
           subst (λ (x : Option (List ℕ)). rows_of i (page_count rows_count x) ≡ entries_in x) is (piece entries_in (page_count rows_count) lengths st.s.kept i None lt)
 
       pub data_image : RingImage (page_at f) (rows_shape config) data_ring (λ i count page. page ≡ committed (data_body plan (model.oldest data_ring + i) (rows_of i count)))
-      unfolding Read
       data_image = held_as (IsRowsForm config) f (rows_shape config) at_least n shape size st rows_count Read reads
           (λ i count page. page ≡ committed (data_body plan (model.oldest data_ring + i) (rows_of i count)))
-          (λ i body is read.
-          read ∙ ap (λ (l : List Entry). committed (data_body plan (oldest st.s + i) l)) (sym (rows_are i body (within (IsRowsForm config) f (rows_shape config) at_least n shape size st i body is) is))
+          (λ i body is found.
+          found.bytes ∙ ap (λ (l : List Entry). committed (data_body plan (oldest st.s + i) l)) (sym (rows_are i body (within (IsRowsForm config) f (rows_shape config) at_least n shape size st i body is) is))
           ∙ ap (λ (k : ℕ). committed (data_body plan (k + i) (rows_of i (rows_count body)))) (sym (first_same (IsRowsForm config) f (rows_shape config) at_least n shape size st rows_count Read reads)))
+
+      pub data_counted : sum data_ring.counts ≡ length entries
+      data_counted = sum-flat entries_in (page_count rows_count) lengths st.s.kept
+
+      pub data_few : AllByRecursion (λ count. count ≤ rows_per_page plan) data_ring.counts
+      data_few = counts_are (IsRowsForm config) f (rows_shape config) at_least n shape size st rows_count Read reads (λ count. count ≤ rows_per_page plan) (omega arith) (λ number page body found. found.few)
+
+      pub data_fit : AllByRecursion (FitsPlan plan) entries
+      data_fit = all-flat entries_in (FitsPlan plan) st.s.kept None (λ i lt. by_kept i lt (get_or st.s.kept i None) refl)
+        where
+          by_kept : (i : ℕ) → i < count st.s → (x : Option (List ℕ)) → get_or st.s.kept i None ≡ x → AllByRecursion (FitsPlan plan) (entries_in x)
+          by_kept i lt None is = tt
+          by_kept i lt (Some body) is = (read (IsRowsForm config) f (rows_shape config) at_least n shape size st rows_count Read reads i body lt is).1.fit
 
     -- ---- a ring that a table may not have
 
     -- its image, and what its pages hold
-    record HasRing (X : Type 0) (body_of : ℕ → X → List ℕ) (o : Option RingPlace) : Type 0 where
+    record HasRing (X : Type 0) (Fits : X → Type 0) (body_of : ℕ → X → List ℕ) (o : Option RingPlace) : Type 0 where
       pub ring : Option model.Ring
       pub pages : List X
       pub many : length pages ≡ full_pages (counts_in ring)
+      pub fit : AllByRecursion Fits pages
       pub image : OfPlace (λ place ring. RingImage (page_at f) (shape_in config place) ring (λ i count page. HoldsPage pages body_of ring i count page)) o ring
 
     -- a page of this form holds something
-    abbrev Reads : (X : Type 0) → (ℕ → X → List ℕ) → (ℕ → List ℕ → Type 0) → (List ℕ → ℕ) → Type 0
-    Reads X body_of Form count_of =
-        (number : ℕ) (page body : List ℕ) → number < 2 ^ 32 → length page ≡ config.geometry.page → page ≡ body ++ committed_end → Form number page → (0 < count_of body) × ((x : X) × (page ≡ committed (body_of number x)))
+    abbrev Reads : (X : Type 0) → (X → Type 0) → (ℕ → X → List ℕ) → (ℕ → List ℕ → Type 0) → (List ℕ → ℕ) → Type 0
+    Reads X Fits body_of Form count_of =
+        (number : ℕ) (page body : List ℕ) → number < 2 ^ 32 → length page ≡ config.geometry.page → page ≡ body ++ committed_end → Form number page → (0 < count_of body) × Held X Fits (λ x. page ≡ committed (body_of number x))
 
-    has-ring : (X : Type 0) (body_of : ℕ → X → List ℕ) (Form : ℕ → List ℕ → Type 0) (count_of : List ℕ → ℕ) (at_least : ℕ) (o : Option RingPlace) (n : Option Numbering) →
+    has-ring : (X : Type 0) (Fits : X → Type 0) (body_of : ℕ → X → List ℕ) (Form : ℕ → List ℕ → Type 0) (count_of : List ℕ → ℕ) (at_least : ℕ) (o : Option RingPlace) (n : Option Numbering) →
         IfSome o (λ place. IsShape (shape_in config place) × HaveSize (page_at f) (shape_in config place)) → OfRing (λ place n. StandsRuled Form f (shape_in config place) at_least n) o n →
-        ((place : RingPlace) → o ≡ Some place → Reads X body_of Form count_of) → HasRing X body_of o
-    has-ring X body_of Form count_of at_least None None sizes stands reads = record { ring = None; pages = []; many = refl; image = tt }
-    has-ring X body_of Form count_of at_least None (Some n) sizes stands reads = absurd stands
-    has-ring X body_of Form count_of at_least (Some place) None sizes stands reads = absurd stands
-    has-ring X body_of Form count_of at_least (Some place) (Some n) sizes stands reads =
-        let found = collected Form f (shape_in config place) at_least n sizes.0 sizes.1 stands X count_of body_of (reads place refl) in
+        ((place : RingPlace) → o ≡ Some place → Reads X Fits body_of Form count_of) → HasRing X Fits body_of o
+    has-ring X Fits body_of Form count_of at_least None None sizes stands told = record { ring = None; pages = []; many = refl; fit = tt; image = tt }
+    has-ring X Fits body_of Form count_of at_least None (Some n) sizes stands told = absurd stands
+    has-ring X Fits body_of Form count_of at_least (Some place) None sizes stands told = absurd stands
+    has-ring X Fits body_of Form count_of at_least (Some place) (Some n) sizes stands told =
+        let found = collected Form f (shape_in config place) at_least n sizes.0 sizes.1 stands X Fits count_of body_of (told place refl) in
         record {
           ring = Some (ring_counts count_of stands.s);
           pages = found.pages;
           many = found.many;
-          image = held Form f (shape_in config place) at_least n sizes.0 sizes.1 stands X count_of body_of (reads place refl);
+          fit = found.fit;
+          image = held Form f (shape_in config place) at_least n sizes.0 sizes.1 stands X Fits count_of body_of (told place refl);
         }
 
-    index-reads : IsWithinLimits config → (place : RingPlace) → config.index ≡ Some place → Reads IndexPage (λ number listed. index_body plan number listed.first listed.entries) (IsIndexForm config) (λ body. entries_per_page plan)
+    index-reads : IsWithinLimits config → (place : RingPlace) → config.index ≡ Some place → Reads IndexPage (λ listed. length listed.entries ≡ entries_per_page plan) (λ number listed. index_body plan number listed.first listed.entries) (IsIndexForm config) (λ body. entries_per_page plan)
     index-reads limits place is number page body small size bytes form =
-        (some-room config.geometry.page (form_in config) (bits_in config.buckets) (some-bits label config place is limits) refl large, (record { first = form.1.first; entries = form.1.entries }, form.1.bytes))
+        (some-room config.geometry.page (form_in config) (bits_in config.buckets) (some-bits label config place is limits) refl large, record { holds = record { first = form.1.first; entries = form.1.entries }; fit = form.1.full; is = form.1.bytes })
 
-    var-reads : Reads ContentPage content_body IsVarForm (λ body. 1)
-    var-reads number page body small size bytes is = (omega arith, content_of_page number page (omega (arith, size, large)) is)
+    var-reads : Reads ContentPage (IsContent plan) content_body IsVarForm (λ body. 1)
+    var-reads number page body small size bytes is = (omega arith, content_of_page plan number page size (omega (arith, size, large)) is)
 
-    log-reads : Reads (List Entry) (λ number rows. rows_body (plan.geometry.page - 8) (row_layout plan) number 0 (map stored_row rows)) (IsLogForm config) rows_count
+    log-reads : Reads (List Entry) (AllByRecursion (FitsPlan plan)) (λ number rows. rows_body (plan.geometry.page - 8) (row_layout plan) number 0 (map stored_row rows)) (IsLogForm config) rows_count
     log-reads number page body small size bytes is = (
       some_rows None page body number small (omega (arith, size, large)) (omega (arith, size, short)) bytes is,
-      (
-        map entry_of is.rows,
-        is.bytes ∙ ap (λ (k : ℕ). committed (rows_body (k - 8) (layout_in config) number 0 is.rows)) size
-            ∙ ap (λ (rows : List Row). committed (rows_body (config.geometry.page - 8) (layout_in config) number 0 rows)) (sym (stored_rows is.rows)),
-      ),
+      record {
+        holds = map entry_of is.rows;
+        fit = rows-fit plan is.rows is.plain is.storable;
+        is = is.bytes ∙ ap (λ (k : ℕ). committed (rows_body (k - 8) (layout_in config) number 0 is.rows)) size
+            ∙ ap (λ (rows : List Row). committed (rows_body (config.geometry.page - 8) (layout_in config) number 0 rows)) (sym (stored_rows is.rows));
+      },
     )
 
 -- ---- the table
@@ -235,19 +262,19 @@ module _ (label : Label) (config : TableConfig) (log : Option RingPlace) (f : Fl
   abbrev made_plan : Plan
   made_plan = plan label config log
 
-  index : HasRing label config log f large short IndexPage (λ number listed. index_body made_plan number listed.first listed.entries) config.index
-  index = has-ring label config log f large short IndexPage (λ number listed. index_body made_plan number listed.first listed.entries) (IsIndexForm config) (λ body. entries_per_page made_plan) 0
+  index : HasRing label config log f large short IndexPage (λ listed. length listed.entries ≡ entries_per_page made_plan) (λ number listed. index_body made_plan number listed.first listed.entries) config.index
+  index = has-ring label config log f large short IndexPage (λ listed. length listed.entries ≡ entries_per_page made_plan) (λ number listed. index_body made_plan number listed.first listed.entries) (IsIndexForm config) (λ body. entries_per_page made_plan) 0
       config.index stand.t.index (of-place config.index fits.limits.index fits.index) stand.index (index-reads label config log f large short fits.limits)
 
-  var : HasRing label config log f large short ContentPage content_body config.var
-  var = has-ring label config log f large short ContentPage content_body IsVarForm (λ body. 1) (tally_in config (page_at f) stand.t.rows).blob_end
+  var : HasRing label config log f large short ContentPage (IsContent made_plan) content_body config.var
+  var = has-ring label config log f large short ContentPage (IsContent made_plan) content_body IsVarForm (λ body. 1) (tally_in config (page_at f) stand.t.rows).blob_end
       config.var stand.t.var (of-place config.var fits.limits.var fits.var) stand.var (λ place is. var-reads label config log f large short)
 
   abbrev logged_body : ℕ → List Entry → List ℕ
   logged_body number rows = rows_body (made_plan.geometry.page - 8) (row_layout made_plan) number 0 (map stored_row rows)
 
-  logged : HasRing label config log f large short (List Entry) logged_body log
-  logged = has-ring label config log f large short (List Entry) logged_body (IsLogForm config) (rows_count label config log) 0
+  logged : HasRing label config log f large short (List Entry) (AllByRecursion (FitsPlan made_plan)) logged_body log
+  logged = has-ring label config log f large short (List Entry) (AllByRecursion (FitsPlan made_plan)) logged_body (IsLogForm config) (rows_count label config log) 0
       log stand.t.log (of-place log log-size.0 log-size.1) stand.logged (λ place is. log-reads label config log f large short)
 
   logs_newest : Newest logged.pages (has_rows logged.ring)
@@ -286,11 +313,25 @@ module _ (label : Label) (config : TableConfig) (log : Option RingPlace) (f : Fl
     logged = subst (λ (pages : List (List Entry)). OfPlace (λ place ring. RingImage (page_at f) (shape_in config place) ring (λ i count page. HoldsPage pages logged_body ring i count page)) log logged.ring) (sym logs_newest.same) logged.image;
   }
 
+  fit : PagesFit made_plan table
+  unfolding all_entries
+  fit = record {
+    counted = data_counted label config log f large short (index_end config (page_at f) stand.t.index) stand.t.rows rows_sizes.0 rows_sizes.1 stand.rows;
+    few_rows = data_few label config log f large short (index_end config (page_at f) stand.t.index) stand.t.rows rows_sizes.0 rows_sizes.1 stand.rows;
+    fit = data_fit label config log f large short (index_end config (page_at f) stand.t.index) stand.t.rows rows_sizes.0 rows_sizes.1 stand.rows;
+    index_each = index.many;
+    index_fit = index.fit;
+    var_each = var.many;
+    var_fit = var.fit;
+    log_fit = subst (AllByRecursion (AllByRecursion (FitsPlan made_plan))) (sym logs_newest.same) logged.fit;
+  }
+
 pub sound-images : SoundImages
 sound-images label config log f rows pages voids fits logs reaches told is =
     let stand = rings-stand config log f rows pages voids fits logs reaches told is in
     record {
       table = table label config log f pages fits logs reaches told stand;
       image = image label config log f pages fits logs reaches told stand;
+      fit = fit label config log f pages fits logs reaches told stand;
       kept = length-map stand.rows.s.kept (page_count (rows_count label config log)) ∙ stand.kept;
     }

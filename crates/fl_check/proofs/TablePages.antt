@@ -66,7 +66,7 @@ module _ (plan : Plan) (layout : RowLayout) (buckets : Option Buckets) (number :
       ∙ ap (λ (rs : List Row). committed (rows_body (plan.geometry.page - 8) (row_layout plan) number (bitmap_in buckets rs) rs)) (sym same)
       ∙ ap (λ (b : ℕ). committed (rows_body (plan.geometry.page - 8) (row_layout plan) number b (map stored_row entries))) (sym (bitmap-same plan buckets entries form.buckets_are))
 
-  room-same : rows_per_page plan ≡ (length page - 24) / layout_len layout
+  pub room-same : rows_per_page plan ≡ (length page - 24) / layout_len layout
   room-same = ap (λ (k : ℕ). (k - 24) / layout_len (row_layout plan)) form.size_is ∙ ap (λ (l : RowLayout). (length page - 24) / layout_len l) form.layout_is
 
   pub holds_entries : IsDataPage layout buckets number page → HoldsEntries plan number page

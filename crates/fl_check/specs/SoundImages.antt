@@ -1,12 +1,14 @@
 -- The pages of a sound table are the image of a table of the model, whether or not the model's facts hold of it.
-use Rattle.std.specs.Prelude.{◌≡◌, ℕ, ◌+◌, ◌≤◌, IsTrue, Option, Some, None, List, length}
+use Rattle.std.specs.Prelude.{◌≡◌, ℕ, ◌+◌, ◌≤◌, IsTrue, Option, Some, None, List, length, sum}
+use Rattle.std.specs.List.{AllByRecursion}
 use Rattle.fl_base.specs.declared.types.RingPlace.{RingPlace}
 use Rattle.fl_flash.specs.Flash.{FlashState, page_at}
 use Rattle.fl_flash.specs.Places.{extent}
+use Rattle.fl_model.specs.Facts.{FitsPlan, IsContent, counts_in}
 use Rattle.fl_model.specs.Image.{IsRingImage, HoldsRows, HoldsEntries, HoldsContent, HoldsLogged}
-use Rattle.fl_model.specs.Record.{Plan}
+use Rattle.fl_model.specs.Record.{Plan, rows_per_page, entries_per_page}
 use Rattle.fl_model.specs.Ring as model
-use Rattle.fl_model.specs.Table.{Table, lose}
+use Rattle.fl_model.specs.Table.{Table, full_pages, log_pages, lose}
 use Rattle.fl_plan.specs.Plan.{Label, blocks_in, plan_of_table, with_log}
 use Rattle.fl_plan.specs.declared.table_config.TableConfig.{TableConfig}
 use Rattle.fl_ring.specs.Counts.{model_shape}
@@ -14,9 +16,10 @@ use Rattle.fl_ring.specs.Ring.{Shape, place}
 use Rattle.fl_check.specs.Whole.{Fits, LogFits, IsFinding, shape_in, rows_shape}
 use Rattle.fl_check.specs.declared.finding.Finding.TheVariants.{Sound}
 
--- the pages of a ring are the image of this one; `Holds` says what its kept pages hold
-abbrev pub RingImage : (ℕ → List ℕ) → Shape → model.Ring → (ℕ → ℕ → List ℕ → Type 0) → Type 0
-RingImage page r ring Holds = IsRingImage (model_shape r) ring (λ number. page (place r number)) Holds
+-- a ring of the model, whose image the pages of a ring are; `Holds` says what its kept pages hold
+pub record RingImage (page : ℕ → List ℕ) (r : Shape) (ring : model.Ring) (Holds : ℕ → ℕ → List ℕ → Type 0) : Type 0 where
+  pub is : model.IsRing (model_shape r) ring
+  pub pages : IsRingImage (model_shape r) ring (λ number. page (place r number)) Holds
 
 -- .. of a ring that a table may not have
 abbrev pub OfPlace : (RingPlace → model.Ring → Type 0) → Option RingPlace → Option model.Ring → Type 0
@@ -33,10 +36,22 @@ pub record TableImage (config : TableConfig) (log : Option RingPlace) (page : �
   pub var : OfPlace (λ place ring. RingImage page (shape_in config place) ring (HoldsContent table ring)) config.var table.var
   pub logged : OfPlace (λ place ring. RingImage page (shape_in config place) ring (HoldsLogged plan table ring)) log table.log
 
+-- the facts of a table that a check looks at page by page
+pub record PagesFit (plan : Plan) (table : Table) : Type 0 where
+  pub counted : sum table.rows.counts ≡ length table.entries
+  pub few_rows : AllByRecursion (λ count. count ≤ rows_per_page plan) table.rows.counts
+  pub fit : AllByRecursion (FitsPlan plan) table.entries
+  pub index_each : length table.index_pages ≡ full_pages (counts_in table.index)
+  pub index_fit : AllByRecursion (λ page. length page.entries ≡ entries_per_page plan) table.index_pages
+  pub var_each : length table.var_pages ≡ full_pages (counts_in table.var)
+  pub var_fit : AllByRecursion (IsContent plan) table.var_pages
+  pub log_fit : AllByRecursion (AllByRecursion (FitsPlan plan)) (log_pages table)
+
 -- a table whose image the pages are, with as many kept data pages as a check tells
 pub record HasImage (config : TableConfig) (log : Option RingPlace) (page : ℕ → List ℕ) (plan : Plan) (pages : ℕ) : Type 0 where
   pub table : Table
   pub image : TableImage config log page plan table
+  pub fit : PagesFit plan table
   pub kept : length table.rows.counts ≡ pages
 
 -- where a check finds a table sound, on a flash whose medium reaches to its end: the plan has any name, base and width
