@@ -1,17 +1,20 @@
 -- The pages of a ring that stands for a state are the image of a ring of the model, where each committed page holds something.
-use Rattle.std.proofs.Common.{◌≡◌, ℕ, ◌+◌, ◌-◌, ◌*◌, ◌%◌, ◌^◌, ◌≤◌, ◌<◌, ◌++◌, inl, inr, Option, Some, None, IfSome, List, length, get_or, refl, sym, ◌∙◌, ap, subst, arith}
+use Rattle.std.proofs.Common.{◌≡◌, ℕ, ◌+◌, ◌-◌, ◌*◌, ◌%◌, ◌^◌, ◌≤◌, ◌<◌, ◌++◌, inl, inr, true, false, Option, Some, None, IfSome, List, length, get_or, refl, sym, ◌∙◌, ap, subst, arith}
 use Rattle.std.specs.List.{AllByRecursion}
 use Rattle.std.proofs.Math.ListN.{get_or-eq_default}
 use Rattle.std.proofs.Math.Nat.{mod-lt, mul-le-mul_right}
 use Rattle.std.proofs.lemmas.Bool.{cases_lt}
 use Rattle.std.proofs.lemmas.List.{length-map}
 use Rattle.fl_flash.specs.Flash.{FlashState, page_at}
+use Rattle.fl_mark.specs.Mark.{state_of_page}
 use Rattle.fl_model.specs.Image.{HoldsPage}
 use Rattle.fl_model.specs.Layout.{committed}
 use Rattle.fl_model.specs.Ring as model
 use Rattle.fl_ring.specs.Counts.{page_count, ring_counts}
+use Rattle.fl_ring.specs.Newest.{commits}
 use Rattle.fl_ring.specs.Ring.{Shape, RingState, IsShape, HoldsKept, count, oldest, place, room, committed_end}
 use Rattle.fl_ring.proofs.Counts.{counts_ring}
+use Rattle.fl_ring.proofs.Found.{committed_state}
 use Rattle.fl_ring.proofs.Images.{image_from_on}
 use Rattle.fl_check.specs.SoundImages.{RingImage}
 use Rattle.fl_check.specs.StandingRings.{HaveSize, StandsRuled}
@@ -42,8 +45,15 @@ module _ (Form : ℕ → List ℕ → Type 0) (f : FlashState) (r : Shape) (at_l
       none : None ≡ Some body → ⊥
       none e = cc
 
-  bytes_is : (i : ℕ) (body : List ℕ) → i < count s → get_or s.kept i None ≡ Some body → page_of i ≡ body ++ committed_end
+  pub bytes_is : (i : ℕ) (body : List ℕ) → i < count s → get_or s.kept i None ≡ Some body → page_of i ≡ body ++ committed_end
   bytes_is i body lt is = (subst (λ (x : Option (List ℕ)). HoldsKept r x (page_of i)) is (st.good.on.kept i lt)).0
+
+  -- whether a kept page is committed
+  pub void_is : (i : ℕ) → i < count s → get_or s.kept i None ≡ None → commits (state_of_page (page_of i)) ≡ false
+  void_is i lt is = ap commits (subst (λ (x : Option (List ℕ)). HoldsKept r x (page_of i)) is (st.good.on.kept i lt))
+
+  pub commits_is : (i : ℕ) (body : List ℕ) → i < count s → get_or s.kept i None ≡ Some body → commits (state_of_page (page_of i)) ≡ true
+  commits_is i body lt is = ap (λ (l : List ℕ). commits (state_of_page l)) (bytes_is i body lt is) ∙ ap commits (committed_state body)
 
   low : (i : ℕ) → i < count s → oldest s + i < 2 ^ 32
   low i lt = omega (arith, lt, st.good.on.ring.not_negative, st.good.fits, st.renumbered_next, st.next)

@@ -1,3 +1,4 @@
+pub mod AscendingPages
 pub mod BlobEnds
 pub mod BlobReaches
 pub mod BlobsKnown

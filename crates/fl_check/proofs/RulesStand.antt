@@ -413,6 +413,9 @@ module _ (page : ℕ → List ℕ) (r : Shape) (at_least : ℕ) (n : Numbering) 
           subst (λ (x : Option (List ℕ)). IfSome x (λ body. number_of body ≡ oldest state + i)) (sym (body_there i few))
           (subst (λ (k : ℕ). IfSome (body_at i) (λ body. number_of body ≡ n.next - k + i)) (sym count_is) (number_at i few))
 
+      placed : (i : ℕ) → i < count state → kept_page r m i ≡ place r (oldest state + i)
+      placed i lt = subst (λ (k : ℕ). kept_page r m i ≡ r.first + (n.next - k + i) % room r) (sym count_is) (place_is i (omega (arith, lt, count_is)))
+
       formed : (i : ℕ) (body : List ℕ) → i < count state → get_or bodies i None ≡ Some body → Form (oldest state + i) (page (place r (oldest state + i)))
       formed i body lt here =
           let few : i < m.kept = omega (arith, lt, count_is) in
@@ -453,6 +456,7 @@ rules-stand Form f r at_least n shape size told ends is forms rest =
         fits = omega (arith, next, is.numbers.left);
       };
       kept = count_is (page_at f) r at_least n shape size is Form ends forms b;
+      places = placed (page_at f) r at_least n shape size is Form ends forms b;
       next = refl;
       renumbered_next = next;
       torn = refl;

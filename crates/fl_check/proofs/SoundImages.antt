@@ -1,5 +1,5 @@
 -- The pages of a sound table are the image of a table of the model.
-use Rattle.std.proofs.Common.{◌≡◌, ℕ, zero, suc, ◌+◌, ◌-◌, ◌/◌, ◌^◌, ◌≤◌, ◌<◌, ◌++◌, ◌∷◌, nat_lt, Bool, true, ◌||◌, cond, IsTrue, Option, Some, None, IfSome, List, [], length, map, take, drop, sum, replicate, get_or, refl, sym, ◌∙◌, ap, subst, arith, append_assoc, length-drop}
+use Rattle.std.proofs.Common.{◌≡◌, ℕ, zero, suc, ◌+◌, ◌-◌, ◌/◌, ◌^◌, ◌≤◌, ◌<◌, ◌++◌, ◌∷◌, nat_lt, Bool, true, ◌||◌, cond, IsTrue, Option, Some, None, IfSome, List, [], length, map, take, drop, sum, replicate, get_or, slice_get, refl, sym, ◌∙◌, ap, subst, arith, append_assoc, length-drop}
 use Rattle.std.specs.List.{flat_map, list_any, AllByRecursion}
 use Rattle.std.proofs.lemmas.Bool.{lt-ltb}
 use Rattle.std.proofs.lemmas.List.{take_all, take-append-drop, length-map, length-take-le, drop-drop}
@@ -16,21 +16,25 @@ use Rattle.fl_model.specs.Row.{Row, stored_row, le}
 use Rattle.fl_model.specs.Table.{Table, Entry, full_pages, has_rows}
 use Rattle.fl_model.proofs.FullPages.{full-cons, full-one}
 use Rattle.fl_page.specs.Page.{rows_in}
+use Rattle.fl_page.specs.Steps.{Ascends}
 use Rattle.fl_plan.specs.Limits.{IsRingSize, IsWithinLimits}
 use Rattle.fl_plan.specs.Plan.{Label, blocks_in, bits_in, plan_of_table, with_log}
 use Rattle.fl_plan.specs.declared.table_config.TableConfig.{TableConfig}
 use Rattle.fl_ring.specs.Counts.{page_count, ring_counts}
-use Rattle.fl_ring.specs.Ring.{IsShape, count, oldest, committed_end}
+use Rattle.fl_ring.specs.Ring.{IsShape, count, oldest, place, committed_end}
 use Rattle.fl_check.specs.ContentPage.{IsContentPage}
 use Rattle.fl_check.specs.DataPage.{HasBuckets, HasForm, IsDataPage}
+use Rattle.fl_check.specs.Marks.{kept_page}
+use Rattle.fl_check.specs.Rising.{KeysAscend}
 use Rattle.fl_check.specs.SoundImages.{RingImage, OfPlace, TableImage, PagesFit, SoundImages}
 use Rattle.fl_check.specs.StandingRings.{HaveSize, StandsRuled, RingsStand}
 use Rattle.fl_check.specs.Whole.{Fits, LogFits, OfRing, IsIndexForm, IsRowsForm, IsVarForm, IsLogForm, form_in, layout_in, shape_in, rows_shape, index_end, tally_in}
 use Rattle.fl_check.specs.declared.numbering.Numbering.{Numbering}
+use Rattle.fl_check.proofs.AscendingPages.{HasRowsOf, map-flat, rows-ascend, keys-rise}
 use Rattle.fl_check.proofs.Collected.{Held, all-flat, sum-flat, piece}
 use Rattle.fl_check.proofs.ConfigFacts.{has-buckets, some-bits, some-room}
 use Rattle.fl_check.proofs.DataPages.{data_rows}
-use Rattle.fl_check.proofs.HeldRings.{within, first_same, read, counts_are, held_as, collected, held}
+use Rattle.fl_check.proofs.HeldRings.{within, bytes_is, void_is, commits_is, first_same, read, counts_are, held_as, collected, held}
 use Rattle.fl_check.proofs.SoundRings.{have_size, log-sizes, rings-stand}
 use Rattle.fl_check.proofs.StoredRows.{rows-fit}
 use Rattle.fl_check.proofs.TablePages.{entry_of, stored_rows, body-same, room-same}
@@ -190,6 +194,20 @@ module _ (label : Label) (config : TableConfig) (log : Option RingPlace) where
           by_kept i lt None is = tt
           by_kept i lt (Some body) is = (read (IsRowsForm config) f (rows_shape config) at_least n shape size st rows_count Read reads i body lt is).1.fit
 
+      has-rows : (i : ℕ) → i < count st.s → (x : Option (List ℕ)) → get_or st.s.kept i None ≡ x → HasRowsOf (layout_in config) (λ x. map stored_row (entries_in x)) (page_at f (place (rows_shape config) (oldest st.s + i))) x
+      unfolding entries_of
+      has-rows i lt None is = (void_is (IsRowsForm config) f (rows_shape config) at_least n shape size st i lt is, refl)
+      has-rows i lt (Some body) is = (
+        commits_is (IsRowsForm config) f (rows_shape config) at_least n shape size st i body lt is,
+        ap (rows_in (layout_in config)) (bytes_is (IsRowsForm config) f (rows_shape config) at_least n shape size st i body lt is) ∙ sym (stored_rows (rows_in (layout_in config) (body ++ committed_end))),
+      )
+
+      pub data_rise : KeysAscend (layout_in config) (page_at f) (rows_shape config) n.marks → (i j : ℕ) (a b : Entry) → i < j → slice_get entries i ≡ Some a → slice_get entries j ≡ Some b → a.kept.key < b.kept.key
+      data_rise rising = keys-rise None entries (subst (Ascends None) (sym (map-flat stored_row entries_in st.s.kept))
+          (rows-ascend (layout_in config) (λ x. map stored_row (entries_in x)) (page_at f) (rows_shape config) n.marks rising st.s.kept 0 (omega (arith, st.kept))
+          (λ i lt. subst (λ (p : ℕ). HasRowsOf (layout_in config) (λ x. map stored_row (entries_in x)) (page_at f p) (get_or st.s.kept i None)) (sym (st.places i lt) ∙ ap (kept_page (rows_shape config) n.marks) (let e : i ≡ 0 + i = omega arith in e))
+          (has-rows i lt (get_or st.s.kept i None) refl))))
+
     -- ---- a ring that a table may not have
 
     -- its image, and what its pages hold
@@ -319,6 +337,7 @@ module _ (label : Label) (config : TableConfig) (log : Option RingPlace) (f : Fl
     counted = data_counted label config log f large short (index_end config (page_at f) stand.t.index) stand.t.rows rows_sizes.0 rows_sizes.1 stand.rows;
     few_rows = data_few label config log f large short (index_end config (page_at f) stand.t.index) stand.t.rows rows_sizes.0 rows_sizes.1 stand.rows;
     fit = data_fit label config log f large short (index_end config (page_at f) stand.t.index) stand.t.rows rows_sizes.0 rows_sizes.1 stand.rows;
+    ascending = data_rise label config log f large short (index_end config (page_at f) stand.t.index) stand.t.rows rows_sizes.0 rows_sizes.1 stand.rows stand.sound.rings.rows.keys;
     index_each = index.many;
     index_fit = index.fit;
     var_each = var.many;

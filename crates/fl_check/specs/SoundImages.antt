@@ -1,5 +1,5 @@
 -- The pages of a sound table are the image of a table of the model, whether or not the model's facts hold of it.
-use Rattle.std.specs.Prelude.{◌≡◌, ℕ, ◌+◌, ◌≤◌, IsTrue, Option, Some, None, List, length, sum}
+use Rattle.std.specs.Prelude.{◌≡◌, ℕ, ◌+◌, ◌<◌, ◌≤◌, IsTrue, Option, Some, None, List, length, sum, slice_get}
 use Rattle.std.specs.List.{AllByRecursion}
 use Rattle.fl_base.specs.declared.types.RingPlace.{RingPlace}
 use Rattle.fl_flash.specs.Flash.{FlashState, page_at}
@@ -8,7 +8,7 @@ use Rattle.fl_model.specs.Facts.{FitsPlan, IsContent, counts_in}
 use Rattle.fl_model.specs.Image.{IsRingImage, HoldsRows, HoldsEntries, HoldsContent, HoldsLogged}
 use Rattle.fl_model.specs.Record.{Plan, rows_per_page, entries_per_page}
 use Rattle.fl_model.specs.Ring as model
-use Rattle.fl_model.specs.Table.{Table, full_pages, log_pages, lose}
+use Rattle.fl_model.specs.Table.{Table, Entry, full_pages, log_pages, lose}
 use Rattle.fl_plan.specs.Plan.{Label, blocks_in, plan_of_table, with_log}
 use Rattle.fl_plan.specs.declared.table_config.TableConfig.{TableConfig}
 use Rattle.fl_ring.specs.Counts.{model_shape}
@@ -41,6 +41,7 @@ pub record PagesFit (plan : Plan) (table : Table) : Type 0 where
   pub counted : sum table.rows.counts ≡ length table.entries
   pub few_rows : AllByRecursion (λ count. count ≤ rows_per_page plan) table.rows.counts
   pub fit : AllByRecursion (FitsPlan plan) table.entries
+  pub ascending : (i j : ℕ) (a b : Entry) → i < j → slice_get table.entries i ≡ Some a → slice_get table.entries j ≡ Some b → a.kept.key < b.kept.key
   pub index_each : length table.index_pages ≡ full_pages (counts_in table.index)
   pub index_fit : AllByRecursion (λ page. length page.entries ≡ entries_per_page plan) table.index_pages
   pub var_each : length table.var_pages ≡ full_pages (counts_in table.var)

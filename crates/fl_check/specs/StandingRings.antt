@@ -8,6 +8,7 @@ use Rattle.fl_ring.specs.Mounting.{IsGood}
 use Rattle.fl_ring.specs.Numbers.{renumbered}
 use Rattle.fl_ring.specs.Ring.{Shape, RingState, room, count, oldest, place}
 use Rattle.fl_check.specs.Endings.{IsEnded}
+use Rattle.fl_check.specs.Marks.{kept_page}
 use Rattle.fl_check.specs.Whole.{Fits, LogFits, OfRing, IsSound, IsFinding, IsIndexForm, IsRowsForm, IsVarForm, IsLogForm, shape_in, rows_shape, index_end, tally_in}
 use Rattle.fl_check.specs.declared.finding.Finding.TheVariants.{Sound}
 use Rattle.fl_check.specs.declared.numbering.Numbering.{Numbering}
@@ -27,6 +28,7 @@ pub record StandsRuled (Form : ℕ → List ℕ → Type 0) (f : FlashState) (r 
   pub s : RingState
   pub good : IsGood f r at_least s
   pub kept : count s ≡ n.marks.kept
+  pub places : (i : ℕ) → i < count s → kept_page r n.marks i ≡ place r (oldest s + i)
   pub next : s.next ≡ n.next
   -- a mount gives its pages no other numbers
   pub renumbered_next : (renumbered r at_least s).next ≡ n.next
