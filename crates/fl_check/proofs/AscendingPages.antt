@@ -1,5 +1,5 @@
 -- The rows of the kept pages as one list: their keys ascend where those of the pages do.
-use Rattle.std.proofs.Common.{◌≡◌, ℕ, zero, suc, ◌+◌, ◌<◌, ◌≤◌, ◌++◌, nat_lt, Bool, true, false, cond, Option, Some, None, List, [], ◌∷◌, length, map, get_or, slice_get, refl, sym, ◌∙◌, ap, subst, arith}
+use Rattle.std.proofs.Common.{◌≡◌, ℕ, zero, suc, ◌+◌, ◌<◌, ◌≤◌, ◌++◌, true, false, Option, Some, None, List, [], ◌∷◌, length, map, get_or, slice_get, refl, sym, ◌∙◌, ap, subst, arith}
 use Rattle.std.specs.List.{flat_map}
 use Rattle.std.proofs.lemmas.Bool.{cond-true, cond-false, lt-ltb, ltb-true}
 use Rattle.std.proofs.lemmas.List.{map-append}
@@ -13,7 +13,7 @@ use Rattle.fl_page.specs.Steps.{Ascends}
 use Rattle.fl_ring.specs.Newest.{commits}
 use Rattle.fl_ring.specs.Ring.{Shape}
 use Rattle.fl_check.specs.Marks.{kept_page}
-use Rattle.fl_check.specs.Rising.{last_in, last_after, last_key, KeysAscend}
+use Rattle.fl_check.specs.Rising.{last_in, last_key, KeysAscend}
 use Rattle.fl_check.specs.declared.marks.Marks.{Marks}
 
 join : (before : Option ℕ) (rows others : List Row) → Ascends before rows → Ascends (last_in before rows) others → Ascends before (rows ++ others)

@@ -67,7 +67,7 @@ module _ (Form : ℕ → List ℕ → Type 0) (f : FlashState) (r : Shape) (at_l
     pub read : (i : ℕ) (body : List ℕ) → i < count s → get_or s.kept i None ≡ Some body → (0 < count_of body) × Read (oldest s + i) (page_of i) body
     read i body lt is = reads (oldest s + i) (page_of i) body (low i lt) (sizes (oldest s + i)) (bytes_is i body lt is) (st.forms i body lt is)
 
-    some : (i : ℕ) → i < count s → IfSome (get_or s.kept i None) (λ body. 0 < count_of body)
+    pub some : (i : ℕ) → i < count s → IfSome (get_or s.kept i None) (λ body. 0 < count_of body)
     some i lt = by_kept (get_or s.kept i None) refl
       where
         by_kept : (x : Option (List ℕ)) → get_or s.kept i None ≡ x → IfSome x (λ body. 0 < count_of body)

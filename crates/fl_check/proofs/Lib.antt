@@ -46,6 +46,7 @@ pub mod SoundRings
 pub mod Stops
 pub mod StoredRows
 pub mod TablePages
+pub mod TalliedPages
 pub mod TableTold
 pub mod Tallies
 pub mod Wholes

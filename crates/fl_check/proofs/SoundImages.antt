@@ -28,15 +28,18 @@ use Rattle.fl_check.specs.Marks.{kept_page}
 use Rattle.fl_check.specs.Rising.{KeysAscend}
 use Rattle.fl_check.specs.SoundImages.{RingImage, OfPlace, TableImage, PagesFit, SoundImages}
 use Rattle.fl_check.specs.StandingRings.{HaveSize, StandsRuled, RingsStand}
+use Rattle.fl_check.specs.Tally.{tally_of}
 use Rattle.fl_check.specs.Whole.{Fits, LogFits, OfRing, IsIndexForm, IsRowsForm, IsVarForm, IsLogForm, form_in, layout_in, shape_in, rows_shape, index_end, tally_in}
 use Rattle.fl_check.specs.declared.numbering.Numbering.{Numbering}
+use Rattle.fl_check.specs.declared.tally.Tally.{Tally}
 use Rattle.fl_check.proofs.AscendingPages.{HasRowsOf, map-flat, rows-ascend, keys-rise}
 use Rattle.fl_check.proofs.Collected.{Held, all-flat, sum-flat, piece}
 use Rattle.fl_check.proofs.ConfigFacts.{has-buckets, some-bits, some-room}
 use Rattle.fl_check.proofs.DataPages.{data_rows}
-use Rattle.fl_check.proofs.HeldRings.{within, bytes_is, void_is, commits_is, first_same, read, counts_are, held_as, collected, held}
+use Rattle.fl_check.proofs.HeldRings.{within, bytes_is, void_is, commits_is, some, first_same, read, counts_are, held_as, collected, held}
 use Rattle.fl_check.proofs.SoundRings.{have_size, log-sizes, rings-stand}
 use Rattle.fl_check.proofs.StoredRows.{rows-fit}
+use Rattle.fl_check.proofs.TalliedPages.{IsTallied, tallied}
 use Rattle.fl_check.proofs.TablePages.{entry_of, stored_rows, body-same, room-same}
 
 -- ---- what a page holds
@@ -202,11 +205,22 @@ module _ (label : Label) (config : TableConfig) (log : Option RingPlace) where
         ap (rows_in (layout_in config)) (bytes_is (IsRowsForm config) f (rows_shape config) at_least n shape size st i body lt is) ∙ sym (stored_rows (rows_in (layout_in config) (body ++ committed_end))),
       )
 
+      has-placed : (i : ℕ) → i < count st.s → HasRowsOf (layout_in config) (λ x. map stored_row (entries_in x)) (page_at f (kept_page (rows_shape config) n.marks (0 + i))) (get_or st.s.kept i None)
+      has-placed i lt =
+          subst (λ (p : ℕ). HasRowsOf (layout_in config) (λ x. map stored_row (entries_in x)) (page_at f p) (get_or st.s.kept i None)) (sym (st.places i lt) ∙ ap (kept_page (rows_shape config) n.marks) (let e : i ≡ 0 + i = omega arith in e))
+          (has-rows i lt (get_or st.s.kept i None) refl)
+
       pub data_rise : KeysAscend (layout_in config) (page_at f) (rows_shape config) n.marks → (i j : ℕ) (a b : Entry) → i < j → slice_get entries i ≡ Some a → slice_get entries j ≡ Some b → a.kept.key < b.kept.key
       data_rise rising = keys-rise None entries (subst (Ascends None) (sym (map-flat stored_row entries_in st.s.kept))
-          (rows-ascend (layout_in config) (λ x. map stored_row (entries_in x)) (page_at f) (rows_shape config) n.marks rising st.s.kept 0 (omega (arith, st.kept))
-          (λ i lt. subst (λ (p : ℕ). HasRowsOf (layout_in config) (λ x. map stored_row (entries_in x)) (page_at f p) (get_or st.s.kept i None)) (sym (st.places i lt) ∙ ap (kept_page (rows_shape config) n.marks) (let e : i ≡ 0 + i = omega arith in e))
-          (has-rows i lt (get_or st.s.kept i None) refl))))
+          (rows-ascend (layout_in config) (λ x. map stored_row (entries_in x)) (page_at f) (rows_shape config) n.marks rising st.s.kept 0 (omega (arith, st.kept)) has-placed))
+
+      pub row_counts : (body : List ℕ) → rows_count body ≡ length (map stored_row (entries_in (Some body)))
+      unfolding rows_count
+      row_counts body = sym (length-map (entries_of body) stored_row)
+
+      pub data_tallied : IsTallied (layout_in config) (λ x. map stored_row (entries_in x)) rows_count row_counts (page_at f) (rows_shape config) n.marks st.s.kept 0
+      data_tallied = tallied (layout_in config) (λ x. map stored_row (entries_in x)) rows_count row_counts (page_at f) (rows_shape config) n.marks st.s.kept 0
+          (λ i lt. (has-placed i lt, some (IsRowsForm config) f (rows_shape config) at_least n shape size st rows_count Read reads i lt))
 
     -- ---- a ring that a table may not have
 
@@ -259,8 +273,8 @@ module _ (label : Label) (config : TableConfig) (log : Option RingPlace) where
 
 -- ---- the table
 
-module _ (label : Label) (config : TableConfig) (log : Option RingPlace) (f : FlashState) (pages : ℕ) (fits : Fits config f) (logs : LogFits log f) (reaches : f.start + extent f.geometry f.blocks ≤ length f.media.content)
-    (told : IsTrue f.media.tells) (stand : RingsStand config log f pages) where
+module _ (label : Label) (config : TableConfig) (log : Option RingPlace) (f : FlashState) (records pages voids : ℕ) (fits : Fits config f) (logs : LogFits log f) (reaches : f.start + extent f.geometry f.blocks ≤ length f.media.content)
+    (told : IsTrue f.media.tells) (stand : RingsStand config log f records pages voids) where
   large : 64 ≤ config.geometry.page
   large = fits.limits.geometry.page_low
 
@@ -345,12 +359,31 @@ module _ (label : Label) (config : TableConfig) (log : Option RingPlace) (f : Fl
     log_fit = subst (AllByRecursion (AllByRecursion (FitsPlan made_plan))) (sym logs_newest.same) logged.fit;
   }
 
+  abbrev tally : ℕ → Tally
+  tally k = tally_of (layout_in config) (page_at f) (rows_shape config) stand.t.rows.marks k
+
+  all_told : tally (0 + length stand.rows.s.kept) ≡ tally stand.t.rows.marks.kept
+  all_told = ap (λ (k : ℕ). tally_of (layout_in config) (page_at f) (rows_shape config) stand.t.rows.marks k) (let e : 0 + length stand.rows.s.kept ≡ stand.t.rows.marks.kept = omega (arith, stand.rows.kept) in e)
+
+  many_rows : length table.entries ≡ records
+  unfolding all_entries
+  many_rows =
+      let told = data_tallied label config log f large short (index_end config (page_at f) stand.t.index) stand.t.rows rows_sizes.0 rows_sizes.1 stand.rows in
+      omega (arith, fit.counted, told.rows, ap (λ (t : Tally). t.rows) all_told, stand.records_is)
+
+  many_voids : full_pages table.rows.counts + voids ≡ pages
+  many_voids =
+      let told = data_tallied label config log f large short (index_end config (page_at f) stand.t.index) stand.t.rows rows_sizes.0 rows_sizes.1 stand.rows in
+      omega (arith, told.voids, ap (λ (t : Tally). t.voids) all_told, stand.voids_is, stand.kept)
+
 pub sound-images : SoundImages
 sound-images label config log f rows pages voids fits logs reaches told is =
     let stand = rings-stand config log f rows pages voids fits logs reaches told is in
     record {
-      table = table label config log f pages fits logs reaches told stand;
-      image = image label config log f pages fits logs reaches told stand;
-      fit = fit label config log f pages fits logs reaches told stand;
-      kept = length-map stand.rows.s.kept (page_count (rows_count label config log)) ∙ stand.kept;
+      table = table label config log f rows pages voids fits logs reaches told stand;
+      image = image label config log f rows pages voids fits logs reaches told stand;
+      fit = fit label config log f rows pages voids fits logs reaches told stand;
+      rows_are = many_rows label config log f rows pages voids fits logs reaches told stand;
+      voids_are = many_voids label config log f rows pages voids fits logs reaches told stand;
+      pages_are = length-map stand.rows.s.kept (page_count (rows_count label config log)) ∙ stand.kept;
     }

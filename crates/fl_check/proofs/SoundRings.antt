@@ -18,6 +18,7 @@ use Rattle.fl_check.specs.RingRules.{KeyOrder, IsRingSound}
 use Rattle.fl_check.specs.StandingRings.{HaveSize, EndsCommitted, StandsRuled, SoundRingsStand}
 use Rattle.fl_check.specs.Whole.{Fits, OfRing, IsIndexForm, IsRowsForm, IsVarForm, IsLogForm, layout_in, shape_in}
 use Rattle.fl_check.specs.declared.numbering.Numbering.{Numbering}
+use Rattle.fl_check.specs.declared.tally.Tally.{Tally}
 use Rattle.fl_check.proofs.RulesStand.{rules-stand}
 
 -- ---- the forms
@@ -86,4 +87,6 @@ rings-stand config log f rows pages voids fits logs reaches told (blob_end, is) 
       var = of-ring config f fits reaches told _ _ config.var _ is.t.var fits.limits.var fits.var (var_ends config) is.sound.rings.var;
       logged = of-ring config f fits reaches told _ _ log 0 is.t.log sizes.0 sizes.1 (log_ends config) is.sound.rings.logged;
       kept = stand.kept ∙ sym is.kept_is;
+      records_is = ap (λ (t : Tally). t.rows) (sym is.tally_is);
+      voids_is = ap (λ (t : Tally). t.voids) (sym is.tally_is);
     }

@@ -48,16 +48,18 @@ pub record PagesFit (plan : Plan) (table : Table) : Type 0 where
   pub var_fit : AllByRecursion (IsContent plan) table.var_pages
   pub log_fit : AllByRecursion (AllByRecursion (FitsPlan plan)) (log_pages table)
 
--- a table whose image the pages are, with as many kept data pages as a check tells
-pub record HasImage (config : TableConfig) (log : Option RingPlace) (page : ℕ → List ℕ) (plan : Plan) (pages : ℕ) : Type 0 where
+-- a table whose image the pages are, with as many rows, kept data pages and void ones as a check tells
+pub record HasImage (config : TableConfig) (log : Option RingPlace) (page : ℕ → List ℕ) (plan : Plan) (rows pages voids : ℕ) : Type 0 where
   pub table : Table
   pub image : TableImage config log page plan table
   pub fit : PagesFit plan table
-  pub kept : length table.rows.counts ≡ pages
+  pub rows_are : length table.entries ≡ rows
+  pub pages_are : length table.rows.counts ≡ pages
+  pub voids_are : full_pages table.rows.counts + voids ≡ pages
 
 -- where a check finds a table sound, on a flash whose medium reaches to its end: the plan has any name, base and width
 abbrev pub SoundImages : Type 0
 SoundImages =
     (label : Label) (config : TableConfig) (log : Option RingPlace) (f : FlashState) (rows pages voids : ℕ) → Fits config f → LogFits log f →
     f.start + extent f.geometry f.blocks ≤ length f.media.content → IsTrue f.media.tells →
-    IsFinding config log (page_at f) (Sound rows pages voids) → HasImage config log (page_at f) (with_log (blocks_in log) (plan_of_table label config)) pages
+    IsFinding config log (page_at f) (Sound rows pages voids) → HasImage config log (page_at f) (with_log (blocks_in log) (plan_of_table label config)) rows pages voids

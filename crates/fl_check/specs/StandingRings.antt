@@ -36,7 +36,7 @@ pub record StandsRuled (Form : ℕ → List ℕ → Type 0) (f : FlashState) (r 
   pub forms : (i : ℕ) (body : List ℕ) → i < count s → get_or s.kept i None ≡ Some body → Form (oldest s + i) (page_at f (place r (oldest s + i)))
 
 -- .. of each ring of a table, whose numbers begin where a check begins them
-pub record RingsStand (config : TableConfig) (log : Option RingPlace) (f : FlashState) (pages : ℕ) : Type 0 where
+pub record RingsStand (config : TableConfig) (log : Option RingPlace) (f : FlashState) (records pages voids : ℕ) : Type 0 where
   pub t : TableNumbers
   pub sound : IsSound config log (page_at f) t
   pub index : OfRing (λ place n. StandsRuled (IsIndexForm config) f (shape_in config place) 0 n) config.index t.index
@@ -44,10 +44,12 @@ pub record RingsStand (config : TableConfig) (log : Option RingPlace) (f : Flash
   pub var : OfRing (λ place n. StandsRuled IsVarForm f (shape_in config place) (tally_in config (page_at f) t.rows).blob_end n) config.var t.var
   pub logged : OfRing (λ place n. StandsRuled (IsLogForm config) f (shape_in config place) 0 n) log t.log
   pub kept : count rows.s ≡ pages
+  pub records_is : (tally_in config (page_at f) t.rows).rows ≡ records
+  pub voids_is : (tally_in config (page_at f) t.rows).voids ≡ voids
 
 -- where a check finds a table sound, on a flash whose medium reaches to its end
 abbrev pub SoundRingsStand : Type 0
 SoundRingsStand =
     (config : TableConfig) (log : Option RingPlace) (f : FlashState) (rows pages voids : ℕ) → Fits config f → LogFits log f →
     f.start + extent f.geometry f.blocks ≤ length f.media.content → IsTrue f.media.tells →
-    IsFinding config log (page_at f) (Sound rows pages voids) → RingsStand config log f pages
+    IsFinding config log (page_at f) (Sound rows pages voids) → RingsStand config log f rows pages voids
