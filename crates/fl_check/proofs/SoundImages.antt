@@ -1,5 +1,5 @@
 -- The pages of a sound table are the image of a table of the model.
-use Rattle.std.proofs.Common.{◌≡◌, ℕ, zero, suc, ◌+◌, ◌-◌, ◌/◌, ◌^◌, ◌≤◌, ◌<◌, ◌++◌, ◌∷◌, nat_lt, Bool, true, ◌||◌, cond, IsTrue, Option, Some, None, IfSome, List, [], length, map, take, drop, sum, replicate, get_or, slice_get, refl, sym, ◌∙◌, ap, subst, arith, append_assoc, length-drop}
+use Rattle.std.proofs.Common.{◌≡◌, ℕ, zero, suc, ◌+◌, ◌-◌, ◌/◌, ◌^◌, ◌≤◌, ◌<◌, ◌⊎◌, inl, inr, ◌++◌, ◌∷◌, nat_lt, Bool, true, ◌||◌, cond, IsTrue, Option, Some, None, IfSome, List, [], length, map, take, drop, sum, replicate, get_or, slice_get, refl, sym, ◌∙◌, ap, subst, arith, append_assoc, length-drop}
 use Rattle.std.specs.List.{flat_map, list_any, AllByRecursion}
 use Rattle.std.proofs.lemmas.Bool.{lt-ltb}
 use Rattle.std.proofs.lemmas.List.{take_all, take-append-drop, length-map, length-take-le, drop-drop}
@@ -7,7 +7,7 @@ use Rattle.fl_base.specs.declared.types.RingPlace.{RingPlace}
 use Rattle.fl_bitmap.specs.declared.buckets.Buckets.{Buckets}
 use Rattle.fl_flash.specs.Flash.{FlashState, page_at}
 use Rattle.fl_flash.specs.Places.{extent}
-use Rattle.fl_model.specs.Facts.{FitsPlan, IsContent, counts_in}
+use Rattle.fl_model.specs.Facts.{FitsPlan, IsContent, IsLogPage, counts_in}
 use Rattle.fl_model.specs.Image.{HoldsPage}
 use Rattle.fl_model.specs.Layout.{committed, rows_body, data_body, index_body, content_body, IndexPage, ContentPage}
 use Rattle.fl_model.specs.Record.{Plan, row_layout, layout_len, rows_per_page, entries_per_page}
@@ -27,7 +27,7 @@ use Rattle.fl_check.specs.DataPage.{HasBuckets, HasForm, IsDataPage}
 use Rattle.fl_check.specs.Marks.{kept_page}
 use Rattle.fl_check.specs.Rising.{KeysAscend}
 use Rattle.fl_check.specs.SoundImages.{RingImage, OfPlace, TableImage, PagesFit, SoundImages}
-use Rattle.fl_check.specs.StandingRings.{HaveSize, StandsRuled, RingsStand}
+use Rattle.fl_check.specs.StandingRings.{HaveSize, IsSortedLogForm, StandsRuled, RingsStand}
 use Rattle.fl_check.specs.Tally.{tally_of}
 use Rattle.fl_check.specs.Whole.{Fits, LogFits, OfRing, IsIndexForm, IsRowsForm, IsVarForm, IsLogForm, form_in, layout_in, shape_in, rows_shape, index_end, tally_in}
 use Rattle.fl_check.specs.declared.numbering.Numbering.{Numbering}
@@ -122,16 +122,27 @@ module _ (label : Label) (config : TableConfig) (log : Option RingPlace) where
   rows_count body = length (entries_of body)
 
   -- a page of rows, with the bitmap of some buckets or none
+  rows_told : (o : Option Buckets) (page : List ℕ) (number : ℕ) → number < 2 ^ 32 → 64 ≤ length page → length page ≤ 4096 → (is : IsDataPage (layout_in config) o number page) → rows_in (layout_in config) page ≡ is.rows
+  rows_told o page number small large short is = data_rows config.key config.columns.items (nat_lt 0 (blocks_in config.var)) page number o (omega (arith, large)) is small (omega (arith, short))
+
   rows_of_page : (o : Option Buckets) (page body : List ℕ) (number : ℕ) → number < 2 ^ 32 → 64 ≤ length page → length page ≤ 4096 → page ≡ body ++ committed_end → (is : IsDataPage (layout_in config) o number page) → entries_of body ≡ map entry_of is.rows
   unfolding entries_of
   rows_of_page o page body number small large short bytes is =
-      ap (map entry_of) (ap (rows_in (layout_in config)) (sym bytes) ∙ data_rows config.key config.columns.items (nat_lt 0 (blocks_in config.var)) page number o (omega (arith, large)) is small (omega (arith, short)))
+      ap (map entry_of) (ap (rows_in (layout_in config)) (sym bytes) ∙ rows_told o page number small large short is)
 
   some_rows : (o : Option Buckets) (page body : List ℕ) (number : ℕ) → number < 2 ^ 32 → 64 ≤ length page → length page ≤ 4096 → page ≡ body ++ committed_end → IsDataPage (layout_in config) o number page → 0 < rows_count body
   unfolding rows_count
   some_rows o page body number small large short bytes is =
       let same : length (entries_of body) ≡ length (map entry_of is.rows) = ap (λ (l : List Entry). length l) (rows_of_page o page body number small large short bytes is) in
       omega (arith, same, length-map is.rows entry_of, is.some)
+
+  few_rows : (o : Option Buckets) (page body : List ℕ) (number : ℕ) → number < 2 ^ 32 → 64 ≤ length page → length page ≤ 4096 → page ≡ body ++ committed_end → length page ≡ config.geometry.page →
+      IsDataPage (layout_in config) o number page → rows_count body ≤ rows_per_page plan
+  unfolding rows_count
+  few_rows o page body number small large short bytes size is =
+      let same : length (entries_of body) ≡ length (map entry_of is.rows) = ap (λ (l : List Entry). length l) (rows_of_page o page body number small large short bytes is) in
+      let room : rows_per_page plan ≡ (length page - 24) / layout_len (layout_in config) = ap (λ (k : ℕ). (k - 24) / layout_len (layout_in config)) (sym size) in
+      omega (arith, same, length-map is.rows entry_of, is.few, room)
 
   module _ (f : FlashState) (large : 64 ≤ config.geometry.page) (short : config.geometry.page ≤ 4096) where
     -- ---- the data pages
@@ -150,18 +161,15 @@ module _ (label : Label) (config : TableConfig) (log : Option RingPlace) where
         pub few : rows_count body ≤ rows_per_page plan
 
       reads : (number : ℕ) (page body : List ℕ) → number < 2 ^ 32 → length page ≡ config.geometry.page → page ≡ body ++ committed_end → IsRowsForm config number page → (0 < rows_count body) × Read number page body
-      unfolding rows_count
       reads number page body small size bytes is =
           let some = some_rows config.buckets page body number small (omega (arith, size, large)) (omega (arith, size, short)) bytes is in
-          let rows : entries_of body ≡ map entry_of is.rows = rows_of_page config.buckets page body number small (omega (arith, size, large)) (omega (arith, size, short)) bytes is in
-          let same : length (entries_of body) ≡ length (map entry_of is.rows) = ap (λ (l : List Entry). length l) rows in
-          let room : rows_per_page plan ≡ (length page - 24) / layout_len (layout_in config) = room-same plan (layout_in config) config.buckets number page (form page size) in (
+          let rows : entries_of body ≡ map entry_of is.rows = rows_of_page config.buckets page body number small (omega (arith, size, large)) (omega (arith, size, short)) bytes is in (
             some,
             record {
               bytes = is.bytes ∙ body-same plan (layout_in config) config.buckets number page (form page size) (map entry_of is.rows) is.rows (stored_rows is.rows)
                   ∙ ap (λ (l : List Entry). committed (data_body plan number l)) (sym rows);
               fit = subst (AllByRecursion (FitsPlan plan)) (sym rows) (rows-fit plan is.rows is.plain is.storable);
-              few = omega (arith, same, length-map is.rows entry_of, is.few, room);
+              few = few_rows config.buckets page body number small (omega (arith, size, large)) (omega (arith, size, short)) bytes size is;
             },
           )
 
@@ -225,11 +233,12 @@ module _ (label : Label) (config : TableConfig) (log : Option RingPlace) where
     -- ---- a ring that a table may not have
 
     -- its image, and what its pages hold
-    record HasRing (X : Type 0) (Fits : X → Type 0) (body_of : ℕ → X → List ℕ) (o : Option RingPlace) : Type 0 where
+    record HasRing (X : Type 0) (Fits : X → Type 0) (Counts : ℕ → Type 0) (body_of : ℕ → X → List ℕ) (o : Option RingPlace) : Type 0 where
       pub ring : Option model.Ring
       pub pages : List X
       pub many : length pages ≡ full_pages (counts_in ring)
       pub fit : AllByRecursion Fits pages
+      pub counts : AllByRecursion Counts (counts_in ring)
       pub image : OfPlace (λ place ring. RingImage (page_at f) (shape_in config place) ring (λ i count page. HoldsPage pages body_of ring i count page)) o ring
 
     -- a page of this form holds something
@@ -237,39 +246,70 @@ module _ (label : Label) (config : TableConfig) (log : Option RingPlace) where
     Reads X Fits body_of Form count_of =
         (number : ℕ) (page body : List ℕ) → number < 2 ^ 32 → length page ≡ config.geometry.page → page ≡ body ++ committed_end → Form number page → (0 < count_of body) × Held X Fits (λ x. page ≡ committed (body_of number x))
 
-    has-ring : (X : Type 0) (Fits : X → Type 0) (body_of : ℕ → X → List ℕ) (Form : ℕ → List ℕ → Type 0) (count_of : List ℕ → ℕ) (at_least : ℕ) (o : Option RingPlace) (n : Option Numbering) →
+    -- .. and its count is so
+    abbrev CountsAre : (ℕ → Type 0) → (ℕ → List ℕ → Type 0) → (List ℕ → ℕ) → Type 0
+    CountsAre Counts Form count_of =
+        (number : ℕ) (page body : List ℕ) → number < 2 ^ 32 → length page ≡ config.geometry.page → page ≡ body ++ committed_end → Form number page → (0 < count_of body) × Counts (count_of body)
+
+    has-ring : (X : Type 0) (Fits : X → Type 0) (Counts : ℕ → Type 0) → Counts 0 → (body_of : ℕ → X → List ℕ) (Form : ℕ → List ℕ → Type 0) (count_of : List ℕ → ℕ) (at_least : ℕ) (o : Option RingPlace) (n : Option Numbering) →
         IfSome o (λ place. IsShape (shape_in config place) × HaveSize (page_at f) (shape_in config place)) → OfRing (λ place n. StandsRuled Form f (shape_in config place) at_least n) o n →
-        ((place : RingPlace) → o ≡ Some place → Reads X Fits body_of Form count_of) → HasRing X Fits body_of o
-    has-ring X Fits body_of Form count_of at_least None None sizes stands told = record { ring = None; pages = []; many = refl; fit = tt; image = tt }
-    has-ring X Fits body_of Form count_of at_least None (Some n) sizes stands told = absurd stands
-    has-ring X Fits body_of Form count_of at_least (Some place) None sizes stands told = absurd stands
-    has-ring X Fits body_of Form count_of at_least (Some place) (Some n) sizes stands told =
-        let found = collected Form f (shape_in config place) at_least n sizes.0 sizes.1 stands X Fits count_of body_of (told place refl) in
+        ((place : RingPlace) → o ≡ Some place → CountsAre Counts Form count_of × Reads X Fits body_of Form count_of) → HasRing X Fits Counts body_of o
+    has-ring X Fits Counts void body_of Form count_of at_least None None sizes stands told = record { ring = None; pages = []; many = refl; fit = tt; counts = tt; image = tt }
+    has-ring X Fits Counts void body_of Form count_of at_least None (Some n) sizes stands told = absurd stands
+    has-ring X Fits Counts void body_of Form count_of at_least (Some place) None sizes stands told = absurd stands
+    has-ring X Fits Counts void body_of Form count_of at_least (Some place) (Some n) sizes stands told =
+        let found = collected Form f (shape_in config place) at_least n sizes.0 sizes.1 stands X Fits count_of body_of (told place refl).1 in
         record {
           ring = Some (ring_counts count_of stands.s);
           pages = found.pages;
           many = found.many;
           fit = found.fit;
-          image = held Form f (shape_in config place) at_least n sizes.0 sizes.1 stands X Fits count_of body_of (told place refl);
+          counts = counts_are Form f (shape_in config place) at_least n sizes.0 sizes.1 stands count_of (λ number page body. Counts (count_of body)) (told place refl).0 Counts void (λ number page body so. so);
+          image = held Form f (shape_in config place) at_least n sizes.0 sizes.1 stands X Fits count_of body_of (told place refl).1;
         }
 
-    index-reads : IsWithinLimits config → (place : RingPlace) → config.index ≡ Some place → Reads IndexPage (λ listed. length listed.entries ≡ entries_per_page plan) (λ number listed. index_body plan number listed.first listed.entries) (IsIndexForm config) (λ body. entries_per_page plan)
-    index-reads limits place is number page body small size bytes form =
-        (some-room config.geometry.page (form_in config) (bits_in config.buckets) (some-bits label config place is limits) refl large, record { holds = record { first = form.1.first; entries = form.1.entries }; fit = form.1.full; is = form.1.bytes })
+    index-reads : IsWithinLimits config → (place : RingPlace) → config.index ≡ Some place →
+        CountsAre (λ count. (count ≡ 0) ⊎ (count ≡ entries_per_page plan)) (IsIndexForm config) (λ body. entries_per_page plan)
+        × Reads IndexPage (λ listed. length listed.entries ≡ entries_per_page plan) (λ number listed. index_body plan number listed.first listed.entries) (IsIndexForm config) (λ body. entries_per_page plan)
+    index-reads limits place is =
+        let some : 0 < entries_per_page plan = some-room config.geometry.page (form_in config) (bits_in config.buckets) (some-bits label config place is limits) refl large in (
+          λ number page body small size bytes form. (some, inr refl),
+          λ number page body small size bytes form. (some, record { holds = record { first = form.1.first; entries = form.1.entries }; fit = form.1.full; is = form.1.bytes }),
+        )
 
-    var-reads : Reads ContentPage (IsContent plan) content_body IsVarForm (λ body. 1)
-    var-reads number page body small size bytes is = (omega arith, content_of_page plan number page size (omega (arith, size, large)) is)
-
-    log-reads : Reads (List Entry) (AllByRecursion (FitsPlan plan)) (λ number rows. rows_body (plan.geometry.page - 8) (row_layout plan) number 0 (map stored_row rows)) (IsLogForm config) rows_count
-    log-reads number page body small size bytes is = (
-      some_rows None page body number small (omega (arith, size, large)) (omega (arith, size, short)) bytes is,
-      record {
-        holds = map entry_of is.rows;
-        fit = rows-fit plan is.rows is.plain is.storable;
-        is = is.bytes ∙ ap (λ (k : ℕ). committed (rows_body (k - 8) (layout_in config) number 0 is.rows)) size
-            ∙ ap (λ (rows : List Row). committed (rows_body (config.geometry.page - 8) (layout_in config) number 0 rows)) (sym (stored_rows is.rows));
-      },
+    var-reads : CountsAre (λ count. (count ≡ 0) ⊎ (count ≡ 1)) IsVarForm (λ body. 1) × Reads ContentPage (IsContent plan) content_body IsVarForm (λ body. 1)
+    var-reads = (
+      λ number page body small size bytes is. (omega arith, inr refl),
+      λ number page body small size bytes is. (omega arith, content_of_page plan number page size (omega (arith, size, large)) is),
     )
+
+    log-reads : CountsAre (λ count. count ≤ rows_per_page plan) (IsSortedLogForm config) rows_count
+        × Reads (List Entry) (IsLogPage plan) (λ number rows. rows_body (plan.geometry.page - 8) (row_layout plan) number 0 (map stored_row rows)) (IsSortedLogForm config) rows_count
+    log-reads = (counts, holds)
+      where
+        some_there : (number : ℕ) (page body : List ℕ) → number < 2 ^ 32 → length page ≡ config.geometry.page → page ≡ body ++ committed_end → IsLogForm config number page → 0 < rows_count body
+        some_there number page body small size bytes is = some_rows None page body number small (omega (arith, size, large)) (omega (arith, size, short)) bytes is
+
+        counts : CountsAre (λ count. count ≤ rows_per_page plan) (IsSortedLogForm config) rows_count
+        counts number page body small size bytes form = (
+          some_there number page body small size bytes form.0,
+          few_rows None page body number small (omega (arith, size, large)) (omega (arith, size, short)) bytes size form.0,
+        )
+
+        holds : Reads (List Entry) (IsLogPage plan) (λ number rows. rows_body (plan.geometry.page - 8) (row_layout plan) number 0 (map stored_row rows)) (IsSortedLogForm config) rows_count
+        holds number page body small size bytes (is, ascends) =
+            let rows : rows_in (layout_in config) page ≡ is.rows = rows_told None page number small (omega (arith, size, large)) (omega (arith, size, short)) is in (
+              some_there number page body small size bytes is,
+              record {
+                holds = map entry_of is.rows;
+                fit = record {
+                  fit = rows-fit plan is.rows is.plain is.storable;
+                  ascending = keys-rise None (map entry_of is.rows) (subst (Ascends None) (rows ∙ sym (stored_rows is.rows)) ascends.1);
+                };
+                is = is.bytes ∙ ap (λ (k : ℕ). committed (rows_body (k - 8) (layout_in config) number 0 is.rows)) size
+                    ∙ ap (λ (rows : List Row). committed (rows_body (config.geometry.page - 8) (layout_in config) number 0 rows)) (sym (stored_rows is.rows));
+              },
+            )
 
 -- ---- the table
 
@@ -294,19 +334,19 @@ module _ (label : Label) (config : TableConfig) (log : Option RingPlace) (f : Fl
   abbrev made_plan : Plan
   made_plan = plan label config log
 
-  index : HasRing label config log f large short IndexPage (λ listed. length listed.entries ≡ entries_per_page made_plan) (λ number listed. index_body made_plan number listed.first listed.entries) config.index
-  index = has-ring label config log f large short IndexPage (λ listed. length listed.entries ≡ entries_per_page made_plan) (λ number listed. index_body made_plan number listed.first listed.entries) (IsIndexForm config) (λ body. entries_per_page made_plan) 0
+  index : HasRing label config log f large short IndexPage (λ listed. length listed.entries ≡ entries_per_page made_plan) (λ count. (count ≡ 0) ⊎ (count ≡ entries_per_page made_plan)) (λ number listed. index_body made_plan number listed.first listed.entries) config.index
+  index = has-ring label config log f large short IndexPage (λ listed. length listed.entries ≡ entries_per_page made_plan) (λ count. (count ≡ 0) ⊎ (count ≡ entries_per_page made_plan)) (inl refl) (λ number listed. index_body made_plan number listed.first listed.entries) (IsIndexForm config) (λ body. entries_per_page made_plan) 0
       config.index stand.t.index (of-place config.index fits.limits.index fits.index) stand.index (index-reads label config log f large short fits.limits)
 
-  var : HasRing label config log f large short ContentPage (IsContent made_plan) content_body config.var
-  var = has-ring label config log f large short ContentPage (IsContent made_plan) content_body IsVarForm (λ body. 1) (tally_in config (page_at f) stand.t.rows).blob_end
+  var : HasRing label config log f large short ContentPage (IsContent made_plan) (λ count. (count ≡ 0) ⊎ (count ≡ 1)) content_body config.var
+  var = has-ring label config log f large short ContentPage (IsContent made_plan) (λ count. (count ≡ 0) ⊎ (count ≡ 1)) (inl refl) content_body IsVarForm (λ body. 1) (tally_in config (page_at f) stand.t.rows).blob_end
       config.var stand.t.var (of-place config.var fits.limits.var fits.var) stand.var (λ place is. var-reads label config log f large short)
 
   abbrev logged_body : ℕ → List Entry → List ℕ
   logged_body number rows = rows_body (made_plan.geometry.page - 8) (row_layout made_plan) number 0 (map stored_row rows)
 
-  logged : HasRing label config log f large short (List Entry) (AllByRecursion (FitsPlan made_plan)) logged_body log
-  logged = has-ring label config log f large short (List Entry) (AllByRecursion (FitsPlan made_plan)) logged_body (IsLogForm config) (rows_count label config log) 0
+  logged : HasRing label config log f large short (List Entry) (IsLogPage made_plan) (λ count. count ≤ rows_per_page made_plan) logged_body log
+  logged = has-ring label config log f large short (List Entry) (IsLogPage made_plan) (λ count. count ≤ rows_per_page made_plan) (omega arith) logged_body (IsSortedLogForm config) (rows_count label config log) 0
       log stand.t.log (of-place log log-size.0 log-size.1) stand.logged (λ place is. log-reads label config log f large short)
 
   logs_newest : Newest logged.pages (has_rows logged.ring)
@@ -352,11 +392,15 @@ module _ (label : Label) (config : TableConfig) (log : Option RingPlace) (f : Fl
     few_rows = data_few label config log f large short (index_end config (page_at f) stand.t.index) stand.t.rows rows_sizes.0 rows_sizes.1 stand.rows;
     fit = data_fit label config log f large short (index_end config (page_at f) stand.t.index) stand.t.rows rows_sizes.0 rows_sizes.1 stand.rows;
     ascending = data_rise label config log f large short (index_end config (page_at f) stand.t.index) stand.t.rows rows_sizes.0 rows_sizes.1 stand.rows stand.sound.rings.rows.keys;
+    index_counts = index.counts;
     index_each = index.many;
     index_fit = index.fit;
+    var_counts = var.counts;
     var_each = var.many;
     var_fit = var.fit;
-    log_fit = subst (AllByRecursion (AllByRecursion (FitsPlan made_plan))) (sym logs_newest.same) logged.fit;
+    log_counts = logged.counts;
+    log_each = ap (λ (l : List (List Entry)). length l) logs_newest.same ∙ logged.many;
+    log_fit = subst (AllByRecursion (IsLogPage made_plan)) (sym logs_newest.same) logged.fit;
   }
 
   abbrev tally : ℕ → Tally

@@ -14,9 +14,9 @@ use Rattle.fl_plan.specs.declared.table_config.TableConfig.{TableConfig}
 use Rattle.fl_ring.proofs.Lengths.{page_length}
 use Rattle.fl_check.specs.DataPage.{bitmap_in}
 use Rattle.fl_check.specs.Endings.{IsEnded}
-use Rattle.fl_check.specs.RingRules.{KeyOrder, IsRingSound}
-use Rattle.fl_check.specs.StandingRings.{HaveSize, EndsCommitted, StandsRuled, SoundRingsStand}
-use Rattle.fl_check.specs.Whole.{Fits, OfRing, IsIndexForm, IsRowsForm, IsVarForm, IsLogForm, layout_in, shape_in}
+use Rattle.fl_check.specs.RingRules.{KeyOrder, NoRows, IsRingSound}
+use Rattle.fl_check.specs.StandingRings.{HaveSize, EndsCommitted, IsSortedLogForm, StandsRuled, SoundRingsStand}
+use Rattle.fl_check.specs.Whole.{Fits, OfRing, IsIndexForm, IsRowsForm, IsVarForm, IsLogSound, layout_in, shape_in}
 use Rattle.fl_check.specs.declared.numbering.Numbering.{Numbering}
 use Rattle.fl_check.specs.declared.tally.Tally.{Tally}
 use Rattle.fl_check.proofs.RulesStand.{rules-stand}
@@ -39,8 +39,8 @@ rows_end config number page size form = committed_ended page (rows_body (length 
 var_ends : (config : TableConfig) → EndsCommitted IsVarForm config.geometry.page
 var_ends config number page size form = form.marks
 
-log_ends : (config : TableConfig) → EndsCommitted (IsLogForm config) config.geometry.page
-log_ends config number page size form = committed_ended page (rows_body (length page - 8) (layout_in config) number (bitmap_in None form.rows) form.rows) form.bytes
+log_ends : (config : TableConfig) → EndsCommitted (IsSortedLogForm config) config.geometry.page
+log_ends config number page size (form, ascends) = committed_ended page (rows_body (length page - 8) (layout_in config) number (bitmap_in None form.rows) form.rows) form.bytes
 
 -- ---- the rings
 
@@ -71,6 +71,17 @@ module _ (config : TableConfig) (f : FlashState) (fits : Fits config f) (reaches
   of-ring Form order (Some place) at_least None size within ends is = is
   of-ring Form order (Some place) at_least (Some n) size within ends is = ring-stands Form order place at_least n size within ends is
 
+-- the rule on keys is one on the form of each page of a log
+sorted : (config : TableConfig) (page : ℕ → List ℕ) (log : Option RingPlace) (n : Option Numbering) → IsLogSound config log page n → OfRing (λ place n. IsRingSound (IsSortedLogForm config) NoRows page (shape_in config place) 0 n) log n
+sorted config page None None is = tt
+sorted config page None (Some n) is = is
+sorted config page (Some place) None is = is
+sorted config page (Some place) (Some n) is = record {
+  formed = record { numbered = is.formed.numbered; bodies = λ i lt number at committed. (is.formed.bodies i lt number at committed, is.keys i lt number at committed) };
+  keys = tt;
+  rest = is.rest;
+}
+
 pub log-sizes : (log : Option RingPlace) (f : FlashState) → IfSome log (λ place. IsRingSize place × (place.first_block + place.blocks ≤ f.blocks)) → IfSome log IsRingSize × IfSome log (λ place. place.first_block + place.blocks ≤ f.blocks)
 log-sizes None f h = (tt, tt)
 log-sizes (Some place) f h = h
@@ -85,7 +96,7 @@ rings-stand config log f rows pages voids fits logs reaches told (blob_end, is) 
       index = of-ring config f fits reaches told _ _ config.index 0 is.t.index fits.limits.index fits.index (index_ends config) is.sound.rings.index;
       rows = stand;
       var = of-ring config f fits reaches told _ _ config.var _ is.t.var fits.limits.var fits.var (var_ends config) is.sound.rings.var;
-      logged = of-ring config f fits reaches told _ _ log 0 is.t.log sizes.0 sizes.1 (log_ends config) is.sound.rings.logged;
+      logged = of-ring config f fits reaches told _ _ log 0 is.t.log sizes.0 sizes.1 (log_ends config) (sorted config (page_at f) log is.t.log is.sound.rings.logged);
       kept = stand.kept ∙ sym is.kept_is;
       records_is = ap (λ (t : Tally). t.rows) (sym is.tally_is);
       voids_is = ap (λ (t : Tally). t.voids) (sym is.tally_is);

@@ -1,5 +1,5 @@
 -- The rows and the void pages of a ring as a check tallies them, and as its state has them.
-use Rattle.std.proofs.Common.{◌≡◌, ℕ, suc, ◌+◌, ◌<◌, Option, Some, None, IfSome, List, [], ◌∷◌, length, map, sum, get_or, refl, sym, ◌∙◌, ap, subst, arith}
+use Rattle.std.proofs.Common.{◌≡◌, ℕ, suc, ◌+◌, ◌<◌, Option, Some, None, IfSome, List, [], ◌∷◌, length, map, sum, get_or, sym, ◌∙◌, ap, subst, arith}
 use Rattle.std.proofs.lemmas.Bool.{cond-true, cond-false}
 use Rattle.std.proofs.lemmas.List.Sums.{sum_by-cons}
 use Rattle.fl_mark.specs.Mark.{state_of_page}

@@ -1,10 +1,10 @@
 -- The pages of a sound table are the image of a table of the model, whether or not the model's facts hold of it.
-use Rattle.std.specs.Prelude.{◌≡◌, ℕ, ◌+◌, ◌<◌, ◌≤◌, IsTrue, Option, Some, None, List, length, sum, slice_get}
+use Rattle.std.specs.Prelude.{◌≡◌, ℕ, ◌+◌, ◌<◌, ◌≤◌, ◌⊎◌, IsTrue, Option, Some, None, List, length, sum, slice_get}
 use Rattle.std.specs.List.{AllByRecursion}
 use Rattle.fl_base.specs.declared.types.RingPlace.{RingPlace}
 use Rattle.fl_flash.specs.Flash.{FlashState, page_at}
 use Rattle.fl_flash.specs.Places.{extent}
-use Rattle.fl_model.specs.Facts.{FitsPlan, IsContent, counts_in}
+use Rattle.fl_model.specs.Facts.{FitsPlan, IsContent, IsLogPage, counts_in}
 use Rattle.fl_model.specs.Image.{IsRingImage, HoldsRows, HoldsEntries, HoldsContent, HoldsLogged}
 use Rattle.fl_model.specs.Record.{Plan, rows_per_page, entries_per_page}
 use Rattle.fl_model.specs.Ring as model
@@ -42,11 +42,15 @@ pub record PagesFit (plan : Plan) (table : Table) : Type 0 where
   pub few_rows : AllByRecursion (λ count. count ≤ rows_per_page plan) table.rows.counts
   pub fit : AllByRecursion (FitsPlan plan) table.entries
   pub ascending : (i j : ℕ) (a b : Entry) → i < j → slice_get table.entries i ≡ Some a → slice_get table.entries j ≡ Some b → a.kept.key < b.kept.key
+  pub index_counts : AllByRecursion (λ count. (count ≡ 0) ⊎ (count ≡ entries_per_page plan)) (counts_in table.index)
   pub index_each : length table.index_pages ≡ full_pages (counts_in table.index)
   pub index_fit : AllByRecursion (λ page. length page.entries ≡ entries_per_page plan) table.index_pages
+  pub var_counts : AllByRecursion (λ count. (count ≡ 0) ⊎ (count ≡ 1)) (counts_in table.var)
   pub var_each : length table.var_pages ≡ full_pages (counts_in table.var)
   pub var_fit : AllByRecursion (IsContent plan) table.var_pages
-  pub log_fit : AllByRecursion (AllByRecursion (FitsPlan plan)) (log_pages table)
+  pub log_counts : AllByRecursion (λ count. count ≤ rows_per_page plan) (counts_in table.log)
+  pub log_each : length (log_pages table) ≡ full_pages (counts_in table.log)
+  pub log_fit : AllByRecursion (IsLogPage plan) (log_pages table)
 
 -- a table whose image the pages are, with as many rows, kept data pages and void ones as a check tells
 pub record HasImage (config : TableConfig) (log : Option RingPlace) (page : ℕ → List ℕ) (plan : Plan) (rows pages voids : ℕ) : Type 0 where

@@ -9,7 +9,8 @@ use Rattle.fl_ring.specs.Numbers.{renumbered}
 use Rattle.fl_ring.specs.Ring.{Shape, RingState, room, count, oldest, place}
 use Rattle.fl_check.specs.Endings.{IsEnded}
 use Rattle.fl_check.specs.Marks.{kept_page}
-use Rattle.fl_check.specs.Whole.{Fits, LogFits, OfRing, IsSound, IsFinding, IsIndexForm, IsRowsForm, IsVarForm, IsLogForm, shape_in, rows_shape, index_end, tally_in}
+use Rattle.fl_check.specs.RingRules.{IsAscending}
+use Rattle.fl_check.specs.Whole.{Fits, LogFits, OfRing, IsSound, IsFinding, IsIndexForm, IsRowsForm, IsVarForm, IsLogForm, layout_in, shape_in, rows_shape, index_end, tally_in}
 use Rattle.fl_check.specs.declared.finding.Finding.TheVariants.{Sound}
 use Rattle.fl_check.specs.declared.numbering.Numbering.{Numbering}
 use Rattle.fl_check.specs.declared.table.TableNumbers.{TableNumbers}
@@ -35,6 +36,10 @@ pub record StandsRuled (Form : ℕ → List ℕ → Type 0) (f : FlashState) (r 
   pub torn : s.torn ≡ n.marks.pages.front.torn
   pub forms : (i : ℕ) (body : List ℕ) → i < count s → get_or s.kept i None ≡ Some body → Form (oldest s + i) (page_at f (place r (oldest s + i)))
 
+-- a page of the log has rows whose keys ascend
+abbrev pub IsSortedLogForm : TableConfig → ℕ → List ℕ → Type 0
+IsSortedLogForm config number page = IsLogForm config number page × IsAscending (layout_in config) number page
+
 -- .. of each ring of a table, whose numbers begin where a check begins them
 pub record RingsStand (config : TableConfig) (log : Option RingPlace) (f : FlashState) (records pages voids : ℕ) : Type 0 where
   pub t : TableNumbers
@@ -42,7 +47,7 @@ pub record RingsStand (config : TableConfig) (log : Option RingPlace) (f : Flash
   pub index : OfRing (λ place n. StandsRuled (IsIndexForm config) f (shape_in config place) 0 n) config.index t.index
   pub rows : StandsRuled (IsRowsForm config) f (rows_shape config) (index_end config (page_at f) t.index) t.rows
   pub var : OfRing (λ place n. StandsRuled IsVarForm f (shape_in config place) (tally_in config (page_at f) t.rows).blob_end n) config.var t.var
-  pub logged : OfRing (λ place n. StandsRuled (IsLogForm config) f (shape_in config place) 0 n) log t.log
+  pub logged : OfRing (λ place n. StandsRuled (IsSortedLogForm config) f (shape_in config place) 0 n) log t.log
   pub kept : count rows.s ≡ pages
   pub records_is : (tally_in config (page_at f) t.rows).rows ≡ records
   pub voids_is : (tally_in config (page_at f) t.rows).voids ≡ voids
