@@ -141,7 +141,7 @@ module _ (label : Label) (config : TableConfig) (log : Option RingPlace) where
   unfolding rows_count
   few_rows o page body number small large short bytes size is =
       let same : length (entries_of body) ≡ length (map entry_of is.rows) = ap (λ (l : List Entry). length l) (rows_of_page o page body number small large short bytes is) in
-      let room : rows_per_page plan ≡ (length page - 24) / layout_len (layout_in config) = ap (λ (k : ℕ). (k - 24) / layout_len (layout_in config)) (sym size) in
+      let room : rows_per_page plan ≡ (length page - 24) / layout_len (layout_in config) = room-same plan (layout_in config) config.buckets number page (form page size) in
       omega (arith, same, length-map is.rows entry_of, is.few, room)
 
   module _ (f : FlashState) (large : 64 ≤ config.geometry.page) (short : config.geometry.page ≤ 4096) where
