@@ -7,7 +7,7 @@ use Rattle.fl_base.specs.declared.types.RingPlace.{RingPlace}
 use Rattle.fl_bitmap.specs.declared.buckets.Buckets.{Buckets}
 use Rattle.fl_flash.specs.Flash.{FlashState, page_at}
 use Rattle.fl_flash.specs.Places.{extent}
-use Rattle.fl_model.specs.Facts.{FitsPlan, IsContent, IsLogPage, counts_in}
+use Rattle.fl_model.specs.Facts.{FitsPlan, IsContent, IsLogPage, counts_in, is_some_ring}
 use Rattle.fl_model.specs.Image.{HoldsPage}
 use Rattle.fl_model.specs.Layout.{committed, rows_body, data_body, index_body, content_body, IndexPage, ContentPage}
 use Rattle.fl_model.specs.Record.{Plan, row_layout, layout_len, rows_per_page, entries_per_page}
@@ -235,6 +235,7 @@ module _ (label : Label) (config : TableConfig) (log : Option RingPlace) where
     -- its image, and what its pages hold
     record HasRing (X : Type 0) (Fits : X → Type 0) (Counts : ℕ → Type 0) (body_of : ℕ → X → List ℕ) (o : Option RingPlace) : Type 0 where
       pub ring : Option model.Ring
+      pub there : is_some_ring ring ≡ nat_lt 0 (blocks_in o)
       pub pages : List X
       pub many : length pages ≡ full_pages (counts_in ring)
       pub fit : AllByRecursion Fits pages
@@ -254,13 +255,14 @@ module _ (label : Label) (config : TableConfig) (log : Option RingPlace) where
     has-ring : (X : Type 0) (Fits : X → Type 0) (Counts : ℕ → Type 0) → Counts 0 → (body_of : ℕ → X → List ℕ) (Form : ℕ → List ℕ → Type 0) (count_of : List ℕ → ℕ) (at_least : ℕ) (o : Option RingPlace) (n : Option Numbering) →
         IfSome o (λ place. IsShape (shape_in config place) × HaveSize (page_at f) (shape_in config place)) → OfRing (λ place n. StandsRuled Form f (shape_in config place) at_least n) o n →
         ((place : RingPlace) → o ≡ Some place → CountsAre Counts Form count_of × Reads X Fits body_of Form count_of) → HasRing X Fits Counts body_of o
-    has-ring X Fits Counts void body_of Form count_of at_least None None sizes stands told = record { ring = None; pages = []; many = refl; fit = tt; counts = tt; image = tt }
+    has-ring X Fits Counts void body_of Form count_of at_least None None sizes stands told = record { ring = None; there = refl; pages = []; many = refl; fit = tt; counts = tt; image = tt }
     has-ring X Fits Counts void body_of Form count_of at_least None (Some n) sizes stands told = absurd stands
     has-ring X Fits Counts void body_of Form count_of at_least (Some place) None sizes stands told = absurd stands
     has-ring X Fits Counts void body_of Form count_of at_least (Some place) (Some n) sizes stands told =
         let found = collected Form f (shape_in config place) at_least n sizes.0 sizes.1 stands X Fits count_of body_of (told place refl).1 in
         record {
           ring = Some (ring_counts count_of stands.s);
+          there = sym (lt-ltb 0 place.blocks (omega (arith, sizes.0.blocks)));
           pages = found.pages;
           many = found.many;
           fit = found.fit;
@@ -388,6 +390,7 @@ module _ (label : Label) (config : TableConfig) (log : Option RingPlace) (f : Fl
   fit : PagesFit made_plan table
   unfolding all_entries
   fit = record {
+    has_rings = (index.there, var.there, logged.there);
     counted = data_counted label config log f large short (index_end config (page_at f) stand.t.index) stand.t.rows rows_sizes.0 rows_sizes.1 stand.rows;
     few_rows = data_few label config log f large short (index_end config (page_at f) stand.t.index) stand.t.rows rows_sizes.0 rows_sizes.1 stand.rows;
     fit = data_fit label config log f large short (index_end config (page_at f) stand.t.index) stand.t.rows rows_sizes.0 rows_sizes.1 stand.rows;

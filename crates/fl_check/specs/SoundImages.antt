@@ -4,9 +4,9 @@ use Rattle.std.specs.List.{AllByRecursion}
 use Rattle.fl_base.specs.declared.types.RingPlace.{RingPlace}
 use Rattle.fl_flash.specs.Flash.{FlashState, page_at}
 use Rattle.fl_flash.specs.Places.{extent}
-use Rattle.fl_model.specs.Facts.{FitsPlan, IsContent, IsLogPage, counts_in}
+use Rattle.fl_model.specs.Facts.{FitsPlan, IsContent, IsLogPage, counts_in, is_some_ring}
 use Rattle.fl_model.specs.Image.{IsRingImage, HoldsRows, HoldsEntries, HoldsContent, HoldsLogged}
-use Rattle.fl_model.specs.Record.{Plan, rows_per_page, entries_per_page}
+use Rattle.fl_model.specs.Record.{Plan, has_index, has_var, has_log, rows_per_page, entries_per_page}
 use Rattle.fl_model.specs.Ring as model
 use Rattle.fl_model.specs.Table.{Table, Entry, full_pages, log_pages, lose}
 use Rattle.fl_plan.specs.Plan.{Label, blocks_in, plan_of_table, with_log}
@@ -38,6 +38,7 @@ pub record TableImage (config : TableConfig) (log : Option RingPlace) (page : �
 
 -- the facts of a table that a check looks at page by page
 pub record PagesFit (plan : Plan) (table : Table) : Type 0 where
+  pub has_rings : (is_some_ring table.index ≡ has_index plan) × (is_some_ring table.var ≡ has_var plan) × (is_some_ring table.log ≡ has_log plan)
   pub counted : sum table.rows.counts ≡ length table.entries
   pub few_rows : AllByRecursion (λ count. count ≤ rows_per_page plan) table.rows.counts
   pub fit : AllByRecursion (FitsPlan plan) table.entries
