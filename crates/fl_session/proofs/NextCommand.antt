@@ -316,37 +316,43 @@ ran-into config old commands command stands stands_now content faults mid now to
 -- the same run, seen through another relation to the state after it
 pub ran-seen : (config : Config) (old : Machine) (commands : List Command) (stands stands_now : Machine → Type 0) (content content_now : List ℕ) (faults now reads reads_now : ℕ) (told told_now : Option (List ℕ)) →
     ((m : Machine) → stands m → stands_now m) → RanReading config old commands stands content content_now faults now reads reads_now told told_now → RanReading config old commands stands_now content content_now faults now reads reads_now told told_now
-ran-seen config old commands stands stands_now content content_now faults now reads reads_now told told_now f (h, within) = (record {
-  moments = h.moments;
-  commands_are = h.commands_are;
-  run = h.run;
-  stands_after = f (end_of old h.moments) h.stands_after;
-  reads = h.reads;
-  stays = h.stays;
-  rose = h.rose;
-  found = h.found;
-  kept = h.kept;
-  told_all = h.told_all;
-}, within)
+ran-seen config old commands stands stands_now content content_now faults now reads reads_now told told_now f (h, within) = (
+  record {
+    moments = h.moments;
+    commands_are = h.commands_are;
+    run = h.run;
+    stands_after = f (end_of old h.moments) h.stands_after;
+    reads = h.reads;
+    stays = h.stays;
+    rose = h.rose;
+    found = h.found;
+    kept = h.kept;
+    told_all = h.told_all;
+  },
+  within,
+)
 
 pub ran_into-seen : (config : Config) (old : Machine) (commands : List Command) (stands stands_now : Machine → Type 0) (content content_now : List ℕ) (faults now reads reads_now : ℕ) (told told_now : Option (List ℕ)) →
     ((m : Machine) → stands m → stands_now m) → RanIntoReading config old commands stands content content_now faults now reads reads_now told told_now → RanIntoReading config old commands stands_now content content_now faults now reads reads_now told told_now
-ran_into-seen config old commands stands stands_now content content_now faults now reads reads_now told told_now f (h, within) = (record {
-  moments = h.moments;
-  commands_are = h.commands_are;
-  run = h.run;
-  stands_after = f (end_of old h.moments) h.stands_after;
-  limits = h.limits;
-  few = h.few;
-  stays = h.stays;
-  rose = h.rose;
-  found = h.found;
-  kept = h.kept;
-  before = h.before;
-  last = h.last;
-  split = h.split;
-  exact = h.exact;
-  front = h.front;
-  is_front = h.is_front;
-  told_front = h.told_front;
-}, within)
+ran_into-seen config old commands stands stands_now content content_now faults now reads reads_now told told_now f (h, within) = (
+  record {
+    moments = h.moments;
+    commands_are = h.commands_are;
+    run = h.run;
+    stands_after = f (end_of old h.moments) h.stands_after;
+    limits = h.limits;
+    few = h.few;
+    stays = h.stays;
+    rose = h.rose;
+    found = h.found;
+    kept = h.kept;
+    before = h.before;
+    last = h.last;
+    split = h.split;
+    exact = h.exact;
+    front = h.front;
+    is_front = h.is_front;
+    told_front = h.told_front;
+  },
+  within,
+)

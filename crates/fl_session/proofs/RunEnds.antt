@@ -98,40 +98,46 @@ rose-earlier n before mid now h (inr k) = inr k
 
 ran-earlier : (config : Config) (old : Machine) (commands : List Command) (stands : Machine → Type 0) (content content_now : List ℕ) (before mid now reads reads_mid reads_now : ℕ) (told told_now : Option (List ℕ)) → before ≤ mid → reads_mid ≤ reads →
     RanReading config old commands stands content content_now mid now reads_mid reads_now told told_now → RanReading config old commands stands content content_now before now reads reads_now told told_now
-ran-earlier config old commands stands content content_now before mid now reads reads_mid reads_now told told_now e few (h, within) = (record {
-  moments = h.moments;
-  commands_are = h.commands_are;
-  run = h.run;
-  stands_after = h.stands_after;
-  reads = h.reads;
-  stays = h.stays;
-  rose = rose-earlier _ before mid now e h.rose;
-  found = h.found;
-  kept = h.kept;
-  told_all = h.told_all;
-}, λ low. omega (arith, within low, few))
+ran-earlier config old commands stands content content_now before mid now reads reads_mid reads_now told told_now e few (h, within) = (
+  record {
+    moments = h.moments;
+    commands_are = h.commands_are;
+    run = h.run;
+    stands_after = h.stands_after;
+    reads = h.reads;
+    stays = h.stays;
+    rose = rose-earlier _ before mid now e h.rose;
+    found = h.found;
+    kept = h.kept;
+    told_all = h.told_all;
+  },
+  λ low. omega (arith, within low, few),
+)
 
 ran_into-earlier : (config : Config) (old : Machine) (commands : List Command) (stands : Machine → Type 0) (content content_now : List ℕ) (before mid now reads reads_mid reads_now : ℕ) (told told_now : Option (List ℕ)) → before ≤ mid → reads_mid ≤ reads →
     RanIntoReading config old commands stands content content_now mid now reads_mid reads_now told told_now → RanIntoReading config old commands stands content content_now before now reads reads_now told told_now
-ran_into-earlier config old commands stands content content_now before mid now reads reads_mid reads_now told told_now e few (h, within) = (record {
-  moments = h.moments;
-  commands_are = h.commands_are;
-  run = h.run;
-  stands_after = h.stands_after;
-  limits = h.limits;
-  few = h.few;
-  stays = h.stays;
-  rose = rose-earlier _ before mid now e h.rose;
-  found = h.found;
-  kept = h.kept;
-  before = h.before;
-  last = h.last;
-  split = h.split;
-  exact = h.exact;
-  front = h.front;
-  is_front = h.is_front;
-  told_front = h.told_front;
-}, λ low. omega (arith, within low, few))
+ran_into-earlier config old commands stands content content_now before mid now reads reads_mid reads_now told told_now e few (h, within) = (
+  record {
+    moments = h.moments;
+    commands_are = h.commands_are;
+    run = h.run;
+    stands_after = h.stands_after;
+    limits = h.limits;
+    few = h.few;
+    stays = h.stays;
+    rose = rose-earlier _ before mid now e h.rose;
+    found = h.found;
+    kept = h.kept;
+    before = h.before;
+    last = h.last;
+    split = h.split;
+    exact = h.exact;
+    front = h.front;
+    is_front = h.is_front;
+    told_front = h.told_front;
+  },
+  λ low. omega (arith, within low, few),
+)
 
 -- where commands were run from each state, they were run as the plain machine does if nothing fails
 runs-with : (config : Config) (commands : List Command) (told : Told) (status : Status) → IsOwn config told.content → IsFormed config told.content_now →
