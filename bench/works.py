@@ -112,7 +112,7 @@ def all_works(rows):
                sql(FAST, CREATE, "BEGIN;",
                    *in_batches((f"INSERT INTO t VALUES({k},{v});" for k, v in readings), 40, "COMMIT; BEGIN;"), "COMMIT;"))
     return [loaded, put, *queries(begin, loaded, put, rows, few), *full_entries(rows, readings), *logged(rows, readings),
-            *blobs(min(few, 40_000)), *tools(begin, loaded, readings), shipped(put, few)]
+            *blobs(min(few, 40_000)), *blobs_over_made(min(few, 70_000)), *tools(begin, loaded, readings), shipped(put, few)]
 
 
 def queries(begin, loaded, put, rows, few):
@@ -163,10 +163,20 @@ def logged(rows, readings):
     return [put, Work("mount with a log", script(*begin), start=put, changes=True, is_plain=False)]
 
 
+def blob_table(rows, blob, pages):
+    """Lines that configure a table of so many rows, each with a blob of so many bytes: those of a data page take so many pages."""
+    data = -(-rows // rows_with_blobs())
+    return f"device {PAGE} {BLOCK}\ntable t 8 i32 {blocks_for(data)} 0 {blocks_for(pages * data + pages)} 0 0 1 8 {blob}"
+
+
+def rows_with_blobs():
+    """How many rows with a blob a page has."""
+    return (PAGE - 24) // (ROW + 10)
+
+
 def blobs(rows):
     """Rows with a blob of 40 bytes each, and the blobs of half of them. A page of 22 such rows has two pages of blobs."""
-    data = -(-rows // ((PAGE - 24) // (ROW + 10)))
-    begin = (f"device {PAGE} {BLOCK}\ntable t 8 i32 {blocks_for(data)} 0 {blocks_for(2 * data + 2)} 0 0 1 8 40", "mount")
+    begin = (blob_table(rows, 40, 2), "mount")
     words = [(k, f"{k * 2654435761 % 2**32:08x}" * 10) for k in range(1, rows + 1)]
     half = random.Random(7).sample(range(1, rows + 1), rows // 2)
     put = Work(f"put of {rows:,} rows with blobs of 40 bytes",
@@ -179,6 +189,18 @@ def blobs(rows):
                 sql(*(f"SELECT lower(hex(x)) FROM t WHERE k = {k};" for k in half)),
                 put, has_answers=True, is_plain=False)
     return [put, read]
+
+
+def blobs_over_made(rows):
+    """The same rows without and with a blob of 100 random bytes each, over an image that was made before. A page of rows has five of blobs."""
+    begin = (blob_table(rows, 100, 5), "mount")
+    chance = random.Random(7)
+    made = Work("an image for blobs", script(*begin), is_plain=False)
+    return [Work(f"put of {rows:,} rows without blobs over a made image",
+                 script(*begin, *(f"put t {k} 1" for k in range(1, rows + 1)), "flush t"), start=made, changes=True, is_plain=False),
+            Work(f"put of {rows:,} rows with blobs of 100 bytes over a made image",
+                 script(*begin, *(f"put t {k} 1 blob {chance.randbytes(100).hex()}" for k in range(1, rows + 1)), "flush t"),
+                 start=made, changes=True, is_plain=False)]
 
 
 def tools(begin, loaded, readings):

@@ -17,7 +17,7 @@ use Rattle.fl_words.specs.Reply.{hex_digit, hex_text, text, texts}
 use Rattle.fl_session.specs.BlobLine.{GivesDigits, IsTurned, ShowsBytes, read_reply}
 use Rattle.fl_session.specs.declared.listing.ListFault.TheVariants.{Read}
 use Rattle.fl_session.proofs.Resumed.{rose-read, read-counted}
-use Rattle.fl_store.proofs.Appends.{appends-none}
+use Rattle.fl_store.proofs.Appends.{appends-none, front-behind, front-more}
 
 pub hex-append : (xs ys : List ℕ) → hex_text (xs ++ ys) ≡ hex_text xs ++ hex_text ys
 hex-append xs ys = flat_map-append (λ x. hex_digit (x / 16) ∷ hex_digit (x % 16) ∷ []) xs ys
@@ -79,12 +79,7 @@ module _ (first mid new : BlobReader) (first_f f g : FlashState) (told told_mid 
 -- a text behind one that was written
 pub written-after : {E : Type 0} (before mid now : Option (List ℕ)) (result : Result (Unit {0}) E) (front rest : List ℕ) → Appends before mid front → Written mid now result rest → Written before now result (front ++ rest)
 written-after before mid now (Ok u) front rest first wrote = appends-append before mid now front rest first wrote
-written-after before mid now (Err e) front rest first wrote =
-    sent-failed before mid now (front ++ rest) rest [] rest (record { front = front; parts = refl; appended = first }) wrote (append-nil rest)
-
--- a front of the first of two texts
-pub front-more : (before now : Option (List ℕ)) (whole others : List ℕ) → AppendsFront before now whole → AppendsFront before now (whole ++ others)
-front-more before now whole others h = (h.0, (h.1.0 ++ others, sym (append_assoc h.0 h.1.0 others) ∙ ap (λ (l : List ℕ). l ++ others) h.1.1), h.2)
+written-after before mid now (Err e) front rest first wrote = front-behind before mid now front rest first wrote
 
 bytes-line : (bytes : List ℕ) → texts (words.Bytes bytes ∷ []) ≡ codes "bytes " ++ (hex_text bytes ++ 10 ∷ [])
 bytes-line bytes = append-nil (text (words.Bytes bytes)) ∙ append_assoc (codes "bytes ") (hex_text bytes) (10 ∷ [])

@@ -30,7 +30,7 @@ use Rattle.fl_store.specs.declared.tables.Entry.{Entry}
 use Rattle.fl_store.specs.Tables.{first_of, TablesStand}
 use Rattle.fl_table.proofs.Apart.{stands-pages}
 use Rattle.fl_session.specs.Answer.{Refusal, IsReached}
-use Rattle.fl_session.specs.Caused.{LookSays}
+use Rattle.fl_session.specs.Caused.{LookSays, ReadsFew}
 use Rattle.fl_session.specs.Execute.{Executes}
 use Rattle.fl_session.specs.Looked.{Looks}
 use Rattle.fl_session.specs.Cost.{cost_of, HasRead, ReadsGet}
@@ -53,7 +53,7 @@ module _ (f g : FlashState) (only : OnlyReads f g) where
   pub goes-reads : Goes f g
   goes-reads = OnlyReads-goes f g only
 
-  pages-read : page_at g ≡ page_at f
+  pub pages-read : page_at g ≡ page_at f
   pages-read = looks-pages f g (record { reads = only; power = only.power; cuts = only.cuts })
 
   -- a table still stands
@@ -107,6 +107,9 @@ has-parts false covered e = (refl, e)
 -- why the row isn't told
 pub look-said : (t : Table 64 64) (entry : Entry) (f g : FlashState) (said : Reply) → t ≡ table_in entry.table → LookSays t f g said → LookSays (table_in entry.table) f g said
 look-said t entry f g said is h = subst (λ (x : Table 64 64). LookSays x f g said) is h
+
+pub reads-few : (t : Table 64 64) (entry : Entry) (f g : FlashState) → t ≡ table_in entry.table → OnlyReads f g → ReadsFew t f g → ReadsFew (table_in entry.table) f g
+reads-few t entry f g is only few = subst (λ (x : Table 64 64). ReadsFew x f g) is few
 
 -- a get that is executed
 pub get-executes : (E : Type 0) (config : Config) (old : Machine) (entries : List Entry) (at : ℕ) (entry : Entry) (t : Table 64 64) (asked : List ℕ) (notes : Notes) (f g : FlashState) (reads limit key : ℕ) (mounted : Bool) (said : code.Reply) (told told_now : Option (List ℕ)) (result : Result (Unit {0}) E) →

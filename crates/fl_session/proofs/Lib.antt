@@ -31,6 +31,8 @@ pub mod CompleteRuns
 pub mod BlobLines
 pub mod BlobNotes
 pub mod LoadedValues
+pub mod LoadReads
+pub mod LoadsInTurn
 pub mod LoadPuts
 pub mod RowLines
 pub mod Few
@@ -39,6 +41,9 @@ pub mod ScanReplies
 pub mod GetReplies
 pub mod Lookups
 pub mod LoadLines
+pub mod AnyBlobs
+pub mod BadBlobs
+pub mod AnyLines
 pub mod ListsAll
 pub mod LinesListed
 pub mod CountedLines

@@ -1,5 +1,5 @@
 -- A session that was begun over an opened image, and ended.
-use Rattle.std.proofs.Common.{◌≡◌, ℕ, zero, suc, Bool, true, false, IsTrue, Option, Some, None, Result, Ok, Err, inl, inr, length, take, List, ◌≤◌, refl, sym, ◌∙◌, ap, subst, le_trans, arith}
+use Rattle.std.proofs.Common.{◌≡◌, ℕ, zero, suc, ◌+◌, Bool, true, false, IsTrue, Option, Some, None, Result, Ok, Err, inl, inr, length, take, List, ◌≤◌, refl, sym, ◌∙◌, ap, subst, le_trans, arith}
 use Rattle.std.specs.Prelude.{if◌then◌else◌, slice_get, replicate}
 use base.Fml.{GName}
 use Rattle.fl_flash.specs.Flash.{FlashState, Goes}
@@ -29,7 +29,7 @@ use Rattle.fl_lines.specs.Texts.{is_long, lines_read}
 use Rattle.fl_session.specs.Begin.{BeginsAt}
 use Rattle.fl_session.specs.Opening.{Opened, HalfOpened, Foreign, OpensAs, KeepsForm, MediaGoes}
 use Rattle.fl_session.specs.Pending.{TellsPending, EndsAt}
-use Rattle.fl_session.specs.Ends.{Ends, IsFormed, told_of, effects_of, IsEarlyBy, Differs}
+use Rattle.fl_session.specs.Ends.{Ends, IsFormed, IsOther, told_of, effects_of, IsEarlyBy, Differs}
 use Rattle.fl_session.specs.ScriptEnds.{unsaid, start_in, ScriptEnds}
 use Rattle.fl_words.specs.Medium.{header}
 use Rattle.fl_config.specs.Opening as opening
@@ -39,7 +39,8 @@ use Rattle.fl_session.proofs.Ready.{ready-accepted, stands-ready}
 use Rattle.fl_session.proofs.RunEnds.{ran-through, ends-over, begins-ready, ends-making, ends-other}
 use Rattle.fl_session.proofs.Rested.{session-ends, opened-rests, opened-content, opened-formed}
 
-no-cursor : (n i : ℕ) (c : TableCursor) → slice_get (replicate n None) i ≡ Some (Some c) → ⊥
+-- none of so many cursors is open
+pub no-cursor : (n i : ℕ) (c : TableCursor) → slice_get (replicate n None) i ≡ Some (Some c) → ⊥
 no-cursor zero i c e = none e
   where
     none : ◌≡◌ {A = Option (Option TableCursor)} None (Some (Some c)) → ⊥
@@ -57,6 +58,7 @@ new-sound entries entries' f f' buf buf' mounted notes entries_are f_is buf_is o
   lie = lie;
   room = room;
   running = λ on. absurd (not_on (sym on ∙ off));
+  power = λ on. absurd (not_on (sym on ∙ off));
   forgotten = λ ended. forgotten;
   cursors = λ i c e. absurd (no-cursor 4 i c (ap (λ (n : Notes). slice_get n.cursors i) (sym fresh) ∙ e));
 })
@@ -127,12 +129,15 @@ ends-opened knots text lines first number state left left_now told told_now conf
 pub ends-half : (knots : ℕ) (text : List ℕ) (lines : Lines) (first : Option code.Command) (number : ℕ) (state : LinesState) (left told : Option (List ℕ)) (config : Config) (old new : MediaState) →
     BeginsAt knots text lines first number state left → whole knots lines ≡ Some config → IsTrue old.tells → HalfOpened config old new → Ends knots text (told_of old new left told told) MediaMake
 ends-half knots text lines first number state left told config old new begins w tells h =
-    ends-making (effects_of (told_of old new left told told) MediaMake) knots text lines first number state left config begins w (record { written = nothing-added told; kept = h.kept tells; part = h.part tells })
+    ends-making (effects_of (told_of old new left told told) MediaMake) knots text lines first number state left config begins w (record { written = nothing-added told; kept = h.kept; part = h.part })
+
+pub foreign-other : (config : Config) (old new : MediaState) (wanted found at : ℕ) → IsTrue old.tells → Foreign config old new wanted found at → IsOther config old.content wanted found at
+foreign-other config old new wanted found at tells h = (h.some, elim h.other [ inl k ↦ inl k | inr k ↦ inr (k.0, k.1 tells) ])
 
 pub ends-foreign : (knots : ℕ) (text : List ℕ) (lines : Lines) (first : Option code.Command) (number : ℕ) (state : LinesState) (left told : Option (List ℕ)) (config : Config) (old new : MediaState) (wanted found at : ℕ) →
     BeginsAt knots text lines first number state left → whole knots lines ≡ Some config → IsTrue old.tells → Foreign config old new wanted found at → Ends knots text (told_of old new left told told) (OtherConfig wanted found at)
 ends-foreign knots text lines first number state left told config old new wanted found at begins w tells h =
-    ends-other (effects_of (told_of old new left told told) (OtherConfig wanted found at)) knots text lines first number state left config wanted found at begins w (h.other tells, record { content = h.kept tells; written = nothing-added told })
+    ends-other (effects_of (told_of old new left told told) (OtherConfig wanted found at)) knots text lines first number state left config wanted found at begins w (foreign-other config old new wanted found at tells h, record { content = h.kept; written = nothing-added told })
 
 -- the statuses of the commands
 pub commands-words : (status : Status) → IsOfCommands status → status ≡ Usage → ⊥
@@ -165,20 +170,27 @@ differs config old wanted found at h = record { same = h.same; wanted_is = h.wan
 pub opens-as : (config : Config) (old : MediaState) (result : Result (Unit {0}) ImageRefusal) (new : MediaState) → Opens (medium_len config) (header config) old result new → OpensAs config old result new
 opens-as config old (Ok done) new (inl h) = record {
   len = h.len_is;
+  sized = inl h.empty;
   own = λ t. inl h.empty;
   made = λ t e. h.content (subst IsTrue refl t);
-  kept = λ t some. absurd (some h.empty);
+  kept = λ some. absurd (some h.empty);
   reads = omega (arith, h.reads);
 }
 opens-as config old (Ok done) new (inr h) = record {
   len = ap length h.same ∙ h.len_is;
+  sized = inr h.len_is;
   own = λ t. inr (h.len_is, h.head_is t);
   made = λ t e. absurd (h.some e);
-  kept = λ t some. h.same;
+  kept = λ some. h.same;
   reads = omega (arith, h.reads);
 }
-opens-as config old (Err Media) new h = record { rose = h.rose; kept = λ t some. h.same some; part = λ t e. h.part e }
-opens-as config old (Err (Other wanted found at)) new h = record { other = λ t. (h.some, elim h.other [ inl k ↦ inl k | inr k ↦ inr (k.0, differs config old wanted found at (k.1 t)) ]); kept = λ t. h.same }
+opens-as config old (Err Media) new h = record { rose = h.rose; kept = h.same; part = h.part; reads = h.reads }
+opens-as config old (Err (Other wanted found at)) new h = record {
+  some = h.some;
+  other = elim h.other [ inl k ↦ inl k | inr k ↦ inr (k.0, λ t. differs config old wanted found at (k.1 t)) ];
+  kept = h.same;
+  reads = h.reads;
+}
 
 pub opens-goes : (len : ℕ) (head : List ℕ) (old : MediaState) (result : Result (Unit {0}) ImageRefusal) (new : MediaState) → Opens len head old result new → MediaGoes old new
 opens-goes len head old (Ok done) new (inl h) = record { tells = h.tells; faults = h.later }

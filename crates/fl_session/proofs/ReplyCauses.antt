@@ -1,35 +1,27 @@
 -- The causes of replies, over any bytes.
 use Rattle.std.proofs.Common.{◌≡◌, ◌⊎◌, ℕ, ◌+◌, ◌<◌, ◌≤◌, Bool, true, false, not, nat_lt, inl, inr, Option, None, Some, Result, Ok, Err, IfErr, List, [], ◌∷◌, length, refl, sym, ◌∙◌, ap, subst}
-use Rattle.std.specs.Prelude.{◌↔◌, is_err, unwrap_or, OnOk, ℤ}
+use Rattle.std.specs.Prelude.{◌↔◌, is_err, OnOk}
 use Rattle.std.specs.List.{slice_get}
 use Rattle.std.specs.Option.{is_none}
 use Rattle.std.proofs.lemmas.Bool.{lt-ltb, le-ltb}
 use Rattle.fl_model.specs.Record.{RowLayout}
 use Rattle.fl_page.specs.Contents.{OnlyReads}
-use Rattle.fl_base.specs.Causes.{Rose}
 use Rattle.fl_cursor.specs.declared.bookmark.Bookmark.{Bookmark}
-use Rattle.fl_flash.specs.Flash.{FlashState, Goes}
-use Rattle.fl_flash.specs.declared.flash.FlashFault.{FlashFault}
-use Rattle.fl_flash.specs.declared.flash.FlashFault.TheVariants.{PowerLost, Media}
-use Rattle.fl_machine.specs.Step.{load_values}
-use Rattle.fl_ring.specs.Causes.{CausedBy}
+use Rattle.fl_flash.specs.Flash.{FlashState}
 use Rattle.fl_script.specs.ReplyView.{reply_text}
 use Rattle.fl_script.specs.Written.{Written}
 use Rattle.fl_script.specs.declared.reply.Reply as code
 use Rattle.fl_table.specs.Causes.{FlushCausedBy, PutCausedBy, put_breaks}
-use Rattle.fl_table.specs.Look.{last_key_in, layout_in}
-use Rattle.fl_table.specs.Refusal.{RefusesAs}
 use Rattle.fl_table.specs.declared.faults.FlushFault.{FlushFault}
 use Rattle.fl_table.specs.declared.faults.FlushFault.TheVariants as flush
 use Rattle.fl_table.specs.declared.faults.PutRefusal.{PutRefusal}
 use Rattle.fl_table.specs.declared.faults.PutRefusal.TheVariants as put
-use Rattle.fl_rlc.specs.Refusal.{RefusedSame, put_refusal}
+use Rattle.fl_rlc.specs.Refusal.{RefusedSame}
 use Rattle.fl_rlc.specs.Table.{table_in}
 use Rattle.fl_rlc.specs.declared.table.LoggedTable.{LoggedTable}
 use Rattle.fl_store.specs.Tables.{entries_with}
 use Rattle.fl_store.specs.declared.tables.BadMount.{BadMount}
 use Rattle.fl_store.specs.declared.tables.Entry.{Entry}
-use Rattle.fl_store.proofs.CallsInTurn.{rose-back}
 use Rattle.fl_store.proofs.TablesChanged.{set-same}
 use Rattle.fl_words.specs.Command.{Command, Nothing}
 use Rattle.fl_words.specs.Reply as reply
@@ -37,8 +29,8 @@ use Rattle.fl_words.specs.Reply.{Reply, text}
 use Rattle.fl_session.proofs.NextCommand.{nothing-added}
 use Rattle.fl_session.specs.Answer.{IsReached, Refusal}
 use Rattle.fl_session.specs.Asked.{lacked_column}
-use Rattle.fl_session.specs.Caused.{Caused, State, state_of, Says, Writes, IsRefused, IsHere, OnTable, IfLacks, OnlyLooks, MountsOver, PutFails, FlushFails, LoadCounts, LoadFails}
-use Rattle.fl_session.specs.Load.{load_key}
+use Rattle.fl_session.specs.Caused.{Caused, State, state_of, Says, Writes, IsRefused, IsHere, OnTable, IfLacks, OnlyLooks, MountsOver, PutFails, FlushFails, LoadCounts}
+use Rattle.fl_session.specs.ListSays.{EndsOn, ListSays}
 use Rattle.fl_session.specs.Notes.{with_cursor}
 use Rattle.fl_session.specs.declared.notes.Notes.{Notes}
 use Rattle.fl_session.specs.declared.notes.TableCursor.{TableCursor}
@@ -82,12 +74,12 @@ has-one layout column within =
     let is : nat_lt (length layout.columns) column ≡ false = le-ltb (length layout.columns) column within in
     rw is refl
 
-module _ (E : Type 0) (old new : State) (told told_now : Option (List ℕ)) (result : Result (Unit {0}) E) (o : Option ℕ) where
-  pub lacks-says : (column : ℕ) → o ≡ Some column → new ≡ old → Written told told_now result (text (reply.NoColumn column)) → IfLacks old new told told_now result o
-  lacks-says column lacks same wrote = subst (λ (x : Option ℕ). IfLacks old new told told_now result x) (sym lacks) (record { reply = reply.NoColumn column; written = wrote; holds = (refl, same) })
+module _ (E : Type 0) (old new : State) (IsLine : Reply → Type 0) (entry : Entry) (told told_now : Option (List ℕ)) (result : Result (Unit {0}) E) (o : Option ℕ) where
+  pub lacks-says : (column : ℕ) → o ≡ Some column → new ≡ old → Written told told_now result (text (reply.NoColumn column)) → IfLacks old new IsLine entry told told_now result o
+  lacks-says column lacks same wrote = subst (λ (x : Option ℕ). IfLacks old new IsLine entry told told_now result x) (sym lacks) (record { reply = reply.NoColumn column; written = wrote; holds = (refl, same) })
 
-  pub has-says : o ≡ None → OnlyLooks old new old.notes → IfLacks old new told told_now result o
-  has-says none looks = subst (λ (x : Option ℕ). IfLacks old new told told_now result x) (sym none) looks
+  pub has-says : o ≡ None → OnlyLooks old new old.notes × ListSays IsLine (EndsOn (table_in entry.table) old.flash new.flash) told told_now result → IfLacks old new IsLine entry told told_now result o
+  has-says none both = subst (λ (x : Option ℕ). IfLacks old new IsLine entry told told_now result x) (sym none) both
 
 -- a cursor that isn't open, and one that is
 pub closed-as : (cursors : List (Option TableCursor)) (n : ℕ) (o : Option TableCursor) → slice_get cursors n ≡ Some o → is_none o ≡ true → slice_get cursors n ≡ Some None
@@ -147,52 +139,7 @@ pub load-counts : (asked count : ℕ) (outcome : Result (Unit {0}) PutRefusal) �
 load-counts asked count (Ok done) is below = absurd (cc is)
 load-counts asked count (Err e) is below = below
 
-refusal-is : (o : Option PutRefusal) (e : PutRefusal) → put_breaks (Err e) ≡ false → RefusesAs o (Err e) → o ≡ Some e
-refusal-is None (put.Flash fault) is exact = absurd (cc is)
-refusal-is None (put.Key last) is exact = absurd exact
-refusal-is None (put.Columns count) is exact = absurd exact
-refusal-is None (put.Value column) is exact = absurd exact
-refusal-is None (put.Blob limit) is exact = absurd exact
-refusal-is None put.Spent is exact = absurd exact
-refusal-is None put.Stopped is exact = absurd exact
-refusal-is (Some refusal) e is exact = let same : e ≡ refusal = cc exact in ap Some (sym same)
-
 -- .. and one that doesn't
 pub when-ok : (P : Type 0) (outcome : Result (Unit {0}) PutRefusal) → is_err outcome ≡ false → OnOk outcome P → P
 when-ok P (Ok done) is p = p
 when-ok P (Err e) is p = absurd (cc is)
-
-pub when-err : (P : Type 0) (outcome : Result (Unit {0}) PutRefusal) → is_err outcome ≡ true → OnOk outcome P
-when-err P (Ok done) is = absurd (cc is)
-when-err P (Err e) is = tt
-
--- a cause in the last of some calls, of which those before left the power on
-off-before : (P : Type 0) (was now : Bool) → (was ≡ true → now ≡ true) → (now ≡ false) ⊎ P → (was ≡ false) ⊎ P
-off-before P false now kept cause = inl refl
-off-before P true now kept (inl off) = absurd (let on = kept refl in cc (on, off))
-off-before P true now kept (inr p) = inr p
-
-caused-before : (f m n : FlashState) (fault : FlashFault) → (f.is_on ≡ true → m.is_on ≡ true) → Goes f m → CausedBy m fault n → CausedBy f fault n
-caused-before f m n PowerLost kept goes (inl off) = off-before (Rose f.cuts n.cuts) f.is_on m.is_on kept (inl off)
-caused-before f m n PowerLost kept goes (inr rose) = inr (rose-back f.cuts m.cuts n.cuts goes.cuts rose)
-caused-before f m n Media kept goes rose = rose-back f.media.faults m.media.faults n.media.faults goes.faults rose
-
-module _ (t u : LoggedTable 64 64) (f m n : FlashState) (step seed count random key : ℕ) (values : List ℤ) where
-  refuses-now : (e : PutRefusal) → put_breaks (Err e) ≡ false → u ≡ t → key ≡ load_key (unwrap_or (last_key_in (table_in t)) 0) step random → values ≡ load_values (count + 1) seed 1 (layout_in (table_in t)).columns → RefusesAs (put_refusal t key values None) (Err e) →
-      (r : ℕ) × (put_refusal u (load_key (unwrap_or (last_key_in (table_in u)) 0) step r) (load_values (count + 1) seed 1 (layout_in (table_in u)).columns) None ≡ Some e)
-  refuses-now e is same k v exact = (
-    random,
-    ap (λ (x : LoggedTable 64 64). put_refusal x (load_key (unwrap_or (last_key_in (table_in x)) 0) step random) (load_values (count + 1) seed 1 (layout_in (table_in x)).columns) None) same
-        ∙ (ap (λ (x : ℕ). put_refusal t x (load_values (count + 1) seed 1 (layout_in (table_in t)).columns) None) (sym k) ∙ (ap (λ (vs : List ℤ). put_refusal t key vs None) (sym v) ∙ refusal-is (put_refusal t key values None) e is exact)),
-  )
-
-  pub load-fails : key ≡ load_key (unwrap_or (last_key_in (table_in t)) 0) step random → values ≡ load_values (count + 1) seed 1 (layout_in (table_in t)).columns → (outcome : Result (Unit {0}) PutRefusal) → (f.is_on ≡ true → m.is_on ≡ true) → Goes f m → RefusesAs (put_refusal t key values None) outcome →
-      IfErr outcome (λ e. RefusedSame t m e u n) → IfErr outcome (λ e. PutCausedBy m e n) → IfErr outcome (LoadFails u f n step seed count)
-  load-fails k v (Ok done) on goes exact same cause = tt
-  load-fails k v (Err (put.Flash fault)) on goes exact same cause = caused-before f m n fault on goes cause
-  load-fails k v (Err (put.Key last)) on goes exact same cause = refuses-now (put.Key last) refl same.0 k v exact
-  load-fails k v (Err (put.Columns wanted)) on goes exact same cause = refuses-now (put.Columns wanted) refl same.0 k v exact
-  load-fails k v (Err (put.Value column)) on goes exact same cause = refuses-now (put.Value column) refl same.0 k v exact
-  load-fails k v (Err (put.Blob limit)) on goes exact same cause = refuses-now (put.Blob limit) refl same.0 k v exact
-  load-fails k v (Err put.Spent) on goes exact same cause = refuses-now put.Spent refl same.0 k v exact
-  load-fails k v (Err put.Stopped) on goes exact same cause = refuses-now put.Stopped refl same.0 k v exact

@@ -107,7 +107,7 @@ opened-content config old new told h = by-content old.content refl
   where
     by-content : (content : List ℕ) → old.content ≡ content → new.content ≡ opened config content
     by-content [] e = h.made told e
-    by-content (byte ∷ bytes) e = h.kept told (λ empty. some (sym e ∙ empty)) ∙ e
+    by-content (byte ∷ bytes) e = h.kept (λ empty. some (sym e ∙ empty)) ∙ e
       where
         some : byte ∷ bytes ≡ [] → ⊥
         some k = cc
@@ -124,14 +124,14 @@ opened-formed config old new told h = (h.len, by-own (h.own told))
         let made = h.made told empty in
         let size = new-header config old new h made in
         ap (take 1024) made ∙ (ap (λ n. take n (new_content config)) (sym size) ∙ take-append_seam (header config) (replicate (medium_len config - 1024) 255))
-    by-own (inr formed) = ap (take 1024) (h.kept told (λ e. some (sym formed.0 ∙ ap length e))) ∙ formed.1
+    by-own (inr formed) = ap (take 1024) (h.kept (λ e. some (sym formed.0 ∙ ap length e))) ∙ formed.1
 
 pub opened-rests : (config : Config) (old new : MediaState) (f : FlashState) (m : Machine) → f.start ≡ 1024 → f.geometry ≡ config.geometry → f.media.content ≡ new.content →
     AllByRecursion HasRoom config.plans → IsTrue old.tells → Opened config old new → StandsFor config old.content m → RestsOn config new.content m
 opened-rests config old new f m start geometry content room told h (inl s) = (fresh_tables config, new-rests config old new f start geometry content room h (h.made told s.0), s.1)
 opened-rests config old new f m start geometry content room told h (inr s) = (
   s.0,
-  subst (λ c. IsImage config c s.0) (sym (h.kept told (λ e. some (sym s.1.len ∙ ap length e)))) s.1,
+  subst (λ c. IsImage config c s.0) (sym (h.kept (λ e. some (sym s.1.len ∙ ap length e)))) s.1,
   s.2,
 )
   where

@@ -38,7 +38,7 @@ pub rows-front : (rows rest : List Row) (es : List Entry) → map stored_row es 
 rows-front rows rest es e = sym (take-append-le (length rows) rows rest (omega arith) ∙ take_all (length rows) rows (omega arith)) ∙ (ap (take (length rows)) (sym e) ∙ take-map stored_row (length rows) es)
 
 -- a last reply behind lines
-texts-last : (lines : List Reply) (last : Reply) → texts lines ++ text last ≡ texts (lines ++ last ∷ [])
+pub texts-last : (lines : List Reply) (last : Reply) → texts lines ++ text last ≡ texts (lines ++ last ∷ [])
 texts-last [] last = sym (append-nil (text last))
 texts-last (line ∷ lines) last = append_assoc (text line) (texts lines) (text last) ∙ ap (λ (l : List ℕ). text line ++ l) (texts-last lines last)
 

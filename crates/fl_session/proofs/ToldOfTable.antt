@@ -1,10 +1,10 @@
 -- What a session tells of a table beside its replies.
-use Rattle.std.proofs.Common.{◌≡◌, ◌⊎◌, inl, inr, ℕ, true, false, Bool, Option, None, Some, Err, List, ◌∙◌, refl, sym, ap, subst, arith}
+use Rattle.std.proofs.Common.{◌≡◌, ◌⊎◌, ◌≤◌, inl, inr, ℕ, true, false, Bool, Option, None, Some, Result, Err, List, length, ◌∙◌, refl, sym, ap, subst, arith}
 use Rattle.std.specs.Prelude.{if◌then◌else◌, MatchBool, option_map, IsSomeAnd}
 use Rattle.std.specs.List.{slice_get}
 use Rattle.std.proofs.Math.Dec.{eqb}
 use Rattle.std.proofs.lemmas.Bool.Decides.{eqb_tells}
-use Rattle.std.proofs.lemmas.Option.{slice_get_within}
+use Rattle.std.proofs.lemmas.Option.{slice_get_past, slice_get_within}
 use Rattle.fl_model.proofs.Lists.{slice_get-some}
 use Rattle.fl_flash.specs.Flash.{FlashState}
 use Rattle.fl_model.specs.Bare.{bare, bare_table}
@@ -13,6 +13,7 @@ use Rattle.fl_model.specs.Table as model
 use Rattle.fl_model.specs.Table.{last_entry}
 use Rattle.fl_machine.specs.Machine.{Machine}
 use Rattle.fl_machine.specs.Step.{Located, located}
+use Rattle.fl_page.specs.Contents.{OnlyReads}
 use Rattle.fl_rlc.specs.Logged as logged
 use Rattle.fl_rlc.specs.Rings.{rings_of}
 use Rattle.fl_rlc.specs.Table.{table_in}
@@ -20,6 +21,7 @@ use Rattle.fl_rlc.specs.declared.rings.RingCounts.{RingCounts}
 use Rattle.fl_rlc.specs.declared.table.LoggedTable.{LoggedTable}
 use Rattle.fl_script.specs.declared.reply.Reply as code
 use Rattle.fl_table.specs.Look.{counts_of}
+use Rattle.fl_table.specs.Memory as memory
 use Rattle.fl_table.specs.Standing.{Stands}
 use Rattle.fl_table.specs.declared.counts.TableCounts.{TableCounts}
 use Rattle.fl_table.specs.declared.table.Table.{Table}
@@ -29,6 +31,7 @@ use Rattle.fl_store.proofs.TablesChanged.{at-place}
 use Rattle.fl_session.specs.Answer.{IsReached, Refusal}
 use Rattle.fl_session.specs.Held.{TellsTable, TellsLast, TellsCounts, TellsRings}
 use Rattle.fl_session.specs.Pending.{rows_of, pending_of}
+use Rattle.fl_session.specs.Told.{OldestIn, rows_there}
 use Rattle.fl_session.specs.declared.notes.Notes.{Notes}
 use Rattle.fl_session.specs.declared.pending.TableRows.{TableRows}
 use Rattle.fl_session.specs.Standing.{SessionStands}
@@ -121,3 +124,34 @@ module _ (config : Config) (m : Machine) (entries : List Entry) (notes : Notes) 
 
     pub pending-some : (rows ≡ 0 → ⊥) → here ≡ Some (record { name = entry.name; rows = rows })
     pending-some some = pending-there ∙ rows-some entry.name rows some
+
+-- .. over any bytes, of what a session has in memory
+module _ (entries : List Entry) (mounted : Bool) (at : ℕ) where
+  abbrev pub told_if : Bool → Option TableRows
+  told_if b = if b then rows_there (slice_get entries at) else None
+
+  pub none-off : mounted ≡ false → None ≡ told_if mounted
+  none-off off = ap told_if (sym off)
+
+  pub none-past : length entries ≤ at → None ≡ told_if mounted
+  none-past past = by_test mounted
+    where
+      by_test : (b : Bool) → None ≡ told_if b
+      by_test true = ap rows_there (sym (slice_get_past entries at past))
+      by_test false = refl
+
+  module _ (entry : Entry) (t : Table 64 64) (rows : ℕ) (on : mounted ≡ true) (e : slice_get entries at ≡ Some entry) (table_is : t ≡ table_in entry.table) (is : rows ≡ memory.pending_in t) where
+    are-there : rows_of entry.name rows ≡ told_if mounted
+    are-there =
+        ap (rows_of entry.name) (is ∙ ap (λ (x : Table 64 64). memory.pending_in x) table_is)
+        ∙ (ap rows_there (sym e) ∙ ap told_if (sym on))
+
+    pub rows-none : rows ≡ 0 → None ≡ told_if mounted
+    rows-none none = sym (rows-zero entry.name rows none) ∙ are-there
+
+    pub rows-are : (rows ≡ 0 → ⊥) → Some (record { name = entry.name; rows = rows }) ≡ told_if mounted
+    rows-are some = sym (rows-some entry.name rows some) ∙ are-there
+
+-- the oldest blob of a table with a log is that of its rows
+pub oldest-told : (t : Table 64 64) (entry : Entry) (f g : FlashState) (result : Result (Option ℕ) code.Reply) → t ≡ table_in entry.table → OnlyReads f g → OldestIn t f g result → OldestIn (table_in entry.table) f g result
+oldest-told t entry f g result is only told = subst (λ (x : Table 64 64). OldestIn x f g result) is told

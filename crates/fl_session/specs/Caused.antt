@@ -1,5 +1,5 @@
 -- What a command answers and leaves, and why, over any bytes and on any medium.
-use Rattle.std.specs.Prelude.{◌≡◌, ◌⊎◌, ℕ, ◌+◌, ◌-◌, ◌<◌, ◌≤◌, min, unwrap_or, ◌++◌, Bool, true, false, not, is_ok, IsTrue, Option, None, Some, option_map, Result, Ok, Err, OnOk, IfErr, List, [], ◌∷◌, length, slice_get, ℤ}
+use Rattle.std.specs.Prelude.{◌≡◌, ◌⊎◌, ℕ, ◌+◌, ◌-◌, ◌*◌, ◌<◌, ◌≤◌, min, ◌++◌, Bool, true, false, not, is_ok, IsTrue, Option, None, Some, option_map, Result, Ok, Err, OnOk, IfErr, List, [], ◌∷◌, length, slice_get, ℤ}
 use Rattle.fl_base.specs.declared.types.CutKind.{CutKind}
 use Rattle.fl_base.specs.declared.types.KeyRange.{KeyRange}
 use Rattle.fl_base.specs.declared.types.Span.{Span}
@@ -8,7 +8,7 @@ use Rattle.fl_flash.specs.Flash.{FlashState, page_at}
 use Rattle.fl_flash.specs.declared.flash.FlashFault.{FlashFault}
 use Rattle.fl_flash.specs.declared.flash.FlashFault.TheVariants.{PowerLost}
 use Rattle.fl_flash.specs.declared.tear.Tear.TheVariants.{Kind}
-use Rattle.fl_machine.specs.Step.{cost_reply, load_values}
+use Rattle.fl_machine.specs.Step.{cost_reply}
 use Rattle.fl_model.specs.Row.{Row}
 use Rattle.fl_page.specs.Contents.{OnlyReads}
 use Rattle.fl_page.specs.declared.fault.BadPage.{BadPage}
@@ -16,13 +16,15 @@ use Rattle.fl_page.specs.declared.fault.ReadFault.TheVariants as fault
 use Rattle.fl_rlc.specs.Refusal.{NeedsNoOperation, put_refusal}
 use Rattle.fl_rlc.specs.Rows.{AreBegun, HaveLogged}
 use Rattle.fl_rlc.specs.Table as logged
-use Rattle.fl_rlc.specs.Table.{IsSamePlan, log_in, table_in}
+use Rattle.fl_rlc.specs.Table.{IsSamePlan, log_in, rings_in, table_in}
 use Rattle.fl_rlc.specs.declared.table.LoggedTable.{LoggedTable}
 use Rattle.fl_script.specs.Written.{Written}
 use Rattle.fl_ring.specs.Causes.{CausedBy}
 use Rattle.fl_table.specs.Causes.{MountCausedBy, flush_breaks, put_breaks}
 use Rattle.fl_table.specs.Finding.{LookupFails}
-use Rattle.fl_table.specs.Look.{counts_in, last_key_in, layout_in}
+use Rattle.fl_table.specs.BlobAt.{data_in}
+use Rattle.fl_table.specs.Blobs.{most_pages}
+use Rattle.fl_table.specs.Look.{counts_in, last_key_in, layout_in, oldest_in}
 use Rattle.fl_table.specs.Memory.{next_in, pending_in, HasRoom, PendingAre}
 use Rattle.fl_table.specs.Mounting.{FewRepairs}
 use Rattle.fl_table.specs.Refusal.{RefusesAs}
@@ -31,9 +33,9 @@ use Rattle.fl_table.specs.declared.faults.FlushFault.TheVariants as flush
 use Rattle.fl_table.specs.declared.faults.PutRefusal.{PutRefusal}
 use Rattle.fl_table.specs.declared.faults.PutRefusal.TheVariants as put
 use Rattle.fl_table.specs.declared.table.Table.{Table}
-use Rattle.fl_store.specs.Mounting.{AreUnlogged, MountsInTurn, OutsideStands, RefusesAt, rings_of, tried}
+use Rattle.fl_store.specs.Mounting.{AreSameNames, AreSamePlans, AreUnlogged, MountsInTurn, OutsideStands, RefusesAt, rings_of, tried}
 use Rattle.fl_store.specs.Replies.{flush_reply, put_reply}
-use Rattle.fl_store.specs.Tables.{Names, StopsAt, entries_with}
+use Rattle.fl_store.specs.Tables.{AreRunning, Names, NonePending, StopsAt, entries_with}
 use Rattle.fl_store.specs.declared.tables.BadMount.{BadMount}
 use Rattle.fl_store.specs.declared.tables.Entry.{Entry}
 use Rattle.fl_words.specs.Command.{Command, Nothing, Device, Table as TableOf, Mount, Off, Cut, Put, Flush, Get, Blob, Scan, Open, Next, Close, Select, Project, Agg, Join, Stat, Cost, Load}
@@ -41,8 +43,10 @@ use Rattle.fl_words.specs.Reply as reply
 use Rattle.fl_words.specs.Reply.{Reply, text, texts}
 use Rattle.fl_session.specs.Answer.{IsReached, load_replies, mount_reply}
 use Rattle.fl_session.specs.Asked.{lacked_column}
+use Rattle.fl_session.specs.BlobSays.{BlobSays, MayBeBadFor}
 use Rattle.fl_session.specs.Cost.{cost_of}
-use Rattle.fl_session.specs.Load.{load_key}
+use Rattle.fl_session.specs.ListSays.{EndsNext, EndsOn, EndsOnBoth, IsFields, IsGroup, IsPair, IsRow, ListSays}
+use Rattle.fl_session.specs.LoadSays.{LoadFails, PutsRecords}
 use Rattle.fl_session.specs.Notes.{with_cursor, without_cursors}
 use Rattle.fl_session.specs.declared.cost.Cost.TheVariants.{OfGet, OfScan}
 use Rattle.fl_session.specs.declared.notes.Notes.{Notes}
@@ -57,6 +61,10 @@ pub record State : Type 0 where
 
 abbrev pub state_of : List Entry → Bool → Notes → FlashState → State
 state_of entries mounted notes flash = record { entries = entries; mounted = mounted; notes = notes; flash = flash }
+
+-- where something is mounted the power is on
+abbrev pub IsPowered : State → Type 0
+IsPowered s = s.mounted ≡ true → s.flash.is_on ≡ true
 
 -- ---- one reply
 
@@ -108,13 +116,19 @@ NotesScan old new = OnlyLooks old new (record old.notes { cost = OfScan (reads_i
 
 -- ---- the commands
 
--- What a mount of tables found, why it failed, what it repaired and what it left alone.
+-- What a mount of tables found, why it failed, what it repaired and what it left alone. No table became another one; where all are
+-- mounted, no row is pending.
 pub record MountsOver (old new : List Entry) (f : FlashState) (outcome : Result (Unit {0}) BadMount) (g : FlashState) : Type 0 where
   pub found : OnOk outcome (IsTrue f.media.tells → MountsInTurn (length old) old new f g)
   pub refused : IfErr outcome (λ bad. IsTrue f.media.tells → RefusesAt old new bad f g)
   pub stops : IfErr outcome (λ bad. StopsAt old new bad)
   pub cause : IfErr outcome (λ bad. MountCausedBy f bad.fault g)
+  pub running : OnOk outcome (AreRunning new)
+  pub none : OnOk outcome (NonePending new)
   pub power : OnOk outcome (f.is_on ≡ true → g.is_on ≡ true)
+  pub as_many : length new ≡ length old
+  pub names : AreSameNames old new
+  pub same : AreSamePlans old new
   pub repairs : AreUnlogged (tried outcome old) → FewRepairs (rings_of (tried outcome old)) f g
   pub outside : IsTrue f.media.tells → OutsideStands (tried outcome old) (page_at f) (page_at g)
 
@@ -131,7 +145,7 @@ abbrev pub MountSays : State → State → Reply → Type 0
 MountSays old new said = ((old.mounted ≡ true) × (said ≡ reply.AlreadyMounted) × (new ≡ old)) ⊎ MountsAll old new said
 
 -- What a call on the table at this place leaves: another state of that table, with the same plan, and outside its rings the
--- bytes that were there. It reads no page.
+-- bytes that were there. It reads no page; the medium may be read where a page is sealed.
 pub record LeavesTable (old new : State) (at : ℕ) (entry : Entry) (breaks : Bool) : Type 0 where
   pub now : LoggedTable 64 64
   pub same : IsSamePlan entry.table now
@@ -162,6 +176,7 @@ pub record PutSays (old new : State) (key : ℕ) (values : List ℤ) (blob : Opt
   pub quiet : put_refusal entry.table key values (option_map (λ bytes. length bytes) blob) ≡ None → NeedsNoOperation entry.table blob → (outcome ≡ Ok tt) × (new.flash ≡ old.flash)
   pub off : put_refusal entry.table key values (option_map (λ bytes. length bytes) blob) ≡ None → (NeedsNoOperation entry.table blob → ⊥) →
       old.flash.is_on ≡ false → (outcome ≡ Err (put.Flash PowerLost)) × (new.flash ≡ old.flash)
+  pub media_reads : new.flash.media.reads ≤ old.flash.media.reads + rings_in entry.table + most_pages (data_in (table_in entry.table)) blob
 
 -- only a fault of the flash fails it
 abbrev pub FlushFails : FlashState → FlashState → FlushFault → Type 0
@@ -169,7 +184,7 @@ FlushFails f g (flush.Flash fault) = CausedBy f fault g
 FlushFails f g flush.Stopped = ⊥
 
 -- A flush changes nothing where no row is pending. Else none is afterwards, they are the next page, and the ring of a log is as
--- it was.
+-- it was. The last record is the one that it was, however the flush ends.
 pub record FlushSays (old new : State) (at : ℕ) (entry : Entry) (said : Reply) : Type 0 where
   pub outcome : Result (Unit {0}) FlushFault
   pub said_is : said ≡ flush_reply outcome
@@ -177,10 +192,12 @@ pub record FlushSays (old new : State) (at : ℕ) (entry : Entry) (said : Reply)
   pub none : pending_in (table_in entry.table) ≡ 0 → (outcome ≡ Ok tt) × (new ≡ old)
   pub leaves : LeavesTable old new at entry (flush_breaks outcome)
   pub flushed : OnOk outcome (pending_in (table_in leaves.now) ≡ 0)
+  pub last : last_key_in (table_in leaves.now) ≡ last_key_in (table_in entry.table)
   pub seals : OnOk outcome (1 ≤ pending_in (table_in entry.table) → next_in (table_in leaves.now) ≡ next_in (table_in entry.table) + 1)
   pub begins : OnOk outcome (1 ≤ pending_in (table_in entry.table) → AreBegun (log_in entry.table) (log_in leaves.now))
   pub power : OnOk outcome (old.flash.is_on ≡ true → new.flash.is_on ≡ true)
   pub off : 1 ≤ pending_in (table_in entry.table) → old.flash.is_on ≡ false → (outcome ≡ Err (flush.Flash PowerLost)) × (new.flash ≡ old.flash)
+  pub media_reads : new.flash.media.reads ≤ old.flash.media.reads + rings_in entry.table
 
 -- what the table has in memory, and what the flash counted
 abbrev pub StatSays : State → State → ℕ → Entry → Reply → Type 0
@@ -218,9 +235,13 @@ LookSays t f g reply.ReadFault = (e : FlashFault) × LookupFails t f (fault.Flas
 LookSays t f g (reply.BadPage number) = (bad : BadPage) × (bad.wanted ≡ number) × LookupFails t f (fault.BadPage bad) g
 LookSays t f g _ = ⊥
 
+-- a lookup reads no more pages than the table keeps, and one
+abbrev pub ReadsFew : Table 64 64 → FlashState → FlashState → Type 0
+ReadsFew t f g = g.work.reads ≤ f.work.reads + (next_in t - oldest_in t) + 1
+
 -- the row of a key is looked up
 abbrev pub GetSays : State → State → ℕ → Entry → Reply → Type 0
-GetSays old new at entry said = LookSays (table_in entry.table) old.flash new.flash said × NotesGet old new
+GetSays old new at entry said = LookSays (table_in entry.table) old.flash new.flash said × ReadsFew (table_in entry.table) old.flash new.flash × NotesGet old new
 
 -- the power goes off, and nothing is mounted from then on
 abbrev pub OffSays : State → State → Reply → Type 0
@@ -241,44 +262,49 @@ abbrev pub Lists : {E : Type 0} → State → State → List ℕ → Option (Lis
 Lists old new name told told_now result Holds =
     Writes told told_now result (IsRefused old new name) ⊎ ((at : ℕ) × (entry : Entry) × IsHere old name at entry × Holds entry)
 
--- it is refused since the table lacks this column, or it only looks
-abbrev pub IfLacks : {E : Type 0} → State → State → Option (List ℕ) → Option (List ℕ) → Result (Unit {0}) E → Option ℕ → Type 0
-IfLacks old new told told_now result (Some column) = Writes told told_now result (λ said. (said ≡ reply.NoColumn column) × (new ≡ old))
-IfLacks old new told told_now result None = OnlyLooks old new old.notes
+-- it is refused since the table lacks this column, or it only looks, and lists lines of this kind
+abbrev pub IfLacks : {E : Type 0} → State → State → (Reply → Type 0) → Entry → Option (List ℕ) → Option (List ℕ) → Result (Unit {0}) E → Option ℕ → Type 0
+IfLacks old new IsLine entry told told_now result (Some column) = Writes told told_now result (λ said. (said ≡ reply.NoColumn column) × (new ≡ old))
+IfLacks old new IsLine entry told told_now result None = OnlyLooks old new old.notes × ListSays IsLine (EndsOn (table_in entry.table) old.flash new.flash) told told_now result
 
--- an open cursor goes on, and moves
-abbrev pub NextLooks : {E : Type 0} → State → State → ℕ → Option (List ℕ) → Option (List ℕ) → Result (Unit {0}) E → Type 0
-NextLooks old new cursor told told_now result =
+-- an open cursor lists rows of its table, and moves
+pub record NextMoves {E : Type 0} (old new : State) (cursor count : ℕ) (told told_now : Option (List ℕ)) (result : Result (Unit {0}) E) : Type 0 where
+  pub held : TableCursor
+  pub is_open : IsOpen old cursor held
+  pub entry : Entry
+  pub here : slice_get old.entries held.table ≡ Some entry
+  pub lists : ListSays IsRow (EndsNext count (table_in entry.table) old.flash new.flash) told told_now result
+  pub mark : Bookmark
+  pub looks : OnlyLooks old new (with_cursor old.notes cursor (Some (record held { mark = mark })))
+
+abbrev pub NextLooks : {E : Type 0} → State → State → ℕ → ℕ → Option (List ℕ) → Option (List ℕ) → Result (Unit {0}) E → Type 0
+NextLooks old new cursor count told told_now result =
     ((old.mounted ≡ false) × Writes told told_now result (λ said. (said ≡ reply.NotMounted) × (new ≡ old)))
     ⊎ ((old.mounted ≡ true) × IsClosed old cursor × Writes told told_now result (λ said. (said ≡ reply.NoCursor) × (new ≡ old)))
-    ⊎ ((old.mounted ≡ true) × ((held : TableCursor) × IsOpen old cursor held × ((mark : Bookmark) × OnlyLooks old new (with_cursor old.notes cursor (Some (record held { mark = mark }))))))
+    ⊎ ((old.mounted ≡ true) × NextMoves old new cursor count told told_now result)
 
 -- a load puts all the records that are asked for, or goes up to one that isn't put
 abbrev pub LoadCounts : ℕ → ℕ → Result (Unit {0}) PutRefusal → Type 0
 LoadCounts asked count (Ok done) = count ≡ asked
 LoadCounts asked count (Err refusal) = count < asked
 
--- A fault of the flash has its cause. Any other refusal is the one that the table has now for the next record, whose key is the
--- last one's and a step that a pseudo-random number gives.
-abbrev pub LoadFails : LoggedTable 64 64 → FlashState → FlashState → ℕ → ℕ → ℕ → PutRefusal → Type 0
-LoadFails t f g step seed count (put.Flash fault) = CausedBy f fault g
-LoadFails t f g step seed count refusal = (random : ℕ) ×
-    (put_refusal t (load_key (unwrap_or (last_key_in (table_in t)) 0) step random) (load_values (count + 1) seed 1 (layout_in (table_in t)).columns) None ≡ Some refusal)
-
--- a load tells how many records were put, and why the next one wasn't
+-- a load puts its records one after another, and tells how many were put, and why the next one wasn't
 pub record LoadSays {E : Type 0} (old new : State) (asked step seed at : ℕ) (entry : Entry) (told told_now : Option (List ℕ)) (result : Result (Unit {0}) E) : Type 0 where
   pub count : ℕ
   pub outcome : Result (Unit {0}) PutRefusal
   pub written : Written told told_now result (texts (load_replies count outcome))
   pub counted : LoadCounts asked count outcome
   pub leaves : LeavesTable old new at entry (put_breaks outcome)
-  pub fails : IfErr outcome (LoadFails leaves.now old.flash new.flash step seed count)
-  pub power : OnOk outcome (old.flash.is_on ≡ true → new.flash.is_on ≡ true)
+  pub puts : PutsRecords step seed count entry.table old.flash outcome leaves.now new.flash
+  pub fails : IfErr outcome (LoadFails old.flash new.flash)
+  pub power : put_breaks outcome ≡ false → old.flash.is_on ≡ true → new.flash.is_on ≡ true
+  pub media_reads : new.flash.media.reads ≤ old.flash.media.reads + (count + 1) * rings_in entry.table
 
 -- ---- any command
 
--- What a command of a script answers and leaves: of its replies the one that refuses it has its cause in memory, and so has the
--- only one of a command that lists nothing. A command that doesn't put, flush or mount changes no byte.
+-- What a command of a script answers and leaves: a reply that refuses it has its cause in memory, and so has the only one of a
+-- command that lists nothing. A list has lines of one kind, and behind them one that ends it, which has its cause too. A command
+-- that doesn't put, flush or mount changes no byte.
 abbrev pub Caused : {E : Type 0} → Command → State → State → Option (List ℕ) → Option (List ℕ) → Result (Unit {0}) E → Type 0
 Caused Mount old new told told_now result = Writes told told_now result (MountSays old new)
 Caused Off old new told told_now result = Writes told told_now result (OffSays old new)
@@ -290,13 +316,13 @@ Caused Cost old new told told_now result = Writes told told_now result (CostSays
 Caused (Open cursor name range span) old new told told_now result = Writes told told_now result (OnTable old new name (OpenSays old new cursor range span))
 Caused (Close cursor) old new told told_now result = Writes told told_now result (CloseSays old new cursor)
 Caused (Get name key) old new told told_now result = Writes told told_now result (OnTable old new name (GetSays old new))
-Caused (Blob name key) old new told told_now result = Lists old new name told told_now result (λ entry. OnlyLooks old new old.notes)
-Caused (Scan name range span) old new told told_now result = Lists old new name told told_now result (λ entry. NotesScan old new)
-Caused (Next cursor count) old new told told_now result = NextLooks old new cursor told told_now result
-Caused (Select name range column op value) old new told told_now result = Lists old new name told told_now result (λ entry. IfLacks old new told told_now result (lacked_column (layout_in (table_in entry.table)) (column ∷ [])))
-Caused (Project name range columns) old new told told_now result = Lists old new name told told_now result (λ entry. IfLacks old new told told_now result (lacked_column (layout_in (table_in entry.table)) columns))
-Caused (Agg name range column width) old new told told_now result = Lists old new name told told_now result (λ entry. IfLacks old new told told_now result (lacked_column (layout_in (table_in entry.table)) (column ∷ [])))
-Caused (Join left right range) old new told told_now result = Lists old new left told told_now result (λ entry. Lists old new right told told_now result (λ other. OnlyLooks old new old.notes))
+Caused (Blob name key) old new told told_now result = Lists old new name told told_now result (λ entry. OnlyLooks old new old.notes × BlobSays (MayBeBadFor (table_in entry.table) old.flash) old.flash new.flash told told_now result)
+Caused (Scan name range span) old new told told_now result = Lists old new name told told_now result (λ entry. NotesScan old new × ListSays IsRow (EndsOn (table_in entry.table) old.flash new.flash) told told_now result)
+Caused (Next cursor count) old new told told_now result = NextLooks old new cursor count told told_now result
+Caused (Select name range column op value) old new told told_now result = Lists old new name told told_now result (λ entry. IfLacks old new IsRow entry told told_now result (lacked_column (layout_in (table_in entry.table)) (column ∷ [])))
+Caused (Project name range columns) old new told told_now result = Lists old new name told told_now result (λ entry. IfLacks old new IsFields entry told told_now result (lacked_column (layout_in (table_in entry.table)) columns))
+Caused (Agg name range column width) old new told told_now result = Lists old new name told told_now result (λ entry. IfLacks old new IsGroup entry told told_now result (lacked_column (layout_in (table_in entry.table)) (column ∷ [])))
+Caused (Join left right range) old new told told_now result = Lists old new left told told_now result (λ entry. Lists old new right told told_now result (λ other. OnlyLooks old new old.notes × ListSays IsPair (EndsOnBoth (table_in entry.table) (table_in other.table) old.flash new.flash) told told_now result))
 Caused (Load name count step seed) old new told told_now result = Writes told told_now result (IsRefused old new name) ⊎ ((at : ℕ) × (entry : Entry) × IsHere old name at entry × LoadSays old new count step seed at entry told told_now result)
 Caused Nothing old new told told_now result = Written told told_now result [] × (new ≡ old)
 Caused (Device page block) old new told told_now result = Written told told_now result [] × (new ≡ old)

@@ -133,17 +133,17 @@ told_of old new left_now written written_now = record {
 -- The early statuses, whoever tells the script. Nothing was written, and the medium is unchanged
 pub record IsEarly (old new : MediaState) (told told_now : Option (List ℕ)) : Type 0 where
   pub written : Appends told told_now []
-  pub content : IsTrue old.tells → new.content ≡ old.content
+  pub content : new.content ≡ old.content
 
 -- .. or it was empty before it was made
 pub record IsHalfMade (old new : MediaState) (told told_now : Option (List ℕ)) : Type 0 where
   pub written : Appends told told_now []
-  pub content : IsTrue old.tells → (old.content ≡ [] → ⊥) → new.content ≡ old.content
+  pub content : (old.content ≡ [] → ⊥) → new.content ≡ old.content
 
 -- .. or it is unchanged or newly made and blank
 pub record IsMadeAtMost (old new : MediaState) (told told_now : Option (List ℕ)) : Type 0 where
   pub written : Appends told told_now []
-  pub content : IsTrue old.tells → (new.content ≡ old.content) ⊎ ((old.content ≡ []) × ((config : Config) × (new.content ≡ new_content config)))
+  pub content : (new.content ≡ old.content) ⊎ ((old.content ≡ []) × ((config : Config) × (new.content ≡ new_content config)))
 
 abbrev pub IsEarlyBy : MediaState → MediaState → Option (List ℕ) → Option (List ℕ) → Status → Type 0
 IsEarlyBy old new told told_now Usage = IsEarly old new told told_now

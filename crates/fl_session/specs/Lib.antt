@@ -1,6 +1,7 @@
 pub mod Paired
 pub mod BlobLine
 pub mod BlobNotes
+pub mod BlobSays
 pub mod BlobShown
 pub mod Words
 pub mod Runnable
@@ -20,6 +21,7 @@ pub mod Pending
 pub mod Answer
 pub mod Caused
 pub mod CausedEach
+pub mod Told
 pub mod Cost
 pub mod Notes
 pub mod Gives
@@ -27,9 +29,11 @@ pub mod Nexts
 pub mod Standing
 pub mod TablesHold
 pub mod Load
+pub mod LoadSays
 pub mod Run
 pub mod Rows
 pub mod Listed
+pub mod ListSays
 pub mod Looked
 pub mod Lines
 pub mod Asked

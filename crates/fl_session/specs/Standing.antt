@@ -41,6 +41,8 @@ pub record IsSound (entries : List Entry) (f : FlashState) (buf : Buffers) (moun
   pub lie : LieOn entries f
   pub room : HasRooms buf f.geometry.page
   pub running : mounted ≡ true → AreRunning entries
+  -- one that is mounted has the power on: to lose it ends the session
+  pub power : mounted ≡ true → f.is_on ≡ true
   -- a session that isn't mounted, because it ended or hasn't begun, keeps no page
   pub forgotten : mounted ≡ false → AreForgotten buf
   pub cursors : (i : ℕ) (c : TableCursor) → slice_get notes.cursors i ≡ Some (Some c) → c.table < length entries

@@ -10,6 +10,7 @@ ghost use Rattle.fl_session.specs.Next.{IsToRun};
 ghost use Rattle.fl_session.specs.Loop.{EndsCommands};
 ghost use Rattle.fl_session.specs.Pending.{TellsPending};
 ghost use Rattle.fl_session.specs.Run.{IsOfCommands, around_of, tail_of};
+ghost use Rattle.fl_session.specs.Told.{TellsRows};
 ghost use Rattle.fl_machine.specs.Machine.{Machine};
 
 use crate::Status;
@@ -43,6 +44,7 @@ pub(crate) fn run_commands<T: Executor, S: Source, K: Sink>(
         (λ commands. CausedEach commands (T.state session.old) (T.state session.new) (K.written out.old) (K.written out.new))
         (λ commands. CausedInto commands (T.state session.old) (T.state session.new) (K.written out.old) (K.written out.new)) result }
     ensures tells { (config : Config) (m : Machine) → T.stands session.new config m → TellsPending config result m }
+    ensures rows { TellsRows (T.state session.new) result }
     ensures read { result ≡ Status.ScriptRead → Rose (S.faults script.old) (S.faults script.new) }
     ensures write { result ≡ Status.OutWrite → Rose (K.faults out.old) (K.faults out.new) }
     ensures statuses { IsOfCommands result }

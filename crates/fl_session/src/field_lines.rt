@@ -3,6 +3,7 @@ ghost use Rattle.std.specs.Prelude.{◌≡◌, ◌≤◌, true, length, map};
 ghost use Rattle.fl_model.specs.Operators.{project};
 ghost use Rattle.fl_words.specs.Reply as words;
 ghost use Rattle.fl_ops.specs.Columns.{records_of};
+ghost use Rattle.fl_session.specs.ListSays.{IsFields};
 ghost use Rattle.fl_ops.specs.Project.{input_of, columns_of, fields_of};
 
 use crate::reply_lines::ReplyLines;
@@ -32,6 +33,10 @@ impl<F: Flash, R: Rows<F>> ReplyLines<F> for Project<'_, R> {
     ghost ready = { λ rows columns contents. R.ready (input_of rows) contents × (columns ≡ length (columns_of rows)) × (columns ≤ 8) };
 
     ghost told = { λ rows. R.told (input_of rows) };
+
+    ghost is_line = { IsFields };
+
+    ghost passes = { λ rows. R.passes (input_of rows) };
 
     ghost lines = { λ rows contents. map words.Fields (project (columns_of rows) (records_of (R.left (input_of rows) contents))) };
 

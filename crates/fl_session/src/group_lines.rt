@@ -3,6 +3,7 @@ ghost use Rattle.std.specs.Prelude.{◌≡◌, map};
 ghost use Rattle.fl_words.specs.Reply.{text};
 ghost use Rattle.fl_script.specs.ReplyView.{reply_text};
 ghost use Rattle.fl_machine.specs.Step.{group_reply};
+ghost use Rattle.fl_session.specs.ListSays.{IsGroup};
 ghost use Rattle.fl_ops.specs.Groups.{input_of, groups_left, group_in};
 
 use crate::reply_lines::ReplyLines;
@@ -31,6 +32,10 @@ impl<F: Flash, R: Rows<F>> ReplyLines<F> for Aggregate<R> {
     ghost ready = { λ groups columns. R.ready (input_of groups) };
 
     ghost told = { λ groups. R.told (input_of groups) };
+
+    ghost is_line = { IsGroup };
+
+    ghost passes = { λ groups. R.passes (input_of groups) };
 
     ghost lines = { λ groups contents. map group_reply (groups_left groups (R.present (input_of groups)) (R.left (input_of groups) contents)) };
 

@@ -7,7 +7,7 @@ ghost use Rattle.fl_page.specs.Contents.{OnlyReads};
 ghost use Rattle.fl_script.specs.ReplyView.{reply_text};
 ghost use Rattle.fl_table.specs.Memory.{is_running, LiesOn};
 ghost use Rattle.fl_table.specs.Standing.{Stands};
-ghost use Rattle.fl_session.specs.Caused.{LookSays, Says};
+ghost use Rattle.fl_session.specs.Caused.{LookSays, ReadsFew, Says};
 ghost use Rattle.fl_session.specs.Looked.{Looks};
 
 use crate::rows::{form_of, line_of};
@@ -23,6 +23,7 @@ pub(crate) fn look_up<F: Flash>(table: &Table, key: u64, flash: &mut F, buf: &mu
     requires lies { LiesOn table.now (F.state flash.old) }
     requires room { length buf.old.bytes ≡ (F.state flash.old).geometry.page }
     ensures cause { Says (reply_text result) (LookSays table.now (F.state flash.old) (F.state flash.new)) }
+    ensures few { ReadsFew table.now (F.state flash.old) (F.state flash.new) }
     ensures counts { OnlyReads (F.state flash.old) (F.state flash.new) }
     ensures lies { LiesOn table.now (F.state flash.new) }
     ensures room { length buf.new.bytes ≡ length buf.old.bytes }

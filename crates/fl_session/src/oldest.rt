@@ -1,6 +1,6 @@
 // The oldest record whose blob isn't gone.
 ghost use Rattle.std.specs.Prelude.{◌≡◌, ◌+◌, ◌-◌, ◌^◌, ◌<◌, ◌≤◌, ℕ, true, None, length, IsTrue, IfErr};
-ghost use Rattle.fl_cursor.specs.Cursor.{index_name, left_of, rows_name, IsReady, IsTold};
+ghost use Rattle.fl_cursor.specs.Cursor.{index_name, left_of, rows_name, table_of, IfBad, IsReady, IsTold, MayBeBad};
 ghost use Rattle.fl_cursor.specs.Reads.{most_of};
 ghost use Rattle.fl_model.specs.Limits.{scan_limit};
 ghost use Rattle.fl_model.specs.Record.{Plan};
@@ -12,6 +12,7 @@ ghost use Rattle.fl_table.specs.Standing.{Stands};
 ghost use Rattle.fl_session.specs.Keys.{all_keys};
 ghost use Rattle.fl_session.specs.Oldest.{first_kept, is_kept, FindsAmong, FindsOldest};
 ghost use Rattle.fl_session.specs.Standing.{HasRooms};
+ghost use Rattle.fl_session.specs.Told.{OldestIn};
 
 use crate::buffers::Buffers;
 use fl_base::KeyRange;
@@ -48,6 +49,7 @@ fn first_kept<F: Flash, R: Rows<F>>(
     ensures names { R.names input.new ≡ R.names input.old }
     ensures ready { (contents : Contents) → R.ready input.old contents → R.ready input.new contents }
     ensures cause { IfErr result (λ fault. IsCaused (F.state flash.old) fault (F.state flash.new)) }
+    ensures bad_page { IfErr result (IfBad (R.passes input.old (contents_of (F.state flash.old)))) }
     ensures finds { R.told input.old (contents_of (F.state flash.old)) → length (R.left input.old (contents_of (F.state flash.old))) < 2 ^ 64 - 1 →
         FindsAmong (first_kept oldest (R.left input.old (contents_of (F.state flash.old)))) result }
     ensures reads { R.told input.old (contents_of (F.state flash.old)) → (F.state flash.new).work.reads ≤ (F.state flash.old).work.reads + R.most input.old (contents_of (F.state flash.old)) }
@@ -76,6 +78,7 @@ fn first_of<F: Flash>(
     ensures index_name { index_name cursor.new ≡ index_name cursor.old }
     ensures ready { IsReady cursor.new (contents_of (F.state flash.old)) }
     ensures cause { IfErr result (λ fault. IsCaused (F.state flash.old) fault (F.state flash.new)) }
+    ensures bad_page { IfErr result (IfBad (MayBeBad (table_of cursor.old) (contents_of (F.state flash.old)))) }
     ensures finds { IsTold cursor.old (contents_of (F.state flash.old)) → length (left_of cursor.old (contents_of (F.state flash.old))) < 2 ^ 64 - 1 →
         FindsAmong (first_kept oldest (left_of cursor.old (contents_of (F.state flash.old)))) result }
     ensures reads { IsTold cursor.old (contents_of (F.state flash.old)) → (F.state flash.new).work.reads ≤ (F.state flash.old).work.reads + most_of cursor.old (contents_of (F.state flash.old)) }
@@ -93,6 +96,7 @@ pub(crate) fn oldest_blob<F: Flash>(
     requires running { is_running table.now ≡ true }
     requires lies { LiesOn table.now (F.state flash.old) }
     requires room { HasRooms buf.old (F.state flash.old).geometry.page }
+    ensures cause { OldestIn table.now (F.state flash.old) (F.state flash.new) result }
     ensures counts { OnlyReads (F.state flash.old) (F.state flash.new) }
     ensures room { HasRooms buf.new (F.state flash.old).geometry.page }
     ensures finds { (first : ℕ) → (plan : Plan) → (t : model.Table) → IsTrue (F.state flash.old).media.tells → (F.state flash.old).is_on ≡ true → Stands table.now (F.state flash.old) first plan t →

@@ -1,15 +1,17 @@
 // Pairs of rows as lines.
-ghost use Rattle.std.specs.Prelude.{◌≡◌, ◌+◌, ◌≤◌, ◌<◌, ◌^◌, true, length, map, IfErr};
+ghost use Rattle.std.specs.Prelude.{◌≡◌, ◌⊎◌, ◌+◌, ◌-◌, ◌≤◌, ◌<◌, ◌^◌, true, length, map, Err, IfErr, IfOk, IfSome};
 ghost use Rattle.fl_flash.specs.Flash.{FlashState};
 ghost use Rattle.fl_machine.specs.Step.{pair_reply};
 ghost use Rattle.fl_ops.specs.Inputs.{Continues};
 ghost use Rattle.fl_ops.specs.Pairs.{pair_of};
 ghost use Rattle.fl_page.specs.Contents.{contents_of, OnlyReads, IsCaused};
 ghost use Rattle.fl_page.specs.Steps.{left_after};
+ghost use Rattle.fl_page.specs.declared.fault.BadPage.{BadPage};
 ghost use Rattle.fl_schema.specs.Schema.{layout_of_row, row_of};
 ghost use Rattle.fl_script.specs.ReplyView.{reply_text};
 ghost use Rattle.fl_words.specs.Reply.{text};
-ghost use Rattle.fl_session.specs.Listed.{FaultIsRead};
+ghost use Rattle.fl_session.specs.ListSays.{GivesLines, IsLineOf, IsPair};
+ghost use Rattle.fl_session.specs.Listed.{FaultIsRead, IfUnread};
 ghost use Rattle.fl_session.specs.Lines.{LineSteps, ListsAll, HasSinkCause};
 ghost use Rattle.fl_session.specs.Paired.{pair_lines};
 
@@ -53,6 +55,8 @@ fn next_line<F: Flash, A: Rows<F>, B: Rows<F>>(
     ensures cause { IfErr result (λ fault. IsCaused (F.state flash.old) fault (F.state flash.new)) }
     ensures left { Continues A.names A.schema A.above A.ready A.told A.passes (contents_of (F.state flash.old)) left.old left.new }
     ensures right { Continues B.names B.schema B.above B.ready B.told B.passes (contents_of (F.state flash.old)) right.old right.new }
+    ensures kind { IfOk result (λ line. IfSome line (λ reply. IsLineOf IsPair reply)) }
+    ensures bad_page { (bad : BadPage) → result ≡ Err (ReadFault.BadPage bad) → A.passes left.old (contents_of (F.state flash.old)) bad ⊎ B.passes right.old (contents_of (F.state flash.old)) bad }
     ensures steps { A.told left.old (contents_of (F.state flash.old)) → B.told right.old (contents_of (F.state flash.old)) →
         LineSteps result (pair_lines (A.left left.old (contents_of (F.state flash.old))) (B.left right.old (contents_of (F.state flash.old))))
         (pair_lines (A.left left.new (contents_of (F.state flash.old))) (B.left right.new (contents_of (F.state flash.old)))) }
@@ -84,6 +88,8 @@ pub(crate) fn list_pairs<F: Flash, A: Rows<F>, B: Rows<F>, K: Sink>(
     ensures left { Continues A.names A.schema A.above A.ready A.told A.passes (contents_of (F.state flash.old)) left.old left.new }
     ensures right { Continues B.names B.schema B.above B.ready B.told B.passes (contents_of (F.state flash.old)) right.old right.new }
     ensures cause { HasSinkCause (K.faults out.old) (K.faults out.new) result }
+    ensures lines { GivesLines IsPair (λ bad. A.passes left.old (contents_of (F.state flash.old)) bad ⊎ B.passes right.old (contents_of (F.state flash.old)) bad) (2 ^ 64 - 1) (K.written out.old) (K.written out.new) result }
+    ensures unread { IfErr result (IfUnread (F.state flash.old) (F.state flash.new)) }
     ensures lists { A.told left.old (contents_of (F.state flash.old)) → B.told right.old (contents_of (F.state flash.old)) →
         length (pair_lines (A.left left.old (contents_of (F.state flash.old))) (B.left right.old (contents_of (F.state flash.old)))) < 2 ^ 63 → (F.state flash.old).is_on ≡ true →
         ListsAll (pair_lines (A.left left.old (contents_of (F.state flash.old))) (B.left right.old (contents_of (F.state flash.old))))

@@ -1,12 +1,14 @@
 // Lines that are made one after another, and listed.
-ghost use Rattle.std.specs.Prelude.{◌≡◌, ℕ, ◌+◌, ◌-◌, ◌^◌, ◌<◌, ◌≤◌, true, List, Option, length, Ok, OnOk, IfErr, IfOk, IfNone};
+ghost use Rattle.std.specs.Prelude.{◌≡◌, ℕ, ◌+◌, ◌-◌, ◌^◌, ◌<◌, ◌≤◌, true, List, Option, length, Ok, Err, OnOk, IfErr, IfOk, IfNone, IfSome};
 ghost use Rattle.std.specs.Borrow.{GName};
 ghost use Rattle.fl_base.specs.Causes.{HasCause};
 ghost use Rattle.fl_flash.specs.Flash.{FlashState};
 ghost use Rattle.fl_page.specs.Contents.{Contents, contents_of, OnlyReads, IsCaused};
 ghost use Rattle.fl_page.specs.Steps.{left_after};
+ghost use Rattle.fl_page.specs.declared.fault.BadPage.{BadPage};
 ghost use Rattle.fl_words.specs.Reply as words;
-ghost use Rattle.fl_session.specs.Listed.{FaultIsRead};
+ghost use Rattle.fl_session.specs.ListSays.{EndsCounted, GivesLines, IsLineOf, ListSays, SaysEnd};
+ghost use Rattle.fl_session.specs.Listed.{FaultIsRead, IfUnread};
 ghost use Rattle.fl_session.specs.Lines.{LineSteps, Counted, ListsAll, ReadsLines, HasSinkCause};
 
 use crate::listing::{ListFault, write_fault};
@@ -26,6 +28,12 @@ pub(crate) trait ReplyLines<F: Flash> {
     /// Whether the lines left are told over a flash that holds this.
     ghost told: { Self → Contents → Type 0 };
 
+    /// Of which kind they are.
+    ghost is_line: { words.Reply → Type 0 };
+
+    /// Which pages may be bad in a flash that holds this.
+    ghost passes: { Self → Contents → BadPage → Type 0 };
+
     /// The lines left.
     ghost lines: { Self → Contents → List words.Reply };
 
@@ -41,6 +49,9 @@ pub(crate) trait ReplyLines<F: Flash> {
         ensures cause { IfErr result (λ fault. IsCaused (F.state flash.old) fault (F.state flash.new)) }
         ensures names { names self.new ≡ names self.old }
         ensures stays_ready { (contents : Contents) → ready self.old columns contents → ready self.new columns contents }
+        ensures kind { IfOk result (λ line. IfSome line (λ reply. IsLineOf is_line reply)) }
+        ensures bad_page { (bad : BadPage) → result ≡ Err (ReadFault.BadPage bad) → passes self.old (contents_of (F.state flash.old)) bad }
+        ensures same_test { (contents : Contents) (bad : BadPage) → passes self.new contents bad → passes self.old contents bad }
         ensures stays_told { told self.old (contents_of (F.state flash.old)) → told self.new (contents_of (F.state flash.old)) }
         ensures steps { told self.old (contents_of (F.state flash.old)) →
             LineSteps result (lines self.old (contents_of (F.state flash.old))) (lines self.new (contents_of (F.state flash.old))) }
@@ -63,6 +74,8 @@ pub(crate) fn list_lines<F: Flash, L: ReplyLines<F>, K: Sink>(
     ensures names { L.names lines.new ≡ L.names lines.old }
     ensures stays_ready { (contents : Contents) → L.ready lines.old columns contents → L.ready lines.new columns contents }
     ensures cause { HasSinkCause (K.faults out.old) (K.faults out.new) result }
+    ensures lines { GivesLines L.is_line (L.passes lines.old (contents_of (F.state flash.old))) (2 ^ 64 - 1) (K.written out.old) (K.written out.new) result }
+    ensures unread { IfErr result (IfUnread (F.state flash.old) (F.state flash.new)) }
     ensures lists { L.told lines.old (contents_of (F.state flash.old)) → length (L.lines lines.old (contents_of (F.state flash.old))) < 2 ^ 63 → (F.state flash.old).is_on ≡ true →
         ListsAll (L.lines lines.old (contents_of (F.state flash.old))) (K.written out.old) (K.written out.new) (F.state flash.old).media.faults (F.state flash.new).media.faults result }
     ensures reads { L.told lines.old (contents_of (F.state flash.old)) → length (L.lines lines.old (contents_of (F.state flash.old))) < 2 ^ 63 →
@@ -84,6 +97,7 @@ pub(crate) fn end_list<K: Sink>(
     out: &mut K,
 ) -> Result<(), SinkFailed>
     ensures cause { (faults : ℕ) → HasSinkCause faults (K.faults out.old) listed → HasCause faults (K.faults out.new) result }
+    ensures says { SaysEnd listed (K.written out.old) (K.written out.new) result }
     ensures counted { (lines : List words.Reply) (most least : ℕ) (told : Option (List ℕ)) (faults faults_now reads reads_now : ℕ) →
         ListsAll lines told (K.written out.old) faults faults_now listed → ReadsLines most least reads reads_now listed → IfErr listed (FaultIsRead reads reads_now) →
         Counted lines most least told (K.written out.new) faults faults_now reads reads_now result }
@@ -106,6 +120,7 @@ pub(crate) fn answer_lines<F: Flash, L: ReplyLines<F>, K: Sink>(
     ensures names { L.names lines.new ≡ L.names lines.old }
     ensures stays_ready { (contents : Contents) → L.ready lines.old columns contents → L.ready lines.new columns contents }
     ensures cause { HasCause (K.faults out.old) (K.faults out.new) result }
+    ensures says { ListSays L.is_line (EndsCounted (L.passes lines.old (contents_of (F.state flash.old))) (F.state flash.old) (F.state flash.new)) (K.written out.old) (K.written out.new) result }
     ensures counted { L.told lines.old (contents_of (F.state flash.old)) → length (L.lines lines.old (contents_of (F.state flash.old))) < 2 ^ 63 → (F.state flash.old).is_on ≡ true →
         Counted (L.lines lines.old (contents_of (F.state flash.old))) (L.most lines.old (contents_of (F.state flash.old))) (L.least lines.old (contents_of (F.state flash.old)))
         (K.written out.old) (K.written out.new) (F.state flash.old).media.faults (F.state flash.new).media.faults (F.state flash.old).work.reads (F.state flash.new).work.reads result }

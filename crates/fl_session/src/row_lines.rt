@@ -1,5 +1,6 @@
 // The rows of a selection as lines.
 ghost use Rattle.std.specs.Prelude.{◌≡◌, ◌≤◌, length, map};
+ghost use Rattle.fl_session.specs.ListSays.{IsRow};
 ghost use Rattle.fl_session.specs.Rows.{row_reply};
 
 use crate::reply_lines::ReplyLines;
@@ -22,6 +23,10 @@ impl<F: Flash, R: Rows<F>> ReplyLines<F> for RowLines<R> {
     ghost ready = { λ lines columns contents. ⟦<Select<R> as Rows<F>>⟧.ready lines.rows contents × (columns ≡ length (⟦<Select<R> as RowHere>⟧.schema lines.rows).columns) × (columns ≤ 8) };
 
     ghost told = { λ lines. ⟦<Select<R> as Rows<F>>⟧.told lines.rows };
+
+    ghost is_line = { IsRow };
+
+    ghost passes = { λ lines. ⟦<Select<R> as Rows<F>>⟧.passes lines.rows };
 
     ghost lines = { λ lines contents. map (row_reply lines.blobs) (⟦<Select<R> as Rows<F>>⟧.left lines.rows contents) };
 

@@ -334,6 +334,8 @@ impl<'m, M: Media> Executor for Session<'m, M> {
 
     ghost state_flash = { λ s. refl };
 
+    ghost is_powered = { λ s h. h.power };
+
     ghost tables_hold = { λ s config m h. tables-hold config s.tables.entries.items _ s.mounted s.notes m h };
 
     ghost same_device = { λ s config m h. h.device };

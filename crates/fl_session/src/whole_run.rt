@@ -20,6 +20,7 @@ ghost use Rattle.fl_session.specs.Opening.{MediaGoes, KeepsForm};
 ghost use Rattle.fl_session.specs.Pending.{EndsAt, TellsPending};
 ghost use Rattle.fl_session.specs.Run.{RanFrom, RunsFrom, around_of, IsOfCommands, refused_status};
 ghost use Rattle.fl_session.specs.Standing.{RestsTold};
+ghost use Rattle.fl_session.specs.Told.{TellsRows};
 ghost use Rattle.fl_machine.specs.Machine.{Machine};
 
 use crate::begin::{Begun, read_config};
@@ -55,6 +56,7 @@ fn run_first<E: Executor, S: Source, K: Sink>(
         (λ commands. CausedEach commands (E.state session.old) (E.state session.new) (K.written out.old) (K.written out.new))
         (λ commands. CausedInto commands (E.state session.old) (E.state session.new) (K.written out.old) (K.written out.new)) result }
     ensures tells { (configured : Configuration) (m : Machine) → E.stands session.new configured m → TellsPending configured result m }
+    ensures rows { TellsRows (E.state session.new) result }
     ensures goes { Goes (E.flash session.old) (E.flash session.new) }
     ensures read { result ≡ Status.ScriptRead → Rose (S.faults script.old) (S.faults script.new) }
     ensures write { result ≡ Status.OutWrite → Rose (K.faults out.old) (K.faults out.new) }
@@ -90,7 +92,7 @@ fn run_session<M: Media, S: Source, K: Sink>(
         RanFrom begun.first begun.number lines.old (S.left script.old) (S.left script.new) (around_of configured (M.state media.old) (M.state media.new) (K.written out.old) (K.written out.new))
         (RestsTold configured (M.state media.old)) (EndsAt configured result (M.state media.new).content) result }
     ensures causes { RunsFrom begun.first begun.number lines.old (S.left script.old) (S.left script.new)
-        (λ commands. SessionOver config.now (M.state media.old) (M.state media.new) (λ begin end. CausedEach commands begin end (K.written out.old) (K.written out.new)))
+        (λ commands. SessionOver config.now (M.state media.old) (M.state media.new) (λ begin end. CausedEach commands begin end (K.written out.old) (K.written out.new) × TellsRows end result))
         (λ commands. SessionOver config.now (M.state media.old) (M.state media.new) (λ begin end. CausedInto commands begin end (K.written out.old) (K.written out.new))) result }
     ensures form { KeepsForm (M.state media.old) (M.state media.new) }
     ensures goes { MediaGoes (M.state media.old) (M.state media.new) }

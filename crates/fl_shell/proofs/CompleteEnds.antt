@@ -98,15 +98,15 @@ session-early old new InputLong of = tt
 session-early old new status of = absurd of
 
 pub looks-early : (old new : MediaState) (status : ShellStatus) → new.content ≡ old.content → IsEarlyBy old new status
-looks-early old new Unconfigured same = λ tells. same
-looks-early old new NoMemory same = λ tells. same
-looks-early old new NotImage same = λ tells. same
-looks-early old new MediaMake same = λ tells some. same
+looks-early old new Unconfigured same = same
+looks-early old new NoMemory same = same
+looks-early old new NotImage same = same
+looks-early old new MediaMake same = λ some. same
 looks-early old new status same = tt
 
 pub opening-early : (config : Config) (old looked new : MediaState) (refusal : ImageRefusal) → OnlyLooksAt old looked → OpensAs config looked (Err refusal) new → IsEarlyBy old new (opening_status refusal)
-opening-early config old looked new Media looks opens = λ tells some. opens.kept (subst IsTrue (sym looks.tells) tells) (λ empty. some (sym looks.content ∙ empty)) ∙ looks.content
-opening-early config old looked new (Other wanted found at) looks opens = λ tells. opens.kept (subst IsTrue (sym looks.tells) tells) ∙ looks.content
+opening-early config old looked new Media looks opens = λ some. opens.kept (λ empty. some (sym looks.content ∙ empty)) ∙ looks.content
+opening-early config old looked new (Other wanted found at) looks opens = opens.kept ∙ looks.content
 
 pub early-at : (old new : MediaState) (status known : ShellStatus) → status ≡ known → IsEarlyBy old new known → IsEarlyBy old new status
 early-at old new status known is h = subst (IsEarlyBy old new) (sym is) h

@@ -14,6 +14,7 @@ use Rattle.fl_model.specs.Record.{Config}
 use Rattle.fl_session.specs.Ends.{Differs, Told, IsOther, IsUntouched, told_of}
 use Rattle.fl_session.specs.Opening.{MediaGoes, OpensAs}
 use Rattle.fl_session.proofs.NextCommand.{nothing-added}
+use Rattle.fl_session.proofs.Over.{foreign-other}
 use Rattle.fl_words.specs.Config.{Lines, whole}
 use Rattle.fl_words.specs.Grammar.{lines_of}
 use Rattle.fl_words.specs.Medium.{header}
@@ -142,13 +143,13 @@ not-opened knots text begun config old looked new state left told told_now flush
         answers = b.answers;
         begins = b.begins;
         written = b.written;
-        kept = λ some. opens.kept looked_tells (λ empty. some (sym looks.content ∙ empty)) ∙ looks.content;
-        part = λ empty. opens.part looked_tells (looks.content ∙ empty);
+        kept = λ some. opens.kept (λ empty. some (sym looks.content ∙ empty)) ∙ looks.content;
+        part = λ empty. opens.part (looks.content ∙ empty);
       }),
     )
 not-opened knots text begun config old looked new state left told told_now flushed (Other wanted found at) none tells looks w h opens =
     let looked_tells : IsTrue looked.tells = subst IsTrue (sym looks.tells) tells in
-    by_content old.content h (subst (λ c. IsOther config c wanted found at) looks.content (opens.other looked_tells))
+    by_content old.content h (subst (λ c. IsOther config c wanted found at) looks.content (foreign-other config looked new wanted found at looked_tells opens))
   where
     by_content : (content : List ℕ) → BeginsAs content (lines_of text) (length text) (Ok begun) state left told told_now → IsOther config content wanted found at → ShellEnds knots text (told_of old new left told told_now) flushed NotImage
     by_content [] h other = absurd (other.0 refl)

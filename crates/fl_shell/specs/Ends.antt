@@ -105,8 +105,8 @@ ShellEnds knots text told flushed NotImage = (flushed ≡ none_pending) × (told
 
 -- the statuses before the image was opened: the medium is unchanged, or was empty where it failed while the image was made
 abbrev pub IsEarlyBy : MediaState → MediaState → ShellStatus → Type 0
-IsEarlyBy old new Unconfigured = IsTrue old.tells → new.content ≡ old.content
-IsEarlyBy old new NoMemory = IsTrue old.tells → new.content ≡ old.content
-IsEarlyBy old new NotImage = IsTrue old.tells → new.content ≡ old.content
-IsEarlyBy old new MediaMake = IsTrue old.tells → (old.content ≡ [] → ⊥) → new.content ≡ old.content
+IsEarlyBy old new Unconfigured = new.content ≡ old.content
+IsEarlyBy old new NoMemory = new.content ≡ old.content
+IsEarlyBy old new NotImage = new.content ≡ old.content
+IsEarlyBy old new MediaMake = (old.content ≡ [] → ⊥) → new.content ≡ old.content
 IsEarlyBy old new status = Unit {0}

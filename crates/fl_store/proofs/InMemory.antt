@@ -36,7 +36,7 @@ asked-same ask none (was ∷ old) [] many each at = absurd (omega (arith, many))
 asked-same ask none (was ∷ old) (now ∷ new) many each zero = each 0 was now refl refl
 asked-same ask none (was ∷ old) (now ∷ new) many each (suc at) = asked-same ask none old new (omega (arith, many)) (λ i. each (suc i)) at
 
-data-same : (old new : Option VarData) → variable.AreSamePlan old new → is_some new ≡ is_some old
+pub data-same : (old new : Option VarData) → variable.AreSamePlan old new → is_some new ≡ is_some old
 data-same None None same = refl
 data-same None (Some new) same = absurd same
 data-same (Some old) None same = absurd same
@@ -90,7 +90,7 @@ module _ (entries : List Entry) (at : ℕ) (entry : Entry) (u : LoggedTable 64 6
   put-takes item (Ok done) last pending rows logs = becomes (Takes item) (record { last = last; pending = pending; rows = rows; logs = logs })
   put-takes item (Err e) last pending rows logs = tt
 
-  pub flush-flushes : (result : Result (Unit {0}) FlushFault) → OnOk result (pending_in (table_in u) ≡ 0) → OnOk result (1 ≤ pending_in (table_in entry.table) → next_in (table_in u) ≡ next_in (table_in entry.table) + 1) →
+  pub flush-flushes : (result : Result (Unit {0}) FlushFault) → OnOk result (pending_in (table_in u) ≡ 0) → last_key_in (table_in u) ≡ last_key_in (table_in entry.table) → OnOk result (1 ≤ pending_in (table_in entry.table) → next_in (table_in u) ≡ next_in (table_in entry.table) + 1) →
       OnOk result (1 ≤ pending_in (table_in entry.table) → AreBegun (log_in entry.table) (log_in u)) → OnOk result (Becomes Flushes entries at (entries_with entries at entry u))
-  flush-flushes (Ok done) none seals begins = becomes Flushes (record { none = none; seals = seals; begins = begins })
-  flush-flushes (Err e) none seals begins = tt
+  flush-flushes (Ok done) none last seals begins = becomes Flushes (record { none = none; last = last; seals = seals; begins = begins })
+  flush-flushes (Err e) none last seals begins = tt

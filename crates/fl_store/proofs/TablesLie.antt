@@ -41,14 +41,14 @@ runs-with entries at entry u here i running own e k = by-place (eqb_tells at i)
 pub running-with : (entries : List Entry) (at : ℕ) (entry : Entry) (u : LoggedTable 64 64) → slice_get entries at ≡ Some entry → AreRunning entries → is_running u ≡ true → AreRunning (entries_with entries at entry u)
 running-with entries at entry u here running own i = runs-with entries at entry u here i (running i) (λ is. own)
 
--- .. and one more of the first tables
-pub running-more : (entries : List Entry) (at : ℕ) (entry : Entry) (u : LoggedTable 64 64) → slice_get entries at ≡ Some entry → ((i : ℕ) (e : Entry) → i < at → slice_get entries i ≡ Some e → is_running e.table ≡ true) → is_running u ≡ true →
-    (i : ℕ) (e : Entry) → i < at + 1 → slice_get (entries_with entries at entry u) i ≡ Some e → is_running e.table ≡ true
-running-more entries at entry u here running own i e lt k = by-order (cases_lt i at)
+-- what holds of the first tables, and of one more
+pub each-more : (P : LoggedTable 64 64 → Type 0) (entries : List Entry) (at : ℕ) (entry : Entry) (u : LoggedTable 64 64) → slice_get entries at ≡ Some entry → ((i : ℕ) (e : Entry) → i < at → slice_get entries i ≡ Some e → P e.table) → P u →
+    (i : ℕ) (e : Entry) → i < at + 1 → slice_get (entries_with entries at entry u) i ≡ Some e → P e.table
+each-more P entries at entry u here each own i e lt k = by-order (cases_lt i at)
   where
-    by-order : (i < at) ⊎ (at ≤ i) → is_running e.table ≡ true
-    by-order (inl before) = running i e before (sym (set-elsewhere entries at i (record { name = entry.name; table = u }) (λ is. absurd (omega (arith, before, is)))) ∙ k)
+    by-order : (i < at) ⊎ (at ≤ i) → P e.table
+    by-order (inl before) = each i e before (sym (set-elsewhere entries at i (record { name = entry.name; table = u }) (λ is. absurd (omega (arith, before, is)))) ∙ k)
     by-order (inr ge) =
         let same : at ≡ i = omega (arith, lt, ge) in
         let e_is = set-here entries at (record { name = entry.name; table = u }) e (subst (λ j. slice_get (entries_with entries at entry u) j ≡ Some e) (sym same) k) in
-        subst (λ (x : Entry). is_running x.table ≡ true) e_is own
+        subst (λ (x : Entry). P x.table) e_is own

@@ -44,8 +44,9 @@ pub record Takes (item : Record) (was now : LoggedTable 64 64) : Type 0 where
   pub rows : HasRoom (table_in was) → item.blob ≡ None → (rows : List Row) → PendingAre (table_in was) rows → PendingAre (table_in now) (rows ++ (record { key = item.key; values = item.values; blob = None }) ∷ [])
   pub logs : HaveLogged (layout_in (table_in was)) (record { key = item.key; values = item.values; blob = None }) (log_in was) (log_in now)
 
--- no record waits, and those that did have the next page
+-- no record waits, and those that did have the next page; the last record is the one that it was
 pub record Flushes (was now : LoggedTable 64 64) : Type 0 where
   pub none : pending_in (table_in now) ≡ 0
+  pub last : last_key_in (table_in now) ≡ last_key_in (table_in was)
   pub seals : 1 ≤ pending_in (table_in was) → next_in (table_in now) ≡ next_in (table_in was) + 1
   pub begins : 1 ≤ pending_in (table_in was) → AreBegun (log_in was) (log_in now)

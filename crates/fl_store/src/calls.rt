@@ -9,8 +9,11 @@ ghost use Rattle.fl_model.specs.Work.{Device};
 ghost use Rattle.fl_page.specs.Contents.{OnlyReads};
 ghost use Rattle.fl_ring.specs.Step.{IsWatched};
 ghost use Rattle.fl_rlc.specs.Refusal.{put_refusal, NeedsNoOperation};
-ghost use Rattle.fl_rlc.specs.Table.{is_running, table_in};
+ghost use Rattle.fl_rlc.specs.Table as logged;
+ghost use Rattle.fl_rlc.specs.Table.{is_running, rings_in, table_in};
 ghost use Rattle.fl_schema.specs.Schema.{layout_of_row, row_of};
+ghost use Rattle.fl_table.specs.BlobAt.{data_in};
+ghost use Rattle.fl_table.specs.Blobs.{most_pages};
 ghost use Rattle.fl_table.specs.Causes.{FlushCausedBy, MountCausedBy, PutCausedBy, flush_breaks, put_breaks};
 ghost use Rattle.fl_table.specs.Finding.{LookupFails, row_of_place};
 ghost use Rattle.fl_table.specs.Look.{counts_in, counts_of, last_key_in};
@@ -21,7 +24,7 @@ ghost use Rattle.fl_store.specs.Calls.{Finds, FlushEnds, GetEnds, HavePage, IsRe
 ghost use Rattle.fl_store.specs.InMemory.{AreSameTables, Becomes, Flushes, LeavesOthers, Takes, has_blobs_at};
 ghost use Rattle.fl_store.specs.Mounting.{AreUnlogged, MountsInTurn, OutsideStands, RefusesAt, rings_of, tried};
 ghost use Rattle.fl_store.specs.Store.{Holds, IsOnMedium};
-ghost use Rattle.fl_store.specs.Tables.{AreRunning, LieOn, StopsAt, TablesMount, pages_of};
+ghost use Rattle.fl_store.specs.Tables.{AreRunning, LieOn, NonePending, StopsAt, TablesMount, pages_of};
 ghost use Rattle.fl_store.specs.declared.tables.Entry.{Entry};
 
 use crate::pages::Pages;
@@ -48,6 +51,7 @@ impl<'m, M: Media> Store<'m, M> {
         ensures stops { IfErr result (λ bad. StopsAt self.old.tables.entries.items self.new.tables.entries.items bad) }
         ensures cause { IfErr result (λ bad. MountCausedBy (powered (⟦<SimFlash<'m, M> as Flash>⟧.state self.old.flash)) bad.fault (⟦<SimFlash<'m, M> as Flash>⟧.state self.new.flash)) }
         ensures running { OnOk result (AreRunning self.new.tables.entries.items) }
+        ensures none { OnOk result (NonePending self.new.tables.entries.items) }
         ensures power { OnOk result ((⟦<SimFlash<'m, M> as Flash>⟧.state self.new.flash).is_on ≡ true) }
         ensures repairs { AreUnlogged (tried result self.old.tables.entries.items) → FewRepairs (rings_of (tried result self.old.tables.entries.items)) (⟦<SimFlash<'m, M> as Flash>⟧.state self.old.flash) (⟦<SimFlash<'m, M> as Flash>⟧.state self.new.flash) }
         ensures outside { IsTrue (⟦<SimFlash<'m, M> as Flash>⟧.state self.old.flash).media.tells → OutsideStands (tried result self.old.tables.entries.items) (page_at (⟦<SimFlash<'m, M> as Flash>⟧.state self.old.flash)) (page_at (⟦<SimFlash<'m, M> as Flash>⟧.state self.new.flash)) }
@@ -99,7 +103,11 @@ impl<'m, M: Media> Store<'m, M> {
         ensures cause { IfErr result (λ e. PutCausedBy (⟦<SimFlash<'m, M> as Flash>⟧.state self.old.flash) e (⟦<SimFlash<'m, M> as Flash>⟧.state self.new.flash)) }
         ensures leaves { LeavesOthers (put_breaks result) self.old.tables.entries.items at self.new.tables.entries.items }
         ensures running { OnOk result ((i : ℕ) → RunsAt self.old.tables.entries.items i → RunsAt self.new.tables.entries.items i) }
+        ensures power { OnOk result ((⟦<SimFlash<'m, M> as Flash>⟧.state self.old.flash).is_on ≡ true → (⟦<SimFlash<'m, M> as Flash>⟧.state self.new.flash).is_on ≡ true) }
         ensures same { AreSameTables self.old.tables.entries.items self.new.tables.entries.items }
+        ensures outside { (entry : Entry) → slice_get self.old.tables.entries.items at ≡ Some entry → IsTrue (⟦<SimFlash<'m, M> as Flash>⟧.state self.old.flash).media.tells → logged.OutsideStands entry.table (page_at (⟦<SimFlash<'m, M> as Flash>⟧.state self.old.flash)) (page_at (⟦<SimFlash<'m, M> as Flash>⟧.state self.new.flash)) }
+        ensures reads { (⟦<SimFlash<'m, M> as Flash>⟧.state self.new.flash).work.reads ≡ (⟦<SimFlash<'m, M> as Flash>⟧.state self.old.flash).work.reads }
+        ensures media_reads { (entry : Entry) → slice_get self.old.tables.entries.items at ≡ Some entry → (⟦<SimFlash<'m, M> as Flash>⟧.state self.new.flash).media.reads ≤ (⟦<SimFlash<'m, M> as Flash>⟧.state self.old.flash).media.reads + rings_in entry.table + most_pages (data_in (table_in entry.table)) (option_map (λ b. b.now) blob.entry) }
         ensures goes { Goes (⟦<SimFlash<'m, M> as Flash>⟧.state self.old.flash) (⟦<SimFlash<'m, M> as Flash>⟧.state self.new.flash) }
         ensures lie { LieOn self.new.tables.entries.items (⟦<SimFlash<'m, M> as Flash>⟧.state self.new.flash) }
         ensures as_many { length self.new.tables.entries.items ≡ length self.old.tables.entries.items }
@@ -127,7 +135,11 @@ impl<'m, M: Media> Store<'m, M> {
         ensures cause { IfErr result (λ e. FlushCausedBy (⟦<SimFlash<'m, M> as Flash>⟧.state self.old.flash) e (⟦<SimFlash<'m, M> as Flash>⟧.state self.new.flash)) }
         ensures leaves { LeavesOthers (flush_breaks result) self.old.tables.entries.items at self.new.tables.entries.items }
         ensures running { OnOk result ((i : ℕ) → RunsAt self.old.tables.entries.items i → RunsAt self.new.tables.entries.items i) }
+        ensures power { OnOk result ((⟦<SimFlash<'m, M> as Flash>⟧.state self.old.flash).is_on ≡ true → (⟦<SimFlash<'m, M> as Flash>⟧.state self.new.flash).is_on ≡ true) }
         ensures same { AreSameTables self.old.tables.entries.items self.new.tables.entries.items }
+        ensures outside { (entry : Entry) → slice_get self.old.tables.entries.items at ≡ Some entry → IsTrue (⟦<SimFlash<'m, M> as Flash>⟧.state self.old.flash).media.tells → logged.OutsideStands entry.table (page_at (⟦<SimFlash<'m, M> as Flash>⟧.state self.old.flash)) (page_at (⟦<SimFlash<'m, M> as Flash>⟧.state self.new.flash)) }
+        ensures reads { (⟦<SimFlash<'m, M> as Flash>⟧.state self.new.flash).work.reads ≡ (⟦<SimFlash<'m, M> as Flash>⟧.state self.old.flash).work.reads }
+        ensures media_reads { (entry : Entry) → slice_get self.old.tables.entries.items at ≡ Some entry → (⟦<SimFlash<'m, M> as Flash>⟧.state self.new.flash).media.reads ≤ (⟦<SimFlash<'m, M> as Flash>⟧.state self.old.flash).media.reads + rings_in entry.table }
         ensures goes { Goes (⟦<SimFlash<'m, M> as Flash>⟧.state self.old.flash) (⟦<SimFlash<'m, M> as Flash>⟧.state self.new.flash) }
         ensures lie { LieOn self.new.tables.entries.items (⟦<SimFlash<'m, M> as Flash>⟧.state self.new.flash) }
         ensures as_many { length self.new.tables.entries.items ≡ length self.old.tables.entries.items }

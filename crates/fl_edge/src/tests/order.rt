@@ -2,7 +2,8 @@
 ghost use Rattle.std.specs.Prelude.{◌≤◌};
 
 use crate::{Prompted, ReplyBuffer, StandardInput, StandardOutput};
-use fl_base::{Sink, SinkFailed, Source, SourceFailed};
+use fl_base::{NoMemory, Sink, SinkFailed, Source, SourceFailed};
+use std::alloc::Global;
 use std::cell::RefCell;
 use std::io::{self, ErrorKind, Read, Write};
 use std::test::Fail;
@@ -113,82 +114,152 @@ fn writer_on(log: &Log, most: usize, room: usize) -> Writer<'_> {
     }
 }
 
+// What a source or a sink is asked for and has to answer, and what then stands in the log.
+#[derive(Clone, Copy)]
+enum Step<'b> {
+    Read(Result<usize, SourceFailed>),
+    Write(&'b [u8], Result<usize, SinkFailed>),
+    HandOut(Result<(), SinkFailed>),
+    Log(&'b [u8]),
+}
+
+fn holds<S: Source, W: Write + Drop>(
+    source: &mut S,
+    sink: &mut StandardOutput<'_, W>,
+    log: &Log,
+    step: Step<'_>,
+) -> bool {
+    match step {
+        Step::Read(want) => {
+            let mut into = [0; 4];
+            source.read(&mut into) == want
+        }
+        Step::Write(bytes, want) => sink.write(bytes) == want,
+        Step::HandOut(want) => sink.hand_out() == want,
+        Step::Log(bytes) => log.is(bytes),
+    }
+}
+
+// The first steps that are answered as they are to be, by a reader and a writer over one buffer of replies.
+fn answered<R: Read + Drop, W: Write + Drop>(
+    alloc: Global,
+    reader: R,
+    writer: W,
+    log: &Log,
+    steps: &[Step<'_>],
+) -> Result<usize, NoMemory> {
+    let replies = RefCell::new(ReplyBuffer::new(alloc, writer)?);
+    let mut source = StandardInput::new(reader, &replies);
+    let mut sink = StandardOutput::new(&replies);
+    for i in 0..steps.len() {
+        if !holds(&mut source, &mut sink, log, steps[i]) {
+            return Ok(i);
+        }
+    }
+    Ok(steps.len())
+}
+
 #[test]
 fn each_reply_is_out_before_the_next_read(rt: HostRuntime) -> Result<(), Fail> {
+    let steps = [
+        Step::Read(Ok(1)),
+        Step::Write(b"ab", Ok(2)),
+        Step::Write(b"cd", Ok(2)),
+        Step::Log(b"?"),
+        Step::Read(Ok(1)),
+        Step::Log(b"?abcd?"),
+        Step::Write(b"e", Ok(1)),
+        Step::HandOut(Ok(())),
+        Step::Read(Ok(1)),
+        Step::Log(b"?abcd?e?"),
+        Step::Read(Err(SourceFailed)),
+        Step::HandOut(Ok(())),
+    ];
     let log = Log::new(&rt);
-    let replies = RefCell::new(ReplyBuffer::new(rt.alloc(), writer_on(&log, 1, 100))?);
-    let mut source = StandardInput::new(reader_on(&log, 3), &replies);
-    let mut sink = StandardOutput::new(&replies);
-    let mut into = [0; 4];
-    assert_eq!(rt; source.read(&mut into), Ok(1));
-    assert_eq!(rt; sink.write(b"ab"), Ok(2));
-    assert_eq!(rt; sink.write(b"cd"), Ok(2));
-    assert!(rt; log.is(b"?"));
-    assert_eq!(rt; source.read(&mut into), Ok(1));
-    assert!(rt; log.is(b"?abcd?"));
-    assert_eq!(rt; sink.write(b"e"), Ok(1));
-    assert_eq!(rt; sink.hand_out(), Ok(()));
-    assert_eq!(rt; source.read(&mut into), Ok(1));
-    assert!(rt; log.is(b"?abcd?e?"));
-    assert_eq!(rt; source.read(&mut into), Err(SourceFailed));
-    assert_eq!(rt; sink.hand_out(), Ok(()));
+    let done = answered(
+        rt.alloc(),
+        reader_on(&log, 3),
+        writer_on(&log, 1, 100),
+        &log,
+        &steps,
+    )?;
+    assert_eq!(rt; done, steps.len());
     Ok(())
 }
 
 #[test]
 fn a_prompt_stands_behind_the_replies(rt: HostRuntime) -> Result<(), Fail> {
+    let steps = [
+        Step::Read(Ok(1)),
+        Step::Write(b"ab", Ok(2)),
+        Step::Read(Ok(0)),
+        Step::Log(b"> ab> \n"),
+    ];
     let log = Log::new(&rt);
-    let replies = RefCell::new(ReplyBuffer::new(rt.alloc(), writer_on(&log, 8, 100))?);
     let reader = Prompted::new(b"x".as_slice(), Some(writer_on(&log, 8, 100)));
-    let mut source = StandardInput::new(reader, &replies);
-    let mut sink = StandardOutput::new(&replies);
-    let mut into = [0; 4];
-    assert_eq!(rt; source.read(&mut into), Ok(1));
-    assert_eq!(rt; sink.write(b"ab"), Ok(2));
-    assert_eq!(rt; source.read(&mut into), Ok(0));
-    assert!(rt; log.is(b"> ab> \n"));
+    let done = answered(rt.alloc(), reader, writer_on(&log, 8, 100), &log, &steps)?;
+    assert_eq!(rt; done, steps.len());
     Ok(())
 }
 
 #[test]
 fn nothing_is_read_behind_a_failed_hand_out(rt: HostRuntime) -> Result<(), Fail> {
+    let steps = [
+        Step::Write(b"abcde", Ok(5)),
+        Step::Read(Err(SourceFailed)),
+        Step::Write(b"f", Err(SinkFailed)),
+        Step::HandOut(Err(SinkFailed)),
+        Step::Read(Err(SourceFailed)),
+        Step::Log(b"abc"),
+    ];
     let log = Log::new(&rt);
-    let replies = RefCell::new(ReplyBuffer::new(rt.alloc(), writer_on(&log, 8, 3))?);
-    let mut source = StandardInput::new(reader_on(&log, 3), &replies);
-    let mut sink = StandardOutput::new(&replies);
-    let mut into = [0; 4];
-    assert_eq!(rt; sink.write(b"abcde"), Ok(5));
-    assert_eq!(rt; source.read(&mut into), Err(SourceFailed));
-    assert_eq!(rt; sink.write(b"f"), Err(SinkFailed));
-    assert_eq!(rt; sink.hand_out(), Err(SinkFailed));
-    assert_eq!(rt; source.read(&mut into), Err(SourceFailed));
-    assert!(rt; log.is(b"abc"));
+    let done = answered(
+        rt.alloc(),
+        reader_on(&log, 3),
+        writer_on(&log, 8, 3),
+        &log,
+        &steps,
+    )?;
+    assert_eq!(rt; done, steps.len());
     Ok(())
 }
 
 #[test]
 fn a_failed_end_is_told(rt: HostRuntime) -> Result<(), Fail> {
+    let steps = [
+        Step::HandOut(Ok(())),
+        Step::Write(b"ab", Ok(2)),
+        Step::HandOut(Err(SinkFailed)),
+        Step::HandOut(Err(SinkFailed)),
+    ];
     let log = Log::new(&rt);
-    let replies = RefCell::new(ReplyBuffer::new(rt.alloc(), writer_on(&log, 8, 0))?);
-    let mut sink = StandardOutput::new(&replies);
-    assert_eq!(rt; sink.hand_out(), Ok(()));
-    assert_eq!(rt; sink.write(b"ab"), Ok(2));
-    assert_eq!(rt; sink.hand_out(), Err(SinkFailed));
-    assert_eq!(rt; sink.hand_out(), Err(SinkFailed));
+    let done = answered(
+        rt.alloc(),
+        reader_on(&log, 0),
+        writer_on(&log, 8, 0),
+        &log,
+        &steps,
+    )?;
+    assert_eq!(rt; done, steps.len());
     Ok(())
 }
 
 #[test]
 fn a_full_buffer_is_handed_out(rt: HostRuntime) -> Result<(), Fail> {
-    let log = Log::new(&rt);
-    let mut replies = ReplyBuffer::new(rt.alloc(), writer_on(&log, 30_000, 50_000))?;
     let piece = [b'x'; 40_000];
-    assert_eq!(rt; replies.write(&piece), Ok(40_000));
-    assert!(rt; log.is(&[]));
-    assert_eq!(rt; replies.write(&piece), Ok(40_000));
-    assert!(rt; log.is(&piece));
-    assert_eq!(rt; replies.write(&piece), Err(SinkFailed));
-    assert_eq!(rt; replies.write(&[]), Err(SinkFailed));
-    assert!(rt; log.is(&[b'x'; 50_000]));
+    let all = [b'x'; 50_000];
+    let steps = [
+        Step::Write(&piece, Ok(40_000)),
+        Step::Log(&[]),
+        Step::Write(&piece, Ok(40_000)),
+        Step::Log(&piece),
+        Step::Write(&piece, Err(SinkFailed)),
+        Step::Write(&[], Err(SinkFailed)),
+        Step::Log(&all),
+    ];
+    let log = Log::new(&rt);
+    let writer = writer_on(&log, 30_000, 50_000);
+    let done = answered(rt.alloc(), reader_on(&log, 0), writer, &log, &steps)?;
+    assert_eq!(rt; done, steps.len());
     Ok(())
 }

@@ -3,6 +3,7 @@ ghost use Rattle.std.specs.Prelude.{◌≡◌, slice_get};
 ghost use Rattle.fl_model.specs.Record.{Config};
 ghost use Rattle.fl_machine.specs.Machine.{Machine};
 ghost use Rattle.fl_session.specs.Pending.{pending_of};
+ghost use Rattle.fl_session.specs.Told.{pending_at};
 
 use super::Session;
 use crate::TableRows;
@@ -12,8 +13,9 @@ use fl_flash::Media;
 impl<'m, M: Media> Session<'m, M> {
     /// The table at a place, if rows of it are pending; none in a session that isn't mounted.
     pub(super) fn pending_at(&self, at: usize) -> Option<TableRows>
-        ensures { (config : Config) (m : Machine) → ⟦<Self as Executor>⟧.stands self.now config m →
+        ensures holds { (config : Config) (m : Machine) → ⟦<Self as Executor>⟧.stands self.now config m →
             result ≡ pending_of (slice_get config.plans at) (slice_get m.tables at) }
+        ensures cause { result ≡ pending_at (⟦<Self as Executor>⟧.state self.now) at }
     {
         if !self.mounted {
             return None;

@@ -4,7 +4,7 @@ use Rattle.fl_table.specs.BlobAt.{has_blobs}
 use Rattle.fl_session.specs.BlobShown.{IfNamed, FindsBlob}
 use Rattle.fl_session.specs.declared.blob.BlobFound.{BlobFound}
 use Rattle.std.specs.Prelude.{true, Ok}
-use Rattle.fl_session.proofs.BlobShows.{named-has, finds-row, lookup-caused, finds-unread}
+use Rattle.fl_session.proofs.BlobShows.{named-has, finds-row, finds-unread}
 use Rattle.fl_session.proofs.blob.find_blob.Goals as goal
 
 pub returns-in-Ok-None-clause-finds : goal.returns-in-Ok-None-clause-finds
@@ -24,6 +24,3 @@ returns-in-Ok-Some-clause-finds g c = λ first plan t told stands.
 
 pub returns-in-Err-clause-finds : goal.returns-in-Err-clause-finds
 returns-in-Err-clause-finds g c = λ first plan t told stands. finds-unread 64 plan t c.args.key (g.F.Flash.state c.args.flash.now).work.reads (g.F.Flash.state c.find.new.flash).work.reads c.find.new.buf c.in-Err.fault (c.in-Err.ensures.finds first plan t told stands)
-
-pub returns-in-Err-clause-unread : goal.returns-in-Err-clause-unread
-returns-in-Err-clause-unread g c = lookup-caused c.args.table.now (g.F.Flash.state c.args.flash.now) (g.F.Flash.state c.find.new.flash) c.in-Err.fault c.in-Err.ensures.fails

@@ -3,8 +3,12 @@ use Rattle.fl_base.specs.declared.types.BlobRef.{BlobRef}
 use Rattle.fl_page.proofs.ReadsInTurn.{OnlyReads-then}
 use Rattle.fl_table.specs.BlobAt.{content_in}
 use Rattle.fl_var.specs.Reading.{data_of}
-use Rattle.fl_store.proofs.Readers.{buffer-fits, data-lies, data-stands, opened-ready, room-same}
+use Rattle.fl_store.proofs.Readers.{buffer-fits, data-lies, data-stands, opened-ready, reads-kept, room-same}
 use Rattle.fl_session.proofs.BlobShows.{says-empty, few-left, holds-blob}
+use Rattle.fl_words.specs.Reply.{BytesEmpty}
+use Rattle.fl_session.specs.BlobSays.{MayBeBadFor}
+use Rattle.fl_session.proofs.AnyBlobs.{says-one}
+use Rattle.fl_session.proofs.BadBlobs.{opened-bad, turned-held}
 use Rattle.fl_session.proofs.blob.show_at.Goals as goal
 
 pub returns-then-at-eq0-clause-says : goal.returns-then-at-eq0-clause-says
@@ -64,3 +68,19 @@ returns-clause-reads g c = λ first plan t i entry bytes tells stands slot blob_
     let few = few-left c.open-stands.result c.open-stands.new.self t entry bytes f c.args.at.length (content_in c.args.table.now) finds (sym (ap (λ (a : BlobRef). a.length) at_is))
     (omega (arith, c.open-stands.ensures.few, ap (λ n. c.args.at.length / n) (room-same c.args.table.now f c.requires.lies v c.blob_reader-reader.ensures.var))) c.open-stands.ensures.left c.open-stands.ensures.no_more in
     omega (arith, more, few)
+
+pub returns-then-at-eq0-clause-tells : goal.returns-then-at-eq0-clause-tells
+returns-then-at-eq0-clause-tells g c = says-one (MayBeBadFor c.args.table.now (g.F.Flash.state c.args.flash.now)) (g.F.Flash.state c.args.flash.now) (g.F.Flash.state c.args.flash.now) _ _ _ BytesEmpty tt c.write_reply.ensures.text
+
+pub returns-clause-tells : goal.returns-clause-tells
+returns-clause-tells g c =
+    let f = g.F.Flash.state c.args.flash.now in
+    let h = g.F.Flash.state c.open-stands.new.flash in
+    let t = c.args.table.now in
+    let v = data_of c.blob_reader-reader.result in
+    c.show_opened-written.ensures.tells t f (record {
+      only = c.open-stands.ensures.counts;
+      fails = opened-bad t f h v c.args.at c.open-stands.result c.open-stands.new.self c.blob_reader-reader.ensures.var c.open-stands.ensures.opens c.open-stands.ensures.fails;
+      ahead = λ is. turned-held f h c.open-stands.ensures.counts t v c.open-stands.new.self c.blob_reader-reader.ensures.var c.open-stands.ensures.data
+          (λ tells. reads-kept c.open-stands.new.self f h 1 c.open-stands.ensures.reads (opened-ready v f c.args.at c.open-stands.result c.open-stands.new.self (c.open-stands.ensures.opens tells) is));
+    })

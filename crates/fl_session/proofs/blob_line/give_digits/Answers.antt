@@ -1,10 +1,13 @@
-use Rattle.std.proofs.Common.{◌≡◌, ℕ, zero, suc, ◌≤◌, Bool, true, false, Result, Ok, Err, List, refl, ◌∙◌, subst, arith}
+use Rattle.std.proofs.Common.{◌≡◌, ℕ, zero, suc, ◌+◌, ◌≤◌, Bool, true, false, Result, Ok, Err, List, [], ◌++◌, refl, ◌∙◌, subst, arith}
 use Rattle.std.proofs.lemmas.Result.{err_from_is_err_and}
 use Rattle.fl_base.specs.Causes.{Appends, AppendsFront}
 use Rattle.fl_page.proofs.ReadsInTurn.{OnlyReads-same, OnlyReads-then, IsCaused-later}
 use Rattle.fl_page.specs.declared.fault.ReadFault.{ReadFault}
-use Rattle.fl_var.specs.Reading.{chunk_of, count_left}
+use Rattle.fl_var.specs.Reading.{chunk_of, count_left, page_of}
 use Rattle.fl_words.specs.Reply.{hex_text}
+use Rattle.fl_store.proofs.Appends.{appends-none}
+use Rattle.fl_session.proofs.AnyBlobs.{digits-into, digits-more}
+use Rattle.fl_session.proofs.BadBlobs.{ahead-held}
 use Rattle.fl_session.proofs.BlobLines.{gave-none, gave-chunk, gave-failed, gave-all, gave-unread}
 use Rattle.fl_session.proofs.blob_line.give_digits.Goals as goal
 
@@ -15,6 +18,8 @@ loop-reader-init g c = record {
   same = refl;
   buffer = refl;
   later = omega arith;
+  ready = λ h. h;
+  digits = ([], appends-none _);
   gave = λ ready whole. gave-none c.args.reader.now (g.F.Flash.state c.args.flash.now) (g.K.Sink.written c.args.out.now) ready whole;
 }
 
@@ -54,6 +59,8 @@ loop-reader-preserved g c =
       same = e.data ∙ inv.same;
       buffer = e.buffer ∙ inv.buffer;
       later = omega (arith, inv.later, c.in_ok-write_digits.ensures.cause.later);
+      ready = λ h. e.ready (inv.ready h);
+      digits = (inv.digits.0 ++ chunk_of c.step.new.self, digits-more _ _ _ inv.digits.0 (chunk_of c.step.new.self) inv.digits.1 (subst (λ (l : List ℕ). Appends (g.K.Sink.written c.loop-reader.out) (g.K.Sink.written c.write_digits.new.out) (hex_text l)) c.chunk.ensures c.in_ok-write_digits.ensures.text));
       gave = λ ready whole.
           let so_far = inv.gave ready whole in
           let steps = rw c.if-branch.true at (e.steps so_far.ready) in
@@ -101,3 +108,21 @@ pub returns-in_err-step-clause-unread : goal.returns-in_err-step-clause-unread
 returns-in_err-step-clause-unread g c =
     let p = err_from_is_err_and c.from_residual.result c.from_residual.ensures.1 in
     rw (p.1, p.2) (IsCaused-later (g.F.Flash.state c.args.flash.now) (g.F.Flash.state c.loop-reader.flash) (g.F.Flash.state c.step.new.flash) c.in_err-step.field-0.0 c.loop-reader.invariant.counts c.in_err-step.ensures.fails)
+
+pub returns-in_err-step-clause-digits : goal.returns-in_err-step-clause-digits
+returns-in_err-step-clause-digits g c =
+    let p = err_from_is_err_and c.from_residual.result c.from_residual.ensures.1 in
+    let inv = c.loop-reader.invariant in
+    rw (p.1, p.2) (inv.digits, ahead-held (g.F.Flash.state c.args.flash.now) (g.F.Flash.state c.loop-reader.flash) inv.counts c.args.reader.now c.loop-reader.reader (page_of c.loop-reader.reader + 1) c.in_err-step.field-0.0 inv.same inv.ready c.in_err-step.ensures.bad)
+
+pub returns-in_err-write_digits-clause-digits : goal.returns-in_err-write_digits-clause-digits
+returns-in_err-write_digits-clause-digits g c =
+    let inv = c.loop-reader.invariant in
+    let p = err_from_is_err_and c.from_residual-in_err-write_digits.result c.from_residual-in_err-write_digits.ensures.1 in
+    rw (p.1, p.2) (
+      inv.digits.0 ++ chunk_of c.step.new.self,
+      digits-into _ _ _ inv.digits.0 (chunk_of c.step.new.self) inv.digits.1 (subst (λ (l : List ℕ). AppendsFront (g.K.Sink.written c.loop-reader.out) (g.K.Sink.written c.write_digits.new.out) (hex_text l)) c.chunk.ensures c.in_err-write_digits.ensures.text),
+    )
+
+pub returns-clause-digits : goal.returns-clause-digits
+returns-clause-digits g c = c.loop-reader.invariant.digits

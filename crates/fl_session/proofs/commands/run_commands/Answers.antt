@@ -26,7 +26,7 @@ returns-in-Err-clause-runs g c = λ config left e ended.
 pub returns-in-Err-clause-causes : goal.returns-in-Err-clause-causes
 returns-in-Err-clause-causes g c = λ left e ended.
     ends-in_reply _ _ _ _ _ _ _ (c.lines.invariant.causes left e ended) (runs-runnable _ _ c.lines.invariant.reads)
-    (caused-into _ _ _ _ _ _ _ _ c.in-Err.field-0 c.in-Err.is c.execute.ensures.cause)
+    (caused-into _ _ _ _ _ _ _ _ c.in-Err.field-0 c.in-Err.is (g.T.Executor.is_powered _ c.lines.invariant.sound) c.execute.ensures.cause)
 
 pub overflow_add-line : goal.overflow_add-line
 overflow_add-line g c = omega (arith, c.lines.invariant.numbered)
@@ -51,7 +51,7 @@ lines-preserved g c =
       causes = λ left e ended.
           then-in_hand _ _ _ _ _ _ _ _ _ _ _
           (all_done-next _ _ _ _ _ _ _ (c.lines.invariant.causes left e ended) runnable (omega (arith, c.lines.invariant.numbered))
-          (λ commands few h. caused-next _ _ _ _ _ _ _ _ c.in-Ok.is c.execute.ensures.cause commands h))
+          (λ commands few h. caused-next _ _ _ _ _ _ _ _ c.in-Ok.is (g.T.Executor.is_powered _ c.lines.invariant.sound) c.execute.ensures.cause commands h))
           n;
     }
 
@@ -66,7 +66,7 @@ pub returns-in-Ok-None-clause-causes : goal.returns-in-Ok-None-clause-causes
 returns-in-Ok-None-clause-causes g c = λ left e ended.
     then-done _ _ _ _ _ _ _ _ _ _
     (all_done-next _ _ _ _ _ _ _ (c.lines.invariant.causes left e ended) (runs-runnable _ _ c.lines.invariant.reads) (omega (arith, c.lines.invariant.numbered))
-    (λ commands few h. caused-next _ _ _ _ _ _ _ _ c.in-Ok.is c.execute.ensures.cause commands h))
+    (λ commands few h. caused-next _ _ _ _ _ _ _ _ c.in-Ok.is (g.T.Executor.is_powered _ c.lines.invariant.sound) c.execute.ensures.cause commands h))
     (rw c.in-Ok-None.field-0-is at c.in-Ok-None.ensures)
 
 pub returns-in-Err-next_run-clause-runs : goal.returns-in-Err-next_run-clause-runs
@@ -80,5 +80,5 @@ pub returns-in-Err-next_run-clause-causes : goal.returns-in-Err-next_run-clause-
 returns-in-Err-next_run-clause-causes g c = λ left e ended.
     then-ends _ _ _ _ _ _ _ _ _ _ _ c.in-Err-next_run.status
     (all_done-next _ _ _ _ _ _ _ (c.lines.invariant.causes left e ended) (runs-runnable _ _ c.lines.invariant.reads) (omega (arith, c.lines.invariant.numbered))
-    (λ commands few h. caused-next _ _ _ _ _ _ _ _ c.in-Ok.is c.execute.ensures.cause commands h))
+    (λ commands few h. caused-next _ _ _ _ _ _ _ _ c.in-Ok.is (g.T.Executor.is_powered _ c.lines.invariant.sound) c.execute.ensures.cause commands h))
     c.in-Err-next_run.ensures

@@ -7,9 +7,12 @@ use Rattle.fl_cursor.proofs.StepsOfRows.{steps-after}
 use Rattle.fl_cursor.proofs.Whole.{keeps-then}
 use Rattle.fl_model.specs.Row.{Row}
 use Rattle.fl_page.specs.Contents.{Contents, contents_of}
+use Rattle.fl_schema.specs.Schema.{row_of}
 use Rattle.fl_page.proofs.ReadsInTurn.{OnlyReads-same, OnlyReads-then, IsCaused-later}
 use Rattle.fl_words.specs.Reply.{text}
+use Rattle.fl_session.specs.ListSays.{IsRow, WroteLines}
 use Rattle.fl_session.specs.Rows.{row_reply}
+use Rattle.fl_session.proofs.AnyLines.{bad-from, wrote-into, wrote-more, wrote-none}
 use Rattle.fl_session.proofs.GivenRows.{gave-none, gave-next, gave-failed, gives-fault, gives-all, least-ended}
 use Rattle.fl_session.proofs.listing.give_rows.Goals as goal
 
@@ -23,6 +26,7 @@ loop-given-init g c = record {
   told = λ told. told;
   most = λ told. omega arith;
   least = λ told below. omega arith;
+  lines = wrote-none _ _ _;
   gave = λ told. ([], refl, gave-none c.args.form.blobs c.args.cursor.now (contents_of (g.F.Flash.state c.args.flash.now)) (g.K.Sink.written c.args.out.now));
 }
 
@@ -88,6 +92,25 @@ returns-in_err-show_row-clause-gives g c = λ told.
     rw (p.1, p.2) (gave-failed c.args.form.blobs c.args.cursor.now mid new held (g.K.Sink.written c.args.out.now) (g.K.Sink.written c.loop-given.out) so_far.0 so_far.2 c.args.count (present_of c.advance.new.self) (g.K.Sink.written c.show_row.new.out)
     (goes.gives (inv.told told)) (omega (arith, so_far.1, c.loop-given-test.true)) wrote)
 
+pub returns-in_err-advance-clause-lines : goal.returns-in_err-advance-clause-lines
+returns-in_err-advance-clause-lines g c =
+    let inv = c.loop-given.invariant in
+    let p = err_from_is_err_and c.from_residual.result c.from_residual.ensures.1 in
+    rw (p.1, p.2) ((c.loop-given.given, inv.lines), bad-from c.args.cursor.now c.loop-given.cursor (g.F.Flash.state c.args.flash.now) (g.F.Flash.state c.loop-given.flash) c.in_err-advance.field-0.0 inv.keeps inv.counts.contents c.in_err-advance.ensures.bad_page)
+
+pub returns-then-not-branch-clause-lines : goal.returns-then-not-branch-clause-lines
+returns-then-not-branch-clause-lines g c = c.loop-given.invariant.lines
+
+pub returns-in_err-show_row-clause-lines : goal.returns-in_err-show_row-clause-lines
+returns-in_err-show_row-clause-lines g c =
+    let p = err_from_is_err_and c.from_residual-in_err-show_row.result c.from_residual-in_err-show_row.ensures.1 in
+    rw (p.1, p.2) (wrote-into IsRow _ _ _ _ _ c.loop-given.invariant.lines c.loop-given-test.true (row_reply c.args.form.blobs (row_of c.row.result)) tt c.in_err-show_row.ensures.text)
+
+pub returns-clause-lines : goal.returns-clause-lines
+returns-clause-lines g c =
+    let is : c.loop-given.given ≡ c.args.count = omega (arith, c.loop-given.invariant.upto, c.loop-given-test.false) in
+    subst (λ n. WroteLines IsRow c.args.count (g.K.Sink.written c.args.out.now) (g.K.Sink.written c.loop-given.out) n) is c.loop-given.invariant.lines
+
 pub loop-given-preserved : goal.loop-given-preserved
 loop-given-preserved g c =
     let inv = c.loop-given.invariant in
@@ -113,6 +136,7 @@ loop-given-preserved g c =
           let more = goes.least (inv.told told) below in
           let before = inv.least told (omega (arith, rises, below)) in
           omega (arith, before, more);
+      lines = wrote-more IsRow _ _ _ _ _ inv.lines c.loop-given-test.true (row_reply c.args.form.blobs (row_of c.row.result)) tt c.in_ok-show_row.ensures.text;
       gave = λ told.
           let so_far = inv.gave told in
           let wrote : Appends (g.K.Sink.written c.loop-given.out) (g.K.Sink.written c.show_row.new.out) (text (row_reply c.args.form.blobs (present_of c.advance.new.self))) =

@@ -5,6 +5,7 @@ use Rattle.fl_page.specs.Contents.{Contents, contents_of}
 use Rattle.fl_page.specs.Steps.{Steps}
 use Rattle.fl_page.proofs.ReadsInTurn.{OnlyReads-same, OnlyReads-then, IsCaused-later}
 use Rattle.fl_session.specs.Oldest.{first_kept, is_kept, FindsAmong}
+use Rattle.fl_session.proofs.AnyLines.{bad-by}
 use Rattle.fl_session.proofs.OldestBlobs.{among-taken, among-passed, among-ended, among-unread, fewer-left}
 use Rattle.fl_session.proofs.oldest.first_kept.Goals as goal
 
@@ -13,6 +14,7 @@ rows-init g c = record {
   counts = OnlyReads-same _;
   names = refl;
   ready = λ contents h. h;
+  same_test = λ contents bad h. h;
   told = λ t. t;
   found = λ t. refl;
   passed = λ t. omega arith;
@@ -32,6 +34,13 @@ pub returns-in_err-step-clause-cause : goal.returns-in_err-step-clause-cause
 returns-in_err-step-clause-cause g c =
     let p = err_from_is_err_and c.from_residual.result c.from_residual.ensures.1 in
     rw (p.1, p.2) (IsCaused-later (g.F.Flash.state c.args.flash.now) (g.F.Flash.state c.rows.flash) (g.F.Flash.state c.step.new.flash) c.in_err-step.field-0.0 c.rows.invariant.counts c.in_err-step.ensures.cause)
+
+pub returns-in_err-step-clause-bad_page : goal.returns-in_err-step-clause-bad_page
+returns-in_err-step-clause-bad_page g c =
+    let inv = c.rows.invariant in
+    let p = err_from_is_err_and c.from_residual.result c.from_residual.ensures.1 in
+    rw (p.1, p.2) (bad-by _ _ c.in_err-step.field-0.0 c.in_err-step.ensures.bad_page
+    (λ bad h. inv.same_test _ bad (subst (λ (k : Contents). g.R.Rows.passes c.rows.input k bad) inv.counts.contents h)))
 
 pub returns-in_err-step-clause-finds : goal.returns-in_err-step-clause-finds
 returns-in_err-step-clause-finds g c = λ t few.
@@ -117,6 +126,7 @@ rows-preserved g c =
       counts = OnlyReads-then _ _ _ c.rows.invariant.counts c.step.ensures.reads_only;
       names = c.step.ensures.names ∙ c.rows.invariant.names;
       ready = λ contents h. c.step.ensures.stays_ready contents (c.rows.invariant.ready contents h);
+      same_test = λ contents bad h. c.rows.invariant.same_test contents bad ((c.step.ensures.same_test contents bad).0 h);
       told = λ t.
           let told = subst (λ (k : Contents). R.told c.rows.input k) (sym same) (c.rows.invariant.told t) in
           subst (λ (k : Contents). R.told c.step.new.self k) same (c.step.ensures.stays_told told);

@@ -1,5 +1,6 @@
 use Rattle.std.proofs.Common.{◌≡◌, ◌+◌, ◌≤◌, length}
 use Rattle.fl_page.specs.Contents.{Contents, contents_of, OnlyReads}
+use Rattle.fl_page.specs.declared.fault.BadPage.{BadPage}
 use Rattle.fl_session.specs.Oldest.{first_kept}
 use Rattle.fl_session.proofs.oldest.first_kept.Given as goal
 
@@ -11,6 +12,7 @@ invariant-rows g l =
       counts : OnlyReads (g.F.Flash.state l.fn.flash) (g.F.Flash.state l.flash);
       names : R.names l.input ≡ R.names l.fn.input;
       ready : (contents : Contents) → R.ready l.fn.input contents → R.ready l.input contents;
+      same_test : (contents : Contents) (bad : BadPage) → R.passes l.input contents bad → R.passes l.fn.input contents bad;
       told : R.told l.fn.input contents → R.told l.input contents;
       found : R.told l.fn.input contents → first_kept l.fn.oldest (R.left l.fn.input contents) ≡ first_kept l.fn.oldest (R.left l.input contents);
       passed : R.told l.fn.input contents → l._at + length (R.left l.input contents) ≡ length (R.left l.fn.input contents);

@@ -18,3 +18,6 @@ returns-clause-finds g c = c.first_kept.ensures.finds
 
 pub returns-clause-reads : goal.returns-clause-reads
 returns-clause-reads g c = c.first_kept.ensures.reads
+
+pub returns-clause-bad_page : goal.returns-clause-bad_page
+returns-clause-bad_page g c = c.first_kept.ensures.bad_page

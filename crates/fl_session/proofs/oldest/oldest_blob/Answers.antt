@@ -1,11 +1,12 @@
-use Rattle.std.proofs.Common.{◌≡◌, ◌+◌, ◌-◌, ◌^◌, ◌<◌, ◌≤◌, ℕ, None, Option, List, length, map, sym, ◌∙◌, ap, arith}
+use Rattle.std.proofs.Common.{◌≡◌, ◌+◌, ◌-◌, ◌^◌, ◌<◌, ◌≤◌, ℕ, None, Option, List, length, map, refl, sym, ◌∙◌, ap, subst, arith}
 use Rattle.std.proofs.lemmas.List.{length-map}
-use Rattle.fl_cursor.specs.Cursor.{left_of}
+use Rattle.fl_cursor.specs.Cursor.{MayBeBad, left_of}
 use Rattle.fl_model.specs.Limits.{scan_limit}
 use Rattle.fl_model.specs.Query.{selected}
 use Rattle.fl_model.specs.Row.{Row, stored_row}
 use Rattle.fl_page.specs.Contents.{contents_of}
 use Rattle.fl_page.proofs.ReadsInTurn.{OnlyReads-same}
+use Rattle.fl_table.specs.declared.table.Table.{Table}
 use Rattle.fl_session.specs.Keys.{all_keys}
 use Rattle.fl_session.specs.Oldest.{first_kept}
 use Rattle.fl_session.proofs.Few.{few-selected}
@@ -79,3 +80,13 @@ returns-in-Err-BadPage-clause-reads g c = λ first plan t tells stands.
     let limit = c.begin-cursor.ensures.limit f first plan t tells reaches c.requires.lies stands in
     let reads = c.in-Err-BadPage.ensures.reads told in
     omega (arith, limit, reads)
+
+pub returns-in-Err-Flash-clause-cause : goal.returns-in-Err-Flash-clause-cause
+returns-in-Err-Flash-clause-cause g c = (c.in-Err-Flash.field-0-0, rw c.in-Err-Flash.field-0-is at c.in-Err-Flash.ensures.cause)
+
+pub returns-in-Err-BadPage-clause-cause : goal.returns-in-Err-BadPage-clause-cause
+returns-in-Err-BadPage-clause-cause g c = (
+  c.in-Err-BadPage.bad,
+  refl,
+  subst (λ (t : Table 64 64). MayBeBad t (contents_of (g.F.Flash.state c.args.flash.now)) c.in-Err-BadPage.bad) c.begin-cursor.ensures.table (rw c.in-Err-BadPage.field-0-is at c.in-Err-BadPage.ensures.bad_page),
+)

@@ -1,6 +1,6 @@
 use Rattle.std.proofs.Common.{◌≡◌, ◌<◌, ◌^◌, None, List, length, map, sym, ◌∙◌, ap, subst, arith, ◌≤◌}
 use Rattle.std.proofs.lemmas.List.{length-map}
-use Rattle.fl_cursor.specs.Cursor.{present_of, left_of, IsReady, IsTold}
+use Rattle.fl_cursor.specs.Cursor.{present_of, left_of, table_of, IsReady, IsTold}
 use Rattle.fl_cursor.specs.Reads.{most_of, least_of}
 use Rattle.fl_cursor.specs.declared.cursor.Cursor.{Cursor}
 use Rattle.fl_machine.specs.Step.{group_reply}
@@ -13,6 +13,8 @@ use Rattle.fl_ops.specs.Groups.{groups_left}
 use Rattle.fl_page.specs.Contents.{contents_of}
 use Rattle.fl_session.specs.Lines.{Counted}
 use Rattle.fl_session.proofs.GroupLines.{grouped-records, groups-fewer}
+use Rattle.fl_session.specs.ListSays.{EndsOn, IsGroup}
+use Rattle.fl_session.proofs.AnyLines.{lists-of}
 use Rattle.fl_session.proofs.CountedLines.{counted-wider}
 use Rattle.fl_session.proofs.CursorMoves.{lies-read}
 use Rattle.fl_session.proofs.OperatorLines.{few-asked}
@@ -55,3 +57,6 @@ returns-clause-counted g c = λ first plan t tells on stands.
     (g.F.Flash.state c.args.flash.now).media.faults (g.F.Flash.state c.list_groups.new.flash).media.faults (g.F.Flash.state c.args.flash.now).work.reads (g.F.Flash.state c.list_groups.new.flash).work.reads c.list_groups.result)
     (groups ∙ grouped-records c.args.column c.args.width (selected c.args.range None t.entries))
     (counted-wider _ _ _ (scan_limit 64 plan t c.args.range None c.args.range.low) (least_reads plan t c.args.range None) _ _ _ _ _ _ _ limit least (c.list_groups.ensures.counted told few on))
+
+pub returns-clause-says : goal.returns-clause-says
+returns-clause-says g c = lists-of IsGroup EndsOn _ _ (g.F.Flash.state c.args.flash.now) (g.F.Flash.state c.list_groups.new.flash) _ _ _ (ap table_of c.new-groups.ensures.rows ∙ c.begin-cursor.ensures.table) c.list_groups.ensures.says

@@ -12,6 +12,7 @@ use Rattle.fl_page.specs.Contents.{contents_of}
 use Rattle.fl_words.specs.Reply.{Reply}
 use Rattle.fl_session.specs.Lines.{Counted}
 use Rattle.fl_session.specs.Paired.{pair_lines}
+use Rattle.fl_session.proofs.AnyLines.{lists-of_both}
 use Rattle.fl_session.proofs.CountedLines.{counted-wider}
 use Rattle.fl_session.proofs.OperatorLines.{few-asked}
 use Rattle.fl_session.proofs.PairLines.{joined-records, pairs-fewer}
@@ -50,3 +51,6 @@ returns-clause-counted g c = λ first second a b t u tells on stands_left stands
 
 pub answer_pairs-requires-clause-right_ready : goal.answer_pairs-requires-clause-right_ready
 answer_pairs-requires-clause-right_ready g c = c.begin-right_rows.ensures.ready (g.F.Flash.state c.args.flash.now) c.requires.right_lies c.requires.room.2 c.requires.room.3
+
+pub returns-clause-says : goal.returns-clause-says
+returns-clause-says g c = lists-of_both _ _ _ _ (g.F.Flash.state c.args.flash.now) (g.F.Flash.state c.answer_pairs.new.flash) _ _ _ c.begin-left_rows.ensures.table c.begin-right_rows.ensures.table c.answer_pairs.ensures.says

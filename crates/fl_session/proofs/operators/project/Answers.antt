@@ -14,6 +14,8 @@ use Rattle.fl_table.specs.declared.table.Table.{Table}
 use Rattle.fl_words.specs.Reply as words
 use Rattle.fl_session.specs.Lines.{Counted}
 use Rattle.fl_session.proofs.Fields.{lacks-none}
+use Rattle.fl_session.specs.ListSays.{EndsOn, IsFields}
+use Rattle.fl_session.proofs.AnyLines.{lists-of}
 use Rattle.fl_session.proofs.CountedLines.{counted-wider}
 use Rattle.fl_session.proofs.CursorMoves.{lies-read}
 use Rattle.fl_session.proofs.OperatorLines.{few-asked, projected-fields}
@@ -51,3 +53,6 @@ returns-clause-counted g c = λ first plan t tells on stands.
     (ap (λ (cs : List ℕ). project cs (records_of (left_of c.new-rows.result.rows (contents_of (g.F.Flash.state c.args.flash.now))))) columns
     ∙ (ap (λ (rows : List Row). project c.args.columns.now (records_of rows)) left ∙ projected-fields c.args.columns.now (selected c.args.range None t.entries)))
     (counted-wider _ _ _ (scan_limit 64 plan t c.args.range None c.args.range.low) (least_reads plan t c.args.range None) _ _ _ _ _ _ _ limit least (c.list_projected.ensures.counted told few on))
+
+pub returns-clause-says : goal.returns-clause-says
+returns-clause-says g c = lists-of IsFields EndsOn _ _ (g.F.Flash.state c.args.flash.now) (g.F.Flash.state c.list_projected.new.flash) _ _ _ (ap table_of c.new-rows.ensures.rows ∙ c.begin-cursor.ensures.table) c.list_projected.ensures.says

@@ -17,6 +17,8 @@ use Rattle.fl_words.specs.Reply.{Reply}
 use Rattle.fl_session.specs.Lines.{Counted}
 use Rattle.fl_session.specs.Rows.{row_reply}
 use Rattle.fl_session.proofs.OperatorLines.{few-asked, selected-lines}
+use Rattle.fl_session.specs.ListSays.{EndsOn, IsRow}
+use Rattle.fl_session.proofs.AnyLines.{lists-of}
 use Rattle.fl_session.proofs.CountedLines.{counted-wider}
 use Rattle.fl_session.proofs.CursorMoves.{lies-read}
 use Rattle.fl_session.proofs.RowLines.{blobs-as}
@@ -60,3 +62,6 @@ returns-clause-counted g c = λ first plan t tells on stands.
     subst (λ (l : List Reply). Counted l (scan_limit 64 plan t c.args.range None c.args.range.low) (least_reads plan t c.args.range None) (g.K.Sink.written c.args.out.now) (g.K.Sink.written c.list_selected.new.out)
     (g.F.Flash.state c.args.flash.now).media.faults (g.F.Flash.state c.list_selected.new.flash).media.faults (g.F.Flash.state c.args.flash.now).work.reads (g.F.Flash.state c.list_selected.new.flash).work.reads c.list_selected.result) lines
     (counted-wider _ _ _ (scan_limit 64 plan t c.args.range None c.args.range.low) (least_reads plan t c.args.range None) _ _ _ _ _ _ _ limit least (c.list_selected.ensures.counted told few on))
+
+pub returns-clause-says : goal.returns-clause-says
+returns-clause-says g c = lists-of IsRow EndsOn _ _ (g.F.Flash.state c.args.flash.now) (g.F.Flash.state c.list_selected.new.flash) _ _ _ (ap table_of c.new-rows.ensures.rows ∙ c.begin-cursor.ensures.table) c.list_selected.ensures.says

@@ -1,10 +1,13 @@
-use Rattle.std.proofs.Common.{◌+◌, ◌≤◌, Ok, Err, Option, sym, ◌∙◌, subst, arith}
+use Rattle.std.proofs.Common.{◌≡◌, ◌⊎◌, ℕ, ◌+◌, ◌-◌, ◌^◌, ◌≤◌, inl, inr, Ok, Err, List, Option, sym, ◌∙◌, subst, arith}
 use Rattle.std.proofs.lemmas.Result.{err_from_is_err_and}
 use Rattle.fl_ops.proofs.ContinuedRows.{Continues-then}
 use Rattle.fl_page.specs.Contents.{Contents, contents_of}
 use Rattle.fl_page.proofs.ReadsInTurn.{OnlyReads-same, OnlyReads-then, IsCaused-later}
 use Rattle.fl_script.specs.declared.reply.Reply.{Reply}
+use Rattle.fl_base.specs.Causes.{Appends, AppendsFront}
+use Rattle.fl_session.specs.ListSays.{IsPair, WroteLines}
 use Rattle.fl_session.specs.Lines.{LineSteps, IsFirstLine}
+use Rattle.fl_session.proofs.AnyLines.{bad-by, made-line, wrote-into, wrote-more, wrote-none}
 use Rattle.fl_session.specs.Paired.{pair_lines}
 use Rattle.fl_session.proofs.PairLines.{continues-same}
 use Rattle.fl_session.proofs.LinesListed.{front-none, front-next, front-failed, front-unread, front-read}
@@ -16,6 +19,7 @@ loop-count-init g c = record {
   left = continues-same _;
   right = continues-same _;
   later = omega arith;
+  lines = wrote-none _ _ _;
   front = λ t u. front-none _ _ _;
   most = λ t u. omega arith;
 }
@@ -59,6 +63,9 @@ loop-count-preserved g c =
       left = Continues-then _ _ _ c.loop-count.invariant.left (rw c.loop-count.invariant.reads_only.contents at c.next_line.ensures.left);
       right = Continues-then _ _ _ c.loop-count.invariant.right (rw c.loop-count.invariant.reads_only.contents at c.next_line.ensures.right);
       later = omega (arith, c.loop-count.invariant.later, c.in_ok-write_reply.ensures.cause.later);
+      lines =
+          let line = made-line _ _ c.in-Some.line c.in-Some.is c.in_ok-line.ensures.kind in
+          wrote-more _ _ _ _ _ _ c.loop-count.invariant.lines c.loop-count-test.true line.line line.is_line (subst (λ (l : List ℕ). Appends (g.K.Sink.written c.loop-count.out) (g.K.Sink.written c.write_reply.new.out) l) line.text_is c.in_ok-write_reply.ensures.text);
       front = λ t u.
           let left = subst (λ (k : Contents). g.A.Rows.told c.loop-count.left k) (sym same) (c.loop-count.invariant.left.stays_told t) in
           let right = subst (λ (k : Contents). g.B.Rows.told c.loop-count.right k) (sym same) (c.loop-count.invariant.right.stays_told u) in
@@ -119,3 +126,38 @@ pub returns-in_err-write_reply-clause-failed : goal.returns-in_err-write_reply-c
 returns-in_err-write_reply-clause-failed g c = λ on.
     let p = err_from_is_err_and c.from_residual-in_err-write_reply.result c.from_residual-in_err-write_reply.ensures.1 in
     rw (p.1, p.2) tt
+
+pub returns-in_err-line-clause-lines : goal.returns-in_err-line-clause-lines
+returns-in_err-line-clause-lines g c =
+    let inv = c.loop-count.invariant in
+    let p = err_from_is_err_and c.from_residual.result c.from_residual.ensures.1 in
+    rw (p.1, p.2) (
+      (c.loop-count.count, inv.lines),
+      bad-by _ _ c.in_err-line.field-0.0 (rw c.loop-count.invariant.reads_only.contents at c.in_err-line.ensures.bad_page)
+          (λ bad h. elim h [ inl a ↦ inl ((inv.left.same_test _ bad).0 a) | inr b ↦ inr ((inv.right.same_test _ bad).0 b) ]),
+    )
+
+pub returns-in_err-line-clause-unread : goal.returns-in_err-line-clause-unread
+returns-in_err-line-clause-unread g c =
+    let p = err_from_is_err_and c.from_residual.result c.from_residual.ensures.1 in
+    rw (p.1, p.2) (IsCaused-later _ (g.F.Flash.state c.loop-count.flash) _ c.in_err-line.field-0.0 c.loop-count.invariant.reads_only c.in_err-line.ensures.cause)
+
+pub returns-in_default-clause-lines : goal.returns-in_default-clause-lines
+returns-in_default-clause-lines g c = c.loop-count.invariant.lines
+
+pub returns-in_err-write_reply-clause-lines : goal.returns-in_err-write_reply-clause-lines
+returns-in_err-write_reply-clause-lines g c =
+    let line = made-line _ _ c.in-Some.line c.in-Some.is c.in_ok-line.ensures.kind in
+    let p = err_from_is_err_and c.from_residual-in_err-write_reply.result c.from_residual-in_err-write_reply.ensures.1 in
+    rw (p.1, p.2) (wrote-into _ _ _ _ _ _ c.loop-count.invariant.lines c.loop-count-test.true line.line line.is_line
+    (subst (λ (l : List ℕ). AppendsFront (g.K.Sink.written c.loop-count.out) (g.K.Sink.written c.write_reply.new.out) l) line.text_is c.in_err-write_reply.ensures.text))
+
+pub returns-in_err-write_reply-clause-unread : goal.returns-in_err-write_reply-clause-unread
+returns-in_err-write_reply-clause-unread g c =
+    let p = err_from_is_err_and c.from_residual-in_err-write_reply.result c.from_residual-in_err-write_reply.ensures.1 in
+    rw (p.1, p.2) tt
+
+pub returns-clause-lines : goal.returns-clause-lines
+returns-clause-lines g c =
+    let is : c.loop-count.count ≡ 2 ^ 64 - 1 = omega (arith, c.loop-count-test.false, c.loop-count.invariant.lines.upto) in
+    subst (λ n. WroteLines IsPair (2 ^ 64 - 1) (g.K.Sink.written c.args.out.now) (g.K.Sink.written c.loop-count.out) n) is c.loop-count.invariant.lines

@@ -1,10 +1,13 @@
-use Rattle.std.proofs.Common.{◌≡◌, ◌+◌, ◌≤◌, Ok, Option, refl, sym, ◌∙◌, subst, arith}
+use Rattle.std.proofs.Common.{◌≡◌, ℕ, ◌+◌, ◌-◌, ◌^◌, ◌≤◌, Ok, Option, List, refl, sym, ◌∙◌, subst, arith}
 use Rattle.std.proofs.lemmas.Result.{err_from_is_err_and}
 use Rattle.std.specs.Prelude.{IfNone}
 use Rattle.fl_page.specs.Contents.{Contents, contents_of}
 use Rattle.fl_page.proofs.ReadsInTurn.{OnlyReads-same, OnlyReads-then, OnlyReads-reads, IsCaused-later}
 use Rattle.fl_script.specs.declared.reply.Reply.{Reply}
+use Rattle.fl_base.specs.Causes.{Appends, AppendsFront}
+use Rattle.fl_session.specs.ListSays.{WroteLines}
 use Rattle.fl_session.specs.Lines.{LineSteps, IsFirstLine}
+use Rattle.fl_session.proofs.AnyLines.{bad-by, made-line, wrote-into, wrote-more, wrote-none}
 use Rattle.fl_session.proofs.LinesListed.{front-none, front-next, front-failed, front-count, front-read}
 use Rattle.fl_session.proofs.reply_lines.list_lines.Goals as goal
 
@@ -14,6 +17,8 @@ loop-count-init g c = record {
   names = refl;
   ready = λ contents h. h;
   later = omega arith;
+  lines = wrote-none _ _ _;
+  same_test = λ contents bad h. h;
   told = λ t. t;
   front = λ t. front-none _ _ _;
   most = λ t. omega arith;
@@ -93,6 +98,10 @@ loop-count-preserved g c =
       names = c.next_line.ensures.names ∙ c.loop-count.invariant.names;
       ready = λ contents h. c.next_line.ensures.stays_ready contents (c.loop-count.invariant.ready contents h);
       later = omega (arith, c.loop-count.invariant.later, c.in_ok-write_reply.ensures.cause.later);
+      lines =
+          let line = made-line _ _ c.in-Some.line c.in-Some.is c.in_ok-line.ensures.kind in
+          wrote-more _ _ _ _ _ _ c.loop-count.invariant.lines c.loop-count-test.true line.line line.is_line (subst (λ (l : List ℕ). Appends (g.K.Sink.written c.loop-count.out) (g.K.Sink.written c.write_reply.new.out) l) line.text_is c.in_ok-write_reply.ensures.text);
+      same_test = λ contents bad h. c.loop-count.invariant.same_test contents bad (c.next_line.ensures.same_test contents bad h);
       told = λ t.
           let told = subst (λ (k : Contents). g.L.ReplyLines.told c.loop-count.lines k) (sym same) (c.loop-count.invariant.told t) in
           subst (λ (k : Contents). g.L.ReplyLines.told c.next_line.new.self k) same (c.next_line.ensures.stays_told told);
@@ -127,3 +136,38 @@ pub returns-in_err-write_reply-clause-failed : goal.returns-in_err-write_reply-c
 returns-in_err-write_reply-clause-failed g c = λ on.
     let p = err_from_is_err_and c.from_residual-in_err-write_reply.result c.from_residual-in_err-write_reply.ensures.1 in
     rw (p.1, p.2) tt
+
+pub returns-in_err-line-clause-lines : goal.returns-in_err-line-clause-lines
+returns-in_err-line-clause-lines g c =
+    let inv = c.loop-count.invariant in
+    let p = err_from_is_err_and c.from_residual.result c.from_residual.ensures.1 in
+    rw (p.1, p.2) (
+      (c.loop-count.count, inv.lines),
+      bad-by _ _ c.in_err-line.field-0.0 c.in_err-line.ensures.bad_page
+          (λ bad h. inv.same_test _ bad (subst (λ (k : Contents). g.L.ReplyLines.passes c.loop-count.lines k bad) inv.reads_only.contents h)),
+    )
+
+pub returns-in_err-line-clause-unread : goal.returns-in_err-line-clause-unread
+returns-in_err-line-clause-unread g c =
+    let p = err_from_is_err_and c.from_residual.result c.from_residual.ensures.1 in
+    rw (p.1, p.2) (IsCaused-later _ (g.F.Flash.state c.loop-count.flash) _ c.in_err-line.field-0.0 c.loop-count.invariant.reads_only c.in_err-line.ensures.cause)
+
+pub returns-in_default-clause-lines : goal.returns-in_default-clause-lines
+returns-in_default-clause-lines g c = c.loop-count.invariant.lines
+
+pub returns-in_err-write_reply-clause-lines : goal.returns-in_err-write_reply-clause-lines
+returns-in_err-write_reply-clause-lines g c =
+    let line = made-line _ _ c.in-Some.line c.in-Some.is c.in_ok-line.ensures.kind in
+    let p = err_from_is_err_and c.from_residual-in_err-write_reply.result c.from_residual-in_err-write_reply.ensures.1 in
+    rw (p.1, p.2) (wrote-into _ _ _ _ _ _ c.loop-count.invariant.lines c.loop-count-test.true line.line line.is_line
+    (subst (λ (l : List ℕ). AppendsFront (g.K.Sink.written c.loop-count.out) (g.K.Sink.written c.write_reply.new.out) l) line.text_is c.in_err-write_reply.ensures.text))
+
+pub returns-in_err-write_reply-clause-unread : goal.returns-in_err-write_reply-clause-unread
+returns-in_err-write_reply-clause-unread g c =
+    let p = err_from_is_err_and c.from_residual-in_err-write_reply.result c.from_residual-in_err-write_reply.ensures.1 in
+    rw (p.1, p.2) tt
+
+pub returns-clause-lines : goal.returns-clause-lines
+returns-clause-lines g c =
+    let is : c.loop-count.count ≡ 2 ^ 64 - 1 = omega (arith, c.loop-count-test.false, c.loop-count.invariant.lines.upto) in
+    subst (λ n. WroteLines g.L.ReplyLines.is_line (2 ^ 64 - 1) (g.K.Sink.written c.args.out.now) (g.K.Sink.written c.loop-count.out) n) is c.loop-count.invariant.lines

@@ -1,5 +1,7 @@
 use Rattle.std.proofs.Common.{◌≡◌, ◌+◌, ◌-◌, ◌^◌, ◌<◌, ◌≤◌}
 use Rattle.fl_page.specs.Contents.{Contents, contents_of, OnlyReads}
+use Rattle.fl_page.specs.declared.fault.BadPage.{BadPage}
+use Rattle.fl_session.specs.ListSays.{WroteLines}
 use Rattle.fl_session.proofs.LinesListed.{Fronted}
 use Rattle.fl_session.proofs.reply_lines.list_lines.Given as goal
 
@@ -12,6 +14,8 @@ invariant-loop-count g l =
       names : L.names l.lines ≡ L.names l.fn.lines;
       ready : (contents : Contents) → L.ready l.fn.lines l.fn.columns contents → L.ready l.lines l.fn.columns contents;
       later : g.K.Sink.faults l.fn.out ≤ g.K.Sink.faults l.out;
+      lines : WroteLines L.is_line (2 ^ 64 - 1) (g.K.Sink.written l.fn.out) (g.K.Sink.written l.out) l.count;
+      same_test : (contents : Contents) (bad : BadPage) → L.passes l.lines contents bad → L.passes l.fn.lines contents bad;
       told : L.told l.fn.lines contents → L.told l.lines contents;
       front : L.told l.fn.lines contents →
           Fronted (L.lines l.fn.lines contents) (L.lines l.lines contents) (g.K.Sink.written l.fn.out) (g.K.Sink.written l.out) (g.F.Flash.state l.fn.flash).media.faults l.count;

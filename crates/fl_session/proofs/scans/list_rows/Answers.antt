@@ -1,7 +1,12 @@
-use Rattle.std.proofs.Common.{◌+◌, ◌-◌, ◌^◌, ◌<◌, ◌≤◌, ◌∙◌, length, arith}
+use Rattle.std.proofs.Common.{◌+◌, ◌-◌, ◌^◌, ◌<◌, ◌≤◌, ◌∙◌, Ok, Err, length, subst, arith}
 use Rattle.fl_model.specs.Limits.{scan_limit}
 use Rattle.fl_model.specs.Query.{selected}
 use Rattle.fl_page.specs.Contents.{contents_of}
+use Rattle.fl_cursor.specs.Cursor.{MayBeBad}
+use Rattle.fl_table.specs.declared.table.Table.{Table}
+use Rattle.fl_words.specs.Reply.{EndCount}
+use Rattle.fl_session.specs.ListSays.{GivesLines, IsRow}
+use Rattle.fl_session.proofs.AnyLines.{list-ends, list-fails}
 use Rattle.fl_session.proofs.Few.{few-selected}
 use Rattle.fl_session.proofs.Resumed.{is-standing}
 use Rattle.fl_session.proofs.Scanned.{scans-all, scans-fault}
@@ -21,6 +26,14 @@ returns-in-Ok-clause-scans g c = λ first plan t tells on stands.
     let least = c.begin-cursor.ensures.least f first plan t tells reaches c.requires.lies stands in
     scans-all plan c.form_of-form.result.blobs t c.args.range c.args.span (2 ^ 64 - 1) c.begin-cursor.result c.give_rows-listed.new.cursor (contents_of f) _ (g.K.Sink.written c.give_rows-listed.new.out) _ f (g.F.Flash.state c.give_rows-listed.new.flash) _ (c.form_of-form.ensures.blobs ∙ blobs-as c.args.table.now f first plan t stands) are few within
     c.in-Ok.count (c.in-Ok.ensures.gives told) c.write_reply.ensures.text (λ less below. let some = (c.in-Ok.ensures.reads told).least less below in omega (arith, some, least))
+
+pub returns-in-Ok-clause-lines : goal.returns-in-Ok-clause-lines
+returns-in-Ok-clause-lines g c =
+    list-ends IsRow EndCount (2 ^ 64 - 1) (MayBeBad c.args.table.now (contents_of (g.F.Flash.state c.args.flash.now))) (g.F.Flash.state c.args.flash.now) (g.F.Flash.state c.give_rows-listed.new.flash) _ _ _ _ c.in-Ok.count (subst (λ (t : Table 64 64). GivesLines IsRow (MayBeBad t (contents_of (g.F.Flash.state c.args.flash.now))) (2 ^ 64 - 1) (g.K.Sink.written c.args.out.now) (g.K.Sink.written c.give_rows-listed.new.out) (Ok c.in-Ok.count)) c.begin-cursor.ensures.table c.in-Ok.ensures.lines) c.write_reply.ensures.text
+
+pub returns-in-Err-clause-lines : goal.returns-in-Err-clause-lines
+returns-in-Err-clause-lines g c =
+    list-fails IsRow EndCount (2 ^ 64 - 1) (MayBeBad c.args.table.now (contents_of (g.F.Flash.state c.args.flash.now))) (g.F.Flash.state c.args.flash.now) (g.F.Flash.state c.give_rows-listed.new.flash) _ _ _ _ c.in-Err.fault (subst (λ (t : Table 64 64). GivesLines IsRow (MayBeBad t (contents_of (g.F.Flash.state c.args.flash.now))) (2 ^ 64 - 1) (g.K.Sink.written c.args.out.now) (g.K.Sink.written c.give_rows-listed.new.out) (Err c.in-Err.fault)) c.begin-cursor.ensures.table c.in-Err.ensures.lines) c.in-Err.ensures.unread c.write_fault.ensures.says
 
 pub returns-in-Err-clause-scans : goal.returns-in-Err-clause-scans
 returns-in-Err-clause-scans g c = λ first plan t tells on stands.

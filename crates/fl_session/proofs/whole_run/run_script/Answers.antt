@@ -22,7 +22,7 @@ returns-in-Err-clause-script g c = λ text l. ends-in_begin unsaid 64 text _ c.i
 
 pub returns-in-Err-clause-causes : goal.returns-in-Err-clause-causes
 returns-in-Err-clause-causes g c = λ text l.
-    ends-in_begin (causes_of 64 (g.M.Media.state c.args.media.now) (g.M.Media.state c.args.media.now) (g.K.Sink.written c.args.out.now) (g.K.Sink.written c.args.out.now)) 64 text _ c.in-Err.status (c.in-Err.ensures.ends 64 text l) (refl, refl)
+    ends-in_begin (causes_of 64 (g.M.Media.state c.args.media.now) (g.M.Media.state c.args.media.now) (g.K.Sink.written c.args.out.now) (g.K.Sink.written c.args.out.now) c.in-Err.status) 64 text _ c.in-Err.status (c.in-Err.ensures.ends 64 text l) (refl, refl)
 
 pub run_session-requires-clause-reach : goal.run_session-requires-clause-reach
 run_session-requires-clause-reach g c = λ geometry e.
@@ -91,7 +91,7 @@ pub returns-clause-causes : goal.returns-clause-causes
 returns-clause-causes g c = λ text l.
     let lines = c.read_config.new.config in
     let w = whole-of 64 lines c.in-Ok-read_config.ensures.whole in
-    rw c.status_of.ensures (causes-refused 64 text lines c.in-Ok-read_config.begun.first c.in-Ok-read_config.begun.number _ _ _ w.0 _ _ c.in-Err-open_image.refusal (c.in-Ok-read_config.ensures.begins 64 text l) w.1)
+    rw c.status_of.ensures (causes-refused 64 text lines c.in-Ok-read_config.begun.first c.in-Ok-read_config.begun.number _ _ _ w.0 _ _ c.in-Err-open_image.refusal (c.in-Ok-read_config.ensures.begins 64 text l) w.1 (opens-as w.0 (g.M.Media.state c.args.media.now) (Err c.in-Err-open_image.refusal) (g.M.Media.state c.open_image.new.media) (c.in-Err-open_image.ensures w.0 (makes-of 64 lines w.0 w.1))))
 
 pub returns-clause-make : goal.returns-clause-make
 returns-clause-make g c = λ e.

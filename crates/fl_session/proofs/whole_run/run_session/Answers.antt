@@ -13,7 +13,7 @@ returns-clause-runs g c = λ configured w.
 pub returns-clause-causes : goal.returns-clause-causes
 returns-clause-causes g c =
     let e : g.M.Media.state c.media-1.given.0 ≡ g.M.Media.state c.end-media.result.now = search rules in
-    over-session _ _ _ _ _ _ _ _ _ _ _ _ _ c.over-session.ensures.fresh c.run_first-status.ensures.goes (e ∙ c.end-media.ensures.state) c.run_first-status.ensures.causes
+    over-session _ _ _ _ _ _ _ _ _ _ _ _ _ c.over-session.ensures.fresh c.run_first-status.ensures.goes (e ∙ c.end-media.ensures.state) c.run_first-status.ensures.rows c.run_first-status.ensures.causes
 
 pub returns-clause-form : goal.returns-clause-form
 returns-clause-form g c =

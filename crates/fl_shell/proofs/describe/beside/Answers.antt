@@ -4,9 +4,9 @@ use Rattle.fl_shell.proofs.describe.beside.Goals as goal
 
 pub returns-in-Err-clause-tells : goal.returns-in-Err-clause-tells
 returns-in-Err-clause-tells g c = λ label config m here.
-    beside-not config m (with_log c.args.log_blocks (plan_of_table label c.args.table.now)) c.args.name c.in-Err.field-0 _ _ _ here c.new-text.ensures (c.in-Err.ensures config m here)
+    beside-not config m (with_log c.args.log_blocks (plan_of_table label c.args.table.now)) c.args.name c.in-Err.field-0 _ _ _ here c.new-text.ensures (c.in-Err.ensures.holds config m here)
 
 pub returns-clause-tells : goal.returns-clause-tells
 returns-clause-tells g c = λ label config m here.
-    beside-is config m (with_log c.args.log_blocks (plan_of_table label c.args.table.now)) c.args.name c.in-Ok.rings _ _ _ _ c.add_rings.new.text (c.add_rings.ensures.text label) (c.in-Ok.ensures config m here)
+    beside-is config m (with_log c.args.log_blocks (plan_of_table label c.args.table.now)) c.args.name c.in-Ok.rings _ _ _ _ c.add_rings.new.text (c.add_rings.ensures.text label) (c.in-Ok.ensures.holds config m here)
     (λ at on there. let a = c.add_blobs.ensures.text label config m at here on there in record { unread = a.unread; looked = a.looked; text_is = a.text_is })

@@ -8,12 +8,14 @@ use Rattle.fl_words.specs.Command as words
 use Rattle.fl_machine.specs.Step.{group_reply, records_of}
 use Rattle.fl_session.specs.Asked.{lacked_column}
 use Rattle.fl_session.proofs.CommandReplies.{step-is}
+use Rattle.fl_session.specs.ListSays.{EndsOn, IsGroup}
+use Rattle.fl_session.proofs.AnyLines.{looks-lists}
 use Rattle.fl_session.proofs.CountedReads.{has-read}
 use Rattle.fl_session.proofs.GetReplies.{goes-reads}
 use Rattle.fl_session.proofs.NamedTable.{reached-here, reached-within}
 use Rattle.fl_session.proofs.Sound.{sound-roomed}
 use Rattle.fl_session.proofs.Operations.{operator-executes, operator-no_column, operator-refused, has-column, lacks-column}
-use Rattle.fl_session.proofs.ReplyCauses.{refusal-says, says-written, is-here, only-looks, lacks-one, lacks-says, has-one, has-says}
+use Rattle.fl_session.proofs.ReplyCauses.{refusal-says, says-written, is-here, lacks-one, lacks-says, has-one, has-says}
 use Rattle.fl_store.proofs.Queried.{lies-unlogged, runs-unlogged}
 use Rattle.fl_session.proofs.session.Session.aggregate.Goals as goal
 
@@ -68,7 +70,7 @@ pub returns-clause-goes : goal.returns-clause-goes
 returns-clause-goes g c = goes-reads _ _ c.aggregate.ensures.reads_only
 
 pub returns-clause-sound : goal.returns-clause-sound
-returns-clause-sound g c = sound-roomed c.args.self.now.tables.entries.items _ _ _ _ _ _ (goes-reads _ _ c.aggregate.ensures.reads_only) c.aggregate.ensures.room c.in-Ok.ensures.mounted_is c.requires.sound
+returns-clause-sound g c = sound-roomed c.args.self.now.tables.entries.items _ _ _ _ _ _ (goes-reads _ _ c.aggregate.ensures.reads_only) c.aggregate.ensures.reads_only.power c.aggregate.ensures.room c.in-Ok.ensures.mounted_is c.requires.sound
 
 pub returns-in-Err-clause-cause : goal.returns-in-Err-clause-cause
 returns-in-Err-clause-cause g c = inl (says-written _ _ _ _ _ _ (refusal-says _ c.args.name c.in-Err.refusal c.in-Err.ensures) c.write_reply.ensures.text)
@@ -81,11 +83,11 @@ returns-then-columns-column-clause-cause g c =
       c.in-Ok.at,
       c.index.result.now,
       is-here _ c.args.name c.in-Ok.at c.index.result.now c.in-Ok.ensures here,
-      lacks-says _ _ _ _ _ _ _ c.args.column (sym (ap (λ (t : Table 64 64). lacked_column (layout_in t) (c.args.column ∷ [])) c.table-table.ensures) ∙ lacks-one (layout_in c.table-table.result.now) c.args.column beyond) refl c.write_reply-then-columns-column.ensures.text,
+      lacks-says _ _ _ IsGroup c.index.result.now _ _ _ _ c.args.column (sym (ap (λ (t : Table 64 64). lacked_column (layout_in t) (c.args.column ∷ [])) c.table-table.ensures) ∙ lacks-one (layout_in c.table-table.result.now) c.args.column beyond) refl c.write_reply-then-columns-column.ensures.text,
     )
 
 pub returns-clause-cause : goal.returns-clause-cause
 returns-clause-cause g c =
     let here : slice_get c.args.self.now.tables.entries.items c.in-Ok.at ≡ Some c.index.result.now = reached-here c.args.self.now.tables.entries.items _ _ c.in-Ok.at c.index.result.now c.in-Ok.ensures c.index.ensures in
     let within : c.args.column ≤ length (layout_in c.table-table.result.now).columns = search rules in
-    inr (c.in-Ok.at, c.index.result.now, is-here _ c.args.name c.in-Ok.at c.index.result.now c.in-Ok.ensures here, has-says _ _ _ _ _ _ _ (sym (ap (λ (t : Table 64 64). lacked_column (layout_in t) (c.args.column ∷ [])) c.table-table.ensures) ∙ has-one (layout_in c.table-table.result.now) c.args.column within) (only-looks _ _ _ _ _ _ _ refl c.aggregate.ensures.reads_only))
+    inr (c.in-Ok.at, c.index.result.now, is-here _ c.args.name c.in-Ok.at c.index.result.now c.in-Ok.ensures here, has-says _ _ _ IsGroup c.index.result.now _ _ _ _ (sym (ap (λ (t : Table 64 64). lacked_column (layout_in t) (c.args.column ∷ [])) c.table-table.ensures) ∙ has-one (layout_in c.table-table.result.now) c.args.column within) (looks-lists _ _ _ _ _ IsGroup EndsOn _ _ _ _ _ _ _ refl c.aggregate.ensures.reads_only c.table-table.ensures c.aggregate.ensures.says))

@@ -1,12 +1,13 @@
 use Rattle.std.proofs.Common.{◌≡◌, ◌-◌, ◌^◌, ◌<◌, Some, rules, refl, ap, arith, inl, inr}
 use Rattle.std.specs.List.{slice_get}
 use Rattle.fl_flash.specs.declared.flash.Work.{Work}
+use Rattle.fl_session.proofs.BadBlobs.{looks-blob}
 use Rattle.fl_session.proofs.BlobReplies.{blob-executes, blob-refused}
 use Rattle.fl_session.proofs.CountedReads.{has-read}
 use Rattle.fl_session.proofs.GetReplies.{goes-reads}
 use Rattle.fl_session.proofs.NamedTable.{reached-here, reached-within}
 use Rattle.fl_session.proofs.Sound.{sound-read}
-use Rattle.fl_session.proofs.ReplyCauses.{refusal-says, says-written, is-here, only-looks}
+use Rattle.fl_session.proofs.ReplyCauses.{refusal-says, says-written, is-here}
 use Rattle.fl_store.proofs.Queried.{lies-unlogged, runs-unlogged}
 use Rattle.fl_session.proofs.session.Session.blob.Goals as goal
 
@@ -30,7 +31,7 @@ pub returns-clause-goes : goal.returns-clause-goes
 returns-clause-goes g c = goes-reads _ _ c.show_blob.ensures.counts
 
 pub returns-clause-sound : goal.returns-clause-sound
-returns-clause-sound g c = sound-read c.args.self.now.tables.entries.items _ _ _ _ _ _ _ (goes-reads _ _ c.show_blob.ensures.counts) c.show_blob.ensures.room refl (refl, refl) c.requires.sound.cursors c.in-Ok.ensures.mounted_is c.requires.sound
+returns-clause-sound g c = sound-read c.args.self.now.tables.entries.items _ _ _ _ _ _ _ (goes-reads _ _ c.show_blob.ensures.counts) c.show_blob.ensures.counts.power c.show_blob.ensures.room refl (refl, refl) c.requires.sound.cursors c.in-Ok.ensures.mounted_is c.requires.sound
 
 pub returns-clause-step : goal.returns-clause-step
 returns-clause-step g c = λ config old h.
@@ -47,4 +48,4 @@ returns-in-Err-clause-cause g c = inl (says-written _ _ _ _ _ _ (refusal-says _ 
 pub returns-clause-cause : goal.returns-clause-cause
 returns-clause-cause g c =
     let here : slice_get c.args.self.now.tables.entries.items c.in-Ok.at ≡ Some c.index.result.now = reached-here c.args.self.now.tables.entries.items _ _ c.in-Ok.at c.index.result.now c.in-Ok.ensures c.index.ensures in
-    inr (c.in-Ok.at, c.index.result.now, is-here _ c.args.name c.in-Ok.at c.index.result.now c.in-Ok.ensures here, only-looks _ _ _ _ _ _ _ refl c.show_blob.ensures.counts)
+    inr (c.in-Ok.at, c.index.result.now, is-here _ c.args.name c.in-Ok.at c.index.result.now c.in-Ok.ensures here, looks-blob _ _ _ _ _ _ _ _ _ _ _ _ refl c.show_blob.ensures.counts c.table-table.ensures c.show_blob.ensures.tells)

@@ -3,7 +3,7 @@ use Rattle.std.specs.List.{slice_get}
 use Rattle.fl_session.proofs.Calls.{flush-call}
 use Rattle.fl_session.proofs.NamedTable.{reached-here, reached-within}
 use Rattle.fl_session.proofs.RefusedCommands.{flush-refused_so}
-use Rattle.fl_session.proofs.Sound.{sound-with, runs-after}
+use Rattle.fl_session.proofs.Sound.{flush-stays, runs-after, sound-with, stays-on}
 use Rattle.fl_session.proofs.ReplyCauses.{on-refusal, is-here, flush-fails, kept-state}
 use Rattle.fl_table.specs.Causes.{flush_breaks}
 use Rattle.fl_rlc.specs.Table.{is_running}
@@ -25,7 +25,8 @@ pub returns-clause-sound : goal.returns-clause-sound
 returns-clause-sound g c =
     let here : slice_get c.args.self.now.tables.entries.items c.in-Ok.at ≡ Some c.index_mut.result.now = reached-here c.args.self.now.tables.entries.items _ _ c.in-Ok.at c.index_mut.result.now c.in-Ok.ensures c.index_mut.ensures.value in
     sound-with c.args.self.now.tables.entries.items c.in-Ok.at c.index_mut.result.now _ _ _ _ _ _ _ _ here c.flush-outcome.ensures.goes c.flush-outcome.ensures.lies c.in-Ok.ensures.mounted_is
-    (runs-after _ _ _ _ (c.requires.sound.running c.in-Ok.ensures.mounted_is c.in-Ok.at c.index_mut.result.now here) c.flush-outcome.ensures.running c.flush_breaks.ensures) c.keep_while.ensures.rows c.keep_while.ensures.index c.keep_while.ensures.right c.keep_while.ensures.none c.requires.sound
+    (runs-after _ _ _ _ (c.requires.sound.running c.in-Ok.ensures.mounted_is c.in-Ok.at c.index_mut.result.now here) c.flush-outcome.ensures.running c.flush_breaks.ensures)
+    (stays-on _ _ _ _ c.flush-outcome.ensures.goes c.flush_breaks.ensures (flush-stays _ _ _ c.flush-outcome.ensures.goes c.flush-outcome.result (c.requires.sound.running c.in-Ok.ensures.mounted_is c.in-Ok.at c.index_mut.result.now here) c.flush-outcome.ensures.exact c.flush-outcome.ensures.power) (c.requires.sound.power c.in-Ok.ensures.mounted_is)) c.keep_while.ensures.rows c.keep_while.ensures.index c.keep_while.ensures.right c.keep_while.ensures.none c.requires.sound
 
 pub returns-clause-step : goal.returns-clause-step
 returns-clause-step g c = λ config old h.
@@ -55,10 +56,12 @@ returns-clause-cause g c =
               (still.0, kept-state _ c.in-Ok.at c.index_mut.result.now c.flush-outcome.new.self _ _ here still.1 (ap not (c.flush_breaks.ensures ∙ ap flush_breaks still.0) ∙ sym c.in-Ok.ensures.mounted_is) still.2);
           leaves = record { now = c.flush-outcome.new.self; same = c.flush-outcome.ensures.same; entries = refl; mounted = ap not c.flush_breaks.ensures; notes = refl; unread = c.flush-outcome.ensures.reads; outside = c.flush-outcome.ensures.outside };
           flushed = c.flush-outcome.ensures.none;
+          last = c.flush-outcome.ensures.last;
           seals = c.flush-outcome.ensures.seals;
           begins = c.flush-outcome.ensures.begins;
           power = c.flush-outcome.ensures.power;
           off = c.flush-outcome.ensures.off runs;
+          media_reads = c.flush-outcome.ensures.media_reads;
         },
       );
     }

@@ -1,9 +1,9 @@
-use Rattle.std.proofs.Common.{◌≡◌, ◌-◌, ◌^◌, ◌<◌, Some, rules, refl, ap, arith, inr}
+use Rattle.std.proofs.Common.{◌≡◌, ◌-◌, ◌^◌, ◌<◌, Some, rules, refl, ap, subst, arith, inr}
 use Rattle.std.specs.List.{slice_get}
 use Rattle.fl_flash.specs.declared.flash.Work.{Work}
 use Rattle.fl_session.specs.declared.cost.Cost.TheVariants.{OfGet}
 use Rattle.fl_session.proofs.CountedReads.{has-read}
-use Rattle.fl_session.proofs.GetReplies.{get-executes, get-refused, goes-reads, look-said}
+use Rattle.fl_session.proofs.GetReplies.{get-executes, get-refused, goes-reads, look-said, reads-few}
 use Rattle.fl_session.proofs.NamedTable.{reached-here, reached-within}
 use Rattle.fl_session.proofs.Sound.{sound-read}
 use Rattle.fl_session.proofs.ReplyCauses.{on-refusal, says-written, is-here, only-looks}
@@ -30,7 +30,7 @@ pub returns-clause-goes : goal.returns-clause-goes
 returns-clause-goes g c = goes-reads _ _ c.look_up-reply.ensures.counts
 
 pub returns-clause-sound : goal.returns-clause-sound
-returns-clause-sound g c = sound-read c.args.self.now.tables.entries.items _ _ _ _ _ _ _ (goes-reads _ _ c.look_up-reply.ensures.counts) c.look_up-reply.ensures.room refl (refl, refl) c.requires.sound.cursors c.in-Ok.ensures.mounted_is c.requires.sound
+returns-clause-sound g c = sound-read c.args.self.now.tables.entries.items _ _ _ _ _ _ _ (goes-reads _ _ c.look_up-reply.ensures.counts) c.look_up-reply.ensures.counts.power c.look_up-reply.ensures.room refl (refl, refl) c.requires.sound.cursors c.in-Ok.ensures.mounted_is c.requires.sound
 
 pub returns-clause-step : goal.returns-clause-step
 returns-clause-step g c = λ config old h.
@@ -56,5 +56,5 @@ returns-clause-cause g c =
     says-written _ _ _ _ _ _ (record {
       reply = says.reply;
       said_is = says.said_is;
-      holds = inr (c.in-Ok.at, c.index.result.now, is-here _ c.args.name c.in-Ok.at c.index.result.now c.in-Ok.ensures here, (look-said c.table-table.result.now c.index.result.now _ _ says.reply c.table-table.ensures says.holds, (c.lookup_limit-limit.result, only-looks _ _ _ _ _ _ _ (ap (λ n. record c.args.self.now.notes { cost = OfGet n c.lookup_limit-limit.result }) reads) c.look_up-reply.ensures.counts)));
+      holds = inr (c.in-Ok.at, c.index.result.now, is-here _ c.args.name c.in-Ok.at c.index.result.now c.in-Ok.ensures here, (look-said c.table-table.result.now c.index.result.now _ _ says.reply c.table-table.ensures says.holds, reads-few c.table-table.result.now c.index.result.now _ _ c.table-table.ensures c.look_up-reply.ensures.counts c.look_up-reply.ensures.few, (c.lookup_limit-limit.result, only-looks _ _ _ _ _ _ _ (ap (λ n. record c.args.self.now.notes { cost = OfGet n c.lookup_limit-limit.result }) reads) c.look_up-reply.ensures.counts)));
     }) c.write_reply-2.ensures.text

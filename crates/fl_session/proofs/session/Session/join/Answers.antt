@@ -1,12 +1,13 @@
 use Rattle.std.proofs.Common.{◌≡◌, ◌^◌, ◌<◌, Some, rules, refl, ap, arith, inl, inr}
 use Rattle.std.specs.List.{slice_get}
 use Rattle.fl_flash.specs.declared.flash.Work.{Work}
+use Rattle.fl_session.proofs.AnyLines.{looks-pairs}
 use Rattle.fl_session.proofs.CountedReads.{has-read}
 use Rattle.fl_session.proofs.GetReplies.{goes-reads}
 use Rattle.fl_session.proofs.Operations.{join-executes, join-refused, join-alone}
 use Rattle.fl_session.proofs.NamedTable.{reached-here, reached-within}
 use Rattle.fl_session.proofs.Sound.{sound-roomed}
-use Rattle.fl_session.proofs.ReplyCauses.{reached-entry, refusal-says, says-written, is-here, only-looks}
+use Rattle.fl_session.proofs.ReplyCauses.{reached-entry, refusal-says, says-written, is-here}
 use Rattle.fl_store.proofs.Queried.{lies-unlogged, runs-unlogged}
 use Rattle.fl_session.proofs.session.Session.join.Goals as goal
 
@@ -46,7 +47,7 @@ pub returns-clause-goes : goal.returns-clause-goes
 returns-clause-goes g c = goes-reads _ _ c.join.ensures.reads_only
 
 pub returns-clause-sound : goal.returns-clause-sound
-returns-clause-sound g c = sound-roomed c.args.self.now.tables.entries.items _ _ _ _ _ _ (goes-reads _ _ c.join.ensures.reads_only) c.join.ensures.room c.in-Ok.ensures.mounted_is c.requires.sound
+returns-clause-sound g c = sound-roomed c.args.self.now.tables.entries.items _ _ _ _ _ _ (goes-reads _ _ c.join.ensures.reads_only) c.join.ensures.reads_only.power c.join.ensures.room c.in-Ok.ensures.mounted_is c.requires.sound
 
 pub returns-clause-step : goal.returns-clause-step
 returns-clause-step g c = λ config old h.
@@ -79,5 +80,5 @@ returns-clause-cause g c =
       c.in-Ok.at,
       c.index.result.now,
       is-here _ c.args.left c.in-Ok.at c.index.result.now c.in-Ok.ensures left,
-      inr (c.in-Ok-find.at, c.index-2.result.now, is-here _ c.args.right c.in-Ok-find.at c.index-2.result.now c.in-Ok-find.ensures right, only-looks _ _ _ _ _ _ _ refl c.join.ensures.reads_only),
+      inr (c.in-Ok-find.at, c.index-2.result.now, is-here _ c.args.right c.in-Ok-find.at c.index-2.result.now c.in-Ok-find.ensures right, looks-pairs _ _ _ _ _ _ _ _ _ _ _ _ _ _ refl c.join.ensures.reads_only c.table-left_table.ensures c.table-right_table.ensures c.join.ensures.says),
     )

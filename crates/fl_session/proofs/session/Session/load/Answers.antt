@@ -2,7 +2,7 @@ use Rattle.std.proofs.Common.{◌≡◌, Some, not, refl, ap, inl, inr}
 use Rattle.std.specs.List.{slice_get}
 use Rattle.fl_session.proofs.LoadLines.{load-executes, load-refused}
 use Rattle.fl_session.proofs.NamedTable.{reached-here, reached-within}
-use Rattle.fl_session.proofs.Sound.{sound-with, runs-after}
+use Rattle.fl_session.proofs.Sound.{runs-after, sound-with, stays-on}
 use Rattle.fl_session.proofs.ReplyCauses.{refusal-says, says-written, is-here}
 use Rattle.fl_session.proofs.session.Session.load.Goals as goal
 
@@ -21,7 +21,8 @@ pub returns-clause-sound : goal.returns-clause-sound
 returns-clause-sound g c =
     let here : slice_get c.args.self.now.tables.entries.items c.in-Ok.at ≡ Some c.index_mut.result.now = reached-here c.args.self.now.tables.entries.items _ _ c.in-Ok.at c.index_mut.result.now c.in-Ok.ensures c.index_mut.ensures.value in
     sound-with c.args.self.now.tables.entries.items c.in-Ok.at c.index_mut.result.now _ _ _ _ _ _ _ _ here c.load-loaded.ensures.goes c.load-loaded.ensures.lies c.in-Ok.ensures.mounted_is
-    (runs-after _ _ _ _ (c.requires.sound.running c.in-Ok.ensures.mounted_is c.in-Ok.at c.index_mut.result.now here) c.load-loaded.ensures.running c.put_breaks.ensures) c.keep_while.ensures.rows c.keep_while.ensures.index c.keep_while.ensures.right c.keep_while.ensures.none c.requires.sound
+    (runs-after _ _ _ _ (c.requires.sound.running c.in-Ok.ensures.mounted_is c.in-Ok.at c.index_mut.result.now here) c.load-loaded.ensures.running c.put_breaks.ensures)
+    (stays-on _ _ _ _ c.load-loaded.ensures.goes c.put_breaks.ensures c.load-loaded.ensures.power (c.requires.sound.power c.in-Ok.ensures.mounted_is)) c.keep_while.ensures.rows c.keep_while.ensures.index c.keep_while.ensures.right c.keep_while.ensures.none c.requires.sound
 
 pub returns-clause-step : goal.returns-clause-step
 returns-clause-step g c = λ config old h.
@@ -44,7 +45,9 @@ returns-clause-cause g c =
         written = c.write.ensures.text;
         counted = c.load-loaded.ensures.counted;
         leaves = record { now = c.load-loaded.new.table; same = c.load-loaded.ensures.same; entries = refl; mounted = ap not c.put_breaks.ensures; notes = refl; unread = c.load-loaded.ensures.reads; outside = c.load-loaded.ensures.outside };
+        puts = c.load-loaded.ensures.puts;
         fails = c.load-loaded.ensures.fails;
         power = c.load-loaded.ensures.power;
+        media_reads = c.load-loaded.ensures.media_reads;
       },
     )

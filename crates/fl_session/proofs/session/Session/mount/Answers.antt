@@ -1,11 +1,13 @@
-use Rattle.std.proofs.Common.{◌≡◌, true, IsTrue, refl, sym, ap, subst, arith, inl, inr}
+use Rattle.std.proofs.Common.{◌≡◌, ◌∙◌, true, IsTrue, refl, sym, ap, subst, arith, inl, inr}
 use Rattle.fl_flash.specs.Flash.{FlashState}
 use Rattle.fl_store.specs.Tables.{LieOn}
 use Rattle.fl_store.proofs.CallsInTurn.{goes-set}
 use Rattle.fl_store.proofs.TablesLie.{lie-on}
 use Rattle.fl_session.proofs.Calls.{mount-call, already-call}
 use Rattle.fl_session.proofs.MountReads.{limit-call}
+use Rattle.fl_session.proofs.Over.{no-cursor}
 use Rattle.fl_session.proofs.ReplyCauses.{mounts-on}
+use Rattle.fl_session.proofs.Sound.{sound-mounted}
 use Rattle.fl_session.specs.Answer.{mount_reply}
 use Rattle.fl_words.specs.Reply as reply
 use Rattle.fl_session.proofs.session.Session.mount.Goals as goal
@@ -51,8 +53,14 @@ returns-clause-cause g c =
         outcome = c.mount-outcome.result;
         said_is = refl;
         mounts = mounts-on _ _ _ _ _ c.mount-outcome.result c.power_on.ensures
-            (record { found = e.found; refused = e.refused; stops = e.stops; cause = e.cause; power = e.power; repairs = e.repairs; outside = e.outside });
+            (record { found = e.found; refused = e.refused; stops = e.stops; cause = e.cause; running = e.running; none = e.none; power = e.power; as_many = e.as_many; names = e.names; same = e.same; repairs = e.repairs; outside = e.outside });
         mounted = c.is_ok-self.ensures.value;
         notes = refl;
       });
     }
+
+pub returns-clause-sound : goal.returns-clause-sound
+returns-clause-sound g c =
+    let e = c.mount-outcome.ensures in
+    sound-mounted _ _ _ _ _ _ _ _ _ _ _ c.mount-outcome.result c.power_on.ensures e.goes e.lie c.is_ok-self.ensures.value e.running e.power (c.keep_while.ensures.rows ∙ e.room) c.keep_while.ensures.index c.keep_while.ensures.right c.keep_while.ensures.none
+    (λ i x. no-cursor 4 i x) c.requires.sound

@@ -4,11 +4,11 @@ use Rattle.std.specs.List.{slice_get}
 use Rattle.fl_flash.specs.declared.flash.Work.{Work}
 use Rattle.fl_store.proofs.TablesChanged.{item-there}
 use Rattle.fl_session.specs.declared.notes.TableCursor.{TableCursor}
+use Rattle.fl_session.proofs.AnyLines.{next-moves}
 use Rattle.fl_session.proofs.CountedReads.{has-read}
 use Rattle.fl_session.proofs.CursorMoves.{next-executes, next-off, next-none}
 use Rattle.fl_session.proofs.GetReplies.{goes-reads}
 use Rattle.fl_session.proofs.Sound.{sound-read, cursors-set}
-use Rattle.fl_session.proofs.ReplyCauses.{only-looks}
 use Rattle.fl_words.specs.Reply as reply
 use Rattle.fl_store.proofs.Queried.{lies-unlogged, runs-unlogged}
 use Rattle.fl_session.proofs.session.Session.next.Goals as goal
@@ -33,7 +33,7 @@ next_rows-written-requires-clause-lies g c =
 
 pub returns-clause-sound : goal.returns-clause-sound
 returns-clause-sound g c =
-    rw c.set_cursor.ensures (sound-read c.args.self.now.tables.entries.items _ _ _ _ _ _ _ (goes-reads _ _ c.next_rows-written.ensures.counts) c.next_rows-written.ensures.rows c.next_rows-written.ensures.index c.next_rows-written.ensures.right
+    rw c.set_cursor.ensures (sound-read c.args.self.now.tables.entries.items _ _ _ _ _ _ _ (goes-reads _ _ c.next_rows-written.ensures.counts) c.next_rows-written.ensures.counts.power c.next_rows-written.ensures.rows c.next_rows-written.ensures.index c.next_rows-written.ensures.right
     (cursors-set c.args.self.now.tables.entries.items c.args.self.now.notes.cursors c.args.cursor (Some (record c.in-Some.open { mark = c.next_rows-written.new.mark })) c.requires.sound.cursors
     (λ x e. let is : c.in-Some.open.table ≡ x.table = ap (λ (o : Option TableCursor). unwrap_or (option_map (λ y. y.table) o) 0) e in subst (λ n. n < length c.args.self.now.tables.entries.items) is (c.requires.sound.cursors c.args.cursor c.in-Some.open c.in-Some.ensures)))
     c.if-not-self.false c.requires.sound)
@@ -56,4 +56,10 @@ pub returns-in_default-clause-cause : goal.returns-in_default-clause-cause
 returns-in_default-clause-cause g c = inr (inl (c.if-not-self.false, c.in_default.ensures, record { reply = reply.NoCursor; written = c.write_reply-in_default.ensures.text; holds = (refl, refl) }))
 
 pub returns-clause-cause : goal.returns-clause-cause
-returns-clause-cause g c = inr (inr (c.if-not-self.false, (c.in-Some.open, c.in-Some.ensures, (c.next_rows-written.new.mark, only-looks _ _ _ _ _ _ _ c.set_cursor.ensures c.next_rows-written.ensures.counts))))
+returns-clause-cause g c =
+    let here : slice_get c.args.self.now.tables.entries.items c.in-Some.open.table ≡ Some c.index.result.now =
+    item-there c.args.self.now.tables.entries.items _ c.in-Some.open.table c.index.result.now refl (c.requires.sound.cursors c.args.cursor c.in-Some.open c.in-Some.ensures) c.index.ensures in
+    inr (inr (
+      c.if-not-self.false,
+      next-moves _ _ _ _ c.args.cursor c.args.count c.in-Some.open c.index.result.now _ c.next_rows-written.new.mark _ _ _ _ _ c.in-Some.ensures here c.set_cursor.ensures c.next_rows-written.ensures.counts c.table.ensures c.next_rows-written.ensures.lines,
+    ))

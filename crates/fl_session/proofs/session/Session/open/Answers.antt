@@ -27,7 +27,7 @@ open_cursor-mark-requires g c =
 pub returns-clause-sound : goal.returns-clause-sound
 returns-clause-sound g c =
     let within : c.in-Ok.at < length c.args.self.now.tables.entries.items = reached-within c.args.self.now.tables.entries.items _ _ _ c.in-Ok.at refl c.in-Ok.ensures in
-    rw c.set_cursor.ensures (sound-read c.args.self.now.tables.entries.items _ _ _ _ _ _ _ (goes-same _) c.open_cursor-mark.ensures.rows c.open_cursor-mark.ensures.index c.open_cursor-mark.ensures.right
+    rw c.set_cursor.ensures (sound-read c.args.self.now.tables.entries.items _ _ _ _ _ _ _ (goes-same _) refl c.open_cursor-mark.ensures.rows c.open_cursor-mark.ensures.index c.open_cursor-mark.ensures.right
     (cursors-set c.args.self.now.tables.entries.items c.args.self.now.notes.cursors c.args.cursor (Some (record { table = c.in-Ok.at; mark = c.open_cursor-mark.result })) c.requires.sound.cursors
     (λ x e. let is : c.in-Ok.at ≡ x.table = ap (λ (o : Option TableCursor). unwrap_or (option_map (λ y. y.table) o) 0) e in subst (λ n. n < length c.args.self.now.tables.entries.items) is within))
     c.in-Ok.ensures.mounted_is c.requires.sound)

@@ -10,12 +10,14 @@ use Rattle.fl_words.specs.Reply as reply
 use Rattle.fl_machine.specs.Step.{records_of}
 use Rattle.fl_session.specs.Asked.{lacked_column}
 use Rattle.fl_session.proofs.CommandReplies.{step-is}
+use Rattle.fl_session.specs.ListSays.{EndsOn, IsFields}
+use Rattle.fl_session.proofs.AnyLines.{looks-lists}
 use Rattle.fl_session.proofs.CountedReads.{has-read}
 use Rattle.fl_session.proofs.GetReplies.{goes-reads}
 use Rattle.fl_session.proofs.NamedTable.{reached-here, reached-within}
 use Rattle.fl_session.proofs.Sound.{sound-roomed}
 use Rattle.fl_session.proofs.Operations.{operator-executes, operator-no_column, operator-refused, lacked-column}
-use Rattle.fl_session.proofs.ReplyCauses.{refusal-says, says-written, is-here, only-looks, lacks-says, has-says}
+use Rattle.fl_session.proofs.ReplyCauses.{refusal-says, says-written, is-here, lacks-says, has-says}
 use Rattle.fl_words.specs.Reply as reply
 use Rattle.fl_store.proofs.Queried.{lies-unlogged, runs-unlogged}
 use Rattle.fl_session.proofs.session.Session.project.Goals as goal
@@ -72,7 +74,7 @@ pub returns-clause-goes : goal.returns-clause-goes
 returns-clause-goes g c = goes-reads _ _ c.project.ensures.reads_only
 
 pub returns-clause-sound : goal.returns-clause-sound
-returns-clause-sound g c = sound-roomed c.args.self.now.tables.entries.items _ _ _ _ _ _ (goes-reads _ _ c.project.ensures.reads_only) c.project.ensures.room c.in-Ok.ensures.mounted_is c.requires.sound
+returns-clause-sound g c = sound-roomed c.args.self.now.tables.entries.items _ _ _ _ _ _ (goes-reads _ _ c.project.ensures.reads_only) c.project.ensures.reads_only.power c.project.ensures.room c.in-Ok.ensures.mounted_is c.requires.sound
 
 pub returns-in-Err-clause-cause : goal.returns-in-Err-clause-cause
 returns-in-Err-clause-cause g c = inl (says-written _ _ _ _ _ _ (refusal-says _ c.args.name c.in-Err.refusal c.in-Err.ensures) c.write_reply.ensures.text)
@@ -86,7 +88,7 @@ returns-in-Some-clause-cause g c =
       c.in-Ok.at,
       c.index.result.now,
       is-here _ c.args.name c.in-Ok.at c.index.result.now c.in-Ok.ensures here,
-      lacks-says _ _ _ _ _ _ _ c.in-Some.column (sym lacks) refl c.write_reply-in-Some.ensures.text,
+      lacks-says _ _ _ IsFields c.index.result.now _ _ _ _ c.in-Some.column (sym lacks) refl c.write_reply-in-Some.ensures.text,
     )
 
 pub returns-clause-cause : goal.returns-clause-cause
@@ -94,4 +96,4 @@ returns-clause-cause g c =
     let here : slice_get c.args.self.now.tables.entries.items c.in-Ok.at ≡ Some c.index.result.now = reached-here c.args.self.now.tables.entries.items _ _ c.in-Ok.at c.index.result.now c.in-Ok.ensures c.index.ensures in
     let none : None ≡ lacked_column (layout_in (table_in c.index.result.now.table)) c.args.columns.now.items =
     c.in_default.ensures ∙ (ap (lacked_column (layout_in c.table-table.result.now)) c.as_slice.ensures.value ∙ ap (λ (t : Table 64 64). lacked_column (layout_in t) c.args.columns.now.items) c.table-table.ensures) in
-    inr (c.in-Ok.at, c.index.result.now, is-here _ c.args.name c.in-Ok.at c.index.result.now c.in-Ok.ensures here, has-says _ _ _ _ _ _ _ (sym none) (only-looks _ _ _ _ _ _ _ refl c.project.ensures.reads_only))
+    inr (c.in-Ok.at, c.index.result.now, is-here _ c.args.name c.in-Ok.at c.index.result.now c.in-Ok.ensures here, has-says _ _ _ IsFields c.index.result.now _ _ _ _ (sym none) (looks-lists _ _ _ _ _ IsFields EndsOn _ _ _ _ _ _ _ refl c.project.ensures.reads_only c.table-table.ensures c.project.ensures.says))

@@ -3,7 +3,7 @@ use Rattle.std.specs.List.{slice_get}
 use Rattle.fl_session.proofs.Calls.{put-call}
 use Rattle.fl_session.proofs.NamedTable.{reached-here, reached-within}
 use Rattle.fl_session.proofs.RefusedCommands.{put-refused_so}
-use Rattle.fl_session.proofs.Sound.{sound-with, runs-after}
+use Rattle.fl_session.proofs.Sound.{put-stays, runs-after, sound-with, stays-on}
 use Rattle.fl_session.proofs.ReplyCauses.{on-refusal, is-here, put-fails-so}
 use Rattle.fl_store.specs.Replies.{put_reply}
 use Rattle.fl_table.specs.Refusal.{RefusesAs}
@@ -28,7 +28,8 @@ pub returns-clause-sound : goal.returns-clause-sound
 returns-clause-sound g c =
     let here : slice_get c.args.self.now.tables.entries.items c.in-Ok.at ≡ Some c.index_mut.result.now = reached-here c.args.self.now.tables.entries.items _ _ c.in-Ok.at c.index_mut.result.now c.in-Ok.ensures c.index_mut.ensures.value in
     sound-with c.args.self.now.tables.entries.items c.in-Ok.at c.index_mut.result.now _ _ _ _ _ _ _ _ here c.put-outcome.ensures.goes c.put-outcome.ensures.lies c.in-Ok.ensures.mounted_is
-    (runs-after _ _ _ _ (c.requires.sound.running c.in-Ok.ensures.mounted_is c.in-Ok.at c.index_mut.result.now here) c.put-outcome.ensures.running c.put_breaks.ensures) c.keep_while.ensures.rows c.keep_while.ensures.index c.keep_while.ensures.right c.keep_while.ensures.none c.requires.sound
+    (runs-after _ _ _ _ (c.requires.sound.running c.in-Ok.ensures.mounted_is c.in-Ok.at c.index_mut.result.now here) c.put-outcome.ensures.running c.put_breaks.ensures)
+    (stays-on _ _ _ _ c.put-outcome.ensures.goes c.put_breaks.ensures (put-stays _ _ _ _ c.put-outcome.ensures.goes c.put-outcome.result c.put-outcome.ensures.power c.put-outcome.ensures.refused) (c.requires.sound.power c.in-Ok.ensures.mounted_is)) c.keep_while.ensures.rows c.keep_while.ensures.index c.keep_while.ensures.right c.keep_while.ensures.none c.requires.sound
 
 pub returns-clause-step : goal.returns-clause-step
 returns-clause-step g c = λ config old h.
@@ -62,6 +63,7 @@ returns-clause-cause g c =
           power = c.put-outcome.ensures.power;
           quiet = λ none. c.put-outcome.ensures.quiet (ap (λ n. put_refusal c.index_mut.result.now.table c.args.key c.args.values.now n) (sym (map-twice (λ (b : Bor (List ℕ)). b.now) (λ (xs : List ℕ). length xs) c.args.blob)) ∙ none);
           off = λ none. c.put-outcome.ensures.off (ap (λ n. put_refusal c.index_mut.result.now.table c.args.key c.args.values.now n) (sym (map-twice (λ (b : Bor (List ℕ)). b.now) (λ (xs : List ℕ). length xs) c.args.blob)) ∙ none);
+          media_reads = c.put-outcome.ensures.media_reads;
         },
       );
     }

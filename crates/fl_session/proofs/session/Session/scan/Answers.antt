@@ -2,12 +2,14 @@ use Rattle.std.proofs.Common.{◌≡◌, ◌-◌, ◌^◌, ◌<◌, Some, rules,
 use Rattle.std.specs.List.{slice_get}
 use Rattle.fl_flash.specs.declared.flash.Work.{Work}
 use Rattle.fl_session.specs.declared.cost.Cost.TheVariants.{OfScan}
+use Rattle.fl_session.specs.ListSays.{EndsOn, IsRow}
+use Rattle.fl_session.proofs.AnyLines.{looks-lists}
 use Rattle.fl_session.proofs.CountedReads.{has-read}
 use Rattle.fl_session.proofs.GetReplies.{goes-reads}
 use Rattle.fl_session.proofs.NamedTable.{reached-here, reached-within}
 use Rattle.fl_session.proofs.ScanReplies.{scan-executes, scan-refused}
 use Rattle.fl_session.proofs.Sound.{sound-read}
-use Rattle.fl_session.proofs.ReplyCauses.{refusal-says, says-written, is-here, only-looks}
+use Rattle.fl_session.proofs.ReplyCauses.{refusal-says, says-written, is-here}
 use Rattle.fl_store.proofs.Queried.{lies-unlogged, runs-unlogged}
 use Rattle.fl_session.proofs.session.Session.scan.Goals as goal
 
@@ -31,7 +33,7 @@ pub returns-clause-goes : goal.returns-clause-goes
 returns-clause-goes g c = goes-reads _ _ c.list_rows-written.ensures.counts
 
 pub returns-clause-sound : goal.returns-clause-sound
-returns-clause-sound g c = sound-read c.args.self.now.tables.entries.items _ _ _ _ _ _ _ (goes-reads _ _ c.list_rows-written.ensures.counts) c.list_rows-written.ensures.rows c.list_rows-written.ensures.index c.list_rows-written.ensures.right c.requires.sound.cursors c.in-Ok.ensures.mounted_is c.requires.sound
+returns-clause-sound g c = sound-read c.args.self.now.tables.entries.items _ _ _ _ _ _ _ (goes-reads _ _ c.list_rows-written.ensures.counts) c.list_rows-written.ensures.counts.power c.list_rows-written.ensures.rows c.list_rows-written.ensures.index c.list_rows-written.ensures.right c.requires.sound.cursors c.in-Ok.ensures.mounted_is c.requires.sound
 
 pub returns-clause-step : goal.returns-clause-step
 returns-clause-step g c = λ config old h.
@@ -57,5 +59,5 @@ returns-clause-cause g c =
       c.in-Ok.at,
       c.index.result.now,
       is-here _ c.args.name c.in-Ok.at c.index.result.now c.in-Ok.ensures here,
-      only-looks _ _ _ _ _ _ _ (ap (λ n. record c.args.self.now.notes { cost = OfScan n }) reads) c.list_rows-written.ensures.counts,
+      looks-lists _ _ _ _ _ IsRow EndsOn _ _ _ _ _ _ _ (ap (λ n. record c.args.self.now.notes { cost = OfScan n }) reads) c.list_rows-written.ensures.counts c.table-table.ensures c.list_rows-written.ensures.lines,
     )

@@ -10,12 +10,14 @@ use Rattle.fl_words.specs.Reply.{Reply}
 use Rattle.fl_machine.specs.Step.{note_of, records_of}
 use Rattle.fl_session.specs.Asked.{lacked_column}
 use Rattle.fl_session.proofs.CommandReplies.{step-is}
+use Rattle.fl_session.specs.ListSays.{EndsOn, IsRow}
+use Rattle.fl_session.proofs.AnyLines.{looks-lists}
 use Rattle.fl_session.proofs.CountedReads.{has-read}
 use Rattle.fl_session.proofs.GetReplies.{goes-reads}
 use Rattle.fl_session.proofs.NamedTable.{reached-here, reached-within}
 use Rattle.fl_session.proofs.Sound.{sound-roomed}
 use Rattle.fl_session.proofs.Operations.{operator-executes, operator-no_column, operator-refused, has-column, lacks-column}
-use Rattle.fl_session.proofs.ReplyCauses.{refusal-says, says-written, is-here, only-looks, lacks-one, lacks-says, has-one, has-says}
+use Rattle.fl_session.proofs.ReplyCauses.{refusal-says, says-written, is-here, lacks-one, lacks-says, has-one, has-says}
 use Rattle.fl_store.proofs.Queried.{lies-unlogged, runs-unlogged}
 use Rattle.fl_session.proofs.Unlogged.{notes-bare}
 use Rattle.fl_session.proofs.session.Session.select.Goals as goal
@@ -71,7 +73,7 @@ pub returns-clause-goes : goal.returns-clause-goes
 returns-clause-goes g c = goes-reads _ _ c.select.ensures.reads_only
 
 pub returns-clause-sound : goal.returns-clause-sound
-returns-clause-sound g c = sound-roomed c.args.self.now.tables.entries.items _ _ _ _ _ _ (goes-reads _ _ c.select.ensures.reads_only) c.select.ensures.room c.in-Ok.ensures.mounted_is c.requires.sound
+returns-clause-sound g c = sound-roomed c.args.self.now.tables.entries.items _ _ _ _ _ _ (goes-reads _ _ c.select.ensures.reads_only) c.select.ensures.reads_only.power c.select.ensures.room c.in-Ok.ensures.mounted_is c.requires.sound
 
 pub returns-in-Err-clause-cause : goal.returns-in-Err-clause-cause
 returns-in-Err-clause-cause g c = inl (says-written _ _ _ _ _ _ (refusal-says _ c.args.name c.in-Err.refusal c.in-Err.ensures) c.write_reply.ensures.text)
@@ -84,11 +86,11 @@ returns-then-columns-comparison-clause-cause g c =
       c.in-Ok.at,
       c.index.result.now,
       is-here _ c.args.name c.in-Ok.at c.index.result.now c.in-Ok.ensures here,
-      lacks-says _ _ _ _ _ _ _ c.args.comparison.column (sym (ap (λ (t : Table 64 64). lacked_column (layout_in t) (c.args.comparison.column ∷ [])) c.table-table.ensures) ∙ lacks-one (layout_in c.table-table.result.now) c.args.comparison.column beyond) refl c.write_reply-then-columns-comparison.ensures.text,
+      lacks-says _ _ _ IsRow c.index.result.now _ _ _ _ c.args.comparison.column (sym (ap (λ (t : Table 64 64). lacked_column (layout_in t) (c.args.comparison.column ∷ [])) c.table-table.ensures) ∙ lacks-one (layout_in c.table-table.result.now) c.args.comparison.column beyond) refl c.write_reply-then-columns-comparison.ensures.text,
     )
 
 pub returns-clause-cause : goal.returns-clause-cause
 returns-clause-cause g c =
     let here : slice_get c.args.self.now.tables.entries.items c.in-Ok.at ≡ Some c.index.result.now = reached-here c.args.self.now.tables.entries.items _ _ c.in-Ok.at c.index.result.now c.in-Ok.ensures c.index.ensures in
     let within : c.args.comparison.column ≤ length (layout_in c.table-table.result.now).columns = search rules in
-    inr (c.in-Ok.at, c.index.result.now, is-here _ c.args.name c.in-Ok.at c.index.result.now c.in-Ok.ensures here, has-says _ _ _ _ _ _ _ (sym (ap (λ (t : Table 64 64). lacked_column (layout_in t) (c.args.comparison.column ∷ [])) c.table-table.ensures) ∙ has-one (layout_in c.table-table.result.now) c.args.comparison.column within) (only-looks _ _ _ _ _ _ _ refl c.select.ensures.reads_only))
+    inr (c.in-Ok.at, c.index.result.now, is-here _ c.args.name c.in-Ok.at c.index.result.now c.in-Ok.ensures here, has-says _ _ _ IsRow c.index.result.now _ _ _ _ (sym (ap (λ (t : Table 64 64). lacked_column (layout_in t) (c.args.comparison.column ∷ [])) c.table-table.ensures) ∙ has-one (layout_in c.table-table.result.now) c.args.comparison.column within) (looks-lists _ _ _ _ _ IsRow EndsOn _ _ _ _ _ _ _ refl c.select.ensures.reads_only c.table-table.ensures c.select.ensures.says))

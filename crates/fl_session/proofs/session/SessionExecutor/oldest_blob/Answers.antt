@@ -1,9 +1,11 @@
-use Rattle.std.proofs.Common.{◌≡◌, Some}
+use Rattle.std.proofs.Common.{◌≡◌, Some, inl, inr, refl}
 use Rattle.std.specs.List.{slice_get}
 use Rattle.fl_session.proofs.GetReplies.{goes-reads}
 use Rattle.fl_session.proofs.LookingFor.{looks-refused, looks-there}
 use Rattle.fl_session.proofs.NamedTable.{reached-here, reached-within}
+use Rattle.fl_session.proofs.ReplyCauses.{is-here, only-looks}
 use Rattle.fl_session.proofs.Sound.{sound-roomed}
+use Rattle.fl_session.proofs.ToldOfTable.{oldest-told}
 use Rattle.fl_store.proofs.Queried.{lies-unlogged, runs-unlogged}
 use Rattle.fl_session.proofs.session.SessionExecutor.oldest_blob.Goals as goal
 
@@ -30,10 +32,24 @@ pub returns-clause-goes : goal.returns-clause-goes
 returns-clause-goes g c = goes-reads _ _ c.oldest_blob.ensures.counts
 
 pub returns-clause-sound : goal.returns-clause-sound
-returns-clause-sound g c = sound-roomed c.args.self.now.tables.entries.items _ _ _ _ _ _ (goes-reads _ _ c.oldest_blob.ensures.counts) c.oldest_blob.ensures.room c.in-Ok.ensures.mounted_is c.requires
+returns-clause-sound g c = sound-roomed c.args.self.now.tables.entries.items _ _ _ _ _ _ (goes-reads _ _ c.oldest_blob.ensures.counts) c.oldest_blob.ensures.counts.power c.oldest_blob.ensures.room c.in-Ok.ensures.mounted_is c.requires
 
 pub returns-clause-looks : goal.returns-clause-looks
 returns-clause-looks g c = λ config m h.
     let here : slice_get c.args.self.now.tables.entries.items c.in-Ok.at ≡ Some c.index.result.now = reached-here c.args.self.now.tables.entries.items _ _ c.in-Ok.at c.index.result.now c.in-Ok.ensures c.index.ensures in
     looks-there config m c.args.self.now.tables.entries.items c.args.self.now.notes _ _ c.args.self.now.mounted c.args.name c.in-Ok.at c.index.result.now c.table-table.result.now c.oldest_blob.result h c.in-Ok.ensures here c.table-table.ensures
     c.oldest_blob.ensures.counts c.oldest_blob.ensures.finds c.oldest_blob.ensures.reads
+
+pub returns-in-Err-clause-cause : goal.returns-in-Err-clause-cause
+returns-in-Err-clause-cause g c = inl (c.in-Err.refusal, refl, c.in-Err.ensures, refl)
+
+pub returns-clause-cause : goal.returns-clause-cause
+returns-clause-cause g c =
+    let here : slice_get c.args.self.now.tables.entries.items c.in-Ok.at ≡ Some c.index.result.now = reached-here c.args.self.now.tables.entries.items _ _ c.in-Ok.at c.index.result.now c.in-Ok.ensures c.index.ensures in
+    inr (
+      c.in-Ok.at,
+      c.index.result.now,
+      is-here _ c.args.name c.in-Ok.at c.index.result.now c.in-Ok.ensures here,
+      oldest-told c.table-table.result.now c.index.result.now _ _ c.oldest_blob.result c.table-table.ensures c.oldest_blob.ensures.counts c.oldest_blob.ensures.cause,
+      only-looks _ _ _ _ _ _ _ refl c.oldest_blob.ensures.counts,
+    )

@@ -39,7 +39,7 @@ returns-clause-lie g c =
 pub returns-clause-flushes : goal.returns-clause-flushes
 returns-clause-flushes g c =
     flush-flushes c.args.self.now.tables.entries.items c.args.at c.index_mut.result.now c.flush.new.self
-    (entry-at c.args.self.now.tables.entries.items c.args.at c.index_mut.result.now c.requires.at c.index_mut.ensures.value) c.flush.result c.flush.ensures.none c.flush.ensures.seals c.flush.ensures.begins
+    (entry-at c.args.self.now.tables.entries.items c.args.at c.index_mut.result.now c.requires.at c.index_mut.ensures.value) c.flush.result c.flush.ensures.none c.flush.ensures.last c.flush.ensures.seals c.flush.ensures.begins
 
 pub returns-clause-refused : goal.returns-clause-refused
 returns-clause-refused g c =
@@ -67,3 +67,13 @@ pub returns-clause-same : goal.returns-clause-same
 returns-clause-same g c =
     same-after c.args.self.now.tables.entries.items c.args.at c.index_mut.result.now c.flush.new.self
     (entry-at c.args.self.now.tables.entries.items c.args.at c.index_mut.result.now c.requires.at c.index_mut.ensures.value) c.flush.ensures.same
+
+pub returns-clause-outside : goal.returns-clause-outside
+returns-clause-outside g c = λ entry e.
+    let here : slice_get c.args.self.now.tables.entries.items c.args.at ≡ Some c.index_mut.result.now = entry-at c.args.self.now.tables.entries.items c.args.at c.index_mut.result.now c.requires.at c.index_mut.ensures.value in
+    rw (some-is (slice_get c.args.self.now.tables.entries.items c.args.at) entry c.index_mut.result.now e here) c.flush.ensures.outside
+
+pub returns-clause-media_reads : goal.returns-clause-media_reads
+returns-clause-media_reads g c = λ entry e.
+    let here : slice_get c.args.self.now.tables.entries.items c.args.at ≡ Some c.index_mut.result.now = entry-at c.args.self.now.tables.entries.items c.args.at c.index_mut.result.now c.requires.at c.index_mut.ensures.value in
+    rw (some-is (slice_get c.args.self.now.tables.entries.items c.args.at) entry c.index_mut.result.now e here) c.flush.ensures.media_reads

@@ -62,3 +62,13 @@ pub returns-clause-same : goal.returns-clause-same
 returns-clause-same g c =
     same-after c.args.self.now.tables.entries.items c.args.at c.index_mut-entry.result.now c.put.new.self
     (entry-at c.args.self.now.tables.entries.items c.args.at c.index_mut-entry.result.now c.requires.at c.index_mut-entry.ensures.value) c.put.ensures.same
+
+pub returns-clause-outside : goal.returns-clause-outside
+returns-clause-outside g c = λ entry e.
+    let here : slice_get c.args.self.now.tables.entries.items c.args.at ≡ Some c.index_mut-entry.result.now = entry-at c.args.self.now.tables.entries.items c.args.at c.index_mut-entry.result.now c.requires.at c.index_mut-entry.ensures.value in
+    rw (some-is (slice_get c.args.self.now.tables.entries.items c.args.at) entry c.index_mut-entry.result.now e here) c.put.ensures.outside
+
+pub returns-clause-media_reads : goal.returns-clause-media_reads
+returns-clause-media_reads g c = λ entry e.
+    let here : slice_get c.args.self.now.tables.entries.items c.args.at ≡ Some c.index_mut-entry.result.now = entry-at c.args.self.now.tables.entries.items c.args.at c.index_mut-entry.result.now c.requires.at c.index_mut-entry.ensures.value in
+    rw (some-is (slice_get c.args.self.now.tables.entries.items c.args.at) entry c.index_mut-entry.result.now e here) c.put.ensures.media_reads

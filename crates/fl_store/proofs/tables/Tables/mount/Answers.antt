@@ -1,10 +1,13 @@
-use Rattle.std.proofs.Common.{rules, ◌≡◌, ℕ, ◌+◌, IsTrue, Some, List, length, refl, sym, ◌∙◌, ap, subst, arith}
+use Rattle.std.proofs.Common.{rules, ◌≡◌, ℕ, ◌+◌, true, IsTrue, Some, List, length, refl, sym, ◌∙◌, ap, subst, arith}
 use Rattle.std.specs.List.{slice_get}
 use Rattle.std.proofs.lemmas.List.{length-set, take_all}
 use Rattle.std.proofs.lemmas.Option.{slice_get_within}
 use Rattle.fl_base.specs.declared.types.Geometry.{Geometry}
 use Rattle.fl_flash.specs.Flash.{page_at}
 use Rattle.fl_ring.specs.Step.{IsWatched}
+use Rattle.fl_rlc.specs.Table.{is_running, table_in}
+use Rattle.fl_rlc.specs.declared.table.LoggedTable.{LoggedTable}
+use Rattle.fl_table.specs.Memory.{pending_in}
 use Rattle.fl_table.specs.Mounting.{FewRepairs}
 use Rattle.fl_table.proofs.MountJoined.{mount-cause-later}
 use Rattle.fl_store.specs.Mounting.{AreUnlogged, MountsInTurn, OutsideStands, rings_of}
@@ -12,7 +15,7 @@ use Rattle.fl_store.specs.Tables.{first_of}
 use Rattle.fl_store.specs.declared.tables.Entry.{Entry}
 use Rattle.fl_store.proofs.InTurn.{turn-before, turn-more, repairs-none, repairs-more, outside-none, outside-more}
 use Rattle.fl_store.proofs.CallsInTurn.{goes-same, goes-on, rose-front, rose-back}
-use Rattle.fl_store.proofs.TablesLie.{lie-with, running-more}
+use Rattle.fl_store.proofs.TablesLie.{each-more, lie-with}
 use Rattle.fl_store.proofs.Planned.{names-still, names-with, plans-still, plans-with}
 use Rattle.fl_store.proofs.MountedSoFar.{mounted-none, mounted-more, mounted-err, mounted-all, own, was, was_at, stood}
 use Rattle.fl_store.proofs.TableRepairs.{known-before, known-there, left-next, left-none}
@@ -32,6 +35,7 @@ loop-i-init g c = record {
   goes = goes-same _;
   power = λ on. on;
   running = λ j entry lt e. absurd (omega (arith, lt));
+  none = λ j entry lt e. absurd (omega (arith, lt));
   ahead = λ j le. refl;
   reads = λ told. omega arith;
   in_turn = λ told. refl;
@@ -153,7 +157,8 @@ loop-i-preserved g c =
       names = names-with c.args.self.now.entries.items c.loop-i.self.entries.items c.loop-i.i c.index_mut.result.now c.mount.new.self here i.names;
       goes = goes-on f m n i.goes p.goes;
       power = λ on. c.in_default.ensures.power (i.power on);
-      running = running-more c.loop-i.self.entries.items c.loop-i.i c.index_mut.result.now c.mount.new.self here i.running c.in_default.ensures.mounted;
+      running = each-more (λ (t : LoggedTable 64 64). is_running t ≡ true) c.loop-i.self.entries.items c.loop-i.i c.index_mut.result.now c.mount.new.self here i.running c.in_default.ensures.mounted;
+      none = each-more (λ (t : LoggedTable 64 64). pending_in (table_in t) ≡ 0) c.loop-i.self.entries.items c.loop-i.i c.index_mut.result.now c.mount.new.self here i.none c.in_default.ensures.none;
       ahead = λ j le. set-elsewhere c.loop-i.self.entries.items c.loop-i.i j (record { name = c.index_mut.result.now.name; table = c.mount.new.self }) (λ is. absurd (omega (arith, le, is))) ∙ i.ahead j (omega (arith, le));
       reads = λ told. reads-more c.args.self.now.entries.items c.loop-i.i c.index_mut.result.now f m n was_here (i.reads told) (p.reads (subst IsTrue (sym i.goes.tells) told));
       in_turn = λ told. turn-more c.loop-i.i c.args.self.now.entries.items c.loop-i.self.entries.items c.index_mut.result.now c.mount.new.self c.in_default.field-0 f m n was_here here p.same
@@ -186,6 +191,10 @@ loop-i-preserved g c =
 pub returns-clause-running : goal.returns-clause-running
 returns-clause-running g c = λ j entry e.
     c.loop-i.invariant.running j entry (omega (arith, slice_get_within c.loop-i.self.entries.items j entry e, c.loop-i-test.false, c.len-i-end.ensures, c.args.self.now.entries.ok.0, c.loop-i.invariant.as_many)) e
+
+pub returns-clause-none : goal.returns-clause-none
+returns-clause-none g c = λ j entry e.
+    c.loop-i.invariant.none j entry (omega (arith, slice_get_within c.loop-i.self.entries.items j entry e, c.loop-i-test.false, c.len-i-end.ensures, c.args.self.now.entries.ok.0, c.loop-i.invariant.as_many)) e
 
 pub returns-clause-ends : goal.returns-clause-ends
 returns-clause-ends g c = λ plans tables rose device watched stand.

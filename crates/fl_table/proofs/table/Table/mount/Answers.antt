@@ -234,6 +234,7 @@ mount_rows-requires g c =
           down = fresh.down;
           calm = fresh.calm;
           none = fresh.none;
+          last = fresh.last;
           empty = fresh.empty;
           bits = fresh.bits;
           ends = fresh.ends;

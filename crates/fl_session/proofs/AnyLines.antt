@@ -1,0 +1,145 @@
+-- Lines that are listed over any bytes.
+use Rattle.std.proofs.Common.{◌≡◌, ℕ, ◌+◌, ◌-◌, ◌^◌, ◌<◌, ◌≤◌, Bool, inl, inr, Option, Some, Result, Ok, Err, IfErr, List, [], ◌∷◌, ◌++◌, length, refl, sym, ◌∙◌, ap, subst, arith, length-append}
+use Rattle.std.specs.Borrow.{Bor}
+use Rattle.std.specs.Prelude.{IfSome}
+use Rattle.std.specs.List.{AllByRecursion, slice_get}
+use Rattle.fl_base.specs.Causes.{Appends, AppendsFront}
+use Rattle.fl_base.specs.declared.stream.SinkFailed.{SinkFailed}
+use Rattle.fl_cursor.specs.Cursor.{IfBad, MayBeBad, table_of}
+use Rattle.fl_cursor.specs.Going.{Keeps}
+use Rattle.fl_cursor.specs.declared.bookmark.Bookmark.{Bookmark}
+use Rattle.fl_cursor.specs.declared.cursor.Cursor.{Cursor}
+use Rattle.fl_flash.specs.Flash.{FlashState}
+use Rattle.fl_machine.proofs.Logs.{all_append}
+use Rattle.fl_page.specs.Contents.{Contents, OnlyReads, contents_of}
+use Rattle.fl_page.specs.declared.fault.BadPage.{BadPage}
+use Rattle.fl_page.specs.declared.fault.ReadFault.{ReadFault}
+use Rattle.fl_page.specs.declared.fault.ReadFault.TheVariants as fault
+use Rattle.fl_script.proofs.SinkPieces.{appends-append}
+use Rattle.fl_script.specs.Written.{Written}
+use Rattle.fl_script.specs.declared.reply.Reply as code
+use Rattle.fl_store.proofs.Appends.{appends-none, front-behind}
+use Rattle.fl_table.specs.declared.table.Table.{Table}
+use Rattle.fl_words.specs.Reply as reply
+use Rattle.fl_words.specs.Reply.{Reply, text, texts}
+use Rattle.fl_store.specs.declared.tables.Entry.{Entry}
+use Rattle.fl_rlc.specs.Table.{table_in}
+use Rattle.fl_session.specs.Caused.{IsOpen, NextMoves, OnlyLooks, state_of}
+use Rattle.fl_session.specs.ListSays.{EndsBy, EndsCounted, EndsNext, EndsOnBoth, GivesLines, IsLineOf, IsPair, IsRow, ListSays, SaysEnd, WroteInto, WroteLines}
+use Rattle.fl_session.specs.Listed.{IfUnread, SaysFault}
+use Rattle.fl_session.specs.Notes.{with_cursor}
+use Rattle.fl_session.specs.declared.listing.ListFault.{ListFault}
+use Rattle.fl_session.specs.declared.notes.Notes.{Notes}
+use Rattle.fl_session.specs.declared.notes.TableCursor.{TableCursor}
+use Rattle.fl_session.specs.declared.listing.ListFault.TheVariants.{Sink, Read}
+use Rattle.fl_session.proofs.ReplyCauses.{only-looks}
+use Rattle.fl_session.proofs.RowLines.{front-last, texts-last, written-last}
+
+pub wrote-none : (IsLine : Reply → Type 0) (most : ℕ) (told : Option (List ℕ)) → WroteLines IsLine most told told 0
+wrote-none IsLine most told = record { lines = []; are_lines = tt; many = refl; upto = omega arith; wrote = appends-none told }
+
+module _ (IsLine : Reply → Type 0) (most : ℕ) (told mid now : Option (List ℕ)) (count : ℕ) (h : WroteLines IsLine most told mid count) (less : count < most) (line : Reply) (is : IsLine line) where
+  lines-more : AllByRecursion IsLine (h.lines ++ line ∷ [])
+  lines-more = all_append IsLine h.lines (line ∷ []) h.are_lines (is, tt)
+
+  one-more : length (h.lines ++ line ∷ []) ≡ count + 1
+  one-more = length-append h.lines (line ∷ []) ∙ ap (λ n. n + 1) h.many
+
+  -- one line more
+  pub wrote-more : Appends mid now (text line) → WroteLines IsLine most told now (count + 1)
+  wrote-more wrote = record {
+    lines = h.lines ++ line ∷ [];
+    are_lines = lines-more;
+    many = one-more;
+    upto = omega (arith, less);
+    wrote = subst (λ (l : List ℕ). Appends told now l) (texts-last h.lines line) (appends-append told mid now (texts h.lines) (text line) h.wrote wrote);
+  }
+
+  -- the sink fails in it
+  pub wrote-into : AppendsFront mid now (text line) → WroteInto IsLine most told now
+  wrote-into wrote = record {
+    lines = h.lines ++ line ∷ [];
+    are_lines = lines-more;
+    upto = omega (arith, one-more, less);
+    wrote = subst (λ (l : List ℕ). AppendsFront told now l) (texts-last h.lines line) (front-behind told mid now (texts h.lines) (text line) h.wrote wrote);
+  }
+
+-- a line that ends a list
+ended : {E : Type 0} (IsLine : Reply → Type 0) (Ends : ℕ → Reply → Type 0) (most : ℕ) (told mid now : Option (List ℕ)) (count : ℕ) (result : Result (Unit {0}) E) (last : Reply) → WroteLines IsLine most told mid count → Ends count last → Written mid now result (text last) →
+    ListSays IsLine Ends told now result
+ended IsLine Ends most told mid now count result last h ends wrote = record {
+  lines = h.lines;
+  are_lines = h.are_lines;
+  last = last;
+  ends = subst (λ n. Ends n last) (sym h.many) ends;
+  written = written-last h.lines last told mid now result h.wrote wrote;
+}
+
+module _ (IsLine : Reply → Type 0) (ending : ℕ → Reply) (most : ℕ) (IsBad : BadPage → Type 0) (f g : FlashState) (told mid now : Option (List ℕ)) (result : Result (Unit {0}) SinkFailed) where
+  -- all were given
+  pub list-ends : (count : ℕ) → GivesLines IsLine IsBad most told mid (Ok count) → Written mid now result (text (ending count)) → ListSays IsLine (EndsBy ending most IsBad f g) told now result
+  list-ends count h wrote = ended IsLine (EndsBy ending most IsBad f g) most told mid now count result (ending count) h (h.upto, inl refl) wrote
+
+  -- .. or the sink failed, or a page wasn't read
+  pub list-fails : (why : ListFault) → GivesLines IsLine IsBad most told mid (Err why) → IfUnread f g why → SaysFault why mid now result → ListSays IsLine (EndsBy ending most IsBad f g) told now result
+  list-fails (Sink failed) h caused said =
+      subst (λ (r : Result (Unit {0}) SinkFailed). ListSays IsLine (EndsBy ending most IsBad f g) told now r) (sym said.0)
+      (subst (λ (o : Option (List ℕ)). ListSays {E = SinkFailed} IsLine (EndsBy ending most IsBad f g) told o (Err failed)) (sym said.1)
+      (record {
+        lines = h.lines;
+        are_lines = h.are_lines;
+        last = ending (length h.lines);
+        ends = (h.upto, inl refl);
+        written = front-last h.lines (ending (length h.lines)) told mid h.wrote;
+      }))
+  list-fails (Read (fault.Flash e)) h caused said = ended IsLine (EndsBy ending most IsBad f g) most told mid now h.0.0 result reply.ReadFault h.0.1 (h.0.1.upto, inr (e, caused)) said
+  list-fails (Read (fault.BadPage bad)) h caused said = ended IsLine (EndsBy ending most IsBad f g) most told mid now h.0.0 result (reply.BadPage bad.wanted) h.0.1 (h.0.1.upto, inr (bad, refl, h.1)) said
+
+-- .. and it is said how many they are
+pub list-ended : (IsLine : Reply → Type 0) (IsBad : BadPage → Type 0) (f g : FlashState) (told mid now : Option (List ℕ)) (result : Result (Unit {0}) SinkFailed) (listed : Result ℕ ListFault) → GivesLines IsLine IsBad (2 ^ 64 - 1) told mid listed → IfErr listed (IfUnread f g) → SaysEnd listed mid now result →
+    ListSays IsLine (EndsCounted IsBad f g) told now result
+list-ended IsLine IsBad f g told mid now result (Ok count) h unread said = list-ends IsLine reply.EndCount (2 ^ 64 - 1) IsBad f g told mid now result count h said
+list-ended IsLine IsBad f g told mid now result (Err why) h unread said = list-fails IsLine reply.EndCount (2 ^ 64 - 1) IsBad f g told mid now result why h unread said
+
+-- a page that isn't read while a cursor goes on is one of its table
+pub bad-from : (first mid : Cursor 64 64) (f between : FlashState) (e : ReadFault) → Keeps first mid → contents_of between ≡ contents_of f → IfBad (MayBeBad (table_of mid) (contents_of between)) e → IfBad (MayBeBad (table_of first) (contents_of f)) e
+bad-from first mid f between e keeps held bad =
+    subst (λ (k : Contents). IfBad (MayBeBad (table_of first) k) e) held
+    (subst (λ (t : Bor (Table 64 64)). IfBad (MayBeBad t.now (contents_of between)) e) keeps.table bad)
+
+-- a fault that is about a page says that of it which the call says
+pub bad-by : {X : Type 0} (IsBad Was : BadPage → Type 0) (e : ReadFault) → ((bad : BadPage) → ◌≡◌ {A = Result X ReadFault} (Err e) (Err (fault.BadPage bad)) → IsBad bad) → ((bad : BadPage) → IsBad bad → Was bad) → IfBad Was e
+bad-by IsBad Was (fault.Flash x) h k = tt
+bad-by IsBad Was (fault.BadPage bad) h k = k bad (h bad refl)
+
+-- a line that was made, if there is one
+pub made-line : (IsLine : Reply → Type 0) (o : Option code.Reply) (made : code.Reply) → o ≡ Some made → IfSome o (λ reply. IsLineOf IsLine reply) → IsLineOf IsLine made
+made-line IsLine o made is h = subst (λ (x : Option code.Reply). IfSome x (λ reply. IsLineOf IsLine reply)) is h
+
+-- lines of the table, by whichever name
+pub lists-of : (IsLine : Reply → Type 0) (Ends : Table 64 64 → FlashState → FlashState → ℕ → Reply → Type 0) (t u : Table 64 64) (f g : FlashState) (told told_now : Option (List ℕ)) (result : Result (Unit {0}) SinkFailed) → t ≡ u →
+    ListSays IsLine (Ends t f g) told told_now result → ListSays IsLine (Ends u f g) told told_now result
+lists-of IsLine Ends t u f g told told_now result same h = subst (λ (x : Table 64 64). ListSays IsLine (Ends x f g) told told_now result) same h
+
+pub lists-of_both : (t u v w : Table 64 64) (f g : FlashState) (told told_now : Option (List ℕ)) (result : Result (Unit {0}) SinkFailed) → t ≡ v → u ≡ w → ListSays IsPair (EndsOnBoth t u f g) told told_now result →
+    ListSays IsPair (EndsOnBoth v w f g) told told_now result
+lists-of_both t u v w f g told told_now result left right h =
+    subst (λ (x : Table 64 64). ListSays IsPair (EndsOnBoth v x f g) told told_now result) right (subst (λ (x : Table 64 64). ListSays IsPair (EndsOnBoth x u f g) told told_now result) left h)
+
+-- a table of a session was looked at, and lines of it were listed
+pub looks-lists : (entries : List Entry) (mounted : Bool) (a b c : Notes) (IsLine : Reply → Type 0) (Ends : Table 64 64 → FlashState → FlashState → ℕ → Reply → Type 0) (t u : Table 64 64) (f g : FlashState) (told told_now : Option (List ℕ)) (result : Result (Unit {0}) SinkFailed) →
+    b ≡ c → OnlyReads f g → t ≡ u → ListSays IsLine (Ends t f g) told told_now result → OnlyLooks (state_of entries mounted a f) (state_of entries mounted b g) c × ListSays IsLine (Ends u f g) told told_now result
+looks-lists entries mounted a b c IsLine Ends t u f g told told_now result noted reads same h = (only-looks entries mounted a b c f g noted reads, lists-of IsLine Ends t u f g told told_now result same h)
+
+-- .. by a cursor, which moved
+pub next-moves : (entries : List Entry) (mounted : Bool) (a b : Notes) (n count : ℕ) (held : TableCursor) (entry : Entry) (t : Table 64 64) (mark : Bookmark) (f g : FlashState) (told told_now : Option (List ℕ)) (result : Result (Unit {0}) SinkFailed) →
+    IsOpen (state_of entries mounted a f) n held → slice_get entries held.table ≡ Some entry → b ≡ with_cursor a n (Some (record held { mark = mark })) → OnlyReads f g → t ≡ table_in entry.table → ListSays IsRow (EndsNext count t f g) told told_now result →
+    NextMoves (state_of entries mounted a f) (state_of entries mounted b g) n count told told_now result
+next-moves entries mounted a b n count held entry t mark f g told told_now result is_open here moved reads same h =
+    let both = looks-lists entries mounted a b (with_cursor a n (Some (record held { mark = mark }))) IsRow (EndsNext count) t (table_in entry.table) f g told told_now result moved reads same h in
+    record { held = held; is_open = is_open; entry = entry; here = here; lists = both.1; mark = mark; looks = both.0 }
+
+-- two tables of a session were looked at, and pairs of their rows were listed
+pub looks-pairs : (entries : List Entry) (mounted : Bool) (a b c : Notes) (t u v w : Table 64 64) (f g : FlashState) (told told_now : Option (List ℕ)) (result : Result (Unit {0}) SinkFailed) → b ≡ c → OnlyReads f g → t ≡ v → u ≡ w →
+    ListSays IsPair (EndsOnBoth t u f g) told told_now result → OnlyLooks (state_of entries mounted a f) (state_of entries mounted b g) c × ListSays IsPair (EndsOnBoth v w f g) told told_now result
+looks-pairs entries mounted a b c t u v w f g told told_now result noted reads left right h = (only-looks entries mounted a b c f g noted reads, lists-of_both t u v w f g told told_now result left right h)

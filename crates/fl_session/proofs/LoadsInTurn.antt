@@ -1,0 +1,91 @@
+-- The records of a load, put one after another, and what became of the next one.
+use Rattle.std.proofs.Common.{◌≡◌, ◌⊎◌, ℕ, suc, ◌+◌, Bool, true, false, inl, inr, Option, None, Some, Result, Ok, Err, IfErr, List, [], ◌∷◌, ◌++◌, refl, sym, ◌∙◌, ap, subst, arith}
+use Rattle.std.specs.Prelude.{is_err, OnOk, ℤ}
+use Rattle.fl_base.specs.Causes.{Rose}
+use Rattle.fl_flash.specs.Flash.{FlashState, Goes}
+use Rattle.fl_flash.specs.declared.flash.FlashFault.{FlashFault}
+use Rattle.fl_flash.specs.declared.flash.FlashFault.TheVariants.{PowerLost, Media}
+use Rattle.fl_model.specs.Row.{Row}
+use Rattle.fl_ring.specs.Causes.{CausedBy}
+use Rattle.fl_rlc.specs.Refusal.{NeedsNoOperation, RefusedSame, put_refusal}
+use Rattle.fl_rlc.specs.Rows.{HaveLogged}
+use Rattle.fl_rlc.specs.Table.{IsSamePlan, log_in, table_in}
+use Rattle.fl_rlc.specs.declared.table.LoggedTable.{LoggedTable}
+use Rattle.fl_table.specs.Causes.{PutCausedBy}
+use Rattle.fl_table.specs.Look.{last_key_in, layout_in}
+use Rattle.fl_table.specs.Memory.{HasRoom, PendingAre, pending_in}
+use Rattle.fl_table.specs.Refusal.{RefusesAs}
+use Rattle.fl_table.specs.declared.faults.PutRefusal.{PutRefusal}
+use Rattle.fl_table.specs.declared.faults.PutRefusal.TheVariants as put
+use Rattle.fl_store.proofs.CallsInTurn.{rose-back}
+use Rattle.fl_machine.specs.Step.{next_random}
+use Rattle.fl_session.specs.LoadSays.{LoadEnds, LoadFails, Loads, LoadsNext, next_row, random_at}
+
+-- ---- the next record
+
+abbrev row_of : ℕ → List ℤ → Row
+row_of key values = record { key = key; values = values; blob = None }
+
+module _ (step seed n : ℕ) (t u : LoggedTable 64 64) (m g : FlashState) (key : ℕ) (values : List ℤ) (k : key ≡ (next_row t step seed n).key) (v : values ≡ (next_row t step seed n).values) where
+  row-is : row_of key values ≡ next_row t step seed n
+  row-is = ap (λ (x : ℕ). row_of x values) k ∙ ap (λ (vs : List ℤ). row_of (next_row t step seed n).key vs) v
+
+  -- it was put
+  pub loads-next : (outcome : Result (Unit {0}) PutRefusal) → is_err outcome ≡ false → RefusesAs (put_refusal t key values None) outcome → OnOk outcome (last_key_in (table_in u) ≡ Some key) →
+      OnOk outcome (HasRoom (table_in t) → pending_in (table_in u) ≡ pending_in (table_in t) + 1) →
+      OnOk outcome (HasRoom (table_in t) → ◌≡◌ {A = Option (List ℕ)} None None → (rows : List Row) → PendingAre (table_in t) rows → PendingAre (table_in u) (rows ++ row_of key values ∷ [])) →
+      OnOk outcome (HaveLogged (layout_in (table_in t)) (row_of key values) (log_in t) (log_in u)) → (put_refusal t key values None ≡ None → NeedsNoOperation t None → (outcome ≡ Ok tt) × (g ≡ m)) →
+      OnOk outcome (m.is_on ≡ true → g.is_on ≡ true) → IsSamePlan t u → LoadsNext step seed n t m u g
+  loads-next (Err e) ok exact last pending rows logs quiet power same = absurd (cc ok)
+  loads-next (Ok done) ok exact last pending rows logs quiet power same =
+      let accepted : put_refusal t key values None ≡ None = accepts (put_refusal t key values None) exact in
+      record {
+        accepted = subst (λ (r : Row). put_refusal t r.key r.values None ≡ None) row-is accepted;
+        last = subst (λ (r : Row). last_key_in (table_in u) ≡ Some r.key) row-is last;
+        pending = pending;
+        rows = λ room given are. subst (λ (r : Row). PendingAre (table_in u) (given ++ r ∷ [])) row-is (rows room refl given are);
+        logs = subst (λ (r : Row). HaveLogged (layout_in (table_in t)) r (log_in t) (log_in u)) row-is logs;
+        quiet = λ none. (quiet accepted none).1;
+        power = power;
+        same = same;
+      }
+    where
+      accepts : (o : Option PutRefusal) → RefusesAs o (Ok tt) → o ≡ None
+      accepts None is = refl
+      accepts (Some refusal) is = absurd (cc is)
+
+  -- it wasn't
+  pub load-ends : (outcome : Result (Unit {0}) PutRefusal) → is_err outcome ≡ true → RefusesAs (put_refusal t key values None) outcome → IfErr outcome (λ e. RefusedSame t m e u g) → LoadEnds step seed n t m outcome u g
+  load-ends (Ok done) err exact same = absurd (cc err)
+  load-ends (Err refusal) err exact same = (subst (λ (r : Row). RefusesAs (put_refusal t r.key r.values None) (Err refusal)) row-is exact, same)
+
+-- ---- so many of them
+
+pub loads-more : (step seed n : ℕ) (t mid u : LoggedTable 64 64) (f m g : FlashState) → Loads step seed n t f mid m → LoadsNext step seed n mid m u g → Loads step seed (n + 1) t f u g
+loads-more step seed n t mid u f m g puts one = subst (λ k. Loads step seed k t f u g) (let s : suc n ≡ n + 1 = omega arith in s) (mid, m, puts, one)
+
+-- the pseudo-random number of one more
+pub random-more : (seed n was now : ℕ) → now ≡ next_random was → was ≡ random_at seed n → now ≡ random_at seed (n + 1)
+random-more seed n was now next is = next ∙ (ap (λ (r : ℕ). next_random r) is ∙ ap (random_at seed) (let s : suc n ≡ n + 1 = omega arith in s))
+
+-- ---- a cause in the last of some calls, of which those before left the power on
+
+off-before : (P : Type 0) (was now : Bool) → (was ≡ true → now ≡ true) → (now ≡ false) ⊎ P → (was ≡ false) ⊎ P
+off-before P false now kept cause = inl refl
+off-before P true now kept (inl off) = absurd (let on = kept refl in cc (on, off))
+off-before P true now kept (inr p) = inr p
+
+caused-before : (f m n : FlashState) (fault : FlashFault) → (f.is_on ≡ true → m.is_on ≡ true) → Goes f m → CausedBy m fault n → CausedBy f fault n
+caused-before f m n PowerLost kept goes (inl off) = off-before (Rose f.cuts n.cuts) f.is_on m.is_on kept (inl off)
+caused-before f m n PowerLost kept goes (inr rose) = inr (rose-back f.cuts m.cuts n.cuts goes.cuts rose)
+caused-before f m n Media kept goes rose = rose-back f.media.faults m.media.faults n.media.faults goes.faults rose
+
+pub load-fails : (f m n : FlashState) (outcome : Result (Unit {0}) PutRefusal) → (f.is_on ≡ true → m.is_on ≡ true) → Goes f m → IfErr outcome (λ e. PutCausedBy m e n) → IfErr outcome (LoadFails f n)
+load-fails f m n (Ok done) on goes cause = tt
+load-fails f m n (Err (put.Flash fault)) on goes cause = caused-before f m n fault on goes cause
+load-fails f m n (Err (put.Key last)) on goes cause = tt
+load-fails f m n (Err (put.Columns wanted)) on goes cause = tt
+load-fails f m n (Err (put.Value column)) on goes cause = tt
+load-fails f m n (Err (put.Blob limit)) on goes cause = tt
+load-fails f m n (Err put.Spent) on goes cause = tt
+load-fails f m n (Err put.Stopped) on goes cause = tt

@@ -1,0 +1,104 @@
+-- The replies of a command that lists, over any bytes and on any medium.
+use Rattle.std.specs.Prelude.{◌≡◌, ◌⊎◌, ℕ, ◌-◌, ◌^◌, ◌≤◌, ◌++◌, Option, Result, Ok, Err, List, [], ◌∷◌, length}
+use Rattle.std.specs.List.{AllByRecursion}
+use Rattle.fl_base.specs.Causes.{Appends, AppendsFront}
+use Rattle.fl_base.specs.declared.stream.SinkFailed.{SinkFailed}
+use Rattle.fl_cursor.specs.Cursor.{IfBad, MayBeBad}
+use Rattle.fl_flash.specs.Flash.{FlashState}
+use Rattle.fl_flash.specs.declared.flash.FlashFault.{FlashFault}
+use Rattle.fl_page.specs.Contents.{IsCaused, contents_of}
+use Rattle.fl_page.specs.declared.fault.BadPage.{BadPage}
+use Rattle.fl_page.specs.declared.fault.ReadFault.TheVariants as fault
+use Rattle.fl_script.specs.ReplyView.{reply_text}
+use Rattle.fl_script.specs.Written.{Written}
+use Rattle.fl_script.specs.declared.reply.Reply as code
+use Rattle.fl_table.specs.declared.table.Table.{Table}
+use Rattle.fl_words.specs.Reply as reply
+use Rattle.fl_words.specs.Reply.{Reply, text, texts}
+use Rattle.fl_session.specs.Listed.{SaysFault}
+use Rattle.fl_session.specs.Nexts.{ending_of}
+use Rattle.fl_session.specs.declared.listing.ListFault.{ListFault}
+use Rattle.fl_session.specs.declared.listing.ListFault.TheVariants.{Sink, Read}
+
+-- the line of a row, of its fields, of a group, of a pair
+abbrev pub IsRow : Reply → Type 0
+IsRow (reply.Row key values note) = Unit {0}
+IsRow _ = ⊥
+
+abbrev pub IsFields : Reply → Type 0
+IsFields (reply.Fields fields) = Unit {0}
+IsFields _ = ⊥
+
+abbrev pub IsGroup : Reply → Type 0
+IsGroup (reply.Group group count least greatest sum mean) = Unit {0}
+IsGroup _ = ⊥
+
+abbrev pub IsPair : Reply → Type 0
+IsPair (reply.Pair key left right) = Unit {0}
+IsPair _ = ⊥
+
+-- a line of a kind that was made
+pub record IsLineOf (IsLine : Reply → Type 0) (made : code.Reply) : Type 0 where
+  pub line : Reply
+  pub text_is : reply_text made ≡ text line
+  pub is_line : IsLine line
+
+-- so many lines of this kind were written, and no more than a number
+pub record WroteLines (IsLine : Reply → Type 0) (most : ℕ) (told told_now : Option (List ℕ)) (count : ℕ) : Type 0 where
+  pub lines : List Reply
+  pub are_lines : AllByRecursion IsLine lines
+  pub many : length lines ≡ count
+  pub upto : count ≤ most
+  pub wrote : Appends told told_now (texts lines)
+
+-- .. and the sink failed in one of them
+pub record WroteInto (IsLine : Reply → Type 0) (most : ℕ) (told told_now : Option (List ℕ)) : Type 0 where
+  pub lines : List Reply
+  pub are_lines : AllByRecursion IsLine lines
+  pub upto : length lines ≤ most
+  pub wrote : AppendsFront told told_now (texts lines)
+
+-- Lines of this kind were written and counted. Or the sink failed in one of them, or a page behind some of them wasn't read.
+abbrev pub GivesLines : (Reply → Type 0) → (BadPage → Type 0) → ℕ → Option (List ℕ) → Option (List ℕ) → Result ℕ ListFault → Type 0
+GivesLines IsLine IsBad most told told_now (Ok count) = WroteLines IsLine most told told_now count
+GivesLines IsLine IsBad most told told_now (Err (Sink failed)) = WroteInto IsLine most told told_now
+GivesLines IsLine IsBad most told told_now (Err (Read fault)) = ((count : ℕ) × WroteLines IsLine most told told_now count) × IfBad IsBad fault
+
+-- what is said behind lines: how many they are, or that a page wasn't read; and nothing more to a sink that failed
+abbrev pub SaysEnd : Result ℕ ListFault → Option (List ℕ) → Option (List ℕ) → Result (Unit {0}) SinkFailed → Type 0
+SaysEnd (Ok count) told told_now result = Written told told_now result (text (reply.EndCount count))
+SaysEnd (Err why) told told_now result = SaysFault why told told_now result
+
+-- Lines of this kind were written, and behind them one that ends the list, by their number; or a front of all these where the
+-- sink failed.
+pub record ListSays {E : Type 0} (IsLine : Reply → Type 0) (Ends : ℕ → Reply → Type 0) (told told_now : Option (List ℕ)) (result : Result (Unit {0}) E) : Type 0 where
+  pub lines : List Reply
+  pub are_lines : AllByRecursion IsLine lines
+  pub last : Reply
+  pub ends : Ends (length lines) last
+  pub written : Written told told_now result (texts (lines ++ last ∷ []))
+
+-- A page wasn't read: the power was off, or the medium failed in the command; or the page is a bad one.
+abbrev pub IsUnread : (BadPage → Type 0) → FlashState → FlashState → Reply → Type 0
+IsUnread IsBad old new reply.ReadFault = (e : FlashFault) × IsCaused old (fault.Flash e) new
+IsUnread IsBad old new (reply.BadPage number) = (bad : BadPage) × (bad.wanted ≡ number) × IsBad bad
+IsUnread IsBad old new _ = ⊥
+
+-- What ends a list of so many lines: what is said of their number, or that a page wasn't read.
+abbrev pub EndsBy : (ℕ → Reply) → ℕ → (BadPage → Type 0) → FlashState → FlashState → ℕ → Reply → Type 0
+EndsBy ending most IsBad old new count last = (count ≤ most) × ((last ≡ ending count) ⊎ IsUnread IsBad old new last)
+
+-- .. whose number is told
+abbrev pub EndsCounted : (BadPage → Type 0) → FlashState → FlashState → ℕ → Reply → Type 0
+EndsCounted IsBad = EndsBy reply.EndCount (2 ^ 64 - 1) IsBad
+
+-- .. of one table, which keeps the page, or of two
+abbrev pub EndsOn : Table 64 64 → FlashState → FlashState → ℕ → Reply → Type 0
+EndsOn t old new = EndsCounted (MayBeBad t (contents_of old)) old new
+
+abbrev pub EndsOnBoth : Table 64 64 → Table 64 64 → FlashState → FlashState → ℕ → Reply → Type 0
+EndsOnBoth t u old new = EndsCounted (λ bad. MayBeBad t (contents_of old) bad ⊎ MayBeBad u (contents_of old) bad) old new
+
+-- what ends the rows that a cursor gives, where so many were asked for
+abbrev pub EndsNext : ℕ → Table 64 64 → FlashState → FlashState → ℕ → Reply → Type 0
+EndsNext asked t old new = EndsBy (ending_of asked) asked (MayBeBad t (contents_of old)) old new
