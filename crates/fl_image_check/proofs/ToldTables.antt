@@ -8,6 +8,7 @@ use Rattle.fl_base.specs.Causes.{Appends, AppendsFront}
 use Rattle.fl_base.specs.declared.types.RingPlace.{RingPlace}
 use Rattle.fl_flash.specs.Flash.{FlashState, Goes}
 use Rattle.fl_flash.specs.Places.{extent}
+use Rattle.fl_flash.proofs.Counts.{counted-same, counted-then}
 use Rattle.fl_model.specs.Bare.{bare}
 use Rattle.fl_model.specs.Record.{Plan, blocks_of}
 use Rattle.fl_words.specs.Config.{Lines}
@@ -94,6 +95,7 @@ goes-same f = record {
   back = λ t. refl;
   cuts = omega arith;
   faults = omega arith;
+  counted = counted-same f f refl refl refl;
 }
 
 pub looks-none : (f : FlashState) → OnlyLooks f f
@@ -114,6 +116,7 @@ looks-on old mid new a b =
         back = λ t. ap (λ (l : List ℕ). drop (old.start + extent old.geometry old.blocks) l) same;
         cuts = omega (arith, a.goes.cuts, b.goes.cuts);
         faults = omega (arith, a.goes.faults, b.goes.faults);
+        counted = counted-then old mid new a.goes.counted b.goes.counted;
       };
       content = same;
       armed = b.armed ∙ a.armed;

@@ -4,7 +4,7 @@ use Rattle.fl_base.specs.declared.types.Geometry.{Geometry}
 use Rattle.fl_flash.specs.Buffer.{BufferState}
 use Rattle.fl_flash.specs.Media.{next_count}
 use Rattle.fl_flash.specs.Places.{extent}
-use Rattle.fl_flash.specs.Flash.{FlashState, Goes, ReadsPage}
+use Rattle.fl_flash.specs.Flash.{FlashState, Goes, IsCounted, ReadsPage}
 use Rattle.fl_flash.specs.declared.flash.Work.{Work}
 use Rattle.fl_flash.specs.declared.flash.FlashFault.{FlashFault}
 use Rattle.fl_flash.specs.declared.flash.FlashFault.TheVariants.{PowerLost, Media}
@@ -63,6 +63,30 @@ OnlyReads-read old new page size result into is = by_power old.is_on refl
     }
     by_power false e = let P : FlashState → Type 0 = λ f. OnlyReads old f in subst P (sym (is.off e).1) (OnlyReads-same old)
 
+-- a count that isn't at its end rose by each read
+pub counted-exact : (n before : ℕ) → counted n before < 2 ^ 64 - 1 → counted n before ≡ before + n
+counted-exact zero before below = omega arith
+counted-exact (suc n) before below =
+    let less : counted n before < 2 ^ 64 - 1 = omega arith in
+    omega (arith, counted-exact n before less)
+
+-- .. and none by more
+pub counted-most : (n before : ℕ) → counted n before ≤ before + n
+counted-most zero before = omega arith
+counted-most (suc n) before = omega (arith, counted-most n before)
+
+-- flash and medium count the same reads
+reads-counted : (old new : FlashState) → OnlyReads old new → IsCounted old new
+reads-counted old new is reads programs =
+    let count : new.work.reads ≡ counted is.reads old.work.reads = ap (λ (w : Work). w.reads) is.work in
+    let same : new.work.programs ≡ old.work.programs = ap (λ (w : Work). w.programs) is.work in
+    let rises = counted-exact is.reads old.work.reads (omega (arith, count, reads)) in
+    record {
+      reads = omega (arith, count, rises);
+      programs = omega (arith, same);
+      medium = omega (arith, count, rises, same, is.media, counted-most is.reads old.media.reads);
+    }
+
 -- what such a call keeps
 pub OnlyReads-goes : (old new : FlashState) → OnlyReads old new → Goes old new
 OnlyReads-goes old new is = record {
@@ -76,20 +100,14 @@ OnlyReads-goes old new is = record {
   back = λ told. ap (λ (c : Contents). drop (old.start + extent old.geometry old.blocks) c.bytes) is.contents;
   cuts = omega (arith, is.cuts);
   faults = is.faults;
+  counted = reads-counted old new is;
 }
-
--- a count that isn't at its end rose by each read
-counted-rises : (n before : ℕ) → counted n before < 2 ^ 64 - 1 → before ≤ counted n before
-counted-rises zero before below = omega arith
-counted-rises (suc n) before below =
-    let less : counted n before < 2 ^ 64 - 1 = omega arith in
-    omega (arith, counted-rises n before less)
 
 -- where the count of reads isn't at its end it didn't fall
 pub OnlyReads-reads : (a b : FlashState) → OnlyReads a b → b.work.reads < 2 ^ 64 - 1 → a.work.reads ≤ b.work.reads
 OnlyReads-reads a b is below =
     let count : b.work.reads ≡ counted is.reads a.work.reads = ap (λ (w : Work). w.reads) is.work in
-    omega (arith, count, counted-rises is.reads a.work.reads (omega (arith, count)))
+    omega (arith, count, counted-exact is.reads a.work.reads (omega (arith, count)))
 
 -- a read that failed has its cause
 pub IsCaused-read : (old new : FlashState) (page size : ℕ) (result : Result (Unit {0}) FlashFault) (into : BufferState) → ReadsPage old page size result into new → IfErr result (λ fault. IsCaused old (Flash fault) new)

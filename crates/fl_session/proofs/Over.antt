@@ -114,6 +114,8 @@ ends-opened knots text lines first number state left left_now told told_now conf
       content_now = refl;
       faults_now = refl;
       faults = later;
+      reads_now = refl;
+      reads = opened.reads;
       written = refl;
       written_now = refl;
       own = opened.own tells;

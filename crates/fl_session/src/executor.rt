@@ -5,6 +5,7 @@ ghost use Rattle.fl_flash.specs.Flash.{FlashState, Goes};
 ghost use Rattle.fl_model.specs.Record.{Config, Plan};
 ghost use Rattle.fl_machine.specs.Machine.{Machine};
 ghost use Rattle.fl_machine.specs.Small.{AreTables};
+ghost use Rattle.fl_ring.specs.Device.{SameDevice};
 ghost use Rattle.fl_rlc.specs.Rings.{rings_in};
 ghost use Rattle.fl_rlc.specs.Table.{table_in};
 ghost use Rattle.fl_script.specs.CommandView.{command_view};
@@ -101,6 +102,9 @@ pub trait Executor {
 
     /// Each table of a state for which it stands is one of its plan.
     ghost tables_hold: { (s : Self) (config : Config) (m : Machine) → stands s config m → AreTables config.plans m.tables };
+
+    /// It counts the programs and erases of its flash.
+    ghost same_device: { (s : Self) (config : Config) (m : Machine) → stands s config m → SameDevice (flash s) m.device };
 
     /// The keys of each of its tables have eight bytes at most.
     ghost keys_fit: { (s : Self) (config : Config) (m : Machine) → stands s config m → (place : ℕ) (plan : Plan) → slice_get config.plans place ≡ Some plan → plan.key_bytes ≤ 8 };

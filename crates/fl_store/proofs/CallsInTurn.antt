@@ -5,6 +5,7 @@ use Rattle.fl_base.specs.declared.types.RingPlace.{RingPlace}
 use Rattle.fl_flash.specs.Flash.{FlashState, Goes}
 use Rattle.fl_flash.specs.Places.{extent}
 use Rattle.fl_flash.specs.declared.armed.Armed.{Armed}
+use Rattle.fl_flash.proofs.Counts.{counted-same, counted-then}
 use Rattle.fl_model.specs.Bare.{bare}
 use Rattle.fl_model.specs.Record.{Plan, blocks_of}
 use Rattle.fl_table.proofs.SealAnswers as without_log
@@ -27,6 +28,7 @@ goes-set f is_on armed = record {
   back = λ t. refl;
   cuts = omega arith;
   faults = omega arith;
+  counted = counted-same f (record f { is_on = is_on; armed = armed }) refl refl refl;
 }
 
 pub goes-on : (old mid new : FlashState) → Goes old mid → Goes mid new → Goes old new
@@ -46,6 +48,7 @@ goes-on old mid new a b = record {
       subst (λ n. drop n new.media.content ≡ drop n mid.media.content) same k ∙ a.back t;
   cuts = le_trans a.cuts b.cuts;
   faults = le_trans a.faults b.faults;
+  counted = counted-then old mid new a.counted b.counted;
 }
 
 -- .. or nothing

@@ -1,11 +1,11 @@
 -- Reads leave a table as it stands.
-use Rattle.std.proofs.Common.{◌≡◌, ℕ, ◌<◌, ◌≤◌, ◌^◌, ◌*◌, ◌+◌, ◌-◌, Bool, true, false, Option, Some, option_map, unwrap_or, Result, Err, List, length, take, drop, refl, sym, ◌∙◌, ap, subst, arith}
+use Rattle.std.proofs.Common.{◌≡◌, ℕ, ◌<◌, ◌≤◌, ◌^◌, ◌*◌, ◌+◌, ◌-◌, Bool, true, false, Option, Some, option_map, unwrap_or, Result, Err, List, length, refl, sym, ◌∙◌, ap, subst, arith}
 use Rattle.fl_flash.specs.Buffer.{BufferState}
 use Rattle.fl_flash.specs.Flash.{FlashState, Goes, ReadsPage, page_at, pages}
 use Rattle.fl_flash.specs.Media.{next_count}
-use Rattle.fl_flash.specs.Places.{extent}
+use Rattle.fl_flash.proofs.Counts.{counted-same}
 use Rattle.fl_page.specs.Contents as contents
-use Rattle.fl_page.specs.Contents.{Contents}
+use Rattle.fl_page.proofs.ReadsInTurn.{OnlyReads-goes}
 use Rattle.fl_flash.specs.declared.flash.FlashFault.{FlashFault}
 use Rattle.fl_flash.specs.declared.flash.Work.{Work}
 use Rattle.fl_model.specs.Record.{Plan}
@@ -68,7 +68,7 @@ lies-still t f g n reads lies = lies-moved t f g reads.goes lies
 -- the power came on again
 pub lies-powered : {KNOTS SLOTS : ℕ} (t : Table KNOTS SLOTS) (f : FlashState) (on : Bool) → LiesOn t f → LiesOn t (record f { is_on = on })
 lies-powered t f on lies =
-    lies-moved t f (record f { is_on = on }) (record { geometry = refl; blocks = refl; start = refl; origin = refl; tells = refl; size = refl; front = λ told. refl; back = λ told. refl; cuts = omega arith; faults = omega arith }) lies
+    lies-moved t f (record f { is_on = on }) (record { geometry = refl; blocks = refl; start = refl; origin = refl; tells = refl; size = refl; front = λ told. refl; back = λ told. refl; cuts = omega arith; faults = omega arith; counted = counted-same f (record f { is_on = on }) refl refl refl }) lies
 
 -- why a read of a page failed
 pub read-fails : (old new : FlashState) (page size : ℕ) (fault : FlashFault) (into : BufferState) → ReadsPage old page size (Err fault) into new → ReadFails old fault new
@@ -113,24 +113,8 @@ read-once old new page size result into is = by_power old.is_on refl
         })
 
 -- calls that only read leave all in its place
-pub read-goes : (f g : FlashState) → contents.OnlyReads f g → Goes f g
-read-goes f g reads =
-    let bytes : g.media.content ≡ f.media.content = ap (λ (c : Contents). c.bytes) reads.contents in
-    record {
-      geometry = ap (λ (c : Contents). c.geometry) reads.contents;
-      blocks = ap (λ (c : Contents). c.blocks) reads.contents;
-      start = ap (λ (c : Contents). c.start) reads.contents;
-      origin = reads.origin;
-      tells = ap (λ (c : Contents). c.tells) reads.contents;
-      size = ap (λ (xs : List ℕ). length xs) bytes;
-      front = λ told. ap (λ (xs : List ℕ). take f.start xs) bytes;
-      back = λ told. ap (λ (xs : List ℕ). drop (f.start + extent f.geometry f.blocks) xs) bytes;
-      cuts = omega (arith, reads.cuts);
-      faults = reads.faults;
-    }
-
 pub lies-read : {KNOTS SLOTS : ℕ} (t : Table KNOTS SLOTS) (f g : FlashState) → contents.OnlyReads f g → LiesOn t f → LiesOn t g
-lies-read t f g reads lies = lies-moved t f g (read-goes f g reads) lies
+lies-read t f g reads lies = lies-moved t f g (OnlyReads-goes f g reads) lies
 
 -- no more pages are read than its ring keeps, and one
 pub most-kept : {KNOTS SLOTS : ℕ} (t : Table KNOTS SLOTS) (f g : FlashState) (ring : Ring) → t.ring ≡ Some ring → g.work.reads ≤ f.work.reads + (next_of ring - oldest_of ring) + 1 → g.work.reads ≤ f.work.reads + (next_in t - oldest_in t) + 1
