@@ -76,6 +76,7 @@ OnlyReads-goes old new is = record {
   back = λ told. ap (λ (c : Contents). drop (old.start + extent old.geometry old.blocks) c.bytes) is.contents;
   cuts = omega (arith, is.cuts);
   faults = is.faults;
+  power = λ none. record { unarmed = is.armed ∙ none; on = λ on. is.power ∙ on; cuts = is.cuts };
 }
 
 -- a count that isn't at its end rose by each read

@@ -5,6 +5,7 @@ use Rattle.fl_flash.specs.Flash.{FlashState, page_at, Goes, HasFlashCause, Progr
 use Rattle.fl_flash.specs.Places.{extent}
 use Rattle.fl_flash.specs.declared.flash.FlashFault.{FlashFault}
 use Rattle.fl_flash.specs.declared.flash.FlashFault.TheVariants.{PowerLost, Media}
+use Rattle.fl_flash.proofs.Frame.{cut-later, goes-then}
 use Rattle.fl_mark.specs.Mark.{all_are}
 use Rattle.fl_model.specs.Work.{Device, Body, Mark, Erase, counted}
 use Rattle.fl_ring.specs.declared.ring.Ring.{Ring}
@@ -22,7 +23,6 @@ use Rattle.fl_ring.proofs.Numbered.{numbered_begun}
 use Rattle.fl_ring.proofs.OperationsOutside.{operates_program, step_program, others_by}
 use Rattle.fl_ring.proofs.Outcomes.{on_ok_from, ok_at}
 use Rattle.fl_ring.proofs.OperationsInTurn.{performed_err, watched_first, watched_then}
-use Rattle.fl_ring.proofs.ReadsInTurn.{goes_more}
 use Rattle.fl_ring.proofs.SealSteps.{seals_of, begun_stands, mark_failed}
 use Rattle.fl_ring.proofs.Sums.{outside_more}
 
@@ -78,7 +78,7 @@ caused_then : (f mid g : FlashState) (result : Result (Unit {0}) FlashFault) →
 caused_then f mid g (Ok u) goes on cause = tt
 caused_then f mid g (Err PowerLost) goes on cause = elim (cause.power refl) [
   | inl off ↦ absurd (cc (off, on))
-  | inr rose ↦ inr (omega (arith, rose, goes.cuts))
+  | inr cut ↦ inr (cut-later f mid g goes cut)
 ]
 caused_then f mid g (Err Media) goes on cause = let rose = cause.media refl in omega (arith, rose, goes.faults)
 
@@ -99,7 +99,7 @@ module _ (ring : Ring) (body : List ℕ) (f g : FlashState) (result : Result (Un
       let first = m.body_first.operates in
       let second = m.mark_then.operates in
       record {
-        goes = goes_more f m.begun g first.goes second.goes;
+        goes = goes-then f m.begun g first.goes second.goes;
         outside = outside_more (shape_of ring) f m.begun g first.goes first.outside second.outside;
         cause = caused_then f m.begun g result first.goes first.cause.on second.cause;
         off = λ is_off. absurd (let h = (first.off is_off).0 in cc h);

@@ -1,18 +1,15 @@
 -- The causes of replies, over any bytes.
-use Rattle.std.proofs.Common.{◌≡◌, ◌⊎◌, ℕ, ◌+◌, ◌<◌, ◌≤◌, Bool, true, false, not, nat_lt, inl, inr, Option, None, Some, Result, Ok, Err, IfErr, List, [], ◌∷◌, length, refl, sym, ◌∙◌, ap, subst}
+use Rattle.std.proofs.Common.{◌≡◌, ℕ, ◌+◌, ◌<◌, ◌≤◌, Bool, true, false, not, nat_lt, inl, inr, Option, None, Some, Result, Ok, Err, IfErr, List, [], ◌∷◌, length, refl, sym, ◌∙◌, ap, subst}
 use Rattle.std.specs.Prelude.{◌↔◌, is_err, unwrap_or, OnOk, ℤ}
 use Rattle.std.specs.List.{slice_get}
 use Rattle.std.specs.Option.{is_none}
 use Rattle.std.proofs.lemmas.Bool.{lt-ltb, le-ltb}
 use Rattle.fl_model.specs.Record.{RowLayout}
 use Rattle.fl_page.specs.Contents.{OnlyReads}
-use Rattle.fl_base.specs.Causes.{Rose}
 use Rattle.fl_cursor.specs.declared.bookmark.Bookmark.{Bookmark}
 use Rattle.fl_flash.specs.Flash.{FlashState, Goes}
-use Rattle.fl_flash.specs.declared.flash.FlashFault.{FlashFault}
-use Rattle.fl_flash.specs.declared.flash.FlashFault.TheVariants.{PowerLost, Media}
+use Rattle.fl_table.proofs.SealsInTurn.{cause-later}
 use Rattle.fl_machine.specs.Step.{load_values}
-use Rattle.fl_ring.specs.Causes.{CausedBy}
 use Rattle.fl_script.specs.ReplyView.{reply_text}
 use Rattle.fl_script.specs.Written.{Written}
 use Rattle.fl_script.specs.declared.reply.Reply as code
@@ -29,7 +26,6 @@ use Rattle.fl_rlc.specs.declared.table.LoggedTable.{LoggedTable}
 use Rattle.fl_store.specs.Tables.{entries_with}
 use Rattle.fl_store.specs.declared.tables.BadMount.{BadMount}
 use Rattle.fl_store.specs.declared.tables.Entry.{Entry}
-use Rattle.fl_store.proofs.CallsInTurn.{rose-back}
 use Rattle.fl_store.proofs.TablesChanged.{set-same}
 use Rattle.fl_words.specs.Command.{Command, Nothing}
 use Rattle.fl_words.specs.Reply as reply
@@ -166,17 +162,6 @@ pub when-err : (P : Type 0) (outcome : Result (Unit {0}) PutRefusal) → is_err 
 when-err P (Ok done) is = absurd (cc is)
 when-err P (Err e) is = tt
 
--- a cause in the last of some calls, of which those before left the power on
-off-before : (P : Type 0) (was now : Bool) → (was ≡ true → now ≡ true) → (now ≡ false) ⊎ P → (was ≡ false) ⊎ P
-off-before P false now kept cause = inl refl
-off-before P true now kept (inl off) = absurd (let on = kept refl in cc (on, off))
-off-before P true now kept (inr p) = inr p
-
-caused-before : (f m n : FlashState) (fault : FlashFault) → (f.is_on ≡ true → m.is_on ≡ true) → Goes f m → CausedBy m fault n → CausedBy f fault n
-caused-before f m n PowerLost kept goes (inl off) = off-before (Rose f.cuts n.cuts) f.is_on m.is_on kept (inl off)
-caused-before f m n PowerLost kept goes (inr rose) = inr (rose-back f.cuts m.cuts n.cuts goes.cuts rose)
-caused-before f m n Media kept goes rose = rose-back f.media.faults m.media.faults n.media.faults goes.faults rose
-
 module _ (t u : LoggedTable 64 64) (f m n : FlashState) (step seed count random key : ℕ) (values : List ℤ) where
   refuses-now : (e : PutRefusal) → put_breaks (Err e) ≡ false → u ≡ t → key ≡ load_key (unwrap_or (last_key_in (table_in t)) 0) step random → values ≡ load_values (count + 1) seed 1 (layout_in (table_in t)).columns → RefusesAs (put_refusal t key values None) (Err e) →
       (r : ℕ) × (put_refusal u (load_key (unwrap_or (last_key_in (table_in u)) 0) step r) (load_values (count + 1) seed 1 (layout_in (table_in u)).columns) None ≡ Some e)
@@ -189,7 +174,7 @@ module _ (t u : LoggedTable 64 64) (f m n : FlashState) (step seed count random 
   pub load-fails : key ≡ load_key (unwrap_or (last_key_in (table_in t)) 0) step random → values ≡ load_values (count + 1) seed 1 (layout_in (table_in t)).columns → (outcome : Result (Unit {0}) PutRefusal) → (f.is_on ≡ true → m.is_on ≡ true) → Goes f m → RefusesAs (put_refusal t key values None) outcome →
       IfErr outcome (λ e. RefusedSame t m e u n) → IfErr outcome (λ e. PutCausedBy m e n) → IfErr outcome (LoadFails u f n step seed count)
   load-fails k v (Ok done) on goes exact same cause = tt
-  load-fails k v (Err (put.Flash fault)) on goes exact same cause = caused-before f m n fault on goes cause
+  load-fails k v (Err (put.Flash fault)) on goes exact same cause = cause-later f m n goes on fault cause
   load-fails k v (Err (put.Key last)) on goes exact same cause = refuses-now (put.Key last) refl same.0 k v exact
   load-fails k v (Err (put.Columns wanted)) on goes exact same cause = refuses-now (put.Columns wanted) refl same.0 k v exact
   load-fails k v (Err (put.Value column)) on goes exact same cause = refuses-now (put.Value column) refl same.0 k v exact

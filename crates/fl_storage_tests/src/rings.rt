@@ -1,6 +1,6 @@
 // Images made by hand, a forged block, and a cut of each kind at each operation.
 ghost use Rattle.std.specs.Prelude.{◌≡◌, ◌+◌, length, vec_len, OnOk, IfOk};
-ghost use Rattle.fl_flash.specs.Flash.{FlashState, Goes};
+ghost use Rattle.fl_flash.specs.Flash.{FlashState, Goes, Stays};
 ghost use Rattle.fl_ring.specs.Place.{shape_of, LiesOn};
 
 use fl_base::{CutKind, Geometry, NoMemory, RingPlace, put_u32};
@@ -118,7 +118,7 @@ enum Accident {
 }
 
 fn arm<'m>(flash: &mut SimFlash<'m, MemMedia>, accident: Accident)
-    ensures { Goes (⟦<SimFlash<'m, MemMedia> as Flash>⟧.state flash.old) (⟦<SimFlash<'m, MemMedia> as Flash>⟧.state flash.new) }
+    ensures { Stays (⟦<SimFlash<'m, MemMedia> as Flash>⟧.state flash.old) (⟦<SimFlash<'m, MemMedia> as Flash>⟧.state flash.new) }
 {
     match accident {
         Accident::Nothing => {}

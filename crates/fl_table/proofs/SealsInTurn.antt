@@ -1,5 +1,6 @@
 -- Seals of a table, one after another.
 use Rattle.std.proofs.Common.{◌≡◌, inl, inr, ℕ, Bool, true, false, IsTrue, arith, Result, Ok, Err, List, [], ◌∷◌, ◌++◌, refl, sym, ◌∙◌, ap, subst, append_assoc}
+use Rattle.fl_flash.proofs.Frame.{cut-later}
 use Rattle.fl_flash.specs.Flash.{FlashState, Goes, page_at}
 use Rattle.fl_flash.specs.declared.flash.FlashFault.TheVariants.{PowerLost, Media}
 use Rattle.fl_ring.specs.Causes.{CausedBy}
@@ -107,5 +108,5 @@ cause-later old mid new goes on PowerLost (inl off) = inl (by_power old.is_on re
         not_both : false ≡ true → ⊥
         not_both k = cc
     by_power false e = e
-cause-later old mid new goes on PowerLost (inr rises) = inr (omega (arith, rises, goes.cuts))
+cause-later old mid new goes on PowerLost (inr cut) = inr (cut-later old mid new goes cut)
 cause-later old mid new goes on Media rises = omega (arith, rises, goes.faults)

@@ -12,6 +12,7 @@ use Rattle.fl_flash.specs.Tear.{torn_now, torn_front}
 use Rattle.fl_flash.specs.declared.tear.Tear.{Tear}
 use Rattle.fl_flash.specs.declared.flash.FlashFault.{FlashFault}
 use Rattle.fl_flash.specs.declared.flash.FlashFault.TheVariants.{PowerLost, Media}
+use Rattle.fl_flash.proofs.Frame.{cut-later, goes-same, goes-then}
 use Rattle.fl_model.specs.Record.{Plan, content_per_page}
 use Rattle.fl_model.specs.Table.{Table, RingName, VarRing, after_seals}
 use Rattle.fl_model.specs.Work.{Device}
@@ -22,7 +23,6 @@ use Rattle.fl_ring.specs.declared.ring.Ring.{Ring}
 use Rattle.fl_ring.specs.Causes.{CausedBy}
 use Rattle.fl_ring.specs.Sealing.{SealCalls}
 use Rattle.fl_ring.specs.Step.{IsWatched}
-use Rattle.fl_ring.proofs.ReadsInTurn.{goes_more, goes_same}
 use Rattle.fl_var.specs.Memory.{is_mounted, next_in, waiting_in, room_in, var_shape, IsSamePlan, LiesOn}
 use Rattle.fl_var.specs.Placing.{Seals, Breaks, EndsWith, pages_placed}
 use Rattle.fl_var.specs.Standing.{HasRing}
@@ -101,7 +101,7 @@ module _ (v w : VarData) (f : FlashState) (bytes : List ℕ) (n : ℕ) (ring : w
       let next = next-same v w ring in
       let none : next_in w - next_in v ≡ 0 = omega (arith, next) in
       record {
-        goes = goes_same f;
+        goes = goes-same f;
         same = same;
         lies = lies-refilled v w f ring same lies;
         mounted = ap is_some ring ∙ mounted;
@@ -185,7 +185,7 @@ module _ (first v mid w : VarData) (first_f f g : FlashState) (bytes : List ℕ)
       let wide : room_in mid ≡ room_in first = room-same v mid same ∙ room-same first v is.same in
       let before = is.full less in
       record {
-        goes = goes_more first_f f g is.goes goes;
+        goes = goes-then first_f f g is.goes goes;
         same = same-then first v w is.same (same-then v mid w same refilled);
         lies = lies-refilled mid w g ring refilled lies;
         mounted = ap is_some ring ∙ mounted;
@@ -267,7 +267,7 @@ cause-later old mid new PowerLost goes (inr on) (inl off) = absurd (no (sym on �
   where
     no : true ≡ false → ⊥
     no k = cc
-cause-later old mid new PowerLost goes power (inr rose) = inr (omega (arith, goes.cuts, rose))
+cause-later old mid new PowerLost goes power (inr cut) = inr (cut-later old mid new goes cut)
 cause-later old mid new Media goes power rose = omega (arith, goes.faults, rose)
 
 pub cause-err : {T : Type 0} (old mid new : FlashState) (result : Result T FlashFault) (e : FlashFault) → result ≡ Err e → Goes old mid → (mid ≡ old) ⊎ (mid.is_on ≡ true) → CausedBy mid e new → IfErr result (λ fault. CausedBy old fault new)

@@ -1,13 +1,14 @@
 use Rattle.std.proofs.Common.{◌≡◌, inr, true, false, is_some, IsTrue, IfSome, Some, length, refl, sym, ◌∙◌, subst, arith}
 use Rattle.std.specs.List.{slice_get}
 use Rattle.std.proofs.lemmas.Option.{slice_get_within}
+use Rattle.fl_flash.proofs.Frame.{goes-then}
 use Rattle.fl_store.specs.Store.{at_rest}
 use Rattle.fl_store.proofs.TableByName.{stands-there}
 use Rattle.fl_store.proofs.Risen.{has_risen, watched}
 use Rattle.fl_store.proofs.Unmounted as mount
 use Rattle.fl_image.specs.declared.status.ToolStatus.TheVariants.{Device, BadInput}
 use Rattle.fl_store.specs.Tables.{first_of}
-use Rattle.fl_store.proofs.CallsInTurn.{goes-on, rose-back}
+use Rattle.fl_store.proofs.CallsInTurn.{rose-back}
 use Rattle.fl_store.proofs.TablesChanged.{item-there}
 use Rattle.fl_import.specs.Images.{EndsOn, HasCauses, told_of}
 use Rattle.fl_import.specs.Taking.{EndedOver}
@@ -99,7 +100,7 @@ pub returns-clause-unread : goal.returns-clause-unread
 returns-clause-unread g c = λ table is. absurd (table-bad c.import_table-status.result table c.import_table-status.ensures.statuses is)
 
 pub returns-clause-goes : goal.returns-clause-goes
-returns-clause-goes g c = goes-on _ _ _ c.mount.ensures.goes c.import_table-status.ensures.goes
+returns-clause-goes g c = goes-then _ _ _ c.mount.ensures.goes c.import_table-status.ensures.goes
 
 pub returns-in-Err-clause-repairs : goal.returns-in-Err-clause-repairs
 returns-in-Err-clause-repairs g c = λ plans ts name tells on calm stand named well.

@@ -1,8 +1,9 @@
 use Rattle.std.proofs.Common.{List, ◌+◌, ℕ, IsTrue, Err, refl, sym, subst, arith, le_trans}
 use Rattle.std.proofs.lemmas.Result.{err_from_is_err_and}
 use Rattle.fl_flash.specs.Flash.{page_at}
+use Rattle.fl_flash.proofs.Frame.{goes-same, goes-then}
 use Rattle.fl_store.proofs.Outsides.{outside-then}
-use Rattle.fl_store.proofs.CallsInTurn.{goes-same, goes-on, same-plan, same-on}
+use Rattle.fl_store.proofs.CallsInTurn.{same-plan, same-on}
 use Rattle.fl_import.specs.Lines.{lacks, meaning}
 use Rattle.fl_import.specs.Steps.{LineEnds}
 use Rattle.fl_import.proofs.AllLines.{counts-on, so_far-first, far-next, far-stops, far-done, far-ended, ended-done, ended-next, ended-stops}
@@ -84,7 +85,7 @@ lines-preserved g c =
     let fewer = n.advances.shrinks n.next.0 in
     let counts = counts-on c.lines.taken c.in_ok-end.end c.after_end.result c.after_end.ensures i.rows i.gone in
     record {
-      goes = goes-on _ _ _ i.goes p.goes;
+      goes = goes-then _ _ _ i.goes p.goes;
       same = same-on _ _ _ i.same p.same;
       lies = p.lies;
       outside = λ tells. outside-then c.args.table.now c.lines.table (page_at (g.F.Flash.state c.args.flash.now)) (page_at (g.F.Flash.state c.lines.flash)) (page_at (g.F.Flash.state c.put_line.new.flash)) i.same (i.outside tells) (p.outside (subst IsTrue (sym i.goes.tells) tells));

@@ -1,8 +1,9 @@
 use Rattle.std.proofs.Common.{◌≡◌, false, IsTrue, Err, sym, ◌∙◌, subst}
 use Rattle.fl_flash.specs.Flash.{page_at}
+use Rattle.fl_flash.proofs.Frame.{goes-then}
 use Rattle.fl_image.specs.declared.status.ToolStatus.TheVariants.{Device}
 use Rattle.fl_store.proofs.Outsides.{outside-then}
-use Rattle.fl_store.proofs.CallsInTurn.{goes-on, rose-back, same-on}
+use Rattle.fl_store.proofs.CallsInTurn.{rose-back, same-on}
 use Rattle.fl_import.specs.Steps.{IsOfTable, is_broken}
 use Rattle.fl_import.proofs.LastFlush.{failed-ends, broken-is, flush-broken, flush-ended, flush-of, flush-read, flush-rose, flush-write, lines, all-ends, all-ended, all-of, all-read, all-rose, all-write}
 use Rattle.fl_store.proofs.Works.{works-watched}
@@ -60,7 +61,7 @@ returns-in-Ok-clause-outside g c = λ tells.
     (c.flush.ensures.outside (subst IsTrue (sym c.take_lines-all.ensures.goes.tells) tells))
 
 pub returns-in-Ok-clause-goes : goal.returns-in-Ok-clause-goes
-returns-in-Ok-clause-goes g c = goes-on _ _ _ c.take_lines-all.ensures.goes c.flush.ensures.goes
+returns-in-Ok-clause-goes g c = goes-then _ _ _ c.take_lines-all.ensures.goes c.flush.ensures.goes
 
 pub returns-in-Ok-clause-same : goal.returns-in-Ok-clause-same
 returns-in-Ok-clause-same g c = same-on _ _ _ c.take_lines-all.ensures.same c.flush.ensures.same
@@ -102,7 +103,7 @@ returns-in-Err-clause-outside g c = λ tells.
     (c.flush.ensures.outside (subst IsTrue (sym c.take_lines-all.ensures.goes.tells) tells))
 
 pub returns-in-Err-clause-goes : goal.returns-in-Err-clause-goes
-returns-in-Err-clause-goes g c = goes-on _ _ _ c.take_lines-all.ensures.goes c.flush.ensures.goes
+returns-in-Err-clause-goes g c = goes-then _ _ _ c.take_lines-all.ensures.goes c.flush.ensures.goes
 
 pub returns-in-Err-clause-same : goal.returns-in-Err-clause-same
 returns-in-Err-clause-same g c = same-on _ _ _ c.take_lines-all.ensures.same c.flush.ensures.same

@@ -1,5 +1,5 @@
 use Rattle.std.proofs.Common.{refl, arith, le_trans}
-use Rattle.fl_store.proofs.CallsInTurn.{goes-same, goes-on}
+use Rattle.fl_flash.proofs.Frame.{goes-same, stays, stays-then}
 use Rattle.fl_session.proofs.CausesInTurn.{caused-into, caused-next}
 use Rattle.fl_session.proofs.Nexts.{runs-runnable}
 use Rattle.fl_session.proofs.Loops.{in_hand-first, all_done-next, ends-in_reply, then-in_hand, then-done, then-ends}
@@ -13,7 +13,7 @@ lines-init g c = record {
   source_later = omega arith;
   sink_later = omega arith;
   sound = c.requires.sound;
-  goes = goes-same _;
+  goes = stays _ _ (goes-same _);
   runs = λ config left e ended. in_hand-first _ _ _ left _ (ran_to-none config _ (g.T.Executor.flash c.args.session.now) _ c.requires.unread) e ended refl refl refl refl refl;
   causes = λ left e ended. in_hand-first _ _ _ left _ (refl, refl) e ended refl refl refl refl refl;
 }
@@ -42,7 +42,7 @@ lines-preserved g c =
       source_later = le_trans c.lines.invariant.source_later n.advances.later;
       sink_later = le_trans c.lines.invariant.sink_later c.execute.ensures.sink.later;
       sound = c.execute.ensures.sound;
-      goes = goes-on _ _ _ c.lines.invariant.goes c.execute.ensures.goes;
+      goes = stays-then _ _ _ c.lines.invariant.goes c.execute.ensures.goes;
       runs = λ config left e ended.
           then-in_hand _ _ _ _ _ _ _ _ _ _ _
           (all_done-next _ _ _ _ _ _ _ (c.lines.invariant.runs config left e ended) runnable (omega (arith, c.lines.invariant.numbered))

@@ -1,13 +1,13 @@
 use Rattle.std.proofs.Common.{◌≡◌, ◌⊎◌, ℕ, ◌+◌, Bool, true, false, Option, Some, Ok, Err, IsTrue, is_some, inl, inr, refl, sym, ◌∙◌, ap, subst, arith}
 use Rattle.std.proofs.lemmas.Result.{err_from_is_err_and}
 use Rattle.fl_flash.specs.Flash.{page_at}
+use Rattle.fl_flash.proofs.Frame.{goes-then}
 use Rattle.fl_model.specs.Bare.{bare, bare_table, log_of, beside}
 use Rattle.fl_model.specs.Record.{Plan, row_layout, blocks_of}
 use Rattle.fl_model.specs.Table.{Table}
 use Rattle.fl_model.specs.Work.{Device}
 use Rattle.fl_ring.specs.declared.ring.Ring.{Ring}
 use Rattle.fl_ring.specs.Step.{IsWatched}
-use Rattle.fl_ring.proofs.ReadsInTurn.{goes_more}
 use Rattle.fl_table.proofs.SealsInTurn.{watched-front, watched-then}
 use Rattle.fl_table.proofs.MountJoined.{mount-cause-later}
 use Rattle.fl_table.proofs.SealAnswers.{same-then}
@@ -139,7 +139,7 @@ pub returns-in-Err-clause-calm : goal.returns-in-Err-clause-calm
 returns-in-Err-clause-calm g c = c.unmount.ensures.forgotten.calm
 
 pub returns-in-Err-clause-goes : goal.returns-in-Err-clause-goes
-returns-in-Err-clause-goes g c = goes_more (g.F.Flash.state c.args.flash.now) (g.F.Flash.state c.mount.new.flash) (g.F.Flash.state c.replay.new.flash) c.in_ok-mounted.ensures.goes c.in-Err.ensures.goes
+returns-in-Err-clause-goes g c = goes-then (g.F.Flash.state c.args.flash.now) (g.F.Flash.state c.mount.new.flash) (g.F.Flash.state c.replay.new.flash) c.in_ok-mounted.ensures.goes c.in-Err.ensures.goes
 
 pub returns-in-Err-clause-same : goal.returns-in-Err-clause-same
 returns-in-Err-clause-same g c = record {
@@ -229,7 +229,7 @@ returns-in-Err-clause-repairs g c = λ alone. absurd (not-both (is_some c.args.s
 -- ---- all is mounted
 
 pub returns-clause-goes : goal.returns-clause-goes
-returns-clause-goes g c = goes_more (g.F.Flash.state c.args.flash.now) (g.F.Flash.state c.mount.new.flash) (g.F.Flash.state c.replay.new.flash) c.in_ok-mounted.ensures.goes c.in_default-replay.ensures.goes
+returns-clause-goes g c = goes-then (g.F.Flash.state c.args.flash.now) (g.F.Flash.state c.mount.new.flash) (g.F.Flash.state c.replay.new.flash) c.in_ok-mounted.ensures.goes c.in_default-replay.ensures.goes
 
 pub returns-clause-same : goal.returns-clause-same
 returns-clause-same g c = record {

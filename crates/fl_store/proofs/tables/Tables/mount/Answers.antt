@@ -4,6 +4,7 @@ use Rattle.std.proofs.lemmas.List.{length-set, take_all}
 use Rattle.std.proofs.lemmas.Option.{slice_get_within}
 use Rattle.fl_base.specs.declared.types.Geometry.{Geometry}
 use Rattle.fl_flash.specs.Flash.{page_at}
+use Rattle.fl_flash.proofs.Frame.{goes-same, goes-then}
 use Rattle.fl_ring.specs.Step.{IsWatched}
 use Rattle.fl_table.specs.Mounting.{FewRepairs}
 use Rattle.fl_table.proofs.MountJoined.{mount-cause-later}
@@ -11,7 +12,7 @@ use Rattle.fl_store.specs.Mounting.{AreUnlogged, MountsInTurn, OutsideStands, ri
 use Rattle.fl_store.specs.Tables.{first_of}
 use Rattle.fl_store.specs.declared.tables.Entry.{Entry}
 use Rattle.fl_store.proofs.InTurn.{turn-before, turn-more, repairs-none, repairs-more, outside-none, outside-more}
-use Rattle.fl_store.proofs.CallsInTurn.{goes-same, goes-on, rose-front, rose-back}
+use Rattle.fl_store.proofs.CallsInTurn.{rose-front, rose-back}
 use Rattle.fl_store.proofs.TablesLie.{lie-with, running-more}
 use Rattle.fl_store.proofs.Planned.{names-still, names-with, plans-still, plans-with}
 use Rattle.fl_store.proofs.MountedSoFar.{mounted-none, mounted-more, mounted-err, mounted-all, own, was, was_at, stood}
@@ -151,7 +152,7 @@ loop-i-preserved g c =
       as_many = length-set c.loop-i.self.entries.items c.loop-i.i (record { name = c.index_mut.result.now.name; table = c.mount.new.self }) ∙ i.as_many;
       same = plans-with c.args.self.now.entries.items c.loop-i.self.entries.items c.loop-i.i c.index_mut.result.now c.mount.new.self here p.same i.same;
       names = names-with c.args.self.now.entries.items c.loop-i.self.entries.items c.loop-i.i c.index_mut.result.now c.mount.new.self here i.names;
-      goes = goes-on f m n i.goes p.goes;
+      goes = goes-then f m n i.goes p.goes;
       power = λ on. c.in_default.ensures.power (i.power on);
       running = running-more c.loop-i.self.entries.items c.loop-i.i c.index_mut.result.now c.mount.new.self here i.running c.in_default.ensures.mounted;
       ahead = λ j le. set-elsewhere c.loop-i.self.entries.items c.loop-i.i j (record { name = c.index_mut.result.now.name; table = c.mount.new.self }) (λ is. absurd (omega (arith, le, is))) ∙ i.ahead j (omega (arith, le));

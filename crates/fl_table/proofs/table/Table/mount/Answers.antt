@@ -1,6 +1,7 @@
 use Rattle.std.proofs.Common.{arith, ◌*◌, ◌≡◌, ◌+◌, ◌-◌, Option, Err, IsTrue, sym, ◌∙◌, ap, subst, inr}
 use Rattle.std.proofs.lemmas.Result.{err_from_is_err_and, IfErr-weaker, IfOk-weaker}
 use Rattle.fl_flash.specs.Flash.{FlashState, page_at}
+use Rattle.fl_flash.proofs.Frame.{goes-then}
 use Rattle.std.specs.Option.{unwrap_or}
 use Rattle.fl_index.specs.declared.index.BitmapIndex.{BitmapIndex}
 use Rattle.fl_base.specs.declared.types.Geometry.{Geometry}
@@ -18,7 +19,6 @@ use Rattle.fl_table.proofs.Outsides.{blobs-outside}
 use Rattle.fl_table.proofs.SealAnswers.{planned-same, same-then}
 use Rattle.fl_ring.specs.declared.fault.RingFault.{RingFault}
 use Rattle.fl_table.specs.Causes.{of_ring}
-use Rattle.fl_ring.proofs.ReadsInTurn.{goes_more}
 use Rattle.fl_table.specs.Blobs as variable
 use Rattle.fl_table.proofs.BlobsOfTable as blobbing
 use Rattle.fl_table.proofs.IndexOfTable.{few-goes, none-is, none-there, still-few}
@@ -218,7 +218,7 @@ returns-in_err-end-clause-outside g c = λ told page rows index blobs.
 
 pub returns-clause-goes : goal.returns-clause-goes
 returns-clause-goes g c =
-    goes_more (g.F.Flash.state c.args.flash.now) (g.F.Flash.state c.mount_bitmaps.new.flash) (g.F.Flash.state c.mount_rows.new.flash) c.in_ok-end.ensures.goes c.mount_rows.ensures.goes
+    goes-then (g.F.Flash.state c.args.flash.now) (g.F.Flash.state c.mount_bitmaps.new.flash) (g.F.Flash.state c.mount_rows.new.flash) c.in_ok-end.ensures.goes c.mount_rows.ensures.goes
 
 pub mount_rows-requires : goal.mount_rows-requires
 mount_rows-requires g c =

@@ -1,9 +1,9 @@
 use Rattle.std.proofs.Common.{◌≡◌, ◌+◌, Option, IfSome, arith, refl, sym, ◌∙◌, ap, subst, IsTrue, inl, inr}
 use Rattle.std.proofs.lemmas.Result.{err_from_is_err_and}
 use Rattle.fl_flash.specs.Flash.{page_at}
+use Rattle.fl_flash.proofs.Frame.{goes-then}
 use Rattle.fl_find.proofs.Points.{mounts-points}
 use Rattle.fl_model.specs.Mount.{ready}
-use Rattle.fl_ring.proofs.ReadsInTurn.{goes_more}
 use Rattle.fl_table.specs.Bitmaps.{EndAt, IsOutside}
 use Rattle.fl_table.specs.BlobEnds.{least_of}
 use Rattle.fl_table.specs.BlobMount.{FindsBlobs, RefusesWithin}
@@ -187,11 +187,11 @@ returns-in_err-mount_within-clause-cause g c =
 
 pub returns-in_err-mount_within-clause-goes : goal.returns-in_err-mount_within-clause-goes
 returns-in_err-mount_within-clause-goes g c =
-    goes_more (g.F.Flash.state c.args.flash.now) (g.F.Flash.state c.read_rows.new.flash) (g.F.Flash.state c.mount_within.new.flash) c.in_ok-rows.ensures.goes c.in_err-mount_within.ensures.goes
+    goes-then (g.F.Flash.state c.args.flash.now) (g.F.Flash.state c.read_rows.new.flash) (g.F.Flash.state c.mount_within.new.flash) c.in_ok-rows.ensures.goes c.in_err-mount_within.ensures.goes
 
 pub returns-clause-goes : goal.returns-clause-goes
 returns-clause-goes g c =
-    goes_more (g.F.Flash.state c.args.flash.now) (g.F.Flash.state c.read_rows.new.flash) (g.F.Flash.state c.mount_within.new.flash) c.in_ok-rows.ensures.goes c.in_ok-mount_within.ensures.goes
+    goes-then (g.F.Flash.state c.args.flash.now) (g.F.Flash.state c.read_rows.new.flash) (g.F.Flash.state c.mount_within.new.flash) c.in_ok-rows.ensures.goes c.in_ok-mount_within.ensures.goes
 
 pub invariant_of-self : goal.invariant_of-self
 invariant_of-self g c =

@@ -12,12 +12,12 @@ use Rattle.fl_table.proofs.SealsInTurn.{cause-later, watched-front, watched-then
 use Rattle.fl_table.proofs.PutAnswers.{accepts, and-true, broken-ends, join-fails, map-twice, put-ends, refused-ends}
 use Rattle.fl_flash.specs.declared.flash.FlashFault.{FlashFault}
 use Rattle.fl_flash.specs.declared.flash.FlashFault.TheVariants.{PowerLost}
+use Rattle.fl_flash.proofs.Frame.{goes-then}
 use Rattle.fl_table.specs.declared.faults.PutRefusal.{PutRefusal}
 use Rattle.fl_table.specs.declared.faults.PutRefusal.TheVariants as put
 use Rattle.fl_table.proofs.PowerOff.{put-off}
 use Rattle.fl_model.specs.Record.{RowLayout}
 use Rattle.fl_model.specs.Row.{FitsRow}
-use Rattle.fl_ring.proofs.ReadsInTurn.{goes_more}
 use Rattle.fl_schema.specs.Schema.{layout_of}
 use Rattle.fl_table.proofs.SealAnswers.{same-then}
 use Rattle.fl_table.proofs.Sizes.{table-fits}
@@ -175,7 +175,7 @@ join-requires g c =
 
 pub returns-in_err-join-clause-goes : goal.returns-in_err-join-clause-goes
 returns-in_err-join-clause-goes g c =
-    goes_more (g.F.Flash.state c.args.flash.now) (g.F.Flash.state c.make_room.new.flash) (g.F.Flash.state c.join.new.flash) c.in_ok-make_room.ensures.goes c.in_err-join.ensures.goes
+    goes-then (g.F.Flash.state c.args.flash.now) (g.F.Flash.state c.make_room.new.flash) (g.F.Flash.state c.join.new.flash) c.in_ok-make_room.ensures.goes c.in_err-join.ensures.goes
 
 pub returns-in_err-join-clause-same : goal.returns-in_err-join-clause-same
 returns-in_err-join-clause-same g c = same-then c.args.self.now c.make_room.new.self c.join.new.self c.in_ok-make_room.ensures.same c.in_err-join.ensures.same
@@ -193,7 +193,7 @@ returns-in_err-join-clause-cause g c =
 
 pub returns-clause-goes : goal.returns-clause-goes
 returns-clause-goes g c =
-    goes_more (g.F.Flash.state c.args.flash.now) (g.F.Flash.state c.make_room.new.flash) (g.F.Flash.state c.join.new.flash) c.in_ok-make_room.ensures.goes c.in_ok-join.ensures.goes
+    goes-then (g.F.Flash.state c.args.flash.now) (g.F.Flash.state c.make_room.new.flash) (g.F.Flash.state c.join.new.flash) c.in_ok-make_room.ensures.goes c.in_ok-join.ensures.goes
 
 pub returns-clause-same : goal.returns-clause-same
 returns-clause-same g c = same-then c.args.self.now c.make_room.new.self c.join.new.self c.in_ok-make_room.ensures.same c.in_ok-join.ensures.same

@@ -9,10 +9,10 @@ use Rattle.fl_table.proofs.SealsInTurn.{cause-later, seals-stop, seals-then, wat
 use Rattle.fl_flash.specs.Flash.{page_at}
 use Rattle.fl_table.proofs.Outsides.{outside-then}
 use Rattle.fl_table.proofs.Plain.{some-table_seals}
-use Rattle.fl_ring.proofs.ReadsInTurn.{goes_more}
 use Rattle.fl_index.specs.declared.index.BitmapIndex.{BitmapIndex}
 use Rattle.fl_table.proofs.SealAnswers.{same-then, writer-count}
 use Rattle.fl_flash.specs.declared.flash.FlashFault.{FlashFault}
+use Rattle.fl_flash.proofs.Frame.{goes-then}
 use Rattle.fl_table.proofs.PowerOff.{off-then}
 use Rattle.fl_table.proofs.Sizes.{table-fits}
 use Rattle.fl_table.proofs.table.Table.seal.Goals as goal
@@ -123,14 +123,14 @@ on-ok (Err e) P Q f h = tt
 
 pub returns-in_err-seal_blobs-clause-goes : goal.returns-in_err-seal_blobs-clause-goes
 returns-in_err-seal_blobs-clause-goes g c =
-    goes_more (g.F.Flash.state c.args.flash.now) (g.F.Flash.state c.seal_bitmaps.new.flash) (g.F.Flash.state c.seal_blobs.new.flash) c.in_ok-seal_bitmaps.ensures.goes c.in_err-seal_blobs.ensures.goes
+    goes-then (g.F.Flash.state c.args.flash.now) (g.F.Flash.state c.seal_bitmaps.new.flash) (g.F.Flash.state c.seal_blobs.new.flash) c.in_ok-seal_bitmaps.ensures.goes c.in_err-seal_blobs.ensures.goes
 
 pub returns-clause-goes : goal.returns-clause-goes
 returns-clause-goes g c =
     let first = g.F.Flash.state c.seal_bitmaps.new.flash in
     let mid = g.F.Flash.state c.seal_blobs.new.flash in
     let new = g.F.Flash.state c.seal_rows.new.flash in
-    goes_more (g.F.Flash.state c.args.flash.now) first new c.in_ok-seal_bitmaps.ensures.goes (goes_more first mid new c.in_ok-seal_blobs.ensures.goes c.seal_rows.ensures.goes)
+    goes-then (g.F.Flash.state c.args.flash.now) first new c.in_ok-seal_bitmaps.ensures.goes (goes-then first mid new c.in_ok-seal_blobs.ensures.goes c.seal_rows.ensures.goes)
 
 pub returns-clause-same : goal.returns-clause-same
 returns-clause-same g c =
