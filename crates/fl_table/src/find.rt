@@ -22,7 +22,8 @@ impl<const KNOTS: usize, const SLOTS: usize> Table<KNOTS, SLOTS> {
     ghost use Rattle.fl_find.specs.Pages.{IsFresh};
     ghost use Rattle.fl_flash.specs.Flash.{FlashState};
     ghost use Rattle.fl_model.specs.Record.{Plan};
-    ghost use Rattle.fl_model.specs.Spline.{bits, is_pending_key, lookup_limit, page_at};
+    ghost use Rattle.fl_base.specs.Bits.{bits};
+    ghost use Rattle.fl_model.specs.Spline.{is_pending_key, lookup_limit, page_at};
     ghost use Rattle.fl_model.specs.Table as model;
     ghost use Rattle.fl_table.specs.Finding.{Finds, FindsPending, IsRowAt, HoldsIts, HoldsKept, LookupFails, IsInSlot, knots_near, row_of_place};
     ghost use Rattle.fl_schema.specs.Schema.{layout_of_row, row_of};
