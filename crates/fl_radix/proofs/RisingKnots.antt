@@ -16,7 +16,7 @@ use Rattle.fl_spline.specs.Points.{Rises}
 use Rattle.fl_spline.specs.Segment.{IsSegment, point_at}
 use Rattle.fl_spline.proofs.Lists.{rises-take, rises-drop}
 use Rattle.fl_spline.proofs.Segments.{keys-rise}
-use Rattle.fl_base.proofs.Bits.{bits-le}
+use Rattle.fl_base.proofs.BitsGrow.{bits-le}
 use Rattle.fl_radix.specs.Slots.{slot_of, first_key, last_key, knots_in_slot, IsStart, IsSlot, AreUpTo, AreBeyond}
 
 -- 63 bits are enough to leave out

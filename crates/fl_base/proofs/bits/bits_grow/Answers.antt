@@ -1,4 +1,4 @@
-use Rattle.fl_base.proofs.Bits.{bits-half, bits-le, bits-twice, has-bits}
+use Rattle.fl_base.proofs.BitsGrow.{bits-half, bits-le, bits-twice, has-bits}
 use Rattle.fl_base.proofs.bits.bits_grow.Goals as goal
 
 pub returns : goal.returns
