@@ -6,8 +6,9 @@ use Rattle.fl_flash.specs.Flash.{FlashState, page_at}
 use Rattle.fl_flash.specs.Places.{page_of}
 use Rattle.fl_flash.specs.declared.flash.FlashFault.{FlashFault}
 use Rattle.fl_flash.specs.declared.flash.FlashFault.TheVariants.{PowerLost, Media}
-use Rattle.fl_flash.proofs.Frame.{goes-then, goes-same}
-use Rattle.fl_ring.specs.Looking.{OnlyReads, ReadFails}
+use Rattle.fl_frame.proofs.CallsInTurn.{goes-then, goes-same}
+use Rattle.fl_frame.specs.Reads.{OnlyReads}
+use Rattle.fl_frame.specs.Causes.{ReadFails}
 use Rattle.fl_plan.specs.Limits.{IsRingSize}
 use Rattle.fl_plan.specs.declared.table_config.TableConfig.{TableConfig}
 use Rattle.fl_check.specs.Looks.{OnlyLooks}

@@ -10,7 +10,7 @@ use Rattle.fl_image.specs.declared.status.ToolStatus.TheVariants.{Done, Device}
 use Rattle.fl_machine.specs.Step.{all_ready}
 use Rattle.fl_model.specs.Record.{Plan}
 use Rattle.fl_model.specs.Table as model
-use Rattle.fl_page.specs.Contents.{OnlyReads}
+use Rattle.fl_frame.specs.Contents.{OnlyReads}
 use Rattle.fl_page.specs.declared.fault.ReadFault.TheVariants.{Flash, BadPage}
 use Rattle.fl_table.specs.declared.faults.MountFault.{MountFault}
 use Rattle.fl_store.specs.Tables.{IsNamed, TablesStand, TablesMounted, MountBreaks}

@@ -1,6 +1,6 @@
 -- The cause of a fault that comes later.
 use Rattle.fl_flash.specs.Flash.{FlashState}
-use Rattle.fl_page.specs.Contents.{OnlyReads}
+use Rattle.fl_frame.specs.Contents.{OnlyReads}
 use Rattle.fl_page.proofs.ReadsInTurn.{IsCaused-later}
 use Rattle.fl_export.specs.Writing.{IfUnread}
 use Rattle.fl_export.specs.declared.fault.ExportFault.{ExportFault}

@@ -4,7 +4,7 @@ use Rattle.fl_base.specs.Causes.{Appends, AppendsFront}
 use Rattle.fl_csv.specs.declared.record.CsvFault.{CsvFault}
 use Rattle.fl_csv.specs.declared.record.CsvFault.TheVariants as line
 use Rattle.fl_flash.specs.Flash.{FlashState}
-use Rattle.fl_page.specs.Contents.{IsCaused}
+use Rattle.fl_page.specs.Causes.{IsCaused}
 use Rattle.fl_page.specs.declared.fault.ReadFault.TheVariants.{Flash, BadPage}
 use Rattle.fl_export.specs.declared.fault.ExportFault.{ExportFault}
 use Rattle.fl_export.specs.declared.fault.ExportFault.TheVariants.{NoMemory, Sink, Read}

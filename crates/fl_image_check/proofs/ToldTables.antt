@@ -8,7 +8,7 @@ use Rattle.fl_base.specs.Causes.{Appends, AppendsFront}
 use Rattle.fl_base.specs.declared.types.RingPlace.{RingPlace}
 use Rattle.fl_flash.specs.Flash.{FlashState}
 use Rattle.fl_flash.specs.Places.{extent}
-use Rattle.fl_flash.proofs.Frame.{goes-same, goes-then}
+use Rattle.fl_frame.proofs.CallsInTurn.{goes-same, goes-then}
 use Rattle.fl_model.specs.Bare.{bare}
 use Rattle.fl_model.specs.Record.{Plan, blocks_of}
 use Rattle.fl_words.specs.Config.{Lines}

@@ -8,7 +8,7 @@ ghost use Rattle.fl_image.specs.Status.{is_done};
 ghost use Rattle.fl_image.specs.declared.status.ToolStatus.{ToolStatus};
 ghost use Rattle.fl_model.specs.Record.{Config as Configured, Plan};
 ghost use Rattle.fl_model.specs.Table as model;
-ghost use Rattle.fl_ring.specs.Device.{SameDevice};
+ghost use Rattle.fl_frame.specs.Device.{SameDevice};
 ghost use Rattle.fl_rlc.specs.Logged.{Stands};
 ghost use Rattle.fl_store.specs.MountEnds.{Keeps};
 ghost use Rattle.fl_store.specs.Named.{IsImageWith};

@@ -8,7 +8,7 @@ ghost use Rattle.fl_image.specs.declared.status.ToolStatus.{ToolStatus};
 ghost use Rattle.fl_model.specs.Record.{Plan};
 ghost use Rattle.fl_model.specs.Table as model;
 ghost use Rattle.fl_model.specs.Work.{Device};
-ghost use Rattle.fl_ring.specs.Step.{IsWatched};
+ghost use Rattle.fl_frame.specs.Watched.{IsWatched};
 ghost use Rattle.fl_rlc.specs.Logged.{Stands};
 ghost use Rattle.fl_rlc.specs.Outcomes.{PutEnds};
 ghost use Rattle.fl_rlc.specs.Refusal.{RefusedSame};

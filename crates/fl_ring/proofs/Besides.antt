@@ -3,13 +3,13 @@ use Rattle.std.proofs.Common.{ℕ, ◌+◌, ◌≤◌, Result, inl, inr, ap, ari
 use Rattle.std.proofs.lemmas.Bool.{cases_Bool}
 use Rattle.fl_flash.specs.Flash.{FlashState}
 use Rattle.fl_flash.specs.declared.flash.FlashFault.{FlashFault}
-use Rattle.fl_flash.proofs.Frame.{goes-then}
+use Rattle.fl_frame.proofs.CallsInTurn.{goes-then}
 use Rattle.fl_model.specs.Work.{VoidMark, Erase}
-use Rattle.fl_ring.specs.Looking.{OnlyReads}
+use Rattle.fl_frame.specs.Reads.{OnlyReads}
 use Rattle.fl_ring.specs.Repairing.{Beside}
 use Rattle.fl_ring.specs.Ring.{Shape}
 use Rattle.fl_ring.specs.Step.{Operates}
-use Rattle.fl_ring.proofs.ReadsInTurn.{same_page}
+use Rattle.fl_frame.proofs.ReadsInTurn.{same_page}
 use Rattle.fl_ring.proofs.Sums.{outside_more}
 
 pub beside_reads : (r : Shape) (n : ℕ) (a b : FlashState) → OnlyReads a n b → Beside r n 0 0 a b

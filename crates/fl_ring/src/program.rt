@@ -7,7 +7,8 @@ ghost use Rattle.fl_ring.specs.Newest.{number_of};
 ghost use Rattle.fl_ring.specs.Place.{shape_of, StandsFor, LiesOn};
 ghost use Rattle.fl_ring.specs.Ring.{RingState, OnRing, place, blank_end, begun, sealed, voided, erased};
 ghost use Rattle.fl_ring.specs.Sealing.{SealsPage};
-ghost use Rattle.fl_ring.specs.Step.{IsWatched, Operates, StepEnds};
+ghost use Rattle.fl_ring.specs.Step.{Operates, StepEnds};
+ghost use Rattle.fl_frame.specs.Watched.{IsWatched};
 
 use crate::ring::Ring;
 use fl_flash::{Flash, FlashFault};

@@ -5,12 +5,12 @@ use Rattle.std.proofs.Math.Nat.{mul-le-mul_right, add-mul}
 use Rattle.std.proofs.lemmas.Bool.{ltb-true}
 use Rattle.fl_base.specs.declared.types.Geometry.{Geometry}
 use Rattle.fl_flash.specs.Flash.{FlashState, Goes, page_at}
-use Rattle.fl_flash.proofs.Frame.{goes-then, goes-same}
+use Rattle.fl_frame.proofs.CallsInTurn.{goes-then, goes-same}
 use Rattle.fl_index.specs.Memory as memory
 use Rattle.fl_index.specs.declared.index.BitmapIndex.{BitmapIndex}
 use Rattle.fl_index.proofs.SealEnds.{planned-ring as index-ring}
 use Rattle.fl_model.specs.Record.{Plan, blocks_of}
-use Rattle.fl_ring.specs.Looking.{OnlyReads}
+use Rattle.fl_frame.specs.Reads.{OnlyReads}
 use Rattle.fl_ring.specs.Mounting.{HasNumbers}
 use Rattle.fl_ring.specs.Ring.{Shape}
 use Rattle.fl_ring.specs.declared.ring.Ring.{Ring}

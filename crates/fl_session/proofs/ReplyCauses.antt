@@ -5,10 +5,10 @@ use Rattle.std.specs.List.{slice_get}
 use Rattle.std.specs.Option.{is_none}
 use Rattle.std.proofs.lemmas.Bool.{lt-ltb, le-ltb}
 use Rattle.fl_model.specs.Record.{RowLayout}
-use Rattle.fl_page.specs.Contents.{OnlyReads}
+use Rattle.fl_frame.specs.Contents.{OnlyReads}
 use Rattle.fl_cursor.specs.declared.bookmark.Bookmark.{Bookmark}
 use Rattle.fl_flash.specs.Flash.{FlashState, Goes}
-use Rattle.fl_table.proofs.SealsInTurn.{cause-later}
+use Rattle.fl_frame.proofs.WatchedInTurn.{cause-later}
 use Rattle.fl_machine.specs.Step.{load_values}
 use Rattle.fl_script.specs.ReplyView.{reply_text}
 use Rattle.fl_script.specs.Written.{Written}

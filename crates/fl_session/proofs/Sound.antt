@@ -8,7 +8,7 @@ use Rattle.std.proofs.lemmas.List.{length-set}
 use Rattle.fl_base.specs.declared.types.Geometry.{Geometry}
 use Rattle.fl_flash.specs.Flash.{FlashState, Goes}
 use Rattle.fl_flash.specs.declared.armed.Armed.{Armed}
-use Rattle.fl_flash.proofs.Frame.{stays-set}
+use Rattle.fl_frame.proofs.CallsInTurn.{stays-set}
 use Rattle.fl_rlc.specs.Table.{LiesOn, is_running}
 use Rattle.fl_rlc.specs.declared.table.LoggedTable.{LoggedTable}
 use Rattle.fl_store.specs.Tables.{entries_with}

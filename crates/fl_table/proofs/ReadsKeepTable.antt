@@ -3,18 +3,19 @@ use Rattle.std.proofs.Common.{◌≡◌, ℕ, ◌<◌, ◌^◌, ◌*◌, Bool, t
 use Rattle.fl_flash.specs.Buffer.{BufferState}
 use Rattle.fl_flash.specs.Flash.{FlashState, ReadsPage, page_at, pages, StaysWith}
 use Rattle.fl_flash.specs.Media.{next_count}
-use Rattle.fl_page.specs.Contents as contents
-use Rattle.fl_page.specs.Contents.{Contents}
+use Rattle.fl_frame.specs.Contents as contents
+use Rattle.fl_frame.specs.Contents.{Contents}
 use Rattle.fl_flash.specs.declared.flash.FlashFault.{FlashFault}
 use Rattle.fl_flash.specs.declared.flash.Work.{Work}
 use Rattle.fl_model.specs.Record.{Plan}
 use Rattle.fl_model.specs.Table as model
 use Rattle.fl_model.specs.Table.{IndexRing, VarRing, lose}
 use Rattle.fl_flash.specs.declared.flash.FlashFault.TheVariants.{PowerLost, Media}
-use Rattle.fl_flash.proofs.Frame.{stays-set}
-use Rattle.fl_page.proofs.ReadsInTurn.{OnlyReads-goes}
-use Rattle.fl_ring.specs.Looking.{OnlyReads, ReadFails}
-use Rattle.fl_ring.proofs.ReadsInTurn.{no_reads, same_page}
+use Rattle.fl_frame.proofs.CallsInTurn.{stays-set}
+use Rattle.fl_frame.proofs.ContentsInTurn.{OnlyReads-goes}
+use Rattle.fl_frame.specs.Reads.{OnlyReads}
+use Rattle.fl_frame.specs.Causes.{ReadFails}
+use Rattle.fl_frame.proofs.ReadsInTurn.{no_reads, same_page}
 use Rattle.fl_table.specs.Memory.{LiesOn}
 use Rattle.fl_table.specs.Pages.{place_in}
 use Rattle.fl_table.specs.Standing.{Stands}

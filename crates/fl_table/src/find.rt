@@ -1,6 +1,6 @@
 // A lookup: the row of a key, among the pending rows or in the kept pages.
 ghost use Rattle.std.specs.Prelude.{◌≡◌, ◌+◌, ◌-◌, ◌<◌, ◌≤◌, ◌^◌, min, ℕ, true, length, IsTrue, IfSome, IfOk, IfErr};
-ghost use Rattle.fl_page.specs.Contents as contents;
+ghost use Rattle.fl_frame.specs.Contents as contents;
 
 use crate::table::Table;
 use fl_base::Steps;

@@ -2,7 +2,7 @@ use Rattle.std.proofs.Common.{ℕ, ◌+◌, Some, None, inl, inr, IsTrue, refl, 
 use Rattle.std.proofs.lemmas.Result.{err_from_is_err_and}
 use Rattle.std.specs.Prelude.{Option, List}
 use Rattle.fl_flash.specs.Flash.{page_at}
-use Rattle.fl_flash.proofs.Frame.{goes-then}
+use Rattle.fl_frame.proofs.CallsInTurn.{goes-then}
 use Rattle.fl_model.specs.Bare.{bare, bare_table}
 use Rattle.fl_model.specs.Mount.{ready, joined}
 use Rattle.fl_model.specs.Record.{blocks_of}
@@ -12,7 +12,7 @@ use Rattle.fl_ring.specs.declared.newest.NewestPage.{NewestPage}
 use Rattle.fl_ring.proofs.Founds.{same_pages}
 use Rattle.fl_table.specs.Causes.{IfPage}
 use Rattle.fl_table.specs.Look.{layout_in}
-use Rattle.fl_table.proofs.SealsInTurn.{watched-front, watched-then, cause-later}
+use Rattle.fl_frame.proofs.WatchedInTurn.{watched-first, watched-then, cause-later}
 use Rattle.fl_table.proofs.MountCalls.{pages-cause}
 use Rattle.fl_table.proofs.Outsides.{outside-same}
 use Rattle.fl_table.proofs.SealAnswers.{plan-self, same-then}
@@ -157,7 +157,7 @@ returns-in_err-joined-clause-ends g c = λ first plan table rose device watched 
     let f2 = g.F.Flash.state c.join_newest-joined.new.flash in
     let k = c.in_ok-newest.ensures in
     let reads = c.in_err-joined.ensures.reads in
-    let m = k.ends (first + blocks_of (bare plan)) plan table rose device (watched-front old f1 f2 rose device watched reads.goes) rests in
+    let m = k.ends (first + blocks_of (bare plan)) plan table rose device (watched-first old f1 f2 rose device watched reads.goes) rests in
     let outside = k.beside.outside watched.told in
     let sizes = pages-size l1 f1 (g.met.F.Flash.reaches c.mount.new.flash) k.lies.geometry k.lies.within in
     let ring = begun-ring t l old first plan table rose device s none rests.planned l1 k.same f1 outside m in
@@ -237,8 +237,8 @@ returns-in_err-seal_rows-clause-ends g c = λ first plan table rose device watch
     let f3 = g.F.Flash.state c.seal_rows.new.flash in
     let k = c.in_ok-newest.ensures in
     let reads = c.in_ok-joined.ensures.reads in
-    let watched2 = watched-front old f2 f3 rose device watched c.in_err-seal_rows.ensures.goes in
-    let m = k.ends (first + blocks_of (bare plan)) plan table rose device (watched-front old f1 f2 rose device watched2 reads.goes) rests in
+    let watched2 = watched-first old f2 f3 rose device watched c.in_err-seal_rows.ensures.goes in
+    let m = k.ends (first + blocks_of (bare plan)) plan table rose device (watched-first old f1 f2 rose device watched2 reads.goes) rests in
     let outside = k.beside.outside watched.told in
     let sizes = pages-size l1 f1 (g.met.F.Flash.reaches c.mount.new.flash) k.lies.geometry k.lies.within in
     let ring = begun-ring t l old first plan table rose device s none rests.planned l1 k.same f1 outside m in
@@ -332,8 +332,8 @@ returns-clause-ends g c = λ first plan table rose device watched s none rests.
     let f3 = g.F.Flash.state c.seal_rows.new.flash in
     let k = c.in_ok-newest.ensures in
     let reads = c.in_ok-joined.ensures.reads in
-    let watched2 = watched-front old f2 f3 rose device watched c.in_ok-seal_rows.ensures.goes in
-    let m = k.ends (first + blocks_of (bare plan)) plan table rose device (watched-front old f1 f2 rose device watched2 reads.goes) rests in
+    let watched2 = watched-first old f2 f3 rose device watched c.in_ok-seal_rows.ensures.goes in
+    let m = k.ends (first + blocks_of (bare plan)) plan table rose device (watched-first old f1 f2 rose device watched2 reads.goes) rests in
     let outside = k.beside.outside watched.told in
     let sizes = pages-size l1 f1 (g.met.F.Flash.reaches c.mount.new.flash) k.lies.geometry k.lies.within in
     let ring = begun-ring t l old first plan table rose device s none rests.planned l1 k.same f1 outside m in
@@ -379,8 +379,8 @@ returns-clause-leaves g c = λ first plan table rose device watched s none rests
     let f3 = g.F.Flash.state c.seal_rows.new.flash in
     let k = c.in_ok-newest.ensures in
     let reads = c.in_ok-joined.ensures.reads in
-    let watched2 = watched-front old f2 f3 rose device watched c.in_ok-seal_rows.ensures.goes in
-    let m = k.ends (first + blocks_of (bare plan)) plan table rose device (watched-front old f1 f2 rose device watched2 reads.goes) rests in
+    let watched2 = watched-first old f2 f3 rose device watched c.in_ok-seal_rows.ensures.goes in
+    let m = k.ends (first + blocks_of (bare plan)) plan table rose device (watched-first old f1 f2 rose device watched2 reads.goes) rests in
     let outside = k.beside.outside watched.told in
     let sizes = pages-size l1 f1 (g.met.F.Flash.reaches c.mount.new.flash) k.lies.geometry k.lies.within in
     let ring = begun-ring t l old first plan table rose device s none rests.planned l1 k.same f1 outside m in

@@ -1,5 +1,5 @@
 use Rattle.std.proofs.Common.{◌∙◌, ℕ, List, refl, subst}
-use Rattle.fl_page.proofs.ReadsInTurn.{OnlyReads-then, OnlyReads-reads}
+use Rattle.fl_frame.proofs.ContentsInTurn.{OnlyReads-then, OnlyReads-reads}
 use Rattle.fl_script.specs.Written.{Written}
 use Rattle.fl_session.proofs.BlobShows.{shows-absent, shows-none, shows-said, shows-unread, content-same}
 use Rattle.fl_session.proofs.GetReplies.{stands-read, tells-read}

@@ -1,5 +1,5 @@
 use Rattle.std.proofs.Common.{refl, arith, le_trans}
-use Rattle.fl_flash.proofs.Frame.{goes-same, stays, stays-then}
+use Rattle.fl_frame.proofs.CallsInTurn.{goes-same, stays, stays-then}
 use Rattle.fl_session.proofs.CausesInTurn.{caused-into, caused-next}
 use Rattle.fl_session.proofs.Nexts.{runs-runnable}
 use Rattle.fl_session.proofs.Loops.{in_hand-first, all_done-next, ends-in_reply, then-in_hand, then-done, then-ends}

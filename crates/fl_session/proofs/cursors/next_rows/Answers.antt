@@ -1,5 +1,5 @@
 use Rattle.std.proofs.Common.{◌∙◌, List, ℕ, sym, subst}
-use Rattle.fl_page.specs.Contents.{contents_of}
+use Rattle.fl_frame.specs.Contents.{contents_of}
 use Rattle.fl_script.specs.Written.{Written}
 use Rattle.fl_session.proofs.NextRows.{nexts-given, nexts-fault, reads-within}
 use Rattle.fl_session.proofs.RowLines.{blobs-as}

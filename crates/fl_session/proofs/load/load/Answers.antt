@@ -9,7 +9,7 @@ use Rattle.fl_session.proofs.LoadPuts.{LoadedSoFar, loaded-none, loaded-more, en
 use Rattle.fl_store.proofs.Risen.{has_risen}
 use Rattle.fl_session.proofs.LoadLines.{unbroken}
 use Rattle.std.proofs.Math.Bool.{and-true}
-use Rattle.fl_flash.proofs.Frame.{goes-same, goes-then}
+use Rattle.fl_frame.proofs.CallsInTurn.{goes-same, goes-then}
 use Rattle.fl_table.specs.Causes.{put_breaks}
 use Rattle.fl_table.specs.Look.{last_key_in, layout_in}
 use Rattle.fl_table.specs.declared.table.Table.{Table}

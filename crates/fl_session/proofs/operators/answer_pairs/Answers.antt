@@ -1,4 +1,4 @@
-use Rattle.fl_page.proofs.ReadsInTurn.{OnlyReads-reads}
+use Rattle.fl_frame.proofs.ContentsInTurn.{OnlyReads-reads}
 use Rattle.fl_session.proofs.PairLines.{reads-no-least}
 use Rattle.fl_session.proofs.operators.answer_pairs.Goals as goal
 

@@ -1,5 +1,5 @@
 use Rattle.std.proofs.Common.{◌≡◌, ◌+◌, ◌-◌, ◌^◌, ◌<◌, ◌≤◌}
-use Rattle.fl_page.specs.Contents.{Contents, contents_of, OnlyReads}
+use Rattle.fl_frame.specs.Contents.{Contents, contents_of, OnlyReads}
 use Rattle.fl_session.proofs.LinesListed.{Fronted}
 use Rattle.fl_session.proofs.reply_lines.list_lines.Given as goal
 

@@ -1,7 +1,7 @@
 use Rattle.std.proofs.Common.{◌+◌, ◌-◌, ◌^◌, ◌<◌, ◌≤◌, ◌∙◌, length, arith}
 use Rattle.fl_model.specs.Limits.{scan_limit}
 use Rattle.fl_model.specs.Query.{selected}
-use Rattle.fl_page.specs.Contents.{contents_of}
+use Rattle.fl_frame.specs.Contents.{contents_of}
 use Rattle.fl_session.proofs.Few.{few-selected}
 use Rattle.fl_session.proofs.Resumed.{is-standing}
 use Rattle.fl_session.proofs.Scanned.{scans-all, scans-fault}

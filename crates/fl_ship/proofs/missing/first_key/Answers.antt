@@ -1,6 +1,6 @@
 use Rattle.std.proofs.Common.{map, refl, ◌∙◌, ap}
 use Rattle.fl_model.specs.Row.{stored_row}
-use Rattle.fl_page.specs.Contents.{contents_of}
+use Rattle.fl_frame.specs.Contents.{contents_of}
 use Rattle.fl_cursor.proofs.Selected.{all-selected, few-keys}
 use Rattle.fl_store.proofs.TablesOnlyRead.{is-standing}
 use Rattle.fl_ship.proofs.missing.first_key.Goals as goal

@@ -1,4 +1,4 @@
-use Rattle.fl_flash.proofs.Frame.{stays-then}
+use Rattle.fl_frame.proofs.CallsInTurn.{stays-then}
 use Rattle.fl_storage_tests.proofs.logged_tables.cut_two_mounts.Goals as goal
 
 pub returns-clause-goes : goal.returns-clause-goes

@@ -1,5 +1,5 @@
 use Rattle.std.proofs.Common.{true}
-use Rattle.fl_flash.proofs.Frame.{goes-on, stays-set, stays-then}
+use Rattle.fl_frame.proofs.CallsInTurn.{goes-on, stays-set, stays-then}
 use Rattle.fl_rlc.proofs.Powered.{lies-on}
 use Rattle.fl_storage_tests.proofs.logged_tables.take_cut.Goals as goal
 

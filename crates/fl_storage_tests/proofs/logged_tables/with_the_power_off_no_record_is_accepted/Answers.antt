@@ -1,6 +1,6 @@
 use Rattle.std.proofs.Common.{ap, false}
 use Rattle.fl_flash.specs.Flash.{FlashState}
-use Rattle.fl_flash.proofs.Frame.{stays-set}
+use Rattle.fl_frame.proofs.CallsInTurn.{stays-set}
 use Rattle.fl_rlc.proofs.Powered.{lies-on}
 use Rattle.fl_storage_tests.proofs.logged_tables.with_the_power_off_no_record_is_accepted.Goals as goal
 

@@ -1,6 +1,6 @@
 use Rattle.std.proofs.Common.{◌≡◌, true, IsTrue, refl, sym, ap, subst, arith, inl, inr}
 use Rattle.fl_flash.specs.Flash.{FlashState, Goes}
-use Rattle.fl_flash.proofs.Frame.{goes-on, goes-same, goes-then}
+use Rattle.fl_frame.proofs.CallsInTurn.{goes-on, goes-same, goes-then}
 use Rattle.fl_store.specs.Tables.{LieOn}
 use Rattle.fl_store.proofs.TablesLie.{lie-on}
 use Rattle.fl_session.proofs.Calls.{mount-call, already-call}

@@ -2,7 +2,7 @@ use Rattle.std.proofs.Common.{FitsSigned, rules, refl, sym, arith}
 use Rattle.std.proofs.lemmas.Int.{to_z-of_z}
 use Rattle.std.specs.Int.{w64}
 use Rattle.fl_base.specs.declared.stream.SinkFailed.{SinkFailed}
-use Rattle.fl_flash.proofs.Frame.{goes-same, stays}
+use Rattle.fl_frame.proofs.CallsInTurn.{goes-same, stays}
 use Rattle.fl_session.proofs.StepsOf.{default-view, executes-nothing}
 use Rattle.fl_session.proofs.CommandReplies.{executes-answered}
 use Rattle.fl_session.proofs.Operations.{select-by}

@@ -1,4 +1,4 @@
-use Rattle.fl_flash.proofs.Frame.{goes-then}
+use Rattle.fl_frame.proofs.CallsInTurn.{goes-then}
 use Rattle.fl_table.proofs.ReadsKeepTable.{lies-still}
 use Rattle.fl_storage_tests.proofs.tables.blobs.look_at.Goals as goal
 

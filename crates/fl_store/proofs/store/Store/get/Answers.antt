@@ -1,7 +1,7 @@
 use Rattle.std.proofs.Common.{rules, ◌≡◌, Some, sym, ◌∙◌}
 use Rattle.std.specs.List.{slice_get}
 use Rattle.fl_model.specs.Bare.{bare, bare_table}
-use Rattle.fl_page.proofs.ReadsInTurn.{OnlyReads-goes}
+use Rattle.fl_frame.proofs.ContentsInTurn.{OnlyReads-goes}
 use Rattle.fl_store.specs.Tables.{first_of}
 use Rattle.fl_store.proofs.Called.{entry-at}
 use Rattle.fl_store.proofs.TablesLie.{lie-on}

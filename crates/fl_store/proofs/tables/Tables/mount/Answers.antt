@@ -4,8 +4,8 @@ use Rattle.std.proofs.lemmas.List.{length-set, take_all}
 use Rattle.std.proofs.lemmas.Option.{slice_get_within}
 use Rattle.fl_base.specs.declared.types.Geometry.{Geometry}
 use Rattle.fl_flash.specs.Flash.{page_at}
-use Rattle.fl_flash.proofs.Frame.{goes-same, goes-then}
-use Rattle.fl_ring.specs.Step.{IsWatched}
+use Rattle.fl_frame.proofs.CallsInTurn.{goes-same, goes-then}
+use Rattle.fl_frame.specs.Watched.{IsWatched}
 use Rattle.fl_table.specs.Mounting.{FewRepairs}
 use Rattle.fl_table.proofs.MountJoined.{mount-cause-later}
 use Rattle.fl_store.specs.Mounting.{AreUnlogged, MountsInTurn, OutsideStands, rings_of}

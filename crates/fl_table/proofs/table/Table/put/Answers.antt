@@ -8,11 +8,11 @@ use Rattle.fl_table.proofs.Refusals.{fits-row, told-running, calm-cause, few-blo
 use Rattle.fl_flash.specs.Flash.{page_at}
 use Rattle.fl_table.proofs.BlobsOfTable.{pages-most}
 use Rattle.fl_table.proofs.Outsides.{outside-then}
-use Rattle.fl_table.proofs.SealsInTurn.{cause-later, watched-front, watched-then}
+use Rattle.fl_frame.proofs.WatchedInTurn.{cause-later, watched-first, watched-then}
 use Rattle.fl_table.proofs.PutAnswers.{accepts, and-true, broken-ends, join-fails, map-twice, put-ends, refused-ends}
 use Rattle.fl_flash.specs.declared.flash.FlashFault.{FlashFault}
 use Rattle.fl_flash.specs.declared.flash.FlashFault.TheVariants.{PowerLost}
-use Rattle.fl_flash.proofs.Frame.{goes-then}
+use Rattle.fl_frame.proofs.CallsInTurn.{goes-then}
 use Rattle.fl_table.specs.declared.faults.PutRefusal.{PutRefusal}
 use Rattle.fl_table.specs.declared.faults.PutRefusal.TheVariants as put
 use Rattle.fl_table.proofs.PowerOff.{put-off}
@@ -53,7 +53,7 @@ returns-in_err-join-clause-ends g c = λ first plan table rose device watched st
     let same = map-twice (λ (b : Bor (List ℕ)). b.now) (λ (xs : List ℕ). length xs) c.args.blob in
     let none : put_refusal t c.args.key c.args.values.now (option_map (λ (xs : List ℕ). length xs) (option_map (λ (b : Bor (List ℕ)). b.now) c.args.blob)) ≡ None =
     ap (put_refusal t c.args.key c.args.values.now) same ∙ (sym c.refusal.ensures ∙ c.in_default.is) in
-    let h = c.in_ok-make_room.ensures.ends first plan table rose device (watched-front f mid new rose device watched c.join.ensures.goes) stands in
+    let h = c.in_ok-make_room.ensures.ends first plan table rose device (watched-first f mid new rose device watched c.join.ensures.goes) stands in
     let ok = accepts t f first plan table c.args.key c.args.values.now bytes rose device stands none c.make_room.new.self mid h c.in_ok-make_room.ensures.room in
     let k = c.in_err-join.ensures.ends first plan (after_seals plan (make_room_seals plan table) table) rose h.now.device (watched-then f mid new rose device h.now.device watched c.in_ok-make_room.ensures.goes h.power h.counts) h.stands ok in
     let p = err_from_is_err_and c.from_residual-in_err-join.result c.from_residual-in_err-join.ensures.1 in
@@ -69,7 +69,7 @@ returns-clause-ends g c = λ first plan table rose device watched stands.
     let same = map-twice (λ (b : Bor (List ℕ)). b.now) (λ (xs : List ℕ). length xs) c.args.blob in
     let none : put_refusal t c.args.key c.args.values.now (option_map (λ (xs : List ℕ). length xs) (option_map (λ (b : Bor (List ℕ)). b.now) c.args.blob)) ≡ None =
     ap (put_refusal t c.args.key c.args.values.now) same ∙ (sym c.refusal.ensures ∙ c.in_default.is) in
-    let h = c.in_ok-make_room.ensures.ends first plan table rose device (watched-front f mid new rose device watched c.join.ensures.goes) stands in
+    let h = c.in_ok-make_room.ensures.ends first plan table rose device (watched-first f mid new rose device watched c.join.ensures.goes) stands in
     let ok = accepts t f first plan table c.args.key c.args.values.now bytes rose device stands none c.make_room.new.self mid h c.in_ok-make_room.ensures.room in
     put-ends t f first plan table c.args.key c.args.values.now bytes rose device stands none c.make_room.new.self mid h c.join.new.self new
     (c.in_ok-join.ensures.ends first plan (after_seals plan (make_room_seals plan table) table) rose h.now.device (watched-then f mid new rose device h.now.device watched c.in_ok-make_room.ensures.goes h.power h.counts) h.stands ok)

@@ -2,7 +2,7 @@ use Rattle.std.proofs.Common.{rules, ◌≡◌, ◌+◌, ◌-◌, ◌*◌, ◌<�
 use Rattle.std.proofs.lemmas.Result.{err_from_is_err_and}
 use Rattle.fl_find.specs.Index.{error_in}
 use Rattle.fl_flash.specs.Flash.{page_at}
-use Rattle.fl_flash.proofs.Frame.{goes-then}
+use Rattle.fl_frame.proofs.CallsInTurn.{goes-then}
 use Rattle.fl_ring.specs.Place.{next_of, oldest_of, shape_of}
 use Rattle.fl_ring.specs.Ring.{place, room}
 use Rattle.fl_schema.specs.Schema.{layout_of}
@@ -14,7 +14,7 @@ use Rattle.fl_table.specs.Mounting.{comes_in}
 use Rattle.fl_table.specs.Reading.{WaitFrom}
 use Rattle.fl_table.specs.declared.known.Known.{Known}
 use Rattle.fl_ring.proofs.Founds.{same_pages}
-use Rattle.fl_ring.proofs.ReadsInTurn.{more_reads, told_still}
+use Rattle.fl_frame.proofs.ReadsInTurn.{more_reads, told_still}
 use Rattle.fl_table.proofs.MountProgress.{unlisted-behind, come-rows, nothing-within, rows-still}
 use Rattle.fl_table.proofs.Firsts.{firsts-then}
 use Rattle.fl_table.proofs.NotedEntries.{first-same, gathers-end, wait-between, wait-for, waits-from}

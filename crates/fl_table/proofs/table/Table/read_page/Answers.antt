@@ -3,7 +3,8 @@ use Rattle.fl_flash.specs.Flash.{page_at}
 use Rattle.fl_model.specs.Ring as rings
 use Rattle.fl_page.specs.declared.fault.ReadFault.TheVariants.{BadPage}
 use Rattle.fl_page.specs.Page.{IsGoodPage, bad_page}
-use Rattle.fl_page.proofs.ReadsInTurn.{OnlyReads-read, IsCaused-read}
+use Rattle.fl_page.proofs.ReadsInTurn.{IsCaused-read}
+use Rattle.fl_frame.proofs.ContentsInTurn.{OnlyReads-read}
 use Rattle.fl_ring.proofs.Exists.{lies_exists}
 use Rattle.fl_table.specs.Kept.{place_of, IsFound}
 use Rattle.fl_table.specs.Look.{layout_in}

@@ -1,7 +1,7 @@
 use Rattle.std.proofs.Common.{rules, ◌≡◌, ◌+◌, ◌*◌, ◌-◌, ◌≤◌, ℕ, List, [], Ok, Err, length, arith, refl, sym, ◌∙◌, ap, subst, IsTrue}
 use Rattle.std.proofs.lemmas.Result.{err_from_is_err_and}
 use Rattle.fl_flash.specs.Flash.{page_at}
-use Rattle.fl_flash.proofs.Frame.{goes-then}
+use Rattle.fl_frame.proofs.CallsInTurn.{goes-then}
 use Rattle.fl_model.specs.MountLimit.{repaired}
 use Rattle.fl_model.specs.Table.{DataRing}
 use Rattle.fl_page.specs.Writer.{Gathers}
@@ -10,7 +10,7 @@ use Rattle.fl_ring.specs.Place.{next_of, oldest_of}
 use Rattle.fl_ring.specs.Ring.{Shape, OutsideStands}
 use Rattle.fl_table.specs.Coming.{index_pages_of}
 use Rattle.fl_find.specs.Index.{error_in}
-use Rattle.fl_table.proofs.SealsInTurn.{watched-front}
+use Rattle.fl_frame.proofs.WatchedInTurn.{watched-first}
 use Rattle.fl_table.proofs.IndexOfTable.{found-same, none-is, none-there}
 use Rattle.fl_table.proofs.MountCalls.{same-shape, outside-stands, index-still, refuses-ring, refuses-end, refuses-page, finds-data, finds-firsts, same-waits, ring-cause, pages-cause}
 use Rattle.fl_table.proofs.MountEnded.{mounting-of, ring-fails, ring-ends, ring-mounts, ends-within}

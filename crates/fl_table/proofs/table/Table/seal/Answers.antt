@@ -5,14 +5,15 @@ use Rattle.fl_table.specs.Bitmaps.{HaveRoom, bitmap_seals, next_of}
 use Rattle.fl_table.specs.Blobs as variable
 use Rattle.fl_table.specs.Blobs.{rest_seals}
 use Rattle.fl_table.specs.Outcomes.{SealsEnd}
-use Rattle.fl_table.proofs.SealsInTurn.{cause-later, seals-stop, seals-then, watched-front, watched-then}
+use Rattle.fl_table.proofs.SealsInTurn.{seals-stop, seals-then}
+use Rattle.fl_frame.proofs.WatchedInTurn.{cause-later, watched-first, watched-then}
 use Rattle.fl_flash.specs.Flash.{page_at}
 use Rattle.fl_table.proofs.Outsides.{outside-then}
 use Rattle.fl_table.proofs.Plain.{some-table_seals}
 use Rattle.fl_index.specs.declared.index.BitmapIndex.{BitmapIndex}
 use Rattle.fl_table.proofs.SealAnswers.{same-then, writer-count}
 use Rattle.fl_flash.specs.declared.flash.FlashFault.{FlashFault}
-use Rattle.fl_flash.proofs.Frame.{goes-then}
+use Rattle.fl_frame.proofs.CallsInTurn.{goes-then}
 use Rattle.fl_table.proofs.PowerOff.{off-then}
 use Rattle.fl_table.proofs.Sizes.{table-fits}
 use Rattle.fl_table.proofs.table.Table.seal.Goals as goal
@@ -35,7 +36,7 @@ returns-in_err-seal_blobs-clause-ends g c = λ first plan table rose device watc
     let new = g.F.Flash.state c.seal_blobs.new.flash in
     let some : table.pending ≡ 0 → ⊥ = λ none. absurd (omega (arith, none, writer-count t f first plan table stands, c.requires.some)) in
     let goes = c.in_ok-seal_bitmaps.ensures.goes in
-    let h = c.in_ok-seal_bitmaps.ensures.ends first plan table rose device (watched-front f mid new rose device watched c.seal_blobs.ensures.goes) stands in
+    let h = c.in_ok-seal_bitmaps.ensures.ends first plan table rose device (watched-first f mid new rose device watched c.seal_blobs.ensures.goes) stands in
     let after = after_seals plan (bitmap_seals plan table) table in
     let k = c.in_err-seal_blobs.ensures.ends first plan after rose h.now.device (watched-then f mid new rose device h.now.device watched goes h.power h.counts) h.stands in
     let p = err_from_is_err_and c.from_residual-in_err-seal_blobs.result c.from_residual-in_err-seal_blobs.ensures.1 in
@@ -51,8 +52,8 @@ returns-clause-ends g c = λ first plan table rose device watched stands.
     let mid = g.F.Flash.state c.seal_blobs.new.flash in
     let new = g.F.Flash.state c.seal_rows.new.flash in
     let some : table.pending ≡ 0 → ⊥ = λ none. absurd (omega (arith, none, writer-count t f first plan table stands, c.requires.some)) in
-    let to_mid = watched-front f mid new rose device watched c.seal_rows.ensures.goes in
-    let h = c.in_ok-seal_bitmaps.ensures.ends first plan table rose device (watched-front f first_flash mid rose device to_mid c.in_ok-seal_blobs.ensures.goes) stands in
+    let to_mid = watched-first f mid new rose device watched c.seal_rows.ensures.goes in
+    let h = c.in_ok-seal_bitmaps.ensures.ends first plan table rose device (watched-first f first_flash mid rose device to_mid c.in_ok-seal_blobs.ensures.goes) stands in
     let after = after_seals plan (bitmap_seals plan table) table in
     let then = watched-then f first_flash mid rose device h.now.device to_mid c.in_ok-seal_bitmaps.ensures.goes h.power h.counts in
     let b = c.in_ok-seal_blobs.ensures.ends first plan after rose h.now.device then h.stands in

@@ -7,7 +7,7 @@ use Rattle.fl_model.specs.Table.{with_record}
 use Rattle.fl_var.specs.Memory.{next_in, waiting_in}
 use Rattle.fl_var.specs.Placing.{is_full_in, pages_placed}
 use Rattle.fl_var.specs.declared.var_data.VarData.{VarData}
-use Rattle.fl_var.proofs.Joins.{watched-first}
+use Rattle.fl_frame.proofs.WatchedInTurn.{watched-first}
 use Rattle.fl_var.proofs.Placed.{joined-has, joined-bytes, buffered-room, watched-second, place-none, place-err, place-breaks_room, place-breaks, placed-whole, room-for, full-placed, next-split, reads-split, waits-split, waits-none, placed-none}
 use Rattle.fl_var.proofs.BufferedBytes.{cause-err, off-err, ok-on, lost-on}
 use Rattle.fl_var.proofs.var_data.VarData.append.Goals as goal
