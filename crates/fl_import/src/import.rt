@@ -15,6 +15,7 @@ ghost use Rattle.fl_store.specs.Named.{IsImageWith};
 ghost use Rattle.fl_store.specs.Repaired.{IsLeft, IsOfOther, OthersAreRepaired};
 ghost use Rattle.fl_store.specs.Store.{at_rest};
 ghost use Rattle.fl_store.specs.Tables.{AreNewTables, IsNamed, LieOn, TablesStand};
+ghost use Rattle.fl_store.specs.Unarmed.{IsUnarmed};
 ghost use Rattle.fl_words.specs.Config as words;
 ghost use Rattle.fl_words.specs.Medium.{IsImage};
 ghost use Rattle.fl_import.specs.Ends.{ImportEnds, IsFormIn, StatusFits};
@@ -62,6 +63,7 @@ fn import_on<F: Flash, S: Source, K: Sink>(
     requires room { length room.old.bytes ≡ (F.state flash.old).geometry.page }
     requires at { at < length tables.old.entries.items }
     requires few { length tables.old.entries.items ≤ 4 }
+    requires unarmed { IsUnarmed (F.state flash.old) }
     requires new { lines.old ≡ record { line = []; ahead = []; most = 2 ^ 24; closed = false } }
     ensures goes { Goes (F.state flash.old) (F.state flash.new) }
     ensures causes { HasCauses (length tables.old.entries.items) (F.state flash.old).media.faults (F.state flash.new).media.faults (S.faults input.old) (S.faults input.new) (K.faults out.old) (K.faults out.new) result.kept result.status }

@@ -38,3 +38,4 @@ pub mod Readers
 pub mod HeaderLength
 pub mod NewImages
 pub mod HeldStores
+pub mod Unarmed

@@ -13,3 +13,4 @@ pub mod InMemory
 pub mod Works
 pub mod Made
 pub mod Laws
+pub mod Unarmed

@@ -1,6 +1,7 @@
 use Rattle.std.proofs.Common.{◌≡◌, inr, true, false, is_some, IsTrue, IfSome, Some, length, refl, sym, ◌∙◌, subst, arith}
 use Rattle.std.specs.List.{slice_get}
 use Rattle.std.proofs.lemmas.Option.{slice_get_within}
+use Rattle.fl_store.proofs.Unarmed.{unarmed-then}
 use Rattle.fl_frame.proofs.CallsInTurn.{goes-then}
 use Rattle.fl_store.specs.Store.{at_rest}
 use Rattle.fl_store.proofs.TableByName.{stands-there}
@@ -42,7 +43,7 @@ returns-in-Err-clause-causes g c =
     let source = g.S.Source.faults c.args.input.now in
     let sink = g.K.Sink.faults c.args.out.now in
     as-end (λ end. HasCauses (length c.args.tables.now.entries.items) f.media.faults m.media.faults source source sink sink end.kept end.status) c.of.result _ _ c.of.ensures c.mount_status.ensures
-    (mount-causes f m (length c.args.tables.now.entries.items) source sink c.in-Err.bad.fault c.in-Err.bad.at
+    (mount-causes f m (length c.args.tables.now.entries.items) source sink c.in-Err.bad.fault c.in-Err.bad.at c.requires.unarmed
     (omega (arith, slice_get_within c.mount.new.self.entries.items c.in-Err.bad.at c.in-Err.ensures.stops.entry c.in-Err.ensures.stops.here, c.mount.ensures.as_many)) c.in-Err.ensures.cause)
 
 pub returns-in-Err-clause-unread : goal.returns-in-Err-clause-unread
@@ -56,6 +57,9 @@ import_table-status-requires-clause-lies g c =
     let here : slice_get c.mount.new.self.entries.items c.args.at ≡ Some c.index_mut.result.now =
     item-there c.mount.new.self.entries.items (length c.mount.new.self.entries.items) c.args.at c.index_mut.result.now refl (omega (arith, c.requires.at, c.mount.ensures.as_many)) c.index_mut.ensures.value in
     c.mount.ensures.lie c.args.at c.index_mut.result.now here
+
+pub import_table-status-requires-clause-unarmed : goal.import_table-status-requires-clause-unarmed
+import_table-status-requires-clause-unarmed g c = unarmed-then _ _ c.requires.unarmed c.mount.ensures.goes
 
 pub returns-clause-ends : goal.returns-clause-ends
 returns-clause-ends g c = λ plans ts name text tells on calm stand named forms is.

@@ -1,6 +1,7 @@
 use Rattle.std.proofs.Common.{List, ◌+◌, ℕ, IsTrue, Err, refl, sym, subst, arith, le_trans}
 use Rattle.std.proofs.lemmas.Result.{err_from_is_err_and}
 use Rattle.fl_flash.specs.Flash.{page_at}
+use Rattle.fl_store.proofs.Unarmed.{unarmed-then}
 use Rattle.fl_frame.proofs.CallsInTurn.{goes-same, goes-then}
 use Rattle.fl_store.proofs.Outsides.{outside-then}
 use Rattle.fl_store.proofs.CallsInTurn.{same-plan, same-on}
@@ -69,6 +70,9 @@ returns-in_err-end-clause-ends g c = λ text names first plan t takes is works.
     let far = c.lines.invariant.far text names takes in
     rw (p.1, p.2) (far-stops c.args.gone c.lines.taken c.args.form text c.args.table.now (g.F.Flash.state c.args.flash.now) c.lines.table (g.F.Flash.state c.lines.flash) (g.K.Sink.written c.args.out.now) (g.K.Sink.written c.lines.out) c.lines.lines c.next_line.new.lines (g.S.Source.left c.lines.input) (g.S.Source.left c.next_line.new.input) _ _
     far c.put_line.new.table (g.F.Flash.state c.put_line.new.flash) (g.K.Sink.written c.put_line.new.out) c.in_err-end.field-0.0 (rw c.if-not-branch.false at c.in_ok-next_line.ensures) (λ first' plan' t' is' works'. subst (λ (l : List ℕ). LineEnds (lacks c.args.gone c.args.form.columns c.args.form.blobs l) first' plan' t' (c.lines.taken.line + 1) (meaning c.args.gone c.args.form.columns c.args.form.blobs l) c.put_line.new.table (g.F.Flash.state c.put_line.new.flash) (g.K.Sink.written c.lines.out) (g.K.Sink.written c.put_line.new.out) (Err c.in_err-end.field-0.0)) c.line.ensures (c.in_err-end.ensures.ends first' plan' t' is' works')) first plan t is works)
+
+pub put_line-requires-clause-unarmed : goal.put_line-requires-clause-unarmed
+put_line-requires-clause-unarmed g c = unarmed-then _ _ c.requires.unarmed c.lines.invariant.goes
 
 pub after_end-requires : goal.after_end-requires
 after_end-requires g c =

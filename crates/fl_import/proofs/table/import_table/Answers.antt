@@ -1,5 +1,6 @@
 use Rattle.std.proofs.Common.{◌≡◌, false, IsTrue, Err, sym, ◌∙◌, subst}
 use Rattle.fl_flash.specs.Flash.{page_at}
+use Rattle.fl_store.proofs.Unarmed.{unarmed-then}
 use Rattle.fl_frame.proofs.CallsInTurn.{goes-then}
 use Rattle.fl_image.specs.declared.status.ToolStatus.TheVariants.{Device}
 use Rattle.fl_store.proofs.Outsides.{outside-then}
@@ -86,7 +87,7 @@ returns-in-Err-clause-ended g c = λ text is.
 pub returns-in-Err-clause-device : goal.returns-in-Err-clause-device
 returns-in-Err-clause-device g c = λ is.
     rose-back (g.F.Flash.state c.args.flash.now).media.faults (g.F.Flash.state c.take_lines-all.new.flash).media.faults (g.F.Flash.state c.flush.new.flash).media.faults c.take_lines-all.ensures.goes.faults
-    (flush-rose (g.F.Flash.state c.take_lines-all.new.flash) (g.F.Flash.state c.flush.new.flash) c.in-Err.fault (rw c.in-Err.is at c.flush.ensures.cause) (sym c.flush_status.ensures ∙ is))
+    (flush-rose (g.F.Flash.state c.take_lines-all.new.flash) (g.F.Flash.state c.flush.new.flash) c.in-Err.fault (unarmed-then _ _ c.requires.unarmed c.take_lines-all.ensures.goes) (rw c.in-Err.is at c.flush.ensures.cause) (sym c.flush_status.ensures ∙ is))
 
 pub returns-in-Err-clause-read : goal.returns-in-Err-clause-read
 returns-in-Err-clause-read g c = λ is. absurd (flush-read c.in-Err.fault (sym c.flush_status.ensures ∙ is))
