@@ -4,7 +4,8 @@ use Rattle.std.proofs.lemmas.Nat.{leading_length}
 use Rattle.std.proofs.lemmas.Bool.{cases_lt}
 use Rattle.std.proofs.Math.Nat.{pow-le-pow_right}
 use Rattle.std.proofs.lemmas.Grind.{pow_more}
-use Rattle.fl_base.specs.Bits.{bits, HasBits}
+use Rattle.fl_base.specs.Bits.{bits}
+use Rattle.fl_base.specs.BitsGrow.{HasBits}
 
 pub has-bits : (n : ℕ) → n < 2 ^ 64 → HasBits n
 has-bits n lt =

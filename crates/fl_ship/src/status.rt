@@ -76,14 +76,18 @@ pub(crate) fn stop_status(stop: Stop, at: usize) -> ShipStatus
 {
     match stop {
         Stop::Gap { last, oldest } => ShipStatus::Gap { last, oldest },
-        Stop::Ship(ShipFault::Read(ReadFault::Flash(_))) => ShipStatus::Device { side: Side::Source },
+        Stop::Ship(ShipFault::Read(ReadFault::Flash(_))) => ShipStatus::Device {
+            side: Side::Source,
+        },
         Stop::Ship(ShipFault::Read(ReadFault::BadPage(_))) => ShipStatus::BadImage {
             side: Side::Source,
             table: at as u32,
         },
         Stop::Ship(ShipFault::Put(PutRefusal::Flash(_))) => ShipStatus::Device { side: Side::Copy },
         Stop::Ship(ShipFault::Put(_)) => ShipStatus::Spent,
-        Stop::Ship(ShipFault::Flush(FlushFault::Flash(_))) => ShipStatus::Device { side: Side::Copy },
+        Stop::Ship(ShipFault::Flush(FlushFault::Flash(_))) => ShipStatus::Device {
+            side: Side::Copy,
+        },
         Stop::Ship(ShipFault::Flush(FlushFault::Stopped)) => ShipStatus::NoMemory,
     }
 }

@@ -10,7 +10,7 @@ use Rattle.fl_store.specs.Store.{IsOpened}
 use Rattle.fl_store.specs.Unarmed.{IsUnarmed}
 
 arms-none : (armed : Option Armed) → ArmsAs None armed → armed ≡ None
-arms-none None as = refl
+arms-none None h = refl
 arms-none (Some armed) (kind, is, counted, tears) = absurd (no is)
   where
     no : {cut : ℕ × CutKind} → ◌≡◌ {A = Option (ℕ × CutKind)} None (Some cut) → ⊥
