@@ -123,3 +123,30 @@ returns-in-Scan-clause-cause g c = rw c.in-Scan.is (c.scan.ensures.cause)
 
 pub returns-in-Next-clause-cause : goal.returns-in-Next-clause-cause
 returns-in-Next-clause-cause g c = rw c.in-Next.is (c.next.ensures.cause)
+
+pub returns-in-Select-clause-goes : goal.returns-in-Select-clause-goes
+returns-in-Select-clause-goes g c = stays _ _ c.select.ensures.goes
+
+pub returns-in-Project-clause-goes : goal.returns-in-Project-clause-goes
+returns-in-Project-clause-goes g c = stays _ _ c.project.ensures.goes
+
+pub returns-in-Agg-clause-goes : goal.returns-in-Agg-clause-goes
+returns-in-Agg-clause-goes g c = stays _ _ c.aggregate.ensures.goes
+
+pub returns-in-Join-clause-goes : goal.returns-in-Join-clause-goes
+returns-in-Join-clause-goes g c = stays _ _ c.join.ensures.goes
+
+pub returns-in-Load-clause-goes : goal.returns-in-Load-clause-goes
+returns-in-Load-clause-goes g c = stays _ _ c.load.ensures.goes
+
+pub returns-in-Blob-clause-goes : goal.returns-in-Blob-clause-goes
+returns-in-Blob-clause-goes g c = stays _ _ c.blob.ensures.goes
+
+pub returns-in-Get-clause-goes : goal.returns-in-Get-clause-goes
+returns-in-Get-clause-goes g c = stays _ _ c.get.ensures.goes
+
+pub returns-in-Scan-clause-goes : goal.returns-in-Scan-clause-goes
+returns-in-Scan-clause-goes g c = stays _ _ c.scan.ensures.goes
+
+pub returns-in-Next-clause-goes : goal.returns-in-Next-clause-goes
+returns-in-Next-clause-goes g c = stays _ _ c.next.ensures.goes
