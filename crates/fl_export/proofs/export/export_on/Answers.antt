@@ -1,6 +1,8 @@
 use Rattle.std.proofs.Common.{◌≡◌, inr, IsTrue, false, true, Some, length, refl, sym, ◌∙◌, subst, arith}
 use Rattle.std.specs.List.{slice_get}
 use Rattle.std.proofs.lemmas.Option.{slice_get_within}
+use Rattle.fl_frame.proofs.ContentsInTurn.{OnlyReads-goes}
+use Rattle.fl_frame.proofs.CallsInTurn.{goes-then}
 use Rattle.fl_store.proofs.Unarmed.{unarmed-then}
 use Rattle.fl_image.specs.declared.status.ToolStatus.{ToolStatus}
 use Rattle.fl_image.specs.declared.status.ToolStatus.TheVariants.{OutWrite}
@@ -113,3 +115,9 @@ pub returns-in-Err-write_table-clause-repairs : goal.returns-in-Err-write_table-
 returns-in-Err-write_table-clause-repairs g c = λ plans ts name tells on calm stand named well page lt.
     repaired-read plans (g.F.Flash.state c.args.flash.now).geometry page (g.F.Flash.state c.args.flash.now) (g.F.Flash.state c.mount.new.flash) (g.F.Flash.state c.write_table.new.flash) c.write_table.ensures.counts
     (c.in_default.ensures.repaired tells plans ts stand (inr (has_risen (g.F.Flash.state c.args.flash.now) (g.F.Flash.state c.mount.new.flash), at_rest, watched (g.F.Flash.state c.args.flash.now) (g.F.Flash.state c.mount.new.flash) at_rest tells on calm)) page lt)
+
+pub returns-in-Ok-clause-goes : goal.returns-in-Ok-clause-goes
+returns-in-Ok-clause-goes g c = goes-then _ _ _ c.mount.ensures.goes (OnlyReads-goes _ _ c.write_table.ensures.counts)
+
+pub returns-in-Err-write_table-clause-goes : goal.returns-in-Err-write_table-clause-goes
+returns-in-Err-write_table-clause-goes g c = goes-then _ _ _ c.mount.ensures.goes (OnlyReads-goes _ _ c.write_table.ensures.counts)

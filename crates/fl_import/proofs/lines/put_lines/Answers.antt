@@ -102,3 +102,6 @@ lines-preserved g c =
       far = λ text names takes. far-next c.args.gone c.lines.taken c.args.form text c.args.table.now (g.F.Flash.state c.args.flash.now) c.lines.table (g.F.Flash.state c.lines.flash) (g.K.Sink.written c.args.out.now) (g.K.Sink.written c.lines.out) c.lines.lines c.next_line.new.lines (g.S.Source.left c.lines.input) (g.S.Source.left c.next_line.new.input) _ _
           (i.far text names takes) c.put_line.new.table (g.F.Flash.state c.put_line.new.flash) (g.K.Sink.written c.put_line.new.out) c.in_ok-end.end c.after_end.result n c.after_end.ensures counts.0 (rw c.line.ensures at c.in_ok-end.ensures.ends);
     }
+
+pub returns-in_err-end-clause-goes : goal.returns-in_err-end-clause-goes
+returns-in_err-end-clause-goes g c = goes-then _ _ _ c.lines.invariant.goes c.put_line.ensures.goes

@@ -175,3 +175,6 @@ returns-clause-puts g c = λ first plan t works. put-whole _ _ _ _ c.args.count 
 
 pub returns-clause-cut : goal.returns-clause-cut
 returns-clause-cut g c = λ first plan t runs. keep-so _ _ _ _ c.args.count _ _ _ _ c.puts.invariant.far (omega arith) first plan t (Ok c.args.count) runs
+
+pub returns-in_err-put_row-clause-goes : goal.returns-in_err-put_row-clause-goes
+returns-in_err-put_row-clause-goes g c = goes-then _ _ _ c.puts.invariant.goes c.put_row.ensures.goes

@@ -1,6 +1,8 @@
 use Rattle.std.proofs.Common.{◌≡◌, inr, true, false, IsTrue, Err, Some, length, refl, sym, ◌∙◌, ap, subst, arith}
 use Rattle.std.specs.List.{slice_get}
 use Rattle.std.proofs.lemmas.Option.{slice_get_within}
+use Rattle.fl_frame.proofs.ContentsInTurn.{OnlyReads-goes}
+use Rattle.fl_frame.proofs.CallsInTurn.{goes-then}
 use Rattle.fl_store.proofs.CallsInTurn.{rose-back}
 use Rattle.fl_store.proofs.Unarmed.{unarmed-then}
 use Rattle.fl_store.specs.Store.{at_rest}
@@ -348,3 +350,15 @@ returns-in-Err-ship_table-clause-good g c = λ plans ts name table tells on calm
     let stood = subst (λ (t : Table 64 64). Stands t m (first_of plans c.args.at) (bare from.plan) (bare_table from.table)) (sym c.table-source.ensures) from.stands.on_flash.unlogged in
     stop-good c.in-Err-ship_table.stop c.args.at table
     (λ bad e. c.ship_table.ensures.none_bad (first_of plans c.args.at) (bare from.plan) (bare_table from.table) told_m stood bad (c.in-Err-ship_table.is ∙ ap (λ (s : Stop). Err s) e)) (sym c.stop_status.ensures ∙ is)
+
+pub returns-in-Ok-clause-goes : goal.returns-in-Ok-clause-goes
+returns-in-Ok-clause-goes g c = goes-then _ _ _ c.mount.ensures.goes (OnlyReads-goes _ _ c.ship_table.ensures.reads_only)
+
+pub returns-in-Ok-clause-copy_goes : goal.returns-in-Ok-clause-copy_goes
+returns-in-Ok-clause-copy_goes g c = goes-then _ _ _ c.mount-2.ensures.goes c.ship_table.ensures.goes
+
+pub returns-in-Err-ship_table-clause-goes : goal.returns-in-Err-ship_table-clause-goes
+returns-in-Err-ship_table-clause-goes g c = goes-then _ _ _ c.mount.ensures.goes (OnlyReads-goes _ _ c.ship_table.ensures.reads_only)
+
+pub returns-in-Err-ship_table-clause-copy_goes : goal.returns-in-Err-ship_table-clause-copy_goes
+returns-in-Err-ship_table-clause-copy_goes g c = goes-then _ _ _ c.mount-2.ensures.goes c.ship_table.ensures.goes

@@ -135,6 +135,9 @@ pub returns-in-Err-clause-cause : goal.returns-in-Err-clause-cause
 returns-in-Err-clause-cause g c =
     mount-cause-later (g.F.Flash.state c.args.flash.now) (g.F.Flash.state c.loop-i.flash) (g.F.Flash.state c.mount.new.flash) c.loop-i.invariant.goes c.loop-i.invariant.power c.in-Err.fault c.in-Err.ensures.cause
 
+pub returns-in-Err-clause-goes : goal.returns-in-Err-clause-goes
+returns-in-Err-clause-goes g c = goes-then _ _ _ c.loop-i.invariant.goes c.mount.ensures.goes
+
 pub loop-i-preserved : goal.loop-i-preserved
 loop-i-preserved g c =
     let f = g.F.Flash.state c.args.flash.now in
