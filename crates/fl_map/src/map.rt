@@ -1,5 +1,5 @@
 // The map of an image.
-ghost use Rattle.std.specs.Prelude.{◌≡◌, ◌≤◌, ◌<◌, ◌⊎◌, ◌+◌, ◌*◌, ◌^◌, Err, length, IsTrue, IfOk, IfErr, OnOk, true};
+ghost use Rattle.std.specs.Prelude.{◌≡◌, ◌≤◌, ◌<◌, ◌⊎◌, ◌+◌, ◌*◌, ◌^◌, Err, length, IsTrue, IfOk, IfErr, OnOk};
 ghost use Rattle.fl_base.specs.Causes.{Appends, AppendsFront, Rose};
 ghost use Rattle.fl_flash.specs.Flash.{pages};
 ghost use Rattle.fl_image_check.specs.Checking.{OnlyLooks, IsOver};
@@ -62,7 +62,6 @@ fn draw_table<F: Flash>(
 ) -> Result<(), ToolStatus>
     requires table { i < length config.now.plans }
     requires over { IsOver config.now (F.state flash.old) }
-    requires on { (F.state flash.old).is_on ≡ true }
     requires room { length rooms.old.page.bytes ≡ (F.state flash.old).geometry.page }
     requires top { canvas.old.top + 2 ^ 38 < 2 ^ 40 }
     ensures looks { OnlyLooks (F.state flash.old) (F.state flash.new) }
@@ -106,7 +105,6 @@ fn draw_tables<F: Flash>(
     canvas: &mut Canvas,
 ) -> Result<(), ToolStatus>
     requires over { IsOver config.now (F.state flash.old) }
-    requires on { (F.state flash.old).is_on ≡ true }
     requires room { length rooms.old.page.bytes ≡ (F.state flash.old).geometry.page }
     requires fresh { drawn_of canvas.old ≡ no_tables canvas.old.drawing }
     ensures looks { OnlyLooks (F.state flash.old) (F.state flash.new) }
@@ -139,7 +137,6 @@ fn draw_image<F: Flash>(
     flash: &mut F,
 ) -> Result<Canvas, ToolStatus>
     requires over { IsOver config.now (F.state flash.old) }
-    requires on { (F.state flash.old).is_on ≡ true }
     ensures looks { OnlyLooks (F.state flash.old) (F.state flash.new) }
     ensures drawing { IfOk result (λ canvas. canvas.drawing ≡ drawing) }
     ensures drawn { IfOk result (λ canvas. IsTrue (F.state flash.old).media.tells → AreDrawn drawing config.now (F.state flash.old).media.content (length config.now.plans) (drawn_of canvas)) }

@@ -20,9 +20,6 @@ loop-i-init g c = record {
 pub draw_table-requires-clause-over : goal.draw_table-requires-clause-over
 draw_table-requires-clause-over g c = over-on c.args.config.now (g.F.Flash.state c.args.flash.now) (g.F.Flash.state c.loop-i.flash) c.requires.over c.loop-i.invariant.looks
 
-pub draw_table-requires-clause-on : goal.draw_table-requires-clause-on
-draw_table-requires-clause-on g c = c.loop-i.invariant.looks.power ∙ c.requires.on
-
 pub draw_table-requires-clause-room : goal.draw_table-requires-clause-room
 draw_table-requires-clause-room g c = c.loop-i.invariant.room ∙ ap (λ (h : Geometry). h.page) (sym c.loop-i.invariant.looks.goes.geometry)
 

@@ -1,6 +1,5 @@
 use Rattle.std.proofs.Common.{ℕ, Err, List, length, refl, ap, subst}
 use Rattle.fl_base.specs.Causes.{Appends, AppendsFront}
-use Rattle.fl_flash.specs.Flash.{FlashState}
 use Rattle.fl_image.proofs.Reach.{reach}
 use Rattle.fl_image_check.proofs.CheckEnds.{over-of}
 use Rattle.fl_image_check.proofs.ToldTables.{told-none}
@@ -26,7 +25,6 @@ returns-in_default-new-clause-ends g c told = told-none (g.K.Sink.written c.args
 pub draw_image-drawn-requires : goal.draw_image-drawn-requires
 draw_image-drawn-requires g c = record {
   over = over-of c.in-Ok-config_of_image.config c.geometry-geometry.result c.blocks-blocks.result _ _ _ _ c.with_room-flash.ensures c.geometry-geometry.ensures.device c.blocks-blocks.ensures.exact c.blocks-blocks.ensures.fits;
-  on = ap (λ (f : FlashState). f.is_on) c.with_room-flash.ensures;
 }
 
 pub returns-in-Err-clause-ends : goal.returns-in-Err-clause-ends
