@@ -6,7 +6,7 @@ use Rattle.std.specs.Prelude.{unwrap_or}
 use Rattle.fl_flash.specs.Flash.{FlashState}
 use Rattle.fl_image.specs.declared.status.ToolStatus.{ToolStatus}
 use Rattle.fl_image.specs.declared.status.ToolStatus.TheVariants.{BadImage}
-use Rattle.fl_page.specs.Contents.{OnlyReads, contents_of}
+use Rattle.fl_frame.specs.Contents.{OnlyReads, contents_of}
 use Rattle.fl_page.specs.declared.fault.BadPage as page
 use Rattle.fl_rlc.specs.Table.{table_in}
 use Rattle.fl_store.specs.InMemory.{has_blobs_at}

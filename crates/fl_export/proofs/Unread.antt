@@ -3,7 +3,7 @@ use Rattle.fl_csv.specs.declared.record.CsvFault.{CsvFault}
 use Rattle.fl_csv.specs.declared.record.CsvFault.TheVariants as line
 use Rattle.fl_cursor.specs.Cursor.{IfBad}
 use Rattle.fl_flash.specs.Flash.{FlashState}
-use Rattle.fl_page.specs.Contents.{OnlyReads}
+use Rattle.fl_frame.specs.Contents.{OnlyReads}
 use Rattle.fl_page.specs.declared.fault.BadPage as page
 use Rattle.fl_page.specs.declared.fault.ReadFault.{ReadFault}
 use Rattle.fl_page.specs.declared.fault.ReadFault.TheVariants.{Flash, BadPage}

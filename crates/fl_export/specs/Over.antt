@@ -3,7 +3,7 @@ use Rattle.std.specs.Prelude.{◌≡◌, ◌⊎◌, ℕ, true, Result, Ok, Err, 
 use Rattle.fl_flash.specs.Flash.{FlashState}
 use Rattle.fl_image.specs.declared.status.ToolStatus.{ToolStatus}
 use Rattle.fl_image.specs.declared.status.ToolStatus.TheVariants.{BadImage}
-use Rattle.fl_page.specs.Contents.{OnlyReads}
+use Rattle.fl_frame.specs.Contents.{OnlyReads}
 use Rattle.fl_store.specs.InMemory.{has_blobs_at}
 use Rattle.fl_store.specs.Jobs.{HasBadPage, MountsThen}
 use Rattle.fl_store.specs.Status.{mount_status}

@@ -7,13 +7,14 @@ ghost use Rattle.fl_image.specs.Image.{OnlyLooksAt};
 ghost use Rattle.fl_image.specs.declared.status.ToolStatus.{ToolStatus};
 ghost use Rattle.fl_model.specs.Record.{Config as Configured, Plan, blocks_of};
 ghost use Rattle.fl_model.specs.Table as model;
-ghost use Rattle.fl_ring.specs.Device.{SameDevice};
+ghost use Rattle.fl_frame.specs.Device.{SameDevice};
 ghost use Rattle.fl_store.specs.Jobs.{JobEnds};
 ghost use Rattle.fl_store.specs.MountEnds.{told_of, Keeps};
 ghost use Rattle.fl_store.specs.Named.{IsImageWith};
 ghost use Rattle.fl_store.specs.Repaired.{AreRepaired, IsLeft};
 ghost use Rattle.fl_store.specs.Store.{at_rest};
 ghost use Rattle.fl_store.specs.Tables.{IsNamed, LieOn, TablesStand};
+ghost use Rattle.fl_store.specs.Unarmed.{IsUnarmed};
 ghost use Rattle.fl_words.specs.Medium.{IsImage};
 ghost use Rattle.fl_export.specs.Ends.{StatusFits, ExportEnds};
 ghost use Rattle.fl_export.specs.Over.{ExportsOver};
@@ -25,7 +26,7 @@ use crate::rooms::Rooms;
 use crate::table::write_table;
 use fl_base::{KeyRange, Name, Sink};
 use fl_flash::{Flash, Media};
-use fl_image::{ToolStatus, flash_status};
+use fl_image::ToolStatus;
 use fl_page::ReadFault;
 use fl_store::{FoundTable, Store, Tables, mount_status};
 use std::alloc::Global;
@@ -38,7 +39,7 @@ fn status_of(fault: ExportFault, at: usize) -> ToolStatus
     match fault {
         ExportFault::NoMemory => ToolStatus::NoMemory,
         ExportFault::Sink(_) => ToolStatus::OutWrite,
-        ExportFault::Read(ReadFault::Flash(fault)) => flash_status(fault),
+        ExportFault::Read(ReadFault::Flash(_)) => ToolStatus::Device,
         ExportFault::Read(ReadFault::BadPage(_)) => ToolStatus::BadImage { table: at as u32 },
     }
 }
@@ -57,6 +58,7 @@ fn export_on<F: Flash, K: Sink>(
     requires rooms { HasRooms rooms.old (F.state flash.old).geometry.page }
     requires at { at < length tables.old.entries.items }
     requires few { length tables.old.entries.items ≤ 4 }
+    requires unarmed { IsUnarmed (F.state flash.old) }
     ensures over { ExportsOver result at tables.old.entries.items (F.state flash.old) (F.state flash.new) }
     ensures goes { Goes (F.state flash.old) (F.state flash.new) }
     ensures later { K.faults out.old ≤ K.faults out.new }

@@ -8,7 +8,7 @@ ghost use Rattle.fl_model.specs.Record.{Plan};
 ghost use Rattle.fl_model.specs.Row.{stored_row};
 ghost use Rattle.fl_model.specs.Table as model;
 ghost use Rattle.fl_model.specs.Table.{Entry};
-ghost use Rattle.fl_page.specs.Contents.{OnlyReads};
+ghost use Rattle.fl_frame.specs.Contents.{OnlyReads};
 ghost use Rattle.fl_schema.specs.Schema.{layout_of_row, row_of};
 ghost use Rattle.fl_table.specs.BlobAt.{has_blobs};
 ghost use Rattle.fl_table.specs.Look.{layout_in};

@@ -9,7 +9,7 @@ ghost use Rattle.fl_model.specs.Record.{Plan};
 ghost use Rattle.fl_model.specs.Row.{stored_row};
 ghost use Rattle.fl_model.specs.Table as model;
 ghost use Rattle.fl_model.specs.Table.{Entry};
-ghost use Rattle.fl_page.specs.Contents.{contents_of, OnlyReads};
+ghost use Rattle.fl_frame.specs.Contents.{contents_of, OnlyReads};
 ghost use Rattle.fl_table.specs.Memory.{is_running, LiesOn};
 ghost use Rattle.fl_table.specs.Standing.{Stands};
 ghost use Rattle.fl_export.specs.Text.{said_of, AreAmong};

@@ -8,7 +8,7 @@ ghost use Rattle.fl_image.specs.Status.{is_done};
 ghost use Rattle.fl_image.specs.declared.status.ToolStatus.{ToolStatus};
 ghost use Rattle.fl_model.specs.Record.{Config as Configured, Plan};
 ghost use Rattle.fl_model.specs.Table as model;
-ghost use Rattle.fl_ring.specs.Device.{SameDevice};
+ghost use Rattle.fl_frame.specs.Device.{SameDevice};
 ghost use Rattle.fl_rlc.specs.Logged.{Stands};
 ghost use Rattle.fl_store.specs.Jobs.{JobEnds};
 ghost use Rattle.fl_store.specs.MountEnds.{Keeps};
@@ -16,6 +16,7 @@ ghost use Rattle.fl_store.specs.Named.{IsImageWith};
 ghost use Rattle.fl_store.specs.Repaired.{IsLeft, IsOfOther, OthersAreRepaired};
 ghost use Rattle.fl_store.specs.Store.{at_rest};
 ghost use Rattle.fl_store.specs.Tables.{AreNewTables, IsNamed, LieOn, TablesStand};
+ghost use Rattle.fl_store.specs.Unarmed.{IsUnarmed};
 ghost use Rattle.fl_words.specs.Config as words;
 ghost use Rattle.fl_words.specs.Medium.{IsImage};
 ghost use Rattle.fl_import.specs.Ends.{ImportEnds, IsFormIn, StatusFits};
@@ -64,6 +65,7 @@ fn import_on<F: Flash, S: Source, K: Sink>(
     requires room { length room.old.bytes ≡ (F.state flash.old).geometry.page }
     requires at { at < length tables.old.entries.items }
     requires few { length tables.old.entries.items ≤ 4 }
+    requires unarmed { IsUnarmed (F.state flash.old) }
     requires new { lines.old ≡ record { line = []; ahead = []; most = 2 ^ 24; closed = false } }
     ensures over { ImportsOver result.status at tables.old.entries.items (F.state flash.old) (F.state flash.new) }
     ensures goes { Goes (F.state flash.old) (F.state flash.new) }

@@ -1,7 +1,7 @@
 // The seal of the waiting entries.
 ghost use Rattle.std.specs.Prelude.{Ok, ◌≡◌, ◌+◌, ◌-◌, ◌<◌, ◌≤◌, ◌^◌, ◌==◌, true, false, if◌then◌else◌, length, slice_index, IsTrue, OnOk, OnErr, IfErr, Some};
 ghost use Rattle.fl_flash.specs.Flash.{Goes, OffChangesNothing, page_at};
-ghost use Rattle.fl_ring.specs.Causes.{CausedBy};
+ghost use Rattle.fl_frame.specs.Causes.{CausedBy};
 
 use crate::index::BitmapIndex;
 use crate::page::write_header;
@@ -13,7 +13,7 @@ impl BitmapIndex {
     ghost use Rattle.fl_model.specs.Table as model;
     ghost use Rattle.fl_model.specs.Work.{Device};
     ghost use Rattle.fl_ring.specs.Ring.{OutsideStands};
-    ghost use Rattle.fl_ring.specs.Step.{IsWatched};
+    ghost use Rattle.fl_frame.specs.Watched.{IsWatched};
     ghost use Rattle.fl_ring.specs.Written.{Writes, done};
     ghost use Rattle.fl_index.specs.Memory.{is_running, first_waiting, next_in, per_page, ring_shape, waiting_at, waiting_in, IsSamePlan, LiesOn, MaySeal};
     ghost use Rattle.fl_index.specs.Standing.{Stands};

@@ -2,12 +2,12 @@
 ghost use Rattle.std.specs.Prelude.{◌≡◌, ◌<◌, ◌≤◌, ◌+◌, ◌-◌, ◌^◌, ℕ, Bool, length, IsTrue, IfErr, OnOk};
 ghost use Rattle.fl_flash.specs.Flash.{page_at, Goes, OffChangesNothing};
 ghost use Rattle.fl_model.specs.Work.{Device};
-ghost use Rattle.fl_ring.specs.Causes.{CausedBy};
+ghost use Rattle.fl_frame.specs.Causes.{CausedBy};
 ghost use Rattle.fl_ring.specs.Newest.{number_of};
 ghost use Rattle.fl_ring.specs.Place.{shape_of, next_of, oldest_of, StandsFor, LiesOn};
 ghost use Rattle.fl_ring.specs.Ring.{RingState, IsRing, OutsideStands, oldest, place, is_due_at, sealed, erased};
 ghost use Rattle.fl_ring.specs.Sealing.{IsReady, Seals, SealWork, SealCalls};
-ghost use Rattle.fl_ring.specs.Step.{IsWatched};
+ghost use Rattle.fl_frame.specs.Watched.{IsWatched};
 ghost use Rattle.fl_ring.specs.Written.{MaySeal, Writes, done};
 
 use crate::ring::Ring;

@@ -3,9 +3,9 @@ use Rattle.std.proofs.Common.{◌≡◌, ℕ, zero, suc, ◌+◌, ◌-◌, ◌^�
 use Rattle.fl_flash.specs.Flash.{FlashState}
 use Rattle.fl_flash.specs.declared.flash.Work.{Work}
 use Rattle.fl_model.specs.Record.{Config}
-use Rattle.fl_page.specs.Contents as contents
-use Rattle.fl_page.specs.Contents.{counted}
-use Rattle.fl_page.proofs.ReadsInTurn.{counted-exact}
+use Rattle.fl_frame.specs.Contents as contents
+use Rattle.fl_frame.specs.Contents.{counted}
+use Rattle.fl_frame.proofs.ContentsInTurn.{counted-exact}
 use Rattle.fl_words.specs.Command as command
 use Rattle.fl_words.specs.Reply.{text}
 use Rattle.fl_machine.specs.Machine.{Machine}

@@ -4,13 +4,13 @@ use Rattle.fl_find.proofs.PageLooks.{looks-pages}
 use Rattle.fl_flash.specs.Flash.{FlashState, Goes, page_at}
 use Rattle.fl_flash.specs.declared.armed.Armed.{Armed}
 use Rattle.fl_flash.specs.declared.flash.Work.{Work}
+use Rattle.fl_frame.proofs.ContentsInTurn.{OnlyReads-goes}
 use Rattle.fl_model.specs.Bare.{bare, bare_table}
 use Rattle.fl_model.specs.Query.{entry_at}
 use Rattle.fl_model.specs.Record.{Config, Plan}
 use Rattle.fl_model.specs.Spline.{retained, is_covered, is_pending_key, lookup_limit, lookup_reads}
 use Rattle.fl_model.specs.Table as model
-use Rattle.fl_page.specs.Contents.{OnlyReads}
-use Rattle.fl_page.proofs.ReadsInTurn.{OnlyReads-goes}
+use Rattle.fl_frame.specs.Contents.{OnlyReads}
 use Rattle.fl_words.specs.Command as command
 use Rattle.fl_words.specs.Reply as reply
 use Rattle.fl_words.specs.Reply.{Reply, texts}
@@ -19,7 +19,7 @@ use Rattle.fl_machine.specs.Reads.{OnTable, none_read}
 use Rattle.std.specs.List.{slice_get}
 use Rattle.std.specs.Prelude.{MatchBool, MatchOption, not, ◌&&◌}
 use Rattle.fl_machine.specs.Step.{Moment, Located, located, GetStep, found_reply}
-use Rattle.fl_ring.specs.Device.{ArmsAs}
+use Rattle.fl_frame.specs.Device.{ArmsAs}
 use Rattle.fl_rlc.specs.Table.{table_in}
 use Rattle.fl_script.specs.ReplyView.{reply_text}
 use Rattle.fl_script.specs.Written.{Written}

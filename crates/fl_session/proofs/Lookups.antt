@@ -19,7 +19,7 @@ use Rattle.fl_model.specs.Row.{Row, stored_row}
 use Rattle.fl_model.specs.Table as model
 use Rattle.fl_model.specs.Table.{Entry, pending_entries, written}
 use Rattle.fl_model.proofs.Lists.{slice_get-drop, slice_get-front, slice_get-short}
-use Rattle.fl_page.specs.Contents.{OnlyReads}
+use Rattle.fl_frame.specs.Contents.{OnlyReads}
 use Rattle.fl_page.specs.declared.fault.ReadFault.TheVariants as fault
 use Rattle.fl_search.specs.Search.{RoseSome}
 use Rattle.fl_words.specs.Reply as reply

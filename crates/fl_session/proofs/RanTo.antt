@@ -1,13 +1,13 @@
 -- Commands that were run from each state for which a session stood, one more after another.
 use Rattle.std.proofs.Common.{◌≡◌, ℕ, ◌+◌, ◌^◌, ◌<◌, ◌≤◌, Option, Result, Ok, Err, List, [], ◌∷◌, ◌++◌, length, sym, ◌∙◌, ap, subst, arith}
-use Rattle.fl_flash.specs.Flash.{FlashState, Goes}
+use Rattle.fl_flash.specs.Flash.{FlashState, Stays}
 use Rattle.fl_model.specs.Record.{Config}
 use Rattle.fl_words.specs.Command.{Command}
 use Rattle.fl_machine.specs.Machine.{Machine}
 use Rattle.fl_machine.specs.Run.{end_of}
 use Rattle.fl_machine.specs.Small.{AreTables}
 use Rattle.fl_model.specs.Work.{Device}
-use Rattle.fl_ring.specs.Device.{SameDevice}
+use Rattle.fl_frame.specs.Device.{SameDevice}
 use Rattle.fl_session.specs.Execute.{Executes, IsReady, RanAll, RanPart}
 use Rattle.fl_session.specs.Run.{around_of}
 use Rattle.fl_session.proofs.NextCommand.{RanSoFar, none-counted, ran-into, ran-more}
@@ -41,7 +41,7 @@ ran_to-next {E} config command stands stands_mid stands_now f mid now told told_
 
 -- what the flash counted from the first command on, and the state after the last one
 pub record CountsAll (stands_now : Machine → Type 0) (f now : FlashState) : Type 0 where
-  pub goes : Goes f now
+  pub goes : Stays f now
   pub device : (m : Machine) → stands_now m → SameDevice now m.device
 
 -- .. as the last one

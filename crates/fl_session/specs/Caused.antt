@@ -10,7 +10,7 @@ use Rattle.fl_flash.specs.declared.flash.FlashFault.TheVariants.{PowerLost}
 use Rattle.fl_flash.specs.declared.tear.Tear.TheVariants.{Kind}
 use Rattle.fl_machine.specs.Step.{cost_reply}
 use Rattle.fl_model.specs.Row.{Row}
-use Rattle.fl_page.specs.Contents.{OnlyReads}
+use Rattle.fl_frame.specs.Contents.{OnlyReads}
 use Rattle.fl_page.specs.declared.fault.BadPage.{BadPage}
 use Rattle.fl_page.specs.declared.fault.ReadFault.TheVariants as fault
 use Rattle.fl_rlc.specs.Refusal.{NeedsNoOperation, put_refusal}
@@ -19,7 +19,7 @@ use Rattle.fl_rlc.specs.Table as logged
 use Rattle.fl_rlc.specs.Table.{IsSamePlan, log_in, rings_in, table_in}
 use Rattle.fl_rlc.specs.declared.table.LoggedTable.{LoggedTable}
 use Rattle.fl_script.specs.Written.{Written}
-use Rattle.fl_ring.specs.Causes.{CausedBy}
+use Rattle.fl_frame.specs.Causes.{CausedBy}
 use Rattle.fl_table.specs.Causes.{flush_breaks, put_breaks}
 use Rattle.fl_table.specs.BlobAt.{data_in, has_blobs}
 use Rattle.fl_table.specs.Blobs.{most_pages}

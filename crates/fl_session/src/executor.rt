@@ -1,11 +1,11 @@
 // What executes commands.
 ghost use Rattle.std.specs.Prelude.{◌≡◌, ◌≤◌, ℕ, List, Option, Some, slice_get};
 ghost use Rattle.fl_base.specs.Causes.{HasCause};
-ghost use Rattle.fl_flash.specs.Flash.{FlashState, Goes};
+ghost use Rattle.fl_flash.specs.Flash.{FlashState, Stays};
 ghost use Rattle.fl_model.specs.Record.{Config, Plan};
 ghost use Rattle.fl_machine.specs.Machine.{Machine};
 ghost use Rattle.fl_machine.specs.Small.{AreTables};
-ghost use Rattle.fl_ring.specs.Device.{SameDevice};
+ghost use Rattle.fl_frame.specs.Device.{SameDevice};
 ghost use Rattle.fl_rlc.specs.Rings.{rings_in};
 ghost use Rattle.fl_rlc.specs.Table.{table_in};
 ghost use Rattle.fl_script.specs.CommandView.{command_view};
@@ -57,7 +57,7 @@ pub trait Executor {
         requires runnable { IsRunnable (command_view command.now room.now) }
         ensures cause { Caused (command_view command.now room.now) (state self.old) (state self.new) (K.written out.old) (K.written out.new) result }
         ensures sound { sound self.new }
-        ensures goes { Goes (flash self.old) (flash self.new) }
+        ensures goes { Stays (flash self.old) (flash self.new) }
         ensures sink { HasCause (K.faults out.old) (K.faults out.new) result }
         ensures step { (config : Config) (old : Machine) → stands self.old config old →
             Executes config old (command_view command.now room.now) (stands self.new config) (flash self.old) (flash self.new) (K.written out.old) (K.written out.new) result };
@@ -92,7 +92,7 @@ pub trait Executor {
         requires { sound self.old }
         ensures cause { OldestSays (state self.old) (state self.new) name result }
         ensures sound { sound self.new }
-        ensures goes { Goes (flash self.old) (flash self.new) }
+        ensures goes { Stays (flash self.old) (flash self.new) }
         ensures looks { (config : Config) (m : Machine) → stands self.old config m → LooksFor config m name (stands self.new config) (flash self.old) (flash self.new) result };
 
     /// The rows that no flush has written. They are in memory: no page is read.

@@ -2,7 +2,7 @@
 use Rattle.std.proofs.Common.{◌≡◌, ℕ, inl, inr, Option, Some, Err, List, [], ◌∷◌, length, sym, subst}
 use Rattle.fl_config.specs.declared.image.ImageRefusal.{ImageRefusal}
 use Rattle.fl_config.specs.declared.image.ImageRefusal.TheVariants.{Media, Other}
-use Rattle.fl_flash.specs.Flash.{Goes}
+use Rattle.fl_flash.specs.Flash.{Stays}
 use Rattle.fl_flash.specs.Media.{MediaState}
 use Rattle.fl_image.specs.Image.{OnlyLooksAt}
 use Rattle.fl_lines.specs.Stream.{LinesState}
@@ -33,7 +33,7 @@ flushed-behind names all total old mid new told told_now left_now flushed status
     ends-behind (λ front whole. CausedBy front whole old mid told told_now) (λ front whole. TalkedOver names front whole flushed told told_now old new) all total left_now flushed status of (λ front whole caused. (mid, caused, flushes)) h
 
 -- .. by a session over a medium
-pub session-ends : (lines : Lines) (opened new : MediaState) (begin end : State) (all : List (List ℕ)) (total : ℕ) (told told_now left_now : Option (List ℕ)) (flushed : Flushed) (status : ShellStatus) → IsNewSession lines opened begin → Goes begin.flash end.flash → new ≡ end.flash.media →
+pub session-ends : (lines : Lines) (opened new : MediaState) (begin end : State) (all : List (List ℕ)) (total : ℕ) (told told_now left_now : Option (List ℕ)) (flushed : Flushed) (status : ShellStatus) → IsNewSession lines opened begin → Stays begin.flash end.flash → new ≡ end.flash.media →
     EndsBy (λ front whole. TalkedOver (names_of lines) front whole flushed told told_now begin end) all total left_now status × TellsFlushed flushed status → SessionEnds lines opened new all total told told_now left_now flushed status
 session-ends lines opened new begin end all total told told_now left_now flushed status begun goes left h = (
   ends-map (λ front whole. TalkedOver (names_of lines) front whole flushed told told_now begin end) (λ front whole. SessionOver lines opened new (TalkedOver (names_of lines) front whole flushed told told_now)) all total left_now status

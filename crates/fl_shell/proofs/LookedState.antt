@@ -1,7 +1,7 @@
 -- A session's memory and flash are only looked at, and something is written.
 use Rattle.std.proofs.Common.{◌≡◌, ◌⊎◌, inl, inr, ℕ, Option, Result, Ok, Err, List, [], ◌++◌, refl, sym, ◌∙◌, ap, subst}
 use Rattle.fl_base.specs.Causes.{Appends}
-use Rattle.fl_page.proofs.ReadsInTurn.{OnlyReads-same, OnlyReads-then}
+use Rattle.fl_frame.proofs.ContentsInTurn.{OnlyReads-same, OnlyReads-then}
 use Rattle.fl_script.specs.Written.{Written}
 use Rattle.fl_script.specs.declared.reply.Reply.{Reply}
 use Rattle.fl_script.proofs.SinkPieces.{appends-append}

@@ -2,7 +2,7 @@
 ghost use Rattle.std.specs.Prelude.{◌≡◌, ℕ, List, Some, None, IsTrue, option_map, slice_get};
 ghost use Rattle.fl_base.specs.Causes.{HasCause};
 ghost use Rattle.fl_config.specs.Whole.{is_whole, Makes};
-ghost use Rattle.fl_flash.specs.Flash.{Goes};
+ghost use Rattle.fl_flash.specs.Flash.{Stays};
 ghost use Rattle.fl_machine.specs.Machine.{Machine};
 ghost use Rattle.fl_machine.specs.Script.{runs};
 ghost use Rattle.fl_model.specs.Record.{Config as Configuration};
@@ -99,7 +99,7 @@ fn answer_first<E: Executor, K: Sink>(
 ) -> Result<(), SinkFailed>
     requires { E.sound session.old }
     ensures sound { E.sound session.new }
-    ensures goes { Goes (E.flash session.old) (E.flash session.new) }
+    ensures goes { Stays (E.flash session.old) (E.flash session.new) }
     ensures cause { HasCause (K.faults out.old) (K.faults out.new) result }
     ensures told { CausesFirst (E.state session.old) (E.state session.new) name (K.written out.old) (K.written out.new) result }
     ensures first { (config : Configuration) (m : Machine) → E.stands session.old config m →
@@ -139,7 +139,7 @@ fn answer_command<E: Executor, K: Sink>(
 ) -> Result<(), SinkFailed>
     requires { E.sound session.old }
     ensures sound { E.sound session.new }
-    ensures goes { Goes (E.flash session.old) (E.flash session.new) }
+    ensures goes { Stays (E.flash session.old) (E.flash session.new) }
     ensures cause { HasCause (K.faults out.old) (K.faults out.new) result }
     ensures told { CausedRun (runs line.now) (E.state session.old) (E.state session.new) (K.written out.old) (K.written out.new) result }
     ensures turn { (config : Configuration) (m : Machine) → own_of line.now ≡ None → E.stands session.old config m →
@@ -166,7 +166,7 @@ fn answer_own<E: Executor, K: Sink>(
     requires sound { E.sound session.old }
     requires whole { IsTrue (is_whole config.now) }
     ensures sound { E.sound session.new }
-    ensures goes { Goes (E.flash session.old) (E.flash session.new) }
+    ensures goes { Stays (E.flash session.old) (E.flash session.new) }
     ensures cause { HasCause (K.faults out.old) (K.faults out.new) result }
     ensures told { (line : List ℕ) → CausedOwn (Some (own_view own.now)) line (E.state session.old) (E.state session.new) (K.written out.old) (K.written out.new) result }
     ensures turn { (configured : Configuration) (m : Machine) (line : List ℕ) → Makes config.now configured → own_of line ≡ Some (own_view own.now) → E.stands session.old configured m →
@@ -193,7 +193,7 @@ pub(crate) fn answer<E: Executor, K: Sink>(
     requires sound { E.sound session.old }
     requires whole { IsTrue (is_whole config.now) }
     ensures sound { E.sound session.new }
-    ensures goes { Goes (E.flash session.old) (E.flash session.new) }
+    ensures goes { Stays (E.flash session.old) (E.flash session.new) }
     ensures cause { HasCause (K.faults out.old) (K.faults out.new) result }
     ensures told { CausedLine line.now (E.state session.old) (E.state session.new) (K.written out.old) (K.written out.new) result }
     ensures turn { (configured : Configuration) (m : Machine) → Makes config.now configured → E.stands session.old configured m →

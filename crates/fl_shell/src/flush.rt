@@ -1,6 +1,6 @@
 // The flush of what is pending when a shell ends.
 ghost use Rattle.std.specs.Prelude.{◌≡◌, ℕ, List};
-ghost use Rattle.fl_flash.specs.Flash.{Goes};
+ghost use Rattle.fl_flash.specs.Flash.{Stays};
 ghost use Rattle.fl_model.specs.Record.{Config as Configuration};
 ghost use Rattle.fl_machine.specs.Machine.{Machine};
 ghost use Rattle.fl_machine.specs.Step.{Moment};
@@ -44,7 +44,7 @@ fn pending_rows<E: Executor>(session: &E, config: &Config) -> u64
 fn flush_table<E: Executor>(session: &mut E, name: Name, room: &LineRoom) -> bool
     requires { E.sound session.old }
     ensures sound { E.sound session.new }
-    ensures goes { Goes (E.flash session.old) (E.flash session.new) }
+    ensures goes { Stays (E.flash session.old) (E.flash session.new) }
     ensures told { CausesFlush (E.state session.old) (E.state session.new) name result }
     ensures flushes { (config : Configuration) (m : Machine) → E.stands session.old config m →
         FlushesOne config m name (E.stands session.new config) (E.flash session.old) (E.flash session.new) result }
@@ -63,7 +63,7 @@ fn flush_table<E: Executor>(session: &mut E, name: Name, room: &LineRoom) -> boo
 pub(crate) fn flush_all<E: Executor>(session: &mut E, config: &Config, room: &LineRoom) -> Flushed
     requires { E.sound session.old }
     ensures sound { E.sound session.new }
-    ensures goes { Goes (E.flash session.old) (E.flash session.new) }
+    ensures goes { Stays (E.flash session.old) (E.flash session.new) }
     ensures told { FlushesOver (names_of config.now) (E.state session.old) (E.state session.new) result }
     // Behind a run of some moments the flushes go on with it, whatever cursors are open then.
     ensures flushes { (configured : Configuration) (old : Machine) (moments : List Moment) (content : List ℕ) (faults : ℕ) →

@@ -2,7 +2,7 @@
 ghost use Rattle.std.specs.Prelude.{◌≡◌, ℕ, ◌^◌, ◌≤◌, true, Some, List, [], IsTrue};
 ghost use Rattle.fl_base.specs.Causes.{HasCause, Rose};
 ghost use Rattle.fl_config.specs.Whole.{is_whole, Makes};
-ghost use Rattle.fl_flash.specs.Flash.{Goes};
+ghost use Rattle.fl_flash.specs.Flash.{Stays};
 ghost use Rattle.fl_machine.specs.Machine.{Machine};
 ghost use Rattle.fl_model.specs.Record.{Config as Configuration};
 ghost use Rattle.fl_session.specs.Execute.{IsReady, StandsAlike};
@@ -60,7 +60,7 @@ fn answer_in_hand<E: Executor, K: Sink>(
     requires sound { E.sound session.old }
     requires whole { IsTrue (is_whole config.now) }
     ensures sound { E.sound session.new }
-    ensures goes { Goes (E.flash session.old) (E.flash session.new) }
+    ensures goes { Stays (E.flash session.old) (E.flash session.new) }
     ensures cause { HasCause (K.faults out.old) (K.faults out.new) result }
     ensures told { CausedIf has_line line.now (E.state session.old) (E.state session.new) (K.written out.old) (K.written out.new) result }
     ensures turn { (configured : Configuration) (m : Machine) → Makes config.now configured → E.stands session.old configured m →
@@ -87,7 +87,7 @@ fn talk<E: Executor, S: Source, K: Sink>(
     requires sound { E.sound session.old }
     requires whole { IsTrue (is_whole config.now) }
     ensures sound { E.sound session.new }
-    ensures goes { Goes (E.flash session.old) (E.flash session.new) }
+    ensures goes { Stays (E.flash session.old) (E.flash session.new) }
     ensures talks { (configured : Configuration) (old : Machine) (left hand : List ℕ) (total : ℕ) →
         Makes config.now configured → IsReady configured old → E.stands session.old configured old → (E.flash session.old).work.reads ≡ 0 →
         lines.old.most ≤ 2 ^ 44 → S.left input.old ≡ Some left → IsLeft lines.old left (2 ^ 44) total → IsGivenAs hand lines.old.line →
@@ -129,7 +129,7 @@ fn talk_from<E: Executor, S: Source, K: Sink>(
     requires sound { E.sound session.old }
     requires whole { IsTrue (is_whole config.now) }
     ensures sound { E.sound session.new }
-    ensures goes { Goes (E.flash session.old) (E.flash session.new) }
+    ensures goes { Stays (E.flash session.old) (E.flash session.new) }
     ensures talks { (configured : Configuration) (old : Machine) (left hand : List ℕ) (total : ℕ) →
         Makes config.now configured → IsReady configured old → E.stands session.old configured old → (E.flash session.old).work.reads ≡ 0 →
         ((next ≡ Next.Ended → ⊥) → lines.old.most ≤ 2 ^ 44) → S.left input.old ≡ Some left → (next ≡ Next.Ended → left ≡ []) → ((next ≡ Next.Ended → ⊥) → IsLeft lines.old left (2 ^ 44) total) → IsGivenAs hand lines.old.line →
@@ -178,7 +178,7 @@ pub(crate) fn talk_and_flush<E: Executor, S: Source, K: Sink>(
     requires sound { E.sound session.old }
     requires whole { IsTrue (is_whole config.now) }
     ensures sound { E.sound session.new }
-    ensures goes { Goes (E.flash session.old) (E.flash session.new) }
+    ensures goes { Stays (E.flash session.old) (E.flash session.new) }
     ensures ends { (configured : Configuration) (old : Machine) (left hand : List ℕ) (total : ℕ) →
         Makes config.now configured → IsReady configured old → E.stands session.old configured old → (E.flash session.old).work.reads ≡ 0 →
         ((next ≡ Next.Ended → ⊥) → lines.old.most ≤ 2 ^ 44) → S.left input.old ≡ Some left → (next ≡ Next.Ended → left ≡ []) → ((next ≡ Next.Ended → ⊥) → IsLeft lines.old left (2 ^ 44) total) → IsGivenAs hand lines.old.line →

@@ -5,7 +5,7 @@ use Rattle.fl_cursor.specs.Listed.{bytes_at}
 use Rattle.fl_flash.specs.Flash.{FlashState}
 use Rattle.fl_mark.specs.Mark.{state_of_page}
 use Rattle.fl_mark.specs.declared.page_state.PageState.TheVariants.{Committed}
-use Rattle.fl_page.specs.Contents.{Contents, contents_of}
+use Rattle.fl_frame.specs.Contents.{Contents, contents_of}
 use Rattle.fl_page.specs.Page.{IsGoodPage, bad_page}
 use Rattle.fl_page.specs.declared.fault.BadPage.{BadPage}
 use Rattle.fl_page.specs.declared.fault.ReadFault.{ReadFault}

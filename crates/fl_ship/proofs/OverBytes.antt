@@ -2,12 +2,10 @@
 use Rattle.std.proofs.Common.{◌≡◌, ℕ, ◌≤◌, Option, None, Some, Result, Ok, Err, List, refl, sym, ap, subst}
 use Rattle.std.specs.List.{slice_get}
 use Rattle.fl_flash.specs.Flash.{FlashState, Goes}
-use Rattle.fl_flash.specs.declared.flash.FlashFault.{FlashFault}
-use Rattle.fl_flash.specs.declared.flash.FlashFault.TheVariants.{PowerLost, Media}
-use Rattle.fl_page.specs.Contents.{OnlyReads, contents_of}
+use Rattle.fl_frame.specs.Contents.{OnlyReads, contents_of}
 use Rattle.fl_page.specs.declared.fault.BadPage.{BadPage}
 use Rattle.fl_page.specs.declared.fault.ReadFault.TheVariants as read
-use Rattle.fl_page.proofs.ReadsInTurn.{OnlyReads-same}
+use Rattle.fl_frame.proofs.ContentsInTurn.{OnlyReads-same}
 use Rattle.fl_cursor.specs.Cursor.{MayBeBad}
 use Rattle.fl_rlc.specs.Table.{table_in}
 use Rattle.fl_store.specs.Jobs.{ChangesOwn, HasBadPage}
@@ -20,7 +18,7 @@ use Rattle.fl_table.specs.declared.faults.FlushFault.TheVariants as flush
 use Rattle.fl_table.specs.declared.faults.PutRefusal.TheVariants as put
 use Rattle.fl_table.specs.declared.table.Table.{Table}
 use Rattle.fl_ship.specs.Over.{IsGapOver, ShipsFrom, ShipsOnto, ShipsOver, Tells}
-use Rattle.fl_ship.specs.Tables.{TellsShipped, fault_status, mount_status, stop_status}
+use Rattle.fl_ship.specs.Tables.{TellsShipped, mount_status, stop_status}
 use Rattle.fl_ship.specs.declared.fault.ShipFault.TheVariants.{Read, Put, Flush}
 use Rattle.fl_ship.specs.declared.side.Side.{Side}
 use Rattle.fl_ship.specs.declared.side.Side.TheVariants.{Source, Copy}
@@ -44,23 +42,19 @@ module _ (count at : ℕ) (sources : List Entry) (from : FlashState) (copies : L
   tells-shipped shipped told told_now faults faults_now OtherForm few h = absurd h
   tells-shipped shipped told told_now faults faults_now Spent few h = absurd h
 
-  tells-fault : (side : Side) (e : FlashFault) → Tells count at sources from copies onto onto_now (fault_status side e)
-  tells-fault side Media = tt
-  tells-fault side PowerLost = tt
-
   pub tells-stopped : (why : Stop) → ((bad : BadPage) → why ≡ stop.Ship (Read (read.BadPage bad)) → HasBadPage sources at from) → ((last oldest : ℕ) → why ≡ stop.Gap last oldest → IsGapOver sources copies at last × (onto_now ≡ onto)) →
       Tells count at sources from copies onto onto_now (stop_status why at)
   tells-stopped (stop.Gap last oldest) page gap = gap last oldest refl
-  tells-stopped (stop.Ship (Read (read.Flash e))) page gap = tells-fault Source e
+  tells-stopped (stop.Ship (Read (read.Flash e))) page gap = tt
   tells-stopped (stop.Ship (Read (read.BadPage bad))) page gap = (refl, page bad refl)
-  tells-stopped (stop.Ship (Put (put.Flash e))) page gap = tells-fault Copy e
+  tells-stopped (stop.Ship (Put (put.Flash e))) page gap = tt
   tells-stopped (stop.Ship (Put (put.Key last))) page gap = tt
   tells-stopped (stop.Ship (Put (put.Columns wanted))) page gap = tt
   tells-stopped (stop.Ship (Put (put.Value column))) page gap = tt
   tells-stopped (stop.Ship (Put (put.Blob limit))) page gap = tt
   tells-stopped (stop.Ship (Put put.Spent)) page gap = tt
   tells-stopped (stop.Ship (Put put.Stopped)) page gap = tt
-  tells-stopped (stop.Ship (Flush (flush.Flash e))) page gap = tells-fault Copy e
+  tells-stopped (stop.Ship (Flush (flush.Flash e))) page gap = tt
   tells-stopped (stop.Ship (Flush flush.Stopped)) page gap = tt
 
 -- a page of the source's table is bad

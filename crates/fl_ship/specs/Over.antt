@@ -6,7 +6,7 @@ use Rattle.fl_flash.specs.Media.{MediaState}
 use Rattle.fl_image.specs.Header.{IsAccepted}
 use Rattle.fl_image.specs.Image.{IsImageOf, OnlyLooksAt}
 use Rattle.fl_model.specs.Record.{Config}
-use Rattle.fl_page.specs.Contents.{OnlyReads}
+use Rattle.fl_frame.specs.Contents.{OnlyReads}
 use Rattle.fl_rlc.specs.Table.{table_in}
 use Rattle.fl_store.specs.Jobs.{ChangesOwn, HasBadPage, MountsThen}
 use Rattle.fl_store.specs.Store.{IsOpened}

@@ -8,10 +8,10 @@ ghost use Rattle.fl_store.specs.Repaired.{IsOfOther};
 ghost use Rattle.fl_store.specs.Works.{Works};
 ghost use Rattle.fl_model.specs.Record.{Plan, blocks_of};
 ghost use Rattle.fl_model.specs.Table as model;
-ghost use Rattle.fl_page.specs.Contents.{OnlyReads, contents_of};
+ghost use Rattle.fl_frame.specs.Contents.{OnlyReads, contents_of};
 ghost use Rattle.fl_page.specs.declared.fault.BadPage.{BadPage};
 ghost use Rattle.fl_page.specs.declared.fault.ReadFault.{ReadFault};
-ghost use Rattle.fl_ring.specs.Device.{SameDevice};
+ghost use Rattle.fl_frame.specs.Device.{SameDevice};
 ghost use Rattle.fl_rlc.specs.Logged.{Rests};
 ghost use Rattle.fl_rlc.specs.Table as logged;
 ghost use Rattle.fl_rlc.specs.Table.{table_in, IsSamePlan, OutsideStands};
@@ -20,6 +20,7 @@ ghost use Rattle.fl_table.specs.Memory.{is_running, LiesOn};
 ghost use Rattle.fl_table.specs.Standing.{Stands};
 ghost use Rattle.fl_store.specs.Repaired.{IsLeft};
 ghost use Rattle.fl_store.specs.Tables.{IsNamed, LieOn, TablesStand};
+ghost use Rattle.fl_store.specs.Unarmed.{IsUnarmed};
 ghost use Rattle.fl_store.specs.declared.tables.Entry.{Entry};
 ghost use Rattle.fl_ship.specs.Ends.{TablesShip};
 ghost use Rattle.fl_ship.specs.Over.{ShipsOver};
@@ -117,6 +118,8 @@ pub(crate) fn ship_on<A: Flash, B: Flash, K: Sink>(
     requires rows { length rooms.old.rows.bytes ≡ (A.state from.old).geometry.page }
     requires index { length rooms.old.index.bytes ≡ (A.state from.old).geometry.page }
     requires pages { (B.state onto.old).geometry.page ≡ (A.state from.old).geometry.page }
+    requires unarmed { IsUnarmed (A.state from.old) }
+    requires copy_unarmed { IsUnarmed (B.state onto.old) }
     ensures ends { (plans : List Plan) (ts cs : List model.Table) (name : List ℕ) → IsTrue (A.state from.old).media.tells → IsTrue (B.state onto.old).media.tells → (A.state from.old).is_on ≡ true → (B.state onto.old).is_on ≡ true
         → SameDevice (A.state from.old) at_rest → SameDevice (B.state onto.old) at_rest → TablesStand (A.state from.old) (λ i. false) plans sources.old.entries.items ts → TablesStand (B.state onto.old) (λ i. false) plans copies.old.entries.items cs
         → IsNamed sources.old.entries.items name at → IsNamed copies.old.entries.items name at

@@ -7,7 +7,7 @@ use Rattle.fl_flash.specs.Places.{page_of}
 use Rattle.fl_image.specs.Image.{OnlyLooksAt}
 use Rattle.fl_image.specs.declared.status.ToolStatus.{ToolStatus}
 use Rattle.fl_model.proofs.Lists.{slice_get-some}
-use Rattle.fl_page.specs.Contents.{Contents, OnlyReads}
+use Rattle.fl_frame.specs.Contents.{Contents, OnlyReads}
 use Rattle.fl_rlc.specs.Table as logged
 use Rattle.fl_store.specs.FoundTable.{FindsNone, FindsTable}
 use Rattle.fl_store.specs.Jobs.{ChangesOwn, IsUnopened, JobOver, MountsThen}

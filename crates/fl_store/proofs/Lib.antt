@@ -39,3 +39,4 @@ pub mod Readers
 pub mod HeaderLength
 pub mod NewImages
 pub mod HeldStores
+pub mod Unarmed

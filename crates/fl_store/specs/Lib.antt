@@ -15,3 +15,4 @@ pub mod InMemory
 pub mod Works
 pub mod Made
 pub mod Laws
+pub mod Unarmed

@@ -20,7 +20,8 @@ use Rattle.fl_model.specs.Image.{rows_at}
 use Rattle.fl_model.specs.Record.{Plan, RowLayout, row_layout}
 use Rattle.fl_model.specs.Ring as rings
 use Rattle.fl_model.specs.Row.{Row, stored_row}
-use Rattle.fl_model.specs.Spline.{bits, is_covered, is_pending_key, lookup_limit, retained, voids_of}
+use Rattle.fl_base.specs.Bits.{bits}
+use Rattle.fl_model.specs.Spline.{is_covered, is_pending_key, lookup_limit, retained, voids_of}
 use Rattle.fl_model.specs.Table as model
 use Rattle.fl_model.specs.Table.{lose, pending_entries}
 use Rattle.fl_model.proofs.Lists.{slice_get-short}

@@ -15,7 +15,7 @@ use Rattle.fl_model.specs.Ring.{Ring}
 use Rattle.fl_model.specs.Table.{Table, RingName, IndexRing}
 use Rattle.fl_model.specs.Work.{Device}
 use Rattle.fl_ring.specs.Ring.{Shape, OutsideStands, room}
-use Rattle.fl_ring.specs.Step.{IsWatched}
+use Rattle.fl_frame.specs.Watched.{IsWatched}
 use Rattle.fl_ring.specs.declared.fault.RingFault.{RingFault}
 use Rattle.fl_flash.specs.declared.flash.FlashFault.{FlashFault}
 use Rattle.fl_index.specs.Outcomes as outcomes

@@ -11,10 +11,10 @@ use Rattle.fl_model.specs.Agrees.{reach_of}
 use Rattle.fl_model.specs.Table.{Table, Entry, RingName, fill_seals, after_seals, with_record}
 use Rattle.fl_model.specs.Within.{TablePerforms, seals_within}
 use Rattle.fl_model.specs.Work.{Device, Whole, PartProgress}
-use Rattle.fl_ring.specs.Device.{SameDevice}
+use Rattle.fl_frame.specs.Device.{SameDevice}
 use Rattle.fl_ring.specs.Kept.{PagesStand}
 use Rattle.fl_ring.specs.Ring.{OutsideStands, room}
-use Rattle.fl_ring.specs.Step.{IsWatched}
+use Rattle.fl_frame.specs.Watched.{IsWatched}
 use Rattle.fl_var.specs.Memory as memory
 use Rattle.fl_var.specs.Memory.{is_mounted, next_in, waiting_in, room_in, page_in, var_shape}
 use Rattle.fl_var.specs.Placing.{Breaks, where_placed, pages_placed}

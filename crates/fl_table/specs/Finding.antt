@@ -21,7 +21,7 @@ use Rattle.fl_page.specs.declared.fault.ReadFault.{ReadFault}
 use Rattle.fl_page.specs.declared.fault.ReadFault.TheVariants as fault
 use Rattle.fl_radix.specs.Slots as radix
 use Rattle.fl_radix.specs.Slots.{knots_in_slot, IsLeastShift}
-use Rattle.fl_ring.specs.Looking.{ReadFails}
+use Rattle.fl_frame.specs.Causes.{ReadFails}
 use Rattle.fl_search.specs.Search.{Ascends, IsPageOf, RoseBy, RoseSome}
 use Rattle.fl_table.specs.Kept.{place_of}
 use Rattle.fl_table.specs.Look.{buffered_rows, layout_in, oldest_in, voids_noted}

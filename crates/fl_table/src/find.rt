@@ -1,6 +1,6 @@
 // A lookup: the row of a key, among the pending rows or in the kept pages.
 ghost use Rattle.std.specs.Prelude.{◌≡◌, ◌+◌, ◌-◌, ◌<◌, ◌≤◌, ◌^◌, min, ℕ, true, is_ok, length, IsTrue, IfSome, IfOk, IfErr};
-ghost use Rattle.fl_page.specs.Contents as contents;
+ghost use Rattle.fl_frame.specs.Contents as contents;
 
 use crate::table::Table;
 use fl_base::Steps;
@@ -22,7 +22,8 @@ impl<const KNOTS: usize, const SLOTS: usize> Table<KNOTS, SLOTS> {
     ghost use Rattle.fl_find.specs.Pages.{IsFresh};
     ghost use Rattle.fl_flash.specs.Flash.{FlashState};
     ghost use Rattle.fl_model.specs.Record.{Plan};
-    ghost use Rattle.fl_model.specs.Spline.{bits, is_pending_key, lookup_limit, page_at};
+    ghost use Rattle.fl_base.specs.Bits.{bits};
+    ghost use Rattle.fl_model.specs.Spline.{is_pending_key, lookup_limit, page_at};
     ghost use Rattle.fl_model.specs.Table as model;
     ghost use Rattle.fl_table.specs.Finding.{Finds, FindsPending, HasKeyAt, IsAnswered, IsRowAt, HoldsIts, HoldsKept, LookupFails, IsInSlot, is_pending_in, knots_near, limit_in, row_in, row_of_place};
     ghost use Rattle.fl_schema.specs.Schema.{layout_of_row, row_of};

@@ -29,8 +29,8 @@ impl<const KNOTS: usize, const SLOTS: usize> Table<KNOTS, SLOTS> {
     ghost use Rattle.fl_model.specs.Table as model;
     ghost use Rattle.fl_model.specs.Table.{Entry, make_room_seals, spent_from};
     ghost use Rattle.fl_model.specs.Work.{Device};
-    ghost use Rattle.fl_ring.specs.Causes.{CausedBy};
-    ghost use Rattle.fl_ring.specs.Step.{IsWatched};
+    ghost use Rattle.fl_frame.specs.Causes.{CausedBy};
+    ghost use Rattle.fl_frame.specs.Watched.{IsWatched};
     ghost use Rattle.fl_ring.specs.Written.{Writes};
     ghost use Rattle.fl_schema.specs.Schema.{layout_of};
     ghost use Rattle.fl_flash.specs.Flash.{FlashState};

@@ -2,7 +2,7 @@
 ghost use Rattle.std.specs.Prelude.{◌≡◌, ◌≤◌, ◌+◌, ◌-◌, ◌<◌, ◌%◌, ◌==◌, [], ◌∷◌, true, false, length, map, count_by, slice_index, slice_set, IsTrue, OnOk, OnErr, IfErr};
 ghost use Rattle.std.specs.List.{range_with_len};
 ghost use Rattle.fl_flash.specs.Flash.{Goes, OffChangesNothing, page_at};
-ghost use Rattle.fl_ring.specs.Causes.{CausedBy};
+ghost use Rattle.fl_frame.specs.Causes.{CausedBy};
 
 use crate::bitmaps::{make_room, note_entry};
 use crate::blobs::seal_rest;
@@ -19,7 +19,7 @@ impl<const KNOTS: usize, const SLOTS: usize> Table<KNOTS, SLOTS> {
     ghost use Rattle.fl_model.specs.Table.{DataRing, pending_entries, table_seals};
     ghost use Rattle.fl_model.specs.Table as model;
     ghost use Rattle.fl_model.specs.Work.{Device};
-    ghost use Rattle.fl_ring.specs.Step.{IsWatched};
+    ghost use Rattle.fl_frame.specs.Watched.{IsWatched};
     ghost use Rattle.fl_ring.specs.Written.{MaySealIn, Writes, done};
     ghost use Rattle.fl_table.specs.Look.{last_key_in};
     ghost use Rattle.fl_table.specs.Memory.{is_running, is_stopped, next_in, pending_in, IsSamePlan, LiesOn, MaySeal};

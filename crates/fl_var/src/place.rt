@@ -1,7 +1,7 @@
 // Blobs are placed in the buffer, which is sealed page by page.
 ghost use Rattle.std.specs.Prelude.{◌≡◌, ◌+◌, ◌-◌, ◌<◌, ◌≤◌, true, false, length, is_ok, IsTrue, IfOk, IfErr, OnOk, IsErrOf};
 ghost use Rattle.fl_flash.specs.Flash.{Goes, OffChangesNothing, page_at};
-ghost use Rattle.fl_ring.specs.Causes.{CausedBy};
+ghost use Rattle.fl_frame.specs.Causes.{CausedBy};
 
 use crate::var_data::VarData;
 use fl_base::BlobRef;
@@ -14,7 +14,7 @@ impl VarData {
     ghost use Rattle.fl_model.specs.Table.{VarRing};
     ghost use Rattle.fl_model.specs.Work.{Device};
     ghost use Rattle.fl_ring.specs.Ring.{OutsideStands};
-    ghost use Rattle.fl_ring.specs.Step.{IsWatched};
+    ghost use Rattle.fl_frame.specs.Watched.{IsWatched};
     ghost use Rattle.fl_ring.specs.Written.{Writes, done};
     ghost use Rattle.fl_var.specs.Memory.{is_mounted, next_in, waiting_in, room_in, var_shape, IsSamePlan, LiesOn, MaySeal};
     ghost use Rattle.fl_var.specs.Placing.{is_full_in, room_seals, pages_placed, reference_in, EndsWith, PlaceEnds, RestEnds};

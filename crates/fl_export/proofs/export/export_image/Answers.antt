@@ -1,6 +1,7 @@
 use Rattle.std.proofs.Common.{◌≡◌, ◌<◌, ◌≤◌, inl, inr, rules, length, sym, ◌∙◌, ap, subst, arith}
 use Rattle.std.proofs.lemmas.Option.{slice_get_within}
 use Rattle.fl_base.specs.declared.types.Geometry.{Geometry}
+use Rattle.fl_store.proofs.Unarmed.{opened-unarmed}
 use Rattle.fl_image.specs.declared.status.ToolStatus.TheVariants.{NoMemory}
 use Rattle.fl_store.specs.FoundTable.{FindsNone}
 use Rattle.fl_store.specs.Tables.{IsNamed}
@@ -61,6 +62,9 @@ export_on-status-requires-clause-at g c =
 
 pub export_on-status-requires-clause-few : goal.export_on-status-requires-clause-few
 export_on-status-requires-clause-few g c = subst (λ (t : Tables). length t.entries.items ≤ 4) (sym c.over-flash.ensures.tables) c.in-Ok.ensures.table.few
+
+pub export_on-status-requires-clause-unarmed : goal.export_on-status-requires-clause-unarmed
+export_on-status-requires-clause-unarmed g c = opened-unarmed _ _ _ c.over-flash.ensures.opened
 
 pub returns-clause-ends : goal.returns-clause-ends
 returns-clause-ends g c = λ config tables tells made image.

@@ -1,6 +1,9 @@
 use Rattle.std.proofs.Common.{◌≡◌, inr, IsTrue, false, true, Some, length, refl, sym, ◌∙◌, subst, arith}
 use Rattle.std.specs.List.{slice_get}
 use Rattle.std.proofs.lemmas.Option.{slice_get_within}
+use Rattle.fl_frame.proofs.ContentsInTurn.{OnlyReads-goes}
+use Rattle.fl_frame.proofs.CallsInTurn.{goes-then}
+use Rattle.fl_store.proofs.Unarmed.{unarmed-then}
 use Rattle.fl_image.specs.declared.status.ToolStatus.{ToolStatus}
 use Rattle.fl_image.specs.declared.status.ToolStatus.TheVariants.{Done, OutWrite}
 use Rattle.fl_model.specs.Bare.{bare, bare_table}
@@ -25,13 +28,13 @@ pub mount_status-requires : goal.mount_status-requires
 mount_status-requires g c = omega (arith, slice_get_within c.mount.new.self.entries.items c.in-Err.bad.at c.in-Err.ensures.stops.entry c.in-Err.ensures.stops.here, c.mount.ensures.as_many, c.requires.few)
 
 pub returns-in-Err-clause-statuses : goal.returns-in-Err-clause-statuses
-returns-in-Err-clause-statuses g c = subst IsOfTable (sym c.mount_status.ensures) (by-mount IsOfTable c.in-Err.bad.fault c.in-Err.bad.at tt tt tt)
+returns-in-Err-clause-statuses g c = subst IsOfTable (sym c.mount_status.ensures) (by-mount IsOfTable c.in-Err.bad.fault c.in-Err.bad.at tt tt)
 
 pub returns-in-Err-clause-write : goal.returns-in-Err-clause-write
-returns-in-Err-clause-write g c = λ is. absurd (by-mount (λ s. s ≡ OutWrite → ⊥) c.in-Err.bad.fault c.in-Err.bad.at (λ k. cc k) (λ k. cc k) (λ k. cc k) (sym c.mount_status.ensures ∙ is))
+returns-in-Err-clause-write g c = λ is. absurd (by-mount (λ s. s ≡ OutWrite → ⊥) c.in-Err.bad.fault c.in-Err.bad.at (λ k. cc k) (λ k. cc k) (sym c.mount_status.ensures ∙ is))
 
 pub returns-in-Err-clause-device : goal.returns-in-Err-clause-device
-returns-in-Err-clause-device g c = λ is. mount-rose (g.F.Flash.state c.args.flash.now) (g.F.Flash.state c.mount.new.flash) c.in-Err.bad.fault c.in-Err.bad.at (sym c.mount_status.ensures ∙ is) c.in-Err.ensures.cause
+returns-in-Err-clause-device g c = λ is. mount-rose (g.F.Flash.state c.args.flash.now) (g.F.Flash.state c.mount.new.flash) c.in-Err.bad.fault c.in-Err.bad.at c.requires.unarmed (sym c.mount_status.ensures ∙ is) c.in-Err.ensures.cause
 
 pub returns-in-Err-clause-bad : goal.returns-in-Err-clause-bad
 returns-in-Err-clause-bad g c = λ table is.
@@ -48,7 +51,7 @@ returns-in-Err-clause-ends g c = λ plans ts name tells on calm stand named.
 
 pub returns-in-Err-write_table-clause-device : goal.returns-in-Err-write_table-clause-device
 returns-in-Err-write_table-clause-device g c = λ is.
-    let rose = fault-rose (g.F.Flash.state c.mount.new.flash) (g.F.Flash.state c.write_table.new.flash) c.in-Err-write_table.fault c.args.at (sym c.status_of.ensures ∙ is) c.in-Err-write_table.ensures.unread in
+    let rose = fault-rose (g.F.Flash.state c.mount.new.flash) (g.F.Flash.state c.write_table.new.flash) c.in-Err-write_table.fault c.args.at (unarmed-then _ _ c.requires.unarmed c.mount.ensures.goes).on (sym c.status_of.ensures ∙ is) c.in-Err-write_table.ensures.unread in
     omega (arith, c.mount.ensures.goes.faults, rose)
 
 pub returns-in-Err-write_table-clause-bad : goal.returns-in-Err-write_table-clause-bad
@@ -94,7 +97,7 @@ returns-in-Err-write_table-clause-ends g c = λ plans ts name tells on calm stan
     let at = own plans ts name c.args.range f m h (g.K.Sink.written c.args.out.now) (g.K.Sink.written c.write_table.new.out) c.args.tables.now.entries.items now c.args.at c.index.result.now c.mount.ensures.goes.faults c.write_table.ensures.counts stand named here mounted in
     let stood = subst (λ (t : Table 64 64). Stands t m (first_of plans c.args.at) (bare at.plan) (bare_table at.table)) (sym c.table-table.ensures) at.stands.on_flash.unlogged in
     let end = failed plans ts name c.args.range f m h (g.K.Sink.written c.args.out.now) (g.K.Sink.written c.write_table.new.out) c.args.tables.now.entries.items now c.args.at c.index.result.now c.mount.ensures.goes.faults c.write_table.ensures.counts stand named here mounted
-    c.in-Err-write_table.fault c.args.at (c.in-Err-write_table.ensures.writes (first_of plans c.args.at) (bare at.plan) (bare_table at.table) told stood) c.in-Err-write_table.ensures.unread in
+    c.in-Err-write_table.fault c.args.at (c.in-Err-write_table.ensures.writes (first_of plans c.args.at) (bare at.plan) (bare_table at.table) told stood) (unarmed-then _ _ c.requires.unarmed c.mount.ensures.goes).on c.in-Err-write_table.ensures.unread in
     subst (λ (s : ToolStatus). EndsOn plans ts name c.args.range (g.F.Flash.state c.args.flash.now) (g.F.Flash.state c.write_table.new.flash) (g.K.Sink.written c.args.out.now) (g.K.Sink.written c.write_table.new.out) c.mount.new.self.entries.items s) (sym c.status_of.ensures) end
 
 pub returns-in-Err-clause-repairs : goal.returns-in-Err-clause-repairs
@@ -114,6 +117,12 @@ pub returns-in-Err-write_table-clause-repairs : goal.returns-in-Err-write_table-
 returns-in-Err-write_table-clause-repairs g c = λ plans ts name tells on calm stand named well page lt.
     repaired-read plans (g.F.Flash.state c.args.flash.now).geometry page (g.F.Flash.state c.args.flash.now) (g.F.Flash.state c.mount.new.flash) (g.F.Flash.state c.write_table.new.flash) c.write_table.ensures.counts
     (c.in_default.ensures.repaired tells plans ts stand (inr (has_risen (g.F.Flash.state c.args.flash.now) (g.F.Flash.state c.mount.new.flash), at_rest, watched (g.F.Flash.state c.args.flash.now) (g.F.Flash.state c.mount.new.flash) at_rest tells on calm)) page lt)
+
+pub returns-in-Ok-clause-goes : goal.returns-in-Ok-clause-goes
+returns-in-Ok-clause-goes g c = goes-then _ _ _ c.mount.ensures.goes (OnlyReads-goes _ _ c.write_table.ensures.counts)
+
+pub returns-in-Err-write_table-clause-goes : goal.returns-in-Err-write_table-clause-goes
+returns-in-Err-write_table-clause-goes g c = goes-then _ _ _ c.mount.ensures.goes (OnlyReads-goes _ _ c.write_table.ensures.counts)
 
 pub returns-in-Err-clause-over : goal.returns-in-Err-clause-over
 returns-in-Err-clause-over g c =

@@ -5,8 +5,9 @@ use Rattle.fl_cursor.specs.Cursor.{table_of, present_of, has_ended, IfBad, MayBe
 use Rattle.fl_cursor.specs.Going.{Goes, Fails}
 use Rattle.fl_cursor.proofs.StepsOfRows.{steps-after}
 use Rattle.fl_cursor.proofs.Whole.{keeps-then}
-use Rattle.fl_page.specs.Contents.{Contents, contents_of}
-use Rattle.fl_page.proofs.ReadsInTurn.{OnlyReads-same, OnlyReads-then, IsCaused-later}
+use Rattle.fl_frame.specs.Contents.{Contents, contents_of}
+use Rattle.fl_page.proofs.ReadsInTurn.{IsCaused-later}
+use Rattle.fl_frame.proofs.ContentsInTurn.{OnlyReads-same, OnlyReads-then}
 use Rattle.fl_schema.specs.Schema.{row_of}
 use Rattle.fl_table.specs.declared.table.Table.{Table}
 use Rattle.fl_export.specs.Writing.{IsBadIn}

@@ -5,7 +5,7 @@ use Rattle.fl_csv.specs.Text.{header_text}
 use Rattle.fl_model.specs.Query.{matches, selected}
 use Rattle.fl_model.specs.Record.{has_var}
 use Rattle.fl_model.specs.Table.{Entry}
-use Rattle.fl_page.specs.Contents.{contents_of}
+use Rattle.fl_frame.specs.Contents.{contents_of}
 use Rattle.fl_export.proofs.Lines.{lines, writes-behind, picked-among}
 use Rattle.fl_store.proofs.Appends.{front-more}
 use Rattle.fl_store.proofs.TablesOnlyRead.{is-standing}

@@ -1,5 +1,6 @@
 use Rattle.std.proofs.Common.{◌≡◌, ◌<◌, ◌≤◌, inl, inr, rules, List, length, refl, sym, ◌∙◌, ap, subst, arith}
 use Rattle.std.proofs.lemmas.Option.{slice_get_within}
+use Rattle.fl_store.proofs.Unarmed.{opened-unarmed}
 use Rattle.fl_image.proofs.Made.{made-by}
 use Rattle.fl_model.specs.Record.{Plan}
 use Rattle.fl_store.specs.FoundTable.{FindsNone}
@@ -76,6 +77,9 @@ pub import_on-end-requires-clause-at : goal.import_on-end-requires-clause-at
 import_on-end-requires-clause-at g c =
     let named = c.in-Ok.ensures.table.named in
     subst (λ (t : Tables). c.in-Ok.begun.found.at < length t.entries.items) (sym c.over-flash.ensures.tables) (slice_get_within c.in-Ok.begun.found.layout.tables.entries.items c.in-Ok.begun.found.at named.entry named.here)
+
+pub import_on-end-requires-clause-unarmed : goal.import_on-end-requires-clause-unarmed
+import_on-end-requires-clause-unarmed g c = opened-unarmed _ _ _ c.over-flash.ensures.opened
 
 pub import_on-end-requires-clause-few : goal.import_on-end-requires-clause-few
 import_on-end-requires-clause-few g c = subst (λ (t : Tables). length t.entries.items ≤ 4) (sym c.over-flash.ensures.tables) c.in-Ok.ensures.table.few

@@ -1,5 +1,5 @@
 use Rattle.std.proofs.Common.{◌≡◌, ℕ, List, map, take}
-use Rattle.fl_flash.specs.Flash.{Goes}
+use Rattle.fl_flash.specs.Flash.{Stays}
 use Rattle.fl_model.specs.Record.{Config}
 use Rattle.fl_machine.specs.Machine.{Machine}
 use Rattle.fl_machine.specs.Step.{Moment}
@@ -15,7 +15,7 @@ invariant-tables g l =
     let E = g.E.Executor in
     record {
       sound : E.sound l.session;
-      goes : Goes (E.flash l.fn.session) (E.flash l.session);
+      goes : Stays (E.flash l.fn.session) (E.flash l.session);
       told : CausesFlushes (names (take l.at l.config.plans)) (E.state l.fn.session) (E.state l.session) l.done;
       flushed : (configured : Config) (old : Machine) (moments : List Moment) (content : List ℕ) (faults : ℕ) → configured.plans ≡ l.config.plans → IsReady configured old →
           RanOver configured old moments (StandsAlike (E.stands l.fn.session configured)) content (E.flash l.fn.session).media.content faults (E.flash l.fn.session).media.faults →

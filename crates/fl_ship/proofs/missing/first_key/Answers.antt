@@ -1,6 +1,6 @@
 use Rattle.std.proofs.Common.{IfErr, map, refl, ◌∙◌, ap, subst}
 use Rattle.fl_model.specs.Row.{stored_row}
-use Rattle.fl_page.specs.Contents.{contents_of}
+use Rattle.fl_frame.specs.Contents.{contents_of}
 use Rattle.fl_cursor.specs.Cursor.{IfBad, MayBeBad}
 use Rattle.fl_cursor.proofs.Selected.{all-selected, few-keys}
 use Rattle.fl_store.proofs.TablesOnlyRead.{is-standing}

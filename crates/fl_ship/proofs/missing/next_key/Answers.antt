@@ -5,7 +5,7 @@ use Rattle.fl_cursor.specs.Going.{Goes}
 use Rattle.fl_cursor.proofs.StepsOfRows.{steps-after}
 use Rattle.fl_model.specs.Row.{Row}
 use Rattle.fl_model.specs.Table.{Entry}
-use Rattle.fl_page.specs.Contents.{contents_of}
+use Rattle.fl_frame.specs.Contents.{contents_of}
 use Rattle.fl_ship.specs.Missing.{FirstIs}
 use Rattle.fl_ship.proofs.Firsts.{first-found, first-none, first-unread}
 use Rattle.fl_ship.proofs.missing.next_key.Goals as goal

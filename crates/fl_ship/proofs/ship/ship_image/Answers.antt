@@ -1,6 +1,7 @@
 use Rattle.std.proofs.Common.{◌≡◌, ℕ, inl, inr, Err, true, false, IsTrue, List, [], refl, sym, ◌∙◌, ap, subst, arith, rules}
 use Rattle.fl_base.specs.declared.types.Geometry.{Geometry}
 use Rattle.fl_flash.specs.Media.{MediaState}
+use Rattle.fl_store.proofs.Unarmed.{opened-unarmed}
 use Rattle.fl_image.specs.Image.{OnlyLooksAt}
 use Rattle.fl_image.proofs.Made.{made}
 use Rattle.fl_image.proofs.Reach.{reach}
@@ -183,6 +184,12 @@ ship_on-status-requires-clause-lie g c = c.over-from.ensures.lie
 
 pub ship_on-status-requires-clause-copies_lie : goal.ship_on-status-requires-clause-copies_lie
 ship_on-status-requires-clause-copies_lie g c = c.over-onto.ensures.lie
+
+pub ship_on-status-requires-clause-unarmed : goal.ship_on-status-requires-clause-unarmed
+ship_on-status-requires-clause-unarmed g c = opened-unarmed _ _ _ c.over-from.ensures.opened
+
+pub ship_on-status-requires-clause-copy_unarmed : goal.ship_on-status-requires-clause-copy_unarmed
+ship_on-status-requires-clause-copy_unarmed g c = opened-unarmed _ _ _ c.over-onto.ensures.opened
 
 pub ship_on-status-requires-clause-at : goal.ship_on-status-requires-clause-at
 ship_on-status-requires-clause-at g c = omega (arith, c.in-Ok.ensures.ready.at, (laid _ _ _ c.over-from.ensures.tables c.in-Ok.ensures.ready.source_layout).as_many)

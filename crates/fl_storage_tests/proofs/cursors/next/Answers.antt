@@ -1,4 +1,4 @@
-use Rattle.fl_page.proofs.ReadsInTurn.{OnlyReads-goes}
+use Rattle.fl_frame.proofs.ContentsInTurn.{OnlyReads-goes}
 use Rattle.fl_table.proofs.ReadsKeepTable.{lies-moved}
 use Rattle.fl_storage_tests.proofs.cursors.next.Goals as goal
 

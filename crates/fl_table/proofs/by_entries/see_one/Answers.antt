@@ -5,7 +5,7 @@ use Rattle.fl_flash.specs.Flash.{page_at}
 use Rattle.fl_index.specs.Page.{full_view}
 use Rattle.fl_index.specs.declared.page.Full as code
 use Rattle.fl_ring.proofs.Exists.{page_exists}
-use Rattle.fl_ring.proofs.ReadsInTurn.{no_reads}
+use Rattle.fl_frame.proofs.ReadsInTurn.{no_reads}
 use Rattle.fl_table.specs.ByEntries.{mount_fault}
 use Rattle.fl_table.specs.Knowing.{is_waiting}
 use Rattle.fl_table.specs.declared.faults.MountFault.{MountFault}

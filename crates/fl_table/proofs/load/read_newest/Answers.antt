@@ -3,13 +3,13 @@ use Rattle.std.proofs.lemmas.Result.{err_from_is_err_and}
 use Rattle.fl_find.specs.Index.{IndexOf}
 use Rattle.fl_flash.specs.Flash.{page_at}
 use Rattle.fl_ring.proofs.Exists.{page_exists}
-use Rattle.fl_ring.proofs.ReadsInTurn.{no_reads}
+use Rattle.fl_frame.proofs.ReadsInTurn.{no_reads}
 use Rattle.fl_schema.specs.Schema.{layout_of}
 use Rattle.fl_spline.specs.Points.{IsFurther}
 use Rattle.fl_table.specs.ByEntries.{mount_fault}
 use Rattle.fl_table.specs.Knowing.{KnowsWith, is_waiting}
 use Rattle.fl_table.specs.declared.faults.MountFault.{MountFault}
-use Rattle.fl_ring.specs.Looking.{OnlyReads}
+use Rattle.fl_frame.specs.Reads.{OnlyReads}
 use Rattle.fl_table.specs.declared.known.Listed.{Listed}
 use Rattle.fl_table.specs.declared.known.PageFacts.{PageFacts}
 use Rattle.fl_table.proofs.MountProgress.{fewer-reads}

@@ -2,7 +2,7 @@ use Rattle.std.proofs.Common.{rules, None, ◌≡◌, ◌%◌, length, length-se
 use Rattle.std.proofs.lemmas.Result.{err_from_is_err_and}
 use Rattle.fl_base.specs.declared.types.Geometry.{Geometry}
 use Rattle.fl_flash.specs.Flash.{page_at}
-use Rattle.fl_ring.specs.Looking.{OnlyReads}
+use Rattle.fl_frame.specs.Reads.{OnlyReads}
 use Rattle.fl_ring.specs.Place.{next_of, oldest_of}
 use Rattle.fl_schema.specs.Schema.{layout_of}
 use Rattle.fl_table.specs.Coming.{AreRowsOf}
@@ -14,7 +14,7 @@ use Rattle.fl_table.proofs.FullEntries.{full-read}
 use Rattle.fl_table.proofs.NotedEntries.{gathers-none, gather-first, gather-room, gathers-more, gather-more}
 use Rattle.fl_table.proofs.IndexOfTable.{plan-same, plan-then, ring-same, ring-then}
 use Rattle.fl_ring.proofs.Exists.{page_exists}
-use Rattle.fl_ring.proofs.ReadsInTurn.{no_reads, more_reads, told_still, same_page}
+use Rattle.fl_frame.proofs.ReadsInTurn.{no_reads, more_reads, told_still, same_page}
 use Rattle.fl_table.proofs.ListedPages.{fails-later}
 use Rattle.fl_table.proofs.MountProgress.{fewer-reads}
 use Rattle.fl_table.proofs.Untouched.{no-success}

@@ -5,7 +5,7 @@ use Rattle.fl_table.specs.Skipping.{AreFresh}
 use Rattle.fl_table.proofs.Entries.{bad-answer, looks-from, looks-up, shows-found}
 use Rattle.fl_table.proofs.Skips.{fresh-still, index-stands}
 use Rattle.fl_table.proofs.Untouched.{at-most}
-use Rattle.fl_page.proofs.ReadsInTurn.{OnlyReads-same}
+use Rattle.fl_frame.proofs.ContentsInTurn.{OnlyReads-same}
 use Rattle.fl_table.proofs.table.Table.entry_of.Goals as goal
 
 pub returns-in-Some-clause-stands : goal.returns-in-Some-clause-stands

@@ -11,7 +11,7 @@ use Rattle.fl_table.proofs.PendingKey.{found-stored}
 use Rattle.fl_table.proofs.Slots.{steps-model}
 use Rattle.fl_flash.specs.Buffer.{BufferState}
 use Rattle.fl_flash.specs.Flash.{FlashState}
-use Rattle.fl_page.proofs.ReadsInTurn.{OnlyReads-same}
+use Rattle.fl_frame.proofs.ContentsInTurn.{OnlyReads-same}
 use Rattle.fl_table.specs.Memory.{pending_in}
 use Rattle.fl_table.specs.declared.table.Table.{Table}
 use Rattle.fl_table.proofs.IndexOfTable.{none-is}

@@ -8,7 +8,7 @@ use Rattle.fl_table.specs.declared.faults.FlushFault.TheVariants as flush
 use Rattle.fl_table.proofs.PowerOff.{off-ok}
 use Rattle.fl_table.proofs.Sizes.{table-fits}
 use Rattle.std.proofs.lemmas.Bool.{true≢false}
-use Rattle.fl_ring.proofs.ReadsInTurn.{goes_same}
+use Rattle.fl_frame.proofs.CallsInTurn.{goes-same}
 use Rattle.fl_table.specs.Memory.{is_running}
 use Rattle.fl_table.specs.declared.faults.FlushFault.{FlushFault}
 use Rattle.fl_table.proofs.PutAnswers.{and-true}
@@ -92,7 +92,7 @@ some-of : (n count : ℕ) → n ≡ count → (n ≡ 0 → ⊥) → 1 ≤ count
 some-of n count same some = omega (arith, same, some)
 
 pub returns-then-not-is_running-clause-goes : goal.returns-then-not-is_running-clause-goes
-returns-then-not-is_running-clause-goes g c = goes_same (g.F.Flash.state c.args.flash.now)
+returns-then-not-is_running-clause-goes g c = goes-same (g.F.Flash.state c.args.flash.now)
 
 pub returns-then-not-is_running-clause-same : goal.returns-then-not-is_running-clause-same
 returns-then-not-is_running-clause-same g c = plan-self c.args.self.now
@@ -143,7 +143,7 @@ pub returns-then-not-is_running-clause-cause : goal.returns-then-not-is_running-
 returns-then-not-is_running-clause-cause g c = refl
 
 pub returns-then-count-eq0-clause-goes : goal.returns-then-count-eq0-clause-goes
-returns-then-count-eq0-clause-goes g c = goes_same (g.F.Flash.state c.args.flash.now)
+returns-then-count-eq0-clause-goes g c = goes-same (g.F.Flash.state c.args.flash.now)
 
 pub returns-then-count-eq0-clause-same : goal.returns-then-count-eq0-clause-same
 returns-then-count-eq0-clause-same g c = plan-self c.args.self.now

@@ -14,7 +14,7 @@ use Rattle.fl_table.proofs.Skips.{fresh-still, looks-none, looks-plain, looks-fo
 use Rattle.fl_table.proofs.Entries.{first-few, told-some}
 use Rattle.fl_table.proofs.Untouched.{at-most}
 use Rattle.fl_table.proofs.IndexOfTable.{none-there}
-use Rattle.fl_page.proofs.ReadsInTurn.{OnlyReads-same}
+use Rattle.fl_frame.proofs.ContentsInTurn.{OnlyReads-same}
 use Rattle.fl_table.proofs.table.Table.look_ahead.Goals as goal
 
 pub returns-in_default-bitmaps-clause-shows : goal.returns-in_default-bitmaps-clause-shows

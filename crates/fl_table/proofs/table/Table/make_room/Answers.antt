@@ -11,7 +11,7 @@ use Rattle.fl_table.specs.Outcomes.{SealsEnd}
 use Rattle.fl_table.proofs.PendingAndFull.{has-room, is-full}
 use Rattle.fl_table.proofs.KeptPagesStay.{kept-same}
 use Rattle.fl_table.proofs.Sizes.{table-fits}
-use Rattle.fl_ring.proofs.ReadsInTurn.{goes_same}
+use Rattle.fl_frame.proofs.CallsInTurn.{goes-same}
 use Rattle.fl_table.proofs.SealAnswers.{plan-self}
 use Rattle.fl_table.specs.Memory.{HasRoom, next_in}
 use Rattle.fl_table.proofs.Untouched.{at-most, at-most-same, above, on-ok}
@@ -122,7 +122,7 @@ row-fits zero row page body end none is whole room = omega (arith, is, whole, ro
 row-fits (suc count) row page body end none is whole room = absurd (omega (arith, none))
 
 pub returns-then-not-is_full-clause-goes : goal.returns-then-not-is_full-clause-goes
-returns-then-not-is_full-clause-goes g c = goes_same (g.F.Flash.state c.args.flash.now)
+returns-then-not-is_full-clause-goes g c = goes-same (g.F.Flash.state c.args.flash.now)
 
 pub returns-then-not-is_full-clause-same : goal.returns-then-not-is_full-clause-same
 returns-then-not-is_full-clause-same g c = plan-self c.args.self.now

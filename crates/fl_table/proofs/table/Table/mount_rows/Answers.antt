@@ -1,9 +1,9 @@
 use Rattle.std.proofs.Common.{◌≡◌, ◌+◌, Option, IfSome, arith, refl, sym, ◌∙◌, ap, subst, IsTrue, inl, inr, ℕ, Result, Ok, Err, is_some}
 use Rattle.std.proofs.lemmas.Result.{err_from_is_err_and}
 use Rattle.fl_flash.specs.Flash.{page_at, FlashState}
+use Rattle.fl_frame.proofs.CallsInTurn.{goes-then}
 use Rattle.fl_find.proofs.Points.{mounts-points}
 use Rattle.fl_model.specs.Mount.{ready}
-use Rattle.fl_ring.proofs.ReadsInTurn.{goes_more}
 use Rattle.fl_table.specs.Bitmaps.{EndAt, IsOutside}
 use Rattle.fl_table.specs.BlobEnds.{least_of}
 use Rattle.fl_table.specs.BlobMount.{FindsBlobs, RefusesWithin}
@@ -11,7 +11,7 @@ use Rattle.fl_table.specs.Blobs.{room_of, rings_of}
 use Rattle.fl_table.proofs.Outsides.{var-outside}
 use Rattle.fl_var.specs.Memory.{var_shape}
 use Rattle.fl_table.proofs.BlobsOfTable as blobbing
-use Rattle.fl_table.proofs.SealsInTurn.{watched-front, watched-then}
+use Rattle.fl_frame.proofs.WatchedInTurn.{watched-first, watched-then}
 use Rattle.fl_table.proofs.MountJoined.{mount-cause-later}
 use Rattle.fl_table.proofs.BlobSeals.{with_var}
 use Rattle.fl_table.proofs.MountVar.{data-fails, mounted-ends, rows-fail, rows-mount, var-limit}
@@ -45,7 +45,7 @@ returns-in_err-mount_within-clause-ends g c = λ first plan table rose device wa
     let mid = g.F.Flash.state c.read_rows.new.flash in
     let new = g.F.Flash.state c.mount_within.new.flash in
     let goes = c.in_ok-rows.ensures.goes in
-    let w = c.in_ok-rows.ensures.ends first plan table rose device (watched-front old mid new rose device watched c.mount_within.ensures.goes) planned rests stands end in
+    let w = c.in_ok-rows.ensures.ends first plan table rose device (watched-first old mid new rose device watched c.mount_within.ensures.goes) planned rests stands end in
     let then = watched-then old mid new rose device w.now.device watched goes w.power w.counts in
     let p = err_from_is_err_and c.from_residual-in_err-mount_within.result c.from_residual-in_err-mount_within.ensures.1 in
     rw (p.1, p.2) (rows-fail c.read_rows.new.self mid new first plan table rose device c.in_ok-rows.rows w then c.read_rows.new.self.blobs c.mount_within.new.blobs c.in_err-mount_within.field-0.0 _ refl (c.in_err-mount_within.ensures.outside then.told)
@@ -58,7 +58,7 @@ returns-clause-ends g c = λ first plan table rose device watched planned rests 
     let mid = g.F.Flash.state c.read_rows.new.flash in
     let new = g.F.Flash.state c.mount_within.new.flash in
     let goes = c.in_ok-rows.ensures.goes in
-    let w = c.in_ok-rows.ensures.ends first plan table rose device (watched-front old mid new rose device watched c.mount_within.ensures.goes) planned rests stands end in
+    let w = c.in_ok-rows.ensures.ends first plan table rose device (watched-first old mid new rose device watched c.mount_within.ensures.goes) planned rests stands end in
     let then = watched-then old mid new rose device w.now.device watched goes w.power w.counts in
     let h = rows-mount t mid new first plan table rose device c.in_ok-rows.rows w then t.blobs c.mount_within.new.blobs c.in_ok-mount_within.field-0 refl (c.in_ok-mount_within.ensures.outside then.told)
     (c.in_ok-mount_within.ensures.ends (first + plan.data_blocks + plan.index_blocks) plan w.now.state rose w.now.device w.end_is) in
@@ -192,11 +192,11 @@ returns-in_err-mount_within-clause-cause g c =
 
 pub returns-in_err-mount_within-clause-goes : goal.returns-in_err-mount_within-clause-goes
 returns-in_err-mount_within-clause-goes g c =
-    goes_more (g.F.Flash.state c.args.flash.now) (g.F.Flash.state c.read_rows.new.flash) (g.F.Flash.state c.mount_within.new.flash) c.in_ok-rows.ensures.goes c.in_err-mount_within.ensures.goes
+    goes-then (g.F.Flash.state c.args.flash.now) (g.F.Flash.state c.read_rows.new.flash) (g.F.Flash.state c.mount_within.new.flash) c.in_ok-rows.ensures.goes c.in_err-mount_within.ensures.goes
 
 pub returns-clause-goes : goal.returns-clause-goes
 returns-clause-goes g c =
-    goes_more (g.F.Flash.state c.args.flash.now) (g.F.Flash.state c.read_rows.new.flash) (g.F.Flash.state c.mount_within.new.flash) c.in_ok-rows.ensures.goes c.in_ok-mount_within.ensures.goes
+    goes-then (g.F.Flash.state c.args.flash.now) (g.F.Flash.state c.read_rows.new.flash) (g.F.Flash.state c.mount_within.new.flash) c.in_ok-rows.ensures.goes c.in_ok-mount_within.ensures.goes
 
 pub invariant_of-self : goal.invariant_of-self
 invariant_of-self g c =
@@ -310,7 +310,7 @@ returns-in_err-mount_within-clause-limit g c = λ first plan table rose device w
     let mid = g.F.Flash.state c.read_rows.new.flash in
     let new = g.F.Flash.state c.mount_within.new.flash in
     let goes = c.in_ok-rows.ensures.goes in
-    let front = watched-front old mid new rose device watched c.mount_within.ensures.goes in
+    let front = watched-first old mid new rose device watched c.mount_within.ensures.goes in
     let w = c.in_ok-rows.ensures.ends first plan table rose device front planned rests stands end in
     let then = watched-then old mid new rose device w.now.device watched goes w.power w.counts in
     let rows = c.in_ok-rows.ensures.limit first plan table rose device front planned rests stands end full in
@@ -325,7 +325,7 @@ returns-clause-limit g c = λ first plan table rose device watched planned rests
     let mid = g.F.Flash.state c.read_rows.new.flash in
     let new = g.F.Flash.state c.mount_within.new.flash in
     let goes = c.in_ok-rows.ensures.goes in
-    let front = watched-front old mid new rose device watched c.mount_within.ensures.goes in
+    let front = watched-first old mid new rose device watched c.mount_within.ensures.goes in
     let w = c.in_ok-rows.ensures.ends first plan table rose device front planned rests stands end in
     let then = watched-then old mid new rose device w.now.device watched goes w.power w.counts in
     let rows = c.in_ok-rows.ensures.limit first plan table rose device front planned rests stands end full in

@@ -8,16 +8,16 @@ use Rattle.fl_table.proofs.Refusals.{fits-row, told-running, calm-cause, few-blo
 use Rattle.fl_flash.specs.Flash.{page_at}
 use Rattle.fl_table.proofs.BlobsOfTable.{pages-most}
 use Rattle.fl_table.proofs.Outsides.{outside-then}
-use Rattle.fl_table.proofs.SealsInTurn.{cause-later, watched-front, watched-then}
+use Rattle.fl_frame.proofs.WatchedInTurn.{cause-later, watched-first, watched-then}
 use Rattle.fl_table.proofs.PutAnswers.{accepts, and-true, broken-ends, join-fails, map-twice, put-ends, refused-ends}
 use Rattle.fl_flash.specs.declared.flash.FlashFault.{FlashFault}
 use Rattle.fl_flash.specs.declared.flash.FlashFault.TheVariants.{PowerLost}
+use Rattle.fl_frame.proofs.CallsInTurn.{goes-then, goes-same}
 use Rattle.fl_table.specs.declared.faults.PutRefusal.{PutRefusal}
 use Rattle.fl_table.specs.declared.faults.PutRefusal.TheVariants as put
 use Rattle.fl_table.proofs.PowerOff.{put-off}
 use Rattle.fl_model.specs.Record.{RowLayout, layout_len}
 use Rattle.fl_model.specs.Row.{FitsRow}
-use Rattle.fl_ring.proofs.ReadsInTurn.{goes_more, goes_same}
 use Rattle.fl_schema.specs.Schema.{layout_of}
 use Rattle.fl_table.proofs.SealAnswers.{same-then, plan-self}
 use Rattle.fl_table.proofs.Sizes.{table-fits}
@@ -62,7 +62,7 @@ returns-in_err-join-clause-ends g c = λ first plan table rose device watched st
     let same = map-twice (λ (b : Bor (List ℕ)). b.now) (λ (xs : List ℕ). length xs) c.args.blob in
     let none : put_refusal t c.args.key c.args.values.now (option_map (λ (xs : List ℕ). length xs) (option_map (λ (b : Bor (List ℕ)). b.now) c.args.blob)) ≡ None =
     ap (put_refusal t c.args.key c.args.values.now) same ∙ (sym c.refusal.ensures ∙ c.in_default.is) in
-    let h = c.in_ok-make_room.ensures.ends first plan table rose device (watched-front f mid new rose device watched c.join.ensures.goes) stands in
+    let h = c.in_ok-make_room.ensures.ends first plan table rose device (watched-first f mid new rose device watched c.join.ensures.goes) stands in
     let ok = accepts t f first plan table c.args.key c.args.values.now bytes rose device stands none c.make_room.new.self mid h c.in_ok-make_room.ensures.room in
     let k = c.in_err-join.ensures.ends first plan (after_seals plan (make_room_seals plan table) table) rose h.now.device (watched-then f mid new rose device h.now.device watched c.in_ok-make_room.ensures.goes h.power h.counts) h.stands ok in
     let p = err_from_is_err_and c.from_residual-in_err-join.result c.from_residual-in_err-join.ensures.1 in
@@ -78,7 +78,7 @@ returns-clause-ends g c = λ first plan table rose device watched stands.
     let same = map-twice (λ (b : Bor (List ℕ)). b.now) (λ (xs : List ℕ). length xs) c.args.blob in
     let none : put_refusal t c.args.key c.args.values.now (option_map (λ (xs : List ℕ). length xs) (option_map (λ (b : Bor (List ℕ)). b.now) c.args.blob)) ≡ None =
     ap (put_refusal t c.args.key c.args.values.now) same ∙ (sym c.refusal.ensures ∙ c.in_default.is) in
-    let h = c.in_ok-make_room.ensures.ends first plan table rose device (watched-front f mid new rose device watched c.join.ensures.goes) stands in
+    let h = c.in_ok-make_room.ensures.ends first plan table rose device (watched-first f mid new rose device watched c.join.ensures.goes) stands in
     let ok = accepts t f first plan table c.args.key c.args.values.now bytes rose device stands none c.make_room.new.self mid h c.in_ok-make_room.ensures.room in
     put-ends t f first plan table c.args.key c.args.values.now bytes rose device stands none c.make_room.new.self mid h c.join.new.self new
     (c.in_ok-join.ensures.ends first plan (after_seals plan (make_room_seals plan table) table) rose h.now.device (watched-then f mid new rose device h.now.device watched c.in_ok-make_room.ensures.goes h.power h.counts) h.stands ok)
@@ -180,7 +180,7 @@ join-requires g c =
 
 pub returns-in_err-join-clause-goes : goal.returns-in_err-join-clause-goes
 returns-in_err-join-clause-goes g c =
-    goes_more (g.F.Flash.state c.args.flash.now) (g.F.Flash.state c.make_room.new.flash) (g.F.Flash.state c.join.new.flash) c.in_ok-make_room.ensures.goes c.in_err-join.ensures.goes
+    goes-then (g.F.Flash.state c.args.flash.now) (g.F.Flash.state c.make_room.new.flash) (g.F.Flash.state c.join.new.flash) c.in_ok-make_room.ensures.goes c.in_err-join.ensures.goes
 
 pub returns-in_err-join-clause-same : goal.returns-in_err-join-clause-same
 returns-in_err-join-clause-same g c = same-then c.args.self.now c.make_room.new.self c.join.new.self c.in_ok-make_room.ensures.same c.in_err-join.ensures.same
@@ -198,7 +198,7 @@ returns-in_err-join-clause-cause g c =
 
 pub returns-clause-goes : goal.returns-clause-goes
 returns-clause-goes g c =
-    goes_more (g.F.Flash.state c.args.flash.now) (g.F.Flash.state c.make_room.new.flash) (g.F.Flash.state c.join.new.flash) c.in_ok-make_room.ensures.goes c.in_ok-join.ensures.goes
+    goes-then (g.F.Flash.state c.args.flash.now) (g.F.Flash.state c.make_room.new.flash) (g.F.Flash.state c.join.new.flash) c.in_ok-make_room.ensures.goes c.in_ok-join.ensures.goes
 
 pub returns-clause-same : goal.returns-clause-same
 returns-clause-same g c = same-then c.args.self.now c.make_room.new.self c.join.new.self c.in_ok-make_room.ensures.same c.in_ok-join.ensures.same
@@ -249,7 +249,7 @@ not-done : (fault : FlashFault) (u : Unit {0}) → ◌≡◌ {A = Result (Unit {
 not-done fault u e = cc
 
 pub returns-in-Some-clause-goes : goal.returns-in-Some-clause-goes
-returns-in-Some-clause-goes g c = goes_same (g.F.Flash.state c.args.flash.now)
+returns-in-Some-clause-goes g c = goes-same (g.F.Flash.state c.args.flash.now)
 
 pub returns-in-Some-clause-same : goal.returns-in-Some-clause-same
 returns-in-Some-clause-same g c = plan-self c.args.self.now

@@ -2,6 +2,7 @@ use Rattle.std.proofs.Common.{◌≡◌, ◌+◌, ◌-◌, ◌*◌, ◌<◌, ◌
 use Rattle.std.proofs.lemmas.Result.{err_from_is_err_and}
 use Rattle.fl_find.specs.Index.{error_in}
 use Rattle.fl_flash.specs.Flash.{page_at}
+use Rattle.fl_frame.proofs.CallsInTurn.{goes-then}
 use Rattle.fl_ring.specs.Place.{next_of, oldest_of, shape_of}
 use Rattle.fl_ring.specs.Ring.{place, room}
 use Rattle.fl_schema.specs.Schema.{layout_of}
@@ -13,7 +14,7 @@ use Rattle.fl_table.specs.Mounting.{comes_in}
 use Rattle.fl_table.specs.Reading.{WaitFrom}
 use Rattle.fl_table.specs.declared.known.Known.{Known}
 use Rattle.fl_ring.proofs.Founds.{same_pages}
-use Rattle.fl_ring.proofs.ReadsInTurn.{goes_more, more_reads, told_still}
+use Rattle.fl_frame.proofs.ReadsInTurn.{more_reads, told_still}
 use Rattle.fl_table.proofs.MountProgress.{unlisted-behind, come-rows, nothing-within, rows-still}
 use Rattle.fl_table.proofs.Firsts.{firsts-then}
 use Rattle.fl_table.proofs.NotedEntries.{first-same, gathers-end, wait-between, wait-for, waits-from}
@@ -281,7 +282,7 @@ read_newest-requires g c =
     let size : length c.deref_mut-2.result.now ≡ room (shape_of ring) = ap length (c.deref_mut-2.ensures.value ∙ back) ∙ (listed.size ∙ begin) in
     let then = g.F.Flash.state c.read_pages.new.flash in
     let read = c.in_ok-read_pages.ensures in
-    let goes = goes_more f first then listed.reads.goes read.reads.goes in
+    let goes = goes-then f first then listed.reads.goes read.reads.goes in
     let small : next_of ring < 4294967296 = omega (arith, c.next_number.ensures, c.next_number.type_inv) in
     let back' = written-back _ c.read_pages.new.counts t.counts.len (read.size ∙ ap length c.deref_mut-2.ensures.value) (t.counts.ok.0 ∙ sym (ap length back ∙ (listed.size ∙ ap length c.deref_mut.ensures.value))) in
     let size' : length c.deref_mut-3.result.now ≡ room (shape_of ring) = ap length (c.deref_mut-3.ensures.value ∙ back') ∙ (read.size ∙ size) in (
@@ -331,7 +332,7 @@ returns-in_err-read_pages-clause-lies g c =
     let old = g.F.Flash.state c.args.flash.now in
     let first = g.F.Flash.state c.read_listed.new.flash in
     let new = g.F.Flash.state c.read_pages.new.flash in
-    let goes = (goes_more (g.F.Flash.state c.args.flash.now) (g.F.Flash.state c.read_listed.new.flash) (g.F.Flash.state c.read_pages.new.flash) c.in_ok-from.ensures.reads.goes c.in_err-read_pages.ensures.reads.goes) in
+    let goes = (goes-then (g.F.Flash.state c.args.flash.now) (g.F.Flash.state c.read_listed.new.flash) (g.F.Flash.state c.read_pages.new.flash) c.in_ok-from.ensures.reads.goes c.in_err-read_pages.ensures.reads.goes) in
     record {
       geometry = goes.geometry ∙ lies.geometry;
       within = omega (arith, goes.blocks, lies.within);
@@ -350,7 +351,7 @@ returns-in_err-read_newest-clause-lies g c =
     let old = g.F.Flash.state c.args.flash.now in
     let first = g.F.Flash.state c.read_listed.new.flash in
     let new = g.F.Flash.state c.read_newest.new.flash in
-    let goes = (goes_more (g.F.Flash.state c.args.flash.now) (g.F.Flash.state c.read_listed.new.flash) (g.F.Flash.state c.read_newest.new.flash) c.in_ok-from.ensures.reads.goes (goes_more (g.F.Flash.state c.read_listed.new.flash) (g.F.Flash.state c.read_pages.new.flash) (g.F.Flash.state c.read_newest.new.flash) c.in_ok-read_pages.ensures.reads.goes c.in_err-read_newest.ensures.reads.goes)) in
+    let goes = (goes-then (g.F.Flash.state c.args.flash.now) (g.F.Flash.state c.read_listed.new.flash) (g.F.Flash.state c.read_newest.new.flash) c.in_ok-from.ensures.reads.goes (goes-then (g.F.Flash.state c.read_listed.new.flash) (g.F.Flash.state c.read_pages.new.flash) (g.F.Flash.state c.read_newest.new.flash) c.in_ok-read_pages.ensures.reads.goes c.in_err-read_newest.ensures.reads.goes)) in
     record {
       geometry = goes.geometry ∙ lies.geometry;
       within = omega (arith, goes.blocks, lies.within);
@@ -358,7 +359,7 @@ returns-in_err-read_newest-clause-lies g c =
       ring = λ ring is. absurd (none-there t.ring ring c.requires.forgotten.down is);
       bitmaps =
           still-lies c.read_listed.new.bitmaps c.read_pages.new.bitmaps new (plan-then c.read_listed.new.bitmaps c.restart.new.bitmaps c.read_pages.new.bitmaps c.restart.ensures.same c.in_ok-read_pages.ensures.same) (ring-then c.read_listed.new.bitmaps c.restart.new.bitmaps c.read_pages.new.bitmaps c.restart.ensures.still c.in_ok-read_pages.ensures.still)
-          (lies-goes c.read_listed.new.bitmaps first new (goes_more (g.F.Flash.state c.read_listed.new.flash) (g.F.Flash.state c.read_pages.new.flash) (g.F.Flash.state c.read_newest.new.flash) c.in_ok-read_pages.ensures.reads.goes c.in_err-read_newest.ensures.reads.goes) c.in_ok-from.ensures.bitmaps_lie);
+          (lies-goes c.read_listed.new.bitmaps first new (goes-then (g.F.Flash.state c.read_listed.new.flash) (g.F.Flash.state c.read_pages.new.flash) (g.F.Flash.state c.read_newest.new.flash) c.in_ok-read_pages.ensures.reads.goes c.in_err-read_newest.ensures.reads.goes) c.in_ok-from.ensures.bitmaps_lie);
       blobs = blobbing.lies-goes t.blobs old new goes lies.blobs;
     }
 
@@ -369,7 +370,7 @@ returns-clause-lies g c =
     let old = g.F.Flash.state c.args.flash.now in
     let first = g.F.Flash.state c.read_listed.new.flash in
     let new = g.F.Flash.state c.read_newest.new.flash in
-    let goes = (goes_more (g.F.Flash.state c.args.flash.now) (g.F.Flash.state c.read_listed.new.flash) (g.F.Flash.state c.read_newest.new.flash) c.in_ok-from.ensures.reads.goes (goes_more (g.F.Flash.state c.read_listed.new.flash) (g.F.Flash.state c.read_pages.new.flash) (g.F.Flash.state c.read_newest.new.flash) c.in_ok-read_pages.ensures.reads.goes c.in_ok-read_newest.ensures.reads.goes)) in
+    let goes = (goes-then (g.F.Flash.state c.args.flash.now) (g.F.Flash.state c.read_listed.new.flash) (g.F.Flash.state c.read_newest.new.flash) c.in_ok-from.ensures.reads.goes (goes-then (g.F.Flash.state c.read_listed.new.flash) (g.F.Flash.state c.read_pages.new.flash) (g.F.Flash.state c.read_newest.new.flash) c.in_ok-read_pages.ensures.reads.goes c.in_ok-read_newest.ensures.reads.goes)) in
     record {
       geometry = goes.geometry ∙ lies.geometry;
       within = omega (arith, goes.blocks, lies.within);
@@ -377,7 +378,7 @@ returns-clause-lies g c =
       ring = λ ring is. absurd (none-there t.ring ring c.requires.forgotten.down is);
       bitmaps =
           still-lies c.read_listed.new.bitmaps c.read_pages.new.bitmaps new (plan-then c.read_listed.new.bitmaps c.restart.new.bitmaps c.read_pages.new.bitmaps c.restart.ensures.same c.in_ok-read_pages.ensures.same) (ring-then c.read_listed.new.bitmaps c.restart.new.bitmaps c.read_pages.new.bitmaps c.restart.ensures.still c.in_ok-read_pages.ensures.still)
-          (lies-goes c.read_listed.new.bitmaps first new (goes_more (g.F.Flash.state c.read_listed.new.flash) (g.F.Flash.state c.read_pages.new.flash) (g.F.Flash.state c.read_newest.new.flash) c.in_ok-read_pages.ensures.reads.goes c.in_ok-read_newest.ensures.reads.goes) c.in_ok-from.ensures.bitmaps_lie);
+          (lies-goes c.read_listed.new.bitmaps first new (goes-then (g.F.Flash.state c.read_listed.new.flash) (g.F.Flash.state c.read_pages.new.flash) (g.F.Flash.state c.read_newest.new.flash) c.in_ok-read_pages.ensures.reads.goes c.in_ok-read_newest.ensures.reads.goes) c.in_ok-from.ensures.bitmaps_lie);
       blobs = blobbing.lies-goes t.blobs old new goes lies.blobs;
     }
 

@@ -4,7 +4,8 @@ use Rattle.fl_flash.specs.declared.flash.FlashFault.{FlashFault}
 use Rattle.fl_model.specs.Ring as rings
 use Rattle.fl_page.specs.declared.fault.ReadFault.TheVariants.{BadPage}
 use Rattle.fl_page.specs.Page.{IsGoodPage, bad_page}
-use Rattle.fl_page.proofs.ReadsInTurn.{OnlyReads-read, IsCaused-read}
+use Rattle.fl_frame.proofs.ContentsInTurn.{OnlyReads-read}
+use Rattle.fl_page.proofs.ReadsInTurn.{IsCaused-read}
 use Rattle.fl_ring.specs.Place.{next_of}
 use Rattle.fl_ring.specs.declared.ring.Ring.{Ring}
 use Rattle.fl_ring.proofs.Exists.{lies_exists}

@@ -1,6 +1,7 @@
 use Rattle.std.proofs.Common.{◌≡◌, ◌+◌, ◌-◌, ◌≤◌, ℕ, [], Ok, Err, arith, refl, sym, ◌∙◌, ap, subst, IsTrue, Result}
 use Rattle.std.proofs.lemmas.Result.{err_from_is_err_and}
 use Rattle.fl_flash.specs.Flash.{page_at, FlashState}
+use Rattle.fl_frame.proofs.CallsInTurn.{goes-then}
 use Rattle.fl_model.specs.MountLimit.{repaired}
 use Rattle.fl_model.specs.Table.{DataRing}
 use Rattle.fl_page.specs.Writer.{Gathers}
@@ -17,8 +18,7 @@ use Rattle.fl_table.proofs.MountLimits.{rows-within}
 use Rattle.fl_table.proofs.MountReads.{few-first, few-all, kept-room}
 use Rattle.fl_table.proofs.SealAnswers.{plan-self, planned-ring, lies-size}
 use Rattle.fl_table.proofs.ReadsKeepTable.{lies-moved}
-use Rattle.fl_ring.proofs.ReadsInTurn.{goes_more}
-use Rattle.fl_ring.specs.Looking.{OnlyReads}
+use Rattle.fl_frame.specs.Reads.{OnlyReads}
 use Rattle.fl_ring.specs.declared.fault.RingFault.{RingFault}
 use Rattle.fl_ring.specs.declared.ring.Ring.{Ring}
 use Rattle.fl_table.specs.Mounting.{FewRepairs}
@@ -180,7 +180,7 @@ returns-in_err-known-clause-cause g c =
 
 pub returns-in_err-known-clause-goes : goal.returns-in_err-known-clause-goes
 returns-in_err-known-clause-goes g c =
-    goes_more (g.F.Flash.state c.args.flash.now) (g.F.Flash.state c.mount.new.flash) (g.F.Flash.state c.read_kept.new.flash) c.in_ok-ring.ensures.beside.goes c.in_err-known.ensures.reads.goes
+    goes-then (g.F.Flash.state c.args.flash.now) (g.F.Flash.state c.mount.new.flash) (g.F.Flash.state c.read_kept.new.flash) c.in_ok-ring.ensures.beside.goes c.in_err-known.ensures.reads.goes
 
 -- all were read
 pub returns-clause-ends : goal.returns-clause-ends
@@ -253,7 +253,7 @@ returns-clause-reads g c = λ told.
 
 pub returns-clause-goes : goal.returns-clause-goes
 returns-clause-goes g c =
-    goes_more (g.F.Flash.state c.args.flash.now) (g.F.Flash.state c.mount.new.flash) (g.F.Flash.state c.read_kept.new.flash) c.in_ok-ring.ensures.beside.goes c.in_ok-known.ensures.reads.goes
+    goes-then (g.F.Flash.state c.args.flash.now) (g.F.Flash.state c.mount.new.flash) (g.F.Flash.state c.read_kept.new.flash) c.in_ok-ring.ensures.beside.goes c.in_ok-known.ensures.reads.goes
 
 pub returns-in_err-ring-clause-limit : goal.returns-in_err-ring-clause-limit
 returns-in_err-ring-clause-limit g c = λ first plan table rose device watched planned rests stands end full.

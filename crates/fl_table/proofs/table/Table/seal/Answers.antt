@@ -1,18 +1,19 @@
-use Rattle.std.proofs.Common.{◌≡◌, ◌+◌, ◌≤◌, true, Option, ◌∷◌, [], ◌++◌, List, Err, IsTrue, arith, sym, ◌∙◌, ap, subst, ℕ}
+use Rattle.std.proofs.Common.{◌≡◌, ◌+◌, ◌≤◌, true, Option, Result, ◌∷◌, [], ◌++◌, List, Err, IsTrue, arith, sym, ◌∙◌, ap, subst, ℕ}
 use Rattle.std.proofs.lemmas.Result.{err_from_is_err_and, on_err_weaker, IfErr-weaker}
 use Rattle.fl_model.specs.Table.{RingName, DataRing, after_seals}
 use Rattle.fl_table.specs.Bitmaps.{HaveRoom, bitmap_seals, next_of}
 use Rattle.fl_table.specs.Blobs as variable
 use Rattle.fl_table.specs.Blobs.{rest_seals}
 use Rattle.fl_table.specs.Outcomes.{SealsEnd}
-use Rattle.fl_table.proofs.SealsInTurn.{cause-later, seals-stop, seals-then, watched-front, watched-then}
+use Rattle.fl_table.proofs.SealsInTurn.{seals-stop, seals-then}
+use Rattle.fl_frame.proofs.WatchedInTurn.{cause-later, watched-first, watched-then}
 use Rattle.fl_flash.specs.Flash.{page_at}
 use Rattle.fl_table.proofs.Outsides.{outside-then}
 use Rattle.fl_table.proofs.Plain.{some-table_seals}
-use Rattle.fl_ring.proofs.ReadsInTurn.{goes_more}
 use Rattle.fl_index.specs.declared.index.BitmapIndex.{BitmapIndex}
 use Rattle.fl_table.proofs.SealAnswers.{same-then, writer-count}
 use Rattle.fl_flash.specs.declared.flash.FlashFault.{FlashFault}
+use Rattle.fl_frame.proofs.CallsInTurn.{goes-then}
 use Rattle.fl_table.proofs.PowerOff.{off-then}
 use Rattle.fl_table.proofs.Sizes.{table-fits}
 use Rattle.fl_table.specs.Memory.{is_stopped, next_in}
@@ -40,7 +41,7 @@ returns-in_err-seal_blobs-clause-ends g c = λ first plan table rose device watc
     let new = g.F.Flash.state c.seal_blobs.new.flash in
     let some : table.pending ≡ 0 → ⊥ = λ none. absurd (omega (arith, none, writer-count t f first plan table stands, c.requires.some)) in
     let goes = c.in_ok-seal_bitmaps.ensures.goes in
-    let h = c.in_ok-seal_bitmaps.ensures.ends first plan table rose device (watched-front f mid new rose device watched c.seal_blobs.ensures.goes) stands in
+    let h = c.in_ok-seal_bitmaps.ensures.ends first plan table rose device (watched-first f mid new rose device watched c.seal_blobs.ensures.goes) stands in
     let after = after_seals plan (bitmap_seals plan table) table in
     let k = c.in_err-seal_blobs.ensures.ends first plan after rose h.now.device (watched-then f mid new rose device h.now.device watched goes h.power h.counts) h.stands in
     let p = err_from_is_err_and c.from_residual-in_err-seal_blobs.result c.from_residual-in_err-seal_blobs.ensures.1 in
@@ -56,8 +57,8 @@ returns-clause-ends g c = λ first plan table rose device watched stands.
     let mid = g.F.Flash.state c.seal_blobs.new.flash in
     let new = g.F.Flash.state c.seal_rows.new.flash in
     let some : table.pending ≡ 0 → ⊥ = λ none. absurd (omega (arith, none, writer-count t f first plan table stands, c.requires.some)) in
-    let to_mid = watched-front f mid new rose device watched c.seal_rows.ensures.goes in
-    let h = c.in_ok-seal_bitmaps.ensures.ends first plan table rose device (watched-front f first_flash mid rose device to_mid c.in_ok-seal_blobs.ensures.goes) stands in
+    let to_mid = watched-first f mid new rose device watched c.seal_rows.ensures.goes in
+    let h = c.in_ok-seal_bitmaps.ensures.ends first plan table rose device (watched-first f first_flash mid rose device to_mid c.in_ok-seal_blobs.ensures.goes) stands in
     let after = after_seals plan (bitmap_seals plan table) table in
     let then = watched-then f first_flash mid rose device h.now.device to_mid c.in_ok-seal_bitmaps.ensures.goes h.power h.counts in
     let b = c.in_ok-seal_blobs.ensures.ends first plan after rose h.now.device then h.stands in
@@ -124,14 +125,14 @@ returns-clause-off g c =
 
 pub returns-in_err-seal_blobs-clause-goes : goal.returns-in_err-seal_blobs-clause-goes
 returns-in_err-seal_blobs-clause-goes g c =
-    goes_more (g.F.Flash.state c.args.flash.now) (g.F.Flash.state c.seal_bitmaps.new.flash) (g.F.Flash.state c.seal_blobs.new.flash) c.in_ok-seal_bitmaps.ensures.goes c.in_err-seal_blobs.ensures.goes
+    goes-then (g.F.Flash.state c.args.flash.now) (g.F.Flash.state c.seal_bitmaps.new.flash) (g.F.Flash.state c.seal_blobs.new.flash) c.in_ok-seal_bitmaps.ensures.goes c.in_err-seal_blobs.ensures.goes
 
 pub returns-clause-goes : goal.returns-clause-goes
 returns-clause-goes g c =
     let first = g.F.Flash.state c.seal_bitmaps.new.flash in
     let mid = g.F.Flash.state c.seal_blobs.new.flash in
     let new = g.F.Flash.state c.seal_rows.new.flash in
-    goes_more (g.F.Flash.state c.args.flash.now) first new c.in_ok-seal_bitmaps.ensures.goes (goes_more first mid new c.in_ok-seal_blobs.ensures.goes c.seal_rows.ensures.goes)
+    goes-then (g.F.Flash.state c.args.flash.now) first new c.in_ok-seal_bitmaps.ensures.goes (goes-then first mid new c.in_ok-seal_blobs.ensures.goes c.seal_rows.ensures.goes)
 
 pub returns-clause-same : goal.returns-clause-same
 returns-clause-same g c =
