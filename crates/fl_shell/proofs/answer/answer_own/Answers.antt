@@ -1,4 +1,5 @@
-use Rattle.std.proofs.Common.{ap, refl, rules}
+use Rattle.std.proofs.Common.{ap, refl}
+use Rattle.fl_frame.proofs.CallsInTurn.{goes-same, stays}
 use Rattle.fl_shell.specs.Own.{Echo, First, Last, Describe, Misformed}
 use Rattle.fl_shell.specs.OwnView.{own_view}
 use Rattle.fl_shell.specs.Refusal.{line_of}
@@ -10,7 +11,7 @@ use Rattle.fl_shell.proofs.answer.answer_own.Goals as goal
 pub returns-in-Echo : goal.returns-in-Echo
 returns-in-Echo g c = record {
   sound = c.requires.sound;
-  goes = search rules;
+  goes = stays _ _ (goes-same _);
   cause = c.write_line.ensures.cause;
   told = λ line. own-as _ _ _ _ _ (own_view c.args.own.now) (Echo c.in-Echo.word.now) line (ap own_view c.in-Echo.is) (c.write_line.ensures.text, refl);
   turn = λ configured m line makes own_is here.
@@ -32,7 +33,7 @@ returns-in-First g c = record {
 pub returns-in-Last : goal.returns-in-Last
 returns-in-Last g c = record {
   sound = c.requires.sound;
-  goes = search rules;
+  goes = stays _ _ (goes-same _);
   cause = c.answer_last.ensures.cause;
   told = λ line. own-as _ _ _ _ _ (own_view c.args.own.now) (Last c.in-Last.name) line (ap own_view c.in-Last.is) (c.answer_last.ensures.told, refl);
   turn = λ configured m line makes own_is here.
@@ -54,7 +55,7 @@ returns-in-Describe g c = record {
 pub returns-in-Misformed : goal.returns-in-Misformed
 returns-in-Misformed g c = record {
   sound = c.requires.sound;
-  goes = search rules;
+  goes = stays _ _ (goes-same _);
   cause = c.refuse.ensures.cause;
   told = λ line. own-as _ _ _ _ _ (own_view c.args.own.now) Misformed line (ap own_view c.in-Misformed.is) (c.refuse.ensures.text, refl);
   turn = λ configured m line makes own_is here.

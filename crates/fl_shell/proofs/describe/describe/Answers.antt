@@ -1,6 +1,7 @@
-use Rattle.std.proofs.Common.{◌<◌, ◌≤◌, Ok, Err, List, length, refl, sym, ◌∙◌, subst, take_all, le_trans, rules, arith}
+use Rattle.std.proofs.Common.{◌<◌, ◌≤◌, Ok, Err, List, length, refl, sym, ◌∙◌, subst, take_all, le_trans, arith}
 use Rattle.std.proofs.lemmas.Result.{err_from_is_err_and}
 use Rattle.fl_base.specs.declared.stream.SinkFailed.{SinkFailed}
+use Rattle.fl_frame.proofs.CallsInTurn.{goes-same, stays, stays-then}
 use Rattle.fl_model.specs.Record.{Plan}
 use Rattle.fl_image.proofs.Made.{made-by}
 use Rattle.fl_shell.proofs.DescribedImage.{SentSoFar, sent-first, sent-more, sent-into, sent-all, device-failed}
@@ -29,7 +30,7 @@ returns-in_err-write_table-clause-text g c = λ configured m makes here.
 pub tables-init : goal.tables-init
 tables-init g c = record {
   sound = c.requires.sound;
-  goes = search rules;
+  goes = stays _ _ (goes-same _);
   later = c.in_ok-write_all.ensures.cause.later;
   looks = looks-same _;
   some = (c.bytes.result.now, c.in_ok-write_all.ensures.text);
@@ -44,7 +45,7 @@ tables-preserved g c =
     let within : c.tables.at < length c.args.config.now.plans = omega (arith, c.tables-at-end.ensures.exact) in
     record {
       sound = c.write_table.ensures.sound;
-      goes = search rules;
+      goes = stays-then _ _ _ c.tables.invariant.goes c.write_table.ensures.goes;
       later = le_trans c.tables.invariant.later c.in_ok-write_table.ensures.cause.later;
       looks = looks-then _ _ _ c.tables.invariant.looks c.write_table.ensures.looks;
       some = some-then {E = SinkFailed} (g.K.Sink.written c.args.out.now) (g.K.Sink.written c.tables.out) (g.K.Sink.written c.write_table.new.out) (Ok tt) c.tables.invariant.some c.in_ok-write_table.ensures.told;

@@ -1,6 +1,7 @@
-use Rattle.std.proofs.Common.{◌≡◌, ◌+◌, ◌<◌, ◌≤◌, ℕ, nat_eq, Bool, true, false, inl, inr, List, [], length, refl, map, take, sym, ◌∙◌, ap, subst, rules, arith}
+use Rattle.std.proofs.Common.{◌≡◌, ◌+◌, ◌<◌, ◌≤◌, ℕ, nat_eq, Bool, true, false, inl, inr, List, [], length, refl, map, take, sym, ◌∙◌, ap, subst, arith}
 use Rattle.std.specs.Prelude.{◌&&◌, if◌then◌else◌}
 use Rattle.std.proofs.lemmas.Bool.{eqb-true, false≢true}
+use Rattle.fl_frame.proofs.CallsInTurn.{goes-same, stays, stays-then}
 use Rattle.fl_session.specs.Execute.{StandsAlike}
 use Rattle.fl_shell.specs.Caused.{CausesFlushes}
 use Rattle.fl_shell.specs.Talk.{flush_of}
@@ -26,7 +27,7 @@ returns-then-pending-eq0-clause-flushes g c = λ configured old moments content 
 pub tables-init : goal.tables-init
 tables-init g c = record {
   sound = c.requires;
-  goes = search rules;
+  goes = stays _ _ (goes-same _);
   told = (refl, refl);
   flushed = λ configured old moments content faults plans ready ran. flushed-none configured old moments _ content _ faults _ ran;
 }
@@ -42,7 +43,7 @@ tables-preserved g c =
     elim c.if-done.branch [ then-done w ↦ w.done-is ∙ sym (ap (λ (b : Bool). if b then f.result else false) w.if-done.true) | else-done w ↦ w.done-is ∙ (w.if-done.false ∙ sym (ap (λ (b : Bool). if b then f.result else false) w.if-done.false)) ] in
     record {
       sound = f.ensures.sound;
-      goes = search rules;
+      goes = stays-then _ _ _ i.goes f.ensures.goes;
       told =
           let more = caused.flushes-more (names (take c.tables.at plans_now)) c.name.result (E.state c.args.session.now) (E.state c.tables.session) (E.state f.new.session) c.tables.done f.result i.told f.ensures.told in
           subst (λ (b : Bool). CausesFlushes (names (take (c.tables.at + 1) plans_now)) (E.state c.args.session.now) (E.state f.new.session) b) (sym (both ∙ both-is c.tables.done f.result))

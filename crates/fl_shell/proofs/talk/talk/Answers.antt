@@ -1,5 +1,6 @@
 use Rattle.std.proofs.Common.{◌≡◌, ◌^◌, Some, Ok, Err, true, false, sym, ◌∙◌, ap, le_trans, subst, rules, arith}
 use Rattle.fl_base.specs.declared.stream.SinkFailed.{SinkFailed}
+use Rattle.fl_frame.proofs.CallsInTurn.{goes-same, stays, stays-then}
 use Rattle.fl_session.specs.Execute.{StandsAlike}
 use Rattle.fl_words.specs.Grammar.{lines_of}
 use Rattle.fl_shell.specs.Caused.{CausedBy, CausedIf}
@@ -17,7 +18,7 @@ lines-init g c = record {
   source_later = omega arith;
   sink_later = omega arith;
   sound = c.requires.sound;
-  goes = search rules;
+  goes = stays _ _ (goes-same _);
   input = λ left total told within. (left, told, within);
   told = λ left hand total told within is. lines-first total _ _ c.args.in_hand c.args.lines.now _ left hand told within is;
   talks = λ configured old left hand total makes ready here unread most told within is. hand-first configured old total _ _ _ _ _ _ left hand unread here most told within is;
@@ -51,7 +52,7 @@ lines-preserved g c =
       source_later = le_trans c.lines.invariant.source_later asks.later;
       sink_later = le_trans c.lines.invariant.sink_later c.answer_in_hand.ensures.cause.later;
       sound = c.answer_in_hand.ensures.sound;
-      goes = search rules;
+      goes = stays-then _ _ _ c.lines.invariant.goes c.answer_in_hand.ensures.goes;
       input = λ left total told within.
           let i = c.lines.invariant.input left total told within in
           let g = asks.gives i.0 i.1 (2 ^ 44) total i.2 in

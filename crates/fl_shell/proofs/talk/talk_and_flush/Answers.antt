@@ -1,4 +1,5 @@
 use Rattle.std.proofs.Common.{sym, subst}
+use Rattle.fl_frame.proofs.CallsInTurn.{stays-then}
 use Rattle.fl_image.proofs.Made.{made-by}
 use Rattle.fl_session.specs.Execute.{StandsAlike}
 use Rattle.fl_words.specs.Grammar.{lines_of}
@@ -29,6 +30,9 @@ returns-clause-ends g c = λ configured old left hand total makes ready here unr
     c.talk_from-status.ensures.statuses c.flush_all-flushed.ensures.goes.faults (c.talk_from-status.ensures.talks configured old left hand total makes ready here unread most told ended within is)
     (λ moments ran. c.flush_all-flushed.ensures.flushes configured old moments f.media.content f.media.faults (sym (made-by c.args.config.now configured makes).plans_are) ready ran) in
     subst (λ status. MediumEnds configured old all total stands_now f.media.content flushed.media.content f.media.faults flushed.media.faults (K.written c.args.out.now) (K.written x.out) (S.left x.input) c.flush_all-flushed.result status) (sym c.status_behind.ensures.exact) done
+
+pub returns-clause-goes : goal.returns-clause-goes
+returns-clause-goes g c = stays-then _ _ _ c.talk_from-status.ensures.goes c.flush_all-flushed.ensures.goes
 
 pub returns-clause-input : goal.returns-clause-input
 returns-clause-input g c = λ left total told ended within.
