@@ -2,7 +2,7 @@
 use Rattle.std.proofs.Common.{◌≡◌, ℕ, ◌+◌, ◌-◌, ◌<◌, ◌≤◌, true, List, ◌++◌, length, take, drop, replicate, slice_range, refl, sym, ap, ◌∙◌, arith, length-append, append_assoc}
 use Rattle.std.proofs.Math.Seq.{take-add, drop-append_seam}
 use Rattle.std.proofs.lemmas.List.{drop-drop, take-take, drop-take}
-use Rattle.fl_mark.specs.Mark.{all_are}
+use Rattle.fl_base.specs.Bytes.{all_are}
 use Rattle.fl_model.specs.Facts.{IsContent}
 use Rattle.fl_model.specs.Layout.{ContentPage, content_body, committed}
 use Rattle.fl_model.specs.Record.{Plan}

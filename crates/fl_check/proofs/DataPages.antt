@@ -7,7 +7,7 @@ use Rattle.std.proofs.lemmas.List.{drop-drop, length-take-le}
 use Rattle.std.proofs.lemmas.Nat.{le_bytes_8, from_le_bytes-to_le_bytes_8}
 use Rattle.std.specs.Int.{w64, from_le_bytes}
 use Rattle.fl_bitmap.specs.declared.buckets.Buckets.{Buckets}
-use Rattle.fl_mark.specs.Mark.{all_are}
+use Rattle.fl_base.specs.Bytes.{all_are}
 use Rattle.fl_model.specs.Layout.{rows_body}
 use Rattle.fl_model.specs.Record.{RowLayout, layout_len}
 use Rattle.fl_model.specs.Row.{Row, le, bytes_of_row}

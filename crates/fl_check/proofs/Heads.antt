@@ -9,7 +9,7 @@ use Rattle.fl_ring.specs.declared.scan.Scan.{Scan}
 use Rattle.fl_ring.specs.Finding.{kept_pages}
 use Rattle.fl_ring.specs.Front.{IsFront}
 use Rattle.fl_ring.specs.Head.{counts_full, heads, page_in}
-use Rattle.fl_ring.specs.Looking.{OnlyReads}
+use Rattle.fl_frame.specs.Reads.{OnlyReads}
 use Rattle.fl_ring.specs.Ring.{Shape, IsShape, room}
 use Rattle.fl_ring.specs.Scan.{Scanned}
 use Rattle.fl_ring.proofs.Founds.{same_pages}

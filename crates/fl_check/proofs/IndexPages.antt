@@ -6,7 +6,7 @@ use Rattle.std.proofs.lemmas.List.{drop-drop, length-take-le, append-nil}
 use Rattle.fl_index.specs.Page.{form_len}
 use Rattle.fl_index.specs.declared.page.EntryForm.{EntryForm}
 use Rattle.fl_index.proofs.WaitingEntries.{plan_form, length-entry}
-use Rattle.fl_mark.specs.Mark.{all_are}
+use Rattle.fl_base.specs.Bytes.{all_are}
 use Rattle.fl_model.specs.Layout.{IndexEntry, full_bytes, entry_bytes, committed, filled}
 use Rattle.fl_model.specs.Record.{Plan, entry_len, entries_per_page}
 use Rattle.fl_model.specs.Row.{le, number_of}

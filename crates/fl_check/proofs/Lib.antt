@@ -1,8 +1,11 @@
+pub mod AscendingPages
 pub mod BlobEnds
 pub mod BlobReaches
 pub mod BlobsKnown
 pub mod Breaks
 pub mod BytesBack
+pub mod Collected
+pub mod ConfigFacts
 pub mod ContentPages
 pub mod DataPages
 pub mod Decisions
@@ -16,6 +19,8 @@ pub mod GoodNumbers
 pub mod GoodStates
 pub mod Halts
 pub mod Heads
+pub mod HeadsFound
+pub mod HeldRings
 pub mod IndexPages
 pub mod Kept
 pub mod KeptPages
@@ -34,9 +39,14 @@ pub mod RingRules
 pub mod RingsKnown
 pub mod RowsBack
 pub mod RowsLead
+pub mod RulesStand
 pub mod RulesTold
+pub mod SoundImages
+pub mod SoundRings
 pub mod Stops
+pub mod StoredRows
 pub mod TablePages
+pub mod TalliedPages
 pub mod TableTold
 pub mod Tallies
 pub mod Wholes

@@ -1,22 +1,13 @@
 -- Parts of a page whose bytes are known.
-use Rattle.std.proofs.Common.{◌≡◌, ℕ, zero, suc, ◌+◌, ◌-◌, ◌≤◌, true, ◌==◌, List, [], ◌∷◌, ◌++◌, length, take, drop, replicate, slice_range, refl, sym, ap, ◌∙◌, arith, length-drop, length-take, inl, inr, append_assoc}
-use Rattle.std.proofs.lemmas.Bool.{and_parts, eqb-true, eq-eqb, cases_lt}
+use Rattle.std.proofs.Common.{◌≡◌, ℕ, ◌+◌, ◌-◌, ◌≤◌, true, List, ◌++◌, length, take, drop, replicate, slice_range, refl, sym, ap, ◌∙◌, arith, length-drop, length-take, inl, inr, append_assoc}
+use Rattle.std.proofs.lemmas.Bool.{cases_lt}
 use Rattle.std.proofs.lemmas.List.{drop-drop, length-take-le, take-append-drop, take_all, get_or-take, get_or-drop, get_or_past, take_at, drop_at, length-replicate}
-use Rattle.fl_mark.specs.Mark.{all_are}
+use Rattle.fl_base.specs.Bytes.{all_are}
+use Rattle.fl_base.proofs.OneByte.{all_same, same_all}
 use Rattle.fl_model.specs.Layout.{committed, filled}
 use Rattle.fl_model.specs.Row.{le, number_of}
 use Rattle.fl_check.specs.Endings.{IsEnded, IsFilled}
 use Rattle.fl_check.proofs.BytesBack.{AreBytes, le-number_as}
-
-pub all_same : (value : ℕ) (xs : List ℕ) → all_are value xs ≡ true → xs ≡ replicate (length xs) value
-all_same value [] e = refl
-all_same value (x ∷ xs) e =
-    let parts = and_parts (x == value) (all_are value xs) e in
-    ap (λ (y : ℕ). y ∷ xs) (eqb-true x value parts.0) ∙ ap (λ (l : List ℕ). value ∷ l) (all_same value xs parts.1)
-
-pub same_all : (value n : ℕ) → all_are value (replicate n value) ≡ true
-same_all value zero = refl
-same_all value (suc n) = rw (eq-eqb value value refl) (same_all value n)
 
 -- the marks at the end of a page
 module _ (page : List ℕ) (room : 8 ≤ length page) where

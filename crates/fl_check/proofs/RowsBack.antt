@@ -7,6 +7,7 @@ use Rattle.std.proofs.lemmas.Bool.Decides.{nat_tests}
 use Rattle.std.proofs.lemmas.Int.{ints}
 use Rattle.std.proofs.lemmas.List.{drop-drop, length-take-le, take-append-drop, take_all}
 use Rattle.fl_base.specs.declared.types.BlobRef.{BlobRef}
+use Rattle.fl_base.proofs.OneByte.{all_same}
 use Rattle.fl_model.specs.Record.{Column, columns_len, layout_len, fits, first_misfit}
 use Rattle.fl_model.specs.Row.{le, value_bytes, values_bytes, reference_bytes, bytes_of_row, FitsReference, FitsBytes, IsStorable, number_of, signed_number, value_in, values_in, reference_in, row_in}
 use Rattle.fl_page.specs.Page.{rows_from}
@@ -19,7 +20,7 @@ use Rattle.fl_schema.specs.declared.schema.KeyWidth.TheVariants.{Four, Eight}
 use Rattle.fl_schema.proofs.Places.{columns_len-cons}
 use Rattle.fl_schema.proofs.References.{ten_255, all_255}
 use Rattle.fl_check.proofs.BytesBack.{AreBytes, le-number_as, number-below}
-use Rattle.fl_check.proofs.Parts.{all_same, each-taken, each-dropped}
+use Rattle.fl_check.proofs.Parts.{each-taken, each-dropped}
 
 -- ---- values
 

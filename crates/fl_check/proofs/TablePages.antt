@@ -15,7 +15,7 @@ use Rattle.fl_model.specs.Table.{Entry}
 use Rattle.fl_check.specs.DataPage.{IsDataPage, HasBuckets, HasForm, HoldsEntries, bitmap_in, are_plain}
 
 -- an entry with this row: its blob may have any bytes, as many as the row says
-abbrev entry_of : Row → Entry
+abbrev pub entry_of : Row → Entry
 entry_of row = record {
   kept = record { key = row.key; values = row.values; blob = option_map (λ blob. replicate blob.length 0) row.blob };
   page = unwrap_or (option_map (λ blob. blob.page) row.blob) 0;
@@ -30,7 +30,7 @@ stored_back row = with_blob row.blob
     with_blob (Some blob) =
         ap (λ (n : ℕ). record { key = row.key; values = row.values; blob = Some (record { page = blob.page; offset = blob.offset; length = n }) }) (length-replicate {A = ℕ} blob.length 0)
 
-stored_rows : (rows : List Row) → map stored_row (map entry_of rows) ≡ rows
+pub stored_rows : (rows : List Row) → map stored_row (map entry_of rows) ≡ rows
 stored_rows [] = refl
 stored_rows (row ∷ rows) = ap (λ (r : Row). r ∷ map stored_row (map entry_of rows)) (stored_back row) ∙ ap (λ (l : List Row). row ∷ l) (stored_rows rows)
 
@@ -58,7 +58,7 @@ bitmap-same plan (Some buckets) entries same =
 -- ---- pages
 
 module _ (plan : Plan) (layout : RowLayout) (buckets : Option Buckets) (number : ℕ) (page : List ℕ) (form : HasForm plan layout buckets (length page)) where
-  body-same : (entries : List Entry) (rows : List Row) → map stored_row entries ≡ rows
+  pub body-same : (entries : List Entry) (rows : List Row) → map stored_row entries ≡ rows
       → committed (rows_body (length page - 8) layout number (bitmap_in buckets rows) rows) ≡ committed (data_body plan number entries)
   body-same entries rows same =
       ap (λ (k : ℕ). committed (rows_body (k - 8) layout number (bitmap_in buckets rows) rows)) (sym form.size_is)
@@ -66,7 +66,7 @@ module _ (plan : Plan) (layout : RowLayout) (buckets : Option Buckets) (number :
       ∙ ap (λ (rs : List Row). committed (rows_body (plan.geometry.page - 8) (row_layout plan) number (bitmap_in buckets rs) rs)) (sym same)
       ∙ ap (λ (b : ℕ). committed (rows_body (plan.geometry.page - 8) (row_layout plan) number b (map stored_row entries))) (sym (bitmap-same plan buckets entries form.buckets_are))
 
-  room-same : rows_per_page plan ≡ (length page - 24) / layout_len layout
+  pub room-same : rows_per_page plan ≡ (length page - 24) / layout_len layout
   room-same = ap (λ (k : ℕ). (k - 24) / layout_len (row_layout plan)) form.size_is ∙ ap (λ (l : RowLayout). (length page - 24) / layout_len l) form.layout_is
 
   pub holds_entries : IsDataPage layout buckets number page → HoldsEntries plan number page

@@ -21,6 +21,8 @@ pub mod Rising
 pub mod Ruled
 pub mod Rules
 pub mod States
+pub mod SoundImages
+pub mod StandingRings
 pub mod Stop
 pub mod Tally
 pub mod Told

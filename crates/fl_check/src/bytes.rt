@@ -1,14 +1,8 @@
 // Parts of a page whose bytes are known.
-ghost use Rattle.std.specs.Prelude.{◌≡◌, ◌+◌, ◌≤◌, ◌↔◌, IsTrue, length};
-ghost use Rattle.fl_mark.specs.Mark.{all_are};
+ghost use Rattle.std.specs.Prelude.{◌+◌, ◌≤◌, ◌↔◌, IsTrue, length};
 ghost use Rattle.fl_check.specs.Endings.{IsFilled, IsEnded};
 
-/// Whether each of the bytes is this one.
-pub(crate) fn each_is(bytes: &[u8], value: u8) -> bool
-    ensures { result ≡ all_are value bytes.now }
-{
-    bytes.iter().all(|b| *b == value)
-}
+use fl_base::each_is;
 
 /// Whether a page ends with the fields of a committed page: four bytes 00, and four bytes FF in the void field.
 pub(crate) fn ends_committed(page: &[u8]) -> bool

@@ -3,8 +3,8 @@
 ghost use Rattle.std.specs.Prelude.{◌↔◌, ◌<◌, ◌≤◌, IsTrue, length};
 ghost use Rattle.fl_check.specs.ContentPage.{IsContentPage};
 
-use crate::bytes::{each_is, ends_committed};
-use fl_base::{get_u16, get_u32};
+use crate::bytes::ends_committed;
+use fl_base::{each_is, get_u16, get_u32};
 
 /// Whether a page is a committed page of variable data with this number and a count of bytes that it has room for.
 pub fn content_page_is_good(page: &[u8], number: u32) -> bool

@@ -6,8 +6,8 @@ ghost use Rattle.fl_page.specs.View.{layout_of_page, page_of, count_of, rows_of}
 ghost use Rattle.fl_schema.specs.Schema.{layout_of, types_of};
 ghost use Rattle.fl_check.specs.DataPage.{IsDataPage, HasForm, HoldsEntries, bitmap_in, is_plain, are_plain};
 
-use crate::bytes::{each_is, ends_filled};
-use fl_base::{BlobRef, get_u64};
+use crate::bytes::ends_filled;
+use fl_base::{BlobRef, each_is, get_u64};
 use fl_bitmap::Buckets;
 use fl_page::PageView;
 use fl_schema::Schema;

@@ -4,8 +4,8 @@ ghost use Rattle.std.specs.Prelude.{◌≡◌, ◌/◌, ◌↔◌, ◌≤◌, �
 ghost use Rattle.fl_model.specs.Record.{Plan};
 ghost use Rattle.fl_check.specs.IndexPage.{IsIndexPage};
 
-use crate::bytes::{each_is, ends_filled};
-use fl_base::{get_u16, get_u32};
+use crate::bytes::ends_filled;
+use fl_base::{each_is, get_u16, get_u32};
 use fl_index::{EntryForm, entry_len};
 
 /// Whether a page is a committed index page with this number and with all the entries of a form that it has room for.

@@ -10,6 +10,8 @@ ghost use Rattle.fl_check.specs.Laws.{KeepsRules};
 ghost use Rattle.fl_check.specs.MountLaw.{FindsNumbers};
 ghost use Rattle.fl_check.specs.Numbering.{IsNumbered};
 ghost use Rattle.fl_check.specs.Rules.{AreRules, TellsFirst};
+ghost use Rattle.fl_check.specs.SoundImages.{SoundImages};
+ghost use Rattle.fl_check.specs.StandingRings.{SoundRingsStand};
 ghost use Rattle.fl_check.specs.Whole.{IsFinding};
 ghost use Rattle.fl_check.specs.declared.faults.TableRules.{TableRules};
 ghost use Rattle.fl_check.specs.declared.finding.Finding.{Finding};
@@ -18,6 +20,18 @@ ghost use Rattle.fl_check.specs.declared.marks.Marks.{Marks};
 /// A flash that stands for a ring keeps the rules on the ring's pages, torn and waiting for an erase or not.
 pub fn rings_keep_rules()
     ensures { (f : FlashState) → (r : Shape) → (at_least : ℕ) → (s : RingState) → IsShape r → IsGood f r at_least s → KeepsRules f r at_least s }
+{}
+
+/// Each ring of a sound table stands for a state of it, with the kept pages and the numbers that the rules tell: so a mount of the ring
+/// ends as the model says.
+pub fn sound_rings_stand()
+    ensures { SoundRingsStand }
+{}
+
+/// The pages of a sound table are the image of a table of the model that has nothing in memory, with as many kept data pages as the check
+/// tells.
+pub fn sound_images_stand()
+    ensures { SoundImages }
 {}
 
 /// Where the rules on the head, the states and the numbers of a ring hold, a mount finds the numbers that they tell.

@@ -40,7 +40,7 @@ pub use index_page::index_page_is_good;
 pub use keys::keys_ascend;
 pub use laws::{
     findings_are_one, kept_pages_are_good, mounts_find_numbers, rings_keep_rules,
-    rules_tell_findings,
+    rules_tell_findings, sound_images_stand, sound_rings_stand,
 };
 pub use marks::{HeadPages, Marks};
 pub use numbering::{Numbering, check_numbering};

@@ -1,7 +1,7 @@
 // The rules of the log of a table.
 ghost use Rattle.std.specs.Prelude.{◌≡◌, length, IsTrue, IfOk, IfErr, IfSome};
 ghost use Rattle.fl_flash.specs.Flash.{page_at};
-ghost use Rattle.fl_ring.specs.Looking.{ReadFails};
+ghost use Rattle.fl_frame.specs.Causes.{ReadFails};
 ghost use Rattle.fl_ring.specs.Place.{shape_of, LiesOn};
 ghost use Rattle.fl_schema.specs.Schema.{layout_of};
 ghost use Rattle.fl_check.specs.DataPage.{IsDataPage};

@@ -3,7 +3,7 @@ ghost use Rattle.std.specs.Prelude.{◌≡◌, length, IsTrue, IfOk, IfErr};
 ghost use Rattle.fl_bitmap.specs.declared.buckets.Buckets.{Buckets};
 ghost use Rattle.fl_flash.specs.Flash.{page_at};
 ghost use Rattle.fl_flash.specs.declared.flash.FlashFault.{FlashFault};
-ghost use Rattle.fl_ring.specs.Looking.{ReadFails};
+ghost use Rattle.fl_frame.specs.Causes.{ReadFails};
 ghost use Rattle.fl_ring.specs.Place.{shape_of, LiesOn};
 ghost use Rattle.fl_schema.specs.Schema.{layout_of};
 ghost use Rattle.fl_check.specs.DataPage.{IsDataPage};

@@ -1,7 +1,8 @@
 // The rule on the states of a ring's pages.
 ghost use Rattle.std.specs.Prelude.{◌≡◌, ◌+◌, ◌%◌, ◌<◌, ◌≤◌, length, IsTrue, IfOk, IfErr, OnOk, IfSome, IfNone};
 ghost use Rattle.fl_flash.specs.Flash.{page_at};
-ghost use Rattle.fl_ring.specs.Looking.{OnlyReads, ReadFails};
+ghost use Rattle.fl_frame.specs.Reads.{OnlyReads};
+ghost use Rattle.fl_frame.specs.Causes.{ReadFails};
 ghost use Rattle.fl_ring.specs.Place.{shape_of, LiesOn};
 ghost use Rattle.fl_ring.specs.Ring.{room};
 ghost use Rattle.fl_check.specs.Claims.{AllBelow, FailsFirst};

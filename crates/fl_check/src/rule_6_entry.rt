@@ -2,7 +2,8 @@
 ghost use Rattle.std.specs.Prelude.{◌≡◌, ℕ, ◌+◌, ◌-◌, ◌*◌, ◌<◌, ◌≤◌, length, true, false, IsTrue, IfOk, IfErr, IfSome, IfNone};
 ghost use Rattle.fl_flash.specs.Flash.{page_at};
 ghost use Rattle.fl_index.specs.Page.{page_first, form_len, found_at};
-ghost use Rattle.fl_ring.specs.Looking.{OnlyReads, ReadFails};
+ghost use Rattle.fl_frame.specs.Reads.{OnlyReads};
+ghost use Rattle.fl_frame.specs.Causes.{ReadFails};
 ghost use Rattle.fl_ring.specs.Newest.{page_back};
 ghost use Rattle.fl_ring.specs.Place.{shape_of, LiesOn};
 ghost use Rattle.fl_ring.specs.Ring.{room};

@@ -5,7 +5,7 @@ ghost use Rattle.fl_flash.specs.declared.flash.FlashFault.{FlashFault};
 ghost use Rattle.fl_plan.specs.Limits.{IsWithinLimits};
 ghost use Rattle.fl_plan.specs.Plan.{blocks_in};
 ghost use Rattle.fl_plan.specs.Refusal.{config_fault};
-ghost use Rattle.fl_ring.specs.Looking.{ReadFails};
+ghost use Rattle.fl_frame.specs.Causes.{ReadFails};
 ghost use Rattle.fl_schema.specs.Schema.{layout_of, types_of};
 ghost use Rattle.fl_check.specs.Claims.{AllBelow};
 ghost use Rattle.fl_check.specs.Entries.{HaveEntries, EntriesBreak};

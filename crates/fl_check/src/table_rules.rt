@@ -4,7 +4,7 @@ ghost use Rattle.std.specs.Result.{is_ok};
 ghost use Rattle.fl_flash.specs.Flash.{page_at};
 ghost use Rattle.fl_flash.specs.declared.flash.FlashFault.{FlashFault};
 ghost use Rattle.fl_plan.specs.Plan.{blocks_in};
-ghost use Rattle.fl_ring.specs.Looking.{ReadFails};
+ghost use Rattle.fl_frame.specs.Causes.{ReadFails};
 ghost use Rattle.fl_check.specs.Looks.{OnlyLooks, CheckFails, OffFails, OffChecksNothing};
 ghost use Rattle.fl_check.specs.Marks.{AreWithin};
 ghost use Rattle.fl_check.specs.Rising.{HaveRows};

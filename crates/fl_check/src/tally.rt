@@ -3,7 +3,8 @@
 ghost use Rattle.std.specs.Prelude.{◌≡◌, ◌<◌, ◌≤◌, ◌+◌, Option, length, IsTrue, IfOk, IfErr};
 ghost use Rattle.fl_flash.specs.Flash.{page_at};
 ghost use Rattle.fl_page.specs.View.{count_of, rows_of};
-ghost use Rattle.fl_ring.specs.Looking.{OnlyReads, ReadFails};
+ghost use Rattle.fl_frame.specs.Reads.{OnlyReads};
+ghost use Rattle.fl_frame.specs.Causes.{ReadFails};
 ghost use Rattle.fl_ring.specs.Place.{shape_of, LiesOn};
 ghost use Rattle.fl_schema.specs.Schema.{layout_of};
 ghost use Rattle.fl_check.specs.Rising.{HasRows, HaveRows};

@@ -6,7 +6,7 @@ use Rattle.std.proofs.lemmas.Bool.{leb-false, le-leb}
 use Rattle.fl_find.specs.Pages.{first_key}
 use Rattle.fl_model.specs.Row.{Row}
 use Rattle.fl_model.specs.Spline.{page_at}
-use Rattle.fl_page.specs.Contents.{Contents}
+use Rattle.fl_frame.specs.Contents.{Contents}
 use Rattle.fl_page.specs.Steps.{Ascends}
 use Rattle.fl_search.specs.Search.{IsPageOf}
 use Rattle.fl_table.specs.Look.{oldest_in, buffered_rows}

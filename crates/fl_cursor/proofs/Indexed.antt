@@ -15,8 +15,8 @@ use Rattle.fl_model.specs.Record.{Plan}
 use Rattle.fl_model.specs.Ring as rings
 use Rattle.fl_model.specs.Row.{Row}
 use Rattle.fl_model.specs.Table as model
-use Rattle.fl_page.specs.Contents.{Contents, contents_of, OnlyReads}
-use Rattle.fl_page.proofs.ReadsInTurn.{OnlyReads-reads}
+use Rattle.fl_frame.specs.Contents.{Contents, contents_of, OnlyReads}
+use Rattle.fl_frame.proofs.ContentsInTurn.{OnlyReads-reads}
 use Rattle.fl_page.specs.declared.fault.ReadFault.{ReadFault}
 use Rattle.fl_page.specs.declared.fault.ReadFault.TheVariants.{Flash, BadPage}
 use Rattle.fl_table.specs.Kept.{place_of}

@@ -14,7 +14,7 @@ use Rattle.fl_model.specs.Ring.{Ring}
 use Rattle.fl_model.specs.Row.{Row}
 use Rattle.fl_model.specs.Spline.{page_at, is_pending_key, lookup_limit, voids_of}
 use Rattle.fl_model.specs.Table.{full_pages}
-use Rattle.fl_page.specs.Contents.{Contents}
+use Rattle.fl_frame.specs.Contents.{Contents}
 use Rattle.fl_search.specs.Search.{IsPageOf}
 use Rattle.fl_table.specs.Look.{oldest_in, rows_noted, buffered_rows}
 use Rattle.fl_table.specs.Memory.{next_in}

@@ -1,5 +1,5 @@
 -- A cursor among the pending rows: it takes one, or ends.
-use Rattle.std.proofs.Common.{◌≡◌, ℕ, suc, ◌+◌, ◌^◌, ◌<◌, ◌≤◌, ◌*◌, ◌⊎◌, inl, inr, true, false, Option, Some, None, unwrap_or, List, [], ◌∷◌, ◌++◌, length, drop, sym, ◌∙◌, ap, subst, arith}
+use Rattle.std.proofs.Common.{◌≡◌, ℕ, suc, ◌+◌, ◌^◌, ◌<◌, ◌≤◌, ◌*◌, ◌⊎◌, inl, inr, true, false, Option, Some, None, unwrap_or, List, [], ◌∷◌, ◌++◌, drop, sym, ◌∙◌, ap, subst, arith}
 use Rattle.std.specs.List.{slice_get}
 use Rattle.std.proofs.lemmas.Bool.{lt-ltb}
 use Rattle.std.proofs.lemmas.List.{append-nil}
@@ -7,11 +7,11 @@ use Rattle.std.proofs.Math.Nat.{mul-le-mul_left}
 use Rattle.fl_model.specs.Record.{layout_len}
 use Rattle.fl_model.specs.Row.{Row}
 use Rattle.fl_model.proofs.Lists.{slice_get-short}
-use Rattle.fl_page.specs.Contents.{Contents}
+use Rattle.fl_frame.specs.Contents.{Contents}
 use Rattle.fl_table.specs.Look.{layout_in, buffered_rows}
 use Rattle.fl_table.specs.Memory.{pending_in}
 use Rattle.fl_table.specs.declared.table.Table.{Table}
-use Rattle.fl_table.proofs.KeyRows.{length-rows_from}
+use Rattle.fl_table.proofs.PendingKey.{length-buffered}
 use Rattle.fl_cursor.specs.Asked.{is_left}
 use Rattle.fl_cursor.specs.Cursor.{index_page, table_of, asked_of, rows_behind, Passes, IsTold}
 use Rattle.fl_cursor.specs.Going.{Goes, took}
@@ -27,9 +27,6 @@ use Rattle.fl_cursor.proofs.InPage.{same-row, drop-same}
 use Rattle.fl_cursor.proofs.PassedRows.{passes-all, passes-same, passes-end, passes-above, none-past}
 use Rattle.fl_cursor.proofs.TakenRows.{takes-row, moves-on}
 use Rattle.fl_cursor.proofs.Walks.{reached, passed, stopped}
-
-pub length-buffered : {KNOTS SLOTS : ℕ} (t : Table KNOTS SLOTS) → length (buffered_rows t) ≡ pending_in t
-length-buffered t = length-rows_from (pending_in t) (layout_in t) (drop 16 t.writer.body)
 
 pub few-pending : {KNOTS SLOTS : ℕ} (t : Table KNOTS SLOTS) → pending_in t ≤ 4096
 few-pending t =

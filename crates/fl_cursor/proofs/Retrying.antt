@@ -1,7 +1,7 @@
 -- The reads of a cursor that goes on after steps that failed.
 use Rattle.std.proofs.Common.{ℕ, ◌+◌, ◌*◌, ◌≤◌, List, [], ◌∷◌, arith}
 use Rattle.std.proofs.Math.Nat.{add-mul}
-use Rattle.fl_page.specs.Contents.{Contents}
+use Rattle.fl_frame.specs.Contents.{Contents}
 use Rattle.fl_cursor.specs.Cursor.{IsTold}
 use Rattle.fl_cursor.specs.Reads.{most_of}
 use Rattle.fl_cursor.specs.Retried.{StepEnd, Went, Failed, StepsEach, failed_among, ReadOnceForEachFault}

@@ -6,7 +6,7 @@ use Rattle.std.proofs.lemmas.Bool.{leb-true, false_from_ne_true}
 use Rattle.fl_find.specs.Pages.{first_key}
 use Rattle.fl_flash.specs.Buffer.{BufferState}
 use Rattle.fl_model.specs.Row.{Row}
-use Rattle.fl_page.specs.Contents.{Contents}
+use Rattle.fl_frame.specs.Contents.{Contents}
 use Rattle.fl_page.specs.Page.{IsGoodPage, rows_in}
 use Rattle.fl_page.specs.Steps.{Ascends}
 use Rattle.fl_search.specs.Search.{IsPageOf}

@@ -2,7 +2,7 @@
 use Rattle.std.proofs.Common.{◌≡◌, ℕ, ◌+◌, ◌-◌, ◌^◌, ◌<◌, ◌≤◌, true, false, Bool, [], filter, Result, Ok, Err, OnOk, OnErr, IfOk, IfErr, refl, ◌∙◌, ap, arith, inl, inr, Option, Some, None, subst}
 use Rattle.std.specs.Bool.{OnFalse}
 use Rattle.std.specs.Borrow.{Bor}
-use Rattle.fl_page.specs.Contents.{Contents}
+use Rattle.fl_frame.specs.Contents.{Contents}
 use Rattle.fl_page.specs.Steps.{Steps, left_after}
 use Rattle.fl_page.specs.declared.fault.BadPage.{BadPage as BadPageOf}
 use Rattle.fl_page.specs.declared.fault.ReadFault.{ReadFault}

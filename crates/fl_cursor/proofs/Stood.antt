@@ -21,17 +21,15 @@ use Rattle.fl_model.specs.Row.{Row, stored_row}
 use Rattle.fl_model.specs.Table as model
 use Rattle.fl_model.specs.Table.{Entry, pending_entries}
 use Rattle.fl_model.proofs.Lists.{slice_get-some, slice_get-short}
-use Rattle.fl_page.specs.Contents.{Contents}
+use Rattle.fl_frame.specs.Contents.{Contents}
 use Rattle.fl_page.specs.Page.{IsGoodPage, rows_in}
-use Rattle.fl_page.specs.Page as pages
 use Rattle.fl_page.specs.Steps.{Ascends}
-use Rattle.fl_page.proofs.RowBytes.{rows_from-rows}
 use Rattle.fl_ring.specs.Ring.{place}
-use Rattle.fl_schema.specs.Schema.{types_of}
 use Rattle.fl_table.specs.Kept.{place_of}
 use Rattle.fl_table.specs.Look.{layout_in, oldest_in, rows_noted, buffered_rows}
 use Rattle.fl_table.specs.Memory.{next_in}
 use Rattle.fl_table.specs.declared.table.Table.{Table}
+use Rattle.fl_table.proofs.PendingKey.{buffered-stored}
 use Rattle.fl_table.proofs.KeptPages.{sum-next}
 use Rattle.fl_table.proofs.KeptRead.{place-is, shown, rows-lose}
 use Rattle.fl_table.proofs.MemoryTells.{next-is, oldest-is, noted-is}
@@ -189,12 +187,7 @@ module _ {KNOTS SLOTS : ℕ} (t : Table KNOTS SLOTS) (contents : Contents) (h : 
       ∙ ap (λ k. take k (drop (before i) h.table.entries)) (sym split)))))))
 
   pub standing-buffered : buffered_rows t ≡ map stored_row (pending_entries h.table)
-  standing-buffered =
-      let gathers = h.stands.memory.gathers in
-      let rows = map stored_row (pending_entries h.table) in
-      ap (λ n. pages.rows_from n (layout_in t) (drop 16 t.writer.body)) gathers.count
-      ∙ (ap (pages.rows_from (length (map stored_row (pending_entries h.table))) (layout_in t)) gathers.bytes
-      ∙ rows_from-rows t.schema.key (types_of t.schema) t.schema.blobs rows _ gathers.storable)
+  standing-buffered = buffered-stored t h.flash h.first h.plan h.table h.stands
 
   pub standing-rows : rows_of t contents ≡ map stored_row h.table.entries
   standing-rows =

@@ -3,7 +3,7 @@ use Rattle.std.proofs.Common.{◌≡◌, ℕ, zero, suc, ◌+◌, ◌^◌, ◌<�
 use Rattle.std.specs.List.{list_any}
 use Rattle.fl_model.specs.Query as model
 use Rattle.fl_model.specs.Row.{Row}
-use Rattle.fl_page.specs.Contents.{Contents}
+use Rattle.fl_frame.specs.Contents.{Contents}
 use Rattle.fl_table.specs.declared.table.Table.{Table}
 use Rattle.fl_cursor.specs.Asked.{is_left, is_asked, is_last}
 use Rattle.fl_cursor.specs.Cursor.{table_of, asked_of, buffer_of, is_here_at, row_at, index_page, rows_behind, Passes, IsPlaced, IsTold, IsLooking}

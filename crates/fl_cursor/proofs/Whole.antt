@@ -2,7 +2,7 @@
 use Rattle.std.proofs.Common.{◌≡◌, ℕ, Bool, true, false, Some, List, [], Ok, refl, sym, ◌∙◌, ap, subst, arith}
 use Rattle.fl_model.specs.Row.{Row}
 use Rattle.std.specs.Bool.{OnFalse}
-use Rattle.fl_page.specs.Contents.{Contents}
+use Rattle.fl_frame.specs.Contents.{Contents}
 use Rattle.fl_page.specs.Steps.{Steps}
 use Rattle.fl_cursor.specs.Asked.{asked_by, is_left}
 use Rattle.fl_cursor.specs.Cursor.{table_of, mark_of, buffer_of, here_of, is_here, is_here_at, present_of, left_of}

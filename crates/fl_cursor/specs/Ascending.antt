@@ -5,7 +5,7 @@ use Rattle.std.proofs.lemmas.Bool.{lt-ltb, leb-true}
 use Rattle.fl_model.specs.Query.{Cursor as Asked, in_range, in_span, is_above, is_up_to}
 use Rattle.fl_model.specs.Row.{Row}
 use Rattle.fl_page.specs.Ascending.{Ascends-filter}
-use Rattle.fl_page.specs.Contents.{Contents}
+use Rattle.fl_frame.specs.Contents.{Contents}
 use Rattle.fl_page.specs.Steps.{Ascends}
 use Rattle.fl_cursor.specs.Asked.{is_left, row_matches, above_range, above_of}
 use Rattle.fl_cursor.specs.Cursor.{asked_of, left_of, IsTold}

@@ -17,7 +17,7 @@ use Rattle.fl_model.specs.Query as model
 use Rattle.fl_model.specs.Record.{Plan, RowLayout, layout_len}
 use Rattle.fl_model.specs.Row.{Row}
 use Rattle.fl_model.specs.Table as tables
-use Rattle.fl_page.specs.Contents.{Contents, contents_of}
+use Rattle.fl_frame.specs.Contents.{Contents, contents_of}
 use Rattle.fl_page.specs.Header.{page_number, page_count}
 use Rattle.fl_page.specs.Page.{IsGoodPage, bad_page, rows_in}
 use Rattle.fl_page.specs.Steps.{Ascends}

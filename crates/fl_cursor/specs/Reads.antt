@@ -10,7 +10,7 @@ use Rattle.fl_flash.specs.Buffer.{BufferState}
 use Rattle.fl_index.specs.Memory.{form_in, is_waiting, listing_in}
 use Rattle.fl_index.specs.declared.index.BitmapIndex.{BitmapIndex}
 use Rattle.fl_model.specs.Row.{Row}
-use Rattle.fl_page.specs.Contents.{Contents}
+use Rattle.fl_frame.specs.Contents.{Contents}
 use Rattle.fl_page.specs.Page.{rows_in}
 use Rattle.fl_find.specs.Index.{most_reads}
 use Rattle.fl_find.specs.Pages.{first_key}

@@ -1,6 +1,6 @@
 -- Steps of a cursor one after another, of which some fail.
 use Rattle.std.specs.Prelude.{◌≡◌, ℕ, ◌+◌, ◌*◌, ◌≤◌, Bool, List, [], ◌∷◌}
-use Rattle.fl_page.specs.Contents.{Contents}
+use Rattle.fl_frame.specs.Contents.{Contents}
 use Rattle.fl_cursor.specs.Cursor.{IsTold}
 use Rattle.fl_cursor.specs.Going.{Goes, Fails}
 use Rattle.fl_cursor.specs.Reads.{most_of}

@@ -7,7 +7,7 @@ ghost use Rattle.fl_model.specs.Record.{Plan};
 ghost use Rattle.fl_model.specs.Row.{stored_row};
 ghost use Rattle.fl_model.specs.Table as model;
 ghost use Rattle.fl_model.specs.Table.{last_entry};
-ghost use Rattle.fl_page.specs.Contents.{Contents, contents_of};
+ghost use Rattle.fl_frame.specs.Contents.{Contents, contents_of};
 ghost use Rattle.fl_table.specs.Look.{last_key_in};
 ghost use Rattle.fl_table.specs.Memory.{is_running, LiesOn};
 ghost use Rattle.fl_table.specs.Standing.{Stands};

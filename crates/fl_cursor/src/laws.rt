@@ -6,7 +6,7 @@ ghost use Rattle.fl_model.specs.Query as query;
 ghost use Rattle.fl_model.specs.Record.{Plan};
 ghost use Rattle.fl_model.specs.Row.{stored_row};
 ghost use Rattle.fl_model.specs.Table as model;
-ghost use Rattle.fl_page.specs.Contents.{contents_of};
+ghost use Rattle.fl_frame.specs.Contents.{contents_of};
 ghost use Rattle.fl_table.specs.Memory.{LiesOn};
 ghost use Rattle.fl_table.specs.Standing.{Stands};
 ghost use Rattle.fl_cursor.specs.Cursor.{table_of, asked_of, left_of};

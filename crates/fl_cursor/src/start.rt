@@ -1,6 +1,6 @@
 // Where a cursor begins.
 ghost use Rattle.std.specs.Prelude.{◌≡◌, false, true, List, ℕ};
-ghost use Rattle.fl_page.specs.Contents.{Contents};
+ghost use Rattle.fl_frame.specs.Contents.{Contents};
 ghost use Rattle.fl_table.specs.Memory.{is_running};
 ghost use Rattle.fl_cursor.specs.Listed.{rows_of};
 

@@ -1,7 +1,8 @@
 // How a cursor goes from row to row.
 ghost use Rattle.std.specs.Prelude.{◌≡◌, ◌+◌, ◌<◌, ◌≤◌, ◌^◌, ℕ, true, false, length, Ok, IfOk, IfErr, OnOk, OnErr};
 ghost use Rattle.std.specs.Bool.{OnTrue, OnFalse};
-ghost use Rattle.fl_page.specs.Contents.{Contents, contents_of, OnlyReads, IsCaused};
+ghost use Rattle.fl_frame.specs.Contents.{Contents, contents_of, OnlyReads};
+ghost use Rattle.fl_page.specs.Causes.{IsCaused};
 ghost use Rattle.fl_table.specs.Look.{oldest_in};
 ghost use Rattle.fl_table.specs.Memory.{next_in};
 

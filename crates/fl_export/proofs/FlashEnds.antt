@@ -10,7 +10,7 @@ use Rattle.fl_image.specs.declared.status.ToolStatus.TheVariants.{Done, Device}
 use Rattle.fl_machine.specs.Step.{all_ready}
 use Rattle.fl_model.specs.Record.{Plan}
 use Rattle.fl_model.specs.Table as model
-use Rattle.fl_page.specs.Contents.{OnlyReads}
+use Rattle.fl_frame.specs.Contents.{OnlyReads}
 use Rattle.fl_page.specs.declared.fault.ReadFault.TheVariants.{Flash, BadPage}
 use Rattle.fl_table.specs.declared.faults.MountFault.{MountFault}
 use Rattle.fl_store.specs.Tables.{IsNamed, TablesStand, TablesMounted, MountBreaks}
@@ -73,11 +73,11 @@ module _ (plans : List Plan) (tables : List model.Table) (name : List ℕ) (rang
   pub done : Appends told told_now (table_text own.plan own.table range) → EndsOn plans tables name range f h told told_now now Done
   done wrote = exported (λ text. Appends told told_now text) wrote
 
-  pub failed : (fault : ExportFault) (place : ℕ) → Writes (table_text own.plan own.table range) told told_now (Err fault) → IfUnread g h fault → EndsOn plans tables name range f h told told_now now (status_of fault place)
-  failed fault.NoMemory place writes cause = exported (λ text. AppendsFront told told_now text) writes.1
-  failed (fault.Sink e) place writes cause = exported (λ text. AppendsFront told told_now text) writes.1
-  failed (fault.Read (Flash PowerLost)) place writes cause = exported (λ text. AppendsFront told told_now text) writes.1
-  failed (fault.Read (Flash Media)) place writes cause =
+  pub failed : (fault : ExportFault) (place : ℕ) → Writes (table_text own.plan own.table range) told told_now (Err fault) → g.is_on ≡ true → IfUnread g h fault → EndsOn plans tables name range f h told told_now now (status_of fault place)
+  failed fault.NoMemory place writes on cause = exported (λ text. AppendsFront told told_now text) writes.1
+  failed (fault.Sink e) place writes on cause = exported (λ text. AppendsFront told told_now text) writes.1
+  failed (fault.Read (Flash PowerLost)) place writes on cause = absurd (cc (on, cause))
+  failed (fault.Read (Flash Media)) place writes on cause =
       let rose : Rose g.media.faults h.media.faults = cause.0 in
       (omega (arith, goes, rose), inr (exported (λ text. AppendsFront told told_now text) writes.1))
-  failed (fault.Read (BadPage bad)) place writes cause = absurd writes.0
+  failed (fault.Read (BadPage bad)) place writes on cause = absurd writes.0

@@ -6,4 +6,5 @@ mod WrittenRecords
 mod FlashEnds
 pub mod ImageEnds
 pub mod Statuses
+mod OverBytes
 pub mod ReadBack

@@ -6,14 +6,14 @@ use Rattle.fl_flash.specs.Media.{MediaState}
 use Rattle.fl_flash.specs.declared.flash.FlashFault.TheVariants.{PowerLost, Media}
 use Rattle.fl_image.specs.declared.status.ToolStatus.{ToolStatus}
 use Rattle.fl_image.specs.declared.status.ToolStatus.TheVariants.{Done, InputRead, OutWrite, InputLong, NoMemory, NotImage, Device, BadImage, NoTable, BadInput, Unsound}
+use Rattle.fl_page.specs.declared.fault.BadPage as page
 use Rattle.fl_page.specs.declared.fault.ReadFault.TheVariants.{Flash, BadPage}
 use Rattle.fl_store.specs.FoundTable.{FindsNone}
 use Rattle.fl_store.specs.Named.{IsImageWith}
 use Rattle.fl_store.proofs.FoundTables.{by-none}
-use Rattle.fl_store.proofs.MountStatuses.{by-flash}
 use Rattle.fl_export.specs.Ends.{StatusFits}
 use Rattle.fl_export.specs.Tables.{status_of, IsOfTable}
-use Rattle.fl_export.specs.Writing.{IfSink, IfUnread}
+use Rattle.fl_export.specs.Writing.{IfBadPage, IfSink, IfUnread}
 use Rattle.fl_export.specs.declared.fault.ExportFault.{ExportFault}
 use Rattle.fl_export.specs.declared.fault.ExportFault.TheVariants as fault
 
@@ -22,27 +22,34 @@ use Rattle.fl_export.specs.declared.fault.ExportFault.TheVariants as fault
 pub of-fault : (e : ExportFault) (at : ℕ) → IsOfTable (status_of e at)
 of-fault fault.NoMemory at = tt
 of-fault (fault.Sink failed) at = tt
-of-fault (fault.Read (Flash e)) at = by-flash IsOfTable e tt tt
+of-fault (fault.Read (Flash e)) at = tt
 of-fault (fault.Read (BadPage bad)) at = tt
 
 pub fault-written : {P : Type 0} (e : ExportFault) (at : ℕ) → status_of e at ≡ OutWrite → IfSink P e → P
 fault-written fault.NoMemory at is cause = absurd (cc is)
 fault-written (fault.Sink failed) at is cause = cause
-fault-written {P} (fault.Read (Flash e)) at is cause = by-flash (λ s. s ≡ OutWrite → P) e (λ k. absurd (cc k)) (λ k. absurd (cc k)) is
+fault-written (fault.Read (Flash e)) at is cause = absurd (cc is)
 fault-written (fault.Read (BadPage bad)) at is cause = absurd (cc is)
 
-pub fault-rose : (old new : FlashState) (e : ExportFault) (at : ℕ) → status_of e at ≡ Device → IfUnread old new e → Rose old.media.faults new.media.faults
-fault-rose old new fault.NoMemory at is cause = absurd (cc is)
-fault-rose old new (fault.Sink failed) at is cause = absurd (cc is)
-fault-rose old new (fault.Read (Flash Media)) at is cause = cause.0
-fault-rose old new (fault.Read (Flash PowerLost)) at is cause = absurd (cc is)
-fault-rose old new (fault.Read (BadPage bad)) at is cause = absurd (cc is)
+pub fault-rose : (old new : FlashState) (e : ExportFault) (at : ℕ) → old.is_on ≡ true → status_of e at ≡ Device → IfUnread old new e → Rose old.media.faults new.media.faults
+fault-rose old new fault.NoMemory at on is cause = absurd (cc is)
+fault-rose old new (fault.Sink failed) at on is cause = absurd (cc is)
+fault-rose old new (fault.Read (Flash Media)) at on is cause = cause.0
+fault-rose old new (fault.Read (Flash PowerLost)) at on is cause = absurd (cc (on, cause))
+fault-rose old new (fault.Read (BadPage bad)) at on is cause = absurd (cc is)
 
 pub fault-place : (e : ExportFault) (at table : ℕ) → status_of e at ≡ BadImage table → at ≡ table
 fault-place fault.NoMemory at table is = absurd (cc is)
 fault-place (fault.Sink failed) at table is = absurd (cc is)
-fault-place (fault.Read (Flash e)) at table is = by-flash (λ s. s ≡ BadImage table → at ≡ table) e (λ k. absurd (cc k)) (λ k. absurd (cc k)) is
+fault-place (fault.Read (Flash e)) at table is = absurd (cc is)
 fault-place (fault.Read (BadPage bad)) at table is = cc is
+
+-- .. of which a page is bad
+pub fault-bad : (P : page.BadPage → Type 0) (e : ExportFault) (at table : ℕ) → status_of e at ≡ BadImage table → IfBadPage P e → (bad : page.BadPage) × P bad
+fault-bad P fault.NoMemory at table is h = absurd (cc is)
+fault-bad P (fault.Sink failed) at table is h = absurd (cc is)
+fault-bad P (fault.Read (Flash e)) at table is h = absurd (cc is)
+fault-bad P (fault.Read (BadPage bad)) at table is h = (bad, h)
 
 -- ---- over any bytes
 

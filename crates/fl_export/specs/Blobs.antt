@@ -4,7 +4,7 @@ use Rattle.fl_flash.specs.Flash.{FlashState}
 use Rattle.fl_model.specs.Query.{BlobState, Lost, Stands}
 use Rattle.fl_model.specs.Table as model
 use Rattle.fl_page.specs.declared.fault.ReadFault.{ReadFault}
-use Rattle.fl_ring.specs.Looking as looking
+use Rattle.fl_frame.specs.Reads as looking
 use Rattle.fl_var.specs.Reading as reading
 use Rattle.fl_var.specs.Reading.{turned, Reads}
 use Rattle.fl_var.specs.declared.reader.BlobReader.{BlobReader}

@@ -5,4 +5,5 @@ pub mod Blobs
 pub mod Rooms
 pub mod Ends
 pub mod Tables
+pub mod Over
 pub mod Laws

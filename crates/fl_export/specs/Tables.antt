@@ -2,7 +2,6 @@
 use Rattle.std.specs.Prelude.{ℕ, false, Option, List}
 use Rattle.fl_base.specs.declared.types.KeyRange.{KeyRange}
 use Rattle.fl_flash.specs.Flash.{FlashState}
-use Rattle.fl_image.specs.Status.{flash_status}
 use Rattle.fl_image.specs.declared.status.ToolStatus.{ToolStatus}
 use Rattle.fl_image.specs.declared.status.ToolStatus.TheVariants.{Done, OutWrite, NoMemory, Device, BadImage}
 use Rattle.fl_model.specs.Record.{Plan}
@@ -19,7 +18,7 @@ use Rattle.fl_export.specs.declared.fault.ExportFault.TheVariants as fault
 abbrev pub status_of : ExportFault → ℕ → ToolStatus
 status_of fault.NoMemory at = NoMemory
 status_of (fault.Sink failed) at = OutWrite
-status_of (fault.Read (Flash e)) at = flash_status e
+status_of (fault.Read (Flash e)) at = Device
 status_of (fault.Read (BadPage bad)) at = BadImage at
 
 -- a status that comes once the table is found

@@ -1,11 +1,16 @@
 -- How the writing of lines ends.
-use Rattle.std.specs.Prelude.{ℕ, Option, Result, Ok, Err, List}
+use Rattle.std.specs.Prelude.{◌≡◌, ◌⊎◌, ℕ, true, Option, Result, Ok, Err, List}
 use Rattle.fl_base.specs.Causes.{Appends, AppendsFront}
 use Rattle.fl_csv.specs.declared.record.CsvFault.{CsvFault}
 use Rattle.fl_csv.specs.declared.record.CsvFault.TheVariants as line
+use Rattle.fl_cursor.specs.Cursor.{MayBeBad}
 use Rattle.fl_flash.specs.Flash.{FlashState}
-use Rattle.fl_page.specs.Contents.{IsCaused}
+use Rattle.fl_frame.specs.Contents.{Contents}
+use Rattle.fl_page.specs.Causes.{IsCaused}
+use Rattle.fl_page.specs.declared.fault.BadPage as page
 use Rattle.fl_page.specs.declared.fault.ReadFault.TheVariants.{Flash, BadPage}
+use Rattle.fl_table.specs.BlobAt.{has_blobs}
+use Rattle.fl_table.specs.declared.table.Table.{Table}
 use Rattle.fl_export.specs.declared.fault.ExportFault.{ExportFault}
 use Rattle.fl_export.specs.declared.fault.ExportFault.TheVariants.{NoMemory, Sink, Read}
 
@@ -25,6 +30,17 @@ abbrev pub IfUnread : FlashState → FlashState → ExportFault → Type 0
 IfUnread old new (Read fault) = IsCaused old fault new
 IfUnread old new (Sink failed) = Unit {0}
 IfUnread old new NoMemory = Unit {0}
+
+-- .. and this holds of a bad page
+abbrev pub IfBadPage : (page.BadPage → Type 0) → ExportFault → Type 0
+IfBadPage P (Read (BadPage bad)) = P bad
+IfBadPage P (Read (Flash fault)) = Unit {0}
+IfBadPage P (Sink failed) = Unit {0}
+IfBadPage P NoMemory = Unit {0}
+
+-- A page of a table's rows or of its index is bad; or it is one of its blobs, of which nothing more is said.
+abbrev pub IsBadIn : Table 64 64 → Contents → page.BadPage → Type 0
+IsBadIn t contents bad = MayBeBad t contents bad ⊎ (has_blobs t ≡ true)
 
 -- no page is bad
 abbrev pub NoneBad : ExportFault → Type 0

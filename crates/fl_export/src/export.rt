@@ -7,14 +7,17 @@ ghost use Rattle.fl_image.specs.Image.{OnlyLooksAt};
 ghost use Rattle.fl_image.specs.declared.status.ToolStatus.{ToolStatus};
 ghost use Rattle.fl_model.specs.Record.{Config as Configured, Plan, blocks_of};
 ghost use Rattle.fl_model.specs.Table as model;
-ghost use Rattle.fl_ring.specs.Device.{SameDevice};
+ghost use Rattle.fl_frame.specs.Device.{SameDevice};
+ghost use Rattle.fl_store.specs.Jobs.{JobEnds};
 ghost use Rattle.fl_store.specs.MountEnds.{told_of, Keeps};
 ghost use Rattle.fl_store.specs.Named.{IsImageWith};
 ghost use Rattle.fl_store.specs.Repaired.{AreRepaired, IsLeft};
 ghost use Rattle.fl_store.specs.Store.{at_rest};
 ghost use Rattle.fl_store.specs.Tables.{IsNamed, LieOn, TablesStand};
+ghost use Rattle.fl_store.specs.Unarmed.{IsUnarmed};
 ghost use Rattle.fl_words.specs.Medium.{IsImage};
 ghost use Rattle.fl_export.specs.Ends.{StatusFits, ExportEnds};
+ghost use Rattle.fl_export.specs.Over.{ExportsOver};
 ghost use Rattle.fl_export.specs.Rooms.{HasRooms};
 ghost use Rattle.fl_export.specs.Tables.{status_of, EndsOn, IsOfTable};
 
@@ -23,7 +26,7 @@ use crate::rooms::Rooms;
 use crate::table::write_table;
 use fl_base::{KeyRange, Name, Sink};
 use fl_flash::{Flash, Media};
-use fl_image::{ToolStatus, flash_status};
+use fl_image::ToolStatus;
 use fl_page::ReadFault;
 use fl_store::{FoundTable, Store, Tables, mount_status};
 use std::alloc::Global;
@@ -36,7 +39,7 @@ fn status_of(fault: ExportFault, at: usize) -> ToolStatus
     match fault {
         ExportFault::NoMemory => ToolStatus::NoMemory,
         ExportFault::Sink(_) => ToolStatus::OutWrite,
-        ExportFault::Read(ReadFault::Flash(fault)) => flash_status(fault),
+        ExportFault::Read(ReadFault::Flash(_)) => ToolStatus::Device,
         ExportFault::Read(ReadFault::BadPage(_)) => ToolStatus::BadImage { table: at as u32 },
     }
 }
@@ -55,6 +58,8 @@ fn export_on<F: Flash, K: Sink>(
     requires rooms { HasRooms rooms.old (F.state flash.old).geometry.page }
     requires at { at < length tables.old.entries.items }
     requires few { length tables.old.entries.items ≤ 4 }
+    requires unarmed { IsUnarmed (F.state flash.old) }
+    ensures over { ExportsOver result at tables.old.entries.items (F.state flash.old) (F.state flash.new) }
     ensures goes { Goes (F.state flash.old) (F.state flash.new) }
     ensures later { K.faults out.old ≤ K.faults out.new }
     ensures write { result ≡ ToolStatus.OutWrite → Rose (K.faults out.old) (K.faults out.new) }
@@ -97,6 +102,10 @@ pub fn export_image<M: Media, K: Sink>(
     // medium doesn't fail.
     ensures repairs { (config : Configured) (tables : List model.Table) → IsTrue (M.state media.old).tells → IsMade config → IsImage config (M.state media.old).content tables → (result ≡ ToolStatus.Device → ⊥) →
         AreRepaired config (M.state media.old).content (M.state media.new).content }
+
+    // Whatever bytes the medium holds, and whether it tells them: the tables are mounted, up to one that is refused, and else pages of the
+    // named one are read. Outside of the rings of the tables that the mount came to, nothing changes.
+    ensures over { JobEnds name (M.state media.old) (M.state media.new) result (ExportsOver result) }
 
     // Statuses have their causes, over any bytes, and a medium that doesn't tell them.
     ensures fits { IsTrue (M.state media.old).tells → StatusFits (M.state media.old).content name result }

@@ -8,7 +8,7 @@ ghost use Rattle.fl_model.specs.Record.{Plan};
 ghost use Rattle.fl_model.specs.Row.{stored_row};
 ghost use Rattle.fl_model.specs.Table as model;
 ghost use Rattle.fl_model.specs.Table.{Entry};
-ghost use Rattle.fl_page.specs.Contents.{OnlyReads};
+ghost use Rattle.fl_frame.specs.Contents.{OnlyReads};
 ghost use Rattle.fl_schema.specs.Schema.{layout_of_row, row_of};
 ghost use Rattle.fl_table.specs.BlobAt.{has_blobs};
 ghost use Rattle.fl_table.specs.Look.{layout_in};
@@ -16,7 +16,7 @@ ghost use Rattle.fl_table.specs.Memory.{is_running, LiesOn};
 ghost use Rattle.fl_table.specs.Standing.{Stands};
 ghost use Rattle.fl_export.specs.Records.{told_of_found, FindsBlob};
 ghost use Rattle.fl_export.specs.Text.{said_of};
-ghost use Rattle.fl_export.specs.Writing.{IfSink, IfUnread, Writes};
+ghost use Rattle.fl_export.specs.Writing.{IfBadPage, IfSink, IfUnread, Writes};
 
 use crate::blob::read_blob;
 use crate::fault::ExportFault;
@@ -57,6 +57,7 @@ fn find_blob<F: Flash>(
     ensures room { length room.new.page.bytes ≡ length room.old.page.bytes }
     ensures sinkless { IfErr result (IfSink ⊥) }
     ensures unread { IfErr result (IfUnread (F.state flash.old) (F.state flash.new)) }
+    ensures bad { IfErr result (IfBadPage (λ bad. has_blobs table.now ≡ true)) }
     ensures finds { (first : ℕ) (plan : Plan) (t : model.Table) (i : ℕ) (entry : Entry) → IsTrue (F.state flash.old).media.tells → Stands table.now (F.state flash.old) first plan t
         → slice_get t.entries i ≡ Some entry → at ≡ (stored_row entry).blob → FindsBlob (has_blobs table.now) (blob_of t entry) room.new.bytes.items result }
 {
@@ -102,6 +103,7 @@ pub(crate) fn write_row<F: Flash, K: Sink>(
     ensures later { K.faults out.old ≤ K.faults out.new }
     ensures sink { IfErr result (IfSink (Rose (K.faults out.old) (K.faults out.new))) }
     ensures unread { IfErr result (IfUnread (F.state flash.old) (F.state flash.new)) }
+    ensures bad { IfErr result (IfBadPage (λ bad. has_blobs table.now ≡ true)) }
     ensures writes { (first : ℕ) (plan : Plan) (t : model.Table) (i : ℕ) (entry : Entry) → IsTrue (F.state flash.old).media.tells → Stands table.now (F.state flash.old) first plan t
         → slice_get t.entries i ≡ Some entry → row_of row.now ≡ stored_row entry
         → Writes (entry_text (said_of plan t entry)) (K.written out.old) (K.written out.new) result }

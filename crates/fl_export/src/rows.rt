@@ -9,11 +9,11 @@ ghost use Rattle.fl_model.specs.Record.{Plan};
 ghost use Rattle.fl_model.specs.Row.{stored_row};
 ghost use Rattle.fl_model.specs.Table as model;
 ghost use Rattle.fl_model.specs.Table.{Entry};
-ghost use Rattle.fl_page.specs.Contents.{contents_of, OnlyReads};
+ghost use Rattle.fl_frame.specs.Contents.{contents_of, OnlyReads};
 ghost use Rattle.fl_table.specs.Memory.{is_running, LiesOn};
 ghost use Rattle.fl_table.specs.Standing.{Stands};
 ghost use Rattle.fl_export.specs.Text.{said_of, AreAmong};
-ghost use Rattle.fl_export.specs.Writing.{IfSink, IfUnread, Writes};
+ghost use Rattle.fl_export.specs.Writing.{IfBadPage, IfSink, IfUnread, IsBadIn, Writes};
 
 use crate::fault::ExportFault;
 use crate::record::write_row;
@@ -44,6 +44,7 @@ pub(crate) fn write_rows<F: Flash, K: Sink>(
     ensures later { K.faults out.old ≤ K.faults out.new }
     ensures sink { IfErr result (IfSink (Rose (K.faults out.old) (K.faults out.new))) }
     ensures unread { IfErr result (IfUnread (F.state flash.old) (F.state flash.new)) }
+    ensures bad { IfErr result (IfBadPage (IsBadIn table.now (contents_of (F.state flash.old)))) }
     ensures writes { (first : ℕ) (plan : Plan) (t : model.Table) (entries : List Entry) → IsTrue (F.state flash.old).media.tells → Stands table.now (F.state flash.old) first plan t
         → IsTold cursor.old (contents_of (F.state flash.old)) → left_of cursor.old (contents_of (F.state flash.old)) ≡ map stored_row entries → AreAmong t.entries entries
         → Writes (flat_map entry_text (map (said_of plan t) entries)) (K.written out.old) (K.written out.new) result }

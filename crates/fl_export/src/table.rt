@@ -3,12 +3,12 @@ ghost use Rattle.std.specs.Prelude.{◌≡◌, ◌≤◌, ℕ, true, IsTrue, IfE
 ghost use Rattle.fl_base.specs.Causes.{Rose};
 ghost use Rattle.fl_model.specs.Record.{Plan};
 ghost use Rattle.fl_model.specs.Table as model;
-ghost use Rattle.fl_page.specs.Contents.{OnlyReads};
+ghost use Rattle.fl_frame.specs.Contents.{OnlyReads, contents_of};
 ghost use Rattle.fl_table.specs.Memory.{is_running, LiesOn};
 ghost use Rattle.fl_table.specs.Standing.{Stands};
 ghost use Rattle.fl_export.specs.Rooms.{HasRooms};
 ghost use Rattle.fl_export.specs.Text.{table_text};
-ghost use Rattle.fl_export.specs.Writing.{IfSink, IfUnread, Writes};
+ghost use Rattle.fl_export.specs.Writing.{IfBadPage, IfSink, IfUnread, IsBadIn, Writes};
 
 use crate::fault::ExportFault;
 use crate::rooms::Rooms;
@@ -35,6 +35,7 @@ pub(crate) fn write_table<F: Flash, K: Sink>(
     ensures later { K.faults out.old ≤ K.faults out.new }
     ensures sink { IfErr result (IfSink (Rose (K.faults out.old) (K.faults out.new))) }
     ensures unread { IfErr result (IfUnread (F.state flash.old) (F.state flash.new)) }
+    ensures bad { IfErr result (IfBadPage (IsBadIn table.now (contents_of (F.state flash.old)))) }
     ensures writes { (first : ℕ) (plan : Plan) (t : model.Table) → IsTrue (F.state flash.old).media.tells → Stands table.now (F.state flash.old) first plan t → Writes (table_text plan t range) (K.written out.old) (K.written out.new) result }
 {
     header_line(table.columns(), table.has_blobs(), out)?;

@@ -8,7 +8,8 @@ use Rattle.fl_model.specs.Ring as model
 use Rattle.fl_model.specs.Row.{stored_row}
 use Rattle.fl_model.specs.Table.{Table, Entry, written, lose}
 use Rattle.fl_model.specs.Image.{rows_at}
-use Rattle.fl_model.specs.Spline.{bits, retained, is_covered, is_pending_key, estimate, page_at, points_of, voids_of, lookup_limit, lookup_reads}
+use Rattle.fl_base.specs.Bits.{bits}
+use Rattle.fl_model.specs.Spline.{retained, is_covered, is_pending_key, estimate, page_at, points_of, voids_of, lookup_limit, lookup_reads}
 use Rattle.fl_model.proofs.Lists.{slice_get-some}
 use Rattle.fl_page.specs.declared.fault.BadPage.{BadPage}
 use Rattle.fl_page.specs.declared.fault.ReadFault.{ReadFault}

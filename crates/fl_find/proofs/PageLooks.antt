@@ -6,8 +6,8 @@ use Rattle.fl_flash.specs.Flash.{FlashState, ReadsPage, page_at}
 use Rattle.fl_flash.specs.declared.flash.FlashFault.{FlashFault}
 use Rattle.fl_flash.specs.declared.flash.FlashFault.TheVariants.{PowerLost, Media}
 use Rattle.fl_model.specs.Record.{RowLayout}
-use Rattle.fl_page.specs.Contents.{Contents}
-use Rattle.fl_page.proofs.ReadsInTurn.{OnlyReads-read, OnlyReads-same, OnlyReads-then, OnlyReads-reads}
+use Rattle.fl_frame.specs.Contents.{Contents}
+use Rattle.fl_frame.proofs.ContentsInTurn.{OnlyReads-read, OnlyReads-same, OnlyReads-then, OnlyReads-reads}
 use Rattle.fl_page.specs.declared.fault.BadPage.{BadPage}
 use Rattle.fl_page.specs.declared.fault.ReadFault.{ReadFault}
 use Rattle.fl_page.specs.declared.fault.ReadFault.TheVariants as fault

@@ -1,6 +1,7 @@
 -- What clauses see of a learned index.
 use Rattle.std.specs.Prelude.{ℕ, ◌+◌, ◌*◌, min, Bool, true, ◌&&◌, nat_lt, option_map, unwrap_or, List, if◌then◌else◌}
-use Rattle.fl_model.specs.Spline.{bits, is_covered, estimate}
+use Rattle.fl_base.specs.Bits.{bits}
+use Rattle.fl_model.specs.Spline.{is_covered, estimate}
 use Rattle.fl_radix.specs.Radix.{shift_of}
 use Rattle.fl_spline.specs.Points.{last_of}
 use Rattle.fl_spline.specs.Spline.{SplineOf, kept}

@@ -1,6 +1,7 @@
 -- The row of a key in a page, and the entry that a lookup finds.
 use Rattle.std.specs.Prelude.{◌≡◌, ℕ, ◌<◌, true, Option, Some, None, IfSome, Result, Ok, Err, List, slice_get}
 use Rattle.fl_flash.specs.Buffer.{BufferState}
+use Rattle.fl_flash.specs.Flash.{FlashState}
 use Rattle.fl_model.specs.Record.{Plan, RowLayout}
 use Rattle.fl_model.specs.Row.{Row, stored_row}
 use Rattle.fl_model.specs.Table.{Table, Entry, written}
@@ -8,8 +9,9 @@ use Rattle.fl_model.specs.Query.{entry_at}
 use Rattle.fl_model.specs.Spline.{retained, is_covered, lookup_reads}
 use Rattle.fl_page.specs.declared.fault.ReadFault.{ReadFault}
 use Rattle.fl_page.specs.declared.fault.ReadFault.TheVariants as fault
+use Rattle.fl_ring.specs.Ring.{Shape}
 use Rattle.fl_search.specs.Search.{RoseBy, RoseSome}
-use Rattle.fl_find.specs.Pages.{rows_on}
+use Rattle.fl_find.specs.Pages.{bytes_at, rows_on}
 use Rattle.fl_find.specs.declared.row.PageRow.{PageRow}
 
 -- rows in the order of their keys
@@ -25,6 +27,14 @@ pub record HasKey (rows : List Row) (key index : ℕ) : Type 0 where
 -- no row has it
 abbrev pub LacksKey : List Row → ℕ → Type 0
 LacksKey rows key = (i : ℕ) (row : Row) → slice_get rows i ≡ Some row → row.key ≡ key → ⊥
+
+-- The row of a key is one of this page; or there is none since there is no page, or since the page has no such row, which
+-- is told where its rows rise.
+abbrev pub IsOn : RowLayout → Shape → FlashState → ℕ → Option ℕ → Option PageRow → Type 0
+IsOn layout shape f key None None = Unit {0}
+IsOn layout shape f key None (Some at) = ⊥
+IsOn layout shape f key (Some page) None = RowsRise (rows_on layout (bytes_at shape f page)) → LacksKey (rows_on layout (bytes_at shape f page)) key
+IsOn layout shape f key (Some page) (Some at) = at.number ≡ page
 
 -- the buffer holds the row of the entry with the key
 pub record HoldsEntry (layout : RowLayout) (table : Table) (key : ℕ) (buf : BufferState) (at : PageRow) : Type 0 where

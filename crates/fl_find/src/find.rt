@@ -2,16 +2,17 @@
 ghost use Rattle.std.specs.Prelude.{◌≡◌, ◌≤◌, ◌<◌, ◌+◌, ◌-◌, ◌^◌, min, ℕ, true, false, length, IsTrue, Option, Some, IfSome, IfOk, IfErr, OnOk, unwrap_or};
 ghost use Rattle.fl_model.specs.Record.{Plan};
 ghost use Rattle.fl_model.specs.Table as model;
-ghost use Rattle.fl_model.specs.Spline.{bits, is_covered, is_pending_key, lookup_limit};
+ghost use Rattle.fl_base.specs.Bits.{bits};
+ghost use Rattle.fl_model.specs.Spline.{is_covered, is_pending_key, lookup_limit};
 ghost use Rattle.fl_radix.specs.Slots.{knots_in_slot};
 ghost use Rattle.fl_ring.specs.Place.{shape_of, oldest_of, next_of, LiesOn};
 ghost use Rattle.fl_schema.specs.Schema.{layout_of};
-ghost use Rattle.fl_search.specs.Search.{IsPageOf};
+ghost use Rattle.fl_search.specs.Search.{Ascends, IsPageOf};
 ghost use Rattle.fl_find.specs.Pages.{rows_on, first_on, Holds, IsFresh};
 ghost use Rattle.fl_find.specs.Looking.{OnlyLooks, LookFails, NoneIsBad};
 ghost use Rattle.fl_find.specs.Standing.{HoldsPages, HasPoints};
 ghost use Rattle.fl_find.specs.Index.{knots_in, shift_in, IndexOf, window_end};
-ghost use Rattle.fl_find.specs.Rows.{HasKey, LooksUp};
+ghost use Rattle.fl_find.specs.Rows.{HasKey, IsOn, LooksUp};
 
 use crate::index::KeyIndex;
 use crate::row::PageRow;
@@ -46,6 +47,13 @@ impl<const KNOTS: usize, const SLOTS: usize> KeyIndex<KNOTS, SLOTS> {
         ensures sound { (page : Option ℕ) → is_covered (knots_in self.now) key ≡ true → IsTrue (F.state flash.old).media.tells →
             IsPageOf (first_on (layout_of schema.now) (shape_of ring.now) (F.state flash.old)) (oldest_of ring.now) (window_end self.now (next_of ring.now) key) key page →
             OnOk result (NoneIsBad (layout_of schema.now) ring.now (F.state flash.old) (unwrap_or page (oldest_of ring.now)) (window_end self.now (next_of ring.now) key)) }
+        ensures near { (page : Option ℕ) → is_covered (knots_in self.now) key ≡ true → IsTrue (F.state flash.old).media.tells →
+            IsPageOf (first_on (layout_of schema.now) (shape_of ring.now) (F.state flash.old)) (oldest_of ring.now) (window_end self.now (next_of ring.now) key) key page →
+            IfOk result (IsOn (layout_of schema.now) (shape_of ring.now) (F.state flash.old) key page) }
+        ensures far { (page : Option ℕ) → is_covered (knots_in self.now) key ≡ false → IsTrue (F.state flash.old).media.tells →
+            Ascends (first_on (layout_of schema.now) (shape_of ring.now) (F.state flash.old)) (oldest_of ring.now) (next_of ring.now) →
+            IsPageOf (first_on (layout_of schema.now) (shape_of ring.now) (F.state flash.old)) (oldest_of ring.now) (next_of ring.now) key page →
+            IfOk result (IsOn (layout_of schema.now) (shape_of ring.now) (F.state flash.old) key page) }
         ensures most { (F.state flash.new).work.reads ≤ (F.state flash.old).work.reads + (next_of ring.now - oldest_of ring.now) + 1 }
         ensures holds { IfOk result (λ row. IfSome row (λ at. Holds (layout_of schema.now) (shape_of ring.now) (F.state flash.new) at.number buf.new)) }
         ensures within { IfOk result (λ row. IfSome row (λ at. (oldest_of ring.now ≤ at.number) × (at.number < next_of ring.now))) }

@@ -28,7 +28,8 @@ impl<const KNOTS: usize, const SLOTS: usize> KeyIndex<KNOTS, SLOTS> {
     ghost use Rattle.fl_model.specs.Record.{Plan};
     ghost use Rattle.fl_model.specs.Facts.{IsTable};
     ghost use Rattle.fl_model.specs.Table as model;
-    ghost use Rattle.fl_model.specs.Spline.{bits, is_covered, is_pending_key, lookup_limit, page_at};
+    ghost use Rattle.fl_base.specs.Bits.{bits};
+    ghost use Rattle.fl_model.specs.Spline.{is_covered, is_pending_key, lookup_limit, page_at};
     ghost use Rattle.fl_radix.specs.Slots.{knots_in_slot};
     ghost use Rattle.fl_ring.specs.Place.{shape_of, oldest_of, next_of, LiesOn};
     ghost use Rattle.fl_schema.specs.Schema.{layout_of};

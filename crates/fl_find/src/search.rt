@@ -1,6 +1,6 @@
 // The page of a key, searched for in the pages themselves.
 ghost use Rattle.std.specs.Prelude.{◌≡◌, ◌+◌, ◌-◌, ◌<◌, ◌≤◌, ℕ, true, Option, length, IsTrue, IfSome, IfOk, IfErr, OnOk, unwrap_or};
-ghost use Rattle.fl_model.specs.Spline.{bits};
+ghost use Rattle.fl_base.specs.Bits.{bits};
 ghost use Rattle.fl_ring.specs.Place.{shape_of, oldest_of, next_of, LiesOn};
 ghost use Rattle.fl_schema.specs.Schema.{layout_of};
 ghost use Rattle.fl_search.specs.Search.{IsPageOf, Ascends, RoseBy, RoseSome, looked_at, starts_by, voids_in};

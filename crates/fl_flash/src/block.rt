@@ -5,6 +5,7 @@ ghost use Rattle.fl_flash.specs.Media.{ReadAt};
 ghost use Rattle.fl_flash.specs.Places.{page_of};
 
 use crate::{Media, MediaFailed};
+use fl_base::each_is;
 
 /// Reads so many bytes of a medium to the begin of the room.
 pub(crate) fn read_to<M: Media>(
@@ -21,15 +22,11 @@ pub(crate) fn read_to<M: Media>(
     media.read_at(at, &mut room[..len])
 }
 
-// The bytes of the greatest blank page: a page is compared with them group by group, and not byte by byte.
-const BLANK: [u8; 4096] = [255; 4096];
-
 // Whether each byte is FF.
 fn is_blank(page: &[u8]) -> bool
-    requires { length page.now ≤ 4096 }
     ensures { IsTrue result → page.now ≡ blank (length page.now) }
 {
-    page == &BLANK[..page.len()]
+    each_is(page, 255)
 }
 
 /// Takes note of the pages of a block, whose flags stand from `first` on, whether they are blank.
@@ -42,7 +39,6 @@ pub(crate) fn note_blanks(
 )
     requires flags { first + count ≤ vec_len flags.old }
     requires block { count * size ≤ length block.now }
-    requires size { size ≤ 4096 }
     ensures count { vec_len flags.new ≡ vec_len flags.old }
     ensures inside { (p : ℕ) → p < count → slice_index_or flags.new.items (first + p) false ≡ true → page_of block.now 0 size p ≡ blank size }
     ensures outside { (q : ℕ) → (q < first) ⊎ (first + count ≤ q) → slice_index_or flags.new.items q false ≡ slice_index_or flags.old.items q false }

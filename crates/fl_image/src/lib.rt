@@ -7,4 +7,4 @@ mod status;
 
 pub use header::{HEADER, config_of_header, config_of_lines};
 pub use image::config_of_image;
-pub use status::{ToolStatus, flash_status};
+pub use status::ToolStatus;

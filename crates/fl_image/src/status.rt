@@ -1,9 +1,6 @@
 // How a job ends.
 ghost use Rattle.std.specs.Prelude.{◌≡◌};
 ghost use Rattle.fl_image.specs.Number.{number_of};
-ghost use Rattle.fl_image.specs.Status.{flash_status};
-
-use fl_flash::FlashFault;
 
 /// How a job over an image ends.
 #[derive(Clone, Copy, Debug, PartialEq, Eq)]
@@ -50,16 +47,5 @@ impl ToolStatus {
             ToolStatus::BadInput { line: _ } => 15,
             ToolStatus::Unsound => 16,
         }
-    }
-}
-
-/// The status that tells a fault of a flash on which no cut is armed. Such a flash loses no power; and `NoMemory`, which may
-/// come at any moment, says nothing of the medium.
-pub fn flash_status(fault: FlashFault) -> ToolStatus
-    ensures { result ≡ flash_status fault }
-{
-    match fault {
-        FlashFault::Media => ToolStatus::Device,
-        FlashFault::PowerLost => ToolStatus::NoMemory,
     }
 }

@@ -1,13 +1,14 @@
 -- What a check tells, table by table.
-use Rattle.std.proofs.Common.{◌≡◌, ℕ, zero, suc, ◌+◌, ◌*◌, ◌^◌, ◌<◌, ◌≤◌, ◌&&◌, ◌⊎◌, inl, inr, Bool, true, false, if◌then◌else◌, Option, Some, None, IfSome, Err, List, [], ◌∷◌, ◌++◌, length, take, drop, refl, sym, ◌∙◌, ap, subst, append_assoc, append-nil, length-append, arith}
+use Rattle.std.proofs.Common.{◌≡◌, ℕ, zero, suc, ◌+◌, ◌*◌, ◌^◌, ◌<◌, ◌≤◌, ◌&&◌, ◌⊎◌, inl, inr, Bool, true, false, if◌then◌else◌, Option, Some, None, IfSome, Err, List, [], ◌∷◌, ◌++◌, length, take, refl, sym, ◌∙◌, ap, subst, append_assoc, append-nil, length-append, arith}
 use Rattle.std.specs.Prelude.{sum_by, slice_get}
 use Rattle.std.specs.List.{list_all}
 use Rattle.std.proofs.lemmas.List.Sums.{sum_by-cons}
 use Rattle.std.proofs.lemmas.List.Folds.{list_all-append}
 use Rattle.fl_base.specs.Causes.{Appends, AppendsFront}
 use Rattle.fl_base.specs.declared.types.RingPlace.{RingPlace}
-use Rattle.fl_flash.specs.Flash.{FlashState, Goes}
+use Rattle.fl_flash.specs.Flash.{FlashState}
 use Rattle.fl_flash.specs.Places.{extent}
+use Rattle.fl_frame.proofs.CallsInTurn.{goes-same, goes-then}
 use Rattle.fl_model.specs.Bare.{bare}
 use Rattle.fl_model.specs.Record.{Plan, blocks_of}
 use Rattle.fl_words.specs.Config.{Lines}
@@ -82,20 +83,6 @@ log-lies-at lines f i plan config (Some place) over plan_is config_is first size
 
 -- ---- a flash that is only looked at
 
-goes-same : (f : FlashState) → Goes f f
-goes-same f = record {
-  geometry = refl;
-  blocks = refl;
-  start = refl;
-  origin = refl;
-  tells = refl;
-  size = refl;
-  front = λ t. refl;
-  back = λ t. refl;
-  cuts = omega arith;
-  faults = omega arith;
-}
-
 pub looks-none : (f : FlashState) → OnlyLooks f f
 looks-none f = record { goes = goes-same f; content = refl; armed = refl; power = refl; cuts = refl; programs = refl; erases = refl }
 
@@ -103,18 +90,7 @@ pub looks-on : (old mid new : FlashState) → OnlyLooks old mid → OnlyLooks mi
 looks-on old mid new a b =
     let same = b.content ∙ a.content in
     record {
-      goes = record {
-        geometry = b.goes.geometry ∙ a.goes.geometry;
-        blocks = b.goes.blocks ∙ a.goes.blocks;
-        start = b.goes.start ∙ a.goes.start;
-        origin = b.goes.origin ∙ a.goes.origin;
-        tells = b.goes.tells ∙ a.goes.tells;
-        size = ap (λ (l : List ℕ). length l) same;
-        front = λ t. ap (λ (l : List ℕ). take old.start l) same;
-        back = λ t. ap (λ (l : List ℕ). drop (old.start + extent old.geometry old.blocks) l) same;
-        cuts = omega (arith, a.goes.cuts, b.goes.cuts);
-        faults = omega (arith, a.goes.faults, b.goes.faults);
-      };
+      goes = goes-then old mid new a.goes b.goes;
       content = same;
       armed = b.armed ∙ a.armed;
       power = b.power ∙ a.power;

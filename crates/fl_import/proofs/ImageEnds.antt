@@ -8,6 +8,7 @@ use Rattle.fl_csv.specs.declared.record.GoneBlobs.{GoneBlobs}
 use Rattle.fl_csv.specs.declared.record.LineForm.{LineForm}
 use Rattle.fl_flash.specs.Flash.{FlashState}
 use Rattle.fl_flash.specs.Media.{MediaState}
+use Rattle.fl_store.specs.Unarmed.{IsUnarmed}
 use Rattle.fl_image.specs.Header.{IsAccepted, IsMade}
 use Rattle.fl_image.specs.Image.{IsImageOf, OnlyLooksAt}
 use Rattle.fl_image.specs.Status.{is_done}
@@ -164,21 +165,21 @@ module _ (bytes name : List ℕ) (text rest : Option (List ℕ)) (lines : Lines)
 
 -- the tables aren't mounted
 pub mount-ended : (columns : ℕ) (blobs : Bool) (text : List ℕ) (rest : Option (List ℕ)) (bad : MountFault) (at : ℕ) → rest ≡ Some text → EndedOver columns blobs text rest (mount_status bad at)
-mount-ended columns blobs text rest bad at is = by-mount (EndedOver columns blobs text rest) bad at (inl is) (inl is) is
+mount-ended columns blobs text rest bad at is = by-mount (EndedOver columns blobs text rest) bad at (inl is) is
 
-pub mount-causes : (f g : FlashState) (tables source sink : ℕ) (bad : MountFault) (at : ℕ) → at < tables → MountCausedBy f bad g → HasCauses tables f.media.faults g.media.faults source source sink sink None (mount_status bad at)
-mount-causes f g tables source sink bad at few cause = record {
-  known = by-mount IsOfMounted bad at tt tt tt;
-  device = λ is. mount-rose f g bad at is cause;
+pub mount-causes : (f g : FlashState) (tables source sink : ℕ) (bad : MountFault) (at : ℕ) → IsUnarmed f → at < tables → MountCausedBy f bad g → HasCauses tables f.media.faults g.media.faults source source sink sink None (mount_status bad at)
+mount-causes f g tables source sink bad at unarmed few cause = record {
+  known = by-mount IsOfMounted bad at tt tt;
+  device = λ is. mount-rose f g bad at unarmed is cause;
   bad = λ table is. subst (λ (n : ℕ). n < tables) (mount-place bad at table is) few;
-  read = by-mount (λ s. s ≡ InputRead → Rose source source) bad at (λ is. absurd (cc is)) (λ is. absurd (cc is)) (λ is. absurd (cc is));
-  write = by-mount (λ s. s ≡ OutWrite → Rose sink sink) bad at (λ is. absurd (cc is)) (λ is. absurd (cc is)) (λ is. absurd (cc is));
+  read = by-mount (λ s. s ≡ InputRead → Rose source source) bad at (λ is. absurd (cc is)) (λ is. absurd (cc is));
+  write = by-mount (λ s. s ≡ OutWrite → Rose sink sink) bad at (λ is. absurd (cc is)) (λ is. absurd (cc is));
   later = (omega arith, omega arith);
-  kept_is = by-mount (λ s. false ≡ is_done s) bad at refl refl refl;
+  kept_is = by-mount (λ s. false ≡ is_done s) bad at refl refl;
 }
 
 pub mount-unread : (bad : MountFault) (at line : ℕ) → mount_status bad at ≡ BadInput line → ⊥
-mount-unread bad at line = by-mount (λ s. s ≡ BadInput line → ⊥) bad at (λ is. cc is) (λ is. cc is) (λ is. cc is)
+mount-unread bad at line = by-mount (λ s. s ≡ BadInput line → ⊥) bad at (λ is. cc is) (λ is. cc is)
 
 -- the lines of the table were taken
 pub table-bad : (status : ToolStatus) (table : ℕ) → IsOfTable status → status ≡ BadImage table → ⊥

@@ -7,6 +7,8 @@ use Rattle.fl_import.specs.declared.job_end.LinesTaken.{LinesTaken}
 use Rattle.fl_store.proofs.Risen.{has_risen}
 use Rattle.fl_flash.specs.Flash.{FlashState, Goes}
 use Rattle.fl_flash.specs.declared.flash.FlashFault.TheVariants.{PowerLost, Media}
+use Rattle.fl_frame.proofs.WatchedInTurn.{never-lost}
+use Rattle.fl_store.specs.Unarmed.{IsUnarmed}
 use Rattle.fl_image.specs.declared.status.ToolStatus.{ToolStatus}
 use Rattle.fl_image.specs.declared.status.ToolStatus.TheVariants.{Done, InputRead, OutWrite, InputLong, NoMemory, NotImage, Device, BadImage, NoTable, BadInput, Unsound}
 use Rattle.fl_model.specs.Record.{Plan}
@@ -217,10 +219,10 @@ flush-of (flush.Flash Media) = tt
 flush-of (flush.Flash PowerLost) = tt
 flush-of flush.Stopped = tt
 
-pub flush-rose : (g h : FlashState) (fault : FlushFault) → FlushCausedBy g fault h → flush_status fault ≡ Device → Rose g.media.faults h.media.faults
-flush-rose g h (flush.Flash Media) cause is = cause
-flush-rose g h (flush.Flash PowerLost) cause is = absurd (not-device is)
-flush-rose g h flush.Stopped cause is = absurd (not-device is)
+pub flush-rose : (g h : FlashState) (fault : FlushFault) → IsUnarmed g → FlushCausedBy g fault h → flush_status fault ≡ Device → Rose g.media.faults h.media.faults
+flush-rose g h (flush.Flash Media) unarmed cause is = cause
+flush-rose g h (flush.Flash PowerLost) unarmed cause is = absurd (never-lost g h unarmed.on unarmed.none cause)
+flush-rose g h flush.Stopped unarmed cause is = absurd (not-device is)
 
 pub flush-read : (fault : FlushFault) → flush_status fault ≡ InputRead → ⊥
 flush-read (flush.Flash Media) is = cc is

@@ -4,4 +4,5 @@ pub mod OneLine
 mod AllLines
 mod LastFlush
 mod FlashEnds
+mod OverBytes
 pub mod ImageEnds

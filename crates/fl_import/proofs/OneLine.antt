@@ -6,13 +6,13 @@ use Rattle.fl_csv.specs.declared.record.GoneBlobs.{GoneBlobs}
 use Rattle.fl_csv.specs.declared.record.CsvRefusal.{CsvRefusal}
 use Rattle.fl_csv.specs.declared.record.CsvRefusal.TheVariants as unread
 use Rattle.fl_store.proofs.Appends.{appends-none, front-behind, front-more}
-use Rattle.fl_store.proofs.MountStatuses.{by-flash}
+use Rattle.fl_store.specs.Unarmed.{IsUnarmed}
+use Rattle.fl_frame.proofs.WatchedInTurn.{never-lost}
 use Rattle.fl_store.proofs.Risen.{has_risen}
 use Rattle.fl_flash.specs.Flash.{FlashState, Goes}
 use Rattle.fl_flash.specs.declared.flash.FlashFault.{FlashFault}
 use Rattle.fl_flash.specs.declared.flash.FlashFault.TheVariants.{PowerLost, Media}
-use Rattle.fl_image.specs.Status.{flash_status}
-use Rattle.fl_ring.specs.Causes.{CausedBy}
+use Rattle.fl_frame.specs.Causes.{CausedBy}
 use Rattle.fl_image.specs.declared.status.ToolStatus.{ToolStatus}
 use Rattle.fl_image.specs.declared.status.ToolStatus.TheVariants.{OutWrite, NoMemory, Device}
 use Rattle.fl_machine.specs.Step.{refused}
@@ -50,30 +50,23 @@ no-false e = cc
 no-fault : (fault : FlashFault) → None ≡ Some fault → ⊥
 no-fault fault e = cc
 
-one-fault : (a b : FlashFault) → Some a ≡ Some b → a ≡ b
-one-fault a b e = cc
-
 pub not-device : NoMemory ≡ Device → ⊥
 not-device e = cc
 
+pub not-written : Device ≡ OutWrite → ⊥
+not-written e = cc
+
 -- the medium failed in a put that is told so
-pub put-rose : (f g : FlashState) (outcome : Result (Unit {0}) PutRefusal) (fault : FlashFault) → fault_in outcome ≡ Some fault → IfErr outcome (λ e. PutCausedBy f e g) → flash_status fault ≡ Device → Rose f.media.faults g.media.faults
-put-rose f g outcome PowerLost breaks cause device = absurd (not-device device)
-put-rose f g (Ok done) Media breaks cause device = absurd (no-fault Media breaks)
-put-rose f g (Err (refusal.Key last)) Media breaks cause device = absurd (no-fault Media breaks)
-put-rose f g (Err (refusal.Columns wanted)) Media breaks cause device = absurd (no-fault Media breaks)
-put-rose f g (Err (refusal.Value column)) Media breaks cause device = absurd (no-fault Media breaks)
-put-rose f g (Err (refusal.Blob limit)) Media breaks cause device = absurd (no-fault Media breaks)
-put-rose f g (Err refusal.Spent) Media breaks cause device = absurd (no-fault Media breaks)
-put-rose f g (Err refusal.Stopped) Media breaks cause device = absurd (no-fault Media breaks)
-put-rose f g (Err (refusal.Flash own)) Media breaks cause device = subst (λ (x : FlashFault). CausedBy f x g) (one-fault own Media breaks) cause
-
--- .. and its status is one of a line, and no other
-pub fault-status : (fault : FlashFault) → IsOfLine (flash_status fault)
-fault-status fault = by-flash IsOfLine fault tt tt
-
-pub fault-unwritten : {P : Type 0} (fault : FlashFault) → flash_status fault ≡ OutWrite → P
-fault-unwritten {P} fault = by-flash (λ s. s ≡ OutWrite → P) fault (λ is. absurd (cc is)) (λ is. absurd (cc is))
+pub put-rose : (f g : FlashState) (outcome : Result (Unit {0}) PutRefusal) (fault : FlashFault) → IsUnarmed f → fault_in outcome ≡ Some fault → IfErr outcome (λ e. PutCausedBy f e g) → Rose f.media.faults g.media.faults
+put-rose f g (Ok done) fault unarmed breaks cause = absurd (no-fault fault breaks)
+put-rose f g (Err (refusal.Key last)) fault unarmed breaks cause = absurd (no-fault fault breaks)
+put-rose f g (Err (refusal.Columns wanted)) fault unarmed breaks cause = absurd (no-fault fault breaks)
+put-rose f g (Err (refusal.Value column)) fault unarmed breaks cause = absurd (no-fault fault breaks)
+put-rose f g (Err (refusal.Blob limit)) fault unarmed breaks cause = absurd (no-fault fault breaks)
+put-rose f g (Err refusal.Spent) fault unarmed breaks cause = absurd (no-fault fault breaks)
+put-rose f g (Err refusal.Stopped) fault unarmed breaks cause = absurd (no-fault fault breaks)
+put-rose f g (Err (refusal.Flash Media)) fault unarmed breaks cause = cause
+put-rose f g (Err (refusal.Flash PowerLost)) fault unarmed breaks cause = absurd (never-lost f g unarmed.on unarmed.none cause)
 
 pub one-status : (a b : ToolStatus) → ◌≡◌ {A = Result LineEnd ToolStatus} (Err a) (Err b) → a ≡ b
 one-status a b e = cc
@@ -139,14 +132,14 @@ module _ (first : ℕ) (plan : Plan) (table : model.Table) (t u : LoggedTable 64
           rw (is, ends.0) (refl, done, subst (λ (o : Option (List ℕ)). Appends told o []) (sym same) (appends-none told))
 
       broken-by : (fault : FlashFault) → told_now ≡ told → refusal_of plan table item ≡ None → Breaks first plan (DidPut (has_risen f g) works.device) fault g →
-          LineEnds lacking first plan table number put u g told told_now (Err (flash_status fault))
+          LineEnds lacking first plan table number put u g told told_now (Err Device)
       broken-by Media same accepted ends =
           let b = works-broken first plan table t u f g works DidPut (put-work plan item table) Media ends in
           (subst (λ (o : Option (List ℕ)). Appends told o []) (sym same) (appends-none told), (item, is, accepted, (b.after, b.fails, b.rests)))
       broken-by PowerLost same accepted ends = absurd (works-uncut first plan table t u f g works DidPut (put-work plan item table) ends)
 
       pub ends-broken : (outcome : Result (Unit {0}) PutRefusal) (fault : FlashFault) → fault_in outcome ≡ Some fault → told_now ≡ told → PutEnds first plan item table (has_risen f g) works.device outcome u f g →
-          LineEnds lacking first plan table number put u g told told_now (Err (flash_status fault))
+          LineEnds lacking first plan table number put u g told told_now (Err Device)
       ends-broken (Ok done) fault breaks same ends = absurd (no-fault fault breaks)
       ends-broken (Err (refusal.Key last)) fault breaks same ends = absurd (no-fault fault breaks)
       ends-broken (Err (refusal.Columns wanted)) fault breaks same ends = absurd (no-fault fault breaks)
@@ -154,8 +147,7 @@ module _ (first : ℕ) (plan : Plan) (table : model.Table) (t u : LoggedTable 64
       ends-broken (Err (refusal.Blob limit)) fault breaks same ends = absurd (no-fault fault breaks)
       ends-broken (Err refusal.Spent) fault breaks same ends = absurd (no-fault fault breaks)
       ends-broken (Err refusal.Stopped) fault breaks same ends = absurd (no-fault fault breaks)
-      ends-broken (Err (refusal.Flash own)) fault breaks same ends =
-          subst (λ (x : FlashFault). LineEnds lacking first plan table number put u g told told_now (Err (flash_status x))) (one-fault own fault breaks) (broken-by own same ends.0 ends.1)
+      ends-broken (Err (refusal.Flash own)) fault breaks same ends = broken-by own same ends.0 ends.1
 
       pub ends-told : (why : PutRefusal) → fault_in (Err why) ≡ None → PutEnds first plan item table (has_risen f g) works.device (Err why) u f g → RefusedSame t f why u g →
           (wrote : Result (Unit {0}) SinkFailed) → Written told told_now wrote (number_text number ++ text (put_reply (Err why))) → LineEnds lacking first plan table number put u g told told_now (by_told wrote)

@@ -7,11 +7,11 @@ use Rattle.fl_image.specs.declared.status.ToolStatus.{ToolStatus}
 use Rattle.fl_image.specs.declared.status.ToolStatus.TheVariants.{Done, InputRead, OutWrite, InputLong, NoMemory, NotImage, Device, BadImage, NoTable, BadInput, Unsound}
 use Rattle.fl_lines.specs.Given.{Given}
 use Rattle.fl_lines.specs.Stream.{LinesState, Advances, Gives, TakesAhead}
-use Rattle.fl_lines.specs.Taken.{HasTaken, TakesFew, begin_behind}
+use Rattle.fl_lines.specs.Taken.{HasTaken, TakesFew}
 use Rattle.fl_lines.specs.Texts.{most_bytes, lines_read, lines_within}
 use Rattle.fl_lines.specs.declared.lines.LinesFault.{LinesFault}
 use Rattle.fl_lines.specs.declared.lines.LinesFault.TheVariants.{Failed, Long}
-use Rattle.fl_lines.proofs.LinesInTurn.{IsTooLong, given-none, given-line, given-last, given-all, given-few, given-most, given-over, given-part, given-taken, given-too_long}
+use Rattle.fl_lines.proofs.LinesInTurn.{IsTooLong, given-none, given-line, given-last, given-all, given-few, given-most, given-over, given-taken, given-too_long, given-within}
 use Rattle.fl_words.specs.Grammar.{without_return}
 use Rattle.fl_import.specs.Lines.{IsHeaded, Takes, IsBad}
 use Rattle.fl_import.specs.Taking.{NextOf, TakesSoFar, TakesThese}
@@ -73,7 +73,7 @@ module _ (columns : ℕ) (blobs : Bool) (text : List ℕ) (taken : List (List �
   goes : (given : Result Bool LinesFault) → Given? given → Goes given
   goes given advances = advances.gives h.rest h.rest_is (λ closed. h.given.ended closed)
 
-  -- at most 4,097 bytes were taken from the first byte of the next one on
+  -- at most 4,097 bytes were taken from the first byte of the next one on, and at most one more than are read
   few-next : (given : Result Bool LinesFault) → Given? given → TakesFew text taken left_now
   few-next given advances =
       let g = goes given advances in
@@ -81,9 +81,9 @@ module _ (columns : ℕ) (blobs : Bool) (text : List ℕ) (taken : List (List �
     where
       by-given : (given : Result Bool LinesFault) (l : List ℕ) → Gives old (old.ahead ++ h.rest) given new l → TakesAhead old (old.ahead ++ h.rest) given l → TakesFew text taken (Some l)
       by-given (Ok true) l gives ahead = given-few most_bytes text taken old h.rest l h.given ahead
-      by-given (Ok false) l gives ahead = given-part most_bytes text taken old.closed old.most (old.ahead ++ h.rest) [] l (begin_behind taken + 4097) h.given (gives ∙ sym ahead) (omega (arith, h.given.size))
-      by-given (Err Failed) l gives ahead = given-part most_bytes text taken old.closed old.most (old.ahead ++ h.rest) new.ahead l (begin_behind taken + 4097) h.given gives.split (omega (arith, h.given.size, gives.short))
-      by-given (Err Long) l gives ahead = given-part most_bytes text taken old.closed old.most (old.ahead ++ h.rest) ahead.0 l (begin_behind taken + 4097) h.given ahead.1 (omega (arith, h.given.size, ahead.2, gives.2, gives.1.short))
+      by-given (Ok false) l gives ahead = given-within most_bytes text taken old.closed old.most (old.ahead ++ h.rest) [] l h.given (gives ∙ sym ahead) (omega arith) (omega arith)
+      by-given (Err Failed) l gives ahead = given-within most_bytes text taken old.closed old.most (old.ahead ++ h.rest) new.ahead l h.given gives.split (omega (arith, gives.short)) (omega (arith, gives.fits))
+      by-given (Err Long) l gives ahead = given-within most_bytes text taken old.closed old.most (old.ahead ++ h.rest) ahead.0 l h.given ahead.1 (omega (arith, ahead.2, gives.2, gives.1.short)) (omega (arith, ahead.2))
 
   -- the next one is taken
   pub taken-next : Given? (Ok true) → length new.line ≤ 4096 → (taken ≡ [] → IsHeader columns blobs (without_return new.line)) → TakesSoFar columns blobs text (taken ++ new.line ∷ []) new left_now

@@ -8,3 +8,4 @@ pub mod Ends
 pub mod Taking
 pub mod Steps
 pub mod Images
+pub mod Over

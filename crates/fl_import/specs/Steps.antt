@@ -8,8 +8,6 @@ use Rattle.fl_csv.specs.declared.record.CsvRefusal.{CsvRefusal}
 use Rattle.fl_csv.specs.declared.record.CsvRefusal.TheVariants as unread
 use Rattle.fl_flash.specs.Flash.{FlashState}
 use Rattle.fl_flash.specs.declared.flash.FlashFault.{FlashFault}
-use Rattle.fl_flash.specs.declared.flash.FlashFault.TheVariants.{PowerLost}
-use Rattle.fl_image.specs.Status.{flash_status}
 use Rattle.fl_import.specs.declared.job_end.LinesTaken.{LinesTaken}
 use Rattle.fl_image.specs.declared.status.ToolStatus.{ToolStatus}
 use Rattle.fl_image.specs.declared.status.ToolStatus.TheVariants.{Done, InputRead, OutWrite, InputLong, NoMemory, Device, BadInput}
@@ -115,10 +113,10 @@ TellsCounts gone counts told told_now faults faults_now Done = Appends told told
 TellsCounts gone counts told told_now faults faults_now OutWrite = AppendsFront told told_now (count_text gone counts) × Rose faults faults_now
 TellsCounts gone counts told told_now faults faults_now status = ⊥
 
--- The status of an import whose table isn't flushed. A table is stopped where the power was lost in a put.
+-- The status of an import whose table isn't flushed. The table isn't stopped, since the lines end at the operation that fails.
 abbrev pub flush_status : FlushFault → ToolStatus
-flush_status (flush.Flash fault) = flash_status fault
-flush_status flush.Stopped = flash_status PowerLost
+flush_status (flush.Flash fault) = Device
+flush_status flush.Stopped = NoMemory
 
 -- a status of an import of a table
 abbrev pub IsOfTable : ToolStatus → Type 0

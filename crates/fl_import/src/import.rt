@@ -8,17 +8,20 @@ ghost use Rattle.fl_image.specs.Status.{is_done};
 ghost use Rattle.fl_image.specs.declared.status.ToolStatus.{ToolStatus};
 ghost use Rattle.fl_model.specs.Record.{Config as Configured, Plan};
 ghost use Rattle.fl_model.specs.Table as model;
-ghost use Rattle.fl_ring.specs.Device.{SameDevice};
+ghost use Rattle.fl_frame.specs.Device.{SameDevice};
 ghost use Rattle.fl_rlc.specs.Logged.{Stands};
+ghost use Rattle.fl_store.specs.Jobs.{JobEnds};
 ghost use Rattle.fl_store.specs.MountEnds.{Keeps};
 ghost use Rattle.fl_store.specs.Named.{IsImageWith};
 ghost use Rattle.fl_store.specs.Repaired.{IsLeft, IsOfOther, OthersAreRepaired};
 ghost use Rattle.fl_store.specs.Store.{at_rest};
 ghost use Rattle.fl_store.specs.Tables.{AreNewTables, IsNamed, LieOn, TablesStand};
+ghost use Rattle.fl_store.specs.Unarmed.{IsUnarmed};
 ghost use Rattle.fl_words.specs.Config as words;
 ghost use Rattle.fl_words.specs.Medium.{IsImage};
 ghost use Rattle.fl_import.specs.Ends.{ImportEnds, IsFormIn, StatusFits};
 ghost use Rattle.fl_import.specs.Images.{EndsOn, FormsAt, HasCauses, told_of};
+ghost use Rattle.fl_import.specs.Over.{ImportsOver};
 ghost use Rattle.fl_import.specs.Taking.{EndedOver};
 
 use crate::begin::{Begun, begin};
@@ -62,7 +65,9 @@ fn import_on<F: Flash, S: Source, K: Sink>(
     requires room { length room.old.bytes ≡ (F.state flash.old).geometry.page }
     requires at { at < length tables.old.entries.items }
     requires few { length tables.old.entries.items ≤ 4 }
+    requires unarmed { IsUnarmed (F.state flash.old) }
     requires new { lines.old ≡ record { line = []; ahead = []; most = 2 ^ 24; closed = false } }
+    ensures over { ImportsOver result.status at tables.old.entries.items (F.state flash.old) (F.state flash.new) }
     ensures goes { Goes (F.state flash.old) (F.state flash.new) }
     ensures causes { HasCauses (length tables.old.entries.items) (F.state flash.old).media.faults (F.state flash.new).media.faults (S.faults input.old) (S.faults input.new) (K.faults out.old) (K.faults out.new) result.kept result.status }
     ensures unread { (table : ℕ) → result.status ≡ ToolStatus.BadImage table → (input.new ≡ input.old) × (out.new ≡ out.old) }
@@ -131,6 +136,10 @@ pub fn import_image<M: Media, S: Source, K: Sink>(
     // where the medium doesn't fail.
     ensures repairs { (config : Configured) (tables : List model.Table) → IsTrue (M.state media.old).tells → IsMade config → IsImage config (M.state media.old).content tables → (result.status ≡ ToolStatus.Device → ⊥) →
         OthersAreRepaired config name (M.state media.old).content (M.state media.new).content }
+
+    // Whatever bytes the medium holds, and whether it tells them: the tables are mounted, up to one that is refused, and else records are put
+    // into the named one. Outside of the rings of the tables that the mount came to, nothing changes.
+    ensures over { JobEnds name (M.state media.old) (M.state media.new) result.status (ImportsOver result.status) }
 
     // Rows are told exactly where it is done.
     ensures kept { is_some result.kept ≡ is_done result.status }

@@ -8,13 +8,14 @@ ghost use Rattle.fl_image.specs.declared.status.ToolStatus.{ToolStatus};
 ghost use Rattle.fl_model.specs.Record.{Plan};
 ghost use Rattle.fl_model.specs.Table as model;
 ghost use Rattle.fl_model.specs.Work.{Device};
-ghost use Rattle.fl_ring.specs.Step.{IsWatched};
+ghost use Rattle.fl_frame.specs.Watched.{IsWatched};
 ghost use Rattle.fl_rlc.specs.Logged.{Stands};
 ghost use Rattle.fl_rlc.specs.Outcomes.{PutEnds};
 ghost use Rattle.fl_rlc.specs.Refusal.{RefusedSame};
 ghost use Rattle.fl_rlc.specs.Table.{is_running, IsSamePlan, LiesOn, OutsideStands};
 ghost use Rattle.fl_table.specs.Causes.{PutCausedBy};
 ghost use Rattle.fl_words.specs.Grammar as grammar;
+ghost use Rattle.fl_store.specs.Unarmed.{IsUnarmed};
 ghost use Rattle.fl_store.specs.Works.{Works};
 ghost use Rattle.fl_import.specs.Lines.{lacks, meaning};
 ghost use Rattle.fl_import.specs.Steps.{IsFormOf, IsOfLine, LineEnds, by_told, fault_in, is_unread};
@@ -25,7 +26,7 @@ use crate::report::{tell_reason, tell_refusal};
 use fl_base::{Sink, SinkFailed};
 use fl_csv::{CsvPut, CsvRefusal, GoneBlobs, LineForm, read_record};
 use fl_flash::{Flash, FlashFault};
-use fl_image::{ToolStatus, flash_status};
+use fl_image::ToolStatus;
 use fl_store::LoggedTable;
 use fl_table::PutRefusal;
 use std::alloc::Global;
@@ -94,6 +95,7 @@ pub(crate) fn put_line<F: Flash, K: Sink>(
     requires some { 1 ≤ form.columns }
     requires few { form.columns ≤ 8 }
     requires lies { LiesOn table.old (F.state flash.old) }
+    requires unarmed { IsUnarmed (F.state flash.old) }
     ensures goes { Goes (F.state flash.old) (F.state flash.new) }
     ensures same { IsSamePlan table.old table.new }
     ensures lies { LiesOn table.new (F.state flash.new) }
@@ -112,8 +114,8 @@ pub(crate) fn put_line<F: Flash, K: Sink>(
         Err(refusal) => return refused(tell_reason(number, refusal, out)),
     };
     let outcome = put_record(table, flash, &put);
-    if let Some(fault) = fault_in(&outcome) {
-        return Err(flash_status(fault));
+    if let Some(_) = fault_in(&outcome) {
+        return Err(ToolStatus::Device);
     }
     match outcome {
         Ok(()) => Ok(put_end(put.gone)),

@@ -7,6 +7,7 @@ ghost use Rattle.fl_lines.specs.Stream.{LinesState};
 ghost use Rattle.fl_model.specs.Record.{Plan};
 ghost use Rattle.fl_model.specs.Table as model;
 ghost use Rattle.fl_rlc.specs.Table.{IsSamePlan, LiesOn, OutsideStands};
+ghost use Rattle.fl_store.specs.Unarmed.{IsUnarmed};
 ghost use Rattle.fl_store.specs.Works.{Works};
 ghost use Rattle.fl_import.specs.Counting.{after_end};
 ghost use Rattle.fl_import.specs.Steps.{AllEnds, IsFormOf, IsOfLines, status_of};
@@ -61,6 +62,7 @@ pub(crate) fn put_lines<F: Flash, S: Source, K: Sink>(
     requires some { 1 ≤ form.columns }
     requires few { form.columns ≤ 8 }
     requires lies { LiesOn table.old (F.state flash.old) }
+    requires unarmed { IsUnarmed (F.state flash.old) }
     requires most { lines.old.most < 2 ^ 24 }
     requires first { taken.old ≡ record { line = 1; rows = 0; gone = 0 } }
     ensures goes { Goes (F.state flash.old) (F.state flash.new) }

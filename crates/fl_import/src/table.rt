@@ -8,6 +8,7 @@ ghost use Rattle.fl_lines.specs.Stream.{LinesState};
 ghost use Rattle.fl_model.specs.Record.{Plan};
 ghost use Rattle.fl_model.specs.Table as model;
 ghost use Rattle.fl_rlc.specs.Table.{IsSamePlan, LiesOn, OutsideStands};
+ghost use Rattle.fl_store.specs.Unarmed.{IsUnarmed};
 ghost use Rattle.fl_store.specs.Works.{Works};
 ghost use Rattle.fl_import.specs.Images.{told_of};
 ghost use Rattle.fl_import.specs.Steps.{AllEnds, IsFormOf, IsOfLines, IsOfTable, TableEnds, TellsCounts, flush_status, is_broken, status_of};
@@ -19,8 +20,8 @@ use crate::report::tell_counts;
 use crate::taking::take_names;
 use fl_base::{Sink, Source};
 use fl_csv::{GoneBlobs, LineForm};
-use fl_flash::{Flash, FlashFault};
-use fl_image::{ToolStatus, flash_status};
+use fl_flash::Flash;
+use fl_image::ToolStatus;
 use fl_lines::Lines;
 use fl_store::LoggedTable;
 use fl_table::FlushFault;
@@ -41,6 +42,7 @@ fn take_lines<F: Flash, S: Source, K: Sink>(
     requires some { 1 ≤ form.columns }
     requires few { form.columns ≤ 8 }
     requires lies { LiesOn table.old (F.state flash.old) }
+    requires unarmed { IsUnarmed (F.state flash.old) }
     requires new { lines.old ≡ record { line = []; ahead = []; most = 2 ^ 24; closed = false } }
     requires none { taken.old ≡ none_taken }
     ensures goes { Goes (F.state flash.old) (F.state flash.new) }
@@ -68,13 +70,14 @@ fn is_broken(taken: &Result<(), ToolStatus>) -> bool
     matches!(taken, Err(ToolStatus::Device))
 }
 
-/// The status of an import whose table isn't flushed. A table is stopped where the power was lost in a put.
+/// The status of an import whose table isn't flushed. The table isn't stopped, since the lines end at the operation that fails; and
+/// `NoMemory`, which may come at any moment, says nothing of the medium.
 fn flush_status(fault: FlushFault) -> ToolStatus
     ensures { result ≡ flush_status fault }
 {
     match fault {
-        FlushFault::Flash(fault) => flash_status(fault),
-        FlushFault::Stopped => flash_status(FlashFault::PowerLost),
+        FlushFault::Flash(_) => ToolStatus::Device,
+        FlushFault::Stopped => ToolStatus::NoMemory,
     }
 }
 
@@ -113,6 +116,7 @@ pub(crate) fn import_table<F: Flash, S: Source, K: Sink>(
     requires some { 1 ≤ form.columns }
     requires few { form.columns ≤ 8 }
     requires lies { LiesOn table.old (F.state flash.old) }
+    requires unarmed { IsUnarmed (F.state flash.old) }
     requires new { lines.old ≡ record { line = []; ahead = []; most = 2 ^ 24; closed = false } }
     requires none { taken.old ≡ none_taken }
     ensures goes { Goes (F.state flash.old) (F.state flash.new) }

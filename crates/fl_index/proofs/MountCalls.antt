@@ -1,25 +1,23 @@
 -- What the calls of a mount say of its index, over any bytes.
 use Rattle.std.proofs.Common.{◌≡◌, ℕ, ◌+◌, ◌-◌, ◌*◌, ◌<◌, ◌≤◌, Bool, true, false, cond, ◌&&◌, IsTrue, Option, Some, None, ◌%◌, get_or, length, List, inl, inr, refl, sym, ◌∙◌, ap, subst, arith}
 use Rattle.std.proofs.Math.Nat.{mul-le-mul_right, mul-le-mul_left}
-use Rattle.fl_base.specs.Causes.{Rose}
 use Rattle.fl_base.specs.declared.types.Geometry.{Geometry}
 use Rattle.fl_base.specs.declared.types.RingPlace.{RingPlace}
-use Rattle.fl_flash.specs.Flash.{FlashState, Goes, page_at}
+use Rattle.fl_flash.specs.Flash.{FlashState, page_at}
 use Rattle.fl_flash.specs.declared.flash.FlashFault.{FlashFault}
-use Rattle.fl_model.specs.Work.{Device}
 use Rattle.fl_ring.specs.Finding.{FoundFault}
 use Rattle.fl_ring.specs.Head.{one}
-use Rattle.fl_ring.specs.Looking.{OnlyReads, ReadFails}
+use Rattle.fl_frame.specs.Reads.{OnlyReads}
+use Rattle.fl_frame.specs.Causes.{ReadFails}
 use Rattle.fl_ring.specs.Mounting.{shape_at, search_reads, HasNumbers, FailsAs}
 use Rattle.fl_ring.specs.Place.{next_of, oldest_of, shape_of}
 use Rattle.fl_ring.specs.Repairing.{Beside}
 use Rattle.fl_ring.specs.Ring.{Shape, OutsideStands, place, room, is_due_at}
-use Rattle.fl_ring.specs.Step.{IsWatched}
 use Rattle.fl_ring.specs.declared.fault.RingFault.{RingFault}
 use Rattle.fl_ring.specs.declared.fault.RingFault.TheVariants.{Flash, BadHead, BadGap, BadPage, NoNumber}
 use Rattle.fl_ring.specs.declared.ring.Ring.{Ring}
 use Rattle.fl_ring.proofs.Founds.{same_pages}
-use Rattle.fl_ring.proofs.ReadsInTurn.{same_page}
+use Rattle.fl_frame.proofs.ReadsInTurn.{same_page}
 use Rattle.fl_ring.proofs.TornPages.{kept_few}
 use Rattle.fl_index.specs.declared.index.BitmapIndex.{BitmapIndex}
 use Rattle.fl_index.specs.Finding.{FewReads, ReadsRing, FindsEnd, FindsIndex, RefusesEnd, RefusesIndex, HasEnd, IsEnd, pages_of}
@@ -43,13 +41,6 @@ same-shape old new f same geometry = ap (λ (p : RingPlace). shape_at p f.geomet
 
 pub same-entries : (old new : BitmapIndex) → IsSamePlan old new → per_page new ≡ per_page old
 same-entries old new same = rw (same.geometry, same.bits, same.full) refl
-
--- a call within another is watched as that is
-pub watched-front : (old mid new : FlashState) (rose : Bool) (device : Device) → IsWatched old new rose device → Goes mid new → IsWatched old mid rose device
-watched-front old mid new rose device w goes = record { told = w.told; on = w.on; risen = λ rises. w.risen (omega (arith, rises, goes.faults)); counts = w.counts }
-
-pub risen-later : (old mid new : FlashState) (rose : Bool) (device : Device) → IsWatched old new rose device → Goes old mid → Rose mid.media.faults new.media.faults → IsTrue rose
-risen-later old mid new rose device w goes rises = w.risen (omega (arith, rises, goes.faults))
 
 -- the ring was refused
 pub refuses-ring : (old new : BitmapIndex) (f g : FlashState) (e : RingFault) → IsSamePlan old new → f.geometry ≡ old.geometry → FoundFault f (shape_at new.place f.geometry) 0 e → FailsAs f (shape_at new.place f.geometry) 0 e g → RefusesEnd old f e g

@@ -16,15 +16,16 @@ use Rattle.fl_model.specs.MountLimit.{ring_mount_limit, part_mount_limit}
 use Rattle.fl_model.specs.Work.{Device}
 use Rattle.fl_model.specs.Within.{repair_within}
 use Rattle.fl_model.proofs.Lists.{slice_get-short}
-use Rattle.fl_ring.specs.Device.{ArmsAs, SameDevice}
-use Rattle.fl_ring.specs.Looking.{OnlyReads, ReadFails}
+use Rattle.fl_frame.specs.Device.{ArmsAs, SameDevice}
+use Rattle.fl_frame.specs.Reads.{OnlyReads}
+use Rattle.fl_frame.specs.Causes.{ReadFails}
 use Rattle.fl_ring.specs.Mounting as ring_mount
 use Rattle.fl_ring.specs.Numbers.{renumbered, voids_at_end}
 use Rattle.fl_ring.specs.Place.{next_of, oldest_of}
 use Rattle.fl_ring.specs.Place as place
 use Rattle.fl_ring.specs.Ring.{Shape, RingState, OnRing, IsShape}
 use Rattle.fl_ring.specs.Ring.{place as place_at}
-use Rattle.fl_ring.specs.Step.{IsWatched}
+use Rattle.fl_frame.specs.Watched.{IsWatched}
 use Rattle.fl_ring.specs.declared.fault.RingFault.{RingFault}
 use Rattle.fl_ring.specs.declared.fault.RingFault.TheVariants.{Flash, BadHead, BadGap, BadPage, NoNumber}
 use Rattle.fl_ring.specs.declared.ring.Ring.{Ring}

@@ -25,7 +25,7 @@ use Rattle.fl_model.proofs.Performs.{performs-whole}
 use Rattle.fl_model.proofs.Sealed.{sealed-torn}
 use Rattle.fl_model.proofs.Renumber.{least-alike}
 use Rattle.fl_ring.specs.Counts.{page_count}
-use Rattle.fl_ring.specs.Device.{SameDevice}
+use Rattle.fl_frame.specs.Device.{SameDevice}
 use Rattle.fl_ring.specs.Head.{one}
 use Rattle.fl_ring.specs.Mounting.{IsGood, Mounted, RepairEnds}
 use Rattle.fl_ring.specs.Newest.{number_of}

@@ -17,7 +17,7 @@ use Rattle.fl_model.specs.Within.{seal_within, effect_within, TablePerforms}
 use Rattle.fl_model.proofs.Lists.{slice_get-last, slice_get-push, each-push, last_or-push}
 use Rattle.fl_model.proofs.Performs.{performs-along, performs-map, performs-whole, EndsAlong}
 use Rattle.fl_model.proofs.Among.{seal-all_done}
-use Rattle.fl_ring.specs.Device.{SameDevice}
+use Rattle.fl_frame.specs.Device.{SameDevice}
 use Rattle.fl_ring.specs.Operations.{change, seal_kinds}
 use Rattle.fl_ring.specs.Ring.{RingState, sealed, voided, begun, erased}
 use Rattle.fl_ring.specs.Sealing.{Performed, AnswersEnd}

@@ -9,7 +9,7 @@ use Rattle.fl_model.specs.Record.{Plan, entries_per_page}
 use Rattle.fl_model.specs.Table.{Table, RingName, IndexRing, after_seal, after_seals}
 use Rattle.fl_model.specs.Work.{Kind, Device, Whole}
 use Rattle.fl_model.specs.Within.{seal_within, seals_within}
-use Rattle.fl_ring.specs.Step.{IsWatched}
+use Rattle.fl_frame.specs.Watched.{IsWatched}
 use Rattle.fl_index.specs.declared.index.BitmapIndex.{BitmapIndex}
 use Rattle.fl_index.specs.Memory.{per_page, waiting_in}
 use Rattle.fl_index.specs.Standing.{Stands}

@@ -7,7 +7,7 @@ use Rattle.fl_flash.specs.Flash.{FlashState, page_at}
 use Rattle.fl_mark.specs.Mark.{state_of_page}
 use Rattle.fl_model.specs.Record.{Plan}
 use Rattle.fl_model.specs.Table.{Table}
-use Rattle.fl_page.specs.Contents.{IsCaused}
+use Rattle.fl_page.specs.Causes.{IsCaused}
 use Rattle.fl_page.specs.declared.fault.ReadFault.{ReadFault}
 use Rattle.fl_page.specs.declared.fault.ReadFault.TheVariants.{Flash, BadPage}
 use Rattle.fl_index.specs.declared.index.BitmapIndex.{BitmapIndex}

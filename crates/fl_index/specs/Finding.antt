@@ -6,7 +6,8 @@ use Rattle.fl_ring.specs.declared.fault.RingFault.{RingFault}
 use Rattle.fl_ring.specs.declared.fault.RingFault.TheVariants.{Flash, BadHead, BadGap, BadPage, NoNumber}
 use Rattle.fl_ring.specs.declared.ring.Ring.{Ring}
 use Rattle.fl_ring.specs.Finding.{FoundFault}
-use Rattle.fl_ring.specs.Looking.{OnlyReads, ReadFails}
+use Rattle.fl_frame.specs.Reads.{OnlyReads}
+use Rattle.fl_frame.specs.Causes.{ReadFails}
 use Rattle.fl_ring.specs.Mounting.{search_reads, HasNumbers, FailsAs}
 use Rattle.fl_ring.specs.Place.{next_of, oldest_of}
 use Rattle.fl_index.specs.declared.index.BitmapIndex.{BitmapIndex}

@@ -10,6 +10,7 @@ use Rattle.fl_ring.specs.Place.{next_of, oldest_of}
 use Rattle.fl_ring.specs.Place as place
 use Rattle.fl_ring.specs.Ring as rings
 use Rattle.fl_ring.specs.Ring.{Shape}
+use Rattle.fl_ring.specs.Written.{MaySealIn}
 use Rattle.fl_index.specs.declared.index.BitmapIndex.{BitmapIndex}
 use Rattle.fl_index.specs.Page.{form_len, bytes_of, bitmap_at, found_at}
 use Rattle.fl_index.specs.declared.page.Found.{Found}
@@ -36,6 +37,10 @@ next_in index = unwrap_or (option_map (λ ring. next_of ring) index.ring) 0
 
 abbrev pub oldest_in : BitmapIndex → ℕ
 oldest_in index = unwrap_or (option_map (λ ring. oldest_of ring) index.ring) 0
+
+-- the flash pages that the seal of the next index page changes
+abbrev pub MaySeal : BitmapIndex → ℕ → Type 0
+MaySeal index = MaySealIn index.ring
 
 -- how many entries wait, the data page of the first of them, and the bitmap of the j-th of them
 abbrev pub waiting_in : BitmapIndex → ℕ

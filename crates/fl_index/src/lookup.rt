@@ -2,9 +2,10 @@
 ghost use Rattle.std.specs.Prelude.{◌≡◌, ◌⊎◌, ◌+◌, ◌-◌, ◌*◌, ◌^◌, ◌<◌, ◌≤◌, None, Some, Ok, Err, true, false, length, IsTrue, IfSome, IfOk, IfErr, OnOk, OnErr, if◌then◌else◌, unwrap_or};
 ghost use Rattle.fl_flash.specs.Flash.{page_at};
 ghost use Rattle.fl_flash.specs.Media.{next_count};
-ghost use Rattle.fl_page.specs.Contents as contents;
+ghost use Rattle.fl_frame.specs.Contents as contents;
+ghost use Rattle.fl_page.specs.Causes.{IsCaused};
 ghost use Rattle.fl_page.specs.declared.fault.ReadFault.TheVariants as fault;
-ghost use Rattle.fl_ring.specs.Looking.{OnlyReads};
+ghost use Rattle.fl_frame.specs.Reads.{OnlyReads};
 ghost use Rattle.fl_ring.specs.Place.{shape_of, LiesOn as LiesIn};
 ghost use Rattle.fl_ring.specs.Ring.{place};
 ghost use Rattle.fl_mark.specs.Mark.{state_of_page};
@@ -79,7 +80,7 @@ impl BitmapIndex {
         // A page that is held isn't bad, and a bad one that is answered stands on the flash.
         ensures good { HoldsGood self.now buf.old → OnOk result (HoldsGood self.now buf.new) }
         ensures bad { IfErr result (IfBad (λ bad. IsTrue (F.state flash.old).media.tells → HoldsGood self.now buf.old → IsBadPage self.now (F.state flash.old) bad)) }
-        ensures cause { IfErr result (λ fault. contents.IsCaused (F.state flash.old) fault (F.state flash.new)) }
+        ensures cause { IfErr result (λ fault. IsCaused (F.state flash.old) fault (F.state flash.new)) }
         ensures unread { IfErr result (IfUnread (λ e. buf.new.holds ≡ None)) }
     {
         if let Some(found) = self.waiting_entry(number) {
@@ -140,7 +141,7 @@ impl BitmapIndex {
         // A page that is held isn't bad, and a bad one that is answered stands on the flash.
         ensures good { HoldsGood self.now buf.old → OnOk result (HoldsGood self.now buf.new) }
         ensures bad { IfErr result (IfBad (λ bad. IsTrue (F.state flash.old).media.tells → HoldsGood self.now buf.old → IsBadPage self.now (F.state flash.old) bad)) }
-        ensures cause { IfErr result (λ fault. contents.IsCaused (F.state flash.old) fault (F.state flash.new)) }
+        ensures cause { IfErr result (λ fault. IsCaused (F.state flash.old) fault (F.state flash.new)) }
         ensures unread { IfErr result (IfUnread (λ e. buf.new.holds ≡ None)) }
     {
         match self.entry_of(flash, number, buf) {
@@ -275,7 +276,7 @@ fn hold<F: Flash>(
         (buf.new.bytes ≡ page_at (F.state flash.old) (place (shape_of ring.now) number)) ⊎ ((buf.old.holds ≡ Some (place (shape_of ring.now) number)) × (page_number buf.old.bytes ≡ number) × (buf.new ≡ buf.old))) }
     ensures read { OnOk result ((buf.old.holds ≡ Some (place (shape_of ring.now) number) → page_number buf.old.bytes ≡ number → ⊥) → (F.state flash.new).work.reads ≡ next_count (F.state flash.old).work.reads) }
     ensures none { OnErr result (buf.new.holds ≡ None) }
-    ensures cause { IfErr result (λ e. contents.IsCaused (F.state flash.old) (fault.Flash e) (F.state flash.new)) }
+    ensures cause { IfErr result (λ e. IsCaused (F.state flash.old) (fault.Flash e) (F.state flash.new)) }
 {
     let page = ring.place_of(number);
     if buf.holds() == Some(page) && number_in(buf.bytes()) == number {

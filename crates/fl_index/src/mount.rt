@@ -1,8 +1,9 @@
 // The mount of an index: its ring is mounted, and the headers of its pages are read.
 ghost use Rattle.std.specs.Prelude.{◌≡◌, ◌+◌, ◌-◌, ◌*◌, ◌%◌, ◌^◌, ◌<◌, ◌≤◌, None, Some, Ok, Err, false, true, is_ok, length, vec_len, slice_index_or, option_map, IsTrue, IfSome, IfOk, IfErr, OnOk, OnErr, MatchOption};
 ghost use Rattle.fl_flash.specs.Flash.{Goes, page_at, pages};
-ghost use Rattle.fl_ring.specs.Causes.{CausedBy, IfFlash};
-ghost use Rattle.fl_ring.specs.Looking.{OnlyReads, ReadFails};
+ghost use Rattle.fl_ring.specs.Causes.{IfFlash};
+ghost use Rattle.fl_frame.specs.Causes.{CausedBy, ReadFails};
+ghost use Rattle.fl_frame.specs.Reads.{OnlyReads};
 ghost use Rattle.fl_ring.specs.Place.{shape_of, next_of, oldest_of, LiesOn as LiesIn};
 ghost use Rattle.fl_ring.specs.Ring.{room, place};
 ghost use Rattle.fl_ring.specs.declared.fault.RingFault.{RingFault};
@@ -34,7 +35,7 @@ impl BitmapIndex {
     ghost use Rattle.fl_ring.specs.Mounting.{search_reads};
     ghost use Rattle.fl_ring.specs.Repairing.{Beside};
     ghost use Rattle.fl_ring.specs.Ring.{OutsideStands};
-    ghost use Rattle.fl_ring.specs.Step.{IsWatched};
+    ghost use Rattle.fl_frame.specs.Watched.{IsWatched};
     ghost use Rattle.fl_index.specs.Finding.{FewReads, FewRepairs, FindsEnd, FindsIndex, RefusesEnd, RefusesIndex};
     ghost use Rattle.fl_index.specs.Memory.{first_in, is_running, waiting_in, per_page, ring_shape, IsPlanned, IsSamePlan, LiesOn};
     ghost use Rattle.fl_index.specs.Outcomes.{FindEnds, MountEnds};

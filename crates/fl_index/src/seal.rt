@@ -1,7 +1,7 @@
 // The seal of the waiting entries.
 ghost use Rattle.std.specs.Prelude.{Ok, ◌≡◌, ◌+◌, ◌-◌, ◌<◌, ◌≤◌, ◌^◌, ◌==◌, true, false, if◌then◌else◌, length, slice_index, IsTrue, OnOk, OnErr, IfErr, Some};
 ghost use Rattle.fl_flash.specs.Flash.{Goes, OffChangesNothing, page_at};
-ghost use Rattle.fl_ring.specs.Causes.{CausedBy};
+ghost use Rattle.fl_frame.specs.Causes.{CausedBy};
 
 use crate::index::BitmapIndex;
 use crate::page::write_header;
@@ -13,8 +13,9 @@ impl BitmapIndex {
     ghost use Rattle.fl_model.specs.Table as model;
     ghost use Rattle.fl_model.specs.Work.{Device};
     ghost use Rattle.fl_ring.specs.Ring.{OutsideStands};
-    ghost use Rattle.fl_ring.specs.Step.{IsWatched};
-    ghost use Rattle.fl_index.specs.Memory.{is_running, first_waiting, next_in, per_page, ring_shape, waiting_at, waiting_in, IsSamePlan, LiesOn};
+    ghost use Rattle.fl_frame.specs.Watched.{IsWatched};
+    ghost use Rattle.fl_ring.specs.Written.{Writes, done};
+    ghost use Rattle.fl_index.specs.Memory.{is_running, first_waiting, next_in, per_page, ring_shape, waiting_at, waiting_in, IsSamePlan, LiesOn, MaySeal};
     ghost use Rattle.fl_index.specs.Standing.{Stands};
     ghost use Rattle.fl_index.specs.Outcomes.{MakesRoom, SealEnds};
 
@@ -36,6 +37,7 @@ impl BitmapIndex {
         ensures running { OnOk result (is_running self.new ≡ true) }
         ensures broken { OnErr result (is_running self.new ≡ false) }
         ensures outside { IsTrue (F.state flash.old).media.tells → OutsideStands (ring_shape self.old) (page_at (F.state flash.old)) (page_at (F.state flash.new)) }
+        ensures writes { Writes (MaySeal self.old) 0 1 (F.state flash.old) (F.state flash.new) }
         ensures reads { (F.state flash.new).work.reads ≡ (F.state flash.old).work.reads }
         ensures media_reads { (F.state flash.new).media.reads ≤ (F.state flash.old).media.reads + 1 }
         ensures cause { IfErr result (λ e. CausedBy (F.state flash.old) e (F.state flash.new)) }
@@ -65,6 +67,7 @@ impl BitmapIndex {
         ensures running { OnOk result (is_running self.new ≡ true) }
         ensures broken { OnErr result (is_running self.new ≡ false) }
         ensures outside { IsTrue (F.state flash.old).media.tells → OutsideStands (ring_shape self.old) (page_at (F.state flash.old)) (page_at (F.state flash.new)) }
+        ensures writes { Writes (MaySeal self.old) (done result) 1 (F.state flash.old) (F.state flash.new) }
         ensures reads { (F.state flash.new).work.reads ≡ (F.state flash.old).work.reads }
         ensures media_reads { (F.state flash.new).media.reads ≤ (F.state flash.old).media.reads + 1 }
         ensures cause { IfErr result (λ e. CausedBy (F.state flash.old) e (F.state flash.new)) }

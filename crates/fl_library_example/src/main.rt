@@ -4,7 +4,7 @@
 ghost use Rattle.std.specs.Prelude.{◌≡◌, ◌<◌, length, IfOk, IsTrue};
 ghost use Rattle.fl_config.specs.Whole.{is_whole};
 ghost use Rattle.fl_cursor.specs.Cursor.{table_of, IsReady};
-ghost use Rattle.fl_page.specs.Contents.{contents_of};
+ghost use Rattle.fl_frame.specs.Contents.{contents_of};
 ghost use Rattle.fl_schema.specs.Schema.{layout_of_row};
 ghost use Rattle.fl_store.specs.Calls.{HavePage, RunsAt, columns_at};
 ghost use Rattle.fl_store.specs.Tables.{LieOn};

@@ -1,15 +1,15 @@
 -- A text of which lines are read one after another.
 use Rattle.std.proofs.Common.{◌≡◌, ℕ, ◌+◌, ◌-◌, ◌<◌, ◌≤◌, Bool, true, false, nat_lt, ◌==◌, List, [], ◌∷◌, ◌++◌, length, take, drop, refl, sym, ◌∙◌, ap, subst, arith, append_assoc, append-nil, length-append}
-use Rattle.std.specs.Prelude.{if◌then◌else◌, unwrap_or, Some, None, Ok, Err}
+use Rattle.std.specs.Prelude.{if◌then◌else◌, min, unwrap_or, Some, None, Ok, Err}
 use Rattle.std.proofs.lemmas.List.Sums.{sum_by-append, sum_by-cons}
-use Rattle.std.proofs.lemmas.Bool.{lt-ltb, le-ltb, ltb-true, ne_eqb}
+use Rattle.std.proofs.lemmas.Bool.{lt-ltb, le-ltb, ltb-true, ltb-false, ne_eqb}
 use Rattle.std.proofs.Math.Seq.{take-append-add, take-append_seam, drop-append-add, drop-append_seam}
 use Rattle.std.specs.List.{onto_first, last_or}
 use Rattle.std.proofs.lemmas.List.Elements.{All-head, All-tail}
 use Rattle.std.proofs.lemmas.List.Splits.{slice_split-cons_no}
 use Rattle.fl_words.specs.Grammar.{lines_of, no_empty_last}
 use Rattle.fl_lines.specs.Given.{Given}
-use Rattle.fl_lines.specs.Taken.{HasTaken, TakesFew, begin_behind}
+use Rattle.fl_lines.specs.Taken.{HasTaken, TakesWithin, begin_behind}
 use Rattle.fl_lines.specs.Stream.{LinesState, TakesAhead}
 use Rattle.fl_lines.specs.declared.lines.LinesFault.TheVariants.{Long}
 use Rattle.fl_lines.specs.Texts.{parts_of, all_but_last, whole_lines, rest_of, long_rest, lines_within}
@@ -107,10 +107,25 @@ given-part most text given closed most_now rest part left limit g e few =
       left = ap Some (sym (ap (drop (length (g.begin ++ part))) whole ∙ drop-append_seam (g.begin ++ part) left));
     }
 
+-- where no more is taken of what is left than is read, and one byte, no more is of the text
+pub begin-fits : (most : ℕ) (text : List ℕ) (given : List (List ℕ)) (closed : Bool) (most_now : ℕ) (rest : List ℕ) (n : ℕ) →
+    (g : Given most text given closed most_now rest) → n ≤ length rest → n ≤ most_now + 1 → length g.begin + n ≤ most + 1
+begin-fits most text given true most_now rest n g within few =
+    omega (arith, within, ap length (g.ended refl), ap length g.parts, length-append g.begin rest, ltb-false most (length text) (given-all most text given true most_now rest g (g.ended refl)).1)
+begin-fits most text given false most_now rest n g within few =
+    omega (arith, few, g.bytes refl, ap length g.parts, length-append g.begin rest, ap length (g.split refl), length-append g.front rest)
+
+-- .. and so much is within the line that comes next
+pub given-within : (most : ℕ) (text : List ℕ) (given : List (List ℕ)) (closed : Bool) (most_now : ℕ) (rest part left : List ℕ) →
+    Given most text given closed most_now rest → rest ≡ part ++ left → length part ≤ 4097 → length part ≤ most_now + 1 → TakesWithin most text given (Some left)
+given-within most text given closed most_now rest part left g e small few =
+    let fits : length g.begin + length part ≤ most + 1 = begin-fits most text given closed most_now rest (length part) g (omega (arith, ap length e, length-append part left)) few in
+    given-part most text given closed most_now rest part left (min (begin_behind given + 4097) (most + 1)) g e (omega (arith, g.size, small, fits))
+
 -- .. with a line
 pub given-few : (most : ℕ) (text : List ℕ) (given : List (List ℕ)) (old : LinesState) (left left_now : List ℕ) →
-    Given most text given old.closed old.most (old.ahead ++ left) → TakesAhead old (old.ahead ++ left) (Ok true) left_now → TakesFew text given (Some left_now)
-given-few most text given old left left_now g t = given-part most text given old.closed old.most (old.ahead ++ left) t.0 left_now (begin_behind given + 4097) g t.1 (omega (arith, g.size, t.2))
+    Given most text given old.closed old.most (old.ahead ++ left) → TakesAhead old (old.ahead ++ left) (Ok true) left_now → TakesWithin most text given (Some left_now)
+given-few most text given old left left_now g t = given-within most text given old.closed old.most (old.ahead ++ left) t.0 left_now g t.1 t.2 (omega (arith, t.3))
 
 -- .. or one byte more than is read
 pub given-over : (most : ℕ) (text : List ℕ) (given : List (List ℕ)) (old : LinesState) (left left_now : List ℕ) →

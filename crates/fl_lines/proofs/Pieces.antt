@@ -97,7 +97,7 @@ advances-line old mid new left left_now f f_now len is_open was_open most later 
               open_before = was_open;
               open_now = ap (λ (s : LinesState). s.closed) e ∙ is_open;
             }),
-            (mid.ahead, t.2, small),
+            (mid.ahead, t.2, small, omega (arith, few, most)),
           );
     }
 

@@ -83,10 +83,10 @@ Gives old rest (Err Long) new left = (more : List ℕ) × TakesPart old rest new
 abbrev pub NeedsNoMore : LinesState → Type 0
 NeedsNoMore s = (s.closed ≡ true) ⊎ ((IsOneLine s.ahead → ⊥) ⊎ (4096 < length s.ahead))
 
--- How many bytes were taken: with a line at most 4,097 that weren't given before, none are left where there is no line, and
--- one more than are read of a text that is too long. `rest` is what was ahead and what the source had left.
+-- How many bytes were taken: with a line at most 4,097 that weren't given before, and no more than are read, none are left where
+-- there is no line, and one more than are read of a text that is too long. `rest` is what was ahead and what the source had left.
 abbrev pub TakesAhead : LinesState → List ℕ → Result Bool LinesFault → List ℕ → Type 0
-TakesAhead old rest (Ok true) left = (part : List ℕ) × (rest ≡ part ++ left) × (length part ≤ 4097)
+TakesAhead old rest (Ok true) left = (part : List ℕ) × (rest ≡ part ++ left) × (length part ≤ 4097) × (length part ≤ old.most)
 TakesAhead old rest (Ok false) left = left ≡ []
 TakesAhead old rest (Err Failed) left = Unit {0}
 TakesAhead old rest (Err Long) left = (part : List ℕ) × (rest ≡ part ++ left) × (length part ≡ old.most + 1)

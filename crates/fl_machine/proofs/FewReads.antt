@@ -15,7 +15,8 @@ use Rattle.fl_model.specs.Agrees.{content_at, reach_of, HoldsBlob, BlobsOf}
 use Rattle.fl_model.specs.Facts.{IsTable, is_some_ring}
 use Rattle.fl_model.specs.Query.{entry_at, page_stands, BlobState, Stands, Lost, blob_in}
 use Rattle.fl_model.specs.Limits.{scan_limit, past, page_behind, is_indexed, is_spanned, is_wanted, in_pages, first_page, last_page, numbers_of, numbers_from}
-use Rattle.fl_model.specs.Spline.{bits, lookup_limit, voids_of, is_pending_key, is_covered, retained}
+use Rattle.fl_base.specs.Bits.{bits}
+use Rattle.fl_model.specs.Spline.{lookup_limit, voids_of, is_pending_key, is_covered, retained}
 use Rattle.fl_words.specs.Command as command
 use Rattle.fl_words.specs.Command.{Command}
 use Rattle.fl_machine.specs.Found.{HasRoom}

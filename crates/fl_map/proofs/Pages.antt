@@ -7,7 +7,7 @@ use Rattle.fl_mark.specs.Mark.{state_of_page}
 use Rattle.fl_mark.specs.declared.page_state.PageState.{PageState}
 use Rattle.fl_mark.specs.declared.page_state.PageState.TheVariants.{Blank}
 use Rattle.fl_ring.specs.declared.ring.Ring.{Ring}
-use Rattle.fl_ring.specs.Looking.{OnlyReads}
+use Rattle.fl_frame.specs.Reads.{OnlyReads}
 use Rattle.fl_ring.specs.Place.{shape_of, LiesOn}
 use Rattle.fl_ring.specs.Ring.{room}
 use Rattle.fl_ring.proofs.Exists.{page_exists}

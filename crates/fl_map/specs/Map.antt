@@ -11,7 +11,6 @@ use Rattle.fl_image.specs.Header.{IsAccepted}
 use Rattle.fl_image.specs.Image.{IsImageOf}
 use Rattle.fl_image.specs.declared.status.ToolStatus.{ToolStatus}
 use Rattle.fl_image.specs.declared.status.ToolStatus.TheVariants.{Done, InputRead, OutWrite, InputLong, NoMemory, NotImage, Device, BadImage, NoTable, BadInput, Unsound}
-use Rattle.fl_image.specs.Status.{flash_status}
 use Rattle.fl_check.specs.Whole.{IsFinding}
 use Rattle.fl_check.specs.declared.finding.Finding.{Finding}
 use Rattle.fl_map.specs.declared.drawing.Drawing.{Drawing}
@@ -48,7 +47,7 @@ pub record IsMapOf (drawing : Drawing) (bytes text : List ℕ) : Type 0 where
 
 -- the status of a map that isn't drawn
 abbrev pub status_of : MapFault → ToolStatus
-status_of (fault.Flash failed) = flash_status failed
+status_of (fault.Flash failed) = Device
 status_of fault.NoMemory = NoMemory
 
 -- how it ends: the map is written whole; or a front of it, where the sink fails; or nothing

@@ -1,6 +1,6 @@
 -- Why the pages of a ring aren't read.
 use Rattle.fl_flash.specs.Flash.{FlashState}
-use Rattle.fl_ring.specs.Looking.{ReadFails}
+use Rattle.fl_frame.specs.Causes.{ReadFails}
 use Rattle.fl_map.specs.declared.fault.MapFault.{MapFault}
 use Rattle.fl_map.specs.declared.fault.MapFault.TheVariants.{Flash, NoMemory}
 

@@ -17,7 +17,7 @@ use fl_base::{NoMemory, Sink};
 use fl_check::{CheckFault, check_table};
 use fl_config::Config;
 use fl_flash::{Flash, FlashRoom, Media, PageBuf, SimFlash};
-use fl_image::{HEADER, ToolStatus, config_of_image, flash_status};
+use fl_image::{HEADER, ToolStatus, config_of_image};
 use fl_script::LineRoom;
 use std::alloc::Global;
 
@@ -46,7 +46,7 @@ fn status_of(fault: MapFault) -> ToolStatus
     ensures { result ≡ status_of fault }
 {
     match fault {
-        MapFault::Flash(fault) => flash_status(fault),
+        MapFault::Flash(_) => ToolStatus::Device,
         MapFault::NoMemory => ToolStatus::NoMemory,
     }
 }
@@ -77,7 +77,7 @@ fn draw_table<F: Flash>(
     let log = config.log(i);
     let finding = match check_table(alloc, flash, table, log) {
         Ok(finding) => finding,
-        Err(CheckFault::Flash(fault)) => return Err(flash_status(fault)),
+        Err(CheckFault::Flash(_)) => return Err(ToolStatus::Device),
         Err(CheckFault::NoMemory) => return Err(ToolStatus::NoMemory),
     };
     let checked = Checked {

@@ -1,11 +1,12 @@
 -- The states of a page in the words of the store's model.
-use Rattle.std.proofs.Common.{◌≡◌, ◌↔◌, ℕ, ◌-◌, ◌≤◌, Bool, true, false, ◌&&◌, not, ◌==◌, IsTrue, if◌then◌else◌, List, [], ◌∷◌, length, take, drop, replicate, refl, sym, ◌∙◌, ap, subst, arith, length-drop}
-use Rattle.std.proofs.lemmas.Bool.{and_parts, eqb-true}
+use Rattle.std.proofs.Common.{◌≡◌, ◌↔◌, ℕ, ◌-◌, ◌≤◌, Bool, true, false, ◌&&◌, not, IsTrue, if◌then◌else◌, List, length, take, drop, replicate, refl, sym, ◌∙◌, ap, subst, arith, length-drop}
 use Rattle.std.proofs.lemmas.List.{drop-replicate, take_all}
 use Rattle.fl_model.specs.Layout as model
 use Rattle.fl_mark.specs.declared.page_state.PageState.{PageState}
 use Rattle.fl_mark.specs.declared.page_state.PageState.TheVariants.{Blank, Torn, Committed, Void}
-use Rattle.fl_mark.specs.Mark.{all_are, commit_field, void_field, state_of_page}
+use Rattle.fl_base.specs.Bytes.{all_are}
+use Rattle.fl_base.proofs.OneByte.{all_same}
+use Rattle.fl_mark.specs.Mark.{commit_field, void_field, state_of_page}
 use Rattle.fl_mark.specs.InModel.{IsModelState}
 
 -- a state by three tests: each byte is FF, the commit field is zero, the void field is FF
@@ -46,14 +47,7 @@ agree false false false apart = record {
   is_torn = (λ e. absurd cc, λ e. absurd (cc (e.2)));
 }
 
--- a blank list is so many bytes FF
-all_ff : (xs : List ℕ) → all_are 255 xs ≡ true → xs ≡ replicate (length xs) 255
-all_ff [] e = refl
-all_ff (x ∷ xs) e =
-    let parts = and_parts (x == 255) (all_are 255 xs) e in
-    ap (λ (y : ℕ). y ∷ xs) (eqb-true x 255 parts.0) ∙ ap (λ (l : List ℕ). 255 ∷ l) (all_ff xs parts.1)
-
--- so the marks of a blank page are FF too
+-- the marks of a blank page are FF too
 blank_marks : (page : List ℕ) → 8 ≤ length page → all_are 255 page ≡ true → (all_are 0 (commit_field page) ≡ false) × (all_are 255 (void_field page) ≡ true)
 blank_marks page le e =
     let n = length page in
@@ -61,10 +55,10 @@ blank_marks page le e =
     let last : n - (n - 4) ≡ 4 = omega arith in
     let low : n - (n - 8) ≡ 8 = omega arith in
     let commit : commit_field page ≡ replicate 4 255 =
-    ap (λ (k : ℕ). take k (drop (n - 8) page)) four ∙ ap (λ (l : List ℕ). take 4 (drop (n - 8) l)) (all_ff page e)
+    ap (λ (k : ℕ). take k (drop (n - 8) page)) four ∙ ap (λ (l : List ℕ). take 4 (drop (n - 8) l)) (all_same 255 page e)
     ∙ ap (λ (l : List ℕ). take 4 l) (drop-replicate (n - 8) n 255) ∙ ap (λ (k : ℕ). take 4 (replicate k 255)) low in
     let void : void_field page ≡ replicate 4 255 =
-    ap (λ (k : ℕ). take k (drop (n - 4) page)) last ∙ ap (λ (l : List ℕ). take 4 (drop (n - 4) l)) (all_ff page e)
+    ap (λ (k : ℕ). take k (drop (n - 4) page)) last ∙ ap (λ (l : List ℕ). take 4 (drop (n - 4) l)) (all_same 255 page e)
     ∙ ap (λ (l : List ℕ). take 4 l) (drop-replicate (n - 4) n 255) ∙ ap (λ (k : ℕ). take 4 (replicate k 255)) last in
     (ap (λ (l : List ℕ). all_are 0 l) {x = commit_field page} {y = replicate 4 255} commit, ap (λ (l : List ℕ). all_are 255 l) {x = void_field page} {y = replicate 4 255} void)
 

@@ -1,7 +1,7 @@
 -- What full index entries tell, and how many pages a mount by them reads.
 use Rattle.std.proofs.Common.{◌≡◌, ℕ, zero, suc, ◌+◌, ◌-◌, ◌*◌, ◌%◌, ◌<◌, ◌≤◌, Bool, true, false, cond, ◌&&◌, ◌||◌, not, nat_lt, nat_le, ◌==◌, Option, Some, None, List, [], ◌∷◌, ◌++◌, length, map, max, fold, take, drop, if◌then◌else◌, refl, sym, ◌∙◌, ap, arith, IsTrue, IfSome, ◌⊎◌, inl, inr, option_map, unwrap_or}
 use Rattle.std.specs.List.{AllByRecursion, list_any, last_or, slice_get, sum}
-use Rattle.std.proofs.lemmas.Bool.{cases_lt}
+use Rattle.std.proofs.lemmas.Bool.{cases_lt, le-ltb}
 use Rattle.std.proofs.lemmas.Bool.Decides.{nat_tests}
 use Rattle.std.proofs.lemmas.List.{take-append-drop, map-append, length-drop}
 use Rattle.std.proofs.lemmas.List.Sums.{sum_by-cons, fold-append, count_by-le-length}
@@ -13,7 +13,7 @@ use Rattle.fl_model.specs.Table.{Table, Entry, DataRing, IndexRing, VarRing, Log
 use Rattle.fl_model.specs.Index.{IndexPage}
 use Rattle.fl_model.specs.Spline.{pages_from, pages_of}
 use Rattle.fl_model.specs.Agrees.{TellPages}
-use Rattle.fl_model.specs.Limits.{is_listed, numbers_of, numbers_from}
+use Rattle.fl_model.specs.Limits.{is_indexed, is_listed, numbers_of, numbers_from}
 use Rattle.fl_model.specs.MountLimit.{voids_at_end, ring_mount_limit, part_mount_limit, log_mount_limit, kept_in, full_mount_limit}
 use Rattle.fl_model.specs.Mount.{index_end, blob_end, renumber, least_alike}
 use Rattle.fl_model.specs.Facts.{IsTable, is_some_ring}
@@ -63,6 +63,17 @@ pub listed-behind : (plan : Plan) (table : Table) (number : ℕ) → IsTable pla
 listed-behind plan table number is le =
     none-listed (entries_per_page plan) number (firsts table)
     (λ i a e. let ends = first-ends (entries_per_page plan) i a (firsts table) is.firsts e in let k : a + entries_per_page plan ≤ number = omega (arith, ends, le) in k)
+
+-- what is indexed ends before the page that is sealed next
+pub indexed-below : (plan : Plan) (table : Table) (number : ℕ) → IsTable plan table → table.rows.next ≤ number → is_indexed plan table number ≡ false
+indexed-below plan table number is le =
+    both (has_index plan) (nat_le (table.rows.next - length table.waiting) number) (nat_lt number table.rows.next) (is_listed plan table number)
+    (le-ltb number table.rows.next le) (listed-behind plan table number is (omega (arith, le, is.listed)))
+  where
+    both : (has from to listed : Bool) → to ≡ false → listed ≡ false → (has && (from && to || listed)) ≡ false
+    both false from to listed t l = refl
+    both true false to listed t l = l
+    both true true to listed t l = rw (t, l) refl
 
 -- the numbers of a data ring whose pages are all void begin at the end of the index, or behind it
 pub listed-renumbered : (plan : Plan) (table : Table) (number : ℕ) → IsTable plan table → list_any (nat_lt 0) table.rows.counts ≡ false →

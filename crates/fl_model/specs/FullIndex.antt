@@ -6,16 +6,18 @@ use Rattle.fl_model.specs.Ring.{IsShape, oldest}
 use Rattle.fl_model.specs.Table.{Table, DataRing, IndexRing, VarRing, LogRing, shape_of}
 use Rattle.fl_model.specs.Spline.{pages_of}
 use Rattle.fl_model.specs.Index.{IndexPage, full_of}
-use Rattle.fl_model.specs.Limits.{is_listed}
+use Rattle.fl_model.specs.Limits.{is_indexed, is_listed}
 use Rattle.fl_model.specs.MountLimit.{full_mount_limit}
 use Rattle.fl_model.specs.Mount.{index_end, blob_end, renumber}
 use Rattle.fl_model.specs.Facts.{IsTable}
 use Rattle.fl_model.specs.Agrees.{TellPages}
 
--- No index page lists a data page from the end of the index on. So it is with the pages of a data ring that are all void, once
--- the ring has its numbers: a void page never gets the number of one of which an entry tells rows.
+-- No index page lists a data page from the end of the index on, and no data page that is still to be sealed is indexed. So it is with
+-- the pages of a data ring that are all void, once the ring has its numbers: a void page never gets the number of one of which an
+-- entry tells rows.
 pub record EndsListing : Type 0 where
   pub behind : (plan : Plan) (table : Table) (number : ℕ) → IsTable plan table → index_end plan table ≤ number → is_listed plan table number ≡ false
+  pub unsealed : (plan : Plan) (table : Table) (number : ℕ) → IsTable plan table → table.rows.next ≤ number → is_indexed plan table number ≡ false
   pub renumbered : (plan : Plan) (table : Table) (number : ℕ) → IsTable plan table → list_any (nat_lt 0) table.rows.counts ≡ false →
       oldest (renumber plan DataRing table).rows ≤ number → is_listed plan (renumber plan DataRing table) number ≡ false
 

@@ -36,8 +36,8 @@ pub fn work_is_done()
     ensures { WorkIsDone }
 {}
 
-/// No index page lists a data page from the end of the index on, and none lists one of a data ring of void pages that has its
-/// numbers again.
+/// No index page lists a data page from the end of the index on, and no page that is still to be sealed is indexed; and none lists
+/// one of a data ring of void pages that has its numbers again.
 pub fn listing_ends()
     ensures { EndsListing }
 {}

@@ -1,9 +1,11 @@
 -- Calls that only read, one after another.
 use Rattle.std.proofs.Common.{Result, Ok, Err, IfErr}
 use Rattle.fl_flash.specs.Flash.{FlashState}
-use Rattle.fl_page.specs.Contents.{OnlyReads, IsCaused}
+use Rattle.fl_frame.specs.Contents.{OnlyReads}
+use Rattle.fl_page.specs.Causes.{IsCaused}
 use Rattle.fl_page.specs.declared.fault.ReadFault.{ReadFault}
-use Rattle.fl_page.proofs.ReadsInTurn.{OnlyReads-then, OnlyReads-reads, IsCaused-later}
+use Rattle.fl_page.proofs.ReadsInTurn.{IsCaused-later}
+use Rattle.fl_frame.proofs.ContentsInTurn.{OnlyReads-then, OnlyReads-reads}
 
 pub ruleset calls = (OnlyReads-then, OnlyReads-reads)
 

@@ -2,7 +2,7 @@
 use Rattle.std.proofs.Common.{◌∙◌, ℕ, List, Option}
 use Rattle.std.specs.Borrow.{GName}
 use Rattle.fl_model.specs.Record.{RowLayout}
-use Rattle.fl_page.specs.Contents.{Contents}
+use Rattle.fl_frame.specs.Contents.{Contents}
 use Rattle.fl_page.specs.declared.fault.BadPage.{BadPage}
 use Rattle.fl_ops.specs.Inputs.{Continues}
 

@@ -39,7 +39,8 @@ impl<R: RowHere> Aggregate<R> {
     ghost use Rattle.fl_model.specs.Row.{Row};
     ghost use Rattle.fl_model.specs.Operators.{aggregate};
     ghost use Rattle.fl_flash.specs.Flash.{FlashState};
-    ghost use Rattle.fl_page.specs.Contents.{contents_of, OnlyReads, IsCaused};
+    ghost use Rattle.fl_frame.specs.Contents.{contents_of, OnlyReads};
+    ghost use Rattle.fl_page.specs.Causes.{IsCaused};
     ghost use Rattle.fl_page.specs.Steps.{Steps, left_after};
     ghost use Rattle.fl_page.specs.declared.fault.BadPage.{BadPage};
     ghost use Rattle.fl_ops.specs.Columns.{records_of};

@@ -19,7 +19,8 @@ impl<'c, R: RowHere> Project<'c, R> {
     ghost use Rattle.std.specs.Bool.{OnFalse};
     ghost use Rattle.fl_model.specs.Operators.{column_of, project};
     ghost use Rattle.fl_flash.specs.Flash.{FlashState};
-    ghost use Rattle.fl_page.specs.Contents.{contents_of, OnlyReads, IsCaused};
+    ghost use Rattle.fl_frame.specs.Contents.{contents_of, OnlyReads};
+    ghost use Rattle.fl_page.specs.Causes.{IsCaused};
     ghost use Rattle.fl_page.specs.Steps.{left_after};
     ghost use Rattle.fl_page.specs.declared.fault.BadPage.{BadPage};
     ghost use Rattle.fl_ops.specs.Columns.{record_of, records_of};

@@ -1,7 +1,7 @@
 // What a selection is, in the model's words.
 ghost use Rattle.std.specs.Prelude.{◌≡◌, ◌↔◌, filter};
 ghost use Rattle.fl_model.specs.Operators.{select};
-ghost use Rattle.fl_page.specs.Contents.{Contents};
+ghost use Rattle.fl_frame.specs.Contents.{Contents};
 ghost use Rattle.fl_page.specs.declared.fault.BadPage.{BadPage};
 ghost use Rattle.fl_ops.specs.Columns.{records_of, row_passes};
 ghost use Rattle.fl_ops.specs.Select.{input_of, comparison_of};

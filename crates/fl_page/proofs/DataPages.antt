@@ -4,7 +4,7 @@ use Rattle.std.proofs.lemmas.List.{length-replicate}
 use Rattle.std.proofs.lemmas.Nat.{le-div}
 use Rattle.std.specs.Int.{byte_at}
 use Rattle.std.specs.List.{flat_map, AllByRecursion}
-use Rattle.fl_mark.specs.Mark.{all_are}
+use Rattle.fl_base.specs.Bytes.{all_are}
 use Rattle.fl_model.specs.Record.{Plan, RowLayout, row_layout, layout_len}
 use Rattle.fl_model.specs.Row.{Row, IsStorable, bytes_of_row, le, stored_row}
 use Rattle.fl_model.specs.Table.{Entry}

@@ -3,6 +3,6 @@ pub mod Writer
 pub mod Header
 pub mod Page
 pub mod View
-pub mod Contents
+pub mod Causes
 pub mod Steps
 pub mod Ascending

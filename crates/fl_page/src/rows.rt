@@ -7,7 +7,8 @@ ghost use Rattle.fl_model.specs.Row.{Row};
 ghost use Rattle.fl_model.specs.Query.{is_above};
 ghost use Rattle.fl_flash.specs.Flash.{FlashState};
 ghost use Rattle.fl_schema.specs.Schema.{layout_of_row, row_of};
-ghost use Rattle.fl_page.specs.Contents.{Contents, contents_of, OnlyReads, IsCaused};
+ghost use Rattle.fl_frame.specs.Contents.{Contents, contents_of, OnlyReads};
+ghost use Rattle.fl_page.specs.Causes.{IsCaused};
 ghost use Rattle.fl_page.specs.Steps.{Steps, Ascends, left_after};
 ghost use Rattle.fl_page.specs.declared.fault.BadPage.{BadPage};
 

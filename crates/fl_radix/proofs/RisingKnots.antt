@@ -11,12 +11,12 @@ use Rattle.std.proofs.lemmas.Nat.{shr_below}
 use Rattle.std.proofs.Math.ListN.{get_or-append}
 use Rattle.std.proofs.Math.Seq.{get_or-append_seam}
 use Rattle.std.proofs.Math.Pow.{shr_mono}
-use Rattle.fl_model.specs.Spline.{bits}
+use Rattle.fl_base.specs.Bits.{bits}
 use Rattle.fl_spline.specs.Points.{Rises}
 use Rattle.fl_spline.specs.Segment.{IsSegment, point_at}
 use Rattle.fl_spline.proofs.Lists.{rises-take, rises-drop}
 use Rattle.fl_spline.proofs.Segments.{keys-rise}
-use Rattle.fl_radix.proofs.Bits.{bits-le}
+use Rattle.fl_base.proofs.BitsGrow.{bits-le}
 use Rattle.fl_radix.specs.Slots.{slot_of, first_key, last_key, knots_in_slot, IsStart, IsSlot, AreUpTo, AreBeyond}
 
 -- 63 bits are enough to leave out

@@ -19,7 +19,8 @@ pub struct Radix<const SLOTS: usize> {
 
 impl<const SLOTS: usize> Radix<SLOTS> {
     ghost use Rattle.std.specs.Prelude.{◌≡◌, ◌+◌, ◌-◌, ◌^◌, ◌<◌, ◌≤◌, ℕ, min, List, [], length, false, MatchOption};
-    ghost use Rattle.fl_model.specs.Spline.{bits, is_covered};
+    ghost use Rattle.fl_base.specs.Bits.{bits};
+    ghost use Rattle.fl_model.specs.Spline.{is_covered};
     ghost use Rattle.fl_spline.specs.Points.{Rises, LastMoved};
     ghost use Rattle.fl_spline.specs.Spline.{kept};
     ghost use Rattle.fl_spline.specs.Segment.{IsSegment};

@@ -1,6 +1,6 @@
 // A bisection over knots that counts its comparisons.
 ghost use Rattle.std.specs.Prelude.{◌≡◌, ◌+◌, ◌-◌, ◌^◌, ◌<◌, ◌≤◌, ℕ, min, length};
-ghost use Rattle.fl_model.specs.Spline.{bits};
+ghost use Rattle.fl_base.specs.Bits.{bits};
 ghost use Rattle.fl_spline.specs.Points.{Rises};
 ghost use Rattle.fl_radix.specs.Slots.{AreUpTo, AreBeyond};
 

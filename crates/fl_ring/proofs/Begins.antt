@@ -2,10 +2,10 @@
 use Rattle.std.proofs.Common.{◌≡◌, ℕ, ◌+◌, ◌/◌, ◌^◌, ◌≤◌, ◌<◌, false, List, [], ◌∷◌, ◌++◌, length, take, drop, replicate, get_or, slice_range, inl, inr, refl, sym, ◌∙◌, ap, subst, arith}
 use Rattle.std.proofs.lemmas.Bool.{MatchBool-at_false}
 use Rattle.std.proofs.lemmas.List.{take-take, take-append-le, take_all, take-replicate, length-take-le}
-use Rattle.fl_base.specs.Bytes.{splice}
+use Rattle.fl_base.specs.Bytes.{all_are, splice}
 use Rattle.fl_base.specs.declared.types.CutKind.TheVariants.{Before, After, Half, Noise}
 use Rattle.fl_flash.specs.Flash.{FlashState, Goes, begin_of, page_at, pages, and_bytes, programmed, blank, OthersStand, Programmed, TornProgram, TornPage}
-use Rattle.fl_mark.specs.Mark.{all_are, state_of_page}
+use Rattle.fl_mark.specs.Mark.{state_of_page}
 use Rattle.fl_mark.specs.declared.page_state.PageState.TheVariants.{Torn}
 use Rattle.fl_model.specs.Work.{Body}
 use Rattle.fl_ring.specs.declared.ring.Ring.{Ring}

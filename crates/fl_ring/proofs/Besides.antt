@@ -3,12 +3,13 @@ use Rattle.std.proofs.Common.{ℕ, ◌+◌, ◌≤◌, Result, inl, inr, ap, ari
 use Rattle.std.proofs.lemmas.Bool.{cases_Bool}
 use Rattle.fl_flash.specs.Flash.{FlashState}
 use Rattle.fl_flash.specs.declared.flash.FlashFault.{FlashFault}
+use Rattle.fl_frame.proofs.CallsInTurn.{goes-then}
 use Rattle.fl_model.specs.Work.{VoidMark, Erase}
-use Rattle.fl_ring.specs.Looking.{OnlyReads}
+use Rattle.fl_frame.specs.Reads.{OnlyReads}
 use Rattle.fl_ring.specs.Repairing.{Beside}
 use Rattle.fl_ring.specs.Ring.{Shape}
 use Rattle.fl_ring.specs.Step.{Operates}
-use Rattle.fl_ring.proofs.ReadsInTurn.{goes_more, same_page}
+use Rattle.fl_frame.proofs.ReadsInTurn.{same_page}
 use Rattle.fl_ring.proofs.Sums.{outside_more}
 
 pub beside_reads : (r : Shape) (n : ℕ) (a b : FlashState) → OnlyReads a n b → Beside r n 0 0 a b
@@ -23,7 +24,7 @@ beside_reads r n a b reads = record {
 
 pub beside_more : (r : Shape) (n p e m q d : ℕ) (a b c : FlashState) → Beside r n p e a b → Beside r m q d b c → Beside r (n + m) (p + q) (e + d) a c
 beside_more r n p e m q d a b c x y = record {
-  goes = goes_more a b c x.goes y.goes;
+  goes = goes-then a b c x.goes y.goes;
   outside = outside_more r a b c x.goes x.outside y.outside;
   few_reads = omega (arith, x.few_reads, y.few_reads);
   media_reads = omega (arith, x.media_reads, y.media_reads);

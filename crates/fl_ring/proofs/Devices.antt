@@ -8,7 +8,7 @@ use Rattle.fl_flash.specs.Tear.{torn_now, armed_after}
 use Rattle.fl_flash.specs.declared.armed.Armed.{Armed}
 use Rattle.fl_flash.specs.declared.tear.Tear.{Tear}
 use Rattle.fl_model.specs.Work.{Kind, Device, is_erase, counted, fired}
-use Rattle.fl_ring.specs.Device.{TearsAs, ArmsAs, SameDevice}
+use Rattle.fl_frame.specs.Device.{TearsAs, ArmsAs, SameDevice}
 
 -- the cut isn't of this operation, on the flash and in the model
 pub record Uncut (armed : Option Armed) (cut : Option (ℕ × CutKind)) : Type 0 where

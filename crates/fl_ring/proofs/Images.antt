@@ -3,6 +3,7 @@ use Rattle.std.proofs.Common.{◌≡◌, ◌⊎◌, ℕ, zero, suc, ◌+◌, ◌
 use Rattle.std.proofs.lemmas.Bool.{cases_Bool, cases_lt, MatchBool-at_true, MatchBool-at_false, true≢false}
 use Rattle.std.proofs.lemmas.Option.{slice_get_within, slice_get-map, slice_get-get_or}
 use Rattle.fl_flash.specs.Flash.{blank}
+use Rattle.fl_base.proofs.OneByte.{all_same}
 use Rattle.fl_mark.specs.InModel.{IsModelState}
 use Rattle.fl_mark.specs.Mark.{state_of_page}
 use Rattle.fl_mark.specs.declared.page_state.PageState.TheVariants.{Torn}
@@ -15,7 +16,6 @@ use Rattle.fl_ring.specs.Ring.{Shape, RingState, count, oldest, room, place, IsS
 use Rattle.fl_ring.proofs.Counts.{counts_length}
 use Rattle.fl_ring.proofs.Facts.{two_blocks}
 use Rattle.fl_ring.proofs.Facts.{sizes as sizes_of}
-use Rattle.fl_ring.proofs.PageBytes.{all_same}
 use Rattle.fl_ring.proofs.Steps.{blank_is}
 
 -- the bytes at the places of a ring's numbers

@@ -9,7 +9,7 @@ use Rattle.fl_ring.specs.declared.newest.NewestPage.{NewestPage}
 use Rattle.fl_ring.specs.declared.ring.Ring.{Ring}
 use Rattle.fl_ring.specs.Finding.{full_of, kept_at, IsFound}
 use Rattle.fl_ring.specs.Head.{one, fulls}
-use Rattle.fl_ring.specs.Looking.{OnlyReads}
+use Rattle.fl_frame.specs.Reads.{OnlyReads}
 use Rattle.fl_ring.specs.Mounting.{HasNumbers}
 use Rattle.fl_ring.specs.Newest.{commits, page_back, NoneBefore, IsNewest, NoneCommitted, NewestAmong}
 use Rattle.fl_ring.specs.Numbers.{next_by}

@@ -5,10 +5,11 @@ use Rattle.fl_flash.specs.Flash.{FlashState, Goes, page_at}
 use Rattle.fl_flash.specs.declared.flash.FlashFault.{FlashFault}
 use Rattle.fl_flash.specs.declared.flash.FlashFault.TheVariants.{PowerLost, Media}
 use Rattle.fl_model.specs.Work.{Kind, Device, counted, fired, Whole, CutIn, FailedIn, PartProgress, PartFirst, PartPerforms}
-use Rattle.fl_ring.specs.Device.{SameDevice}
+use Rattle.fl_frame.specs.Device.{SameDevice}
 use Rattle.fl_ring.specs.Ring.{Shape, RingState, OnRing}
 use Rattle.fl_ring.specs.Sealing.{Performed}
-use Rattle.fl_ring.specs.Step.{IsWatched, StepDone, StepCut, StepFailed, StepEnds}
+use Rattle.fl_ring.specs.Step.{StepDone, StepCut, StepFailed, StepEnds}
+use Rattle.fl_frame.specs.Watched.{IsWatched}
 
 module _ (r : Shape) (change : Kind → RingState → RingState) (rose : Bool) (kind : Kind) (kinds : List Kind) (device : Device) (s : RingState) where
   -- the first of the operations is cut
@@ -68,15 +69,6 @@ pub performed_last : (r : Shape) (change : Kind → RingState → RingState) (ro
     → StepEnds r kind s (change kind s) rose device result new → Performed r change rose (kind ∷ []) device s result new
 performed_last r change rose kind device s (Err e) new step = performed_err r change rose kind [] device s e new step
 performed_last r change rose kind device s (Ok u) new step = performed_more r change rose kind [] device s new new (Ok u) step (performed_none r change rose (counted kind device) (change kind s) new step.counts step.on step.power)
-
--- the medium's faults in a part of a call are those of the call
-pub watched_first : (old mid new : FlashState) (rose : Bool) (device : Device) → IsWatched old new rose device → Goes mid new → IsWatched old mid rose device
-watched_first old mid new rose device watched goes = record {
-  told = watched.told;
-  on = watched.on;
-  risen = λ up. watched.risen (omega (arith, up, goes.faults));
-  counts = watched.counts;
-}
 
 pub watched_then : (r : Shape) (kind : Kind) (after : RingState) (old mid new : FlashState) (rose : Bool) (device : Device) → IsWatched old new rose device → Goes old mid → StepDone r kind after device mid
     → IsWatched mid new rose (counted kind device)

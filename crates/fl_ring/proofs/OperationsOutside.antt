@@ -11,7 +11,8 @@ use Rattle.fl_ring.specs.declared.ring.Ring.{Ring}
 use Rattle.fl_ring.specs.Place.{shape_of}
 use Rattle.fl_ring.specs.Repairing.{ahead_first}
 use Rattle.fl_ring.specs.Ring.{RingState, room, place, OnRing, OutsideStands}
-use Rattle.fl_ring.specs.Step.{IsWatched, media_reads_of, Operates, StepEnds}
+use Rattle.fl_ring.specs.Step.{media_reads_of, Operates, StepEnds}
+use Rattle.fl_frame.specs.Watched.{IsWatched}
 use Rattle.fl_ring.proofs.BlockAheadIsClean.{ahead_is}
 use Rattle.fl_ring.proofs.Devices.{Counts}
 use Rattle.fl_ring.proofs.Facts.{two_blocks, sizes}

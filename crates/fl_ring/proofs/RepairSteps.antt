@@ -6,12 +6,14 @@ use Rattle.fl_flash.specs.declared.armed.Armed.{Armed}
 use Rattle.fl_flash.specs.declared.flash.FlashFault.{FlashFault}
 use Rattle.fl_flash.specs.declared.flash.FlashFault.TheVariants.{PowerLost, Media}
 use Rattle.fl_model.specs.Work.{Kind, VoidMark, Erase, Device, counted}
-use Rattle.fl_ring.specs.Device.{ArmsAs, SameDevice}
-use Rattle.fl_ring.specs.Looking.{OnlyReads, ReadFails}
+use Rattle.fl_frame.specs.Device.{ArmsAs, SameDevice}
+use Rattle.fl_frame.specs.Reads.{OnlyReads}
+use Rattle.fl_frame.specs.Causes.{ReadFails}
 use Rattle.fl_ring.specs.Mounting.{RepairEnds}
 use Rattle.fl_ring.specs.Operations.{change, repair_kinds}
 use Rattle.fl_ring.specs.Ring.{Shape, RingState, OnRing, voided, erased}
-use Rattle.fl_ring.specs.Step.{IsWatched, StepDone, StepEnds}
+use Rattle.fl_ring.specs.Step.{StepDone, StepEnds}
+use Rattle.fl_frame.specs.Watched.{IsWatched}
 use Rattle.fl_ring.proofs.Founds.{same_pages}
 use Rattle.fl_ring.proofs.OperationsInTurn.{performed_err, performed_more, performed_none, performed_last}
 

@@ -5,24 +5,26 @@ use Rattle.fl_flash.specs.Flash.{FlashState, page_at, Goes, HasFlashCause, Progr
 use Rattle.fl_flash.specs.Places.{extent}
 use Rattle.fl_flash.specs.declared.flash.FlashFault.{FlashFault}
 use Rattle.fl_flash.specs.declared.flash.FlashFault.TheVariants.{PowerLost, Media}
-use Rattle.fl_mark.specs.Mark.{all_are}
+use Rattle.fl_frame.proofs.CallsInTurn.{cut-later, goes-then}
+use Rattle.fl_base.specs.Bytes.{all_are}
 use Rattle.fl_model.specs.Work.{Device, Body, Mark, Erase, counted}
 use Rattle.fl_ring.specs.declared.ring.Ring.{Ring}
-use Rattle.fl_ring.specs.Causes.{CausedBy}
+use Rattle.fl_frame.specs.Causes.{CausedBy}
 use Rattle.fl_ring.specs.Newest.{number_of}
 use Rattle.fl_ring.specs.Place.{shape_of, end_of, LiesOn}
 use Rattle.fl_ring.specs.Operations.{change}
 use Rattle.fl_ring.specs.Ring.{RingState, place, begun, sealed}
 use Rattle.fl_ring.specs.Sealing.{IsReady, Seals, SealCalls, BodyEnds, MarkEnds, MarkFollows, BodyLost, SealsPage}
-use Rattle.fl_ring.specs.Step.{IsWatched, StepDone, StepEnds}
+use Rattle.fl_ring.specs.Step.{StepDone, StepEnds}
+use Rattle.fl_frame.specs.Watched.{IsWatched}
 use Rattle.fl_ring.proofs.Begins.{begin_any, begin_bytes, begin_ok, begin_exact}
 use Rattle.fl_ring.proofs.Commits.{commit_any, commit_ok, commit_exact}
 use Rattle.fl_ring.proofs.Exists.{lies_exists, lies_still}
 use Rattle.fl_ring.proofs.Numbered.{numbered_begun}
 use Rattle.fl_ring.proofs.OperationsOutside.{operates_program, step_program, others_by}
 use Rattle.fl_ring.proofs.Outcomes.{on_ok_from, ok_at}
-use Rattle.fl_ring.proofs.OperationsInTurn.{performed_err, watched_first, watched_then}
-use Rattle.fl_ring.proofs.ReadsInTurn.{goes_more}
+use Rattle.fl_ring.proofs.OperationsInTurn.{performed_err, watched_then}
+use Rattle.fl_frame.proofs.WatchedInTurn.{watched-first}
 use Rattle.fl_ring.proofs.SealSteps.{seals_of, begun_stands, mark_failed}
 use Rattle.fl_ring.proofs.Sums.{outside_more}
 
@@ -78,7 +80,7 @@ caused_then : (f mid g : FlashState) (result : Result (Unit {0}) FlashFault) →
 caused_then f mid g (Ok u) goes on cause = tt
 caused_then f mid g (Err PowerLost) goes on cause = elim (cause.power refl) [
   | inl off ↦ absurd (cc (off, on))
-  | inr rose ↦ inr (omega (arith, rose, goes.cuts))
+  | inr cut ↦ inr (cut-later f mid g goes cut)
 ]
 caused_then f mid g (Err Media) goes on cause = let rose = cause.media refl in omega (arith, rose, goes.faults)
 
@@ -99,7 +101,7 @@ module _ (ring : Ring) (body : List ℕ) (f g : FlashState) (result : Result (Un
       let first = m.body_first.operates in
       let second = m.mark_then.operates in
       record {
-        goes = goes_more f m.begun g first.goes second.goes;
+        goes = goes-then f m.begun g first.goes second.goes;
         outside = outside_more (shape_of ring) f m.begun g first.goes first.outside second.outside;
         cause = caused_then f m.begun g result first.goes first.cause.on second.cause;
         off = λ is_off. absurd (let h = (first.off is_off).0 in cc h);
@@ -132,7 +134,7 @@ module _ (ring : Ring) (body : List ℕ) (f g : FlashState) (size : length body 
 
   module _ (result : Result (Unit {0}) FlashFault) (m : MarkFollows ring body f result g) where
     pub first_step : StepDone (shape_of ring) Body (begun s) device m.begun
-    first_step = m.body_first.step s rose device ready (watched_first f m.begun g rose device watched m.mark_then.operates.goes)
+    first_step = m.body_first.step s rose device ready (watched-first f m.begun g rose device watched m.mark_then.operates.goes)
 
     pub second_step : StepEnds (shape_of ring) Mark (begun s) (sealed (shape_of ring) (begun s) body) rose (counted Body device) result g
     second_step =

@@ -13,9 +13,10 @@ use Rattle.fl_flash.specs.declared.tear.Tear.{Tear}
 use Rattle.fl_flash.specs.declared.tear.Tear.TheVariants.{Kind, Bytes}
 use Rattle.fl_model.specs.Work as work
 use Rattle.fl_model.specs.Work.{Device, Ending, Either, Leaves, ending_of}
-use Rattle.fl_ring.specs.Device.{TearsAs, ArmsAs}
+use Rattle.fl_frame.specs.Device.{TearsAs, ArmsAs}
 use Rattle.fl_ring.specs.Ring.{Shape, RingState, OnRing}
-use Rattle.fl_ring.specs.Step.{IsWatched, StepEnds}
+use Rattle.fl_ring.specs.Step.{StepEnds}
+use Rattle.fl_frame.specs.Watched.{IsWatched}
 use Rattle.fl_ring.proofs.Devices.{Counts, Cut, cut_or_not, device_counted, device_fired}
 
 -- a state that this ending may leave, and that the pages stand for

@@ -7,7 +7,7 @@ use Rattle.fl_model.specs.Work.{Body, Mark, Erase}
 use Rattle.fl_ring.specs.Ring.{Shape, OutsideStands}
 use Rattle.fl_ring.specs.Sealing.{SealWork}
 use Rattle.fl_ring.specs.Step.{Operates}
-use Rattle.fl_ring.proofs.Caused.{was_on}
+use Rattle.fl_frame.proofs.ReadsInTurn.{was_on}
 
 pub outside_more : (r : Shape) (a b c : FlashState) → Goes a b → (IsTrue a.media.tells → OutsideStands r (page_at a) (page_at b)) → (IsTrue b.media.tells → OutsideStands r (page_at b) (page_at c))
     → IsTrue a.media.tells → OutsideStands r (page_at a) (page_at c)

@@ -1,21 +1,13 @@
 -- How one operation on a ring ends.
 use Rattle.std.specs.Prelude.{◌≡◌, ℕ, ◌+◌, ◌≤◌, Bool, true, false, IsTrue, if◌then◌else◌, Some, None, Result, Ok, Err}
-use Rattle.fl_base.specs.Causes.{Rose}
 use Rattle.fl_base.specs.declared.types.CutKind.{CutKind}
 use Rattle.fl_flash.specs.Flash.{FlashState, page_at, Goes, HasFlashCause, OffChangesNothing}
 use Rattle.fl_flash.specs.Media.{next_count}
 use Rattle.fl_flash.specs.declared.flash.FlashFault.{FlashFault}
 use Rattle.fl_flash.specs.declared.flash.FlashFault.TheVariants.{PowerLost, Media}
 use Rattle.fl_model.specs.Work.{Kind, Body, Device, Either, Leaves, is_erase, ending_of, cut_now, counted, fired}
-use Rattle.fl_ring.specs.Device.{SameDevice}
+use Rattle.fl_frame.specs.Device.{SameDevice}
 use Rattle.fl_ring.specs.Ring.{Shape, RingState, OnRing, OutsideStands}
-
--- The medium tells its bytes, and the call finds the power on. `rose` is true where the medium's faults rose in it.
-pub record IsWatched (old new : FlashState) (rose : Bool) (device : Device) : Type 0 where
-  pub told : IsTrue old.media.tells
-  pub on : old.is_on ≡ true
-  pub risen : Rose old.media.faults new.media.faults → IsTrue rose
-  pub counts : SameDevice old device
 
 -- a program of a body may read the medium once
 abbrev pub media_reads_of : Kind → ℕ

@@ -1,13 +1,14 @@
 // The four operations on the pages of a ring.
 ghost use Rattle.std.specs.Prelude.{◌≡◌, ◌<◌, ◌+◌, ◌-◌, ◌*◌, ◌/◌, ◌%◌, ◌^◌, ◌++◌, ℕ, List, Bool, true, false, length, replicate, IsTrue, OnOk};
 ghost use Rattle.fl_flash.specs.Flash.{page_at, ProgramsPage, ErasesBlock};
-ghost use Rattle.fl_mark.specs.Mark.{all_are};
+ghost use Rattle.fl_base.specs.Bytes.{all_are};
 ghost use Rattle.fl_model.specs.Work.{Device, Body, Mark, VoidMark, Erase};
 ghost use Rattle.fl_ring.specs.Newest.{number_of};
 ghost use Rattle.fl_ring.specs.Place.{shape_of, StandsFor, LiesOn};
 ghost use Rattle.fl_ring.specs.Ring.{RingState, OnRing, place, blank_end, begun, sealed, voided, erased};
 ghost use Rattle.fl_ring.specs.Sealing.{SealsPage};
-ghost use Rattle.fl_ring.specs.Step.{IsWatched, Operates, StepEnds};
+ghost use Rattle.fl_ring.specs.Step.{Operates, StepEnds};
+ghost use Rattle.fl_frame.specs.Watched.{IsWatched};
 
 use crate::ring::Ring;
 use fl_flash::{Flash, FlashFault};

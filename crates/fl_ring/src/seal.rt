@@ -2,12 +2,13 @@
 ghost use Rattle.std.specs.Prelude.{◌≡◌, ◌<◌, ◌≤◌, ◌+◌, ◌-◌, ◌^◌, ℕ, Bool, length, IsTrue, IfErr, OnOk};
 ghost use Rattle.fl_flash.specs.Flash.{page_at, Goes, OffChangesNothing};
 ghost use Rattle.fl_model.specs.Work.{Device};
-ghost use Rattle.fl_ring.specs.Causes.{CausedBy};
+ghost use Rattle.fl_frame.specs.Causes.{CausedBy};
 ghost use Rattle.fl_ring.specs.Newest.{number_of};
 ghost use Rattle.fl_ring.specs.Place.{shape_of, next_of, oldest_of, StandsFor, LiesOn};
 ghost use Rattle.fl_ring.specs.Ring.{RingState, IsRing, OutsideStands, oldest, place, is_due_at, sealed, erased};
 ghost use Rattle.fl_ring.specs.Sealing.{IsReady, Seals, SealWork, SealCalls};
-ghost use Rattle.fl_ring.specs.Step.{IsWatched};
+ghost use Rattle.fl_frame.specs.Watched.{IsWatched};
+ghost use Rattle.fl_ring.specs.Written.{MaySeal, Writes, done};
 
 use crate::ring::Ring;
 use fl_flash::{Flash, FlashFault};
@@ -27,6 +28,7 @@ impl Ring {
         ensures seals { (s : RingState) → (rose : Bool) → (device : Device) → IsReady self.old (F.state flash.old) s → IsWatched (F.state flash.old) (F.state flash.new) rose device
             → Seals s body.now rose device self.old result self.new (F.state flash.new) }
         ensures calls { SealCalls (shape_of self.old) (next_of self.old) (is_due_at (shape_of self.old) (next_of self.old + 1) (next_of self.old + 1 - oldest_of self.old)) body.now (F.state flash.old) result (F.state flash.new) }
+        ensures writes { Writes (MaySeal self.old) (done result) 1 (F.state flash.old) (F.state flash.new) }
         ensures numbers { OnOk result ((s : RingState) → StandsFor self.old s → IsRing (shape_of self.old) s → StandsFor self.new (erased (sealed (shape_of self.old) s body.now))) }
         ensures keeps { OnOk result (IsTrue (F.state flash.old).media.tells → (s : RingState) → IsReady self.old (F.state flash.old) s → (n : ℕ) → oldest (sealed (shape_of self.old) s body.now) ≤ n → n < s.next
             → page_at (F.state flash.new) (place (shape_of self.old) n) ≡ page_at (F.state flash.old) (place (shape_of self.old) n)) }

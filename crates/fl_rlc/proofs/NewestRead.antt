@@ -13,8 +13,9 @@ use Rattle.fl_model.specs.Record.{Plan, RowLayout, row_layout, layout_len, row_l
 use Rattle.fl_model.specs.Table as model
 use Rattle.fl_model.specs.Work.{Device}
 use Rattle.fl_page.specs.Page.{rows_in}
-use Rattle.fl_ring.specs.Device.{SameDevice, ArmsAs}
-use Rattle.fl_ring.specs.Looking.{OnlyReads, ReadFails}
+use Rattle.fl_frame.specs.Device.{SameDevice, ArmsAs}
+use Rattle.fl_frame.specs.Reads.{OnlyReads}
+use Rattle.fl_frame.specs.Causes.{ReadFails}
 use Rattle.fl_schema.specs.Schema.{types_of}
 use Rattle.fl_table.specs.BlobAt.{has_blobs}
 use Rattle.fl_table.specs.Causes.{IfFlash, IfPage, is_of_pages}

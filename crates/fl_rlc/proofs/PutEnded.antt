@@ -12,7 +12,7 @@ use Rattle.fl_model.specs.Table as model
 use Rattle.fl_model.specs.Table.{Table, Refusal, BadKey, BadColumns, BadValue, BadBlob, put_record, refusal_of, first_of, refuse_if, is_ring_spent}
 use Rattle.fl_model.specs.Work.{Device}
 use Rattle.fl_model.proofs.Bare.{bare-tables}
-use Rattle.fl_ring.specs.Step.{IsWatched}
+use Rattle.fl_frame.specs.Watched.{IsWatched}
 use Rattle.fl_table.specs.Look.{layout_in}
 use Rattle.fl_table.specs.Mounting.{OutsideStands}
 use Rattle.fl_table.specs.Outcomes as bare_outcomes

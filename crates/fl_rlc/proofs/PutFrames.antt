@@ -4,7 +4,7 @@ use Rattle.std.proofs.Math.IntN.{ℤ}
 use Rattle.std.proofs.Props.{props}
 use Rattle.std.specs.Prelude.{IfSome}
 use Rattle.std.specs.Option.{ForSome}
-use Rattle.fl_flash.specs.Flash.{FlashState, Goes}
+use Rattle.fl_flash.specs.Flash.{FlashState, StaysWith}
 use Rattle.fl_model.specs.Record.{RowLayout, layout_len}
 use Rattle.fl_base.specs.declared.types.RingPlace.{RingPlace}
 use Rattle.fl_ring.specs.Place as place
@@ -58,7 +58,7 @@ log-self None = tt
 log-self (Some l) = record { geometry = refl; place = refl }
 
 -- a log lies on a flash after a call of another
-pub log-moved : (l : RecordLog) (f g : FlashState) → Goes f g → LiesOn l f → LiesOn l g
+pub log-moved : {Power : Type 0} (l : RecordLog) (f g : FlashState) → StaysWith Power f g → LiesOn l f → LiesOn l g
 log-moved l f g goes h = record {
   geometry = goes.geometry ∙ h.geometry;
   within = omega (arith, h.within, goes.blocks);
@@ -68,7 +68,7 @@ log-moved l f g goes h = record {
       record { page = ap (λ x. x.page) goes.geometry ∙ r.page; block = ap (λ x. x.block) goes.geometry ∙ r.block; within = omega (arith, r.within, goes.blocks) };
 }
 
-pub log-lies : (o : Option RecordLog) (f g : FlashState) → Goes f g → ForSome o (λ l. LiesOn l f) → ForSome o (λ l. LiesOn l g)
+pub log-lies : {Power : Type 0} (o : Option RecordLog) (f g : FlashState) → StaysWith Power f g → ForSome o (λ l. LiesOn l f) → ForSome o (λ l. LiesOn l g)
 log-lies o f g goes lies = λ l is. log-moved l f g goes (lies l is)
 
 pub blobs-same : {KNOTS SLOTS : ℕ} (t u : code.Table KNOTS SLOTS) → table_words.IsSamePlan t u → has_blobs u ≡ has_blobs t

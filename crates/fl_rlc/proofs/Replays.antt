@@ -14,7 +14,7 @@ use Rattle.fl_model.specs.Work.{Device, PartEnd, Whole, CutIn, FailedIn, PartPro
 use Rattle.fl_model.proofs.Among.{seals-all_done}
 use Rattle.fl_model.proofs.Bare.{bare-tables}
 use Rattle.fl_model.proofs.Performs.{performs-whole}
-use Rattle.fl_ring.specs.Device.{SameDevice}
+use Rattle.fl_frame.specs.Device.{SameDevice}
 use Rattle.fl_ring.specs.Ring as ring
 use Rattle.fl_ring.specs.declared.fault.RingFault.{RingFault}
 use Rattle.fl_ring.specs.declared.fault.RingFault.TheVariants as ring_fault

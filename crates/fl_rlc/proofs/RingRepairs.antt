@@ -6,6 +6,7 @@ use Rattle.std.proofs.lemmas.Bool.Decides.{eqb_tells}
 use Rattle.std.proofs.Math.Dec.{eqb}
 use Rattle.fl_base.specs.declared.types.Geometry.{Geometry}
 use Rattle.fl_flash.specs.Flash.{FlashState, Goes, page_at, Programmed, Erased, programmed, blank}
+use Rattle.fl_frame.proofs.CallsInTurn.{goes-then, goes-same}
 use Rattle.fl_mark.specs.Mark.{state_of_page}
 use Rattle.fl_mark.specs.declared.page_state.PageState.TheVariants.{Torn}
 use Rattle.fl_ring.specs.Head.{one}
@@ -15,7 +16,6 @@ use Rattle.fl_ring.specs.Repairing.{ahead_first, VoidsNext, CleansAhead}
 use Rattle.fl_ring.specs.Ring.{Shape, place, room}
 use Rattle.fl_ring.specs.declared.ring.Ring.{Ring}
 use Rattle.fl_ring.proofs.Founds.{same_pages}
-use Rattle.fl_ring.proofs.ReadsInTurn.{goes_more, goes_same}
 use Rattle.fl_ring.proofs.TornPages.{torn_there}
 use Rattle.fl_rlc.specs.Left.{IsRepaired}
 
@@ -102,19 +102,19 @@ module _ (r : Shape) (some : 0 < r.blocks) (some-pages : 0 < r.per_block) where
   voids-next : (next : ℕ) (torn : Bool) (old new : FlashState) → IsTrue old.media.tells → (torn ≡ true → state_at old (place r next) ≡ Torn) → VoidsNext r next torn old new → AreRepaired r old new
   voids-next next true old new told is_torn h = (h.goes, voids-page r.size r.first (r.first + room r) (place r next) (page_at old) (page_at new) (omega arith) (place-within next) (is_torn refl) (h.ok told))
   voids-next next false old new told is_torn h = (
-    subst (λ (f : FlashState). Goes old f) (sym h) (goes_same old),
+    subst (λ (f : FlashState). Goes old f) (sym h) (goes-same old),
     subst (λ (f : FlashState). Repairs r.size r.first (r.first + room r) (page_at old) (page_at f)) (sym h) (repairs-none r.size r.first (r.first + room r) (page_at old)),
   )
 
   -- where the block ahead is erased then
   cleans-ahead : (next : ℕ) (old mid new : FlashState) → IsTrue old.media.tells → old.geometry.block ≡ r.per_block → old.geometry.page ≡ r.size → AreRepaired r old mid → CleansAhead r next mid (Ok tt) new → AreRepaired r old new
   cleans-ahead next old mid new told block page h (inl leaves) = (
-    goes_more old mid new h.0 leaves.looks.goes,
+    goes-then old mid new h.0 leaves.looks.goes,
     subst (λ (at : ℕ → List ℕ). Repairs r.size r.first (r.first + room r) (page_at old) at) (sym (same_pages mid new r.per_block leaves.looks)) h.1,
   )
   cleans-ahead next old mid new told block page h (inr erase) =
       let seen = erase.seen in
-      let goes = goes_more old mid seen h.0 erase.looks.goes in
+      let goes = goes-then old mid seen h.0 erase.looks.goes in
       let erased = erase.erases.ok (subst IsTrue (sym goes.tells) told) in
       let block' : seen.geometry.block ≡ r.per_block = ap (λ (g : Geometry). g.block) goes.geometry ∙ block in
       let page' : seen.geometry.page ≡ r.size = ap (λ (g : Geometry). g.page) goes.geometry ∙ page in
@@ -122,7 +122,7 @@ module _ (r : Shape) (some : 0 < r.blocks) (some-pages : 0 < r.per_block) where
       subst (λ (k : ℕ). Erased (page_at seen) k r.per_block r.size (page_at new)) erase.at
       (subst (λ (k : ℕ). Erased (page_at seen) (erase.block * k) k r.size (page_at new)) block'
       (subst (λ (z : ℕ). Erased (page_at seen) (erase.block * seen.geometry.block) seen.geometry.block z (page_at new)) page' erased)) in (
-        goes_more old seen new goes erase.erases.goes,
+        goes-then old seen new goes erase.erases.goes,
         erases-block r.size r.first (r.first + room r) (ahead_first r next) r.per_block (page_at old) (page_at seen) (page_at new) (omega arith) (ahead-within next)
             (subst (λ (at : ℕ → List ℕ). Repairs r.size r.first (r.first + room r) (page_at old) at) (sym (same_pages mid seen r.per_block erase.looks)) h.1) there,
       )
@@ -134,6 +134,6 @@ module _ (r : Shape) (some : 0 < r.blocks) (some-pages : 0 < r.per_block) where
       let is_torn = torn_there old r least some h.numbers (h.is_found told) in
       let voided = voids-next h.numbers.next h.numbers.torn found h.repairs.voided told' (λ e. ap (λ (pages : ℕ → List ℕ). state_of_page (pages (place r h.numbers.next))) (same_pages old found _ h.looks) ∙ is_torn e) h.repairs.voids in
       let all = cleans-ahead (h.numbers.next + one h.numbers.torn) found h.repairs.voided new told' (ap (λ (g : Geometry). g.block) h.looks.goes.geometry ∙ block) (ap (λ (g : Geometry). g.page) h.looks.goes.geometry ∙ page) voided h.repairs.cleans in (
-        goes_more old found new h.looks.goes all.0,
+        goes-then old found new h.looks.goes all.0,
         subst (λ (at : ℕ → List ℕ). Repairs r.size r.first (r.first + room r) at (page_at new)) (same_pages old found _ h.looks) all.1,
       )

@@ -5,16 +5,16 @@ use Rattle.std.proofs.Math.Nat.{mul-le-mul_right, add-mul}
 use Rattle.std.proofs.lemmas.Bool.{ltb-true}
 use Rattle.fl_base.specs.declared.types.Geometry.{Geometry}
 use Rattle.fl_flash.specs.Flash.{FlashState, Goes, page_at}
+use Rattle.fl_frame.proofs.CallsInTurn.{goes-then, goes-same}
 use Rattle.fl_index.specs.Memory as memory
 use Rattle.fl_index.specs.declared.index.BitmapIndex.{BitmapIndex}
 use Rattle.fl_index.proofs.SealEnds.{planned-ring as index-ring}
 use Rattle.fl_model.specs.Record.{Plan, blocks_of}
-use Rattle.fl_ring.specs.Looking.{OnlyReads}
+use Rattle.fl_frame.specs.Reads.{OnlyReads}
 use Rattle.fl_ring.specs.Mounting.{HasNumbers}
 use Rattle.fl_ring.specs.Ring.{Shape}
 use Rattle.fl_ring.specs.declared.ring.Ring.{Ring}
 use Rattle.fl_ring.proofs.Founds.{same_pages}
-use Rattle.fl_ring.proofs.ReadsInTurn.{goes_more, goes_same}
 use Rattle.fl_table.specs.Bitmaps.{ArePlanned}
 use Rattle.fl_table.specs.BlobEnds.{least_of}
 use Rattle.fl_table.specs.BlobMount.{FindsBlobs}
@@ -40,11 +40,11 @@ shape_from plan at blocks = record { first = at * plan.geometry.block; blocks = 
 
 none-there : (plan : Plan) (at blocks : ℕ) (old new : FlashState) → new ≡ old → RepairsBlocks plan at blocks old new
 none-there plan at blocks old new e =
-    subst (λ (f : FlashState). RepairsBlocks plan at blocks old f) (sym e) (goes_same old, repairs-none plan.geometry.page (at * plan.geometry.block) ((at + blocks) * plan.geometry.block) (page_at old))
+    subst (λ (f : FlashState). RepairsBlocks plan at blocks old f) (sym e) (goes-same old, repairs-none plan.geometry.page (at * plan.geometry.block) ((at + blocks) * plan.geometry.block) (page_at old))
 
 then-read : (plan : Plan) (at blocks n : ℕ) (old mid new : FlashState) → RepairsBlocks plan at blocks old mid → OnlyReads mid n new → RepairsBlocks plan at blocks old new
 then-read plan at blocks n old mid new h reads = (
-  goes_more old mid new h.0 reads.goes,
+  goes-then old mid new h.0 reads.goes,
   subst (λ (pages : ℕ → List ℕ). Repairs plan.geometry.page (at * plan.geometry.block) ((at + blocks) * plan.geometry.block) (page_at old) pages) (sym (same_pages mid new n reads)) h.1,
 )
 
@@ -91,11 +91,11 @@ table-found t u first plan old new mounted planned told geometry h =
     let found = ring-found plan shape.pages first plan.data_blocks (unwrap_or h.end 0) (ring_shape t) rows.ring h.indexed reads.repaired (planned-ring t first plan planned) (omega (arith, shape.blocks)) (subst IsTrue (sym index.0.tells) told)
     (index.0.geometry ∙ geometry) reads.numbers in
     let pages = then-read plan first plan.data_blocks _ h.indexed reads.repaired rows.between found reads.reads in
-    let goes = goes_more old h.indexed rows.between index.0 pages.0 in
+    let goes = goes-then old h.indexed rows.between index.0 pages.0 in
     let var = var-found plan shape.pages t.blobs u.blobs rows.between new (least_of rows.end) (first + plan.data_blocks + plan.index_blocks) planned.var (subst IsTrue (sym goes.tells) told) (goes.geometry ∙ geometry) rows.blobs in
     let both = repairs-first plan.geometry.page (first * block) ((first + plan.data_blocks) * block) ((first + plan.data_blocks + plan.index_blocks) * block) (page_at old) (page_at h.indexed) (page_at rows.between)
     (mul-le-mul_right block (omega arith)) (mul-le-mul_right block (omega arith)) index.1 pages.1 in
     let all = repairs-then plan.geometry.page (first * block) ((first + plan.data_blocks + plan.index_blocks) * block) ((first + plan.data_blocks + plan.index_blocks + plan.var_blocks) * block) (page_at old) (page_at rows.between) (page_at new)
     (mul-le-mul_right block (omega arith)) (mul-le-mul_right block (omega arith)) both var.1 in
     let end : first + plan.data_blocks + plan.index_blocks + plan.var_blocks ≡ first + blocks_of plan = omega (arith, planned.log) in
-    (goes_more old rows.between new goes var.0, subst (λ (n : ℕ). Repairs plan.geometry.page (first * block) (n * block) (page_at old) (page_at new)) end all)
+    (goes-then old rows.between new goes var.0, subst (λ (n : ℕ). Repairs plan.geometry.page (first * block) (n * block) (page_at old) (page_at new)) end all)

@@ -5,9 +5,9 @@ use Rattle.fl_flash.specs.declared.flash.FlashFault.{FlashFault}
 use Rattle.fl_index.specs.Memory.{ring_shape as index_shape}
 use Rattle.fl_model.specs.Record.{RowLayout}
 use Rattle.fl_page.specs.Page.{rows_in}
-use Rattle.fl_ring.specs.Causes.{CausedBy}
+use Rattle.fl_frame.specs.Causes.{CausedBy, ReadFails}
 use Rattle.fl_ring.specs.Finding.{FoundFault}
-use Rattle.fl_ring.specs.Looking.{OnlyReads, ReadFails}
+use Rattle.fl_frame.specs.Reads.{OnlyReads}
 use Rattle.fl_ring.specs.Mounting.{FailsAs}
 use Rattle.fl_ring.specs.declared.fault.RingFault.{RingFault}
 use Rattle.fl_ring.specs.declared.newest.NewestPage.{NewestPage}

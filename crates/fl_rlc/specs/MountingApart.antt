@@ -10,7 +10,7 @@ use Rattle.fl_model.specs.Table as model
 use Rattle.fl_model.specs.Table.{is_rows_spent, lose}
 use Rattle.fl_model.specs.Within.{TableMounts, TableMounted, TableStopped, TableUnread}
 use Rattle.fl_model.specs.Work.{Device, PartProgress}
-use Rattle.fl_ring.specs.Device.{SameDevice}
+use Rattle.fl_frame.specs.Device.{SameDevice}
 use Rattle.fl_table.specs.Outcomes.{FaultEnds, mounted_of}
 use Rattle.fl_table.specs.Pages as pages
 use Rattle.fl_table.specs.Standing as without_log

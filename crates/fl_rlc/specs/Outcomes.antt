@@ -12,7 +12,7 @@ use Rattle.fl_model.specs.Table as model
 use Rattle.fl_model.specs.Table.{LogRing, refusal_of, put_record, table_seals, flushed, lose}
 use Rattle.fl_model.specs.Within.{TableMounts, TableMounted, TableStopped, TableUnread}
 use Rattle.fl_model.specs.Work.{Device, Whole, PartProgress}
-use Rattle.fl_ring.specs.Device.{SameDevice}
+use Rattle.fl_frame.specs.Device.{SameDevice}
 use Rattle.fl_ring.specs.Kept.{PagesStand}
 use Rattle.fl_table.specs.Outcomes.{BySeals, FaultEnds, mounted_of}
 use Rattle.fl_table.specs.Pages.{KeptStand, bytes_in}

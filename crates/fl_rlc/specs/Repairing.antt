@@ -11,7 +11,7 @@ use Rattle.fl_model.specs.Table as model
 use Rattle.fl_model.specs.Table.{LogRing, has_rows, log_pages}
 use Rattle.fl_model.specs.Work.{Device, Whole, PartProgress}
 use Rattle.fl_model.specs.Within.{TablePerforms, TableUnreads, repair_within}
-use Rattle.fl_ring.specs.Device.{SameDevice}
+use Rattle.fl_frame.specs.Device.{SameDevice}
 use Rattle.fl_ring.specs.Mounting.{HasNumbers}
 use Rattle.fl_ring.specs.Newest.{NewestAmong}
 use Rattle.fl_ring.specs.Place.{next_of, oldest_of}

@@ -12,7 +12,7 @@ use Rattle.fl_model.specs.Table.{LogRing, has_rows, is_rows_spent, log_pages, lo
 use Rattle.fl_model.specs.Within.{TableMounts, TableMounted, TableStopped, TableUnread}
 use Rattle.fl_model.specs.Work.{Device, PartProgress}
 use Rattle.fl_page.specs.Page.{IsGoodPage, bad_page, rows_in}
-use Rattle.fl_ring.specs.Device.{SameDevice}
+use Rattle.fl_frame.specs.Device.{SameDevice}
 use Rattle.fl_table.specs.Outcomes.{FaultEnds}
 use Rattle.fl_table.specs.Pages as pages
 use Rattle.fl_table.specs.Reading.{keys_fault}

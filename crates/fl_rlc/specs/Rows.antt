@@ -9,7 +9,7 @@ use Rattle.fl_model.specs.Table.{pending_entries}
 use Rattle.fl_model.specs.Work.{Device}
 use Rattle.fl_page.specs.Writer.{Gathers}
 use Rattle.fl_ring.specs.Ring as ring
-use Rattle.fl_ring.specs.Step.{IsWatched}
+use Rattle.fl_frame.specs.Watched.{IsWatched}
 use Rattle.fl_rlc.specs.Memory.{next_in, rows_in, kept_rows, log_shape, IsSamePlan}
 use Rattle.fl_rlc.specs.Pages.{IsPage}
 use Rattle.fl_rlc.specs.Sealing.{SealEnds}

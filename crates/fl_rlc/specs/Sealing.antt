@@ -9,7 +9,7 @@ use Rattle.fl_model.specs.Table as model
 use Rattle.fl_model.specs.Table.{LogRing, after_seal, has_rows, log_pages, pending_entries}
 use Rattle.fl_model.specs.Within.{TablePerforms, seal_within}
 use Rattle.fl_model.specs.Work.{Device, Whole, PartProgress}
-use Rattle.fl_ring.specs.Device.{SameDevice}
+use Rattle.fl_frame.specs.Device.{SameDevice}
 use Rattle.fl_ring.specs.Kept.{PagesStand}
 use Rattle.fl_table.specs.Outcomes.{FaultEnds}
 use Rattle.fl_rlc.specs.Memory.{page_in}

@@ -11,7 +11,7 @@ ghost use Rattle.fl_model.specs.Table.{Entry};
 ghost use Rattle.fl_model.specs.Work.{Device};
 ghost use Rattle.fl_page.specs.Header.{page_count};
 ghost use Rattle.fl_page.specs.Page.{IsGoodPage, rows_in};
-ghost use Rattle.fl_ring.specs.Step.{IsWatched};
+ghost use Rattle.fl_frame.specs.Watched.{IsWatched};
 ghost use Rattle.fl_schema.specs.Schema.{layout_of_row, row_of};
 ghost use Rattle.fl_table.specs.BlobAt.{has_blobs};
 ghost use Rattle.fl_table.specs.Look.{layout_in};

@@ -1,9 +1,10 @@
 // The mount of a log.
 ghost use Rattle.std.specs.Prelude.{◌≡◌, ◌+◌, ◌<◌, ◌≤◌, None, Some, is_ok, length, [], IsTrue, IfOk, IfErr, OnOk};
 ghost use Rattle.fl_flash.specs.Flash.{Goes, page_at};
-ghost use Rattle.fl_ring.specs.Causes.{CausedBy, IfFlash};
+ghost use Rattle.fl_ring.specs.Causes.{IfFlash};
+ghost use Rattle.fl_frame.specs.Causes.{CausedBy, ReadFails};
 ghost use Rattle.fl_ring.specs.Finding.{FoundFault};
-ghost use Rattle.fl_ring.specs.Looking.{OnlyReads, ReadFails};
+ghost use Rattle.fl_frame.specs.Reads.{OnlyReads};
 ghost use Rattle.fl_ring.specs.Mounting.{search_reads, FailsAs};
 ghost use Rattle.fl_ring.specs.Repairing.{Beside};
 
@@ -19,7 +20,7 @@ impl RecordLog {
     ghost use Rattle.fl_model.specs.Table.{LogRing, shape_of};
     ghost use Rattle.fl_model.specs.Work.{Device};
     ghost use Rattle.fl_page.specs.Writer.{Gathers};
-    ghost use Rattle.fl_ring.specs.Step.{IsWatched};
+    ghost use Rattle.fl_frame.specs.Watched.{IsWatched};
     ghost use Rattle.fl_rlc.specs.Memory.{is_mounted, rows_in, log_shape, page_in, IsSamePlan, LiesOn};
     ghost use Rattle.fl_rlc.specs.Repairing.{Finds, Rests, MountEnds};
 

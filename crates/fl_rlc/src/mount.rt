@@ -33,7 +33,7 @@ impl<const KNOTS: usize, const SLOTS: usize> LoggedTable<KNOTS, SLOTS> {
     ghost use Rattle.std.specs.Prelude.{Bool};
     ghost use Rattle.fl_model.specs.MountLimit.{mount_limit};
     ghost use Rattle.fl_model.specs.Work.{Device};
-    ghost use Rattle.fl_ring.specs.Step.{IsWatched};
+    ghost use Rattle.fl_frame.specs.Watched.{IsWatched};
     ghost use Rattle.fl_rlc.specs.Left.{LeavesPages};
     ghost use Rattle.fl_rlc.specs.Logged.{Rests};
     ghost use Rattle.fl_rlc.specs.Mounting.{FindsPages, RefusesPages, pages_in};

@@ -6,7 +6,7 @@ ghost use Rattle.fl_model.specs.Record.{Plan, layout_len};
 ghost use Rattle.fl_model.specs.Row.{FitsRow};
 ghost use Rattle.fl_model.specs.Table as model;
 ghost use Rattle.fl_model.specs.Work.{Device};
-ghost use Rattle.fl_ring.specs.Causes.{CausedBy};
+ghost use Rattle.fl_frame.specs.Causes.{CausedBy};
 ghost use Rattle.fl_schema.specs.Schema.{layout_of};
 ghost use Rattle.fl_rlc.specs.Memory.{is_mounted, page_len, LiesOn};
 ghost use Rattle.fl_rlc.specs.Refusal.{log_refused};

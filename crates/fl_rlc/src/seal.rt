@@ -1,7 +1,7 @@
 // The pages of a log.
 ghost use Rattle.std.specs.Prelude.{◌≡◌, ◌+◌, ◌<◌, ◌≤◌, true, is_ok, IsTrue, IfErr, OnOk, length};
 ghost use Rattle.fl_flash.specs.Flash.{Goes, OffChangesNothing, page_at};
-ghost use Rattle.fl_ring.specs.Causes.{CausedBy};
+ghost use Rattle.fl_frame.specs.Causes.{CausedBy};
 
 use crate::log::RecordLog;
 use fl_flash::{Flash, FlashFault};
@@ -16,7 +16,7 @@ impl RecordLog {
     ghost use Rattle.fl_model.specs.Work.{Device};
     ghost use Rattle.fl_page.specs.Writer.{Gathers};
     ghost use Rattle.fl_ring.specs.Ring.{OutsideStands};
-    ghost use Rattle.fl_ring.specs.Step.{IsWatched};
+    ghost use Rattle.fl_frame.specs.Watched.{IsWatched};
     ghost use Rattle.fl_rlc.specs.Memory.{is_mounted, next_in, rows_in, page_len, kept_rows, log_shape, IsSamePlan, LiesOn};
     ghost use Rattle.fl_rlc.specs.Sealing.{IsReady, SealEnds};
     ghost use Rattle.fl_schema.specs.Schema.{layout_of};

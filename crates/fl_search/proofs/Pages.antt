@@ -2,9 +2,9 @@
 use Rattle.std.proofs.Common.{ℕ, zero, suc, ◌≡◌, ◌<◌, ◌≤◌, ◌+◌, ◌-◌, ◌*◌, ◌^◌, max, true, false, refl, ap, ◌∙◌, arith, add-zero, Option, Some, None, ⊎_elim}
 use Rattle.std.specs.Prelude.{IfSome}
 use Rattle.std.proofs.lemmas.Bool.{cases_lt, le-leb, lt-leb}
-use Rattle.fl_model.specs.Spline.{bits}
+use Rattle.fl_base.specs.Bits.{bits}
 use Rattle.fl_search.specs.Search.{RoseSome, starts_by, IsPageOf, looked_at, Ascends, voids_from, voids_in, IsLastAt}
-use Rattle.fl_search.proofs.Bits.{bits-le, bits-half, has-digit}
+use Rattle.fl_base.proofs.BitsGrow.{bits-le, bits-half, has-digit}
 
 -- no page of a range starts by the key; all pages of a range are void
 abbrev pub NoneStarts : (ℕ → Option ℕ) → ℕ → ℕ → ℕ → Type 0

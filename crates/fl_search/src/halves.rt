@@ -1,7 +1,7 @@
 // A search by halves.
 ghost use Rattle.std.specs.Prelude.{◌≡◌, ◌+◌, ◌-◌, ◌^◌, ◌≤◌, ◌<◌, ℕ, Option, IfSome, IfOk, IfErr, OnErr, MatchResult, true};
 ghost use Rattle.fl_base.specs.Causes.{HasCause};
-ghost use Rattle.fl_model.specs.Spline.{bits};
+ghost use Rattle.fl_base.specs.Bits.{bits};
 ghost use Rattle.fl_search.specs.Search.{IsPageOf, IsLastFull, Ascends, RoseSome, starts_by, voids_in, probed};
 
 use crate::keys::FirstKeys;

@@ -11,7 +11,7 @@ use Rattle.fl_cursor.specs.declared.bookmark.Bookmark.{Bookmark}
 use Rattle.fl_cursor.specs.declared.cursor.Cursor.{Cursor}
 use Rattle.fl_flash.specs.Flash.{FlashState}
 use Rattle.fl_machine.proofs.Logs.{all_append}
-use Rattle.fl_page.specs.Contents.{Contents, OnlyReads, contents_of}
+use Rattle.fl_frame.specs.Contents.{Contents, OnlyReads, contents_of}
 use Rattle.fl_page.specs.declared.fault.BadPage.{BadPage}
 use Rattle.fl_page.specs.declared.fault.ReadFault.{ReadFault}
 use Rattle.fl_page.specs.declared.fault.ReadFault.TheVariants as fault

@@ -7,7 +7,8 @@ use Rattle.fl_flash.specs.Flash.{FlashState}
 use Rattle.fl_mark.specs.Mark.{state_of_page}
 use Rattle.fl_mark.specs.declared.page_state.PageState.TheVariants.{Committed}
 use Rattle.fl_model.specs.Layout.{committed}
-use Rattle.fl_page.specs.Contents.{IsCaused, OnlyReads}
+use Rattle.fl_page.specs.Causes.{IsCaused}
+use Rattle.fl_frame.specs.Contents.{OnlyReads}
 use Rattle.fl_page.specs.Header.{page_count}
 use Rattle.fl_page.specs.Page.{bad_page}
 use Rattle.fl_page.specs.declared.fault.BadPage.{BadPage}

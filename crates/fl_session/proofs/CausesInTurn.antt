@@ -3,7 +3,7 @@ use Rattle.std.proofs.Common.{◌≡◌, ℕ, Option, Some, Result, Ok, Err, Lis
 use Rattle.fl_base.specs.declared.stream.SinkFailed.{SinkFailed}
 use Rattle.fl_config.specs.declared.image.ImageRefusal.{ImageRefusal}
 use Rattle.fl_config.specs.declared.image.ImageRefusal.TheVariants.{Media, Other}
-use Rattle.fl_flash.specs.Flash.{Goes}
+use Rattle.fl_flash.specs.Flash.{Stays}
 use Rattle.fl_flash.specs.Media.{MediaState}
 use Rattle.fl_lines.specs.Stream.{LinesState}
 use Rattle.fl_model.specs.Record.{Config}
@@ -54,7 +54,7 @@ caused-into command old mid new told told_mid told_now result failed is powered 
 
 -- what a session that was just made executed until it ended
 pub over-session : (first : Option code.Command) (number : ℕ) (state : LinesState) (left left_now told told_now : Option (List ℕ)) (lines : Lines) (opened new : MediaState) (begin end : State) (status : Status) →
-    IsNewSession lines opened begin → Goes begin.flash end.flash → new ≡ end.flash.media → TellsRows end status →
+    IsNewSession lines opened begin → Stays begin.flash end.flash → new ≡ end.flash.media → TellsRows end status →
     RunsFrom first number state left left_now (λ commands. CausedEach commands begin end told told_now) (λ commands. CausedInto commands begin end told told_now) status →
     RunsFrom first number state left left_now (λ commands. SessionOver lines opened new (λ begin end. CausedEach commands begin end told told_now × TellsRows end status)) (λ commands. SessionOver lines opened new (λ begin end. CausedInto commands begin end told told_now)) status
 over-session first number state left left_now told told_now lines opened new begin end status begun goes left_as rows h =

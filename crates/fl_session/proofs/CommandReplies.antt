@@ -4,7 +4,7 @@ use Rattle.fl_base.specs.Causes.{Rose}
 use Rattle.fl_flash.specs.Flash.{FlashState}
 use Rattle.fl_flash.specs.Media.{MediaState}
 use Rattle.fl_model.specs.Record.{Config}
-use Rattle.fl_page.specs.Contents.{Contents, OnlyReads}
+use Rattle.fl_frame.specs.Contents.{Contents, OnlyReads}
 use Rattle.fl_words.specs.Command.{Command}
 use Rattle.fl_words.specs.Reply as reply
 use Rattle.fl_words.specs.Reply.{Reply, text, texts}

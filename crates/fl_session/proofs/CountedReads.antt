@@ -3,8 +3,9 @@ use Rattle.std.proofs.Common.{◌≡◌, ℕ, zero, suc, ◌+◌, ◌-◌, ◌^�
 use Rattle.fl_flash.specs.Flash.{FlashState}
 use Rattle.fl_flash.specs.declared.flash.Work.{Work}
 use Rattle.fl_model.specs.Record.{Config}
-use Rattle.fl_page.specs.Contents as contents
-use Rattle.fl_page.specs.Contents.{counted}
+use Rattle.fl_frame.specs.Contents as contents
+use Rattle.fl_frame.specs.Contents.{counted}
+use Rattle.fl_frame.proofs.ContentsInTurn.{counted-exact}
 use Rattle.fl_words.specs.Command as command
 use Rattle.fl_words.specs.Reply.{text}
 use Rattle.fl_machine.specs.Machine.{Machine}
@@ -16,14 +17,7 @@ use Rattle.fl_session.specs.declared.notes.Notes.{Notes}
 use Rattle.fl_session.specs.Standing.{SessionStands}
 use Rattle.fl_session.proofs.CommandReplies.{answers-saying, says}
 
--- a count that isn't at its end rose by each read
-counted-exact : (n before : ℕ) → counted n before < 2 ^ 64 - 1 → counted n before ≡ before + n
-counted-exact zero before below = omega arith
-counted-exact (suc n) before below =
-    let less : counted n before < 2 ^ 64 - 1 = omega arith in
-    omega (arith, counted-exact n before less)
-
--- .. and never fell
+-- a count never falls
 counted-least : (n before : ℕ) → before ≤ 2 ^ 64 - 1 → before ≤ counted n before
 counted-least zero before below = omega arith
 counted-least (suc n) before below = omega (arith, counted-least n before below)

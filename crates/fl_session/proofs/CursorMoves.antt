@@ -15,7 +15,7 @@ use Rattle.fl_model.specs.Query as query
 use Rattle.fl_model.specs.Query.{moved}
 use Rattle.fl_model.specs.Record.{Config, Plan}
 use Rattle.fl_model.specs.Table as model
-use Rattle.fl_page.specs.Contents.{Contents, OnlyReads}
+use Rattle.fl_frame.specs.Contents.{Contents, OnlyReads}
 use Rattle.fl_words.specs.Command as command
 use Rattle.fl_words.specs.Reply as reply
 use Rattle.fl_words.specs.Reply.{text, texts}
@@ -26,7 +26,7 @@ use Rattle.fl_machine.proofs.OpenCursors.{within-at}
 use Rattle.fl_machine.proofs.BytesStay.{moment-same}
 use Rattle.fl_model.specs.Limits.{scan_limit}
 use Rattle.fl_machine.specs.Step.{Moment, StepOf, Says, NextStep, cursor_at}
-use Rattle.fl_ring.specs.Device.{ArmsAs}
+use Rattle.fl_frame.specs.Device.{ArmsAs}
 use Rattle.fl_rlc.specs.Table.{table_in}
 use Rattle.fl_script.specs.Written.{Written}
 use Rattle.fl_table.specs.Memory.{LiesOn}

@@ -1,16 +1,16 @@
 -- The get of a session.
-use Rattle.std.proofs.Common.{◌≡◌, ℕ, Bool, true, false, ◌-◌, IsTrue, Option, Some, None, Result, ◌+◌, ◌⊎◌, List, [], ◌∷◌, length, take, drop, inl, inr, refl, sym, ◌∙◌, ap, subst, arith}
+use Rattle.std.proofs.Common.{◌≡◌, ℕ, Bool, true, false, ◌-◌, IsTrue, Option, Some, None, Result, ◌⊎◌, List, [], ◌∷◌, inl, inr, refl, sym, ◌∙◌, ap, subst, arith}
 use Rattle.fl_find.proofs.PageLooks.{looks-pages}
 use Rattle.fl_flash.specs.Flash.{FlashState, Goes, page_at}
-use Rattle.fl_flash.specs.Places.{extent}
 use Rattle.fl_flash.specs.declared.armed.Armed.{Armed}
 use Rattle.fl_flash.specs.declared.flash.Work.{Work}
+use Rattle.fl_frame.proofs.ContentsInTurn.{OnlyReads-goes}
 use Rattle.fl_model.specs.Bare.{bare, bare_table}
 use Rattle.fl_model.specs.Query.{entry_at}
 use Rattle.fl_model.specs.Record.{Config, Plan}
 use Rattle.fl_model.specs.Spline.{retained, is_covered, is_pending_key, lookup_limit, lookup_reads}
 use Rattle.fl_model.specs.Table as model
-use Rattle.fl_page.specs.Contents.{Contents, OnlyReads}
+use Rattle.fl_frame.specs.Contents.{OnlyReads}
 use Rattle.fl_words.specs.Command as command
 use Rattle.fl_words.specs.Reply as reply
 use Rattle.fl_words.specs.Reply.{Reply, texts}
@@ -19,7 +19,7 @@ use Rattle.fl_machine.specs.Reads.{OnTable, none_read}
 use Rattle.std.specs.List.{slice_get}
 use Rattle.std.specs.Prelude.{MatchBool, MatchOption, not, ◌&&◌}
 use Rattle.fl_machine.specs.Step.{Moment, Located, located, GetStep, found_reply}
-use Rattle.fl_ring.specs.Device.{ArmsAs}
+use Rattle.fl_frame.specs.Device.{ArmsAs}
 use Rattle.fl_rlc.specs.Table.{table_in}
 use Rattle.fl_script.specs.ReplyView.{reply_text}
 use Rattle.fl_script.specs.Written.{Written}
@@ -51,18 +51,7 @@ use Rattle.fl_store.proofs.Worked.{medium-goes}
 module _ (f g : FlashState) (only : OnlyReads f g) where
   -- what reads leave as it is
   pub goes-reads : Goes f g
-  goes-reads = record {
-    geometry = ap (λ (c : Contents). c.geometry) only.contents;
-    blocks = ap (λ (c : Contents). c.blocks) only.contents;
-    start = ap (λ (c : Contents). c.start) only.contents;
-    origin = only.origin;
-    tells = ap (λ (c : Contents). c.tells) only.contents;
-    size = ap (λ (c : Contents). length c.bytes) only.contents;
-    front = λ t. ap (λ (c : Contents). take f.start c.bytes) only.contents;
-    back = λ t. ap (λ (c : Contents). drop (f.start + extent f.geometry f.blocks) c.bytes) only.contents;
-    cuts = omega (arith, only.cuts);
-    faults = only.faults;
-  }
+  goes-reads = OnlyReads-goes f g only
 
   pub pages-read : page_at g ≡ page_at f
   pages-read = looks-pages f g (record { reads = only; power = only.power; cuts = only.cuts })
@@ -116,8 +105,8 @@ has-parts true covered e = cc
 has-parts false covered e = (refl, e)
 
 -- why the row isn't told
-pub look-said : (t : Table 64 64) (entry : Entry) (f g : FlashState) (said : Reply) → t ≡ table_in entry.table → LookSays t f g said → LookSays (table_in entry.table) f g said
-look-said t entry f g said is h = subst (λ (x : Table 64 64). LookSays x f g said) is h
+pub look-said : (t : Table 64 64) (entry : Entry) (key : ℕ) (f g : FlashState) (said : Reply) → t ≡ table_in entry.table → LookSays t key f g said → LookSays (table_in entry.table) key f g said
+look-said t entry key f g said is h = subst (λ (x : Table 64 64). LookSays x key f g said) is h
 
 pub reads-few : (t : Table 64 64) (entry : Entry) (f g : FlashState) → t ≡ table_in entry.table → OnlyReads f g → ReadsFew t f g → ReadsFew (table_in entry.table) f g
 reads-few t entry f g is only few = subst (λ (x : Table 64 64). ReadsFew x f g) is few

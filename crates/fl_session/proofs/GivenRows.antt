@@ -12,7 +12,7 @@ use Rattle.fl_cursor.specs.declared.bookmark.Bookmark.{Bookmark}
 use Rattle.fl_cursor.specs.declared.cursor.Cursor.{Cursor}
 use Rattle.fl_model.specs.Row.{Row}
 use Rattle.fl_model.proofs.Lists.{last_or-push}
-use Rattle.fl_page.specs.Contents.{Contents}
+use Rattle.fl_frame.specs.Contents.{Contents}
 use Rattle.fl_page.specs.Steps.{Steps}
 use Rattle.fl_page.specs.declared.fault.ReadFault.{ReadFault}
 use Rattle.fl_page.specs.declared.fault.ReadFault.TheVariants.{Flash, BadPage}

@@ -21,6 +21,7 @@ pub mod MountsOf
 pub mod ReplyCauses
 pub mod CausesInTurn
 pub mod RanTo
+pub mod WholeReads
 pub mod Calls
 pub mod Sound
 pub mod Rested

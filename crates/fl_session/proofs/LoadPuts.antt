@@ -7,7 +7,7 @@ use Rattle.std.proofs.Math.IntN.{ℤ}
 use Rattle.fl_base.specs.Causes.{Rose}
 use Rattle.fl_flash.specs.Flash.{FlashState, Goes, page_at}
 use Rattle.fl_flash.specs.declared.flash.FlashFault.{FlashFault}
-use Rattle.fl_ring.specs.Step.{IsWatched}
+use Rattle.fl_frame.specs.Watched.{IsWatched}
 use Rattle.fl_model.specs.Bare.{bare, bare_table}
 use Rattle.fl_model.specs.Record.{Config, Plan, Record}
 use Rattle.fl_model.specs.Table as model

@@ -1,12 +1,9 @@
 -- The records of a load, put one after another, and what became of the next one.
-use Rattle.std.proofs.Common.{◌≡◌, ◌⊎◌, ℕ, suc, ◌+◌, Bool, true, false, inl, inr, Option, None, Some, Result, Ok, Err, IfErr, List, [], ◌∷◌, ◌++◌, refl, sym, ◌∙◌, ap, subst, arith}
+use Rattle.std.proofs.Common.{◌≡◌, ℕ, suc, ◌+◌, true, false, Option, None, Some, Result, Ok, Err, IfErr, List, [], ◌∷◌, ◌++◌, refl, sym, ◌∙◌, ap, subst, arith}
 use Rattle.std.specs.Prelude.{is_err, OnOk, ℤ}
-use Rattle.fl_base.specs.Causes.{Rose}
 use Rattle.fl_flash.specs.Flash.{FlashState, Goes}
-use Rattle.fl_flash.specs.declared.flash.FlashFault.{FlashFault}
-use Rattle.fl_flash.specs.declared.flash.FlashFault.TheVariants.{PowerLost, Media}
 use Rattle.fl_model.specs.Row.{Row}
-use Rattle.fl_ring.specs.Causes.{CausedBy}
+use Rattle.fl_frame.proofs.WatchedInTurn.{cause-later}
 use Rattle.fl_rlc.specs.Refusal.{NeedsNoOperation, RefusedSame, put_refusal}
 use Rattle.fl_rlc.specs.Rows.{HaveLogged}
 use Rattle.fl_rlc.specs.Table.{IsSamePlan, log_in, table_in}
@@ -17,7 +14,6 @@ use Rattle.fl_table.specs.Memory.{HasRoom, PendingAre, pending_in}
 use Rattle.fl_table.specs.Refusal.{RefusesAs}
 use Rattle.fl_table.specs.declared.faults.PutRefusal.{PutRefusal}
 use Rattle.fl_table.specs.declared.faults.PutRefusal.TheVariants as put
-use Rattle.fl_store.proofs.CallsInTurn.{rose-back}
 use Rattle.fl_machine.specs.Step.{next_random}
 use Rattle.fl_session.specs.LoadSays.{LoadEnds, LoadFails, Loads, LoadsNext, next_row, random_at}
 
@@ -68,21 +64,11 @@ loads-more step seed n t mid u f m g puts one = subst (λ k. Loads step seed k t
 pub random-more : (seed n was now : ℕ) → now ≡ next_random was → was ≡ random_at seed n → now ≡ random_at seed (n + 1)
 random-more seed n was now next is = next ∙ (ap (λ (r : ℕ). next_random r) is ∙ ap (random_at seed) (let s : suc n ≡ n + 1 = omega arith in s))
 
--- ---- a cause in the last of some calls, of which those before left the power on
-
-off-before : (P : Type 0) (was now : Bool) → (was ≡ true → now ≡ true) → (now ≡ false) ⊎ P → (was ≡ false) ⊎ P
-off-before P false now kept cause = inl refl
-off-before P true now kept (inl off) = absurd (let on = kept refl in cc (on, off))
-off-before P true now kept (inr p) = inr p
-
-caused-before : (f m n : FlashState) (fault : FlashFault) → (f.is_on ≡ true → m.is_on ≡ true) → Goes f m → CausedBy m fault n → CausedBy f fault n
-caused-before f m n PowerLost kept goes (inl off) = off-before (Rose f.cuts n.cuts) f.is_on m.is_on kept (inl off)
-caused-before f m n PowerLost kept goes (inr rose) = inr (rose-back f.cuts m.cuts n.cuts goes.cuts rose)
-caused-before f m n Media kept goes rose = rose-back f.media.faults m.media.faults n.media.faults goes.faults rose
+-- ---- why a load failed
 
 pub load-fails : (f m n : FlashState) (outcome : Result (Unit {0}) PutRefusal) → (f.is_on ≡ true → m.is_on ≡ true) → Goes f m → IfErr outcome (λ e. PutCausedBy m e n) → IfErr outcome (LoadFails f n)
 load-fails f m n (Ok done) on goes cause = tt
-load-fails f m n (Err (put.Flash fault)) on goes cause = caused-before f m n fault on goes cause
+load-fails f m n (Err (put.Flash fault)) on goes cause = cause-later f m n goes on fault cause
 load-fails f m n (Err (put.Key last)) on goes cause = tt
 load-fails f m n (Err (put.Columns wanted)) on goes cause = tt
 load-fails f m n (Err (put.Value column)) on goes cause = tt

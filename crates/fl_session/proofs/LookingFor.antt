@@ -11,7 +11,7 @@ use Rattle.fl_model.specs.Query.{BlobState}
 use Rattle.fl_model.specs.Record.{Config, Plan}
 use Rattle.fl_model.specs.Table as model
 use Rattle.fl_model.specs.Table.{Entry as Record}
-use Rattle.fl_page.specs.Contents.{Contents, OnlyReads}
+use Rattle.fl_frame.specs.Contents.{Contents, OnlyReads}
 use Rattle.fl_rlc.specs.Table.{table_in}
 use Rattle.fl_script.specs.declared.reply.Reply as code
 use Rattle.fl_table.specs.Standing.{Stands}

@@ -1,12 +1,15 @@
 -- The replies to a lookup.
-use Rattle.std.proofs.Common.{◌≡◌, ℕ, suc, ◌+◌, ◌-◌, ◌<◌, ◌≤◌, Bool, true, false, IsTrue, Option, Some, None, List, [], ◌∷◌, length, map, refl, sym, ◌∙◌, ap, inl, inr, arith}
+use Rattle.std.proofs.Common.{◌≡◌, ℕ, suc, ◌+◌, ◌-◌, ◌<◌, ◌≤◌, Bool, true, false, IsTrue, Option, Some, None, option_map, List, [], ◌∷◌, length, map, refl, sym, ◌∙◌, ap, subst, inl, inr, arith}
 use Rattle.std.specs.Prelude.{is_some, ◌==◌}
 use Rattle.std.proofs.lemmas.Bool.{eqb-true}
 use Rattle.std.proofs.Common.{length-take}
 use Rattle.std.specs.List.{slice_get}
 use Rattle.fl_find.proofs.Entries.{row-entry}
+use Rattle.fl_find.proofs.PageLooks.{looks-pages, looks-tell}
+use Rattle.fl_find.specs.Looking.{OnlyLooks}
+use Rattle.fl_find.specs.Pages.{rows_on}
 use Rattle.fl_flash.specs.Buffer.{BufferState}
-use Rattle.fl_flash.specs.Flash.{FlashState}
+use Rattle.fl_flash.specs.Flash.{FlashState, page_at}
 use Rattle.fl_flash.specs.declared.flash.FlashFault.{FlashFault}
 use Rattle.fl_flash.specs.declared.flash.FlashFault.TheVariants.{PowerLost, Media}
 use Rattle.fl_model.specs.Facts.{IsTable}
@@ -16,17 +19,22 @@ use Rattle.fl_model.specs.Row.{Row, stored_row}
 use Rattle.fl_model.specs.Table as model
 use Rattle.fl_model.specs.Table.{Entry, pending_entries, written}
 use Rattle.fl_model.proofs.Lists.{slice_get-drop, slice_get-front, slice_get-short}
+use Rattle.fl_frame.specs.Contents.{OnlyReads}
 use Rattle.fl_page.specs.declared.fault.ReadFault.TheVariants as fault
 use Rattle.fl_search.specs.Search.{RoseSome}
 use Rattle.fl_words.specs.Reply as reply
 use Rattle.fl_words.specs.Reply.{text}
 use Rattle.fl_machine.specs.Step.{row_of, found_reply}
 use Rattle.fl_model.specs.Spline.{lookup_limit}
-use Rattle.fl_table.specs.Finding.{IsFound, ShowsEntry, TookReads, LookupFails, row_of_place}
+use Rattle.fl_table.specs.BlobAt.{has_blobs}
+use Rattle.fl_table.specs.Finding.{HasKeyAt, HoldsIts, IsAnswered, IsFound, ShowsEntry, TookReads, LookupFails, row_in, row_of_place}
+use Rattle.fl_table.specs.Kept.{place_of}
+use Rattle.fl_table.specs.Look.{layout_in}
 use Rattle.fl_table.specs.declared.find.RowAt.{RowAt}
 use Rattle.fl_table.specs.declared.find.RowAt.TheVariants as at
 use Rattle.fl_table.specs.declared.table.Table.{Table}
 use Rattle.fl_table.proofs.PendingRows.{entry-front}
+use Rattle.fl_session.specs.Caused.{StandsAt, TellsRow}
 use Rattle.fl_session.specs.Looked.{Looks}
 use Rattle.fl_session.specs.Rows.{row_reply}
 use Rattle.fl_session.proofs.RowLines.{row-line}
@@ -132,3 +140,27 @@ looks-unread plan table key t old new Media said on fails within is = record {
   where
     no : true ≡ false → ⊥
     no e = cc
+
+-- ---- over any bytes
+
+-- the row in the buffer is the one of the flash
+row-stands : (t : Table 64 64) (f g : FlashState) (buf : BufferState) (place : RowAt) (row : Row) → OnlyLooks f g → HoldsIts t g buf place → row_in t buf place ≡ Some row → StandsAt t f place row
+row-stands t f g buf (at.Pending i) row looks holds here = here
+row-stands t f g buf (at.InPage place) row looks holds here = (
+  holds.kept.0,
+  holds.kept.1,
+  λ told.
+      let same : buf.bytes ≡ page_at f (place_of t place.number) = holds.bytes (subst IsTrue (sym (looks-tell f g looks)) told) ∙ ap (λ (pages : ℕ → List ℕ). pages (place_of t place.number)) (looks-pages f g looks) in
+      ap (λ (bytes : List ℕ). slice_get (rows_on (layout_in t) bytes) place.row) (sym same) ∙ here,
+)
+
+pub tells-row : (t : Table 64 64) (key : ℕ) (f g : FlashState) (buf : BufferState) (place : RowAt) (row : Row) (blobs : Bool) → blobs ≡ has_blobs t → OnlyReads f g → HoldsIts t g buf place → row_in t buf place ≡ Some row →
+    HasKeyAt t buf key place → IsAnswered t f key (Some place) → TellsRow t key f (row_reply blobs row)
+tells-row t key f g buf place row blobs noted reads holds here has answers = record {
+  row = row;
+  said_is = ap (λ b. row_reply b row) noted;
+  key_is = same-some row.key key (sym (ap (option_map (λ (r : Row). r.key)) here) ∙ has);
+  place = place;
+  here = row-stands t f g buf place row (record { reads = reads; power = reads.power; cuts = reads.cuts }) holds here;
+  answers = answers;
+}

@@ -19,7 +19,7 @@ use Rattle.fl_machine.specs.Machine.{Machine}
 use Rattle.fl_machine.specs.Reads as machine
 use Rattle.fl_machine.specs.Reads.{none_read, mounts_limit, WithinMount, LimitOf}
 use Rattle.fl_machine.specs.Step.{Moment, Step, StepOf, Says, EndsAs, EndsMount}
-use Rattle.fl_ring.specs.Step.{IsWatched}
+use Rattle.fl_frame.specs.Watched.{IsWatched}
 use Rattle.fl_script.specs.Written.{Written}
 use Rattle.fl_rlc.specs.Mounting.{pages_in}
 use Rattle.fl_store.specs.Tables.{TablesStand, pages_of, first_of}

@@ -3,8 +3,8 @@ use Rattle.std.proofs.Common.{◌≡◌, ℕ, ◌⊎◌, Bool, true, false, IsTr
 use Rattle.fl_flash.specs.Flash.{FlashState, Goes, page_at}
 use Rattle.fl_flash.specs.declared.flash.FlashFault.{FlashFault}
 use Rattle.fl_flash.specs.declared.flash.FlashFault.TheVariants.{Media}
-use Rattle.fl_ring.specs.Device.{SameDevice}
-use Rattle.fl_ring.specs.Step.{IsWatched}
+use Rattle.fl_frame.specs.Device.{SameDevice}
+use Rattle.fl_frame.specs.Watched.{IsWatched}
 use Rattle.std.proofs.lemmas.Bool.{false≢true}
 use Rattle.std.specs.Prelude.{◌-◌, ◌*◌, ◌<◌, sum_by, MatchBool, is_ok, OnOk}
 use Rattle.fl_model.specs.Record.{Config, Plan, blocks_of}

@@ -22,6 +22,7 @@ use Rattle.fl_machine.proofs.FewReads.{limit-few}
 use Rattle.fl_machine.specs.Step.{Moment, Step, Located, located, no_column}
 use Rattle.fl_machine.specs.Run.{Run, end_of, commands_of, written_by, risen_in}
 use Rattle.fl_machine.specs.Script.{Ran, RanInto, RoseBy}
+use Rattle.fl_machine.specs.WholeReads.{reads_in, RanReading, RanIntoReading}
 use Rattle.fl_machine.proofs.BytesStay.{stays-more}
 use Rattle.fl_machine.specs.Keeping.{KeepsPuts, KeepsPutsAt, standing, sure_at}
 use Rattle.fl_machine.proofs.KeptPuts.{keeps-puts}
@@ -145,11 +146,6 @@ counted-by before moment now (command.Project name range columns) h = omega (ari
 counted-by before moment now (command.Agg name range column width) h = omega (arith, h.flash)
 counted-by before moment now (command.Join left right range) h = omega (arith, h.flash)
 counted-by before moment now c h = omega (arith, h.1)
-
--- the reads of some moments
-abbrev reads_in : List Moment → ℕ
-reads_in [] = 0
-reads_in (moment ∷ moments) = moment.reads + reads_in moments
 
 reads-more : (moments : List Moment) (moment : Moment) → reads_in (moments ++ moment ∷ []) ≡ reads_in moments + moment.reads
 reads-more [] moment = omega arith
@@ -290,65 +286,73 @@ pub ran-into : {E : Type 0} (config : Config) (old : Machine) (commands : List C
     IsReady config old → ((m : Machine) → stands m → AreTables config.plans m.tables) →
     RanSoFar config old commands stands content mid.media.content faults mid.media.faults mid.work.reads told told_mid → mid.media.faults ≤ now.media.faults →
     ((m : Machine) → stands m → Executes {E = E} config m command stands_now mid now told_mid told_now (Err error)) →
-    RanInto config old (commands ++ command ∷ []) (StandsAlike stands_now) content now.media.content faults now.media.faults told told_now
+    (ran : RanInto config old (commands ++ command ∷ []) (StandsAlike stands_now) content now.media.content faults now.media.faults told told_now) × (now.work.reads ≤ reads_in ran.moments)
 ran-into config old commands command stands stands_now content faults mid now told told_mid told_now error ready hold (h, counted) later executes =
     let e = executes (end_of old h.moments) h.stands_after in
     let run = run-more config old h.moments e.moment h.run e.step in
-    let limited = next-limit config old h.moments command stands mid now (Err error) e.moment ready h.run h.stands_after hold e.command_is e.reads e.stated in
-    record {
-      moments = h.moments ++ e.moment ∷ [];
-      commands_are = map-append (λ (m : Moment). m.command) h.moments (e.moment ∷ []) ∙ (ap (λ cs. cs ++ e.moment.command ∷ []) h.commands_are ∙ ap (λ c. commands ++ c ∷ []) e.command_is);
-      run = run;
-      stands_after = (e.after, e.stands_after, subst (λ m. IsAlike m e.after) (sym (end_of-more old h.moments e.moment)) e.alike);
-      limits = limits-more config old h.moments e.moment h.reads.limits limited.0;
-      few = few-more h.moments e.moment h.reads.few limited.1;
-      stays = stays-more config old h.moments e.moment content mid.media.content now.media.content h.stays e.stays;
-      rose = rw risen-more (rose-more (risen_in h.moments) faults mid.media.faults now.media.faults e.moment.rose h.rose later e.rose);
-      found = λ place. finds config old (h.moments ++ e.moment ∷ []) place ready.room ready.off ready.rest (ready.logs place) run;
-      kept = λ place. keeps-puts config old (h.moments ++ e.moment ∷ []) place ready.room ready.off ready.rest (ready.logs place) run;
-      before = h.moments;
-      last = e.moment;
-      split = refl;
-      exact = h.reads.exact;
-      front = e.told_front.0;
-      is_front = e.told_front.1;
-      told_front = appends-more told told_mid told_now (written_by h.moments) e.told_front.0 h.told_all e.told_front.2;
-    }
+    let limited = next-limit config old h.moments command stands mid now (Err error) e.moment ready h.run h.stands_after hold e.command_is e.reads e.stated in (
+      record {
+        moments = h.moments ++ e.moment ∷ [];
+        commands_are = map-append (λ (m : Moment). m.command) h.moments (e.moment ∷ []) ∙ (ap (λ cs. cs ++ e.moment.command ∷ []) h.commands_are ∙ ap (λ c. commands ++ c ∷ []) e.command_is);
+        run = run;
+        stands_after = (e.after, e.stands_after, subst (λ m. IsAlike m e.after) (sym (end_of-more old h.moments e.moment)) e.alike);
+        limits = limits-more config old h.moments e.moment h.reads.limits limited.0;
+        few = few-more h.moments e.moment h.reads.few limited.1;
+        stays = stays-more config old h.moments e.moment content mid.media.content now.media.content h.stays e.stays;
+        rose = rw risen-more (rose-more (risen_in h.moments) faults mid.media.faults now.media.faults e.moment.rose h.rose later e.rose);
+        found = λ place. finds config old (h.moments ++ e.moment ∷ []) place ready.room ready.off ready.rest (ready.logs place) run;
+        kept = λ place. keeps-puts config old (h.moments ++ e.moment ∷ []) place ready.room ready.off ready.rest (ready.logs place) run;
+        before = h.moments;
+        last = e.moment;
+        split = refl;
+        exact = h.reads.exact;
+        front = e.told_front.0;
+        is_front = e.told_front.1;
+        told_front = appends-more told told_mid told_now (written_by h.moments) e.told_front.0 h.told_all e.told_front.2;
+      },
+      omega (arith, reads-more h.moments e.moment, counted, counted-by mid e.moment now command e.reads),
+    )
 
 -- the same run, seen through another relation to the state after it
-pub ran-seen : (config : Config) (old : Machine) (commands : List Command) (stands stands_now : Machine → Type 0) (content content_now : List ℕ) (faults now : ℕ) (told told_now : Option (List ℕ)) →
-    ((m : Machine) → stands m → stands_now m) → Ran config old commands stands content content_now faults now told told_now → Ran config old commands stands_now content content_now faults now told told_now
-ran-seen config old commands stands stands_now content content_now faults now told told_now f h = record {
-  moments = h.moments;
-  commands_are = h.commands_are;
-  run = h.run;
-  stands_after = f (end_of old h.moments) h.stands_after;
-  reads = h.reads;
-  stays = h.stays;
-  rose = h.rose;
-  found = h.found;
-  kept = h.kept;
-  told_all = h.told_all;
-}
+pub ran-seen : (config : Config) (old : Machine) (commands : List Command) (stands stands_now : Machine → Type 0) (content content_now : List ℕ) (faults now reads reads_now : ℕ) (told told_now : Option (List ℕ)) →
+    ((m : Machine) → stands m → stands_now m) → RanReading config old commands stands content content_now faults now reads reads_now told told_now → RanReading config old commands stands_now content content_now faults now reads reads_now told told_now
+ran-seen config old commands stands stands_now content content_now faults now reads reads_now told told_now f (h, within) = (
+  record {
+    moments = h.moments;
+    commands_are = h.commands_are;
+    run = h.run;
+    stands_after = f (end_of old h.moments) h.stands_after;
+    reads = h.reads;
+    stays = h.stays;
+    rose = h.rose;
+    found = h.found;
+    kept = h.kept;
+    told_all = h.told_all;
+  },
+  within,
+)
 
-pub ran_into-seen : (config : Config) (old : Machine) (commands : List Command) (stands stands_now : Machine → Type 0) (content content_now : List ℕ) (faults now : ℕ) (told told_now : Option (List ℕ)) →
-    ((m : Machine) → stands m → stands_now m) → RanInto config old commands stands content content_now faults now told told_now → RanInto config old commands stands_now content content_now faults now told told_now
-ran_into-seen config old commands stands stands_now content content_now faults now told told_now f h = record {
-  moments = h.moments;
-  commands_are = h.commands_are;
-  run = h.run;
-  stands_after = f (end_of old h.moments) h.stands_after;
-  limits = h.limits;
-  few = h.few;
-  stays = h.stays;
-  rose = h.rose;
-  found = h.found;
-  kept = h.kept;
-  before = h.before;
-  last = h.last;
-  split = h.split;
-  exact = h.exact;
-  front = h.front;
-  is_front = h.is_front;
-  told_front = h.told_front;
-}
+pub ran_into-seen : (config : Config) (old : Machine) (commands : List Command) (stands stands_now : Machine → Type 0) (content content_now : List ℕ) (faults now reads reads_now : ℕ) (told told_now : Option (List ℕ)) →
+    ((m : Machine) → stands m → stands_now m) → RanIntoReading config old commands stands content content_now faults now reads reads_now told told_now → RanIntoReading config old commands stands_now content content_now faults now reads reads_now told told_now
+ran_into-seen config old commands stands stands_now content content_now faults now reads reads_now told told_now f (h, within) = (
+  record {
+    moments = h.moments;
+    commands_are = h.commands_are;
+    run = h.run;
+    stands_after = f (end_of old h.moments) h.stands_after;
+    limits = h.limits;
+    few = h.few;
+    stays = h.stays;
+    rose = h.rose;
+    found = h.found;
+    kept = h.kept;
+    before = h.before;
+    last = h.last;
+    split = h.split;
+    exact = h.exact;
+    front = h.front;
+    is_front = h.is_front;
+    told_front = h.told_front;
+  },
+  within,
+)

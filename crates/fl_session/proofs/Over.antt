@@ -2,7 +2,7 @@
 use Rattle.std.proofs.Common.{◌≡◌, ℕ, zero, suc, ◌+◌, Bool, true, false, IsTrue, Option, Some, None, Result, Ok, Err, inl, inr, length, take, List, ◌≤◌, refl, sym, ◌∙◌, ap, subst, le_trans, arith}
 use Rattle.std.specs.Prelude.{if◌then◌else◌, slice_get, replicate}
 use base.Fml.{GName}
-use Rattle.fl_flash.specs.Flash.{FlashState, Goes}
+use Rattle.fl_flash.specs.Flash.{FlashState, Stays}
 use Rattle.fl_flash.specs.Media.{MediaState}
 use Rattle.fl_model.specs.Image.{medium_len}
 use Rattle.fl_model.specs.Record.{Config}
@@ -93,7 +93,7 @@ pub kept-formed : (config : Config) (mid new : MediaState) → IsFormed config m
 kept-formed config mid new formed tells kept = (kept.len ∙ formed.0, kept.head tells ∙ formed.1)
 
 -- .. as a flash on it goes
-pub flash-keeps : (f f' : FlashState) (old new : MediaState) → f.media ≡ old → new ≡ f'.media → f.start ≡ 1024 → Goes f f' → KeepsForm old new
+pub flash-keeps : (f f' : FlashState) (old new : MediaState) → f.media ≡ old → new ≡ f'.media → f.start ≡ 1024 → Stays f f' → KeepsForm old new
 flash-keeps f f' old new begun ended start goes =
     subst (KeepsForm old) (sym ended)
     (subst (λ (m : MediaState). KeepsForm m f'.media) begun (record { len = goes.size; head = λ tells. subst (λ n. take n f'.media.content ≡ take n f.media.content) start (goes.front tells) }))
@@ -114,6 +114,8 @@ ends-opened knots text lines first number state left left_now told told_now conf
       content_now = refl;
       faults_now = refl;
       faults = later;
+      reads_now = refl;
+      reads = opened.reads;
       written = refl;
       written_now = refl;
       own = opened.own tells;

@@ -1,11 +1,11 @@
 -- The causes of replies, over any bytes.
-use Rattle.std.proofs.Common.{◌≡◌, ◌⊎◌, ℕ, ◌+◌, ◌<◌, ◌≤◌, Bool, true, false, not, nat_lt, inl, inr, Option, None, Some, Result, Ok, Err, IfErr, List, [], ◌∷◌, length, refl, sym, ◌∙◌, ap, subst}
+use Rattle.std.proofs.Common.{◌≡◌, ℕ, ◌+◌, ◌<◌, ◌≤◌, Bool, true, false, not, nat_lt, inl, inr, Option, None, Some, Result, Ok, Err, IfErr, List, [], ◌∷◌, length, refl, sym, ◌∙◌, ap, subst}
 use Rattle.std.specs.Prelude.{◌↔◌, is_err, OnOk}
 use Rattle.std.specs.List.{slice_get}
 use Rattle.std.specs.Option.{is_none}
 use Rattle.std.proofs.lemmas.Bool.{lt-ltb, le-ltb}
 use Rattle.fl_model.specs.Record.{RowLayout}
-use Rattle.fl_page.specs.Contents.{OnlyReads}
+use Rattle.fl_frame.specs.Contents.{OnlyReads}
 use Rattle.fl_cursor.specs.declared.bookmark.Bookmark.{Bookmark}
 use Rattle.fl_flash.specs.Flash.{FlashState}
 use Rattle.fl_script.specs.ReplyView.{reply_text}
@@ -19,6 +19,7 @@ use Rattle.fl_table.specs.declared.faults.PutRefusal.TheVariants as put
 use Rattle.fl_rlc.specs.Refusal.{RefusedSame}
 use Rattle.fl_rlc.specs.Table.{table_in}
 use Rattle.fl_rlc.specs.declared.table.LoggedTable.{LoggedTable}
+use Rattle.fl_store.specs.MountsOver.{MountsOver}
 use Rattle.fl_store.specs.Tables.{entries_with}
 use Rattle.fl_store.specs.declared.tables.BadMount.{BadMount}
 use Rattle.fl_store.specs.declared.tables.Entry.{Entry}
@@ -29,7 +30,7 @@ use Rattle.fl_words.specs.Reply.{Reply, text}
 use Rattle.fl_session.proofs.NextCommand.{nothing-added}
 use Rattle.fl_session.specs.Answer.{IsReached, Refusal}
 use Rattle.fl_session.specs.Asked.{lacked_column}
-use Rattle.fl_session.specs.Caused.{Caused, State, state_of, Says, Writes, IsRefused, IsHere, OnTable, IfLacks, OnlyLooks, MountsOver, PutFails, FlushFails, LoadCounts}
+use Rattle.fl_session.specs.Caused.{Caused, State, state_of, Says, Writes, IsRefused, IsHere, OnTable, IfLacks, OnlyLooks, PutFails, FlushFails, LoadCounts}
 use Rattle.fl_session.specs.ListSays.{EndsOn, ListSays}
 use Rattle.fl_session.specs.Notes.{with_cursor}
 use Rattle.fl_session.specs.declared.notes.Notes.{Notes}

@@ -7,7 +7,7 @@ use Rattle.std.proofs.lemmas.Option.{slice_get-map}
 use Rattle.std.proofs.Math.Seq.{drop-append-add, take-append_seam}
 use Rattle.fl_flash.specs.Flash.{FlashState, page_at}
 use Rattle.fl_flash.specs.Media.{MediaState}
-use Rattle.fl_ring.specs.Device.{SameDevice}
+use Rattle.fl_frame.specs.Device.{SameDevice}
 use Rattle.fl_model.specs.Record.{Plan, Config, has_log}
 use Rattle.fl_model.specs.Ring.{fresh}
 use Rattle.fl_model.specs.Table.{Table, RingName, LogRing, shape_of, fresh_table, lose}

@@ -15,7 +15,8 @@ use Rattle.fl_model.specs.Query as query
 use Rattle.fl_model.specs.Record.{Plan}
 use Rattle.fl_model.specs.Row.{stored_row}
 use Rattle.fl_model.specs.Table as model
-use Rattle.fl_page.specs.Contents.{contents_of, IsCaused}
+use Rattle.fl_frame.specs.Contents.{contents_of}
+use Rattle.fl_page.specs.Causes.{IsCaused}
 use Rattle.fl_page.specs.declared.fault.ReadFault.TheVariants.{Flash}
 use Rattle.fl_search.specs.Search.{RoseSome}
 use Rattle.fl_table.specs.Memory.{LiesOn}

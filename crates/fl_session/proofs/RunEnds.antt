@@ -8,13 +8,15 @@ use Rattle.fl_flash.specs.Media.{MediaState}
 use Rattle.fl_words.specs.Command.{Command}
 use Rattle.fl_words.specs.Config.{Lines, whole}
 use Rattle.fl_machine.specs.Machine.{Machine}
-use Rattle.fl_machine.specs.Script.{Start, Ready, Unended, BadLine, BadConfig, start_with, start_of, ended, StandsFor, StandsAfter, Ran, RanInto, RoseBy}
+use Rattle.fl_machine.specs.Script.{Start, Ready, Unended, BadLine, BadConfig, start_with, start_of, ended, StandsFor, StandsAfter, RoseBy}
+use Rattle.fl_machine.specs.WholeReads.{RanReading, RanIntoReading}
 use Rattle.fl_lines.specs.Texts.{most_bytes, whole_lines, rest_of, lines_read, lines_within, is_long}
 use Rattle.fl_lines.specs.Stream.{LinesState}
 use Rattle.fl_session.specs.Execute.{Around, IsReady, StandsAlike, RanAll, RanPart}
 use Rattle.fl_session.specs.Loop.{Tail, TakesTail, TailTakes, lines_in, EndsCommands}
 use Rattle.fl_session.specs.Taken.{TakesLine, TakesBegin, IsUnended}
 use Rattle.fl_lines.specs.Taken.{HasTaken, TakesFew, begin_behind}
+use Rattle.fl_lines.proofs.LinesInTurn.{begin-fits}
 use Rattle.std.proofs.lemmas.List.Sums.{sum_by-append}
 use Rattle.fl_script.specs.declared.command.Command as code
 use Rattle.fl_session.specs.Run.{tail_of, RanFrom, RunsFrom, IsOfCommands}
@@ -82,6 +84,8 @@ pub record Over (config : Config) (told : Told) (status : Status) (around : Arou
   pub content_now : around.content_now ≡ told.content_now
   pub faults_now : around.faults_now ≡ told.faults_now
   pub faults : told.faults ≤ around.faults
+  pub reads_now : around.reads_now ≡ told.reads_now
+  pub reads : around.reads ≤ told.reads + 1
   pub written : around.told ≡ told.written
   pub written_now : around.told_now ≡ told.written_now
   pub own : IsOwn config told.content
@@ -93,91 +97,99 @@ pub rose-earlier : (n before mid now : ℕ) → before ≤ mid → RoseBy n mid 
 rose-earlier n before mid now h (inl k) = inl (omega arith)
 rose-earlier n before mid now h (inr k) = inr k
 
-abbrev pub ran-earlier : (config : Config) (old : Machine) (commands : List Command) (stands : Machine → Type 0) (content content_now : List ℕ) (before mid now : ℕ) (told told_now : Option (List ℕ)) → before ≤ mid →
-    Ran config old commands stands content content_now mid now told told_now → Ran config old commands stands content content_now before now told told_now
-ran-earlier config old commands stands content content_now before mid now told told_now e h = record {
-  moments = h.moments;
-  commands_are = h.commands_are;
-  run = h.run;
-  stands_after = h.stands_after;
-  reads = h.reads;
-  stays = h.stays;
-  rose = rose-earlier _ before mid now e h.rose;
-  found = h.found;
-  kept = h.kept;
-  told_all = h.told_all;
-}
+ran-earlier : (config : Config) (old : Machine) (commands : List Command) (stands : Machine → Type 0) (content content_now : List ℕ) (before mid now reads reads_mid reads_now : ℕ) (told told_now : Option (List ℕ)) → before ≤ mid → reads_mid ≤ reads →
+    RanReading config old commands stands content content_now mid now reads_mid reads_now told told_now → RanReading config old commands stands content content_now before now reads reads_now told told_now
+ran-earlier config old commands stands content content_now before mid now reads reads_mid reads_now told told_now e few (h, within) = (
+  record {
+    moments = h.moments;
+    commands_are = h.commands_are;
+    run = h.run;
+    stands_after = h.stands_after;
+    reads = h.reads;
+    stays = h.stays;
+    rose = rose-earlier _ before mid now e h.rose;
+    found = h.found;
+    kept = h.kept;
+    told_all = h.told_all;
+  },
+  λ low. omega (arith, within low, few),
+)
 
-ran_into-earlier : (config : Config) (old : Machine) (commands : List Command) (stands : Machine → Type 0) (content content_now : List ℕ) (before mid now : ℕ) (told told_now : Option (List ℕ)) → before ≤ mid →
-    RanInto config old commands stands content content_now mid now told told_now → RanInto config old commands stands content content_now before now told told_now
-ran_into-earlier config old commands stands content content_now before mid now told told_now e h = record {
-  moments = h.moments;
-  commands_are = h.commands_are;
-  run = h.run;
-  stands_after = h.stands_after;
-  limits = h.limits;
-  few = h.few;
-  stays = h.stays;
-  rose = rose-earlier _ before mid now e h.rose;
-  found = h.found;
-  kept = h.kept;
-  before = h.before;
-  last = h.last;
-  split = h.split;
-  exact = h.exact;
-  front = h.front;
-  is_front = h.is_front;
-  told_front = h.told_front;
-}
+ran_into-earlier : (config : Config) (old : Machine) (commands : List Command) (stands : Machine → Type 0) (content content_now : List ℕ) (before mid now reads reads_mid reads_now : ℕ) (told told_now : Option (List ℕ)) → before ≤ mid → reads_mid ≤ reads →
+    RanIntoReading config old commands stands content content_now mid now reads_mid reads_now told told_now → RanIntoReading config old commands stands content content_now before now reads reads_now told told_now
+ran_into-earlier config old commands stands content content_now before mid now reads reads_mid reads_now told told_now e few (h, within) = (
+  record {
+    moments = h.moments;
+    commands_are = h.commands_are;
+    run = h.run;
+    stands_after = h.stands_after;
+    limits = h.limits;
+    few = h.few;
+    stays = h.stays;
+    rose = rose-earlier _ before mid now e h.rose;
+    found = h.found;
+    kept = h.kept;
+    before = h.before;
+    last = h.last;
+    split = h.split;
+    exact = h.exact;
+    front = h.front;
+    is_front = h.is_front;
+    told_front = h.told_front;
+  },
+  λ low. omega (arith, within low, few),
+)
 
 -- where commands were run from each state, they were run as the plain machine does if nothing fails
 runs-with : (config : Config) (commands : List Command) (told : Told) (status : Status) → IsOwn config told.content → IsFormed config told.content_now →
-    ((old : Machine) → StandsFor config told.content old → Ran config old commands (EndsAt config status told.content_now) (opened config told.content) told.content_now told.faults told.faults_now told.written told.written_now) → RunsAll config commands told status
+    ((old : Machine) → StandsFor config told.content old → RanReading config old commands (EndsAt config status told.content_now) (opened config told.content) told.content_now told.faults told.faults_now (told.reads + 1) told.reads_now told.written told.written_now) → RunsAll config commands told status
 runs-with config commands told status own formed runs = record {
   own = own;
   formed = formed;
   runs = runs;
-  plain = λ calm old s uncut. ran-plainly config old commands status (opened config told.content) told.content_now told.faults told.faults_now told.written told.written_now calm uncut (runs old s);
+  plain = λ calm old s uncut. ran-plainly config old commands status (opened config told.content) told.content_now told.faults told.faults_now told.written told.written_now calm uncut (runs old s).0;
 }
 
 run-over : (config : Config) (told : Told) (status : Status) (around : Around) (stands stands_now : Machine → Type 0) (commands : List Command) → Over config told status around stands stands_now → RanAll around stands stands_now commands →
-    (old : Machine) → StandsFor config told.content old → Ran config old commands (EndsAt config status told.content_now) (opened config told.content) told.content_now told.faults told.faults_now told.written told.written_now
+    (old : Machine) → StandsFor config told.content old → RanReading config old commands (EndsAt config status told.content_now) (opened config told.content) told.content_now told.faults told.faults_now (told.reads + 1) told.reads_now told.written told.written_now
 run-over config told status around stands stands_now commands o h old s =
     let b = o.begins old s in
     let ran = h old b.0 (subst (λ c. IsReady c old) (sym o.config_is) b.1) in
-    let seen = ran-seen around.config old commands stands_now (EndsAt config status told.content_now) around.content around.content_now around.faults around.faults_now around.told around.told_now o.ends ran in
-    let earlier = ran-earlier around.config old commands (EndsAt config status told.content_now) around.content around.content_now told.faults around.faults around.faults_now around.told around.told_now o.faults seen in
-    subst (λ c. Ran c old commands (EndsAt config status told.content_now) (opened config told.content) told.content_now told.faults told.faults_now told.written told.written_now) o.config_is
-    (subst (λ b. Ran around.config old commands (EndsAt config status told.content_now) b told.content_now told.faults told.faults_now told.written told.written_now) o.content
-    (subst (λ b. Ran around.config old commands (EndsAt config status told.content_now) around.content b told.faults told.faults_now told.written told.written_now) o.content_now
-    (subst (λ f. Ran around.config old commands (EndsAt config status told.content_now) around.content around.content_now told.faults f told.written told.written_now) o.faults_now
-    (subst (λ t. Ran around.config old commands (EndsAt config status told.content_now) around.content around.content_now told.faults around.faults_now t told.written_now) o.written
-    (subst (λ t. Ran around.config old commands (EndsAt config status told.content_now) around.content around.content_now told.faults around.faults_now around.told t) o.written_now earlier)))))
+    let seen = ran-seen around.config old commands stands_now (EndsAt config status told.content_now) around.content around.content_now around.faults around.faults_now around.reads around.reads_now around.told around.told_now o.ends ran in
+    let earlier = ran-earlier around.config old commands (EndsAt config status told.content_now) around.content around.content_now told.faults around.faults around.faults_now (told.reads + 1) around.reads around.reads_now around.told around.told_now o.faults o.reads seen in
+    subst (λ c. RanReading c old commands (EndsAt config status told.content_now) (opened config told.content) told.content_now told.faults told.faults_now (told.reads + 1) told.reads_now told.written told.written_now) o.config_is
+    (subst (λ b. RanReading around.config old commands (EndsAt config status told.content_now) b told.content_now told.faults told.faults_now (told.reads + 1) told.reads_now told.written told.written_now) o.content
+    (subst (λ b. RanReading around.config old commands (EndsAt config status told.content_now) around.content b told.faults told.faults_now (told.reads + 1) told.reads_now told.written told.written_now) o.content_now
+    (subst (λ f. RanReading around.config old commands (EndsAt config status told.content_now) around.content around.content_now told.faults f (told.reads + 1) told.reads_now told.written told.written_now) o.faults_now
+    (subst (λ r. RanReading around.config old commands (EndsAt config status told.content_now) around.content around.content_now told.faults around.faults_now (told.reads + 1) r told.written told.written_now) o.reads_now
+    (subst (λ t. RanReading around.config old commands (EndsAt config status told.content_now) around.content around.content_now told.faults around.faults_now (told.reads + 1) around.reads_now t told.written_now) o.written
+    (subst (λ t. RanReading around.config old commands (EndsAt config status told.content_now) around.content around.content_now told.faults around.faults_now (told.reads + 1) around.reads_now around.told t) o.written_now earlier))))))
 
 pub runs-all : (config : Config) (told : Told) (status : Status) (around : Around) (stands stands_now : Machine → Type 0) (commands : List Command) → Over config told status around stands stands_now → RanAll around stands stands_now commands → RunsAll config commands told status
 runs-all config told status around stands stands_now commands o h = runs-with config commands told status o.own o.formed (run-over config told status around stands stands_now commands o h)
 
 run-over_into : (config : Config) (told : Told) (status : Status) (around : Around) (stands stands_now : Machine → Type 0) (commands : List Command) → Over config told status around stands stands_now → RanPart around stands stands_now commands →
-    (old : Machine) → StandsFor config told.content old → RanInto config old commands (StandsAfter config (Some told.content_now)) (opened config told.content) told.content_now told.faults told.faults_now told.written told.written_now
+    (old : Machine) → StandsFor config told.content old → RanIntoReading config old commands (StandsAfter config (Some told.content_now)) (opened config told.content) told.content_now told.faults told.faults_now (told.reads + 1) told.reads_now told.written told.written_now
 run-over_into config told status around stands stands_now commands o h old s =
     let b = o.begins old s in
     let ran = h old b.0 (subst (λ c. IsReady c old) (sym o.config_is) b.1) in
-    let seen = ran_into-seen around.config old commands (StandsAlike stands_now) (StandsAfter config (Some told.content_now)) around.content around.content_now around.faults around.faults_now around.told around.told_now
+    let seen = ran_into-seen around.config old commands (StandsAlike stands_now) (StandsAfter config (Some told.content_now)) around.content around.content_now around.faults around.faults_now around.reads around.reads_now around.told around.told_now
     (after-alike config (Some told.content_now) stands_now (λ m s. (o.ends m s).0)) ran in
-    let earlier = ran_into-earlier around.config old commands (StandsAfter config (Some told.content_now)) around.content around.content_now told.faults around.faults around.faults_now around.told around.told_now o.faults seen in
-    subst (λ c. RanInto c old commands (StandsAfter config (Some told.content_now)) (opened config told.content) told.content_now told.faults told.faults_now told.written told.written_now) o.config_is
-    (subst (λ b. RanInto around.config old commands (StandsAfter config (Some told.content_now)) b told.content_now told.faults told.faults_now told.written told.written_now) o.content
-    (subst (λ b. RanInto around.config old commands (StandsAfter config (Some told.content_now)) around.content b told.faults told.faults_now told.written told.written_now) o.content_now
-    (subst (λ f. RanInto around.config old commands (StandsAfter config (Some told.content_now)) around.content around.content_now told.faults f told.written told.written_now) o.faults_now
-    (subst (λ t. RanInto around.config old commands (StandsAfter config (Some told.content_now)) around.content around.content_now told.faults around.faults_now t told.written_now) o.written
-    (subst (λ t. RanInto around.config old commands (StandsAfter config (Some told.content_now)) around.content around.content_now told.faults around.faults_now around.told t) o.written_now earlier)))))
+    let earlier = ran_into-earlier around.config old commands (StandsAfter config (Some told.content_now)) around.content around.content_now told.faults around.faults around.faults_now (told.reads + 1) around.reads around.reads_now around.told around.told_now o.faults o.reads seen in
+    subst (λ c. RanIntoReading c old commands (StandsAfter config (Some told.content_now)) (opened config told.content) told.content_now told.faults told.faults_now (told.reads + 1) told.reads_now told.written told.written_now) o.config_is
+    (subst (λ b. RanIntoReading around.config old commands (StandsAfter config (Some told.content_now)) b told.content_now told.faults told.faults_now (told.reads + 1) told.reads_now told.written told.written_now) o.content
+    (subst (λ b. RanIntoReading around.config old commands (StandsAfter config (Some told.content_now)) around.content b told.faults told.faults_now (told.reads + 1) told.reads_now told.written told.written_now) o.content_now
+    (subst (λ f. RanIntoReading around.config old commands (StandsAfter config (Some told.content_now)) around.content around.content_now told.faults f (told.reads + 1) told.reads_now told.written told.written_now) o.faults_now
+    (subst (λ r. RanIntoReading around.config old commands (StandsAfter config (Some told.content_now)) around.content around.content_now told.faults around.faults_now (told.reads + 1) r told.written told.written_now) o.reads_now
+    (subst (λ t. RanIntoReading around.config old commands (StandsAfter config (Some told.content_now)) around.content around.content_now told.faults around.faults_now (told.reads + 1) around.reads_now t told.written_now) o.written
+    (subst (λ t. RanIntoReading around.config old commands (StandsAfter config (Some told.content_now)) around.content around.content_now told.faults around.faults_now (told.reads + 1) around.reads_now around.told t) o.written_now earlier))))))
 
 pub runs-into : (config : Config) (told : Told) (status : Status) (around : Around) (stands stands_now : Machine → Type 0) (commands : List Command) → Over config told status around stands stands_now → RanPart around stands stands_now commands → RunsInto config commands told
 runs-into config told status around stands stands_now commands o h = record {
   own = o.own;
   formed = o.formed;
   runs = run-over_into config told status around stands stands_now commands o h;
-  plain = λ calm old s uncut. ran_into-plainly config old commands (opened config told.content) told.content_now told.faults told.faults_now told.written told.written_now calm uncut (run-over_into config told status around stands stands_now commands o h old s);
+  plain = λ calm old s uncut. ran_into-plainly config old commands (opened config told.content) told.content_now told.faults told.faults_now told.written told.written_now calm uncut (run-over_into config told status around stands stands_now commands o h old s).0;
 }
 
 -- the lines up to a place behind the command that ended the configuration
@@ -204,10 +216,11 @@ tail-few knots text now number state left_now (first ∷ given) others left a sp
     let first_is : state.line ≡ first = same_head split in
     let behind : begin_behind (a.before ++ first ∷ given) ≡ begin_behind (a.before ++ state.line ∷ []) + begin_behind given =
     ap begin_behind (sym (append_assoc a.before (first ∷ []) given) ∙ ap (λ l. (a.before ++ l ∷ []) ++ given) (sym first_is)) ∙ sum_by-append (λ (l : List ℕ). length l + 1) (a.before ++ state.line ∷ []) given in
+    let fits = begin-fits most_bytes text (a.before ++ state.line ∷ []) state.closed state.most rest h.taken a.given h.within (omega (arith, h.few)) in
     record {
       taken = length a.given.begin + h.taken;
       within = omega (arith, h.within, ap length a.given.parts, length-append a.given.begin rest);
-      few = omega (arith, h.few, a.given.size, behind);
+      few = omega (arith, h.few, a.given.size, behind, fits);
       left = h.left ∙ ap Some (sym (ap (drop (length a.given.begin + h.taken)) a.given.parts ∙ drop-append-add a.given.begin rest h.taken));
     }
   where
@@ -297,11 +310,11 @@ ends-empty effects knots text now number config left pending a w none = (a.short
 
 all-seen : (around : Around) (s s' r r' : Machine → Type 0) (commands : List Command) → ((m : Machine) → r m → s m) → ((m : Machine) → s' m → r' m) → RanAll around s s' commands → RanAll around r r' commands
 all-seen around s s' r r' commands f g h old k ready =
-    ran-seen around.config old commands s' r' around.content around.content_now around.faults around.faults_now around.told around.told_now g (h old (f old k) ready)
+    ran-seen around.config old commands s' r' around.content around.content_now around.faults around.faults_now around.reads around.reads_now around.told around.told_now g (h old (f old k) ready)
 
 part-seen : (around : Around) (s s' r r' : Machine → Type 0) (commands : List Command) → ((m : Machine) → r m → s m) → ((m : Machine) → s' m → r' m) → RanPart around s s' commands → RanPart around r r' commands
 part-seen around s s' r r' commands f g h old k ready =
-    ran_into-seen around.config old commands (StandsAlike s') (StandsAlike r') around.content around.content_now around.faults around.faults_now around.told around.told_now (λ m a. (a.0, g a.0 a.1, a.2)) (h old (f old k) ready)
+    ran_into-seen around.config old commands (StandsAlike s') (StandsAlike r') around.content around.content_now around.faults around.faults_now around.reads around.reads_now around.told around.told_now (λ m a. (a.0, g a.0 a.1, a.2)) (h old (f old k) ready)
 
 -- the same commands, of which something else is said that follows
 pub commands-seen : (tail : Tail) (left : Option (List ℕ)) (All Part Now Into : List Command → Type 0) (status : Status) → ((commands : List Command) → All commands → Now commands) → ((commands : List Command) → Part commands → Into commands) →

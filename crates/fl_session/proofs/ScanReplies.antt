@@ -8,7 +8,7 @@ use Rattle.fl_model.specs.Bare.{bare, bare_table}
 use Rattle.fl_model.specs.Limits.{scan_limit}
 use Rattle.fl_model.specs.Record.{Config, Plan}
 use Rattle.fl_model.specs.Table as model
-use Rattle.fl_page.specs.Contents.{OnlyReads}
+use Rattle.fl_frame.specs.Contents.{OnlyReads}
 use Rattle.fl_words.specs.Command as command
 use Rattle.fl_machine.specs.Machine.{Machine, OfScan}
 use Rattle.fl_machine.specs.Step.{Moment, Located, ScanStep}

@@ -10,6 +10,7 @@ use Rattle.fl_base.specs.declared.types.Geometry.{Geometry}
 use Rattle.fl_flash.specs.Flash.{FlashState, Goes}
 use Rattle.fl_flash.specs.declared.armed.Armed.{Armed}
 use Rattle.fl_rlc.specs.Refusal.{RefusedSame}
+use Rattle.fl_frame.proofs.CallsInTurn.{stays-set}
 use Rattle.fl_rlc.specs.Table.{LiesOn, is_running}
 use Rattle.fl_rlc.specs.declared.table.LoggedTable.{LoggedTable}
 use Rattle.fl_table.specs.Causes.{flush_breaks, put_breaks}
@@ -20,7 +21,6 @@ use Rattle.fl_table.specs.declared.faults.PutRefusal.TheVariants as put
 use Rattle.fl_store.specs.Tables.{AreRunning, LieOn, entries_with}
 use Rattle.fl_store.specs.declared.tables.BadMount.{BadMount}
 use Rattle.fl_store.specs.declared.tables.Entry.{Entry}
-use Rattle.fl_store.proofs.CallsInTurn.{goes-set}
 use Rattle.fl_store.proofs.TablesLie.{lie-on, lie-with, running-with}
 use Rattle.fl_store.proofs.TablesChanged.{set-here, set-elsewhere}
 use Rattle.fl_session.specs.Standing.{AreForgotten, HasRooms, IsSound}
@@ -120,7 +120,7 @@ pub sound-off : (entries : List Entry) (f g : FlashState) (buf buf' : Buffers) (
     (length buf'.right_rows.bytes ≡ length buf.right_rows.bytes) × (length buf'.right_index.bytes ≡ length buf.right_index.bytes) →
     AreForgotten buf' → IsSound entries f buf mounted notes → IsSound entries g buf' false notes
 sound-off entries f g buf buf' mounted notes is rows index right forgotten s = rw is (record {
-  lie = lie-on entries f (record f { is_on = false }) (goes-set f false f.armed) s.lie;
+  lie = lie-on entries f (record f { is_on = false }) (stays-set f false f.armed) s.lie;
   room = (rows ∙ s.room.0, index ∙ s.room.1, right.0 ∙ s.room.2, right.1 ∙ s.room.3);
   running = λ on. absurd (false≢true on);
   power = λ on. absurd (false≢true on);
@@ -130,7 +130,7 @@ sound-off entries f g buf buf' mounted notes is rows index right forgotten s = r
 
 pub sound-cut : (entries : List Entry) (f g : FlashState) (buf : Buffers) (armed : Option Armed) (mounted : Bool) (notes : Notes) → g ≡ record f { armed = armed } → IsSound entries f buf mounted notes → IsSound entries g buf mounted notes
 sound-cut entries f g buf armed mounted notes is s = rw is (record {
-  lie = lie-on entries f (record f { armed = armed }) (goes-set f f.is_on armed) s.lie;
+  lie = lie-on entries f (record f { armed = armed }) (stays-set f f.is_on armed) s.lie;
   room = s.room;
   running = s.running;
   power = s.power;

@@ -13,7 +13,7 @@ use Rattle.fl_model.specs.Table as model
 use Rattle.fl_model.specs.Table.{last_entry}
 use Rattle.fl_machine.specs.Machine.{Machine}
 use Rattle.fl_machine.specs.Step.{Located, located}
-use Rattle.fl_page.specs.Contents.{OnlyReads}
+use Rattle.fl_frame.specs.Contents.{OnlyReads}
 use Rattle.fl_rlc.specs.Logged as logged
 use Rattle.fl_rlc.specs.Rings.{rings_of}
 use Rattle.fl_rlc.specs.Table.{table_in}

@@ -8,10 +8,10 @@ use Rattle.fl_machine.specs.Step.{BlobReplies}
 use Rattle.fl_model.specs.Query.{BlobState, blob_of, entry_at}
 use Rattle.fl_model.specs.Record.{Plan}
 use Rattle.fl_model.specs.Table as model
-use Rattle.fl_page.specs.Contents.{OnlyReads}
+use Rattle.fl_frame.specs.Contents.{OnlyReads}
 use Rattle.fl_page.specs.declared.fault.ReadFault.{ReadFault}
 use Rattle.fl_page.specs.declared.fault.ReadFault.TheVariants.{Flash, BadPage}
-use Rattle.fl_ring.specs.Looking as looking
+use Rattle.fl_frame.specs.Reads as looking
 use Rattle.fl_script.specs.Written.{Written}
 use Rattle.fl_search.specs.Search.{RoseSome}
 use Rattle.fl_var.specs.Reading as reading

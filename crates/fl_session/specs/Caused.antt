@@ -10,7 +10,7 @@ use Rattle.fl_flash.specs.declared.flash.FlashFault.TheVariants.{PowerLost}
 use Rattle.fl_flash.specs.declared.tear.Tear.TheVariants.{Kind}
 use Rattle.fl_machine.specs.Step.{cost_reply}
 use Rattle.fl_model.specs.Row.{Row}
-use Rattle.fl_page.specs.Contents.{OnlyReads}
+use Rattle.fl_frame.specs.Contents.{OnlyReads}
 use Rattle.fl_page.specs.declared.fault.BadPage.{BadPage}
 use Rattle.fl_page.specs.declared.fault.ReadFault.TheVariants as fault
 use Rattle.fl_rlc.specs.Refusal.{NeedsNoOperation, put_refusal}
@@ -19,23 +19,24 @@ use Rattle.fl_rlc.specs.Table as logged
 use Rattle.fl_rlc.specs.Table.{IsSamePlan, log_in, rings_in, table_in}
 use Rattle.fl_rlc.specs.declared.table.LoggedTable.{LoggedTable}
 use Rattle.fl_script.specs.Written.{Written}
-use Rattle.fl_ring.specs.Causes.{CausedBy}
-use Rattle.fl_table.specs.Causes.{MountCausedBy, flush_breaks, put_breaks}
-use Rattle.fl_table.specs.Finding.{LookupFails}
-use Rattle.fl_table.specs.BlobAt.{data_in}
+use Rattle.fl_frame.specs.Causes.{CausedBy}
+use Rattle.fl_table.specs.Causes.{flush_breaks, put_breaks}
+use Rattle.fl_table.specs.BlobAt.{data_in, has_blobs}
 use Rattle.fl_table.specs.Blobs.{most_pages}
-use Rattle.fl_table.specs.Look.{counts_in, last_key_in, layout_in, oldest_in}
+use Rattle.fl_table.specs.Finding.{IsAnswered, LookupFails, rows_at}
+use Rattle.fl_table.specs.Look.{buffered_rows, counts_in, last_key_in, layout_in, oldest_in}
 use Rattle.fl_table.specs.Memory.{next_in, pending_in, HasRoom, PendingAre}
-use Rattle.fl_table.specs.Mounting.{FewRepairs}
 use Rattle.fl_table.specs.Refusal.{RefusesAs}
 use Rattle.fl_table.specs.declared.faults.FlushFault.{FlushFault}
 use Rattle.fl_table.specs.declared.faults.FlushFault.TheVariants as flush
 use Rattle.fl_table.specs.declared.faults.PutRefusal.{PutRefusal}
 use Rattle.fl_table.specs.declared.faults.PutRefusal.TheVariants as put
+use Rattle.fl_table.specs.declared.find.RowAt.{RowAt}
+use Rattle.fl_table.specs.declared.find.RowAt.TheVariants as placed
 use Rattle.fl_table.specs.declared.table.Table.{Table}
-use Rattle.fl_store.specs.Mounting.{AreSameNames, AreSamePlans, AreUnlogged, MountsInTurn, OutsideStands, RefusesAt, rings_of, tried}
+use Rattle.fl_store.specs.MountsOver.{MountsOver}
 use Rattle.fl_store.specs.Replies.{flush_reply, put_reply}
-use Rattle.fl_store.specs.Tables.{AreRunning, Names, NonePending, StopsAt, entries_with}
+use Rattle.fl_store.specs.Tables.{Names, entries_with}
 use Rattle.fl_store.specs.declared.tables.BadMount.{BadMount}
 use Rattle.fl_store.specs.declared.tables.Entry.{Entry}
 use Rattle.fl_words.specs.Command.{Command, Nothing, Device, Table as TableOf, Mount, Off, Cut, Put, Flush, Get, Blob, Scan, Open, Next, Close, Select, Project, Agg, Join, Stat, Cost, Load}
@@ -48,6 +49,7 @@ use Rattle.fl_session.specs.Cost.{cost_of}
 use Rattle.fl_session.specs.ListSays.{EndsNext, EndsOn, EndsOnBoth, IsFields, IsGroup, IsPair, IsRow, ListSays}
 use Rattle.fl_session.specs.LoadSays.{LoadFails, PutsRecords}
 use Rattle.fl_session.specs.Notes.{with_cursor, without_cursors}
+use Rattle.fl_session.specs.Rows.{row_reply}
 use Rattle.fl_session.specs.declared.cost.Cost.TheVariants.{OfGet, OfScan}
 use Rattle.fl_session.specs.declared.notes.Notes.{Notes}
 use Rattle.fl_session.specs.declared.notes.TableCursor.{TableCursor}
@@ -115,22 +117,6 @@ abbrev pub NotesScan : State → State → Type 0
 NotesScan old new = OnlyLooks old new (record old.notes { cost = OfScan (reads_in old new) })
 
 -- ---- the commands
-
--- What a mount of tables found, why it failed, what it repaired and what it left alone. No table became another one; where all are
--- mounted, no row is pending.
-pub record MountsOver (old new : List Entry) (f : FlashState) (outcome : Result (Unit {0}) BadMount) (g : FlashState) : Type 0 where
-  pub found : OnOk outcome (IsTrue f.media.tells → MountsInTurn (length old) old new f g)
-  pub refused : IfErr outcome (λ bad. IsTrue f.media.tells → RefusesAt old new bad f g)
-  pub stops : IfErr outcome (λ bad. StopsAt old new bad)
-  pub cause : IfErr outcome (λ bad. MountCausedBy f bad.fault g)
-  pub running : OnOk outcome (AreRunning new)
-  pub none : OnOk outcome (NonePending new)
-  pub power : OnOk outcome (f.is_on ≡ true → g.is_on ≡ true)
-  pub as_many : length new ≡ length old
-  pub names : AreSameNames old new
-  pub same : AreSamePlans old new
-  pub repairs : AreUnlogged (tried outcome old) → FewRepairs (rings_of (tried outcome old)) f g
-  pub outside : IsTrue f.media.tells → OutsideStands (tried outcome old) (page_at f) (page_at g)
 
 -- the power goes on, and no cursor is open afterwards
 pub record MountsAll (old new : State) (said : Reply) : Type 0 where
@@ -227,21 +213,37 @@ CloseSays old new cursor said =
     ⊎ ((old.mounted ≡ true) × IsClosed old cursor × (said ≡ reply.NoCursor) × (new ≡ old))
     ⊎ ((old.mounted ≡ true) × ((held : TableCursor) × IsOpen old cursor held) × (said ≡ reply.Done) × (new ≡ record old { notes = with_cursor old.notes cursor None }))
 
--- A row or that there is none; a read fault, or the bad page, only where the lookup in the table fails so.
-abbrev pub LookSays : Table 64 64 → FlashState → FlashState → Reply → Type 0
-LookSays t f g reply.Absent = Unit {0}
-LookSays t f g (reply.Row key values note) = Unit {0}
-LookSays t f g reply.ReadFault = (e : FlashFault) × LookupFails t f (fault.Flash e) g
-LookSays t f g (reply.BadPage number) = (bad : BadPage) × (bad.wanted ≡ number) × LookupFails t f (fault.BadPage bad) g
-LookSays t f g _ = ⊥
+-- a row stands at a place: among the pending ones, or on a kept page, by its bytes where the flash tells them
+abbrev pub StandsAt : Table 64 64 → FlashState → RowAt → Row → Type 0
+StandsAt t f (placed.Pending i) row = slice_get (buffered_rows t) i ≡ Some row
+StandsAt t f (placed.InPage place) row =
+    (oldest_in t ≤ place.number) × (place.number < next_in t) × (IsTrue f.media.tells → slice_get (rows_at t f place.number) place.row ≡ Some row)
+
+-- The line of a row with the key, which stands where the lookup found it.
+pub record TellsRow (t : Table 64 64) (key : ℕ) (f : FlashState) (said : Reply) : Type 0 where
+  pub row : Row
+  pub said_is : said ≡ row_reply (has_blobs t) row
+  pub key_is : row.key ≡ key
+  pub place : RowAt
+  pub here : StandsAt t f place row
+  pub answers : IsAnswered t f key (Some place)
+
+-- The row with the key or that there is none, as the lookup in the table ends; a read fault, or the bad page, only where it
+-- fails so.
+abbrev pub LookSays : Table 64 64 → ℕ → FlashState → FlashState → Reply → Type 0
+LookSays t key f g reply.Absent = IsAnswered t f key None
+LookSays t key f g (reply.Row k values note) = TellsRow t key f (reply.Row k values note)
+LookSays t key f g reply.ReadFault = (e : FlashFault) × LookupFails t f (fault.Flash e) g
+LookSays t key f g (reply.BadPage number) = (bad : BadPage) × (bad.wanted ≡ number) × LookupFails t f (fault.BadPage bad) g
+LookSays t key f g _ = ⊥
 
 -- a lookup reads no more pages than the table keeps, and one
 abbrev pub ReadsFew : Table 64 64 → FlashState → FlashState → Type 0
 ReadsFew t f g = g.work.reads ≤ f.work.reads + (next_in t - oldest_in t) + 1
 
 -- the row of a key is looked up
-abbrev pub GetSays : State → State → ℕ → Entry → Reply → Type 0
-GetSays old new at entry said = LookSays (table_in entry.table) old.flash new.flash said × ReadsFew (table_in entry.table) old.flash new.flash × NotesGet old new
+abbrev pub GetSays : State → State → ℕ → ℕ → Entry → Reply → Type 0
+GetSays old new key at entry said = LookSays (table_in entry.table) key old.flash new.flash said × ReadsFew (table_in entry.table) old.flash new.flash × NotesGet old new
 
 -- the power goes off, and nothing is mounted from then on
 abbrev pub OffSays : State → State → Reply → Type 0
@@ -315,7 +317,7 @@ Caused (Stat name) old new told told_now result = Writes told told_now result (O
 Caused Cost old new told told_now result = Writes told told_now result (CostSays old new)
 Caused (Open cursor name range span) old new told told_now result = Writes told told_now result (OnTable old new name (OpenSays old new cursor range span))
 Caused (Close cursor) old new told told_now result = Writes told told_now result (CloseSays old new cursor)
-Caused (Get name key) old new told told_now result = Writes told told_now result (OnTable old new name (GetSays old new))
+Caused (Get name key) old new told told_now result = Writes told told_now result (OnTable old new name (GetSays old new key))
 Caused (Blob name key) old new told told_now result = Lists old new name told told_now result (λ entry. OnlyLooks old new old.notes × BlobSays (MayBeBadFor (table_in entry.table) old.flash) old.flash new.flash told told_now result)
 Caused (Scan name range span) old new told told_now result = Lists old new name told told_now result (λ entry. NotesScan old new × ListSays IsRow (EndsOn (table_in entry.table) old.flash new.flash) told told_now result)
 Caused (Next cursor count) old new told told_now result = NextLooks old new cursor count told told_now result

@@ -1,7 +1,7 @@
 -- What the commands of a script answer and leave one after another, and why, over any bytes and on any medium.
 use Rattle.std.specs.Prelude.{◌≡◌, ℕ, false, Option, Some, Ok, Err, List, [], ◌∷◌, ◌++◌}
 use Rattle.fl_base.specs.declared.stream.SinkFailed.{SinkFailed}
-use Rattle.fl_flash.specs.Flash.{Goes}
+use Rattle.fl_flash.specs.Flash.{Stays}
 use Rattle.fl_flash.specs.Media.{MediaState}
 use Rattle.fl_model.specs.Record.{Config}
 use Rattle.fl_words.specs.Command.{Command}
@@ -49,7 +49,7 @@ pub record SessionOver (lines : Lines) (opened new : MediaState) (Executed : Sta
   pub end : State
   pub executed : Executed begin end
   -- the bytes before and behind the flash's pages stand, and no count falls
-  pub goes : Goes begin.flash end.flash
+  pub goes : Stays begin.flash end.flash
   pub left : end.flash.media ≡ new
 
 -- .. over a medium whose image was opened, or made where the medium was empty

@@ -1,5 +1,5 @@
 -- How a run over a script and a medium ends, by its status.
-use Rattle.std.specs.Prelude.{◌≡◌, ℕ, ◌-◌, ◌≤◌, ◌⊎◌, IsTrue, Option, Some, List, [], ◌∷◌, ◌++◌, length, take, replicate, slice_get}
+use Rattle.std.specs.Prelude.{◌≡◌, ℕ, ◌+◌, ◌-◌, ◌≤◌, ◌⊎◌, IsTrue, Option, Some, List, [], ◌∷◌, ◌++◌, length, take, replicate, slice_get}
 use Rattle.fl_base.specs.Causes.{Rose, Appends}
 use Rattle.fl_flash.specs.Media.{MediaState}
 use Rattle.fl_model.specs.Record.{Config}
@@ -7,7 +7,8 @@ use Rattle.fl_model.specs.Image.{medium_len}
 use Rattle.fl_words.specs.Command.{Command}
 use Rattle.fl_words.specs.Medium.{header}
 use Rattle.fl_machine.specs.Machine.{Machine}
-use Rattle.fl_machine.specs.Script.{Start, Ready, Unended, BadLine, BadConfig, StandsFor, StandsAfter, Ran, RanInto}
+use Rattle.fl_machine.specs.Script.{Start, Ready, Unended, BadLine, BadConfig, StandsFor, StandsAfter}
+use Rattle.fl_machine.specs.WholeReads.{RanReading, RanIntoReading}
 use Rattle.fl_session.specs.Determined.{IsUncut, RanPlainly, RanPlainlyInto}
 use Rattle.fl_session.specs.Pending.{EndsAt}
 use Rattle.fl_session.specs.ScriptEnds.{Effects, EndsWith}
@@ -15,7 +16,7 @@ use Rattle.fl_session.specs.declared.status.Status.{Status}
 use Rattle.fl_session.specs.declared.status.Status.TheVariants.{Usage, MediaMake, Config as BadConfiguration, OtherConfig, NoMemory}
 
 -- what the outside tells before and after: the medium's content, what the source has left, the bytes that are written,
--- and the medium's faults
+-- and how often the medium failed and was read
 pub record Told : Type 0 where
   pub content : List ℕ
   pub content_now : List ℕ
@@ -24,6 +25,8 @@ pub record Told : Type 0 where
   pub written_now : Option (List ℕ)
   pub faults : ℕ
   pub faults_now : ℕ
+  pub reads : ℕ
+  pub reads_now : ℕ
 
 -- nothing was written, and the medium is as it was
 pub record IsUntouched (told : Told) : Type 0 where
@@ -52,12 +55,13 @@ opened config [] = new_content config
 opened config (byte ∷ bytes) = byte ∷ bytes
 
 -- From each state for which the medium stands these commands were run, and it stands for the state after them, of which the
--- status tells what is pending. Its length and its header are those of the configuration, whatever stands behind them.
+-- status tells what is pending. Its length and its header are those of the configuration, whatever stands behind them. Of the
+-- medium's reads one is for the header, and the others are those of the commands.
 pub record RunsAll (config : Config) (commands : List Command) (told : Told) (status : Status) : Type 0 where
   pub own : IsOwn config told.content
   pub formed : IsFormed config told.content_now
   pub runs : (old : Machine) → StandsFor config told.content old →
-      Ran config old commands (EndsAt config status told.content_now) (opened config told.content) told.content_now told.faults told.faults_now told.written told.written_now
+      RanReading config old commands (EndsAt config status told.content_now) (opened config told.content) told.content_now told.faults told.faults_now (told.reads + 1) told.reads_now told.written told.written_now
   -- where the medium doesn't fail and no cut falls into an operation, as the plain machine runs them
   pub plain : IsCalm told → (old : Machine) → StandsFor config told.content old → IsUncut config old commands →
       RanPlainly config old commands status (opened config told.content) told.content_now told.written told.written_now
@@ -67,7 +71,7 @@ pub record RunsInto (config : Config) (commands : List Command) (told : Told) : 
   pub own : IsOwn config told.content
   pub formed : IsFormed config told.content_now
   pub runs : (old : Machine) → StandsFor config told.content old →
-      RanInto config old commands (StandsAfter config (Some told.content_now)) (opened config told.content) told.content_now told.faults told.faults_now told.written told.written_now
+      RanIntoReading config old commands (StandsAfter config (Some told.content_now)) (opened config told.content) told.content_now told.faults told.faults_now (told.reads + 1) told.reads_now told.written told.written_now
   pub plain : IsCalm told → (old : Machine) → StandsFor config told.content old → IsUncut config old commands →
       RanPlainlyInto config old commands (opened config told.content) told.content_now told.written told.written_now
 
@@ -122,6 +126,8 @@ told_of old new left_now written written_now = record {
   written_now = written_now;
   faults = old.faults;
   faults_now = new.faults;
+  reads = old.reads;
+  reads_now = new.reads;
 }
 
 -- The early statuses, whoever tells the script. Nothing was written, and the medium is unchanged

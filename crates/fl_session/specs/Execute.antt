@@ -10,9 +10,9 @@ use Rattle.fl_machine.specs.Machine.{Machine}
 use Rattle.fl_machine.specs.Step.{Moment, Step}
 use Rattle.fl_machine.specs.Found.{HasRoom, IsAtRest, RestsAt}
 use Rattle.fl_machine.specs.OpenCursors.{AreWithin}
-use Rattle.fl_machine.specs.Script.{Ran, RanInto}
 use Rattle.fl_machine.specs.Small.{IsSmall}
 use Rattle.fl_machine.specs.Stays.{MomentStays}
+use Rattle.fl_machine.specs.WholeReads.{RanReading, RanIntoReading}
 use Rattle.fl_session.specs.Cost.{CountsReads, ReadsAsStated}
 
 -- all but the cursors is the same
@@ -52,13 +52,15 @@ pub record IsReady (config : Config) (old : Machine) : Type 0 where
 abbrev pub StandsAlike : (Machine → Type 0) → Machine → Type 0
 StandsAlike stands machine = (after : Machine) × stands after × IsAlike machine after
 
--- the session, the sink and the medium's content and faults before and after
+-- the session, the sink and the medium's content and counts before and after
 pub record Around : Type 0 where
   pub config : Config
   pub content : List ℕ
   pub content_now : List ℕ
   pub faults : ℕ
   pub faults_now : ℕ
+  pub reads : ℕ
+  pub reads_now : ℕ
   pub told : Option (List ℕ)
   pub told_now : Option (List ℕ)
 
@@ -66,10 +68,10 @@ pub record Around : Type 0 where
 abbrev pub RanAll : Around → (Machine → Type 0) → (Machine → Type 0) → List Command → Type 0
 RanAll around stands stands_now commands =
     (old : Machine) → stands old → IsReady around.config old →
-    Ran around.config old commands stands_now around.content around.content_now around.faults around.faults_now around.told around.told_now
+    RanReading around.config old commands stands_now around.content around.content_now around.faults around.faults_now around.reads around.reads_now around.told around.told_now
 
 -- .. and in the reply of the last of them the sink failed
 abbrev pub RanPart : Around → (Machine → Type 0) → (Machine → Type 0) → List Command → Type 0
 RanPart around stands stands_now commands =
     (old : Machine) → stands old → IsReady around.config old →
-    RanInto around.config old commands (StandsAlike stands_now) around.content around.content_now around.faults around.faults_now around.told around.told_now
+    RanIntoReading around.config old commands (StandsAlike stands_now) around.content around.content_now around.faults around.faults_now around.reads around.reads_now around.told around.told_now

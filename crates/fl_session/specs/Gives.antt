@@ -6,7 +6,7 @@ use Rattle.fl_cursor.specs.Cursor.{mark_of, left_of}
 use Rattle.fl_cursor.specs.Reads.{most_of, least_of}
 use Rattle.fl_cursor.specs.declared.cursor.Cursor.{Cursor}
 use Rattle.fl_model.specs.Row.{Row}
-use Rattle.fl_page.specs.Contents.{Contents}
+use Rattle.fl_frame.specs.Contents.{Contents}
 use Rattle.fl_page.specs.declared.fault.ReadFault.TheVariants.{Flash, BadPage}
 use Rattle.fl_words.specs.Reply.{texts}
 use Rattle.fl_session.specs.Rows.{row_reply}

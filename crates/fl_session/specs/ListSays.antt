@@ -6,7 +6,8 @@ use Rattle.fl_base.specs.declared.stream.SinkFailed.{SinkFailed}
 use Rattle.fl_cursor.specs.Cursor.{IfBad, MayBeBad}
 use Rattle.fl_flash.specs.Flash.{FlashState}
 use Rattle.fl_flash.specs.declared.flash.FlashFault.{FlashFault}
-use Rattle.fl_page.specs.Contents.{IsCaused, contents_of}
+use Rattle.fl_page.specs.Causes.{IsCaused}
+use Rattle.fl_frame.specs.Contents.{contents_of}
 use Rattle.fl_page.specs.declared.fault.BadPage.{BadPage}
 use Rattle.fl_page.specs.declared.fault.ReadFault.TheVariants as fault
 use Rattle.fl_script.specs.ReplyView.{reply_text}

@@ -6,7 +6,7 @@ use Rattle.fl_base.specs.declared.stream.SinkFailed.{SinkFailed}
 use Rattle.fl_base.specs.declared.types.KeyRange.{KeyRange}
 use Rattle.fl_base.specs.declared.types.Span.{Span}
 use Rattle.fl_flash.specs.Flash.{FlashState}
-use Rattle.fl_page.specs.Contents.{IsCaused}
+use Rattle.fl_page.specs.Causes.{IsCaused}
 use Rattle.fl_model.specs.Limits.{scan_limit, least_reads}
 use Rattle.fl_model.specs.Query.{selected}
 use Rattle.fl_model.specs.Record.{Plan}

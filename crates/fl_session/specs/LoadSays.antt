@@ -3,7 +3,7 @@ use Rattle.std.specs.Prelude.{◌≡◌, ℕ, zero, suc, ◌+◌, true, unwrap_o
 use Rattle.fl_flash.specs.Flash.{FlashState}
 use Rattle.fl_machine.specs.Step.{load_values, next_random}
 use Rattle.fl_model.specs.Row.{Row}
-use Rattle.fl_ring.specs.Causes.{CausedBy}
+use Rattle.fl_frame.specs.Causes.{CausedBy}
 use Rattle.fl_rlc.specs.Refusal.{NeedsNoOperation, RefusedSame, put_refusal}
 use Rattle.fl_rlc.specs.Rows.{HaveLogged}
 use Rattle.fl_rlc.specs.Table.{IsSamePlan, log_in, table_in}

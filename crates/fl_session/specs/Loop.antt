@@ -3,7 +3,7 @@
 use Rattle.std.specs.Prelude.{◌≡◌, ℕ, ◌+◌, ◌<◌, ◌≤◌, Bool, false, Option, Some, None, List, [], ◌∷◌, ◌++◌, length, take, drop}
 use Rattle.fl_words.specs.Command.{Command}
 use Rattle.fl_machine.specs.Script.{accepted, first_refused}
-use Rattle.fl_lines.specs.Taken.{HasTaken, TakesFew}
+use Rattle.fl_lines.specs.Taken.{HasTaken, TakesWithin}
 use Rattle.fl_lines.specs.Texts.{whole_lines, rest_of, lines_within}
 use Rattle.fl_session.specs.declared.status.Status.{Status}
 use Rattle.fl_session.specs.declared.status.Status.TheVariants.{Done, Usage, Line, ScriptRead, OutWrite, MediaMake, Config, OtherConfig, ScriptLong, NoMemory}
@@ -22,10 +22,11 @@ pub record Tail : Type 0 where
 abbrev pub lines_in : Tail → List (List ℕ)
 lines_in tail = tail.first ∷ lines_within tail.most tail.text
 
--- at most 4,097 bytes were taken from the first byte of the line on that stands behind these lines of the script
+-- at most 4,097 bytes were taken from the first byte of the line on that stands behind these lines of the script, and at most
+-- one more than are read
 abbrev pub TakesTail : Tail → List (List ℕ) → Option (List ℕ) → Type 0
 TakesTail tail [] left_now = left_now ≡ Some (drop tail.taken tail.text)
-TakesTail tail (first ∷ given) left_now = TakesFew tail.text given left_now
+TakesTail tail (first ∷ given) left_now = TakesWithin tail.most tail.text given left_now
 
 -- .. of the line of this number
 pub record TailTakes (tail : Tail) (number : ℕ) (left_now : Option (List ℕ)) : Type 0 where

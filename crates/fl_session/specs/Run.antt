@@ -19,7 +19,7 @@ abbrev pub tail_of : ℕ → LinesState → List ℕ → Tail
 tail_of number state left = record { number = number; first = state.line; text = state.ahead ++ left; taken = length state.ahead; most = state.most; closed = state.closed }
 
 abbrev pub around_of : Config → MediaState → MediaState → Option (List ℕ) → Option (List ℕ) → Around
-around_of config old new told told_now = record { config = config; content = old.content; content_now = new.content; faults = old.faults; faults_now = new.faults; told = told; told_now = told_now }
+around_of config old new told told_now = record { config = config; content = old.content; content_now = new.content; faults = old.faults; faults_now = new.faults; reads = old.reads; reads_now = new.reads; told = told; told_now = told_now }
 
 -- nothing was run
 pub record RunsNothing (left left_now : Option (List ℕ)) (All : List Command → Type 0) (status : Status) : Type 0 where

@@ -4,7 +4,7 @@ use Rattle.fl_machine.specs.Script.{Start, Ready, Unended, BadLine, BadConfig, s
 use Rattle.fl_lines.specs.Taken.{TakesFew}
 use Rattle.fl_lines.specs.Texts.{lines_read}
 
--- of the line of this number, at most 4,097 bytes were taken from its first byte on
+-- of the line of this number, at most 4,097 bytes were taken from its first byte on, and of the script at most one more than are read
 pub record TakesLine (text : List ℕ) (number : ℕ) (left_now : Option (List ℕ)) : Type 0 where
   pub before : List (List ℕ)
   pub others : List (List ℕ)

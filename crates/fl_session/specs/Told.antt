@@ -3,7 +3,8 @@ use Rattle.std.specs.Prelude.{◌≡◌, ◌⊎◌, ℕ, Bool, Option, Some, Non
 use Rattle.fl_cursor.specs.Cursor.{MayBeBad}
 use Rattle.fl_flash.specs.Flash.{FlashState}
 use Rattle.fl_flash.specs.declared.flash.FlashFault.{FlashFault}
-use Rattle.fl_page.specs.Contents.{IsCaused, contents_of}
+use Rattle.fl_page.specs.Causes.{IsCaused}
+use Rattle.fl_frame.specs.Contents.{contents_of}
 use Rattle.fl_page.specs.declared.fault.BadPage.{BadPage}
 use Rattle.fl_page.specs.declared.fault.ReadFault.TheVariants as fault
 use Rattle.fl_rlc.specs.Table.{table_in}

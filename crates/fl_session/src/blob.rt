@@ -7,7 +7,7 @@ ghost use Rattle.fl_model.specs.Record.{Plan};
 ghost use Rattle.fl_model.specs.Spline.{lookup_limit};
 ghost use Rattle.fl_model.specs.Table as model;
 ghost use Rattle.fl_model.specs.Table.{Entry};
-ghost use Rattle.fl_page.specs.Contents.{OnlyReads};
+ghost use Rattle.fl_frame.specs.Contents.{OnlyReads};
 ghost use Rattle.fl_schema.specs.Schema.{row_of};
 ghost use Rattle.fl_table.specs.BlobAt.{has_blobs, content_in};
 ghost use Rattle.fl_table.specs.Finding.{LookupFails};

@@ -1,7 +1,7 @@
 // The line of a blob's bytes, whose digits are written as its pages are read.
 ghost use Rattle.std.specs.Prelude.{◌≡◌, ◌+◌, ◌≤◌, true, IfErr};
 ghost use Rattle.fl_base.specs.Causes.{HasCause, Rose};
-ghost use Rattle.fl_page.specs.Contents.{OnlyReads};
+ghost use Rattle.fl_frame.specs.Contents.{OnlyReads};
 ghost use Rattle.fl_script.specs.ReplyView.{reply_text};
 ghost use Rattle.fl_session.specs.BlobLine.{GivesDigits, IsTurned, ShowsBytes, read_reply};
 ghost use Rattle.fl_session.specs.BlobSays.{BlobSays, GivesSome, IsBadAhead};

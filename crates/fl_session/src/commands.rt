@@ -2,7 +2,7 @@
 ghost use Rattle.std.specs.Prelude.{◌≡◌, ℕ, ◌+◌, ◌^◌, ◌<◌, ◌≤◌, List, ◌++◌, Some, Ok, true, []};
 ghost use Rattle.fl_base.specs.Causes.{Rose};
 ghost use Rattle.fl_model.specs.Record.{Config};
-ghost use Rattle.fl_flash.specs.Flash.{Goes};
+ghost use Rattle.fl_flash.specs.Flash.{Stays};
 ghost use Rattle.fl_script.specs.CommandView.{command_view};
 ghost use Rattle.fl_session.specs.CausedEach.{CausedEach, CausedInto};
 ghost use Rattle.fl_session.specs.Execute.{RanAll, RanPart};
@@ -49,7 +49,7 @@ pub(crate) fn run_commands<T: Executor, S: Source, K: Sink>(
     ensures write { result ≡ Status.OutWrite → Rose (K.faults out.old) (K.faults out.new) }
     ensures statuses { IsOfCommands result }
     ensures later { (S.faults script.old ≤ S.faults script.new) × (K.faults out.old ≤ K.faults out.new) }
-    ensures goes { Goes (T.flash session.old) (T.flash session.new) }
+    ensures goes { Stays (T.flash session.old) (T.flash session.new) }
 {
     let mut command = first;
     let mut line = number;

@@ -1,10 +1,11 @@
 // What executes commands.
 ghost use Rattle.std.specs.Prelude.{◌≡◌, ◌≤◌, ℕ, List, Option, Some, slice_get};
 ghost use Rattle.fl_base.specs.Causes.{HasCause};
-ghost use Rattle.fl_flash.specs.Flash.{FlashState, Goes};
+ghost use Rattle.fl_flash.specs.Flash.{FlashState, Stays};
 ghost use Rattle.fl_model.specs.Record.{Config, Plan};
 ghost use Rattle.fl_machine.specs.Machine.{Machine};
 ghost use Rattle.fl_machine.specs.Small.{AreTables};
+ghost use Rattle.fl_frame.specs.Device.{SameDevice};
 ghost use Rattle.fl_rlc.specs.Rings.{rings_in};
 ghost use Rattle.fl_rlc.specs.Table.{table_in};
 ghost use Rattle.fl_script.specs.CommandView.{command_view};
@@ -56,7 +57,7 @@ pub trait Executor {
         requires runnable { IsRunnable (command_view command.now room.now) }
         ensures cause { Caused (command_view command.now room.now) (state self.old) (state self.new) (K.written out.old) (K.written out.new) result }
         ensures sound { sound self.new }
-        ensures goes { Goes (flash self.old) (flash self.new) }
+        ensures goes { Stays (flash self.old) (flash self.new) }
         ensures sink { HasCause (K.faults out.old) (K.faults out.new) result }
         ensures step { (config : Config) (old : Machine) → stands self.old config old →
             Executes config old (command_view command.now room.now) (stands self.new config) (flash self.old) (flash self.new) (K.written out.old) (K.written out.new) result };
@@ -91,7 +92,7 @@ pub trait Executor {
         requires { sound self.old }
         ensures cause { OldestSays (state self.old) (state self.new) name result }
         ensures sound { sound self.new }
-        ensures goes { Goes (flash self.old) (flash self.new) }
+        ensures goes { Stays (flash self.old) (flash self.new) }
         ensures looks { (config : Config) (m : Machine) → stands self.old config m → LooksFor config m name (stands self.new config) (flash self.old) (flash self.new) result };
 
     /// The rows that no flush has written. They are in memory: no page is read.
@@ -101,6 +102,9 @@ pub trait Executor {
 
     /// Each table of a state for which it stands is one of its plan.
     ghost tables_hold: { (s : Self) (config : Config) (m : Machine) → stands s config m → AreTables config.plans m.tables };
+
+    /// It counts the programs and erases of its flash.
+    ghost same_device: { (s : Self) (config : Config) (m : Machine) → stands s config m → SameDevice (flash s) m.device };
 
     /// The keys of each of its tables have eight bytes at most.
     ghost keys_fit: { (s : Self) (config : Config) (m : Machine) → stands s config m → (place : ℕ) (plan : Plan) → slice_get config.plans place ≡ Some plan → plan.key_bytes ≤ 8 };

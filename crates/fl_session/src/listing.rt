@@ -3,7 +3,7 @@ ghost use Rattle.std.specs.Prelude.{◌≡◌, ◌≤◌, ℕ, length, IfErr};
 ghost use Rattle.fl_base.specs.Causes.{HasCause, Rose};
 ghost use Rattle.fl_cursor.specs.Cursor.{table_of, IsReady, IsTold, MayBeBad};
 ghost use Rattle.fl_cursor.specs.Going.{Keeps};
-ghost use Rattle.fl_page.specs.Contents.{contents_of, OnlyReads};
+ghost use Rattle.fl_frame.specs.Contents.{contents_of, OnlyReads};
 ghost use Rattle.fl_table.specs.Look.{layout_in};
 ghost use Rattle.fl_session.specs.Gives.{Gives, ReadsToGive};
 ghost use Rattle.fl_session.specs.ListSays.{GivesLines, IsRow};

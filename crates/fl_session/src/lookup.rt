@@ -3,7 +3,7 @@ ghost use Rattle.std.specs.Prelude.{◌≡◌, ℕ, true, length, IsTrue};
 ghost use Rattle.fl_flash.specs.Flash.{Goes};
 ghost use Rattle.fl_model.specs.Record.{Plan};
 ghost use Rattle.fl_model.specs.Table as model;
-ghost use Rattle.fl_page.specs.Contents.{OnlyReads};
+ghost use Rattle.fl_frame.specs.Contents.{OnlyReads};
 ghost use Rattle.fl_script.specs.ReplyView.{reply_text};
 ghost use Rattle.fl_table.specs.Memory.{is_running, LiesOn};
 ghost use Rattle.fl_table.specs.Standing.{Stands};
@@ -22,7 +22,7 @@ pub(crate) fn look_up<F: Flash>(table: &Table, key: u64, flash: &mut F, buf: &mu
     requires running { is_running table.now ≡ true }
     requires lies { LiesOn table.now (F.state flash.old) }
     requires room { length buf.old.bytes ≡ (F.state flash.old).geometry.page }
-    ensures cause { Says (reply_text result) (LookSays table.now (F.state flash.old) (F.state flash.new)) }
+    ensures cause { Says (reply_text result) (LookSays table.now key (F.state flash.old) (F.state flash.new)) }
     ensures few { ReadsFew table.now (F.state flash.old) (F.state flash.new) }
     ensures counts { OnlyReads (F.state flash.old) (F.state flash.new) }
     ensures lies { LiesOn table.now (F.state flash.new) }

@@ -7,7 +7,7 @@ ghost use Rattle.fl_model.specs.Limits.{scan_limit, least_reads};
 ghost use Rattle.fl_model.specs.Operators as operators;
 ghost use Rattle.fl_model.specs.Record.{Plan};
 ghost use Rattle.fl_model.specs.Table as model;
-ghost use Rattle.fl_page.specs.Contents.{contents_of, OnlyReads};
+ghost use Rattle.fl_frame.specs.Contents.{contents_of, OnlyReads};
 ghost use Rattle.fl_table.specs.Look.{layout_in};
 ghost use Rattle.fl_table.specs.Memory.{is_running, LiesOn};
 ghost use Rattle.fl_table.specs.Standing.{Stands};

@@ -3,7 +3,8 @@ ghost use Rattle.std.specs.Prelude.{◌≡◌, ℕ, ◌+◌, ◌-◌, ◌^◌, �
 ghost use Rattle.std.specs.Borrow.{GName};
 ghost use Rattle.fl_base.specs.Causes.{HasCause};
 ghost use Rattle.fl_flash.specs.Flash.{FlashState};
-ghost use Rattle.fl_page.specs.Contents.{Contents, contents_of, OnlyReads, IsCaused};
+ghost use Rattle.fl_frame.specs.Contents.{Contents, contents_of, OnlyReads};
+ghost use Rattle.fl_page.specs.Causes.{IsCaused};
 ghost use Rattle.fl_page.specs.Steps.{left_after};
 ghost use Rattle.fl_page.specs.declared.fault.BadPage.{BadPage};
 ghost use Rattle.fl_words.specs.Reply as words;

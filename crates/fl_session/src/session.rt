@@ -338,6 +338,8 @@ impl<'m, M: Media> Executor for Session<'m, M> {
 
     ghost tables_hold = { λ s config m h. tables-hold config s.tables.entries.items _ s.mounted s.notes m h };
 
+    ghost same_device = { λ s config m h. h.device };
+
     ghost keys_fit = { λ s config m h. keys-fit config s.tables.entries.items _ s.mounted s.notes m h };
 
     fn execute<K: Sink>(

@@ -1,7 +1,7 @@
 // The run of a script over an image.
 ghost use Rattle.std.specs.Prelude.{◌≡◌, ℕ, ◌+◌, ◌<◌, ◌≤◌, ◌↔◌, map, string_bytes, true, IsTrue, Some, None, List, length, sum_by};
 ghost use Rattle.fl_base.specs.Causes.{Rose};
-ghost use Rattle.fl_flash.specs.Flash.{Goes};
+ghost use Rattle.fl_flash.specs.Flash.{Stays};
 ghost use Rattle.fl_flash.specs.Places.{extent};
 ghost use Rattle.fl_base.specs.declared.types.Geometry.{Geometry};
 ghost use Rattle.fl_model.specs.Record.{Config as Configuration, blocks_of};
@@ -57,7 +57,7 @@ fn run_first<E: Executor, S: Source, K: Sink>(
         (λ commands. CausedInto commands (E.state session.old) (E.state session.new) (K.written out.old) (K.written out.new)) result }
     ensures tells { (configured : Configuration) (m : Machine) → E.stands session.new configured m → TellsPending configured result m }
     ensures rows { TellsRows (E.state session.new) result }
-    ensures goes { Goes (E.flash session.old) (E.flash session.new) }
+    ensures goes { Stays (E.flash session.old) (E.flash session.new) }
     ensures read { result ≡ Status.ScriptRead → Rose (S.faults script.old) (S.faults script.new) }
     ensures write { result ≡ Status.OutWrite → Rose (K.faults out.old) (K.faults out.new) }
     ensures statuses { IsOfCommands result }

@@ -9,6 +9,11 @@ pub mod GroupLines
 pub mod FirstKey
 pub mod TalkLoop
 pub mod TalkEnds
+mod LookedState
+mod FirstSaid
+mod CausedLines
+mod CausedFlushes
+mod CausedEnds
 pub mod Newlines
 pub mod NextLine
 pub mod LeadingLines

@@ -1,7 +1,7 @@
 -- How a shell ends over an image that was opened.
 use Rattle.std.proofs.Common.{◌≡◌, ℕ, ◌^◌, ◌≤◌, inl, true, false, IsTrue, Option, Some, None, Result, List, [], length, lit≤, refl, sym, ◌∙◌, ap, subst, le_trans, arith}
 use base.Fml.{GName}
-use Rattle.fl_flash.specs.Flash.{FlashState, Goes}
+use Rattle.fl_flash.specs.Flash.{FlashState, Stays}
 use Rattle.fl_flash.specs.Media.{MediaState}
 use Rattle.fl_image.specs.Image.{OnlyLooksAt}
 use Rattle.fl_lines.specs.Stream.{LinesState}
@@ -83,7 +83,7 @@ over-medium config old all total stands m m' before after told told_now left_now
     (medium-over config old all total (StandsAlike stands) (StandsAfter config (Some after.content)) m.content m'.content m.faults m.faults m'.faults told told_now left_now flushed status
     (after-alike config (Some after.content) stands seen) (omega arith) h))
 
-pub over-goes : (f f' : FlashState) (before after : MediaState) → f.media ≡ before → after ≡ f'.media → Goes f f' → MediaGoes before after
+pub over-goes : (f f' : FlashState) (before after : MediaState) → f.media ≡ before → after ≡ f'.media → Stays f f' → MediaGoes before after
 over-goes f f' before after is after_is goes = subst (λ x. MediaGoes x after) is (subst (λ y. MediaGoes f.media y) (sym after_is) (record { tells = goes.tells; faults = goes.faults }))
 
 -- ---- an input of which nothing was read

@@ -146,7 +146,7 @@ flushed-more config old moments commands name stands stands_now content faults f
     }
 
 -- one table more
-plan-more : (plans : List Plan) (at : ℕ) (name : List ℕ) → at < length plans → IfSome (slice_get plans at) (λ plan. name ≡ plan.name) → (plan : Plan) × (name ≡ plan.name) × (take (at + 1) plans ≡ take at plans ++ plan ∷ [])
+pub plan-more : (plans : List Plan) (at : ℕ) (name : List ℕ) → at < length plans → IfSome (slice_get plans at) (λ plan. name ≡ plan.name) → (plan : Plan) × (name ≡ plan.name) × (take (at + 1) plans ≡ take at plans ++ plan ∷ [])
 plan-more [] at name lt is = absurd (omega arith)
 plan-more (p ∷ plans) zero name lt is = (p, is, refl)
 plan-more (p ∷ plans) (suc at) name lt is =

@@ -14,7 +14,7 @@ use Rattle.fl_shell.proofs.AnsweredLines.{causes-earlier, causes-later}
 use Rattle.fl_shell.proofs.Ran.{over-seen}
 
 -- what is said of the lines that were answered goes over into what follows from it
-ends-map : (P Q : List (List ℕ) → Bool → Type 0) (all : List (List ℕ)) (total : ℕ) (left_now : Option (List ℕ)) (status : ShellStatus) → ((lines : List (List ℕ)) (whole : Bool) → P lines whole → Q lines whole) →
+pub ends-map : (P Q : List (List ℕ) → Bool → Type 0) (all : List (List ℕ)) (total : ℕ) (left_now : Option (List ℕ)) (status : ShellStatus) → ((lines : List (List ℕ)) (whole : Bool) → P lines whole → Q lines whole) →
     EndsBy P all total left_now status → EndsBy Q all total left_now status
 ends-map P Q all total left_now Done f h = (f all true h.0, h.1)
 ends-map P Q all total left_now Unflushed f h = (f all true h.0, h.1)
@@ -43,26 +43,27 @@ answered-flushed config old lines whole stands stands_now content mid content_no
   unread = f.unread;
 }
 
--- how it ends them
-pub flush-ends : (config : Config) (old : Machine) (all : List (List ℕ)) (total : ℕ) (stands stands_now : Machine → Type 0) (content mid content_now : List ℕ) (faults before now : ℕ) (told told_now left_now : Option (List ℕ)) (flushed : Flushed) (status : ShellStatus) → IsOfTalk status → before ≤ now →
-    TalkEnds config old all total stands content mid faults before told told_now left_now status →
-    ((moments : List Moment) → RanOver config old moments stands content mid faults before → FlushesBehind config old moments stands_now content content_now faults now flushed) →
-    MediumEnds config old all total stands_now content content_now faults now told told_now left_now flushed (behind status flushed.all)
-flush-ends config old all total stands stands_now content mid content_now faults before now told told_now left_now flushed status of later h flush =
-    by_status status flushed.all of refl
-    (ends-map (λ front whole. Answered config old front whole stands content mid faults before told told_now) Ends all total left_now status
-    (λ front whole a. answered-flushed config old front whole stands stands_now content mid content_now faults before now told told_now flushed later a (flush (moments_of a.turns) a.ran)) h)
+-- what is said of the lines goes over into what is said behind the flush
+pub ends-behind : (P Q : List (List ℕ) → Bool → Type 0) (all : List (List ℕ)) (total : ℕ) (left_now : Option (List ℕ)) (flushed : Flushed) (status : ShellStatus) → IsOfTalk status → ((lines : List (List ℕ)) (whole : Bool) → P lines whole → Q lines whole) →
+    EndsBy P all total left_now status → EndsBy Q all total left_now (behind status flushed.all) × TellsFlushed flushed (behind status flushed.all)
+ends-behind P Q all total left_now flushed status of f h = by_status status flushed.all of refl (ends-map P Q all total left_now status f h)
   where
-    Ends : List (List ℕ) → Bool → Type 0
-    Ends front whole = Talked config old front whole flushed stands_now content content_now faults now told told_now
-
-    by_status : (status : ShellStatus) (b : Bool) → IsOfTalk status → flushed.all ≡ b → EndsBy Ends all total left_now status → EndsBy Ends all total left_now (behind status b) × TellsFlushed flushed (behind status b)
+    by_status : (status : ShellStatus) (b : Bool) → IsOfTalk status → flushed.all ≡ b → EndsBy Q all total left_now status → EndsBy Q all total left_now (behind status b) × TellsFlushed flushed (behind status b)
     by_status Done true of e h = (h, e)
     by_status Done false of e h = (h, e)
     by_status InputRead b of e h = (h, tt)
     by_status OutWrite b of e h = (h, tt)
     by_status InputLong b of e h = (h, tt)
     by_status status b of e h = absurd of
+
+-- how it ends them
+pub flush-ends : (config : Config) (old : Machine) (all : List (List ℕ)) (total : ℕ) (stands stands_now : Machine → Type 0) (content mid content_now : List ℕ) (faults before now : ℕ) (told told_now left_now : Option (List ℕ)) (flushed : Flushed) (status : ShellStatus) → IsOfTalk status → before ≤ now →
+    TalkEnds config old all total stands content mid faults before told told_now left_now status →
+    ((moments : List Moment) → RanOver config old moments stands content mid faults before → FlushesBehind config old moments stands_now content content_now faults now flushed) →
+    MediumEnds config old all total stands_now content content_now faults now told told_now left_now flushed (behind status flushed.all)
+flush-ends config old all total stands stands_now content mid content_now faults before now told told_now left_now flushed status of later h flush =
+    ends-behind (λ front whole. Answered config old front whole stands content mid faults before told told_now) (λ front whole. Talked config old front whole flushed stands_now content content_now faults now told told_now) all total left_now flushed status of
+    (λ front whole a. answered-flushed config old front whole stands stands_now content mid content_now faults before now told told_now flushed later a (flush (moments_of a.turns) a.ran)) h
 
 -- ---- over a medium
 

@@ -17,3 +17,5 @@ pub mod Leading
 pub mod Input
 pub mod Complete
 pub mod Statuses
+pub mod Caused
+pub mod Causes

@@ -2,11 +2,12 @@
 ghost use Rattle.std.specs.Prelude.{◌≡◌, ℕ, List, Some, None, IsTrue, option_map, slice_get};
 ghost use Rattle.fl_base.specs.Causes.{HasCause};
 ghost use Rattle.fl_config.specs.Whole.{is_whole, Makes};
-ghost use Rattle.fl_flash.specs.Flash.{Goes};
+ghost use Rattle.fl_flash.specs.Flash.{Stays};
 ghost use Rattle.fl_machine.specs.Machine.{Machine};
 ghost use Rattle.fl_machine.specs.Script.{runs};
 ghost use Rattle.fl_model.specs.Record.{Config as Configuration};
 ghost use Rattle.fl_script.specs.Written.{Written};
+ghost use Rattle.fl_shell.specs.Caused.{CausedLine, CausedOwn, CausedRun, CausesFirst, CausesLast, first_said};
 ghost use Rattle.fl_shell.specs.FirstKey.{BeginsShort};
 ghost use Rattle.fl_shell.specs.Own.{own_of};
 ghost use Rattle.fl_shell.specs.OwnView.{own_view};
@@ -48,6 +49,7 @@ fn write_key<K: Sink>(key: u64, out: &mut K) -> Result<(), SinkFailed>
 /// Answers the last key of a table, or `none`.
 fn answer_last<E: Executor, K: Sink>(session: &E, name: Name, out: &mut K) -> Result<(), SinkFailed>
     ensures text { (config : Configuration) (m : Machine) → E.stands session.now config m → Written (K.written out.old) (K.written out.new) result (last_text config m name) }
+    ensures told { CausesLast (E.state session.now) name (K.written out.old) (K.written out.new) result }
     ensures cause { HasCause (K.faults out.old) (K.faults out.new) result }
 {
     match session.last_key(name) {
@@ -73,6 +75,7 @@ fn least_in(groups: &[u8]) -> Option<&[u8]>
 /// Answers the least key of the first of these groups, `none` if there are none, or what else the replies say.
 fn write_first<K: Sink>(replies: &[u8], out: &mut K) -> Result<(), SinkFailed>
     ensures text { (said : List Said) → BeginsShort said → replies.now ≡ texts said → Written (K.written out.old) (K.written out.new) result (first_text said) }
+    ensures exact { Written (K.written out.old) (K.written out.new) result (first_said replies.now) }
     ensures cause { HasCause (K.faults out.old) (K.faults out.new) result }
 {
     if replies.starts_with(b"end ") {
@@ -96,8 +99,9 @@ fn answer_first<E: Executor, K: Sink>(
 ) -> Result<(), SinkFailed>
     requires { E.sound session.old }
     ensures sound { E.sound session.new }
-    ensures goes { Goes (E.flash session.old) (E.flash session.new) }
+    ensures goes { Stays (E.flash session.old) (E.flash session.new) }
     ensures cause { HasCause (K.faults out.old) (K.faults out.new) result }
+    ensures told { CausesFirst (E.state session.old) (E.state session.new) name (K.written out.old) (K.written out.new) result }
     ensures first { (config : Configuration) (m : Machine) → E.stands session.old config m →
         TellsFirst config m name (E.stands session.new config) (E.flash session.old) (E.flash session.new) (K.written out.old) (K.written out.new) result }
 {
@@ -135,8 +139,9 @@ fn answer_command<E: Executor, K: Sink>(
 ) -> Result<(), SinkFailed>
     requires { E.sound session.old }
     ensures sound { E.sound session.new }
-    ensures goes { Goes (E.flash session.old) (E.flash session.new) }
+    ensures goes { Stays (E.flash session.old) (E.flash session.new) }
     ensures cause { HasCause (K.faults out.old) (K.faults out.new) result }
+    ensures told { CausedRun (runs line.now) (E.state session.old) (E.state session.new) (K.written out.old) (K.written out.new) result }
     ensures turn { (config : Configuration) (m : Machine) → own_of line.now ≡ None → E.stands session.old config m →
         Turns config m line.now (runs line.now) (E.stands session.new config) (E.flash session.old) (E.flash session.new) (K.written out.old) (K.written out.new) result }
 {
@@ -161,8 +166,9 @@ fn answer_own<E: Executor, K: Sink>(
     requires sound { E.sound session.old }
     requires whole { IsTrue (is_whole config.now) }
     ensures sound { E.sound session.new }
-    ensures goes { Goes (E.flash session.old) (E.flash session.new) }
+    ensures goes { Stays (E.flash session.old) (E.flash session.new) }
     ensures cause { HasCause (K.faults out.old) (K.faults out.new) result }
+    ensures told { (line : List ℕ) → CausedOwn (Some (own_view own.now)) line (E.state session.old) (E.state session.new) (K.written out.old) (K.written out.new) result }
     ensures turn { (configured : Configuration) (m : Machine) (line : List ℕ) → Makes config.now configured → own_of line ≡ Some (own_view own.now) → E.stands session.old configured m →
         Turns configured m line (command_by (Some (own_view own.now)) line) (E.stands session.new configured) (E.flash session.old) (E.flash session.new) (K.written out.old) (K.written out.new) result }
 {
@@ -187,8 +193,9 @@ pub(crate) fn answer<E: Executor, K: Sink>(
     requires sound { E.sound session.old }
     requires whole { IsTrue (is_whole config.now) }
     ensures sound { E.sound session.new }
-    ensures goes { Goes (E.flash session.old) (E.flash session.new) }
+    ensures goes { Stays (E.flash session.old) (E.flash session.new) }
     ensures cause { HasCause (K.faults out.old) (K.faults out.new) result }
+    ensures told { CausedLine line.now (E.state session.old) (E.state session.new) (K.written out.old) (K.written out.new) result }
     ensures turn { (configured : Configuration) (m : Machine) → Makes config.now configured → E.stands session.old configured m →
         Turns configured m line.now (command_for line.now) (E.stands session.new configured) (E.flash session.old) (E.flash session.new) (K.written out.old) (K.written out.new) result }
 {

@@ -2,13 +2,15 @@
 ghost use Rattle.std.specs.Prelude.{◌≡◌, ◌≤◌, ◌<◌, ◌+◌, ◌*◌, ◌++◌, [], length, slice_get, true, Some, IfSome, IsTrue};
 ghost use Rattle.fl_base.specs.Causes.{HasCause};
 ghost use Rattle.fl_config.specs.Whole.{is_whole, Makes};
-ghost use Rattle.fl_flash.specs.Flash.{Goes};
+ghost use Rattle.fl_flash.specs.Flash.{Stays};
 ghost use Rattle.fl_machine.specs.Machine.{Machine};
 ghost use Rattle.fl_machine.specs.Step.{Located, located};
 ghost use Rattle.fl_model.specs.Record.{Config as Configuration};
 ghost use Rattle.fl_plan.specs.Limits.{IsWithinLimits};
 ghost use Rattle.fl_plan.specs.Plan.{Label, blocks_in, plan_of_table, with_log};
+ghost use Rattle.fl_session.specs.Caused.{OnlyLooks};
 ghost use Rattle.fl_shell.specs.Beside.{AddsBlobs, TellsBeside, WritesTable};
+ghost use Rattle.fl_shell.specs.Caused.{WritesSome};
 ghost use Rattle.fl_shell.specs.Talk.{counts_text, held_in, key_line, ring_text, rings_text, sizes_text};
 ghost use Rattle.fl_shell.specs.Turning.{Describes};
 ghost use Rattle.fl_sizing.specs.Text.{figure_line};
@@ -156,7 +158,8 @@ fn add_blobs<E: Executor>(session: &mut E, name: Name, table: &TableConfig, text
     requires sound { E.sound session.old }
     requires short { length text.old ≤ 300 }
     ensures sound { E.sound session.new }
-    ensures goes { Goes (E.flash session.old) (E.flash session.new) }
+    ensures goes { Stays (E.flash session.old) (E.flash session.new) }
+    ensures looks { OnlyLooks (E.state session.old) (E.state session.new) (E.state session.old).notes }
     ensures text { (label : Label) (config : Configuration) (m : Machine) (at : Located) → E.stands session.old config m → m.mounted ≡ true → located config m name ≡ Some at →
         AddsBlobs config m (plan_of_table label table.now) at.table (E.stands session.new config) (E.flash session.old) (E.flash session.new) text.old text.new }
 {
@@ -179,7 +182,8 @@ fn beside<E: Executor>(
 ) -> TextLine
     requires { E.sound session.old }
     ensures sound { E.sound session.new }
-    ensures goes { Goes (E.flash session.old) (E.flash session.new) }
+    ensures goes { Stays (E.flash session.old) (E.flash session.new) }
+    ensures looks { OnlyLooks (E.state session.old) (E.state session.new) (E.state session.old).notes }
     ensures tells { (label : Label) (config : Configuration) (m : Machine) → E.stands session.old config m →
         TellsBeside config m (with_log log_blocks (plan_of_table label table.now)) name (E.stands session.new config) (E.flash session.old) (E.flash session.new) result }
 {
@@ -203,7 +207,9 @@ fn write_table<E: Executor, K: Sink>(
     requires sound { E.sound session.old }
     requires within { at < length config.now.plans }
     ensures sound { E.sound session.new }
-    ensures goes { Goes (E.flash session.old) (E.flash session.new) }
+    ensures goes { Stays (E.flash session.old) (E.flash session.new) }
+    ensures looks { OnlyLooks (E.state session.old) (E.state session.new) (E.state session.old).notes }
+    ensures told { WritesSome (K.written out.old) (K.written out.new) result }
     ensures text { (configured : Configuration) (m : Machine) → E.stands session.old configured m →
         IfSome (slice_get config.now.plans at) (λ plan. WritesTable configured m plan (E.stands session.new configured) (E.flash session.old) (E.flash session.new) (K.written out.old) (K.written out.new) result) }
     ensures cause { HasCause (K.faults out.old) (K.faults out.new) result }
@@ -227,7 +233,9 @@ pub(crate) fn describe<E: Executor, K: Sink>(
     requires sound { E.sound session.old }
     requires whole { IsTrue (is_whole config.now) }
     ensures sound { E.sound session.new }
-    ensures goes { Goes (E.flash session.old) (E.flash session.new) }
+    ensures goes { Stays (E.flash session.old) (E.flash session.new) }
+    ensures looks { OnlyLooks (E.state session.old) (E.state session.new) (E.state session.old).notes }
+    ensures told { WritesSome (K.written out.old) (K.written out.new) result }
     ensures text { (configured : Configuration) (m : Machine) → Makes config.now configured → E.stands session.old configured m →
         Describes configured m (E.stands session.new configured) (E.flash session.old) (E.flash session.new) (K.written out.old) (K.written out.new) result }
     ensures cause { HasCause (K.faults out.old) (K.faults out.new) result }

@@ -1,10 +1,12 @@
 // The flush of what is pending when a shell ends.
 ghost use Rattle.std.specs.Prelude.{◌≡◌, ℕ, List};
-ghost use Rattle.fl_flash.specs.Flash.{Goes};
+ghost use Rattle.fl_flash.specs.Flash.{Stays};
 ghost use Rattle.fl_model.specs.Record.{Config as Configuration};
 ghost use Rattle.fl_machine.specs.Machine.{Machine};
 ghost use Rattle.fl_machine.specs.Step.{Moment};
 ghost use Rattle.fl_session.specs.Execute.{IsReady, StandsAlike};
+ghost use Rattle.fl_shell.specs.Caused.{CausesFlush, FlushesOver, PendingAre, PendingIs};
+ghost use Rattle.fl_shell.specs.Causes.{names_of};
 ghost use Rattle.fl_shell.specs.Flushing.{FlushesBehind, FlushesOne};
 ghost use Rattle.fl_shell.specs.Talk.{RanOver, pending_in, pending_rows};
 
@@ -17,7 +19,8 @@ use fl_session::Executor;
 
 /// How many rows of a table are pending; none in a session that isn't mounted.
 fn pending_in<E: Executor>(session: &E, name: Name) -> u32
-    ensures { (config : Configuration) (m : Machine) → E.stands session.now config m → result ≡ pending_in config m name }
+    ensures holds { (config : Configuration) (m : Machine) → E.stands session.now config m → result ≡ pending_in config m name }
+    ensures told { PendingIs (E.state session.now) name result }
 {
     match session.counts(name) {
         Ok(counts) => counts.pending,
@@ -27,7 +30,8 @@ fn pending_in<E: Executor>(session: &E, name: Name) -> u32
 
 /// How many rows of all tables are pending.
 fn pending_rows<E: Executor>(session: &E, config: &Config) -> u64
-    ensures { (configured : Configuration) (m : Machine) → configured.plans ≡ config.now.plans → E.stands session.now configured m → result ≡ pending_rows configured m }
+    ensures holds { (configured : Configuration) (m : Machine) → configured.plans ≡ config.now.plans → E.stands session.now configured m → result ≡ pending_rows configured m }
+    ensures told { PendingAre (E.state session.now) (names_of config.now) result }
 {
     let mut rows: u64 = 0;
     'tables: for at in 0..config.tables() {
@@ -40,7 +44,8 @@ fn pending_rows<E: Executor>(session: &E, config: &Config) -> u64
 fn flush_table<E: Executor>(session: &mut E, name: Name, room: &LineRoom) -> bool
     requires { E.sound session.old }
     ensures sound { E.sound session.new }
-    ensures goes { Goes (E.flash session.old) (E.flash session.new) }
+    ensures goes { Stays (E.flash session.old) (E.flash session.new) }
+    ensures told { CausesFlush (E.state session.old) (E.state session.new) name result }
     ensures flushes { (config : Configuration) (m : Machine) → E.stands session.old config m →
         FlushesOne config m name (E.stands session.new config) (E.flash session.old) (E.flash session.new) result }
 {
@@ -58,7 +63,8 @@ fn flush_table<E: Executor>(session: &mut E, name: Name, room: &LineRoom) -> boo
 pub(crate) fn flush_all<E: Executor>(session: &mut E, config: &Config, room: &LineRoom) -> Flushed
     requires { E.sound session.old }
     ensures sound { E.sound session.new }
-    ensures goes { Goes (E.flash session.old) (E.flash session.new) }
+    ensures goes { Stays (E.flash session.old) (E.flash session.new) }
+    ensures told { FlushesOver (names_of config.now) (E.state session.old) (E.state session.new) result }
     // Behind a run of some moments the flushes go on with it, whatever cursors are open then.
     ensures flushes { (configured : Configuration) (old : Machine) (moments : List Moment) (content : List ℕ) (faults : ℕ) →
         configured.plans ≡ config.now.plans → IsReady configured old →

@@ -2,15 +2,17 @@
 ghost use Rattle.std.specs.Prelude.{◌≡◌, ℕ, ◌^◌, ◌≤◌, true, Some, List, [], IsTrue};
 ghost use Rattle.fl_base.specs.Causes.{HasCause, Rose};
 ghost use Rattle.fl_config.specs.Whole.{is_whole, Makes};
-ghost use Rattle.fl_flash.specs.Flash.{Goes};
+ghost use Rattle.fl_flash.specs.Flash.{Stays};
 ghost use Rattle.fl_machine.specs.Machine.{Machine};
 ghost use Rattle.fl_model.specs.Record.{Config as Configuration};
 ghost use Rattle.fl_session.specs.Execute.{IsReady, StandsAlike};
 ghost use Rattle.fl_words.specs.Grammar.{lines_of};
+ghost use Rattle.fl_shell.specs.Caused.{CausedBy, CausedIf, TalkedOver};
+ghost use Rattle.fl_shell.specs.Causes.{names_of};
 ghost use Rattle.fl_shell.specs.Input.{InputEnds};
 ghost use Rattle.fl_shell.specs.Reading.{IsGivenAs, IsLeft, rest_in};
 ghost use Rattle.fl_shell.specs.Statuses.{IsOfSession, IsOfTalk, behind, reading_status};
-ghost use Rattle.fl_shell.specs.Talking.{MediumEnds, TalkEnds, lines_from, with_hand};
+ghost use Rattle.fl_shell.specs.Talking.{EndsBy, MediumEnds, TalkEnds, TellsFlushed, lines_from, with_hand};
 ghost use Rattle.fl_shell.specs.Turning.{TurnsIf, command_for};
 
 use crate::answer::answer;
@@ -58,8 +60,9 @@ fn answer_in_hand<E: Executor, K: Sink>(
     requires sound { E.sound session.old }
     requires whole { IsTrue (is_whole config.now) }
     ensures sound { E.sound session.new }
-    ensures goes { Goes (E.flash session.old) (E.flash session.new) }
+    ensures goes { Stays (E.flash session.old) (E.flash session.new) }
     ensures cause { HasCause (K.faults out.old) (K.faults out.new) result }
+    ensures told { CausedIf has_line line.now (E.state session.old) (E.state session.new) (K.written out.old) (K.written out.new) result }
     ensures turn { (configured : Configuration) (m : Machine) → Makes config.now configured → E.stands session.old configured m →
         TurnsIf has_line configured m line.now (command_for line.now) (E.stands session.new configured) (E.flash session.old) (E.flash session.new) (K.written out.old) (K.written out.new) result }
 {
@@ -84,12 +87,14 @@ fn talk<E: Executor, S: Source, K: Sink>(
     requires sound { E.sound session.old }
     requires whole { IsTrue (is_whole config.now) }
     ensures sound { E.sound session.new }
-    ensures goes { Goes (E.flash session.old) (E.flash session.new) }
+    ensures goes { Stays (E.flash session.old) (E.flash session.new) }
     ensures talks { (configured : Configuration) (old : Machine) (left hand : List ℕ) (total : ℕ) →
         Makes config.now configured → IsReady configured old → E.stands session.old configured old → (E.flash session.old).work.reads ≡ 0 →
         lines.old.most ≤ 2 ^ 44 → S.left input.old ≡ Some left → IsLeft lines.old left (2 ^ 44) total → IsGivenAs hand lines.old.line →
         TalkEnds configured old (with_hand in_hand hand (lines_of (rest_in lines.old left))) total (StandsAlike (E.stands session.new configured)) (E.flash session.old).media.content (E.flash session.new).media.content (E.flash session.old).media.faults (E.flash session.new).media.faults
         (K.written out.old) (K.written out.new) (S.left input.new) result }
+    ensures told { (left hand : List ℕ) (total : ℕ) → S.left input.old ≡ Some left → IsLeft lines.old left (2 ^ 44) total → IsGivenAs hand lines.old.line →
+        EndsBy (λ front whole. CausedBy front whole (E.state session.old) (E.state session.new) (K.written out.old) (K.written out.new)) (with_hand in_hand hand (lines_of (rest_in lines.old left))) total (S.left input.new) result }
     ensures input { (left : List ℕ) (total : ℕ) → S.left input.old ≡ Some left → IsLeft lines.old left (2 ^ 44) total → InputEnds total (S.left input.new) result }
     ensures statuses { IsOfTalk result }
     ensures read { result ≡ ShellStatus.InputRead → Rose (S.faults input.old) (S.faults input.new) }
@@ -124,12 +129,14 @@ fn talk_from<E: Executor, S: Source, K: Sink>(
     requires sound { E.sound session.old }
     requires whole { IsTrue (is_whole config.now) }
     ensures sound { E.sound session.new }
-    ensures goes { Goes (E.flash session.old) (E.flash session.new) }
+    ensures goes { Stays (E.flash session.old) (E.flash session.new) }
     ensures talks { (configured : Configuration) (old : Machine) (left hand : List ℕ) (total : ℕ) →
         Makes config.now configured → IsReady configured old → E.stands session.old configured old → (E.flash session.old).work.reads ≡ 0 →
         ((next ≡ Next.Ended → ⊥) → lines.old.most ≤ 2 ^ 44) → S.left input.old ≡ Some left → (next ≡ Next.Ended → left ≡ []) → ((next ≡ Next.Ended → ⊥) → IsLeft lines.old left (2 ^ 44) total) → IsGivenAs hand lines.old.line →
         TalkEnds configured old (lines_from next hand (lines_of (rest_in lines.old left))) total (StandsAlike (E.stands session.new configured)) (E.flash session.old).media.content (E.flash session.new).media.content (E.flash session.old).media.faults (E.flash session.new).media.faults
         (K.written out.old) (K.written out.new) (S.left input.new) result }
+    ensures told { (left hand : List ℕ) (total : ℕ) → S.left input.old ≡ Some left → (next ≡ Next.Ended → left ≡ []) → ((next ≡ Next.Ended → ⊥) → IsLeft lines.old left (2 ^ 44) total) → IsGivenAs hand lines.old.line →
+        EndsBy (λ front whole. CausedBy front whole (E.state session.old) (E.state session.new) (K.written out.old) (K.written out.new)) (lines_from next hand (lines_of (rest_in lines.old left))) total (S.left input.new) result }
     ensures input { (left : List ℕ) (total : ℕ) → S.left input.old ≡ Some left → (next ≡ Next.Ended → left ≡ []) → ((next ≡ Next.Ended → ⊥) → IsLeft lines.old left (2 ^ 44) total) → InputEnds total (S.left input.new) result }
     ensures statuses { IsOfTalk result }
     ensures read { result ≡ ShellStatus.InputRead → Rose (S.faults input.old) (S.faults input.new) }
@@ -171,12 +178,14 @@ pub(crate) fn talk_and_flush<E: Executor, S: Source, K: Sink>(
     requires sound { E.sound session.old }
     requires whole { IsTrue (is_whole config.now) }
     ensures sound { E.sound session.new }
-    ensures goes { Goes (E.flash session.old) (E.flash session.new) }
+    ensures goes { Stays (E.flash session.old) (E.flash session.new) }
     ensures ends { (configured : Configuration) (old : Machine) (left hand : List ℕ) (total : ℕ) →
         Makes config.now configured → IsReady configured old → E.stands session.old configured old → (E.flash session.old).work.reads ≡ 0 →
         ((next ≡ Next.Ended → ⊥) → lines.old.most ≤ 2 ^ 44) → S.left input.old ≡ Some left → (next ≡ Next.Ended → left ≡ []) → ((next ≡ Next.Ended → ⊥) → IsLeft lines.old left (2 ^ 44) total) → IsGivenAs hand lines.old.line →
         MediumEnds configured old (lines_from next hand (lines_of (rest_in lines.old left))) total (StandsAlike (E.stands session.new configured)) (E.flash session.old).media.content (E.flash session.new).media.content (E.flash session.old).media.faults (E.flash session.new).media.faults
         (K.written out.old) (K.written out.new) (S.left input.new) result.flushed result.status }
+    ensures told { (left hand : List ℕ) (total : ℕ) → S.left input.old ≡ Some left → (next ≡ Next.Ended → left ≡ []) → ((next ≡ Next.Ended → ⊥) → IsLeft lines.old left (2 ^ 44) total) → IsGivenAs hand lines.old.line →
+        EndsBy (λ front whole. TalkedOver (names_of config.now) front whole result.flushed (K.written out.old) (K.written out.new) (E.state session.old) (E.state session.new)) (lines_from next hand (lines_of (rest_in lines.old left))) total (S.left input.new) result.status × TellsFlushed result.flushed result.status }
     ensures input { (left : List ℕ) (total : ℕ) → S.left input.old ≡ Some left → (next ≡ Next.Ended → left ≡ []) → ((next ≡ Next.Ended → ⊥) → IsLeft lines.old left (2 ^ 44) total) → InputEnds total (S.left input.new) result.status }
     ensures statuses { IsOfSession result.status }
     ensures read { result.status ≡ ShellStatus.InputRead → Rose (S.faults input.old) (S.faults input.new) }

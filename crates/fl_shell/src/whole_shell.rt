@@ -15,6 +15,7 @@ ghost use Rattle.fl_session.specs.Standing.{RestsTold};
 ghost use Rattle.fl_store.specs.Store.{IsBlankBehind};
 ghost use Rattle.fl_words.specs.Config.{whole};
 ghost use Rattle.fl_words.specs.Grammar.{lines_of};
+ghost use Rattle.fl_shell.specs.Causes.{SessionEnds, ShellCaused};
 ghost use Rattle.fl_shell.specs.Complete.{Completes, IsConfigured};
 ghost use Rattle.fl_shell.specs.Ends.{IsEarlyBy, ShellEnds};
 ghost use Rattle.fl_shell.specs.Input.{InputEnds};
@@ -67,6 +68,8 @@ fn talk_over<M: Media, S: Source, K: Sink>(
         ((begun.now.next ≡ Next.Ended → ⊥) → lines.old.most ≤ 2 ^ 44) → S.left input.old ≡ Some left → (begun.now.next ≡ Next.Ended → left ≡ []) → ((begun.now.next ≡ Next.Ended → ⊥) → IsLeft lines.old left (2 ^ 44) total) → IsGivenAs hand lines.old.line →
         MediumEnds configured old (lines_from begun.now.next hand (lines_of (rest_in lines.old left))) total (StandsAfter configured (Some (M.state media.new).content)) (M.state media.old).content (M.state media.new).content (M.state media.old).faults (M.state media.new).faults
         (K.written out.old) (K.written out.new) (S.left input.new) result.flushed result.status }
+    ensures told { (left hand : List ℕ) (total : ℕ) → S.left input.old ≡ Some left → (begun.now.next ≡ Next.Ended → left ≡ []) → ((begun.now.next ≡ Next.Ended → ⊥) → IsLeft lines.old left (2 ^ 44) total) → IsGivenAs hand lines.old.line →
+        SessionEnds begun.now.config (M.state media.old) (M.state media.new) (lines_from begun.now.next hand (lines_of (rest_in lines.old left))) total (K.written out.old) (K.written out.new) (S.left input.new) result.flushed result.status }
     ensures input { (left : List ℕ) (total : ℕ) → S.left input.old ≡ Some left → (begun.now.next ≡ Next.Ended → left ≡ []) → ((begun.now.next ≡ Next.Ended → ⊥) → IsLeft lines.old left (2 ^ 44) total) → InputEnds total (S.left input.new) result.status }
     ensures statuses { IsOfSession result.status }
     ensures keeps { KeepsForm (M.state media.old) (M.state media.new) }
@@ -94,6 +97,11 @@ pub fn shell<M: Media, S: Source, K: Sink>(
     // pending at the end is flushed.
     ensures ends { (text : List ℕ) → IsTrue (M.state media.old).tells → S.left input.old ≡ Some text →
         ShellEnds KNOTS text (told_of (M.state media.old) (M.state media.new) (S.left input.new) (K.written out.old) (K.written out.new)) result.flushed result.status }
+
+    // Whatever bytes the medium holds: each line that was answered has its cause in the session's memory and in the counts of its flash,
+    // and so has the flush of each table at the end; of what was pending it is told whether all was flushed.
+    ensures causes { (text : List ℕ) → IsTrue (M.state media.old).tells → S.left input.old ≡ Some text →
+        ShellCaused KNOTS text (M.state media.old) (M.state media.new) (S.left input.new) (K.written out.old) (K.written out.new) result.flushed result.status }
 
     // What the input alone decides, whatever the medium tells.
     ensures input { (text : List ℕ) → S.left input.old ≡ Some text → InputEnds (length text) (S.left input.new) result.status }

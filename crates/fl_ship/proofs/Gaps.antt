@@ -10,7 +10,7 @@ use Rattle.fl_model.specs.Query.{entry_at}
 use Rattle.fl_model.specs.Record.{Record, Plan}
 use Rattle.fl_model.specs.Ship.{GoesOn, MayShip, records_in}
 use Rattle.fl_model.specs.Table.{Table, Entry, last_entry}
-use Rattle.fl_page.specs.Contents.{IsCaused}
+use Rattle.fl_page.specs.Causes.{IsCaused}
 use Rattle.fl_page.specs.declared.fault.ReadFault.{ReadFault}
 use Rattle.fl_page.specs.declared.fault.ReadFault.TheVariants as read
 use Rattle.fl_table.specs.Finding.{Finds, FindsEntry, LookupFails}

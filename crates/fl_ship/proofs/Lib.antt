@@ -13,6 +13,8 @@ mod MadeCopy
 mod ImageEnds
 mod Causes
 mod OneTable
+mod BadPages
+mod OverBytes
 pub mod MountDrops
 pub mod Steps
 pub mod Lasts

@@ -15,7 +15,7 @@ use Rattle.fl_model.specs.Ship.{MayShip, records_in}
 use Rattle.fl_model.specs.Table as model
 use Rattle.fl_model.specs.Table.{Entry, flushed, last_entry, lose}
 use Rattle.fl_ops.specs.Columns.{records_of}
-use Rattle.fl_page.specs.Contents.{OnlyReads}
+use Rattle.fl_frame.specs.Contents.{OnlyReads}
 use Rattle.fl_page.specs.declared.fault.BadPage.{BadPage}
 use Rattle.fl_page.specs.declared.fault.ReadFault.TheVariants as read
 use Rattle.fl_page.proofs.ReadsInTurn.{IsCaused-later}

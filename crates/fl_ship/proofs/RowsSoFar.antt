@@ -24,8 +24,8 @@ use Rattle.fl_ops.specs.Columns.{record_of, records_of}
 use Rattle.fl_page.specs.Steps.{Steps}
 use Rattle.fl_page.specs.declared.fault.ReadFault.{ReadFault}
 use Rattle.fl_page.specs.declared.fault.ReadFault.TheVariants as read
-use Rattle.fl_ring.specs.Device.{SameDevice}
-use Rattle.fl_ring.specs.Step.{IsWatched}
+use Rattle.fl_frame.specs.Device.{SameDevice}
+use Rattle.fl_frame.specs.Watched.{IsWatched}
 use Rattle.fl_rlc.specs.Logged.{Rests, Stands}
 use Rattle.fl_rlc.specs.Outcomes.{PutEnds}
 use Rattle.fl_rlc.specs.Refusal.{RefusedSame}

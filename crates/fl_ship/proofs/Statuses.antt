@@ -1,7 +1,8 @@
 -- The statuses of a ship of tables.
-use Rattle.std.proofs.Common.{◌≡◌, ℕ, true, refl, sym, ◌∙◌}
+use Rattle.std.proofs.Common.{◌≡◌, ℕ, true, refl, sym, ◌∙◌, subst}
 use Rattle.fl_store.specs.Status as store
-use Rattle.fl_flash.specs.declared.flash.FlashFault.{FlashFault}
+use Rattle.fl_base.specs.Causes.{Rose}
+use Rattle.fl_flash.specs.Flash.{FlashState}
 use Rattle.fl_flash.specs.declared.flash.FlashFault.TheVariants.{PowerLost, Media}
 use Rattle.fl_image.specs.declared.status.ToolStatus.TheVariants as job
 use Rattle.fl_page.specs.declared.fault.BadPage.{BadPage}
@@ -11,7 +12,10 @@ use Rattle.fl_table.specs.declared.faults.MountFault.{MountFault}
 use Rattle.fl_table.specs.declared.faults.MountFault.TheVariants as mount
 use Rattle.fl_table.specs.declared.faults.PutRefusal.TheVariants as put
 use Rattle.fl_ship.specs.Fits.{is_refused}
-use Rattle.fl_ship.specs.Tables.{IsOfTables, fault_status, mount_status, stop_status}
+use Rattle.fl_frame.proofs.WatchedInTurn.{never-lost}
+use Rattle.fl_store.specs.Unarmed.{IsUnarmed}
+use Rattle.fl_table.specs.Causes.{MountCausedBy}
+use Rattle.fl_ship.specs.Tables.{IsOfTables, RoseOn, StopCausedBy, mount_status, stop_status}
 use Rattle.fl_ship.specs.declared.fault.ShipFault.TheVariants.{Read, Put, Flush}
 use Rattle.fl_ship.specs.declared.side.Side.{Side}
 use Rattle.fl_ship.specs.declared.side.Side.TheVariants.{Source, Copy}
@@ -38,8 +42,7 @@ not-refused OtherForm of is = of
 
 -- its status tells the device where that of another job does
 pub mount-device : (side : Side) (e : MountFault) (at : ℕ) → store.mount_status e at ≡ job.Device → mount_status side e at ≡ Device side
-mount-device side (mount.Flash Media) at is = refl
-mount-device side (mount.Flash PowerLost) at is = absurd (cc is)
+mount-device side (mount.Flash e) at is = refl
 mount-device side (mount.Ring e) at is = absurd (cc is)
 mount-device side (mount.BadPage page) at is = absurd (cc is)
 mount-device side (mount.BadKeys page last key) at is = absurd (cc is)
@@ -54,12 +57,22 @@ good-device side other table status device is = no (sym device ∙ is)
     no : Device other ≡ BadImage side table → ⊥
     no e = cc
 
-fault-good : (side other : Side) (e : FlashFault) (table : ℕ) → fault_status side e ≡ BadImage other table → ⊥
-fault-good side other Media table is = cc is
-fault-good side other PowerLost table is = cc is
+-- it comes only where the medium of that side failed, since no power is lost
+pub mount-rose : (side other : Side) (old new : FlashState) (e : MountFault) (at : ℕ) → IsUnarmed old → mount_status side e at ≡ Device other → MountCausedBy old e new → (side ≡ other) × Rose old.media.faults new.media.faults
+mount-rose side other old new (mount.Flash Media) at unarmed is cause = (cc is, cause)
+mount-rose side other old new (mount.Flash PowerLost) at unarmed is cause = absurd (never-lost old new unarmed.on unarmed.none cause)
+mount-rose side other old new (mount.Ring e) at unarmed is cause = absurd (cc is)
+mount-rose side other old new (mount.BadPage page) at unarmed is cause = absurd (cc is)
+mount-rose side other old new (mount.BadKeys page last key) at unarmed is cause = absurd (cc is)
+mount-rose side other old new (mount.BadIndex end next) at unarmed is cause = absurd (cc is)
+mount-rose side other old new (mount.BadBlob page next) at unarmed is cause = absurd (cc is)
+mount-rose side other old new (mount.BadEntry page count limit) at unarmed is cause = absurd (cc is)
+
+pub sides-apart : Source ≡ Copy → ⊥
+sides-apart e = cc
 
 pub mount-place : (side other : Side) (e : MountFault) (at table : ℕ) → mount_status side e at ≡ BadImage other table → at ≡ table
-mount-place side other (mount.Flash e) at table is = absurd (fault-good side other e table is)
+mount-place side other (mount.Flash e) at table is = absurd (cc is)
 mount-place side other (mount.Ring e) at table is = cc is
 mount-place side other (mount.BadPage page) at table is = cc is
 mount-place side other (mount.BadKeys page last key) at table is = cc is
@@ -72,14 +85,32 @@ mount-place side other (mount.BadEntry page count limit) at table is = cc is
 -- one of the source's is told bad only where one of its pages is
 pub stop-good : (why : Stop) (at table : ℕ) → ((bad : BadPage) → why ≡ stop.Ship (Read (read.BadPage bad)) → ⊥) → stop_status why at ≡ BadImage Source table → ⊥
 stop-good (stop.Gap last oldest) at table none is = cc is
-stop-good (stop.Ship (Read (read.Flash e))) at table none is = fault-good Source Source e table is
+stop-good (stop.Ship (Read (read.Flash e))) at table none is = cc is
 stop-good (stop.Ship (Read (read.BadPage bad))) at table none is = none bad refl
-stop-good (stop.Ship (Put (put.Flash e))) at table none is = fault-good Copy Source e table is
+stop-good (stop.Ship (Put (put.Flash e))) at table none is = cc is
 stop-good (stop.Ship (Put (put.Key last))) at table none is = cc is
 stop-good (stop.Ship (Put (put.Columns wanted))) at table none is = cc is
 stop-good (stop.Ship (Put (put.Value column))) at table none is = cc is
 stop-good (stop.Ship (Put (put.Blob limit))) at table none is = cc is
 stop-good (stop.Ship (Put put.Spent)) at table none is = cc is
 stop-good (stop.Ship (Put put.Stopped)) at table none is = cc is
-stop-good (stop.Ship (Flush (flush.Flash e))) at table none is = fault-good Copy Source e table is
+stop-good (stop.Ship (Flush (flush.Flash e))) at table none is = cc is
 stop-good (stop.Ship (Flush flush.Stopped)) at table none is = cc is
+
+-- it tells a medium only where that one failed
+pub stop-rose : (side : Side) (from from_now onto onto_now : FlashState) (why : Stop) (at : ℕ) → from.is_on ≡ true → IsUnarmed onto → stop_status why at ≡ Device side → StopCausedBy from from_now onto onto_now why → RoseOn side from from_now onto onto_now
+stop-rose side f g o n (stop.Gap last oldest) at on unarmed is cause = absurd (cc is)
+stop-rose side f g o n (stop.Ship (Read (read.Flash Media))) at on unarmed is cause = let same : Source ≡ side = cc is in subst (λ (s : Side). RoseOn s f g o n) same cause.0
+stop-rose side f g o n (stop.Ship (Read (read.Flash PowerLost))) at on unarmed is cause = absurd (cc (on, cause))
+stop-rose side f g o n (stop.Ship (Read (read.BadPage bad))) at on unarmed is cause = absurd (cc is)
+stop-rose side f g o n (stop.Ship (Put (put.Flash Media))) at on unarmed is cause = let same : Copy ≡ side = cc is in subst (λ (s : Side). RoseOn s f g o n) same cause
+stop-rose side f g o n (stop.Ship (Put (put.Flash PowerLost))) at on unarmed is cause = absurd (never-lost o n unarmed.on unarmed.none cause)
+stop-rose side f g o n (stop.Ship (Put (put.Key last))) at on unarmed is cause = absurd (cc is)
+stop-rose side f g o n (stop.Ship (Put (put.Columns wanted))) at on unarmed is cause = absurd (cc is)
+stop-rose side f g o n (stop.Ship (Put (put.Value column))) at on unarmed is cause = absurd (cc is)
+stop-rose side f g o n (stop.Ship (Put (put.Blob limit))) at on unarmed is cause = absurd (cc is)
+stop-rose side f g o n (stop.Ship (Put put.Spent)) at on unarmed is cause = absurd (cc is)
+stop-rose side f g o n (stop.Ship (Put put.Stopped)) at on unarmed is cause = absurd (cc is)
+stop-rose side f g o n (stop.Ship (Flush (flush.Flash Media))) at on unarmed is cause = let same : Copy ≡ side = cc is in subst (λ (s : Side). RoseOn s f g o n) same cause
+stop-rose side f g o n (stop.Ship (Flush (flush.Flash PowerLost))) at on unarmed is cause = absurd (never-lost o n unarmed.on unarmed.none cause)
+stop-rose side f g o n (stop.Ship (Flush flush.Stopped)) at on unarmed is cause = absurd (cc is)

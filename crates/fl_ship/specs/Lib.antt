@@ -8,4 +8,5 @@ pub mod Fits
 pub mod Tables
 pub mod Media
 pub mod Ready
+pub mod Over
 pub mod Laws

@@ -10,9 +10,9 @@ use Rattle.fl_model.specs.Ship.{KeepsOf, records_in}
 use Rattle.fl_model.specs.Table as model
 use Rattle.fl_model.specs.Table.{flushed, lose}
 use Rattle.fl_model.specs.Work.{Device}
-use Rattle.fl_page.specs.Contents.{IsCaused}
-use Rattle.fl_ring.specs.Causes.{CausedBy}
-use Rattle.fl_ring.specs.Device.{SameDevice}
+use Rattle.fl_page.specs.Causes.{IsCaused}
+use Rattle.fl_frame.specs.Causes.{CausedBy}
+use Rattle.fl_frame.specs.Device.{SameDevice}
 use Rattle.fl_rlc.specs.Logged.{Rests, Stands}
 use Rattle.fl_rlc.specs.declared.table.LoggedTable.{LoggedTable}
 use Rattle.fl_table.specs.declared.faults.FlushFault.TheVariants as flush

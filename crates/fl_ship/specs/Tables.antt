@@ -3,8 +3,6 @@ use Rattle.std.specs.Prelude.{◌≡◌, ℕ, false, Option, Some, Result, Ok, E
 use Rattle.fl_base.specs.Causes.{Rose, Appends, AppendsFront}
 use Rattle.fl_flash.specs.Flash.{FlashState}
 use Rattle.fl_flash.specs.Media.{MediaState}
-use Rattle.fl_flash.specs.declared.flash.FlashFault.{FlashFault}
-use Rattle.fl_flash.specs.declared.flash.FlashFault.TheVariants as flash
 use Rattle.fl_model.specs.Record.{Plan}
 use Rattle.fl_model.specs.Table as model
 use Rattle.fl_model.specs.Table.{lose}
@@ -29,25 +27,19 @@ use Rattle.fl_ship.specs.declared.status.ShipStatus.TheVariants.{Done, OutWrite,
 use Rattle.fl_ship.specs.declared.stop.Stop.{Stop}
 use Rattle.fl_ship.specs.declared.stop.Stop.TheVariants as stop
 
--- The status that tells a fault of a flash on which no cut is armed: it loses no power, and want of memory, which may come at
--- any moment, says nothing of the medium.
-abbrev pub fault_status : Side → FlashFault → ShipStatus
-fault_status side flash.Media = Device side
-fault_status side flash.PowerLost = NoMemory
-
 -- the status of a ship whose tables aren't mounted, since this one isn't
 abbrev pub mount_status : Side → MountFault → ℕ → ShipStatus
-mount_status side (mount.Flash fault) at = fault_status side fault
+mount_status side (mount.Flash fault) at = Device side
 mount_status side bad at = BadImage side at
 
 -- the status of a ship of the table at a place that stops so
 abbrev pub stop_status : Stop → ℕ → ShipStatus
 stop_status (stop.Gap last oldest) at = Gap last oldest
-stop_status (stop.Ship (Read (read.Flash fault))) at = fault_status Source fault
+stop_status (stop.Ship (Read (read.Flash fault))) at = Device Source
 stop_status (stop.Ship (Read (read.BadPage bad))) at = BadImage Source at
-stop_status (stop.Ship (Put (put.Flash fault))) at = fault_status Copy fault
+stop_status (stop.Ship (Put (put.Flash fault))) at = Device Copy
 stop_status (stop.Ship (Put refusal)) at = Spent
-stop_status (stop.Ship (Flush (flush.Flash fault))) at = fault_status Copy fault
+stop_status (stop.Ship (Flush (flush.Flash fault))) at = Device Copy
 stop_status (stop.Ship (Flush flush.Stopped)) at = NoMemory
 
 -- a status that comes once both images have the table
@@ -67,6 +59,11 @@ IsOfTables OtherForm = ⊥
 abbrev pub StopCausedBy : FlashState → FlashState → FlashState → FlashState → Stop → Type 0
 StopCausedBy from from_now onto onto_now (stop.Gap last oldest) = Unit {0}
 StopCausedBy from from_now onto onto_now (stop.Ship fault) = ShipCausedBy from from_now onto onto_now fault
+
+-- the medium of this side failed
+abbrev pub RoseOn : Side → FlashState → FlashState → FlashState → FlashState → Type 0
+RoseOn Source from from_now onto onto_now = Rose from.media.faults from_now.media.faults
+RoseOn Copy from from_now onto onto_now = Rose onto.media.faults onto_now.media.faults
 
 -- how many records were shipped is told, or the sink failed
 abbrev pub TellsShipped : ℕ → Option (List ℕ) → Option (List ℕ) → ℕ → ℕ → ShipStatus → Type 0

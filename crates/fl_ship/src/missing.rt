@@ -1,17 +1,21 @@
 // Which records a copy doesn't have, and whether they are all there.
 ghost use Rattle.std.specs.Prelude.{◌≡◌, ℕ, true, Some, None, IsTrue, IfErr, Err, List, length, map};
-ghost use Rattle.fl_cursor.specs.Cursor.{left_of, IsReady, IsTold};
+ghost use Rattle.fl_cursor.specs.Cursor.{left_of, table_of, IfBad, IsReady, IsTold, MayBeBad};
 ghost use Rattle.fl_cursor.specs.Going.{Keeps};
 ghost use Rattle.fl_model.specs.Record.{Plan};
 ghost use Rattle.fl_model.specs.Row.{stored_row};
 ghost use Rattle.fl_model.specs.Ship.{records_in};
 ghost use Rattle.fl_model.specs.Table as model;
 ghost use Rattle.fl_model.specs.Table.{Entry};
-ghost use Rattle.fl_page.specs.Contents.{contents_of, OnlyReads, IsCaused};
+ghost use Rattle.fl_frame.specs.Contents.{contents_of, OnlyReads};
+ghost use Rattle.fl_page.specs.Causes.{IsCaused};
+ghost use Rattle.fl_page.specs.declared.fault.BadPage.{BadPage};
+ghost use Rattle.fl_page.specs.declared.fault.ReadFault.{ReadFault};
 ghost use Rattle.fl_table.specs.Look.{last_key_in};
 ghost use Rattle.fl_table.specs.Memory.{is_running, LiesOn};
 ghost use Rattle.fl_table.specs.Standing.{Stands};
 ghost use Rattle.fl_ship.specs.Missing.{keys_above, FirstIs, LookCausedBy, LooksForGap};
+ghost use Rattle.fl_ship.specs.declared.fault.ShipFault.{ShipFault};
 ghost use Rattle.fl_ship.specs.declared.stop.Stop.{Stop};
 
 use crate::rooms::Rooms;
@@ -48,6 +52,7 @@ fn next_key<A: Flash>(
     ensures next { (entries : List Entry) → IsTold cursor.old (contents_of (A.state from.old)) → left_of cursor.old (contents_of (A.state from.old)) ≡ map stored_row entries → FirstIs (map (λ entry. entry.kept) entries) result }
     ensures keeps { Keeps cursor.old cursor.new }
     ensures cause { IfErr result (λ fault. IsCaused (A.state from.old) fault (A.state from.new)) }
+    ensures bad_page { IfErr result (IfBad (MayBeBad (table_of cursor.old) (contents_of (A.state from.old)))) }
     ensures reads_only { OnlyReads (A.state from.old) (A.state from.new) }
 {
     if cursor.advance(from)? {
@@ -68,6 +73,7 @@ fn first_key<A: Flash>(
     requires index { length rooms.old.index.bytes ≡ (A.state from.old).geometry.page }
     ensures first { (first : ℕ) (plan : Plan) (t : model.Table) → IsTrue (A.state from.old).media.tells → Stands source.now (A.state from.old) first plan t → FirstIs (records_in t) result }
     ensures cause { IfErr result (λ fault. IsCaused (A.state from.old) fault (A.state from.new)) }
+    ensures bad_page { IfErr result (IfBad (MayBeBad source.now (contents_of (A.state from.old)))) }
     ensures reads_only { OnlyReads (A.state from.old) (A.state from.new) }
     ensures rows { length rooms.new.rows.bytes ≡ length rooms.old.rows.bytes }
     ensures index { length rooms.new.index.bytes ≡ length rooms.old.index.bytes }
@@ -92,6 +98,7 @@ pub(crate) fn look_for_gap<A: Flash>(
     requires index { length rooms.old.index.bytes ≡ (A.state from.old).geometry.page }
     ensures looks { (first : ℕ) (plan : Plan) (t : model.Table) → IsTrue (A.state from.old).media.tells → Stands source.now (A.state from.old) first plan t → LooksForGap (records_in t) last result }
     ensures cause { IfErr result (LookCausedBy (A.state from.old) (A.state from.new)) }
+    ensures bad_page { (bad : BadPage) → result ≡ Err (Stop.Ship (ShipFault.Read (ReadFault.BadPage bad))) → MayBeBad source.now (contents_of (A.state from.old)) bad }
     ensures gap { (key oldest : ℕ) → result ≡ Err (Stop.Gap key oldest) → (last ≡ Some key) × (last_key_in source.now ≡ None → ⊥) }
     ensures reads_only { OnlyReads (A.state from.old) (A.state from.new) }
     ensures rows { length rooms.new.rows.bytes ≡ length rooms.old.rows.bytes }

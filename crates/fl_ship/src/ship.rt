@@ -11,6 +11,7 @@ ghost use Rattle.fl_words.specs.Medium.{IsImage};
 ghost use Rattle.fl_ship.specs.Ends.{IsCopy, ShipEnds};
 ghost use Rattle.fl_ship.specs.Fits.{AreImagesFor, CopyKeeps, StatusFits, is_refused};
 ghost use Rattle.fl_ship.specs.Media.{bytes_of};
+ghost use Rattle.fl_ship.specs.Over.{ShipJob};
 ghost use Rattle.fl_ship.specs.Tables.{told_of};
 ghost use Rattle.fl_ship.specs.declared.side.Side.{Side};
 ghost use Rattle.fl_ship.specs.declared.status.ShipStatus.{ShipStatus};
@@ -60,6 +61,10 @@ pub fn ship_image<M: Media, C: Media, K: Sink>(
         → (result ≡ ShipStatus.Device Side.Source → ⊥) → AreRepaired config (M.state media.old).content (M.state media.new).content }
     ensures others { (config : Configured) (copies : List model.Table) → IsTrue (M.state media.old).tells → IsTrue (C.state copy.old).tells → IsMade config → IsImage config (C.state copy.old).content copies
         → (result ≡ ShipStatus.Device Side.Copy → ⊥) → OthersAreRepaired config name (C.state copy.old).content (C.state copy.new).content }
+
+    // Whatever bytes the media hold, and whether they tell them: the tables of both are mounted, up to one that is refused. Then the source is
+    // only read, and of the copy only pages in the rings of the named table change.
+    ensures over { ShipJob name count (M.state media.old) (M.state media.new) (C.state copy.old) (C.state copy.new) result }
 
     // Statuses have their causes, over any bytes that both media tell; a device's and the sink's over all.
     ensures fits { IsTrue (M.state media.old).tells → IsTrue (C.state copy.old).tells → StatusFits (M.state media.old).content (C.state copy.old).content name result }

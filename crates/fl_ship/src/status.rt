@@ -1,11 +1,10 @@
 // How a ship ends.
 ghost use Rattle.std.specs.Prelude.{◌≡◌, ◌<◌};
 ghost use Rattle.fl_ship.specs.Number.{number_of};
-ghost use Rattle.fl_ship.specs.Tables.{fault_status, mount_status, stop_status};
+ghost use Rattle.fl_ship.specs.Tables.{mount_status, stop_status};
 
 use crate::stop::Stop;
 use crate::{ShipFault, Side};
-use fl_flash::FlashFault;
 use fl_page::ReadFault;
 use fl_store::BadMount;
 use fl_table::{FlushFault, MountFault, PutRefusal};
@@ -56,24 +55,13 @@ impl ShipStatus {
     }
 }
 
-/// The status that tells a fault of a flash on which no cut is armed. Such a flash loses no power; and `NoMemory`, which may
-/// come at any moment, says nothing of the medium.
-fn fault_status(side: Side, fault: FlashFault) -> ShipStatus
-    ensures { result ≡ fault_status side fault }
-{
-    match fault {
-        FlashFault::Media => ShipStatus::Device { side },
-        FlashFault::PowerLost => ShipStatus::NoMemory,
-    }
-}
-
 /// The status of a ship that ends since one of an image's tables, four at most, can't be mounted.
 pub(crate) fn mount_status(side: Side, bad: BadMount) -> ShipStatus
     requires { bad.at < 4 }
     ensures { result ≡ mount_status side bad.fault bad.at }
 {
     match bad.fault {
-        MountFault::Flash(fault) => fault_status(side, fault),
+        MountFault::Flash(_) => ShipStatus::Device { side },
         _ => ShipStatus::BadImage {
             side,
             table: bad.at as u32,
@@ -88,14 +76,18 @@ pub(crate) fn stop_status(stop: Stop, at: usize) -> ShipStatus
 {
     match stop {
         Stop::Gap { last, oldest } => ShipStatus::Gap { last, oldest },
-        Stop::Ship(ShipFault::Read(ReadFault::Flash(fault))) => fault_status(Side::Source, fault),
+        Stop::Ship(ShipFault::Read(ReadFault::Flash(_))) => ShipStatus::Device {
+            side: Side::Source,
+        },
         Stop::Ship(ShipFault::Read(ReadFault::BadPage(_))) => ShipStatus::BadImage {
             side: Side::Source,
             table: at as u32,
         },
-        Stop::Ship(ShipFault::Put(PutRefusal::Flash(fault))) => fault_status(Side::Copy, fault),
+        Stop::Ship(ShipFault::Put(PutRefusal::Flash(_))) => ShipStatus::Device { side: Side::Copy },
         Stop::Ship(ShipFault::Put(_)) => ShipStatus::Spent,
-        Stop::Ship(ShipFault::Flush(FlushFault::Flash(fault))) => fault_status(Side::Copy, fault),
+        Stop::Ship(ShipFault::Flush(FlushFault::Flash(_))) => ShipStatus::Device {
+            side: Side::Copy,
+        },
         Stop::Ship(ShipFault::Flush(FlushFault::Stopped)) => ShipStatus::NoMemory,
     }
 }

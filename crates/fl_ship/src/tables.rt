@@ -1,16 +1,17 @@
 // The ship of a table between two flashes.
 ghost use Rattle.std.specs.Prelude.{◌≡◌, ◌≤◌, ◌<◌, ◌*◌, ℕ, false, true, None, Some, IsTrue, IfErr, IfOk, Err, List, length, sum_by};
 ghost use Rattle.fl_base.specs.Causes.{Rose};
+ghost use Rattle.fl_cursor.specs.Cursor.{MayBeBad};
 ghost use Rattle.fl_store.specs.Store.{at_rest};
 ghost use Rattle.fl_flash.specs.Flash.{Goes, page_at};
 ghost use Rattle.fl_store.specs.Repaired.{IsOfOther};
 ghost use Rattle.fl_store.specs.Works.{Works};
 ghost use Rattle.fl_model.specs.Record.{Plan, blocks_of};
 ghost use Rattle.fl_model.specs.Table as model;
-ghost use Rattle.fl_page.specs.Contents.{OnlyReads};
+ghost use Rattle.fl_frame.specs.Contents.{OnlyReads, contents_of};
 ghost use Rattle.fl_page.specs.declared.fault.BadPage.{BadPage};
 ghost use Rattle.fl_page.specs.declared.fault.ReadFault.{ReadFault};
-ghost use Rattle.fl_ring.specs.Device.{SameDevice};
+ghost use Rattle.fl_frame.specs.Device.{SameDevice};
 ghost use Rattle.fl_rlc.specs.Logged.{Rests};
 ghost use Rattle.fl_rlc.specs.Table as logged;
 ghost use Rattle.fl_rlc.specs.Table.{table_in, IsSamePlan, OutsideStands};
@@ -19,8 +20,10 @@ ghost use Rattle.fl_table.specs.Memory.{is_running, LiesOn};
 ghost use Rattle.fl_table.specs.Standing.{Stands};
 ghost use Rattle.fl_store.specs.Repaired.{IsLeft};
 ghost use Rattle.fl_store.specs.Tables.{IsNamed, LieOn, TablesStand};
+ghost use Rattle.fl_store.specs.Unarmed.{IsUnarmed};
 ghost use Rattle.fl_store.specs.declared.tables.Entry.{Entry};
 ghost use Rattle.fl_ship.specs.Ends.{TablesShip};
+ghost use Rattle.fl_ship.specs.Over.{ShipsOver};
 ghost use Rattle.fl_ship.specs.Tables.{HaveOneForm, IsOfTables, ShipLeaves, StopCausedBy, TellsShipped, standing_on, told_of};
 ghost use Rattle.fl_ship.specs.declared.fault.ShipFault.{ShipFault};
 ghost use Rattle.fl_ship.specs.declared.side.Side.{Side};
@@ -63,6 +66,8 @@ fn ship_table<A: Flash, B: Flash>(
         → (bad : BadPage) → result ≡ Err (Stop.Ship (ShipFault.Read (ReadFault.BadPage bad))) → ⊥ }
     ensures cause { IfErr result (StopCausedBy (A.state from.old) (A.state from.new) (B.state onto.old) (B.state onto.new)) }
     ensures gap { (last oldest : ℕ) → result ≡ Err (Stop.Gap last oldest) → (last_key_in (table_in copy.old) ≡ Some last) × (last_key_in source.now ≡ None → ⊥) }
+    ensures gap_leaves { (last oldest : ℕ) → result ≡ Err (Stop.Gap last oldest) → B.state onto.new ≡ B.state onto.old }
+    ensures bad_page { (bad : BadPage) → result ≡ Err (Stop.Ship (ShipFault.Read (ReadFault.BadPage bad))) → MayBeBad source.now (contents_of (A.state from.old)) bad }
     ensures few { IfOk result (λ shipped. shipped ≤ count) }
     ensures reads_only { OnlyReads (A.state from.old) (A.state from.new) }
     ensures goes { Goes (B.state onto.old) (B.state onto.new) }
@@ -113,6 +118,8 @@ pub(crate) fn ship_on<A: Flash, B: Flash, K: Sink>(
     requires rows { length rooms.old.rows.bytes ≡ (A.state from.old).geometry.page }
     requires index { length rooms.old.index.bytes ≡ (A.state from.old).geometry.page }
     requires pages { (B.state onto.old).geometry.page ≡ (A.state from.old).geometry.page }
+    requires unarmed { IsUnarmed (A.state from.old) }
+    requires copy_unarmed { IsUnarmed (B.state onto.old) }
     ensures ends { (plans : List Plan) (ts cs : List model.Table) (name : List ℕ) → IsTrue (A.state from.old).media.tells → IsTrue (B.state onto.old).media.tells → (A.state from.old).is_on ≡ true → (B.state onto.old).is_on ≡ true
         → SameDevice (A.state from.old) at_rest → SameDevice (B.state onto.old) at_rest → TablesStand (A.state from.old) (λ i. false) plans sources.old.entries.items ts → TablesStand (B.state onto.old) (λ i. false) plans copies.old.entries.items cs
         → IsNamed sources.old.entries.items name at → IsNamed copies.old.entries.items name at
@@ -136,6 +143,8 @@ pub(crate) fn ship_on<A: Flash, B: Flash, K: Sink>(
         → TablesStand (A.state from.old) (λ i. false) plans sources.old.entries.items ts → IsNamed sources.old.entries.items name at → result ≡ ShipStatus.BadImage Side.Source table → ⊥ }
     ensures good_copy { (plans : List Plan) (cs : List model.Table) (name : List ℕ) (table : ℕ) → IsTrue (B.state onto.old).media.tells → (B.state onto.old).is_on ≡ true → SameDevice (B.state onto.old) at_rest
         → TablesStand (B.state onto.old) (λ i. false) plans copies.old.entries.items cs → IsNamed copies.old.entries.items name at → result ≡ ShipStatus.BadImage Side.Copy table → ⊥ }
+    // Whatever bytes both hold, and whether they are told.
+    ensures over { ShipsOver count result at sources.old.entries.items (A.state from.old) (A.state from.new) copies.old.entries.items (B.state onto.old) (B.state onto.new) }
     ensures statuses { IsOfTables result }
     ensures device { result ≡ ShipStatus.Device Side.Source → Rose (A.state from.old).media.faults (A.state from.new).media.faults }
     ensures copy_device { result ≡ ShipStatus.Device Side.Copy → Rose (B.state onto.old).media.faults (B.state onto.new).media.faults }

@@ -54,7 +54,7 @@ use Rattle.fl_check.specs.Whole.{Fits, layout_in, rows_shape, IsRowsForm}
 use Rattle.fl_check.specs.declared.numbering.Numbering.{Numbering}
 use Rattle.fl_check.proofs.KeptPages.{good}
 use Rattle.fl_check.proofs.TablePages.{is_data_page}
-use Rattle.fl_sound.proofs.ConfigFacts.{few-indexed, has-buckets}
+use Rattle.fl_check.proofs.ConfigFacts.{few-indexed, has-buckets}
 use Rattle.fl_sound.proofs.DataPages.{HaveRowsOf, keys-ascend}
 use Rattle.fl_sound.proofs.Lists.{take-none}
 use Rattle.fl_sound.proofs.RingReads.{IsOf, Reads}

@@ -35,7 +35,7 @@ use Rattle.fl_check.specs.Whole.{OfRing, shape_in as ring_shape, rows_shape, for
 use Rattle.fl_check.specs.Whole as whole
 use Rattle.fl_check.specs.declared.numbering.Numbering.{Numbering}
 use Rattle.fl_check.proofs.Wholes.{of_ring, of_none}
-use Rattle.fl_sound.proofs.ConfigFacts.{some-bits, some-room}
+use Rattle.fl_check.proofs.ConfigFacts.{some-bits, some-room}
 use Rattle.fl_sound.proofs.DataPart.{StandsOn, plain, idle, told, untold}
 use Rattle.fl_sound.proofs.DataPart as parts
 use Rattle.fl_sound.proofs.IndexRule.{ListsPages, end-is, have-entries}

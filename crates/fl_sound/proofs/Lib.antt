@@ -4,7 +4,6 @@ pub mod DataPages
 pub mod IndexRule
 pub mod ReferenceRule
 pub mod RingSound
-pub mod ConfigFacts
 pub mod Told
 pub mod DataPart
 pub mod IndexPart

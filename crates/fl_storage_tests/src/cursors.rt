@@ -3,7 +3,7 @@ ghost use Rattle.std.specs.Prelude.{◌≡◌, ◌≤◌, length, vec_len, IfOk}
 ghost use Rattle.fl_cursor.specs.Cursor.{IsReady};
 ghost use Rattle.fl_cursor.specs.Going.{Keeps};
 ghost use Rattle.fl_flash.specs.Flash.{FlashState};
-ghost use Rattle.fl_page.specs.Contents.{contents_of, OnlyReads};
+ghost use Rattle.fl_frame.specs.Contents.{contents_of, OnlyReads};
 ghost use Rattle.fl_table.specs.Memory.{LiesOn};
 
 mod indexed;

@@ -1,6 +1,6 @@
 // Tables with a log and without one, whose power is lost.
 ghost use Rattle.std.specs.Prelude.{◌≡◌, ◌≤◌, ◌+◌, length, vec_len, IfSome, IfOk};
-ghost use Rattle.fl_flash.specs.Flash.{FlashState, Goes};
+ghost use Rattle.fl_flash.specs.Flash.{FlashState, Stays};
 ghost use Rattle.fl_rlc.specs.Table.{LiesOn};
 
 use arrayvec::ArrayVec;
@@ -68,7 +68,7 @@ use Step::{Mount, Put};
 fn take<F: Flash>(step: Step, table: &mut LoggedTable, flash: &mut F, buf: &mut PageBuf) -> Answer
     requires lies { LiesOn table.old (F.state flash.old) }
     requires room { length buf.old.bytes ≡ (F.state flash.old).geometry.page }
-    ensures goes { Goes (F.state flash.old) (F.state flash.new) }
+    ensures goes { Stays (F.state flash.old) (F.state flash.new) }
     ensures lies { LiesOn table.new (F.state flash.new) }
     ensures room { length buf.new.bytes ≡ length buf.old.bytes }
 {
@@ -87,7 +87,7 @@ fn answered<F: Flash>(
 ) -> usize
     requires lies { LiesOn table.old (F.state flash.old) }
     requires room { length buf.old.bytes ≡ (F.state flash.old).geometry.page }
-    ensures goes { Goes (F.state flash.old) (F.state flash.new) }
+    ensures goes { Stays (F.state flash.old) (F.state flash.new) }
     ensures lies { LiesOn table.new (F.state flash.new) }
     ensures room { length buf.new.bytes ≡ length buf.old.bytes }
 {
@@ -180,7 +180,7 @@ fn take_cut<'m>(
     requires some { 1 ≤ n }
     requires lies { LiesOn table.old (⟦<SimFlash<'m, MemMedia> as Flash>⟧.state flash.old) }
     requires room { length buf.old.bytes ≡ (⟦<SimFlash<'m, MemMedia> as Flash>⟧.state flash.old).geometry.page }
-    ensures goes { Goes (⟦<SimFlash<'m, MemMedia> as Flash>⟧.state flash.old) (⟦<SimFlash<'m, MemMedia> as Flash>⟧.state flash.new) }
+    ensures goes { Stays (⟦<SimFlash<'m, MemMedia> as Flash>⟧.state flash.old) (⟦<SimFlash<'m, MemMedia> as Flash>⟧.state flash.new) }
     ensures lies { LiesOn table.new (⟦<SimFlash<'m, MemMedia> as Flash>⟧.state flash.new) }
     ensures room { length buf.new.bytes ≡ length buf.old.bytes }
 {
@@ -242,7 +242,7 @@ fn cut_two_mounts<'m>(
 ) -> [Answer; 2]
     requires lies { LiesOn table.old (⟦<SimFlash<'m, MemMedia> as Flash>⟧.state flash.old) }
     requires room { length buf.old.bytes ≡ (⟦<SimFlash<'m, MemMedia> as Flash>⟧.state flash.old).geometry.page }
-    ensures goes { Goes (⟦<SimFlash<'m, MemMedia> as Flash>⟧.state flash.old) (⟦<SimFlash<'m, MemMedia> as Flash>⟧.state flash.new) }
+    ensures goes { Stays (⟦<SimFlash<'m, MemMedia> as Flash>⟧.state flash.old) (⟦<SimFlash<'m, MemMedia> as Flash>⟧.state flash.new) }
     ensures lies { LiesOn table.new (⟦<SimFlash<'m, MemMedia> as Flash>⟧.state flash.new) }
     ensures room { length buf.new.bytes ≡ length buf.old.bytes }
 {

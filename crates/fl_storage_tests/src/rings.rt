@@ -1,6 +1,6 @@
 // Images made by hand, a forged block, and a cut of each kind at each operation.
 ghost use Rattle.std.specs.Prelude.{◌≡◌, ◌+◌, length, vec_len, OnOk, IfOk};
-ghost use Rattle.fl_flash.specs.Flash.{FlashState, Goes};
+ghost use Rattle.fl_flash.specs.Flash.{FlashState, Stays};
 ghost use Rattle.fl_ring.specs.Place.{shape_of, LiesOn};
 
 use fl_base::{CutKind, Geometry, NoMemory, RingPlace, put_u32};
@@ -52,7 +52,7 @@ fn image(alloc: Global, pages: [Page; 6]) -> Result<Vec<u8>, AllocError>
 fn seal_next<F: Flash>(ring: &mut Ring, flash: &mut F) -> Result<(), FlashFault>
     requires lies { LiesOn ring.old (F.state flash.old) }
     requires size { (shape_of ring.old).size ≡ 64 }
-    ensures goes { Goes (F.state flash.old) (F.state flash.new) }
+    ensures goes { Stays (F.state flash.old) (F.state flash.new) }
     ensures lies { OnOk result (LiesOn ring.new (F.state flash.new)) }
     ensures size { (shape_of ring.new).size ≡ 64 }
 {
@@ -68,7 +68,7 @@ fn seal_next<F: Flash>(ring: &mut Ring, flash: &mut F) -> Result<(), FlashFault>
 fn seal_many<F: Flash>(ring: &mut Ring, flash: &mut F, count: u32) -> Result<(), FlashFault>
     requires lies { LiesOn ring.old (F.state flash.old) }
     requires size { (shape_of ring.old).size ≡ 64 }
-    ensures goes { Goes (F.state flash.old) (F.state flash.new) }
+    ensures goes { Stays (F.state flash.old) (F.state flash.new) }
 {
     for _ in 0..count {
         seal_next(ring, flash)?;
@@ -86,7 +86,7 @@ fn seal_on<F: Flash>(
     requires geometry { (F.state flash.old).geometry ≡ record { page = 64; block = 2 } }
     requires blocks { (F.state flash.old).blocks ≡ 4 }
     requires room { length buf.old.bytes ≡ 64 }
-    ensures goes { Goes (F.state flash.old) (F.state flash.new) }
+    ensures goes { Stays (F.state flash.old) (F.state flash.new) }
     ensures room { length buf.new.bytes ≡ 64 }
 {
     let mut ring = Ring::mount(flash, PLACE, at_least, buf)?;
@@ -118,7 +118,7 @@ enum Accident {
 }
 
 fn arm<'m>(flash: &mut SimFlash<'m, MemMedia>, accident: Accident)
-    ensures { Goes (⟦<SimFlash<'m, MemMedia> as Flash>⟧.state flash.old) (⟦<SimFlash<'m, MemMedia> as Flash>⟧.state flash.new) }
+    ensures { Stays (⟦<SimFlash<'m, MemMedia> as Flash>⟧.state flash.old) (⟦<SimFlash<'m, MemMedia> as Flash>⟧.state flash.new) }
 {
     match accident {
         Accident::Nothing => {}

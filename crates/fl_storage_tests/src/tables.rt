@@ -1,6 +1,6 @@
 // Records that are put, flushed, cut and mounted again, and images made by hand.
 ghost use Rattle.std.specs.Prelude.{◌≡◌, ◌≤◌, ◌<◌, ◌+◌, true, length, vec_len, IfOk};
-ghost use Rattle.fl_flash.specs.Flash.{FlashState, Goes};
+ghost use Rattle.fl_flash.specs.Flash.{FlashState, Stays};
 ghost use Rattle.fl_table.specs.Memory.{LiesOn, is_running};
 
 mod blobs;
@@ -64,7 +64,7 @@ use Step::{Flush, Mount, Put};
 fn take<F: Flash>(step: Step, table: &mut Table, flash: &mut F, buf: &mut PageBuf) -> Answer
     requires lies { LiesOn table.old (F.state flash.old) }
     requires room { length buf.old.bytes ≡ (F.state flash.old).geometry.page }
-    ensures goes { Goes (F.state flash.old) (F.state flash.new) }
+    ensures goes { Stays (F.state flash.old) (F.state flash.new) }
     ensures lies { LiesOn table.new (F.state flash.new) }
     ensures room { length buf.new.bytes ≡ length buf.old.bytes }
 {
@@ -84,7 +84,7 @@ fn answered<F: Flash>(
 ) -> usize
     requires lies { LiesOn table.old (F.state flash.old) }
     requires room { length buf.old.bytes ≡ (F.state flash.old).geometry.page }
-    ensures goes { Goes (F.state flash.old) (F.state flash.new) }
+    ensures goes { Stays (F.state flash.old) (F.state flash.new) }
     ensures lies { LiesOn table.new (F.state flash.new) }
     ensures room { length buf.new.bytes ≡ length buf.old.bytes }
 {
@@ -320,7 +320,7 @@ fn look_up<F: Flash>(
     requires lies { LiesOn table.now (F.state flash.old) }
     requires room { length buf.old.bytes ≡ (F.state flash.old).geometry.page }
     ensures lies { LiesOn table.now (F.state flash.new) }
-    ensures goes { Goes (F.state flash.old) (F.state flash.new) }
+    ensures goes { Stays (F.state flash.old) (F.state flash.new) }
     ensures room { length buf.new.bytes ≡ length buf.old.bytes }
 {
     let before = flash.work().reads;

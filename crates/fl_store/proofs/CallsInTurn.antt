@@ -1,10 +1,7 @@
 -- A flash and a table over several calls.
-use Rattle.std.proofs.Common.{◌≡◌, ℕ, ◌+◌, ◌≤◌, Bool, Option, None, Some, IsTrue, take, drop, refl, sym, ◌∙◌, ap, subst, arith, le_trans}
+use Rattle.std.proofs.Common.{ℕ, ◌+◌, ◌≤◌, Option, None, Some, sym, ◌∙◌, ap, arith, le_trans}
 use Rattle.fl_base.specs.Causes.{Rose}
 use Rattle.fl_base.specs.declared.types.RingPlace.{RingPlace}
-use Rattle.fl_flash.specs.Flash.{FlashState, Goes}
-use Rattle.fl_flash.specs.Places.{extent}
-use Rattle.fl_flash.specs.declared.armed.Armed.{Armed}
 use Rattle.fl_model.specs.Bare.{bare}
 use Rattle.fl_model.specs.Record.{Plan, blocks_of}
 use Rattle.fl_table.proofs.SealAnswers as without_log
@@ -13,44 +10,6 @@ use Rattle.fl_rlc.specs.Table.{AreSameLog, IsLogPlanned, IsPlanned, IsSamePlan}
 use Rattle.fl_rlc.specs.declared.log.RecordLog.{RecordLog}
 use Rattle.fl_rlc.specs.declared.table.LoggedTable.{LoggedTable}
 use Rattle.fl_rlc.proofs.PutFrames.{log-self}
-
--- the power or the armed cut alone was changed
-pub goes-set : (f : FlashState) (is_on : Bool) (armed : Option Armed) → Goes f (record f { is_on = is_on; armed = armed })
-goes-set f is_on armed = record {
-  geometry = refl;
-  blocks = refl;
-  start = refl;
-  origin = refl;
-  tells = refl;
-  size = refl;
-  front = λ t. refl;
-  back = λ t. refl;
-  cuts = omega arith;
-  faults = omega arith;
-}
-
-pub goes-on : (old mid new : FlashState) → Goes old mid → Goes mid new → Goes old new
-goes-on old mid new a b = record {
-  geometry = b.geometry ∙ a.geometry;
-  blocks = b.blocks ∙ a.blocks;
-  start = b.start ∙ a.start;
-  origin = b.origin ∙ a.origin;
-  tells = b.tells ∙ a.tells;
-  size = b.size ∙ a.size;
-  front = λ t.
-      let f = b.front (subst IsTrue (sym a.tells) t) in
-      subst (λ n. take n new.media.content ≡ take n mid.media.content) a.start f ∙ a.front t;
-  back = λ t.
-      let k = b.back (subst IsTrue (sym a.tells) t) in
-      let same : mid.start + extent mid.geometry mid.blocks ≡ old.start + extent old.geometry old.blocks = rw (a.start, a.geometry, a.blocks) refl in
-      subst (λ n. drop n new.media.content ≡ drop n mid.media.content) same k ∙ a.back t;
-  cuts = le_trans a.cuts b.cuts;
-  faults = le_trans a.faults b.faults;
-}
-
--- .. or nothing
-pub goes-same : (f : FlashState) → Goes f f
-goes-same f = goes-set f f.is_on f.armed
 
 -- faults that rose in a part of the calls rose in the whole
 pub rose-front : (before mid now : ℕ) → mid ≤ now → Rose before mid → Rose before now

@@ -3,8 +3,8 @@ use Rattle.std.proofs.Common.{true, List}
 use Rattle.fl_flash.specs.Flash.{FlashState}
 use Rattle.fl_model.specs.Record.{Config}
 use Rattle.fl_model.specs.Table as model
-use Rattle.fl_page.specs.Contents.{OnlyReads}
-use Rattle.fl_page.proofs.ReadsInTurn.{OnlyReads-goes}
+use Rattle.fl_frame.specs.Contents.{OnlyReads}
+use Rattle.fl_frame.proofs.ContentsInTurn.{OnlyReads-goes}
 use Rattle.fl_store.specs.Laws.{StoresHold}
 use Rattle.fl_store.specs.Store.{Holds}
 use Rattle.fl_store.specs.declared.tables.Entry.{Entry}

@@ -5,7 +5,7 @@ use Rattle.fl_flash.specs.Flash.{FlashState, page_at}
 use Rattle.fl_flash.specs.Places.{page_of}
 use Rattle.fl_model.specs.Image.{page_bytes}
 use Rattle.fl_model.specs.Record.{Plan, Config}
-use Rattle.fl_page.specs.Contents.{Contents, OnlyReads}
+use Rattle.fl_frame.specs.Contents.{Contents, OnlyReads}
 use Rattle.fl_store.specs.Repaired.{IsLeft, AreRepaired, OthersAreRepaired}
 
 -- nothing changed

@@ -29,6 +29,7 @@ pub mod InMemory
 pub mod Powering
 pub mod Making
 pub mod FoundTables
+pub mod Jobs
 pub mod MountEnds
 pub mod Others
 pub mod Failing
@@ -38,3 +39,4 @@ pub mod Readers
 pub mod HeaderLength
 pub mod NewImages
 pub mod HeldStores
+pub mod Unarmed

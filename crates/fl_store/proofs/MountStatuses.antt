@@ -2,41 +2,37 @@
 use Rattle.std.proofs.Common.{◌≡◌, ℕ}
 use Rattle.fl_base.specs.Causes.{Rose}
 use Rattle.fl_flash.specs.Flash.{FlashState}
-use Rattle.fl_flash.specs.declared.flash.FlashFault.{FlashFault}
 use Rattle.fl_flash.specs.declared.flash.FlashFault.TheVariants.{PowerLost, Media}
-use Rattle.fl_image.specs.Status.{flash_status}
+use Rattle.fl_frame.proofs.WatchedInTurn.{never-lost}
 use Rattle.fl_image.specs.declared.status.ToolStatus.{ToolStatus}
-use Rattle.fl_image.specs.declared.status.ToolStatus.TheVariants.{NoMemory, Device, BadImage}
+use Rattle.fl_image.specs.declared.status.ToolStatus.TheVariants.{Device, BadImage}
 use Rattle.fl_table.specs.Causes.{MountCausedBy}
 use Rattle.fl_table.specs.declared.faults.MountFault.{MountFault}
 use Rattle.fl_table.specs.declared.faults.MountFault.TheVariants as mount
 use Rattle.fl_store.specs.Status.{mount_status}
+use Rattle.fl_store.specs.Unarmed.{IsUnarmed}
 
--- what holds of each of the statuses of a flash that failed, and of a mount
-pub by-flash : (P : ToolStatus → Type 0) (e : FlashFault) → P NoMemory → P Device → P (flash_status e)
-by-flash P Media memory device = device
-by-flash P PowerLost memory device = memory
+-- what holds of each of the statuses of a mount
+pub by-mount : (P : ToolStatus → Type 0) (e : MountFault) (at : ℕ) → P Device → P (BadImage at) → P (mount_status e at)
+by-mount P (mount.Flash e) at device bad = device
+by-mount P (mount.Ring e) at device bad = bad
+by-mount P (mount.BadPage page) at device bad = bad
+by-mount P (mount.BadKeys page last key) at device bad = bad
+by-mount P (mount.BadIndex end next) at device bad = bad
+by-mount P (mount.BadBlob page next) at device bad = bad
+by-mount P (mount.BadEntry page count limit) at device bad = bad
 
-pub by-mount : (P : ToolStatus → Type 0) (e : MountFault) (at : ℕ) → P NoMemory → P Device → P (BadImage at) → P (mount_status e at)
-by-mount P (mount.Flash e) at memory device bad = by-flash P e memory device
-by-mount P (mount.Ring e) at memory device bad = bad
-by-mount P (mount.BadPage page) at memory device bad = bad
-by-mount P (mount.BadKeys page last key) at memory device bad = bad
-by-mount P (mount.BadIndex end next) at memory device bad = bad
-by-mount P (mount.BadBlob page next) at memory device bad = bad
-by-mount P (mount.BadEntry page count limit) at memory device bad = bad
-
--- it tells the device only where the medium failed
-pub mount-rose : (old new : FlashState) (e : MountFault) (at : ℕ) → mount_status e at ≡ Device → MountCausedBy old e new → Rose old.media.faults new.media.faults
-mount-rose old new (mount.Flash Media) at is cause = cause
-mount-rose old new (mount.Flash PowerLost) at is cause = absurd (cc is)
-mount-rose old new (mount.Ring e) at is cause = absurd (cc is)
-mount-rose old new (mount.BadPage page) at is cause = absurd (cc is)
-mount-rose old new (mount.BadKeys page last key) at is cause = absurd (cc is)
-mount-rose old new (mount.BadIndex end next) at is cause = absurd (cc is)
-mount-rose old new (mount.BadBlob page next) at is cause = absurd (cc is)
-mount-rose old new (mount.BadEntry page count limit) at is cause = absurd (cc is)
+-- it tells the device only where the medium failed, since no power is lost
+pub mount-rose : (old new : FlashState) (e : MountFault) (at : ℕ) → IsUnarmed old → mount_status e at ≡ Device → MountCausedBy old e new → Rose old.media.faults new.media.faults
+mount-rose old new (mount.Flash Media) at unarmed is cause = cause
+mount-rose old new (mount.Flash PowerLost) at unarmed is cause = absurd (never-lost old new unarmed.on unarmed.none cause)
+mount-rose old new (mount.Ring e) at unarmed is cause = absurd (cc is)
+mount-rose old new (mount.BadPage page) at unarmed is cause = absurd (cc is)
+mount-rose old new (mount.BadKeys page last key) at unarmed is cause = absurd (cc is)
+mount-rose old new (mount.BadIndex end next) at unarmed is cause = absurd (cc is)
+mount-rose old new (mount.BadBlob page next) at unarmed is cause = absurd (cc is)
+mount-rose old new (mount.BadEntry page count limit) at unarmed is cause = absurd (cc is)
 
 -- .. and a bad table only by its place
 pub mount-place : (e : MountFault) (at table : ℕ) → mount_status e at ≡ BadImage table → at ≡ table
-mount-place e at table = by-mount (λ s. s ≡ BadImage table → at ≡ table) e at (λ is. absurd (cc is)) (λ is. absurd (cc is)) (λ is. cc is)
+mount-place e at table = by-mount (λ s. s ≡ BadImage table → at ≡ table) e at (λ is. absurd (cc is)) (λ is. cc is)

@@ -20,7 +20,7 @@ use Rattle.fl_model.specs.Within.{TableMounts, TableMountEnd, TableMounted, Tabl
 use Rattle.fl_model.proofs.Among.{changed-there, changed-elsewhere}
 use Rattle.fl_model.proofs.Lists.{slice_get-some}
 use Rattle.fl_model.proofs.MountAmongTables.{mounts-along}
-use Rattle.fl_ring.specs.Device.{SameDevice}
+use Rattle.fl_frame.specs.Device.{SameDevice}
 use Rattle.fl_machine.specs.Step.{all_ready, made_ready}
 use Rattle.fl_table.specs.Outcomes.{FaultEnds}
 use Rattle.fl_table.specs.declared.faults.MountFault.{MountFault}

@@ -2,11 +2,11 @@
 use Rattle.std.proofs.Common.{◌≡◌, ◌+◌, ◌*◌, ◌≤◌, Bool, true, false, IsTrue, IfErr, Result, List, length, refl, sym, ap, subst}
 use Rattle.std.specs.Prelude.{OnOk}
 use Rattle.fl_flash.specs.Flash.{FlashState, Goes, page_at}
+use Rattle.fl_frame.proofs.CallsInTurn.{goes-on, goes-then}
 use Rattle.fl_model.specs.Record.{Config, Plan}
 use Rattle.fl_model.specs.Table as model
 use Rattle.fl_model.specs.Work.{Device}
-use Rattle.fl_ring.specs.Step.{IsWatched}
-use Rattle.fl_rlc.proofs.Powered.{goes-powered}
+use Rattle.fl_frame.specs.Watched.{IsWatched}
 use Rattle.fl_table.specs.Causes.{MountCausedBy}
 use Rattle.fl_table.specs.Mounting.{FewRepairs}
 use Rattle.fl_store.specs.Calls.{powered}
@@ -16,14 +16,13 @@ use Rattle.fl_store.specs.Tables.{LieOn, TablesMount, TablesStand, pages_of}
 use Rattle.fl_store.specs.declared.tables.BadMount.{BadMount}
 use Rattle.fl_store.specs.declared.tables.Entry.{Entry}
 use Rattle.fl_store.proofs.Called.{on-ok}
-use Rattle.fl_store.proofs.CallsInTurn.{goes-on}
 use Rattle.fl_store.proofs.TablesLie.{lie-on}
 use Rattle.fl_store.proofs.TablesOnlyRead.{tables-kept}
 use Rattle.fl_store.proofs.Worked.{medium-goes}
 
 module _ (f on : FlashState) (is : on ≡ powered f) where
   goes-up : Goes f on
-  goes-up = subst (λ x. Goes f x) (sym is) (goes-powered f true)
+  goes-up = subst (λ x. Goes f x) (sym is) (goes-on f)
 
   pub lie-up : (entries : List Entry) → LieOn entries f → LieOn entries on
   lie-up entries lie = lie-on entries f on goes-up lie
@@ -33,7 +32,7 @@ module _ (f on : FlashState) (is : on ≡ powered f) where
 
   module _ (g : FlashState) where
     pub goes-through : Goes on g → Goes f g
-    goes-through goes = goes-on f on g goes-up goes
+    goes-through goes = goes-then f on g goes-up goes
 
     module _ (entries now : List Entry) (result : Result (Unit {0}) BadMount) where
       pub mounts-through : (config : Config) (tables : List model.Table) (rose : Bool) (device : Device) → Goes on g →

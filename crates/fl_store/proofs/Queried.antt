@@ -71,6 +71,15 @@ module _ (t : Table 64 64) (entry : Entry) (is : t ≡ table_in entry.table) whe
     pub row-at : (buf : BufferState) (place : RowAt) → IsRowIn entries at buf place → IsRowAt t buf place
     row-at buf place h = subst (λ (x : Table 64 64). IsRowAt x buf place) (sym is) (h entry here)
 
+    -- what holds of the table that is asked holds of the one at the place
+    pub at-place : (P : Table 64 64 → Type 0) → P t → (other : Entry) → slice_get entries at ≡ Some other → P (table_in other.table)
+    at-place P h other e = subst (λ (x : Entry). P (table_in x.table)) (some-is (slice_get entries at) entry other here e) (subst P is h)
+
+    pub found-at : (P : Table 64 64 → Option RowAt → Type 0) (result : Result (Option RowAt) ReadFault) → IfOk result (P t) →
+        IfOk result (λ found. (other : Entry) → slice_get entries at ≡ Some other → P (table_in other.table) found)
+    found-at P (Ok found) h = at-place (λ (x : Table 64 64). P x found) h
+    found-at P (Err e) h = tt
+
     pub fails-at : (f g : FlashState) (result : Result (Option RowAt) ReadFault) → IfErr result (λ e. LookupFails t f e g) → IfErr result (λ e. (other : Entry) → slice_get entries at ≡ Some other → LookupFails (table_in other.table) f e g)
     fails-at f g (Ok found) h = tt
     fails-at f g (Err e) h = λ other k.

@@ -12,7 +12,7 @@ use Rattle.fl_model.specs.Table.{Entry}
 use Rattle.fl_page.specs.Header.{page_count}
 use Rattle.fl_page.specs.declared.fault.ReadFault.{ReadFault}
 use Rattle.fl_page.specs.declared.fault.ReadFault.TheVariants as fault
-use Rattle.fl_ring.specs.Looking as looking
+use Rattle.fl_frame.specs.Reads as looking
 use Rattle.fl_ring.specs.Ring.{place}
 use Rattle.fl_ring.proofs.Founds.{same_pages}
 use Rattle.fl_table.specs.BlobAt.{data_in, has_blobs, blob_page_len, content_in}

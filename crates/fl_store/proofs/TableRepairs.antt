@@ -8,7 +8,7 @@ use Rattle.fl_flash.specs.Flash.{FlashState, Goes, page_at}
 use Rattle.fl_model.specs.Record.{Plan, blocks_of}
 use Rattle.fl_model.specs.Table as model
 use Rattle.fl_model.specs.Work.{Device}
-use Rattle.fl_ring.specs.Step.{IsWatched}
+use Rattle.fl_frame.specs.Watched.{IsWatched}
 use Rattle.fl_rlc.specs.Left as one_table
 use Rattle.fl_rlc.specs.Left.{LeavesPages}
 use Rattle.fl_rlc.specs.Logged.{Rests}

@@ -4,7 +4,7 @@ use Rattle.std.specs.List.{slice_get}
 use Rattle.std.proofs.Math.Dec.{eqb}
 use Rattle.std.proofs.lemmas.Bool.Decides.{eqb_tells}
 use Rattle.std.proofs.lemmas.Bool.{cases_lt}
-use Rattle.fl_flash.specs.Flash.{FlashState, Goes}
+use Rattle.fl_flash.specs.Flash.{FlashState, Goes, StaysWith}
 use Rattle.fl_rlc.specs.Table.{LiesOn, is_running}
 use Rattle.fl_rlc.specs.declared.table.LoggedTable.{LoggedTable}
 use Rattle.fl_rlc.proofs.Powered.{lies-on}
@@ -14,7 +14,7 @@ use Rattle.fl_store.specs.declared.tables.Entry.{Entry}
 use Rattle.fl_store.proofs.TablesChanged.{set-there, set-here, set-elsewhere, some-is}
 
 -- tables lie on a flash after a call of another one
-pub lie-on : (entries : List Entry) (f g : FlashState) → Goes f g → LieOn entries f → LieOn entries g
+pub lie-on : {Power : Type 0} (entries : List Entry) (f g : FlashState) → StaysWith Power f g → LieOn entries f → LieOn entries g
 lie-on entries f g goes lie i entry e = lies-on entry.table f g goes (lie i entry e)
 
 -- one of the tables was changed

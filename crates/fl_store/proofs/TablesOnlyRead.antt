@@ -5,8 +5,8 @@ use Rattle.fl_flash.specs.Places.{extent, page_of}
 use Rattle.fl_model.specs.Bare.{bare}
 use Rattle.fl_model.specs.Record.{Plan}
 use Rattle.fl_model.specs.Table as model
-use Rattle.fl_page.specs.Contents.{Contents, contents_of, OnlyReads}
-use Rattle.fl_page.proofs.ReadsInTurn.{OnlyReads-goes}
+use Rattle.fl_frame.specs.Contents.{Contents, contents_of, OnlyReads}
+use Rattle.fl_frame.proofs.ContentsInTurn.{OnlyReads-goes}
 use Rattle.fl_cursor.specs.Cursor.{IsStanding}
 use Rattle.fl_table.specs.Memory.{LiesOn}
 use Rattle.fl_table.specs.Standing.{Stands}

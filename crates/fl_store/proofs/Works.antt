@@ -8,7 +8,7 @@ use Rattle.fl_model.specs.Table as model
 use Rattle.fl_model.specs.Table.{lose}
 use Rattle.fl_model.specs.Work as work
 use Rattle.fl_model.specs.Work.{PartEnd, Whole, CutIn, FailedIn, PartProgress}
-use Rattle.fl_ring.specs.Step.{IsWatched}
+use Rattle.fl_frame.specs.Watched.{IsWatched}
 use Rattle.fl_rlc.specs.Logged.{Rests}
 use Rattle.fl_rlc.specs.Outcomes.{Finishes, Breaks}
 use Rattle.fl_rlc.specs.declared.table.LoggedTable.{LoggedTable}

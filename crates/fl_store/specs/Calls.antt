@@ -13,7 +13,7 @@ use Rattle.fl_model.specs.Within.{with_table}
 use Rattle.fl_model.specs.Work.{Device, Whole, PartProgress}
 use Rattle.fl_page.specs.declared.fault.ReadFault.{ReadFault}
 use Rattle.fl_page.specs.declared.fault.ReadFault.TheVariants as fault
-use Rattle.fl_ring.specs.Device.{SameDevice}
+use Rattle.fl_frame.specs.Device.{SameDevice}
 use Rattle.fl_rlc.specs.Table.{table_in, is_running}
 use Rattle.fl_table.specs.Finding.{FindsEntry, IsRowAt}
 use Rattle.fl_table.specs.Look.{layout_in}

@@ -7,7 +7,7 @@ use Rattle.fl_model.specs.Image.{medium_len}
 use Rattle.fl_model.specs.Record.{Config}
 use Rattle.fl_model.specs.Table as model
 use Rattle.fl_model.specs.Table.{lose}
-use Rattle.fl_page.specs.Contents.{OnlyReads}
+use Rattle.fl_frame.specs.Contents.{OnlyReads}
 use Rattle.fl_words.specs.Medium.{IsImage, header}
 use Rattle.fl_store.specs.Store.{Holds}
 use Rattle.fl_store.specs.declared.tables.Entry.{Entry}

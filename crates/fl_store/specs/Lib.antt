@@ -1,5 +1,6 @@
 pub mod Tables
 pub mod Mounting
+pub mod MountsOver
 pub mod Repaired
 pub mod Replies
 pub mod Store
@@ -7,9 +8,11 @@ pub mod Found
 pub mod Named
 pub mod FoundTable
 pub mod MountEnds
+pub mod Jobs
 pub mod Status
 pub mod Calls
 pub mod InMemory
 pub mod Works
 pub mod Made
 pub mod Laws
+pub mod Unarmed

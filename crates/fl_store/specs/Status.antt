@@ -1,12 +1,11 @@
 -- The status of a job whose tables aren't mounted.
 use Rattle.std.specs.Prelude.{ℕ}
-use Rattle.fl_image.specs.Status.{flash_status}
 use Rattle.fl_image.specs.declared.status.ToolStatus.{ToolStatus}
-use Rattle.fl_image.specs.declared.status.ToolStatus.TheVariants.{BadImage}
+use Rattle.fl_image.specs.declared.status.ToolStatus.TheVariants.{BadImage, Device}
 use Rattle.fl_table.specs.declared.faults.MountFault.{MountFault}
 use Rattle.fl_table.specs.declared.faults.MountFault.TheVariants as mount
 
 -- the status of a job whose tables aren't mounted, since this one isn't
 abbrev pub mount_status : MountFault → ℕ → ToolStatus
-mount_status (mount.Flash e) at = flash_status e
+mount_status (mount.Flash e) at = Device
 mount_status bad at = BadImage at

@@ -9,7 +9,7 @@ use Rattle.fl_model.specs.Image.{medium_len}
 use Rattle.fl_model.specs.Record.{Config, blocks_of}
 use Rattle.fl_model.specs.Table as model
 use Rattle.fl_model.specs.Work.{Device}
-use Rattle.fl_ring.specs.Device.{SameDevice}
+use Rattle.fl_frame.specs.Device.{SameDevice}
 use Rattle.fl_words.specs.Config.{Lines}
 use Rattle.fl_words.specs.Medium.{header}
 use Rattle.fl_store.specs.Tables.{AreNewTables, TablesStand}

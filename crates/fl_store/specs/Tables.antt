@@ -8,7 +8,7 @@ use Rattle.fl_model.specs.Record.{Plan, blocks_of}
 use Rattle.fl_model.specs.Table as model
 use Rattle.fl_model.specs.Table.{lose}
 use Rattle.fl_model.specs.Work.{Device, Progress, Outcome, Finished, CutShort, Failed}
-use Rattle.fl_ring.specs.Device.{SameDevice}
+use Rattle.fl_frame.specs.Device.{SameDevice}
 use Rattle.fl_words.specs.Config.{Lines}
 use Rattle.fl_machine.specs.Step.{all_ready}
 use Rattle.fl_rlc.specs.Logged.{Rests, Stands}

@@ -6,7 +6,7 @@ use Rattle.fl_model.specs.Record.{Record, Plan}
 use Rattle.fl_model.specs.Table.{Table, table_seals}
 use Rattle.fl_model.specs.Within.{TablePerforms, seals_within}
 use Rattle.fl_model.specs.Work.{Device, PartProgress, Whole}
-use Rattle.fl_ring.specs.Device.{SameDevice}
+use Rattle.fl_frame.specs.Device.{SameDevice}
 use Rattle.fl_rlc.specs.Logged.{Stands}
 use Rattle.fl_rlc.specs.declared.table.LoggedTable.{LoggedTable}
 

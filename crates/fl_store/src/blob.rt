@@ -2,8 +2,8 @@
 ghost use Rattle.std.specs.Prelude.{◌≡◌, ◌<◌, ℕ, List, true, Some, [], length, slice_get, IsTrue, IfOk, IfErr, IfSome};
 ghost use Rattle.fl_model.specs.Record.{Config, Plan};
 ghost use Rattle.fl_model.specs.Table as model;
-ghost use Rattle.fl_page.specs.Contents as contents;
-ghost use Rattle.fl_ring.specs.Looking.{OnlyReads};
+ghost use Rattle.fl_frame.specs.Contents as contents;
+ghost use Rattle.fl_frame.specs.Reads.{OnlyReads};
 ghost use Rattle.fl_rlc.specs.Table.{table_in};
 ghost use Rattle.fl_table.specs.BlobAt.{data_in};
 ghost use Rattle.fl_var.specs.Memory.{LiesOn};

@@ -6,8 +6,8 @@ ghost use Rattle.fl_model.specs.Record.{Config, Plan};
 ghost use Rattle.fl_model.specs.Table as model;
 ghost use Rattle.fl_model.specs.Table.{last_entry};
 ghost use Rattle.fl_model.specs.Work.{Device};
-ghost use Rattle.fl_page.specs.Contents.{OnlyReads};
-ghost use Rattle.fl_ring.specs.Step.{IsWatched};
+ghost use Rattle.fl_frame.specs.Contents.{OnlyReads};
+ghost use Rattle.fl_frame.specs.Watched.{IsWatched};
 ghost use Rattle.fl_rlc.specs.Refusal.{put_refusal, NeedsNoOperation};
 ghost use Rattle.fl_rlc.specs.Table as logged;
 ghost use Rattle.fl_rlc.specs.Table.{is_running, rings_in, table_in};
@@ -15,7 +15,7 @@ ghost use Rattle.fl_schema.specs.Schema.{layout_of_row, row_of};
 ghost use Rattle.fl_table.specs.BlobAt.{data_in};
 ghost use Rattle.fl_table.specs.Blobs.{most_pages};
 ghost use Rattle.fl_table.specs.Causes.{FlushCausedBy, MountCausedBy, PutCausedBy, flush_breaks, put_breaks};
-ghost use Rattle.fl_table.specs.Finding.{LookupFails, row_of_place};
+ghost use Rattle.fl_table.specs.Finding.{HasKeyAt, IsAnswered, LookupFails, row_in, row_of_place};
 ghost use Rattle.fl_table.specs.Look.{counts_in, counts_of, last_key_in};
 ghost use Rattle.fl_table.specs.Memory.{pending_in};
 ghost use Rattle.fl_table.specs.Mounting.{FewRepairs};
@@ -197,6 +197,9 @@ impl<'m, M: Media> Store<'m, M> {
         requires room { HavePage pages.old (⟦<SimFlash<'m, M> as Flash>⟧.state self.old.flash).geometry.page }
         ensures finds { (config : Config) (tables : List model.Table) (plan : Plan) (table : model.Table) → Holds config self.old.tables.entries.items (⟦<SimFlash<'m, M> as Flash>⟧.state self.old.flash) true tables → Located config tables at plan table →
             GetEnds plan table key pages.new.rows result }
+        // Whatever the pages hold: the row that is found has the key, and a page that has to be read isn't bad.
+        ensures key { IfOk result (λ found. (entry : Entry) → slice_get self.old.tables.entries.items at ≡ Some entry → IfSome found (HasKeyAt (table_in entry.table) pages.new.rows key)) }
+        ensures answers { IfOk result (λ found. (entry : Entry) → slice_get self.old.tables.entries.items at ≡ Some entry → IsAnswered (table_in entry.table) (⟦<SimFlash<'m, M> as Flash>⟧.state self.old.flash) key found) }
         ensures here { IfOk result (λ found. IfSome found (IsRowIn self.new.tables.entries.items at pages.new.rows)) }
         ensures holds { (config : Config) (tables : List model.Table) → Holds config self.old.tables.entries.items (⟦<SimFlash<'m, M> as Flash>⟧.state self.old.flash) true tables → Holds config self.new.tables.entries.items (⟦<SimFlash<'m, M> as Flash>⟧.state self.new.flash) true tables }
         ensures fails { IfErr result (λ e. (entry : Entry) → slice_get self.old.tables.entries.items at ≡ Some entry → LookupFails (table_in entry.table) (⟦<SimFlash<'m, M> as Flash>⟧.state self.old.flash) e (⟦<SimFlash<'m, M> as Flash>⟧.state self.new.flash)) }
@@ -216,6 +219,7 @@ impl<'m, M: Media> Store<'m, M> {
         requires here { IsRowIn self.now.tables.entries.items at pages.now.rows place }
         ensures row { (config : Config) (tables : List model.Table) (plan : Plan) (table : model.Table) → Holds config self.now.tables.entries.items (⟦<SimFlash<'m, M> as Flash>⟧.state self.now.flash) true tables → Located config tables at plan table →
             row_of_place plan table pages.now.rows place ≡ Some (row_of result) }
+        ensures exact { (entry : Entry) → slice_get self.now.tables.entries.items at ≡ Some entry → row_in (table_in entry.table) pages.now.rows place ≡ Some (row_of result) }
         ensures columns { length (layout_of_row result).columns ≡ columns_at self.now.tables.entries.items at }
     {
         self.tables.entries[at]

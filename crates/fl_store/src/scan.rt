@@ -7,7 +7,7 @@ ghost use Rattle.fl_model.specs.Query as query;
 ghost use Rattle.fl_model.specs.Record.{Config, Plan};
 ghost use Rattle.fl_model.specs.Row.{stored_row};
 ghost use Rattle.fl_model.specs.Table as model;
-ghost use Rattle.fl_page.specs.Contents.{contents_of};
+ghost use Rattle.fl_frame.specs.Contents.{contents_of};
 ghost use Rattle.fl_rlc.specs.Table.{table_in};
 ghost use Rattle.fl_table.specs.Look.{last_key_in, layout_in};
 ghost use Rattle.fl_store.specs.declared.tables.Entry.{Entry};

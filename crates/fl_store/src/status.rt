@@ -3,7 +3,7 @@ ghost use Rattle.std.specs.Prelude.{◌≡◌, ◌<◌};
 ghost use Rattle.fl_store.specs.Status.{mount_status};
 
 use crate::tables::BadMount;
-use fl_image::{ToolStatus, flash_status};
+use fl_image::ToolStatus;
 use fl_table::MountFault;
 
 /// The status of a job that ends since one of the image's tables, four at most, can't be mounted: that of the device where the
@@ -13,7 +13,7 @@ pub fn mount_status(bad: BadMount) -> ToolStatus
     ensures { result ≡ mount_status bad.fault bad.at }
 {
     match bad.fault {
-        MountFault::Flash(fault) => flash_status(fault),
+        MountFault::Flash(_) => ToolStatus::Device,
         _ => ToolStatus::BadImage {
             table: bad.at as u32,
         },

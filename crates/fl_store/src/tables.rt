@@ -4,7 +4,7 @@ ghost use Rattle.fl_flash.specs.Flash.{Goes, page_at};
 ghost use Rattle.fl_model.specs.Record.{Plan, blocks_of};
 ghost use Rattle.fl_model.specs.Table as model;
 ghost use Rattle.fl_model.specs.Work.{Device};
-ghost use Rattle.fl_ring.specs.Step.{IsWatched};
+ghost use Rattle.fl_frame.specs.Watched.{IsWatched};
 
 use crate::sizes::LoggedTable;
 use fl_base::{Name, NoMemory};

@@ -10,7 +10,7 @@ use Rattle.fl_model.specs.Ring.{Ring, IsShape, sealed, erased}
 use Rattle.fl_model.specs.Table.{Table, RingName, DataRing, IndexRing, VarRing, LogRing, shape_of, fill, fill_seals, after_seal, after_seals, with_record, blob_len}
 use Rattle.fl_model.specs.Work.{Device, Whole}
 use Rattle.fl_ring.specs.Ring.{Shape}
-use Rattle.fl_ring.specs.Step.{IsWatched}
+use Rattle.fl_frame.specs.Watched.{IsWatched}
 use Rattle.fl_table.specs.Blobs.{ArePlaced, IsPlanned, IsStanding, Finishes, RestEnds, PlaceEnds, rest_seals, reference_of}
 use Rattle.fl_table.proofs.BlobTables.{var-shape}
 use Rattle.fl_table.proofs.KeptPagesStay.{ring-same}

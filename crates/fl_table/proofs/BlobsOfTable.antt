@@ -3,7 +3,7 @@ use Rattle.std.proofs.Common.{◌≡◌, ℕ, ◌+◌, ◌-◌, ◌*◌, ◌/◌
 use Rattle.std.proofs.Math.Path.{fun_ext}
 use Rattle.std.proofs.Math.Nat.{add-mul, div-lt_iff_lt-mul}
 use Rattle.std.specs.List.{slice_get}
-use Rattle.fl_flash.specs.Flash.{FlashState, Goes, page_at, pages}
+use Rattle.fl_flash.specs.Flash.{FlashState, page_at, pages, StaysWith}
 use Rattle.fl_model.specs.Facts.{is_some_ring}
 use Rattle.fl_model.specs.Layout.{ContentPage, content_body}
 use Rattle.fl_model.specs.Record.{Plan, has_var}
@@ -67,7 +67,7 @@ pub none-var : (first : ℕ) (plan : Plan) (table : Table) → ArePlanned None f
 none-var first plan table h facts = no_ring table.var (facts.has ∙ planned-none first plan h)
 
 -- they lie where they lay
-pub lies-goes : (blobs : Option VarData) (f g : FlashState) → Goes f g → LieOn blobs f → LieOn blobs g
+pub lies-goes : {Power : Type 0} (blobs : Option VarData) (f g : FlashState) → StaysWith Power f g → LieOn blobs f → LieOn blobs g
 lies-goes None f g goes h = tt
 lies-goes (Some var) f g goes h = record {
   geometry = goes.geometry ∙ h.geometry;

@@ -1,12 +1,12 @@
 -- What a lookup ends with, in the words of the table.
 use Rattle.std.proofs.Common.{◌≡◌, ℕ, ◌+◌, ◌*◌, ◌<◌, ◌≤◌, Bool, true, false, Option, Some, None, option_map, Result, Ok, Err, List, map, length, drop, refl, sym, ◌∙◌, ap, subst, arith, IsTrue}
-use Rattle.std.specs.Prelude.{IfOk, IfSome, MatchOption, if◌then◌else◌}
+use Rattle.std.specs.Prelude.{IfOk, IfSome, MatchOption, if◌then◌else◌, unwrap_or}
 use Rattle.std.specs.List.{slice_get}
-use Rattle.fl_find.specs.Index.{error_in, most_reads}
+use Rattle.fl_find.specs.Index.{error_in, knots_in, most_reads, window_end}
 use Rattle.fl_find.specs.Looking.{LookFails}
 use Rattle.fl_find.specs.Looking as find
-use Rattle.fl_find.specs.Pages.{rows_on, rows_where, Holds, IsBadPage, bytes_at}
-use Rattle.fl_find.specs.Rows.{HasKey, LacksKey, LooksUp}
+use Rattle.fl_find.specs.Pages.{first_key, first_on, rows_on, rows_where, Holds, IsBadPage, bytes_at}
+use Rattle.fl_find.specs.Rows.{RowsRise, HasKey, IsOn, LacksKey, LooksUp}
 use Rattle.fl_find.specs.Standing.{HoldsPages, HoldsEntries}
 use Rattle.fl_find.specs.declared.row.PageRow.{PageRow}
 use Rattle.fl_flash.specs.Buffer.{BufferState}
@@ -20,7 +20,8 @@ use Rattle.fl_model.specs.Image.{rows_at}
 use Rattle.fl_model.specs.Record.{Plan, RowLayout, row_layout}
 use Rattle.fl_model.specs.Ring as rings
 use Rattle.fl_model.specs.Row.{Row, stored_row}
-use Rattle.fl_model.specs.Spline.{bits, is_covered, is_pending_key, lookup_limit, retained, voids_of}
+use Rattle.fl_base.specs.Bits.{bits}
+use Rattle.fl_model.specs.Spline.{is_covered, is_pending_key, lookup_limit, retained, voids_of}
 use Rattle.fl_model.specs.Table as model
 use Rattle.fl_model.specs.Table.{lose, pending_entries}
 use Rattle.fl_model.proofs.Lists.{slice_get-short}
@@ -33,8 +34,9 @@ use Rattle.fl_ring.specs.Place.{shape_of, next_of, oldest_of}
 use Rattle.fl_ring.specs.Ring.{Shape, place}
 use Rattle.fl_ring.specs.declared.ring.Ring.{Ring}
 use Rattle.fl_schema.specs.Schema.{layout_of}
-use Rattle.fl_table.specs.Finding.{Finds, IsRowAt, HoldsIts, HoldsKept, HasBadPage, LookupFails}
-use Rattle.fl_table.specs.Look.{oldest_in}
+use Rattle.fl_search.specs.Search.{Ascends, IsPageOf}
+use Rattle.fl_table.specs.Finding.{AnswersInPages, AnswersPending, EndsOn, Finds, HasKeyAt, IsRowAt, HoldsIts, HoldsKept, HasBadPage, LookupFails, first_at, rows_at as rows_of_page, window_in}
+use Rattle.fl_table.specs.Look.{buffered_rows, layout_in, oldest_in}
 use Rattle.fl_table.specs.Memory.{next_in, IsPlanned, LiesOn}
 use Rattle.fl_table.specs.Standing.{Stands}
 use Rattle.fl_table.specs.declared.find.RowAt.TheVariants as at
@@ -121,6 +123,71 @@ holds-kept t f ring number buf is kept h = record {
   bytes = λ told. h.bytes told ∙ ap (page_at f) (sym (ring-place t ring number is));
 }
 
+-- what a look in the pages of the ring tells of the table
+module _ {KNOTS SLOTS : ℕ} (t : Table KNOTS SLOTS) (ring : Ring) (f : FlashState) (key : ℕ) (is : t.ring ≡ Some ring) where
+  firsts-in : first_at t f ≡ first_on (layout_in t) (shape_of ring) f
+  firsts-in =
+      let of : Option Ring → ℕ → Option ℕ = λ o n. first_key (rows_on (layout_in t) (page_at f (unwrap_or (option_map (λ (r : Ring). place (shape_of r) n) o) 0))) in
+      ap of is
+
+  window-is : window_in t key ≡ window_end t.index (next_of ring) key
+  window-is = ap (λ n. window_end t.index n key) (next-in t ring is)
+
+  rows-in-page : (page : ℕ) → rows_on (layout_in t) (bytes_at (shape_of ring) f page) ≡ rows_of_page t f page
+  rows-in-page page = ap (λ n. rows_on (layout_in t) (page_at f n)) (sym (ring-place t ring page is))
+
+  ends-on : (page : Option ℕ) (found : Option PageRow) → IsOn (layout_in t) (shape_of ring) f key page found → EndsOn t f key page (option_map at.InPage found)
+  ends-on None None h = tt
+  ends-on None (Some place) h = h
+  ends-on (Some page) None h = subst (λ (rows : List Row). RowsRise rows → LacksKey rows key) (rows-in-page page) h
+  ends-on (Some page) (Some place) h = h
+
+  page-of-ring : (end_now end : ℕ) (page : Option ℕ) → end_now ≡ end → IsPageOf (first_at t f) (oldest_in t) end_now key page → IsPageOf (first_on (layout_in t) (shape_of ring) f) (oldest_of ring) end key page
+  page-of-ring end_now end page same h =
+      subst (λ (first : ℕ → Option ℕ). IsPageOf first (oldest_of ring) end key page) firsts-in
+      (subst (λ o. IsPageOf (first_at t f) o end key page) (oldest-in t ring is) (subst (λ e. IsPageOf (first_at t f) (oldest_in t) e key page) same h))
+
+  pub answers-in_pages : (found : Option PageRow) →
+      ((page : Option ℕ) → is_covered (knots_in t.index) key ≡ true → IsTrue f.media.tells → IsPageOf (first_on (layout_in t) (shape_of ring) f) (oldest_of ring) (window_end t.index (next_of ring) key) key page →
+      find.NoneIsBad (layout_in t) ring f (unwrap_or page (oldest_of ring)) (window_end t.index (next_of ring) key)) →
+      ((page : Option ℕ) → is_covered (knots_in t.index) key ≡ true → IsTrue f.media.tells → IsPageOf (first_on (layout_in t) (shape_of ring) f) (oldest_of ring) (window_end t.index (next_of ring) key) key page →
+      IsOn (layout_in t) (shape_of ring) f key page found) →
+      ((page : Option ℕ) → is_covered (knots_in t.index) key ≡ false → IsTrue f.media.tells → Ascends (first_on (layout_in t) (shape_of ring) f) (oldest_of ring) (next_of ring) →
+      IsPageOf (first_on (layout_in t) (shape_of ring) f) (oldest_of ring) (next_of ring) key page → IsOn (layout_in t) (shape_of ring) f key page found) →
+      AnswersInPages t f key (option_map at.InPage found)
+  answers-in_pages found sound near far = record {
+    near = λ page told covered h.
+        let here = page-of-ring (window_in t key) (window_end t.index (next_of ring) key) page window-is h in
+        record {
+          ends = ends-on page found (near page covered told here);
+          sound = λ n from before bad is_bad. sound page covered told here n
+              (subst (λ o. unwrap_or page o ≤ n) (oldest-in t ring is) from) (subst (λ e. n < e) window-is before) bad
+              (subst (λ p. IsBadPage (layout_in t) n (page_at f p) bad) (ring-place t ring n is) is_bad);
+        };
+    far = λ page told covered up h.
+        ends-on page found (far page covered told
+        (subst (λ (first : ℕ → Option ℕ). Ascends first (oldest_of ring) (next_of ring)) firsts-in
+        (subst (λ o. Ascends (first_at t f) o (next_of ring)) (oldest-in t ring is) (subst (λ n. Ascends (first_at t f) (oldest_in t) n) (next-in t ring is) up)))
+        (page-of-ring (next_in t) (next_of ring) page (next-in t ring is) h));
+  }
+
+-- the row that was found has the key
+has-key : (rows : List Row) (key row : ℕ) → HasKey rows key row → option_map (λ (r : Row). r.key) (slice_get rows row) ≡ Some key
+has-key rows key row h = ap (option_map (λ (r : Row). r.key)) h.here ∙ ap (λ (k : ℕ). Some k) h.key_is
+
+module _ {KNOTS SLOTS : ℕ} (t : Table KNOTS SLOTS) (buf : BufferState) (key : ℕ) where
+  pub key-in_page : (place : Option PageRow) → IfSome place (λ p. HasKey (rows_on (layout_in t) buf.bytes) key p.row) → IfSome (option_map at.InPage place) (HasKeyAt t buf key)
+  key-in_page None has = tt
+  key-in_page (Some place) has = has-key (rows_on (layout_in t) buf.bytes) key place.row has
+
+  pub key-pending : (place : Option ℕ) → MatchOption place (RowsRise (buffered_rows t) → LacksKey (buffered_rows t) key) (λ i. HasKey (buffered_rows t) key i) → IfSome (option_map at.Pending place) (HasKeyAt t buf key)
+  key-pending None h = tt
+  key-pending (Some i) h = has-key (buffered_rows t) key i h
+
+  pub answers-pending : (place : Option ℕ) → MatchOption place (RowsRise (buffered_rows t) → LacksKey (buffered_rows t) key) (λ i. HasKey (buffered_rows t) key i) → AnswersPending t key (option_map at.Pending place)
+  answers-pending None h = h
+  answers-pending (Some i) h = tt
+
 pub here-page : {KNOTS SLOTS : ℕ} (t : Table KNOTS SLOTS) (f : FlashState) (ring : Ring) (key : ℕ) (buf : BufferState) (place : Option PageRow) → length buf.bytes ≤ 4096 →
     IfSome place (λ p. Holds (layout_of t.schema) (shape_of ring) f p.number buf) → IfSome place (λ p. HasKey (rows_on (layout_of t.schema) buf.bytes) key p.row) →
     IfSome (option_map at.InPage place) (IsRowAt t buf)
@@ -175,11 +242,14 @@ row-within layout page view row less is =
     let many : length (rows_of view) ≡ count_of view = length-rows_from (count_of view) (layout_of_page view) (drop 16 (page_of view)) in
     omega (arith, less, ap (λ (rows : List Row). length rows) (rows-some layout page row less), ap (λ (rows : List Row). length rows) is, many)
 
+pub row-viewed : (layout : RowLayout) (page : List ℕ) (view : PageView 8) (at : ℕ) (row : Row) → at < length (rows_on layout page) → rows_of view ≡ rows_in layout page → slice_get (rows_of view) at ≡ Some row →
+    slice_get (rows_on layout page) at ≡ Some row
+row-viewed layout page view at row less is e = ap (λ (rows : List Row). slice_get rows at) (rows-some layout page at less ∙ sym is) ∙ e
+
 pub row-shown : {KNOTS SLOTS : ℕ} (t : Table KNOTS SLOTS) (first : ℕ) (plan : Plan) (page : List ℕ) (view : PageView 8) (at : ℕ) (row : Row) → IsPlanned t first plan → at < length (rows_on (layout_of t.schema) page) →
     rows_of view ≡ rows_in (layout_of t.schema) page → slice_get (rows_of view) at ≡ Some row → slice_get (rows_on (row_layout plan) page) at ≡ Some row
 row-shown t first plan page view at row planned less is e =
-    ap (λ (l : RowLayout). slice_get (rows_on l page) at) planned.layout
-    ∙ (ap (λ (rows : List Row). slice_get rows at) (rows-some (layout_of t.schema) page at less ∙ sym is) ∙ e)
+    ap (λ (l : RowLayout). slice_get (rows_on l page) at) planned.layout ∙ row-viewed (layout_of t.schema) page view at row less is e
 
 -- ---- the greatest number of reads
 

@@ -15,12 +15,12 @@ use Rattle.fl_index.specs.declared.page.EntryForm.{EntryForm}
 use Rattle.fl_index.proofs.HeaderPages.{first-on, no-first-on}
 use Rattle.fl_mark.specs.Mark.{state_of_page}
 use Rattle.fl_mark.specs.declared.page_state.PageState.TheVariants.{Committed}
-use Rattle.fl_ring.specs.Looking.{OnlyReads}
+use Rattle.fl_frame.specs.Reads.{OnlyReads}
 use Rattle.fl_ring.specs.Mounting.{shape_at}
 use Rattle.fl_ring.specs.Ring as rings
 use Rattle.fl_ring.specs.Ring.{Shape, room}
 use Rattle.fl_ring.proofs.Modulo.{apart}
-use Rattle.fl_ring.proofs.ReadsInTurn.{same_page}
+use Rattle.fl_frame.proofs.ReadsInTurn.{same_page}
 use Rattle.fl_model.specs.Record.{RowLayout}
 use Rattle.fl_ring.specs.Newest.{commits}
 use Rattle.fl_ring.specs.declared.ring.Ring.{Ring}

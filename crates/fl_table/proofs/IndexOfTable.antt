@@ -3,7 +3,7 @@ use Rattle.std.proofs.Common.{◌≡◌, ℕ, ◌+◌, ◌-◌, ◌*◌, ◌^◌
 use Rattle.std.proofs.lemmas.Bool.{lt-ltb, ne_eqb}
 use Rattle.std.specs.Option.{ForSome}
 use Rattle.fl_base.specs.declared.types.RingPlace.{RingPlace}
-use Rattle.fl_flash.specs.Flash.{FlashState, Goes, page_at, pages}
+use Rattle.fl_flash.specs.Flash.{FlashState, Goes, page_at, pages, StaysWith}
 use Rattle.fl_index.specs.declared.index.BitmapIndex.{BitmapIndex}
 use Rattle.fl_index.specs.declared.page.Full.{Full}
 use Rattle.fl_index.specs.Memory as memory
@@ -76,7 +76,7 @@ pub planned-none : (first : ℕ) (plan : Plan) → ArePlanned None first plan �
 planned-none first plan h = ap (nat_lt 0) h.0
 
 -- it lies where it lay
-pub lies-goes : (bitmaps : Option BitmapIndex) (f g : FlashState) → Goes f g → LieOn bitmaps f → LieOn bitmaps g
+pub lies-goes : {Power : Type 0} (bitmaps : Option BitmapIndex) (f g : FlashState) → StaysWith Power f g → LieOn bitmaps f → LieOn bitmaps g
 lies-goes None f g goes h = tt
 lies-goes (Some index) f g goes h = record {
   geometry = goes.geometry ∙ h.geometry;

@@ -24,8 +24,8 @@ use Rattle.fl_model.specs.Work.{Kind, Body, Mark, VoidMark, Erase, Ending, AsBef
 use Rattle.fl_model.specs.Within.{seal_within, seals_within, effect_within, all_done, TablePerforms}
 use Rattle.fl_model.proofs.Sealed.{sealed-next, sealed-torn}
 use Rattle.fl_ring.specs.Ring.{Shape, OutsideStands}
-use Rattle.fl_ring.specs.Device.{SameDevice}
-use Rattle.fl_ring.specs.Step.{IsWatched}
+use Rattle.fl_frame.specs.Device.{SameDevice}
+use Rattle.fl_frame.specs.Watched.{IsWatched}
 use Rattle.fl_table.specs.Bitmaps.{ArePlanned, Stand, StandOutside, IsRoomMade, RoomMade, MakesRoomOf, bitmap_seals, next_after}
 use Rattle.fl_table.specs.Outcomes.{Finishes, Breaks, FaultEnds, BySeals}
 use Rattle.fl_table.specs.Pages.{HoldsTable, KeptStand, bytes_in, place_in}

@@ -46,6 +46,7 @@ pub mod PendingAndFull
 pub mod PutAnswers
 pub mod KeyRows
 pub mod Refused
+pub mod Refusing
 pub mod Voids
 pub mod ListingPage
 pub mod PageChecks
@@ -57,6 +58,7 @@ pub mod PointsKnown
 pub mod WaitingPageComes
 pub mod ListedPageComes
 pub mod Unlisted
+pub mod Untouched
 pub mod Newest
 pub mod MountProgress
 pub mod SparedReads
@@ -94,3 +96,4 @@ pub mod Slots
 pub mod Sizes
 pub mod Skips
 pub mod Entries
+pub mod Writing

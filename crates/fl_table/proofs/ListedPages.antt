@@ -15,7 +15,8 @@ use Rattle.fl_index.specs.Page.{form_len}
 use Rattle.fl_model.specs.Record.{Plan, RowLayout}
 use Rattle.fl_model.specs.Table as model
 use Rattle.fl_flash.specs.declared.flash.FlashFault.TheVariants.{PowerLost, Media}
-use Rattle.fl_ring.specs.Looking.{OnlyReads, ReadFails}
+use Rattle.fl_frame.specs.Reads.{OnlyReads}
+use Rattle.fl_frame.specs.Causes.{ReadFails}
 use Rattle.fl_ring.specs.Mounting.{shape_at}
 use Rattle.fl_ring.specs.Place as place
 use Rattle.fl_ring.specs.Place.{shape_of, next_of, oldest_of}
@@ -23,7 +24,7 @@ use Rattle.fl_ring.specs.Ring as rings
 use Rattle.fl_ring.specs.Ring.{Shape, room}
 use Rattle.fl_ring.specs.declared.ring.Ring.{Ring}
 use Rattle.fl_ring.proofs.CutPages.{same_content}
-use Rattle.fl_ring.proofs.ReadsInTurn.{same_page}
+use Rattle.fl_frame.proofs.ReadsInTurn.{same_page}
 use Rattle.fl_index.proofs.Memories.{planned-same, ring-same}
 use Rattle.fl_model.specs.Ring.{oldest as model_oldest}
 use Rattle.fl_table.specs.ByEntries.{Come, end_before, listing_among, told_at, page_check, seen_before, unlisted_of, first_of}

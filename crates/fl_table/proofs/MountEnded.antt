@@ -27,15 +27,16 @@ use Rattle.fl_table.proofs.Plain.{IsPlainTable, indexed-as, blobbed-moved, stand
 use Rattle.fl_table.proofs.PageRows.{page-rows, entries-length}
 use Rattle.fl_table.proofs.ListsStay.{HoldsIndexed, has-index, indexed-moved, indexed-same, ring-moved}
 use Rattle.fl_page.specs.Writer.{Gathers}
-use Rattle.fl_ring.specs.Device.{ArmsAs, SameDevice}
-use Rattle.fl_ring.specs.Looking.{OnlyReads, ReadFails}
+use Rattle.fl_frame.specs.Device.{ArmsAs, SameDevice}
+use Rattle.fl_frame.specs.Reads.{OnlyReads}
+use Rattle.fl_frame.specs.Causes.{ReadFails}
 use Rattle.fl_ring.specs.Mounting as ring_mount
 use Rattle.fl_ring.specs.Numbers.{renumbered}
 use Rattle.fl_ring.specs.Place.{next_of, oldest_of}
 use Rattle.fl_ring.specs.Place as place
 use Rattle.fl_ring.specs.Ring.{Shape, RingState, OnRing}
 use Rattle.fl_ring.specs.Ring.{place as place_at}
-use Rattle.fl_ring.specs.Step.{IsWatched}
+use Rattle.fl_frame.specs.Watched.{IsWatched}
 use Rattle.fl_ring.specs.declared.fault.RingFault.{RingFault}
 use Rattle.fl_ring.specs.declared.fault.RingFault.TheVariants as ring
 use Rattle.fl_ring.specs.declared.ring.Ring.{Ring}

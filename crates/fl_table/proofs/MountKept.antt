@@ -10,14 +10,15 @@ use Rattle.fl_model.specs.MountLimit.{repaired, ring_mount_limit}
 use Rattle.fl_model.specs.Table.{Table, DataRing, shape_of as model_shape}
 use Rattle.fl_model.specs.Work.{Device}
 use Rattle.fl_page.specs.Writer.{Gathers}
-use Rattle.fl_ring.specs.Looking.{OnlyReads, ReadFails}
+use Rattle.fl_frame.specs.Reads.{OnlyReads}
+use Rattle.fl_frame.specs.Causes.{ReadFails}
 use Rattle.fl_ring.specs.Mounting as ring_mount
 use Rattle.fl_ring.specs.Mounting.{shape_at}
 use Rattle.fl_ring.specs.Numbers.{renumbered, voids_at_end}
 use Rattle.fl_ring.specs.Place.{next_of, oldest_of}
 use Rattle.fl_ring.specs.Place as place
 use Rattle.fl_ring.specs.Ring.{Shape, RingState, OnRing, OutsideStands}
-use Rattle.fl_ring.specs.Step.{IsWatched}
+use Rattle.fl_frame.specs.Watched.{IsWatched}
 use Rattle.fl_ring.specs.declared.ring.Ring.{Ring}
 use Rattle.fl_schema.specs.Schema.{layout_of}
 use Rattle.fl_table.specs.Bitmaps.{StandForRing}
@@ -35,9 +36,9 @@ use Rattle.fl_table.specs.declared.faults.MountFault.{MountFault}
 use Rattle.fl_table.specs.declared.known.Known.{Known}
 use Rattle.fl_table.specs.declared.table.Table as code
 use Rattle.fl_table.proofs.MountProgress.{come-most, come-rows, comes-of}
-use Rattle.fl_table.proofs.SealsInTurn.{watched-front}
+use Rattle.fl_frame.proofs.WatchedInTurn.{watched-first, risen-later}
 use Rattle.fl_table.proofs.IndexOfTable.{lies-goes}
-use Rattle.fl_table.proofs.MountCalls.{OthersStill, index-read, index-still, risen-later, same-shape}
+use Rattle.fl_table.proofs.MountCalls.{OthersStill, index-read, index-still, same-shape}
 use Rattle.fl_table.proofs.MountComes.{comes-to, few-come, few-unlisted, found-there, index-ends}
 use Rattle.fl_table.proofs.MountEnded.{IsMounting, mounting-of, mount-answer, reads-end, ready_facts, rests_now, ring-ends, ring-mounts, same_device, started-memory, started-stand}
 use Rattle.fl_table.proofs.MountLifted.{RowsMount}
@@ -76,7 +77,7 @@ module _ {KNOTS SLOTS : ℕ} (t : code.Table KNOTS SLOTS) (first : ℕ) (plan : 
   here = shape ∙ at
 
   l : RowsMount first plan table rose device ring mid
-  l = ring-mounts first plan table rose device old is ring mid (ring-ends first plan table rose device old is (shape_at t.place old.geometry) at end end_is mid (Ok ring) mounts (watched-front old mid new rose device watched reads.goes))
+  l = ring-mounts first plan table rose device old is ring mid (ring-ends first plan table rose device old is (shape_at t.place old.geometry) at end end_is mid (Ok ring) mounts (watched-first old mid new rose device watched reads.goes))
 
   mid_sizes : HaveSize first plan (page_at mid)
   mid_sizes = lies-size t mid first plan planned (goes.geometry ∙ lies.geometry) (omega (arith, goes.blocks, lies.within)) reaches_mid

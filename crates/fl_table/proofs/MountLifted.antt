@@ -13,7 +13,7 @@ use Rattle.fl_model.proofs.Performs.{performs-whole}
 use Rattle.fl_model.proofs.Sealed.{sealed-torn}
 use Rattle.fl_table.proofs.Plain.{IsPlainTable}
 use Rattle.fl_ring.specs.declared.ring.Ring.{Ring}
-use Rattle.fl_ring.specs.Device.{SameDevice}
+use Rattle.fl_frame.specs.Device.{SameDevice}
 use Rattle.fl_ring.specs.Mounting.{Mounted, RepairEnds}
 use Rattle.fl_ring.specs.Operations.{repair_kinds}
 use Rattle.fl_ring.specs.Place.{StandsFor}

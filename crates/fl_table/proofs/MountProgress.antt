@@ -4,11 +4,11 @@ use Rattle.std.specs.Option.{is_none}
 use Rattle.fl_flash.specs.Flash.{FlashState, page_at}
 use Rattle.fl_model.specs.Layout.{Full}
 use Rattle.fl_model.specs.Record.{RowLayout}
-use Rattle.fl_ring.specs.Looking.{OnlyReads}
+use Rattle.fl_frame.specs.Reads.{OnlyReads}
 use Rattle.fl_ring.specs.Place.{shape_of, next_of, oldest_of}
 use Rattle.fl_ring.specs.Ring.{place}
 use Rattle.fl_ring.specs.declared.ring.Ring.{Ring}
-use Rattle.fl_ring.proofs.ReadsInTurn.{same_page}
+use Rattle.fl_frame.proofs.ReadsInTurn.{same_page}
 use Rattle.fl_find.specs.Index.{IndexOf}
 use Rattle.fl_find.specs.declared.index.KeyIndex.{KeyIndex}
 use Rattle.fl_index.specs.Memory.{form_in, next_in, oldest_in, per_page, place_in}

@@ -17,7 +17,7 @@ use Rattle.fl_model.specs.Puts.{TablePuts, TablePutGoesOn}
 use Rattle.fl_model.specs.Within.{seals_within, TablePerforms}
 use Rattle.fl_model.specs.Ring.{Ring, IsShape}
 use Rattle.fl_model.specs.Work.{Device, PartEnd, Whole, CutIn, FailedIn, PartProgress}
-use Rattle.fl_ring.specs.Device.{SameDevice}
+use Rattle.fl_frame.specs.Device.{SameDevice}
 use Rattle.fl_model.proofs.Lists.{last_or-push}
 use Rattle.fl_model.proofs.Sealed.{sealed-next}
 use Rattle.fl_model.proofs.Among.{after_seals-append}

@@ -1,20 +1,24 @@
 -- Reads leave a table as it stands.
-use Rattle.std.proofs.Common.{◌≡◌, ℕ, ◌<◌, ◌^◌, ◌*◌, ◌+◌, Bool, true, false, Result, Err, List, length, take, drop, refl, sym, ◌∙◌, ap, subst, arith}
+use Rattle.std.proofs.Common.{◌≡◌, ℕ, ◌<◌, ◌≤◌, ◌^◌, ◌*◌, ◌+◌, ◌-◌, Bool, true, false, Option, Some, option_map, unwrap_or, Result, Err, refl, sym, ◌∙◌, ap, subst, arith}
 use Rattle.fl_flash.specs.Buffer.{BufferState}
-use Rattle.fl_flash.specs.Flash.{FlashState, Goes, ReadsPage, page_at, pages}
+use Rattle.fl_flash.specs.Flash.{FlashState, ReadsPage, page_at, pages, StaysWith}
 use Rattle.fl_flash.specs.Media.{next_count}
-use Rattle.fl_flash.specs.Places.{extent}
-use Rattle.fl_page.specs.Contents as contents
-use Rattle.fl_page.specs.Contents.{Contents}
+use Rattle.fl_frame.specs.Contents as contents
+use Rattle.fl_frame.proofs.ContentsInTurn.{OnlyReads-goes}
 use Rattle.fl_flash.specs.declared.flash.FlashFault.{FlashFault}
 use Rattle.fl_flash.specs.declared.flash.Work.{Work}
 use Rattle.fl_model.specs.Record.{Plan}
 use Rattle.fl_model.specs.Table as model
 use Rattle.fl_model.specs.Table.{IndexRing, VarRing, lose}
 use Rattle.fl_flash.specs.declared.flash.FlashFault.TheVariants.{PowerLost, Media}
-use Rattle.fl_ring.specs.Looking.{OnlyReads, ReadFails}
-use Rattle.fl_ring.proofs.ReadsInTurn.{no_reads, same_page}
-use Rattle.fl_table.specs.Memory.{LiesOn}
+use Rattle.fl_frame.specs.Reads.{OnlyReads}
+use Rattle.fl_frame.specs.Causes.{ReadFails}
+use Rattle.fl_ring.specs.Place.{next_of, oldest_of}
+use Rattle.fl_ring.specs.declared.ring.Ring.{Ring}
+use Rattle.fl_frame.proofs.ReadsInTurn.{no_reads, same_page}
+use Rattle.fl_table.specs.Look.{oldest_in}
+use Rattle.fl_table.specs.Memory.{next_in, LiesOn}
+use Rattle.fl_frame.proofs.CallsInTurn.{stays-set}
 use Rattle.fl_table.specs.Pages.{place_in}
 use Rattle.fl_table.specs.Standing.{Stands}
 use Rattle.fl_table.specs.declared.table.Table.{Table}
@@ -40,7 +44,7 @@ stands-still t f g n first plan table reads stands = record {
     facts = table-parts plan table stands.planned.log stands.facts
 
 -- where it lies on a flash, it does on one of that size
-pub lies-moved : {KNOTS SLOTS : ℕ} (t : Table KNOTS SLOTS) (f g : FlashState) → Goes f g → LiesOn t f → LiesOn t g
+pub lies-moved : {KNOTS SLOTS : ℕ} {Power : Type 0} (t : Table KNOTS SLOTS) (f g : FlashState) → StaysWith Power f g → LiesOn t f → LiesOn t g
 lies-moved t f g goes lies = record {
   geometry = goes.geometry ∙ lies.geometry;
   within = omega (arith, lies.within, goes.blocks);
@@ -65,7 +69,7 @@ lies-still t f g n reads lies = lies-moved t f g reads.goes lies
 -- the power came on again
 pub lies-powered : {KNOTS SLOTS : ℕ} (t : Table KNOTS SLOTS) (f : FlashState) (on : Bool) → LiesOn t f → LiesOn t (record f { is_on = on })
 lies-powered t f on lies =
-    lies-moved t f (record f { is_on = on }) (record { geometry = refl; blocks = refl; start = refl; origin = refl; tells = refl; size = refl; front = λ told. refl; back = λ told. refl; cuts = omega arith; faults = omega arith }) lies
+    lies-moved t f (record f { is_on = on }) (stays-set f on f.armed) lies
 
 -- why a read of a page failed
 pub read-fails : (old new : FlashState) (page size : ℕ) (fault : FlashFault) (into : BufferState) → ReadsPage old page size (Err fault) into new → ReadFails old fault new
@@ -109,22 +113,11 @@ read-once old new page size result into is = by_power old.is_on refl
           erases = refl;
         })
 
--- calls that only read leave all in its place
-pub read-goes : (f g : FlashState) → contents.OnlyReads f g → Goes f g
-read-goes f g reads =
-    let bytes : g.media.content ≡ f.media.content = ap (λ (c : Contents). c.bytes) reads.contents in
-    record {
-      geometry = ap (λ (c : Contents). c.geometry) reads.contents;
-      blocks = ap (λ (c : Contents). c.blocks) reads.contents;
-      start = ap (λ (c : Contents). c.start) reads.contents;
-      origin = reads.origin;
-      tells = ap (λ (c : Contents). c.tells) reads.contents;
-      size = ap (λ (xs : List ℕ). length xs) bytes;
-      front = λ told. ap (λ (xs : List ℕ). take f.start xs) bytes;
-      back = λ told. ap (λ (xs : List ℕ). drop (f.start + extent f.geometry f.blocks) xs) bytes;
-      cuts = omega (arith, reads.cuts);
-      faults = reads.faults;
-    }
-
+-- after calls that only read
 pub lies-read : {KNOTS SLOTS : ℕ} (t : Table KNOTS SLOTS) (f g : FlashState) → contents.OnlyReads f g → LiesOn t f → LiesOn t g
-lies-read t f g reads lies = lies-moved t f g (read-goes f g reads) lies
+lies-read t f g reads lies = lies-moved t f g (OnlyReads-goes f g reads) lies
+
+-- no more pages are read than its ring keeps, and one
+pub most-kept : {KNOTS SLOTS : ℕ} (t : Table KNOTS SLOTS) (f g : FlashState) (ring : Ring) → t.ring ≡ Some ring → g.work.reads ≤ f.work.reads + (next_of ring - oldest_of ring) + 1 → g.work.reads ≤ f.work.reads + (next_in t - oldest_in t) + 1
+most-kept t f g ring is most =
+    subst (λ (o : Option Ring). g.work.reads ≤ f.work.reads + (unwrap_or (option_map (λ ring. next_of ring) o) 0 - unwrap_or (option_map (λ ring. oldest_of ring) o) 0) + 1) (sym is) most

@@ -8,7 +8,7 @@ use Rattle.fl_model.specs.Record.{Record, Plan, RowLayout, row_layout, has_var, 
 use Rattle.fl_model.specs.Row.{FitsRow}
 use Rattle.fl_model.specs.Ring as rings
 use Rattle.fl_model.specs.Table as model
-use Rattle.fl_model.specs.Table.{Table, Entry, Refusal, BadKey, BadColumns, BadValue, BadBlob, first_of as or_model, refuse_if, key_refusal, value_refusal, blob_refusal, refusal_of, is_spent, spent_from, last_entry, blob_len}
+use Rattle.fl_model.specs.Table.{Table, Entry, Refusal, BadKey, BadColumns, BadValue, BadBlob, first_of as or_model, refuse_if, key_refusal, value_refusal, blob_refusal, refusal_of, is_spent, spent_from, last_entry}
 use Rattle.fl_table.specs.Bitmaps as bitmaps
 use Rattle.fl_table.proofs.IndexOfTable.{index-spent}
 use Rattle.fl_table.specs.Blobs as variable
@@ -25,7 +25,7 @@ use Rattle.fl_table.specs.Standing.{Stands}
 use Rattle.fl_table.specs.declared.table.Table as code
 use Rattle.fl_table.specs.declared.faults.PutRefusal.{PutRefusal}
 use Rattle.fl_table.specs.declared.faults.PutRefusal.TheVariants.{Key, Columns, Value, Blob, Spent, Stopped, Flash}
-use Rattle.fl_table.specs.Causes.{PutCausedBy, put_breaks}
+use Rattle.fl_table.specs.Causes.{PutCausedBy, put_breaks, RefusedSame}
 
 -- the answer to a refusal of the model
 abbrev pub answer_of : Refusal → PutRefusal
@@ -282,3 +282,12 @@ calm-cause f (Blob limit) e = refl
 calm-cause f Spent e = refl
 calm-cause f Stopped e = refl
 calm-cause f (Flash fault) e = cc
+
+pub calm-same : {KNOTS SLOTS : ℕ} (t : code.Table KNOTS SLOTS) (f : FlashState) (r : PutRefusal) → put_breaks (Err r) ≡ false → RefusedSame t f r t f
+calm-same t f (Key last) e = (refl, refl)
+calm-same t f (Columns wanted) e = (refl, refl)
+calm-same t f (Value column) e = (refl, refl)
+calm-same t f (Blob limit) e = (refl, refl)
+calm-same t f Spent e = (refl, refl)
+calm-same t f Stopped e = (refl, refl)
+calm-same t f (Flash fault) e = cc

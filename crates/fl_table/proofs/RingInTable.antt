@@ -14,7 +14,7 @@ use Rattle.fl_model.proofs.Among.{seal-all_done}
 use Rattle.fl_table.proofs.BlobTables.{AreInPages, HoldsVar}
 use Rattle.fl_table.proofs.Plain.{IsPlainTable, plain-body, plain-mark, plain-erase}
 use Rattle.fl_table.proofs.ListsStay.{HoldsIndexed}
-use Rattle.fl_ring.specs.Device.{SameDevice}
+use Rattle.fl_frame.specs.Device.{SameDevice}
 use Rattle.fl_ring.specs.Operations.{change, seal_kinds}
 use Rattle.fl_ring.specs.Ring.{RingState, OnRing, sealed, begun, erased}
 use Rattle.fl_ring.specs.Sealing.{Performed, AnswersEnd}

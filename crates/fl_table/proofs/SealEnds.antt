@@ -16,7 +16,7 @@ use Rattle.fl_table.proofs.ListsStay.{HoldsIndexed, indexed-same, index-stands}
 use Rattle.fl_table.proofs.BlobTables.{HoldsVar}
 use Rattle.fl_table.proofs.BlobsOfTable.{var-same, var-stands}
 use Rattle.fl_table.proofs.Plain.{IsPlainTable}
-use Rattle.fl_ring.specs.Device.{SameDevice}
+use Rattle.fl_frame.specs.Device.{SameDevice}
 use Rattle.fl_ring.specs.Operations.{change, seal_kinds}
 use Rattle.fl_ring.specs.Place.{next_of, oldest_of, StandsFor}
 use Rattle.fl_ring.specs.Ring.{Shape, RingState, OnRing, oldest, place, sealed}

@@ -1,10 +1,6 @@
 -- Seals of a table, one after another.
-use Rattle.std.proofs.Common.{◌≡◌, inl, inr, ℕ, Bool, true, false, IsTrue, arith, Result, Ok, Err, List, [], ◌∷◌, ◌++◌, refl, sym, ◌∙◌, ap, subst, append_assoc}
-use Rattle.fl_flash.specs.Flash.{FlashState, Goes, page_at}
-use Rattle.fl_flash.specs.declared.flash.FlashFault.TheVariants.{PowerLost, Media}
-use Rattle.fl_ring.specs.Causes.{CausedBy}
-use Rattle.fl_ring.specs.Device.{SameDevice}
-use Rattle.fl_ring.specs.Step.{IsWatched}
+use Rattle.std.proofs.Common.{◌≡◌, ℕ, Bool, Result, Ok, Err, List, [], ◌∷◌, ◌++◌, refl, sym, ◌∙◌, ap, subst, append_assoc}
+use Rattle.fl_flash.specs.Flash.{FlashState, page_at}
 use Rattle.fl_flash.specs.declared.flash.FlashFault.{FlashFault}
 use Rattle.fl_model.specs.Record.{Plan}
 use Rattle.fl_model.specs.Table.{Table, RingName, DataRing, after_seal, after_seals}
@@ -78,34 +74,3 @@ ends-alone first plan table rose device (Ok u) t old new h =
     subst (λ (ops : List (RingName × Kind)). Finishes first plan (λ now. TablePerforms plan rose ops device table now) table (after_seal plan DataRing table) t old new) (sym (append-nil (seal_within plan DataRing table))) h
 ends-alone first plan table rose device (Err fault) t old new h =
     subst (λ (ops : List (RingName × Kind)). Breaks first plan (λ now. TablePerforms plan rose ops device table now) fault new) (sym (append-nil (seal_within plan DataRing table))) h
-
--- a call within another is watched as that is
-pub watched-front : (old mid new : FlashState) (rose : Bool) (device : Device) → IsWatched old new rose device → Goes mid new → IsWatched old mid rose device
-watched-front old mid new rose device w goes = record {
-  told = w.told;
-  on = w.on;
-  risen = λ rises. w.risen (omega (arith, rises, goes.faults));
-  counts = w.counts;
-}
-
--- .. and the next one, from what the device counts then
-pub watched-then : (old mid new : FlashState) (rose : Bool) (device later : Device) → IsWatched old new rose device → Goes old mid → mid.is_on ≡ true → SameDevice mid later → IsWatched mid new rose later
-watched-then old mid new rose device later w goes on counts = record {
-  told = subst IsTrue (sym goes.tells) w.told;
-  on = on;
-  risen = λ rises. w.risen (omega (arith, rises, goes.faults));
-  counts = counts;
-}
-
--- .. whose fault has its cause in both
-pub cause-later : (old mid new : FlashState) → Goes old mid → (old.is_on ≡ true → mid.is_on ≡ true) → (e : FlashFault) → CausedBy mid e new → CausedBy old e new
-cause-later old mid new goes on PowerLost (inl off) = inl (by_power old.is_on refl)
-  where
-    by_power : (b : Bool) → old.is_on ≡ b → old.is_on ≡ false
-    by_power true e = absurd (not_both (sym off ∙ on e))
-      where
-        not_both : false ≡ true → ⊥
-        not_both k = cc
-    by_power false e = e
-cause-later old mid new goes on PowerLost (inr rises) = inr (omega (arith, rises, goes.cuts))
-cause-later old mid new goes on Media rises = omega (arith, rises, goes.faults)

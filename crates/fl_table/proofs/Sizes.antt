@@ -40,3 +40,10 @@ index-fits knots slots few_knots few_slots =
     let spline = at-eight 8 (after-eight 48 (at-eight 8 (at-one (after-eight 8 (at-eight 0 knots_end))))) in
     let radix = at-eight 16 (at-one (after-eight 8 (at-eight 0 slots_end))) in
     whole (side-by-side spline radix) (omega arith)
+
+-- what is asked at each call that is given a schema, and at each that answers a view of a page
+pub schema-fits : 88 < 2 ^ 63
+schema-fits = omega arith
+
+pub view-fits : 56 < 2 ^ 63
+view-fits = omega arith

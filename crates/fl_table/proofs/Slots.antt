@@ -4,7 +4,8 @@ use Rattle.std.proofs.lemmas.Bool.{cases_lt}
 use Rattle.fl_find.specs.Index.{shift_in}
 use Rattle.fl_flash.specs.Flash.{FlashState}
 use Rattle.fl_model.specs.Record.{Plan}
-use Rattle.fl_model.specs.Spline.{bits, retained}
+use Rattle.fl_base.specs.Bits.{bits}
+use Rattle.fl_model.specs.Spline.{retained}
 use Rattle.fl_model.specs.Table as model
 use Rattle.fl_radix.specs.Slots.{first_key, last_key, has_slot, knots_in_slot, IsLeastShift}
 use Rattle.fl_table.specs.Finding.{IsInSlot, knots_near}

@@ -2,8 +2,8 @@
 use Rattle.std.proofs.Common.{◌≡◌, ℕ, ◌+◌, ◌-◌, ◌≤◌, Option, Some, None, Result, Ok, Err, ap, arith}
 use Rattle.std.specs.Prelude.{IfOk, OnOk}
 use Rattle.fl_flash.specs.Flash.{FlashState}
-use Rattle.fl_ring.specs.Looking.{OnlyReads}
-use Rattle.fl_ring.proofs.ReadsInTurn.{no_reads, more_reads}
+use Rattle.fl_frame.specs.Reads.{OnlyReads}
+use Rattle.fl_frame.proofs.ReadsInTurn.{no_reads, more_reads}
 use Rattle.fl_table.proofs.MountProgress.{fewer-reads}
 use Rattle.fl_table.specs.Knowing.{is_waiting, ReadsBut}
 use Rattle.fl_table.specs.declared.known.Known.{Known}

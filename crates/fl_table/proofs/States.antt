@@ -1,9 +1,10 @@
 -- The data ring of a table as a list of bodies, and the same pages in the words of the model's image.
-use Rattle.std.proofs.Common.{◌≡◌, ℕ, zero, suc, ◌+◌, ◌-◌, ◌*◌, ◌%◌, ◌<◌, ◌≤◌, Bool, true, false, cond, ◌&&◌, ◌==◌, Option, Some, None, List, [], ◌∷◌, ◌++◌, length, take, drop, replicate, get_or, refl, sym, ◌∙◌, ap, subst, arith, ◌⊎◌, inl, inr, length-append, append_assoc, MatchBool}
+use Rattle.std.proofs.Common.{◌≡◌, ℕ, zero, suc, ◌+◌, ◌-◌, ◌*◌, ◌%◌, ◌<◌, ◌≤◌, Bool, true, false, cond, ◌&&◌, ◌==◌, Option, Some, None, List, ◌++◌, length, take, drop, replicate, get_or, refl, sym, ◌∙◌, ap, subst, arith, ◌⊎◌, inl, inr, length-append, append_assoc, MatchBool}
 use Rattle.std.proofs.lemmas.Bool.{cases_lt, cases_Bool, eqb-true as is_same}
 use Rattle.std.proofs.lemmas.Nat.Gcd.{mod-eq-zero_of_dvd, dvd_of_mod-eq-zero}
-use Rattle.std.specs.List.{slice_get, list_all, sum}
+use Rattle.std.specs.List.{slice_get, sum}
 use Rattle.fl_flash.specs.Flash.{blank}
+use Rattle.fl_base.proofs.OneByte.{all_same}
 use Rattle.fl_mark.specs.Mark.{state_of_page}
 use Rattle.fl_mark.specs.InModel.{IsModelState}
 use Rattle.fl_mark.specs.declared.page_state.PageState.TheVariants.{Torn}
@@ -78,20 +79,7 @@ ring-back first plan table h =
 
 -- blank bytes
 pub blank-bytes : (page : List ℕ) (size : ℕ) → length page ≡ size → is_blank page ≡ true → page ≡ blank size
-blank-bytes page size len e = all page e ∙ ap (λ n. replicate n 255) len
-  where
-    all : (xs : List ℕ) → list_all (λ byte. byte == 255) xs ≡ true → xs ≡ replicate (length xs) 255
-    all [] e = refl
-    all (x ∷ xs) e = by_test (x == 255) refl (both (x == 255) (list_all (λ byte. byte == 255) xs) e) (all xs)
-      where
-        both : (a b : Bool) → (a && b) ≡ true → (a ≡ true) × (b ≡ true)
-        both true b e = (refl, e)
-        both false b e = cc
-
-        by_test : (b : Bool) → (x == 255) ≡ b → (b ≡ true) × (list_all (λ byte. byte == 255) xs ≡ true) → (list_all (λ byte. byte == 255) xs ≡ true → xs ≡ replicate (length xs) 255) → x ∷ xs ≡ replicate (suc (length xs)) 255
-        by_test b k both rest =
-            let same : x ≡ 255 = is_same x 255 (k ∙ both.0) in
-            ap (λ (y : ℕ). y ∷ xs) same ∙ ap (λ (ys : List ℕ). 255 ∷ ys) (rest both.1)
+blank-bytes page size len e = all_same 255 page e ∙ ap (λ n. replicate n 255) len
 
 pub blank-is : (size : ℕ) → is_blank (blank size) ≡ true
 blank-is zero = refl

@@ -1,6 +1,6 @@
 -- The index of a table, where it has one: the entries of its sealed pages.
 use Rattle.std.specs.Prelude.{◌≡◌, ◌⊎◌, ℕ, ◌+◌, ◌-◌, ◌^◌, ◌<◌, ◌≤◌, min, max, Bool, true, false, ◌&&◌, ◌==◌, Result, Ok, Option, Some, None, is_some, option_map, unwrap_or, List, [], ◌∷◌, ◌++◌, length, if◌then◌else◌}
-use Rattle.std.specs.Option.{ForSome}
+use Rattle.std.specs.Option.{ForSome, IsSomeAnd}
 use Rattle.fl_flash.specs.Flash.{FlashState}
 use Rattle.fl_index.specs.declared.index.BitmapIndex.{BitmapIndex}
 use Rattle.fl_index.specs.declared.page.Full.{Full}
@@ -15,7 +15,7 @@ use Rattle.fl_model.specs.Ring.{Ring}
 use Rattle.fl_model.specs.Table.{Table, RingName, IndexRing}
 use Rattle.fl_model.specs.Work.{Device}
 use Rattle.fl_ring.specs.Ring.{Shape, OutsideStands, room}
-use Rattle.fl_ring.specs.Step.{IsWatched}
+use Rattle.fl_frame.specs.Watched.{IsWatched}
 use Rattle.fl_ring.specs.declared.fault.RingFault.{RingFault}
 use Rattle.fl_flash.specs.declared.flash.FlashFault.{FlashFault}
 use Rattle.fl_index.specs.Outcomes as outcomes
@@ -115,6 +115,10 @@ next_after bitmaps = unwrap_or (option_map (λ index. next_in index + (if waitin
 -- how many rings an index has
 abbrev pub rings_of : Option BitmapIndex → ℕ
 rings_of bitmaps = if is_some bitmaps then 1 else 0
+
+-- the flash pages that a seal of it changes
+abbrev pub MaySeal : Option BitmapIndex → ℕ → Type 0
+MaySeal bitmaps page = IsSomeAnd bitmaps (λ index. memory.MaySeal index page)
 
 -- an index page is sealed where as many entries wait as it holds
 abbrev pub bitmap_seals : Plan → Table → List RingName

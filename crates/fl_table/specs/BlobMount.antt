@@ -7,10 +7,10 @@ use Rattle.fl_model.specs.Record.{Plan}
 use Rattle.fl_model.specs.Table.{Table, VarRing}
 use Rattle.fl_model.specs.Within.{TablePerforms, repair_within}
 use Rattle.fl_model.specs.Work.{Device, Whole, PartProgress}
-use Rattle.fl_ring.specs.Device.{SameDevice}
+use Rattle.fl_frame.specs.Device.{SameDevice}
 use Rattle.fl_ring.specs.Finding.{FoundFault}
 use Rattle.fl_ring.specs.Mounting.{FailsAs}
-use Rattle.fl_ring.specs.Step.{IsWatched}
+use Rattle.fl_frame.specs.Watched.{IsWatched}
 use Rattle.fl_ring.specs.declared.fault.RingFault.{RingFault}
 use Rattle.fl_ring.specs.declared.fault.RingFault.TheVariants.{Flash, BadHead, BadGap, BadPage, NoNumber}
 use Rattle.std.specs.Option.{ForSome}

@@ -1,6 +1,6 @@
 -- The variable data of a table, where it has any: the blobs of its records.
 use Rattle.std.specs.Prelude.{◌≡◌, ◌⊎◌, ℕ, ◌+◌, ◌-◌, ◌*◌, ◌/◌, ◌^◌, ◌<◌, ◌≤◌, Bool, true, ◌==◌, Result, Ok, Err, Option, Some, None, is_some, option_map, unwrap_or, List, [], length, slice_get, if◌then◌else◌}
-use Rattle.std.specs.Option.{ForSome}
+use Rattle.std.specs.Option.{ForSome, IsSomeAnd}
 use Rattle.fl_base.specs.declared.types.BlobRef.{BlobRef}
 use Rattle.fl_flash.specs.Flash.{FlashState}
 use Rattle.fl_flash.specs.declared.flash.FlashFault.{FlashFault}
@@ -11,10 +11,10 @@ use Rattle.fl_model.specs.Agrees.{reach_of}
 use Rattle.fl_model.specs.Table.{Table, Entry, RingName, fill_seals, after_seals, with_record}
 use Rattle.fl_model.specs.Within.{TablePerforms, seals_within}
 use Rattle.fl_model.specs.Work.{Device, Whole, PartProgress}
-use Rattle.fl_ring.specs.Device.{SameDevice}
+use Rattle.fl_frame.specs.Device.{SameDevice}
 use Rattle.fl_ring.specs.Kept.{PagesStand}
 use Rattle.fl_ring.specs.Ring.{OutsideStands, room}
-use Rattle.fl_ring.specs.Step.{IsWatched}
+use Rattle.fl_frame.specs.Watched.{IsWatched}
 use Rattle.fl_var.specs.Memory as memory
 use Rattle.fl_var.specs.Memory.{is_mounted, next_in, waiting_in, room_in, page_in, var_shape}
 use Rattle.fl_var.specs.Placing.{Breaks, where_placed, pages_placed}
@@ -148,6 +148,10 @@ PlaceEndsOf (Some var) old first plan item table rose device result (Some now) n
 abbrev pub StandOutside : Option VarData → (ℕ → List ℕ) → (ℕ → List ℕ) → Type 0
 StandOutside None old new = (page : ℕ) → new page ≡ old page
 StandOutside (Some var) old new = OutsideStands (var_shape var) old new
+
+-- the flash pages that a seal of it changes
+abbrev pub MaySeal : Option VarData → ℕ → Type 0
+MaySeal blobs page = IsSomeAnd blobs (λ var. memory.MaySeal var page)
 
 -- how many pages the ring has, and how many rings there are
 abbrev pub room_of : Option VarData → ℕ

@@ -1,7 +1,9 @@
 -- What a lookup in a table finds, and how many pages it reads.
-use Rattle.std.specs.Prelude.{◌≡◌, ℕ, ◌-◌, ◌<◌, ◌≤◌, true, false, Option, Some, None, IsTrue, length, Result, Ok, Err, slice_get, map}
-use Rattle.fl_find.specs.Index.{knots_in, shift_in}
-use Rattle.fl_find.specs.Pages.{rows_on, IsBadPage}
+use Rattle.std.specs.Prelude.{◌≡◌, ℕ, ◌-◌, ◌<◌, ◌≤◌, nat_le, Bool, true, false, Option, Some, None, option_map, unwrap_or, List, IsTrue, length, Result, Ok, Err, slice_get, map, if◌then◌else◌}
+use Rattle.fl_find.specs.Index.{knots_in, most_reads, shift_in, window_end}
+use Rattle.fl_find.specs.Looking.{IsSound}
+use Rattle.fl_find.specs.Pages.{first_key, rows_on, IsBadPage}
+use Rattle.fl_find.specs.Rows.{RowsRise, LacksKey}
 use Rattle.fl_flash.specs.Buffer.{BufferState}
 use Rattle.fl_flash.specs.Flash.{FlashState, page_at}
 use Rattle.fl_flash.specs.declared.flash.FlashFault.TheVariants.{PowerLost, Media}
@@ -17,11 +19,12 @@ use Rattle.fl_page.specs.Page.{IsGoodPage}
 use Rattle.fl_page.specs.declared.fault.BadPage.{BadPage}
 use Rattle.fl_page.specs.declared.fault.ReadFault.{ReadFault}
 use Rattle.fl_page.specs.declared.fault.ReadFault.TheVariants as fault
-use Rattle.fl_radix.specs.Slots.{first_key, last_key, knots_in_slot, IsLeastShift}
-use Rattle.fl_ring.specs.Looking.{ReadFails}
-use Rattle.fl_search.specs.Search.{RoseBy, RoseSome}
+use Rattle.fl_radix.specs.Slots as radix
+use Rattle.fl_radix.specs.Slots.{knots_in_slot, IsLeastShift}
+use Rattle.fl_frame.specs.Causes.{ReadFails}
+use Rattle.fl_search.specs.Search.{Ascends, IsPageOf, RoseBy, RoseSome}
 use Rattle.fl_table.specs.Kept.{place_of}
-use Rattle.fl_table.specs.Look.{layout_in, oldest_in}
+use Rattle.fl_table.specs.Look.{buffered_rows, layout_in, oldest_in, voids_noted}
 use Rattle.fl_table.specs.Memory.{next_in, pending_in}
 use Rattle.fl_table.specs.declared.find.RowAt.{RowAt}
 use Rattle.fl_table.specs.declared.find.RowAt.TheVariants as at
@@ -34,7 +37,7 @@ knots_near t key = knots_in_slot (knots_in t.index) (shift_in t.index) key
 -- how many of a table's knots stand in the slot of a key, where the slots are as narrow as they may be
 pub record IsInSlot (knots slots : ℕ) (plan : Plan) (table : model.Table) (key count : ℕ) : Type 0 where
   pub shift : ℕ
-  pub narrow : IsLeastShift slots (last_key (retained knots plan.error table.points) - first_key (retained knots plan.error table.points)) shift
+  pub narrow : IsLeastShift slots (radix.last_key (retained knots plan.error table.points) - radix.first_key (retained knots plan.error table.points)) shift
   pub count_is : count ≡ knots_in_slot (retained knots plan.error table.points) shift key
 
 -- the row at a place: a pending one, or one of the page in the buffer
@@ -94,6 +97,77 @@ Finds knots plan table key before now buf (Err (fault.BadPage bad)) = ⊥
 abbrev pub FindsPending : Plan → model.Table → ℕ → BufferState → Result (Option RowAt) ReadFault → Type 0
 FindsPending plan table key buf (Ok place) = FindsEntry plan table key buf place
 FindsPending plan table key buf (Err e) = ⊥
+
+-- ---- over any bytes
+
+-- a key is at least the first pending one, so that no page is read for it
+abbrev pub is_pending_in : {KNOTS SLOTS : ℕ} → Table KNOTS SLOTS → ℕ → Bool
+is_pending_in t key = unwrap_or (option_map (λ row. nat_le row.key key) (slice_get (buffered_rows t) 0)) false
+
+-- its index of pages has a line for the key
+abbrev pub is_covered_in : {KNOTS SLOTS : ℕ} → Table KNOTS SLOTS → ℕ → Bool
+is_covered_in t key = is_covered (knots_in t.index) key
+
+-- the row at a place, by its bytes: a pending one, or one of the page in the buffer
+abbrev pub row_in : {KNOTS SLOTS : ℕ} → Table KNOTS SLOTS → BufferState → RowAt → Option Row
+row_in t buf (at.Pending i) = slice_get (buffered_rows t) i
+row_in t buf (at.InPage place) = slice_get (rows_on (layout_in t) buf.bytes) place.row
+
+-- it has the key
+abbrev pub HasKeyAt : {KNOTS SLOTS : ℕ} → Table KNOTS SLOTS → BufferState → ℕ → RowAt → Type 0
+HasKeyAt t buf key place = option_map (λ row. row.key) (row_in t buf place) ≡ Some key
+
+-- the rows of the page with this number, and the key of the first one
+abbrev pub rows_at : {KNOTS SLOTS : ℕ} → Table KNOTS SLOTS → FlashState → ℕ → List Row
+rows_at t f number = rows_on (layout_in t) (page_at f (place_of t number))
+
+abbrev pub first_at : {KNOTS SLOTS : ℕ} → Table KNOTS SLOTS → FlashState → ℕ → Option ℕ
+first_at t f number = first_key (rows_at t f number)
+
+-- the number after the last page that is looked at for a covered key
+abbrev pub window_in : {KNOTS SLOTS : ℕ} → Table KNOTS SLOTS → ℕ → ℕ
+window_in t key = window_end t.index (next_in t) key
+
+-- the greatest number of reads of a lookup
+abbrev pub limit_in : {KNOTS SLOTS : ℕ} → Table KNOTS SLOTS → ℕ → ℕ
+limit_in t key = if is_pending_in t key then 0 else most_reads t.index (next_in t - oldest_in t) (voids_noted t) key
+
+-- no page from one number to before another is bad
+abbrev pub NoneIsBad : {KNOTS SLOTS : ℕ} → Table KNOTS SLOTS → FlashState → ℕ → ℕ → Type 0
+NoneIsBad t f from end = (n : ℕ) → from ≤ n → n < end → IsSound (layout_in t) n (page_at f (place_of t n))
+
+-- A row that was found is one of this page. Where none was, there is no page, or the page has no row with the key, which is
+-- told where its rows rise.
+abbrev pub EndsOn : {KNOTS SLOTS : ℕ} → Table KNOTS SLOTS → FlashState → ℕ → Option ℕ → Option RowAt → Type 0
+EndsOn t f key None None = Unit {0}
+EndsOn t f key (Some page) None = RowsRise (rows_at t f page) → LacksKey (rows_at t f page) key
+EndsOn t f key (Some page) (Some (at.InPage place)) = place.number ≡ page
+EndsOn t f key (Some page) (Some (at.Pending i)) = ⊥
+EndsOn t f key None (Some place) = ⊥
+
+-- The page of a covered key is the greatest one of its window whose first key is at most the key; the lookup ended there, and
+-- neither that page nor one behind it in the window is bad.
+pub record EndsNear {KNOTS SLOTS : ℕ} (t : Table KNOTS SLOTS) (f : FlashState) (key : ℕ) (found : Option RowAt) (page : Option ℕ) : Type 0 where
+  pub ends : EndsOn t f key page found
+  pub sound : NoneIsBad t f (unwrap_or page (oldest_in t)) (window_in t key)
+
+-- What a lookup in the kept pages ended with, where the flash tells its bytes. Of a key that isn't covered it is told where
+-- first keys ascend, and nothing of bad pages.
+pub record AnswersInPages {KNOTS SLOTS : ℕ} (t : Table KNOTS SLOTS) (f : FlashState) (key : ℕ) (found : Option RowAt) : Type 0 where
+  pub near : (page : Option ℕ) → IsTrue f.media.tells → is_covered_in t key ≡ true → IsPageOf (first_at t f) (oldest_in t) (window_in t key) key page → EndsNear t f key found page
+  pub far : (page : Option ℕ) → IsTrue f.media.tells → is_covered_in t key ≡ false → Ascends (first_at t f) (oldest_in t) (next_in t) → IsPageOf (first_at t f) (oldest_in t) (next_in t) key page →
+      EndsOn t f key page found
+
+-- .. and among the pending rows, which is told where they rise
+abbrev pub AnswersPending : {KNOTS SLOTS : ℕ} → Table KNOTS SLOTS → ℕ → Option RowAt → Type 0
+AnswersPending t key None = RowsRise (buffered_rows t) → LacksKey (buffered_rows t) key
+AnswersPending t key (Some (at.Pending i)) = Unit {0}
+AnswersPending t key (Some (at.InPage place)) = ⊥
+
+-- a key is looked for among the pending rows or in the kept pages
+pub record IsAnswered {KNOTS SLOTS : ℕ} (t : Table KNOTS SLOTS) (f : FlashState) (key : ℕ) (found : Option RowAt) : Type 0 where
+  pub pending : is_pending_in t key ≡ true → AnswersPending t key found
+  pub kept : is_pending_in t key ≡ false → AnswersInPages t f key found
 
 -- a kept page is committed, and has another number or no count that a page has
 pub record HasBadPage {KNOTS SLOTS : ℕ} (t : Table KNOTS SLOTS) (f : FlashState) (bad : BadPage) : Type 0 where

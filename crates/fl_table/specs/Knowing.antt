@@ -5,7 +5,7 @@ use Rattle.fl_find.specs.declared.index.KeyIndex.{KeyIndex}
 use Rattle.fl_flash.specs.Flash.{FlashState}
 use Rattle.fl_index.specs.Page.{full_view}
 use Rattle.fl_model.specs.Record.{RowLayout}
-use Rattle.fl_ring.specs.Looking.{OnlyReads}
+use Rattle.fl_frame.specs.Reads.{OnlyReads}
 use Rattle.fl_table.specs.ByEntries.{Come, entry, are_void, facts_on, rows_of, voids_of, points_of, end_of, known_after, page_check, first_of, first_some, checks_from, mount_fault}
 use Rattle.fl_table.specs.declared.faults.MountFault.{MountFault}
 use Rattle.fl_table.specs.declared.faults.MountFault.TheVariants.{BadPage}

@@ -1,5 +1,5 @@
 -- What clauses see of a table in memory.
-use Rattle.std.specs.Prelude.{◌≡◌, ℕ, ◌+◌, ◌*◌, ◌%◌, ◌^◌, ◌<◌, ◌≤◌, Bool, false, ◌||◌, Option, Some, None, List, [], ℤ, is_some, option_map, unwrap_or, map, length, slice_get, slice_index}
+use Rattle.std.specs.Prelude.{◌≡◌, ◌⊎◌, ℕ, ◌+◌, ◌*◌, ◌%◌, ◌^◌, ◌<◌, ◌≤◌, Bool, false, ◌||◌, Option, Some, None, List, [], ℤ, is_some, option_map, unwrap_or, map, length, slice_get, slice_index}
 use Rattle.std.specs.Option.{ForSome}
 use Rattle.fl_bitmap.specs.Bucket.{AreBucketsOf, with_value}
 use Rattle.fl_bitmap.specs.declared.buckets.Buckets.{Buckets}
@@ -18,7 +18,9 @@ use Rattle.fl_ring.specs.Mounting.{shape_at}
 use Rattle.fl_ring.specs.Place.{next_of, oldest_of}
 use Rattle.fl_ring.specs.Place as place
 use Rattle.fl_ring.specs.Ring.{Shape}
+use Rattle.fl_ring.specs.Written.{MaySealIn}
 use Rattle.fl_schema.specs.Schema.{layout_of}
+use Rattle.fl_table.specs.Bitmaps as bitmaps
 use Rattle.fl_table.specs.Bitmaps.{ArePlanned, AreSamePlan, LieOn}
 use Rattle.fl_table.specs.Blobs as variable
 use Rattle.fl_table.specs.declared.table.Table.{Table}
@@ -64,6 +66,11 @@ HasRoom t = t.writer.end + layout_len (layout_of t.schema) ≤ length t.writer.b
 -- where the data ring of a table stands
 abbrev pub ring_shape : {KNOTS SLOTS : ℕ} → Table KNOTS SLOTS → Shape
 ring_shape t = shape_at t.place t.geometry
+
+-- The flash pages that a seal changes, of each ring at most the next page and, where its oldest block goes, those of the block
+-- ahead.
+abbrev pub MaySeal : {KNOTS SLOTS : ℕ} → Table KNOTS SLOTS → ℕ → Type 0
+MaySeal t page = MaySealIn t.ring page ⊎ (bitmaps.MaySeal t.bitmaps page ⊎ variable.MaySeal t.blobs page)
 
 -- a table of this plan, whose blocks begin at `first`
 pub record IsPlanned {KNOTS SLOTS : ℕ} (t : Table KNOTS SLOTS) (first : ℕ) (plan : Plan) : Type 0 where

@@ -4,8 +4,10 @@ ghost use Rattle.fl_flash.specs.Flash.{Goes, page_at};
 ghost use Rattle.fl_model.specs.Record.{Plan};
 ghost use Rattle.fl_model.specs.Table as model;
 ghost use Rattle.fl_model.specs.Work.{Device};
-ghost use Rattle.fl_ring.specs.Causes.{CausedBy, IfFlash};
-ghost use Rattle.fl_table.specs.Bitmaps.{AreSamePlan, AreSameRing, LieOn, AreRunning, AreBroken, AreWaiting, AreIdle, HaveRoom, EndAt, NumberLeft, AreNoted, StandOutside, MountEndsOf, MakesRoomOf, RoomMade, first_to_wait, room_of, rings_of};
+ghost use Rattle.fl_frame.specs.Causes.{CausedBy};
+ghost use Rattle.fl_ring.specs.Causes.{IfFlash};
+ghost use Rattle.fl_ring.specs.Written.{Writes};
+ghost use Rattle.fl_table.specs.Bitmaps.{AreSamePlan, AreSameRing, LieOn, AreRunning, AreBroken, AreWaiting, AreIdle, HaveRoom, EndAt, NumberLeft, AreNoted, MaySeal, StandOutside, MountEndsOf, MakesRoomOf, RoomMade, first_to_wait, room_of, rings_of};
 ghost use Rattle.fl_table.specs.Causes.{OffFailsAs};
 ghost use Rattle.fl_table.specs.Coming.{index_pages_of};
 ghost use Rattle.fl_table.specs.MountLimits.{IsIndexLimited};
@@ -110,6 +112,7 @@ pub(crate) fn make_room<F: Flash>(
     ensures made { OnOk result (RoomMade bitmaps.old bitmaps.new) }
     ensures broken { OnErr result (AreBroken bitmaps.new) }
     ensures outside { IsTrue (F.state flash.old).media.tells → StandOutside bitmaps.old (page_at (F.state flash.old)) (page_at (F.state flash.new)) }
+    ensures writes { Writes (MaySeal bitmaps.old) 0 (rings_of bitmaps.old) (F.state flash.old) (F.state flash.new) }
     ensures reads { (F.state flash.new).work.reads ≡ (F.state flash.old).work.reads }
     ensures media_reads { (F.state flash.new).media.reads ≤ (F.state flash.old).media.reads + rings_of bitmaps.old }
     ensures power { OnOk result ((F.state flash.old).is_on ≡ true → (F.state flash.new).is_on ≡ true) }

@@ -1,7 +1,7 @@
 // The blob of a record, opened for reading.
 ghost use Rattle.std.specs.Prelude.{◌≡◌, ◌+◌, ◌≤◌, ◌/◌, true, Some, [], length, is_ok, is_some, IsTrue, IfOk, IfSome, IfErr};
-ghost use Rattle.fl_page.specs.Contents as contents;
-ghost use Rattle.fl_ring.specs.Looking.{OnlyReads};
+ghost use Rattle.fl_frame.specs.Contents as contents;
+ghost use Rattle.fl_frame.specs.Reads.{OnlyReads};
 
 use crate::table::Table;
 use fl_base::BlobRef;

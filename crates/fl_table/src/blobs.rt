@@ -5,13 +5,15 @@ ghost use Rattle.fl_model.specs.Record.{Plan, Record};
 ghost use Rattle.fl_model.specs.Table as model;
 ghost use Rattle.fl_model.specs.Work.{Device};
 ghost use Rattle.fl_model.specs.Mount.{blob_end};
-ghost use Rattle.fl_ring.specs.Causes.{CausedBy, IfFlash};
+ghost use Rattle.fl_frame.specs.Causes.{CausedBy};
+ghost use Rattle.fl_ring.specs.Causes.{IfFlash};
+ghost use Rattle.fl_ring.specs.Written.{Writes};
 ghost use Rattle.fl_table.specs.BlobEnds.{least_of};
 ghost use Rattle.fl_table.specs.BlobMount.{MountEndsOf, FindsBlobs, RefusesBlobs, WithinEndsOf, RefusesWithin, AreBelow};
 ghost use Rattle.fl_table.specs.Causes.{MountCausedBy, OffFailsAs};
 ghost use Rattle.fl_table.specs.MountLimits.{IsVarLimited};
 ghost use Rattle.fl_table.specs.Mounting.{FewReads, FewRepairs};
-ghost use Rattle.fl_table.specs.Blobs.{AreSamePlan, LieOn, AreRunning, AreEmpty, NumbersLeft, RestEndsOf, PlaceEndsOf, StandOutside, next_of, next_after, rings_of, room_of, HasFew, pages_for, FitsRow};
+ghost use Rattle.fl_table.specs.Blobs.{AreSamePlan, LieOn, AreRunning, AreEmpty, MaySeal, NumbersLeft, RestEndsOf, PlaceEndsOf, StandOutside, next_of, next_after, rings_of, room_of, HasFew, pages_for, FitsRow};
 
 use crate::MountFault;
 use crate::blob_end::least_of;
@@ -114,6 +116,7 @@ pub(crate) fn seal_rest<F: Flash>(
     ensures off { OffFailsAs FlashFault.PowerLost (F.state flash.old) result (F.state flash.new) }
     ensures quiet { AreEmpty blobs.old → (result ≡ Ok tt) × (F.state flash.new ≡ F.state flash.old) }
     ensures outside { IsTrue (F.state flash.old).media.tells → StandOutside blobs.old (page_at (F.state flash.old)) (page_at (F.state flash.new)) }
+    ensures writes { Writes (MaySeal blobs.old) 0 (rings_of blobs.old) (F.state flash.old) (F.state flash.new) }
     ensures reads { (F.state flash.new).work.reads ≡ (F.state flash.old).work.reads }
     ensures media_reads { (F.state flash.new).media.reads ≤ (F.state flash.old).media.reads + rings_of blobs.old }
     ensures cause { IfErr result (λ e. CausedBy (F.state flash.old) e (F.state flash.new)) }

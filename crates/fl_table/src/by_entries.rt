@@ -8,7 +8,8 @@ ghost use Rattle.fl_index.specs.Memory.{is_running, IsSamePlan, LiesOn as IndexL
 ghost use Rattle.fl_index.specs.Standing.{StandsBelow};
 ghost use Rattle.fl_model.specs.Record.{Plan, RowLayout, layout_len};
 ghost use Rattle.fl_model.specs.Table as model;
-ghost use Rattle.fl_ring.specs.Looking.{OnlyReads, ReadFails};
+ghost use Rattle.fl_frame.specs.Reads.{OnlyReads};
+ghost use Rattle.fl_frame.specs.Causes.{ReadFails};
 ghost use Rattle.fl_ring.specs.Place.{shape_of, next_of, oldest_of, LiesOn};
 ghost use Rattle.fl_ring.specs.Ring.{room};
 ghost use Rattle.fl_schema.specs.Schema.{layout_of};

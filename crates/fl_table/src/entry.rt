@@ -1,6 +1,7 @@
 // What the index tells of a page.
 ghost use Rattle.std.specs.Prelude.{◌≡◌, ◌+◌, ◌≤◌, length, IsTrue, IfErr, OnOk};
-ghost use Rattle.fl_page.specs.Contents as contents;
+ghost use Rattle.fl_frame.specs.Contents as contents;
+ghost use Rattle.fl_page.specs.Causes.{IsCaused};
 
 use crate::table::Table;
 use fl_flash::{Flash, PageBuf};
@@ -38,7 +39,7 @@ impl<const KNOTS: usize, const SLOTS: usize> Table<KNOTS, SLOTS> {
         // A page that is held isn't bad, and a bad one that is answered stands on the flash.
         ensures good { HoldGood (index_in self.now) buf.old → OnOk result (HoldGood (index_in self.now) buf.new) }
         ensures bad { IfErr result (IfBad (λ bad. IsTrue (F.state flash.old).media.tells → HoldGood (index_in self.now) buf.old → IsBadIndex (index_in self.now) (F.state flash.old) bad)) }
-        ensures cause { IfErr result (λ fault. contents.IsCaused (F.state flash.old) fault (F.state flash.new)) }
+        ensures cause { IfErr result (λ fault. IsCaused (F.state flash.old) fault (F.state flash.new)) }
         ensures counts { contents.OnlyReads (F.state flash.old) (F.state flash.new) }
         ensures one { (F.state flash.new).work.reads ≤ (F.state flash.old).work.reads + 1 }
         ensures room { length buf.new.bytes ≡ length buf.old.bytes }
@@ -68,7 +69,7 @@ impl<const KNOTS: usize, const SLOTS: usize> Table<KNOTS, SLOTS> {
         // A page that is held isn't bad, and a bad one that is answered stands on the flash.
         ensures good { HoldGood (index_in self.now) buf.old → OnOk result (HoldGood (index_in self.now) buf.new) }
         ensures bad { IfErr result (IfBad (λ bad. IsTrue (F.state flash.old).media.tells → HoldGood (index_in self.now) buf.old → IsBadIndex (index_in self.now) (F.state flash.old) bad)) }
-        ensures cause { IfErr result (λ fault. contents.IsCaused (F.state flash.old) fault (F.state flash.new)) }
+        ensures cause { IfErr result (λ fault. IsCaused (F.state flash.old) fault (F.state flash.new)) }
         ensures counts { contents.OnlyReads (F.state flash.old) (F.state flash.new) }
         ensures one { (F.state flash.new).work.reads ≤ (F.state flash.old).work.reads + 1 }
         ensures room { length buf.new.bytes ≡ length buf.old.bytes }

@@ -1,6 +1,6 @@
 // A lookup: the row of a key, among the pending rows or in the kept pages.
-ghost use Rattle.std.specs.Prelude.{◌≡◌, ◌+◌, ◌-◌, ◌<◌, ◌≤◌, ◌^◌, min, ℕ, true, length, IsTrue, IfSome, IfOk, IfErr};
-ghost use Rattle.fl_page.specs.Contents as contents;
+ghost use Rattle.std.specs.Prelude.{◌≡◌, ◌+◌, ◌-◌, ◌<◌, ◌≤◌, ◌^◌, min, ℕ, true, is_ok, length, IsTrue, IfSome, IfOk, IfErr};
+ghost use Rattle.fl_frame.specs.Contents as contents;
 
 use crate::table::Table;
 use fl_base::Steps;
@@ -22,9 +22,10 @@ impl<const KNOTS: usize, const SLOTS: usize> Table<KNOTS, SLOTS> {
     ghost use Rattle.fl_find.specs.Pages.{IsFresh};
     ghost use Rattle.fl_flash.specs.Flash.{FlashState};
     ghost use Rattle.fl_model.specs.Record.{Plan};
-    ghost use Rattle.fl_model.specs.Spline.{bits, is_pending_key, lookup_limit, page_at};
+    ghost use Rattle.fl_base.specs.Bits.{bits};
+    ghost use Rattle.fl_model.specs.Spline.{is_pending_key, lookup_limit, page_at};
     ghost use Rattle.fl_model.specs.Table as model;
-    ghost use Rattle.fl_table.specs.Finding.{Finds, FindsPending, IsRowAt, HoldsIts, HoldsKept, LookupFails, IsInSlot, knots_near, row_of_place};
+    ghost use Rattle.fl_table.specs.Finding.{Finds, FindsPending, HasKeyAt, IsAnswered, IsRowAt, HoldsIts, HoldsKept, LookupFails, IsInSlot, is_pending_in, knots_near, limit_in, row_in, row_of_place};
     ghost use Rattle.fl_schema.specs.Schema.{layout_of_row, row_of};
     ghost use Rattle.fl_table.specs.Look.{layout_in, oldest_in};
     ghost use Rattle.fl_table.specs.Memory.{is_running, next_in, LiesOn};
@@ -32,6 +33,7 @@ impl<const KNOTS: usize, const SLOTS: usize> Table<KNOTS, SLOTS> {
 
     /// The greatest number of reads of `find`.
     pub fn lookup_limit(&self, key: u64) -> u64
+        ensures exact { result ≡ limit_in self.now key }
         ensures stands { (f : FlashState) → (first : ℕ) → (plan : Plan) → (table : model.Table) → Stands self.now f first plan table → result ≡ lookup_limit KNOTS plan table key }
     {
         if self.is_pending_key(key) {
@@ -60,6 +62,10 @@ impl<const KNOTS: usize, const SLOTS: usize> Table<KNOTS, SLOTS> {
             (F.state flash.new).work.reads ≤ (F.state flash.old).work.reads + lookup_limit KNOTS plan table key }
         ensures pending { (first : ℕ) → (plan : Plan) → (table : model.Table) → Stands self.now (F.state flash.old) first plan table → is_pending_key table key ≡ true →
             (F.state flash.new ≡ F.state flash.old) × (buf.new ≡ buf.old) × FindsPending plan table key buf.new result }
+        // Whatever the pages hold: the row that is found has the key, and a page that has to be read isn't bad.
+        ensures key { IfOk result (λ found. IfSome found (HasKeyAt self.now buf.new key)) }
+        ensures answers { IfOk result (IsAnswered self.now (F.state flash.old) key) }
+        ensures unread { is_pending_in self.now key ≡ true → (F.state flash.new ≡ F.state flash.old) × (buf.new ≡ buf.old) × IsTrue (is_ok result) }
         ensures most { (F.state flash.new).work.reads ≤ (F.state flash.old).work.reads + (next_in self.now - oldest_in self.now) + 1 }
         ensures counts { contents.OnlyReads (F.state flash.old) (F.state flash.new) }
         ensures lies { LiesOn self.now (F.state flash.new) }
@@ -88,6 +94,7 @@ impl<const KNOTS: usize, const SLOTS: usize> Table<KNOTS, SLOTS> {
     /// The row at a place that `find` gave, where neither the table nor the buffer changed since.
     pub fn row_at<'b>(&'b self, buf: &'b PageBuf, place: RowAt) -> RowRef<'b>
         requires here { IsRowAt self.now buf.now place }
+        ensures row { row_in self.now buf.now place ≡ Some (row_of result) }
         ensures layout { layout_of_row result ≡ layout_in self.now }
         ensures stands { (f : FlashState) → (first : ℕ) → (plan : Plan) → (table : model.Table) → Stands self.now f first plan table → row_of_place plan table buf.now place ≡ Some (row_of result) }
     {

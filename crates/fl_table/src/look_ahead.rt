@@ -1,6 +1,7 @@
 // What is known of a page before it is read.
 ghost use Rattle.std.specs.Prelude.{◌≡◌, ◌+◌, ◌<◌, ◌≤◌, Some, None, Ok, length, IsTrue, IfErr, OnErr, OnOk};
-ghost use Rattle.fl_page.specs.Contents as contents;
+ghost use Rattle.fl_frame.specs.Contents as contents;
+ghost use Rattle.fl_page.specs.Causes.{IsCaused};
 ghost use Rattle.fl_table.specs.Skipping.{begins_above};
 
 use crate::table::Table;
@@ -71,7 +72,7 @@ impl<const KNOTS: usize, const SLOTS: usize> Table<KNOTS, SLOTS> {
         // A page that is held isn't bad, and a bad one that is answered stands on the flash.
         ensures good { HoldGood (index_in self.now) buf.old → HoldGood (index_in self.now) buf.new }
         ensures bad { IfErr result (IfBad (λ bad. IsTrue (F.state flash.old).media.tells → HoldGood (index_in self.now) buf.old → IsBadIndex (index_in self.now) (F.state flash.old) bad)) }
-        ensures cause { IfErr result (λ fault. contents.IsCaused (F.state flash.old) fault (F.state flash.new)) }
+        ensures cause { IfErr result (λ fault. IsCaused (F.state flash.old) fault (F.state flash.new)) }
     {
         let Some(span) = span else {
             return Ok(Ahead::Wanted);

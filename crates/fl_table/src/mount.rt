@@ -34,7 +34,8 @@ impl<const KNOTS: usize, const SLOTS: usize> Table<KNOTS, SLOTS> {
     ghost use Rattle.fl_ring.specs.Mounting.{shape_at};
     ghost use Rattle.fl_ring.specs.Place as place;
     ghost use Rattle.fl_find.specs.Index.{error_in};
-    ghost use Rattle.fl_ring.specs.Looking.{OnlyReads, ReadFails};
+    ghost use Rattle.fl_frame.specs.Reads.{OnlyReads};
+    ghost use Rattle.fl_frame.specs.Causes.{ReadFails};
     ghost use Rattle.fl_ring.specs.Place.{next_of, oldest_of, shape_of};
     ghost use Rattle.fl_table.specs.Bitmaps.{AreIdle, AreRunning, AreStillFound, EndAt, StandForRing, room_of};
     ghost use Rattle.fl_table.specs.ByEntries.{mount_fault, unlisted_of};
@@ -44,7 +45,7 @@ impl<const KNOTS: usize, const SLOTS: usize> Table<KNOTS, SLOTS> {
     ghost use Rattle.fl_table.specs.Reading.{pages_of};
     ghost use Rattle.fl_table.specs.Blobs as variable;
     ghost use Rattle.fl_model.specs.Work.{Device};
-    ghost use Rattle.fl_ring.specs.Step.{IsWatched};
+    ghost use Rattle.fl_frame.specs.Watched.{IsWatched};
     ghost use Rattle.fl_table.specs.Memory.{is_running, is_stopped, pending_in, ring_shape, IsForgotten, IsPlanned, IsSamePlan, IsSameRest, LiesOn};
     ghost use Rattle.fl_table.specs.Pages.{Rests};
     ghost use Rattle.fl_table.specs.Outcomes.{DataEnds, MountEnds, RingsEnd, var_rings};

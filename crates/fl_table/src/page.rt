@@ -2,8 +2,9 @@
 ghost use Rattle.std.specs.Prelude.{◌≡◌, ◌<◌, ◌≤◌, ◌-◌, Some, length, IsTrue, IfErr, OnOk};
 ghost use Rattle.fl_flash.specs.Flash.{page_at};
 ghost use Rattle.fl_flash.specs.Media.{next_count};
-ghost use Rattle.fl_page.specs.Contents as contents;
-ghost use Rattle.fl_ring.specs.Looking.{OnlyReads};
+ghost use Rattle.fl_frame.specs.Contents as contents;
+ghost use Rattle.fl_page.specs.Causes.{IsCaused};
+ghost use Rattle.fl_frame.specs.Reads.{OnlyReads};
 
 use crate::table::Table;
 use fl_flash::{Flash, PageBuf};
@@ -43,7 +44,7 @@ impl<const KNOTS: usize, const SLOTS: usize> Table<KNOTS, SLOTS> {
         ensures stands { (first : ℕ) → (plan : Plan) → (table : model.Table) → (count : ℕ) → IsTrue (F.state flash.old).media.tells →
             Stands self.now (F.state flash.old) first plan table → slice_get table.rows.counts (number - rings.oldest table.rows) ≡ Some count →
             ShowsRows plan table (number - rings.oldest table.rows) count buf.new.bytes result }
-        ensures cause { IfErr result (λ fault. contents.IsCaused (F.state flash.old) fault (F.state flash.new)) }
+        ensures cause { IfErr result (λ fault. IsCaused (F.state flash.old) fault (F.state flash.new)) }
         ensures power { OnOk result ((F.state flash.new).is_on ≡ true) }
     {
         let Some(ring) = &self.ring else {

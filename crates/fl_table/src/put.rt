@@ -29,13 +29,14 @@ impl<const KNOTS: usize, const SLOTS: usize> Table<KNOTS, SLOTS> {
     ghost use Rattle.fl_model.specs.Table as model;
     ghost use Rattle.fl_model.specs.Table.{Entry, make_room_seals, spent_from};
     ghost use Rattle.fl_model.specs.Work.{Device};
-    ghost use Rattle.fl_ring.specs.Causes.{CausedBy};
-    ghost use Rattle.fl_ring.specs.Step.{IsWatched};
+    ghost use Rattle.fl_frame.specs.Causes.{CausedBy};
+    ghost use Rattle.fl_frame.specs.Watched.{IsWatched};
+    ghost use Rattle.fl_ring.specs.Written.{Writes};
     ghost use Rattle.fl_schema.specs.Schema.{layout_of};
     ghost use Rattle.fl_flash.specs.Flash.{FlashState};
     ghost use Rattle.fl_table.specs.Causes.{PutCausedBy, FlushCausedBy, RefusedSame, put_breaks, flush_breaks};
     ghost use Rattle.fl_table.specs.Look.{last_key_in};
-    ghost use Rattle.fl_table.specs.Memory.{is_running, is_stopped, next_in, pending_in, HasBuckets, HasRoom, InMemory, IsSameBeside, IsSamePlan, LiesOn, PendingAre};
+    ghost use Rattle.fl_table.specs.Memory.{is_running, is_stopped, next_in, pending_in, HasBuckets, HasRoom, InMemory, IsSameBeside, IsSamePlan, LiesOn, MaySeal, PendingAre};
     ghost use Rattle.fl_table.specs.Refusal.{put_refusal, RefusesAs};
     ghost use Rattle.fl_table.specs.Standing.{Stands};
     ghost use Rattle.fl_table.specs.Bitmaps.{next_of as index_next};
@@ -63,6 +64,7 @@ impl<const KNOTS: usize, const SLOTS: usize> Table<KNOTS, SLOTS> {
             → Stands self.old (F.state flash.old) first plan table → SealsEnd first plan (make_room_seals plan table) table rose device result self.new (F.state flash.old) (F.state flash.new) }
         ensures room { OnOk result (HasRoom self.new) }
         ensures quiet { HasRoom self.old → (result ≡ Ok tt) × (self.new ≡ self.old) × (F.state flash.new ≡ F.state flash.old) }
+        ensures full { OnOk result ((HasRoom self.old → ⊥) → (next_in self.new ≡ next_in self.old + 1) × (pending_in self.new ≡ 0)) }
         ensures running { OnOk result (is_running self.new ≡ true) }
         ensures last { last_key_in self.new ≡ last_key_in self.old }
         ensures pending_stays { OnErr result (pending_in self.new ≡ pending_in self.old) }
@@ -74,6 +76,7 @@ impl<const KNOTS: usize, const SLOTS: usize> Table<KNOTS, SLOTS> {
         ensures calm { OnOk result (is_stopped self.new ≡ is_stopped self.old) }
         ensures stopped { OnErr result ((is_running self.new ≡ false) × (is_stopped self.new ≡ true)) }
         ensures outside { IsTrue (F.state flash.old).media.tells → OutsideStands self.old (page_at (F.state flash.old)) (page_at (F.state flash.new)) }
+        ensures writes { Writes (MaySeal self.old) 0 (rings_in self.old) (F.state flash.old) (F.state flash.new) }
         ensures reads { (F.state flash.new).work.reads ≡ (F.state flash.old).work.reads }
         ensures media_reads { (F.state flash.new).media.reads ≤ (F.state flash.old).media.reads + rings_in self.old }
         ensures cause { IfErr result (λ e. CausedBy (F.state flash.old) e (F.state flash.new)) }
@@ -138,6 +141,7 @@ impl<const KNOTS: usize, const SLOTS: usize> Table<KNOTS, SLOTS> {
         ensures pending { OnOk result (pending_in self.new ≡ pending_in self.old + 1) }
         ensures last { OnOk result (last_key_in self.new ≡ Some key) }
         ensures rows { OnOk result (option_map (λ b. b.now) blob.entry ≡ None → (rows : List Row) → PendingAre self.old rows → PendingAre self.new (rows ++ (record { key = key; values = values.now; blob = None }) ∷ [])) }
+        ensures next { OnOk result (next_in self.new ≡ next_in self.old) }
         ensures running { OnOk result (is_running self.new ≡ true) }
         ensures calm { OnOk result (is_stopped self.new ≡ is_stopped self.old) }
         ensures stopped { OnErr result ((is_running self.new ≡ false) × (is_stopped self.new ≡ true)) }
@@ -188,9 +192,14 @@ impl<const KNOTS: usize, const SLOTS: usize> Table<KNOTS, SLOTS> {
         ensures pending { OnOk result (HasRoom self.old → pending_in self.new ≡ pending_in self.old + 1) }
         ensures last { OnOk result (last_key_in self.new ≡ Some key) }
         ensures rows { OnOk result (HasRoom self.old → option_map (λ b. b.now) blob.entry ≡ None → (rows : List Row) → PendingAre self.old rows → PendingAre self.new (rows ++ (record { key = key; values = values.now; blob = None }) ∷ [])) }
+        // A page that was full is sealed, and the record's row is the only one that is pending then.
+        ensures full { OnOk result ((HasRoom self.old → ⊥) → (next_in self.new ≡ next_in self.old + 1) × (pending_in self.new ≡ 1)) }
+        ensures first_row { OnOk result ((HasRoom self.old → ⊥) → option_map (λ b. b.now) blob.entry ≡ None → PendingAre self.new ((record { key = key; values = values.now; blob = None }) ∷ [])) }
         ensures power { OnOk result ((F.state flash.old).is_on ≡ true → (F.state flash.new).is_on ≡ true) }
         ensures off { put_refusal self.old key values.now (option_map (λ b. length b.now) blob.entry) ≡ None → (HasRoom self.old → variable.pages_for self.old.blobs (option_map (λ b. b.now) blob.entry) ≡ 0 → ⊥)
             → (F.state flash.old).is_on ≡ false → (result ≡ Err (PutRefusal.Flash FlashFault.PowerLost)) × (F.state flash.new ≡ F.state flash.old) }
+        // Whatever the flash holds: of a record without a blob, a seal of each ring at most.
+        ensures writes { option_map (λ b. b.now) blob.entry ≡ None → Writes (MaySeal self.old) 0 (rings_in self.old) (F.state flash.old) (F.state flash.new) }
         ensures reads { (F.state flash.new).work.reads ≡ (F.state flash.old).work.reads }
         ensures media_reads { (F.state flash.new).media.reads ≤ (F.state flash.old).media.reads + rings_in self.old + variable.most_pages self.old.blobs (option_map (λ b. b.now) blob.entry) }
         ensures outside { IsTrue (F.state flash.old).media.tells → OutsideStands self.old (page_at (F.state flash.old)) (page_at (F.state flash.new)) }
@@ -223,6 +232,9 @@ impl<const KNOTS: usize, const SLOTS: usize> Table<KNOTS, SLOTS> {
         ensures seals { OnOk result (1 ≤ pending_in self.old → next_in self.new ≡ next_in self.old + 1) }
         ensures power { OnOk result ((F.state flash.old).is_on ≡ true → (F.state flash.new).is_on ≡ true) }
         ensures off { is_running self.old ≡ true → 1 ≤ pending_in self.old → (F.state flash.old).is_on ≡ false → (result ≡ Err (FlushFault.Flash FlashFault.PowerLost)) × (F.state flash.new ≡ F.state flash.old) }
+        // Whatever the flash holds: a seal of each ring at most, and of pending rows one that is whole.
+        ensures writes { Writes (MaySeal self.old) 0 (rings_in self.old) (F.state flash.old) (F.state flash.new) }
+        ensures sealed { OnOk result (1 ≤ pending_in self.old → Writes (MaySeal self.old) 1 (rings_in self.old) (F.state flash.old) (F.state flash.new)) }
         ensures reads { (F.state flash.new).work.reads ≡ (F.state flash.old).work.reads }
         ensures media_reads { (F.state flash.new).media.reads ≤ (F.state flash.old).media.reads + rings_in self.old }
         ensures outside { IsTrue (F.state flash.old).media.tells → OutsideStands self.old (page_at (F.state flash.old)) (page_at (F.state flash.new)) }

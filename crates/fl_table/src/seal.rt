@@ -2,7 +2,7 @@
 ghost use Rattle.std.specs.Prelude.{◌≡◌, ◌≤◌, ◌+◌, ◌-◌, ◌<◌, ◌%◌, ◌==◌, [], ◌∷◌, true, false, length, map, count_by, slice_index, slice_set, IsTrue, OnOk, OnErr, IfErr};
 ghost use Rattle.std.specs.List.{range_with_len};
 ghost use Rattle.fl_flash.specs.Flash.{Goes, OffChangesNothing, page_at};
-ghost use Rattle.fl_ring.specs.Causes.{CausedBy};
+ghost use Rattle.fl_frame.specs.Causes.{CausedBy};
 
 use crate::bitmaps::{make_room, note_entry};
 use crate::blobs::seal_rest;
@@ -19,11 +19,12 @@ impl<const KNOTS: usize, const SLOTS: usize> Table<KNOTS, SLOTS> {
     ghost use Rattle.fl_model.specs.Table.{DataRing, pending_entries, table_seals};
     ghost use Rattle.fl_model.specs.Table as model;
     ghost use Rattle.fl_model.specs.Work.{Device};
-    ghost use Rattle.fl_ring.specs.Step.{IsWatched};
+    ghost use Rattle.fl_frame.specs.Watched.{IsWatched};
+    ghost use Rattle.fl_ring.specs.Written.{MaySealIn, Writes, done};
     ghost use Rattle.fl_table.specs.Look.{last_key_in};
-    ghost use Rattle.fl_table.specs.Memory.{is_running, is_stopped, next_in, pending_in, IsSamePlan, LiesOn};
+    ghost use Rattle.fl_table.specs.Memory.{is_running, is_stopped, next_in, pending_in, IsSamePlan, LiesOn, MaySeal};
     ghost use Rattle.fl_table.specs.Standing.{Stands};
-    ghost use Rattle.fl_table.specs.Bitmaps.{HaveRoom, bitmap_seals, next_of as index_next, rings_of};
+    ghost use Rattle.fl_table.specs.Bitmaps.{HaveRoom, bitmap_seals, next_of as index_next, rings_of, MaySeal as index_seals};
     ghost use Rattle.fl_table.specs.Blobs as variable;
     ghost use Rattle.fl_table.specs.Blobs.{AreEmpty, rest_seals};
     ghost use Rattle.fl_table.specs.Causes.{OffFailsAs};
@@ -51,6 +52,7 @@ impl<const KNOTS: usize, const SLOTS: usize> Table<KNOTS, SLOTS> {
         ensures calm { OnOk result (is_stopped self.new ≡ is_stopped self.old) }
         ensures stopped { OnErr result ((is_running self.new ≡ false) × (is_stopped self.new ≡ true)) }
         ensures outside { IsTrue (F.state flash.old).media.tells → OutsideStands self.old (page_at (F.state flash.old)) (page_at (F.state flash.new)) }
+        ensures writes { Writes (MaySeal self.old) (done result) (rings_in self.old) (F.state flash.old) (F.state flash.new) }
         ensures reads { (F.state flash.new).work.reads ≡ (F.state flash.old).work.reads }
         ensures media_reads { (F.state flash.new).media.reads ≤ (F.state flash.old).media.reads + rings_in self.old }
         ensures power { OnOk result ((F.state flash.old).is_on ≡ true → (F.state flash.new).is_on ≡ true) }
@@ -76,12 +78,14 @@ impl<const KNOTS: usize, const SLOTS: usize> Table<KNOTS, SLOTS> {
         ensures some { self.new.writer.count ≡ self.old.writer.count }
         ensures last { last_key_in self.new ≡ last_key_in self.old }
         ensures blobs { self.new.blobs ≡ self.old.blobs }
+        ensures ring { OnOk result (self.new.ring ≡ self.old.ring) }
         ensures running { OnOk result (is_running self.new ≡ true) }
         ensures next { OnOk result (next_in self.new ≡ next_in self.old) }
         ensures index_next { OnOk result (index_next self.new.bitmaps ≤ index_next self.old.bitmaps + 1) }
         ensures calm { OnOk result (is_stopped self.new ≡ is_stopped self.old) }
         ensures stopped { OnErr result ((is_running self.new ≡ false) × (is_stopped self.new ≡ true)) }
         ensures outside { IsTrue (F.state flash.old).media.tells → OutsideStands self.old (page_at (F.state flash.old)) (page_at (F.state flash.new)) }
+        ensures writes { Writes (index_seals self.old.bitmaps) 0 (rings_of self.old.bitmaps) (F.state flash.old) (F.state flash.new) }
         ensures reads { (F.state flash.new).work.reads ≡ (F.state flash.old).work.reads }
         ensures media_reads { (F.state flash.new).media.reads ≤ (F.state flash.old).media.reads + rings_of self.old.bitmaps }
         ensures power { OnOk result ((F.state flash.old).is_on ≡ true → (F.state flash.new).is_on ≡ true) }
@@ -110,12 +114,14 @@ impl<const KNOTS: usize, const SLOTS: usize> Table<KNOTS, SLOTS> {
         ensures some { self.new.writer.count ≡ self.old.writer.count }
         ensures last { last_key_in self.new ≡ last_key_in self.old }
         ensures bitmaps { self.new.bitmaps ≡ self.old.bitmaps }
+        ensures ring { OnOk result (self.new.ring ≡ self.old.ring) }
         ensures running { OnOk result (is_running self.new ≡ true) }
         ensures next { OnOk result (next_in self.new ≡ next_in self.old) }
         ensures blob_next { OnOk result (variable.next_of self.new.blobs ≤ variable.next_of self.old.blobs + 1) }
         ensures calm { OnOk result (is_stopped self.new ≡ is_stopped self.old) }
         ensures stopped { OnErr result ((is_running self.new ≡ false) × (is_stopped self.new ≡ true)) }
         ensures outside { IsTrue (F.state flash.old).media.tells → OutsideStands self.old (page_at (F.state flash.old)) (page_at (F.state flash.new)) }
+        ensures writes { Writes (variable.MaySeal self.old.blobs) 0 (variable.rings_of self.old.blobs) (F.state flash.old) (F.state flash.new) }
         ensures reads { (F.state flash.new).work.reads ≡ (F.state flash.old).work.reads }
         ensures media_reads { (F.state flash.new).media.reads ≤ (F.state flash.old).media.reads + variable.rings_of self.old.blobs }
         ensures power { OnOk result ((F.state flash.old).is_on ≡ true → (F.state flash.new).is_on ≡ true) }
@@ -164,6 +170,7 @@ impl<const KNOTS: usize, const SLOTS: usize> Table<KNOTS, SLOTS> {
         ensures calm { OnOk result (is_stopped self.new ≡ is_stopped self.old) }
         ensures stopped { OnErr result ((is_running self.new ≡ false) × (is_stopped self.new ≡ true)) }
         ensures outside { IsTrue (F.state flash.old).media.tells → OutsideStands self.old (page_at (F.state flash.old)) (page_at (F.state flash.new)) }
+        ensures writes { Writes (MaySealIn self.old.ring) (done result) 1 (F.state flash.old) (F.state flash.new) }
         ensures reads { (F.state flash.new).work.reads ≡ (F.state flash.old).work.reads }
         ensures media_reads { (F.state flash.new).media.reads ≤ (F.state flash.old).media.reads + 1 }
         ensures power { OnOk result ((F.state flash.old).is_on ≡ true → (F.state flash.new).is_on ≡ true) }

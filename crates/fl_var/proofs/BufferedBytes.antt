@@ -11,7 +11,8 @@ use Rattle.fl_flash.specs.Flash.{FlashState, Goes, OffChangesNothing, Cuts, Tear
 use Rattle.fl_flash.specs.Tear.{torn_now, torn_front}
 use Rattle.fl_flash.specs.declared.tear.Tear.{Tear}
 use Rattle.fl_flash.specs.declared.flash.FlashFault.{FlashFault}
-use Rattle.fl_flash.specs.declared.flash.FlashFault.TheVariants.{PowerLost, Media}
+use Rattle.fl_flash.specs.declared.flash.FlashFault.TheVariants.{PowerLost}
+use Rattle.fl_frame.proofs.CallsInTurn.{goes-same, goes-then}
 use Rattle.fl_model.specs.Record.{Plan, content_per_page}
 use Rattle.fl_model.specs.Table.{Table, RingName, VarRing, after_seals}
 use Rattle.fl_model.specs.Work.{Device}
@@ -19,10 +20,9 @@ use Rattle.fl_ring.specs.Place as place_words
 use Rattle.fl_ring.specs.Ring as rings
 use Rattle.fl_ring.specs.Ring.{Shape, OutsideStands}
 use Rattle.fl_ring.specs.declared.ring.Ring.{Ring}
-use Rattle.fl_ring.specs.Causes.{CausedBy}
+use Rattle.fl_frame.specs.Causes.{CausedBy}
 use Rattle.fl_ring.specs.Sealing.{SealCalls}
-use Rattle.fl_ring.specs.Step.{IsWatched}
-use Rattle.fl_ring.proofs.ReadsInTurn.{goes_more, goes_same}
+use Rattle.fl_frame.specs.Watched.{IsWatched}
 use Rattle.fl_var.specs.Memory.{is_mounted, next_in, waiting_in, room_in, var_shape, IsSamePlan, LiesOn}
 use Rattle.fl_var.specs.Placing.{Seals, Breaks, EndsWith, pages_placed}
 use Rattle.fl_var.specs.Standing.{HasRing}
@@ -30,7 +30,8 @@ use Rattle.fl_var.specs.declared.var_data.VarData.{VarData}
 use Rattle.fl_var.proofs.Lists.{drop-none, drop-short}
 use Rattle.fl_var.proofs.PageImages.{waiting-length}
 use Rattle.fl_var.proofs.SealsInTable.{room-planned, seal-err}
-use Rattle.fl_var.proofs.Joins.{seals-none, seals-refilled, seals-join, breaks-join, breaks-front, buffered-after, watched-first, watched-then, replicate-push, replicate-split, same-shape}
+use Rattle.fl_var.proofs.Joins.{seals-none, seals-refilled, seals-join, breaks-join, breaks-front, buffered-after, replicate-push, replicate-split, same-shape}
+use Rattle.fl_frame.proofs.WatchedInTurn.{watched-first, watched-then, cause-later}
 
 -- so many of these bytes were written since `first`, and as many pages sealed as they filled
 pub record Writes (first : VarData) (first_f : FlashState) (bytes : List ℕ) (done : ℕ) (v : VarData) (f : FlashState) : Type 0 where
@@ -101,7 +102,7 @@ module _ (v w : VarData) (f : FlashState) (bytes : List ℕ) (n : ℕ) (ring : w
       let next = next-same v w ring in
       let none : next_in w - next_in v ≡ 0 = omega (arith, next) in
       record {
-        goes = goes_same f;
+        goes = goes-same f;
         same = same;
         lies = lies-refilled v w f ring same lies;
         mounted = ap is_some ring ∙ mounted;
@@ -185,7 +186,7 @@ module _ (first v mid w : VarData) (first_f f g : FlashState) (bytes : List ℕ)
       let wide : room_in mid ≡ room_in first = room-same v mid same ∙ room-same first v is.same in
       let before = is.full less in
       record {
-        goes = goes_more first_f f g is.goes goes;
+        goes = goes-then first_f f g is.goes goes;
         same = same-then first v w is.same (same-then v mid w same refilled);
         lies = lies-refilled mid w g ring refilled lies;
         mounted = ap is_some ring ∙ mounted;
@@ -261,17 +262,12 @@ module _ (first v : VarData) (first_f f : FlashState) (bytes : List ℕ) (done :
       subst (λ k. Seals plan (replicate k VarRing) table rose device first first_f v f) (sym writes-pages) (is.seals plan table rose device watched has waits)
 
 -- a cause of a later failure is one in all of them
-pub cause-later : (old mid new : FlashState) (e : FlashFault) → Goes old mid → (mid ≡ old) ⊎ (mid.is_on ≡ true) → CausedBy mid e new → CausedBy old e new
-cause-later old mid new PowerLost goes (inl e) (inl off) = inl (ap (λ (f : FlashState). f.is_on) (sym e) ∙ off)
-cause-later old mid new PowerLost goes (inr on) (inl off) = absurd (no (sym on ∙ off))
-  where
-    no : true ≡ false → ⊥
-    no k = cc
-cause-later old mid new PowerLost goes power (inr rose) = inr (omega (arith, goes.cuts, rose))
-cause-later old mid new Media goes power rose = omega (arith, goes.faults, rose)
+still-on : (old mid : FlashState) → (mid ≡ old) ⊎ (mid.is_on ≡ true) → old.is_on ≡ true → mid.is_on ≡ true
+still-on old mid (inl same) on = ap (λ (f : FlashState). f.is_on) same ∙ on
+still-on old mid (inr on) was = on
 
 pub cause-err : {T : Type 0} (old mid new : FlashState) (result : Result T FlashFault) (e : FlashFault) → result ≡ Err e → Goes old mid → (mid ≡ old) ⊎ (mid.is_on ≡ true) → CausedBy mid e new → IfErr result (λ fault. CausedBy old fault new)
-cause-err {T} old mid new result e is goes power cause = subst (λ (x : Result T FlashFault). IfErr x (λ fault. CausedBy old fault new)) (sym is) (cause-later old mid new e goes power cause)
+cause-err {T} old mid new result e is goes power cause = subst (λ (x : Result T FlashFault). IfErr x (λ fault. CausedBy old fault new)) (sym is) (cause-later old mid new goes (still-on old mid power) e cause)
 
 -- the power after a seal that was done
 pub seal-power : (r : Shape) (next : ℕ) (due : Bool) (body : List ℕ) (old new : FlashState) (u : Unit {0}) → SealCalls r next due body old (Ok u) new → new.is_on ≡ true

@@ -1,8 +1,8 @@
 -- Seals of the buffer, one after another.
-use Rattle.std.proofs.Common.{◌≡◌, ℕ, zero, suc, ◌+◌, ◌*◌, Bool, true, Option, Some, unwrap_or, List, [], ◌∷◌, ◌++◌, drop, replicate, refl, sym, ◌∙◌, ap, subst, arith, append_assoc, IsTrue}
+use Rattle.std.proofs.Common.{◌≡◌, ℕ, zero, suc, ◌+◌, ◌*◌, Bool, Option, Some, unwrap_or, List, [], ◌∷◌, ◌++◌, drop, replicate, refl, sym, ◌∙◌, ap, subst, arith, append_assoc}
 use Rattle.std.specs.Prelude.{option_map, is_some}
 use Rattle.std.proofs.lemmas.List.{drop-drop}
-use Rattle.fl_flash.specs.Flash.{FlashState, Goes, page_at}
+use Rattle.fl_flash.specs.Flash.{FlashState, page_at}
 use Rattle.fl_flash.specs.declared.flash.FlashFault.{FlashFault}
 use Rattle.fl_model.specs.Record.{Record, Plan, content_per_page}
 use Rattle.fl_model.specs.Layout.{ContentPage}
@@ -12,12 +12,11 @@ use Rattle.fl_model.specs.Work.{Kind, Device, PartEnd, Whole, CutIn, FailedIn, P
 use Rattle.fl_model.specs.Within.{seal_within, seals_within, effect_within, TablePerforms}
 use Rattle.fl_model.proofs.Among.{seals-all_done, after_seals-append}
 use Rattle.fl_model.proofs.Performs.{performs-whole, performs-more, performs-front}
-use Rattle.fl_ring.specs.Device.{SameDevice}
 use Rattle.fl_ring.specs.Kept.{PagesStand}
 use Rattle.fl_ring.specs.Place as place_words
 use Rattle.fl_ring.specs.Ring as rings
 use Rattle.fl_ring.specs.Ring.{Shape}
-use Rattle.fl_ring.specs.Step.{IsWatched}
+use Rattle.fl_frame.specs.Watched.{IsWatched}
 use Rattle.fl_ring.specs.declared.ring.Ring as memory
 use Rattle.fl_var.specs.Memory.{page_in, var_shape, IsSamePlan}
 use Rattle.fl_ring.specs.Mounting.{shape_at}
@@ -170,23 +169,6 @@ breaks-front plan xs zs table rose device fault old g b = record {
     broken Whole answer is = answer
     broken (CutIn before) answer is = cc
     broken (FailedIn before) answer is = cc
-
--- the watch of a whole is that of its parts
-pub watched-first : (old mid new : FlashState) (rose : Bool) (device : Device) → IsWatched old new rose device → Goes mid new → IsWatched old mid rose device
-watched-first old mid new rose device watched goes = record {
-  told = watched.told;
-  on = watched.on;
-  risen = λ up. watched.risen (omega (arith, up, goes.faults));
-  counts = watched.counts;
-}
-
-pub watched-then : (old mid new : FlashState) (rose : Bool) (device mid_device : Device) → IsWatched old new rose device → Goes old mid → mid.is_on ≡ true → SameDevice mid mid_device → IsWatched mid new rose mid_device
-watched-then old mid new rose device mid_device watched goes on counts = record {
-  told = subst IsTrue (sym goes.tells) watched.told;
-  on = on;
-  risen = λ up. watched.risen (omega (arith, up, goes.faults));
-  counts = counts;
-}
 
 -- pages sealed one after another
 pub replicate-push : (n : ℕ) → replicate n VarRing ++ VarRing ∷ [] ≡ replicate (n + 1) VarRing

@@ -12,12 +12,13 @@ use Rattle.fl_model.specs.Record.{Record, Plan, content_per_page}
 use Rattle.fl_model.specs.Ring.{Ring}
 use Rattle.fl_model.specs.Table.{Table, RingName, VarRing, fill, blob_len, after_seals, fill_seals, with_record, start_page, start_offset}
 use Rattle.fl_model.specs.Work.{Device}
-use Rattle.fl_ring.specs.Step.{IsWatched}
+use Rattle.fl_frame.specs.Watched.{IsWatched}
 use Rattle.fl_var.specs.Memory.{next_in, waiting_in, room_in, IsPlanned, IsSamePlan}
 use Rattle.fl_var.specs.Placing.{Seals, Breaks, EndsWith, Finishes, PlaceEnds, RestEnds, where_placed, is_full_in, room_seals, rest_seals, pages_placed}
 use Rattle.fl_var.specs.Standing.{Stands, HasRing}
 use Rattle.fl_var.specs.declared.var_data.VarData.{VarData}
-use Rattle.fl_var.proofs.Joins.{has-joined, seals-none, seals-join, breaks-join, breaks-front, buffered-after, watched-then, replicate-split}
+use Rattle.fl_var.proofs.Joins.{has-joined, seals-none, seals-join, breaks-join, breaks-front, buffered-after, replicate-split}
+use Rattle.fl_frame.proofs.WatchedInTurn.{watched-then}
 use Rattle.fl_var.proofs.Lists.{drop-none, drop-short}
 use Rattle.fl_var.proofs.PageImages.{waiting-length, waiting-room}
 use Rattle.fl_var.proofs.SealsInTable.{room-planned}

@@ -15,7 +15,7 @@ use Rattle.fl_model.specs.Work.{Kind, Body, Mark, VoidMark, Erase, effect, Devic
 use Rattle.fl_model.specs.Within.{effect_within, TablePerforms}
 use Rattle.fl_model.proofs.Performs.{performs-along, performs-map, EndsAlong, Somewhere}
 use Rattle.fl_ring.specs.Counts.{model_shape}
-use Rattle.fl_ring.specs.Device.{SameDevice}
+use Rattle.fl_frame.specs.Device.{SameDevice}
 use Rattle.fl_ring.specs.Operations.{change}
 use Rattle.fl_ring.specs.Ring.{Shape, RingState, IsShape, count, oldest, sealed, voided}
 use Rattle.fl_ring.specs.Sealing.{Performed, AnswersEnd}

@@ -9,6 +9,7 @@ use Rattle.fl_ring.specs.Place.{next_of, oldest_of}
 use Rattle.fl_ring.specs.Place as place
 use Rattle.fl_ring.specs.Ring as ring
 use Rattle.fl_ring.specs.Ring.{Shape}
+use Rattle.fl_ring.specs.Written.{MaySealIn}
 use Rattle.fl_var.specs.Content.{content_body}
 use Rattle.fl_var.specs.WaitingState.{content_in}
 use Rattle.fl_var.specs.declared.var_data.VarData.{VarData}
@@ -23,6 +24,10 @@ next_in v = unwrap_or (option_map (λ r. next_of r) v.ring) 0
 
 abbrev pub oldest_in : VarData → ℕ
 oldest_in v = unwrap_or (option_map (λ r. oldest_of r) v.ring) 0
+
+-- the flash pages that the seal of the next page changes
+abbrev pub MaySeal : VarData → ℕ → Type 0
+MaySeal v = MaySealIn v.ring
 
 -- the bytes that wait for the next page
 abbrev pub waiting_in : VarData → List ℕ

@@ -10,7 +10,7 @@ use Rattle.fl_model.specs.Table as model
 use Rattle.fl_model.specs.Table.{VarRing}
 use Rattle.fl_model.specs.Work.{Device, Whole, PartProgress}
 use Rattle.fl_model.specs.Within.{TablePerforms, TableUnreads, repair_within}
-use Rattle.fl_ring.specs.Device.{SameDevice}
+use Rattle.fl_frame.specs.Device.{SameDevice}
 use Rattle.fl_ring.specs.Mounting.{HasNumbers}
 use Rattle.fl_ring.specs.declared.fault.RingFault.{RingFault}
 use Rattle.fl_ring.specs.declared.fault.RingFault.TheVariants.{Flash, BadHead, BadGap, BadPage, NoNumber}

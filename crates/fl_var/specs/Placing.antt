@@ -10,7 +10,7 @@ use Rattle.fl_model.specs.Table as model
 use Rattle.fl_model.specs.Table.{RingName, VarRing, fill, blob_len, after_seals, fill_seals, start_page, start_offset, with_record}
 use Rattle.fl_model.specs.Work.{Device, PartEnd, Whole, CutIn, FailedIn, PartProgress}
 use Rattle.fl_model.specs.Within.{TablePerforms, seals_within}
-use Rattle.fl_ring.specs.Device.{SameDevice}
+use Rattle.fl_frame.specs.Device.{SameDevice}
 use Rattle.fl_ring.specs.Kept.{PagesStand}
 use Rattle.fl_var.specs.Memory.{next_in, waiting_in, room_in, page_in}
 use Rattle.fl_var.specs.Standing.{IsVarRing, HasRing}

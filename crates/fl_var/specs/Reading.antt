@@ -7,7 +7,7 @@ use Rattle.fl_flash.specs.Flash.{FlashState}
 use Rattle.fl_model.specs.Query.{Lost, Stands, blob_of}
 use Rattle.fl_model.specs.Table as model
 use Rattle.fl_model.specs.Table.{Entry}
-use Rattle.fl_page.specs.Contents.{IsCaused}
+use Rattle.fl_page.specs.Causes.{IsCaused}
 use Rattle.fl_page.specs.Header.{page_count}
 use Rattle.fl_page.specs.declared.fault.BadPage.{BadPage}
 use Rattle.fl_page.specs.declared.fault.ReadFault.{ReadFault}

@@ -1,7 +1,8 @@
 // The mount of variable data.
 ghost use Rattle.std.specs.Prelude.{◌≡◌, ◌+◌, ◌<◌, ◌≤◌, None, false, is_ok, length, [], IsTrue, IfOk, IfErr, OnOk};
 ghost use Rattle.fl_flash.specs.Flash.{Goes, page_at};
-ghost use Rattle.fl_ring.specs.Causes.{CausedBy, IfFlash};
+ghost use Rattle.fl_ring.specs.Causes.{IfFlash};
+ghost use Rattle.fl_frame.specs.Causes.{CausedBy};
 ghost use Rattle.fl_ring.specs.Finding.{FoundFault};
 ghost use Rattle.fl_ring.specs.Mounting.{search_reads, FailsAs};
 ghost use Rattle.fl_ring.specs.Repairing.{Beside};
@@ -18,7 +19,7 @@ impl VarData {
     ghost use Rattle.fl_model.specs.Table as model;
     ghost use Rattle.fl_model.specs.Table.{VarRing, shape_of as model_shape};
     ghost use Rattle.fl_model.specs.Work.{Device};
-    ghost use Rattle.fl_ring.specs.Step.{IsWatched};
+    ghost use Rattle.fl_frame.specs.Watched.{IsWatched};
     ghost use Rattle.fl_var.specs.Memory.{is_mounted, waiting_in, var_shape, IsSamePlan, LiesOn};
     ghost use Rattle.fl_var.specs.Mounting.{Finds, Rests, MountEnds};
 

@@ -1,7 +1,7 @@
 // A blob is opened for reading.
 ghost use Rattle.std.specs.Prelude.{◌≡◌, ◌+◌, ◌≤◌, ◌<◌, true, Some, length, IsTrue, IfOk, IfErr, IfSome};
-ghost use Rattle.fl_page.specs.Contents as contents;
-ghost use Rattle.fl_ring.specs.Looking.{OnlyReads};
+ghost use Rattle.fl_frame.specs.Contents as contents;
+ghost use Rattle.fl_frame.specs.Reads.{OnlyReads};
 
 use crate::reader::BlobReader;
 use crate::var_data::VarData;

@@ -1,7 +1,7 @@
 // Blobs are placed in the buffer, which is sealed page by page.
 ghost use Rattle.std.specs.Prelude.{◌≡◌, ◌+◌, ◌-◌, ◌<◌, ◌≤◌, true, false, length, is_ok, IsTrue, IfOk, IfErr, OnOk, IsErrOf};
 ghost use Rattle.fl_flash.specs.Flash.{Goes, OffChangesNothing, page_at};
-ghost use Rattle.fl_ring.specs.Causes.{CausedBy};
+ghost use Rattle.fl_frame.specs.Causes.{CausedBy};
 
 use crate::var_data::VarData;
 use fl_base::BlobRef;
@@ -14,8 +14,9 @@ impl VarData {
     ghost use Rattle.fl_model.specs.Table.{VarRing};
     ghost use Rattle.fl_model.specs.Work.{Device};
     ghost use Rattle.fl_ring.specs.Ring.{OutsideStands};
-    ghost use Rattle.fl_ring.specs.Step.{IsWatched};
-    ghost use Rattle.fl_var.specs.Memory.{is_mounted, next_in, waiting_in, room_in, var_shape, IsSamePlan, LiesOn};
+    ghost use Rattle.fl_frame.specs.Watched.{IsWatched};
+    ghost use Rattle.fl_ring.specs.Written.{Writes, done};
+    ghost use Rattle.fl_var.specs.Memory.{is_mounted, next_in, waiting_in, room_in, var_shape, IsSamePlan, LiesOn, MaySeal};
     ghost use Rattle.fl_var.specs.Placing.{is_full_in, room_seals, pages_placed, reference_in, EndsWith, PlaceEnds, RestEnds};
     ghost use Rattle.fl_var.specs.Standing.{Stands, HasRing};
 
@@ -36,6 +37,7 @@ impl VarData {
             → HasRing self.old (F.state flash.old) plan table → take (content_per_page plan) table.buffered ≡ waiting_in self.old
             → EndsWith plan (VarRing ∷ []) table rose device self.old (F.state flash.old) result self.new (F.state flash.new) }
         ensures outside { IsTrue (F.state flash.old).media.tells → OutsideStands (var_shape self.old) (page_at (F.state flash.old)) (page_at (F.state flash.new)) }
+        ensures writes { Writes (MaySeal self.old) (done result) 1 (F.state flash.old) (F.state flash.new) }
         ensures reads { (F.state flash.new).work.reads ≡ (F.state flash.old).work.reads }
         ensures media_reads { (F.state flash.new).media.reads ≤ (F.state flash.old).media.reads + 1 }
         ensures off { OffChangesNothing (F.state flash.old) result (F.state flash.new) }
@@ -172,6 +174,7 @@ impl VarData {
         ensures quiet { waiting_in self.old ≡ [] → (result ≡ Ok tt) × (F.state flash.new ≡ F.state flash.old) }
         ensures power { OnOk result ((F.state flash.old).is_on ≡ true → (F.state flash.new).is_on ≡ true) }
         ensures outside { IsTrue (F.state flash.old).media.tells → OutsideStands (var_shape self.old) (page_at (F.state flash.old)) (page_at (F.state flash.new)) }
+        ensures writes { Writes (MaySeal self.old) 0 1 (F.state flash.old) (F.state flash.new) }
         ensures reads { (F.state flash.new).work.reads ≡ (F.state flash.old).work.reads }
         ensures media_reads { (F.state flash.new).media.reads ≤ (F.state flash.old).media.reads + 1 }
         ensures off { 1 ≤ length (waiting_in self.old) → OffChangesNothing (F.state flash.old) result (F.state flash.new) }

@@ -34,8 +34,8 @@ pub struct BlobReader<'s, 'b> {
 impl<'s, 'b> BlobReader<'s, 'b> {
     ghost use Rattle.std.specs.Prelude.{nat_lt, false, is_ok, Ok, [], ◌++◌, IsTrue, IfOk, IfErr, OnOk, OnErr};
     ghost use Rattle.fl_flash.specs.Flash.{FlashState};
-    ghost use Rattle.fl_page.specs.Contents as contents;
-    ghost use Rattle.fl_ring.specs.Looking.{OnlyReads};
+    ghost use Rattle.fl_frame.specs.Contents as contents;
+    ghost use Rattle.fl_frame.specs.Reads.{OnlyReads};
     ghost use Rattle.fl_var.specs.Blobs.{IsBadLater};
     ghost use Rattle.fl_var.specs.Memory.{LiesOn};
     ghost use Rattle.fl_var.specs.Reading.{data_of, buffer_of, held_by, page_of, chunk_of, count_left, pages_left, has_here, bytes_left, Reads, IsWholeIn, Steps, IfUnread, IfBad, NoneBad};

@@ -10,7 +10,7 @@ returns-in_default-run_copy-clause-ran c =
       number_is = sym c.none_ran.ensures.number;
       line_is = sym c.none_ran.ensures.line;
       ran = record {
-        told = record { content = image; content_now = image; left_now = Some c.args.script.now; written = Some []; written_now = Some []; faults = 0; faults_now = 0 };
+        told = record { content = image; content_now = image; left_now = Some c.args.script.now; written = Some []; written_now = Some []; faults = 0; faults_now = 0; reads = 0; reads_now = 0 };
         ends = ((refl, inl refl), inl refl);
         before = refl;
         after = refl;

@@ -1,6 +1,6 @@
 use Rattle.std.proofs.Common.{sym, subst}
 use Rattle.fl_cursor.specs.Cursor.{IsReady}
-use Rattle.fl_page.specs.Contents.{Contents}
+use Rattle.fl_frame.specs.Contents.{Contents}
 use Rattle.fl_library_example.proofs.collect.Goals as goal
 
 pub loop-preserved : goal.loop-preserved

@@ -1,6 +1,6 @@
 use Rattle.std.proofs.Common.{◌≡◌, length}
 use Rattle.fl_cursor.specs.Cursor.{table_of, IsReady}
-use Rattle.fl_page.specs.Contents.{contents_of}
+use Rattle.fl_frame.specs.Contents.{contents_of}
 use Rattle.fl_table.specs.Look.{layout_in}
 use Rattle.fl_library_example.proofs.collect.Given as goal
 

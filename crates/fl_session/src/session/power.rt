@@ -1,6 +1,6 @@
 // The power of the flash of a session.
 ghost use Rattle.std.specs.Prelude.{◌≡◌, ◌≤◌};
-ghost use Rattle.fl_flash.specs.Flash.{Goes};
+ghost use Rattle.fl_flash.specs.Flash.{Stays};
 ghost use Rattle.fl_model.specs.Record.{Config};
 ghost use Rattle.fl_words.specs.Command as words;
 ghost use Rattle.fl_machine.specs.Machine.{Machine};
@@ -20,7 +20,7 @@ impl<'m, M: Media> Session<'m, M> {
         requires { ⟦<Self as Executor>⟧.sound self.old }
         ensures cause { Says (reply_text result) (OffSays (⟦<Self as Executor>⟧.state self.old) (⟦<Self as Executor>⟧.state self.new)) }
         ensures sound { ⟦<Self as Executor>⟧.sound self.new }
-        ensures goes { Goes (⟦<Self as Executor>⟧.flash self.old) (⟦<Self as Executor>⟧.flash self.new) }
+        ensures goes { Stays (⟦<Self as Executor>⟧.flash self.old) (⟦<Self as Executor>⟧.flash self.new) }
         ensures reads { (⟦<Self as Executor>⟧.flash self.new).work.reads ≡ (⟦<Self as Executor>⟧.flash self.old).work.reads }
         ensures step { (config : Config) (old : Machine) → ⟦<Self as Executor>⟧.stands self.old config old →
             Answers config old words.Off (⟦<Self as Executor>⟧.stands self.new config)
@@ -38,7 +38,7 @@ impl<'m, M: Media> Session<'m, M> {
         requires counted { 1 ≤ n }
         ensures cause { Says (reply_text result) (CutSays (⟦<Self as Executor>⟧.state self.old) (⟦<Self as Executor>⟧.state self.new) n kind) }
         ensures sound { ⟦<Self as Executor>⟧.sound self.new }
-        ensures goes { Goes (⟦<Self as Executor>⟧.flash self.old) (⟦<Self as Executor>⟧.flash self.new) }
+        ensures goes { Stays (⟦<Self as Executor>⟧.flash self.old) (⟦<Self as Executor>⟧.flash self.new) }
         ensures reads { (⟦<Self as Executor>⟧.flash self.new).work.reads ≡ (⟦<Self as Executor>⟧.flash self.old).work.reads }
         ensures step { (config : Config) (old : Machine) → ⟦<Self as Executor>⟧.stands self.old config old →
             Answers config old (words.Cut n kind) (⟦<Self as Executor>⟧.stands self.new config)

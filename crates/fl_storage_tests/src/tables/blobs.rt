@@ -1,6 +1,6 @@
 // Records with blobs that are put and mounted again, and images made by hand.
 ghost use Rattle.std.specs.Prelude.{◌≡◌, true, length, vec_len, IfOk};
-ghost use Rattle.fl_flash.specs.Flash.{FlashState, Goes};
+ghost use Rattle.fl_flash.specs.Flash.{FlashState, Stays};
 ghost use Rattle.fl_table.specs.BlobAt.{has_blobs};
 ghost use Rattle.fl_table.specs.Memory.{LiesOn, is_running};
 
@@ -79,7 +79,7 @@ fn look_at<F: Flash>(alloc: Global, table: &Table, flash: &mut F, at: BlobRef, b
     requires running { is_running table.now ≡ true }
     requires some { has_blobs table.now ≡ true }
     requires lies { LiesOn table.now (F.state flash.old) }
-    ensures goes { Goes (F.state flash.old) (F.state flash.new) }
+    ensures goes { Stays (F.state flash.old) (F.state flash.new) }
     ensures lies { LiesOn table.now (F.state flash.new) }
 {
     let Ok(mut buf) = PageBuf::new(alloc, flash.geometry().page) else {
@@ -130,7 +130,7 @@ fn take<F: Flash>(
 ) -> Answer
     requires lies { LiesOn table.old (F.state flash.old) }
     requires room { length buf.old.bytes ≡ (F.state flash.old).geometry.page }
-    ensures goes { Goes (F.state flash.old) (F.state flash.new) }
+    ensures goes { Stays (F.state flash.old) (F.state flash.new) }
     ensures lies { LiesOn table.new (F.state flash.new) }
     ensures room { length buf.new.bytes ≡ length buf.old.bytes }
 {

@@ -1,7 +1,8 @@
 use Rattle.std.proofs.Common.{◌≡◌, ◌<◌, ◌≤◌, length, IsTrue}
 use Rattle.fl_ring.specs.Front.{IsFront}
 use Rattle.fl_ring.specs.Head.{page_in}
-use Rattle.fl_ring.specs.Looking.{OnlyReads, state_at}
+use Rattle.fl_ring.specs.Looking.{state_at}
+use Rattle.fl_frame.specs.Reads.{OnlyReads}
 use Rattle.fl_ring.specs.Place.{shape_of}
 use Rattle.fl_check.proofs.marks.read_head.Given as goal
 

@@ -1,6 +1,6 @@
 use Rattle.std.proofs.Common.{arith}
 use Rattle.fl_ring.specs.Place.{shape_of}
-use Rattle.fl_ring.proofs.ReadsInTurn.{told_still}
+use Rattle.fl_frame.proofs.ReadsInTurn.{told_still}
 use Rattle.fl_check.proofs.Heads.{marks_for, within_for}
 use Rattle.fl_check.proofs.marks.read_marks.Goals as goal
 

@@ -3,7 +3,7 @@ use Rattle.fl_flash.specs.Flash.{page_at}
 use Rattle.fl_ring.specs.Newest.{page_back}
 use Rattle.fl_ring.specs.Place.{shape_of}
 use Rattle.fl_ring.proofs.Exists.{page_exists}
-use Rattle.fl_ring.proofs.ReadsInTurn.{more_reads, same_page, told_still}
+use Rattle.fl_frame.proofs.ReadsInTurn.{more_reads, same_page, told_still}
 use Rattle.fl_check.specs.Reaches.{reach, reach_from}
 use Rattle.fl_check.specs.References.{content_room}
 use Rattle.fl_check.proofs.BlobReaches.{reach_next, listed_next}

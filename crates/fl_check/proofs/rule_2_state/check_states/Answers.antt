@@ -2,7 +2,7 @@ use Rattle.std.proofs.Common.{ℕ, List, Option, IfNone, sym, subst}
 use Rattle.fl_flash.specs.Flash.{page_at}
 use Rattle.fl_ring.specs.Place.{shape_of}
 use Rattle.fl_ring.proofs.Founds.{same_pages}
-use Rattle.fl_ring.proofs.ReadsInTurn.{told_still}
+use Rattle.fl_frame.proofs.ReadsInTurn.{told_still}
 use Rattle.fl_check.specs.Claims.{AllBelow}
 use Rattle.fl_check.specs.States.{IsSealed, StatesBreak}
 use Rattle.fl_check.proofs.Stops.{if_broken}

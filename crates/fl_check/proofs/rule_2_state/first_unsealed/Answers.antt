@@ -4,7 +4,8 @@ use Rattle.fl_ring.specs.Head.{seals}
 use Rattle.fl_ring.specs.Looking.{state_at}
 use Rattle.fl_ring.specs.Place.{shape_of}
 use Rattle.fl_ring.proofs.Exists.{page_exists}
-use Rattle.fl_ring.proofs.ReadsInTurn.{more_reads, same_state, told_still}
+use Rattle.fl_ring.proofs.ReadsInTurn.{same_state}
+use Rattle.fl_frame.proofs.ReadsInTurn.{more_reads, told_still}
 use Rattle.fl_check.specs.Marks.{kept_page}
 use Rattle.fl_check.proofs.rule_2_state.first_unsealed.Goals as goal
 

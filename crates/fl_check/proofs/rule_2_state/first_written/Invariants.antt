@@ -1,6 +1,6 @@
 use Rattle.std.proofs.Common.{◌≡◌, length, IsTrue}
 use Rattle.fl_flash.specs.Flash.{page_at}
-use Rattle.fl_ring.specs.Looking.{OnlyReads}
+use Rattle.fl_frame.specs.Reads.{OnlyReads}
 use Rattle.fl_ring.specs.Place.{shape_of}
 use Rattle.fl_check.specs.States.{AreBlank}
 use Rattle.fl_check.proofs.rule_2_state.first_written.Given as goal

@@ -2,7 +2,7 @@ use Rattle.std.proofs.Common.{ℕ, List, Some, None, refl, sym, subst}
 use Rattle.fl_flash.specs.Flash.{page_at}
 use Rattle.fl_ring.specs.Place.{shape_of}
 use Rattle.fl_ring.proofs.Founds.{same_pages}
-use Rattle.fl_ring.proofs.ReadsInTurn.{told_still}
+use Rattle.fl_frame.proofs.ReadsInTurn.{told_still}
 use Rattle.fl_check.specs.Numbers.{NewestOf, next_of, IsLeft, HaveNumbers, NumbersBreak}
 use Rattle.fl_check.specs.Stop.{breach}
 use Rattle.fl_check.specs.declared.rule.Rule.TheVariants.{Number}

@@ -3,7 +3,7 @@ use Rattle.std.proofs.lemmas.Result.{err_from_is_err_and}
 use Rattle.fl_flash.specs.Flash.{page_at}
 use Rattle.fl_ring.specs.Place.{shape_of}
 use Rattle.fl_ring.proofs.Exists.{page_exists}
-use Rattle.fl_ring.proofs.ReadsInTurn.{more_reads, same_page, told_still}
+use Rattle.fl_frame.proofs.ReadsInTurn.{more_reads, same_page, told_still}
 use Rattle.fl_schema.specs.Schema.{layout_of}
 use Rattle.fl_check.proofs.LastKeys.{last_for, rise_more, falls_for}
 use Rattle.fl_check.proofs.rule_5_keys.check_keys.Goals as goal

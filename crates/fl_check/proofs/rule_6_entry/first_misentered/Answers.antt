@@ -1,9 +1,9 @@
 use Rattle.std.proofs.Common.{◌≡◌, ℕ, List, ◌+◌, ◌-◌, ◌<◌, ◌≤◌, Option, IfSome, IfNone, refl, sym, subst, arith}
 use Rattle.fl_flash.specs.Flash.{page_at}
-use Rattle.fl_ring.specs.Looking.{OnlyReads}
+use Rattle.fl_frame.specs.Reads.{OnlyReads}
 use Rattle.fl_ring.specs.Place.{shape_of}
 use Rattle.fl_ring.proofs.Founds.{same_pages}
-use Rattle.fl_ring.proofs.ReadsInTurn.{no_reads, more_reads, told_still}
+use Rattle.fl_frame.proofs.ReadsInTurn.{no_reads, more_reads, told_still}
 use Rattle.fl_check.specs.Claims.{FailsFirst}
 use Rattle.fl_check.specs.Entries.{over, kept_below, AreSeen, HasEntries}
 use Rattle.fl_check.specs.declared.rule_6_entry.Seen.{Seen}

@@ -5,7 +5,7 @@ use Rattle.fl_flash.specs.Flash.{page_at}
 use Rattle.fl_index.specs.Page.{form_len}
 use Rattle.fl_ring.specs.Place.{shape_of}
 use Rattle.fl_ring.proofs.Founds.{same_pages}
-use Rattle.fl_ring.proofs.ReadsInTurn.{more_reads, told_still}
+use Rattle.fl_frame.proofs.ReadsInTurn.{more_reads, told_still}
 use Rattle.fl_check.specs.Entries.{over, IsEntry}
 use Rattle.fl_check.proofs.FewerReads.{few_reads}
 use Rattle.fl_check.proofs.rule_6_entry.has_entries.Goals as goal

@@ -1,7 +1,7 @@
 use Rattle.std.proofs.Common.{◌≡◌, ◌+◌, ◌-◌, length, IsTrue}
 use Rattle.fl_flash.specs.Flash.{page_at}
 use Rattle.fl_index.specs.Page.{page_first}
-use Rattle.fl_ring.specs.Looking.{OnlyReads}
+use Rattle.fl_frame.specs.Reads.{OnlyReads}
 use Rattle.fl_ring.specs.Place.{shape_of}
 use Rattle.fl_check.specs.Claims.{AllBelow}
 use Rattle.fl_check.specs.Entries.{over, IsEntry, kept_below}

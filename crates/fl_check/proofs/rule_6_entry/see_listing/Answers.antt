@@ -7,7 +7,7 @@ use Rattle.fl_ring.specs.Newest.{commits}
 use Rattle.fl_ring.specs.Place.{shape_of}
 use Rattle.fl_ring.proofs.Exists.{lies_exists}
 use Rattle.fl_ring.proofs.Founds.{same_pages}
-use Rattle.fl_ring.proofs.ReadsInTurn.{more_reads, told_still}
+use Rattle.fl_frame.proofs.ReadsInTurn.{more_reads, told_still}
 use Rattle.fl_check.specs.Entries.{over, entries_in}
 use Rattle.fl_check.proofs.ListedPages.{one_more, descends, misentered, listing_more, entries_move}
 use Rattle.fl_check.proofs.FewerReads.{few_reads}

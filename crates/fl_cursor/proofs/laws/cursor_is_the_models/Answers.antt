@@ -1,5 +1,5 @@
 use Rattle.std.proofs.Common.{refl, ◌∙◌, ap, filter}
-use Rattle.fl_page.specs.Contents.{contents_of}
+use Rattle.fl_frame.specs.Contents.{contents_of}
 use Rattle.fl_cursor.specs.Asked.{is_left}
 use Rattle.fl_cursor.specs.Cursor.{table_of, asked_of}
 use Rattle.fl_cursor.proofs.Stood.{standing-rows, left-entries}

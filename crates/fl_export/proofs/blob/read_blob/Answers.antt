@@ -2,7 +2,7 @@ use Rattle.std.proofs.Common.{rules, ◌≤◌, Option, IfSome, length, sym, ◌
 use Rattle.fl_base.specs.declared.types.BlobRef.{BlobRef}
 use Rattle.fl_model.specs.Agrees.{BlobsOf}
 use Rattle.fl_model.specs.Ring.{Ring}
-use Rattle.fl_page.proofs.ReadsInTurn.{OnlyReads-then}
+use Rattle.fl_frame.proofs.ContentsInTurn.{OnlyReads-then}
 use Rattle.fl_var.specs.Reading.{data_of}
 use Rattle.fl_store.proofs.Readers.{buffer-fits, data-lies, data-stands, opened-ready}
 use Rattle.fl_export.proofs.Records.{empty-stands}

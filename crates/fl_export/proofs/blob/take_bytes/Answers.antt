@@ -1,6 +1,7 @@
 use Rattle.std.proofs.Common.{◌≡◌, Bool, List, ℕ, refl, ◌∙◌, ap, ◌++◌}
 use Rattle.std.proofs.lemmas.Result.{err_from_is_err_and}
-use Rattle.fl_page.proofs.ReadsInTurn.{OnlyReads-same, OnlyReads-then, IsCaused-later}
+use Rattle.fl_page.proofs.ReadsInTurn.{IsCaused-later}
+use Rattle.fl_frame.proofs.ContentsInTurn.{OnlyReads-same, OnlyReads-then}
 use Rattle.fl_var.specs.Reading.{chunk_of}
 use Rattle.fl_export.proofs.TakenChunks.{took-none, took-more, took-all, read-good}
 use Rattle.fl_export.proofs.blob.take_bytes.Goals as goal

@@ -1,5 +1,5 @@
 use Rattle.std.proofs.Common.{◌≡◌}
-use Rattle.fl_page.specs.Contents.{OnlyReads}
+use Rattle.fl_frame.specs.Contents.{OnlyReads}
 use Rattle.fl_var.specs.Memory.{LiesOn}
 use Rattle.fl_var.specs.Reading.{data_of, buffer_of, count_left, Reads, IsWholeIn}
 use Rattle.fl_export.proofs.TakenChunks.{Took}

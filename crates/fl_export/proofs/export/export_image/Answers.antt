@@ -1,17 +1,20 @@
-use Rattle.std.proofs.Common.{◌≡◌, ◌<◌, ◌≤◌, inl, rules, length, sym, ◌∙◌, ap, subst, arith}
+use Rattle.std.proofs.Common.{◌≡◌, ◌<◌, ◌≤◌, inl, inr, rules, length, sym, ◌∙◌, ap, subst, arith}
 use Rattle.std.proofs.lemmas.Option.{slice_get_within}
 use Rattle.fl_base.specs.declared.types.Geometry.{Geometry}
+use Rattle.fl_store.proofs.Unarmed.{opened-unarmed}
 use Rattle.fl_image.specs.declared.status.ToolStatus.TheVariants.{NoMemory}
 use Rattle.fl_store.specs.FoundTable.{FindsNone}
 use Rattle.fl_store.specs.Tables.{IsNamed}
 use Rattle.fl_store.specs.declared.tables.Tables.{Tables}
 use Rattle.fl_store.proofs.FoundTables.{found-holds}
 use Rattle.fl_store.proofs.CallsInTurn.{rose-back}
+use Rattle.fl_store.proofs.Jobs.{job-over, unopened}
 use Rattle.fl_store.proofs.Named.{image-with}
 use Rattle.fl_store.proofs.Opened.{looks-keeps, keeps-then}
 use Rattle.fl_store.proofs.ImageRepairs.{still-repaired, repaired-after}
 use Rattle.fl_store.proofs.TablesChanged.{some-is}
 use Rattle.fl_store.proofs.Worked.{worked-by, worked-keeps, worked-repaired, worked-rose}
+use Rattle.fl_export.specs.Over.{ExportsOver}
 use Rattle.fl_export.specs.Rooms.{HasRooms}
 use Rattle.fl_export.specs.Tables.{IsOfTable}
 use Rattle.fl_export.proofs.ImageEnds.{early-ends, ends-seen}
@@ -59,6 +62,9 @@ export_on-status-requires-clause-at g c =
 
 pub export_on-status-requires-clause-few : goal.export_on-status-requires-clause-few
 export_on-status-requires-clause-few g c = subst (λ (t : Tables). length t.entries.items ≤ 4) (sym c.over-flash.ensures.tables) c.in-Ok.ensures.table.few
+
+pub export_on-status-requires-clause-unarmed : goal.export_on-status-requires-clause-unarmed
+export_on-status-requires-clause-unarmed g c = opened-unarmed _ _ _ c.over-flash.ensures.opened
 
 pub returns-clause-ends : goal.returns-clause-ends
 returns-clause-ends g c = λ config tables tells made image.
@@ -108,3 +114,15 @@ pub returns-clause-keeps : goal.returns-clause-keeps
 returns-clause-keeps g c =
     let e : g.M.Media.state c.media-1.given.0 ≡ g.M.Media.state c.close-media.result.now = search rules in
     keeps-then _ _ _ c.in-Ok.ensures.looks (worked-keeps _ _ _ _ _ (worked-by c.over-flash.ensures.opened c.export_on-status.ensures.goes (e ∙ c.close-media.ensures.state)))
+
+pub returns-in-Err-clause-over : goal.returns-in-Err-clause-over
+returns-in-Err-clause-over g c = inl (unopened (g.M.Media.state c.args.media.now) (g.M.Media.state c.on.new.media) c.args.name c.in-Err.status c.in-Err.ensures.none, c.in-Err.ensures.looks)
+
+pub returns-in_default-clause-over : goal.returns-in_default-clause-over
+returns-in_default-clause-over g c = inl (tt, c.in-Ok.ensures.looks)
+
+pub returns-clause-over : goal.returns-clause-over
+returns-clause-over g c =
+    let e : g.M.Media.state c.media-1.given.0 ≡ g.M.Media.state c.close-media.result.now = search rules in
+    inr (job-over c.args.name (g.M.Media.state c.args.media.now) (g.M.Media.state c.on.new.media) _ c.in-Ok.found _ _ _ (ExportsOver c.export_on-status.result)
+    c.in-Ok.ensures.table c.in-Ok.ensures.looks c.over-flash.ensures.tables c.over-flash.ensures.opened c.export_on-status.ensures.goes (e ∙ c.close-media.ensures.state) c.export_on-status.ensures.over)

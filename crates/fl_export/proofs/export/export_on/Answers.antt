@@ -1,8 +1,11 @@
 use Rattle.std.proofs.Common.{◌≡◌, inr, IsTrue, false, true, Some, length, refl, sym, ◌∙◌, subst, arith}
 use Rattle.std.specs.List.{slice_get}
 use Rattle.std.proofs.lemmas.Option.{slice_get_within}
+use Rattle.fl_frame.proofs.ContentsInTurn.{OnlyReads-goes}
+use Rattle.fl_frame.proofs.CallsInTurn.{goes-then}
+use Rattle.fl_store.proofs.Unarmed.{unarmed-then}
 use Rattle.fl_image.specs.declared.status.ToolStatus.{ToolStatus}
-use Rattle.fl_image.specs.declared.status.ToolStatus.TheVariants.{OutWrite}
+use Rattle.fl_image.specs.declared.status.ToolStatus.TheVariants.{Done, OutWrite}
 use Rattle.fl_model.specs.Bare.{bare, bare_table}
 use Rattle.fl_table.specs.Memory.{is_running, LiesOn}
 use Rattle.fl_table.specs.Standing.{Stands}
@@ -17,19 +20,21 @@ use Rattle.fl_store.proofs.ImageRepairs.{repaired-read}
 use Rattle.fl_export.proofs.Statuses.{fault-rose, fault-place}
 use Rattle.fl_store.proofs.MountStatuses.{by-mount, mount-rose, mount-place}
 use Rattle.fl_store.proofs.Risen.{has_risen, watched}
+use Rattle.fl_store.specs.MountsOver.{MountsOver}
+use Rattle.fl_export.proofs.OverBytes.{bad-table, reads-over, refuses-over}
 use Rattle.fl_export.proofs.export.export_on.Goals as goal
 
 pub mount_status-requires : goal.mount_status-requires
 mount_status-requires g c = omega (arith, slice_get_within c.mount.new.self.entries.items c.in-Err.bad.at c.in-Err.ensures.stops.entry c.in-Err.ensures.stops.here, c.mount.ensures.as_many, c.requires.few)
 
 pub returns-in-Err-clause-statuses : goal.returns-in-Err-clause-statuses
-returns-in-Err-clause-statuses g c = subst IsOfTable (sym c.mount_status.ensures) (by-mount IsOfTable c.in-Err.bad.fault c.in-Err.bad.at tt tt tt)
+returns-in-Err-clause-statuses g c = subst IsOfTable (sym c.mount_status.ensures) (by-mount IsOfTable c.in-Err.bad.fault c.in-Err.bad.at tt tt)
 
 pub returns-in-Err-clause-write : goal.returns-in-Err-clause-write
-returns-in-Err-clause-write g c = λ is. absurd (by-mount (λ s. s ≡ OutWrite → ⊥) c.in-Err.bad.fault c.in-Err.bad.at (λ k. cc k) (λ k. cc k) (λ k. cc k) (sym c.mount_status.ensures ∙ is))
+returns-in-Err-clause-write g c = λ is. absurd (by-mount (λ s. s ≡ OutWrite → ⊥) c.in-Err.bad.fault c.in-Err.bad.at (λ k. cc k) (λ k. cc k) (sym c.mount_status.ensures ∙ is))
 
 pub returns-in-Err-clause-device : goal.returns-in-Err-clause-device
-returns-in-Err-clause-device g c = λ is. mount-rose (g.F.Flash.state c.args.flash.now) (g.F.Flash.state c.mount.new.flash) c.in-Err.bad.fault c.in-Err.bad.at (sym c.mount_status.ensures ∙ is) c.in-Err.ensures.cause
+returns-in-Err-clause-device g c = λ is. mount-rose (g.F.Flash.state c.args.flash.now) (g.F.Flash.state c.mount.new.flash) c.in-Err.bad.fault c.in-Err.bad.at c.requires.unarmed (sym c.mount_status.ensures ∙ is) c.in-Err.ensures.cause
 
 pub returns-in-Err-clause-bad : goal.returns-in-Err-clause-bad
 returns-in-Err-clause-bad g c = λ table is.
@@ -46,7 +51,7 @@ returns-in-Err-clause-ends g c = λ plans ts name tells on calm stand named.
 
 pub returns-in-Err-write_table-clause-device : goal.returns-in-Err-write_table-clause-device
 returns-in-Err-write_table-clause-device g c = λ is.
-    let rose = fault-rose (g.F.Flash.state c.mount.new.flash) (g.F.Flash.state c.write_table.new.flash) c.in-Err-write_table.fault c.args.at (sym c.status_of.ensures ∙ is) c.in-Err-write_table.ensures.unread in
+    let rose = fault-rose (g.F.Flash.state c.mount.new.flash) (g.F.Flash.state c.write_table.new.flash) c.in-Err-write_table.fault c.args.at (unarmed-then _ _ c.requires.unarmed c.mount.ensures.goes).on (sym c.status_of.ensures ∙ is) c.in-Err-write_table.ensures.unread in
     omega (arith, c.mount.ensures.goes.faults, rose)
 
 pub returns-in-Err-write_table-clause-bad : goal.returns-in-Err-write_table-clause-bad
@@ -92,7 +97,7 @@ returns-in-Err-write_table-clause-ends g c = λ plans ts name tells on calm stan
     let at = own plans ts name c.args.range f m h (g.K.Sink.written c.args.out.now) (g.K.Sink.written c.write_table.new.out) c.args.tables.now.entries.items now c.args.at c.index.result.now c.mount.ensures.goes.faults c.write_table.ensures.counts stand named here mounted in
     let stood = subst (λ (t : Table 64 64). Stands t m (first_of plans c.args.at) (bare at.plan) (bare_table at.table)) (sym c.table-table.ensures) at.stands.on_flash.unlogged in
     let end = failed plans ts name c.args.range f m h (g.K.Sink.written c.args.out.now) (g.K.Sink.written c.write_table.new.out) c.args.tables.now.entries.items now c.args.at c.index.result.now c.mount.ensures.goes.faults c.write_table.ensures.counts stand named here mounted
-    c.in-Err-write_table.fault c.args.at (c.in-Err-write_table.ensures.writes (first_of plans c.args.at) (bare at.plan) (bare_table at.table) told stood) c.in-Err-write_table.ensures.unread in
+    c.in-Err-write_table.fault c.args.at (c.in-Err-write_table.ensures.writes (first_of plans c.args.at) (bare at.plan) (bare_table at.table) told stood) (unarmed-then _ _ c.requires.unarmed c.mount.ensures.goes).on c.in-Err-write_table.ensures.unread in
     subst (λ (s : ToolStatus). EndsOn plans ts name c.args.range (g.F.Flash.state c.args.flash.now) (g.F.Flash.state c.write_table.new.flash) (g.K.Sink.written c.args.out.now) (g.K.Sink.written c.write_table.new.out) c.mount.new.self.entries.items s) (sym c.status_of.ensures) end
 
 pub returns-in-Err-clause-repairs : goal.returns-in-Err-clause-repairs
@@ -112,3 +117,33 @@ pub returns-in-Err-write_table-clause-repairs : goal.returns-in-Err-write_table-
 returns-in-Err-write_table-clause-repairs g c = λ plans ts name tells on calm stand named well page lt.
     repaired-read plans (g.F.Flash.state c.args.flash.now).geometry page (g.F.Flash.state c.args.flash.now) (g.F.Flash.state c.mount.new.flash) (g.F.Flash.state c.write_table.new.flash) c.write_table.ensures.counts
     (c.in_default.ensures.repaired tells plans ts stand (inr (has_risen (g.F.Flash.state c.args.flash.now) (g.F.Flash.state c.mount.new.flash), at_rest, watched (g.F.Flash.state c.args.flash.now) (g.F.Flash.state c.mount.new.flash) at_rest tells on calm)) page lt)
+
+pub returns-in-Ok-clause-goes : goal.returns-in-Ok-clause-goes
+returns-in-Ok-clause-goes g c = goes-then _ _ _ c.mount.ensures.goes (OnlyReads-goes _ _ c.write_table.ensures.counts)
+
+pub returns-in-Err-write_table-clause-goes : goal.returns-in-Err-write_table-clause-goes
+returns-in-Err-write_table-clause-goes g c = goes-then _ _ _ c.mount.ensures.goes (OnlyReads-goes _ _ c.write_table.ensures.counts)
+
+pub returns-in-Err-clause-over : goal.returns-in-Err-clause-over
+returns-in-Err-clause-over g c =
+    let e = c.mount.ensures in
+    let mounts : MountsOver c.args.tables.now.entries.items c.mount.new.self.entries.items (g.F.Flash.state c.args.flash.now) c.mount.result (g.F.Flash.state c.mount.new.flash) =
+    record { found = e.found; refused = e.refused; stops = e.stops; cause = e.cause; running = e.running; none = e.none; power = e.power; as_many = e.as_many; names = e.names; same = e.same; repairs = e.repairs; outside = e.outside } in
+    refuses-over _ _ _ _ c.mount.result mounts c.mount_status.result c.args.at c.in-Err.bad c.in-Err.is c.mount_status.ensures
+
+pub returns-in-Ok-clause-over : goal.returns-in-Ok-clause-over
+returns-in-Ok-clause-over g c =
+    let e = c.mount.ensures in
+    let mounts : MountsOver c.args.tables.now.entries.items c.mount.new.self.entries.items (g.F.Flash.state c.args.flash.now) c.mount.result (g.F.Flash.state c.mount.new.flash) =
+    record { found = e.found; refused = e.refused; stops = e.stops; cause = e.cause; running = e.running; none = e.none; power = e.power; as_many = e.as_many; names = e.names; same = e.same; repairs = e.repairs; outside = e.outside } in
+    reads-over _ _ _ _ c.mount.result mounts Done c.args.at (g.F.Flash.state c.write_table.new.flash) tt c.in_default.is c.write_table.ensures.counts (λ table is. absurd (cc is))
+
+pub returns-in-Err-write_table-clause-over : goal.returns-in-Err-write_table-clause-over
+returns-in-Err-write_table-clause-over g c =
+    let e = c.mount.ensures in
+    let mounts : MountsOver c.args.tables.now.entries.items c.mount.new.self.entries.items (g.F.Flash.state c.args.flash.now) c.mount.result (g.F.Flash.state c.mount.new.flash) =
+    record { found = e.found; refused = e.refused; stops = e.stops; cause = e.cause; running = e.running; none = e.none; power = e.power; as_many = e.as_many; names = e.names; same = e.same; repairs = e.repairs; outside = e.outside } in
+    let here : slice_get c.mount.new.self.entries.items c.args.at ≡ Some c.index.result.now =
+    item-there c.mount.new.self.entries.items (length c.mount.new.self.entries.items) c.args.at c.index.result.now refl (omega (arith, c.requires.at, c.mount.ensures.as_many)) c.index.ensures in
+    reads-over _ _ _ _ c.mount.result mounts c.status_of.result c.args.at (g.F.Flash.state c.write_table.new.flash) tt c.in_default.is c.write_table.ensures.counts
+    (λ table is. bad-table c.mount.new.self.entries.items c.args.at c.index.result.now c.table-table.result.now (g.F.Flash.state c.mount.new.flash) c.in-Err-write_table.fault c.status_of.result table here c.table-table.ensures c.status_of.ensures is c.in-Err-write_table.ensures.bad)

@@ -1,4 +1,4 @@
-use Rattle.std.proofs.Common.{◌≡◌, List, ℕ, ◌∙◌, ap, subst}
+use Rattle.std.proofs.Common.{◌≡◌, true, List, ℕ, ◌∙◌, ap, subst}
 use Rattle.std.proofs.lemmas.Result.{err_from_is_err_and}
 use Rattle.fl_base.specs.Causes.{Appends, AppendsFront}
 use Rattle.fl_csv.specs.Text.{entry_text}
@@ -11,6 +11,7 @@ use Rattle.fl_export.specs.Records.{told_of_found, field_of}
 use Rattle.fl_export.specs.Text.{said_of}
 use Rattle.fl_export.proofs.Lines.{writes-none, line-good}
 use Rattle.fl_export.proofs.Records.{blobs-as, line-is}
+use Rattle.fl_export.proofs.Unread.{bad-line}
 use Rattle.fl_export.proofs.record.write_row.Goals as goal
 
 pub returns-in_err-found-clause-writes : goal.returns-in_err-found-clause-writes
@@ -31,6 +32,16 @@ returns-in_err-write_record-clause-writes g c = λ first plan t i entry tells st
       line-good c.in_err-write_record.field-0.0,
       subst (λ (l : List ℕ). AppendsFront (g.K.Sink.written c.args.out.now) (g.K.Sink.written c.write_record.new.out) l) line c.in_err-write_record.ensures.text,
     )
+
+pub returns-in_err-found-clause-bad : goal.returns-in_err-found-clause-bad
+returns-in_err-found-clause-bad g c =
+    let p = err_from_is_err_and c.from_residual.result c.from_residual.ensures.1 in
+    rw (p.1, p.2) c.in_err-found.ensures.bad
+
+pub returns-in_err-write_record-clause-bad : goal.returns-in_err-write_record-clause-bad
+returns-in_err-write_record-clause-bad g c =
+    let p = err_from_is_err_and c.from_residual-in_err-write_record.result c.from_residual-in_err-write_record.ensures.1 in
+    rw (p.1, p.2) (bad-line c.in_err-write_record.field-0.0 (λ bad. has_blobs c.args.table.now ≡ true))
 
 pub returns-clause-writes : goal.returns-clause-writes
 returns-clause-writes g c = λ first plan t i entry tells stands here row_is.

@@ -1,13 +1,17 @@
-use Rattle.std.proofs.Common.{◌≡◌, true, false, Ok, Err, refl, sym, ◌∙◌, subst, arith}
+use Rattle.std.proofs.Common.{◌≡◌, true, false, inl, inr, Ok, Err, refl, sym, ◌∙◌, ap, subst, arith}
 use Rattle.std.proofs.lemmas.Result.{err_from_is_err_and}
+use Rattle.std.specs.Borrow.{Bor}
 use Rattle.fl_cursor.specs.Cursor.{table_of, present_of, has_ended, IfBad, MayBeBad}
 use Rattle.fl_cursor.specs.Going.{Goes, Fails}
 use Rattle.fl_cursor.proofs.StepsOfRows.{steps-after}
 use Rattle.fl_cursor.proofs.Whole.{keeps-then}
-use Rattle.fl_page.specs.Contents.{Contents, contents_of}
-use Rattle.fl_page.proofs.ReadsInTurn.{OnlyReads-same, OnlyReads-then, IsCaused-later}
+use Rattle.fl_frame.specs.Contents.{Contents, contents_of}
+use Rattle.fl_page.proofs.ReadsInTurn.{IsCaused-later}
+use Rattle.fl_frame.proofs.ContentsInTurn.{OnlyReads-same, OnlyReads-then}
 use Rattle.fl_schema.specs.Schema.{row_of}
-use Rattle.fl_export.proofs.Unread.{unread-later}
+use Rattle.fl_table.specs.declared.table.Table.{Table}
+use Rattle.fl_export.specs.Writing.{IsBadIn}
+use Rattle.fl_export.proofs.Unread.{unread-later, bad-more, bad-read}
 use Rattle.fl_store.proofs.TablesOnlyRead.{tells-read, lies-read, page-read, stands-read}
 use Rattle.fl_export.proofs.WrittenRecords.{far-none, far-next, far-stopped, far-unread, far-all, row-smaller}
 use Rattle.fl_export.proofs.rows.write_rows.Goals as goal
@@ -47,6 +51,22 @@ returns-in_err-advance-clause-writes g c = λ first plan t entries tells stands 
     let far = inv.far first plan t entries tells stands told left among in
     let steps = steps-after mid new held reads now (Err c.in_err-advance.field-0.0) tt fails bad tt far.ready in
     rw (p.1, p.2) (far-unread plan t entries mid new held (g.K.Sink.written c.args.out.now) (g.K.Sink.written c.rows.out) far (present_of new) e steps)
+
+pub returns-in_err-advance-clause-bad : goal.returns-in_err-advance-clause-bad
+returns-in_err-advance-clause-bad g c =
+    let inv = c.rows.invariant in
+    let e = c.in_err-advance.field-0.0 in
+    let same : table_of c.rows.cursor ≡ c.args.table.now = ap (λ (t : Bor (Table 64 64)). t.now) inv.keeps.table ∙ c.requires.same in
+    let bad : IfBad (MayBeBad (table_of c.rows.cursor) (contents_of (g.F.Flash.state c.args.flash.now))) c.in_err-advance.field-0.0 =
+    subst (λ (k : Contents). IfBad (MayBeBad (table_of c.rows.cursor) k) c.in_err-advance.field-0.0) inv.counts.contents c.in_err-advance.ensures.bad_page in
+    let p = err_from_is_err_and c.from_residual.result c.from_residual.ensures.1 in
+    rw (p.1, p.2) (bad-read e (MayBeBad (table_of c.rows.cursor) (contents_of (g.F.Flash.state c.args.flash.now))) (IsBadIn c.args.table.now (contents_of (g.F.Flash.state c.args.flash.now)))
+    (λ b h. inl (subst (λ (t : Table 64 64). MayBeBad t (contents_of (g.F.Flash.state c.args.flash.now)) b) same h)) bad)
+
+pub returns-in_err-write_row-clause-bad : goal.returns-in_err-write_row-clause-bad
+returns-in_err-write_row-clause-bad g c =
+    let p = err_from_is_err_and c.from_residual-in_err-write_row.result c.from_residual-in_err-write_row.ensures.1 in
+    rw (p.1, p.2) (bad-more c.in_err-write_row.field-0.0 _ (IsBadIn c.args.table.now (contents_of (g.F.Flash.state c.args.flash.now))) (λ b h. inr h) c.in_err-write_row.ensures.bad)
 
 pub write_row-requires-clause-lies : goal.write_row-requires-clause-lies
 write_row-requires-clause-lies g c = lies-read (g.F.Flash.state c.args.flash.now) (g.F.Flash.state c.advance.new.flash) (OnlyReads-then _ _ _ c.rows.invariant.counts c.advance.ensures.reads_only) c.args.table.now c.requires.lies

@@ -5,7 +5,7 @@ use Rattle.fl_model.specs.Record.{Plan}
 use Rattle.fl_model.specs.Row.{stored_row}
 use Rattle.fl_model.specs.Table as model
 use Rattle.fl_model.specs.Table.{Entry}
-use Rattle.fl_page.specs.Contents.{contents_of, OnlyReads}
+use Rattle.fl_frame.specs.Contents.{contents_of, OnlyReads}
 use Rattle.fl_table.specs.Standing.{Stands}
 use Rattle.fl_export.specs.Text.{AreAmong}
 use Rattle.fl_export.proofs.WrittenRecords.{room, SoFar}

@@ -1,5 +1,6 @@
 use Rattle.std.proofs.Common.{◌≡◌, ◌<◌, ◌≤◌, inl, inr, rules, List, length, refl, sym, ◌∙◌, ap, subst, arith}
 use Rattle.std.proofs.lemmas.Option.{slice_get_within}
+use Rattle.fl_store.proofs.Unarmed.{opened-unarmed}
 use Rattle.fl_image.proofs.Made.{made-by}
 use Rattle.fl_model.specs.Record.{Plan}
 use Rattle.fl_store.specs.FoundTable.{FindsNone}
@@ -7,11 +8,13 @@ use Rattle.fl_store.specs.Tables.{IsNamed}
 use Rattle.fl_store.specs.declared.tables.Tables.{Tables}
 use Rattle.fl_store.proofs.FoundTables.{found-holds}
 use Rattle.fl_store.proofs.CallsInTurn.{rose-back}
+use Rattle.fl_store.proofs.Jobs.{job-over, unopened}
 use Rattle.fl_store.proofs.Named.{image-with}
 use Rattle.fl_store.proofs.Opened.{looks-keeps, keeps-then, same-lines}
 use Rattle.fl_store.proofs.ImageRepairs.{others-after, others-still}
 use Rattle.fl_store.proofs.Worked.{worked-by, worked-keeps, worked-others, worked-rose}
 use Rattle.fl_import.specs.Images.{FormsAt, IsOfMounted, told_of}
+use Rattle.fl_import.specs.Over.{ImportsOver}
 use Rattle.fl_import.specs.Taking.{EndedOver}
 use Rattle.fl_import.proofs.AllLines.{as-plan}
 use Rattle.fl_import.proofs.ImageEnds.{early-ends, early-fits, early-undone, ends-seen, fits-table, form-own, form-then, not-early}
@@ -62,6 +65,9 @@ returns-in-Err-clause-write g c = rw c.of.ensures (λ is. absurd (subst (FindsNo
 pub returns-in-Err-clause-keeps : goal.returns-in-Err-clause-keeps
 returns-in-Err-clause-keeps g c = looks-keeps _ _ c.in-Err.ensures.looks
 
+pub returns-in-Err-clause-over : goal.returns-in-Err-clause-over
+returns-in-Err-clause-over g c = rw c.of.ensures (inl (unopened (g.M.Media.state c.args.media.now) (g.M.Media.state c.begin.new.media) c.args.name c.in-Err.status c.in-Err.ensures.none, c.in-Err.ensures.looks))
+
 -- ---- it was found, and imported into
 
 pub import_on-end-requires-clause-room : goal.import_on-end-requires-clause-room
@@ -71,6 +77,9 @@ pub import_on-end-requires-clause-at : goal.import_on-end-requires-clause-at
 import_on-end-requires-clause-at g c =
     let named = c.in-Ok.ensures.table.named in
     subst (λ (t : Tables). c.in-Ok.begun.found.at < length t.entries.items) (sym c.over-flash.ensures.tables) (slice_get_within c.in-Ok.begun.found.layout.tables.entries.items c.in-Ok.begun.found.at named.entry named.here)
+
+pub import_on-end-requires-clause-unarmed : goal.import_on-end-requires-clause-unarmed
+import_on-end-requires-clause-unarmed g c = opened-unarmed _ _ _ c.over-flash.ensures.opened
 
 pub import_on-end-requires-clause-few : goal.import_on-end-requires-clause-few
 import_on-end-requires-clause-few g c = subst (λ (t : Tables). length t.entries.items ≤ 4) (sym c.over-flash.ensures.tables) c.in-Ok.ensures.table.few
@@ -155,3 +164,9 @@ pub returns-clause-keeps : goal.returns-clause-keeps
 returns-clause-keeps g c =
     let e : g.M.Media.state c.media-1.given.0 ≡ g.M.Media.state c.close-media.result.now = search rules in
     keeps-then _ _ _ c.in-Ok.ensures.looks (worked-keeps _ _ _ _ _ (worked-by c.over-flash.ensures.opened c.import_on-end.ensures.goes (e ∙ c.close-media.ensures.state)))
+
+pub returns-clause-over : goal.returns-clause-over
+returns-clause-over g c =
+    let e : g.M.Media.state c.media-1.given.0 ≡ g.M.Media.state c.close-media.result.now = search rules in
+    inr (job-over c.args.name (g.M.Media.state c.args.media.now) (g.M.Media.state c.begin.new.media) _ c.in-Ok.begun.found _ _ _ (ImportsOver c.import_on-end.result.status)
+    c.in-Ok.ensures.table c.in-Ok.ensures.looks c.over-flash.ensures.tables c.over-flash.ensures.opened c.import_on-end.ensures.goes (e ∙ c.close-media.ensures.state) c.import_on-end.ensures.over)

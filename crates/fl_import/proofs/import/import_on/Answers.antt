@@ -1,13 +1,15 @@
 use Rattle.std.proofs.Common.{◌≡◌, inr, true, false, is_some, IsTrue, IfSome, Some, length, refl, sym, ◌∙◌, subst, arith}
 use Rattle.std.specs.List.{slice_get}
 use Rattle.std.proofs.lemmas.Option.{slice_get_within}
+use Rattle.fl_store.proofs.Unarmed.{unarmed-then}
+use Rattle.fl_frame.proofs.CallsInTurn.{goes-then}
 use Rattle.fl_store.specs.Store.{at_rest}
 use Rattle.fl_store.proofs.TableByName.{stands-there}
 use Rattle.fl_store.proofs.Risen.{has_risen, watched}
 use Rattle.fl_store.proofs.Unmounted as mount
 use Rattle.fl_image.specs.declared.status.ToolStatus.TheVariants.{Device, BadInput}
 use Rattle.fl_store.specs.Tables.{first_of}
-use Rattle.fl_store.proofs.CallsInTurn.{goes-on, rose-back}
+use Rattle.fl_store.proofs.CallsInTurn.{rose-back}
 use Rattle.fl_store.proofs.TablesChanged.{item-there}
 use Rattle.fl_import.specs.Images.{EndsOn, HasCauses, told_of}
 use Rattle.fl_import.specs.Taking.{EndedOver}
@@ -15,6 +17,10 @@ use Rattle.fl_store.proofs.Changed.{own, own-works}
 use Rattle.fl_import.proofs.FlashEnds.{unmounted, imported}
 use Rattle.fl_import.proofs.ImageEnds.{as-end, mount-causes, mount-ended, mount-unread, of-mounted, table-bad, table-ended}
 use Rattle.fl_store.proofs.Others.{others-repaired}
+use Rattle.fl_store.specs.MountsOver.{MountsOver}
+use Rattle.fl_store.proofs.Jobs.{own-changes}
+use Rattle.fl_import.specs.Over.{ImportsOver}
+use Rattle.fl_import.proofs.OverBytes.{puts-over, refuses-over}
 use Rattle.fl_import.proofs.import.import_on.Goals as goal
 
 pub mount_status-requires : goal.mount_status-requires
@@ -41,7 +47,7 @@ returns-in-Err-clause-causes g c =
     let source = g.S.Source.faults c.args.input.now in
     let sink = g.K.Sink.faults c.args.out.now in
     as-end (λ end. HasCauses (length c.args.tables.now.entries.items) f.media.faults m.media.faults source source sink sink end.kept end.status) c.of.result _ _ c.of.ensures c.mount_status.ensures
-    (mount-causes f m (length c.args.tables.now.entries.items) source sink c.in-Err.bad.fault c.in-Err.bad.at
+    (mount-causes f m (length c.args.tables.now.entries.items) source sink c.in-Err.bad.fault c.in-Err.bad.at c.requires.unarmed
     (omega (arith, slice_get_within c.mount.new.self.entries.items c.in-Err.bad.at c.in-Err.ensures.stops.entry c.in-Err.ensures.stops.here, c.mount.ensures.as_many)) c.in-Err.ensures.cause)
 
 pub returns-in-Err-clause-unread : goal.returns-in-Err-clause-unread
@@ -55,6 +61,9 @@ import_table-status-requires-clause-lies g c =
     let here : slice_get c.mount.new.self.entries.items c.args.at ≡ Some c.index_mut.result.now =
     item-there c.mount.new.self.entries.items (length c.mount.new.self.entries.items) c.args.at c.index_mut.result.now refl (omega (arith, c.requires.at, c.mount.ensures.as_many)) c.index_mut.ensures.value in
     c.mount.ensures.lie c.args.at c.index_mut.result.now here
+
+pub import_table-status-requires-clause-unarmed : goal.import_table-status-requires-clause-unarmed
+import_table-status-requires-clause-unarmed g c = unarmed-then _ _ c.requires.unarmed c.mount.ensures.goes
 
 pub returns-clause-ends : goal.returns-clause-ends
 returns-clause-ends g c = λ plans ts name text tells on calm stand named forms is.
@@ -99,7 +108,7 @@ pub returns-clause-unread : goal.returns-clause-unread
 returns-clause-unread g c = λ table is. absurd (table-bad c.import_table-status.result table c.import_table-status.ensures.statuses is)
 
 pub returns-clause-goes : goal.returns-clause-goes
-returns-clause-goes g c = goes-on _ _ _ c.mount.ensures.goes c.import_table-status.ensures.goes
+returns-clause-goes g c = goes-then _ _ _ c.mount.ensures.goes c.import_table-status.ensures.goes
 
 pub returns-in-Err-clause-repairs : goal.returns-in-Err-clause-repairs
 returns-in-Err-clause-repairs g c = λ plans ts name tells on calm stand named well.
@@ -132,3 +141,30 @@ returns-clause-form g c = refl
 
 pub returns-clause-formed : goal.returns-clause-formed
 returns-clause-formed g c = λ line is. refl
+
+pub returns-in-Err-clause-over : goal.returns-in-Err-clause-over
+returns-in-Err-clause-over g c =
+    let e = c.mount.ensures in
+    let entries = c.args.tables.now.entries.items in
+    let now = c.mount.new.self.entries.items in
+    let f = g.F.Flash.state c.args.flash.now in
+    let m = g.F.Flash.state c.mount.new.flash in
+    let mounts : MountsOver c.args.tables.now.entries.items c.mount.new.self.entries.items (g.F.Flash.state c.args.flash.now) c.mount.result (g.F.Flash.state c.mount.new.flash) =
+    record { found = e.found; refused = e.refused; stops = e.stops; cause = e.cause; running = e.running; none = e.none; power = e.power; as_many = e.as_many; names = e.names; same = e.same; repairs = e.repairs; outside = e.outside } in
+    as-end (λ end. ImportsOver end.status c.args.at c.args.tables.now.entries.items (g.F.Flash.state c.args.flash.now) (g.F.Flash.state c.mount.new.flash)) c.of.result _ _ c.of.ensures c.mount_status.ensures
+    (refuses-over entries now f m c.mount.result mounts c.args.at c.in-Err.bad c.in-Err.is)
+
+pub returns-clause-over : goal.returns-clause-over
+returns-clause-over g c =
+    let e = c.mount.ensures in
+    let entries = c.args.tables.now.entries.items in
+    let now = c.mount.new.self.entries.items in
+    let f = g.F.Flash.state c.args.flash.now in
+    let m = g.F.Flash.state c.mount.new.flash in
+    let h = g.F.Flash.state c.import_table-status.new.flash in
+    let here : slice_get c.mount.new.self.entries.items c.args.at ≡ Some c.index_mut.result.now =
+    item-there c.mount.new.self.entries.items (length c.mount.new.self.entries.items) c.args.at c.index_mut.result.now refl (omega (arith, c.requires.at, c.mount.ensures.as_many)) c.index_mut.ensures.value in
+    let mounts : MountsOver c.args.tables.now.entries.items c.mount.new.self.entries.items (g.F.Flash.state c.args.flash.now) c.mount.result (g.F.Flash.state c.mount.new.flash) =
+    record { found = e.found; refused = e.refused; stops = e.stops; cause = e.cause; running = e.running; none = e.none; power = e.power; as_many = e.as_many; names = e.names; same = e.same; repairs = e.repairs; outside = e.outside } in
+    puts-over entries now f m c.mount.result mounts c.import_table-status.result c.args.at h tt c.in_default.is e.goes (λ table is. table-bad c.import_table-status.result table c.import_table-status.ensures.statuses is)
+    (own-changes entries now c.args.at c.index_mut.result.now m h e.same c.requires.at here c.import_table-status.ensures.outside)

@@ -3,9 +3,9 @@ use Rattle.fl_csv.specs.Lines.{lacks_blob, line_put}
 use Rattle.fl_csv.specs.Views.{put_view}
 use Rattle.fl_image.specs.declared.status.ToolStatus.TheVariants.{OutWrite, NoMemory, Device}
 use Rattle.fl_import.specs.Lines.{lacks, meaning}
-use Rattle.fl_import.specs.Steps.{IsOfLine, fault_in, is_unread}
+use Rattle.fl_import.specs.Steps.{fault_in, is_unread}
 use Rattle.fl_store.proofs.Works.{works-watched}
-use Rattle.fl_import.proofs.OneLine.{means-either, ends-reason, ends-memory, ends-put, ends-broken, ends-told, put-rose, fault-status, fault-unwritten, not-device, one-status, told-device}
+use Rattle.fl_import.proofs.OneLine.{means-either, ends-reason, ends-memory, ends-put, ends-broken, ends-told, put-rose, not-device, not-written, one-status, told-device}
 use Rattle.fl_import.proofs.line.put_line.Goals as goal
 
 pub returns-in-Err-clause-ends : goal.returns-in-Err-clause-ends
@@ -29,19 +29,15 @@ returns-in-Some-clause-ends g c = λ first plan t is works.
     let f = g.F.Flash.state c.args.flash.now in
     let h = g.F.Flash.state c.put_record-outcome.new.flash in
     let e = c.put_record-outcome.ensures in
-    rw c.flash_status.ensures (ends-broken first plan t c.args.table.now c.put_record-outcome.new.table f h works (lacks c.args.gone c.args.form.columns c.args.form.blobs c.args.line.now) c.args.number (g.K.Sink.written c.args.out.now) (g.K.Sink.written c.args.out.now) (meaning c.args.gone c.args.form.columns c.args.form.blobs c.args.line.now) (put_view c.in-Ok.put) means
-    c.put_record-outcome.result c.in-Some.fault (sym c.fault_in.ensures ∙ c.in-Some.is) refl (e.ends first plan t _ works.device (works-watched first plan t c.args.table.now c.put_record-outcome.new.table f h works) works.stands))
+    (ends-broken first plan t c.args.table.now c.put_record-outcome.new.table f h works (lacks c.args.gone c.args.form.columns c.args.form.blobs c.args.line.now) c.args.number (g.K.Sink.written c.args.out.now) (g.K.Sink.written c.args.out.now) (meaning c.args.gone c.args.form.columns c.args.form.blobs c.args.line.now) (put_view c.in-Ok.put) means
+    c.put_record-outcome.result c.in-Some.field-0 (sym c.fault_in.ensures ∙ c.in-Some.is) refl (e.ends first plan t _ works.device (works-watched first plan t c.args.table.now c.put_record-outcome.new.table f h works) works.stands))
 
 pub returns-in-Some-clause-device : goal.returns-in-Some-clause-device
 returns-in-Some-clause-device g c = λ is.
-    put-rose (g.F.Flash.state c.args.flash.now) (g.F.Flash.state c.put_record-outcome.new.flash) c.put_record-outcome.result c.in-Some.fault (sym c.fault_in.ensures ∙ c.in-Some.is) c.put_record-outcome.ensures.cause
-    (sym c.flash_status.ensures ∙ one-status c.flash_status.result Device is)
+    put-rose (g.F.Flash.state c.args.flash.now) (g.F.Flash.state c.put_record-outcome.new.flash) c.put_record-outcome.result c.in-Some.field-0 c.requires.unarmed (sym c.fault_in.ensures ∙ c.in-Some.is) c.put_record-outcome.ensures.cause
 
 pub returns-in-Some-clause-write : goal.returns-in-Some-clause-write
-returns-in-Some-clause-write g c = λ is. fault-unwritten c.in-Some.fault (sym c.flash_status.ensures ∙ one-status c.flash_status.result OutWrite is)
-
-pub returns-in-Some-clause-statuses : goal.returns-in-Some-clause-statuses
-returns-in-Some-clause-statuses g c = subst IsOfLine (sym c.flash_status.ensures) (fault-status c.in-Some.fault)
+returns-in-Some-clause-write g c = λ is. absurd (not-written (one-status Device OutWrite is))
 
 pub returns-clause-device : goal.returns-clause-device
 returns-clause-device g c = λ is. told-device c.tell_refusal.result (sym c.refused-in-Err-outcome.ensures ∙ is)

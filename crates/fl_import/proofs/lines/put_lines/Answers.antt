@@ -1,8 +1,10 @@
 use Rattle.std.proofs.Common.{List, ◌+◌, ℕ, IsTrue, Err, refl, sym, subst, arith, le_trans}
 use Rattle.std.proofs.lemmas.Result.{err_from_is_err_and}
 use Rattle.fl_flash.specs.Flash.{page_at}
+use Rattle.fl_store.proofs.Unarmed.{unarmed-then}
+use Rattle.fl_frame.proofs.CallsInTurn.{goes-same, goes-then}
 use Rattle.fl_store.proofs.Outsides.{outside-then}
-use Rattle.fl_store.proofs.CallsInTurn.{goes-same, goes-on, same-plan, same-on}
+use Rattle.fl_store.proofs.CallsInTurn.{same-plan, same-on}
 use Rattle.fl_import.specs.Lines.{lacks, meaning}
 use Rattle.fl_import.specs.Steps.{LineEnds}
 use Rattle.fl_import.proofs.AllLines.{counts-on, so_far-first, far-next, far-stops, far-done, far-ended, ended-done, ended-next, ended-stops}
@@ -69,6 +71,9 @@ returns-in_err-end-clause-ends g c = λ text names first plan t takes is works.
     rw (p.1, p.2) (far-stops c.args.gone c.lines.taken c.args.form text c.args.table.now (g.F.Flash.state c.args.flash.now) c.lines.table (g.F.Flash.state c.lines.flash) (g.K.Sink.written c.args.out.now) (g.K.Sink.written c.lines.out) c.lines.lines c.next_line.new.lines (g.S.Source.left c.lines.input) (g.S.Source.left c.next_line.new.input) _ _
     far c.put_line.new.table (g.F.Flash.state c.put_line.new.flash) (g.K.Sink.written c.put_line.new.out) c.in_err-end.field-0.0 (rw c.if-not-branch.false at c.in_ok-next_line.ensures) (λ first' plan' t' is' works'. subst (λ (l : List ℕ). LineEnds (lacks c.args.gone c.args.form.columns c.args.form.blobs l) first' plan' t' (c.lines.taken.line + 1) (meaning c.args.gone c.args.form.columns c.args.form.blobs l) c.put_line.new.table (g.F.Flash.state c.put_line.new.flash) (g.K.Sink.written c.lines.out) (g.K.Sink.written c.put_line.new.out) (Err c.in_err-end.field-0.0)) c.line.ensures (c.in_err-end.ensures.ends first' plan' t' is' works')) first plan t is works)
 
+pub put_line-requires-clause-unarmed : goal.put_line-requires-clause-unarmed
+put_line-requires-clause-unarmed g c = unarmed-then _ _ c.requires.unarmed c.lines.invariant.goes
+
 pub after_end-requires : goal.after_end-requires
 after_end-requires g c =
     let i = c.lines.invariant in
@@ -84,7 +89,7 @@ lines-preserved g c =
     let fewer = n.advances.shrinks n.next.0 in
     let counts = counts-on c.lines.taken c.in_ok-end.end c.after_end.result c.after_end.ensures i.rows i.gone in
     record {
-      goes = goes-on _ _ _ i.goes p.goes;
+      goes = goes-then _ _ _ i.goes p.goes;
       same = same-on _ _ _ i.same p.same;
       lies = p.lies;
       outside = λ tells. outside-then c.args.table.now c.lines.table (page_at (g.F.Flash.state c.args.flash.now)) (page_at (g.F.Flash.state c.lines.flash)) (page_at (g.F.Flash.state c.put_line.new.flash)) i.same (i.outside tells) (p.outside (subst IsTrue (sym i.goes.tells) tells));
@@ -97,3 +102,6 @@ lines-preserved g c =
       far = λ text names takes. far-next c.args.gone c.lines.taken c.args.form text c.args.table.now (g.F.Flash.state c.args.flash.now) c.lines.table (g.F.Flash.state c.lines.flash) (g.K.Sink.written c.args.out.now) (g.K.Sink.written c.lines.out) c.lines.lines c.next_line.new.lines (g.S.Source.left c.lines.input) (g.S.Source.left c.next_line.new.input) _ _
           (i.far text names takes) c.put_line.new.table (g.F.Flash.state c.put_line.new.flash) (g.K.Sink.written c.put_line.new.out) c.in_ok-end.end c.after_end.result n c.after_end.ensures counts.0 (rw c.line.ensures at c.in_ok-end.ensures.ends);
     }
+
+pub returns-in_err-end-clause-goes : goal.returns-in_err-end-clause-goes
+returns-in_err-end-clause-goes g c = goes-then _ _ _ c.lines.invariant.goes c.put_line.ensures.goes

@@ -1,8 +1,10 @@
 use Rattle.std.proofs.Common.{◌≡◌, false, IsTrue, Err, sym, ◌∙◌, subst}
 use Rattle.fl_flash.specs.Flash.{page_at}
+use Rattle.fl_store.proofs.Unarmed.{unarmed-then}
+use Rattle.fl_frame.proofs.CallsInTurn.{goes-then}
 use Rattle.fl_image.specs.declared.status.ToolStatus.TheVariants.{Device}
 use Rattle.fl_store.proofs.Outsides.{outside-then}
-use Rattle.fl_store.proofs.CallsInTurn.{goes-on, rose-back, same-on}
+use Rattle.fl_store.proofs.CallsInTurn.{rose-back, same-on}
 use Rattle.fl_import.specs.Steps.{IsOfTable, is_broken}
 use Rattle.fl_import.proofs.LastFlush.{failed-ends, broken-is, flush-broken, flush-ended, flush-of, flush-read, flush-rose, flush-write, lines, all-ends, all-ended, all-of, all-read, all-rose, all-write}
 use Rattle.fl_store.proofs.Works.{works-watched}
@@ -60,7 +62,7 @@ returns-in-Ok-clause-outside g c = λ tells.
     (c.flush.ensures.outside (subst IsTrue (sym c.take_lines-all.ensures.goes.tells) tells))
 
 pub returns-in-Ok-clause-goes : goal.returns-in-Ok-clause-goes
-returns-in-Ok-clause-goes g c = goes-on _ _ _ c.take_lines-all.ensures.goes c.flush.ensures.goes
+returns-in-Ok-clause-goes g c = goes-then _ _ _ c.take_lines-all.ensures.goes c.flush.ensures.goes
 
 pub returns-in-Ok-clause-same : goal.returns-in-Ok-clause-same
 returns-in-Ok-clause-same g c = same-on _ _ _ c.take_lines-all.ensures.same c.flush.ensures.same
@@ -85,7 +87,7 @@ returns-in-Err-clause-ended g c = λ text is.
 pub returns-in-Err-clause-device : goal.returns-in-Err-clause-device
 returns-in-Err-clause-device g c = λ is.
     rose-back (g.F.Flash.state c.args.flash.now).media.faults (g.F.Flash.state c.take_lines-all.new.flash).media.faults (g.F.Flash.state c.flush.new.flash).media.faults c.take_lines-all.ensures.goes.faults
-    (flush-rose (g.F.Flash.state c.take_lines-all.new.flash) (g.F.Flash.state c.flush.new.flash) c.in-Err.fault (rw c.in-Err.is at c.flush.ensures.cause) (sym c.flush_status.ensures ∙ is))
+    (flush-rose (g.F.Flash.state c.take_lines-all.new.flash) (g.F.Flash.state c.flush.new.flash) c.in-Err.fault (unarmed-then _ _ c.requires.unarmed c.take_lines-all.ensures.goes) (rw c.in-Err.is at c.flush.ensures.cause) (sym c.flush_status.ensures ∙ is))
 
 pub returns-in-Err-clause-read : goal.returns-in-Err-clause-read
 returns-in-Err-clause-read g c = λ is. absurd (flush-read c.in-Err.fault (sym c.flush_status.ensures ∙ is))
@@ -102,7 +104,7 @@ returns-in-Err-clause-outside g c = λ tells.
     (c.flush.ensures.outside (subst IsTrue (sym c.take_lines-all.ensures.goes.tells) tells))
 
 pub returns-in-Err-clause-goes : goal.returns-in-Err-clause-goes
-returns-in-Err-clause-goes g c = goes-on _ _ _ c.take_lines-all.ensures.goes c.flush.ensures.goes
+returns-in-Err-clause-goes g c = goes-then _ _ _ c.take_lines-all.ensures.goes c.flush.ensures.goes
 
 pub returns-in-Err-clause-same : goal.returns-in-Err-clause-same
 returns-in-Err-clause-same g c = same-on _ _ _ c.take_lines-all.ensures.same c.flush.ensures.same

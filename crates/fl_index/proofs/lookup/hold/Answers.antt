@@ -1,5 +1,6 @@
 use Rattle.fl_ring.proofs.Exists.{lies_exists}
-use Rattle.fl_page.proofs.ReadsInTurn.{OnlyReads-read, IsCaused-read}
+use Rattle.fl_page.proofs.ReadsInTurn.{IsCaused-read}
+use Rattle.fl_frame.proofs.ContentsInTurn.{OnlyReads-read}
 use Rattle.fl_index.proofs.lookup.hold.Goals as goal
 
 pub read-requires-clause-exists : goal.read-requires-clause-exists

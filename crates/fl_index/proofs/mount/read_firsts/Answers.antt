@@ -1,9 +1,9 @@
 use Rattle.std.proofs.Common.{◌≡◌, ◌%◌, length, length-set, ◌+◌, ◌-◌, arith, ◌∙◌, ap, subst}
 use Rattle.fl_flash.specs.Flash.{page_at}
-use Rattle.fl_ring.specs.Looking.{OnlyReads}
+use Rattle.fl_frame.specs.Reads.{OnlyReads}
 use Rattle.fl_ring.specs.Place.{oldest_of}
 use Rattle.fl_ring.proofs.Exists.{page_exists}
-use Rattle.fl_ring.proofs.ReadsInTurn.{more_reads, told_still, same_page}
+use Rattle.fl_frame.proofs.ReadsInTurn.{more_reads, told_still, same_page}
 use Rattle.fl_index.specs.Headers.{kept_page}
 use Rattle.fl_index.specs.Page.{first_on}
 use Rattle.fl_index.proofs.HeaderPages.{remembered-more}

@@ -1,5 +1,5 @@
 use Rattle.std.proofs.Common.{◌≡◌, ◌≤◌, ◌-◌, None, length, IsTrue}
-use Rattle.fl_ring.specs.Looking.{OnlyReads}
+use Rattle.fl_frame.specs.Reads.{OnlyReads}
 use Rattle.fl_ring.specs.Place.{oldest_of}
 use Rattle.fl_index.specs.Headers.{AreRemembered, kept_page}
 use Rattle.fl_index.proofs.mount.read_firsts.Given as goal

@@ -4,7 +4,8 @@ use Rattle.fl_mark.specs.Mark.{state_of_page}
 use Rattle.fl_mark.specs.declared.page_state.PageState.{PageState}
 use Rattle.fl_ring.specs.Place.{shape_of}
 use Rattle.fl_ring.specs.Ring.{room}
-use Rattle.fl_ring.proofs.ReadsInTurn.{more_reads, same_page, same_state, told_still}
+use Rattle.fl_ring.proofs.ReadsInTurn.{same_state}
+use Rattle.fl_frame.proofs.ReadsInTurn.{more_reads, same_page, told_still}
 use Rattle.fl_map.specs.Pages.{states_to, with_page}
 use Rattle.fl_map.specs.declared.note.Figures.{Figures}
 use Rattle.fl_map.proofs.Pages.{states_next, figures_next, is_there, reads_within}

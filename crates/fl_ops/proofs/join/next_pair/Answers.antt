@@ -1,8 +1,9 @@
 use Rattle.std.proofs.Common.{arith, rules, ◌≡◌, ◌∙◌, ◌≤◌, ◌+◌, Some}
 use Rattle.std.proofs.lemmas.Result.{err_from_is_err_and}
-use Rattle.fl_page.specs.Contents.{contents_of}
+use Rattle.fl_frame.specs.Contents.{contents_of}
 use Rattle.fl_page.specs.Steps.{Ascends}
-use Rattle.fl_page.proofs.ReadsInTurn.{OnlyReads-then, IsCaused-later}
+use Rattle.fl_page.proofs.ReadsInTurn.{IsCaused-later}
+use Rattle.fl_frame.proofs.ContentsInTurn.{OnlyReads-then}
 use Rattle.fl_ops.specs.Pairs.{pairs_from}
 use Rattle.fl_ops.proofs.ContinuedRows.{Continues-then}
 use Rattle.fl_ops.proofs.Joins.{pair-equal}

@@ -1,6 +1,6 @@
 use Rattle.std.proofs.Common.{◌≡◌, ◌≤◌, ◌+◌, true, Some}
 use Rattle.fl_model.specs.Operators.{key_join}
-use Rattle.fl_page.specs.Contents.{contents_of, OnlyReads}
+use Rattle.fl_frame.specs.Contents.{contents_of, OnlyReads}
 use Rattle.fl_ops.specs.Columns.{records_of}
 use Rattle.fl_ops.specs.Inputs.{Continues}
 use Rattle.fl_ops.specs.Pairs.{pairs_from, keys_above}

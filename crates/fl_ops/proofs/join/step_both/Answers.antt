@@ -1,7 +1,7 @@
 use Rattle.std.proofs.Common.{rules, ◌≡◌, ◌∷◌}
-use Rattle.fl_page.specs.Contents.{contents_of}
+use Rattle.fl_frame.specs.Contents.{contents_of}
 use Rattle.fl_page.specs.Steps.{Steps}
-use Rattle.fl_page.proofs.ReadsInTurn.{OnlyReads-then}
+use Rattle.fl_frame.proofs.ContentsInTurn.{OnlyReads-then}
 use Rattle.fl_ops.proofs.Calls.{caused-later}
 use Rattle.fl_ops.proofs.Joins.{begin-pairs}
 use Rattle.fl_ops.proofs.join.step_both.Goals as goal

@@ -1,5 +1,5 @@
 use Rattle.std.proofs.Common.{rules, arith, ◌≡◌, ◌<◌, Some}
-use Rattle.fl_page.specs.Contents.{contents_of}
+use Rattle.fl_frame.specs.Contents.{contents_of}
 use Rattle.fl_page.specs.Steps.{Ascends}
 use Rattle.fl_ops.proofs.Joins.{pass-left, pass-right}
 use Rattle.fl_ops.proofs.join.step_lesser.Goals as goal

@@ -1,6 +1,6 @@
 use Rattle.std.proofs.Common.{arith, ◌≡◌, ◌+◌, ◌-◌, ◌/◌, ◌≤◌}
-use Rattle.fl_model.specs.Spline.{bits}
-use Rattle.fl_radix.proofs.Bits.{bits-half, bits-twice, bits-one}
+use Rattle.fl_base.specs.Bits.{bits}
+use Rattle.fl_base.proofs.BitsGrow.{bits-half, bits-twice, bits-one}
 use Rattle.fl_radix.proofs.RisingKnots.{up-to-more, beyond-from}
 use Rattle.fl_radix.proofs.search.knots_up_to.Goals as goal
 

@@ -1,5 +1,5 @@
 use Rattle.std.proofs.Common.{◌-◌, ◌+◌, ◌^◌, ◌<◌, ◌≤◌, min, length}
-use Rattle.fl_model.specs.Spline.{bits}
+use Rattle.fl_base.specs.Bits.{bits}
 use Rattle.fl_radix.specs.Slots.{AreUpTo, AreBeyond}
 use Rattle.fl_radix.proofs.search.knots_up_to.Given as goal
 

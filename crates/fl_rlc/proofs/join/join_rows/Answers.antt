@@ -17,7 +17,7 @@ use Rattle.fl_model.proofs.Lists.{each-at}
 use Rattle.fl_page.specs.Header.{page_count}
 use Rattle.fl_page.specs.Page.{IsGoodPage, rows_in}
 use Rattle.fl_page.specs.View.{page_of, layout_of_page, count_of}
-use Rattle.fl_ring.specs.Step.{IsWatched}
+use Rattle.fl_frame.specs.Watched.{IsWatched}
 use Rattle.fl_table.specs.Look.{layout_in}
 use Rattle.fl_table.specs.Standing.{Stands}
 use Rattle.fl_table.proofs.KeyRows.{length-rows_from}

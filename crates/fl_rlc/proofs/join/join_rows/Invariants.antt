@@ -6,7 +6,7 @@ use Rattle.fl_model.specs.Row.{stored_row}
 use Rattle.fl_model.specs.Table as model
 use Rattle.fl_model.specs.Work.{Device}
 use Rattle.fl_page.specs.Page.{rows_in}
-use Rattle.fl_ring.specs.Step.{IsWatched}
+use Rattle.fl_frame.specs.Watched.{IsWatched}
 use Rattle.fl_table.specs.Look.{layout_in}
 use Rattle.fl_table.specs.Memory.{is_running, is_stopped, pending_in, IsSamePlan, LiesOn}
 use Rattle.fl_table.specs.Standing.{Stands}

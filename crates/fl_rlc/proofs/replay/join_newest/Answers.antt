@@ -4,11 +4,11 @@ use Rattle.fl_model.specs.Bare.{bare, bare_table}
 use Rattle.fl_model.specs.Layout.{committed}
 use Rattle.fl_model.specs.Record.{RowLayout, row_layout}
 use Rattle.fl_page.specs.Page.{IsGoodPage, rows_in}
-use Rattle.fl_ring.specs.Looking.{ReadFails}
+use Rattle.fl_frame.specs.Causes.{ReadFails}
 use Rattle.fl_ring.proofs.Founds.{same_pages}
 use Rattle.fl_table.specs.Look.{layout_in}
 use Rattle.fl_table.proofs.Apart.{stands-pages}
-use Rattle.fl_table.proofs.SealsInTurn.{watched-then}
+use Rattle.fl_frame.proofs.WatchedInTurn.{watched-then}
 use Rattle.fl_table.proofs.Refused.{page-page}
 use Rattle.fl_table.proofs.SealAnswers.{plan-self}
 use Rattle.fl_table.proofs.Sizes.{table-fits}

@@ -2,6 +2,7 @@ use Rattle.std.proofs.Common.{ℕ, ◌+◌, Some, None, inl, inr, IsTrue, refl, 
 use Rattle.std.proofs.lemmas.Result.{err_from_is_err_and}
 use Rattle.std.specs.Prelude.{Option, List}
 use Rattle.fl_flash.specs.Flash.{page_at}
+use Rattle.fl_frame.proofs.CallsInTurn.{goes-then}
 use Rattle.fl_model.specs.Bare.{bare, bare_table}
 use Rattle.fl_model.specs.Mount.{ready, joined}
 use Rattle.fl_model.specs.Record.{blocks_of}
@@ -9,10 +10,9 @@ use Rattle.fl_model.specs.Table.{Table}
 use Rattle.fl_model.specs.Table.{LogRing, shape_of}
 use Rattle.fl_ring.specs.declared.newest.NewestPage.{NewestPage}
 use Rattle.fl_ring.proofs.Founds.{same_pages}
-use Rattle.fl_ring.proofs.ReadsInTurn.{goes_more}
 use Rattle.fl_table.specs.Causes.{IfPage}
 use Rattle.fl_table.specs.Look.{layout_in}
-use Rattle.fl_table.proofs.SealsInTurn.{watched-front, watched-then, cause-later}
+use Rattle.fl_frame.proofs.WatchedInTurn.{watched-first, watched-then, cause-later}
 use Rattle.fl_table.proofs.MountCalls.{pages-cause}
 use Rattle.fl_table.proofs.Outsides.{outside-same}
 use Rattle.fl_table.proofs.SealAnswers.{plan-self, same-then}
@@ -142,7 +142,7 @@ join_newest-joined-requires g c =
 
 pub returns-in_err-joined-clause-goes : goal.returns-in_err-joined-clause-goes
 returns-in_err-joined-clause-goes g c =
-    goes_more (g.F.Flash.state c.args.flash.now) (g.F.Flash.state c.mount.new.flash) (g.F.Flash.state c.join_newest-joined.new.flash) c.in_ok-newest.ensures.beside.goes c.in_err-joined.ensures.reads.goes
+    goes-then (g.F.Flash.state c.args.flash.now) (g.F.Flash.state c.mount.new.flash) (g.F.Flash.state c.join_newest-joined.new.flash) c.in_ok-newest.ensures.beside.goes c.in_err-joined.ensures.reads.goes
 
 pub returns-in_err-joined-clause-lies : goal.returns-in_err-joined-clause-lies
 returns-in_err-joined-clause-lies g c = log-moved c.mount.new.self (g.F.Flash.state c.mount.new.flash) (g.F.Flash.state c.join_newest-joined.new.flash) c.in_err-joined.ensures.reads.goes c.in_ok-newest.ensures.lies
@@ -157,7 +157,7 @@ returns-in_err-joined-clause-ends g c = λ first plan table rose device watched 
     let f2 = g.F.Flash.state c.join_newest-joined.new.flash in
     let k = c.in_ok-newest.ensures in
     let reads = c.in_err-joined.ensures.reads in
-    let m = k.ends (first + blocks_of (bare plan)) plan table rose device (watched-front old f1 f2 rose device watched reads.goes) rests in
+    let m = k.ends (first + blocks_of (bare plan)) plan table rose device (watched-first old f1 f2 rose device watched reads.goes) rests in
     let outside = k.beside.outside watched.told in
     let sizes = pages-size l1 f1 (g.met.F.Flash.reaches c.mount.new.flash) k.lies.geometry k.lies.within in
     let ring = begun-ring t l old first plan table rose device s none rests.planned l1 k.same f1 outside m in
@@ -215,8 +215,8 @@ returns-in_err-joined-clause-limit g c = λ first plan table told rests.
 
 pub returns-in_err-seal_rows-clause-goes : goal.returns-in_err-seal_rows-clause-goes
 returns-in_err-seal_rows-clause-goes g c =
-    goes_more (g.F.Flash.state c.args.flash.now) (g.F.Flash.state c.join_newest-joined.new.flash) (g.F.Flash.state c.seal_rows.new.flash)
-    (goes_more (g.F.Flash.state c.args.flash.now) (g.F.Flash.state c.mount.new.flash) (g.F.Flash.state c.join_newest-joined.new.flash) c.in_ok-newest.ensures.beside.goes c.in_ok-joined.ensures.reads.goes) c.in_err-seal_rows.ensures.goes
+    goes-then (g.F.Flash.state c.args.flash.now) (g.F.Flash.state c.join_newest-joined.new.flash) (g.F.Flash.state c.seal_rows.new.flash)
+    (goes-then (g.F.Flash.state c.args.flash.now) (g.F.Flash.state c.mount.new.flash) (g.F.Flash.state c.join_newest-joined.new.flash) c.in_ok-newest.ensures.beside.goes c.in_ok-joined.ensures.reads.goes) c.in_err-seal_rows.ensures.goes
 
 pub returns-in_err-seal_rows-clause-table_same : goal.returns-in_err-seal_rows-clause-table_same
 returns-in_err-seal_rows-clause-table_same g c = same-then c.args.table.now c.join_newest-joined.new.table c.seal_rows.new.table c.in_ok-joined.ensures.same c.in_err-seal_rows.ensures.same
@@ -224,7 +224,7 @@ returns-in_err-seal_rows-clause-table_same g c = same-then c.args.table.now c.jo
 pub returns-in_err-seal_rows-clause-lies : goal.returns-in_err-seal_rows-clause-lies
 returns-in_err-seal_rows-clause-lies g c =
     log-moved c.mount.new.self (g.F.Flash.state c.mount.new.flash) (g.F.Flash.state c.seal_rows.new.flash)
-    (goes_more (g.F.Flash.state c.mount.new.flash) (g.F.Flash.state c.join_newest-joined.new.flash) (g.F.Flash.state c.seal_rows.new.flash) c.in_ok-joined.ensures.reads.goes c.in_err-seal_rows.ensures.goes) c.in_ok-newest.ensures.lies
+    (goes-then (g.F.Flash.state c.mount.new.flash) (g.F.Flash.state c.join_newest-joined.new.flash) (g.F.Flash.state c.seal_rows.new.flash) c.in_ok-joined.ensures.reads.goes c.in_err-seal_rows.ensures.goes) c.in_ok-newest.ensures.lies
 
 pub returns-in_err-seal_rows-clause-ends : goal.returns-in_err-seal_rows-clause-ends
 returns-in_err-seal_rows-clause-ends g c = λ first plan table rose device watched s none rests.
@@ -237,15 +237,15 @@ returns-in_err-seal_rows-clause-ends g c = λ first plan table rose device watch
     let f3 = g.F.Flash.state c.seal_rows.new.flash in
     let k = c.in_ok-newest.ensures in
     let reads = c.in_ok-joined.ensures.reads in
-    let watched2 = watched-front old f2 f3 rose device watched c.in_err-seal_rows.ensures.goes in
-    let m = k.ends (first + blocks_of (bare plan)) plan table rose device (watched-front old f1 f2 rose device watched2 reads.goes) rests in
+    let watched2 = watched-first old f2 f3 rose device watched c.in_err-seal_rows.ensures.goes in
+    let m = k.ends (first + blocks_of (bare plan)) plan table rose device (watched-first old f1 f2 rose device watched2 reads.goes) rests in
     let outside = k.beside.outside watched.told in
     let sizes = pages-size l1 f1 (g.met.F.Flash.reaches c.mount.new.flash) k.lies.geometry k.lies.within in
     let ring = begun-ring t l old first plan table rose device s none rests.planned l1 k.same f1 outside m in
     let newest = found-some l l1 old f1 (first + blocks_of (bare plan)) plan (ready plan m.now.state) k.same ring sizes watched.told c.in_ok-newest.field-0 k.found c.in-Some.newest c.in-Some.is in
     let joins = c.in_ok-joined.ensures.joins first plan (ready plan m.now.state) rose m.now.device (watched-then old f1 f2 rose device m.now.device watched2 k.beside.goes m.power m.counts)
     (begun-stands t l old first plan table rose device s none rests.planned l1 k.same f1 outside m) (begun-none t l old first plan table rose device s none rests.planned l1 k.same f1 outside m) newest in
-    let later = watched-then old f2 f3 rose device m.now.device watched (goes_more old f1 f2 k.beside.goes reads.goes) c.in_ok-joined.ensures.power (device-reads f1 f2 1 m.now.device reads m.counts) in
+    let later = watched-then old f2 f3 rose device m.now.device watched (goes-then old f1 f2 k.beside.goes reads.goes) c.in_ok-joined.ensures.power (device-reads f1 f2 1 m.now.device reads m.counts) in
     let p = err_from_is_err_and c.from_residual-in_err-seal_rows.result c.from_residual-in_err-seal_rows.ensures.1 in
     rw (p.1, p.2) (seal-badly t l old first plan table rose device s none rests.planned l1 k.same f1 outside m c.join_newest-joined.new.table f2 f3 (same_pages f1 f2 1 reads) joins.planned (c.in_err-seal_rows.ensures.outside later.told)
     c.seal_rows.new.table c.in_err-seal_rows.field-0.0 (c.in_err-seal_rows.ensures.ends first (bare plan) (bare_table (joined (ready plan m.now.state))) rose m.now.device later joins))
@@ -299,7 +299,7 @@ returns-in_err-seal_rows-clause-cause g c =
     let f2 = g.F.Flash.state c.join_newest-joined.new.flash in
     let f3 = g.F.Flash.state c.seal_rows.new.flash in
     let p = err_from_is_err_and c.from_residual-in_err-seal_rows.result c.from_residual-in_err-seal_rows.ensures.1 in
-    rw (p.1, p.2) (cause-later old f2 f3 (goes_more old f1 f2 c.in_ok-newest.ensures.beside.goes c.in_ok-joined.ensures.reads.goes) (λ on. c.in_ok-joined.ensures.power) c.in_err-seal_rows.field-0.0 c.in_err-seal_rows.ensures.cause)
+    rw (p.1, p.2) (cause-later old f2 f3 (goes-then old f1 f2 c.in_ok-newest.ensures.beside.goes c.in_ok-joined.ensures.reads.goes) (λ on. c.in_ok-joined.ensures.power) c.in_err-seal_rows.field-0.0 c.in_err-seal_rows.ensures.cause)
 
 pub returns-in_err-seal_rows-clause-limit : goal.returns-in_err-seal_rows-clause-limit
 returns-in_err-seal_rows-clause-limit g c = λ first plan table told rests.
@@ -310,8 +310,8 @@ returns-in_err-seal_rows-clause-limit g c = λ first plan table told rests.
 
 pub returns-clause-goes : goal.returns-clause-goes
 returns-clause-goes g c =
-    goes_more (g.F.Flash.state c.args.flash.now) (g.F.Flash.state c.join_newest-joined.new.flash) (g.F.Flash.state c.seal_rows.new.flash)
-    (goes_more (g.F.Flash.state c.args.flash.now) (g.F.Flash.state c.mount.new.flash) (g.F.Flash.state c.join_newest-joined.new.flash) c.in_ok-newest.ensures.beside.goes c.in_ok-joined.ensures.reads.goes) c.in_ok-seal_rows.ensures.goes
+    goes-then (g.F.Flash.state c.args.flash.now) (g.F.Flash.state c.join_newest-joined.new.flash) (g.F.Flash.state c.seal_rows.new.flash)
+    (goes-then (g.F.Flash.state c.args.flash.now) (g.F.Flash.state c.mount.new.flash) (g.F.Flash.state c.join_newest-joined.new.flash) c.in_ok-newest.ensures.beside.goes c.in_ok-joined.ensures.reads.goes) c.in_ok-seal_rows.ensures.goes
 
 pub returns-clause-table_same : goal.returns-clause-table_same
 returns-clause-table_same g c = same-then c.args.table.now c.join_newest-joined.new.table c.seal_rows.new.table c.in_ok-joined.ensures.same c.in_ok-seal_rows.ensures.same
@@ -319,7 +319,7 @@ returns-clause-table_same g c = same-then c.args.table.now c.join_newest-joined.
 pub returns-clause-lies : goal.returns-clause-lies
 returns-clause-lies g c =
     log-moved c.mount.new.self (g.F.Flash.state c.mount.new.flash) (g.F.Flash.state c.seal_rows.new.flash)
-    (goes_more (g.F.Flash.state c.mount.new.flash) (g.F.Flash.state c.join_newest-joined.new.flash) (g.F.Flash.state c.seal_rows.new.flash) c.in_ok-joined.ensures.reads.goes c.in_ok-seal_rows.ensures.goes) c.in_ok-newest.ensures.lies
+    (goes-then (g.F.Flash.state c.mount.new.flash) (g.F.Flash.state c.join_newest-joined.new.flash) (g.F.Flash.state c.seal_rows.new.flash) c.in_ok-joined.ensures.reads.goes c.in_ok-seal_rows.ensures.goes) c.in_ok-newest.ensures.lies
 
 pub returns-clause-ends : goal.returns-clause-ends
 returns-clause-ends g c = λ first plan table rose device watched s none rests.
@@ -332,15 +332,15 @@ returns-clause-ends g c = λ first plan table rose device watched s none rests.
     let f3 = g.F.Flash.state c.seal_rows.new.flash in
     let k = c.in_ok-newest.ensures in
     let reads = c.in_ok-joined.ensures.reads in
-    let watched2 = watched-front old f2 f3 rose device watched c.in_ok-seal_rows.ensures.goes in
-    let m = k.ends (first + blocks_of (bare plan)) plan table rose device (watched-front old f1 f2 rose device watched2 reads.goes) rests in
+    let watched2 = watched-first old f2 f3 rose device watched c.in_ok-seal_rows.ensures.goes in
+    let m = k.ends (first + blocks_of (bare plan)) plan table rose device (watched-first old f1 f2 rose device watched2 reads.goes) rests in
     let outside = k.beside.outside watched.told in
     let sizes = pages-size l1 f1 (g.met.F.Flash.reaches c.mount.new.flash) k.lies.geometry k.lies.within in
     let ring = begun-ring t l old first plan table rose device s none rests.planned l1 k.same f1 outside m in
     let newest = found-some l l1 old f1 (first + blocks_of (bare plan)) plan (ready plan m.now.state) k.same ring sizes watched.told c.in_ok-newest.field-0 k.found c.in-Some.newest c.in-Some.is in
     let joins = c.in_ok-joined.ensures.joins first plan (ready plan m.now.state) rose m.now.device (watched-then old f1 f2 rose device m.now.device watched2 k.beside.goes m.power m.counts)
     (begun-stands t l old first plan table rose device s none rests.planned l1 k.same f1 outside m) (begun-none t l old first plan table rose device s none rests.planned l1 k.same f1 outside m) newest in
-    let later = watched-then old f2 f3 rose device m.now.device watched (goes_more old f1 f2 k.beside.goes reads.goes) c.in_ok-joined.ensures.power (device-reads f1 f2 1 m.now.device reads m.counts) in
+    let later = watched-then old f2 f3 rose device m.now.device watched (goes-then old f1 f2 k.beside.goes reads.goes) c.in_ok-joined.ensures.power (device-reads f1 f2 1 m.now.device reads m.counts) in
     seal-well t l old first plan table rose device s none rests.planned l1 k.same f1 outside m c.join_newest-joined.new.table f2 f3 (same_pages f1 f2 1 reads) joins.planned (c.in_ok-seal_rows.ensures.outside later.told)
     c.seal_rows.new.table (c.in_ok-seal_rows.ensures.ends first (bare plan) (bare_table (joined (ready plan m.now.state))) rose m.now.device later joins)
 
@@ -379,19 +379,19 @@ returns-clause-leaves g c = λ first plan table rose device watched s none rests
     let f3 = g.F.Flash.state c.seal_rows.new.flash in
     let k = c.in_ok-newest.ensures in
     let reads = c.in_ok-joined.ensures.reads in
-    let watched2 = watched-front old f2 f3 rose device watched c.in_ok-seal_rows.ensures.goes in
-    let m = k.ends (first + blocks_of (bare plan)) plan table rose device (watched-front old f1 f2 rose device watched2 reads.goes) rests in
+    let watched2 = watched-first old f2 f3 rose device watched c.in_ok-seal_rows.ensures.goes in
+    let m = k.ends (first + blocks_of (bare plan)) plan table rose device (watched-first old f1 f2 rose device watched2 reads.goes) rests in
     let outside = k.beside.outside watched.told in
     let sizes = pages-size l1 f1 (g.met.F.Flash.reaches c.mount.new.flash) k.lies.geometry k.lies.within in
     let ring = begun-ring t l old first plan table rose device s none rests.planned l1 k.same f1 outside m in
     let newest = found-some l l1 old f1 (first + blocks_of (bare plan)) plan (ready plan m.now.state) k.same ring sizes watched.told c.in_ok-newest.field-0 k.found c.in-Some.newest c.in-Some.is in
     let joins = c.in_ok-joined.ensures.joins first plan (ready plan m.now.state) rose m.now.device (watched-then old f1 f2 rose device m.now.device watched2 k.beside.goes m.power m.counts)
     (begun-stands t l old first plan table rose device s none rests.planned l1 k.same f1 outside m) (begun-none t l old first plan table rose device s none rests.planned l1 k.same f1 outside m) newest in
-    let later = watched-then old f2 f3 rose device m.now.device watched (goes_more old f1 f2 k.beside.goes reads.goes) c.in_ok-joined.ensures.power (device-reads f1 f2 1 m.now.device reads m.counts) in
+    let later = watched-then old f2 f3 rose device m.now.device watched (goes-then old f1 f2 k.beside.goes reads.goes) c.in_ok-joined.ensures.power (device-reads f1 f2 1 m.now.device reads m.counts) in
     let p = c.in_ok-seal_rows.ensures.ends first (bare plan) (bare_table (joined (ready plan m.now.state))) rose m.now.device later joins in
     let found = subst (λ (o : Option NewestPage). Finds l old o l1 f1) c.in-Some.is k.found in
     let rings = joined-rings (ready plan m.now.state) in
-    let goes = goes_more old f1 f3 k.beside.goes (goes_more f1 f2 f3 reads.goes c.in_ok-seal_rows.ensures.goes) in
+    let goes = goes-then old f1 f3 k.beside.goes (goes-then f1 f2 f3 reads.goes c.in_ok-seal_rows.ensures.goes) in
     seal-leaves l old f1 first plan table rests.planned watched.told c.requires.lies.geometry found.ring found.numbers c.join_newest-joined.new.table c.seal_rows.new.table f2 f3 (same_pages f1 f2 1 reads) (bare_table (joined (ready plan m.now.state)))
     (rings.0 ∙ ap (λ (x : Table). x.rows) m.rest) (rings.1 ∙ ap (λ (x : Table). x.index) m.rest) joins p.stands (no-var-blocks t.blobs (first + plan.data_blocks + plan.index_blocks) (bare plan) c.requires.no_blobs s.planned.var) (c.in_ok-seal_rows.ensures.outside later.told) p.stand
     (g.met.F.Flash.reaches c.seal_rows.new.flash) (goes.geometry ∙ (c.requires.lies.geometry ∙ sym rests.planned.geometry)) (omega (arith, goes.blocks, c.requires.lies.within, rests.planned.begins))

@@ -1,6 +1,6 @@
 use Rattle.std.proofs.Common.{◌≡◌, ◌+◌, ◌-◌, ◌^◌, ◌<◌, ◌≤◌, ℕ, max, Option}
 use Rattle.std.specs.Prelude.{IfSome}
-use Rattle.fl_model.specs.Spline.{bits}
+use Rattle.fl_base.specs.Bits.{bits}
 use Rattle.fl_search.specs.Search.{IsPageOf, Ascends, RoseSome, voids_in}
 use Rattle.fl_search.proofs.Pages.{NoneStarts}
 use Rattle.fl_search.proofs.halves.bisect.Given as goal

@@ -1,6 +1,6 @@
 use Rattle.std.proofs.Common.{rules, ◌/◌, ◌≤◌, length, sym, ◌∙◌, ap, arith}
 use Rattle.fl_base.specs.declared.types.BlobRef.{BlobRef}
-use Rattle.fl_page.proofs.ReadsInTurn.{OnlyReads-then}
+use Rattle.fl_frame.proofs.ContentsInTurn.{OnlyReads-then}
 use Rattle.fl_table.specs.BlobAt.{content_in}
 use Rattle.fl_var.specs.Reading.{data_of}
 use Rattle.fl_store.proofs.Readers.{buffer-fits, data-lies, data-stands, opened-ready, reads-kept, room-same}

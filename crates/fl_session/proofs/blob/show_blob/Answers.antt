@@ -1,5 +1,5 @@
 use Rattle.std.proofs.Common.{◌∙◌, ℕ, List, refl, subst}
-use Rattle.fl_page.proofs.ReadsInTurn.{OnlyReads-then, OnlyReads-reads}
+use Rattle.fl_frame.proofs.ContentsInTurn.{OnlyReads-then, OnlyReads-reads}
 use Rattle.fl_script.specs.Written.{Written}
 use Rattle.fl_words.specs.Reply.{Absent, NoBlob}
 use Rattle.fl_session.specs.BlobSays.{MayBeBadFor}

@@ -1,6 +1,6 @@
 use Rattle.std.proofs.Common.{◌≡◌, List, ℕ, Ok, true, length, sym, ◌∙◌, ap, subst, arith}
 use Rattle.fl_model.specs.Query.{blob_of}
-use Rattle.fl_page.proofs.ReadsInTurn.{OnlyReads-reads}
+use Rattle.fl_frame.proofs.ContentsInTurn.{OnlyReads-reads}
 use Rattle.fl_script.specs.Written.{Written}
 use Rattle.fl_var.specs.Reading.{bytes_left}
 use Rattle.fl_words.specs.Reply.{Gone, text}

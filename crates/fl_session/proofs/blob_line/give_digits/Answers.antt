@@ -1,7 +1,8 @@
 use Rattle.std.proofs.Common.{◌≡◌, ℕ, zero, suc, ◌+◌, ◌≤◌, Bool, true, false, Result, Ok, Err, List, [], ◌++◌, refl, ◌∙◌, subst, arith}
 use Rattle.std.proofs.lemmas.Result.{err_from_is_err_and}
 use Rattle.fl_base.specs.Causes.{Appends, AppendsFront}
-use Rattle.fl_page.proofs.ReadsInTurn.{OnlyReads-same, OnlyReads-then, IsCaused-later}
+use Rattle.fl_page.proofs.ReadsInTurn.{IsCaused-later}
+use Rattle.fl_frame.proofs.ContentsInTurn.{OnlyReads-same, OnlyReads-then}
 use Rattle.fl_page.specs.declared.fault.ReadFault.{ReadFault}
 use Rattle.fl_var.specs.Reading.{chunk_of, count_left, page_of}
 use Rattle.fl_words.specs.Reply.{hex_text}

@@ -1,6 +1,6 @@
 use Rattle.std.proofs.Common.{◌≡◌, ℕ, ◌≤◌, List}
 use Rattle.fl_base.specs.Causes.{Appends}
-use Rattle.fl_page.specs.Contents.{OnlyReads}
+use Rattle.fl_frame.specs.Contents.{OnlyReads}
 use Rattle.fl_var.specs.Memory.{LiesOn}
 use Rattle.fl_var.specs.Reading.{data_of, buffer_of, count_left, Reads, IsWholeIn}
 use Rattle.fl_words.specs.Reply.{hex_text}

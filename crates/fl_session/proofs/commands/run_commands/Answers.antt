@@ -1,5 +1,5 @@
 use Rattle.std.proofs.Common.{refl, arith, le_trans}
-use Rattle.fl_store.proofs.CallsInTurn.{goes-same, goes-on}
+use Rattle.fl_frame.proofs.CallsInTurn.{goes-same, stays, stays-then}
 use Rattle.fl_session.proofs.CausesInTurn.{caused-into, caused-next}
 use Rattle.fl_session.proofs.Nexts.{runs-runnable}
 use Rattle.fl_session.proofs.Loops.{in_hand-first, all_done-next, ends-in_reply, then-in_hand, then-done, then-ends}
@@ -13,7 +13,7 @@ lines-init g c = record {
   source_later = omega arith;
   sink_later = omega arith;
   sound = c.requires.sound;
-  goes = goes-same _;
+  goes = stays _ _ (goes-same _);
   runs = λ config left e ended. in_hand-first _ _ _ left _ (ran_to-none config _ (g.T.Executor.flash c.args.session.now) _ c.requires.unread) e ended refl refl refl refl refl;
   causes = λ left e ended. in_hand-first _ _ _ left _ (refl, refl) e ended refl refl refl refl refl;
 }
@@ -21,7 +21,7 @@ lines-init g c = record {
 pub returns-in-Err-clause-runs : goal.returns-in-Err-clause-runs
 returns-in-Err-clause-runs g c = λ config left e ended.
     ends-in_reply _ _ _ _ _ _ _ (c.lines.invariant.runs config left e ended) (runs-runnable _ _ c.lines.invariant.reads)
-    (ran_to-into config _ _ _ _ (g.T.Executor.flash c.args.session.now) (g.T.Executor.flash c.lines.session) (g.T.Executor.flash c.execute.new.self) _ _ _ _ c.in-Err.field-0 c.in-Err.is (record { hold = g.met.T.Executor.tables_hold _ config; later = c.execute.ensures.goes.faults; executes = c.execute.ensures.step config }))
+    (ran_to-into config _ _ _ _ (g.T.Executor.flash c.args.session.now) (g.T.Executor.flash c.lines.session) (g.T.Executor.flash c.execute.new.self) _ _ _ _ c.in-Err.field-0 c.in-Err.is (record { hold = g.met.T.Executor.tables_hold _ config; later = c.execute.ensures.goes.faults; executes = c.execute.ensures.step config }) (record { goes = stays-then _ _ _ c.lines.invariant.goes c.execute.ensures.goes; device = g.met.T.Executor.same_device _ config }))
 
 pub returns-in-Err-clause-causes : goal.returns-in-Err-clause-causes
 returns-in-Err-clause-causes g c = λ left e ended.
@@ -42,7 +42,7 @@ lines-preserved g c =
       source_later = le_trans c.lines.invariant.source_later n.advances.later;
       sink_later = le_trans c.lines.invariant.sink_later c.execute.ensures.sink.later;
       sound = c.execute.ensures.sound;
-      goes = goes-on _ _ _ c.lines.invariant.goes c.execute.ensures.goes;
+      goes = stays-then _ _ _ c.lines.invariant.goes c.execute.ensures.goes;
       runs = λ config left e ended.
           then-in_hand _ _ _ _ _ _ _ _ _ _ _
           (all_done-next _ _ _ _ _ _ _ (c.lines.invariant.runs config left e ended) runnable (omega (arith, c.lines.invariant.numbered))
@@ -59,7 +59,7 @@ pub returns-in-Ok-None-clause-runs : goal.returns-in-Ok-None-clause-runs
 returns-in-Ok-None-clause-runs g c = λ config left e ended.
     then-done _ _ _ _ _ _ _ _ _ _
     (all_done-next _ _ _ _ _ _ _ (c.lines.invariant.runs config left e ended) (runs-runnable _ _ c.lines.invariant.reads) (omega (arith, c.lines.invariant.numbered))
-    (ran_to-all config _ _ _ _ (g.T.Executor.flash c.args.session.now) (g.T.Executor.flash c.lines.session) (g.T.Executor.flash c.execute.new.self) _ _ _ _ c.in-Ok.is (record { hold = g.met.T.Executor.tables_hold _ config; later = c.execute.ensures.goes.faults; executes = c.execute.ensures.step config })))
+    (ran_to-all config _ _ _ _ (g.T.Executor.flash c.args.session.now) (g.T.Executor.flash c.lines.session) (g.T.Executor.flash c.execute.new.self) _ _ _ _ c.in-Ok.is (record { hold = g.met.T.Executor.tables_hold _ config; later = c.execute.ensures.goes.faults; executes = c.execute.ensures.step config }) (record { goes = stays-then _ _ _ c.lines.invariant.goes c.execute.ensures.goes; device = g.met.T.Executor.same_device _ config })))
     (rw c.in-Ok-None.field-0-is at c.in-Ok-None.ensures)
 
 pub returns-in-Ok-None-clause-causes : goal.returns-in-Ok-None-clause-causes
@@ -73,7 +73,7 @@ pub returns-in-Err-next_run-clause-runs : goal.returns-in-Err-next_run-clause-ru
 returns-in-Err-next_run-clause-runs g c = λ config left e ended.
     then-ends _ _ _ _ _ _ _ _ _ _ _ c.in-Err-next_run.status
     (all_done-next _ _ _ _ _ _ _ (c.lines.invariant.runs config left e ended) (runs-runnable _ _ c.lines.invariant.reads) (omega (arith, c.lines.invariant.numbered))
-    (ran_to-all config _ _ _ _ (g.T.Executor.flash c.args.session.now) (g.T.Executor.flash c.lines.session) (g.T.Executor.flash c.execute.new.self) _ _ _ _ c.in-Ok.is (record { hold = g.met.T.Executor.tables_hold _ config; later = c.execute.ensures.goes.faults; executes = c.execute.ensures.step config })))
+    (ran_to-all config _ _ _ _ (g.T.Executor.flash c.args.session.now) (g.T.Executor.flash c.lines.session) (g.T.Executor.flash c.execute.new.self) _ _ _ _ c.in-Ok.is (record { hold = g.met.T.Executor.tables_hold _ config; later = c.execute.ensures.goes.faults; executes = c.execute.ensures.step config }) (record { goes = stays-then _ _ _ c.lines.invariant.goes c.execute.ensures.goes; device = g.met.T.Executor.same_device _ config })))
     c.in-Err-next_run.ensures
 
 pub returns-in-Err-next_run-clause-causes : goal.returns-in-Err-next_run-clause-causes

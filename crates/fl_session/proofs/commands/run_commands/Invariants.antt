@@ -1,6 +1,6 @@
 use Rattle.std.proofs.Common.{◌≡◌, ℕ, ◌+◌, ◌^◌, ◌<◌, ◌≤◌, List, [], ◌++◌, Some, true}
 use Rattle.fl_model.specs.Record.{Config}
-use Rattle.fl_flash.specs.Flash.{Goes}
+use Rattle.fl_flash.specs.Flash.{Stays}
 use Rattle.fl_script.specs.CommandView.{command_view}
 use Rattle.fl_session.specs.CausedEach.{CausedEach}
 use Rattle.fl_session.specs.Next.{IsToRun}
@@ -20,7 +20,7 @@ invariant-lines g l =
       source_later : S.faults l.fn.script ≤ S.faults l.script;
       sink_later : K.faults l.fn.out ≤ K.faults l.out;
       sound : T.sound l.session;
-      goes : Goes (T.flash l.fn.session) (T.flash l.session);
+      goes : Stays (T.flash l.fn.session) (T.flash l.session);
       runs : (config : Config) (left : List ℕ) → S.left l.fn.script ≡ Some left → (l.fn.lines.closed ≡ true → l.fn.lines.ahead ++ left ≡ []) →
           InHand (tail_of l.fn.number l.fn.lines left)
           (RanTo config (T.stands l.fn.session config) (T.stands l.session config) (T.flash l.fn.session) (T.flash l.session) (K.written l.fn.out) (K.written l.out))

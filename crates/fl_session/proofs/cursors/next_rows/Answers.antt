@@ -1,5 +1,5 @@
 use Rattle.std.proofs.Common.{◌∙◌, List, ℕ, Ok, Err, sym, subst}
-use Rattle.fl_page.specs.Contents.{contents_of}
+use Rattle.fl_frame.specs.Contents.{contents_of}
 use Rattle.fl_script.specs.Written.{Written}
 use Rattle.fl_cursor.specs.Cursor.{MayBeBad}
 use Rattle.fl_table.specs.declared.table.Table.{Table}

@@ -6,9 +6,10 @@ use Rattle.fl_cursor.specs.Going.{Goes, Fails}
 use Rattle.fl_cursor.proofs.StepsOfRows.{steps-after}
 use Rattle.fl_cursor.proofs.Whole.{keeps-then}
 use Rattle.fl_model.specs.Row.{Row}
-use Rattle.fl_page.specs.Contents.{Contents, contents_of}
+use Rattle.fl_frame.specs.Contents.{Contents, contents_of}
 use Rattle.fl_schema.specs.Schema.{row_of}
-use Rattle.fl_page.proofs.ReadsInTurn.{OnlyReads-same, OnlyReads-then, IsCaused-later}
+use Rattle.fl_frame.proofs.ContentsInTurn.{OnlyReads-same, OnlyReads-then}
+use Rattle.fl_page.proofs.ReadsInTurn.{IsCaused-later}
 use Rattle.fl_words.specs.Reply.{text}
 use Rattle.fl_session.specs.ListSays.{IsRow, WroteLines}
 use Rattle.fl_session.specs.Rows.{row_reply}

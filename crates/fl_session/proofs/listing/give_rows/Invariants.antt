@@ -3,7 +3,7 @@ use Rattle.fl_cursor.specs.Cursor.{IsReady, IsTold}
 use Rattle.fl_cursor.specs.Going.{Keeps}
 use Rattle.fl_cursor.specs.Reads.{most_of, least_of}
 use Rattle.fl_model.specs.Row.{Row}
-use Rattle.fl_page.specs.Contents.{contents_of, OnlyReads}
+use Rattle.fl_frame.specs.Contents.{contents_of, OnlyReads}
 use Rattle.fl_session.specs.Gives.{Gave}
 use Rattle.fl_session.specs.ListSays.{IsRow, WroteLines}
 use Rattle.fl_session.proofs.listing.give_rows.Given as goal

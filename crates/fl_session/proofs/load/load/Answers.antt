@@ -1,7 +1,7 @@
 use Rattle.std.proofs.Common.{◌≡◌, ℕ, ◌+◌, true, not, ◌&&◌, IsTrue, refl, ap, sym, ◌∙◌, subst, arith}
 use Rattle.std.specs.Prelude.{unwrap_or}
 use Rattle.fl_model.specs.Record.{RowLayout}
-use Rattle.fl_store.proofs.CallsInTurn.{goes-same, goes-on, rose-front, rose-back, same-plan, same-on}
+use Rattle.fl_store.proofs.CallsInTurn.{rose-front, rose-back, same-plan, same-on}
 use Rattle.fl_session.specs.Load.{StandsBefore, load_key, random_of}
 use Rattle.fl_store.proofs.Outsides.{outside-then}
 use Rattle.fl_session.proofs.ReplyCauses.{load-counts, when-ok}
@@ -13,6 +13,7 @@ use Rattle.fl_store.proofs.Risen.{has_risen}
 use Rattle.fl_session.proofs.LoadLines.{unbroken}
 use Rattle.fl_session.proofs.LoadReads.{media-all, media-more}
 use Rattle.std.proofs.Math.Bool.{and-true}
+use Rattle.fl_frame.proofs.CallsInTurn.{goes-same, goes-then}
 use Rattle.fl_table.specs.Causes.{put_breaks}
 use Rattle.fl_table.specs.Look.{last_key_in, layout_in}
 use Rattle.fl_table.specs.declared.table.Table.{Table}
@@ -61,7 +62,7 @@ loop-loaded-preserved g c =
     record {
       lies = p.lies;
       running = p.running ∙ (ap (λ b. is_running c.loop-loaded.table && not b) (unbroken c.put-outcome.result (sym c.is_err.ensures.value ∙ c.if-is_err.false)) ∙ (and-true (is_running c.loop-loaded.table) ∙ i.running));
-      goes = goes-on _ _ _ i.goes p.goes;
+      goes = goes-then _ _ _ i.goes p.goes;
       power = λ on. when-ok (m.is_on ≡ true → n.is_on ≡ true) c.put-outcome.result (sym c.is_err.ensures.value ∙ c.if-is_err.false) p.power (i.power on);
       unread = p.reads ∙ i.unread;
       media_reads = media-more c.args.table.now c.loop-loaded.table f.media.reads m.media.reads n.media.reads c.loop-loaded.loaded i.same i.media_reads p.media_reads;
@@ -137,7 +138,7 @@ pub returns-clause-outside : goal.returns-clause-outside
 returns-clause-outside g c = c.loop-loaded.invariant.outside
 
 pub returns-then-is_err-clause-goes : goal.returns-then-is_err-clause-goes
-returns-then-is_err-clause-goes g c = goes-on _ _ _ c.loop-loaded.invariant.goes c.put-outcome.ensures.goes
+returns-then-is_err-clause-goes g c = goes-then _ _ _ c.loop-loaded.invariant.goes c.put-outcome.ensures.goes
 
 pub returns-then-is_err-clause-same : goal.returns-then-is_err-clause-same
 returns-then-is_err-clause-same g c = same-on _ _ _ c.loop-loaded.invariant.same c.put-outcome.ensures.same

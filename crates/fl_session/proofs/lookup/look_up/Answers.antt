@@ -1,6 +1,6 @@
 use Rattle.std.proofs.Common.{◌∙◌, refl}
 use Rattle.fl_schema.specs.Schema.{row_of}
-use Rattle.fl_session.proofs.Lookups.{looks-absent, looks-found, looks-unread}
+use Rattle.fl_session.proofs.Lookups.{looks-absent, looks-found, looks-unread, tells-row}
 use Rattle.fl_session.proofs.RowLines.{blobs-as}
 use Rattle.fl_session.specs.Rows.{row_reply}
 use Rattle.fl_words.specs.Reply as reply
@@ -24,10 +24,15 @@ pub returns-in-Err-BadPage-clause-looks : goal.returns-in-Err-BadPage-clause-loo
 returns-in-Err-BadPage-clause-looks g c = λ first plan t told on stands. absurd (rw c.in-Err-BadPage.field-0-is at (c.in-Err-BadPage.ensures.finds first plan t told stands))
 
 pub returns-in-Ok-None-clause-cause : goal.returns-in-Ok-None-clause-cause
-returns-in-Ok-None-clause-cause g c = record { reply = reply.Absent; said_is = refl; holds = tt }
+returns-in-Ok-None-clause-cause g c = record { reply = reply.Absent; said_is = refl; holds = rw c.in-Ok-None.field-0-is at c.in-Ok-None.ensures.answers }
 
 pub returns-in-Ok-Some-clause-cause : goal.returns-in-Ok-Some-clause-cause
-returns-in-Ok-Some-clause-cause g c = record { reply = row_reply c.form_of-form.result.blobs (row_of c.row_at.result); said_is = c.line_of.ensures; holds = tt }
+returns-in-Ok-Some-clause-cause g c = record {
+  reply = row_reply c.form_of-form.result.blobs (row_of c.row_at.result);
+  said_is = c.line_of.ensures;
+  holds = tells-row c.args.table.now c.args.key (g.F.Flash.state c.args.flash.now) (g.F.Flash.state c.find.new.flash) c.find.new.buf c.in-Ok-Some.place (row_of c.row_at.result) c.form_of-form.result.blobs c.form_of-form.ensures.blobs
+      c.find.ensures.counts (rw c.in-Ok-Some.field-0-is at c.in-Ok-Some.ensures.holds) c.row_at.ensures.row (rw c.in-Ok-Some.field-0-is at c.in-Ok-Some.ensures.key) (rw c.in-Ok-Some.field-0-is at c.in-Ok-Some.ensures.answers);
+}
 
 pub returns-in-Err-Flash-clause-cause : goal.returns-in-Err-Flash-clause-cause
 returns-in-Err-Flash-clause-cause g c = record { reply = reply.ReadFault; said_is = refl; holds = (c.in-Err-Flash.field-0-0, rw c.in-Err-Flash.field-0-is at c.in-Err-Flash.ensures.fails) }

@@ -4,8 +4,8 @@ use Rattle.fl_cursor.specs.Cursor.{MayBeBad, left_of}
 use Rattle.fl_model.specs.Limits.{scan_limit}
 use Rattle.fl_model.specs.Query.{selected}
 use Rattle.fl_model.specs.Row.{Row, stored_row}
-use Rattle.fl_page.specs.Contents.{contents_of}
-use Rattle.fl_page.proofs.ReadsInTurn.{OnlyReads-same}
+use Rattle.fl_frame.specs.Contents.{contents_of}
+use Rattle.fl_frame.proofs.ContentsInTurn.{OnlyReads-same}
 use Rattle.fl_table.specs.declared.table.Table.{Table}
 use Rattle.fl_session.specs.Keys.{all_keys}
 use Rattle.fl_session.specs.Oldest.{first_kept}

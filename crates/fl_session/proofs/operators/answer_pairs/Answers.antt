@@ -1,7 +1,7 @@
 use Rattle.std.proofs.Common.{◌⊎◌}
 use Rattle.fl_cursor.specs.Cursor.{table_of, MayBeBad}
-use Rattle.fl_page.specs.Contents.{contents_of}
-use Rattle.fl_page.proofs.ReadsInTurn.{OnlyReads-reads}
+use Rattle.fl_frame.specs.Contents.{contents_of}
+use Rattle.fl_frame.proofs.ContentsInTurn.{OnlyReads-reads}
 use Rattle.fl_session.specs.ListSays.{IsPair}
 use Rattle.fl_session.proofs.AnyLines.{list-ended}
 use Rattle.fl_session.proofs.PairLines.{reads-no-least}

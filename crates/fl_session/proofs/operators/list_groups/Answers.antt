@@ -3,7 +3,7 @@ use Rattle.std.proofs.lemmas.List.{length-map}
 use Rattle.fl_cursor.specs.Cursor.{present_of, left_of}
 use Rattle.fl_machine.specs.Step.{group_reply}
 use Rattle.fl_ops.specs.Groups.{input_of, groups_left}
-use Rattle.fl_page.specs.Contents.{contents_of}
+use Rattle.fl_frame.specs.Contents.{contents_of}
 use Rattle.fl_session.proofs.OperatorLines.{first-same, second-same}
 use Rattle.fl_session.proofs.operators.list_groups.Goals as goal
 

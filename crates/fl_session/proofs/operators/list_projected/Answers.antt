@@ -5,7 +5,7 @@ use Rattle.fl_model.specs.Operators.{column_of, project}
 use Rattle.fl_model.specs.Record.{Record}
 use Rattle.fl_ops.specs.Columns.{record_of, records_of}
 use Rattle.fl_ops.specs.Project.{input_of, columns_of}
-use Rattle.fl_page.specs.Contents.{contents_of}
+use Rattle.fl_frame.specs.Contents.{contents_of}
 use Rattle.fl_words.specs.Reply as words
 use Rattle.fl_session.proofs.OperatorLines.{first-same, second-same}
 use Rattle.fl_session.proofs.operators.list_projected.Goals as goal

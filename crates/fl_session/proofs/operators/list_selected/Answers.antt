@@ -3,7 +3,7 @@ use Rattle.std.proofs.lemmas.List.{length-map}
 use Rattle.fl_cursor.specs.Cursor.{left_of}
 use Rattle.fl_ops.specs.Columns.{row_passes}
 use Rattle.fl_ops.specs.Select.{input_of, comparison_of}
-use Rattle.fl_page.specs.Contents.{contents_of}
+use Rattle.fl_frame.specs.Contents.{contents_of}
 use Rattle.fl_session.specs.Rows.{row_reply}
 use Rattle.fl_session.proofs.OperatorLines.{first-same, second-same}
 use Rattle.fl_session.proofs.Few.{length-filter}

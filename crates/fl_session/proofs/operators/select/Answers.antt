@@ -10,7 +10,7 @@ use Rattle.fl_model.specs.Query.{selected}
 use Rattle.fl_model.specs.Row.{Row, stored_row}
 use Rattle.fl_ops.specs.Columns.{row_passes, Comparison}
 use Rattle.fl_ops.specs.Select.{comparison_of}
-use Rattle.fl_page.specs.Contents.{contents_of}
+use Rattle.fl_frame.specs.Contents.{contents_of}
 use Rattle.fl_table.specs.Look.{layout_in}
 use Rattle.fl_table.specs.declared.table.Table.{Table}
 use Rattle.fl_words.specs.Reply.{Reply}

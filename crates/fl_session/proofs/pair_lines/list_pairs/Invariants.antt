@@ -1,5 +1,5 @@
 use Rattle.std.proofs.Common.{◌+◌, ◌-◌, ◌^◌, ◌≤◌}
-use Rattle.fl_page.specs.Contents.{contents_of, OnlyReads}
+use Rattle.fl_frame.specs.Contents.{contents_of, OnlyReads}
 use Rattle.fl_ops.specs.Inputs.{Continues}
 use Rattle.fl_session.specs.ListSays.{IsPair, WroteLines}
 use Rattle.fl_session.specs.Paired.{pair_lines}

@@ -1,4 +1,4 @@
-use Rattle.fl_page.specs.Contents.{contents_of}
+use Rattle.fl_frame.specs.Contents.{contents_of}
 use Rattle.fl_session.proofs.AnyLines.{list-ended}
 use Rattle.fl_session.proofs.reply_lines.answer_lines.Goals as goal
 

@@ -1,8 +1,9 @@
 use Rattle.std.proofs.Common.{◌≡◌, ℕ, ◌+◌, ◌-◌, ◌^◌, ◌≤◌, Ok, Option, List, refl, sym, ◌∙◌, subst, arith}
 use Rattle.std.proofs.lemmas.Result.{err_from_is_err_and}
 use Rattle.std.specs.Prelude.{IfNone}
-use Rattle.fl_page.specs.Contents.{Contents, contents_of}
-use Rattle.fl_page.proofs.ReadsInTurn.{OnlyReads-same, OnlyReads-then, OnlyReads-reads, IsCaused-later}
+use Rattle.fl_frame.specs.Contents.{Contents, contents_of}
+use Rattle.fl_page.proofs.ReadsInTurn.{IsCaused-later}
+use Rattle.fl_frame.proofs.ContentsInTurn.{OnlyReads-same, OnlyReads-then, OnlyReads-reads}
 use Rattle.fl_script.specs.declared.reply.Reply.{Reply}
 use Rattle.fl_base.specs.Causes.{Appends, AppendsFront}
 use Rattle.fl_session.specs.ListSays.{WroteLines}

@@ -1,5 +1,5 @@
 use Rattle.std.proofs.Common.{◌≡◌, ◌+◌, ◌-◌, ◌^◌, ◌<◌, ◌≤◌}
-use Rattle.fl_page.specs.Contents.{Contents, contents_of, OnlyReads}
+use Rattle.fl_frame.specs.Contents.{Contents, contents_of, OnlyReads}
 use Rattle.fl_page.specs.declared.fault.BadPage.{BadPage}
 use Rattle.fl_session.specs.ListSays.{WroteLines}
 use Rattle.fl_session.proofs.LinesListed.{Fronted}

@@ -1,7 +1,7 @@
 use Rattle.std.proofs.Common.{◌+◌, ◌-◌, ◌^◌, ◌<◌, ◌≤◌, ◌∙◌, Ok, Err, length, subst, arith}
 use Rattle.fl_model.specs.Limits.{scan_limit}
 use Rattle.fl_model.specs.Query.{selected}
-use Rattle.fl_page.specs.Contents.{contents_of}
+use Rattle.fl_frame.specs.Contents.{contents_of}
 use Rattle.fl_cursor.specs.Cursor.{MayBeBad}
 use Rattle.fl_table.specs.declared.table.Table.{Table}
 use Rattle.fl_words.specs.Reply.{EndCount}

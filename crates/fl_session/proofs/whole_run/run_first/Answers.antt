@@ -1,4 +1,4 @@
-use Rattle.std.proofs.Common.{refl}
+use Rattle.std.proofs.Common.{refl, arith}
 use Rattle.fl_session.proofs.NextCommand.{ran-none}
 use Rattle.fl_session.proofs.whole_run.run_first.Goals as goal
 
@@ -10,7 +10,7 @@ returns-in-Some-clause-causes g c = rw c.in-Some.is (λ left e ended. c.run_comm
 
 pub returns-in-None-clause-runs : goal.returns-in-None-clause-runs
 returns-in-None-clause-runs g c = λ configured.
-    rw c.in-None.is (record { pending = c.pending.result; done = refl; untaken = refl; runs = λ old s ready. ran-none configured old _ _ _ _ s })
+    rw c.in-None.is (record { pending = c.pending.result; done = refl; untaken = refl; runs = λ old s ready. (ran-none configured old _ _ _ _ s, λ low. omega arith) })
 
 pub returns-in-None-clause-causes : goal.returns-in-None-clause-causes
 returns-in-None-clause-causes g c = rw c.in-None.is (record { pending = c.pending.result; done = refl; untaken = refl; runs = (refl, refl) })

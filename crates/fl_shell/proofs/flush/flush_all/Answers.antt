@@ -1,8 +1,12 @@
-use Rattle.std.proofs.Common.{◌≡◌, ◌+◌, ◌<◌, nat_eq, Bool, true, false, inl, inr, [], length, map, take, sym, ◌∙◌, ap, subst, rules, arith}
-use Rattle.std.specs.Prelude.{if◌then◌else◌}
+use Rattle.std.proofs.Common.{◌≡◌, ◌+◌, ◌<◌, ◌≤◌, ℕ, nat_eq, Bool, true, false, inl, inr, List, [], length, refl, map, take, sym, ◌∙◌, ap, subst, arith}
+use Rattle.std.specs.Prelude.{◌&&◌, if◌then◌else◌}
 use Rattle.std.proofs.lemmas.Bool.{eqb-true, false≢true}
+use Rattle.fl_frame.proofs.CallsInTurn.{goes-same, stays, stays-then}
 use Rattle.fl_session.specs.Execute.{StandsAlike}
+use Rattle.fl_shell.specs.Caused.{CausesFlushes}
 use Rattle.fl_shell.specs.Talk.{flush_of}
+use Rattle.fl_shell.proofs.CausedFlushes.{all-named, both-is, names, names-more}
+use Rattle.fl_shell.proofs.CausedFlushes as caused
 use Rattle.fl_shell.proofs.AlikeFlushes.{pending-stands}
 use Rattle.fl_shell.proofs.TableFlushes.{FlushedSoFar, none-flushed, flushed-none, flushed-more, flushes-more, flushed-nothing, flushed-all, all-plans}
 use Rattle.fl_shell.proofs.flush.flush_all.Goals.{then-done, else-done}
@@ -15,7 +19,7 @@ returns-then-pending-eq0-clause-flushes g c = λ configured old moments content 
     let n = c.pending_rows-pending.result in
     record {
       flushes = [];
-      flushes_all = flushed-nothing configured _ n (pending-stands configured (E.stands c.args.session.now configured) _ n (λ m here. c.pending_rows-pending.ensures configured m plans here) ran.stands_after) c.if-pending-eq0.true;
+      flushes_all = flushed-nothing configured _ n (pending-stands configured (E.stands c.args.session.now configured) _ n (λ m here. c.pending_rows-pending.ensures.holds configured m plans here) ran.stands_after) c.if-pending-eq0.true;
       ran = none-flushed configured old moments (StandsAlike (E.stands c.args.session.now configured)) content f.media.content faults f.media.faults ran;
       unread = tt;
     }
@@ -23,7 +27,8 @@ returns-then-pending-eq0-clause-flushes g c = λ configured old moments content 
 pub tables-init : goal.tables-init
 tables-init g c = record {
   sound = c.requires;
-  goes = search rules;
+  goes = stays _ _ (goes-same _);
+  told = (refl, refl);
   flushed = λ configured old moments content faults plans ready ran. flushed-none configured old moments _ content _ faults _ ran;
 }
 
@@ -38,7 +43,11 @@ tables-preserved g c =
     elim c.if-done.branch [ then-done w ↦ w.done-is ∙ sym (ap (λ (b : Bool). if b then f.result else false) w.if-done.true) | else-done w ↦ w.done-is ∙ (w.if-done.false ∙ sym (ap (λ (b : Bool). if b then f.result else false) w.if-done.false)) ] in
     record {
       sound = f.ensures.sound;
-      goes = search rules;
+      goes = stays-then _ _ _ i.goes f.ensures.goes;
+      told =
+          let more = caused.flushes-more (names (take c.tables.at plans_now)) c.name.result (E.state c.args.session.now) (E.state c.tables.session) (E.state f.new.session) c.tables.done f.result i.told f.ensures.told in
+          subst (λ (b : Bool). CausesFlushes (names (take (c.tables.at + 1) plans_now)) (E.state c.args.session.now) (E.state f.new.session) b) (sym (both ∙ both-is c.tables.done f.result))
+          (subst (λ (all : List (List ℕ)). CausesFlushes all (E.state c.args.session.now) (E.state f.new.session) (c.tables.done && f.result)) (sym (names-more plans_now c.tables.at c.name.result within c.name.ensures)) more);
       flushed = λ configured old moments content faults plans ready ran.
           let now = E.flash f.new.session in
           let stands = StandsAlike (E.stands f.new.session configured) in
@@ -57,7 +66,7 @@ returns-then-done-2-clause-flushes g c = λ configured old moments content fault
     let so_far = all-plans configured old moments c.args.config.now.plans c.tables.at (StandsAlike (E.stands c.tables.session configured)) content f.media.content faults f.media.faults c.tables.done (omega (arith, c.tables-at-end.ensures.exact)) plans
     (c.tables.invariant.flushed configured old moments content faults plans ready ran) in
     flushed-all configured old moments (E.stands c.tables.session configured) content f.media.content faults f.media.faults pending n c.tables.done (nat_eq n 0) so_far
-    (pending-stands configured (E.stands c.args.session.now configured) _ pending (λ m here. c.pending_rows-pending.ensures configured m plans here) ran.stands_after) (λ none. c.if-pending-eq0.false none) (λ m here. c.pending_rows-left.ensures configured m plans here)
+    (pending-stands configured (E.stands c.args.session.now configured) _ pending (λ m here. c.pending_rows-pending.ensures.holds configured m plans here) ran.stands_after) (λ none. c.if-pending-eq0.false none) (λ m here. c.pending_rows-left.ensures.holds configured m plans here)
     (λ e. (c.if-done-2.true, eqb-true n 0 e)) (λ e. inr (λ none. absurd (false≢true (sym e ∙ ap (λ k. nat_eq k 0) none))))
 
 pub returns-else-done-2-clause-flushes : goal.returns-else-done-2-clause-flushes
@@ -69,5 +78,42 @@ returns-else-done-2-clause-flushes g c = λ configured old moments content fault
     let so_far = all-plans configured old moments c.args.config.now.plans c.tables.at (StandsAlike (E.stands c.tables.session configured)) content f.media.content faults f.media.faults c.tables.done (omega (arith, c.tables-at-end.ensures.exact)) plans
     (c.tables.invariant.flushed configured old moments content faults plans ready ran) in
     flushed-all configured old moments (E.stands c.tables.session configured) content f.media.content faults f.media.faults pending n c.tables.done c.tables.done so_far
-    (pending-stands configured (E.stands c.args.session.now configured) _ pending (λ m here. c.pending_rows-pending.ensures configured m plans here) ran.stands_after) (λ none. c.if-pending-eq0.false none) (λ m here. c.pending_rows-left.ensures configured m plans here)
+    (pending-stands configured (E.stands c.args.session.now configured) _ pending (λ m here. c.pending_rows-pending.ensures.holds configured m plans here) ran.stands_after) (λ none. c.if-pending-eq0.false none) (λ m here. c.pending_rows-left.ensures.holds configured m plans here)
     (λ e. absurd (false≢true (sym c.if-done-2.false ∙ e))) (λ e. inl e)
+
+pub returns-then-pending-eq0-clause-told : goal.returns-then-pending-eq0-clause-told
+returns-then-pending-eq0-clause-told g c = record { pending = c.pending_rows-pending.ensures.told; none = λ e. (refl, refl); some = λ not. absurd (not c.if-pending-eq0.true) }
+
+pub returns-then-done-2-clause-told : goal.returns-then-done-2-clause-told
+returns-then-done-2-clause-told g c =
+    let E = g.E.Executor in
+    let n = c.pending_rows-left.result in
+    let ended : length c.args.config.now.plans ≤ c.tables.at = omega (arith, c.tables-at-end.ensures.exact) in
+    record {
+      pending = c.pending_rows-pending.ensures.told;
+      none = λ e. absurd (c.if-pending-eq0.false e);
+      some = λ not. (
+        c.tables.done,
+        n,
+        subst (λ (all : List (List ℕ)). CausesFlushes all (E.state c.args.session.now) (E.state c.tables.session) c.tables.done) (all-named c.args.config.now.plans c.tables.at ended) c.tables.invariant.told,
+        c.pending_rows-left.ensures.told,
+        sym (ap (λ (b : Bool). b && nat_eq n 0) c.if-done-2.true),
+      );
+    }
+
+pub returns-else-done-2-clause-told : goal.returns-else-done-2-clause-told
+returns-else-done-2-clause-told g c =
+    let E = g.E.Executor in
+    let n = c.pending_rows-left.result in
+    let ended : length c.args.config.now.plans ≤ c.tables.at = omega (arith, c.tables-at-end.ensures.exact) in
+    record {
+      pending = c.pending_rows-pending.ensures.told;
+      none = λ e. absurd (c.if-pending-eq0.false e);
+      some = λ not. (
+        c.tables.done,
+        n,
+        subst (λ (all : List (List ℕ)). CausesFlushes all (E.state c.args.session.now) (E.state c.tables.session) c.tables.done) (all-named c.args.config.now.plans c.tables.at ended) c.tables.invariant.told,
+        c.pending_rows-left.ensures.told,
+        c.if-done-2.false ∙ sym (ap (λ (b : Bool). b && nat_eq n 0) c.if-done-2.false),
+      );
+    }

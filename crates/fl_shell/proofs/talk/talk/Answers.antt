@@ -1,11 +1,14 @@
 use Rattle.std.proofs.Common.{◌≡◌, ◌^◌, Some, Ok, Err, true, false, sym, ◌∙◌, ap, le_trans, subst, rules, arith}
 use Rattle.fl_base.specs.declared.stream.SinkFailed.{SinkFailed}
+use Rattle.fl_frame.proofs.CallsInTurn.{goes-same, stays, stays-then}
 use Rattle.fl_session.specs.Execute.{StandsAlike}
 use Rattle.fl_words.specs.Grammar.{lines_of}
+use Rattle.fl_shell.specs.Caused.{CausedBy, CausedIf}
 use Rattle.fl_shell.specs.Input.{InputEnds}
 use Rattle.fl_shell.specs.Reading.{AsksNext, rest_in}
-use Rattle.fl_shell.specs.Talking.{TalkEnds, with_hand}
+use Rattle.fl_shell.specs.Talking.{EndsBy, TalkEnds, with_hand}
 use Rattle.fl_shell.specs.Turning.{TurnsIf, command_for}
+use Rattle.fl_shell.proofs.CausedLines.{line-answered, line-into, lines-done, lines-failed, lines-first, lines-next}
 use Rattle.fl_shell.proofs.TalkLoop.{hand-first, hand-answered, hand-into, between-next, between-done, between-failed}
 use Rattle.fl_shell.proofs.InputEnds.{input-failed}
 use Rattle.fl_shell.proofs.talk.talk.Goals as goal
@@ -15,8 +18,9 @@ lines-init g c = record {
   source_later = omega arith;
   sink_later = omega arith;
   sound = c.requires.sound;
-  goes = search rules;
+  goes = stays _ _ (goes-same _);
   input = λ left total told within. (left, told, within);
+  told = λ left hand total told within is. lines-first total _ _ c.args.in_hand c.args.lines.now _ left hand told within is;
   talks = λ configured old left hand total makes ready here unread most told within is. hand-first configured old total _ _ _ _ _ _ left hand unread here most told within is;
 }
 
@@ -48,11 +52,16 @@ lines-preserved g c =
       source_later = le_trans c.lines.invariant.source_later asks.later;
       sink_later = le_trans c.lines.invariant.sink_later c.answer_in_hand.ensures.cause.later;
       sound = c.answer_in_hand.ensures.sound;
-      goes = search rules;
+      goes = stays-then _ _ _ c.lines.invariant.goes c.answer_in_hand.ensures.goes;
       input = λ left total told within.
           let i = c.lines.invariant.input left total told within in
           let g = asks.gives i.0 i.1 (2 ^ 44) total i.2 in
           (g.0, g.1, g.2.0);
+      told = λ left hand total told within is.
+          let all = with_hand c.args.in_hand hand (lines_of (rest_in c.args.lines.now left)) in
+          lines-next all total (E.state c.args.session.now) (E.state x.session) (K.written c.args.out.now) (K.written x.out) c.lines.lines n.lines (S.left c.lines.input) (S.left n.input) (S.faults c.lines.input) (S.faults n.input)
+          (line-answered all total (E.state c.args.session.now) (E.state c.lines.session) (E.state x.session) (K.written c.args.out.now) (K.written c.lines.out) (K.written x.out) c.lines.lines (S.left c.lines.input) c.lines.has_line (c.lines.invariant.told left hand total told within is)
+          (subst (λ line. CausedIf {E = SinkFailed} c.lines.has_line line (E.state c.lines.session) (E.state x.session) (K.written c.lines.out) (K.written x.out) (Ok tt)) c.line.ensures c.in-Ok.ensures.told)) asks;
       talks = λ configured old left hand total makes ready here unread most told within is.
           between-next configured old (with_hand c.args.in_hand hand (lines_of (rest_in c.args.lines.now left))) total (E.stands x.session configured) f.media.content f.media.faults (E.flash x.session) (K.written c.args.out.now) (K.written x.out) c.lines.lines n.lines (S.left c.lines.input) (S.left n.input) (S.faults c.lines.input) (S.faults n.input)
           (hand-answered SinkFailed configured old (with_hand c.args.in_hand hand (lines_of (rest_in c.args.lines.now left))) total (E.stands c.lines.session configured) (E.stands x.session configured) f.media.content f.media.faults (E.flash c.lines.session) (E.flash x.session)
@@ -120,3 +129,42 @@ returns-in-Err-next_line-clause-input g c = λ left total told within.
     let i = c.lines.invariant.input left total told within in
     subst (λ status. InputEnds total (S.left n.input) status) (sym c.status_of.ensures)
     (input-failed total c.lines.lines n.lines (S.left c.lines.input) (S.left n.input) (S.faults c.lines.input) (S.faults n.input) c.in-Err-next_line.fault i.0 i.1 i.2 c.in-Err-next_line.ensures)
+
+pub returns-in-Err-clause-told : goal.returns-in-Err-clause-told
+returns-in-Err-clause-told g c = λ left hand total told within is.
+    let E = g.E.Executor in
+    let K = g.K.Sink in
+    let S = g.S.Source in
+    let x = c.answer_in_hand.new in
+    let all = with_hand c.args.in_hand hand (lines_of (rest_in c.args.lines.now left)) in
+    line-into all total (E.state c.args.session.now) (E.state c.lines.session) (E.state x.session) (K.written c.args.out.now) (K.written c.lines.out) (K.written x.out) c.lines.lines (S.left c.lines.input) c.lines.has_line c.in-Err.field-0 (S.left c.lines.input)
+    (c.lines.invariant.told left hand total told within is)
+    (subst (λ line. CausedIf {E = SinkFailed} c.lines.has_line line (E.state c.lines.session) (E.state x.session) (K.written c.lines.out) (K.written x.out) (Err c.in-Err.field-0)) c.line.ensures c.in-Err.ensures.told)
+
+pub returns-in-Ok-false-clause-told : goal.returns-in-Ok-false-clause-told
+returns-in-Ok-false-clause-told g c = λ left hand total told within is.
+    let E = g.E.Executor in
+    let K = g.K.Sink in
+    let S = g.S.Source in
+    let x = c.answer_in_hand.new in
+    let n = c.next_line.new in
+    let all = with_hand c.args.in_hand hand (lines_of (rest_in c.args.lines.now left)) in
+    let given : c.in-Ok-false.field-0 ≡ false = search rules in
+    let asks : AsksNext c.lines.lines (S.left c.lines.input) (S.faults c.lines.input) (Ok false) n.lines (S.left n.input) (S.faults n.input) =
+    subst (λ b. AsksNext c.lines.lines (S.left c.lines.input) (S.faults c.lines.input) (Ok b) n.lines (S.left n.input) (S.faults n.input)) given c.in-Ok-false.ensures in
+    lines-done all total (E.state c.args.session.now) (E.state x.session) (K.written c.args.out.now) (K.written x.out) c.lines.lines n.lines (S.left c.lines.input) (S.left n.input) (S.faults c.lines.input) (S.faults n.input)
+    (line-answered all total (E.state c.args.session.now) (E.state c.lines.session) (E.state x.session) (K.written c.args.out.now) (K.written c.lines.out) (K.written x.out) c.lines.lines (S.left c.lines.input) c.lines.has_line (c.lines.invariant.told left hand total told within is)
+    (subst (λ line. CausedIf {E = SinkFailed} c.lines.has_line line (E.state c.lines.session) (E.state x.session) (K.written c.lines.out) (K.written x.out) (Ok tt)) c.line.ensures c.in-Ok.ensures.told)) asks
+
+pub returns-in-Err-next_line-clause-told : goal.returns-in-Err-next_line-clause-told
+returns-in-Err-next_line-clause-told g c = λ left hand total told within is.
+    let E = g.E.Executor in
+    let K = g.K.Sink in
+    let S = g.S.Source in
+    let x = c.answer_in_hand.new in
+    let n = c.next_line.new in
+    let all = with_hand c.args.in_hand hand (lines_of (rest_in c.args.lines.now left)) in
+    subst (λ status. EndsBy (λ front whole. CausedBy front whole (E.state c.args.session.now) (E.state x.session) (K.written c.args.out.now) (K.written x.out)) all total (S.left n.input) status) (sym c.status_of.ensures)
+    (lines-failed all total (E.state c.args.session.now) (E.state x.session) (K.written c.args.out.now) (K.written x.out) c.lines.lines n.lines (S.left c.lines.input) (S.left n.input) (S.faults c.lines.input) (S.faults n.input)
+    (line-answered all total (E.state c.args.session.now) (E.state c.lines.session) (E.state x.session) (K.written c.args.out.now) (K.written c.lines.out) (K.written x.out) c.lines.lines (S.left c.lines.input) c.lines.has_line (c.lines.invariant.told left hand total told within is)
+    (subst (λ line. CausedIf {E = SinkFailed} c.lines.has_line line (E.state c.lines.session) (E.state x.session) (K.written c.lines.out) (K.written x.out) (Ok tt)) c.line.ensures c.in-Ok.ensures.told)) c.in-Err-next_line.fault c.in-Err-next_line.ensures)

@@ -1,8 +1,9 @@
-use Rattle.std.proofs.Common.{◌≡◌, ◌∙◌, Some, ap, sym, subst}
+use Rattle.std.proofs.Common.{◌≡◌, ◌∙◌, Some, refl, ap, sym, subst}
 use Rattle.fl_session.specs.Execute.{StandsAlike}
 use Rattle.fl_words.specs.Grammar.{lines_of}
 use Rattle.fl_shell.specs.Reading.{rest_in}
-use Rattle.fl_shell.specs.Talking.{TalkEnds, lines_from}
+use Rattle.fl_shell.specs.Caused.{CausedBy}
+use Rattle.fl_shell.specs.Talking.{EndsBy, TalkEnds, lines_from}
 use Rattle.fl_shell.specs.declared.talk.Next.TheVariants.{Ended}
 use Rattle.fl_shell.specs.declared.end.ShellStatus.TheVariants.{Done}
 use Rattle.fl_shell.proofs.TalkLoop.{talk-ended}
@@ -51,3 +52,31 @@ returns-in-Unread-clause-input g c = λ left total told ended within.
 
 pub returns-in-Ended-clause-input : goal.returns-in-Ended-clause-input
 returns-in-Ended-clause-input g c = λ left total told ended within. told ∙ ap Some (ended c.in-Ended.is)
+
+pub returns-in-InHand-clause-told : goal.returns-in-InHand-clause-told
+returns-in-InHand-clause-told g c = λ left hand total told ended within is.
+    let E = g.E.Executor in
+    let S = g.S.Source in
+    let K = g.K.Sink in
+    let x = c.talk.new in
+    let open_now : c.args.next ≡ Ended → ⊥ = λ e. let k = sym c.in-InHand.is ∙ e in cc in
+    subst (λ n. EndsBy (λ front whole. CausedBy front whole (E.state c.args.session.now) (E.state x.session) (K.written c.args.out.now) (K.written x.out)) (lines_from n hand (lines_of (rest_in c.args.lines.now left))) total (S.left x.input) c.talk.result) (sym c.in-InHand.is)
+    (c.talk.ensures.told left hand total told (within open_now) is)
+
+pub returns-in-Unread-clause-told : goal.returns-in-Unread-clause-told
+returns-in-Unread-clause-told g c = λ left hand total told ended within is.
+    let E = g.E.Executor in
+    let S = g.S.Source in
+    let K = g.K.Sink in
+    let x = c.talk-in-Unread.new in
+    let open_now : c.args.next ≡ Ended → ⊥ = λ e. let k = sym c.in-Unread.is ∙ e in cc in
+    subst (λ n. EndsBy (λ front whole. CausedBy front whole (E.state c.args.session.now) (E.state x.session) (K.written c.args.out.now) (K.written x.out)) (lines_from n hand (lines_of (rest_in c.args.lines.now left))) total (S.left x.input) c.talk-in-Unread.result) (sym c.in-Unread.is)
+    (c.talk-in-Unread.ensures.told left hand total told (within open_now) is)
+
+pub returns-in-Ended-clause-told : goal.returns-in-Ended-clause-told
+returns-in-Ended-clause-told g c = λ left hand total told none within is.
+    let E = g.E.Executor in
+    let S = g.S.Source in
+    let K = g.K.Sink in
+    subst (λ n. EndsBy (λ front whole. CausedBy front whole (E.state c.args.session.now) (E.state c.args.session.now) (K.written c.args.out.now) (K.written c.args.out.now)) (lines_from n hand (lines_of (rest_in c.args.lines.now left))) total (S.left c.args.input.now) Done) (sym c.in-Ended.is)
+    ((refl, refl), told ∙ ap Some (none c.in-Ended.is))

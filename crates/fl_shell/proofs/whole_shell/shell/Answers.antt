@@ -14,6 +14,7 @@ use Rattle.fl_shell.proofs.CompleteEnds.{completes, completes-none, early-at, lo
 use Rattle.fl_shell.proofs.EarlyEnds.{begin-failed, begins-on, ends-of, looks-goes, no-room, not-opened, open-rose, untouched}
 use Rattle.fl_shell.proofs.InputEnds.{input-opening}
 use Rattle.fl_shell.proofs.ShellEnds.{shell-ends, unread-begins, unread-few, unread-left, unread-short}
+use Rattle.fl_shell.proofs.CausedEnds.{caused-of, early-caused, opening-caused, shell-caused}
 use Rattle.fl_shell.proofs.whole_shell.shell.Goals as goal
 
 pub talk_over-requires-clause-reach : goal.talk_over-requires-clause-reach
@@ -233,3 +234,52 @@ returns-clause-complete g c = λ text tells told short is read write make.
     completes 64 text _ c.of-in-Err-open_image.result.flushed status short is (returns-clause-input g c text told)
     (λ e. opening-made c.in-Err-open_image.refusal status refused (subst IsOfSession (sym e) tt)) (λ e. opening-made c.in-Err-open_image.refusal status refused (subst IsOfSession (sym e) tt))
     (λ e. make (returns-clause-make g c e)) (returns-clause-ends g c text tells told)
+
+-- ---- over any bytes
+
+pub returns-in-Ok-open_image-clause-causes : goal.returns-in-Ok-open_image-clause-causes
+returns-in-Ok-open_image-clause-causes g c = λ text tells told.
+    let begun = c.in-Ok-begin.begun in
+    let w = whole-of 64 begun.config c.in-Ok-begin.ensures.whole in
+    let old = g.M.Media.state c.args.media.now in
+    let looked = g.M.Media.state c.begin.new.media in
+    let made = g.M.Media.state c.open_image.new.media in
+    let S = g.S.Source in
+    let K = g.K.Sink in
+    let fresh = c.in-Ok.ensures in
+    let opens = c.in-Ok-open_image.ensures w.0 (makes-of 64 begun.config w.0 w.1) in
+    let begins = unread-begins c.in-Ok.lines c.begin.new.lines old.content text (Ok begun) (S.left c.begin.new.input) (K.written c.args.out.now) (K.written c.begin.new.out) fresh
+    (c.in-Ok-begin.ensures.begins text (length text) tells told (unread-left c.in-Ok.lines text fresh) (unread-short c.in-Ok.lines fresh)) in
+    let b = begins-on 64 old.content (lines_of text) (length text) begun w.0 c.begin.new.lines (S.left c.begin.new.input) (K.written c.args.out.now) (K.written c.begin.new.out) w.1 begins in
+    shell-caused 64 text begun w.0 old looked made (g.M.Media.state c.talk_over.new.media) c.begin.new.lines (S.left c.begin.new.input) (S.left c.talk_over.new.input) (K.written c.args.out.now) (K.written c.begin.new.out) (K.written c.talk_over.new.out)
+    c.talk_over.result.flushed c.talk_over.result.status c.in-Ok-begin.ensures.looks b w.1 (opens-as w.0 looked (Ok tt) made opens) (opens-goes (medium_len w.0) (header w.0) looked (Ok tt) made opens) c.talk_over.ensures.statuses
+    (c.talk_over.ensures.told b.leaves.rest b.leaves.hand (length text) b.leaves.rest_told b.leaves.ended b.leaves.within b.leaves.hand_is)
+
+pub returns-in_default-clause-causes : goal.returns-in_default-clause-causes
+returns-in_default-clause-causes g c = λ text tells told.
+    caused-of 64 text _ _ _ _ _ c.of.result.flushed NoMemory c.of.result.status c.of.ensures.status c.of.ensures.flushed
+
+pub returns-in_default-new-clause-causes : goal.returns-in_default-new-clause-causes
+returns-in_default-new-clause-causes g c = λ text tells told.
+    caused-of 64 text _ _ _ _ _ c.of-in_default-new.result.flushed NoMemory c.of-in_default-new.result.status c.of-in_default-new.ensures.status c.of-in_default-new.ensures.flushed
+
+pub returns-in-Err-clause-causes : goal.returns-in-Err-clause-causes
+returns-in-Err-clause-causes g c = λ text tells told.
+    let old = g.M.Media.state c.args.media.now in
+    let looked = g.M.Media.state c.begin.new.media in
+    let S = g.S.Source in
+    let K = g.K.Sink in
+    let fresh = c.in-Ok.ensures in
+    let begins = unread-begins c.in-Ok.lines c.begin.new.lines old.content text (Err c.in-Err.status) (S.left c.begin.new.input) (K.written c.args.out.now) (K.written c.begin.new.out) fresh
+    (c.in-Err.ensures.begins text (length text) tells told (unread-left c.in-Ok.lines text fresh) (unread-short c.in-Ok.lines fresh)) in
+    caused-of 64 text old looked (S.left c.begin.new.input) (K.written c.args.out.now) (K.written c.begin.new.out) c.of-in-Err.result.flushed c.in-Err.status c.of-in-Err.result.status c.of-in-Err.ensures.status
+    (early-caused 64 text old looked c.begin.new.lines (S.left c.begin.new.input) (K.written c.args.out.now) (K.written c.begin.new.out) c.of-in-Err.result.flushed c.in-Err.status c.of-in-Err.ensures.flushed c.in-Err.ensures.looks begins)
+
+pub returns-in_default-new-2-clause-causes : goal.returns-in_default-new-2-clause-causes
+returns-in_default-new-2-clause-causes g c = λ text tells told.
+    caused-of 64 text _ _ _ _ _ c.of-in_default-new-2.result.flushed NoMemory c.of-in_default-new-2.result.status c.of-in_default-new-2.ensures.status c.of-in_default-new-2.ensures.flushed
+
+pub returns-clause-causes : goal.returns-clause-causes
+returns-clause-causes g c = λ text tells told.
+    let end = c.of-in-Err-open_image in
+    opening-caused 64 text _ _ _ _ _ end.result.flushed c.in-Err-open_image.refusal end.result.status (end.ensures.status ∙ c.status_of.ensures) end.ensures.flushed

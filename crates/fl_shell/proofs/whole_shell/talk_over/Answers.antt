@@ -3,6 +3,7 @@ use Rattle.fl_flash.specs.Media.{MediaState}
 use Rattle.fl_machine.specs.Script.{StandsAfter}
 use Rattle.fl_image.proofs.Made.{makes-of}
 use Rattle.fl_session.proofs.Over.{flash-keeps}
+use Rattle.fl_shell.proofs.CausedEnds.{session-ends}
 use Rattle.fl_shell.proofs.ShellEnds.{over-medium, over-goes}
 use Rattle.fl_shell.proofs.whole_shell.talk_over.Goals as goal
 
@@ -16,6 +17,8 @@ returns g c =
           over-medium configured old _ total _ _ _ before after _ _ _ _ _ c.over-session.ensures.medium (e ∙ c.into_media-media.ensures.state)
           (λ m stood. subst (λ (x : MediaState). StandsAfter configured (Some x.content) m) (sym e) (c.into_media-media.ensures.rests configured m stood))
           (c.talk_and_flush-end.ensures.ends configured old left hand total (makes-of 64 c.args.begun.now.config configured w) ready (c.over-session.ensures.begins configured old w rests) c.over-session.ensures.unread most told ended within is);
+      told = λ left hand total told ended within is.
+          session-ends c.args.begun.now.config before after _ _ _ total _ _ _ _ _ c.over-session.ensures.fresh c.talk_and_flush-end.ensures.goes (e ∙ c.into_media-media.ensures.state) (c.talk_and_flush-end.ensures.told left hand total told ended within is);
       input = c.talk_and_flush-end.ensures.input;
       statuses = c.talk_and_flush-end.ensures.statuses;
       keeps = flash-keeps _ _ before after c.over-session.ensures.medium (e ∙ c.into_media-media.ensures.state) c.over-session.ensures.start c.talk_and_flush-end.ensures.goes;

@@ -1,8 +1,11 @@
 use Rattle.std.proofs.Common.{inl}
 use Rattle.std.proofs.lemmas.Result.{err_from_is_err_and}
-use Rattle.fl_page.proofs.ReadsInTurn.{OnlyReads-then, IsCaused-later}
+use Rattle.fl_page.proofs.ReadsInTurn.{IsCaused-later}
+use Rattle.fl_frame.proofs.ContentsInTurn.{OnlyReads-then}
 use Rattle.fl_store.proofs.TablesOnlyRead.{stands-read, tells-read}
 use Rattle.fl_ship.proofs.Gaps.{lookup-caused, looks-empty, looks-failed, looks-found, looks-lacking, looks-missing, looks-unread}
+use Rattle.fl_frame.specs.Contents.{contents_of}
+use Rattle.fl_ship.proofs.BadPages.{find-bad, step-bad}
 use Rattle.fl_ship.proofs.missing.look_for_gap.Goals as goal
 
 pub returns-then-is_none-clause-looks : goal.returns-then-is_none-clause-looks
@@ -57,3 +60,14 @@ returns-in-None-clause-looks g c = λ first plan t tells stands.
 
 pub returns-in-None-clause-reads_only : goal.returns-in-None-clause-reads_only
 returns-in-None-clause-reads_only g c = OnlyReads-then _ _ _ c.find.ensures.counts c.first_key.ensures.reads_only
+
+pub returns-in_err-find-clause-bad_page : goal.returns-in_err-find-clause-bad_page
+returns-in_err-find-clause-bad_page g c = λ bad is.
+    let p = err_from_is_err_and c.from_residual.result c.from_residual.ensures.1 in
+    find-bad c.args.source.now (g.A.Flash.state c.args.from.now) (g.A.Flash.state c.find.new.flash) c.in_err-find.field-0.0 bad (rw (p.1, p.2) at is) c.in_err-find.ensures.fails
+
+pub returns-in_err-oldest-clause-bad_page : goal.returns-in_err-oldest-clause-bad_page
+returns-in_err-oldest-clause-bad_page g c = λ bad is.
+    let p = err_from_is_err_and c.from_residual-in_err-oldest.result c.from_residual-in_err-oldest.ensures.1 in
+    step-bad c.args.source.now (contents_of (g.A.Flash.state c.find.new.flash)) (contents_of (g.A.Flash.state c.args.from.now)) c.in_err-oldest.field-0.0 bad c.find.ensures.counts.contents
+    (rw (p.1, p.2) at is) c.in_err-oldest.ensures.bad_page

@@ -5,7 +5,7 @@ use Rattle.fl_cursor.specs.Going.{Goes}
 use Rattle.fl_cursor.proofs.StepsOfRows.{steps-after}
 use Rattle.fl_model.specs.Row.{Row}
 use Rattle.fl_model.specs.Table.{Entry}
-use Rattle.fl_page.specs.Contents.{contents_of}
+use Rattle.fl_frame.specs.Contents.{contents_of}
 use Rattle.fl_ship.specs.Missing.{FirstIs}
 use Rattle.fl_ship.proofs.Firsts.{first-found, first-none, first-unread}
 use Rattle.fl_ship.proofs.missing.next_key.Goals as goal
@@ -39,3 +39,8 @@ returns-clause-next g c = λ entries told are.
     let end : has_ended c.advance.new.self ≡ true = rw c.if-branch.false at c.in_ok-advance.ensures.end in
     let steps = steps-after old new held (g.A.Flash.state c.args.from.now).work.reads (g.A.Flash.state c.advance.new.flash).work.reads (Ok false) goes tt tt end told in
     first-none entries (sym are ∙ steps.0)
+
+pub returns-in_err-advance-clause-bad_page : goal.returns-in_err-advance-clause-bad_page
+returns-in_err-advance-clause-bad_page g c =
+    let p = err_from_is_err_and c.from_residual.result c.from_residual.ensures.1 in
+    rw (p.1, p.2) c.in_err-advance.ensures.bad_page

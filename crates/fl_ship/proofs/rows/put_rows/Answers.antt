@@ -1,15 +1,17 @@
 use Rattle.std.proofs.Common.{◌+◌, ◌<◌, ◌≤◌, true, false, Some, Ok, Err, ◌∷◌, IsTrue, refl, sym, ◌∙◌, ap, subst, arith}
 use Rattle.std.proofs.lemmas.Result.{err_from_is_err_and}
 use Rattle.fl_flash.specs.Flash.{page_at}
+use Rattle.fl_frame.proofs.CallsInTurn.{goes-same, goes-then}
 use Rattle.fl_model.specs.Row.{Row}
 use Rattle.fl_ops.proofs.ContinuedRows.{Continues-then}
-use Rattle.fl_page.specs.Contents.{Contents, contents_of}
+use Rattle.fl_frame.specs.Contents.{Contents, contents_of}
 use Rattle.fl_page.specs.Steps.{Steps}
-use Rattle.fl_page.proofs.ReadsInTurn.{OnlyReads-same, OnlyReads-then, IsCaused-later}
+use Rattle.fl_page.proofs.ReadsInTurn.{IsCaused-later}
+use Rattle.fl_frame.proofs.ContentsInTurn.{OnlyReads-same, OnlyReads-then}
 use Rattle.fl_rlc.specs.Table.{table_in}
 use Rattle.fl_schema.specs.Schema.{row_of}
 use Rattle.fl_table.specs.Look.{last_key_in}
-use Rattle.fl_store.proofs.CallsInTurn.{goes-same, goes-on, same-plan, same-on}
+use Rattle.fl_store.proofs.CallsInTurn.{same-plan, same-on}
 use Rattle.fl_store.proofs.Outsides.{outside-then}
 use Rattle.fl_ship.proofs.RowsSoFar.{above-next, far-none, far-more, keep-refused, keep-so, put-end, put-refused, put-unread, put-whole, unread-behind}
 use Rattle.fl_ship.proofs.rows.put_rows.Goals as goal
@@ -139,7 +141,7 @@ puts-preserved g c =
     let key = rw c.if-not-branch.false at c.in_ok-step.ensures.key in
     record {
       counts = OnlyReads-then _ _ _ inv.counts s.reads_only;
-      goes = goes-on _ _ _ inv.goes p.goes;
+      goes = goes-then _ _ _ inv.goes p.goes;
       same = same-on _ _ _ inv.same p.same;
       lies = p.lies;
       outside = λ tells. outside-then c.args.to.now c.puts.to (page_at (g.B.Flash.state c.args.onto.now)) (page_at (g.B.Flash.state c.puts.onto)) (page_at (g.B.Flash.state c.put_row.new.onto)) inv.same (inv.outside tells)
@@ -173,3 +175,6 @@ returns-clause-puts g c = λ first plan t works. put-whole _ _ _ _ c.args.count 
 
 pub returns-clause-cut : goal.returns-clause-cut
 returns-clause-cut g c = λ first plan t runs. keep-so _ _ _ _ c.args.count _ _ _ _ c.puts.invariant.far (omega arith) first plan t (Ok c.args.count) runs
+
+pub returns-in_err-put_row-clause-goes : goal.returns-in_err-put_row-clause-goes
+returns-in_err-put_row-clause-goes g c = goes-then _ _ _ c.puts.invariant.goes c.put_row.ensures.goes

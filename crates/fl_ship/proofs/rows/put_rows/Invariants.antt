@@ -2,7 +2,7 @@ use Rattle.std.proofs.Common.{◌≡◌, ◌+◌, ◌<◌, ◌≤◌, ℕ, true,
 use Rattle.fl_flash.specs.Flash.{Goes, page_at}
 use Rattle.fl_model.specs.Query.{is_above}
 use Rattle.fl_ops.specs.Inputs.{Continues}
-use Rattle.fl_page.specs.Contents.{contents_of, OnlyReads}
+use Rattle.fl_frame.specs.Contents.{contents_of, OnlyReads}
 use Rattle.fl_rlc.specs.Table.{is_running, table_in, IsSamePlan, LiesOn, OutsideStands}
 use Rattle.fl_table.specs.Look.{last_key_in}
 use Rattle.fl_ship.proofs.RowsSoFar.{Far}

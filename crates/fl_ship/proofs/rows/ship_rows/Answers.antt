@@ -1,6 +1,7 @@
 use Rattle.std.proofs.Common.{IsTrue, Ok, Err, refl, sym, ◌∙◌, subst}
 use Rattle.std.proofs.lemmas.Result.{err_from_is_err_and}
 use Rattle.fl_flash.specs.Flash.{page_at}
+use Rattle.fl_frame.proofs.CallsInTurn.{goes-then}
 use Rattle.fl_store.proofs.Outsides.{outside-then}
 use Rattle.fl_ship.proofs.LastFlush.{flush-stops, ship-done, ship-unput, ship-unflushed, keep-flushed}
 use Rattle.fl_ship.proofs.rows.ship_rows.Goals as goal
@@ -61,3 +62,9 @@ returns-clause-outside g c = λ tells.
     let p = c.put_rows.ensures in
     outside-then c.args.to.now c.put_rows.new.to (page_at (g.B.Flash.state c.args.onto.now)) (page_at (g.B.Flash.state c.put_rows.new.onto)) (page_at (g.B.Flash.state c.flush_copy.new.onto)) p.same (p.outside tells)
     (c.flush_copy.ensures.outside (subst IsTrue (sym p.goes.tells) tells))
+
+pub returns-in_err-flush_copy-clause-goes : goal.returns-in_err-flush_copy-clause-goes
+returns-in_err-flush_copy-clause-goes g c = goes-then _ _ _ c.put_rows.ensures.goes c.flush_copy.ensures.goes
+
+pub returns-clause-goes : goal.returns-clause-goes
+returns-clause-goes g c = goes-then _ _ _ c.put_rows.ensures.goes c.flush_copy.ensures.goes

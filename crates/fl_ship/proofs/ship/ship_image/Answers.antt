@@ -1,6 +1,7 @@
 use Rattle.std.proofs.Common.{◌≡◌, ℕ, inl, inr, Err, true, false, IsTrue, List, [], refl, sym, ◌∙◌, ap, subst, arith, rules}
 use Rattle.fl_base.specs.declared.types.Geometry.{Geometry}
 use Rattle.fl_flash.specs.Media.{MediaState}
+use Rattle.fl_store.proofs.Unarmed.{opened-unarmed}
 use Rattle.fl_image.specs.Image.{OnlyLooksAt}
 use Rattle.fl_image.proofs.Made.{made}
 use Rattle.fl_image.proofs.Reach.{reach}
@@ -28,6 +29,7 @@ use Rattle.fl_ship.proofs.ImageEnds.{copy-known, copy-made, copy-makes, formed, 
 use Rattle.fl_ship.proofs.MediaEnds.{store-ends}
 use Rattle.fl_ship.proofs.Forms.{one-form}
 use Rattle.fl_ship.proofs.Statuses.{not-refused}
+use Rattle.fl_ship.specs.Over.{IsHalfMade, ShipJob}
 use Rattle.fl_ship.proofs.ship.ship_image.Goals as goal
 
 good-image : (side : Side) (table : ℕ) → Device Copy ≡ BadImage side table → ⊥
@@ -183,6 +185,12 @@ ship_on-status-requires-clause-lie g c = c.over-from.ensures.lie
 pub ship_on-status-requires-clause-copies_lie : goal.ship_on-status-requires-clause-copies_lie
 ship_on-status-requires-clause-copies_lie g c = c.over-onto.ensures.lie
 
+pub ship_on-status-requires-clause-unarmed : goal.ship_on-status-requires-clause-unarmed
+ship_on-status-requires-clause-unarmed g c = opened-unarmed _ _ _ c.over-from.ensures.opened
+
+pub ship_on-status-requires-clause-copy_unarmed : goal.ship_on-status-requires-clause-copy_unarmed
+ship_on-status-requires-clause-copy_unarmed g c = opened-unarmed _ _ _ c.over-onto.ensures.opened
+
 pub ship_on-status-requires-clause-at : goal.ship_on-status-requires-clause-at
 ship_on-status-requires-clause-at g c = omega (arith, c.in-Ok.ensures.ready.at, (laid _ _ _ c.over-from.ensures.tables c.in-Ok.ensures.ready.source_layout).as_many)
 
@@ -319,3 +327,43 @@ returns-clause-copy_keeps g c =
     copy-keeps (g.M.Media.state c.args.media.now).content (g.C.Media.state c.args.copy.now) (g.C.Media.state c.make_ready.new.copy) (g.C.Media.state c.make_copy.new.copy) _ c.in-Ok.ensures.copy_looks (λ some. (c.make_copy.ensures.kept some).0) c.make_copy.ensures.tells c.make_copy.ensures.later
     (λ empty. omega (arith, c.make_copy.ensures.part own.0 own.1 empty, c.in-Ok.ensures.ready.size own.0 own.1))
     (worked-keeps _ _ _ _ _ (worked-by c.over-onto.ensures.opened c.ship_on-status.ensures.copy_goes (k ∙ c.into_media-copy.ensures.state)))
+
+-- ---- over any bytes
+
+pub returns-in-Err-clause-over : goal.returns-in-Err-clause-over
+returns-in-Err-clause-over g c = inl (c.in-Err.ensures.early, c.in-Err.ensures.looks, c.in-Err.ensures.copy_looks)
+
+pub returns-in-Err-make_copy-clause-over : goal.returns-in-Err-make_copy-clause-over
+returns-in-Err-make_copy-clause-over g c =
+    let failed = c.in-Err-make_copy.ensures.failed in
+    inr (inl (record { told = failed.0; empty = sym c.in-Ok.ensures.copy_looks.content ∙ failed.1; looks = c.in-Ok.ensures.looks }))
+
+pub returns-clause-over : goal.returns-clause-over
+returns-clause-over g c =
+    let ready = c.in-Ok.ensures.ready in
+    let copy_looks = c.in-Ok.ensures.copy_looks in
+    let e : g.M.Media.state c.media-1.given.0 ≡ g.M.Media.state c.into_media-media.result.now = search rules in
+    let k : g.C.Media.state c.copy-1.given.0 ≡ g.C.Media.state c.into_media-copy.result.now = search rules in
+    inr (inr (record {
+      lines = c.in-Ok.ready.config;
+      image = ready.image;
+      own = ready.own;
+      sources = c.over-from.result.tables.entries.items;
+      copies = c.over-onto.result.tables.entries.items;
+      made = (laid _ _ _ c.over-from.ensures.tables ready.source_layout, laid _ _ _ c.over-onto.ensures.tables ready.copy_layout);
+      at = c.in-Ok.ready.at;
+      named = named-in _ _ _ _ c.over-from.ensures.tables ready.named;
+      looked = g.M.Media.state c.make_ready.new.media;
+      looks = c.in-Ok.ensures.looks;
+      begun = g.C.Media.state c.make_copy.new.copy;
+      keeps = λ some. looks-kept (g.C.Media.state c.args.copy.now) (g.C.Media.state c.make_ready.new.copy) (g.C.Media.state c.make_copy.new.copy) some copy_looks (λ held. (c.make_copy.ensures.kept held).0);
+      makes = λ config makes tells. c.in_default.ensures.made config makes (subst IsTrue (sym copy_looks.tells) tells) ∙ ap (made_copy config) copy_looks.content;
+      from = _;
+      onto = _;
+      opened = (c.over-from.ensures.opened, c.over-onto.ensures.opened);
+      from_now = _;
+      onto_now = _;
+      ships = c.ship_on-status.ensures.over;
+      goes = (c.ship_on-status.ensures.goes, c.ship_on-status.ensures.copy_goes);
+      left = (e ∙ c.into_media-media.ensures.state, k ∙ c.into_media-copy.ensures.state);
+    }))

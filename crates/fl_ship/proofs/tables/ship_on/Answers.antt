@@ -1,6 +1,10 @@
-use Rattle.std.proofs.Common.{◌≡◌, inr, true, false, IsTrue, Err, Some, length, refl, sym, ◌∙◌, ap, subst, arith}
+use Rattle.std.proofs.Common.{◌≡◌, ◌<◌, inr, true, false, IsTrue, Err, Some, length, refl, sym, ◌∙◌, ap, subst, arith}
 use Rattle.std.specs.List.{slice_get}
 use Rattle.std.proofs.lemmas.Option.{slice_get_within}
+use Rattle.fl_frame.proofs.ContentsInTurn.{OnlyReads-goes}
+use Rattle.fl_frame.proofs.CallsInTurn.{goes-then}
+use Rattle.fl_store.proofs.CallsInTurn.{rose-back}
+use Rattle.fl_store.proofs.Unarmed.{unarmed-then}
 use Rattle.fl_store.specs.Store.{at_rest}
 use Rattle.fl_store.proofs.TableByName.{stands-there}
 use Rattle.fl_store.proofs.ImageRepairs.{repaired-read}
@@ -19,7 +23,11 @@ use Rattle.fl_ship.specs.declared.side.Side.TheVariants.{Source, Copy}
 use Rattle.fl_ship.specs.declared.stop.Stop.{Stop}
 use Rattle.fl_ship.proofs.Forms.{form-after}
 use Rattle.fl_ship.proofs.FlashEnds.{source-fails, copy-fails, shipped, stopped, broken-left, broken-device, read-left, mounted-left, changed-left}
-use Rattle.fl_ship.proofs.Statuses.{mount-place, good-device, stop-good}
+use Rattle.fl_ship.proofs.Statuses.{mount-place, good-device, stop-good, mount-rose, sides-apart, stop-rose}
+use Rattle.fl_store.specs.MountsOver.{MountsOver}
+use Rattle.fl_store.proofs.Jobs.{own-changes}
+use Rattle.fl_ship.specs.Over.{ShipsOver}
+use Rattle.fl_ship.proofs.OverBytes.{bad-there, copy-refused, gap-there, source-refused, tables-shipped, tells-shipped, tells-stopped}
 use Rattle.fl_ship.proofs.tables.ship_on.Goals as goal
 
 -- ---- the source's tables aren't mounted
@@ -56,6 +64,14 @@ returns-in-Err-clause-good g c = λ plans ts name table tells on calm stand name
     let has = stands-there f (λ i. false) plans c.args.sources.now.entries.items ts name c.args.at stand named in
     let breaks = c.in-Err.ensures.ends plans ts (has_risen f m) at_rest (watched f m at_rest tells on calm) stand in
     good-device Source Source table c.mount_status.result (c.mount_status.ensures ∙ broken-device plans ts name has f m c.mount.new.self.entries.items c.in-Err.bad.fault c.in-Err.bad.at breaks Source) is
+
+pub returns-in-Err-clause-device : goal.returns-in-Err-clause-device
+returns-in-Err-clause-device g c = λ is.
+    (mount-rose Source Source (g.A.Flash.state c.args.from.now) (g.A.Flash.state c.mount.new.flash) c.in-Err.bad.fault c.in-Err.bad.at c.requires.unarmed (sym c.mount_status.ensures ∙ is) c.in-Err.ensures.cause).1
+
+pub returns-in-Err-clause-copy_device : goal.returns-in-Err-clause-copy_device
+returns-in-Err-clause-copy_device g c = λ is.
+    absurd (sides-apart (mount-rose Source Copy (g.A.Flash.state c.args.from.now) (g.A.Flash.state c.mount.new.flash) c.in-Err.bad.fault c.in-Err.bad.at c.requires.unarmed (sym c.mount_status.ensures ∙ is) c.in-Err.ensures.cause).0)
 
 pub returns-in-Err-clause-bad : goal.returns-in-Err-clause-bad
 returns-in-Err-clause-bad g c = λ side table is.
@@ -114,6 +130,14 @@ returns-in-Err-mount-clause-good_copy g c = λ plans cs name table tells on calm
     let has = stands-there o (λ i. false) plans c.args.copies.now.entries.items cs name c.args.at stand named in
     let breaks = c.in-Err-mount.ensures.ends plans cs (has_risen o n) at_rest (watched o n at_rest tells on calm) stand in
     good-device Copy Copy table c.mount_status-in-Err-mount.result (c.mount_status-in-Err-mount.ensures ∙ broken-device plans cs name has o n c.mount-2.new.self.entries.items c.in-Err-mount.bad.fault c.in-Err-mount.bad.at breaks Copy) is
+
+pub returns-in-Err-mount-clause-device : goal.returns-in-Err-mount-clause-device
+returns-in-Err-mount-clause-device g c = λ is.
+    absurd (sides-apart (sym (mount-rose Copy Source (g.B.Flash.state c.args.onto.now) (g.B.Flash.state c.mount-2.new.flash) c.in-Err-mount.bad.fault c.in-Err-mount.bad.at c.requires.copy_unarmed (sym c.mount_status-in-Err-mount.ensures ∙ is) c.in-Err-mount.ensures.cause).0))
+
+pub returns-in-Err-mount-clause-copy_device : goal.returns-in-Err-mount-clause-copy_device
+returns-in-Err-mount-clause-copy_device g c = λ is.
+    (mount-rose Copy Copy (g.B.Flash.state c.args.onto.now) (g.B.Flash.state c.mount-2.new.flash) c.in-Err-mount.bad.fault c.in-Err-mount.bad.at c.requires.copy_unarmed (sym c.mount_status-in-Err-mount.ensures ∙ is) c.in-Err-mount.ensures.cause).1
 
 pub returns-in-Err-mount-clause-bad : goal.returns-in-Err-mount-clause-bad
 returns-in-Err-mount-clause-bad g c = λ side table is.
@@ -305,6 +329,18 @@ returns-in-Err-ship_table-clause-copy_stands g c = λ plans cs name c_tells c_on
     changed-left plans cs o n c_now c.args.at c.index_mut.result.now told_n c_here c_mounted k c.ship_table.new.copy c.ship_table.ensures.goes c.ship_table.ensures.same c.ship_table.ensures.outside
     (c.ship_table.ensures.copy_stands (first_of plans c.args.at) to.plan to.table works)
 
+pub returns-in-Err-ship_table-clause-device : goal.returns-in-Err-ship_table-clause-device
+returns-in-Err-ship_table-clause-device g c = λ is.
+    rose-back _ _ _ c.mount.ensures.goes.faults
+    (stop-rose Source (g.A.Flash.state c.mount.new.flash) (g.A.Flash.state c.ship_table.new.from) (g.B.Flash.state c.mount-2.new.flash) (g.B.Flash.state c.ship_table.new.onto) c.in-Err-ship_table.stop c.args.at
+    (unarmed-then _ _ c.requires.unarmed c.mount.ensures.goes).on (unarmed-then _ _ c.requires.copy_unarmed c.mount-2.ensures.goes) (sym c.stop_status.ensures ∙ is) c.in-Err-ship_table.ensures.cause)
+
+pub returns-in-Err-ship_table-clause-copy_device : goal.returns-in-Err-ship_table-clause-copy_device
+returns-in-Err-ship_table-clause-copy_device g c = λ is.
+    rose-back _ _ _ c.mount-2.ensures.goes.faults
+    (stop-rose Copy (g.A.Flash.state c.mount.new.flash) (g.A.Flash.state c.ship_table.new.from) (g.B.Flash.state c.mount-2.new.flash) (g.B.Flash.state c.ship_table.new.onto) c.in-Err-ship_table.stop c.args.at
+    (unarmed-then _ _ c.requires.unarmed c.mount.ensures.goes).on (unarmed-then _ _ c.requires.copy_unarmed c.mount-2.ensures.goes) (sym c.stop_status.ensures ∙ is) c.in-Err-ship_table.ensures.cause)
+
 pub returns-in-Err-ship_table-clause-good : goal.returns-in-Err-ship_table-clause-good
 returns-in-Err-ship_table-clause-good g c = λ plans ts name table tells on calm stand named is.
     let f = g.A.Flash.state c.args.from.now in
@@ -318,3 +354,74 @@ returns-in-Err-ship_table-clause-good g c = λ plans ts name table tells on calm
     let stood = subst (λ (t : Table 64 64). Stands t m (first_of plans c.args.at) (bare from.plan) (bare_table from.table)) (sym c.table-source.ensures) from.stands.on_flash.unlogged in
     stop-good c.in-Err-ship_table.stop c.args.at table
     (λ bad e. c.ship_table.ensures.none_bad (first_of plans c.args.at) (bare from.plan) (bare_table from.table) told_m stood bad (c.in-Err-ship_table.is ∙ ap (λ (s : Stop). Err s) e)) (sym c.stop_status.ensures ∙ is)
+
+pub returns-in-Ok-clause-goes : goal.returns-in-Ok-clause-goes
+returns-in-Ok-clause-goes g c = goes-then _ _ _ c.mount.ensures.goes (OnlyReads-goes _ _ c.ship_table.ensures.reads_only)
+
+pub returns-in-Ok-clause-copy_goes : goal.returns-in-Ok-clause-copy_goes
+returns-in-Ok-clause-copy_goes g c = goes-then _ _ _ c.mount-2.ensures.goes c.ship_table.ensures.goes
+
+pub returns-in-Err-ship_table-clause-goes : goal.returns-in-Err-ship_table-clause-goes
+returns-in-Err-ship_table-clause-goes g c = goes-then _ _ _ c.mount.ensures.goes (OnlyReads-goes _ _ c.ship_table.ensures.reads_only)
+
+pub returns-in-Err-ship_table-clause-copy_goes : goal.returns-in-Err-ship_table-clause-copy_goes
+returns-in-Err-ship_table-clause-copy_goes g c = goes-then _ _ _ c.mount-2.ensures.goes c.ship_table.ensures.goes
+
+-- ---- over any bytes
+
+pub returns-in-Err-clause-over : goal.returns-in-Err-clause-over
+returns-in-Err-clause-over g c =
+    let e = c.mount.ensures in
+    let mounts : MountsOver c.args.sources.now.entries.items c.mount.new.self.entries.items (g.A.Flash.state c.args.from.now) c.mount.result (g.A.Flash.state c.mount.new.flash) =
+    record { found = e.found; refused = e.refused; stops = e.stops; cause = e.cause; running = e.running; none = e.none; power = e.power; as_many = e.as_many; names = e.names; same = e.same; repairs = e.repairs; outside = e.outside } in
+    rw c.mount_status.ensures (source-refused c.args.count c.args.at _ _ _ _ c.mount.result mounts c.args.copies.now.entries.items (g.B.Flash.state c.args.onto.now) c.in-Err.bad c.in-Err.is)
+
+pub returns-in-Err-mount-clause-over : goal.returns-in-Err-mount-clause-over
+returns-in-Err-mount-clause-over g c =
+    let e = c.mount.ensures in
+    let mounts : MountsOver c.args.sources.now.entries.items c.mount.new.self.entries.items (g.A.Flash.state c.args.from.now) c.mount.result (g.A.Flash.state c.mount.new.flash) =
+    record { found = e.found; refused = e.refused; stops = e.stops; cause = e.cause; running = e.running; none = e.none; power = e.power; as_many = e.as_many; names = e.names; same = e.same; repairs = e.repairs; outside = e.outside } in
+    let d = c.mount-2.ensures in
+    let c_mounts : MountsOver c.args.copies.now.entries.items c.mount-2.new.self.entries.items (g.B.Flash.state c.args.onto.now) c.mount-2.result (g.B.Flash.state c.mount-2.new.flash) =
+    record { found = d.found; refused = d.refused; stops = d.stops; cause = d.cause; running = d.running; none = d.none; power = d.power; as_many = d.as_many; names = d.names; same = d.same; repairs = d.repairs; outside = d.outside } in
+    rw c.mount_status-in-Err-mount.ensures (copy-refused c.args.count c.args.at _ _ _ _ c.mount.result mounts c.args.copies.now.entries.items (g.B.Flash.state c.args.onto.now) tt c.in_default.is _ _ c.mount-2.result c_mounts c.in-Err-mount.bad c.in-Err-mount.is)
+
+pub returns-in-Ok-clause-over : goal.returns-in-Ok-clause-over
+returns-in-Ok-clause-over g c =
+    let e = c.mount.ensures in
+    let mounts : MountsOver c.args.sources.now.entries.items c.mount.new.self.entries.items (g.A.Flash.state c.args.from.now) c.mount.result (g.A.Flash.state c.mount.new.flash) =
+    record { found = e.found; refused = e.refused; stops = e.stops; cause = e.cause; running = e.running; none = e.none; power = e.power; as_many = e.as_many; names = e.names; same = e.same; repairs = e.repairs; outside = e.outside } in
+    let d = c.mount-2.ensures in
+    let c_mounts : MountsOver c.args.copies.now.entries.items c.mount-2.new.self.entries.items (g.B.Flash.state c.args.onto.now) c.mount-2.result (g.B.Flash.state c.mount-2.new.flash) =
+    record { found = d.found; refused = d.refused; stops = d.stops; cause = d.cause; running = d.running; none = d.none; power = d.power; as_many = d.as_many; names = d.names; same = d.same; repairs = d.repairs; outside = d.outside } in
+    let c_here : slice_get c.mount-2.new.self.entries.items c.args.at ≡ Some c.index_mut.result.now =
+    item-there c.mount-2.new.self.entries.items (length c.mount-2.new.self.entries.items) c.args.at c.index_mut.result.now refl (omega (arith, c.requires.at, c.requires.as_many, c.mount-2.ensures.as_many)) c.index_mut.ensures.value in
+    let within : c.args.at < length c.args.copies.now.entries.items = omega (arith, c.requires.at, c.requires.as_many) in
+    let changes = own-changes c.args.copies.now.entries.items c.mount-2.new.self.entries.items c.args.at c.index_mut.result.now (g.B.Flash.state c.mount-2.new.flash) (g.B.Flash.state c.ship_table.new.onto) d.same within c_here c.ship_table.ensures.outside in
+    let tells = tells-shipped c.args.count c.args.at c.mount.new.self.entries.items (g.A.Flash.state c.mount.new.flash) c.mount-2.new.self.entries.items (g.B.Flash.state c.mount-2.new.flash) (g.B.Flash.state c.ship_table.new.onto)
+    c.in-Ok.shipped _ _ _ _ c.told.result c.in-Ok.ensures.few c.told.ensures.tells in
+    tables-shipped c.args.count c.args.at _ _ _ _ c.mount.result mounts c.args.copies.now.entries.items (g.B.Flash.state c.args.onto.now) tt c.in_default.is _ _ c.mount-2.result c_mounts c.told.result
+    (g.A.Flash.state c.ship_table.new.from) (g.B.Flash.state c.ship_table.new.onto) tt c.in_default-mount.is d.goes c.ship_table.ensures.reads_only changes tells
+
+pub returns-in-Err-ship_table-clause-over : goal.returns-in-Err-ship_table-clause-over
+returns-in-Err-ship_table-clause-over g c =
+    let e = c.mount.ensures in
+    let mounts : MountsOver c.args.sources.now.entries.items c.mount.new.self.entries.items (g.A.Flash.state c.args.from.now) c.mount.result (g.A.Flash.state c.mount.new.flash) =
+    record { found = e.found; refused = e.refused; stops = e.stops; cause = e.cause; running = e.running; none = e.none; power = e.power; as_many = e.as_many; names = e.names; same = e.same; repairs = e.repairs; outside = e.outside } in
+    let d = c.mount-2.ensures in
+    let c_mounts : MountsOver c.args.copies.now.entries.items c.mount-2.new.self.entries.items (g.B.Flash.state c.args.onto.now) c.mount-2.result (g.B.Flash.state c.mount-2.new.flash) =
+    record { found = d.found; refused = d.refused; stops = d.stops; cause = d.cause; running = d.running; none = d.none; power = d.power; as_many = d.as_many; names = d.names; same = d.same; repairs = d.repairs; outside = d.outside } in
+    let here : slice_get c.mount.new.self.entries.items c.args.at ≡ Some c.index.result.now =
+    item-there c.mount.new.self.entries.items (length c.mount.new.self.entries.items) c.args.at c.index.result.now refl (omega (arith, c.requires.at, c.mount.ensures.as_many)) c.index.ensures in
+    let c_here : slice_get c.mount-2.new.self.entries.items c.args.at ≡ Some c.index_mut.result.now =
+    item-there c.mount-2.new.self.entries.items (length c.mount-2.new.self.entries.items) c.args.at c.index_mut.result.now refl (omega (arith, c.requires.at, c.requires.as_many, c.mount-2.ensures.as_many)) c.index_mut.ensures.value in
+    let within : c.args.at < length c.args.copies.now.entries.items = omega (arith, c.requires.at, c.requires.as_many) in
+    let changes = own-changes c.args.copies.now.entries.items c.mount-2.new.self.entries.items c.args.at c.index_mut.result.now (g.B.Flash.state c.mount-2.new.flash) (g.B.Flash.state c.ship_table.new.onto) d.same within c_here c.ship_table.ensures.outside in
+    let tells = tells-stopped c.args.count c.args.at c.mount.new.self.entries.items (g.A.Flash.state c.mount.new.flash) c.mount-2.new.self.entries.items (g.B.Flash.state c.mount-2.new.flash) (g.B.Flash.state c.ship_table.new.onto) c.in-Err-ship_table.stop
+    (λ bad is. bad-there c.mount.new.self.entries.items c.args.at c.index.result.now c.table-source.result.now (g.A.Flash.state c.mount.new.flash) bad here c.table-source.ensures (c.ship_table.ensures.bad_page bad (c.in-Err-ship_table.is ∙ ap (λ (s : Stop). Err s) is)))
+    (λ last oldest is.
+    let stops = c.in-Err-ship_table.is ∙ ap (λ (s : Stop). Err s) is in
+    (gap-there c.mount.new.self.entries.items c.mount-2.new.self.entries.items c.args.at last c.index.result.now c.index_mut.result.now c.table-source.result.now here c_here c.table-source.ensures (c.ship_table.ensures.gap last oldest stops), c.ship_table.ensures.gap_leaves last oldest stops)) in
+    rw c.stop_status.ensures
+    (tables-shipped c.args.count c.args.at _ _ _ _ c.mount.result mounts c.args.copies.now.entries.items (g.B.Flash.state c.args.onto.now) tt c.in_default.is _ _ c.mount-2.result c_mounts _
+    (g.A.Flash.state c.ship_table.new.from) (g.B.Flash.state c.ship_table.new.onto) tt c.in_default-mount.is d.goes c.ship_table.ensures.reads_only changes tells)

@@ -1,20 +1,23 @@
-use Rattle.std.proofs.Common.{◌≡◌, true, Err, sym, ◌∙◌, ap}
+use Rattle.std.proofs.Common.{◌≡◌, true, Err, sym, ◌∙◌, ap, subst}
 use Rattle.std.specs.Option.{option_map}
 use Rattle.std.proofs.lemmas.Result.{err_from_is_err_and}
 use Rattle.fl_store.proofs.TablesOnlyRead.{is-standing, lies-read, stands-read, tells-read}
 use Rattle.fl_model.specs.Bare.{bare, bare_table}
 use Rattle.fl_model.specs.Ship.{records_in}
 use Rattle.fl_model.specs.Table.{Entry, last_entry, lose}
-use Rattle.fl_page.specs.Contents.{contents_of}
+use Rattle.fl_frame.specs.Contents.{Contents, contents_of}
 use Rattle.fl_page.specs.declared.fault.ReadFault.TheVariants as read
-use Rattle.fl_page.proofs.ReadsInTurn.{OnlyReads-then}
+use Rattle.fl_frame.proofs.ContentsInTurn.{OnlyReads-then}
 use Rattle.fl_rlc.specs.Table.{table_in}
 use Rattle.fl_table.specs.Look.{layout_in}
 use Rattle.fl_store.proofs.TablesChanged.{off-rests}
 use Rattle.fl_ship.specs.declared.fault.ShipFault.{ShipFault}
 use Rattle.fl_ship.specs.declared.fault.ShipFault.TheVariants.{Read}
+use Rattle.fl_ship.specs.declared.stop.Stop.{Stop}
 use Rattle.fl_ship.specs.declared.stop.Stop.TheVariants as stop
 use Rattle.fl_ship.proofs.OneTable.{caused-later, flush-rests, leaves-gap, leaves-none, leaves-shipped, leaves-stopped, leaves-unflushed, look-good, same-fault, same-stop, source-plain, table-stands, wanted-are}
+use Rattle.fl_cursor.specs.Cursor.{MayBeBad}
+use Rattle.fl_table.specs.declared.table.Table.{Table}
 use Rattle.fl_ship.proofs.tables.ship_table.Goals as goal
 
 pub returns-in_err-look_for_gap-clause-ships : goal.returns-in_err-look_for_gap-clause-ships
@@ -115,3 +118,16 @@ returns-clause-copy_stands g c = λ first plan t works. let rows = c.in_ok-shipp
 
 pub returns-clause-reads_only : goal.returns-clause-reads_only
 returns-clause-reads_only g c = OnlyReads-then _ _ _ c.look_for_gap.ensures.reads_only c.ship_rows-shipped.ensures.reads_only
+
+pub returns-in_err-look_for_gap-clause-bad_page : goal.returns-in_err-look_for_gap-clause-bad_page
+returns-in_err-look_for_gap-clause-bad_page g c = λ bad is.
+    let p = err_from_is_err_and c.from_residual.result c.from_residual.ensures.1 in
+    let same = same-stop c.in_err-look_for_gap.field-0.0 (stop.Ship (Read (read.BadPage bad))) (rw (p.1, p.2) at is) in
+    c.look_for_gap.ensures.bad_page bad (c.in_err-look_for_gap.was ∙ ap (λ (s : Stop). Err s) same)
+
+pub returns-in_err-shipped-clause-bad_page : goal.returns-in_err-shipped-clause-bad_page
+returns-in_err-shipped-clause-bad_page g c = λ bad is.
+    let p = err_from_is_err_and c.from_residual-in_err-shipped.result c.from_residual-in_err-shipped.ensures.1 in
+    let same = same-fault c.in_err-shipped.field-0.0 (Read (read.BadPage bad)) (rw (p.1, p.2) at is) in
+    subst (λ (k : Contents). MayBeBad c.args.source.now k bad) c.look_for_gap.ensures.reads_only.contents
+    (subst (λ (t : Table 64 64). MayBeBad t (contents_of (g.A.Flash.state c.look_for_gap.new.from)) bad) c.begin-cursor.ensures.table (c.in_err-shipped.ensures.bad_page bad same))

@@ -4,6 +4,9 @@ use Rattle.fl_table.specs.Bitmaps.{MakesRoomOf}
 use Rattle.std.proofs.lemmas.Bool.{cases_lt}
 use Rattle.fl_index.specs.Memory.{waiting_in, per_page}
 use Rattle.fl_table.proofs.PowerOff.{off-either}
+use Rattle.fl_ring.specs.Written.{Writes}
+use Rattle.fl_ring.proofs.Written.{writes-none}
+use Rattle.fl_table.specs.Bitmaps.{MaySeal, rings_of}
 use Rattle.fl_table.proofs.bitmaps.make_room.Goals as goal
 
 pub returns-in-Some-clause-ends : goal.returns-in-Some-clause-ends
@@ -18,3 +21,10 @@ returns-in-Some-clause-off g c =
       | inl less ↦ let still = c.make_room.ensures.nothing less in inl (still.0, still.2)
       | inr full ↦ inr (c.make_room.ensures.off full)
     ])
+
+pub returns-in-Some-clause-writes : goal.returns-in-Some-clause-writes
+returns-in-Some-clause-writes g c =
+    subst (λ (o : Option BitmapIndex). Writes (MaySeal o) 0 (rings_of o) (g.F.Flash.state c.args.flash.now) (g.F.Flash.state c.make_room.new.flash)) (sym c.in-Some.is) c.make_room.ensures.writes
+
+pub returns-in-None-clause-writes : goal.returns-in-None-clause-writes
+returns-in-None-clause-writes g c = writes-none (MaySeal c.args.bitmaps.now) (rings_of c.args.bitmaps.now) (g.F.Flash.state c.args.flash.now)

@@ -1,4 +1,4 @@
-use Rattle.std.proofs.Common.{rules, ◌≡◌, ◌-◌, Option, Some, Ok, ◌∙◌, ap, subst, arith, inr}
+use Rattle.std.proofs.Common.{◌≡◌, ◌-◌, Option, Some, Ok, ◌∙◌, ap, subst, arith, inr}
 use Rattle.std.proofs.lemmas.Result.{err_from_is_err_and}
 use Rattle.fl_table.specs.BlobEnds.{least_of}
 use Rattle.fl_table.specs.BlobMount.{FindsBlobs, MountEndsOf}
@@ -17,7 +17,7 @@ pub returns-then-end-from-clause-ends : goal.returns-then-end-from-clause-ends
 returns-then-end-from-clause-ends g c = λ first plan table rose device there.
     let f = g.F.Flash.state c.args.flash.now in
     let new = g.F.Flash.state c.mount.new.flash in
-    let is : c.mount.new.blobs ≡ Some c.in-Some.var = search rules in
+    let is : c.mount.new.blobs ≡ Some c.in-Some.var = c.in-Some.is in
     within-beyond f new first plan table rose device c.args.end c.least_of-at_least.result c.least_of-at_least.ensures there c.args.blobs.now c.in-Some.var c.in_ok-mount.field-0 c.least_of-page.result c.next_number-next.result
     (λ least. subst (λ (o : Option VarData). MountEndsOf c.args.blobs.now f first plan table rose device (Ok c.in_ok-mount.field-0) o new) is (c.in_ok-mount.ensures.ends first plan table rose device least))
     (subst (λ (o : Option VarData). FindsBlobs c.args.blobs.now f c.least_of-at_least.result o new) is c.in_ok-mount.ensures.found) (omega (arith, c.if-end-from.true, c.from.ensures, c.next_number-next.ensures))
@@ -26,7 +26,7 @@ pub returns-then-end-from-clause-refused : goal.returns-then-end-from-clause-ref
 returns-then-end-from-clause-refused g c =
     let f = g.F.Flash.state c.args.flash.now in
     let new = g.F.Flash.state c.mount.new.flash in
-    let is : c.mount.new.blobs ≡ Some c.in-Some.var = search rules in
+    let is : c.mount.new.blobs ≡ Some c.in-Some.var = c.in-Some.is in
     inr (record {
       now = c.in-Some.var;
       finds = subst (λ n. FindsBlobs c.args.blobs.now f n (Some c.in-Some.var) new) c.least_of-at_least.ensures (subst (λ (o : Option VarData). FindsBlobs c.args.blobs.now f c.least_of-at_least.result o new) is c.in_ok-mount.ensures.found);
@@ -38,7 +38,7 @@ pub returns-clause-ends : goal.returns-clause-ends
 returns-clause-ends g c = λ first plan table rose device there.
     let f = g.F.Flash.state c.args.flash.now in
     let new = g.F.Flash.state c.mount.new.flash in
-    let is : c.mount.new.blobs ≡ Some c.in-Some.var = search rules in
+    let is : c.mount.new.blobs ≡ Some c.in-Some.var = c.in-Some.is in
     within-ends f new first plan table rose device c.args.end c.least_of-at_least.result c.least_of-at_least.ensures there c.args.blobs.now (Some c.in-Some.var) c.in_ok-mount.field-0
     (λ least. subst (λ (o : Option VarData). MountEndsOf c.args.blobs.now f first plan table rose device (Ok c.in_ok-mount.field-0) o new) is (c.in_ok-mount.ensures.ends first plan table rose device least))
     (subst (λ (o : Option VarData). FindsBlobs c.args.blobs.now f c.least_of-at_least.result o new) is c.in_ok-mount.ensures.found)

@@ -1,4 +1,4 @@
-use Rattle.std.proofs.Common.{rules, ◌≡◌, ℕ, Option, Some, None, Result, Ok, Err, List, sym, ◌∙◌, ap, subst, arith, true, ◌⊎◌, inl, inr}
+use Rattle.std.proofs.Common.{◌≡◌, ℕ, Option, Some, None, Result, Ok, Err, List, sym, ◌∙◌, ap, subst, arith, true, ◌⊎◌, inl, inr}
 use Rattle.std.specs.Prelude.{option_map}
 use Rattle.std.specs.Borrow.{Bor}
 use Rattle.std.proofs.lemmas.Result.{err_from_is_err_and}
@@ -16,8 +16,8 @@ returns-clause-ends g c = λ first plan table item rose device blob_is.
     let f = g.F.Flash.state c.args.flash.now in
     let h = g.F.Flash.state c.append.new.flash in
     let e = c.in_ok-at.ensures in
-    let is : c.args.blobs.now ≡ Some c.in-Some.var = search rules in
-    let bytes : c.args.blob ≡ Some c.in-Some-blob.bytes = search rules in
+    let is : c.args.blobs.now ≡ Some c.in-Some.var = c.in-Some.is in
+    let bytes : c.args.blob ≡ Some c.in-Some-blob.bytes = c.in-Some-blob.is in
     let placed = blob_is ∙ ap (option_map (λ (b : Bor (List ℕ)). b.now)) bytes in
     subst (λ (o : Option VarData). PlaceEndsOf o f first plan item table rose device (Ok (Some c.in_ok-at.at)) (Some c.append.new.self) h) (sym is)
     (λ watched stands. place-ok c.in-Some.var c.append.new.self f h first plan table e.same stands rose device item c.in-Some-blob.bytes.now c.in_ok-at.at placed (e.ends plan item table rose device watched stands.in_pages placed))
@@ -27,8 +27,8 @@ returns-in_err-at-clause-ends g c = λ first plan table item rose device blob_is
     let f = g.F.Flash.state c.args.flash.now in
     let h = g.F.Flash.state c.append.new.flash in
     let e = c.in_err-at.ensures in
-    let is : c.args.blobs.now ≡ Some c.in-Some.var = search rules in
-    let bytes : c.args.blob ≡ Some c.in-Some-blob.bytes = search rules in
+    let is : c.args.blobs.now ≡ Some c.in-Some.var = c.in-Some.is in
+    let bytes : c.args.blob ≡ Some c.in-Some-blob.bytes = c.in-Some-blob.is in
     let placed = blob_is ∙ ap (option_map (λ (b : Bor (List ℕ)). b.now)) bytes in
     let p = err_from_is_err_and c.from_residual.result c.from_residual.ensures.1 in
     let answer : Err c.in_err-at.field-0.0 ≡ c.from_residual.result = sym (p.1 ∙ ap (λ (x : FlashFault). Err x) p.2) in
@@ -39,24 +39,24 @@ returns-in_err-at-clause-ends g c = λ first plan table item rose device blob_is
 pub returns-in_default-blob-clause-ends : goal.returns-in_default-blob-clause-ends
 returns-in_default-blob-clause-ends g c = λ first plan table item rose device blob_is.
     let f = g.F.Flash.state c.args.flash.now in
-    let is : c.args.blobs.now ≡ Some c.in-Some.var = search rules in
-    let none : c.args.blob ≡ None = search rules in
+    let is : c.args.blobs.now ≡ Some c.in-Some.var = c.in-Some.is in
+    let none : c.args.blob ≡ None = c.in_default-blob.is in
     subst (λ (o : Option VarData). PlaceEndsOf o f first plan item table rose device (Ok None) (Some c.in-Some.var) f) (sym is)
     (λ watched stands. place-none c.in-Some.var f first plan table item rose device (blob_is ∙ ap (option_map (λ (b : Bor (List ℕ)). b.now)) none) watched stands)
 
 pub returns-clause-off : goal.returns-clause-off
 returns-clause-off g c = λ some down.
     let blob = option_map (λ (b : Bor (List ℕ)). b.now) c.args.blob in
-    let is : c.args.blobs.now ≡ Some c.in-Some.var = search rules in
-    let bytes : c.args.blob ≡ Some c.in-Some-blob.bytes = search rules in
+    let is : c.args.blobs.now ≡ Some c.in-Some.var = c.in-Some.is in
+    let bytes : c.args.blob ≡ Some c.in-Some-blob.bytes = c.in-Some-blob.is in
     let pages = ap (λ (o : Option VarData). pages_for o blob) is ∙ ap (λ (b : Option (Bor (List ℕ))). pages_for (Some c.in-Some.var) (option_map (λ (b : Bor (List ℕ)). b.now) b)) bytes in
     absurd (off-ok (g.F.Flash.state c.args.flash.now) (g.F.Flash.state c.append.new.flash) c.in_ok-at.at (c.in_ok-at.ensures.off (omega (arith, some, pages))) down)
 
 pub returns-in_err-at-clause-off : goal.returns-in_err-at-clause-off
 returns-in_err-at-clause-off g c = λ some.
     let blob = option_map (λ (b : Bor (List ℕ)). b.now) c.args.blob in
-    let is : c.args.blobs.now ≡ Some c.in-Some.var = search rules in
-    let bytes : c.args.blob ≡ Some c.in-Some-blob.bytes = search rules in
+    let is : c.args.blobs.now ≡ Some c.in-Some.var = c.in-Some.is in
+    let bytes : c.args.blob ≡ Some c.in-Some-blob.bytes = c.in-Some-blob.is in
     let pages = ap (λ (o : Option VarData). pages_for o blob) is ∙ ap (λ (b : Option (Bor (List ℕ))). pages_for (Some c.in-Some.var) (option_map (λ (b : Bor (List ℕ)). b.now) b)) bytes in
     let p = err_from_is_err_and c.from_residual.result c.from_residual.ensures.1 in
     rw (p.1, p.2) (off-err (g.F.Flash.state c.args.flash.now) (g.F.Flash.state c.append.new.flash) c.in_err-at.field-0.0 (c.in_err-at.ensures.off (omega (arith, some, pages))))
@@ -64,8 +64,8 @@ returns-in_err-at-clause-off g c = λ some.
 pub returns-in_default-blob-clause-off : goal.returns-in_default-blob-clause-off
 returns-in_default-blob-clause-off g c = λ some.
     let blob = option_map (λ (b : Bor (List ℕ)). b.now) c.args.blob in
-    let is : c.args.blobs.now ≡ Some c.in-Some.var = search rules in
-    let none : c.args.blob ≡ None = search rules in
+    let is : c.args.blobs.now ≡ Some c.in-Some.var = c.in-Some.is in
+    let none : c.args.blob ≡ None = c.in_default-blob.is in
     let pages = ap (λ (o : Option VarData). pages_for o blob) is ∙ ap (λ (b : Option (Bor (List ℕ))). pages_for (Some c.in-Some.var) (option_map (λ (b : Bor (List ℕ)). b.now) b)) none in
     absurd (omega (arith, some, pages))
 

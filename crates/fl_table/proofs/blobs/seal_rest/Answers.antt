@@ -1,10 +1,13 @@
-use Rattle.std.proofs.Common.{rules, ◌≡◌, ◌⊎◌, inl, inr, ℕ, List, [], ◌∷◌, length, Ok, Option, Some, refl, sym, ap, subst, arith}
+use Rattle.std.proofs.Common.{◌≡◌, ◌⊎◌, inl, inr, ℕ, List, [], ◌∷◌, length, Ok, Option, Some, refl, sym, ap, subst, arith}
 use Rattle.fl_table.specs.Blobs.{RestEndsOf}
 use Rattle.fl_table.proofs.BlobSteps.{rest-ends}
 use Rattle.fl_flash.specs.Flash.{OffChangesNothing}
 use Rattle.fl_table.proofs.PowerOff.{off-either}
 use Rattle.fl_var.specs.Memory.{waiting_in}
 use Rattle.fl_table.proofs.blobs.seal_rest.Goals as goal
+use Rattle.fl_ring.specs.Written.{Writes}
+use Rattle.fl_ring.proofs.Written.{writes-none}
+use Rattle.fl_table.specs.Blobs.{MaySeal, rings_of}
 use Rattle.fl_var.specs.declared.var_data.VarData.{VarData}
 
 pub returns-in-Some-clause-ends : goal.returns-in-Some-clause-ends
@@ -12,7 +15,7 @@ returns-in-Some-clause-ends g c = λ first plan table rose device.
     let f = g.F.Flash.state c.args.flash.now in
     let h = g.F.Flash.state c.seal_rest.new.flash in
     let e = c.seal_rest.ensures in
-    let is : c.args.blobs.now ≡ Some c.in-Some.var = search rules in
+    let is : c.args.blobs.now ≡ Some c.in-Some.var = c.in-Some.is in
     subst (λ (o : Option VarData). RestEndsOf o f first plan table rose device c.seal_rest.result (Some c.seal_rest.new.self) h) (sym is)
     (λ watched stands. rest-ends c.in-Some.var c.seal_rest.new.self f h first plan table e.same stands rose device c.seal_rest.result (e.ends plan table rose device watched stands.in_pages))
 
@@ -24,3 +27,11 @@ returns-in-Some-clause-off g c =
         ((c.seal_rest.result ≡ Ok tt) × (g.F.Flash.state c.seal_rest.new.flash ≡ g.F.Flash.state c.args.flash.now)) ⊎ OffChangesNothing (g.F.Flash.state c.args.flash.now) c.seal_rest.result (g.F.Flash.state c.seal_rest.new.flash)
     by_bytes [] none = inl (c.seal_rest.ensures.quiet none)
     by_bytes (x ∷ xs) some = inr (c.seal_rest.ensures.off (omega (arith, ap length some)))
+
+pub returns-in-Some-clause-writes : goal.returns-in-Some-clause-writes
+returns-in-Some-clause-writes g c =
+    let is : c.args.blobs.now ≡ Some c.in-Some.var = c.in-Some.is in
+    subst (λ (o : Option VarData). Writes (MaySeal o) 0 (rings_of o) (g.F.Flash.state c.args.flash.now) (g.F.Flash.state c.seal_rest.new.flash)) (sym is) c.seal_rest.ensures.writes
+
+pub returns-in-None-clause-writes : goal.returns-in-None-clause-writes
+returns-in-None-clause-writes g c = writes-none (MaySeal c.args.blobs.now) (rings_of c.args.blobs.now) (g.F.Flash.state c.args.flash.now)

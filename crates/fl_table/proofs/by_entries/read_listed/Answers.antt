@@ -1,4 +1,4 @@
-use Rattle.std.proofs.Common.{rules, ◌≡◌, ◌-◌, cond, arith, false, true, Option, Some, None, sym, ◌∙◌, ap, subst}
+use Rattle.std.proofs.Common.{rules, ◌≡◌, ◌-◌, cond, arith, false, true, Option, Some, sym, ◌∙◌, ap, subst, refl}
 use Rattle.std.proofs.lemmas.Result.{err_from_is_err_and}
 use Rattle.fl_index.specs.declared.index.BitmapIndex.{BitmapIndex}
 use Rattle.fl_index.specs.Memory.{form_in, next_in, oldest_in}
@@ -10,6 +10,7 @@ use Rattle.fl_table.proofs.Firsts.{bare-firsts, full-firsts}
 use Rattle.fl_table.proofs.ListedPages.{are-full, comes-bare, comes-full, knows-bare, no-page-lists, stands-full}
 use Rattle.fl_table.proofs.by_entries.read_listed.Goals.{in_default-via-in-Some+else-is_full, in_default-via-in_default}
 use Rattle.fl_table.proofs.SparedReads.{spared-none, spared-within}
+use Rattle.fl_table.proofs.Untouched.{no-success}
 use Rattle.fl_table.proofs.by_entries.read_listed.Goals as goal
 
 pub returns-in_err-from-in-Some-clause-knows : goal.returns-in_err-from-in-Some-clause-knows
@@ -117,3 +118,85 @@ returns-in_default-clause-remembers g c = λ told.
     ] in
     let same : AreSamePlan c.args.bitmaps.now c.in_default.bitmaps = search rules in
     bare-firsts c.args.bitmaps.now c.in_default.bitmaps (g.F.Flash.state c.args.flash.now) bare same
+
+pub returns-in_err-from-in-Some-clause-unlisted : goal.returns-in_err-from-in-Some-clause-unlisted
+returns-in_err-from-in-Some-clause-unlisted g c = λ told few error t comes h. no-success _ _ c.from_residual.result c.from_residual.ensures.1
+
+pub returns-in_err-from-in-Some-clause-stands : goal.returns-in_err-from-in-Some-clause-stands
+returns-in_err-from-in-Some-clause-stands g c = λ first plan table told stands. no-success _ _ c.from_residual.result c.from_residual.ensures.1
+
+pub returns-in_err-from-in-Some-clause-remembers : goal.returns-in_err-from-in-Some-clause-remembers
+returns-in_err-from-in-Some-clause-remembers g c = no-success _ _ c.from_residual.result c.from_residual.ensures.1
+
+pub returns-in_err-from-in-Some-clause-end : goal.returns-in_err-from-in-Some-clause-end
+returns-in_err-from-in-Some-clause-end g c = no-success _ _ c.from_residual.result c.from_residual.ensures.1
+
+pub returns-in_err-from-in-Some-clause-within : goal.returns-in_err-from-in-Some-clause-within
+returns-in_err-from-in-Some-clause-within g c = no-success _ _ c.from_residual.result c.from_residual.ensures.1
+
+pub returns-in_err-from-in-Some-clause-idle : goal.returns-in_err-from-in-Some-clause-idle
+returns-in_err-from-in-Some-clause-idle g c = no-success _ _ c.from_residual.result c.from_residual.ensures.1
+
+pub returns-in_err-from-in-Some-clause-spared : goal.returns-in_err-from-in-Some-clause-spared
+returns-in_err-from-in-Some-clause-spared g c = no-success _ _ c.from_residual.result c.from_residual.ensures.1
+
+pub returns-in_err-from-in-Some-clause-power : goal.returns-in_err-from-in-Some-clause-power
+returns-in_err-from-in-Some-clause-power g c = no-success _ _ c.from_residual.result c.from_residual.ensures.1
+
+pub returns-in_err-from-in-Some-clause-size : goal.returns-in_err-from-in-Some-clause-size
+returns-in_err-from-in-Some-clause-size g c = c.in_err-from-in-Some.ensures.size
+
+pub returns-in_err-from-in-Some-clause-error : goal.returns-in_err-from-in-Some-clause-error
+returns-in_err-from-in-Some-clause-error g c = c.in_err-from-in-Some.ensures.error
+
+pub returns-in_err-from-in-Some-clause-room : goal.returns-in_err-from-in-Some-clause-room
+returns-in_err-from-in-Some-clause-room g c = c.in_err-from-in-Some.ensures.room
+
+pub returns-in_err-from-in-Some-clause-none : goal.returns-in_err-from-in-Some-clause-none
+returns-in_err-from-in-Some-clause-none g c = c.in_err-from-in-Some.ensures.none
+
+pub returns-in_err-from-in-Some-clause-fails : goal.returns-in_err-from-in-Some-clause-fails
+returns-in_err-from-in-Some-clause-fails g c =
+    let p = err_from_is_err_and c.from_residual.result c.from_residual.ensures.1 in
+    rw (p.1, p.2) c.in_err-from-in-Some.ensures.fails
+
+pub returns-in_err-from-in-Some-clause-only : goal.returns-in_err-from-in-Some-clause-only
+returns-in_err-from-in-Some-clause-only g c =
+    let p = err_from_is_err_and c.from_residual.result c.from_residual.ensures.1 in
+    rw (p.1, p.2) c.in_err-from-in-Some.ensures.only
+
+pub returns-in_ok-from-in-Some-clause-end : goal.returns-in_ok-from-in-Some-clause-end
+returns-in_ok-from-in-Some-clause-end g c = c.in_ok-from-in-Some.ensures.end
+
+pub returns-in_ok-from-in-Some-clause-within : goal.returns-in_ok-from-in-Some-clause-within
+returns-in_ok-from-in-Some-clause-within g c = c.in_ok-from-in-Some.ensures.within
+
+pub returns-in_ok-from-in-Some-clause-size : goal.returns-in_ok-from-in-Some-clause-size
+returns-in_ok-from-in-Some-clause-size g c = c.in_ok-from-in-Some.ensures.size
+
+pub returns-in_ok-from-in-Some-clause-error : goal.returns-in_ok-from-in-Some-clause-error
+returns-in_ok-from-in-Some-clause-error g c = c.in_ok-from-in-Some.ensures.error
+
+pub returns-in_ok-from-in-Some-clause-room : goal.returns-in_ok-from-in-Some-clause-room
+returns-in_ok-from-in-Some-clause-room g c = c.in_ok-from-in-Some.ensures.room
+
+pub returns-in_ok-from-in-Some-clause-none : goal.returns-in_ok-from-in-Some-clause-none
+returns-in_ok-from-in-Some-clause-none g c = c.in_ok-from-in-Some.ensures.none
+
+pub returns-in_ok-from-in-Some-clause-power : goal.returns-in_ok-from-in-Some-clause-power
+returns-in_ok-from-in-Some-clause-power g c = c.in_ok-from-in-Some.ensures.power
+
+pub returns-in_default-clause-size : goal.returns-in_default-clause-size
+returns-in_default-clause-size g c = refl
+
+pub returns-in_default-clause-error : goal.returns-in_default-clause-error
+returns-in_default-clause-error g c = refl
+
+pub returns-in_default-clause-room : goal.returns-in_default-clause-room
+returns-in_default-clause-room g c = refl
+
+pub returns-in_default-clause-none : goal.returns-in_default-clause-none
+returns-in_default-clause-none g c = c.requires.none
+
+pub returns-in_default-clause-power : goal.returns-in_default-clause-power
+returns-in_default-clause-power g c = λ on. on

@@ -3,7 +3,8 @@ use Rattle.std.specs.Prelude.{IfOk, IfErr}
 use Rattle.std.proofs.lemmas.Result.{err_from_is_err_and, IfOk-weaker, IfErr-weaker, on_ok_weaker}
 use Rattle.fl_index.specs.Memory.{oldest_in, next_in}
 use Rattle.fl_index.specs.Standing.{StandsBelow}
-use Rattle.fl_ring.specs.Looking.{OnlyReads, ReadFails}
+use Rattle.fl_frame.specs.Reads.{OnlyReads}
+use Rattle.fl_frame.specs.Causes.{ReadFails}
 use Rattle.fl_ring.specs.Place.{shape_of, next_of, oldest_of}
 use Rattle.fl_ring.specs.Ring.{room}
 use Rattle.fl_schema.specs.Schema.{layout_of}
@@ -12,12 +13,17 @@ use Rattle.fl_table.specs.Causes.{IfFlash, IfPage}
 use Rattle.fl_table.specs.Coming.{AreListedBefore, AreRemembered}
 use Rattle.fl_table.specs.declared.faults.MountFault.{MountFault}
 use Rattle.fl_table.specs.Knowing.{KnowsWith, IsWithin, ReadsBut, is_waiting}
-use Rattle.fl_ring.proofs.ReadsInTurn.{no_reads, more_reads, told_still}
+use Rattle.fl_frame.proofs.ReadsInTurn.{no_reads, more_reads, told_still}
 use Rattle.fl_table.proofs.MountProgress.{rows-still, unlisted-rises, fewer-reads}
 use Rattle.fl_table.proofs.Firsts.{remembers-more}
 use Rattle.fl_table.proofs.ListedPages.{HasPassed, passed-none, next-before, next-behind, listed-before, below-read, index-lies-read, come-still, seen-is, passed-page, fails-later, some-room, in-order, any-ok}
 use Rattle.fl_table.proofs.SparedReads.{spared-none, spared-more, spared-reads, spared-within, ok-two}
+use Rattle.fl_table.proofs.Untouched.{no-success}
 use Rattle.fl_table.proofs.by_entries.see_listed.Goals as goal
+
+-- behind the last page there is the next number
+at-end : (page next to : ℕ) → to ≡ next → page ≤ next → to ≤ page → page ≡ next
+at-end page next to is most past = omega (arith, is, most, past)
 
 pub loop-page-init : goal.loop-page-init
 loop-page-init g c =
@@ -60,7 +66,7 @@ returns-in_err-number-clause-reads g c =
     let inv = c.loop-page.invariant in
     let old = g.F.Flash.state c.args.flash.now in
     let new = g.F.Flash.state c.see_pages.new.flash in
-    let lt : c.loop-page.page < next_in c.args.bitmaps.now = omega (arith, c.loop-page-test.true, c.next_number-next.ensures.exact) in
+    let lt = subst (λ n. c.loop-page.page < n) c.next_number-next.ensures.exact c.loop-page-test.true in
     fewer-reads old new _ _ (omega (arith, inv.from, inv.low, inv.high, lt)) (more_reads old (g.F.Flash.state c.loop-page.flash) new _ _ inv.reads c.in_err-number.ensures.reads)
 
 pub returns-in_err-number-clause-fails : goal.returns-in_err-number-clause-fails
@@ -74,7 +80,7 @@ returns-in_err-number-clause-knows g c = λ told few error t is h.
     let inv = c.loop-page.invariant in
     let old = g.F.Flash.state c.args.flash.now in
     let flash = g.F.Flash.state c.loop-page.flash in
-    let lt : c.loop-page.page < next_in c.args.bitmaps.now = omega (arith, c.loop-page-test.true, c.next_number-next.ensures.exact) in
+    let lt = subst (λ n. c.loop-page.page < n) c.next_number-next.ensures.exact c.loop-page-test.true in
     let k = c.loop-page.page - oldest_in c.args.bitmaps.now in
     let passed = inv.passed told few error t is h in
     rw (p.1, p.2) (
@@ -89,7 +95,7 @@ returns-in_err-number-clause-few_reads g c = λ told few error t is h.
     let inv = c.loop-page.invariant in
     let old = g.F.Flash.state c.args.flash.now in
     let flash = g.F.Flash.state c.loop-page.flash in
-    let lt : c.loop-page.page < next_in c.args.bitmaps.now = omega (arith, c.loop-page-test.true, c.next_number-next.ensures.exact) in
+    let lt = subst (λ n. c.loop-page.page < n) c.next_number-next.ensures.exact c.loop-page-test.true in
     let passed = inv.passed told few error t is h in
     let seen = c.in_err-number.ensures.few_reads (told_still old flash _ inv.reads told) t (rows-still t (layout_of c.args.schema.now) c.args.ring.now old flash _ inv.reads is.rows_are) passed.loaded in
     let rest = unlisted-rises t (max c.loop-page.number (min c.loop-page.end (next_of c.args.ring.now)) - t.oldest) t.pages (omega (arith, is.rows_are.oldest, is.rows_are.pages, inv.high)) in
@@ -98,7 +104,7 @@ returns-in_err-number-clause-few_reads g c = λ told few error t is h.
 pub take_index_page-requires : goal.take_index_page-requires
 take_index_page-requires g c =
     let inv = c.loop-page.invariant in
-    let lt : c.loop-page.page < next_in c.args.bitmaps.now = omega (arith, c.loop-page-test.true, c.next_number-next.ensures.exact) in
+    let lt = subst (λ n. c.loop-page.page < n) c.next_number-next.ensures.exact c.loop-page-test.true in
     let ensures = c.in_ok-number.ensures in
     let mid = g.F.Flash.state c.see_pages.new.flash in
     let number = c.in_ok-number.number in
@@ -122,7 +128,7 @@ returns-in_err-end-clause-reads g c =
     let old = g.F.Flash.state c.args.flash.now in
     let mid = g.F.Flash.state c.see_pages.new.flash in
     let new = g.F.Flash.state c.take_index_page.new.flash in
-    let lt : c.loop-page.page < next_in c.args.bitmaps.now = omega (arith, c.loop-page-test.true, c.next_number-next.ensures.exact) in
+    let lt = subst (λ n. c.loop-page.page < n) c.next_number-next.ensures.exact c.loop-page-test.true in
     fewer-reads old new _ _ (omega (arith, inv.from, inv.low, inv.high, lt))
     (more_reads old mid new _ _ (more_reads old (g.F.Flash.state c.loop-page.flash) mid _ _ inv.reads c.in_ok-number.ensures.reads) c.in_err-end.ensures.reads)
 
@@ -144,7 +150,7 @@ returns-in_err-end-clause-knows g c = λ told few error t is h.
     let mid = g.F.Flash.state c.see_pages.new.flash in
     let layout = layout_of c.args.schema.now in
     let ring = c.args.ring.now in
-    let lt : c.loop-page.page < next_in c.args.bitmaps.now = omega (arith, c.loop-page-test.true, c.next_number-next.ensures.exact) in
+    let lt = subst (λ n. c.loop-page.page < n) c.next_number-next.ensures.exact c.loop-page-test.true in
     let k = c.loop-page.page - oldest_in c.args.bitmaps.now in
     let within : k < t.index_pages = omega (arith, inv.from, lt, is.index_pages) in
     let number = c.in_ok-number.number in
@@ -165,7 +171,7 @@ returns-in_err-end-clause-few_reads g c = λ told few error t is h.
     let inv = c.loop-page.invariant in
     let old = g.F.Flash.state c.args.flash.now in
     let flash = g.F.Flash.state c.loop-page.flash in
-    let lt : c.loop-page.page < next_in c.args.bitmaps.now = omega (arith, c.loop-page-test.true, c.next_number-next.ensures.exact) in
+    let lt = subst (λ n. c.loop-page.page < n) c.next_number-next.ensures.exact c.loop-page-test.true in
     let passed = inv.passed told few error t is h in
     let seen = c.in_ok-number.ensures.few_reads (told_still old flash _ inv.reads told) t (rows-still t (layout_of c.args.schema.now) c.args.ring.now old flash _ inv.reads is.rows_are) passed.loaded in
     let rest = unlisted-rises t (max c.loop-page.number (min c.loop-page.end (next_of c.args.ring.now)) - t.oldest) t.pages (omega (arith, is.rows_are.oldest, is.rows_are.pages, inv.high)) in
@@ -184,7 +190,7 @@ loop-page-preserved g c =
     let ring = c.args.ring.now in
     let page = c.loop-page.page in
     let first = oldest_in c.args.bitmaps.now in
-    let lt : page < next_in c.args.bitmaps.now = omega (arith, c.loop-page-test.true, c.next_number-next.ensures.exact) in
+    let lt = subst (λ n. page < n) c.next_number-next.ensures.exact c.loop-page-test.true in
     let number = c.in_ok-number.number in
     let reads = more_reads old flash mid _ _ inv.reads ensures.reads in
     record {
@@ -233,7 +239,7 @@ returns-clause-knows g c = λ told few error t is h.
     let inv = c.loop-page.invariant in
     let old = g.F.Flash.state c.args.flash.now in
     let flash = g.F.Flash.state c.loop-page.flash in
-    let last : c.loop-page.page ≡ next_in c.args.bitmaps.now = omega (arith, inv.most, c.loop-page-test.false, c.next_number-next.ensures.exact) in
+    let last = at-end _ _ _ c.next_number-next.ensures.exact inv.most c.loop-page-test.false in
     let passed = inv.passed told few error t is h in
     let k = c.loop-page.page - oldest_in c.args.bitmaps.now in
     let all : k ≡ t.index_pages = omega (arith, last, is.index_pages) in
@@ -248,7 +254,7 @@ returns-clause-few_reads g c = λ told few error t is h.
     let inv = c.loop-page.invariant in
     let old = g.F.Flash.state c.args.flash.now in
     let flash = g.F.Flash.state c.loop-page.flash in
-    let last : c.loop-page.page ≡ next_in c.args.bitmaps.now = omega (arith, inv.most, c.loop-page-test.false, c.next_number-next.ensures.exact) in
+    let last = at-end _ _ _ c.next_number-next.ensures.exact inv.most c.loop-page-test.false in
     let passed = inv.passed told few error t is h in
     let to = max c.loop-page.number (min c.loop-page.end (next_of c.args.ring.now)) in
     let new = g.F.Flash.state c.see_pages-2.new.flash in
@@ -264,7 +270,7 @@ pub returns-clause-unlisted : goal.returns-clause-unlisted
 returns-clause-unlisted g c = λ told few error t is h.
     let inv = c.loop-page.invariant in
     let ring = c.args.ring.now in
-    let last : c.loop-page.page ≡ next_in c.args.bitmaps.now = omega (arith, inv.most, c.loop-page-test.false, c.next_number-next.ensures.exact) in
+    let last = at-end _ _ _ c.next_number-next.ensures.exact inv.most c.loop-page-test.false in
     let passed = inv.passed told few error t is h in
     let ends : t.oldest + t.pages ≡ next_of ring = omega (arith, is.rows_are.oldest, is.rows_are.pages, inv.low, inv.high) in
     IfOk-weaker c.see_pages-2.result _ (λ number. AreListedBefore t number)
@@ -273,7 +279,7 @@ returns-clause-unlisted g c = λ told few error t is h.
 pub returns-clause-stands : goal.returns-clause-stands
 returns-clause-stands g c = λ first plan table told h.
     let inv = c.loop-page.invariant in
-    let last : c.loop-page.page ≡ next_in c.args.bitmaps.now = omega (arith, inv.most, c.loop-page-test.false, c.next_number-next.ensures.exact) in
+    let last = at-end _ _ _ c.next_number-next.ensures.exact inv.most c.loop-page-test.false in
     any-ok c.see_pages-2.result (subst (λ k. StandsBelow k c.loop-page.bitmaps (g.F.Flash.state c.see_pages-2.new.flash) first plan table) last
     (below-read c.loop-page.bitmaps (g.F.Flash.state c.loop-page.flash) (g.F.Flash.state c.see_pages-2.new.flash) _ c.loop-page.page first plan table c.see_pages-2.ensures.reads (inv.stands first plan table told h)))
 
@@ -290,7 +296,7 @@ returns-clause-reads g c =
     let inv = c.loop-page.invariant in
     let old = g.F.Flash.state c.args.flash.now in
     let new = g.F.Flash.state c.see_pages-2.new.flash in
-    let last : c.loop-page.page ≡ next_in c.args.bitmaps.now = omega (arith, inv.most, c.loop-page-test.false, c.next_number-next.ensures.exact) in
+    let last = at-end _ _ _ c.next_number-next.ensures.exact inv.most c.loop-page-test.false in
     fewer-reads old new _ _ (omega (arith, inv.from, inv.low, inv.high, last)) (more_reads old (g.F.Flash.state c.loop-page.flash) new _ _ inv.reads c.see_pages-2.ensures.reads)
 
 pub returns-clause-fails : goal.returns-clause-fails
@@ -310,7 +316,7 @@ returns-clause-spared g c =
     let flash = g.F.Flash.state c.loop-page.flash in
     let new = g.F.Flash.state c.see_pages-2.new.flash in
     let known = c.see_pages-2.new.known in
-    let last : c.loop-page.page ≡ next_in c.args.bitmaps.now = omega (arith, inv.most, c.loop-page-test.false, c.next_number-next.ensures.exact) in
+    let last = at-end _ _ _ c.next_number-next.ensures.exact inv.most c.loop-page-test.false in
     ok-two c.see_pages-2.result _ _ (λ number. ReadsBut old ((next_in c.args.bitmaps.now - oldest_in c.args.bitmaps.now) + (number - oldest_of c.args.ring.now) + is_waiting c.args.known.now.newest) known new)
     (λ to at spared. spared-within old new _ _ known (omega (arith, at, last, inv.low)) (spared-more old flash new _ (to - c.loop-page.number) c.loop-page.known known inv.spared spared))
     c.see_pages-2.ensures.to c.see_pages-2.ensures.spared
@@ -320,5 +326,120 @@ returns-clause-remembers g c =
     let inv = c.loop-page.invariant in
     let old = g.F.Flash.state c.args.flash.now in
     let first = oldest_in c.args.bitmaps.now in
-    let last : c.loop-page.page ≡ next_in c.args.bitmaps.now = omega (arith, inv.most, c.loop-page-test.false, c.next_number-next.ensures.exact) in
+    let last = at-end _ _ _ c.next_number-next.ensures.exact inv.most c.loop-page-test.false in
     any-ok c.see_pages-2.result (λ told. subst (λ k. AreRemembered c.args.bitmaps.now old first k c.loop-page.bitmaps) last (inv.remembers told))
+
+pub returns-in_err-number-clause-unlisted : goal.returns-in_err-number-clause-unlisted
+returns-in_err-number-clause-unlisted g c = λ told few error t is h. no-success _ _ c.from_residual.result c.from_residual.ensures.1
+
+pub returns-in_err-number-clause-stands : goal.returns-in_err-number-clause-stands
+returns-in_err-number-clause-stands g c = λ first plan table told h. no-success _ _ c.from_residual.result c.from_residual.ensures.1
+
+pub returns-in_err-number-clause-remembers : goal.returns-in_err-number-clause-remembers
+returns-in_err-number-clause-remembers g c = no-success _ _ c.from_residual.result c.from_residual.ensures.1
+
+pub returns-in_err-number-clause-end : goal.returns-in_err-number-clause-end
+returns-in_err-number-clause-end g c = no-success _ _ c.from_residual.result c.from_residual.ensures.1
+
+pub returns-in_err-number-clause-within : goal.returns-in_err-number-clause-within
+returns-in_err-number-clause-within g c = no-success _ _ c.from_residual.result c.from_residual.ensures.1
+
+pub returns-in_err-number-clause-spared : goal.returns-in_err-number-clause-spared
+returns-in_err-number-clause-spared g c = no-success _ _ c.from_residual.result c.from_residual.ensures.1
+
+pub returns-in_err-number-clause-power : goal.returns-in_err-number-clause-power
+returns-in_err-number-clause-power g c = no-success _ _ c.from_residual.result c.from_residual.ensures.1
+
+pub returns-in_err-number-clause-size : goal.returns-in_err-number-clause-size
+returns-in_err-number-clause-size g c = c.in_err-number.ensures.size ∙ c.loop-page.invariant.counts
+
+pub returns-in_err-number-clause-error : goal.returns-in_err-number-clause-error
+returns-in_err-number-clause-error g c = c.in_err-number.ensures.error ∙ c.loop-page.invariant.error
+
+pub returns-in_err-number-clause-same : goal.returns-in_err-number-clause-same
+returns-in_err-number-clause-same g c = c.loop-page.invariant.same
+
+pub returns-in_err-number-clause-ring : goal.returns-in_err-number-clause-ring
+returns-in_err-number-clause-ring g c = (c.loop-page.invariant.running, c.loop-page.invariant.oldest, c.loop-page.invariant.next)
+
+pub returns-in_err-number-clause-room : goal.returns-in_err-number-clause-room
+returns-in_err-number-clause-room g c = c.in_err-number.ensures.room ∙ c.loop-page.invariant.room
+
+pub returns-in_err-number-clause-none : goal.returns-in_err-number-clause-none
+returns-in_err-number-clause-none g c = c.in_err-number.ensures.none
+
+pub returns-in_err-number-clause-only : goal.returns-in_err-number-clause-only
+returns-in_err-number-clause-only g c =
+    let p = err_from_is_err_and c.from_residual.result c.from_residual.ensures.1 in
+    rw (p.1, p.2) c.in_err-number.ensures.only
+
+pub returns-in_err-end-clause-unlisted : goal.returns-in_err-end-clause-unlisted
+returns-in_err-end-clause-unlisted g c = λ told few error t is h. no-success _ _ c.from_residual-in_err-end.result c.from_residual-in_err-end.ensures.1
+
+pub returns-in_err-end-clause-stands : goal.returns-in_err-end-clause-stands
+returns-in_err-end-clause-stands g c = λ first plan table told h. no-success _ _ c.from_residual-in_err-end.result c.from_residual-in_err-end.ensures.1
+
+pub returns-in_err-end-clause-remembers : goal.returns-in_err-end-clause-remembers
+returns-in_err-end-clause-remembers g c = no-success _ _ c.from_residual-in_err-end.result c.from_residual-in_err-end.ensures.1
+
+pub returns-in_err-end-clause-end : goal.returns-in_err-end-clause-end
+returns-in_err-end-clause-end g c = no-success _ _ c.from_residual-in_err-end.result c.from_residual-in_err-end.ensures.1
+
+pub returns-in_err-end-clause-within : goal.returns-in_err-end-clause-within
+returns-in_err-end-clause-within g c = no-success _ _ c.from_residual-in_err-end.result c.from_residual-in_err-end.ensures.1
+
+pub returns-in_err-end-clause-spared : goal.returns-in_err-end-clause-spared
+returns-in_err-end-clause-spared g c = no-success _ _ c.from_residual-in_err-end.result c.from_residual-in_err-end.ensures.1
+
+pub returns-in_err-end-clause-power : goal.returns-in_err-end-clause-power
+returns-in_err-end-clause-power g c = no-success _ _ c.from_residual-in_err-end.result c.from_residual-in_err-end.ensures.1
+
+pub returns-in_err-end-clause-size : goal.returns-in_err-end-clause-size
+returns-in_err-end-clause-size g c = c.in_err-end.ensures.size ∙ (c.in_ok-number.ensures.size ∙ c.loop-page.invariant.counts)
+
+pub returns-in_err-end-clause-error : goal.returns-in_err-end-clause-error
+returns-in_err-end-clause-error g c = c.in_err-end.ensures.error ∙ (c.in_ok-number.ensures.error ∙ c.loop-page.invariant.error)
+
+pub returns-in_err-end-clause-same : goal.returns-in_err-end-clause-same
+returns-in_err-end-clause-same g c = record { geometry = c.in_err-end.ensures.same.geometry ∙ c.loop-page.invariant.same.geometry; place = c.in_err-end.ensures.same.place ∙ c.loop-page.invariant.same.place; bits = c.in_err-end.ensures.same.bits ∙ c.loop-page.invariant.same.bits; full = c.in_err-end.ensures.same.full ∙ c.loop-page.invariant.same.full }
+
+pub returns-in_err-end-clause-ring : goal.returns-in_err-end-clause-ring
+returns-in_err-end-clause-ring g c = (c.in_err-end.ensures.ring.0 ∙ c.loop-page.invariant.running, c.in_err-end.ensures.ring.1 ∙ c.loop-page.invariant.oldest, c.in_err-end.ensures.ring.2 ∙ c.loop-page.invariant.next)
+
+pub returns-in_err-end-clause-index_lies : goal.returns-in_err-end-clause-index_lies
+returns-in_err-end-clause-index_lies g c = c.in_err-end.ensures.lies
+
+pub returns-in_err-end-clause-room : goal.returns-in_err-end-clause-room
+returns-in_err-end-clause-room g c = c.in_err-end.ensures.room ∙ (c.in_ok-number.ensures.room ∙ c.loop-page.invariant.room)
+
+pub returns-in_err-end-clause-none : goal.returns-in_err-end-clause-none
+returns-in_err-end-clause-none g c = c.in_err-end.ensures.none
+
+pub returns-in_err-end-clause-only : goal.returns-in_err-end-clause-only
+returns-in_err-end-clause-only g c =
+    let p = err_from_is_err_and c.from_residual-in_err-end.result c.from_residual-in_err-end.ensures.1 in
+    rw (p.1, p.2) c.in_err-end.ensures.only
+
+pub returns-clause-within : goal.returns-clause-within
+returns-clause-within g c = c.see_pages-2.ensures.within
+
+pub returns-clause-size : goal.returns-clause-size
+returns-clause-size g c = c.see_pages-2.ensures.size ∙ c.loop-page.invariant.counts
+
+pub returns-clause-error : goal.returns-clause-error
+returns-clause-error g c = c.see_pages-2.ensures.error ∙ c.loop-page.invariant.error
+
+pub returns-clause-same : goal.returns-clause-same
+returns-clause-same g c = c.loop-page.invariant.same
+
+pub returns-clause-ring : goal.returns-clause-ring
+returns-clause-ring g c = (c.loop-page.invariant.running, c.loop-page.invariant.oldest, c.loop-page.invariant.next)
+
+pub returns-clause-room : goal.returns-clause-room
+returns-clause-room g c = c.see_pages-2.ensures.room ∙ c.loop-page.invariant.room
+
+pub returns-clause-none : goal.returns-clause-none
+returns-clause-none g c = c.see_pages-2.ensures.none
+
+pub returns-clause-only : goal.returns-clause-only
+returns-clause-only g c = c.see_pages-2.ensures.only

@@ -4,7 +4,7 @@ use Rattle.fl_index.specs.Memory.{is_running, oldest_in, next_in, IsSamePlan, Li
 use Rattle.fl_index.specs.Standing.{StandsBelow}
 use Rattle.fl_model.specs.Record.{Plan}
 use Rattle.fl_model.specs.Table as model
-use Rattle.fl_ring.specs.Looking.{OnlyReads}
+use Rattle.fl_frame.specs.Reads.{OnlyReads}
 use Rattle.fl_ring.specs.Place.{next_of, oldest_of}
 use Rattle.fl_schema.specs.Schema.{layout_of}
 use Rattle.fl_table.specs.ByEntries.{Come}

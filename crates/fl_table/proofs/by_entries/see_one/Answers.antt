@@ -1,17 +1,19 @@
-use Rattle.std.proofs.Common.{rules, ◌≡◌, ◌+◌, ◌<◌, ◌≤◌, ℕ, suc, Option, Some, None, sym, ◌∙◌, ap, subst, arith}
+use Rattle.std.proofs.Common.{rules, ◌≡◌, ◌+◌, Option, Some, sym, ◌∙◌, ap, arith, refl}
 use Rattle.std.specs.Prelude.{option_map}
 use Rattle.std.proofs.lemmas.Result.{err_from_is_err_and, IfErr-weaker}
 use Rattle.fl_flash.specs.Flash.{page_at}
 use Rattle.fl_index.specs.Page.{full_view}
 use Rattle.fl_index.specs.declared.page.Full as code
 use Rattle.fl_ring.proofs.Exists.{page_exists}
-use Rattle.fl_ring.proofs.ReadsInTurn.{no_reads}
+use Rattle.fl_frame.proofs.ReadsInTurn.{no_reads}
 use Rattle.fl_table.specs.ByEntries.{mount_fault}
-use Rattle.fl_table.specs.Knowing.{IsWithin, is_waiting}
+use Rattle.fl_table.specs.Knowing.{is_waiting}
 use Rattle.fl_table.specs.declared.faults.MountFault.{MountFault}
 use Rattle.fl_table.proofs.Refused.{page-page}
 use Rattle.fl_table.proofs.ListedPages.{any-ok}
 use Rattle.fl_table.proofs.SparedReads.{waiting-few, spared-none, spared-reads}
+use Rattle.fl_table.proofs.MountProgress.{fewer-reads}
+use Rattle.fl_table.proofs.Untouched.{at-most, no-success}
 use Rattle.fl_table.proofs.by_entries.see_one.Goals as goal
 
 pub returns-in-Some-clause-knows : goal.returns-in-Some-clause-knows
@@ -53,3 +55,73 @@ returns-in-Some-clause-spared g c =
 pub returns-clause-spared : goal.returns-clause-spared
 returns-clause-spared g c =
     spared-reads (g.F.Flash.state c.args.flash.now) (g.F.Flash.state c.read_page.new.flash) 1 c.args.known.now c.read_page.new.known c.in_ok-read_page.ensures.reads c.in_ok-read_page.ensures.waits
+
+pub returns-in-Some-clause-within : goal.returns-in-Some-clause-within
+returns-in-Some-clause-within g c = c.see_entry.ensures.within
+
+pub returns-in-Some-clause-size : goal.returns-in-Some-clause-size
+returns-in-Some-clause-size g c = c.see_entry.ensures.size
+
+pub returns-in-Some-clause-error : goal.returns-in-Some-clause-error
+returns-in-Some-clause-error g c = c.see_entry.ensures.error
+
+pub returns-in-Some-clause-room : goal.returns-in-Some-clause-room
+returns-in-Some-clause-room g c = refl
+
+pub returns-in-Some-clause-none : goal.returns-in-Some-clause-none
+returns-in-Some-clause-none g c = c.requires.none
+
+pub returns-in-Some-clause-reads : goal.returns-in-Some-clause-reads
+returns-in-Some-clause-reads g c = fewer-reads (g.F.Flash.state c.args.flash.now) (g.F.Flash.state c.args.flash.now) 0 1 (at-most 0 1) (no_reads (g.F.Flash.state c.args.flash.now))
+
+pub returns-in-Some-clause-power : goal.returns-in-Some-clause-power
+returns-in-Some-clause-power g c = any-ok c.see_entry.result (λ on. on)
+
+pub returns-in_err-read_page-clause-size : goal.returns-in_err-read_page-clause-size
+returns-in_err-read_page-clause-size g c = c.in_err-read_page.ensures.size
+
+pub returns-in_err-read_page-clause-error : goal.returns-in_err-read_page-clause-error
+returns-in_err-read_page-clause-error g c = c.in_err-read_page.ensures.error
+
+pub returns-in_err-read_page-clause-reads : goal.returns-in_err-read_page-clause-reads
+returns-in_err-read_page-clause-reads g c = c.in_err-read_page.ensures.reads
+
+pub returns-in_err-read_page-clause-room : goal.returns-in_err-read_page-clause-room
+returns-in_err-read_page-clause-room g c = c.in_err-read_page.ensures.room
+
+pub returns-in_err-read_page-clause-none : goal.returns-in_err-read_page-clause-none
+returns-in_err-read_page-clause-none g c = c.in_err-read_page.ensures.none
+
+pub returns-in_err-read_page-clause-spared : goal.returns-in_err-read_page-clause-spared
+returns-in_err-read_page-clause-spared g c = no-success _ _ c.from_residual.result c.from_residual.ensures.1
+
+pub returns-in_err-read_page-clause-power : goal.returns-in_err-read_page-clause-power
+returns-in_err-read_page-clause-power g c = no-success _ _ c.from_residual.result c.from_residual.ensures.1
+
+pub returns-in_err-read_page-clause-fails : goal.returns-in_err-read_page-clause-fails
+returns-in_err-read_page-clause-fails g c =
+    let p = err_from_is_err_and c.from_residual.result c.from_residual.ensures.1 in
+    rw (p.1, p.2) c.in_err-read_page.ensures.fails
+
+pub returns-in_err-read_page-clause-only : goal.returns-in_err-read_page-clause-only
+returns-in_err-read_page-clause-only g c =
+    let p = err_from_is_err_and c.from_residual.result c.from_residual.ensures.1 in
+    rw (p.1, p.2) c.in_err-read_page.ensures.only
+
+pub returns-clause-size : goal.returns-clause-size
+returns-clause-size g c = c.in_ok-read_page.ensures.size
+
+pub returns-clause-error : goal.returns-clause-error
+returns-clause-error g c = c.in_ok-read_page.ensures.error
+
+pub returns-clause-reads : goal.returns-clause-reads
+returns-clause-reads g c = c.in_ok-read_page.ensures.reads
+
+pub returns-clause-room : goal.returns-clause-room
+returns-clause-room g c = c.in_ok-read_page.ensures.room
+
+pub returns-clause-none : goal.returns-clause-none
+returns-clause-none g c = c.in_ok-read_page.ensures.none
+
+pub returns-clause-power : goal.returns-clause-power
+returns-clause-power g c = λ on. c.in_ok-read_page.ensures.power

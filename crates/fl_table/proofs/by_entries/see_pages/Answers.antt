@@ -1,21 +1,33 @@
 use Rattle.std.proofs.Common.{rules, ◌≡◌, ◌+◌, ◌-◌, ◌<◌, ◌≤◌, ℕ, suc, max, min, length, IsTrue, arith, sym, ◌∙◌, ap, subst, refl}
 use Rattle.std.specs.Prelude.{cond}
 use Rattle.std.proofs.lemmas.Result.{err_from_is_err_and}
-use Rattle.fl_ring.specs.Looking.{OnlyReads}
+use Rattle.fl_frame.specs.Reads.{OnlyReads}
 use Rattle.fl_ring.specs.Place.{next_of, oldest_of}
 use Rattle.fl_schema.specs.Schema.{layout_of}
 use Rattle.fl_table.specs.ByEntries.{Come, unlisted_of}
 use Rattle.fl_table.specs.Coming.{AreRowsOf, AreLoaded, AreNext}
 use Rattle.fl_table.specs.Knowing.{KnowsWith, IsWithin, ReadsBut, is_waiting}
-use Rattle.fl_ring.proofs.ReadsInTurn.{no_reads, more_reads, told_still, same_page}
+use Rattle.fl_frame.proofs.ReadsInTurn.{no_reads, more_reads, told_still, same_page}
 use Rattle.fl_table.proofs.SparedReads.{spared-none, spared-more, spared-within}
 use Rattle.fl_table.proofs.MountProgress.{rows-still, more-unlisted, unlisted-rises, fewer-reads}
+use Rattle.fl_table.proofs.ListedPages.{fails-later}
+use Rattle.fl_table.proofs.Untouched.{no-success}
 use Rattle.fl_table.proofs.by_entries.see_pages.Goals as goal
+
+-- a page that comes is below the end of those that come
+before-both : (number from end next to : ℕ) → to ≡ max from (min end next) → number < to → from ≤ number → (number < end) × (number < next)
+before-both number from end next to is lt le = (omega (arith, is, lt, le), omega (arith, is, lt, le))
+
+-- .. and behind the last there is that end
+at-end : (number from end next to : ℕ) → to ≡ max from (min end next) → to ≤ number → (from ≤ to → number ≤ to) → number ≡ to
+at-end number from end next to is past most = let le : from ≤ to = omega (arith, is) in omega (arith, past, most le)
 
 pub returns-in_err-see_one-clause-knows : goal.returns-in_err-see_one-clause-knows
 returns-in_err-see_one-clause-knows g c =
-    let high : c.loop-number.number < next_of c.args.ring.now = search (rules, arith) in
-    let below : c.loop-number.number < c.args.end = search (rules, arith) in
+    let to_is : c.max-to.result ≡ max c.args.from (min c.args.end (next_of c.args.ring.now)) = c.max-to.ensures ∙ ap (λ n. max c.args.from n) (c.min.ensures ∙ ap (λ n. min c.args.end n) (c.from.ensures ∙ c.next_number.ensures)) in
+    let both = before-both _ _ _ _ _ to_is c.loop-number-test.true c.loop-number.invariant.from in
+    let high : c.loop-number.number < next_of c.args.ring.now = both.1 in
+    let below : c.loop-number.number < c.args.end = both.0 in
     λ told few error t k is loaded next h.
     let p = err_from_is_err_and c.from_residual.result c.from_residual.ensures.1 in
     let old = g.F.Flash.state c.args.flash.now in
@@ -33,21 +45,25 @@ returns-in_err-see_one-clause-knows g c =
 
 pub returns-in_err-see_one-clause-reads : goal.returns-in_err-see_one-clause-reads
 returns-in_err-see_one-clause-reads g c =
-    let high : c.loop-number.number < max c.args.from (min c.args.end (next_of c.args.ring.now)) = search (rules, arith) in
+    let to_is : c.max-to.result ≡ max c.args.from (min c.args.end (next_of c.args.ring.now)) = c.max-to.ensures ∙ ap (λ n. max c.args.from n) (c.min.ensures ∙ ap (λ n. min c.args.end n) (c.from.ensures ∙ c.next_number.ensures)) in
+    let high = subst (λ n. c.loop-number.number < n) to_is c.loop-number-test.true in
     let inv = c.loop-number.invariant in
     fewer-reads (g.F.Flash.state c.args.flash.now) (g.F.Flash.state c.see_one.new.flash) (c.loop-number.number - c.args.from + 1) _ (omega (arith, inv.from, high))
     (more_reads (g.F.Flash.state c.args.flash.now) (g.F.Flash.state c.loop-number.flash) (g.F.Flash.state c.see_one.new.flash) (c.loop-number.number - c.args.from) 1 inv.reads c.in_err-see_one.ensures.reads)
 
 pub returns-clause-knows : goal.returns-clause-knows
 returns-clause-knows g c =
-    let last : c.loop-number.number ≡ c.max-to.result = search (rules, arith) in
+    let to_is : c.max-to.result ≡ max c.args.from (min c.args.end (next_of c.args.ring.now)) = c.max-to.ensures ∙ ap (λ n. max c.args.from n) (c.min.ensures ∙ ap (λ n. min c.args.end n) (c.from.ensures ∙ c.next_number.ensures)) in
+    let last : c.loop-number.number ≡ c.max-to.result = at-end _ _ _ _ _ to_is c.loop-number-test.false c.loop-number.auto.number-end in
     λ told few error t k is loaded next h.
     (subst (λ n. KnowsWith error t k (n - t.oldest) c.loop-number.known c.loop-number.counts c.loop-number.index) last (c.loop-number.invariant.knows told few error t k is loaded next h), tt)
 
 pub returns-in_err-see_one-clause-few_reads : goal.returns-in_err-see_one-clause-few_reads
 returns-in_err-see_one-clause-few_reads g c =
-    let high : c.loop-number.number < next_of c.args.ring.now = search (rules, arith) in
-    let below : c.loop-number.number < c.args.end = search (rules, arith) in
+    let to_is : c.max-to.result ≡ max c.args.from (min c.args.end (next_of c.args.ring.now)) = c.max-to.ensures ∙ ap (λ n. max c.args.from n) (c.min.ensures ∙ ap (λ n. min c.args.end n) (c.from.ensures ∙ c.next_number.ensures)) in
+    let both = before-both _ _ _ _ _ to_is c.loop-number-test.true c.loop-number.invariant.from in
+    let high : c.loop-number.number < next_of c.args.ring.now = both.1 in
+    let below : c.loop-number.number < c.args.end = both.0 in
     λ told t is loaded.
     let old = g.F.Flash.state c.args.flash.now in
     let flash = g.F.Flash.state c.loop-number.flash in
@@ -63,15 +79,18 @@ returns-in_err-see_one-clause-few_reads g c =
 
 pub returns-clause-few_reads : goal.returns-clause-few_reads
 returns-clause-few_reads g c =
-    let last : c.loop-number.number ≡ max c.args.from (min c.args.end (next_of c.args.ring.now)) = search (rules, arith) in
+    let to_is : c.max-to.result ≡ max c.args.from (min c.args.end (next_of c.args.ring.now)) = c.max-to.ensures ∙ ap (λ n. max c.args.from n) (c.min.ensures ∙ ap (λ n. min c.args.end n) (c.from.ensures ∙ c.next_number.ensures)) in
+    let last : c.loop-number.number ≡ max c.args.from (min c.args.end (next_of c.args.ring.now)) = at-end _ _ _ _ _ to_is c.loop-number-test.false c.loop-number.auto.number-end ∙ to_is in
     λ told t is loaded.
     subst (λ n. (g.F.Flash.state c.loop-number.flash).work.reads + unlisted_of t t.oldest (c.args.from - t.oldest) ≤ (g.F.Flash.state c.args.flash.now).work.reads + unlisted_of t t.oldest (n - t.oldest)) last
     (c.loop-number.invariant.few_reads told t is loaded)
 
 pub loop-number-preserved : goal.loop-number-preserved
 loop-number-preserved g c =
-    let high : c.loop-number.number < next_of c.args.ring.now = search (rules, arith) in
-    let below : c.loop-number.number < c.args.end = search (rules, arith) in
+    let to_is : c.max-to.result ≡ max c.args.from (min c.args.end (next_of c.args.ring.now)) = c.max-to.ensures ∙ ap (λ n. max c.args.from n) (c.min.ensures ∙ ap (λ n. min c.args.end n) (c.from.ensures ∙ c.next_number.ensures)) in
+    let both = before-both _ _ _ _ _ to_is c.loop-number-test.true c.loop-number.invariant.from in
+    let high : c.loop-number.number < next_of c.args.ring.now = both.1 in
+    let below : c.loop-number.number < c.args.end = both.0 in
     let old = g.F.Flash.state c.args.flash.now in
     let flash = g.F.Flash.state c.loop-number.flash in
     let new = g.F.Flash.state c.see_one.new.flash in
@@ -126,5 +145,68 @@ loop-number-init g c =
 
 pub returns-clause-spared : goal.returns-clause-spared
 returns-clause-spared g c =
-    let last : c.loop-number.number ≡ c.max-to.result = search (rules, arith) in
+    let to_is : c.max-to.result ≡ max c.args.from (min c.args.end (next_of c.args.ring.now)) = c.max-to.ensures ∙ ap (λ n. max c.args.from n) (c.min.ensures ∙ ap (λ n. min c.args.end n) (c.from.ensures ∙ c.next_number.ensures)) in
+    let last : c.loop-number.number ≡ c.max-to.result = at-end _ _ _ _ _ to_is c.loop-number-test.false c.loop-number.auto.number-end in
     subst (λ n. ReadsBut (g.F.Flash.state c.args.flash.now) (n - c.args.from + is_waiting c.args.known.now.newest) c.loop-number.known (g.F.Flash.state c.loop-number.flash)) last c.loop-number.invariant.spared
+
+pub returns-in_err-see_one-clause-to : goal.returns-in_err-see_one-clause-to
+returns-in_err-see_one-clause-to g c = no-success _ _ c.from_residual.result c.from_residual.ensures.1
+
+pub returns-in_err-see_one-clause-within : goal.returns-in_err-see_one-clause-within
+returns-in_err-see_one-clause-within g c = no-success _ _ c.from_residual.result c.from_residual.ensures.1
+
+pub returns-in_err-see_one-clause-spared : goal.returns-in_err-see_one-clause-spared
+returns-in_err-see_one-clause-spared g c = no-success _ _ c.from_residual.result c.from_residual.ensures.1
+
+pub returns-in_err-see_one-clause-power : goal.returns-in_err-see_one-clause-power
+returns-in_err-see_one-clause-power g c = no-success _ _ c.from_residual.result c.from_residual.ensures.1
+
+pub returns-in_err-see_one-clause-size : goal.returns-in_err-see_one-clause-size
+returns-in_err-see_one-clause-size g c = c.in_err-see_one.ensures.size ∙ c.loop-number.invariant.counts
+
+pub returns-in_err-see_one-clause-error : goal.returns-in_err-see_one-clause-error
+returns-in_err-see_one-clause-error g c = c.in_err-see_one.ensures.error ∙ c.loop-number.invariant.error
+
+pub returns-in_err-see_one-clause-room : goal.returns-in_err-see_one-clause-room
+returns-in_err-see_one-clause-room g c = c.in_err-see_one.ensures.room ∙ c.loop-number.invariant.room
+
+pub returns-in_err-see_one-clause-none : goal.returns-in_err-see_one-clause-none
+returns-in_err-see_one-clause-none g c = c.in_err-see_one.ensures.none
+
+pub returns-in_err-see_one-clause-fails : goal.returns-in_err-see_one-clause-fails
+returns-in_err-see_one-clause-fails g c =
+    let p = err_from_is_err_and c.from_residual.result c.from_residual.ensures.1 in
+    rw (p.1, p.2) (fails-later (g.F.Flash.state c.args.flash.now) (g.F.Flash.state c.loop-number.flash) (g.F.Flash.state c.see_one.new.flash) _ c.in_err-see_one.field-0.0 c.loop-number.invariant.reads c.in_err-see_one.ensures.fails)
+
+pub returns-in_err-see_one-clause-only : goal.returns-in_err-see_one-clause-only
+returns-in_err-see_one-clause-only g c =
+    let p = err_from_is_err_and c.from_residual.result c.from_residual.ensures.1 in
+    rw (p.1, p.2) c.in_err-see_one.ensures.only
+
+pub returns-clause-to : goal.returns-clause-to
+returns-clause-to g c = c.max-to.ensures ∙ ap (λ n. max c.args.from n) (c.min.ensures ∙ ap (λ n. min c.args.end n) (c.from.ensures ∙ c.next_number.ensures))
+
+pub returns-clause-within : goal.returns-clause-within
+returns-clause-within g c =
+    let to_is : c.max-to.result ≡ max c.args.from (min c.args.end (next_of c.args.ring.now)) = c.max-to.ensures ∙ ap (λ n. max c.args.from n) (c.min.ensures ∙ ap (λ n. min c.args.end n) (c.from.ensures ∙ c.next_number.ensures)) in
+    subst (λ n. IsWithin (oldest_of c.args.ring.now) (n - oldest_of c.args.ring.now) c.loop-number.known) (at-end _ _ _ _ _ to_is c.loop-number-test.false c.loop-number.auto.number-end) c.loop-number.invariant.within
+
+pub returns-clause-size : goal.returns-clause-size
+returns-clause-size g c = c.loop-number.invariant.counts
+
+pub returns-clause-error : goal.returns-clause-error
+returns-clause-error g c = c.loop-number.invariant.error
+
+pub returns-clause-reads : goal.returns-clause-reads
+returns-clause-reads g c =
+    let to_is : c.max-to.result ≡ max c.args.from (min c.args.end (next_of c.args.ring.now)) = c.max-to.ensures ∙ ap (λ n. max c.args.from n) (c.min.ensures ∙ ap (λ n. min c.args.end n) (c.from.ensures ∙ c.next_number.ensures)) in
+    subst (λ n. OnlyReads (g.F.Flash.state c.args.flash.now) (n - c.args.from) (g.F.Flash.state c.loop-number.flash)) (at-end _ _ _ _ _ to_is c.loop-number-test.false c.loop-number.auto.number-end ∙ to_is) c.loop-number.invariant.reads
+
+pub returns-clause-room : goal.returns-clause-room
+returns-clause-room g c = c.loop-number.invariant.room
+
+pub returns-clause-none : goal.returns-clause-none
+returns-clause-none g c = c.loop-number.invariant.none
+
+pub returns-clause-power : goal.returns-clause-power
+returns-clause-power g c = λ on. c.loop-number.invariant.reads.power ∙ on

@@ -1,24 +1,23 @@
-use Rattle.std.proofs.Common.{rules, ◌≡◌, ◌+◌, ◌%◌, ◌<◌, ◌≤◌, ℕ, List, [], ◌∷◌, ◌++◌, Option, Some, None, IsTrue, max, unwrap_or, length, slice_set, true, false, sym, ◌∙◌, ap, subst, refl, arith}
+use Rattle.std.proofs.Common.{rules, ◌≡◌, ◌+◌, ◌<◌, ◌≤◌, ℕ, List, [], ◌∷◌, ◌++◌, Option, Some, unwrap_or, length, sym, ◌∙◌, ap, subst, refl, arith}
 use Rattle.std.proofs.lemmas.Result.{err_from_is_err_and}
 use Rattle.fl_find.specs.Index.{IndexOf}
-use Rattle.fl_find.specs.Pages.{rows_on}
 use Rattle.fl_flash.specs.Flash.{page_at}
 use Rattle.fl_ring.proofs.Exists.{page_exists}
-use Rattle.fl_ring.proofs.ReadsInTurn.{no_reads}
+use Rattle.fl_frame.proofs.ReadsInTurn.{no_reads}
 use Rattle.fl_schema.specs.Schema.{layout_of}
 use Rattle.fl_spline.specs.Points.{IsFurther}
-use Rattle.fl_table.specs.ByEntries.{mount_fault, read_fault}
+use Rattle.fl_table.specs.ByEntries.{mount_fault}
 use Rattle.fl_table.specs.Knowing.{KnowsWith, is_waiting}
 use Rattle.fl_table.specs.declared.faults.MountFault.{MountFault}
-use Rattle.fl_ring.specs.Looking.{OnlyReads}
-use Rattle.fl_table.specs.declared.known.Known.{Known}
+use Rattle.fl_frame.specs.Reads.{OnlyReads}
 use Rattle.fl_table.specs.declared.known.Listed.{Listed}
 use Rattle.fl_table.specs.declared.known.PageFacts.{PageFacts}
 use Rattle.fl_table.proofs.MountProgress.{fewer-reads}
 use Rattle.fl_table.proofs.Newest.{found-refused, found-blamed, found-all}
 use Rattle.fl_table.proofs.Refused.{page-no_flash, page-page}
-use Rattle.fl_table.proofs.ReadsKeepTable.{read-once, read-fails}
+use Rattle.fl_table.proofs.ReadsKeepTable.{read-once}
 use Rattle.fl_table.proofs.Unlisted.{read-some}
+use Rattle.fl_table.proofs.Untouched.{no-success}
 use Rattle.fl_table.proofs.load.read_newest.Goals as goal
 
 pub read-requires-clause-exists : goal.read-requires-clause-exists
@@ -97,3 +96,63 @@ pub count_page-requires : goal.count_page-requires
 count_page-requires g c =
     let rows : c.facts.result.rows < 65536 = omega (arith, ap (λ (p : PageFacts). p.rows) c.facts.ensures, c.in_ok-page.ensures.rows.1) in
     (search (rules, arith), (c.requires.some, (rows, omega (arith, c.requires.rows, rows))))
+
+pub returns-in_default-clause-size : goal.returns-in_default-clause-size
+returns-in_default-clause-size g c = refl
+
+pub returns-in_default-clause-error : goal.returns-in_default-clause-error
+returns-in_default-clause-error g c = refl
+
+pub returns-in_default-clause-room : goal.returns-in_default-clause-room
+returns-in_default-clause-room g c = refl
+
+pub returns-in_default-clause-none : goal.returns-in_default-clause-none
+returns-in_default-clause-none g c = c.requires.none
+
+pub returns-in_default-clause-within : goal.returns-in_default-clause-within
+returns-in_default-clause-within g c = c.requires.within
+
+pub returns-in_default-clause-power : goal.returns-in_default-clause-power
+returns-in_default-clause-power g c = λ on. on
+
+pub returns-in_err-read-clause-counted : goal.returns-in_err-read-clause-counted
+returns-in_err-read-clause-counted g c = no-success _ _ c.from_residual.result c.from_residual.ensures.1
+
+pub returns-in_err-read-clause-within : goal.returns-in_err-read-clause-within
+returns-in_err-read-clause-within g c = no-success _ _ c.from_residual.result c.from_residual.ensures.1
+
+pub returns-in_err-read-clause-power : goal.returns-in_err-read-clause-power
+returns-in_err-read-clause-power g c = no-success _ _ c.from_residual.result c.from_residual.ensures.1
+
+pub returns-in_err-read-clause-size : goal.returns-in_err-read-clause-size
+returns-in_err-read-clause-size g c = refl
+
+pub returns-in_err-read-clause-error : goal.returns-in_err-read-clause-error
+returns-in_err-read-clause-error g c = refl
+
+pub returns-in_err-read-clause-room : goal.returns-in_err-read-clause-room
+returns-in_err-read-clause-room g c = c.in_err-read.ensures.size_stays
+
+pub returns-in_err-read-clause-none : goal.returns-in_err-read-clause-none
+returns-in_err-read-clause-none g c = c.in_err-read.ensures.none
+
+pub returns-in_err-page-clause-counted : goal.returns-in_err-page-clause-counted
+returns-in_err-page-clause-counted g c = no-success _ _ c.from_residual-in_err-page.result c.from_residual-in_err-page.ensures.1
+
+pub returns-in_err-page-clause-within : goal.returns-in_err-page-clause-within
+returns-in_err-page-clause-within g c = no-success _ _ c.from_residual-in_err-page.result c.from_residual-in_err-page.ensures.1
+
+pub returns-in_err-page-clause-power : goal.returns-in_err-page-clause-power
+returns-in_err-page-clause-power g c = no-success _ _ c.from_residual-in_err-page.result c.from_residual-in_err-page.ensures.1
+
+pub returns-in_err-page-clause-size : goal.returns-in_err-page-clause-size
+returns-in_err-page-clause-size g c = refl
+
+pub returns-in_err-page-clause-error : goal.returns-in_err-page-clause-error
+returns-in_err-page-clause-error g c = refl
+
+pub returns-in-Some-fault-clause-size : goal.returns-in-Some-fault-clause-size
+returns-in-Some-fault-clause-size g c = refl
+
+pub returns-in-Some-fault-clause-error : goal.returns-in-Some-fault-clause-error
+returns-in-Some-fault-clause-error g c = refl

@@ -2,20 +2,27 @@ use Rattle.std.proofs.Common.{rules, None, ◌≡◌, ◌%◌, length, length-se
 use Rattle.std.proofs.lemmas.Result.{err_from_is_err_and}
 use Rattle.fl_base.specs.declared.types.Geometry.{Geometry}
 use Rattle.fl_flash.specs.Flash.{page_at}
-use Rattle.fl_ring.specs.Looking.{OnlyReads}
+use Rattle.fl_frame.specs.Reads.{OnlyReads}
 use Rattle.fl_ring.specs.Place.{next_of, oldest_of}
 use Rattle.fl_schema.specs.Schema.{layout_of}
 use Rattle.fl_table.specs.Coming.{AreRowsOf}
 use Rattle.fl_table.specs.ByEntries.{Come}
 use Rattle.fl_table.specs.Knowing.{KnowsWith, IsWithin, IsUnlisted}
-use Rattle.fl_table.specs.Reading.{pages_of, GatherUpTo, bitmap_on, full_on}
+use Rattle.fl_table.specs.Reading.{pages_of, GatherUpTo, bitmap_on, full_on, AreGathered}
 use Rattle.fl_table.proofs.PageChecks.{left-tail}
 use Rattle.fl_table.proofs.FullEntries.{full-read}
 use Rattle.fl_table.proofs.NotedEntries.{gathers-none, gather-first, gather-room, gathers-more, gather-more}
 use Rattle.fl_table.proofs.IndexOfTable.{plan-same, plan-then, ring-same, ring-then}
 use Rattle.fl_ring.proofs.Exists.{page_exists}
-use Rattle.fl_ring.proofs.ReadsInTurn.{no_reads, more_reads, told_still, same_page}
+use Rattle.fl_frame.proofs.ReadsInTurn.{no_reads, more_reads, told_still, same_page}
+use Rattle.fl_table.proofs.ListedPages.{fails-later}
+use Rattle.fl_table.proofs.MountProgress.{fewer-reads}
+use Rattle.fl_table.proofs.Untouched.{no-success}
 use Rattle.fl_table.proofs.load.read_pages.Goals as goal
+
+-- behind the last page there is the next number
+at-end : (number from next to : ℕ) → to ≡ next → from ≤ next → to ≤ number → (from ≤ to → number ≤ to) → number ≡ next
+at-end number from next to is before past most = let le : from ≤ to = omega (arith, is, before) in omega (arith, is, past, most le)
 
 pub read_page-requires : goal.read_page-requires
 read_page-requires g c =
@@ -23,7 +30,7 @@ read_page-requires g c =
     let flash = g.F.Flash.state c.loop-number.flash in
     let inv = c.loop-number.invariant in
     let low : oldest_of c.args.ring.now ≤ c.loop-number.number = omega (arith, inv.from, c.requires.from.0) in
-    let high : c.loop-number.number < next_of c.args.ring.now = omega (arith, c.loop-number-test.true, c.next_number-number-end.ensures) in
+    let high = subst (λ n. c.loop-number.number < n) c.next_number-number-end.ensures c.loop-number-test.true in
     let small : next_of c.args.ring.now < 4294967296 = omega (arith, c.next_number-number-end.ensures, c.next_number-number-end.type_inv) in (
       search (rules, arith),
       (
@@ -61,7 +68,7 @@ returns-in_err-page-clause-knows g c = λ told few error t is end h.
 
 pub returns-clause-knows : goal.returns-clause-knows
 returns-clause-knows g c =
-    let last : c.loop-number.number ≡ next_of c.args.ring.now = search (rules, arith) in
+    let last = at-end _ _ _ _ c.next_number-number-end.ensures c.requires.from.1 c.loop-number-test.false c.loop-number.auto.number-end in
     λ told few error t is end h.
     let all : c.loop-number.number - t.oldest ≡ t.pages = omega (arith, last, is.oldest, is.pages) in
     (subst (λ n. KnowsWith error t t.index_pages n c.loop-number.known c.loop-number.counts c.loop-number.index) all (c.loop-number.invariant.knows told few error t is end h), tt)
@@ -111,7 +118,8 @@ loop-number-preserved g c =
 
 pub note_entry-requires-clause-room : goal.note_entry-requires-clause-room
 note_entry-requires-clause-room g c = λ end.
-    gather-room c.args.bitmaps.now c.loop-number.bitmaps c.args.from (next_of c.args.ring.now) c.loop-number.number c.requires.bitmaps (search (rules, arith)) c.loop-number.invariant.same c.loop-number.invariant.gathered end
+    gather-room c.args.bitmaps.now c.loop-number.bitmaps c.args.from (next_of c.args.ring.now) c.loop-number.number c.requires.bitmaps
+    (subst (λ n. c.loop-number.number < n) c.next_number-number-end.ensures c.loop-number-test.true) c.loop-number.invariant.same c.loop-number.invariant.gathered end
 
 pub loop-number-init : goal.loop-number-init
 loop-number-init g c =
@@ -138,5 +146,91 @@ pub returns-clause-waits : goal.returns-clause-waits
 returns-clause-waits g c = λ told.
     let old = g.F.Flash.state c.args.flash.now in
     let ring = c.args.ring.now in
-    let last : c.loop-number.number ≡ next_of ring = search (rules, arith) in
+    let last = at-end _ _ _ _ c.next_number-number-end.ensures c.requires.from.1 c.loop-number-test.false c.loop-number.auto.number-end in
     subst (λ n. GatherUpTo (layout_of c.args.schema.now) c.args.bitmaps.now (pages_of ring old) n c.loop-number.bitmaps) last (c.loop-number.invariant.waits told)
+
+one-page-more : (number from next : ℕ) → from ≤ number → number < next → number - from + 1 ≤ next - from
+one-page-more number from next low high = omega (arith, low, high)
+
+pub returns-in_err-page-clause-within : goal.returns-in_err-page-clause-within
+returns-in_err-page-clause-within g c = no-success _ _ c.from_residual.result c.from_residual.ensures.1
+
+pub returns-in_err-page-clause-newest : goal.returns-in_err-page-clause-newest
+returns-in_err-page-clause-newest g c = no-success _ _ c.from_residual.result c.from_residual.ensures.1
+
+pub returns-in_err-page-clause-gathered : goal.returns-in_err-page-clause-gathered
+returns-in_err-page-clause-gathered g c = no-success _ _ c.from_residual.result c.from_residual.ensures.1
+
+pub returns-in_err-page-clause-waits : goal.returns-in_err-page-clause-waits
+returns-in_err-page-clause-waits g c = no-success _ _ c.from_residual.result c.from_residual.ensures.1
+
+pub returns-in_err-page-clause-power : goal.returns-in_err-page-clause-power
+returns-in_err-page-clause-power g c = no-success _ _ c.from_residual.result c.from_residual.ensures.1
+
+pub returns-in_err-page-clause-size : goal.returns-in_err-page-clause-size
+returns-in_err-page-clause-size g c = c.in_err-page.ensures.size ∙ c.loop-number.invariant.counts
+
+pub returns-in_err-page-clause-error : goal.returns-in_err-page-clause-error
+returns-in_err-page-clause-error g c = c.in_err-page.ensures.error ∙ c.loop-number.invariant.error
+
+pub returns-in_err-page-clause-same : goal.returns-in_err-page-clause-same
+returns-in_err-page-clause-same g c = c.loop-number.invariant.same
+
+pub returns-in_err-page-clause-still : goal.returns-in_err-page-clause-still
+returns-in_err-page-clause-still g c = c.loop-number.invariant.still
+
+pub returns-in_err-page-clause-reads : goal.returns-in_err-page-clause-reads
+returns-in_err-page-clause-reads g c =
+    let old = g.F.Flash.state c.args.flash.now in
+    let new = g.F.Flash.state c.read_page.new.flash in
+    let high = subst (λ n. c.loop-number.number < n) c.next_number-number-end.ensures c.loop-number-test.true in
+    fewer-reads old new _ _ (one-page-more _ _ _ c.loop-number.invariant.from high) (more_reads old (g.F.Flash.state c.loop-number.flash) new (c.loop-number.number - c.args.from) 1 c.loop-number.invariant.reads c.in_err-page.ensures.reads)
+
+pub returns-in_err-page-clause-room : goal.returns-in_err-page-clause-room
+returns-in_err-page-clause-room g c = c.in_err-page.ensures.room ∙ c.loop-number.invariant.room
+
+pub returns-in_err-page-clause-none : goal.returns-in_err-page-clause-none
+returns-in_err-page-clause-none g c = c.in_err-page.ensures.none
+
+pub returns-in_err-page-clause-fails : goal.returns-in_err-page-clause-fails
+returns-in_err-page-clause-fails g c =
+    let p = err_from_is_err_and c.from_residual.result c.from_residual.ensures.1 in
+    rw (p.1, p.2) (fails-later (g.F.Flash.state c.args.flash.now) (g.F.Flash.state c.loop-number.flash) (g.F.Flash.state c.read_page.new.flash) _ c.in_err-page.field-0.0 c.loop-number.invariant.reads c.in_err-page.ensures.fails)
+
+pub returns-in_err-page-clause-only : goal.returns-in_err-page-clause-only
+returns-in_err-page-clause-only g c =
+    let p = err_from_is_err_and c.from_residual.result c.from_residual.ensures.1 in
+    rw (p.1, p.2) c.in_err-page.ensures.only
+
+pub returns-clause-within : goal.returns-clause-within
+returns-clause-within g c = subst (λ n. IsWithin (oldest_of c.args.ring.now) (n - oldest_of c.args.ring.now) c.loop-number.known) (at-end _ _ _ _ c.next_number-number-end.ensures c.requires.from.1 c.loop-number-test.false c.loop-number.auto.number-end) c.loop-number.invariant.within
+
+pub returns-clause-newest : goal.returns-clause-newest
+returns-clause-newest g c = c.loop-number.invariant.newest
+
+pub returns-clause-size : goal.returns-clause-size
+returns-clause-size g c = c.loop-number.invariant.counts
+
+pub returns-clause-error : goal.returns-clause-error
+returns-clause-error g c = c.loop-number.invariant.error
+
+pub returns-clause-same : goal.returns-clause-same
+returns-clause-same g c = c.loop-number.invariant.same
+
+pub returns-clause-still : goal.returns-clause-still
+returns-clause-still g c = c.loop-number.invariant.still
+
+pub returns-clause-gathered : goal.returns-clause-gathered
+returns-clause-gathered g c = subst (λ n. AreGathered c.args.bitmaps.now n c.loop-number.bitmaps) (at-end _ _ _ _ c.next_number-number-end.ensures c.requires.from.1 c.loop-number-test.false c.loop-number.auto.number-end) c.loop-number.invariant.gathered
+
+pub returns-clause-reads : goal.returns-clause-reads
+returns-clause-reads g c = subst (λ n. OnlyReads (g.F.Flash.state c.args.flash.now) (n - c.args.from) (g.F.Flash.state c.loop-number.flash)) (at-end _ _ _ _ c.next_number-number-end.ensures c.requires.from.1 c.loop-number-test.false c.loop-number.auto.number-end) c.loop-number.invariant.reads
+
+pub returns-clause-room : goal.returns-clause-room
+returns-clause-room g c = c.loop-number.invariant.room
+
+pub returns-clause-none : goal.returns-clause-none
+returns-clause-none g c = c.loop-number.invariant.none
+
+pub returns-clause-power : goal.returns-clause-power
+returns-clause-power g c = λ on. c.loop-number.invariant.reads.power ∙ on

@@ -1,5 +1,5 @@
 use Rattle.std.proofs.Common.{◌≡◌, ◌<◌, ◌^◌, true, false}
-use Rattle.fl_page.specs.Contents.{contents_of, OnlyReads}
+use Rattle.fl_frame.specs.Contents.{contents_of, OnlyReads}
 use Rattle.fl_cursor.specs.Cursor.{has_ended}
 use Rattle.fl_table.specs.Memory.{next_in}
 use Rattle.fl_cursor.specs.Ends.{EndsPages}

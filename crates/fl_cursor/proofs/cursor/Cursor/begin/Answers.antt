@@ -3,7 +3,7 @@ use Rattle.fl_flash.specs.Buffer.{BufferState}
 use Rattle.fl_model.specs.Limits.{least_reads}
 use Rattle.fl_model.specs.Query as query
 use Rattle.fl_model.specs.Row.{stored_row}
-use Rattle.fl_page.specs.Contents.{contents_of}
+use Rattle.fl_frame.specs.Contents.{contents_of}
 use Rattle.fl_page.specs.Steps.{Ascends}
 use Rattle.fl_table.specs.Look.{last_key_in}
 use Rattle.fl_table.specs.declared.table.Table.{Table}

@@ -2,8 +2,8 @@ use Rattle.std.proofs.Common.{ℕ, ◌+◌, ◌≤◌, Option, Some, None, IfSom
 use Rattle.std.proofs.lemmas.Result.{err_from_is_err_and}
 use Rattle.fl_find.specs.Pages.{first_key}
 use Rattle.fl_flash.specs.Places.{page_of}
-use Rattle.fl_page.specs.Contents.{Contents, contents_of}
-use Rattle.fl_page.proofs.ReadsInTurn.{OnlyReads-reads}
+use Rattle.fl_frame.specs.Contents.{Contents, contents_of}
+use Rattle.fl_frame.proofs.ContentsInTurn.{OnlyReads-reads}
 use Rattle.fl_search.specs.Search.{IsPageOf, RoseSome}
 use Rattle.fl_table.specs.Finding.{HoldsKept}
 use Rattle.fl_table.specs.Kept.{place_of}

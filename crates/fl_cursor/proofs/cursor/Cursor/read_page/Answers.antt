@@ -2,7 +2,7 @@ use Rattle.std.proofs.Common.{rules, ◌≡◌, ◌<◌, refl, ◌∙◌, subst,
 use Rattle.std.proofs.lemmas.Result.{err_from_is_err_and}
 use Rattle.fl_mark.specs.Mark.{state_of_page}
 use Rattle.fl_mark.specs.declared.page_state.PageState.TheVariants.{Committed}
-use Rattle.fl_page.specs.Contents.{contents_of}
+use Rattle.fl_frame.specs.Contents.{contents_of}
 use Rattle.fl_page.specs.Page.{IsGoodPage}
 use Rattle.fl_table.specs.Look.{layout_in, rows_noted}
 use Rattle.fl_table.specs.Memory.{next_in}
@@ -10,7 +10,8 @@ use Rattle.fl_cursor.specs.Cursor.{IsPlaced}
 use Rattle.fl_cursor.proofs.BehindLastPage.{pages-end, within-end}
 use Rattle.fl_cursor.proofs.Indexed.{looked, looked-as, page-bytes}
 use Rattle.fl_cursor.proofs.NextPages.{page-skipped, page-beyond, page-missed, page-entered, page-void, page-fails, look-fails}
-use Rattle.fl_page.proofs.ReadsInTurn.{OnlyReads-then, IsCaused-later}
+use Rattle.fl_page.proofs.ReadsInTurn.{IsCaused-later}
+use Rattle.fl_frame.proofs.ContentsInTurn.{OnlyReads-then}
 use Rattle.std.proofs.lemmas.Result.{err_from_is_err_and}
 use Rattle.fl_mark.specs.Mark.{state_of_page}
 use Rattle.fl_mark.specs.declared.page_state.PageState.TheVariants.{Committed}

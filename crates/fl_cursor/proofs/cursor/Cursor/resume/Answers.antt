@@ -1,6 +1,6 @@
 use Rattle.std.proofs.Common.{length, refl, ◌∙◌, ap}
 use Rattle.fl_flash.specs.Buffer.{BufferState}
-use Rattle.fl_page.specs.Contents.{contents_of}
+use Rattle.fl_frame.specs.Contents.{contents_of}
 use Rattle.fl_cursor.specs.Asked.{asked_by}
 use Rattle.fl_cursor.specs.Cursor.{IsStanding}
 use Rattle.fl_cursor.proofs.Indexed.{fresh-none, good-none, looking-none}

@@ -8,7 +8,8 @@ use Rattle.fl_cursor.specs.declared.cursor.Cursor.{Cursor}
 use Rattle.fl_cursor.specs.declared.place.Here.TheVariants.{PendingRow}
 use Rattle.fl_cursor.specs.declared.place.Place.TheVariants.{Pending}
 use Rattle.fl_cursor.specs.declared.search.Sought.TheVariants.{Row as At}
-use Rattle.fl_cursor.proofs.PendingRowSteps.{pending-taken, pending-ends, length-buffered, few-pending}
+use Rattle.fl_table.proofs.PendingKey.{length-buffered}
+use Rattle.fl_cursor.proofs.PendingRowSteps.{pending-taken, pending-ends, few-pending}
 use Rattle.fl_cursor.proofs.Walks.{found-within}
 use Rattle.fl_cursor.proofs.cursor.Cursor.step_pending.Goals as goal
 

@@ -1,4 +1,4 @@
-use Rattle.fl_page.specs.Contents.{contents_of}
+use Rattle.fl_frame.specs.Contents.{contents_of}
 use Rattle.fl_cursor.proofs.StepsOfRows.{told-after, steps-after, most-after, least-after, none-left}
 use Rattle.fl_cursor.proofs.rows.CursorRows.step.Goals as goal
 

@@ -5,7 +5,7 @@ use Rattle.fl_flash.specs.Buffer.{BufferState}
 use Rattle.fl_flash.specs.Flash.{page_at}
 use Rattle.fl_flash.specs.Media.{next_count}
 use Rattle.fl_index.specs.Page.{page_number, IsGoodPage}
-use Rattle.fl_ring.proofs.ReadsInTurn.{same_page}
+use Rattle.fl_frame.proofs.ReadsInTurn.{same_page}
 use Rattle.fl_index.specs.Looking.{listing_of, entire, IsFound, IsFresh, IsHeld, IfRead}
 use Rattle.fl_index.specs.Memory.{is_waiting, found_waiting, first_waiting, listing_in, place_in}
 use Rattle.fl_index.proofs.Scans.{memory-least, good-found, caused-none, bad-page, scan-most, unread-again, scan-least}

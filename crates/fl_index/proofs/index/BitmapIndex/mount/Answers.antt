@@ -7,7 +7,8 @@ use Rattle.fl_ring.specs.Ring.{Shape}
 use Rattle.fl_index.specs.Headers.{AreRemembered, kept_page}
 use Rattle.fl_index.proofs.WaitingEntries.{written-back}
 use Rattle.fl_index.proofs.Memories.{planned-same}
-use Rattle.fl_index.proofs.MountCalls.{watched-front, risen-later, refuses-index, unread-pages, found-few, finds-index, outside-stands, few-all}
+use Rattle.fl_index.proofs.MountCalls.{refuses-index, unread-pages, found-few, finds-index, outside-stands, few-all}
+use Rattle.fl_frame.proofs.WatchedInTurn.{watched-first, risen-later}
 use Rattle.fl_index.proofs.MountEnded.{reads-fail, mounts-well}
 use Rattle.fl_index.proofs.SealEnds.{planned-shape, planned-large, planned-ring, lies-size}
 use Rattle.fl_index.proofs.index.BitmapIndex.mount.Goals as goal
@@ -40,7 +41,7 @@ returns-in_err-read_firsts-clause-ends g c = λ first plan table rose device wat
     let goes = c.find.ensures.beside.goes in
     let has : found.ring ≡ Some ring = sym c.take.ensures.value ∙ c.in-Some.is in
     let reads = c.in_err-read_firsts.ensures.reads in
-    let w = c.in_ok-end.ensures.ends first plan table rose device (watched-front old mid new rose device watched reads.goes) planned rests in
+    let w = c.in_ok-end.ensures.ends first plan table rose device (watched-first old mid new rose device watched reads.goes) planned rests in
     let p = err_from_is_err_and c.from_residual-in_err-read_firsts.result c.from_residual-in_err-read_firsts.ensures.1 in
     rw (p.1, p.2) (reads-fail first plan table rose device found mid new (next_of ring - oldest_of ring) end w reads c.in_err-read_firsts.field-0.0 found c.in_err-read_firsts.ensures.fails (risen-later old mid new rose device watched goes))
 
@@ -101,7 +102,7 @@ returns-clause-ends g c = λ first plan table rose device watched planned rests.
     let has : found.ring ≡ Some ring = sym c.take.ensures.value ∙ c.in-Some.is in
     let reads = c.in_ok-read_firsts.ensures.reads in
     let lies = c.requires.lies in
-    let w = c.in_ok-end.ensures.ends first plan table rose device (watched-front old mid new rose device watched reads.goes) planned rests in
+    let w = c.in_ok-end.ensures.ends first plan table rose device (watched-first old mid new rose device watched reads.goes) planned rests in
     let told = subst IsTrue (sym goes.tells) watched.told in
     let sizes = lies-size t mid first plan planned (goes.geometry ∙ lies.geometry) (omega (arith, goes.blocks, lies.within)) (g.met.F.Flash.reaches c.find.new.flash) in
     let back : take found.firsts.len (c.read_firsts.new.firsts ++ drop (length c.read_firsts.new.firsts) found.firsts.items) ≡ c.read_firsts.new.firsts =

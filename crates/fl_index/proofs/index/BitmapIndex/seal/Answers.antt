@@ -1,8 +1,11 @@
 use Rattle.fl_ring.specs.declared.ring.Ring.{Ring}
-use Rattle.std.proofs.Common.{◌≡◌, Option, None, ◌+◌, ◌*◌, ◌%◌, ℕ, ◌<◌, ◌≤◌, List, ◌++◌, Some, Ok, Err, length, take, drop, set, arith, refl, sym, ◌∙◌, ap, subst}
+use Rattle.std.proofs.Common.{◌≡◌, Option, None, ◌+◌, ◌*◌, ◌%◌, ℕ, ◌<◌, ◌≤◌, List, ◌++◌, Some, Result, Ok, Err, length, take, drop, set, arith, refl, sym, ◌∙◌, ap, subst}
 use Rattle.std.proofs.lemmas.Result.{err_from_is_err_and}
 use Rattle.fl_base.specs.Bytes.{splice}
 use Rattle.fl_flash.specs.Flash.{page_at}
+use Rattle.fl_flash.specs.declared.flash.FlashFault.{FlashFault}
+use Rattle.fl_ring.specs.Written.{done}
+use Rattle.fl_ring.proofs.Written.{held-writes}
 use Rattle.fl_ring.specs.Operations.{change, seal_kinds}
 use Rattle.fl_ring.specs.Place.{shape_of, StandsFor}
 use Rattle.fl_ring.specs.Ring.{Shape, OutsideStands, oldest, place, sealed}
@@ -129,3 +132,17 @@ invariant_of-self-2-clause-page g c =
     written-back t.body.len t.body.items c.write_header.new.body _ (c.write_header.ensures ∙ ap (λ (l : List ℕ). splice l 0 (header_bytes c.next_number-number.result t.first t.waiting)) c.deref_mut.ensures.value)
     (headed-length c.next_number-number.result t.first t.waiting t.body.items (omega (arith, t.page, t.served.page_least))) t.body.ok.0 in
     ap (λ (l : List ℕ). length l + 8) back ∙ (ap (λ n. n + 8) (headed-length c.next_number-number.result t.first t.waiting t.body.items (omega (arith, t.page, t.served.page_least))) ∙ t.page)
+
+pub returns-in_err-seal-clause-writes : goal.returns-in_err-seal-clause-writes
+returns-in_err-seal-clause-writes g c =
+    let t = c.args.self.now in
+    let has : t.ring ≡ Some c.in-Some.ring = sym c.take.ensures.value ∙ c.in-Some.is in
+    let p = err_from_is_err_and c.from_residual.result c.from_residual.ensures.1 in
+    let none : done c.from_residual.result ≡ 0 = ap (λ (x : Result (Unit {0}) FlashFault). done x) p.1 in
+    held-writes t.ring c.in-Some.ring 0 (done c.from_residual.result) _ _ has (omega (arith, none)) c.in_err-seal.ensures.writes
+
+pub returns-clause-writes : goal.returns-clause-writes
+returns-clause-writes g c =
+    let t = c.args.self.now in
+    let has : t.ring ≡ Some c.in-Some.ring = sym c.take.ensures.value ∙ c.in-Some.is in
+    held-writes t.ring c.in-Some.ring 1 1 _ _ has (omega arith) c.in_ok-seal.ensures.writes

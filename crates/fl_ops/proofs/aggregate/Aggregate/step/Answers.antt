@@ -2,9 +2,10 @@ use Rattle.std.proofs.Common.{arith, rules, ℕ, ◌≡◌, ◌∙◌, ◌<◌, 
 use Rattle.fl_model.specs.Query.{is_above}
 use Rattle.fl_model.specs.Operators.{Group, column_of, aggregate}
 use Rattle.std.proofs.lemmas.Result.{err_from_is_err_and}
-use Rattle.fl_page.specs.Contents.{contents_of}
+use Rattle.fl_frame.specs.Contents.{contents_of}
 use Rattle.fl_page.specs.Steps.{Ascends}
-use Rattle.fl_page.proofs.ReadsInTurn.{OnlyReads-then, OnlyReads-reads, IsCaused-later}
+use Rattle.fl_page.proofs.ReadsInTurn.{IsCaused-later}
+use Rattle.fl_frame.proofs.ContentsInTurn.{OnlyReads-then, OnlyReads-reads}
 use Rattle.fl_ops.specs.Columns.{record_of, records_of}
 use Rattle.fl_ops.specs.Groups.{ungrouped}
 use Rattle.fl_ops.specs.Tally.{tally_of, tally_more, tallied, HasBounds}

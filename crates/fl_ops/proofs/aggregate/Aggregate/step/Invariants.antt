@@ -1,5 +1,5 @@
 use Rattle.std.proofs.Common.{◌≡◌, ◌≤◌, ◌<◌, ◌+◌, ◌-◌, ◌*◌, ◌^◌, false}
-use Rattle.fl_page.specs.Contents.{contents_of, OnlyReads}
+use Rattle.fl_frame.specs.Contents.{contents_of, OnlyReads}
 use Rattle.fl_ops.specs.Columns.{records_of}
 use Rattle.fl_ops.specs.Inputs.{Continues}
 use Rattle.fl_ops.specs.Tally.{HasBounds}

@@ -1,8 +1,9 @@
 use Rattle.std.proofs.Common.{arith, rules, ◌+◌, ◌≤◌}
 use Rattle.std.proofs.lemmas.Grind.{common_steps}
 use Rattle.std.proofs.lemmas.Result.{err_from_is_err_and}
-use Rattle.fl_page.specs.Contents.{contents_of}
-use Rattle.fl_page.proofs.ReadsInTurn.{OnlyReads-then, OnlyReads-reads, IsCaused-later}
+use Rattle.fl_frame.specs.Contents.{contents_of}
+use Rattle.fl_page.proofs.ReadsInTurn.{IsCaused-later}
+use Rattle.fl_frame.proofs.ContentsInTurn.{OnlyReads-then, OnlyReads-reads}
 use Rattle.fl_ops.proofs.Calls.{calls}
 use Rattle.fl_ops.proofs.select.SelectRows.step.Goals as goal
 

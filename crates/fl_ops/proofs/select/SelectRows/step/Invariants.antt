@@ -1,6 +1,6 @@
 use Rattle.std.proofs.Common.{◌≡◌, ◌≤◌, ◌<◌, ◌+◌, ◌-◌, ◌^◌, ◌↔◌, ℕ, true, filter}
 use Rattle.fl_model.specs.Query.{is_above}
-use Rattle.fl_page.specs.Contents.{Contents, contents_of, OnlyReads}
+use Rattle.fl_frame.specs.Contents.{Contents, contents_of, OnlyReads}
 use Rattle.fl_page.specs.declared.fault.BadPage.{BadPage}
 use Rattle.fl_ops.specs.Columns.{row_passes}
 use Rattle.fl_ops.specs.Select.{comparison_of}

@@ -3,7 +3,7 @@ use Rattle.fl_spline.specs.Points.{Rises}
 use Rattle.fl_spline.specs.Segment.{IsSegment}
 use Rattle.fl_spline.specs.Spline.{kept}
 use Rattle.fl_radix.specs.Radix.{IsTableOf, shift_of}
-use Rattle.fl_radix.proofs.Bits.{bits-one}
+use Rattle.fl_base.proofs.BitsGrow.{bits-one}
 use Rattle.fl_radix.proofs.RisingKnots.{segment-in-slot, few-in-slot, most-in-slot, none-in-slot, length-range, rises-range}
 use Rattle.fl_radix.proofs.radix.Radix.segment.Goals as goal
 

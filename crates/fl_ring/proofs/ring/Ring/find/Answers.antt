@@ -5,7 +5,7 @@ use Rattle.fl_flash.specs.Flash.{page_at}
 use Rattle.fl_flash.specs.declared.flash.FlashFault.TheVariants.{PowerLost}
 use Rattle.fl_ring.specs.declared.fault.RingFault.TheVariants.{Flash}
 use Rattle.fl_ring.specs.Finding.{IsFound, FoundFault}
-use Rattle.fl_ring.specs.Looking.{OnlyReads}
+use Rattle.fl_frame.specs.Reads.{OnlyReads}
 use Rattle.fl_ring.specs.Mounting.{shape_at, search_reads, RepairEnds}
 use Rattle.fl_ring.specs.Newest.{NewestAmong}
 use Rattle.fl_ring.specs.Numbers.{renumbered}
@@ -14,7 +14,7 @@ use Rattle.fl_ring.specs.Place.{StandsFor}
 use Rattle.fl_ring.specs.Repairing.{Beside, RepairCalls}
 use Rattle.fl_ring.specs.Ring.{Shape, OnRing, repaired}
 use Rattle.fl_ring.proofs.Besides.{beside_reads, beside_more, beside_up}
-use Rattle.fl_ring.proofs.Caused.{caused_later}
+use Rattle.fl_frame.proofs.ReadsInTurn.{caused_later}
 use Rattle.fl_ring.proofs.Exists.{place_exists}
 use Rattle.fl_ring.proofs.Mounts.{shape_served, still_on, found_numbers, search_failed, search_cause, mount_done, refused_by, has_numbers, err_as}
 use Rattle.fl_ring.proofs.NewestPages.{newest_kept}

@@ -197,3 +197,23 @@ invariant_of-self-2 g c = record {
 
 pub flush-requires : goal.flush-requires
 flush-requires g c = (table-fits g.row.KNOTS g.row.SLOTS c.args.self.now.table.few_knots c.args.self.now.table.few_slots, c.requires.lies.table)
+
+-- ---- what is written
+
+pub returns-then-pending_rows-eq0-clause-writes : goal.returns-then-pending_rows-eq0-clause-writes
+returns-then-pending_rows-eq0-clause-writes g c = c.flush.ensures.writes
+
+pub returns-then-pending_rows-eq0-clause-sealed : goal.returns-then-pending_rows-eq0-clause-sealed
+returns-then-pending_rows-eq0-clause-sealed g c = c.flush.ensures.sealed
+
+pub returns-in_err-flush-clause-writes : goal.returns-in_err-flush-clause-writes
+returns-in_err-flush-clause-writes g c = c.in_err-flush.ensures.writes
+
+pub returns-in_err-flush-clause-sealed : goal.returns-in_err-flush-clause-sealed
+returns-in_err-flush-clause-sealed g c = let p = err_from_is_err_and c.from_residual.result c.from_residual.ensures.1 in rw p.1 tt
+
+pub returns-clause-writes : goal.returns-clause-writes
+returns-clause-writes g c = c.in_ok-flush.ensures.writes
+
+pub returns-clause-sealed : goal.returns-clause-sealed
+returns-clause-sealed g c = c.in_ok-flush.ensures.sealed

@@ -1,14 +1,14 @@
 use Rattle.std.proofs.Common.{◌≡◌, ◌⊎◌, ℕ, ◌+◌, Bool, true, false, Option, Some, Ok, Err, IsTrue, is_some, inl, inr, refl, sym, ◌∙◌, ap, subst, arith}
 use Rattle.std.proofs.lemmas.Result.{err_from_is_err_and}
 use Rattle.fl_flash.specs.Flash.{page_at}
+use Rattle.fl_frame.proofs.CallsInTurn.{goes-then}
 use Rattle.fl_model.specs.Bare.{bare, bare_table, log_of, beside}
 use Rattle.fl_model.specs.Record.{Plan, row_layout, blocks_of}
 use Rattle.fl_model.specs.Table.{Table}
 use Rattle.fl_model.specs.Work.{Device}
 use Rattle.fl_ring.specs.declared.ring.Ring.{Ring}
-use Rattle.fl_ring.specs.Step.{IsWatched}
-use Rattle.fl_ring.proofs.ReadsInTurn.{goes_more}
-use Rattle.fl_table.proofs.SealsInTurn.{watched-front, watched-then}
+use Rattle.fl_frame.specs.Watched.{IsWatched}
+use Rattle.fl_frame.proofs.WatchedInTurn.{watched-first, watched-then}
 use Rattle.fl_table.proofs.MountJoined.{mount-cause-later}
 use Rattle.fl_table.proofs.SealAnswers.{same-then}
 use Rattle.fl_table.proofs.Sizes.{table-fits}
@@ -139,7 +139,7 @@ pub returns-in-Err-clause-calm : goal.returns-in-Err-clause-calm
 returns-in-Err-clause-calm g c = c.unmount.ensures.forgotten.calm
 
 pub returns-in-Err-clause-goes : goal.returns-in-Err-clause-goes
-returns-in-Err-clause-goes g c = goes_more (g.F.Flash.state c.args.flash.now) (g.F.Flash.state c.mount.new.flash) (g.F.Flash.state c.replay.new.flash) c.in_ok-mounted.ensures.goes c.in-Err.ensures.goes
+returns-in-Err-clause-goes g c = goes-then (g.F.Flash.state c.args.flash.now) (g.F.Flash.state c.mount.new.flash) (g.F.Flash.state c.replay.new.flash) c.in_ok-mounted.ensures.goes c.in-Err.ensures.goes
 
 pub returns-in-Err-clause-same : goal.returns-in-Err-clause-same
 returns-in-Err-clause-same g c = record {
@@ -162,7 +162,7 @@ returns-in-Err-clause-apart g c = λ first plan table rose device l watched plan
     let k = c.in_ok-mounted.ensures in
     let here : c.in-Some.log ≡ l = one-log (sym c.in-Some.is ∙ is) in
     let outside = k.outside watched.told in
-    let w = k.ends first (bare plan) (bare_table table) rose device (watched-front old f1 f2 rose device watched c.in-Err.ensures.goes) planned.table apart.unlogged in
+    let w = k.ends first (bare plan) (bare_table table) rose device (watched-first old f1 f2 rose device watched c.in-Err.ensures.goes) planned.table apart.unlogged in
     replay-ends t old first plan table planned l apart rose device c.in_ok-mounted.mounted c.mount.new.self f1 outside w k.none c.in-Err.fault c.replay.new.log c.replay.new.table _ f2
     (subst (λ (x : RecordLog). ReplayEnds first plan (beside (log_of table) w.now.state) rose w.now.device x (Err c.in-Err.fault) c.replay.new.log c.replay.new.table f2) here
     (c.in-Err.ensures.ends first plan (beside (log_of table) w.now.state) rose w.now.device (watched-then old f1 f2 rose device w.now.device watched k.goes w.power w.counts)
@@ -181,7 +181,7 @@ returns-in-Err-clause-ends g c = λ first plan table rose device watched planned
     let k = c.in_ok-mounted.ensures in
     let apart = apart-of t old first plan table planned rests l is in
     let outside = k.outside watched.told in
-    let w = k.ends first (bare plan) (bare_table table) rose device (watched-front old f1 f2 rose device watched c.in-Err.ensures.goes) planned.table apart.unlogged in
+    let w = k.ends first (bare plan) (bare_table table) rose device (watched-first old f1 f2 rose device watched c.in-Err.ensures.goes) planned.table apart.unlogged in
     badly-of t old first plan table planned rests l is rose device c.in-Err.fault _ f2
     (replay-ends t old first plan table planned l apart rose device c.in_ok-mounted.mounted c.mount.new.self f1 outside w k.none c.in-Err.fault c.replay.new.log c.replay.new.table _ f2
     (c.in-Err.ensures.ends first plan (beside (log_of table) w.now.state) rose w.now.device (watched-then old f1 f2 rose device w.now.device watched k.goes w.power w.counts)
@@ -220,7 +220,7 @@ returns-in-Err-clause-limit g c = λ first plan table rose device watched planne
     let k = c.in_ok-mounted.ensures in
     let apart = apart-of t old first plan table planned rests c.in-Some.log c.in-Some.is in
     limit-behind plan table old.work.reads f1.work.reads f2.work.reads
-    (k.limit first (bare plan) (bare_table table) rose device (watched-front old f1 f2 rose device watched c.in-Err.ensures.goes) planned.table (bare-rests t old first plan table planned rests) full)
+    (k.limit first (bare plan) (bare_table table) rose device (watched-first old f1 f2 rose device watched c.in-Err.ensures.goes) planned.table (bare-rests t old first plan table planned rests) full)
     (c.in-Err.ensures.limit (first + blocks_of (bare plan)) plan table (subst IsTrue (sym k.goes.tells) watched.told) (log-stays t old first plan table planned c.in-Some.log apart f1 (k.outside watched.told)))
 
 pub returns-in-Err-clause-repairs : goal.returns-in-Err-clause-repairs
@@ -229,7 +229,7 @@ returns-in-Err-clause-repairs g c = λ alone. absurd (not-both (is_some c.args.s
 -- ---- all is mounted
 
 pub returns-clause-goes : goal.returns-clause-goes
-returns-clause-goes g c = goes_more (g.F.Flash.state c.args.flash.now) (g.F.Flash.state c.mount.new.flash) (g.F.Flash.state c.replay.new.flash) c.in_ok-mounted.ensures.goes c.in_default-replay.ensures.goes
+returns-clause-goes g c = goes-then (g.F.Flash.state c.args.flash.now) (g.F.Flash.state c.mount.new.flash) (g.F.Flash.state c.replay.new.flash) c.in_ok-mounted.ensures.goes c.in_default-replay.ensures.goes
 
 pub returns-clause-same : goal.returns-clause-same
 returns-clause-same g c = record {
@@ -252,7 +252,7 @@ returns-clause-apart g c = λ first plan table rose device l watched planned is 
     let k = c.in_ok-mounted.ensures in
     let here : c.in-Some.log ≡ l = one-log (sym c.in-Some.is ∙ is) in
     let outside = k.outside watched.told in
-    let w = k.ends first (bare plan) (bare_table table) rose device (watched-front old f1 f2 rose device watched c.in_default-replay.ensures.goes) planned.table apart.unlogged in (
+    let w = k.ends first (bare plan) (bare_table table) rose device (watched-first old f1 f2 rose device watched c.in_default-replay.ensures.goes) planned.table apart.unlogged in (
       c.replay.new.log,
       (
         refl,
@@ -275,7 +275,7 @@ returns-clause-ends g c = λ first plan table rose device watched planned rests.
     let k = c.in_ok-mounted.ensures in
     let apart = apart-of t old first plan table planned rests l is in
     let outside = k.outside watched.told in
-    let w = k.ends first (bare plan) (bare_table table) rose device (watched-front old f1 f2 rose device watched c.in_default-replay.ensures.goes) planned.table apart.unlogged in
+    let w = k.ends first (bare plan) (bare_table table) rose device (watched-first old f1 f2 rose device watched c.in_default-replay.ensures.goes) planned.table apart.unlogged in
     let empty = c.in_default-replay.ensures.empty (row_layout plan) in
     well-of t old first plan table planned rests l is rose device c.replay.new.log _ f2 c.held.result refl empty
     (replayed t old first plan table planned l apart rose device c.in_ok-mounted.mounted c.mount.new.self f1 outside w k.none c.replay.new.log _ f2 c.held.result refl empty (c.held.ensures.stands f2 first (bare plan))
@@ -314,7 +314,7 @@ returns-clause-leaves g c = λ told first plan table seen planned rests. by-seen
         let k = c.in_ok-mounted.ensures in
         let apart = apart-of t old first plan table planned rests l is in
         let outside = k.outside watched.told in
-        let w = k.ends first (bare plan) (bare_table table) rose device (watched-front old f1 f2 rose device watched c.in_default-replay.ensures.goes) planned.table apart.unlogged in
+        let w = k.ends first (bare plan) (bare_table table) rose device (watched-first old f1 f2 rose device watched c.in_default-replay.ensures.goes) planned.table apart.unlogged in
         let leaves = c.in_default-replay.ensures.leaves first plan (beside (log_of table) w.now.state) rose w.now.device (watched-then old f1 f2 rose device w.now.device watched k.goes w.power w.counts)
         (between-stands t old first plan table planned l apart rose device c.in_ok-mounted.mounted c.mount.new.self f1 outside w k.none) (between-none t old first plan table planned l apart rose device c.in_ok-mounted.mounted c.mount.new.self f1 outside w k.none)
         (between-rests t old first plan table planned l apart rose device c.in_ok-mounted.mounted c.mount.new.self f1 outside w k.none) in
@@ -342,7 +342,7 @@ returns-clause-limit g c = λ first plan table rose device watched planned rests
     let k = c.in_ok-mounted.ensures in
     let apart = apart-of t old first plan table planned rests c.in-Some.log c.in-Some.is in
     limit-behind plan table old.work.reads f1.work.reads f2.work.reads
-    (k.limit first (bare plan) (bare_table table) rose device (watched-front old f1 f2 rose device watched c.in_default-replay.ensures.goes) planned.table (bare-rests t old first plan table planned rests) full)
+    (k.limit first (bare plan) (bare_table table) rose device (watched-first old f1 f2 rose device watched c.in_default-replay.ensures.goes) planned.table (bare-rests t old first plan table planned rests) full)
     (c.in_default-replay.ensures.limit (first + blocks_of (bare plan)) plan table (subst IsTrue (sym k.goes.tells) watched.told) (log-stays t old first plan table planned c.in-Some.log apart f1 (k.outside watched.told)))
 
 pub returns-clause-repairs : goal.returns-clause-repairs

@@ -4,10 +4,11 @@ use Rattle.std.specs.Prelude.{IsTrue}
 use Rattle.fl_flash.specs.Flash.{FlashState, page_at}
 use Rattle.fl_flash.specs.declared.flash.FlashFault.{FlashFault}
 use Rattle.fl_flash.specs.declared.flash.FlashFault.TheVariants.{PowerLost}
+use Rattle.fl_frame.proofs.CallsInTurn.{goes-then}
 use Rattle.fl_model.specs.Bare.{bare, bare_table, log_of, beside}
 use Rattle.fl_model.specs.Record.{Record, RowLayout, blocks_of}
 use Rattle.fl_model.specs.Table.{put_record}
-use Rattle.fl_table.proofs.SealsInTurn.{watched-front, watched-then, cause-later}
+use Rattle.fl_frame.proofs.WatchedInTurn.{watched-first, watched-then, cause-later}
 use Rattle.fl_table.proofs.PutAnswers.{map-twice, and-true}
 use Rattle.fl_schema.specs.Schema.{layout_of}
 use Rattle.fl_table.specs.Refusal.{RefusesAs}
@@ -19,7 +20,7 @@ use Rattle.fl_rlc.specs.Refusal.{put_refusal, NeedsNoOperation}
 use Rattle.fl_rlc.specs.Rows.{RowEnds, HaveLogged}
 use Rattle.fl_rlc.proofs.PutEnded.{logged-refused, logged-accepted, failed-ends, row-failed, row-done, bare-none, log-none}
 use Rattle.fl_rlc.proofs.PutFrames.{log-self, log-lies, blobs-same, room-same, logged-calm, refused-same, flash-alone, log-outside, some-same, and-left, and-false, not-both}
-use Rattle.fl_ring.proofs.ReadsInTurn.{no_reads, goes_more}
+use Rattle.fl_frame.proofs.ReadsInTurn.{no_reads}
 use Rattle.fl_model.specs.Record.{layout_len}
 use Rattle.fl_model.specs.Row.{FitsRow}
 use Rattle.fl_rlc.specs.Memory.{page_len}
@@ -68,7 +69,7 @@ returns-in-Err-clause-ends g c = λ first plan table rose device watched h.
     let none : put_refusal t c.args.key c.args.values.now (option_map (λ (b : Bor (List ℕ)). length b.now) c.args.blob) ≡ None = sym c.refusal.ensures ∙ c.in_default.is in
     let ok = logged-accepted t f first plan table h c.args.key c.args.values.now bytes (ap (put_refusal t c.args.key c.args.values.now) same ∙ none) in
     let item : Record = record { key = c.args.key; values = c.args.values.now; blob = option_map (λ (b : Bor (List ℕ)). b.now) c.args.blob } in
-    let p = (c.in_ok-put.ensures.ends first (bare plan) (bare_table table) rose device (watched-front f mid new rose device watched c.log_row.ensures.goes) h.unlogged).1 in
+    let p = (c.in_ok-put.ensures.ends first (bare plan) (bare_table table) rose device (watched-first f mid new rose device watched c.log_row.ensures.goes) h.unlogged).1 in
     let Q = beside (log_of table) (put_record (bare plan) item (bare_table table)) in
     let ends = c.log_row.ensures.ends (first + blocks_of (bare plan)) plan Q rose p.now.device in
     row-failed t f first plan table h c.args.key c.args.values.now bytes rose device ok c.put.new.self mid new p (c.in_ok-put.ensures.outside watched.told)
@@ -87,7 +88,7 @@ returns-clause-ends g c = λ first plan table rose device watched h.
     let none : put_refusal t c.args.key c.args.values.now (option_map (λ (b : Bor (List ℕ)). length b.now) c.args.blob) ≡ None = sym c.refusal.ensures ∙ c.in_default.is in
     let ok = logged-accepted t f first plan table h c.args.key c.args.values.now bytes (ap (put_refusal t c.args.key c.args.values.now) same ∙ none) in
     let item : Record = record { key = c.args.key; values = c.args.values.now; blob = option_map (λ (b : Bor (List ℕ)). b.now) c.args.blob } in
-    let p = (c.in_ok-put.ensures.ends first (bare plan) (bare_table table) rose device (watched-front f mid new rose device watched c.log_row.ensures.goes) h.unlogged).1 in
+    let p = (c.in_ok-put.ensures.ends first (bare plan) (bare_table table) rose device (watched-first f mid new rose device watched c.log_row.ensures.goes) h.unlogged).1 in
     let Q = beside (log_of table) (put_record (bare plan) item (bare_table table)) in
     let ends = c.log_row.ensures.ends (first + blocks_of (bare plan)) plan Q rose p.now.device in
     row-done t f first plan table h c.args.key c.args.values.now bytes rose device ok c.put.new.self mid new p (c.in_ok-put.ensures.outside watched.told)
@@ -261,7 +262,7 @@ returns-in-Err-clause-cause g c =
     cause-later (g.F.Flash.state c.args.flash.now) (g.F.Flash.state c.put.new.flash) (g.F.Flash.state c.log_row.new.flash) c.in_ok-put.ensures.goes c.in_ok-put.ensures.power c.in-Err.fault c.in-Err.ensures.cause
 
 pub returns-in-Err-clause-goes : goal.returns-in-Err-clause-goes
-returns-in-Err-clause-goes g c = goes_more (g.F.Flash.state c.args.flash.now) (g.F.Flash.state c.put.new.flash) (g.F.Flash.state c.log_row.new.flash) c.in_ok-put.ensures.goes c.log_row.ensures.goes
+returns-in-Err-clause-goes g c = goes-then (g.F.Flash.state c.args.flash.now) (g.F.Flash.state c.put.new.flash) (g.F.Flash.state c.log_row.new.flash) c.in_ok-put.ensures.goes c.log_row.ensures.goes
 
 pub returns-in-Err-clause-same : goal.returns-in-Err-clause-same
 returns-in-Err-clause-same g c = record { table = same-then c.args.self.now.table c.put.new.self c.stop.new.self c.in_ok-put.ensures.same c.stop.ensures.same; log = c.log_row.ensures.same }
@@ -359,7 +360,7 @@ pub returns-clause-running : goal.returns-clause-running
 returns-clause-running g c = c.in_ok-put.ensures.running
 
 pub returns-clause-goes : goal.returns-clause-goes
-returns-clause-goes g c = goes_more (g.F.Flash.state c.args.flash.now) (g.F.Flash.state c.put.new.flash) (g.F.Flash.state c.log_row.new.flash) c.in_ok-put.ensures.goes c.log_row.ensures.goes
+returns-clause-goes g c = goes-then (g.F.Flash.state c.args.flash.now) (g.F.Flash.state c.put.new.flash) (g.F.Flash.state c.log_row.new.flash) c.in_ok-put.ensures.goes c.log_row.ensures.goes
 
 pub returns-clause-same : goal.returns-clause-same
 returns-clause-same g c = record { table = c.in_ok-put.ensures.same; log = c.log_row.ensures.same }

@@ -56,5 +56,5 @@ returns-clause-cause g c =
     says-written _ _ _ _ _ _ (record {
       reply = says.reply;
       said_is = says.said_is;
-      holds = inr (c.in-Ok.at, c.index.result.now, is-here _ c.args.name c.in-Ok.at c.index.result.now c.in-Ok.ensures here, (look-said c.table-table.result.now c.index.result.now _ _ says.reply c.table-table.ensures says.holds, reads-few c.table-table.result.now c.index.result.now _ _ c.table-table.ensures c.look_up-reply.ensures.counts c.look_up-reply.ensures.few, (c.lookup_limit-limit.result, only-looks _ _ _ _ _ _ _ (ap (λ n. record c.args.self.now.notes { cost = OfGet n c.lookup_limit-limit.result }) reads) c.look_up-reply.ensures.counts)));
+      holds = inr (c.in-Ok.at, c.index.result.now, is-here _ c.args.name c.in-Ok.at c.index.result.now c.in-Ok.ensures here, (look-said c.table-table.result.now c.index.result.now c.args.key _ _ says.reply c.table-table.ensures says.holds, reads-few c.table-table.result.now c.index.result.now _ _ c.table-table.ensures c.look_up-reply.ensures.counts c.look_up-reply.ensures.few, (c.lookup_limit-limit.result, only-looks _ _ _ _ _ _ _ (ap (λ n. record c.args.self.now.notes { cost = OfGet n c.lookup_limit-limit.result }) reads) c.look_up-reply.ensures.counts)));
     }) c.write_reply-2.ensures.text

@@ -1,7 +1,7 @@
 use Rattle.std.proofs.Common.{◌≡◌, ◌∙◌, true, IsTrue, refl, sym, ap, subst, arith, inl, inr}
-use Rattle.fl_flash.specs.Flash.{FlashState}
+use Rattle.fl_flash.specs.Flash.{FlashState, Goes}
+use Rattle.fl_frame.proofs.CallsInTurn.{goes-on, goes-same, goes-then}
 use Rattle.fl_store.specs.Tables.{LieOn}
-use Rattle.fl_store.proofs.CallsInTurn.{goes-set}
 use Rattle.fl_store.proofs.TablesLie.{lie-on}
 use Rattle.fl_session.proofs.Calls.{mount-call, already-call}
 use Rattle.fl_session.proofs.MountReads.{limit-call}
@@ -14,7 +14,13 @@ use Rattle.fl_session.proofs.session.Session.mount.Goals as goal
 
 pub mount-outcome-requires-clause-lie : goal.mount-outcome-requires-clause-lie
 mount-outcome-requires-clause-lie g c =
-    subst (λ (x : FlashState). LieOn c.args.self.now.tables.entries.items x) (sym c.power_on.ensures) (lie-on c.args.self.now.tables.entries.items _ _ (goes-set _ true _) c.requires.sound.lie)
+    subst (λ (x : FlashState). LieOn c.args.self.now.tables.entries.items x) (sym c.power_on.ensures) (lie-on c.args.self.now.tables.entries.items _ _ (goes-on _) c.requires.sound.lie)
+
+pub returns-then-self-clause-goes : goal.returns-then-self-clause-goes
+returns-then-self-clause-goes g c = goes-same _
+
+pub returns-clause-goes : goal.returns-clause-goes
+returns-clause-goes g c = goes-then _ _ _ (subst (λ (x : FlashState). Goes _ x) (sym c.power_on.ensures) (goes-on _)) c.mount-outcome.ensures.goes
 
 pub returns-then-self-clause-step : goal.returns-then-self-clause-step
 returns-then-self-clause-step g c = λ config old h. already-call config old _ _ _ _ h c.if-self.true

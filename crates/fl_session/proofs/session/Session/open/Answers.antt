@@ -1,7 +1,7 @@
 use Rattle.std.proofs.Common.{◌≡◌, ◌<◌, Some, Option, length, refl, ◌∙◌, ap, subst, inr}
 use Rattle.std.specs.List.{slice_get}
 use Rattle.std.specs.Prelude.{option_map, unwrap_or}
-use Rattle.fl_store.proofs.CallsInTurn.{goes-same}
+use Rattle.fl_frame.proofs.CallsInTurn.{goes-same}
 use Rattle.fl_table.specs.declared.table.Table.{Table}
 use Rattle.fl_session.specs.Caused.{mark_on}
 use Rattle.fl_session.specs.declared.notes.TableCursor.{TableCursor}

@@ -2,7 +2,7 @@ use Rattle.std.proofs.Common.{FitsSigned, rules, refl, sym, arith}
 use Rattle.std.proofs.lemmas.Int.{to_z-of_z}
 use Rattle.std.specs.Int.{w64}
 use Rattle.fl_base.specs.declared.stream.SinkFailed.{SinkFailed}
-use Rattle.fl_store.proofs.CallsInTurn.{goes-same}
+use Rattle.fl_frame.proofs.CallsInTurn.{goes-same, stays}
 use Rattle.fl_session.proofs.StepsOf.{default-view, executes-nothing}
 use Rattle.fl_session.proofs.CommandReplies.{executes-answered}
 use Rattle.fl_session.proofs.Operations.{select-by}
@@ -17,7 +17,7 @@ returns-in_default g c = record {
       (λ name key values blob e. c.in_default.not-Put name key values blob e) (λ name e. c.in_default.not-Flush name e) (λ name e. c.in_default.not-Stat name e) (λ name key e. c.in_default.not-Get name key e) (λ name range span e. c.in_default.not-Scan name range span e)
       (λ name count step seed e. c.in_default.not-Load name count step seed e) (λ cursor name range span e. c.in_default.not-Open cursor name range span e) (λ cursor e. c.in_default.not-Close cursor e) (λ cursor count e. c.in_default.not-Next cursor count e) c.in_default.not-Cost (λ name range column op value e. c.in_default.not-Select name range column op value e) (λ name range columns e. c.in_default.not-Project name range columns e) (λ name range column width e. c.in_default.not-Agg name range column width e) (λ left right range e. c.in_default.not-Join left right range e) (λ name key e. c.in_default.not-Blob name key e)) refl;
   sound = c.requires.sound;
-  goes = goes-same _;
+  goes = stays _ _ (goes-same _);
   sink = record { later = omega arith; failed = tt };
   step = λ config old h.
       executes-nothing SinkFailed config old _ _ _ _ _ _ (default-view c.args.command.now c.args.room.now c.requires.runnable c.in_default.not-Mount c.in_default.not-Off (λ n kind e. c.in_default.not-Cut n kind e)
@@ -53,15 +53,15 @@ returns-clause-sound g c = elim c.match-command.branch [
 
 pub returns-clause-goes : goal.returns-clause-goes
 returns-clause-goes g c = elim c.match-command.branch [
-  | in-Mount w ↦ rw w.self-is (w.mount-reply.ensures.goes)
+  | in-Mount w ↦ rw w.self-is (stays _ _ w.mount-reply.ensures.goes)
   | in-Off w ↦ rw w.self-is (w.off-reply.ensures.goes)
   | in-Cut w ↦ rw w.self-is (w.cut-reply.ensures.goes)
-  | in-Put w ↦ rw w.self-is (w.put-reply.ensures.goes)
-  | in-Flush w ↦ rw w.self-is (w.flush-reply.ensures.goes)
-  | in-Stat w ↦ rw w.self-is (goes-same _)
-  | in-Open w ↦ rw w.self-is (w.open-reply.ensures.goes)
-  | in-Close w ↦ rw w.self-is (w.close-reply.ensures.goes)
-  | in-Cost w ↦ rw w.self-is (goes-same _)
+  | in-Put w ↦ rw w.self-is (stays _ _ w.put-reply.ensures.goes)
+  | in-Flush w ↦ rw w.self-is (stays _ _ w.flush-reply.ensures.goes)
+  | in-Stat w ↦ rw w.self-is (stays _ _ (goes-same _))
+  | in-Open w ↦ rw w.self-is (stays _ _ w.open-reply.ensures.goes)
+  | in-Close w ↦ rw w.self-is (stays _ _ w.close-reply.ensures.goes)
+  | in-Cost w ↦ rw w.self-is (stays _ _ (goes-same _))
 ]
 
 pub returns-in-Select-clause-step : goal.returns-in-Select-clause-step
@@ -123,3 +123,30 @@ returns-in-Scan-clause-cause g c = rw c.in-Scan.is (c.scan.ensures.cause)
 
 pub returns-in-Next-clause-cause : goal.returns-in-Next-clause-cause
 returns-in-Next-clause-cause g c = rw c.in-Next.is (c.next.ensures.cause)
+
+pub returns-in-Select-clause-goes : goal.returns-in-Select-clause-goes
+returns-in-Select-clause-goes g c = stays _ _ c.select.ensures.goes
+
+pub returns-in-Project-clause-goes : goal.returns-in-Project-clause-goes
+returns-in-Project-clause-goes g c = stays _ _ c.project.ensures.goes
+
+pub returns-in-Agg-clause-goes : goal.returns-in-Agg-clause-goes
+returns-in-Agg-clause-goes g c = stays _ _ c.aggregate.ensures.goes
+
+pub returns-in-Join-clause-goes : goal.returns-in-Join-clause-goes
+returns-in-Join-clause-goes g c = stays _ _ c.join.ensures.goes
+
+pub returns-in-Load-clause-goes : goal.returns-in-Load-clause-goes
+returns-in-Load-clause-goes g c = stays _ _ c.load.ensures.goes
+
+pub returns-in-Blob-clause-goes : goal.returns-in-Blob-clause-goes
+returns-in-Blob-clause-goes g c = stays _ _ c.blob.ensures.goes
+
+pub returns-in-Get-clause-goes : goal.returns-in-Get-clause-goes
+returns-in-Get-clause-goes g c = stays _ _ c.get.ensures.goes
+
+pub returns-in-Scan-clause-goes : goal.returns-in-Scan-clause-goes
+returns-in-Scan-clause-goes g c = stays _ _ c.scan.ensures.goes
+
+pub returns-in-Next-clause-goes : goal.returns-in-Next-clause-goes
+returns-in-Next-clause-goes g c = stays _ _ c.next.ensures.goes

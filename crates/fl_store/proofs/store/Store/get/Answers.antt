@@ -1,11 +1,15 @@
-use Rattle.std.proofs.Common.{rules, ◌≡◌, Some, sym, ◌∙◌}
+use Rattle.std.proofs.Common.{rules, ◌≡◌, Option, Some, sym, ◌∙◌}
 use Rattle.std.specs.List.{slice_get}
+use Rattle.std.specs.Prelude.{IfSome}
 use Rattle.fl_model.specs.Bare.{bare, bare_table}
-use Rattle.fl_page.proofs.ReadsInTurn.{OnlyReads-goes}
+use Rattle.fl_frame.proofs.ContentsInTurn.{OnlyReads-goes}
+use Rattle.fl_table.specs.Finding.{HasKeyAt, IsAnswered}
+use Rattle.fl_table.specs.declared.find.RowAt.{RowAt}
+use Rattle.fl_table.specs.declared.table.Table.{Table}
 use Rattle.fl_store.specs.Tables.{first_of}
 use Rattle.fl_store.proofs.Called.{entry-at}
 use Rattle.fl_store.proofs.TablesLie.{lie-on}
-use Rattle.fl_store.proofs.Queried.{fails-at, get-ends, lies-unlogged, rows-in, runs-unlogged, stands-at}
+use Rattle.fl_store.proofs.Queried.{fails-at, found-at, get-ends, lies-unlogged, rows-in, runs-unlogged, stands-at}
 use Rattle.fl_store.proofs.HeldStores.{held-read}
 use Rattle.fl_store.proofs.TablesOnlyRead.{page-read}
 use Rattle.fl_store.proofs.store.Store.get.Goals as goal
@@ -43,3 +47,13 @@ pub returns-clause-room : goal.returns-clause-room
 returns-clause-room g c =
     let page = sym (page-read _ _ c.find.ensures.counts) in
     record { rows = c.find.ensures.room ∙ (c.requires.room.rows ∙ page); index = c.requires.room.index ∙ page }
+
+pub returns-clause-key : goal.returns-clause-key
+returns-clause-key g c =
+    let here : slice_get c.args.self.now.tables.entries.items c.args.at ≡ Some c.index.result.now = entry-at c.args.self.now.tables.entries.items c.args.at c.index.result.now c.requires.at c.index.ensures in
+    found-at c.table-table.result.now c.index.result.now c.table-table.ensures c.args.self.now.tables.entries.items c.args.at here (λ (x : Table 64 64) (found : Option RowAt). IfSome found (HasKeyAt x c.find.new.buf c.args.key)) c.find.result c.find.ensures.key
+
+pub returns-clause-answers : goal.returns-clause-answers
+returns-clause-answers g c =
+    let here : slice_get c.args.self.now.tables.entries.items c.args.at ≡ Some c.index.result.now = entry-at c.args.self.now.tables.entries.items c.args.at c.index.result.now c.requires.at c.index.ensures in
+    found-at c.table-table.result.now c.index.result.now c.table-table.ensures c.args.self.now.tables.entries.items c.args.at here (λ (x : Table 64 64) (found : Option RowAt). IsAnswered x _ c.args.key found) c.find.result c.find.ensures.answers

@@ -2,9 +2,12 @@ use Rattle.std.proofs.Common.{rules, ◌≡◌, Some, length, ◌∙◌, ap}
 use Rattle.std.specs.List.{slice_get}
 use Rattle.fl_model.specs.Bare.{bare, bare_table}
 use Rattle.fl_model.specs.Record.{RowLayout}
+use Rattle.fl_schema.specs.Schema.{row_of}
+use Rattle.fl_table.specs.Finding.{row_in}
+use Rattle.fl_table.specs.declared.table.Table.{Table}
 use Rattle.fl_store.specs.Tables.{first_of}
 use Rattle.fl_store.proofs.Called.{entry-at}
-use Rattle.fl_store.proofs.Queried.{columns-are, row-at, row-bare, stands-at}
+use Rattle.fl_store.proofs.Queried.{at-place, columns-are, row-at, row-bare, stands-at}
 use Rattle.fl_store.proofs.store.Store.row.Goals as goal
 
 pub row_at-requires : goal.row_at-requires
@@ -23,3 +26,8 @@ pub returns-clause-columns : goal.returns-clause-columns
 returns-clause-columns g c =
     let here : slice_get c.args.self.now.tables.entries.items c.args.at ≡ Some c.index.result.now = entry-at c.args.self.now.tables.entries.items c.args.at c.index.result.now c.requires.at c.index.ensures in
     ap (λ (l : RowLayout). length l.columns) c.row_at.ensures.layout ∙ columns-are c.table.result.now c.index.result.now c.table.ensures c.args.self.now.tables.entries.items c.args.at here
+
+pub returns-clause-exact : goal.returns-clause-exact
+returns-clause-exact g c =
+    let here : slice_get c.args.self.now.tables.entries.items c.args.at ≡ Some c.index.result.now = entry-at c.args.self.now.tables.entries.items c.args.at c.index.result.now c.requires.at c.index.ensures in
+    at-place c.table.result.now c.index.result.now c.table.ensures c.args.self.now.tables.entries.items c.args.at here (λ (x : Table 64 64). row_in x c.args.pages.now.rows c.args.place ≡ Some (row_of c.row_at.result)) c.row_at.ensures.row

@@ -4,17 +4,18 @@ use Rattle.std.proofs.lemmas.List.{length-set, take_all}
 use Rattle.std.proofs.lemmas.Option.{slice_get_within}
 use Rattle.fl_base.specs.declared.types.Geometry.{Geometry}
 use Rattle.fl_flash.specs.Flash.{page_at}
-use Rattle.fl_ring.specs.Step.{IsWatched}
+use Rattle.fl_frame.specs.Watched.{IsWatched}
 use Rattle.fl_rlc.specs.Table.{is_running, table_in}
 use Rattle.fl_rlc.specs.declared.table.LoggedTable.{LoggedTable}
 use Rattle.fl_table.specs.Memory.{pending_in}
+use Rattle.fl_frame.proofs.CallsInTurn.{goes-same, goes-then}
 use Rattle.fl_table.specs.Mounting.{FewRepairs}
 use Rattle.fl_table.proofs.MountJoined.{mount-cause-later}
 use Rattle.fl_store.specs.Mounting.{AreUnlogged, MountsInTurn, OutsideStands, rings_of}
 use Rattle.fl_store.specs.Tables.{first_of}
 use Rattle.fl_store.specs.declared.tables.Entry.{Entry}
 use Rattle.fl_store.proofs.InTurn.{turn-before, turn-more, repairs-none, repairs-more, outside-none, outside-more}
-use Rattle.fl_store.proofs.CallsInTurn.{goes-same, goes-on, rose-front, rose-back}
+use Rattle.fl_store.proofs.CallsInTurn.{rose-front, rose-back}
 use Rattle.fl_store.proofs.TablesLie.{each-more, lie-with}
 use Rattle.fl_store.proofs.Planned.{names-still, names-with, plans-still, plans-with}
 use Rattle.fl_store.proofs.MountedSoFar.{mounted-none, mounted-more, mounted-err, mounted-all, own, was, was_at, stood}
@@ -138,6 +139,9 @@ pub returns-in-Err-clause-cause : goal.returns-in-Err-clause-cause
 returns-in-Err-clause-cause g c =
     mount-cause-later (g.F.Flash.state c.args.flash.now) (g.F.Flash.state c.loop-i.flash) (g.F.Flash.state c.mount.new.flash) c.loop-i.invariant.goes c.loop-i.invariant.power c.in-Err.fault c.in-Err.ensures.cause
 
+pub returns-in-Err-clause-goes : goal.returns-in-Err-clause-goes
+returns-in-Err-clause-goes g c = goes-then _ _ _ c.loop-i.invariant.goes c.mount.ensures.goes
+
 pub loop-i-preserved : goal.loop-i-preserved
 loop-i-preserved g c =
     let f = g.F.Flash.state c.args.flash.now in
@@ -155,7 +159,7 @@ loop-i-preserved g c =
       as_many = length-set c.loop-i.self.entries.items c.loop-i.i (record { name = c.index_mut.result.now.name; table = c.mount.new.self }) ∙ i.as_many;
       same = plans-with c.args.self.now.entries.items c.loop-i.self.entries.items c.loop-i.i c.index_mut.result.now c.mount.new.self here p.same i.same;
       names = names-with c.args.self.now.entries.items c.loop-i.self.entries.items c.loop-i.i c.index_mut.result.now c.mount.new.self here i.names;
-      goes = goes-on f m n i.goes p.goes;
+      goes = goes-then f m n i.goes p.goes;
       power = λ on. c.in_default.ensures.power (i.power on);
       running = each-more (λ (t : LoggedTable 64 64). is_running t ≡ true) c.loop-i.self.entries.items c.loop-i.i c.index_mut.result.now c.mount.new.self here i.running c.in_default.ensures.mounted;
       none = each-more (λ (t : LoggedTable 64 64). pending_in (table_in t) ≡ 0) c.loop-i.self.entries.items c.loop-i.i c.index_mut.result.now c.mount.new.self here i.none c.in_default.ensures.none;

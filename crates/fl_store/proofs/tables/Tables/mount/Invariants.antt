@@ -6,7 +6,7 @@ use Rattle.fl_machine.specs.Reads.{mounts_limit}
 use Rattle.fl_model.specs.Record.{Plan}
 use Rattle.fl_model.specs.Table as model
 use Rattle.fl_model.specs.Work.{Device}
-use Rattle.fl_ring.specs.Device.{SameDevice}
+use Rattle.fl_frame.specs.Device.{SameDevice}
 use Rattle.fl_rlc.specs.Table.{is_running, table_in}
 use Rattle.fl_table.specs.Memory.{pending_in}
 use Rattle.fl_table.specs.Mounting.{FewRepairs}

@@ -1,7 +1,7 @@
 use Rattle.std.proofs.Common.{rules, ◌≡◌, Some, length, sym, ◌∙◌, ap}
 use Rattle.std.specs.List.{slice_get}
 use Rattle.fl_model.specs.Bare.{bare, bare_table}
-use Rattle.fl_page.specs.Contents.{contents_of}
+use Rattle.fl_frame.specs.Contents.{contents_of}
 use Rattle.fl_table.specs.Look.{layout_in}
 use Rattle.fl_table.specs.declared.table.Table.{Table}
 use Rattle.fl_store.specs.Tables.{first_of}

@@ -1,6 +1,6 @@
-use Rattle.std.proofs.Common.{rules, arith, cond, max, refl, Bool, true, false, Option, None, ◌≤◌, ◌≡◌, ◌+◌, ◌*◌, ◌%◌, ◌==◌, ℕ, Some, List, [], ◌∷◌, ◌++◌, map, option_map, get_or, count_by, slice_get, sym, ◌∙◌, ap, subst, pos}
+use Rattle.std.proofs.Common.{rules, arith, cond, max, refl, Bool, true, false, Option, None, ◌≤◌, ◌≡◌, ◌+◌, ◌*◌, ◌%◌, ◌==◌, ℕ, Some, List, [], ◌∷◌, ◌++◌, map, option_map, get_or, length, count_by, slice_get, sym, ◌∙◌, ap, subst, pos}
 use Rattle.std.proofs.lemmas.Int.{to_z-of_z}
-use Rattle.std.proofs.lemmas.List.{map-append}
+use Rattle.std.proofs.lemmas.List.{map-append, length-map}
 use Rattle.std.proofs.Math.IntN.{ℤ}
 use Rattle.fl_find.specs.Index.{IndexOf}
 use Rattle.fl_model.specs.Layout.{bitmap_of}
@@ -23,6 +23,7 @@ use Rattle.fl_table.specs.Bitmaps.{next_of, next_after}
 use Rattle.fl_table.proofs.BlobsOfTable as blobbing
 use Rattle.fl_table.proofs.IndexOfTable.{plan-same}
 use Rattle.fl_table.proofs.Finds.{next-in}
+use Rattle.fl_table.proofs.Sizes.{schema-fits}
 use Rattle.fl_table.proofs.table.Table.add.Goals as goal
 
 -- one row more
@@ -140,3 +141,14 @@ returns-clause-lies g c = λ f lies. record {
   bitmaps = lies.bitmaps;
   blobs = lies.blobs;
 }
+
+pub push_row-requires : goal.push_row-requires
+push_row-requires g c = (schema-fits, (c.requires.fits, c.requires.room))
+
+pub bounds-values-0 : goal.bounds-values-0
+bounds-values-0 g c =
+    let as_many : length c.args.values.now ≡ length (types_of c.args.self.now.schema) = rw length-map at c.requires.fits.as_many in
+    subst (λ (n : ℕ). 1 ≤ n) (sym as_many) c.args.self.now.some_columns
+
+pub returns-clause-pending : goal.returns-clause-pending
+returns-clause-pending g c = ap (λ (w : WriterState). w.count) c.push_row.ensures.exact

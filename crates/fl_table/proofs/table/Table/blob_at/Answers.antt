@@ -1,15 +1,17 @@
 use Rattle.std.proofs.Common.{◌≡◌, ◌+◌, Option, Some, None, Result, Ok, Err, ap, sym, ◌∙◌, subst}
 use Rattle.std.specs.Prelude.{◌≤◌, IfOk, IfErr, IfSome}
 use Rattle.fl_page.specs.declared.fault.ReadFault.{ReadFault}
-use Rattle.fl_table.specs.Blobs.{Stand}
+use Rattle.fl_base.specs.declared.types.Geometry.{Geometry}
+use Rattle.fl_table.specs.Blobs.{Stand, LieOn}
 use Rattle.fl_var.specs.Memory as memory
-use Rattle.fl_var.specs.Reading.{IsOfPage}
+use Rattle.fl_var.specs.Reading.{IsOfPage, Opens}
 use Rattle.fl_var.specs.declared.reader.BlobReader.{BlobReader}
 use Rattle.fl_var.specs.declared.var_data.VarData.{VarData}
 use Rattle.fl_model.specs.Agrees.{BlobsOf}
 use Rattle.fl_model.specs.Record.{Plan}
 use Rattle.fl_model.specs.Ring.{Ring}
 use Rattle.fl_model.specs.Table.{Table}
+use Rattle.fl_table.proofs.IndexOfTable.{none-is}
 use Rattle.fl_table.proofs.ReadsKeepTable.{lies-still}
 use Rattle.fl_table.proofs.table.Table.blob_at.Goals as goal
 
@@ -47,3 +49,42 @@ returns-clause-lies g c = lies-still c.args.self.now (g.F.Flash.state c.args.fla
 pub returns-clause-pending : goal.returns-clause-pending
 returns-clause-pending g c =
     subst (λ (o : Option VarData). IfSome o (λ var. memory.next_in var ≤ c.args.at.page → (g.F.Flash.state c.open_blob.new.flash ≡ g.F.Flash.state c.args.flash.now) × IfErr c.open_blob.result IsOfPage)) (sym c.in-Some.is) c.open_blob.ensures.pending
+
+pub returns-clause-reads : goal.returns-clause-reads
+returns-clause-reads g c = c.open_blob.ensures.reads
+
+pub returns-clause-counts : goal.returns-clause-counts
+returns-clause-counts g c = c.open_blob.ensures.counts
+
+pub returns-clause-empty : goal.returns-clause-empty
+returns-clause-empty g c = c.open_blob.ensures.empty
+
+pub returns-clause-buffer : goal.returns-clause-buffer
+returns-clause-buffer g c = c.open_blob.ensures.buffer
+
+pub returns-clause-none : goal.returns-clause-none
+returns-clause-none g c = c.open_blob.ensures.none
+
+pub returns-clause-fails : goal.returns-clause-fails
+returns-clause-fails g c = c.open_blob.ensures.fails
+
+pub unreachable-requires : goal.unreachable-requires
+unreachable-requires g c = none-is c.args.self.now.blobs c.in_default.is c.requires.some
+
+pub unreachable-unreachable : goal.unreachable-unreachable
+unreachable-unreachable g c = c.unreachable.type_inv
+
+pub open_blob-requires-clause-mounted : goal.open_blob-requires-clause-mounted
+open_blob-requires-clause-mounted g c = c.args.self.now.blobs_running c.requires.running c.in-Some.var c.in-Some.is
+
+pub open_blob-requires-clause-lies : goal.open_blob-requires-clause-lies
+open_blob-requires-clause-lies g c = subst (λ (o : Option VarData). LieOn o (g.F.Flash.state c.args.flash.now)) c.in-Some.is c.requires.lies.blobs
+
+pub open_blob-requires-clause-room : goal.open_blob-requires-clause-room
+open_blob-requires-clause-room g c =
+    let lies = subst (λ (o : Option VarData). LieOn o (g.F.Flash.state c.args.flash.now)) c.in-Some.is c.requires.lies.blobs in
+    c.requires.room ∙ ap (λ (x : Geometry). x.page) lies.geometry
+
+pub returns-clause-opens : goal.returns-clause-opens
+returns-clause-opens g c = λ told.
+    subst (λ (o : Option VarData). IfSome o (λ var. Opens var (g.F.Flash.state c.args.flash.now) c.args.at c.open_blob.result)) (sym c.in-Some.is) (c.open_blob.ensures.opens told)

@@ -1,4 +1,4 @@
-use Rattle.std.proofs.Common.{◌≡◌, ℕ, ◌+◌, ◌-◌, ◌==◌, cond, map, ap, ◌∙◌, arith}
+use Rattle.std.proofs.Common.{◌≡◌, ℕ, ◌+◌, ◌-◌, ◌≤◌, ◌==◌, cond, map, ap, sym, ◌∙◌, subst, arith}
 use Rattle.std.proofs.lemmas.List.FromFn.{sum_by-map-range_with_len_more}
 use Rattle.std.specs.List.{sum, count_by, range_with_len}
 use Rattle.fl_table.specs.Look.{oldest_in, rows_noted}
@@ -82,3 +82,6 @@ rows_of-rows-requires g c = table-fits g.row.KNOTS g.row.SLOTS c.args.self.now.f
 
 pub returns-clause-stopped : goal.returns-clause-stopped
 returns-clause-stopped g c = λ down. returns-clause-exact g c ∙ counts-lost c.args.self.now down
+
+pub overflow_sub-counts : goal.overflow_sub-counts
+overflow_sub-counts g c = subst (λ (n : ℕ). n ≤ c.next_number-next.result) (sym c.oldest-oldest.ensures.exact) c.next_number-next.ensures.ordered

@@ -1,9 +1,11 @@
-use Rattle.std.proofs.Common.{◌+◌, Option, subst}
+use Rattle.std.proofs.Common.{◌+◌, Option, subst, refl}
 use Rattle.fl_index.specs.Looking.{entire}
 use Rattle.fl_index.specs.declared.index.BitmapIndex.{BitmapIndex}
 use Rattle.fl_table.specs.Skipping.{AreFresh}
 use Rattle.fl_table.proofs.Entries.{bad-answer, looks-from, looks-up, shows-found}
 use Rattle.fl_table.proofs.Skips.{fresh-still, index-stands}
+use Rattle.fl_table.proofs.Untouched.{at-most}
+use Rattle.fl_frame.proofs.ContentsInTurn.{OnlyReads-same}
 use Rattle.fl_table.proofs.table.Table.entry_of.Goals as goal
 
 pub returns-in-Some-clause-stands : goal.returns-in-Some-clause-stands
@@ -37,3 +39,36 @@ returns-in-Some-clause-fresh g c = λ told.
 pub returns-in-Some-clause-bad : goal.returns-in-Some-clause-bad
 returns-in-Some-clause-bad g c =
     bad-answer c.args.self.now.bitmaps c.in-Some.index c.in-Some.is (g.F.Flash.state c.args.flash.now) c.args.buf.now c.entry_of.result c.entry_of.ensures.bad
+
+pub returns-in-Some-clause-counts : goal.returns-in-Some-clause-counts
+returns-in-Some-clause-counts g c = c.entry_of.ensures.counts
+
+pub returns-in-Some-clause-one : goal.returns-in-Some-clause-one
+returns-in-Some-clause-one g c = c.entry_of.ensures.reads.reads
+
+pub returns-in-Some-clause-room : goal.returns-in-Some-clause-room
+returns-in-Some-clause-room g c = c.entry_of.ensures.room
+
+pub returns-in-Some-clause-cause : goal.returns-in-Some-clause-cause
+returns-in-Some-clause-cause g c = c.entry_of.ensures.cause
+
+pub returns-in-None-clause-one : goal.returns-in-None-clause-one
+returns-in-None-clause-one g c = at-most _ 1
+
+pub returns-in-None-clause-room : goal.returns-in-None-clause-room
+returns-in-None-clause-room g c = refl
+
+pub returns-in-None-clause-bad : goal.returns-in-None-clause-bad
+returns-in-None-clause-bad g c = tt
+
+pub returns-in-None-clause-cause : goal.returns-in-None-clause-cause
+returns-in-None-clause-cause g c = tt
+
+pub returns-in-None-clause-good : goal.returns-in-None-clause-good
+returns-in-None-clause-good g c = λ h. h
+
+pub returns-in-None-clause-fresh : goal.returns-in-None-clause-fresh
+returns-in-None-clause-fresh g c = λ told fresh. fresh
+
+pub returns-in-None-clause-counts : goal.returns-in-None-clause-counts
+returns-in-None-clause-counts g c = OnlyReads-same (g.F.Flash.state c.args.flash.now)

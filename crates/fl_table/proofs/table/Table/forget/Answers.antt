@@ -6,6 +6,7 @@ use Rattle.fl_ring.specs.declared.ring.Ring.{Ring}
 use Rattle.fl_schema.specs.Schema.{layout_of}
 use Rattle.fl_table.proofs.BlobsOfTable as blobbing
 use Rattle.fl_table.proofs.IndexOfTable.{none-is, none-there, plan-same}
+use Rattle.fl_table.proofs.Sizes.{index-fits}
 use Rattle.fl_table.proofs.table.Table.forget.Goals as goal
 
 pub returns-clause-forgotten : goal.returns-clause-forgotten
@@ -72,3 +73,6 @@ returns-clause-bitmaps g c = refl
 
 pub returns-clause-blobs : goal.returns-clause-blobs
 returns-clause-blobs g c = refl
+
+pub clear-requires-2 : goal.clear-requires-2
+clear-requires-2 g c = index-fits g.row.KNOTS g.row.SLOTS c.args.self.now.few_knots c.args.self.now.few_slots

@@ -1,4 +1,5 @@
 use Rattle.std.proofs.Common.{true, false, Bool, None, is_some, ◌&&◌, ◌==◌, cond, IfSome, ◌≡◌, ℕ, ◌+◌, ◌^◌, ◌<◌, ◌≤◌, Bor, List, [], ◌∷◌, ◌++◌, Some, option_map, arith, refl, sym, ◌∙◌, ap, subst, Option}
+use Rattle.std.specs.Prelude.{unwrap_or}
 use Rattle.fl_base.specs.declared.types.BlobRef.{BlobRef}
 use Rattle.fl_model.specs.Record.{Record, RowLayout}
 use Rattle.fl_model.specs.Row.{stored_row, FitsReference}
@@ -20,6 +21,7 @@ use Rattle.fl_table.proofs.SealAnswers.{planned-same}
 use Rattle.fl_table.proofs.PowerOff.{off-ok, off-err}
 use Rattle.fl_table.proofs.ReadsKeepTable.{lies-moved}
 use Rattle.fl_schema.specs.Schema.{layout_of}
+use Rattle.fl_ring.specs.Place.{next_of}
 use Rattle.fl_ring.specs.declared.ring.Ring.{Ring}
 use Rattle.fl_table.proofs.Sizes.{table-fits}
 use Rattle.fl_table.proofs.table.Table.join.Goals as goal
@@ -341,3 +343,28 @@ returns-clause-pending_stays g c = tt
 
 pub returns-clause-last_stays : goal.returns-clause-last_stays
 returns-clause-last_stays g c = tt
+
+few-left : (blobs : Option VarData) → variable.next_of blobs ≤ model.spent_from → variable.NumbersLeft blobs
+few-left None le = tt
+few-left (Some var) le = omega (arith, le)
+
+no-error : false ≡ true → ⊥
+no-error e = cc
+
+pub place-requires-clause-left : goal.place-requires-clause-left
+place-requires-clause-left g c = few-left c.args.self.now.blobs c.requires.blobs_left
+
+pub returns-in-Err-clause-quiet : goal.returns-in-Err-clause-quiet
+returns-in-Err-clause-quiet g c = λ few. absurd (no-error (c.in-Err.ensures.quiet few).0)
+
+pub returns-clause-quiet : goal.returns-clause-quiet
+returns-clause-quiet g c = λ few. (refl, (c.in-Ok.ensures.quiet few).1)
+
+pub returns-clause-pending : goal.returns-clause-pending
+returns-clause-pending g c = c.add.ensures.pending
+
+pub returns-in-Err-clause-next : goal.returns-in-Err-clause-next
+returns-in-Err-clause-next g c = tt
+
+pub returns-clause-next : goal.returns-clause-next
+returns-clause-next g c = ap (λ (o : Option Ring). unwrap_or (option_map (λ (r : Ring). next_of r) o) 0) c.add.ensures.ring

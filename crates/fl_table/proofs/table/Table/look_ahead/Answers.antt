@@ -1,4 +1,4 @@
-use Rattle.std.proofs.Common.{◌+◌, Option, Result, Ok, Err, sym, ap, subst, ◌≡◌, [], ◌∙◌}
+use Rattle.std.proofs.Common.{◌+◌, Option, Result, Ok, Err, sym, ap, subst, ◌≡◌, [], ◌∙◌, refl, length}
 use Rattle.fl_base.specs.declared.types.Span.{Span}
 use Rattle.fl_flash.specs.Buffer.{BufferState}
 use Rattle.fl_index.specs.declared.index.BitmapIndex.{BitmapIndex}
@@ -12,6 +12,9 @@ use Rattle.fl_table.specs.declared.look_ahead.Ahead.TheVariants.{Wanted, Missed}
 use Rattle.fl_table.specs.Skipping.{AreFresh, AreScanning, LooksOn, ShowsPage}
 use Rattle.fl_table.proofs.Skips.{fresh-still, looks-none, looks-plain, looks-found, looks-failed, shows-none, shows-unindexed, shows-some, shows-fault, index-stands, some-bits, bad-index}
 use Rattle.fl_table.proofs.Entries.{first-few, told-some}
+use Rattle.fl_table.proofs.Untouched.{at-most}
+use Rattle.fl_table.proofs.IndexOfTable.{none-there}
+use Rattle.fl_frame.proofs.ContentsInTurn.{OnlyReads-same}
 use Rattle.fl_table.proofs.table.Table.look_ahead.Goals as goal
 
 pub returns-in_default-bitmaps-clause-shows : goal.returns-in_default-bitmaps-clause-shows
@@ -137,3 +140,150 @@ returns-in-Ok-None-clause-fresh g c = λ told.
 pub returns-in-Ok-Some-clause-fresh : goal.returns-in-Ok-Some-clause-fresh
 returns-in-Ok-Some-clause-fresh g c = λ told.
     fresh-still c.args.self.now.bitmaps c.in-Some-bitmaps.index c.in-Some-bitmaps.is (g.F.Flash.state c.args.flash.now) (g.F.Flash.state c.entry_of.new.flash) c.args.buf.now c.entry_of.new.buf (c.in-Ok-Some.ensures.fresh told)
+
+pub returns-in_default-clause-one : goal.returns-in_default-clause-one
+returns-in_default-clause-one g c = at-most _ 1
+
+pub returns-in_default-clause-room : goal.returns-in_default-clause-room
+returns-in_default-clause-room g c = refl
+
+pub returns-in_default-clause-none : goal.returns-in_default-clause-none
+returns-in_default-clause-none g c = tt
+
+pub returns-in_default-clause-fresh : goal.returns-in_default-clause-fresh
+returns-in_default-clause-fresh g c = λ told fresh. fresh
+
+pub returns-in_default-clause-unasked : goal.returns-in_default-clause-unasked
+returns-in_default-clause-unasked g c = λ e. (refl, refl, refl)
+
+pub returns-in_default-clause-unindexed : goal.returns-in_default-clause-unindexed
+returns-in_default-clause-unindexed g c = λ e. (refl, refl, refl)
+
+pub returns-in_default-clause-good : goal.returns-in_default-clause-good
+returns-in_default-clause-good g c = λ h. h
+
+pub returns-in_default-clause-bad : goal.returns-in_default-clause-bad
+returns-in_default-clause-bad g c = tt
+
+pub returns-in_default-clause-cause : goal.returns-in_default-clause-cause
+returns-in_default-clause-cause g c = tt
+
+pub returns-in_default-bitmaps-clause-one : goal.returns-in_default-bitmaps-clause-one
+returns-in_default-bitmaps-clause-one g c = at-most _ 1
+
+pub returns-in_default-bitmaps-clause-room : goal.returns-in_default-bitmaps-clause-room
+returns-in_default-bitmaps-clause-room g c = refl
+
+pub returns-in_default-bitmaps-clause-none : goal.returns-in_default-bitmaps-clause-none
+returns-in_default-bitmaps-clause-none g c = tt
+
+pub returns-in_default-bitmaps-clause-fresh : goal.returns-in_default-bitmaps-clause-fresh
+returns-in_default-bitmaps-clause-fresh g c = λ told fresh. fresh
+
+pub returns-in_default-bitmaps-clause-unasked : goal.returns-in_default-bitmaps-clause-unasked
+returns-in_default-bitmaps-clause-unasked g c = λ e. (refl, refl, refl)
+
+pub returns-in_default-bitmaps-clause-unindexed : goal.returns-in_default-bitmaps-clause-unindexed
+returns-in_default-bitmaps-clause-unindexed g c = λ e. (refl, refl, refl)
+
+pub returns-in_default-bitmaps-clause-good : goal.returns-in_default-bitmaps-clause-good
+returns-in_default-bitmaps-clause-good g c = λ h. h
+
+pub returns-in_default-bitmaps-clause-bad : goal.returns-in_default-bitmaps-clause-bad
+returns-in_default-bitmaps-clause-bad g c = tt
+
+pub returns-in_default-bitmaps-clause-cause : goal.returns-in_default-bitmaps-clause-cause
+returns-in_default-bitmaps-clause-cause g c = tt
+
+pub returns-in-Ok-None-clause-counts : goal.returns-in-Ok-None-clause-counts
+returns-in-Ok-None-clause-counts g c = c.in-Ok-None.ensures.counts
+
+pub returns-in-Ok-None-clause-one : goal.returns-in-Ok-None-clause-one
+returns-in-Ok-None-clause-one g c = c.in-Ok-None.ensures.reads.reads
+
+pub returns-in-Ok-None-clause-room : goal.returns-in-Ok-None-clause-room
+returns-in-Ok-None-clause-room g c = c.in-Ok-None.ensures.room
+
+pub returns-in-Ok-None-clause-none : goal.returns-in-Ok-None-clause-none
+returns-in-Ok-None-clause-none g c = tt
+
+pub returns-in-Ok-None-clause-bad : goal.returns-in-Ok-None-clause-bad
+returns-in-Ok-None-clause-bad g c = tt
+
+pub returns-in-Ok-None-clause-cause : goal.returns-in-Ok-None-clause-cause
+returns-in-Ok-None-clause-cause g c = tt
+
+pub returns-in-Ok-Some-clause-counts : goal.returns-in-Ok-Some-clause-counts
+returns-in-Ok-Some-clause-counts g c = c.in-Ok-Some.ensures.counts
+
+pub returns-in-Ok-Some-clause-one : goal.returns-in-Ok-Some-clause-one
+returns-in-Ok-Some-clause-one g c = c.in-Ok-Some.ensures.reads.reads
+
+pub returns-in-Ok-Some-clause-room : goal.returns-in-Ok-Some-clause-room
+returns-in-Ok-Some-clause-room g c = c.in-Ok-Some.ensures.room
+
+pub returns-in-Ok-Some-clause-none : goal.returns-in-Ok-Some-clause-none
+returns-in-Ok-Some-clause-none g c = tt
+
+pub returns-in-Ok-Some-clause-bad : goal.returns-in-Ok-Some-clause-bad
+returns-in-Ok-Some-clause-bad g c = tt
+
+pub returns-in-Ok-Some-clause-cause : goal.returns-in-Ok-Some-clause-cause
+returns-in-Ok-Some-clause-cause g c = tt
+
+pub returns-in-Err-clause-counts : goal.returns-in-Err-clause-counts
+returns-in-Err-clause-counts g c = c.in-Err.ensures.counts
+
+pub returns-in-Err-clause-one : goal.returns-in-Err-clause-one
+returns-in-Err-clause-one g c = c.in-Err.ensures.reads.reads
+
+pub returns-in-Err-clause-cause : goal.returns-in-Err-clause-cause
+returns-in-Err-clause-cause g c = c.in-Err.ensures.cause
+
+pub returns-in-Err-clause-none : goal.returns-in-Err-clause-none
+returns-in-Err-clause-none g c = ap (λ (b : BufferState). b.holds) c.forget.ensures
+
+not-missed : ◌≡◌ {A = Result Ahead ReadFault} (Ok Wanted) (Ok Missed) → ⊥
+not-missed e = cc
+
+not-failed : (fault : ReadFault) → ◌≡◌ {A = Result Ahead ReadFault} (Err fault) (Ok Missed) → ⊥
+not-failed fault e = cc
+
+pub returns-in_default-clause-counts : goal.returns-in_default-clause-counts
+returns-in_default-clause-counts g c = OnlyReads-same (g.F.Flash.state c.args.flash.now)
+
+pub returns-in_default-bitmaps-clause-counts : goal.returns-in_default-bitmaps-clause-counts
+returns-in_default-bitmaps-clause-counts g c = OnlyReads-same (g.F.Flash.state c.args.flash.now)
+
+pub returns-in-Ok-None-clause-unasked : goal.returns-in-Ok-None-clause-unasked
+returns-in-Ok-None-clause-unasked g c = λ none. absurd (none-there c.args.span _ none c.in-Some.is)
+
+pub returns-in-Ok-None-clause-unindexed : goal.returns-in-Ok-None-clause-unindexed
+returns-in-Ok-None-clause-unindexed g c = λ none. absurd (none-there c.args.self.now.bitmaps c.in-Some-bitmaps.index none c.in-Some-bitmaps.is)
+
+pub returns-in-Ok-Some-clause-unasked : goal.returns-in-Ok-Some-clause-unasked
+returns-in-Ok-Some-clause-unasked g c = λ none. absurd (none-there c.args.span _ none c.in-Some.is)
+
+pub returns-in-Ok-Some-clause-unindexed : goal.returns-in-Ok-Some-clause-unindexed
+returns-in-Ok-Some-clause-unindexed g c = λ none. absurd (none-there c.args.self.now.bitmaps c.in-Some-bitmaps.index none c.in-Some-bitmaps.is)
+
+pub returns-in-Err-clause-unasked : goal.returns-in-Err-clause-unasked
+returns-in-Err-clause-unasked g c = λ none. absurd (none-there c.args.span _ none c.in-Some.is)
+
+pub returns-in-Err-clause-unindexed : goal.returns-in-Err-clause-unindexed
+returns-in-Err-clause-unindexed g c = λ none. absurd (none-there c.args.self.now.bitmaps c.in-Some-bitmaps.index none c.in-Some-bitmaps.is)
+
+pub returns-in_default-clause-misses : goal.returns-in_default-clause-misses
+returns-in_default-clause-misses g c = λ first plan table n rows range told stands fresh at here some missed. absurd (not-missed missed)
+
+pub returns-in_default-bitmaps-clause-misses : goal.returns-in_default-bitmaps-clause-misses
+returns-in_default-bitmaps-clause-misses g c = λ first plan table n rows range told stands fresh at here some missed. absurd (not-missed missed)
+
+pub returns-in-Ok-None-clause-misses : goal.returns-in-Ok-None-clause-misses
+returns-in-Ok-None-clause-misses g c = λ first plan table n rows range told stands fresh at here some missed. absurd (not-missed missed)
+
+pub returns-in-Err-clause-misses : goal.returns-in-Err-clause-misses
+returns-in-Err-clause-misses g c = λ first plan table n rows range told stands fresh at here some missed. absurd (not-failed c.in-Err.fault missed)
+
+pub returns-in-Err-clause-room : goal.returns-in-Err-clause-room
+returns-in-Err-clause-room g c = ap (λ (b : BufferState). length b.bytes) c.forget.ensures ∙ c.in-Err.ensures.room

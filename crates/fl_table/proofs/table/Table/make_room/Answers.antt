@@ -1,15 +1,24 @@
-use Rattle.std.proofs.Common.{rules, ℕ, zero, suc, ◌*◌, ◌≡◌, ◌+◌, ◌<◌, ◌≤◌, List, [], length, arith, sym, ◌∙◌, refl, subst}
+use Rattle.std.proofs.Common.{ℕ, zero, suc, ◌*◌, ◌≡◌, ◌+◌, ◌<◌, ◌≤◌, List, [], length, arith, sym, ◌∙◌, refl, subst, Result, Ok, Err, OnOk}
 use Rattle.std.proofs.lemmas.Bool.{ltb-true, ltb-false}
 use Rattle.fl_model.specs.Record.{layout_len}
 use Rattle.fl_model.specs.Table.{RingName, make_room_seals}
 use Rattle.fl_model.specs.Work.{Whole}
 use Rattle.fl_model.proofs.TableSeals.{full-room_seals, room-room_seals}
 use Rattle.fl_flash.specs.Flash.{page_at}
+use Rattle.fl_flash.specs.declared.flash.FlashFault.{FlashFault}
 use Rattle.fl_schema.specs.Schema.{layout_of}
 use Rattle.fl_table.specs.Outcomes.{SealsEnd}
 use Rattle.fl_table.proofs.PendingAndFull.{has-room, is-full}
 use Rattle.fl_table.proofs.KeptPagesStay.{kept-same}
 use Rattle.fl_table.proofs.Sizes.{table-fits}
+use Rattle.fl_frame.proofs.CallsInTurn.{goes-same}
+use Rattle.fl_table.proofs.SealAnswers.{plan-self}
+use Rattle.fl_table.specs.Memory.{HasRoom, next_in}
+use Rattle.fl_table.proofs.Untouched.{at-most, at-most-same, above, on-ok}
+use Rattle.fl_ring.specs.Written.{done}
+use Rattle.fl_ring.proofs.Written.{writes-none, writes-fewer}
+use Rattle.fl_table.specs.Memory.{MaySeal}
+use Rattle.fl_table.specs.Mounting.{rings_in}
 use Rattle.fl_table.proofs.table.Table.make_room.Goals as goal
 
 pub returns-then-not-is_full-clause-ends : goal.returns-then-not-is_full-clause-ends
@@ -70,7 +79,7 @@ returns-clause-ends g c = λ first plan table rose device watched stands.
     let lt : length t.writer.body < t.writer.end + layout_len (layout_of t.schema) = ltb-true (length t.writer.body) (t.writer.end + layout_len (layout_of t.schema)) (sym c.is_full.ensures.room ∙ c.if-not-is_full.false) in
     let full = is-full t f first plan table stands lt in
     subst (λ (rings : List RingName). SealsEnd first plan rings table rose device c.seal.result c.seal.new.self f (g.F.Flash.state c.seal.new.flash)) (sym (full-room_seals plan table full))
-    (c.seal.ensures.ends first plan table rose device watched (search rules))
+    (c.seal.ensures.ends first plan table rose device watched stands)
 
 pub returns-then-not-is_full-clause-off : goal.returns-then-not-is_full-clause-off
 returns-then-not-is_full-clause-off g c = λ full.
@@ -106,3 +115,128 @@ returns-clause-last g c = c.seal.ensures.last
 
 pub returns-clause-pending_stays : goal.returns-clause-pending_stays
 returns-clause-pending_stays g c = c.seal.ensures.pending_stays
+
+-- a page without rows has room for one
+row-fits : (count row page body end : ℕ) → count ≡ 0 → end ≡ 16 + count * row → body + 8 ≡ page → row + 24 ≤ page → end + row ≤ body
+row-fits zero row page body end none is whole room = omega (arith, is, whole, room)
+row-fits (suc count) row page body end none is whole room = absurd (omega (arith, none))
+
+pub returns-then-not-is_full-clause-goes : goal.returns-then-not-is_full-clause-goes
+returns-then-not-is_full-clause-goes g c = goes-same (g.F.Flash.state c.args.flash.now)
+
+pub returns-then-not-is_full-clause-same : goal.returns-then-not-is_full-clause-same
+returns-then-not-is_full-clause-same g c = plan-self c.args.self.now
+
+pub returns-then-not-is_full-clause-lies : goal.returns-then-not-is_full-clause-lies
+returns-then-not-is_full-clause-lies g c = c.requires.lies
+
+pub returns-then-not-is_full-clause-room : goal.returns-then-not-is_full-clause-room
+returns-then-not-is_full-clause-room g c =
+    let t = c.args.self.now in
+    ltb-false (length t.writer.body) (t.writer.end + layout_len (layout_of t.schema)) (sym c.is_full.ensures.room ∙ c.if-not-is_full.true)
+
+pub returns-then-not-is_full-clause-running : goal.returns-then-not-is_full-clause-running
+returns-then-not-is_full-clause-running g c = c.requires.running
+
+pub returns-then-not-is_full-clause-next : goal.returns-then-not-is_full-clause-next
+returns-then-not-is_full-clause-next g c = at-most _ _
+
+pub returns-then-not-is_full-clause-index_next : goal.returns-then-not-is_full-clause-index_next
+returns-then-not-is_full-clause-index_next g c = at-most _ _
+
+pub returns-then-not-is_full-clause-blob_next : goal.returns-then-not-is_full-clause-blob_next
+returns-then-not-is_full-clause-blob_next g c = at-most _ _
+
+pub returns-then-not-is_full-clause-power : goal.returns-then-not-is_full-clause-power
+returns-then-not-is_full-clause-power g c = λ on. on
+
+pub returns-then-not-is_full-clause-calm : goal.returns-then-not-is_full-clause-calm
+returns-then-not-is_full-clause-calm g c = refl
+
+pub returns-then-not-is_full-clause-stopped : goal.returns-then-not-is_full-clause-stopped
+returns-then-not-is_full-clause-stopped g c = tt
+
+pub returns-then-not-is_full-clause-outside : goal.returns-then-not-is_full-clause-outside
+returns-then-not-is_full-clause-outside g c = λ told page rows index blobs. refl
+
+pub returns-then-not-is_full-clause-reads : goal.returns-then-not-is_full-clause-reads
+returns-then-not-is_full-clause-reads g c = refl
+
+pub returns-then-not-is_full-clause-media_reads : goal.returns-then-not-is_full-clause-media_reads
+returns-then-not-is_full-clause-media_reads g c = at-most _ _
+
+pub returns-then-not-is_full-clause-cause : goal.returns-then-not-is_full-clause-cause
+returns-then-not-is_full-clause-cause g c = tt
+
+pub returns-clause-goes : goal.returns-clause-goes
+returns-clause-goes g c = c.seal.ensures.goes
+
+pub returns-clause-same : goal.returns-clause-same
+returns-clause-same g c = c.seal.ensures.same
+
+pub returns-clause-lies : goal.returns-clause-lies
+returns-clause-lies g c = c.seal.ensures.lies
+
+pub returns-clause-running : goal.returns-clause-running
+returns-clause-running g c = c.seal.ensures.running
+
+pub returns-clause-index_next : goal.returns-clause-index_next
+returns-clause-index_next g c = c.seal.ensures.index_next
+
+pub returns-clause-blob_next : goal.returns-clause-blob_next
+returns-clause-blob_next g c = c.seal.ensures.blob_next
+
+pub returns-clause-power : goal.returns-clause-power
+returns-clause-power g c = c.seal.ensures.power
+
+pub returns-clause-calm : goal.returns-clause-calm
+returns-clause-calm g c = c.seal.ensures.calm
+
+pub returns-clause-stopped : goal.returns-clause-stopped
+returns-clause-stopped g c = c.seal.ensures.stopped
+
+pub returns-clause-outside : goal.returns-clause-outside
+returns-clause-outside g c = c.seal.ensures.outside
+
+pub returns-clause-reads : goal.returns-clause-reads
+returns-clause-reads g c = c.seal.ensures.reads
+
+pub returns-clause-media_reads : goal.returns-clause-media_reads
+returns-clause-media_reads g c = c.seal.ensures.media_reads
+
+pub returns-clause-cause : goal.returns-clause-cause
+returns-clause-cause g c = c.seal.ensures.cause
+
+pub returns-clause-quiet : goal.returns-clause-quiet
+returns-clause-quiet g c = λ room. absurd (above (ltb-true (length c.args.self.now.writer.body) (c.args.self.now.writer.end + layout_len (layout_of c.args.self.now.schema)) (sym c.is_full.ensures.room ∙ c.if-not-is_full.false)) room)
+
+pub returns-clause-off : goal.returns-clause-off
+returns-clause-off g c = λ full. c.seal.ensures.off
+
+pub returns-clause-next : goal.returns-clause-next
+returns-clause-next g c = on-ok c.seal.result (next_in c.seal.new.self ≡ next_in c.args.self.now + 1) (next_in c.seal.new.self ≤ next_in c.args.self.now + 1) (at-most-same _ _) c.seal.ensures.next
+
+pub returns-clause-room : goal.returns-clause-room
+returns-clause-room g c = on-ok c.seal.result (c.seal.new.self.writer.count ≡ 0) (HasRoom c.seal.new.self) (λ none.
+    let u = c.seal.new.self in row-fits u.writer.count (layout_len (layout_of u.schema)) u.geometry.page (length u.writer.body) u.writer.end none u.rows_end u.page u.room_for_row) c.seal.ensures.empty
+
+pub returns-then-not-is_full-clause-writes : goal.returns-then-not-is_full-clause-writes
+returns-then-not-is_full-clause-writes g c = writes-none (MaySeal c.args.self.now) (rings_in c.args.self.now) (g.F.Flash.state c.args.flash.now)
+
+pub returns-clause-writes : goal.returns-clause-writes
+returns-clause-writes g c = writes-fewer (MaySeal c.args.self.now) (done c.seal.result) (rings_in c.args.self.now) _ _ c.seal.ensures.writes
+
+pub returns-then-not-is_full-clause-full : goal.returns-then-not-is_full-clause-full
+returns-then-not-is_full-clause-full g c = λ full.
+    let t = c.args.self.now in
+    absurd (full (ltb-false (length t.writer.body) (t.writer.end + layout_len (layout_of t.schema)) (sym c.is_full.ensures.room ∙ c.if-not-is_full.true)))
+
+on-both : (result : Result (Unit {0}) FlashFault) (P Q R : Type 0) → (P → Q → R) → OnOk result P → OnOk result Q → OnOk result R
+on-both (Ok done) P Q R f p q = f p q
+on-both (Err e) P Q R f p q = tt
+
+pub returns-clause-full : goal.returns-clause-full
+returns-clause-full g c =
+    let t = c.args.self.now in
+    let u = c.seal.new.self in
+    on-both c.seal.result (next_in u ≡ next_in t + 1) (u.writer.count ≡ 0) ((HasRoom t → ⊥) → (next_in u ≡ next_in t + 1) × (u.writer.count ≡ 0)) (λ next none full. (next, none)) c.seal.ensures.next c.seal.ensures.empty

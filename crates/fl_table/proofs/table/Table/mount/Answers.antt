@@ -1,6 +1,7 @@
-use Rattle.std.proofs.Common.{arith, ◌*◌, ◌≡◌, ◌+◌, ◌-◌, Option, Err, IsTrue, sym, ◌∙◌, ap, subst, inr}
+use Rattle.std.proofs.Common.{arith, ◌*◌, ◌≡◌, ◌+◌, ◌-◌, Option, Err, IsTrue, sym, ◌∙◌, ap, subst, inr, is_some}
 use Rattle.std.proofs.lemmas.Result.{err_from_is_err_and, IfErr-weaker, IfOk-weaker}
 use Rattle.fl_flash.specs.Flash.{FlashState, page_at}
+use Rattle.fl_frame.proofs.CallsInTurn.{goes-then}
 use Rattle.std.specs.Option.{unwrap_or}
 use Rattle.fl_index.specs.declared.index.BitmapIndex.{BitmapIndex}
 use Rattle.fl_base.specs.declared.types.Geometry.{Geometry}
@@ -12,19 +13,20 @@ use Rattle.fl_table.specs.Coming.{index_pages_of}
 use Rattle.fl_table.specs.Mounting.{FewReads, FindsBitmaps}
 use Rattle.fl_table.proofs.Firsts.{room-same}
 use Rattle.fl_table.proofs.FoundReads.{index-within, reads-joined}
-use Rattle.fl_table.proofs.SealsInTurn.{watched-front, watched-then}
+use Rattle.fl_frame.proofs.WatchedInTurn.{watched-first, watched-then}
 use Rattle.fl_table.proofs.MountJoined.{index-limit, limit-then, mount-cause-later, mount-fails, mount-then, finds-as, refuses-by, stand-outside}
 use Rattle.fl_table.proofs.Outsides.{blobs-outside}
 use Rattle.fl_table.proofs.SealAnswers.{planned-same, same-then}
 use Rattle.fl_ring.specs.declared.fault.RingFault.{RingFault}
 use Rattle.fl_table.specs.Causes.{of_ring}
-use Rattle.fl_ring.proofs.ReadsInTurn.{goes_more}
 use Rattle.fl_table.specs.Blobs as variable
 use Rattle.fl_table.proofs.BlobsOfTable as blobbing
 use Rattle.fl_table.proofs.IndexOfTable.{few-goes, none-is, none-there, still-few}
 use Rattle.fl_var.specs.declared.var_data.VarData.{VarData}
 use Rattle.fl_table.proofs.Sizes.{table-fits}
 use Rattle.fl_table.proofs.PowerOn.{on-then}
+use Rattle.fl_ring.specs.declared.ring.Ring.{Ring}
+use Rattle.fl_table.proofs.Untouched.{no-success}
 use Rattle.fl_table.proofs.table.Table.mount.Goals as goal
 
 pub returns-in_err-end-clause-ends : goal.returns-in_err-end-clause-ends
@@ -43,7 +45,7 @@ returns-clause-ends g c = λ first plan table rose device watched planned rests.
     let mid = g.F.Flash.state c.mount_bitmaps.new.flash in
     let new = g.F.Flash.state c.mount_rows.new.flash in
     let goes = c.in_ok-end.ensures.goes in
-    mount-then t old mid first plan table rose device planned rests (watched-front old mid new rose device watched c.mount_rows.ensures.goes) c.forget.new.self.bitmaps c.mount_bitmaps.new.bitmaps c.in_ok-end.end c.mount_rows.result c.mount_rows.new.self new (sym c.forget.ensures.bitmaps)
+    mount-then t old mid first plan table rose device planned rests (watched-first old mid new rose device watched c.mount_rows.ensures.goes) c.forget.new.self.bitmaps c.mount_bitmaps.new.bitmaps c.in_ok-end.end c.mount_rows.result c.mount_rows.new.self new (sym c.forget.ensures.bitmaps)
     c.in_ok-end.ensures.same (c.in_ok-end.ensures.outside watched.told) (c.in_ok-end.ensures.ends (first + plan.data_blocks) plan table rose device)
     (λ x later on counts at_rest stands end. c.mount_rows.ensures.ends first plan x rose later (watched-then old mid new rose device later watched goes on counts) (planned-same t _ first plan planned (record {
       geometry = c.forget.ensures.same.geometry;
@@ -68,7 +70,7 @@ returns-clause-limit g c = λ first plan table rose device watched planned rests
     let mid = g.F.Flash.state c.mount_bitmaps.new.flash in
     let new = g.F.Flash.state c.mount_rows.new.flash in
     let goes = c.in_ok-end.ensures.goes in
-    limit-then t old mid first plan table rose device planned rests (watched-front old mid new rose device watched c.mount_rows.ensures.goes) c.forget.new.self.bitmaps c.mount_bitmaps.new.bitmaps c.in_ok-end.end new (sym c.forget.ensures.bitmaps)
+    limit-then t old mid first plan table rose device planned rests (watched-first old mid new rose device watched c.mount_rows.ensures.goes) c.forget.new.self.bitmaps c.mount_bitmaps.new.bitmaps c.in_ok-end.end new (sym c.forget.ensures.bitmaps)
     c.in_ok-end.ensures.same (c.in_ok-end.ensures.outside watched.told) (c.in_ok-end.ensures.ends (first + plan.data_blocks) plan table rose device) (c.in_ok-end.ensures.limit (first + plan.data_blocks) plan table watched.told) full
     (λ x later on counts at_rest stands end. c.mount_rows.ensures.limit first plan x rose later (watched-then old mid new rose device later watched goes on counts) (planned-same t _ first plan planned (record {
       geometry = c.forget.ensures.same.geometry;
@@ -218,7 +220,7 @@ returns-in_err-end-clause-outside g c = λ told page rows index blobs.
 
 pub returns-clause-goes : goal.returns-clause-goes
 returns-clause-goes g c =
-    goes_more (g.F.Flash.state c.args.flash.now) (g.F.Flash.state c.mount_bitmaps.new.flash) (g.F.Flash.state c.mount_rows.new.flash) c.in_ok-end.ensures.goes c.mount_rows.ensures.goes
+    goes-then (g.F.Flash.state c.args.flash.now) (g.F.Flash.state c.mount_bitmaps.new.flash) (g.F.Flash.state c.mount_rows.new.flash) c.in_ok-end.ensures.goes c.mount_rows.ensures.goes
 
 pub mount_rows-requires : goal.mount_rows-requires
 mount_rows-requires g c =
@@ -303,3 +305,61 @@ forget-requires g c = table-fits g.row.KNOTS g.row.SLOTS c.args.self.now.few_kno
 
 pub returns-clause-power : goal.returns-clause-power
 returns-clause-power g c = on-then (g.F.Flash.state c.args.flash.now) (g.F.Flash.state c.mount_bitmaps.new.flash) (g.F.Flash.state c.mount_rows.new.flash) c.mount_rows.result c.in_ok-end.ensures.power c.mount_rows.ensures.power
+
+pub returns-in_err-end-clause-goes : goal.returns-in_err-end-clause-goes
+returns-in_err-end-clause-goes g c = c.in_err-end.ensures.goes
+
+pub returns-in_err-end-clause-room : goal.returns-in_err-end-clause-room
+returns-in_err-end-clause-room g c = c.in_err-end.ensures.room
+
+pub returns-in_err-end-clause-holds : goal.returns-in_err-end-clause-holds
+returns-in_err-end-clause-holds g c = c.in_err-end.ensures.holds
+
+pub returns-in_err-end-clause-calm : goal.returns-in_err-end-clause-calm
+returns-in_err-end-clause-calm g c = c.forget.ensures.forgotten.calm
+
+pub returns-in_err-end-clause-none : goal.returns-in_err-end-clause-none
+returns-in_err-end-clause-none g c = c.forget.ensures.forgotten.none
+
+pub returns-in_err-end-clause-mounted : goal.returns-in_err-end-clause-mounted
+returns-in_err-end-clause-mounted g c =
+    let p = err_from_is_err_and c.from_residual.result c.from_residual.ensures.1 in
+    rw p.1 (ap (λ (o : Option Ring). is_some o) c.forget.ensures.forgotten.down)
+
+pub returns-in_err-end-clause-found : goal.returns-in_err-end-clause-found
+returns-in_err-end-clause-found g c = no-success _ _ c.from_residual.result c.from_residual.ensures.1
+
+pub returns-in_err-end-clause-power : goal.returns-in_err-end-clause-power
+returns-in_err-end-clause-power g c = no-success _ _ c.from_residual.result c.from_residual.ensures.1
+
+pub returns-in_err-end-clause-same : goal.returns-in_err-end-clause-same
+returns-in_err-end-clause-same g c =
+    let same = c.forget.ensures.same in
+    record {
+      geometry = same.geometry;
+      layout = same.layout;
+      place = same.place;
+      buckets = same.buckets;
+      error = same.error;
+      bitmaps = subst (λ (o : Option BitmapIndex). AreSamePlan o c.mount_bitmaps.new.bitmaps) c.forget.ensures.bitmaps c.in_err-end.ensures.same;
+      blobs = same.blobs;
+      limit = same.limit;
+    }
+
+pub returns-clause-lies : goal.returns-clause-lies
+returns-clause-lies g c = c.mount_rows.ensures.lies
+
+pub returns-clause-holds : goal.returns-clause-holds
+returns-clause-holds g c = c.mount_rows.ensures.holds
+
+pub returns-clause-mounted : goal.returns-clause-mounted
+returns-clause-mounted g c = c.mount_rows.ensures.mounted
+
+pub returns-clause-calm : goal.returns-clause-calm
+returns-clause-calm g c = c.mount_rows.ensures.calm
+
+pub returns-clause-none : goal.returns-clause-none
+returns-clause-none g c = c.mount_rows.ensures.none
+
+pub returns-clause-room : goal.returns-clause-room
+returns-clause-room g c = c.mount_rows.ensures.room ∙ c.in_ok-end.ensures.room

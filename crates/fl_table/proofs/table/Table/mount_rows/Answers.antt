@@ -1,9 +1,9 @@
-use Rattle.std.proofs.Common.{◌≡◌, ◌+◌, Option, IfSome, arith, refl, sym, ◌∙◌, ap, subst, IsTrue, inl, inr}
+use Rattle.std.proofs.Common.{◌≡◌, ◌+◌, Option, IfSome, arith, refl, sym, ◌∙◌, ap, subst, IsTrue, inl, inr, ℕ, Result, Ok, Err, is_some}
 use Rattle.std.proofs.lemmas.Result.{err_from_is_err_and}
-use Rattle.fl_flash.specs.Flash.{page_at}
+use Rattle.fl_flash.specs.Flash.{page_at, FlashState}
+use Rattle.fl_frame.proofs.CallsInTurn.{goes-then}
 use Rattle.fl_find.proofs.Points.{mounts-points}
 use Rattle.fl_model.specs.Mount.{ready}
-use Rattle.fl_ring.proofs.ReadsInTurn.{goes_more}
 use Rattle.fl_table.specs.Bitmaps.{EndAt, IsOutside}
 use Rattle.fl_table.specs.BlobEnds.{least_of}
 use Rattle.fl_table.specs.BlobMount.{FindsBlobs, RefusesWithin}
@@ -11,7 +11,7 @@ use Rattle.fl_table.specs.Blobs.{room_of, rings_of}
 use Rattle.fl_table.proofs.Outsides.{var-outside}
 use Rattle.fl_var.specs.Memory.{var_shape}
 use Rattle.fl_table.proofs.BlobsOfTable as blobbing
-use Rattle.fl_table.proofs.SealsInTurn.{watched-front, watched-then}
+use Rattle.fl_frame.proofs.WatchedInTurn.{watched-first, watched-then}
 use Rattle.fl_table.proofs.MountJoined.{mount-cause-later}
 use Rattle.fl_table.proofs.BlobSeals.{with_var}
 use Rattle.fl_table.proofs.MountVar.{data-fails, mounted-ends, rows-fail, rows-mount, var-limit}
@@ -22,10 +22,15 @@ use Rattle.fl_ring.specs.Mounting.{shape_at}
 use Rattle.fl_ring.specs.Place as place
 use Rattle.fl_ring.specs.Place.{next_of, shape_of}
 use Rattle.fl_ring.specs.declared.ring.Ring.{Ring}
-use Rattle.fl_table.proofs.IndexOfTable.{none-is}
+use Rattle.fl_table.proofs.IndexOfTable.{none-is, plan-same}
 use Rattle.fl_table.proofs.ReadsKeepTable.{lies-moved}
 use Rattle.fl_table.proofs.Sizes.{table-fits}
 use Rattle.fl_table.proofs.PowerOn.{blobs-on}
+use Rattle.fl_table.specs.Mounting.{FewRepairs}
+use Rattle.fl_table.specs.declared.faults.MountFault.{MountFault}
+use Rattle.fl_table.specs.declared.mount.FoundRows.{FoundRows}
+use Rattle.fl_table.proofs.SealAnswers.{same-then}
+use Rattle.fl_table.proofs.Untouched.{no-success}
 use Rattle.fl_table.proofs.table.Table.mount_rows.Goals as goal
 use Rattle.fl_var.specs.declared.var_data.VarData.{VarData}
 
@@ -40,7 +45,7 @@ returns-in_err-mount_within-clause-ends g c = λ first plan table rose device wa
     let mid = g.F.Flash.state c.read_rows.new.flash in
     let new = g.F.Flash.state c.mount_within.new.flash in
     let goes = c.in_ok-rows.ensures.goes in
-    let w = c.in_ok-rows.ensures.ends first plan table rose device (watched-front old mid new rose device watched c.mount_within.ensures.goes) planned rests stands end in
+    let w = c.in_ok-rows.ensures.ends first plan table rose device (watched-first old mid new rose device watched c.mount_within.ensures.goes) planned rests stands end in
     let then = watched-then old mid new rose device w.now.device watched goes w.power w.counts in
     let p = err_from_is_err_and c.from_residual-in_err-mount_within.result c.from_residual-in_err-mount_within.ensures.1 in
     rw (p.1, p.2) (rows-fail c.read_rows.new.self mid new first plan table rose device c.in_ok-rows.rows w then c.read_rows.new.self.blobs c.mount_within.new.blobs c.in_err-mount_within.field-0.0 _ refl (c.in_err-mount_within.ensures.outside then.told)
@@ -53,7 +58,7 @@ returns-clause-ends g c = λ first plan table rose device watched planned rests 
     let mid = g.F.Flash.state c.read_rows.new.flash in
     let new = g.F.Flash.state c.mount_within.new.flash in
     let goes = c.in_ok-rows.ensures.goes in
-    let w = c.in_ok-rows.ensures.ends first plan table rose device (watched-front old mid new rose device watched c.mount_within.ensures.goes) planned rests stands end in
+    let w = c.in_ok-rows.ensures.ends first plan table rose device (watched-first old mid new rose device watched c.mount_within.ensures.goes) planned rests stands end in
     let then = watched-then old mid new rose device w.now.device watched goes w.power w.counts in
     let h = rows-mount t mid new first plan table rose device c.in_ok-rows.rows w then t.blobs c.mount_within.new.blobs c.in_ok-mount_within.field-0 refl (c.in_ok-mount_within.ensures.outside then.told)
     (c.in_ok-mount_within.ensures.ends (first + plan.data_blocks + plan.index_blocks) plan w.now.state rose w.now.device w.end_is) in
@@ -187,11 +192,11 @@ returns-in_err-mount_within-clause-cause g c =
 
 pub returns-in_err-mount_within-clause-goes : goal.returns-in_err-mount_within-clause-goes
 returns-in_err-mount_within-clause-goes g c =
-    goes_more (g.F.Flash.state c.args.flash.now) (g.F.Flash.state c.read_rows.new.flash) (g.F.Flash.state c.mount_within.new.flash) c.in_ok-rows.ensures.goes c.in_err-mount_within.ensures.goes
+    goes-then (g.F.Flash.state c.args.flash.now) (g.F.Flash.state c.read_rows.new.flash) (g.F.Flash.state c.mount_within.new.flash) c.in_ok-rows.ensures.goes c.in_err-mount_within.ensures.goes
 
 pub returns-clause-goes : goal.returns-clause-goes
 returns-clause-goes g c =
-    goes_more (g.F.Flash.state c.args.flash.now) (g.F.Flash.state c.read_rows.new.flash) (g.F.Flash.state c.mount_within.new.flash) c.in_ok-rows.ensures.goes c.in_ok-mount_within.ensures.goes
+    goes-then (g.F.Flash.state c.args.flash.now) (g.F.Flash.state c.read_rows.new.flash) (g.F.Flash.state c.mount_within.new.flash) c.in_ok-rows.ensures.goes c.in_ok-mount_within.ensures.goes
 
 pub invariant_of-self : goal.invariant_of-self
 invariant_of-self g c =
@@ -305,7 +310,7 @@ returns-in_err-mount_within-clause-limit g c = λ first plan table rose device w
     let mid = g.F.Flash.state c.read_rows.new.flash in
     let new = g.F.Flash.state c.mount_within.new.flash in
     let goes = c.in_ok-rows.ensures.goes in
-    let front = watched-front old mid new rose device watched c.mount_within.ensures.goes in
+    let front = watched-first old mid new rose device watched c.mount_within.ensures.goes in
     let w = c.in_ok-rows.ensures.ends first plan table rose device front planned rests stands end in
     let then = watched-then old mid new rose device w.now.device watched goes w.power w.counts in
     let rows = c.in_ok-rows.ensures.limit first plan table rose device front planned rests stands end full in
@@ -320,7 +325,7 @@ returns-clause-limit g c = λ first plan table rose device watched planned rests
     let mid = g.F.Flash.state c.read_rows.new.flash in
     let new = g.F.Flash.state c.mount_within.new.flash in
     let goes = c.in_ok-rows.ensures.goes in
-    let front = watched-front old mid new rose device watched c.mount_within.ensures.goes in
+    let front = watched-first old mid new rose device watched c.mount_within.ensures.goes in
     let w = c.in_ok-rows.ensures.ends first plan table rose device front planned rests stands end in
     let then = watched-then old mid new rose device w.now.device watched goes w.power w.counts in
     let rows = c.in_ok-rows.ensures.limit first plan table rose device front planned rests stands end full in
@@ -330,3 +335,132 @@ returns-clause-limit g c = λ first plan table rose device watched planned rests
 
 pub returns-clause-power : goal.returns-clause-power
 returns-clause-power g c = λ on. blobs-on _ _ (g.F.Flash.state c.read_rows.new.flash) (g.F.Flash.state c.mount_within.new.flash) _ c.in_ok-mount_within.ensures.found (c.in_ok-rows.ensures.power on)
+
+few-more : (n k : ℕ) (old new : FlashState) → FewRepairs n old new → FewRepairs (n + k) old new
+few-more n k old new few = record { programs = omega (arith, few.programs); erases = omega (arith, few.erases) }
+
+same-fault : (e f : MountFault) → ◌≡◌ {A = Result FoundRows MountFault} (Err e) (Err f) → e ≡ f
+same-fault e f is = cc
+
+not-ok : (rows : FoundRows) (e : MountFault) → ◌≡◌ {A = Result FoundRows MountFault} (Ok rows) (Err e) → ⊥
+not-ok rows e is = cc
+
+pub returns-in_err-rows-clause-goes : goal.returns-in_err-rows-clause-goes
+returns-in_err-rows-clause-goes g c = c.in_err-rows.ensures.goes
+
+pub returns-in_err-rows-clause-same : goal.returns-in_err-rows-clause-same
+returns-in_err-rows-clause-same g c = c.in_err-rows.ensures.same
+
+pub returns-in_err-rows-clause-still : goal.returns-in_err-rows-clause-still
+returns-in_err-rows-clause-still g c = c.in_err-rows.ensures.still
+
+pub returns-in_err-rows-clause-lies : goal.returns-in_err-rows-clause-lies
+returns-in_err-rows-clause-lies g c = c.in_err-rows.ensures.lies
+
+pub returns-in_err-rows-clause-room : goal.returns-in_err-rows-clause-room
+returns-in_err-rows-clause-room g c = c.in_err-rows.ensures.room
+
+pub returns-in_err-rows-clause-holds : goal.returns-in_err-rows-clause-holds
+returns-in_err-rows-clause-holds g c = c.in_err-rows.ensures.holds
+
+pub returns-in_err-rows-clause-calm : goal.returns-in_err-rows-clause-calm
+returns-in_err-rows-clause-calm g c = c.in_err-rows.ensures.calm
+
+pub returns-in_err-rows-clause-none : goal.returns-in_err-rows-clause-none
+returns-in_err-rows-clause-none g c = c.in_err-rows.ensures.none
+
+pub returns-in_err-rows-clause-found : goal.returns-in_err-rows-clause-found
+returns-in_err-rows-clause-found g c = no-success _ _ c.from_residual.result c.from_residual.ensures.1
+
+pub returns-in_err-rows-clause-power : goal.returns-in_err-rows-clause-power
+returns-in_err-rows-clause-power g c = no-success _ _ c.from_residual.result c.from_residual.ensures.1
+
+pub returns-in_err-rows-clause-mounted : goal.returns-in_err-rows-clause-mounted
+returns-in_err-rows-clause-mounted g c =
+    let p = err_from_is_err_and c.from_residual.result c.from_residual.ensures.1 in
+    rw p.1 (ap (λ (o : Option Ring). is_some o) c.in_err-rows.ensures.down)
+
+pub returns-in_err-rows-clause-repairs : goal.returns-in_err-rows-clause-repairs
+returns-in_err-rows-clause-repairs g c = few-more 1 _ _ _ c.in_err-rows.ensures.repairs
+
+pub returns-in_err-rows-clause-cause : goal.returns-in_err-rows-clause-cause
+returns-in_err-rows-clause-cause g c =
+    let p = err_from_is_err_and c.from_residual.result c.from_residual.ensures.1 in
+    rw (p.1, p.2) c.in_err-rows.ensures.cause
+
+pub returns-in_err-rows-clause-off : goal.returns-in_err-rows-clause-off
+returns-in_err-rows-clause-off g c = λ down.
+    let h = c.in_err-rows.ensures.off down in
+    let p = err_from_is_err_and c.from_residual.result c.from_residual.ensures.1 in
+    rw (p.1, p.2) (ap (λ (e : MountFault). Err e) (same-fault _ _ h.0), h.1)
+
+pub returns-in_err-mount_within-clause-still : goal.returns-in_err-mount_within-clause-still
+returns-in_err-mount_within-clause-still g c = c.in_ok-rows.ensures.still
+
+pub returns-in_err-mount_within-clause-calm : goal.returns-in_err-mount_within-clause-calm
+returns-in_err-mount_within-clause-calm g c = c.in_ok-rows.ensures.calm
+
+pub returns-in_err-mount_within-clause-none : goal.returns-in_err-mount_within-clause-none
+returns-in_err-mount_within-clause-none g c = c.in_ok-rows.ensures.none
+
+pub returns-in_err-mount_within-clause-found : goal.returns-in_err-mount_within-clause-found
+returns-in_err-mount_within-clause-found g c = no-success _ _ c.from_residual-in_err-mount_within.result c.from_residual-in_err-mount_within.ensures.1
+
+pub returns-in_err-mount_within-clause-power : goal.returns-in_err-mount_within-clause-power
+returns-in_err-mount_within-clause-power g c = no-success _ _ c.from_residual-in_err-mount_within.result c.from_residual-in_err-mount_within.ensures.1
+
+pub returns-in_err-mount_within-clause-same : goal.returns-in_err-mount_within-clause-same
+returns-in_err-mount_within-clause-same g c =
+    same-then c.args.self.now c.read_rows.new.self _ c.in_ok-rows.ensures.same (record { geometry = refl; layout = refl; place = refl; buckets = refl; error = refl; bitmaps = plan-same c.read_rows.new.self.bitmaps; blobs = c.in_err-mount_within.ensures.same; limit = refl })
+
+pub returns-in_err-mount_within-clause-room : goal.returns-in_err-mount_within-clause-room
+returns-in_err-mount_within-clause-room g c = c.in_err-mount_within.ensures.room ∙ c.in_ok-rows.ensures.room
+
+pub returns-in_err-mount_within-clause-holds : goal.returns-in_err-mount_within-clause-holds
+returns-in_err-mount_within-clause-holds g c = c.in_err-mount_within.ensures.holds
+
+pub returns-in_err-mount_within-clause-mounted : goal.returns-in_err-mount_within-clause-mounted
+returns-in_err-mount_within-clause-mounted g c =
+    let p = err_from_is_err_and c.from_residual-in_err-mount_within.result c.from_residual-in_err-mount_within.ensures.1 in
+    rw p.1 (ap (λ (o : Option Ring). is_some o) c.in_ok-rows.ensures.down)
+
+pub returns-in_err-mount_within-clause-off : goal.returns-in_err-mount_within-clause-off
+returns-in_err-mount_within-clause-off g c = λ down. absurd (not-ok _ _ (c.in_ok-rows.ensures.off down).0)
+
+pub returns-clause-still : goal.returns-clause-still
+returns-clause-still g c = c.in_ok-rows.ensures.still
+
+pub returns-clause-calm : goal.returns-clause-calm
+returns-clause-calm g c = c.in_ok-rows.ensures.calm
+
+pub returns-clause-none : goal.returns-clause-none
+returns-clause-none g c = c.in_ok-rows.ensures.none
+
+pub returns-clause-same : goal.returns-clause-same
+returns-clause-same g c =
+    same-then c.args.self.now c.read_rows.new.self _ c.in_ok-rows.ensures.same (record { geometry = refl; layout = refl; place = refl; buckets = refl; error = refl; bitmaps = plan-same c.read_rows.new.self.bitmaps; blobs = c.in_ok-mount_within.ensures.same; limit = refl })
+
+pub returns-clause-room : goal.returns-clause-room
+returns-clause-room g c = c.in_ok-mount_within.ensures.room ∙ c.in_ok-rows.ensures.room
+
+pub returns-clause-holds : goal.returns-clause-holds
+returns-clause-holds g c = c.in_ok-mount_within.ensures.holds
+
+pub returns-clause-mounted : goal.returns-clause-mounted
+returns-clause-mounted g c = refl
+
+pub returns-clause-refused : goal.returns-clause-refused
+returns-clause-refused g c = tt
+
+pub returns-clause-cause : goal.returns-clause-cause
+returns-clause-cause g c = tt
+
+pub returns-clause-off : goal.returns-clause-off
+returns-clause-off g c = λ down. absurd (not-ok _ _ (c.in_ok-rows.ensures.off down).0)
+
+pub mount_within-requires : goal.mount_within-requires
+mount_within-requires g c = record {
+  lies = c.in_ok-rows.ensures.lies.blobs;
+  room = c.in_ok-rows.ensures.room ∙ (c.requires.room ∙ sym (ap (λ (x : Geometry). x.page) c.in_ok-rows.ensures.goes.geometry));
+  none = c.in_ok-rows.ensures.holds;
+}

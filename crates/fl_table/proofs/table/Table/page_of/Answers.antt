@@ -1,6 +1,8 @@
 use Rattle.std.proofs.lemmas.Result.{IfErr-weaker}
 use Rattle.fl_table.proofs.Finds.{holds-in, holds-pages, lookup-fails}
-use Rattle.fl_table.proofs.ReadsKeepTable.{lies-read}
+use Rattle.fl_table.proofs.IndexOfTable.{none-is}
+use Rattle.fl_table.proofs.ReadsKeepTable.{lies-read, most-kept}
+use Rattle.fl_table.proofs.Sizes.{index-fits}
 use Rattle.fl_table.proofs.Slots.{steps-model}
 use Rattle.fl_table.proofs.table.Table.page_of.Goals as goal
 
@@ -31,3 +33,30 @@ pub returns-clause-fails : goal.returns-clause-fails
 returns-clause-fails g c =
     let new = g.F.Flash.state c.page_of.new.flash in
     IfErr-weaker c.page_of.result _ _ (λ e fails. lookup-fails c.args.self.now c.in-Some.ring (g.F.Flash.state c.args.flash.now) e new c.in-Some.is fails) c.page_of.ensures.fails
+
+pub returns-clause-room : goal.returns-clause-room
+returns-clause-room g c = c.page_of.ensures.room
+
+pub returns-clause-fresh : goal.returns-clause-fresh
+returns-clause-fresh g c = c.page_of.ensures.fresh
+
+pub returns-clause-later : goal.returns-clause-later
+returns-clause-later g c = c.page_of.ensures.later
+
+pub returns-clause-comparisons : goal.returns-clause-comparisons
+returns-clause-comparisons g c = c.page_of.ensures.comparisons
+
+pub unreachable-requires : goal.unreachable-requires
+unreachable-requires g c = none-is c.args.self.now.ring c.in_default.is c.requires.running
+
+pub unreachable-unreachable : goal.unreachable-unreachable
+unreachable-unreachable g c = c.unreachable.type_inv
+
+pub page_of-requires : goal.page_of-requires
+page_of-requires g c = (index-fits g.row.KNOTS g.row.SLOTS c.args.self.now.few_knots c.args.self.now.few_slots, (c.requires.lies.ring c.in-Some.ring c.in-Some.is, c.requires.room))
+
+pub returns-clause-most : goal.returns-clause-most
+returns-clause-most g c = most-kept c.args.self.now (g.F.Flash.state c.args.flash.now) (g.F.Flash.state c.page_of.new.flash) c.in-Some.ring c.in-Some.is c.page_of.ensures.most
+
+pub returns-clause-counts : goal.returns-clause-counts
+returns-clause-counts g c = c.page_of.ensures.looks.reads

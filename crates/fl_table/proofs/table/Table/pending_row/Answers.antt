@@ -1,11 +1,25 @@
-use Rattle.std.proofs.Common.{◌≡◌, ℕ, ◌+◌, ◌-◌, ◌*◌, Some, List, take, drop, ap, map, sym, ◌∙◌, arith}
+use Rattle.std.proofs.Common.{◌≡◌, ℕ, ◌+◌, ◌-◌, ◌*◌, ◌<◌, ◌≤◌, mul-le-mul_right, Some, List, take, drop, ap, map, sym, ◌∙◌, arith}
 use Rattle.std.proofs.lemmas.List.{drop-drop}
 use Rattle.fl_model.specs.Record.{RowLayout, layout_len}
 use Rattle.fl_model.specs.Row.{row_in, stored_row}
 use Rattle.fl_model.specs.Table.{pending_entries}
 use Rattle.fl_schema.specs.Schema.{layout_of, types_of, bytes_of}
 use Rattle.fl_page.proofs.RowBytes.{slice_get-rows_from}
+use Rattle.fl_table.proofs.Sizes.{schema-fits}
 use Rattle.fl_table.proofs.table.Table.pending_row.Goals as goal
+
+-- a row before the last ends before them
+row-within : (i count n end : ℕ) → i < count → end ≡ 16 + count * n → 16 + (i + 1) * n ≤ end
+row-within i count n end lt is =
+    let more : i + 1 ≤ count = omega (arith, lt) in
+    let rows = mul-le-mul_right n more in
+    omega (arith, is, rows)
+
+pub row-requires : goal.row-requires
+row-requires g c = (schema-fits, row-within _ _ _ _ c.requires.within c.args.self.now.rows_end)
+
+pub returns-clause-layout : goal.returns-clause-layout
+returns-clause-layout g c = c.row.ensures.layout
 
 pub returns-clause-row : goal.returns-clause-row
 returns-clause-row g c =

@@ -1,26 +1,35 @@
-use Rattle.std.proofs.Common.{Bool, true, false, refl, ◌≡◌, ℕ, Bor, List, [], ◌∷◌, ◌++◌, Option, Some, None, Result, Ok, Err, OnErr, length, option_map, not, ◌&&◌, ◌||◌, IsTrue, arith, sym, ◌∙◌, ap, subst}
+use Rattle.std.proofs.Common.{refl, ◌≡◌, ℕ, Bor, List, [], ◌∷◌, ◌++◌, Option, Some, None, Result, Ok, Err, length, option_map, not, ◌&&◌, ◌||◌, IsTrue, arith, sym, ◌∙◌, ap, subst, ◌+◌, ◌*◌}
 use Rattle.std.proofs.lemmas.Result.{err_from_is_err_and}
 use Rattle.fl_model.specs.Table.{after_seals, make_room_seals}
-use Rattle.fl_table.specs.Refusal.{put_refusal}
+use Rattle.fl_table.specs.Refusal.{put_refusal, RefusesAs}
 use Rattle.fl_table.specs.Memory.{is_running, is_stopped, pending_in, PendingAre}
 use Rattle.fl_table.specs.declared.table.Table.{Table}
-use Rattle.fl_table.proofs.Refusals.{fits-row, told-running, calm-cause, few-blob, not-spent, refusal-calm}
+use Rattle.fl_table.proofs.Refusals.{fits-row, told-running, calm-cause, few-blob, not-spent, refusal-calm, calm-same}
 use Rattle.fl_flash.specs.Flash.{page_at}
 use Rattle.fl_table.proofs.BlobsOfTable.{pages-most}
 use Rattle.fl_table.proofs.Outsides.{outside-then}
-use Rattle.fl_table.proofs.SealsInTurn.{cause-later, watched-front, watched-then}
+use Rattle.fl_frame.proofs.WatchedInTurn.{cause-later, watched-first, watched-then}
 use Rattle.fl_table.proofs.PutAnswers.{accepts, and-true, broken-ends, join-fails, map-twice, put-ends, refused-ends}
 use Rattle.fl_flash.specs.declared.flash.FlashFault.{FlashFault}
 use Rattle.fl_flash.specs.declared.flash.FlashFault.TheVariants.{PowerLost}
+use Rattle.fl_frame.proofs.CallsInTurn.{goes-then, goes-same}
 use Rattle.fl_table.specs.declared.faults.PutRefusal.{PutRefusal}
 use Rattle.fl_table.specs.declared.faults.PutRefusal.TheVariants as put
 use Rattle.fl_table.proofs.PowerOff.{put-off}
-use Rattle.fl_model.specs.Record.{RowLayout}
+use Rattle.fl_model.specs.Record.{RowLayout, layout_len}
 use Rattle.fl_model.specs.Row.{FitsRow}
-use Rattle.fl_ring.proofs.ReadsInTurn.{goes_more}
 use Rattle.fl_schema.specs.Schema.{layout_of}
-use Rattle.fl_table.proofs.SealAnswers.{same-then}
+use Rattle.fl_table.proofs.SealAnswers.{same-then, plan-self}
 use Rattle.fl_table.proofs.Sizes.{table-fits}
+use Rattle.fl_table.specs.Blobs.{pages_for}
+use Rattle.fl_table.proofs.Untouched.{at-most-two, at-most-more, and-false, on-err, no-success}
+use Rattle.fl_flash.specs.Flash.{FlashState}
+use Rattle.fl_ring.specs.Written.{Writes}
+use Rattle.fl_ring.proofs.Written.{writes-none}
+use Rattle.fl_table.specs.Memory.{MaySeal}
+use Rattle.fl_table.specs.Mounting.{rings_in}
+use Rattle.fl_table.proofs.Writing.{pages-none}
+use Rattle.fl_table.proofs.Writers.{gathers-none}
 use Rattle.fl_table.proofs.table.Table.put.Goals as goal
 
 pub returns-in-Some-clause-ends : goal.returns-in-Some-clause-ends
@@ -53,7 +62,7 @@ returns-in_err-join-clause-ends g c = λ first plan table rose device watched st
     let same = map-twice (λ (b : Bor (List ℕ)). b.now) (λ (xs : List ℕ). length xs) c.args.blob in
     let none : put_refusal t c.args.key c.args.values.now (option_map (λ (xs : List ℕ). length xs) (option_map (λ (b : Bor (List ℕ)). b.now) c.args.blob)) ≡ None =
     ap (put_refusal t c.args.key c.args.values.now) same ∙ (sym c.refusal.ensures ∙ c.in_default.is) in
-    let h = c.in_ok-make_room.ensures.ends first plan table rose device (watched-front f mid new rose device watched c.join.ensures.goes) stands in
+    let h = c.in_ok-make_room.ensures.ends first plan table rose device (watched-first f mid new rose device watched c.join.ensures.goes) stands in
     let ok = accepts t f first plan table c.args.key c.args.values.now bytes rose device stands none c.make_room.new.self mid h c.in_ok-make_room.ensures.room in
     let k = c.in_err-join.ensures.ends first plan (after_seals plan (make_room_seals plan table) table) rose h.now.device (watched-then f mid new rose device h.now.device watched c.in_ok-make_room.ensures.goes h.power h.counts) h.stands ok in
     let p = err_from_is_err_and c.from_residual-in_err-join.result c.from_residual-in_err-join.ensures.1 in
@@ -69,7 +78,7 @@ returns-clause-ends g c = λ first plan table rose device watched stands.
     let same = map-twice (λ (b : Bor (List ℕ)). b.now) (λ (xs : List ℕ). length xs) c.args.blob in
     let none : put_refusal t c.args.key c.args.values.now (option_map (λ (xs : List ℕ). length xs) (option_map (λ (b : Bor (List ℕ)). b.now) c.args.blob)) ≡ None =
     ap (put_refusal t c.args.key c.args.values.now) same ∙ (sym c.refusal.ensures ∙ c.in_default.is) in
-    let h = c.in_ok-make_room.ensures.ends first plan table rose device (watched-front f mid new rose device watched c.join.ensures.goes) stands in
+    let h = c.in_ok-make_room.ensures.ends first plan table rose device (watched-first f mid new rose device watched c.join.ensures.goes) stands in
     let ok = accepts t f first plan table c.args.key c.args.values.now bytes rose device stands none c.make_room.new.self mid h c.in_ok-make_room.ensures.room in
     put-ends t f first plan table c.args.key c.args.values.now bytes rose device stands none c.make_room.new.self mid h c.join.new.self new
     (c.in_ok-join.ensures.ends first plan (after_seals plan (make_room_seals plan table) table) rose h.now.device (watched-then f mid new rose device h.now.device watched c.in_ok-make_room.ensures.goes h.power h.counts) h.stands ok)
@@ -149,10 +158,6 @@ returns-clause-off g c = λ none busy down.
     no : ◌≡◌ {A = Result (Unit {0}) FlashFault} (Ok c.in_ok-join.field-0) (Err PowerLost) → ⊥
     no e = cc
 
-and-false : (b : Bool) → (b && false) ≡ false
-and-false true = refl
-and-false false = refl
-
 pub join-requires : goal.join-requires
 join-requires g c =
     let t = c.args.self.now in
@@ -175,7 +180,7 @@ join-requires g c =
 
 pub returns-in_err-join-clause-goes : goal.returns-in_err-join-clause-goes
 returns-in_err-join-clause-goes g c =
-    goes_more (g.F.Flash.state c.args.flash.now) (g.F.Flash.state c.make_room.new.flash) (g.F.Flash.state c.join.new.flash) c.in_ok-make_room.ensures.goes c.in_err-join.ensures.goes
+    goes-then (g.F.Flash.state c.args.flash.now) (g.F.Flash.state c.make_room.new.flash) (g.F.Flash.state c.join.new.flash) c.in_ok-make_room.ensures.goes c.in_err-join.ensures.goes
 
 pub returns-in_err-join-clause-same : goal.returns-in_err-join-clause-same
 returns-in_err-join-clause-same g c = same-then c.args.self.now c.make_room.new.self c.join.new.self c.in_ok-make_room.ensures.same c.in_err-join.ensures.same
@@ -193,7 +198,7 @@ returns-in_err-join-clause-cause g c =
 
 pub returns-clause-goes : goal.returns-clause-goes
 returns-clause-goes g c =
-    goes_more (g.F.Flash.state c.args.flash.now) (g.F.Flash.state c.make_room.new.flash) (g.F.Flash.state c.join.new.flash) c.in_ok-make_room.ensures.goes c.in_ok-join.ensures.goes
+    goes-then (g.F.Flash.state c.args.flash.now) (g.F.Flash.state c.make_room.new.flash) (g.F.Flash.state c.join.new.flash) c.in_ok-make_room.ensures.goes c.in_ok-join.ensures.goes
 
 pub returns-clause-same : goal.returns-clause-same
 returns-clause-same g c = same-then c.args.self.now c.make_room.new.self c.join.new.self c.in_ok-make_room.ensures.same c.in_ok-join.ensures.same
@@ -233,10 +238,225 @@ returns-clause-pending_stays g c = tt
 pub returns-clause-last_stays : goal.returns-clause-last_stays
 returns-clause-last_stays g c = tt
 
-on-err : {P : Type 0} (result : Result (Unit {0}) PutRefusal) → P → OnErr result P
-on-err (Ok done) h = tt
-on-err (Err refusal) h = h
-
 pub returns-in_err-join-clause-pending_stays : goal.returns-in_err-join-clause-pending_stays
 returns-in_err-join-clause-pending_stays g c =
     on-err c.from_residual-in_err-join.result (λ room. c.in_err-join.ensures.pending_stays ∙ ap (λ (t : Table g.row.KNOTS g.row.SLOTS). pending_in t) (c.in_ok-make_room.ensures.quiet room).1)
+
+not-both : (r : PutRefusal) → ◌≡◌ {A = Option PutRefusal} None (Some r) → ⊥
+not-both r e = cc
+
+not-done : (fault : FlashFault) (u : Unit {0}) → ◌≡◌ {A = Result (Unit {0}) FlashFault} (Err fault) (Ok u) → ⊥
+not-done fault u e = cc
+
+pub returns-in-Some-clause-goes : goal.returns-in-Some-clause-goes
+returns-in-Some-clause-goes g c = goes-same (g.F.Flash.state c.args.flash.now)
+
+pub returns-in-Some-clause-same : goal.returns-in-Some-clause-same
+returns-in-Some-clause-same g c = plan-self c.args.self.now
+
+pub returns-in-Some-clause-lies : goal.returns-in-Some-clause-lies
+returns-in-Some-clause-lies g c = c.requires.lies
+
+pub returns-in-Some-clause-exact : goal.returns-in-Some-clause-exact
+returns-in-Some-clause-exact g c = subst (λ (r : Option PutRefusal). RefusesAs r (Err c.in-Some.refusal)) (sym (sym c.refusal.ensures ∙ c.in-Some.is)) refl
+
+pub returns-in-Some-clause-refused : goal.returns-in-Some-clause-refused
+returns-in-Some-clause-refused g c = calm-same c.args.self.now (g.F.Flash.state c.args.flash.now) c.in-Some.refusal (refusal-calm c.args.self.now c.args.key c.args.values.now _ c.in-Some.refusal (sym c.refusal.ensures ∙ c.in-Some.is))
+
+pub returns-in-Some-clause-quiet : goal.returns-in-Some-clause-quiet
+returns-in-Some-clause-quiet g c = λ none. absurd (not-both c.in-Some.refusal (sym none ∙ (sym c.refusal.ensures ∙ c.in-Some.is)))
+
+pub returns-in-Some-clause-pending : goal.returns-in-Some-clause-pending
+returns-in-Some-clause-pending g c = tt
+
+pub returns-in-Some-clause-last : goal.returns-in-Some-clause-last
+returns-in-Some-clause-last g c = tt
+
+pub returns-in-Some-clause-rows : goal.returns-in-Some-clause-rows
+returns-in-Some-clause-rows g c = tt
+
+pub returns-in-Some-clause-power : goal.returns-in-Some-clause-power
+returns-in-Some-clause-power g c = tt
+
+pub returns-in-Some-clause-reads : goal.returns-in-Some-clause-reads
+returns-in-Some-clause-reads g c = refl
+
+pub returns-in-Some-clause-media_reads : goal.returns-in-Some-clause-media_reads
+returns-in-Some-clause-media_reads g c = at-most-two _ _ _
+
+pub returns-in-Some-clause-outside : goal.returns-in-Some-clause-outside
+returns-in-Some-clause-outside g c = λ told page rows index blobs. refl
+
+pub returns-in_err-make_room-clause-goes : goal.returns-in_err-make_room-clause-goes
+returns-in_err-make_room-clause-goes g c = c.in_err-make_room.ensures.goes
+
+pub returns-in_err-make_room-clause-same : goal.returns-in_err-make_room-clause-same
+returns-in_err-make_room-clause-same g c = c.in_err-make_room.ensures.same
+
+pub returns-in_err-make_room-clause-lies : goal.returns-in_err-make_room-clause-lies
+returns-in_err-make_room-clause-lies g c = c.in_err-make_room.ensures.lies
+
+pub returns-in_err-make_room-clause-outside : goal.returns-in_err-make_room-clause-outside
+returns-in_err-make_room-clause-outside g c = c.in_err-make_room.ensures.outside
+
+pub returns-in_err-make_room-clause-reads : goal.returns-in_err-make_room-clause-reads
+returns-in_err-make_room-clause-reads g c = c.in_err-make_room.ensures.reads
+
+pub returns-in_err-make_room-clause-pending : goal.returns-in_err-make_room-clause-pending
+returns-in_err-make_room-clause-pending g c = no-success _ _ c.from_residual.result c.from_residual.ensures.1
+
+pub returns-in_err-make_room-clause-last : goal.returns-in_err-make_room-clause-last
+returns-in_err-make_room-clause-last g c = no-success _ _ c.from_residual.result c.from_residual.ensures.1
+
+pub returns-in_err-make_room-clause-rows : goal.returns-in_err-make_room-clause-rows
+returns-in_err-make_room-clause-rows g c = no-success _ _ c.from_residual.result c.from_residual.ensures.1
+
+pub returns-in_err-make_room-clause-power : goal.returns-in_err-make_room-clause-power
+returns-in_err-make_room-clause-power g c = no-success _ _ c.from_residual.result c.from_residual.ensures.1
+
+pub returns-in_err-make_room-clause-exact : goal.returns-in_err-make_room-clause-exact
+returns-in_err-make_room-clause-exact g c =
+    let p = err_from_is_err_and c.from_residual.result c.from_residual.ensures.1 in
+    rw (p.1, p.2) (subst (λ (r : Option PutRefusal). RefusesAs r (Err (put.Flash c.in_err-make_room.field-0.0))) (sym (sym c.refusal.ensures ∙ c.in_default.is)) tt)
+
+pub returns-in_err-make_room-clause-refused : goal.returns-in_err-make_room-clause-refused
+returns-in_err-make_room-clause-refused g c =
+    let p = err_from_is_err_and c.from_residual.result c.from_residual.ensures.1 in
+    rw (p.1, p.2) tt
+
+pub returns-in_err-make_room-clause-stopped : goal.returns-in_err-make_room-clause-stopped
+returns-in_err-make_room-clause-stopped g c =
+    let p = err_from_is_err_and c.from_residual.result c.from_residual.ensures.1 in
+    rw (p.1, p.2) c.in_err-make_room.ensures.stopped.1
+
+pub returns-in_err-make_room-clause-running : goal.returns-in_err-make_room-clause-running
+returns-in_err-make_room-clause-running g c =
+    let p = err_from_is_err_and c.from_residual.result c.from_residual.ensures.1 in
+    rw (p.1, p.2) (c.in_err-make_room.ensures.stopped.0 ∙ sym (and-false (is_running c.args.self.now)))
+
+pub returns-in_err-make_room-clause-quiet : goal.returns-in_err-make_room-clause-quiet
+returns-in_err-make_room-clause-quiet g c = λ none room few. absurd (not-done c.in_err-make_room.field-0.0 tt (c.in_err-make_room.ensures.quiet room).0)
+
+pub returns-in_err-make_room-clause-media_reads : goal.returns-in_err-make_room-clause-media_reads
+returns-in_err-make_room-clause-media_reads g c = at-most-more _ _ _ c.in_err-make_room.ensures.media_reads
+
+pub returns-in_err-make_room-clause-cause : goal.returns-in_err-make_room-clause-cause
+returns-in_err-make_room-clause-cause g c =
+    let p = err_from_is_err_and c.from_residual.result c.from_residual.ensures.1 in
+    rw (p.1, p.2) c.in_err-make_room.ensures.cause
+
+pub returns-in_err-join-clause-lies : goal.returns-in_err-join-clause-lies
+returns-in_err-join-clause-lies g c = c.in_err-join.ensures.lies
+
+pub returns-in_err-join-clause-pending : goal.returns-in_err-join-clause-pending
+returns-in_err-join-clause-pending g c = no-success _ _ c.from_residual-in_err-join.result c.from_residual-in_err-join.ensures.1
+
+pub returns-in_err-join-clause-last : goal.returns-in_err-join-clause-last
+returns-in_err-join-clause-last g c = no-success _ _ c.from_residual-in_err-join.result c.from_residual-in_err-join.ensures.1
+
+pub returns-in_err-join-clause-rows : goal.returns-in_err-join-clause-rows
+returns-in_err-join-clause-rows g c = no-success _ _ c.from_residual-in_err-join.result c.from_residual-in_err-join.ensures.1
+
+pub returns-in_err-join-clause-power : goal.returns-in_err-join-clause-power
+returns-in_err-join-clause-power g c = no-success _ _ c.from_residual-in_err-join.result c.from_residual-in_err-join.ensures.1
+
+pub returns-in_err-join-clause-exact : goal.returns-in_err-join-clause-exact
+returns-in_err-join-clause-exact g c =
+    let p = err_from_is_err_and c.from_residual-in_err-join.result c.from_residual-in_err-join.ensures.1 in
+    rw (p.1, p.2) (subst (λ (r : Option PutRefusal). RefusesAs r (Err (put.Flash c.in_err-join.field-0.0))) (sym (sym c.refusal.ensures ∙ c.in_default.is)) tt)
+
+pub returns-in_err-join-clause-refused : goal.returns-in_err-join-clause-refused
+returns-in_err-join-clause-refused g c =
+    let p = err_from_is_err_and c.from_residual-in_err-join.result c.from_residual-in_err-join.ensures.1 in
+    rw (p.1, p.2) tt
+
+pub returns-in_err-join-clause-stopped : goal.returns-in_err-join-clause-stopped
+returns-in_err-join-clause-stopped g c =
+    let p = err_from_is_err_and c.from_residual-in_err-join.result c.from_residual-in_err-join.ensures.1 in
+    rw (p.1, p.2) c.in_err-join.ensures.stopped.1
+
+pub returns-in_err-join-clause-quiet : goal.returns-in_err-join-clause-quiet
+returns-in_err-join-clause-quiet g c = λ none room few. absurd (not-done c.in_err-join.field-0.0 tt (c.in_err-join.ensures.quiet (subst (λ (t : Table g.row.KNOTS g.row.SLOTS). pages_for t.blobs (option_map (λ (b : Bor (List ℕ)). b.now) c.args.blob) ≡ 0) (sym (c.in_ok-make_room.ensures.quiet room).1) few)).0)
+
+pub returns-in_err-join-clause-reads : goal.returns-in_err-join-clause-reads
+returns-in_err-join-clause-reads g c = c.in_err-join.ensures.reads ∙ c.in_ok-make_room.ensures.reads
+
+pub returns-clause-lies : goal.returns-clause-lies
+returns-clause-lies g c = c.in_ok-join.ensures.lies
+
+pub returns-clause-exact : goal.returns-clause-exact
+returns-clause-exact g c = subst (λ (r : Option PutRefusal). RefusesAs r (Ok tt)) (sym (sym c.refusal.ensures ∙ c.in_default.is)) tt
+
+pub returns-clause-refused : goal.returns-clause-refused
+returns-clause-refused g c = tt
+
+pub returns-clause-stopped : goal.returns-clause-stopped
+returns-clause-stopped g c = c.in_ok-join.ensures.calm ∙ c.in_ok-make_room.ensures.calm
+
+pub returns-clause-quiet : goal.returns-clause-quiet
+returns-clause-quiet g c = λ none room few. (refl, (c.in_ok-join.ensures.quiet (subst (λ (t : Table g.row.KNOTS g.row.SLOTS). pages_for t.blobs (option_map (λ (b : Bor (List ℕ)). b.now) c.args.blob) ≡ 0) (sym (c.in_ok-make_room.ensures.quiet room).1) few)).1 ∙ (c.in_ok-make_room.ensures.quiet room).2)
+
+pub returns-clause-pending : goal.returns-clause-pending
+returns-clause-pending g c = λ room. c.in_ok-join.ensures.pending ∙ ap (λ (t : Table g.row.KNOTS g.row.SLOTS). t.writer.count + 1) (c.in_ok-make_room.ensures.quiet room).1
+
+pub returns-clause-last : goal.returns-clause-last
+returns-clause-last g c = c.in_ok-join.ensures.last
+
+pub returns-clause-reads : goal.returns-clause-reads
+returns-clause-reads g c = c.in_ok-join.ensures.reads ∙ c.in_ok-make_room.ensures.reads
+
+pub returns-clause-cause : goal.returns-clause-cause
+returns-clause-cause g c = tt
+
+pub returns-in_err-make_room-clause-pending_stays : goal.returns-in_err-make_room-clause-pending_stays
+returns-in_err-make_room-clause-pending_stays g c = on-err c.from_residual.result (λ room. c.in_err-make_room.ensures.pending_stays)
+
+pub returns-in_err-make_room-clause-last_stays : goal.returns-in_err-make_room-clause-last_stays
+returns-in_err-make_room-clause-last_stays g c = on-err c.from_residual.result c.in_err-make_room.ensures.last
+
+pub returns-in_err-join-clause-last_stays : goal.returns-in_err-join-clause-last_stays
+returns-in_err-join-clause-last_stays g c = on-err c.from_residual-in_err-join.result (c.in_err-join.ensures.last_stays ∙ c.in_ok-make_room.ensures.last)
+
+pub returns-in-Some-clause-writes : goal.returns-in-Some-clause-writes
+returns-in-Some-clause-writes g c = λ none. writes-none (MaySeal c.args.self.now) (rings_in c.args.self.now) (g.F.Flash.state c.args.flash.now)
+
+pub returns-in_err-make_room-clause-writes : goal.returns-in_err-make_room-clause-writes
+returns-in_err-make_room-clause-writes g c = λ none. c.in_err-make_room.ensures.writes
+
+pub returns-in_err-join-clause-writes : goal.returns-in_err-join-clause-writes
+returns-in_err-join-clause-writes g c = λ none. absurd (not-done c.in_err-join.field-0.0 tt (c.in_err-join.ensures.quiet (ap (pages_for c.make_room.new.self.blobs) none ∙ pages-none c.make_room.new.self.blobs)).0)
+
+pub returns-clause-writes : goal.returns-clause-writes
+returns-clause-writes g c = λ none.
+    subst (λ (f : FlashState). Writes (MaySeal c.args.self.now) 0 (rings_in c.args.self.now) (g.F.Flash.state c.args.flash.now) f)
+    (sym (c.in_ok-join.ensures.quiet (ap (pages_for c.make_room.new.self.blobs) none ∙ pages-none c.make_room.new.self.blobs)).1) c.in_ok-make_room.ensures.writes
+
+pub returns-in-Some-clause-full : goal.returns-in-Some-clause-full
+returns-in-Some-clause-full g c = tt
+
+pub returns-in_err-make_room-clause-full : goal.returns-in_err-make_room-clause-full
+returns-in_err-make_room-clause-full g c = let p = err_from_is_err_and c.from_residual.result c.from_residual.ensures.1 in rw p.1 tt
+
+pub returns-in_err-join-clause-full : goal.returns-in_err-join-clause-full
+returns-in_err-join-clause-full g c = let p = err_from_is_err_and c.from_residual-in_err-join.result c.from_residual-in_err-join.ensures.1 in rw p.1 tt
+
+pub returns-in-Some-clause-first_row : goal.returns-in-Some-clause-first_row
+returns-in-Some-clause-first_row g c = tt
+
+pub returns-in_err-make_room-clause-first_row : goal.returns-in_err-make_room-clause-first_row
+returns-in_err-make_room-clause-first_row g c = let p = err_from_is_err_and c.from_residual.result c.from_residual.ensures.1 in rw p.1 tt
+
+pub returns-in_err-join-clause-first_row : goal.returns-in_err-join-clause-first_row
+returns-in_err-join-clause-first_row g c = let p = err_from_is_err_and c.from_residual-in_err-join.result c.from_residual-in_err-join.ensures.1 in rw p.1 tt
+
+pub returns-clause-full : goal.returns-clause-full
+returns-clause-full g c = λ full.
+    let sealed = c.in_ok-make_room.ensures.full full in
+    (c.in_ok-join.ensures.next ∙ sealed.0, c.in_ok-join.ensures.pending ∙ ap (λ n. n + 1) sealed.1)
+
+pub returns-clause-first_row : goal.returns-clause-first_row
+returns-clause-first_row g c = λ full none.
+    let u = c.make_room.new.self in
+    let empty : u.writer.count ≡ 0 = (c.in_ok-make_room.ensures.full full).1 in
+    let end : u.writer.end ≡ 16 + 0 * layout_len (layout_of u.schema) = u.rows_end ∙ ap (λ n. 16 + n * layout_len (layout_of u.schema)) empty in
+    c.in_ok-join.ensures.rows none [] (gathers-none (layout_of u.schema) u.writer empty (omega (arith, end)) u.blank_rest)

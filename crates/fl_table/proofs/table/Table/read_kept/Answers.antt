@@ -1,7 +1,8 @@
-use Rattle.std.proofs.Common.{rules, ◌≡◌, ◌+◌, ◌-◌, ◌*◌, ◌<◌, ◌≤◌, ℕ, List, length, arith, refl, sym, ◌∙◌, ap, subst}
+use Rattle.std.proofs.Common.{◌≡◌, ◌+◌, ◌-◌, ◌*◌, ◌<◌, ◌≤◌, ℕ, List, length, arith, refl, sym, ◌∙◌, ap, subst}
 use Rattle.std.proofs.lemmas.Result.{err_from_is_err_and}
 use Rattle.fl_find.specs.Index.{error_in}
 use Rattle.fl_flash.specs.Flash.{page_at}
+use Rattle.fl_frame.proofs.CallsInTurn.{goes-then}
 use Rattle.fl_ring.specs.Place.{next_of, oldest_of, shape_of}
 use Rattle.fl_ring.specs.Ring.{place, room}
 use Rattle.fl_schema.specs.Schema.{layout_of}
@@ -13,7 +14,7 @@ use Rattle.fl_table.specs.Mounting.{comes_in}
 use Rattle.fl_table.specs.Reading.{WaitFrom}
 use Rattle.fl_table.specs.declared.known.Known.{Known}
 use Rattle.fl_ring.proofs.Founds.{same_pages}
-use Rattle.fl_ring.proofs.ReadsInTurn.{goes_more, more_reads, told_still}
+use Rattle.fl_frame.proofs.ReadsInTurn.{more_reads, told_still}
 use Rattle.fl_table.proofs.MountProgress.{unlisted-behind, come-rows, nothing-within, rows-still}
 use Rattle.fl_table.proofs.Firsts.{firsts-then}
 use Rattle.fl_table.proofs.NotedEntries.{first-same, gathers-end, wait-between, wait-for, waits-from}
@@ -23,6 +24,8 @@ use Rattle.fl_table.proofs.ListedPages.{data-lies, fails-later, ring-read, ring-
 use Rattle.fl_table.proofs.BlobsOfTable as blobbing
 use Rattle.fl_table.proofs.SparedReads.{waiting-few, reads-unlisted, reads-newest}
 use Rattle.fl_table.proofs.SealAnswers.{written-back}
+use Rattle.fl_table.proofs.Sizes.{index-fits, schema-fits}
+use Rattle.fl_table.proofs.Untouched.{no-success}
 use Rattle.fl_table.proofs.table.Table.read_kept.Goals as goal
 
 pub returns-in_err-from-clause-knows : goal.returns-in_err-from-clause-knows
@@ -222,7 +225,7 @@ read_listed-requires g c =
     let f = g.F.Flash.state c.args.flash.now in
     let large : t.counts.len ≡ t.place.blocks * t.geometry.block = t.counted in
     let begin : length c.deref_mut.result.now ≡ room (shape_of ring) = ap length c.deref_mut.ensures.value ∙ (sym t.counts.ok.0 ∙ (large ∙ sym (ap room c.requires.shape))) in
-    (search (rules, arith), (t.some_row, (c.requires.lies_ring, (c.requires.lies.bitmaps, (c.requires.running, (c.requires.idle, (c.requires.room, (c.requires.none, (begin, (omega (arith, begin, some-room ring), subst (IsWithin (oldest_of ring) 0) (sym c.nothing-known.ensures) (nothing-within (oldest_of ring))))))))))))
+    (index-fits g.row.KNOTS g.row.SLOTS t.few_knots t.few_slots, (t.some_row, (c.requires.lies_ring, (c.requires.lies.bitmaps, (c.requires.running, (c.requires.idle, (c.requires.room, (c.requires.none, (begin, (omega (arith, begin, some-room ring), subst (IsWithin (oldest_of ring) 0) (sym c.nothing-known.ensures) (nothing-within (oldest_of ring))))))))))))
 
 pub read_pages-requires : goal.read_pages-requires
 read_pages-requires g c =
@@ -237,7 +240,7 @@ read_pages-requires g c =
     let back = written-back t.counts.items c.read_listed.new.counts t.counts.len (listed.size ∙ ap length c.deref_mut.ensures.value) t.counts.ok.0 in
     let size : length c.deref_mut-2.result.now ≡ room (shape_of ring) = ap length (c.deref_mut-2.ensures.value ∙ back) ∙ (listed.size ∙ begin) in
     let wait = c.first_to_wait-first.ensures ∙ ap (first_to_wait c.read_listed.new.bitmaps c.args.end from) c.next_number.ensures in (
-      search (rules, arith),
+      index-fits g.row.KNOTS g.row.SLOTS t.few_knots t.few_slots,
       (
         t.some_row,
         (
@@ -279,11 +282,11 @@ read_newest-requires g c =
     let size : length c.deref_mut-2.result.now ≡ room (shape_of ring) = ap length (c.deref_mut-2.ensures.value ∙ back) ∙ (listed.size ∙ begin) in
     let then = g.F.Flash.state c.read_pages.new.flash in
     let read = c.in_ok-read_pages.ensures in
-    let goes = goes_more f first then listed.reads.goes read.reads.goes in
+    let goes = goes-then f first then listed.reads.goes read.reads.goes in
     let small : next_of ring < 4294967296 = omega (arith, c.next_number.ensures, c.next_number.type_inv) in
     let back' = written-back _ c.read_pages.new.counts t.counts.len (read.size ∙ ap length c.deref_mut-2.ensures.value) (t.counts.ok.0 ∙ sym (ap length back ∙ (listed.size ∙ ap length c.deref_mut.ensures.value))) in
     let size' : length c.deref_mut-3.result.now ≡ room (shape_of ring) = ap length (c.deref_mut-3.ensures.value ∙ back') ∙ (read.size ∙ size) in (
-      search (rules, arith),
+      index-fits g.row.KNOTS g.row.SLOTS t.few_knots t.few_slots,
       (t.some_row, (data-lies ring f then goes c.requires.lies_ring, (read.room ∙ (listed.room ∙ (c.requires.room ∙ sym (ap (λ g. g.page) goes.geometry))), (read.none, (size', (omega (arith, size', some-room ring), (omega (arith, read.within.rows, small), read.within))))))),
     )
 
@@ -329,7 +332,7 @@ returns-in_err-read_pages-clause-lies g c =
     let old = g.F.Flash.state c.args.flash.now in
     let first = g.F.Flash.state c.read_listed.new.flash in
     let new = g.F.Flash.state c.read_pages.new.flash in
-    let goes = (goes_more (g.F.Flash.state c.args.flash.now) (g.F.Flash.state c.read_listed.new.flash) (g.F.Flash.state c.read_pages.new.flash) c.in_ok-from.ensures.reads.goes c.in_err-read_pages.ensures.reads.goes) in
+    let goes = (goes-then (g.F.Flash.state c.args.flash.now) (g.F.Flash.state c.read_listed.new.flash) (g.F.Flash.state c.read_pages.new.flash) c.in_ok-from.ensures.reads.goes c.in_err-read_pages.ensures.reads.goes) in
     record {
       geometry = goes.geometry ∙ lies.geometry;
       within = omega (arith, goes.blocks, lies.within);
@@ -348,7 +351,7 @@ returns-in_err-read_newest-clause-lies g c =
     let old = g.F.Flash.state c.args.flash.now in
     let first = g.F.Flash.state c.read_listed.new.flash in
     let new = g.F.Flash.state c.read_newest.new.flash in
-    let goes = (goes_more (g.F.Flash.state c.args.flash.now) (g.F.Flash.state c.read_listed.new.flash) (g.F.Flash.state c.read_newest.new.flash) c.in_ok-from.ensures.reads.goes (goes_more (g.F.Flash.state c.read_listed.new.flash) (g.F.Flash.state c.read_pages.new.flash) (g.F.Flash.state c.read_newest.new.flash) c.in_ok-read_pages.ensures.reads.goes c.in_err-read_newest.ensures.reads.goes)) in
+    let goes = (goes-then (g.F.Flash.state c.args.flash.now) (g.F.Flash.state c.read_listed.new.flash) (g.F.Flash.state c.read_newest.new.flash) c.in_ok-from.ensures.reads.goes (goes-then (g.F.Flash.state c.read_listed.new.flash) (g.F.Flash.state c.read_pages.new.flash) (g.F.Flash.state c.read_newest.new.flash) c.in_ok-read_pages.ensures.reads.goes c.in_err-read_newest.ensures.reads.goes)) in
     record {
       geometry = goes.geometry ∙ lies.geometry;
       within = omega (arith, goes.blocks, lies.within);
@@ -356,7 +359,7 @@ returns-in_err-read_newest-clause-lies g c =
       ring = λ ring is. absurd (none-there t.ring ring c.requires.forgotten.down is);
       bitmaps =
           still-lies c.read_listed.new.bitmaps c.read_pages.new.bitmaps new (plan-then c.read_listed.new.bitmaps c.restart.new.bitmaps c.read_pages.new.bitmaps c.restart.ensures.same c.in_ok-read_pages.ensures.same) (ring-then c.read_listed.new.bitmaps c.restart.new.bitmaps c.read_pages.new.bitmaps c.restart.ensures.still c.in_ok-read_pages.ensures.still)
-          (lies-goes c.read_listed.new.bitmaps first new (goes_more (g.F.Flash.state c.read_listed.new.flash) (g.F.Flash.state c.read_pages.new.flash) (g.F.Flash.state c.read_newest.new.flash) c.in_ok-read_pages.ensures.reads.goes c.in_err-read_newest.ensures.reads.goes) c.in_ok-from.ensures.bitmaps_lie);
+          (lies-goes c.read_listed.new.bitmaps first new (goes-then (g.F.Flash.state c.read_listed.new.flash) (g.F.Flash.state c.read_pages.new.flash) (g.F.Flash.state c.read_newest.new.flash) c.in_ok-read_pages.ensures.reads.goes c.in_err-read_newest.ensures.reads.goes) c.in_ok-from.ensures.bitmaps_lie);
       blobs = blobbing.lies-goes t.blobs old new goes lies.blobs;
     }
 
@@ -367,7 +370,7 @@ returns-clause-lies g c =
     let old = g.F.Flash.state c.args.flash.now in
     let first = g.F.Flash.state c.read_listed.new.flash in
     let new = g.F.Flash.state c.read_newest.new.flash in
-    let goes = (goes_more (g.F.Flash.state c.args.flash.now) (g.F.Flash.state c.read_listed.new.flash) (g.F.Flash.state c.read_newest.new.flash) c.in_ok-from.ensures.reads.goes (goes_more (g.F.Flash.state c.read_listed.new.flash) (g.F.Flash.state c.read_pages.new.flash) (g.F.Flash.state c.read_newest.new.flash) c.in_ok-read_pages.ensures.reads.goes c.in_ok-read_newest.ensures.reads.goes)) in
+    let goes = (goes-then (g.F.Flash.state c.args.flash.now) (g.F.Flash.state c.read_listed.new.flash) (g.F.Flash.state c.read_newest.new.flash) c.in_ok-from.ensures.reads.goes (goes-then (g.F.Flash.state c.read_listed.new.flash) (g.F.Flash.state c.read_pages.new.flash) (g.F.Flash.state c.read_newest.new.flash) c.in_ok-read_pages.ensures.reads.goes c.in_ok-read_newest.ensures.reads.goes)) in
     record {
       geometry = goes.geometry ∙ lies.geometry;
       within = omega (arith, goes.blocks, lies.within);
@@ -375,7 +378,7 @@ returns-clause-lies g c =
       ring = λ ring is. absurd (none-there t.ring ring c.requires.forgotten.down is);
       bitmaps =
           still-lies c.read_listed.new.bitmaps c.read_pages.new.bitmaps new (plan-then c.read_listed.new.bitmaps c.restart.new.bitmaps c.read_pages.new.bitmaps c.restart.ensures.same c.in_ok-read_pages.ensures.same) (ring-then c.read_listed.new.bitmaps c.restart.new.bitmaps c.read_pages.new.bitmaps c.restart.ensures.still c.in_ok-read_pages.ensures.still)
-          (lies-goes c.read_listed.new.bitmaps first new (goes_more (g.F.Flash.state c.read_listed.new.flash) (g.F.Flash.state c.read_pages.new.flash) (g.F.Flash.state c.read_newest.new.flash) c.in_ok-read_pages.ensures.reads.goes c.in_ok-read_newest.ensures.reads.goes) c.in_ok-from.ensures.bitmaps_lie);
+          (lies-goes c.read_listed.new.bitmaps first new (goes-then (g.F.Flash.state c.read_listed.new.flash) (g.F.Flash.state c.read_pages.new.flash) (g.F.Flash.state c.read_newest.new.flash) c.in_ok-read_pages.ensures.reads.goes c.in_ok-read_newest.ensures.reads.goes) c.in_ok-from.ensures.bitmaps_lie);
       blobs = blobbing.lies-goes t.blobs old new goes lies.blobs;
     }
 
@@ -583,3 +586,141 @@ returns-clause-few_reads g c = λ told.
     let before = listed.unlisted told begin.few (error_in t.index) u begin.comes begin.knows in
     let behind = unlisted-behind u c.in_ok-from.from (next_of ring) before.unlisted (omega (arith, is.oldest, listed.end.0)) listed.end.1 (omega (arith, is.oldest, is.pages, listed.end.0, listed.end.1)) in
     omega (arith, first, behind, c.in_ok-read_pages.ensures.reads.reads, c.in_ok-read_newest.ensures.reads.reads, waiting-few c.read_pages.new.known.newest)
+
+pub returns-in_err-from-clause-counted : goal.returns-in_err-from-clause-counted
+returns-in_err-from-clause-counted g c = no-success _ _ c.from_residual.result c.from_residual.ensures.1
+
+pub returns-in_err-from-clause-waits : goal.returns-in_err-from-clause-waits
+returns-in_err-from-clause-waits g c = no-success _ _ c.from_residual.result c.from_residual.ensures.1
+
+pub returns-in_err-from-clause-remembers : goal.returns-in_err-from-clause-remembers
+returns-in_err-from-clause-remembers g c = no-success _ _ c.from_residual.result c.from_residual.ensures.1
+
+pub returns-in_err-from-clause-follow : goal.returns-in_err-from-clause-follow
+returns-in_err-from-clause-follow g c = no-success _ _ c.from_residual.result c.from_residual.ensures.1
+
+pub returns-in_err-from-clause-stands : goal.returns-in_err-from-clause-stands
+returns-in_err-from-clause-stands g c = λ first plan table told stands. no-success _ _ c.from_residual.result c.from_residual.ensures.1
+
+pub returns-in_err-from-clause-rest : goal.returns-in_err-from-clause-rest
+returns-in_err-from-clause-rest g c = record { ring = refl; stopped = refl; writer = refl; bitmap = refl; blob_end = refl; blobs = refl }
+
+pub returns-in_err-from-clause-none : goal.returns-in_err-from-clause-none
+returns-in_err-from-clause-none g c = c.in_err-from.ensures.none
+
+pub returns-in_err-from-clause-only : goal.returns-in_err-from-clause-only
+returns-in_err-from-clause-only g c =
+    let p = err_from_is_err_and c.from_residual.result c.from_residual.ensures.1 in
+    rw (p.1, p.2) c.in_err-from.ensures.only
+
+pub returns-in_err-read_pages-clause-counted : goal.returns-in_err-read_pages-clause-counted
+returns-in_err-read_pages-clause-counted g c = no-success _ _ c.from_residual-in_err-read_pages.result c.from_residual-in_err-read_pages.ensures.1
+
+pub returns-in_err-read_pages-clause-waits : goal.returns-in_err-read_pages-clause-waits
+returns-in_err-read_pages-clause-waits g c = no-success _ _ c.from_residual-in_err-read_pages.result c.from_residual-in_err-read_pages.ensures.1
+
+pub returns-in_err-read_pages-clause-remembers : goal.returns-in_err-read_pages-clause-remembers
+returns-in_err-read_pages-clause-remembers g c = no-success _ _ c.from_residual-in_err-read_pages.result c.from_residual-in_err-read_pages.ensures.1
+
+pub returns-in_err-read_pages-clause-follow : goal.returns-in_err-read_pages-clause-follow
+returns-in_err-read_pages-clause-follow g c = no-success _ _ c.from_residual-in_err-read_pages.result c.from_residual-in_err-read_pages.ensures.1
+
+pub returns-in_err-read_pages-clause-stands : goal.returns-in_err-read_pages-clause-stands
+returns-in_err-read_pages-clause-stands g c = λ first plan table told stands. no-success _ _ c.from_residual-in_err-read_pages.result c.from_residual-in_err-read_pages.ensures.1
+
+pub returns-in_err-read_pages-clause-rest : goal.returns-in_err-read_pages-clause-rest
+returns-in_err-read_pages-clause-rest g c = record { ring = refl; stopped = refl; writer = refl; bitmap = refl; blob_end = refl; blobs = refl }
+
+pub returns-in_err-read_pages-clause-none : goal.returns-in_err-read_pages-clause-none
+returns-in_err-read_pages-clause-none g c = c.in_err-read_pages.ensures.none
+
+pub returns-in_err-read_pages-clause-only : goal.returns-in_err-read_pages-clause-only
+returns-in_err-read_pages-clause-only g c =
+    let p = err_from_is_err_and c.from_residual-in_err-read_pages.result c.from_residual-in_err-read_pages.ensures.1 in
+    rw (p.1, p.2) c.in_err-read_pages.ensures.only
+
+pub returns-in_err-read_newest-clause-counted : goal.returns-in_err-read_newest-clause-counted
+returns-in_err-read_newest-clause-counted g c = no-success _ _ c.from_residual-in_err-read_newest.result c.from_residual-in_err-read_newest.ensures.1
+
+pub returns-in_err-read_newest-clause-waits : goal.returns-in_err-read_newest-clause-waits
+returns-in_err-read_newest-clause-waits g c = no-success _ _ c.from_residual-in_err-read_newest.result c.from_residual-in_err-read_newest.ensures.1
+
+pub returns-in_err-read_newest-clause-remembers : goal.returns-in_err-read_newest-clause-remembers
+returns-in_err-read_newest-clause-remembers g c = no-success _ _ c.from_residual-in_err-read_newest.result c.from_residual-in_err-read_newest.ensures.1
+
+pub returns-in_err-read_newest-clause-follow : goal.returns-in_err-read_newest-clause-follow
+returns-in_err-read_newest-clause-follow g c = no-success _ _ c.from_residual-in_err-read_newest.result c.from_residual-in_err-read_newest.ensures.1
+
+pub returns-in_err-read_newest-clause-stands : goal.returns-in_err-read_newest-clause-stands
+returns-in_err-read_newest-clause-stands g c = λ first plan table told stands. no-success _ _ c.from_residual-in_err-read_newest.result c.from_residual-in_err-read_newest.ensures.1
+
+pub returns-in_err-read_newest-clause-rest : goal.returns-in_err-read_newest-clause-rest
+returns-in_err-read_newest-clause-rest g c = record { ring = refl; stopped = refl; writer = refl; bitmap = refl; blob_end = refl; blobs = refl }
+
+pub returns-in_err-read_newest-clause-none : goal.returns-in_err-read_newest-clause-none
+returns-in_err-read_newest-clause-none g c = c.in_err-read_newest.ensures.none
+
+pub returns-in_err-read_newest-clause-only : goal.returns-in_err-read_newest-clause-only
+returns-in_err-read_newest-clause-only g c =
+    let p = err_from_is_err_and c.from_residual-in_err-read_newest.result c.from_residual-in_err-read_newest.ensures.1 in
+    rw (p.1, p.2) c.in_err-read_newest.ensures.only
+
+pub returns-in_err-from-clause-room : goal.returns-in_err-from-clause-room
+returns-in_err-from-clause-room g c = c.in_err-from.ensures.room
+
+pub returns-in_err-from-clause-still : goal.returns-in_err-from-clause-still
+returns-in_err-from-clause-still g c = c.in_err-from.ensures.still
+
+pub returns-in_err-from-clause-running : goal.returns-in_err-from-clause-running
+returns-in_err-from-clause-running g c = c.in_err-from.ensures.running
+
+pub returns-in_err-from-clause-reads : goal.returns-in_err-from-clause-reads
+returns-in_err-from-clause-reads g c = c.in_err-from.ensures.reads
+
+pub returns-in_err-from-clause-fails : goal.returns-in_err-from-clause-fails
+returns-in_err-from-clause-fails g c =
+    let p = err_from_is_err_and c.from_residual.result c.from_residual.ensures.1 in
+    rw (p.1, p.2) c.in_err-from.ensures.fails
+
+pub returns-in_err-read_pages-clause-room : goal.returns-in_err-read_pages-clause-room
+returns-in_err-read_pages-clause-room g c = c.in_err-read_pages.ensures.room ∙ c.in_ok-from.ensures.room
+
+pub returns-in_err-read_newest-clause-room : goal.returns-in_err-read_newest-clause-room
+returns-in_err-read_newest-clause-room g c = c.in_err-read_newest.ensures.room ∙ (c.in_ok-read_pages.ensures.room ∙ c.in_ok-from.ensures.room)
+
+pub returns-clause-counted : goal.returns-clause-counted
+returns-clause-counted g c = c.in_ok-read_newest.ensures.counted
+
+pub returns-clause-rest : goal.returns-clause-rest
+returns-clause-rest g c = record { ring = refl; stopped = refl; writer = refl; bitmap = refl; blob_end = refl; blobs = refl }
+
+pub returns-clause-none : goal.returns-clause-none
+returns-clause-none g c = c.in_ok-read_newest.ensures.none
+
+pub returns-clause-room : goal.returns-clause-room
+returns-clause-room g c = c.in_ok-read_newest.ensures.room ∙ (c.in_ok-read_pages.ensures.room ∙ c.in_ok-from.ensures.room)
+
+pub returns-clause-fails : goal.returns-clause-fails
+returns-clause-fails g c = tt
+
+pub returns-clause-only : goal.returns-clause-only
+returns-clause-only g c = tt
+
+-- a page of 64 bytes has room for a header
+page-least : (n : ℕ) → 64 ≤ n → 24 ≤ n
+page-least n le = omega (arith, le)
+
+pub overflow_sub-limit : goal.overflow_sub-limit
+overflow_sub-limit g c = page-least c.args.self.now.geometry.page c.args.self.now.served.page_least
+
+pub first_to_wait-first-requires-clause-end : goal.first_to_wait-first-requires-clause-end
+first_to_wait-first-requires-clause-end g c = subst (λ (n : ℕ). c.args.end ≤ n) (sym c.next_number.ensures) c.requires.end
+
+pub first_to_wait-first-requires-clause-oldest : goal.first_to_wait-first-requires-clause-oldest
+first_to_wait-first-requires-clause-oldest g c = subst (λ (n : ℕ). c.in_ok-from.from ≤ n) (sym c.next_number.ensures) c.in_ok-from.ensures.end.1
+
+pub restart-requires : goal.restart-requires
+restart-requires g c = record { idle = c.in_ok-from.ensures.idle }
+
+pub row_len-requires : goal.row_len-requires
+row_len-requires g c = schema-fits

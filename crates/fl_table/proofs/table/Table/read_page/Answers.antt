@@ -1,15 +1,22 @@
-use Rattle.std.proofs.Common.{rules, ℕ, List, subst, ◌≡◌, ◌≤◌, true, false, Some, Ok, Err, sym, ◌∙◌, ap, arith}
-use Rattle.fl_flash.specs.Flash.{page_at}
+use Rattle.std.proofs.Common.{rules, refl, Bool, ℕ, ◌<◌, Option, option_map, unwrap_or, List, subst, ◌≡◌, ◌≤◌, true, false, None, Some, Ok, Err, sym, ◌∙◌, ap, arith, length, Result}
+use Rattle.fl_flash.specs.Flash.{page_at, FlashState, OffChangesNothing}
+use Rattle.fl_flash.specs.declared.flash.FlashFault.{FlashFault}
 use Rattle.fl_model.specs.Ring as rings
 use Rattle.fl_page.specs.declared.fault.ReadFault.TheVariants.{BadPage}
 use Rattle.fl_page.specs.Page.{IsGoodPage, bad_page}
-use Rattle.fl_page.proofs.ReadsInTurn.{OnlyReads-read, IsCaused-read}
+use Rattle.fl_frame.proofs.ContentsInTurn.{OnlyReads-read}
+use Rattle.fl_page.proofs.ReadsInTurn.{IsCaused-read}
+use Rattle.fl_ring.specs.Place.{next_of}
+use Rattle.fl_ring.specs.declared.ring.Ring.{Ring}
 use Rattle.fl_ring.proofs.Exists.{lies_exists}
 use Rattle.fl_table.specs.Kept.{place_of, IsFound}
 use Rattle.fl_table.specs.Look.{layout_in}
 use Rattle.fl_table.proofs.KeptRead.{ring-place, shows-rows}
 use Rattle.fl_table.proofs.MemoryTells.{oldest-is}
 use Rattle.fl_table.proofs.ReadsKeepTable.{read-once}
+use Rattle.fl_table.proofs.Sizes.{schema-fits, view-fits}
+use Rattle.fl_base.specs.declared.types.Geometry.{Geometry}
+use Rattle.fl_flash.specs.declared.flash.Work.{Work}
 use Rattle.fl_table.proofs.table.Table.read_page.Goals as goal
 
 pub read-requires-clause-exists : goal.read-requires-clause-exists
@@ -85,3 +92,83 @@ returns-in-Err-of-clause-holds g c = c.in_default-read.ensures.holds ∙ ap Some
 
 pub returns-in-Err-clause-holds : goal.returns-in-Err-clause-holds
 returns-in-Err-clause-holds g c = c.in-Err.ensures.none
+
+pub returns-in_default-state_of-clause-room : goal.returns-in_default-state_of-clause-room
+returns-in_default-state_of-clause-room g c = c.read.ensures.size_stays
+
+pub returns-in-Ok-clause-room : goal.returns-in-Ok-clause-room
+returns-in-Ok-clause-room g c = c.read.ensures.size_stays
+
+pub returns-in-Err-of-clause-one : goal.returns-in-Err-of-clause-one
+returns-in-Err-of-clause-one g c = tt
+
+pub returns-in-Err-of-clause-room : goal.returns-in-Err-of-clause-room
+returns-in-Err-of-clause-room g c = c.read.ensures.size_stays
+
+pub unreachable-unreachable : goal.unreachable-unreachable
+unreachable-unreachable g c = c.unreachable.type_inv
+
+pub read-requires-clause-room : goal.read-requires-clause-room
+read-requires-clause-room g c = c.requires.room
+
+pub returns-in-Err-clause-room : goal.returns-in-Err-clause-room
+returns-in-Err-clause-room g c = c.read.ensures.size_stays
+
+-- a table without a ring keeps no page
+none-kept : (number : ℕ) (o : Option Ring) → o ≡ None → number < unwrap_or (option_map (λ ring. next_of ring) o) 0 → ⊥
+none-kept number o e lt = no (subst (λ (o : Option Ring). number < unwrap_or (option_map (λ ring. next_of ring) o) 0) e lt)
+  where
+    no : number < 0 → ⊥
+    no lt = omega (arith, lt)
+
+pub unreachable-requires : goal.unreachable-requires
+unreachable-requires g c = none-kept c.args.number c.args.self.now.ring c.in_default.is c.requires.kept.1
+
+-- a read that succeeds has the power on
+is-on : (done : Unit {0}) (old new : FlashState) → OffChangesNothing old (Ok done) new → old.is_on ≡ true
+is-on done old new off = by_power old.is_on refl
+  where
+    no : (fault : FlashFault) → ◌≡◌ {A = Result (Unit {0}) FlashFault} (Ok done) (Err fault) → ⊥
+    no fault e = cc
+
+    by_power : (on : Bool) → old.is_on ≡ on → old.is_on ≡ true
+    by_power true e = e
+    by_power false e = absurd (no _ (off e).0)
+
+-- a page of 64 bytes or more has its marks and its header
+long-marks : (len page : ℕ) → len ≡ page → 64 ≤ page → 8 ≤ len
+long-marks len page e least = omega (arith, e, least)
+
+long-header : (len page : ℕ) → len ≡ page → 64 ≤ page → 24 ≤ len
+long-header len page e least = omega (arith, e, least)
+
+pub returns-in_default-state_of-clause-one : goal.returns-in_default-state_of-clause-one
+returns-in_default-state_of-clause-one g c = ap (λ (w : Work). w.reads) (c.in_default-read.ensures.counted (is-on c.in_default-read.field-0 (g.F.Flash.state c.args.flash.now) (g.F.Flash.state c.read.new.self) c.in_default-read.ensures.off))
+
+pub returns-in_default-state_of-clause-power : goal.returns-in_default-state_of-clause-power
+returns-in_default-state_of-clause-power g c = c.in_default-read.ensures.power ∙ is-on c.in_default-read.field-0 (g.F.Flash.state c.args.flash.now) (g.F.Flash.state c.read.new.self) c.in_default-read.ensures.off
+
+pub returns-in-Ok-clause-one : goal.returns-in-Ok-clause-one
+returns-in-Ok-clause-one g c = ap (λ (w : Work). w.reads) (c.in_default-read.ensures.counted (is-on c.in_default-read.field-0 (g.F.Flash.state c.args.flash.now) (g.F.Flash.state c.read.new.self) c.in_default-read.ensures.off))
+
+pub returns-in-Ok-clause-power : goal.returns-in-Ok-clause-power
+returns-in-Ok-clause-power g c = c.in_default-read.ensures.power ∙ is-on c.in_default-read.field-0 (g.F.Flash.state c.args.flash.now) (g.F.Flash.state c.read.new.self) c.in_default-read.ensures.off
+
+pub returns-in_default-state_of-clause-page : goal.returns-in_default-state_of-clause-page
+returns-in_default-state_of-clause-page g c = λ told. c.in_default-read.ensures.bytes told ∙ ap (page_at (g.F.Flash.state c.args.flash.now)) (sym (ring-place c.args.self.now c.in-Some.ring c.args.number c.in-Some.is ∙ sym c.place_of.ensures.place))
+
+pub returns-in-Ok-clause-page : goal.returns-in-Ok-clause-page
+returns-in-Ok-clause-page g c = λ told. c.in_default-read.ensures.bytes told ∙ ap (page_at (g.F.Flash.state c.args.flash.now)) (sym (ring-place c.args.self.now c.in-Some.ring c.args.number c.in-Some.is ∙ sym c.place_of.ensures.place))
+
+pub returns-in-Err-of-clause-page : goal.returns-in-Err-of-clause-page
+returns-in-Err-of-clause-page g c = λ told. c.in_default-read.ensures.bytes told ∙ ap (page_at (g.F.Flash.state c.args.flash.now)) (sym (ring-place c.args.self.now c.in-Some.ring c.args.number c.in-Some.is ∙ sym c.place_of.ensures.place))
+
+pub state_of-requires : goal.state_of-requires
+state_of-requires g c =
+    let least = subst (λ (x : Geometry). 64 ≤ x.page) (sym c.requires.lies.geometry) c.args.self.now.served.page_least in
+    long-marks _ _ (ap (λ (xs : List ℕ). length xs) c.bytes.ensures ∙ (c.read.ensures.size_stays ∙ c.requires.room)) least
+
+pub of-requires : goal.of-requires
+of-requires g c =
+    let least = subst (λ (x : Geometry). 64 ≤ x.page) (sym c.requires.lies.geometry) c.args.self.now.served.page_least in
+    (schema-fits, (view-fits, long-header _ _ (ap (λ (xs : List ℕ). length xs) c.bytes-2.ensures ∙ (c.read.ensures.size_stays ∙ c.requires.room)) least))

@@ -1,6 +1,7 @@
-use Rattle.std.proofs.Common.{rules, ◌≡◌, ◌+◌, ◌*◌, ◌-◌, ◌≤◌, ℕ, List, [], Ok, Err, length, arith, refl, sym, ◌∙◌, ap, subst, IsTrue}
+use Rattle.std.proofs.Common.{◌≡◌, ◌+◌, ◌-◌, ◌≤◌, ℕ, [], Ok, Err, arith, refl, sym, ◌∙◌, ap, subst, IsTrue, Result}
 use Rattle.std.proofs.lemmas.Result.{err_from_is_err_and}
-use Rattle.fl_flash.specs.Flash.{page_at}
+use Rattle.fl_flash.specs.Flash.{page_at, FlashState}
+use Rattle.fl_frame.proofs.CallsInTurn.{goes-then}
 use Rattle.fl_model.specs.MountLimit.{repaired}
 use Rattle.fl_model.specs.Table.{DataRing}
 use Rattle.fl_page.specs.Writer.{Gathers}
@@ -9,8 +10,7 @@ use Rattle.fl_ring.specs.Place.{next_of, oldest_of}
 use Rattle.fl_ring.specs.Ring.{Shape, OutsideStands}
 use Rattle.fl_table.specs.Coming.{index_pages_of}
 use Rattle.fl_find.specs.Index.{error_in}
-use Rattle.fl_table.proofs.SealsInTurn.{watched-front}
-use Rattle.fl_table.proofs.IndexOfTable.{found-same, none-is, none-there}
+use Rattle.fl_table.proofs.IndexOfTable.{found-same}
 use Rattle.fl_table.proofs.MountCalls.{same-shape, outside-stands, index-still, refuses-ring, refuses-end, refuses-page, finds-data, finds-firsts, same-waits, ring-cause, pages-cause}
 use Rattle.fl_table.proofs.MountEnded.{mounting-of, ring-fails, ring-ends, ring-mounts, ends-within}
 use Rattle.fl_table.proofs.MountKept.{kept-fails, kept-limit, kept-well, ring-limit}
@@ -18,7 +18,12 @@ use Rattle.fl_table.proofs.MountLimits.{rows-within}
 use Rattle.fl_table.proofs.MountReads.{few-first, few-all, kept-room}
 use Rattle.fl_table.proofs.SealAnswers.{plan-self, planned-ring, lies-size}
 use Rattle.fl_table.proofs.ReadsKeepTable.{lies-moved}
-use Rattle.fl_ring.proofs.ReadsInTurn.{goes_more}
+use Rattle.fl_frame.specs.Reads.{OnlyReads}
+use Rattle.fl_ring.specs.declared.fault.RingFault.{RingFault}
+use Rattle.fl_ring.specs.declared.ring.Ring.{Ring}
+use Rattle.fl_table.specs.Mounting.{FewRepairs}
+use Rattle.fl_table.proofs.Sizes.{table-fits}
+use Rattle.fl_table.proofs.Untouched.{no-success}
 use Rattle.fl_table.proofs.table.Table.read_rows.Goals as goal
 
 -- the ring was refused
@@ -105,7 +110,7 @@ read_kept-requires g c =
     let old = g.F.Flash.state c.args.flash.now in
     let mid = g.F.Flash.state c.mount.new.flash in
     let ensures = c.in_ok-ring.ensures in (
-      search rules,
+      table-fits g.row.KNOTS g.row.SLOTS t.few_knots t.few_slots,
       (
         c.requires.forgotten,
         (
@@ -175,7 +180,7 @@ returns-in_err-known-clause-cause g c =
 
 pub returns-in_err-known-clause-goes : goal.returns-in_err-known-clause-goes
 returns-in_err-known-clause-goes g c =
-    goes_more (g.F.Flash.state c.args.flash.now) (g.F.Flash.state c.mount.new.flash) (g.F.Flash.state c.read_kept.new.flash) c.in_ok-ring.ensures.beside.goes c.in_err-known.ensures.reads.goes
+    goes-then (g.F.Flash.state c.args.flash.now) (g.F.Flash.state c.mount.new.flash) (g.F.Flash.state c.read_kept.new.flash) c.in_ok-ring.ensures.beside.goes c.in_err-known.ensures.reads.goes
 
 -- all were read
 pub returns-clause-ends : goal.returns-clause-ends
@@ -248,7 +253,7 @@ returns-clause-reads g c = λ told.
 
 pub returns-clause-goes : goal.returns-clause-goes
 returns-clause-goes g c =
-    goes_more (g.F.Flash.state c.args.flash.now) (g.F.Flash.state c.mount.new.flash) (g.F.Flash.state c.read_kept.new.flash) c.in_ok-ring.ensures.beside.goes c.in_ok-known.ensures.reads.goes
+    goes-then (g.F.Flash.state c.args.flash.now) (g.F.Flash.state c.mount.new.flash) (g.F.Flash.state c.read_kept.new.flash) c.in_ok-ring.ensures.beside.goes c.in_ok-known.ensures.reads.goes
 
 pub returns-in_err-ring-clause-limit : goal.returns-in_err-ring-clause-limit
 returns-in_err-ring-clause-limit g c = λ first plan table rose device watched planned rests stands end full.
@@ -289,3 +294,295 @@ returns-clause-limit g c = λ first plan table rose device watched planned rests
     kept-limit t first plan table rose device old mid new c.in_ok-ring.ring _ c.args.end watched planned rests stands end c.requires.lies
     (g.met.F.Flash.reaches c.args.flash.now) (g.met.F.Flash.reaches c.mount.new.flash) (g.met.F.Flash.reaches c.read_kept.new.flash) ensures.beside.goes (ensures.beside.outside watched.told) ensures.shape ensures.ends kept.reads
     full (ring-limit t first plan table old mid planned rests c.requires.lies (g.met.F.Flash.reaches c.args.flash.now) (λ s on. ensures.reads s watched.told on)) (kept.few_reads told)
+
+not-ok : (ring : Ring) (e : RingFault) → ◌≡◌ {A = Result Ring RingFault} (Ok ring) (Err e) → ⊥
+not-ok ring e is = cc
+
+-- reads repair nothing
+repairs-then : (n : ℕ) (old mid new : FlashState) → mid.work.programs ≤ old.work.programs + 1 → mid.work.erases ≤ old.work.erases + 1 → OnlyReads mid n new → FewRepairs 1 old new
+repairs-then n old mid new programs erases reads = record { programs = omega (arith, programs, reads.programs); erases = omega (arith, erases, reads.erases) }
+
+pub returns-in_err-ring-clause-goes : goal.returns-in_err-ring-clause-goes
+returns-in_err-ring-clause-goes g c = c.in_err-ring.ensures.beside.goes
+
+pub returns-in_err-ring-clause-same : goal.returns-in_err-ring-clause-same
+returns-in_err-ring-clause-same g c = plan-self c.args.self.now
+
+pub returns-in_err-ring-clause-blobs : goal.returns-in_err-ring-clause-blobs
+returns-in_err-ring-clause-blobs g c = refl
+
+pub returns-in_err-ring-clause-lies : goal.returns-in_err-ring-clause-lies
+returns-in_err-ring-clause-lies g c = lies-moved c.args.self.now (g.F.Flash.state c.args.flash.now) (g.F.Flash.state c.mount.new.flash) c.in_err-ring.ensures.beside.goes c.requires.lies
+
+pub returns-in_err-ring-clause-room : goal.returns-in_err-ring-clause-room
+returns-in_err-ring-clause-room g c = c.in_err-ring.ensures.room
+
+pub returns-in_err-ring-clause-holds : goal.returns-in_err-ring-clause-holds
+returns-in_err-ring-clause-holds g c = c.in_err-ring.ensures.holds
+
+pub returns-in_err-ring-clause-none : goal.returns-in_err-ring-clause-none
+returns-in_err-ring-clause-none g c = c.requires.forgotten.none
+
+pub returns-in_err-ring-clause-down : goal.returns-in_err-ring-clause-down
+returns-in_err-ring-clause-down g c = c.requires.forgotten.down
+
+pub returns-in_err-ring-clause-calm : goal.returns-in_err-ring-clause-calm
+returns-in_err-ring-clause-calm g c = c.requires.forgotten.calm
+
+pub returns-in_err-ring-clause-running : goal.returns-in_err-ring-clause-running
+returns-in_err-ring-clause-running g c = c.requires.running
+
+pub returns-in_err-ring-clause-outside : goal.returns-in_err-ring-clause-outside
+returns-in_err-ring-clause-outside g c = λ told.
+    let t = c.args.self.now in
+    let old = g.F.Flash.state c.args.flash.now in
+    let mid = g.F.Flash.state c.mount.new.flash in
+    subst (λ (r : Shape). OutsideStands r (page_at old) (page_at mid)) (same-shape t t old (plan-self t) c.requires.lies.geometry) (c.in_err-ring.ensures.beside.outside told)
+
+pub returns-in_err-ring-clause-repairs : goal.returns-in_err-ring-clause-repairs
+returns-in_err-ring-clause-repairs g c = record { programs = c.in_err-ring.ensures.beside.few_programs; erases = c.in_err-ring.ensures.beside.few_erases }
+
+pub returns-in_err-ring-clause-shape : goal.returns-in_err-ring-clause-shape
+returns-in_err-ring-clause-shape g c = no-success _ _ c.from_residual.result c.from_residual.ensures.1
+
+pub returns-in_err-ring-clause-follow : goal.returns-in_err-ring-clause-follow
+returns-in_err-ring-clause-follow g c = no-success _ _ c.from_residual.result c.from_residual.ensures.1
+
+pub returns-in_err-ring-clause-lies_ring : goal.returns-in_err-ring-clause-lies_ring
+returns-in_err-ring-clause-lies_ring g c = no-success _ _ c.from_residual.result c.from_residual.ensures.1
+
+pub returns-in_err-ring-clause-found : goal.returns-in_err-ring-clause-found
+returns-in_err-ring-clause-found g c = no-success _ _ c.from_residual.result c.from_residual.ensures.1
+
+pub returns-in_err-ring-clause-waits : goal.returns-in_err-ring-clause-waits
+returns-in_err-ring-clause-waits g c = no-success _ _ c.from_residual.result c.from_residual.ensures.1
+
+pub returns-in_err-ring-clause-remembers : goal.returns-in_err-ring-clause-remembers
+returns-in_err-ring-clause-remembers g c = no-success _ _ c.from_residual.result c.from_residual.ensures.1
+
+pub returns-in_err-ring-clause-power : goal.returns-in_err-ring-clause-power
+returns-in_err-ring-clause-power g c = no-success _ _ c.from_residual.result c.from_residual.ensures.1
+
+pub returns-then-end-next-clause-goes : goal.returns-then-end-next-clause-goes
+returns-then-end-next-clause-goes g c = c.in_ok-ring.ensures.beside.goes
+
+pub returns-then-end-next-clause-blobs : goal.returns-then-end-next-clause-blobs
+returns-then-end-next-clause-blobs g c = refl
+
+pub returns-then-end-next-clause-room : goal.returns-then-end-next-clause-room
+returns-then-end-next-clause-room g c = c.in_ok-ring.ensures.room
+
+pub returns-then-end-next-clause-holds : goal.returns-then-end-next-clause-holds
+returns-then-end-next-clause-holds g c = c.in_ok-ring.ensures.holds
+
+pub returns-then-end-next-clause-none : goal.returns-then-end-next-clause-none
+returns-then-end-next-clause-none g c = c.requires.forgotten.none
+
+pub returns-then-end-next-clause-down : goal.returns-then-end-next-clause-down
+returns-then-end-next-clause-down g c = c.requires.forgotten.down
+
+pub returns-then-end-next-clause-calm : goal.returns-then-end-next-clause-calm
+returns-then-end-next-clause-calm g c = c.requires.forgotten.calm
+
+pub returns-then-end-next-clause-running : goal.returns-then-end-next-clause-running
+returns-then-end-next-clause-running g c = c.requires.running
+
+pub returns-then-end-next-clause-repairs : goal.returns-then-end-next-clause-repairs
+returns-then-end-next-clause-repairs g c = record { programs = c.in_ok-ring.ensures.beside.few_programs; erases = c.in_ok-ring.ensures.beside.few_erases }
+
+pub returns-then-end-next-clause-shape : goal.returns-then-end-next-clause-shape
+returns-then-end-next-clause-shape g c = tt
+
+pub returns-then-end-next-clause-follow : goal.returns-then-end-next-clause-follow
+returns-then-end-next-clause-follow g c = tt
+
+pub returns-then-end-next-clause-lies_ring : goal.returns-then-end-next-clause-lies_ring
+returns-then-end-next-clause-lies_ring g c = tt
+
+pub returns-then-end-next-clause-found : goal.returns-then-end-next-clause-found
+returns-then-end-next-clause-found g c = tt
+
+pub returns-then-end-next-clause-waits : goal.returns-then-end-next-clause-waits
+returns-then-end-next-clause-waits g c = tt
+
+pub returns-then-end-next-clause-remembers : goal.returns-then-end-next-clause-remembers
+returns-then-end-next-clause-remembers g c = tt
+
+pub returns-then-end-next-clause-power : goal.returns-then-end-next-clause-power
+returns-then-end-next-clause-power g c = tt
+
+pub returns-then-end-next-clause-cause : goal.returns-then-end-next-clause-cause
+returns-then-end-next-clause-cause g c = tt
+
+pub returns-then-end-next-clause-off : goal.returns-then-end-next-clause-off
+returns-then-end-next-clause-off g c = λ down. absurd (not-ok _ _ (c.in_ok-ring.ensures.off down).0)
+
+pub returns-in_err-known-clause-same : goal.returns-in_err-known-clause-same
+returns-in_err-known-clause-same g c = c.in_err-known.ensures.same
+
+pub returns-in_err-known-clause-still : goal.returns-in_err-known-clause-still
+returns-in_err-known-clause-still g c = c.in_err-known.ensures.still
+
+pub returns-in_err-known-clause-blobs : goal.returns-in_err-known-clause-blobs
+returns-in_err-known-clause-blobs g c = c.in_err-known.ensures.rest.blobs
+
+pub returns-in_err-known-clause-lies : goal.returns-in_err-known-clause-lies
+returns-in_err-known-clause-lies g c = c.in_err-known.ensures.lies
+
+pub returns-in_err-known-clause-room : goal.returns-in_err-known-clause-room
+returns-in_err-known-clause-room g c = c.in_err-known.ensures.room ∙ c.in_ok-ring.ensures.room
+
+pub returns-in_err-known-clause-holds : goal.returns-in_err-known-clause-holds
+returns-in_err-known-clause-holds g c = c.in_err-known.ensures.none
+
+pub returns-in_err-known-clause-none : goal.returns-in_err-known-clause-none
+returns-in_err-known-clause-none g c = ap (λ w. w.count) c.in_err-known.ensures.rest.writer ∙ c.requires.forgotten.none
+
+pub returns-in_err-known-clause-down : goal.returns-in_err-known-clause-down
+returns-in_err-known-clause-down g c = c.in_err-known.ensures.rest.ring ∙ c.requires.forgotten.down
+
+pub returns-in_err-known-clause-calm : goal.returns-in_err-known-clause-calm
+returns-in_err-known-clause-calm g c = c.in_err-known.ensures.rest.stopped ∙ c.requires.forgotten.calm
+
+pub returns-in_err-known-clause-running : goal.returns-in_err-known-clause-running
+returns-in_err-known-clause-running g c = c.in_err-known.ensures.running
+
+pub returns-in_err-known-clause-repairs : goal.returns-in_err-known-clause-repairs
+returns-in_err-known-clause-repairs g c = repairs-then _ _ _ _ c.in_ok-ring.ensures.beside.few_programs c.in_ok-ring.ensures.beside.few_erases c.in_err-known.ensures.reads
+
+pub returns-in_err-known-clause-off : goal.returns-in_err-known-clause-off
+returns-in_err-known-clause-off g c = λ down. absurd (not-ok _ _ (c.in_ok-ring.ensures.off down).0)
+
+pub returns-in_err-known-clause-shape : goal.returns-in_err-known-clause-shape
+returns-in_err-known-clause-shape g c = no-success _ _ c.from_residual-in_err-known.result c.from_residual-in_err-known.ensures.1
+
+pub returns-in_err-known-clause-follow : goal.returns-in_err-known-clause-follow
+returns-in_err-known-clause-follow g c = no-success _ _ c.from_residual-in_err-known.result c.from_residual-in_err-known.ensures.1
+
+pub returns-in_err-known-clause-lies_ring : goal.returns-in_err-known-clause-lies_ring
+returns-in_err-known-clause-lies_ring g c = no-success _ _ c.from_residual-in_err-known.result c.from_residual-in_err-known.ensures.1
+
+pub returns-in_err-known-clause-found : goal.returns-in_err-known-clause-found
+returns-in_err-known-clause-found g c = no-success _ _ c.from_residual-in_err-known.result c.from_residual-in_err-known.ensures.1
+
+pub returns-in_err-known-clause-waits : goal.returns-in_err-known-clause-waits
+returns-in_err-known-clause-waits g c = no-success _ _ c.from_residual-in_err-known.result c.from_residual-in_err-known.ensures.1
+
+pub returns-in_err-known-clause-remembers : goal.returns-in_err-known-clause-remembers
+returns-in_err-known-clause-remembers g c = no-success _ _ c.from_residual-in_err-known.result c.from_residual-in_err-known.ensures.1
+
+pub returns-in_err-known-clause-power : goal.returns-in_err-known-clause-power
+returns-in_err-known-clause-power g c = no-success _ _ c.from_residual-in_err-known.result c.from_residual-in_err-known.ensures.1
+
+pub returns-clause-same : goal.returns-clause-same
+returns-clause-same g c =
+    let same = c.in_ok-known.ensures.same in
+    record {
+      geometry = same.geometry;
+      layout = same.layout;
+      place = same.place;
+      buckets = same.buckets;
+      error = same.error;
+      bitmaps = same.bitmaps;
+      blobs = same.blobs;
+      limit = same.limit;
+    }
+
+pub returns-clause-still : goal.returns-clause-still
+returns-clause-still g c = c.in_ok-known.ensures.still
+
+pub returns-clause-blobs : goal.returns-clause-blobs
+returns-clause-blobs g c = c.in_ok-known.ensures.rest.blobs
+
+pub returns-clause-lies : goal.returns-clause-lies
+returns-clause-lies g c =
+    let lies = c.in_ok-known.ensures.lies in
+    record {
+      geometry = lies.geometry;
+      within = lies.within;
+      few = lies.few;
+      ring = lies.ring;
+      bitmaps = lies.bitmaps;
+      blobs = lies.blobs;
+    }
+
+pub returns-clause-room : goal.returns-clause-room
+returns-clause-room g c = c.in_ok-known.ensures.room ∙ c.in_ok-ring.ensures.room
+
+pub returns-clause-holds : goal.returns-clause-holds
+returns-clause-holds g c = c.in_ok-known.ensures.none
+
+pub returns-clause-none : goal.returns-clause-none
+returns-clause-none g c = ap (λ w. w.count) c.in_ok-known.ensures.rest.writer ∙ c.requires.forgotten.none
+
+pub returns-clause-down : goal.returns-clause-down
+returns-clause-down g c = c.in_ok-known.ensures.rest.ring ∙ c.requires.forgotten.down
+
+pub returns-clause-calm : goal.returns-clause-calm
+returns-clause-calm g c = c.in_ok-known.ensures.rest.stopped ∙ c.requires.forgotten.calm
+
+pub returns-clause-running : goal.returns-clause-running
+returns-clause-running g c = c.in_ok-known.ensures.running
+
+pub returns-clause-repairs : goal.returns-clause-repairs
+returns-clause-repairs g c = repairs-then _ _ _ _ c.in_ok-ring.ensures.beside.few_programs c.in_ok-ring.ensures.beside.few_erases c.in_ok-known.ensures.reads
+
+pub returns-clause-off : goal.returns-clause-off
+returns-clause-off g c = λ down. absurd (not-ok _ _ (c.in_ok-ring.ensures.off down).0)
+
+pub returns-clause-shape : goal.returns-clause-shape
+returns-clause-shape g c = c.in_ok-ring.ensures.shape ∙ same-shape c.args.self.now c.args.self.now (g.F.Flash.state c.args.flash.now) (plan-self c.args.self.now) c.requires.lies.geometry
+
+pub returns-clause-follow : goal.returns-clause-follow
+returns-clause-follow g c = c.in_ok-known.ensures.follow
+
+pub returns-clause-refused : goal.returns-clause-refused
+returns-clause-refused g c = tt
+
+pub returns-clause-cause : goal.returns-clause-cause
+returns-clause-cause g c = tt
+
+pub mount-requires-clause-blocks : goal.mount-requires-clause-blocks
+mount-requires-clause-blocks g c = c.args.self.now.some_blocks
+
+pub mount-requires-clause-lies : goal.mount-requires-clause-lies
+mount-requires-clause-lies g c = c.requires.lies.within
+
+pub mount-requires-clause-few : goal.mount-requires-clause-few
+mount-requires-clause-few g c = c.requires.lies.few
+
+pub mount-requires-clause-room : goal.mount-requires-clause-room
+mount-requires-clause-room g c = c.requires.room
+
+pub invariant_of-self : goal.invariant_of-self
+invariant_of-self g c =
+    let t = c.read_kept.new.self in
+    record {
+      few_knots = t.few_knots;
+      few_slots = t.few_slots;
+      served = t.served;
+      some_blocks = t.some_blocks;
+      few_blocks = t.few_blocks;
+      some_columns = t.some_columns;
+      few_columns = t.few_columns;
+      some_row = t.some_row;
+      room_for_row = t.room_for_row;
+      has_blobs = t.has_blobs;
+      blobs_fit = t.blobs_fit;
+      page = t.page;
+      rows_end = t.rows_end;
+      rows_room = t.rows_room;
+      blank_rest = t.blank_rest;
+      counted = t.counted;
+      lies = t.lies;
+      left = t.left;
+      few_pages = t.few_pages;
+      running = t.running;
+      follow = t.follow;
+      pages_left = t.pages_left;
+      blobs_running = t.blobs_running;
+      blobs_left = t.blobs_left;
+    }
+
+pub returns-clause-power : goal.returns-clause-power
+returns-clause-power g c = λ on. c.in_ok-known.ensures.reads.power ∙ c.in_ok-ring.ensures.power

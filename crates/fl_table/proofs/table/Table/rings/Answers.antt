@@ -1,4 +1,4 @@
-use Rattle.std.proofs.Common.{◌∙◌}
+use Rattle.std.proofs.Common.{ℕ, ◌≤◌, sym, ◌∙◌, subst}
 use Rattle.fl_table.proofs.RingsKept.{rings-are, rings-told}
 use Rattle.fl_table.proofs.Sizes.{table-fits}
 use Rattle.fl_table.proofs.table.Table.rings.Goals as goal
@@ -17,3 +17,6 @@ oldest-oldest-requires g c = table-fits g.row.KNOTS g.row.SLOTS c.args.self.now.
 
 pub next_number-next-requires : goal.next_number-next-requires
 next_number-next-requires g c = table-fits g.row.KNOTS g.row.SLOTS c.args.self.now.few_knots c.args.self.now.few_slots
+
+pub overflow_sub-result : goal.overflow_sub-result
+overflow_sub-result g c = subst (λ (n : ℕ). n ≤ c.next_number-next.result) (sym c.oldest-oldest.ensures.exact) c.next_number-next.ensures.ordered

@@ -1,20 +1,26 @@
-use Rattle.std.proofs.Common.{◌≡◌, ◌+◌, ◌≤◌, true, Option, Result, Ok, OnOk, ◌∷◌, [], ◌++◌, List, Err, IsTrue, arith, sym, ◌∙◌, ap, subst}
+use Rattle.std.proofs.Common.{◌≡◌, ◌+◌, ◌≤◌, true, Option, Result, ◌∷◌, [], ◌++◌, List, Err, IsTrue, arith, sym, ◌∙◌, ap, subst, ℕ}
 use Rattle.std.proofs.lemmas.Result.{err_from_is_err_and, on_err_weaker, IfErr-weaker}
 use Rattle.fl_model.specs.Table.{RingName, DataRing, after_seals}
 use Rattle.fl_table.specs.Bitmaps.{HaveRoom, bitmap_seals, next_of}
 use Rattle.fl_table.specs.Blobs as variable
 use Rattle.fl_table.specs.Blobs.{rest_seals}
 use Rattle.fl_table.specs.Outcomes.{SealsEnd}
-use Rattle.fl_table.proofs.SealsInTurn.{cause-later, seals-stop, seals-then, watched-front, watched-then}
+use Rattle.fl_table.proofs.SealsInTurn.{seals-stop, seals-then}
+use Rattle.fl_frame.proofs.WatchedInTurn.{cause-later, watched-first, watched-then}
 use Rattle.fl_flash.specs.Flash.{page_at}
 use Rattle.fl_table.proofs.Outsides.{outside-then}
 use Rattle.fl_table.proofs.Plain.{some-table_seals}
-use Rattle.fl_ring.proofs.ReadsInTurn.{goes_more}
 use Rattle.fl_index.specs.declared.index.BitmapIndex.{BitmapIndex}
 use Rattle.fl_table.proofs.SealAnswers.{same-then, writer-count}
 use Rattle.fl_flash.specs.declared.flash.FlashFault.{FlashFault}
+use Rattle.fl_frame.proofs.CallsInTurn.{goes-then}
 use Rattle.fl_table.proofs.PowerOff.{off-then}
 use Rattle.fl_table.proofs.Sizes.{table-fits}
+use Rattle.fl_table.specs.Memory.{is_stopped, next_in}
+use Rattle.fl_var.specs.declared.var_data.VarData.{VarData}
+use Rattle.fl_table.proofs.Untouched.{on-ok, on-err, no-success}
+use Rattle.fl_ring.specs.Written.{done}
+use Rattle.fl_table.proofs.Writing.{index-writes, blob-writes, row-writes}
 use Rattle.fl_table.proofs.table.Table.seal.Goals as goal
 
 pub returns-in_err-seal_bitmaps-clause-ends : goal.returns-in_err-seal_bitmaps-clause-ends
@@ -35,7 +41,7 @@ returns-in_err-seal_blobs-clause-ends g c = λ first plan table rose device watc
     let new = g.F.Flash.state c.seal_blobs.new.flash in
     let some : table.pending ≡ 0 → ⊥ = λ none. absurd (omega (arith, none, writer-count t f first plan table stands, c.requires.some)) in
     let goes = c.in_ok-seal_bitmaps.ensures.goes in
-    let h = c.in_ok-seal_bitmaps.ensures.ends first plan table rose device (watched-front f mid new rose device watched c.seal_blobs.ensures.goes) stands in
+    let h = c.in_ok-seal_bitmaps.ensures.ends first plan table rose device (watched-first f mid new rose device watched c.seal_blobs.ensures.goes) stands in
     let after = after_seals plan (bitmap_seals plan table) table in
     let k = c.in_err-seal_blobs.ensures.ends first plan after rose h.now.device (watched-then f mid new rose device h.now.device watched goes h.power h.counts) h.stands in
     let p = err_from_is_err_and c.from_residual-in_err-seal_blobs.result c.from_residual-in_err-seal_blobs.ensures.1 in
@@ -51,8 +57,8 @@ returns-clause-ends g c = λ first plan table rose device watched stands.
     let mid = g.F.Flash.state c.seal_blobs.new.flash in
     let new = g.F.Flash.state c.seal_rows.new.flash in
     let some : table.pending ≡ 0 → ⊥ = λ none. absurd (omega (arith, none, writer-count t f first plan table stands, c.requires.some)) in
-    let to_mid = watched-front f mid new rose device watched c.seal_rows.ensures.goes in
-    let h = c.in_ok-seal_bitmaps.ensures.ends first plan table rose device (watched-front f first_flash mid rose device to_mid c.in_ok-seal_blobs.ensures.goes) stands in
+    let to_mid = watched-first f mid new rose device watched c.seal_rows.ensures.goes in
+    let h = c.in_ok-seal_bitmaps.ensures.ends first plan table rose device (watched-first f first_flash mid rose device to_mid c.in_ok-seal_blobs.ensures.goes) stands in
     let after = after_seals plan (bitmap_seals plan table) table in
     let then = watched-then f first_flash mid rose device h.now.device to_mid c.in_ok-seal_bitmaps.ensures.goes h.power h.counts in
     let b = c.in_ok-seal_blobs.ensures.ends first plan after rose h.now.device then h.stands in
@@ -117,20 +123,16 @@ returns-clause-off g c =
     off-then (g.F.Flash.state c.args.flash.now) first new c.in_ok-seal_bitmaps.field-0 c.seal_rows.result c.in_ok-seal_bitmaps.ensures.off
     (off-then first mid new c.in_ok-seal_blobs.field-0 c.seal_rows.result c.in_ok-seal_blobs.ensures.off c.seal_rows.ensures.off)
 
-on-ok : (result : Result (Unit {0}) FlashFault) (P Q : Type 0) → (P → Q) → OnOk result P → OnOk result Q
-on-ok (Ok done) P Q f h = f h
-on-ok (Err e) P Q f h = tt
-
 pub returns-in_err-seal_blobs-clause-goes : goal.returns-in_err-seal_blobs-clause-goes
 returns-in_err-seal_blobs-clause-goes g c =
-    goes_more (g.F.Flash.state c.args.flash.now) (g.F.Flash.state c.seal_bitmaps.new.flash) (g.F.Flash.state c.seal_blobs.new.flash) c.in_ok-seal_bitmaps.ensures.goes c.in_err-seal_blobs.ensures.goes
+    goes-then (g.F.Flash.state c.args.flash.now) (g.F.Flash.state c.seal_bitmaps.new.flash) (g.F.Flash.state c.seal_blobs.new.flash) c.in_ok-seal_bitmaps.ensures.goes c.in_err-seal_blobs.ensures.goes
 
 pub returns-clause-goes : goal.returns-clause-goes
 returns-clause-goes g c =
     let first = g.F.Flash.state c.seal_bitmaps.new.flash in
     let mid = g.F.Flash.state c.seal_blobs.new.flash in
     let new = g.F.Flash.state c.seal_rows.new.flash in
-    goes_more (g.F.Flash.state c.args.flash.now) first new c.in_ok-seal_bitmaps.ensures.goes (goes_more first mid new c.in_ok-seal_blobs.ensures.goes c.seal_rows.ensures.goes)
+    goes-then (g.F.Flash.state c.args.flash.now) first new c.in_ok-seal_bitmaps.ensures.goes (goes-then first mid new c.in_ok-seal_blobs.ensures.goes c.seal_rows.ensures.goes)
 
 pub returns-clause-same : goal.returns-clause-same
 returns-clause-same g c =
@@ -187,3 +189,158 @@ returns-clause-last g c = c.seal_rows.ensures.last ∙ (c.in_ok-seal_blobs.ensur
 pub returns-clause-pending_stays : goal.returns-clause-pending_stays
 returns-clause-pending_stays g c =
     on_err_weaker c.seal_rows.result (λ same. same ∙ (c.in_ok-seal_blobs.ensures.some ∙ c.in_ok-seal_bitmaps.ensures.some)) c.seal_rows.ensures.pending_stays
+
+-- one read of the medium for each ring
+some-rings : (a b n m : ℕ) → m ≤ n + a → m ≤ n + (a + b + 1)
+some-rings a b n m h = omega (arith, h)
+
+two-rings : (a b n m k : ℕ) → m ≤ n + a → k ≤ m + b → k ≤ n + (a + b + 1)
+two-rings a b n m k h j = omega (arith, h, j)
+
+all-rings : (a b n m k l : ℕ) → m ≤ n + a → k ≤ m + b → l ≤ k + 1 → l ≤ n + (a + b + 1)
+all-rings a b n m k l h j i = omega (arith, h, j, i)
+
+pub returns-in_err-seal_bitmaps-clause-goes : goal.returns-in_err-seal_bitmaps-clause-goes
+returns-in_err-seal_bitmaps-clause-goes g c = c.in_err-seal_bitmaps.ensures.goes
+
+pub returns-in_err-seal_bitmaps-clause-same : goal.returns-in_err-seal_bitmaps-clause-same
+returns-in_err-seal_bitmaps-clause-same g c = c.in_err-seal_bitmaps.ensures.same
+
+pub returns-in_err-seal_bitmaps-clause-lies : goal.returns-in_err-seal_bitmaps-clause-lies
+returns-in_err-seal_bitmaps-clause-lies g c = c.in_err-seal_bitmaps.ensures.lies
+
+pub returns-in_err-seal_bitmaps-clause-outside : goal.returns-in_err-seal_bitmaps-clause-outside
+returns-in_err-seal_bitmaps-clause-outside g c = c.in_err-seal_bitmaps.ensures.outside
+
+pub returns-in_err-seal_bitmaps-clause-reads : goal.returns-in_err-seal_bitmaps-clause-reads
+returns-in_err-seal_bitmaps-clause-reads g c = c.in_err-seal_bitmaps.ensures.reads
+
+pub returns-in_err-seal_bitmaps-clause-empty : goal.returns-in_err-seal_bitmaps-clause-empty
+returns-in_err-seal_bitmaps-clause-empty g c = no-success _ _ c.from_residual.result c.from_residual.ensures.1
+
+pub returns-in_err-seal_bitmaps-clause-running : goal.returns-in_err-seal_bitmaps-clause-running
+returns-in_err-seal_bitmaps-clause-running g c = no-success _ _ c.from_residual.result c.from_residual.ensures.1
+
+pub returns-in_err-seal_bitmaps-clause-next : goal.returns-in_err-seal_bitmaps-clause-next
+returns-in_err-seal_bitmaps-clause-next g c = no-success _ _ c.from_residual.result c.from_residual.ensures.1
+
+pub returns-in_err-seal_bitmaps-clause-index_next : goal.returns-in_err-seal_bitmaps-clause-index_next
+returns-in_err-seal_bitmaps-clause-index_next g c = no-success _ _ c.from_residual.result c.from_residual.ensures.1
+
+pub returns-in_err-seal_bitmaps-clause-blob_next : goal.returns-in_err-seal_bitmaps-clause-blob_next
+returns-in_err-seal_bitmaps-clause-blob_next g c = no-success _ _ c.from_residual.result c.from_residual.ensures.1
+
+pub returns-in_err-seal_bitmaps-clause-calm : goal.returns-in_err-seal_bitmaps-clause-calm
+returns-in_err-seal_bitmaps-clause-calm g c = no-success _ _ c.from_residual.result c.from_residual.ensures.1
+
+pub returns-in_err-seal_bitmaps-clause-power : goal.returns-in_err-seal_bitmaps-clause-power
+returns-in_err-seal_bitmaps-clause-power g c = no-success _ _ c.from_residual.result c.from_residual.ensures.1
+
+pub returns-in_err-seal_bitmaps-clause-stopped : goal.returns-in_err-seal_bitmaps-clause-stopped
+returns-in_err-seal_bitmaps-clause-stopped g c =
+    let p = err_from_is_err_and c.from_residual.result c.from_residual.ensures.1 in
+    rw p.1 c.in_err-seal_bitmaps.ensures.stopped
+
+pub returns-in_err-seal_bitmaps-clause-cause : goal.returns-in_err-seal_bitmaps-clause-cause
+returns-in_err-seal_bitmaps-clause-cause g c =
+    let p = err_from_is_err_and c.from_residual.result c.from_residual.ensures.1 in
+    rw (p.1, p.2) c.in_err-seal_bitmaps.ensures.cause
+
+pub returns-in_err-seal_bitmaps-clause-media_reads : goal.returns-in_err-seal_bitmaps-clause-media_reads
+returns-in_err-seal_bitmaps-clause-media_reads g c = some-rings _ _ _ _ c.in_err-seal_bitmaps.ensures.media_reads
+
+pub returns-in_err-seal_blobs-clause-lies : goal.returns-in_err-seal_blobs-clause-lies
+returns-in_err-seal_blobs-clause-lies g c = c.in_err-seal_blobs.ensures.lies
+
+pub returns-in_err-seal_blobs-clause-same : goal.returns-in_err-seal_blobs-clause-same
+returns-in_err-seal_blobs-clause-same g c = same-then c.args.self.now c.seal_bitmaps.new.self c.seal_blobs.new.self c.in_ok-seal_bitmaps.ensures.same c.in_err-seal_blobs.ensures.same
+
+pub returns-in_err-seal_blobs-clause-reads : goal.returns-in_err-seal_blobs-clause-reads
+returns-in_err-seal_blobs-clause-reads g c = c.in_err-seal_blobs.ensures.reads ∙ c.in_ok-seal_bitmaps.ensures.reads
+
+pub returns-in_err-seal_blobs-clause-empty : goal.returns-in_err-seal_blobs-clause-empty
+returns-in_err-seal_blobs-clause-empty g c = no-success _ _ c.from_residual-in_err-seal_blobs.result c.from_residual-in_err-seal_blobs.ensures.1
+
+pub returns-in_err-seal_blobs-clause-running : goal.returns-in_err-seal_blobs-clause-running
+returns-in_err-seal_blobs-clause-running g c = no-success _ _ c.from_residual-in_err-seal_blobs.result c.from_residual-in_err-seal_blobs.ensures.1
+
+pub returns-in_err-seal_blobs-clause-next : goal.returns-in_err-seal_blobs-clause-next
+returns-in_err-seal_blobs-clause-next g c = no-success _ _ c.from_residual-in_err-seal_blobs.result c.from_residual-in_err-seal_blobs.ensures.1
+
+pub returns-in_err-seal_blobs-clause-index_next : goal.returns-in_err-seal_blobs-clause-index_next
+returns-in_err-seal_blobs-clause-index_next g c = no-success _ _ c.from_residual-in_err-seal_blobs.result c.from_residual-in_err-seal_blobs.ensures.1
+
+pub returns-in_err-seal_blobs-clause-blob_next : goal.returns-in_err-seal_blobs-clause-blob_next
+returns-in_err-seal_blobs-clause-blob_next g c = no-success _ _ c.from_residual-in_err-seal_blobs.result c.from_residual-in_err-seal_blobs.ensures.1
+
+pub returns-in_err-seal_blobs-clause-calm : goal.returns-in_err-seal_blobs-clause-calm
+returns-in_err-seal_blobs-clause-calm g c = no-success _ _ c.from_residual-in_err-seal_blobs.result c.from_residual-in_err-seal_blobs.ensures.1
+
+pub returns-in_err-seal_blobs-clause-power : goal.returns-in_err-seal_blobs-clause-power
+returns-in_err-seal_blobs-clause-power g c = no-success _ _ c.from_residual-in_err-seal_blobs.result c.from_residual-in_err-seal_blobs.ensures.1
+
+pub returns-in_err-seal_blobs-clause-stopped : goal.returns-in_err-seal_blobs-clause-stopped
+returns-in_err-seal_blobs-clause-stopped g c =
+    let p = err_from_is_err_and c.from_residual-in_err-seal_blobs.result c.from_residual-in_err-seal_blobs.ensures.1 in
+    rw p.1 c.in_err-seal_blobs.ensures.stopped
+
+pub returns-in_err-seal_blobs-clause-media_reads : goal.returns-in_err-seal_blobs-clause-media_reads
+returns-in_err-seal_blobs-clause-media_reads g c = two-rings _ _ _ _ _ c.in_ok-seal_bitmaps.ensures.media_reads
+    (subst (λ (o : Option VarData). (g.F.Flash.state c.seal_blobs.new.flash).media.reads ≤ (g.F.Flash.state c.seal_bitmaps.new.flash).media.reads + variable.rings_of o) c.in_ok-seal_bitmaps.ensures.blobs c.in_err-seal_blobs.ensures.media_reads)
+
+pub returns-clause-lies : goal.returns-clause-lies
+returns-clause-lies g c = c.seal_rows.ensures.lies
+
+pub returns-clause-empty : goal.returns-clause-empty
+returns-clause-empty g c = c.seal_rows.ensures.empty
+
+pub returns-clause-running : goal.returns-clause-running
+returns-clause-running g c = c.seal_rows.ensures.running
+
+pub returns-clause-stopped : goal.returns-clause-stopped
+returns-clause-stopped g c = c.seal_rows.ensures.stopped
+
+pub returns-clause-reads : goal.returns-clause-reads
+returns-clause-reads g c = c.seal_rows.ensures.reads ∙ (c.in_ok-seal_blobs.ensures.reads ∙ c.in_ok-seal_bitmaps.ensures.reads)
+
+pub returns-clause-next : goal.returns-clause-next
+returns-clause-next g c =
+    let before = c.in_ok-seal_blobs.ensures.next ∙ c.in_ok-seal_bitmaps.ensures.next in
+    on-ok c.seal_rows.result (next_in c.seal_rows.new.self ≡ next_in c.seal_blobs.new.self + 1) (next_in c.seal_rows.new.self ≡ next_in c.args.self.now + 1)
+    (λ next. next ∙ ap (λ n. n + 1) before) c.seal_rows.ensures.next
+
+pub returns-clause-calm : goal.returns-clause-calm
+returns-clause-calm g c =
+    let before = c.in_ok-seal_blobs.ensures.calm ∙ c.in_ok-seal_bitmaps.ensures.calm in
+    on-ok c.seal_rows.result (is_stopped c.seal_rows.new.self ≡ is_stopped c.seal_blobs.new.self) (is_stopped c.seal_rows.new.self ≡ is_stopped c.args.self.now)
+    (λ calm. calm ∙ before) c.seal_rows.ensures.calm
+
+pub returns-clause-media_reads : goal.returns-clause-media_reads
+returns-clause-media_reads g c = all-rings _ _ _ _ _ _ c.in_ok-seal_bitmaps.ensures.media_reads
+    (subst (λ (o : Option VarData). (g.F.Flash.state c.seal_blobs.new.flash).media.reads ≤ (g.F.Flash.state c.seal_bitmaps.new.flash).media.reads + variable.rings_of o) c.in_ok-seal_bitmaps.ensures.blobs c.in_ok-seal_blobs.ensures.media_reads)
+    c.seal_rows.ensures.media_reads
+
+pub returns-in_err-seal_bitmaps-clause-pending_stays : goal.returns-in_err-seal_bitmaps-clause-pending_stays
+returns-in_err-seal_bitmaps-clause-pending_stays g c = on-err c.from_residual.result c.in_err-seal_bitmaps.ensures.some
+
+pub returns-in_err-seal_blobs-clause-pending_stays : goal.returns-in_err-seal_blobs-clause-pending_stays
+returns-in_err-seal_blobs-clause-pending_stays g c = on-err c.from_residual-in_err-seal_blobs.result (c.in_err-seal_blobs.ensures.some ∙ c.in_ok-seal_bitmaps.ensures.some)
+
+pub returns-in_err-seal_bitmaps-clause-writes : goal.returns-in_err-seal_bitmaps-clause-writes
+returns-in_err-seal_bitmaps-clause-writes g c =
+    let p = err_from_is_err_and c.from_residual.result c.from_residual.ensures.1 in
+    let none : done c.from_residual.result ≡ 0 = ap (λ (x : Result (Unit {0}) FlashFault). done x) p.1 in
+    index-writes c.args.self.now (done c.from_residual.result) (g.F.Flash.state c.args.flash.now) (g.F.Flash.state c.seal_bitmaps.new.flash) (omega (arith, none)) c.in_err-seal_bitmaps.ensures.writes
+
+pub returns-in_err-seal_blobs-clause-writes : goal.returns-in_err-seal_blobs-clause-writes
+returns-in_err-seal_blobs-clause-writes g c =
+    let p = err_from_is_err_and c.from_residual-in_err-seal_blobs.result c.from_residual-in_err-seal_blobs.ensures.1 in
+    let none : done c.from_residual-in_err-seal_blobs.result ≡ 0 = ap (λ (x : Result (Unit {0}) FlashFault). done x) p.1 in
+    blob-writes c.args.self.now c.seal_bitmaps.new.self.blobs (done c.from_residual-in_err-seal_blobs.result) (g.F.Flash.state c.args.flash.now) (g.F.Flash.state c.seal_bitmaps.new.flash) (g.F.Flash.state c.seal_blobs.new.flash)
+    c.in_ok-seal_bitmaps.ensures.goes.tells c.in_ok-seal_bitmaps.ensures.blobs (omega (arith, none)) c.in_ok-seal_bitmaps.ensures.writes c.in_err-seal_blobs.ensures.writes
+
+pub returns-clause-writes : goal.returns-clause-writes
+returns-clause-writes g c =
+    row-writes c.args.self.now c.seal_bitmaps.new.self.blobs c.seal_blobs.new.self.ring (done c.seal_rows.result) (g.F.Flash.state c.args.flash.now) (g.F.Flash.state c.seal_bitmaps.new.flash) (g.F.Flash.state c.seal_blobs.new.flash) (g.F.Flash.state c.seal_rows.new.flash)
+    c.in_ok-seal_bitmaps.ensures.goes.tells (c.in_ok-seal_blobs.ensures.goes.tells ∙ c.in_ok-seal_bitmaps.ensures.goes.tells) c.in_ok-seal_bitmaps.ensures.blobs (c.in_ok-seal_blobs.ensures.ring ∙ c.in_ok-seal_bitmaps.ensures.ring)
+    c.in_ok-seal_bitmaps.ensures.writes c.in_ok-seal_blobs.ensures.writes c.seal_rows.ensures.writes

@@ -278,3 +278,15 @@ returns-in-Err-clause-last g c = refl
 
 pub returns-clause-last : goal.returns-clause-last
 returns-clause-last g c = refl
+
+pub returns-in-Err-clause-writes : goal.returns-in-Err-clause-writes
+returns-in-Err-clause-writes g c = c.in-Err.ensures.writes
+
+pub returns-clause-writes : goal.returns-clause-writes
+returns-clause-writes g c = c.in_default.ensures.writes
+
+pub returns-in-Err-clause-ring : goal.returns-in-Err-clause-ring
+returns-in-Err-clause-ring g c = tt
+
+pub returns-clause-ring : goal.returns-clause-ring
+returns-clause-ring g c = refl

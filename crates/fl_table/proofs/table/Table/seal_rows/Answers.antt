@@ -34,6 +34,8 @@ use Rattle.fl_page.specs.WriterState.{WriterState}
 use Rattle.fl_model.specs.Record.{layout_len}
 use Rattle.fl_ring.specs.Place as place
 use Rattle.fl_table.proofs.Finds.{next-in}
+use Rattle.fl_table.proofs.Sizes.{table-fits, index-fits}
+use Rattle.fl_ring.proofs.Written.{held-writes}
 use Rattle.fl_table.proofs.table.Table.seal_rows.Goals as goal
 
 pub note-requires-clause-some : goal.note-requires-clause-some
@@ -425,3 +427,27 @@ returns-clause-last g c = refl
 
 pub returns-clause-pending_stays : goal.returns-clause-pending_stays
 returns-clause-pending_stays g c = tt
+
+pub pending_entry-full-requires : goal.pending_entry-full-requires
+pending_entry-full-requires g c = (table-fits g.row.KNOTS g.row.SLOTS c.args.self.now.few_knots c.args.self.now.few_slots, c.requires.some)
+
+pub unreachable-requires : goal.unreachable-requires
+unreachable-requires g c = none-is c.args.self.now.ring (sym c.take.ensures.value ∙ c.in_default.is) c.requires.running
+
+pub unreachable-unreachable : goal.unreachable-unreachable
+unreachable-unreachable g c = c.unreachable.type_inv
+
+pub add_further-requires : goal.add_further-requires
+add_further-requires g c = index-fits g.row.KNOTS g.row.SLOTS c.args.self.now.few_knots c.args.self.now.few_slots
+
+pub returns-in-Err-clause-writes : goal.returns-in-Err-clause-writes
+returns-in-Err-clause-writes g c =
+    let t = c.args.self.now in
+    let has : t.ring ≡ Some c.in-Some.ring = sym c.take.ensures.value ∙ c.in-Some.is in
+    held-writes t.ring c.in-Some.ring 0 0 _ _ has (omega arith) c.in-Err.ensures.writes
+
+pub returns-clause-writes : goal.returns-clause-writes
+returns-clause-writes g c =
+    let t = c.args.self.now in
+    let has : t.ring ≡ Some c.in-Some.ring = sym c.take.ensures.value ∙ c.in-Some.is in
+    held-writes t.ring c.in-Some.ring 1 1 _ _ has (omega arith) c.in_default-seal.ensures.writes

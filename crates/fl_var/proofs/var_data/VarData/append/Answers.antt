@@ -3,11 +3,12 @@ use Rattle.std.proofs.lemmas.Bool.{cases_Bool}
 use Rattle.std.proofs.lemmas.Result.{err_from_is_err_and}
 use Rattle.fl_flash.specs.Flash.{FlashState, OffChangesNothing}
 use Rattle.fl_flash.specs.declared.flash.FlashFault.{FlashFault}
+use Rattle.fl_frame.proofs.CallsInTurn.{goes-then}
 use Rattle.fl_model.specs.Table.{with_record}
 use Rattle.fl_var.specs.Memory.{next_in, waiting_in}
 use Rattle.fl_var.specs.Placing.{is_full_in, pages_placed}
 use Rattle.fl_var.specs.declared.var_data.VarData.{VarData}
-use Rattle.fl_var.proofs.Joins.{watched-first}
+use Rattle.fl_frame.proofs.WatchedInTurn.{watched-first}
 use Rattle.fl_var.proofs.Placed.{joined-has, joined-bytes, buffered-room, watched-second, place-none, place-err, place-breaks_room, place-breaks, placed-whole, room-for, full-placed, next-split, reads-split, waits-split, waits-none, placed-none}
 use Rattle.fl_var.proofs.BufferedBytes.{cause-err, off-err, ok-on, lost-on}
 use Rattle.fl_var.proofs.var_data.VarData.append.Goals as goal
@@ -198,3 +199,9 @@ pub returns-in_err-write-clause-lost : goal.returns-in_err-write-clause-lost
 returns-in_err-write-clause-lost g c = λ lost.
     let p = err_from_is_err_and c.from_residual-in_err-write.result c.from_residual-in_err-write.ensures.1 in
     c.in_err-write.ensures.lost (lost-on (Err c.in_err-write.field-0.0) c.from_residual-in_err-write.result c.in_err-write.field-0.0 refl (p.1 ∙ ap (λ (e : FlashFault). Err e) p.2) lost)
+
+pub returns-in_err-write-clause-goes : goal.returns-in_err-write-clause-goes
+returns-in_err-write-clause-goes g c = goes-then _ _ _ c.make_room.ensures.goes c.write.ensures.goes
+
+pub returns-clause-goes : goal.returns-clause-goes
+returns-clause-goes g c = goes-then _ _ _ c.make_room.ensures.goes c.write.ensures.goes

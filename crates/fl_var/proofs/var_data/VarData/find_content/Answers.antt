@@ -1,7 +1,8 @@
 use Rattle.std.proofs.Common.{rules, ◌≡◌, ◌^◌, ◌<◌, ◌≤◌, length, sym, ◌∙◌, Err}
 use Rattle.fl_var.specs.Memory.{next_in, waiting_in}
 use Rattle.fl_var.proofs.PageImages.{next-state, next-count, next-has, next-bad}
-use Rattle.fl_page.proofs.ReadsInTurn.{OnlyReads-read, IsCaused-read}
+use Rattle.fl_page.proofs.ReadsInTurn.{IsCaused-read}
+use Rattle.fl_frame.proofs.ContentsInTurn.{OnlyReads-read}
 use Rattle.fl_var.proofs.var_data.VarData.find_content.Goals as goal
 
 pub returns-then-len-eq0-clause-bad : goal.returns-then-len-eq0-clause-bad

@@ -1,8 +1,10 @@
-use Rattle.std.proofs.Common.{rules, ◌≡◌, ◌-◌, ◌<◌, ◌≤◌, ℕ, Some, Ok, Err, [], ◌∷◌, length, refl, sym, ◌∙◌, ap, subst, arith}
+use Rattle.std.proofs.Common.{rules, ◌≡◌, ◌-◌, ◌<◌, ◌≤◌, ℕ, Some, Result, Ok, Err, [], ◌∷◌, length, refl, sym, ◌∙◌, ap, subst, arith}
 use Rattle.std.proofs.lemmas.Result.{err_from_is_err_and}
 use Rattle.fl_flash.specs.Flash.{page_at}
 use Rattle.fl_flash.specs.declared.flash.FlashFault.{FlashFault}
 use Rattle.fl_model.specs.Table.{VarRing}
+use Rattle.fl_ring.specs.Written.{done}
+use Rattle.fl_ring.proofs.Written.{held-writes}
 use Rattle.fl_ring.specs.Operations.{change, seal_kinds}
 use Rattle.fl_ring.specs.Place.{shape_of, StandsFor}
 use Rattle.fl_ring.specs.Ring.{Shape, OutsideStands, oldest, place, sealed}
@@ -78,3 +80,17 @@ pub returns-in_err-seal-clause-lost : goal.returns-in_err-seal-clause-lost
 returns-in_err-seal-clause-lost g c = λ lost.
     let p = err_from_is_err_and c.from_residual.result c.from_residual.ensures.1 in
     seal-lost _ _ _ _ _ _ (Err c.in_err-seal.field-0.0) c.in_err-seal.ensures.calls (lost-on (Err c.in_err-seal.field-0.0) c.from_residual.result c.in_err-seal.field-0.0 refl (p.1 ∙ ap (λ (e : FlashFault). Err e) p.2) lost)
+
+pub returns-in_err-seal-clause-writes : goal.returns-in_err-seal-clause-writes
+returns-in_err-seal-clause-writes g c =
+    let v = c.args.self.now in
+    let ring_is : c.args.self.now.ring ≡ Some c.in-Some.ring = search rules in
+    let p = err_from_is_err_and c.from_residual.result c.from_residual.ensures.1 in
+    let none : done c.from_residual.result ≡ 0 = ap (λ (x : Result (Unit {0}) FlashFault). done x) p.1 in
+    held-writes v.ring c.in-Some.ring 0 (done c.from_residual.result) _ _ ring_is (omega (arith, none)) c.in_err-seal.ensures.writes
+
+pub returns-clause-writes : goal.returns-clause-writes
+returns-clause-writes g c =
+    let v = c.args.self.now in
+    let ring_is : c.args.self.now.ring ≡ Some c.in-Some.ring = search rules in
+    held-writes v.ring c.in-Some.ring 1 1 _ _ ring_is (omega arith) c.in_ok-seal.ensures.writes

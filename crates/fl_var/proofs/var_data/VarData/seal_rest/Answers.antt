@@ -1,5 +1,8 @@
-use Rattle.std.proofs.Common.{rules, ◌≡◌, ◌≤◌, length}
-use Rattle.fl_var.specs.Memory.{waiting_in}
+use Rattle.std.proofs.Common.{rules, ◌≡◌, ◌≤◌, false, length, arith}
+use Rattle.std.proofs.lemmas.Grind.{common_steps}
+use Rattle.fl_ring.specs.Written.{done}
+use Rattle.fl_ring.proofs.Written.{writes-none, writes-fewer}
+use Rattle.fl_var.specs.Memory.{waiting_in, MaySeal}
 use Rattle.fl_var.proofs.Placed.{rest-none, rest-waits, rest-some}
 use Rattle.fl_var.proofs.var_data.VarData.seal_rest.Goals as goal
 
@@ -12,6 +15,13 @@ pub returns-clause-ends : goal.returns-clause-ends
 returns-clause-ends g c = λ plan table rose device watched stands.
     let v = c.args.self.now in
     let f = g.F.Flash.state c.args.flash.now in
-    let some : 1 ≤ length (waiting_in c.args.self.now) = search rules in
+    let is_empty : c.is_empty.result ≡ false = c.if-is_empty.false in
+    let some : 1 ≤ length (waiting_in c.args.self.now) = grind (arith, common_steps) in
     rest-some plan table v f some stands rose device c.seal.result c.seal.new.self (g.F.Flash.state c.seal.new.flash) c.seal.ensures.empty
     (c.seal.ensures.ends plan table rose device watched stands.ring (rest-waits plan table v f some stands))
+
+pub returns-then-is_empty-clause-writes : goal.returns-then-is_empty-clause-writes
+returns-then-is_empty-clause-writes g c = writes-none (MaySeal c.args.self.now) 1 (g.F.Flash.state c.args.flash.now)
+
+pub returns-clause-writes : goal.returns-clause-writes
+returns-clause-writes g c = writes-fewer (MaySeal c.args.self.now) (done c.seal.result) 1 _ _ c.seal.ensures.writes

@@ -2,6 +2,7 @@ use Rattle.std.proofs.Common.{rules, ◌≡◌, ◌-◌, ◌<◌, ◌≤◌, Err
 use Rattle.std.proofs.lemmas.List.{places}
 use Rattle.std.proofs.lemmas.Result.{err_from_is_err_and}
 use Rattle.fl_flash.specs.declared.flash.FlashFault.{FlashFault}
+use Rattle.fl_frame.proofs.CallsInTurn.{goes-then}
 use Rattle.fl_var.specs.Memory.{room_in}
 use Rattle.fl_var.proofs.BufferedBytes.{writes-first, writes-next, writes-fail, writes-waits, writes-quiet, writes-end, writes-off, wrote-on, ok-on, cause-err, lost-on}
 use Rattle.fl_var.proofs.var_data.VarData.write.Goals as goal
@@ -77,3 +78,6 @@ pub returns-in_err-seal-clause-lost : goal.returns-in_err-seal-clause-lost
 returns-in_err-seal-clause-lost g c = λ lost.
     let p = err_from_is_err_and c.from_residual.result c.from_residual.ensures.1 in
     c.in_err-seal.ensures.lost (lost-on (Err c.in_err-seal.field-0.0) c.from_residual.result c.in_err-seal.field-0.0 refl (p.1 ∙ ap (λ (e : FlashFault). Err e) p.2) lost)
+
+pub returns-in_err-seal-clause-goes : goal.returns-in_err-seal-clause-goes
+returns-in_err-seal-clause-goes g c = goes-then _ _ _ c.loop-done.invariant.0.goes c.seal.ensures.goes

@@ -1,39 +1,34 @@
--- The number of binary digits.
+-- How the number of binary digits grows with a number.
 use Rattle.std.proofs.Common.{ℕ, ◌≡◌, ◌<◌, ◌≤◌, ◌+◌, ◌-◌, ◌*◌, ◌^◌, arith, ap, ◌∙◌, ⊎_elim}
 use Rattle.std.proofs.lemmas.Nat.{leading_length}
 use Rattle.std.proofs.lemmas.Bool.{cases_lt}
 use Rattle.std.proofs.Math.Nat.{pow-le-pow_right}
 use Rattle.std.proofs.lemmas.Grind.{pow_more}
-use Rattle.fl_model.specs.Spline.{bits}
+use Rattle.fl_base.specs.Bits.{bits}
+use Rattle.fl_base.specs.BitsGrow.{HasBits}
 
--- a number with m digits
-record Digits (n m : ℕ) : Type 0 where
-  is : bits n ≡ m
-  below : n < 2 ^ m
-  above : 2 ^ m ≤ 2 * n + 1
-
-digits : (n : ℕ) → n < 2 ^ 64 → Digits n (bits n)
-digits n lt =
+pub has-bits : (n : ℕ) → n < 2 ^ 64 → HasBits n
+has-bits n lt =
     let found = leading_length 64 n lt in
     let is : bits n ≡ found.0 = omega (arith, found.1) in
-    record { is = omega arith; below = rw is found.2; above = rw is found.3 }
+    record { below = rw is found.2; above = rw is found.3 }
 
 pub bits-le : (m n : ℕ) → m ≤ n → n < 2 ^ 64 → bits m ≤ bits n
 bits-le m n le lt = ⊎_elim
     (λ less.
     let power : 2 ^ (bits n + 1) ≤ 2 ^ bits m = pow-le-pow_right (omega arith) (omega arith) in
     let twice : 2 ^ (bits n + 1) ≡ 2 ^ bits n * 2 = pow_more 2 (bits n) in
-    absurd (omega (arith, power, twice, (digits n lt).below, (digits m (omega arith)).above)))
+    absurd (omega (arith, power, twice, (has-bits n lt).below, (has-bits m (omega arith)).above)))
     (λ le. le)
     (cases_lt (bits n) (bits m))
 
-has-digit : (n : ℕ) → 0 < n → n < 2 ^ 64 → 0 < bits n
+pub has-digit : (n : ℕ) → 0 < n → n < 2 ^ 64 → 0 < bits n
 has-digit n some lt = ⊎_elim
     (λ one. one)
     (λ none.
     let z : bits n ≡ 0 = omega arith in
     let one : 2 ^ bits n ≡ 1 = ap (λ k. 2 ^ k) z in
-    absurd (omega (arith, one, (digits n lt).below)))
+    absurd (omega (arith, one, (has-bits n lt).below)))
     (cases_lt 0 (bits n))
 
 -- a number that is at most half of another that isn't 0 has fewer digits
@@ -44,7 +39,7 @@ bits-half m n le some lt = ⊎_elim
     let top : 2 ^ bits n ≤ 2 ^ bits m = pow-le-pow_right (omega arith) not_less in
     let digit : 0 < bits n = has-digit n some lt in
     let even : 2 ^ bits n ≡ 2 ^ (bits n - 1) * 2 = ap (λ k. 2 ^ k) (omega arith) ∙ pow_more 2 (bits n - 1) in
-    absurd (omega (arith, top, even, (digits n lt).below, (digits m (omega arith)).above)))
+    absurd (omega (arith, top, even, (has-bits n lt).below, (has-bits m (omega arith)).above)))
     (cases_lt (bits m) (bits n))
 
 -- a number that is at most one more than twice another has one digit more at most
@@ -54,7 +49,7 @@ bits-twice m n le small lt = ⊎_elim
     let power : 2 ^ (bits m + 1 + 1) ≤ 2 ^ bits n = pow-le-pow_right (omega arith) (omega arith) in
     let twice : 2 ^ (bits m + 1 + 1) ≡ 2 ^ (bits m + 1) * 2 = pow_more 2 (bits m + 1) in
     let once : 2 ^ (bits m + 1) ≡ 2 ^ bits m * 2 = pow_more 2 (bits m) in
-    absurd (omega (arith, power, twice, once, (digits m small).below, (digits n lt).above)))
+    absurd (omega (arith, power, twice, once, (has-bits m small).below, (has-bits n lt).above)))
     (λ few. few)
     (cases_lt (bits m + 1) (bits n))
 

@@ -1,12 +1,8 @@
 -- What a flash holds, and calls that only read it.
-use Rattle.std.specs.Prelude.{◌≡◌, ℕ, zero, suc, ◌+◌, ◌-◌, ◌^◌, ◌<◌, ◌≤◌, Bool, false, List}
-use Rattle.fl_base.specs.Causes.{Rose}
+use Rattle.std.specs.Prelude.{◌≡◌, ℕ, zero, suc, ◌≤◌, Bool, List}
 use Rattle.fl_base.specs.declared.types.Geometry.{Geometry}
-use Rattle.fl_flash.specs.Media.{next_count}
 use Rattle.fl_flash.specs.Flash.{FlashState}
-use Rattle.fl_flash.specs.declared.flash.FlashFault.TheVariants.{PowerLost, Media}
-use Rattle.fl_page.specs.declared.fault.ReadFault.{ReadFault}
-use Rattle.fl_page.specs.declared.fault.ReadFault.TheVariants.{Flash, BadPage}
+use Rattle.fl_flash.specs.Media.{next_count}
 
 -- the shape of a flash, its place on its medium, and the bytes of the medium, which count where they are told
 pub record Contents : Type 0 where
@@ -41,10 +37,3 @@ pub record OnlyReads (old new : FlashState) : Type 0 where
   pub reads : ℕ
   pub work : new.work ≡ record old.work { reads = counted reads old.work.reads }
   pub media : new.media.reads ≡ counted reads old.media.reads
-
--- a fault of the flash has its cause: the power was off, which no read can lose, or the medium failed in a read of the
--- call, which is counted where the count isn't at its end
-abbrev pub IsCaused : FlashState → ReadFault → FlashState → Type 0
-IsCaused old (Flash PowerLost) new = old.is_on ≡ false
-IsCaused old (Flash Media) new = Rose old.media.faults new.media.faults × (new.work.reads < 2 ^ 64 - 1 → old.work.reads + 1 ≤ new.work.reads)
-IsCaused old (BadPage bad) new = Unit {0}

@@ -1,0 +1,4 @@
+pub mod CallsInTurn
+pub mod ContentsInTurn
+pub mod ReadsInTurn
+pub mod WatchedInTurn
