@@ -1,5 +1,5 @@
 // Exports of images made by hand: what is written, and how they end.
-use crate::checks::{Piece, SEAL, image};
+use crate::checks::{Piece, SEAL, medium};
 use fl_base::{KeyRange, MemSink, Name, NoMemory};
 use fl_export::export_image;
 use fl_flash::MemMedia;
@@ -45,14 +45,16 @@ fn blob_at(page: u8, length: u8) -> [u8; 10] {
     [page, 0, 0, 0, 0, 0, length, 0, 0, 0]
 }
 
-// Exports the keys from one to another of the table with a name, into a sink with so much room, and tells the status.
+// How an export ends, of the keys from one to another of the table with a name, into a sink with so much room, and whether it
+// writes so.
 pub(crate) fn export(
     alloc: Global,
     media: &mut MemMedia,
     name: &[u8],
     keys: (u64, u64),
     room: usize,
-) -> Result<(ToolStatus, MemSink), NoMemory> {
+    wanted: &str,
+) -> Result<(ToolStatus, bool), NoMemory> {
     let Some(name) = Name::of(name) else {
         return Err(NoMemory);
     };
@@ -62,13 +64,7 @@ pub(crate) fn export(
     };
     let mut out = MemSink::new(alloc, room, Vec::new(alloc))?;
     let status = export_image(alloc, name, range, media, &mut out);
-    Ok((status, out))
-}
-
-// A medium with these bytes.
-fn medium(alloc: Global, bytes: Vec<u8>) -> Result<MemMedia, NoMemory> {
-    let len = bytes.len();
-    MemMedia::new(alloc, bytes, len)
+    Ok((status, out.bytes() == wanted.as_bytes()))
 }
 
 #[test]
@@ -81,10 +77,9 @@ fn records_of_a_range(rt: HostRuntime) -> Result<(), Fail> {
         ((2, 1), "key,c1\n"),
     ];
     for (keys, wanted) in cases {
-        let mut media = medium(rt.alloc(), image(rt.alloc(), PLAIN, PLAIN_BYTES, &THREE)?)?;
-        let (status, out) = export(rt.alloc(), &mut media, b"t", keys, 100)?;
-        assert_eq!(rt; status, ToolStatus::Done);
-        assert_eq!(rt; out.bytes(), wanted.as_bytes());
+        let mut media = medium(rt.alloc(), PLAIN, PLAIN_BYTES, &THREE)?;
+        let end = export(rt.alloc(), &mut media, b"t", keys, 100, wanted)?;
+        assert_eq!(rt; end, (ToolStatus::Done, true), "{wanted}");
     }
     Ok(())
 }
@@ -105,12 +100,10 @@ fn blobs_are_told(rt: HostRuntime) -> Result<(), Fail> {
         (440, &SEAL),
         (508, &SEAL),
     ];
-    let bytes = image(rt.alloc(), WITH_BLOBS, BLOB_BYTES, &pieces)?;
-    let mut media = medium(rt.alloc(), bytes)?;
-    let (status, out) = export(rt.alloc(), &mut media, b"t", (0, 9), 100)?;
-    assert_eq!(rt; status, ToolStatus::Done);
+    let mut media = medium(rt.alloc(), WITH_BLOBS, BLOB_BYTES, &pieces)?;
     let text = "key,c1,blob\n1,-25,\n2,-5,00abff\n3,0,-\n4,7,gone\n";
-    assert_eq!(rt; out.bytes(), text.as_bytes());
+    let end = export(rt.alloc(), &mut media, b"t", (0, 9), 100, text)?;
+    assert_eq!(rt; end, (ToolStatus::Done, true));
     Ok(())
 }
 
@@ -148,8 +141,8 @@ fn statuses_have_their_causes(rt: HostRuntime) -> Result<(), Fail> {
         ),
     ];
     for (text, pages, pieces, name, room, wanted) in cases {
-        let mut media = medium(rt.alloc(), image(rt.alloc(), text, pages, pieces)?)?;
-        let (status, _out) = export(rt.alloc(), &mut media, name, (0, 9), room)?;
+        let mut media = medium(rt.alloc(), text, pages, pieces)?;
+        let (status, _is_told) = export(rt.alloc(), &mut media, name, (0, 9), room, "")?;
         assert_eq!(rt; status, wanted);
     }
     Ok(())
@@ -159,11 +152,10 @@ fn statuses_have_their_causes(rt: HostRuntime) -> Result<(), Fail> {
 fn a_medium_that_fails_is_told(rt: HostRuntime) -> Result<(), Fail> {
     // The first call reads the header, and the third is one of the mount.
     for call in [1, 3] {
-        let mut media = medium(rt.alloc(), image(rt.alloc(), PLAIN, PLAIN_BYTES, &THREE)?)?;
+        let mut media = medium(rt.alloc(), PLAIN, PLAIN_BYTES, &THREE)?;
         media.fail_call(call);
-        let (status, out) = export(rt.alloc(), &mut media, b"t", (0, 9), 100)?;
-        assert_eq!(rt; status, ToolStatus::Device);
-        assert_eq!(rt; out.bytes().len(), 0);
+        let end = export(rt.alloc(), &mut media, b"t", (0, 9), 100, "")?;
+        assert_eq!(rt; end, (ToolStatus::Device, true), "{call}");
     }
     Ok(())
 }
@@ -172,10 +164,9 @@ fn a_medium_that_fails_is_told(rt: HostRuntime) -> Result<(), Fail> {
 fn a_torn_page_is_repaired(rt: HostRuntime) -> Result<(), Fail> {
     // A page was begun behind the first one, which is sealed.
     let pieces: [Piece<'_>; 3] = [(0, &THREE_ROWS), (120, &SEAL), (128, &[1])];
-    let mut media = medium(rt.alloc(), image(rt.alloc(), PLAIN, PLAIN_BYTES, &pieces)?)?;
-    let (status, out) = export(rt.alloc(), &mut media, b"t", (3, 9), 100)?;
-    assert_eq!(rt; status, ToolStatus::Done);
-    assert_eq!(rt; out.bytes(), "key,c1\n3,0\n".as_bytes());
+    let mut media = medium(rt.alloc(), PLAIN, PLAIN_BYTES, &pieces)?;
+    let end = export(rt.alloc(), &mut media, b"t", (3, 9), 100, "key,c1\n3,0\n")?;
+    assert_eq!(rt; end, (ToolStatus::Done, true));
     // Its void mark.
     assert_eq!(rt; media.bytes().get(1024 + 252), Some(&0));
     Ok(())

@@ -1,5 +1,5 @@
 // An image whose index has full entries, and what a check says of it where a byte of an entry is another one.
-use crate::checks::{Piece, SEAL, blob_page, check, content_page};
+use crate::checks::{Piece, SEAL, blob_page, content_page, is_told};
 use std::test::Fail;
 
 // Pages of 64 bytes, two a block, and rings of three blocks: data pages 0 to 5, index pages 6 to 11, and those of the variable
@@ -55,8 +55,10 @@ fn each_field_is_compared(rt: HostRuntime) -> Result<(), Fail> {
             (768, &content),
             (824, &SEAL),
         ];
-        let out = check(rt.alloc(), FULL, 1152, &pieces)?;
-        assert_eq!(rt; out.bytes(), wanted.as_bytes());
+        assert!(rt;
+            is_told(rt.alloc(), FULL, 1152, &pieces, wanted)?,
+            "{at} {byte}"
+        );
     }
     Ok(())
 }
@@ -79,8 +81,10 @@ fn an_end_that_fits_no_entry(rt: HostRuntime) -> Result<(), Fail> {
             (768, &content),
             (824, &SEAL),
         ];
-        let out = check(rt.alloc(), FULL, 1152, &pieces)?;
-        assert_eq!(rt; out.bytes(), MISENTERED.as_bytes());
+        assert!(rt;
+            is_told(rt.alloc(), FULL, 1152, &pieces, MISENTERED)?,
+            "{byte}"
+        );
     }
     Ok(())
 }

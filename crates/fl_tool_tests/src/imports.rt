@@ -1,5 +1,7 @@
 // Imports into images made by hand: what is told, what the image then holds, and how they end.
-use crate::checks::{Piece, SEAL, image};
+ghost use Rattle.std.specs.Prelude.{◌≤◌};
+
+use crate::checks::{Piece, SEAL, medium};
 use fl_base::{KeyRange, MemSink, MemSource, Name, NoMemory};
 use fl_csv::{GoneBlobs, LineForm};
 use fl_export::export_image;
@@ -19,7 +21,7 @@ const WITH_BLOBS: &str = "device 64 2\ntable t 8 i32 3 0 3 8 0 10 1 30\n";
 
 const BLOB_BYTES: u16 = 768;
 
-// Imports a text into a table, into a sink with so much room, and tells how it ended. A call of the source may fail.
+// How an import of a text into a table ends, with a sink of so much room, and whether it tells so. A call of the source may fail.
 fn import_with(
     alloc: Global,
     media: &mut MemMedia,
@@ -28,26 +30,38 @@ fn import_with(
     text: &[u8],
     failing: &[u64],
     room: usize,
-) -> Result<(JobEnd, MemSink), NoMemory> {
+    told: &str,
+) -> Result<(JobEnd, bool), NoMemory> {
     let Some(name) = Name::of(name) else {
         return Err(NoMemory);
     };
     let mut input = MemSource::new(text.to_vec(alloc)?, failing.to_vec(alloc)?);
     let mut out = MemSink::new(alloc, room, Vec::new(alloc))?;
     let end = import_image(alloc, name, gone, media, &mut input, &mut out);
-    Ok((end, out))
+    Ok((end, out.bytes() == told.as_bytes()))
 }
 
-// .. where a blob that is gone is no blob.
+// .. where a blob that is gone is no blob, whatever is told.
 pub(crate) fn import(
     alloc: Global,
     media: &mut MemMedia,
     name: &[u8],
     text: &[u8],
-    failing: &[u64],
     room: usize,
-) -> Result<(JobEnd, MemSink), NoMemory> {
-    import_with(alloc, media, name, GoneBlobs::Refused, text, failing, room)
+) -> Result<JobEnd, NoMemory> {
+    let refused = GoneBlobs::Refused;
+    let (end, _is_told) = import_with(alloc, media, name, refused, text, &[], room, "")?;
+    Ok(end)
+}
+
+// .. into table t, where that is to be told.
+pub(crate) fn import_told(
+    alloc: Global,
+    media: &mut MemMedia,
+    text: &[u8],
+    told: &str,
+) -> Result<(JobEnd, bool), NoMemory> {
+    import_with(alloc, media, b"t", GoneBlobs::Refused, text, &[], 100, told)
 }
 
 // The records of table t.
@@ -64,11 +78,19 @@ pub(crate) fn records(alloc: Global, media: &mut MemMedia) -> Result<MemSink, No
     Ok(out)
 }
 
+// Whether table t has the records of this text.
+pub(crate) fn has_records(
+    alloc: Global,
+    media: &mut MemMedia,
+    text: &[u8],
+) -> Result<bool, NoMemory> {
+    let out = records(alloc, media)?;
+    Ok(out.bytes() == text)
+}
+
 // An empty image of these lines.
 fn empty(alloc: Global, lines: &str, pages: u16) -> Result<MemMedia, NoMemory> {
-    let bytes = image(alloc, lines, pages, &[])?;
-    let len = bytes.len();
-    MemMedia::new(alloc, bytes, len)
+    medium(alloc, lines, pages, &[])
 }
 
 #[test]
@@ -103,12 +125,13 @@ fn lines_are_put_or_told(rt: HostRuntime) -> Result<(), Fail> {
     ];
     for (text, told, records_now, rows) in cases {
         let mut media = empty(rt.alloc(), PLAIN, PLAIN_BYTES)?;
-        let (end, out) = import(rt.alloc(), &mut media, b"t", text.as_bytes(), &[], 100)?;
-        assert_eq!(rt; end.status, ToolStatus::Done, "{text}");
-        assert_eq!(rt; end.kept, Some(rows), "{text}");
-        assert_eq!(rt; out.bytes(), told.as_bytes(), "{text}");
-        let out = records(rt.alloc(), &mut media)?;
-        assert_eq!(rt; out.bytes(), records_now.as_bytes(), "{text}");
+        let (end, is_told) = import_told(rt.alloc(), &mut media, text.as_bytes(), told)?;
+        let has_these = has_records(rt.alloc(), &mut media, records_now.as_bytes())?;
+        assert_eq!(rt;
+            (end.status, end.kept, is_told, has_these),
+            (ToolStatus::Done, Some(rows), true, true),
+            "{text}"
+        );
     }
     Ok(())
 }
@@ -131,28 +154,25 @@ fn older_records_are_pushed_out(rt: HostRuntime) -> Result<(), Fail> {
     // A page holds eight of these rows, and the ring keeps two of its three blocks, of four pages each, at least.
     let text = hundred_lines(rt.alloc())?;
     let mut media = empty(rt.alloc(), PLAIN, PLAIN_BYTES)?;
-    let (end, out) = import(rt.alloc(), &mut media, b"t", &text, &[], 100)?;
-    assert_eq!(rt; out.bytes(), "imported 100 refused 0\n".as_bytes());
-    assert_eq!(rt;
-        end,
-        JobEnd {
-            status: ToolStatus::Done,
-            kept: Some(68),
-            taken: LinesTaken {
-                line: 101,
-                rows: 100,
-                gone: 0
-            },
-            form: Some(LineForm {
-                columns: 1,
-                blobs: false
-            }),
-        }
-    );
+    let end = import_told(rt.alloc(), &mut media, &text, "imported 100 refused 0\n")?;
+    let whole = JobEnd {
+        status: ToolStatus::Done,
+        kept: Some(68),
+        taken: LinesTaken {
+            line: 101,
+            rows: 100,
+            gone: 0,
+        },
+        form: Some(LineForm {
+            columns: 1,
+            blobs: false,
+        }),
+    };
+    assert_eq!(rt; end, (whole, true));
     // The block of the last page has room for one more, so nothing is given up.
-    let (end, out) = import(rt.alloc(), &mut media, b"t", b"key,c1\n200,1\n", &[], 100)?;
-    assert_eq!(rt; out.bytes(), "imported 1 refused 0\n".as_bytes());
-    assert_eq!(rt; end.kept, Some(69));
+    let one = b"key,c1\n200,1\n";
+    let (end, is_told) = import_told(rt.alloc(), &mut media, one, "imported 1 refused 0\n")?;
+    assert_eq!(rt; (end.kept, is_told), (Some(69), true));
     Ok(())
 }
 
@@ -160,54 +180,50 @@ fn older_records_are_pushed_out(rt: HostRuntime) -> Result<(), Fail> {
 fn blobs_are_put(rt: HostRuntime) -> Result<(), Fail> {
     let text = "key,c1,blob\n1,-25,\n2,-5,00ABff\n3,0,-\n4,7,gone\n5,1,0g\n";
     let mut media = empty(rt.alloc(), WITH_BLOBS, BLOB_BYTES)?;
-    let (end, out) = import(rt.alloc(), &mut media, b"t", text.as_bytes(), &[], 100)?;
-    assert_eq!(rt; end.status, ToolStatus::Done);
     let told = "line 5 number 3\nline 6 number 3\nimported 3 refused 2\n";
-    assert_eq!(rt; out.bytes(), told.as_bytes());
-    let out = records(rt.alloc(), &mut media)?;
-    let kept = "key,c1,blob\n1,-25,\n2,-5,00abff\n3,0,-\n";
-    assert_eq!(rt; out.bytes(), kept.as_bytes());
+    let (end, is_told) = import_told(rt.alloc(), &mut media, text.as_bytes(), told)?;
+    let kept = b"key,c1,blob\n1,-25,\n2,-5,00abff\n3,0,-\n";
+    let has_these = has_records(rt.alloc(), &mut media, kept)?;
+    assert_eq!(rt;
+        (end.status, is_told, has_these),
+        (ToolStatus::Done, true, true)
+    );
     Ok(())
+}
+
+// How an import into table t ends that leaves out blobs that are gone, and whether it tells so.
+fn import_without_gone(
+    alloc: Global,
+    media: &mut MemMedia,
+    text: &[u8],
+    told: &str,
+) -> Result<(JobEnd, bool), NoMemory> {
+    import_with(alloc, media, b"t", GoneBlobs::LeftOut, text, &[], 200, told)
 }
 
 #[test]
 fn blobs_that_are_gone_are_left_out(rt: HostRuntime) -> Result<(), Fail> {
     // The row of line 4 isn't put, so that its blob isn't counted.
-    let text = "key,c1,blob\n4,7,gone\n5,1,\"gone\"\n5,2,gone\n6,gone,\n7,1,Gone\n";
-    let mut media = empty(rt.alloc(), WITH_BLOBS, BLOB_BYTES)?;
-    let (end, out) = import_with(
-        rt.alloc(),
-        &mut media,
-        b"t",
-        GoneBlobs::LeftOut,
-        text.as_bytes(),
-        &[],
-        200,
-    )?;
-    assert_eq!(rt; end.status, ToolStatus::Done);
+    let text = b"key,c1,blob\n4,7,gone\n5,1,\"gone\"\n5,2,gone\n6,gone,\n7,1,Gone\n";
     let told =
         "line 4 refused key 5\nline 5 number 2\nline 6 number 3\nimported 2 refused 3 gone 2\n";
-    assert_eq!(rt; out.bytes(), told.as_bytes());
+    let mut media = empty(rt.alloc(), WITH_BLOBS, BLOB_BYTES)?;
+    let (end, is_told) = import_without_gone(rt.alloc(), &mut media, text, told)?;
     let taken = LinesTaken {
         line: 6,
         rows: 2,
         gone: 2,
     };
-    assert_eq!(rt; end.taken, taken);
-    let out = records(rt.alloc(), &mut media)?;
-    let kept = "key,c1,blob\n4,7,\n5,1,\n";
-    assert_eq!(rt; out.bytes(), kept.as_bytes());
+    assert_eq!(rt;
+        (end.status, end.taken, is_told),
+        (ToolStatus::Done, taken, true)
+    );
+    assert!(rt; has_records(rt.alloc(), &mut media, b"key,c1,blob\n4,7,\n5,1,\n")?);
     // Nothing is left out, and the last line says so.
-    let (_end, out) = import_with(
-        rt.alloc(),
-        &mut media,
-        b"t",
-        GoneBlobs::LeftOut,
-        b"key,c1,blob\n8,1,00\n",
-        &[],
-        200,
-    )?;
-    assert_eq!(rt; out.bytes(), "imported 1 refused 0 gone 0\n".as_bytes());
+    let one = b"key,c1,blob\n8,1,00\n";
+    let told = "imported 1 refused 0 gone 0\n";
+    let (_end, is_told) = import_without_gone(rt.alloc(), &mut media, one, told)?;
+    assert!(rt; is_told);
     Ok(())
 }
 
@@ -229,7 +245,7 @@ fn names_may_have_a_mark_and_quotes(rt: HostRuntime) -> Result<(), Fail> {
     ];
     for (text, wanted) in cases {
         let mut media = empty(rt.alloc(), PLAIN, PLAIN_BYTES)?;
-        let (end, _out) = import(rt.alloc(), &mut media, b"t", text.as_bytes(), &[], 100)?;
+        let end = import(rt.alloc(), &mut media, b"t", text.as_bytes(), 100)?;
         assert_eq!(rt; end.status, wanted, "{text}");
     }
     Ok(())
@@ -247,18 +263,17 @@ fn an_end_says_how_far_lines_were_taken(rt: HostRuntime) -> Result<(), Fail> {
     ];
     for (text, room, line, rows) in cases {
         let mut media = empty(rt.alloc(), PLAIN, PLAIN_BYTES)?;
-        let (end, _out) = import(rt.alloc(), &mut media, b"t", text.as_bytes(), &[], room)?;
+        let end = import(rt.alloc(), &mut media, b"t", text.as_bytes(), room)?;
         let taken = LinesTaken {
             line,
             rows,
             gone: 0,
         };
-        assert_eq!(rt; end.taken, taken, "{text}");
         let form = LineForm {
             columns: 1,
             blobs: false,
         };
-        assert_eq!(rt; end.form, Some(form), "{text}");
+        assert_eq!(rt; (end.taken, end.form), (taken, Some(form)), "{text}");
     }
     Ok(())
 }
@@ -314,11 +329,13 @@ fn statuses_have_their_causes(rt: HostRuntime) -> Result<(), Fail> {
     ];
     for (text, name, room, wanted, kept) in cases {
         let mut media = empty(rt.alloc(), PLAIN, PLAIN_BYTES)?;
-        let (end, _out) = import(rt.alloc(), &mut media, name, text.as_bytes(), &[], room)?;
-        assert_eq!(rt; end.status, wanted, "{text}");
-        assert_eq!(rt; end.kept.is_some(), wanted == ToolStatus::Done, "{text}");
-        let out = records(rt.alloc(), &mut media)?;
-        assert_eq!(rt; out.bytes(), kept.as_bytes(), "{text}");
+        let end = import(rt.alloc(), &mut media, name, text.as_bytes(), room)?;
+        let has_these = has_records(rt.alloc(), &mut media, kept.as_bytes())?;
+        assert_eq!(rt;
+            (end.status, end.kept.is_some(), has_these),
+            (wanted, wanted == ToolStatus::Done, true),
+            "{text}"
+        );
     }
     Ok(())
 }
@@ -337,17 +354,17 @@ fn with_line(alloc: Global, len: usize) -> Result<Vec<u8>, NoMemory> {
 fn a_line_has_at_most_4096_bytes(rt: HostRuntime) -> Result<(), Fail> {
     let text = with_line(rt.alloc(), 4096)?;
     let mut media = empty(rt.alloc(), PLAIN, PLAIN_BYTES)?;
-    let (end, out) = import(rt.alloc(), &mut media, b"t", &text, &[], 100)?;
-    assert_eq!(rt; end.status, ToolStatus::Done);
     let told = "line 3 fields 2\nimported 2 refused 1\n";
-    assert_eq!(rt; out.bytes(), told.as_bytes());
+    let (end, is_told) = import_told(rt.alloc(), &mut media, &text, told)?;
+    assert_eq!(rt; (end.status, is_told), (ToolStatus::Done, true));
     let text = with_line(rt.alloc(), 4097)?;
     let mut media = empty(rt.alloc(), PLAIN, PLAIN_BYTES)?;
-    let (end, out) = import(rt.alloc(), &mut media, b"t", &text, &[], 100)?;
-    assert_eq!(rt; end.status, ToolStatus::BadInput { line: 3 });
-    assert_eq!(rt; out.bytes().len(), 0);
-    let out = records(rt.alloc(), &mut media)?;
-    assert_eq!(rt; out.bytes(), "key,c1\n1,2\n".as_bytes());
+    let (end, is_silent) = import_told(rt.alloc(), &mut media, &text, "")?;
+    assert_eq!(rt;
+        (end.status, is_silent),
+        (ToolStatus::BadInput { line: 3 }, true)
+    );
+    assert!(rt; has_records(rt.alloc(), &mut media, b"key,c1\n1,2\n")?);
     Ok(())
 }
 
@@ -360,13 +377,39 @@ fn a_source_that_fails_is_told(rt: HostRuntime) -> Result<(), Fail> {
     ];
     for (call, text, kept) in cases {
         let mut media = empty(rt.alloc(), PLAIN, PLAIN_BYTES)?;
-        let (end, out) = import(rt.alloc(), &mut media, b"t", text.as_bytes(), &[call], 100)?;
-        assert_eq!(rt; end.status, ToolStatus::InputRead);
-        assert_eq!(rt; out.bytes().len(), 0);
-        let out = records(rt.alloc(), &mut media)?;
-        assert_eq!(rt; out.bytes(), kept.as_bytes());
+        let refused = GoneBlobs::Refused;
+        let text = text.as_bytes();
+        let (end, is_silent) = import_with(
+            rt.alloc(),
+            &mut media,
+            b"t",
+            refused,
+            text,
+            &[call],
+            100,
+            "",
+        )?;
+        assert_eq!(rt;
+            (end.status, is_silent),
+            (ToolStatus::InputRead, true),
+            "{call}"
+        );
+        assert!(rt;
+            has_records(rt.alloc(), &mut media, kept.as_bytes())?,
+            "{call}"
+        );
     }
     Ok(())
+}
+
+// How an import of one record ends where this call of the medium fails, and whether nothing is told.
+fn import_failing(alloc: Global, call: u64) -> Result<(ToolStatus, bool), NoMemory>
+    requires { 1 ≤ call }
+{
+    let mut media = empty(alloc, PLAIN, PLAIN_BYTES)?;
+    media.fail_call(call);
+    let (end, is_silent) = import_told(alloc, &mut media, b"key,c1\n1,2\n", "")?;
+    Ok((end.status, is_silent))
 }
 
 #[test]
@@ -374,15 +417,12 @@ fn a_medium_that_fails_is_told(rt: HostRuntime) -> Result<(), Fail> {
     // The first call reads the header, the third is one of the mount, and a later one programs the page of the flush.
     let mut done = false;
     for call in 1..200 {
-        let mut media = empty(rt.alloc(), PLAIN, PLAIN_BYTES)?;
-        media.fail_call(call);
-        let (end, out) = import(rt.alloc(), &mut media, b"t", b"key,c1\n1,2\n", &[], 100)?;
-        if end.status == ToolStatus::Done {
+        let end = import_failing(rt.alloc(), call)?;
+        if end.0 == ToolStatus::Done {
             done = true;
             break;
         }
-        assert_eq!(rt; end.status, ToolStatus::Device);
-        assert_eq!(rt; out.bytes().len(), 0);
+        assert_eq!(rt; end, (ToolStatus::Device, true), "{call}");
     }
     assert!(rt; done);
     Ok(())
@@ -399,10 +439,9 @@ fn an_input_has_at_most_16777216_bytes(rt: HostRuntime) -> Result<(), Fail> {
         text.extend_from_slice(&line)?;
     }
     let mut media = empty(rt.alloc(), PLAIN, PLAIN_BYTES)?;
-    let (end, _out) = import(rt.alloc(), &mut media, b"t", &text, &[], 100_000)?;
+    let end = import(rt.alloc(), &mut media, b"t", &text, 100_000)?;
     assert_eq!(rt; end.status, ToolStatus::InputLong);
-    let out = records(rt.alloc(), &mut media)?;
-    assert_eq!(rt; out.bytes(), "key,c1\n1,2\n".as_bytes());
+    assert!(rt; has_records(rt.alloc(), &mut media, b"key,c1\n1,2\n")?);
     Ok(())
 }
 
@@ -410,16 +449,14 @@ fn an_input_has_at_most_16777216_bytes(rt: HostRuntime) -> Result<(), Fail> {
 fn a_bad_image_is_told(rt: HostRuntime) -> Result<(), Fail> {
     // Number 5 doesn't stand at place 0.
     let pieces: [Piece<'_>; 3] = [(0, &[5, 0, 0, 0, 1, 0, 0, 0]), (8, &[1]), (120, &SEAL)];
-    let bytes = image(rt.alloc(), PLAIN, PLAIN_BYTES, &pieces)?;
-    let len = bytes.len();
-    let mut media = MemMedia::new(rt.alloc(), bytes, len)?;
-    let (end, _out) = import(rt.alloc(), &mut media, b"t", b"key,c1\n", &[], 100)?;
+    let mut media = medium(rt.alloc(), PLAIN, PLAIN_BYTES, &pieces)?;
+    let end = import(rt.alloc(), &mut media, b"t", b"key,c1\n", 100)?;
     assert_eq!(rt; end, JobEnd::of(ToolStatus::BadImage { table: 0 }));
     // It isn't mounted where no table has the name.
-    let (end, _out) = import(rt.alloc(), &mut media, b"s", b"key,c1\n", &[], 100)?;
+    let end = import(rt.alloc(), &mut media, b"s", b"key,c1\n", 100)?;
     assert_eq!(rt; end, JobEnd::of(ToolStatus::NoTable));
     let mut media = empty(rt.alloc(), PLAIN, 1535)?;
-    let (end, _out) = import(rt.alloc(), &mut media, b"t", b"key,c1\n", &[], 100)?;
+    let end = import(rt.alloc(), &mut media, b"t", b"key,c1\n", 100)?;
     assert_eq!(rt; end.status, ToolStatus::NotImage);
     Ok(())
 }

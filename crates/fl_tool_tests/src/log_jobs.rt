@@ -1,7 +1,9 @@
 // Exports and imports of a table with a log, in images made by hand.
-use crate::checks::{Piece, SEAL, image};
+ghost use Rattle.std.specs.Prelude.{◌≤◌};
+
+use crate::checks::{Piece, SEAL, medium};
 use crate::exports::export;
-use crate::imports::{import, records};
+use crate::imports::{has_records, import, import_told, records};
 use crate::logs::{LOGGED, LOGGED_BYTES, ROW};
 use fl_base::NoMemory;
 use fl_flash::MemMedia;
@@ -12,24 +14,27 @@ use std::test::Fail;
 // An image whose record of key 1 stands in the log alone.
 fn owing(alloc: Global) -> Result<MemMedia, NoMemory> {
     let pieces: [Piece<'_>; 2] = [(384, &ROW), (440, &SEAL)];
-    let bytes = image(alloc, LOGGED, LOGGED_BYTES, &pieces)?;
-    let len = bytes.len();
-    MemMedia::new(alloc, bytes, len)
+    medium(alloc, LOGGED, LOGGED_BYTES, &pieces)
 }
 
 #[test]
 fn what_only_a_log_has_is_exported(rt: HostRuntime) -> Result<(), Fail> {
     let mut media = owing(rt.alloc())?;
-    let (status, out) = export(rt.alloc(), &mut media, b"t", (0, 9), 100)?;
-    assert_eq!(rt; status, ToolStatus::Done);
-    assert_eq!(rt; out.bytes(), "key,c1\n1,0\n".as_bytes());
+    let told = (ToolStatus::Done, true);
+    let text = "key,c1\n1,0\n";
+    assert_eq!(rt;
+        export(rt.alloc(), &mut media, b"t", (0, 9), 100, text)?,
+        told
+    );
     // The mount made a data page of it.
     assert_eq!(rt; media.bytes().get(1024 + 4), Some(&1));
     assert_eq!(rt; media.bytes().get(1024 + 56), Some(&0));
     // The next one finds nothing to do.
     let before = media.bytes().to_vec(rt.alloc())?;
-    let (_status, out) = export(rt.alloc(), &mut media, b"t", (0, 9), 100)?;
-    assert_eq!(rt; out.bytes(), "key,c1\n1,0\n".as_bytes());
+    assert_eq!(rt;
+        export(rt.alloc(), &mut media, b"t", (0, 9), 100, text)?,
+        told
+    );
     assert_eq!(rt; media.bytes(), before.as_slice());
     Ok(())
 }
@@ -38,12 +43,10 @@ fn what_only_a_log_has_is_exported(rt: HostRuntime) -> Result<(), Fail> {
 fn records_are_put_behind_those_of_a_log(rt: HostRuntime) -> Result<(), Fail> {
     let mut media = owing(rt.alloc())?;
     let text = b"key,c1\n1,5\n2,7\n";
-    let (end, out) = import(rt.alloc(), &mut media, b"t", text, &[], 100)?;
-    assert_eq!(rt; end.kept, Some(2));
     let told = "line 2 refused key 1\nimported 1 refused 1\n";
-    assert_eq!(rt; out.bytes(), told.as_bytes());
-    let out = records(rt.alloc(), &mut media)?;
-    assert_eq!(rt; out.bytes(), "key,c1\n1,0\n2,7\n".as_bytes());
+    let (end, is_told) = import_told(rt.alloc(), &mut media, text, told)?;
+    assert_eq!(rt; (end.kept, is_told), (Some(2), true));
+    assert!(rt; has_records(rt.alloc(), &mut media, b"key,c1\n1,0\n2,7\n")?);
     Ok(())
 }
 
@@ -58,25 +61,33 @@ fn lines_in(text: &[u8]) -> u64 {
     count
 }
 
+// How an import of four records ends where this call of the medium fails, how many it says are put, and how many the next mount
+// finds beside the one that was there.
+fn import_failing(alloc: Global, call: u64) -> Result<(ToolStatus, u64, u64), NoMemory>
+    requires { 1 ≤ call }
+{
+    let mut media = owing(alloc)?;
+    media.fail_call(call);
+    let text = b"key,c1\n2,1\n3,1\n4,1\n5,1\n";
+    let end = import(alloc, &mut media, b"t", text, 100)?;
+    let out = records(alloc, &mut media)?;
+    // The names stand in a line of their own.
+    let more = lines_in(out.bytes()).saturating_sub(2);
+    Ok((end.status, end.taken.rows, more))
+}
+
 // Whatever call of the medium fails: each record whose put was done is there after the next mount, and at most one more.
 #[test]
 fn what_was_put_survives_a_medium_that_fails(rt: HostRuntime) -> Result<(), Fail> {
-    let text = b"key,c1\n2,1\n3,1\n4,1\n5,1\n";
     let mut done = false;
     for call in 1..200 {
-        let mut media = owing(rt.alloc())?;
-        media.fail_call(call);
-        let (end, _out) = import(rt.alloc(), &mut media, b"t", text, &[], 100)?;
-        if end.status == ToolStatus::Done {
+        let (status, put, more) = import_failing(rt.alloc(), call)?;
+        if status == ToolStatus::Done {
             done = true;
             break;
         }
-        assert_eq!(rt; end.status, ToolStatus::Device);
-        // Beside them stand the line of the names and the record that was there.
-        let out = records(rt.alloc(), &mut media)?;
-        let more = lines_in(out.bytes()).saturating_sub(2);
-        assert!(rt; end.taken.rows <= more);
-        assert!(rt; more.saturating_sub(end.taken.rows) <= 1);
+        assert_eq!(rt; status, ToolStatus::Device);
+        assert!(rt; put <= more && more.saturating_sub(put) <= 1, "{call}");
     }
     assert!(rt; done);
     Ok(())

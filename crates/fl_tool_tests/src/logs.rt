@@ -1,5 +1,5 @@
 // Logs in images made by hand: what a check says of sound ones, and of some that break each rule.
-use crate::checks::{Piece, SEAL, check};
+use crate::checks::{Piece, SEAL, is_told, told};
 use std::test::Fail;
 
 // Pages of 64 bytes, two a block, and rings of three blocks: data pages 0 to 5, and behind them the log's pages 6 to 11.
@@ -45,10 +45,10 @@ fn sound_logs(rt: HostRuntime) -> Result<(), Fail> {
             "sound t rows 1 pages 1 voids 0\n",
         ),
     ];
-    for (pieces, wanted) in cases {
-        let out = check(rt.alloc(), LOGGED, LOGGED_BYTES, pieces)?;
-        assert_eq!(rt; out.bytes(), wanted.as_bytes());
-    }
+    assert_eq!(rt;
+        told(rt.alloc(), LOGGED, LOGGED_BYTES, &cases)?,
+        cases.len()
+    );
     Ok(())
 }
 
@@ -92,10 +92,10 @@ fn broken_logs(rt: HostRuntime) -> Result<(), Fail> {
         // A page that isn't kept is begun.
         (&[(640, &[0])], "fault t log 10 8\n"),
     ];
-    for (pieces, wanted) in cases {
-        let out = check(rt.alloc(), LOGGED, LOGGED_BYTES, pieces)?;
-        assert_eq!(rt; out.bytes(), wanted.as_bytes());
-    }
+    assert_eq!(rt;
+        told(rt.alloc(), LOGGED, LOGGED_BYTES, &cases)?,
+        cases.len()
+    );
     Ok(())
 }
 
@@ -103,7 +103,14 @@ fn broken_logs(rt: HostRuntime) -> Result<(), Fail> {
 #[test]
 fn a_log_comes_last(rt: HostRuntime) -> Result<(), Fail> {
     let pieces: [Piece<'_>; 4] = [(384, &ROW), (392, &[1]), (440, &SEAL), (256, &[0])];
-    let out = check(rt.alloc(), LOGGED, LOGGED_BYTES, &pieces)?;
-    assert_eq!(rt; out.bytes(), b"fault t data 4 8\n".as_slice());
+    assert!(rt;
+        is_told(
+            rt.alloc(),
+            LOGGED,
+            LOGGED_BYTES,
+            &pieces,
+            "fault t data 4 8\n"
+        )?
+    );
     Ok(())
 }

@@ -1,5 +1,7 @@
 // Maps of images made by hand: the states of pages, what rings tell, and a page that breaks a rule.
-use crate::checks::{Piece, SEAL, image};
+ghost use Rattle.std.specs.Prelude.{◌≤◌};
+
+use crate::checks::{Piece, SEAL, image, medium};
 use fl_base::{MemSink, NoMemory};
 use fl_flash::MemMedia;
 use fl_image::ToolStatus;
@@ -40,18 +42,20 @@ const ROW: [u8; 28] = [
     0, 0, 0, 0, 1, 0, 0, 0, 1, 0, 0, 0, 0, 0, 0, 0, 1, 0, 0, 0, 0, 0, 0, 0, 0, 0, 0, 0,
 ];
 
-// What a map writes, and its status.
-fn map(
+// Whether a map ends and writes so.
+fn is_drawn(
     alloc: Global,
     drawing: Drawing,
     bytes: Vec<u8>,
     failing: Vec<u64>,
-) -> Result<(MemSink, ToolStatus), NoMemory> {
+    status: ToolStatus,
+    wanted: &[u8],
+) -> Result<bool, NoMemory> {
     let len = bytes.len();
     let mut media = MemMedia::new(alloc, bytes, len)?;
     let mut out = MemSink::new(alloc, 8192, failing)?;
-    let status = map_image(alloc, drawing, &mut media, &mut out);
-    Ok((out, status))
+    let found = map_image(alloc, drawing, &mut media, &mut out);
+    Ok(found == status && out.bytes() == wanted)
 }
 
 // These lines and that of the letters.
@@ -60,6 +64,26 @@ fn with_legend(alloc: Global, lines: &str) -> Result<Vec<u8>, NoMemory> {
     text.extend_from_slice(lines.as_bytes())?;
     text.extend_from_slice(LEGEND.as_bytes())?;
     Ok(text)
+}
+
+// Whether these lines are the map of such an image, with that of the letters behind them.
+fn is_map(
+    alloc: Global,
+    text: &str,
+    pages: u16,
+    pieces: &[Piece<'_>],
+    lines: &str,
+) -> Result<bool, NoMemory> {
+    let bytes = image(alloc, text, pages, pieces)?;
+    let wanted = with_legend(alloc, lines)?;
+    is_drawn(
+        alloc,
+        Drawing::Text,
+        bytes,
+        Vec::new(alloc),
+        ToolStatus::Done,
+        &wanted,
+    )
 }
 
 #[test]
@@ -100,11 +124,7 @@ fn letters(rt: HostRuntime) -> Result<(), Fail> {
         ),
     ];
     for (pieces, wanted) in cases {
-        let bytes = image(alloc, PLAIN, 384, pieces)?;
-        let (out, status) = map(alloc, Drawing::Text, bytes, Vec::new(alloc))?;
-        assert_eq!(rt; status, ToolStatus::Done);
-        let text = with_legend(alloc, wanted)?;
-        assert_eq!(rt; out.bytes(), &text[..]);
+        assert!(rt; is_map(alloc, PLAIN, 384, pieces, wanted)?, "{wanted}");
     }
     Ok(())
 }
@@ -112,13 +132,10 @@ fn letters(rt: HostRuntime) -> Result<(), Fail> {
 #[test]
 fn rings_of_a_table(rt: HostRuntime) -> Result<(), Fail> {
     let alloc = rt.alloc();
-    let bytes = image(alloc, INDEXED, 768, &[(0, &ROW), (56, &SEAL)])?;
-    let (out, status) = map(alloc, Drawing::Text, bytes, Vec::new(alloc))?;
-    assert_eq!(rt; status, ToolStatus::Done);
     let wanted =
         "t data first 0 last 0 rows 1 waiting 0\n>#. .. ..\nt index first none last none waiting 0\n>.. .. ..\n";
-    let text = with_legend(alloc, wanted)?;
-    assert_eq!(rt; out.bytes(), &text[..]);
+    let pieces: [Piece<'_>; 2] = [(0, &ROW), (56, &SEAL)];
+    assert!(rt; is_map(alloc, INDEXED, 768, &pieces, wanted)?);
     Ok(())
 }
 
@@ -126,9 +143,17 @@ fn rings_of_a_table(rt: HostRuntime) -> Result<(), Fail> {
 fn squares(rt: HostRuntime) -> Result<(), Fail> {
     let alloc = rt.alloc();
     let bytes = image(alloc, PLAIN, 384, &[(0, &ROW), (56, &SEAL)])?;
-    let (out, status) = map(alloc, Drawing::Svg, bytes, Vec::new(alloc))?;
-    assert_eq!(rt; status, ToolStatus::Done);
-    assert_eq!(rt; out.bytes(), PICTURE.as_bytes());
+    let none = Vec::new(alloc);
+    assert!(rt;
+        is_drawn(
+            alloc,
+            Drawing::Svg,
+            bytes,
+            none,
+            ToolStatus::Done,
+            PICTURE.as_bytes()
+        )?
+    );
     Ok(())
 }
 
@@ -142,26 +167,32 @@ fn no_images(rt: HostRuntime) -> Result<(), Fail> {
         image(alloc, PLAIN, 383, &[])?,
     ];
     for bytes in images {
-        let (out, status) = map(alloc, Drawing::Text, bytes, Vec::new(alloc))?;
-        assert_eq!(rt; status, ToolStatus::NotImage);
-        assert_eq!(rt; out.bytes().len(), 0);
+        let none = Vec::new(alloc);
+        assert!(rt; is_drawn(alloc, Drawing::Text, bytes, none, ToolStatus::NotImage, b"")?);
     }
     Ok(())
+}
+
+// How a map ends whose medium fails at this call, and how much it writes.
+fn map_failing(alloc: Global, call: u64) -> Result<(ToolStatus, usize), NoMemory>
+    requires { 1 ≤ call }
+{
+    let mut media = medium(alloc, PLAIN, 384, &[(0, &ROW), (56, &SEAL)])?;
+    media.fail_call(call);
+    let mut out = MemSink::new(alloc, 8192, Vec::new(alloc))?;
+    let status = map_image(alloc, Drawing::Text, &mut media, &mut out);
+    Ok((status, out.bytes().len()))
 }
 
 // A medium that fails in any of its calls leaves nothing written.
 #[test]
 fn a_medium_that_fails(rt: HostRuntime) -> Result<(), Fail> {
-    let alloc = rt.alloc();
     for call in 1..12 {
-        let bytes = image(alloc, PLAIN, 384, &[(0, &ROW), (56, &SEAL)])?;
-        let len = bytes.len();
-        let mut media = MemMedia::new(alloc, bytes, len)?;
-        media.fail_call(call);
-        let mut out = MemSink::new(alloc, 8192, Vec::new(alloc))?;
-        let status = map_image(alloc, Drawing::Text, &mut media, &mut out);
-        assert_eq!(rt; status, ToolStatus::Device);
-        assert_eq!(rt; out.bytes().len(), 0);
+        assert_eq!(rt;
+            map_failing(rt.alloc(), call)?,
+            (ToolStatus::Device, 0),
+            "{call}"
+        );
     }
     Ok(())
 }
@@ -171,9 +202,17 @@ fn a_medium_that_fails(rt: HostRuntime) -> Result<(), Fail> {
 fn a_sink_that_fails(rt: HostRuntime) -> Result<(), Fail> {
     let alloc = rt.alloc();
     let bytes = image(alloc, PLAIN, 384, &[])?;
-    let (out, status) = map(alloc, Drawing::Text, bytes, vec![in alloc; 2]?)?;
-    assert_eq!(rt; status, ToolStatus::OutWrite);
-    let wanted = "t data first none last none rows 0 waiting 0\n>.. .. ..\n";
-    assert_eq!(rt; out.bytes(), wanted.as_bytes());
+    let second = vec![in alloc; 2]?;
+    let wanted = b"t data first none last none rows 0 waiting 0\n>.. .. ..\n";
+    assert!(rt;
+        is_drawn(
+            alloc,
+            Drawing::Text,
+            bytes,
+            second,
+            ToolStatus::OutWrite,
+            wanted
+        )?
+    );
     Ok(())
 }

@@ -1,7 +1,7 @@
 // Ships that a loss of power ends, at each operation of the copy's flash or of the source's: the next ship brings what is left.
 ghost use Rattle.std.specs.Prelude.{◌≤◌};
 
-use crate::checks::{Piece, SEAL, image};
+use crate::checks::{self, Piece, SEAL};
 use crate::imports::{import, records};
 use crate::ships::{row_page, ship};
 use fl_base::{CutKind, NoMemory};
@@ -34,10 +34,10 @@ fn lines(alloc: Global, low: u8, high: u8) -> Result<Vec<u8>, NoMemory> {
 
 // An image with these pieces, into which the records with these keys were put then.
 fn made(alloc: Global, pieces: &[Piece<'_>], low: u8, high: u8) -> Result<MemMedia, NoMemory> {
-    let mut media = medium(alloc, &image(alloc, LINES, PAGES, pieces)?)?;
+    let mut media = checks::medium(alloc, LINES, PAGES, pieces)?;
     let mut text = b"key,c1\n".to_vec(alloc)?;
     text.extend_from_slice(&lines(alloc, low, high)?)?;
-    let _end = import(alloc, &mut media, b"t", &text, &[], 100)?;
+    let _end = import(alloc, &mut media, b"t", &text, 100)?;
     Ok(media)
 }
 
@@ -83,7 +83,7 @@ impl Images {
             Side::Source => now.source.fail_call(call),
             Side::Copy => now.copy.fail_call(call),
         }
-        let (status, _out) = ship(alloc, b"t", 100, &mut now.source, &mut now.copy, 100)?;
+        let status = ship(alloc, 100, &mut now.source, &mut now.copy)?;
         Ok((now, status == ShipStatus::Device { side }))
     }
 
@@ -91,7 +91,7 @@ impl Images {
     // last ones then, at least.
     fn go_on(mut self, alloc: Global, all: &[u8], last: &[u8]) -> Result<bool, NoMemory> {
         let had = records(alloc, &mut medium(alloc, self.copy.bytes())?)?;
-        let (status, _out) = ship(alloc, b"t", 100, &mut self.source, &mut self.copy, 100)?;
+        let status = ship(alloc, 100, &mut self.source, &mut self.copy)?;
         let now = records(alloc, &mut self.copy)?;
         let (Some(left), Some(none)) = (behind(all, had.bytes()), behind(all, now.bytes())) else {
             return Ok(false);
@@ -217,7 +217,7 @@ fn a_cut_behind_void_pages(rt: HostRuntime) -> Result<(), Fail> {
     ];
     let images = Images {
         source: made(rt.alloc(), &[], 10, 15)?,
-        copy: medium(rt.alloc(), &image(rt.alloc(), LINES, PAGES, &pieces)?)?,
+        copy: checks::medium(rt.alloc(), LINES, PAGES, &pieces)?,
     };
     let (all, last) = (lines(rt.alloc(), 10, 15)?, lines(rt.alloc(), 11, 15)?);
     assert_eq!(rt;
@@ -248,7 +248,7 @@ fn a_cut_in_repairs_of_the_source(rt: HostRuntime) -> Result<(), Fail> {
         (256, &[4]),
     ];
     let images = Images {
-        source: medium(rt.alloc(), &image(rt.alloc(), LINES, PAGES, &pieces)?)?,
+        source: checks::medium(rt.alloc(), LINES, PAGES, &pieces)?,
         copy: made(rt.alloc(), &[], 10, 10)?,
     };
     let all = lines(rt.alloc(), 12, 14)?;
