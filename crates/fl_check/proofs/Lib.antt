@@ -32,6 +32,9 @@ pub mod NumbersOfRing
 pub mod OneBreach
 pub mod OneFinding
 pub mod OneFound
+pub mod OneMoreBody
+pub mod OneMorePage
+pub mod OwnNumbers
 pub mod NumbersAreUnique
 pub mod PageRows
 pub mod Parts

@@ -9,6 +9,8 @@ use Rattle.fl_check.specs.Entries.{over, kept_below, AreSeen, HasEntries}
 use Rattle.fl_check.specs.declared.rule_6_entry.Seen.{Seen}
 use Rattle.fl_check.proofs.ListedPages.{none_seen, all_entered, overrun}
 use Rattle.fl_check.proofs.FewerReads.{few_reads}
+use Rattle.std.proofs.lemmas.Result.{err_from_is_err_and}
+use Rattle.fl_check.proofs.OneMorePage.{read_fails}
 use Rattle.fl_check.proofs.rule_6_entry.first_misentered.Goals as goal
 
 pub loop-i-init : goal.loop-i-init
@@ -94,3 +96,71 @@ returns-clause-none g c =
     let l = over c.args.l in
     let all : c.loop-i.i ≡ l.index.kept = omega (arith, c.loop-i.invariant.few, c.loop-i-test.false) in
     λ told. all_entered page index rows l c.loop-i.seen (subst (λ (n : ℕ). AreSeen page index rows l n c.loop-i.seen) all (c.loop-i.invariant.seen told)) (omega (arith, c.if-next-seen.false, c.from-next.ensures))
+
+pub returns-in_err-step-clause-listing : goal.returns-in_err-step-clause-listing
+returns-in_err-step-clause-listing g c = c.see_listing.ensures.listing
+
+pub returns-in_err-step-clause-room : goal.returns-in_err-step-clause-room
+returns-in_err-step-clause-room g c = c.see_listing.ensures.room
+
+pub returns-in_err-step-clause-none : goal.returns-in_err-step-clause-none
+returns-in_err-step-clause-none g c =
+    let p = err_from_is_err_and c.from_residual.result c.from_residual.ensures.1 in
+    rw p.1 tt
+
+pub returns-in_err-step-clause-some : goal.returns-in_err-step-clause-some
+returns-in_err-step-clause-some g c =
+    let p = err_from_is_err_and c.from_residual.result c.from_residual.ensures.1 in
+    rw p.1 tt
+
+pub returns-in_err-step-clause-within : goal.returns-in_err-step-clause-within
+returns-in_err-step-clause-within g c =
+    let p = err_from_is_err_and c.from_residual.result c.from_residual.ensures.1 in
+    rw p.1 tt
+
+pub returns-in_err-step-clause-fails : goal.returns-in_err-step-clause-fails
+returns-in_err-step-clause-fails g c =
+    let p = err_from_is_err_and c.from_residual.result c.from_residual.ensures.1 in
+    rw (p.1, p.2) (read_fails (g.F.Flash.state c.args.flash.now) (g.F.Flash.state c.loop-i.flash) (g.F.Flash.state c.see_listing.new.flash) _ 0 c.loop-i.invariant.reads c.in_err-step.field-0.0 c.in_err-step.ensures.fails)
+
+pub returns-in-None-clause-listing : goal.returns-in-None-clause-listing
+returns-in-None-clause-listing g c = c.see_listing.ensures.listing
+
+pub returns-in-None-clause-room : goal.returns-in-None-clause-room
+returns-in-None-clause-room g c = c.see_listing.ensures.room
+
+pub returns-in-None-clause-none : goal.returns-in-None-clause-none
+returns-in-None-clause-none g c = λ told. tt
+
+pub returns-in-None-clause-within : goal.returns-in-None-clause-within
+returns-in-None-clause-within g c = c.loop-i-test.true
+
+pub returns-in-None-clause-fails : goal.returns-in-None-clause-fails
+returns-in-None-clause-fails g c = tt
+
+pub returns-then-next-seen-clause-listing : goal.returns-then-next-seen-clause-listing
+returns-then-next-seen-clause-listing g c = c.loop-i.invariant.listing
+
+pub returns-then-next-seen-clause-room : goal.returns-then-next-seen-clause-room
+returns-then-next-seen-clause-room g c = c.loop-i.invariant.room
+
+pub returns-then-next-seen-clause-none : goal.returns-then-next-seen-clause-none
+returns-then-next-seen-clause-none g c = λ told. tt
+
+pub returns-then-next-seen-clause-fails : goal.returns-then-next-seen-clause-fails
+returns-then-next-seen-clause-fails g c = tt
+
+pub returns-clause-listing : goal.returns-clause-listing
+returns-clause-listing g c = c.loop-i.invariant.listing
+
+pub returns-clause-room : goal.returns-clause-room
+returns-clause-room g c = c.loop-i.invariant.room
+
+pub returns-clause-some : goal.returns-clause-some
+returns-clause-some g c = λ told. tt
+
+pub returns-clause-within : goal.returns-clause-within
+returns-clause-within g c = tt
+
+pub returns-clause-fails : goal.returns-clause-fails
+returns-clause-fails g c = tt

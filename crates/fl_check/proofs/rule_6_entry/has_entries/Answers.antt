@@ -8,6 +8,8 @@ use Rattle.fl_ring.proofs.Founds.{same_pages}
 use Rattle.fl_frame.proofs.ReadsInTurn.{more_reads, told_still}
 use Rattle.fl_check.specs.Entries.{over, IsEntry}
 use Rattle.fl_check.proofs.FewerReads.{few_reads}
+use Rattle.std.proofs.lemmas.Result.{err_from_is_err_and}
+use Rattle.fl_check.proofs.OneMorePage.{read_fails}
 use Rattle.fl_check.proofs.rule_6_entry.has_entries.Goals as goal
 
 pub is_entry-requires-clause-entry : goal.is_entry-requires-clause-entry
@@ -44,3 +46,33 @@ loop-j-preserved g c =
         | inr other ↦ c.loop-j.invariant.entries told i (omega (arith, other, lt))
       ];
     }
+
+pub returns-in_err-is-clause-room : goal.returns-in_err-is-clause-room
+returns-in_err-is-clause-room g c = c.is_entry.ensures.room
+
+pub returns-in_err-is-clause-yes : goal.returns-in_err-is-clause-yes
+returns-in_err-is-clause-yes g c =
+    let p = err_from_is_err_and c.from_residual.result c.from_residual.ensures.1 in
+    rw p.1 tt
+
+pub returns-in_err-is-clause-no : goal.returns-in_err-is-clause-no
+returns-in_err-is-clause-no g c =
+    let p = err_from_is_err_and c.from_residual.result c.from_residual.ensures.1 in
+    rw p.1 tt
+
+pub returns-in_err-is-clause-fails : goal.returns-in_err-is-clause-fails
+returns-in_err-is-clause-fails g c =
+    let p = err_from_is_err_and c.from_residual.result c.from_residual.ensures.1 in
+    rw (p.1, p.2) (read_fails (g.F.Flash.state c.args.flash.now) (g.F.Flash.state c.loop-j.flash) (g.F.Flash.state c.is_entry.new.flash) _ 0 c.loop-j.invariant.reads c.in_err-is.field-0.0 c.in_err-is.ensures.fails)
+
+pub returns-then-not-is-clause-room : goal.returns-then-not-is-clause-room
+returns-then-not-is-clause-room g c = c.is_entry.ensures.room
+
+pub returns-then-not-is-clause-fails : goal.returns-then-not-is-clause-fails
+returns-then-not-is-clause-fails g c = tt
+
+pub returns-clause-room : goal.returns-clause-room
+returns-clause-room g c = c.loop-j.invariant.room
+
+pub returns-clause-fails : goal.returns-clause-fails
+returns-clause-fails g c = tt

@@ -36,3 +36,15 @@ returns-in-Some-clause-no g c =
     (λ is tells no told entry. tells no told (subst (TellsPage l.layout (page (page_back rows l.rows.marks.at c.in-Some.back))) (sym c.found_in-entry.ensures)
     (told_for page rows l c.args.listing.now c.args.j c.in-Some.back back.0 back.1 (omega (arith, back.2, c.from.ensures, c.from-2.ensures, c.first_in.ensures)) entry)))
     c.tells_back.ensures.no
+
+pub returns-in-None-clause-room : goal.returns-in-None-clause-room
+returns-in-None-clause-room g c = c.requires.room
+
+pub returns-in-None-clause-fails : goal.returns-in-None-clause-fails
+returns-in-None-clause-fails g c = tt
+
+pub returns-in-Some-clause-room : goal.returns-in-Some-clause-room
+returns-in-Some-clause-room g c = c.tells_back.ensures.room
+
+pub returns-in-Some-clause-fails : goal.returns-in-Some-clause-fails
+returns-in-Some-clause-fails g c = c.tells_back.ensures.fails

@@ -11,6 +11,8 @@ use Rattle.fl_frame.proofs.ReadsInTurn.{more_reads, told_still}
 use Rattle.fl_check.specs.Entries.{over, entries_in}
 use Rattle.fl_check.proofs.ListedPages.{one_more, descends, misentered, listing_more, entries_move}
 use Rattle.fl_check.proofs.FewerReads.{few_reads}
+use Rattle.std.proofs.lemmas.Result.{err_from_is_err_and}
+use Rattle.fl_check.proofs.OneMorePage.{one_of, at_most, behind, one_behind, read_fails}
 use Rattle.fl_check.proofs.rule_6_entry.see_listing.Goals as goal
 
 pub look-requires-clause-exists : goal.look-requires-clause-exists
@@ -81,3 +83,143 @@ returns-clause-some g c =
     (record { last = c.args.i; end = c.from-first.result + c.from.result }) refl (omega (arith, first, c.from.ensures, many)) (omega (arith, first, c.if-first-seen.false))
     (entries_move (page_at f) (page_at mid) (shape_of c.args.rows.now) l c.bytes-held.result.now _ c.entries_in-many.result (entries_in index.size l.form)
     (same_pages f mid 1 c.look.ensures.reads) bytes many (c.in_ok-has.ensures.yes c.if-not-has.false (told_still f mid 1 c.look.ensures.reads told)))
+
+pub returns-in_err-state-clause-reads : goal.returns-in_err-state-clause-reads
+returns-in_err-state-clause-reads g c = few_reads (g.F.Flash.state c.args.flash.now) (g.F.Flash.state c.look.new.flash) 1 (1 + _) c.look.ensures.reads (one_of _)
+
+pub returns-in_err-state-clause-listing : goal.returns-in_err-state-clause-listing
+returns-in_err-state-clause-listing g c = c.look.ensures.room ∙ c.requires.listing
+
+pub returns-in_err-state-clause-room : goal.returns-in_err-state-clause-room
+returns-in_err-state-clause-room g c = c.requires.room
+
+pub returns-in_err-state-clause-fails : goal.returns-in_err-state-clause-fails
+returns-in_err-state-clause-fails g c =
+    let p = err_from_is_err_and c.from_residual.result c.from_residual.ensures.1 in
+    rw (p.1, p.2) c.in_err-state.ensures.fails
+
+pub returns-in_err-state-clause-few_reads : goal.returns-in_err-state-clause-few_reads
+returns-in_err-state-clause-few_reads g c =
+    let p = err_from_is_err_and c.from_residual.result c.from_residual.ensures.1 in
+    rw p.1 tt
+
+pub returns-in_err-state-clause-none : goal.returns-in_err-state-clause-none
+returns-in_err-state-clause-none g c =
+    let p = err_from_is_err_and c.from_residual.result c.from_residual.ensures.1 in
+    rw p.1 tt
+
+pub returns-in_err-state-clause-some : goal.returns-in_err-state-clause-some
+returns-in_err-state-clause-some g c =
+    let p = err_from_is_err_and c.from_residual.result c.from_residual.ensures.1 in
+    rw p.1 tt
+
+pub returns-in_err-state-clause-last : goal.returns-in_err-state-clause-last
+returns-in_err-state-clause-last g c =
+    let p = err_from_is_err_and c.from_residual.result c.from_residual.ensures.1 in
+    rw p.1 tt
+
+pub returns-then-not-is_committed-clause-reads : goal.returns-then-not-is_committed-clause-reads
+returns-then-not-is_committed-clause-reads g c = few_reads (g.F.Flash.state c.args.flash.now) (g.F.Flash.state c.look.new.flash) 1 (1 + _) c.look.ensures.reads (one_of _)
+
+pub returns-then-not-is_committed-clause-few_reads : goal.returns-then-not-is_committed-clause-few_reads
+returns-then-not-is_committed-clause-few_reads g c = (few_reads (g.F.Flash.state c.args.flash.now) (g.F.Flash.state c.look.new.flash) 1 (1 + _) c.look.ensures.reads (one_of _), at_most _)
+
+pub returns-then-not-is_committed-clause-listing : goal.returns-then-not-is_committed-clause-listing
+returns-then-not-is_committed-clause-listing g c = c.look.ensures.room ∙ c.requires.listing
+
+pub returns-then-not-is_committed-clause-room : goal.returns-then-not-is_committed-clause-room
+returns-then-not-is_committed-clause-room g c = c.requires.room
+
+pub returns-then-not-is_committed-clause-none : goal.returns-then-not-is_committed-clause-none
+returns-then-not-is_committed-clause-none g c = λ told seen. tt
+
+pub returns-then-not-is_committed-clause-last : goal.returns-then-not-is_committed-clause-last
+returns-then-not-is_committed-clause-last g c = λ some. one_behind _ _ (c.requires.last some)
+
+pub returns-then-not-is_committed-clause-fails : goal.returns-then-not-is_committed-clause-fails
+returns-then-not-is_committed-clause-fails g c = tt
+
+pub returns-then-first-seen-clause-reads : goal.returns-then-first-seen-clause-reads
+returns-then-first-seen-clause-reads g c = few_reads (g.F.Flash.state c.args.flash.now) (g.F.Flash.state c.look.new.flash) 1 (1 + _) c.look.ensures.reads (one_of _)
+
+pub returns-then-first-seen-clause-few_reads : goal.returns-then-first-seen-clause-few_reads
+returns-then-first-seen-clause-few_reads g c = tt
+
+pub returns-then-first-seen-clause-listing : goal.returns-then-first-seen-clause-listing
+returns-then-first-seen-clause-listing g c = c.look.ensures.room ∙ c.requires.listing
+
+pub returns-then-first-seen-clause-room : goal.returns-then-first-seen-clause-room
+returns-then-first-seen-clause-room g c = c.requires.room
+
+pub returns-then-first-seen-clause-some : goal.returns-then-first-seen-clause-some
+returns-then-first-seen-clause-some g c = λ told seen. tt
+
+pub returns-then-first-seen-clause-last : goal.returns-then-first-seen-clause-last
+returns-then-first-seen-clause-last g c = tt
+
+pub returns-then-first-seen-clause-fails : goal.returns-then-first-seen-clause-fails
+returns-then-first-seen-clause-fails g c = tt
+
+pub returns-in_err-has-clause-listing : goal.returns-in_err-has-clause-listing
+returns-in_err-has-clause-listing g c = c.look.ensures.room ∙ c.requires.listing
+
+pub returns-in_err-has-clause-room : goal.returns-in_err-has-clause-room
+returns-in_err-has-clause-room g c = c.has_entries.ensures.room
+
+pub returns-in_err-has-clause-fails : goal.returns-in_err-has-clause-fails
+returns-in_err-has-clause-fails g c =
+    let p = err_from_is_err_and c.from_residual-in_err-has.result c.from_residual-in_err-has.ensures.1 in
+    rw (p.1, p.2) (read_fails (g.F.Flash.state c.args.flash.now) (g.F.Flash.state c.look.new.flash) (g.F.Flash.state c.has_entries.new.flash) 1 1 c.look.ensures.reads c.in_err-has.field-0.0 c.in_err-has.ensures.fails)
+
+pub returns-in_err-has-clause-few_reads : goal.returns-in_err-has-clause-few_reads
+returns-in_err-has-clause-few_reads g c =
+    let p = err_from_is_err_and c.from_residual-in_err-has.result c.from_residual-in_err-has.ensures.1 in
+    rw p.1 tt
+
+pub returns-in_err-has-clause-none : goal.returns-in_err-has-clause-none
+returns-in_err-has-clause-none g c =
+    let p = err_from_is_err_and c.from_residual-in_err-has.result c.from_residual-in_err-has.ensures.1 in
+    rw p.1 tt
+
+pub returns-in_err-has-clause-some : goal.returns-in_err-has-clause-some
+returns-in_err-has-clause-some g c =
+    let p = err_from_is_err_and c.from_residual-in_err-has.result c.from_residual-in_err-has.ensures.1 in
+    rw p.1 tt
+
+pub returns-in_err-has-clause-last : goal.returns-in_err-has-clause-last
+returns-in_err-has-clause-last g c =
+    let p = err_from_is_err_and c.from_residual-in_err-has.result c.from_residual-in_err-has.ensures.1 in
+    rw p.1 tt
+
+pub returns-then-not-has-clause-few_reads : goal.returns-then-not-has-clause-few_reads
+returns-then-not-has-clause-few_reads g c = tt
+
+pub returns-then-not-has-clause-listing : goal.returns-then-not-has-clause-listing
+returns-then-not-has-clause-listing g c = c.look.ensures.room ∙ c.requires.listing
+
+pub returns-then-not-has-clause-room : goal.returns-then-not-has-clause-room
+returns-then-not-has-clause-room g c = c.has_entries.ensures.room
+
+pub returns-then-not-has-clause-some : goal.returns-then-not-has-clause-some
+returns-then-not-has-clause-some g c = λ told seen. tt
+
+pub returns-then-not-has-clause-last : goal.returns-then-not-has-clause-last
+returns-then-not-has-clause-last g c = tt
+
+pub returns-then-not-has-clause-fails : goal.returns-then-not-has-clause-fails
+returns-then-not-has-clause-fails g c = tt
+
+pub returns-clause-listing : goal.returns-clause-listing
+returns-clause-listing g c = c.look.ensures.room ∙ c.requires.listing
+
+pub returns-clause-room : goal.returns-clause-room
+returns-clause-room g c = c.has_entries.ensures.room
+
+pub returns-clause-none : goal.returns-clause-none
+returns-clause-none g c = λ told seen. tt
+
+pub returns-clause-last : goal.returns-clause-last
+returns-clause-last g c = λ some. behind _
+
+pub returns-clause-fails : goal.returns-clause-fails
+returns-clause-fails g c = tt
