@@ -32,6 +32,7 @@ pub mod Load
 pub mod LoadSays
 pub mod Run
 pub mod Rows
+pub mod RowsGiven
 pub mod Listed
 pub mod ListSays
 pub mod Looked

@@ -1,6 +1,7 @@
 // Lines that are made one after another, and listed.
 ghost use Rattle.std.specs.Prelude.{◌≡◌, ℕ, ◌+◌, ◌-◌, ◌^◌, ◌<◌, ◌≤◌, true, List, Option, length, Ok, Err, OnOk, IfErr, IfOk, IfNone, IfSome};
 ghost use Rattle.std.specs.Borrow.{GName};
+ghost use Rattle.std.specs.List.{AllByRecursion};
 ghost use Rattle.fl_base.specs.Causes.{HasCause};
 ghost use Rattle.fl_flash.specs.Flash.{FlashState};
 ghost use Rattle.fl_frame.specs.Contents.{Contents, contents_of, OnlyReads};
@@ -75,7 +76,7 @@ pub(crate) fn list_lines<F: Flash, L: ReplyLines<F>, K: Sink>(
     ensures names { L.names lines.new ≡ L.names lines.old }
     ensures stays_ready { (contents : Contents) → L.ready lines.old columns contents → L.ready lines.new columns contents }
     ensures cause { HasSinkCause (K.faults out.old) (K.faults out.new) result }
-    ensures lines { GivesLines L.is_line (L.passes lines.old (contents_of (F.state flash.old))) (2 ^ 64 - 1) (K.written out.old) (K.written out.new) result }
+    ensures lines { GivesLines (AllByRecursion L.is_line) (L.passes lines.old (contents_of (F.state flash.old))) (2 ^ 64 - 1) (K.written out.old) (K.written out.new) result }
     ensures unread { IfErr result (IfUnread (F.state flash.old) (F.state flash.new)) }
     ensures lists { L.told lines.old (contents_of (F.state flash.old)) → length (L.lines lines.old (contents_of (F.state flash.old))) < 2 ^ 63 → (F.state flash.old).is_on ≡ true →
         ListsAll (L.lines lines.old (contents_of (F.state flash.old))) (K.written out.old) (K.written out.new) (F.state flash.old).media.faults (F.state flash.new).media.faults result }
@@ -121,7 +122,7 @@ pub(crate) fn answer_lines<F: Flash, L: ReplyLines<F>, K: Sink>(
     ensures names { L.names lines.new ≡ L.names lines.old }
     ensures stays_ready { (contents : Contents) → L.ready lines.old columns contents → L.ready lines.new columns contents }
     ensures cause { HasCause (K.faults out.old) (K.faults out.new) result }
-    ensures says { ListSays L.is_line (EndsCounted (L.passes lines.old (contents_of (F.state flash.old))) (F.state flash.old) (F.state flash.new)) (K.written out.old) (K.written out.new) result }
+    ensures says { ListSays (AllByRecursion L.is_line) (EndsCounted (L.passes lines.old (contents_of (F.state flash.old))) (F.state flash.old) (F.state flash.new)) (K.written out.old) (K.written out.new) result }
     ensures counted { L.told lines.old (contents_of (F.state flash.old)) → length (L.lines lines.old (contents_of (F.state flash.old))) < 2 ^ 63 → (F.state flash.old).is_on ≡ true →
         Counted (L.lines lines.old (contents_of (F.state flash.old))) (L.most lines.old (contents_of (F.state flash.old))) (L.least lines.old (contents_of (F.state flash.old)))
         (K.written out.old) (K.written out.new) (F.state flash.old).media.faults (F.state flash.new).media.faults (F.state flash.old).work.reads (F.state flash.new).work.reads result }

@@ -1,5 +1,6 @@
 use Rattle.std.proofs.Common.{rules, ℤ, ◌≡◌, ◌<◌, ◌^◌, None, List, length, map, filter, refl, sym, ◌∙◌, ap, subst, arith, ◌≤◌}
 use Rattle.std.proofs.lemmas.Int.{to_z-of_z}
+use Rattle.std.specs.List.{AllByRecursion}
 use Rattle.std.specs.Int.{w64}
 use Rattle.std.specs.Prelude.{FitsSigned}
 use Rattle.fl_cursor.specs.Cursor.{table_of, IsReady, IsTold, IsStanding, left_of}
@@ -64,4 +65,4 @@ returns-clause-counted g c = λ first plan t tells on stands.
     (counted-wider _ _ _ (scan_limit 64 plan t c.args.range None c.args.range.low) (least_reads plan t c.args.range None) _ _ _ _ _ _ _ limit least (c.list_selected.ensures.counted told few on))
 
 pub returns-clause-says : goal.returns-clause-says
-returns-clause-says g c = lists-of IsRow EndsOn _ _ (g.F.Flash.state c.args.flash.now) (g.F.Flash.state c.list_selected.new.flash) _ _ _ (ap table_of c.new-rows.ensures.rows ∙ c.begin-cursor.ensures.table) c.list_selected.ensures.says
+returns-clause-says g c = lists-of (λ (t : Table 64 64). AllByRecursion IsRow) EndsOn _ _ (g.F.Flash.state c.args.flash.now) (g.F.Flash.state c.list_selected.new.flash) _ _ _ (ap table_of c.new-rows.ensures.rows ∙ c.begin-cursor.ensures.table) c.list_selected.ensures.says

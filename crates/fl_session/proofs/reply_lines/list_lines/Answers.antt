@@ -1,5 +1,6 @@
 use Rattle.std.proofs.Common.{◌≡◌, ℕ, ◌+◌, ◌-◌, ◌^◌, ◌≤◌, Ok, Option, List, refl, sym, ◌∙◌, subst, arith}
 use Rattle.std.proofs.lemmas.Result.{err_from_is_err_and}
+use Rattle.std.specs.List.{AllByRecursion}
 use Rattle.std.specs.Prelude.{IfNone}
 use Rattle.fl_frame.specs.Contents.{Contents, contents_of}
 use Rattle.fl_page.proofs.ReadsInTurn.{IsCaused-later}
@@ -8,7 +9,7 @@ use Rattle.fl_script.specs.declared.reply.Reply.{Reply}
 use Rattle.fl_base.specs.Causes.{Appends, AppendsFront}
 use Rattle.fl_session.specs.ListSays.{WroteLines}
 use Rattle.fl_session.specs.Lines.{LineSteps, IsFirstLine}
-use Rattle.fl_session.proofs.AnyLines.{bad-by, made-line, wrote-into, wrote-more, wrote-none}
+use Rattle.fl_session.proofs.AnyLines.{bad-by, each-more, made-line, wrote-into, wrote-more, wrote-none}
 use Rattle.fl_session.proofs.LinesListed.{front-none, front-next, front-failed, front-count, front-read}
 use Rattle.fl_session.proofs.reply_lines.list_lines.Goals as goal
 
@@ -18,7 +19,7 @@ loop-count-init g c = record {
   names = refl;
   ready = λ contents h. h;
   later = omega arith;
-  lines = wrote-none _ _ _;
+  lines = wrote-none (AllByRecursion g.L.ReplyLines.is_line) _ _ tt;
   same_test = λ contents bad h. h;
   told = λ t. t;
   front = λ t. front-none _ _ _;
@@ -101,7 +102,8 @@ loop-count-preserved g c =
       later = omega (arith, c.loop-count.invariant.later, c.in_ok-write_reply.ensures.cause.later);
       lines =
           let line = made-line _ _ c.in-Some.line c.in-Some.is c.in_ok-line.ensures.kind in
-          wrote-more _ _ _ _ _ _ c.loop-count.invariant.lines c.loop-count-test.true line.line line.is_line (subst (λ (l : List ℕ). Appends (g.K.Sink.written c.loop-count.out) (g.K.Sink.written c.write_reply.new.out) l) line.text_is c.in_ok-write_reply.ensures.text);
+          wrote-more _ (AllByRecursion g.L.ReplyLines.is_line) _ _ _ _ c.loop-count.invariant.lines _ c.loop-count-test.true line.line (each-more g.L.ReplyLines.is_line c.loop-count.invariant.lines.lines line.line c.loop-count.invariant.lines.are_lines line.is_line)
+          (subst (λ (l : List ℕ). Appends (g.K.Sink.written c.loop-count.out) (g.K.Sink.written c.write_reply.new.out) l) line.text_is c.in_ok-write_reply.ensures.text);
       same_test = λ contents bad h. c.loop-count.invariant.same_test contents bad (c.next_line.ensures.same_test contents bad h);
       told = λ t.
           let told = subst (λ (k : Contents). g.L.ReplyLines.told c.loop-count.lines k) (sym same) (c.loop-count.invariant.told t) in
@@ -160,7 +162,7 @@ pub returns-in_err-write_reply-clause-lines : goal.returns-in_err-write_reply-cl
 returns-in_err-write_reply-clause-lines g c =
     let line = made-line _ _ c.in-Some.line c.in-Some.is c.in_ok-line.ensures.kind in
     let p = err_from_is_err_and c.from_residual-in_err-write_reply.result c.from_residual-in_err-write_reply.ensures.1 in
-    rw (p.1, p.2) (wrote-into _ _ _ _ _ _ c.loop-count.invariant.lines c.loop-count-test.true line.line line.is_line
+    rw (p.1, p.2) (wrote-into _ (AllByRecursion g.L.ReplyLines.is_line) _ _ _ _ c.loop-count.invariant.lines _ c.loop-count-test.true line.line (each-more g.L.ReplyLines.is_line c.loop-count.invariant.lines.lines line.line c.loop-count.invariant.lines.are_lines line.is_line)
     (subst (λ (l : List ℕ). AppendsFront (g.K.Sink.written c.loop-count.out) (g.K.Sink.written c.write_reply.new.out) l) line.text_is c.in_err-write_reply.ensures.text))
 
 pub returns-in_err-write_reply-clause-unread : goal.returns-in_err-write_reply-clause-unread
@@ -171,4 +173,4 @@ returns-in_err-write_reply-clause-unread g c =
 pub returns-clause-lines : goal.returns-clause-lines
 returns-clause-lines g c =
     let is : c.loop-count.count ≡ 2 ^ 64 - 1 = omega (arith, c.loop-count-test.false, c.loop-count.invariant.lines.upto) in
-    subst (λ n. WroteLines g.L.ReplyLines.is_line (2 ^ 64 - 1) (g.K.Sink.written c.args.out.now) (g.K.Sink.written c.loop-count.out) n) is c.loop-count.invariant.lines
+    subst (λ n. WroteLines (AllByRecursion g.L.ReplyLines.is_line) (2 ^ 64 - 1) (g.K.Sink.written c.args.out.now) (g.K.Sink.written c.loop-count.out) n) is c.loop-count.invariant.lines

@@ -1,5 +1,5 @@
 use Rattle.std.proofs.Common.{◌≡◌, ◌^◌, ◌<◌, ◌≤◌, length, Some, rules, refl, sym, ◌∙◌, ap, map, [], ◌∷◌, arith, inl, inr}
-use Rattle.std.specs.List.{slice_get}
+use Rattle.std.specs.List.{AllByRecursion, slice_get}
 use Rattle.fl_flash.specs.declared.flash.Work.{Work}
 use Rattle.fl_model.specs.Operators as operators
 use Rattle.fl_model.specs.Record.{Record}
@@ -86,11 +86,11 @@ returns-then-columns-comparison-clause-cause g c =
       c.in-Ok.at,
       c.index.result.now,
       is-here _ c.args.name c.in-Ok.at c.index.result.now c.in-Ok.ensures here,
-      lacks-says _ _ _ IsRow c.index.result.now _ _ _ _ c.args.comparison.column (sym (ap (λ (t : Table 64 64). lacked_column (layout_in t) (c.args.comparison.column ∷ [])) c.table-table.ensures) ∙ lacks-one (layout_in c.table-table.result.now) c.args.comparison.column beyond) refl c.write_reply-then-columns-comparison.ensures.text,
+      lacks-says _ _ _ (AllByRecursion IsRow) c.index.result.now _ _ _ _ c.args.comparison.column (sym (ap (λ (t : Table 64 64). lacked_column (layout_in t) (c.args.comparison.column ∷ [])) c.table-table.ensures) ∙ lacks-one (layout_in c.table-table.result.now) c.args.comparison.column beyond) refl c.write_reply-then-columns-comparison.ensures.text,
     )
 
 pub returns-clause-cause : goal.returns-clause-cause
 returns-clause-cause g c =
     let here : slice_get c.args.self.now.tables.entries.items c.in-Ok.at ≡ Some c.index.result.now = reached-here c.args.self.now.tables.entries.items _ _ c.in-Ok.at c.index.result.now c.in-Ok.ensures c.index.ensures in
     let within : c.args.comparison.column ≤ length (layout_in c.table-table.result.now).columns = search rules in
-    inr (c.in-Ok.at, c.index.result.now, is-here _ c.args.name c.in-Ok.at c.index.result.now c.in-Ok.ensures here, has-says _ _ _ IsRow c.index.result.now _ _ _ _ (sym (ap (λ (t : Table 64 64). lacked_column (layout_in t) (c.args.comparison.column ∷ [])) c.table-table.ensures) ∙ has-one (layout_in c.table-table.result.now) c.args.comparison.column within) (looks-lists _ _ _ _ _ IsRow EndsOn _ _ _ _ _ _ _ refl c.select.ensures.reads_only c.table-table.ensures c.select.ensures.says))
+    inr (c.in-Ok.at, c.index.result.now, is-here _ c.args.name c.in-Ok.at c.index.result.now c.in-Ok.ensures here, has-says _ _ _ (AllByRecursion IsRow) c.index.result.now _ _ _ _ (sym (ap (λ (t : Table 64 64). lacked_column (layout_in t) (c.args.comparison.column ∷ [])) c.table-table.ensures) ∙ has-one (layout_in c.table-table.result.now) c.args.comparison.column within) (looks-lists _ _ _ _ _ (λ (t : Table 64 64). AllByRecursion IsRow) EndsOn _ _ _ _ _ _ _ refl c.select.ensures.reads_only c.table-table.ensures c.select.ensures.says))
