@@ -55,6 +55,7 @@ pub mod BlobShows
 pub mod BlobReplies
 pub mod CursorsOf
 pub mod RowsInTurn
+pub mod RisingLines
 pub mod GivenRows
 pub mod NextRows
 pub mod Resumed

@@ -4,6 +4,7 @@ use Rattle.std.specs.List.{AllByRecursion}
 use Rattle.fl_base.specs.declared.types.CutKind.{CutKind}
 use Rattle.fl_base.specs.declared.types.KeyRange.{KeyRange}
 use Rattle.fl_base.specs.declared.types.Span.{Span}
+use Rattle.fl_cursor.specs.Asked.{above_range}
 use Rattle.fl_cursor.specs.declared.bookmark.Bookmark.{Bookmark}
 use Rattle.fl_flash.specs.Flash.{FlashState, page_at}
 use Rattle.fl_flash.specs.declared.flash.FlashFault.{FlashFault}
@@ -47,9 +48,10 @@ use Rattle.fl_session.specs.Answer.{IsReached, load_replies, mount_reply}
 use Rattle.fl_session.specs.Asked.{lacked_column}
 use Rattle.fl_session.specs.BlobSays.{BlobSays, MayBeBadFor}
 use Rattle.fl_session.specs.Cost.{cost_of}
-use Rattle.fl_session.specs.ListSays.{EndsNext, EndsOn, EndsOnBoth, IsFields, IsGroup, IsPair, IsRow, ListSays}
+use Rattle.fl_session.specs.ListSays.{EndsNext, EndsOn, EndsOnBoth, IsFields, IsGroup, IsPair, ListSays}
 use Rattle.fl_session.specs.LoadSays.{LoadFails, PutsRecords}
 use Rattle.fl_session.specs.Notes.{with_cursor, without_cursors}
+use Rattle.fl_session.specs.Rising.{AreRising, IsRow}
 use Rattle.fl_session.specs.Rows.{row_reply}
 use Rattle.fl_session.specs.RowsGiven.{AreRows, MovesOver}
 use Rattle.fl_session.specs.declared.cost.Cost.TheVariants.{OfGet, OfScan}
@@ -323,8 +325,8 @@ Caused (Get name key) old new told told_now result = Writes told told_now result
 Caused (Blob name key) old new told told_now result = Lists old new name told told_now result (λ entry. OnlyLooks old new old.notes × BlobSays (MayBeBadFor (table_in entry.table) old.flash) old.flash new.flash told told_now result)
 Caused (Scan name range span) old new told told_now result = Lists old new name told told_now result (λ entry. NotesScan old new × ListSays (AreRows (has_blobs (table_in entry.table)) (mark_on (table_in entry.table) range span)) (EndsOn (table_in entry.table) old.flash new.flash) told told_now result)
 Caused (Next cursor count) old new told told_now result = NextLooks old new cursor count told told_now result
-Caused (Select name range column op value) old new told told_now result = Lists old new name told told_now result (λ entry. IfLacks old new (AllByRecursion IsRow) entry told told_now result (lacked_column (layout_in (table_in entry.table)) (column ∷ [])))
-Caused (Project name range columns) old new told told_now result = Lists old new name told told_now result (λ entry. IfLacks old new (AllByRecursion IsFields) entry told told_now result (lacked_column (layout_in (table_in entry.table)) columns))
+Caused (Select name range column op value) old new told told_now result = Lists old new name told told_now result (λ entry. IfLacks old new (AreRising IsRow (above_range range.low None)) entry told told_now result (lacked_column (layout_in (table_in entry.table)) (column ∷ [])))
+Caused (Project name range columns) old new told told_now result = Lists old new name told told_now result (λ entry. IfLacks old new (AllByRecursion (IsFields (length columns))) entry told told_now result (lacked_column (layout_in (table_in entry.table)) columns))
 Caused (Agg name range column width) old new told told_now result = Lists old new name told told_now result (λ entry. IfLacks old new (AllByRecursion IsGroup) entry told told_now result (lacked_column (layout_in (table_in entry.table)) (column ∷ [])))
 Caused (Join left right range) old new told told_now result = Lists old new left told told_now result (λ entry. Lists old new right told told_now result (λ other. OnlyLooks old new old.notes × ListSays (AllByRecursion IsPair) (EndsOnBoth (table_in entry.table) (table_in other.table) old.flash new.flash) told told_now result))
 Caused (Load name count step seed) old new told told_now result = Writes told told_now result (IsRefused old new name) ⊎ ((at : ℕ) × (entry : Entry) × IsHere old name at entry × LoadSays old new count step seed at entry told told_now result)

@@ -20,14 +20,10 @@ use Rattle.fl_session.specs.Nexts.{ending_of}
 use Rattle.fl_session.specs.declared.listing.ListFault.{ListFault}
 use Rattle.fl_session.specs.declared.listing.ListFault.TheVariants.{Sink, Read}
 
--- the line of a row, of its fields, of a group, of a pair
-abbrev pub IsRow : Reply → Type 0
-IsRow (reply.Row key values note) = Unit {0}
-IsRow _ = ⊥
-
-abbrev pub IsFields : Reply → Type 0
-IsFields (reply.Fields fields) = Unit {0}
-IsFields _ = ⊥
+-- the line of so many fields, of a group, of a pair
+abbrev pub IsFields : ℕ → Reply → Type 0
+IsFields count (reply.Fields fields) = length fields ≡ count
+IsFields count _ = ⊥
 
 abbrev pub IsGroup : Reply → Type 0
 IsGroup (reply.Group group count least greatest sum mean) = Unit {0}

@@ -1,5 +1,4 @@
 use Rattle.std.proofs.Common.{◌≡◌, ◌+◌, ◌-◌, ◌^◌, ◌<◌, ◌≤◌}
-use Rattle.std.specs.List.{AllByRecursion}
 use Rattle.fl_frame.specs.Contents.{Contents, contents_of, OnlyReads}
 use Rattle.fl_page.specs.declared.fault.BadPage.{BadPage}
 use Rattle.fl_session.specs.ListSays.{WroteLines}
@@ -15,7 +14,7 @@ invariant-loop-count g l =
       names : L.names l.lines ≡ L.names l.fn.lines;
       ready : (contents : Contents) → L.ready l.fn.lines l.fn.columns contents → L.ready l.lines l.fn.columns contents;
       later : g.K.Sink.faults l.fn.out ≤ g.K.Sink.faults l.out;
-      lines : WroteLines (AllByRecursion L.is_line) (2 ^ 64 - 1) (g.K.Sink.written l.fn.out) (g.K.Sink.written l.out) l.count;
+      lines : WroteLines (L.made l.fn.lines l.lines) (2 ^ 64 - 1) (g.K.Sink.written l.fn.out) (g.K.Sink.written l.out) l.count;
       same_test : (contents : Contents) (bad : BadPage) → L.passes l.lines contents bad → L.passes l.fn.lines contents bad;
       told : L.told l.fn.lines contents → L.told l.lines contents;
       front : L.told l.fn.lines contents →
