@@ -40,3 +40,4 @@ pub mod Asked
 pub mod Complete
 pub mod Determined
 pub mod Operations
+pub mod Unarmed
