@@ -7,7 +7,7 @@ use Rattle.fl_plan.specs.declared.table_config.TableConfig.{TableConfig}
 use Rattle.fl_ring.specs.Ring.{Shape}
 use Rattle.fl_check.specs.Claims.{AllBelow}
 use Rattle.fl_check.specs.ContentPage.{IsContentPage}
-use Rattle.fl_check.specs.Looks.{OnlyLooks}
+use Rattle.fl_frame.specs.Reads.{OnlyLooks}
 use Rattle.fl_check.specs.Reaches.{AreReaches, HasContent, AreMeasured}
 use Rattle.fl_check.specs.References.{HasRows, PageLeads, ReferencesBreak}
 use Rattle.fl_check.specs.Rising.{HaveRows}

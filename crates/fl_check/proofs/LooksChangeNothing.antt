@@ -1,35 +1,16 @@
 -- Looks one after another, which leave the pages as they are.
-use Rattle.std.proofs.Common.{◌≡◌, ℕ, ◌+◌, ◌*◌, ◌≤◌, List, Option, IsTrue, IfSome, refl, sym, ◌∙◌, ap, subst, arith}
+use Rattle.std.proofs.Common.{◌≡◌, ℕ, ◌+◌, ◌*◌, ◌≤◌, List, Option, IsTrue, IfSome, sym, ◌∙◌, ap, subst, arith}
 use Rattle.fl_base.specs.declared.types.Geometry.{Geometry}
 use Rattle.fl_base.specs.declared.types.RingPlace.{RingPlace}
 use Rattle.fl_flash.specs.Flash.{FlashState, page_at}
 use Rattle.fl_flash.specs.Places.{page_of}
 use Rattle.fl_flash.specs.declared.flash.FlashFault.{FlashFault}
 use Rattle.fl_flash.specs.declared.flash.FlashFault.TheVariants.{PowerLost, Media}
-use Rattle.fl_frame.proofs.CallsInTurn.{goes-then, goes-same}
-use Rattle.fl_frame.specs.Reads.{OnlyReads}
+use Rattle.fl_frame.specs.Reads.{OnlyLooks}
 use Rattle.fl_frame.specs.Causes.{ReadFails}
 use Rattle.fl_plan.specs.Limits.{IsRingSize}
 use Rattle.fl_plan.specs.declared.table_config.TableConfig.{TableConfig}
-use Rattle.fl_check.specs.Looks.{OnlyLooks}
 use Rattle.fl_check.specs.Whole.{Fits, LogFits}
-
-pub looks_by : (a b : FlashState) (n : ℕ) → OnlyReads a n b → OnlyLooks a b
-looks_by a b n x = record { goes = x.goes; same = x.same; armed = x.armed; power = x.power; cuts = x.cuts; programs = x.programs; erases = x.erases }
-
-pub looks_none : (a : FlashState) → OnlyLooks a a
-looks_none a = record { goes = goes-same a; same = refl; armed = refl; power = refl; cuts = refl; programs = refl; erases = refl }
-
-pub looks_more : (a b c : FlashState) → OnlyLooks a b → OnlyLooks b c → OnlyLooks a c
-looks_more a b c x y = record {
-  goes = goes-then a b c x.goes y.goes;
-  same = y.same ∙ x.same;
-  armed = y.armed ∙ x.armed;
-  power = y.power ∙ x.power;
-  cuts = y.cuts ∙ x.cuts;
-  programs = y.programs ∙ x.programs;
-  erases = y.erases ∙ x.erases;
-}
 
 pub same_pages : (a b : FlashState) → OnlyLooks a b → page_at b ≡ page_at a
 same_pages a b x =

@@ -6,7 +6,8 @@ use Rattle.fl_mark.specs.declared.page_state.PageState.{PageState}
 use Rattle.fl_ring.specs.Looking.{OnlyReads, ReadFails, state_at}
 use Rattle.fl_ring.proofs.ReadsInTurn.{more_reads, same_page, same_state, told_still}
 use Rattle.fl_check.proofs.FewerReads.{few_reads}
-use Rattle.fl_check.proofs.LooksChangeNothing.{looks_by, fails_later}
+use Rattle.fl_frame.proofs.ReadsInTurn.{looks_by}
+use Rattle.fl_check.proofs.LooksChangeNothing.{fails_later}
 
 module _ (a b c : FlashState) (i n : ℕ) (before : OnlyReads a i b) where
   pub one_read : OnlyReads b 1 c → i < n → OnlyReads a n c

@@ -10,7 +10,7 @@ use Rattle.fl_ring.specs.Newest.{commits, page_back}
 use Rattle.fl_check.specs.Bodies.{HaveBodies}
 use Rattle.fl_check.specs.Claims.{AllBelow}
 use Rattle.fl_check.specs.ContentPage.{IsContentPage}
-use Rattle.fl_check.specs.Looks.{OnlyLooks}
+use Rattle.fl_frame.specs.Reads.{OnlyLooks}
 use Rattle.fl_check.specs.Numbers.{HaveNumbers}
 use Rattle.fl_check.specs.Reaches.{HasContent}
 use Rattle.fl_check.specs.Rising.{HaveRows}
@@ -20,7 +20,8 @@ use Rattle.fl_check.specs.declared.numbering.Numbering.{Numbering}
 use Rattle.fl_check.specs.declared.tally.Tally.{Tally}
 use Rattle.fl_check.proofs.ContentPages.{content_count}
 use Rattle.fl_check.proofs.FormedRows.{rows_of, page_short}
-use Rattle.fl_check.proofs.LooksChangeNothing.{looks_more, seen}
+use Rattle.fl_frame.proofs.ReadsInTurn.{looks_more}
+use Rattle.fl_check.proofs.LooksChangeNothing.{seen}
 
 -- no page of a table is long
 pages_short : (config : TableConfig) (f : FlashState) → Fits config f → (p : ℕ) → length (page_at f p) < 65536

@@ -1,6 +1,6 @@
 -- What a check leaves, and why it finds nothing.
 use Rattle.std.specs.Prelude.{◌≡◌, ◌⊎◌, false, Result, Err}
-use Rattle.fl_flash.specs.Flash.{FlashState, Goes}
+use Rattle.fl_flash.specs.Flash.{FlashState}
 use Rattle.fl_flash.specs.declared.flash.FlashFault.{FlashFault}
 use Rattle.fl_flash.specs.declared.flash.FlashFault.TheVariants.{PowerLost}
 use Rattle.fl_frame.specs.Causes.{ReadFails}
@@ -9,16 +9,6 @@ use Rattle.fl_check.specs.declared.finding.CheckFault.TheVariants.{Flash, NoMemo
 use Rattle.fl_check.specs.declared.halt.Halt.{Halt}
 use Rattle.fl_check.specs.declared.halt.Fault.{Fault}
 use Rattle.fl_check.specs.declared.halt.Halt.TheVariants.{Failed, Found}
-
--- nothing of the flash changes but the counts of reads and faults
-pub record OnlyLooks (old new : FlashState) : Type 0 where
-  pub goes : Goes old new
-  pub same : new.media.content ≡ old.media.content
-  pub armed : new.armed ≡ old.armed
-  pub power : new.is_on ≡ old.is_on
-  pub cuts : new.cuts ≡ old.cuts
-  pub programs : new.work.programs ≡ old.work.programs
-  pub erases : new.work.erases ≡ old.work.erases
 
 -- a fault of the flash has its cause; where memory is wanting the flash wasn't looked at
 abbrev pub CheckFails : FlashState → CheckFault → FlashState → Type 0

@@ -44,14 +44,15 @@ pub record IsFound (len : ℕ) (head : List ℕ) (old new : MediaState) : Type 0
   pub reads : new.reads ≡ next_count old.reads
   pub later : old.faults ≤ new.faults
 
--- The medium failed in the call. One that wasn't empty is unchanged; one that was is no longer than it should become. It
--- was read once at most.
+-- The medium failed in the call. One that wasn't empty is unchanged, and was read once at most; one that was is no longer than it
+-- should become, and wasn't read.
 pub record IsBroken (len : ℕ) (old new : MediaState) : Type 0 where
   pub rose : Rose old.faults new.faults
   pub later : old.faults ≤ new.faults
   pub reads : new.reads ≤ old.reads + 1
   pub tells : new.tells ≡ old.tells
   pub part : old.content ≡ [] → length new.content ≤ len
+  pub unread : old.content ≡ [] → new.reads ≡ old.reads
   pub same : (old.content ≡ [] → ⊥) → new.content ≡ old.content
 
 -- the first place at which two texts differ

@@ -14,7 +14,7 @@ ghost use Rattle.fl_store.specs.Named.{IsImageWith};
 ghost use Rattle.fl_store.specs.Repaired.{AreRepaired, IsLeft};
 ghost use Rattle.fl_store.specs.Store.{at_rest};
 ghost use Rattle.fl_store.specs.Tables.{IsNamed, LieOn, TablesStand};
-ghost use Rattle.fl_store.specs.Unarmed.{IsUnarmed};
+ghost use Rattle.fl_frame.specs.Causes.{IsUnarmed};
 ghost use Rattle.fl_words.specs.Medium.{IsImage};
 ghost use Rattle.fl_export.specs.Ends.{StatusFits, ExportEnds};
 ghost use Rattle.fl_export.specs.Over.{ExportsOver};

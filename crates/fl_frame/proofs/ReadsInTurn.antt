@@ -1,4 +1,4 @@
--- Reads one after another, and the cause of a fault after them.
+-- Reads and looks one after another, and the cause of a fault after them.
 use Rattle.std.proofs.Common.{◌≡◌, ℕ, ◌+◌, List, IsTrue, true, inl, inr, Result, Ok, refl, sym, ◌∙◌, ap, subst, arith}
 use Rattle.std.proofs.lemmas.Bool.{cases_Bool}
 use Rattle.fl_base.specs.declared.types.Geometry.{Geometry}
@@ -7,7 +7,7 @@ use Rattle.fl_flash.specs.Places.{page_of}
 use Rattle.fl_flash.specs.declared.flash.FlashFault.{FlashFault}
 use Rattle.fl_flash.specs.declared.flash.FlashFault.TheVariants.{PowerLost, Media}
 use Rattle.fl_frame.specs.Causes.{CausedBy, ReadFails}
-use Rattle.fl_frame.specs.Reads.{OnlyReads}
+use Rattle.fl_frame.specs.Reads.{OnlyLooks, OnlyReads}
 use Rattle.fl_frame.proofs.CallsInTurn.{cut-later, goes-same, goes-then}
 
 pub no_reads : (a : FlashState) → OnlyReads a 0 a
@@ -22,6 +22,24 @@ more_reads a b c n m x y = record {
   cuts = y.cuts ∙ x.cuts;
   reads = omega (arith, x.reads, y.reads);
   media_reads = omega (arith, x.media_reads, y.media_reads);
+  programs = y.programs ∙ x.programs;
+  erases = y.erases ∙ x.erases;
+}
+
+-- reads are looks
+pub looks_by : (a b : FlashState) (n : ℕ) → OnlyReads a n b → OnlyLooks a b
+looks_by a b n x = record { goes = x.goes; same = x.same; armed = x.armed; power = x.power; cuts = x.cuts; programs = x.programs; erases = x.erases }
+
+pub looks_none : (a : FlashState) → OnlyLooks a a
+looks_none a = record { goes = goes-same a; same = refl; armed = refl; power = refl; cuts = refl; programs = refl; erases = refl }
+
+pub looks_more : (a b c : FlashState) → OnlyLooks a b → OnlyLooks b c → OnlyLooks a c
+looks_more a b c x y = record {
+  goes = goes-then a b c x.goes y.goes;
+  same = y.same ∙ x.same;
+  armed = y.armed ∙ x.armed;
+  power = y.power ∙ x.power;
+  cuts = y.cuts ∙ x.cuts;
   programs = y.programs ∙ x.programs;
   erases = y.erases ∙ x.erases;
 }

@@ -1,11 +1,11 @@
 -- Calls that are watched, one after another, and the cause of a fault in a later one.
-use Rattle.std.proofs.Common.{◌≡◌, inl, inr, Bool, true, false, IsTrue, None, refl, sym, ◌∙◌, subst, arith}
+use Rattle.std.proofs.Common.{◌≡◌, inl, inr, Bool, true, false, IsTrue, refl, sym, ◌∙◌, subst, arith}
 use Rattle.fl_base.specs.Causes.{Rose}
 use Rattle.fl_flash.specs.Flash.{FlashState, Goes}
 use Rattle.fl_flash.specs.declared.flash.FlashFault.{FlashFault}
 use Rattle.fl_flash.specs.declared.flash.FlashFault.TheVariants.{PowerLost, Media}
 use Rattle.fl_model.specs.Work.{Device}
-use Rattle.fl_frame.specs.Causes.{CausedBy}
+use Rattle.fl_frame.specs.Causes.{CausedBy, IsUnarmed}
 use Rattle.fl_frame.specs.Device.{SameDevice}
 use Rattle.fl_frame.specs.Watched.{IsWatched}
 use Rattle.fl_frame.proofs.CallsInTurn.{cut-later}
@@ -41,10 +41,14 @@ cause-later old mid new goes on PowerLost (inl off) = inl (by_power old.is_on re
 cause-later old mid new goes on PowerLost (inr cut) = inr (cut-later old mid new goes cut)
 cause-later old mid new goes on Media rises = omega (arith, rises, goes.faults)
 
--- where the power is on, and no cut is armed, it isn't lost
-pub never-lost : (old new : FlashState) → old.is_on ≡ true → old.armed ≡ None → CausedBy old PowerLost new → ⊥
-never-lost old new on none (inl off) = cc (on, off)
-never-lost old new on none (inr cut) = cut.armed none
+-- where the power is on, and no cut is armed, calls leave it so
+pub unarmed-then : (old new : FlashState) → IsUnarmed old → Goes old new → IsUnarmed new
+unarmed-then old new unarmed goes = let keeps = goes.power unarmed.none in record { on = keeps.on unarmed.on; none = keeps.unarmed }
+
+-- .. and it isn't lost
+pub never-lost : (old new : FlashState) → IsUnarmed old → CausedBy old PowerLost new → ⊥
+never-lost old new unarmed (inl off) = cc (unarmed.on, off)
+never-lost old new unarmed (inr cut) = cut.armed unarmed.none
 
 -- what rose in a later call rose in both
 pub risen-later : (old mid new : FlashState) (rose : Bool) (device : Device) → IsWatched old new rose device → Goes old mid → Rose mid.media.faults new.media.faults → IsTrue rose

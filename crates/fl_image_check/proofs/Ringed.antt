@@ -9,7 +9,7 @@ use Rattle.fl_check.specs.Looks as rings
 use Rattle.fl_check.specs.Whole.{Fits, LogFits}
 use Rattle.fl_check.specs.declared.finding.CheckFault.{CheckFault}
 use Rattle.fl_check.specs.declared.finding.CheckFault.TheVariants.{Flash, NoMemory}
-use Rattle.fl_image_check.specs.Checking.{LiesOn, LogLies, OnlyLooks, FailsBy}
+use Rattle.fl_image_check.specs.Checking.{LiesOn, LogLies, FailsBy}
 
 -- a ring that begins behind others
 behind : (ring : Option RingPlace) (before others blocks : ℕ) → IfSome ring (λ place. place.first_block ≡ before) → before + blocks_in ring + others ≤ blocks →
@@ -31,17 +31,6 @@ fits config f lies = record {
 pub log-fits : (config : TableConfig) (log : Option RingPlace) (f : FlashState) → LogLies config log f → LogFits log f
 log-fits config None f lies = tt
 log-fits config (Some place) f lies = (lies.0, lies.2)
-
-pub looks : (old new : FlashState) → rings.OnlyLooks old new → OnlyLooks old new
-looks old new h = record {
-  goes = h.goes;
-  content = h.same;
-  armed = h.armed;
-  power = h.power;
-  cuts = h.cuts;
-  programs = h.programs;
-  erases = h.erases;
-}
 
 pub fails : (old new : FlashState) (fault : CheckFault) → rings.CheckFails old fault new → FailsBy old fault new
 fails old new (Flash PowerLost) h = h

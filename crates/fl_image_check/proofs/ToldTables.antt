@@ -8,7 +8,6 @@ use Rattle.fl_base.specs.Causes.{Appends, AppendsFront}
 use Rattle.fl_base.specs.declared.types.RingPlace.{RingPlace}
 use Rattle.fl_flash.specs.Flash.{FlashState}
 use Rattle.fl_flash.specs.Places.{extent}
-use Rattle.fl_frame.proofs.CallsInTurn.{goes-same, goes-then}
 use Rattle.fl_model.specs.Bare.{bare}
 use Rattle.fl_model.specs.Record.{Plan, blocks_of}
 use Rattle.fl_words.specs.Config.{Lines}
@@ -18,7 +17,8 @@ use Rattle.fl_plan.specs.Plan.{IsConfigOf, IsRingAt, blocks_in}
 use Rattle.fl_plan.specs.Refusal.{config_fault}
 use Rattle.fl_script.proofs.SinkPieces.{appends-append, sent-failed}
 use Rattle.fl_image_check.specs.Report.{FoundBy, found_text, found_sound, report_lines}
-use Rattle.fl_image_check.specs.Checking.{LiesOn, LogLies, OnlyLooks, IsOver, IsFound, AreFound, FindsBy, Tells, TellsNext, TellsOne, TableEnds, IsCheckStatus, TablesEndBy}
+use Rattle.fl_frame.specs.Reads.{OnlyLooks}
+use Rattle.fl_image_check.specs.Checking.{LiesOn, LogLies, IsOver, IsFound, AreFound, FindsBy, Tells, TellsNext, TellsOne, TableEnds, IsCheckStatus, TablesEndBy}
 use Rattle.fl_image_check.specs.declared.extent.Extent.{Extent}
 use Rattle.fl_image_check.specs.declared.extent.Extent.TheVariants.{FirstFault, AllTables}
 use Rattle.fl_image.specs.declared.status.ToolStatus.{ToolStatus}
@@ -82,22 +82,6 @@ log-lies-at lines f i plan config (Some place) over plan_is config_is first size
     (size, omega (arith, at.0, rows, index, var), omega (arith, at.0, at.1, sum-within lines.plans i plan plan_is, first, over.blocks))
 
 -- ---- a flash that is only looked at
-
-pub looks-none : (f : FlashState) → OnlyLooks f f
-looks-none f = record { goes = goes-same f; content = refl; armed = refl; power = refl; cuts = refl; programs = refl; erases = refl }
-
-pub looks-on : (old mid new : FlashState) → OnlyLooks old mid → OnlyLooks mid new → OnlyLooks old new
-looks-on old mid new a b =
-    let same = b.content ∙ a.content in
-    record {
-      goes = goes-then old mid new a.goes b.goes;
-      content = same;
-      armed = b.armed ∙ a.armed;
-      power = b.power ∙ a.power;
-      cuts = b.cuts ∙ a.cuts;
-      programs = b.programs ∙ a.programs;
-      erases = b.erases ∙ a.erases;
-    }
 
 pub over-on : (lines : Lines) (old new : FlashState) → IsOver lines old → OnlyLooks old new → IsOver lines new
 over-on lines old new over looks = record {

@@ -3,7 +3,7 @@ use Rattle.std.specs.Prelude.{◌≡◌, ◌⊎◌, ℕ, ◌+◌, ◌^◌, ◌<�
 use Rattle.std.specs.List.{list_all}
 use Rattle.fl_base.specs.Causes.{Rose, Appends, AppendsFront}
 use Rattle.fl_base.specs.declared.types.RingPlace.{RingPlace}
-use Rattle.fl_flash.specs.Flash.{FlashState, Goes, pages}
+use Rattle.fl_flash.specs.Flash.{FlashState, pages}
 use Rattle.fl_flash.specs.declared.flash.FlashFault.TheVariants.{PowerLost, Media}
 use Rattle.fl_model.specs.Bare.{bare}
 use Rattle.fl_model.specs.Record.{Plan, blocks_of}
@@ -38,16 +38,6 @@ pub record LiesOn (config : TableConfig) (f : FlashState) : Type 0 where
 abbrev pub LogLies : TableConfig → Option RingPlace → FlashState → Type 0
 LogLies config log f =
     IfSome log (λ place. IsRingSize place × (place.first_block ≡ config.rows.first_block + config.rows.blocks + blocks_in config.index + blocks_in config.var) × (place.first_block + place.blocks ≤ f.blocks))
-
--- nothing of the flash changes but the counts of reads and faults
-pub record OnlyLooks (old new : FlashState) : Type 0 where
-  pub goes : Goes old new
-  pub content : new.media.content ≡ old.media.content
-  pub armed : new.armed ≡ old.armed
-  pub power : new.is_on ≡ old.is_on
-  pub cuts : new.cuts ≡ old.cuts
-  pub programs : new.work.programs ≡ old.work.programs
-  pub erases : new.work.erases ≡ old.work.erases
 
 -- why nothing is found; where memory is wanting the flash wasn't looked at
 abbrev pub FailsBy : FlashState → CheckFault → FlashState → Type 0

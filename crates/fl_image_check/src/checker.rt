@@ -3,7 +3,8 @@ ghost use Rattle.std.specs.Prelude.{Option, IsTrue, IfOk, IfErr};
 ghost use Rattle.fl_base.specs.declared.types.RingPlace.{RingPlace};
 ghost use Rattle.fl_flash.specs.Flash.{FlashState};
 ghost use Rattle.fl_plan.specs.declared.table_config.TableConfig.{TableConfig};
-ghost use Rattle.fl_image_check.specs.Checking.{LiesOn, LogLies, OnlyLooks, FailsBy};
+ghost use Rattle.fl_frame.specs.Reads.{OnlyLooks};
+ghost use Rattle.fl_image_check.specs.Checking.{LiesOn, LogLies, FailsBy};
 ghost use Rattle.fl_check.specs.declared.faults.TableRules.{TableRules};
 ghost use Rattle.fl_check.specs.declared.finding.Finding.{Finding};
 

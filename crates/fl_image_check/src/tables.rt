@@ -2,7 +2,8 @@
 ghost use Rattle.std.specs.Prelude.{◌≡◌, ◌<◌, ◌≤◌, ◌⊎◌, if◌then◌else◌, length, IsTrue, IfOk, IfErr, Err};
 ghost use Rattle.std.specs.Bool.{OnTrue, OnFalse};
 ghost use Rattle.fl_base.specs.Causes.{Rose};
-ghost use Rattle.fl_image_check.specs.Checking.{OnlyLooks, IsOver, IsFound, FindsBy, TableEnds, IsCheckStatus, check_status, TablesEndBy};
+ghost use Rattle.fl_frame.specs.Reads.{OnlyLooks};
+ghost use Rattle.fl_image_check.specs.Checking.{IsOver, IsFound, FindsBy, TableEnds, IsCheckStatus, check_status, TablesEndBy};
 ghost use Rattle.fl_image_check.specs.declared.extent.Extent.{Extent};
 ghost use Rattle.fl_image.specs.declared.status.ToolStatus.{ToolStatus};
 

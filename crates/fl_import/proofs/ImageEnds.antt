@@ -8,7 +8,7 @@ use Rattle.fl_csv.specs.declared.record.GoneBlobs.{GoneBlobs}
 use Rattle.fl_csv.specs.declared.record.LineForm.{LineForm}
 use Rattle.fl_flash.specs.Flash.{FlashState}
 use Rattle.fl_flash.specs.Media.{MediaState}
-use Rattle.fl_store.specs.Unarmed.{IsUnarmed}
+use Rattle.fl_frame.specs.Causes.{IsUnarmed}
 use Rattle.fl_image.specs.Header.{IsAccepted, IsMade}
 use Rattle.fl_image.specs.Image.{IsImageOf, OnlyLooksAt}
 use Rattle.fl_image.specs.Status.{is_done}

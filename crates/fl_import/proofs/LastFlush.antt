@@ -8,7 +8,7 @@ use Rattle.fl_store.proofs.Risen.{has_risen}
 use Rattle.fl_flash.specs.Flash.{FlashState, Goes}
 use Rattle.fl_flash.specs.declared.flash.FlashFault.TheVariants.{PowerLost, Media}
 use Rattle.fl_frame.proofs.WatchedInTurn.{never-lost}
-use Rattle.fl_store.specs.Unarmed.{IsUnarmed}
+use Rattle.fl_frame.specs.Causes.{IsUnarmed}
 use Rattle.fl_image.specs.declared.status.ToolStatus.{ToolStatus}
 use Rattle.fl_image.specs.declared.status.ToolStatus.TheVariants.{Done, InputRead, OutWrite, InputLong, NoMemory, NotImage, Device, BadImage, NoTable, BadInput, Unsound}
 use Rattle.fl_model.specs.Record.{Plan}
@@ -221,7 +221,7 @@ flush-of flush.Stopped = tt
 
 pub flush-rose : (g h : FlashState) (fault : FlushFault) → IsUnarmed g → FlushCausedBy g fault h → flush_status fault ≡ Device → Rose g.media.faults h.media.faults
 flush-rose g h (flush.Flash Media) unarmed cause is = cause
-flush-rose g h (flush.Flash PowerLost) unarmed cause is = absurd (never-lost g h unarmed.on unarmed.none cause)
+flush-rose g h (flush.Flash PowerLost) unarmed cause is = absurd (never-lost g h unarmed cause)
 flush-rose g h flush.Stopped unarmed cause is = absurd (not-device is)
 
 pub flush-read : (fault : FlushFault) → flush_status fault ≡ InputRead → ⊥

@@ -6,13 +6,12 @@ use Rattle.fl_csv.specs.declared.record.GoneBlobs.{GoneBlobs}
 use Rattle.fl_csv.specs.declared.record.CsvRefusal.{CsvRefusal}
 use Rattle.fl_csv.specs.declared.record.CsvRefusal.TheVariants as unread
 use Rattle.fl_store.proofs.Appends.{appends-none, front-behind, front-more}
-use Rattle.fl_store.specs.Unarmed.{IsUnarmed}
 use Rattle.fl_frame.proofs.WatchedInTurn.{never-lost}
 use Rattle.fl_store.proofs.Risen.{has_risen}
 use Rattle.fl_flash.specs.Flash.{FlashState, Goes}
 use Rattle.fl_flash.specs.declared.flash.FlashFault.{FlashFault}
 use Rattle.fl_flash.specs.declared.flash.FlashFault.TheVariants.{PowerLost, Media}
-use Rattle.fl_frame.specs.Causes.{CausedBy}
+use Rattle.fl_frame.specs.Causes.{CausedBy, IsUnarmed}
 use Rattle.fl_image.specs.declared.status.ToolStatus.{ToolStatus}
 use Rattle.fl_image.specs.declared.status.ToolStatus.TheVariants.{OutWrite, NoMemory, Device}
 use Rattle.fl_machine.specs.Step.{refused}
@@ -66,7 +65,7 @@ put-rose f g (Err (refusal.Blob limit)) fault unarmed breaks cause = absurd (no-
 put-rose f g (Err refusal.Spent) fault unarmed breaks cause = absurd (no-fault fault breaks)
 put-rose f g (Err refusal.Stopped) fault unarmed breaks cause = absurd (no-fault fault breaks)
 put-rose f g (Err (refusal.Flash Media)) fault unarmed breaks cause = cause
-put-rose f g (Err (refusal.Flash PowerLost)) fault unarmed breaks cause = absurd (never-lost f g unarmed.on unarmed.none cause)
+put-rose f g (Err (refusal.Flash PowerLost)) fault unarmed breaks cause = absurd (never-lost f g unarmed cause)
 
 pub one-status : (a b : ToolStatus) → ◌≡◌ {A = Result LineEnd ToolStatus} (Err a) (Err b) → a ≡ b
 one-status a b e = cc

@@ -15,7 +15,7 @@ ghost use Rattle.fl_rlc.specs.Refusal.{RefusedSame};
 ghost use Rattle.fl_rlc.specs.Table.{is_running, IsSamePlan, LiesOn, OutsideStands};
 ghost use Rattle.fl_table.specs.Causes.{PutCausedBy};
 ghost use Rattle.fl_words.specs.Grammar as grammar;
-ghost use Rattle.fl_store.specs.Unarmed.{IsUnarmed};
+ghost use Rattle.fl_frame.specs.Causes.{IsUnarmed};
 ghost use Rattle.fl_store.specs.Works.{Works};
 ghost use Rattle.fl_import.specs.Lines.{lacks, meaning};
 ghost use Rattle.fl_import.specs.Steps.{IsFormOf, IsOfLine, LineEnds, by_told, fault_in, is_unread};

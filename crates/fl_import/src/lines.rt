@@ -7,7 +7,7 @@ ghost use Rattle.fl_lines.specs.Stream.{LinesState};
 ghost use Rattle.fl_model.specs.Record.{Plan};
 ghost use Rattle.fl_model.specs.Table as model;
 ghost use Rattle.fl_rlc.specs.Table.{IsSamePlan, LiesOn, OutsideStands};
-ghost use Rattle.fl_store.specs.Unarmed.{IsUnarmed};
+ghost use Rattle.fl_frame.specs.Causes.{IsUnarmed};
 ghost use Rattle.fl_store.specs.Works.{Works};
 ghost use Rattle.fl_import.specs.Counting.{after_end};
 ghost use Rattle.fl_import.specs.Steps.{AllEnds, IsFormOf, IsOfLines, status_of};

@@ -5,7 +5,7 @@ use Rattle.fl_base.specs.declared.types.RingPlace.{RingPlace}
 use Rattle.fl_check.specs.declared.finding.Finding.{Finding}
 use Rattle.fl_check.specs.declared.finding.RingName.{RingName}
 use Rattle.fl_check.specs.declared.finding.RingName.TheVariants.{Index, Data, Var, Log}
-use Rattle.fl_check.specs.Looks.{OnlyLooks}
+use Rattle.fl_frame.specs.Reads.{OnlyLooks}
 use Rattle.fl_check.specs.Whole.{LogFits}
 use Rattle.fl_check.proofs.LooksChangeNothing.{same_pages, fails_later}
 use Rattle.fl_flash.specs.Flash.{FlashState, page_at}

@@ -2,7 +2,8 @@
 ghost use Rattle.std.specs.Prelude.{◌≡◌, ◌≤◌, ◌<◌, ◌⊎◌, ◌+◌, ◌*◌, ◌^◌, Err, length, IsTrue, IfOk, IfErr, OnOk};
 ghost use Rattle.fl_base.specs.Causes.{Appends, AppendsFront, Rose};
 ghost use Rattle.fl_flash.specs.Flash.{pages};
-ghost use Rattle.fl_image_check.specs.Checking.{OnlyLooks, IsOver};
+ghost use Rattle.fl_frame.specs.Reads.{OnlyLooks};
+ghost use Rattle.fl_image_check.specs.Checking.{IsOver};
 ghost use Rattle.fl_image.specs.Image.{OnlyLooksAt};
 ghost use Rattle.fl_image.specs.declared.status.ToolStatus.{ToolStatus};
 ghost use Rattle.fl_map.specs.Canvas.{drawn_of};

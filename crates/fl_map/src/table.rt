@@ -1,6 +1,6 @@
 // The map of a table: its rings, and what a check finds.
 ghost use Rattle.std.specs.Prelude.{◌≡◌, ◌≤◌, ◌<◌, ◌+◌, ◌*◌, ◌^◌, length, IsTrue, IfSome, IfErr, OnOk};
-ghost use Rattle.fl_check.specs.Looks.{OnlyLooks};
+ghost use Rattle.fl_frame.specs.Reads.{OnlyLooks};
 ghost use Rattle.fl_check.specs.Whole.{Fits, LogFits};
 ghost use Rattle.fl_flash.specs.Flash.{page_at};
 ghost use Rattle.fl_map.specs.Canvas.{drawn_of};

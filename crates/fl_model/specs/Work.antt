@@ -1,5 +1,6 @@
 -- The flash operations of a command, one by one, and what is left where one of them fails.
-use Rattle.std.specs.Prelude.{◌≡◌, ℕ, zero, suc, ◌+◌, ◌-◌, ◌^◌, Bool, true, false, ◌==◌, ◌⊎◌, Option, Some, None, option_map, unwrap_or, List, [], ◌∷◌, ◌++◌, min, if◌then◌else◌, IsTrue}
+use Rattle.std.specs.Prelude.{◌≡◌, ℕ, zero, suc, ◌-◌, Bool, true, false, ◌==◌, ◌⊎◌, Option, Some, None, option_map, unwrap_or, List, [], ◌∷◌, ◌++◌, if◌then◌else◌, IsTrue}
+use Rattle.fl_base.specs.Counts.{next_count}
 use Rattle.fl_base.specs.declared.types.CutKind.{CutKind}
 use Rattle.fl_base.specs.declared.types.CutKind.TheVariants.{Before, After, Half, Noise}
 use Rattle.fl_model.specs.Record.{Plan}
@@ -94,10 +95,6 @@ pub record Device : Type 0 where
   pub programs : ℕ
   pub erases : ℕ
 
--- one more, up to the greatest count
-abbrev pub one_more : ℕ → ℕ
-one_more count = min (count + 1) (2 ^ 64 - 1)
-
 abbrev pub is_erase : Kind → Bool
 is_erase Erase = true
 is_erase _ = false
@@ -106,8 +103,8 @@ is_erase _ = false
 abbrev pub counted : Kind → Device → Device
 counted kind device = record {
   armed = option_map (λ cut. (cut.0 - 1, cut.1)) device.armed;
-  programs = if is_erase kind then device.programs else one_more device.programs;
-  erases = if is_erase kind then one_more device.erases else device.erases;
+  programs = if is_erase kind then device.programs else next_count device.programs;
+  erases = if is_erase kind then next_count device.erases else device.erases;
 }
 
 -- the cut fires: nothing is armed any more

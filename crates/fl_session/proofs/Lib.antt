@@ -65,6 +65,7 @@ pub mod CursorMoves
 pub mod MountReads
 pub mod Plainly
 pub mod Exactly
+pub mod Unarmed
 pub mod Bounded
 pub mod KeptPages
 pub mod MountRepairs

@@ -184,7 +184,7 @@ opens-as config old (Ok done) new (inr h) = record {
   kept = λ some. h.same;
   reads = omega (arith, h.reads);
 }
-opens-as config old (Err Media) new h = record { rose = h.rose; kept = h.same; part = h.part; reads = h.reads }
+opens-as config old (Err Media) new h = record { rose = h.rose; kept = h.same; part = h.part; unread = h.unread; reads = h.reads }
 opens-as config old (Err (Other wanted found at)) new h = record {
   some = h.some;
   other = elim h.other [ inl k ↦ inl k | inr k ↦ inr (k.0, λ t. differs config old wanted found at (k.1 t)) ];

@@ -6,7 +6,7 @@ use Rattle.fl_base.specs.declared.types.KeyRange.{KeyRange}
 use Rattle.fl_base.specs.declared.types.Span.{Span}
 use Rattle.fl_cursor.specs.Asked.{above_range}
 use Rattle.fl_cursor.specs.declared.bookmark.Bookmark.{Bookmark}
-use Rattle.fl_flash.specs.Flash.{FlashState, page_at}
+use Rattle.fl_flash.specs.Flash.{FlashState, Goes, page_at}
 use Rattle.fl_flash.specs.declared.flash.FlashFault.{FlashFault}
 use Rattle.fl_flash.specs.declared.flash.FlashFault.TheVariants.{PowerLost}
 use Rattle.fl_flash.specs.declared.tear.Tear.TheVariants.{Kind}
@@ -122,7 +122,7 @@ NotesScan old new = OnlyLooks old new (record old.notes { cost = OfScan (reads_i
 
 -- ---- the commands
 
--- the power goes on, and no cursor is open afterwards
+-- The power goes on, and no cursor is open afterwards. Where no cut is armed the power isn't lost.
 pub record MountsAll (old new : State) (said : Reply) : Type 0 where
   pub down : old.mounted ≡ false
   pub outcome : Result (Unit {0}) BadMount
@@ -130,12 +130,13 @@ pub record MountsAll (old new : State) (said : Reply) : Type 0 where
   pub mounts : MountsOver old.entries new.entries (record old.flash { is_on = true }) outcome new.flash
   pub mounted : new.mounted ≡ is_ok outcome
   pub notes : new.notes ≡ without_cursors old.notes
+  pub goes : Goes old.flash new.flash
 
 abbrev pub MountSays : State → State → Reply → Type 0
 MountSays old new said = ((old.mounted ≡ true) × (said ≡ reply.AlreadyMounted) × (new ≡ old)) ⊎ MountsAll old new said
 
 -- What a call on the table at this place leaves: another state of that table, with the same plan, and outside its rings the
--- bytes that were there. It reads no page; the medium may be read where a page is sealed.
+-- bytes that were there. It reads no page; the medium may be read where a page is sealed. Where no cut is armed it loses no power.
 pub record LeavesTable (old new : State) (at : ℕ) (entry : Entry) (breaks : Bool) : Type 0 where
   pub now : LoggedTable 64 64
   pub same : IsSamePlan entry.table now
@@ -143,6 +144,7 @@ pub record LeavesTable (old new : State) (at : ℕ) (entry : Entry) (breaks : Bo
   pub mounted : new.mounted ≡ not breaks
   pub notes : new.notes ≡ old.notes
   pub unread : new.flash.work.reads ≡ old.flash.work.reads
+  pub goes : Goes old.flash new.flash
   pub outside : IsTrue old.flash.media.tells → logged.OutsideStands entry.table (page_at old.flash) (page_at new.flash)
 
 -- a fault of the flash has its cause, and any other refusal changes nothing
@@ -310,7 +312,7 @@ pub record LoadSays {E : Type 0} (old new : State) (asked step seed at : ℕ) (e
 
 -- What a command of a script answers and leaves: a reply that refuses it has its cause in memory, and so has the only one of a
 -- command that lists nothing. A list has lines of one kind, and behind them one that ends it, which has its cause too. A command
--- that doesn't put, flush or mount changes no byte.
+-- that doesn't put, flush or mount changes no byte. Where no cut is armed, only `off` takes the power, and only `cut` arms one.
 abbrev pub Caused : {E : Type 0} → Command → State → State → Option (List ℕ) → Option (List ℕ) → Result (Unit {0}) E → Type 0
 Caused Mount old new told told_now result = Writes told told_now result (MountSays old new)
 Caused Off old new told told_now result = Writes told told_now result (OffSays old new)

@@ -42,3 +42,4 @@ pub mod Asked
 pub mod Complete
 pub mod Determined
 pub mod Operations
+pub mod Unarmed

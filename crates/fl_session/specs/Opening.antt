@@ -18,11 +18,12 @@ pub record Opened (config : Config) (old new : MediaState) : Type 0 where
   pub kept : (old.content ≡ [] → ⊥) → new.content ≡ old.content
   pub reads : new.reads ≤ old.reads + 1
 
--- The medium failed: it is unchanged, or it was empty and is made in part. It was read once at most.
+-- The medium failed: it is unchanged, and was read once at most, or it was empty and is made in part, without a read.
 pub record HalfOpened (config : Config) (old new : MediaState) : Type 0 where
   pub rose : Rose old.faults new.faults
   pub kept : (old.content ≡ [] → ⊥) → new.content ≡ old.content
   pub part : old.content ≡ [] → length new.content ≤ medium_len config
+  pub unread : old.content ≡ [] → new.reads ≡ old.reads
   pub reads : new.reads ≤ old.reads + 1
 
 -- The medium is another's: it isn't empty, and has another length, of which both are told, or the length and, as far as it tells

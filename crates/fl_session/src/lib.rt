@@ -36,7 +36,7 @@ mod words;
 
 pub use executor::Executor;
 pub use fl_store::{KNOTS, SLOTS};
-pub use laws::commands_are_exact;
+pub use laws::{commands_are_exact, uncut_commands_lose_no_power};
 pub use opened::Rooms;
 pub use pending::{PendingRows, TableRows};
 pub use session::Session;

@@ -158,8 +158,8 @@ module _ (config : Config) (sources copies : List Table) (name : List ℕ) (coun
   look-ends copy_looks lines accepted makes status (inr e) other device = subst (λ (s : ShipStatus). Ends s) (sym e) (inl (device e, inl (unbegun copy_looks)))
 
   -- an empty copy was made in part
-  pub half-made : copy.content ≡ [] → length copy_new.content ≤ medium_len config → Rose copy.faults copy_new.faults → Ends (Device Copy)
-  half-made empty part rose = inl (rose, inr (record { empty = empty; part = part; source = looks.content; quiet = appends-none told }))
+  pub half-made : copy.content ≡ [] → length copy_new.content ≤ medium_len config → copy_new.reads ≡ copy.reads → Rose copy.faults copy_new.faults → Ends (Device Copy)
+  half-made empty part unread rose = inl (rose, inr (record { empty = empty; part = part; unread = unread; source = looks.content; quiet = appends-none told }))
 
   module _ (lines : Lines) (entries : List Entry) (makes : Makes lines config) (fresh : AreNewTables entries lines) (copy_looks : OnlyLooksAt copy copy_new) where
     -- no table has the name

@@ -63,10 +63,11 @@ module _ (config : Config) (old new : MediaState) where
   opens-status result opens =
       by-end (λ r. IfErr r (λ status. (status ≡ NotImage Copy) ⊎ (status ≡ Device Copy))) (λ done h. tt) (λ done h. tt) (λ h. inr refl) (λ wanted found at h. inl refl) result opens
 
-  -- an empty one that isn't made failed
-  opens-failed : (result : Result (Unit {0}) ShipStatus) → OpensCopy config old result new → old.content ≡ [] → IfErr result (λ status. (status ≡ Device Copy) × (old.content ≡ []) × Rose old.faults new.faults)
+  -- an empty one that isn't made failed, and wasn't read
+  opens-failed : (result : Result (Unit {0}) ShipStatus) → OpensCopy config old result new → old.content ≡ [] → IfErr result (λ status. (status ≡ Device Copy) × (old.content ≡ []) × (new.reads ≡ old.reads) × Rose old.faults new.faults)
   opens-failed result opens empty =
-      by-end (λ r. IfErr r (λ status. (status ≡ Device Copy) × (old.content ≡ []) × Rose old.faults new.faults)) (λ done h. tt) (λ done h. tt) (λ h. (refl, empty, h.rose)) (λ wanted found at h. absurd (h.some empty)) result opens
+      by-end (λ r. IfErr r (λ status. (status ≡ Device Copy) × (old.content ≡ []) × (new.reads ≡ old.reads) × Rose old.faults new.faults)) (λ done h. tt) (λ done h. tt) (λ h. (refl, empty, h.unread empty, h.rose))
+      (λ wanted found at h. absurd (h.some empty)) result opens
 
   opens-found : OpensCopy config old (Ok tt) new → (old.content ≡ [] → ⊥) → IsFound (medium_len config) (header config) old new
   opens-found (inl h) some = absurd (some h.empty)
@@ -123,8 +124,8 @@ module _ (lines : Lines) (whole : IsTrue (is_whole lines)) (old new : MediaState
   pub status-in : IfErr result (λ status. (status ≡ NotImage Copy) ⊎ (status ≡ Device Copy))
   status-in = opens-status own old new result opened
 
-  -- an empty one that isn't made failed
-  pub failed-in : old.content ≡ [] → IfErr result (λ status. (status ≡ Device Copy) × (old.content ≡ []) × Rose old.faults new.faults)
+  -- an empty one that isn't made failed, and wasn't read
+  pub failed-in : old.content ≡ [] → IfErr result (λ status. (status ≡ Device Copy) × (old.content ≡ []) × (new.reads ≡ old.reads) × Rose old.faults new.faults)
   failed-in empty = opens-failed own old new result opened empty
 
   pub counts-in : (new.tells ≡ old.tells) × (old.faults ≤ new.faults)

@@ -16,12 +16,12 @@ use Rattle.fl_ship.specs.declared.side.Side.TheVariants.{Source, Copy}
 use Rattle.fl_ship.specs.declared.status.ShipStatus.{ShipStatus}
 use Rattle.fl_ship.specs.declared.status.ShipStatus.TheVariants.{Done, OutWrite, NoMemory, NotImage, Device, BadImage, NoTable, Gap, OtherForm, Spent}
 
--- ---- what stands at the end in other words, and faults that are counted from an earlier moment on
+-- ---- what stands at the end in other words, and counts that are taken from an earlier moment on
 
-module _ (plans : List Plan) (sources copies : List Table) (name : List ℕ) (count : ℕ) (told : Told) (a b : ℕ) (holding stands : Holding) (seen : (ts : List Table) → holding.Source ts → stands.Source ts) (copy_seen : (ts : List Table) → holding.Copy ts → stands.Copy ts)
+module _ (plans : List Plan) (sources copies : List Table) (name : List ℕ) (count : ℕ) (told : Told) (a b n : ℕ) (holding stands : Holding) (seen : (ts : List Table) → holding.Source ts → stands.Source ts) (copy_seen : (ts : List Table) → holding.Copy ts → stands.Copy ts)
     (rises : Rose told.source told.source_now → Rose a told.source_now) (copy_rises : Rose told.copy told.copy_now → Rose b told.copy_now) where
   abbrev since : Told
-  since = record told { source = a; copy = b }
+  since = record told { source = a; copy = b; copy_reads = n }
 
   abbrev mounts-seen : (tables : List Table) (x y z : ℕ) → (Rose y z → Rose x z) → MountsAll plans tables y z → MountsAll plans tables x z
   mounts-seen tables x y z rise h = record { rose = h.rose; risen = λ r. rise (h.risen r); end = h.end; did = h.did }
@@ -78,6 +78,6 @@ store-ends config sources copies name count lines old mid new copy copy_mid copy
     let here : TablesShip config.plans sources copies name count (told_of f.media new a.media copy_new told told_now) (standing_on config.plans g now b copies_now) status =
     subst (λ (x : MediaState). TablesShip config.plans sources copies name count (told_of f.media new a.media x told told_now) (standing_on config.plans g now b copies_now) status) (sym onto.closed)
     (subst (λ (x : MediaState). TablesShip config.plans sources copies name count (told_of f.media x a.media b.media told told_now) (standing_on config.plans g now b copies_now) status) (sym from.closed) h) in
-    ends-seen config.plans sources copies name count (told_of f.media new a.media copy_new told told_now) old.faults copy.faults (standing_on config.plans g now b copies_now) (held_in config (bytes_of old new copy copy_new))
+    ends-seen config.plans sources copies name count (told_of f.media new a.media copy_new told told_now) old.faults copy.faults copy.reads (standing_on config.plans g now b copies_now) (held_in config (bytes_of old new copy copy_new))
     (worked-image lines mid new f g from config on now) (worked-image lines copy_mid copy_new a b onto config copy_on copies_now)
     (λ rose. omega (arith, later, ap (λ (m : MediaState). m.faults) from.opened.media, rose)) (λ rose. omega (arith, copy_later, ap (λ (m : MediaState). m.faults) onto.opened.media, rose)) status here

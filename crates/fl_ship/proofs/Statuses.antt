@@ -13,7 +13,7 @@ use Rattle.fl_table.specs.declared.faults.MountFault.TheVariants as mount
 use Rattle.fl_table.specs.declared.faults.PutRefusal.TheVariants as put
 use Rattle.fl_ship.specs.Fits.{is_refused}
 use Rattle.fl_frame.proofs.WatchedInTurn.{never-lost}
-use Rattle.fl_store.specs.Unarmed.{IsUnarmed}
+use Rattle.fl_frame.specs.Causes.{IsUnarmed}
 use Rattle.fl_table.specs.Causes.{MountCausedBy}
 use Rattle.fl_ship.specs.Tables.{IsOfTables, RoseOn, StopCausedBy, mount_status, stop_status}
 use Rattle.fl_ship.specs.declared.fault.ShipFault.TheVariants.{Read, Put, Flush}
@@ -60,7 +60,7 @@ good-device side other table status device is = no (sym device ∙ is)
 -- it comes only where the medium of that side failed, since no power is lost
 pub mount-rose : (side other : Side) (old new : FlashState) (e : MountFault) (at : ℕ) → IsUnarmed old → mount_status side e at ≡ Device other → MountCausedBy old e new → (side ≡ other) × Rose old.media.faults new.media.faults
 mount-rose side other old new (mount.Flash Media) at unarmed is cause = (cc is, cause)
-mount-rose side other old new (mount.Flash PowerLost) at unarmed is cause = absurd (never-lost old new unarmed.on unarmed.none cause)
+mount-rose side other old new (mount.Flash PowerLost) at unarmed is cause = absurd (never-lost old new unarmed cause)
 mount-rose side other old new (mount.Ring e) at unarmed is cause = absurd (cc is)
 mount-rose side other old new (mount.BadPage page) at unarmed is cause = absurd (cc is)
 mount-rose side other old new (mount.BadKeys page last key) at unarmed is cause = absurd (cc is)
@@ -104,7 +104,7 @@ stop-rose side f g o n (stop.Ship (Read (read.Flash Media))) at on unarmed is ca
 stop-rose side f g o n (stop.Ship (Read (read.Flash PowerLost))) at on unarmed is cause = absurd (cc (on, cause))
 stop-rose side f g o n (stop.Ship (Read (read.BadPage bad))) at on unarmed is cause = absurd (cc is)
 stop-rose side f g o n (stop.Ship (Put (put.Flash Media))) at on unarmed is cause = let same : Copy ≡ side = cc is in subst (λ (s : Side). RoseOn s f g o n) same cause
-stop-rose side f g o n (stop.Ship (Put (put.Flash PowerLost))) at on unarmed is cause = absurd (never-lost o n unarmed.on unarmed.none cause)
+stop-rose side f g o n (stop.Ship (Put (put.Flash PowerLost))) at on unarmed is cause = absurd (never-lost o n unarmed cause)
 stop-rose side f g o n (stop.Ship (Put (put.Key last))) at on unarmed is cause = absurd (cc is)
 stop-rose side f g o n (stop.Ship (Put (put.Columns wanted))) at on unarmed is cause = absurd (cc is)
 stop-rose side f g o n (stop.Ship (Put (put.Value column))) at on unarmed is cause = absurd (cc is)
@@ -112,5 +112,5 @@ stop-rose side f g o n (stop.Ship (Put (put.Blob limit))) at on unarmed is cause
 stop-rose side f g o n (stop.Ship (Put put.Spent)) at on unarmed is cause = absurd (cc is)
 stop-rose side f g o n (stop.Ship (Put put.Stopped)) at on unarmed is cause = absurd (cc is)
 stop-rose side f g o n (stop.Ship (Flush (flush.Flash Media))) at on unarmed is cause = let same : Copy ≡ side = cc is in subst (λ (s : Side). RoseOn s f g o n) same cause
-stop-rose side f g o n (stop.Ship (Flush (flush.Flash PowerLost))) at on unarmed is cause = absurd (never-lost o n unarmed.on unarmed.none cause)
+stop-rose side f g o n (stop.Ship (Flush (flush.Flash PowerLost))) at on unarmed is cause = absurd (never-lost o n unarmed cause)
 stop-rose side f g o n (stop.Ship (Flush flush.Stopped)) at on unarmed is cause = absurd (cc is)

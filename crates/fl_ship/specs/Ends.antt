@@ -29,12 +29,14 @@ use Rattle.fl_ship.specs.declared.side.Side.TheVariants.{Source, Copy}
 use Rattle.fl_ship.specs.declared.status.ShipStatus.{ShipStatus}
 use Rattle.fl_ship.specs.declared.status.ShipStatus.TheVariants.{Done, OutWrite, NoMemory, NotImage, Device, BadImage, NoTable, Gap, OtherForm, Spent}
 
--- the faults of the source's medium and of the copy's, and the bytes that are written, before and after
+-- the faults of the source's medium and of the copy's, the reads of the copy's, and the bytes that are written, before and after
 pub record Told : Type 0 where
   pub source : ℕ
   pub source_now : ℕ
   pub copy : ℕ
   pub copy_now : ℕ
+  pub copy_reads : ℕ
+  pub copy_reads_now : ℕ
   pub written : Option (List ℕ)
   pub written_now : Option (List ℕ)
 
@@ -152,10 +154,12 @@ pub record IsUnbegun (bytes : Bytes) (told : Told) : Type 0 where
   pub copy : bytes.copy_now ≡ bytes.copy
   pub quiet : IsQuiet told
 
--- an empty copy was made in part, the source's bytes stand, and nothing was written
+-- An empty copy was made in part, the source's bytes stand, and nothing was written. The copy wasn't read: a mount of its tables, which
+-- comes once it is made, reads first.
 pub record IsHalfMade (config : Config) (bytes : Bytes) (told : Told) : Type 0 where
   pub empty : bytes.copy ≡ []
   pub part : length bytes.copy_now ≤ medium_len config
+  pub unread : told.copy_reads_now ≡ told.copy_reads
   pub source : bytes.source_now ≡ bytes.source
   pub quiet : IsQuiet told
 

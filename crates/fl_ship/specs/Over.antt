@@ -93,13 +93,14 @@ pub record ShipOver (name : List ℕ) (count : ℕ) (source source_now copy copy
   pub goes : Goes from from_now × Goes onto onto_now
   pub left : (source_now ≡ from_now.media) × (copy_now ≡ onto_now.media)
 
--- .. or an empty copy wasn't made whole
-pub record IsHalfMade (source source_now copy : MediaState) (status : ShipStatus) : Type 0 where
+-- .. or an empty copy wasn't made whole, and wasn't read, as a mount does first
+pub record IsHalfMade (source source_now copy copy_now : MediaState) (status : ShipStatus) : Type 0 where
   pub told : status ≡ Device Copy
   pub empty : copy.content ≡ []
+  pub unread : copy_now.reads ≡ copy.reads
   pub looks : OnlyLooksAt source source_now
 
 -- .. or both media were only looked at
 abbrev pub ShipJob : List ℕ → ℕ → MediaState → MediaState → MediaState → MediaState → ShipStatus → Type 0
 ShipJob name count source source_now copy copy_now status =
-    (IsEarly status × OnlyLooksAt source source_now × OnlyLooksAt copy copy_now) ⊎ IsHalfMade source source_now copy status ⊎ ShipOver name count source source_now copy copy_now status
+    (IsEarly status × OnlyLooksAt source source_now × OnlyLooksAt copy copy_now) ⊎ IsHalfMade source source_now copy copy_now status ⊎ ShipOver name count source source_now copy copy_now status

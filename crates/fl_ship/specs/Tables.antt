@@ -99,4 +99,4 @@ standing_on plans from sources onto copies =
 
 abbrev pub told_of : MediaState → MediaState → MediaState → MediaState → Option (List ℕ) → Option (List ℕ) → Told
 told_of source source_now copy copy_now told told_now =
-    record { source = source.faults; source_now = source_now.faults; copy = copy.faults; copy_now = copy_now.faults; written = told; written_now = told_now }
+    record { source = source.faults; source_now = source_now.faults; copy = copy.faults; copy_now = copy_now.faults; copy_reads = copy.reads; copy_reads_now = copy_now.reads; written = told; written_now = told_now }

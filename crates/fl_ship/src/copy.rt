@@ -29,6 +29,7 @@ fn open_copy<C: Media>(config: &Config, copy: &mut C) -> Result<(), ShipStatus>
 pub(crate) fn look_at_copy<C: Media>(config: &Config, copy: &mut C) -> Result<(), ShipStatus>
     requires { IsTrue (is_whole config.now) }
     ensures looks { OnlyLooksAt (C.state copy.old) (C.state copy.new) }
+    ensures unread { (C.state copy.old).content ≡ [] → (C.state copy.new).reads ≡ (C.state copy.old).reads }
     ensures own { OnOk result (IsTrue (C.state copy.old).tells → ((C.state copy.old).content ≡ []) ⊎ IsImageOf (C.state copy.old).content config.now) }
     ensures size { OnOk result ((configured : Configured) → Makes config.now configured → ((C.state copy.old).content ≡ [] → ⊥) → length (C.state copy.old).content ≡ medium_len configured) }
     ensures other { result ≡ Err (ShipStatus.NotImage Side.Copy) → IsTrue (C.state copy.old).tells → ((C.state copy.old).content ≡ [] → ⊥) × (IsImageOf (C.state copy.old).content config.now → ⊥) }
@@ -50,7 +51,7 @@ pub(crate) fn make_copy<C: Media>(config: &Config, copy: &mut C) -> Result<(), S
     ensures part { (configured : Configured) → Makes config.now configured → (C.state copy.old).content ≡ [] → length (C.state copy.new).content ≤ medium_len configured }
     ensures tells { (C.state copy.new).tells ≡ (C.state copy.old).tells }
     ensures later { (C.state copy.old).faults ≤ (C.state copy.new).faults }
-    ensures failed { IfErr result (λ status. (status ≡ ShipStatus.Device Side.Copy) × ((C.state copy.old).content ≡ []) × Rose (C.state copy.old).faults (C.state copy.new).faults) }
+    ensures failed { IfErr result (λ status. (status ≡ ShipStatus.Device Side.Copy) × ((C.state copy.old).content ≡ []) × ((C.state copy.new).reads ≡ (C.state copy.old).reads) × Rose (C.state copy.old).faults (C.state copy.new).faults) }
 {
     if copy.len() > 0 {
         return Ok(());

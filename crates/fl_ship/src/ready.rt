@@ -1,5 +1,5 @@
 // Two media between which a ship may begin.
-ghost use Rattle.std.specs.Prelude.{◌≡◌, ◌<◌, Some, length, slice_get, IsTrue, IfErr, IfOk, Err};
+ghost use Rattle.std.specs.Prelude.{◌≡◌, ◌<◌, Some, [], length, slice_get, IsTrue, IfErr, IfOk, Err};
 ghost use Rattle.fl_base.specs.Causes.{Rose};
 ghost use Rattle.fl_image.specs.Image.{OnlyLooksAt};
 ghost use Rattle.fl_model.specs.Record.{Plan};
@@ -70,6 +70,7 @@ pub(crate) fn make_ready<M: Media, C: Media>(
     ensures copy_device { result ≡ Err (ShipStatus.Device Side.Copy) → Rose (C.state copy.old).faults (C.state copy.new).faults }
     ensures looks { OnlyLooksAt (M.state media.old) (M.state media.new) }
     ensures copy_looks { OnlyLooksAt (C.state copy.old) (C.state copy.new) }
+    ensures copy_unread { (C.state copy.old).content ≡ [] → (C.state copy.new).reads ≡ (C.state copy.old).reads }
 {
     let FoundImage {
         config,

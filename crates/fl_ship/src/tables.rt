@@ -20,7 +20,7 @@ ghost use Rattle.fl_table.specs.Memory.{is_running, LiesOn};
 ghost use Rattle.fl_table.specs.Standing.{Stands};
 ghost use Rattle.fl_store.specs.Repaired.{IsLeft};
 ghost use Rattle.fl_store.specs.Tables.{IsNamed, LieOn, TablesStand};
-ghost use Rattle.fl_store.specs.Unarmed.{IsUnarmed};
+ghost use Rattle.fl_frame.specs.Causes.{IsUnarmed};
 ghost use Rattle.fl_store.specs.declared.tables.Entry.{Entry};
 ghost use Rattle.fl_ship.specs.Ends.{TablesShip};
 ghost use Rattle.fl_ship.specs.Over.{ShipsOver};

@@ -10,7 +10,7 @@ use Rattle.fl_table.specs.Causes.{MountCausedBy}
 use Rattle.fl_table.specs.declared.faults.MountFault.{MountFault}
 use Rattle.fl_table.specs.declared.faults.MountFault.TheVariants as mount
 use Rattle.fl_store.specs.Status.{mount_status}
-use Rattle.fl_store.specs.Unarmed.{IsUnarmed}
+use Rattle.fl_frame.specs.Causes.{IsUnarmed}
 
 -- what holds of each of the statuses of a mount
 pub by-mount : (P : ToolStatus → Type 0) (e : MountFault) (at : ℕ) → P Device → P (BadImage at) → P (mount_status e at)
@@ -25,7 +25,7 @@ by-mount P (mount.BadEntry page count limit) at device bad = bad
 -- it tells the device only where the medium failed, since no power is lost
 pub mount-rose : (old new : FlashState) (e : MountFault) (at : ℕ) → IsUnarmed old → mount_status e at ≡ Device → MountCausedBy old e new → Rose old.media.faults new.media.faults
 mount-rose old new (mount.Flash Media) at unarmed is cause = cause
-mount-rose old new (mount.Flash PowerLost) at unarmed is cause = absurd (never-lost old new unarmed.on unarmed.none cause)
+mount-rose old new (mount.Flash PowerLost) at unarmed is cause = absurd (never-lost old new unarmed cause)
 mount-rose old new (mount.Ring e) at unarmed is cause = absurd (cc is)
 mount-rose old new (mount.BadPage page) at unarmed is cause = absurd (cc is)
 mount-rose old new (mount.BadKeys page last key) at unarmed is cause = absurd (cc is)

@@ -15,4 +15,3 @@ pub mod InMemory
 pub mod Works
 pub mod Made
 pub mod Laws
-pub mod Unarmed

@@ -8,7 +8,8 @@ use Rattle.fl_check.specs.DataPage.{IsDataPage}
 use Rattle.fl_check.specs.Rest.{IsRestBlank, RestBreaks}
 use Rattle.fl_check.specs.RingRules.{WithinPages, IsAscending}
 use Rattle.fl_check.proofs.Halts.{broken_so}
-use Rattle.fl_check.proofs.LooksChangeNothing.{looks_by, looks_more, same_pages, seen, told_still}
+use Rattle.fl_frame.proofs.ReadsInTurn.{looks_by, looks_more}
+use Rattle.fl_check.proofs.LooksChangeNothing.{same_pages, seen, told_still}
 use Rattle.fl_check.proofs.RingRules.{keys_break, rest_break}
 use Rattle.fl_check.proofs.ring.check_log.Goals as goal
 

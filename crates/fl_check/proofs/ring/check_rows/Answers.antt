@@ -9,7 +9,8 @@ use Rattle.fl_check.specs.RingRules.{OverPages}
 use Rattle.fl_check.specs.Rising.{HaveRows, KeysAscend, KeysBreak}
 use Rattle.fl_check.proofs.FormedRows.{page_short, have_rows}
 use Rattle.fl_check.proofs.Halts.{broken_so}
-use Rattle.fl_check.proofs.LooksChangeNothing.{looks_by, looks_more, same_pages, seen, told_still}
+use Rattle.fl_frame.proofs.ReadsInTurn.{looks_by, looks_more}
+use Rattle.fl_check.proofs.LooksChangeNothing.{same_pages, seen, told_still}
 use Rattle.fl_check.proofs.RingRules.{keys_break, rest_break}
 use Rattle.fl_check.proofs.ring.check_rows.Goals as goal
 

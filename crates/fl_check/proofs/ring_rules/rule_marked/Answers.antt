@@ -5,7 +5,8 @@ use Rattle.fl_check.specs.Rest.{IsRestBlank, RestBreaks}
 use Rattle.fl_check.specs.Ruled.{NumbersTold}
 use Rattle.fl_check.specs.States.{HaveStates, StatesBreak}
 use Rattle.fl_check.specs.declared.rule.Rule.TheVariants.{State, Rest}
-use Rattle.fl_check.proofs.LooksChangeNothing.{looks_by, looks_more, seen}
+use Rattle.fl_frame.proofs.ReadsInTurn.{looks_by, looks_more}
+use Rattle.fl_check.proofs.LooksChangeNothing.{seen}
 use Rattle.fl_check.proofs.RulesTold.{told_by}
 use Rattle.fl_check.proofs.ring_rules.rule_marked.Goals as goal
 

@@ -3,7 +3,7 @@ use Rattle.std.specs.List.{slice_get}
 use Rattle.std.proofs.lemmas.Option.{slice_get_within}
 use Rattle.fl_frame.proofs.ContentsInTurn.{OnlyReads-goes}
 use Rattle.fl_frame.proofs.CallsInTurn.{goes-then}
-use Rattle.fl_store.proofs.Unarmed.{unarmed-then}
+use Rattle.fl_frame.proofs.WatchedInTurn.{unarmed-then}
 use Rattle.fl_image.specs.declared.status.ToolStatus.{ToolStatus}
 use Rattle.fl_image.specs.declared.status.ToolStatus.TheVariants.{Done, OutWrite}
 use Rattle.fl_model.specs.Bare.{bare, bare_table}

@@ -1,5 +1,6 @@
 use Rattle.std.proofs.Common.{◌≡◌, ◌≤◌, true, IsTrue}
-use Rattle.fl_image_check.specs.Checking.{OnlyLooks, FindsBy, Tells}
+use Rattle.fl_frame.specs.Reads.{OnlyLooks}
+use Rattle.fl_image_check.specs.Checking.{FindsBy, Tells}
 use Rattle.fl_image_check.specs.declared.extent.Extent.TheVariants.{FirstFault}
 use Rattle.fl_image_check.proofs.tables.check_tables.Given as goal
 

@@ -1,7 +1,7 @@
 use Rattle.std.proofs.Common.{◌≡◌, inr, true, false, is_some, IsTrue, IfSome, Some, length, refl, sym, ◌∙◌, subst, arith}
 use Rattle.std.specs.List.{slice_get}
 use Rattle.std.proofs.lemmas.Option.{slice_get_within}
-use Rattle.fl_store.proofs.Unarmed.{unarmed-then}
+use Rattle.fl_frame.proofs.WatchedInTurn.{unarmed-then}
 use Rattle.fl_frame.proofs.CallsInTurn.{goes-then}
 use Rattle.fl_store.specs.Store.{at_rest}
 use Rattle.fl_store.proofs.TableByName.{stands-there}

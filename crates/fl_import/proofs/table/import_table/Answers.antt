@@ -1,6 +1,6 @@
 use Rattle.std.proofs.Common.{◌≡◌, false, IsTrue, Err, sym, ◌∙◌, subst}
 use Rattle.fl_flash.specs.Flash.{page_at}
-use Rattle.fl_store.proofs.Unarmed.{unarmed-then}
+use Rattle.fl_frame.proofs.WatchedInTurn.{unarmed-then}
 use Rattle.fl_frame.proofs.CallsInTurn.{goes-then}
 use Rattle.fl_image.specs.declared.status.ToolStatus.TheVariants.{Device}
 use Rattle.fl_store.proofs.Outsides.{outside-then}

@@ -1,5 +1,5 @@
 use Rattle.std.proofs.Common.{◌≡◌, ◌≤◌, ◌+◌, ◌*◌, ◌^◌, length, IsTrue}
-use Rattle.fl_image_check.specs.Checking.{OnlyLooks}
+use Rattle.fl_frame.specs.Reads.{OnlyLooks}
 use Rattle.fl_map.specs.Canvas.{drawn_of}
 use Rattle.fl_map.specs.Map.{AreDrawn}
 use Rattle.fl_map.proofs.map.draw_tables.Given as goal

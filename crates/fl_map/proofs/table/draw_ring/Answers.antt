@@ -1,7 +1,7 @@
 use Rattle.std.proofs.Common.{◌≡◌, ℕ, ◌<◌, List, ◌++◌, length, sym, ◌∙◌, ap, subst}
 use Rattle.fl_flash.specs.Flash.{page_at}
 use Rattle.fl_mark.specs.declared.page_state.PageState.{PageState}
-use Rattle.fl_check.proofs.LooksChangeNothing.{looks_by}
+use Rattle.fl_frame.proofs.ReadsInTurn.{looks_by}
 use Rattle.fl_map.specs.Canvas.{drawn_of}
 use Rattle.fl_map.specs.Drawn.{with_ring}
 use Rattle.fl_map.specs.Finding.{title_text}

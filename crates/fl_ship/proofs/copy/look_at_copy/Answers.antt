@@ -5,6 +5,9 @@ pub returns-clause-looks : goal.returns-clause-looks
 returns-clause-looks g c =
     looks-at c.args.config.now c.requires (g.C.Media.state c.args.copy.now) (g.C.Media.state c.open_copy.new.copy) c.open_copy.result c.open_copy.ensures (some-bytes _ c.len.result c.len.ensures c.if-len-eq0.false)
 
+pub returns-clause-unread : goal.returns-clause-unread
+returns-clause-unread g c = λ empty. absurd (some-bytes _ c.len.result c.len.ensures c.if-len-eq0.false empty)
+
 pub returns-clause-own : goal.returns-clause-own
 returns-clause-own g c =
     own-image c.args.config.now c.requires (g.C.Media.state c.args.copy.now) (g.C.Media.state c.open_copy.new.copy) c.open_copy.result c.open_copy.ensures (some-bytes _ c.len.result c.len.ensures c.if-len-eq0.false)

@@ -108,9 +108,10 @@ pub returns-in-Err-make_copy-clause-ends : goal.returns-in-Err-make_copy-clause-
 returns-in-Err-make_copy-clause-ends g c = λ config sources copies tells copy_tells made_so image stands.
     let makes = c.in-Ok.ensures.ready.makes config sources tells made_so image in
     let failed = c.in-Err-make_copy.ensures.failed in
+    let empty : (g.C.Media.state c.args.copy.now).content ≡ [] = sym c.in-Ok.ensures.copy_looks.content ∙ failed.1 in
     subst (λ (s : ShipStatus). ShipEnds config sources copies c.args.name c.args.count (told_of (g.M.Media.state c.args.media.now) (g.M.Media.state c.make_ready.new.media) (g.C.Media.state c.args.copy.now) (g.C.Media.state c.make_copy.new.copy) (g.K.Sink.written c.args.out.now) (g.K.Sink.written c.args.out.now)) (bytes_of (g.M.Media.state c.args.media.now) (g.M.Media.state c.make_ready.new.media) (g.C.Media.state c.args.copy.now) (g.C.Media.state c.make_copy.new.copy)) s) (sym failed.0)
-    (half-made config sources copies c.args.name c.args.count (g.M.Media.state c.args.media.now) (g.M.Media.state c.make_ready.new.media) (g.C.Media.state c.args.copy.now) (g.C.Media.state c.make_copy.new.copy) (g.K.Sink.written c.args.out.now) image stands c.in-Ok.ensures.looks (sym c.in-Ok.ensures.copy_looks.content ∙ failed.1) (c.make_copy.ensures.part config makes failed.1)
-    (omega (arith, c.in-Ok.ensures.copy_looks.later, failed.2)))
+    (half-made config sources copies c.args.name c.args.count (g.M.Media.state c.args.media.now) (g.M.Media.state c.make_ready.new.media) (g.C.Media.state c.args.copy.now) (g.C.Media.state c.make_copy.new.copy) (g.K.Sink.written c.args.out.now) image stands c.in-Ok.ensures.looks empty (c.make_copy.ensures.part config makes failed.1)
+    (failed.2 ∙ c.in-Ok.ensures.copy_unread empty) (omega (arith, c.in-Ok.ensures.copy_looks.later, failed.3)))
 
 pub returns-in-Err-make_copy-clause-stands : goal.returns-in-Err-make_copy-clause-stands
 returns-in-Err-make_copy-clause-stands g c = λ config tables tells made_so image. (tables, subst (λ (l : List ℕ). IsImage config l tables) (sym c.in-Ok.ensures.looks.content) image)
@@ -137,7 +138,7 @@ pub returns-in-Err-make_copy-clause-device : goal.returns-in-Err-make_copy-claus
 returns-in-Err-make_copy-clause-device g c = λ is. absurd (no-source (sym c.in-Err-make_copy.ensures.failed.0 ∙ is))
 
 pub returns-in-Err-make_copy-clause-copy_device : goal.returns-in-Err-make_copy-clause-copy_device
-returns-in-Err-make_copy-clause-copy_device g c = λ is. omega (arith, c.in-Ok.ensures.copy_looks.later, c.in-Err-make_copy.ensures.failed.2)
+returns-in-Err-make_copy-clause-copy_device g c = λ is. omega (arith, c.in-Ok.ensures.copy_looks.later, c.in-Err-make_copy.ensures.failed.3)
 
 pub returns-in-Err-make_copy-clause-write : goal.returns-in-Err-make_copy-clause-write
 returns-in-Err-make_copy-clause-write g c = λ is. absurd (no-write (sym c.in-Err-make_copy.ensures.failed.0 ∙ is))
@@ -336,7 +337,8 @@ returns-in-Err-clause-over g c = inl (c.in-Err.ensures.early, c.in-Err.ensures.l
 pub returns-in-Err-make_copy-clause-over : goal.returns-in-Err-make_copy-clause-over
 returns-in-Err-make_copy-clause-over g c =
     let failed = c.in-Err-make_copy.ensures.failed in
-    inr (inl (record { told = failed.0; empty = sym c.in-Ok.ensures.copy_looks.content ∙ failed.1; looks = c.in-Ok.ensures.looks }))
+    let empty : (g.C.Media.state c.args.copy.now).content ≡ [] = sym c.in-Ok.ensures.copy_looks.content ∙ failed.1 in
+    inr (inl (record { told = failed.0; empty = empty; unread = failed.2 ∙ c.in-Ok.ensures.copy_unread empty; looks = c.in-Ok.ensures.looks }))
 
 pub returns-clause-over : goal.returns-clause-over
 returns-clause-over g c =

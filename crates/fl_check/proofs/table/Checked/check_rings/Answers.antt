@@ -7,7 +7,8 @@ use Rattle.fl_check.specs.Whole.{OfRing, shape_in, tally_in, AreRowsSound, IsVar
 use Rattle.fl_check.specs.declared.finding.RingName.TheVariants.{Var, Log}
 use Rattle.fl_check.specs.declared.tally.Tally.{Tally}
 use Rattle.fl_check.proofs.Halts.{found_so}
-use Rattle.fl_check.proofs.LooksChangeNothing.{looks_more, seen}
+use Rattle.fl_frame.proofs.ReadsInTurn.{looks_more}
+use Rattle.fl_check.proofs.LooksChangeNothing.{seen}
 use Rattle.fl_check.proofs.RingsKnown.{rows_known, tally_known}
 use Rattle.fl_check.proofs.Wholes.{var_fault, log_fault}
 use Rattle.fl_check.proofs.table.Checked.check_rings.Goals as goal

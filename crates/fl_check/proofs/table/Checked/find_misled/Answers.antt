@@ -5,7 +5,8 @@ use Rattle.fl_ring.specs.Place.{shape_of}
 use Rattle.fl_schema.specs.Schema.{layout_of}
 use Rattle.fl_check.specs.Whole.{shape_in, rows_shape}
 use Rattle.fl_check.proofs.BlobsKnown.{misled_told}
-use Rattle.fl_check.proofs.LooksChangeNothing.{looks_by, fits_still}
+use Rattle.fl_frame.proofs.ReadsInTurn.{looks_by}
+use Rattle.fl_check.proofs.LooksChangeNothing.{fits_still}
 use Rattle.fl_check.proofs.RulesTold.{if_ok_both}
 use Rattle.fl_check.proofs.table.Checked.find_misled.Goals as goal
 

@@ -12,7 +12,8 @@ use Rattle.fl_check.specs.Whole.{IfWithin, shape_in, rows_shape, layout_in, inde
 use Rattle.fl_check.specs.declared.faults.TableFaults.{TableFaults}
 use Rattle.fl_check.specs.declared.numbering.Numbering.{Numbering}
 use Rattle.fl_check.specs.declared.tally.Tally.{Tally}
-use Rattle.fl_check.proofs.LooksChangeNothing.{looks_more, seen}
+use Rattle.fl_frame.proofs.ReadsInTurn.{looks_more}
+use Rattle.fl_check.proofs.LooksChangeNothing.{seen}
 use Rattle.fl_check.proofs.TableTold.{rows_told, content_told, if_in_order, none_within, no_content, are_rules}
 use Rattle.fl_check.proofs.table.Checked.rules.Goals as goal
 

@@ -54,7 +54,7 @@ returns-clause-cause g c =
           fails = flush-fails _ _ _ c.flush-outcome.result runs c.flush-outcome.ensures.exact c.flush-outcome.ensures.cause;
           none = λ none. let still = c.flush-outcome.ensures.quiet runs none in
               (still.0, kept-state _ c.in-Ok.at c.index_mut.result.now c.flush-outcome.new.self _ _ here still.1 (ap not (c.flush_breaks.ensures ∙ ap flush_breaks still.0) ∙ sym c.in-Ok.ensures.mounted_is) still.2);
-          leaves = record { now = c.flush-outcome.new.self; same = c.flush-outcome.ensures.same; entries = refl; mounted = ap not c.flush_breaks.ensures; notes = refl; unread = c.flush-outcome.ensures.reads; outside = c.flush-outcome.ensures.outside };
+          leaves = record { now = c.flush-outcome.new.self; same = c.flush-outcome.ensures.same; entries = refl; mounted = ap not c.flush_breaks.ensures; notes = refl; unread = c.flush-outcome.ensures.reads; goes = c.flush-outcome.ensures.goes; outside = c.flush-outcome.ensures.outside };
           flushed = c.flush-outcome.ensures.none;
           last = c.flush-outcome.ensures.last;
           seals = c.flush-outcome.ensures.seals;

@@ -44,7 +44,7 @@ returns-clause-cause g c =
         outcome = c.load-loaded.result.outcome;
         written = c.write.ensures.text;
         counted = c.load-loaded.ensures.counted;
-        leaves = record { now = c.load-loaded.new.table; same = c.load-loaded.ensures.same; entries = refl; mounted = ap not c.put_breaks.ensures; notes = refl; unread = c.load-loaded.ensures.reads; outside = c.load-loaded.ensures.outside };
+        leaves = record { now = c.load-loaded.new.table; same = c.load-loaded.ensures.same; entries = refl; mounted = ap not c.put_breaks.ensures; notes = refl; unread = c.load-loaded.ensures.reads; goes = c.load-loaded.ensures.goes; outside = c.load-loaded.ensures.outside };
         puts = c.load-loaded.ensures.puts;
         fails = c.load-loaded.ensures.fails;
         power = c.load-loaded.ensures.power;

@@ -62,6 +62,7 @@ returns-clause-cause g c =
             (record { found = e.found; refused = e.refused; stops = e.stops; cause = e.cause; running = e.running; none = e.none; power = e.power; as_many = e.as_many; names = e.names; same = e.same; repairs = e.repairs; outside = e.outside });
         mounted = c.is_ok-self.ensures.value;
         notes = refl;
+        goes = goes-then _ _ _ (subst (λ (x : FlashState). Goes _ x) (sym c.power_on.ensures) (goes-on _)) e.goes;
       });
     }
 

@@ -55,7 +55,7 @@ returns-clause-cause g c =
           said_is = refl;
           exact = subst (λ n. RefusesAs (put_refusal c.index_mut.result.now.table c.args.key c.args.values.now n) c.put-outcome.result) (sym (map-twice (λ (b : Bor (List ℕ)). b.now) (λ (xs : List ℕ). length xs) c.args.blob)) c.put-outcome.ensures.exact;
           fails = rw c.put_breaks.ensures (put-fails-so _ c.in-Ok.at c.index_mut.result.now c.put-outcome.new.self _ c.put-outcome.result here c.in-Ok.ensures.mounted_is c.put-outcome.ensures.refused c.put-outcome.ensures.cause);
-          leaves = record { now = c.put-outcome.new.self; same = c.put-outcome.ensures.same; entries = refl; mounted = ap not c.put_breaks.ensures; notes = refl; unread = c.put-outcome.ensures.reads; outside = c.put-outcome.ensures.outside };
+          leaves = record { now = c.put-outcome.new.self; same = c.put-outcome.ensures.same; entries = refl; mounted = ap not c.put_breaks.ensures; notes = refl; unread = c.put-outcome.ensures.reads; goes = c.put-outcome.ensures.goes; outside = c.put-outcome.ensures.outside };
           last = c.put-outcome.ensures.last;
           pending = c.put-outcome.ensures.pending;
           rows = c.put-outcome.ensures.rows;
