@@ -16,6 +16,7 @@ ghost use Rattle.fl_frame.specs.Watched.{IsWatched};
 ghost use Rattle.fl_schema.specs.Schema.{layout_of};
 ghost use Rattle.fl_table.specs.BlobAt.{has_blobs};
 ghost use Rattle.fl_ring.specs.Ring.{room};
+ghost use Rattle.fl_ring.specs.Written.{Writes};
 ghost use Rattle.fl_table.specs.Causes.{IfFlash, IfPage, is_of_pages, MountCausedBy};
 ghost use Rattle.fl_table.specs.Look.{layout_in};
 ghost use Rattle.fl_table.specs.Memory as table_words;
@@ -108,6 +109,7 @@ fn seal_rows<F: Flash, const KNOTS: usize, const SLOTS: usize>(
         → without_log.Stands table.old (F.state flash.old) first plan b → SealsEnd first plan (table_seals plan b) b rose device result table.new (F.state flash.old) (F.state flash.new) }
     ensures sealed { OnOk result (AreSealed table.old (F.state flash.old) table.new (F.state flash.new)) }
     ensures some { OnErr result (1 ≤ pending_in table.old) }
+    ensures writes { Writes (table_words.MaySeal table.old) 0 (mounting.rings_in table.old) (F.state flash.old) (F.state flash.new) }
     ensures outside { IsTrue (F.state flash.old).media.tells → mounting.OutsideStands table.old (page_at (F.state flash.old)) (page_at (F.state flash.new)) }
     ensures reads { (F.state flash.new).work.reads ≡ (F.state flash.old).work.reads }
     ensures media_reads { (F.state flash.new).media.reads ≤ (F.state flash.old).media.reads + mounting.rings_in table.old }

@@ -20,6 +20,7 @@ pub mod PowerOff
 pub mod PowerOn
 pub mod Outsides
 pub mod Firsts
+pub mod Learned
 pub mod FullEntries
 pub mod NotedEntries
 pub mod MountIndexed

@@ -270,6 +270,7 @@ returns-in_err-seal_rows-clause-refused g c =
       why = c.in_err-seal_rows.field-0.0;
       fault_is = refl;
       cause = c.in_err-seal_rows.ensures.cause;
+      writes = c.in_err-seal_rows.ensures.writes;
     })))
 
 pub returns-in_err-seal_rows-clause-outside : goal.returns-in_err-seal_rows-clause-outside

@@ -12,6 +12,7 @@ use Rattle.fl_table.proofs.Outsides.{var-outside}
 use Rattle.fl_var.specs.Memory.{var_shape}
 use Rattle.fl_table.proofs.BlobsOfTable as blobbing
 use Rattle.fl_frame.proofs.WatchedInTurn.{watched-first, watched-then}
+use Rattle.fl_table.proofs.Learned.{finds-rows}
 use Rattle.fl_table.proofs.MountJoined.{mount-cause-later}
 use Rattle.fl_table.proofs.BlobSeals.{with_var}
 use Rattle.fl_table.proofs.MountVar.{data-fails, mounted-ends, rows-fail, rows-mount, var-limit}
@@ -103,18 +104,10 @@ pub returns-clause-found : goal.returns-clause-found
 returns-clause-found g c = λ told.
     let mid = g.F.Flash.state c.read_rows.new.flash in
     let rows = c.in_ok-rows.rows in
-    record {
-      ring = rows.ring;
-      ring_is = refl;
-      end = rows.blob_end;
-      between = mid;
-      pages = c.in_ok-rows.ensures.found told;
-      waits = c.in_ok-rows.ensures.waits told;
-      firsts = c.in_ok-rows.ensures.remembers told;
-      pending = c.in_ok-rows.ensures.none;
-      blobs = subst (λ (o : Option VarData). FindsBlobs o mid (least_of rows.blob_end) c.mount_within.new.blobs (g.F.Flash.state c.mount_within.new.flash)) c.in_ok-rows.ensures.blobs c.in_ok-mount_within.ensures.found;
-      below = c.in_ok-mount_within.ensures.below;
-    }
+    finds-rows c.args.self.now c.args.self.now.bitmaps (g.F.Flash.state c.args.flash.now) c.args.end rows.mounted _ (g.F.Flash.state c.mount_within.new.flash) rows.ring rows.blob_end mid refl
+    (c.in_ok-rows.ensures.found told) (c.in_ok-rows.ensures.waits told) (c.in_ok-rows.ensures.remembers told) c.in_ok-rows.ensures.none (c.in_ok-rows.ensures.learned told)
+    (subst (λ (o : Option VarData). FindsBlobs o mid (least_of rows.blob_end) c.mount_within.new.blobs (g.F.Flash.state c.mount_within.new.flash)) c.in_ok-rows.ensures.blobs c.in_ok-mount_within.ensures.found)
+    c.in_ok-mount_within.ensures.below
 
 pub returns-in_err-rows-clause-refused : goal.returns-in_err-rows-clause-refused
 returns-in_err-rows-clause-refused g c =
