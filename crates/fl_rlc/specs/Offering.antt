@@ -1,21 +1,19 @@
 -- Records that are offered to a table one after another, over any bytes: each joins the pending ones, or is refused.
-use Rattle.std.specs.Prelude.{◌≡◌, ℕ, ◌+◌, ◌≤◌, Some, None, List, [], ◌∷◌, ◌++◌}
+use Rattle.std.specs.Prelude.{◌≡◌, ℕ, ◌+◌, ◌≤◌, Some, None, List, [], ◌∷◌}
 use Rattle.fl_flash.specs.Flash.{FlashState}
 use Rattle.fl_model.specs.Row.{Row}
-use Rattle.fl_table.specs.Look.{last_key_in}
 use Rattle.fl_ring.specs.Written.{Writes}
-use Rattle.fl_table.specs.Memory.{next_in, pending_in, MaySeal, PendingAre}
+use Rattle.fl_table.specs.Memory.{next_in, pending_in, MaySeal}
 use Rattle.fl_table.specs.Mounting.{rings_in}
 use Rattle.fl_table.specs.Refusal.{put_refusal}
+use Rattle.fl_table.specs.Stored.{HasJoined}
 use Rattle.fl_table.specs.declared.faults.PutRefusal.{PutRefusal}
 use Rattle.fl_table.specs.declared.table.Table.{Table}
 
 -- The record of this row: a table that refuses it stays as it is, and of another it is the last one, and pending.
 pub record IsOffered {KNOTS SLOTS : ℕ} (old : Table KNOTS SLOTS) (row : Row) (new : Table KNOTS SLOTS) : Type 0 where
   pub refused : (refusal : PutRefusal) → put_refusal old row.key row.values None ≡ Some refusal → new ≡ old
-  pub last : put_refusal old row.key row.values None ≡ None → last_key_in new ≡ Some row.key
-  pub pending : put_refusal old row.key row.values None ≡ None → pending_in new ≡ pending_in old + 1
-  pub rows : put_refusal old row.key row.values None ≡ None → (rows : List Row) → PendingAre old rows → PendingAre new (rows ++ (record { key = row.key; values = row.values; blob = None }) ∷ [])
+  pub joins : put_refusal old row.key row.values None ≡ None → HasJoined old row.key row.values None new
 
 abbrev pub AreOffered : {KNOTS SLOTS : ℕ} → Table KNOTS SLOTS → List Row → Table KNOTS SLOTS → Type 0
 AreOffered old [] new = new ≡ old

@@ -1,5 +1,5 @@
 // Puts and flushes of a table with a log.
-ghost use Rattle.std.specs.Prelude.{◌≡◌, ◌≤◌, ◌+◌, ◌++◌, ◌∷◌, [], true, false, None, length, IsTrue, IfErr, OnOk, option_map};
+ghost use Rattle.std.specs.Prelude.{◌≡◌, ◌≤◌, ◌+◌, true, false, None, length, IsTrue, IfErr, OnOk, option_map};
 ghost use Rattle.fl_flash.specs.Flash.{Goes, page_at};
 ghost use Rattle.fl_flash.specs.declared.flash.FlashFault.{FlashFault};
 
@@ -9,9 +9,8 @@ use fl_flash::Flash;
 use fl_table::{FlushFault, PutRefusal};
 
 impl<const KNOTS: usize, const SLOTS: usize> LoggedTable<KNOTS, SLOTS> {
-    ghost use Rattle.std.specs.Prelude.{ℕ, Bool, List, Some, ◌||◌, ◌&&◌, ◌↔◌, not, Ok, Err};
+    ghost use Rattle.std.specs.Prelude.{ℕ, Bool, Some, ◌||◌, ◌&&◌, ◌↔◌, not, Ok, Err};
     ghost use Rattle.fl_model.specs.Record.{Plan};
-    ghost use Rattle.fl_model.specs.Row.{Row};
     ghost use Rattle.fl_model.specs.Table as model;
     ghost use Rattle.fl_model.specs.Work.{Device};
     ghost use Rattle.fl_frame.specs.Watched.{IsWatched};
@@ -20,9 +19,10 @@ impl<const KNOTS: usize, const SLOTS: usize> LoggedTable<KNOTS, SLOTS> {
     ghost use Rattle.fl_table.specs.BlobAt.{data_in};
     ghost use Rattle.fl_table.specs.Causes.{PutCausedBy, FlushCausedBy, put_breaks, flush_breaks};
     ghost use Rattle.fl_table.specs.Look.{last_key_in, layout_in};
-    ghost use Rattle.fl_table.specs.Memory.{next_in, pending_in, HasRoom, MaySeal, PendingAre};
+    ghost use Rattle.fl_table.specs.Memory.{next_in, pending_in, MaySeal};
     ghost use Rattle.fl_table.specs.Mounting.{rings_in as table_rings};
     ghost use Rattle.fl_table.specs.Refusal.{RefusesAs};
+    ghost use Rattle.fl_table.specs.Stored.{Stores};
     ghost use Rattle.fl_rlc.specs.Logged.{Stands};
     ghost use Rattle.fl_rlc.specs.Outcomes.{PutEnds, FlushEnds};
     ghost use Rattle.fl_rlc.specs.Refusal.{put_refusal, NeedsNoOperation, RefusedSame};
@@ -46,9 +46,7 @@ impl<const KNOTS: usize, const SLOTS: usize> LoggedTable<KNOTS, SLOTS> {
         ensures exact { RefusesAs (put_refusal self.old key values.now (option_map (λ b. length b.now) blob.entry)) result }
         ensures refused { IfErr result (λ e. RefusedSame self.old (F.state flash.old) e self.new (F.state flash.new)) }
         ensures last { OnOk result (last_key_in (table_in self.new) ≡ Some key) }
-        ensures pending { OnOk result (HasRoom (table_in self.old) → pending_in (table_in self.new) ≡ pending_in (table_in self.old) + 1) }
-        ensures rows { OnOk result (HasRoom (table_in self.old) → option_map (λ b. b.now) blob.entry ≡ None → (rows : List Row) → PendingAre (table_in self.old) rows
-            → PendingAre (table_in self.new) (rows ++ (record { key = key; values = values.now; blob = None }) ∷ [])) }
+        ensures stores { OnOk result (Stores (table_in self.old) key values.now (option_map (λ b. b.now) blob.entry) (table_in self.new)) }
         ensures logs { OnOk result (HaveLogged (layout_in (table_in self.old)) (record { key = key; values = values.now; blob = None }) (log_in self.old) (log_in self.new)) }
         ensures stopped { is_stopped self.new ≡ (put_breaks result || is_stopped self.old) }
         ensures running { is_running self.new ≡ (is_running self.old && not (put_breaks result)) }

@@ -1,5 +1,5 @@
 -- What a command answers and leaves, and why, over any bytes and on any medium.
-use Rattle.std.specs.Prelude.{◌≡◌, ◌⊎◌, ℕ, ◌+◌, ◌-◌, ◌*◌, ◌<◌, ◌≤◌, min, ◌++◌, Bool, true, false, not, is_ok, IsTrue, Option, None, Some, option_map, Result, Ok, Err, OnOk, IfErr, List, [], ◌∷◌, length, slice_get, ℤ}
+use Rattle.std.specs.Prelude.{◌≡◌, ◌⊎◌, ℕ, ◌+◌, ◌-◌, ◌*◌, ◌<◌, ◌≤◌, min, Bool, true, false, not, is_ok, IsTrue, Option, None, Some, option_map, Result, Ok, Err, OnOk, IfErr, List, [], ◌∷◌, length, slice_get, ℤ}
 use Rattle.fl_base.specs.declared.types.CutKind.{CutKind}
 use Rattle.fl_base.specs.declared.types.KeyRange.{KeyRange}
 use Rattle.fl_base.specs.declared.types.Span.{Span}
@@ -25,8 +25,9 @@ use Rattle.fl_table.specs.BlobAt.{data_in, has_blobs}
 use Rattle.fl_table.specs.Blobs.{most_pages}
 use Rattle.fl_table.specs.Finding.{IsAnswered, LookupFails, rows_at}
 use Rattle.fl_table.specs.Look.{buffered_rows, counts_in, last_key_in, layout_in, oldest_in}
-use Rattle.fl_table.specs.Memory.{next_in, pending_in, HasRoom, PendingAre}
+use Rattle.fl_table.specs.Memory.{next_in, pending_in}
 use Rattle.fl_table.specs.Refusal.{RefusesAs}
+use Rattle.fl_table.specs.Stored.{Stores}
 use Rattle.fl_table.specs.declared.faults.FlushFault.{FlushFault}
 use Rattle.fl_table.specs.declared.faults.FlushFault.TheVariants as flush
 use Rattle.fl_table.specs.declared.faults.PutRefusal.{PutRefusal}
@@ -146,8 +147,9 @@ abbrev pub PutFails : State → State → PutRefusal → Type 0
 PutFails old new (put.Flash fault) = CausedBy old.flash fault new.flash
 PutFails old new _ = new ≡ old
 
--- A put is refused exactly as its table says. Then the record is the last one, and pending, and with a log a page of it was
--- sealed; it needs the flash only if the table has a log, the page of pending rows is full or its blob fills pages.
+-- A put is refused exactly as its table says. Else the record is the last one, and pending, where their page was full the only one,
+-- and with a log a page of it was sealed; it needs the flash only if the table has a log, the page of pending rows is full or its blob
+-- fills pages.
 pub record PutSays (old new : State) (key : ℕ) (values : List ℤ) (blob : Option (List ℕ)) (at : ℕ) (entry : Entry) (said : Reply) : Type 0 where
   pub outcome : Result (Unit {0}) PutRefusal
   pub said_is : said ≡ put_reply outcome
@@ -155,8 +157,7 @@ pub record PutSays (old new : State) (key : ℕ) (values : List ℤ) (blob : Opt
   pub fails : IfErr outcome (PutFails old new)
   pub leaves : LeavesTable old new at entry (put_breaks outcome)
   pub last : OnOk outcome (last_key_in (table_in leaves.now) ≡ Some key)
-  pub pending : OnOk outcome (HasRoom (table_in entry.table) → pending_in (table_in leaves.now) ≡ pending_in (table_in entry.table) + 1)
-  pub rows : OnOk outcome (HasRoom (table_in entry.table) → blob ≡ None → (rows : List Row) → PendingAre (table_in entry.table) rows → PendingAre (table_in leaves.now) (rows ++ (record { key = key; values = values; blob = None }) ∷ []))
+  pub stores : OnOk outcome (Stores (table_in entry.table) key values blob (table_in leaves.now))
   pub logs : OnOk outcome (HaveLogged (layout_in (table_in entry.table)) (record { key = key; values = values; blob = None }) (log_in entry.table) (log_in leaves.now))
   pub power : OnOk outcome (old.flash.is_on ≡ true → new.flash.is_on ≡ true)
   pub quiet : put_refusal entry.table key values (option_map (λ bytes. length bytes) blob) ≡ None → NeedsNoOperation entry.table blob → (outcome ≡ Ok tt) × (new.flash ≡ old.flash)

@@ -1,5 +1,5 @@
 -- The records that a load puts, one after another, over any bytes and on any medium.
-use Rattle.std.specs.Prelude.{◌≡◌, ℕ, zero, suc, ◌+◌, true, unwrap_or, Option, None, Some, Result, Ok, Err, List, [], ◌∷◌, ◌++◌}
+use Rattle.std.specs.Prelude.{◌≡◌, ℕ, zero, suc, ◌+◌, true, unwrap_or, Option, None, Some, Result, Ok, Err}
 use Rattle.fl_flash.specs.Flash.{FlashState}
 use Rattle.fl_machine.specs.Step.{load_values, next_random}
 use Rattle.fl_model.specs.Row.{Row}
@@ -9,8 +9,8 @@ use Rattle.fl_rlc.specs.Rows.{HaveLogged}
 use Rattle.fl_rlc.specs.Table.{IsSamePlan, log_in, table_in}
 use Rattle.fl_rlc.specs.declared.table.LoggedTable.{LoggedTable}
 use Rattle.fl_table.specs.Look.{last_key_in, layout_in}
-use Rattle.fl_table.specs.Memory.{HasRoom, PendingAre, pending_in}
 use Rattle.fl_table.specs.Refusal.{RefusesAs}
+use Rattle.fl_table.specs.Stored.{Stores}
 use Rattle.fl_table.specs.declared.faults.PutRefusal.{PutRefusal}
 use Rattle.fl_table.specs.declared.faults.PutRefusal.TheVariants as put
 use Rattle.fl_session.specs.Load.{load_key}
@@ -31,13 +31,12 @@ next_row t step seed n = record {
 abbrev pub refusal_of : LoggedTable 64 64 → Row → Option PutRefusal
 refusal_of t row = put_refusal t row.key row.values None
 
--- It was put. It is the table's last record, and pending where the page of pending rows had room for it; it needs the flash only if that
--- page was full or the table has a log.
+-- It was put. It is the table's last record, and pending, the only one where the page of pending rows had no room for it; it needs the
+-- flash only if that page was full or the table has a log.
 pub record LoadsNext (step seed n : ℕ) (t : LoggedTable 64 64) (f : FlashState) (u : LoggedTable 64 64) (g : FlashState) : Type 0 where
   pub accepted : refusal_of t (next_row t step seed n) ≡ None
   pub last : last_key_in (table_in u) ≡ Some (next_row t step seed n).key
-  pub pending : HasRoom (table_in t) → pending_in (table_in u) ≡ pending_in (table_in t) + 1
-  pub rows : HasRoom (table_in t) → (rows : List Row) → PendingAre (table_in t) rows → PendingAre (table_in u) (rows ++ next_row t step seed n ∷ [])
+  pub stores : Stores (table_in t) (next_row t step seed n).key (next_row t step seed n).values None (table_in u)
   pub logs : HaveLogged (layout_in (table_in t)) (next_row t step seed n) (log_in t) (log_in u)
   pub quiet : NeedsNoOperation t None → g ≡ f
   pub power : f.is_on ≡ true → g.is_on ≡ true

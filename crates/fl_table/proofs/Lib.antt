@@ -21,6 +21,7 @@ pub mod PowerOn
 pub mod Outsides
 pub mod Firsts
 pub mod Learned
+pub mod Stored
 pub mod FullEntries
 pub mod NotedEntries
 pub mod MountIndexed

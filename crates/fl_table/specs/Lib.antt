@@ -4,6 +4,7 @@ pub mod BlobMount
 pub mod BlobEnds
 pub mod Bitmaps
 pub mod Memory
+pub mod Stored
 pub mod Refusal
 pub mod Standing
 pub mod Entries

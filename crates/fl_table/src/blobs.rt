@@ -13,7 +13,7 @@ ghost use Rattle.fl_table.specs.BlobMount.{MountEndsOf, FindsBlobs, RefusesBlobs
 ghost use Rattle.fl_table.specs.Causes.{MountCausedBy, OffFailsAs};
 ghost use Rattle.fl_table.specs.MountLimits.{IsVarLimited};
 ghost use Rattle.fl_table.specs.Mounting.{FewReads, FewRepairs};
-ghost use Rattle.fl_table.specs.Blobs.{AreSamePlan, LieOn, AreRunning, AreEmpty, MaySeal, NumbersLeft, RestEndsOf, PlaceEndsOf, StandOutside, next_of, next_after, rings_of, room_of, HasFew, pages_for, FitsRow};
+ghost use Rattle.fl_table.specs.Blobs.{AreSamePlan, LieOn, AreRunning, AreEmpty, MaySeal, NumbersLeft, RestEndsOf, PlaceEndsOf, StandOutside, next_of, next_after, rings_of, room_of, HasFew, HavePlaced, pages_for, placed_in, FitsRow};
 
 use crate::MountFault;
 use crate::blob_end::least_of;
@@ -141,6 +141,7 @@ pub(crate) fn place<F: Flash>(
     ensures same { AreSamePlan blobs.old blobs.new }
     ensures lies { LieOn blobs.new (F.state flash.new) }
     ensures running { OnOk result (AreRunning blobs.new) }
+    ensures placed { IfOk result (λ at. (at ≡ placed_in (option_map (λ b. b.now) blob.entry) blobs.old) × HavePlaced (option_map (λ b. b.now) blob.entry) blobs.old blobs.new) }
     ensures given { IfOk result (λ at. is_some at ≡ (is_some blobs.old && is_some blob.entry)) }
     ensures fits { IfOk result FitsRow }
     ensures next { OnOk result (next_of blobs.new ≡ next_of blobs.old + pages_for blobs.old (option_map (λ b. b.now) blob.entry)) }

@@ -45,6 +45,7 @@ impl<const KNOTS: usize, const SLOTS: usize> Table<KNOTS, SLOTS> {
     ghost use Rattle.fl_table.specs.Mounting.{OutsideStands, rings_in};
     ghost use Rattle.fl_table.specs.Outcomes.{SealsEnd, JoinEnds, PutEnds, FlushEnds};
     ghost use Rattle.fl_table.specs.Accepting.{IsAcceptedBy};
+    ghost use Rattle.fl_table.specs.Stored.{HasJoined, IsEmptied, KnowsSame, Stores};
 
     // The page buffer has no room for one row more.
     fn is_full(&self) -> bool
@@ -64,7 +65,7 @@ impl<const KNOTS: usize, const SLOTS: usize> Table<KNOTS, SLOTS> {
             → Stands self.old (F.state flash.old) first plan table → SealsEnd first plan (make_room_seals plan table) table rose device result self.new (F.state flash.old) (F.state flash.new) }
         ensures room { OnOk result (HasRoom self.new) }
         ensures quiet { HasRoom self.old → (result ≡ Ok tt) × (self.new ≡ self.old) × (F.state flash.new ≡ F.state flash.old) }
-        ensures full { OnOk result ((HasRoom self.old → ⊥) → (next_in self.new ≡ next_in self.old + 1) × (pending_in self.new ≡ 0)) }
+        ensures full { OnOk result ((HasRoom self.old → ⊥) → IsEmptied self.old self.new) }
         ensures running { OnOk result (is_running self.new ≡ true) }
         ensures last { last_key_in self.new ≡ last_key_in self.old }
         ensures pending_stays { OnErr result (pending_in self.new ≡ pending_in self.old) }
@@ -96,8 +97,7 @@ impl<const KNOTS: usize, const SLOTS: usize> Table<KNOTS, SLOTS> {
         requires blobs_left { variable.next_after self.old.blobs ≤ spent_from + 64 }
         requires blob_page { reference_end blob < 2 ^ 32 }
         ensures same { IsSamePlan self.old self.new }
-        ensures ring { self.new.ring ≡ self.old.ring }
-        ensures bitmaps { self.new.bitmaps ≡ self.old.bitmaps }
+        ensures known { KnowsSame self.old self.new }
         ensures blobs { self.new.blobs ≡ self.old.blobs }
         ensures lies { (f : FlashState) → LiesOn self.old f → LiesOn self.new f }
         ensures stopped { is_stopped self.new ≡ is_stopped self.old }
@@ -138,10 +138,7 @@ impl<const KNOTS: usize, const SLOTS: usize> Table<KNOTS, SLOTS> {
         ensures quiet { variable.pages_for self.old.blobs (option_map (λ b. b.now) blob.entry) ≡ 0 → (result ≡ Ok tt) × (F.state flash.new ≡ F.state flash.old) }
         ensures power { OnOk result ((F.state flash.old).is_on ≡ true → (F.state flash.new).is_on ≡ true) }
         ensures off { 1 ≤ variable.pages_for self.old.blobs (option_map (λ b. b.now) blob.entry) → OffChangesNothing (F.state flash.old) result (F.state flash.new) }
-        ensures pending { OnOk result (pending_in self.new ≡ pending_in self.old + 1) }
-        ensures last { OnOk result (last_key_in self.new ≡ Some key) }
-        ensures rows { OnOk result (option_map (λ b. b.now) blob.entry ≡ None → (rows : List Row) → PendingAre self.old rows → PendingAre self.new (rows ++ (record { key = key; values = values.now; blob = None }) ∷ [])) }
-        ensures next { OnOk result (next_in self.new ≡ next_in self.old) }
+        ensures joined { OnOk result (HasJoined self.old key values.now (option_map (λ b. b.now) blob.entry) self.new) }
         ensures running { OnOk result (is_running self.new ≡ true) }
         ensures calm { OnOk result (is_stopped self.new ≡ is_stopped self.old) }
         ensures stopped { OnErr result ((is_running self.new ≡ false) × (is_stopped self.new ≡ true)) }
@@ -189,12 +186,9 @@ impl<const KNOTS: usize, const SLOTS: usize> Table<KNOTS, SLOTS> {
         ensures last_stays { OnErr result (last_key_in self.new ≡ last_key_in self.old) }
         ensures quiet { put_refusal self.old key values.now (option_map (λ b. length b.now) blob.entry) ≡ None → HasRoom self.old → variable.pages_for self.old.blobs (option_map (λ b. b.now) blob.entry) ≡ 0
             → (result ≡ Ok tt) × (F.state flash.new ≡ F.state flash.old) }
-        ensures pending { OnOk result (HasRoom self.old → pending_in self.new ≡ pending_in self.old + 1) }
         ensures last { OnOk result (last_key_in self.new ≡ Some key) }
-        ensures rows { OnOk result (HasRoom self.old → option_map (λ b. b.now) blob.entry ≡ None → (rows : List Row) → PendingAre self.old rows → PendingAre self.new (rows ++ (record { key = key; values = values.now; blob = None }) ∷ [])) }
-        // A page that was full is sealed, and the record's row is the only one that is pending then.
-        ensures full { OnOk result ((HasRoom self.old → ⊥) → (next_in self.new ≡ next_in self.old + 1) × (pending_in self.new ≡ 1)) }
-        ensures first_row { OnOk result ((HasRoom self.old → ⊥) → option_map (λ b. b.now) blob.entry ≡ None → PendingAre self.new ((record { key = key; values = values.now; blob = None }) ∷ [])) }
+        // Whatever the flash holds: the record is pending, in the page that was, or after it was sealed.
+        ensures stores { OnOk result (Stores self.old key values.now (option_map (λ b. b.now) blob.entry) self.new) }
         ensures power { OnOk result ((F.state flash.old).is_on ≡ true → (F.state flash.new).is_on ≡ true) }
         ensures off { put_refusal self.old key values.now (option_map (λ b. length b.now) blob.entry) ≡ None → (HasRoom self.old → variable.pages_for self.old.blobs (option_map (λ b. b.now) blob.entry) ≡ 0 → ⊥)
             → (F.state flash.old).is_on ≡ false → (result ≡ Err (PutRefusal.Flash FlashFault.PowerLost)) × (F.state flash.new ≡ F.state flash.old) }

@@ -320,11 +320,8 @@ returns-clause-logs g c =
     subst (λ (l : RowLayout). HaveLogged l (record { key = c.args.key; values = c.args.values.now; blob = None }) c.args.self.now.log c.log_row.new.log)
     (c.schema.ensures.exact ∙ c.in_ok-put.ensures.same.layout) c.in_default-log_row.ensures.logs
 
-pub returns-clause-pending : goal.returns-clause-pending
-returns-clause-pending g c = c.in_ok-put.ensures.pending
-
-pub returns-clause-rows : goal.returns-clause-rows
-returns-clause-rows g c = c.in_ok-put.ensures.rows
+pub returns-clause-stores : goal.returns-clause-stores
+returns-clause-stores g c = c.in_ok-put.ensures.stores
 
 pub returns-clause-power : goal.returns-clause-power
 returns-clause-power g c = λ on. c.in_default-log_row.ensures.power (c.in_ok-put.ensures.power on)

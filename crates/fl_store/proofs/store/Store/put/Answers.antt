@@ -41,7 +41,7 @@ returns-clause-lie g c =
 pub returns-clause-takes : goal.returns-clause-takes
 returns-clause-takes g c =
     put-takes c.args.self.now.tables.entries.items c.args.at c.index_mut-entry.result.now c.put.new.self
-    (entry-at c.args.self.now.tables.entries.items c.args.at c.index_mut-entry.result.now c.requires.at c.index_mut-entry.ensures.value) _ c.put.result c.put.ensures.last c.put.ensures.pending c.put.ensures.rows c.put.ensures.logs
+    (entry-at c.args.self.now.tables.entries.items c.args.at c.index_mut-entry.result.now c.requires.at c.index_mut-entry.ensures.value) _ c.put.result c.put.ensures.last c.put.ensures.stores c.put.ensures.logs
 
 pub returns-clause-quiet : goal.returns-clause-quiet
 returns-clause-quiet g c = λ entry e.

@@ -120,11 +120,8 @@ returns-clause-last g c = refl
 pub returns-clause-rows : goal.returns-clause-rows
 returns-clause-rows g c = λ rows h. c.push_row.ensures.rows rows h
 
-pub returns-clause-ring : goal.returns-clause-ring
-returns-clause-ring g c = refl
-
-pub returns-clause-bitmaps : goal.returns-clause-bitmaps
-returns-clause-bitmaps g c = refl
+pub returns-clause-known : goal.returns-clause-known
+returns-clause-known g c = record { ring = refl; counts = refl; voids = refl; index = refl; bitmaps = refl }
 
 pub returns-clause-blobs : goal.returns-clause-blobs
 returns-clause-blobs g c = refl
