@@ -34,6 +34,7 @@ pub mod Alone
 pub mod PutEnded
 pub mod FlushEnded
 pub mod PutFrames
+pub mod Written
 pub mod Powered
 pub mod PowerOff
 pub mod Sizes

@@ -27,7 +27,7 @@ impl<const KNOTS: usize, const SLOTS: usize> LoggedTable<KNOTS, SLOTS> {
     ghost use Rattle.fl_rlc.specs.Outcomes.{PutEnds, FlushEnds};
     ghost use Rattle.fl_rlc.specs.Refusal.{put_refusal, NeedsNoOperation, RefusedSame};
     ghost use Rattle.fl_rlc.specs.Rows.{AreBegun, HaveLogged};
-    ghost use Rattle.fl_rlc.specs.Table.{is_running, is_stopped, table_in, log_in, rings_in, IsSamePlan, LiesOn, OutsideStands};
+    ghost use Rattle.fl_rlc.specs.Table.{is_running, is_stopped, table_in, log_in, rings_in, IsSamePlan, LiesOn, MayPut, OutsideStands};
 
     /// Puts a record. Its row is pending then, as a table's; with a log all pending rows are sealed as a page of it too, before
     /// this answers. A refusal but `Flash` leaves all as it was, and that of a log without a page number left comes last.
@@ -59,6 +59,8 @@ impl<const KNOTS: usize, const SLOTS: usize> LoggedTable<KNOTS, SLOTS> {
         ensures same { IsSamePlan self.old self.new }
         ensures lies { LiesOn self.new (F.state flash.new) }
         ensures outside { IsTrue (F.state flash.old).media.tells → OutsideStands self.old (page_at (F.state flash.old)) (page_at (F.state flash.new)) }
+        // Whatever the flash holds: a seal of each ring at most, and of the variable data those of the pages that the blob fills.
+        ensures writes { Writes (MayPut self.old (option_map (λ b. b.now) blob.entry)) 0 (rings_in self.old + most_pages (data_in (table_in self.old)) (option_map (λ b. b.now) blob.entry)) (F.state flash.old) (F.state flash.new) }
         ensures reads { (F.state flash.new).work.reads ≡ (F.state flash.old).work.reads }
         ensures media_reads { (F.state flash.new).media.reads ≤ (F.state flash.old).media.reads + rings_in self.old + most_pages (data_in (table_in self.old)) (option_map (λ b. b.now) blob.entry) }
     {

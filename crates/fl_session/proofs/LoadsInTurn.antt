@@ -15,7 +15,7 @@ use Rattle.fl_table.specs.Stored.{Stores}
 use Rattle.fl_table.specs.declared.faults.PutRefusal.{PutRefusal}
 use Rattle.fl_table.specs.declared.faults.PutRefusal.TheVariants as put
 use Rattle.fl_machine.specs.Step.{next_random}
-use Rattle.fl_session.specs.LoadSays.{LoadEnds, LoadFails, Loads, LoadsNext, next_row, random_at}
+use Rattle.fl_session.specs.LoadSays.{LoadEnds, LoadFails, Loads, LoadsNext, WritesOne, next_row, random_at}
 
 -- ---- the next record
 
@@ -30,9 +30,9 @@ module _ (step seed n : ℕ) (t u : LoggedTable 64 64) (m g : FlashState) (key :
   pub loads-next : (outcome : Result (Unit {0}) PutRefusal) → is_err outcome ≡ false → RefusesAs (put_refusal t key values None) outcome → OnOk outcome (last_key_in (table_in u) ≡ Some key) →
       OnOk outcome (Stores (table_in t) key values None (table_in u)) →
       OnOk outcome (HaveLogged (layout_in (table_in t)) (row_of key values) (log_in t) (log_in u)) → (put_refusal t key values None ≡ None → NeedsNoOperation t None → (outcome ≡ Ok tt) × (g ≡ m)) →
-      OnOk outcome (m.is_on ≡ true → g.is_on ≡ true) → IsSamePlan t u → LoadsNext step seed n t m u g
-  loads-next (Err e) ok exact last stores logs quiet power same = absurd (cc ok)
-  loads-next (Ok done) ok exact last stores logs quiet power same =
+      OnOk outcome (m.is_on ≡ true → g.is_on ≡ true) → WritesOne t m g → IsSamePlan t u → LoadsNext step seed n t m u g
+  loads-next (Err e) ok exact last stores logs quiet power writes same = absurd (cc ok)
+  loads-next (Ok done) ok exact last stores logs quiet power writes same =
       let accepted : put_refusal t key values None ≡ None = accepts (put_refusal t key values None) exact in
       record {
         accepted = subst (λ (r : Row). put_refusal t r.key r.values None ≡ None) row-is accepted;
@@ -41,6 +41,7 @@ module _ (step seed n : ℕ) (t u : LoggedTable 64 64) (m g : FlashState) (key :
         logs = subst (λ (r : Row). HaveLogged (layout_in (table_in t)) r (log_in t) (log_in u)) row-is logs;
         quiet = λ none. (quiet accepted none).1;
         power = power;
+        writes = writes;
         same = same;
       }
     where
@@ -49,9 +50,9 @@ module _ (step seed n : ℕ) (t u : LoggedTable 64 64) (m g : FlashState) (key :
       accepts (Some refusal) is = absurd (cc is)
 
   -- it wasn't
-  pub load-ends : (outcome : Result (Unit {0}) PutRefusal) → is_err outcome ≡ true → RefusesAs (put_refusal t key values None) outcome → IfErr outcome (λ e. RefusedSame t m e u g) → LoadEnds step seed n t m outcome u g
-  load-ends (Ok done) err exact same = absurd (cc err)
-  load-ends (Err refusal) err exact same = (subst (λ (r : Row). RefusesAs (put_refusal t r.key r.values None) (Err refusal)) row-is exact, same)
+  pub load-ends : (outcome : Result (Unit {0}) PutRefusal) → is_err outcome ≡ true → RefusesAs (put_refusal t key values None) outcome → IfErr outcome (λ e. RefusedSame t m e u g) → WritesOne t m g → LoadEnds step seed n t m outcome u g
+  load-ends (Ok done) err exact same writes = absurd (cc err)
+  load-ends (Err refusal) err exact same writes = (subst (λ (r : Row). RefusesAs (put_refusal t r.key r.values None) (Err refusal)) row-is exact, same, writes)
 
 -- ---- so many of them
 

@@ -6,8 +6,11 @@ use Rattle.fl_model.specs.Row.{Row}
 use Rattle.fl_frame.specs.Causes.{CausedBy}
 use Rattle.fl_rlc.specs.Refusal.{NeedsNoOperation, RefusedSame, put_refusal}
 use Rattle.fl_rlc.specs.Rows.{HaveLogged}
-use Rattle.fl_rlc.specs.Table.{IsSamePlan, log_in, table_in}
+use Rattle.fl_rlc.specs.Table.{IsSamePlan, MayPut, log_in, rings_in, table_in}
 use Rattle.fl_rlc.specs.declared.table.LoggedTable.{LoggedTable}
+use Rattle.fl_ring.specs.Written.{Writes}
+use Rattle.fl_table.specs.BlobAt.{data_in}
+use Rattle.fl_table.specs.Blobs.{most_pages}
 use Rattle.fl_table.specs.Look.{last_key_in, layout_in}
 use Rattle.fl_table.specs.Refusal.{RefusesAs}
 use Rattle.fl_table.specs.Stored.{Stores}
@@ -31,6 +34,10 @@ next_row t step seed n = record {
 abbrev pub refusal_of : LoggedTable 64 64 → Row → Option PutRefusal
 refusal_of t row = put_refusal t row.key row.values None
 
+-- its put tried a seal of each ring at most
+abbrev pub WritesOne : LoggedTable 64 64 → FlashState → FlashState → Type 0
+WritesOne t f g = Writes (MayPut t None) 0 (rings_in t + most_pages (data_in (table_in t)) None) f g
+
 -- It was put. It is the table's last record, and pending, the only one where the page of pending rows had no room for it; it needs the
 -- flash only if that page was full or the table has a log.
 pub record LoadsNext (step seed n : ℕ) (t : LoggedTable 64 64) (f : FlashState) (u : LoggedTable 64 64) (g : FlashState) : Type 0 where
@@ -40,6 +47,7 @@ pub record LoadsNext (step seed n : ℕ) (t : LoggedTable 64 64) (f : FlashState
   pub logs : HaveLogged (layout_in (table_in t)) (next_row t step seed n) (log_in t) (log_in u)
   pub quiet : NeedsNoOperation t None → g ≡ f
   pub power : f.is_on ≡ true → g.is_on ≡ true
+  pub writes : WritesOne t f g
   pub same : IsSamePlan t u
 
 -- so many were put
@@ -50,7 +58,7 @@ Loads step seed (suc n) t f u g = (mid : LoggedTable 64 64) × (m : FlashState) 
 -- What became of the one behind them: none was asked for; or the table refuses it, and nothing changes; or an operation failed.
 abbrev pub LoadEnds : ℕ → ℕ → ℕ → LoggedTable 64 64 → FlashState → Result (Unit {0}) PutRefusal → LoggedTable 64 64 → FlashState → Type 0
 LoadEnds step seed n t f (Ok done) u g = (u ≡ t) × (g ≡ f)
-LoadEnds step seed n t f (Err refusal) u g = RefusesAs (refusal_of t (next_row t step seed n)) (Err refusal) × RefusedSame t f refusal u g
+LoadEnds step seed n t f (Err refusal) u g = RefusesAs (refusal_of t (next_row t step seed n)) (Err refusal) × RefusedSame t f refusal u g × WritesOne t f g
 
 -- so many were put, and then it ended
 pub record PutsRecords (step seed n : ℕ) (t : LoggedTable 64 64) (f : FlashState) (outcome : Result (Unit {0}) PutRefusal) (u : LoggedTable 64 64) (g : FlashState) : Type 0 where

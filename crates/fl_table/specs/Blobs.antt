@@ -170,6 +170,12 @@ StandOutside (Some var) old new = OutsideStands (var_shape var) old new
 abbrev pub MaySeal : Option VarData → ℕ → Type 0
 MaySeal blobs page = IsSomeAnd blobs (λ var. memory.MaySeal var page)
 
+-- .. and those that may change while a blob is placed
+abbrev pub MayFill : Option (List ℕ) → Option VarData → ℕ → Type 0
+MayFill None blobs page = ⊥
+MayFill (Some bytes) None page = ⊥
+MayFill (Some bytes) (Some var) page = memory.IsOnRing var page
+
 -- how many pages the ring has, and how many rings there are
 abbrev pub room_of : Option VarData → ℕ
 room_of blobs = unwrap_or (option_map (λ var. room (var_shape var)) blobs) 0

@@ -13,7 +13,7 @@ ghost use Rattle.fl_table.specs.BlobMount.{MountEndsOf, FindsBlobs, RefusesBlobs
 ghost use Rattle.fl_table.specs.Causes.{MountCausedBy, OffFailsAs};
 ghost use Rattle.fl_table.specs.MountLimits.{IsVarLimited};
 ghost use Rattle.fl_table.specs.Mounting.{FewReads, FewRepairs};
-ghost use Rattle.fl_table.specs.Blobs.{AreSamePlan, LieOn, AreRunning, AreEmpty, MaySeal, NumbersLeft, RestEndsOf, PlaceEndsOf, StandOutside, next_of, next_after, rings_of, room_of, HasFew, HavePlaced, pages_for, placed_in, FitsRow};
+ghost use Rattle.fl_table.specs.Blobs.{AreSamePlan, LieOn, AreRunning, AreEmpty, MayFill, MaySeal, NumbersLeft, RestEndsOf, PlaceEndsOf, StandOutside, next_of, next_after, rings_of, room_of, HasFew, HavePlaced, pages_for, placed_in, FitsRow};
 
 use crate::MountFault;
 use crate::blob_end::least_of;
@@ -151,6 +151,7 @@ pub(crate) fn place<F: Flash>(
     ensures ends { (first : ℕ) (plan : Plan) (table : model.Table) (item : Record) (rose : Bool) (device : Device) → item.blob ≡ option_map (λ b. b.now) blob.entry →
         PlaceEndsOf blobs.old (F.state flash.old) first plan item table rose device result blobs.new (F.state flash.new) }
     ensures outside { IsTrue (F.state flash.old).media.tells → StandOutside blobs.old (page_at (F.state flash.old)) (page_at (F.state flash.new)) }
+    ensures writes { Writes (MayFill (option_map (λ b. b.now) blob.entry) blobs.old) 0 (pages_for blobs.old (option_map (λ b. b.now) blob.entry)) (F.state flash.old) (F.state flash.new) }
     ensures reads { (F.state flash.new).work.reads ≡ (F.state flash.old).work.reads }
     ensures media_reads { (F.state flash.new).media.reads ≤ (F.state flash.old).media.reads + pages_for blobs.old (option_map (λ b. b.now) blob.entry) }
     ensures cause { IfErr result (λ e. CausedBy (F.state flash.old) e (F.state flash.new)) }

@@ -44,6 +44,10 @@ room_in v = v.geometry.page - 16
 abbrev pub var_shape : VarData → Shape
 var_shape v = shape_at v.place v.geometry
 
+-- the flash pages of the ring
+abbrev pub IsOnRing : VarData → ℕ → Type 0
+IsOnRing v page = ((var_shape v).first ≤ page) × (page < (var_shape v).first + ring.room (var_shape v))
+
 -- the bytes at the place of a page number
 abbrev pub page_in : VarData → FlashState → ℕ → List ℕ
 page_in v f number = page_at f (ring.place (var_shape v) number)

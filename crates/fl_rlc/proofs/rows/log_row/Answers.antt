@@ -1,5 +1,10 @@
-use Rattle.std.proofs.Common.{Option, Some, sym, subst}
+use Rattle.std.proofs.Common.{cond, is_some, Option, Some, sym, subst, arith}
+use Rattle.fl_ring.specs.Written.{MaySealIn, Writes, done}
+use Rattle.fl_ring.specs.declared.ring.Ring.{Ring}
+use Rattle.fl_ring.proofs.Written.{writes-none, writes-wider}
+use Rattle.fl_rlc.specs.Memory.{MaySeal}
 use Rattle.fl_rlc.specs.Rows.{RowEnds, HaveLogged}
+use Rattle.fl_rlc.specs.Table.{MaySealLog}
 use Rattle.fl_rlc.specs.declared.log.RecordLog.{RecordLog}
 use Rattle.fl_rlc.proofs.JoinedRow.{joined-ready, joined-logged, seal-moved}
 use Rattle.fl_rlc.proofs.rows.log_row.Goals as goal
@@ -22,3 +27,13 @@ returns-in-Some-clause-logs g c =
     subst (λ (o : Option RecordLog). OnOk c.seal.result (HaveLogged (layout_of c.args.schema.now) (record { key = c.args.key; values = c.args.values.now; blob = None }) o (Some c.seal.new.self))) (sym c.in-Some.is)
     (joined-logged (layout_of c.args.schema.now) (record { key = c.args.key; values = c.args.values.now; blob = None }) c.in-Some.log c.add.new.self c.seal.new.self c.seal.result c.add.ensures.ring c.add.ensures.joins
     c.seal.ensures.next c.seal.ensures.rows)
+
+pub returns-in-None-clause-writes : goal.returns-in-None-clause-writes
+returns-in-None-clause-writes g c = writes-none (MaySealLog c.args.log.now) (cond (is_some c.args.log.now) 1 0) (g.F.Flash.state c.args.flash.now)
+
+pub returns-in-Some-clause-writes : goal.returns-in-Some-clause-writes
+returns-in-Some-clause-writes g c =
+    let f = g.F.Flash.state c.args.flash.now in
+    let new = g.F.Flash.state c.seal.new.flash in
+    subst (λ (o : Option RecordLog). Writes (MaySealLog o) 0 (cond (is_some o) 1 0) (g.F.Flash.state c.args.flash.now) (g.F.Flash.state c.seal.new.flash)) (sym c.in-Some.is)
+    (writes-wider (MaySeal c.add.new.self) (MaySealLog (Some c.in-Some.log)) (done c.seal.result) 0 1 1 f new (λ page may. subst (λ (r : Option Ring). MaySealIn r page) c.add.ensures.ring may) (omega arith) (omega arith) c.seal.ensures.writes)

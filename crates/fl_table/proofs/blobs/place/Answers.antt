@@ -4,12 +4,14 @@ use Rattle.std.specs.Borrow.{Bor}
 use Rattle.std.proofs.lemmas.Result.{err_from_is_err_and}
 use Rattle.fl_base.specs.declared.types.BlobRef.{BlobRef}
 use Rattle.fl_flash.specs.declared.flash.FlashFault.{FlashFault}
-use Rattle.fl_table.specs.Blobs.{PlaceEndsOf, PlaceEnds, pages_for}
+use Rattle.fl_ring.proofs.Written.{writes-none}
+use Rattle.fl_table.specs.Blobs.{PlaceEndsOf, PlaceEnds, MayFill, pages_for}
 use Rattle.fl_table.proofs.BlobSteps.{place-ok, place-none}
 use Rattle.fl_table.proofs.PowerOff.{off-ok, off-err}
 use Rattle.fl_flash.specs.Flash.{FlashState}
 use Rattle.fl_table.proofs.Stored.{none-kept, none-placed, one-placed}
 use Rattle.fl_table.proofs.Untouched.{no-success}
+use Rattle.fl_table.proofs.Writing.{fill-writes}
 use Rattle.fl_table.proofs.blobs.place.Goals as goal
 use Rattle.fl_var.specs.declared.var_data.VarData.{VarData}
 
@@ -95,3 +97,23 @@ returns-clause-placed g c =
     let bytes : c.args.blob ≡ Some c.in-Some-blob.bytes = c.in-Some-blob.is in
     one-placed (option_map (λ (b : Bor (List ℕ)). b.now) c.args.blob) c.args.blobs.now c.in-Some-blob.bytes.now c.in-Some.var c.append.new.self c.in_ok-at.at (ap (option_map (λ (b : Bor (List ℕ)). b.now)) bytes) c.in-Some.is e.reference
     (record { next = e.next; waits = e.waits })
+
+pub returns-in_default-clause-writes : goal.returns-in_default-clause-writes
+returns-in_default-clause-writes g c =
+    writes-none (MayFill (option_map (λ (b : Bor (List ℕ)). b.now) c.args.blob) c.args.blobs.now) (pages_for c.args.blobs.now (option_map (λ (b : Bor (List ℕ)). b.now) c.args.blob)) (g.F.Flash.state c.args.flash.now)
+
+pub returns-in_default-blob-clause-writes : goal.returns-in_default-blob-clause-writes
+returns-in_default-blob-clause-writes g c =
+    writes-none (MayFill (option_map (λ (b : Bor (List ℕ)). b.now) c.args.blob) c.args.blobs.now) (pages_for c.args.blobs.now (option_map (λ (b : Bor (List ℕ)). b.now) c.args.blob)) (g.F.Flash.state c.args.flash.now)
+
+pub returns-in_err-at-clause-writes : goal.returns-in_err-at-clause-writes
+returns-in_err-at-clause-writes g c =
+    let bytes : c.args.blob ≡ Some c.in-Some-blob.bytes = c.in-Some-blob.is in
+    fill-writes (option_map (λ (b : Bor (List ℕ)). b.now) c.args.blob) c.args.blobs.now c.in-Some-blob.bytes.now c.in-Some.var (g.F.Flash.state c.args.flash.now) (g.F.Flash.state c.append.new.flash)
+    (ap (option_map (λ (b : Bor (List ℕ)). b.now)) bytes) c.in-Some.is c.in_err-at.ensures.writes
+
+pub returns-clause-writes : goal.returns-clause-writes
+returns-clause-writes g c =
+    let bytes : c.args.blob ≡ Some c.in-Some-blob.bytes = c.in-Some-blob.is in
+    fill-writes (option_map (λ (b : Bor (List ℕ)). b.now) c.args.blob) c.args.blobs.now c.in-Some-blob.bytes.now c.in-Some.var (g.F.Flash.state c.args.flash.now) (g.F.Flash.state c.append.new.flash)
+    (ap (option_map (λ (b : Bor (List ℕ)). b.now)) bytes) c.in-Some.is c.in_ok-at.ensures.writes

@@ -1,4 +1,4 @@
-use Rattle.std.proofs.Common.{rules, ◌≡◌, ℕ, ◌+◌, ◌-◌, ◌<◌, ◌≤◌, None, Some, Ok, Err, map, length, refl, sym, ◌∙◌, ap, subst, arith}
+use Rattle.std.proofs.Common.{rules, ◌≡◌, ℕ, ◌+◌, ◌-◌, ◌<◌, ◌≤◌, None, Some, Result, Ok, Err, map, length, refl, sym, ◌∙◌, ap, subst, arith}
 use Rattle.std.proofs.lemmas.Result.{err_from_is_err_and}
 use Rattle.fl_flash.specs.Flash.{page_at}
 use Rattle.fl_flash.specs.declared.flash.FlashFault.{FlashFault}
@@ -10,6 +10,8 @@ use Rattle.fl_ring.specs.Operations.{change, seal_kinds}
 use Rattle.fl_ring.specs.Place.{StandsFor, shape_of}
 use Rattle.fl_ring.specs.Ring.{Shape, OutsideStands, oldest, place, sealed}
 use Rattle.fl_ring.specs.Sealing.{Performed}
+use Rattle.fl_ring.specs.Written.{done}
+use Rattle.fl_ring.proofs.Written.{held-writes}
 use Rattle.fl_index.proofs.SealAnswers.{seal-on}
 use Rattle.fl_rlc.specs.Memory.{next_in}
 use Rattle.fl_rlc.specs.Pages.{log_body}
@@ -125,3 +127,17 @@ pub returns-clause-next : goal.returns-clause-next
 returns-clause-next g c =
     let ring_is : c.args.self.now.ring ≡ Some c.in-Some.ring = search rules in
     c.in_ok-seal.ensures.next ∙ ap (λ n. n + 1) (sym (next-is c.args.self.now c.in-Some.ring ring_is))
+
+pub returns-in_err-seal-clause-writes : goal.returns-in_err-seal-clause-writes
+returns-in_err-seal-clause-writes g c =
+    let v = c.args.self.now in
+    let ring_is : c.args.self.now.ring ≡ Some c.in-Some.ring = search rules in
+    let p = err_from_is_err_and c.from_residual.result c.from_residual.ensures.1 in
+    let none : done c.from_residual.result ≡ 0 = ap (λ (x : Result (Unit {0}) FlashFault). done x) p.1 in
+    held-writes v.ring c.in-Some.ring 0 (done c.from_residual.result) _ _ ring_is (omega (arith, none)) c.in_err-seal.ensures.writes
+
+pub returns-clause-writes : goal.returns-clause-writes
+returns-clause-writes g c =
+    let v = c.args.self.now in
+    let ring_is : c.args.self.now.ring ≡ Some c.in-Some.ring = search rules in
+    held-writes v.ring c.in-Some.ring 1 1 _ _ ring_is (omega arith) c.in_ok-seal.ensures.writes

@@ -14,7 +14,7 @@ use Rattle.fl_schema.specs.Schema.{layout_of}
 use Rattle.fl_table.specs.Refusal.{RefusesAs}
 use Rattle.fl_table.specs.declared.faults.PutRefusal.{PutRefusal}
 use Rattle.fl_table.specs.declared.faults.PutRefusal.TheVariants as put
-use Rattle.fl_table.specs.Blobs.{pages_for}
+use Rattle.fl_table.specs.Blobs.{most_pages, pages_for}
 use Rattle.fl_table.specs.Memory.{HasRoom}
 use Rattle.fl_rlc.specs.Refusal.{put_refusal, NeedsNoOperation}
 use Rattle.fl_rlc.specs.Rows.{RowEnds, HaveLogged}
@@ -24,7 +24,9 @@ use Rattle.fl_frame.proofs.ReadsInTurn.{no_reads}
 use Rattle.fl_model.specs.Record.{layout_len}
 use Rattle.fl_model.specs.Row.{FitsRow}
 use Rattle.fl_rlc.specs.Memory.{page_len}
-use Rattle.fl_rlc.specs.Table.{is_logged, is_running, is_stopped}
+use Rattle.fl_rlc.specs.Table.{is_logged, is_running, is_stopped, rings_in, MayPut}
+use Rattle.fl_ring.proofs.Written.{writes-none}
+use Rattle.fl_rlc.proofs.Written.{logged-writes, table-writes}
 use Rattle.fl_rlc.proofs.PowerOff.{idle-put}
 use Rattle.fl_table.proofs.Refusals.{told-running, fits-row, calm-cause}
 use Rattle.fl_table.proofs.SealAnswers.{plan-self, same-then}
@@ -402,3 +404,23 @@ schema-requires g c = table-fits g.row.KNOTS g.row.SLOTS c.args.self.now.table.f
 
 pub stop-requires : goal.stop-requires
 stop-requires g c = table-fits g.row.KNOTS g.row.SLOTS c.args.self.now.table.few_knots c.args.self.now.table.few_slots
+
+pub returns-in-Some-clause-writes : goal.returns-in-Some-clause-writes
+returns-in-Some-clause-writes g c =
+    let t = c.args.self.now in
+    let bytes = option_map (λ (b : Bor (List ℕ)). b.now) c.args.blob in
+    writes-none (MayPut t bytes) (rings_in t + most_pages t.table.blobs bytes) (g.F.Flash.state c.args.flash.now)
+
+pub returns-in_err-put-clause-writes : goal.returns-in_err-put-clause-writes
+returns-in_err-put-clause-writes g c =
+    table-writes c.args.self.now (option_map (λ (b : Bor (List ℕ)). b.now) c.args.blob) (g.F.Flash.state c.args.flash.now) (g.F.Flash.state c.put.new.flash) c.in_err-put.ensures.writes
+
+pub returns-in-Err-clause-writes : goal.returns-in-Err-clause-writes
+returns-in-Err-clause-writes g c =
+    logged-writes c.args.self.now (option_map (λ (b : Bor (List ℕ)). b.now) c.args.blob) (g.F.Flash.state c.args.flash.now) (g.F.Flash.state c.put.new.flash) (g.F.Flash.state c.log_row.new.flash)
+    c.in_ok-put.ensures.goes.tells c.in_ok-put.ensures.writes c.log_row.ensures.writes
+
+pub returns-clause-writes : goal.returns-clause-writes
+returns-clause-writes g c =
+    logged-writes c.args.self.now (option_map (λ (b : Bor (List ℕ)). b.now) c.args.blob) (g.F.Flash.state c.args.flash.now) (g.F.Flash.state c.put.new.flash) (g.F.Flash.state c.log_row.new.flash)
+    c.in_ok-put.ensures.goes.tells c.in_ok-put.ensures.writes c.log_row.ensures.writes

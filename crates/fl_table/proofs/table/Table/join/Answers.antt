@@ -350,3 +350,9 @@ returns-clause-joined g c =
       known = record { ring = known.ring; counts = known.counts; voids = known.voids; index = known.index; bitmaps = known.bitmaps };
       blobs = subst (λ (o : Option VarData). variable.HavePlaced (option_map (λ (b : Bor (List ℕ)). b.now) c.args.blob) c.args.self.now.blobs o) (sym c.add.ensures.blobs) c.in-Ok.ensures.placed.1;
     }
+
+pub returns-in-Err-clause-writes : goal.returns-in-Err-clause-writes
+returns-in-Err-clause-writes g c = c.in-Err.ensures.writes
+
+pub returns-clause-writes : goal.returns-clause-writes
+returns-clause-writes g c = c.in-Ok.ensures.writes

@@ -21,15 +21,13 @@ use Rattle.fl_model.specs.Row.{FitsRow}
 use Rattle.fl_schema.specs.Schema.{layout_of}
 use Rattle.fl_table.proofs.SealAnswers.{same-then, plan-self}
 use Rattle.fl_table.proofs.Sizes.{table-fits}
-use Rattle.fl_table.specs.Blobs.{pages_for}
+use Rattle.fl_table.specs.Blobs.{most_pages, pages_for}
 use Rattle.fl_table.proofs.Untouched.{at-most-two, at-most-more, and-false, on-err, no-success}
-use Rattle.fl_flash.specs.Flash.{FlashState}
-use Rattle.fl_ring.specs.Written.{Writes}
 use Rattle.fl_ring.proofs.Written.{writes-none}
-use Rattle.fl_table.specs.Memory.{MaySeal}
+use Rattle.fl_table.specs.Memory.{MayPut}
 use Rattle.fl_table.specs.Stored.{HasJoined}
 use Rattle.fl_table.specs.Mounting.{rings_in}
-use Rattle.fl_table.proofs.Writing.{pages-none}
+use Rattle.fl_table.proofs.Writing.{put-writes, room-writes}
 use Rattle.fl_table.proofs.table.Table.put.Goals as goal
 
 pub returns-in-Some-clause-ends : goal.returns-in-Some-clause-ends
@@ -391,20 +389,6 @@ returns-in_err-make_room-clause-last_stays g c = on-err c.from_residual.result c
 pub returns-in_err-join-clause-last_stays : goal.returns-in_err-join-clause-last_stays
 returns-in_err-join-clause-last_stays g c = on-err c.from_residual-in_err-join.result (c.in_err-join.ensures.last_stays ∙ c.in_ok-make_room.ensures.last)
 
-pub returns-in-Some-clause-writes : goal.returns-in-Some-clause-writes
-returns-in-Some-clause-writes g c = λ none. writes-none (MaySeal c.args.self.now) (rings_in c.args.self.now) (g.F.Flash.state c.args.flash.now)
-
-pub returns-in_err-make_room-clause-writes : goal.returns-in_err-make_room-clause-writes
-returns-in_err-make_room-clause-writes g c = λ none. c.in_err-make_room.ensures.writes
-
-pub returns-in_err-join-clause-writes : goal.returns-in_err-join-clause-writes
-returns-in_err-join-clause-writes g c = λ none. absurd (not-done c.in_err-join.field-0.0 tt (c.in_err-join.ensures.quiet (ap (pages_for c.make_room.new.self.blobs) none ∙ pages-none c.make_room.new.self.blobs)).0)
-
-pub returns-clause-writes : goal.returns-clause-writes
-returns-clause-writes g c = λ none.
-    subst (λ (f : FlashState). Writes (MaySeal c.args.self.now) 0 (rings_in c.args.self.now) (g.F.Flash.state c.args.flash.now) f)
-    (sym (c.in_ok-join.ensures.quiet (ap (pages_for c.make_room.new.self.blobs) none ∙ pages-none c.make_room.new.self.blobs)).1) c.in_ok-make_room.ensures.writes
-
 pub returns-in-Some-clause-stores : goal.returns-in-Some-clause-stores
 returns-in-Some-clause-stores g c = tt
 
@@ -421,3 +405,25 @@ returns-clause-stores g c =
       room = λ room. subst (λ (x : Table g.row.KNOTS g.row.SLOTS). HasJoined x c.args.key c.args.values.now bytes c.join.new.self) (c.in_ok-make_room.ensures.quiet room).1 c.in_ok-join.ensures.joined;
       full = λ full. (c.make_room.new.self, (c.in_ok-make_room.ensures.full full, c.in_ok-join.ensures.joined));
     }
+
+pub returns-in-Some-clause-writes : goal.returns-in-Some-clause-writes
+returns-in-Some-clause-writes g c =
+    let t = c.args.self.now in
+    let bytes = option_map (λ (b : Bor (List ℕ)). b.now) c.args.blob in
+    writes-none (MayPut t bytes) (rings_in t + most_pages t.blobs bytes) (g.F.Flash.state c.args.flash.now)
+
+pub returns-in_err-make_room-clause-writes : goal.returns-in_err-make_room-clause-writes
+returns-in_err-make_room-clause-writes g c =
+    let t = c.args.self.now in
+    let bytes = option_map (λ (b : Bor (List ℕ)). b.now) c.args.blob in
+    room-writes t bytes (most_pages t.blobs bytes) (g.F.Flash.state c.args.flash.now) (g.F.Flash.state c.make_room.new.flash) c.in_err-make_room.ensures.writes
+
+pub returns-in_err-join-clause-writes : goal.returns-in_err-join-clause-writes
+returns-in_err-join-clause-writes g c =
+    put-writes c.args.self.now c.make_room.new.self (option_map (λ (b : Bor (List ℕ)). b.now) c.args.blob) (g.F.Flash.state c.args.flash.now) (g.F.Flash.state c.make_room.new.flash) (g.F.Flash.state c.join.new.flash)
+    c.in_ok-make_room.ensures.goes.tells c.in_ok-make_room.ensures.same.blobs c.in_ok-make_room.ensures.writes c.in_err-join.ensures.writes
+
+pub returns-clause-writes : goal.returns-clause-writes
+returns-clause-writes g c =
+    put-writes c.args.self.now c.make_room.new.self (option_map (λ (b : Bor (List ℕ)). b.now) c.args.blob) (g.F.Flash.state c.args.flash.now) (g.F.Flash.state c.make_room.new.flash) (g.F.Flash.state c.join.new.flash)
+    c.in_ok-make_room.ensures.goes.tells c.in_ok-make_room.ensures.same.blobs c.in_ok-make_room.ensures.writes c.in_ok-join.ensures.writes
