@@ -8,7 +8,7 @@ ghost use Rattle.fl_ring.specs.Place.{shape_of, next_of, oldest_of, StandsFor, L
 ghost use Rattle.fl_ring.specs.Ring.{RingState, IsRing, OutsideStands, oldest, place, is_due_at, sealed, erased};
 ghost use Rattle.fl_ring.specs.Sealing.{IsReady, Seals, SealWork, SealCalls};
 ghost use Rattle.fl_frame.specs.Watched.{IsWatched};
-ghost use Rattle.fl_ring.specs.Written.{MaySeal, Writes, done};
+ghost use Rattle.fl_ring.specs.Written.{MaySeal, Writes, done, sealed_over};
 
 use crate::ring::Ring;
 use fl_flash::{Flash, FlashFault};
@@ -32,6 +32,7 @@ impl Ring {
         ensures numbers { OnOk result ((s : RingState) → StandsFor self.old s → IsRing (shape_of self.old) s → StandsFor self.new (erased (sealed (shape_of self.old) s body.now))) }
         ensures keeps { OnOk result (IsTrue (F.state flash.old).media.tells → (s : RingState) → IsReady self.old (F.state flash.old) s → (n : ℕ) → oldest (sealed (shape_of self.old) s body.now) ≤ n → n < s.next
             → page_at (F.state flash.new) (place (shape_of self.old) n) ≡ page_at (F.state flash.old) (place (shape_of self.old) n)) }
+        ensures page { OnOk result (IsTrue (F.state flash.old).media.tells → page_at (F.state flash.new) (place (shape_of self.old) (next_of self.old)) ≡ sealed_over (shape_of self.old) body.now (page_at (F.state flash.old) (place (shape_of self.old) (next_of self.old)))) }
         ensures outside { IsTrue (F.state flash.old).media.tells → OutsideStands (shape_of self.old) (page_at (F.state flash.old)) (page_at (F.state flash.new)) }
         ensures cause { IfErr result (λ e. CausedBy (F.state flash.old) e (F.state flash.new)) }
         ensures off { OffChangesNothing (F.state flash.old) result (F.state flash.new) }

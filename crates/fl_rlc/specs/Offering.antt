@@ -2,9 +2,8 @@
 use Rattle.std.specs.Prelude.{◌≡◌, ℕ, ◌+◌, ◌≤◌, Some, None, List, [], ◌∷◌}
 use Rattle.fl_flash.specs.Flash.{FlashState}
 use Rattle.fl_model.specs.Row.{Row}
-use Rattle.fl_ring.specs.Written.{Writes}
-use Rattle.fl_table.specs.Memory.{next_in, pending_in, MaySeal}
-use Rattle.fl_table.specs.Mounting.{rings_in}
+use Rattle.fl_table.specs.Memory.{next_in, pending_in}
+use Rattle.fl_table.specs.Paged.{HasFlushed}
 use Rattle.fl_table.specs.Refusal.{put_refusal}
 use Rattle.fl_table.specs.Stored.{HasJoined}
 use Rattle.fl_table.specs.declared.faults.PutRefusal.{PutRefusal}
@@ -19,9 +18,9 @@ abbrev pub AreOffered : {KNOTS SLOTS : ℕ} → Table KNOTS SLOTS → List Row �
 AreOffered old [] new = new ≡ old
 AreOffered {KNOTS} {SLOTS} old (row ∷ rows) new = (between : Table KNOTS SLOTS) × (IsOffered old row between × AreOffered between rows new)
 
--- The pending rows were sealed as a page, where there are any, and none is left. Each ring of the table was sealed once at most.
+-- The pending rows were sealed as a page, where there are any, and none is left: as they are flushed.
 pub record AreSealed {KNOTS SLOTS : ℕ} (old : Table KNOTS SLOTS) (old_f : FlashState) (new : Table KNOTS SLOTS) (new_f : FlashState) : Type 0 where
   pub quiet : pending_in old ≡ 0 → (new ≡ old) × (new_f ≡ old_f)
   pub page : 1 ≤ pending_in old → next_in new ≡ next_in old + 1
   pub none : pending_in new ≡ 0
-  pub writes : 1 ≤ pending_in old → Writes (MaySeal old) 1 (rings_in old) old_f new_f
+  pub flushed : 1 ≤ pending_in old → HasFlushed old old_f new_f

@@ -22,6 +22,7 @@ impl<const KNOTS: usize, const SLOTS: usize> LoggedTable<KNOTS, SLOTS> {
     ghost use Rattle.fl_table.specs.Memory.{next_in, pending_in, MaySeal};
     ghost use Rattle.fl_table.specs.Mounting.{rings_in as table_rings};
     ghost use Rattle.fl_table.specs.Refusal.{RefusesAs};
+    ghost use Rattle.fl_table.specs.Paged.{HasFlushed};
     ghost use Rattle.fl_table.specs.Stored.{Stores};
     ghost use Rattle.fl_rlc.specs.Logged.{Stands};
     ghost use Rattle.fl_rlc.specs.Outcomes.{PutEnds, FlushEnds};
@@ -97,9 +98,9 @@ impl<const KNOTS: usize, const SLOTS: usize> LoggedTable<KNOTS, SLOTS> {
         ensures same { IsSamePlan self.old self.new }
         ensures lies { LiesOn self.new (F.state flash.new) }
         ensures outside { IsTrue (F.state flash.old).media.tells → OutsideStands self.old (page_at (F.state flash.old)) (page_at (F.state flash.new)) }
-        // Whatever the flash holds: a seal of each ring of the table at most, and of pending rows one that is whole.
+        // Whatever the flash holds: a seal of each ring of the table at most, and of pending rows one that is whole, whose page has them then.
         ensures writes { Writes (MaySeal (table_in self.old)) 0 (table_rings (table_in self.old)) (F.state flash.old) (F.state flash.new) }
-        ensures sealed { OnOk result (1 ≤ pending_in (table_in self.old) → Writes (MaySeal (table_in self.old)) 1 (table_rings (table_in self.old)) (F.state flash.old) (F.state flash.new)) }
+        ensures sealed { OnOk result (1 ≤ pending_in (table_in self.old) → HasFlushed (table_in self.old) (F.state flash.old) (F.state flash.new)) }
         ensures reads { (F.state flash.new).work.reads ≡ (F.state flash.old).work.reads }
         ensures media_reads { (F.state flash.new).media.reads ≤ (F.state flash.old).media.reads + rings_in self.old }
     {

@@ -28,6 +28,7 @@ use Rattle.fl_table.specs.Finding.{IsAnswered, LookupFails, rows_at}
 use Rattle.fl_table.specs.Look.{buffered_rows, counts_in, last_key_in, layout_in, oldest_in}
 use Rattle.fl_table.specs.Memory.{next_in, pending_in, MaySeal}
 use Rattle.fl_table.specs.Mounting.{rings_in as table_rings}
+use Rattle.fl_table.specs.Paged.{HasFlushed}
 use Rattle.fl_table.specs.Refusal.{RefusesAs}
 use Rattle.fl_table.specs.Stored.{Stores}
 use Rattle.fl_table.specs.declared.faults.FlushFault.{FlushFault}
@@ -189,7 +190,7 @@ pub record FlushSays (old new : State) (at : ℕ) (entry : Entry) (said : Reply)
   pub power : OnOk outcome (old.flash.is_on ≡ true → new.flash.is_on ≡ true)
   pub off : 1 ≤ pending_in (table_in entry.table) → old.flash.is_on ≡ false → (outcome ≡ Err (flush.Flash PowerLost)) × (new.flash ≡ old.flash)
   pub writes : tried.Writes (MaySeal (table_in entry.table)) 0 (table_rings (table_in entry.table)) old.flash new.flash
-  pub sealed : OnOk outcome (1 ≤ pending_in (table_in entry.table) → tried.Writes (MaySeal (table_in entry.table)) 1 (table_rings (table_in entry.table)) old.flash new.flash)
+  pub sealed : OnOk outcome (1 ≤ pending_in (table_in entry.table) → HasFlushed (table_in entry.table) old.flash new.flash)
   pub media_reads : new.flash.media.reads ≤ old.flash.media.reads + rings_in entry.table
 
 -- what the table has in memory, and what the flash counted

@@ -20,6 +20,7 @@ ghost use Rattle.fl_table.specs.Finding.{HasKeyAt, IsAnswered, LookupFails, row_
 ghost use Rattle.fl_table.specs.Look.{counts_in, counts_of, last_key_in};
 ghost use Rattle.fl_table.specs.Memory.{pending_in, MaySeal};
 ghost use Rattle.fl_table.specs.Mounting.{FewRepairs, rings_in as table_rings};
+ghost use Rattle.fl_table.specs.Paged.{HasFlushed};
 ghost use Rattle.fl_table.specs.Refusal.{RefusesAs};
 ghost use Rattle.fl_store.specs.Calls.{Finds, FlushEnds, GetEnds, HavePage, IsRefusedSame, IsRowIn, Located, PutEnds, RunsAt, columns_at, powered};
 ghost use Rattle.fl_store.specs.InMemory.{AreSameTables, Becomes, Flushes, LeavesOthers, Takes, has_blobs_at};
@@ -141,7 +142,7 @@ impl<'m, M: Media> Store<'m, M> {
         ensures same { AreSameTables self.old.tables.entries.items self.new.tables.entries.items }
         ensures outside { (entry : Entry) → slice_get self.old.tables.entries.items at ≡ Some entry → IsTrue (⟦<SimFlash<'m, M> as Flash>⟧.state self.old.flash).media.tells → logged.OutsideStands entry.table (page_at (⟦<SimFlash<'m, M> as Flash>⟧.state self.old.flash)) (page_at (⟦<SimFlash<'m, M> as Flash>⟧.state self.new.flash)) }
         ensures writes { (entry : Entry) → slice_get self.old.tables.entries.items at ≡ Some entry → Writes (MaySeal (table_in entry.table)) 0 (table_rings (table_in entry.table)) (⟦<SimFlash<'m, M> as Flash>⟧.state self.old.flash) (⟦<SimFlash<'m, M> as Flash>⟧.state self.new.flash) }
-        ensures sealed { (entry : Entry) → slice_get self.old.tables.entries.items at ≡ Some entry → OnOk result (1 ≤ pending_in (table_in entry.table) → Writes (MaySeal (table_in entry.table)) 1 (table_rings (table_in entry.table)) (⟦<SimFlash<'m, M> as Flash>⟧.state self.old.flash) (⟦<SimFlash<'m, M> as Flash>⟧.state self.new.flash)) }
+        ensures sealed { (entry : Entry) → slice_get self.old.tables.entries.items at ≡ Some entry → OnOk result (1 ≤ pending_in (table_in entry.table) → HasFlushed (table_in entry.table) (⟦<SimFlash<'m, M> as Flash>⟧.state self.old.flash) (⟦<SimFlash<'m, M> as Flash>⟧.state self.new.flash)) }
         ensures reads { (⟦<SimFlash<'m, M> as Flash>⟧.state self.new.flash).work.reads ≡ (⟦<SimFlash<'m, M> as Flash>⟧.state self.old.flash).work.reads }
         ensures media_reads { (entry : Entry) → slice_get self.old.tables.entries.items at ≡ Some entry → (⟦<SimFlash<'m, M> as Flash>⟧.state self.new.flash).media.reads ≤ (⟦<SimFlash<'m, M> as Flash>⟧.state self.old.flash).media.reads + rings_in entry.table }
         ensures goes { Goes (⟦<SimFlash<'m, M> as Flash>⟧.state self.old.flash) (⟦<SimFlash<'m, M> as Flash>⟧.state self.new.flash) }

@@ -26,6 +26,7 @@ pub mod FullEntries
 pub mod NotedEntries
 pub mod MountIndexed
 pub mod MountJoined
+pub mod Paged
 pub mod BlobRows
 pub mod States
 pub mod Sealed

@@ -17,6 +17,7 @@ pub mod ByEntries
 pub mod Coming
 pub mod Knowing
 pub mod Mounting
+pub mod Paged
 pub mod MountLimits
 pub mod Look
 pub mod Rings

@@ -45,6 +45,7 @@ impl<const KNOTS: usize, const SLOTS: usize> Table<KNOTS, SLOTS> {
     ghost use Rattle.fl_table.specs.Mounting.{OutsideStands, rings_in};
     ghost use Rattle.fl_table.specs.Outcomes.{SealsEnd, JoinEnds, PutEnds, FlushEnds};
     ghost use Rattle.fl_table.specs.Accepting.{IsAcceptedBy};
+    ghost use Rattle.fl_table.specs.Paged.{HasFlushed};
     ghost use Rattle.fl_table.specs.Stored.{HasJoined, IsEmptied, KnowsSame, Stores};
 
     // The page buffer has no room for one row more.
@@ -227,9 +228,9 @@ impl<const KNOTS: usize, const SLOTS: usize> Table<KNOTS, SLOTS> {
         ensures seals { OnOk result (1 ≤ pending_in self.old → next_in self.new ≡ next_in self.old + 1) }
         ensures power { OnOk result ((F.state flash.old).is_on ≡ true → (F.state flash.new).is_on ≡ true) }
         ensures off { is_running self.old ≡ true → 1 ≤ pending_in self.old → (F.state flash.old).is_on ≡ false → (result ≡ Err (FlushFault.Flash FlashFault.PowerLost)) × (F.state flash.new ≡ F.state flash.old) }
-        // Whatever the flash holds: a seal of each ring at most, and of pending rows one that is whole.
+        // Whatever the flash holds: a seal of each ring at most, and of pending rows one that is whole, whose page has them then.
         ensures writes { Writes (MaySeal self.old) 0 (rings_in self.old) (F.state flash.old) (F.state flash.new) }
-        ensures sealed { OnOk result (1 ≤ pending_in self.old → Writes (MaySeal self.old) 1 (rings_in self.old) (F.state flash.old) (F.state flash.new)) }
+        ensures sealed { OnOk result (1 ≤ pending_in self.old → HasFlushed self.old (F.state flash.old) (F.state flash.new)) }
         ensures reads { (F.state flash.new).work.reads ≡ (F.state flash.old).work.reads }
         ensures media_reads { (F.state flash.new).media.reads ≤ (F.state flash.old).media.reads + rings_in self.old }
         ensures outside { IsTrue (F.state flash.old).media.tells → OutsideStands self.old (page_at (F.state flash.old)) (page_at (F.state flash.new)) }

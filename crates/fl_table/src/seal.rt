@@ -24,12 +24,13 @@ impl<const KNOTS: usize, const SLOTS: usize> Table<KNOTS, SLOTS> {
     ghost use Rattle.fl_table.specs.Look.{last_key_in};
     ghost use Rattle.fl_table.specs.Memory.{is_running, is_stopped, next_in, pending_in, IsSamePlan, LiesOn, MaySeal};
     ghost use Rattle.fl_table.specs.Standing.{Stands};
-    ghost use Rattle.fl_table.specs.Bitmaps.{HaveRoom, bitmap_seals, next_of as index_next, rings_of, MaySeal as index_seals};
+    ghost use Rattle.fl_table.specs.Bitmaps.{HaveRoom, bitmap_seals, next_of as index_next, rings_of, MaySeal as index_seals, StandOutside};
     ghost use Rattle.fl_table.specs.Blobs as variable;
     ghost use Rattle.fl_table.specs.Blobs.{AreEmpty, rest_seals};
     ghost use Rattle.fl_table.specs.Causes.{OffFailsAs};
     ghost use Rattle.fl_table.specs.Mounting.{OutsideStands, rings_in};
     ghost use Rattle.fl_table.specs.Outcomes.{SealsEnd};
+    ghost use Rattle.fl_table.specs.Paged.{IsApart, RowsPaged, next_page};
     ghost use Rattle.fl_table.specs.Stored.{IsEmptied};
 
     /// Seals the table: the waiting entries, where they fill an index page, the blob bytes that wait, and then the pending
@@ -51,6 +52,7 @@ impl<const KNOTS: usize, const SLOTS: usize> Table<KNOTS, SLOTS> {
         ensures calm { OnOk result (is_stopped self.new ≡ is_stopped self.old) }
         ensures stopped { OnErr result ((is_running self.new ≡ false) × (is_stopped self.new ≡ true)) }
         ensures outside { IsTrue (F.state flash.old).media.tells → OutsideStands self.old (page_at (F.state flash.old)) (page_at (F.state flash.new)) }
+        ensures page { OnOk result (IsTrue (F.state flash.old).media.tells → IsApart self.old (next_page self.old) → RowsPaged self.old (page_at (F.state flash.old)) (page_at (F.state flash.new))) }
         ensures writes { Writes (MaySeal self.old) (done result) (rings_in self.old) (F.state flash.old) (F.state flash.new) }
         ensures reads { (F.state flash.new).work.reads ≡ (F.state flash.old).work.reads }
         ensures media_reads { (F.state flash.new).media.reads ≤ (F.state flash.old).media.reads + rings_in self.old }
@@ -84,6 +86,7 @@ impl<const KNOTS: usize, const SLOTS: usize> Table<KNOTS, SLOTS> {
         ensures calm { OnOk result (is_stopped self.new ≡ is_stopped self.old) }
         ensures stopped { OnErr result ((is_running self.new ≡ false) × (is_stopped self.new ≡ true)) }
         ensures outside { IsTrue (F.state flash.old).media.tells → OutsideStands self.old (page_at (F.state flash.old)) (page_at (F.state flash.new)) }
+        ensures still { (self.new.writer ≡ self.old.writer) × (self.new.bitmap ≡ self.old.bitmap) × (IsTrue (F.state flash.old).media.tells → StandOutside self.old.bitmaps (page_at (F.state flash.old)) (page_at (F.state flash.new))) }
         ensures writes { Writes (index_seals self.old.bitmaps) 0 (rings_of self.old.bitmaps) (F.state flash.old) (F.state flash.new) }
         ensures reads { (F.state flash.new).work.reads ≡ (F.state flash.old).work.reads }
         ensures media_reads { (F.state flash.new).media.reads ≤ (F.state flash.old).media.reads + rings_of self.old.bitmaps }
@@ -120,6 +123,7 @@ impl<const KNOTS: usize, const SLOTS: usize> Table<KNOTS, SLOTS> {
         ensures calm { OnOk result (is_stopped self.new ≡ is_stopped self.old) }
         ensures stopped { OnErr result ((is_running self.new ≡ false) × (is_stopped self.new ≡ true)) }
         ensures outside { IsTrue (F.state flash.old).media.tells → OutsideStands self.old (page_at (F.state flash.old)) (page_at (F.state flash.new)) }
+        ensures still { (self.new.writer ≡ self.old.writer) × (self.new.bitmap ≡ self.old.bitmap) × (IsTrue (F.state flash.old).media.tells → variable.StandOutside self.old.blobs (page_at (F.state flash.old)) (page_at (F.state flash.new))) }
         ensures writes { Writes (variable.MaySeal self.old.blobs) 0 (variable.rings_of self.old.blobs) (F.state flash.old) (F.state flash.new) }
         ensures reads { (F.state flash.new).work.reads ≡ (F.state flash.old).work.reads }
         ensures media_reads { (F.state flash.new).media.reads ≤ (F.state flash.old).media.reads + variable.rings_of self.old.blobs }
@@ -169,6 +173,7 @@ impl<const KNOTS: usize, const SLOTS: usize> Table<KNOTS, SLOTS> {
         ensures calm { OnOk result (is_stopped self.new ≡ is_stopped self.old) }
         ensures stopped { OnErr result ((is_running self.new ≡ false) × (is_stopped self.new ≡ true)) }
         ensures outside { IsTrue (F.state flash.old).media.tells → OutsideStands self.old (page_at (F.state flash.old)) (page_at (F.state flash.new)) }
+        ensures page { OnOk result (IsTrue (F.state flash.old).media.tells → RowsPaged self.old (page_at (F.state flash.old)) (page_at (F.state flash.new))) }
         ensures writes { Writes (MaySealIn self.old.ring) (done result) 1 (F.state flash.old) (F.state flash.new) }
         ensures reads { (F.state flash.new).work.reads ≡ (F.state flash.old).work.reads }
         ensures media_reads { (F.state flash.new).media.reads ≤ (F.state flash.old).media.reads + 1 }

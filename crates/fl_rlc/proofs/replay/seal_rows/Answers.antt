@@ -17,7 +17,7 @@ returns-in-Ok-clause-sealed g c = record {
   quiet = λ none. let h = c.in-Ok.ensures.quiet c.requires.running none in (h.1, h.2);
   page = c.in-Ok.ensures.seals;
   none = c.in-Ok.ensures.none;
-  writes = c.in-Ok.ensures.sealed;
+  flushed = c.in-Ok.ensures.sealed;
 }
 
 pub returns-in-Ok-clause-writes : goal.returns-in-Ok-clause-writes

@@ -18,7 +18,9 @@ use Rattle.fl_table.proofs.PowerOff.{off-then}
 use Rattle.fl_table.proofs.Sizes.{table-fits}
 use Rattle.fl_table.specs.Memory.{is_stopped, next_in}
 use Rattle.fl_var.specs.declared.var_data.VarData.{VarData}
+use Rattle.fl_table.specs.Paged.{IsApart, RowsPaged, next_page}
 use Rattle.fl_table.specs.Stored.{IsEmptied}
+use Rattle.fl_table.proofs.Paged.{rows-paged}
 use Rattle.fl_table.proofs.Stored.{pending-none}
 use Rattle.fl_table.proofs.Untouched.{on-both, on-ok, on-err, no-success}
 use Rattle.fl_ring.specs.Written.{done}
@@ -333,3 +335,22 @@ returns-clause-emptied g c =
       blobs = subst (λ (o : Option VarData). variable.AreEmpty o) (sym c.seal_rows.ensures.blobs) c.in_ok-seal_blobs.ensures.empty;
       blob_next = last ∙ (c.in_ok-seal_blobs.ensures.blob_next ∙ still);
     }) c.seal_rows.ensures.next c.seal_rows.ensures.empty
+
+pub returns-in_err-seal_bitmaps-clause-page : goal.returns-in_err-seal_bitmaps-clause-page
+returns-in_err-seal_bitmaps-clause-page g c = no-success _ _ c.from_residual.result c.from_residual.ensures.1
+
+pub returns-in_err-seal_blobs-clause-page : goal.returns-in_err-seal_blobs-clause-page
+returns-in_err-seal_blobs-clause-page g c = no-success _ _ c.from_residual-in_err-seal_blobs.result c.from_residual-in_err-seal_blobs.ensures.1
+
+pub returns-clause-page : goal.returns-clause-page
+returns-clause-page g c =
+    let t = c.args.self.now in
+    let u = c.seal_blobs.new.self in
+    let f = g.F.Flash.state c.args.flash.now in
+    let m = g.F.Flash.state c.seal_bitmaps.new.flash in
+    let n = g.F.Flash.state c.seal_blobs.new.flash in
+    let new = g.F.Flash.state c.seal_rows.new.flash in
+    let first = c.in_ok-seal_bitmaps.ensures in
+    let then = c.in_ok-seal_blobs.ensures in
+    on-ok c.seal_rows.result (IsTrue n.media.tells → RowsPaged u (page_at n) (page_at new)) (IsTrue f.media.tells → IsApart t (next_page t) → RowsPaged t (page_at f) (page_at new))
+    (rows-paged t c.seal_bitmaps.new.self u f m n new first.goes.tells then.goes.tells first.same then.same (then.next ∙ first.next) first.still then.still) c.seal_rows.ensures.page

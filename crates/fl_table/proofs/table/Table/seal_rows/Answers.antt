@@ -36,6 +36,8 @@ use Rattle.fl_ring.specs.Place as place
 use Rattle.fl_table.proofs.Finds.{next-in}
 use Rattle.fl_table.proofs.Sizes.{table-fits, index-fits}
 use Rattle.fl_ring.proofs.Written.{held-writes}
+use Rattle.fl_table.specs.Memory.{next_in, ring_shape}
+use Rattle.fl_table.proofs.Paged.{page-as}
 use Rattle.fl_table.proofs.table.Table.seal_rows.Goals as goal
 
 pub note-requires-clause-some : goal.note-requires-clause-some
@@ -451,3 +453,17 @@ returns-clause-writes g c =
     let t = c.args.self.now in
     let has : t.ring ≡ Some c.in-Some.ring = sym c.take.ensures.value ∙ c.in-Some.is in
     held-writes t.ring c.in-Some.ring 1 1 _ _ has (omega arith) c.in_default-seal.ensures.writes
+
+pub returns-in-Err-clause-page : goal.returns-in-Err-clause-page
+returns-in-Err-clause-page g c = tt
+
+pub returns-clause-page : goal.returns-clause-page
+returns-clause-page g c = λ told rows gathers.
+    let t = c.args.self.now in
+    let ring = c.in-Some.ring in
+    let has : t.ring ≡ Some ring = sym c.take.ensures.value ∙ c.in-Some.is in
+    let number : c.next_number-number.result ≡ next_in t = c.next_number-number.ensures ∙ sym (next-in t ring has) in
+    let body : c.body.result.now ≡ rows_body (length t.writer.body) (layout_of t.schema) (next_in t) t.bitmap rows =
+    c.body.ensures ∙ (c.finish.ensures.body (layout_of t.schema) rows gathers ∙ ap (λ n. rows_body (length t.writer.body) (layout_of t.schema) n t.bitmap rows) number) in
+    page-as (shape_of ring) (ring_shape t) (next_of ring) (next_in t) c.body.result.now (rows_body (length t.writer.body) (layout_of t.schema) (next_in t) t.bitmap rows) (page_at (g.F.Flash.state c.args.flash.now)) (page_at (g.F.Flash.state c.seal.new.flash))
+    (t.lies ring has) (sym (next-in t ring has)) body (c.in_default-seal.ensures.page told)

@@ -1,0 +1,57 @@
+-- The page of the pending rows, over the seals of a table's rings.
+use Rattle.std.proofs.Common.{◌≡◌, ℕ, List, IsTrue, length, sym, ◌∙◌, ap, subst}
+use Rattle.fl_base.specs.declared.types.Geometry.{Geometry}
+use Rattle.fl_base.specs.declared.types.RingPlace.{RingPlace}
+use Rattle.fl_flash.specs.Flash.{FlashState, page_at}
+use Rattle.fl_model.specs.Layout.{rows_body}
+use Rattle.fl_model.specs.Record.{RowLayout}
+use Rattle.fl_page.specs.Writer.{Gathers}
+use Rattle.fl_page.specs.WriterState.{WriterState}
+use Rattle.fl_ring.specs.Mounting.{shape_at}
+use Rattle.fl_ring.specs.Ring.{Shape, place}
+use Rattle.fl_ring.specs.Written.{sealed_over}
+use Rattle.fl_schema.specs.Schema.{layout_of}
+use Rattle.fl_table.specs.Bitmaps as bitmaps
+use Rattle.fl_table.specs.Blobs as variable
+use Rattle.fl_table.specs.Memory.{next_in, ring_shape, IsSamePlan}
+use Rattle.fl_table.specs.Paged.{IsApart, RowsPaged, next_page}
+use Rattle.fl_table.specs.declared.table.Table.{Table}
+use Rattle.fl_table.proofs.MountJoined.{stand-outside}
+use Rattle.fl_table.proofs.Outsides.{blobs-outside, var-outside}
+use Rattle.fl_table.proofs.SealAnswers.{same-then}
+
+-- the same page of the same ring, with the same body
+pub page-as : (r s : Shape) (number next : ℕ) (body rows : List ℕ) (old new : ℕ → List ℕ) → r ≡ s → number ≡ next → body ≡ rows → new (place r number) ≡ sealed_over r body (old (place r number)) →
+    new (place s next) ≡ sealed_over s rows (old (place s next))
+page-as r s number next body rows old new shape at is h =
+    subst (λ (x : Shape). new (place x next) ≡ sealed_over x rows (old (place x next))) shape
+    (subst (λ (n : ℕ). new (place r n) ≡ sealed_over r rows (old (place r n))) at
+    (subst (λ (b : List ℕ). new (place r number) ≡ sealed_over r b (old (place r number))) is h))
+
+-- rows that wait as they did, for a page that stood
+rows-moved : {KNOTS SLOTS : ℕ} (t u : Table KNOTS SLOTS) (old mid new : ℕ → List ℕ) → IsSamePlan t u → next_in u ≡ next_in t → u.writer ≡ t.writer → u.bitmap ≡ t.bitmap → mid (next_page t) ≡ old (next_page t) →
+    RowsPaged u mid new → RowsPaged t old new
+rows-moved t u old mid new same next writer bits stands h = λ rows gathers.
+    let shape : ring_shape u ≡ ring_shape t = ap (λ (p : RingPlace). shape_at p u.geometry) same.place ∙ ap (λ (g : Geometry). shape_at t.place g) same.geometry in
+    let layout : layout_of u.schema ≡ layout_of t.schema = same.layout in
+    let body : rows_body (length u.writer.body) (layout_of u.schema) (next_in u) u.bitmap rows ≡ rows_body (length t.writer.body) (layout_of t.schema) (next_in t) t.bitmap rows =
+    ap (λ (w : WriterState). rows_body (length w.body) (layout_of u.schema) (next_in u) u.bitmap rows) writer
+    ∙ (ap (λ (l : RowLayout). rows_body (length t.writer.body) l (next_in u) u.bitmap rows) layout
+    ∙ (ap (λ (n : ℕ). rows_body (length t.writer.body) (layout_of t.schema) n u.bitmap rows) next ∙ ap (λ (b : ℕ). rows_body (length t.writer.body) (layout_of t.schema) (next_in t) b rows) bits)) in
+    let there : Gathers (layout_of u.schema) rows u.writer =
+    subst (λ (w : WriterState). Gathers (layout_of u.schema) rows w) (sym writer) (subst (λ (l : RowLayout). Gathers l rows t.writer) (sym layout) gathers) in
+    page-as (ring_shape u) (ring_shape t) (next_in u) (next_in t) (rows_body (length u.writer.body) (layout_of u.schema) (next_in u) u.bitmap rows) (rows_body (length t.writer.body) (layout_of t.schema) (next_in t) t.bitmap rows) mid new
+    shape next body (h rows there)
+    ∙ ap (λ (page : List ℕ). sealed_over (ring_shape t) (rows_body (length t.writer.body) (layout_of t.schema) (next_in t) t.bitmap rows) page) stands
+
+-- the seals of the index and of the bytes of blobs come first, outside of their page
+pub rows-paged : {KNOTS SLOTS : ℕ} (t a u : Table KNOTS SLOTS) (f m n g : FlashState) → m.media.tells ≡ f.media.tells → n.media.tells ≡ m.media.tells → IsSamePlan t a → IsSamePlan a u → next_in u ≡ next_in t →
+    (a.writer ≡ t.writer) × (a.bitmap ≡ t.bitmap) × (IsTrue f.media.tells → bitmaps.StandOutside t.bitmaps (page_at f) (page_at m)) →
+    (u.writer ≡ a.writer) × (u.bitmap ≡ a.bitmap) × (IsTrue m.media.tells → variable.StandOutside a.blobs (page_at m) (page_at n)) →
+    (IsTrue n.media.tells → RowsPaged u (page_at n) (page_at g)) → IsTrue f.media.tells → IsApart t (next_page t) → RowsPaged t (page_at f) (page_at g)
+rows-paged t a u f m n g tells later first second next index blobs h = λ told apart.
+    let told_then = subst IsTrue (sym tells) told in
+    let stood : page_at m (next_page t) ≡ page_at f (next_page t) = stand-outside t.bitmaps (page_at f) (page_at m) (next_page t) (index.2 told) apart.index in
+    let stands : page_at n (next_page t) ≡ page_at m (next_page t) =
+    var-outside a.blobs (page_at m) (page_at n) (next_page t) (blobs.2 told_then) (blobs-outside t.blobs a.blobs (next_page t) first.blobs apart.blobs) in
+    rows-moved t u (page_at f) (page_at n) (page_at g) (same-then t a u first second) next (blobs.0 ∙ index.0) (blobs.1 ∙ index.1) (stands ∙ stood) (h (subst IsTrue (sym later) told_then))

@@ -1,0 +1,34 @@
+-- What a flush programs, over any bytes.
+use Rattle.std.specs.Prelude.{◌≡◌, ℕ, IfSome, IsTrue, List, length}
+use Rattle.fl_flash.specs.Flash.{FlashState, page_at}
+use Rattle.fl_index.specs.Memory as memory
+use Rattle.fl_model.specs.Layout.{rows_body}
+use Rattle.fl_model.specs.Row.{Row}
+use Rattle.fl_ring.specs.Ring.{place}
+use Rattle.fl_ring.specs.Written.{Writes, sealed_over}
+use Rattle.fl_schema.specs.Schema.{layout_of}
+use Rattle.fl_table.specs.Bitmaps.{IsOutside}
+use Rattle.fl_table.specs.Memory.{next_in, ring_shape, MaySeal, PendingAre}
+use Rattle.fl_table.specs.Mounting.{rings_in}
+use Rattle.fl_table.specs.declared.table.Table.{Table}
+use Rattle.fl_var.specs.Memory.{var_shape}
+
+-- the flash page that the pending rows are for
+abbrev pub next_page : {KNOTS SLOTS : ℕ} → Table KNOTS SLOTS → ℕ
+next_page t = place (ring_shape t) (next_in t)
+
+-- a flash page that isn't one of the index, nor one of the variable data
+pub record IsApart {KNOTS SLOTS : ℕ} (t : Table KNOTS SLOTS) (page : ℕ) : Type 0 where
+  pub index : IfSome t.bitmaps (λ index. IsOutside (memory.ring_shape index) page)
+  pub blobs : IfSome t.blobs (λ var. IsOutside (var_shape var) page)
+
+-- The body that the pending rows make, and the mark of a commit, were programmed over what their page held.
+abbrev pub RowsPaged : {KNOTS SLOTS : ℕ} → Table KNOTS SLOTS → (ℕ → List ℕ) → (ℕ → List ℕ) → Type 0
+RowsPaged t old new = (rows : List Row) → PendingAre t rows →
+    new (next_page t) ≡ sealed_over (ring_shape t) (rows_body (length t.writer.body) (layout_of t.schema) (next_in t) t.bitmap rows) (old (next_page t))
+
+-- The pending rows were flushed: a seal of each ring was tried at most, one was whole, and where it is in no other ring their page
+-- was programmed with them.
+pub record HasFlushed {KNOTS SLOTS : ℕ} (t : Table KNOTS SLOTS) (f g : FlashState) : Type 0 where
+  pub writes : Writes (MaySeal t) 1 (rings_in t) f g
+  pub page : IsTrue f.media.tells → IsApart t (next_page t) → RowsPaged t (page_at f) (page_at g)
