@@ -4,12 +4,14 @@ use Rattle.std.specs.Prelude.{is_err, OnOk, ℤ}
 use Rattle.fl_flash.specs.Flash.{FlashState, Goes}
 use Rattle.fl_model.specs.Row.{Row}
 use Rattle.fl_frame.proofs.WatchedInTurn.{cause-later}
+use Rattle.fl_rlc.specs.Paged.{HasMadePage}
 use Rattle.fl_rlc.specs.Refusal.{NeedsNoOperation, RefusedSame, put_refusal}
 use Rattle.fl_rlc.specs.Rows.{HaveLogged}
 use Rattle.fl_rlc.specs.Table.{IsSamePlan, log_in, table_in}
 use Rattle.fl_rlc.specs.declared.table.LoggedTable.{LoggedTable}
 use Rattle.fl_table.specs.Causes.{PutCausedBy}
 use Rattle.fl_table.specs.Look.{last_key_in, layout_in}
+use Rattle.fl_table.specs.Memory.{HasRoom}
 use Rattle.fl_table.specs.Refusal.{RefusesAs}
 use Rattle.fl_table.specs.Stored.{Stores}
 use Rattle.fl_table.specs.declared.faults.PutRefusal.{PutRefusal}
@@ -30,9 +32,9 @@ module _ (step seed n : ℕ) (t u : LoggedTable 64 64) (m g : FlashState) (key :
   pub loads-next : (outcome : Result (Unit {0}) PutRefusal) → is_err outcome ≡ false → RefusesAs (put_refusal t key values None) outcome → OnOk outcome (last_key_in (table_in u) ≡ Some key) →
       OnOk outcome (Stores (table_in t) key values None (table_in u)) →
       OnOk outcome (HaveLogged (layout_in (table_in t)) (row_of key values) (log_in t) (log_in u)) → (put_refusal t key values None ≡ None → NeedsNoOperation t None → (outcome ≡ Ok tt) × (g ≡ m)) →
-      OnOk outcome (m.is_on ≡ true → g.is_on ≡ true) → WritesOne t m g → IsSamePlan t u → LoadsNext step seed n t m u g
-  loads-next (Err e) ok exact last stores logs quiet power writes same = absurd (cc ok)
-  loads-next (Ok done) ok exact last stores logs quiet power writes same =
+      OnOk outcome (m.is_on ≡ true → g.is_on ≡ true) → OnOk outcome ((HasRoom (table_in t) → ⊥) → HasMadePage t None m g) → WritesOne t m g → IsSamePlan t u → LoadsNext step seed n t m u g
+  loads-next (Err e) ok exact last stores logs quiet power sealed writes same = absurd (cc ok)
+  loads-next (Ok done) ok exact last stores logs quiet power sealed writes same =
       let accepted : put_refusal t key values None ≡ None = accepts (put_refusal t key values None) exact in
       record {
         accepted = subst (λ (r : Row). put_refusal t r.key r.values None ≡ None) row-is accepted;
@@ -41,6 +43,7 @@ module _ (step seed n : ℕ) (t u : LoggedTable 64 64) (m g : FlashState) (key :
         logs = subst (λ (r : Row). HaveLogged (layout_in (table_in t)) r (log_in t) (log_in u)) row-is logs;
         quiet = λ none. (quiet accepted none).1;
         power = power;
+        sealed = sealed;
         writes = writes;
         same = same;
       }

@@ -14,6 +14,7 @@ use Rattle.fl_frame.specs.Contents.{OnlyReads}
 use Rattle.fl_page.specs.declared.fault.BadPage.{BadPage}
 use Rattle.fl_page.specs.declared.fault.ReadFault.TheVariants as fault
 use Rattle.fl_ring.specs.Written as tried
+use Rattle.fl_rlc.specs.Paged.{HasMadePage}
 use Rattle.fl_rlc.specs.Refusal.{NeedsNoOperation, put_refusal}
 use Rattle.fl_rlc.specs.Rows.{AreBegun, HaveLogged}
 use Rattle.fl_rlc.specs.Table as logged
@@ -26,7 +27,7 @@ use Rattle.fl_table.specs.BlobAt.{data_in, has_blobs}
 use Rattle.fl_table.specs.Blobs.{most_pages}
 use Rattle.fl_table.specs.Finding.{IsAnswered, LookupFails, rows_at}
 use Rattle.fl_table.specs.Look.{buffered_rows, counts_in, last_key_in, layout_in, oldest_in}
-use Rattle.fl_table.specs.Memory.{next_in, pending_in, MaySeal}
+use Rattle.fl_table.specs.Memory.{next_in, pending_in, HasRoom, MaySeal}
 use Rattle.fl_table.specs.Mounting.{rings_in as table_rings}
 use Rattle.fl_table.specs.Paged.{HasFlushed}
 use Rattle.fl_table.specs.Refusal.{RefusesAs}
@@ -166,6 +167,7 @@ pub record PutSays (old new : State) (key : ℕ) (values : List ℤ) (blob : Opt
   pub quiet : put_refusal entry.table key values (option_map (λ bytes. length bytes) blob) ≡ None → NeedsNoOperation entry.table blob → (outcome ≡ Ok tt) × (new.flash ≡ old.flash)
   pub off : put_refusal entry.table key values (option_map (λ bytes. length bytes) blob) ≡ None → (NeedsNoOperation entry.table blob → ⊥) →
       old.flash.is_on ≡ false → (outcome ≡ Err (put.Flash PowerLost)) × (new.flash ≡ old.flash)
+  pub sealed : OnOk outcome ((HasRoom (table_in entry.table) → ⊥) → HasMadePage entry.table blob old.flash new.flash)
   pub writes : tried.Writes (MayPut entry.table blob) 0 (rings_in entry.table + most_pages (data_in (table_in entry.table)) blob) old.flash new.flash
   pub media_reads : new.flash.media.reads ≤ old.flash.media.reads + rings_in entry.table + most_pages (data_in (table_in entry.table)) blob
 

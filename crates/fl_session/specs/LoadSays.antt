@@ -4,6 +4,7 @@ use Rattle.fl_flash.specs.Flash.{FlashState}
 use Rattle.fl_machine.specs.Step.{load_values, next_random}
 use Rattle.fl_model.specs.Row.{Row}
 use Rattle.fl_frame.specs.Causes.{CausedBy}
+use Rattle.fl_rlc.specs.Paged.{HasMadePage}
 use Rattle.fl_rlc.specs.Refusal.{NeedsNoOperation, RefusedSame, put_refusal}
 use Rattle.fl_rlc.specs.Rows.{HaveLogged}
 use Rattle.fl_rlc.specs.Table.{IsSamePlan, MayPut, log_in, rings_in, table_in}
@@ -12,6 +13,7 @@ use Rattle.fl_ring.specs.Written.{Writes}
 use Rattle.fl_table.specs.BlobAt.{data_in}
 use Rattle.fl_table.specs.Blobs.{most_pages}
 use Rattle.fl_table.specs.Look.{last_key_in, layout_in}
+use Rattle.fl_table.specs.Memory.{HasRoom}
 use Rattle.fl_table.specs.Refusal.{RefusesAs}
 use Rattle.fl_table.specs.Stored.{Stores}
 use Rattle.fl_table.specs.declared.faults.PutRefusal.{PutRefusal}
@@ -47,6 +49,7 @@ pub record LoadsNext (step seed n : ℕ) (t : LoggedTable 64 64) (f : FlashState
   pub logs : HaveLogged (layout_in (table_in t)) (next_row t step seed n) (log_in t) (log_in u)
   pub quiet : NeedsNoOperation t None → g ≡ f
   pub power : f.is_on ≡ true → g.is_on ≡ true
+  pub sealed : (HasRoom (table_in t) → ⊥) → HasMadePage t None f g
   pub writes : WritesOne t f g
   pub same : IsSamePlan t u
 

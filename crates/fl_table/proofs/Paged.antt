@@ -1,24 +1,29 @@
 -- The page of the pending rows, over the seals of a table's rings.
-use Rattle.std.proofs.Common.{◌≡◌, ℕ, List, IsTrue, length, sym, ◌∙◌, ap, subst}
+use Rattle.std.proofs.Common.{◌≡◌, ◌⊎◌, ℕ, ◌+◌, ◌<◌, ◌≤◌, Option, Some, None, IfSome, Result, Ok, Err, OnOk, List, IsTrue, length, inl, inr, sym, ◌∙◌, ap, subst, arith}
 use Rattle.fl_base.specs.declared.types.Geometry.{Geometry}
 use Rattle.fl_base.specs.declared.types.RingPlace.{RingPlace}
 use Rattle.fl_flash.specs.Flash.{FlashState, page_at}
+use Rattle.fl_flash.specs.declared.flash.FlashFault.{FlashFault}
 use Rattle.fl_model.specs.Layout.{rows_body}
 use Rattle.fl_model.specs.Record.{RowLayout}
 use Rattle.fl_page.specs.Writer.{Gathers}
 use Rattle.fl_page.specs.WriterState.{WriterState}
 use Rattle.fl_ring.specs.Mounting.{shape_at}
-use Rattle.fl_ring.specs.Ring.{Shape, place}
-use Rattle.fl_ring.specs.Written.{sealed_over}
+use Rattle.fl_ring.specs.Ring.{Shape, place, room}
+use Rattle.fl_ring.specs.Written.{Writes, done, sealed_over}
 use Rattle.fl_schema.specs.Schema.{layout_of}
 use Rattle.fl_table.specs.Bitmaps as bitmaps
 use Rattle.fl_table.specs.Blobs as variable
-use Rattle.fl_table.specs.Memory.{next_in, ring_shape, IsSamePlan}
-use Rattle.fl_table.specs.Paged.{IsApart, RowsPaged, next_page}
+use Rattle.fl_table.specs.Memory.{next_in, ring_shape, HasRoom, IsSamePlan, MaySeal}
+use Rattle.fl_table.specs.Mounting.{rings_in}
+use Rattle.fl_table.specs.Paged.{HasFlushed, HasMadePage, IsApart, RowsPaged, next_page}
 use Rattle.fl_table.specs.declared.table.Table.{Table}
 use Rattle.fl_table.proofs.MountJoined.{stand-outside}
 use Rattle.fl_table.proofs.Outsides.{blobs-outside, var-outside}
 use Rattle.fl_table.proofs.SealAnswers.{same-then}
+use Rattle.fl_table.proofs.Writing.{fill-moved, put-writes}
+use Rattle.fl_var.specs.Memory.{var_shape}
+use Rattle.fl_var.specs.declared.var_data.VarData.{VarData}
 
 -- the same page of the same ring, with the same body
 pub page-as : (r s : Shape) (number next : ℕ) (body rows : List ℕ) (old new : ℕ → List ℕ) → r ≡ s → number ≡ next → body ≡ rows → new (place r number) ≡ sealed_over r body (old (place r number)) →
@@ -55,3 +60,30 @@ rows-paged t a u f m n g tells later first second next index blobs h = λ told a
     let stands : page_at n (next_page t) ≡ page_at m (next_page t) =
     var-outside a.blobs (page_at m) (page_at n) (next_page t) (blobs.2 told_then) (blobs-outside t.blobs a.blobs (next_page t) first.blobs apart.blobs) in
     rows-moved t u (page_at f) (page_at n) (page_at g) (same-then t a u first second) next (blobs.0 ∙ index.0) (blobs.1 ∙ index.1) (stands ∙ stood) (h (subst IsTrue (sym later) told_then))
+
+-- what a seal tells that was whole
+pub flushed-of : {KNOTS SLOTS : ℕ} (t : Table KNOTS SLOTS) (result : Result (Unit {0}) FlashFault) (f g : FlashState) → Writes (MaySeal t) (done result) (rings_in t) f g →
+    OnOk result (IsTrue f.media.tells → IsApart t (next_page t) → RowsPaged t (page_at f) (page_at g)) → OnOk result ((HasRoom t → ⊥) → HasFlushed t f g)
+flushed-of t (Ok u) f g writes page = λ full. record { writes = writes; page = page }
+flushed-of t (Err e) f g writes page = tt
+
+-- a page outside of the variable data isn't one that a blob may fill
+not-filled : (blob : Option (List ℕ)) (blobs : Option VarData) (page : ℕ) → IfSome blobs (λ var. bitmaps.IsOutside (var_shape var) page) → variable.MayFill blob blobs page → ⊥
+not-filled None blobs page out may = may
+not-filled (Some bytes) None page out may = may
+not-filled (Some bytes) (Some var) page out may = by_side out
+  where
+    by_side : (page < (var_shape var).first) ⊎ ((var_shape var).first + room (var_shape var) ≤ page) → ⊥
+    by_side (inl below) = absurd (omega (arith, below, may.0))
+    by_side (inr above) = absurd (omega (arith, above, may.1))
+
+-- a blob that is placed behind the page leaves it
+pub page-made : {KNOTS SLOTS : ℕ} (t u : Table KNOTS SLOTS) (blob : Option (List ℕ)) (f m g : FlashState) → m.media.tells ≡ f.media.tells → variable.AreSamePlan t.blobs u.blobs → HasFlushed t f m →
+    Writes (variable.MayFill blob u.blobs) 0 (variable.pages_for u.blobs blob) m g → HasMadePage t blob f g
+page-made t u blob f m g tells plan made fill = record {
+  writes = put-writes t u blob 1 f m g tells plan made.writes fill;
+  page = λ told apart rows gathers.
+      let stood : page_at g (next_page t) ≡ page_at m (next_page t) =
+      fill.tries.stands (subst IsTrue (sym tells) told) (next_page t) (λ may. not-filled blob t.blobs (next_page t) apart.blobs (fill-moved blob t.blobs u.blobs plan (next_page t) may)) in
+      stood ∙ made.page told apart rows gathers;
+}

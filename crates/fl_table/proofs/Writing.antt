@@ -34,7 +34,7 @@ fill-writes blob blobs bytes var f g b v h =
     (writes-wider (IsOnRing var) (variable.MayFill (Some bytes) (Some var)) 0 0 (pages_placed var (length bytes)) (pages_placed var (length bytes)) f g (λ page may. may) (same 0) (same (pages_placed var (length bytes))) h))
 
 -- it may change the same pages of another one with the same plan
-fill-moved : (blob : Option (List ℕ)) (old new : Option VarData) → variable.AreSamePlan old new → (page : ℕ) → variable.MayFill blob new page → variable.MayFill blob old page
+pub fill-moved : (blob : Option (List ℕ)) (old new : Option VarData) → variable.AreSamePlan old new → (page : ℕ) → variable.MayFill blob new page → variable.MayFill blob old page
 fill-moved None old new plan page may = absurd may
 fill-moved (Some bytes) None None plan page may = absurd may
 fill-moved (Some bytes) None (Some now) plan page may = absurd plan
@@ -47,12 +47,14 @@ module _ {KNOTS SLOTS : ℕ} (t : Table KNOTS SLOTS) where
   room-writes blob many f g h = writes-wider (MaySeal t) (MayPut t blob) 0 0 (rings_in t) (rings_in t + many) f g (λ page may. inl may) (same 0) (let e : rings_in t ≤ rings_in t + many = omega arith in e) h
 
   -- .. and then places a blob
-  pub put-writes : (u : Table KNOTS SLOTS) (blob : Option (List ℕ)) (f m g : FlashState) → m.media.tells ≡ f.media.tells → variable.AreSamePlan t.blobs u.blobs → Writes (MaySeal t) 0 (rings_in t) f m →
-      Writes (variable.MayFill blob u.blobs) 0 (variable.pages_for u.blobs blob) m g → Writes (MayPut t blob) 0 (rings_in t + variable.most_pages t.blobs blob) f g
-  put-writes u blob f m g tells plan first second =
-      writes-then (MayPut t blob) 0 (rings_in t) 0 (variable.most_pages t.blobs blob) f m g tells
-      (writes-wider (MaySeal t) (MayPut t blob) 0 0 (rings_in t) (rings_in t) f m (λ page may. inl may) (same 0) (same (rings_in t)) first)
-      (writes-wider (variable.MayFill blob u.blobs) (MayPut t blob) 0 0 (variable.pages_for u.blobs blob) (variable.most_pages t.blobs blob) m g (λ page may. inr (fill-moved blob t.blobs u.blobs plan page may)) (same 0) (pages-most t.blobs u.blobs blob plan) second)
+  pub put-writes : (u : Table KNOTS SLOTS) (blob : Option (List ℕ)) (least : ℕ) (f m g : FlashState) → m.media.tells ≡ f.media.tells → variable.AreSamePlan t.blobs u.blobs → Writes (MaySeal t) least (rings_in t) f m →
+      Writes (variable.MayFill blob u.blobs) 0 (variable.pages_for u.blobs blob) m g → Writes (MayPut t blob) least (rings_in t + variable.most_pages t.blobs blob) f g
+  put-writes u blob least f m g tells plan first second =
+      let all : Writes (MayPut t blob) (least + 0) (rings_in t + variable.most_pages t.blobs blob) f g =
+      writes-then (MayPut t blob) least (rings_in t) 0 (variable.most_pages t.blobs blob) f m g tells
+      (writes-wider (MaySeal t) (MayPut t blob) least least (rings_in t) (rings_in t) f m (λ page may. inl may) (same least) (same (rings_in t)) first)
+      (writes-wider (variable.MayFill blob u.blobs) (MayPut t blob) 0 0 (variable.pages_for u.blobs blob) (variable.most_pages t.blobs blob) m g (λ page may. inr (fill-moved blob t.blobs u.blobs plan page may)) (same 0) (pages-most t.blobs u.blobs blob plan) second) in
+      subst (λ n. Writes (MayPut t blob) n (rings_in t + variable.most_pages t.blobs blob) f g) (let e : least + 0 ≡ least = omega arith in e) all
 
   -- the seal of the index, ..
   index-widened : (f g : FlashState) → Writes (bitmaps.MaySeal t.bitmaps) 0 (bitmaps.rings_of t.bitmaps) f g → Writes (MaySeal t) 0 (bitmaps.rings_of t.bitmaps) f g

@@ -1,5 +1,5 @@
 -- What a flush programs, over any bytes.
-use Rattle.std.specs.Prelude.{◌≡◌, ℕ, IfSome, IsTrue, List, length}
+use Rattle.std.specs.Prelude.{◌≡◌, ℕ, ◌+◌, IfSome, IsTrue, Option, List, length}
 use Rattle.fl_flash.specs.Flash.{FlashState, page_at}
 use Rattle.fl_index.specs.Memory as memory
 use Rattle.fl_model.specs.Layout.{rows_body}
@@ -8,7 +8,8 @@ use Rattle.fl_ring.specs.Ring.{place}
 use Rattle.fl_ring.specs.Written.{Writes, sealed_over}
 use Rattle.fl_schema.specs.Schema.{layout_of}
 use Rattle.fl_table.specs.Bitmaps.{IsOutside}
-use Rattle.fl_table.specs.Memory.{next_in, ring_shape, MaySeal, PendingAre}
+use Rattle.fl_table.specs.Blobs.{most_pages}
+use Rattle.fl_table.specs.Memory.{next_in, ring_shape, MayPut, MaySeal, PendingAre}
 use Rattle.fl_table.specs.Mounting.{rings_in}
 use Rattle.fl_table.specs.declared.table.Table.{Table}
 use Rattle.fl_var.specs.Memory.{var_shape}
@@ -31,4 +32,9 @@ RowsPaged t old new = (rows : List Row) → PendingAre t rows →
 -- was programmed with them.
 pub record HasFlushed {KNOTS SLOTS : ℕ} (t : Table KNOTS SLOTS) (f g : FlashState) : Type 0 where
   pub writes : Writes (MaySeal t) 1 (rings_in t) f g
+  pub page : IsTrue f.media.tells → IsApart t (next_page t) → RowsPaged t (page_at f) (page_at g)
+
+-- A put found the page of pending rows full: they were flushed so, and nothing behind it changed their page.
+pub record HasMadePage {KNOTS SLOTS : ℕ} (t : Table KNOTS SLOTS) (blob : Option (List ℕ)) (f g : FlashState) : Type 0 where
+  pub writes : Writes (MayPut t blob) 1 (rings_in t + most_pages t.blobs blob) f g
   pub page : IsTrue f.media.tells → IsApart t (next_page t) → RowsPaged t (page_at f) (page_at g)

@@ -45,7 +45,7 @@ impl<const KNOTS: usize, const SLOTS: usize> Table<KNOTS, SLOTS> {
     ghost use Rattle.fl_table.specs.Mounting.{OutsideStands, rings_in};
     ghost use Rattle.fl_table.specs.Outcomes.{SealsEnd, JoinEnds, PutEnds, FlushEnds};
     ghost use Rattle.fl_table.specs.Accepting.{IsAcceptedBy};
-    ghost use Rattle.fl_table.specs.Paged.{HasFlushed};
+    ghost use Rattle.fl_table.specs.Paged.{HasFlushed, HasMadePage};
     ghost use Rattle.fl_table.specs.Stored.{HasJoined, IsEmptied, KnowsSame, Stores};
 
     // The page buffer has no room for one row more.
@@ -67,6 +67,7 @@ impl<const KNOTS: usize, const SLOTS: usize> Table<KNOTS, SLOTS> {
         ensures room { OnOk result (HasRoom self.new) }
         ensures quiet { HasRoom self.old → (result ≡ Ok tt) × (self.new ≡ self.old) × (F.state flash.new ≡ F.state flash.old) }
         ensures full { OnOk result ((HasRoom self.old → ⊥) → IsEmptied self.old self.new) }
+        ensures sealed { OnOk result ((HasRoom self.old → ⊥) → HasFlushed self.old (F.state flash.old) (F.state flash.new)) }
         ensures running { OnOk result (is_running self.new ≡ true) }
         ensures last { last_key_in self.new ≡ last_key_in self.old }
         ensures pending_stays { OnErr result (pending_in self.new ≡ pending_in self.old) }
@@ -194,8 +195,9 @@ impl<const KNOTS: usize, const SLOTS: usize> Table<KNOTS, SLOTS> {
         ensures power { OnOk result ((F.state flash.old).is_on ≡ true → (F.state flash.new).is_on ≡ true) }
         ensures off { put_refusal self.old key values.now (option_map (λ b. length b.now) blob.entry) ≡ None → (HasRoom self.old → variable.pages_for self.old.blobs (option_map (λ b. b.now) blob.entry) ≡ 0 → ⊥)
             → (F.state flash.old).is_on ≡ false → (result ≡ Err (PutRefusal.Flash FlashFault.PowerLost)) × (F.state flash.new ≡ F.state flash.old) }
-        // Whatever the flash holds: a seal of each ring at most, and of the variable data those of the pages that the blob fills.
+        // Whatever the flash holds: a seal of each ring at most, and of the variable data those of the pages that the blob fills. If the page was full, its rows are in it then.
         ensures writes { Writes (MayPut self.old (option_map (λ b. b.now) blob.entry)) 0 (rings_in self.old + variable.most_pages self.old.blobs (option_map (λ b. b.now) blob.entry)) (F.state flash.old) (F.state flash.new) }
+        ensures sealed { OnOk result ((HasRoom self.old → ⊥) → HasMadePage self.old (option_map (λ b. b.now) blob.entry) (F.state flash.old) (F.state flash.new)) }
         ensures reads { (F.state flash.new).work.reads ≡ (F.state flash.old).work.reads }
         ensures media_reads { (F.state flash.new).media.reads ≤ (F.state flash.old).media.reads + rings_in self.old + variable.most_pages self.old.blobs (option_map (λ b. b.now) blob.entry) }
         ensures outside { IsTrue (F.state flash.old).media.tells → OutsideStands self.old (page_at (F.state flash.old)) (page_at (F.state flash.new)) }

@@ -26,7 +26,7 @@ use Rattle.fl_model.specs.Row.{FitsRow}
 use Rattle.fl_rlc.specs.Memory.{page_len}
 use Rattle.fl_rlc.specs.Table.{is_logged, is_running, is_stopped, rings_in, MayPut}
 use Rattle.fl_ring.proofs.Written.{writes-none}
-use Rattle.fl_rlc.proofs.Written.{logged-writes, table-writes}
+use Rattle.fl_rlc.proofs.Written.{logged-writes, page-logged, table-writes}
 use Rattle.fl_rlc.proofs.PowerOff.{idle-put}
 use Rattle.fl_table.proofs.Refusals.{told-running, fits-row, calm-cause}
 use Rattle.fl_table.proofs.SealAnswers.{plan-self, same-then}
@@ -417,10 +417,15 @@ returns-in_err-put-clause-writes g c =
 
 pub returns-in-Err-clause-writes : goal.returns-in-Err-clause-writes
 returns-in-Err-clause-writes g c =
-    logged-writes c.args.self.now (option_map (λ (b : Bor (List ℕ)). b.now) c.args.blob) (g.F.Flash.state c.args.flash.now) (g.F.Flash.state c.put.new.flash) (g.F.Flash.state c.log_row.new.flash)
+    logged-writes c.args.self.now (option_map (λ (b : Bor (List ℕ)). b.now) c.args.blob) 0 (g.F.Flash.state c.args.flash.now) (g.F.Flash.state c.put.new.flash) (g.F.Flash.state c.log_row.new.flash)
     c.in_ok-put.ensures.goes.tells c.in_ok-put.ensures.writes c.log_row.ensures.writes
 
 pub returns-clause-writes : goal.returns-clause-writes
 returns-clause-writes g c =
-    logged-writes c.args.self.now (option_map (λ (b : Bor (List ℕ)). b.now) c.args.blob) (g.F.Flash.state c.args.flash.now) (g.F.Flash.state c.put.new.flash) (g.F.Flash.state c.log_row.new.flash)
+    logged-writes c.args.self.now (option_map (λ (b : Bor (List ℕ)). b.now) c.args.blob) 0 (g.F.Flash.state c.args.flash.now) (g.F.Flash.state c.put.new.flash) (g.F.Flash.state c.log_row.new.flash)
     c.in_ok-put.ensures.goes.tells c.in_ok-put.ensures.writes c.log_row.ensures.writes
+
+pub returns-clause-sealed : goal.returns-clause-sealed
+returns-clause-sealed g c = λ full.
+    page-logged c.args.self.now (option_map (λ (b : Bor (List ℕ)). b.now) c.args.blob) (g.F.Flash.state c.args.flash.now) (g.F.Flash.state c.put.new.flash) (g.F.Flash.state c.log_row.new.flash)
+    c.in_ok-put.ensures.goes.tells (c.in_ok-put.ensures.sealed full) c.log_row.ensures.writes c.log_row.ensures.outside

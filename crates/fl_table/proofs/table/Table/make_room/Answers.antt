@@ -16,6 +16,7 @@ use Rattle.fl_table.specs.Blobs as variable
 use Rattle.fl_table.specs.Memory.{HasRoom, next_in}
 use Rattle.fl_table.specs.Stored.{IsEmptied}
 use Rattle.fl_table.proofs.BlobsOfTable.{after-most}
+use Rattle.fl_table.proofs.Paged.{flushed-of}
 use Rattle.fl_table.proofs.Untouched.{at-most, at-most-same, above, on-ok}
 use Rattle.fl_ring.specs.Written.{done}
 use Rattle.fl_ring.proofs.Written.{writes-none, writes-fewer}
@@ -243,3 +244,11 @@ returns-clause-full g c =
     let t = c.args.self.now in
     let u = c.seal.new.self in
     on-ok c.seal.result (IsEmptied t u) ((HasRoom t → ⊥) → IsEmptied t u) (λ sealed full. sealed) c.seal.ensures.emptied
+
+pub returns-then-not-is_full-clause-sealed : goal.returns-then-not-is_full-clause-sealed
+returns-then-not-is_full-clause-sealed g c = λ full.
+    let t = c.args.self.now in
+    absurd (full (ltb-false (length t.writer.body) (t.writer.end + layout_len (layout_of t.schema)) (sym c.is_full.ensures.room ∙ c.if-not-is_full.true)))
+
+pub returns-clause-sealed : goal.returns-clause-sealed
+returns-clause-sealed g c = flushed-of c.args.self.now c.seal.result (g.F.Flash.state c.args.flash.now) (g.F.Flash.state c.seal.new.flash) c.seal.ensures.writes c.seal.ensures.page

@@ -27,6 +27,7 @@ use Rattle.fl_ring.proofs.Written.{writes-none}
 use Rattle.fl_table.specs.Memory.{MayPut}
 use Rattle.fl_table.specs.Stored.{HasJoined}
 use Rattle.fl_table.specs.Mounting.{rings_in}
+use Rattle.fl_table.proofs.Paged.{page-made}
 use Rattle.fl_table.proofs.Writing.{put-writes, room-writes}
 use Rattle.fl_table.proofs.table.Table.put.Goals as goal
 
@@ -420,10 +421,24 @@ returns-in_err-make_room-clause-writes g c =
 
 pub returns-in_err-join-clause-writes : goal.returns-in_err-join-clause-writes
 returns-in_err-join-clause-writes g c =
-    put-writes c.args.self.now c.make_room.new.self (option_map (λ (b : Bor (List ℕ)). b.now) c.args.blob) (g.F.Flash.state c.args.flash.now) (g.F.Flash.state c.make_room.new.flash) (g.F.Flash.state c.join.new.flash)
+    put-writes c.args.self.now c.make_room.new.self (option_map (λ (b : Bor (List ℕ)). b.now) c.args.blob) 0 (g.F.Flash.state c.args.flash.now) (g.F.Flash.state c.make_room.new.flash) (g.F.Flash.state c.join.new.flash)
     c.in_ok-make_room.ensures.goes.tells c.in_ok-make_room.ensures.same.blobs c.in_ok-make_room.ensures.writes c.in_err-join.ensures.writes
 
 pub returns-clause-writes : goal.returns-clause-writes
 returns-clause-writes g c =
-    put-writes c.args.self.now c.make_room.new.self (option_map (λ (b : Bor (List ℕ)). b.now) c.args.blob) (g.F.Flash.state c.args.flash.now) (g.F.Flash.state c.make_room.new.flash) (g.F.Flash.state c.join.new.flash)
+    put-writes c.args.self.now c.make_room.new.self (option_map (λ (b : Bor (List ℕ)). b.now) c.args.blob) 0 (g.F.Flash.state c.args.flash.now) (g.F.Flash.state c.make_room.new.flash) (g.F.Flash.state c.join.new.flash)
     c.in_ok-make_room.ensures.goes.tells c.in_ok-make_room.ensures.same.blobs c.in_ok-make_room.ensures.writes c.in_ok-join.ensures.writes
+
+pub returns-in-Some-clause-sealed : goal.returns-in-Some-clause-sealed
+returns-in-Some-clause-sealed g c = tt
+
+pub returns-in_err-make_room-clause-sealed : goal.returns-in_err-make_room-clause-sealed
+returns-in_err-make_room-clause-sealed g c = no-success _ _ c.from_residual.result c.from_residual.ensures.1
+
+pub returns-in_err-join-clause-sealed : goal.returns-in_err-join-clause-sealed
+returns-in_err-join-clause-sealed g c = no-success _ _ c.from_residual-in_err-join.result c.from_residual-in_err-join.ensures.1
+
+pub returns-clause-sealed : goal.returns-clause-sealed
+returns-clause-sealed g c = λ full.
+    page-made c.args.self.now c.make_room.new.self (option_map (λ (b : Bor (List ℕ)). b.now) c.args.blob) (g.F.Flash.state c.args.flash.now) (g.F.Flash.state c.make_room.new.flash) (g.F.Flash.state c.join.new.flash)
+    c.in_ok-make_room.ensures.goes.tells c.in_ok-make_room.ensures.same.blobs (c.in_ok-make_room.ensures.sealed full) c.in_ok-join.ensures.writes
