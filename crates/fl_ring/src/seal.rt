@@ -4,7 +4,7 @@ ghost use Rattle.fl_flash.specs.Flash.{page_at, Goes, OffChangesNothing};
 ghost use Rattle.fl_model.specs.Work.{Device};
 ghost use Rattle.fl_frame.specs.Causes.{CausedBy};
 ghost use Rattle.fl_ring.specs.Newest.{number_of};
-ghost use Rattle.fl_ring.specs.Place.{shape_of, next_of, oldest_of, StandsFor, LiesOn};
+ghost use Rattle.fl_ring.specs.Place.{shape_of, next_of, oldest_of, oldest_after, StandsFor, LiesOn};
 ghost use Rattle.fl_ring.specs.Ring.{RingState, IsRing, OutsideStands, oldest, place, is_due_at, sealed, erased};
 ghost use Rattle.fl_ring.specs.Sealing.{IsReady, Seals, SealWork, SealCalls};
 ghost use Rattle.fl_frame.specs.Watched.{IsWatched};
@@ -24,6 +24,7 @@ impl Ring {
         ensures goes { Goes (F.state flash.old) (F.state flash.new) }
         ensures same { shape_of self.new ≡ shape_of self.old }
         ensures next { OnOk result (next_of self.new ≡ next_of self.old + 1) }
+        ensures kept_from { OnOk result (oldest_of self.new ≡ oldest_after self.old) }
         ensures lies { OnOk result (LiesOn self.new (F.state flash.new)) }
         ensures seals { (s : RingState) → (rose : Bool) → (device : Device) → IsReady self.old (F.state flash.old) s → IsWatched (F.state flash.old) (F.state flash.new) rose device
             → Seals s body.now rose device self.old result self.new (F.state flash.new) }

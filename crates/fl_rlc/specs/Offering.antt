@@ -1,11 +1,11 @@
 -- Records that are offered to a table one after another, over any bytes: each joins the pending ones, or is refused.
-use Rattle.std.specs.Prelude.{◌≡◌, ℕ, ◌+◌, ◌≤◌, Some, None, List, [], ◌∷◌}
+use Rattle.std.specs.Prelude.{◌≡◌, ℕ, ◌≤◌, Some, None, List, [], ◌∷◌}
 use Rattle.fl_flash.specs.Flash.{FlashState}
 use Rattle.fl_model.specs.Row.{Row}
-use Rattle.fl_table.specs.Memory.{next_in, pending_in}
+use Rattle.fl_table.specs.Memory.{pending_in}
 use Rattle.fl_table.specs.Paged.{HasFlushed}
 use Rattle.fl_table.specs.Refusal.{put_refusal}
-use Rattle.fl_table.specs.Stored.{HasJoined}
+use Rattle.fl_table.specs.Stored.{HasJoined, IsEmptied}
 use Rattle.fl_table.specs.declared.faults.PutRefusal.{PutRefusal}
 use Rattle.fl_table.specs.declared.table.Table.{Table}
 
@@ -21,6 +21,6 @@ AreOffered {KNOTS} {SLOTS} old (row ∷ rows) new = (between : Table KNOTS SLOTS
 -- The pending rows were sealed as a page, where there are any, and none is left: as they are flushed.
 pub record AreSealed {KNOTS SLOTS : ℕ} (old : Table KNOTS SLOTS) (old_f : FlashState) (new : Table KNOTS SLOTS) (new_f : FlashState) : Type 0 where
   pub quiet : pending_in old ≡ 0 → (new ≡ old) × (new_f ≡ old_f)
-  pub page : 1 ≤ pending_in old → next_in new ≡ next_in old + 1
+  pub sealed : 1 ≤ pending_in old → IsEmptied old new
   pub none : pending_in new ≡ 0
   pub flushed : 1 ≤ pending_in old → HasFlushed old old_f new_f

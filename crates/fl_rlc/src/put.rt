@@ -19,11 +19,11 @@ impl<const KNOTS: usize, const SLOTS: usize> LoggedTable<KNOTS, SLOTS> {
     ghost use Rattle.fl_table.specs.BlobAt.{data_in};
     ghost use Rattle.fl_table.specs.Causes.{PutCausedBy, FlushCausedBy, put_breaks, flush_breaks};
     ghost use Rattle.fl_table.specs.Look.{last_key_in, layout_in};
-    ghost use Rattle.fl_table.specs.Memory.{next_in, pending_in, HasRoom, MaySeal};
+    ghost use Rattle.fl_table.specs.Memory.{pending_in, HasRoom, MaySeal};
     ghost use Rattle.fl_table.specs.Mounting.{rings_in as table_rings};
     ghost use Rattle.fl_table.specs.Refusal.{RefusesAs};
     ghost use Rattle.fl_table.specs.Paged.{HasFlushed};
-    ghost use Rattle.fl_table.specs.Stored.{Stores};
+    ghost use Rattle.fl_table.specs.Stored.{IsEmptied, Stores};
     ghost use Rattle.fl_rlc.specs.Logged.{Stands};
     ghost use Rattle.fl_rlc.specs.Outcomes.{PutEnds, FlushEnds};
     ghost use Rattle.fl_rlc.specs.Paged.{HasMadePage};
@@ -90,7 +90,7 @@ impl<const KNOTS: usize, const SLOTS: usize> LoggedTable<KNOTS, SLOTS> {
         ensures refused { result ≡ Err FlushFault.Stopped → (table_in self.new ≡ table_in self.old) × (log_in self.new ≡ log_in self.old) }
         ensures none { OnOk result (pending_in (table_in self.new) ≡ 0) }
         ensures last { last_key_in (table_in self.new) ≡ last_key_in (table_in self.old) }
-        ensures seals { OnOk result (1 ≤ pending_in (table_in self.old) → next_in (table_in self.new) ≡ next_in (table_in self.old) + 1) }
+        ensures seals { OnOk result (1 ≤ pending_in (table_in self.old) → IsEmptied (table_in self.old) (table_in self.new)) }
         ensures begins { OnOk result (1 ≤ pending_in (table_in self.old) → AreBegun (log_in self.old) (log_in self.new)) }
         ensures quiet { is_running self.old ≡ true → pending_in (table_in self.old) ≡ 0 → (result ≡ Ok tt) × (self.new ≡ self.old) × (F.state flash.new ≡ F.state flash.old) }
         ensures off { is_running self.old ≡ true → 1 ≤ pending_in (table_in self.old) → (F.state flash.old).is_on ≡ false → (result ≡ Err (FlushFault.Flash FlashFault.PowerLost)) × (F.state flash.new ≡ F.state flash.old) }

@@ -31,7 +31,7 @@ use Rattle.fl_table.specs.Memory.{next_in, pending_in, HasRoom, MaySeal}
 use Rattle.fl_table.specs.Mounting.{rings_in as table_rings}
 use Rattle.fl_table.specs.Paged.{HasFlushed}
 use Rattle.fl_table.specs.Refusal.{RefusesAs}
-use Rattle.fl_table.specs.Stored.{Stores}
+use Rattle.fl_table.specs.Stored.{IsEmptied, Stores}
 use Rattle.fl_table.specs.declared.faults.FlushFault.{FlushFault}
 use Rattle.fl_table.specs.declared.faults.FlushFault.TheVariants as flush
 use Rattle.fl_table.specs.declared.faults.PutRefusal.{PutRefusal}
@@ -187,7 +187,7 @@ pub record FlushSays (old new : State) (at : ℕ) (entry : Entry) (said : Reply)
   pub leaves : LeavesTable old new at entry (flush_breaks outcome)
   pub flushed : OnOk outcome (pending_in (table_in leaves.now) ≡ 0)
   pub last : last_key_in (table_in leaves.now) ≡ last_key_in (table_in entry.table)
-  pub seals : OnOk outcome (1 ≤ pending_in (table_in entry.table) → next_in (table_in leaves.now) ≡ next_in (table_in entry.table) + 1)
+  pub seals : OnOk outcome (1 ≤ pending_in (table_in entry.table) → IsEmptied (table_in entry.table) (table_in leaves.now))
   pub begins : OnOk outcome (1 ≤ pending_in (table_in entry.table) → AreBegun (log_in entry.table) (log_in leaves.now))
   pub power : OnOk outcome (old.flash.is_on ≡ true → new.flash.is_on ≡ true)
   pub off : 1 ≤ pending_in (table_in entry.table) → old.flash.is_on ≡ false → (outcome ≡ Err (flush.Flash PowerLost)) × (new.flash ≡ old.flash)

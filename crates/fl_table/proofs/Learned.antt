@@ -86,8 +86,8 @@ module _ {KNOTS SLOTS : ℕ} (error : ℕ) (t : Come) (u : Table KNOTS SLOTS) (h
 -- what a mount found of a table without its index
 pub finds-rows : {KNOTS SLOTS : ℕ} (t : Table KNOTS SLOTS) (bitmaps : Option BitmapIndex) (f : FlashState) (least : ℕ) (mounted : Mounted) (now : Table KNOTS SLOTS) (new : FlashState) (ring : Ring) (end : ℕ) (between : FlashState) → now.ring ≡ Some ring →
     FindsData t bitmaps f least ring mounted now.last_key end between → WaitUnlisted (comes_in t bitmaps ring between) (pages_of ring between) bitmaps least (next_of ring) now.bitmaps → RemembersKept bitmaps between now.bitmaps →
-    pending_in now ≡ 0 → HasLearned (error_in t.index) (comes_in t bitmaps ring between) now → FindsBlobs t.blobs between (least_of end) now.blobs new → AreBelow end now.blobs → FindsRows t bitmaps f least mounted now new
-finds-rows t bitmaps f least mounted now new ring end between is pages waits firsts none learned blobs below =
+    pending_in now ≡ 0 → now.bitmap ≡ 0 → HasLearned (error_in t.index) (comes_in t bitmaps ring between) now → FindsBlobs t.blobs between (least_of end) now.blobs new → AreBelow end now.blobs → FindsRows t bitmaps f least mounted now new
+finds-rows t bitmaps f least mounted now new ring end between is pages waits firsts none bits learned blobs below =
     let rows = come-rows (layout_of t.schema) (most_in t.geometry.page (layout_of t.schema)) bitmaps ring between in
     record {
       ring = ring;
@@ -98,6 +98,7 @@ finds-rows t bitmaps f least mounted now new ring end between is pages waits fir
       waits = waits;
       firsts = firsts;
       pending = none;
+      bits = bits;
       learned = learned;
       counts = counts-learned (error_in t.index) (comes_in t bitmaps ring between) now learned ring mounted is none rows.oldest rows.pages pages.mounted_is;
       blobs = blobs;

@@ -22,6 +22,7 @@ pub mod Outsides
 pub mod Firsts
 pub mod Learned
 pub mod Stored
+pub mod Counted
 pub mod FullEntries
 pub mod NotedEntries
 pub mod MountIndexed

@@ -6,7 +6,6 @@ use Rattle.fl_flash.specs.Flash.{FlashState, page_at}
 use Rattle.fl_flash.specs.declared.flash.FlashFault.{FlashFault}
 use Rattle.fl_model.specs.Layout.{rows_body}
 use Rattle.fl_model.specs.Record.{RowLayout}
-use Rattle.fl_page.specs.Writer.{Gathers}
 use Rattle.fl_page.specs.WriterState.{WriterState}
 use Rattle.fl_ring.specs.Mounting.{shape_at}
 use Rattle.fl_ring.specs.Ring.{Shape, place, room}
@@ -17,7 +16,9 @@ use Rattle.fl_table.specs.Blobs as variable
 use Rattle.fl_table.specs.Memory.{next_in, ring_shape, HasRoom, IsSamePlan, MaySeal}
 use Rattle.fl_table.specs.Mounting.{rings_in}
 use Rattle.fl_table.specs.Paged.{HasFlushed, HasMadePage, IsApart, RowsPaged, next_page}
+use Rattle.fl_table.specs.Stored.{WaitsSame}
 use Rattle.fl_table.specs.declared.table.Table.{Table}
+use Rattle.fl_table.proofs.Counted.{waiting-rows, waits-then}
 use Rattle.fl_table.proofs.MountJoined.{stand-outside}
 use Rattle.fl_table.proofs.Outsides.{blobs-outside, var-outside}
 use Rattle.fl_table.proofs.SealAnswers.{same-then}
@@ -43,23 +44,21 @@ rows-moved t u old mid new same next writer bits stands h = λ rows gathers.
     ap (λ (w : WriterState). rows_body (length w.body) (layout_of u.schema) (next_in u) u.bitmap rows) writer
     ∙ (ap (λ (l : RowLayout). rows_body (length t.writer.body) l (next_in u) u.bitmap rows) layout
     ∙ (ap (λ (n : ℕ). rows_body (length t.writer.body) (layout_of t.schema) n u.bitmap rows) next ∙ ap (λ (b : ℕ). rows_body (length t.writer.body) (layout_of t.schema) (next_in t) b rows) bits)) in
-    let there : Gathers (layout_of u.schema) rows u.writer =
-    subst (λ (w : WriterState). Gathers (layout_of u.schema) rows w) (sym writer) (subst (λ (l : RowLayout). Gathers l rows t.writer) (sym layout) gathers) in
     page-as (ring_shape u) (ring_shape t) (next_in u) (next_in t) (rows_body (length u.writer.body) (layout_of u.schema) (next_in u) u.bitmap rows) (rows_body (length t.writer.body) (layout_of t.schema) (next_in t) t.bitmap rows) mid new
-    shape next body (h rows there)
+    shape next body (h rows (waiting-rows t u same writer rows gathers))
     ∙ ap (λ (page : List ℕ). sealed_over (ring_shape t) (rows_body (length t.writer.body) (layout_of t.schema) (next_in t) t.bitmap rows) page) stands
 
 -- the seals of the index and of the bytes of blobs come first, outside of their page
 pub rows-paged : {KNOTS SLOTS : ℕ} (t a u : Table KNOTS SLOTS) (f m n g : FlashState) → m.media.tells ≡ f.media.tells → n.media.tells ≡ m.media.tells → IsSamePlan t a → IsSamePlan a u → next_in u ≡ next_in t →
-    (a.writer ≡ t.writer) × (a.bitmap ≡ t.bitmap) × (IsTrue f.media.tells → bitmaps.StandOutside t.bitmaps (page_at f) (page_at m)) →
-    (u.writer ≡ a.writer) × (u.bitmap ≡ a.bitmap) × (IsTrue m.media.tells → variable.StandOutside a.blobs (page_at m) (page_at n)) →
+    WaitsSame t a × (IsTrue f.media.tells → bitmaps.StandOutside t.bitmaps (page_at f) (page_at m)) → WaitsSame a u × (IsTrue m.media.tells → variable.StandOutside a.blobs (page_at m) (page_at n)) →
     (IsTrue n.media.tells → RowsPaged u (page_at n) (page_at g)) → IsTrue f.media.tells → IsApart t (next_page t) → RowsPaged t (page_at f) (page_at g)
 rows-paged t a u f m n g tells later first second next index blobs h = λ told apart.
     let told_then = subst IsTrue (sym tells) told in
-    let stood : page_at m (next_page t) ≡ page_at f (next_page t) = stand-outside t.bitmaps (page_at f) (page_at m) (next_page t) (index.2 told) apart.index in
+    let waits = waits-then t a u index.0 blobs.0 in
+    let stood : page_at m (next_page t) ≡ page_at f (next_page t) = stand-outside t.bitmaps (page_at f) (page_at m) (next_page t) (index.1 told) apart.index in
     let stands : page_at n (next_page t) ≡ page_at m (next_page t) =
-    var-outside a.blobs (page_at m) (page_at n) (next_page t) (blobs.2 told_then) (blobs-outside t.blobs a.blobs (next_page t) first.blobs apart.blobs) in
-    rows-moved t u (page_at f) (page_at n) (page_at g) (same-then t a u first second) next (blobs.0 ∙ index.0) (blobs.1 ∙ index.1) (stands ∙ stood) (h (subst IsTrue (sym later) told_then))
+    var-outside a.blobs (page_at m) (page_at n) (next_page t) (blobs.1 told_then) (blobs-outside t.blobs a.blobs (next_page t) first.blobs apart.blobs) in
+    rows-moved t u (page_at f) (page_at n) (page_at g) (same-then t a u first second) next waits.writer waits.bitmap (stands ∙ stood) (h (subst IsTrue (sym later) told_then))
 
 -- what a seal tells that was whole
 pub flushed-of : {KNOTS SLOTS : ℕ} (t : Table KNOTS SLOTS) (result : Result (Unit {0}) FlashFault) (f g : FlashState) → Writes (MaySeal t) (done result) (rings_in t) f g →

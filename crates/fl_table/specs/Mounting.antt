@@ -131,6 +131,7 @@ pub record FindsRows {KNOTS SLOTS : ℕ} (t : Table KNOTS SLOTS) (bitmaps : Opti
   pub waits : WaitUnlisted (comes_in t bitmaps ring between) (pages_of ring between) bitmaps least (next_of ring) now.bitmaps
   pub firsts : RemembersKept bitmaps between now.bitmaps
   pub pending : pending_in now ≡ 0
+  pub bits : now.bitmap ≡ 0
   pub learned : HasLearned (error_in t.index) (comes_in t bitmaps ring between) now
   pub counts : counts_in now ≡ record { rows = mounted.rows; pending = 0; pages = mounted.pages; voids = mounted.voids }
   pub blobs : FindsBlobs t.blobs between (least_of end) now.blobs new

@@ -167,7 +167,7 @@ impl<const KNOTS: usize, const SLOTS: usize> Table<KNOTS, SLOTS> {
         ensures lies { LiesOn self.new (F.state flash.new) }
         ensures room { length buf.new.bytes ≡ length buf.old.bytes }
         ensures holds { buf.new.holds ≡ None }
-        ensures none { self.new.writer.count ≡ 0 }
+        ensures none { (self.new.writer.count ≡ 0) × (self.new.bitmap ≡ 0) }
         ensures down { self.new.ring ≡ None }
         ensures calm { is_stopped self.new ≡ false }
         ensures running { AreRunning self.new.bitmaps }

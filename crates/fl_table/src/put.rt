@@ -23,7 +23,7 @@ fn with_value(buckets: Option<Buckets>, bitmap: u64, value: i64) -> u64
 }
 
 impl<const KNOTS: usize, const SLOTS: usize> Table<KNOTS, SLOTS> {
-    ghost use Rattle.std.specs.Prelude.{ℕ, Bool, List, Some, None, is_some, ◌||◌, ◌&&◌, not, nat_lt, ◌↔◌, Ok, Err};
+    ghost use Rattle.std.specs.Prelude.{ℕ, Bool, List, slice_index_or, pos, Some, None, is_some, ◌||◌, ◌&&◌, not, nat_lt, ◌↔◌, Ok, Err};
     ghost use Rattle.fl_model.specs.Record.{Plan, layout_len, rows_per_page};
     ghost use Rattle.fl_model.specs.Row.{Row, FitsRow, stored_row};
     ghost use Rattle.fl_model.specs.Table as model;
@@ -104,6 +104,7 @@ impl<const KNOTS: usize, const SLOTS: usize> Table<KNOTS, SLOTS> {
         ensures lies { (f : FlashState) → LiesOn self.old f → LiesOn self.new f }
         ensures stopped { is_stopped self.new ≡ is_stopped self.old }
         ensures pending { pending_in self.new ≡ pending_in self.old + 1 }
+        ensures bits { self.new.bitmap ≡ bitmap_with self.old.buckets self.old.bitmap (slice_index_or values.now 0 (pos 0)) }
         ensures last { last_key_in self.new ≡ Some key }
         ensures rows { (rows : List Row) → PendingAre self.old rows → PendingAre self.new (rows ++ (record { key = key; values = values.now; blob = blob }) ∷ []) }
         ensures memory { (plan : Plan) → (table after : model.Table) → (entry : Entry) → InMemory self.old plan table → IsSameBeside table after → after.entries ≡ table.entries ++ entry ∷ [] → after.pending ≡ table.pending + 1 → table.pending ≤ length table.entries →
@@ -227,7 +228,7 @@ impl<const KNOTS: usize, const SLOTS: usize> Table<KNOTS, SLOTS> {
         ensures refused { result ≡ Err FlushFault.Stopped → self.new ≡ self.old }
         ensures quiet { is_running self.old ≡ true → pending_in self.old ≡ 0 → (result ≡ Ok tt) × (self.new ≡ self.old) × (F.state flash.new ≡ F.state flash.old) }
         ensures none { OnOk result (pending_in self.new ≡ 0) }
-        ensures seals { OnOk result (1 ≤ pending_in self.old → next_in self.new ≡ next_in self.old + 1) }
+        ensures seals { OnOk result (1 ≤ pending_in self.old → IsEmptied self.old self.new) }
         ensures power { OnOk result ((F.state flash.old).is_on ≡ true → (F.state flash.new).is_on ≡ true) }
         ensures off { is_running self.old ≡ true → 1 ≤ pending_in self.old → (F.state flash.old).is_on ≡ false → (result ≡ Err (FlushFault.Flash FlashFault.PowerLost)) × (F.state flash.new ≡ F.state flash.old) }
         // Whatever the flash holds: a seal of each ring at most, and of pending rows one that is whole, whose page has them then.

@@ -15,7 +15,7 @@ returns-in-Err-Flash-clause-ends g c = λ first plan b rose device watched s.
 pub returns-in-Ok-clause-sealed : goal.returns-in-Ok-clause-sealed
 returns-in-Ok-clause-sealed g c = record {
   quiet = λ none. let h = c.in-Ok.ensures.quiet c.requires.running none in (h.1, h.2);
-  page = c.in-Ok.ensures.seals;
+  sealed = c.in-Ok.ensures.seals;
   none = c.in-Ok.ensures.none;
   flushed = c.in-Ok.ensures.sealed;
 }

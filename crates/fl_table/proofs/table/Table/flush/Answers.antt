@@ -273,7 +273,7 @@ pub returns-clause-none : goal.returns-clause-none
 returns-clause-none g c = c.in_ok-seal.ensures.emptied.none
 
 pub returns-clause-seals : goal.returns-clause-seals
-returns-clause-seals g c = λ some. c.in_ok-seal.ensures.emptied.next
+returns-clause-seals g c = λ some. c.in_ok-seal.ensures.emptied
 
 pub returns-clause-cause : goal.returns-clause-cause
 returns-clause-cause g c = tt

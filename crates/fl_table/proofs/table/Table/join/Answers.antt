@@ -347,6 +347,7 @@ returns-clause-joined g c =
       last = c.add.ensures.last;
       pending = c.add.ensures.pending;
       rows = λ rows h. subst (λ (o : Option BlobRef). PendingAre c.add.new.self (rows ++ (record { key = c.args.key; values = c.args.values.now; blob = o }) ∷ [])) c.in-Ok.ensures.placed.0 (c.add.ensures.rows rows h);
+      bits = c.add.ensures.bits;
       known = record { ring = known.ring; counts = known.counts; voids = known.voids; index = known.index; bitmaps = known.bitmaps };
       blobs = subst (λ (o : Option VarData). variable.HavePlaced (option_map (λ (b : Bor (List ℕ)). b.now) c.args.blob) c.args.self.now.blobs o) (sym c.add.ensures.blobs) c.in-Ok.ensures.placed.1;
     }

@@ -19,7 +19,8 @@ use Rattle.fl_table.proofs.Sizes.{table-fits}
 use Rattle.fl_table.specs.Memory.{is_stopped, next_in}
 use Rattle.fl_var.specs.declared.var_data.VarData.{VarData}
 use Rattle.fl_table.specs.Paged.{IsApart, RowsPaged, next_page}
-use Rattle.fl_table.specs.Stored.{IsEmptied}
+use Rattle.fl_table.specs.Stored.{HasCounted, IsEmptied}
+use Rattle.fl_table.proofs.Counted.{counted-then, waits-then}
 use Rattle.fl_table.proofs.Paged.{rows-paged}
 use Rattle.fl_table.proofs.Stored.{pending-none}
 use Rattle.fl_table.proofs.Untouched.{on-both, on-ok, on-err, no-success}
@@ -325,16 +326,22 @@ returns-clause-emptied g c =
     let t = c.args.self.now in
     let u = c.seal_rows.new.self in
     let before = c.in_ok-seal_blobs.ensures.next ∙ c.in_ok-seal_bitmaps.ensures.next in
+    let b = c.seal_blobs.new.self in
+    let first = c.in_ok-seal_bitmaps.ensures in
+    let then = c.in_ok-seal_blobs.ensures in
     let still : variable.next_after c.seal_bitmaps.new.self.blobs ≡ variable.next_after t.blobs = ap variable.next_after c.in_ok-seal_bitmaps.ensures.blobs in
     let last : variable.next_of u.blobs ≡ variable.next_of c.seal_blobs.new.self.blobs = ap variable.next_of c.seal_rows.ensures.blobs in
-    on-both c.seal_rows.result (next_in u ≡ next_in c.seal_blobs.new.self + 1) (u.writer.count ≡ 0) (IsEmptied t u)
-    (λ next none. record {
-      next = next ∙ ap (λ n. n + 1) before;
-      none = none;
-      rows = pending-none u none;
-      blobs = subst (λ (o : Option VarData). variable.AreEmpty o) (sym c.seal_rows.ensures.blobs) c.in_ok-seal_blobs.ensures.empty;
-      blob_next = last ∙ (c.in_ok-seal_blobs.ensures.blob_next ∙ still);
-    }) c.seal_rows.ensures.next c.seal_rows.ensures.empty
+    on-both c.seal_rows.result (HasCounted b u) ((next_in u ≡ next_in b + 1) × ((u.writer.count ≡ 0) × (u.bitmap ≡ 0))) (IsEmptied t u)
+    (λ counted both. record {
+      next = both.0 ∙ ap (λ n. n + 1) before;
+      none = both.1.0;
+      rows = pending-none u both.1.0;
+      bits = both.1.1;
+      blobs = subst (λ (o : Option VarData). variable.AreEmpty o) (sym c.seal_rows.ensures.blobs) then.empty;
+      blob_next = last ∙ (then.blob_next ∙ still);
+      counted = counted-then t b u (same-then t c.seal_bitmaps.new.self b first.same then.same) (then.ring ∙ first.ring) (waits-then t c.seal_bitmaps.new.self b first.still.0 then.still.0) counted;
+    }) c.seal_rows.ensures.counted
+    (on-both c.seal_rows.result (next_in u ≡ next_in b + 1) ((u.writer.count ≡ 0) × (u.bitmap ≡ 0)) ((next_in u ≡ next_in b + 1) × ((u.writer.count ≡ 0) × (u.bitmap ≡ 0))) (λ next empty. (next, empty)) c.seal_rows.ensures.next c.seal_rows.ensures.empty)
 
 pub returns-in_err-seal_bitmaps-clause-page : goal.returns-in_err-seal_bitmaps-clause-page
 returns-in_err-seal_bitmaps-clause-page g c = no-success _ _ c.from_residual.result c.from_residual.ensures.1

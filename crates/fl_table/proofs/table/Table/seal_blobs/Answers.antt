@@ -291,7 +291,7 @@ pub returns-clause-ring : goal.returns-clause-ring
 returns-clause-ring g c = refl
 
 pub returns-in-Err-clause-still : goal.returns-in-Err-clause-still
-returns-in-Err-clause-still g c = (refl, refl, c.in-Err.ensures.outside)
+returns-in-Err-clause-still g c = (record { writer = refl; bitmap = refl; counts = refl; voids = refl; index = refl }, c.in-Err.ensures.outside)
 
 pub returns-clause-still : goal.returns-clause-still
-returns-clause-still g c = (refl, refl, c.in_default.ensures.outside)
+returns-clause-still g c = (record { writer = refl; bitmap = refl; counts = refl; voids = refl; index = refl }, c.in_default.ensures.outside)
