@@ -81,7 +81,7 @@ returns-clause-power g c = λ on. by-calls on c.in_ok-at.ensures.power
     by-calls on (inr still) = still
 
 pub returns-in_default-clause-placed : goal.returns-in_default-clause-placed
-returns-in_default-clause-placed g c = none-kept (option_map (λ (b : Bor (List ℕ)). b.now) c.args.blob) c.args.blobs.now _ c.in_default.is c.in_default.is
+returns-in_default-clause-placed g c = rw c.in_default.is (none-kept (option_map (λ (b : Bor (List ℕ)). b.now) c.args.blob) None None refl refl)
 
 pub returns-in_default-blob-clause-placed : goal.returns-in_default-blob-clause-placed
 returns-in_default-blob-clause-placed g c =
