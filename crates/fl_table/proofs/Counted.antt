@@ -1,5 +1,5 @@
 -- What is known of the kept pages once the pending rows were sealed.
-use Rattle.std.proofs.Common.{◌≡◌, ℕ, ◌+◌, ◌-◌, false, Option, Some, option_map, unwrap_or, IfSome, List, ◌∷◌, [], ◌++◌, length, refl, sym, ◌∙◌, ap, subst}
+use Rattle.std.proofs.Common.{◌≡◌, ℕ, ◌-◌, false, Option, Some, option_map, unwrap_or, IfSome, List, ◌∷◌, [], ◌++◌, length, refl, sym, ◌∙◌, ap, subst}
 use Rattle.std.specs.List.{slice_get}
 use Rattle.fl_find.specs.Index.{IndexOf, IsFurther, is_further, knots_in}
 use Rattle.fl_find.specs.declared.index.KeyIndex.{KeyIndex}
