@@ -159,6 +159,7 @@ pub(crate) fn replay<F: Flash, const KNOTS: usize, const SLOTS: usize>(
     ensures refused { IfErr result (λ e. IsTrue (F.state flash.old).media.tells → RefusesLog (layout_in table.old) log.old (F.state flash.old) table.old e (F.state flash.new)) }
     ensures outside { IsTrue (F.state flash.old).media.tells → StandBeside table.old log.old (page_at (F.state flash.old)) (page_at (F.state flash.new)) }
     ensures reads { mounting.FewReads (4 * room (log_shape log.old)) (F.state flash.old) (F.state flash.new) }
+    ensures repairs { mounting.FewRepairs (1 + 2 * mounting.rings_in table.old) (F.state flash.old) (F.state flash.new) }
     ensures limit { (first : ℕ) → (plan : Plan) → (table_now : model.Table) → IsTrue (F.state flash.old).media.tells → repairing.Rests log.old (F.state flash.old) first plan table_now
         → (F.state flash.new).work.reads ≤ (F.state flash.old).work.reads + log_mount_limit (shape_of plan LogRing) table_now.log }
     ensures power { OnOk result ((F.state flash.new).is_on ≡ true) }

@@ -25,7 +25,7 @@ ghost use Rattle.fl_table.specs.Paged.{HasFlushed};
 ghost use Rattle.fl_table.specs.Refusal.{RefusesAs};
 ghost use Rattle.fl_store.specs.Calls.{Finds, FlushEnds, GetEnds, HavePage, IsRefusedSame, IsRowIn, Located, PutEnds, RunsAt, columns_at, powered};
 ghost use Rattle.fl_store.specs.InMemory.{AreSameTables, Becomes, Flushes, LeavesOthers, Takes, has_blobs_at};
-ghost use Rattle.fl_store.specs.Mounting.{AreUnlogged, MountsInTurn, OutsideStands, RefusesAt, rings_of, tried};
+ghost use Rattle.fl_store.specs.Mounting.{MountsInTurn, OutsideStands, RefusesAt, repairs_of, tried};
 ghost use Rattle.fl_store.specs.Store.{Holds, IsOnMedium};
 ghost use Rattle.fl_store.specs.Tables.{AreRunning, LieOn, NonePending, StopsAt, TablesMount, pages_of};
 ghost use Rattle.fl_store.specs.declared.tables.Entry.{Entry};
@@ -56,7 +56,7 @@ impl<'m, M: Media> Store<'m, M> {
         ensures running { OnOk result (AreRunning self.new.tables.entries.items) }
         ensures none { OnOk result (NonePending self.new.tables.entries.items) }
         ensures power { OnOk result ((⟦<SimFlash<'m, M> as Flash>⟧.state self.new.flash).is_on ≡ true) }
-        ensures repairs { AreUnlogged (tried result self.old.tables.entries.items) → FewRepairs (rings_of (tried result self.old.tables.entries.items)) (⟦<SimFlash<'m, M> as Flash>⟧.state self.old.flash) (⟦<SimFlash<'m, M> as Flash>⟧.state self.new.flash) }
+        ensures repairs { FewRepairs (repairs_of (tried result self.old.tables.entries.items)) (⟦<SimFlash<'m, M> as Flash>⟧.state self.old.flash) (⟦<SimFlash<'m, M> as Flash>⟧.state self.new.flash) }
         ensures outside { IsTrue (⟦<SimFlash<'m, M> as Flash>⟧.state self.old.flash).media.tells → OutsideStands (tried result self.old.tables.entries.items) (page_at (⟦<SimFlash<'m, M> as Flash>⟧.state self.old.flash)) (page_at (⟦<SimFlash<'m, M> as Flash>⟧.state self.new.flash)) }
         ensures reads { IsTrue (⟦<SimFlash<'m, M> as Flash>⟧.state self.old.flash).media.tells → (⟦<SimFlash<'m, M> as Flash>⟧.state self.new.flash).work.reads ≤ (⟦<SimFlash<'m, M> as Flash>⟧.state self.old.flash).work.reads + 4 * pages_of self.old.tables.entries.items }
         ensures same { AreSameTables self.old.tables.entries.items self.new.tables.entries.items }
