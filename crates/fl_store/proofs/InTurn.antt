@@ -1,5 +1,5 @@
 -- Tables that were mounted one after another, over any bytes.
-use Rattle.std.proofs.Common.{◌≡◌, ℕ, zero, suc, ◌+◌, ◌<◌, Some, List, take, refl, ◌∙◌, ap, subst, arith}
+use Rattle.std.proofs.Common.{◌≡◌, ℕ, zero, suc, ◌+◌, ◌<◌, ◌≤◌, Some, List, take, refl, ◌∙◌, ap, subst, arith}
 use Rattle.std.specs.List.{slice_get}
 use Rattle.std.proofs.lemmas.List.{length-take}
 use Rattle.std.proofs.lemmas.Option.{slice_get_within}
@@ -52,10 +52,16 @@ front-there xs n i x e =
     let within = slice_get_within (take n xs) i x e in
     slice_get-take (suc n) xs i (omega (arith, within, length-take n xs)) ∙ slice_get-front n xs i x e
 
+some-more : (f m n a b c : ℕ) → m ≤ f + a → n ≤ m + b → c ≡ a + b → n ≤ f + c
+some-more f m n a b c first then all = omega (arith, first, then, all)
+
 pub repairs-more : (entries : List Entry) (i : ℕ) (entry : Entry) (f m n : FlashState) → slice_get entries i ≡ Some entry → FewRepairs (repairs_of (take i entries)) f m →
     FewRepairs (repairs_in entry.table) m n → FewRepairs (repairs_of (take (i + 1) entries)) f n
 repairs-more entries i entry f m n here before own =
-    record { programs = omega (arith, before.programs, own.programs, all); erases = omega (arith, before.erases, own.erases, all) }
+    record {
+      programs = some-more f.work.programs m.work.programs n.work.programs (repairs_of (take i entries)) (repairs_in entry.table) (repairs_of (take (i + 1) entries)) before.programs own.programs all;
+      erases = some-more f.work.erases m.work.erases n.work.erases (repairs_of (take i entries)) (repairs_in entry.table) (repairs_of (take (i + 1) entries)) before.erases own.erases all;
+    }
   where
     all : repairs_of (take (i + 1) entries) ≡ repairs_of (take i entries) + repairs_in entry.table
     all = ap (λ k. repairs_of (take k entries)) (let s : i + 1 ≡ suc i = omega arith in s) ∙ sum-more (λ (e : Entry). repairs_in e.table) entries i entry here
