@@ -429,3 +429,21 @@ pub returns-clause-sealed : goal.returns-clause-sealed
 returns-clause-sealed g c = λ full.
     page-logged c.args.self.now (option_map (λ (b : Bor (List ℕ)). b.now) c.args.blob) (g.F.Flash.state c.args.flash.now) (g.F.Flash.state c.put.new.flash) (g.F.Flash.state c.log_row.new.flash)
     c.in_ok-put.ensures.goes.tells (c.in_ok-put.ensures.sealed full) c.log_row.ensures.writes c.log_row.ensures.outside
+
+pub returns-in-Some-clause-stores : goal.returns-in-Some-clause-stores
+returns-in-Some-clause-stores g c = tt
+
+pub returns-in_err-put-clause-stores : goal.returns-in_err-put-clause-stores
+returns-in_err-put-clause-stores g c = let p = err_from_is_err_and c.from_residual.result c.from_residual.ensures.1 in rw p.1 tt
+
+pub returns-in-Err-clause-stores : goal.returns-in-Err-clause-stores
+returns-in-Err-clause-stores g c = tt
+
+pub returns-in-Some-clause-sealed : goal.returns-in-Some-clause-sealed
+returns-in-Some-clause-sealed g c = tt
+
+pub returns-in_err-put-clause-sealed : goal.returns-in_err-put-clause-sealed
+returns-in_err-put-clause-sealed g c = let p = err_from_is_err_and c.from_residual.result c.from_residual.ensures.1 in rw p.1 tt
+
+pub returns-in-Err-clause-sealed : goal.returns-in-Err-clause-sealed
+returns-in-Err-clause-sealed g c = tt
