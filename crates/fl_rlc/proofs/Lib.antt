@@ -35,6 +35,7 @@ pub mod PutEnded
 pub mod FlushEnded
 pub mod PutFrames
 pub mod Written
+pub mod Paged
 pub mod Powered
 pub mod PowerOff
 pub mod Sizes

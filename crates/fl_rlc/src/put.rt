@@ -26,7 +26,7 @@ impl<const KNOTS: usize, const SLOTS: usize> LoggedTable<KNOTS, SLOTS> {
     ghost use Rattle.fl_table.specs.Stored.{IsEmptied, Stores};
     ghost use Rattle.fl_rlc.specs.Logged.{Stands};
     ghost use Rattle.fl_rlc.specs.Outcomes.{PutEnds, FlushEnds};
-    ghost use Rattle.fl_rlc.specs.Paged.{HasMadePage};
+    ghost use Rattle.fl_rlc.specs.Paged.{HasMadePage, PutLogged};
     ghost use Rattle.fl_rlc.specs.Refusal.{put_refusal, NeedsNoOperation, RefusedSame};
     ghost use Rattle.fl_rlc.specs.Rows.{AreBegun, HaveLogged};
     ghost use Rattle.fl_rlc.specs.Table.{is_running, is_stopped, table_in, log_in, rings_in, IsSamePlan, LiesOn, MayPut, OutsideStands};
@@ -61,8 +61,9 @@ impl<const KNOTS: usize, const SLOTS: usize> LoggedTable<KNOTS, SLOTS> {
         ensures same { IsSamePlan self.old self.new }
         ensures lies { LiesOn self.new (F.state flash.new) }
         ensures outside { IsTrue (F.state flash.old).media.tells → OutsideStands self.old (page_at (F.state flash.old)) (page_at (F.state flash.new)) }
-        // Whatever the flash holds: a seal of each ring at most, and of the variable data those of the pages that the blob fills. If the page was full, its rows are in it then.
+        // Whatever the flash holds: a seal of each ring at most, and of the variable data those of the pages that the blob fills. If the page was full, its rows are in it then, and the record is on the log's page.
         ensures writes { Writes (MayPut self.old (option_map (λ b. b.now) blob.entry)) 0 (rings_in self.old + most_pages (data_in (table_in self.old)) (option_map (λ b. b.now) blob.entry)) (F.state flash.old) (F.state flash.new) }
+        ensures logged { OnOk result (PutLogged self.old (record { key = key; values = values.now; blob = None }) (F.state flash.old) (F.state flash.new)) }
         ensures sealed { OnOk result ((HasRoom (table_in self.old) → ⊥) → HasMadePage self.old (option_map (λ b. b.now) blob.entry) (F.state flash.old) (F.state flash.new)) }
         ensures reads { (F.state flash.new).work.reads ≡ (F.state flash.old).work.reads }
         ensures media_reads { (F.state flash.new).media.reads ≤ (F.state flash.old).media.reads + rings_in self.old + most_pages (data_in (table_in self.old)) (option_map (λ b. b.now) blob.entry) }

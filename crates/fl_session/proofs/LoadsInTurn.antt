@@ -4,7 +4,7 @@ use Rattle.std.specs.Prelude.{is_err, OnOk, ℤ}
 use Rattle.fl_flash.specs.Flash.{FlashState, Goes}
 use Rattle.fl_model.specs.Row.{Row}
 use Rattle.fl_frame.proofs.WatchedInTurn.{cause-later}
-use Rattle.fl_rlc.specs.Paged.{HasMadePage}
+use Rattle.fl_rlc.specs.Paged.{HasMadePage, PutLogged}
 use Rattle.fl_rlc.specs.Refusal.{NeedsNoOperation, RefusedSame, put_refusal}
 use Rattle.fl_rlc.specs.Rows.{HaveLogged}
 use Rattle.fl_rlc.specs.Table.{IsSamePlan, log_in, table_in}
@@ -32,9 +32,9 @@ module _ (step seed n : ℕ) (t u : LoggedTable 64 64) (m g : FlashState) (key :
   pub loads-next : (outcome : Result (Unit {0}) PutRefusal) → is_err outcome ≡ false → RefusesAs (put_refusal t key values None) outcome → OnOk outcome (last_key_in (table_in u) ≡ Some key) →
       OnOk outcome (Stores (table_in t) key values None (table_in u)) →
       OnOk outcome (HaveLogged (layout_in (table_in t)) (row_of key values) (log_in t) (log_in u)) → (put_refusal t key values None ≡ None → NeedsNoOperation t None → (outcome ≡ Ok tt) × (g ≡ m)) →
-      OnOk outcome (m.is_on ≡ true → g.is_on ≡ true) → OnOk outcome ((HasRoom (table_in t) → ⊥) → HasMadePage t None m g) → WritesOne t m g → IsSamePlan t u → LoadsNext step seed n t m u g
-  loads-next (Err e) ok exact last stores logs quiet power sealed writes same = absurd (cc ok)
-  loads-next (Ok done) ok exact last stores logs quiet power sealed writes same =
+      OnOk outcome (m.is_on ≡ true → g.is_on ≡ true) → OnOk outcome (PutLogged t (row_of key values) m g) → OnOk outcome ((HasRoom (table_in t) → ⊥) → HasMadePage t None m g) → WritesOne t m g → IsSamePlan t u → LoadsNext step seed n t m u g
+  loads-next (Err e) ok exact last stores logs quiet power logged sealed writes same = absurd (cc ok)
+  loads-next (Ok done) ok exact last stores logs quiet power logged sealed writes same =
       let accepted : put_refusal t key values None ≡ None = accepts (put_refusal t key values None) exact in
       record {
         accepted = subst (λ (r : Row). put_refusal t r.key r.values None ≡ None) row-is accepted;
@@ -43,6 +43,7 @@ module _ (step seed n : ℕ) (t u : LoggedTable 64 64) (m g : FlashState) (key :
         logs = subst (λ (r : Row). HaveLogged (layout_in (table_in t)) r (log_in t) (log_in u)) row-is logs;
         quiet = λ none. (quiet accepted none).1;
         power = power;
+        logged = subst (λ (r : Row). PutLogged t r m g) row-is logged;
         sealed = sealed;
         writes = writes;
         same = same;

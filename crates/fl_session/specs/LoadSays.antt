@@ -4,7 +4,7 @@ use Rattle.fl_flash.specs.Flash.{FlashState}
 use Rattle.fl_machine.specs.Step.{load_values, next_random}
 use Rattle.fl_model.specs.Row.{Row}
 use Rattle.fl_frame.specs.Causes.{CausedBy}
-use Rattle.fl_rlc.specs.Paged.{HasMadePage}
+use Rattle.fl_rlc.specs.Paged.{HasMadePage, PutLogged}
 use Rattle.fl_rlc.specs.Refusal.{NeedsNoOperation, RefusedSame, put_refusal}
 use Rattle.fl_rlc.specs.Rows.{HaveLogged}
 use Rattle.fl_rlc.specs.Table.{IsSamePlan, MayPut, log_in, rings_in, table_in}
@@ -49,6 +49,7 @@ pub record LoadsNext (step seed n : ℕ) (t : LoggedTable 64 64) (f : FlashState
   pub logs : HaveLogged (layout_in (table_in t)) (next_row t step seed n) (log_in t) (log_in u)
   pub quiet : NeedsNoOperation t None → g ≡ f
   pub power : f.is_on ≡ true → g.is_on ≡ true
+  pub logged : PutLogged t (next_row t step seed n) f g
   pub sealed : (HasRoom (table_in t) → ⊥) → HasMadePage t None f g
   pub writes : WritesOne t f g
   pub same : IsSamePlan t u

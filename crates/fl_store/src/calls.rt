@@ -8,7 +8,7 @@ ghost use Rattle.fl_model.specs.Table.{last_entry};
 ghost use Rattle.fl_model.specs.Work.{Device};
 ghost use Rattle.fl_frame.specs.Contents.{OnlyReads};
 ghost use Rattle.fl_frame.specs.Watched.{IsWatched};
-ghost use Rattle.fl_rlc.specs.Paged.{HasMadePage};
+ghost use Rattle.fl_rlc.specs.Paged.{HasMadePage, PutLogged};
 ghost use Rattle.fl_rlc.specs.Refusal.{put_refusal, NeedsNoOperation};
 ghost use Rattle.fl_rlc.specs.Table as logged;
 ghost use Rattle.fl_ring.specs.Written.{Writes};
@@ -110,6 +110,7 @@ impl<'m, M: Media> Store<'m, M> {
         ensures same { AreSameTables self.old.tables.entries.items self.new.tables.entries.items }
         ensures outside { (entry : Entry) → slice_get self.old.tables.entries.items at ≡ Some entry → IsTrue (⟦<SimFlash<'m, M> as Flash>⟧.state self.old.flash).media.tells → logged.OutsideStands entry.table (page_at (⟦<SimFlash<'m, M> as Flash>⟧.state self.old.flash)) (page_at (⟦<SimFlash<'m, M> as Flash>⟧.state self.new.flash)) }
         ensures writes { (entry : Entry) → slice_get self.old.tables.entries.items at ≡ Some entry → Writes (MayPut entry.table (option_map (λ b. b.now) blob.entry)) 0 (rings_in entry.table + most_pages (data_in (table_in entry.table)) (option_map (λ b. b.now) blob.entry)) (⟦<SimFlash<'m, M> as Flash>⟧.state self.old.flash) (⟦<SimFlash<'m, M> as Flash>⟧.state self.new.flash) }
+        ensures logged { (entry : Entry) → slice_get self.old.tables.entries.items at ≡ Some entry → OnOk result (PutLogged entry.table (record { key = key; values = values.now; blob = None }) (⟦<SimFlash<'m, M> as Flash>⟧.state self.old.flash) (⟦<SimFlash<'m, M> as Flash>⟧.state self.new.flash)) }
         ensures sealed { (entry : Entry) → slice_get self.old.tables.entries.items at ≡ Some entry → OnOk result ((HasRoom (table_in entry.table) → ⊥) → HasMadePage entry.table (option_map (λ b. b.now) blob.entry) (⟦<SimFlash<'m, M> as Flash>⟧.state self.old.flash) (⟦<SimFlash<'m, M> as Flash>⟧.state self.new.flash)) }
         ensures reads { (⟦<SimFlash<'m, M> as Flash>⟧.state self.new.flash).work.reads ≡ (⟦<SimFlash<'m, M> as Flash>⟧.state self.old.flash).work.reads }
         ensures media_reads { (entry : Entry) → slice_get self.old.tables.entries.items at ≡ Some entry → (⟦<SimFlash<'m, M> as Flash>⟧.state self.new.flash).media.reads ≤ (⟦<SimFlash<'m, M> as Flash>⟧.state self.old.flash).media.reads + rings_in entry.table + most_pages (data_in (table_in entry.table)) (option_map (λ b. b.now) blob.entry) }

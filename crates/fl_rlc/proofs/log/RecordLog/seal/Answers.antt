@@ -7,13 +7,14 @@ use Rattle.fl_model.specs.Record.{row_layout}
 use Rattle.fl_model.specs.Row.{stored_row}
 use Rattle.fl_model.specs.Table.{log_pages, pending_entries}
 use Rattle.fl_ring.specs.Operations.{change, seal_kinds}
-use Rattle.fl_ring.specs.Place.{StandsFor, shape_of}
+use Rattle.fl_ring.specs.Place.{StandsFor, next_of, shape_of}
 use Rattle.fl_ring.specs.Ring.{Shape, OutsideStands, oldest, place, sealed}
 use Rattle.fl_ring.specs.Sealing.{Performed}
 use Rattle.fl_ring.specs.Written.{done}
 use Rattle.fl_ring.proofs.Written.{held-writes}
 use Rattle.fl_index.proofs.SealAnswers.{seal-on}
-use Rattle.fl_rlc.specs.Memory.{next_in}
+use Rattle.fl_table.proofs.Paged.{page-as}
+use Rattle.fl_rlc.specs.Memory.{log_shape, next_in}
 use Rattle.fl_rlc.specs.Pages.{log_body}
 use Rattle.fl_rlc.proofs.SealsInTable.{seal-breaks, seal-finishes, seal-err, ready, pages-size, next-is}
 use Rattle.fl_rlc.proofs.States.{state_of}
@@ -141,3 +142,16 @@ returns-clause-writes g c =
     let v = c.args.self.now in
     let ring_is : c.args.self.now.ring ≡ Some c.in-Some.ring = search rules in
     held-writes v.ring c.in-Some.ring 1 1 _ _ ring_is (omega arith) c.in_ok-seal.ensures.writes
+
+pub returns-in_err-seal-clause-page : goal.returns-in_err-seal-clause-page
+returns-in_err-seal-clause-page g c = let p = err_from_is_err_and c.from_residual.result c.from_residual.ensures.1 in rw p.1 tt
+
+pub returns-clause-page : goal.returns-clause-page
+returns-clause-page g c = λ told layout rows gathers.
+    let v = c.args.self.now in
+    let ring = c.in-Some.ring in
+    let ring_is : c.args.self.now.ring ≡ Some c.in-Some.ring = search rules in
+    let number : c.next_number.result ≡ next_in c.args.self.now = c.next_number.ensures ∙ sym (next-is v ring ring_is) in
+    let body : c.body.result.now ≡ rows_body (length v.rows.body) layout (next_in v) 0 rows = c.body.ensures ∙ (c.finish.ensures.body layout rows gathers ∙ ap (λ n. rows_body (length v.rows.body) layout n 0 rows) number) in
+    page-as (shape_of ring) (log_shape v) (next_of ring) (next_in v) c.body.result.now (rows_body (length v.rows.body) layout (next_in v) 0 rows) (page_at (g.F.Flash.state c.args.flash.now)) (page_at (g.F.Flash.state c.seal.new.flash))
+    (v.lies ring ring_is) (sym (next-is v ring ring_is)) body (c.in_ok-seal.ensures.page told)

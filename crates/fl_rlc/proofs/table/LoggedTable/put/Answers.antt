@@ -27,6 +27,7 @@ use Rattle.fl_rlc.specs.Memory.{page_len}
 use Rattle.fl_rlc.specs.Table.{is_logged, is_running, is_stopped, rings_in, MayPut}
 use Rattle.fl_ring.proofs.Written.{writes-none}
 use Rattle.fl_rlc.proofs.Written.{logged-writes, page-logged, table-writes}
+use Rattle.fl_rlc.proofs.Paged.{put-logged}
 use Rattle.fl_rlc.proofs.PowerOff.{idle-put}
 use Rattle.fl_table.proofs.Refusals.{told-running, fits-row, calm-cause}
 use Rattle.fl_table.proofs.SealAnswers.{plan-self, same-then}
@@ -447,3 +448,17 @@ returns-in_err-put-clause-sealed g c = let p = err_from_is_err_and c.from_residu
 
 pub returns-in-Err-clause-sealed : goal.returns-in-Err-clause-sealed
 returns-in-Err-clause-sealed g c = tt
+
+pub returns-in-Some-clause-logged : goal.returns-in-Some-clause-logged
+returns-in-Some-clause-logged g c = tt
+
+pub returns-in_err-put-clause-logged : goal.returns-in_err-put-clause-logged
+returns-in_err-put-clause-logged g c = let p = err_from_is_err_and c.from_residual.result c.from_residual.ensures.1 in rw p.1 tt
+
+pub returns-in-Err-clause-logged : goal.returns-in-Err-clause-logged
+returns-in-Err-clause-logged g c = tt
+
+pub returns-clause-logged : goal.returns-clause-logged
+returns-clause-logged g c =
+    put-logged c.args.self.now (layout_of c.schema.result.now) (record { key = c.args.key; values = c.args.values.now; blob = None }) (g.F.Flash.state c.args.flash.now) (g.F.Flash.state c.put.new.flash) (g.F.Flash.state c.log_row.new.flash)
+    (c.schema.ensures.exact ∙ c.in_ok-put.ensures.same.layout) c.in_ok-put.ensures.goes.tells c.in_ok-put.ensures.outside c.in_default-log_row.ensures.page

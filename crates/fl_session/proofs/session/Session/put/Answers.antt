@@ -62,6 +62,7 @@ returns-clause-cause g c =
           power = c.put-outcome.ensures.power;
           quiet = λ none. c.put-outcome.ensures.quiet (ap (λ n. put_refusal c.index_mut.result.now.table c.args.key c.args.values.now n) (sym (map-twice (λ (b : Bor (List ℕ)). b.now) (λ (xs : List ℕ). length xs) c.args.blob)) ∙ none);
           off = λ none. c.put-outcome.ensures.off (ap (λ n. put_refusal c.index_mut.result.now.table c.args.key c.args.values.now n) (sym (map-twice (λ (b : Bor (List ℕ)). b.now) (λ (xs : List ℕ). length xs) c.args.blob)) ∙ none);
+          logged = c.put-outcome.ensures.logged;
           sealed = c.put-outcome.ensures.sealed;
           writes = c.put-outcome.ensures.writes;
           media_reads = c.put-outcome.ensures.media_reads;
