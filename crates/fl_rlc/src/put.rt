@@ -63,7 +63,7 @@ impl<const KNOTS: usize, const SLOTS: usize> LoggedTable<KNOTS, SLOTS> {
         ensures outside { IsTrue (F.state flash.old).media.tells → OutsideStands self.old (page_at (F.state flash.old)) (page_at (F.state flash.new)) }
         // Whatever the flash holds: a seal of each ring at most, and of the variable data those of the pages that the blob fills. If the page was full, its rows are in it then, and the record is on the log's page.
         ensures writes { Writes (MayPut self.old (option_map (λ b. b.now) blob.entry)) 0 (rings_in self.old + most_pages (data_in (table_in self.old)) (option_map (λ b. b.now) blob.entry)) (F.state flash.old) (F.state flash.new) }
-        ensures logged { OnOk result (PutLogged self.old (record { key = key; values = values.now; blob = None }) (F.state flash.old) (F.state flash.new)) }
+        ensures log_page { OnOk result (PutLogged self.old (record { key = key; values = values.now; blob = None }) (F.state flash.old) (F.state flash.new)) }
         ensures sealed { OnOk result ((HasRoom (table_in self.old) → ⊥) → HasMadePage self.old (option_map (λ b. b.now) blob.entry) (F.state flash.old) (F.state flash.new)) }
         ensures reads { (F.state flash.new).work.reads ≡ (F.state flash.old).work.reads }
         ensures media_reads { (F.state flash.new).media.reads ≤ (F.state flash.old).media.reads + rings_in self.old + most_pages (data_in (table_in self.old)) (option_map (λ b. b.now) blob.entry) }

@@ -43,7 +43,7 @@ module _ (step seed n : ℕ) (t u : LoggedTable 64 64) (m g : FlashState) (key :
         logs = subst (λ (r : Row). HaveLogged (layout_in (table_in t)) r (log_in t) (log_in u)) row-is logs;
         quiet = λ none. (quiet accepted none).1;
         power = power;
-        logged = subst (λ (r : Row). PutLogged t r m g) row-is logged;
+        log_page = subst (λ (r : Row). PutLogged t r m g) row-is logged;
         sealed = sealed;
         writes = writes;
         same = same;

@@ -167,7 +167,7 @@ pub record PutSays (old new : State) (key : ℕ) (values : List ℤ) (blob : Opt
   pub quiet : put_refusal entry.table key values (option_map (λ bytes. length bytes) blob) ≡ None → NeedsNoOperation entry.table blob → (outcome ≡ Ok tt) × (new.flash ≡ old.flash)
   pub off : put_refusal entry.table key values (option_map (λ bytes. length bytes) blob) ≡ None → (NeedsNoOperation entry.table blob → ⊥) →
       old.flash.is_on ≡ false → (outcome ≡ Err (put.Flash PowerLost)) × (new.flash ≡ old.flash)
-  pub logged : OnOk outcome (PutLogged entry.table (record { key = key; values = values; blob = None }) old.flash new.flash)
+  pub log_page : OnOk outcome (PutLogged entry.table (record { key = key; values = values; blob = None }) old.flash new.flash)
   pub sealed : OnOk outcome ((HasRoom (table_in entry.table) → ⊥) → HasMadePage entry.table blob old.flash new.flash)
   pub writes : tried.Writes (MayPut entry.table blob) 0 (rings_in entry.table + most_pages (data_in (table_in entry.table)) blob) old.flash new.flash
   pub media_reads : new.flash.media.reads ≤ old.flash.media.reads + rings_in entry.table + most_pages (data_in (table_in entry.table)) blob

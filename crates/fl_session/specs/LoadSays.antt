@@ -49,7 +49,7 @@ pub record LoadsNext (step seed n : ℕ) (t : LoggedTable 64 64) (f : FlashState
   pub logs : HaveLogged (layout_in (table_in t)) (next_row t step seed n) (log_in t) (log_in u)
   pub quiet : NeedsNoOperation t None → g ≡ f
   pub power : f.is_on ≡ true → g.is_on ≡ true
-  pub logged : PutLogged t (next_row t step seed n) f g
+  pub log_page : PutLogged t (next_row t step seed n) f g
   pub sealed : (HasRoom (table_in t) → ⊥) → HasMadePage t None f g
   pub writes : WritesOne t f g
   pub same : IsSamePlan t u

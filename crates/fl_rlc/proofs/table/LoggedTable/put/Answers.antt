@@ -449,16 +449,16 @@ returns-in_err-put-clause-sealed g c = let p = err_from_is_err_and c.from_residu
 pub returns-in-Err-clause-sealed : goal.returns-in-Err-clause-sealed
 returns-in-Err-clause-sealed g c = tt
 
-pub returns-in-Some-clause-logged : goal.returns-in-Some-clause-logged
-returns-in-Some-clause-logged g c = tt
+pub returns-in-Some-clause-log_page : goal.returns-in-Some-clause-log_page
+returns-in-Some-clause-log_page g c = tt
 
-pub returns-in_err-put-clause-logged : goal.returns-in_err-put-clause-logged
-returns-in_err-put-clause-logged g c = let p = err_from_is_err_and c.from_residual.result c.from_residual.ensures.1 in rw p.1 tt
+pub returns-in_err-put-clause-log_page : goal.returns-in_err-put-clause-log_page
+returns-in_err-put-clause-log_page g c = let p = err_from_is_err_and c.from_residual.result c.from_residual.ensures.1 in rw p.1 tt
 
-pub returns-in-Err-clause-logged : goal.returns-in-Err-clause-logged
-returns-in-Err-clause-logged g c = tt
+pub returns-in-Err-clause-log_page : goal.returns-in-Err-clause-log_page
+returns-in-Err-clause-log_page g c = tt
 
-pub returns-clause-logged : goal.returns-clause-logged
-returns-clause-logged g c =
+pub returns-clause-log_page : goal.returns-clause-log_page
+returns-clause-log_page g c =
     put-logged c.args.self.now (layout_of c.schema.result.now) (record { key = c.args.key; values = c.args.values.now; blob = None }) (g.F.Flash.state c.args.flash.now) (g.F.Flash.state c.put.new.flash) (g.F.Flash.state c.log_row.new.flash)
     (c.schema.ensures.exact ∙ c.in_ok-put.ensures.same.layout) c.in_ok-put.ensures.goes.tells c.in_ok-put.ensures.outside c.in_default-log_row.ensures.page
