@@ -14,7 +14,7 @@ use Rattle.fl_ring.specs.Place.{shape_of, next_of, oldest_of, LiesOn}
 use Rattle.fl_ring.specs.Ring.{Shape, place, is_due_at}
 use Rattle.fl_ring.specs.declared.ring.Ring.{Ring}
 use Rattle.fl_ring.specs.Sealing.{ErasesWhere, SealsLast, MarkFails, BodyFails, SealCalls}
-use Rattle.fl_ring.specs.Written.{times, Tries, Writes, done, IsSealedBy, MaySeal, MaySealIn}
+use Rattle.fl_ring.specs.Written.{times, Tries, Writes, done, sealed_over, IsSealedBy, MaySeal, MaySealIn}
 
 times-add : {A : Type 0} (step : A → A) (m n : ℕ) (x : A) → times step (m + n) x ≡ times step n (times step m x)
 times-add step zero n x = ap (λ k. times step k x) (let e : 0 + n ≡ n = omega arith in e)
@@ -228,3 +228,11 @@ few-writes May least most f g h =
     let programs : g.work.programs ≡ times next_count h.programs f.work.programs = ap (λ (w : Work). w.programs) h.tries.work in
     let erases : g.work.erases ≡ times next_count h.erases f.work.erases = ap (λ (w : Work). w.erases) h.tries.work in
     (omega (arith, programs, times-few h.programs f.work.programs, h.most_programs), omega (arith, erases, times-few h.erases f.work.erases, h.most_erases))
+
+-- the same page of the same ring, with the same body
+pub page-as : (r s : Shape) (number next : ℕ) (body rows : List ℕ) (old new : ℕ → List ℕ) → r ≡ s → number ≡ next → body ≡ rows → new (place r number) ≡ sealed_over r body (old (place r number)) →
+    new (place s next) ≡ sealed_over s rows (old (place s next))
+page-as r s number next body rows old new shape at is h =
+    subst (λ (x : Shape). new (place x next) ≡ sealed_over x rows (old (place x next))) shape
+    (subst (λ (n : ℕ). new (place r n) ≡ sealed_over r rows (old (place r n))) at
+    (subst (λ (b : List ℕ). new (place r number) ≡ sealed_over r b (old (place r number))) is h))

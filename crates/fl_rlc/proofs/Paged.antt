@@ -15,7 +15,7 @@ use Rattle.fl_table.specs.Look.{layout_in}
 use Rattle.fl_table.specs.Memory.{ring_shape}
 use Rattle.fl_table.specs.Mounting as mounting
 use Rattle.fl_table.specs.Paged.{IsApart}
-use Rattle.fl_table.proofs.Paged.{page-as}
+use Rattle.fl_ring.proofs.Written.{page-as}
 use Rattle.fl_rlc.specs.Memory.{IsSamePlan, kept_rows, log_shape, next_in, rows_in}
 use Rattle.fl_rlc.specs.Paged.{PutLogged, RowLogged, RowsLogged, log_page}
 use Rattle.fl_rlc.specs.declared.log.RecordLog.{RecordLog}

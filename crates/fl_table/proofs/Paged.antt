@@ -8,14 +8,16 @@ use Rattle.fl_model.specs.Layout.{rows_body}
 use Rattle.fl_model.specs.Record.{RowLayout}
 use Rattle.fl_page.specs.WriterState.{WriterState}
 use Rattle.fl_ring.specs.Mounting.{shape_at}
-use Rattle.fl_ring.specs.Ring.{Shape, place, room}
-use Rattle.fl_ring.specs.Written.{Writes, done, sealed_over}
+use Rattle.fl_ring.specs.Ring.{place, room}
+use Rattle.fl_ring.specs.Written.{Writes, done, sealed_over, MaySealIn}
+use Rattle.fl_ring.specs.declared.ring.Ring.{Ring}
+use Rattle.fl_ring.proofs.Written.{page-as}
 use Rattle.fl_schema.specs.Schema.{layout_of}
 use Rattle.fl_table.specs.Bitmaps as bitmaps
 use Rattle.fl_table.specs.Blobs as variable
 use Rattle.fl_table.specs.Memory.{next_in, ring_shape, HasRoom, IsSamePlan, MaySeal}
 use Rattle.fl_table.specs.Mounting.{rings_in}
-use Rattle.fl_table.specs.Paged.{HasFlushed, HasMadePage, IsApart, RowsPaged, next_page}
+use Rattle.fl_table.specs.Paged.{BlobsPaged, HasFlushed, HasMadePage, IsApart, RowsPaged, next_page}
 use Rattle.fl_table.specs.Stored.{WaitsSame}
 use Rattle.fl_table.specs.declared.table.Table.{Table}
 use Rattle.fl_table.proofs.Counted.{waiting-rows, waits-then}
@@ -23,16 +25,10 @@ use Rattle.fl_table.proofs.MountJoined.{stand-outside}
 use Rattle.fl_table.proofs.Outsides.{blobs-outside, var-outside}
 use Rattle.fl_table.proofs.SealAnswers.{same-then}
 use Rattle.fl_table.proofs.Writing.{fill-moved, put-writes}
-use Rattle.fl_var.specs.Memory.{var_shape}
+use Rattle.fl_var.specs.Content.{content_body}
+use Rattle.fl_var.specs.Memory as memory
+use Rattle.fl_var.specs.Memory.{bytes_page, var_shape, waiting_in, BytesPaged}
 use Rattle.fl_var.specs.declared.var_data.VarData.{VarData}
-
--- the same page of the same ring, with the same body
-pub page-as : (r s : Shape) (number next : ℕ) (body rows : List ℕ) (old new : ℕ → List ℕ) → r ≡ s → number ≡ next → body ≡ rows → new (place r number) ≡ sealed_over r body (old (place r number)) →
-    new (place s next) ≡ sealed_over s rows (old (place s next))
-page-as r s number next body rows old new shape at is h =
-    subst (λ (x : Shape). new (place x next) ≡ sealed_over x rows (old (place x next))) shape
-    (subst (λ (n : ℕ). new (place r n) ≡ sealed_over r rows (old (place r n))) at
-    (subst (λ (b : List ℕ). new (place r number) ≡ sealed_over r b (old (place r number))) is h))
 
 -- rows that wait as they did, for a page that stood
 rows-moved : {KNOTS SLOTS : ℕ} (t u : Table KNOTS SLOTS) (old mid new : ℕ → List ℕ) → IsSamePlan t u → next_in u ≡ next_in t → u.writer ≡ t.writer → u.bitmap ≡ t.bitmap → mid (next_page t) ≡ old (next_page t) →
@@ -60,11 +56,27 @@ rows-paged t a u f m n g tells later first second next index blobs h = λ told a
     var-outside a.blobs (page_at m) (page_at n) (next_page t) (blobs.1 told_then) (blobs-outside t.blobs a.blobs (next_page t) first.blobs apart.blobs) in
     rows-moved t u (page_at f) (page_at n) (page_at g) (same-then t a u first second) next waits.writer waits.bitmap (stands ∙ stood) (h (subst IsTrue (sym later) told_then))
 
+-- .. so does that of the bytes of blobs, between the seals of the index and of the rows
+pub blobs-paged : {KNOTS SLOTS : ℕ} (t a u : Table KNOTS SLOTS) (many least : ℕ) (f m n g : FlashState) → m.media.tells ≡ f.media.tells → n.media.tells ≡ m.media.tells → a.blobs ≡ t.blobs → u.ring ≡ t.ring → Writes (bitmaps.MaySeal t.bitmaps) 0 many f m →
+    IfSome a.blobs (λ var. 1 ≤ length (waiting_in var) → IsTrue m.media.tells → BytesPaged var (page_at m) (page_at n)) → Writes (MaySealIn u.ring) least 1 n g → BlobsPaged t f g
+blobs-paged t a u many least f m n g tells later same ring first paged last =
+    by-blobs t.blobs (subst (λ (o : Option VarData). IfSome o (λ var. 1 ≤ length (waiting_in var) → IsTrue m.media.tells → BytesPaged var (page_at m) (page_at n))) same paged)
+  where
+    by-blobs : (o : Option VarData) → IfSome o (λ var. 1 ≤ length (waiting_in var) → IsTrue m.media.tells → BytesPaged var (page_at m) (page_at n)) →
+        IfSome o (λ var. 1 ≤ length (waiting_in var) → IsTrue f.media.tells → (bitmaps.MaySeal t.bitmaps (bytes_page var) → ⊥) → (MaySealIn t.ring (bytes_page var) → ⊥) → BytesPaged var (page_at f) (page_at g))
+    by-blobs None h = tt
+    by-blobs (Some var) h = λ some told index rows.
+        let told_then = subst IsTrue (sym tells) told in
+        let stood : page_at m (bytes_page var) ≡ page_at f (bytes_page var) = first.tries.stands told (bytes_page var) index in
+        let stands : page_at g (bytes_page var) ≡ page_at n (bytes_page var) =
+        last.tries.stands (subst IsTrue (sym later) told_then) (bytes_page var) (λ may. rows (subst (λ (o : Option Ring). MaySealIn o (bytes_page var)) ring may)) in
+        stands ∙ (h some told_then ∙ ap (λ (page : List ℕ). sealed_over (var_shape var) (content_body (memory.room_in var) (memory.next_in var) (waiting_in var)) page) stood)
+
 -- what a seal tells that was whole
 pub flushed-of : {KNOTS SLOTS : ℕ} (t : Table KNOTS SLOTS) (result : Result (Unit {0}) FlashFault) (f g : FlashState) → Writes (MaySeal t) (done result) (rings_in t) f g →
-    OnOk result (IsTrue f.media.tells → IsApart t (next_page t) → RowsPaged t (page_at f) (page_at g)) → OnOk result ((HasRoom t → ⊥) → HasFlushed t f g)
-flushed-of t (Ok u) f g writes page = λ full. record { writes = writes; page = page }
-flushed-of t (Err e) f g writes page = tt
+    OnOk result (IsTrue f.media.tells → IsApart t (next_page t) → RowsPaged t (page_at f) (page_at g)) → OnOk result (BlobsPaged t f g) → OnOk result ((HasRoom t → ⊥) → HasFlushed t f g)
+flushed-of t (Ok u) f g writes page blobs = λ full. record { writes = writes; page = page; blobs = blobs }
+flushed-of t (Err e) f g writes page blobs = tt
 
 -- a page outside of the variable data isn't one that a blob may fill
 not-filled : (blob : Option (List ℕ)) (blobs : Option VarData) (page : ℕ) → IfSome blobs (λ var. bitmaps.IsOutside (var_shape var) page) → variable.MayFill blob blobs page → ⊥

@@ -1,5 +1,5 @@
 // The variable data of a table, where it has any.
-ghost use Rattle.std.specs.Prelude.{◌≡◌, ◌+◌, ◌*◌, ◌≤◌, ℕ, Bool, Ok, None, IsTrue, ◌&&◌, true, is_some, is_ok, option_map, length, IfOk, IfErr, OnOk};
+ghost use Rattle.std.specs.Prelude.{◌≡◌, ◌+◌, ◌*◌, ◌≤◌, ℕ, Bool, Ok, None, IsTrue, ◌&&◌, true, is_some, is_ok, option_map, length, IfSome, IfOk, IfErr, OnOk};
 ghost use Rattle.fl_flash.specs.Flash.{Goes, OffChangesNothing, page_at};
 ghost use Rattle.fl_model.specs.Record.{Plan, Record};
 ghost use Rattle.fl_model.specs.Table as model;
@@ -14,6 +14,7 @@ ghost use Rattle.fl_table.specs.Causes.{MountCausedBy, OffFailsAs};
 ghost use Rattle.fl_table.specs.MountLimits.{IsVarLimited};
 ghost use Rattle.fl_table.specs.Mounting.{FewReads, FewRepairs};
 ghost use Rattle.fl_table.specs.Blobs.{AreSamePlan, LieOn, AreRunning, AreEmpty, MayFill, MaySeal, NumbersLeft, RestEndsOf, PlaceEndsOf, StandOutside, next_of, next_after, rings_of, room_of, HasFew, HavePlaced, pages_for, placed_in, FitsRow};
+ghost use Rattle.fl_var.specs.Memory.{waiting_in, BytesPaged};
 
 use crate::MountFault;
 use crate::blob_end::least_of;
@@ -116,6 +117,7 @@ pub(crate) fn seal_rest<F: Flash>(
     ensures off { OffFailsAs FlashFault.PowerLost (F.state flash.old) result (F.state flash.new) }
     ensures quiet { AreEmpty blobs.old → (result ≡ Ok tt) × (F.state flash.new ≡ F.state flash.old) }
     ensures outside { IsTrue (F.state flash.old).media.tells → StandOutside blobs.old (page_at (F.state flash.old)) (page_at (F.state flash.new)) }
+    ensures page { IfSome blobs.old (λ var. 1 ≤ length (waiting_in var) → OnOk result (IsTrue (F.state flash.old).media.tells → BytesPaged var (page_at (F.state flash.old)) (page_at (F.state flash.new)))) }
     ensures writes { Writes (MaySeal blobs.old) 0 (rings_of blobs.old) (F.state flash.old) (F.state flash.new) }
     ensures reads { (F.state flash.new).work.reads ≡ (F.state flash.old).work.reads }
     ensures media_reads { (F.state flash.new).media.reads ≤ (F.state flash.old).media.reads + rings_of blobs.old }

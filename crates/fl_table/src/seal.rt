@@ -1,5 +1,5 @@
 // The seal of a table: a full list of bitmaps, the bytes of blobs that wait, and the pending rows.
-ghost use Rattle.std.specs.Prelude.{◌≡◌, ◌≤◌, ◌+◌, ◌-◌, ◌<◌, ◌%◌, ◌==◌, [], ◌∷◌, true, false, length, map, count_by, slice_index, slice_set, IsTrue, OnOk, OnErr, IfErr};
+ghost use Rattle.std.specs.Prelude.{◌≡◌, ◌≤◌, ◌+◌, ◌-◌, ◌<◌, ◌%◌, ◌==◌, [], ◌∷◌, true, false, length, map, count_by, slice_index, slice_set, IsTrue, IfSome, OnOk, OnErr, IfErr};
 ghost use Rattle.std.specs.List.{range_with_len};
 ghost use Rattle.fl_flash.specs.Flash.{Goes, OffChangesNothing, page_at};
 ghost use Rattle.fl_frame.specs.Causes.{CausedBy};
@@ -31,7 +31,8 @@ impl<const KNOTS: usize, const SLOTS: usize> Table<KNOTS, SLOTS> {
     ghost use Rattle.fl_table.specs.Causes.{OffFailsAs};
     ghost use Rattle.fl_table.specs.Mounting.{OutsideStands, rings_in};
     ghost use Rattle.fl_table.specs.Outcomes.{SealsEnd};
-    ghost use Rattle.fl_table.specs.Paged.{IsApart, RowsPaged, next_page};
+    ghost use Rattle.fl_table.specs.Paged.{BlobsPaged, IsApart, RowsPaged, next_page};
+    ghost use Rattle.fl_var.specs.Memory.{waiting_in, BytesPaged};
     ghost use Rattle.fl_table.specs.Stored.{HasCounted, IsEmptied, WaitsSame};
 
     /// Seals the table: the waiting entries, where they fill an index page, the blob bytes that wait, and then the pending
@@ -54,6 +55,7 @@ impl<const KNOTS: usize, const SLOTS: usize> Table<KNOTS, SLOTS> {
         ensures stopped { OnErr result ((is_running self.new ≡ false) × (is_stopped self.new ≡ true)) }
         ensures outside { IsTrue (F.state flash.old).media.tells → OutsideStands self.old (page_at (F.state flash.old)) (page_at (F.state flash.new)) }
         ensures page { OnOk result (IsTrue (F.state flash.old).media.tells → IsApart self.old (next_page self.old) → RowsPaged self.old (page_at (F.state flash.old)) (page_at (F.state flash.new))) }
+        ensures blob_page { OnOk result (BlobsPaged self.old (F.state flash.old) (F.state flash.new)) }
         ensures writes { Writes (MaySeal self.old) (done result) (rings_in self.old) (F.state flash.old) (F.state flash.new) }
         ensures reads { (F.state flash.new).work.reads ≡ (F.state flash.old).work.reads }
         ensures media_reads { (F.state flash.new).media.reads ≤ (F.state flash.old).media.reads + rings_in self.old }
@@ -125,6 +127,7 @@ impl<const KNOTS: usize, const SLOTS: usize> Table<KNOTS, SLOTS> {
         ensures stopped { OnErr result ((is_running self.new ≡ false) × (is_stopped self.new ≡ true)) }
         ensures outside { IsTrue (F.state flash.old).media.tells → OutsideStands self.old (page_at (F.state flash.old)) (page_at (F.state flash.new)) }
         ensures still { WaitsSame self.old self.new × (IsTrue (F.state flash.old).media.tells → variable.StandOutside self.old.blobs (page_at (F.state flash.old)) (page_at (F.state flash.new))) }
+        ensures page { IfSome self.old.blobs (λ var. 1 ≤ length (waiting_in var) → OnOk result (IsTrue (F.state flash.old).media.tells → BytesPaged var (page_at (F.state flash.old)) (page_at (F.state flash.new)))) }
         ensures writes { Writes (variable.MaySeal self.old.blobs) 0 (variable.rings_of self.old.blobs) (F.state flash.old) (F.state flash.new) }
         ensures reads { (F.state flash.new).work.reads ≡ (F.state flash.old).work.reads }
         ensures media_reads { (F.state flash.new).media.reads ≤ (F.state flash.old).media.reads + variable.rings_of self.old.blobs }

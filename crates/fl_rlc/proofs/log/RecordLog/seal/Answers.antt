@@ -11,9 +11,8 @@ use Rattle.fl_ring.specs.Place.{StandsFor, next_of, shape_of}
 use Rattle.fl_ring.specs.Ring.{Shape, OutsideStands, oldest, place, sealed}
 use Rattle.fl_ring.specs.Sealing.{Performed}
 use Rattle.fl_ring.specs.Written.{done}
-use Rattle.fl_ring.proofs.Written.{held-writes}
+use Rattle.fl_ring.proofs.Written.{held-writes, page-as}
 use Rattle.fl_index.proofs.SealAnswers.{seal-on}
-use Rattle.fl_table.proofs.Paged.{page-as}
 use Rattle.fl_rlc.specs.Memory.{log_shape, next_in}
 use Rattle.fl_rlc.specs.Pages.{log_body}
 use Rattle.fl_rlc.proofs.SealsInTable.{seal-breaks, seal-finishes, seal-err, ready, pages-size, next-is}

@@ -1,7 +1,7 @@
 use Rattle.std.proofs.Common.{◌≡◌, ◌+◌, ◌≤◌, true, Option, Result, ◌∷◌, [], ◌++◌, List, Err, IsTrue, arith, sym, ◌∙◌, ap, subst, ℕ}
 use Rattle.std.proofs.lemmas.Result.{err_from_is_err_and, on_err_weaker, IfErr-weaker}
 use Rattle.fl_model.specs.Table.{RingName, DataRing, after_seals}
-use Rattle.fl_table.specs.Bitmaps.{HaveRoom, bitmap_seals, next_of}
+use Rattle.fl_table.specs.Bitmaps.{HaveRoom, bitmap_seals, next_of, rings_of}
 use Rattle.fl_table.specs.Blobs as variable
 use Rattle.fl_table.specs.Blobs.{rest_seals}
 use Rattle.fl_table.specs.Outcomes.{SealsEnd}
@@ -18,10 +18,10 @@ use Rattle.fl_table.proofs.PowerOff.{off-then}
 use Rattle.fl_table.proofs.Sizes.{table-fits}
 use Rattle.fl_table.specs.Memory.{is_stopped, next_in}
 use Rattle.fl_var.specs.declared.var_data.VarData.{VarData}
-use Rattle.fl_table.specs.Paged.{IsApart, RowsPaged, next_page}
+use Rattle.fl_table.specs.Paged.{BlobsPaged, IsApart, RowsPaged, next_page}
 use Rattle.fl_table.specs.Stored.{HasCounted, IsEmptied}
 use Rattle.fl_table.proofs.Counted.{counted-then, waits-then}
-use Rattle.fl_table.proofs.Paged.{rows-paged}
+use Rattle.fl_table.proofs.Paged.{blobs-paged, rows-paged}
 use Rattle.fl_table.proofs.Stored.{pending-none}
 use Rattle.fl_table.proofs.Untouched.{on-both, on-ok, on-err, no-success}
 use Rattle.fl_ring.specs.Written.{done}
@@ -361,3 +361,23 @@ returns-clause-page g c =
     let then = c.in_ok-seal_blobs.ensures in
     on-ok c.seal_rows.result (IsTrue n.media.tells → RowsPaged u (page_at n) (page_at new)) (IsTrue f.media.tells → IsApart t (next_page t) → RowsPaged t (page_at f) (page_at new))
     (rows-paged t c.seal_bitmaps.new.self u f m n new first.goes.tells then.goes.tells first.same then.same (then.next ∙ first.next) first.still then.still) c.seal_rows.ensures.page
+
+pub returns-in_err-seal_bitmaps-clause-blob_page : goal.returns-in_err-seal_bitmaps-clause-blob_page
+returns-in_err-seal_bitmaps-clause-blob_page g c = no-success _ _ c.from_residual.result c.from_residual.ensures.1
+
+pub returns-in_err-seal_blobs-clause-blob_page : goal.returns-in_err-seal_blobs-clause-blob_page
+returns-in_err-seal_blobs-clause-blob_page g c = no-success _ _ c.from_residual-in_err-seal_blobs.result c.from_residual-in_err-seal_blobs.ensures.1
+
+pub returns-clause-blob_page : goal.returns-clause-blob_page
+returns-clause-blob_page g c =
+    let t = c.args.self.now in
+    let u = c.seal_blobs.new.self in
+    let f = g.F.Flash.state c.args.flash.now in
+    let m = g.F.Flash.state c.seal_bitmaps.new.flash in
+    let n = g.F.Flash.state c.seal_blobs.new.flash in
+    let new = g.F.Flash.state c.seal_rows.new.flash in
+    let first = c.in_ok-seal_bitmaps.ensures in
+    let then = c.in_ok-seal_blobs.ensures in
+    on-ok c.seal_rows.result (next_in c.seal_rows.new.self ≡ next_in u + 1) (BlobsPaged t f new)
+    (λ next. blobs-paged t c.seal_bitmaps.new.self u (rings_of t.bitmaps) (done c.seal_rows.result) f m n new first.goes.tells then.goes.tells first.blobs (then.ring ∙ first.ring) first.writes then.page c.seal_rows.ensures.writes)
+    c.seal_rows.ensures.next

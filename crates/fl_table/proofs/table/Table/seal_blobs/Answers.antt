@@ -295,3 +295,9 @@ returns-in-Err-clause-still g c = (record { writer = refl; bitmap = refl; counts
 
 pub returns-clause-still : goal.returns-clause-still
 returns-clause-still g c = (record { writer = refl; bitmap = refl; counts = refl; voids = refl; index = refl }, c.in_default.ensures.outside)
+
+pub returns-in-Err-clause-page : goal.returns-in-Err-clause-page
+returns-in-Err-clause-page g c = c.in-Err.ensures.page
+
+pub returns-clause-page : goal.returns-clause-page
+returns-clause-page g c = c.in_default.ensures.page

@@ -37,9 +37,8 @@ use Rattle.fl_table.specs.Look.{oldest_in}
 use Rattle.fl_table.proofs.Counted.{learned-as, left-out-as, voids-left}
 use Rattle.fl_table.proofs.Finds.{next-in, oldest-in}
 use Rattle.fl_table.proofs.Sizes.{table-fits, index-fits}
-use Rattle.fl_ring.proofs.Written.{held-writes}
+use Rattle.fl_ring.proofs.Written.{held-writes, page-as}
 use Rattle.fl_table.specs.Memory.{next_in, ring_shape}
-use Rattle.fl_table.proofs.Paged.{page-as}
 use Rattle.fl_table.proofs.table.Table.seal_rows.Goals as goal
 
 pub note-requires-clause-some : goal.note-requires-clause-some
