@@ -1,8 +1,8 @@
 -- The pages that a seal keeps have the bytes that they had.
-use Rattle.std.proofs.Common.{◌≡◌, ℕ, ◌+◌, ◌-◌, ◌*◌, ◌≤◌, ◌<◌, Bool, true, false, if◌then◌else◌, IsTrue, List, [], ◌∷◌, ◌++◌, length, drop, Option, Some, Result, Ok, Err, OnOk, inl, inr, refl, sym, ◌∙◌, ap, subst, arith, length-append, length-drop}
+use Rattle.std.proofs.Common.{◌≡◌, ℕ, ◌+◌, ◌-◌, ◌*◌, ◌≤◌, ◌<◌, Bool, true, false, if◌then◌else◌, IsTrue, List, [], ◌∷◌, ◌++◌, length, drop, Option, Some, Result, Ok, Err, OnOk, inl, inr, refl, sym, ◌∙◌, ap, subst, arith, replicate, length-append, length-drop}
 use Rattle.std.proofs.lemmas.Bool.{cases_Bool}
 use Rattle.std.proofs.lemmas.List.{length-map}
-use Rattle.fl_flash.specs.Flash.{FlashState, page_at, Erased}
+use Rattle.fl_flash.specs.Flash.{FlashState, page_at, programmed, Erased}
 use Rattle.fl_flash.specs.declared.flash.FlashFault.{FlashFault}
 use Rattle.fl_ring.specs.declared.ring.Ring.{Ring}
 use Rattle.fl_ring.specs.Counts.{page_count, ring_counts}
@@ -11,6 +11,7 @@ use Rattle.fl_ring.specs.Place.{shape_of, LiesOn}
 use Rattle.fl_ring.specs.Repairing.{ahead_first}
 use Rattle.fl_ring.specs.Ring.{Shape, RingState, IsShape, IsRing, count, oldest, place, is_due_at, is_due, appended, sealed, erased}
 use Rattle.fl_ring.specs.Sealing.{IsReady, ErasesWhere, SealsLast, SealCalls}
+use Rattle.fl_ring.specs.Written.{sealed_over}
 use Rattle.fl_ring.proofs.NumbersAfterSeal.{due_as}
 use Rattle.fl_ring.proofs.Clean.{places_apart, ahead_place, outside}
 use Rattle.fl_ring.proofs.Facts.{Due, due_true, due_count, two_blocks, sizes, room_left}
@@ -56,6 +57,12 @@ erase_leaves r next true marked new q ends told block clear =
     let gone = subst (λ (b : ℕ). Erased (page_at marked) (ends.block * b) b marked.geometry.page (page_at new)) block (ends.erases.ok told) in
     outside (page_at marked) (page_at new) (ends.block * r.per_block) r.per_block marked.geometry.page q gone (λ k lt is. clear refl k lt (is ∙ ap (λ (a : ℕ). a + k) ends.at))
 
+-- the page that is sealed isn't in the block ahead
+next_apart : (r : Shape) (next kept : ℕ) → IsShape r → is_due_at r (next + 1) kept ≡ true → (k : ℕ) → k < r.per_block → place r next ≡ ahead_first r (next + 1) + k → ⊥
+next_apart r next kept shape e k lt is =
+    let due = due_true r (next + 1) kept shape e in
+    places_apart r next (next + 1 + 1 + k) (omega arith) (omega (arith, lt, two_blocks r shape, sizes r shape, shape.per_block)) (is ∙ sym (ahead_place r (next + 1) k shape due.last lt))
+
 module _ (ring : Ring) (body : List ℕ) (old new : FlashState) (lies : LiesOn ring old) where
   abbrev due : Bool
   due = is_due_at (shape_of ring) (ring.next + 1) (ring.next + 1 - ring.oldest)
@@ -80,6 +87,23 @@ module _ (ring : Ring) (body : List ℕ) (old new : FlashState) (lies : LiesOn r
   seal_keeps (Ok u) (inl last) = all_keep last
   seal_keeps (Ok u) (inr (inl fails)) = absurd (let e = fails.fails in cc e)
   seal_keeps (Ok u) (inr (inr fails)) = absurd (let e = fails.fails in cc e)
+
+  -- the page that is sealed has its body and its mark over what it held
+  all_here : SealsLast (shape_of ring) ring.next due body old (Ok tt) new → IsTrue old.media.tells → page_at new (place (shape_of ring) ring.next) ≡ sealed_over (shape_of ring) body (page_at old (place (shape_of ring) ring.next))
+  all_here last told =
+      let r = shape_of ring in
+      let told_then = subst IsTrue (sym last.body_first.goes.tells) told in
+      let told_later = subst IsTrue (sym last.mark_then.goes.tells) told_then in
+      let block : last.marked.geometry.block ≡ ring.per_block = ap (λ g. g.block) (last.mark_then.goes.geometry ∙ last.body_first.goes.geometry) ∙ lies.block in
+      erase_leaves r ring.next due last.marked new (place r ring.next) last.erase_last told_later block (λ e. next_apart r ring.next (ring.next + 1 - ring.oldest) ring.served e)
+      ∙ ((last.mark_then.ok told_then).here ∙ ap (λ (page : List ℕ). programmed page (r.size - 8) (replicate 4 0)) (last.body_first.ok told).here)
+
+  pub seal_here : (result : Result (Unit {0}) FlashFault) → SealCalls (shape_of ring) ring.next due body old result new
+      → OnOk result (IsTrue old.media.tells → page_at new (place (shape_of ring) ring.next) ≡ sealed_over (shape_of ring) body (page_at old (place (shape_of ring) ring.next)))
+  seal_here (Err e) calls = tt
+  seal_here (Ok u) (inl last) = all_here last
+  seal_here (Ok u) (inr (inl fails)) = absurd (let e = fails.fails in cc e)
+  seal_here (Ok u) (inr (inr fails)) = absurd (let e = fails.fails in cc e)
 
 -- the same of the ring as the model has it
 pub seal_stands : (count_of : List ℕ → ℕ) (r : Shape) (s : RingState) (body : List ℕ) (old_at new_at : ℕ → List ℕ) → IsShape r → IsRing r s

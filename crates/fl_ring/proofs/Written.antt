@@ -14,11 +14,22 @@ use Rattle.fl_ring.specs.Place.{shape_of, next_of, oldest_of, LiesOn}
 use Rattle.fl_ring.specs.Ring.{Shape, place, is_due_at}
 use Rattle.fl_ring.specs.declared.ring.Ring.{Ring}
 use Rattle.fl_ring.specs.Sealing.{ErasesWhere, SealsLast, MarkFails, BodyFails, SealCalls}
-use Rattle.fl_ring.specs.Written.{times, Tries, Writes, done, IsSealedBy, MaySeal, MaySealIn}
+use Rattle.fl_ring.specs.Written.{times, Tries, Writes, done, sealed_over, IsSealedBy, MaySeal, MaySealIn}
 
 times-add : {A : Type 0} (step : A → A) (m n : ℕ) (x : A) → times step (m + n) x ≡ times step n (times step m x)
 times-add step zero n x = ap (λ k. times step k x) (let e : 0 + n ≡ n = omega arith in e)
 times-add step (suc m) n x = ap (λ k. times step k x) (let e : suc m + n ≡ suc (m + n) = omega arith in e) ∙ times-add step m n (step x)
+
+no-more : (x : ℕ) → x ≤ x + 0
+no-more x = omega arith
+
+one-more : (x n m : ℕ) → m ≤ next_count x + n → m ≤ x + suc n
+one-more x n m le = omega (arith, le)
+
+-- a count rises by one at most each time
+times-few : (n x : ℕ) → times next_count n x ≤ x + n
+times-few zero x = no-more x
+times-few (suc n) x = one-more x n (times next_count n (next_count x)) (times-few n (next_count x))
 
 pub tries-none : (May : ℕ → Type 0) (f : FlashState) → Tries May 0 0 f f
 tries-none May f = record { work = refl; armed = refl; stands = λ told page may. refl }
@@ -210,3 +221,18 @@ ring-writes ring body old lies result new calls = seal-writes (shape_of ring) (n
 pub held-writes : (held : Option Ring) (ring : Ring) (least many : ℕ) (old new : FlashState) → held ≡ Some ring → many ≤ least → Writes (MaySeal ring) least 1 old new → Writes (MaySealIn held) many 1 old new
 held-writes held ring least many old new has few h =
     writes-wider (MaySeal ring) (MaySealIn held) least many 1 1 old new (λ page may. subst (λ (o : Option Ring). MaySealIn o page) (sym has) may) few (omega arith) h
+
+-- so often seals program and erase at most
+pub few-writes : (May : ℕ → Type 0) (least most : ℕ) (f g : FlashState) → Writes May least most f g → (g.work.programs ≤ f.work.programs + 2 * most) × (g.work.erases ≤ f.work.erases + most)
+few-writes May least most f g h =
+    let programs : g.work.programs ≡ times next_count h.programs f.work.programs = ap (λ (w : Work). w.programs) h.tries.work in
+    let erases : g.work.erases ≡ times next_count h.erases f.work.erases = ap (λ (w : Work). w.erases) h.tries.work in
+    (omega (arith, programs, times-few h.programs f.work.programs, h.most_programs), omega (arith, erases, times-few h.erases f.work.erases, h.most_erases))
+
+-- the same page of the same ring, with the same body
+pub page-as : (r s : Shape) (number next : ℕ) (body rows : List ℕ) (old new : ℕ → List ℕ) → r ≡ s → number ≡ next → body ≡ rows → new (place r number) ≡ sealed_over r body (old (place r number)) →
+    new (place s next) ≡ sealed_over s rows (old (place s next))
+page-as r s number next body rows old new shape at is h =
+    subst (λ (x : Shape). new (place x next) ≡ sealed_over x rows (old (place x next))) shape
+    (subst (λ (n : ℕ). new (place r n) ≡ sealed_over r rows (old (place r n))) at
+    (subst (λ (b : List ℕ). new (place r number) ≡ sealed_over r b (old (place r number))) is h))

@@ -1,7 +1,7 @@
 -- What seals change of a flash, over any bytes.
-use Rattle.std.specs.Prelude.{◌≡◌, ◌⊎◌, ℕ, zero, suc, ◌+◌, ◌-◌, ◌*◌, ◌<◌, ◌≤◌, Bool, IsTrue, Option, Result, Ok, Err}
+use Rattle.std.specs.Prelude.{◌≡◌, ◌⊎◌, ℕ, zero, suc, ◌+◌, ◌-◌, ◌*◌, ◌<◌, ◌≤◌, Bool, IsTrue, Option, Result, Ok, Err, List, replicate}
 use Rattle.std.specs.Option.{IsSomeAnd}
-use Rattle.fl_flash.specs.Flash.{FlashState, page_at}
+use Rattle.fl_flash.specs.Flash.{FlashState, page_at, programmed}
 use Rattle.fl_flash.specs.Media.{next_count}
 use Rattle.fl_flash.specs.Tear.{armed_after}
 use Rattle.fl_ring.specs.Place.{shape_of, next_of, oldest_of}
@@ -33,6 +33,10 @@ pub record Writes (May : ℕ → Type 0) (least most : ℕ) (old new : FlashStat
 abbrev pub done : {A E : Type 0} → Result A E → ℕ
 done (Ok x) = 1
 done (Err e) = 0
+
+-- a page of a ring over which this body and the mark of a commit were programmed
+abbrev pub sealed_over : Shape → List ℕ → List ℕ → List ℕ
+sealed_over r body page = programmed (programmed page 0 body) (r.size - 8) (replicate 4 0)
 
 -- The pages that a seal changes: the next one, and those of the block ahead of the page after it where the oldest block goes.
 abbrev pub IsSealedBy : Shape → ℕ → Bool → ℕ → Type 0

@@ -4,11 +4,11 @@ ghost use Rattle.fl_flash.specs.Flash.{page_at, Goes, OffChangesNothing};
 ghost use Rattle.fl_model.specs.Work.{Device};
 ghost use Rattle.fl_frame.specs.Causes.{CausedBy};
 ghost use Rattle.fl_ring.specs.Newest.{number_of};
-ghost use Rattle.fl_ring.specs.Place.{shape_of, next_of, oldest_of, StandsFor, LiesOn};
+ghost use Rattle.fl_ring.specs.Place.{shape_of, next_of, oldest_of, oldest_after, StandsFor, LiesOn};
 ghost use Rattle.fl_ring.specs.Ring.{RingState, IsRing, OutsideStands, oldest, place, is_due_at, sealed, erased};
 ghost use Rattle.fl_ring.specs.Sealing.{IsReady, Seals, SealWork, SealCalls};
 ghost use Rattle.fl_frame.specs.Watched.{IsWatched};
-ghost use Rattle.fl_ring.specs.Written.{MaySeal, Writes, done};
+ghost use Rattle.fl_ring.specs.Written.{MaySeal, Writes, done, sealed_over};
 
 use crate::ring::Ring;
 use fl_flash::{Flash, FlashFault};
@@ -24,6 +24,7 @@ impl Ring {
         ensures goes { Goes (F.state flash.old) (F.state flash.new) }
         ensures same { shape_of self.new ≡ shape_of self.old }
         ensures next { OnOk result (next_of self.new ≡ next_of self.old + 1) }
+        ensures kept_from { OnOk result (oldest_of self.new ≡ oldest_after self.old) }
         ensures lies { OnOk result (LiesOn self.new (F.state flash.new)) }
         ensures seals { (s : RingState) → (rose : Bool) → (device : Device) → IsReady self.old (F.state flash.old) s → IsWatched (F.state flash.old) (F.state flash.new) rose device
             → Seals s body.now rose device self.old result self.new (F.state flash.new) }
@@ -32,6 +33,7 @@ impl Ring {
         ensures numbers { OnOk result ((s : RingState) → StandsFor self.old s → IsRing (shape_of self.old) s → StandsFor self.new (erased (sealed (shape_of self.old) s body.now))) }
         ensures keeps { OnOk result (IsTrue (F.state flash.old).media.tells → (s : RingState) → IsReady self.old (F.state flash.old) s → (n : ℕ) → oldest (sealed (shape_of self.old) s body.now) ≤ n → n < s.next
             → page_at (F.state flash.new) (place (shape_of self.old) n) ≡ page_at (F.state flash.old) (place (shape_of self.old) n)) }
+        ensures page { OnOk result (IsTrue (F.state flash.old).media.tells → page_at (F.state flash.new) (place (shape_of self.old) (next_of self.old)) ≡ sealed_over (shape_of self.old) body.now (page_at (F.state flash.old) (place (shape_of self.old) (next_of self.old)))) }
         ensures outside { IsTrue (F.state flash.old).media.tells → OutsideStands (shape_of self.old) (page_at (F.state flash.old)) (page_at (F.state flash.new)) }
         ensures cause { IfErr result (λ e. CausedBy (F.state flash.old) e (F.state flash.new)) }
         ensures off { OffChangesNothing (F.state flash.old) result (F.state flash.new) }

@@ -34,6 +34,8 @@ pub mod Alone
 pub mod PutEnded
 pub mod FlushEnded
 pub mod PutFrames
+pub mod Written
+pub mod Paged
 pub mod Powered
 pub mod PowerOff
 pub mod Sizes

@@ -12,7 +12,7 @@ by-key : {KNOTS SLOTS : ℕ} (t u : Table KNOTS SLOTS) (key : ℕ) (values : Lis
 by-key t u key values row same h =
     let k = subst (λ (n : ℕ). IsOffered t (record { key = n; values = values; blob = None }) u) same.0 h in
     let o = subst (λ (vs : List ℤ). IsOffered t (record { key = row.key; values = vs; blob = None }) u) same.1 k in
-    record { refused = o.refused; last = o.last; pending = o.pending; rows = o.rows }
+    record { refused = o.refused; joins = o.joins }
 
 -- the next of a list
 offered-first : {KNOTS SLOTS : ℕ} (i : ℕ) (rows : List Row) (t u after : Table KNOTS SLOTS) (key : ℕ) (values : List ℤ) → IsSomeAnd (slice_get rows i) (λ row. (key ≡ row.key) × (values ≡ row.values)) →

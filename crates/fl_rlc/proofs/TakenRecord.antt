@@ -1,5 +1,5 @@
 -- A record that is put where there is room for it joins its table, or is refused: the flash stays in either case.
-use Rattle.std.proofs.Common.{◌≡◌, ℕ, ◌+◌, ◌-◌, ◌*◌, ◌/◌, ◌<◌, ◌≤◌, Bool, true, false, Option, Some, None, is_some, Result, Ok, Err, List, [], ◌∷◌, ◌++◌, length, map, refl, sym, ◌∙◌, ap, subst, arith}
+use Rattle.std.proofs.Common.{◌≡◌, ℕ, ◌+◌, ◌-◌, ◌*◌, ◌/◌, ◌<◌, ◌≤◌, Bool, true, false, Option, Some, None, is_some, Result, Ok, Err, List, length, map, refl, sym, ◌∙◌, ap, subst, arith}
 use Rattle.std.proofs.Math.IntN.{ℤ}
 use Rattle.std.proofs.Math.Nat.{le-div_iff_mul-le, add-mul, mul-le-mul_right}
 use Rattle.std.proofs.lemmas.List.{length-map}
@@ -10,7 +10,7 @@ use Rattle.fl_model.specs.Bare.{bare}
 use Rattle.fl_model.specs.Facts.{FitsPlan, BlobFits, is_some_ring}
 use Rattle.fl_model.specs.Record.{Record, Plan, row_layout, layout_len, rows_per_page}
 use Rattle.fl_model.specs.Ring.{Ring}
-use Rattle.fl_model.specs.Row.{Row, stored_row}
+use Rattle.fl_model.specs.Row.{stored_row}
 use Rattle.fl_model.specs.Table as model
 use Rattle.fl_model.specs.Table.{Entry, pending_entries}
 use Rattle.fl_model.specs.Work.{Device}
@@ -18,13 +18,14 @@ use Rattle.fl_table.specs.BlobAt.{has_blobs}
 use Rattle.fl_table.specs.Blobs as variable
 use Rattle.fl_table.specs.Blobs.{pages_for}
 use Rattle.fl_table.specs.Causes.{put_breaks, RefusedSame}
-use Rattle.fl_table.specs.Look.{last_key_in, layout_in}
-use Rattle.fl_table.specs.Memory.{HasRoom, pending_in, PendingAre}
+use Rattle.fl_table.specs.Look.{layout_in}
+use Rattle.fl_table.specs.Memory.{HasRoom, pending_in}
 use Rattle.fl_page.specs.Header.{page_count}
 use Rattle.fl_page.specs.Page.{IsGoodPage}
 use Rattle.fl_table.specs.Outcomes.{PutEnds}
 use Rattle.fl_table.specs.Refusal.{put_refusal, RefusesAs}
 use Rattle.fl_table.specs.Standing.{Stands}
+use Rattle.fl_table.specs.Stored.{Stores}
 use Rattle.fl_table.specs.declared.faults.PutRefusal.{PutRefusal}
 use Rattle.fl_table.specs.declared.faults.PutRefusal.TheVariants as put
 use Rattle.fl_table.specs.declared.table.Table.{Table}
@@ -138,10 +139,8 @@ module _ {KNOTS SLOTS : ℕ} (t u : Table KNOTS SLOTS) (f g : FlashState) (key :
       by-end (Refused e is kept u_is same) = same
 
   -- the record was offered
-  pub offers : OnOk result (last_key_in u ≡ Some key) → OnOk result (HasRoom t → pending_in u ≡ pending_in t + 1) →
-      OnOk result (HasRoom t → ◌≡◌ {A = Option (List ℕ)} None None → (rows : List Row) → PendingAre t rows → PendingAre u (rows ++ (record { key = key; values = values; blob = None }) ∷ [])) →
-      IsOffered t (record { key = key; values = values; blob = None }) u
-  offers last pending rows = by-end ends
+  pub offers : OnOk result (Stores t key values None u) → IsOffered t (record { key = key; values = values; blob = None }) u
+  offers stores = by-end ends
     where
       some-refused : (e : PutRefusal) → result ≡ Err e → put_refusal t key values None ≡ None → put_breaks (Err e) ≡ false → ⊥
       some-refused e is accepted calm = no (sym is ∙ (quiet accepted room (no-pages t.blobs)).0)
@@ -158,16 +157,11 @@ module _ {KNOTS SLOTS : ℕ} (t u : Table KNOTS SLOTS) (f g : FlashState) (key :
       by-end : Ends → IsOffered t (record { key = key; values = values; blob = None }) u
       by-end (Done is same) = record {
         refused = λ e refusal. absurd (not-refused e is refusal);
-        last = λ accepted. subst (λ (x : Result (Unit {0}) PutRefusal). OnOk x (last_key_in u ≡ Some key)) is last;
-        pending = λ accepted. subst (λ (x : Result (Unit {0}) PutRefusal). OnOk x (HasRoom t → pending_in u ≡ pending_in t + 1)) is pending room;
-        rows = λ accepted.
-            subst (λ (x : Result (Unit {0}) PutRefusal). OnOk x (HasRoom t → ◌≡◌ {A = Option (List ℕ)} None None → (rows : List Row) → PendingAre t rows → PendingAre u (rows ++ (record { key = key; values = values; blob = None }) ∷ []))) is rows room refl;
+        joins = λ accepted. let stored : Stores t key values None u = subst (λ (x : Result (Unit {0}) PutRefusal). OnOk x (Stores t key values None u)) is stores in stored.room room;
       }
       by-end (Refused e is kept u_is same) = record {
         refused = λ e refusal. u_is;
-        last = λ accepted. absurd (some-refused e is accepted kept);
-        pending = λ accepted. absurd (some-refused e is accepted kept);
-        rows = λ accepted. absurd (some-refused e is accepted kept);
+        joins = λ accepted. absurd (some-refused e is accepted kept);
       }
 
   -- what it leaves of the table

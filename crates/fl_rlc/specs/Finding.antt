@@ -9,12 +9,14 @@ use Rattle.fl_frame.specs.Causes.{CausedBy, ReadFails}
 use Rattle.fl_ring.specs.Finding.{FoundFault}
 use Rattle.fl_frame.specs.Reads.{OnlyReads}
 use Rattle.fl_ring.specs.Mounting.{FailsAs}
+use Rattle.fl_ring.specs.Written.{Writes}
 use Rattle.fl_ring.specs.declared.fault.RingFault.{RingFault}
 use Rattle.fl_ring.specs.declared.newest.NewestPage.{NewestPage}
 use Rattle.fl_table.specs.BlobAt.{data_in}
 use Rattle.fl_table.specs.Bitmaps.{IsOutside}
 use Rattle.fl_table.specs.Causes.{of_ring, IfFlash, IfPage, is_of_pages}
-use Rattle.fl_table.specs.Memory.{pending_in, ring_shape}
+use Rattle.fl_table.specs.Memory.{pending_in, ring_shape, MaySeal}
+use Rattle.fl_table.specs.Mounting.{rings_in}
 use Rattle.fl_table.specs.Skipping.{index_in}
 use Rattle.fl_table.specs.declared.faults.MountFault.{MountFault}
 use Rattle.fl_table.specs.declared.faults.MountFault.TheVariants as mount
@@ -79,6 +81,7 @@ pub record SealFailed {KNOTS SLOTS : ℕ} (layout : RowLayout) (old : RecordLog)
   pub why : FlashFault
   pub fault_is : fault ≡ mount.Flash why
   pub cause : CausedBy read why new
+  pub writes : Writes (MaySeal joined) 0 (rings_in joined) read new
 
 abbrev pub RefusesLog : {KNOTS SLOTS : ℕ} → RowLayout → RecordLog → FlashState → Table KNOTS SLOTS → MountFault → FlashState → Type 0
 RefusesLog layout old old_f seen fault new = HasBadRing old old_f fault new ⊎ (HasBadPage layout old old_f fault new ⊎ SealFailed layout old old_f seen fault new)

@@ -8,6 +8,7 @@ pub mod Replaying
 pub mod Offering
 pub mod Finding
 pub mod Table
+pub mod Paged
 pub mod Rings
 pub mod Logged
 pub mod Outcomes

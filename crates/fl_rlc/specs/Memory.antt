@@ -11,6 +11,7 @@ use Rattle.fl_ring.specs.Place.{next_of, oldest_of}
 use Rattle.fl_ring.specs.Place as place
 use Rattle.fl_ring.specs.Ring as ring
 use Rattle.fl_ring.specs.Ring.{Shape}
+use Rattle.fl_ring.specs.Written.{MaySealIn}
 use Rattle.fl_rlc.specs.declared.log.RecordLog.{RecordLog}
 
 -- the last mount succeeded, and no operation failed since
@@ -23,6 +24,10 @@ next_in log = unwrap_or (option_map (λ r. next_of r) log.ring) 0
 
 abbrev pub oldest_in : RecordLog → ℕ
 oldest_in log = unwrap_or (option_map (λ r. oldest_of r) log.ring) 0
+
+-- the flash pages that the seal of the next page changes
+abbrev pub MaySeal : RecordLog → ℕ → Type 0
+MaySeal log = MaySealIn log.ring
 
 -- the rows of the next page, as they are gathered
 abbrev pub rows_in : RecordLog → WriterState

@@ -1,6 +1,6 @@
 -- What clauses see of a table with a log.
-use Rattle.std.specs.Prelude.{◌≡◌, ℕ, ◌+◌, Bool, Option, Some, None, is_some, IfSome, List, if◌then◌else◌}
-use Rattle.std.specs.Option.{ForSome}
+use Rattle.std.specs.Prelude.{◌≡◌, ◌⊎◌, ℕ, ◌+◌, ◌*◌, Bool, Option, Some, None, is_some, IfSome, List, if◌then◌else◌}
+use Rattle.std.specs.Option.{ForSome, IsSomeAnd}
 use Rattle.fl_flash.specs.Flash.{FlashState}
 use Rattle.fl_index.specs.Memory.{ring_shape as index_shape}
 use Rattle.fl_model.specs.Bare.{bare}
@@ -66,6 +66,18 @@ pub record LiesOn {KNOTS SLOTS : ℕ} (t : LoggedTable KNOTS SLOTS) (f : FlashSt
 -- how many rings it has
 abbrev pub rings_in : {KNOTS SLOTS : ℕ} → LoggedTable KNOTS SLOTS → ℕ
 rings_in t = mounting.rings_in t.table + (if is_logged t then 1 else 0)
+
+-- How often its mount programs at most, and how often it erases: once in each ring, and for the page that the log's rows may become
+-- twice in each other one.
+abbrev pub repairs_in : {KNOTS SLOTS : ℕ} → LoggedTable KNOTS SLOTS → ℕ
+repairs_in t = rings_in t + (if is_logged t then 2 * mounting.rings_in t.table else 0)
+
+-- the flash pages that the seal of its log changes, and those that may change in a put
+abbrev pub MaySealLog : Option RecordLog → ℕ → Type 0
+MaySealLog held page = IsSomeAnd held (λ l. log.MaySeal l page)
+
+abbrev pub MayPut : {KNOTS SLOTS : ℕ} → LoggedTable KNOTS SLOTS → Option (List ℕ) → ℕ → Type 0
+MayPut t blob page = table.MayPut t.table blob page ⊎ MaySealLog t.log page
 
 -- each flash page outside its rings stands
 abbrev pub OutsideStands : {KNOTS SLOTS : ℕ} → LoggedTable KNOTS SLOTS → (ℕ → List ℕ) → (ℕ → List ℕ) → Type 0

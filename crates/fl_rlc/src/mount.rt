@@ -40,7 +40,7 @@ impl<const KNOTS: usize, const SLOTS: usize> LoggedTable<KNOTS, SLOTS> {
     ghost use Rattle.fl_rlc.specs.MountingApart.{RestApart, MountApartEnds};
     ghost use Rattle.fl_rlc.specs.Outcomes.{MountEnds};
     ghost use Rattle.fl_rlc.specs.declared.log.RecordLog.{RecordLog};
-    ghost use Rattle.fl_rlc.specs.Table.{is_logged, is_running, is_stopped, rings_in, IsPlanned, IsSamePlan, LiesOn, OutsideStands, log_in, table_in};
+    ghost use Rattle.fl_rlc.specs.Table.{is_logged, is_running, is_stopped, repairs_in, IsPlanned, IsSamePlan, LiesOn, OutsideStands, log_in, table_in};
 
     /// Mounts the table and then its log, where it has one. The records of the log's newest page that no data page has
     /// become a page of the table, unless its page numbers are spent. It answers what the table holds then.
@@ -80,7 +80,7 @@ impl<const KNOTS: usize, const SLOTS: usize> LoggedTable<KNOTS, SLOTS> {
         ensures limit { (first : ℕ) → (plan : Plan) → (table : model.Table) → (rose : Bool) → (device : Device) → IsWatched (F.state flash.old) (F.state flash.new) rose device
             → IsPlanned self.old first plan → Rests (F.state flash.old) first plan table → plan.full_index ≡ true
             → (F.state flash.new).work.reads ≤ (F.state flash.old).work.reads + mount_limit plan table }
-        ensures repairs { is_logged self.old ≡ false → FewRepairs (rings_in self.old) (F.state flash.old) (F.state flash.new) }
+        ensures repairs { FewRepairs (repairs_in self.old) (F.state flash.old) (F.state flash.new) }
         ensures power { OnOk result ((F.state flash.old).is_on ≡ true → (F.state flash.new).is_on ≡ true) }
         ensures cause { IfErr result (λ e. MountCausedBy (F.state flash.old) e (F.state flash.new)) }
         ensures off { (F.state flash.old).is_on ≡ false → (result ≡ Err (MountFault.Flash FlashFault.PowerLost)) × (F.state flash.new ≡ F.state flash.old) }

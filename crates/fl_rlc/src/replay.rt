@@ -16,6 +16,7 @@ ghost use Rattle.fl_frame.specs.Watched.{IsWatched};
 ghost use Rattle.fl_schema.specs.Schema.{layout_of};
 ghost use Rattle.fl_table.specs.BlobAt.{has_blobs};
 ghost use Rattle.fl_ring.specs.Ring.{room};
+ghost use Rattle.fl_ring.specs.Written.{Writes};
 ghost use Rattle.fl_table.specs.Causes.{IfFlash, IfPage, is_of_pages, MountCausedBy};
 ghost use Rattle.fl_table.specs.Look.{layout_in};
 ghost use Rattle.fl_table.specs.Memory as table_words;
@@ -108,6 +109,7 @@ fn seal_rows<F: Flash, const KNOTS: usize, const SLOTS: usize>(
         → without_log.Stands table.old (F.state flash.old) first plan b → SealsEnd first plan (table_seals plan b) b rose device result table.new (F.state flash.old) (F.state flash.new) }
     ensures sealed { OnOk result (AreSealed table.old (F.state flash.old) table.new (F.state flash.new)) }
     ensures some { OnErr result (1 ≤ pending_in table.old) }
+    ensures writes { Writes (table_words.MaySeal table.old) 0 (mounting.rings_in table.old) (F.state flash.old) (F.state flash.new) }
     ensures outside { IsTrue (F.state flash.old).media.tells → mounting.OutsideStands table.old (page_at (F.state flash.old)) (page_at (F.state flash.new)) }
     ensures reads { (F.state flash.new).work.reads ≡ (F.state flash.old).work.reads }
     ensures media_reads { (F.state flash.new).media.reads ≤ (F.state flash.old).media.reads + mounting.rings_in table.old }
@@ -157,6 +159,7 @@ pub(crate) fn replay<F: Flash, const KNOTS: usize, const SLOTS: usize>(
     ensures refused { IfErr result (λ e. IsTrue (F.state flash.old).media.tells → RefusesLog (layout_in table.old) log.old (F.state flash.old) table.old e (F.state flash.new)) }
     ensures outside { IsTrue (F.state flash.old).media.tells → StandBeside table.old log.old (page_at (F.state flash.old)) (page_at (F.state flash.new)) }
     ensures reads { mounting.FewReads (4 * room (log_shape log.old)) (F.state flash.old) (F.state flash.new) }
+    ensures repairs { mounting.FewRepairs (1 + 2 * mounting.rings_in table.old) (F.state flash.old) (F.state flash.new) }
     ensures limit { (first : ℕ) → (plan : Plan) → (table_now : model.Table) → IsTrue (F.state flash.old).media.tells → repairing.Rests log.old (F.state flash.old) first plan table_now
         → (F.state flash.new).work.reads ≤ (F.state flash.old).work.reads + log_mount_limit (shape_of plan LogRing) table_now.log }
     ensures power { OnOk result ((F.state flash.new).is_on ≡ true) }

@@ -7,11 +7,13 @@ ghost use Rattle.fl_model.specs.Row.{FitsRow};
 ghost use Rattle.fl_model.specs.Table as model;
 ghost use Rattle.fl_model.specs.Work.{Device};
 ghost use Rattle.fl_frame.specs.Causes.{CausedBy};
+ghost use Rattle.fl_ring.specs.Written.{Writes};
 ghost use Rattle.fl_schema.specs.Schema.{layout_of};
 ghost use Rattle.fl_rlc.specs.Memory.{is_mounted, page_len, LiesOn};
+ghost use Rattle.fl_rlc.specs.Paged.{RowLogged};
 ghost use Rattle.fl_rlc.specs.Refusal.{log_refused};
 ghost use Rattle.fl_rlc.specs.Rows.{RowEnds, StandOutside, AreBegun, HaveLogged};
-ghost use Rattle.fl_rlc.specs.Table.{AreSameLog};
+ghost use Rattle.fl_rlc.specs.Table.{AreSameLog, MaySealLog};
 
 use crate::log::RecordLog;
 use fl_flash::{Flash, FlashFault};
@@ -38,6 +40,8 @@ pub(crate) fn log_row<F: Flash>(
         RowEnds log.old (F.state flash.old) first plan table (layout_of schema.now) (record { key = key; values = values.now; blob = None }) rose device result log.new (F.state flash.new) }
     ensures logs { OnOk result (HaveLogged (layout_of schema.now) (record { key = key; values = values.now; blob = None }) log.old log.new) }
     ensures outside { IsTrue (F.state flash.old).media.tells → StandOutside log.old (page_at (F.state flash.old)) (page_at (F.state flash.new)) }
+    ensures writes { Writes (MaySealLog log.old) 0 (if is_some log.old then 1 else 0) (F.state flash.old) (F.state flash.new) }
+    ensures page { OnOk result (IsTrue (F.state flash.old).media.tells → RowLogged (layout_of schema.now) (record { key = key; values = values.now; blob = None }) log.old (page_at (F.state flash.old)) (page_at (F.state flash.new))) }
     ensures reads { (F.state flash.new).work.reads ≡ (F.state flash.old).work.reads }
     ensures media_reads { (F.state flash.new).media.reads ≤ (F.state flash.old).media.reads + (if is_some log.old then 1 else 0) }
     ensures logged { OnErr result (is_some log.old ≡ true) }

@@ -16,8 +16,10 @@ impl RecordLog {
     ghost use Rattle.fl_model.specs.Work.{Device};
     ghost use Rattle.fl_page.specs.Writer.{Gathers};
     ghost use Rattle.fl_ring.specs.Ring.{OutsideStands};
+    ghost use Rattle.fl_ring.specs.Written.{Writes, done};
     ghost use Rattle.fl_frame.specs.Watched.{IsWatched};
-    ghost use Rattle.fl_rlc.specs.Memory.{is_mounted, next_in, rows_in, page_len, kept_rows, log_shape, IsSamePlan, LiesOn};
+    ghost use Rattle.fl_rlc.specs.Memory.{is_mounted, next_in, rows_in, page_len, kept_rows, log_shape, IsSamePlan, LiesOn, MaySeal};
+    ghost use Rattle.fl_rlc.specs.Paged.{RowsLogged};
     ghost use Rattle.fl_rlc.specs.Sealing.{IsReady, SealEnds};
     ghost use Rattle.fl_schema.specs.Schema.{layout_of};
 
@@ -73,6 +75,8 @@ impl RecordLog {
         ensures ends { (first : ℕ) (plan : Plan) (table : model.Table) (rose : Bool) (device : Device) → IsWatched (F.state flash.old) (F.state flash.new) rose device
             → IsReady self.old (F.state flash.old) first plan table → SealEnds first plan table rose device self.old (F.state flash.old) result self.new (F.state flash.new) }
         ensures outside { IsTrue (F.state flash.old).media.tells → OutsideStands (log_shape self.old) (page_at (F.state flash.old)) (page_at (F.state flash.new)) }
+        ensures writes { Writes (MaySeal self.old) (done result) 1 (F.state flash.old) (F.state flash.new) }
+        ensures page { OnOk result (IsTrue (F.state flash.old).media.tells → (layout : RowLayout) → (rows : List Row) → Gathers layout rows (rows_in self.old) → RowsLogged self.old layout rows (page_at (F.state flash.old)) (page_at (F.state flash.new))) }
         ensures reads { (F.state flash.new).work.reads ≡ (F.state flash.old).work.reads }
         ensures media_reads { (F.state flash.new).media.reads ≤ (F.state flash.old).media.reads + 1 }
         ensures off { OffChangesNothing (F.state flash.old) result (F.state flash.new) }

@@ -1,21 +1,23 @@
 -- The records of a load, put one after another, and what became of the next one.
-use Rattle.std.proofs.Common.{◌≡◌, ℕ, suc, ◌+◌, true, false, Option, None, Some, Result, Ok, Err, IfErr, List, [], ◌∷◌, ◌++◌, refl, sym, ◌∙◌, ap, subst, arith}
+use Rattle.std.proofs.Common.{◌≡◌, ℕ, suc, ◌+◌, true, false, Option, None, Some, Result, Ok, Err, IfErr, List, refl, ◌∙◌, ap, subst, arith}
 use Rattle.std.specs.Prelude.{is_err, OnOk, ℤ}
 use Rattle.fl_flash.specs.Flash.{FlashState, Goes}
 use Rattle.fl_model.specs.Row.{Row}
 use Rattle.fl_frame.proofs.WatchedInTurn.{cause-later}
+use Rattle.fl_rlc.specs.Paged.{HasMadePage, PutLogged}
 use Rattle.fl_rlc.specs.Refusal.{NeedsNoOperation, RefusedSame, put_refusal}
 use Rattle.fl_rlc.specs.Rows.{HaveLogged}
 use Rattle.fl_rlc.specs.Table.{IsSamePlan, log_in, table_in}
 use Rattle.fl_rlc.specs.declared.table.LoggedTable.{LoggedTable}
 use Rattle.fl_table.specs.Causes.{PutCausedBy}
 use Rattle.fl_table.specs.Look.{last_key_in, layout_in}
-use Rattle.fl_table.specs.Memory.{HasRoom, PendingAre, pending_in}
+use Rattle.fl_table.specs.Memory.{HasRoom}
 use Rattle.fl_table.specs.Refusal.{RefusesAs}
+use Rattle.fl_table.specs.Stored.{Stores}
 use Rattle.fl_table.specs.declared.faults.PutRefusal.{PutRefusal}
 use Rattle.fl_table.specs.declared.faults.PutRefusal.TheVariants as put
 use Rattle.fl_machine.specs.Step.{next_random}
-use Rattle.fl_session.specs.LoadSays.{LoadEnds, LoadFails, Loads, LoadsNext, next_row, random_at}
+use Rattle.fl_session.specs.LoadSays.{LoadEnds, LoadFails, Loads, LoadsNext, WritesOne, next_row, random_at}
 
 -- ---- the next record
 
@@ -28,21 +30,22 @@ module _ (step seed n : ℕ) (t u : LoggedTable 64 64) (m g : FlashState) (key :
 
   -- it was put
   pub loads-next : (outcome : Result (Unit {0}) PutRefusal) → is_err outcome ≡ false → RefusesAs (put_refusal t key values None) outcome → OnOk outcome (last_key_in (table_in u) ≡ Some key) →
-      OnOk outcome (HasRoom (table_in t) → pending_in (table_in u) ≡ pending_in (table_in t) + 1) →
-      OnOk outcome (HasRoom (table_in t) → ◌≡◌ {A = Option (List ℕ)} None None → (rows : List Row) → PendingAre (table_in t) rows → PendingAre (table_in u) (rows ++ row_of key values ∷ [])) →
+      OnOk outcome (Stores (table_in t) key values None (table_in u)) →
       OnOk outcome (HaveLogged (layout_in (table_in t)) (row_of key values) (log_in t) (log_in u)) → (put_refusal t key values None ≡ None → NeedsNoOperation t None → (outcome ≡ Ok tt) × (g ≡ m)) →
-      OnOk outcome (m.is_on ≡ true → g.is_on ≡ true) → IsSamePlan t u → LoadsNext step seed n t m u g
-  loads-next (Err e) ok exact last pending rows logs quiet power same = absurd (cc ok)
-  loads-next (Ok done) ok exact last pending rows logs quiet power same =
+      OnOk outcome (m.is_on ≡ true → g.is_on ≡ true) → OnOk outcome (PutLogged t (row_of key values) m g) → OnOk outcome ((HasRoom (table_in t) → ⊥) → HasMadePage t None m g) → WritesOne t m g → IsSamePlan t u → LoadsNext step seed n t m u g
+  loads-next (Err e) ok exact last stores logs quiet power logged sealed writes same = absurd (cc ok)
+  loads-next (Ok done) ok exact last stores logs quiet power logged sealed writes same =
       let accepted : put_refusal t key values None ≡ None = accepts (put_refusal t key values None) exact in
       record {
         accepted = subst (λ (r : Row). put_refusal t r.key r.values None ≡ None) row-is accepted;
         last = subst (λ (r : Row). last_key_in (table_in u) ≡ Some r.key) row-is last;
-        pending = pending;
-        rows = λ room given are. subst (λ (r : Row). PendingAre (table_in u) (given ++ r ∷ [])) row-is (rows room refl given are);
+        stores = subst (λ (r : Row). Stores (table_in t) r.key r.values None (table_in u)) row-is stores;
         logs = subst (λ (r : Row). HaveLogged (layout_in (table_in t)) r (log_in t) (log_in u)) row-is logs;
         quiet = λ none. (quiet accepted none).1;
         power = power;
+        log_page = subst (λ (r : Row). PutLogged t r m g) row-is logged;
+        sealed = sealed;
+        writes = writes;
         same = same;
       }
     where
@@ -51,9 +54,9 @@ module _ (step seed n : ℕ) (t u : LoggedTable 64 64) (m g : FlashState) (key :
       accepts (Some refusal) is = absurd (cc is)
 
   -- it wasn't
-  pub load-ends : (outcome : Result (Unit {0}) PutRefusal) → is_err outcome ≡ true → RefusesAs (put_refusal t key values None) outcome → IfErr outcome (λ e. RefusedSame t m e u g) → LoadEnds step seed n t m outcome u g
-  load-ends (Ok done) err exact same = absurd (cc err)
-  load-ends (Err refusal) err exact same = (subst (λ (r : Row). RefusesAs (put_refusal t r.key r.values None) (Err refusal)) row-is exact, same)
+  pub load-ends : (outcome : Result (Unit {0}) PutRefusal) → is_err outcome ≡ true → RefusesAs (put_refusal t key values None) outcome → IfErr outcome (λ e. RefusedSame t m e u g) → WritesOne t m g → LoadEnds step seed n t m outcome u g
+  load-ends (Ok done) err exact same writes = absurd (cc err)
+  load-ends (Err refusal) err exact same writes = (subst (λ (r : Row). RefusesAs (put_refusal t r.key r.values None) (Err refusal)) row-is exact, same, writes)
 
 -- ---- so many of them
 

@@ -1,5 +1,5 @@
 -- What a command answers and leaves, and why, over any bytes and on any medium.
-use Rattle.std.specs.Prelude.{◌≡◌, ◌⊎◌, ℕ, ◌+◌, ◌-◌, ◌*◌, ◌<◌, ◌≤◌, min, ◌++◌, Bool, true, false, not, is_ok, IsTrue, Option, None, Some, option_map, Result, Ok, Err, OnOk, IfErr, List, [], ◌∷◌, length, slice_get, ℤ}
+use Rattle.std.specs.Prelude.{◌≡◌, ◌⊎◌, ℕ, ◌+◌, ◌-◌, ◌*◌, ◌<◌, ◌≤◌, min, Bool, true, false, not, is_ok, IsTrue, Option, None, Some, option_map, Result, Ok, Err, OnOk, IfErr, List, [], ◌∷◌, length, slice_get, ℤ}
 use Rattle.std.specs.List.{AllByRecursion}
 use Rattle.fl_base.specs.declared.types.CutKind.{CutKind}
 use Rattle.fl_base.specs.declared.types.KeyRange.{KeyRange}
@@ -15,10 +15,12 @@ use Rattle.fl_model.specs.Row.{Row}
 use Rattle.fl_frame.specs.Contents.{OnlyReads}
 use Rattle.fl_page.specs.declared.fault.BadPage.{BadPage}
 use Rattle.fl_page.specs.declared.fault.ReadFault.TheVariants as fault
+use Rattle.fl_ring.specs.Written as tried
+use Rattle.fl_rlc.specs.Paged.{HasMadePage, PutLogged}
 use Rattle.fl_rlc.specs.Refusal.{NeedsNoOperation, put_refusal}
 use Rattle.fl_rlc.specs.Rows.{AreBegun, HaveLogged}
 use Rattle.fl_rlc.specs.Table as logged
-use Rattle.fl_rlc.specs.Table.{IsSamePlan, log_in, rings_in, table_in}
+use Rattle.fl_rlc.specs.Table.{IsSamePlan, MayPut, log_in, rings_in, table_in}
 use Rattle.fl_rlc.specs.declared.table.LoggedTable.{LoggedTable}
 use Rattle.fl_script.specs.Written.{Written}
 use Rattle.fl_frame.specs.Causes.{CausedBy}
@@ -27,8 +29,11 @@ use Rattle.fl_table.specs.BlobAt.{data_in, has_blobs}
 use Rattle.fl_table.specs.Blobs.{most_pages}
 use Rattle.fl_table.specs.Finding.{IsAnswered, LookupFails, rows_at}
 use Rattle.fl_table.specs.Look.{buffered_rows, counts_in, last_key_in, layout_in, oldest_in}
-use Rattle.fl_table.specs.Memory.{next_in, pending_in, HasRoom, PendingAre}
+use Rattle.fl_table.specs.Memory.{next_in, pending_in, HasRoom, MaySeal}
+use Rattle.fl_table.specs.Mounting.{rings_in as table_rings}
+use Rattle.fl_table.specs.Paged.{HasFlushed}
 use Rattle.fl_table.specs.Refusal.{RefusesAs}
+use Rattle.fl_table.specs.Stored.{IsEmptied, Stores}
 use Rattle.fl_table.specs.declared.faults.FlushFault.{FlushFault}
 use Rattle.fl_table.specs.declared.faults.FlushFault.TheVariants as flush
 use Rattle.fl_table.specs.declared.faults.PutRefusal.{PutRefusal}
@@ -152,8 +157,9 @@ abbrev pub PutFails : State → State → PutRefusal → Type 0
 PutFails old new (put.Flash fault) = CausedBy old.flash fault new.flash
 PutFails old new _ = new ≡ old
 
--- A put is refused exactly as its table says. Then the record is the last one, and pending, and with a log a page of it was
--- sealed; it needs the flash only if the table has a log, the page of pending rows is full or its blob fills pages.
+-- A put is refused exactly as its table says. Else the record is the last one, and pending, where their page was full the only one,
+-- and with a log a page of it was sealed; it needs the flash only if the table has a log, the page of pending rows is full or its blob
+-- fills pages, and tries a seal of each ring at most, and those of the pages that the blob fills.
 pub record PutSays (old new : State) (key : ℕ) (values : List ℤ) (blob : Option (List ℕ)) (at : ℕ) (entry : Entry) (said : Reply) : Type 0 where
   pub outcome : Result (Unit {0}) PutRefusal
   pub said_is : said ≡ put_reply outcome
@@ -161,13 +167,15 @@ pub record PutSays (old new : State) (key : ℕ) (values : List ℤ) (blob : Opt
   pub fails : IfErr outcome (PutFails old new)
   pub leaves : LeavesTable old new at entry (put_breaks outcome)
   pub last : OnOk outcome (last_key_in (table_in leaves.now) ≡ Some key)
-  pub pending : OnOk outcome (HasRoom (table_in entry.table) → pending_in (table_in leaves.now) ≡ pending_in (table_in entry.table) + 1)
-  pub rows : OnOk outcome (HasRoom (table_in entry.table) → blob ≡ None → (rows : List Row) → PendingAre (table_in entry.table) rows → PendingAre (table_in leaves.now) (rows ++ (record { key = key; values = values; blob = None }) ∷ []))
+  pub stores : OnOk outcome (Stores (table_in entry.table) key values blob (table_in leaves.now))
   pub logs : OnOk outcome (HaveLogged (layout_in (table_in entry.table)) (record { key = key; values = values; blob = None }) (log_in entry.table) (log_in leaves.now))
   pub power : OnOk outcome (old.flash.is_on ≡ true → new.flash.is_on ≡ true)
   pub quiet : put_refusal entry.table key values (option_map (λ bytes. length bytes) blob) ≡ None → NeedsNoOperation entry.table blob → (outcome ≡ Ok tt) × (new.flash ≡ old.flash)
   pub off : put_refusal entry.table key values (option_map (λ bytes. length bytes) blob) ≡ None → (NeedsNoOperation entry.table blob → ⊥) →
       old.flash.is_on ≡ false → (outcome ≡ Err (put.Flash PowerLost)) × (new.flash ≡ old.flash)
+  pub log_page : OnOk outcome (PutLogged entry.table (record { key = key; values = values; blob = None }) old.flash new.flash)
+  pub sealed : OnOk outcome ((HasRoom (table_in entry.table) → ⊥) → HasMadePage entry.table blob old.flash new.flash)
+  pub writes : tried.Writes (MayPut entry.table blob) 0 (rings_in entry.table + most_pages (data_in (table_in entry.table)) blob) old.flash new.flash
   pub media_reads : new.flash.media.reads ≤ old.flash.media.reads + rings_in entry.table + most_pages (data_in (table_in entry.table)) blob
 
 -- only a fault of the flash fails it
@@ -176,7 +184,8 @@ FlushFails f g (flush.Flash fault) = CausedBy f fault g
 FlushFails f g flush.Stopped = ⊥
 
 -- A flush changes nothing where no row is pending. Else none is afterwards, they are the next page, and the ring of a log is as
--- it was. The last record is the one that it was, however the flush ends.
+-- it was. The last record is the one that it was, however the flush ends, and a seal of each ring of the table was tried at most; of
+-- pending rows one was whole.
 pub record FlushSays (old new : State) (at : ℕ) (entry : Entry) (said : Reply) : Type 0 where
   pub outcome : Result (Unit {0}) FlushFault
   pub said_is : said ≡ flush_reply outcome
@@ -185,10 +194,12 @@ pub record FlushSays (old new : State) (at : ℕ) (entry : Entry) (said : Reply)
   pub leaves : LeavesTable old new at entry (flush_breaks outcome)
   pub flushed : OnOk outcome (pending_in (table_in leaves.now) ≡ 0)
   pub last : last_key_in (table_in leaves.now) ≡ last_key_in (table_in entry.table)
-  pub seals : OnOk outcome (1 ≤ pending_in (table_in entry.table) → next_in (table_in leaves.now) ≡ next_in (table_in entry.table) + 1)
+  pub seals : OnOk outcome (1 ≤ pending_in (table_in entry.table) → IsEmptied (table_in entry.table) (table_in leaves.now))
   pub begins : OnOk outcome (1 ≤ pending_in (table_in entry.table) → AreBegun (log_in entry.table) (log_in leaves.now))
   pub power : OnOk outcome (old.flash.is_on ≡ true → new.flash.is_on ≡ true)
   pub off : 1 ≤ pending_in (table_in entry.table) → old.flash.is_on ≡ false → (outcome ≡ Err (flush.Flash PowerLost)) × (new.flash ≡ old.flash)
+  pub writes : tried.Writes (MaySeal (table_in entry.table)) 0 (table_rings (table_in entry.table)) old.flash new.flash
+  pub sealed : OnOk outcome (1 ≤ pending_in (table_in entry.table) → HasFlushed (table_in entry.table) old.flash new.flash)
   pub media_reads : new.flash.media.reads ≤ old.flash.media.reads + rings_in entry.table
 
 -- what the table has in memory, and what the flash counted

@@ -1,16 +1,21 @@
 -- The records that a load puts, one after another, over any bytes and on any medium.
-use Rattle.std.specs.Prelude.{◌≡◌, ℕ, zero, suc, ◌+◌, true, unwrap_or, Option, None, Some, Result, Ok, Err, List, [], ◌∷◌, ◌++◌}
+use Rattle.std.specs.Prelude.{◌≡◌, ℕ, zero, suc, ◌+◌, true, unwrap_or, Option, None, Some, Result, Ok, Err}
 use Rattle.fl_flash.specs.Flash.{FlashState}
 use Rattle.fl_machine.specs.Step.{load_values, next_random}
 use Rattle.fl_model.specs.Row.{Row}
 use Rattle.fl_frame.specs.Causes.{CausedBy}
+use Rattle.fl_rlc.specs.Paged.{HasMadePage, PutLogged}
 use Rattle.fl_rlc.specs.Refusal.{NeedsNoOperation, RefusedSame, put_refusal}
 use Rattle.fl_rlc.specs.Rows.{HaveLogged}
-use Rattle.fl_rlc.specs.Table.{IsSamePlan, log_in, table_in}
+use Rattle.fl_rlc.specs.Table.{IsSamePlan, MayPut, log_in, rings_in, table_in}
 use Rattle.fl_rlc.specs.declared.table.LoggedTable.{LoggedTable}
+use Rattle.fl_ring.specs.Written.{Writes}
+use Rattle.fl_table.specs.BlobAt.{data_in}
+use Rattle.fl_table.specs.Blobs.{most_pages}
 use Rattle.fl_table.specs.Look.{last_key_in, layout_in}
-use Rattle.fl_table.specs.Memory.{HasRoom, PendingAre, pending_in}
+use Rattle.fl_table.specs.Memory.{HasRoom}
 use Rattle.fl_table.specs.Refusal.{RefusesAs}
+use Rattle.fl_table.specs.Stored.{Stores}
 use Rattle.fl_table.specs.declared.faults.PutRefusal.{PutRefusal}
 use Rattle.fl_table.specs.declared.faults.PutRefusal.TheVariants as put
 use Rattle.fl_session.specs.Load.{load_key}
@@ -31,16 +36,22 @@ next_row t step seed n = record {
 abbrev pub refusal_of : LoggedTable 64 64 → Row → Option PutRefusal
 refusal_of t row = put_refusal t row.key row.values None
 
--- It was put. It is the table's last record, and pending where the page of pending rows had room for it; it needs the flash only if that
--- page was full or the table has a log.
+-- its put tried a seal of each ring at most
+abbrev pub WritesOne : LoggedTable 64 64 → FlashState → FlashState → Type 0
+WritesOne t f g = Writes (MayPut t None) 0 (rings_in t + most_pages (data_in (table_in t)) None) f g
+
+-- It was put. It is the table's last record, and pending, the only one where the page of pending rows had no room for it; it needs the
+-- flash only if that page was full or the table has a log.
 pub record LoadsNext (step seed n : ℕ) (t : LoggedTable 64 64) (f : FlashState) (u : LoggedTable 64 64) (g : FlashState) : Type 0 where
   pub accepted : refusal_of t (next_row t step seed n) ≡ None
   pub last : last_key_in (table_in u) ≡ Some (next_row t step seed n).key
-  pub pending : HasRoom (table_in t) → pending_in (table_in u) ≡ pending_in (table_in t) + 1
-  pub rows : HasRoom (table_in t) → (rows : List Row) → PendingAre (table_in t) rows → PendingAre (table_in u) (rows ++ next_row t step seed n ∷ [])
+  pub stores : Stores (table_in t) (next_row t step seed n).key (next_row t step seed n).values None (table_in u)
   pub logs : HaveLogged (layout_in (table_in t)) (next_row t step seed n) (log_in t) (log_in u)
   pub quiet : NeedsNoOperation t None → g ≡ f
   pub power : f.is_on ≡ true → g.is_on ≡ true
+  pub log_page : PutLogged t (next_row t step seed n) f g
+  pub sealed : (HasRoom (table_in t) → ⊥) → HasMadePage t None f g
+  pub writes : WritesOne t f g
   pub same : IsSamePlan t u
 
 -- so many were put
@@ -51,7 +62,7 @@ Loads step seed (suc n) t f u g = (mid : LoggedTable 64 64) × (m : FlashState) 
 -- What became of the one behind them: none was asked for; or the table refuses it, and nothing changes; or an operation failed.
 abbrev pub LoadEnds : ℕ → ℕ → ℕ → LoggedTable 64 64 → FlashState → Result (Unit {0}) PutRefusal → LoggedTable 64 64 → FlashState → Type 0
 LoadEnds step seed n t f (Ok done) u g = (u ≡ t) × (g ≡ f)
-LoadEnds step seed n t f (Err refusal) u g = RefusesAs (refusal_of t (next_row t step seed n)) (Err refusal) × RefusedSame t f refusal u g
+LoadEnds step seed n t f (Err refusal) u g = RefusesAs (refusal_of t (next_row t step seed n)) (Err refusal) × RefusedSame t f refusal u g × WritesOne t f g
 
 -- so many were put, and then it ended
 pub record PutsRecords (step seed n : ℕ) (t : LoggedTable 64 64) (f : FlashState) (outcome : Result (Unit {0}) PutRefusal) (u : LoggedTable 64 64) (g : FlashState) : Type 0 where

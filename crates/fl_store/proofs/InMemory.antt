@@ -1,10 +1,9 @@
 -- What a call of one table leaves of all tables in memory.
-use Rattle.std.proofs.Common.{◌≡◌, ℕ, zero, suc, ◌+◌, ◌≤◌, Bool, true, false, not, ◌&&◌, ◌||◌, is_some, Option, None, Some, Result, Ok, Err, List, [], ◌∷◌, ◌++◌, length, refl, sym, ◌∙◌, ap, subst, arith}
+use Rattle.std.proofs.Common.{◌≡◌, ℕ, zero, suc, ◌≤◌, Bool, true, false, not, ◌&&◌, ◌||◌, is_some, Option, None, Some, Result, Ok, Err, List, [], ◌∷◌, length, refl, sym, ◌∙◌, ap, subst, arith}
 use Rattle.std.specs.Prelude.{OnOk, option_map, unwrap_or}
 use Rattle.std.specs.List.{slice_get}
 use Rattle.std.proofs.lemmas.List.{length-set}
 use Rattle.fl_model.specs.Record.{Record, RowLayout}
-use Rattle.fl_model.specs.Row.{Row}
 use Rattle.fl_rlc.specs.Rows.{AreBegun, HaveLogged}
 use Rattle.fl_rlc.specs.Table.{IsSamePlan, is_running, is_stopped, log_in, table_in}
 use Rattle.fl_rlc.specs.declared.table.LoggedTable.{LoggedTable}
@@ -12,7 +11,8 @@ use Rattle.fl_table.specs.BlobAt.{has_blobs}
 use Rattle.fl_table.specs.Blobs as variable
 use Rattle.fl_table.specs.Causes.{flush_breaks, put_breaks}
 use Rattle.fl_table.specs.Look.{last_key_in, layout_in}
-use Rattle.fl_table.specs.Memory.{HasRoom, PendingAre, next_in, pending_in}
+use Rattle.fl_table.specs.Memory.{pending_in}
+use Rattle.fl_table.specs.Stored.{IsEmptied, Stores}
 use Rattle.fl_table.specs.declared.faults.FlushFault.{FlushFault}
 use Rattle.fl_table.specs.declared.faults.PutRefusal.{PutRefusal}
 use Rattle.fl_var.specs.declared.var_data.VarData.{VarData}
@@ -84,13 +84,12 @@ module _ (entries : List Entry) (at : ℕ) (entry : Entry) (u : LoggedTable 64 6
   flush-runs (Ok done) is = still-run is
   flush-runs (Err e) is = tt
 
-  pub put-takes : (item : Record) (result : Result (Unit {0}) PutRefusal) → OnOk result (last_key_in (table_in u) ≡ Some item.key) → OnOk result (HasRoom (table_in entry.table) → pending_in (table_in u) ≡ pending_in (table_in entry.table) + 1) →
-      OnOk result (HasRoom (table_in entry.table) → item.blob ≡ None → (rows : List Row) → PendingAre (table_in entry.table) rows → PendingAre (table_in u) (rows ++ (record { key = item.key; values = item.values; blob = None }) ∷ [])) →
+  pub put-takes : (item : Record) (result : Result (Unit {0}) PutRefusal) → OnOk result (last_key_in (table_in u) ≡ Some item.key) → OnOk result (Stores (table_in entry.table) item.key item.values item.blob (table_in u)) →
       OnOk result (HaveLogged (layout_in (table_in entry.table)) (record { key = item.key; values = item.values; blob = None }) (log_in entry.table) (log_in u)) → OnOk result (Becomes (Takes item) entries at (entries_with entries at entry u))
-  put-takes item (Ok done) last pending rows logs = becomes (Takes item) (record { last = last; pending = pending; rows = rows; logs = logs })
-  put-takes item (Err e) last pending rows logs = tt
+  put-takes item (Ok done) last stores logs = becomes (Takes item) (record { last = last; stores = stores; logs = logs })
+  put-takes item (Err e) last stores logs = tt
 
-  pub flush-flushes : (result : Result (Unit {0}) FlushFault) → OnOk result (pending_in (table_in u) ≡ 0) → last_key_in (table_in u) ≡ last_key_in (table_in entry.table) → OnOk result (1 ≤ pending_in (table_in entry.table) → next_in (table_in u) ≡ next_in (table_in entry.table) + 1) →
+  pub flush-flushes : (result : Result (Unit {0}) FlushFault) → OnOk result (pending_in (table_in u) ≡ 0) → last_key_in (table_in u) ≡ last_key_in (table_in entry.table) → OnOk result (1 ≤ pending_in (table_in entry.table) → IsEmptied (table_in entry.table) (table_in u)) →
       OnOk result (1 ≤ pending_in (table_in entry.table) → AreBegun (log_in entry.table) (log_in u)) → OnOk result (Becomes Flushes entries at (entries_with entries at entry u))
   flush-flushes (Ok done) none last seals begins = becomes Flushes (record { none = none; last = last; seals = seals; begins = begins })
   flush-flushes (Err e) none last seals begins = tt

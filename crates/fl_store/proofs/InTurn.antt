@@ -1,5 +1,5 @@
 -- Tables that were mounted one after another, over any bytes.
-use Rattle.std.proofs.Common.{◌≡◌, ℕ, zero, suc, ◌+◌, ◌<◌, false, Some, List, take, refl, ◌∙◌, ap, subst, arith}
+use Rattle.std.proofs.Common.{◌≡◌, ℕ, zero, suc, ◌+◌, ◌<◌, ◌≤◌, Some, List, take, refl, ◌∙◌, ap, subst, arith}
 use Rattle.std.specs.List.{slice_get}
 use Rattle.std.proofs.lemmas.List.{length-take}
 use Rattle.std.proofs.lemmas.Option.{slice_get_within}
@@ -7,11 +7,11 @@ use Rattle.fl_flash.specs.Flash.{FlashState}
 use Rattle.fl_model.proofs.Lists.{slice_get-take, slice_get-front}
 use Rattle.fl_rlc.specs.Mounting.{FindsPages}
 use Rattle.fl_rlc.specs.Table as table
-use Rattle.fl_rlc.specs.Table.{IsSamePlan, is_logged, rings_in}
+use Rattle.fl_rlc.specs.Table.{IsSamePlan, repairs_in}
 use Rattle.fl_rlc.specs.declared.table.LoggedTable.{LoggedTable}
 use Rattle.fl_table.specs.Mounting.{FewRepairs}
 use Rattle.fl_table.specs.declared.counts.Mounted.{Mounted}
-use Rattle.fl_store.specs.Mounting.{AreUnlogged, MountsInTurn, OutsideStands, rings_of}
+use Rattle.fl_store.specs.Mounting.{MountsInTurn, OutsideStands, repairs_of}
 use Rattle.fl_store.specs.Tables.{entries_with}
 use Rattle.fl_store.specs.declared.tables.Entry.{Entry}
 use Rattle.fl_store.proofs.TablesChanged.{set-there, set-elsewhere}
@@ -43,7 +43,7 @@ turn-more i old so_far entry u mounted f m n here there same found h =
 
 -- ---- the repairs, and what they leave as it is
 
-pub repairs-none : (entries : List Entry) (f : FlashState) → FewRepairs (rings_of (take 0 entries)) f f
+pub repairs-none : (entries : List Entry) (f : FlashState) → FewRepairs (repairs_of (take 0 entries)) f f
 repairs-none entries f = record { programs = omega arith; erases = omega arith }
 
 -- an element of a front is one of a longer front
@@ -52,18 +52,19 @@ front-there xs n i x e =
     let within = slice_get_within (take n xs) i x e in
     slice_get-take (suc n) xs i (omega (arith, within, length-take n xs)) ∙ slice_get-front n xs i x e
 
-pub repairs-more : (entries : List Entry) (i : ℕ) (entry : Entry) (f m n : FlashState) → slice_get entries i ≡ Some entry → (AreUnlogged (take i entries) → FewRepairs (rings_of (take i entries)) f m) →
-    (is_logged entry.table ≡ false → FewRepairs (rings_in entry.table) m n) → AreUnlogged (take (i + 1) entries) → FewRepairs (rings_of (take (i + 1) entries)) f n
-repairs-more entries i entry f m n here before few unlogged =
-    let front = before (λ j other e. upto j other (front-there entries i j other e)) in
-    let own = few (upto i entry (slice_get-take (suc i) entries i (omega arith) ∙ here)) in
-    record { programs = omega (arith, front.programs, own.programs, all); erases = omega (arith, front.erases, own.erases, all) }
-  where
-    upto : AreUnlogged (take (suc i) entries)
-    upto = subst (λ k. AreUnlogged (take k entries)) (let s : i + 1 ≡ suc i = omega arith in s) unlogged
+some-more : (f m n a b c : ℕ) → m ≤ f + a → n ≤ m + b → c ≡ a + b → n ≤ f + c
+some-more f m n a b c first then all = omega (arith, first, then, all)
 
-    all : rings_of (take (i + 1) entries) ≡ rings_of (take i entries) + rings_in entry.table
-    all = ap (λ k. rings_of (take k entries)) (let s : i + 1 ≡ suc i = omega arith in s) ∙ sum-more (λ (e : Entry). rings_in e.table) entries i entry here
+pub repairs-more : (entries : List Entry) (i : ℕ) (entry : Entry) (f m n : FlashState) → slice_get entries i ≡ Some entry → FewRepairs (repairs_of (take i entries)) f m →
+    FewRepairs (repairs_in entry.table) m n → FewRepairs (repairs_of (take (i + 1) entries)) f n
+repairs-more entries i entry f m n here before own =
+    record {
+      programs = some-more f.work.programs m.work.programs n.work.programs (repairs_of (take i entries)) (repairs_in entry.table) (repairs_of (take (i + 1) entries)) before.programs own.programs all;
+      erases = some-more f.work.erases m.work.erases n.work.erases (repairs_of (take i entries)) (repairs_in entry.table) (repairs_of (take (i + 1) entries)) before.erases own.erases all;
+    }
+  where
+    all : repairs_of (take (i + 1) entries) ≡ repairs_of (take i entries) + repairs_in entry.table
+    all = ap (λ k. repairs_of (take k entries)) (let s : i + 1 ≡ suc i = omega arith in s) ∙ sum-more (λ (e : Entry). repairs_in e.table) entries i entry here
 
 pub outside-none : (entries : List Entry) (page : ℕ → List ℕ) → OutsideStands (take 0 entries) page page
 outside-none entries page q beside = refl

@@ -10,7 +10,7 @@ use Rattle.fl_frame.specs.Watched.{IsWatched}
 use Rattle.fl_table.specs.Causes.{MountCausedBy}
 use Rattle.fl_table.specs.Mounting.{FewRepairs}
 use Rattle.fl_store.specs.Calls.{powered}
-use Rattle.fl_store.specs.Mounting.{AreUnlogged, MountsInTurn, OutsideStands, RefusesAt, rings_of, tried}
+use Rattle.fl_store.specs.Mounting.{MountsInTurn, OutsideStands, RefusesAt, repairs_of, tried}
 use Rattle.fl_store.specs.Store.{Holds, IsOnMedium}
 use Rattle.fl_store.specs.Tables.{LieOn, TablesMount, TablesStand, pages_of}
 use Rattle.fl_store.specs.declared.tables.BadMount.{BadMount}
@@ -56,9 +56,9 @@ module _ (f on : FlashState) (is : on ≡ powered f) where
       pub power-through : Goes on g → OnOk result (on.is_on ≡ true → g.is_on ≡ true) → OnOk result (g.is_on ≡ true)
       power-through goes h = on-ok (on.is_on ≡ true) (g.is_on ≡ true) result h (ap (λ (x : FlashState). x.is_on) is)
 
-      pub repairs-through : (AreUnlogged (tried result entries) → FewRepairs (rings_of (tried result entries)) on g) → AreUnlogged (tried result entries) → FewRepairs (rings_of (tried result entries)) f g
-      repairs-through h unlogged =
-          let few = subst (λ (x : FlashState). FewRepairs (rings_of (tried result entries)) x g) is (h unlogged) in
+      pub repairs-through : FewRepairs (repairs_of (tried result entries)) on g → FewRepairs (repairs_of (tried result entries)) f g
+      repairs-through h =
+          let few = subst (λ (x : FlashState). FewRepairs (repairs_of (tried result entries)) x g) is h in
           record { programs = few.programs; erases = few.erases }
 
       pub outside-through : (IsTrue on.media.tells → OutsideStands (tried result entries) (page_at on) (page_at g)) → IsTrue f.media.tells → OutsideStands (tried result entries) (page_at f) (page_at g)

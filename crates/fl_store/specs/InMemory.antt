@@ -1,13 +1,13 @@
 -- What the calls of a store leave of its tables in memory, whatever the flash holds.
-use Rattle.std.specs.Prelude.{◌≡◌, ℕ, ◌+◌, ◌≤◌, Bool, false, ◌&&◌, ◌||◌, not, None, Some, option_map, unwrap_or, List, [], ◌∷◌, ◌++◌, slice_get}
+use Rattle.std.specs.Prelude.{◌≡◌, ℕ, ◌≤◌, Bool, false, ◌&&◌, ◌||◌, not, None, Some, option_map, unwrap_or, List, slice_get}
 use Rattle.fl_model.specs.Record.{Record}
-use Rattle.fl_model.specs.Row.{Row}
 use Rattle.fl_rlc.specs.Rows.{AreBegun, HaveLogged}
 use Rattle.fl_rlc.specs.Table.{is_running, is_stopped, log_in, table_in}
 use Rattle.fl_rlc.specs.declared.table.LoggedTable.{LoggedTable}
 use Rattle.fl_table.specs.BlobAt.{has_blobs}
 use Rattle.fl_table.specs.Look.{last_key_in, layout_in}
-use Rattle.fl_table.specs.Memory.{HasRoom, PendingAre, next_in, pending_in}
+use Rattle.fl_table.specs.Memory.{pending_in}
+use Rattle.fl_table.specs.Stored.{IsEmptied, Stores}
 use Rattle.fl_store.specs.Calls.{columns_at}
 use Rattle.fl_store.specs.Mounting.{AreSameNames, AreSamePlans}
 use Rattle.fl_store.specs.declared.tables.Entry.{Entry}
@@ -37,16 +37,16 @@ pub record LeavesOthers (breaks : Bool) (old : List Entry) (at : ℕ) (new : Lis
   pub others : (i : ℕ) → (at ≡ i → ⊥) → slice_get new i ≡ slice_get old i
   pub own : Becomes (GoesOn breaks) old at new
 
--- The record is the last one, and waits behind those that waited, where there was room for it; and the log has it, where there is one.
+-- The record is the last one, and waits: behind those that waited, or alone where their page was full, which was made; and the log
+-- has it, where there is one.
 pub record Takes (item : Record) (was now : LoggedTable 64 64) : Type 0 where
   pub last : last_key_in (table_in now) ≡ Some item.key
-  pub pending : HasRoom (table_in was) → pending_in (table_in now) ≡ pending_in (table_in was) + 1
-  pub rows : HasRoom (table_in was) → item.blob ≡ None → (rows : List Row) → PendingAre (table_in was) rows → PendingAre (table_in now) (rows ++ (record { key = item.key; values = item.values; blob = None }) ∷ [])
+  pub stores : Stores (table_in was) item.key item.values item.blob (table_in now)
   pub logs : HaveLogged (layout_in (table_in was)) (record { key = item.key; values = item.values; blob = None }) (log_in was) (log_in now)
 
 -- no record waits, and those that did have the next page; the last record is the one that it was
 pub record Flushes (was now : LoggedTable 64 64) : Type 0 where
   pub none : pending_in (table_in now) ≡ 0
   pub last : last_key_in (table_in now) ≡ last_key_in (table_in was)
-  pub seals : 1 ≤ pending_in (table_in was) → next_in (table_in now) ≡ next_in (table_in was) + 1
+  pub seals : 1 ≤ pending_in (table_in was) → IsEmptied (table_in was) (table_in now)
   pub begins : 1 ≤ pending_in (table_in was) → AreBegun (log_in was) (log_in now)

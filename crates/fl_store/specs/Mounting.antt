@@ -4,7 +4,7 @@ use Rattle.fl_flash.specs.Flash.{FlashState}
 use Rattle.fl_index.specs.Memory as memory
 use Rattle.fl_rlc.specs.Memory.{log_shape}
 use Rattle.fl_rlc.specs.Mounting.{FindsPages, RefusesPages}
-use Rattle.fl_rlc.specs.Table.{IsSamePlan, is_logged, log_in, rings_in, table_in}
+use Rattle.fl_rlc.specs.Table.{IsSamePlan, is_logged, log_in, repairs_in, table_in}
 use Rattle.fl_rlc.specs.declared.table.LoggedTable.{LoggedTable}
 use Rattle.fl_table.specs.BlobAt.{data_in}
 use Rattle.fl_table.specs.Bitmaps.{IsOutside}
@@ -45,9 +45,9 @@ abbrev pub tried : Result (Unit {0}) BadMount → List Entry → List Entry
 tried (Ok done) entries = entries
 tried (Err bad) entries = take (bad.at + 1) entries
 
--- how many rings they have
-abbrev pub rings_of : List Entry → ℕ
-rings_of entries = sum_by (λ entry. rings_in entry.table) entries
+-- how often their mounts program at most, and how often they erase
+abbrev pub repairs_of : List Entry → ℕ
+repairs_of entries = sum_by (λ entry. repairs_in entry.table) entries
 
 -- none of these tables has a log
 abbrev pub AreUnlogged : List Entry → Type 0

@@ -3,7 +3,7 @@ use Rattle.std.specs.Prelude.{◌≡◌, true, IsTrue, Result, OnOk, IfErr, List
 use Rattle.fl_flash.specs.Flash.{FlashState, page_at}
 use Rattle.fl_table.specs.Causes.{MountCausedBy}
 use Rattle.fl_table.specs.Mounting.{FewRepairs}
-use Rattle.fl_store.specs.Mounting.{AreSameNames, AreSamePlans, AreUnlogged, MountsInTurn, OutsideStands, RefusesAt, rings_of, tried}
+use Rattle.fl_store.specs.Mounting.{AreSameNames, AreSamePlans, MountsInTurn, OutsideStands, RefusesAt, repairs_of, tried}
 use Rattle.fl_store.specs.Tables.{AreRunning, NonePending, StopsAt}
 use Rattle.fl_store.specs.declared.tables.BadMount.{BadMount}
 use Rattle.fl_store.specs.declared.tables.Entry.{Entry}
@@ -21,5 +21,5 @@ pub record MountsOver (old new : List Entry) (f : FlashState) (outcome : Result 
   pub as_many : length new ≡ length old
   pub names : AreSameNames old new
   pub same : AreSamePlans old new
-  pub repairs : AreUnlogged (tried outcome old) → FewRepairs (rings_of (tried outcome old)) f g
+  pub repairs : FewRepairs (repairs_of (tried outcome old)) f g
   pub outside : IsTrue f.media.tells → OutsideStands (tried outcome old) (page_at f) (page_at g)

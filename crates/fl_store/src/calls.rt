@@ -8,21 +8,24 @@ ghost use Rattle.fl_model.specs.Table.{last_entry};
 ghost use Rattle.fl_model.specs.Work.{Device};
 ghost use Rattle.fl_frame.specs.Contents.{OnlyReads};
 ghost use Rattle.fl_frame.specs.Watched.{IsWatched};
+ghost use Rattle.fl_rlc.specs.Paged.{HasMadePage, PutLogged};
 ghost use Rattle.fl_rlc.specs.Refusal.{put_refusal, NeedsNoOperation};
 ghost use Rattle.fl_rlc.specs.Table as logged;
-ghost use Rattle.fl_rlc.specs.Table.{is_running, rings_in, table_in};
+ghost use Rattle.fl_ring.specs.Written.{Writes};
+ghost use Rattle.fl_rlc.specs.Table.{is_running, rings_in, table_in, MayPut};
 ghost use Rattle.fl_schema.specs.Schema.{layout_of_row, row_of};
 ghost use Rattle.fl_table.specs.BlobAt.{data_in};
 ghost use Rattle.fl_table.specs.Blobs.{most_pages};
 ghost use Rattle.fl_table.specs.Causes.{FlushCausedBy, MountCausedBy, PutCausedBy, flush_breaks, put_breaks};
 ghost use Rattle.fl_table.specs.Finding.{HasKeyAt, IsAnswered, LookupFails, row_in, row_of_place};
 ghost use Rattle.fl_table.specs.Look.{counts_in, counts_of, last_key_in};
-ghost use Rattle.fl_table.specs.Memory.{pending_in};
-ghost use Rattle.fl_table.specs.Mounting.{FewRepairs};
+ghost use Rattle.fl_table.specs.Memory.{pending_in, HasRoom, MaySeal};
+ghost use Rattle.fl_table.specs.Mounting.{FewRepairs, rings_in as table_rings};
+ghost use Rattle.fl_table.specs.Paged.{HasFlushed};
 ghost use Rattle.fl_table.specs.Refusal.{RefusesAs};
 ghost use Rattle.fl_store.specs.Calls.{Finds, FlushEnds, GetEnds, HavePage, IsRefusedSame, IsRowIn, Located, PutEnds, RunsAt, columns_at, powered};
 ghost use Rattle.fl_store.specs.InMemory.{AreSameTables, Becomes, Flushes, LeavesOthers, Takes, has_blobs_at};
-ghost use Rattle.fl_store.specs.Mounting.{AreUnlogged, MountsInTurn, OutsideStands, RefusesAt, rings_of, tried};
+ghost use Rattle.fl_store.specs.Mounting.{MountsInTurn, OutsideStands, RefusesAt, repairs_of, tried};
 ghost use Rattle.fl_store.specs.Store.{Holds, IsOnMedium};
 ghost use Rattle.fl_store.specs.Tables.{AreRunning, LieOn, NonePending, StopsAt, TablesMount, pages_of};
 ghost use Rattle.fl_store.specs.declared.tables.Entry.{Entry};
@@ -53,7 +56,7 @@ impl<'m, M: Media> Store<'m, M> {
         ensures running { OnOk result (AreRunning self.new.tables.entries.items) }
         ensures none { OnOk result (NonePending self.new.tables.entries.items) }
         ensures power { OnOk result ((⟦<SimFlash<'m, M> as Flash>⟧.state self.new.flash).is_on ≡ true) }
-        ensures repairs { AreUnlogged (tried result self.old.tables.entries.items) → FewRepairs (rings_of (tried result self.old.tables.entries.items)) (⟦<SimFlash<'m, M> as Flash>⟧.state self.old.flash) (⟦<SimFlash<'m, M> as Flash>⟧.state self.new.flash) }
+        ensures repairs { FewRepairs (repairs_of (tried result self.old.tables.entries.items)) (⟦<SimFlash<'m, M> as Flash>⟧.state self.old.flash) (⟦<SimFlash<'m, M> as Flash>⟧.state self.new.flash) }
         ensures outside { IsTrue (⟦<SimFlash<'m, M> as Flash>⟧.state self.old.flash).media.tells → OutsideStands (tried result self.old.tables.entries.items) (page_at (⟦<SimFlash<'m, M> as Flash>⟧.state self.old.flash)) (page_at (⟦<SimFlash<'m, M> as Flash>⟧.state self.new.flash)) }
         ensures reads { IsTrue (⟦<SimFlash<'m, M> as Flash>⟧.state self.old.flash).media.tells → (⟦<SimFlash<'m, M> as Flash>⟧.state self.new.flash).work.reads ≤ (⟦<SimFlash<'m, M> as Flash>⟧.state self.old.flash).work.reads + 4 * pages_of self.old.tables.entries.items }
         ensures same { AreSameTables self.old.tables.entries.items self.new.tables.entries.items }
@@ -106,6 +109,9 @@ impl<'m, M: Media> Store<'m, M> {
         ensures power { OnOk result ((⟦<SimFlash<'m, M> as Flash>⟧.state self.old.flash).is_on ≡ true → (⟦<SimFlash<'m, M> as Flash>⟧.state self.new.flash).is_on ≡ true) }
         ensures same { AreSameTables self.old.tables.entries.items self.new.tables.entries.items }
         ensures outside { (entry : Entry) → slice_get self.old.tables.entries.items at ≡ Some entry → IsTrue (⟦<SimFlash<'m, M> as Flash>⟧.state self.old.flash).media.tells → logged.OutsideStands entry.table (page_at (⟦<SimFlash<'m, M> as Flash>⟧.state self.old.flash)) (page_at (⟦<SimFlash<'m, M> as Flash>⟧.state self.new.flash)) }
+        ensures writes { (entry : Entry) → slice_get self.old.tables.entries.items at ≡ Some entry → Writes (MayPut entry.table (option_map (λ b. b.now) blob.entry)) 0 (rings_in entry.table + most_pages (data_in (table_in entry.table)) (option_map (λ b. b.now) blob.entry)) (⟦<SimFlash<'m, M> as Flash>⟧.state self.old.flash) (⟦<SimFlash<'m, M> as Flash>⟧.state self.new.flash) }
+        ensures log_page { (entry : Entry) → slice_get self.old.tables.entries.items at ≡ Some entry → OnOk result (PutLogged entry.table (record { key = key; values = values.now; blob = None }) (⟦<SimFlash<'m, M> as Flash>⟧.state self.old.flash) (⟦<SimFlash<'m, M> as Flash>⟧.state self.new.flash)) }
+        ensures sealed { (entry : Entry) → slice_get self.old.tables.entries.items at ≡ Some entry → OnOk result ((HasRoom (table_in entry.table) → ⊥) → HasMadePage entry.table (option_map (λ b. b.now) blob.entry) (⟦<SimFlash<'m, M> as Flash>⟧.state self.old.flash) (⟦<SimFlash<'m, M> as Flash>⟧.state self.new.flash)) }
         ensures reads { (⟦<SimFlash<'m, M> as Flash>⟧.state self.new.flash).work.reads ≡ (⟦<SimFlash<'m, M> as Flash>⟧.state self.old.flash).work.reads }
         ensures media_reads { (entry : Entry) → slice_get self.old.tables.entries.items at ≡ Some entry → (⟦<SimFlash<'m, M> as Flash>⟧.state self.new.flash).media.reads ≤ (⟦<SimFlash<'m, M> as Flash>⟧.state self.old.flash).media.reads + rings_in entry.table + most_pages (data_in (table_in entry.table)) (option_map (λ b. b.now) blob.entry) }
         ensures goes { Goes (⟦<SimFlash<'m, M> as Flash>⟧.state self.old.flash) (⟦<SimFlash<'m, M> as Flash>⟧.state self.new.flash) }
@@ -138,6 +144,8 @@ impl<'m, M: Media> Store<'m, M> {
         ensures power { OnOk result ((⟦<SimFlash<'m, M> as Flash>⟧.state self.old.flash).is_on ≡ true → (⟦<SimFlash<'m, M> as Flash>⟧.state self.new.flash).is_on ≡ true) }
         ensures same { AreSameTables self.old.tables.entries.items self.new.tables.entries.items }
         ensures outside { (entry : Entry) → slice_get self.old.tables.entries.items at ≡ Some entry → IsTrue (⟦<SimFlash<'m, M> as Flash>⟧.state self.old.flash).media.tells → logged.OutsideStands entry.table (page_at (⟦<SimFlash<'m, M> as Flash>⟧.state self.old.flash)) (page_at (⟦<SimFlash<'m, M> as Flash>⟧.state self.new.flash)) }
+        ensures writes { (entry : Entry) → slice_get self.old.tables.entries.items at ≡ Some entry → Writes (MaySeal (table_in entry.table)) 0 (table_rings (table_in entry.table)) (⟦<SimFlash<'m, M> as Flash>⟧.state self.old.flash) (⟦<SimFlash<'m, M> as Flash>⟧.state self.new.flash) }
+        ensures sealed { (entry : Entry) → slice_get self.old.tables.entries.items at ≡ Some entry → OnOk result (1 ≤ pending_in (table_in entry.table) → HasFlushed (table_in entry.table) (⟦<SimFlash<'m, M> as Flash>⟧.state self.old.flash) (⟦<SimFlash<'m, M> as Flash>⟧.state self.new.flash)) }
         ensures reads { (⟦<SimFlash<'m, M> as Flash>⟧.state self.new.flash).work.reads ≡ (⟦<SimFlash<'m, M> as Flash>⟧.state self.old.flash).work.reads }
         ensures media_reads { (entry : Entry) → slice_get self.old.tables.entries.items at ≡ Some entry → (⟦<SimFlash<'m, M> as Flash>⟧.state self.new.flash).media.reads ≤ (⟦<SimFlash<'m, M> as Flash>⟧.state self.old.flash).media.reads + rings_in entry.table }
         ensures goes { Goes (⟦<SimFlash<'m, M> as Flash>⟧.state self.old.flash) (⟦<SimFlash<'m, M> as Flash>⟧.state self.new.flash) }

@@ -44,7 +44,7 @@ impl Tables {
     ghost use Rattle.fl_machine.specs.Reads.{mounts_limit};
     ghost use Rattle.fl_table.specs.Causes.{MountCausedBy};
     ghost use Rattle.fl_table.specs.Mounting.{FewRepairs};
-    ghost use Rattle.fl_store.specs.Mounting.{AreSameNames, AreSamePlans, AreUnlogged, MountsInTurn, OutsideStands, RefusesAt, rings_of, tried};
+    ghost use Rattle.fl_store.specs.Mounting.{AreSameNames, AreSamePlans, AreUnlogged, MountsInTurn, OutsideStands, RefusesAt, repairs_of, tried};
     ghost use Rattle.fl_store.specs.Repaired.{IsLeft};
     ghost use Rattle.fl_store.specs.Tables.{AreNewTables, Names, LieOn, AreRunning, NonePending, StopsAt, TablesStand, TablesMount, pages_of};
 
@@ -93,7 +93,7 @@ impl Tables {
         ensures repaired { OnOk result (IsTrue (F.state flash.old).media.tells → (plans : List Plan) → (tables : List model.Table) → TablesStand (F.state flash.old) (λ i. false) plans self.old.entries.items tables
             → AreUnlogged self.old.entries.items ⊎ ((rose : Bool) × (device : Device) × IsWatched (F.state flash.old) (F.state flash.new) rose device)
             → (page : ℕ) → page < sum_by blocks_of plans * (F.state flash.old).geometry.block → IsLeft plans (F.state flash.old).geometry page (page_at (F.state flash.old) page) (page_at (F.state flash.new) page)) }
-        ensures repairs { AreUnlogged (tried result self.old.entries.items) → FewRepairs (rings_of (tried result self.old.entries.items)) (F.state flash.old) (F.state flash.new) }
+        ensures repairs { FewRepairs (repairs_of (tried result self.old.entries.items)) (F.state flash.old) (F.state flash.new) }
         ensures outside { IsTrue (F.state flash.old).media.tells →
             OutsideStands (tried result self.old.entries.items) (page_at (F.state flash.old)) (page_at (F.state flash.new)) }
         ensures reads { IsTrue (F.state flash.old).media.tells → (F.state flash.new).work.reads ≤ (F.state flash.old).work.reads + 4 * pages_of self.old.entries.items }

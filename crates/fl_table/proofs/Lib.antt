@@ -20,10 +20,14 @@ pub mod PowerOff
 pub mod PowerOn
 pub mod Outsides
 pub mod Firsts
+pub mod Learned
+pub mod Stored
+pub mod Counted
 pub mod FullEntries
 pub mod NotedEntries
 pub mod MountIndexed
 pub mod MountJoined
+pub mod Paged
 pub mod BlobRows
 pub mod States
 pub mod Sealed

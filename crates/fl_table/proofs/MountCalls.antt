@@ -30,7 +30,7 @@ use Rattle.fl_index.specs.declared.index.BitmapIndex.{BitmapIndex}
 use Rattle.fl_table.specs.Bitmaps.{room_of}
 use Rattle.fl_table.specs.ByEntries.{Come, facts_on, rows_of, voids_of, end_of, known_after, mount_fault}
 use Rattle.fl_table.specs.Coming.{FirstsKnown, WaitUnlisted, index_pages_of, most_in}
-use Rattle.fl_table.specs.Knowing.{KnowsAll, KnowsBy, KnowsWith}
+use Rattle.fl_table.specs.Knowing.{IsLearned, KnowsAll, KnowsBy, KnowsWith}
 use Rattle.fl_table.specs.Mounting.{ReadsRing, FindsData, HasBadPage, RefusesData, RemembersKept, comes_in}
 use Rattle.fl_table.specs.Reading.{pages_of}
 use Rattle.fl_table.specs.declared.counts.Mounted.{Mounted}
@@ -41,6 +41,7 @@ use Rattle.fl_table.specs.declared.faults.MountFault.TheVariants.{Flash, Ring as
 use Rattle.fl_table.specs.declared.table.Table.{Table}
 use Rattle.fl_table.proofs.MountProgress.{come-as, come-rows}
 use Rattle.fl_table.proofs.Firsts.{firsts-read, kept-firsts}
+use Rattle.fl_table.proofs.Learned.{learned-all}
 use Rattle.fl_table.proofs.Steps.{ends-well}
 
 -- where its ring lies
@@ -124,6 +125,14 @@ module _ {KNOTS SLOTS : ℕ} (old new : Table KNOTS SLOTS) (f mid g : FlashState
         mounted_as : (rows voids : ℕ) → known.rows ≡ rows → known.voids ≡ voids →
             ◌≡◌ {A = Mounted} (record { rows = known.rows; pages = next_of ring - oldest_of ring; voids = known.voids }) (record { rows = rows; pages = next_of ring - oldest_of ring; voids = voids })
         mounted_as rows voids e k = rw (e, k) refl
+
+    -- .. and so is what the table keeps in memory of them
+    pub learns : (error : ℕ) (known : Known) (counts : List ℕ) (index : KeyIndex KNOTS SLOTS) → known.newest ≡ None →
+        KnowsWith error (comes_in old bitmaps ring mid) (comes_in old bitmaps ring mid).index_pages (comes_in old bitmaps ring mid).pages known counts index →
+        IsLearned error (comes_in old bitmaps ring g) known.voids counts index
+    learns error known counts index none h =
+        subst (λ (t : Come). IsLearned error t known.voids counts index) (sym same-come)
+        (learned-all error (comes_in old bitmaps ring mid) (comes_in old bitmaps ring mid).index_pages known counts index h none)
 
     -- .. and the first data page of each kept index page is remembered
     pub finds-firsts : (error : ℕ) (known : Known) (counts : List ℕ) (index : KeyIndex KNOTS SLOTS) (now : Option BitmapIndex) → known.newest ≡ None →

@@ -39,7 +39,8 @@ use Rattle.fl_table.specs.Causes.{MountCausedBy, of_ring}
 use Rattle.fl_table.specs.Memory.{IsPlanned, IsSamePlan, ring_shape}
 use Rattle.fl_table.specs.ByEntries.{Come, facts_on, known_after, rows_of, voids_of, end_of, mount_fault}
 use Rattle.fl_table.specs.Coming.{StandFound, StandsFoundBy, WaitUnlisted, come_of, most_in}
-use Rattle.fl_table.specs.Mounting.{FindsBy, FindsBitmaps, FindsRows, ReadsRing, HasBadPage, FindsData, RefusesData, RefusesRows, comes_in}
+use Rattle.fl_find.specs.Index.{error_in}
+use Rattle.fl_table.specs.Mounting.{FindsBy, FindsBitmaps, FindsRows, ReadsRing, HasBadPage, HasLearned, FindsData, RefusesData, RefusesRows, comes_in}
 use Rattle.fl_table.specs.Outcomes.{RingsEnd, MountEnds, var_rings}
 use Rattle.fl_table.specs.Pages.{Rests, bytes_in}
 use Rattle.fl_table.specs.Reading.{pages_of}
@@ -234,6 +235,10 @@ finds-as t t1 bitmaps f was least mounted now new h same blobs e = subst (λ (n 
   waits = subst (λ (c : Come). WaitUnlisted c (pages_of h.ring h.between) bitmaps was (next_of h.ring) now.bitmaps) (comes_as t t1 bitmaps h.ring h.between same) h.waits;
   firsts = h.firsts;
   pending = h.pending;
+  bits = h.bits;
+  learned = subst (λ (c : Come). HasLearned (error_in t.index) c now) (comes_as t t1 bitmaps h.ring h.between same)
+      (subst (λ error. HasLearned error (comes_in t1 bitmaps h.ring h.between) now) same.error h.learned);
+  counts = h.counts;
   blobs = subst (λ (o : Option VarData). FindsBlobs o h.between (least_of h.end) now.blobs new) blobs h.blobs;
   below = h.below;
 })

@@ -33,6 +33,10 @@ pub on-ok : {E : Type 0} (result : Result (Unit {0}) E) (P Q : Type 0) → (P �
 on-ok (Ok done) P Q f h = f h
 on-ok (Err e) P Q f h = tt
 
+pub on-both : {E : Type 0} (result : Result (Unit {0}) E) (P Q R : Type 0) → (P → Q → R) → OnOk result P → OnOk result Q → OnOk result R
+on-both (Ok done) P Q R f p q = f p q
+on-both (Err e) P Q R f p q = tt
+
 -- what holds anyway holds where it failed
 pub on-err : {T E P : Type 0} (result : Result T E) → P → OnErr result P
 on-err (Ok done) h = tt

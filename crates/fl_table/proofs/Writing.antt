@@ -1,15 +1,20 @@
 -- What the seals of a table's rings change of a flash, one after another.
-use Rattle.std.proofs.Common.{◌≡◌, ℕ, ◌+◌, ◌≤◌, Option, Some, None, inl, inr, refl, subst, arith}
+use Rattle.std.proofs.Common.{◌≡◌, ℕ, ◌+◌, ◌<◌, ◌≤◌, Option, Some, None, List, length, inl, inr, sym, subst, arith}
 use Rattle.fl_flash.specs.Flash.{FlashState}
+use Rattle.fl_ring.specs.Ring.{Shape, room}
 use Rattle.fl_ring.specs.Written.{MaySealIn, Writes}
 use Rattle.fl_ring.specs.declared.ring.Ring.{Ring}
 use Rattle.fl_ring.proofs.Written.{writes-then, writes-wider}
 use Rattle.fl_table.specs.Bitmaps as bitmaps
 use Rattle.fl_table.specs.Blobs as variable
-use Rattle.fl_table.specs.Memory.{MaySeal}
+use Rattle.fl_table.specs.Memory.{MayPut, MaySeal}
 use Rattle.fl_table.specs.Mounting.{rings_in}
 use Rattle.fl_table.specs.declared.table.Table.{Table}
+use Rattle.fl_table.proofs.BlobsOfTable.{pages-most}
+use Rattle.fl_var.specs.Memory.{IsOnRing}
+use Rattle.fl_var.specs.Placing.{pages_placed}
 use Rattle.fl_var.specs.declared.var_data.VarData.{VarData}
+use Rattle.fl_var.proofs.Joins.{same-shape}
 
 few-first : (a b : ℕ) → a ≤ a + b + 1
 few-first a b = omega arith
@@ -20,12 +25,37 @@ few-both a b = omega arith
 same : (n : ℕ) → n ≤ n
 same n = omega arith
 
--- a record without a blob fills no page of them
-pub pages-none : (blobs : Option VarData) → variable.pages_for blobs None ≡ 0
-pages-none None = refl
-pages-none (Some var) = refl
+-- a blob of a ring of variable data
+pub fill-writes : (blob : Option (List ℕ)) (blobs : Option VarData) (bytes : List ℕ) (var : VarData) (f g : FlashState) → blob ≡ Some bytes → blobs ≡ Some var → Writes (IsOnRing var) 0 (pages_placed var (length bytes)) f g →
+    Writes (variable.MayFill blob blobs) 0 (variable.pages_for blobs blob) f g
+fill-writes blob blobs bytes var f g b v h =
+    subst (λ (o : Option (List ℕ)). Writes (variable.MayFill o blobs) 0 (variable.pages_for blobs o) f g) (sym b)
+    (subst (λ (o : Option VarData). Writes (variable.MayFill (Some bytes) o) 0 (variable.pages_for o (Some bytes)) f g) (sym v)
+    (writes-wider (IsOnRing var) (variable.MayFill (Some bytes) (Some var)) 0 0 (pages_placed var (length bytes)) (pages_placed var (length bytes)) f g (λ page may. may) (same 0) (same (pages_placed var (length bytes))) h))
+
+-- it may change the same pages of another one with the same plan
+pub fill-moved : (blob : Option (List ℕ)) (old new : Option VarData) → variable.AreSamePlan old new → (page : ℕ) → variable.MayFill blob new page → variable.MayFill blob old page
+fill-moved None old new plan page may = absurd may
+fill-moved (Some bytes) None None plan page may = absurd may
+fill-moved (Some bytes) None (Some now) plan page may = absurd plan
+fill-moved (Some bytes) (Some var) None plan page may = absurd may
+fill-moved (Some bytes) (Some var) (Some now) plan page may = subst (λ (r : Shape). (r.first ≤ page) × (page < r.first + room r)) (same-shape var now plan) may
 
 module _ {KNOTS SLOTS : ℕ} (t : Table KNOTS SLOTS) where
+  -- a put that seals the page of pending rows, ..
+  pub room-writes : (blob : Option (List ℕ)) (many : ℕ) (f g : FlashState) → Writes (MaySeal t) 0 (rings_in t) f g → Writes (MayPut t blob) 0 (rings_in t + many) f g
+  room-writes blob many f g h = writes-wider (MaySeal t) (MayPut t blob) 0 0 (rings_in t) (rings_in t + many) f g (λ page may. inl may) (same 0) (let e : rings_in t ≤ rings_in t + many = omega arith in e) h
+
+  -- .. and then places a blob
+  pub put-writes : (u : Table KNOTS SLOTS) (blob : Option (List ℕ)) (least : ℕ) (f m g : FlashState) → m.media.tells ≡ f.media.tells → variable.AreSamePlan t.blobs u.blobs → Writes (MaySeal t) least (rings_in t) f m →
+      Writes (variable.MayFill blob u.blobs) 0 (variable.pages_for u.blobs blob) m g → Writes (MayPut t blob) least (rings_in t + variable.most_pages t.blobs blob) f g
+  put-writes u blob least f m g tells plan first second =
+      let all : Writes (MayPut t blob) (least + 0) (rings_in t + variable.most_pages t.blobs blob) f g =
+      writes-then (MayPut t blob) least (rings_in t) 0 (variable.most_pages t.blobs blob) f m g tells
+      (writes-wider (MaySeal t) (MayPut t blob) least least (rings_in t) (rings_in t) f m (λ page may. inl may) (same least) (same (rings_in t)) first)
+      (writes-wider (variable.MayFill blob u.blobs) (MayPut t blob) 0 0 (variable.pages_for u.blobs blob) (variable.most_pages t.blobs blob) m g (λ page may. inr (fill-moved blob t.blobs u.blobs plan page may)) (same 0) (pages-most t.blobs u.blobs blob plan) second) in
+      subst (λ n. Writes (MayPut t blob) n (rings_in t + variable.most_pages t.blobs blob) f g) (let e : least + 0 ≡ least = omega arith in e) all
+
   -- the seal of the index, ..
   index-widened : (f g : FlashState) → Writes (bitmaps.MaySeal t.bitmaps) 0 (bitmaps.rings_of t.bitmaps) f g → Writes (MaySeal t) 0 (bitmaps.rings_of t.bitmaps) f g
   index-widened f g h = writes-wider (bitmaps.MaySeal t.bitmaps) (MaySeal t) 0 0 (bitmaps.rings_of t.bitmaps) (bitmaps.rings_of t.bitmaps) f g (λ page may. inr (inl may)) (same 0) (same (bitmaps.rings_of t.bitmaps)) h

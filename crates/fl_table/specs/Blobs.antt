@@ -1,5 +1,5 @@
 -- The variable data of a table, where it has any: the blobs of its records.
-use Rattle.std.specs.Prelude.{◌≡◌, ◌⊎◌, ℕ, ◌+◌, ◌-◌, ◌*◌, ◌/◌, ◌^◌, ◌<◌, ◌≤◌, Bool, true, ◌==◌, Result, Ok, Err, Option, Some, None, is_some, option_map, unwrap_or, List, [], length, slice_get, if◌then◌else◌}
+use Rattle.std.specs.Prelude.{◌≡◌, ◌⊎◌, ℕ, ◌+◌, ◌-◌, ◌*◌, ◌/◌, ◌^◌, ◌<◌, ◌≤◌, Bool, true, ◌==◌, Result, Ok, Err, Option, Some, None, is_some, option_map, unwrap_or, List, [], ◌++◌, length, drop, slice_get, if◌then◌else◌}
 use Rattle.std.specs.Option.{ForSome, IsSomeAnd}
 use Rattle.fl_base.specs.declared.types.BlobRef.{BlobRef}
 use Rattle.fl_flash.specs.Flash.{FlashState}
@@ -17,7 +17,7 @@ use Rattle.fl_ring.specs.Ring.{OutsideStands, room}
 use Rattle.fl_frame.specs.Watched.{IsWatched}
 use Rattle.fl_var.specs.Memory as memory
 use Rattle.fl_var.specs.Memory.{is_mounted, next_in, waiting_in, room_in, page_in, var_shape}
-use Rattle.fl_var.specs.Placing.{Breaks, where_placed, pages_placed}
+use Rattle.fl_var.specs.Placing.{Breaks, where_placed, pages_placed, reference_in}
 pub use Rattle.fl_var.specs.Placing.{rest_seals}
 use Rattle.fl_var.specs.Standing as standing
 use Rattle.fl_var.specs.declared.var_data.VarData.{VarData}
@@ -73,6 +73,23 @@ abbrev pub most_pages : Option VarData → Option (List ℕ) → ℕ
 most_pages None blob = 0
 most_pages (Some var) None = 0
 most_pages (Some var) (Some bytes) = length bytes / room_in var + 1
+
+-- where a blob begins that is placed now, if there is one and the table keeps blobs
+abbrev pub placed_in : Option (List ℕ) → Option VarData → Option BlobRef
+placed_in None blobs = None
+placed_in (Some bytes) None = None
+placed_in (Some bytes) (Some var) = Some (reference_in var (length bytes))
+
+-- It was placed: its bytes wait behind those that did, but for those that filled pages.
+pub record HasPlaced (bytes : List ℕ) (old new : VarData) : Type 0 where
+  pub next : next_in new ≡ next_in old + pages_placed old (length bytes)
+  pub waits : waiting_in new ≡ drop (pages_placed old (length bytes) * room_in old) (waiting_in old ++ bytes)
+
+abbrev pub HavePlaced : Option (List ℕ) → Option VarData → Option VarData → Type 0
+HavePlaced None blobs new = new ≡ blobs
+HavePlaced (Some bytes) None new = new ≡ None
+HavePlaced (Some bytes) (Some var) None = ⊥
+HavePlaced (Some bytes) (Some var) (Some now) = HasPlaced bytes var now
 
 -- the number of the next page
 abbrev pub next_of : Option VarData → ℕ
@@ -152,6 +169,12 @@ StandOutside (Some var) old new = OutsideStands (var_shape var) old new
 -- the flash pages that a seal of it changes
 abbrev pub MaySeal : Option VarData → ℕ → Type 0
 MaySeal blobs page = IsSomeAnd blobs (λ var. memory.MaySeal var page)
+
+-- .. and those that may change while a blob is placed
+abbrev pub MayFill : Option (List ℕ) → Option VarData → ℕ → Type 0
+MayFill None blobs page = ⊥
+MayFill (Some bytes) None page = ⊥
+MayFill (Some bytes) (Some var) page = memory.IsOnRing var page
 
 -- how many pages the ring has, and how many rings there are
 abbrev pub room_of : Option VarData → ℕ

@@ -67,6 +67,13 @@ pub record KnowsWith {KNOTS SLOTS : ℕ} (error : ℕ) (t : Come) (k n : ℕ) (k
   pub knows : Knows t k n known counts
   pub points : IndexOf error (points_of (facts_on t) t.oldest (counted_to t n known.newest)) index
 
+-- What is kept in memory once all data pages are counted: how many rows each has, how many are void, and where the keys of the others
+-- begin.
+pub record IsLearned {KNOTS SLOTS : ℕ} (error : ℕ) (t : Come) (voids : ℕ) (counts : List ℕ) (index : KeyIndex KNOTS SLOTS) : Type 0 where
+  pub noted : AreNoted t 0 t.pages counts
+  pub voids_are : voids ≡ voids_of (facts_on t) t.oldest t.pages
+  pub points : IndexOf error (points_of (facts_on t) t.oldest t.pages) index
+
 -- what is known of n kept pages from a number on has small numbers, and the page that waits is one of them
 abbrev pub is_waiting : Option Listed → ℕ
 is_waiting None = 0

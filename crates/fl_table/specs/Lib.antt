@@ -4,6 +4,7 @@ pub mod BlobMount
 pub mod BlobEnds
 pub mod Bitmaps
 pub mod Memory
+pub mod Stored
 pub mod Refusal
 pub mod Standing
 pub mod Entries
@@ -16,6 +17,7 @@ pub mod ByEntries
 pub mod Coming
 pub mod Knowing
 pub mod Mounting
+pub mod Paged
 pub mod MountLimits
 pub mod Look
 pub mod Rings

@@ -72,6 +72,10 @@ ring_shape t = shape_at t.place t.geometry
 abbrev pub MaySeal : {KNOTS SLOTS : ℕ} → Table KNOTS SLOTS → ℕ → Type 0
 MaySeal t page = MaySealIn t.ring page ⊎ (bitmaps.MaySeal t.bitmaps page ⊎ variable.MaySeal t.blobs page)
 
+-- .. and a put, whose blob may fill pages
+abbrev pub MayPut : {KNOTS SLOTS : ℕ} → Table KNOTS SLOTS → Option (List ℕ) → ℕ → Type 0
+MayPut t blob page = MaySeal t page ⊎ variable.MayFill blob t.blobs page
+
 -- a table of this plan, whose blocks begin at `first`
 pub record IsPlanned {KNOTS SLOTS : ℕ} (t : Table KNOTS SLOTS) (first : ℕ) (plan : Plan) : Type 0 where
   pub geometry : plan.geometry ≡ t.geometry

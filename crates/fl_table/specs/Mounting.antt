@@ -11,6 +11,7 @@ use Rattle.fl_frame.specs.Causes.{ReadFails}
 use Rattle.fl_ring.specs.Mounting.{search_reads, HasNumbers, FailsAs}
 use Rattle.fl_ring.specs.Place.{next_of, oldest_of, shape_of}
 use Rattle.fl_schema.specs.Schema.{layout_of}
+use Rattle.fl_find.specs.Index.{error_in}
 use Rattle.fl_index.specs.Memory as memory
 use Rattle.fl_index.specs.Finding as finding
 use Rattle.fl_index.specs.Finding.{FindsEnd, FindsIndex, RefusesEnd, RefusesIndex}
@@ -21,6 +22,8 @@ use Rattle.fl_table.specs.Bitmaps.{room_of, rings_of, IsOutside, AreSamePlan, Ar
 use Rattle.fl_table.specs.Blobs as variable
 use Rattle.fl_var.specs.Memory.{var_shape}
 use Rattle.fl_table.specs.Causes.{of_ring}
+use Rattle.fl_table.specs.Knowing.{IsLearned}
+use Rattle.fl_table.specs.Look.{counts_in}
 use Rattle.fl_table.specs.Memory.{pending_in, ring_shape}
 use Rattle.fl_table.specs.declared.table.Table.{Table}
 use Rattle.fl_table.specs.declared.faults.MountFault.{MountFault}
@@ -112,8 +115,13 @@ RemembersKept None f now = Unit {0}
 RemembersKept (Some index) f None = ⊥
 RemembersKept (Some index) f (Some now) = RemembersPages (memory.form_in index).full index f now
 
--- The entries of the last data pages wait that no index page lists, and no row is pending. The variable data were found then, where the table has any:
--- each blob begins before their next page.
+-- a table in memory has learned what the kept data pages hold that a mount came to
+abbrev pub HasLearned : {KNOTS SLOTS : ℕ} → ℕ → Come → Table KNOTS SLOTS → Type 0
+HasLearned error t now = IsLearned error t now.voids now.counts.items now.index
+
+-- The entries of the last data pages wait that no index page lists, and no row is pending. What was counted is what the table counts from
+-- then on, and it has learned where the keys are. The variable data were found then, where the table has any: each blob begins before
+-- their next page.
 pub record FindsRows {KNOTS SLOTS : ℕ} (t : Table KNOTS SLOTS) (bitmaps : Option BitmapIndex) (old : FlashState) (least : ℕ) (mounted : Mounted) (now : Table KNOTS SLOTS) (new : FlashState) : Type 0 where
   pub ring : Ring
   pub ring_is : now.ring ≡ Some ring
@@ -123,6 +131,9 @@ pub record FindsRows {KNOTS SLOTS : ℕ} (t : Table KNOTS SLOTS) (bitmaps : Opti
   pub waits : WaitUnlisted (comes_in t bitmaps ring between) (pages_of ring between) bitmaps least (next_of ring) now.bitmaps
   pub firsts : RemembersKept bitmaps between now.bitmaps
   pub pending : pending_in now ≡ 0
+  pub bits : now.bitmap ≡ 0
+  pub learned : HasLearned (error_in t.index) (comes_in t bitmaps ring between) now
+  pub counts : counts_in now ≡ record { rows = mounted.rows; pending = 0; pages = mounted.pages; voids = mounted.voids }
   pub blobs : FindsBlobs t.blobs between (least_of end) now.blobs new
   pub below : AreBelow end now.blobs
 

@@ -1,5 +1,5 @@
 // The variable data of a table, where it has any.
-ghost use Rattle.std.specs.Prelude.{◌≡◌, ◌+◌, ◌*◌, ◌≤◌, ℕ, Bool, Ok, None, IsTrue, ◌&&◌, true, is_some, is_ok, option_map, length, IfOk, IfErr, OnOk};
+ghost use Rattle.std.specs.Prelude.{◌≡◌, ◌+◌, ◌*◌, ◌≤◌, ℕ, Bool, Ok, None, IsTrue, ◌&&◌, true, is_some, is_ok, option_map, length, IfSome, IfOk, IfErr, OnOk};
 ghost use Rattle.fl_flash.specs.Flash.{Goes, OffChangesNothing, page_at};
 ghost use Rattle.fl_model.specs.Record.{Plan, Record};
 ghost use Rattle.fl_model.specs.Table as model;
@@ -13,7 +13,8 @@ ghost use Rattle.fl_table.specs.BlobMount.{MountEndsOf, FindsBlobs, RefusesBlobs
 ghost use Rattle.fl_table.specs.Causes.{MountCausedBy, OffFailsAs};
 ghost use Rattle.fl_table.specs.MountLimits.{IsVarLimited};
 ghost use Rattle.fl_table.specs.Mounting.{FewReads, FewRepairs};
-ghost use Rattle.fl_table.specs.Blobs.{AreSamePlan, LieOn, AreRunning, AreEmpty, MaySeal, NumbersLeft, RestEndsOf, PlaceEndsOf, StandOutside, next_of, next_after, rings_of, room_of, HasFew, pages_for, FitsRow};
+ghost use Rattle.fl_table.specs.Blobs.{AreSamePlan, LieOn, AreRunning, AreEmpty, MayFill, MaySeal, NumbersLeft, RestEndsOf, PlaceEndsOf, StandOutside, next_of, next_after, rings_of, room_of, HasFew, HavePlaced, pages_for, placed_in, FitsRow};
+ghost use Rattle.fl_var.specs.Memory.{waiting_in, BytesPaged};
 
 use crate::MountFault;
 use crate::blob_end::least_of;
@@ -116,6 +117,7 @@ pub(crate) fn seal_rest<F: Flash>(
     ensures off { OffFailsAs FlashFault.PowerLost (F.state flash.old) result (F.state flash.new) }
     ensures quiet { AreEmpty blobs.old → (result ≡ Ok tt) × (F.state flash.new ≡ F.state flash.old) }
     ensures outside { IsTrue (F.state flash.old).media.tells → StandOutside blobs.old (page_at (F.state flash.old)) (page_at (F.state flash.new)) }
+    ensures page { IfSome blobs.old (λ var. 1 ≤ length (waiting_in var) → OnOk result (IsTrue (F.state flash.old).media.tells → BytesPaged var (page_at (F.state flash.old)) (page_at (F.state flash.new)))) }
     ensures writes { Writes (MaySeal blobs.old) 0 (rings_of blobs.old) (F.state flash.old) (F.state flash.new) }
     ensures reads { (F.state flash.new).work.reads ≡ (F.state flash.old).work.reads }
     ensures media_reads { (F.state flash.new).media.reads ≤ (F.state flash.old).media.reads + rings_of blobs.old }
@@ -141,6 +143,7 @@ pub(crate) fn place<F: Flash>(
     ensures same { AreSamePlan blobs.old blobs.new }
     ensures lies { LieOn blobs.new (F.state flash.new) }
     ensures running { OnOk result (AreRunning blobs.new) }
+    ensures placed { IfOk result (λ at. (at ≡ placed_in (option_map (λ b. b.now) blob.entry) blobs.old) × HavePlaced (option_map (λ b. b.now) blob.entry) blobs.old blobs.new) }
     ensures given { IfOk result (λ at. is_some at ≡ (is_some blobs.old && is_some blob.entry)) }
     ensures fits { IfOk result FitsRow }
     ensures next { OnOk result (next_of blobs.new ≡ next_of blobs.old + pages_for blobs.old (option_map (λ b. b.now) blob.entry)) }
@@ -150,6 +153,7 @@ pub(crate) fn place<F: Flash>(
     ensures ends { (first : ℕ) (plan : Plan) (table : model.Table) (item : Record) (rose : Bool) (device : Device) → item.blob ≡ option_map (λ b. b.now) blob.entry →
         PlaceEndsOf blobs.old (F.state flash.old) first plan item table rose device result blobs.new (F.state flash.new) }
     ensures outside { IsTrue (F.state flash.old).media.tells → StandOutside blobs.old (page_at (F.state flash.old)) (page_at (F.state flash.new)) }
+    ensures writes { Writes (MayFill (option_map (λ b. b.now) blob.entry) blobs.old) 0 (pages_for blobs.old (option_map (λ b. b.now) blob.entry)) (F.state flash.old) (F.state flash.new) }
     ensures reads { (F.state flash.new).work.reads ≡ (F.state flash.old).work.reads }
     ensures media_reads { (F.state flash.new).media.reads ≤ (F.state flash.old).media.reads + pages_for blobs.old (option_map (λ b. b.now) blob.entry) }
     ensures cause { IfErr result (λ e. CausedBy (F.state flash.old) e (F.state flash.new)) }

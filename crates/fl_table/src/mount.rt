@@ -50,7 +50,7 @@ impl<const KNOTS: usize, const SLOTS: usize> Table<KNOTS, SLOTS> {
     ghost use Rattle.fl_table.specs.Pages.{Rests};
     ghost use Rattle.fl_table.specs.Outcomes.{DataEnds, MountEnds, RingsEnd, var_rings};
     ghost use Rattle.fl_table.specs.MountLimits.{rows_mount_limit};
-    ghost use Rattle.fl_table.specs.Mounting.{FewReads, FewRepairs, FindsData, FindsPages, FindsRows, OutsideStands, RefusesData, RefusesPages, RefusesRows, RemembersKept, RowsStandOutside, comes_in, pages_in, rings_in};
+    ghost use Rattle.fl_table.specs.Mounting.{FewReads, FewRepairs, FindsData, FindsPages, FindsRows, HasLearned, OutsideStands, RefusesData, RefusesPages, RefusesRows, RemembersKept, RowsStandOutside, comes_in, pages_in, rings_in};
 
     // As it was before its first mount.
     pub(crate) fn forget(&mut self)
@@ -167,7 +167,7 @@ impl<const KNOTS: usize, const SLOTS: usize> Table<KNOTS, SLOTS> {
         ensures lies { LiesOn self.new (F.state flash.new) }
         ensures room { length buf.new.bytes ≡ length buf.old.bytes }
         ensures holds { buf.new.holds ≡ None }
-        ensures none { self.new.writer.count ≡ 0 }
+        ensures none { (self.new.writer.count ≡ 0) × (self.new.bitmap ≡ 0) }
         ensures down { self.new.ring ≡ None }
         ensures calm { is_stopped self.new ≡ false }
         ensures running { AreRunning self.new.bitmaps }
@@ -178,6 +178,7 @@ impl<const KNOTS: usize, const SLOTS: usize> Table<KNOTS, SLOTS> {
             → IsPlanned self.old first plan → Rests (F.state flash.old) first plan table → StandFound self.old.bitmaps (F.state flash.old) (first + plan.data_blocks) plan table → end ≡ index_end plan table
             → DataEnds first plan table rose device result self.new (F.state flash.new) }
         ensures found { IfOk result (λ rows. IsTrue (F.state flash.old).media.tells → FindsData self.old self.old.bitmaps (F.state flash.old) end rows.ring rows.mounted self.new.last_key rows.blob_end (F.state flash.new)) }
+        ensures learned { IfOk result (λ rows. IsTrue (F.state flash.old).media.tells → HasLearned (error_in self.old.index) (comes_in self.old self.old.bitmaps rows.ring (F.state flash.new)) self.new) }
         ensures waits { IfOk result (λ rows. IsTrue (F.state flash.old).media.tells → WaitUnlisted (comes_in self.old self.old.bitmaps rows.ring (F.state flash.new)) (pages_of rows.ring (F.state flash.new)) self.old.bitmaps end (next_of rows.ring) self.new.bitmaps) }
         ensures remembers { OnOk result (IsTrue (F.state flash.old).media.tells → RemembersKept self.old.bitmaps (F.state flash.new) self.new.bitmaps) }
         ensures refused { IfErr result (λ e. IsTrue (F.state flash.old).media.tells → RefusesData self.old self.old.bitmaps (F.state flash.old) end e (F.state flash.new)) }

@@ -23,7 +23,7 @@ fn with_value(buckets: Option<Buckets>, bitmap: u64, value: i64) -> u64
 }
 
 impl<const KNOTS: usize, const SLOTS: usize> Table<KNOTS, SLOTS> {
-    ghost use Rattle.std.specs.Prelude.{ℕ, Bool, List, Some, None, is_some, ◌||◌, ◌&&◌, not, nat_lt, ◌↔◌, Ok, Err};
+    ghost use Rattle.std.specs.Prelude.{ℕ, Bool, List, slice_index_or, pos, Some, None, is_some, ◌||◌, ◌&&◌, not, nat_lt, ◌↔◌, Ok, Err};
     ghost use Rattle.fl_model.specs.Record.{Plan, layout_len, rows_per_page};
     ghost use Rattle.fl_model.specs.Row.{Row, FitsRow, stored_row};
     ghost use Rattle.fl_model.specs.Table as model;
@@ -36,7 +36,7 @@ impl<const KNOTS: usize, const SLOTS: usize> Table<KNOTS, SLOTS> {
     ghost use Rattle.fl_flash.specs.Flash.{FlashState};
     ghost use Rattle.fl_table.specs.Causes.{PutCausedBy, FlushCausedBy, RefusedSame, put_breaks, flush_breaks};
     ghost use Rattle.fl_table.specs.Look.{last_key_in};
-    ghost use Rattle.fl_table.specs.Memory.{is_running, is_stopped, next_in, pending_in, HasBuckets, HasRoom, InMemory, IsSameBeside, IsSamePlan, LiesOn, MaySeal, PendingAre};
+    ghost use Rattle.fl_table.specs.Memory.{is_running, is_stopped, next_in, pending_in, HasBuckets, HasRoom, InMemory, IsSameBeside, IsSamePlan, LiesOn, MayPut, MaySeal, PendingAre};
     ghost use Rattle.fl_table.specs.Refusal.{put_refusal, RefusesAs};
     ghost use Rattle.fl_table.specs.Standing.{Stands};
     ghost use Rattle.fl_table.specs.Bitmaps.{next_of as index_next};
@@ -45,6 +45,8 @@ impl<const KNOTS: usize, const SLOTS: usize> Table<KNOTS, SLOTS> {
     ghost use Rattle.fl_table.specs.Mounting.{OutsideStands, rings_in};
     ghost use Rattle.fl_table.specs.Outcomes.{SealsEnd, JoinEnds, PutEnds, FlushEnds};
     ghost use Rattle.fl_table.specs.Accepting.{IsAcceptedBy};
+    ghost use Rattle.fl_table.specs.Paged.{HasFlushed, HasMadePage};
+    ghost use Rattle.fl_table.specs.Stored.{HasJoined, IsEmptied, KnowsSame, Stores};
 
     // The page buffer has no room for one row more.
     fn is_full(&self) -> bool
@@ -64,7 +66,8 @@ impl<const KNOTS: usize, const SLOTS: usize> Table<KNOTS, SLOTS> {
             → Stands self.old (F.state flash.old) first plan table → SealsEnd first plan (make_room_seals plan table) table rose device result self.new (F.state flash.old) (F.state flash.new) }
         ensures room { OnOk result (HasRoom self.new) }
         ensures quiet { HasRoom self.old → (result ≡ Ok tt) × (self.new ≡ self.old) × (F.state flash.new ≡ F.state flash.old) }
-        ensures full { OnOk result ((HasRoom self.old → ⊥) → (next_in self.new ≡ next_in self.old + 1) × (pending_in self.new ≡ 0)) }
+        ensures full { OnOk result ((HasRoom self.old → ⊥) → IsEmptied self.old self.new) }
+        ensures sealed { OnOk result ((HasRoom self.old → ⊥) → HasFlushed self.old (F.state flash.old) (F.state flash.new)) }
         ensures running { OnOk result (is_running self.new ≡ true) }
         ensures last { last_key_in self.new ≡ last_key_in self.old }
         ensures pending_stays { OnErr result (pending_in self.new ≡ pending_in self.old) }
@@ -96,12 +99,12 @@ impl<const KNOTS: usize, const SLOTS: usize> Table<KNOTS, SLOTS> {
         requires blobs_left { variable.next_after self.old.blobs ≤ spent_from + 64 }
         requires blob_page { reference_end blob < 2 ^ 32 }
         ensures same { IsSamePlan self.old self.new }
-        ensures ring { self.new.ring ≡ self.old.ring }
-        ensures bitmaps { self.new.bitmaps ≡ self.old.bitmaps }
+        ensures known { KnowsSame self.old self.new }
         ensures blobs { self.new.blobs ≡ self.old.blobs }
         ensures lies { (f : FlashState) → LiesOn self.old f → LiesOn self.new f }
         ensures stopped { is_stopped self.new ≡ is_stopped self.old }
         ensures pending { pending_in self.new ≡ pending_in self.old + 1 }
+        ensures bits { self.new.bitmap ≡ bitmap_with self.old.buckets self.old.bitmap (slice_index_or values.now 0 (pos 0)) }
         ensures last { last_key_in self.new ≡ Some key }
         ensures rows { (rows : List Row) → PendingAre self.old rows → PendingAre self.new (rows ++ (record { key = key; values = values.now; blob = blob }) ∷ []) }
         ensures memory { (plan : Plan) → (table after : model.Table) → (entry : Entry) → InMemory self.old plan table → IsSameBeside table after → after.entries ≡ table.entries ++ entry ∷ [] → after.pending ≡ table.pending + 1 → table.pending ≤ length table.entries →
@@ -138,16 +141,14 @@ impl<const KNOTS: usize, const SLOTS: usize> Table<KNOTS, SLOTS> {
         ensures quiet { variable.pages_for self.old.blobs (option_map (λ b. b.now) blob.entry) ≡ 0 → (result ≡ Ok tt) × (F.state flash.new ≡ F.state flash.old) }
         ensures power { OnOk result ((F.state flash.old).is_on ≡ true → (F.state flash.new).is_on ≡ true) }
         ensures off { 1 ≤ variable.pages_for self.old.blobs (option_map (λ b. b.now) blob.entry) → OffChangesNothing (F.state flash.old) result (F.state flash.new) }
-        ensures pending { OnOk result (pending_in self.new ≡ pending_in self.old + 1) }
-        ensures last { OnOk result (last_key_in self.new ≡ Some key) }
-        ensures rows { OnOk result (option_map (λ b. b.now) blob.entry ≡ None → (rows : List Row) → PendingAre self.old rows → PendingAre self.new (rows ++ (record { key = key; values = values.now; blob = None }) ∷ [])) }
-        ensures next { OnOk result (next_in self.new ≡ next_in self.old) }
+        ensures joined { OnOk result (HasJoined self.old key values.now (option_map (λ b. b.now) blob.entry) self.new) }
         ensures running { OnOk result (is_running self.new ≡ true) }
         ensures calm { OnOk result (is_stopped self.new ≡ is_stopped self.old) }
         ensures stopped { OnErr result ((is_running self.new ≡ false) × (is_stopped self.new ≡ true)) }
         ensures pending_stays { OnErr result (pending_in self.new ≡ pending_in self.old) }
         ensures last_stays { OnErr result (last_key_in self.new ≡ last_key_in self.old) }
         ensures outside { IsTrue (F.state flash.old).media.tells → OutsideStands self.old (page_at (F.state flash.old)) (page_at (F.state flash.new)) }
+        ensures writes { Writes (variable.MayFill (option_map (λ b. b.now) blob.entry) self.old.blobs) 0 (variable.pages_for self.old.blobs (option_map (λ b. b.now) blob.entry)) (F.state flash.old) (F.state flash.new) }
         ensures reads { (F.state flash.new).work.reads ≡ (F.state flash.old).work.reads }
         ensures media_reads { (F.state flash.new).media.reads ≤ (F.state flash.old).media.reads + variable.pages_for self.old.blobs (option_map (λ b. b.now) blob.entry) }
         ensures cause { IfErr result (λ e. CausedBy (F.state flash.old) e (F.state flash.new)) }
@@ -189,17 +190,15 @@ impl<const KNOTS: usize, const SLOTS: usize> Table<KNOTS, SLOTS> {
         ensures last_stays { OnErr result (last_key_in self.new ≡ last_key_in self.old) }
         ensures quiet { put_refusal self.old key values.now (option_map (λ b. length b.now) blob.entry) ≡ None → HasRoom self.old → variable.pages_for self.old.blobs (option_map (λ b. b.now) blob.entry) ≡ 0
             → (result ≡ Ok tt) × (F.state flash.new ≡ F.state flash.old) }
-        ensures pending { OnOk result (HasRoom self.old → pending_in self.new ≡ pending_in self.old + 1) }
         ensures last { OnOk result (last_key_in self.new ≡ Some key) }
-        ensures rows { OnOk result (HasRoom self.old → option_map (λ b. b.now) blob.entry ≡ None → (rows : List Row) → PendingAre self.old rows → PendingAre self.new (rows ++ (record { key = key; values = values.now; blob = None }) ∷ [])) }
-        // A page that was full is sealed, and the record's row is the only one that is pending then.
-        ensures full { OnOk result ((HasRoom self.old → ⊥) → (next_in self.new ≡ next_in self.old + 1) × (pending_in self.new ≡ 1)) }
-        ensures first_row { OnOk result ((HasRoom self.old → ⊥) → option_map (λ b. b.now) blob.entry ≡ None → PendingAre self.new ((record { key = key; values = values.now; blob = None }) ∷ [])) }
+        // Whatever the flash holds: the record is pending, in the page that was, or after it was sealed.
+        ensures stores { OnOk result (Stores self.old key values.now (option_map (λ b. b.now) blob.entry) self.new) }
         ensures power { OnOk result ((F.state flash.old).is_on ≡ true → (F.state flash.new).is_on ≡ true) }
         ensures off { put_refusal self.old key values.now (option_map (λ b. length b.now) blob.entry) ≡ None → (HasRoom self.old → variable.pages_for self.old.blobs (option_map (λ b. b.now) blob.entry) ≡ 0 → ⊥)
             → (F.state flash.old).is_on ≡ false → (result ≡ Err (PutRefusal.Flash FlashFault.PowerLost)) × (F.state flash.new ≡ F.state flash.old) }
-        // Whatever the flash holds: of a record without a blob, a seal of each ring at most.
-        ensures writes { option_map (λ b. b.now) blob.entry ≡ None → Writes (MaySeal self.old) 0 (rings_in self.old) (F.state flash.old) (F.state flash.new) }
+        // Whatever the flash holds: a seal of each ring at most, and of the variable data those of the pages that the blob fills. If the page was full, its rows are in it then.
+        ensures writes { Writes (MayPut self.old (option_map (λ b. b.now) blob.entry)) 0 (rings_in self.old + variable.most_pages self.old.blobs (option_map (λ b. b.now) blob.entry)) (F.state flash.old) (F.state flash.new) }
+        ensures sealed { OnOk result ((HasRoom self.old → ⊥) → HasMadePage self.old (option_map (λ b. b.now) blob.entry) (F.state flash.old) (F.state flash.new)) }
         ensures reads { (F.state flash.new).work.reads ≡ (F.state flash.old).work.reads }
         ensures media_reads { (F.state flash.new).media.reads ≤ (F.state flash.old).media.reads + rings_in self.old + variable.most_pages self.old.blobs (option_map (λ b. b.now) blob.entry) }
         ensures outside { IsTrue (F.state flash.old).media.tells → OutsideStands self.old (page_at (F.state flash.old)) (page_at (F.state flash.new)) }
@@ -229,12 +228,12 @@ impl<const KNOTS: usize, const SLOTS: usize> Table<KNOTS, SLOTS> {
         ensures refused { result ≡ Err FlushFault.Stopped → self.new ≡ self.old }
         ensures quiet { is_running self.old ≡ true → pending_in self.old ≡ 0 → (result ≡ Ok tt) × (self.new ≡ self.old) × (F.state flash.new ≡ F.state flash.old) }
         ensures none { OnOk result (pending_in self.new ≡ 0) }
-        ensures seals { OnOk result (1 ≤ pending_in self.old → next_in self.new ≡ next_in self.old + 1) }
+        ensures seals { OnOk result (1 ≤ pending_in self.old → IsEmptied self.old self.new) }
         ensures power { OnOk result ((F.state flash.old).is_on ≡ true → (F.state flash.new).is_on ≡ true) }
         ensures off { is_running self.old ≡ true → 1 ≤ pending_in self.old → (F.state flash.old).is_on ≡ false → (result ≡ Err (FlushFault.Flash FlashFault.PowerLost)) × (F.state flash.new ≡ F.state flash.old) }
-        // Whatever the flash holds: a seal of each ring at most, and of pending rows one that is whole.
+        // Whatever the flash holds: a seal of each ring at most, and of pending rows one that is whole, whose page has them then.
         ensures writes { Writes (MaySeal self.old) 0 (rings_in self.old) (F.state flash.old) (F.state flash.new) }
-        ensures sealed { OnOk result (1 ≤ pending_in self.old → Writes (MaySeal self.old) 1 (rings_in self.old) (F.state flash.old) (F.state flash.new)) }
+        ensures sealed { OnOk result (1 ≤ pending_in self.old → HasFlushed self.old (F.state flash.old) (F.state flash.new)) }
         ensures reads { (F.state flash.new).work.reads ≡ (F.state flash.old).work.reads }
         ensures media_reads { (F.state flash.new).media.reads ≤ (F.state flash.old).media.reads + rings_in self.old }
         ensures outside { IsTrue (F.state flash.old).media.tells → OutsideStands self.old (page_at (F.state flash.old)) (page_at (F.state flash.new)) }

@@ -1,5 +1,5 @@
 // The seal of a table: a full list of bitmaps, the bytes of blobs that wait, and the pending rows.
-ghost use Rattle.std.specs.Prelude.{◌≡◌, ◌≤◌, ◌+◌, ◌-◌, ◌<◌, ◌%◌, ◌==◌, [], ◌∷◌, true, false, length, map, count_by, slice_index, slice_set, IsTrue, OnOk, OnErr, IfErr};
+ghost use Rattle.std.specs.Prelude.{◌≡◌, ◌≤◌, ◌+◌, ◌-◌, ◌<◌, ◌%◌, ◌==◌, [], ◌∷◌, true, false, length, map, count_by, slice_index, slice_set, IsTrue, IfSome, OnOk, OnErr, IfErr};
 ghost use Rattle.std.specs.List.{range_with_len};
 ghost use Rattle.fl_flash.specs.Flash.{Goes, OffChangesNothing, page_at};
 ghost use Rattle.fl_frame.specs.Causes.{CausedBy};
@@ -11,25 +11,29 @@ use fl_flash::{Flash, FlashFault};
 use fl_index::Full;
 
 impl<const KNOTS: usize, const SLOTS: usize> Table<KNOTS, SLOTS> {
-    ghost use Rattle.std.specs.Prelude.{ℕ, Bool};
+    ghost use Rattle.std.specs.Prelude.{ℕ, Bool, List};
     ghost use Rattle.fl_model.specs.Record.{Plan};
     ghost use Rattle.fl_flash.specs.Flash.{FlashState};
     ghost use Rattle.fl_index.specs.Page.{full_view};
     ghost use Rattle.fl_model.specs.Layout.{full_of};
     ghost use Rattle.fl_model.specs.Table.{DataRing, pending_entries, table_seals};
+    ghost use Rattle.fl_model.specs.Row.{Row};
     ghost use Rattle.fl_model.specs.Table as model;
     ghost use Rattle.fl_model.specs.Work.{Device};
     ghost use Rattle.fl_frame.specs.Watched.{IsWatched};
     ghost use Rattle.fl_ring.specs.Written.{MaySealIn, Writes, done};
     ghost use Rattle.fl_table.specs.Look.{last_key_in};
-    ghost use Rattle.fl_table.specs.Memory.{is_running, is_stopped, next_in, pending_in, IsSamePlan, LiesOn, MaySeal};
+    ghost use Rattle.fl_table.specs.Memory.{is_running, is_stopped, next_in, pending_in, IsSamePlan, LiesOn, MaySeal, PendingAre};
     ghost use Rattle.fl_table.specs.Standing.{Stands};
-    ghost use Rattle.fl_table.specs.Bitmaps.{HaveRoom, bitmap_seals, next_of as index_next, rings_of, MaySeal as index_seals};
+    ghost use Rattle.fl_table.specs.Bitmaps.{HaveRoom, bitmap_seals, next_of as index_next, rings_of, MaySeal as index_seals, StandOutside};
     ghost use Rattle.fl_table.specs.Blobs as variable;
     ghost use Rattle.fl_table.specs.Blobs.{AreEmpty, rest_seals};
     ghost use Rattle.fl_table.specs.Causes.{OffFailsAs};
     ghost use Rattle.fl_table.specs.Mounting.{OutsideStands, rings_in};
     ghost use Rattle.fl_table.specs.Outcomes.{SealsEnd};
+    ghost use Rattle.fl_table.specs.Paged.{BlobsPaged, IsApart, RowsPaged, next_page};
+    ghost use Rattle.fl_var.specs.Memory.{waiting_in, BytesPaged};
+    ghost use Rattle.fl_table.specs.Stored.{HasCounted, IsEmptied, WaitsSame};
 
     /// Seals the table: the waiting entries, where they fill an index page, the blob bytes that wait, and then the pending
     /// rows, so that each row's blob stands before it. After an error the table is stopped.
@@ -42,16 +46,16 @@ impl<const KNOTS: usize, const SLOTS: usize> Table<KNOTS, SLOTS> {
         ensures lies { LiesOn self.new (F.state flash.new) }
         ensures ends { (first : ℕ) → (plan : Plan) → (table : model.Table) → (rose : Bool) → (device : Device) → IsWatched (F.state flash.old) (F.state flash.new) rose device
             → Stands self.old (F.state flash.old) first plan table → SealsEnd first plan (table_seals plan table) table rose device result self.new (F.state flash.old) (F.state flash.new) }
-        ensures empty { OnOk result (self.new.writer.count ≡ 0) }
+        ensures emptied { OnOk result (IsEmptied self.old self.new) }
         ensures last { last_key_in self.new ≡ last_key_in self.old }
         ensures pending_stays { OnErr result (pending_in self.new ≡ pending_in self.old) }
         ensures running { OnOk result (is_running self.new ≡ true) }
-        ensures next { OnOk result (next_in self.new ≡ next_in self.old + 1) }
         ensures index_next { OnOk result (index_next self.new.bitmaps ≤ index_next self.old.bitmaps + 1) }
-        ensures blob_next { OnOk result (variable.next_of self.new.blobs ≤ variable.next_of self.old.blobs + 1) }
         ensures calm { OnOk result (is_stopped self.new ≡ is_stopped self.old) }
         ensures stopped { OnErr result ((is_running self.new ≡ false) × (is_stopped self.new ≡ true)) }
         ensures outside { IsTrue (F.state flash.old).media.tells → OutsideStands self.old (page_at (F.state flash.old)) (page_at (F.state flash.new)) }
+        ensures page { OnOk result (IsTrue (F.state flash.old).media.tells → IsApart self.old (next_page self.old) → RowsPaged self.old (page_at (F.state flash.old)) (page_at (F.state flash.new))) }
+        ensures blob_page { OnOk result (BlobsPaged self.old (F.state flash.old) (F.state flash.new)) }
         ensures writes { Writes (MaySeal self.old) (done result) (rings_in self.old) (F.state flash.old) (F.state flash.new) }
         ensures reads { (F.state flash.new).work.reads ≡ (F.state flash.old).work.reads }
         ensures media_reads { (F.state flash.new).media.reads ≤ (F.state flash.old).media.reads + rings_in self.old }
@@ -85,6 +89,7 @@ impl<const KNOTS: usize, const SLOTS: usize> Table<KNOTS, SLOTS> {
         ensures calm { OnOk result (is_stopped self.new ≡ is_stopped self.old) }
         ensures stopped { OnErr result ((is_running self.new ≡ false) × (is_stopped self.new ≡ true)) }
         ensures outside { IsTrue (F.state flash.old).media.tells → OutsideStands self.old (page_at (F.state flash.old)) (page_at (F.state flash.new)) }
+        ensures still { WaitsSame self.old self.new × (IsTrue (F.state flash.old).media.tells → StandOutside self.old.bitmaps (page_at (F.state flash.old)) (page_at (F.state flash.new))) }
         ensures writes { Writes (index_seals self.old.bitmaps) 0 (rings_of self.old.bitmaps) (F.state flash.old) (F.state flash.new) }
         ensures reads { (F.state flash.new).work.reads ≡ (F.state flash.old).work.reads }
         ensures media_reads { (F.state flash.new).media.reads ≤ (F.state flash.old).media.reads + rings_of self.old.bitmaps }
@@ -117,10 +122,12 @@ impl<const KNOTS: usize, const SLOTS: usize> Table<KNOTS, SLOTS> {
         ensures ring { OnOk result (self.new.ring ≡ self.old.ring) }
         ensures running { OnOk result (is_running self.new ≡ true) }
         ensures next { OnOk result (next_in self.new ≡ next_in self.old) }
-        ensures blob_next { OnOk result (variable.next_of self.new.blobs ≤ variable.next_of self.old.blobs + 1) }
+        ensures blob_next { OnOk result (variable.next_of self.new.blobs ≡ variable.next_after self.old.blobs) }
         ensures calm { OnOk result (is_stopped self.new ≡ is_stopped self.old) }
         ensures stopped { OnErr result ((is_running self.new ≡ false) × (is_stopped self.new ≡ true)) }
         ensures outside { IsTrue (F.state flash.old).media.tells → OutsideStands self.old (page_at (F.state flash.old)) (page_at (F.state flash.new)) }
+        ensures still { WaitsSame self.old self.new × (IsTrue (F.state flash.old).media.tells → variable.StandOutside self.old.blobs (page_at (F.state flash.old)) (page_at (F.state flash.new))) }
+        ensures page { IfSome self.old.blobs (λ var. 1 ≤ length (waiting_in var) → OnOk result (IsTrue (F.state flash.old).media.tells → BytesPaged var (page_at (F.state flash.old)) (page_at (F.state flash.new)))) }
         ensures writes { Writes (variable.MaySeal self.old.blobs) 0 (variable.rings_of self.old.blobs) (F.state flash.old) (F.state flash.new) }
         ensures reads { (F.state flash.new).work.reads ≡ (F.state flash.old).work.reads }
         ensures media_reads { (F.state flash.new).media.reads ≤ (F.state flash.old).media.reads + variable.rings_of self.old.blobs }
@@ -140,6 +147,7 @@ impl<const KNOTS: usize, const SLOTS: usize> Table<KNOTS, SLOTS> {
     fn pending_entry(&self) -> Full
         requires some { 1 ≤ self.now.writer.count }
         ensures stands { (f : FlashState) → (first : ℕ) → (plan : Plan) → (table : model.Table) → Stands self.now f first plan table → full_view result ≡ full_of (pending_entries table) }
+        ensures first { (row : Row) → (rows : List Row) → PendingAre self.now (row ∷ rows) → result.first_key ≡ row.key }
     {
         Full {
             first_key: self.writer.row(&self.schema, 0).key(),
@@ -160,7 +168,8 @@ impl<const KNOTS: usize, const SLOTS: usize> Table<KNOTS, SLOTS> {
         ensures lies { LiesOn self.new (F.state flash.new) }
         ensures ends { (first : ℕ) → (plan : Plan) → (table : model.Table) → (rose : Bool) → (device : Device) → IsWatched (F.state flash.old) (F.state flash.new) rose device
             → Stands self.old (F.state flash.old) first plan table → SealsEnd first plan (DataRing ∷ []) table rose device result self.new (F.state flash.old) (F.state flash.new) }
-        ensures empty { OnOk result (self.new.writer.count ≡ 0) }
+        ensures empty { OnOk result ((self.new.writer.count ≡ 0) × (self.new.bitmap ≡ 0)) }
+        ensures counted { OnOk result (HasCounted self.old self.new) }
         ensures last { last_key_in self.new ≡ last_key_in self.old }
         ensures pending_stays { OnErr result (pending_in self.new ≡ pending_in self.old) }
         ensures running { OnOk result (is_running self.new ≡ true) }
@@ -170,6 +179,7 @@ impl<const KNOTS: usize, const SLOTS: usize> Table<KNOTS, SLOTS> {
         ensures calm { OnOk result (is_stopped self.new ≡ is_stopped self.old) }
         ensures stopped { OnErr result ((is_running self.new ≡ false) × (is_stopped self.new ≡ true)) }
         ensures outside { IsTrue (F.state flash.old).media.tells → OutsideStands self.old (page_at (F.state flash.old)) (page_at (F.state flash.new)) }
+        ensures page { OnOk result (IsTrue (F.state flash.old).media.tells → RowsPaged self.old (page_at (F.state flash.old)) (page_at (F.state flash.new))) }
         ensures writes { Writes (MaySealIn self.old.ring) (done result) 1 (F.state flash.old) (F.state flash.new) }
         ensures reads { (F.state flash.new).work.reads ≡ (F.state flash.old).work.reads }
         ensures media_reads { (F.state flash.new).media.reads ≤ (F.state flash.old).media.reads + 1 }

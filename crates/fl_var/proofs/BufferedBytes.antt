@@ -22,8 +22,10 @@ use Rattle.fl_ring.specs.Ring.{Shape, OutsideStands}
 use Rattle.fl_ring.specs.declared.ring.Ring.{Ring}
 use Rattle.fl_frame.specs.Causes.{CausedBy}
 use Rattle.fl_ring.specs.Sealing.{SealCalls}
+use Rattle.fl_ring.specs.Written as written
+use Rattle.fl_ring.proofs.Written.{writes-none, writes-wider}
 use Rattle.fl_frame.specs.Watched.{IsWatched}
-use Rattle.fl_var.specs.Memory.{is_mounted, next_in, waiting_in, room_in, var_shape, IsSamePlan, LiesOn}
+use Rattle.fl_var.specs.Memory.{is_mounted, next_in, waiting_in, room_in, var_shape, IsOnRing, IsSamePlan, LiesOn}
 use Rattle.fl_var.specs.Placing.{Seals, Breaks, EndsWith, pages_placed}
 use Rattle.fl_var.specs.Standing.{HasRing}
 use Rattle.fl_var.specs.declared.var_data.VarData.{VarData}
@@ -31,6 +33,7 @@ use Rattle.fl_var.proofs.Lists.{drop-none, drop-short}
 use Rattle.fl_var.proofs.PageImages.{waiting-length}
 use Rattle.fl_var.proofs.SealsInTable.{room-planned, seal-err}
 use Rattle.fl_var.proofs.Joins.{seals-none, seals-refilled, seals-join, breaks-join, breaks-front, buffered-after, replicate-push, replicate-split, same-shape}
+use Rattle.fl_var.proofs.Written.{writes-both}
 use Rattle.fl_frame.proofs.WatchedInTurn.{watched-first, watched-then, cause-later}
 
 -- so many of these bytes were written since `first`, and as many pages sealed as they filled
@@ -50,6 +53,7 @@ pub record Writes (first : VarData) (first_f : FlashState) (bytes : List ℕ) (d
   pub outside : IsTrue first_f.media.tells → OutsideStands (var_shape first) (page_at first_f) (page_at f)
   pub reads : f.work.reads ≡ first_f.work.reads
   pub media_reads : f.media.reads ≤ first_f.media.reads + (next_in v - next_in first)
+  pub tried : written.Writes (IsOnRing first) 0 (next_in v - next_in first) first_f f
   pub quiet : next_in v ≡ next_in first → f ≡ first_f
   pub power : (f ≡ first_f) ⊎ (f.is_on ≡ true)
   pub off : first_f.is_on ≡ false → next_in v ≡ next_in first
@@ -120,6 +124,7 @@ module _ (v w : VarData) (f : FlashState) (bytes : List ℕ) (n : ℕ) (ring : w
         outside = λ told q far. refl;
         reads = refl;
         media_reads = omega arith;
+        tried = writes-none (IsOnRing v) (next_in w - next_in v) f;
         quiet = λ e. refl;
         power = inl refl;
         off = λ down. next;
@@ -149,7 +154,7 @@ SealsNext v f result mid g =
 module _ (first v mid w : VarData) (first_f f g : FlashState) (bytes : List ℕ) (done n : ℕ) (is : Writes first first_f bytes done v f) (less : done < length bytes)
     (goes : Goes f g) (same : IsSamePlan v mid) (lies : LiesOn mid g) (mounted : is_mounted mid ≡ true) (next : next_in mid ≡ next_in v + 1) (empty : waiting_in mid ≡ [])
     (ends : SealsNext v f (Ok tt) mid g)
-    (outside : IsTrue f.media.tells → OutsideStands (var_shape v) (page_at f) (page_at g)) (reads : g.work.reads ≡ f.work.reads) (media_reads : g.media.reads ≤ f.media.reads + 1)
+    (outside : IsTrue f.media.tells → OutsideStands (var_shape v) (page_at f) (page_at g)) (reads : g.work.reads ≡ f.work.reads) (media_reads : g.media.reads ≤ f.media.reads + 1) (tries : written.Writes (IsOnRing v) 0 1 f g)
     (ring : w.ring ≡ mid.ring) (refilled : IsSamePlan mid w) (power : g.is_on ≡ true) (sealed_on : f.is_on ≡ false → ⊥) (some_len : ℕ) (len_is : some_len ≡ length bytes - done) (counted : n ≡ min some_len (length mid.waiting.body - (8 + mid.waiting.fill))) (filled : w.waiting.fill ≡ mid.waiting.fill + n)
     (put : waiting_in w ≡ waiting_in mid ++ take n (take (length bytes - done) (drop done bytes))) where
   count_there : n ≡ min (length bytes - done) (room_in mid - length (waiting_in mid))
@@ -203,6 +208,7 @@ module _ (first v mid w : VarData) (first_f f g : FlashState) (bytes : List ℕ)
             outside (subst IsTrue (sym is.goes.tells) told) q (subst (λ (r : Shape). (q < r.first) ⊎ (r.first + rings.room r ≤ q)) (sym (same-shape first v is.same)) far) ∙ is.outside told q far;
         reads = reads ∙ is.reads;
         media_reads = omega (arith, media_reads, is.media_reads, pages);
+        tried = subst (λ k. written.Writes (IsOnRing first) 0 k first_f g) (sym pages) (writes-both first v (next_in v - next_in first) 1 first_f f g is.same is.goes.tells is.tried tries);
         quiet = λ e. absurd (omega (arith, e, at, is.later));
         power = inr power;
         off = λ down. absurd (sealed_on (ap (λ (x : FlashState). x.is_on) (is.quiet (is.off down)) ∙ down));
@@ -242,11 +248,23 @@ module _ (first v w mid : VarData) (first_f f g : FlashState) (bytes : List ℕ)
       seal-err plan (replicate (pages_placed first (length bytes)) VarRing) table rose device first first_f w g result fault result_is
       (subst (λ (xs : List RingName). Breaks plan xs table rose device fault first g) all whole)
 
+-- .. and no more seals were tried than pages are filled
+pub tried-fail : (first v : VarData) (first_f f g : FlashState) (bytes : List ℕ) (done : ℕ) → Writes first first_f bytes done v f → done < length bytes → 0 < room_in first → written.Writes (IsOnRing v) 0 1 f g →
+    written.Writes (IsOnRing first) 0 (pages_placed first (length bytes)) first_f g
+tried-fail first v first_f f g bytes done is less wide tries =
+    let fewer : next_in v - next_in first + 1 ≤ pages_placed first (length bytes) =
+    pages-more (length (waiting_in first)) done (length bytes) (next_in v - next_in first) (room_in first) wide (is.sum ∙ ap (λ k. (next_in v - next_in first) * room_in first + k) (is.full less)) less in
+    writes-wider (IsOnRing first) (IsOnRing first) 0 0 (next_in v - next_in first + 1) (pages_placed first (length bytes)) first_f g (λ page may. may) (omega arith) fewer
+    (writes-both first v (next_in v - next_in first) 1 first_f f g is.same is.goes.tells is.tried tries)
+
 -- all bytes were written
 module _ (first v : VarData) (first_f f : FlashState) (bytes : List ℕ) (done : ℕ) (is : Writes first first_f bytes done v f) (all : length bytes ≤ done) where
   pub writes-pages : pages_placed first (length bytes) ≡ next_in v - next_in first
   writes-pages =
       pages-of (length (waiting_in first)) (length bytes) (next_in v - next_in first) (length (waiting_in v)) (room_in first) (ap (λ k. length (waiting_in first) + k) (omega (arith, all, is.within)) ∙ is.sum) is.some is.most
+
+  pub writes-tried : written.Writes (IsOnRing first) 0 (pages_placed first (length bytes)) first_f f
+  writes-tried = subst (λ k. written.Writes (IsOnRing first) 0 k first_f f) (sym writes-pages) is.tried
 
   pub writes-waits : waiting_in v ≡ drop (pages_placed first (length bytes) * room_in first) (waiting_in first ++ bytes)
   writes-waits =

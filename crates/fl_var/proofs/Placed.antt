@@ -13,12 +13,15 @@ use Rattle.fl_model.specs.Ring.{Ring}
 use Rattle.fl_model.specs.Table.{Table, RingName, VarRing, fill, blob_len, after_seals, fill_seals, with_record, start_page, start_offset}
 use Rattle.fl_model.specs.Work.{Device}
 use Rattle.fl_frame.specs.Watched.{IsWatched}
-use Rattle.fl_var.specs.Memory.{next_in, waiting_in, room_in, IsPlanned, IsSamePlan}
+use Rattle.fl_ring.specs.Written.{Writes}
+use Rattle.fl_ring.proofs.Written.{writes-wider}
+use Rattle.fl_var.specs.Memory.{next_in, waiting_in, room_in, IsOnRing, IsPlanned, IsSamePlan}
 use Rattle.fl_var.specs.Placing.{Seals, Breaks, EndsWith, Finishes, PlaceEnds, RestEnds, where_placed, is_full_in, room_seals, rest_seals, pages_placed}
 use Rattle.fl_var.specs.Standing.{Stands, HasRing}
 use Rattle.fl_var.specs.declared.var_data.VarData.{VarData}
 use Rattle.fl_var.proofs.Joins.{has-joined, seals-none, seals-join, breaks-join, breaks-front, buffered-after, replicate-split}
 use Rattle.fl_frame.proofs.WatchedInTurn.{watched-then}
+use Rattle.fl_var.proofs.Written.{writes-both}
 use Rattle.fl_var.proofs.Lists.{drop-none, drop-short}
 use Rattle.fl_var.proofs.PageImages.{waiting-length, waiting-room}
 use Rattle.fl_var.proofs.SealsInTable.{room-planned}
@@ -80,6 +83,12 @@ module _ (v : VarData) (bytes : List ℕ) (some : 1 ≤ length bytes) where
   pub full-placed : is_full_in v ≡ true → 1 ≤ pages_placed v (length bytes)
   full-placed e = omega (arith, pages-parted, ap {B = ℕ} (λ (b : Bool). cond b 1 0) e)
 
+  -- a full buffer fills one of them
+  pub room-writes : (f g : FlashState) → Writes (IsOnRing v) 0 (cond (is_full_in v) 1 0) f g → Writes (IsOnRing v) 0 (pages_placed v (length bytes)) f g
+  room-writes f g h =
+      let few : cond (is_full_in v) 1 0 ≤ pages_placed v (length bytes) = omega (arith, pages-parted) in
+      writes-wider (IsOnRing v) (IsOnRing v) 0 0 (cond (is_full_in v) 1 0) (pages_placed v (length bytes)) f g (λ page may. may) (omega arith) few h
+
 module _ (v mid : VarData) (bytes : List ℕ) (some : 1 ≤ length bytes) (same : IsSamePlan v mid) (emptied : waiting_in mid ≡ cond (is_full_in v) [] (waiting_in v)) where
   room-mid : room_in mid ≡ room_in v
   room-mid = ap (λ (g : Geometry). g.page - 16) same.geometry
@@ -89,6 +98,11 @@ module _ (v mid : VarData) (bytes : List ℕ) (some : 1 ≤ length bytes) (same 
 
   pages-split : pages_placed v (length bytes) ≡ cond (is_full_in v) 1 0 + pages_placed mid (length bytes)
   pages-split = pages-parted v bytes some ∙ ap (λ n. cond (is_full_in v) 1 0 + n) (sym pages-mid)
+
+  -- the seals
+  pub writes-split : (f m g : FlashState) → m.media.tells ≡ f.media.tells → Writes (IsOnRing v) 0 (cond (is_full_in v) 1 0) f m → Writes (IsOnRing mid) 0 (pages_placed mid (length bytes)) m g → Writes (IsOnRing v) 0 (pages_placed v (length bytes)) f g
+  writes-split f m g tells one more =
+      subst (λ n. Writes (IsOnRing v) 0 n f g) (sym pages-split) (writes-both v mid (cond (is_full_in v) 1 0) (pages_placed mid (length bytes)) f m g same tells one more)
 
   -- the numbers, and the reads of the medium
   pub next-split : (last : ℕ) → next_in mid ≡ cond (is_full_in v) (next_in v + 1) (next_in v) → last ≡ next_in mid + pages_placed mid (length bytes) → last ≡ next_in v + pages_placed v (length bytes)

@@ -9,7 +9,7 @@ use Rattle.fl_ring.specs.Place.{next_of, oldest_of}
 use Rattle.fl_ring.specs.Place as place
 use Rattle.fl_ring.specs.Ring as ring
 use Rattle.fl_ring.specs.Ring.{Shape}
-use Rattle.fl_ring.specs.Written.{MaySealIn}
+use Rattle.fl_ring.specs.Written.{MaySealIn, sealed_over}
 use Rattle.fl_var.specs.Content.{content_body}
 use Rattle.fl_var.specs.WaitingState.{content_in}
 use Rattle.fl_var.specs.declared.var_data.VarData.{VarData}
@@ -43,6 +43,17 @@ room_in v = v.geometry.page - 16
 -- where the ring stands
 abbrev pub var_shape : VarData → Shape
 var_shape v = shape_at v.place v.geometry
+
+-- the flash pages of the ring
+abbrev pub IsOnRing : VarData → ℕ → Type 0
+IsOnRing v page = ((var_shape v).first ≤ page) × (page < (var_shape v).first + ring.room (var_shape v))
+
+-- the flash page for the bytes that wait, and that the body which they make, and the mark of a commit, were programmed over what it held
+abbrev pub bytes_page : VarData → ℕ
+bytes_page v = ring.place (var_shape v) (next_in v)
+
+abbrev pub BytesPaged : VarData → (ℕ → List ℕ) → (ℕ → List ℕ) → Type 0
+BytesPaged v old new = new (bytes_page v) ≡ sealed_over (var_shape v) (content_body (room_in v) (next_in v) (waiting_in v)) (old (bytes_page v))
 
 -- the bytes at the place of a page number
 abbrev pub page_in : VarData → FlashState → ℕ → List ℕ

@@ -16,7 +16,7 @@ impl VarData {
     ghost use Rattle.fl_ring.specs.Ring.{OutsideStands};
     ghost use Rattle.fl_frame.specs.Watched.{IsWatched};
     ghost use Rattle.fl_ring.specs.Written.{Writes, done};
-    ghost use Rattle.fl_var.specs.Memory.{is_mounted, next_in, waiting_in, room_in, var_shape, IsSamePlan, LiesOn, MaySeal};
+    ghost use Rattle.fl_var.specs.Memory.{is_mounted, next_in, waiting_in, room_in, var_shape, BytesPaged, IsOnRing, IsSamePlan, LiesOn, MaySeal};
     ghost use Rattle.fl_var.specs.Placing.{is_full_in, room_seals, pages_placed, reference_in, EndsWith, PlaceEnds, RestEnds};
     ghost use Rattle.fl_var.specs.Standing.{Stands, HasRing};
 
@@ -37,6 +37,7 @@ impl VarData {
             → HasRing self.old (F.state flash.old) plan table → take (content_per_page plan) table.buffered ≡ waiting_in self.old
             → EndsWith plan (VarRing ∷ []) table rose device self.old (F.state flash.old) result self.new (F.state flash.new) }
         ensures outside { IsTrue (F.state flash.old).media.tells → OutsideStands (var_shape self.old) (page_at (F.state flash.old)) (page_at (F.state flash.new)) }
+        ensures page { OnOk result (IsTrue (F.state flash.old).media.tells → BytesPaged self.old (page_at (F.state flash.old)) (page_at (F.state flash.new))) }
         ensures writes { Writes (MaySeal self.old) (done result) 1 (F.state flash.old) (F.state flash.new) }
         ensures reads { (F.state flash.new).work.reads ≡ (F.state flash.old).work.reads }
         ensures media_reads { (F.state flash.new).media.reads ≤ (F.state flash.old).media.reads + 1 }
@@ -71,6 +72,7 @@ impl VarData {
         ensures ends { (plan : Plan) → (table : model.Table) → (rest : List ℕ) → (rose : Bool) → (device : Device) → IsWatched (F.state flash.old) (F.state flash.new) rose device
             → HasRing self.old (F.state flash.old) plan table → table.buffered ≡ waiting_in self.old ++ rest → EndsWith plan (room_seals (is_full_in self.old)) table rose device self.old (F.state flash.old) result self.new (F.state flash.new) }
         ensures outside { IsTrue (F.state flash.old).media.tells → OutsideStands (var_shape self.old) (page_at (F.state flash.old)) (page_at (F.state flash.new)) }
+        ensures writes { Writes (IsOnRing self.old) 0 (if is_full_in self.old then 1 else 0) (F.state flash.old) (F.state flash.new) }
         ensures reads { (F.state flash.new).work.reads ≡ (F.state flash.old).work.reads }
         ensures media_reads { (F.state flash.new).media.reads ≤ (F.state flash.old).media.reads + 1 }
         ensures off { is_full_in self.old ≡ true → OffChangesNothing (F.state flash.old) result (F.state flash.new) }
@@ -102,6 +104,7 @@ impl VarData {
         ensures quiet { pages_placed self.old (length bytes.now) ≡ 0 → (result ≡ Ok tt) × (F.state flash.new ≡ F.state flash.old) }
         ensures waits { OnOk result (waiting_in self.new ≡ drop (pages_placed self.old (length bytes.now) * room_in self.old) (waiting_in self.old ++ bytes.now)) }
         ensures outside { IsTrue (F.state flash.old).media.tells → OutsideStands (var_shape self.old) (page_at (F.state flash.old)) (page_at (F.state flash.new)) }
+        ensures writes { Writes (IsOnRing self.old) 0 (pages_placed self.old (length bytes.now)) (F.state flash.old) (F.state flash.new) }
         ensures reads { (F.state flash.new).work.reads ≡ (F.state flash.old).work.reads }
         ensures media_reads { (F.state flash.new).media.reads ≤ (F.state flash.old).media.reads + pages_placed self.old (length bytes.now) }
         ensures off { 1 ≤ pages_placed self.old (length bytes.now) → OffChangesNothing (F.state flash.old) result (F.state flash.new) }
@@ -135,6 +138,8 @@ impl VarData {
         ensures waits { OnOk result (waiting_in self.new ≡ drop (pages_placed self.old (length bytes.now) * room_in self.old) (waiting_in self.old ++ bytes.now)) }
         ensures next { OnOk result (next_in self.new ≡ next_in self.old + pages_placed self.old (length bytes.now)) }
         ensures media_reads { (F.state flash.new).media.reads ≤ (F.state flash.old).media.reads + pages_placed self.old (length bytes.now) }
+        // Whatever the flash holds: no more pages of the ring are sealed than the bytes fill.
+        ensures writes { Writes (IsOnRing self.old) 0 (pages_placed self.old (length bytes.now)) (F.state flash.old) (F.state flash.new) }
         ensures outside { IsTrue (F.state flash.old).media.tells → OutsideStands (var_shape self.old) (page_at (F.state flash.old)) (page_at (F.state flash.new)) }
         ensures reads { (F.state flash.new).work.reads ≡ (F.state flash.old).work.reads }
         ensures off { 1 ≤ pages_placed self.old (length bytes.now) → OffChangesNothing (F.state flash.old) result (F.state flash.new) }
@@ -174,6 +179,7 @@ impl VarData {
         ensures quiet { waiting_in self.old ≡ [] → (result ≡ Ok tt) × (F.state flash.new ≡ F.state flash.old) }
         ensures power { OnOk result ((F.state flash.old).is_on ≡ true → (F.state flash.new).is_on ≡ true) }
         ensures outside { IsTrue (F.state flash.old).media.tells → OutsideStands (var_shape self.old) (page_at (F.state flash.old)) (page_at (F.state flash.new)) }
+        ensures page { 1 ≤ length (waiting_in self.old) → OnOk result (IsTrue (F.state flash.old).media.tells → BytesPaged self.old (page_at (F.state flash.old)) (page_at (F.state flash.new))) }
         ensures writes { Writes (MaySeal self.old) 0 1 (F.state flash.old) (F.state flash.new) }
         ensures reads { (F.state flash.new).work.reads ≡ (F.state flash.old).work.reads }
         ensures media_reads { (F.state flash.new).media.reads ≤ (F.state flash.old).media.reads + 1 }

@@ -1,7 +1,8 @@
-use Rattle.std.proofs.Common.{◌≡◌, ◌+◌, ◌≤◌, Bool, true, not, ◌&&◌, ◌||◌, None, List, Result, sym, ◌∙◌, ap, subst, arith}
+use Rattle.std.proofs.Common.{◌+◌, ◌≤◌, Bool, true, not, ◌&&◌, ◌||◌, None, List, Result, sym, ◌∙◌, ap, subst, arith}
 use Rattle.std.proofs.Math.IntN.{ℤ}
 use Rattle.std.specs.Prelude.{OnOk}
-use Rattle.fl_table.specs.Memory.{is_running, is_stopped, pending_in, HasRoom}
+use Rattle.fl_table.specs.Memory.{is_running, is_stopped, pending_in}
+use Rattle.fl_table.specs.Stored.{Stores}
 use Rattle.fl_table.specs.declared.faults.PutRefusal.{PutRefusal}
 use Rattle.fl_table.specs.declared.table.Table.{Table}
 use Rattle.fl_rlc.specs.Offering.{IsOffered}
@@ -29,15 +30,16 @@ returns-clause-pending g c = by-end
     by-end : Ends c.args.table.now c.put-refused.new.self (g.F.Flash.state c.args.flash.now) (g.F.Flash.state c.put-refused.new.flash) c.args.item.now.key c.as_slice.result.now c.put-refused.result c.requires.no_blobs c.requires.room c.put-refused.ensures.exact c.put-refused.ensures.refused c.put-refused.ensures.quiet →
         pending_in c.put-refused.new.self ≤ pending_in c.args.table.now + 1
     by-end (Done is same) =
-        let one = subst (λ (x : Result (Unit {0}) PutRefusal). OnOk x (HasRoom c.args.table.now → pending_in c.put-refused.new.self ≡ pending_in c.args.table.now + 1)) is c.put-refused.ensures.pending c.requires.room in
-        omega (arith, one)
+        let stored : Stores c.args.table.now c.args.item.now.key c.as_slice.result.now None c.put-refused.new.self =
+        subst (λ (x : Result (Unit {0}) PutRefusal). OnOk x (Stores c.args.table.now c.args.item.now.key c.as_slice.result.now None c.put-refused.new.self)) is c.put-refused.ensures.stores in
+        omega (arith, (stored.room c.requires.room).pending)
     by-end (Refused e is kept u_is same) = let k = ap (λ (x : Table g.row.KNOTS g.row.SLOTS). pending_in x) u_is in omega (arith, k)
 
 pub returns-clause-offers : goal.returns-clause-offers
 returns-clause-offers g c =
     subst (λ (vs : List ℤ). IsOffered c.args.table.now (record { key = c.args.item.now.key; values = vs; blob = None }) c.put-refused.new.self) c.as_slice.ensures.value
     (offers c.args.table.now c.put-refused.new.self (g.F.Flash.state c.args.flash.now) (g.F.Flash.state c.put-refused.new.flash) c.args.item.now.key c.as_slice.result.now c.put-refused.result c.requires.no_blobs c.requires.room c.put-refused.ensures.exact c.put-refused.ensures.refused c.put-refused.ensures.quiet
-    c.put-refused.ensures.last c.put-refused.ensures.pending c.put-refused.ensures.rows)
+    c.put-refused.ensures.stores)
 
 pub returns-clause-takes : goal.returns-clause-takes
 returns-clause-takes g c = λ first plan b rose device entry watched s fits key_is values_is.

@@ -30,6 +30,7 @@ use Rattle.fl_rlc.proofs.PutFrames.{log-moved}
 use Rattle.fl_rlc.proofs.ReplayLeft.{no-var-blocks, joined-rings, none-leaves, seal-leaves}
 use Rattle.fl_rlc.proofs.Replays.{begun-stands, begun-none, begun-ring, log-fault, none-well, page-fault, seal-well, seal-badly}
 use Rattle.fl_rlc.proofs.SealsInTable.{pages-size}
+use Rattle.fl_rlc.proofs.Written.{repairs-log, repairs-read, repairs-sealed}
 use Rattle.fl_rlc.proofs.replay.replay.Goals as goal
 
 -- ---- the ring is refused
@@ -270,6 +271,7 @@ returns-in_err-seal_rows-clause-refused g c =
       why = c.in_err-seal_rows.field-0.0;
       fault_is = refl;
       cause = c.in_err-seal_rows.ensures.cause;
+      writes = c.in_err-seal_rows.ensures.writes;
     })))
 
 pub returns-in_err-seal_rows-clause-outside : goal.returns-in_err-seal_rows-clause-outside
@@ -423,3 +425,32 @@ returns-clause-limit g c = λ first plan table told rests.
 
 pub returns-clause-power : goal.returns-clause-power
 returns-clause-power g c = c.in_ok-seal_rows.ensures.power c.in_ok-joined.ensures.power
+
+-- ---- what is repaired, whatever the flash holds
+
+pub returns-in_err-newest-clause-repairs : goal.returns-in_err-newest-clause-repairs
+returns-in_err-newest-clause-repairs g c =
+    let log = c.in_err-newest.ensures.beside in
+    repairs-log c.args.table.now (g.F.Flash.state c.args.flash.now) (g.F.Flash.state c.mount.new.flash) log.few_programs log.few_erases
+
+pub returns-in_default-clause-repairs : goal.returns-in_default-clause-repairs
+returns-in_default-clause-repairs g c =
+    let log = c.in_ok-newest.ensures.beside in
+    repairs-log c.args.table.now (g.F.Flash.state c.args.flash.now) (g.F.Flash.state c.mount.new.flash) log.few_programs log.few_erases
+
+pub returns-in_err-joined-clause-repairs : goal.returns-in_err-joined-clause-repairs
+returns-in_err-joined-clause-repairs g c =
+    let log = c.in_ok-newest.ensures.beside in
+    repairs-read c.args.table.now 1 (g.F.Flash.state c.args.flash.now) (g.F.Flash.state c.mount.new.flash) (g.F.Flash.state c.join_newest-joined.new.flash) log.few_programs log.few_erases c.in_err-joined.ensures.reads
+
+pub returns-in_err-seal_rows-clause-repairs : goal.returns-in_err-seal_rows-clause-repairs
+returns-in_err-seal_rows-clause-repairs g c =
+    let log = c.in_ok-newest.ensures.beside in
+    repairs-sealed c.args.table.now c.join_newest-joined.new.table 1 (g.F.Flash.state c.args.flash.now) (g.F.Flash.state c.mount.new.flash) (g.F.Flash.state c.join_newest-joined.new.flash) (g.F.Flash.state c.seal_rows.new.flash)
+    c.in_ok-joined.ensures.same log.few_programs log.few_erases c.in_ok-joined.ensures.reads c.in_err-seal_rows.ensures.writes
+
+pub returns-clause-repairs : goal.returns-clause-repairs
+returns-clause-repairs g c =
+    let log = c.in_ok-newest.ensures.beside in
+    repairs-sealed c.args.table.now c.join_newest-joined.new.table 1 (g.F.Flash.state c.args.flash.now) (g.F.Flash.state c.mount.new.flash) (g.F.Flash.state c.join_newest-joined.new.flash) (g.F.Flash.state c.seal_rows.new.flash)
+    c.in_ok-joined.ensures.same log.few_programs log.few_erases c.in_ok-joined.ensures.reads c.in_ok-seal_rows.ensures.writes

@@ -15,9 +15,16 @@ returns-in-Err-Flash-clause-ends g c = λ first plan b rose device watched s.
 pub returns-in-Ok-clause-sealed : goal.returns-in-Ok-clause-sealed
 returns-in-Ok-clause-sealed g c = record {
   quiet = λ none. let h = c.in-Ok.ensures.quiet c.requires.running none in (h.1, h.2);
-  page = c.in-Ok.ensures.seals;
+  sealed = c.in-Ok.ensures.seals;
   none = c.in-Ok.ensures.none;
+  flushed = c.in-Ok.ensures.sealed;
 }
+
+pub returns-in-Ok-clause-writes : goal.returns-in-Ok-clause-writes
+returns-in-Ok-clause-writes g c = c.in-Ok.ensures.writes
+
+pub returns-in-Err-Flash-clause-writes : goal.returns-in-Err-Flash-clause-writes
+returns-in-Err-Flash-clause-writes g c = c.in-Err-Flash.ensures.writes
 
 pub returns-in-Err-Flash-clause-some : goal.returns-in-Err-Flash-clause-some
 returns-in-Err-Flash-clause-some g c = some-there (pending_in c.args.table.now) (λ none. no c.in-Err-Flash.field-0 (c.in-Err-Flash.ensures.quiet c.requires.running none).0)

@@ -71,7 +71,7 @@ loop-loaded-preserved g c =
       random_is = random-more c.args.seed c.loop-loaded.loaded _ _ c.next-record.ensures.random i.random_is;
       puts = loads-more c.args.step c.args.seed c.loop-loaded.loaded c.args.table.now c.loop-loaded.table c.put-outcome.new.self f m n i.puts
           (loads-next c.args.step c.args.seed c.loop-loaded.loaded c.loop-loaded.table c.put-outcome.new.self m n c.next-record.result.key _ next_key (c.as_slice.ensures.value ∙ c.next-record.ensures.values _ _ _ i.makes)
-          c.put-outcome.result (sym c.is_err.ensures.value ∙ c.if-is_err.false) p.exact p.last p.pending p.rows p.logs p.quiet p.power p.same);
+          c.put-outcome.result (sym c.is_err.ensures.value ∙ c.if-is_err.false) p.exact p.last p.stores p.logs p.quiet p.power p.log_page p.sealed p.writes p.same);
       same = same-on _ _ _ i.same p.same;
       outside = λ told. outside-then c.args.table.now c.loop-loaded.table _ _ _ i.same (i.outside told) (p.outside (subst IsTrue (sym i.goes.tells) told));
       so_far = λ config entries at entry asked notes old rose h here is named risen.
@@ -112,7 +112,7 @@ returns-then-is_err-clause-puts g c =
       left_f = g.F.Flash.state c.loop-loaded.flash;
       puts = i.puts;
       ends = load-ends c.args.step c.args.seed c.loop-loaded.loaded c.loop-loaded.table c.put-outcome.new.self _ _ c.next-record.result.key _ key (c.as_slice.ensures.value ∙ c.next-record.ensures.values _ _ _ i.makes)
-          c.put-outcome.result (sym c.is_err.ensures.value ∙ c.if-is_err.true) p.exact p.refused;
+          c.put-outcome.result (sym c.is_err.ensures.value ∙ c.if-is_err.true) p.exact p.refused p.writes;
     }
 
 pub returns-clause-puts : goal.returns-clause-puts

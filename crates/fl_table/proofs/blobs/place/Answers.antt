@@ -4,10 +4,14 @@ use Rattle.std.specs.Borrow.{Bor}
 use Rattle.std.proofs.lemmas.Result.{err_from_is_err_and}
 use Rattle.fl_base.specs.declared.types.BlobRef.{BlobRef}
 use Rattle.fl_flash.specs.declared.flash.FlashFault.{FlashFault}
-use Rattle.fl_table.specs.Blobs.{PlaceEndsOf, PlaceEnds, pages_for}
+use Rattle.fl_ring.proofs.Written.{writes-none}
+use Rattle.fl_table.specs.Blobs.{PlaceEndsOf, PlaceEnds, MayFill, pages_for}
 use Rattle.fl_table.proofs.BlobSteps.{place-ok, place-none}
 use Rattle.fl_table.proofs.PowerOff.{off-ok, off-err}
 use Rattle.fl_flash.specs.Flash.{FlashState}
+use Rattle.fl_table.proofs.Stored.{none-kept, none-placed, one-placed}
+use Rattle.fl_table.proofs.Untouched.{no-success}
+use Rattle.fl_table.proofs.Writing.{fill-writes}
 use Rattle.fl_table.proofs.blobs.place.Goals as goal
 use Rattle.fl_var.specs.declared.var_data.VarData.{VarData}
 
@@ -75,3 +79,41 @@ returns-clause-power g c = λ on. by-calls on c.in_ok-at.ensures.power
     by-calls : (g.F.Flash.state c.args.flash.now).is_on ≡ true → (g.F.Flash.state c.append.new.flash ≡ g.F.Flash.state c.args.flash.now) ⊎ ((g.F.Flash.state c.append.new.flash).is_on ≡ true) → (g.F.Flash.state c.append.new.flash).is_on ≡ true
     by-calls on (inl same) = ap (λ (f : FlashState). f.is_on) same ∙ on
     by-calls on (inr still) = still
+
+pub returns-in_default-clause-placed : goal.returns-in_default-clause-placed
+returns-in_default-clause-placed g c = rw c.in_default.is (none-kept (option_map (λ (b : Bor (List ℕ)). b.now) c.args.blob) None None refl refl)
+
+pub returns-in_default-blob-clause-placed : goal.returns-in_default-blob-clause-placed
+returns-in_default-blob-clause-placed g c =
+    let none : c.args.blob ≡ None = c.in_default-blob.is in
+    none-placed (option_map (λ (b : Bor (List ℕ)). b.now) c.args.blob) c.args.blobs.now (Some c.in-Some.var) (ap (option_map (λ (b : Bor (List ℕ)). b.now)) none) (sym c.in-Some.is)
+
+pub returns-in_err-at-clause-placed : goal.returns-in_err-at-clause-placed
+returns-in_err-at-clause-placed g c = no-success _ _ c.from_residual.result c.from_residual.ensures.1
+
+pub returns-clause-placed : goal.returns-clause-placed
+returns-clause-placed g c =
+    let e = c.in_ok-at.ensures in
+    let bytes : c.args.blob ≡ Some c.in-Some-blob.bytes = c.in-Some-blob.is in
+    one-placed (option_map (λ (b : Bor (List ℕ)). b.now) c.args.blob) c.args.blobs.now c.in-Some-blob.bytes.now c.in-Some.var c.append.new.self c.in_ok-at.at (ap (option_map (λ (b : Bor (List ℕ)). b.now)) bytes) c.in-Some.is e.reference
+    (record { next = e.next; waits = e.waits })
+
+pub returns-in_default-clause-writes : goal.returns-in_default-clause-writes
+returns-in_default-clause-writes g c =
+    writes-none (MayFill (option_map (λ (b : Bor (List ℕ)). b.now) c.args.blob) c.args.blobs.now) (pages_for c.args.blobs.now (option_map (λ (b : Bor (List ℕ)). b.now) c.args.blob)) (g.F.Flash.state c.args.flash.now)
+
+pub returns-in_default-blob-clause-writes : goal.returns-in_default-blob-clause-writes
+returns-in_default-blob-clause-writes g c =
+    writes-none (MayFill (option_map (λ (b : Bor (List ℕ)). b.now) c.args.blob) c.args.blobs.now) (pages_for c.args.blobs.now (option_map (λ (b : Bor (List ℕ)). b.now) c.args.blob)) (g.F.Flash.state c.args.flash.now)
+
+pub returns-in_err-at-clause-writes : goal.returns-in_err-at-clause-writes
+returns-in_err-at-clause-writes g c =
+    let bytes : c.args.blob ≡ Some c.in-Some-blob.bytes = c.in-Some-blob.is in
+    fill-writes (option_map (λ (b : Bor (List ℕ)). b.now) c.args.blob) c.args.blobs.now c.in-Some-blob.bytes.now c.in-Some.var (g.F.Flash.state c.args.flash.now) (g.F.Flash.state c.append.new.flash)
+    (ap (option_map (λ (b : Bor (List ℕ)). b.now)) bytes) c.in-Some.is c.in_err-at.ensures.writes
+
+pub returns-clause-writes : goal.returns-clause-writes
+returns-clause-writes g c =
+    let bytes : c.args.blob ≡ Some c.in-Some-blob.bytes = c.in-Some-blob.is in
+    fill-writes (option_map (λ (b : Bor (List ℕ)). b.now) c.args.blob) c.args.blobs.now c.in-Some-blob.bytes.now c.in-Some.var (g.F.Flash.state c.args.flash.now) (g.F.Flash.state c.append.new.flash)
+    (ap (option_map (λ (b : Bor (List ℕ)). b.now)) bytes) c.in-Some.is c.in_ok-at.ensures.writes

@@ -1,9 +1,9 @@
-use Rattle.std.proofs.Common.{◌≡◌, ◌⊎◌, inl, inr, ℕ, List, [], ◌∷◌, length, Ok, Option, Some, refl, sym, ap, subst, arith}
+use Rattle.std.proofs.Common.{◌≡◌, ◌⊎◌, inl, inr, ℕ, List, [], ◌∷◌, length, Ok, OnOk, Option, Some, IfSome, IsTrue, ◌≤◌, refl, sym, ap, subst, arith}
 use Rattle.fl_table.specs.Blobs.{RestEndsOf}
 use Rattle.fl_table.proofs.BlobSteps.{rest-ends}
-use Rattle.fl_flash.specs.Flash.{OffChangesNothing}
+use Rattle.fl_flash.specs.Flash.{OffChangesNothing, page_at}
 use Rattle.fl_table.proofs.PowerOff.{off-either}
-use Rattle.fl_var.specs.Memory.{waiting_in}
+use Rattle.fl_var.specs.Memory.{waiting_in, BytesPaged}
 use Rattle.fl_table.proofs.blobs.seal_rest.Goals as goal
 use Rattle.fl_ring.specs.Written.{Writes}
 use Rattle.fl_ring.proofs.Written.{writes-none}
@@ -35,3 +35,11 @@ returns-in-Some-clause-writes g c =
 
 pub returns-in-None-clause-writes : goal.returns-in-None-clause-writes
 returns-in-None-clause-writes g c = writes-none (MaySeal c.args.blobs.now) (rings_of c.args.blobs.now) (g.F.Flash.state c.args.flash.now)
+
+pub returns-in-Some-clause-page : goal.returns-in-Some-clause-page
+returns-in-Some-clause-page g c =
+    subst (λ (o : Option VarData). IfSome o (λ var. 1 ≤ length (waiting_in var) → OnOk c.seal_rest.result (IsTrue (g.F.Flash.state c.args.flash.now).media.tells → BytesPaged var (page_at (g.F.Flash.state c.args.flash.now)) (page_at (g.F.Flash.state c.seal_rest.new.flash))))) (sym c.in-Some.is)
+    c.seal_rest.ensures.page
+
+pub returns-in-None-clause-page : goal.returns-in-None-clause-page
+returns-in-None-clause-page g c = rw c.in-None.is tt

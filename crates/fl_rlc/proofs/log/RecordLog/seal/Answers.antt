@@ -1,4 +1,4 @@
-use Rattle.std.proofs.Common.{rules, ◌≡◌, ℕ, ◌+◌, ◌-◌, ◌<◌, ◌≤◌, None, Some, Ok, Err, map, length, refl, sym, ◌∙◌, ap, subst, arith}
+use Rattle.std.proofs.Common.{rules, ◌≡◌, ℕ, ◌+◌, ◌-◌, ◌<◌, ◌≤◌, None, Some, Result, Ok, Err, map, length, refl, sym, ◌∙◌, ap, subst, arith}
 use Rattle.std.proofs.lemmas.Result.{err_from_is_err_and}
 use Rattle.fl_flash.specs.Flash.{page_at}
 use Rattle.fl_flash.specs.declared.flash.FlashFault.{FlashFault}
@@ -7,11 +7,13 @@ use Rattle.fl_model.specs.Record.{row_layout}
 use Rattle.fl_model.specs.Row.{stored_row}
 use Rattle.fl_model.specs.Table.{log_pages, pending_entries}
 use Rattle.fl_ring.specs.Operations.{change, seal_kinds}
-use Rattle.fl_ring.specs.Place.{StandsFor, shape_of}
+use Rattle.fl_ring.specs.Place.{StandsFor, next_of, shape_of}
 use Rattle.fl_ring.specs.Ring.{Shape, OutsideStands, oldest, place, sealed}
 use Rattle.fl_ring.specs.Sealing.{Performed}
+use Rattle.fl_ring.specs.Written.{done}
+use Rattle.fl_ring.proofs.Written.{held-writes, page-as}
 use Rattle.fl_index.proofs.SealAnswers.{seal-on}
-use Rattle.fl_rlc.specs.Memory.{next_in}
+use Rattle.fl_rlc.specs.Memory.{log_shape, next_in}
 use Rattle.fl_rlc.specs.Pages.{log_body}
 use Rattle.fl_rlc.proofs.SealsInTable.{seal-breaks, seal-finishes, seal-err, ready, pages-size, next-is}
 use Rattle.fl_rlc.proofs.States.{state_of}
@@ -125,3 +127,30 @@ pub returns-clause-next : goal.returns-clause-next
 returns-clause-next g c =
     let ring_is : c.args.self.now.ring ≡ Some c.in-Some.ring = search rules in
     c.in_ok-seal.ensures.next ∙ ap (λ n. n + 1) (sym (next-is c.args.self.now c.in-Some.ring ring_is))
+
+pub returns-in_err-seal-clause-writes : goal.returns-in_err-seal-clause-writes
+returns-in_err-seal-clause-writes g c =
+    let v = c.args.self.now in
+    let ring_is : c.args.self.now.ring ≡ Some c.in-Some.ring = search rules in
+    let p = err_from_is_err_and c.from_residual.result c.from_residual.ensures.1 in
+    let none : done c.from_residual.result ≡ 0 = ap (λ (x : Result (Unit {0}) FlashFault). done x) p.1 in
+    held-writes v.ring c.in-Some.ring 0 (done c.from_residual.result) _ _ ring_is (omega (arith, none)) c.in_err-seal.ensures.writes
+
+pub returns-clause-writes : goal.returns-clause-writes
+returns-clause-writes g c =
+    let v = c.args.self.now in
+    let ring_is : c.args.self.now.ring ≡ Some c.in-Some.ring = search rules in
+    held-writes v.ring c.in-Some.ring 1 1 _ _ ring_is (omega arith) c.in_ok-seal.ensures.writes
+
+pub returns-in_err-seal-clause-page : goal.returns-in_err-seal-clause-page
+returns-in_err-seal-clause-page g c = let p = err_from_is_err_and c.from_residual.result c.from_residual.ensures.1 in rw p.1 tt
+
+pub returns-clause-page : goal.returns-clause-page
+returns-clause-page g c = λ told layout rows gathers.
+    let v = c.args.self.now in
+    let ring = c.in-Some.ring in
+    let ring_is : c.args.self.now.ring ≡ Some c.in-Some.ring = search rules in
+    let number : c.next_number.result ≡ next_in c.args.self.now = c.next_number.ensures ∙ sym (next-is v ring ring_is) in
+    let body : c.body.result.now ≡ rows_body (length v.rows.body) layout (next_in v) 0 rows = c.body.ensures ∙ (c.finish.ensures.body layout rows gathers ∙ ap (λ n. rows_body (length v.rows.body) layout n 0 rows) number) in
+    page-as (shape_of ring) (log_shape v) (next_of ring) (next_in v) c.body.result.now (rows_body (length v.rows.body) layout (next_in v) 0 rows) (page_at (g.F.Flash.state c.args.flash.now)) (page_at (g.F.Flash.state c.seal.new.flash))
+    (v.lies ring ring_is) (sym (next-is v ring ring_is)) body (c.in_ok-seal.ensures.page told)

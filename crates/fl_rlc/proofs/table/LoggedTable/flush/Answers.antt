@@ -217,3 +217,9 @@ returns-clause-writes g c = c.in_ok-flush.ensures.writes
 
 pub returns-clause-sealed : goal.returns-clause-sealed
 returns-clause-sealed g c = c.in_ok-flush.ensures.sealed
+
+pub returns-then-pending_rows-eq0-clause-seals : goal.returns-then-pending_rows-eq0-clause-seals
+returns-then-pending_rows-eq0-clause-seals g c = c.flush.ensures.seals
+
+pub returns-in_err-flush-clause-seals : goal.returns-in_err-flush-clause-seals
+returns-in_err-flush-clause-seals g c = let p = err_from_is_err_and c.from_residual.result c.from_residual.ensures.1 in rw p.1 tt

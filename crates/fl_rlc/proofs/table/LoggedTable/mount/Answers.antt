@@ -26,7 +26,8 @@ use Rattle.fl_rlc.proofs.MountLimits.{limit-alone, limit-behind}
 use Rattle.fl_rlc.proofs.MountFound.{finds-alone, finds-behind, refuses-behind, outside-both, few-both, log-here}
 use Rattle.fl_rlc.proofs.MountLeaves.{bare-leaves, mount-leaves}
 use Rattle.fl_rlc.proofs.Planned.{none-some, one-log}
-use Rattle.fl_rlc.proofs.PutFrames.{log-lies, log-moved, blobs-same, not-both}
+use Rattle.fl_rlc.proofs.PutFrames.{log-lies, log-moved, blobs-same}
+use Rattle.fl_rlc.proofs.Written.{repairs-alone, repairs-both}
 use Rattle.fl_rlc.proofs.table.LoggedTable.mount.Goals as goal
 
 -- ---- the table's mount fails
@@ -67,7 +68,7 @@ returns-in_err-mounted-clause-limit g c = λ first plan table rose device watche
     limit-alone plan table old.work.reads (g.F.Flash.state c.mount.new.flash).work.reads (c.in_err-mounted.ensures.limit first (bare plan) (bare_table table) rose device watched planned.table (bare-rests t old first plan table planned rests) full)
 
 pub returns-in_err-mounted-clause-repairs : goal.returns-in_err-mounted-clause-repairs
-returns-in_err-mounted-clause-repairs g c = λ alone. let few = c.in_err-mounted.ensures.repairs in record { programs = omega (arith, few.programs); erases = omega (arith, few.erases) }
+returns-in_err-mounted-clause-repairs g c = repairs-alone c.args.self.now (g.F.Flash.state c.args.flash.now) (g.F.Flash.state c.mount.new.flash) c.in_err-mounted.ensures.repairs
 
 -- ---- it has no log
 
@@ -106,7 +107,7 @@ returns-in_default-clause-limit g c = λ first plan table rose device watched pl
     limit-alone plan table old.work.reads (g.F.Flash.state c.mount.new.flash).work.reads (c.in_ok-mounted.ensures.limit first (bare plan) (bare_table table) rose device watched planned.table (bare-rests t old first plan table planned rests) full)
 
 pub returns-in_default-clause-repairs : goal.returns-in_default-clause-repairs
-returns-in_default-clause-repairs g c = λ alone. let few = c.in_ok-mounted.ensures.repairs in record { programs = omega (arith, few.programs); erases = omega (arith, few.erases) }
+returns-in_default-clause-repairs g c = repairs-alone c.args.self.now (g.F.Flash.state c.args.flash.now) (g.F.Flash.state c.mount.new.flash) c.in_ok-mounted.ensures.repairs
 
 -- ---- the replay
 
@@ -224,7 +225,9 @@ returns-in-Err-clause-limit g c = λ first plan table rose device watched planne
     (c.in-Err.ensures.limit (first + blocks_of (bare plan)) plan table (subst IsTrue (sym k.goes.tells) watched.told) (log-stays t old first plan table planned c.in-Some.log apart f1 (k.outside watched.told)))
 
 pub returns-in-Err-clause-repairs : goal.returns-in-Err-clause-repairs
-returns-in-Err-clause-repairs g c = λ alone. absurd (not-both (is_some c.args.self.now.log) (ap {B = Bool} (λ (o : Option RecordLog). is_some o) c.in-Some.is) alone)
+returns-in-Err-clause-repairs g c =
+    repairs-both c.args.self.now c.mount.new.self (g.F.Flash.state c.args.flash.now) (g.F.Flash.state c.mount.new.flash) (g.F.Flash.state c.replay.new.flash) (ap {B = Bool} (λ (o : Option RecordLog). is_some o) c.in-Some.is)
+    c.in_ok-mounted.ensures.same c.in_ok-mounted.ensures.repairs c.in-Err.ensures.repairs
 
 -- ---- all is mounted
 
@@ -346,7 +349,9 @@ returns-clause-limit g c = λ first plan table rose device watched planned rests
     (c.in_default-replay.ensures.limit (first + blocks_of (bare plan)) plan table (subst IsTrue (sym k.goes.tells) watched.told) (log-stays t old first plan table planned c.in-Some.log apart f1 (k.outside watched.told)))
 
 pub returns-clause-repairs : goal.returns-clause-repairs
-returns-clause-repairs g c = λ alone. absurd (not-both (is_some c.args.self.now.log) (ap {B = Bool} (λ (o : Option RecordLog). is_some o) c.in-Some.is) alone)
+returns-clause-repairs g c =
+    repairs-both c.args.self.now c.mount.new.self (g.F.Flash.state c.args.flash.now) (g.F.Flash.state c.mount.new.flash) (g.F.Flash.state c.replay.new.flash) (ap {B = Bool} (λ (o : Option RecordLog). is_some o) c.in-Some.is)
+    c.in_ok-mounted.ensures.same c.in_ok-mounted.ensures.repairs c.in_default-replay.ensures.repairs
 
 pub returns-clause-power : goal.returns-clause-power
 returns-clause-power g c = λ on. c.in_default-replay.ensures.power

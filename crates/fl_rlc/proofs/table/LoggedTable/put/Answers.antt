@@ -14,7 +14,7 @@ use Rattle.fl_schema.specs.Schema.{layout_of}
 use Rattle.fl_table.specs.Refusal.{RefusesAs}
 use Rattle.fl_table.specs.declared.faults.PutRefusal.{PutRefusal}
 use Rattle.fl_table.specs.declared.faults.PutRefusal.TheVariants as put
-use Rattle.fl_table.specs.Blobs.{pages_for}
+use Rattle.fl_table.specs.Blobs.{most_pages, pages_for}
 use Rattle.fl_table.specs.Memory.{HasRoom}
 use Rattle.fl_rlc.specs.Refusal.{put_refusal, NeedsNoOperation}
 use Rattle.fl_rlc.specs.Rows.{RowEnds, HaveLogged}
@@ -24,7 +24,10 @@ use Rattle.fl_frame.proofs.ReadsInTurn.{no_reads}
 use Rattle.fl_model.specs.Record.{layout_len}
 use Rattle.fl_model.specs.Row.{FitsRow}
 use Rattle.fl_rlc.specs.Memory.{page_len}
-use Rattle.fl_rlc.specs.Table.{is_logged, is_running, is_stopped}
+use Rattle.fl_rlc.specs.Table.{is_logged, is_running, is_stopped, rings_in, MayPut}
+use Rattle.fl_ring.proofs.Written.{writes-none}
+use Rattle.fl_rlc.proofs.Written.{logged-writes, page-logged, table-writes}
+use Rattle.fl_rlc.proofs.Paged.{put-logged}
 use Rattle.fl_rlc.proofs.PowerOff.{idle-put}
 use Rattle.fl_table.proofs.Refusals.{told-running, fits-row, calm-cause}
 use Rattle.fl_table.proofs.SealAnswers.{plan-self, same-then}
@@ -320,11 +323,8 @@ returns-clause-logs g c =
     subst (λ (l : RowLayout). HaveLogged l (record { key = c.args.key; values = c.args.values.now; blob = None }) c.args.self.now.log c.log_row.new.log)
     (c.schema.ensures.exact ∙ c.in_ok-put.ensures.same.layout) c.in_default-log_row.ensures.logs
 
-pub returns-clause-pending : goal.returns-clause-pending
-returns-clause-pending g c = c.in_ok-put.ensures.pending
-
-pub returns-clause-rows : goal.returns-clause-rows
-returns-clause-rows g c = c.in_ok-put.ensures.rows
+pub returns-clause-stores : goal.returns-clause-stores
+returns-clause-stores g c = c.in_ok-put.ensures.stores
 
 pub returns-clause-power : goal.returns-clause-power
 returns-clause-power g c = λ on. c.in_default-log_row.ensures.power (c.in_ok-put.ensures.power on)
@@ -405,3 +405,60 @@ schema-requires g c = table-fits g.row.KNOTS g.row.SLOTS c.args.self.now.table.f
 
 pub stop-requires : goal.stop-requires
 stop-requires g c = table-fits g.row.KNOTS g.row.SLOTS c.args.self.now.table.few_knots c.args.self.now.table.few_slots
+
+pub returns-in-Some-clause-writes : goal.returns-in-Some-clause-writes
+returns-in-Some-clause-writes g c =
+    let t = c.args.self.now in
+    let bytes = option_map (λ (b : Bor (List ℕ)). b.now) c.args.blob in
+    writes-none (MayPut t bytes) (rings_in t + most_pages t.table.blobs bytes) (g.F.Flash.state c.args.flash.now)
+
+pub returns-in_err-put-clause-writes : goal.returns-in_err-put-clause-writes
+returns-in_err-put-clause-writes g c =
+    table-writes c.args.self.now (option_map (λ (b : Bor (List ℕ)). b.now) c.args.blob) (g.F.Flash.state c.args.flash.now) (g.F.Flash.state c.put.new.flash) c.in_err-put.ensures.writes
+
+pub returns-in-Err-clause-writes : goal.returns-in-Err-clause-writes
+returns-in-Err-clause-writes g c =
+    logged-writes c.args.self.now (option_map (λ (b : Bor (List ℕ)). b.now) c.args.blob) 0 (g.F.Flash.state c.args.flash.now) (g.F.Flash.state c.put.new.flash) (g.F.Flash.state c.log_row.new.flash)
+    c.in_ok-put.ensures.goes.tells c.in_ok-put.ensures.writes c.log_row.ensures.writes
+
+pub returns-clause-writes : goal.returns-clause-writes
+returns-clause-writes g c =
+    logged-writes c.args.self.now (option_map (λ (b : Bor (List ℕ)). b.now) c.args.blob) 0 (g.F.Flash.state c.args.flash.now) (g.F.Flash.state c.put.new.flash) (g.F.Flash.state c.log_row.new.flash)
+    c.in_ok-put.ensures.goes.tells c.in_ok-put.ensures.writes c.log_row.ensures.writes
+
+pub returns-clause-sealed : goal.returns-clause-sealed
+returns-clause-sealed g c = λ full.
+    page-logged c.args.self.now (option_map (λ (b : Bor (List ℕ)). b.now) c.args.blob) (g.F.Flash.state c.args.flash.now) (g.F.Flash.state c.put.new.flash) (g.F.Flash.state c.log_row.new.flash)
+    c.in_ok-put.ensures.goes.tells (c.in_ok-put.ensures.sealed full) c.log_row.ensures.writes c.log_row.ensures.outside
+
+pub returns-in-Some-clause-stores : goal.returns-in-Some-clause-stores
+returns-in-Some-clause-stores g c = tt
+
+pub returns-in_err-put-clause-stores : goal.returns-in_err-put-clause-stores
+returns-in_err-put-clause-stores g c = let p = err_from_is_err_and c.from_residual.result c.from_residual.ensures.1 in rw p.1 tt
+
+pub returns-in-Err-clause-stores : goal.returns-in-Err-clause-stores
+returns-in-Err-clause-stores g c = tt
+
+pub returns-in-Some-clause-sealed : goal.returns-in-Some-clause-sealed
+returns-in-Some-clause-sealed g c = tt
+
+pub returns-in_err-put-clause-sealed : goal.returns-in_err-put-clause-sealed
+returns-in_err-put-clause-sealed g c = let p = err_from_is_err_and c.from_residual.result c.from_residual.ensures.1 in rw p.1 tt
+
+pub returns-in-Err-clause-sealed : goal.returns-in-Err-clause-sealed
+returns-in-Err-clause-sealed g c = tt
+
+pub returns-in-Some-clause-log_page : goal.returns-in-Some-clause-log_page
+returns-in-Some-clause-log_page g c = tt
+
+pub returns-in_err-put-clause-log_page : goal.returns-in_err-put-clause-log_page
+returns-in_err-put-clause-log_page g c = let p = err_from_is_err_and c.from_residual.result c.from_residual.ensures.1 in rw p.1 tt
+
+pub returns-in-Err-clause-log_page : goal.returns-in-Err-clause-log_page
+returns-in-Err-clause-log_page g c = tt
+
+pub returns-clause-log_page : goal.returns-clause-log_page
+returns-clause-log_page g c =
+    put-logged c.args.self.now (layout_of c.schema.result.now) (record { key = c.args.key; values = c.args.values.now; blob = None }) (g.F.Flash.state c.args.flash.now) (g.F.Flash.state c.put.new.flash) (g.F.Flash.state c.log_row.new.flash)
+    (c.schema.ensures.exact ∙ c.in_ok-put.ensures.same.layout) c.in_ok-put.ensures.goes.tells c.in_ok-put.ensures.outside c.in_default-log_row.ensures.page

@@ -61,6 +61,8 @@ returns-clause-cause g c =
           begins = c.flush-outcome.ensures.begins;
           power = c.flush-outcome.ensures.power;
           off = c.flush-outcome.ensures.off runs;
+          writes = c.flush-outcome.ensures.writes;
+          sealed = c.flush-outcome.ensures.sealed;
           media_reads = c.flush-outcome.ensures.media_reads;
         },
       );

@@ -57,12 +57,14 @@ returns-clause-cause g c =
           fails = rw c.put_breaks.ensures (put-fails-so _ c.in-Ok.at c.index_mut.result.now c.put-outcome.new.self _ c.put-outcome.result here c.in-Ok.ensures.mounted_is c.put-outcome.ensures.refused c.put-outcome.ensures.cause);
           leaves = record { now = c.put-outcome.new.self; same = c.put-outcome.ensures.same; entries = refl; mounted = ap not c.put_breaks.ensures; notes = refl; unread = c.put-outcome.ensures.reads; goes = c.put-outcome.ensures.goes; outside = c.put-outcome.ensures.outside };
           last = c.put-outcome.ensures.last;
-          pending = c.put-outcome.ensures.pending;
-          rows = c.put-outcome.ensures.rows;
+          stores = c.put-outcome.ensures.stores;
           logs = c.put-outcome.ensures.logs;
           power = c.put-outcome.ensures.power;
           quiet = λ none. c.put-outcome.ensures.quiet (ap (λ n. put_refusal c.index_mut.result.now.table c.args.key c.args.values.now n) (sym (map-twice (λ (b : Bor (List ℕ)). b.now) (λ (xs : List ℕ). length xs) c.args.blob)) ∙ none);
           off = λ none. c.put-outcome.ensures.off (ap (λ n. put_refusal c.index_mut.result.now.table c.args.key c.args.values.now n) (sym (map-twice (λ (b : Bor (List ℕ)). b.now) (λ (xs : List ℕ). length xs) c.args.blob)) ∙ none);
+          log_page = c.put-outcome.ensures.log_page;
+          sealed = c.put-outcome.ensures.sealed;
+          writes = c.put-outcome.ensures.writes;
           media_reads = c.put-outcome.ensures.media_reads;
         },
       );

@@ -77,3 +77,13 @@ pub returns-clause-media_reads : goal.returns-clause-media_reads
 returns-clause-media_reads g c = λ entry e.
     let here : slice_get c.args.self.now.tables.entries.items c.args.at ≡ Some c.index_mut.result.now = entry-at c.args.self.now.tables.entries.items c.args.at c.index_mut.result.now c.requires.at c.index_mut.ensures.value in
     rw (some-is (slice_get c.args.self.now.tables.entries.items c.args.at) entry c.index_mut.result.now e here) c.flush.ensures.media_reads
+
+pub returns-clause-writes : goal.returns-clause-writes
+returns-clause-writes g c = λ entry e.
+    let here : slice_get c.args.self.now.tables.entries.items c.args.at ≡ Some c.index_mut.result.now = entry-at c.args.self.now.tables.entries.items c.args.at c.index_mut.result.now c.requires.at c.index_mut.ensures.value in
+    rw (some-is (slice_get c.args.self.now.tables.entries.items c.args.at) entry c.index_mut.result.now e here) c.flush.ensures.writes
+
+pub returns-clause-sealed : goal.returns-clause-sealed
+returns-clause-sealed g c = λ entry e.
+    let here : slice_get c.args.self.now.tables.entries.items c.args.at ≡ Some c.index_mut.result.now = entry-at c.args.self.now.tables.entries.items c.args.at c.index_mut.result.now c.requires.at c.index_mut.ensures.value in
+    rw (some-is (slice_get c.args.self.now.tables.entries.items c.args.at) entry c.index_mut.result.now e here) c.flush.ensures.sealed

@@ -41,7 +41,7 @@ returns-clause-lie g c =
 pub returns-clause-takes : goal.returns-clause-takes
 returns-clause-takes g c =
     put-takes c.args.self.now.tables.entries.items c.args.at c.index_mut-entry.result.now c.put.new.self
-    (entry-at c.args.self.now.tables.entries.items c.args.at c.index_mut-entry.result.now c.requires.at c.index_mut-entry.ensures.value) _ c.put.result c.put.ensures.last c.put.ensures.pending c.put.ensures.rows c.put.ensures.logs
+    (entry-at c.args.self.now.tables.entries.items c.args.at c.index_mut-entry.result.now c.requires.at c.index_mut-entry.ensures.value) _ c.put.result c.put.ensures.last c.put.ensures.stores c.put.ensures.logs
 
 pub returns-clause-quiet : goal.returns-clause-quiet
 returns-clause-quiet g c = λ entry e.
@@ -72,3 +72,18 @@ pub returns-clause-media_reads : goal.returns-clause-media_reads
 returns-clause-media_reads g c = λ entry e.
     let here : slice_get c.args.self.now.tables.entries.items c.args.at ≡ Some c.index_mut-entry.result.now = entry-at c.args.self.now.tables.entries.items c.args.at c.index_mut-entry.result.now c.requires.at c.index_mut-entry.ensures.value in
     rw (some-is (slice_get c.args.self.now.tables.entries.items c.args.at) entry c.index_mut-entry.result.now e here) c.put.ensures.media_reads
+
+pub returns-clause-writes : goal.returns-clause-writes
+returns-clause-writes g c = λ entry e.
+    let here : slice_get c.args.self.now.tables.entries.items c.args.at ≡ Some c.index_mut-entry.result.now = entry-at c.args.self.now.tables.entries.items c.args.at c.index_mut-entry.result.now c.requires.at c.index_mut-entry.ensures.value in
+    rw (some-is (slice_get c.args.self.now.tables.entries.items c.args.at) entry c.index_mut-entry.result.now e here) c.put.ensures.writes
+
+pub returns-clause-sealed : goal.returns-clause-sealed
+returns-clause-sealed g c = λ entry e.
+    let here : slice_get c.args.self.now.tables.entries.items c.args.at ≡ Some c.index_mut-entry.result.now = entry-at c.args.self.now.tables.entries.items c.args.at c.index_mut-entry.result.now c.requires.at c.index_mut-entry.ensures.value in
+    rw (some-is (slice_get c.args.self.now.tables.entries.items c.args.at) entry c.index_mut-entry.result.now e here) c.put.ensures.sealed
+
+pub returns-clause-log_page : goal.returns-clause-log_page
+returns-clause-log_page g c = λ entry e.
+    let here : slice_get c.args.self.now.tables.entries.items c.args.at ≡ Some c.index_mut-entry.result.now = entry-at c.args.self.now.tables.entries.items c.args.at c.index_mut-entry.result.now c.requires.at c.index_mut-entry.ensures.value in
+    rw (some-is (slice_get c.args.self.now.tables.entries.items c.args.at) entry c.index_mut-entry.result.now e here) c.put.ensures.log_page

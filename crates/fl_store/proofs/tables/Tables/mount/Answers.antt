@@ -11,7 +11,7 @@ use Rattle.fl_table.specs.Memory.{pending_in}
 use Rattle.fl_frame.proofs.CallsInTurn.{goes-same, goes-then}
 use Rattle.fl_table.specs.Mounting.{FewRepairs}
 use Rattle.fl_table.proofs.MountJoined.{mount-cause-later}
-use Rattle.fl_store.specs.Mounting.{AreUnlogged, MountsInTurn, OutsideStands, rings_of}
+use Rattle.fl_store.specs.Mounting.{MountsInTurn, OutsideStands, repairs_of}
 use Rattle.fl_store.specs.Tables.{first_of}
 use Rattle.fl_store.specs.declared.tables.Entry.{Entry}
 use Rattle.fl_store.proofs.InTurn.{turn-before, turn-more, repairs-none, repairs-more, outside-none, outside-more}
@@ -40,7 +40,7 @@ loop-i-init g c = record {
   ahead = λ j le. refl;
   reads = λ told. omega arith;
   in_turn = λ told. refl;
-  repairs = λ unlogged. repairs-none c.args.self.now.entries.items (g.F.Flash.state c.args.flash.now);
+  repairs = repairs-none c.args.self.now.entries.items (g.F.Flash.state c.args.flash.now);
   outside = λ told. outside-none c.args.self.now.entries.items (page_at (g.F.Flash.state c.args.flash.now));
   leaves = λ told plans tables stand known. left-none plans (g.F.Flash.state c.args.flash.now).geometry (page_at (g.F.Flash.state c.args.flash.now));
   so_far = λ plans tables rose device told on counts stand risen. (mounted-none plans tables rose device c.args.self.now.entries.items (g.F.Flash.state c.args.flash.now) counts on stand, omega arith);
@@ -218,7 +218,7 @@ returns-clause-found g c = λ told.
 pub returns-clause-repairs : goal.returns-clause-repairs
 returns-clause-repairs g c =
     let all : c.loop-i.i ≡ length c.args.self.now.entries.items = omega (arith, c.loop-i-test.false, c.loop-i.auto.i-end, c.len-i-end.ensures, c.args.self.now.entries.ok.0) in
-    subst (λ (es : List Entry). AreUnlogged es → FewRepairs (rings_of es) (g.F.Flash.state c.args.flash.now) (g.F.Flash.state c.loop-i.flash)) (take_all c.loop-i.i c.args.self.now.entries.items (omega (arith, all))) c.loop-i.invariant.repairs
+    subst (λ (es : List Entry). FewRepairs (repairs_of es) (g.F.Flash.state c.args.flash.now) (g.F.Flash.state c.loop-i.flash)) (take_all c.loop-i.i c.args.self.now.entries.items (omega (arith, all))) c.loop-i.invariant.repairs
 
 pub returns-clause-outside : goal.returns-clause-outside
 returns-clause-outside g c = λ told.

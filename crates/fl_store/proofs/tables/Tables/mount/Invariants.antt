@@ -10,7 +10,7 @@ use Rattle.fl_frame.specs.Device.{SameDevice}
 use Rattle.fl_rlc.specs.Table.{is_running, table_in}
 use Rattle.fl_table.specs.Memory.{pending_in}
 use Rattle.fl_table.specs.Mounting.{FewRepairs}
-use Rattle.fl_store.specs.Mounting.{AreSameNames, AreSamePlans, AreUnlogged, MountsInTurn, OutsideStands, rings_of}
+use Rattle.fl_store.specs.Mounting.{AreSameNames, AreSamePlans, MountsInTurn, OutsideStands, repairs_of}
 use Rattle.fl_store.specs.Tables.{LieOn, TablesStand, pages_of}
 use Rattle.fl_store.specs.declared.tables.Entry.{Entry}
 use Rattle.fl_store.proofs.MountedSoFar.{MountedSoFar}
@@ -32,7 +32,7 @@ invariant-loop-i g l = record {
   ahead : (j : ℕ) → l.i ≤ j → slice_get l.self.entries.items j ≡ slice_get l.fn.self.entries.items j;
   reads : IsTrue (g.F.Flash.state l.fn.flash).media.tells → (g.F.Flash.state l.flash).work.reads ≤ (g.F.Flash.state l.fn.flash).work.reads + 4 * pages_of (take l.i l.fn.self.entries.items);
   in_turn : IsTrue (g.F.Flash.state l.fn.flash).media.tells → MountsInTurn l.i l.fn.self.entries.items l.self.entries.items (g.F.Flash.state l.fn.flash) (g.F.Flash.state l.flash);
-  repairs : AreUnlogged (take l.i l.fn.self.entries.items) → FewRepairs (rings_of (take l.i l.fn.self.entries.items)) (g.F.Flash.state l.fn.flash) (g.F.Flash.state l.flash);
+  repairs : FewRepairs (repairs_of (take l.i l.fn.self.entries.items)) (g.F.Flash.state l.fn.flash) (g.F.Flash.state l.flash);
   outside : IsTrue (g.F.Flash.state l.fn.flash).media.tells → OutsideStands (take l.i l.fn.self.entries.items) (page_at (g.F.Flash.state l.fn.flash)) (page_at (g.F.Flash.state l.flash));
   leaves : IsTrue (g.F.Flash.state l.fn.flash).media.tells → (plans : List Plan) (tables : List model.Table) → TablesStand (g.F.Flash.state l.fn.flash) (λ i. false) plans l.fn.self.entries.items tables →
       IsKnown l.fn.self.entries.items (g.F.Flash.state l.fn.flash) (g.F.Flash.state l.flash) → LeavesFirst plans (g.F.Flash.state l.fn.flash).geometry l.i (page_at (g.F.Flash.state l.fn.flash)) (page_at (g.F.Flash.state l.flash));

@@ -51,6 +51,12 @@ returns-clause-same g c = record {
   limit = refl;
 }
 
+pub returns-clause-bits : goal.returns-clause-bits
+returns-clause-bits g c =
+    let t = c.args.self.now in
+    let bits : c.with_value-self.result ≡ bitmap_with t.buckets t.bitmap (get_or c.args.values.now 0 (pos 0)) = search (rules, to_z-of_z) in
+    bits
+
 pub returns-clause-memory : goal.returns-clause-memory
 returns-clause-memory g c = λ plan table after entry memory same entries one few buckets row.
     let t = c.args.self.now in
@@ -58,7 +64,7 @@ returns-clause-memory g c = λ plan table after entry memory same entries one fe
     let pending = pending-more table after entry entries one few in
     let values : entry.kept.values ≡ c.args.values.now = ap (λ (r : Row). r.values) row in
     let key : entry.kept.key ≡ c.args.key = ap (λ (r : Row). r.key) row in
-    let bits : c.with_value-self.result ≡ bitmap_with t.buckets t.bitmap (get_or c.args.values.now 0 (pos 0)) = search (rules, to_z-of_z) in
+    let bits : c.with_value-self.result ≡ bitmap_with t.buckets t.bitmap (get_or c.args.values.now 0 (pos 0)) = returns-clause-bits g c in
     let gathers = c.push_row.ensures.rows (map stored_row (model.pending_entries table)) memory.gathers in
     let rows : map stored_row (model.pending_entries after) ≡ map stored_row (model.pending_entries table) ++ this ∷ [] =
     ap (map stored_row) pending ∙ (map-append stored_row (model.pending_entries table) (entry ∷ []) ∙ ap (λ (r : Row). map stored_row (model.pending_entries table) ++ r ∷ []) row) in
@@ -120,11 +126,8 @@ returns-clause-last g c = refl
 pub returns-clause-rows : goal.returns-clause-rows
 returns-clause-rows g c = λ rows h. c.push_row.ensures.rows rows h
 
-pub returns-clause-ring : goal.returns-clause-ring
-returns-clause-ring g c = refl
-
-pub returns-clause-bitmaps : goal.returns-clause-bitmaps
-returns-clause-bitmaps g c = refl
+pub returns-clause-known : goal.returns-clause-known
+returns-clause-known g c = record { ring = refl; counts = refl; voids = refl; index = refl; bitmaps = refl }
 
 pub returns-clause-blobs : goal.returns-clause-blobs
 returns-clause-blobs g c = refl

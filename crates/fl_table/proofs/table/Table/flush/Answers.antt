@@ -270,10 +270,10 @@ pub returns-clause-quiet : goal.returns-clause-quiet
 returns-clause-quiet g c = λ running none. absurd (c.if-count-eq0.false (c.count.ensures ∙ none))
 
 pub returns-clause-none : goal.returns-clause-none
-returns-clause-none g c = c.in_ok-seal.ensures.empty
+returns-clause-none g c = c.in_ok-seal.ensures.emptied.none
 
 pub returns-clause-seals : goal.returns-clause-seals
-returns-clause-seals g c = λ some. c.in_ok-seal.ensures.next
+returns-clause-seals g c = λ some. c.in_ok-seal.ensures.emptied
 
 pub returns-clause-cause : goal.returns-clause-cause
 returns-clause-cause g c = tt
@@ -310,4 +310,4 @@ returns-in_err-seal-clause-sealed g c =
     rw p.1 tt
 
 pub returns-clause-sealed : goal.returns-clause-sealed
-returns-clause-sealed g c = λ some. c.in_ok-seal.ensures.writes
+returns-clause-sealed g c = λ some. record { writes = c.in_ok-seal.ensures.writes; page = c.in_ok-seal.ensures.page; blobs = c.in_ok-seal.ensures.blob_page }

@@ -1,5 +1,4 @@
 use Rattle.std.proofs.Common.{true, false, Bool, None, is_some, ◌&&◌, ◌==◌, cond, IfSome, ◌≡◌, ℕ, ◌+◌, ◌^◌, ◌<◌, ◌≤◌, Bor, List, [], ◌∷◌, ◌++◌, Some, option_map, arith, refl, sym, ◌∙◌, ap, subst, Option}
-use Rattle.std.specs.Prelude.{unwrap_or}
 use Rattle.fl_base.specs.declared.types.BlobRef.{BlobRef}
 use Rattle.fl_model.specs.Record.{Record, RowLayout}
 use Rattle.fl_model.specs.Row.{stored_row, FitsReference}
@@ -21,7 +20,6 @@ use Rattle.fl_table.proofs.SealAnswers.{planned-same}
 use Rattle.fl_table.proofs.PowerOff.{off-ok, off-err}
 use Rattle.fl_table.proofs.ReadsKeepTable.{lies-moved}
 use Rattle.fl_schema.specs.Schema.{layout_of}
-use Rattle.fl_ring.specs.Place.{next_of}
 use Rattle.fl_ring.specs.declared.ring.Ring.{Ring}
 use Rattle.fl_table.proofs.Sizes.{table-fits}
 use Rattle.fl_table.proofs.table.Table.join.Goals as goal
@@ -86,27 +84,12 @@ returns-clause-ends g c = λ first plan table rose device watched stands ok.
           voids = memory.voids;
           index = memory.index;
         }) (record { rows = refl; points = refl }) refl refl (omega (arith, stands.facts.counted)) stands.planned.buckets row;
-        bitmaps = subst (λ (o : Option BitmapIndex). bitmaps.Stand o new (first + plan.data_blocks) plan (joined_to table entry h.ring h.content h.bytes)) (sym c.add.ensures.bitmaps) h.bitmaps;
+        bitmaps = subst (λ (o : Option BitmapIndex). bitmaps.Stand o new (first + plan.data_blocks) plan (joined_to table entry h.ring h.content h.bytes)) (sym c.add.ensures.known.bitmaps) h.bitmaps;
         blobs = subst (λ (o : Option VarData). variable.Stand o new (first + plan.data_blocks + plan.index_blocks) plan (joined_to table entry h.ring h.content h.bytes)) (sym c.add.ensures.blobs) h.blobs;
         points = record { older = points.older; points = points.points; last = points.last };
       });
       stand = h.stand;
     }
-
--- no place is given for no blob
-no-place : (has : Bool) (blob : Option (Bor (List ℕ))) (at : Option BlobRef) → is_some at ≡ (has && is_some blob) → option_map (λ (b : Bor (List ℕ)). b.now) blob ≡ None → at ≡ None
-no-place has None None given none = refl
-no-place true None (Some at) given none = cc
-no-place false None (Some at) given none = cc
-no-place has (Some b) at given none = cc
-
-pub returns-clause-last : goal.returns-clause-last
-returns-clause-last g c = c.add.ensures.last
-
-pub returns-clause-rows : goal.returns-clause-rows
-returns-clause-rows g c = λ none rows h.
-    let at = no-place (is_some c.args.self.now.blobs) c.args.blob c.in-Ok.at c.in-Ok.ensures.given none in
-    subst (λ (o : Option BlobRef). PendingAre c.add.new.self (rows ++ (record { key = c.args.key; values = c.args.values.now; blob = o }) ∷ [])) at (c.add.ensures.rows rows h)
 
 pub returns-clause-lies : goal.returns-clause-lies
 returns-clause-lies g c =
@@ -266,12 +249,6 @@ returns-in-Err-clause-same g c = record {
 pub returns-in-Err-clause-running : goal.returns-in-Err-clause-running
 returns-in-Err-clause-running g c = tt
 
-pub returns-in-Err-clause-last : goal.returns-in-Err-clause-last
-returns-in-Err-clause-last g c = tt
-
-pub returns-in-Err-clause-rows : goal.returns-in-Err-clause-rows
-returns-in-Err-clause-rows g c = tt
-
 pub returns-in-Err-clause-calm : goal.returns-in-Err-clause-calm
 returns-in-Err-clause-calm g c = tt
 
@@ -303,7 +280,7 @@ returns-clause-same g c = record {
 }
 
 pub returns-clause-running : goal.returns-clause-running
-returns-clause-running g c = ap (λ (o : Option Ring). is_some o) c.add.ensures.ring ∙ c.requires.running
+returns-clause-running g c = ap (λ (o : Option Ring). is_some o) c.add.ensures.known.ring ∙ c.requires.running
 
 pub returns-clause-calm : goal.returns-clause-calm
 returns-clause-calm g c = c.add.ensures.stopped
@@ -360,11 +337,23 @@ returns-in-Err-clause-quiet g c = λ few. absurd (no-error (c.in-Err.ensures.qui
 pub returns-clause-quiet : goal.returns-clause-quiet
 returns-clause-quiet g c = λ few. (refl, (c.in-Ok.ensures.quiet few).1)
 
-pub returns-clause-pending : goal.returns-clause-pending
-returns-clause-pending g c = c.add.ensures.pending
+pub returns-in-Err-clause-joined : goal.returns-in-Err-clause-joined
+returns-in-Err-clause-joined g c = tt
 
-pub returns-in-Err-clause-next : goal.returns-in-Err-clause-next
-returns-in-Err-clause-next g c = tt
+pub returns-clause-joined : goal.returns-clause-joined
+returns-clause-joined g c =
+    let known = c.add.ensures.known in
+    record {
+      last = c.add.ensures.last;
+      pending = c.add.ensures.pending;
+      rows = λ rows h. subst (λ (o : Option BlobRef). PendingAre c.add.new.self (rows ++ (record { key = c.args.key; values = c.args.values.now; blob = o }) ∷ [])) c.in-Ok.ensures.placed.0 (c.add.ensures.rows rows h);
+      bits = c.add.ensures.bits;
+      known = record { ring = known.ring; counts = known.counts; voids = known.voids; index = known.index; bitmaps = known.bitmaps };
+      blobs = subst (λ (o : Option VarData). variable.HavePlaced (option_map (λ (b : Bor (List ℕ)). b.now) c.args.blob) c.args.self.now.blobs o) (sym c.add.ensures.blobs) c.in-Ok.ensures.placed.1;
+    }
 
-pub returns-clause-next : goal.returns-clause-next
-returns-clause-next g c = ap (λ (o : Option Ring). unwrap_or (option_map (λ (r : Ring). next_of r) o) 0) c.add.ensures.ring
+pub returns-in-Err-clause-writes : goal.returns-in-Err-clause-writes
+returns-in-Err-clause-writes g c = c.in-Err.ensures.writes
+
+pub returns-clause-writes : goal.returns-clause-writes
+returns-clause-writes g c = c.in-Ok.ensures.writes

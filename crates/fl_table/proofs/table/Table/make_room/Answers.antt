@@ -1,11 +1,10 @@
-use Rattle.std.proofs.Common.{ℕ, zero, suc, ◌*◌, ◌≡◌, ◌+◌, ◌<◌, ◌≤◌, List, [], length, arith, sym, ◌∙◌, refl, subst, Result, Ok, Err, OnOk}
+use Rattle.std.proofs.Common.{ℕ, zero, suc, ◌*◌, ◌≡◌, ◌+◌, ◌<◌, ◌≤◌, List, [], length, arith, sym, ◌∙◌, refl, subst}
 use Rattle.std.proofs.lemmas.Bool.{ltb-true, ltb-false}
 use Rattle.fl_model.specs.Record.{layout_len}
 use Rattle.fl_model.specs.Table.{RingName, make_room_seals}
 use Rattle.fl_model.specs.Work.{Whole}
 use Rattle.fl_model.proofs.TableSeals.{full-room_seals, room-room_seals}
 use Rattle.fl_flash.specs.Flash.{page_at}
-use Rattle.fl_flash.specs.declared.flash.FlashFault.{FlashFault}
 use Rattle.fl_schema.specs.Schema.{layout_of}
 use Rattle.fl_table.specs.Outcomes.{SealsEnd}
 use Rattle.fl_table.proofs.PendingAndFull.{has-room, is-full}
@@ -13,7 +12,11 @@ use Rattle.fl_table.proofs.KeptPagesStay.{kept-same}
 use Rattle.fl_table.proofs.Sizes.{table-fits}
 use Rattle.fl_frame.proofs.CallsInTurn.{goes-same}
 use Rattle.fl_table.proofs.SealAnswers.{plan-self}
+use Rattle.fl_table.specs.Blobs as variable
 use Rattle.fl_table.specs.Memory.{HasRoom, next_in}
+use Rattle.fl_table.specs.Stored.{IsEmptied}
+use Rattle.fl_table.proofs.BlobsOfTable.{after-most}
+use Rattle.fl_table.proofs.Paged.{flushed-of}
 use Rattle.fl_table.proofs.Untouched.{at-most, at-most-same, above, on-ok}
 use Rattle.fl_ring.specs.Written.{done}
 use Rattle.fl_ring.proofs.Written.{writes-none, writes-fewer}
@@ -183,9 +186,6 @@ returns-clause-running g c = c.seal.ensures.running
 pub returns-clause-index_next : goal.returns-clause-index_next
 returns-clause-index_next g c = c.seal.ensures.index_next
 
-pub returns-clause-blob_next : goal.returns-clause-blob_next
-returns-clause-blob_next g c = c.seal.ensures.blob_next
-
 pub returns-clause-power : goal.returns-clause-power
 returns-clause-power g c = c.seal.ensures.power
 
@@ -213,13 +213,6 @@ returns-clause-quiet g c = λ room. absurd (above (ltb-true (length c.args.self.
 pub returns-clause-off : goal.returns-clause-off
 returns-clause-off g c = λ full. c.seal.ensures.off
 
-pub returns-clause-next : goal.returns-clause-next
-returns-clause-next g c = on-ok c.seal.result (next_in c.seal.new.self ≡ next_in c.args.self.now + 1) (next_in c.seal.new.self ≤ next_in c.args.self.now + 1) (at-most-same _ _) c.seal.ensures.next
-
-pub returns-clause-room : goal.returns-clause-room
-returns-clause-room g c = on-ok c.seal.result (c.seal.new.self.writer.count ≡ 0) (HasRoom c.seal.new.self) (λ none.
-    let u = c.seal.new.self in row-fits u.writer.count (layout_len (layout_of u.schema)) u.geometry.page (length u.writer.body) u.writer.end none u.rows_end u.page u.room_for_row) c.seal.ensures.empty
-
 pub returns-then-not-is_full-clause-writes : goal.returns-then-not-is_full-clause-writes
 returns-then-not-is_full-clause-writes g c = writes-none (MaySeal c.args.self.now) (rings_in c.args.self.now) (g.F.Flash.state c.args.flash.now)
 
@@ -231,12 +224,31 @@ returns-then-not-is_full-clause-full g c = λ full.
     let t = c.args.self.now in
     absurd (full (ltb-false (length t.writer.body) (t.writer.end + layout_len (layout_of t.schema)) (sym c.is_full.ensures.room ∙ c.if-not-is_full.true)))
 
-on-both : (result : Result (Unit {0}) FlashFault) (P Q R : Type 0) → (P → Q → R) → OnOk result P → OnOk result Q → OnOk result R
-on-both (Ok done) P Q R f p q = f p q
-on-both (Err e) P Q R f p q = tt
+pub returns-clause-next : goal.returns-clause-next
+returns-clause-next g c =
+    on-ok c.seal.result (IsEmptied c.args.self.now c.seal.new.self) (next_in c.seal.new.self ≤ next_in c.args.self.now + 1) (λ sealed. at-most-same _ _ sealed.next) c.seal.ensures.emptied
+
+pub returns-clause-blob_next : goal.returns-clause-blob_next
+returns-clause-blob_next g c =
+    let t = c.args.self.now in
+    let u = c.seal.new.self in
+    on-ok c.seal.result (IsEmptied t u) (variable.next_of u.blobs ≤ variable.next_of t.blobs + 1) (λ sealed. omega (arith, sealed.blob_next, after-most t.blobs)) c.seal.ensures.emptied
+
+pub returns-clause-room : goal.returns-clause-room
+returns-clause-room g c =
+    let u = c.seal.new.self in
+    on-ok c.seal.result (IsEmptied c.args.self.now u) (HasRoom u) (λ sealed. row-fits u.writer.count (layout_len (layout_of u.schema)) u.geometry.page (length u.writer.body) u.writer.end sealed.none u.rows_end u.page u.room_for_row) c.seal.ensures.emptied
 
 pub returns-clause-full : goal.returns-clause-full
 returns-clause-full g c =
     let t = c.args.self.now in
     let u = c.seal.new.self in
-    on-both c.seal.result (next_in u ≡ next_in t + 1) (u.writer.count ≡ 0) ((HasRoom t → ⊥) → (next_in u ≡ next_in t + 1) × (u.writer.count ≡ 0)) (λ next none full. (next, none)) c.seal.ensures.next c.seal.ensures.empty
+    on-ok c.seal.result (IsEmptied t u) ((HasRoom t → ⊥) → IsEmptied t u) (λ sealed full. sealed) c.seal.ensures.emptied
+
+pub returns-then-not-is_full-clause-sealed : goal.returns-then-not-is_full-clause-sealed
+returns-then-not-is_full-clause-sealed g c = λ full.
+    let t = c.args.self.now in
+    absurd (full (ltb-false (length t.writer.body) (t.writer.end + layout_len (layout_of t.schema)) (sym c.is_full.ensures.room ∙ c.if-not-is_full.true)))
+
+pub returns-clause-sealed : goal.returns-clause-sealed
+returns-clause-sealed g c = flushed-of c.args.self.now c.seal.result (g.F.Flash.state c.args.flash.now) (g.F.Flash.state c.seal.new.flash) c.seal.ensures.writes c.seal.ensures.page c.seal.ensures.blob_page

@@ -12,6 +12,7 @@ use Rattle.fl_table.proofs.Outsides.{var-outside}
 use Rattle.fl_var.specs.Memory.{var_shape}
 use Rattle.fl_table.proofs.BlobsOfTable as blobbing
 use Rattle.fl_frame.proofs.WatchedInTurn.{watched-first, watched-then}
+use Rattle.fl_table.proofs.Learned.{finds-rows}
 use Rattle.fl_table.proofs.MountJoined.{mount-cause-later}
 use Rattle.fl_table.proofs.BlobSeals.{with_var}
 use Rattle.fl_table.proofs.MountVar.{data-fails, mounted-ends, rows-fail, rows-mount, var-limit}
@@ -103,18 +104,10 @@ pub returns-clause-found : goal.returns-clause-found
 returns-clause-found g c = λ told.
     let mid = g.F.Flash.state c.read_rows.new.flash in
     let rows = c.in_ok-rows.rows in
-    record {
-      ring = rows.ring;
-      ring_is = refl;
-      end = rows.blob_end;
-      between = mid;
-      pages = c.in_ok-rows.ensures.found told;
-      waits = c.in_ok-rows.ensures.waits told;
-      firsts = c.in_ok-rows.ensures.remembers told;
-      pending = c.in_ok-rows.ensures.none;
-      blobs = subst (λ (o : Option VarData). FindsBlobs o mid (least_of rows.blob_end) c.mount_within.new.blobs (g.F.Flash.state c.mount_within.new.flash)) c.in_ok-rows.ensures.blobs c.in_ok-mount_within.ensures.found;
-      below = c.in_ok-mount_within.ensures.below;
-    }
+    finds-rows c.args.self.now c.args.self.now.bitmaps (g.F.Flash.state c.args.flash.now) c.args.end rows.mounted _ (g.F.Flash.state c.mount_within.new.flash) rows.ring rows.blob_end mid refl
+    (c.in_ok-rows.ensures.found told) (c.in_ok-rows.ensures.waits told) (c.in_ok-rows.ensures.remembers told) c.in_ok-rows.ensures.none.0 c.in_ok-rows.ensures.none.1 (c.in_ok-rows.ensures.learned told)
+    (subst (λ (o : Option VarData). FindsBlobs o mid (least_of rows.blob_end) c.mount_within.new.blobs (g.F.Flash.state c.mount_within.new.flash)) c.in_ok-rows.ensures.blobs c.in_ok-mount_within.ensures.found)
+    c.in_ok-mount_within.ensures.below
 
 pub returns-in_err-rows-clause-refused : goal.returns-in_err-rows-clause-refused
 returns-in_err-rows-clause-refused g c =
@@ -286,13 +279,13 @@ invariant_of-self-2 g c =
           let shape : shape_at t.place t.geometry ≡ shape_at m.place m.geometry =
           sym (ap (λ (p : RingPlace). shape_at p m.geometry) c.in_ok-rows.ensures.same.place ∙ ap (λ (x : Geometry). shape_at t.place x) c.in_ok-rows.ensures.same.geometry) in
           subst (λ (o : Option Ring). IfSome o (λ r. shape_of r ≡ shape_at m.place m.geometry)) is (c.in_ok-rows.ensures.shape ∙ shape);
-      left = λ ring is some. absurd (omega (arith, some, c.in_ok-rows.ensures.none));
+      left = λ ring is some. absurd (omega (arith, some, c.in_ok-rows.ensures.none.0));
       few_pages = t.few_pages;
       running = λ is. c.in_ok-rows.ensures.running;
       follow = λ ring is. subst (λ (o : Option Ring). IfSome o (λ r. EndAt c.read_rows.new.self.bitmaps (next_of r))) is c.in_ok-rows.ensures.follow;
-      pages_left = λ some. absurd (omega (arith, some, c.in_ok-rows.ensures.none));
+      pages_left = λ some. absurd (omega (arith, some, c.in_ok-rows.ensures.none.0));
       blobs_running = λ is. c.in_ok-mount_within.ensures.running;
-      blobs_left = λ is some. absurd (omega (arith, some, c.in_ok-rows.ensures.none));
+      blobs_left = λ is some. absurd (omega (arith, some, c.in_ok-rows.ensures.none.0));
     }
 
 pub read_rows-requires : goal.read_rows-requires
@@ -367,7 +360,7 @@ pub returns-in_err-rows-clause-calm : goal.returns-in_err-rows-clause-calm
 returns-in_err-rows-clause-calm g c = c.in_err-rows.ensures.calm
 
 pub returns-in_err-rows-clause-none : goal.returns-in_err-rows-clause-none
-returns-in_err-rows-clause-none g c = c.in_err-rows.ensures.none
+returns-in_err-rows-clause-none g c = c.in_err-rows.ensures.none.0
 
 pub returns-in_err-rows-clause-found : goal.returns-in_err-rows-clause-found
 returns-in_err-rows-clause-found g c = no-success _ _ c.from_residual.result c.from_residual.ensures.1
@@ -401,7 +394,7 @@ pub returns-in_err-mount_within-clause-calm : goal.returns-in_err-mount_within-c
 returns-in_err-mount_within-clause-calm g c = c.in_ok-rows.ensures.calm
 
 pub returns-in_err-mount_within-clause-none : goal.returns-in_err-mount_within-clause-none
-returns-in_err-mount_within-clause-none g c = c.in_ok-rows.ensures.none
+returns-in_err-mount_within-clause-none g c = c.in_ok-rows.ensures.none.0
 
 pub returns-in_err-mount_within-clause-found : goal.returns-in_err-mount_within-clause-found
 returns-in_err-mount_within-clause-found g c = no-success _ _ c.from_residual-in_err-mount_within.result c.from_residual-in_err-mount_within.ensures.1
@@ -434,7 +427,7 @@ pub returns-clause-calm : goal.returns-clause-calm
 returns-clause-calm g c = c.in_ok-rows.ensures.calm
 
 pub returns-clause-none : goal.returns-clause-none
-returns-clause-none g c = c.in_ok-rows.ensures.none
+returns-clause-none g c = c.in_ok-rows.ensures.none.0
 
 pub returns-clause-same : goal.returns-clause-same
 returns-clause-same g c =

@@ -1,8 +1,9 @@
-use Rattle.std.proofs.Common.{◌≡◌, ◌<◌, ◌*◌, List, length, map, sym, ◌∙◌, ap, arith, mul-le-mul_right}
+use Rattle.std.proofs.Common.{◌≡◌, ◌<◌, ◌*◌, List, ◌∷◌, length, map, sym, ◌∙◌, ap, arith, mul-le-mul_right}
 use Rattle.fl_model.specs.Record.{layout_len}
-use Rattle.fl_model.specs.Row.{stored_row}
+use Rattle.fl_model.specs.Row.{Row, stored_row}
 use Rattle.fl_model.specs.Table.{pending_entries}
 use Rattle.fl_schema.specs.Schema.{layout_of, row_of}
+use Rattle.fl_table.proofs.Counted.{first-is}
 use Rattle.fl_table.proofs.FullEntries.{full-pending}
 use Rattle.fl_table.proofs.Pointed.{first-key}
 use Rattle.fl_table.proofs.SealAnswers.{writer-count, pending-length}
@@ -25,4 +26,5 @@ returns g c = record {
       full-pending (record { first_key = c.key.result; count = c.count.result; blob_end = c.args.self.now.blob_end }) (pending_entries table) (row_of c.row.result).key
       (first-key table (row_of c.row.result) (c.row.ensures.row (map stored_row (pending_entries table)) stands.memory.gathers)) c.key.ensures
       (c.count.ensures ∙ (writer-count c.args.self.now f first plan table stands ∙ sym (pending-length plan table stands.facts.counted))) stands.memory.blob_end;
+  first = λ row rows gathers. c.key.ensures ∙ ap (λ (r : Row). r.key) (sym (first-is rows row (row_of c.row.result) (c.row.ensures.row (row ∷ rows) gathers)));
 }

@@ -1,8 +1,8 @@
-use Rattle.std.proofs.Common.{refl, ◌≡◌, ℕ, Bor, List, [], ◌∷◌, ◌++◌, Option, Some, None, Result, Ok, Err, length, option_map, not, ◌&&◌, ◌||◌, IsTrue, arith, sym, ◌∙◌, ap, subst, ◌+◌, ◌*◌}
+use Rattle.std.proofs.Common.{refl, ◌≡◌, ℕ, Bor, List, Option, Some, None, Result, Ok, Err, length, option_map, not, ◌&&◌, ◌||◌, IsTrue, arith, sym, ◌∙◌, ap, subst}
 use Rattle.std.proofs.lemmas.Result.{err_from_is_err_and}
 use Rattle.fl_model.specs.Table.{after_seals, make_room_seals}
 use Rattle.fl_table.specs.Refusal.{put_refusal, RefusesAs}
-use Rattle.fl_table.specs.Memory.{is_running, is_stopped, pending_in, PendingAre}
+use Rattle.fl_table.specs.Memory.{is_running, is_stopped, pending_in}
 use Rattle.fl_table.specs.declared.table.Table.{Table}
 use Rattle.fl_table.proofs.Refusals.{fits-row, told-running, calm-cause, few-blob, not-spent, refusal-calm, calm-same}
 use Rattle.fl_flash.specs.Flash.{page_at}
@@ -16,20 +16,19 @@ use Rattle.fl_frame.proofs.CallsInTurn.{goes-then, goes-same}
 use Rattle.fl_table.specs.declared.faults.PutRefusal.{PutRefusal}
 use Rattle.fl_table.specs.declared.faults.PutRefusal.TheVariants as put
 use Rattle.fl_table.proofs.PowerOff.{put-off}
-use Rattle.fl_model.specs.Record.{RowLayout, layout_len}
+use Rattle.fl_model.specs.Record.{RowLayout}
 use Rattle.fl_model.specs.Row.{FitsRow}
 use Rattle.fl_schema.specs.Schema.{layout_of}
 use Rattle.fl_table.proofs.SealAnswers.{same-then, plan-self}
 use Rattle.fl_table.proofs.Sizes.{table-fits}
-use Rattle.fl_table.specs.Blobs.{pages_for}
+use Rattle.fl_table.specs.Blobs.{most_pages, pages_for}
 use Rattle.fl_table.proofs.Untouched.{at-most-two, at-most-more, and-false, on-err, no-success}
-use Rattle.fl_flash.specs.Flash.{FlashState}
-use Rattle.fl_ring.specs.Written.{Writes}
 use Rattle.fl_ring.proofs.Written.{writes-none}
-use Rattle.fl_table.specs.Memory.{MaySeal}
+use Rattle.fl_table.specs.Memory.{MayPut}
+use Rattle.fl_table.specs.Stored.{HasJoined}
 use Rattle.fl_table.specs.Mounting.{rings_in}
-use Rattle.fl_table.proofs.Writing.{pages-none}
-use Rattle.fl_table.proofs.Writers.{gathers-none}
+use Rattle.fl_table.proofs.Paged.{page-made}
+use Rattle.fl_table.proofs.Writing.{put-writes, room-writes}
 use Rattle.fl_table.proofs.table.Table.put.Goals as goal
 
 pub returns-in-Some-clause-ends : goal.returns-in-Some-clause-ends
@@ -221,11 +220,6 @@ make_room-requires g c =
 pub returns-clause-power : goal.returns-clause-power
 returns-clause-power g c = λ on. c.in_ok-join.ensures.power (c.in_ok-make_room.ensures.power on)
 
-pub returns-clause-rows : goal.returns-clause-rows
-returns-clause-rows g c = λ room none rows h.
-    let same = (c.in_ok-make_room.ensures.quiet room).1 in
-    subst (λ (x : Table g.row.KNOTS g.row.SLOTS). PendingAre x rows → PendingAre c.join.new.self (rows ++ (record { key = c.args.key; values = c.args.values.now; blob = None }) ∷ [])) same (c.in_ok-join.ensures.rows none rows) h
-
 pub returns-in-Some-clause-pending_stays : goal.returns-in-Some-clause-pending_stays
 returns-in-Some-clause-pending_stays g c = λ room. refl
 
@@ -266,14 +260,8 @@ returns-in-Some-clause-refused g c = calm-same c.args.self.now (g.F.Flash.state 
 pub returns-in-Some-clause-quiet : goal.returns-in-Some-clause-quiet
 returns-in-Some-clause-quiet g c = λ none. absurd (not-both c.in-Some.refusal (sym none ∙ (sym c.refusal.ensures ∙ c.in-Some.is)))
 
-pub returns-in-Some-clause-pending : goal.returns-in-Some-clause-pending
-returns-in-Some-clause-pending g c = tt
-
 pub returns-in-Some-clause-last : goal.returns-in-Some-clause-last
 returns-in-Some-clause-last g c = tt
-
-pub returns-in-Some-clause-rows : goal.returns-in-Some-clause-rows
-returns-in-Some-clause-rows g c = tt
 
 pub returns-in-Some-clause-power : goal.returns-in-Some-clause-power
 returns-in-Some-clause-power g c = tt
@@ -302,14 +290,8 @@ returns-in_err-make_room-clause-outside g c = c.in_err-make_room.ensures.outside
 pub returns-in_err-make_room-clause-reads : goal.returns-in_err-make_room-clause-reads
 returns-in_err-make_room-clause-reads g c = c.in_err-make_room.ensures.reads
 
-pub returns-in_err-make_room-clause-pending : goal.returns-in_err-make_room-clause-pending
-returns-in_err-make_room-clause-pending g c = no-success _ _ c.from_residual.result c.from_residual.ensures.1
-
 pub returns-in_err-make_room-clause-last : goal.returns-in_err-make_room-clause-last
 returns-in_err-make_room-clause-last g c = no-success _ _ c.from_residual.result c.from_residual.ensures.1
-
-pub returns-in_err-make_room-clause-rows : goal.returns-in_err-make_room-clause-rows
-returns-in_err-make_room-clause-rows g c = no-success _ _ c.from_residual.result c.from_residual.ensures.1
 
 pub returns-in_err-make_room-clause-power : goal.returns-in_err-make_room-clause-power
 returns-in_err-make_room-clause-power g c = no-success _ _ c.from_residual.result c.from_residual.ensures.1
@@ -348,14 +330,8 @@ returns-in_err-make_room-clause-cause g c =
 pub returns-in_err-join-clause-lies : goal.returns-in_err-join-clause-lies
 returns-in_err-join-clause-lies g c = c.in_err-join.ensures.lies
 
-pub returns-in_err-join-clause-pending : goal.returns-in_err-join-clause-pending
-returns-in_err-join-clause-pending g c = no-success _ _ c.from_residual-in_err-join.result c.from_residual-in_err-join.ensures.1
-
 pub returns-in_err-join-clause-last : goal.returns-in_err-join-clause-last
 returns-in_err-join-clause-last g c = no-success _ _ c.from_residual-in_err-join.result c.from_residual-in_err-join.ensures.1
-
-pub returns-in_err-join-clause-rows : goal.returns-in_err-join-clause-rows
-returns-in_err-join-clause-rows g c = no-success _ _ c.from_residual-in_err-join.result c.from_residual-in_err-join.ensures.1
 
 pub returns-in_err-join-clause-power : goal.returns-in_err-join-clause-power
 returns-in_err-join-clause-power g c = no-success _ _ c.from_residual-in_err-join.result c.from_residual-in_err-join.ensures.1
@@ -396,11 +372,8 @@ returns-clause-stopped g c = c.in_ok-join.ensures.calm ∙ c.in_ok-make_room.ens
 pub returns-clause-quiet : goal.returns-clause-quiet
 returns-clause-quiet g c = λ none room few. (refl, (c.in_ok-join.ensures.quiet (subst (λ (t : Table g.row.KNOTS g.row.SLOTS). pages_for t.blobs (option_map (λ (b : Bor (List ℕ)). b.now) c.args.blob) ≡ 0) (sym (c.in_ok-make_room.ensures.quiet room).1) few)).1 ∙ (c.in_ok-make_room.ensures.quiet room).2)
 
-pub returns-clause-pending : goal.returns-clause-pending
-returns-clause-pending g c = λ room. c.in_ok-join.ensures.pending ∙ ap (λ (t : Table g.row.KNOTS g.row.SLOTS). t.writer.count + 1) (c.in_ok-make_room.ensures.quiet room).1
-
 pub returns-clause-last : goal.returns-clause-last
-returns-clause-last g c = c.in_ok-join.ensures.last
+returns-clause-last g c = c.in_ok-join.ensures.joined.last
 
 pub returns-clause-reads : goal.returns-clause-reads
 returns-clause-reads g c = c.in_ok-join.ensures.reads ∙ c.in_ok-make_room.ensures.reads
@@ -417,46 +390,55 @@ returns-in_err-make_room-clause-last_stays g c = on-err c.from_residual.result c
 pub returns-in_err-join-clause-last_stays : goal.returns-in_err-join-clause-last_stays
 returns-in_err-join-clause-last_stays g c = on-err c.from_residual-in_err-join.result (c.in_err-join.ensures.last_stays ∙ c.in_ok-make_room.ensures.last)
 
+pub returns-in-Some-clause-stores : goal.returns-in-Some-clause-stores
+returns-in-Some-clause-stores g c = tt
+
+pub returns-in_err-make_room-clause-stores : goal.returns-in_err-make_room-clause-stores
+returns-in_err-make_room-clause-stores g c = no-success _ _ c.from_residual.result c.from_residual.ensures.1
+
+pub returns-in_err-join-clause-stores : goal.returns-in_err-join-clause-stores
+returns-in_err-join-clause-stores g c = no-success _ _ c.from_residual-in_err-join.result c.from_residual-in_err-join.ensures.1
+
+pub returns-clause-stores : goal.returns-clause-stores
+returns-clause-stores g c =
+    let bytes = option_map (λ (b : Bor (List ℕ)). b.now) c.args.blob in
+    record {
+      room = λ room. subst (λ (x : Table g.row.KNOTS g.row.SLOTS). HasJoined x c.args.key c.args.values.now bytes c.join.new.self) (c.in_ok-make_room.ensures.quiet room).1 c.in_ok-join.ensures.joined;
+      full = λ full. (c.make_room.new.self, (c.in_ok-make_room.ensures.full full, c.in_ok-join.ensures.joined));
+    }
+
 pub returns-in-Some-clause-writes : goal.returns-in-Some-clause-writes
-returns-in-Some-clause-writes g c = λ none. writes-none (MaySeal c.args.self.now) (rings_in c.args.self.now) (g.F.Flash.state c.args.flash.now)
+returns-in-Some-clause-writes g c =
+    let t = c.args.self.now in
+    let bytes = option_map (λ (b : Bor (List ℕ)). b.now) c.args.blob in
+    writes-none (MayPut t bytes) (rings_in t + most_pages t.blobs bytes) (g.F.Flash.state c.args.flash.now)
 
 pub returns-in_err-make_room-clause-writes : goal.returns-in_err-make_room-clause-writes
-returns-in_err-make_room-clause-writes g c = λ none. c.in_err-make_room.ensures.writes
+returns-in_err-make_room-clause-writes g c =
+    let t = c.args.self.now in
+    let bytes = option_map (λ (b : Bor (List ℕ)). b.now) c.args.blob in
+    room-writes t bytes (most_pages t.blobs bytes) (g.F.Flash.state c.args.flash.now) (g.F.Flash.state c.make_room.new.flash) c.in_err-make_room.ensures.writes
 
 pub returns-in_err-join-clause-writes : goal.returns-in_err-join-clause-writes
-returns-in_err-join-clause-writes g c = λ none. absurd (not-done c.in_err-join.field-0.0 tt (c.in_err-join.ensures.quiet (ap (pages_for c.make_room.new.self.blobs) none ∙ pages-none c.make_room.new.self.blobs)).0)
+returns-in_err-join-clause-writes g c =
+    put-writes c.args.self.now c.make_room.new.self (option_map (λ (b : Bor (List ℕ)). b.now) c.args.blob) 0 (g.F.Flash.state c.args.flash.now) (g.F.Flash.state c.make_room.new.flash) (g.F.Flash.state c.join.new.flash)
+    c.in_ok-make_room.ensures.goes.tells c.in_ok-make_room.ensures.same.blobs c.in_ok-make_room.ensures.writes c.in_err-join.ensures.writes
 
 pub returns-clause-writes : goal.returns-clause-writes
-returns-clause-writes g c = λ none.
-    subst (λ (f : FlashState). Writes (MaySeal c.args.self.now) 0 (rings_in c.args.self.now) (g.F.Flash.state c.args.flash.now) f)
-    (sym (c.in_ok-join.ensures.quiet (ap (pages_for c.make_room.new.self.blobs) none ∙ pages-none c.make_room.new.self.blobs)).1) c.in_ok-make_room.ensures.writes
+returns-clause-writes g c =
+    put-writes c.args.self.now c.make_room.new.self (option_map (λ (b : Bor (List ℕ)). b.now) c.args.blob) 0 (g.F.Flash.state c.args.flash.now) (g.F.Flash.state c.make_room.new.flash) (g.F.Flash.state c.join.new.flash)
+    c.in_ok-make_room.ensures.goes.tells c.in_ok-make_room.ensures.same.blobs c.in_ok-make_room.ensures.writes c.in_ok-join.ensures.writes
 
-pub returns-in-Some-clause-full : goal.returns-in-Some-clause-full
-returns-in-Some-clause-full g c = tt
+pub returns-in-Some-clause-sealed : goal.returns-in-Some-clause-sealed
+returns-in-Some-clause-sealed g c = tt
 
-pub returns-in_err-make_room-clause-full : goal.returns-in_err-make_room-clause-full
-returns-in_err-make_room-clause-full g c = let p = err_from_is_err_and c.from_residual.result c.from_residual.ensures.1 in rw p.1 tt
+pub returns-in_err-make_room-clause-sealed : goal.returns-in_err-make_room-clause-sealed
+returns-in_err-make_room-clause-sealed g c = no-success _ _ c.from_residual.result c.from_residual.ensures.1
 
-pub returns-in_err-join-clause-full : goal.returns-in_err-join-clause-full
-returns-in_err-join-clause-full g c = let p = err_from_is_err_and c.from_residual-in_err-join.result c.from_residual-in_err-join.ensures.1 in rw p.1 tt
+pub returns-in_err-join-clause-sealed : goal.returns-in_err-join-clause-sealed
+returns-in_err-join-clause-sealed g c = no-success _ _ c.from_residual-in_err-join.result c.from_residual-in_err-join.ensures.1
 
-pub returns-in-Some-clause-first_row : goal.returns-in-Some-clause-first_row
-returns-in-Some-clause-first_row g c = tt
-
-pub returns-in_err-make_room-clause-first_row : goal.returns-in_err-make_room-clause-first_row
-returns-in_err-make_room-clause-first_row g c = let p = err_from_is_err_and c.from_residual.result c.from_residual.ensures.1 in rw p.1 tt
-
-pub returns-in_err-join-clause-first_row : goal.returns-in_err-join-clause-first_row
-returns-in_err-join-clause-first_row g c = let p = err_from_is_err_and c.from_residual-in_err-join.result c.from_residual-in_err-join.ensures.1 in rw p.1 tt
-
-pub returns-clause-full : goal.returns-clause-full
-returns-clause-full g c = λ full.
-    let sealed = c.in_ok-make_room.ensures.full full in
-    (c.in_ok-join.ensures.next ∙ sealed.0, c.in_ok-join.ensures.pending ∙ ap (λ n. n + 1) sealed.1)
-
-pub returns-clause-first_row : goal.returns-clause-first_row
-returns-clause-first_row g c = λ full none.
-    let u = c.make_room.new.self in
-    let empty : u.writer.count ≡ 0 = (c.in_ok-make_room.ensures.full full).1 in
-    let end : u.writer.end ≡ 16 + 0 * layout_len (layout_of u.schema) = u.rows_end ∙ ap (λ n. 16 + n * layout_len (layout_of u.schema)) empty in
-    c.in_ok-join.ensures.rows none [] (gathers-none (layout_of u.schema) u.writer empty (omega (arith, end)) u.blank_rest)
+pub returns-clause-sealed : goal.returns-clause-sealed
+returns-clause-sealed g c = λ full.
+    page-made c.args.self.now c.make_room.new.self (option_map (λ (b : Bor (List ℕ)). b.now) c.args.blob) (g.F.Flash.state c.args.flash.now) (g.F.Flash.state c.make_room.new.flash) (g.F.Flash.state c.join.new.flash)
+    c.in_ok-make_room.ensures.goes.tells c.in_ok-make_room.ensures.same.blobs (c.in_ok-make_room.ensures.sealed full) c.in_ok-join.ensures.writes

@@ -11,7 +11,7 @@ use Rattle.fl_ring.specs.Ring.{Shape, OutsideStands}
 use Rattle.fl_table.specs.Coming.{index_pages_of}
 use Rattle.fl_find.specs.Index.{error_in}
 use Rattle.fl_table.proofs.IndexOfTable.{found-same}
-use Rattle.fl_table.proofs.MountCalls.{same-shape, outside-stands, index-still, refuses-ring, refuses-end, refuses-page, finds-data, finds-firsts, same-waits, ring-cause, pages-cause}
+use Rattle.fl_table.proofs.MountCalls.{same-shape, outside-stands, index-still, refuses-ring, refuses-end, refuses-page, finds-data, finds-firsts, learns, same-waits, ring-cause, pages-cause}
 use Rattle.fl_table.proofs.MountEnded.{mounting-of, ring-fails, ring-ends, ring-mounts, ends-within}
 use Rattle.fl_table.proofs.MountKept.{kept-fails, kept-limit, kept-well, ring-limit}
 use Rattle.fl_table.proofs.MountLimits.{rows-within}
@@ -223,6 +223,17 @@ returns-clause-found g c = λ told.
     rw (next, oldest) (finds-data t t old mid new _ (plan-self t) c.requires.lies.geometry ensures.reads t.bitmaps ring c.args.end c.in_ok-ring.ensures.found c.in_ok-ring.ensures.shape (omega (arith, c.if-end-next.false, c.next_number-next.ensures)) refl
     (error_in t.index) c.in_ok-known.known c.read_kept.new.self.counts.items c.read_kept.new.self.index ensures.counted (ensures.knows still).0)
 
+pub returns-clause-learned : goal.returns-clause-learned
+returns-clause-learned g c = λ told.
+    let t = c.args.self.now in
+    let old = g.F.Flash.state c.args.flash.now in
+    let mid = g.F.Flash.state c.mount.new.flash in
+    let new = g.F.Flash.state c.read_kept.new.flash in
+    let ensures = c.in_ok-known.ensures in
+    let still = subst IsTrue (sym c.in_ok-ring.ensures.beside.goes.tells) told in
+    learns t t old mid new _ (plan-self t) c.requires.lies.geometry ensures.reads t.bitmaps c.in_ok-ring.ring c.args.end c.in_ok-ring.ensures.found c.in_ok-ring.ensures.shape (omega (arith, c.if-end-next.false, c.next_number-next.ensures)) refl
+    (error_in t.index) c.in_ok-known.known c.read_kept.new.self.counts.items c.read_kept.new.self.index ensures.counted (ensures.knows still).0
+
 pub returns-clause-waits : goal.returns-clause-waits
 returns-clause-waits g c = λ told.
     let t = c.args.self.now in
@@ -321,7 +332,7 @@ pub returns-in_err-ring-clause-holds : goal.returns-in_err-ring-clause-holds
 returns-in_err-ring-clause-holds g c = c.in_err-ring.ensures.holds
 
 pub returns-in_err-ring-clause-none : goal.returns-in_err-ring-clause-none
-returns-in_err-ring-clause-none g c = c.requires.forgotten.none
+returns-in_err-ring-clause-none g c = (c.requires.forgotten.none, c.requires.forgotten.bits)
 
 pub returns-in_err-ring-clause-down : goal.returns-in_err-ring-clause-down
 returns-in_err-ring-clause-down g c = c.requires.forgotten.down
@@ -354,6 +365,9 @@ returns-in_err-ring-clause-lies_ring g c = no-success _ _ c.from_residual.result
 pub returns-in_err-ring-clause-found : goal.returns-in_err-ring-clause-found
 returns-in_err-ring-clause-found g c = no-success _ _ c.from_residual.result c.from_residual.ensures.1
 
+pub returns-in_err-ring-clause-learned : goal.returns-in_err-ring-clause-learned
+returns-in_err-ring-clause-learned g c = no-success _ _ c.from_residual.result c.from_residual.ensures.1
+
 pub returns-in_err-ring-clause-waits : goal.returns-in_err-ring-clause-waits
 returns-in_err-ring-clause-waits g c = no-success _ _ c.from_residual.result c.from_residual.ensures.1
 
@@ -376,7 +390,7 @@ pub returns-then-end-next-clause-holds : goal.returns-then-end-next-clause-holds
 returns-then-end-next-clause-holds g c = c.in_ok-ring.ensures.holds
 
 pub returns-then-end-next-clause-none : goal.returns-then-end-next-clause-none
-returns-then-end-next-clause-none g c = c.requires.forgotten.none
+returns-then-end-next-clause-none g c = (c.requires.forgotten.none, c.requires.forgotten.bits)
 
 pub returns-then-end-next-clause-down : goal.returns-then-end-next-clause-down
 returns-then-end-next-clause-down g c = c.requires.forgotten.down
@@ -401,6 +415,9 @@ returns-then-end-next-clause-lies_ring g c = tt
 
 pub returns-then-end-next-clause-found : goal.returns-then-end-next-clause-found
 returns-then-end-next-clause-found g c = tt
+
+pub returns-then-end-next-clause-learned : goal.returns-then-end-next-clause-learned
+returns-then-end-next-clause-learned g c = tt
 
 pub returns-then-end-next-clause-waits : goal.returns-then-end-next-clause-waits
 returns-then-end-next-clause-waits g c = tt
@@ -436,7 +453,7 @@ pub returns-in_err-known-clause-holds : goal.returns-in_err-known-clause-holds
 returns-in_err-known-clause-holds g c = c.in_err-known.ensures.none
 
 pub returns-in_err-known-clause-none : goal.returns-in_err-known-clause-none
-returns-in_err-known-clause-none g c = ap (λ w. w.count) c.in_err-known.ensures.rest.writer ∙ c.requires.forgotten.none
+returns-in_err-known-clause-none g c = (ap (λ w. w.count) c.in_err-known.ensures.rest.writer ∙ c.requires.forgotten.none, c.in_err-known.ensures.rest.bitmap ∙ c.requires.forgotten.bits)
 
 pub returns-in_err-known-clause-down : goal.returns-in_err-known-clause-down
 returns-in_err-known-clause-down g c = c.in_err-known.ensures.rest.ring ∙ c.requires.forgotten.down
@@ -464,6 +481,9 @@ returns-in_err-known-clause-lies_ring g c = no-success _ _ c.from_residual-in_er
 
 pub returns-in_err-known-clause-found : goal.returns-in_err-known-clause-found
 returns-in_err-known-clause-found g c = no-success _ _ c.from_residual-in_err-known.result c.from_residual-in_err-known.ensures.1
+
+pub returns-in_err-known-clause-learned : goal.returns-in_err-known-clause-learned
+returns-in_err-known-clause-learned g c = no-success _ _ c.from_residual-in_err-known.result c.from_residual-in_err-known.ensures.1
 
 pub returns-in_err-known-clause-waits : goal.returns-in_err-known-clause-waits
 returns-in_err-known-clause-waits g c = no-success _ _ c.from_residual-in_err-known.result c.from_residual-in_err-known.ensures.1
@@ -513,7 +533,7 @@ pub returns-clause-holds : goal.returns-clause-holds
 returns-clause-holds g c = c.in_ok-known.ensures.none
 
 pub returns-clause-none : goal.returns-clause-none
-returns-clause-none g c = ap (λ w. w.count) c.in_ok-known.ensures.rest.writer ∙ c.requires.forgotten.none
+returns-clause-none g c = (ap (λ w. w.count) c.in_ok-known.ensures.rest.writer ∙ c.requires.forgotten.none, c.in_ok-known.ensures.rest.bitmap ∙ c.requires.forgotten.bits)
 
 pub returns-clause-down : goal.returns-clause-down
 returns-clause-down g c = c.in_ok-known.ensures.rest.ring ∙ c.requires.forgotten.down

@@ -1,7 +1,7 @@
 use Rattle.std.proofs.Common.{◌≡◌, ◌+◌, ◌≤◌, true, Option, Result, ◌∷◌, [], ◌++◌, List, Err, IsTrue, arith, sym, ◌∙◌, ap, subst, ℕ}
 use Rattle.std.proofs.lemmas.Result.{err_from_is_err_and, on_err_weaker, IfErr-weaker}
 use Rattle.fl_model.specs.Table.{RingName, DataRing, after_seals}
-use Rattle.fl_table.specs.Bitmaps.{HaveRoom, bitmap_seals, next_of}
+use Rattle.fl_table.specs.Bitmaps.{HaveRoom, bitmap_seals, next_of, rings_of}
 use Rattle.fl_table.specs.Blobs as variable
 use Rattle.fl_table.specs.Blobs.{rest_seals}
 use Rattle.fl_table.specs.Outcomes.{SealsEnd}
@@ -18,7 +18,12 @@ use Rattle.fl_table.proofs.PowerOff.{off-then}
 use Rattle.fl_table.proofs.Sizes.{table-fits}
 use Rattle.fl_table.specs.Memory.{is_stopped, next_in}
 use Rattle.fl_var.specs.declared.var_data.VarData.{VarData}
-use Rattle.fl_table.proofs.Untouched.{on-ok, on-err, no-success}
+use Rattle.fl_table.specs.Paged.{BlobsPaged, IsApart, RowsPaged, next_page}
+use Rattle.fl_table.specs.Stored.{HasCounted, IsEmptied}
+use Rattle.fl_table.proofs.Counted.{counted-then, waits-then}
+use Rattle.fl_table.proofs.Paged.{blobs-paged, rows-paged}
+use Rattle.fl_table.proofs.Stored.{pending-none}
+use Rattle.fl_table.proofs.Untouched.{on-both, on-ok, on-err, no-success}
 use Rattle.fl_ring.specs.Written.{done}
 use Rattle.fl_table.proofs.Writing.{index-writes, blob-writes, row-writes}
 use Rattle.fl_table.proofs.table.Table.seal.Goals as goal
@@ -146,14 +151,6 @@ returns-clause-index_next g c =
     on-ok c.seal_rows.result (next_of c.seal_rows.new.self.bitmaps ≡ next_of c.seal_blobs.new.self.bitmaps) (next_of c.seal_rows.new.self.bitmaps ≤ next_of c.args.self.now.bitmaps + 1)
     (λ same. omega (arith, same, still, before)) c.seal_rows.ensures.index_next
 
-pub returns-clause-blob_next : goal.returns-clause-blob_next
-returns-clause-blob_next g c =
-    let grown = c.in_ok-seal_blobs.ensures.blob_next in
-    let still : variable.next_of c.seal_bitmaps.new.self.blobs ≡ variable.next_of c.args.self.now.blobs = ap variable.next_of c.in_ok-seal_bitmaps.ensures.blobs in
-    let last : variable.next_of c.seal_rows.new.self.blobs ≡ variable.next_of c.seal_blobs.new.self.blobs = ap variable.next_of c.seal_rows.ensures.blobs in
-    on-ok c.seal_rows.result (next_of c.seal_rows.new.self.bitmaps ≡ next_of c.seal_blobs.new.self.bitmaps) (variable.next_of c.seal_rows.new.self.blobs ≤ variable.next_of c.args.self.now.blobs + 1)
-    (λ same. omega (arith, grown, still, last)) c.seal_rows.ensures.index_next
-
 pub returns-clause-power : goal.returns-clause-power
 returns-clause-power g c =
     let old = g.F.Flash.state c.args.flash.now in
@@ -215,20 +212,11 @@ returns-in_err-seal_bitmaps-clause-outside g c = c.in_err-seal_bitmaps.ensures.o
 pub returns-in_err-seal_bitmaps-clause-reads : goal.returns-in_err-seal_bitmaps-clause-reads
 returns-in_err-seal_bitmaps-clause-reads g c = c.in_err-seal_bitmaps.ensures.reads
 
-pub returns-in_err-seal_bitmaps-clause-empty : goal.returns-in_err-seal_bitmaps-clause-empty
-returns-in_err-seal_bitmaps-clause-empty g c = no-success _ _ c.from_residual.result c.from_residual.ensures.1
-
 pub returns-in_err-seal_bitmaps-clause-running : goal.returns-in_err-seal_bitmaps-clause-running
 returns-in_err-seal_bitmaps-clause-running g c = no-success _ _ c.from_residual.result c.from_residual.ensures.1
 
-pub returns-in_err-seal_bitmaps-clause-next : goal.returns-in_err-seal_bitmaps-clause-next
-returns-in_err-seal_bitmaps-clause-next g c = no-success _ _ c.from_residual.result c.from_residual.ensures.1
-
 pub returns-in_err-seal_bitmaps-clause-index_next : goal.returns-in_err-seal_bitmaps-clause-index_next
 returns-in_err-seal_bitmaps-clause-index_next g c = no-success _ _ c.from_residual.result c.from_residual.ensures.1
-
-pub returns-in_err-seal_bitmaps-clause-blob_next : goal.returns-in_err-seal_bitmaps-clause-blob_next
-returns-in_err-seal_bitmaps-clause-blob_next g c = no-success _ _ c.from_residual.result c.from_residual.ensures.1
 
 pub returns-in_err-seal_bitmaps-clause-calm : goal.returns-in_err-seal_bitmaps-clause-calm
 returns-in_err-seal_bitmaps-clause-calm g c = no-success _ _ c.from_residual.result c.from_residual.ensures.1
@@ -258,20 +246,11 @@ returns-in_err-seal_blobs-clause-same g c = same-then c.args.self.now c.seal_bit
 pub returns-in_err-seal_blobs-clause-reads : goal.returns-in_err-seal_blobs-clause-reads
 returns-in_err-seal_blobs-clause-reads g c = c.in_err-seal_blobs.ensures.reads ∙ c.in_ok-seal_bitmaps.ensures.reads
 
-pub returns-in_err-seal_blobs-clause-empty : goal.returns-in_err-seal_blobs-clause-empty
-returns-in_err-seal_blobs-clause-empty g c = no-success _ _ c.from_residual-in_err-seal_blobs.result c.from_residual-in_err-seal_blobs.ensures.1
-
 pub returns-in_err-seal_blobs-clause-running : goal.returns-in_err-seal_blobs-clause-running
 returns-in_err-seal_blobs-clause-running g c = no-success _ _ c.from_residual-in_err-seal_blobs.result c.from_residual-in_err-seal_blobs.ensures.1
 
-pub returns-in_err-seal_blobs-clause-next : goal.returns-in_err-seal_blobs-clause-next
-returns-in_err-seal_blobs-clause-next g c = no-success _ _ c.from_residual-in_err-seal_blobs.result c.from_residual-in_err-seal_blobs.ensures.1
-
 pub returns-in_err-seal_blobs-clause-index_next : goal.returns-in_err-seal_blobs-clause-index_next
 returns-in_err-seal_blobs-clause-index_next g c = no-success _ _ c.from_residual-in_err-seal_blobs.result c.from_residual-in_err-seal_blobs.ensures.1
-
-pub returns-in_err-seal_blobs-clause-blob_next : goal.returns-in_err-seal_blobs-clause-blob_next
-returns-in_err-seal_blobs-clause-blob_next g c = no-success _ _ c.from_residual-in_err-seal_blobs.result c.from_residual-in_err-seal_blobs.ensures.1
 
 pub returns-in_err-seal_blobs-clause-calm : goal.returns-in_err-seal_blobs-clause-calm
 returns-in_err-seal_blobs-clause-calm g c = no-success _ _ c.from_residual-in_err-seal_blobs.result c.from_residual-in_err-seal_blobs.ensures.1
@@ -291,9 +270,6 @@ returns-in_err-seal_blobs-clause-media_reads g c = two-rings _ _ _ _ _ c.in_ok-s
 pub returns-clause-lies : goal.returns-clause-lies
 returns-clause-lies g c = c.seal_rows.ensures.lies
 
-pub returns-clause-empty : goal.returns-clause-empty
-returns-clause-empty g c = c.seal_rows.ensures.empty
-
 pub returns-clause-running : goal.returns-clause-running
 returns-clause-running g c = c.seal_rows.ensures.running
 
@@ -302,12 +278,6 @@ returns-clause-stopped g c = c.seal_rows.ensures.stopped
 
 pub returns-clause-reads : goal.returns-clause-reads
 returns-clause-reads g c = c.seal_rows.ensures.reads ∙ (c.in_ok-seal_blobs.ensures.reads ∙ c.in_ok-seal_bitmaps.ensures.reads)
-
-pub returns-clause-next : goal.returns-clause-next
-returns-clause-next g c =
-    let before = c.in_ok-seal_blobs.ensures.next ∙ c.in_ok-seal_bitmaps.ensures.next in
-    on-ok c.seal_rows.result (next_in c.seal_rows.new.self ≡ next_in c.seal_blobs.new.self + 1) (next_in c.seal_rows.new.self ≡ next_in c.args.self.now + 1)
-    (λ next. next ∙ ap (λ n. n + 1) before) c.seal_rows.ensures.next
 
 pub returns-clause-calm : goal.returns-clause-calm
 returns-clause-calm g c =
@@ -344,3 +314,70 @@ returns-clause-writes g c =
     row-writes c.args.self.now c.seal_bitmaps.new.self.blobs c.seal_blobs.new.self.ring (done c.seal_rows.result) (g.F.Flash.state c.args.flash.now) (g.F.Flash.state c.seal_bitmaps.new.flash) (g.F.Flash.state c.seal_blobs.new.flash) (g.F.Flash.state c.seal_rows.new.flash)
     c.in_ok-seal_bitmaps.ensures.goes.tells (c.in_ok-seal_blobs.ensures.goes.tells ∙ c.in_ok-seal_bitmaps.ensures.goes.tells) c.in_ok-seal_bitmaps.ensures.blobs (c.in_ok-seal_blobs.ensures.ring ∙ c.in_ok-seal_bitmaps.ensures.ring)
     c.in_ok-seal_bitmaps.ensures.writes c.in_ok-seal_blobs.ensures.writes c.seal_rows.ensures.writes
+
+pub returns-in_err-seal_bitmaps-clause-emptied : goal.returns-in_err-seal_bitmaps-clause-emptied
+returns-in_err-seal_bitmaps-clause-emptied g c = no-success _ _ c.from_residual.result c.from_residual.ensures.1
+
+pub returns-in_err-seal_blobs-clause-emptied : goal.returns-in_err-seal_blobs-clause-emptied
+returns-in_err-seal_blobs-clause-emptied g c = no-success _ _ c.from_residual-in_err-seal_blobs.result c.from_residual-in_err-seal_blobs.ensures.1
+
+pub returns-clause-emptied : goal.returns-clause-emptied
+returns-clause-emptied g c =
+    let t = c.args.self.now in
+    let u = c.seal_rows.new.self in
+    let before = c.in_ok-seal_blobs.ensures.next ∙ c.in_ok-seal_bitmaps.ensures.next in
+    let b = c.seal_blobs.new.self in
+    let first = c.in_ok-seal_bitmaps.ensures in
+    let then = c.in_ok-seal_blobs.ensures in
+    let still : variable.next_after c.seal_bitmaps.new.self.blobs ≡ variable.next_after t.blobs = ap variable.next_after c.in_ok-seal_bitmaps.ensures.blobs in
+    let last : variable.next_of u.blobs ≡ variable.next_of c.seal_blobs.new.self.blobs = ap variable.next_of c.seal_rows.ensures.blobs in
+    on-both c.seal_rows.result (HasCounted b u) ((next_in u ≡ next_in b + 1) × ((u.writer.count ≡ 0) × (u.bitmap ≡ 0))) (IsEmptied t u)
+    (λ counted both. record {
+      next = both.0 ∙ ap (λ n. n + 1) before;
+      none = both.1.0;
+      rows = pending-none u both.1.0;
+      bits = both.1.1;
+      blobs = subst (λ (o : Option VarData). variable.AreEmpty o) (sym c.seal_rows.ensures.blobs) then.empty;
+      blob_next = last ∙ (then.blob_next ∙ still);
+      counted = counted-then t b u (same-then t c.seal_bitmaps.new.self b first.same then.same) (then.ring ∙ first.ring) (waits-then t c.seal_bitmaps.new.self b first.still.0 then.still.0) counted;
+    }) c.seal_rows.ensures.counted
+    (on-both c.seal_rows.result (next_in u ≡ next_in b + 1) ((u.writer.count ≡ 0) × (u.bitmap ≡ 0)) ((next_in u ≡ next_in b + 1) × ((u.writer.count ≡ 0) × (u.bitmap ≡ 0))) (λ next empty. (next, empty)) c.seal_rows.ensures.next c.seal_rows.ensures.empty)
+
+pub returns-in_err-seal_bitmaps-clause-page : goal.returns-in_err-seal_bitmaps-clause-page
+returns-in_err-seal_bitmaps-clause-page g c = no-success _ _ c.from_residual.result c.from_residual.ensures.1
+
+pub returns-in_err-seal_blobs-clause-page : goal.returns-in_err-seal_blobs-clause-page
+returns-in_err-seal_blobs-clause-page g c = no-success _ _ c.from_residual-in_err-seal_blobs.result c.from_residual-in_err-seal_blobs.ensures.1
+
+pub returns-clause-page : goal.returns-clause-page
+returns-clause-page g c =
+    let t = c.args.self.now in
+    let u = c.seal_blobs.new.self in
+    let f = g.F.Flash.state c.args.flash.now in
+    let m = g.F.Flash.state c.seal_bitmaps.new.flash in
+    let n = g.F.Flash.state c.seal_blobs.new.flash in
+    let new = g.F.Flash.state c.seal_rows.new.flash in
+    let first = c.in_ok-seal_bitmaps.ensures in
+    let then = c.in_ok-seal_blobs.ensures in
+    on-ok c.seal_rows.result (IsTrue n.media.tells → RowsPaged u (page_at n) (page_at new)) (IsTrue f.media.tells → IsApart t (next_page t) → RowsPaged t (page_at f) (page_at new))
+    (rows-paged t c.seal_bitmaps.new.self u f m n new first.goes.tells then.goes.tells first.same then.same (then.next ∙ first.next) first.still then.still) c.seal_rows.ensures.page
+
+pub returns-in_err-seal_bitmaps-clause-blob_page : goal.returns-in_err-seal_bitmaps-clause-blob_page
+returns-in_err-seal_bitmaps-clause-blob_page g c = no-success _ _ c.from_residual.result c.from_residual.ensures.1
+
+pub returns-in_err-seal_blobs-clause-blob_page : goal.returns-in_err-seal_blobs-clause-blob_page
+returns-in_err-seal_blobs-clause-blob_page g c = no-success _ _ c.from_residual-in_err-seal_blobs.result c.from_residual-in_err-seal_blobs.ensures.1
+
+pub returns-clause-blob_page : goal.returns-clause-blob_page
+returns-clause-blob_page g c =
+    let t = c.args.self.now in
+    let u = c.seal_blobs.new.self in
+    let f = g.F.Flash.state c.args.flash.now in
+    let m = g.F.Flash.state c.seal_bitmaps.new.flash in
+    let n = g.F.Flash.state c.seal_blobs.new.flash in
+    let new = g.F.Flash.state c.seal_rows.new.flash in
+    let first = c.in_ok-seal_bitmaps.ensures in
+    let then = c.in_ok-seal_blobs.ensures in
+    on-ok c.seal_rows.result (next_in c.seal_rows.new.self ≡ next_in u + 1) (BlobsPaged t f new)
+    (λ next. blobs-paged t c.seal_bitmaps.new.self u (rings_of t.bitmaps) (done c.seal_rows.result) f m n new first.goes.tells then.goes.tells first.blobs (then.ring ∙ first.ring) first.writes then.page c.seal_rows.ensures.writes)
+    c.seal_rows.ensures.next

@@ -290,3 +290,9 @@ returns-in-Err-clause-ring g c = tt
 
 pub returns-clause-ring : goal.returns-clause-ring
 returns-clause-ring g c = refl
+
+pub returns-in-Err-clause-still : goal.returns-in-Err-clause-still
+returns-in-Err-clause-still g c = (record { writer = refl; bitmap = refl; counts = refl; voids = refl; index = refl }, c.in-Err.ensures.outside)
+
+pub returns-clause-still : goal.returns-clause-still
+returns-clause-still g c = (record { writer = refl; bitmap = refl; counts = refl; voids = refl; index = refl }, c.in_default.ensures.outside)

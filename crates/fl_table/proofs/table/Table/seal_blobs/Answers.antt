@@ -2,7 +2,7 @@ use Rattle.std.proofs.Common.{sym, ◌∙◌, ◌+◌, Ok, Err, arith, ap, refl,
 use Rattle.fl_flash.specs.Flash.{page_at}
 use Rattle.fl_table.specs.Blobs.{rest_seals}
 use Rattle.fl_table.proofs.BlobStands.{rest-done, rested-finishes, index-before, bitmaps-stand}
-use Rattle.fl_table.proofs.BlobsOfTable.{after-empty, numbers-left, same-some, still-planned, after-most}
+use Rattle.fl_table.proofs.BlobsOfTable.{after-empty, numbers-left, same-some, still-planned}
 use Rattle.fl_table.proofs.Plain.{table-facts}
 use Rattle.fl_table.proofs.Outsides.{var-outside}
 use Rattle.fl_table.proofs.ReadsKeepTable.{lies-moved}
@@ -249,7 +249,7 @@ pub returns-clause-next : goal.returns-clause-next
 returns-clause-next g c = refl
 
 pub returns-clause-blob_next : goal.returns-clause-blob_next
-returns-clause-blob_next g c = omega (arith, c.in_default.ensures.next, after-most c.args.self.now.blobs)
+returns-clause-blob_next g c = c.in_default.ensures.next
 
 pub returns-clause-calm : goal.returns-clause-calm
 returns-clause-calm g c = refl
@@ -289,3 +289,15 @@ returns-in-Err-clause-ring g c = tt
 
 pub returns-clause-ring : goal.returns-clause-ring
 returns-clause-ring g c = refl
+
+pub returns-in-Err-clause-still : goal.returns-in-Err-clause-still
+returns-in-Err-clause-still g c = (record { writer = refl; bitmap = refl; counts = refl; voids = refl; index = refl }, c.in-Err.ensures.outside)
+
+pub returns-clause-still : goal.returns-clause-still
+returns-clause-still g c = (record { writer = refl; bitmap = refl; counts = refl; voids = refl; index = refl }, c.in_default.ensures.outside)
+
+pub returns-in-Err-clause-page : goal.returns-in-Err-clause-page
+returns-in-Err-clause-page g c = c.in-Err.ensures.page
+
+pub returns-clause-page : goal.returns-clause-page
+returns-clause-page g c = c.in_default.ensures.page

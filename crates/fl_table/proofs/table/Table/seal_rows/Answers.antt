@@ -8,7 +8,7 @@ use Rattle.fl_model.specs.Table as model
 use Rattle.fl_model.specs.Table.{DataRing, after_seal, lose, shape_of as shape_of_ring}
 use Rattle.fl_page.specs.Writer.{Gathers}
 use Rattle.fl_ring.specs.Operations.{change, seal_kinds}
-use Rattle.fl_ring.specs.Place.{next_of, shape_of, StandsFor}
+use Rattle.fl_ring.specs.Place.{next_of, oldest_of, oldest_after, shape_of, StandsFor}
 use Rattle.fl_ring.specs.declared.ring.Ring.{Ring}
 use Rattle.fl_table.specs.Bitmaps.{EndAt}
 use Rattle.fl_ring.specs.Ring.{Shape, OutsideStands}
@@ -33,9 +33,12 @@ use Rattle.fl_ring.specs.Mounting.{shape_at}
 use Rattle.fl_page.specs.WriterState.{WriterState}
 use Rattle.fl_model.specs.Record.{layout_len}
 use Rattle.fl_ring.specs.Place as place
-use Rattle.fl_table.proofs.Finds.{next-in}
+use Rattle.fl_table.specs.Look.{oldest_in}
+use Rattle.fl_table.proofs.Counted.{learned-as, left-out-as, voids-left}
+use Rattle.fl_table.proofs.Finds.{next-in, oldest-in}
 use Rattle.fl_table.proofs.Sizes.{table-fits, index-fits}
-use Rattle.fl_ring.proofs.Written.{held-writes}
+use Rattle.fl_ring.proofs.Written.{held-writes, page-as}
+use Rattle.fl_table.specs.Memory.{next_in, ring_shape}
 use Rattle.fl_table.proofs.table.Table.seal_rows.Goals as goal
 
 pub note-requires-clause-some : goal.note-requires-clause-some
@@ -387,7 +390,7 @@ pub returns-clause-blobs : goal.returns-clause-blobs
 returns-clause-blobs g c = refl
 
 pub returns-clause-empty : goal.returns-clause-empty
-returns-clause-empty g c = ap (λ (w : WriterState). w.count) c.clear.ensures.exact
+returns-clause-empty g c = (ap (λ (w : WriterState). w.count) c.clear.ensures.exact, refl)
 
 pub returns-clause-running : goal.returns-clause-running
 returns-clause-running g c = refl
@@ -451,3 +454,42 @@ returns-clause-writes g c =
     let t = c.args.self.now in
     let has : t.ring ≡ Some c.in-Some.ring = sym c.take.ensures.value ∙ c.in-Some.is in
     held-writes t.ring c.in-Some.ring 1 1 _ _ has (omega arith) c.in_default-seal.ensures.writes
+
+pub returns-in-Err-clause-page : goal.returns-in-Err-clause-page
+returns-in-Err-clause-page g c = tt
+
+pub returns-clause-page : goal.returns-clause-page
+returns-clause-page g c = λ told rows gathers.
+    let t = c.args.self.now in
+    let ring = c.in-Some.ring in
+    let has : t.ring ≡ Some ring = sym c.take.ensures.value ∙ c.in-Some.is in
+    let number : c.next_number-number.result ≡ next_in t = c.next_number-number.ensures ∙ sym (next-in t ring has) in
+    let body : c.body.result.now ≡ rows_body (length t.writer.body) (layout_of t.schema) (next_in t) t.bitmap rows =
+    c.body.ensures ∙ (c.finish.ensures.body (layout_of t.schema) rows gathers ∙ ap (λ n. rows_body (length t.writer.body) (layout_of t.schema) n t.bitmap rows) number) in
+    page-as (shape_of ring) (ring_shape t) (next_of ring) (next_in t) c.body.result.now (rows_body (length t.writer.body) (layout_of t.schema) (next_in t) t.bitmap rows) (page_at (g.F.Flash.state c.args.flash.now)) (page_at (g.F.Flash.state c.seal.new.flash))
+    (t.lies ring has) (sym (next-in t ring has)) body (c.in_default-seal.ensures.page told)
+
+pub returns-in-Err-clause-counted : goal.returns-in-Err-clause-counted
+returns-in-Err-clause-counted g c = tt
+
+pub returns-clause-counted : goal.returns-clause-counted
+returns-clause-counted g c =
+    let t = c.args.self.now in
+    let ring = c.in-Some.ring in
+    let has : t.ring ≡ Some ring = sym c.take.ensures.value ∙ c.in-Some.is in
+    let number : c.next_number-number.result ≡ next_in t = c.next_number-number.ensures ∙ sym (next-in t ring has) in
+    let count : c.count.result ≡ t.writer.count = c.count.ensures ∙ ap (λ w. w.count) c.finish.ensures.exact in
+    let noted : c.note.new.counts ≡ set t.counts.items (next_in t % length t.counts.items) t.writer.count =
+    c.note.ensures ∙ note-same c.deref_mut.result.now t.counts.items c.next_number-number.result (next_in t) c.count.result t.writer.count (length t.counts.items) c.deref_mut.ensures.value number count refl in
+    let size : length c.note.new.counts ≡ length t.counts.items = ap length noted ∙ length-set t.counts.items (next_in t % length t.counts.items) t.writer.count in
+    let key = c.pending_entry-full.result.first_key in
+    record {
+      oldest = subst (λ (o : Option Ring). IfSome o (λ r. oldest_of c.seal.new.self ≡ oldest_after r)) (sym has) c.in_default-seal.ensures.kept_from;
+      noted = written-back t.counts.items c.note.new.counts t.counts.len size t.counts.ok.0 ∙ noted;
+      voids = voids-left c.saturating_sub-self.result c.voids_among-gone.result t.voids c.oldest-oldest.result c.oldest.result (oldest_in t) (oldest_of c.seal.new.self) c.deref.result.now t.counts.items
+          c.saturating_sub-self.ensures c.voids_among-gone.ensures c.deref.ensures.value (c.oldest-oldest.ensures ∙ sym (oldest-in t ring has)) c.oldest.ensures;
+      learned = λ row rows gathers.
+          learned-as t.index c.add_further.new.self key c.next_number-number.result row.key (next_in t) (c.pending_entry-full.ensures.first row rows gathers) number c.add_further.ensures.points;
+      left_out = λ row rows gathers.
+          left-out-as t.index c.add_further.new.self key c.next_number-number.result row.key (next_in t) (c.pending_entry-full.ensures.first row rows gathers) number c.add_further.ensures.left_out;
+    }

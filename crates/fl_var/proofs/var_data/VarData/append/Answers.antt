@@ -5,11 +5,12 @@ use Rattle.fl_flash.specs.Flash.{FlashState, OffChangesNothing}
 use Rattle.fl_flash.specs.declared.flash.FlashFault.{FlashFault}
 use Rattle.fl_frame.proofs.CallsInTurn.{goes-then}
 use Rattle.fl_model.specs.Table.{with_record}
-use Rattle.fl_var.specs.Memory.{next_in, waiting_in}
+use Rattle.fl_ring.proofs.Written.{writes-none}
+use Rattle.fl_var.specs.Memory.{next_in, waiting_in, IsOnRing}
 use Rattle.fl_var.specs.Placing.{is_full_in, pages_placed}
 use Rattle.fl_var.specs.declared.var_data.VarData.{VarData}
 use Rattle.fl_frame.proofs.WatchedInTurn.{watched-first}
-use Rattle.fl_var.proofs.Placed.{joined-has, joined-bytes, buffered-room, watched-second, place-none, place-err, place-breaks_room, place-breaks, placed-whole, room-for, full-placed, next-split, reads-split, waits-split, waits-none, placed-none}
+use Rattle.fl_var.proofs.Placed.{joined-has, joined-bytes, buffered-room, watched-second, place-none, place-err, place-breaks_room, place-breaks, placed-whole, room-for, full-placed, next-split, reads-split, waits-split, waits-none, placed-none, room-writes, writes-split}
 use Rattle.fl_var.proofs.BufferedBytes.{cause-err, off-err, ok-on, lost-on}
 use Rattle.fl_var.proofs.var_data.VarData.append.Goals as goal
 
@@ -205,3 +206,23 @@ returns-in_err-write-clause-goes g c = goes-then _ _ _ c.make_room.ensures.goes 
 
 pub returns-clause-goes : goal.returns-clause-goes
 returns-clause-goes g c = goes-then _ _ _ c.make_room.ensures.goes c.write.ensures.goes
+
+pub returns-then-is_empty-clause-writes : goal.returns-then-is_empty-clause-writes
+returns-then-is_empty-clause-writes g c = writes-none (IsOnRing c.args.self.now) (pages_placed c.args.self.now (length c.args.bytes.now)) (g.F.Flash.state c.args.flash.now)
+
+pub returns-in_err-make_room-clause-writes : goal.returns-in_err-make_room-clause-writes
+returns-in_err-make_room-clause-writes g c =
+    let some : 1 ≤ length c.args.bytes.now = search rules in
+    room-writes c.args.self.now c.args.bytes.now some _ _ c.in_err-make_room.ensures.writes
+
+pub returns-in_err-write-clause-writes : goal.returns-in_err-write-clause-writes
+returns-in_err-write-clause-writes g c =
+    let some : 1 ≤ length c.args.bytes.now = search rules in
+    let e = c.in_ok-make_room.ensures in
+    writes-split c.args.self.now c.make_room.new.self c.args.bytes.now some e.same e.waits _ _ _ e.goes.tells e.writes c.in_err-write.ensures.writes
+
+pub returns-clause-writes : goal.returns-clause-writes
+returns-clause-writes g c =
+    let some : 1 ≤ length c.args.bytes.now = search rules in
+    let e = c.in_ok-make_room.ensures in
+    writes-split c.args.self.now c.make_room.new.self c.args.bytes.now some e.same e.waits _ _ _ e.goes.tells e.writes c.in_ok-write.ensures.writes

@@ -1,8 +1,11 @@
 use Rattle.std.proofs.Common.{rules, ◌≡◌, ◌+◌, Bool, true, false, cond, [], sym, ◌∙◌, ap, subst}
 use Rattle.std.specs.Prelude.{OnOk}
-use Rattle.fl_var.specs.Memory.{next_in, waiting_in}
+use Rattle.fl_ring.specs.Written.{Writes, done}
+use Rattle.fl_ring.proofs.Written.{writes-fewer, writes-none}
+use Rattle.fl_var.specs.Memory.{next_in, waiting_in, IsOnRing, MaySeal}
 use Rattle.fl_var.specs.Placing.{is_full_in}
 use Rattle.fl_var.proofs.Placed.{full-same, room-sealed, room-left, room-waits}
+use Rattle.fl_var.proofs.Written.{on-ring}
 use Rattle.fl_var.proofs.var_data.VarData.make_room.Goals as goal
 
 pub returns-then-not-is_full-clause-ends : goal.returns-then-not-is_full-clause-ends
@@ -52,3 +55,13 @@ returns-then-not-is_full-clause-off g c = λ full.
   where
     differ : false ≡ true → ⊥
     differ k = cc
+
+pub returns-then-not-is_full-clause-writes : goal.returns-then-not-is_full-clause-writes
+returns-then-not-is_full-clause-writes g c = writes-none (IsOnRing c.args.self.now) (cond (is_full_in c.args.self.now) 1 0) (g.F.Flash.state c.args.flash.now)
+
+pub returns-clause-writes : goal.returns-clause-writes
+returns-clause-writes g c =
+    let v = c.args.self.now in
+    let e : is_full_in c.args.self.now ≡ true = sym (full-same v) ∙ search rules in
+    subst (λ (b : Bool). Writes (IsOnRing c.args.self.now) 0 (cond b 1 0) (g.F.Flash.state c.args.flash.now) (g.F.Flash.state c.seal.new.flash)) (sym e)
+    (on-ring v (MaySeal v) 0 1 (g.F.Flash.state c.args.flash.now) (g.F.Flash.state c.seal.new.flash) c.seal.ensures.outside (writes-fewer (MaySeal v) (done c.seal.result) 1 _ _ c.seal.ensures.writes))

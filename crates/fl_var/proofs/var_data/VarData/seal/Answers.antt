@@ -4,13 +4,13 @@ use Rattle.fl_flash.specs.Flash.{page_at}
 use Rattle.fl_flash.specs.declared.flash.FlashFault.{FlashFault}
 use Rattle.fl_model.specs.Table.{VarRing}
 use Rattle.fl_ring.specs.Written.{done}
-use Rattle.fl_ring.proofs.Written.{held-writes}
+use Rattle.fl_ring.proofs.Written.{held-writes, page-as}
 use Rattle.fl_ring.specs.Operations.{change, seal_kinds}
-use Rattle.fl_ring.specs.Place.{shape_of, StandsFor}
+use Rattle.fl_ring.specs.Place.{next_of, shape_of, StandsFor}
 use Rattle.fl_ring.specs.Ring.{Shape, OutsideStands, oldest, place, sealed}
 use Rattle.fl_ring.specs.Sealing.{Performed}
 use Rattle.fl_var.specs.Content.{content_body}
-use Rattle.fl_var.specs.Memory.{next_in, waiting_in, room_in}
+use Rattle.fl_var.specs.Memory.{next_in, waiting_in, room_in, var_shape}
 use Rattle.fl_var.proofs.SealsInTable.{seal-breaks, seal-finishes, seal-err, ready, pages-size, next-is}
 use Rattle.fl_var.proofs.States.{state_of}
 use Rattle.fl_var.proofs.BufferedBytes.{seal-power, seal-lost, lost-on}
@@ -94,3 +94,18 @@ returns-clause-writes g c =
     let v = c.args.self.now in
     let ring_is : c.args.self.now.ring ≡ Some c.in-Some.ring = search rules in
     held-writes v.ring c.in-Some.ring 1 1 _ _ ring_is (omega arith) c.in_ok-seal.ensures.writes
+
+pub returns-in_err-seal-clause-page : goal.returns-in_err-seal-clause-page
+returns-in_err-seal-clause-page g c = let p = err_from_is_err_and c.from_residual.result c.from_residual.ensures.1 in rw p.1 tt
+
+pub returns-clause-page : goal.returns-clause-page
+returns-clause-page g c = λ told.
+    let v = c.args.self.now in
+    let ring = c.in-Some.ring in
+    let ring_is : c.args.self.now.ring ≡ Some c.in-Some.ring = search rules in
+    let room : length c.args.self.now.waiting.body - 8 ≡ room_in c.args.self.now = omega (arith, v.page) in
+    let number : c.next_number.result ≡ next_in c.args.self.now = c.next_number.ensures ∙ sym (next-is v ring ring_is) in
+    let body_is : c.body.result.now ≡ content_body (room_in c.args.self.now) (next_in c.args.self.now) (waiting_in c.args.self.now) =
+    c.body.ensures ∙ (c.finish.ensures.body ∙ (ap (λ n. content_body n c.next_number.result (waiting_in v)) room ∙ ap (λ n. content_body (room_in v) n (waiting_in v)) number)) in
+    page-as (shape_of ring) (var_shape v) (next_of ring) (next_in v) c.body.result.now (content_body (room_in v) (next_in v) (waiting_in v)) (page_at (g.F.Flash.state c.args.flash.now)) (page_at (g.F.Flash.state c.seal.new.flash))
+    (v.lies ring ring_is) (sym (next-is v ring ring_is)) body_is (c.in_ok-seal.ensures.page told)

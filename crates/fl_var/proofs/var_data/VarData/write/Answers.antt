@@ -3,8 +3,10 @@ use Rattle.std.proofs.lemmas.List.{places}
 use Rattle.std.proofs.lemmas.Result.{err_from_is_err_and}
 use Rattle.fl_flash.specs.declared.flash.FlashFault.{FlashFault}
 use Rattle.fl_frame.proofs.CallsInTurn.{goes-then}
-use Rattle.fl_var.specs.Memory.{room_in}
-use Rattle.fl_var.proofs.BufferedBytes.{writes-first, writes-next, writes-fail, writes-waits, writes-quiet, writes-end, writes-off, wrote-on, ok-on, cause-err, lost-on}
+use Rattle.fl_ring.proofs.Written.{writes-fewer}
+use Rattle.fl_var.specs.Memory.{room_in, MaySeal}
+use Rattle.fl_var.proofs.BufferedBytes.{writes-first, writes-next, writes-fail, writes-waits, writes-quiet, writes-end, writes-off, writes-tried, tried-fail, wrote-on, ok-on, cause-err, lost-on}
+use Rattle.fl_var.proofs.Written.{on-ring}
 use Rattle.fl_var.proofs.var_data.VarData.write.Goals as goal
 
 pub loop-done-init : goal.loop-done-init
@@ -38,7 +40,7 @@ loop-done-preserved g c =
     let rest : length (take (length c.args.bytes.now - c.loop-done.done) (drop c.loop-done.done c.args.bytes.now)) ≡ length c.args.bytes.now - c.loop-done.done = search (rules, places) in
     let e = c.in_ok-seal.ensures in (
       writes-next c.args.self.now c.loop-done.self c.seal.new.self _ (g.F.Flash.state c.args.flash.now) (g.F.Flash.state c.loop-done.flash) (g.F.Flash.state c.seal.new.flash) c.args.bytes.now c.loop-done.done
-          c.put-done-in-loop-done.result c.loop-done.invariant.0 less e.goes e.same e.lies e.mounted e.next e.empty e.ends e.outside e.reads e.media_reads refl (record { geometry = refl; place = refl }) e.power (ok-on _ _ _ e.off)
+          c.put-done-in-loop-done.result c.loop-done.invariant.0 less e.goes e.same e.lies e.mounted e.next e.empty e.ends e.outside e.reads e.media_reads (on-ring c.loop-done.self (MaySeal c.loop-done.self) 0 1 (g.F.Flash.state c.loop-done.flash) (g.F.Flash.state c.seal.new.flash) e.outside (writes-fewer (MaySeal c.loop-done.self) 1 1 _ _ e.writes)) refl (record { geometry = refl; place = refl }) e.power (ok-on _ _ _ e.off)
           (length (take (length c.args.bytes.now - c.loop-done.done) (drop c.loop-done.done c.args.bytes.now))) rest c.put-done-in-loop-done.ensures.count c.put-done-in-loop-done.ensures.fill c.put-done-in-loop-done.ensures.content,
       refl,
       c.requires.few,
@@ -81,3 +83,16 @@ returns-in_err-seal-clause-lost g c = λ lost.
 
 pub returns-in_err-seal-clause-goes : goal.returns-in_err-seal-clause-goes
 returns-in_err-seal-clause-goes g c = goes-then _ _ _ c.loop-done.invariant.0.goes c.seal.ensures.goes
+
+pub returns-in_err-seal-clause-writes : goal.returns-in_err-seal-clause-writes
+returns-in_err-seal-clause-writes g c =
+    let less : c.loop-done.done < length c.args.bytes.now = search rules in
+    let wide : 0 < room_in c.args.self.now = omega (arith, c.args.self.now.served.page_least) in
+    let e = c.in_err-seal.ensures in
+    tried-fail c.args.self.now c.loop-done.self (g.F.Flash.state c.args.flash.now) (g.F.Flash.state c.loop-done.flash) (g.F.Flash.state c.seal.new.flash) c.args.bytes.now c.loop-done.done c.loop-done.invariant.0 less wide
+    (on-ring c.loop-done.self (MaySeal c.loop-done.self) 0 1 (g.F.Flash.state c.loop-done.flash) (g.F.Flash.state c.seal.new.flash) e.outside e.writes)
+
+pub returns-clause-writes : goal.returns-clause-writes
+returns-clause-writes g c =
+    let all : length c.args.bytes.now ≤ c.loop-done.done = search rules in
+    writes-tried c.args.self.now c.loop-done.self (g.F.Flash.state c.args.flash.now) (g.F.Flash.state c.loop-done.flash) c.args.bytes.now c.loop-done.done c.loop-done.invariant.0 all
