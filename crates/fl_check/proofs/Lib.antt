@@ -38,6 +38,7 @@ pub mod OwnNumbers
 pub mod NumbersAreUnique
 pub mod PageRows
 pub mod Parts
+pub mod RingReads
 pub mod RingRules
 pub mod RingsKnown
 pub mod RowsBack

@@ -1,0 +1,20 @@
+-- What the numbers of a check tell of a ring of the model.
+use Rattle.std.proofs.Common.{◌≡◌, ◌⊎◌, ℕ, ◌+◌, ◌-◌, ◌<◌, ◌≤◌, nat_lt, Some, List, length}
+use Rattle.std.specs.List.{slice_get}
+use Rattle.fl_mark.specs.Mark.{state_of_page}
+use Rattle.fl_model.specs.Ring as model
+use Rattle.fl_ring.specs.Newest.{commits, page_back}
+use Rattle.fl_ring.specs.Ring.{Shape, place}
+use Rattle.fl_check.specs.Marks.{kept_page}
+use Rattle.fl_check.specs.declared.numbering.Numbering.{Numbering}
+
+pub record Reads (page : ℕ → List ℕ) (r : Shape) (at_least : ℕ) (ring : model.Ring) (n : Numbering) : Type 0 where
+  pub kept : n.marks.kept ≡ length ring.counts
+  -- the pages, counted back from the next one
+  pub back : (k : ℕ) → 1 ≤ k → k ≤ length ring.counts → page (page_back r n.marks.at k) ≡ page (place r (ring.next - k))
+  -- .. and from the oldest one on
+  pub at : (i : ℕ) → i < length ring.counts → page (kept_page r n.marks i) ≡ page (place r (model.oldest ring + i))
+  pub committed : (i c : ℕ) → slice_get ring.counts i ≡ Some c → commits (state_of_page (page (kept_page r n.marks i))) ≡ nat_lt 0 c
+  -- the next number is the ring's where a page is committed, and else behind those of its pages from the least one on
+  pub next : (i c : ℕ) → slice_get ring.counts i ≡ Some c → 0 < c → n.next ≡ ring.next
+  pub least : (n.next ≡ ring.next) ⊎ (at_least + length ring.counts ≤ n.next)
