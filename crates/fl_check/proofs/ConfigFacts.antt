@@ -46,6 +46,16 @@ module _ (label : Label) (config : TableConfig) where
           no k = cc
       by_buckets (Some buckets) e some = subst (λ (x : Option Buckets). IsTrue (is_bits (bits_in x))) (sym e) buckets.some_bits
 
+-- how many bytes a bitmap has
+pub widths : (n : ℕ) → IsTrue (is_bits n) → (1 ≤ n / 8) × (n / 8 ≤ 8)
+widths n h = by_tests (n == 8) (n == 16) (n == 64) refl refl refl h
+  where
+    by_tests : (a b c : Bool) → (n == 8) ≡ a → (n == 16) ≡ b → (n == 64) ≡ c → (a || b || c) ≡ true → (1 ≤ n / 8) × (n / 8 ≤ 8)
+    by_tests true b c x y z h = let e = eqb-true n 8 x in subst (λ k. (1 ≤ k / 8) × (k / 8 ≤ 8)) (sym e) (omega arith, omega arith)
+    by_tests false true c x y z h = let e = eqb-true n 16 y in subst (λ k. (1 ≤ k / 8) × (k / 8 ≤ 8)) (sym e) (omega arith, omega arith)
+    by_tests false false true x y z h = let e = eqb-true n 64 z in subst (λ k. (1 ≤ k / 8) × (k / 8 ≤ 8)) (sym e) (omega arith, omega arith)
+    by_tests false false false x y z h = cc
+
 -- an index page has room for some entry
 pub some-room : (page : ℕ) (form : EntryForm) → (bits : ℕ) → IsTrue (is_bits bits) → form.width ≡ bits / 8 → 64 ≤ page → 0 < (page - 24) / form_len form
 some-room page form bits is width large =
@@ -54,12 +64,3 @@ some-room page form bits is width large =
     let fits : 1 * form_len form ≤ page - 24 = omega (arith, width-le22 form (omega (arith, w.1, width)), large) in
     let le : 1 ≤ (page - 24) / form_len form = (le-div_iff_mul-le {x = 1} {y = page - 24} some).1 fits in
     omega (arith, le)
-  where
-    widths : (n : ℕ) → IsTrue (is_bits n) → (1 ≤ n / 8) × (n / 8 ≤ 8)
-    widths n h = by_tests (n == 8) (n == 16) (n == 64) refl refl refl h
-      where
-        by_tests : (a b c : Bool) → (n == 8) ≡ a → (n == 16) ≡ b → (n == 64) ≡ c → (a || b || c) ≡ true → (1 ≤ n / 8) × (n / 8 ≤ 8)
-        by_tests true b c x y z h = let e = eqb-true n 8 x in subst (λ k. (1 ≤ k / 8) × (k / 8 ≤ 8)) (sym e) (omega arith, omega arith)
-        by_tests false true c x y z h = let e = eqb-true n 16 y in subst (λ k. (1 ≤ k / 8) × (k / 8 ≤ 8)) (sym e) (omega arith, omega arith)
-        by_tests false false true x y z h = let e = eqb-true n 64 z in subst (λ k. (1 ≤ k / 8) × (k / 8 ≤ 8)) (sym e) (omega arith, omega arith)
-        by_tests false false false x y z h = cc
