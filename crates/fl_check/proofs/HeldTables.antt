@@ -1,5 +1,5 @@
 -- The rings of a sound table are those of a table of the model: what their pages hold, and what a check reads of them.
-use Rattle.std.proofs.Common.{◌≡◌, ℕ, ◌+◌, ◌-◌, ◌/◌, ◌^◌, ◌≤◌, ◌<◌, ◌⊎◌, inl, inr, ◌++◌, nat_lt, true, false, Option, Some, None, IfSome, option_map, List, [], length, map, filter, take, drop, sum, replicate, get_or, slice_get, refl, sym, ◌∙◌, ap, subst, arith, append_assoc, length-drop}
+use Rattle.std.proofs.Common.{◌≡◌, ℕ, ◌+◌, ◌-◌, ◌/◌, ◌^◌, ◌≤◌, ◌<◌, ◌⊎◌, inr, ◌++◌, nat_lt, Option, Some, None, IfSome, option_map, List, [], length, map, filter, take, drop, sum, replicate, get_or, slice_get, refl, sym, ◌∙◌, ap, subst, arith, append_assoc, length-drop}
 use Rattle.std.specs.List.{flat_map, AllByRecursion}
 use Rattle.std.proofs.lemmas.Bool.{lt-ltb}
 use Rattle.std.proofs.lemmas.List.{take-append-drop, length-map, length-take-le, drop-drop}
@@ -356,7 +356,7 @@ module _ (label : Label) (config : TableConfig) (log : Option RingPlace) (reader
                 };
                 is = (
                   is.bytes ∙ ap (λ (k : ℕ). committed (rows_body (k - 8) (layout_in config) number 0 is.rows)) size
-                  ∙ ap (λ (rows : List Row). committed (rows_body (config.geometry.page - 8) (layout_in config) number 0 rows)) (sym (stored_rows reader all_read is.rows)),
+                      ∙ ap (λ (rows : List Row). committed (rows_body (config.geometry.page - 8) (layout_in config) number 0 rows)) (sym (stored_rows reader all_read is.rows)),
                   rows_many None page body number small (omega (arith, size, large)) (omega (arith, size, short)) bytes is,
                 );
               },

@@ -4,7 +4,7 @@ use Rattle.std.specs.List.{slice_get, sum, last_or, AllByRecursion}
 use Rattle.std.specs.Option.{option_map, unwrap_or}
 use Rattle.std.proofs.Math.Nat.{mod-eq_of_lt}
 use Rattle.std.proofs.lemmas.Bool.{cases_lt, lt-ltb, ltb-true, true≢false}
-use Rattle.fl_index.specs.Page.{page_first, bitmap_at, full_at, found_at, full_view, fields_of}
+use Rattle.fl_index.specs.Page.{bitmap_at, full_at, found_at, full_view}
 use Rattle.fl_index.specs.declared.page.Full as code
 use Rattle.fl_index.proofs.Lists.{first-at, firsts-length}
 use Rattle.fl_index.proofs.LookupsOfTable.{IsAt, IsIndexPage, index-page}

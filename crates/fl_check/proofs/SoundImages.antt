@@ -1,5 +1,5 @@
 -- The pages of a sound table are the image of a table of the model, and its facts are those that the rules give.
-use Rattle.std.proofs.Common.{◌≡◌, ℕ, zero, suc, ◌+◌, ◌-◌, ◌/◌, ◌^◌, ◌≤◌, ◌<◌, ◌⊎◌, inl, inr, ◌++◌, ◌∷◌, nat_lt, Bool, true, false, ◌||◌, cond, IsTrue, Option, Some, None, IfSome, List, [], length, map, take, sum, refl, sym, ◌∙◌, ap, subst, arith}
+use Rattle.std.proofs.Common.{◌≡◌, ℕ, zero, suc, ◌+◌, ◌-◌, ◌^◌, ◌≤◌, ◌<◌, ◌⊎◌, inl, ◌++◌, ◌∷◌, nat_lt, Bool, true, false, ◌||◌, cond, IsTrue, Option, Some, None, IfSome, List, [], length, map, take, refl, sym, ◌∙◌, ap, subst, arith}
 use Rattle.std.specs.List.{list_any, slice_get, AllByRecursion}
 use Rattle.std.proofs.Math.Nat.{div-le_self}
 use Rattle.std.proofs.lemmas.Bool.{lt-ltb, true≢false}

@@ -1,5 +1,5 @@
 -- The model's facts hold of a table of which the rules give theirs, where it is as runs leave it.
-use Rattle.std.proofs.Common.{◌≡◌, ◌⊎◌, inl, inr, ℕ, ◌+◌, ◌-◌, ◌<◌, ◌≤◌, Bool, true, false, cond, ◌||◌, nat_lt, nat_le, Option, Some, None, IfSome, option_map, unwrap_or, List, [], ◌∷◌, length, filter, sym, ◌∙◌, ap, subst, arith}
+use Rattle.std.proofs.Common.{◌≡◌, ◌⊎◌, inl, inr, ℕ, ◌+◌, ◌-◌, ◌<◌, ◌≤◌, Bool, true, false, cond, ◌||◌, nat_le, Option, Some, None, IfSome, List, [], length, filter, refl, sym, ◌∙◌, ap, subst, arith}
 use Rattle.std.specs.List.{slice_get, AllByRecursion}
 use Rattle.std.proofs.lemmas.Bool.{cases_lt, le-leb, true≢false}
 use Rattle.fl_model.specs.Agrees.{BlobsOf, reach_of}

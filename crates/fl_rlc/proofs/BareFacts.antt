@@ -11,10 +11,10 @@ use Rattle.fl_model.specs.Table.{Table, Entry, RingName, DataRing, IndexRing, Va
 use Rattle.fl_rlc.proofs.LoggedFacts.{all-weaker}
 use Rattle.fl_rlc.proofs.TakenRecord.{fits-bare}
 
-contents : (plan : Plan) (page : ContentPage) → IsContent plan page → IsContent (bare plan) page
+pub contents : (plan : Plan) (page : ContentPage) → IsContent plan page → IsContent (bare plan) page
 contents plan page h = record { some = h.some; most = h.most; length = h.length }
 
-tells : (plan : Plan) (table : Table) (first : ℕ) (entries : List IndexEntry) → TellPages plan table first entries → TellPages (bare plan) (bare_table table) first entries
+pub tells : (plan : Plan) (table : Table) (first : ℕ) (entries : List IndexEntry) → TellPages plan table first entries → TellPages (bare plan) (bare_table table) first entries
 tells plan table first entries h j n lt at = by-count (slice_get table.rows.counts n) (h j n lt at)
   where
     by-entry : (rows : List Entry) (o : Option IndexEntry) → TellsAt plan rows o → TellsAt (bare plan) rows o
