@@ -318,7 +318,7 @@ module _ (label : Label) (config : TableConfig) (log : Option RingPlace) (reader
                 some,
                 record {
                   holds = record { first = form.1.first; entries = map (trimmed plan) form.1.entries };
-                  fit = record { many = many; small = form.1.small; trimmed = all-trimmed plan form.1.entries };
+                  fit = record { many = many; small = form.1.small; each = all-trimmed plan form.1.entries };
                   is = (form.1.bytes ∙ ap committed (sym (body-trimmed plan number form.1.first form.1.entries)), many);
                 },
               ),

@@ -238,7 +238,7 @@ module _ (plan : Plan) (page : ℕ → List ℕ) (x d : Shape) (least : ℕ) (la
           let first = first-is k listed p in
           let tells = listing.entries j (omega (arith, lt, per, fits.many)) n (omega (arith, short, same)) (omega (arith, at, first, short, same, of_rows.known, of_rows.next)) in
           subst (TellsAt plan (rows_at table n c)) (sym entry.1)
-          (tells-of n c e (page (kept_page x index.marks p.i)) j entry.0 (p.shows.at j entry.0 entry.1) (each-at (IsTrimmed plan) listed.entries j entry.0 fits.trimmed entry.1) tells told)
+          (tells-of n c e (page (kept_page x index.marks p.i)) j entry.0 (p.shows.at j entry.0 entry.1) (each-at (IsTrimmed plan) listed.entries j entry.0 fits.each entry.1) tells told)
 
   pub index-tells : IndexTells plan table
   index-tells = record { firsts = firsts-rise; listed = end-is-within; tell = tell-pages }

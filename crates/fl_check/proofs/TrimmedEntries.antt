@@ -24,7 +24,7 @@ pub record IsTrimmed (plan : Plan) (entry : IndexEntry) : Type 0 where
 pub record IsListed (plan : Plan) (listed : IndexPage) : Type 0 where
   pub many : length listed.entries ≡ entries_per_page plan
   pub small : listed.first < 2 ^ 32
-  pub trimmed : AllByRecursion (IsTrimmed plan) listed.entries
+  pub each : AllByRecursion (IsTrimmed plan) listed.entries
 
 -- ---- the bytes
 

@@ -8,7 +8,7 @@ use Rattle.fl_model.specs.Index.{IndexEntry}
 use Rattle.fl_model.specs.Record.{Plan}
 use Rattle.fl_model.specs.Ring.{Ring}
 use Rattle.fl_model.specs.Table.{Table, Entry, RingName, DataRing, IndexRing, VarRing, LogRing, ring_of}
-use Rattle.fl_rlc.proofs.LoggedFacts.{all-weaker}
+use Rattle.fl_model.proofs.Lists.{each-weaker}
 use Rattle.fl_rlc.proofs.TakenRecord.{fits-bare}
 
 pub contents : (plan : Plan) (page : ContentPage) → IsContent plan page → IsContent (bare plan) page
@@ -44,11 +44,11 @@ bare-facts plan table h = record {
   var_each = h.var_each;
   log_each = refl;
   index_fit = h.index_fit;
-  var_fit = all-weaker (IsContent plan) (IsContent (bare plan)) (contents plan) table.var_pages h.var_fit;
+  var_fit = each-weaker (IsContent plan) (IsContent (bare plan)) (contents plan) table.var_pages h.var_fit;
   log_fit = tt;
   logged_some = λ none. refl;
   logged = record { ascending = tt; whole = inl refl; safe = λ some. absurd (some refl) };
-  fit = all-weaker (FitsPlan plan) (FitsPlan (bare plan)) (fits-bare plan) table.entries h.fit;
+  fit = each-weaker (FitsPlan plan) (FitsPlan (bare plan)) (fits-bare plan) table.entries h.fit;
   counted = h.counted;
   few_pending = h.few_pending;
   few_rows = h.few_rows;
