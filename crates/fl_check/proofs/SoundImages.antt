@@ -6,6 +6,7 @@ use Rattle.std.proofs.lemmas.Bool.{lt-ltb, true≢false}
 use Rattle.std.proofs.lemmas.List.{take_all, length-map}
 use Rattle.fl_base.specs.declared.types.BlobRef.{BlobRef}
 use Rattle.fl_base.specs.declared.types.RingPlace.{RingPlace}
+use Rattle.fl_bitmap.proofs.Widths.{widths}
 use Rattle.fl_bitmap.specs.Widths.{is_bits}
 use Rattle.fl_flash.specs.Flash.{FlashState, page_at}
 use Rattle.fl_flash.specs.Places.{extent}
@@ -34,7 +35,7 @@ use Rattle.fl_check.specs.Whole.{Fits, LogFits, OfRing, IsIndexForm, IsVarForm, 
 use Rattle.fl_check.specs.declared.numbering.Numbering.{Numbering}
 use Rattle.fl_check.specs.declared.tally.Tally.{Tally}
 use Rattle.fl_check.proofs.BlobBytes.{IsReadBy, read_from, reads-all}
-use Rattle.fl_check.proofs.ConfigFacts.{some-bits, widths}
+use Rattle.fl_check.proofs.ConfigFacts.{some-bits}
 use Rattle.fl_check.proofs.ContentPages.{content_back}
 use Rattle.fl_check.proofs.HeldRings.{place-size}
 use Rattle.fl_check.proofs.HeldTables.{HasRing, has-ring, rows_count, entries, data_image, data_counted, data_few, data_fit, data_read, data_rise, data_tallied, data_follows, data_told, data_bytes, data_lead, index-reads, var-reads, log-reads}
