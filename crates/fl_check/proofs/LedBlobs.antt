@@ -119,17 +119,18 @@ module _ (plan : Plan) (page : ℕ → List ℕ) (r : Shape) (least : ℕ) (tabl
           let next = follows.next in
           let many = follows.reads.kept in
           let known = follows.known in
-          let is = kept-stands ring entry.page (omega (arith, leads.sealed, next)) stands in
+          let sealed : entry.page < v.next = leads.sealed in
+          let is = kept-stands ring entry.page (omega (arith, sealed, next)) stands in
           record {
-            sealed = leads.sealed;
+            sealed = sealed;
             kept = omega (arith, is.0, many, next, known);
             committed =
-                ap (λ (k : ℕ). commits (state_of_page (page (page_back r v.marks.at k)))) (let e : v.next - entry.page ≡ v.marks.kept - (entry.page - model.oldest ring) = omega (arith, is.0, leads.sealed, many, next, known) in e)
+                ap (λ (k : ℕ). commits (state_of_page (page (page_back r v.marks.at k)))) (let e : v.next - entry.page ≡ v.marks.kept - (entry.page - model.oldest ring) = omega (arith, is.0, sealed, many, next, known) in e)
                 ∙ follows.reads.committed (entry.page - model.oldest ring) 1 is.1;
           }
 
       part : (j : ℕ) → j ≤ last → HoldsPart page r v (record { page = entry.page; offset = entry.offset; length = length blob }) j
-      part j le = (leads.whole first-there).parts j (omega (arith, le))
+      part j le = let within : j < (entry.offset + length blob - 1) / content_room r + 1 = omega (arith, le) in (leads.whole first-there).parts j within
 
       there : (j : ℕ) → j ≤ last → IsThere page r v (entry.page + j)
       there j le = (part j le).there
@@ -156,7 +157,10 @@ module _ (plan : Plan) (page : ℕ → List ℕ) (r : Shape) (least : ℕ) (tabl
         pages = λ j. content_of (content_room r) (numbered page r v (entry.page + j));
         there = λ j le. content-is (entry.page + j) (there j (let e = reach-is in omega (arith, le, e)));
         within = subst (λ (k : ℕ). entry.offset < page_count (numbered page r v k)) (let e : entry.page ≡ entry.page + 0 = omega arith in e) (leads.whole first-there).begins;
-        full = λ j lt. let e = reach-is in (part j (omega (arith, lt, e))).full (omega (arith, lt, e)) ∙ sym room_is;
+        full = λ j lt.
+            let e = reach-is in
+            let less : j < (entry.offset + length blob - 1) / content_room r = omega (arith, lt, e) in
+            (part j (omega (arith, less))).full less ∙ sym room_is;
         ends =
             let end : (entry.offset + length blob - 1) % content_room r < page_count (numbered page r v (entry.page + last)) = (part last (omega arith)).ends refl in
             subst (λ (k : ℕ). (entry.offset + length blob - 1) % content_per_page plan < page_count (numbered page r v (entry.page + k))) (sym reach-is)
@@ -169,7 +173,7 @@ module _ (plan : Plan) (page : ℕ → List ℕ) (r : Shape) (least : ℕ) (tabl
       reaches = let low = (there last (omega arith)).sealed in let next = follows.next in let e = reach-is in omega (arith, low, next, e)
 
     leads-to : LeadsToBlob plan table ring entry blob
-    leads-to = record { written = let next = follows.next in omega (arith, leads.sealed, next); reaches = reaches; holds = holds }
+    leads-to = record { written = let next = follows.next in let sealed : entry.page < v.next = leads.sealed in omega (arith, sealed, next); reaches = reaches; holds = holds }
 
   pub blobs-lead : AllByRecursion (λ entry. BlobLeads page r v (stored_row entry).blob) table.entries → AllByRecursion (IsReadBy (λ at. bytes_from (byte_of page r v at) 0 at.length)) table.entries → BlobsLead plan table ring
   blobs-lead leads reads i entry blob here is some =

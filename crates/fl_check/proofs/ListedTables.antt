@@ -1,10 +1,10 @@
 -- The index of a sound table tells of its data pages in the model's words, since the rule on entries holds.
-use Rattle.std.proofs.Common.{◌≡◌, ◌⊎◌, inl, inr, ℕ, ◌+◌, ◌^◌, ◌<◌, ◌≤◌, Bool, true, false, cond, ◌||◌, ◌==◌, nat_lt, IsTrue, Option, Some, None, IfSome, List, [], ◌∷◌, length, map, take, drop, refl, sym, ◌∙◌, ap, subst, arith}
+use Rattle.std.proofs.Common.{◌≡◌, ◌⊎◌, inl, inr, ℕ, ◌+◌, ◌-◌, ◌^◌, ◌<◌, ◌≤◌, Bool, true, false, cond, ◌||◌, ◌==◌, nat_lt, IsTrue, Option, Some, None, IfSome, List, [], ◌∷◌, length, map, take, drop, refl, sym, ◌∙◌, ap, subst, arith}
 use Rattle.std.specs.List.{slice_get, sum, last_or, AllByRecursion}
 use Rattle.std.specs.Option.{option_map, unwrap_or}
 use Rattle.std.proofs.Math.Nat.{mod-eq_of_lt}
 use Rattle.std.proofs.lemmas.Bool.{cases_lt, lt-ltb, ltb-true, true≢false}
-use Rattle.fl_index.specs.Page.{bitmap_at, full_at, found_at, full_view}
+use Rattle.fl_index.specs.Page.{page_first, bitmap_at, full_at, found_at, full_view}
 use Rattle.fl_index.specs.declared.page.Full as code
 use Rattle.fl_index.proofs.Lists.{first-at, firsts-length}
 use Rattle.fl_index.proofs.LookupsOfTable.{IsAt, IsIndexPage, index-page}
@@ -156,8 +156,8 @@ module _ (plan : Plan) (page : ℕ → List ℕ) (x d : Shape) (least : ℕ) (la
       let g = first-of j b then in
       let p = page-of i f.listed f.here in
       let q = page-of j g.listed g.here in
-      let listing = (rule q.i (kept j g.listed q)).listing (lists j g.listed q) in
-      let step = listing.ascends p.i (in-order i j f.listed g.listed p q lt) (lists i f.listed p) in
+      let step : first_listed page x index.marks p.i + entries_in x.size (plan_form plan) ≤ first_listed page x index.marks q.i =
+      ((rule q.i (kept j g.listed q)).listing (lists j g.listed q)).ascends p.i (in-order i j f.listed g.listed p q lt) (lists i f.listed p) in
       omega (arith, step, per, first-is i f.listed p, first-is j g.listed q, f.is, g.is)
 
   end-is-within : index_end plan table ≤ table.rows.next
@@ -167,7 +167,7 @@ module _ (plan : Plan) (page : ℕ → List ℕ) (x d : Shape) (least : ℕ) (la
       let all = firsts-length table.index_pages in
       let alone : (j : ℕ) → p.i < j → j < index.marks.kept → Lists page x index.marks j → ⊥ =
       λ j more lt later. (let up = full-below ring.counts p.i j p.c more p.here p.some in let low = listed-before j lt later in omega (arith, up, low, p.before, last, all)) in
-      let end = (rule p.i (kept k f.listed p)).ends (lists k f.listed p) alone in
+      let end : first_listed page x index.marks p.i + entries_in x.size (plan_form plan) ≤ rows.next = (rule p.i (kept k f.listed p)).ends (lists k f.listed p) alone in
       omega (arith, end, per, first-is k f.listed p, f.is, of_rows.next))
 
   -- ---- their entries
@@ -234,9 +234,11 @@ module _ (plan : Plan) (page : ℕ → List ℕ) (x d : Shape) (least : ℕ) (la
           let same = of_rows.reads.kept in
           let entry = slice_get-some listed.entries j lt in
           let fits = p.fits in
-          let listing = (rule p.i (kept k listed p)).listing (lists k listed p) in
           let first = first-is k listed p in
-          let tells = listing.entries j (omega (arith, lt, per, fits.many)) n (omega (arith, short, same)) (omega (arith, at, first, short, same, of_rows.known, of_rows.next)) in
+          let few_j : j < entries_in x.size (plan_form plan) = omega (arith, lt, per, fits.many) in
+          let low : n < rows.marks.kept = omega (arith, short, same) in
+          let number : page_first (page (kept_page x index.marks p.i)) + j + (rows.marks.kept - n) ≡ rows.next = omega (arith, at, first, short, same, of_rows.known, of_rows.next) in
+          let tells = ((rule p.i (kept k listed p)).listing (lists k listed p)).entries j few_j n low number in
           subst (TellsAt plan (rows_at table n c)) (sym entry.1)
           (tells-of n c e (page (kept_page x index.marks p.i)) j entry.0 (p.shows.at j entry.0 entry.1) (each-at (IsTrimmed plan) listed.entries j entry.0 fits.each entry.1) tells told)
 

@@ -62,9 +62,15 @@ module _ (plan : Plan) where
   is-trimmed entry =
       let full = entry.full in
       let some : 0 < 256 ^ (plan.bits / 8) = omega (arith, one-le-pow (plan.bits / 8) 256 (omega arith)) in
-      let key : full.first_key % 2 ^ 64 % 2 ^ 64 ≡ full.first_key % 2 ^ 64 = mod-eq_of_lt (mod-lt full.first_key (omega arith)) in
-      let count : full.count % 2 ^ 16 % 2 ^ 16 ≡ full.count % 2 ^ 16 = mod-eq_of_lt (mod-lt full.count (omega arith)) in
-      let end : full.blob_end % 2 ^ 32 % 2 ^ 32 ≡ full.blob_end % 2 ^ 32 = mod-eq_of_lt (mod-lt full.blob_end (omega arith)) in
+      let some_8 : 0 < 2 ^ 64 = omega arith in
+      let some_2 : 0 < 2 ^ 16 = omega arith in
+      let some_4 : 0 < 2 ^ 32 = omega arith in
+      let low_key : full.first_key % 2 ^ 64 < 2 ^ 64 = mod-lt full.first_key some_8 in
+      let low_count : full.count % 2 ^ 16 < 2 ^ 16 = mod-lt full.count some_2 in
+      let low_end : full.blob_end % 2 ^ 32 < 2 ^ 32 = mod-lt full.blob_end some_4 in
+      let key : full.first_key % 2 ^ 64 % 2 ^ 64 ≡ full.first_key % 2 ^ 64 = mod-eq_of_lt low_key in
+      let count : full.count % 2 ^ 16 % 2 ^ 16 ≡ full.count % 2 ^ 16 = mod-eq_of_lt low_count in
+      let end : full.blob_end % 2 ^ 32 % 2 ^ 32 ≡ full.blob_end % 2 ^ 32 = mod-eq_of_lt low_end in
       record {
         bitmap = mod-lt entry.bitmap some;
         full =
