@@ -2,7 +2,5 @@
 #![tactic(auto)]
 
 mod buckets;
-#[cfg(test)]
-mod tests;
 
 pub use buckets::Buckets;

@@ -10,8 +10,6 @@ mod quotes;
 mod read;
 mod record;
 mod row;
-#[cfg(test)]
-mod tests;
 mod write;
 
 pub use header::is_header;

@@ -95,18 +95,6 @@ impl<F: OpenFile> FileMedia<F> {
 }
 
 impl<F: FileExt> FileMedia<F> {
-    // A medium over an empty file.
-    #[cfg(test)]
-    pub(crate) fn over(file: F) -> FileMedia<F> {
-        FileMedia {
-            file: Some(file),
-            ahead: ReadAhead::new(),
-            len: 0,
-            faults: 0,
-            reads: 0,
-        }
-    }
-
     // Writes a front of the bytes by one call of the system, and answers how many these are.
     fn write_front(&mut self, at: u64, bytes: &[u8]) -> usize
         requires { at ≤ self.old.len }

@@ -14,8 +14,6 @@ mod same_file;
 mod standard;
 mod standard_descriptors;
 mod synced_media;
-#[cfg(test)]
-mod tests;
 
 pub use file_media::FileMedia;
 pub use image_file::{Access, ImageFile, ImageInUse};

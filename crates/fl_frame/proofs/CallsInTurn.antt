@@ -20,7 +20,7 @@ goes-same f = record {
   cuts = omega arith;
   faults = omega arith;
   power = λ none. record { unarmed = none; on = λ on. on; cuts = refl };
-  counted = counted-same f f refl refl refl;
+  counted = counted-same f f refl refl;
 }
 
 -- what is done to a flash by calls leaves at least what stays whatever is done
@@ -54,7 +54,7 @@ stays-set f is_on armed = record {
   cuts = omega arith;
   faults = omega arith;
   power = tt;
-  counted = counted-same f (record f { is_on = is_on; armed = armed }) refl refl refl;
+  counted = counted-same f (record f { is_on = is_on; armed = armed }) refl refl;
 }
 
 -- the power was switched on
@@ -71,7 +71,7 @@ goes-on f = record {
   cuts = omega arith;
   faults = omega arith;
   power = λ none. record { unarmed = none; on = λ on. refl; cuts = refl };
-  counted = counted-same f (record f { is_on = true }) refl refl refl;
+  counted = counted-same f (record f { is_on = true }) refl refl;
 }
 
 module _ {First Second : Type 0} (a b c : FlashState) (x : StaysWith First a b) (y : StaysWith Second b c) where

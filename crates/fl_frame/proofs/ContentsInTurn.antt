@@ -74,14 +74,17 @@ counted-most (suc n) before = omega (arith, counted-most n before)
 
 -- flash and medium count the same reads
 reads-counted : (old new : FlashState) → OnlyReads old new → IsCounted old new
-reads-counted old new is reads programs =
+reads-counted old new is =
     let count : new.work.reads ≡ counted is.reads old.work.reads = ap (λ (w : Work). w.reads) is.work in
-    let same : new.work.programs ≡ old.work.programs = ap (λ (w : Work). w.programs) is.work in
-    let rises = counted-exact is.reads old.work.reads (omega (arith, count, reads)) in
+    let programs : new.work.programs ≡ old.work.programs = ap (λ (w : Work). w.programs) is.work in
+    let erases : new.work.erases ≡ old.work.erases = ap (λ (w : Work). w.erases) is.work in
+    let rises : new.work.reads < 2 ^ 64 - 1 → counted is.reads old.work.reads ≡ old.work.reads + is.reads =
+      λ below. counted-exact is.reads old.work.reads (omega (arith, count, below)) in
     record {
-      reads = omega (arith, count, rises);
-      programs = omega (arith, same);
-      medium = omega (arith, count, rises, same, is.media, counted-most is.reads old.media.reads);
+      reads = λ below. omega (arith, count, rises below);
+      programs = λ below. omega (arith, programs);
+      erases = λ below. omega (arith, erases);
+      medium = λ below few. omega (arith, count, rises below, programs, is.media, counted-most is.reads old.media.reads);
     }
 
 -- what such a call keeps

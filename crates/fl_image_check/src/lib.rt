@@ -14,6 +14,3 @@ pub use checker::CheckTable;
 pub use extent::Extent;
 pub use report::{write_finding, write_rules};
 pub use rings::RingChecker;
-
-#[cfg(test)]
-mod tests;

@@ -5,7 +5,6 @@ pub mod ContinuedRows
 pub mod GroupLists
 pub mod Joins
 pub mod Room
-pub mod RowsLeft
 pub mod RowValues
 pub mod Selections
 pub mod Sums

@@ -18,6 +18,3 @@ pub use project::Project;
 pub use select::Select;
 pub use selection::selection_is_the_models;
 pub use values::values_of;
-
-#[cfg(test)]
-mod tests;

@@ -11,6 +11,3 @@ pub use fault::{BadPage, ReadFault};
 pub use rows::{RowHere, Rows};
 pub use view::PageView;
 pub use writer::PageWriter;
-
-#[cfg(test)]
-mod tests;

@@ -4,8 +4,6 @@
 mod limits;
 mod refusal;
 mod table_config;
-#[cfg(test)]
-mod tests;
 
 pub use limits::{are_blocks, has_room_for, has_room_for_blobs, is_block_size, is_page_size};
 pub use refusal::ConfigRefusal;

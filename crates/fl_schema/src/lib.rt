@@ -9,6 +9,3 @@ mod schema;
 pub use column::ColumnType;
 pub use row::{RowKind, RowRef};
 pub use schema::{KeyWidth, Schema, SchemaRefusal};
-
-#[cfg(test)]
-mod tests;

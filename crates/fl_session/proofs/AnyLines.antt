@@ -19,15 +19,18 @@ use Rattle.fl_script.proofs.SinkPieces.{appends-append}
 use Rattle.fl_script.specs.Written.{Written}
 use Rattle.fl_script.specs.declared.reply.Reply as code
 use Rattle.fl_store.proofs.Appends.{appends-none, front-behind}
+use Rattle.fl_table.specs.BlobAt.{has_blobs}
 use Rattle.fl_table.specs.declared.table.Table.{Table}
 use Rattle.fl_words.specs.Reply as reply
 use Rattle.fl_words.specs.Reply.{Reply, text, texts}
 use Rattle.fl_store.specs.declared.tables.Entry.{Entry}
 use Rattle.fl_rlc.specs.Table.{table_in}
 use Rattle.fl_session.specs.Caused.{IsOpen, NextMoves, OnlyLooks, state_of}
-use Rattle.fl_session.specs.ListSays.{EndsBy, EndsCounted, EndsNext, EndsOnBoth, GivesLines, IsLineOf, IsPair, IsRow, ListSays, SaysEnd, WroteInto, WroteLines}
+use Rattle.fl_session.specs.ListSays.{EndsBy, EndsCounted, EndsNext, EndsOnBoth, GivesLines, IsLineOf, IsPair, ListSays, SaysEnd, WroteInto, WroteLines}
+use Rattle.fl_session.specs.Lines.{MadeFrom}
 use Rattle.fl_session.specs.Listed.{IfUnread, SaysFault}
 use Rattle.fl_session.specs.Notes.{with_cursor}
+use Rattle.fl_session.specs.RowsGiven.{MovesOver}
 use Rattle.fl_session.specs.declared.listing.ListFault.{ListFault}
 use Rattle.fl_session.specs.declared.notes.Notes.{Notes}
 use Rattle.fl_session.specs.declared.notes.TableCursor.{TableCursor}
@@ -35,39 +38,45 @@ use Rattle.fl_session.specs.declared.listing.ListFault.TheVariants.{Sink, Read}
 use Rattle.fl_session.proofs.ReplyCauses.{only-looks}
 use Rattle.fl_session.proofs.RowLines.{front-last, texts-last, written-last}
 
-pub wrote-none : (IsLine : Reply → Type 0) (most : ℕ) (told : Option (List ℕ)) → WroteLines IsLine most told told 0
-wrote-none IsLine most told = record { lines = []; are_lines = tt; many = refl; upto = omega arith; wrote = appends-none told }
+-- one line more of a kind
+pub each-more : (IsLine : Reply → Type 0) (lines : List Reply) (line : Reply) → AllByRecursion IsLine lines → IsLine line → AllByRecursion IsLine (lines ++ line ∷ [])
+each-more IsLine lines line are is = all_append IsLine lines (line ∷ []) are (is, tt)
 
-module _ (IsLine : Reply → Type 0) (most : ℕ) (told mid now : Option (List ℕ)) (count : ℕ) (h : WroteLines IsLine most told mid count) (less : count < most) (line : Reply) (is : IsLine line) where
-  lines-more : AllByRecursion IsLine (h.lines ++ line ∷ [])
-  lines-more = all_append IsLine h.lines (line ∷ []) h.are_lines (is, tt)
+pub wrote-none : (AreLines : List Reply → Type 0) (most : ℕ) (told : Option (List ℕ)) → AreLines [] → WroteLines AreLines most told told 0
+wrote-none AreLines most told none = record { lines = []; are_lines = none; many = refl; upto = omega arith; wrote = appends-none told }
 
-  one-more : length (h.lines ++ line ∷ []) ≡ count + 1
-  one-more = length-append h.lines (line ∷ []) ∙ ap (λ n. n + 1) h.many
+module _ (WereLines AreLines : List Reply → Type 0) (most : ℕ) (told mid : Option (List ℕ)) (count : ℕ) (h : WroteLines WereLines most told mid count) where
+  -- the same lines, of which something else holds
+  pub wrote-as : AreLines h.lines → WroteLines AreLines most told mid count
+  wrote-as are = record { lines = h.lines; are_lines = are; many = h.many; upto = h.upto; wrote = h.wrote }
 
-  -- one line more
-  pub wrote-more : Appends mid now (text line) → WroteLines IsLine most told now (count + 1)
-  wrote-more wrote = record {
-    lines = h.lines ++ line ∷ [];
-    are_lines = lines-more;
-    many = one-more;
-    upto = omega (arith, less);
-    wrote = subst (λ (l : List ℕ). Appends told now l) (texts-last h.lines line) (appends-append told mid now (texts h.lines) (text line) h.wrote wrote);
-  }
+  module _ (now : Option (List ℕ)) (less : count < most) (line : Reply) (are : AreLines (h.lines ++ line ∷ [])) where
+    one-more : length (h.lines ++ line ∷ []) ≡ count + 1
+    one-more = length-append h.lines (line ∷ []) ∙ ap (λ n. n + 1) h.many
 
-  -- the sink fails in it
-  pub wrote-into : AppendsFront mid now (text line) → WroteInto IsLine most told now
-  wrote-into wrote = record {
-    lines = h.lines ++ line ∷ [];
-    are_lines = lines-more;
-    upto = omega (arith, one-more, less);
-    wrote = subst (λ (l : List ℕ). AppendsFront told now l) (texts-last h.lines line) (front-behind told mid now (texts h.lines) (text line) h.wrote wrote);
-  }
+    -- one line more
+    pub wrote-more : Appends mid now (text line) → WroteLines AreLines most told now (count + 1)
+    wrote-more wrote = record {
+      lines = h.lines ++ line ∷ [];
+      are_lines = are;
+      many = one-more;
+      upto = omega (arith, less);
+      wrote = subst (λ (l : List ℕ). Appends told now l) (texts-last h.lines line) (appends-append told mid now (texts h.lines) (text line) h.wrote wrote);
+    }
+
+    -- the sink fails in it
+    pub wrote-into : AppendsFront mid now (text line) → WroteInto AreLines most told now
+    wrote-into wrote = record {
+      lines = h.lines ++ line ∷ [];
+      are_lines = are;
+      upto = omega (arith, one-more, less);
+      wrote = subst (λ (l : List ℕ). AppendsFront told now l) (texts-last h.lines line) (front-behind told mid now (texts h.lines) (text line) h.wrote wrote);
+    }
 
 -- a line that ends a list
-ended : {E : Type 0} (IsLine : Reply → Type 0) (Ends : ℕ → Reply → Type 0) (most : ℕ) (told mid now : Option (List ℕ)) (count : ℕ) (result : Result (Unit {0}) E) (last : Reply) → WroteLines IsLine most told mid count → Ends count last → Written mid now result (text last) →
-    ListSays IsLine Ends told now result
-ended IsLine Ends most told mid now count result last h ends wrote = record {
+ended : {E : Type 0} (AreLines : List Reply → Type 0) (Ends : ℕ → Reply → Type 0) (most : ℕ) (told mid now : Option (List ℕ)) (count : ℕ) (result : Result (Unit {0}) E) (last : Reply) → WroteLines AreLines most told mid count → Ends count last → Written mid now result (text last) →
+    ListSays AreLines Ends told now result
+ended AreLines Ends most told mid now count result last h ends wrote = record {
   lines = h.lines;
   are_lines = h.are_lines;
   last = last;
@@ -75,16 +84,16 @@ ended IsLine Ends most told mid now count result last h ends wrote = record {
   written = written-last h.lines last told mid now result h.wrote wrote;
 }
 
-module _ (IsLine : Reply → Type 0) (ending : ℕ → Reply) (most : ℕ) (IsBad : BadPage → Type 0) (f g : FlashState) (told mid now : Option (List ℕ)) (result : Result (Unit {0}) SinkFailed) where
+module _ (AreLines : List Reply → Type 0) (ending : ℕ → Reply) (most : ℕ) (IsBad : BadPage → Type 0) (f g : FlashState) (told mid now : Option (List ℕ)) (result : Result (Unit {0}) SinkFailed) where
   -- all were given
-  pub list-ends : (count : ℕ) → GivesLines IsLine IsBad most told mid (Ok count) → Written mid now result (text (ending count)) → ListSays IsLine (EndsBy ending most IsBad f g) told now result
-  list-ends count h wrote = ended IsLine (EndsBy ending most IsBad f g) most told mid now count result (ending count) h (h.upto, inl refl) wrote
+  pub list-ends : (count : ℕ) → GivesLines AreLines IsBad most told mid (Ok count) → Written mid now result (text (ending count)) → ListSays AreLines (EndsBy ending most IsBad f g) told now result
+  list-ends count h wrote = ended AreLines (EndsBy ending most IsBad f g) most told mid now count result (ending count) h (h.upto, inl refl) wrote
 
   -- .. or the sink failed, or a page wasn't read
-  pub list-fails : (why : ListFault) → GivesLines IsLine IsBad most told mid (Err why) → IfUnread f g why → SaysFault why mid now result → ListSays IsLine (EndsBy ending most IsBad f g) told now result
+  pub list-fails : (why : ListFault) → GivesLines AreLines IsBad most told mid (Err why) → IfUnread f g why → SaysFault why mid now result → ListSays AreLines (EndsBy ending most IsBad f g) told now result
   list-fails (Sink failed) h caused said =
-      subst (λ (r : Result (Unit {0}) SinkFailed). ListSays IsLine (EndsBy ending most IsBad f g) told now r) (sym said.0)
-      (subst (λ (o : Option (List ℕ)). ListSays {E = SinkFailed} IsLine (EndsBy ending most IsBad f g) told o (Err failed)) (sym said.1)
+      subst (λ (r : Result (Unit {0}) SinkFailed). ListSays AreLines (EndsBy ending most IsBad f g) told now r) (sym said.0)
+      (subst (λ (o : Option (List ℕ)). ListSays {E = SinkFailed} AreLines (EndsBy ending most IsBad f g) told o (Err failed)) (sym said.1)
       (record {
         lines = h.lines;
         are_lines = h.are_lines;
@@ -92,14 +101,14 @@ module _ (IsLine : Reply → Type 0) (ending : ℕ → Reply) (most : ℕ) (IsBa
         ends = (h.upto, inl refl);
         written = front-last h.lines (ending (length h.lines)) told mid h.wrote;
       }))
-  list-fails (Read (fault.Flash e)) h caused said = ended IsLine (EndsBy ending most IsBad f g) most told mid now h.0.0 result reply.ReadFault h.0.1 (h.0.1.upto, inr (e, caused)) said
-  list-fails (Read (fault.BadPage bad)) h caused said = ended IsLine (EndsBy ending most IsBad f g) most told mid now h.0.0 result (reply.BadPage bad.wanted) h.0.1 (h.0.1.upto, inr (bad, refl, h.1)) said
+  list-fails (Read (fault.Flash e)) h caused said = ended AreLines (EndsBy ending most IsBad f g) most told mid now h.0.0 result reply.ReadFault h.0.1 (h.0.1.upto, inr (e, caused)) said
+  list-fails (Read (fault.BadPage bad)) h caused said = ended AreLines (EndsBy ending most IsBad f g) most told mid now h.0.0 result (reply.BadPage bad.wanted) h.0.1 (h.0.1.upto, inr (bad, refl, h.1)) said
 
 -- .. and it is said how many they are
-pub list-ended : (IsLine : Reply → Type 0) (IsBad : BadPage → Type 0) (f g : FlashState) (told mid now : Option (List ℕ)) (result : Result (Unit {0}) SinkFailed) (listed : Result ℕ ListFault) → GivesLines IsLine IsBad (2 ^ 64 - 1) told mid listed → IfErr listed (IfUnread f g) → SaysEnd listed mid now result →
-    ListSays IsLine (EndsCounted IsBad f g) told now result
-list-ended IsLine IsBad f g told mid now result (Ok count) h unread said = list-ends IsLine reply.EndCount (2 ^ 64 - 1) IsBad f g told mid now result count h said
-list-ended IsLine IsBad f g told mid now result (Err why) h unread said = list-fails IsLine reply.EndCount (2 ^ 64 - 1) IsBad f g told mid now result why h unread said
+pub list-ended : (AreLines : List Reply → Type 0) (IsBad : BadPage → Type 0) (f g : FlashState) (told mid now : Option (List ℕ)) (result : Result (Unit {0}) SinkFailed) (listed : Result ℕ ListFault) → GivesLines AreLines IsBad (2 ^ 64 - 1) told mid listed → IfErr listed (IfUnread f g) → SaysEnd listed mid now result →
+    ListSays AreLines (EndsCounted IsBad f g) told now result
+list-ended AreLines IsBad f g told mid now result (Ok count) h unread said = list-ends AreLines reply.EndCount (2 ^ 64 - 1) IsBad f g told mid now result count h said
+list-ended AreLines IsBad f g told mid now result (Err why) h unread said = list-fails AreLines reply.EndCount (2 ^ 64 - 1) IsBad f g told mid now result why h unread said
 
 -- a page that isn't read while a cursor goes on is one of its table
 pub bad-from : (first mid : Cursor 64 64) (f between : FlashState) (e : ReadFault) → Keeps first mid → contents_of between ≡ contents_of f → IfBad (MayBeBad (table_of mid) (contents_of between)) e → IfBad (MayBeBad (table_of first) (contents_of f)) e
@@ -116,30 +125,35 @@ bad-by IsBad Was (fault.BadPage bad) h k = k bad (h bad refl)
 pub made-line : (IsLine : Reply → Type 0) (o : Option code.Reply) (made : code.Reply) → o ≡ Some made → IfSome o (λ reply. IsLineOf IsLine reply) → IsLineOf IsLine made
 made-line IsLine o made is h = subst (λ (x : Option code.Reply). IfSome x (λ reply. IsLineOf IsLine reply)) is h
 
--- lines of the table, by whichever name
-pub lists-of : (IsLine : Reply → Type 0) (Ends : Table 64 64 → FlashState → FlashState → ℕ → Reply → Type 0) (t u : Table 64 64) (f g : FlashState) (told told_now : Option (List ℕ)) (result : Result (Unit {0}) SinkFailed) → t ≡ u →
-    ListSays IsLine (Ends t f g) told told_now result → ListSays IsLine (Ends u f g) told told_now result
-lists-of IsLine Ends t u f g told told_now result same h = subst (λ (x : Table 64 64). ListSays IsLine (Ends x f g) told told_now result) same h
+-- lines that were made, of which something holds in whichever state they leave
+pub lists-made : {Lines E : Type 0} (made : Lines → Lines → List Reply → Type 0) (first : Lines) (AreLines : List Reply → Type 0) (Ends : ℕ → Reply → Type 0) (told now : Option (List ℕ)) (result : Result (Unit {0}) E) → ((last : Lines) (lines : List Reply) → made first last lines → AreLines lines) →
+    ListSays (MadeFrom made first) Ends told now result → ListSays AreLines Ends told now result
+lists-made made first AreLines Ends told now result are h = record { lines = h.lines; are_lines = are h.are_lines.0 h.lines h.are_lines.1; last = h.last; ends = h.ends; written = h.written }
 
-pub lists-of_both : (t u v w : Table 64 64) (f g : FlashState) (told told_now : Option (List ℕ)) (result : Result (Unit {0}) SinkFailed) → t ≡ v → u ≡ w → ListSays IsPair (EndsOnBoth t u f g) told told_now result →
-    ListSays IsPair (EndsOnBoth v w f g) told told_now result
+-- lines of the table, by whichever name
+pub lists-of : (AreLines : Table 64 64 → List Reply → Type 0) (Ends : Table 64 64 → FlashState → FlashState → ℕ → Reply → Type 0) (t u : Table 64 64) (f g : FlashState) (told told_now : Option (List ℕ)) (result : Result (Unit {0}) SinkFailed) → t ≡ u →
+    ListSays (AreLines t) (Ends t f g) told told_now result → ListSays (AreLines u) (Ends u f g) told told_now result
+lists-of AreLines Ends t u f g told told_now result same h = subst (λ (x : Table 64 64). ListSays (AreLines x) (Ends x f g) told told_now result) same h
+
+pub lists-of_both : (t u v w : Table 64 64) (f g : FlashState) (told told_now : Option (List ℕ)) (result : Result (Unit {0}) SinkFailed) → t ≡ v → u ≡ w → ListSays (AllByRecursion IsPair) (EndsOnBoth t u f g) told told_now result →
+    ListSays (AllByRecursion IsPair) (EndsOnBoth v w f g) told told_now result
 lists-of_both t u v w f g told told_now result left right h =
-    subst (λ (x : Table 64 64). ListSays IsPair (EndsOnBoth v x f g) told told_now result) right (subst (λ (x : Table 64 64). ListSays IsPair (EndsOnBoth x u f g) told told_now result) left h)
+    subst (λ (x : Table 64 64). ListSays (AllByRecursion IsPair) (EndsOnBoth v x f g) told told_now result) right (subst (λ (x : Table 64 64). ListSays (AllByRecursion IsPair) (EndsOnBoth x u f g) told told_now result) left h)
 
 -- a table of a session was looked at, and lines of it were listed
-pub looks-lists : (entries : List Entry) (mounted : Bool) (a b c : Notes) (IsLine : Reply → Type 0) (Ends : Table 64 64 → FlashState → FlashState → ℕ → Reply → Type 0) (t u : Table 64 64) (f g : FlashState) (told told_now : Option (List ℕ)) (result : Result (Unit {0}) SinkFailed) →
-    b ≡ c → OnlyReads f g → t ≡ u → ListSays IsLine (Ends t f g) told told_now result → OnlyLooks (state_of entries mounted a f) (state_of entries mounted b g) c × ListSays IsLine (Ends u f g) told told_now result
-looks-lists entries mounted a b c IsLine Ends t u f g told told_now result noted reads same h = (only-looks entries mounted a b c f g noted reads, lists-of IsLine Ends t u f g told told_now result same h)
+pub looks-lists : (entries : List Entry) (mounted : Bool) (a b c : Notes) (AreLines : Table 64 64 → List Reply → Type 0) (Ends : Table 64 64 → FlashState → FlashState → ℕ → Reply → Type 0) (t u : Table 64 64) (f g : FlashState) (told told_now : Option (List ℕ)) (result : Result (Unit {0}) SinkFailed) →
+    b ≡ c → OnlyReads f g → t ≡ u → ListSays (AreLines t) (Ends t f g) told told_now result → OnlyLooks (state_of entries mounted a f) (state_of entries mounted b g) c × ListSays (AreLines u) (Ends u f g) told told_now result
+looks-lists entries mounted a b c AreLines Ends t u f g told told_now result noted reads same h = (only-looks entries mounted a b c f g noted reads, lists-of AreLines Ends t u f g told told_now result same h)
 
 -- .. by a cursor, which moved
 pub next-moves : (entries : List Entry) (mounted : Bool) (a b : Notes) (n count : ℕ) (held : TableCursor) (entry : Entry) (t : Table 64 64) (mark : Bookmark) (f g : FlashState) (told told_now : Option (List ℕ)) (result : Result (Unit {0}) SinkFailed) →
-    IsOpen (state_of entries mounted a f) n held → slice_get entries held.table ≡ Some entry → b ≡ with_cursor a n (Some (record held { mark = mark })) → OnlyReads f g → t ≡ table_in entry.table → ListSays IsRow (EndsNext count t f g) told told_now result →
-    NextMoves (state_of entries mounted a f) (state_of entries mounted b g) n count told told_now result
+    IsOpen (state_of entries mounted a f) n held → slice_get entries held.table ≡ Some entry → b ≡ with_cursor a n (Some (record held { mark = mark })) → OnlyReads f g → t ≡ table_in entry.table →
+    ListSays (MovesOver (has_blobs t) held.mark mark) (EndsNext count t f g) told told_now result → NextMoves (state_of entries mounted a f) (state_of entries mounted b g) n count told told_now result
 next-moves entries mounted a b n count held entry t mark f g told told_now result is_open here moved reads same h =
-    let both = looks-lists entries mounted a b (with_cursor a n (Some (record held { mark = mark }))) IsRow (EndsNext count) t (table_in entry.table) f g told told_now result moved reads same h in
-    record { held = held; is_open = is_open; entry = entry; here = here; lists = both.1; mark = mark; looks = both.0 }
+    let both = looks-lists entries mounted a b (with_cursor a n (Some (record held { mark = mark }))) (λ (x : Table 64 64). MovesOver (has_blobs x) held.mark mark) (EndsNext count) t (table_in entry.table) f g told told_now result moved reads same h in
+    record { held = held; is_open = is_open; entry = entry; here = here; mark = mark; lists = both.1; looks = both.0 }
 
 -- two tables of a session were looked at, and pairs of their rows were listed
 pub looks-pairs : (entries : List Entry) (mounted : Bool) (a b c : Notes) (t u v w : Table 64 64) (f g : FlashState) (told told_now : Option (List ℕ)) (result : Result (Unit {0}) SinkFailed) → b ≡ c → OnlyReads f g → t ≡ v → u ≡ w →
-    ListSays IsPair (EndsOnBoth t u f g) told told_now result → OnlyLooks (state_of entries mounted a f) (state_of entries mounted b g) c × ListSays IsPair (EndsOnBoth v w f g) told told_now result
+    ListSays (AllByRecursion IsPair) (EndsOnBoth t u f g) told told_now result → OnlyLooks (state_of entries mounted a f) (state_of entries mounted b g) c × ListSays (AllByRecursion IsPair) (EndsOnBoth v w f g) told told_now result
 looks-pairs entries mounted a b c t u v w f g told told_now result noted reads left right h = (only-looks entries mounted a b c f g noted reads, lists-of_both t u v w f g told told_now result left right h)

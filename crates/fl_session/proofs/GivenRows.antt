@@ -2,16 +2,13 @@
 use Rattle.std.proofs.Common.{◌≡◌, ℕ, zero, suc, ◌-◌, ◌<◌, Bool, true, Option, Some, Ok, Err, List, [], ◌∷◌, ◌++◌, length, map, take, refl, sym, ◌∙◌, ap, subst, arith, append_assoc, append-nil}
 use Rattle.std.proofs.lemmas.List.{map-append}
 use Rattle.std.proofs.lemmas.Grind.{flat_map-append}
-use Rattle.std.specs.List.{last_or}
 use Rattle.fl_base.specs.Causes.{Appends, AppendsFront}
 use Rattle.fl_cursor.specs.Cursor.{index_page, table_of, mark_of, asked_of, left_of, is_end, has_ended}
 use Rattle.fl_cursor.specs.Reads.{least_of, least_from}
 use Rattle.fl_cursor.specs.declared.place.Place.{Place}
 use Rattle.fl_cursor.specs.declared.place.Place.TheVariants.{Start, Pages, InPage, Pending, Ended}
-use Rattle.fl_cursor.specs.declared.bookmark.Bookmark.{Bookmark}
 use Rattle.fl_cursor.specs.declared.cursor.Cursor.{Cursor}
 use Rattle.fl_model.specs.Row.{Row}
-use Rattle.fl_model.proofs.Lists.{last_or-push}
 use Rattle.fl_frame.specs.Contents.{Contents}
 use Rattle.fl_page.specs.Steps.{Steps}
 use Rattle.fl_page.specs.declared.fault.ReadFault.{ReadFault}
@@ -21,6 +18,7 @@ use Rattle.fl_words.specs.Reply.{text, texts}
 use Rattle.fl_session.specs.Gives.{Gave, Gives}
 use Rattle.fl_session.specs.Rows.{row_reply}
 use Rattle.fl_session.specs.declared.listing.ListFault.TheVariants.{Read}
+use Rattle.fl_session.proofs.RowsInTurn.{mark-more}
 use Rattle.fl_store.proofs.Appends.{appends-none}
 
 -- the lines of rows, and of one more
@@ -44,13 +42,10 @@ module _ (blobs : Bool) (first mid new : Cursor 64 64) (contents : Contents) (to
       Gave blobs first new contents told told_now (rows ++ row ∷ [])
   gave-next row told_now left mark wrote = record {
     left = gave.left ∙ (ap (λ (l : List Row). rows ++ l) left ∙ sym (append_assoc rows (row ∷ []) (left_of new contents)));
-    mark = mark ∙ (ap (λ (m : Bookmark). record m { after = Some row.key }) gave.mark ∙ ap (λ (o : Option ℕ). record (mark_of first) { after = o }) (sym last));
+    mark = mark-more (mark_of first) (mark_of mid) (mark_of new) rows row gave.mark mark;
     wrote = subst (λ (l : List ℕ). Appends told told_now l) (sym (lines-more blobs rows row [] ∙ ap (λ (l : List ℕ). lines blobs rows ++ l) (append-nil (text (row_reply blobs row)))))
         (appends-append told told_mid told_now (lines blobs rows) (text (row_reply blobs row)) gave.wrote wrote);
   }
-    where
-      last : last_or (mark_of first).after (map (λ (r : Row). r.key) (rows ++ row ∷ [])) ≡ Some row.key
-      last = ap (last_or (mark_of first).after) (map-append (λ (r : Row). r.key) rows (row ∷ [])) ∙ last_or-push (mark_of first).after (map (λ (r : Row). r.key) rows) row.key
 
   -- the sink failed in the line of one more
   pub gave-failed : (count : ℕ) (row : Row) (told_now : Option (List ℕ)) → left_of mid contents ≡ row ∷ left_of new contents → length rows < count → AppendsFront told_mid told_now (text (row_reply blobs row)) →

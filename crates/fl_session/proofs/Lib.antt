@@ -54,6 +54,8 @@ pub mod Operations
 pub mod BlobShows
 pub mod BlobReplies
 pub mod CursorsOf
+pub mod RowsInTurn
+pub mod RisingLines
 pub mod GivenRows
 pub mod NextRows
 pub mod Resumed

@@ -75,12 +75,12 @@ has-one layout column within =
     let is : nat_lt (length layout.columns) column ≡ false = le-ltb (length layout.columns) column within in
     rw is refl
 
-module _ (E : Type 0) (old new : State) (IsLine : Reply → Type 0) (entry : Entry) (told told_now : Option (List ℕ)) (result : Result (Unit {0}) E) (o : Option ℕ) where
-  pub lacks-says : (column : ℕ) → o ≡ Some column → new ≡ old → Written told told_now result (text (reply.NoColumn column)) → IfLacks old new IsLine entry told told_now result o
-  lacks-says column lacks same wrote = subst (λ (x : Option ℕ). IfLacks old new IsLine entry told told_now result x) (sym lacks) (record { reply = reply.NoColumn column; written = wrote; holds = (refl, same) })
+module _ (E : Type 0) (old new : State) (AreLines : List Reply → Type 0) (entry : Entry) (told told_now : Option (List ℕ)) (result : Result (Unit {0}) E) (o : Option ℕ) where
+  pub lacks-says : (column : ℕ) → o ≡ Some column → new ≡ old → Written told told_now result (text (reply.NoColumn column)) → IfLacks old new AreLines entry told told_now result o
+  lacks-says column lacks same wrote = subst (λ (x : Option ℕ). IfLacks old new AreLines entry told told_now result x) (sym lacks) (record { reply = reply.NoColumn column; written = wrote; holds = (refl, same) })
 
-  pub has-says : o ≡ None → OnlyLooks old new old.notes × ListSays IsLine (EndsOn (table_in entry.table) old.flash new.flash) told told_now result → IfLacks old new IsLine entry told told_now result o
-  has-says none both = subst (λ (x : Option ℕ). IfLacks old new IsLine entry told told_now result x) (sym none) both
+  pub has-says : o ≡ None → OnlyLooks old new old.notes × ListSays AreLines (EndsOn (table_in entry.table) old.flash new.flash) told told_now result → IfLacks old new AreLines entry told told_now result o
+  has-says none both = subst (λ (x : Option ℕ). IfLacks old new AreLines entry told told_now result x) (sym none) both
 
 -- a cursor that isn't open, and one that is
 pub closed-as : (cursors : List (Option TableCursor)) (n : ℕ) (o : Option TableCursor) → slice_get cursors n ≡ Some o → is_none o ≡ true → slice_get cursors n ≡ Some None

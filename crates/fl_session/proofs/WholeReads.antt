@@ -13,6 +13,6 @@ pub reads-within : (old : Machine) (moments : List Moment) (f now : FlashState) 
 reads-within old moments f now goes few same low = by_ends (cases_lt now.work.reads (2 ^ 64 - 1)) (cases_lt now.work.programs (2 ^ 64 - 1))
   where
     by_ends : ((now.work.reads < 2 ^ 64 - 1) ⊎ (2 ^ 64 - 1 ≤ now.work.reads)) → ((now.work.programs < 2 ^ 64 - 1) ⊎ (2 ^ 64 - 1 ≤ now.work.programs)) → now.media.reads ≤ f.media.reads + reads_in moments + (end_of old moments).device.programs
-    by_ends (inl reads) (inl programs) = let counted = goes.counted reads programs in omega (arith, counted.medium, few, same)
+    by_ends (inl reads) (inl programs) = omega (arith, goes.counted.medium reads programs, few, same)
     by_ends (inl reads) (inr full) = omega (arith, low, full, same)
     by_ends (inr full) programs = omega (arith, low, full, few)

@@ -1,5 +1,6 @@
 -- The replies to a question for a blob, over any bytes and on any medium.
 use Rattle.std.specs.Prelude.{◌≡◌, ◌⊎◌, ℕ, zero, suc, Bool, true, IfErr, IsTrue, Option, Some, None, Result, Ok, Err, List}
+use Rattle.std.specs.List.{AllByRecursion}
 use Rattle.fl_base.specs.Causes.{Appends, AppendsFront}
 use Rattle.fl_base.specs.declared.types.BlobRef.{BlobRef}
 use Rattle.fl_flash.specs.Flash.{FlashState}
@@ -58,7 +59,7 @@ EndsBlob IsBad old new (suc zero) last = IsUnread IsBad old new last
 EndsBlob IsBad old new (suc (suc n)) last = ⊥
 
 abbrev pub BlobSays : {E : Type 0} → (BadPage → Type 0) → FlashState → FlashState → Option (List ℕ) → Option (List ℕ) → Result (Unit {0}) E → Type 0
-BlobSays IsBad old new told told_now result = ListSays IsBytes (EndsBlob IsBad old new) told told_now result
+BlobSays IsBad old new told told_now result = ListSays (AllByRecursion IsBytes) (EndsBlob IsBad old new) told told_now result
 
 -- A reader was turned to a blob of this table, or wasn't: a page that wasn't read then, or isn't read from now on, has its cause.
 pub record OpensFor (t : Table 64 64) (f g : FlashState) (stands : Result Bool ReadFault) (reader : BlobReader) : Type 0 where

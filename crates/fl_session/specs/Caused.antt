@@ -1,8 +1,10 @@
 -- What a command answers and leaves, and why, over any bytes and on any medium.
 use Rattle.std.specs.Prelude.{◌≡◌, ◌⊎◌, ℕ, ◌+◌, ◌-◌, ◌*◌, ◌<◌, ◌≤◌, min, ◌++◌, Bool, true, false, not, is_ok, IsTrue, Option, None, Some, option_map, Result, Ok, Err, OnOk, IfErr, List, [], ◌∷◌, length, slice_get, ℤ}
+use Rattle.std.specs.List.{AllByRecursion}
 use Rattle.fl_base.specs.declared.types.CutKind.{CutKind}
 use Rattle.fl_base.specs.declared.types.KeyRange.{KeyRange}
 use Rattle.fl_base.specs.declared.types.Span.{Span}
+use Rattle.fl_cursor.specs.Asked.{above_range}
 use Rattle.fl_cursor.specs.declared.bookmark.Bookmark.{Bookmark}
 use Rattle.fl_flash.specs.Flash.{FlashState, page_at}
 use Rattle.fl_flash.specs.declared.flash.FlashFault.{FlashFault}
@@ -46,10 +48,12 @@ use Rattle.fl_session.specs.Answer.{IsReached, load_replies, mount_reply}
 use Rattle.fl_session.specs.Asked.{lacked_column}
 use Rattle.fl_session.specs.BlobSays.{BlobSays, MayBeBadFor}
 use Rattle.fl_session.specs.Cost.{cost_of}
-use Rattle.fl_session.specs.ListSays.{EndsNext, EndsOn, EndsOnBoth, IsFields, IsGroup, IsPair, IsRow, ListSays}
+use Rattle.fl_session.specs.ListSays.{EndsNext, EndsOn, EndsOnBoth, IsFields, IsGroup, IsPair, ListSays}
 use Rattle.fl_session.specs.LoadSays.{LoadFails, PutsRecords}
 use Rattle.fl_session.specs.Notes.{with_cursor, without_cursors}
+use Rattle.fl_session.specs.Rising.{AreRising, IsRow}
 use Rattle.fl_session.specs.Rows.{row_reply}
+use Rattle.fl_session.specs.RowsGiven.{AreRows, MovesOver}
 use Rattle.fl_session.specs.declared.cost.Cost.TheVariants.{OfGet, OfScan}
 use Rattle.fl_session.specs.declared.notes.Notes.{Notes}
 use Rattle.fl_session.specs.declared.notes.TableCursor.{TableCursor}
@@ -264,19 +268,19 @@ abbrev pub Lists : {E : Type 0} → State → State → List ℕ → Option (Lis
 Lists old new name told told_now result Holds =
     Writes told told_now result (IsRefused old new name) ⊎ ((at : ℕ) × (entry : Entry) × IsHere old name at entry × Holds entry)
 
--- it is refused since the table lacks this column, or it only looks, and lists lines of this kind
-abbrev pub IfLacks : {E : Type 0} → State → State → (Reply → Type 0) → Entry → Option (List ℕ) → Option (List ℕ) → Result (Unit {0}) E → Option ℕ → Type 0
-IfLacks old new IsLine entry told told_now result (Some column) = Writes told told_now result (λ said. (said ≡ reply.NoColumn column) × (new ≡ old))
-IfLacks old new IsLine entry told told_now result None = OnlyLooks old new old.notes × ListSays IsLine (EndsOn (table_in entry.table) old.flash new.flash) told told_now result
+-- it is refused since the table lacks this column, or it only looks, and lists lines of which this holds
+abbrev pub IfLacks : {E : Type 0} → State → State → (List Reply → Type 0) → Entry → Option (List ℕ) → Option (List ℕ) → Result (Unit {0}) E → Option ℕ → Type 0
+IfLacks old new AreLines entry told told_now result (Some column) = Writes told told_now result (λ said. (said ≡ reply.NoColumn column) × (new ≡ old))
+IfLacks old new AreLines entry told told_now result None = OnlyLooks old new old.notes × ListSays AreLines (EndsOn (table_in entry.table) old.flash new.flash) told told_now result
 
--- an open cursor lists rows of its table, and moves
+-- an open cursor lists rows that it has still to give, and moves behind them
 pub record NextMoves {E : Type 0} (old new : State) (cursor count : ℕ) (told told_now : Option (List ℕ)) (result : Result (Unit {0}) E) : Type 0 where
   pub held : TableCursor
   pub is_open : IsOpen old cursor held
   pub entry : Entry
   pub here : slice_get old.entries held.table ≡ Some entry
-  pub lists : ListSays IsRow (EndsNext count (table_in entry.table) old.flash new.flash) told told_now result
   pub mark : Bookmark
+  pub lists : ListSays (MovesOver (has_blobs (table_in entry.table)) held.mark mark) (EndsNext count (table_in entry.table) old.flash new.flash) told told_now result
   pub looks : OnlyLooks old new (with_cursor old.notes cursor (Some (record held { mark = mark })))
 
 abbrev pub NextLooks : {E : Type 0} → State → State → ℕ → ℕ → Option (List ℕ) → Option (List ℕ) → Result (Unit {0}) E → Type 0
@@ -319,12 +323,12 @@ Caused (Open cursor name range span) old new told told_now result = Writes told 
 Caused (Close cursor) old new told told_now result = Writes told told_now result (CloseSays old new cursor)
 Caused (Get name key) old new told told_now result = Writes told told_now result (OnTable old new name (GetSays old new key))
 Caused (Blob name key) old new told told_now result = Lists old new name told told_now result (λ entry. OnlyLooks old new old.notes × BlobSays (MayBeBadFor (table_in entry.table) old.flash) old.flash new.flash told told_now result)
-Caused (Scan name range span) old new told told_now result = Lists old new name told told_now result (λ entry. NotesScan old new × ListSays IsRow (EndsOn (table_in entry.table) old.flash new.flash) told told_now result)
+Caused (Scan name range span) old new told told_now result = Lists old new name told told_now result (λ entry. NotesScan old new × ListSays (AreRows (has_blobs (table_in entry.table)) (mark_on (table_in entry.table) range span)) (EndsOn (table_in entry.table) old.flash new.flash) told told_now result)
 Caused (Next cursor count) old new told told_now result = NextLooks old new cursor count told told_now result
-Caused (Select name range column op value) old new told told_now result = Lists old new name told told_now result (λ entry. IfLacks old new IsRow entry told told_now result (lacked_column (layout_in (table_in entry.table)) (column ∷ [])))
-Caused (Project name range columns) old new told told_now result = Lists old new name told told_now result (λ entry. IfLacks old new IsFields entry told told_now result (lacked_column (layout_in (table_in entry.table)) columns))
-Caused (Agg name range column width) old new told told_now result = Lists old new name told told_now result (λ entry. IfLacks old new IsGroup entry told told_now result (lacked_column (layout_in (table_in entry.table)) (column ∷ [])))
-Caused (Join left right range) old new told told_now result = Lists old new left told told_now result (λ entry. Lists old new right told told_now result (λ other. OnlyLooks old new old.notes × ListSays IsPair (EndsOnBoth (table_in entry.table) (table_in other.table) old.flash new.flash) told told_now result))
+Caused (Select name range column op value) old new told told_now result = Lists old new name told told_now result (λ entry. IfLacks old new (AreRising IsRow (above_range range.low None)) entry told told_now result (lacked_column (layout_in (table_in entry.table)) (column ∷ [])))
+Caused (Project name range columns) old new told told_now result = Lists old new name told told_now result (λ entry. IfLacks old new (AllByRecursion (IsFields (length columns))) entry told told_now result (lacked_column (layout_in (table_in entry.table)) columns))
+Caused (Agg name range column width) old new told told_now result = Lists old new name told told_now result (λ entry. IfLacks old new (AllByRecursion IsGroup) entry told told_now result (lacked_column (layout_in (table_in entry.table)) (column ∷ [])))
+Caused (Join left right range) old new told told_now result = Lists old new left told told_now result (λ entry. Lists old new right told told_now result (λ other. OnlyLooks old new old.notes × ListSays (AllByRecursion IsPair) (EndsOnBoth (table_in entry.table) (table_in other.table) old.flash new.flash) told told_now result))
 Caused (Load name count step seed) old new told told_now result = Writes told told_now result (IsRefused old new name) ⊎ ((at : ℕ) × (entry : Entry) × IsHere old name at entry × LoadSays old new count step seed at entry told told_now result)
 Caused Nothing old new told told_now result = Written told told_now result [] × (new ≡ old)
 Caused (Device page block) old new told told_now result = Written told told_now result [] × (new ≡ old)

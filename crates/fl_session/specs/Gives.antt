@@ -1,6 +1,5 @@
 -- The rows that a cursor gives one after another, as their lines are written.
 use Rattle.std.specs.Prelude.{◌≡◌, ℕ, ◌+◌, ◌-◌, ◌^◌, ◌<◌, ◌≤◌, Bool, Option, Result, Ok, Err, IfOk, List, [], ◌++◌, length, map, take}
-use Rattle.std.specs.List.{last_or}
 use Rattle.fl_base.specs.Causes.{Appends, AppendsFront}
 use Rattle.fl_cursor.specs.Cursor.{mark_of, left_of}
 use Rattle.fl_cursor.specs.Reads.{most_of, least_of}
@@ -10,6 +9,7 @@ use Rattle.fl_frame.specs.Contents.{Contents}
 use Rattle.fl_page.specs.declared.fault.ReadFault.TheVariants.{Flash, BadPage}
 use Rattle.fl_words.specs.Reply.{texts}
 use Rattle.fl_session.specs.Rows.{row_reply}
+use Rattle.fl_session.specs.RowsGiven.{mark_behind}
 use Rattle.fl_session.specs.declared.listing.ListFault.{ListFault}
 use Rattle.fl_session.specs.declared.listing.ListFault.TheVariants.{Sink, Read}
 
@@ -17,7 +17,7 @@ use Rattle.fl_session.specs.declared.listing.ListFault.TheVariants.{Sink, Read}
 -- cursor is moved behind them.
 pub record Gave (blobs : Bool) (old new : Cursor 64 64) (contents : Contents) (told told_now : Option (List ℕ)) (rows : List Row) : Type 0 where
   pub left : left_of old contents ≡ rows ++ left_of new contents
-  pub mark : mark_of new ≡ record (mark_of old) { after = last_or (mark_of old).after (map (λ row. row.key) rows) }
+  pub mark : mark_of new ≡ mark_behind (mark_of old) rows
   pub wrote : Appends told told_now (texts (map (row_reply blobs) rows))
 
 -- As many as were wanted were given, or all that were left, and counted. Or a read failed after some, or the sink in a

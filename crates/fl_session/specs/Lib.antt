@@ -32,6 +32,8 @@ pub mod Load
 pub mod LoadSays
 pub mod Run
 pub mod Rows
+pub mod RowsGiven
+pub mod Rising
 pub mod Listed
 pub mod ListSays
 pub mod Looked

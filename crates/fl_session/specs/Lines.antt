@@ -28,6 +28,10 @@ LineSteps (Ok None) before after = before ≡ []
 LineSteps (Err (Flash fault)) before after = Unit {0}
 LineSteps (Err (BadPage bad)) before after = ⊥
 
+-- these lines were made between one state and another
+abbrev pub MadeFrom : {Lines : Type 0} → (Lines → Lines → List words.Reply → Type 0) → Lines → List words.Reply → Type 0
+MadeFrom {Lines} made first lines = (last : Lines) × made first last lines
+
 -- The count of reads rose from one number to another while lines were listed: by at most so many, and where all were listed
 -- by at least so many, unless it is at its end.
 pub record ReadsLines (most least reads reads_now : ℕ) (result : Result ℕ ListFault) : Type 0 where

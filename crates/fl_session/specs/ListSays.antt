@@ -1,6 +1,5 @@
 -- The replies of a command that lists, over any bytes and on any medium.
 use Rattle.std.specs.Prelude.{◌≡◌, ◌⊎◌, ℕ, ◌-◌, ◌^◌, ◌≤◌, ◌++◌, Option, Result, Ok, Err, List, [], ◌∷◌, length}
-use Rattle.std.specs.List.{AllByRecursion}
 use Rattle.fl_base.specs.Causes.{Appends, AppendsFront}
 use Rattle.fl_base.specs.declared.stream.SinkFailed.{SinkFailed}
 use Rattle.fl_cursor.specs.Cursor.{IfBad, MayBeBad}
@@ -21,14 +20,10 @@ use Rattle.fl_session.specs.Nexts.{ending_of}
 use Rattle.fl_session.specs.declared.listing.ListFault.{ListFault}
 use Rattle.fl_session.specs.declared.listing.ListFault.TheVariants.{Sink, Read}
 
--- the line of a row, of its fields, of a group, of a pair
-abbrev pub IsRow : Reply → Type 0
-IsRow (reply.Row key values note) = Unit {0}
-IsRow _ = ⊥
-
-abbrev pub IsFields : Reply → Type 0
-IsFields (reply.Fields fields) = Unit {0}
-IsFields _ = ⊥
+-- the line of so many fields, of a group, of a pair
+abbrev pub IsFields : ℕ → Reply → Type 0
+IsFields count (reply.Fields fields) = length fields ≡ count
+IsFields count _ = ⊥
 
 abbrev pub IsGroup : Reply → Type 0
 IsGroup (reply.Group group count least greatest sum mean) = Unit {0}
@@ -44,37 +39,37 @@ pub record IsLineOf (IsLine : Reply → Type 0) (made : code.Reply) : Type 0 whe
   pub text_is : reply_text made ≡ text line
   pub is_line : IsLine line
 
--- so many lines of this kind were written, and no more than a number
-pub record WroteLines (IsLine : Reply → Type 0) (most : ℕ) (told told_now : Option (List ℕ)) (count : ℕ) : Type 0 where
+-- so many lines were written, of which this holds, and no more than a number
+pub record WroteLines (AreLines : List Reply → Type 0) (most : ℕ) (told told_now : Option (List ℕ)) (count : ℕ) : Type 0 where
   pub lines : List Reply
-  pub are_lines : AllByRecursion IsLine lines
+  pub are_lines : AreLines lines
   pub many : length lines ≡ count
   pub upto : count ≤ most
   pub wrote : Appends told told_now (texts lines)
 
 -- .. and the sink failed in one of them
-pub record WroteInto (IsLine : Reply → Type 0) (most : ℕ) (told told_now : Option (List ℕ)) : Type 0 where
+pub record WroteInto (AreLines : List Reply → Type 0) (most : ℕ) (told told_now : Option (List ℕ)) : Type 0 where
   pub lines : List Reply
-  pub are_lines : AllByRecursion IsLine lines
+  pub are_lines : AreLines lines
   pub upto : length lines ≤ most
   pub wrote : AppendsFront told told_now (texts lines)
 
--- Lines of this kind were written and counted. Or the sink failed in one of them, or a page behind some of them wasn't read.
-abbrev pub GivesLines : (Reply → Type 0) → (BadPage → Type 0) → ℕ → Option (List ℕ) → Option (List ℕ) → Result ℕ ListFault → Type 0
-GivesLines IsLine IsBad most told told_now (Ok count) = WroteLines IsLine most told told_now count
-GivesLines IsLine IsBad most told told_now (Err (Sink failed)) = WroteInto IsLine most told told_now
-GivesLines IsLine IsBad most told told_now (Err (Read fault)) = ((count : ℕ) × WroteLines IsLine most told told_now count) × IfBad IsBad fault
+-- Lines of which this holds were written and counted. Or the sink failed in one of them, or a page behind some of them wasn't read.
+abbrev pub GivesLines : (List Reply → Type 0) → (BadPage → Type 0) → ℕ → Option (List ℕ) → Option (List ℕ) → Result ℕ ListFault → Type 0
+GivesLines AreLines IsBad most told told_now (Ok count) = WroteLines AreLines most told told_now count
+GivesLines AreLines IsBad most told told_now (Err (Sink failed)) = WroteInto AreLines most told told_now
+GivesLines AreLines IsBad most told told_now (Err (Read fault)) = ((count : ℕ) × WroteLines AreLines most told told_now count) × IfBad IsBad fault
 
 -- what is said behind lines: how many they are, or that a page wasn't read; and nothing more to a sink that failed
 abbrev pub SaysEnd : Result ℕ ListFault → Option (List ℕ) → Option (List ℕ) → Result (Unit {0}) SinkFailed → Type 0
 SaysEnd (Ok count) told told_now result = Written told told_now result (text (reply.EndCount count))
 SaysEnd (Err why) told told_now result = SaysFault why told told_now result
 
--- Lines of this kind were written, and behind them one that ends the list, by their number; or a front of all these where the
--- sink failed.
-pub record ListSays {E : Type 0} (IsLine : Reply → Type 0) (Ends : ℕ → Reply → Type 0) (told told_now : Option (List ℕ)) (result : Result (Unit {0}) E) : Type 0 where
+-- Lines of which this holds were written, and behind them one that ends the list, by their number; or a front of all these where
+-- the sink failed.
+pub record ListSays {E : Type 0} (AreLines : List Reply → Type 0) (Ends : ℕ → Reply → Type 0) (told told_now : Option (List ℕ)) (result : Result (Unit {0}) E) : Type 0 where
   pub lines : List Reply
-  pub are_lines : AllByRecursion IsLine lines
+  pub are_lines : AreLines lines
   pub last : Reply
   pub ends : Ends (length lines) last
   pub written : Written told told_now result (texts (lines ++ last ∷ []))

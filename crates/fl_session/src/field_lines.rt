@@ -1,5 +1,6 @@
 // The fields of a projection as lines.
-ghost use Rattle.std.specs.Prelude.{◌≡◌, ◌≤◌, true, length, map};
+ghost use Rattle.std.specs.Prelude.{◌≡◌, ◌≤◌, true, length, map, refl};
+ghost use Rattle.std.specs.List.{AllByRecursion};
 ghost use Rattle.fl_model.specs.Operators.{project};
 ghost use Rattle.fl_words.specs.Reply as words;
 ghost use Rattle.fl_ops.specs.Columns.{records_of};
@@ -34,7 +35,9 @@ impl<F: Flash, R: Rows<F>> ReplyLines<F> for Project<'_, R> {
 
     ghost told = { λ rows. R.told (input_of rows) };
 
-    ghost is_line = { IsFields };
+    ghost made = { λ first rows written. (columns_of rows ≡ columns_of first) × AllByRecursion (IsFields (length (columns_of first))) written };
+
+    ghost made_none = { λ rows. (refl, tt) };
 
     ghost passes = { λ rows. R.passes (input_of rows) };
 

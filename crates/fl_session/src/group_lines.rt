@@ -1,5 +1,6 @@
 // Groups as lines.
 ghost use Rattle.std.specs.Prelude.{◌≡◌, map};
+ghost use Rattle.std.specs.List.{AllByRecursion};
 ghost use Rattle.fl_words.specs.Reply.{text};
 ghost use Rattle.fl_script.specs.ReplyView.{reply_text};
 ghost use Rattle.fl_machine.specs.Step.{group_reply};
@@ -33,7 +34,9 @@ impl<F: Flash, R: Rows<F>> ReplyLines<F> for Aggregate<R> {
 
     ghost told = { λ groups. R.told (input_of groups) };
 
-    ghost is_line = { IsGroup };
+    ghost made = { λ first groups. AllByRecursion IsGroup };
+
+    ghost made_none = { λ groups. tt };
 
     ghost passes = { λ groups. R.passes (input_of groups) };
 

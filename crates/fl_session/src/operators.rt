@@ -1,5 +1,6 @@
 // What the operators make of the rows of a range, listed.
 ghost use Rattle.std.specs.Prelude.{◌≡◌, ◌+◌, ◌≤◌, ◌<◌, ◌^◌, ℕ, None, IsTrue, true, length, map, filter};
+ghost use Rattle.std.specs.List.{AllByRecursion};
 ghost use Rattle.fl_base.specs.Causes.{HasCause};
 ghost use Rattle.fl_flash.specs.Flash.{FlashState};
 ghost use Rattle.fl_machine.specs.Step.{note_of, group_reply, pair_reply};
@@ -11,7 +12,8 @@ ghost use Rattle.fl_frame.specs.Contents.{contents_of, OnlyReads};
 ghost use Rattle.fl_table.specs.Look.{layout_in};
 ghost use Rattle.fl_table.specs.Memory.{is_running, LiesOn};
 ghost use Rattle.fl_table.specs.Standing.{Stands};
-ghost use Rattle.fl_cursor.specs.Cursor.{table_of, present_of, rows_name, index_name, left_of, IsReady, IsTold};
+ghost use Rattle.fl_cursor.specs.Asked.{above_of, above_range};
+ghost use Rattle.fl_cursor.specs.Cursor.{table_of, asked_of, present_of, rows_name, index_name, left_of, IsReady, IsTold};
 ghost use Rattle.fl_cursor.specs.Reads.{most_of, least_of};
 ghost use Rattle.fl_ops.specs.Columns.{records_of, row_passes};
 ghost use Rattle.fl_ops.specs.Groups as grouped;
@@ -20,9 +22,10 @@ ghost use Rattle.fl_ops.specs.Select as selected;
 ghost use Rattle.fl_words.specs.Reply as words;
 ghost use Rattle.fl_session.specs.Rows.{row_reply};
 ghost use Rattle.fl_session.specs.Asked.{asked_records, lacked_column};
-ghost use Rattle.fl_session.specs.ListSays.{EndsOn, EndsOnBoth, IsFields, IsGroup, IsPair, IsRow, ListSays};
+ghost use Rattle.fl_session.specs.ListSays.{EndsOn, EndsOnBoth, IsFields, IsGroup, IsPair, ListSays};
 ghost use Rattle.fl_session.specs.Lines.{Counted};
 ghost use Rattle.fl_session.specs.Paired.{pair_lines};
+ghost use Rattle.fl_session.specs.Rising.{AreRising, IsRow};
 ghost use Rattle.fl_session.specs.Standing.{HasRooms};
 
 use crate::buffers::Buffers;
@@ -58,7 +61,7 @@ fn list_selected<F: Flash, K: Sink>(
     ensures index_name { index_name (selected.input_of lines.new.rows) ≡ index_name (selected.input_of lines.old.rows) }
     ensures ready { IsReady (selected.input_of lines.new.rows) (contents_of (F.state flash.old)) }
     ensures cause { HasCause (K.faults out.old) (K.faults out.new) result }
-    ensures says { ListSays IsRow (EndsOn (table_of (selected.input_of lines.old.rows)) (F.state flash.old) (F.state flash.new)) (K.written out.old) (K.written out.new) result }
+    ensures says { ListSays (AreRising IsRow (above_of (asked_of (selected.input_of lines.old.rows)))) (EndsOn (table_of (selected.input_of lines.old.rows)) (F.state flash.old) (F.state flash.new)) (K.written out.old) (K.written out.new) result }
     ensures counted { IsTold (selected.input_of lines.old.rows) (contents_of (F.state flash.old)) → length (left_of (selected.input_of lines.old.rows) (contents_of (F.state flash.old))) < 2 ^ 63 → (F.state flash.old).is_on ≡ true →
         Counted (map (row_reply lines.old.blobs) (filter (row_passes (selected.comparison_of lines.old.rows)) (left_of (selected.input_of lines.old.rows) (contents_of (F.state flash.old)))))
         (most_of (selected.input_of lines.old.rows) (contents_of (F.state flash.old))) (least_of (selected.input_of lines.old.rows) (contents_of (F.state flash.old)))
@@ -84,7 +87,7 @@ pub(crate) fn select<F: Flash, K: Sink>(
     ensures lies { LiesOn table.now (F.state flash.new) }
     ensures room { HasRooms buf.new (F.state flash.old).geometry.page }
     ensures cause { HasCause (K.faults out.old) (K.faults out.new) result }
-    ensures says { ListSays IsRow (EndsOn table.now (F.state flash.old) (F.state flash.new)) (K.written out.old) (K.written out.new) result }
+    ensures says { ListSays (AreRising IsRow (above_range range.low None)) (EndsOn table.now (F.state flash.old) (F.state flash.new)) (K.written out.old) (K.written out.new) result }
     ensures counted { (first : ℕ) → (plan : Plan) → (t : model.Table) → IsTrue (F.state flash.old).media.tells → (F.state flash.old).is_on ≡ true → Stands table.now (F.state flash.old) first plan t →
         Counted (map (note_of plan) (operators.select comparison.column comparison.op comparison.value (asked_records range t))) (scan_limit 64 plan t range None range.low) (least_reads plan t range None)
         (K.written out.old) (K.written out.new) (F.state flash.old).media.faults (F.state flash.new).media.faults (F.state flash.old).work.reads (F.state flash.new).work.reads result }
@@ -136,7 +139,7 @@ fn list_projected<F: Flash, K: Sink>(
     ensures index_name { index_name (projected.input_of rows.new) ≡ index_name (projected.input_of rows.old) }
     ensures ready { IsReady (projected.input_of rows.new) (contents_of (F.state flash.old)) }
     ensures cause { HasCause (K.faults out.old) (K.faults out.new) result }
-    ensures says { ListSays IsFields (EndsOn (table_of (projected.input_of rows.old)) (F.state flash.old) (F.state flash.new)) (K.written out.old) (K.written out.new) result }
+    ensures says { ListSays (AllByRecursion (IsFields (length (projected.columns_of rows.old)))) (EndsOn (table_of (projected.input_of rows.old)) (F.state flash.old) (F.state flash.new)) (K.written out.old) (K.written out.new) result }
     ensures counted { IsTold (projected.input_of rows.old) (contents_of (F.state flash.old)) → length (left_of (projected.input_of rows.old) (contents_of (F.state flash.old))) < 2 ^ 63 → (F.state flash.old).is_on ≡ true →
         Counted (map words.Fields (operators.project (projected.columns_of rows.old) (records_of (left_of (projected.input_of rows.old) (contents_of (F.state flash.old))))))
         (most_of (projected.input_of rows.old) (contents_of (F.state flash.old))) (least_of (projected.input_of rows.old) (contents_of (F.state flash.old)))
@@ -163,7 +166,7 @@ pub(crate) fn project<F: Flash, K: Sink>(
     ensures lies { LiesOn table.now (F.state flash.new) }
     ensures room { HasRooms buf.new (F.state flash.old).geometry.page }
     ensures cause { HasCause (K.faults out.old) (K.faults out.new) result }
-    ensures says { ListSays IsFields (EndsOn table.now (F.state flash.old) (F.state flash.new)) (K.written out.old) (K.written out.new) result }
+    ensures says { ListSays (AllByRecursion (IsFields (length columns.now))) (EndsOn table.now (F.state flash.old) (F.state flash.new)) (K.written out.old) (K.written out.new) result }
     ensures counted { (first : ℕ) → (plan : Plan) → (t : model.Table) → IsTrue (F.state flash.old).media.tells → (F.state flash.old).is_on ≡ true → Stands table.now (F.state flash.old) first plan t →
         Counted (map words.Fields (operators.project columns.now (asked_records range t))) (scan_limit 64 plan t range None range.low) (least_reads plan t range None)
         (K.written out.old) (K.written out.new) (F.state flash.old).media.faults (F.state flash.new).media.faults (F.state flash.old).work.reads (F.state flash.new).work.reads result }
@@ -186,7 +189,7 @@ fn list_groups<F: Flash, K: Sink>(
     ensures index_name { index_name (grouped.input_of groups.new) ≡ index_name (grouped.input_of groups.old) }
     ensures ready { IsReady (grouped.input_of groups.new) (contents_of (F.state flash.old)) }
     ensures cause { HasCause (K.faults out.old) (K.faults out.new) result }
-    ensures says { ListSays IsGroup (EndsOn (table_of (grouped.input_of groups.old)) (F.state flash.old) (F.state flash.new)) (K.written out.old) (K.written out.new) result }
+    ensures says { ListSays (AllByRecursion IsGroup) (EndsOn (table_of (grouped.input_of groups.old)) (F.state flash.old) (F.state flash.new)) (K.written out.old) (K.written out.new) result }
     ensures counted { IsTold (grouped.input_of groups.old) (contents_of (F.state flash.old)) →
         length (grouped.groups_left groups.old (present_of (grouped.input_of groups.old)) (left_of (grouped.input_of groups.old) (contents_of (F.state flash.old)))) < 2 ^ 63 → (F.state flash.old).is_on ≡ true →
         Counted (map group_reply (grouped.groups_left groups.old (present_of (grouped.input_of groups.old)) (left_of (grouped.input_of groups.old) (contents_of (F.state flash.old)))))
@@ -216,7 +219,7 @@ pub(crate) fn aggregate<F: Flash, K: Sink>(
     ensures lies { LiesOn table.now (F.state flash.new) }
     ensures room { HasRooms buf.new (F.state flash.old).geometry.page }
     ensures cause { HasCause (K.faults out.old) (K.faults out.new) result }
-    ensures says { ListSays IsGroup (EndsOn table.now (F.state flash.old) (F.state flash.new)) (K.written out.old) (K.written out.new) result }
+    ensures says { ListSays (AllByRecursion IsGroup) (EndsOn table.now (F.state flash.old) (F.state flash.new)) (K.written out.old) (K.written out.new) result }
     ensures counted { (first : ℕ) → (plan : Plan) → (t : model.Table) → IsTrue (F.state flash.old).media.tells → (F.state flash.old).is_on ≡ true → Stands table.now (F.state flash.old) first plan t →
         Counted (map group_reply (operators.aggregate column width (asked_records range t))) (scan_limit 64 plan t range None range.low) (least_reads plan t range None)
         (K.written out.old) (K.written out.new) (F.state flash.old).media.faults (F.state flash.new).media.faults (F.state flash.old).work.reads (F.state flash.new).work.reads result }
@@ -248,7 +251,7 @@ fn answer_pairs<F: Flash, K: Sink>(
     ensures left_ready { IsReady left.new (contents_of (F.state flash.old)) }
     ensures right_ready { IsReady right.new (contents_of (F.state flash.old)) }
     ensures cause { HasCause (K.faults out.old) (K.faults out.new) result }
-    ensures says { ListSays IsPair (EndsOnBoth (table_of left.old) (table_of right.old) (F.state flash.old) (F.state flash.new)) (K.written out.old) (K.written out.new) result }
+    ensures says { ListSays (AllByRecursion IsPair) (EndsOnBoth (table_of left.old) (table_of right.old) (F.state flash.old) (F.state flash.new)) (K.written out.old) (K.written out.new) result }
     ensures counted { IsTold left.old (contents_of (F.state flash.old)) → IsTold right.old (contents_of (F.state flash.old)) →
         length (pair_lines (left_of left.old (contents_of (F.state flash.old))) (left_of right.old (contents_of (F.state flash.old)))) < 2 ^ 63 → (F.state flash.old).is_on ≡ true →
         Counted (pair_lines (left_of left.old (contents_of (F.state flash.old))) (left_of right.old (contents_of (F.state flash.old))))
@@ -276,7 +279,7 @@ pub(crate) fn join<F: Flash, K: Sink>(
     ensures reads_only { OnlyReads (F.state flash.old) (F.state flash.new) }
     ensures room { HasRooms buf.new (F.state flash.old).geometry.page }
     ensures cause { HasCause (K.faults out.old) (K.faults out.new) result }
-    ensures says { ListSays IsPair (EndsOnBoth left.now right.now (F.state flash.old) (F.state flash.new)) (K.written out.old) (K.written out.new) result }
+    ensures says { ListSays (AllByRecursion IsPair) (EndsOnBoth left.now right.now (F.state flash.old) (F.state flash.new)) (K.written out.old) (K.written out.new) result }
     ensures counted { (first second : ℕ) → (a b : Plan) → (t u : model.Table) → IsTrue (F.state flash.old).media.tells → (F.state flash.old).is_on ≡ true →
         Stands left.now (F.state flash.old) first a t → Stands right.now (F.state flash.old) second b u →
         Counted (map pair_reply (operators.key_join (asked_records range t) (asked_records range u))) (scan_limit 64 a t range None range.low + scan_limit 64 b u range None range.low) 0

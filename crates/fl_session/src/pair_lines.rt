@@ -1,5 +1,6 @@
 // Pairs of rows as lines.
 ghost use Rattle.std.specs.Prelude.{◌≡◌, ◌⊎◌, ◌+◌, ◌-◌, ◌≤◌, ◌<◌, ◌^◌, true, length, map, Err, IfErr, IfOk, IfSome};
+ghost use Rattle.std.specs.List.{AllByRecursion};
 ghost use Rattle.fl_flash.specs.Flash.{FlashState};
 ghost use Rattle.fl_machine.specs.Step.{pair_reply};
 ghost use Rattle.fl_ops.specs.Inputs.{Continues};
@@ -89,7 +90,7 @@ pub(crate) fn list_pairs<F: Flash, A: Rows<F>, B: Rows<F>, K: Sink>(
     ensures left { Continues A.names A.schema A.above A.ready A.told A.passes (contents_of (F.state flash.old)) left.old left.new }
     ensures right { Continues B.names B.schema B.above B.ready B.told B.passes (contents_of (F.state flash.old)) right.old right.new }
     ensures cause { HasSinkCause (K.faults out.old) (K.faults out.new) result }
-    ensures lines { GivesLines IsPair (λ bad. A.passes left.old (contents_of (F.state flash.old)) bad ⊎ B.passes right.old (contents_of (F.state flash.old)) bad) (2 ^ 64 - 1) (K.written out.old) (K.written out.new) result }
+    ensures lines { GivesLines (AllByRecursion IsPair) (λ bad. A.passes left.old (contents_of (F.state flash.old)) bad ⊎ B.passes right.old (contents_of (F.state flash.old)) bad) (2 ^ 64 - 1) (K.written out.old) (K.written out.new) result }
     ensures unread { IfErr result (IfUnread (F.state flash.old) (F.state flash.new)) }
     ensures lists { A.told left.old (contents_of (F.state flash.old)) → B.told right.old (contents_of (F.state flash.old)) →
         length (pair_lines (A.left left.old (contents_of (F.state flash.old))) (B.left right.old (contents_of (F.state flash.old)))) < 2 ^ 63 → (F.state flash.old).is_on ≡ true →

@@ -1,5 +1,5 @@
 // Lines that are made one after another, and listed.
-ghost use Rattle.std.specs.Prelude.{◌≡◌, ℕ, ◌+◌, ◌-◌, ◌^◌, ◌<◌, ◌≤◌, true, List, Option, length, Ok, Err, OnOk, IfErr, IfOk, IfNone, IfSome};
+ghost use Rattle.std.specs.Prelude.{◌≡◌, ℕ, ◌+◌, ◌-◌, ◌^◌, ◌<◌, ◌≤◌, true, List, [], ◌∷◌, ◌++◌, Option, length, Ok, Err, OnOk, IfErr, IfOk, IfNone, IfSome};
 ghost use Rattle.std.specs.Borrow.{GName};
 ghost use Rattle.fl_base.specs.Causes.{HasCause};
 ghost use Rattle.fl_flash.specs.Flash.{FlashState};
@@ -10,7 +10,7 @@ ghost use Rattle.fl_page.specs.declared.fault.BadPage.{BadPage};
 ghost use Rattle.fl_words.specs.Reply as words;
 ghost use Rattle.fl_session.specs.ListSays.{EndsCounted, GivesLines, IsLineOf, ListSays, SaysEnd};
 ghost use Rattle.fl_session.specs.Listed.{FaultIsRead, IfUnread};
-ghost use Rattle.fl_session.specs.Lines.{LineSteps, Counted, ListsAll, ReadsLines, HasSinkCause};
+ghost use Rattle.fl_session.specs.Lines.{LineSteps, Counted, ListsAll, ReadsLines, HasSinkCause, MadeFrom};
 
 use crate::listing::{ListFault, write_fault};
 use fl_base::{Sink, SinkFailed};
@@ -29,8 +29,8 @@ pub(crate) trait ReplyLines<F: Flash> {
     /// Whether the lines left are told over a flash that holds this.
     ghost told: { Self → Contents → Type 0 };
 
-    /// Of which kind they are.
-    ghost is_line: { words.Reply → Type 0 };
+    /// What is said of the lines that it makes from one state to another.
+    ghost made: { Self → Self → List words.Reply → Type 0 };
 
     /// Which pages may be bad in a flash that holds this.
     ghost passes: { Self → Contents → BadPage → Type 0 };
@@ -50,7 +50,7 @@ pub(crate) trait ReplyLines<F: Flash> {
         ensures cause { IfErr result (λ fault. IsCaused (F.state flash.old) fault (F.state flash.new)) }
         ensures names { names self.new ≡ names self.old }
         ensures stays_ready { (contents : Contents) → ready self.old columns contents → ready self.new columns contents }
-        ensures kind { IfOk result (λ line. IfSome line (λ reply. IsLineOf is_line reply)) }
+        ensures makes { (first : Self) (before : List words.Reply) → made first self.old before → IfOk result (λ line. IfSome line (λ reply. IsLineOf (λ shown. made first self.new (before ++ shown ∷ [])) reply)) }
         ensures bad_page { (bad : BadPage) → result ≡ Err (ReadFault.BadPage bad) → passes self.old (contents_of (F.state flash.old)) bad }
         ensures same_test { (contents : Contents) (bad : BadPage) → passes self.new contents bad → passes self.old contents bad }
         ensures stays_told { told self.old (contents_of (F.state flash.old)) → told self.new (contents_of (F.state flash.old)) }
@@ -61,6 +61,9 @@ pub(crate) trait ReplyLines<F: Flash> {
         ensures least { told self.old (contents_of (F.state flash.old)) → (F.state flash.new).work.reads < 2 ^ 64 - 1 →
             OnOk result ((F.state flash.old).work.reads + least self.old (contents_of (F.state flash.old)) ≤ (F.state flash.new).work.reads + least self.new (contents_of (F.state flash.old))) }
         ensures none_left { told self.old (contents_of (F.state flash.old)) → IfOk result (λ line. IfNone line (least self.new (contents_of (F.state flash.old)) ≡ 0)) };
+
+    /// From a state to itself it has made none.
+    ghost made_none: { (lines : Self) → made lines lines [] };
 }
 
 /// Lists the lines, and counts them.
@@ -75,7 +78,7 @@ pub(crate) fn list_lines<F: Flash, L: ReplyLines<F>, K: Sink>(
     ensures names { L.names lines.new ≡ L.names lines.old }
     ensures stays_ready { (contents : Contents) → L.ready lines.old columns contents → L.ready lines.new columns contents }
     ensures cause { HasSinkCause (K.faults out.old) (K.faults out.new) result }
-    ensures lines { GivesLines L.is_line (L.passes lines.old (contents_of (F.state flash.old))) (2 ^ 64 - 1) (K.written out.old) (K.written out.new) result }
+    ensures lines { GivesLines (MadeFrom L.made lines.old) (L.passes lines.old (contents_of (F.state flash.old))) (2 ^ 64 - 1) (K.written out.old) (K.written out.new) result }
     ensures unread { IfErr result (IfUnread (F.state flash.old) (F.state flash.new)) }
     ensures lists { L.told lines.old (contents_of (F.state flash.old)) → length (L.lines lines.old (contents_of (F.state flash.old))) < 2 ^ 63 → (F.state flash.old).is_on ≡ true →
         ListsAll (L.lines lines.old (contents_of (F.state flash.old))) (K.written out.old) (K.written out.new) (F.state flash.old).media.faults (F.state flash.new).media.faults result }
@@ -121,7 +124,7 @@ pub(crate) fn answer_lines<F: Flash, L: ReplyLines<F>, K: Sink>(
     ensures names { L.names lines.new ≡ L.names lines.old }
     ensures stays_ready { (contents : Contents) → L.ready lines.old columns contents → L.ready lines.new columns contents }
     ensures cause { HasCause (K.faults out.old) (K.faults out.new) result }
-    ensures says { ListSays L.is_line (EndsCounted (L.passes lines.old (contents_of (F.state flash.old))) (F.state flash.old) (F.state flash.new)) (K.written out.old) (K.written out.new) result }
+    ensures says { ListSays (MadeFrom L.made lines.old) (EndsCounted (L.passes lines.old (contents_of (F.state flash.old))) (F.state flash.old) (F.state flash.new)) (K.written out.old) (K.written out.new) result }
     ensures counted { L.told lines.old (contents_of (F.state flash.old)) → length (L.lines lines.old (contents_of (F.state flash.old))) < 2 ^ 63 → (F.state flash.old).is_on ≡ true →
         Counted (L.lines lines.old (contents_of (F.state flash.old))) (L.most lines.old (contents_of (F.state flash.old))) (L.least lines.old (contents_of (F.state flash.old)))
         (K.written out.old) (K.written out.new) (F.state flash.old).media.faults (F.state flash.new).media.faults (F.state flash.old).work.reads (F.state flash.new).work.reads result }

@@ -1,6 +1,6 @@
 // The rows of a selection as lines.
 ghost use Rattle.std.specs.Prelude.{◌≡◌, ◌≤◌, length, map};
-ghost use Rattle.fl_session.specs.ListSays.{IsRow};
+ghost use Rattle.fl_session.specs.Rising.{IsRow, RiseTo};
 ghost use Rattle.fl_session.specs.Rows.{row_reply};
 
 use crate::reply_lines::ReplyLines;
@@ -24,7 +24,9 @@ impl<F: Flash, R: Rows<F>> ReplyLines<F> for RowLines<R> {
 
     ghost told = { λ lines. ⟦<Select<R> as Rows<F>>⟧.told lines.rows };
 
-    ghost is_line = { IsRow };
+    ghost made = { λ first lines. RiseTo IsRow (⟦<Select<R> as RowHere>⟧.above first.rows) (⟦<Select<R> as RowHere>⟧.above lines.rows) };
+
+    ghost made_none = { λ lines number later. later };
 
     ghost passes = { λ lines. ⟦<Select<R> as Rows<F>>⟧.passes lines.rows };
 

@@ -10,35 +10,3 @@ mod knots;
 mod spline;
 
 pub use spline::Spline;
-
-#[cfg(test)]
-mod tests {
-    use super::*;
-
-    fn page_of(spline: &Spline<2>, key: u64) -> Option<u32> {
-        let i = spline.segment(key)?;
-        Some(spline.estimate(i, key))
-    }
-
-    // The segment from (0, 0) can't reach (30, 5): its line would pass (20, 2) at page 3 1/3, and the error is 1.
-    #[test]
-    fn keeps_the_newest_knots(rt: HostRuntime) {
-        let mut spline: Spline<2> = Spline::new(1);
-        assert!(rt; spline.covered_from().is_none());
-        spline.add(0, 0);
-        spline.add(10, 1);
-        spline.add(20, 2);
-        spline.add(30, 5);
-        spline.add(40, 6);
-        assert_eq!(rt; spline.knots(), 2);
-        assert_eq!(rt; spline.knot(0), (20, 2));
-        assert_eq!(rt; spline.knot(1), (40, 6));
-        assert_eq!(rt; spline.covered_from(), Some(20));
-        assert!(rt; spline.segment(19).is_none());
-        assert_eq!(rt; spline.segment(39), Some(0));
-        assert_eq!(rt; page_of(&spline, 39), Some(5));
-        assert_eq!(rt; page_of(&spline, u64::MAX), Some(6));
-        spline.clear();
-        assert!(rt; spline.segment(40).is_none());
-    }
-}

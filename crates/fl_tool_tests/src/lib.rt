@@ -9,6 +9,8 @@ mod exports;
 #[cfg(test)]
 mod full_entries;
 #[cfg(test)]
+mod image_checks;
+#[cfg(test)]
 mod imports;
 #[cfg(test)]
 mod log_jobs;

@@ -1,13 +1,15 @@
 use Rattle.std.proofs.Common.{◌∙◌, List, ℕ, Ok, Err, sym, subst}
 use Rattle.fl_frame.specs.Contents.{contents_of}
 use Rattle.fl_script.specs.Written.{Written}
-use Rattle.fl_cursor.specs.Cursor.{MayBeBad}
+use Rattle.fl_cursor.specs.Cursor.{mark_of, MayBeBad}
 use Rattle.fl_table.specs.declared.table.Table.{Table}
-use Rattle.fl_session.specs.ListSays.{GivesLines, IsRow}
+use Rattle.fl_session.specs.ListSays.{EndsNext, GivesLines}
 use Rattle.fl_session.specs.Nexts.{ending_of}
+use Rattle.fl_session.specs.RowsGiven.{MovesOver}
 use Rattle.fl_session.proofs.AnyLines.{list-ends, list-fails}
 use Rattle.fl_session.proofs.NextRows.{nexts-given, nexts-fault, reads-within}
 use Rattle.fl_session.proofs.RowLines.{blobs-as}
+use Rattle.fl_session.proofs.RowsInTurn.{moves-by}
 use Rattle.fl_session.proofs.Resumed.{is-standing, left-there, nexts-by}
 use Rattle.fl_session.proofs.cursors.next_rows.Goals as goal
 
@@ -25,14 +27,17 @@ returns-in-Ok-clause-nexts g c = λ first plan t tells on stands.
 
 pub returns-in-Ok-clause-lines : goal.returns-in-Ok-clause-lines
 returns-in-Ok-clause-lines g c =
-    list-ends IsRow (ending_of c.args.count) c.args.count (MayBeBad c.args.table.now (contents_of (g.F.Flash.state c.args.flash.now))) (g.F.Flash.state c.args.flash.now) (g.F.Flash.state c.give_rows-given.new.flash) _ _ _ _ c.in-Ok.given
-    (subst (λ (t : Table 64 64). GivesLines IsRow (MayBeBad t (contents_of (g.F.Flash.state c.args.flash.now))) c.args.count (g.K.Sink.written c.args.out.now) (g.K.Sink.written c.give_rows-given.new.out) (Ok c.in-Ok.given)) c.resume-cursor.ensures.table c.in-Ok.ensures.lines)
-    (subst (λ (l : List ℕ). Written (g.K.Sink.written c.give_rows-given.new.out) (g.K.Sink.written c.write_reply.new.out) c.write_reply.result l) c.ending.ensures c.write_reply.ensures.text)
+    moves-by (EndsNext c.args.count c.args.table.now (g.F.Flash.state c.args.flash.now) (g.F.Flash.state c.give_rows-given.new.flash)) _ _ _ _ _ _ _ _ c.form_of-form.ensures.blobs c.resume-cursor.ensures.mark _ (sym c.park.ensures.mark)
+    (list-ends (MovesOver c.form_of-form.result.blobs (mark_of c.resume-cursor.result) (mark_of c.give_rows-given.new.cursor)) (ending_of c.args.count) c.args.count (MayBeBad c.args.table.now (contents_of (g.F.Flash.state c.args.flash.now))) (g.F.Flash.state c.args.flash.now) (g.F.Flash.state c.give_rows-given.new.flash) _ _ _ _ c.in-Ok.given
+    (subst (λ (t : Table 64 64). GivesLines (MovesOver c.form_of-form.result.blobs (mark_of c.resume-cursor.result) (mark_of c.give_rows-given.new.cursor)) (MayBeBad t (contents_of (g.F.Flash.state c.args.flash.now))) c.args.count (g.K.Sink.written c.args.out.now) (g.K.Sink.written c.give_rows-given.new.out) (Ok c.in-Ok.given)) c.resume-cursor.ensures.table c.in-Ok.ensures.lines)
+    (subst (λ (l : List ℕ). Written (g.K.Sink.written c.give_rows-given.new.out) (g.K.Sink.written c.write_reply.new.out) c.write_reply.result l) c.ending.ensures c.write_reply.ensures.text))
 
 pub returns-in-Err-clause-lines : goal.returns-in-Err-clause-lines
 returns-in-Err-clause-lines g c =
-    list-fails IsRow (ending_of c.args.count) c.args.count (MayBeBad c.args.table.now (contents_of (g.F.Flash.state c.args.flash.now))) (g.F.Flash.state c.args.flash.now) (g.F.Flash.state c.give_rows-given.new.flash) _ _ _ _ c.in-Err.fault
-    (subst (λ (t : Table 64 64). GivesLines IsRow (MayBeBad t (contents_of (g.F.Flash.state c.args.flash.now))) c.args.count (g.K.Sink.written c.args.out.now) (g.K.Sink.written c.give_rows-given.new.out) (Err c.in-Err.fault)) c.resume-cursor.ensures.table c.in-Err.ensures.lines) c.in-Err.ensures.unread c.write_fault.ensures.says
+    moves-by (EndsNext c.args.count c.args.table.now (g.F.Flash.state c.args.flash.now) (g.F.Flash.state c.give_rows-given.new.flash)) _ _ _ _ _ _ _ _ c.form_of-form.ensures.blobs c.resume-cursor.ensures.mark _ (sym c.park.ensures.mark)
+    (list-fails (MovesOver c.form_of-form.result.blobs (mark_of c.resume-cursor.result) (mark_of c.give_rows-given.new.cursor)) (ending_of c.args.count) c.args.count (MayBeBad c.args.table.now (contents_of (g.F.Flash.state c.args.flash.now))) (g.F.Flash.state c.args.flash.now) (g.F.Flash.state c.give_rows-given.new.flash) _ _ _ _ c.in-Err.fault
+    (subst (λ (t : Table 64 64). GivesLines (MovesOver c.form_of-form.result.blobs (mark_of c.resume-cursor.result) (mark_of c.give_rows-given.new.cursor)) (MayBeBad t (contents_of (g.F.Flash.state c.args.flash.now))) c.args.count (g.K.Sink.written c.args.out.now) (g.K.Sink.written c.give_rows-given.new.out) (Err c.in-Err.fault)) c.resume-cursor.ensures.table c.in-Err.ensures.lines)
+    c.in-Err.ensures.unread c.write_fault.ensures.says)
 
 pub returns-in-Err-clause-nexts : goal.returns-in-Err-clause-nexts
 returns-in-Err-clause-nexts g c = λ first plan t tells on stands.

@@ -1,20 +1,21 @@
 use Rattle.std.proofs.Common.{◌≡◌, ◌+◌, true, false, Ok, Err, [], ◌∷◌, ◌++◌, length-append, refl, ◌∙◌, ap, subst, arith}
 use Rattle.std.proofs.lemmas.Result.{err_from_is_err_and}
 use Rattle.fl_base.specs.Causes.{Appends, AppendsFront}
-use Rattle.fl_cursor.specs.Cursor.{table_of, present_of, has_ended, IfBad, MayBeBad}
+use Rattle.fl_cursor.specs.Cursor.{table_of, mark_of, present_of, has_ended, IfBad, MayBeBad}
 use Rattle.fl_cursor.specs.Going.{Goes, Fails}
 use Rattle.fl_cursor.proofs.StepsOfRows.{steps-after}
 use Rattle.fl_cursor.proofs.Whole.{keeps-then}
 use Rattle.fl_model.specs.Row.{Row}
 use Rattle.fl_frame.specs.Contents.{Contents, contents_of}
-use Rattle.fl_schema.specs.Schema.{row_of}
 use Rattle.fl_frame.proofs.ContentsInTurn.{OnlyReads-same, OnlyReads-then}
 use Rattle.fl_page.proofs.ReadsInTurn.{IsCaused-later}
 use Rattle.fl_words.specs.Reply.{text}
-use Rattle.fl_session.specs.ListSays.{IsRow, WroteLines}
+use Rattle.fl_session.specs.ListSays.{WroteLines}
 use Rattle.fl_session.specs.Rows.{row_reply}
-use Rattle.fl_session.proofs.AnyLines.{bad-from, wrote-into, wrote-more, wrote-none}
+use Rattle.fl_session.specs.RowsGiven.{MovesOver}
+use Rattle.fl_session.proofs.AnyLines.{bad-from, wrote-as, wrote-into, wrote-more, wrote-none}
 use Rattle.fl_session.proofs.GivenRows.{gave-none, gave-next, gave-failed, gives-fault, gives-all, least-ended}
+use Rattle.fl_session.proofs.RowsInTurn.{over-more, over-none, over-same}
 use Rattle.fl_session.proofs.listing.give_rows.Goals as goal
 
 pub loop-given-init : goal.loop-given-init
@@ -27,7 +28,7 @@ loop-given-init g c = record {
   told = λ told. told;
   most = λ told. omega arith;
   least = λ told below. omega arith;
-  lines = wrote-none _ _ _;
+  lines = wrote-none (MovesOver c.args.form.blobs (mark_of c.args.cursor.now) (mark_of c.args.cursor.now)) _ _ (over-none c.args.form.blobs (mark_of c.args.cursor.now));
   gave = λ told. ([], refl, gave-none c.args.form.blobs c.args.cursor.now (contents_of (g.F.Flash.state c.args.flash.now)) (g.K.Sink.written c.args.out.now));
 }
 
@@ -97,20 +98,34 @@ pub returns-in_err-advance-clause-lines : goal.returns-in_err-advance-clause-lin
 returns-in_err-advance-clause-lines g c =
     let inv = c.loop-given.invariant in
     let p = err_from_is_err_and c.from_residual.result c.from_residual.ensures.1 in
-    rw (p.1, p.2) ((c.loop-given.given, inv.lines), bad-from c.args.cursor.now c.loop-given.cursor (g.F.Flash.state c.args.flash.now) (g.F.Flash.state c.loop-given.flash) c.in_err-advance.field-0.0 inv.keeps inv.counts.contents c.in_err-advance.ensures.bad_page)
+    let fails : Fails (contents_of (g.F.Flash.state c.loop-given.flash)) (g.F.Flash.state c.loop-given.flash).work.reads c.loop-given.cursor (g.F.Flash.state c.advance.new.flash).work.reads c.advance.new.self = c.in_err-advance.ensures.fails in
+    let over = over-same c.args.form.blobs (mark_of c.args.cursor.now) (mark_of c.loop-given.cursor) (mark_of c.advance.new.self) inv.lines.lines inv.lines.are_lines fails.notes in
+    rw (p.1, p.2) (
+      (c.loop-given.given, wrote-as _ (MovesOver c.args.form.blobs (mark_of c.args.cursor.now) (mark_of c.advance.new.self)) _ _ _ _ inv.lines over),
+      bad-from c.args.cursor.now c.loop-given.cursor (g.F.Flash.state c.args.flash.now) (g.F.Flash.state c.loop-given.flash) c.in_err-advance.field-0.0 inv.keeps inv.counts.contents c.in_err-advance.ensures.bad_page,
+    )
 
 pub returns-then-not-branch-clause-lines : goal.returns-then-not-branch-clause-lines
-returns-then-not-branch-clause-lines g c = c.loop-given.invariant.lines
+returns-then-not-branch-clause-lines g c =
+    let inv = c.loop-given.invariant in
+    let goes : Goes false (contents_of (g.F.Flash.state c.loop-given.flash)) (g.F.Flash.state c.loop-given.flash).work.reads c.loop-given.cursor (g.F.Flash.state c.advance.new.flash).work.reads c.advance.new.self = rw c.if-not-branch.true at c.in_ok-advance.ensures.goes in
+    let over = over-same c.args.form.blobs (mark_of c.args.cursor.now) (mark_of c.loop-given.cursor) (mark_of c.advance.new.self) inv.lines.lines inv.lines.are_lines goes.notes in
+    wrote-as _ (MovesOver c.args.form.blobs (mark_of c.args.cursor.now) (mark_of c.advance.new.self)) _ _ _ _ inv.lines over
 
 pub returns-in_err-show_row-clause-lines : goal.returns-in_err-show_row-clause-lines
 returns-in_err-show_row-clause-lines g c =
+    let inv = c.loop-given.invariant in
     let p = err_from_is_err_and c.from_residual-in_err-show_row.result c.from_residual-in_err-show_row.ensures.1 in
-    rw (p.1, p.2) (wrote-into IsRow _ _ _ _ _ c.loop-given.invariant.lines c.loop-given-test.true (row_reply c.args.form.blobs (row_of c.row.result)) tt c.in_err-show_row.ensures.text)
+    let goes : Goes true (contents_of (g.F.Flash.state c.loop-given.flash)) (g.F.Flash.state c.loop-given.flash).work.reads c.loop-given.cursor (g.F.Flash.state c.advance.new.flash).work.reads c.advance.new.self = rw c.if-not-branch.false at c.in_ok-advance.ensures.goes in
+    let over = over-more c.args.form.blobs (mark_of c.args.cursor.now) (mark_of c.loop-given.cursor) (mark_of c.advance.new.self) inv.lines.lines inv.lines.are_lines (present_of c.advance.new.self) goes.notes.0 goes.notes.1 in
+    let wrote : AppendsFront (g.K.Sink.written c.loop-given.out) (g.K.Sink.written c.show_row.new.out) (text (row_reply c.args.form.blobs (present_of c.advance.new.self))) =
+    subst (λ (r : Row). AppendsFront (g.K.Sink.written c.loop-given.out) (g.K.Sink.written c.show_row.new.out) (text (row_reply c.args.form.blobs r))) c.row.ensures.row c.in_err-show_row.ensures.text in
+    rw (p.1, p.2) (wrote-into _ (MovesOver c.args.form.blobs (mark_of c.args.cursor.now) (mark_of c.advance.new.self)) _ _ _ _ inv.lines _ c.loop-given-test.true (row_reply c.args.form.blobs (present_of c.advance.new.self)) over wrote)
 
 pub returns-clause-lines : goal.returns-clause-lines
 returns-clause-lines g c =
     let is : c.loop-given.given ≡ c.args.count = omega (arith, c.loop-given.invariant.upto, c.loop-given-test.false) in
-    subst (λ n. WroteLines IsRow c.args.count (g.K.Sink.written c.args.out.now) (g.K.Sink.written c.loop-given.out) n) is c.loop-given.invariant.lines
+    subst (λ n. WroteLines (MovesOver c.args.form.blobs (mark_of c.args.cursor.now) (mark_of c.loop-given.cursor)) c.args.count (g.K.Sink.written c.args.out.now) (g.K.Sink.written c.loop-given.out) n) is c.loop-given.invariant.lines
 
 pub loop-given-preserved : goal.loop-given-preserved
 loop-given-preserved g c =
@@ -121,6 +136,9 @@ loop-given-preserved g c =
     let goes : Goes true (contents_of (g.F.Flash.state c.args.flash.now)) (g.F.Flash.state c.loop-given.flash).work.reads c.loop-given.cursor (g.F.Flash.state c.advance.new.flash).work.reads c.advance.new.self =
     subst (λ (k : Contents). Goes true k (g.F.Flash.state c.loop-given.flash).work.reads c.loop-given.cursor (g.F.Flash.state c.advance.new.flash).work.reads c.advance.new.self) inv.counts.contents
     (rw c.if-not-branch.false at c.in_ok-advance.ensures.goes) in
+    let over = over-more c.args.form.blobs (mark_of c.args.cursor.now) (mark_of c.loop-given.cursor) (mark_of c.advance.new.self) inv.lines.lines inv.lines.are_lines (present_of c.advance.new.self) goes.notes.0 goes.notes.1 in
+    let wrote : Appends (g.K.Sink.written c.loop-given.out) (g.K.Sink.written c.show_row.new.out) (text (row_reply c.args.form.blobs (present_of c.advance.new.self))) =
+    subst (λ (r : Row). Appends (g.K.Sink.written c.loop-given.out) (g.K.Sink.written c.show_row.new.out) (text (row_reply c.args.form.blobs r))) c.row.ensures.row c.in_ok-show_row.ensures.text in
     record {
       counts = OnlyReads-then _ _ _ inv.counts c.advance.ensures.reads_only;
       keeps = keeps-then c.args.cursor.now mid new inv.keeps goes.keeps;
@@ -137,11 +155,9 @@ loop-given-preserved g c =
           let more = goes.least (inv.told told) below in
           let before = inv.least told (omega (arith, rises, below)) in
           omega (arith, before, more);
-      lines = wrote-more IsRow _ _ _ _ _ inv.lines c.loop-given-test.true (row_reply c.args.form.blobs (row_of c.row.result)) tt c.in_ok-show_row.ensures.text;
+      lines = wrote-more _ (MovesOver c.args.form.blobs (mark_of c.args.cursor.now) (mark_of c.advance.new.self)) _ _ _ _ inv.lines _ c.loop-given-test.true (row_reply c.args.form.blobs (present_of c.advance.new.self)) over wrote;
       gave = λ told.
-          let so_far = inv.gave told in
-          let wrote : Appends (g.K.Sink.written c.loop-given.out) (g.K.Sink.written c.show_row.new.out) (text (row_reply c.args.form.blobs (present_of c.advance.new.self))) =
-          subst (λ (r : Row). Appends (g.K.Sink.written c.loop-given.out) (g.K.Sink.written c.show_row.new.out) (text (row_reply c.args.form.blobs r))) c.row.ensures.row c.in_ok-show_row.ensures.text in (
+          let so_far = inv.gave told in (
             so_far.0 ++ present_of c.advance.new.self ∷ [],
             length-append so_far.0 (present_of c.advance.new.self ∷ []) ∙ ap (λ n. n + 1) so_far.1,
             gave-next c.args.form.blobs c.args.cursor.now mid new held (g.K.Sink.written c.args.out.now) (g.K.Sink.written c.loop-given.out) so_far.0 so_far.2 (present_of c.advance.new.self) (g.K.Sink.written c.show_row.new.out)

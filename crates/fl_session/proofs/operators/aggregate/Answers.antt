@@ -1,5 +1,6 @@
 use Rattle.std.proofs.Common.{◌≡◌, ◌<◌, ◌^◌, None, List, length, map, sym, ◌∙◌, ap, subst, arith, ◌≤◌}
 use Rattle.std.proofs.lemmas.List.{length-map}
+use Rattle.std.specs.List.{AllByRecursion}
 use Rattle.fl_cursor.specs.Cursor.{present_of, left_of, table_of, IsReady, IsTold}
 use Rattle.fl_cursor.specs.Reads.{most_of, least_of}
 use Rattle.fl_cursor.specs.declared.cursor.Cursor.{Cursor}
@@ -11,6 +12,7 @@ use Rattle.fl_model.specs.Row.{Row, stored_row}
 use Rattle.fl_ops.specs.Columns.{records_of, record_of}
 use Rattle.fl_ops.specs.Groups.{groups_left}
 use Rattle.fl_frame.specs.Contents.{contents_of}
+use Rattle.fl_table.specs.declared.table.Table.{Table}
 use Rattle.fl_session.specs.Lines.{Counted}
 use Rattle.fl_session.proofs.GroupLines.{grouped-records, groups-fewer}
 use Rattle.fl_session.specs.ListSays.{EndsOn, IsGroup}
@@ -59,4 +61,4 @@ returns-clause-counted g c = λ first plan t tells on stands.
     (counted-wider _ _ _ (scan_limit 64 plan t c.args.range None c.args.range.low) (least_reads plan t c.args.range None) _ _ _ _ _ _ _ limit least (c.list_groups.ensures.counted told few on))
 
 pub returns-clause-says : goal.returns-clause-says
-returns-clause-says g c = lists-of IsGroup EndsOn _ _ (g.F.Flash.state c.args.flash.now) (g.F.Flash.state c.list_groups.new.flash) _ _ _ (ap table_of c.new-groups.ensures.rows ∙ c.begin-cursor.ensures.table) c.list_groups.ensures.says
+returns-clause-says g c = lists-of (λ (t : Table 64 64). AllByRecursion IsGroup) EndsOn _ _ (g.F.Flash.state c.args.flash.now) (g.F.Flash.state c.list_groups.new.flash) _ _ _ (ap table_of c.new-groups.ensures.rows ∙ c.begin-cursor.ensures.table) c.list_groups.ensures.says

@@ -1,9 +1,12 @@
 use Rattle.std.proofs.Common.{◌^◌, ◌<◌, length, map, arith}
 use Rattle.std.proofs.lemmas.List.{length-map}
+use Rattle.std.specs.List.{AllByRecursion}
 use Rattle.fl_cursor.specs.Cursor.{present_of, left_of}
 use Rattle.fl_machine.specs.Step.{group_reply}
 use Rattle.fl_ops.specs.Groups.{input_of, groups_left}
 use Rattle.fl_frame.specs.Contents.{contents_of}
+use Rattle.fl_session.specs.ListSays.{IsGroup}
+use Rattle.fl_session.proofs.AnyLines.{lists-made}
 use Rattle.fl_session.proofs.OperatorLines.{first-same, second-same}
 use Rattle.fl_session.proofs.operators.list_groups.Goals as goal
 
@@ -19,3 +22,6 @@ returns-clause-counted g c = λ told few on.
     let many : length (map group_reply (groups_left c.args.groups.now (present_of (input_of c.args.groups.now)) (left_of (input_of c.args.groups.now) (contents_of (g.F.Flash.state c.args.flash.now))))) < 2 ^ 63 =
     omega (arith, few, length-map groups group_reply) in
     c.answer_lines.ensures.counted told many on
+
+pub returns-clause-says : goal.returns-clause-says
+returns-clause-says g c = lists-made _ c.args.groups.now (AllByRecursion IsGroup) _ _ _ _ (λ last lines h. h) c.answer_lines.ensures.says

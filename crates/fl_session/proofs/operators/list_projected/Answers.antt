@@ -1,5 +1,6 @@
 use Rattle.std.proofs.Common.{◌^◌, ◌<◌, length, map, arith}
 use Rattle.std.proofs.lemmas.List.{length-map}
+use Rattle.std.specs.List.{AllByRecursion}
 use Rattle.fl_cursor.specs.Cursor.{left_of}
 use Rattle.fl_model.specs.Operators.{column_of, project}
 use Rattle.fl_model.specs.Record.{Record}
@@ -7,6 +8,8 @@ use Rattle.fl_ops.specs.Columns.{record_of, records_of}
 use Rattle.fl_ops.specs.Project.{input_of, columns_of}
 use Rattle.fl_frame.specs.Contents.{contents_of}
 use Rattle.fl_words.specs.Reply as words
+use Rattle.fl_session.specs.ListSays.{IsFields}
+use Rattle.fl_session.proofs.AnyLines.{lists-made}
 use Rattle.fl_session.proofs.OperatorLines.{first-same, second-same}
 use Rattle.fl_session.proofs.operators.list_projected.Goals as goal
 
@@ -23,3 +26,6 @@ returns-clause-counted g c = λ told few on.
     let many : length (map words.Fields (project (columns_of c.args.rows.now) (records_of (left_of (input_of c.args.rows.now) (contents_of (g.F.Flash.state c.args.flash.now)))))) < 2 ^ 63 =
     omega (arith, few, length-map (project columns (records_of left)) words.Fields, length-map (records_of left) (λ (item : Record). map (column_of item) columns), length-map left record_of) in
     c.answer_lines.ensures.counted told many on
+
+pub returns-clause-says : goal.returns-clause-says
+returns-clause-says g c = lists-made _ c.args.rows.now (AllByRecursion (IsFields (length (columns_of c.args.rows.now)))) _ _ _ _ (λ last lines h. h.1) c.answer_lines.ensures.says

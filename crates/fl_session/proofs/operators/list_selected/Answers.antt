@@ -1,10 +1,14 @@
 use Rattle.std.proofs.Common.{◌^◌, ◌<◌, length, map, filter, arith}
 use Rattle.std.proofs.lemmas.List.{length-map}
-use Rattle.fl_cursor.specs.Cursor.{left_of}
+use Rattle.fl_cursor.specs.Asked.{above_of}
+use Rattle.fl_cursor.specs.Cursor.{asked_of, left_of}
 use Rattle.fl_ops.specs.Columns.{row_passes}
 use Rattle.fl_ops.specs.Select.{input_of, comparison_of}
 use Rattle.fl_frame.specs.Contents.{contents_of}
 use Rattle.fl_session.specs.Rows.{row_reply}
+use Rattle.fl_session.specs.Rising.{AreRising, IsRow}
+use Rattle.fl_session.proofs.AnyLines.{lists-made}
+use Rattle.fl_session.proofs.RisingLines.{are-rising}
 use Rattle.fl_session.proofs.OperatorLines.{first-same, second-same}
 use Rattle.fl_session.proofs.Few.{length-filter}
 use Rattle.fl_session.proofs.operators.list_selected.Goals as goal
@@ -22,3 +26,8 @@ returns-clause-counted g c = λ told few on.
     let many : length (map (row_reply c.args.lines.now.blobs) (filter (row_passes (comparison_of c.args.lines.now.rows)) (left_of (input_of c.args.lines.now.rows) (contents_of (g.F.Flash.state c.args.flash.now))))) < 2 ^ 63 =
     omega (arith, few, length-filter passes left, length-map (filter (row_passes (comparison_of c.args.lines.now.rows)) (left_of (input_of c.args.lines.now.rows) (contents_of (g.F.Flash.state c.args.flash.now)))) (row_reply c.args.lines.now.blobs)) in
     c.answer_lines.ensures.counted told many on
+
+pub returns-clause-says : goal.returns-clause-says
+returns-clause-says g c =
+    lists-made _ c.args.lines.now (AreRising IsRow (above_of (asked_of (input_of c.args.lines.now.rows)))) _ _ _ _
+    (λ last lines h. are-rising IsRow (above_of (asked_of (input_of c.args.lines.now.rows))) (above_of (asked_of (input_of last.rows))) lines h) c.answer_lines.ensures.says

@@ -1,4 +1,5 @@
 use Rattle.std.proofs.Common.{◌≡◌, ◌<◌, ◌^◌, ℕ, ℤ, None, List, length, map, slice_index, sym, ◌∙◌, ap, subst, arith, ◌≤◌}
+use Rattle.std.specs.List.{AllByRecursion}
 use Rattle.fl_cursor.specs.Cursor.{table_of, left_of, IsTold}
 use Rattle.fl_cursor.specs.Reads.{most_of, least_of}
 use Rattle.fl_cursor.specs.declared.cursor.Cursor.{Cursor}
@@ -14,7 +15,7 @@ use Rattle.fl_table.specs.declared.table.Table.{Table}
 use Rattle.fl_words.specs.Reply as words
 use Rattle.fl_session.specs.Lines.{Counted}
 use Rattle.fl_session.proofs.Fields.{lacks-none}
-use Rattle.fl_session.specs.ListSays.{EndsOn, IsFields}
+use Rattle.fl_session.specs.ListSays.{EndsOn, IsFields, ListSays}
 use Rattle.fl_session.proofs.AnyLines.{lists-of}
 use Rattle.fl_session.proofs.CountedLines.{counted-wider}
 use Rattle.fl_session.proofs.CursorMoves.{lies-read}
@@ -55,4 +56,7 @@ returns-clause-counted g c = λ first plan t tells on stands.
     (counted-wider _ _ _ (scan_limit 64 plan t c.args.range None c.args.range.low) (least_reads plan t c.args.range None) _ _ _ _ _ _ _ limit least (c.list_projected.ensures.counted told few on))
 
 pub returns-clause-says : goal.returns-clause-says
-returns-clause-says g c = lists-of IsFields EndsOn _ _ (g.F.Flash.state c.args.flash.now) (g.F.Flash.state c.list_projected.new.flash) _ _ _ (ap table_of c.new-rows.ensures.rows ∙ c.begin-cursor.ensures.table) c.list_projected.ensures.says
+returns-clause-says g c =
+    let columns : columns_of c.new-rows.result ≡ c.args.columns.now = c.new-rows.ensures.columns ∙ (c.as_slice.ensures.value ∙ c.places_of-places.ensures) in
+    subst (λ (cs : List ℕ). ListSays (AllByRecursion (IsFields (length cs))) (EndsOn c.args.table.now (g.F.Flash.state c.args.flash.now) (g.F.Flash.state c.list_projected.new.flash)) (g.K.Sink.written c.args.out.now) (g.K.Sink.written c.list_projected.new.out) c.list_projected.result) columns
+    (lists-of (λ (t : Table 64 64). AllByRecursion (IsFields (length (columns_of c.new-rows.result)))) EndsOn _ _ (g.F.Flash.state c.args.flash.now) (g.F.Flash.state c.list_projected.new.flash) _ _ _ (ap table_of c.new-rows.ensures.rows ∙ c.begin-cursor.ensures.table) c.list_projected.ensures.says)

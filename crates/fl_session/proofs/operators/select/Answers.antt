@@ -1,15 +1,17 @@
-use Rattle.std.proofs.Common.{rules, ℤ, ◌≡◌, ◌<◌, ◌^◌, None, List, length, map, filter, refl, sym, ◌∙◌, ap, subst, arith, ◌≤◌}
+use Rattle.std.proofs.Common.{rules, ℕ, ℤ, ◌≡◌, ◌<◌, ◌^◌, Option, None, List, length, map, filter, refl, sym, ◌∙◌, ap, subst, arith, ◌≤◌}
 use Rattle.std.proofs.lemmas.Int.{to_z-of_z}
 use Rattle.std.specs.Int.{w64}
 use Rattle.std.specs.Prelude.{FitsSigned}
-use Rattle.fl_cursor.specs.Cursor.{table_of, IsReady, IsTold, IsStanding, left_of}
+use Rattle.fl_cursor.specs.Asked.{above_of, above_range, asked_by}
+use Rattle.fl_cursor.specs.Cursor.{table_of, asked_of, IsReady, IsTold, IsStanding, left_of}
 use Rattle.fl_cursor.specs.Reads.{most_of, least_of}
+use Rattle.fl_cursor.specs.declared.bookmark.Bookmark.{Bookmark}
 use Rattle.fl_cursor.specs.declared.cursor.Cursor.{Cursor}
 use Rattle.fl_model.specs.Limits.{scan_limit, least_reads}
 use Rattle.fl_model.specs.Query.{selected}
 use Rattle.fl_model.specs.Row.{Row, stored_row}
 use Rattle.fl_ops.specs.Columns.{row_passes, Comparison}
-use Rattle.fl_ops.specs.Select.{comparison_of}
+use Rattle.fl_ops.specs.Select.{comparison_of, input_of}
 use Rattle.fl_frame.specs.Contents.{contents_of}
 use Rattle.fl_table.specs.Look.{layout_in}
 use Rattle.fl_table.specs.declared.table.Table.{Table}
@@ -17,7 +19,8 @@ use Rattle.fl_words.specs.Reply.{Reply}
 use Rattle.fl_session.specs.Lines.{Counted}
 use Rattle.fl_session.specs.Rows.{row_reply}
 use Rattle.fl_session.proofs.OperatorLines.{few-asked, selected-lines}
-use Rattle.fl_session.specs.ListSays.{EndsOn, IsRow}
+use Rattle.fl_session.specs.ListSays.{EndsOn, ListSays}
+use Rattle.fl_session.specs.Rising.{AreRising, IsRow}
 use Rattle.fl_session.proofs.AnyLines.{lists-of}
 use Rattle.fl_session.proofs.CountedLines.{counted-wider}
 use Rattle.fl_session.proofs.CursorMoves.{lies-read}
@@ -64,4 +67,8 @@ returns-clause-counted g c = λ first plan t tells on stands.
     (counted-wider _ _ _ (scan_limit 64 plan t c.args.range None c.args.range.low) (least_reads plan t c.args.range None) _ _ _ _ _ _ _ limit least (c.list_selected.ensures.counted told few on))
 
 pub returns-clause-says : goal.returns-clause-says
-returns-clause-says g c = lists-of IsRow EndsOn _ _ (g.F.Flash.state c.args.flash.now) (g.F.Flash.state c.list_selected.new.flash) _ _ _ (ap table_of c.new-rows.ensures.rows ∙ c.begin-cursor.ensures.table) c.list_selected.ensures.says
+returns-clause-says g c =
+    let above : above_of (asked_of (input_of c.new-rows.result)) ≡ above_range c.args.range.low None = ap (λ (k : Cursor 64 64). above_of (asked_of k)) c.new-rows.ensures.rows ∙ ap (λ (m : Bookmark). above_of (asked_by m)) c.begin-cursor.ensures.mark in
+    subst (λ (o : Option ℕ). ListSays (AreRising IsRow o) (EndsOn c.args.table.now (g.F.Flash.state c.args.flash.now) (g.F.Flash.state c.list_selected.new.flash)) (g.K.Sink.written c.args.out.now) (g.K.Sink.written c.list_selected.new.out) c.list_selected.result) above
+    (lists-of (λ (t : Table 64 64). AreRising IsRow (above_of (asked_of (input_of c.new-rows.result)))) EndsOn _ _ (g.F.Flash.state c.args.flash.now) (g.F.Flash.state c.list_selected.new.flash) _ _ _
+    (ap table_of c.new-rows.ensures.rows ∙ c.begin-cursor.ensures.table) c.list_selected.ensures.says)

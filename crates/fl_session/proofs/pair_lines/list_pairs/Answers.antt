@@ -1,5 +1,6 @@
 use Rattle.std.proofs.Common.{◌≡◌, ◌⊎◌, ℕ, ◌+◌, ◌-◌, ◌^◌, ◌≤◌, inl, inr, Ok, Err, List, Option, sym, ◌∙◌, subst, arith}
 use Rattle.std.proofs.lemmas.Result.{err_from_is_err_and}
+use Rattle.std.specs.List.{AllByRecursion}
 use Rattle.fl_ops.proofs.ContinuedRows.{Continues-then}
 use Rattle.fl_frame.specs.Contents.{Contents, contents_of}
 use Rattle.fl_page.proofs.ReadsInTurn.{IsCaused-later}
@@ -8,7 +9,7 @@ use Rattle.fl_script.specs.declared.reply.Reply.{Reply}
 use Rattle.fl_base.specs.Causes.{Appends, AppendsFront}
 use Rattle.fl_session.specs.ListSays.{IsPair, WroteLines}
 use Rattle.fl_session.specs.Lines.{LineSteps, IsFirstLine}
-use Rattle.fl_session.proofs.AnyLines.{bad-by, made-line, wrote-into, wrote-more, wrote-none}
+use Rattle.fl_session.proofs.AnyLines.{bad-by, each-more, made-line, wrote-into, wrote-more, wrote-none}
 use Rattle.fl_session.specs.Paired.{pair_lines}
 use Rattle.fl_session.proofs.PairLines.{continues-same}
 use Rattle.fl_session.proofs.LinesListed.{front-none, front-next, front-failed, front-unread, front-read}
@@ -20,7 +21,7 @@ loop-count-init g c = record {
   left = continues-same _;
   right = continues-same _;
   later = omega arith;
-  lines = wrote-none _ _ _;
+  lines = wrote-none (AllByRecursion IsPair) _ _ tt;
   front = λ t u. front-none _ _ _;
   most = λ t u. omega arith;
 }
@@ -66,7 +67,8 @@ loop-count-preserved g c =
       later = omega (arith, c.loop-count.invariant.later, c.in_ok-write_reply.ensures.cause.later);
       lines =
           let line = made-line _ _ c.in-Some.line c.in-Some.is c.in_ok-line.ensures.kind in
-          wrote-more _ _ _ _ _ _ c.loop-count.invariant.lines c.loop-count-test.true line.line line.is_line (subst (λ (l : List ℕ). Appends (g.K.Sink.written c.loop-count.out) (g.K.Sink.written c.write_reply.new.out) l) line.text_is c.in_ok-write_reply.ensures.text);
+          wrote-more _ (AllByRecursion IsPair) _ _ _ _ c.loop-count.invariant.lines _ c.loop-count-test.true line.line (each-more IsPair c.loop-count.invariant.lines.lines line.line c.loop-count.invariant.lines.are_lines line.is_line)
+          (subst (λ (l : List ℕ). Appends (g.K.Sink.written c.loop-count.out) (g.K.Sink.written c.write_reply.new.out) l) line.text_is c.in_ok-write_reply.ensures.text);
       front = λ t u.
           let left = subst (λ (k : Contents). g.A.Rows.told c.loop-count.left k) (sym same) (c.loop-count.invariant.left.stays_told t) in
           let right = subst (λ (k : Contents). g.B.Rows.told c.loop-count.right k) (sym same) (c.loop-count.invariant.right.stays_told u) in
@@ -150,7 +152,7 @@ pub returns-in_err-write_reply-clause-lines : goal.returns-in_err-write_reply-cl
 returns-in_err-write_reply-clause-lines g c =
     let line = made-line _ _ c.in-Some.line c.in-Some.is c.in_ok-line.ensures.kind in
     let p = err_from_is_err_and c.from_residual-in_err-write_reply.result c.from_residual-in_err-write_reply.ensures.1 in
-    rw (p.1, p.2) (wrote-into _ _ _ _ _ _ c.loop-count.invariant.lines c.loop-count-test.true line.line line.is_line
+    rw (p.1, p.2) (wrote-into _ (AllByRecursion IsPair) _ _ _ _ c.loop-count.invariant.lines _ c.loop-count-test.true line.line (each-more IsPair c.loop-count.invariant.lines.lines line.line c.loop-count.invariant.lines.are_lines line.is_line)
     (subst (λ (l : List ℕ). AppendsFront (g.K.Sink.written c.loop-count.out) (g.K.Sink.written c.write_reply.new.out) l) line.text_is c.in_err-write_reply.ensures.text))
 
 pub returns-in_err-write_reply-clause-unread : goal.returns-in_err-write_reply-clause-unread
@@ -161,4 +163,4 @@ returns-in_err-write_reply-clause-unread g c =
 pub returns-clause-lines : goal.returns-clause-lines
 returns-clause-lines g c =
     let is : c.loop-count.count ≡ 2 ^ 64 - 1 = omega (arith, c.loop-count-test.false, c.loop-count.invariant.lines.upto) in
-    subst (λ n. WroteLines IsPair (2 ^ 64 - 1) (g.K.Sink.written c.args.out.now) (g.K.Sink.written c.loop-count.out) n) is c.loop-count.invariant.lines
+    subst (λ n. WroteLines (AllByRecursion IsPair) (2 ^ 64 - 1) (g.K.Sink.written c.args.out.now) (g.K.Sink.written c.loop-count.out) n) is c.loop-count.invariant.lines

@@ -1,4 +1,5 @@
 use Rattle.std.proofs.Common.{◌+◌, ◌-◌, ◌^◌, ◌≤◌}
+use Rattle.std.specs.List.{AllByRecursion}
 use Rattle.fl_frame.specs.Contents.{contents_of, OnlyReads}
 use Rattle.fl_ops.specs.Inputs.{Continues}
 use Rattle.fl_session.specs.ListSays.{IsPair, WroteLines}
@@ -18,7 +19,7 @@ invariant-loop-count g l =
       left : Continues A.names HA.schema HA.above A.ready A.told A.passes contents l.fn.left l.left;
       right : Continues B.names HB.schema HB.above B.ready B.told B.passes contents l.fn.right l.right;
       later : g.K.Sink.faults l.fn.out ≤ g.K.Sink.faults l.out;
-      lines : WroteLines IsPair (2 ^ 64 - 1) (g.K.Sink.written l.fn.out) (g.K.Sink.written l.out) l.count;
+      lines : WroteLines (AllByRecursion IsPair) (2 ^ 64 - 1) (g.K.Sink.written l.fn.out) (g.K.Sink.written l.out) l.count;
       front : A.told l.fn.left contents → B.told l.fn.right contents →
           Fronted (pair_lines (A.left l.fn.left contents) (B.left l.fn.right contents)) (pair_lines (A.left l.left contents) (B.left l.right contents))
           (g.K.Sink.written l.fn.out) (g.K.Sink.written l.out) (g.F.Flash.state l.fn.flash).media.faults l.count;

@@ -7,8 +7,8 @@ use Rattle.fl_frame.proofs.ContentsInTurn.{OnlyReads-same, OnlyReads-then, OnlyR
 use Rattle.fl_script.specs.declared.reply.Reply.{Reply}
 use Rattle.fl_base.specs.Causes.{Appends, AppendsFront}
 use Rattle.fl_session.specs.ListSays.{WroteLines}
-use Rattle.fl_session.specs.Lines.{LineSteps, IsFirstLine}
-use Rattle.fl_session.proofs.AnyLines.{bad-by, made-line, wrote-into, wrote-more, wrote-none}
+use Rattle.fl_session.specs.Lines.{LineSteps, IsFirstLine, MadeFrom}
+use Rattle.fl_session.proofs.AnyLines.{bad-by, made-line, wrote-as, wrote-into, wrote-more, wrote-none}
 use Rattle.fl_session.proofs.LinesListed.{front-none, front-next, front-failed, front-count, front-read}
 use Rattle.fl_session.proofs.reply_lines.list_lines.Goals as goal
 
@@ -18,7 +18,7 @@ loop-count-init g c = record {
   names = refl;
   ready = λ contents h. h;
   later = omega arith;
-  lines = wrote-none _ _ _;
+  lines = wrote-none (g.L.ReplyLines.made c.args.lines.now c.args.lines.now) _ _ (g.met.L.ReplyLines.made_none c.args.lines.now);
   same_test = λ contents bad h. h;
   told = λ t. t;
   front = λ t. front-none _ _ _;
@@ -100,8 +100,9 @@ loop-count-preserved g c =
       ready = λ contents h. c.next_line.ensures.stays_ready contents (c.loop-count.invariant.ready contents h);
       later = omega (arith, c.loop-count.invariant.later, c.in_ok-write_reply.ensures.cause.later);
       lines =
-          let line = made-line _ _ c.in-Some.line c.in-Some.is c.in_ok-line.ensures.kind in
-          wrote-more _ _ _ _ _ _ c.loop-count.invariant.lines c.loop-count-test.true line.line line.is_line (subst (λ (l : List ℕ). Appends (g.K.Sink.written c.loop-count.out) (g.K.Sink.written c.write_reply.new.out) l) line.text_is c.in_ok-write_reply.ensures.text);
+          let line = made-line _ _ c.in-Some.line c.in-Some.is (c.in_ok-line.ensures.makes c.args.lines.now c.loop-count.invariant.lines.lines c.loop-count.invariant.lines.are_lines) in
+          wrote-more _ (g.L.ReplyLines.made c.args.lines.now c.next_line.new.self) _ _ _ _ c.loop-count.invariant.lines _ c.loop-count-test.true line.line line.is_line
+          (subst (λ (l : List ℕ). Appends (g.K.Sink.written c.loop-count.out) (g.K.Sink.written c.write_reply.new.out) l) line.text_is c.in_ok-write_reply.ensures.text);
       same_test = λ contents bad h. c.loop-count.invariant.same_test contents bad (c.next_line.ensures.same_test contents bad h);
       told = λ t.
           let told = subst (λ (k : Contents). g.L.ReplyLines.told c.loop-count.lines k) (sym same) (c.loop-count.invariant.told t) in
@@ -143,7 +144,7 @@ returns-in_err-line-clause-lines g c =
     let inv = c.loop-count.invariant in
     let p = err_from_is_err_and c.from_residual.result c.from_residual.ensures.1 in
     rw (p.1, p.2) (
-      (c.loop-count.count, inv.lines),
+      (c.loop-count.count, wrote-as _ (MadeFrom g.L.ReplyLines.made c.args.lines.now) _ _ _ _ inv.lines (c.loop-count.lines, inv.lines.are_lines)),
       bad-by _ _ c.in_err-line.field-0.0 c.in_err-line.ensures.bad_page
           (λ bad h. inv.same_test _ bad (subst (λ (k : Contents). g.L.ReplyLines.passes c.loop-count.lines k bad) inv.reads_only.contents h)),
     )
@@ -154,13 +155,16 @@ returns-in_err-line-clause-unread g c =
     rw (p.1, p.2) (IsCaused-later _ (g.F.Flash.state c.loop-count.flash) _ c.in_err-line.field-0.0 c.loop-count.invariant.reads_only c.in_err-line.ensures.cause)
 
 pub returns-in_default-clause-lines : goal.returns-in_default-clause-lines
-returns-in_default-clause-lines g c = c.loop-count.invariant.lines
+returns-in_default-clause-lines g c =
+    let inv = c.loop-count.invariant in
+    wrote-as _ (MadeFrom g.L.ReplyLines.made c.args.lines.now) _ _ _ _ inv.lines (c.loop-count.lines, inv.lines.are_lines)
 
 pub returns-in_err-write_reply-clause-lines : goal.returns-in_err-write_reply-clause-lines
 returns-in_err-write_reply-clause-lines g c =
-    let line = made-line _ _ c.in-Some.line c.in-Some.is c.in_ok-line.ensures.kind in
+    let inv = c.loop-count.invariant in
+    let line = made-line _ _ c.in-Some.line c.in-Some.is (c.in_ok-line.ensures.makes c.args.lines.now inv.lines.lines inv.lines.are_lines) in
     let p = err_from_is_err_and c.from_residual-in_err-write_reply.result c.from_residual-in_err-write_reply.ensures.1 in
-    rw (p.1, p.2) (wrote-into _ _ _ _ _ _ c.loop-count.invariant.lines c.loop-count-test.true line.line line.is_line
+    rw (p.1, p.2) (wrote-into _ (MadeFrom g.L.ReplyLines.made c.args.lines.now) _ _ _ _ inv.lines _ c.loop-count-test.true line.line (c.next_line.new.self, line.is_line)
     (subst (λ (l : List ℕ). AppendsFront (g.K.Sink.written c.loop-count.out) (g.K.Sink.written c.write_reply.new.out) l) line.text_is c.in_err-write_reply.ensures.text))
 
 pub returns-in_err-write_reply-clause-unread : goal.returns-in_err-write_reply-clause-unread
@@ -170,5 +174,7 @@ returns-in_err-write_reply-clause-unread g c =
 
 pub returns-clause-lines : goal.returns-clause-lines
 returns-clause-lines g c =
+    let inv = c.loop-count.invariant in
     let is : c.loop-count.count ≡ 2 ^ 64 - 1 = omega (arith, c.loop-count-test.false, c.loop-count.invariant.lines.upto) in
-    subst (λ n. WroteLines g.L.ReplyLines.is_line (2 ^ 64 - 1) (g.K.Sink.written c.args.out.now) (g.K.Sink.written c.loop-count.out) n) is c.loop-count.invariant.lines
+    subst (λ n. WroteLines (MadeFrom g.L.ReplyLines.made c.args.lines.now) (2 ^ 64 - 1) (g.K.Sink.written c.args.out.now) (g.K.Sink.written c.loop-count.out) n) is
+    (wrote-as _ (MadeFrom g.L.ReplyLines.made c.args.lines.now) _ _ _ _ inv.lines (c.loop-count.lines, inv.lines.are_lines))

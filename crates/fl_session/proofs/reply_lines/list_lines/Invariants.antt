@@ -14,7 +14,7 @@ invariant-loop-count g l =
       names : L.names l.lines ≡ L.names l.fn.lines;
       ready : (contents : Contents) → L.ready l.fn.lines l.fn.columns contents → L.ready l.lines l.fn.columns contents;
       later : g.K.Sink.faults l.fn.out ≤ g.K.Sink.faults l.out;
-      lines : WroteLines L.is_line (2 ^ 64 - 1) (g.K.Sink.written l.fn.out) (g.K.Sink.written l.out) l.count;
+      lines : WroteLines (L.made l.fn.lines l.lines) (2 ^ 64 - 1) (g.K.Sink.written l.fn.out) (g.K.Sink.written l.out) l.count;
       same_test : (contents : Contents) (bad : BadPage) → L.passes l.lines contents bad → L.passes l.fn.lines contents bad;
       told : L.told l.fn.lines contents → L.told l.lines contents;
       front : L.told l.fn.lines contents →

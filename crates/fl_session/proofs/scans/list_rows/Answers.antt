@@ -2,15 +2,17 @@ use Rattle.std.proofs.Common.{◌+◌, ◌-◌, ◌^◌, ◌<◌, ◌≤◌, ◌
 use Rattle.fl_model.specs.Limits.{scan_limit}
 use Rattle.fl_model.specs.Query.{selected}
 use Rattle.fl_frame.specs.Contents.{contents_of}
-use Rattle.fl_cursor.specs.Cursor.{MayBeBad}
+use Rattle.fl_cursor.specs.Cursor.{mark_of, MayBeBad}
 use Rattle.fl_table.specs.declared.table.Table.{Table}
 use Rattle.fl_words.specs.Reply.{EndCount}
-use Rattle.fl_session.specs.ListSays.{GivesLines, IsRow}
+use Rattle.fl_session.specs.ListSays.{EndsOn, GivesLines}
+use Rattle.fl_session.specs.RowsGiven.{MovesOver}
 use Rattle.fl_session.proofs.AnyLines.{list-ends, list-fails}
 use Rattle.fl_session.proofs.Few.{few-selected}
 use Rattle.fl_session.proofs.Resumed.{is-standing}
 use Rattle.fl_session.proofs.Scanned.{scans-all, scans-fault}
 use Rattle.fl_session.proofs.RowLines.{blobs-as}
+use Rattle.fl_session.proofs.RowsInTurn.{rows-by}
 use Rattle.fl_session.proofs.scans.list_rows.Goals as goal
 
 pub returns-in-Ok-clause-scans : goal.returns-in-Ok-clause-scans
@@ -29,11 +31,15 @@ returns-in-Ok-clause-scans g c = λ first plan t tells on stands.
 
 pub returns-in-Ok-clause-lines : goal.returns-in-Ok-clause-lines
 returns-in-Ok-clause-lines g c =
-    list-ends IsRow EndCount (2 ^ 64 - 1) (MayBeBad c.args.table.now (contents_of (g.F.Flash.state c.args.flash.now))) (g.F.Flash.state c.args.flash.now) (g.F.Flash.state c.give_rows-listed.new.flash) _ _ _ _ c.in-Ok.count (subst (λ (t : Table 64 64). GivesLines IsRow (MayBeBad t (contents_of (g.F.Flash.state c.args.flash.now))) (2 ^ 64 - 1) (g.K.Sink.written c.args.out.now) (g.K.Sink.written c.give_rows-listed.new.out) (Ok c.in-Ok.count)) c.begin-cursor.ensures.table c.in-Ok.ensures.lines) c.write_reply.ensures.text
+    rows-by (EndsOn c.args.table.now (g.F.Flash.state c.args.flash.now) (g.F.Flash.state c.give_rows-listed.new.flash)) _ _ _ _ _ _ _ (mark_of c.give_rows-listed.new.cursor) c.form_of-form.ensures.blobs c.begin-cursor.ensures.mark
+    (list-ends (MovesOver c.form_of-form.result.blobs (mark_of c.begin-cursor.result) (mark_of c.give_rows-listed.new.cursor)) EndCount (2 ^ 64 - 1) (MayBeBad c.args.table.now (contents_of (g.F.Flash.state c.args.flash.now))) (g.F.Flash.state c.args.flash.now) (g.F.Flash.state c.give_rows-listed.new.flash) _ _ _ _ c.in-Ok.count
+    (subst (λ (t : Table 64 64). GivesLines (MovesOver c.form_of-form.result.blobs (mark_of c.begin-cursor.result) (mark_of c.give_rows-listed.new.cursor)) (MayBeBad t (contents_of (g.F.Flash.state c.args.flash.now))) (2 ^ 64 - 1) (g.K.Sink.written c.args.out.now) (g.K.Sink.written c.give_rows-listed.new.out) (Ok c.in-Ok.count)) c.begin-cursor.ensures.table c.in-Ok.ensures.lines) c.write_reply.ensures.text)
 
 pub returns-in-Err-clause-lines : goal.returns-in-Err-clause-lines
 returns-in-Err-clause-lines g c =
-    list-fails IsRow EndCount (2 ^ 64 - 1) (MayBeBad c.args.table.now (contents_of (g.F.Flash.state c.args.flash.now))) (g.F.Flash.state c.args.flash.now) (g.F.Flash.state c.give_rows-listed.new.flash) _ _ _ _ c.in-Err.fault (subst (λ (t : Table 64 64). GivesLines IsRow (MayBeBad t (contents_of (g.F.Flash.state c.args.flash.now))) (2 ^ 64 - 1) (g.K.Sink.written c.args.out.now) (g.K.Sink.written c.give_rows-listed.new.out) (Err c.in-Err.fault)) c.begin-cursor.ensures.table c.in-Err.ensures.lines) c.in-Err.ensures.unread c.write_fault.ensures.says
+    rows-by (EndsOn c.args.table.now (g.F.Flash.state c.args.flash.now) (g.F.Flash.state c.give_rows-listed.new.flash)) _ _ _ _ _ _ _ (mark_of c.give_rows-listed.new.cursor) c.form_of-form.ensures.blobs c.begin-cursor.ensures.mark
+    (list-fails (MovesOver c.form_of-form.result.blobs (mark_of c.begin-cursor.result) (mark_of c.give_rows-listed.new.cursor)) EndCount (2 ^ 64 - 1) (MayBeBad c.args.table.now (contents_of (g.F.Flash.state c.args.flash.now))) (g.F.Flash.state c.args.flash.now) (g.F.Flash.state c.give_rows-listed.new.flash) _ _ _ _ c.in-Err.fault
+    (subst (λ (t : Table 64 64). GivesLines (MovesOver c.form_of-form.result.blobs (mark_of c.begin-cursor.result) (mark_of c.give_rows-listed.new.cursor)) (MayBeBad t (contents_of (g.F.Flash.state c.args.flash.now))) (2 ^ 64 - 1) (g.K.Sink.written c.args.out.now) (g.K.Sink.written c.give_rows-listed.new.out) (Err c.in-Err.fault)) c.begin-cursor.ensures.table c.in-Err.ensures.lines) c.in-Err.ensures.unread c.write_fault.ensures.says)
 
 pub returns-in-Err-clause-scans : goal.returns-in-Err-clause-scans
 returns-in-Err-clause-scans g c = λ first plan t tells on stands.

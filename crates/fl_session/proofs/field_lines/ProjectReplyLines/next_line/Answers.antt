@@ -1,6 +1,20 @@
-use Rattle.std.proofs.Common.{refl}
+use Rattle.std.proofs.Common.{◌≡◌, ℕ, ℤ, List, length, refl, ◌∙◌, ap}
+use Rattle.std.proofs.lemmas.List.{length-map}
+use Rattle.fl_model.specs.Operators.{column_of}
+use Rattle.fl_ops.specs.Columns.{record_of}
+use Rattle.fl_ops.specs.Project.{input_of, columns_of}
 use Rattle.fl_words.specs.Reply.{Fields}
+use Rattle.fl_session.specs.ListSays.{IsFields}
+use Rattle.fl_session.proofs.AnyLines.{each-more}
 use Rattle.fl_session.proofs.field_lines.ProjectReplyLines.next_line.Goals as goal
 
-pub returns-clause-kind : goal.returns-clause-kind
-returns-clause-kind g c = record { line = Fields c.fields_of-fields.result.items; text_is = refl; is_line = tt }
+pub returns-clause-makes : goal.returns-clause-makes
+returns-clause-makes g c = λ first before h.
+    let many : length c.fields_of-fields.result.items ≡ length (columns_of first) =
+    ap (λ (fields : List ℤ). length fields) c.fields_of-fields.ensures
+    ∙ (length-map (columns_of c.step.new.self) (column_of (record_of (g.R.RowHere.present (input_of c.step.new.self)))) ∙ ap (λ (columns : List ℕ). length columns) (c.step.ensures.columns ∙ h.0)) in
+    record {
+      line = Fields c.fields_of-fields.result.items;
+      text_is = refl;
+      is_line = (c.step.ensures.columns ∙ h.0, each-more (IsFields (length (columns_of first))) before (Fields c.fields_of-fields.result.items) h.1 many);
+    }

@@ -1,5 +1,5 @@
 use Rattle.std.proofs.Common.{◌≡◌, ◌^◌, ◌<◌, ◌≤◌, length, Some, rules, refl, sym, ◌∙◌, ap, map, [], ◌∷◌, arith, inl, inr}
-use Rattle.std.specs.List.{slice_get}
+use Rattle.std.specs.List.{AllByRecursion, slice_get}
 use Rattle.fl_flash.specs.declared.flash.Work.{Work}
 use Rattle.fl_model.specs.Operators as operators
 use Rattle.fl_table.specs.Look.{layout_in}
@@ -83,11 +83,11 @@ returns-then-columns-column-clause-cause g c =
       c.in-Ok.at,
       c.index.result.now,
       is-here _ c.args.name c.in-Ok.at c.index.result.now c.in-Ok.ensures here,
-      lacks-says _ _ _ IsGroup c.index.result.now _ _ _ _ c.args.column (sym (ap (λ (t : Table 64 64). lacked_column (layout_in t) (c.args.column ∷ [])) c.table-table.ensures) ∙ lacks-one (layout_in c.table-table.result.now) c.args.column beyond) refl c.write_reply-then-columns-column.ensures.text,
+      lacks-says _ _ _ (AllByRecursion IsGroup) c.index.result.now _ _ _ _ c.args.column (sym (ap (λ (t : Table 64 64). lacked_column (layout_in t) (c.args.column ∷ [])) c.table-table.ensures) ∙ lacks-one (layout_in c.table-table.result.now) c.args.column beyond) refl c.write_reply-then-columns-column.ensures.text,
     )
 
 pub returns-clause-cause : goal.returns-clause-cause
 returns-clause-cause g c =
     let here : slice_get c.args.self.now.tables.entries.items c.in-Ok.at ≡ Some c.index.result.now = reached-here c.args.self.now.tables.entries.items _ _ c.in-Ok.at c.index.result.now c.in-Ok.ensures c.index.ensures in
     let within : c.args.column ≤ length (layout_in c.table-table.result.now).columns = search rules in
-    inr (c.in-Ok.at, c.index.result.now, is-here _ c.args.name c.in-Ok.at c.index.result.now c.in-Ok.ensures here, has-says _ _ _ IsGroup c.index.result.now _ _ _ _ (sym (ap (λ (t : Table 64 64). lacked_column (layout_in t) (c.args.column ∷ [])) c.table-table.ensures) ∙ has-one (layout_in c.table-table.result.now) c.args.column within) (looks-lists _ _ _ _ _ IsGroup EndsOn _ _ _ _ _ _ _ refl c.aggregate.ensures.reads_only c.table-table.ensures c.aggregate.ensures.says))
+    inr (c.in-Ok.at, c.index.result.now, is-here _ c.args.name c.in-Ok.at c.index.result.now c.in-Ok.ensures here, has-says _ _ _ (AllByRecursion IsGroup) c.index.result.now _ _ _ _ (sym (ap (λ (t : Table 64 64). lacked_column (layout_in t) (c.args.column ∷ [])) c.table-table.ensures) ∙ has-one (layout_in c.table-table.result.now) c.args.column within) (looks-lists _ _ _ _ _ (λ (t : Table 64 64). AllByRecursion IsGroup) EndsOn _ _ _ _ _ _ _ refl c.aggregate.ensures.reads_only c.table-table.ensures c.aggregate.ensures.says))

@@ -1,5 +1,5 @@
-use Rattle.std.proofs.Common.{◌≡◌, ◌^◌, ◌<◌, Some, None, rules, refl, sym, ◌∙◌, ap, map, arith, inl, inr}
-use Rattle.std.specs.List.{slice_get}
+use Rattle.std.proofs.Common.{◌≡◌, ◌^◌, ◌<◌, length, Some, None, rules, refl, sym, ◌∙◌, ap, map, arith, inl, inr}
+use Rattle.std.specs.List.{AllByRecursion, slice_get}
 use Rattle.fl_flash.specs.declared.flash.Work.{Work}
 use Rattle.fl_model.specs.Operators as operators
 use Rattle.fl_rlc.specs.Table.{table_in}
@@ -88,7 +88,7 @@ returns-in-Some-clause-cause g c =
       c.in-Ok.at,
       c.index.result.now,
       is-here _ c.args.name c.in-Ok.at c.index.result.now c.in-Ok.ensures here,
-      lacks-says _ _ _ IsFields c.index.result.now _ _ _ _ c.in-Some.column (sym lacks) refl c.write_reply-in-Some.ensures.text,
+      lacks-says _ _ _ (AllByRecursion (IsFields (length c.args.columns.now.items))) c.index.result.now _ _ _ _ c.in-Some.column (sym lacks) refl c.write_reply-in-Some.ensures.text,
     )
 
 pub returns-clause-cause : goal.returns-clause-cause
@@ -96,4 +96,4 @@ returns-clause-cause g c =
     let here : slice_get c.args.self.now.tables.entries.items c.in-Ok.at ≡ Some c.index.result.now = reached-here c.args.self.now.tables.entries.items _ _ c.in-Ok.at c.index.result.now c.in-Ok.ensures c.index.ensures in
     let none : None ≡ lacked_column (layout_in (table_in c.index.result.now.table)) c.args.columns.now.items =
     c.in_default.ensures ∙ (ap (lacked_column (layout_in c.table-table.result.now)) c.as_slice.ensures.value ∙ ap (λ (t : Table 64 64). lacked_column (layout_in t) c.args.columns.now.items) c.table-table.ensures) in
-    inr (c.in-Ok.at, c.index.result.now, is-here _ c.args.name c.in-Ok.at c.index.result.now c.in-Ok.ensures here, has-says _ _ _ IsFields c.index.result.now _ _ _ _ (sym none) (looks-lists _ _ _ _ _ IsFields EndsOn _ _ _ _ _ _ _ refl c.project.ensures.reads_only c.table-table.ensures c.project.ensures.says))
+    inr (c.in-Ok.at, c.index.result.now, is-here _ c.args.name c.in-Ok.at c.index.result.now c.in-Ok.ensures here, has-says _ _ _ (AllByRecursion (IsFields (length c.args.columns.now.items))) c.index.result.now _ _ _ _ (sym none) (looks-lists _ _ _ _ _ (λ (t : Table 64 64). AllByRecursion (IsFields (length c.args.columns.now.items))) EndsOn _ _ _ _ _ _ _ refl c.project.ensures.reads_only c.table-table.ensures (rw c.as_slice-columns.ensures.value at c.project.ensures.says)))

@@ -1,12 +1,12 @@
-// First keys from a list, for tests. One call fails.
+// First keys from a list. One call fails.
 ghost use Rattle.std.specs.Prelude.{◌≡◌};
 
-use crate::FirstKeys;
 use fl_flash::FlashFault;
 use fl_page::ReadFault;
+use fl_search::FirstKeys;
 
 #[derive(Drop)]
-pub(crate) struct Listed {
+pub(super) struct Listed {
     firsts: [Option<u64>; 8],
     failing: u64,
     calls: u64,
@@ -14,7 +14,7 @@ pub(crate) struct Listed {
 }
 
 impl Listed {
-    pub(crate) fn new(firsts: [Option<u64>; 8], failing: u64) -> Self {
+    pub(super) fn new(firsts: [Option<u64>; 8], failing: u64) -> Self {
         Listed {
             firsts,
             failing,
@@ -23,7 +23,7 @@ impl Listed {
         }
     }
 
-    pub(crate) fn calls(&self) -> u64 {
+    pub(super) fn calls(&self) -> u64 {
         self.calls
     }
 }

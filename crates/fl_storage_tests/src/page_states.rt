@@ -1,5 +1,5 @@
-// Pages of eight bytes and what each is.
-use crate::{PageState, commit_at, mark, state_of, void_at};
+// Pages of nine bytes and what each is.
+use fl_mark::{PageState, commit_at, mark, state_of, void_at};
 
 #[test]
 fn pages_by_their_bytes(rt: HostRuntime) {
@@ -22,6 +22,8 @@ fn pages_by_their_bytes(rt: HostRuntime) {
 
 #[test]
 fn the_marks_end_the_page(rt: HostRuntime) {
-    assert_eq!(rt; (commit_at(128), void_at(128)), (120, 124));
-    assert_eq!(rt; mark(), [0, 0, 0, 0]);
+    assert_eq!(rt;
+        (commit_at(128), void_at(128), mark()),
+        (120, 124, [0, 0, 0, 0])
+    );
 }

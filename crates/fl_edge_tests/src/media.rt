@@ -1,17 +1,17 @@
 // A file as a medium: pairs of writes, and reads ahead, against stand-ins.
+mod stand_in;
 
-use crate::FileMedia;
+use fl_edge::{Access, FileMedia, ImageFile, ImageInUse};
 use fl_flash::{Media, MediaFailed, PairFailed};
-use std::io;
+use stand_in::{Manner, StandIns};
+use std::fs;
 use std::os::unix::fs::FileExt;
+use std::rt::Files;
 use std::test::Fail;
-
-mod image;
-mod order;
 
 // What a medium is asked for, and what it has to answer.
 #[derive(Clone, Copy)]
-enum Step<'b> {
+pub(crate) enum Step<'b> {
     Len(u64),
     // Four bytes that are read at a place.
     Read(u64, [u8; 4]),
@@ -53,27 +53,32 @@ fn answered<F: FileExt>(media: &mut FileMedia<F>, steps: &[Step<'_>]) -> usize {
     steps.len()
 }
 
-// A file that is full behind some bytes.
-#[derive(Drop)]
-struct Full {
-    end: u64,
-}
-
-impl FileExt for Full {
-    fn read_at(&self, _buf: &mut [u8], _offset: u64) -> io::Result<usize> {
-        Ok(0)
-    }
-
-    fn write_at(&self, buf: &[u8], offset: u64) -> io::Result<usize> {
-        let room = self.end.saturating_sub(offset) as usize;
-        Ok(room.min(buf.len()))
-    }
+// .. over the image of this name, which is open for them alone
+pub(crate) fn answered_over<F: ImageFile + Drop, R: Files<File = F>>(
+    rt: &R,
+    name: &str,
+    access: Access,
+    steps: &[Step<'_>],
+) -> Result<usize, ImageInUse> {
+    let mut media = FileMedia::open_image(rt, name, access)?;
+    Ok(answered(&mut media, steps))
 }
 
 const PAIR: &[u8] = &[1, 1, 1, 1, 0, 0, 0, 0];
 
+// Whether a pair of writes into a file that is full behind so many bytes ends so, and leaves as many.
+fn pair_ends(rt: &HostRuntime, name: &str, end: u64, want: Result<(), PairFailed>) -> bool {
+    let files = StandIns {
+        rt,
+        manner: Manner::Full { end },
+    };
+    let steps = [Step::WritePair(0, PAIR, 4, want), Step::Len(end)];
+    answered_over(&files, name, Access::Make, &steps) == Ok(2)
+}
+
 #[test]
 fn a_pair_tells_which_of_its_writes_failed(rt: HostRuntime) -> Result<(), Fail> {
+    let name = "fl_edge_test.full";
     let cases = [
         (8, Ok(())),
         (7, Err(PairFailed::Second)),
@@ -82,45 +87,33 @@ fn a_pair_tells_which_of_its_writes_failed(rt: HostRuntime) -> Result<(), Fail> 
         (0, Err(PairFailed::First)),
     ];
     for (end, want) in cases {
-        let mut media = FileMedia::over(Full { end });
-        let steps = [Step::WritePair(0, PAIR, 4, want), Step::Len(end)];
-        assert_eq!(rt; answered(&mut media, &steps), 2, "{end}");
+        assert!(rt; pair_ends(&rt, name, end, want), "{end}");
     }
+    fs::remove_file(&rt, name)?;
     Ok(())
 }
 
-// A file of which at most four bytes are read at once, each the number of its place.
-#[derive(Drop)]
-struct Short;
-
-impl FileExt for Short {
-    fn read_at(&self, buf: &mut [u8], offset: u64) -> io::Result<usize> {
-        if buf.len() > 4 {
-            return Err(io::ErrorKind::Other.into());
-        }
-        for (byte, place) in buf.iter_mut().zip(offset..u64::MAX) {
-            *byte = (place & 0xff) as u8;
-        }
-        Ok(buf.len())
-    }
-
-    fn write_at(&self, buf: &[u8], _offset: u64) -> io::Result<usize> {
-        Ok(buf.len())
-    }
-}
+const SHORT: [Step<'static>; 7] = [
+    Step::Write(0, &[0; 100], Ok(())),
+    Step::Read(8, [8, 9, 10, 11]),
+    Step::Read(12, [12, 13, 14, 15]),
+    Step::Read(16, [16, 17, 18, 19]),
+    Step::Read(12, [12, 13, 14, 15]),
+    Step::Read(8, [8, 9, 10, 11]),
+    Step::Read(40, [40, 41, 42, 43]),
+];
 
 #[test]
 fn a_read_ahead_that_fails_is_no_fault(rt: HostRuntime) -> Result<(), Fail> {
-    let steps = [
-        Step::Write(0, &[0; 100], Ok(())),
-        Step::Read(8, [8, 9, 10, 11]),
-        Step::Read(12, [12, 13, 14, 15]),
-        Step::Read(16, [16, 17, 18, 19]),
-        Step::Read(12, [12, 13, 14, 15]),
-        Step::Read(8, [8, 9, 10, 11]),
-        Step::Read(40, [40, 41, 42, 43]),
-    ];
-    let mut media = FileMedia::over(Short);
-    assert_eq!(rt; answered(&mut media, &steps), steps.len());
+    let name = "fl_edge_test.short";
+    let files = StandIns {
+        rt: &rt,
+        manner: Manner::Short,
+    };
+    assert_eq!(rt;
+        answered_over(&files, name, Access::Make, &SHORT),
+        Ok(SHORT.len())
+    );
+    fs::remove_file(&rt, name)?;
     Ok(())
 }

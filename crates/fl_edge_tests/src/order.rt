@@ -1,12 +1,11 @@
 // The order of reads and hand-outs, by a reader and a writer that note what they do in one log.
 ghost use Rattle.std.specs.Prelude.{◌≤◌};
 
-use crate::{Prompted, ReplyBuffer, StandardInput, StandardOutput};
 use fl_base::{NoMemory, Sink, SinkFailed, Source, SourceFailed};
+use fl_edge::{Prompted, ReplyBuffer, StandardInput, StandardOutput};
 use std::alloc::Global;
 use std::cell::RefCell;
 use std::io::{self, ErrorKind, Read, Write};
-use std::test::Fail;
 
 // What was done, in order: the bytes that were written, and a question mark for each read.
 #[derive(Drop)]
@@ -15,16 +14,16 @@ struct Log {
 }
 
 impl Log {
-    fn new<R: AllocGlobal>(rt: &R) -> Log {
+    fn new(alloc: Global) -> Log {
         Log {
-            done: RefCell::new(Vec::new(rt.alloc())),
+            done: RefCell::new(Vec::new(alloc)),
         }
     }
 
-    fn note(&self, bytes: &[u8]) -> io::Result<()> {
-        match self.done.try_borrow_mut() {
-            Ok(mut done) => Ok(done.extend_from_slice(bytes)?),
-            Err(_) => Err(ErrorKind::Other.into()),
+    // Without memory the bytes are lost, and the log isn't what it is to be.
+    fn note(&self, bytes: &[u8]) {
+        if let Ok(mut done) = self.done.try_borrow_mut() {
+            let _noted = done.extend_from_slice(bytes);
         }
     }
 
@@ -34,6 +33,18 @@ impl Log {
             Err(_) => false,
         }
     }
+}
+
+// Interrupts every other call, and fails the others where nothing is left.
+fn go_on(interrupted: &mut bool, is_left: bool) -> io::Result<()> {
+    *interrupted = !*interrupted;
+    if *interrupted {
+        return Err(ErrorKind::Interrupted.into());
+    }
+    if !is_left {
+        return Err(ErrorKind::Other.into());
+    }
+    Ok(())
 }
 
 // Gives one byte a read, is interrupted before each, and fails once it has given all that it has.
@@ -46,15 +57,9 @@ struct Reader<'a> {
 
 impl Read for Reader<'_> {
     fn read(&mut self, buf: &mut [u8]) -> io::Result<usize> {
-        self.interrupted = !self.interrupted;
-        if self.interrupted {
-            return Err(ErrorKind::Interrupted.into());
-        }
-        if self.left == 0 {
-            return Err(ErrorKind::Other.into());
-        }
-        self.log.note(b"?")?;
-        self.left -= 1;
+        go_on(&mut self.interrupted, self.left > 0)?;
+        self.log.note(b"?");
+        self.left = self.left.saturating_sub(1);
         Ok(buf.len().min(1))
     }
 }
@@ -79,15 +84,9 @@ impl Writer<'_> {
 
 impl Write for Writer<'_> {
     fn write(&mut self, buf: &[u8]) -> io::Result<usize> {
-        self.interrupted = !self.interrupted;
-        if self.interrupted {
-            return Err(ErrorKind::Interrupted.into());
-        }
-        if self.room == 0 {
-            return Err(ErrorKind::Other.into());
-        }
+        go_on(&mut self.interrupted, self.room > 0)?;
         let taken = self.taken(buf.len());
-        self.log.note(&buf[..taken])?;
+        self.log.note(&buf[..taken]);
         self.room = self.room.saturating_sub(taken);
         Ok(taken)
     }
@@ -159,93 +158,89 @@ fn answered<R: Read + Drop, W: Write + Drop>(
     Ok(steps.len())
 }
 
-#[test]
-fn each_reply_is_out_before_the_next_read(rt: HostRuntime) -> Result<(), Fail> {
-    let steps = [
-        Step::Read(Ok(1)),
-        Step::Write(b"ab", Ok(2)),
-        Step::Write(b"cd", Ok(2)),
-        Step::Log(b"?"),
-        Step::Read(Ok(1)),
-        Step::Log(b"?abcd?"),
-        Step::Write(b"e", Ok(1)),
-        Step::HandOut(Ok(())),
-        Step::Read(Ok(1)),
-        Step::Log(b"?abcd?e?"),
-        Step::Read(Err(SourceFailed)),
-        Step::HandOut(Ok(())),
-    ];
-    let log = Log::new(&rt);
-    let done = answered(
-        rt.alloc(),
-        reader_on(&log, 3),
-        writer_on(&log, 1, 100),
-        &log,
-        &steps,
-    )?;
-    assert_eq!(rt; done, steps.len());
-    Ok(())
+// .. by a reader that gives so many bytes, and a writer that takes at most so many a call and so many in all
+fn answered_by(
+    alloc: Global,
+    left: u64,
+    most: usize,
+    room: usize,
+    steps: &[Step<'_>],
+) -> Result<usize, NoMemory> {
+    let log = Log::new(alloc);
+    let writer = writer_on(&log, most, room);
+    answered(alloc, reader_on(&log, left), writer, &log, steps)
 }
 
+const TALK: [Step<'static>; 12] = [
+    Step::Read(Ok(1)),
+    Step::Write(b"ab", Ok(2)),
+    Step::Write(b"cd", Ok(2)),
+    Step::Log(b"?"),
+    Step::Read(Ok(1)),
+    Step::Log(b"?abcd?"),
+    Step::Write(b"e", Ok(1)),
+    Step::HandOut(Ok(())),
+    Step::Read(Ok(1)),
+    Step::Log(b"?abcd?e?"),
+    Step::Read(Err(SourceFailed)),
+    Step::HandOut(Ok(())),
+];
+
 #[test]
-fn a_prompt_stands_behind_the_replies(rt: HostRuntime) -> Result<(), Fail> {
-    let steps = [
-        Step::Read(Ok(1)),
-        Step::Write(b"ab", Ok(2)),
-        Step::Read(Ok(0)),
-        Step::Log(b"> ab> \n"),
-    ];
-    let log = Log::new(&rt);
+fn each_reply_is_out_before_the_next_read(rt: HostRuntime) {
+    assert_eq!(rt; answered_by(rt.alloc(), 3, 1, 100, &TALK), Ok(TALK.len()));
+}
+
+const PROMPTS: [Step<'static>; 4] = [
+    Step::Read(Ok(1)),
+    Step::Write(b"ab", Ok(2)),
+    Step::Read(Ok(0)),
+    Step::Log(b"> ab> \n"),
+];
+
+// .. by a reader of one byte with a prompt
+fn answered_at_a_prompt(alloc: Global, steps: &[Step<'_>]) -> Result<usize, NoMemory> {
+    let log = Log::new(alloc);
     let reader = Prompted::new(b"x".as_slice(), Some(writer_on(&log, 8, 100)));
-    let done = answered(rt.alloc(), reader, writer_on(&log, 8, 100), &log, &steps)?;
-    assert_eq!(rt; done, steps.len());
-    Ok(())
+    answered(alloc, reader, writer_on(&log, 8, 100), &log, steps)
 }
 
 #[test]
-fn nothing_is_read_behind_a_failed_hand_out(rt: HostRuntime) -> Result<(), Fail> {
-    let steps = [
-        Step::Write(b"abcde", Ok(5)),
-        Step::Read(Err(SourceFailed)),
-        Step::Write(b"f", Err(SinkFailed)),
-        Step::HandOut(Err(SinkFailed)),
-        Step::Read(Err(SourceFailed)),
-        Step::Log(b"abc"),
-    ];
-    let log = Log::new(&rt);
-    let done = answered(
-        rt.alloc(),
-        reader_on(&log, 3),
-        writer_on(&log, 8, 3),
-        &log,
-        &steps,
-    )?;
-    assert_eq!(rt; done, steps.len());
-    Ok(())
+fn a_prompt_stands_behind_the_replies(rt: HostRuntime) {
+    assert_eq!(rt;
+        answered_at_a_prompt(rt.alloc(), &PROMPTS),
+        Ok(PROMPTS.len())
+    );
+}
+
+const UNREAD: [Step<'static>; 6] = [
+    Step::Write(b"abcde", Ok(5)),
+    Step::Read(Err(SourceFailed)),
+    Step::Write(b"f", Err(SinkFailed)),
+    Step::HandOut(Err(SinkFailed)),
+    Step::Read(Err(SourceFailed)),
+    Step::Log(b"abc"),
+];
+
+#[test]
+fn nothing_is_read_behind_a_failed_hand_out(rt: HostRuntime) {
+    assert_eq!(rt; answered_by(rt.alloc(), 3, 8, 3, &UNREAD), Ok(UNREAD.len()));
+}
+
+const FAILED: [Step<'static>; 4] = [
+    Step::HandOut(Ok(())),
+    Step::Write(b"ab", Ok(2)),
+    Step::HandOut(Err(SinkFailed)),
+    Step::HandOut(Err(SinkFailed)),
+];
+
+#[test]
+fn a_failed_end_is_told(rt: HostRuntime) {
+    assert_eq!(rt; answered_by(rt.alloc(), 0, 8, 0, &FAILED), Ok(FAILED.len()));
 }
 
 #[test]
-fn a_failed_end_is_told(rt: HostRuntime) -> Result<(), Fail> {
-    let steps = [
-        Step::HandOut(Ok(())),
-        Step::Write(b"ab", Ok(2)),
-        Step::HandOut(Err(SinkFailed)),
-        Step::HandOut(Err(SinkFailed)),
-    ];
-    let log = Log::new(&rt);
-    let done = answered(
-        rt.alloc(),
-        reader_on(&log, 0),
-        writer_on(&log, 8, 0),
-        &log,
-        &steps,
-    )?;
-    assert_eq!(rt; done, steps.len());
-    Ok(())
-}
-
-#[test]
-fn a_full_buffer_is_handed_out(rt: HostRuntime) -> Result<(), Fail> {
+fn a_full_buffer_is_handed_out(rt: HostRuntime) {
     let piece = [b'x'; 40_000];
     let all = [b'x'; 50_000];
     let steps = [
@@ -257,9 +252,8 @@ fn a_full_buffer_is_handed_out(rt: HostRuntime) -> Result<(), Fail> {
         Step::Write(&[], Err(SinkFailed)),
         Step::Log(&all),
     ];
-    let log = Log::new(&rt);
-    let writer = writer_on(&log, 30_000, 50_000);
-    let done = answered(rt.alloc(), reader_on(&log, 0), writer, &log, &steps)?;
-    assert_eq!(rt; done, steps.len());
-    Ok(())
+    assert_eq!(rt;
+        answered_by(rt.alloc(), 0, 30_000, 50_000, &steps),
+        Ok(steps.len())
+    );
 }

@@ -7,8 +7,8 @@ use Rattle.fl_schema.specs.Schema.{row_of, bytes_of}
 use Rattle.fl_page.specs.Page.{row_at}
 use Rattle.fl_page.specs.Steps.{Ascends}
 use Rattle.fl_page.specs.View.{page_of, layout_of_page, count_of, rows_of}
-use Rattle.fl_ops.proofs.RowsLeft.{rows_from-end, drop-first, Ascends-first}
-use Rattle.fl_ops.proofs.tests.page_rows.PageRowsRows.step.Goals as goal
+use Rattle.fl_storage_tests.proofs.RowsLeft.{rows_from-end, drop-first, Ascends-first}
+use Rattle.fl_storage_tests.proofs.operators.page_rows.PageRowsRows.step.Goals as goal
 
 -- the last row was given
 pub returns-then-self-rows-clause-steps : goal.returns-then-self-rows-clause-steps
