@@ -2,3 +2,4 @@ pub mod Masks
 pub mod Values
 pub mod Pages
 pub mod Spans
+pub mod Widths

@@ -1,7 +1,8 @@
 -- What the kept pages of a ring hold, as one list.
-use Rattle.std.proofs.Common.{◌≡◌, ℕ, zero, suc, ◌+◌, ◌<◌, List, [], ◌∷◌, ◌++◌, length, map, take, drop, sum, get_or, slice_get, Option, Some, None, refl, sym, ◌∙◌, ap, subst, arith, length-append}
+use Rattle.std.proofs.Common.{◌≡◌, ℕ, zero, suc, ◌+◌, ◌<◌, Bool, cond, nat_lt, List, [], ◌∷◌, ◌++◌, length, map, take, drop, sum, filter, get_or, slice_get, Option, Some, None, refl, sym, ◌∙◌, ap, subst, arith, length-append}
 use Rattle.std.specs.List.{flat_map, AllByRecursion}
 use Rattle.std.proofs.Math.Seq.{take-append_seam, drop-append-add}
+use Rattle.std.proofs.lemmas.Bool.{lt-ltb}
 use Rattle.std.proofs.lemmas.List.Sums.{sum_by-cons}
 use Rattle.fl_model.specs.Table.{full_pages}
 use Rattle.fl_model.proofs.FullPages.{full-cons, full-one}
@@ -52,13 +53,15 @@ pub record Collected (X : Type 0) (Fits : X → Type 0) (count_of : List ℕ →
   pub fit : AllByRecursion Fits pages
   pub each : (i : ℕ) (body : List ℕ) → i < length kept → get_or kept i None ≡ Some body →
       (x : X) × (slice_get pages (full_pages (take i (map (page_count count_of) kept))) ≡ Some x) × P i body x
+  -- where each has the size that its body tells
+  pub sizes : (size : X → ℕ) → ((i : ℕ) (body : List ℕ) (x : X) → P i body x → size x ≡ count_of body) → map size pages ≡ filter (nat_lt 0) (map (page_count count_of) kept)
 
 pub collect : (X : Type 0) (Fits : X → Type 0) (count_of : List ℕ → ℕ) (kept : List (Option (List ℕ))) (P : ℕ → List ℕ → X → Type 0) →
     ((i : ℕ) (body : List ℕ) → i < length kept → get_or kept i None ≡ Some body → (0 < count_of body) × Held X Fits (P i body)) → Collected X Fits count_of kept P
-collect X Fits count_of [] P all = record { pages = []; many = refl; fit = tt; each = λ i body lt. absurd (let never : ⊥ = omega (arith, lt) in never) }
+collect X Fits count_of [] P all = record { pages = []; many = refl; fit = tt; each = λ i body lt. absurd (let never : ⊥ = omega (arith, lt) in never); sizes = λ size same. refl }
 collect X Fits count_of (None ∷ kept) P all =
     let rest = collect X Fits count_of kept (λ i body x. P (suc i) body x) (λ i body lt is. all (suc i) body (omega (arith, lt)) is) in
-    record { pages = rest.pages; many = rest.many; fit = rest.fit; each = each rest }
+    record { pages = rest.pages; many = rest.many; fit = rest.fit; each = each rest; sizes = λ size same. rest.sizes size (λ i body x is. same (suc i) body x is) }
   where
     each : (rest : Collected X Fits count_of kept (λ i body x. P (suc i) body x)) → (i : ℕ) (body : List ℕ) → i < suc (length kept) → get_or (None ∷ kept) i None ≡ Some body →
         (x : X) × (slice_get rest.pages (full_pages (take i (0 ∷ map (page_count count_of) kept))) ≡ Some x) × P i body x
@@ -75,10 +78,16 @@ collect X Fits count_of (Some body ∷ kept) P all =
       many = ap suc rest.many ∙ sym (first here.0 (map (page_count count_of) kept));
       fit = (here.1.fit, rest.fit);
       each = each here.1.holds here.1.is rest here.0;
+      sizes = λ size same.
+          ap (λ (n : ℕ). n ∷ map size rest.pages) (same 0 body here.1.holds here.1.is)
+          ∙ ap (λ (ns : List ℕ). count_of body ∷ ns) (rest.sizes size (λ i b x is. same (suc i) b x is)) ∙ sym (filter-first here.0 (map (page_count count_of) kept));
     }
   where
     first : 0 < count_of body → (counts : List ℕ) → full_pages (count_of body ∷ counts) ≡ suc (full_pages counts)
     first some counts = full-cons (count_of body) counts ∙ ap (λ (n : ℕ). n + full_pages counts) (full-one (count_of body) some) ∙ omega arith
+
+    filter-first : 0 < count_of body → (counts : List ℕ) → filter (nat_lt 0) (count_of body ∷ counts) ≡ count_of body ∷ filter (nat_lt 0) counts
+    filter-first some counts = ap (λ (b : Bool). cond b (count_of body ∷ filter (nat_lt 0) counts) (filter (nat_lt 0) counts)) (lt-ltb 0 (count_of body) some)
 
     each : (x : X) → P 0 body x → (rest : Collected X Fits count_of kept (λ i b y. P (suc i) b y)) → 0 < count_of body → (i : ℕ) (b : List ℕ) → i < suc (length kept) → get_or (Some body ∷ kept) i None ≡ Some b →
         (y : X) × (slice_get (x ∷ rest.pages) (full_pages (take i (count_of body ∷ map (page_count count_of) kept))) ≡ Some y) × P i b y

@@ -1,9 +1,9 @@
 -- What holds of a configuration that isn't refused, in the words of its plan.
-use Rattle.std.proofs.Common.{◌≡◌, ℕ, ◌+◌, ◌-◌, ◌*◌, ◌/◌, ◌<◌, ◌≤◌, Bool, true, false, ◌||◌, ◌==◌, nat_lt, IsTrue, Option, Some, None, IfSome, refl, sym, ◌∙◌, ap, subst, arith}
+use Rattle.std.proofs.Common.{◌≡◌, ℕ, ◌+◌, ◌-◌, ◌*◌, ◌/◌, ◌<◌, ◌≤◌, true, false, nat_lt, IsTrue, Option, Some, None, IfSome, refl, sym, ◌∙◌, ap, subst, arith}
 use Rattle.std.specs.Prelude.{IsSome}
-use Rattle.std.proofs.lemmas.Bool.{eqb-true}
 use Rattle.std.proofs.Math.Nat.{le-div_iff_mul-le}
 use Rattle.fl_base.specs.declared.types.RingPlace.{RingPlace}
+use Rattle.fl_bitmap.proofs.Widths.{widths}
 use Rattle.fl_bitmap.specs.Widths.{is_bits}
 use Rattle.fl_bitmap.specs.declared.buckets.Buckets.{Buckets}
 use Rattle.fl_check.specs.DataPage.{HasBuckets}
@@ -54,12 +54,3 @@ some-room page form bits is width large =
     let fits : 1 * form_len form ≤ page - 24 = omega (arith, width-le22 form (omega (arith, w.1, width)), large) in
     let le : 1 ≤ (page - 24) / form_len form = (le-div_iff_mul-le {x = 1} {y = page - 24} some).1 fits in
     omega (arith, le)
-  where
-    widths : (n : ℕ) → IsTrue (is_bits n) → (1 ≤ n / 8) × (n / 8 ≤ 8)
-    widths n h = by_tests (n == 8) (n == 16) (n == 64) refl refl refl h
-      where
-        by_tests : (a b c : Bool) → (n == 8) ≡ a → (n == 16) ≡ b → (n == 64) ≡ c → (a || b || c) ≡ true → (1 ≤ n / 8) × (n / 8 ≤ 8)
-        by_tests true b c x y z h = let e = eqb-true n 8 x in subst (λ k. (1 ≤ k / 8) × (k / 8 ≤ 8)) (sym e) (omega arith, omega arith)
-        by_tests false true c x y z h = let e = eqb-true n 16 y in subst (λ k. (1 ≤ k / 8) × (k / 8 ≤ 8)) (sym e) (omega arith, omega arith)
-        by_tests false false true x y z h = let e = eqb-true n 64 z in subst (λ k. (1 ≤ k / 8) × (k / 8 ≤ 8)) (sym e) (omega arith, omega arith)
-        by_tests false false false x y z h = cc

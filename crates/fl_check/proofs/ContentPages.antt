@@ -1,11 +1,11 @@
 -- Pages of variable data, by their bytes.
 use Rattle.std.proofs.Common.{◌≡◌, ℕ, ◌+◌, ◌-◌, ◌<◌, ◌≤◌, true, List, ◌++◌, length, take, drop, replicate, slice_range, refl, sym, ap, ◌∙◌, arith, length-append, append_assoc}
 use Rattle.std.proofs.Math.Seq.{take-add, drop-append_seam}
-use Rattle.std.proofs.lemmas.List.{drop-drop, take-take, drop-take}
+use Rattle.std.proofs.lemmas.List.{drop-drop, take-take, drop-take, take_at}
 use Rattle.fl_base.specs.Bytes.{all_are}
 use Rattle.fl_model.specs.Facts.{IsContent}
 use Rattle.fl_model.specs.Layout.{ContentPage, content_body, committed}
-use Rattle.fl_model.specs.Record.{Plan}
+use Rattle.fl_model.specs.Record.{Plan, content_per_page}
 use Rattle.fl_model.specs.Row.{le, number_of}
 use Rattle.fl_page.specs.Header.{page_number, page_count}
 use Rattle.fl_schema.proofs.Numbers.{number_of-le}
@@ -61,3 +61,13 @@ module _ (page : List ℕ) (number : ℕ) (plan : Plan) (content : ContentPage) 
 
   pub content_used : length page < 65536 → page_count page ≡ content.used
   content_used short = ap page_count bytes ∙ number_of-le 2 content.used (omega (arith, is.most, is.length, length-page, length-body, short))
+
+  abbrev content_with : ℕ → List ℕ → ContentPage
+  content_with used bytes = record { used = used; bytes = bytes }
+
+  bytes_back : take (content_per_page plan) (drop 8 page) ≡ content.bytes
+  bytes_back = ap (λ (l : List ℕ). take (content_per_page plan) (drop 8 l)) parts ∙ take_at content.bytes (replicate 4 0 ++ replicate 4 255) (content_per_page plan) is.length
+
+  -- its content by its bytes
+  pub content_back : length page < 65536 → content ≡ record { used = page_count page; bytes = take (content_per_page plan) (drop 8 page) }
+  content_back short = ap (λ (used : ℕ). content_with used content.bytes) (sym (content_used short)) ∙ ap (content_with (page_count page)) (sym bytes_back)

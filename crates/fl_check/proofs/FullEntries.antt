@@ -1,12 +1,14 @@
 -- What a full entry tells of rows, field by field.
-use Rattle.std.proofs.Common.{◌≡◌, Option, Some, List, length, refl, ap, sym, ◌∙◌}
+use Rattle.std.proofs.Common.{◌≡◌, ℕ, ◌+◌, ◌==◌, cond, max, Option, Some, None, List, [], ◌∷◌, length, map, fold, refl, ap, sym, ◌∙◌}
 use Rattle.std.specs.List.{slice_get}
 use Rattle.std.specs.Option.{option_map, unwrap_or}
+use Rattle.std.proofs.lemmas.List.{length-map}
 use Rattle.fl_index.specs.Page.{full_view}
 use Rattle.fl_index.specs.declared.page.Full as code
-use Rattle.fl_model.specs.Layout.{Full}
-use Rattle.fl_model.specs.Row.{Row}
-use Rattle.fl_check.specs.Tally.{blobs_end}
+use Rattle.fl_model.specs.Entry.{Entry, blob_len, first_key, end_of_blobs}
+use Rattle.fl_model.specs.Layout.{Full, full_of}
+use Rattle.fl_model.specs.Row.{Row, stored_row}
+use Rattle.fl_check.specs.Tally.{reference_end, blobs_end}
 use Rattle.fl_check.specs.Told.{full_in}
 
 module _ (rows : List Row) (row : Row) (full : code.Full) (first : slice_get rows 0 ≡ Some row) where
@@ -24,3 +26,30 @@ module _ (rows : List Row) (row : Row) (full : code.Full) (first : slice_get row
 
   pub end-told : full_view full ≡ full_in rows → full.blob_end ≡ blobs_end 0 rows
   end-told is = ap (λ (f : Full). f.blob_end) is
+
+-- of rows that are stored it tells what it does of their entries
+module _ (entries : List Entry) where
+  key-stored : unwrap_or (option_map (λ (row : Row). row.key) (slice_get (map stored_row entries) 0)) 0 ≡ first_key entries
+  key-stored = first entries
+    where
+      first : (entries : List Entry) → unwrap_or (option_map (λ (row : Row). row.key) (slice_get (map stored_row entries) 0)) 0 ≡ first_key entries
+      first [] = refl
+      first (entry ∷ entries) = refl
+
+  ends-stored : blobs_end 0 (map stored_row entries) ≡ end_of_blobs entries
+  ends-stored = ap (λ (ends : List ℕ). fold max 0 ends) (all entries)
+    where
+      one : (entry : Entry) → reference_end (stored_row entry).blob ≡ cond (blob_len entry.kept == 0) 0 (entry.page + 1)
+      one entry = by_blob entry.kept.blob refl
+        where
+          by_blob : (o : Option (List ℕ)) → entry.kept.blob ≡ o → reference_end (stored_row entry).blob ≡ cond (blob_len entry.kept == 0) 0 (entry.page + 1)
+          by_blob None e = rw e refl
+          by_blob (Some bytes) e = rw e refl
+
+      all : (entries : List Entry) → map (λ (row : Row). reference_end row.blob) (map stored_row entries) ≡ map (λ (entry : Entry). cond (blob_len entry.kept == 0) 0 (entry.page + 1)) entries
+      all [] = refl
+      all (entry ∷ entries) =
+          ap (λ (n : ℕ). n ∷ map (λ (row : Row). reference_end row.blob) (map stored_row entries)) (one entry) ∙ ap (λ (ends : List ℕ). cond (blob_len entry.kept == 0) 0 (entry.page + 1) ∷ ends) (all entries)
+
+  pub full-stored : full_in (map stored_row entries) ≡ full_of entries
+  full-stored = rw (key-stored, length-map entries stored_row, ends-stored) refl

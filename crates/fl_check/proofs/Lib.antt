@@ -1,4 +1,5 @@
 pub mod AscendingPages
+pub mod BlobBytes
 pub mod BlobEnds
 pub mod BlobReaches
 pub mod BlobsKnown
@@ -21,11 +22,14 @@ pub mod Halts
 pub mod Heads
 pub mod HeadsFound
 pub mod HeldRings
+pub mod HeldTables
 pub mod IndexPages
 pub mod Kept
 pub mod KeptPages
 pub mod LastKeys
+pub mod LedBlobs
 pub mod ListedPages
+pub mod ListedTables
 pub mod LooksChangeNothing
 pub mod FewerReads
 pub mod NumbersOfRing
@@ -38,6 +42,7 @@ pub mod OwnNumbers
 pub mod NumbersAreUnique
 pub mod PageRows
 pub mod Parts
+pub mod RingReads
 pub mod RingRules
 pub mod RingsKnown
 pub mod RowsBack
@@ -47,9 +52,11 @@ pub mod RulesTold
 pub mod SoundImages
 pub mod SoundRings
 pub mod Stops
+pub mod TableFacts
 pub mod StoredRows
 pub mod TablePages
 pub mod TalliedPages
 pub mod TableTold
 pub mod Tallies
+pub mod TrimmedEntries
 pub mod Wholes

@@ -1,6 +1,7 @@
 -- Data pages in the words of a table.
-use Rattle.std.proofs.Common.{◌≡◌, ℕ, ◌-◌, ◌/◌, ◌^◌, ◌==◌, cond, IsTrue, pos, Option, Some, None, option_map, unwrap_or, slice_get, List, [], ◌∷◌, length, map, fold, replicate, bit_or, refl, sym, subst, ap, ◌∙◌, arith}
+use Rattle.std.proofs.Common.{◌≡◌, ℕ, ◌-◌, ◌/◌, ◌%◌, ◌^◌, ◌<◌, ◌≤◌, ◌==◌, cond, IsTrue, pos, Option, Some, None, option_map, unwrap_or, slice_get, List, [], ◌∷◌, length, map, fold, replicate, bit_or, refl, sym, subst, ap, ◌∙◌, arith, lit≤}
 use Rattle.std.specs.List.{AllByRecursion}
+use Rattle.std.proofs.Math.Nat.{mod-lt, mod-eq_of_lt, one-le-pow, pow-le-pow_right}
 use Rattle.std.proofs.lemmas.Bool.{eqb-true, false_from_ne_true, eq-eqb}
 use Rattle.std.proofs.lemmas.List.{length-replicate, length-map}
 use Rattle.fl_base.specs.declared.types.BlobRef.{BlobRef}
@@ -8,31 +9,45 @@ use Rattle.fl_bitmap.specs.Bucket.{AreBucketsOf, with_value, bucket_in}
 use Rattle.fl_bitmap.specs.Widths.{is_bits}
 use Rattle.fl_bitmap.specs.declared.buckets.Buckets.{Buckets}
 use Rattle.fl_bitmap.proofs.Spans.{bucket_of-is}
+use Rattle.fl_index.proofs.Bytes.{number_of-low}
+use Rattle.fl_index.proofs.WaitingEntries.{bitmap-small}
 use Rattle.fl_model.specs.Layout.{bucket_of, bitmap_of, rows_body, data_body, committed}
 use Rattle.fl_model.specs.Record.{Plan, RowLayout, row_layout, layout_len, rows_per_page}
-use Rattle.fl_model.specs.Row.{Row, IsStorable, stored_row}
+use Rattle.fl_model.specs.Row.{Row, IsStorable, stored_row, le, number_of}
 use Rattle.fl_model.specs.Table.{Entry}
 use Rattle.fl_check.specs.DataPage.{IsDataPage, HasBuckets, HasForm, HoldsEntries, bitmap_in, are_plain}
+use Rattle.fl_check.specs.Told.{header_bitmap}
 
--- an entry with this row: its blob may have any bytes, as many as the row says
-abbrev pub entry_of : Row → Entry
-entry_of row = record {
-  kept = record { key = row.key; values = row.values; blob = option_map (λ blob. replicate blob.length 0) row.blob };
+-- as many bytes are read of a blob as its row says
+abbrev pub ReadsAll : (BlobRef → List ℕ) → Type 0
+ReadsAll read = (at : BlobRef) → length (read at) ≡ at.length
+
+-- an entry with this row, whose blob has the bytes that are read of it
+abbrev pub entry_by : (BlobRef → List ℕ) → Row → Entry
+entry_by read row = record {
+  kept = record { key = row.key; values = row.values; blob = option_map read row.blob };
   page = unwrap_or (option_map (λ blob. blob.page) row.blob) 0;
   offset = unwrap_or (option_map (λ blob. blob.offset) row.blob) 0;
 }
 
-stored_back : (row : Row) → stored_row (entry_of row) ≡ row
-stored_back row = with_blob row.blob
-  where
-    with_blob : (blob : Option BlobRef) → stored_row (entry_of (record { key = row.key; values = row.values; blob = blob })) ≡ record { key = row.key; values = row.values; blob = blob }
-    with_blob None = refl
-    with_blob (Some blob) =
-        ap (λ (n : ℕ). record { key = row.key; values = row.values; blob = Some (record { page = blob.page; offset = blob.offset; length = n }) }) (length-replicate {A = ℕ} blob.length 0)
+-- a blob of any bytes
+abbrev pub zeros : BlobRef → List ℕ
+zeros at = replicate at.length 0
 
-pub stored_rows : (rows : List Row) → map stored_row (map entry_of rows) ≡ rows
-stored_rows [] = refl
-stored_rows (row ∷ rows) = ap (λ (r : Row). r ∷ map stored_row (map entry_of rows)) (stored_back row) ∙ ap (λ (l : List Row). row ∷ l) (stored_rows rows)
+pub zeros-all : ReadsAll zeros
+zeros-all at = length-replicate {A = ℕ} at.length 0
+
+module _ (read : BlobRef → List ℕ) (all : ReadsAll read) where
+  stored_back : (row : Row) → stored_row (entry_by read row) ≡ row
+  stored_back row = with_blob row.blob
+    where
+      with_blob : (blob : Option BlobRef) → stored_row (entry_by read (record { key = row.key; values = row.values; blob = blob })) ≡ record { key = row.key; values = row.values; blob = blob }
+      with_blob None = refl
+      with_blob (Some blob) = ap (λ (n : ℕ). record { key = row.key; values = row.values; blob = Some (record { page = blob.page; offset = blob.offset; length = n }) }) (all blob)
+
+  pub stored_rows : (rows : List Row) → map stored_row (map (entry_by read) rows) ≡ rows
+  stored_rows [] = refl
+  stored_rows (row ∷ rows) = ap (λ (r : Row). r ∷ map stored_row (map (entry_by read) rows)) (stored_back row) ∙ ap (λ (l : List Row). row ∷ l) (stored_rows rows)
 
 -- ---- the bitmap
 
@@ -55,6 +70,17 @@ bitmap-same plan (Some buckets) entries same =
     (false_from_ne_true (plan.bits == 0) (λ e. some-bits buckets.bits buckets.some_bits (sym same.bits ∙ eqb-true plan.bits 0 e)))
     ∙ bits-same plan buckets 0 entries same
 
+-- the bitmap in the header of a data page is that of its rows
+pub header-is : (plan : Plan) (number : ℕ) (entries : List Entry) (page : List ℕ) → IsTrue (is_bits plan.bits) → plan.bits / 8 ≤ 8 → page ≡ committed (data_body plan number entries) → header_bitmap page ≡ bitmap_of plan entries
+header-is plan number entries page bits few is =
+    let bitmap = bitmap_of plan entries in
+    let same : bitmap_of plan entries % 256 ^ (plan.bits / 8) ≡ bitmap_of plan entries = bitmap-small plan entries bits in
+    let some : 0 < 256 ^ (plan.bits / 8) = omega (arith, one-le-pow (plan.bits / 8) 256 (omega arith)) in
+    let below : bitmap_of plan entries < 256 ^ (plan.bits / 8) = subst (λ (n : ℕ). n < 256 ^ (plan.bits / 8)) same (mod-lt (bitmap_of plan entries) some) in
+    let power : 256 ^ (plan.bits / 8) ≤ 256 ^ 8 = pow-le-pow_right {n = 256} (lit≤ tt) few in
+    let bytes : header_bitmap page ≡ number_of (le 8 (bitmap_of plan entries)) = ap header_bitmap is ∙ refl in
+    bytes ∙ number_of-low 8 bitmap ∙ mod-eq_of_lt (omega (arith, below, power))
+
 -- ---- pages
 
 module _ (plan : Plan) (layout : RowLayout) (buckets : Option Buckets) (number : ℕ) (page : List ℕ) (form : HasForm plan layout buckets (length page)) where
@@ -71,15 +97,15 @@ module _ (plan : Plan) (layout : RowLayout) (buckets : Option Buckets) (number :
 
   pub holds_entries : IsDataPage layout buckets number page → HoldsEntries plan number page
   holds_entries is =
-      let same = stored_rows is.rows in
-      let many : length (map entry_of is.rows) ≡ length is.rows = length-map is.rows entry_of in
+      let same = stored_rows zeros zeros-all is.rows in
+      let many : length (map (entry_by zeros) is.rows) ≡ length is.rows = length-map is.rows (entry_by zeros) in
       record {
-        entries = map entry_of is.rows;
+        entries = map (entry_by zeros) is.rows;
         some = omega (arith, is.some, many);
         few = rw (many, room-same) is.few;
-        storable = subst (λ (l : RowLayout). AllByRecursion (IsStorable l) (map stored_row (map entry_of is.rows))) (sym form.layout_is) (subst (AllByRecursion (IsStorable layout)) (sym same) is.storable);
+        storable = subst (λ (l : RowLayout). AllByRecursion (IsStorable l) (map stored_row (map (entry_by zeros) is.rows))) (sym form.layout_is) (subst (AllByRecursion (IsStorable layout)) (sym same) is.storable);
         plain = ap are_plain same ∙ is.plain;
-        bytes = is.bytes ∙ body-same (map entry_of is.rows) is.rows same;
+        bytes = is.bytes ∙ body-same (map (entry_by zeros) is.rows) is.rows same;
       }
 
   pub is_data_page : HoldsEntries plan number page → IsDataPage layout buckets number page

@@ -1,14 +1,19 @@
--- The pages of a sound table are the image of a table of the model, whether or not the model's facts hold of it.
-use Rattle.std.specs.Prelude.{◌≡◌, ℕ, ◌+◌, ◌<◌, ◌≤◌, ◌⊎◌, IsTrue, Option, Some, None, List, length, sum, slice_get}
+-- The pages of a sound table are the image of a table of the model, of which all facts hold that its rules give.
+use Rattle.std.specs.Prelude.{◌≡◌, ℕ, ◌+◌, ◌-◌, ◌<◌, ◌≤◌, ◌⊎◌, true, false, nat_lt, IsTrue, if◌then◌else◌, Option, Some, None, IfSome, List, [], length, map, filter, sum, slice_get}
 use Rattle.std.specs.List.{AllByRecursion}
 use Rattle.fl_base.specs.declared.types.RingPlace.{RingPlace}
 use Rattle.fl_flash.specs.Flash.{FlashState, page_at}
 use Rattle.fl_flash.specs.Places.{extent}
-use Rattle.fl_model.specs.Facts.{FitsPlan, IsContent, IsLogPage, counts_in, is_some_ring}
+use Rattle.fl_model.specs.Agrees.{TellPages, HoldsBlob, reach_of}
+use Rattle.fl_model.specs.Facts.{FitsPlan, IsContent, IsLogPage, IsSettled, counts_in, is_some_ring}
 use Rattle.fl_model.specs.Image.{IsRingImage, HoldsRows, HoldsEntries, HoldsContent, HoldsLogged}
+use Rattle.fl_model.specs.Index.{IndexPage}
+use Rattle.fl_model.specs.Log.{IsLog}
+use Rattle.fl_model.specs.Mount.{index_end}
+use Rattle.fl_model.specs.Query.{page_stands}
 use Rattle.fl_model.specs.Record.{Plan, has_index, has_var, has_log, rows_per_page, entries_per_page}
 use Rattle.fl_model.specs.Ring as model
-use Rattle.fl_model.specs.Table.{Table, Entry, full_pages, log_pages, lose}
+use Rattle.fl_model.specs.Table.{Table, Entry, RingName, ring_of, firsts, full_pages, has_rows, is_spent, log_pages, lose, spent_from}
 use Rattle.fl_plan.specs.Plan.{Label, blocks_in, plan_of_table, with_log}
 use Rattle.fl_plan.specs.declared.table_config.TableConfig.{TableConfig}
 use Rattle.fl_ring.specs.Counts.{model_shape}
@@ -36,7 +41,17 @@ pub record TableImage (config : TableConfig) (log : Option RingPlace) (page : �
   pub var : OfPlace (λ place ring. RingImage page (shape_in config place) ring (HoldsContent table ring)) config.var table.var
   pub logged : OfPlace (λ place ring. RingImage page (shape_in config place) ring (HoldsLogged plan table ring)) log table.log
 
--- the facts of a table that a check looks at page by page
+-- A row leads to its blob: its first page was written, and where that page stands, all pages of the blob were, and have its bytes.
+pub record LeadsToBlob (plan : Plan) (table : Table) (ring : model.Ring) (entry : Entry) (blob : List ℕ) : Type 0 where
+  pub written : entry.page < ring.next
+  pub reaches : page_stands ring entry.page ≡ true → entry.page + reach_of plan entry blob < ring.next
+  pub holds : page_stands ring entry.page ≡ true → HoldsBlob plan table ring entry blob
+
+abbrev pub BlobsLead : Plan → Table → model.Ring → Type 0
+BlobsLead plan table ring =
+    (i : ℕ) (entry : Entry) (blob : List ℕ) → slice_get table.entries i ≡ Some entry → entry.kept.blob ≡ Some blob → 0 < length blob → LeadsToBlob plan table ring entry blob
+
+-- the facts of a table that the rules give
 pub record PagesFit (plan : Plan) (table : Table) : Type 0 where
   pub has_rings : (is_some_ring table.index ≡ has_index plan) × (is_some_ring table.var ≡ has_var plan) × (is_some_ring table.log ≡ has_log plan)
   pub counted : sum table.rows.counts ≡ length table.entries
@@ -50,14 +65,43 @@ pub record PagesFit (plan : Plan) (table : Table) : Type 0 where
   pub var_each : length table.var_pages ≡ full_pages (counts_in table.var)
   pub var_fit : AllByRecursion (IsContent plan) table.var_pages
   pub log_counts : AllByRecursion (λ count. count ≤ rows_per_page plan) (counts_in table.log)
-  pub log_each : length (log_pages table) ≡ full_pages (counts_in table.log)
+  pub log_each : map (λ rows. length rows) (log_pages table) ≡ filter (nat_lt 0) (counts_in table.log)
   pub log_fit : AllByRecursion (IsLogPage plan) (log_pages table)
+  pub logged_some : has_rows table.log ≡ false → table.logged ≡ []
+  -- what its index lists ascends, ends before the next data page, and tells of its data pages
+  pub firsts : (i j a b : ℕ) → i < j → slice_get (firsts table) i ≡ Some a → slice_get (firsts table) j ≡ Some b → a + entries_per_page plan ≤ b
+  pub listed : index_end plan table ≤ table.rows.next
+  pub tell : (k : ℕ) (page : IndexPage) → slice_get table.index_pages k ≡ Some page → TellPages plan table page.first page.entries
+  -- its rows lead to their blobs
+  pub blobs : IfSome table.var (BlobsLead plan table)
+
+-- ---- a table that the model mounts
+
+-- Page numbers are left: for the void pages of repairs, and for a data ring that is numbered anew behind what its index lists.
+pub record NumbersAreLeft (plan : Plan) (table : Table) : Type 0 where
+  pub each : (name : RingName) → IfSome (ring_of name table) (λ ring. ring.next + (if ring.torn then 1 else 0) ≤ 4294967292)
+  pub listed : model.oldest table.rows < index_end plan table → 0 < length table.rows.counts → table.rows.next + (if table.rows.torn then 1 else 0) ≤ spent_from + 1
+
+-- what each run keeps of a table, and no rule asks for: numbers are left, and no blob begins in a void page
+pub record IsAsRunsLeave (plan : Plan) (table : Table) : Type 0 where
+  pub numbers : NumbersAreLeft plan table
+  pub begin : (i : ℕ) (entry : Entry) (blob : List ℕ) → slice_get table.entries i ≡ Some entry → entry.kept.blob ≡ Some blob → 0 < length blob →
+      IfSome table.var (λ ring. model.oldest ring ≤ entry.page → slice_get ring.counts (entry.page - model.oldest ring) ≡ Some 0 → ⊥)
+
+-- All facts of the model hold of such a table where those of its log do.
+pub record StandsSettled (plan : Plan) (table : Table) : Type 0 where
+  pub settled : IsAsRunsLeave plan table → IsLog table → IsSettled plan table
+  -- numbers are left while no put is refused for want of them
+  pub unspent : is_spent table ≡ false → NumbersAreLeft plan table
+  -- a table without a log owes nothing
+  pub unlogged : table.log ≡ None → IsLog table
 
 -- a table whose image the pages are, with as many rows, kept data pages and void ones as a check tells
 pub record HasImage (config : TableConfig) (log : Option RingPlace) (page : ℕ → List ℕ) (plan : Plan) (rows pages voids : ℕ) : Type 0 where
   pub table : Table
   pub image : TableImage config log page plan table
   pub fit : PagesFit plan table
+  pub stands : StandsSettled plan table
   pub rows_are : length table.entries ≡ rows
   pub pages_are : length table.rows.counts ≡ pages
   pub voids_are : full_pages table.rows.counts + voids ≡ pages

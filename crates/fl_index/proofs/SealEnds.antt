@@ -1,11 +1,12 @@
 -- How the seal of an index page ends, by what it did to the ring.
-use Rattle.std.proofs.Common.{◌≡◌, ◌≢◌, ◌⊎◌, inl, inr, ℕ, suc, ◌+◌, ◌-◌, ◌*◌, ◌/◌, ◌%◌, ◌<◌, ◌≤◌, Bool, true, false, cond, ◌==◌, ◌||◌, IsTrue, Option, Some, None, IfSome, Result, Ok, Err, List, [], ◌∷◌, ◌++◌, length, take, drop, get_or, set, sum, refl, sym, ◌∙◌, ap, subst, arith, length-take, IsOk, get_or-set_other, get_or-set_same}
+use Rattle.std.proofs.Common.{◌≡◌, ◌≢◌, ◌⊎◌, inl, inr, ℕ, suc, ◌+◌, ◌-◌, ◌*◌, ◌/◌, ◌%◌, ◌<◌, ◌≤◌, Bool, true, false, cond, ◌==◌, IsTrue, Option, Some, None, IfSome, Result, Ok, Err, List, [], ◌∷◌, ◌++◌, length, take, drop, get_or, set, sum, refl, sym, ◌∙◌, ap, subst, arith, length-take, IsOk, get_or-set_other, get_or-set_same}
 use Rattle.std.proofs.lemmas.Bool.{cases_lt, eqb-true}
 use Rattle.std.proofs.lemmas.List.{take-take, drop-take}
 use Rattle.std.proofs.lemmas.List.Sums.{sum_by-take-drop, sum_by-cons}
 use Rattle.std.proofs.Math.Nat.{mod-lt, mul-le-mul_right, add-mul, div-add-mod'}
 use Rattle.std.specs.List.{slice_get}
 use Rattle.std.specs.Option.{option_map, unwrap_or}
+use Rattle.fl_bitmap.proofs.Widths.{widths}
 use Rattle.fl_bitmap.specs.Widths.{is_bits}
 use Rattle.fl_flash.specs.Flash.{FlashState, pages, page_at}
 use Rattle.fl_flash.specs.Places.{extent}
@@ -104,15 +105,6 @@ module _ (index : BitmapIndex) (first : ℕ) (plan : Plan) (h : IsPlanned index 
 
   pub planned-widths : (1 ≤ plan.bits / 8) × (plan.bits / 8 ≤ 8)
   planned-widths = widths plan.bits planned-bits
-    where
-      widths : (n : ℕ) → IsTrue (is_bits n) → (1 ≤ n / 8) × (n / 8 ≤ 8)
-      widths n h = by_tests (n == 8) (n == 16) (n == 64) refl refl refl h
-        where
-          by_tests : (a b c : Bool) → (n == 8) ≡ a → (n == 16) ≡ b → (n == 64) ≡ c → (a || b || c) ≡ true → (1 ≤ n / 8) × (n / 8 ≤ 8)
-          by_tests true b c x y z h = let e = eqb-true n 8 x in subst (λ k. (1 ≤ k / 8) × (k / 8 ≤ 8)) (sym e) (omega arith, omega arith)
-          by_tests false true c x y z h = let e = eqb-true n 16 y in subst (λ k. (1 ≤ k / 8) × (k / 8 ≤ 8)) (sym e) (omega arith, omega arith)
-          by_tests false false true x y z h = let e = eqb-true n 64 z in subst (λ k. (1 ≤ k / 8) × (k / 8 ≤ 8)) (sym e) (omega arith, omega arith)
-          by_tests false false false x y z h = cc
 
   -- an index page holds some entry
   pub some-entries : 0 < entries_per_page plan

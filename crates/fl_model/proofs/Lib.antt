@@ -18,3 +18,4 @@ pub mod EntriesStayTold
 pub mod BlobsStay
 pub mod BlobsJoined
 pub mod Fresh
+pub mod StandingPages

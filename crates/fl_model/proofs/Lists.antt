@@ -90,3 +90,7 @@ each-at {X} P [] i x h e = absurd (none e)
     none e = cc
 each-at {X} P (y ∷ ys) zero x h e = let same : y ≡ x = cc in subst P same h.0
 each-at P (y ∷ ys) (suc i) x h e = each-at P ys i x h.1 e
+
+pub each-weaker : {X : Type 0} (P Q : X → Type 0) → ((x : X) → P x → Q x) → (xs : List X) → AllByRecursion P xs → AllByRecursion Q xs
+each-weaker P Q go [] h = tt
+each-weaker P Q go (x ∷ xs) h = (go x h.0, each-weaker P Q go xs h.1)

@@ -8,13 +8,13 @@ use Rattle.fl_model.specs.Index.{IndexEntry}
 use Rattle.fl_model.specs.Record.{Plan}
 use Rattle.fl_model.specs.Ring.{Ring}
 use Rattle.fl_model.specs.Table.{Table, Entry, RingName, DataRing, IndexRing, VarRing, LogRing, ring_of}
-use Rattle.fl_rlc.proofs.LoggedFacts.{all-weaker}
+use Rattle.fl_model.proofs.Lists.{each-weaker}
 use Rattle.fl_rlc.proofs.TakenRecord.{fits-bare}
 
-contents : (plan : Plan) (page : ContentPage) → IsContent plan page → IsContent (bare plan) page
+pub contents : (plan : Plan) (page : ContentPage) → IsContent plan page → IsContent (bare plan) page
 contents plan page h = record { some = h.some; most = h.most; length = h.length }
 
-tells : (plan : Plan) (table : Table) (first : ℕ) (entries : List IndexEntry) → TellPages plan table first entries → TellPages (bare plan) (bare_table table) first entries
+pub tells : (plan : Plan) (table : Table) (first : ℕ) (entries : List IndexEntry) → TellPages plan table first entries → TellPages (bare plan) (bare_table table) first entries
 tells plan table first entries h j n lt at = by-count (slice_get table.rows.counts n) (h j n lt at)
   where
     by-entry : (rows : List Entry) (o : Option IndexEntry) → TellsAt plan rows o → TellsAt (bare plan) rows o
@@ -44,11 +44,11 @@ bare-facts plan table h = record {
   var_each = h.var_each;
   log_each = refl;
   index_fit = h.index_fit;
-  var_fit = all-weaker (IsContent plan) (IsContent (bare plan)) (contents plan) table.var_pages h.var_fit;
+  var_fit = each-weaker (IsContent plan) (IsContent (bare plan)) (contents plan) table.var_pages h.var_fit;
   log_fit = tt;
   logged_some = λ none. refl;
   logged = record { ascending = tt; whole = inl refl; safe = λ some. absurd (some refl) };
-  fit = all-weaker (FitsPlan plan) (FitsPlan (bare plan)) (fits-bare plan) table.entries h.fit;
+  fit = each-weaker (FitsPlan plan) (FitsPlan (bare plan)) (fits-bare plan) table.entries h.fit;
   counted = h.counted;
   few_pending = h.few_pending;
   few_rows = h.few_rows;

@@ -1,5 +1,5 @@
 -- The facts of a table, from those without its log and those of its log.
-use Rattle.std.proofs.Common.{◌≡◌, ℕ, ◌+◌, ◌-◌, ◌≤◌, true, false, cond, nat_lt, Option, Some, None, IfSome, IsTrue, List, [], ◌∷◌, map, filter, length, slice_get, sym, ◌∙◌, ap, subst}
+use Rattle.std.proofs.Common.{◌≡◌, ℕ, ◌+◌, ◌-◌, ◌≤◌, true, false, cond, nat_lt, Option, Some, None, IfSome, IsTrue, List, [], map, filter, length, slice_get, sym, ◌∙◌, ap, subst}
 use Rattle.std.specs.List.{AllByRecursion}
 use Rattle.fl_model.specs.Agrees.{TellPages, TellsAt, is_told, rows_at, BlobsOf}
 use Rattle.fl_model.specs.Bare.{bare, bare_table}
@@ -10,10 +10,7 @@ use Rattle.fl_model.specs.Log.{IsLog}
 use Rattle.fl_model.specs.Record.{Plan, has_log, rows_per_page}
 use Rattle.fl_model.specs.Ring.{Ring, IsRing}
 use Rattle.fl_model.specs.Table.{Table, Entry, RingName, DataRing, IndexRing, VarRing, LogRing, shape_of, ring_of, has_rows, log_pages}
-
-pub all-weaker : {X : Type 0} (P Q : X → Type 0) → ((x : X) → P x → Q x) → (xs : List X) → AllByRecursion P xs → AllByRecursion Q xs
-all-weaker P Q go [] h = tt
-all-weaker P Q go (x ∷ xs) h = (go x h.0, all-weaker P Q go xs h.1)
+use Rattle.fl_model.proofs.Lists.{each-weaker}
 
 -- what the log's pages say of it
 pub record LogFacts (plan : Plan) (table : Table) : Type 0 where
@@ -68,11 +65,11 @@ table-of plan table h l = record {
   var_each = h.var_each;
   log_each = l.each ∙ ap (λ (o : Option Ring). filter (nat_lt 0) (counts_in o)) (sym l.ring_is);
   index_fit = h.index_fit;
-  var_fit = all-weaker (IsContent (bare plan)) (IsContent plan) (contents plan) table.var_pages h.var_fit;
+  var_fit = each-weaker (IsContent (bare plan)) (IsContent plan) (contents plan) table.var_pages h.var_fit;
   log_fit = l.fit;
   logged_some = l.logged_some;
   logged = l.logged;
-  fit = all-weaker (FitsPlan (bare plan)) (FitsPlan plan) (fits plan) table.entries h.fit;
+  fit = each-weaker (FitsPlan (bare plan)) (FitsPlan plan) (fits plan) table.entries h.fit;
   counted = h.counted;
   few_pending = h.few_pending;
   few_rows = h.few_rows;

@@ -25,8 +25,9 @@ use Rattle.fl_rlc.specs.Rows.{Joins}
 use Rattle.fl_rlc.specs.Standing as of_log
 use Rattle.fl_rlc.specs.declared.log.RecordLog.{RecordLog}
 use Rattle.fl_rlc.specs.declared.table.LoggedTable.{LoggedTable}
+use Rattle.fl_model.proofs.Lists.{each-weaker}
 use Rattle.fl_rlc.proofs.Frames.{log-still}
-use Rattle.fl_rlc.proofs.LoggedFacts.{all-weaker, fits}
+use Rattle.fl_rlc.proofs.LoggedFacts.{fits}
 use Rattle.fl_rlc.proofs.PutRows.{put-rows, rows_left, entry_of, pending-page, pending-many}
 
 module _ {KNOTS SLOTS : ℕ} (t : LoggedTable KNOTS SLOTS) (l : RecordLog) (t_is : t.log ≡ Some l) (f : FlashState) (first : ℕ) (plan : Plan) (table : Table) (h : Stands t f first plan table) where
@@ -128,7 +129,7 @@ module _ {KNOTS SLOTS : ℕ} (t : LoggedTable KNOTS SLOTS) (l : RecordLog) (t_is
           page = record {
             some = let k = length-append (rows_left (bare plan) (bare_table table)) (entry_of (bare plan) item (with_room (bare plan) (bare_table table)) ∷ []) in omega (arith, ap (λ (es : List Entry). length es) rows-are, k);
             few = omega (arith, pending-many P P-few, p.stands.facts.few_pending);
-            page = pending-page plan P (all-weaker (FitsPlan (bare plan)) (FitsPlan plan) (fits plan) P.entries p.stands.facts.fit) p.stands.facts.ascending;
+            page = pending-page plan P (each-weaker (FitsPlan (bare plan)) (FitsPlan plan) (fits plan) P.entries p.stands.facts.fit) p.stands.facts.ascending;
           };
           as_many = pending-many P P-few;
         }

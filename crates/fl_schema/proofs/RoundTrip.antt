@@ -79,7 +79,7 @@ length-bytes_of_row key types blobs row fit =
     ∙ omega (arith, length-append front middle, length-le (key_width key) row.key, length-values_bytes types row.values fit.as_many, length-end blobs row.blob)
 
 -- the bytes of a number are bytes
-le_each : (i count n k : ℕ) → get_or (bytes_low_first i count n) k 0 < 256
+pub le_each : (i count n k : ℕ) → get_or (bytes_low_first i count n) k 0 < 256
 le_each i zero n k = omega arith
 le_each zero (suc count) n zero = omega arith
 le_each (suc i) (suc count) n zero = omega arith

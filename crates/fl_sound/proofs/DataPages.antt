@@ -18,9 +18,9 @@ use Rattle.fl_check.specs.Marks.{kept_page}
 use Rattle.fl_check.specs.Rising.{last_in, last_after, last_key, KeysAscend}
 use Rattle.fl_check.specs.Tally.{blobs_end, tally_of}
 use Rattle.fl_check.specs.declared.numbering.Numbering.{Numbering}
+use Rattle.fl_check.proofs.RingReads.{Reads}
 use Rattle.fl_sound.specs.Sound.{void_pages}
 use Rattle.fl_sound.proofs.Lists.{take-none, take-next, rows-behind, last-behind, ascends-behind, ascends-front, blobs-behind}
-use Rattle.fl_sound.proofs.RingReads.{Reads}
 
 pub voids-append : (a b : List ℕ) → void_pages (a ++ b) ≡ void_pages a + void_pages b
 voids-append a b = sum_by-append (λ (x : ℕ). cond (x == 0) 1 0) a b

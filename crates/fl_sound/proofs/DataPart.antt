@@ -55,11 +55,13 @@ use Rattle.fl_check.specs.declared.numbering.Numbering.{Numbering}
 use Rattle.fl_check.proofs.KeptPages.{good}
 use Rattle.fl_check.proofs.TablePages.{is_data_page}
 use Rattle.fl_check.proofs.ConfigFacts.{few-indexed, has-buckets}
+use Rattle.fl_check.proofs.FullEntries.{full-stored}
+use Rattle.fl_check.proofs.RingReads.{Reads}
 use Rattle.fl_sound.proofs.DataPages.{HaveRowsOf, keys-ascend}
 use Rattle.fl_sound.proofs.Lists.{take-none}
-use Rattle.fl_sound.proofs.RingReads.{IsOf, Reads}
+use Rattle.fl_sound.proofs.RingReads.{IsOf}
 use Rattle.fl_sound.proofs.RingSound.{SoundRing, AreFormed, sizes, sound-ring}
-use Rattle.fl_sound.proofs.Told.{full-stored, fields-fit}
+use Rattle.fl_sound.proofs.Told.{fields-fit}
 
 state-committed : (s : PageState) → commits s ≡ true → s ≡ Committed
 state-committed Blank e = cc

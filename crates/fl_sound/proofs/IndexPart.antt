@@ -36,10 +36,11 @@ use Rattle.fl_check.specs.Whole as whole
 use Rattle.fl_check.specs.declared.numbering.Numbering.{Numbering}
 use Rattle.fl_check.proofs.Wholes.{of_ring, of_none}
 use Rattle.fl_check.proofs.ConfigFacts.{some-bits, some-room}
+use Rattle.fl_check.proofs.RingReads.{Reads}
 use Rattle.fl_sound.proofs.DataPart.{StandsOn, plain, idle, told, untold}
 use Rattle.fl_sound.proofs.DataPart as parts
 use Rattle.fl_sound.proofs.IndexRule.{ListsPages, end-is, have-entries}
-use Rattle.fl_sound.proofs.RingReads.{IsOf, Reads}
+use Rattle.fl_sound.proofs.RingReads.{IsOf}
 use Rattle.fl_sound.proofs.RingSound.{SoundRing, AreFormed, sizes, counts-some, sound-ring}
 
 -- the index ring in its place

@@ -25,8 +25,8 @@ use Rattle.fl_check.specs.Marks.{kept_page}
 use Rattle.fl_check.specs.Tally.{listed_to}
 use Rattle.fl_check.specs.Told.{TellsPage}
 use Rattle.fl_check.specs.declared.numbering.Numbering.{Numbering}
+use Rattle.fl_check.proofs.RingReads.{Reads}
 use Rattle.fl_sound.proofs.Lists.{take-none, take-next}
-use Rattle.fl_sound.proofs.RingReads.{Reads}
 
 -- an index page lists the data pages from its first one on, with entries that tell of them
 pub record ListsPages (plan : Plan) (table : Table) (ring : model.Ring) (i : ℕ) (page : List ℕ) : Type 0 where

@@ -13,3 +13,4 @@ pub mod Whole
 pub mod Fronts
 pub mod Checks
 pub mod Scripts
+pub mod Mounts

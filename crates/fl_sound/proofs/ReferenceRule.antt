@@ -1,9 +1,8 @@
 -- The rule on the references of rows holds where the pages of variable data hold a table's blobs.
-use Rattle.std.proofs.Common.{◌≡◌, ◌⊎◌, inl, inr, ℕ, zero, suc, ◌+◌, ◌-◌, ◌*◌, ◌/◌, ◌%◌, ◌<◌, ◌≤◌, Bool, true, false, cond, ◌&&◌, ◌==◌, Option, Some, None, List, [], ◌∷◌, length, map, take, drop, max, refl, sym, ◌∙◌, ap, subst, arith}
+use Rattle.std.proofs.Common.{◌≡◌, ◌⊎◌, inl, inr, ℕ, zero, suc, ◌+◌, ◌-◌, ◌*◌, ◌/◌, ◌%◌, ◌<◌, ◌≤◌, Bool, true, false, cond, Option, Some, None, List, [], ◌∷◌, length, map, take, drop, max, refl, sym, ◌∙◌, ap, subst, arith}
 use Rattle.std.specs.List.{slice_get, sum}
-use Rattle.std.specs.Option.{option_map, unwrap_or}
-use Rattle.std.specs.Prelude.{nat_le}
-use Rattle.std.proofs.lemmas.Bool.{and_parts, eqb-true, leb-true, ltb-true, le-leb, lt-leb, lt-ltb, ne_eqb}
+use Rattle.std.specs.Option.{option_map}
+use Rattle.std.proofs.lemmas.Bool.{ltb-true, lt-ltb, ne_eqb}
 use Rattle.fl_base.specs.declared.types.BlobRef.{BlobRef}
 use Rattle.fl_mark.specs.Mark.{state_of_page}
 use Rattle.fl_model.specs.Agrees.{BlobsOf, HoldsBlob, content_at, reach_of}
@@ -15,6 +14,7 @@ use Rattle.fl_model.specs.Ring as model
 use Rattle.fl_model.specs.Row.{Row, stored_row}
 use Rattle.fl_model.specs.Table.{Table, Entry, full_pages}
 use Rattle.fl_model.proofs.Lists.{slice_get-drop, slice_get-front, slice_get-some}
+use Rattle.fl_model.proofs.StandingPages.{stands-kept, kept-stands}
 use Rattle.fl_page.specs.Header.{page_count}
 use Rattle.fl_ring.specs.Newest.{commits, page_back}
 use Rattle.fl_ring.specs.Ring.{Shape, place}
@@ -22,8 +22,8 @@ use Rattle.fl_check.specs.Marks.{kept_page}
 use Rattle.fl_check.specs.References.{numbered, IsThere, last_part, HoldsPart, IsWhole, Leads, BlobLeads, RowsLead, PageLeads}
 use Rattle.fl_check.specs.Tally.{reference_end, blobs_end}
 use Rattle.fl_check.specs.declared.numbering.Numbering.{Numbering}
+use Rattle.fl_check.proofs.RingReads.{Reads}
 use Rattle.fl_sound.proofs.DataPages.{HaveRowsOf}
-use Rattle.fl_sound.proofs.RingReads.{Reads}
 
 -- ---- rows and entries
 
@@ -106,18 +106,7 @@ module _ (plan : Plan) (page : ℕ → List ℕ) (first blocks per_block least :
         reads.back (v.next - number) (omega (arith, same, low)) (omega (arith, same, high))
         ∙ ap (λ (k : ℕ). page (place r k)) (omega (arith, same, low))
 
-    -- a page before the next one that stands is kept
-    stood : (number : ℕ) → number < ring.next → page_stands ring number ≡ true → (model.oldest ring ≤ number) × (slice_get ring.counts (number - model.oldest ring) ≡ Some 1)
-    stood number low h =
-        let b = and_parts (nat_le (model.oldest ring) number) (unwrap_or (option_map (λ count. count == 1) (slice_get ring.counts (number - model.oldest ring))) false)
-        (sym (ap (λ (b : Bool). cond b true (nat_le (model.oldest ring) number && unwrap_or (option_map (λ count. count == 1) (slice_get ring.counts (number - model.oldest ring))) false)) (lt-leb ring.next number low)) ∙ h) in
-        (leb-true (model.oldest ring) number b.0, by_count (slice_get ring.counts (number - model.oldest ring)) b.1)
-      where
-        by_count : (o : Option ℕ) → unwrap_or (option_map (λ count. count == 1) o) false ≡ true → o ≡ Some 1
-        by_count None k = cc
-        by_count (Some count) k = ap (λ (n : ℕ). Some n) (eqb-true count 1 k)
-
-    -- .. and has its content
+    -- a page before the next one that has content stands
     content-there : (number : ℕ) (content : ContentPage) → number < ring.next → content_at plan table ring number ≡ Some content →
         (page_stands ring number ≡ true) × (slice_get table.var_pages (full_pages (take (number - model.oldest ring) ring.counts)) ≡ Some content)
     content-there number content low e =
@@ -166,11 +155,7 @@ module _ (plan : Plan) (page : ℕ → List ℕ) (first blocks per_block least :
         ]
 
         stands : page_stands ring entry.page ≡ true
-        stands =
-            ap (λ (b : Bool). cond b true (nat_le (model.oldest ring) entry.page && unwrap_or (option_map (λ count. count == 1) (slice_get ring.counts (entry.page - model.oldest ring))) false))
-            (lt-leb ring.next entry.page (let k = same in omega (arith, k, there.sealed)))
-            ∙ ap (λ (b : Bool). b && unwrap_or (option_map (λ count. count == 1) (slice_get ring.counts (entry.page - model.oldest ring))) false) (le-leb (model.oldest ring) entry.page not-gone)
-            ∙ ap (λ (o : Option ℕ). unwrap_or (option_map (λ count. count == 1) o) false) count-there
+        stands = stands-kept ring entry.page not-gone count-there
 
         h : HoldsBlob plan table ring entry blob
         h = blobs.holds m entry blob here blob_is some stands
@@ -189,7 +174,7 @@ module _ (plan : Plan) (page : ℕ → List ℕ) (first blocks per_block least :
         part-content j le = content-there (entry.page + j) (h.pages j) (part-low j le) (h.there j le)
 
         part-kept : (j : ℕ) → j ≤ last → (model.oldest ring ≤ entry.page + j) × (slice_get ring.counts (entry.page + j - model.oldest ring) ≡ Some 1)
-        part-kept j le = stood (entry.page + j) (part-low j le) (part-content j le).0
+        part-kept j le = kept-stands ring (entry.page + j) (part-low j le) (part-content j le).0
 
         part-used : (j : ℕ) → j ≤ last → page_count (numbered page r v (entry.page + j)) ≡ (h.pages j).used
         part-used j le =

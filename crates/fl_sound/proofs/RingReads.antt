@@ -17,24 +17,13 @@ use Rattle.fl_check.specs.Numbering.{IsNumbered}
 use Rattle.fl_check.specs.declared.numbering.Numbering.{Numbering}
 use Rattle.fl_check.proofs.GoodNumbers.{good_next}
 use Rattle.fl_check.proofs.GoodStates.{at_is, kept_is, holds_kept}
+use Rattle.fl_check.proofs.RingReads.{Reads}
 
 -- a ring's state is that of a ring of the model: a page with a count is committed, and one without is void
 pub record IsOf (s : RingState) (ring : model.Ring) : Type 0 where
   pub next : s.next ≡ ring.next
   pub count : count s ≡ length ring.counts
   pub some : (i c : ℕ) → slice_get ring.counts i ≡ Some c → is_some (get_or s.kept i None) ≡ nat_lt 0 c
-
--- what the numbers of a check tell of the ring
-pub record Reads (page : ℕ → List ℕ) (r : Shape) (at_least : ℕ) (ring : model.Ring) (n : Numbering) : Type 0 where
-  pub kept : n.marks.kept ≡ length ring.counts
-  -- the pages, counted back from the next one
-  pub back : (k : ℕ) → 1 ≤ k → k ≤ length ring.counts → page (page_back r n.marks.at k) ≡ page (place r (ring.next - k))
-  -- .. and from the oldest one on
-  pub at : (i : ℕ) → i < length ring.counts → page (kept_page r n.marks i) ≡ page (place r (model.oldest ring + i))
-  pub committed : (i c : ℕ) → slice_get ring.counts i ≡ Some c → commits (state_of_page (page (kept_page r n.marks i))) ≡ nat_lt 0 c
-  -- the next number is the ring's where a page is committed, and else behind those of its pages from the least one on
-  pub next : (i c : ℕ) → slice_get ring.counts i ≡ Some c → 0 < c → n.next ≡ ring.next
-  pub least : (n.next ≡ ring.next) ⊎ (at_least + length ring.counts ≤ n.next)
 
 -- a page with a body is one
 pub any_at : (xs : List (Option (List ℕ))) (i : ℕ) → is_some (get_or xs i None) ≡ true → list_any is_some xs ≡ true

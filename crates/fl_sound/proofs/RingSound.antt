@@ -19,7 +19,8 @@ use Rattle.fl_check.specs.RingRules.{KeyOrder, HaveKeys, IsRingSound}
 use Rattle.fl_check.specs.declared.numbering.Numbering.{Numbering}
 use Rattle.fl_check.proofs.StandingRingHasNumbers.{good_numbering}
 use Rattle.fl_check.proofs.GoodStates.{good_rest}
-use Rattle.fl_sound.proofs.RingReads.{IsOf, Reads, reads}
+use Rattle.fl_check.proofs.RingReads.{Reads}
+use Rattle.fl_sound.proofs.RingReads.{IsOf, reads}
 
 -- where each body has a count, the counts tell which pages have one
 pub counts-some : (count_of : List ℕ → ℕ) → ((body : List ℕ) → 0 < count_of body) → (kept : List (Option (List ℕ))) (i c : ℕ) → slice_get (map (page_count count_of) kept) i ≡ Some c

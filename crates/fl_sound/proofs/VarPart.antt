@@ -44,9 +44,10 @@ use Rattle.fl_check.specs.declared.numbering.Numbering.{Numbering}
 use Rattle.fl_check.proofs.ContentPages.{content_used}
 use Rattle.fl_check.proofs.KeptPages as pages
 use Rattle.fl_check.proofs.Wholes.{of_ring, of_none}
+use Rattle.fl_check.proofs.RingReads.{Reads}
 use Rattle.fl_sound.proofs.DataPart.{StandsOn, facts, idle, rows-of}
 use Rattle.fl_sound.proofs.ReferenceRule.{entry-of, HasBlobs, pages-lead}
-use Rattle.fl_sound.proofs.RingReads.{IsOf, Reads, any_at}
+use Rattle.fl_sound.proofs.RingReads.{IsOf, any_at}
 use Rattle.fl_sound.proofs.RingSound.{SoundRing, AreFormed, sizes, counts-some, sound-ring}
 
 -- the body of a page begins with its number

@@ -1,10 +1,19 @@
-//! The law that ties the check of an image to the store's promise: an image that stands for a state of the model is sound.
+//! The laws that tie the check of an image to the store's promise: an image that stands for a state of the model is sound, and a sound
+//! table is one that a mount takes.
 #![tactic(auto)]
 
+ghost use Rattle.fl_sound.specs.Mounts.{SoundTablesMount};
 ghost use Rattle.fl_sound.specs.Sound.{TablesAreSound};
 
 /// Of a table for which a flash stands, and so of each table of an image, a check finds that it is sound, and nothing else:
 /// with the rows that the table keeps, their pages, and those of them that are void.
 pub fn tables_are_sound()
     ensures { TablesAreSound }
+{}
+
+/// Where a check finds a table sound, the flash stands for a table of the model with as many rows, kept pages and void ones, if page
+/// numbers are left, no blob begins in a void page, and its log is as runs leave it. So a mount ends as the clause `ends` of
+/// `LoggedTable::mount` says, and whatever records its log has, as the clause `apart` does.
+pub fn sound_tables_mount()
+    ensures { SoundTablesMount }
 {}
