@@ -76,7 +76,7 @@ caused f g (Err PowerLost) cause = cause.power refl
 caused f g (Err Media) cause = cause.media refl
 
 -- .. and one behind an operation that was done
-caused_then : (f mid g : FlashState) (result : Result (Unit {0}) FlashFault) → Goes f mid → mid.is_on ≡ true → HasFlashCause mid result g → IfErr result (λ e. CausedBy f e g)
+pub caused_then : (f mid g : FlashState) (result : Result (Unit {0}) FlashFault) → Goes f mid → mid.is_on ≡ true → HasFlashCause mid result g → IfErr result (λ e. CausedBy f e g)
 caused_then f mid g (Ok u) goes on cause = tt
 caused_then f mid g (Err PowerLost) goes on cause = elim (cause.power refl) [
   | inl off ↦ absurd (cc (off, on))
