@@ -24,14 +24,37 @@ pub(crate) fn run_source(
     Ok((status, source, sink))
 }
 
-/// Runs a script over a medium, and gives the status and what was written.
+/// How a script ends over a medium, and whether this is written to a sink.
+pub(crate) fn run_to(
+    alloc: Global,
+    media: &mut MemMedia,
+    script: Vec<u8>,
+    sink: MemSink,
+    wanted: &[u8],
+) -> Result<(Status, bool), Fail> {
+    let source = MemSource::new(script, Vec::new(alloc));
+    let (status, _, sink) = run_source(alloc, media, source, sink)?;
+    Ok((status, sink.bytes() == wanted))
+}
+
+/// .. to a sink that has room for it.
 pub(crate) fn run_script(
     alloc: Global,
     media: &mut MemMedia,
     script: Vec<u8>,
-) -> Result<(Status, MemSink), Fail> {
-    let source = MemSource::new(script, Vec::new(alloc));
+    wanted: &[u8],
+) -> Result<(Status, bool), Fail> {
     let sink = MemSink::new(alloc, 10_000, Vec::new(alloc))?;
-    let (status, _, sink) = run_source(alloc, media, source, sink)?;
-    Ok((status, sink))
+    run_to(alloc, media, script, sink, wanted)
+}
+
+/// Whether a script is run to its end, and this is written.
+pub(crate) fn is_done(
+    alloc: Global,
+    media: &mut MemMedia,
+    script: Vec<u8>,
+    wanted: &[u8],
+) -> Result<bool, Fail> {
+    let (status, is_written) = run_script(alloc, media, script, wanted)?;
+    Ok(matches!(status, Status::Done { .. }) && is_written)
 }
