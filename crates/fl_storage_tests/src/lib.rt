@@ -3,6 +3,8 @@
 #![tactic(auto)]
 
 #[cfg(test)]
+mod answers;
+#[cfg(test)]
 mod changed_pages;
 #[cfg(test)]
 mod cursors;
@@ -13,7 +15,11 @@ mod logged_tables;
 #[cfg(test)]
 mod lookups;
 #[cfg(test)]
+mod media;
+#[cfg(test)]
 mod rings;
+#[cfg(test)]
+mod stores;
 #[cfg(test)]
 mod tables;
 #[cfg(test)]

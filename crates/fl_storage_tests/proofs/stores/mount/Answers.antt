@@ -1,0 +1,10 @@
+use Rattle.fl_storage_tests.proofs.stores.mount.Goals as goal
+
+pub returns-clause-goes : goal.returns-clause-goes
+returns-clause-goes g c = c.mount.ensures.goes
+
+pub returns-clause-lies : goal.returns-clause-lies
+returns-clause-lies g c = c.mount.ensures.lies
+
+pub returns-clause-room : goal.returns-clause-room
+returns-clause-room g c = c.mount.ensures.room

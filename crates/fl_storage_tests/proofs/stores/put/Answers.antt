@@ -1,0 +1,7 @@
+use Rattle.fl_storage_tests.proofs.stores.put.Goals as goal
+
+pub returns-clause-goes : goal.returns-clause-goes
+returns-clause-goes g c = c.put.ensures.goes
+
+pub returns-clause-lies : goal.returns-clause-lies
+returns-clause-lies g c = c.put.ensures.lies
