@@ -13,15 +13,26 @@ fn words(alloc: Global) -> Result<Vec<String>, Fail> {
     Ok(words)
 }
 
-/// Runs the script that a source gives, and gives the status, the source and the sink.
-pub(crate) fn run_source(
+/// Runs these words over a source and a sink, and gives the status, the source and the sink.
+pub(crate) fn run_words(
     alloc: Global,
+    words: &[String],
     media: &mut MemMedia,
     mut source: MemSource,
     mut sink: MemSink,
+) -> (Status, MemSource, MemSink) {
+    let status = run(alloc, words, media, &mut source, &mut sink);
+    (status, source, sink)
+}
+
+/// .. that run the script of the source.
+pub(crate) fn run_source(
+    alloc: Global,
+    media: &mut MemMedia,
+    source: MemSource,
+    sink: MemSink,
 ) -> Result<(Status, MemSource, MemSink), Fail> {
-    let status = run(alloc, &words(alloc)?, media, &mut source, &mut sink);
-    Ok((status, source, sink))
+    Ok(run_words(alloc, &words(alloc)?, media, source, sink))
 }
 
 /// How a script ends over a medium, and whether this is written to a sink.

@@ -5,10 +5,10 @@ mod loads;
 mod logs;
 mod reads;
 
-use crate::script_runs::{is_done, run_script, run_source};
+use crate::script_runs::{is_done, run_script, run_source, run_words};
 use fl_base::{MemSink, MemSource, Name};
 use fl_flash::MemMedia;
-use fl_session::{PendingRows, Status, TableRows, run};
+use fl_session::{PendingRows, Status, TableRows};
 use std::alloc::Global;
 use std::test::Fail;
 
@@ -274,9 +274,9 @@ fn failing_streams(rt: HostRuntime) -> Result<(), Fail> {
 fn no_words(rt: HostRuntime) -> Result<(), Fail> {
     let alloc = rt.alloc();
     let mut media = empty_medium(alloc, PLAIN)?;
-    let mut sink = MemSink::new(alloc, 100, Vec::new(alloc))?;
-    let mut source = MemSource::new(Vec::new(alloc), Vec::new(alloc));
-    let status = run(alloc, &Vec::new(alloc), &mut media, &mut source, &mut sink);
+    let sink = MemSink::new(alloc, 100, Vec::new(alloc))?;
+    let source = MemSource::new(Vec::new(alloc), Vec::new(alloc));
+    let (status, _, _) = run_words(alloc, &Vec::new(alloc), &mut media, source, sink);
     assert!(rt; status == Status::Usage);
     Ok(())
 }
