@@ -104,9 +104,9 @@ fn look_up_after(
     requires exists { page < 1212 }
     requires range { from + length zeros.now ≤ 128 }
 {
-    let mut store = Store::new(alloc, table(alloc)?, 128)?;
     let mut media = blank_medium(alloc, 155136)?;
     let mut flash = SimFlash::new(alloc, &mut media, GEOMETRY, 303, 0)?;
+    let mut store = Store::new(alloc, table(alloc)?, 128)?;
     let filled = fill(&mut store.table, &mut flash, &mut store.buf, 8000);
     let cleared = flash.program(page, from, zeros).is_ok();
     let value = value_of(&store.table, &mut flash, &mut store.buf, 4000);
@@ -163,10 +163,10 @@ fn has_row<F: Flash>(
 fn scan_after(alloc: Global, zeros: &[u8]) -> Result<(bool, Result<bool, ReadFault>), ConfigRefusal>
     requires range { length zeros.now ≤ 8 }
 {
-    let mut store = Store::new(alloc, table(alloc)?, 128)?;
-    let mut index = PageBuf::new(alloc, 128)?;
     let mut media = blank_medium(alloc, 155136)?;
     let mut flash = SimFlash::new(alloc, &mut media, GEOMETRY, 303, 0)?;
+    let mut index = PageBuf::new(alloc, 128)?;
+    let mut store = Store::new(alloc, table(alloc)?, 128)?;
     let filled = fill(&mut store.table, &mut flash, &mut store.buf, 112);
     let cleared = flash.program(1200, 56, zeros).is_ok();
     let found = has_row(&store.table, &mut flash, &mut store.buf, &mut index);

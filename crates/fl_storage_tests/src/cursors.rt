@@ -207,10 +207,10 @@ fn answered<F: Flash>(steps: &[(Step, Answer)], store: &mut Store, flash: &mut F
 fn run(alloc: Global, failing: u64, steps: &[(Step, Answer)]) -> Result<usize, ConfigRefusal>
     requires { 1 ≤ failing }
 {
-    let mut store = Store::new(alloc, table(alloc)?)?;
     let mut media = blank_medium(alloc, 384)?;
     media.fail_call(failing);
     let mut flash = SimFlash::new(alloc, &mut media, GEOMETRY, 3, 0)?;
+    let mut store = Store::new(alloc, table(alloc)?)?;
     let done = answered(steps, &mut store, &mut flash);
     let _media = flash.into_media();
     Ok(done)

@@ -80,10 +80,10 @@ fn look_up<F: Flash>(
 }
 
 fn see(alloc: Global, number: u32) -> Result<(Result<Found, RingFault>, PageBuf), NoMemory> {
-    let mut buf = PageBuf::new(alloc, 64)?;
-    let mut index = BitmapIndex::plan(alloc, GEOMETRY, PLACE, 64, false)?;
     let mut media = blank_medium(alloc, 384)?;
     let mut flash = SimFlash::new(alloc, &mut media, GEOMETRY, 3, 0)?;
+    let mut buf = PageBuf::new(alloc, 64)?;
+    let mut index = BitmapIndex::plan(alloc, GEOMETRY, PLACE, 64, false)?;
     let found = look_up(&mut index, &mut flash, number, &mut buf);
     let _media = flash.into_media();
     Ok((found, buf))

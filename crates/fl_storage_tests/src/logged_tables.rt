@@ -146,9 +146,9 @@ fn run(
 ) -> Result<(Option<usize>, u64), ConfigRefusal>
     requires { IfSome log (λ place. place.first_block + place.blocks ≤ 6) }
 {
-    let mut store = Store::new(alloc, log)?;
     let mut media = blank_medium(alloc, 3072)?;
     let mut flash = SimFlash::new(alloc, &mut media, GEOMETRY, 6, 0)?;
+    let mut store = Store::new(alloc, log)?;
     let wrong = first_wrong(steps, &mut store, &mut flash);
     let programs = flash.work().programs;
     let _media = flash.into_media();
@@ -224,9 +224,9 @@ const BEFORE_THE_CUT: Talk = &[
 fn cut_at(alloc: Global, n: u64, kind: CutKind, mounted: Answer) -> Result<[bool; 3], ConfigRefusal>
     requires { 1 ≤ n }
 {
-    let mut store = Store::new(alloc, Some(LOG))?;
     let mut media = blank_medium(alloc, 3072)?;
     let mut flash = SimFlash::new(alloc, &mut media, GEOMETRY, 6, 0)?;
+    let mut store = Store::new(alloc, Some(LOG))?;
     let after = [(Put(6), Refused(PutRefusal::Stopped)), (Mount, mounted)];
     let first = first_wrong(BEFORE_THE_CUT, &mut store, &mut flash);
     let cut = take_cut(n, kind, Put(5), &mut store, &mut flash);
@@ -280,9 +280,9 @@ fn cut_mounts(alloc: Global) -> Result<[bool; 4], ConfigRefusal> {
     // The first cut fell into the mark of the log's torn page, the others by turns into the seal of the record and the mark of
     // the page that this tore.
     const KEPT: Talk = &[(Mount, Found(1, 5, 4))];
-    let mut store = Store::new(alloc, Some(LOG))?;
     let mut media = blank_medium(alloc, 3072)?;
     let mut flash = SimFlash::new(alloc, &mut media, GEOMETRY, 6, 0)?;
+    let mut store = Store::new(alloc, Some(LOG))?;
     let before = first_wrong(PUTS, &mut store, &mut flash);
     let torn = take_cut(1, CutKind::Half, Put(2), &mut store, &mut flash);
     let are_cut = cut_eight_mounts(&mut store, &mut flash);
@@ -300,9 +300,9 @@ fn a_record_of_the_log_survives_mounts_that_are_cut(rt: HostRuntime) -> Result<(
 
 // What a mount answers, and a put behind it, before which the power goes off.
 fn put_without_power(alloc: Global) -> Result<[Answer; 2], ConfigRefusal> {
-    let mut store = Store::new(alloc, Some(LOG))?;
     let mut media = blank_medium(alloc, 3072)?;
     let mut flash = SimFlash::new(alloc, &mut media, GEOMETRY, 6, 0)?;
+    let mut store = Store::new(alloc, Some(LOG))?;
     let mounted = store.mount(&mut flash);
     flash.power_off();
     let lost = store.put(&mut flash, 1);

@@ -63,9 +63,9 @@ fn run(
 ) -> Result<Option<usize>, ConfigRefusal>
     requires { vec_len bytes ≡ 512 }
 {
-    let mut store = Store::new(alloc, table(alloc)?, 64)?;
     let mut media = MemMedia::new(alloc, bytes, 512)?;
     let mut flash = SimFlash::new(alloc, &mut media, GEOMETRY, 4, 0)?;
+    let mut store = Store::new(alloc, table(alloc)?, 64)?;
     let wrong = first_wrong(alloc, steps, &mut store, &mut flash);
     let _media = flash.into_media();
     Ok(wrong)
@@ -110,9 +110,9 @@ fn cut_at(
     kind: CutKind,
     after: &[(Step, Answer)],
 ) -> Result<[Option<usize>; 3], ConfigRefusal> {
-    let mut store = Store::new(alloc, table(alloc)?, 64)?;
     let mut media = blank_medium(alloc, 512)?;
     let mut flash = SimFlash::new(alloc, &mut media, GEOMETRY, 4, 0)?;
+    let mut store = Store::new(alloc, table(alloc)?, 64)?;
     let before = first_wrong(alloc, BEFORE_THE_CUT, &mut store, &mut flash);
     flash.arm(2, kind);
     let within = first_wrong(alloc, IN_THE_CUT, &mut store, &mut flash);

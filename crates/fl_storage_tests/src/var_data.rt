@@ -187,9 +187,9 @@ fn tells<F: Flash>(alloc: Global, var: &mut VarData, flash: &mut F, blob: &[u8])
 
 fn told(alloc: Global) -> Result<bool, NoMemory> {
     let blob = counted();
-    let mut var = VarData::plan(alloc, GEOMETRY, PLACE)?;
     let mut media = blank_medium(alloc, 384)?;
     let mut flash = SimFlash::new(alloc, &mut media, GEOMETRY, 3, 0)?;
+    let mut var = VarData::plan(alloc, GEOMETRY, PLACE)?;
     let told = mount(alloc, &mut var, &mut flash)
         && tells(alloc, &mut var, &mut flash, &blob[..100]);
     let _media = flash.into_media();

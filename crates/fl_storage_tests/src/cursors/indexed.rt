@@ -93,9 +93,9 @@ fn scan_store(
     range: KeyRange,
     span: Span,
 ) -> Result<([Answer; 3], u64), ConfigRefusal> {
-    let mut store = Store::new(alloc, indexed_table(alloc, full_index)?)?;
     let mut media = blank_medium(alloc, 1408)?;
     let mut flash = SimFlash::new(alloc, &mut media, GEOMETRY, 11, 0)?;
+    let mut store = Store::new(alloc, indexed_table(alloc, full_index)?)?;
     fill(&mut store, &mut flash);
     let seen = scan(&mut store, &mut flash, range, span);
     let _media = flash.into_media();

@@ -116,9 +116,9 @@ fn run(
 ) -> Result<Option<usize>, ConfigRefusal>
     requires { vec_len bytes ≡ 1536 }
 {
-    let mut store = Store::new(alloc, table(alloc)?, 128)?;
     let mut media = MemMedia::new(alloc, bytes, 1536)?;
     let mut flash = SimFlash::new(alloc, &mut media, GEOMETRY, 6, 0)?;
+    let mut store = Store::new(alloc, table(alloc)?, 128)?;
     let wrong = first_wrong(alloc, steps, &mut store, &mut flash);
     let _media = flash.into_media();
     Ok(wrong)

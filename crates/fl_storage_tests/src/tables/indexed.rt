@@ -47,9 +47,9 @@ fn run_indexed(
 ) -> Result<(Option<usize>, u64), ConfigRefusal>
     requires { vec_len bytes ≡ 896 }
 {
-    let mut store = Store::new(alloc, indexed_table(alloc, false)?, 64)?;
     let mut media = MemMedia::new(alloc, bytes, 896)?;
     let mut flash = SimFlash::new(alloc, &mut media, GEOMETRY, 7, 0)?;
+    let mut store = Store::new(alloc, indexed_table(alloc, false)?, 64)?;
     let wrong = first_wrong(alloc, steps, &mut store, &mut flash);
     let programs = flash.work().programs;
     let _media = flash.into_media();
@@ -102,9 +102,9 @@ fn run_listing(
 ) -> Result<(Option<usize>, bool), ConfigRefusal>
     requires { vec_len bytes ≡ 896 }
 {
-    let mut store = Store::new(alloc, indexed_table(alloc, true)?, 64)?;
     let mut media = MemMedia::new(alloc, bytes, 896)?;
     let mut flash = SimFlash::new(alloc, &mut media, GEOMETRY, 7, 0)?;
+    let mut store = Store::new(alloc, indexed_table(alloc, true)?, 64)?;
     let wrong = first_wrong(alloc, steps, &mut store, &mut flash);
     let _read = flash.read(8, &mut store.buf);
     let _media = flash.into_media();
