@@ -71,6 +71,11 @@ fn run(
     Ok(wrong)
 }
 
+// .. on a blank flash.
+fn run_blank(alloc: Global, steps: &[(Step, Answer)]) -> Result<Option<usize>, ConfigRefusal> {
+    run(alloc, blank(alloc, 512)?, steps)
+}
+
 #[test]
 fn pending_rows_are_lost_and_flushed_ones_found(rt: HostRuntime) -> Result<(), Fail> {
     const STEPS: Talk = &[
@@ -82,8 +87,7 @@ fn pending_rows_are_lost_and_flushed_ones_found(rt: HostRuntime) -> Result<(), F
         (Mount, Found(1, 1, 0)),
         (Put(1, ROW, None), Refused(PutRefusal::Key { last: 1 })),
     ];
-    let bytes = blank(rt.alloc(), 512)?;
-    assert_eq!(rt; run(rt.alloc(), bytes, STEPS)?, None);
+    assert_eq!(rt; run_blank(rt.alloc(), STEPS)?, None);
     Ok(())
 }
 
@@ -238,8 +242,7 @@ fn records_are_refused(rt: HostRuntime) -> Result<(), Fail> {
         ),
         (Put(1, &[2147483647], None), Taken),
     ];
-    let bytes = blank(rt.alloc(), 512)?;
-    assert_eq!(rt; run(rt.alloc(), bytes, STEPS)?, None);
+    assert_eq!(rt; run_blank(rt.alloc(), STEPS)?, None);
     Ok(())
 }
 
