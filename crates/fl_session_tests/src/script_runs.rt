@@ -13,25 +13,59 @@ fn words(alloc: Global) -> Result<Vec<String>, Fail> {
     Ok(words)
 }
 
-/// Runs the script that a source gives, and gives the status, the source and the sink.
-pub(crate) fn run_source(
+/// Runs these words over a source and a sink, and gives the status, the source and the sink.
+pub(crate) fn run_words(
     alloc: Global,
+    words: &[String],
     media: &mut MemMedia,
     mut source: MemSource,
     mut sink: MemSink,
-) -> Result<(Status, MemSource, MemSink), Fail> {
-    let status = run(alloc, &words(alloc)?, media, &mut source, &mut sink);
-    Ok((status, source, sink))
+) -> (Status, MemSource, MemSink) {
+    let status = run(alloc, words, media, &mut source, &mut sink);
+    (status, source, sink)
 }
 
-/// Runs a script over a medium, and gives the status and what was written.
+/// .. that run the script of the source.
+pub(crate) fn run_source(
+    alloc: Global,
+    media: &mut MemMedia,
+    source: MemSource,
+    sink: MemSink,
+) -> Result<(Status, MemSource, MemSink), Fail> {
+    Ok(run_words(alloc, &words(alloc)?, media, source, sink))
+}
+
+/// How a script ends over a medium, and whether this is written to a sink.
+pub(crate) fn run_to(
+    alloc: Global,
+    media: &mut MemMedia,
+    script: Vec<u8>,
+    sink: MemSink,
+    wanted: &[u8],
+) -> Result<(Status, bool), Fail> {
+    let source = MemSource::new(script, Vec::new(alloc));
+    let (status, _, sink) = run_source(alloc, media, source, sink)?;
+    Ok((status, sink.bytes() == wanted))
+}
+
+/// .. to a sink that has room for it.
 pub(crate) fn run_script(
     alloc: Global,
     media: &mut MemMedia,
     script: Vec<u8>,
-) -> Result<(Status, MemSink), Fail> {
-    let source = MemSource::new(script, Vec::new(alloc));
+    wanted: &[u8],
+) -> Result<(Status, bool), Fail> {
     let sink = MemSink::new(alloc, 10_000, Vec::new(alloc))?;
-    let (status, _, sink) = run_source(alloc, media, source, sink)?;
-    Ok((status, sink))
+    run_to(alloc, media, script, sink, wanted)
+}
+
+/// Whether a script is run to its end, and this is written.
+pub(crate) fn is_done(
+    alloc: Global,
+    media: &mut MemMedia,
+    script: Vec<u8>,
+    wanted: &[u8],
+) -> Result<bool, Fail> {
+    let (status, is_written) = run_script(alloc, media, script, wanted)?;
+    Ok(matches!(status, Status::Done { .. }) && is_written)
 }

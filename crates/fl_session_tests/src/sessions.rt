@@ -1,19 +1,27 @@
 // Scripts over media whose calls fail and over images that no run left, and how scripts end.
+ghost use Rattle.std.specs.Prelude.{◌≤◌};
+
 mod loads;
 mod logs;
 mod reads;
 
-use crate::script_runs::{run_script, run_source};
+use crate::script_runs::{is_done, run_script, run_source, run_words};
 use fl_base::{MemSink, MemSource, Name};
 use fl_flash::MemMedia;
-use fl_session::{PendingRows, Status, TableRows, run};
+use fl_session::{PendingRows, Status, TableRows};
 use std::alloc::Global;
 use std::test::Fail;
 
 const CONFIG: &str = "device 128 4\ntable t 8 i32 3 0 0 0 0 1 1 0\n";
 
-/// The bytes of the medium that `CONFIG` makes: a header, and 12 pages with room for 8 rows each.
-const ROOM: usize = 2560;
+/// A configuration, and the bytes of the medium that it makes.
+type Image = (&'static str, usize);
+
+/// A header, and 12 pages with room for 8 rows each.
+const PLAIN: Image = (CONFIG, 2560);
+
+/// A call to which no medium here comes.
+const NEVER: u64 = u64::MAX;
 
 /// The longest script that is read.
 const LONGEST: usize = 16_777_216;
@@ -26,8 +34,20 @@ fn text(alloc: Global, pieces: &[&str]) -> Result<Vec<u8>, Fail> {
     Ok(bytes)
 }
 
-fn empty_medium(alloc: Global) -> Result<MemMedia, Fail> {
-    Ok(MemMedia::new(alloc, Vec::new(alloc), ROOM)?)
+fn empty_medium(alloc: Global, image: Image) -> Result<MemMedia, Fail> {
+    Ok(MemMedia::new(alloc, Vec::new(alloc), image.1)?)
+}
+
+/// The same image, where the first page behind the header has another number.
+fn renumbered(alloc: Global, media: &MemMedia, number: [u8; 4]) -> Result<MemMedia, Fail> {
+    let mut bytes = Vec::new(alloc);
+    bytes.extend_from_slice(media.bytes())?;
+    for (i, byte) in number.iter().enumerate() {
+        if let Some(place) = bytes.get_mut(1024 + i) {
+            *place = *byte;
+        }
+    }
+    Ok(MemMedia::new(alloc, bytes, PLAIN.1)?)
 }
 
 /// Commands, each with its reply.
@@ -47,27 +67,32 @@ fn add_talk(script: &mut Vec<u8>, wanted: &mut Vec<u8>, talk: Talk) -> Result<()
 /// Whether these commands are answered so.
 fn is_answered(
     alloc: Global,
+    image: Image,
     media: &mut MemMedia,
     before: Talk,
     after: Talk,
 ) -> Result<bool, Fail> {
-    is_answered_over(alloc, CONFIG, media, before, after)
-}
-
-/// .. over tables of this configuration.
-fn is_answered_over(
-    alloc: Global,
-    config: &str,
-    media: &mut MemMedia,
-    before: Talk,
-    after: Talk,
-) -> Result<bool, Fail> {
-    let mut script = text(alloc, &[config])?;
+    let mut script = text(alloc, &[image.0])?;
     let mut wanted = Vec::new(alloc);
     add_talk(&mut script, &mut wanted, before)?;
     add_talk(&mut script, &mut wanted, after)?;
-    let (status, sink) = run_script(alloc, media, script)?;
-    Ok(matches!(status, Status::Done { .. }) && sink.bytes() == wanted.as_slice())
+    is_done(alloc, media, script, &wanted)
+}
+
+/// Whether they are on a new image, of whose medium this call fails, and how many calls there are.
+fn is_answered_anew(
+    alloc: Global,
+    image: Image,
+    failing: u64,
+    before: Talk,
+    after: Talk,
+) -> Result<(bool, u64), Fail>
+    requires { 1 ≤ failing }
+{
+    let mut media = empty_medium(alloc, image)?;
+    media.fail_call(failing);
+    let is_answered = is_answered(alloc, image, &mut media, before, after)?;
+    Ok((is_answered, media.calls()))
 }
 
 /// A fault of the medium in a command is its reply, and the session goes on after a mount.
@@ -75,15 +100,7 @@ fn is_answered_over(
 fn device_faults(rt: HostRuntime) -> Result<(), Fail> {
     let alloc = rt.alloc();
     let pending: Talk = &[("mount", "ok"), ("put t 1 0", "ok")];
-    let mut media = empty_medium(alloc)?;
-    assert!(rt; is_answered(alloc, &mut media, pending, &[])?);
-    let before = media.calls();
     let good: Talk = &[("mount", "ok"), ("put t 1 0", "ok"), ("flush t", "ok")];
-    let mut media = empty_medium(alloc)?;
-    assert!(rt; is_answered(alloc, &mut media, good, &[])?);
-
-    // A flush on a new image is two calls: the write of the body, and that of the mark.
-    assert!(rt; media.calls() == before.saturating_add(2));
     let fails: Talk = &[
         ("mount", "ok"),
         ("put t 1 0", "ok"),
@@ -95,11 +112,13 @@ fn device_faults(rt: HostRuntime) -> Result<(), Fail> {
             "stat rows 0 pending 0 pages 0 voids 0 programs 1 erases 0",
         ),
     ];
-    let calls = media.calls();
+    let (is_put, before) = is_answered_anew(alloc, PLAIN, NEVER, pending, &[])?;
+    let (is_flushed, calls) = is_answered_anew(alloc, PLAIN, NEVER, good, &[])?;
+    // A flush on a new image is two calls: the write of the body, and that of the mark.
+    assert!(rt; is_put && is_flushed && calls == before.saturating_add(2));
     assert!(rt; 2 <= calls);
-    let mut media = empty_medium(alloc)?;
-    media.fail_call(calls - 1);
-    assert!(rt; is_answered(alloc, &mut media, fails, &[])?);
+    let (is_told, _) = is_answered_anew(alloc, PLAIN, calls - 1, fails, &[])?;
+    assert!(rt; is_told);
     Ok(())
 }
 
@@ -108,32 +127,37 @@ fn device_faults(rt: HostRuntime) -> Result<(), Fail> {
 fn bad_image(rt: HostRuntime) -> Result<(), Fail> {
     let alloc = rt.alloc();
     let good: Talk = &[("mount", "ok"), ("put t 1 0", "ok"), ("flush t", "ok")];
-    let mut media = empty_medium(alloc)?;
-    assert!(rt; is_answered(alloc, &mut media, good, &[])?);
-
-    // The page's number doesn't fit its place.
-    let mut bytes = Vec::new(alloc);
-    bytes.extend_from_slice(media.bytes())?;
-    if let Some(byte) = bytes.get_mut(1024) {
-        *byte = 5;
-    }
-    let mut media = MemMedia::new(alloc, bytes, ROOM)?;
     let bad: Talk = &[
         ("mount", "bad image t"),
         ("put t 2 0", "not mounted"),
         ("mount", "bad image t"),
     ];
-    assert!(rt; is_answered(alloc, &mut media, bad, &[])?);
+    let mut media = empty_medium(alloc, PLAIN)?;
+    assert!(rt; is_answered(alloc, PLAIN, &mut media, good, &[])?);
+    // The page's number doesn't fit its place.
+    let mut media = renumbered(alloc, &media, [5, 0, 0, 0])?;
+    assert!(rt; is_answered(alloc, PLAIN, &mut media, bad, &[])?);
     Ok(())
 }
+
+/// How a script ends on a new image, and whether it is answered so. `C` at its begin stands for the configuration.
+fn ended(alloc: Global, script: &str, replies: &str) -> Result<(Status, bool), Fail> {
+    let bytes = match script.strip_prefix('C') {
+        Some(commands) => text(alloc, &[CONFIG, commands])?,
+        None => text(alloc, &[script])?,
+    };
+    let mut media = empty_medium(alloc, PLAIN)?;
+    run_script(alloc, &mut media, bytes, replies.as_bytes())
+}
+
+/// No row is pending.
+const DONE: Status = Status::Done {
+    pending: PendingRows { tables: [None; 4] },
+};
 
 /// How scripts end, and what is written before.
 #[test]
 fn statuses(rt: HostRuntime) -> Result<(), Fail> {
-    let alloc = rt.alloc();
-    let done = Status::Done {
-        pending: PendingRows { tables: [None; 4] },
-    };
     let cases = [
         ("", "", Status::Config { line: 0 }),
         ("device 128 1\n", "", Status::Config { line: 1 }),
@@ -141,21 +165,36 @@ fn statuses(rt: HostRuntime) -> Result<(), Fail> {
         ("device 128 4\nfrob\n", "", Status::Line { line: 2 }),
         ("C\nmount\nfrob\nmount\n", "ok\n", Status::Line { line: 5 }),
         ("C\nmount\ndevice 128 4\n", "ok\n", Status::Line { line: 5 }),
-        ("C\nmount\nblob t 1\n", "ok\nnone\n", done),
-        ("C\n# last\nmount\r\nmount", "ok\nalready mounted\n", done),
+        ("C\nmount\nblob t 1\n", "ok\nnone\n", DONE),
+        ("C\n# last\nmount\r\nmount", "ok\nalready mounted\n", DONE),
     ];
-    for (i, (script, replies, status)) in cases.iter().enumerate() {
-        let mut bytes = Vec::new(alloc);
-        match script.strip_prefix('C') {
-            Some(commands) => bytes.extend_from_slice(&text(alloc, &[CONFIG, commands])?)?,
-            None => bytes.extend_from_slice(script.as_bytes())?,
-        }
-        let mut media = empty_medium(alloc)?;
-        let (ended, sink) = run_script(alloc, &mut media, bytes)?;
-        assert!(rt; ended == *status, "{i}");
-        assert!(rt; sink.bytes() == replies.as_bytes(), "{i}");
+    for (script, replies, status) in cases {
+        let end = ended(rt.alloc(), script, replies)?;
+        assert!(rt; end == (status, true), "{script}");
     }
     Ok(())
+}
+
+/// The status of a run at whose end so many rows of two tables are pending.
+fn done_with(first: u32, second: u32) -> Status {
+    let tables = [
+        table_rows(b"t", first),
+        table_rows(b"u", second),
+        None,
+        None,
+    ];
+    Status::Done {
+        pending: PendingRows { tables },
+    }
+}
+
+/// The table with this name, if rows of it are pending.
+fn table_rows(name: &[u8], rows: u32) -> Option<TableRows> {
+    if rows == 0 {
+        return None;
+    }
+    let name = Name::of(name)?;
+    Some(TableRows { name, rows })
 }
 
 /// What no flush has written is told at the end, table by table.
@@ -169,50 +208,28 @@ fn pending_rows(rt: HostRuntime) -> Result<(), Fail> {
         ("mount\nput t 3 0\nput u 4 0\noff\n", 0, 0),
     ];
     let mut media = MemMedia::new(alloc, Vec::new(alloc), 4096)?;
-    for (i, (commands, first, second)) in cases.iter().enumerate() {
-        let (status, _) = run_script(alloc, &mut media, text(alloc, &[tables, commands])?)?;
-        let pending = PendingRows {
-            tables: [
-                table_rows(b"t", *first),
-                table_rows(b"u", *second),
-                None,
-                None,
-            ],
-        };
-        assert!(rt; status == Status::Done { pending }, "{i}");
+    for (commands, first, second) in cases {
+        let script = text(alloc, &[tables, commands])?;
+        let (status, _) = run_script(alloc, &mut media, script, b"")?;
+        assert!(rt; status == done_with(first, second), "{commands}");
     }
     Ok(())
-}
-
-/// The table with this name, if rows of it are pending.
-fn table_rows(name: &[u8], rows: u32) -> Option<TableRows> {
-    if rows == 0 {
-        return None;
-    }
-    let name = Name::of(name)?;
-    Some(TableRows { name, rows })
 }
 
 /// An image of another configuration.
 #[test]
 fn another_configuration(rt: HostRuntime) -> Result<(), Fail> {
     let alloc = rt.alloc();
-    let mut media = empty_medium(alloc)?;
-    let (status, _) = run_script(alloc, &mut media, text(alloc, &[CONFIG, "mount\n"])?)?;
-    assert!(rt; matches!(status, Status::Done { .. }));
-    let other = text(
-        alloc,
-        &["device 128 4\ntable u 8 i32 3 0 0 0 0 1 1 0\nmount\n"],
-    )?;
-    let (status, _) = run_script(alloc, &mut media, other)?;
-    assert!(rt;
-        status
-            == Status::OtherConfig {
-                wanted: 117,
-                found: 116,
-                at: 19
-            }
-    );
+    let mut media = empty_medium(alloc, PLAIN)?;
+    assert!(rt; is_answered(alloc, PLAIN, &mut media, &[("mount", "ok")], &[])?);
+    let other = "device 128 4\ntable u 8 i32 3 0 0 0 0 1 1 0\nmount\n";
+    let (status, _) = run_script(alloc, &mut media, text(alloc, &[other])?, b"")?;
+    let wanted = Status::OtherConfig {
+        wanted: 117,
+        found: 116,
+        at: 19,
+    };
+    assert!(rt; status == wanted);
     Ok(())
 }
 
@@ -220,28 +237,35 @@ fn another_configuration(rt: HostRuntime) -> Result<(), Fail> {
 #[test]
 fn failing_medium(rt: HostRuntime) -> Result<(), Fail> {
     let alloc = rt.alloc();
-    let mut media = empty_medium(alloc)?;
+    let mut media = empty_medium(alloc, PLAIN)?;
     media.fail_call(1);
-    let (status, _) = run_script(alloc, &mut media, text(alloc, &[CONFIG, "mount\n"])?)?;
+    let script = text(alloc, &[CONFIG, "mount\n"])?;
+    let (status, _) = run_script(alloc, &mut media, script, b"")?;
     assert!(rt; status == Status::MediaMake);
     Ok(())
 }
 
-/// A source that fails at first, and a sink that fails behind the first reply.
+/// A sink of which this call fails.
+fn failing_sink(alloc: Global, call: u64) -> Result<MemSink, Fail> {
+    Ok(MemSink::new(alloc, 100, vec![in alloc; call]?)?)
+}
+
+/// How two runs end over a source that fails at first, and a sink that fails behind the first reply, and whether that one is
+/// written.
+fn run_twice(alloc: Global) -> Result<([Status; 2], bool), Fail> {
+    let script = text(alloc, &[CONFIG, "mount\nmount\n"])?;
+    let source = MemSource::new(script, vec![in alloc; 1]?);
+    let sink = failing_sink(alloc, 2)?;
+    let mut media = empty_medium(alloc, PLAIN)?;
+    let (first, source, sink) = run_source(alloc, &mut media, source, sink)?;
+    let (second, _, sink) = run_source(alloc, &mut media, source, sink)?;
+    Ok(([first, second], sink.bytes() == b"ok\n".as_slice()))
+}
+
 #[test]
 fn failing_streams(rt: HostRuntime) -> Result<(), Fail> {
-    let alloc = rt.alloc();
-    let mut media = empty_medium(alloc)?;
-    let sink = MemSink::new(alloc, 100, vec![in alloc; 2]?)?;
-    let source = MemSource::new(
-        text(alloc, &[CONFIG, "mount\nmount\n"])?,
-        vec![in alloc; 1]?,
-    );
-    let (status, source, sink) = run_source(alloc, &mut media, source, sink)?;
-    assert!(rt; status == Status::ScriptRead);
-    let (status, _, sink) = run_source(alloc, &mut media, source, sink)?;
-    assert!(rt; status == Status::OutWrite);
-    assert!(rt; sink.bytes() == "ok\n".as_bytes());
+    let ends = run_twice(rt.alloc())?;
+    assert!(rt; ends == ([Status::ScriptRead, Status::OutWrite], true));
     Ok(())
 }
 
@@ -249,18 +273,16 @@ fn failing_streams(rt: HostRuntime) -> Result<(), Fail> {
 #[test]
 fn no_words(rt: HostRuntime) -> Result<(), Fail> {
     let alloc = rt.alloc();
-    let mut media = empty_medium(alloc)?;
-    let mut sink = MemSink::new(alloc, 100, Vec::new(alloc))?;
-    let mut source = MemSource::new(Vec::new(alloc), Vec::new(alloc));
-    let status = run(alloc, &Vec::new(alloc), &mut media, &mut source, &mut sink);
+    let mut media = empty_medium(alloc, PLAIN)?;
+    let sink = MemSink::new(alloc, 100, Vec::new(alloc))?;
+    let source = MemSource::new(Vec::new(alloc), Vec::new(alloc));
+    let (status, _, _) = run_words(alloc, &Vec::new(alloc), &mut media, source, sink);
     assert!(rt; status == Status::Usage);
     Ok(())
 }
 
-/// A script of one byte too many: its whole lines are run.
-#[test]
-fn long_scripts(rt: HostRuntime) -> Result<(), Fail> {
-    let alloc = rt.alloc();
+/// A script of as many bytes as are read, in lines that say nothing behind a mount.
+fn longest_script(alloc: Global) -> Result<Vec<u8>, Fail> {
     let mut script = text(alloc, &[CONFIG, "mount\n"])?;
     let front = script.len();
     let rest = vec![in alloc; b'#'; LONGEST.saturating_sub(front)]?;
@@ -268,12 +290,18 @@ fn long_scripts(rt: HostRuntime) -> Result<(), Fail> {
     for end in (front + 4000..LONGEST).step_by(4000) {
         script[end] = b'\n';
     }
-    let mut media = empty_medium(alloc)?;
-    let (status, sink) = run_script(alloc, &mut media, script.clone()?)?;
-    assert!(rt; matches!(status, Status::Done { .. }));
-    assert!(rt; sink.bytes() == "ok\n".as_bytes());
+    Ok(script)
+}
+
+/// A script of one byte too many: its whole lines are run.
+#[test]
+fn long_scripts(rt: HostRuntime) -> Result<(), Fail> {
+    let alloc = rt.alloc();
+    let mut script = longest_script(alloc)?;
+    let mut media = empty_medium(alloc, PLAIN)?;
+    assert!(rt; is_done(alloc, &mut media, script.clone()?, b"ok\n")?);
     script.push(b'#')?;
-    let (status, _) = run_script(alloc, &mut media, script)?;
+    let (status, _) = run_script(alloc, &mut media, script, b"")?;
     assert!(rt; status == Status::ScriptLong);
     Ok(())
 }

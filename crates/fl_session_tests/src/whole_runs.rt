@@ -40,17 +40,28 @@ fn flush(
     Ok(())
 }
 
-/// 24 puts, in pages of three records and some of fewer, round a ring of six pages; then a mount.
+/// 24 puts, in pages of three records and some of fewer, round a ring of six pages.
+fn put_all(
+    alloc: Global,
+    talk: &mut Talk,
+    store: &mut PlainStore,
+    cut: &mut Cut,
+) -> Result<(), Fail> {
+    for key in 1..25 {
+        put(alloc, talk, store, cut, key)?;
+        if key % 5 == 0 {
+            flush(alloc, talk, store, cut)?;
+        }
+    }
+    Ok(())
+}
+
+/// Whether these puts are answered right with a cut in them, and a mount behind them.
 fn is_right_with(alloc: Global, mut cut: Cut) -> Result<bool, Fail> {
     let mut talk = Talk::new(alloc)?;
     let mut store = PlainStore::new(alloc);
     talk.add_cut(alloc, &cut)?;
-    for key in 1..25 {
-        put(alloc, &mut talk, &mut store, &mut cut, key)?;
-        if key % 5 == 0 {
-            flush(alloc, &mut talk, &mut store, &mut cut)?;
-        }
-    }
+    put_all(alloc, &mut talk, &mut store, &mut cut)?;
     store.lose();
     talk.add("off", "ok")?;
     talk.add_mount(alloc, &store)?;

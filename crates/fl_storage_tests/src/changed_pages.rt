@@ -1,15 +1,17 @@
 // Answers come from the pages that are read: bytes of a page are cleared beside a mounted table, and it answers what the page
 // holds then.
-ghost use Rattle.std.specs.Prelude.{◌≡◌, ◌≤◌, ◌+◌, ◌<◌, true, length, vec_len, IfOk};
-ghost use Rattle.fl_flash.specs.Flash.{FlashState, pages};
-ghost use Rattle.fl_table.specs.Memory.{LiesOn, is_running};
+ghost use Rattle.std.specs.Prelude.{◌≡◌, ◌≤◌, ◌+◌, ◌<◌, length, IfOk};
+ghost use Rattle.fl_flash.specs.Flash.{FlashState};
+ghost use Rattle.fl_table.specs.Memory.{LiesOn};
 
 use crate::Table;
+use crate::media::blank_medium;
+use crate::stores::{Store, flush, mount, put, runs};
 use arrayvec::ArrayVec;
-use fl_base::{Geometry, KeyRange, NoMemory, RingPlace, Span, Steps};
+use fl_base::{Geometry, KeyRange, RingPlace, Span, Steps};
 use fl_bitmap::Buckets;
 use fl_cursor::Cursor;
-use fl_flash::{Flash, MemMedia, PageBuf, SimFlash};
+use fl_flash::{Flash, PageBuf, SimFlash};
 use fl_page::ReadFault;
 use fl_plan::{ConfigRefusal, TableConfig};
 use fl_schema::{ColumnType, KeyWidth};
@@ -52,13 +54,6 @@ fn table(alloc: Global) -> Result<Table, ConfigRefusal>
     Table::plan(alloc, &config)
 }
 
-// 303 blocks of four pages.
-fn blank_flash(alloc: Global) -> Result<Vec<u8>, NoMemory>
-    ensures { IfOk result (λ v. vec_len v ≡ 155136) }
-{
-    Ok(vec![in alloc; 255; 155136]?)
-}
-
 // The keys from 1 on, eight in each page; each page has a bucket of its own, up to the last of the 64.
 fn fill<F: Flash>(table: &mut Table, flash: &mut F, buf: &mut PageBuf, keys: u64) -> bool
     requires lies { LiesOn table.old (F.state flash.old) }
@@ -68,12 +63,12 @@ fn fill<F: Flash>(table: &mut Table, flash: &mut F, buf: &mut PageBuf, keys: u64
     ensures lies { LiesOn table.new (F.state flash.new) }
     ensures room { length buf.new.bytes ≡ length buf.old.bytes }
 {
-    let mut taken = table.mount(flash, buf).is_ok();
+    let mut taken = mount(table, flash, buf).is_ok();
     for before in 0..keys {
         let value = 1 + (before / 8 % 1000 * 100) as i64;
-        taken &= table.put(flash, before + 1, &[value], None).is_ok();
+        taken &= put(table, flash, before + 1, &[value], None).is_ok();
     }
-    taken & table.flush(flash).is_ok()
+    taken & flush(table, flash).is_ok()
 }
 
 // The last value of the row with a key.
@@ -86,7 +81,7 @@ fn value_of<F: Flash>(
     requires lies { LiesOn table.now (F.state flash.old) }
     requires room { length buf.old.bytes ≡ (F.state flash.old).geometry.page }
 {
-    if !table.is_mounted() || table.is_stopped() {
+    if !runs(table) {
         return Ok(None);
     }
     let mut steps = Steps::new();
@@ -99,7 +94,7 @@ fn value_of<F: Flash>(
     }
 }
 
-// The value of key 4000 after bytes of a page were cleared, and whether all was written before.
+// The value of key 4000 after bytes of a page were cleared, and whether all was written before, on 303 blocks of four pages.
 fn look_up_after(
     alloc: Global,
     page: u32,
@@ -109,13 +104,12 @@ fn look_up_after(
     requires exists { page < 1212 }
     requires range { from + length zeros.now ≤ 128 }
 {
-    let mut media = MemMedia::new(alloc, blank_flash(alloc)?, 155136)?;
-    let mut buf = PageBuf::new(alloc, 128)?;
-    let mut table = table(alloc)?;
+    let mut media = blank_medium(alloc, 155136)?;
     let mut flash = SimFlash::new(alloc, &mut media, GEOMETRY, 303, 0)?;
-    let filled = fill(&mut table, &mut flash, &mut buf, 8000);
+    let mut store = Store::new(alloc, table(alloc)?, 128)?;
+    let filled = fill(&mut store.table, &mut flash, &mut store.buf, 8000);
     let cleared = flash.program(page, from, zeros).is_ok();
-    let value = value_of(&table, &mut flash, &mut buf, 4000);
+    let value = value_of(&store.table, &mut flash, &mut store.buf, 4000);
     let _media = flash.into_media();
     Ok((filled & cleared, value))
 }
@@ -123,15 +117,21 @@ fn look_up_after(
 // Keys 3993 to 4000 stand in page 499. Without a change the row is found there; pages 500 and 499 are read for it.
 #[test]
 fn a_lookup_answers_what_its_pages_hold(rt: HostRuntime) -> Result<(), Fail> {
-    let value = 49901;
-    let no_bytes = look_up_after(rt.alloc(), 499, 108, &[])?;
-    assert_eq!(rt; no_bytes, (true, Ok(Some(value))));
-    // The first key of page 500 is 0: it would be the page of key 4000.
-    let first_key = look_up_after(rt.alloc(), 500, 16, &[0; 8])?;
-    assert_eq!(rt; first_key, (true, Ok(None)));
-    // The value of the last row of page 499.
-    let last_value = look_up_after(rt.alloc(), 499, 108, &[0; 4])?;
-    assert_eq!(rt; last_value, (true, Ok(Some(0))));
+    let seen = [
+        look_up_after(rt.alloc(), 499, 108, &[])?,
+        // The first key of page 500 is 0: it would be the page of key 4000.
+        look_up_after(rt.alloc(), 500, 16, &[0; 8])?,
+        // The value of the last row of page 499.
+        look_up_after(rt.alloc(), 499, 108, &[0; 4])?,
+    ];
+    assert_eq!(rt;
+        seen,
+        [
+            (true, Ok(Some(49901))),
+            (true, Ok(None)),
+            (true, Ok(Some(0)))
+        ]
+    );
     Ok(())
 }
 
@@ -146,7 +146,7 @@ fn has_row<F: Flash>(
     requires rows { length rows.old.bytes ≡ (F.state flash.old).geometry.page }
     requires index { length index.old.bytes ≡ (F.state flash.old).geometry.page }
 {
-    if !table.is_mounted() || table.is_stopped() {
+    if !runs(table) {
         return Ok(false);
     }
     let range = KeyRange { low: 1, high: 112 };
@@ -158,18 +158,18 @@ fn has_row<F: Flash>(
     cursor.advance(flash)
 }
 
-// Whether such a row is found after these bytes of the first index page were cleared, which lists the data pages 0 to 12.
+// Whether such a row is found after these bytes of the first index page were cleared, which lists the data pages 0 to 12, and
+// whether all was written before.
 fn scan_after(alloc: Global, zeros: &[u8]) -> Result<(bool, Result<bool, ReadFault>), ConfigRefusal>
     requires range { length zeros.now ≤ 8 }
 {
-    let mut media = MemMedia::new(alloc, blank_flash(alloc)?, 155136)?;
-    let mut rows = PageBuf::new(alloc, 128)?;
-    let mut index = PageBuf::new(alloc, 128)?;
-    let mut table = table(alloc)?;
+    let mut media = blank_medium(alloc, 155136)?;
     let mut flash = SimFlash::new(alloc, &mut media, GEOMETRY, 303, 0)?;
-    let filled = fill(&mut table, &mut flash, &mut rows, 112);
+    let mut index = PageBuf::new(alloc, 128)?;
+    let mut store = Store::new(alloc, table(alloc)?, 128)?;
+    let filled = fill(&mut store.table, &mut flash, &mut store.buf, 112);
     let cleared = flash.program(1200, 56, zeros).is_ok();
-    let found = has_row(&table, &mut flash, &mut rows, &mut index);
+    let found = has_row(&store.table, &mut flash, &mut store.buf, &mut index);
     let _media = flash.into_media();
     Ok((filled & cleared, found))
 }
@@ -177,7 +177,10 @@ fn scan_after(alloc: Global, zeros: &[u8]) -> Result<(bool, Result<bool, ReadFau
 // Page 5 has the values in question, 501, and its bitmap is the sixth of the first index page.
 #[test]
 fn a_scan_answers_what_its_index_pages_hold(rt: HostRuntime) -> Result<(), Fail> {
-    assert_eq!(rt; scan_after(rt.alloc(), &[])?, (true, Ok(true)));
-    assert_eq!(rt; scan_after(rt.alloc(), &[0; 8])?, (true, Ok(false)));
+    let seen = [
+        scan_after(rt.alloc(), &[])?,
+        scan_after(rt.alloc(), &[0; 8])?,
+    ];
+    assert_eq!(rt; seen, [(true, Ok(true)), (true, Ok(false))]);
     Ok(())
 }

@@ -1,5 +1,5 @@
 // Cursors over a table that goes on: parked after each row, over pages that are given up, and over a read that fails.
-ghost use Rattle.std.specs.Prelude.{◌≡◌, ◌≤◌, length, vec_len, IfOk};
+ghost use Rattle.std.specs.Prelude.{◌≡◌, ◌≤◌, length, IfOk};
 ghost use Rattle.fl_cursor.specs.Cursor.{IsReady};
 ghost use Rattle.fl_cursor.specs.Going.{Keeps};
 ghost use Rattle.fl_flash.specs.Flash.{FlashState};
@@ -9,10 +9,12 @@ ghost use Rattle.fl_table.specs.Memory.{LiesOn};
 mod indexed;
 
 use crate::Table;
+use crate::media::blank_medium;
+use crate::stores::{flush, mount, put, runs};
 use arrayvec::ArrayVec;
 use fl_base::{Geometry, KeyRange, NoMemory, RingPlace, Span};
 use fl_cursor::Bookmark;
-use fl_flash::{Flash, MemMedia, PageBuf, SimFlash};
+use fl_flash::{Flash, PageBuf, SimFlash};
 use fl_page::RowHere;
 use fl_plan::{ConfigRefusal, TableConfig};
 use fl_schema::{ColumnType, KeyWidth};
@@ -57,6 +59,24 @@ struct Store {
     mark: Option<Bookmark>,
 }
 
+impl Store {
+    // A store of this table, whose pages have 64 bytes.
+    fn new(alloc: Global, table: Table) -> Result<Store, NoMemory>
+        ensures lies { IfOk result (λ s. (f : FlashState) → LiesOn table f → LiesOn s.table f) }
+        ensures rows { IfOk result (λ s. length s.rows.bytes ≡ 64) }
+        ensures index { IfOk result (λ s. length s.index.bytes ≡ 64) }
+    {
+        let rows = PageBuf::new(alloc, 64)?;
+        let index = PageBuf::new(alloc, 64)?;
+        Ok(Store {
+            table,
+            rows,
+            index,
+            mark: None,
+        })
+    }
+}
+
 #[derive(Clone, Copy)]
 enum Step {
     Mount,
@@ -87,7 +107,7 @@ fn open(store: &mut Store, range: KeyRange, span: Option<Span>) -> Answer
     ensures rows { length store.new.rows.bytes ≡ length store.old.rows.bytes }
     ensures index { length store.new.index.bytes ≡ length store.old.index.bytes }
 {
-    if !store.table.is_mounted() || store.table.is_stopped() {
+    if !runs(&store.table) {
         return Answer::Refused;
     }
     let cursor = Cursor::begin(&store.table, range, span, &mut store.rows, &mut store.index);
@@ -121,7 +141,7 @@ fn next<F: Flash>(store: &mut Store, flash: &mut F) -> Answer
     let Some(mark) = store.mark else {
         return Answer::Refused;
     };
-    if !store.table.is_mounted() || store.table.is_stopped() {
+    if !runs(&store.table) {
         return Answer::Refused;
     }
     let mut cursor = Cursor::resume(&store.table, mark, &mut store.rows, &mut store.index);
@@ -144,14 +164,12 @@ fn take<F: Flash>(step: Step, store: &mut Store, flash: &mut F) -> Answer
     ensures index { length store.new.index.bytes ≡ length store.old.index.bytes }
 {
     match step {
-        Mount => of_call(store.table.mount(flash, &mut store.rows).is_ok()),
-        Put(key) => of_call(
-            store
-                .table
-                .put(flash, key, &[(key % 10) as i64], None)
-                .is_ok(),
-        ),
-        Flush => of_call(store.table.flush(flash).is_ok()),
+        Mount => of_call(mount(&mut store.table, flash, &mut store.rows).is_ok()),
+        Put(key) => {
+            let value = (key % 10) as i64;
+            of_call(put(&mut store.table, flash, key, &[value], None).is_ok())
+        }
+        Flush => of_call(flush(&mut store.table, flash).is_ok()),
         Open(low, high) => open(store, KeyRange { low, high }, None),
         Spans(low, high) => open(
             store,
@@ -185,26 +203,14 @@ fn answered<F: Flash>(steps: &[(Step, Answer)], store: &mut Store, flash: &mut F
     steps.len()
 }
 
-// Three blocks of two pages.
-fn blank(alloc: Global) -> Result<Vec<u8>, NoMemory>
-    ensures { IfOk result (λ v. vec_len v ≡ 384) }
-{
-    Ok(vec![in alloc; 255; 384]?)
-}
-
+// The first steps that were answered as they are to be, on three blocks of two pages.
 fn run(alloc: Global, failing: u64, steps: &[(Step, Answer)]) -> Result<usize, ConfigRefusal>
     requires { 1 ≤ failing }
 {
-    let bytes = blank(alloc)?;
-    let mut media = MemMedia::new(alloc, bytes, 384)?;
+    let mut media = blank_medium(alloc, 384)?;
     media.fail_call(failing);
-    let mut store = Store {
-        table: table(alloc)?,
-        rows: PageBuf::new(alloc, 64)?,
-        index: PageBuf::new(alloc, 64)?,
-        mark: None,
-    };
     let mut flash = SimFlash::new(alloc, &mut media, GEOMETRY, 3, 0)?;
+    let mut store = Store::new(alloc, table(alloc)?)?;
     let done = answered(steps, &mut store, &mut flash);
     let _media = flash.into_media();
     Ok(done)

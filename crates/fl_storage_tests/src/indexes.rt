@@ -2,8 +2,9 @@
 ghost use Rattle.std.specs.Prelude.{◌≡◌, true, length, OnOk};
 ghost use Rattle.fl_index.specs.Memory.{is_running, LiesOn};
 
+use crate::media::blank_medium;
 use fl_base::{Geometry, NoMemory, RingPlace};
-use fl_flash::{Flash, FlashFault, MemMedia, PageBuf, SimFlash};
+use fl_flash::{Flash, FlashFault, PageBuf, SimFlash};
 use fl_index::{BitmapIndex, Full};
 use fl_page::ReadFault;
 use fl_ring::RingFault;
@@ -44,6 +45,23 @@ fn push<F: Flash>(index: &mut BitmapIndex, flash: &mut F, bitmap: u64) -> Result
     Ok(())
 }
 
+fn push_all<F: Flash>(
+    index: &mut BitmapIndex,
+    flash: &mut F,
+    bitmaps: &[u64],
+) -> Result<(), FlashFault>
+    requires running { is_running index.old ≡ true }
+    requires lies { LiesOn index.old (F.state flash.old) }
+    ensures page { (F.state flash.new).geometry.page ≡ (F.state flash.old).geometry.page }
+    ensures running { OnOk result (is_running index.new ≡ true) }
+    ensures lies { OnOk result (LiesOn index.new (F.state flash.new)) }
+{
+    for bitmap in bitmaps {
+        push(index, flash, *bitmap)?;
+    }
+    Ok(())
+}
+
 // The bitmaps of data pages 7 to 12, of which the first five are sealed. Then one is looked up.
 fn look_up<F: Flash>(
     index: &mut BitmapIndex,
@@ -56,21 +74,16 @@ fn look_up<F: Flash>(
 {
     let _end = index.mount(flash, buf)?;
     index.restart(7);
-    push(index, flash, 1)?;
-    push(index, flash, 2)?;
-    push(index, flash, 4)?;
-    push(index, flash, 8)?;
-    push(index, flash, 0x8000_0000_0000_0000)?;
-    push(index, flash, 3)?;
+    push_all(index, flash, &[1, 2, 4, 8, 0x8000_0000_0000_0000, 3])?;
     let found = index.bitmap_of(flash, number, buf);
     Ok((found, flash.work().reads))
 }
 
 fn see(alloc: Global, number: u32) -> Result<(Result<Found, RingFault>, PageBuf), NoMemory> {
-    let mut media = MemMedia::new(alloc, vec![in alloc; 255; 384]?, 384)?;
+    let mut media = blank_medium(alloc, 384)?;
+    let mut flash = SimFlash::new(alloc, &mut media, GEOMETRY, 3, 0)?;
     let mut buf = PageBuf::new(alloc, 64)?;
     let mut index = BitmapIndex::plan(alloc, GEOMETRY, PLACE, 64, false)?;
-    let mut flash = SimFlash::new(alloc, &mut media, GEOMETRY, 3, 0)?;
     let found = look_up(&mut index, &mut flash, number, &mut buf);
     let _media = flash.into_media();
     Ok((found, buf))

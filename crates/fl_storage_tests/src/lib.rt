@@ -3,6 +3,8 @@
 #![tactic(auto)]
 
 #[cfg(test)]
+mod answers;
+#[cfg(test)]
 mod buckets;
 #[cfg(test)]
 mod changed_pages;
@@ -19,6 +21,8 @@ mod logged_tables;
 #[cfg(test)]
 mod lookups;
 #[cfg(test)]
+mod media;
+#[cfg(test)]
 mod operators;
 #[cfg(test)]
 mod page_searches;
@@ -32,6 +36,8 @@ mod rings;
 mod rows;
 #[cfg(test)]
 mod splines;
+#[cfg(test)]
+mod stores;
 #[cfg(test)]
 mod tables;
 #[cfg(test)]

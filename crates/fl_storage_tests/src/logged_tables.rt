@@ -1,14 +1,17 @@
 // Tables with a log and without one, whose power is lost.
-ghost use Rattle.std.specs.Prelude.{◌≡◌, ◌≤◌, ◌+◌, length, vec_len, IfSome, IfOk};
+ghost use Rattle.std.specs.Prelude.{◌≡◌, ◌≤◌, ◌+◌, length, IfSome, IfOk};
 ghost use Rattle.fl_flash.specs.Flash.{FlashState, Stays};
 ghost use Rattle.fl_rlc.specs.Table.{LiesOn};
 
+use crate::answers::Answer::{Found, Refused, Taken, Unmounted};
+use crate::answers::{Answer, of_mount, of_put};
+use crate::media::blank_medium;
 use arrayvec::ArrayVec;
-use fl_base::{CutKind, Geometry, NoMemory, RingPlace};
+use fl_base::{CutKind, Geometry, RingPlace};
 use fl_flash::{Flash, FlashFault, MemMedia, PageBuf, SimFlash};
 use fl_plan::{ConfigRefusal, TableConfig};
 use fl_schema::{ColumnType, KeyWidth};
-use fl_table::{MountFault, Mounted, PutRefusal};
+use fl_table::{MountFault, PutRefusal};
 use std::alloc::Global;
 use std::test::Fail;
 
@@ -50,121 +53,139 @@ fn table(alloc: Global, log: Option<RingPlace>) -> Result<LoggedTable, ConfigRef
     LoggedTable::plan(alloc, &config, log)
 }
 
+// Such a table, and the room for a page of it.
+#[derive(Drop)]
+struct Store {
+    table: LoggedTable,
+    buf: PageBuf,
+}
+
+impl Store {
+    fn new(alloc: Global, log: Option<RingPlace>) -> Result<Store, ConfigRefusal>
+        requires { IfSome log (λ place. place.first_block + place.blocks ≤ 6) }
+        ensures lies { IfOk result (λ s. (f : FlashState) → f.geometry ≡ record { page = 128; block = 4 } → f.blocks ≡ 6 → LiesOn s.table f) }
+        ensures room { IfOk result (λ s. length s.buf.bytes ≡ 128) }
+    {
+        let buf = PageBuf::new(alloc, 128)?;
+        let table = table(alloc, log)?;
+        Ok(Store { table, buf })
+    }
+
+    fn mount<F: Flash>(&mut self, flash: &mut F) -> Answer
+        requires lies { LiesOn self.old.table (F.state flash.old) }
+        requires room { length self.old.buf.bytes ≡ (F.state flash.old).geometry.page }
+        ensures goes { Stays (F.state flash.old) (F.state flash.new) }
+        ensures lies { LiesOn self.new.table (F.state flash.new) }
+        ensures room { length self.new.buf.bytes ≡ length self.old.buf.bytes }
+    {
+        of_mount(self.table.mount(flash, &mut self.buf))
+    }
+
+    fn put<F: Flash>(&mut self, flash: &mut F, key: u64) -> Answer
+        requires lies { LiesOn self.old.table (F.state flash.old) }
+        ensures goes { Stays (F.state flash.old) (F.state flash.new) }
+        ensures lies { LiesOn self.new.table (F.state flash.new) }
+        ensures room { length self.new.buf.bytes ≡ length self.old.buf.bytes }
+    {
+        of_put(self.table.put(flash, key, &[0], None))
+    }
+}
+
 #[derive(Clone, Copy)]
 enum Step {
     Mount,
     Put(u64),
 }
 
-#[derive(Clone, Copy, Debug, PartialEq)]
-enum Answer {
-    Mounted(Result<Mounted, MountFault>),
-    Put(Result<(), PutRefusal>),
-}
-
-use Answer::Mounted as Found;
 use Step::{Mount, Put};
 
-fn take<F: Flash>(step: Step, table: &mut LoggedTable, flash: &mut F, buf: &mut PageBuf) -> Answer
-    requires lies { LiesOn table.old (F.state flash.old) }
-    requires room { length buf.old.bytes ≡ (F.state flash.old).geometry.page }
+// Steps, each with its answer.
+type Talk = &'static [(Step, Answer)];
+
+fn take<F: Flash>(step: Step, store: &mut Store, flash: &mut F) -> Answer
+    requires lies { LiesOn store.old.table (F.state flash.old) }
+    requires room { length store.old.buf.bytes ≡ (F.state flash.old).geometry.page }
     ensures goes { Stays (F.state flash.old) (F.state flash.new) }
-    ensures lies { LiesOn table.new (F.state flash.new) }
-    ensures room { length buf.new.bytes ≡ length buf.old.bytes }
+    ensures lies { LiesOn store.new.table (F.state flash.new) }
+    ensures room { length store.new.buf.bytes ≡ length store.old.buf.bytes }
 {
     match step {
-        Mount => Found(table.mount(flash, buf)),
-        Put(key) => Answer::Put(table.put(flash, key, &[0], None)),
+        Mount => store.mount(flash),
+        Put(key) => store.put(flash, key),
     }
 }
 
-// The first steps that were answered as they are to be.
-fn answered<F: Flash>(
+// The first step that isn't answered as it is to be.
+fn first_wrong<F: Flash>(
     steps: &[(Step, Answer)],
-    table: &mut LoggedTable,
+    store: &mut Store,
     flash: &mut F,
-    buf: &mut PageBuf,
-) -> usize
-    requires lies { LiesOn table.old (F.state flash.old) }
-    requires room { length buf.old.bytes ≡ (F.state flash.old).geometry.page }
+) -> Option<usize>
+    requires lies { LiesOn store.old.table (F.state flash.old) }
+    requires room { length store.old.buf.bytes ≡ (F.state flash.old).geometry.page }
     ensures goes { Stays (F.state flash.old) (F.state flash.new) }
-    ensures lies { LiesOn table.new (F.state flash.new) }
-    ensures room { length buf.new.bytes ≡ length buf.old.bytes }
+    ensures lies { LiesOn store.new.table (F.state flash.new) }
+    ensures room { length store.new.buf.bytes ≡ length store.old.buf.bytes }
 {
     for i in 0..steps.len() {
         let (step, want) = steps[i];
-        if take(step, table, flash, buf) != want {
-            return i;
+        if take(step, store, flash) != want {
+            return Some(i);
         }
     }
-    steps.len()
+    None
 }
 
-const TAKEN: Answer = Answer::Put(Ok(()));
+const POWER_LOST: Answer = Refused(PutRefusal::Flash(FlashFault::PowerLost));
 
-const POWER_LOST: Answer = Answer::Put(Err(PutRefusal::Flash(FlashFault::PowerLost)));
-
-fn found(rows: u64, pages: u32) -> Answer {
-    Found(Ok(Mounted {
-        rows,
-        pages,
-        voids: 0,
-    }))
-}
-
-// Six blocks of four pages.
-fn blank(alloc: Global) -> Result<Vec<u8>, NoMemory>
-    ensures { IfOk result (λ v. vec_len v ≡ 3072) }
-{
-    Ok(vec![in alloc; 255; 3072]?)
-}
-
-// How many steps on a blank flash were answered as they are to be, and how many programs they took.
+// The first step on a blank flash that isn't answered as it is to be, and how many programs all took.
 fn run(
     alloc: Global,
     log: Option<RingPlace>,
     steps: &[(Step, Answer)],
-) -> Result<(usize, u64), Fail>
+) -> Result<(Option<usize>, u64), ConfigRefusal>
     requires { IfSome log (λ place. place.first_block + place.blocks ≤ 6) }
 {
-    let mut media = MemMedia::new(alloc, blank(alloc)?, 3072)?;
-    let mut buf = PageBuf::new(alloc, 128)?;
-    let mut table = table(alloc, log)?;
+    let mut media = blank_medium(alloc, 3072)?;
     let mut flash = SimFlash::new(alloc, &mut media, GEOMETRY, 6, 0)?;
-    let done = answered(steps, &mut table, &mut flash, &mut buf);
+    let mut store = Store::new(alloc, log)?;
+    let wrong = first_wrong(steps, &mut store, &mut flash);
     let programs = flash.work().programs;
     let _media = flash.into_media();
-    Ok((done, programs))
+    Ok((wrong, programs))
 }
 
 #[test]
 fn accepted_records_survive_where_there_is_a_log(rt: HostRuntime) -> Result<(), Fail> {
-    let puts = [
-        (Mount, found(0, 0)),
-        (Put(1), TAKEN),
-        (Put(2), TAKEN),
-        (Put(3), TAKEN),
+    const PUTS: Talk = &[
+        (Mount, Found(0, 0, 0)),
+        (Put(1), Taken),
+        (Put(2), Taken),
+        (Put(3), Taken),
     ];
     // The power is lost: what is in memory is given up.
-    let logged = [
-        (Mount, found(0, 0)),
-        (Put(1), TAKEN),
-        (Put(2), TAKEN),
-        (Put(3), TAKEN),
-        (Mount, found(3, 1)),
+    const LOGGED: Talk = &[
+        (Mount, Found(0, 0, 0)),
+        (Put(1), Taken),
+        (Put(2), Taken),
+        (Put(3), Taken),
+        (Mount, Found(3, 1, 0)),
     ];
-    let alone = [
-        (Mount, found(0, 0)),
-        (Put(1), TAKEN),
-        (Put(2), TAKEN),
-        (Put(3), TAKEN),
-        (Mount, found(0, 0)),
+    const ALONE: Talk = &[
+        (Mount, Found(0, 0, 0)),
+        (Put(1), Taken),
+        (Put(2), Taken),
+        (Put(3), Taken),
+        (Mount, Found(0, 0, 0)),
+    ];
+    let seen = [
+        run(rt.alloc(), Some(LOG), PUTS)?,
+        run(rt.alloc(), Some(LOG), LOGGED)?,
+        run(rt.alloc(), None, PUTS)?,
+        run(rt.alloc(), None, ALONE)?,
     ];
     // Each put ends with a page and its mark, and the mount seals the rows as one.
-    assert_eq!(rt; run(rt.alloc(), Some(LOG), &puts)?, (4, 6));
-    assert_eq!(rt; run(rt.alloc(), Some(LOG), &logged)?, (5, 8));
-    assert_eq!(rt; run(rt.alloc(), None, &puts)?, (4, 0));
-    assert_eq!(rt; run(rt.alloc(), None, &alone)?, (5, 0));
+    assert_eq!(rt; seen, [(None, 6), (None, 8), (None, 0), (None, 0)]);
     Ok(())
 }
 
@@ -173,126 +194,125 @@ fn take_cut<'m>(
     n: u64,
     kind: CutKind,
     step: Step,
-    table: &mut LoggedTable,
+    store: &mut Store,
     flash: &mut SimFlash<'m, MemMedia>,
-    buf: &mut PageBuf,
 ) -> Answer
     requires some { 1 ≤ n }
-    requires lies { LiesOn table.old (⟦<SimFlash<'m, MemMedia> as Flash>⟧.state flash.old) }
-    requires room { length buf.old.bytes ≡ (⟦<SimFlash<'m, MemMedia> as Flash>⟧.state flash.old).geometry.page }
+    requires lies { LiesOn store.old.table (⟦<SimFlash<'m, MemMedia> as Flash>⟧.state flash.old) }
+    requires room { length store.old.buf.bytes ≡ (⟦<SimFlash<'m, MemMedia> as Flash>⟧.state flash.old).geometry.page }
     ensures goes { Stays (⟦<SimFlash<'m, MemMedia> as Flash>⟧.state flash.old) (⟦<SimFlash<'m, MemMedia> as Flash>⟧.state flash.new) }
-    ensures lies { LiesOn table.new (⟦<SimFlash<'m, MemMedia> as Flash>⟧.state flash.new) }
-    ensures room { length buf.new.bytes ≡ length buf.old.bytes }
+    ensures lies { LiesOn store.new.table (⟦<SimFlash<'m, MemMedia> as Flash>⟧.state flash.new) }
+    ensures room { length store.new.buf.bytes ≡ length store.old.buf.bytes }
 {
     flash.arm(n, kind);
-    let answer = take(step, table, flash, buf);
+    let answer = take(step, store, flash);
     flash.power_on();
     answer
 }
 
-// Three records are replayed, a fourth is put, and an operation of the fifth put is cut: how many of the steps before the cut
-// and of those after it were answered as they are to be, and what the cut put answered.
-fn cut_at(
-    alloc: Global,
-    n: u64,
-    kind: CutKind,
-    mounted: Answer,
-) -> Result<([usize; 2], Answer), Fail>
+const BEFORE_THE_CUT: Talk = &[
+    (Mount, Found(0, 0, 0)),
+    (Put(1), Taken),
+    (Put(2), Taken),
+    (Put(3), Taken),
+    (Mount, Found(3, 1, 0)),
+    (Put(4), Taken),
+];
+
+// Three records are replayed, a fourth is put, and an operation of the fifth put is cut: whether the steps before the cut, the put
+// and the steps after it are answered as they are to be.
+fn cut_at(alloc: Global, n: u64, kind: CutKind, mounted: Answer) -> Result<[bool; 3], ConfigRefusal>
     requires { 1 ≤ n }
 {
-    let mut media = MemMedia::new(alloc, blank(alloc)?, 3072)?;
-    let mut buf = PageBuf::new(alloc, 128)?;
-    let mut table = table(alloc, Some(LOG))?;
+    let mut media = blank_medium(alloc, 3072)?;
     let mut flash = SimFlash::new(alloc, &mut media, GEOMETRY, 6, 0)?;
-    let before = [
-        (Mount, found(0, 0)),
-        (Put(1), TAKEN),
-        (Put(2), TAKEN),
-        (Put(3), TAKEN),
-        (Mount, found(3, 1)),
-        (Put(4), TAKEN),
-    ];
-    let after = [
-        (Put(6), Answer::Put(Err(PutRefusal::Stopped))),
-        (Mount, mounted),
-    ];
-    let first = answered(&before, &mut table, &mut flash, &mut buf);
-    let cut = take_cut(n, kind, Put(5), &mut table, &mut flash, &mut buf);
-    let second = answered(&after, &mut table, &mut flash, &mut buf);
+    let mut store = Store::new(alloc, Some(LOG))?;
+    let after = [(Put(6), Refused(PutRefusal::Stopped)), (Mount, mounted)];
+    let first = first_wrong(BEFORE_THE_CUT, &mut store, &mut flash);
+    let cut = take_cut(n, kind, Put(5), &mut store, &mut flash);
+    let second = first_wrong(&after, &mut store, &mut flash);
     let _media = flash.into_media();
-    Ok(([first, second], cut))
+    Ok([first.is_none(), cut == POWER_LOST, second.is_none()])
 }
 
 #[test]
 fn a_cut_in_the_log_loses_at_most_the_last_record(rt: HostRuntime) -> Result<(), Fail> {
     // The page of the fifth record wasn't programmed whole.
-    let torn = cut_at(rt.alloc(), 1, CutKind::Half, found(4, 2))?;
+    let torn = cut_at(rt.alloc(), 1, CutKind::Half, Found(4, 2, 0))?;
     // It was, and so was its mark.
-    let whole = cut_at(rt.alloc(), 2, CutKind::After, found(5, 2))?;
-    assert_eq!(rt; torn, ([6, 2], POWER_LOST));
-    assert_eq!(rt; whole, ([6, 2], POWER_LOST));
+    let whole = cut_at(rt.alloc(), 2, CutKind::After, Found(5, 2, 0))?;
+    assert_eq!(rt; [torn, whole], [[true; 3]; 2]);
     Ok(())
 }
 
-// Two mounts, the first program or erase of each of which is cut.
-fn cut_two_mounts<'m>(
-    table: &mut LoggedTable,
-    flash: &mut SimFlash<'m, MemMedia>,
-    buf: &mut PageBuf,
-) -> [Answer; 2]
-    requires lies { LiesOn table.old (⟦<SimFlash<'m, MemMedia> as Flash>⟧.state flash.old) }
-    requires room { length buf.old.bytes ≡ (⟦<SimFlash<'m, MemMedia> as Flash>⟧.state flash.old).geometry.page }
+// Two mounts, the first program or erase of each of which is cut: whether both answer so.
+fn cut_two_mounts<'m>(store: &mut Store, flash: &mut SimFlash<'m, MemMedia>) -> bool
+    requires lies { LiesOn store.old.table (⟦<SimFlash<'m, MemMedia> as Flash>⟧.state flash.old) }
+    requires room { length store.old.buf.bytes ≡ (⟦<SimFlash<'m, MemMedia> as Flash>⟧.state flash.old).geometry.page }
     ensures goes { Stays (⟦<SimFlash<'m, MemMedia> as Flash>⟧.state flash.old) (⟦<SimFlash<'m, MemMedia> as Flash>⟧.state flash.new) }
-    ensures lies { LiesOn table.new (⟦<SimFlash<'m, MemMedia> as Flash>⟧.state flash.new) }
-    ensures room { length buf.new.bytes ≡ length buf.old.bytes }
+    ensures lies { LiesOn store.new.table (⟦<SimFlash<'m, MemMedia> as Flash>⟧.state flash.new) }
+    ensures room { length store.new.buf.bytes ≡ length store.old.buf.bytes }
 {
-    let first = take_cut(1, CutKind::Half, Mount, table, flash, buf);
-    let second = take_cut(1, CutKind::Half, Mount, table, flash, buf);
-    [first, second]
+    let first = take_cut(1, CutKind::Half, Mount, store, flash);
+    let second = take_cut(1, CutKind::Half, Mount, store, flash);
+    [first, second] == [Unmounted(MountFault::Flash(FlashFault::PowerLost)); 2]
+}
+
+// Eight such mounts.
+fn cut_eight_mounts<'m>(store: &mut Store, flash: &mut SimFlash<'m, MemMedia>) -> bool
+    requires lies { LiesOn store.old.table (⟦<SimFlash<'m, MemMedia> as Flash>⟧.state flash.old) }
+    requires room { length store.old.buf.bytes ≡ (⟦<SimFlash<'m, MemMedia> as Flash>⟧.state flash.old).geometry.page }
+    ensures goes { Stays (⟦<SimFlash<'m, MemMedia> as Flash>⟧.state flash.old) (⟦<SimFlash<'m, MemMedia> as Flash>⟧.state flash.new) }
+    ensures lies { LiesOn store.new.table (⟦<SimFlash<'m, MemMedia> as Flash>⟧.state flash.new) }
+    ensures room { length store.new.buf.bytes ≡ length store.old.buf.bytes }
+{
+    let first = cut_two_mounts(store, flash);
+    let second = cut_two_mounts(store, flash);
+    let third = cut_two_mounts(store, flash);
+    let fourth = cut_two_mounts(store, flash);
+    [first, second, third, fourth] == [true; 4]
+}
+
+// A record is put, and the second page of the log is torn; eight mounts are cut, and then one isn't: whether the steps before the
+// torn page, the put that tears it, the cut mounts and the last one are answered as they are to be.
+fn cut_mounts(alloc: Global) -> Result<[bool; 4], ConfigRefusal> {
+    const PUTS: Talk = &[(Mount, Found(0, 0, 0)), (Put(1), Taken)];
+    // The first cut fell into the mark of the log's torn page, the others by turns into the seal of the record and the mark of
+    // the page that this tore.
+    const KEPT: Talk = &[(Mount, Found(1, 5, 4))];
+    let mut media = blank_medium(alloc, 3072)?;
+    let mut flash = SimFlash::new(alloc, &mut media, GEOMETRY, 6, 0)?;
+    let mut store = Store::new(alloc, Some(LOG))?;
+    let before = first_wrong(PUTS, &mut store, &mut flash);
+    let torn = take_cut(1, CutKind::Half, Put(2), &mut store, &mut flash);
+    let are_cut = cut_eight_mounts(&mut store, &mut flash);
+    let after = first_wrong(KEPT, &mut store, &mut flash);
+    let _media = flash.into_media();
+    let is_torn = torn == POWER_LOST;
+    Ok([before.is_none(), is_torn, are_cut, after.is_none()])
 }
 
 #[test]
 fn a_record_of_the_log_survives_mounts_that_are_cut(rt: HostRuntime) -> Result<(), Fail> {
-    let mut media = MemMedia::new(rt.alloc(), blank(rt.alloc())?, 3072)?;
-    let mut buf = PageBuf::new(rt.alloc(), 128)?;
-    let mut table = table(rt.alloc(), Some(LOG))?;
-    let mut flash = SimFlash::new(rt.alloc(), &mut media, GEOMETRY, 6, 0)?;
-    let puts = [(Mount, found(0, 0)), (Put(1), TAKEN)];
-    let before = answered(&puts, &mut table, &mut flash, &mut buf);
-    // The second page of the log is torn.
-    let torn = take_cut(1, CutKind::Half, Put(2), &mut table, &mut flash, &mut buf);
-    let cut = [
-        cut_two_mounts(&mut table, &mut flash, &mut buf),
-        cut_two_mounts(&mut table, &mut flash, &mut buf),
-        cut_two_mounts(&mut table, &mut flash, &mut buf),
-        cut_two_mounts(&mut table, &mut flash, &mut buf),
-    ];
-    // The first cut fell into the mark of the log's torn page, the others by turns into the seal of the record and the mark of
-    // the page that this tore.
-    let kept = Found(Ok(Mounted {
-        rows: 1,
-        pages: 5,
-        voids: 4,
-    }));
-    let after = answered(&[(Mount, kept)], &mut table, &mut flash, &mut buf);
-    let _media = flash.into_media();
-    let lost = Found(Err(MountFault::Flash(FlashFault::PowerLost)));
-    assert_eq!(rt; (before, torn, after), (2, POWER_LOST, 1));
-    assert_eq!(rt; cut, [[lost; 2]; 4]);
+    assert_eq!(rt; cut_mounts(rt.alloc())?, [true; 4]);
     Ok(())
+}
+
+// What a mount answers, and a put behind it, before which the power goes off.
+fn put_without_power(alloc: Global) -> Result<[Answer; 2], ConfigRefusal> {
+    let mut media = blank_medium(alloc, 3072)?;
+    let mut flash = SimFlash::new(alloc, &mut media, GEOMETRY, 6, 0)?;
+    let mut store = Store::new(alloc, Some(LOG))?;
+    let mounted = store.mount(&mut flash);
+    flash.power_off();
+    let lost = store.put(&mut flash, 1);
+    let _media = flash.into_media();
+    Ok([mounted, lost])
 }
 
 #[test]
 fn with_the_power_off_no_record_is_accepted(rt: HostRuntime) -> Result<(), Fail> {
-    let mut media = MemMedia::new(rt.alloc(), blank(rt.alloc())?, 3072)?;
-    let mut buf = PageBuf::new(rt.alloc(), 128)?;
-    let mut table = table(rt.alloc(), Some(LOG))?;
-    let mut flash = SimFlash::new(rt.alloc(), &mut media, GEOMETRY, 6, 0)?;
-    let mounted = take(Mount, &mut table, &mut flash, &mut buf);
-    flash.power_off();
-    let lost = take(Put(1), &mut table, &mut flash, &mut buf);
-    let _media = flash.into_media();
-    assert_eq!(rt; mounted, found(0, 0));
-    assert_eq!(rt; lost, POWER_LOST);
+    let seen = put_without_power(rt.alloc())?;
+    assert!(rt; seen == [Found(0, 0, 0), POWER_LOST]);
     Ok(())
 }

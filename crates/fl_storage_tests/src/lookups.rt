@@ -19,6 +19,10 @@ const PLACE: RingPlace = RingPlace {
     blocks: 3,
 };
 
+fn schema() -> Option<Schema<8>> {
+    Schema::<8>::new(KeyWidth::Eight, &C1, false, 40).ok()
+}
+
 // Page n has the keys 30n + 10, 30n + 20 and 30n + 30.
 fn write_page(n: u32, number: u32, into: &mut [u8])
     requires size { length into.old ≡ 64 }
@@ -90,7 +94,7 @@ fn at(number: u32, row: usize) -> Result<Option<PageRow>, ReadFault> {
 // From the last point on the newest page is the only one.
 #[test]
 fn covered_keys(rt: HostRuntime) -> Result<(), Fail> {
-    let schema = Schema::<8>::new(KeyWidth::Eight, &C1, false, 40).expect(&rt, "a schema");
+    let schema = schema().expect(&rt, "a schema");
     let index = index();
     let cases = [
         (10, (at(0, 0), 2)),
@@ -103,16 +107,24 @@ fn covered_keys(rt: HostRuntime) -> Result<(), Fail> {
     ];
     for (key, want) in cases {
         let found = find(rt.alloc(), &schema, &index, 7, key)?;
-        assert!(rt; found == Some(want));
-        assert_eq!(rt; index.lookup_limit(key, 9, 1), 5);
+        let limit = index.lookup_limit(key, 9, 1);
+        assert!(rt; (found, limit) == (Some(want), 5), "{key}");
     }
     Ok(())
+}
+
+// Whether this is found by one read at least, and six at most.
+fn is_found(found: Option<Found>, want: Result<Option<PageRow>, ReadFault>) -> bool {
+    match found {
+        Some((row, reads)) => row == want && 1 <= reads && reads <= 6,
+        None => false,
+    }
 }
 
 // By halves of nine pages, of which one is void: at most four reads, one more for it, and one for the page again.
 #[test]
 fn other_keys(rt: HostRuntime) -> Result<(), Fail> {
-    let schema = Schema::<8>::new(KeyWidth::Eight, &C1, false, 40).expect(&rt, "a schema");
+    let schema = schema().expect(&rt, "a schema");
     let index: KeyIndex<2, 4> = KeyIndex::new(1);
     let cases = [
         (5, Ok(None)),
@@ -122,14 +134,9 @@ fn other_keys(rt: HostRuntime) -> Result<(), Fail> {
         (270, at(8, 2)),
     ];
     for (key, want) in cases {
-        assert_eq!(rt; index.lookup_limit(key, 9, 1), 6);
-        match find(rt.alloc(), &schema, &index, 7, key)? {
-            Some((found, reads)) => {
-                assert!(rt; found == want);
-                assert!(rt; 1 <= reads && reads <= 6);
-            }
-            None => assert!(rt; false),
-        }
+        let found = find(rt.alloc(), &schema, &index, 7, key)?;
+        let limit = index.lookup_limit(key, 9, 1);
+        assert!(rt; limit == 6 && is_found(found, want), "{key}");
     }
     Ok(())
 }
@@ -137,16 +144,18 @@ fn other_keys(rt: HostRuntime) -> Result<(), Fail> {
 // Page 7 has the number 8: it is read for key 230, and for no key of the pages below it.
 #[test]
 fn bad_page(rt: HostRuntime) -> Result<(), Fail> {
-    let schema = Schema::<8>::new(KeyWidth::Eight, &C1, false, 40).expect(&rt, "a schema");
+    let schema = schema().expect(&rt, "a schema");
     let index = index();
     let bad = BadPage {
         wanted: 7,
         found: 8,
         count: 3,
     };
-    let found = find(rt.alloc(), &schema, &index, 8, 230)?;
-    assert!(rt; found == Some((Err(ReadFault::BadPage(bad)), 2)));
-    let found = find(rt.alloc(), &schema, &index, 8, 60)?;
-    assert!(rt; found == Some((at(1, 2), 2)));
+    let seen = [
+        find(rt.alloc(), &schema, &index, 8, 230)?,
+        find(rt.alloc(), &schema, &index, 8, 60)?,
+    ];
+    let unread = Err(ReadFault::BadPage(bad));
+    assert!(rt; seen == [Some((unread, 2)), Some((at(1, 2), 2))]);
     Ok(())
 }

@@ -3,8 +3,9 @@ ghost use Rattle.std.specs.Prelude.{◌≡◌, true, IfSome};
 ghost use Rattle.fl_var.specs.Memory.{is_mounted, LiesOn};
 ghost use Rattle.fl_var.specs.Reading.{data_of};
 
+use crate::media::{blank_medium, counted};
 use fl_base::{BlobRef, Geometry, NoMemory, RingPlace};
-use fl_flash::{Flash, MemMedia, PageBuf, SimFlash};
+use fl_flash::{Flash, PageBuf, SimFlash};
 use fl_var::VarData;
 use std::alloc::Global;
 use std::test::Fail;
@@ -100,74 +101,97 @@ fn are_placed<F: Flash>(var: &mut VarData, flash: &mut F, blob: &[u8], cases: &[
     true
 }
 
+const FULL: BlobRef = BlobRef {
+    page: 0,
+    offset: 10,
+    length: 38,
+};
+
+const LONG: BlobRef = BlobRef {
+    page: 1,
+    offset: 5,
+    length: 100,
+};
+
+const LAST: BlobRef = BlobRef {
+    page: 3,
+    offset: 9,
+    length: 100,
+};
+
+// One page is read for the first, and two more before the bytes in the buffer.
+fn are_both_read<F: Flash>(alloc: Global, var: &VarData, flash: &mut F, blob: &[u8]) -> bool
+    requires mounted { is_mounted var.now ≡ true }
+    requires lies { LiesOn var.now (F.state flash.old) }
+    ensures lies { LiesOn var.now (F.state flash.new) }
+{
+    let before = flash.work().reads;
+    if !has_bytes(alloc, var, flash, FULL, blob) {
+        return false;
+    }
+    let is_long_read = has_bytes(alloc, var, flash, LONG, blob);
+    is_long_read && flash.work().reads.saturating_sub(before) == 3
+}
+
+fn mount<F: Flash>(alloc: Global, var: &mut VarData, flash: &mut F) -> bool
+    requires lies { LiesOn var.old (F.state flash.old) }
+    ensures mounted { result ≡ true → is_mounted var.new ≡ true }
+    ensures lies { LiesOn var.new (F.state flash.new) }
+{
+    let Ok(mut buf) = PageBuf::new(alloc, flash.geometry().page) else {
+        return false;
+    };
+    var.mount(flash, 0, &mut buf).is_ok()
+}
+
+// What waits is sealed, and the blobs are mounted again.
+fn seal_and_mount<F: Flash>(alloc: Global, var: &mut VarData, flash: &mut F) -> bool
+    requires mounted { is_mounted var.old ≡ true }
+    requires lies { LiesOn var.old (F.state flash.old) }
+    ensures mounted { result ≡ true → is_mounted var.new ≡ true }
+    ensures lies { LiesOn var.new (F.state flash.new) }
+{
+    if var.next_number() != 5 {
+        return false;
+    }
+    if var.seal_rest(flash).is_err() {
+        return false;
+    }
+    mount(alloc, var, flash)
+}
+
 // Blobs of 10, 38 (the page is exactly full then), 5, 100 (on three pages) and 0 bytes are placed and read. One of 100
 // more gives up the first two pages, and it is there after a mount.
 fn tells<F: Flash>(alloc: Global, var: &mut VarData, flash: &mut F, blob: &[u8]) -> bool
     requires mounted { is_mounted var.old ≡ true }
     requires lies { LiesOn var.old (F.state flash.old) }
 {
-    if blob.len() != 100 {
-        return false;
-    }
     let cases = [(10, 0, 0), (38, 0, 10), (5, 1, 0), (100, 1, 5), (0, 0, 0)];
     if !are_placed(var, flash, blob, &cases) || flash.work().programs != 6 {
         return false;
     }
-    let full = BlobRef {
-        page: 0,
-        offset: 10,
-        length: 38,
-    };
-    let long = BlobRef {
-        page: 1,
-        offset: 5,
-        length: 100,
-    };
-    let last = BlobRef {
-        page: 3,
-        offset: 9,
-        length: 100,
-    };
-    // One page, and two more before the bytes in the buffer.
-    let before = flash.work().reads;
-    if !has_bytes(alloc, var, flash, full, blob)
-        || !has_bytes(alloc, var, flash, long, blob)
-        || flash.work().reads.saturating_sub(before) != 3
-    {
+    if !are_both_read(alloc, var, flash, blob) {
         return false;
     }
     if !are_placed(var, flash, blob, &[(100, 3, 9)]) {
         return false;
     }
-    if !is_gone(alloc, var, flash, full) || !is_gone(alloc, var, flash, long) {
+    if !is_gone(alloc, var, flash, FULL) || !is_gone(alloc, var, flash, LONG) {
         return false;
     }
-    if !has_bytes(alloc, var, flash, last, blob) || var.next_number() != 5 {
+    if !has_bytes(alloc, var, flash, LAST, blob) || !seal_and_mount(alloc, var, flash) {
         return false;
     }
-    if var.seal_rest(flash).is_err() {
-        return false;
-    }
-    let Ok(mut buf) = PageBuf::new(alloc, flash.geometry().page) else {
-        return false;
-    };
-    if var.mount(flash, 0, &mut buf).is_err() {
-        return false;
-    }
-    has_bytes(alloc, var, flash, last, blob) && var.next_number() == 6
+    has_bytes(alloc, var, flash, LAST, blob) && var.next_number() == 6
 }
 
 fn told(alloc: Global) -> Result<bool, NoMemory> {
-    let mut blob = Vec::new(alloc);
-    for i in 0..100u8 {
-        blob.push(i)?;
-    }
-    let mut media = MemMedia::new(alloc, vec![in alloc; 255; 384]?, 384)?;
-    let mut buf = PageBuf::new(alloc, 64)?;
-    let mut var = VarData::plan(alloc, GEOMETRY, PLACE)?;
+    let blob = counted();
+    let mut media = blank_medium(alloc, 384)?;
     let mut flash = SimFlash::new(alloc, &mut media, GEOMETRY, 3, 0)?;
-    let mounted = var.mount(&mut flash, 0, &mut buf).is_ok();
-    let told = mounted && tells(alloc, &mut var, &mut flash, &blob);
+    let mut var = VarData::plan(alloc, GEOMETRY, PLACE)?;
+    let told = mount(alloc, &mut var, &mut flash)
+        && tells(alloc, &mut var, &mut flash, &blob[..100]);
     let _media = flash.into_media();
     Ok(told)
 }

@@ -13,17 +13,23 @@ const TABLE: &str = "table t 8 i32 3 0 0 8 0 10 1 0";
 
 const OTHER_TABLE: &str = "table t 8 i32 3 0 0 8 0 10 2 0";
 
+/// Configurations by the lines of their tables, each with the answer of a medium.
+type Talk = &'static [(&'static str, Result<(), ImageRefusal>)];
+
+fn add(config: &mut Config, room: &mut LineRoom, line: &[u8]) -> Option<()> {
+    let command = read_line(line, room).ok()?;
+    config.add(&command, room).ok()
+}
+
 /// The configuration of a device and the tables with these lines.
 fn config(room: &mut LineRoom, tables: &str) -> Option<Config>
     ensures { IfSome result (λ config. IsTrue (is_whole config)) }
 {
     let mut config = Config::new();
-    let command = read_line(b"device 128 4", room).ok()?;
-    config.add(&command, room).ok()?;
+    add(&mut config, room, b"device 128 4")?;
     let lines = tables.as_bytes().split(|byte| *byte == b'\n');
     for line in lines {
-        let command = read_line(line, room).ok()?;
-        config.add(&command, room).ok()?;
+        add(&mut config, room, line)?;
     }
     if config.is_complete() {
         Some(config)
@@ -45,6 +51,21 @@ fn open(
     Ok(Some(config.open_image(media)))
 }
 
+/// The first of these configurations that isn't answered so by a medium.
+fn first_wrong(
+    alloc: Global,
+    media: &mut MemMedia,
+    answers: Talk,
+) -> Result<Option<usize>, NoMemory> {
+    for i in 0..answers.len() {
+        let (tables, answer) = answers[i];
+        if open(alloc, tables, media)? != Some(answer) {
+            return Ok(Some(i));
+        }
+    }
+    Ok(None)
+}
+
 fn is_all(bytes: &[u8], byte: u8) -> bool {
     bytes.iter().all(|found| *found == byte)
 }
@@ -64,8 +85,8 @@ fn both_words_stand_in_the_header(rt: HostRuntime) -> Result<(), Fail> {
     let table = "table t 8 i32 6 3 0 8 0 10 1 0  index2 rlc 03";
     let text = b"device 128 4\ntable t 8 i32 6 3 0 8 0 10 1 0 index2 rlc 3\n ";
     assert_eq!(rt; open(rt.alloc(), table, &mut media)?, Some(Ok(())));
-    assert!(rt; media.bytes().starts_with(text), "its header");
-    assert_eq!(rt; media.bytes().len(), 7168);
+    let has_text = media.bytes().starts_with(text);
+    assert_eq!(rt; (has_text, media.bytes().len()), (true, 7168));
     Ok(())
 }
 
@@ -79,56 +100,69 @@ const OTHER_LOGS: &str =
 /// As many blocks, and a log of the second table alone.
 const ONE_LOG: &str = "table t 8 i32 3 0 0 8 0 10 1 0\ntable u 8 i32 3 0 0 8 0 10 1 0 rlc 7";
 
+/// The blocks of the first log differ.
+const OTHER_BLOCKS: ImageRefusal = ImageRefusal::Other {
+    wanted: b'4' as u64,
+    found: b'3' as u64,
+    at: 48,
+};
+
+/// The line of the first table ends there.
+const LINE_END: ImageRefusal = ImageRefusal::Other {
+    wanted: b'\n' as u64,
+    found: b' ' as u64,
+    at: 43,
+};
+
+const OTHER_LENGTH: ImageRefusal = ImageRefusal::Other {
+    wanted: 2560,
+    found: 7680,
+    at: 1024,
+};
+
 #[test]
 fn another_log_is_another_configuration(rt: HostRuntime) -> Result<(), Fail> {
+    const ANSWERS: Talk = &[
+        (LOGS, Ok(())),
+        (LOGS, Ok(())),
+        (OTHER_LOGS, Err(OTHER_BLOCKS)),
+        (ONE_LOG, Err(LINE_END)),
+        (TABLE, Err(OTHER_LENGTH)),
+    ];
     let mut media = MemMedia::new(rt.alloc(), Vec::new(rt.alloc()), 8000)?;
-    assert_eq!(rt; open(rt.alloc(), LOGS, &mut media)?, Some(Ok(())));
-    assert_eq!(rt; open(rt.alloc(), LOGS, &mut media)?, Some(Ok(())));
-    let blocks = ImageRefusal::Other {
-        wanted: u64::from(b'4'),
-        found: u64::from(b'3'),
-        at: 48,
-    };
-    assert_eq!(rt;
-        open(rt.alloc(), OTHER_LOGS, &mut media)?,
-        Some(Err(blocks))
-    );
-    let word = ImageRefusal::Other {
-        wanted: u64::from(b'\n'),
-        found: u64::from(b' '),
-        at: 43,
-    };
-    assert_eq!(rt; open(rt.alloc(), ONE_LOG, &mut media)?, Some(Err(word)));
-    let length = ImageRefusal::Other {
-        wanted: 2560,
-        found: 7680,
-        at: 1024,
-    };
-    assert_eq!(rt; open(rt.alloc(), TABLE, &mut media)?, Some(Err(length)));
+    assert_eq!(rt; first_wrong(rt.alloc(), &mut media, ANSWERS)?, None);
     Ok(())
 }
 
+/// The first of these configurations that isn't answered so, and whether the medium is the image of the first table then.
+fn first_wrong_of_image(
+    alloc: Global,
+    media: &mut MemMedia,
+    answers: Talk,
+) -> Result<(Option<usize>, bool), NoMemory> {
+    let wrong = first_wrong(alloc, media, answers)?;
+    Ok((wrong, is_image(media.bytes())))
+}
+
+/// The error of the index differs.
+const OTHER_ERROR: ImageRefusal = ImageRefusal::Other {
+    wanted: b'2' as u64,
+    found: b'1' as u64,
+    at: 40,
+};
+
 #[test]
 fn an_image_is_made_and_found(rt: HostRuntime) -> Result<(), Fail> {
-    let mut media = MemMedia::new(rt.alloc(), Vec::new(rt.alloc()), 4000)?;
-    assert_eq!(rt; open(rt.alloc(), TABLE, &mut media)?, Some(Ok(())));
-    assert!(rt; is_image(media.bytes()), "made");
-    assert_eq!(rt; open(rt.alloc(), TABLE, &mut media)?, Some(Ok(())));
-    let other = ImageRefusal::Other {
-        wanted: 50,
-        found: 49,
-        at: 40,
-    };
-    assert_eq!(rt;
-        open(rt.alloc(), OTHER_TABLE, &mut media)?,
-        Some(Err(other))
-    );
+    const MADE: Talk = &[(TABLE, Ok(()))];
+    const FOUND: Talk = &[(TABLE, Ok(())), (OTHER_TABLE, Err(OTHER_ERROR))];
+    const UNREAD: Talk = &[(TABLE, Err(ImageRefusal::Media))];
+    let alloc = rt.alloc();
+    let mut media = MemMedia::new(alloc, Vec::new(alloc), 4000)?;
+    let made = first_wrong_of_image(alloc, &mut media, MADE)?;
+    let found = first_wrong_of_image(alloc, &mut media, FOUND)?;
     media.fail_call(1);
-    assert_eq!(rt;
-        open(rt.alloc(), TABLE, &mut media)?,
-        Some(Err(ImageRefusal::Media))
-    );
-    assert!(rt; is_image(media.bytes()), "unchanged");
+    let unread = first_wrong_of_image(alloc, &mut media, UNREAD)?;
+    assert_eq!(rt; [made, found, unread], [(None, true); 3]);
     Ok(())
 }
 

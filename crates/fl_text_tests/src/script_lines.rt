@@ -1,7 +1,11 @@
 // Lines, each with its fault, and what is left in the room.
 use fl_script::LineFault::{Form, Number, TooLong, Unknown};
-use fl_script::{LineRoom, read_line};
+use fl_script::{LineFault, LineRoom, read_line};
 use std::test::Fail;
+
+fn fault(line: &[u8], room: &mut LineRoom) -> Option<LineFault> {
+    read_line(line, room).err()
+}
 
 #[test]
 fn each_line_is_in_the_language(rt: HostRuntime) -> Result<(), Fail> {
@@ -37,7 +41,7 @@ fn each_line_is_in_the_language(rt: HostRuntime) -> Result<(), Fail> {
         "load t 1000000 1 0",
     ];
     for line in lines {
-        assert_eq!(rt; read_line(line.as_bytes(), &mut room).err(), None, "{line}");
+        assert_eq!(rt; fault(line.as_bytes(), &mut room), None, "{line}");
     }
     Ok(())
 }
@@ -73,15 +77,18 @@ fn the_first_fault_is_told(rt: HostRuntime) -> Result<(), Fail> {
         ("table t 8 i32 3 3 0 8 0 10 1 0 index2 rlc x", Number),
         ("device 64 2\r\r", Number),
     ];
-    for (line, fault) in lines {
-        assert_eq!(rt;
-            read_line(line.as_bytes(), &mut room).err(),
-            Some(fault),
-            "{line}"
-        );
+    for (line, wanted) in lines {
+        assert_eq!(rt; fault(line.as_bytes(), &mut room), Some(wanted), "{line}");
     }
-    assert_eq!(rt; read_line(&[b' '; 4096], &mut room).err(), None);
-    assert_eq!(rt; read_line(&[b' '; 4097], &mut room).err(), Some(TooLong));
+    Ok(())
+}
+
+#[test]
+fn a_line_has_at_most_4096_bytes(rt: HostRuntime) -> Result<(), Fail> {
+    let mut room = LineRoom::new(rt.alloc())?;
+    let longest = fault(&[b' '; 4096], &mut room);
+    let longer = fault(&[b' '; 4097], &mut room);
+    assert_eq!(rt; (longest, longer), (None, Some(TooLong)));
     Ok(())
 }
 
@@ -105,7 +112,7 @@ fn a_put_leaves_its_blob_and_a_table_its_columns(rt: HostRuntime) -> Result<(), 
         ("mount", &[]),
     ];
     for (line, left) in lines {
-        let _ = read_line(line.as_bytes(), &mut room);
+        let _fault = fault(line.as_bytes(), &mut room);
         assert_eq!(rt; room.bytes(), left, "{line}");
     }
     Ok(())

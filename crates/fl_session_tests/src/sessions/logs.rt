@@ -1,14 +1,8 @@
 // Tables with logs: a record whose put was answered `ok` survives the next cut.
 use super::*;
 
-const LOGGED: &str = "device 128 4\ntable t 8 i32 3 0 0 0 0 1 1 0 rlc 3\n";
-
-/// The bytes of the medium that `LOGGED` makes: a header, and 24 pages.
-const LOGGED_ROOM: usize = 4096;
-
-fn logged_medium(alloc: Global) -> Result<MemMedia, Fail> {
-    Ok(MemMedia::new(alloc, Vec::new(alloc), LOGGED_ROOM)?)
-}
+/// A header, and 24 pages.
+const LOGGED: Image = ("device 128 4\ntable t 8 i32 3 0 0 0 0 1 1 0 rlc 3\n", 4096);
 
 /// Three records that no flush has written are there after a mount, which writes a page of them.
 const THREE: Talk = &[
@@ -48,8 +42,8 @@ fn puts_that_are_cut(rt: HostRuntime) -> Result<(), Fail> {
         ("scan t 4 100", "row 4 0\nrow 5 0\nend 2"),
     ];
     for after in [without, with] {
-        let mut media = logged_medium(alloc)?;
-        assert!(rt; is_answered_over(alloc, LOGGED, &mut media, THREE, after)?);
+        let (is_kept, _) = is_answered_anew(alloc, LOGGED, NEVER, THREE, after)?;
+        assert!(rt; is_kept);
     }
     Ok(())
 }
@@ -70,9 +64,9 @@ fn runs_that_end(rt: HostRuntime) -> Result<(), Fail> {
         ("put t 2 0", "refused key 2"),
         ("scan t 0 100", "row 1 0\nrow 2 7\nend 2"),
     ];
-    let mut media = logged_medium(alloc)?;
-    assert!(rt; is_answered_over(alloc, LOGGED, &mut media, first, &[])?);
-    assert!(rt; is_answered_over(alloc, LOGGED, &mut media, second, &[])?);
+    let mut media = empty_medium(alloc, LOGGED)?;
+    assert!(rt; is_answered(alloc, LOGGED, &mut media, first, &[])?);
+    assert!(rt; is_answered(alloc, LOGGED, &mut media, second, &[])?);
     Ok(())
 }
 
@@ -90,15 +84,11 @@ fn puts_that_fail(rt: HostRuntime) -> Result<(), Fail> {
         ("scan t 0 100", "row 1 0\nend 1"),
         ("put t 3 0", "ok"),
     ];
-    let mut media = logged_medium(alloc)?;
-    assert!(rt; is_answered_over(alloc, LOGGED, &mut media, good, &[])?);
-    let calls = media.calls();
+    let (is_put, calls) = is_answered_anew(alloc, LOGGED, NEVER, good, &[])?;
+    assert!(rt; is_put);
     assert!(rt; 2 <= calls);
-    let mut body = logged_medium(alloc)?;
-    body.fail_call(calls - 1);
-    assert!(rt; is_answered_over(alloc, LOGGED, &mut body, fails, &[])?);
-    let mut mark = logged_medium(alloc)?;
-    mark.fail_call(calls);
-    assert!(rt; is_answered_over(alloc, LOGGED, &mut mark, fails, &[])?);
+    let (body, _) = is_answered_anew(alloc, LOGGED, calls - 1, fails, &[])?;
+    let (mark, _) = is_answered_anew(alloc, LOGGED, calls, fails, &[])?;
+    assert!(rt; body && mark);
     Ok(())
 }

@@ -14,9 +14,8 @@ fn read_faults(rt: HostRuntime) -> Result<(), Fail> {
         ("flush t", "ok"),
         ("put t 3 0", "ok"),
     ];
-    let mut media = empty_medium(alloc)?;
-    assert!(rt; is_answered(alloc, &mut media, good, &[])?);
-    let calls = media.calls();
+    let (is_put, calls) = is_answered_anew(alloc, PLAIN, NEVER, good, &[])?;
+    assert!(rt; is_put);
     let first: Talk = &[
         ("scan t 3 9", "row 3 0\nend 1"),
         ("scan t 5 4", "end 0"),
@@ -54,9 +53,9 @@ fn read_faults(rt: HostRuntime) -> Result<(), Fail> {
         (1, lookup),
     ];
     for (i, (call, after)) in cases.iter().enumerate() {
-        let mut media = empty_medium(alloc)?;
-        media.fail_call(calls.saturating_add(*call));
-        assert!(rt; is_answered(alloc, &mut media, good, *after)?, "{i}");
+        let failing = calls.saturating_add(*call);
+        let (is_told, _) = is_answered_anew(alloc, PLAIN, failing, good, *after)?;
+        assert!(rt; is_told, "{i}");
     }
     Ok(())
 }

@@ -1,9 +1,8 @@
 // Commands with the replies that are wanted.
 use super::plain_store::{Cut, PlainStore};
-use crate::script_runs::run_script;
+use crate::script_runs::is_done;
 use fl_base::CutKind;
 use fl_flash::MemMedia;
-use fl_session::Status;
 use std::alloc::Global;
 use std::test::Fail;
 
@@ -73,6 +72,5 @@ impl Talk {
 /// Whether a run of the script on a new image answers so.
 pub(crate) fn is_answered(alloc: Global, talk: Talk) -> Result<bool, Fail> {
     let mut media = MemMedia::new(alloc, Vec::new(alloc), ROOM)?;
-    let (status, sink) = run_script(alloc, &mut media, talk.script)?;
-    Ok(matches!(status, Status::Done { .. }) && sink.bytes() == talk.wanted.as_slice())
+    is_done(alloc, &mut media, talk.script, &talk.wanted)
 }

@@ -1,5 +1,5 @@
 // Cursors over a table with an index: which pages they read.
-ghost use Rattle.std.specs.Prelude.{◌≡◌, length, vec_len, IfOk};
+ghost use Rattle.std.specs.Prelude.{◌≡◌, length, IfOk};
 ghost use Rattle.fl_flash.specs.Flash.{FlashState};
 ghost use Rattle.fl_table.specs.Memory.{LiesOn};
 
@@ -69,7 +69,7 @@ fn scan<F: Flash>(
     requires index { length store.old.index.bytes ≡ (F.state flash.old).geometry.page }
 {
     let before = flash.work().reads;
-    if !store.table.is_mounted() || store.table.is_stopped() {
+    if !runs(&store.table) {
         return ([Answer::Refused; 3], 0);
     }
     let mut cursor = Cursor::begin(
@@ -86,28 +86,16 @@ fn scan<F: Flash>(
     ([first, second, third], reads)
 }
 
-// Eleven blocks of two pages.
-fn blank_flash(alloc: Global) -> Result<Vec<u8>, NoMemory>
-    ensures { IfOk result (λ v. vec_len v ≡ 1408) }
-{
-    Ok(vec![in alloc; 255; 1408]?)
-}
-
+// What a scan answers on eleven blocks of two pages.
 fn scan_store(
     alloc: Global,
     full_index: bool,
     range: KeyRange,
     span: Span,
 ) -> Result<([Answer; 3], u64), ConfigRefusal> {
-    let bytes = blank_flash(alloc)?;
-    let mut media = MemMedia::new(alloc, bytes, 1408)?;
-    let mut store = Store {
-        table: indexed_table(alloc, full_index)?,
-        rows: PageBuf::new(alloc, 64)?,
-        index: PageBuf::new(alloc, 64)?,
-        mark: None,
-    };
+    let mut media = blank_medium(alloc, 1408)?;
     let mut flash = SimFlash::new(alloc, &mut media, GEOMETRY, 11, 0)?;
+    let mut store = Store::new(alloc, indexed_table(alloc, full_index)?)?;
     fill(&mut store, &mut flash);
     let seen = scan(&mut store, &mut flash, range, span);
     let _media = flash.into_media();
@@ -126,14 +114,19 @@ fn see(alloc: Global, low: i64, high: i64) -> Result<([Answer; 3], u64), ConfigR
 // The lookup of key 11 reads pages 1 and 0. Both index pages are read, the bitmaps of pages 10 and 11 wait.
 #[test]
 fn a_scan_reads_the_pages_that_may_match(rt: HostRuntime) -> Result<(), Fail> {
-    // Pages 3 and 8.
-    assert_eq!(rt; see(rt.alloc(), 7, 7)?, ([Row(47), Row(97), End], 6));
-    // No page.
-    assert_eq!(rt; see(rt.alloc(), 2, 6)?, ([End, End, End], 4));
-    // The bucket 63 has all values from 63 on.
-    assert_eq!(rt; see(rt.alloc(), 63, 100)?, ([End, End, End], 4));
-    // No value lies in the span.
-    assert_eq!(rt; see(rt.alloc(), 8, 3)?, ([End, End, End], 4));
+    let cases = [
+        // Pages 3 and 8.
+        (7, 7, ([Row(47), Row(97), End], 6)),
+        // No page.
+        (2, 6, ([End; 3], 4)),
+        // The bucket 63 has all values from 63 on.
+        (63, 100, ([End; 3], 4)),
+        // No value lies in the span.
+        (8, 3, ([End; 3], 4)),
+    ];
+    for (low, high, want) in cases {
+        assert_eq!(rt; see(rt.alloc(), low, high)?, want, "{low} {high}");
+    }
     Ok(())
 }
 
@@ -148,19 +141,15 @@ fn a_scan_reads_an_index_page_once(rt: HostRuntime) -> Result<(), Fail> {
 #[test]
 fn a_scan_ends_at_an_entry_that_tells_a_key_above_its_range(rt: HostRuntime) -> Result<(), Fail> {
     let sevens = Span { low: 7, high: 7 };
-    let before = KeyRange { low: 81, high: 96 };
-    let with = KeyRange { low: 81, high: 97 };
-    assert_eq!(rt;
-        scan_store(rt.alloc(), true, before, sevens)?,
-        ([End; 3], 3)
-    );
-    assert_eq!(rt;
-        scan_store(rt.alloc(), false, before, sevens)?,
-        ([End; 3], 4)
-    );
-    assert_eq!(rt;
-        scan_store(rt.alloc(), true, with, sevens)?,
-        ([Row(97), End, End], 4)
-    );
+    let cases = [
+        (true, 96, ([End; 3], 3)),
+        (false, 96, ([End; 3], 4)),
+        (true, 97, ([Row(97), End, End], 4)),
+    ];
+    for (full_index, high, want) in cases {
+        let range = KeyRange { low: 81, high };
+        let seen = scan_store(rt.alloc(), full_index, range, sevens)?;
+        assert_eq!(rt; seen, want, "{full_index} {high}");
+    }
     Ok(())
 }

@@ -4,14 +4,20 @@ ghost use Rattle.fl_flash.specs.Flash.{FlashState, Stays};
 ghost use Rattle.fl_table.specs.BlobAt.{has_blobs};
 ghost use Rattle.fl_table.specs.Memory.{LiesOn, is_running};
 
+use super::steps::Step::{Flush, Mount, Open, Put};
+use super::steps::{ROW, Step, Talk, first_wrong};
 use crate::Table;
+use crate::answers::Answer;
+use crate::answers::Answer::{Flushed, Found, Gone, Refused, Taken, Unmounted, Unread, Whole};
+use crate::media::{blank, counted};
+use crate::stores::{Store, runs};
 use arrayvec::ArrayVec;
 use fl_base::{BlobRef, Geometry, NoMemory, RingPlace, put_u16, put_u32, put_u64};
 use fl_flash::{Flash, MemMedia, PageBuf, SimFlash};
 use fl_plan::{ConfigRefusal, TableConfig};
 use fl_ring::RingFault;
 use fl_schema::{ColumnType, KeyWidth};
-use fl_table::{FlushFault, MountFault, Mounted, PutRefusal};
+use fl_table::{MountFault, PutRefusal};
 use std::alloc::Global;
 use std::test::Fail;
 
@@ -47,35 +53,13 @@ fn table(alloc: Global) -> Result<Table, ConfigRefusal>
     Table::plan(alloc, &config)
 }
 
-#[derive(Clone, Copy)]
-enum Step {
-    Mount,
-    // The key, and the length of the blob.
-    Put(u64, Option<usize>),
-    Flush,
-    Look(BlobRef),
-}
-
-#[derive(Clone, Copy, Debug, PartialEq)]
-enum Answer {
-    Mounted(Result<Mounted, MountFault>),
-    Put(Result<(), PutRefusal>),
-    Flushed(Result<(), FlushFault>),
-    Looked(Look),
-}
-
-#[derive(Clone, Copy, Debug, PartialEq)]
-enum Look {
-    // All its bytes were read.
-    Whole,
-    Gone,
-    Unread,
-}
-
-use Answer::{Flushed, Looked, Mounted as Found};
-use Step::{Flush, Look as Open, Mount, Put};
-
-fn look_at<F: Flash>(alloc: Global, table: &Table, flash: &mut F, at: BlobRef, blob: &[u8]) -> Look
+fn look_at<F: Flash>(
+    alloc: Global,
+    table: &Table,
+    flash: &mut F,
+    at: BlobRef,
+    blob: &[u8],
+) -> Answer
     requires running { is_running table.now ≡ true }
     requires some { has_blobs table.now ≡ true }
     requires lies { LiesOn table.now (F.state flash.old) }
@@ -83,162 +67,87 @@ fn look_at<F: Flash>(alloc: Global, table: &Table, flash: &mut F, at: BlobRef, b
     ensures lies { LiesOn table.now (F.state flash.new) }
 {
     let Ok(mut buf) = PageBuf::new(alloc, flash.geometry().page) else {
-        return Look::Unread;
+        return Unread;
     };
     let Ok(opened) = table.blob_at(flash, at, &mut buf) else {
-        return Look::Unread;
+        return Unread;
     };
     let Some(mut reader) = opened else {
-        return Look::Gone;
+        return Gone;
     };
     let len = at.length as usize;
     if len > blob.len() {
-        return Look::Unread;
+        return Unread;
     }
     let mut rest = &blob[..len];
     for _ in 0..10 {
         let Ok(more) = reader.step(flash) else {
-            return Look::Unread;
+            return Unread;
         };
         if !more && rest.is_empty() {
-            return Look::Whole;
+            return Whole;
         }
         let Some(behind) = rest.strip_prefix(reader.chunk()) else {
-            return Look::Unread;
+            return Unread;
         };
         rest = behind;
     }
-    Look::Unread
+    Unread
 }
 
-// The first bytes of a blob.
-fn first(blob: &[u8], len: Option<usize>) -> Option<&[u8]> {
-    let len = len?;
-    if len > blob.len() {
-        return None;
-    }
-    Some(&blob[..len])
-}
-
-fn take<F: Flash>(
-    alloc: Global,
-    step: Step,
-    table: &mut Table,
-    flash: &mut F,
-    buf: &mut PageBuf,
-    blob: &[u8],
-) -> Answer
-    requires lies { LiesOn table.old (F.state flash.old) }
-    requires room { length buf.old.bytes ≡ (F.state flash.old).geometry.page }
+/// Opens the blob at a place and reads it.
+pub(super) fn open<F: Flash>(alloc: Global, table: &Table, flash: &mut F, at: BlobRef) -> Answer
+    requires lies { LiesOn table.now (F.state flash.old) }
     ensures goes { Stays (F.state flash.old) (F.state flash.new) }
-    ensures lies { LiesOn table.new (F.state flash.new) }
-    ensures room { length buf.new.bytes ≡ length buf.old.bytes }
+    ensures lies { LiesOn table.now (F.state flash.new) }
 {
-    match step {
-        Mount => Found(table.mount(flash, buf)),
-        Put(key, len) => Answer::Put(table.put(flash, key, &[-7], first(blob, len))),
-        Flush => Flushed(table.flush(flash)),
-        Open(at) => {
-            if !table.is_mounted() || table.is_stopped() || !table.has_blobs() {
-                return Looked(Look::Unread);
-            }
-            Looked(look_at(alloc, table, flash, at, blob))
-        }
+    if !runs(table) || !table.has_blobs() {
+        return Unread;
     }
+    let bytes = counted();
+    look_at(alloc, table, flash, at, &bytes)
 }
 
-// The first steps that were answered as they are to be.
-fn answered<F: Flash>(
+// The first step that isn't answered as it is to be, on six blocks of two pages with these bytes.
+fn run(
     alloc: Global,
+    bytes: Vec<u8>,
     steps: &[(Step, Answer)],
-    table: &mut Table,
-    flash: &mut F,
-    buf: &mut PageBuf,
-    blob: &[u8],
-) -> usize
-    requires lies { LiesOn table.old (F.state flash.old) }
-    requires room { length buf.old.bytes ≡ (F.state flash.old).geometry.page }
-{
-    for i in 0..steps.len() {
-        let (step, want) = steps[i];
-        if take(alloc, step, table, flash, buf, blob) != want {
-            return i;
-        }
-    }
-    steps.len()
-}
-
-fn blob(alloc: Global) -> Result<Vec<u8>, NoMemory> {
-    let mut blob = Vec::new(alloc);
-    for i in 0..201u8 {
-        blob.push(i)?;
-    }
-    Ok(blob)
-}
-
-fn run(alloc: Global, bytes: Vec<u8>, steps: &[(Step, Answer)]) -> Result<usize, ConfigRefusal>
+) -> Result<Option<usize>, ConfigRefusal>
     requires { vec_len bytes ≡ 1536 }
 {
-    let blob = blob(alloc)?;
     let mut media = MemMedia::new(alloc, bytes, 1536)?;
-    let mut buf = PageBuf::new(alloc, 128)?;
-    let mut table = table(alloc)?;
     let mut flash = SimFlash::new(alloc, &mut media, GEOMETRY, 6, 0)?;
-    let done = answered(alloc, steps, &mut table, &mut flash, &mut buf, &blob);
+    let mut store = Store::new(alloc, table(alloc)?, 128)?;
+    let wrong = first_wrong(alloc, steps, &mut store, &mut flash);
     let _media = flash.into_media();
-    Ok(done)
-}
-
-fn found(rows: u64, pages: u32, voids: u32) -> Answer {
-    Found(Ok(Mounted { rows, pages, voids }))
-}
-
-const TAKEN: Answer = Answer::Put(Ok(()));
-
-// A blob of 100 bytes.
-fn open(page: u32, offset: u16) -> Step {
-    Open(BlobRef {
-        page,
-        offset,
-        length: 100,
-    })
-}
-
-const THERE: Answer = Looked(Look::Whole);
-
-const GONE: Answer = Looked(Look::Gone);
-
-const UNREAD: Answer = Looked(Look::Unread);
-
-// Six blocks of two pages.
-fn blank(alloc: Global) -> Result<Vec<u8>, NoMemory>
-    ensures { IfOk result (λ v. vec_len v ≡ 1536) }
-{
-    Ok(vec![in alloc; 255; 1536]?)
+    Ok(wrong)
 }
 
 #[test]
 fn blobs_are_placed_before_their_rows(rt: HostRuntime) -> Result<(), Fail> {
-    let too_long = PutRefusal::Blob { limit: 200 };
-    let steps = [
-        (open(0, 0), UNREAD),
-        (Mount, found(0, 0, 0)),
-        (Put(1, Some(201)), Answer::Put(Err(too_long))),
-        (Put(1, Some(100)), TAKEN),
+    const STEPS: Talk = &[
+        (Open(0, 0), Unread),
+        (Mount, Found(0, 0, 0)),
+        (
+            Put(1, ROW, Some(201)),
+            Refused(PutRefusal::Blob { limit: 200 }),
+        ),
+        (Put(1, ROW, Some(100)), Taken),
         // In the buffer.
-        (open(0, 0), THERE),
-        (Put(2, Some(200)), TAKEN),
-        (Put(3, Some(200)), TAKEN),
+        (Open(0, 0), Whole),
+        (Put(2, ROW, Some(200)), Taken),
+        (Put(3, ROW, Some(200)), Taken),
         // Six pages are full then, and the first block was given up.
-        (Put(4, Some(200)), TAKEN),
-        (open(0, 0), GONE),
+        (Put(4, ROW, Some(200)), Taken),
+        (Open(0, 0), Gone),
         // The bytes in the buffer are sealed before the page of the rows.
-        (Flush, Flushed(Ok(()))),
-        (Mount, found(4, 1, 0)),
-        (open(4, 52), THERE),
+        (Flush, Flushed),
+        (Mount, Found(4, 1, 0)),
+        (Open(4, 52), Whole),
     ];
-    let bytes = blank(rt.alloc())?;
-    assert_eq!(rt; run(rt.alloc(), bytes, &steps)?, steps.len());
+    let bytes = blank(rt.alloc(), 1536)?;
+    assert_eq!(rt; run(rt.alloc(), bytes, STEPS)?, None);
     Ok(())
 }
 
@@ -268,7 +177,7 @@ fn write_blob(number: u32, into: &mut [u8])
 fn image(alloc: Global, page: u32, number: Option<u32>) -> Result<Vec<u8>, NoMemory>
     ensures { IfOk result (λ v. vec_len v ≡ 1536) }
 {
-    let mut bytes = blank(alloc)?;
+    let mut bytes = blank(alloc, 1536)?;
     write_row(page, &mut bytes[0..128]);
     if let Some(number) = number {
         write_blob(number, &mut bytes[768..896]);
@@ -276,26 +185,48 @@ fn image(alloc: Global, page: u32, number: Option<u32>) -> Result<Vec<u8>, NoMem
     Ok(bytes)
 }
 
+const BAD_BLOB: MountFault = MountFault::BadBlob { page: 3, next: 1 };
+
+const NO_NUMBER: RingFault = RingFault::NoNumber { at_least: u32::MAX };
+
+const KEPT: [(u32, Option<u32>, Talk); 3] = [
+    // A void ring, whose numbers begin behind the blob that a row names, at the first of its six places.
+    (
+        9,
+        None,
+        &[
+            (Mount, Found(1, 1, 0)),
+            (Put(2, ROW, Some(100)), Taken),
+            (Open(12, 0), Whole),
+        ],
+    ),
+    // A row that names a page from the next one on.
+    (
+        3,
+        Some(0),
+        &[
+            (Mount, Unmounted(BAD_BLOB)),
+            (Put(2, ROW, Some(100)), Refused(PutRefusal::Stopped)),
+            (Open(1, 0), Unread),
+        ],
+    ),
+    // No number is left behind the blob.
+    (
+        u32::MAX,
+        None,
+        &[
+            (Mount, Unmounted(MountFault::Ring(NO_NUMBER))),
+            (Put(2, ROW, Some(100)), Refused(PutRefusal::Stopped)),
+            (Open(0, 0), Unread),
+        ],
+    ),
+];
+
 #[test]
 fn the_numbers_go_on_behind_the_kept_blobs(rt: HostRuntime) -> Result<(), Fail> {
-    let bad = MountFault::BadBlob { page: 3, next: 1 };
-    let none = MountFault::Ring(RingFault::NoNumber { at_least: u32::MAX });
-    let images = [
-        // A void ring, whose numbers begin behind the blob that a row names, at the first of its six places.
-        (9, None, found(1, 1, 0), open(12, 0), THERE),
-        // A row that names a page from the next one on.
-        (3, Some(0), Found(Err(bad)), open(1, 0), UNREAD),
-        // No number is left behind the blob.
-        (u32::MAX, None, Found(Err(none)), open(0, 0), UNREAD),
-    ];
-    for (page, number, mounted, at, there) in images {
-        let put = match there {
-            UNREAD => Answer::Put(Err(PutRefusal::Stopped)),
-            _ => TAKEN,
-        };
-        let steps = [(Mount, mounted), (Put(2, Some(100)), put), (at, there)];
+    for (page, number, steps) in KEPT {
         let bytes = image(rt.alloc(), page, number)?;
-        assert_eq!(rt; run(rt.alloc(), bytes, &steps)?, 3, "{mounted:?}");
+        assert_eq!(rt; run(rt.alloc(), bytes, steps)?, None, "{page}");
     }
     Ok(())
 }

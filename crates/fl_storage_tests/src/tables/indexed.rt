@@ -5,6 +5,7 @@ ghost use Rattle.fl_table.specs.Memory.{LiesOn};
 
 use super::*;
 use fl_bitmap::Buckets;
+use fl_flash::Flash;
 
 // Three rows a page, in a ring of three blocks after the first one, and behind it three blocks of index pages, each with
 // room for five bitmaps or one full entry.
@@ -38,48 +39,41 @@ fn indexed_table(alloc: Global, full_index: bool) -> Result<Table, ConfigRefusal
     Table::plan(alloc, &config)
 }
 
-// The first steps that were answered as they are to be, and how many programs were made.
+// The first step that isn't answered as it is to be, on seven blocks of two pages with these bytes, and how many programs were made.
 fn run_indexed(
     alloc: Global,
     bytes: Vec<u8>,
     steps: &[(Step, Answer)],
-) -> Result<(usize, u64), ConfigRefusal>
+) -> Result<(Option<usize>, u64), ConfigRefusal>
     requires { vec_len bytes ≡ 896 }
 {
     let mut media = MemMedia::new(alloc, bytes, 896)?;
-    let mut buf = PageBuf::new(alloc, 64)?;
-    let mut table = indexed_table(alloc, false)?;
     let mut flash = SimFlash::new(alloc, &mut media, GEOMETRY, 7, 0)?;
-    let done = answered(steps, &mut table, &mut flash, &mut buf);
+    let mut store = Store::new(alloc, indexed_table(alloc, false)?, 64)?;
+    let wrong = first_wrong(alloc, steps, &mut store, &mut flash);
     let programs = flash.work().programs;
     let _media = flash.into_media();
-    Ok((done, programs))
-}
-
-// Seven blocks of two pages.
-fn blank_flash(alloc: Global) -> Result<Vec<u8>, NoMemory>
-    ensures { IfOk result (λ v. vec_len v ≡ 896) }
-{
-    Ok(vec![in alloc; 255; 896]?)
+    Ok((wrong, programs))
 }
 
 #[test]
 fn bitmaps_wait_for_their_page(rt: HostRuntime) -> Result<(), Fail> {
-    let steps = [
-        (Mount, found(0, 0, 0)),
-        (Put(1), TAKEN),
-        (Flush, Flushed(Ok(()))),
-        (Mount, found(1, 1, 0)),
+    const STEPS: Talk = &[
+        (Mount, Found(0, 0, 0)),
+        (Put(1, ROW, None), Taken),
+        (Flush, Flushed),
+        (Mount, Found(1, 1, 0)),
     ];
-    let bytes = blank_flash(rt.alloc())?;
-    assert_eq!(rt; run_indexed(rt.alloc(), bytes, &steps)?, (4, 2));
+    let bytes = blank(rt.alloc(), 896)?;
+    assert_eq!(rt; run_indexed(rt.alloc(), bytes, STEPS)?, (None, 2));
     Ok(())
 }
 
 // An index page with number 0 that lists five data pages from number 2 on, and the data page with number 0 alone.
-#[test]
-fn listed_pages_are_missing(rt: HostRuntime) -> Result<(), Fail> {
-    let mut bytes = blank_flash(rt.alloc())?;
+fn listed_too_far(alloc: Global) -> Result<Vec<u8>, NoMemory>
+    ensures { IfOk result (λ v. vec_len v ≡ 896) }
+{
+    let mut bytes = blank(alloc, 896)?;
     put_u32(&mut bytes[512..576], 0, 0);
     put_u32(&mut bytes[512..576], 4, 2);
     put_u16(&mut bytes[512..576], 8, 5);
@@ -87,30 +81,34 @@ fn listed_pages_are_missing(rt: HostRuntime) -> Result<(), Fail> {
     put_u32(&mut bytes[128..192], 0, 0);
     put_u16(&mut bytes[128..192], 4, 1);
     bytes[184..188].fill(0);
-    let mounted = Found(Err(MountFault::BadIndex { end: 7, next: 1 }));
-    assert_eq!(rt;
-        run_indexed(rt.alloc(), bytes, &[(Mount, mounted)])?,
-        (1, 0)
-    );
+    Ok(bytes)
+}
+
+#[test]
+fn listed_pages_are_missing(rt: HostRuntime) -> Result<(), Fail> {
+    const STEPS: Talk = &[(Mount, Unmounted(MountFault::BadIndex { end: 7, next: 1 }))];
+    let bytes = listed_too_far(rt.alloc())?;
+    assert_eq!(rt; run_indexed(rt.alloc(), bytes, STEPS)?, (None, 0));
     Ok(())
 }
 
-// The first steps that were answered as they are to be over a table with full entries, and the first index page then.
-fn first_index_page(
+// The first step that isn't answered as it is to be over a table with full entries, and whether the first index page has these
+// bytes then.
+fn run_listing(
     alloc: Global,
     bytes: Vec<u8>,
     steps: &[(Step, Answer)],
-) -> Result<(usize, PageBuf), ConfigRefusal>
+    page: &[u8],
+) -> Result<(Option<usize>, bool), ConfigRefusal>
     requires { vec_len bytes ≡ 896 }
 {
     let mut media = MemMedia::new(alloc, bytes, 896)?;
-    let mut buf = PageBuf::new(alloc, 64)?;
-    let mut table = indexed_table(alloc, true)?;
     let mut flash = SimFlash::new(alloc, &mut media, GEOMETRY, 7, 0)?;
-    let done = answered(steps, &mut table, &mut flash, &mut buf);
-    let _read = flash.read(8, &mut buf);
+    let mut store = Store::new(alloc, indexed_table(alloc, true)?, 64)?;
+    let wrong = first_wrong(alloc, steps, &mut store, &mut flash);
+    let _read = flash.read(8, &mut store.buf);
     let _media = flash.into_media();
-    Ok((done, buf))
+    Ok((wrong, store.buf.bytes() == page))
 }
 
 // An index page with number 0 that lists one data page.
@@ -126,54 +124,53 @@ fn full_page(first: u8, entry: [u8; 22]) -> [u8; 64] {
     page
 }
 
-// The value -7 is in bucket 25.
+// The entry of a page of two rows from key 5 on. The value -7 is in bucket 25.
+const ENTRY: [u8; 22] = [
+    0, 0, 0, 2, 0, 0, 0, 0, 5, 0, 0, 0, 0, 0, 0, 0, 2, 0, 0, 0, 0, 0,
+];
+
 #[test]
 fn an_entry_tells_the_first_key_and_the_count(rt: HostRuntime) -> Result<(), Fail> {
-    let steps = [
-        (Mount, found(0, 0, 0)),
-        (Put(5), TAKEN),
-        (Put(9), TAKEN),
-        (Flush, Flushed(Ok(()))),
-        (Put(10), TAKEN),
-        (Flush, Flushed(Ok(()))),
-        (Mount, found(3, 2, 0)),
+    const STEPS: Talk = &[
+        (Mount, Found(0, 0, 0)),
+        (Put(5, ROW, None), Taken),
+        (Put(9, ROW, None), Taken),
+        (Flush, Flushed),
+        (Put(10, ROW, None), Taken),
+        (Flush, Flushed),
+        (Mount, Found(3, 2, 0)),
     ];
-    let bytes = blank_flash(rt.alloc())?;
-    let (done, page) = first_index_page(rt.alloc(), bytes, &steps)?;
-    assert_eq!(rt; done, steps.len());
-    let entry = [
-        0, 0, 0, 2, 0, 0, 0, 0, 5, 0, 0, 0, 0, 0, 0, 0, 2, 0, 0, 0, 0, 0,
-    ];
-    assert_eq!(rt; page.bytes(), &full_page(0, entry)[..]);
+    let bytes = blank(rt.alloc(), 896)?;
+    let page = full_page(0, ENTRY);
+    let seen = run_listing(rt.alloc(), bytes, STEPS, &page)?;
+    assert_eq!(rt; seen, (None, true));
     Ok(())
 }
 
 // The entry that waits after a mount is that of the last data page.
 #[test]
 fn an_entry_is_made_of_a_page_that_a_mount_reads(rt: HostRuntime) -> Result<(), Fail> {
-    let steps = [
-        (Mount, found(0, 0, 0)),
-        (Put(5), TAKEN),
-        (Put(9), TAKEN),
-        (Flush, Flushed(Ok(()))),
-        (Mount, found(2, 1, 0)),
-        (Put(10), TAKEN),
-        (Flush, Flushed(Ok(()))),
+    const STEPS: Talk = &[
+        (Mount, Found(0, 0, 0)),
+        (Put(5, ROW, None), Taken),
+        (Put(9, ROW, None), Taken),
+        (Flush, Flushed),
+        (Mount, Found(2, 1, 0)),
+        (Put(10, ROW, None), Taken),
+        (Flush, Flushed),
     ];
-    let bytes = blank_flash(rt.alloc())?;
-    let (done, page) = first_index_page(rt.alloc(), bytes, &steps)?;
-    assert_eq!(rt; done, steps.len());
-    let entry = [
-        0, 0, 0, 2, 0, 0, 0, 0, 5, 0, 0, 0, 0, 0, 0, 0, 2, 0, 0, 0, 0, 0,
-    ];
-    assert_eq!(rt; page.bytes(), &full_page(0, entry)[..]);
+    let bytes = blank(rt.alloc(), 896)?;
+    let page = full_page(0, ENTRY);
+    let seen = run_listing(rt.alloc(), bytes, STEPS, &page)?;
+    assert_eq!(rt; seen, (None, true));
     Ok(())
 }
 
 // A data page with number 0 and the row of key 5, and behind it a page whose body was begun.
-#[test]
-fn an_entry_of_a_void_page_is_zero(rt: HostRuntime) -> Result<(), Fail> {
-    let mut bytes = blank_flash(rt.alloc())?;
+fn page_before_a_void_one(alloc: Global) -> Result<Vec<u8>, NoMemory>
+    ensures { IfOk result (λ v. vec_len v ≡ 896) }
+{
+    let mut bytes = blank(alloc, 896)?;
     let page = &mut bytes[128..192];
     put_u32(page, 0, 0);
     put_u16(page, 4, 1);
@@ -183,13 +180,19 @@ fn an_entry_of_a_void_page_is_zero(rt: HostRuntime) -> Result<(), Fail> {
     put_u32(page, 24, 0xffff_fff9);
     page[56..60].fill(0);
     bytes[192..200].fill(0);
-    let steps = [
-        (Mount, found(1, 2, 1)),
-        (Put(7), TAKEN),
-        (Flush, Flushed(Ok(()))),
+    Ok(bytes)
+}
+
+#[test]
+fn an_entry_of_a_void_page_is_zero(rt: HostRuntime) -> Result<(), Fail> {
+    const STEPS: Talk = &[
+        (Mount, Found(1, 2, 1)),
+        (Put(7, ROW, None), Taken),
+        (Flush, Flushed),
     ];
-    let (done, page) = first_index_page(rt.alloc(), bytes, &steps)?;
-    assert_eq!(rt; done, steps.len());
-    assert_eq!(rt; page.bytes(), &full_page(1, [0; 22])[..]);
+    let bytes = page_before_a_void_one(rt.alloc())?;
+    let page = full_page(1, [0; 22]);
+    let seen = run_listing(rt.alloc(), bytes, STEPS, &page)?;
+    assert_eq!(rt; seen, (None, true));
     Ok(())
 }

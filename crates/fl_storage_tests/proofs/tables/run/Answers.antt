@@ -1,7 +1,10 @@
-use Rattle.std.proofs.Common.{ap}
+use Rattle.std.proofs.Common.{ap, sym, ◌∙◌}
 use Rattle.fl_flash.specs.Flash.{FlashState}
 use Rattle.fl_storage_tests.proofs.tables.run.Goals as goal
 
-pub answered-done-requires-clause-lies : goal.answered-done-requires-clause-lies
-answered-done-requires-clause-lies c =
-    c.in_ok-table.ensures _ (ap (λ (f : FlashState). f.geometry) c.in_ok-flash.ensures) (ap (λ (f : FlashState). f.blocks) c.in_ok-flash.ensures)
+pub first_wrong-wrong-requires-clause-lies : goal.first_wrong-wrong-requires-clause-lies
+first_wrong-wrong-requires-clause-lies c =
+    c.in_ok-store.ensures.lies _ (c.in_ok-table.ensures _ (ap (λ (f : FlashState). f.geometry) c.in_ok-flash.ensures) (ap (λ (f : FlashState). f.blocks) c.in_ok-flash.ensures))
+
+pub first_wrong-wrong-requires-clause-room : goal.first_wrong-wrong-requires-clause-room
+first_wrong-wrong-requires-clause-room c = c.in_ok-store.ensures.room ∙ sym (ap (λ (f : FlashState). f.geometry.page) c.in_ok-flash.ensures)
