@@ -160,11 +160,11 @@ module _ (plans : List Plan) (sources copies : List model.Table) (name : List �
 
     unput : (e : FlashFault) → Shipped (Err (stop.Ship (Put (put.Flash e)))) → StopCausedBy m h n k (stop.Ship (Put (put.Flash e))) → Ends told told (stop_status (stop.Ship (Put (put.Flash e))) at)
     unput Media ships cause = (c_rises cause, quiet, inr (both-mounted told told (IsBroken count) ships.after (inl ships.stops) ships.rests))
-    unput PowerLost ships cause = ships.stops.1
+    unput PowerLost ships cause = absurd ships.stops.1
 
     unflushed : (e : FlashFault) → Shipped (Err (stop.Ship (Flush (flush.Flash e)))) → StopCausedBy m h n k (stop.Ship (Flush (flush.Flash e))) → Ends told told (stop_status (stop.Ship (Flush (flush.Flash e))) at)
     unflushed Media ships cause = (c_rises cause, quiet, inr (both-mounted told told (IsBroken count) ships.after (inr ships.stops) ships.rests))
-    unflushed PowerLost ships cause = ships.stops.1
+    unflushed PowerLost ships cause = absurd ships.stops.1
 
     pub stopped : (why : Stop) → Shipped (Err why) → StopCausedBy m h n k why → Ends told told (stop_status why at)
     stopped (stop.Gap last oldest) ships cause = (both-mounted told told (IsGapBetween last oldest) ships.after ships.stops ships.rests, quiet)
