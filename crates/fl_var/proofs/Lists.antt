@@ -1,5 +1,6 @@
 -- Fronts and ends of lists.
-use Rattle.std.proofs.Common.{◌≡◌, ℕ, zero, suc, ◌≤◌, List, [], ◌∷◌, length, take, drop, refl, arith}
+use Rattle.std.proofs.Common.{◌≡◌, ℕ, zero, suc, ◌+◌, ◌≤◌, Bool, true, false, ◌==◌, List, [], ◌∷◌, length, take, drop, inl, inr, refl, sym, ◌∙◌, arith}
+use Rattle.std.proofs.lemmas.Bool.{cases_lt}
 
 pub drop-none : {X : Type 0} (xs : List X) → drop 0 xs ≡ xs
 drop-none [] = refl
@@ -15,3 +16,18 @@ drop-short zero [] le = refl
 drop-short zero (x ∷ xs) le = absurd (omega (arith, le))
 drop-short (suc n) [] le = refl
 drop-short (suc n) (x ∷ xs) le = drop-short n xs (omega (arith, le))
+
+differ : true ≡ false → ⊥
+differ k = cc
+
+-- a list that was found not to be empty has an element
+pub some-there : (n : ℕ) (empty : Bool) → empty ≡ (n == 0) → empty ≡ false → 1 ≤ n
+some-there zero empty is none = absurd (differ (sym is ∙ none))
+some-there (suc n) empty is none = omega arith
+
+-- a place that isn't the end stands before it
+pub before-end : (n end : ℕ) → n ≤ end → (n ≡ end → ⊥) → n + 1 ≤ end
+before-end n end le other = elim (cases_lt n end) [
+  | inl lt ↦ omega (arith, lt)
+  | inr ge ↦ absurd (other (omega (arith, le, ge)))
+]

@@ -1,4 +1,4 @@
-use Rattle.std.proofs.Common.{Err, sym, ◌∙◌, ap}
+use Rattle.std.proofs.Common.{Err, sym, ◌∙◌, ap, arith}
 use Rattle.std.proofs.lemmas.Result.{err_from_is_err_and}
 use Rattle.fl_page.specs.declared.fault.ReadFault.{ReadFault}
 use Rattle.fl_var.proofs.Wholes.{none-bad-any, steps-err}
@@ -31,3 +31,12 @@ returns-clause-whole g c = λ reads whole.
     let h = g.F.Flash.state c.turn.new.flash in
     let later = c.in_ok-turn.ensures.whole (record { told = reads.told; within = reads.within; used = reads.used; size = reads.size; bytes = reads.bytes }) whole in
     (tt, c.take.ensures.whole h later.1)
+
+pub returns-in_err-turn-clause-most : goal.returns-in_err-turn-clause-most
+returns-in_err-turn-clause-most g c = λ reads whole.
+    c.in_err-turn.ensures.most (record { told = reads.told; within = reads.within; used = reads.used; size = reads.size; bytes = reads.bytes }) whole
+
+pub returns-clause-few : goal.returns-clause-few
+returns-clause-few g c = λ reads whole.
+    let turned = c.in_ok-turn.ensures.few (record { told = reads.told; within = reads.within; used = reads.used; size = reads.size; bytes = reads.bytes }) whole in
+    omega (arith, turned, c.take.ensures.few)

@@ -1,12 +1,16 @@
-use Rattle.std.proofs.Common.{rules, ◌≡◌, ◌+◌, ◌-◌, ◌<◌, ℕ, List, None, length, take, drop, sym, ◌∙◌, ap, subst, arith}
+use Rattle.std.proofs.Common.{rules, ◌≡◌, ◌+◌, ◌-◌, ◌<◌, ℕ, List, Option, None, IfSome, length, take, drop, sym, ◌∙◌, ap, subst, arith}
 use Rattle.std.proofs.lemmas.Result.{err_from_is_err_and}
 use Rattle.fl_page.specs.Header.{page_count}
 use Rattle.fl_var.specs.Blobs.{IsWhole, contents_from}
-use Rattle.fl_var.specs.Content.{content_of}
-use Rattle.fl_var.specs.Memory.{next_in, room_in, image_in}
+use Rattle.fl_var.specs.Content.{content_of, HasContent}
+use Rattle.fl_var.specs.Memory.{next_in, room_in, image_in, var_shape}
+use Rattle.fl_frame.proofs.ReadsInTurn.{same_page, told_still}
+use Rattle.fl_ring.specs.Ring.{place}
 use Rattle.fl_mark.specs.Mark.{state_of_page}
 use Rattle.fl_var.proofs.PageImages.{image-other}
 use Rattle.fl_var.proofs.Chunks.{contents-turned}
+use Rattle.fl_var.proofs.Lists.{before-end}
+use Rattle.fl_var.proofs.Stored.{content-size}
 use Rattle.fl_var.proofs.Wholes.{images-same, whole-good, whole-pages, whole-next, none-bad, pages-turned}
 use Rattle.fl_var.proofs.reader.BlobReader.turn.Goals as goal
 
@@ -88,3 +92,20 @@ returns-clause-most g c = λ reads whole.
     let pages = whole-pages (image_in v f) (next_in v) (room_in v) r.page r.end r.left is done c.requires.left wide in
     let k = pages-turned r.left r.end (room_in v) _ _ c.requires.left pages c.find_content.ensures.reads.reads in
     omega (arith, k)
+
+pub returns-clause-ready : goal.returns-clause-ready
+returns-clause-ready g c = λ reads.
+    let r = c.args.self.now in
+    let v = r.var.now in
+    let f = g.F.Flash.state c.args.flash.now in
+    let h = g.F.Flash.state c.find_content.new.flash in
+    let looks = c.find_content.ensures.reads in
+    let images = images-same v f h 1 looks in
+    let good = subst (λ (found : Option ℕ). IfSome found (λ n. HasContent (r.page + 1) (image_in v f (r.page + 1)) × (n ≡ page_count (image_in v f (r.page + 1))))) c.in-Some.is (c.in_ok-used.ensures.good reads.told) in
+    record {
+      told = told_still f h 1 looks reads.told;
+      within = before-end r.page (next_in v) reads.within (λ end. c.if-self-next_number.false (end ∙ sym c.next_number.ensures));
+      used = λ left. good.1 ∙ ap (λ (image : ℕ → List ℕ). page_count (image (r.page + 1))) (sym images);
+      size = λ left. ap (λ (image : ℕ → List ℕ). length (content_of (image (r.page + 1)))) images ∙ (content-size (image_in v f (r.page + 1)) good.0.room ∙ sym good.1);
+      bytes = λ some lt. c.in_ok-used.ensures.holds reads.told lt ∙ sym (same_page f h 1 (place (var_shape v) (r.page + 1)) looks);
+    }
