@@ -1,7 +1,7 @@
 -- What is known of the kept pages once the pending rows were sealed.
 use Rattle.std.proofs.Common.{◌≡◌, ℕ, ◌-◌, false, Option, Some, option_map, unwrap_or, IfSome, List, ◌∷◌, [], ◌++◌, length, refl, sym, ◌∙◌, ap, subst}
 use Rattle.std.specs.List.{slice_get}
-use Rattle.fl_find.specs.Index.{IndexOf, IsFurther, is_further, knots_in}
+use Rattle.fl_find.specs.Index.{IndexOf, is_further, knots_in}
 use Rattle.fl_find.specs.declared.index.KeyIndex.{KeyIndex}
 use Rattle.fl_model.specs.Record.{RowLayout}
 use Rattle.fl_model.specs.Row.{Row}
@@ -10,6 +10,7 @@ use Rattle.fl_page.specs.WriterState.{WriterState}
 use Rattle.fl_ring.specs.Place.{next_of, oldest_of, oldest_after}
 use Rattle.fl_ring.specs.declared.ring.Ring.{Ring}
 use Rattle.fl_schema.specs.Schema.{layout_of}
+use Rattle.fl_spline.specs.Points.{IsFurther}
 use Rattle.fl_table.specs.Look.{oldest_in}
 use Rattle.fl_table.specs.Memory.{next_in, pending_in, IsSamePlan, PendingAre}
 use Rattle.fl_table.specs.Stored.{HasCounted, WaitsSame, voids_from}

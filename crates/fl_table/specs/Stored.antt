@@ -1,9 +1,10 @@
 -- What an accepted record leaves of a table in memory, over any bytes.
 use Rattle.std.specs.Prelude.{◌≡◌, ℕ, ◌+◌, ◌-◌, ◌%◌, ◌==◌, false, ℤ, pos, Option, Some, IfSome, List, [], ◌∷◌, ◌++◌, length, map, count_by, slice_index, slice_index_or, slice_set}
 use Rattle.std.specs.List.{range_with_len}
-use Rattle.fl_find.specs.Index.{IndexOf, IsFurther, is_further, knots_in}
+use Rattle.fl_find.specs.Index.{IndexOf, is_further, knots_in}
 use Rattle.fl_model.specs.Row.{Row}
 use Rattle.fl_ring.specs.Place.{oldest_after}
+use Rattle.fl_spline.specs.Points.{IsFurther}
 use Rattle.fl_table.specs.Blobs.{AreEmpty, HavePlaced, next_after, next_of, placed_in}
 use Rattle.fl_table.specs.Look.{last_key_in, oldest_in}
 use Rattle.fl_table.specs.Memory.{bitmap_with, next_in, pending_in, HasRoom, PendingAre}
