@@ -3,7 +3,7 @@ use Rattle.std.proofs.Common.{refl, ◌∙◌}
 use Rattle.std.proofs.lemmas.Result.{err_from_is_err_and}
 use Rattle.fl_flash.specs.Flash.{page_at}
 use Rattle.fl_ring.specs.Place.{shape_of}
-use Rattle.fl_ring.proofs.ReadsInTurn.{no_reads}
+use Rattle.fl_frame.proofs.ReadsInTurn.{no_reads}
 use Rattle.fl_check.proofs.OneMorePage.{one_read, read_fails, some_back, few_back, no_read}
 use Rattle.fl_check.proofs.OwnNumbers.{all_numbered}
 use Rattle.fl_check.proofs.rule_3_number.first_misnumbered.Goals as goal
