@@ -229,7 +229,7 @@ module _ (plan : Plan) (page : ℕ → List ℕ) (x d : Shape) (least : ℕ) (la
 
       by_count : (o : Option ℕ) → slice_get table.rows.counts n ≡ o → IfSome o (λ count. IsTrue (is_told plan count) → TellsAt plan (rows_at table n count) (slice_get listed.entries j))
       by_count None e = tt
-      by_count (Some c) e told =
+      by_count (Some c) e = λ told.
           let short = slice_get-short table.rows.counts n c e in
           let same = of_rows.reads.kept in
           let entry = slice_get-some listed.entries j lt in

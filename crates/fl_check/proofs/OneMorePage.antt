@@ -2,11 +2,13 @@
 use Rattle.std.proofs.Common.{◌≡◌, ℕ, ◌+◌, ◌-◌, ◌<◌, ◌≤◌, List, IsTrue, ◌∙◌, ap, arith}
 use Rattle.fl_flash.specs.Flash.{FlashState, page_at}
 use Rattle.fl_flash.specs.declared.flash.FlashFault.{FlashFault}
+use Rattle.fl_frame.specs.Causes.{ReadFails}
+use Rattle.fl_frame.specs.Reads.{OnlyReads}
+use Rattle.fl_frame.proofs.ReadsInTurn.{looks_by, more_reads, same_page, told_still}
 use Rattle.fl_mark.specs.declared.page_state.PageState.{PageState}
-use Rattle.fl_ring.specs.Looking.{OnlyReads, ReadFails, state_at}
-use Rattle.fl_ring.proofs.ReadsInTurn.{more_reads, same_page, same_state, told_still}
+use Rattle.fl_ring.specs.Looking.{state_at}
+use Rattle.fl_ring.proofs.ReadsInTurn.{same_state}
 use Rattle.fl_check.proofs.FewerReads.{few_reads}
-use Rattle.fl_frame.proofs.ReadsInTurn.{looks_by}
 use Rattle.fl_check.proofs.LooksChangeNothing.{fails_later}
 
 module _ (a b c : FlashState) (i n : ℕ) (before : OnlyReads a i b) where

@@ -25,3 +25,7 @@ module _ (page : ℕ → List ℕ) (r : Shape) (m : Marks) (next i : ℕ) where
   pub not_own : i < m.kept → AllBelow (HasItsNumber page r m next) i → commits (state_of_page (page (kept_page r m i))) ≡ true → (number_of (page (kept_page r m i)) + (m.kept - i) ≡ next → ⊥) →
       FailsFirst (HasItsNumber page r m next) m.kept i
   not_own within before commits_here other = record { within = within; before = before; here = λ has. other (has.own commits_here) }
+
+-- a page has its own number where the one that was read of it and the way back make the next one
+pub its_own : {own number wide back wide_back next : ℕ} → number ≡ own → wide ≡ number → wide_back ≡ back → wide + wide_back ≡ next → own + back ≡ next
+its_own number_is wide_is back_is next_is = omega (arith, number_is, wide_is, back_is, next_is)

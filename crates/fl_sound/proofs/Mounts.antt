@@ -182,13 +182,13 @@ module _ (label : Label) (config : TableConfig) (log : Option RingPlace) (f : Fl
 
 -- ---- any plan of the configuration
 
-log-blocks : (o : Option RingPlace) (first blocks : ℕ) → IsRingAt o first blocks → blocks_in o ≡ blocks
-log-blocks None first blocks at = sym at
-log-blocks (Some place) first blocks at = at.1
+log-blocks : (o : Option RingPlace) (begin blocks : ℕ) → IsRingAt o begin blocks → blocks_in o ≡ blocks
+log-blocks None begin blocks at = sym at
+log-blocks (Some place) begin blocks at = at.1
 
-log-begins_at : (o : Option RingPlace) (first blocks : ℕ) → IsRingAt o first blocks → IfSome o (λ place. place.first_block ≡ first)
-log-begins_at None first blocks at = tt
-log-begins_at (Some place) first blocks at = at.0
+log-begins_at : (o : Option RingPlace) (begin blocks : ℕ) → IsRingAt o begin blocks → IfSome o (λ place. place.first_block ≡ begin)
+log-begins_at None begin blocks at = tt
+log-begins_at (Some place) begin blocks at = at.0
 
 pub sound-mounts : SoundTablesMount
 sound-mounts config log f plan rows kept voids lies is =

@@ -2,7 +2,7 @@ use Rattle.std.proofs.Common.{ℕ, List, Option, Some, None, IsTrue, refl, sym, 
 use Rattle.std.proofs.lemmas.Result.{IfErr-weaker}
 use Rattle.fl_flash.specs.Flash.{page_at}
 use Rattle.fl_flash.specs.declared.flash.FlashFault.{FlashFault}
-use Rattle.fl_ring.specs.Looking.{ReadFails}
+use Rattle.fl_frame.specs.Causes.{ReadFails}
 use Rattle.fl_ring.specs.Place.{shape_of}
 use Rattle.fl_ring.proofs.Exists.{lies_still}
 use Rattle.fl_check.specs.Ruled.{BodiesTold, NumbersTold}

@@ -1,12 +1,17 @@
 use Rattle.fl_ring.proofs.Exists.{page_exists}
-use Rattle.std.proofs.Common.{refl, ◌∙◌}
+use Rattle.std.proofs.Common.{◌≡◌, ◌-◌, ◌≤◌, true, refl, sym, ◌∙◌, ap, arith}
+use Rattle.std.proofs.lemmas.Bool.{false≢true}
 use Rattle.std.proofs.lemmas.Result.{err_from_is_err_and}
 use Rattle.fl_flash.specs.Flash.{page_at}
 use Rattle.fl_ring.specs.Place.{shape_of}
-use Rattle.fl_ring.proofs.ReadsInTurn.{no_reads}
-use Rattle.fl_check.proofs.OneMorePage.{one_read, read_fails, some_back, few_back, no_read}
-use Rattle.fl_check.proofs.OwnNumbers.{all_numbered}
+use Rattle.fl_ring.specs.Looking.{state_at}
+use Rattle.fl_ring.specs.Newest.{commits, number_of}
+use Rattle.fl_frame.proofs.ReadsInTurn.{more_reads, no_reads}
+use Rattle.fl_check.specs.Marks.{kept_page}
+use Rattle.fl_check.proofs.OneMorePage.{one_read, read_fails, some_back, few_back, no_read, bytes_read, state_read}
+use Rattle.fl_check.proofs.OwnNumbers.{all_numbered, one_numbered, its_own}
 use Rattle.fl_check.proofs.rule_3_number.first_misnumbered.Goals as goal
+use Rattle.fl_check.proofs.rule_3_number.first_misnumbered.Goals.{then-is_committed+else-from-next, else-is_committed}
 
 pub look-requires-clause-exists : goal.look-requires-clause-exists
 look-requires-clause-exists g c =
@@ -76,3 +81,26 @@ returns-then-next-from-clause-within g c = c.loop-i-test.true
 
 pub returns-then-next-from-clause-fails : goal.returns-then-next-from-clause-fails
 returns-then-next-from-clause-fails g c = tt
+
+pub loop-i-preserved : goal.loop-i-preserved
+loop-i-preserved g c =
+    let f = g.F.Flash.state c.args.flash.now in
+    let before = g.F.Flash.state c.loop-i.flash in
+    let after = g.F.Flash.state c.look.new.flash in
+    let r = shape_of c.args.ring.now in
+    let m = c.args.m in
+    let i = c.loop-i.i in
+    let reads = c.loop-i.invariant.reads in
+    let least : m.kept - i ≤ c.args.next = omega (arith, c.if-next-from.false, c.from.ensures) in
+    record {
+      reads = more_reads f before after i 1 reads c.look.ensures.reads;
+      room = c.look.ensures.room ∙ c.loop-i.invariant.room;
+      numbered = λ told.
+          let state : c.in_ok-state.state ≡ state_at f (kept_page r m i) = state_read f before after i 0 reads c.page_back-page.result (kept_page r m i) c.page_back-page.ensures.page told c.in_ok-state.state c.in_ok-state.ensures.state in
+          let bytes : c.look.new.buf.bytes ≡ page_at f (kept_page r m i) = bytes_read f before after i 0 reads c.page_back-page.result (kept_page r m i) c.page_back-page.ensures.page told c.look.new.buf.bytes c.in_ok-state.ensures.bytes in
+          one_numbered (page_at f) r m c.args.next i (c.loop-i.invariant.numbered told) least (elim c.if-is_committed.branch [
+            | then-is_committed+else-from-next w ↦
+                λ commits_here. its_own (w.get_u32-number.ensures ∙ ap number_of (w.bytes.ensures ∙ bytes)) w.from-then-is_committed.ensures w.from-then-is_committed-2.ensures w.if-from-next.false
+            | else-is_committed w ↦ λ commits_here. absurd (false≢true (sym w.if-is_committed.false ∙ c.is_committed.ensures ∙ ap commits state ∙ commits_here))
+          ]);
+    }

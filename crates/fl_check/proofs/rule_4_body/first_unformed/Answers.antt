@@ -3,7 +3,7 @@ use Rattle.std.proofs.Common.{refl, ◌∙◌}
 use Rattle.std.proofs.lemmas.Result.{err_from_is_err_and}
 use Rattle.fl_flash.specs.Flash.{page_at}
 use Rattle.fl_ring.specs.Place.{shape_of}
-use Rattle.fl_ring.proofs.ReadsInTurn.{no_reads}
+use Rattle.fl_frame.proofs.ReadsInTurn.{no_reads}
 use Rattle.fl_check.proofs.OneMorePage.{one_read, read_fails, some_back, few_back}
 use Rattle.fl_check.proofs.OneMoreBody.{all_formed}
 use Rattle.fl_check.proofs.rule_4_body.first_unformed.Goals as goal
