@@ -6,6 +6,7 @@ use Rattle.std.proofs.lemmas.List.{length-map}
 use Rattle.std.proofs.lemmas.Option.{slice_get-map}
 use Rattle.fl_flash.specs.Flash.{FlashState, Goes, page_at}
 use Rattle.fl_model.specs.Record.{Config, Plan, Record}
+use Rattle.fl_model.specs.Row.{Row}
 use Rattle.fl_model.specs.Table as model
 use Rattle.fl_model.specs.Table.{flushed, lose, put_record}
 use Rattle.fl_model.specs.Within.{with_table}
@@ -13,6 +14,7 @@ use Rattle.fl_model.specs.Work.{Device}
 use Rattle.fl_model.proofs.Among.{changed-there, changed-elsewhere}
 use Rattle.fl_rlc.specs.Logged.{Rests, Stands}
 use Rattle.fl_rlc.specs.Outcomes as outcomes
+use Rattle.fl_rlc.specs.Paged.{PutLogged}
 use Rattle.fl_rlc.specs.Refusal.{RefusedSame}
 use Rattle.fl_rlc.specs.Table.{IsSamePlan, OutsideStands, log_in, table_in}
 use Rattle.fl_rlc.specs.declared.table.LoggedTable.{LoggedTable}
@@ -130,6 +132,10 @@ module _ (entries : List Entry) (at : ℕ) (entry : Entry) (u : LoggedTable 64 6
   -- a flush of a table that isn't mounted
   pub flush-refused : (result : Result (Unit {0}) FlushFault) → (result ≡ Err flush.Stopped → (table_in u ≡ table_in entry.table) × (log_in u ≡ log_in entry.table)) → result ≡ Err flush.Stopped → entries_with entries at entry u ≡ entries
   flush-refused result h is = let k = h is in same-entries (logged-same entry.table u k.0 k.1)
+
+-- what a put logged is said of the entry at the place
+pub put-logged : (entries : List Entry) (at : ℕ) (entry other : Entry) (row : Row) (f g : FlashState) (result : Result (Unit {0}) PutRefusal) → slice_get entries at ≡ Some entry → slice_get entries at ≡ Some other → Goes f g → OnOk result (PutLogged entry.table row f g) → OnOk result (PutLogged other.table row f g)
+put-logged entries at entry other row f g result here there goes h = subst (λ (x : Entry). OnOk result (PutLogged x.table row f g)) (some-is (slice_get entries at) entry other here there) h
 
 pub on-ok : {T E : Type 0} (A B : Type 0) (result : Result T E) → OnOk result (A → B) → A → OnOk result B
 on-ok A B (Ok done) h a = h a

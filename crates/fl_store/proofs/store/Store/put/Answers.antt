@@ -2,7 +2,7 @@ use Rattle.std.proofs.Common.{rules, ◌≡◌, Some}
 use Rattle.std.specs.List.{slice_get}
 use Rattle.fl_table.specs.Causes.{put_breaks}
 use Rattle.fl_store.specs.Tables.{first_of}
-use Rattle.fl_store.proofs.Called.{entry-at, put-ends, put-refused, stands-here}
+use Rattle.fl_store.proofs.Called.{entry-at, put-ends, put-logged, put-refused, stands-here}
 use Rattle.fl_store.proofs.InMemory.{leaves-others, put-runs, put-takes, same-after}
 use Rattle.fl_store.proofs.TablesChanged.{some-is}
 use Rattle.fl_store.proofs.TablesLie.{lie-with}
@@ -86,4 +86,4 @@ returns-clause-sealed g c = λ entry e.
 pub returns-clause-log_page : goal.returns-clause-log_page
 returns-clause-log_page g c = λ entry e.
     let here : slice_get c.args.self.now.tables.entries.items c.args.at ≡ Some c.index_mut-entry.result.now = entry-at c.args.self.now.tables.entries.items c.args.at c.index_mut-entry.result.now c.requires.at c.index_mut-entry.ensures.value in
-    rw (some-is (slice_get c.args.self.now.tables.entries.items c.args.at) entry c.index_mut-entry.result.now e here) c.put.ensures.log_page
+    put-logged c.args.self.now.tables.entries.items c.args.at c.index_mut-entry.result.now entry _ _ _ c.put.result here e c.put.ensures.goes c.put.ensures.log_page
