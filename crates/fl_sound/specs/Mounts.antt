@@ -44,3 +44,7 @@ pub record HasTable (config : TableConfig) (log : Option RingPlace) (f : FlashSt
 abbrev pub SoundTablesMount : Type 0
 SoundTablesMount =
     (config : TableConfig) (log : Option RingPlace) (f : FlashState) (plan : Plan) (rows pages voids : ℕ) → LiesOn config log f plan → IsFinding config log (page_at f) (Sound rows pages voids) → HasTable config log f plan rows pages voids
+
+-- a table for which a flash stands between runs is as runs leave it, and so is its log
+abbrev pub TablesAreAsRunsLeave : Type 0
+TablesAreAsRunsLeave = (f : FlashState) (first : ℕ) (plan : Plan) (table : Table) → Rests f first plan table → IsAsRunsLeave plan table × IsLog table
