@@ -1,5 +1,5 @@
 -- The pages of a ring that stands for a state are the image of a ring of the model, where each committed page holds something.
-use Rattle.std.proofs.Common.{◌≡◌, ℕ, ◌+◌, ◌-◌, ◌*◌, ◌%◌, ◌^◌, ◌≤◌, ◌<◌, ◌++◌, inl, inr, true, false, nat_lt, Option, Some, None, IfSome, option_map, List, length, map, filter, get_or, slice_get, refl, sym, ◌∙◌, ap, subst, arith}
+use Rattle.std.proofs.Common.{◌≡◌, ℕ, ◌+◌, ◌-◌, ◌*◌, ◌%◌, ◌^◌, ◌≤◌, ◌<◌, ◌++◌, inl, inr, Bool, true, false, cond, nat_lt, Option, Some, None, IfSome, option_map, List, length, map, filter, get_or, slice_get, refl, sym, ◌∙◌, ap, subst, arith}
 use Rattle.std.specs.List.{AllByRecursion}
 use Rattle.std.proofs.Math.ListN.{get_or-eq_default}
 use Rattle.std.proofs.Math.Nat.{mod-lt, mul-le-mul_right}
@@ -12,6 +12,7 @@ use Rattle.fl_model.specs.Image.{HoldsPage}
 use Rattle.fl_model.specs.Layout.{committed}
 use Rattle.fl_model.specs.Ring as model
 use Rattle.fl_ring.specs.Counts.{page_count, ring_counts}
+use Rattle.fl_ring.specs.Head.{one}
 use Rattle.fl_ring.specs.Newest.{commits, page_back}
 use Rattle.fl_ring.specs.Ring.{Shape, RingState, IsShape, HoldsKept, count, oldest, place, room, committed_end}
 use Rattle.fl_ring.proofs.Counts.{counts_ring}
@@ -23,6 +24,10 @@ use Rattle.fl_check.specs.StandingRings.{HaveSize, StandsRuled}
 use Rattle.fl_check.specs.declared.numbering.Numbering.{Numbering}
 use Rattle.fl_check.proofs.Collected.{Held, Collected, all-map, collect}
 use Rattle.fl_check.proofs.RingReads.{Follows}
+
+one-cond : (b : Bool) → one b ≡ cond b 1 0
+one-cond true = refl
+one-cond false = refl
 
 -- the page of each number has the size of the ring's
 pub place-size : (page : ℕ → List ℕ) (r : Shape) → IsShape r → HaveSize page r → (k : ℕ) → length (page (place r k)) ≡ r.size
@@ -99,6 +104,7 @@ module _ (Form : ℕ → List ℕ → Type 0) (f : FlashState) (r : Shape) (at_l
       next = sym st.next;
       known = omega (arith, many, st.good.on.ring.not_negative);
       small = omega (arith, st.good.fits, st.renumbered_next, st.next);
+      left = let fits : s.next + one s.torn < 2 ^ 32 = omega (arith, st.good.fits, st.renumbered_next, st.next) in subst (λ (k : ℕ). s.next + k < 2 ^ 32) (one-cond s.torn) fits;
     }
       where
         many : length ring.counts ≡ count s

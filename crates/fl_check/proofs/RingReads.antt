@@ -1,5 +1,5 @@
 -- What the numbers of a check tell of a ring of the model.
-use Rattle.std.proofs.Common.{◌≡◌, ◌⊎◌, ℕ, ◌+◌, ◌-◌, ◌^◌, ◌<◌, ◌≤◌, nat_lt, Option, Some, None, List, length}
+use Rattle.std.proofs.Common.{◌≡◌, ◌⊎◌, ℕ, ◌+◌, ◌-◌, ◌^◌, ◌<◌, ◌≤◌, cond, nat_lt, Option, Some, None, List, length}
 use Rattle.std.specs.List.{slice_get}
 use Rattle.fl_base.specs.declared.types.RingPlace.{RingPlace}
 use Rattle.fl_mark.specs.Mark.{state_of_page}
@@ -26,6 +26,8 @@ pub record Follows (page : ℕ → List ℕ) (r : Shape) (at_least : ℕ) (ring 
   pub next : n.next ≡ ring.next
   pub known : length ring.counts ≤ ring.next
   pub small : ring.next < 2 ^ 32
+  -- .. with a void page more where the next one is torn
+  pub left : ring.next + cond ring.torn 1 0 < 2 ^ 32
 
 -- .. of a ring that a table may not have
 abbrev pub OfNumbered : (RingPlace → Numbering → model.Ring → Type 0) → Option RingPlace → Option Numbering → Option model.Ring → Type 0

@@ -28,8 +28,8 @@ use Rattle.fl_check.specs.Claims.{AllBelow}
 use Rattle.fl_check.specs.Entries.{HaveEntries}
 use Rattle.fl_check.specs.Marks.{kept_page}
 use Rattle.fl_check.specs.References.{PageLeads, BlobLeads}
-use Rattle.fl_check.specs.SoundImages.{RingImage, OfPlace, TableImage, BlobsLead, PagesFit, StandsSettled, SoundImages}
-use Rattle.fl_check.specs.StandingRings.{HaveSize, IsSortedLogForm, RingsStand}
+use Rattle.fl_check.specs.SoundImages.{RingImage, OfPlace, TableImage, BlobsLead, PagesFit, IsNumbered, AreNumbered, StandsSettled, SoundImages}
+use Rattle.fl_check.specs.StandingRings.{HaveSize, IsSortedLogForm, StandsRuled, RingsStand}
 use Rattle.fl_check.specs.Tally.{tally_of}
 use Rattle.fl_check.specs.Whole.{Fits, LogFits, OfRing, IsIndexForm, IsVarForm, layout_in, shape_in, rows_shape, indexing, index_end, tally_in}
 use Rattle.fl_check.specs.declared.numbering.Numbering.{Numbering}
@@ -275,6 +275,31 @@ module _ (label : Label) (config : TableConfig) (log : Option RingPlace) (f : Fl
   ring-of Holds (Some place) None pages = absurd pages
   ring-of Holds (Some place) (Some ring) pages = pages.is
 
+  -- ---- its numbers
+
+  -- the next number of a ring that a table may not have
+  next-is : (Stands : RingPlace → Numbering → Type 0) (Holds : RingPlace → model.Ring → Type 0) (least : ℕ) (o : Option RingPlace) (n : Option Numbering) (ring : Option model.Ring) → OfRing Stands o n → OfPlace Holds o ring →
+      OfNumbered (λ place n ring. Follows (page_at f) (shape_in config place) least ring n) o n ring → IsNumbered n ring
+  next-is Stands Holds least None None None stands holds reads = tt
+  next-is Stands Holds least None None (Some ring) stands holds reads = absurd holds
+  next-is Stands Holds least None (Some n) ring stands holds reads = absurd stands
+  next-is Stands Holds least (Some place) None ring stands holds reads = absurd stands
+  next-is Stands Holds least (Some place) (Some n) None stands holds reads = absurd holds
+  next-is Stands Holds least (Some place) (Some n) (Some ring) stands holds reads = (sym reads.next, reads.left)
+
+  numbered : AreNumbered config log (page_at f) table
+  numbered = record {
+    t = stand.t;
+    sound = stand.sound;
+    rows = (sym follows.next, follows.left);
+    index = next-is (λ place n. StandsRuled (IsIndexForm config) f (shape_in config place) 0 n) (λ place ring. RingImage (page_at f) (shape_in config place) ring (λ i count page. HoldsPage index.pages listed_body ring i count page)) 0
+        config.index stand.t.index index.ring stand.index index.image index.follows;
+    var = next-is (λ place n. StandsRuled IsVarForm f (shape_in config place) var_least n) (λ place ring. RingImage (page_at f) (shape_in config place) ring (λ i count page. HoldsPage var.pages content_body ring i count page)) var_least
+        config.var stand.t.var var.ring stand.var var.image var.follows;
+    logged = next-is (λ place n. StandsRuled (IsSortedLogForm config) f (shape_in config place) 0 n) (λ place ring. RingImage (page_at f) (shape_in config place) ring (λ i count page. HoldsPage logged.pages logged_body ring i count page)) 0
+        log stand.t.log logged.ring stand.logged logged.image logged.follows;
+  }
+
   settled : StandsSettled made_plan table
   settled = stands-settled made_plan table image.lost fit image.rows.is (ring-of (HoldsPage index.pages listed_body) config.index index.ring index.image) (ring-of (HoldsPage var.pages content_body) config.var var.ring var.image)
       (ring-of (HoldsPage logged.pages logged_body) log logged.ring logged.image)
@@ -306,6 +331,7 @@ sound-images label config log f rows pages voids fits logs reaches told is =
       table = table label config log f rows pages voids fits logs reaches told stand;
       image = image label config log f rows pages voids fits logs reaches told stand;
       fit = fit label config log f rows pages voids fits logs reaches told stand;
+      numbered = numbered label config log f rows pages voids fits logs reaches told stand;
       stands = settled label config log f rows pages voids fits logs reaches told stand;
       rows_are = many_rows label config log f rows pages voids fits logs reaches told stand;
       voids_are = many_voids label config log f rows pages voids fits logs reaches told stand;

@@ -1,5 +1,5 @@
 -- The pages of a sound table are the image of a table of the model, of which all facts hold that its rules give.
-use Rattle.std.specs.Prelude.{◌≡◌, ℕ, ◌+◌, ◌-◌, ◌<◌, ◌≤◌, ◌⊎◌, true, false, nat_lt, IsTrue, if◌then◌else◌, Option, Some, None, IfSome, List, [], length, map, filter, sum, slice_get}
+use Rattle.std.specs.Prelude.{◌≡◌, ℕ, ◌+◌, ◌-◌, ◌^◌, ◌<◌, ◌≤◌, ◌⊎◌, true, false, nat_lt, IsTrue, if◌then◌else◌, Option, Some, None, IfSome, List, [], length, map, filter, sum, slice_get}
 use Rattle.std.specs.List.{AllByRecursion}
 use Rattle.fl_base.specs.declared.types.RingPlace.{RingPlace}
 use Rattle.fl_flash.specs.Flash.{FlashState, page_at}
@@ -18,8 +18,10 @@ use Rattle.fl_plan.specs.Plan.{Label, blocks_in, plan_of_table, with_log}
 use Rattle.fl_plan.specs.declared.table_config.TableConfig.{TableConfig}
 use Rattle.fl_ring.specs.Counts.{model_shape}
 use Rattle.fl_ring.specs.Ring.{Shape, place}
-use Rattle.fl_check.specs.Whole.{Fits, LogFits, IsFinding, shape_in, rows_shape}
+use Rattle.fl_check.specs.Whole.{Fits, LogFits, IsFinding, IsSound, shape_in, rows_shape}
 use Rattle.fl_check.specs.declared.finding.Finding.TheVariants.{Sound}
+use Rattle.fl_check.specs.declared.numbering.Numbering.{Numbering}
+use Rattle.fl_check.specs.declared.table.TableNumbers.{TableNumbers}
 
 -- a ring of the model, whose image the pages of a ring are; `Holds` says what its kept pages hold
 pub record RingImage (page : ℕ → List ℕ) (r : Shape) (ring : model.Ring) (Holds : ℕ → ℕ → List ℕ → Type 0) : Type 0 where
@@ -75,6 +77,23 @@ pub record PagesFit (plan : Plan) (table : Table) : Type 0 where
   -- its rows lead to their blobs
   pub blobs : IfSome table.var (BlobsLead plan table)
 
+-- a ring has the next number that is told, and numbers fit their bytes with a void page more where the next page is torn
+abbrev pub IsNumbered : Option Numbering → Option model.Ring → Type 0
+IsNumbered None None = Unit {0}
+IsNumbered (Some n) (Some ring) = (ring.next ≡ n.next) × (ring.next + (if ring.torn then 1 else 0) < 2 ^ 32)
+IsNumbered None (Some ring) = ⊥
+IsNumbered (Some n) None = ⊥
+
+-- The numbers of a table's rings are those that the rules give to the pages: what its pages tell, and where a ring has no committed page,
+-- the least ones that a mount may give them.
+pub record AreNumbered (config : TableConfig) (log : Option RingPlace) (page : ℕ → List ℕ) (table : Table) : Type 0 where
+  pub t : TableNumbers
+  pub sound : IsSound config log page t
+  pub rows : IsNumbered (Some t.rows) (Some table.rows)
+  pub index : IsNumbered t.index table.index
+  pub var : IsNumbered t.var table.var
+  pub logged : IsNumbered t.log table.log
+
 -- ---- a table that the model mounts
 
 -- Page numbers are left: for the void pages of repairs, and for a data ring that is numbered anew behind what its index lists.
@@ -101,6 +120,7 @@ pub record HasImage (config : TableConfig) (log : Option RingPlace) (page : ℕ 
   pub table : Table
   pub image : TableImage config log page plan table
   pub fit : PagesFit plan table
+  pub numbered : AreNumbered config log page table
   pub stands : StandsSettled plan table
   pub rows_are : length table.entries ≡ rows
   pub pages_are : length table.rows.counts ≡ pages

@@ -14,3 +14,4 @@ pub mod Fronts
 pub mod Checks
 pub mod Scripts
 pub mod Mounts
+pub mod AtRest

@@ -172,6 +172,9 @@ module _ (label : Label) (config : TableConfig) (log : Option RingPlace) (f : Fl
   found : HasTable config log f plan rows kept voids
   found = record {
     table = table;
+    image = image.image;
+    fit = image.fit;
+    numbered = image.numbered;
     stands = image.stands;
     rests = λ left log_is. rings-rest (image.stands.settled left log_is);
     apart = λ left place l there planned. record { unlogged = bare-rests left; log = log-rests left l planned place there };

@@ -1,7 +1,7 @@
 -- Sound tables, and what a mount finds there.
 use Rattle.std.specs.Prelude.{◌≡◌, ℕ, ◌+◌, ◌≤◌, IsTrue, Option, Some, length}
 use Rattle.fl_base.specs.declared.types.RingPlace.{RingPlace}
-use Rattle.fl_check.specs.SoundImages.{IsAsRunsLeave, StandsSettled}
+use Rattle.fl_check.specs.SoundImages.{AreNumbered, IsAsRunsLeave, PagesFit, StandsSettled, TableImage}
 use Rattle.fl_check.specs.Whole.{Fits, LogFits, IsFinding}
 use Rattle.fl_check.specs.declared.finding.Finding.TheVariants.{Sound}
 use Rattle.fl_flash.specs.Flash.{FlashState, page_at}
@@ -26,10 +26,13 @@ pub record LiesOn (config : TableConfig) (log : Option RingPlace) (f : FlashStat
   pub log_fits : LogFits log f
   pub log_at : IsRingAt log (config.rows.first_block + plan.data_blocks + plan.index_blocks + plan.var_blocks) plan.log_blocks
 
--- A table with as many rows, kept data pages and void ones as were told. Where it is as runs leave it, the flash stands for it, so that a
--- mount ends as the model says.
+-- A table whose image the flash's pages are, with the numbers that the rules give to them, and as many rows, kept data pages and void ones
+-- as were told. Where it is as runs leave it, the flash stands for it, so that a mount ends as the model says.
 pub record HasTable (config : TableConfig) (log : Option RingPlace) (f : FlashState) (plan : Plan) (rows pages voids : ℕ) : Type 0 where
   pub table : Table
+  pub image : TableImage config log (page_at f) plan table
+  pub fit : PagesFit plan table
+  pub numbered : AreNumbered config log (page_at f) table
   pub stands : StandsSettled plan table
   pub rests : IsAsRunsLeave plan table → IsLog table → Rests f config.rows.first_block plan table
   -- .. and apart from it for its log, whatever records that has
@@ -41,3 +44,7 @@ pub record HasTable (config : TableConfig) (log : Option RingPlace) (f : FlashSt
 abbrev pub SoundTablesMount : Type 0
 SoundTablesMount =
     (config : TableConfig) (log : Option RingPlace) (f : FlashState) (plan : Plan) (rows pages voids : ℕ) → LiesOn config log f plan → IsFinding config log (page_at f) (Sound rows pages voids) → HasTable config log f plan rows pages voids
+
+-- a table for which a flash stands between runs is as runs leave it, and so is its log
+abbrev pub TablesAreAsRunsLeave : Type 0
+TablesAreAsRunsLeave = (f : FlashState) (first : ℕ) (plan : Plan) (table : Table) → Rests f first plan table → IsAsRunsLeave plan table × IsLog table
