@@ -11,7 +11,7 @@ use Rattle.fl_store.proofs.Risen.{has_risen}
 use Rattle.fl_flash.specs.Flash.{FlashState, Goes}
 use Rattle.fl_flash.specs.declared.flash.FlashFault.{FlashFault}
 use Rattle.fl_flash.specs.declared.flash.FlashFault.TheVariants.{PowerLost, Media}
-use Rattle.fl_frame.specs.Causes.{CausedBy, IsUnarmed}
+use Rattle.fl_frame.specs.Causes.{IsUnarmed}
 use Rattle.fl_image.specs.declared.status.ToolStatus.{ToolStatus}
 use Rattle.fl_image.specs.declared.status.ToolStatus.TheVariants.{OutWrite, NoMemory, Device}
 use Rattle.fl_machine.specs.Step.{refused}

@@ -1,5 +1,5 @@
 -- The bad pages that a look for a gap meets.
-use Rattle.std.proofs.Common.{◌≡◌, ℕ, ◌<◌, ◌≤◌, inl, Result, Ok, Err, sym, ap, subst}
+use Rattle.std.proofs.Common.{◌≡◌, ℕ, ◌<◌, ◌≤◌, inl, Result, Err, sym, ap, subst}
 use Rattle.fl_cursor.specs.Cursor.{IfBad, IsBadPage, MayBeBad}
 use Rattle.fl_cursor.specs.Listed.{bytes_at}
 use Rattle.fl_flash.specs.Flash.{FlashState}

@@ -1,5 +1,5 @@
 -- How a ship between two media ends, from how one between the flashes on them does.
-use Rattle.std.proofs.Common.{◌≡◌, ℕ, ◌≤◌, inl, inr, Option, List, sym, ap, subst, arith}
+use Rattle.std.proofs.Common.{ℕ, ◌≤◌, inl, inr, Option, List, sym, ap, subst, arith}
 use Rattle.fl_base.specs.Causes.{Rose}
 use Rattle.fl_flash.specs.Flash.{FlashState}
 use Rattle.fl_flash.specs.Media.{MediaState}

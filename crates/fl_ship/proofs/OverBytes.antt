@@ -1,5 +1,5 @@
 -- What a ship between two flashes does whatever bytes these have.
-use Rattle.std.proofs.Common.{◌≡◌, ℕ, ◌≤◌, Option, None, Some, Result, Ok, Err, List, refl, sym, ap, subst}
+use Rattle.std.proofs.Common.{◌≡◌, ℕ, ◌≤◌, Option, None, Some, Result, Ok, Err, List, refl, sym, subst}
 use Rattle.std.specs.List.{slice_get}
 use Rattle.fl_flash.specs.Flash.{FlashState, Goes}
 use Rattle.fl_frame.specs.Contents.{OnlyReads, contents_of}
@@ -20,7 +20,6 @@ use Rattle.fl_table.specs.declared.table.Table.{Table}
 use Rattle.fl_ship.specs.Over.{IsGapOver, ShipsFrom, ShipsOnto, ShipsOver, Tells}
 use Rattle.fl_ship.specs.Tables.{TellsShipped, mount_status, stop_status}
 use Rattle.fl_ship.specs.declared.fault.ShipFault.TheVariants.{Read, Put, Flush}
-use Rattle.fl_ship.specs.declared.side.Side.{Side}
 use Rattle.fl_ship.specs.declared.side.Side.TheVariants.{Source, Copy}
 use Rattle.fl_ship.specs.declared.status.ShipStatus.{ShipStatus}
 use Rattle.fl_ship.specs.declared.status.ShipStatus.TheVariants.{Done, OutWrite, NoMemory, NotImage, Device, BadImage, NoTable, Gap, OtherForm, Spent}

@@ -81,6 +81,9 @@ after_end-requires g c =
     let fewer = n.advances.shrinks n.next.0 in
     (omega (arith, i.few, fewer), omega (arith, i.few, i.rows, fewer), omega (arith, i.few, i.rows, i.gone, fewer))
 
+pub returns-in_err-end-clause-same : goal.returns-in_err-end-clause-same
+returns-in_err-end-clause-same g c = same-on _ _ _ c.lines.invariant.same c.put_line.ensures.same
+
 pub lines-preserved : goal.lines-preserved
 lines-preserved g c =
     let i = c.lines.invariant in

@@ -132,6 +132,9 @@ returns-in_err-put_row-clause-outside g c = λ tells.
     outside-then c.args.to.now c.puts.to (page_at (g.B.Flash.state c.args.onto.now)) (page_at (g.B.Flash.state c.puts.onto)) (page_at (g.B.Flash.state c.put_row.new.onto)) i.same (i.outside tells)
     (c.put_row.ensures.outside (subst IsTrue (sym i.goes.tells) tells))
 
+pub returns-in_err-put_row-clause-same : goal.returns-in_err-put_row-clause-same
+returns-in_err-put_row-clause-same g c = same-on _ _ _ c.puts.invariant.same c.put_row.ensures.same
+
 pub puts-preserved : goal.puts-preserved
 puts-preserved g c =
     let inv = c.puts.invariant in

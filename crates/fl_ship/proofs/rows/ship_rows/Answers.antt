@@ -2,6 +2,7 @@ use Rattle.std.proofs.Common.{IsTrue, Ok, Err, refl, sym, ◌∙◌, subst}
 use Rattle.std.proofs.lemmas.Result.{err_from_is_err_and}
 use Rattle.fl_flash.specs.Flash.{page_at}
 use Rattle.fl_frame.proofs.CallsInTurn.{goes-then}
+use Rattle.fl_store.proofs.CallsInTurn.{same-on}
 use Rattle.fl_store.proofs.Outsides.{outside-then}
 use Rattle.fl_ship.proofs.LastFlush.{flush-stops, ship-done, ship-unput, ship-unflushed, keep-flushed}
 use Rattle.fl_ship.proofs.rows.ship_rows.Goals as goal
@@ -41,6 +42,9 @@ returns-in_err-flush_copy-clause-outside g c = λ tells.
     let p = c.put_rows.ensures in
     outside-then c.args.to.now c.put_rows.new.to (page_at (g.B.Flash.state c.args.onto.now)) (page_at (g.B.Flash.state c.put_rows.new.onto)) (page_at (g.B.Flash.state c.flush_copy.new.onto)) p.same (p.outside tells)
     (c.flush_copy.ensures.outside (subst IsTrue (sym p.goes.tells) tells))
+
+pub returns-in_err-flush_copy-clause-same : goal.returns-in_err-flush_copy-clause-same
+returns-in_err-flush_copy-clause-same g c = same-on _ _ _ c.put_rows.ensures.same c.flush_copy.ensures.same
 
 pub returns-clause-ships : goal.returns-clause-ships
 returns-clause-ships g c = λ first plan t works.

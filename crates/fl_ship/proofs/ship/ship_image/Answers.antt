@@ -29,7 +29,6 @@ use Rattle.fl_ship.proofs.ImageEnds.{copy-known, copy-made, copy-makes, formed, 
 use Rattle.fl_ship.proofs.MediaEnds.{store-ends}
 use Rattle.fl_ship.proofs.Forms.{one-form}
 use Rattle.fl_ship.proofs.Statuses.{not-refused}
-use Rattle.fl_ship.specs.Over.{IsHalfMade, ShipJob}
 use Rattle.fl_ship.proofs.ship.ship_image.Goals as goal
 
 good-image : (side : Side) (table : ℕ) → Device Copy ≡ BadImage side table → ⊥

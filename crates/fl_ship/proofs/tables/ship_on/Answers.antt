@@ -26,7 +26,6 @@ use Rattle.fl_ship.proofs.FlashEnds.{source-fails, copy-fails, shipped, stopped,
 use Rattle.fl_ship.proofs.Statuses.{mount-place, good-device, stop-good, mount-rose, sides-apart, stop-rose}
 use Rattle.fl_store.specs.MountsOver.{MountsOver}
 use Rattle.fl_store.proofs.Jobs.{own-changes}
-use Rattle.fl_ship.specs.Over.{ShipsOver}
 use Rattle.fl_ship.proofs.OverBytes.{bad-there, copy-refused, gap-there, source-refused, tables-shipped, tells-shipped, tells-stopped}
 use Rattle.fl_ship.proofs.tables.ship_on.Goals as goal
 
