@@ -28,7 +28,6 @@ use Rattle.fl_table.specs.Bitmaps.{AreSamePlan, AreSameRing, room_of}
 use Rattle.fl_table.specs.ByEntries.{Come, checks_from, first_of, first_some, index_check, index_page, is_committed, is_fit, mount_fault, page_checks, seen_before}
 use Rattle.fl_table.specs.Coming.{AreRemembered, FirstsKnown, IsFineListing, RememberedBy, come_of, index_pages_of}
 use Rattle.fl_table.specs.Mounting.{RemembersKept, RemembersPages}
-use Rattle.fl_table.specs.declared.faults.MountFault.{MountFault}
 use Rattle.fl_table.proofs.IndexPages.{unfit-check}
 use Rattle.fl_table.proofs.ListedPages.{are-full}
 

@@ -1,5 +1,5 @@
 -- How many reads it takes to find an index.
-use Rattle.std.proofs.Common.{◌≡◌, ℕ, ◌+◌, ◌-◌, ◌*◌, ◌≤◌, Bool, true, false, cond, Option, Some, None, Result, Ok, Err, IsTrue, ap, subst, arith}
+use Rattle.std.proofs.Common.{◌≡◌, ℕ, ◌+◌, ◌-◌, ◌*◌, ◌≤◌, Bool, true, false, cond, Option, Some, None, Result, Ok, Err, IsTrue, ap, arith}
 use Rattle.std.specs.Prelude.{IfOk, OnOk, option_map, unwrap_or}
 use Rattle.std.proofs.Math.Nat.{mul-le-mul_right, mul-le-mul_left}
 use Rattle.fl_flash.specs.Flash.{FlashState}

@@ -1,5 +1,5 @@
 -- What a full index entry tells of a page beside its bitmap.
-use Rattle.std.proofs.Common.{◌≡◌, ℕ, Option, Some, None, option_map, unwrap_or, List, [], ◌∷◌, length, map, refl, sym, ◌∙◌, ap}
+use Rattle.std.proofs.Common.{◌≡◌, ℕ, Option, Some, option_map, unwrap_or, List, [], ◌∷◌, length, map, refl, sym, ◌∙◌, ap}
 use Rattle.std.proofs.lemmas.List.{length-map}
 use Rattle.std.specs.List.{slice_get}
 use Rattle.fl_find.specs.Pages.{first_key, rows_on}

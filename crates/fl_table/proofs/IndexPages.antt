@@ -1,6 +1,6 @@
 -- A kept index page is read.
-use Rattle.std.proofs.Common.{◌≡◌, ℕ, zero, suc, ◌+◌, ◌-◌, ◌<◌, ◌≤◌, ◌⊎◌, inl, inr, Bool, true, false, cond, ◌&&◌, ◌==◌, nat_le, nat_lt, max, min, Option, Some, None, List, [], ◌∷◌, map, refl, sym, ◌∙◌, ap, subst, arith}
-use Rattle.std.specs.Prelude.{◌^◌, IfSome, option_map, unwrap_or, not}
+use Rattle.std.proofs.Common.{◌≡◌, ℕ, zero, suc, ◌+◌, ◌-◌, ◌<◌, ◌≤◌, ◌⊎◌, inl, inr, Bool, true, false, cond, ◌&&◌, nat_le, nat_lt, max, min, Option, Some, None, List, map, refl, sym, ◌∙◌, ap, subst, arith}
+use Rattle.std.specs.Prelude.{◌^◌, IfSome, option_map, unwrap_or}
 use Rattle.std.proofs.lemmas.Bool.{cases_lt, eqb-true, eq-eqb, leb-true, ltb-true, le-leb, lt-ltb}
 use Rattle.fl_find.specs.Index.{IndexOf}
 use Rattle.fl_find.specs.declared.index.KeyIndex.{KeyIndex}
@@ -25,14 +25,14 @@ use Rattle.fl_model.specs.Layout.{Full}
 use Rattle.fl_model.specs.Limits.{numbers_from}
 use Rattle.fl_page.specs.declared.fault.BadPage.{BadPage as Refusal}
 use Rattle.fl_table.specs.ByEntries.{Come, has_rows, facts_on, points_of, index_page, is_committed, is_fit, is_good, lists, end_before, seen_before, entry, told, told_at, first_of, first_some, count_fault, index_check, bad_index_page, mount_fault}
-use Rattle.fl_table.specs.Knowing.{left, KnowsBy, KnowsAll, KnowsAside, KnowsWith, counted_to}
+use Rattle.fl_table.specs.Knowing.{KnowsBy, KnowsWith, counted_to}
 use Rattle.fl_table.specs.declared.faults.MountFault.{MountFault}
 use Rattle.fl_table.specs.declared.faults.MountFault.TheVariants.{BadPage, BadEntry}
 use Rattle.fl_table.specs.declared.known.Known.{Known}
 use Rattle.fl_table.specs.declared.known.Listed.{Listed}
 use Rattle.fl_table.proofs.PageChecks.{left-index}
 use Rattle.fl_table.proofs.ListingPage.{entry-in}
-use Rattle.fl_table.proofs.WaitingPageComes.{knows-all, knows-aside, none-of}
+use Rattle.fl_table.proofs.WaitingPageComes.{knows-all, knows-aside}
 use Rattle.fl_table.proofs.Steps.{index-all, index-aside, index-refused, index-waits}
 
 module _ {KNOTS SLOTS : ℕ} (error : ℕ) (t : Come) (k n : ℕ) (lt : k < t.index_pages) (seen : seen_before t k ≤ n) (known : Known) (counts : List ℕ) (index : KeyIndex KNOTS SLOTS) (h : KnowsWith error t k n known counts index) where

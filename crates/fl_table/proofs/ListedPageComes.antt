@@ -1,20 +1,18 @@
 -- A listed data page comes.
-use Rattle.std.proofs.Common.{◌≡◌, ℕ, zero, suc, ◌+◌, ◌-◌, ◌*◌, ◌%◌, ◌<◌, ◌≤◌, ◌⊎◌, inl, inr, Bool, true, false, max, Option, Some, None, List, [], ◌∷◌, ◌++◌, length, refl, sym, ◌∙◌, ap, subst, arith}
+use Rattle.std.proofs.Common.{◌≡◌, ℕ, suc, ◌+◌, ◌-◌, ◌*◌, ◌%◌, ◌<◌, ◌≤◌, false, max, Option, Some, None, List, [], ◌∷◌, ◌++◌, length, refl, sym, ◌∙◌, ap, subst, arith}
 use Rattle.std.specs.Prelude.{cond, ◌==◌, nat_lt, IfSome, option_map, unwrap_or, slice_set}
-use Rattle.std.proofs.lemmas.Bool.{eqb-true, cases_lt, lt-ltb}
 use Rattle.std.proofs.lemmas.List.{append-nil}
 use Rattle.fl_find.specs.Index.{IndexOf}
 use Rattle.fl_find.specs.declared.index.KeyIndex.{KeyIndex}
 use Rattle.fl_index.specs.Page.{full_view}
 use Rattle.fl_index.specs.declared.page.Full as code
 use Rattle.fl_model.specs.Layout.{Full}
-use Rattle.fl_table.specs.ByEntries.{Come, entry, has_rows, is_committed, is_newest, is_read, by_page, facts_on, no_rows, points_of, mount_fault, page_check, first_of}
-use Rattle.fl_table.specs.Knowing.{left, KnowsBy, KnowsAll, KnowsAside, KnowsWith, IsWithin, counted_to, is_waiting}
-use Rattle.fl_table.specs.declared.faults.MountFault.{MountFault}
+use Rattle.fl_table.specs.ByEntries.{Come, entry, has_rows, is_committed, by_page, facts_on, no_rows, points_of, page_check, first_of}
+use Rattle.fl_table.specs.Knowing.{left, KnowsBy, KnowsWith, IsWithin, counted_to, is_waiting}
 use Rattle.fl_table.specs.declared.known.Known.{Known}
 use Rattle.fl_table.specs.declared.known.Listed.{Listed}
 use Rattle.fl_table.proofs.PageChecks.{is-void, listed-unread, void-newest}
-use Rattle.fl_table.proofs.WaitingPageComes.{knows-all, knows-aside, points-all, points-aside, none-of}
+use Rattle.fl_table.proofs.WaitingPageComes.{knows-all, knows-aside, points-all}
 use Rattle.fl_table.proofs.Steps.{void-all, void-aside, takes-aside}
 
 -- whether a listed page has rows

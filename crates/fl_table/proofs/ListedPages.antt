@@ -1,12 +1,9 @@
 -- The kept index pages are read one after another, each as soon as the data pages below the ends of those before it came.
-use Rattle.std.proofs.Common.{◌≡◌, ℕ, zero, suc, ◌+◌, ◌-◌, ◌*◌, ◌<◌, ◌≤◌, ◌⊎◌, inl, inr, Bool, true, false, max, min, Option, Some, None, IsTrue, List, length, refl, sym, ◌∙◌, ap, subst, arith}
+use Rattle.std.proofs.Common.{◌≡◌, ℕ, suc, ◌+◌, ◌-◌, ◌*◌, ◌<◌, ◌≤◌, Bool, true, false, max, min, Option, Some, None, List, refl, sym, ◌∙◌, ap, subst, arith}
 use Rattle.std.specs.Prelude.{◌/◌, ◌%◌, Result, Ok, Err, OnOk, option_map, unwrap_or, slice_index_or, vec_len}
-use Rattle.std.proofs.lemmas.Bool.{cases_lt}
 use Rattle.fl_base.specs.declared.types.Geometry.{Geometry}
 use Rattle.fl_find.specs.declared.index.KeyIndex.{KeyIndex}
 use Rattle.fl_flash.specs.Flash.{FlashState, Goes, page_at}
-use Rattle.fl_flash.specs.Places.{extent, page_of}
-use Rattle.fl_index.specs.Finding as finding
 use Rattle.fl_index.specs.Memory.{first_in, form_in, len_in, per_page, oldest_in, next_in, place_in, ring_shape, IsSamePlan, IsSameRing, LiesOn as IndexLies}
 use Rattle.fl_index.specs.Standing.{StandsBelow, HoldsIndex}
 use Rattle.fl_index.specs.declared.index.BitmapIndex.{BitmapIndex}

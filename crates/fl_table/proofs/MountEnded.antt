@@ -15,7 +15,7 @@ use Rattle.fl_model.specs.Row.{stored_row}
 use Rattle.fl_model.specs.Table.{Table, Entry, DataRing, IndexRing, VarRing, shape_of, pending_entries, lose, end_of_blobs}
 use Rattle.fl_model.specs.Layout.{IndexPage, bitmap_of, full_of}
 use Rattle.fl_model.specs.Limits.{rows_of_page}
-use Rattle.fl_model.specs.Mount.{Of, renumber, ready, index_end, blob_end, waiting_after}
+use Rattle.fl_model.specs.Mount.{Of, renumber, ready, index_end, waiting_after}
 use Rattle.fl_model.specs.Facts.{IsTable}
 use Rattle.fl_model.specs.Work.{Device, PartProgress}
 use Rattle.fl_model.specs.Within.{TableMounts, TableStopped, TableUnread}

@@ -1,6 +1,6 @@
 -- How many reads a mount makes.
 use Rattle.std.proofs.Common.{◌≡◌, ℕ, ◌+◌, ◌-◌, ◌*◌, ◌<◌, ◌≤◌, min, Bool, true, false, cond, ◌&&◌, ◌==◌, sym, ap, subst, arith, IsTrue}
-use Rattle.std.proofs.Math.Nat.{mul-le-mul_right, mul-le-mul_left, add-mul}
+use Rattle.std.proofs.Math.Nat.{mul-le-mul_right, add-mul}
 use Rattle.fl_flash.specs.Flash.{FlashState}
 use Rattle.fl_ring.specs.Finding.{kept_pages, kept_at, full_of}
 use Rattle.fl_ring.specs.Head.{one, fulls}

@@ -1,13 +1,13 @@
 -- One page more of those that a mount comes to.
-use Rattle.std.proofs.Common.{◌≡◌, ◌≢◌, ℕ, zero, suc, ◌+◌, ◌-◌, ◌%◌, ◌<◌, ◌≤◌, ◌⊎◌, inl, inr, Bool, true, false, cond, ◌&&◌, ◌||◌, ◌==◌, nat_le, nat_lt, max, min, Option, Some, None, List, [], ◌∷◌, ◌++◌, length, get_or, set, append-nil, length-set, get_or-set_other, get_or-set_same, refl, sym, ◌∙◌, ap, subst, arith}
-use Rattle.std.specs.Prelude.{option_map, unwrap_or, not, slice_index}
+use Rattle.std.proofs.Common.{◌≡◌, ◌≢◌, ℕ, zero, suc, ◌+◌, ◌-◌, ◌%◌, ◌<◌, ◌≤◌, ◌⊎◌, inl, inr, Bool, true, false, cond, ◌&&◌, ◌==◌, max, None, List, [], ◌∷◌, ◌++◌, length, get_or, set, append-nil, length-set, get_or-set_other, get_or-set_same, refl, sym, ◌∙◌, ap, subst, arith}
+use Rattle.std.specs.Prelude.{not, slice_index}
 use Rattle.std.proofs.Math.Nat.{mod-lt}
-use Rattle.std.proofs.lemmas.Bool.{cases_lt, eqb-true}
+use Rattle.std.proofs.lemmas.Bool.{cases_lt}
 use Rattle.fl_model.specs.Layout.{Full}
 use Rattle.fl_ring.proofs.Modulo.{apart}
 use Rattle.fl_table.specs.ByEntries.{Come, has_rows, are_void, facts_on, rows_of, voids_of, points_of, end_of, known_after, page_check}
 use Rattle.fl_table.specs.Knowing.{AreNoted}
-use Rattle.fl_table.proofs.PageChecks.{is-void, no_both}
+use Rattle.fl_table.proofs.PageChecks.{is-void}
 
 both_true : (a b : Bool) → (a && b) ≡ true → (a ≡ true) × (b ≡ true)
 both_true true b h = (refl, h)

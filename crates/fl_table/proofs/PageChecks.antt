@@ -1,8 +1,8 @@
 -- What the check of a data page comes to, and what is known of it.
-use Rattle.std.proofs.Common.{◌≡◌, ℕ, zero, suc, ◌+◌, ◌-◌, ◌<◌, ◌≤◌, ◌⊎◌, inl, inr, Bool, true, false, cond, ◌&&◌, ◌||◌, ◌==◌, nat_le, nat_lt, max, min, Option, Some, None, List, [], ◌∷◌, ◌++◌, map, refl, sym, ◌∙◌, ap, subst, arith}
-use Rattle.std.specs.Prelude.{option_map, unwrap_or, not}
+use Rattle.std.proofs.Common.{◌≡◌, ℕ, suc, ◌+◌, ◌-◌, ◌<◌, ◌≤◌, inl, inr, Bool, true, false, ◌&&◌, ◌||◌, nat_lt, max, Option, Some, None, List, [], ◌∷◌, ◌++◌, map, refl, sym, ◌∙◌, ap, arith}
+use Rattle.std.specs.Prelude.{option_map, unwrap_or}
 use Rattle.std.specs.Option.{is_none}
-use Rattle.std.proofs.lemmas.Bool.{cases_lt, eqb-true, leb-true, ltb-true, le-leb, lt-ltb}
+use Rattle.std.proofs.lemmas.Bool.{cases_lt, lt-ltb}
 use Rattle.fl_find.specs.Pages.{rows_on, rows_where}
 use Rattle.fl_mark.specs.Mark.{state_of_page}
 use Rattle.fl_mark.specs.declared.page_state.PageState.{PageState}
@@ -10,11 +10,9 @@ use Rattle.fl_mark.specs.declared.page_state.PageState.TheVariants.{Blank, Torn,
 use Rattle.fl_model.specs.Layout.{Full}
 use Rattle.fl_model.specs.Limits.{numbers_from}
 use Rattle.fl_model.specs.Record.{RowLayout}
-use Rattle.fl_model.specs.Row.{Row}
 use Rattle.fl_ring.specs.Newest.{commits}
-use Rattle.fl_table.specs.ByEntries.{Come, entry, is_committed, has_rows, are_void, is_newest, is_read, by_page, facts_on, known_after, read_fault, entry_fault, page_check, no_rows, first_of, first_some, index_check, seen_before, page_checks, checks_from}
+use Rattle.fl_table.specs.ByEntries.{Come, entry, is_committed, has_rows, are_void, is_newest, is_read, facts_on, known_after, page_check, first_of, first_some, index_check, seen_before, page_checks, checks_from}
 use Rattle.fl_table.specs.Knowing.{left}
-use Rattle.fl_table.specs.Reading.{last_in, keys_fault}
 use Rattle.fl_table.specs.declared.faults.MountFault.{MountFault}
 
 pub no_both : {P : Type 0} (b : Bool) → b ≡ true → b ≡ false → P

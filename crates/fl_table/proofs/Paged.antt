@@ -8,7 +8,7 @@ use Rattle.fl_model.specs.Layout.{rows_body}
 use Rattle.fl_model.specs.Record.{RowLayout}
 use Rattle.fl_page.specs.WriterState.{WriterState}
 use Rattle.fl_ring.specs.Mounting.{shape_at}
-use Rattle.fl_ring.specs.Ring.{place, room}
+use Rattle.fl_ring.specs.Ring.{room}
 use Rattle.fl_ring.specs.Written.{Writes, done, sealed_over, MaySealIn}
 use Rattle.fl_ring.specs.declared.ring.Ring.{Ring}
 use Rattle.fl_ring.proofs.Written.{page-as}

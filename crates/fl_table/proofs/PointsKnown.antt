@@ -3,18 +3,16 @@ use Rattle.std.proofs.Common.{◌≡◌, ℕ, zero, suc, ◌+◌, ◌<◌, ◌�
 use Rattle.std.specs.Prelude.{IfSome, unwrap_or}
 use Rattle.std.proofs.lemmas.Bool.{cases_lt, ltb-true, eqb-true}
 use Rattle.fl_find.specs.Pages.{rows_on}
-use Rattle.fl_find.specs.Pages as pages
-use Rattle.fl_model.specs.Layout.{Full}
 use Rattle.fl_model.specs.Record.{RowLayout}
 use Rattle.fl_model.specs.Row.{Row}
 use Rattle.fl_page.specs.Page.{bad_page}
 use Rattle.fl_spline.specs.Points.{IsPast, IsFurther, last_of}
 use Rattle.fl_spline.proofs.Lists.{last_of-push}
-use Rattle.fl_table.specs.ByEntries.{Come, entry, is_committed, has_rows, is_read, by_rows, by_page, facts_on, no_rows, points_of, known_after, has_form, read_fault, entry_fault, page_check}
+use Rattle.fl_table.specs.ByEntries.{Come, entry, is_committed, has_rows, is_read, by_page, facts_on, no_rows, points_of, known_after, has_form, read_fault, entry_fault, page_check}
 use Rattle.fl_table.specs.Reading.{rises, last_in, keys_fault}
 use Rattle.fl_table.specs.declared.faults.MountFault.{MountFault}
 use Rattle.fl_table.specs.declared.faults.MountFault.TheVariants.{BadPage, BadKeys}
-use Rattle.fl_table.proofs.PageChecks.{uncommitted-rows, no_both}
+use Rattle.fl_table.proofs.PageChecks.{uncommitted-rows}
 use Rattle.fl_table.proofs.KeyRuns.{rises-on, last-up}
 
 -- the last point comes before a number, and its key is at most the last key

@@ -1,20 +1,19 @@
 -- Where a flash stands for a table, the keys of its pages rise, and no check of a mount finds a fault.
-use Rattle.std.proofs.Common.{◌≡◌, ℕ, zero, suc, ◌+◌, ◌-◌, ◌<◌, ◌≤◌, ◌⊎◌, inl, inr, Bool, true, false, cond, ◌&&◌, ◌||◌, ◌==◌, nat_le, nat_lt, max, min, Option, Some, None, List, [], ◌∷◌, ◌++◌, length, map, take, drop, refl, sym, ◌∙◌, ap, subst, arith}
-use Rattle.std.specs.Prelude.{option_map, unwrap_or, not}
+use Rattle.std.proofs.Common.{◌≡◌, ℕ, zero, suc, ◌+◌, ◌-◌, ◌<◌, ◌≤◌, ◌⊎◌, inl, inr, Bool, true, false, cond, ◌&&◌, ◌||◌, ◌==◌, nat_lt, max, Option, Some, None, List, [], ◌∷◌, ◌++◌, length, map, take, drop, refl, sym, ◌∙◌, ap, subst, arith}
+use Rattle.std.specs.Prelude.{unwrap_or, not}
 use Rattle.std.specs.Option.{is_none}
 use Rattle.std.specs.List.{slice_get, sum}
-use Rattle.std.proofs.lemmas.Bool.{cases_lt, eqb-true, lt-ltb, ltb-true}
+use Rattle.std.proofs.lemmas.Bool.{cases_lt, eqb-true, lt-ltb}
 use Rattle.std.proofs.lemmas.List.{take_all}
 use Rattle.fl_find.specs.Pages.{rows_on}
 use Rattle.fl_model.specs.Agrees.{rows_at}
-use Rattle.fl_model.specs.Index.{Full, full_of}
+use Rattle.fl_model.specs.Index.{Full}
 use Rattle.fl_model.specs.Limits.{numbers_from}
 use Rattle.fl_model.specs.Entry.{first_key}
-use Rattle.fl_model.specs.Row.{Row, stored_row}
-use Rattle.fl_model.specs.Table.{Table, Entry}
+use Rattle.fl_model.specs.Table.{Table}
 use Rattle.fl_model.proofs.Lists.{slice_get-some, slice_get-short}
-use Rattle.fl_table.specs.ByEntries.{Come, entry, index_page, is_committed, has_rows, are_void, is_newest, is_read, by_page, facts_on, no_rows, known_after, has_form, read_fault, entry_fault, page_check, first_some, first_of, index_check, page_checks, checks_from, seen_before, end_before, mount_fault}
-use Rattle.fl_table.specs.Reading.{rises, last_in, keys_fault}
+use Rattle.fl_table.specs.ByEntries.{Come, entry, has_rows, are_void, is_read, facts_on, known_after, read_fault, entry_fault, page_check, first_some, first_of, index_check, checks_from, seen_before, mount_fault}
+use Rattle.fl_table.specs.Reading.{last_in}
 use Rattle.fl_table.specs.declared.faults.MountFault.{MountFault}
 use Rattle.fl_table.specs.declared.faults.MountFault.TheVariants.{BadKeys}
 use Rattle.fl_table.proofs.KeyOrder.{key_before, rising}

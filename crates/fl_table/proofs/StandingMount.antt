@@ -1,9 +1,8 @@
 -- What a mount comes to where a flash stands for a table: nothing is wrong, and it knows of each page what its rows tell.
-use Rattle.std.proofs.Common.{◌≡◌, ℕ, zero, suc, ◌+◌, ◌-◌, ◌<◌, ◌≤◌, ◌⊎◌, inl, inr, Bool, true, false, cond, ◌&&◌, ◌||◌, ◌==◌, nat_le, nat_lt, max, Option, Some, None, List, [], ◌∷◌, ◌++◌, length, map, take, drop, refl, sym, ◌∙◌, ap, subst, arith}
-use Rattle.std.specs.Prelude.{option_map, unwrap_or, not}
-use Rattle.std.specs.Option.{is_none}
+use Rattle.std.proofs.Common.{◌≡◌, ℕ, zero, suc, ◌+◌, ◌-◌, ◌<◌, ◌≤◌, ◌⊎◌, inl, inr, Bool, true, false, cond, ◌&&◌, nat_le, nat_lt, Option, Some, None, List, [], ◌∷◌, length, map, refl, sym, ◌∙◌, ap, subst, arith}
+use Rattle.std.specs.Prelude.{option_map, unwrap_or}
 use Rattle.std.specs.List.{slice_get, sum}
-use Rattle.std.proofs.lemmas.Bool.{cases_lt, eqb-true, lt-ltb, ltb-true, le-leb, leb-true}
+use Rattle.std.proofs.lemmas.Bool.{cases_lt, lt-ltb, ltb-true, leb-true}
 use Rattle.std.proofs.lemmas.List.{length-map}
 use Rattle.fl_find.specs.Pages.{rows_on}
 use Rattle.fl_find.specs.Pages as pages
@@ -11,21 +10,19 @@ use Rattle.fl_index.specs.Page.{page_first}
 use Rattle.fl_model.specs.Agrees.{rows_at}
 use Rattle.fl_model.specs.Index.{Full, full_of}
 use Rattle.fl_model.specs.Limits.{numbers_from}
-use Rattle.fl_model.specs.Entry.{first_key, end_of_blobs}
+use Rattle.fl_model.specs.Entry.{first_key}
 use Rattle.fl_model.specs.Ring as rings
 use Rattle.fl_model.specs.Row.{Row, stored_row}
 use Rattle.fl_model.specs.Table.{Table, Entry}
-use Rattle.fl_model.proofs.Lists.{slice_get-some, slice_get-short}
+use Rattle.fl_model.proofs.Lists.{slice_get-some}
 use Rattle.fl_table.specs.BlobEnds.{blobs_end}
-use Rattle.fl_table.specs.ByEntries.{Come, entry, index_page, is_committed, is_fit, is_good, lists, listing_among, told_at, has_rows, are_void, is_newest, is_read, by_rows, by_page, facts_on, no_rows, known_after, has_form, read_fault, entry_fault, page_check, first_some, first_of, count_fault, index_check, page_checks, checks_from, seen_before, mount_fault}
+use Rattle.fl_table.specs.ByEntries.{Come, entry, index_page, is_committed, is_fit, is_good, lists, listing_among, told_at, has_rows, is_read, by_rows, by_page, facts_on, no_rows, has_form, first_some, first_of, count_fault, index_check}
 use Rattle.fl_table.specs.Reading.{rises, last_in, keys_fault}
 use Rattle.fl_table.specs.declared.faults.MountFault.{MountFault}
 use Rattle.fl_table.specs.declared.faults.MountFault.TheVariants.{BadKeys, BadEntry}
 use Rattle.fl_table.proofs.BlobEnds.{ends-of}
-use Rattle.fl_table.proofs.KeyOrder.{key_before, rising}
-use Rattle.fl_table.proofs.PageChecks.{is-void, unlisted-read, no_both}
+use Rattle.fl_table.proofs.PageChecks.{unlisted-read, no_both}
 use Rattle.fl_table.proofs.KeyRuns.{rises-on, last-up}
-use Rattle.fl_table.proofs.Aside.{not-newest}
 
 -- a kept data page with these rows, as it stands on a flash
 pub record IsPageOf (t : Come) (number c : ℕ) (rows : List Entry) : Type 0 where

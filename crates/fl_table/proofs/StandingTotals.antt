@@ -1,18 +1,17 @@
 -- Where a flash stands for a table, the totals of a mount are those of the table, and it reads few of its pages.
-use Rattle.std.proofs.Common.{◌≡◌, ℕ, zero, suc, ◌+◌, ◌-◌, ◌<◌, ◌≤◌, ◌⊎◌, inl, inr, Bool, true, false, cond, ◌&&◌, ◌||◌, ◌==◌, nat_lt, max, Option, Some, None, List, [], ◌∷◌, ◌++◌, length, map, take, drop, refl, sym, ◌∙◌, ap, subst, arith}
-use Rattle.std.specs.Prelude.{not, if◌then◌else◌}
+use Rattle.std.proofs.Common.{◌≡◌, ℕ, zero, suc, ◌+◌, ◌<◌, ◌≤◌, Bool, true, false, cond, ◌==◌, max, Option, Some, None, List, [], ◌∷◌, ◌++◌, length, map, take, drop, refl, sym, ◌∙◌, ap, arith}
+use Rattle.std.specs.Prelude.{if◌then◌else◌}
 use Rattle.std.specs.Option.{is_none}
-use Rattle.std.specs.List.{slice_get, sum, count_by, fold}
+use Rattle.std.specs.List.{slice_get, sum, count_by}
 use Rattle.std.proofs.Math.Dec.{eqb-suc-zero}
 use Rattle.std.proofs.Math.Seq.{take-add}
-use Rattle.std.proofs.lemmas.Bool.{cases_lt, eqb-true}
 use Rattle.std.proofs.lemmas.List.{take_all, map-append, length-take-le}
 use Rattle.std.proofs.lemmas.List.Sums.{sum_by-cons}
 use Rattle.fl_find.proofs.Firsts.{points_from}
 use Rattle.fl_find.proofs.Points.{points-append}
 use Rattle.fl_model.specs.Agrees.{rows_at}
-use Rattle.fl_model.specs.Index.{Full, full_of}
-use Rattle.fl_model.specs.Limits.{numbers_from, numbers_of}
+use Rattle.fl_model.specs.Index.{Full}
+use Rattle.fl_model.specs.Limits.{numbers_from}
 use Rattle.fl_model.specs.Entry.{first_key, end_of_blobs}
 use Rattle.fl_model.specs.Mount.{blob_end}
 use Rattle.fl_model.specs.Row.{stored_row}

@@ -1,22 +1,22 @@
 -- One step more of a mount: a data page, or an index page.
-use Rattle.std.proofs.Common.{◌≡◌, ℕ, zero, suc, ◌+◌, ◌-◌, ◌%◌, ◌<◌, ◌≤◌, ◌⊎◌, inl, inr, Bool, true, false, cond, ◌&&◌, ◌||◌, ◌==◌, nat_le, nat_lt, max, min, Option, Some, None, List, [], ◌∷◌, ◌++◌, length, set, refl, sym, ◌∙◌, ap, subst, arith}
-use Rattle.std.specs.Prelude.{option_map, unwrap_or, not, slice_index, slice_set}
+use Rattle.std.proofs.Common.{◌≡◌, ℕ, suc, ◌+◌, ◌-◌, ◌%◌, ◌<◌, ◌≤◌, inl, inr, Bool, true, false, cond, ◌&&◌, ◌||◌, ◌==◌, max, Option, Some, None, List, length, set, refl, sym, ◌∙◌, ap, subst, arith}
+use Rattle.std.specs.Prelude.{unwrap_or, not, slice_index, slice_set}
 use Rattle.std.specs.Option.{is_none}
-use Rattle.std.proofs.lemmas.Bool.{cases_lt, eqb-true, lt-ltb, le-leb}
+use Rattle.std.proofs.lemmas.Bool.{cases_lt, eqb-true}
 use Rattle.fl_find.specs.Pages.{rows_on}
 use Rattle.fl_index.specs.Page.{full_view}
 use Rattle.fl_model.specs.Layout.{Full}
 use Rattle.fl_page.specs.declared.fault.BadPage.{BadPage as Refusal}
-use Rattle.fl_table.specs.ByEntries.{Come, entry, has_rows, are_void, is_newest, is_read, by_page, facts_on, rows_of, voids_of, points_of, end_of, known_after, read_fault, entry_fault, page_check, first_of, index_check, mount_fault, is_committed, no_rows}
+use Rattle.fl_table.specs.ByEntries.{Come, entry, has_rows, are_void, is_read, by_page, facts_on, voids_of, end_of, known_after, read_fault, entry_fault, page_check, first_of, index_check, mount_fault, is_committed, no_rows}
 use Rattle.fl_table.specs.Knowing.{left, AreNoted, AreCounted, KnowsAll, KnowsAside}
-use Rattle.fl_table.specs.Reading.{last_in, rises}
+use Rattle.fl_table.specs.Reading.{last_in}
 use Rattle.fl_table.specs.declared.faults.MountFault.{MountFault}
-use Rattle.fl_table.specs.declared.faults.MountFault.TheVariants.{BadPage, BadKeys}
+use Rattle.fl_table.specs.declared.faults.MountFault.TheVariants.{BadPage}
 use Rattle.fl_table.specs.declared.known.Known.{Known}
 use Rattle.fl_table.specs.declared.known.Listed.{Listed}
 use Rattle.fl_table.proofs.Aside.{fault_of, has-rows}
-use Rattle.fl_table.proofs.PageChecks.{is-void, listed-unread, unlisted-read, no_both, left-none}
-use Rattle.fl_table.proofs.NextPage.{void-run, end-split, noted-more, noted-next, noted-here, noted-other}
+use Rattle.fl_table.proofs.PageChecks.{is-void, unlisted-read, left-none}
+use Rattle.fl_table.proofs.NextPage.{void-run, end-split, noted-next, noted-here, noted-other}
 
 -- ---- a page that is counted: its check found nothing, and these are its count of rows and its last key
 

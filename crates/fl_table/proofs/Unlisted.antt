@@ -1,7 +1,7 @@
 -- A data page comes that no index page lists.
-use Rattle.std.proofs.Common.{◌≡◌, ℕ, zero, suc, ◌+◌, ◌-◌, ◌*◌, ◌%◌, ◌<◌, ◌≤◌, ◌⊎◌, inl, inr, Bool, true, false, max, Option, Some, None, List, [], ◌∷◌, ◌++◌, length, refl, sym, ◌∙◌, ap, subst, arith}
+use Rattle.std.proofs.Common.{◌≡◌, ℕ, suc, ◌+◌, ◌*◌, ◌%◌, ◌<◌, ◌≤◌, inl, inr, Bool, true, false, max, Option, Some, None, List, [], ◌∷◌, ◌++◌, length, refl, sym, ◌∙◌, ap, subst, arith}
 use Rattle.std.specs.Prelude.{cond, ◌==◌, ◌&&◌, nat_le, nat_lt, IfSome, option_map, unwrap_or, slice_set}
-use Rattle.std.proofs.lemmas.Bool.{eqb-true, eq-eqb, cases_lt, le-leb, leb-true}
+use Rattle.std.proofs.lemmas.Bool.{eqb-true, eq-eqb, le-leb, leb-true}
 use Rattle.fl_find.specs.Index.{IndexOf}
 use Rattle.fl_find.specs.Pages.{first_key, rows_on, rows_where}
 use Rattle.fl_find.specs.declared.index.KeyIndex.{KeyIndex}
@@ -9,21 +9,21 @@ use Rattle.fl_mark.specs.Mark.{state_of_page}
 use Rattle.fl_mark.specs.declared.page_state.PageState.{PageState}
 use Rattle.fl_mark.specs.declared.page_state.PageState.TheVariants.{Blank, Torn, Committed, Void}
 use Rattle.fl_model.specs.Layout.{Full}
-use Rattle.fl_model.specs.Record.{RowLayout, layout_len}
+use Rattle.fl_model.specs.Record.{RowLayout}
 use Rattle.fl_model.specs.Row.{Row}
 use Rattle.fl_page.specs.Header.{page_number, page_count}
-use Rattle.fl_page.specs.Page.{IsGoodPage, bad_page, rows_in}
+use Rattle.fl_page.specs.Page.{IsGoodPage, bad_page}
 use Rattle.fl_ring.specs.Newest.{commits}
 use Rattle.fl_spline.specs.Points.{IsFurther}
 use Rattle.fl_table.specs.BlobEnds.{blobs_end}
-use Rattle.fl_table.specs.ByEntries.{Come, entry, has_rows, is_committed, is_newest, is_read, by_rows, by_page, facts_on, no_rows, points_of, known_after, has_form, read_fault, mount_fault, page_check, first_of}
-use Rattle.fl_table.specs.Knowing.{left, KnowsBy, KnowsAll, KnowsAside, KnowsWith, IsWithin, IsUnlisted, counted_to, is_waiting}
+use Rattle.fl_table.specs.ByEntries.{Come, entry, has_rows, is_committed, is_read, by_rows, by_page, facts_on, no_rows, points_of, has_form, read_fault, mount_fault, page_check, first_of}
+use Rattle.fl_table.specs.Knowing.{left, KnowsBy, KnowsWith, IsWithin, IsUnlisted, counted_to, is_waiting}
 use Rattle.fl_table.specs.Reading.{last_in, keys_fault, IsRead, IsRefused}
 use Rattle.fl_table.specs.declared.faults.MountFault.{MountFault}
 use Rattle.fl_table.specs.declared.faults.MountFault.TheVariants.{BadPage}
 use Rattle.fl_table.specs.declared.known.Known.{Known}
 use Rattle.fl_table.specs.declared.known.Listed.{Listed}
-use Rattle.fl_table.proofs.PageChecks.{uncommitted-rows, no_both}
+use Rattle.fl_table.proofs.PageChecks.{uncommitted-rows}
 use Rattle.fl_table.proofs.KeyRows.{page-length}
 use Rattle.fl_table.proofs.PointsKnown.{further-known}
 use Rattle.fl_table.proofs.WaitingPageComes.{knows-all, points-all}

@@ -1,17 +1,15 @@
 -- A page with rows comes behind the one that waits.
-use Rattle.std.proofs.Common.{◌≡◌, ℕ, zero, suc, ◌+◌, ◌-◌, ◌*◌, ◌%◌, ◌<◌, ◌≤◌, ◌⊎◌, inl, inr, Bool, true, false, max, Option, Some, None, List, [], ◌∷◌, ◌++◌, length, refl, sym, ◌∙◌, ap, subst, arith}
-use Rattle.std.specs.Prelude.{cond, ◌==◌, IfSome, option_map, unwrap_or, slice_set}
-use Rattle.std.proofs.lemmas.Bool.{eqb-true, cases_lt}
+use Rattle.std.proofs.Common.{◌≡◌, ℕ, suc, ◌+◌, ◌-◌, ◌*◌, ◌%◌, ◌<◌, ◌≤◌, Bool, true, false, max, Option, Some, None, List, [], ◌∷◌, ◌++◌, length, refl, sym, ◌∙◌, ap, subst, arith}
+use Rattle.std.specs.Prelude.{cond, ◌==◌, IfSome, unwrap_or, slice_set}
+use Rattle.std.proofs.lemmas.Bool.{eqb-true}
 use Rattle.fl_find.specs.Index.{IndexOf}
 use Rattle.fl_find.specs.declared.index.KeyIndex.{KeyIndex}
-use Rattle.fl_index.specs.Page.{full_view}
 use Rattle.fl_model.specs.Layout.{Full}
 use Rattle.fl_page.specs.declared.fault.BadPage.{BadPage as Refusal}
 use Rattle.fl_spline.specs.Points.{IsFurther}
-use Rattle.fl_table.specs.ByEntries.{Come, has_rows, facts_on, points_of, mount_fault, page_check}
+use Rattle.fl_table.specs.ByEntries.{Come, has_rows, facts_on, points_of, mount_fault}
 use Rattle.fl_table.specs.Knowing.{KnowsBy, KnowsAll, KnowsAside, KnowsWith, IsWithin, counted_to, is_waiting}
 use Rattle.fl_table.specs.Reading.{rises}
-use Rattle.fl_table.specs.declared.faults.MountFault.{MountFault}
 use Rattle.fl_table.specs.declared.faults.MountFault.TheVariants.{BadPage, BadKeys}
 use Rattle.fl_table.specs.declared.known.Known.{Known}
 use Rattle.fl_table.specs.declared.known.Listed.{Listed}

@@ -1,7 +1,6 @@
 -- What a mount knows of the kept data pages, and why it is refused, over any bytes. Where index entries are full it reads the
 -- kept index pages, and of the data pages those that none lists and the newest with rows; else it reads each data page.
-use Rattle.std.specs.Prelude.{ℕ, zero, suc, ◌+◌, ◌-◌, ◌/◌, max, min, Bool, true, false, not, ◌&&◌, ◌||◌, nat_lt, nat_le, ◌==◌, Option, Some, None, is_none, option_map, unwrap_or, List, [], ◌∷◌, ◌++◌, length, map, filter, if◌then◌else◌}
-use Rattle.std.specs.List.{list_all}
+use Rattle.std.specs.Prelude.{ℕ, zero, suc, ◌+◌, ◌-◌, ◌/◌, max, min, Bool, true, not, ◌&&◌, ◌||◌, nat_lt, nat_le, ◌==◌, Option, Some, None, is_none, option_map, unwrap_or, List, [], ◌∷◌, ◌++◌, length, map, if◌then◌else◌}
 use Rattle.fl_find.specs.Pages.{first_key, rows_on}
 use Rattle.fl_index.specs.Page.{page_first, page_entries, found_at, full_view}
 use Rattle.fl_index.specs.declared.page.EntryForm.{EntryForm}

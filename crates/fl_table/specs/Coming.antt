@@ -11,7 +11,7 @@ use Rattle.fl_mark.specs.Mark.{state_of_page}
 use Rattle.fl_mark.specs.declared.page_state.PageState.TheVariants.{Committed}
 use Rattle.fl_model.specs.Record.{Plan, RowLayout, layout_len}
 use Rattle.fl_model.specs.Table.{Table}
-use Rattle.fl_ring.specs.Place.{shape_of, next_of, oldest_of}
+use Rattle.fl_ring.specs.Place.{next_of, oldest_of}
 use Rattle.fl_ring.specs.Ring.{room}
 use Rattle.fl_ring.specs.declared.ring.Ring.{Ring}
 use Rattle.fl_table.specs.Bitmaps.{RemembersFound, first_to_wait}

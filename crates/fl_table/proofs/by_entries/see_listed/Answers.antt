@@ -1,17 +1,14 @@
-use Rattle.std.proofs.Common.{rules, ◌≡◌, ◌+◌, ◌-◌, ◌*◌, ◌<◌, ◌≤◌, ℕ, suc, max, min, length, IsTrue, Option, Some, None, Result, Ok, Err, arith, refl, sym, ◌∙◌, ap, subst}
-use Rattle.std.specs.Prelude.{IfOk, IfErr}
+use Rattle.std.proofs.Common.{rules, ◌≡◌, ◌+◌, ◌-◌, ◌<◌, ◌≤◌, ℕ, suc, max, min, arith, refl, sym, ◌∙◌, ap, subst}
 use Rattle.std.proofs.lemmas.Result.{err_from_is_err_and, IfOk-weaker, IfErr-weaker, on_ok_weaker}
 use Rattle.fl_index.specs.Memory.{oldest_in, next_in}
 use Rattle.fl_index.specs.Standing.{StandsBelow}
 use Rattle.fl_frame.specs.Reads.{OnlyReads}
 use Rattle.fl_frame.specs.Causes.{ReadFails}
-use Rattle.fl_ring.specs.Place.{shape_of, next_of, oldest_of}
-use Rattle.fl_ring.specs.Ring.{room}
+use Rattle.fl_ring.specs.Place.{next_of, oldest_of}
 use Rattle.fl_schema.specs.Schema.{layout_of}
-use Rattle.fl_table.specs.ByEntries.{Come, unlisted_of, mount_fault, seen_before}
-use Rattle.fl_table.specs.Causes.{IfFlash, IfPage}
+use Rattle.fl_table.specs.ByEntries.{unlisted_of}
+use Rattle.fl_table.specs.Causes.{IfFlash}
 use Rattle.fl_table.specs.Coming.{AreListedBefore, AreRemembered}
-use Rattle.fl_table.specs.declared.faults.MountFault.{MountFault}
 use Rattle.fl_table.specs.Knowing.{KnowsWith, IsWithin, ReadsBut, is_waiting}
 use Rattle.fl_frame.proofs.ReadsInTurn.{no_reads, more_reads, told_still}
 use Rattle.fl_table.proofs.MountProgress.{rows-still, unlisted-rises, fewer-reads}

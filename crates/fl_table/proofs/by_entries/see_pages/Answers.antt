@@ -1,13 +1,11 @@
-use Rattle.std.proofs.Common.{rules, ◌≡◌, ◌+◌, ◌-◌, ◌<◌, ◌≤◌, ℕ, suc, max, min, length, IsTrue, arith, sym, ◌∙◌, ap, subst, refl}
-use Rattle.std.specs.Prelude.{cond}
+use Rattle.std.proofs.Common.{◌≡◌, ◌+◌, ◌-◌, ◌<◌, ◌≤◌, ℕ, suc, max, min, arith, ◌∙◌, ap, subst, refl}
 use Rattle.std.proofs.lemmas.Result.{err_from_is_err_and}
 use Rattle.fl_frame.specs.Reads.{OnlyReads}
 use Rattle.fl_ring.specs.Place.{next_of, oldest_of}
 use Rattle.fl_schema.specs.Schema.{layout_of}
-use Rattle.fl_table.specs.ByEntries.{Come, unlisted_of}
-use Rattle.fl_table.specs.Coming.{AreRowsOf, AreLoaded, AreNext}
+use Rattle.fl_table.specs.ByEntries.{unlisted_of}
 use Rattle.fl_table.specs.Knowing.{KnowsWith, IsWithin, ReadsBut, is_waiting}
-use Rattle.fl_frame.proofs.ReadsInTurn.{no_reads, more_reads, told_still, same_page}
+use Rattle.fl_frame.proofs.ReadsInTurn.{no_reads, more_reads, told_still}
 use Rattle.fl_table.proofs.SparedReads.{spared-none, spared-more, spared-within}
 use Rattle.fl_table.proofs.MountProgress.{rows-still, more-unlisted, unlisted-rises, fewer-reads}
 use Rattle.fl_table.proofs.ListedPages.{fails-later}

@@ -1,4 +1,4 @@
-use Rattle.std.proofs.Common.{◌≡◌, ◌+◌, ◌-◌, ◌<◌, ◌≤◌, ℕ, Option, Some, None, max, min, refl, sym, ◌∙◌, ap, subst, arith}
+use Rattle.std.proofs.Common.{◌≡◌, ◌+◌, ◌-◌, ◌<◌, ◌≤◌, ℕ, Option, Some, max, min, refl, sym, ◌∙◌, ap, subst, arith}
 use Rattle.std.specs.Prelude.{option_map, IfSome, ◌&&◌, ◌^◌}
 use Rattle.std.proofs.lemmas.Result.{err_from_is_err_and}
 use Rattle.fl_index.specs.Finding.{pages_of}
@@ -11,7 +11,6 @@ use Rattle.fl_table.specs.Coming.{loaded_full}
 use Rattle.fl_table.specs.ByEntries.{end_before, has_rows, is_fit, mount_fault}
 use Rattle.fl_table.specs.declared.faults.MountFault.{MountFault}
 use Rattle.fl_table.specs.declared.faults.MountFault.TheVariants.{BadPage, BadEntry}
-use Rattle.fl_index.specs.declared.load.Loaded.TheVariants.{Listing}
 use Rattle.fl_table.proofs.Firsts.{same-first, first-loaded}
 use Rattle.fl_table.proofs.ListedPages.{below-same}
 use Rattle.fl_table.proofs.Refused.{page-page}

@@ -1,4 +1,4 @@
-use Rattle.std.proofs.Common.{◌≡◌, ◌+◌, ◌%◌, ◌<◌, ◌⊎◌, inl, inr, ℕ, suc, List, Some, None, length, max, slice_set, sym, ◌∙◌, ap, subst, refl, arith}
+use Rattle.std.proofs.Common.{◌<◌, inl, inr, ℕ, suc, List, sym, ◌∙◌, ap, subst, refl, arith}
 use Rattle.std.proofs.lemmas.Bool.{cases_lt, lt-ltb}
 use Rattle.std.proofs.lemmas.Result.{err_from_is_err_and}
 use Rattle.fl_table.specs.ByEntries.{has_rows}

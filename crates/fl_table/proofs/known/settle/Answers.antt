@@ -1,11 +1,11 @@
-use Rattle.std.proofs.Common.{rules, ◌≡◌, ◌+◌, ◌*◌, ◌%◌, ◌^◌, ◌<◌, ℕ, List, [], ◌∷◌, ◌++◌, max, Option, Some, None, length, slice_set, sym, ◌∙◌, ap, subst, refl, arith}
+use Rattle.std.proofs.Common.{rules, ◌≡◌, ◌+◌, ◌%◌, ℕ, List, [], ◌∷◌, ◌++◌, max, Some, None, length, slice_set, sym, ◌∙◌, ap, subst, arith}
 use Rattle.std.proofs.lemmas.Result.{err_from_is_err_and}
 use Rattle.fl_table.specs.Knowing.{KnowsWith}
 use Rattle.fl_find.specs.Index.{IndexOf}
 use Rattle.fl_spline.specs.Points.{IsFurther}
 use Rattle.fl_table.specs.declared.known.Known.{Known}
 use Rattle.fl_table.specs.declared.known.PageFacts.{PageFacts}
-use Rattle.fl_table.proofs.WaitingPageComes.{settle-refused, settle-blamed, settled, within-settled, none-of}
+use Rattle.fl_table.proofs.WaitingPageComes.{settle-refused, settle-blamed, settled, within-settled}
 use Rattle.fl_table.proofs.known.settle.Goals as goal
 
 pub returns-in_err-check_rise-clause-knows : goal.returns-in_err-check_rise-clause-knows

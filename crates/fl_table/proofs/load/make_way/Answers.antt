@@ -1,4 +1,4 @@
-use Rattle.std.proofs.Common.{◌≡◌, ℕ, Some, Ok, sym, ◌∙◌, ap, arith}
+use Rattle.std.proofs.Common.{sym, ◌∙◌, ap, arith}
 use Rattle.fl_ring.specs.Newest.{commits}
 use Rattle.std.proofs.lemmas.Result.{on_ok_weaker}
 use Rattle.fl_table.proofs.SparedReads.{none-waits}

@@ -1,4 +1,4 @@
-use Rattle.std.proofs.Common.{rules, ◌≡◌, ◌+◌, ◌<◌, ◌≤◌, ℕ, List, [], ◌∷◌, ◌++◌, Option, Some, unwrap_or, length, sym, ◌∙◌, ap, subst, refl, arith}
+use Rattle.std.proofs.Common.{rules, ◌≡◌, ◌<◌, ◌≤◌, ℕ, List, [], ◌∷◌, ◌++◌, Option, Some, unwrap_or, length, sym, ◌∙◌, ap, subst, refl, arith}
 use Rattle.std.proofs.lemmas.Result.{err_from_is_err_and}
 use Rattle.fl_find.specs.Index.{IndexOf}
 use Rattle.fl_flash.specs.Flash.{page_at}
@@ -15,7 +15,7 @@ use Rattle.fl_table.specs.declared.known.PageFacts.{PageFacts}
 use Rattle.fl_table.proofs.MountProgress.{fewer-reads}
 use Rattle.fl_table.proofs.Newest.{found-refused, found-blamed, found-all}
 use Rattle.fl_table.proofs.Refused.{page-no_flash, page-page}
-use Rattle.fl_table.proofs.ReadsKeepTable.{read-once}
+use Rattle.fl_table.proofs.ReadsKeepTable.{read-once, read-fails}
 use Rattle.fl_table.proofs.Unlisted.{read-some}
 use Rattle.fl_table.proofs.Untouched.{no-success}
 use Rattle.fl_table.proofs.load.read_newest.Goals as goal
@@ -38,6 +38,11 @@ returns-in-Some-first-clause-reads g c = subst (λ (o : Option Listed). OnlyRead
 
 pub returns-in_default-first-clause-reads : goal.returns-in_default-first-clause-reads
 returns-in_default-first-clause-reads g c = subst (λ (o : Option Listed). OnlyReads (g.F.Flash.state c.args.flash.now) (is_waiting o) (g.F.Flash.state c.read.new.self)) (sym c.in-Some.is) (read-once _ _ _ _ _ _ c.read.ensures)
+
+pub returns-in_err-read-clause-fails : goal.returns-in_err-read-clause-fails
+returns-in_err-read-clause-fails g c =
+    let p = err_from_is_err_and c.from_residual.result c.from_residual.ensures.1 in
+    rw (p.1, p.2) (read-fails (g.F.Flash.state c.args.flash.now) (g.F.Flash.state c.read.new.self) c.place_of.result (length c.args.buf.now.bytes) c.in_err-read.field-0.0 c.read.new.into c.in_err-read.ensures)
 
 pub returns-in_err-page-clause-fails : goal.returns-in_err-page-clause-fails
 returns-in_err-page-clause-fails g c =

@@ -1,4 +1,4 @@
-use Rattle.std.proofs.Common.{rules, arith, ◌≡◌, ℕ, List, Option, Some, None, length, true, ap, subst, ◌∙◌, sym}
+use Rattle.std.proofs.Common.{rules, arith, ◌≡◌, ℕ, List, Some, length, true, ap, subst, ◌∙◌, sym}
 use Rattle.std.proofs.lemmas.Result.{err_from_is_err_and, IfErr-weaker, IfOk-weaker}
 use Rattle.fl_find.specs.Pages.{rows_on, first_key}
 use Rattle.fl_schema.specs.Schema.{layout_of}

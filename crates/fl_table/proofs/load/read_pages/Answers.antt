@@ -1,13 +1,11 @@
-use Rattle.std.proofs.Common.{rules, None, ◌≡◌, ◌%◌, length, length-set, ◌+◌, ◌-◌, ◌<◌, ◌≤◌, ℕ, suc, IsTrue, arith, sym, ◌∙◌, ap, subst, refl}
+use Rattle.std.proofs.Common.{rules, ◌≡◌, ◌+◌, ◌-◌, ◌<◌, ◌≤◌, ℕ, suc, arith, sym, ◌∙◌, ap, subst, refl}
 use Rattle.std.proofs.lemmas.Result.{err_from_is_err_and}
 use Rattle.fl_base.specs.declared.types.Geometry.{Geometry}
 use Rattle.fl_flash.specs.Flash.{page_at}
 use Rattle.fl_frame.specs.Reads.{OnlyReads}
 use Rattle.fl_ring.specs.Place.{next_of, oldest_of}
 use Rattle.fl_schema.specs.Schema.{layout_of}
-use Rattle.fl_table.specs.Coming.{AreRowsOf}
-use Rattle.fl_table.specs.ByEntries.{Come}
-use Rattle.fl_table.specs.Knowing.{KnowsWith, IsWithin, IsUnlisted}
+use Rattle.fl_table.specs.Knowing.{KnowsWith, IsWithin}
 use Rattle.fl_table.specs.Reading.{pages_of, GatherUpTo, bitmap_on, full_on, AreGathered}
 use Rattle.fl_table.proofs.PageChecks.{left-tail}
 use Rattle.fl_table.proofs.FullEntries.{full-read}

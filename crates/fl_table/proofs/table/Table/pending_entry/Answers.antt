@@ -1,4 +1,4 @@
-use Rattle.std.proofs.Common.{◌≡◌, ◌<◌, ◌*◌, List, ◌∷◌, length, map, sym, ◌∙◌, ap, arith, mul-le-mul_right}
+use Rattle.std.proofs.Common.{◌∷◌, length, map, sym, ◌∙◌, ap, arith, mul-le-mul_right}
 use Rattle.fl_model.specs.Record.{layout_len}
 use Rattle.fl_model.specs.Row.{Row, stored_row}
 use Rattle.fl_model.specs.Table.{pending_entries}

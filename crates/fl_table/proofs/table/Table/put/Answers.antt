@@ -1,4 +1,4 @@
-use Rattle.std.proofs.Common.{refl, ◌≡◌, ℕ, Bor, List, Option, Some, None, Result, Ok, Err, length, option_map, not, ◌&&◌, ◌||◌, IsTrue, arith, sym, ◌∙◌, ap, subst}
+use Rattle.std.proofs.Common.{refl, ◌≡◌, ◌+◌, ℕ, Bor, List, Option, Some, None, Result, Ok, Err, length, option_map, not, ◌&&◌, ◌||◌, IsTrue, arith, sym, ◌∙◌, ap, subst}
 use Rattle.std.proofs.lemmas.Result.{err_from_is_err_and}
 use Rattle.fl_model.specs.Table.{after_seals, make_room_seals}
 use Rattle.fl_table.specs.Refusal.{put_refusal, RefusesAs}

@@ -1,7 +1,12 @@
 use Rattle.std.proofs.Common.{rules, refl, Bool, ℕ, ◌<◌, Option, option_map, unwrap_or, List, subst, ◌≡◌, ◌≤◌, true, false, None, Some, Ok, Err, sym, ◌∙◌, ap, arith, length, Result}
 use Rattle.fl_flash.specs.Flash.{page_at, FlashState, OffChangesNothing}
 use Rattle.fl_flash.specs.declared.flash.FlashFault.{FlashFault}
+use Rattle.fl_mark.specs.Mark.{state_of_page}
+use Rattle.fl_mark.specs.declared.page_state.PageState.{PageState}
+use Rattle.fl_mark.specs.declared.page_state.PageState.TheVariants.{Committed}
+use Rattle.fl_model.specs.Record.{RowLayout}
 use Rattle.fl_model.specs.Ring as rings
+use Rattle.fl_page.specs.declared.fault.BadPage as code
 use Rattle.fl_page.specs.declared.fault.ReadFault.TheVariants.{BadPage}
 use Rattle.fl_page.specs.Page.{IsGoodPage, bad_page}
 use Rattle.fl_frame.proofs.ContentsInTurn.{OnlyReads-read}
@@ -22,6 +27,12 @@ use Rattle.fl_table.proofs.table.Table.read_page.Goals as goal
 pub read-requires-clause-exists : goal.read-requires-clause-exists
 read-requires-clause-exists g c =
     lies_exists c.in-Some.ring (g.F.Flash.state c.args.flash.now) c.place_of.result (c.requires.lies.ring c.in-Some.ring c.in-Some.is) c.place_of.ensures.within
+
+-- a committed page whose rows don't fit
+bad-found : (layout : RowLayout) (number : ℕ) (told rows page : List ℕ) (state : PageState) (bad : code.BadPage) → told ≡ page → rows ≡ page → state ≡ state_of_page told → state ≡ Committed → bad ≡ bad_page number rows → (IsGoodPage layout number rows → ⊥) →
+    IsFound layout number page (Err (BadPage bad))
+bad-found layout number told rows page state bad same kept is committed blamed unfit =
+    (ap state_of_page (sym same) ∙ (sym is ∙ committed), subst (λ (p : List ℕ). IsGoodPage layout number p → ⊥) kept unfit, blamed ∙ ap (λ (p : List ℕ). bad_page number p) kept)
 
 pub returns-in_default-state_of-clause-stands : goal.returns-in_default-state_of-clause-stands
 returns-in_default-state_of-clause-stands g c = λ first plan table count told stands e.
@@ -50,9 +61,12 @@ returns-in-Err-of-clause-stands g c = λ first plan table count told stands e.
     let low : rings.oldest table.rows ≤ c.args.number = omega (arith, c.requires.kept, oldest-is t f first plan table stands) in
     let at : place_of t c.args.number ≡ c.place_of.result = ring-place t c.in-Some.ring c.args.number c.in-Some.is ∙ sym c.place_of.ensures.place in
     let bytes : c.read.new.into.bytes ≡ page_at f (place_of t c.args.number) = c.in_default-read.ensures.bytes told ∙ ap (page_at f) (sym at) in
-    let found : IsFound (layout_in t) c.args.number c.read.new.into.bytes (Err (BadPage c.in-Err-of.bad)) =
-    (search rules, subst (λ (page : List ℕ). IsGoodPage (layout_in c.args.self.now) c.args.number page → ⊥) c.bytes-2.ensures c.in-Err-of.ensures.1, c.in-Err-of.ensures.0 ∙ ap (λ (page : List ℕ). bad_page c.args.number page) c.bytes-2.ensures) in
+    let found = bad-found (layout_in t) c.args.number c.bytes.result.now c.bytes-2.result.now c.read.new.into.bytes c.state_of.result c.in-Err-of.bad c.bytes.ensures c.bytes-2.ensures c.state_of.ensures c.in-Committed.is c.in-Err-of.ensures.0 c.in-Err-of.ensures.1 in
     shows-rows t f first plan table stands c.requires.lies (g.met.F.Flash.reaches c.args.flash.now) c.args.number count low e c.read.new.into.bytes bytes (Err (BadPage c.in-Err-of.bad)) found
+
+pub returns-in-Err-of-clause-found : goal.returns-in-Err-of-clause-found
+returns-in-Err-of-clause-found g c =
+    bad-found (layout_in c.args.self.now) c.args.number c.bytes.result.now c.bytes-2.result.now c.read.new.into.bytes c.state_of.result c.in-Err-of.bad c.bytes.ensures c.bytes-2.ensures c.state_of.ensures c.in-Committed.is c.in-Err-of.ensures.0 c.in-Err-of.ensures.1
 
 pub returns-in-Err-clause-counts : goal.returns-in-Err-clause-counts
 returns-in-Err-clause-counts g c = OnlyReads-read _ _ _ _ _ _ c.read.ensures

@@ -1,4 +1,4 @@
-use Rattle.std.proofs.Common.{◌≡◌, ◌+◌, ◌-◌, ◌≤◌, ℕ, [], Ok, Err, arith, refl, sym, ◌∙◌, ap, subst, IsTrue, Result}
+use Rattle.std.proofs.Common.{◌≡◌, ◌+◌, ◌≤◌, ℕ, [], Ok, Err, arith, refl, sym, ◌∙◌, ap, subst, IsTrue, Result}
 use Rattle.std.proofs.lemmas.Result.{err_from_is_err_and}
 use Rattle.fl_flash.specs.Flash.{page_at, FlashState}
 use Rattle.fl_frame.proofs.CallsInTurn.{goes-then}

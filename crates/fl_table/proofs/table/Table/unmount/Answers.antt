@@ -1,6 +1,5 @@
 use Rattle.std.proofs.Common.{Option, sym, subst, ◌∙◌, arith, ap}
 use Rattle.fl_base.specs.declared.types.RingPlace.{RingPlace}
-use Rattle.fl_flash.specs.Flash.{FlashState}
 use Rattle.fl_index.specs.declared.index.BitmapIndex.{BitmapIndex}
 use Rattle.fl_var.specs.declared.var_data.VarData.{VarData}
 use Rattle.fl_table.specs.Bitmaps.{LieOn}
