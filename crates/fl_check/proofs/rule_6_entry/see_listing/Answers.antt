@@ -1,6 +1,7 @@
-use Rattle.std.proofs.Common.{ℕ, ◌+◌, length, refl, sym, ◌∙◌, ap, arith}
+use Rattle.std.proofs.Common.{◌≡◌, ℕ, ◌+◌, ◌-◌, ◌≤◌, List, length, refl, sym, ◌∙◌, ap, arith}
 use Rattle.std.proofs.lemmas.Bool.{true≢false}
-use Rattle.fl_flash.specs.Flash.{page_at}
+use Rattle.fl_flash.specs.Flash.{FlashState, page_at}
+use Rattle.fl_frame.specs.Reads.{OnlyReads}
 use Rattle.fl_index.specs.Page.{page_first}
 use Rattle.fl_ring.specs.Looking.{state_at}
 use Rattle.fl_ring.specs.Newest.{commits}
@@ -8,7 +9,8 @@ use Rattle.fl_ring.specs.Place.{shape_of}
 use Rattle.fl_ring.proofs.Exists.{lies_exists}
 use Rattle.fl_ring.proofs.Founds.{same_pages}
 use Rattle.fl_frame.proofs.ReadsInTurn.{more_reads, told_still}
-use Rattle.fl_check.specs.Entries.{over, entries_in}
+use Rattle.fl_check.specs.Entries.{over, entries_in, kept_below}
+use Rattle.fl_check.specs.declared.numbering.Numbering.{Numbering}
 use Rattle.fl_check.proofs.ListedPages.{one_more, descends, misentered, listing_more, entries_move}
 use Rattle.fl_check.proofs.FewerReads.{few_reads}
 use Rattle.std.proofs.lemmas.Result.{err_from_is_err_and}
@@ -33,11 +35,20 @@ returns-then-first-seen-clause-none g c =
     (ap (λ (p : ℕ). commits (state_at f p)) (sym c.page_back-page.ensures.page) ∙ ap commits (sym (c.in_ok-state.ensures.state told)) ∙ sym c.is_committed.ensures ∙ c.if-not-is_committed.false)
     c.requires.kept (omega (arith, first, c.if-first-seen.true))
 
+-- the reads of the page and of those that it lists, where it begins behind what was listed
+listing-reads : (f mid after : FlashState) (rows : Numbering) (held : List ℕ) (first number many end : ℕ) → OnlyReads f 1 mid → OnlyReads mid (kept_below rows (page_first held + many) - kept_below rows (page_first held)) after →
+    first ≡ number → number ≡ page_first held → end ≤ first → OnlyReads f (1 + (rows.marks.kept - kept_below rows end)) after
+listing-reads f mid after rows held first number many end one listed is number_is le = few_reads f after (1 + _) _ (more_reads f mid after 1 _ one listed) (omega (arith, is, number_is, le))
+
 pub returns-then-not-has-clause-reads : goal.returns-then-not-has-clause-reads
 returns-then-not-has-clause-reads g c =
-    let f = g.F.Flash.state c.args.flash.now in
-    few_reads f (g.F.Flash.state c.has_entries.new.flash) (1 + _) _ (more_reads f (g.F.Flash.state c.look.new.flash) (g.F.Flash.state c.has_entries.new.flash) 1 _ c.look.ensures.reads c.has_entries.ensures.reads)
-    (omega (arith, c.from-first.ensures, c.first_in.ensures, c.if-first-seen.false))
+    listing-reads (g.F.Flash.state c.args.flash.now) (g.F.Flash.state c.look.new.flash) (g.F.Flash.state c.has_entries.new.flash) c.args.l.rows c.bytes-held.result.now c.from-first.result c.first_in.result c.entries_in-many.result c.args.seen.end
+    c.look.ensures.reads c.has_entries.ensures.reads c.from-first.ensures c.first_in.ensures c.if-first-seen.false
+
+pub returns-in_err-has-clause-reads : goal.returns-in_err-has-clause-reads
+returns-in_err-has-clause-reads g c =
+    listing-reads (g.F.Flash.state c.args.flash.now) (g.F.Flash.state c.look.new.flash) (g.F.Flash.state c.has_entries.new.flash) c.args.l.rows c.bytes-held.result.now c.from-first.result c.first_in.result c.entries_in-many.result c.args.seen.end
+    c.look.ensures.reads c.has_entries.ensures.reads c.from-first.ensures c.first_in.ensures c.if-first-seen.false
 
 pub returns-then-not-has-clause-none : goal.returns-then-not-has-clause-none
 returns-then-not-has-clause-none g c =
@@ -56,9 +67,8 @@ returns-then-not-has-clause-none g c =
 
 pub returns-clause-reads : goal.returns-clause-reads
 returns-clause-reads g c =
-    let f = g.F.Flash.state c.args.flash.now in
-    few_reads f (g.F.Flash.state c.has_entries.new.flash) (1 + _) _ (more_reads f (g.F.Flash.state c.look.new.flash) (g.F.Flash.state c.has_entries.new.flash) 1 _ c.look.ensures.reads c.has_entries.ensures.reads)
-    (omega (arith, c.from-first.ensures, c.first_in.ensures, c.if-first-seen.false))
+    listing-reads (g.F.Flash.state c.args.flash.now) (g.F.Flash.state c.look.new.flash) (g.F.Flash.state c.has_entries.new.flash) c.args.l.rows c.bytes-held.result.now c.from-first.result c.first_in.result c.entries_in-many.result c.args.seen.end
+    c.look.ensures.reads c.has_entries.ensures.reads c.from-first.ensures c.first_in.ensures c.if-first-seen.false
 
 pub returns-clause-few_reads : goal.returns-clause-few_reads
 returns-clause-few_reads g c =
