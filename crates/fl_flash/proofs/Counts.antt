@@ -24,8 +24,8 @@ counted-then a b c first second = record {
   programs = λ below. let later = second.programs below in omega (arith, later, first.programs (omega (arith, below, later)));
   erases = λ below. let later = second.erases below in omega (arith, later, first.erases (omega (arith, below, later)));
   medium = λ below few.
-    let before = first.medium (omega (arith, below, second.reads below)) (omega (arith, few, second.programs few)) in
-    omega (arith, before, second.medium below few);
+      let before = first.medium (omega (arith, below, second.reads below)) (omega (arith, few, second.programs few)) in
+      omega (arith, before, second.medium below few);
 }
 
 -- a program

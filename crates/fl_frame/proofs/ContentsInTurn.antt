@@ -79,7 +79,7 @@ reads-counted old new is =
     let programs : new.work.programs ≡ old.work.programs = ap (λ (w : Work). w.programs) is.work in
     let erases : new.work.erases ≡ old.work.erases = ap (λ (w : Work). w.erases) is.work in
     let rises : new.work.reads < 2 ^ 64 - 1 → counted is.reads old.work.reads ≡ old.work.reads + is.reads =
-      λ below. counted-exact is.reads old.work.reads (omega (arith, count, below)) in
+    λ below. counted-exact is.reads old.work.reads (omega (arith, count, below)) in
     record {
       reads = λ below. omega (arith, count, rises below);
       programs = λ below. omega (arith, programs);
