@@ -115,3 +115,21 @@ returns-clause-tally g c =
     let tally_is : IsTrue first.media.tells → c.in_ok-tally.tally ≡ tally_in config (page_at first) rows =
     λ told. tally_known config first numbered index rows c.in_ok-tally.tally c.requires.fits to_data c.in_ok-tally.ensures.tally (rows_sound told) told in
     tally_is
+
+pub returns-in_err-end-clause-looks : goal.returns-in_err-end-clause-looks
+returns-in_err-end-clause-looks g c = looks_more _ _ _ c.check_index.ensures.looks c.find_index_end.ensures.looks
+
+pub returns-in_err-rows-clause-looks : goal.returns-in_err-rows-clause-looks
+returns-in_err-rows-clause-looks g c = looks_more _ _ _ (looks_more _ _ _ c.check_index.ensures.looks c.find_index_end.ensures.looks) c.check_data.ensures.looks
+
+pub returns-in_err-tally-clause-looks : goal.returns-in_err-tally-clause-looks
+returns-in_err-tally-clause-looks g c = looks_more _ _ _ (looks_more _ _ _ (looks_more _ _ _ c.check_index.ensures.looks c.find_index_end.ensures.looks) c.check_data.ensures.looks) c.tally_rows.ensures.looks
+
+pub returns-in_err-var-clause-looks : goal.returns-in_err-var-clause-looks
+returns-in_err-var-clause-looks g c = looks_more _ _ _ (looks_more _ _ _ (looks_more _ _ _ (looks_more _ _ _ c.check_index.ensures.looks c.find_index_end.ensures.looks) c.check_data.ensures.looks) c.tally_rows.ensures.looks) c.check_var.ensures.looks
+
+pub returns-in_err-log-clause-looks : goal.returns-in_err-log-clause-looks
+returns-in_err-log-clause-looks g c = looks_more _ _ _ (looks_more _ _ _ (looks_more _ _ _ (looks_more _ _ _ (looks_more _ _ _ c.check_index.ensures.looks c.find_index_end.ensures.looks) c.check_data.ensures.looks) c.tally_rows.ensures.looks) c.check_var.ensures.looks) c.check_log.ensures.looks
+
+pub returns-clause-looks : goal.returns-clause-looks
+returns-clause-looks g c = looks_more _ _ _ (looks_more _ _ _ (looks_more _ _ _ (looks_more _ _ _ (looks_more _ _ _ c.check_index.ensures.looks c.find_index_end.ensures.looks) c.check_data.ensures.looks) c.tally_rows.ensures.looks) c.check_var.ensures.looks) c.check_log.ensures.looks

@@ -104,3 +104,27 @@ returns-clause-rules g c = λ told.
           (if_in_order (λ (x : Option Numbering). HaveContent config (page_at f0) config.var x) var.faults.state var.numbering (no_content config (page_at f0) config.var) content))));
     } in
     rw c.rules_of.ensures (are_rules config place (page_at f0) faults a tally tally_is)
+
+pub returns-in_err-end-clause-looks : goal.returns-in_err-end-clause-looks
+returns-in_err-end-clause-looks g c = looks_more _ _ _ c.rule_index.ensures.looks c.find_index_end.ensures.looks
+
+pub returns-in_err-rows-clause-looks : goal.returns-in_err-rows-clause-looks
+returns-in_err-rows-clause-looks g c = looks_more _ _ _ (looks_more _ _ _ c.rule_index.ensures.looks c.find_index_end.ensures.looks) c.rule_rows.ensures.looks
+
+pub returns-in_err-tally-clause-looks : goal.returns-in_err-tally-clause-looks
+returns-in_err-tally-clause-looks g c = looks_more _ _ _ (looks_more _ _ _ (looks_more _ _ _ c.rule_index.ensures.looks c.find_index_end.ensures.looks) c.rule_rows.ensures.looks) c.tally_told.ensures.looks
+
+pub returns-in_err-var-clause-looks : goal.returns-in_err-var-clause-looks
+returns-in_err-var-clause-looks g c = looks_more _ _ _ (looks_more _ _ _ (looks_more _ _ _ (looks_more _ _ _ c.rule_index.ensures.looks c.find_index_end.ensures.looks) c.rule_rows.ensures.looks) c.tally_told.ensures.looks) c.rule_var.ensures.looks
+
+pub returns-in_err-log-clause-looks : goal.returns-in_err-log-clause-looks
+returns-in_err-log-clause-looks g c = looks_more _ _ _ (looks_more _ _ _ (looks_more _ _ _ (looks_more _ _ _ (looks_more _ _ _ c.rule_index.ensures.looks c.find_index_end.ensures.looks) c.rule_rows.ensures.looks) c.tally_told.ensures.looks) c.rule_var.ensures.looks) c.rule_log.ensures.looks
+
+pub returns-in_err-entry-clause-looks : goal.returns-in_err-entry-clause-looks
+returns-in_err-entry-clause-looks g c = looks_more _ _ _ (looks_more _ _ _ (looks_more _ _ _ (looks_more _ _ _ (looks_more _ _ _ (looks_more _ _ _ c.rule_index.ensures.looks c.find_index_end.ensures.looks) c.rule_rows.ensures.looks) c.tally_told.ensures.looks) c.rule_var.ensures.looks) c.rule_log.ensures.looks) c.rule_entries.ensures.looks
+
+pub returns-in_err-blob-clause-looks : goal.returns-in_err-blob-clause-looks
+returns-in_err-blob-clause-looks g c = looks_more _ _ _ (looks_more _ _ _ (looks_more _ _ _ (looks_more _ _ _ (looks_more _ _ _ (looks_more _ _ _ (looks_more _ _ _ c.rule_index.ensures.looks c.find_index_end.ensures.looks) c.rule_rows.ensures.looks) c.tally_told.ensures.looks) c.rule_var.ensures.looks) c.rule_log.ensures.looks) c.rule_entries.ensures.looks) c.rule_blobs.ensures.looks
+
+pub returns-clause-looks : goal.returns-clause-looks
+returns-clause-looks g c = looks_more _ _ _ (looks_more _ _ _ (looks_more _ _ _ (looks_more _ _ _ (looks_more _ _ _ (looks_more _ _ _ (looks_more _ _ _ c.rule_index.ensures.looks c.find_index_end.ensures.looks) c.rule_rows.ensures.looks) c.tally_told.ensures.looks) c.rule_var.ensures.looks) c.rule_log.ensures.looks) c.rule_entries.ensures.looks) c.rule_blobs.ensures.looks
