@@ -1,4 +1,4 @@
-use Rattle.std.proofs.Common.{◌≡◌, refl, sym, ap, take, ℕ, Some, [], inl, inr}
+use Rattle.std.proofs.Common.{refl, sym, ap, take, ℕ, Some, [], inl, inr}
 use Rattle.fl_session.specs.declared.status.Status.TheVariants.{NoMemory}
 use Rattle.fl_c.proofs.flashts_run.Goals as goal
 

@@ -1,4 +1,4 @@
-use Rattle.std.proofs.Common.{◌≡◌, refl, sym, Some, ℕ, List, String, Global, map, string_bytes, ap, ◌∙◌, arith}
+use Rattle.std.proofs.Common.{refl, sym, Some, List, String, Global, map, string_bytes, ap, ◌∙◌, arith}
 use Rattle.fl_session.specs.Words.{image_named}
 use Rattle.fl_base.specs.Memory.{SinkState}
 use Rattle.fl_flash.specs.MemState.{MemState, media_state}
