@@ -1,6 +1,5 @@
 -- The words of the command line that name a job.
 use Rattle.std.specs.Prelude.{ℕ, ◌&&◌, Option, Some, None, Result, Ok, Err, List, [], ◌∷◌, codes, if◌then◌else◌}
-use Rattle.fl_base.specs.declared.types.KeyRange.{KeyRange}
 use Rattle.fl_csv.specs.declared.record.GoneBlobs.TheVariants.{Refused, LeftOut}
 use Rattle.fl_map.specs.declared.drawing.Drawing.TheVariants.{Text, Svg}
 use Rattle.fl_model.specs.Record.{bytes_equal}

@@ -1,5 +1,5 @@
 -- The replies to a question for a blob, over any bytes.
-use Rattle.std.proofs.Common.{◌≡◌, ℕ, zero, suc, inl, inr, Option, Result, Ok, Err, List, [], ◌∷◌, ◌++◌, length, codes, refl, sym, ap, subst, append_assoc}
+use Rattle.std.proofs.Common.{ℕ, zero, suc, inl, inr, Option, Result, Err, List, [], ◌∷◌, ◌++◌, length, codes, refl, sym, ap, subst, append_assoc}
 use Rattle.fl_base.specs.Causes.{Appends, AppendsFront}
 use Rattle.fl_flash.specs.Flash.{FlashState}
 use Rattle.fl_page.specs.Causes.{IsCaused}

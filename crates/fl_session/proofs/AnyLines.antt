@@ -1,5 +1,5 @@
 -- Lines that are listed over any bytes.
-use Rattle.std.proofs.Common.{◌≡◌, ℕ, ◌+◌, ◌-◌, ◌^◌, ◌<◌, ◌≤◌, Bool, inl, inr, Option, Some, Result, Ok, Err, IfErr, List, [], ◌∷◌, ◌++◌, length, refl, sym, ◌∙◌, ap, subst, arith, length-append}
+use Rattle.std.proofs.Common.{◌≡◌, ℕ, ◌+◌, ◌-◌, ◌^◌, ◌<◌, Bool, inl, inr, Option, Some, Result, Ok, Err, IfErr, List, [], ◌∷◌, ◌++◌, length, refl, sym, ◌∙◌, ap, subst, arith, length-append}
 use Rattle.std.specs.Borrow.{Bor}
 use Rattle.std.specs.Prelude.{IfSome}
 use Rattle.std.specs.List.{AllByRecursion, slice_get}
@@ -27,7 +27,6 @@ use Rattle.fl_store.specs.declared.tables.Entry.{Entry}
 use Rattle.fl_rlc.specs.Table.{table_in}
 use Rattle.fl_session.specs.Caused.{IsOpen, NextMoves, OnlyLooks, state_of}
 use Rattle.fl_session.specs.ListSays.{EndsBy, EndsCounted, EndsNext, EndsOnBoth, GivesLines, IsLineOf, IsPair, ListSays, SaysEnd, WroteInto, WroteLines}
-use Rattle.fl_session.specs.Lines.{MadeFrom}
 use Rattle.fl_session.specs.Listed.{IfUnread, SaysFault}
 use Rattle.fl_session.specs.Notes.{with_cursor}
 use Rattle.fl_session.specs.RowsGiven.{MovesOver}
@@ -126,9 +125,9 @@ pub made-line : (IsLine : Reply → Type 0) (o : Option code.Reply) (made : code
 made-line IsLine o made is h = subst (λ (x : Option code.Reply). IfSome x (λ reply. IsLineOf IsLine reply)) is h
 
 -- lines that were made, of which something holds in whichever state they leave
-pub lists-made : {Lines E : Type 0} (made : Lines → Lines → List Reply → Type 0) (first : Lines) (AreLines : List Reply → Type 0) (Ends : ℕ → Reply → Type 0) (told now : Option (List ℕ)) (result : Result (Unit {0}) E) → ((last : Lines) (lines : List Reply) → made first last lines → AreLines lines) →
-    ListSays (MadeFrom made first) Ends told now result → ListSays AreLines Ends told now result
-lists-made made first AreLines Ends told now result are h = record { lines = h.lines; are_lines = are h.are_lines.0 h.lines h.are_lines.1; last = h.last; ends = h.ends; written = h.written }
+pub lists-made : {Lines E : Type 0} {Made : Lines → List Reply → Type 0} (AreLines : List Reply → Type 0) (Ends : ℕ → Reply → Type 0) (told now : Option (List ℕ)) (result : Result (Unit {0}) E) →
+    ListSays (λ lines. (last : Lines) × Made last lines) Ends told now result → ((last : Lines) (lines : List Reply) → Made last lines → AreLines lines) → ListSays AreLines Ends told now result
+lists-made AreLines Ends told now result h are = record { lines = h.lines; are_lines = are h.are_lines.0 h.lines h.are_lines.1; last = h.last; ends = h.ends; written = h.written }
 
 -- lines of the table, by whichever name
 pub lists-of : (AreLines : Table 64 64 → List Reply → Type 0) (Ends : Table 64 64 → FlashState → FlashState → ℕ → Reply → Type 0) (t u : Table 64 64) (f g : FlashState) (told told_now : Option (List ℕ)) (result : Result (Unit {0}) SinkFailed) → t ≡ u →

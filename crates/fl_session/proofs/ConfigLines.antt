@@ -164,6 +164,7 @@ at-end knots text now number old new left left_now f f_now room h n =
     let nothing : g.0 ≡ [] = subst (λ r. TakesAhead old (old.ahead ++ h.left_is) r g.0) n.next g.3 in
     let parts : text ≡ h.reading.begin ++ [] = h.reading.parts ∙ ap (λ r. h.reading.begin ++ r) k in
     let all_taken : drop (length text) text ≡ [] = drop_all (length text) text (omega arith) in
+    let short = ltb-false most_bytes (length text) all.1 in
     record {
       nothing = g.1 ∙ ap Some nothing;
       takes = record {
@@ -174,11 +175,11 @@ at-end knots text now number old new left left_now f f_now room h n =
         few = record {
           taken = length text;
           within = omega arith;
-          few = omega (arith, ap length parts, length-append h.reading.begin [], h.reading.size);
+          few = omega (arith, ap length parts, length-append h.reading.begin [], h.reading.size, short);
           left = g.1 ∙ ap Some (nothing ∙ sym all_taken);
         };
       };
-      short = ltb-false most_bytes (length text) all.1;
+      short = short;
       starts = ap (start_of knots) all.0 ∙ (configures-end knots h.before now h.configures ∙ ap (λ m. Unended (whole knots now) m) (sym h.numbered));
     }
 

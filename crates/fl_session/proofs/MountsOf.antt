@@ -6,7 +6,7 @@ use Rattle.fl_flash.specs.declared.flash.FlashFault.TheVariants.{Media}
 use Rattle.fl_frame.specs.Device.{SameDevice}
 use Rattle.fl_frame.specs.Watched.{IsWatched}
 use Rattle.std.proofs.lemmas.Bool.{false≢true}
-use Rattle.std.specs.Prelude.{◌-◌, ◌*◌, ◌<◌, sum_by, MatchBool, is_ok, OnOk}
+use Rattle.std.specs.Prelude.{◌*◌, ◌<◌, sum_by, MatchBool, is_ok, OnOk}
 use Rattle.fl_model.specs.Record.{Config, Plan, blocks_of}
 use Rattle.fl_model.specs.Table as model
 use Rattle.fl_model.specs.Table.{lose}

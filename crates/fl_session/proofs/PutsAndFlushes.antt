@@ -1,5 +1,5 @@
 -- The puts and flushes of a session.
-use Rattle.std.proofs.Common.{◌≡◌, ℕ, ◌-◌, Bool, true, false, not, IsTrue, IfErr, Option, Some, None, Result, Ok, Err, List, [], ◌∷◌, map, set, slice_get, refl, sym, ◌∙◌, ap, subst}
+use Rattle.std.proofs.Common.{◌≡◌, ℕ, Bool, true, false, not, IsTrue, IfErr, Option, Some, None, Result, Ok, Err, List, [], ◌∷◌, map, set, slice_get, refl, sym, ◌∙◌, ap, subst}
 use Rattle.std.specs.Prelude.{option_map}
 use Rattle.std.proofs.lemmas.Bool.{false≢true}
 use Rattle.std.proofs.lemmas.List.{length-map}

@@ -10,7 +10,7 @@ use Rattle.fl_base.specs.declared.types.Geometry.{Geometry}
 use Rattle.fl_flash.specs.Flash.{FlashState, Goes}
 use Rattle.fl_flash.specs.declared.armed.Armed.{Armed}
 use Rattle.fl_rlc.specs.Refusal.{RefusedSame}
-use Rattle.fl_frame.proofs.CallsInTurn.{stays-set}
+use Rattle.fl_frame.proofs.CallsInTurn.{goes-on, goes-then, stays-set}
 use Rattle.fl_rlc.specs.Table.{LiesOn, is_running}
 use Rattle.fl_rlc.specs.declared.table.LoggedTable.{LoggedTable}
 use Rattle.fl_table.specs.Causes.{flush_breaks, put_breaks}
@@ -70,6 +70,10 @@ stays-on false breaks f g all is stays on n = stays (sym is) on
 when-mounted : (P : Type 0) (outcome : Result (Unit {0}) BadMount) (now : Bool) → now ≡ is_ok outcome → OnOk outcome P → now ≡ true → P
 when-mounted P (Ok done) now is h mounts = h
 when-mounted P (Err bad) now is h mounts = absurd (false≢true (sym is ∙ mounts))
+
+-- what a mount leaves of the flash, whose power it switches on first
+pub goes-mounted : (f on g : FlashState) → on ≡ record f { is_on = true } → Goes on g → Goes f g
+goes-mounted f on g up goes = goes-then f on g (subst (λ (x : FlashState). Goes f x) (sym up) (goes-on f)) goes
 
 pub sound-mounted : (entries entries' : List Entry) (f on g : FlashState) (buf buf' : Buffers) (mounted now : Bool) (notes notes' : Notes) (outcome : Result (Unit {0}) BadMount) → on ≡ record f { is_on = true } → Goes on g → LieOn entries' g → now ≡ is_ok outcome →
     OnOk outcome (AreRunning entries') → OnOk outcome (on.is_on ≡ true → g.is_on ≡ true) → length buf'.rows.bytes ≡ length buf.rows.bytes → length buf'.index.bytes ≡ length buf.index.bytes →

@@ -171,7 +171,7 @@ many-other count e = cc
 
 loaded-other : (f g : FlashState) (count : ℕ) (outcome : Result (Unit {0}) PutRefusal) → IsUnarmed f → IfErr outcome (LoadFails f g) → AllByRecursion IsNoLoss (load_replies count outcome)
 loaded-other f g count (Ok done) unarmed fails = (many-other count, tt)
-loaded-other f g count (Err refusal) unarmed fails = (many-other count, put-other (LoadFails f g) (Err refusal) (never-lost f g unarmed) fails, tt)
+loaded-other f g count (Err refusal) unarmed fails = (many-other count, (put-other (LoadFails f g) (Err refusal) (never-lost f g unarmed) fails, tt))
 
 -- ---- any command
 

@@ -1,11 +1,11 @@
 -- The oldest record whose blob isn't gone.
-use Rattle.std.specs.Prelude.{◌≡◌, ℕ, ◌+◌, ◌≤◌, Bool, true, false, ◌||◌, nat_le, ◌==◌, Option, Some, None, option_map, unwrap_or, IsSomeAnd, Result, Ok, Err, List, if◌then◌else◌}
+use Rattle.std.specs.Prelude.{◌≡◌, ℕ, ◌+◌, ◌≤◌, Bool, true, false, ◌||◌, nat_le, ◌==◌, Option, Some, None, option_map, unwrap_or, IsSomeAnd, Result, Ok, Err, List}
 use Rattle.std.specs.List.{find}
 use Rattle.fl_base.specs.Causes.{Rose}
 use Rattle.fl_base.specs.declared.types.BlobRef.{BlobRef}
 use Rattle.fl_flash.specs.Flash.{FlashState}
 use Rattle.fl_machine.specs.Machine.{Machine}
-use Rattle.fl_machine.specs.Step.{Located, located}
+use Rattle.fl_machine.specs.Step.{located}
 use Rattle.fl_model.specs.Limits.{scan_limit}
 use Rattle.fl_model.specs.Query.{BlobState, Without, Lost, Stands, blob_of}
 use Rattle.fl_model.specs.Record.{Config}

@@ -21,7 +21,7 @@ use Rattle.fl_shell.specs.Talking.{EndsBy, TellsFlushed}
 use Rattle.fl_shell.specs.declared.begin.Begun.{Begun}
 use Rattle.fl_shell.specs.declared.end.Flushed.{Flushed}
 use Rattle.fl_shell.specs.declared.end.ShellStatus.{ShellStatus}
-use Rattle.fl_shell.specs.declared.end.ShellStatus.TheVariants.{Done, InputRead, OutWrite, InputLong, MediaMake, Unconfigured, NoMemory, NotImage, Unflushed}
+use Rattle.fl_shell.specs.declared.end.ShellStatus.TheVariants.{Done, InputRead, OutWrite, InputLong, MediaMake, Unconfigured, NotImage, Unflushed}
 use Rattle.fl_shell.proofs.EarlyEnds.{BeginsOn}
 use Rattle.fl_shell.proofs.TalkEnds.{ends-behind, ends-map}
 

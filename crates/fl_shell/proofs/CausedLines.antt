@@ -1,5 +1,5 @@
 -- Lines are answered one after another, each of which has its cause.
-use Rattle.std.proofs.Common.{◌≡◌, ℕ, ◌+◌, ◌^◌, ◌<◌, Bool, true, false, inl, inr, Option, Some, None, Result, Ok, Err, List, [], ◌∷◌, ◌++◌, length, refl, sym, ◌∙◌, ap, subst, append_assoc, append-nil, length-append, arith}
+use Rattle.std.proofs.Common.{◌≡◌, ℕ, ◌^◌, ◌<◌, Bool, true, false, inl, inr, Option, Some, None, Result, Ok, Err, List, [], ◌∷◌, ◌++◌, length, refl, sym, ◌∙◌, ap, subst, append_assoc, append-nil, length-append, arith}
 use Rattle.fl_base.specs.declared.stream.SinkFailed.{SinkFailed}
 use Rattle.fl_lines.specs.Stream.{LinesState}
 use Rattle.fl_lines.specs.declared.lines.LinesFault.{LinesFault}
@@ -7,11 +7,11 @@ use Rattle.fl_lines.specs.declared.lines.LinesFault.TheVariants.{Failed, Long}
 use Rattle.fl_machine.specs.Script.{runs}
 use Rattle.fl_session.specs.Caused.{State}
 use Rattle.fl_words.specs.Grammar.{lines_of}
-use Rattle.fl_shell.specs.Caused.{CausedBy, CausedIf, CausedInto, CausedLine, CausedLines, CausedOwn, CausedRun}
+use Rattle.fl_shell.specs.Caused.{CausedBy, CausedIf, CausedLine, CausedLines, CausedOwn, CausedRun}
 use Rattle.fl_shell.specs.Own.{Own, own_of}
 use Rattle.fl_shell.specs.Reading.{AsksNext, IsGivenAs, IsLeft, rest_in}
 use Rattle.fl_shell.specs.Statuses.{reading_status}
-use Rattle.fl_shell.specs.Talking.{EndsBy, OfFront, with_hand}
+use Rattle.fl_shell.specs.Talking.{EndsBy, with_hand}
 use Rattle.fl_shell.specs.declared.end.ShellStatus.TheVariants.{Done, OutWrite}
 use Rattle.fl_shell.proofs.LongLines.{long-own, long-runs}
 

@@ -1,5 +1,5 @@
 -- What is written of the first key, by what was said of the groups.
-use Rattle.std.proofs.Common.{◌≡◌, ℕ, true, false, eqb, Bool, Option, Some, None, List, codes, refl, sym, ◌∙◌, ap}
+use Rattle.std.proofs.Common.{◌≡◌, ℕ, true, false, eqb, Bool, Option, Some, None, List, codes, sym, ◌∙◌, ap}
 use Rattle.std.specs.Prelude.{if◌then◌else◌, option_map, slice_get, unwrap_or}
 use Rattle.std.specs.List.{starts_with}
 use Rattle.fl_words.specs.Grammar.{words_in}

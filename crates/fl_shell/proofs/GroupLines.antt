@@ -1,5 +1,5 @@
 -- All rows of a table make two groups at most by a width one below the bound of a key, and their lines are short.
-use Rattle.std.proofs.Common.{◌≡◌, ℕ, zero, suc, ◌+◌, ◌-◌, ◌*◌, ◌/◌, ◌^◌, ◌<◌, ◌≤◌, inl, inr, Bool, true, false, cond, not, eqb, ℤ, pos, ◌+ℤ◌, List, [], ◌∷◌, ◌++◌, length, filter, map, take, codes, refl, sym, ◌∙◌, ap, subst, length-append, append_assoc, lit≤, arith}
+use Rattle.std.proofs.Common.{◌≡◌, ℕ, zero, suc, ◌+◌, ◌*◌, ◌/◌, ◌^◌, ◌<◌, ◌≤◌, inl, inr, Bool, true, false, cond, not, eqb, ℤ, pos, ◌+ℤ◌, List, [], ◌∷◌, ◌++◌, length, filter, map, take, codes, refl, sym, ◌∙◌, ap, subst, length-append, append_assoc, lit≤, arith}
 use Rattle.std.specs.Prelude.{◌==◌, filter_map, fold, decimal}
 use Rattle.std.specs.Fmt.{signed_decimal}
 use Rattle.std.specs.Int.{int_min, int_max, int_div_euclid}

@@ -3,7 +3,7 @@ use Rattle.std.proofs.Common.{◌≡◌, ℕ, false, Some, Ok, List, refl}
 use Rattle.fl_words.specs.Command as command
 use Rattle.fl_words.specs.Command.{Command}
 use Rattle.fl_words.specs.Grammar.{command_of}
-use Rattle.fl_machine.specs.Script.{runs, runs_command}
+use Rattle.fl_machine.specs.Script.{runs_command}
 use Rattle.fl_reason.specs.Reason.{configures}
 use Rattle.fl_session.specs.Next.{IsToRun}
 use Rattle.fl_session.proofs.Bounded.{command-within}

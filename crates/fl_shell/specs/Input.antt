@@ -1,5 +1,5 @@
 -- What a status tells of the input, whatever the medium is.
-use Rattle.std.specs.Prelude.{◌≡◌, ℕ, ◌^◌, ◌<◌, Option, Some, Result, Ok, Err, List, [], length}
+use Rattle.std.specs.Prelude.{◌≡◌, ℕ, ◌^◌, ◌<◌, Option, Some, Result, Ok, Err, List, []}
 use Rattle.fl_lines.specs.Stream.{LinesState}
 use Rattle.fl_shell.specs.Leading.{LeavesOn}
 use Rattle.fl_shell.specs.declared.begin.Begun.{Begun}

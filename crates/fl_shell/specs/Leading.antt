@@ -1,5 +1,5 @@
 -- The leading lines of a shell are taken one after another, and how they end.
-use Rattle.std.specs.Prelude.{◌≡◌, ℕ, ◌^◌, ◌<◌, IsTrue, Option, Some, Result, Ok, Err, List, [], ◌∷◌, ◌++◌, length}
+use Rattle.std.specs.Prelude.{◌≡◌, ℕ, ◌^◌, ◌<◌, IsTrue, Option, Some, Result, Ok, Err, List, [], ◌∷◌, ◌++◌}
 use Rattle.fl_base.specs.Causes.{Appends, IsFront}
 use Rattle.fl_config.specs.Whole.{is_whole}
 use Rattle.fl_image.specs.Header.{IsAccepted}

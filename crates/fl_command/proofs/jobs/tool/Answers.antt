@@ -2,7 +2,6 @@ use Rattle.std.proofs.Common.{sym, subst, refl, ap}
 use Rattle.fl_import.specs.Taken.{end_of}
 use Rattle.fl_command.specs.declared.words.ToolJob.{ToolJob}
 use Rattle.fl_command.specs.Ends.{Exports, Imports, ToolEnds, ends_of}
-use Rattle.fl_command.specs.declared.exit.Exit.{Exit}
 use Rattle.fl_command.specs.declared.exit.Exit.TheVariants.{Job}
 use Rattle.fl_command.proofs.jobs.tool.Goals as goal
 

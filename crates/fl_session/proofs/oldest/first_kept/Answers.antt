@@ -1,11 +1,11 @@
-use Rattle.std.proofs.Common.{◌≡◌, ◌+◌, ◌-◌, ◌^◌, ◌<◌, ◌≤◌, true, false, Some, None, Ok, Err, List, [], length, refl, sym, ◌∙◌, ap, subst, arith}
+use Rattle.std.proofs.Common.{◌≡◌, ◌+◌, ◌≤◌, true, false, Some, Ok, refl, sym, ◌∙◌, ap, subst, arith}
 use Rattle.std.proofs.lemmas.Result.{err_from_is_err_and}
 use Rattle.fl_model.specs.Row.{Row}
 use Rattle.fl_frame.specs.Contents.{Contents, contents_of}
 use Rattle.fl_page.specs.Steps.{Steps}
 use Rattle.fl_page.proofs.ReadsInTurn.{IsCaused-later}
 use Rattle.fl_frame.proofs.ContentsInTurn.{OnlyReads-same, OnlyReads-then}
-use Rattle.fl_session.specs.Oldest.{first_kept, is_kept, FindsAmong}
+use Rattle.fl_session.specs.Oldest.{first_kept, is_kept}
 use Rattle.fl_session.proofs.AnyLines.{bad-by}
 use Rattle.fl_session.proofs.OldestBlobs.{among-taken, among-passed, among-ended, among-unread, fewer-left}
 use Rattle.fl_session.proofs.oldest.first_kept.Goals as goal

@@ -24,4 +24,4 @@ returns-clause-counted g c = λ told few on.
     c.answer_lines.ensures.counted told many on
 
 pub returns-clause-says : goal.returns-clause-says
-returns-clause-says g c = lists-made _ c.args.groups.now (AllByRecursion IsGroup) _ _ _ _ (λ last lines h. h) c.answer_lines.ensures.says
+returns-clause-says g c = lists-made (AllByRecursion IsGroup) _ _ _ _ c.answer_lines.ensures.says (λ last lines h. h)

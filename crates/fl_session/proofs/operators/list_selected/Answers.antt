@@ -29,5 +29,5 @@ returns-clause-counted g c = λ told few on.
 
 pub returns-clause-says : goal.returns-clause-says
 returns-clause-says g c =
-    lists-made _ c.args.lines.now (AreRising IsRow (above_of (asked_of (input_of c.args.lines.now.rows)))) _ _ _ _
-    (λ last lines h. are-rising IsRow (above_of (asked_of (input_of c.args.lines.now.rows))) (above_of (asked_of (input_of last.rows))) lines h) c.answer_lines.ensures.says
+    lists-made (AreRising IsRow (above_of (asked_of (input_of c.args.lines.now.rows)))) _ _ _ _ c.answer_lines.ensures.says
+    (λ last lines h. are-rising IsRow (above_of (asked_of (input_of c.args.lines.now.rows))) _ lines h)

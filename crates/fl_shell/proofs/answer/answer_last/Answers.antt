@@ -1,4 +1,4 @@
-use Rattle.std.proofs.Common.{Option, Some, None, Ok, Err, ℕ}
+use Rattle.std.proofs.Common.{Some, None, Ok, Err}
 use Rattle.fl_shell.proofs.answer.answer_last.Goals as goal
 
 pub returns-in-Ok-Some-clause-told : goal.returns-in-Ok-Some-clause-told

@@ -1,4 +1,4 @@
-use Rattle.std.proofs.Common.{◌≡◌, Some, None, ◌∙◌, sym}
+use Rattle.std.proofs.Common.{Some, None, ◌∙◌, sym}
 use Rattle.fl_plan.specs.Plan.{plan_of_table}
 use Rattle.fl_shell.proofs.DescribedImage.{blobs-none, blobs-told, blobs-unread}
 use Rattle.fl_shell.proofs.LookedState.{looks-same, oldest-looks}

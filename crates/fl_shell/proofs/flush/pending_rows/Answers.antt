@@ -1,4 +1,4 @@
-use Rattle.std.proofs.Common.{◌≡◌, ◌+◌, ◌<◌, ◌≤◌, ℕ, List, length, take, sym, ◌∙◌, subst, take_all, arith}
+use Rattle.std.proofs.Common.{◌≡◌, ◌+◌, ◌<◌, ◌≤◌, ℕ, List, length, take, sym, ◌∙◌, subst, arith}
 use Rattle.fl_shell.specs.Caused.{PendingAre, PendingIs}
 use Rattle.fl_shell.specs.Talk.{pending_in}
 use Rattle.fl_shell.proofs.CausedFlushes.{all-named, names, names-more, pending-more}

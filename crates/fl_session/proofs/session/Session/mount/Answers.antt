@@ -1,13 +1,13 @@
-use Rattle.std.proofs.Common.{◌≡◌, ◌∙◌, true, IsTrue, refl, sym, ap, subst, arith, inl, inr}
-use Rattle.fl_flash.specs.Flash.{FlashState, Goes}
-use Rattle.fl_frame.proofs.CallsInTurn.{goes-on, goes-same, goes-then}
+use Rattle.std.proofs.Common.{◌≡◌, ◌∙◌, IsTrue, refl, sym, ap, subst, arith, inl, inr}
+use Rattle.fl_flash.specs.Flash.{FlashState}
+use Rattle.fl_frame.proofs.CallsInTurn.{goes-on, goes-same}
 use Rattle.fl_store.specs.Tables.{LieOn}
 use Rattle.fl_store.proofs.TablesLie.{lie-on}
 use Rattle.fl_session.proofs.Calls.{mount-call, already-call}
 use Rattle.fl_session.proofs.MountReads.{limit-call}
 use Rattle.fl_session.proofs.Over.{no-cursor}
 use Rattle.fl_session.proofs.ReplyCauses.{mounts-on}
-use Rattle.fl_session.proofs.Sound.{sound-mounted}
+use Rattle.fl_session.proofs.Sound.{goes-mounted, sound-mounted}
 use Rattle.fl_session.specs.Answer.{mount_reply}
 use Rattle.fl_words.specs.Reply as reply
 use Rattle.fl_session.proofs.session.Session.mount.Goals as goal
@@ -20,7 +20,7 @@ pub returns-then-self-clause-goes : goal.returns-then-self-clause-goes
 returns-then-self-clause-goes g c = goes-same _
 
 pub returns-clause-goes : goal.returns-clause-goes
-returns-clause-goes g c = goes-then _ _ _ (subst (λ (x : FlashState). Goes _ x) (sym c.power_on.ensures) (goes-on _)) c.mount-outcome.ensures.goes
+returns-clause-goes g c = goes-mounted _ _ _ c.power_on.ensures c.mount-outcome.ensures.goes
 
 pub returns-then-self-clause-step : goal.returns-then-self-clause-step
 returns-then-self-clause-step g c = λ config old h. already-call config old _ _ _ _ h c.if-self.true
@@ -62,7 +62,7 @@ returns-clause-cause g c =
             (record { found = e.found; refused = e.refused; stops = e.stops; cause = e.cause; running = e.running; none = e.none; power = e.power; as_many = e.as_many; names = e.names; same = e.same; repairs = e.repairs; outside = e.outside });
         mounted = c.is_ok-self.ensures.value;
         notes = refl;
-        goes = goes-then _ _ _ (subst (λ (x : FlashState). Goes _ x) (sym c.power_on.ensures) (goes-on _)) e.goes;
+        goes = goes-mounted _ _ _ c.power_on.ensures e.goes;
       });
     }
 

@@ -38,6 +38,9 @@ returns-clause-sound g c =
     (λ x e. let is : c.in-Some.open.table ≡ x.table = ap (λ (o : Option TableCursor). unwrap_or (option_map (λ y. y.table) o) 0) e in subst (λ n. n < length c.args.self.now.tables.entries.items) is (c.requires.sound.cursors c.args.cursor c.in-Some.open c.in-Some.ensures)))
     c.if-not-self.false c.requires.sound)
 
+pub returns-clause-goes : goal.returns-clause-goes
+returns-clause-goes g c = goes-reads _ _ c.next_rows-written.ensures.counts
+
 pub returns-clause-step : goal.returns-clause-step
 returns-clause-step g c = λ config old h.
     let before : c.work-before.result.reads ≡ c.args.self.now.flash.work.reads = ap (λ (w : Work). w.reads) c.work-before.ensures in
