@@ -26,11 +26,14 @@ use Rattle.fl_rlc.proofs.MountLimits.{limit-alone, limit-behind}
 use Rattle.fl_rlc.proofs.MountFound.{finds-alone, finds-behind, refuses-behind, outside-both, few-both, log-here}
 use Rattle.fl_rlc.proofs.MountLeaves.{bare-leaves, mount-leaves}
 use Rattle.fl_rlc.proofs.Planned.{none-some, one-log}
-use Rattle.fl_rlc.proofs.PutFrames.{log-lies, log-moved, blobs-same}
+use Rattle.fl_rlc.proofs.PutFrames.{log-self, log-lies, log-moved, blobs-same}
 use Rattle.fl_rlc.proofs.Written.{repairs-alone, repairs-both}
 use Rattle.fl_rlc.proofs.table.LoggedTable.mount.Goals as goal
 
 -- ---- the table's mount fails
+
+pub returns-in_err-mounted-clause-same : goal.returns-in_err-mounted-clause-same
+returns-in_err-mounted-clause-same g c = record { table = c.in_err-mounted.ensures.same; log = log-self c.args.self.now.log }
 
 pub returns-in_err-mounted-clause-lies : goal.returns-in_err-mounted-clause-lies
 returns-in_err-mounted-clause-lies g c = record {
@@ -71,6 +74,15 @@ pub returns-in_err-mounted-clause-repairs : goal.returns-in_err-mounted-clause-r
 returns-in_err-mounted-clause-repairs g c = repairs-alone c.args.self.now (g.F.Flash.state c.args.flash.now) (g.F.Flash.state c.mount.new.flash) c.in_err-mounted.ensures.repairs
 
 -- ---- it has no log
+
+pub returns-in_default-clause-same : goal.returns-in_default-clause-same
+returns-in_default-clause-same g c = record { table = c.in_ok-mounted.ensures.same; log = log-self c.args.self.now.log }
+
+pub returns-in_default-clause-lies : goal.returns-in_default-clause-lies
+returns-in_default-clause-lies g c = record {
+  table = c.in_ok-mounted.ensures.lies;
+  log = log-lies c.args.self.now.log (g.F.Flash.state c.args.flash.now) (g.F.Flash.state c.mount.new.flash) c.in_ok-mounted.ensures.goes c.requires.lies.log;
+}
 
 pub returns-in_default-clause-ends : goal.returns-in_default-clause-ends
 returns-in_default-clause-ends g c = λ first plan table rose device watched planned rests.
