@@ -29,6 +29,13 @@ draw_ring_if-requires-3-clause-lies g c =
     let f3 = g.F.Flash.state c.draw_ring_if-2.new.flash in
     log-there log f3 (log_still log f0 f3 (looks_more _ _ _ (looks_more _ _ _ c.draw_ring.ensures.looks c.draw_ring_if.ensures.looks) c.draw_ring_if-2.ensures.looks) c.requires.log)
 
+pub returns-in_err-draw_ring_if-2-clause-looks : goal.returns-in_err-draw_ring_if-2-clause-looks
+returns-in_err-draw_ring_if-2-clause-looks g c = looks_more _ _ _ (looks_more _ _ _ c.draw_ring.ensures.looks c.draw_ring_if.ensures.looks) c.draw_ring_if-2.ensures.looks
+
+pub returns-in_err-draw_ring_if-3-clause-looks : goal.returns-in_err-draw_ring_if-3-clause-looks
+returns-in_err-draw_ring_if-3-clause-looks g c =
+    looks_more _ _ _ (looks_more _ _ _ (looks_more _ _ _ c.draw_ring.ensures.looks c.draw_ring_if.ensures.looks) c.draw_ring_if-2.ensures.looks) c.draw_ring_if-3.ensures.looks
+
 pub returns-clause-looks : goal.returns-clause-looks
 returns-clause-looks g c = looks_more _ _ _ (looks_more _ _ _ (looks_more _ _ _ c.draw_ring.ensures.looks c.draw_ring_if.ensures.looks) c.draw_ring_if-2.ensures.looks) c.draw_ring_if-3.ensures.looks
 
