@@ -1,5 +1,4 @@
-use Rattle.std.proofs.Common.{◌≡◌, ◌*◌, ◌+◌, ℕ, ap, ◌∙◌, arith}
-use Rattle.fl_base.specs.declared.types.Geometry.{Geometry}
+use Rattle.std.proofs.Common.{◌≡◌, ◌*◌, ap, arith}
 use Rattle.fl_flash.specs.Flash.{FlashState}
 use Rattle.fl_storage_tests.proofs.var_data.told.Goals as goal
 
