@@ -35,28 +35,16 @@ pub(crate) fn run_source(
     Ok(run_words(alloc, &words(alloc)?, media, source, sink))
 }
 
-/// How a script ends over a medium, and whether this is written to a sink.
-pub(crate) fn run_to(
-    alloc: Global,
-    media: &mut MemMedia,
-    script: Vec<u8>,
-    sink: MemSink,
-    wanted: &[u8],
-) -> Result<(Status, bool), Fail> {
-    let source = MemSource::new(script, Vec::new(alloc));
-    let (status, _, sink) = run_source(alloc, media, source, sink)?;
-    Ok((status, sink.bytes() == wanted))
-}
-
-/// .. to a sink that has room for it.
+/// Runs a script over a medium, and gives the status and what was written.
 pub(crate) fn run_script(
     alloc: Global,
     media: &mut MemMedia,
     script: Vec<u8>,
-    wanted: &[u8],
-) -> Result<(Status, bool), Fail> {
+) -> Result<(Status, MemSink), Fail> {
+    let source = MemSource::new(script, Vec::new(alloc));
     let sink = MemSink::new(alloc, 10_000, Vec::new(alloc))?;
-    run_to(alloc, media, script, sink, wanted)
+    let (status, _, sink) = run_source(alloc, media, source, sink)?;
+    Ok((status, sink))
 }
 
 /// Whether a script is run to its end, and this is written.
@@ -66,6 +54,6 @@ pub(crate) fn is_done(
     script: Vec<u8>,
     wanted: &[u8],
 ) -> Result<bool, Fail> {
-    let (status, is_written) = run_script(alloc, media, script, wanted)?;
-    Ok(matches!(status, Status::Done { .. }) && is_written)
+    let (status, sink) = run_script(alloc, media, script)?;
+    Ok(matches!(status, Status::Done { .. }) && sink.bytes() == wanted)
 }

@@ -147,7 +147,8 @@ fn ended(alloc: Global, script: &str, replies: &str) -> Result<(Status, bool), F
         None => text(alloc, &[script])?,
     };
     let mut media = empty_medium(alloc, PLAIN)?;
-    run_script(alloc, &mut media, bytes, replies.as_bytes())
+    let (status, sink) = run_script(alloc, &mut media, bytes)?;
+    Ok((status, sink.bytes() == replies.as_bytes()))
 }
 
 /// No row is pending.
@@ -210,7 +211,7 @@ fn pending_rows(rt: HostRuntime) -> Result<(), Fail> {
     let mut media = MemMedia::new(alloc, Vec::new(alloc), 4096)?;
     for (commands, first, second) in cases {
         let script = text(alloc, &[tables, commands])?;
-        let (status, _) = run_script(alloc, &mut media, script, b"")?;
+        let (status, _) = run_script(alloc, &mut media, script)?;
         assert!(rt; status == done_with(first, second), "{commands}");
     }
     Ok(())
@@ -223,7 +224,7 @@ fn another_configuration(rt: HostRuntime) -> Result<(), Fail> {
     let mut media = empty_medium(alloc, PLAIN)?;
     assert!(rt; is_answered(alloc, PLAIN, &mut media, &[("mount", "ok")], &[])?);
     let other = "device 128 4\ntable u 8 i32 3 0 0 0 0 1 1 0\nmount\n";
-    let (status, _) = run_script(alloc, &mut media, text(alloc, &[other])?, b"")?;
+    let (status, _) = run_script(alloc, &mut media, text(alloc, &[other])?)?;
     let wanted = Status::OtherConfig {
         wanted: 117,
         found: 116,
@@ -240,7 +241,7 @@ fn failing_medium(rt: HostRuntime) -> Result<(), Fail> {
     let mut media = empty_medium(alloc, PLAIN)?;
     media.fail_call(1);
     let script = text(alloc, &[CONFIG, "mount\n"])?;
-    let (status, _) = run_script(alloc, &mut media, script, b"")?;
+    let (status, _) = run_script(alloc, &mut media, script)?;
     assert!(rt; status == Status::MediaMake);
     Ok(())
 }
@@ -301,7 +302,7 @@ fn long_scripts(rt: HostRuntime) -> Result<(), Fail> {
     let mut media = empty_medium(alloc, PLAIN)?;
     assert!(rt; is_done(alloc, &mut media, script.clone()?, b"ok\n")?);
     script.push(b'#')?;
-    let (status, _) = run_script(alloc, &mut media, script, b"")?;
+    let (status, _) = run_script(alloc, &mut media, script)?;
     assert!(rt; status == Status::ScriptLong);
     Ok(())
 }

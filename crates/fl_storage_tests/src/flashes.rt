@@ -15,7 +15,7 @@ pub(crate) fn medium(alloc: Global, byte: u8) -> Result<MemMedia, NoMemory>
     ensures { IfOk result (λ m. length m.content ≡ 400) }
 {
     let bytes = vec![in alloc; byte; 400]?;
-    MemMedia::new(alloc, bytes, 400)
+    Ok(MemMedia::new(alloc, bytes, 400)?)
 }
 
 // Whether a program is done, the next one, which is cut in this way, and a read after it find the power lost, and a read with power

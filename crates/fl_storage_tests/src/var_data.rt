@@ -186,12 +186,14 @@ fn tells<F: Flash>(alloc: Global, var: &mut VarData, flash: &mut F, blob: &[u8])
 }
 
 fn told(alloc: Global) -> Result<bool, NoMemory> {
-    let blob = counted();
+    let bytes = counted();
+    let Some(blob) = bytes.get(0..100) else {
+        return Ok(false);
+    };
     let mut media = blank_medium(alloc, 384)?;
     let mut flash = SimFlash::new(alloc, &mut media, GEOMETRY, 3, 0)?;
     let mut var = VarData::plan(alloc, GEOMETRY, PLACE)?;
-    let told = mount(alloc, &mut var, &mut flash)
-        && tells(alloc, &mut var, &mut flash, &blob[..100]);
+    let told = mount(alloc, &mut var, &mut flash) && tells(alloc, &mut var, &mut flash, blob);
     let _media = flash.into_media();
     Ok(told)
 }

@@ -1,6 +1,5 @@
 // Where loads stop.
 use super::*;
-use crate::script_runs::run_to;
 
 /// Nine rows: the first page is written before the last one is put.
 const NINE: Talk = &[("mount", "ok"), ("load t 9 1 1", "loaded 9")];
@@ -45,10 +44,10 @@ fn spent_numbers(rt: HostRuntime) -> Result<(), Fail> {
 fn lost_line(rt: HostRuntime) -> Result<(), Fail> {
     let alloc = rt.alloc();
     let commands = "mount\nput t 18446744073709551615 0\nload t 3 1 0\n";
-    let script = text(alloc, &[CONFIG, commands])?;
+    let source = MemSource::new(text(alloc, &[CONFIG, commands])?, Vec::new(alloc));
     let sink = failing_sink(alloc, 4)?;
     let mut media = empty_medium(alloc, PLAIN)?;
-    let end = run_to(alloc, &mut media, script, sink, b"ok\nok\nloaded 0\n")?;
-    assert!(rt; end == (Status::OutWrite, true));
+    let (status, _, sink) = run_source(alloc, &mut media, source, sink)?;
+    assert!(rt; status == Status::OutWrite && sink.bytes() == "ok\nok\nloaded 0\n".as_bytes());
     Ok(())
 }

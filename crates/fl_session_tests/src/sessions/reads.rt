@@ -16,6 +16,7 @@ fn read_faults(rt: HostRuntime) -> Result<(), Fail> {
     ];
     let (is_put, calls) = is_answered_anew(alloc, PLAIN, NEVER, good, &[])?;
     assert!(rt; is_put);
+    assert!(rt; 1 <= calls);
     let first: Talk = &[
         ("scan t 3 9", "row 3 0\nend 1"),
         ("scan t 5 4", "end 0"),

@@ -11,5 +11,5 @@ mount-mounted-requires-clause-lies c =
 pub mount-mounted-requires-clause-room : goal.mount-mounted-requires-clause-room
 mount-mounted-requires-clause-room c = c.in_ok-store.ensures.room ∙ sym (ap (λ (f : FlashState). f.geometry.page) c.in_ok-flash.ensures)
 
-pub put-lost-requires-clause-lies : goal.put-lost-requires-clause-lies
-put-lost-requires-clause-lies c = rw c.power_off.ensures (lies-on _ _ _ (stays-set _ false _) c.mount-mounted.ensures.lies)
+pub put-lost-requires : goal.put-lost-requires
+put-lost-requires c = rw c.power_off.ensures (record { lies = lies-on _ _ _ (stays-set _ false _) c.mount-mounted.ensures.lies })

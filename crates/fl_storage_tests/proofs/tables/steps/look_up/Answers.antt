@@ -1,0 +1,12 @@
+use Rattle.fl_frame.proofs.CallsInTurn.{stays, stays-then}
+use Rattle.fl_frame.proofs.ContentsInTurn.{OnlyReads-goes}
+use Rattle.fl_storage_tests.proofs.tables.steps.look_up.Goals as goal
+
+pub returns-in_err-place-clause-goes : goal.returns-in_err-place-clause-goes
+returns-in_err-place-clause-goes g c = stays _ _ (OnlyReads-goes _ _ c.find.ensures.counts)
+
+pub returns-in_err-page-clause-goes : goal.returns-in_err-page-clause-goes
+returns-in_err-page-clause-goes g c = stays-then _ _ _ (OnlyReads-goes _ _ c.find.ensures.counts) (OnlyReads-goes _ _ c.page_of.ensures.counts)
+
+pub returns-clause-goes : goal.returns-clause-goes
+returns-clause-goes g c = stays-then _ _ _ (OnlyReads-goes _ _ c.find.ensures.counts) (OnlyReads-goes _ _ c.page_of.ensures.counts)
