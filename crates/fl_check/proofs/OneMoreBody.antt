@@ -1,5 +1,5 @@
 -- The bodies of the kept pages, from the oldest on: each has the form, or one is the first that hasn't.
-use Rattle.std.proofs.Common.{◌≡◌, ℕ, ◌+◌, ◌-◌, ◌<◌, false, true, List, sym, ◌∙◌, subst, arith}
+use Rattle.std.proofs.Common.{◌≡◌, ℕ, ◌+◌, ◌-◌, ◌<◌, ◌≤◌, false, true, List, sym, ◌∙◌, subst, arith}
 use Rattle.std.proofs.lemmas.Bool.{false≢true}
 use borrow.Author.Count.{below_more}
 use Rattle.fl_mark.specs.Mark.{state_of_page}
@@ -18,8 +18,8 @@ module _ (Form : ℕ → List ℕ → Type 0) (page : ℕ → List ℕ) (r : Sha
   one_formed before here = below_more (HasBody Form page r n) i before here
 
   -- its number would be below 0
-  pub not_due : n.next < n.marks.kept - i → HasBody Form page r n i
-  not_due low = λ number is committed. absurd (omega (arith, low, is))
+  pub not_due : (n.marks.kept - i ≤ n.next → ⊥) → HasBody Form page r n i
+  not_due none = λ number is committed. absurd (none (omega (arith, is)))
 
   pub not_committed : commits (state_of_page (page (kept_page r n.marks i))) ≡ false → HasBody Form page r n i
   not_committed stands = λ number is committed. absurd (false≢true (sym stands ∙ committed))

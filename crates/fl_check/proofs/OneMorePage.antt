@@ -4,7 +4,7 @@ use Rattle.fl_flash.specs.Flash.{FlashState, page_at}
 use Rattle.fl_flash.specs.declared.flash.FlashFault.{FlashFault}
 use Rattle.fl_frame.specs.Causes.{ReadFails}
 use Rattle.fl_frame.specs.Reads.{OnlyReads}
-use Rattle.fl_frame.proofs.ReadsInTurn.{looks_by, more_reads, same_page, told_still}
+use Rattle.fl_frame.proofs.ReadsInTurn.{looks_by, more_reads, no_reads, same_page, told_still}
 use Rattle.fl_mark.specs.declared.page_state.PageState.{PageState}
 use Rattle.fl_ring.specs.Looking.{state_at}
 use Rattle.fl_ring.proofs.ReadsInTurn.{same_state}
@@ -29,9 +29,15 @@ module _ (a b c : FlashState) (i n : ℕ) (before : OnlyReads a i b) where
     pub state_read : (s : PageState) → (IsTrue b.media.tells → s ≡ state_at b p) → s ≡ state_at a q
     state_read s is = is (told_still a b i before told) ∙ same_state a b i p before ∙ ap (state_at a) same
 
+pub none_read : (f : FlashState) (n : ℕ) → OnlyReads f n f
+none_read f n = few_reads f f 0 n (no_reads f) (omega arith)
+
 -- bounds that say nothing
 pub one_of : (n : ℕ) → 1 ≤ 1 + n
 one_of n = omega arith
+
+pub more_of : (n m : ℕ) → n ≤ n + m
+more_of n m = omega arith
 
 pub at_most : (n : ℕ) → n ≤ n
 at_most n = omega arith
@@ -48,9 +54,6 @@ some_back lt = omega (arith, lt)
 
 pub few_back : (i : ℕ) {kept room : ℕ} → kept < room → kept - i ≤ room
 few_back i lt = omega (arith, lt)
-
-pub within_kept : {i kept : ℕ} → i < kept → i ≤ kept
-within_kept lt = omega (arith, lt)
 
 -- the loop ended
 pub all_below : {i kept : ℕ} → i ≤ kept → kept ≤ i → i ≡ kept

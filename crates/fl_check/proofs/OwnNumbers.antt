@@ -29,3 +29,6 @@ module _ (page : ℕ → List ℕ) (r : Shape) (m : Marks) (next i : ℕ) where
 -- a page has its own number where the one that was read of it and the way back make the next one
 pub its_own : {own number wide back wide_back next : ℕ} → number ≡ own → wide ≡ number → wide_back ≡ back → wide + wide_back ≡ next → own + back ≡ next
 its_own number_is wide_is back_is next_is = omega (arith, number_is, wide_is, back_is, next_is)
+
+pub own_told : {own number wide back wide_back next : ℕ} → number ≡ own → wide ≡ number → wide_back ≡ back → own + back ≡ next → wide + wide_back ≡ next
+own_told number_is wide_is back_is next_is = omega (arith, number_is, wide_is, back_is, next_is)

@@ -7,10 +7,12 @@ use Rattle.fl_check.specs.Bodies.{HaveBodies, BodiesBreak}
 use Rattle.fl_check.specs.DataPage.{IsDataPage}
 use Rattle.fl_check.specs.Rest.{IsRestBlank, RestBreaks}
 use Rattle.fl_check.specs.RingRules.{WithinPages, IsAscending}
-use Rattle.fl_check.proofs.Halts.{broken_so}
+use Rattle.fl_check.proofs.Halts.{broken_so, flash_so}
 use Rattle.fl_frame.proofs.ReadsInTurn.{looks_by, looks_more}
-use Rattle.fl_check.proofs.LooksChangeNothing.{same_pages, seen, told_still}
+use Rattle.fl_check.proofs.LooksChangeNothing.{same_pages, seen, told_still, fails_later}
 use Rattle.fl_check.proofs.RingRules.{keys_break, rest_break}
+use Rattle.fl_ring.specs.Ring.{room}
+use Rattle.fl_ring.proofs.Exists.{lies_still}
 use Rattle.fl_check.proofs.ring.check_log.Goals as goal
 
 pub returns-in_err-n-clause-broken : goal.returns-in_err-n-clause-broken
@@ -68,3 +70,74 @@ returns-clause-sound g c = λ told.
       keys = seen f mid (λ (page : ℕ → List ℕ). HaveBodies (λ number bytes. IsAscending layout number bytes) page r n) looks c.in_ok-check_forms.ensures.bodies told;
       rest = seen f late (λ (page : ℕ → List ℕ). IsRestBlank page r n.marks) later c.in_ok-check_rest.ensures.blank told;
     }
+
+pub check_formed-requires-clause-lies : goal.check_formed-requires-clause-lies
+check_formed-requires-clause-lies g c = c.requires.lies
+
+pub check_formed-requires-clause-room : goal.check_formed-requires-clause-room
+check_formed-requires-clause-room g c = c.requires.room
+
+pub returns-in_err-n-clause-looks : goal.returns-in_err-n-clause-looks
+returns-in_err-n-clause-looks g c = c.check_formed.ensures.looks
+
+pub returns-in_err-n-clause-room : goal.returns-in_err-n-clause-room
+returns-in_err-n-clause-room g c = c.check_formed.ensures.room
+
+pub returns-in_err-n-clause-sound : goal.returns-in_err-n-clause-sound
+returns-in_err-n-clause-sound g c =
+    let p = err_from_is_err_and c.from_residual.result c.from_residual.ensures.1 in
+    rw p.1 tt
+
+pub returns-in_err-n-clause-fails : goal.returns-in_err-n-clause-fails
+returns-in_err-n-clause-fails g c =
+    let p = err_from_is_err_and c.from_residual.result c.from_residual.ensures.1 in
+    rw (p.1, p.2) c.in_err-n.ensures.fails
+
+pub returns-in_err-check_forms-clause-looks : goal.returns-in_err-check_forms-clause-looks
+returns-in_err-check_forms-clause-looks g c = looks_more (g.F.Flash.state c.args.flash.now) (g.F.Flash.state c.check_formed.new.flash) (g.F.Flash.state c.check_forms.new.flash) c.check_formed.ensures.looks (looks_by (g.F.Flash.state c.check_formed.new.flash) (g.F.Flash.state c.check_forms.new.flash) c.in_ok-n.n.marks.kept c.check_forms.ensures.reads)
+
+pub returns-in_err-check_forms-clause-room : goal.returns-in_err-check_forms-clause-room
+returns-in_err-check_forms-clause-room g c = c.check_forms.ensures.room
+
+pub returns-in_err-check_forms-clause-sound : goal.returns-in_err-check_forms-clause-sound
+returns-in_err-check_forms-clause-sound g c =
+    let p = err_from_is_err_and c.from_residual-in_err-check_forms.result c.from_residual-in_err-check_forms.ensures.1 in
+    rw p.1 tt
+
+pub returns-in_err-check_forms-clause-fails : goal.returns-in_err-check_forms-clause-fails
+returns-in_err-check_forms-clause-fails g c =
+    let p = err_from_is_err_and c.from_residual-in_err-check_forms.result c.from_residual-in_err-check_forms.ensures.1 in
+    rw (p.1, p.2) (flash_so _ _ c.in_err-check_forms.field-0.0
+    (λ e fails. fails_later (g.F.Flash.state c.args.flash.now) (g.F.Flash.state c.check_formed.new.flash) (g.F.Flash.state c.check_forms.new.flash) e c.check_formed.ensures.looks fails) c.in_err-check_forms.ensures.fails)
+
+pub check_rest-requires-clause-lies : goal.check_rest-requires-clause-lies
+check_rest-requires-clause-lies g c = lies_still c.args.ring.now (g.F.Flash.state c.args.flash.now) (g.F.Flash.state c.check_forms.new.flash) c.requires.lies (looks_more (g.F.Flash.state c.args.flash.now) (g.F.Flash.state c.check_formed.new.flash) (g.F.Flash.state c.check_forms.new.flash) c.check_formed.ensures.looks (looks_by (g.F.Flash.state c.check_formed.new.flash) (g.F.Flash.state c.check_forms.new.flash) c.in_ok-n.n.marks.kept c.check_forms.ensures.reads)).goes
+
+pub check_rest-requires-clause-room : goal.check_rest-requires-clause-room
+check_rest-requires-clause-room g c = c.check_forms.ensures.room
+
+pub check_rest-requires-clause-within : goal.check_rest-requires-clause-within
+check_rest-requires-clause-within g c = c.in_ok-n.ensures.within
+
+pub returns-in_err-check_rest-clause-looks : goal.returns-in_err-check_rest-clause-looks
+returns-in_err-check_rest-clause-looks g c = looks_more (g.F.Flash.state c.args.flash.now) (g.F.Flash.state c.check_forms.new.flash) (g.F.Flash.state c.check_rest.new.flash) (looks_more (g.F.Flash.state c.args.flash.now) (g.F.Flash.state c.check_formed.new.flash) (g.F.Flash.state c.check_forms.new.flash) c.check_formed.ensures.looks (looks_by (g.F.Flash.state c.check_formed.new.flash) (g.F.Flash.state c.check_forms.new.flash) c.in_ok-n.n.marks.kept c.check_forms.ensures.reads)) (looks_by (g.F.Flash.state c.check_forms.new.flash) (g.F.Flash.state c.check_rest.new.flash) (room (shape_of c.args.ring.now)) c.check_rest.ensures.reads)
+
+pub returns-in_err-check_rest-clause-room : goal.returns-in_err-check_rest-clause-room
+returns-in_err-check_rest-clause-room g c = c.check_rest.ensures.room
+
+pub returns-in_err-check_rest-clause-sound : goal.returns-in_err-check_rest-clause-sound
+returns-in_err-check_rest-clause-sound g c =
+    let p = err_from_is_err_and c.from_residual-in_err-check_rest.result c.from_residual-in_err-check_rest.ensures.1 in
+    rw p.1 tt
+
+pub returns-in_err-check_rest-clause-fails : goal.returns-in_err-check_rest-clause-fails
+returns-in_err-check_rest-clause-fails g c =
+    let p = err_from_is_err_and c.from_residual-in_err-check_rest.result c.from_residual-in_err-check_rest.ensures.1 in
+    rw (p.1, p.2) (flash_so _ _ c.in_err-check_rest.field-0.0
+    (λ e fails. fails_later (g.F.Flash.state c.args.flash.now) (g.F.Flash.state c.check_forms.new.flash) (g.F.Flash.state c.check_rest.new.flash) e (looks_more (g.F.Flash.state c.args.flash.now) (g.F.Flash.state c.check_formed.new.flash) (g.F.Flash.state c.check_forms.new.flash) c.check_formed.ensures.looks (looks_by (g.F.Flash.state c.check_formed.new.flash) (g.F.Flash.state c.check_forms.new.flash) c.in_ok-n.n.marks.kept c.check_forms.ensures.reads)) fails) c.in_err-check_rest.ensures.fails)
+
+pub returns-clause-looks : goal.returns-clause-looks
+returns-clause-looks g c = looks_more (g.F.Flash.state c.args.flash.now) (g.F.Flash.state c.check_forms.new.flash) (g.F.Flash.state c.check_rest.new.flash) (looks_more (g.F.Flash.state c.args.flash.now) (g.F.Flash.state c.check_formed.new.flash) (g.F.Flash.state c.check_forms.new.flash) c.check_formed.ensures.looks (looks_by (g.F.Flash.state c.check_formed.new.flash) (g.F.Flash.state c.check_forms.new.flash) c.in_ok-n.n.marks.kept c.check_forms.ensures.reads)) (looks_by (g.F.Flash.state c.check_forms.new.flash) (g.F.Flash.state c.check_rest.new.flash) (room (shape_of c.args.ring.now)) c.check_rest.ensures.reads)
+
+pub returns-clause-room : goal.returns-clause-room
+returns-clause-room g c = c.check_rest.ensures.room

@@ -3,7 +3,7 @@ use Rattle.std.proofs.Math.Nat.{add-mul}
 use Rattle.std.proofs.lemmas.Bool.{cases_eq, true≢false}
 use Rattle.std.proofs.lemmas.Result.{err_from_is_err_and}
 use Rattle.fl_flash.specs.Flash.{page_at}
-use Rattle.fl_frame.proofs.ReadsInTurn.{more_reads, no_reads}
+use Rattle.fl_frame.proofs.ReadsInTurn.{more_reads}
 use Rattle.fl_ring.specs.Front.{blanks}
 use Rattle.fl_ring.specs.Looking.{state_at}
 use Rattle.fl_ring.specs.Place.{shape_of}
@@ -11,7 +11,7 @@ use Rattle.fl_ring.specs.Ring.{Shape}
 use Rattle.fl_ring.proofs.Exists.{page_exists}
 use Rattle.fl_check.specs.States.{IsBlankAfter, AreBlank, page_after}
 use Rattle.fl_check.proofs.FewerReads.{few_reads}
-use Rattle.fl_check.proofs.OneMorePage.{one_read, read_fails, state_read}
+use Rattle.fl_check.proofs.OneMorePage.{none_read, one_read, read_fails, state_read}
 use Rattle.fl_check.proofs.rule_2_state.first_written.Goals as goal
 
 -- ---- the pages so far
@@ -43,7 +43,7 @@ pub loop-j-init : goal.loop-j-init
 loop-j-init g c =
     let f = g.F.Flash.state c.args.flash.now in
     record {
-      reads = few_reads f f 0 c.args.from (no_reads f) (omega arith);
+      reads = none_read f c.args.from;
       room = c.requires.room;
       blank = λ told. none-blank (page_at f) (shape_of c.args.ring.now) c.args.at c.args.from;
     }

@@ -1,15 +1,18 @@
-use Rattle.fl_ring.proofs.Exists.{page_exists}
-use Rattle.std.proofs.Common.{◌≡◌, ◌-◌, ◌≤◌, true, refl, sym, ◌∙◌, ap, arith}
+use Rattle.std.proofs.Common.{◌≡◌, ◌-◌, ◌≤◌, refl, sym, ◌∙◌, ap, arith, ℕ, subst}
 use Rattle.std.proofs.lemmas.Bool.{false≢true}
 use Rattle.std.proofs.lemmas.Result.{err_from_is_err_and}
+use Rattle.fl_ring.proofs.Exists.{page_exists}
 use Rattle.fl_flash.specs.Flash.{page_at}
 use Rattle.fl_ring.specs.Place.{shape_of}
 use Rattle.fl_ring.specs.Looking.{state_at}
 use Rattle.fl_ring.specs.Newest.{commits, number_of}
 use Rattle.fl_frame.proofs.ReadsInTurn.{more_reads, no_reads}
 use Rattle.fl_check.specs.Marks.{kept_page}
-use Rattle.fl_check.proofs.OneMorePage.{one_read, read_fails, some_back, few_back, no_read, bytes_read, state_read}
-use Rattle.fl_check.proofs.OwnNumbers.{all_numbered, one_numbered, its_own}
+use Rattle.fl_check.proofs.OneMorePage.{one_read, read_fails, some_back, few_back, no_read, bytes_read, state_read, all_below}
+use Rattle.fl_check.proofs.OwnNumbers.{all_numbered, one_numbered, its_own, too_low, not_own, own_told}
+use Rattle.fl_check.specs.Claims.{AllBelow}
+use Rattle.fl_check.specs.Numbers.{HasItsNumber}
+use Rattle.fl_check.proofs.FewerReads.{few_reads}
 use Rattle.fl_check.proofs.rule_3_number.first_misnumbered.Goals as goal
 use Rattle.fl_check.proofs.rule_3_number.first_misnumbered.Goals.{then-is_committed+else-from-next, else-is_committed}
 
@@ -104,3 +107,38 @@ loop-i-preserved g c =
             | else-is_committed w ↦ λ commits_here. absurd (false≢true (sym w.if-is_committed.false ∙ c.is_committed.ensures ∙ ap commits state ∙ commits_here))
           ]);
     }
+
+pub returns-then-next-from-clause-some : goal.returns-then-next-from-clause-some
+returns-then-next-from-clause-some g c = λ told. too_low (page_at (g.F.Flash.state c.args.flash.now)) (shape_of c.args.ring.now) c.args.m c.args.next c.loop-i.i c.loop-i-test.true (c.loop-i.invariant.numbered told)
+    (omega (arith, c.if-next-from.true, c.from.ensures))
+
+pub returns-then-from-next-clause-reads : goal.returns-then-from-next-clause-reads
+returns-then-from-next-clause-reads g c = one_read (g.F.Flash.state c.args.flash.now) (g.F.Flash.state c.loop-i.flash) (g.F.Flash.state c.look.new.flash) c.loop-i.i c.args.m.kept c.loop-i.invariant.reads c.look.ensures.reads c.loop-i-test.true
+
+pub returns-then-from-next-clause-room : goal.returns-then-from-next-clause-room
+returns-then-from-next-clause-room g c = c.look.ensures.room ∙ c.loop-i.invariant.room
+
+pub returns-then-from-next-clause-within : goal.returns-then-from-next-clause-within
+returns-then-from-next-clause-within g c = c.loop-i-test.true
+
+pub returns-clause-reads : goal.returns-clause-reads
+returns-clause-reads g c = few_reads (g.F.Flash.state c.args.flash.now) (g.F.Flash.state c.loop-i.flash) c.loop-i.i c.args.m.kept c.loop-i.invariant.reads c.loop-i.auto.i-end
+
+pub returns-clause-none : goal.returns-clause-none
+returns-clause-none g c = λ told. subst (λ (k : ℕ). AllBelow (HasItsNumber (page_at (g.F.Flash.state c.args.flash.now)) (shape_of c.args.ring.now) c.args.m c.args.next) k)
+    (all_below c.loop-i.auto.i-end c.loop-i-test.false) (c.loop-i.invariant.numbered told)
+
+pub returns-then-from-next-clause-some : goal.returns-then-from-next-clause-some
+returns-then-from-next-clause-some g c =
+    let f = g.F.Flash.state c.args.flash.now in
+    let before = g.F.Flash.state c.loop-i.flash in
+    let after = g.F.Flash.state c.look.new.flash in
+    let r = shape_of c.args.ring.now in
+    let m = c.args.m in
+    let i = c.loop-i.i in
+    let reads = c.loop-i.invariant.reads in
+    λ told.
+    let state : c.in_ok-state.state ≡ state_at f (kept_page r m i) = state_read f before after i 0 reads c.page_back-page.result (kept_page r m i) c.page_back-page.ensures.page told c.in_ok-state.state c.in_ok-state.ensures.state in
+    let bytes : c.look.new.buf.bytes ≡ page_at f (kept_page r m i) = bytes_read f before after i 0 reads c.page_back-page.result (kept_page r m i) c.page_back-page.ensures.page told c.look.new.buf.bytes c.in_ok-state.ensures.bytes in
+    not_own (page_at f) r m c.args.next i c.loop-i-test.true (c.loop-i.invariant.numbered told) (ap commits (sym state) ∙ sym c.is_committed.ensures ∙ c.if-is_committed.true)
+    (λ own. c.if-from-next.true (own_told (c.get_u32-number.ensures ∙ ap number_of (c.bytes.ensures ∙ bytes)) c.from-then-is_committed.ensures c.from-then-is_committed-2.ensures own))

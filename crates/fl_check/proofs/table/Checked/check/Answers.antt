@@ -1,7 +1,9 @@
 use Rattle.std.proofs.Common.{ℕ, List}
+use Rattle.std.proofs.lemmas.Result.{err_from_is_err_and}
 use Rattle.fl_frame.proofs.ReadsInTurn.{looks_more}
 use Rattle.fl_check.specs.Whole.{AreRingsSound, AreEntriesSound, AreReferencesSound}
-use Rattle.fl_check.proofs.LooksChangeNothing.{seen}
+use Rattle.fl_check.proofs.LooksChangeNothing.{seen, fails_later, fits_still}
+use Rattle.fl_check.proofs.Halts.{failed_so}
 use Rattle.fl_check.proofs.table.Checked.check.Goals as goal
 
 pub returns-in_err-check_index_entries-clause-looks : goal.returns-in_err-check_index_entries-clause-looks
@@ -29,3 +31,75 @@ returns-clause-sound g c = λ told.
       entries = seen first second (λ (page : ℕ → List ℕ). AreEntriesSound config page numbers) looks c.in_ok-check_index_entries.ensures.sound told;
       references = seen first third (λ (page : ℕ → List ℕ). AreRingsSound config log page numbers → AreReferencesSound config page numbers) later c.in_ok-check_blobs.ensures.sound told rings;
     }
+
+pub check_rings-requires-clause-fits : goal.check_rings-requires-clause-fits
+check_rings-requires-clause-fits g c = c.requires.fits
+
+pub check_rings-requires-clause-room : goal.check_rings-requires-clause-room
+check_rings-requires-clause-room g c = c.requires.room
+
+pub check_rings-requires-clause-log : goal.check_rings-requires-clause-log
+check_rings-requires-clause-log g c = c.requires.log
+
+pub returns-in_err-rings-clause-sound : goal.returns-in_err-rings-clause-sound
+returns-in_err-rings-clause-sound g c =
+    let p = err_from_is_err_and c.from_residual.result c.from_residual.ensures.1 in
+    rw p.1 tt
+
+pub returns-in_err-rings-clause-tally : goal.returns-in_err-rings-clause-tally
+returns-in_err-rings-clause-tally g c =
+    let p = err_from_is_err_and c.from_residual.result c.from_residual.ensures.1 in
+    rw p.1 tt
+
+pub returns-in_err-rings-clause-fails : goal.returns-in_err-rings-clause-fails
+returns-in_err-rings-clause-fails g c =
+    let p = err_from_is_err_and c.from_residual.result c.from_residual.ensures.1 in
+    rw (p.1, p.2) c.in_err-rings.ensures.fails
+
+pub check_index_entries-requires-clause-fits : goal.check_index_entries-requires-clause-fits
+check_index_entries-requires-clause-fits g c = fits_still c.args.self.now.config.now (g.F.Flash.state c.args.flash.now) (g.F.Flash.state c.check_rings.new.flash) c.check_rings.ensures.looks c.requires.fits
+
+pub check_index_entries-requires-clause-room : goal.check_index_entries-requires-clause-room
+check_index_entries-requires-clause-room g c = c.check_rings.ensures.room
+
+pub check_index_entries-requires-clause-listing : goal.check_index_entries-requires-clause-listing
+check_index_entries-requires-clause-listing g c = c.requires.listing
+
+pub returns-in_err-check_index_entries-clause-sound : goal.returns-in_err-check_index_entries-clause-sound
+returns-in_err-check_index_entries-clause-sound g c =
+    let p = err_from_is_err_and c.from_residual-in_err-check_index_entries.result c.from_residual-in_err-check_index_entries.ensures.1 in
+    rw p.1 tt
+
+pub returns-in_err-check_index_entries-clause-tally : goal.returns-in_err-check_index_entries-clause-tally
+returns-in_err-check_index_entries-clause-tally g c =
+    let p = err_from_is_err_and c.from_residual-in_err-check_index_entries.result c.from_residual-in_err-check_index_entries.ensures.1 in
+    rw p.1 tt
+
+pub returns-in_err-check_index_entries-clause-fails : goal.returns-in_err-check_index_entries-clause-fails
+returns-in_err-check_index_entries-clause-fails g c =
+    let p = err_from_is_err_and c.from_residual-in_err-check_index_entries.result c.from_residual-in_err-check_index_entries.ensures.1 in
+    rw (p.1, p.2) (failed_so _ _ c.in_err-check_index_entries.field-0.0 (λ e fails. fails_later (g.F.Flash.state c.args.flash.now) (g.F.Flash.state c.check_rings.new.flash) (g.F.Flash.state c.check_index_entries.new.flash) e c.check_rings.ensures.looks fails) c.in_err-check_index_entries.ensures.fails)
+
+pub check_blobs-requires-clause-fits : goal.check_blobs-requires-clause-fits
+check_blobs-requires-clause-fits g c = fits_still c.args.self.now.config.now (g.F.Flash.state c.args.flash.now) (g.F.Flash.state c.check_index_entries.new.flash) (looks_more _ _ _ c.check_rings.ensures.looks c.check_index_entries.ensures.looks) c.requires.fits
+
+pub check_blobs-requires-clause-room : goal.check_blobs-requires-clause-room
+check_blobs-requires-clause-room g c = c.check_index_entries.ensures.room
+
+pub check_blobs-requires-clause-listed : goal.check_blobs-requires-clause-listed
+check_blobs-requires-clause-listed g c = c.requires.listed
+
+pub returns-in_err-check_blobs-clause-sound : goal.returns-in_err-check_blobs-clause-sound
+returns-in_err-check_blobs-clause-sound g c =
+    let p = err_from_is_err_and c.from_residual-in_err-check_blobs.result c.from_residual-in_err-check_blobs.ensures.1 in
+    rw p.1 tt
+
+pub returns-in_err-check_blobs-clause-tally : goal.returns-in_err-check_blobs-clause-tally
+returns-in_err-check_blobs-clause-tally g c =
+    let p = err_from_is_err_and c.from_residual-in_err-check_blobs.result c.from_residual-in_err-check_blobs.ensures.1 in
+    rw p.1 tt
+
+pub returns-in_err-check_blobs-clause-fails : goal.returns-in_err-check_blobs-clause-fails
+returns-in_err-check_blobs-clause-fails g c =
+    let p = err_from_is_err_and c.from_residual-in_err-check_blobs.result c.from_residual-in_err-check_blobs.ensures.1 in
+    rw (p.1, p.2) (failed_so _ _ c.in_err-check_blobs.field-0.0 (λ e fails. fails_later (g.F.Flash.state c.args.flash.now) (g.F.Flash.state c.check_index_entries.new.flash) (g.F.Flash.state c.check_blobs.new.flash) e (looks_more _ _ _ c.check_rings.ensures.looks c.check_index_entries.ensures.looks) fails) c.in_err-check_blobs.ensures.fails)

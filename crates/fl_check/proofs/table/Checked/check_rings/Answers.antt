@@ -6,9 +6,9 @@ use Rattle.fl_check.specs.RingRules.{NoRows, IsRingSound}
 use Rattle.fl_check.specs.Whole.{OfRing, shape_in, tally_in, AreRowsSound, IsVarSound, IsLogSound, BreaksVarBy, BreaksLogRing}
 use Rattle.fl_check.specs.declared.finding.RingName.TheVariants.{Var, Log}
 use Rattle.fl_check.specs.declared.tally.Tally.{Tally}
-use Rattle.fl_check.proofs.Halts.{found_so}
+use Rattle.fl_check.proofs.Halts.{found_so, failed_so}
 use Rattle.fl_frame.proofs.ReadsInTurn.{looks_more}
-use Rattle.fl_check.proofs.LooksChangeNothing.{seen}
+use Rattle.fl_check.proofs.LooksChangeNothing.{seen, fails_later, fits_still, log_still}
 use Rattle.fl_check.proofs.RingsKnown.{rows_known, tally_known}
 use Rattle.fl_check.proofs.Wholes.{var_fault, log_fault}
 use Rattle.fl_check.proofs.table.Checked.check_rings.Goals as goal
@@ -133,3 +133,250 @@ returns-in_err-log-clause-looks g c = looks_more _ _ _ (looks_more _ _ _ (looks_
 
 pub returns-clause-looks : goal.returns-clause-looks
 returns-clause-looks g c = looks_more _ _ _ (looks_more _ _ _ (looks_more _ _ _ (looks_more _ _ _ (looks_more _ _ _ c.check_index.ensures.looks c.find_index_end.ensures.looks) c.check_data.ensures.looks) c.tally_rows.ensures.looks) c.check_var.ensures.looks) c.check_log.ensures.looks
+
+pub check_index-requires-clause-fits : goal.check_index-requires-clause-fits
+check_index-requires-clause-fits g c = c.requires.fits
+
+pub check_index-requires-clause-room : goal.check_index-requires-clause-room
+check_index-requires-clause-room g c = c.requires.room
+
+pub returns-in_err-index-clause-room : goal.returns-in_err-index-clause-room
+returns-in_err-index-clause-room g c = c.check_index.ensures.room
+
+pub returns-in_err-index-clause-index : goal.returns-in_err-index-clause-index
+returns-in_err-index-clause-index g c =
+    let p = err_from_is_err_and c.from_residual.result c.from_residual.ensures.1 in
+    rw p.1 tt
+
+pub returns-in_err-index-clause-rows : goal.returns-in_err-index-clause-rows
+returns-in_err-index-clause-rows g c =
+    let p = err_from_is_err_and c.from_residual.result c.from_residual.ensures.1 in
+    rw p.1 tt
+
+pub returns-in_err-index-clause-var : goal.returns-in_err-index-clause-var
+returns-in_err-index-clause-var g c =
+    let p = err_from_is_err_and c.from_residual.result c.from_residual.ensures.1 in
+    rw p.1 tt
+
+pub returns-in_err-index-clause-sound : goal.returns-in_err-index-clause-sound
+returns-in_err-index-clause-sound g c =
+    let p = err_from_is_err_and c.from_residual.result c.from_residual.ensures.1 in
+    rw p.1 tt
+
+pub returns-in_err-index-clause-tally : goal.returns-in_err-index-clause-tally
+returns-in_err-index-clause-tally g c =
+    let p = err_from_is_err_and c.from_residual.result c.from_residual.ensures.1 in
+    rw p.1 tt
+
+pub returns-in_err-index-clause-fails : goal.returns-in_err-index-clause-fails
+returns-in_err-index-clause-fails g c =
+    let p = err_from_is_err_and c.from_residual.result c.from_residual.ensures.1 in
+    rw (p.1, p.2) c.in_err-index.ensures.fails
+
+pub find_index_end-requires-clause-fits : goal.find_index_end-requires-clause-fits
+find_index_end-requires-clause-fits g c = fits_still c.args.self.now.config.now (g.F.Flash.state c.args.flash.now) (g.F.Flash.state c.check_index.new.flash) c.check_index.ensures.looks c.requires.fits
+
+pub find_index_end-requires-clause-room : goal.find_index_end-requires-clause-room
+find_index_end-requires-clause-room g c = c.check_index.ensures.room
+
+pub returns-in_err-end-clause-room : goal.returns-in_err-end-clause-room
+returns-in_err-end-clause-room g c = c.find_index_end.ensures.room
+
+pub returns-in_err-end-clause-index : goal.returns-in_err-end-clause-index
+returns-in_err-end-clause-index g c =
+    let p = err_from_is_err_and c.from_residual-in_err-end.result c.from_residual-in_err-end.ensures.1 in
+    rw p.1 tt
+
+pub returns-in_err-end-clause-rows : goal.returns-in_err-end-clause-rows
+returns-in_err-end-clause-rows g c =
+    let p = err_from_is_err_and c.from_residual-in_err-end.result c.from_residual-in_err-end.ensures.1 in
+    rw p.1 tt
+
+pub returns-in_err-end-clause-var : goal.returns-in_err-end-clause-var
+returns-in_err-end-clause-var g c =
+    let p = err_from_is_err_and c.from_residual-in_err-end.result c.from_residual-in_err-end.ensures.1 in
+    rw p.1 tt
+
+pub returns-in_err-end-clause-sound : goal.returns-in_err-end-clause-sound
+returns-in_err-end-clause-sound g c =
+    let p = err_from_is_err_and c.from_residual-in_err-end.result c.from_residual-in_err-end.ensures.1 in
+    rw p.1 tt
+
+pub returns-in_err-end-clause-tally : goal.returns-in_err-end-clause-tally
+returns-in_err-end-clause-tally g c =
+    let p = err_from_is_err_and c.from_residual-in_err-end.result c.from_residual-in_err-end.ensures.1 in
+    rw p.1 tt
+
+pub returns-in_err-end-clause-fails : goal.returns-in_err-end-clause-fails
+returns-in_err-end-clause-fails g c =
+    let p = err_from_is_err_and c.from_residual-in_err-end.result c.from_residual-in_err-end.ensures.1 in
+    rw (p.1, p.2) (fails_later (g.F.Flash.state c.args.flash.now) (g.F.Flash.state c.check_index.new.flash) (g.F.Flash.state c.find_index_end.new.flash) c.in_err-end.field-0.0 c.check_index.ensures.looks c.in_err-end.ensures.fails)
+
+pub returns-in_err-end-clause-broken : goal.returns-in_err-end-clause-broken
+returns-in_err-end-clause-broken g c =
+    let p = err_from_is_err_and c.from_residual-in_err-end.result c.from_residual-in_err-end.ensures.1 in
+    rw (p.1, p.2) tt
+
+pub check_data-requires-clause-fits : goal.check_data-requires-clause-fits
+check_data-requires-clause-fits g c = fits_still c.args.self.now.config.now (g.F.Flash.state c.args.flash.now) (g.F.Flash.state c.find_index_end.new.flash) (looks_more _ _ _ c.check_index.ensures.looks c.find_index_end.ensures.looks) c.requires.fits
+
+pub check_data-requires-clause-room : goal.check_data-requires-clause-room
+check_data-requires-clause-room g c = c.find_index_end.ensures.room
+
+pub returns-in_err-rows-clause-room : goal.returns-in_err-rows-clause-room
+returns-in_err-rows-clause-room g c = c.check_data.ensures.room
+
+pub returns-in_err-rows-clause-index : goal.returns-in_err-rows-clause-index
+returns-in_err-rows-clause-index g c =
+    let p = err_from_is_err_and c.from_residual-in_err-rows.result c.from_residual-in_err-rows.ensures.1 in
+    rw p.1 tt
+
+pub returns-in_err-rows-clause-rows : goal.returns-in_err-rows-clause-rows
+returns-in_err-rows-clause-rows g c =
+    let p = err_from_is_err_and c.from_residual-in_err-rows.result c.from_residual-in_err-rows.ensures.1 in
+    rw p.1 tt
+
+pub returns-in_err-rows-clause-var : goal.returns-in_err-rows-clause-var
+returns-in_err-rows-clause-var g c =
+    let p = err_from_is_err_and c.from_residual-in_err-rows.result c.from_residual-in_err-rows.ensures.1 in
+    rw p.1 tt
+
+pub returns-in_err-rows-clause-sound : goal.returns-in_err-rows-clause-sound
+returns-in_err-rows-clause-sound g c =
+    let p = err_from_is_err_and c.from_residual-in_err-rows.result c.from_residual-in_err-rows.ensures.1 in
+    rw p.1 tt
+
+pub returns-in_err-rows-clause-tally : goal.returns-in_err-rows-clause-tally
+returns-in_err-rows-clause-tally g c =
+    let p = err_from_is_err_and c.from_residual-in_err-rows.result c.from_residual-in_err-rows.ensures.1 in
+    rw p.1 tt
+
+pub returns-in_err-rows-clause-fails : goal.returns-in_err-rows-clause-fails
+returns-in_err-rows-clause-fails g c =
+    let p = err_from_is_err_and c.from_residual-in_err-rows.result c.from_residual-in_err-rows.ensures.1 in
+    rw (p.1, p.2) (failed_so _ _ c.in_err-rows.field-0.0 (λ e fails. fails_later (g.F.Flash.state c.args.flash.now) (g.F.Flash.state c.find_index_end.new.flash) (g.F.Flash.state c.check_data.new.flash) e (looks_more _ _ _ c.check_index.ensures.looks c.find_index_end.ensures.looks) fails) c.in_err-rows.ensures.fails)
+
+pub tally_rows-requires-clause-fits : goal.tally_rows-requires-clause-fits
+tally_rows-requires-clause-fits g c = fits_still c.args.self.now.config.now (g.F.Flash.state c.args.flash.now) (g.F.Flash.state c.check_data.new.flash) (looks_more _ _ _ (looks_more _ _ _ c.check_index.ensures.looks c.find_index_end.ensures.looks) c.check_data.ensures.looks) c.requires.fits
+
+pub tally_rows-requires-clause-room : goal.tally_rows-requires-clause-room
+tally_rows-requires-clause-room g c = c.check_data.ensures.room
+
+pub returns-in_err-tally-clause-room : goal.returns-in_err-tally-clause-room
+returns-in_err-tally-clause-room g c = c.tally_rows.ensures.room
+
+pub returns-in_err-tally-clause-index : goal.returns-in_err-tally-clause-index
+returns-in_err-tally-clause-index g c =
+    let p = err_from_is_err_and c.from_residual-in_err-tally.result c.from_residual-in_err-tally.ensures.1 in
+    rw p.1 tt
+
+pub returns-in_err-tally-clause-rows : goal.returns-in_err-tally-clause-rows
+returns-in_err-tally-clause-rows g c =
+    let p = err_from_is_err_and c.from_residual-in_err-tally.result c.from_residual-in_err-tally.ensures.1 in
+    rw p.1 tt
+
+pub returns-in_err-tally-clause-var : goal.returns-in_err-tally-clause-var
+returns-in_err-tally-clause-var g c =
+    let p = err_from_is_err_and c.from_residual-in_err-tally.result c.from_residual-in_err-tally.ensures.1 in
+    rw p.1 tt
+
+pub returns-in_err-tally-clause-sound : goal.returns-in_err-tally-clause-sound
+returns-in_err-tally-clause-sound g c =
+    let p = err_from_is_err_and c.from_residual-in_err-tally.result c.from_residual-in_err-tally.ensures.1 in
+    rw p.1 tt
+
+pub returns-in_err-tally-clause-tally : goal.returns-in_err-tally-clause-tally
+returns-in_err-tally-clause-tally g c =
+    let p = err_from_is_err_and c.from_residual-in_err-tally.result c.from_residual-in_err-tally.ensures.1 in
+    rw p.1 tt
+
+pub returns-in_err-tally-clause-fails : goal.returns-in_err-tally-clause-fails
+returns-in_err-tally-clause-fails g c =
+    let p = err_from_is_err_and c.from_residual-in_err-tally.result c.from_residual-in_err-tally.ensures.1 in
+    rw (p.1, p.2) (fails_later (g.F.Flash.state c.args.flash.now) (g.F.Flash.state c.check_data.new.flash) (g.F.Flash.state c.tally_rows.new.flash) c.in_err-tally.field-0.0 (looks_more _ _ _ (looks_more _ _ _ c.check_index.ensures.looks c.find_index_end.ensures.looks) c.check_data.ensures.looks) c.in_err-tally.ensures.fails)
+
+pub returns-in_err-tally-clause-broken : goal.returns-in_err-tally-clause-broken
+returns-in_err-tally-clause-broken g c =
+    let p = err_from_is_err_and c.from_residual-in_err-tally.result c.from_residual-in_err-tally.ensures.1 in
+    rw (p.1, p.2) tt
+
+pub check_var-requires-clause-fits : goal.check_var-requires-clause-fits
+check_var-requires-clause-fits g c = fits_still c.args.self.now.config.now (g.F.Flash.state c.args.flash.now) (g.F.Flash.state c.tally_rows.new.flash) (looks_more _ _ _ (looks_more _ _ _ (looks_more _ _ _ c.check_index.ensures.looks c.find_index_end.ensures.looks) c.check_data.ensures.looks) c.tally_rows.ensures.looks) c.requires.fits
+
+pub check_var-requires-clause-room : goal.check_var-requires-clause-room
+check_var-requires-clause-room g c = c.tally_rows.ensures.room
+
+pub returns-in_err-var-clause-room : goal.returns-in_err-var-clause-room
+returns-in_err-var-clause-room g c = c.check_var.ensures.room
+
+pub returns-in_err-var-clause-index : goal.returns-in_err-var-clause-index
+returns-in_err-var-clause-index g c =
+    let p = err_from_is_err_and c.from_residual-in_err-var.result c.from_residual-in_err-var.ensures.1 in
+    rw p.1 tt
+
+pub returns-in_err-var-clause-rows : goal.returns-in_err-var-clause-rows
+returns-in_err-var-clause-rows g c =
+    let p = err_from_is_err_and c.from_residual-in_err-var.result c.from_residual-in_err-var.ensures.1 in
+    rw p.1 tt
+
+pub returns-in_err-var-clause-var : goal.returns-in_err-var-clause-var
+returns-in_err-var-clause-var g c =
+    let p = err_from_is_err_and c.from_residual-in_err-var.result c.from_residual-in_err-var.ensures.1 in
+    rw p.1 tt
+
+pub returns-in_err-var-clause-sound : goal.returns-in_err-var-clause-sound
+returns-in_err-var-clause-sound g c =
+    let p = err_from_is_err_and c.from_residual-in_err-var.result c.from_residual-in_err-var.ensures.1 in
+    rw p.1 tt
+
+pub returns-in_err-var-clause-tally : goal.returns-in_err-var-clause-tally
+returns-in_err-var-clause-tally g c =
+    let p = err_from_is_err_and c.from_residual-in_err-var.result c.from_residual-in_err-var.ensures.1 in
+    rw p.1 tt
+
+pub returns-in_err-var-clause-fails : goal.returns-in_err-var-clause-fails
+returns-in_err-var-clause-fails g c =
+    let p = err_from_is_err_and c.from_residual-in_err-var.result c.from_residual-in_err-var.ensures.1 in
+    rw (p.1, p.2) (failed_so _ _ c.in_err-var.field-0.0 (λ e fails. fails_later (g.F.Flash.state c.args.flash.now) (g.F.Flash.state c.tally_rows.new.flash) (g.F.Flash.state c.check_var.new.flash) e (looks_more _ _ _ (looks_more _ _ _ (looks_more _ _ _ c.check_index.ensures.looks c.find_index_end.ensures.looks) c.check_data.ensures.looks) c.tally_rows.ensures.looks) fails) c.in_err-var.ensures.fails)
+
+pub check_log-requires-clause-log : goal.check_log-requires-clause-log
+check_log-requires-clause-log g c = log_still c.args.self.now.log (g.F.Flash.state c.args.flash.now) (g.F.Flash.state c.check_var.new.flash) (looks_more _ _ _ (looks_more _ _ _ (looks_more _ _ _ (looks_more _ _ _ c.check_index.ensures.looks c.find_index_end.ensures.looks) c.check_data.ensures.looks) c.tally_rows.ensures.looks) c.check_var.ensures.looks) c.requires.log
+
+pub check_log-requires-clause-room : goal.check_log-requires-clause-room
+check_log-requires-clause-room g c = c.check_var.ensures.room
+
+pub returns-in_err-log-clause-room : goal.returns-in_err-log-clause-room
+returns-in_err-log-clause-room g c = c.check_log.ensures.room
+
+pub returns-in_err-log-clause-index : goal.returns-in_err-log-clause-index
+returns-in_err-log-clause-index g c =
+    let p = err_from_is_err_and c.from_residual-in_err-log.result c.from_residual-in_err-log.ensures.1 in
+    rw p.1 tt
+
+pub returns-in_err-log-clause-rows : goal.returns-in_err-log-clause-rows
+returns-in_err-log-clause-rows g c =
+    let p = err_from_is_err_and c.from_residual-in_err-log.result c.from_residual-in_err-log.ensures.1 in
+    rw p.1 tt
+
+pub returns-in_err-log-clause-var : goal.returns-in_err-log-clause-var
+returns-in_err-log-clause-var g c =
+    let p = err_from_is_err_and c.from_residual-in_err-log.result c.from_residual-in_err-log.ensures.1 in
+    rw p.1 tt
+
+pub returns-in_err-log-clause-sound : goal.returns-in_err-log-clause-sound
+returns-in_err-log-clause-sound g c =
+    let p = err_from_is_err_and c.from_residual-in_err-log.result c.from_residual-in_err-log.ensures.1 in
+    rw p.1 tt
+
+pub returns-in_err-log-clause-tally : goal.returns-in_err-log-clause-tally
+returns-in_err-log-clause-tally g c =
+    let p = err_from_is_err_and c.from_residual-in_err-log.result c.from_residual-in_err-log.ensures.1 in
+    rw p.1 tt
+
+pub returns-in_err-log-clause-fails : goal.returns-in_err-log-clause-fails
+returns-in_err-log-clause-fails g c =
+    let p = err_from_is_err_and c.from_residual-in_err-log.result c.from_residual-in_err-log.ensures.1 in
+    rw (p.1, p.2) (failed_so _ _ c.in_err-log.field-0.0 (λ e fails. fails_later (g.F.Flash.state c.args.flash.now) (g.F.Flash.state c.check_var.new.flash) (g.F.Flash.state c.check_log.new.flash) e (looks_more _ _ _ (looks_more _ _ _ (looks_more _ _ _ (looks_more _ _ _ c.check_index.ensures.looks c.find_index_end.ensures.looks) c.check_data.ensures.looks) c.tally_rows.ensures.looks) c.check_var.ensures.looks) fails) c.in_err-log.ensures.fails)
+
+pub returns-clause-room : goal.returns-clause-room
+returns-clause-room g c = c.check_log.ensures.room

@@ -1,13 +1,15 @@
 use Rattle.std.proofs.Common.{◌≡◌, sym, ◌∙◌, ap}
+use Rattle.std.proofs.lemmas.Result.{err_from_is_err_and, IfErr-weaker}
 use Rattle.fl_base.specs.declared.types.Geometry.{Geometry}
 use Rattle.fl_ring.specs.Mounting.{shape_at}
 use Rattle.fl_ring.specs.Place.{shape_of}
 use Rattle.fl_schema.specs.Schema.{layout_of}
 use Rattle.fl_check.specs.Whole.{shape_in, rows_shape}
 use Rattle.fl_check.proofs.BlobsKnown.{misled_told}
-use Rattle.fl_frame.proofs.ReadsInTurn.{looks_by}
-use Rattle.fl_check.proofs.LooksChangeNothing.{fits_still}
+use Rattle.fl_frame.proofs.ReadsInTurn.{looks_by, looks_more}
+use Rattle.fl_check.proofs.LooksChangeNothing.{fits_still, fails_later}
 use Rattle.fl_check.proofs.RulesTold.{if_ok_both}
+use Rattle.fl_frame.specs.Causes.{ReadFails}
 use Rattle.fl_check.proofs.table.Checked.find_misled.Goals as goal
 
 pub returns-clause-blobs : goal.returns-clause-blobs
@@ -25,3 +27,32 @@ returns-clause-blobs g c =
     (λ broken none some. misled_told c.args.rows n broken config f mid place (layout_of c.args.self.now.schema) (shape_of c.unnumbered-data.result) (shape_of c.unnumbered-ring.result) c.find_reaches.new.reaches
     looks c.args.self.now.layout d_is r_is c.in_ok-find_reaches.ensures.reaches none some)
     c.find_misleading.ensures.none c.find_misleading.ensures.some
+
+pub returns-in_err-find_reaches-clause-looks : goal.returns-in_err-find_reaches-clause-looks
+returns-in_err-find_reaches-clause-looks g c = looks_by (g.F.Flash.state c.args.flash.now) (g.F.Flash.state c.find_reaches.new.flash) c.args.var.marks.kept c.find_reaches.ensures.reads
+
+pub returns-in_err-find_reaches-clause-blobs : goal.returns-in_err-find_reaches-clause-blobs
+returns-in_err-find_reaches-clause-blobs g c =
+    let p = err_from_is_err_and c.from_residual.result c.from_residual.ensures.1 in
+    rw p.1 tt
+
+pub returns-in_err-find_reaches-clause-fails : goal.returns-in_err-find_reaches-clause-fails
+returns-in_err-find_reaches-clause-fails g c =
+    let p = err_from_is_err_and c.from_residual.result c.from_residual.ensures.1 in
+    rw (p.1, p.2) c.in_err-find_reaches.ensures.fails
+
+pub returns-clause-looks : goal.returns-clause-looks
+returns-clause-looks g c =
+    let f = g.F.Flash.state c.args.flash.now in
+    let mid = g.F.Flash.state c.find_reaches.new.flash in
+    let looks = looks_by f mid c.args.var.marks.kept c.find_reaches.ensures.reads in
+    let late = g.F.Flash.state c.find_misleading.new.flash in
+    looks_more f mid late looks (looks_by mid late c.args.rows.kept c.find_misleading.ensures.reads)
+
+pub returns-clause-fails : goal.returns-clause-fails
+returns-clause-fails g c =
+    let f = g.F.Flash.state c.args.flash.now in
+    let mid = g.F.Flash.state c.find_reaches.new.flash in
+    let looks = looks_by f mid c.args.var.marks.kept c.find_reaches.ensures.reads in
+    let late = g.F.Flash.state c.find_misleading.new.flash in
+    IfErr-weaker c.find_misleading.result (λ e. ReadFails mid e late) (λ e. ReadFails f e late) (λ e. fails_later f mid late e looks) c.find_misleading.ensures.fails

@@ -1,4 +1,5 @@
 use Rattle.std.proofs.Common.{◌≡◌, ℕ, Option, None, IfSome, sym, ap, subst}
+use Rattle.std.proofs.lemmas.Result.{err_from_is_err_and}
 use Rattle.fl_flash.specs.Flash.{page_at}
 use Rattle.fl_check.specs.ContentPage.{IsContentPage}
 use Rattle.fl_check.specs.DataPage.{IsDataPage}
@@ -13,7 +14,7 @@ use Rattle.fl_check.specs.declared.faults.TableFaults.{TableFaults}
 use Rattle.fl_check.specs.declared.numbering.Numbering.{Numbering}
 use Rattle.fl_check.specs.declared.tally.Tally.{Tally}
 use Rattle.fl_frame.proofs.ReadsInTurn.{looks_more}
-use Rattle.fl_check.proofs.LooksChangeNothing.{seen}
+use Rattle.fl_check.proofs.LooksChangeNothing.{seen, fails_later, fits_still, log_still}
 use Rattle.fl_check.proofs.TableTold.{rows_told, content_told, if_in_order, none_within, no_content, are_rules}
 use Rattle.fl_check.proofs.table.Checked.rules.Goals as goal
 
@@ -128,3 +129,137 @@ returns-in_err-blob-clause-looks g c = looks_more _ _ _ (looks_more _ _ _ (looks
 
 pub returns-clause-looks : goal.returns-clause-looks
 returns-clause-looks g c = looks_more _ _ _ (looks_more _ _ _ (looks_more _ _ _ (looks_more _ _ _ (looks_more _ _ _ (looks_more _ _ _ (looks_more _ _ _ c.rule_index.ensures.looks c.find_index_end.ensures.looks) c.rule_rows.ensures.looks) c.tally_told.ensures.looks) c.rule_var.ensures.looks) c.rule_log.ensures.looks) c.rule_entries.ensures.looks) c.rule_blobs.ensures.looks
+
+pub rule_index-requires-clause-fits : goal.rule_index-requires-clause-fits
+rule_index-requires-clause-fits g c = c.requires.fits
+
+pub rule_index-requires-clause-room : goal.rule_index-requires-clause-room
+rule_index-requires-clause-room g c = c.requires.room
+
+pub returns-in_err-index-clause-rules : goal.returns-in_err-index-clause-rules
+returns-in_err-index-clause-rules g c =
+    let p = err_from_is_err_and c.from_residual.result c.from_residual.ensures.1 in
+    rw p.1 tt
+
+pub returns-in_err-index-clause-fails : goal.returns-in_err-index-clause-fails
+returns-in_err-index-clause-fails g c =
+    let p = err_from_is_err_and c.from_residual.result c.from_residual.ensures.1 in
+    rw (p.1, p.2) c.in_err-index.ensures.fails
+
+pub find_index_end-requires-clause-fits : goal.find_index_end-requires-clause-fits
+find_index_end-requires-clause-fits g c = fits_still c.args.self.now.config.now (g.F.Flash.state c.args.flash.now) (g.F.Flash.state c.rule_index.new.flash) c.rule_index.ensures.looks c.requires.fits
+
+pub find_index_end-requires-clause-room : goal.find_index_end-requires-clause-room
+find_index_end-requires-clause-room g c = c.rule_index.ensures.room
+
+pub returns-in_err-end-clause-rules : goal.returns-in_err-end-clause-rules
+returns-in_err-end-clause-rules g c =
+    let p = err_from_is_err_and c.from_residual-in_err-end.result c.from_residual-in_err-end.ensures.1 in
+    rw p.1 tt
+
+pub returns-in_err-end-clause-fails : goal.returns-in_err-end-clause-fails
+returns-in_err-end-clause-fails g c =
+    let p = err_from_is_err_and c.from_residual-in_err-end.result c.from_residual-in_err-end.ensures.1 in
+    rw (p.1, p.2) (fails_later (g.F.Flash.state c.args.flash.now) (g.F.Flash.state c.rule_index.new.flash) (g.F.Flash.state c.find_index_end.new.flash) c.in_err-end.field-0.0 c.rule_index.ensures.looks c.in_err-end.ensures.fails)
+
+pub rule_rows-requires-clause-fits : goal.rule_rows-requires-clause-fits
+rule_rows-requires-clause-fits g c = fits_still c.args.self.now.config.now (g.F.Flash.state c.args.flash.now) (g.F.Flash.state c.find_index_end.new.flash) (looks_more _ _ _ c.rule_index.ensures.looks c.find_index_end.ensures.looks) c.requires.fits
+
+pub rule_rows-requires-clause-room : goal.rule_rows-requires-clause-room
+rule_rows-requires-clause-room g c = c.find_index_end.ensures.room
+
+pub returns-in_err-rows-clause-rules : goal.returns-in_err-rows-clause-rules
+returns-in_err-rows-clause-rules g c =
+    let p = err_from_is_err_and c.from_residual-in_err-rows.result c.from_residual-in_err-rows.ensures.1 in
+    rw p.1 tt
+
+pub returns-in_err-rows-clause-fails : goal.returns-in_err-rows-clause-fails
+returns-in_err-rows-clause-fails g c =
+    let p = err_from_is_err_and c.from_residual-in_err-rows.result c.from_residual-in_err-rows.ensures.1 in
+    rw (p.1, p.2) (fails_later (g.F.Flash.state c.args.flash.now) (g.F.Flash.state c.find_index_end.new.flash) (g.F.Flash.state c.rule_rows.new.flash) c.in_err-rows.field-0.0 (looks_more _ _ _ c.rule_index.ensures.looks c.find_index_end.ensures.looks) c.in_err-rows.ensures.fails)
+
+pub tally_told-requires-clause-fits : goal.tally_told-requires-clause-fits
+tally_told-requires-clause-fits g c = fits_still c.args.self.now.config.now (g.F.Flash.state c.args.flash.now) (g.F.Flash.state c.rule_rows.new.flash) (looks_more _ _ _ (looks_more _ _ _ c.rule_index.ensures.looks c.find_index_end.ensures.looks) c.rule_rows.ensures.looks) c.requires.fits
+
+pub tally_told-requires-clause-room : goal.tally_told-requires-clause-room
+tally_told-requires-clause-room g c = c.rule_rows.ensures.room
+
+pub returns-in_err-tally-clause-rules : goal.returns-in_err-tally-clause-rules
+returns-in_err-tally-clause-rules g c =
+    let p = err_from_is_err_and c.from_residual-in_err-tally.result c.from_residual-in_err-tally.ensures.1 in
+    rw p.1 tt
+
+pub returns-in_err-tally-clause-fails : goal.returns-in_err-tally-clause-fails
+returns-in_err-tally-clause-fails g c =
+    let p = err_from_is_err_and c.from_residual-in_err-tally.result c.from_residual-in_err-tally.ensures.1 in
+    rw (p.1, p.2) (fails_later (g.F.Flash.state c.args.flash.now) (g.F.Flash.state c.rule_rows.new.flash) (g.F.Flash.state c.tally_told.new.flash) c.in_err-tally.field-0.0 (looks_more _ _ _ (looks_more _ _ _ c.rule_index.ensures.looks c.find_index_end.ensures.looks) c.rule_rows.ensures.looks) c.in_err-tally.ensures.fails)
+
+pub rule_var-requires-clause-fits : goal.rule_var-requires-clause-fits
+rule_var-requires-clause-fits g c = fits_still c.args.self.now.config.now (g.F.Flash.state c.args.flash.now) (g.F.Flash.state c.tally_told.new.flash) (looks_more _ _ _ (looks_more _ _ _ (looks_more _ _ _ c.rule_index.ensures.looks c.find_index_end.ensures.looks) c.rule_rows.ensures.looks) c.tally_told.ensures.looks) c.requires.fits
+
+pub rule_var-requires-clause-room : goal.rule_var-requires-clause-room
+rule_var-requires-clause-room g c = c.tally_told.ensures.room
+
+pub returns-in_err-var-clause-rules : goal.returns-in_err-var-clause-rules
+returns-in_err-var-clause-rules g c =
+    let p = err_from_is_err_and c.from_residual-in_err-var.result c.from_residual-in_err-var.ensures.1 in
+    rw p.1 tt
+
+pub returns-in_err-var-clause-fails : goal.returns-in_err-var-clause-fails
+returns-in_err-var-clause-fails g c =
+    let p = err_from_is_err_and c.from_residual-in_err-var.result c.from_residual-in_err-var.ensures.1 in
+    rw (p.1, p.2) (fails_later (g.F.Flash.state c.args.flash.now) (g.F.Flash.state c.tally_told.new.flash) (g.F.Flash.state c.rule_var.new.flash) c.in_err-var.field-0.0 (looks_more _ _ _ (looks_more _ _ _ (looks_more _ _ _ c.rule_index.ensures.looks c.find_index_end.ensures.looks) c.rule_rows.ensures.looks) c.tally_told.ensures.looks) c.in_err-var.ensures.fails)
+
+pub rule_log-requires-clause-log : goal.rule_log-requires-clause-log
+rule_log-requires-clause-log g c = log_still c.args.self.now.log (g.F.Flash.state c.args.flash.now) (g.F.Flash.state c.rule_var.new.flash) (looks_more _ _ _ (looks_more _ _ _ (looks_more _ _ _ (looks_more _ _ _ c.rule_index.ensures.looks c.find_index_end.ensures.looks) c.rule_rows.ensures.looks) c.tally_told.ensures.looks) c.rule_var.ensures.looks) c.requires.log
+
+pub rule_log-requires-clause-room : goal.rule_log-requires-clause-room
+rule_log-requires-clause-room g c = c.rule_var.ensures.room
+
+pub returns-in_err-log-clause-rules : goal.returns-in_err-log-clause-rules
+returns-in_err-log-clause-rules g c =
+    let p = err_from_is_err_and c.from_residual-in_err-log.result c.from_residual-in_err-log.ensures.1 in
+    rw p.1 tt
+
+pub returns-in_err-log-clause-fails : goal.returns-in_err-log-clause-fails
+returns-in_err-log-clause-fails g c =
+    let p = err_from_is_err_and c.from_residual-in_err-log.result c.from_residual-in_err-log.ensures.1 in
+    rw (p.1, p.2) (fails_later (g.F.Flash.state c.args.flash.now) (g.F.Flash.state c.rule_var.new.flash) (g.F.Flash.state c.rule_log.new.flash) c.in_err-log.field-0.0 (looks_more _ _ _ (looks_more _ _ _ (looks_more _ _ _ (looks_more _ _ _ c.rule_index.ensures.looks c.find_index_end.ensures.looks) c.rule_rows.ensures.looks) c.tally_told.ensures.looks) c.rule_var.ensures.looks) c.in_err-log.ensures.fails)
+
+pub rule_entries-requires-clause-fits : goal.rule_entries-requires-clause-fits
+rule_entries-requires-clause-fits g c = fits_still c.args.self.now.config.now (g.F.Flash.state c.args.flash.now) (g.F.Flash.state c.rule_log.new.flash) (looks_more _ _ _ (looks_more _ _ _ (looks_more _ _ _ (looks_more _ _ _ (looks_more _ _ _ c.rule_index.ensures.looks c.find_index_end.ensures.looks) c.rule_rows.ensures.looks) c.tally_told.ensures.looks) c.rule_var.ensures.looks) c.rule_log.ensures.looks) c.requires.fits
+
+pub rule_entries-requires-clause-room : goal.rule_entries-requires-clause-room
+rule_entries-requires-clause-room g c = c.rule_log.ensures.room
+
+pub rule_entries-requires-clause-listing : goal.rule_entries-requires-clause-listing
+rule_entries-requires-clause-listing g c = c.requires.listing
+
+pub returns-in_err-entry-clause-rules : goal.returns-in_err-entry-clause-rules
+returns-in_err-entry-clause-rules g c =
+    let p = err_from_is_err_and c.from_residual-in_err-entry.result c.from_residual-in_err-entry.ensures.1 in
+    rw p.1 tt
+
+pub returns-in_err-entry-clause-fails : goal.returns-in_err-entry-clause-fails
+returns-in_err-entry-clause-fails g c =
+    let p = err_from_is_err_and c.from_residual-in_err-entry.result c.from_residual-in_err-entry.ensures.1 in
+    rw (p.1, p.2) (fails_later (g.F.Flash.state c.args.flash.now) (g.F.Flash.state c.rule_log.new.flash) (g.F.Flash.state c.rule_entries.new.flash) c.in_err-entry.field-0.0 (looks_more _ _ _ (looks_more _ _ _ (looks_more _ _ _ (looks_more _ _ _ (looks_more _ _ _ c.rule_index.ensures.looks c.find_index_end.ensures.looks) c.rule_rows.ensures.looks) c.tally_told.ensures.looks) c.rule_var.ensures.looks) c.rule_log.ensures.looks) c.in_err-entry.ensures.fails)
+
+pub rule_blobs-requires-clause-fits : goal.rule_blobs-requires-clause-fits
+rule_blobs-requires-clause-fits g c = fits_still c.args.self.now.config.now (g.F.Flash.state c.args.flash.now) (g.F.Flash.state c.rule_entries.new.flash) (looks_more _ _ _ (looks_more _ _ _ (looks_more _ _ _ (looks_more _ _ _ (looks_more _ _ _ (looks_more _ _ _ c.rule_index.ensures.looks c.find_index_end.ensures.looks) c.rule_rows.ensures.looks) c.tally_told.ensures.looks) c.rule_var.ensures.looks) c.rule_log.ensures.looks) c.rule_entries.ensures.looks) c.requires.fits
+
+pub rule_blobs-requires-clause-room : goal.rule_blobs-requires-clause-room
+rule_blobs-requires-clause-room g c = c.rule_entries.ensures.room
+
+pub rule_blobs-requires-clause-listed : goal.rule_blobs-requires-clause-listed
+rule_blobs-requires-clause-listed g c = c.requires.listed
+
+pub returns-in_err-blob-clause-rules : goal.returns-in_err-blob-clause-rules
+returns-in_err-blob-clause-rules g c =
+    let p = err_from_is_err_and c.from_residual-in_err-blob.result c.from_residual-in_err-blob.ensures.1 in
+    rw p.1 tt
+
+pub returns-in_err-blob-clause-fails : goal.returns-in_err-blob-clause-fails
+returns-in_err-blob-clause-fails g c =
+    let p = err_from_is_err_and c.from_residual-in_err-blob.result c.from_residual-in_err-blob.ensures.1 in
+    rw (p.1, p.2) (fails_later (g.F.Flash.state c.args.flash.now) (g.F.Flash.state c.rule_entries.new.flash) (g.F.Flash.state c.rule_blobs.new.flash) c.in_err-blob.field-0.0 (looks_more _ _ _ (looks_more _ _ _ (looks_more _ _ _ (looks_more _ _ _ (looks_more _ _ _ (looks_more _ _ _ c.rule_index.ensures.looks c.find_index_end.ensures.looks) c.rule_rows.ensures.looks) c.tally_told.ensures.looks) c.rule_var.ensures.looks) c.rule_log.ensures.looks) c.rule_entries.ensures.looks) c.in_err-blob.ensures.fails)
