@@ -73,6 +73,7 @@ pub(crate) fn mount_within<F: Flash>(
     ensures room { length buf.new.bytes ≡ length buf.old.bytes }
     ensures holds { buf.new.holds ≡ None }
     ensures running { OnOk result (AreRunning blobs.new) }
+    ensures empty { AreEmpty blobs.new }
     ensures ends { (first : ℕ) (plan : Plan) (table : model.Table) (rose : Bool) (device : Device) → end ≡ blob_end table →
         WithinEndsOf blobs.old (F.state flash.old) first plan table rose device result blobs.new (F.state flash.new) }
     ensures found { OnOk result (FindsBlobs blobs.old (F.state flash.old) (least_of end) blobs.new (F.state flash.new)) }

@@ -168,7 +168,7 @@ impl<const KNOTS: usize, const SLOTS: usize> Table<KNOTS, SLOTS> {
         ensures lies { LiesOn self.new (F.state flash.new) }
         ensures ends { (first : ℕ) → (plan : Plan) → (table : model.Table) → (rose : Bool) → (device : Device) → IsWatched (F.state flash.old) (F.state flash.new) rose device
             → Stands self.old (F.state flash.old) first plan table → SealsEnd first plan (DataRing ∷ []) table rose device result self.new (F.state flash.old) (F.state flash.new) }
-        ensures empty { OnOk result ((self.new.writer.count ≡ 0) × (self.new.bitmap ≡ 0)) }
+        ensures empty { OnOk result ((self.new.writer.count ≡ 0) × (self.new.bitmap ≡ 0) × (self.new.blob_end ≡ 0)) }
         ensures counted { OnOk result (HasCounted self.old self.new) }
         ensures last { last_key_in self.new ≡ last_key_in self.old }
         ensures pending_stays { OnErr result (pending_in self.new ≡ pending_in self.old) }

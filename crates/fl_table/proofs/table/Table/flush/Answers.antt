@@ -270,7 +270,7 @@ pub returns-clause-quiet : goal.returns-clause-quiet
 returns-clause-quiet g c = λ running none. absurd (c.if-count-eq0.false (c.count.ensures ∙ none))
 
 pub returns-clause-none : goal.returns-clause-none
-returns-clause-none g c = c.in_ok-seal.ensures.emptied.none
+returns-clause-none g c = c.in_ok-seal.ensures.emptied.empty.none
 
 pub returns-clause-seals : goal.returns-clause-seals
 returns-clause-seals g c = λ some. c.in_ok-seal.ensures.emptied

@@ -237,7 +237,7 @@ returns-clause-blob_next g c =
 pub returns-clause-room : goal.returns-clause-room
 returns-clause-room g c =
     let u = c.seal.new.self in
-    on-ok c.seal.result (IsEmptied c.args.self.now u) (HasRoom u) (λ sealed. row-fits u.writer.count (layout_len (layout_of u.schema)) u.geometry.page (length u.writer.body) u.writer.end sealed.none u.rows_end u.page u.room_for_row) c.seal.ensures.emptied
+    on-ok c.seal.result (IsEmptied c.args.self.now u) (HasRoom u) (λ sealed. row-fits u.writer.count (layout_len (layout_of u.schema)) u.geometry.page (length u.writer.body) u.writer.end sealed.empty.none u.rows_end u.page u.room_for_row) c.seal.ensures.emptied
 
 pub returns-clause-full : goal.returns-clause-full
 returns-clause-full g c =

@@ -390,7 +390,7 @@ pub returns-clause-blobs : goal.returns-clause-blobs
 returns-clause-blobs g c = refl
 
 pub returns-clause-empty : goal.returns-clause-empty
-returns-clause-empty g c = (ap (λ (w : WriterState). w.count) c.clear.ensures.exact, refl)
+returns-clause-empty g c = (ap (λ (w : WriterState). w.count) c.clear.ensures.exact, refl, refl)
 
 pub returns-clause-running : goal.returns-clause-running
 returns-clause-running g c = refl
