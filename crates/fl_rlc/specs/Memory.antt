@@ -25,6 +25,10 @@ next_in log = unwrap_or (option_map (λ r. next_of r) log.ring) 0
 abbrev pub oldest_in : RecordLog → ℕ
 oldest_in log = unwrap_or (option_map (λ r. oldest_of r) log.ring) 0
 
+-- .. and the oldest one after the seal of the next page
+abbrev pub oldest_after : RecordLog → ℕ
+oldest_after log = unwrap_or (option_map (λ r. place.oldest_after r) log.ring) 0
+
 -- the flash pages that the seal of the next page changes
 abbrev pub MaySeal : RecordLog → ℕ → Type 0
 MaySeal log = MaySealIn log.ring

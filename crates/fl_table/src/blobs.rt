@@ -13,7 +13,7 @@ ghost use Rattle.fl_table.specs.BlobMount.{MountEndsOf, FindsBlobs, RefusesBlobs
 ghost use Rattle.fl_table.specs.Causes.{MountCausedBy, OffFailsAs};
 ghost use Rattle.fl_table.specs.MountLimits.{IsVarLimited};
 ghost use Rattle.fl_table.specs.Mounting.{FewReads, FewRepairs};
-ghost use Rattle.fl_table.specs.Blobs.{AreSamePlan, LieOn, AreRunning, AreEmpty, MayFill, MaySeal, NumbersLeft, RestEndsOf, PlaceEndsOf, StandOutside, next_of, next_after, rings_of, room_of, HasFew, HavePlaced, pages_for, placed_in, FitsRow};
+ghost use Rattle.fl_table.specs.Blobs.{AreSamePlan, LieOn, AreRunning, AreEmpty, MayFill, MaySeal, NumbersLeft, RestEndsOf, PlaceEndsOf, StandOutside, next_of, next_after, oldest_of, oldest_after, rings_of, room_of, HasFew, HavePlaced, pages_for, placed_in, FitsRow};
 ghost use Rattle.fl_var.specs.Memory.{waiting_in, BytesPaged};
 
 use crate::MountFault;
@@ -111,6 +111,7 @@ pub(crate) fn seal_rest<F: Flash>(
     ensures lies { LieOn blobs.new (F.state flash.new) }
     ensures running { OnOk result (AreRunning blobs.new) }
     ensures next { OnOk result (next_of blobs.new ≡ next_after blobs.old) }
+    ensures oldest { OnOk result (oldest_of blobs.new ≡ oldest_after blobs.old) }
     ensures empty { OnOk result (AreEmpty blobs.new) }
     ensures ends { (first : ℕ) (plan : Plan) (table : model.Table) (rose : Bool) (device : Device) →
         RestEndsOf blobs.old (F.state flash.old) first plan table rose device result blobs.new (F.state flash.new) }

@@ -25,7 +25,7 @@ impl<const KNOTS: usize, const SLOTS: usize> Table<KNOTS, SLOTS> {
     ghost use Rattle.fl_table.specs.Look.{last_key_in};
     ghost use Rattle.fl_table.specs.Memory.{is_running, is_stopped, next_in, pending_in, IsSamePlan, LiesOn, MaySeal, PendingAre};
     ghost use Rattle.fl_table.specs.Standing.{Stands};
-    ghost use Rattle.fl_table.specs.Bitmaps.{HaveRoom, bitmap_seals, next_of as index_next, rings_of, MaySeal as index_seals, StandOutside};
+    ghost use Rattle.fl_table.specs.Bitmaps.{RingGoesOn, HaveRoom, bitmap_seals, next_of as index_next, oldest_of, rings_of, MaySeal as index_seals, StandOutside};
     ghost use Rattle.fl_table.specs.Blobs as variable;
     ghost use Rattle.fl_table.specs.Blobs.{AreEmpty, rest_seals};
     ghost use Rattle.fl_table.specs.Causes.{OffFailsAs};
@@ -86,6 +86,7 @@ impl<const KNOTS: usize, const SLOTS: usize> Table<KNOTS, SLOTS> {
         ensures running { OnOk result (is_running self.new ≡ true) }
         ensures next { OnOk result (next_in self.new ≡ next_in self.old) }
         ensures index_next { OnOk result (index_next self.new.bitmaps ≤ index_next self.old.bitmaps + 1) }
+        ensures index { OnOk result (RingGoesOn self.old.bitmaps self.new.bitmaps) }
         ensures calm { OnOk result (is_stopped self.new ≡ is_stopped self.old) }
         ensures stopped { OnErr result ((is_running self.new ≡ false) × (is_stopped self.new ≡ true)) }
         ensures outside { IsTrue (F.state flash.old).media.tells → OutsideStands self.old (page_at (F.state flash.old)) (page_at (F.state flash.new)) }
@@ -123,6 +124,7 @@ impl<const KNOTS: usize, const SLOTS: usize> Table<KNOTS, SLOTS> {
         ensures running { OnOk result (is_running self.new ≡ true) }
         ensures next { OnOk result (next_in self.new ≡ next_in self.old) }
         ensures blob_next { OnOk result (variable.next_of self.new.blobs ≡ variable.next_after self.old.blobs) }
+        ensures blob_oldest { OnOk result (variable.oldest_of self.new.blobs ≡ variable.oldest_after self.old.blobs) }
         ensures calm { OnOk result (is_stopped self.new ≡ is_stopped self.old) }
         ensures stopped { OnErr result ((is_running self.new ≡ false) × (is_stopped self.new ≡ true)) }
         ensures outside { IsTrue (F.state flash.old).media.tells → OutsideStands self.old (page_at (F.state flash.old)) (page_at (F.state flash.new)) }
@@ -175,6 +177,7 @@ impl<const KNOTS: usize, const SLOTS: usize> Table<KNOTS, SLOTS> {
         ensures running { OnOk result (is_running self.new ≡ true) }
         ensures next { OnOk result (next_in self.new ≡ next_in self.old + 1) }
         ensures index_next { OnOk result (index_next self.new.bitmaps ≡ index_next self.old.bitmaps) }
+        ensures index_oldest { OnOk result (oldest_of self.new.bitmaps ≡ oldest_of self.old.bitmaps) }
         ensures blobs { self.new.blobs ≡ self.old.blobs }
         ensures calm { OnOk result (is_stopped self.new ≡ is_stopped self.old) }
         ensures stopped { OnErr result ((is_running self.new ≡ false) × (is_stopped self.new ≡ true)) }

@@ -1,5 +1,5 @@
 -- What clauses see of a ring of variable data in memory.
-use Rattle.std.specs.Prelude.{◌≡◌, ℕ, ◌+◌, ◌-◌, ◌^◌, ◌<◌, ◌≤◌, Bool, ◌==◌, if◌then◌else◌, is_some, option_map, unwrap_or, List, drop}
+use Rattle.std.specs.Prelude.{◌≡◌, ℕ, zero, suc, ◌+◌, ◌-◌, ◌^◌, ◌<◌, ◌≤◌, Bool, ◌==◌, if◌then◌else◌, is_some, option_map, unwrap_or, List, drop}
 use Rattle.std.specs.Option.{ForSome}
 use Rattle.fl_flash.specs.Flash.{FlashState, pages, page_at}
 use Rattle.fl_model.specs.Layout.{committed}
@@ -8,7 +8,7 @@ use Rattle.fl_ring.specs.Mounting.{shape_at}
 use Rattle.fl_ring.specs.Place.{next_of, oldest_of}
 use Rattle.fl_ring.specs.Place as place
 use Rattle.fl_ring.specs.Ring as ring
-use Rattle.fl_ring.specs.Ring.{Shape}
+use Rattle.fl_ring.specs.Ring.{Shape, is_due_at}
 use Rattle.fl_ring.specs.Written.{MaySealIn, sealed_over}
 use Rattle.fl_var.specs.Content.{content_body}
 use Rattle.fl_var.specs.WaitingState.{content_in}
@@ -43,6 +43,15 @@ room_in v = v.geometry.page - 16
 -- where the ring stands
 abbrev pub var_shape : VarData → Shape
 var_shape v = shape_at v.place v.geometry
+
+-- the oldest page that a ring keeps after so many seals: with each its oldest block goes where it has to
+abbrev pub oldest_through : Shape → ℕ → ℕ → ℕ → ℕ
+oldest_through r next oldest zero = oldest
+oldest_through r next oldest (suc n) =
+    let before = oldest_through r next oldest n in if is_due_at r (next + suc n) (next + suc n - before) then before + r.per_block else before
+
+abbrev pub oldest_after : VarData → ℕ → ℕ
+oldest_after v n = oldest_through (var_shape v) (next_in v) (oldest_in v) n
 
 -- the flash pages of the ring
 abbrev pub IsOnRing : VarData → ℕ → Type 0

@@ -30,7 +30,7 @@ pub returns-in-Some-clause-logs : goal.returns-in-Some-clause-logs
 returns-in-Some-clause-logs g c =
     subst (λ (o : Option RecordLog). OnOk c.seal.result (HaveLogged (layout_of c.args.schema.now) (record { key = c.args.key; values = c.args.values.now; blob = None }) o (Some c.seal.new.self))) (sym c.in-Some.is)
     (joined-logged (layout_of c.args.schema.now) (record { key = c.args.key; values = c.args.values.now; blob = None }) c.in-Some.log c.add.new.self c.seal.new.self c.seal.result c.add.ensures.ring c.add.ensures.joins
-    c.seal.ensures.next c.seal.ensures.rows)
+    c.seal.ensures.next c.seal.ensures.oldest c.seal.ensures.rows)
 
 pub returns-in-None-clause-writes : goal.returns-in-None-clause-writes
 returns-in-None-clause-writes g c = writes-none (MaySealLog c.args.log.now) (cond (is_some c.args.log.now) 1 0) (g.F.Flash.state c.args.flash.now)

@@ -197,6 +197,9 @@ returns-in-Err-clause-next g c = tt
 pub returns-in-Err-clause-blob_next : goal.returns-in-Err-clause-blob_next
 returns-in-Err-clause-blob_next g c = tt
 
+pub returns-in-Err-clause-blob_oldest : goal.returns-in-Err-clause-blob_oldest
+returns-in-Err-clause-blob_oldest g c = tt
+
 pub returns-in-Err-clause-calm : goal.returns-in-Err-clause-calm
 returns-in-Err-clause-calm g c = tt
 
@@ -250,6 +253,9 @@ returns-clause-next g c = refl
 
 pub returns-clause-blob_next : goal.returns-clause-blob_next
 returns-clause-blob_next g c = c.in_default.ensures.next
+
+pub returns-clause-blob_oldest : goal.returns-clause-blob_oldest
+returns-clause-blob_oldest g c = c.in_default.ensures.oldest
 
 pub returns-clause-calm : goal.returns-clause-calm
 returns-clause-calm g c = refl
