@@ -18,7 +18,7 @@ impl RecordLog {
     ghost use Rattle.fl_ring.specs.Ring.{OutsideStands};
     ghost use Rattle.fl_ring.specs.Written.{Writes, done};
     ghost use Rattle.fl_frame.specs.Watched.{IsWatched};
-    ghost use Rattle.fl_rlc.specs.Memory.{is_mounted, next_in, oldest_in, oldest_after, rows_in, page_len, kept_rows, log_shape, IsSamePlan, LiesOn, MaySeal};
+    ghost use Rattle.fl_rlc.specs.Memory.{is_mounted, next_in, oldest_in, oldest_after, rows_in, page_len, kept_rows, log_shape, IsSamePlan, LiesOn, LogAhead, MaySeal};
     ghost use Rattle.fl_rlc.specs.Paged.{RowsLogged};
     ghost use Rattle.fl_rlc.specs.Sealing.{IsReady, SealEnds};
     ghost use Rattle.fl_schema.specs.Schema.{layout_of};
@@ -78,6 +78,7 @@ impl RecordLog {
         ensures outside { IsTrue (F.state flash.old).media.tells → OutsideStands (log_shape self.old) (page_at (F.state flash.old)) (page_at (F.state flash.new)) }
         ensures writes { Writes (MaySeal self.old) (done result) 1 (F.state flash.old) (F.state flash.new) }
         ensures page { OnOk result (IsTrue (F.state flash.old).media.tells → (layout : RowLayout) → (rows : List Row) → Gathers layout rows (rows_in self.old) → RowsLogged self.old layout rows (page_at (F.state flash.old)) (page_at (F.state flash.new))) }
+        ensures ahead { OnOk result (IsTrue (F.state flash.old).media.tells → LogAhead self.old (page_at (F.state flash.new))) }
         ensures reads { (F.state flash.new).work.reads ≡ (F.state flash.old).work.reads }
         ensures media_reads { (F.state flash.new).media.reads ≤ (F.state flash.old).media.reads + 1 }
         ensures off { OffChangesNothing (F.state flash.old) result (F.state flash.new) }

@@ -31,8 +31,8 @@ impl<const KNOTS: usize, const SLOTS: usize> Table<KNOTS, SLOTS> {
     ghost use Rattle.fl_table.specs.Causes.{OffFailsAs};
     ghost use Rattle.fl_table.specs.Mounting.{OutsideStands, rings_in};
     ghost use Rattle.fl_table.specs.Outcomes.{SealsEnd};
-    ghost use Rattle.fl_table.specs.Paged.{BlobsPaged, IsApart, RowsPaged, next_page};
-    ghost use Rattle.fl_var.specs.Memory.{waiting_in, BytesPaged};
+    ghost use Rattle.fl_table.specs.Paged.{BlobsAhead, BlobsPaged, IsApart, RowsAhead, RowsPaged, next_page};
+    ghost use Rattle.fl_var.specs.Memory.{waiting_in, BytesAhead, BytesPaged};
     ghost use Rattle.fl_table.specs.Stored.{HasCounted, IsEmptied, WaitsSame};
 
     /// Seals the table: the waiting entries, where they fill an index page, the blob bytes that wait, and then the pending
@@ -56,6 +56,8 @@ impl<const KNOTS: usize, const SLOTS: usize> Table<KNOTS, SLOTS> {
         ensures outside { IsTrue (F.state flash.old).media.tells → OutsideStands self.old (page_at (F.state flash.old)) (page_at (F.state flash.new)) }
         ensures page { OnOk result (IsTrue (F.state flash.old).media.tells → IsApart self.old (next_page self.old) → RowsPaged self.old (page_at (F.state flash.old)) (page_at (F.state flash.new))) }
         ensures blob_page { OnOk result (BlobsPaged self.old (F.state flash.old) (F.state flash.new)) }
+        ensures ahead { OnOk result (IsTrue (F.state flash.old).media.tells → RowsAhead self.old (λ page. ⊥) (page_at (F.state flash.new))) }
+        ensures blobs_ahead { OnOk result (BlobsAhead self.old (F.state flash.old) (F.state flash.new)) }
         ensures writes { Writes (MaySeal self.old) (done result) (rings_in self.old) (F.state flash.old) (F.state flash.new) }
         ensures reads { (F.state flash.new).work.reads ≡ (F.state flash.old).work.reads }
         ensures media_reads { (F.state flash.new).media.reads ≤ (F.state flash.old).media.reads + rings_in self.old }
@@ -130,6 +132,7 @@ impl<const KNOTS: usize, const SLOTS: usize> Table<KNOTS, SLOTS> {
         ensures outside { IsTrue (F.state flash.old).media.tells → OutsideStands self.old (page_at (F.state flash.old)) (page_at (F.state flash.new)) }
         ensures still { WaitsSame self.old self.new × (IsTrue (F.state flash.old).media.tells → variable.StandOutside self.old.blobs (page_at (F.state flash.old)) (page_at (F.state flash.new))) }
         ensures page { IfSome self.old.blobs (λ var. 1 ≤ length (waiting_in var) → OnOk result (IsTrue (F.state flash.old).media.tells → BytesPaged var (page_at (F.state flash.old)) (page_at (F.state flash.new)))) }
+        ensures ahead { IfSome self.old.blobs (λ var. 1 ≤ length (waiting_in var) → OnOk result (IsTrue (F.state flash.old).media.tells → BytesAhead var (λ page. ⊥) (page_at (F.state flash.new)))) }
         ensures writes { Writes (variable.MaySeal self.old.blobs) 0 (variable.rings_of self.old.blobs) (F.state flash.old) (F.state flash.new) }
         ensures reads { (F.state flash.new).work.reads ≡ (F.state flash.old).work.reads }
         ensures media_reads { (F.state flash.new).media.reads ≤ (F.state flash.old).media.reads + variable.rings_of self.old.blobs }
@@ -183,6 +186,7 @@ impl<const KNOTS: usize, const SLOTS: usize> Table<KNOTS, SLOTS> {
         ensures stopped { OnErr result ((is_running self.new ≡ false) × (is_stopped self.new ≡ true)) }
         ensures outside { IsTrue (F.state flash.old).media.tells → OutsideStands self.old (page_at (F.state flash.old)) (page_at (F.state flash.new)) }
         ensures page { OnOk result (IsTrue (F.state flash.old).media.tells → RowsPaged self.old (page_at (F.state flash.old)) (page_at (F.state flash.new))) }
+        ensures ahead { OnOk result (IsTrue (F.state flash.old).media.tells → RowsAhead self.old (λ page. ⊥) (page_at (F.state flash.new))) }
         ensures writes { Writes (MaySealIn self.old.ring) (done result) 1 (F.state flash.old) (F.state flash.new) }
         ensures reads { (F.state flash.new).work.reads ≡ (F.state flash.old).work.reads }
         ensures media_reads { (F.state flash.new).media.reads ≤ (F.state flash.old).media.reads + 1 }

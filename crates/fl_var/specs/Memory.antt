@@ -10,6 +10,7 @@ use Rattle.fl_ring.specs.Place as place
 use Rattle.fl_ring.specs.Ring as ring
 use Rattle.fl_ring.specs.Ring.{Shape, is_due_at}
 use Rattle.fl_ring.specs.Written.{MaySealIn, sealed_over}
+use Rattle.fl_var.specs.Ahead.{AheadBlank}
 use Rattle.fl_var.specs.Content.{content_body}
 use Rattle.fl_var.specs.WaitingState.{content_in}
 use Rattle.fl_var.specs.declared.var_data.VarData.{VarData}
@@ -63,6 +64,10 @@ bytes_page v = ring.place (var_shape v) (next_in v)
 
 abbrev pub BytesPaged : VarData → (ℕ → List ℕ) → (ℕ → List ℕ) → Type 0
 BytesPaged v old new = new (bytes_page v) ≡ sealed_over (var_shape v) (content_body (room_in v) (next_in v) (waiting_in v)) (old (bytes_page v))
+
+-- where the oldest block goes with their seal, the block ahead is blank then, but for the pages that may have changed since
+abbrev pub BytesAhead : VarData → (ℕ → Type 0) → (ℕ → List ℕ) → Type 0
+BytesAhead v Changed new = AheadBlank v.ring Changed new
 
 -- the bytes at the place of a page number
 abbrev pub page_in : VarData → FlashState → ℕ → List ℕ

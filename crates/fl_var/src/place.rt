@@ -16,7 +16,7 @@ impl VarData {
     ghost use Rattle.fl_ring.specs.Ring.{OutsideStands};
     ghost use Rattle.fl_frame.specs.Watched.{IsWatched};
     ghost use Rattle.fl_ring.specs.Written.{Writes, done};
-    ghost use Rattle.fl_var.specs.Memory.{is_mounted, next_in, oldest_in, oldest_after, waiting_in, room_in, var_shape, BytesPaged, IsOnRing, IsSamePlan, LiesOn, MaySeal};
+    ghost use Rattle.fl_var.specs.Memory.{is_mounted, next_in, oldest_in, oldest_after, waiting_in, room_in, var_shape, BytesAhead, BytesPaged, IsOnRing, IsSamePlan, LiesOn, MaySeal};
     ghost use Rattle.fl_var.specs.Placing.{is_full_in, room_seals, pages_placed, reference_in, EndsWith, PlaceEnds, RestEnds};
     ghost use Rattle.fl_var.specs.Standing.{Stands, HasRing};
 
@@ -39,6 +39,7 @@ impl VarData {
             → EndsWith plan (VarRing ∷ []) table rose device self.old (F.state flash.old) result self.new (F.state flash.new) }
         ensures outside { IsTrue (F.state flash.old).media.tells → OutsideStands (var_shape self.old) (page_at (F.state flash.old)) (page_at (F.state flash.new)) }
         ensures page { OnOk result (IsTrue (F.state flash.old).media.tells → BytesPaged self.old (page_at (F.state flash.old)) (page_at (F.state flash.new))) }
+        ensures ahead { OnOk result (IsTrue (F.state flash.old).media.tells → BytesAhead self.old (λ page. ⊥) (page_at (F.state flash.new))) }
         ensures writes { Writes (MaySeal self.old) (done result) 1 (F.state flash.old) (F.state flash.new) }
         ensures reads { (F.state flash.new).work.reads ≡ (F.state flash.old).work.reads }
         ensures media_reads { (F.state flash.new).media.reads ≤ (F.state flash.old).media.reads + 1 }
@@ -185,6 +186,7 @@ impl VarData {
         ensures power { OnOk result ((F.state flash.old).is_on ≡ true → (F.state flash.new).is_on ≡ true) }
         ensures outside { IsTrue (F.state flash.old).media.tells → OutsideStands (var_shape self.old) (page_at (F.state flash.old)) (page_at (F.state flash.new)) }
         ensures page { 1 ≤ length (waiting_in self.old) → OnOk result (IsTrue (F.state flash.old).media.tells → BytesPaged self.old (page_at (F.state flash.old)) (page_at (F.state flash.new))) }
+        ensures ahead { 1 ≤ length (waiting_in self.old) → OnOk result (IsTrue (F.state flash.old).media.tells → BytesAhead self.old (λ page. ⊥) (page_at (F.state flash.new))) }
         ensures writes { Writes (MaySeal self.old) 0 1 (F.state flash.old) (F.state flash.new) }
         ensures reads { (F.state flash.new).work.reads ≡ (F.state flash.old).work.reads }
         ensures media_reads { (F.state flash.new).media.reads ≤ (F.state flash.old).media.reads + 1 }

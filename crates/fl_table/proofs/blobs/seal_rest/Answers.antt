@@ -3,7 +3,7 @@ use Rattle.fl_table.specs.Blobs.{RestEndsOf, oldest_after}
 use Rattle.fl_table.proofs.BlobSteps.{rest-ends}
 use Rattle.fl_flash.specs.Flash.{OffChangesNothing, page_at}
 use Rattle.fl_table.proofs.PowerOff.{off-either}
-use Rattle.fl_var.specs.Memory.{oldest_in, waiting_in, BytesPaged}
+use Rattle.fl_var.specs.Memory.{oldest_in, waiting_in, BytesAhead, BytesPaged}
 use Rattle.fl_table.proofs.blobs.seal_rest.Goals as goal
 use Rattle.fl_ring.specs.Written.{Writes}
 use Rattle.fl_ring.proofs.Written.{writes-none}
@@ -43,6 +43,14 @@ pub returns-in-Some-clause-page : goal.returns-in-Some-clause-page
 returns-in-Some-clause-page g c =
     subst (λ (o : Option VarData). IfSome o (λ var. 1 ≤ length (waiting_in var) → OnOk c.seal_rest.result (IsTrue (g.F.Flash.state c.args.flash.now).media.tells → BytesPaged var (page_at (g.F.Flash.state c.args.flash.now)) (page_at (g.F.Flash.state c.seal_rest.new.flash))))) (sym c.in-Some.is)
     c.seal_rest.ensures.page
+
+pub returns-in-Some-clause-ahead : goal.returns-in-Some-clause-ahead
+returns-in-Some-clause-ahead g c =
+    subst (λ (o : Option VarData). IfSome o (λ var. 1 ≤ length (waiting_in var) → OnOk c.seal_rest.result (IsTrue (g.F.Flash.state c.args.flash.now).media.tells → BytesAhead var (λ page. ⊥) (page_at (g.F.Flash.state c.seal_rest.new.flash))))) (sym c.in-Some.is)
+    c.seal_rest.ensures.ahead
+
+pub returns-in-None-clause-ahead : goal.returns-in-None-clause-ahead
+returns-in-None-clause-ahead g c = rw c.in-None.is tt
 
 pub returns-in-None-clause-page : goal.returns-in-None-clause-page
 returns-in-None-clause-page g c = rw c.in-None.is tt

@@ -14,6 +14,7 @@ use Rattle.fl_ring.specs.Sealing.{Performed}
 use Rattle.fl_ring.specs.Written.{done}
 use Rattle.fl_ring.proofs.Written.{held-writes, page-as}
 use Rattle.fl_index.proofs.SealAnswers.{seal-on}
+use Rattle.fl_var.proofs.Ahead.{held-ahead}
 use Rattle.fl_rlc.specs.Memory.{log_shape, next_in}
 use Rattle.fl_rlc.specs.Pages.{log_body}
 use Rattle.fl_rlc.proofs.SealsInTable.{seal-breaks, seal-finishes, seal-err, ready, pages-size, next-is}
@@ -128,6 +129,14 @@ pub returns-clause-next : goal.returns-clause-next
 returns-clause-next g c =
     let ring_is : c.args.self.now.ring ≡ Some c.in-Some.ring = search rules in
     c.in_ok-seal.ensures.next ∙ ap (λ n. n + 1) (sym (next-is c.args.self.now c.in-Some.ring ring_is))
+
+pub returns-clause-ahead : goal.returns-clause-ahead
+returns-clause-ahead g c = λ told.
+    let ring_is : c.args.self.now.ring ≡ Some c.in-Some.ring = search rules in
+    held-ahead c.in-Some.ring c.body.result.now (g.F.Flash.state c.args.flash.now) (g.F.Flash.state c.seal.new.flash) (c.requires.lies.ring c.in-Some.ring ring_is) told c.args.self.now.ring ring_is c.in_ok-seal.field-0 c.in_ok-seal.ensures.calls
+
+pub returns-in_err-seal-clause-ahead : goal.returns-in_err-seal-clause-ahead
+returns-in_err-seal-clause-ahead g c = let p = err_from_is_err_and c.from_residual.result c.from_residual.ensures.1 in rw p.1 tt
 
 pub returns-clause-oldest : goal.returns-clause-oldest
 returns-clause-oldest g c =

@@ -310,4 +310,4 @@ returns-in_err-seal-clause-sealed g c =
     rw p.1 tt
 
 pub returns-clause-sealed : goal.returns-clause-sealed
-returns-clause-sealed g c = λ some. record { writes = c.in_ok-seal.ensures.writes; page = c.in_ok-seal.ensures.page; blobs = c.in_ok-seal.ensures.blob_page }
+returns-clause-sealed g c = λ some. record { writes = c.in_ok-seal.ensures.writes; page = c.in_ok-seal.ensures.page; blobs = c.in_ok-seal.ensures.blob_page; ahead = c.in_ok-seal.ensures.ahead; blobs_ahead = c.in_ok-seal.ensures.blobs_ahead }

@@ -251,4 +251,4 @@ returns-then-not-is_full-clause-sealed g c = λ full.
     absurd (full (ltb-false (length t.writer.body) (t.writer.end + layout_len (layout_of t.schema)) (sym c.is_full.ensures.room ∙ c.if-not-is_full.true)))
 
 pub returns-clause-sealed : goal.returns-clause-sealed
-returns-clause-sealed g c = flushed-of c.args.self.now c.seal.result (g.F.Flash.state c.args.flash.now) (g.F.Flash.state c.seal.new.flash) c.seal.ensures.writes c.seal.ensures.page c.seal.ensures.blob_page
+returns-clause-sealed g c = flushed-of c.args.self.now c.seal.result (g.F.Flash.state c.args.flash.now) (g.F.Flash.state c.seal.new.flash) c.seal.ensures.writes c.seal.ensures.page c.seal.ensures.blob_page c.seal.ensures.ahead c.seal.ensures.blobs_ahead

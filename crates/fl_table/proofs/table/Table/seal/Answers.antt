@@ -18,10 +18,12 @@ use Rattle.fl_table.proofs.PowerOff.{off-then}
 use Rattle.fl_table.proofs.Sizes.{table-fits}
 use Rattle.fl_table.specs.Memory.{is_stopped, next_in}
 use Rattle.fl_var.specs.declared.var_data.VarData.{VarData}
-use Rattle.fl_table.specs.Paged.{BlobsPaged, IsApart, RowsPaged, next_page}
+use Rattle.fl_table.specs.Paged.{BlobsAhead, BlobsPaged, IsApart, RowsAhead, RowsPaged, next_page}
+use Rattle.fl_ring.specs.declared.ring.Ring.{Ring}
+use Rattle.fl_var.specs.Ahead.{AheadBlank}
 use Rattle.fl_table.specs.Stored.{HasCounted, IsEmptied}
 use Rattle.fl_table.proofs.Counted.{counted-then, waits-then}
-use Rattle.fl_table.proofs.Paged.{blobs-paged, rows-paged}
+use Rattle.fl_table.proofs.Paged.{blobs-ahead, blobs-paged, rows-paged}
 use Rattle.fl_table.proofs.Stored.{pending-none}
 use Rattle.fl_table.proofs.Untouched.{on-both, on-ok, on-err, no-success}
 use Rattle.fl_ring.specs.Written.{done}
@@ -364,6 +366,44 @@ returns-clause-page g c =
     let then = c.in_ok-seal_blobs.ensures in
     on-ok c.seal_rows.result (IsTrue n.media.tells → RowsPaged u (page_at n) (page_at new)) (IsTrue f.media.tells → IsApart t (next_page t) → RowsPaged t (page_at f) (page_at new))
     (rows-paged t c.seal_bitmaps.new.self u f m n new first.goes.tells then.goes.tells first.same then.same (then.next ∙ first.next) first.still then.still) c.seal_rows.ensures.page
+
+pub returns-in_err-seal_bitmaps-clause-ahead : goal.returns-in_err-seal_bitmaps-clause-ahead
+returns-in_err-seal_bitmaps-clause-ahead g c = no-success _ _ c.from_residual.result c.from_residual.ensures.1
+
+pub returns-in_err-seal_blobs-clause-ahead : goal.returns-in_err-seal_blobs-clause-ahead
+returns-in_err-seal_blobs-clause-ahead g c = no-success _ _ c.from_residual-in_err-seal_blobs.result c.from_residual-in_err-seal_blobs.ensures.1
+
+pub returns-clause-ahead : goal.returns-clause-ahead
+returns-clause-ahead g c =
+    let t = c.args.self.now in
+    let u = c.seal_blobs.new.self in
+    let first = c.in_ok-seal_bitmaps.ensures in
+    let then = c.in_ok-seal_blobs.ensures in
+    let f = g.F.Flash.state c.args.flash.now in
+    let n = g.F.Flash.state c.seal_blobs.new.flash in
+    let new = g.F.Flash.state c.seal_rows.new.flash in
+    on-ok c.seal_rows.result (IsTrue n.media.tells → RowsAhead u (λ page. ⊥) (page_at new)) (IsTrue f.media.tells → RowsAhead t (λ page. ⊥) (page_at new))
+    (λ h told. subst (λ (o : Option Ring). AheadBlank o (λ page. ⊥) (page_at new)) (then.ring ∙ first.ring) (h (subst IsTrue (sym (then.goes.tells ∙ first.goes.tells)) told))) c.seal_rows.ensures.ahead
+
+pub returns-in_err-seal_bitmaps-clause-blobs_ahead : goal.returns-in_err-seal_bitmaps-clause-blobs_ahead
+returns-in_err-seal_bitmaps-clause-blobs_ahead g c = no-success _ _ c.from_residual.result c.from_residual.ensures.1
+
+pub returns-in_err-seal_blobs-clause-blobs_ahead : goal.returns-in_err-seal_blobs-clause-blobs_ahead
+returns-in_err-seal_blobs-clause-blobs_ahead g c = no-success _ _ c.from_residual-in_err-seal_blobs.result c.from_residual-in_err-seal_blobs.ensures.1
+
+pub returns-clause-blobs_ahead : goal.returns-clause-blobs_ahead
+returns-clause-blobs_ahead g c =
+    let t = c.args.self.now in
+    let u = c.seal_blobs.new.self in
+    let f = g.F.Flash.state c.args.flash.now in
+    let m = g.F.Flash.state c.seal_bitmaps.new.flash in
+    let n = g.F.Flash.state c.seal_blobs.new.flash in
+    let new = g.F.Flash.state c.seal_rows.new.flash in
+    let first = c.in_ok-seal_bitmaps.ensures in
+    let then = c.in_ok-seal_blobs.ensures in
+    on-ok c.seal_rows.result (next_in c.seal_rows.new.self ≡ next_in u + 1) (BlobsAhead t f new)
+    (λ next. blobs-ahead t c.seal_bitmaps.new.self u (done c.seal_rows.result) f m n new first.goes.tells then.goes.tells first.blobs (then.ring ∙ first.ring) then.ahead c.seal_rows.ensures.writes)
+    c.seal_rows.ensures.next
 
 pub returns-in_err-seal_bitmaps-clause-blob_page : goal.returns-in_err-seal_bitmaps-clause-blob_page
 returns-in_err-seal_bitmaps-clause-blob_page g c = no-success _ _ c.from_residual.result c.from_residual.ensures.1

@@ -302,6 +302,12 @@ returns-in-Err-clause-still g c = (record { writer = refl; bitmap = refl; counts
 pub returns-clause-still : goal.returns-clause-still
 returns-clause-still g c = (record { writer = refl; bitmap = refl; counts = refl; voids = refl; index = refl }, c.in_default.ensures.outside)
 
+pub returns-in-Err-clause-ahead : goal.returns-in-Err-clause-ahead
+returns-in-Err-clause-ahead g c = c.in-Err.ensures.ahead
+
+pub returns-clause-ahead : goal.returns-clause-ahead
+returns-clause-ahead g c = c.in_default.ensures.ahead
+
 pub returns-in-Err-clause-page : goal.returns-in-Err-clause-page
 returns-in-Err-clause-page g c = c.in-Err.ensures.page
 

@@ -21,6 +21,7 @@ use Rattle.std.specs.List.{sum}
 use Rattle.fl_table.proofs.BlobsOfTable as blobbing
 use Rattle.fl_table.proofs.BlobsOfTable.{var-stands}
 use Rattle.fl_index.proofs.SealAnswers.{seal-on}
+use Rattle.fl_var.proofs.Ahead.{held-ahead}
 use Rattle.fl_table.proofs.SealAnswers.{planned-ring, planned-shape, lies-size, sealing-of, seal-ready, writer-count, pending-length, ring-next, counts-room, note-same, written-back}
 use Rattle.fl_table.proofs.VarFacts.{rest-of}
 use Rattle.fl_table.proofs.VoidPages.{voids-told}
@@ -460,6 +461,15 @@ returns-clause-writes g c =
     let t = c.args.self.now in
     let has : t.ring ≡ Some c.in-Some.ring = sym c.take.ensures.value ∙ c.in-Some.is in
     held-writes t.ring c.in-Some.ring 1 1 _ _ has (omega arith) c.in_default-seal.ensures.writes
+
+pub returns-in-Err-clause-ahead : goal.returns-in-Err-clause-ahead
+returns-in-Err-clause-ahead g c = tt
+
+pub returns-clause-ahead : goal.returns-clause-ahead
+returns-clause-ahead g c = λ told.
+    let t = c.args.self.now in
+    let has : t.ring ≡ Some c.in-Some.ring = sym c.take.ensures.value ∙ c.in-Some.is in
+    held-ahead c.in-Some.ring c.body.result.now (g.F.Flash.state c.args.flash.now) (g.F.Flash.state c.seal.new.flash) (c.requires.lies.ring c.in-Some.ring has) told t.ring has c.in_default-seal.field-0 c.in_default-seal.ensures.calls
 
 pub returns-in-Err-clause-page : goal.returns-in-Err-clause-page
 returns-in-Err-clause-page g c = tt

@@ -39,6 +39,14 @@ returns-then-is_empty-clause-writes g c = writes-none (MaySeal c.args.self.now) 
 pub returns-clause-writes : goal.returns-clause-writes
 returns-clause-writes g c = writes-fewer (MaySeal c.args.self.now) (done c.seal.result) 1 _ _ c.seal.ensures.writes
 
+pub returns-then-is_empty-clause-ahead : goal.returns-then-is_empty-clause-ahead
+returns-then-is_empty-clause-ahead g c = λ some.
+    let none : length (waiting_in c.args.self.now) ≡ 0 = search rules in
+    absurd (omega (arith, some, none))
+
+pub returns-clause-ahead : goal.returns-clause-ahead
+returns-clause-ahead g c = λ some. c.seal.ensures.ahead
+
 pub returns-then-is_empty-clause-page : goal.returns-then-is_empty-clause-page
 returns-then-is_empty-clause-page g c = λ some.
     let none : length (waiting_in c.args.self.now) ≡ 0 = search rules in
