@@ -354,26 +354,17 @@ returns-in-Err-clause-goes g c = c.seal.ensures.goes
 pub returns-in-Err-clause-blobs : goal.returns-in-Err-clause-blobs
 returns-in-Err-clause-blobs g c = refl
 
-pub returns-in-Err-clause-empty : goal.returns-in-Err-clause-empty
-returns-in-Err-clause-empty g c = tt
-
 pub returns-in-Err-clause-running : goal.returns-in-Err-clause-running
 returns-in-Err-clause-running g c = tt
 
 pub returns-in-Err-clause-calm : goal.returns-in-Err-clause-calm
 returns-in-Err-clause-calm g c = tt
 
-pub returns-in-Err-clause-next : goal.returns-in-Err-clause-next
-returns-in-Err-clause-next g c = tt
-
 pub returns-in-Err-clause-stopped : goal.returns-in-Err-clause-stopped
 returns-in-Err-clause-stopped g c = (ap (λ (o : Option Ring). is_some o) c.take.ensures.after, refl)
 
 pub returns-in-Err-clause-index_next : goal.returns-in-Err-clause-index_next
 returns-in-Err-clause-index_next g c = tt
-
-pub returns-in-Err-clause-index_oldest : goal.returns-in-Err-clause-index_oldest
-returns-in-Err-clause-index_oldest g c = tt
 
 pub returns-in-Err-clause-power : goal.returns-in-Err-clause-power
 returns-in-Err-clause-power g c = tt
@@ -461,9 +452,6 @@ returns-clause-writes g c =
     let t = c.args.self.now in
     let has : t.ring ≡ Some c.in-Some.ring = sym c.take.ensures.value ∙ c.in-Some.is in
     held-writes t.ring c.in-Some.ring 1 1 _ _ has (omega arith) c.in_default-seal.ensures.writes
-
-pub returns-in-Err-clause-ahead : goal.returns-in-Err-clause-ahead
-returns-in-Err-clause-ahead g c = tt
 
 pub returns-clause-ahead : goal.returns-clause-ahead
 returns-clause-ahead g c = λ told.
