@@ -6,7 +6,8 @@ use Rattle.fl_model.specs.Row.{Row}
 use Rattle.fl_ring.specs.Place.{oldest_after}
 use Rattle.fl_spline.specs.Points.{IsFurther}
 use Rattle.fl_table.specs.Bitmaps.{RingGoesOn}
-use Rattle.fl_table.specs.Blobs.{HavePlaced, next_after, next_of, oldest_after, oldest_of, placed_in}
+use Rattle.fl_table.specs.Blobs as variable
+use Rattle.fl_table.specs.Blobs.{HavePlaced, next_after, next_of, placed_in}
 use Rattle.fl_table.specs.Look.{last_key_in, oldest_in}
 use Rattle.fl_table.specs.Memory.{bitmap_with, next_in, pending_in, HasRoom, NothingWaits, PendingAre}
 use Rattle.fl_table.specs.declared.table.Table.{Table}
@@ -58,7 +59,7 @@ pub record IsEmptied {KNOTS SLOTS : ℕ} (old new : Table KNOTS SLOTS) : Type 0 
   pub empty : NothingWaits new
   pub rows : PendingAre new []
   pub blob_next : next_of new.blobs ≡ next_after old.blobs
-  pub blob_oldest : oldest_of new.blobs ≡ oldest_after old.blobs
+  pub blob_oldest : variable.oldest_of new.blobs ≡ variable.oldest_after old.blobs
   pub index : RingGoesOn old.bitmaps new.bitmaps
   pub counted : HasCounted old new
 
