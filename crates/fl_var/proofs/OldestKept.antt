@@ -1,6 +1,7 @@
 -- Which page is the oldest one that a ring of variable data keeps after seals.
-use Rattle.std.proofs.Common.{◌≡◌, ℕ, zero, suc, ◌+◌, ◌-◌, ◌≤◌, ◌==◌, cond, Option, Some, unwrap_or, refl, sym, ◌∙◌, ap, arith}
+use Rattle.std.proofs.Common.{◌≡◌, ℕ, zero, suc, ◌+◌, ◌-◌, ◌≤◌, ◌==◌, cond, Option, Some, unwrap_or, sym, ◌∙◌, ap, arith}
 use Rattle.std.specs.Prelude.{option_map}
+use Rattle.std.proofs.lemmas.Bool.{ne_eqb}
 use Rattle.fl_ring.specs.Place as place_words
 use Rattle.fl_ring.specs.Ring.{Shape, is_due_at}
 use Rattle.fl_ring.specs.declared.ring.Ring.{Ring}
@@ -42,5 +43,4 @@ after-then first v w n k same next kept more =
 
 -- bytes that wait fill a page
 pub rest-one : (n : ℕ) → 1 ≤ n → cond (n == 0) 0 1 ≡ 1
-rest-one zero some = absurd (omega (arith, some))
-rest-one (suc n) some = refl
+rest-one n some = ap (λ b. cond b 0 1) (ne_eqb n 0 (λ e. omega (arith, e, some)))
