@@ -25,8 +25,8 @@ module _ (ring : Ring) (body : List ℕ) (old new : FlashState) (lies : LiesOn r
       let block : s.marked.geometry.block ≡ (shape_of ring).per_block = ap (λ (g : Geometry). g.block) geometry ∙ lies.block in
       let size : s.marked.geometry.page ≡ (shape_of ring).size = ap (λ (g : Geometry). g.page) geometry ∙ lies.page in
       let first : e.block * s.marked.geometry.block ≡ ahead_first (shape_of ring) (next_of ring + 1) = ap (λ n. e.block * n) block ∙ e.at in
-      let at : page ≡ e.block * s.marked.geometry.block + (page - ahead_first (shape_of ring) (next_of ring + 1)) = omega (arith, first, ahead.1.0) in
-      let here = (e.erases.ok (subst IsTrue (sym (s.mark_then.goes.tells ∙ s.body_first.goes.tells)) told)).here (page - ahead_first (shape_of ring) (next_of ring + 1)) (omega (arith, ahead.1.0, ahead.1.1, block)) in
+      let at : page ≡ e.block * s.marked.geometry.block + (page - ahead_first (shape_of ring) (next_of ring + 1)) = omega (arith, first, ahead.1) in
+      let here = (e.erases.ok (subst IsTrue (sym (s.mark_then.goes.tells ∙ s.body_first.goes.tells)) told)).here (page - ahead_first (shape_of ring) (next_of ring + 1)) (omega (arith, ahead.1, ahead.2, block)) in
       ap (page_at new) at ∙ (here ∙ ap blank size)
   erased u s page ahead false is e = absurd (not-false (sym ahead.0 ∙ is))
 

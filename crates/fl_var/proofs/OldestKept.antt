@@ -1,5 +1,5 @@
 -- Which page is the oldest one that a ring of variable data keeps after seals.
-use Rattle.std.proofs.Common.{◌≡◌, ℕ, zero, suc, ◌+◌, ◌-◌, ◌≤◌, ◌==◌, cond, Option, Some, unwrap_or, sym, ◌∙◌, ap, arith}
+use Rattle.std.proofs.Common.{◌≡◌, ℕ, zero, suc, ◌+◌, ◌-◌, ◌≤◌, ◌==◌, Bool, cond, Option, Some, unwrap_or, sym, ◌∙◌, ap, arith}
 use Rattle.std.specs.Prelude.{option_map}
 use Rattle.std.proofs.lemmas.Bool.{ne_eqb}
 use Rattle.fl_ring.specs.Place as place_words
@@ -42,5 +42,5 @@ after-then first v w n k same next kept more =
     ∙ (ap (λ m. oldest_through (var_shape first) (next_in first + n) m k) kept ∙ sym (through-both (var_shape first) (next_in first) (oldest_in first) n k))))
 
 -- bytes that wait fill a page
-pub rest-one : (n : ℕ) → 1 ≤ n → cond (n == 0) 0 1 ≡ 1
-rest-one n some = ap (λ b. cond b 0 1) (ne_eqb n 0 (λ e. omega (arith, e, some)))
+pub rest-one : (n : ℕ) → 1 ≤ n → ◌≡◌ {A = ℕ} (cond (n == 0) 0 1) 1
+rest-one n some = ap {B = ℕ} (λ (b : Bool). cond b 0 1) (ne_eqb n 0 (λ e. omega (arith, e, some)))

@@ -104,7 +104,7 @@ returns-clause-ends g c = λ first plan table rose device watched planned rests 
 
 -- no row, and no byte of a blob
 nothing-waits : {KNOTS SLOTS : ℕ} {t : Table KNOTS SLOTS} → (t.writer.count ≡ 0) × (t.bitmap ≡ 0) × (t.blob_end ≡ 0) → AreEmpty t.blobs → NothingWaits t
-nothing-waits rows blobs = record { none = rows.0; bits = rows.1.0; ends = rows.1.1; blobs = blobs }
+nothing-waits rows blobs = record { none = rows.0; bits = rows.1; ends = rows.2; blobs = blobs }
 
 pub returns-clause-found : goal.returns-clause-found
 returns-clause-found g c = λ told.
