@@ -38,6 +38,10 @@ next_in index = unwrap_or (option_map (λ ring. next_of ring) index.ring) 0
 abbrev pub oldest_in : BitmapIndex → ℕ
 oldest_in index = unwrap_or (option_map (λ ring. oldest_of ring) index.ring) 0
 
+-- .. and the oldest one after the seal of the next page
+abbrev pub oldest_after : BitmapIndex → ℕ
+oldest_after index = unwrap_or (option_map (λ ring. place.oldest_after ring) index.ring) 0
+
 -- the flash pages that the seal of the next index page changes
 abbrev pub MaySeal : BitmapIndex → ℕ → Type 0
 MaySeal index = MaySealIn index.ring

@@ -16,7 +16,7 @@ use Rattle.fl_ring.specs.Mounting.{shape_at}
 use Rattle.fl_ring.specs.Place as place_words
 use Rattle.fl_ring.specs.Ring.{Shape, place}
 use Rattle.fl_ring.specs.declared.ring.Ring as memory
-use Rattle.fl_rlc.specs.Memory.{next_in, rows_in, kept_rows, page_in, log_shape, IsSamePlan}
+use Rattle.fl_rlc.specs.Memory.{next_in, oldest_in, oldest_after, rows_in, kept_rows, page_in, log_shape, IsSamePlan}
 use Rattle.fl_rlc.specs.Pages.{IsLogRing}
 use Rattle.fl_rlc.specs.Rows.{Joins, HasLogged}
 use Rattle.fl_rlc.specs.Sealing as specs
@@ -66,12 +66,13 @@ joined-ready old new f first plan table layout row same ring h gathers = record 
 -- the row has joined, and the page with it was sealed
 pub joined-logged : (layout : RowLayout) (row : Row) (old mid new : RecordLog) (result : Result (Unit {0}) FlashFault) → mid.ring ≡ old.ring →
     ((rows : List Row) → Gathers layout rows (rows_in old) → Gathers layout (kept_rows layout (rows_in old) rows ++ row ∷ []) (rows_in mid)) →
-    OnOk result (next_in new ≡ next_in mid + 1) → ((l : RowLayout) (rows : List Row) → Gathers l rows (rows_in mid) → Gathers l rows (rows_in new)) → OnOk result (HasLogged layout row old new)
-joined-logged layout row old mid new (Ok done) ring joins next stay = record {
+    OnOk result (next_in new ≡ next_in mid + 1) → OnOk result (oldest_in new ≡ oldest_after mid) → ((l : RowLayout) (rows : List Row) → Gathers l rows (rows_in mid) → Gathers l rows (rows_in new)) → OnOk result (HasLogged layout row old new)
+joined-logged layout row old mid new (Ok done) ring joins next kept stay = record {
   next = next ∙ ap (λ (o : Option memory.Ring). unwrap_or (option_map (λ r. place_words.next_of r) o) 0 + 1) ring;
+  oldest = kept ∙ ap (λ (o : Option memory.Ring). unwrap_or (option_map (λ r. place_words.oldest_after r) o) 0) ring;
   rows = λ rows h. stay layout (kept_rows layout (rows_in old) rows ++ row ∷ []) (joins rows h);
 }
-joined-logged layout row old mid new (Err fault) ring joins next stay = tt
+joined-logged layout row old mid new (Err fault) ring joins next kept stay = tt
 
 -- the seal of the log with the row is one of the log without it
 pub seal-moved : (old mid : RecordLog) (f : FlashState) (first : ℕ) (plan : Plan) (table : model.Table) (rose : Bool) (device : Device) (result : Result (Unit {0}) FlashFault) (now : RecordLog) (new : FlashState) → IsSamePlan old mid →

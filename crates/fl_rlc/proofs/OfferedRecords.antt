@@ -1,11 +1,15 @@
 -- Records that are offered to a table, one after another.
-use Rattle.std.proofs.Common.{◌≡◌, ℕ, suc, ◌+◌, ◌<◌, ◌≤◌, ◌⊎◌, inl, inr, zero, None, IsSomeAnd, List, [], ◌∷◌, drop, subst, arith}
+use Rattle.std.proofs.Common.{◌≡◌, ℕ, suc, ◌+◌, ◌<◌, ◌≤◌, ◌⊎◌, inl, inr, zero, Option, None, Some, IsSomeAnd, List, [], ◌∷◌, drop, refl, sym, ◌∙◌, ap, subst, arith}
 use Rattle.std.specs.List.{slice_get}
 use Rattle.std.proofs.Math.IntN.{ℤ}
 use Rattle.std.proofs.lemmas.Bool.{cases_lt}
+use Rattle.fl_flash.specs.Flash.{FlashState}
 use Rattle.fl_model.specs.Row.{Row}
+use Rattle.fl_table.specs.Memory.{pending_in, NothingWaits}
+use Rattle.fl_table.specs.Refusal.{put_refusal}
+use Rattle.fl_table.specs.declared.faults.PutRefusal.{PutRefusal}
 use Rattle.fl_table.specs.declared.table.Table.{Table}
-use Rattle.fl_rlc.specs.Offering.{IsOffered, AreOffered}
+use Rattle.fl_rlc.specs.Offering.{IsOffered, AreOffered, AreSealed}
 
 -- a record is offered by its key and its values
 by-key : {KNOTS SLOTS : ℕ} (t u : Table KNOTS SLOTS) (key : ℕ) (values : List ℤ) (row : Row) → (key ≡ row.key) × (values ≡ row.values) → IsOffered t (record { key = key; values = values; blob = None }) u → IsOffered t row u
@@ -25,6 +29,29 @@ pub offered-next : {KNOTS SLOTS : ℕ} (i : ℕ) (rows : List Row) (t u after : 
     IsOffered t (record { key = key; values = values; blob = None }) u → AreOffered u (drop (i + 1) rows) after → AreOffered t (drop i rows) after
 offered-next i rows t u after key values is h more =
     offered-first i rows t u after key values is h (subst (λ (n : ℕ). AreOffered u (drop n rows) after) (let k : i + 1 ≡ suc i = omega arith in k) more)
+
+-- where no row is pending behind them, none of them joined, and the table stays
+pub none-joined : {KNOTS SLOTS : ℕ} (rows : List Row) (t after : Table KNOTS SLOTS) → AreOffered t rows after → pending_in after ≡ 0 → after ≡ t
+none-joined [] t after h none = h
+none-joined {KNOTS} {SLOTS} (row ∷ rows) t after h none = by-refusal (put_refusal t row.key row.values None) refl
+  where
+    u : Table KNOTS SLOTS
+    u = h.0
+
+    rest : after ≡ u
+    rest = none-joined rows u after h.1.1 none
+
+    by-refusal : (o : Option PutRefusal) → put_refusal t row.key row.values None ≡ o → after ≡ t
+    by-refusal (Some refusal) is = rest ∙ h.1.0.refused refusal is
+    by-refusal None is = absurd (omega (arith, none, ap (λ (x : Table KNOTS SLOTS). pending_in x) rest, (h.1.0.joins is).pending))
+
+-- .. and where nothing waited, nothing does once those that joined are sealed
+pub sealed-empty : {KNOTS SLOTS : ℕ} (t u after : Table KNOTS SLOTS) (f g : FlashState) → NothingWaits t → (pending_in u ≡ 0 → u ≡ t) → AreSealed u f after g → NothingWaits after
+sealed-empty {KNOTS} {SLOTS} t u after f g empty unjoined sealed = by-count (pending_in u) refl
+  where
+    by-count : (n : ℕ) → pending_in u ≡ n → NothingWaits after
+    by-count zero is = subst (λ (x : Table KNOTS SLOTS). NothingWaits x) (sym ((sealed.quiet is).0 ∙ unjoined is)) empty
+    by-count (suc n) is = (sealed.sealed (omega (arith, is))).empty
 
 -- a call that would have done nothing where there are none has some
 pub some-there : (n : ℕ) → (n ≡ 0 → ⊥) → 1 ≤ n

@@ -16,7 +16,7 @@ use Rattle.fl_table.specs.Memory.{ring_shape}
 use Rattle.fl_table.specs.Mounting as mounting
 use Rattle.fl_table.specs.Paged.{IsApart}
 use Rattle.fl_ring.proofs.Written.{page-as}
-use Rattle.fl_rlc.specs.Memory.{IsSamePlan, kept_rows, log_shape, next_in, rows_in}
+use Rattle.fl_rlc.specs.Memory.{IsSamePlan, LogAhead, kept_rows, log_shape, next_in, rows_in}
 use Rattle.fl_rlc.specs.Paged.{PutLogged, RowLogged, RowsLogged, log_page}
 use Rattle.fl_rlc.specs.declared.log.RecordLog.{RecordLog}
 use Rattle.fl_rlc.specs.declared.table.LoggedTable.{LoggedTable}
@@ -40,9 +40,11 @@ module _ (layout : RowLayout) (row : Row) where
 
 -- .. behind a put of the table, which left the log's page
 pub put-logged : {KNOTS SLOTS : ℕ} (t : LoggedTable KNOTS SLOTS) (layout : RowLayout) (row : Row) (f m g : FlashState) → layout ≡ layout_in t.table → m.media.tells ≡ f.media.tells → (IsTrue f.media.tells → mounting.OutsideStands t.table (page_at f) (page_at m)) →
-    (IsTrue m.media.tells → RowLogged layout row t.log (page_at m) (page_at g)) → PutLogged t row f g
-put-logged t layout row f m g is tells outside logged = λ told beside.
-    by-log t.log (outside told) beside (subst (λ (l : RowLayout). RowLogged l row t.log (page_at m) (page_at g)) is (logged (subst IsTrue (sym tells) told)))
+    (IsTrue m.media.tells → RowLogged layout row t.log (page_at m) (page_at g)) → (IsTrue m.media.tells → IfSome t.log (λ log. LogAhead log (page_at g))) → PutLogged t row f g
+put-logged t layout row f m g is tells outside logged ahead = λ told. (
+  λ beside. by-log t.log (outside told) beside (subst (λ (l : RowLayout). RowLogged l row t.log (page_at m) (page_at g)) is (logged (subst IsTrue (sym tells) told))),
+  ahead (subst IsTrue (sym tells) told),
+)
   where
     by-log : (o : Option RecordLog) → mounting.OutsideStands t.table (page_at f) (page_at m) → IfSome o (λ log. IsOutside (ring_shape t.table) (log_page log) × IsApart t.table (log_page log)) →
         RowLogged (layout_in t.table) row o (page_at m) (page_at g) → RowLogged (layout_in t.table) row o (page_at f) (page_at g)

@@ -1,12 +1,12 @@
 -- What a put changes of a flash: the calls of the table, and then those of its log.
-use Rattle.std.proofs.Common.{◌≡◌, ℕ, ◌+◌, ◌*◌, ◌≤◌, Bool, true, cond, is_some, Option, Some, None, List, IsTrue, inl, inr, refl, sym, ◌∙◌, ap, subst, arith}
+use Rattle.std.proofs.Common.{◌≡◌, ◌⊎◌, ℕ, ◌+◌, ◌*◌, ◌≤◌, Bool, true, cond, is_some, Option, Some, None, List, IsTrue, inl, inr, refl, sym, ◌∙◌, ap, subst, arith}
 use Rattle.fl_flash.specs.Flash.{FlashState, page_at}
 use Rattle.fl_frame.specs.Reads.{OnlyReads}
 use Rattle.fl_index.specs.declared.index.BitmapIndex.{BitmapIndex}
 use Rattle.fl_ring.specs.Written.{Writes}
 use Rattle.fl_ring.proofs.Written.{few-writes, writes-then, writes-wider}
 use Rattle.fl_table.specs.Bitmaps as bitmaps
-use Rattle.fl_table.specs.Blobs.{most_pages}
+use Rattle.fl_table.specs.Blobs.{most_pages, MayFill}
 use Rattle.fl_table.specs.Memory as table
 use Rattle.fl_table.specs.Mounting as mounting
 use Rattle.fl_table.specs.Mounting.{FewRepairs}
@@ -14,6 +14,7 @@ use Rattle.fl_table.specs.Paged as paged
 use Rattle.fl_table.specs.Paged.{next_page}
 use Rattle.fl_table.specs.declared.table.Table.{Table}
 use Rattle.fl_table.proofs.BlobsOfTable.{same-some}
+use Rattle.fl_table.proofs.Paged.{rows-ahead-later}
 use Rattle.fl_rlc.specs.Paged.{HasMadePage}
 use Rattle.fl_rlc.specs.Rows.{StandOutside}
 use Rattle.fl_rlc.specs.Table.{repairs_in, rings_in, MayPut, MaySealLog}
@@ -60,6 +61,9 @@ module _ {KNOTS SLOTS : ℕ} (t : LoggedTable KNOTS SLOTS) (blob : Option (List 
     writes = logged-writes 1 f m g tells made.writes second;
     page = λ told apart beside rows gathers.
         log-outside t.log (page_at m) (page_at g) (next_page t.table) (outside (subst IsTrue (sym tells) told)) beside ∙ made.page told apart rows gathers;
+    ahead = λ told.
+        rows-ahead-later t.table (MayFill blob t.table.blobs) (λ page. MayFill blob t.table.blobs page ⊎ MaySealLog t.log page) (page_at m) (page_at g) (λ page not may. not (inl may))
+        (λ page not. second.tries.stands (subst IsTrue (sym tells) told) page (λ may. not (inr may))) (made.ahead told);
   }
 
 -- ---- what a mount repairs

@@ -12,6 +12,7 @@ use Rattle.fl_ring.specs.Place as place
 use Rattle.fl_ring.specs.Ring as ring
 use Rattle.fl_ring.specs.Ring.{Shape}
 use Rattle.fl_ring.specs.Written.{MaySealIn}
+use Rattle.fl_var.specs.Ahead.{AheadBlank}
 use Rattle.fl_rlc.specs.declared.log.RecordLog.{RecordLog}
 
 -- the last mount succeeded, and no operation failed since
@@ -25,9 +26,17 @@ next_in log = unwrap_or (option_map (λ r. next_of r) log.ring) 0
 abbrev pub oldest_in : RecordLog → ℕ
 oldest_in log = unwrap_or (option_map (λ r. oldest_of r) log.ring) 0
 
+-- .. and the oldest one after the seal of the next page
+abbrev pub oldest_after : RecordLog → ℕ
+oldest_after log = unwrap_or (option_map (λ r. place.oldest_after r) log.ring) 0
+
 -- the flash pages that the seal of the next page changes
 abbrev pub MaySeal : RecordLog → ℕ → Type 0
 MaySeal log = MaySealIn log.ring
+
+-- where its oldest block goes with the seal of the next page, the block ahead is blank then
+abbrev pub LogAhead : RecordLog → (ℕ → List ℕ) → Type 0
+LogAhead log new = AheadBlank log.ring (λ page. ⊥) new
 
 -- the rows of the next page, as they are gathered
 abbrev pub rows_in : RecordLog → WriterState

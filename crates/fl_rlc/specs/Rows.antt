@@ -10,7 +10,7 @@ use Rattle.fl_model.specs.Work.{Device}
 use Rattle.fl_page.specs.Writer.{Gathers}
 use Rattle.fl_ring.specs.Ring as ring
 use Rattle.fl_frame.specs.Watched.{IsWatched}
-use Rattle.fl_rlc.specs.Memory.{next_in, rows_in, kept_rows, log_shape, IsSamePlan}
+use Rattle.fl_rlc.specs.Memory.{next_in, oldest_in, oldest_after, rows_in, kept_rows, log_shape, IsSamePlan}
 use Rattle.fl_rlc.specs.Pages.{IsPage}
 use Rattle.fl_rlc.specs.Sealing.{SealEnds}
 use Rattle.fl_rlc.specs.Standing.{HasRing}
@@ -33,9 +33,10 @@ RowEnds (Some log) old first plan table layout row rose device result None new =
 RowEnds (Some log) old first plan table layout row rose device result (Some now) new =
     IsWatched old new rose device → Joins log old first plan table layout row → SealEnds first plan table rose device log old result now new
 
--- A page more was sealed. The rows of the next page are those that stayed of it, and this one.
+-- A page more was sealed, and the ring gave up what it had to. The rows of the next page are those that stayed of it, and this one.
 pub record HasLogged (layout : RowLayout) (row : Row) (old new : RecordLog) : Type 0 where
   pub next : next_in new ≡ next_in old + 1
+  pub oldest : oldest_in new ≡ oldest_after old
   pub rows : (rows : List Row) → Gathers layout rows (rows_in old) → Gathers layout (kept_rows layout (rows_in old) rows ++ row ∷ []) (rows_in new)
 
 abbrev pub HaveLogged : RowLayout → Row → Option RecordLog → Option RecordLog → Type 0

@@ -1,10 +1,11 @@
 -- What clauses see of a table with a log.
-use Rattle.std.specs.Prelude.{◌≡◌, ◌⊎◌, ℕ, ◌+◌, ◌*◌, Bool, Option, Some, None, is_some, IfSome, List, if◌then◌else◌}
+use Rattle.std.specs.Prelude.{◌≡◌, ◌⊎◌, ℕ, ◌+◌, ◌*◌, Bool, Option, Some, None, is_some, IfSome, List, [], if◌then◌else◌}
 use Rattle.std.specs.Option.{ForSome, IsSomeAnd}
 use Rattle.fl_flash.specs.Flash.{FlashState}
 use Rattle.fl_index.specs.Memory.{ring_shape as index_shape}
 use Rattle.fl_model.specs.Bare.{bare}
-use Rattle.fl_model.specs.Record.{Plan, blocks_of}
+use Rattle.fl_model.specs.Record.{Plan, RowLayout, blocks_of}
+use Rattle.fl_page.specs.Writer.{Gathers}
 use Rattle.fl_table.specs.BlobAt.{data_in}
 use Rattle.fl_table.specs.Bitmaps.{IsOutside}
 use Rattle.fl_table.specs.Look.{counts_in}
@@ -62,6 +63,11 @@ pub record IsSamePlan {KNOTS SLOTS : ℕ} (old new : LoggedTable KNOTS SLOTS) : 
 pub record LiesOn {KNOTS SLOTS : ℕ} (t : LoggedTable KNOTS SLOTS) (f : FlashState) : Type 0 where
   pub table : table.LiesOn t.table f
   pub log : ForSome t.log (λ l. log.LiesOn l f)
+
+-- nothing waits in memory, and no row is gathered for its log
+pub record NothingWaits {KNOTS SLOTS : ℕ} (t : LoggedTable KNOTS SLOTS) : Type 0 where
+  pub table : table.NothingWaits t.table
+  pub log : IfSome t.log (λ l. (layout : RowLayout) → Gathers layout [] (log.rows_in l))
 
 -- how many rings it has
 abbrev pub rings_in : {KNOTS SLOTS : ℕ} → LoggedTable KNOTS SLOTS → ℕ

@@ -5,7 +5,6 @@ ghost use Rattle.fl_flash.specs.declared.flash.FlashFault.{FlashFault};
 ghost use Rattle.fl_model.specs.Record.{Plan};
 ghost use Rattle.fl_model.specs.Table as model;
 ghost use Rattle.fl_table.specs.Causes.{MountCausedBy};
-ghost use Rattle.fl_table.specs.Memory.{pending_in};
 ghost use Rattle.fl_table.specs.Mounting.{FewReads, FewRepairs};
 ghost use Rattle.fl_table.specs.Outcomes.{mounted_of};
 ghost use Rattle.fl_table.specs.Standing as without_log;
@@ -40,7 +39,7 @@ impl<const KNOTS: usize, const SLOTS: usize> LoggedTable<KNOTS, SLOTS> {
     ghost use Rattle.fl_rlc.specs.MountingApart.{RestApart, MountApartEnds};
     ghost use Rattle.fl_rlc.specs.Outcomes.{MountEnds};
     ghost use Rattle.fl_rlc.specs.declared.log.RecordLog.{RecordLog};
-    ghost use Rattle.fl_rlc.specs.Table.{is_logged, is_running, is_stopped, repairs_in, IsPlanned, IsSamePlan, LiesOn, OutsideStands, log_in, table_in};
+    ghost use Rattle.fl_rlc.specs.Table.{is_logged, is_running, is_stopped, repairs_in, IsPlanned, IsSamePlan, LiesOn, NothingWaits, OutsideStands, log_in};
 
     /// Mounts the table and then its log, where it has one. The records of the log's newest page that no data page has
     /// become a page of the table, unless its page numbers are spent. It answers what the table holds then.
@@ -69,7 +68,7 @@ impl<const KNOTS: usize, const SLOTS: usize> LoggedTable<KNOTS, SLOTS> {
             → IsPlanned self.old first plan → log_in self.old ≡ Some log → RestApart log (F.state flash.old) first plan table → MountApartEnds first plan table rose device log result self.new (F.state flash.new) }
         ensures mounted { is_running self.new ≡ is_ok result }
         ensures calm { is_stopped self.new ≡ false }
-        ensures none { OnOk result (pending_in (table_in self.new) ≡ 0) }
+        ensures empty { OnOk result (NothingWaits self.new) }
         ensures found { IfOk result (λ mounted. IsTrue (F.state flash.old).media.tells → FindsPages self.old (F.state flash.old) mounted self.new (F.state flash.new)) }
         ensures leaves { OnOk result (IsTrue (F.state flash.old).media.tells → (first : ℕ) → (plan : Plan) → (table : model.Table)
             → (is_logged self.old ≡ false) ⊎ ((rose : Bool) × (device : Device) × IsWatched (F.state flash.old) (F.state flash.new) rose device)

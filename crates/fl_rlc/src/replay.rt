@@ -82,6 +82,7 @@ fn join_newest<F: Flash, const KNOTS: usize, const SLOTS: usize>(
         → JoinsEnd first plan table_now rose result table.new (F.state flash.new) }
     ensures stands { OnOk result (IsTrue (F.state flash.old).media.tells → MayStand (layout_in table.old) number (page_in log.now (F.state flash.old) number)) }
     ensures offers { OnOk result (IsTrue (F.state flash.old).media.tells → AreOffered table.old (page_rows (layout_in table.old) (page_in log.now (F.state flash.old) number)) table.new) }
+    ensures unjoined { pending_in table.new ≡ 0 → table.new ≡ table.old }
     ensures bad { IfErr result (IfPage (λ e. IsTrue (F.state flash.old).media.tells → IsBad (layout_in table.old) number (page_in log.now (F.state flash.old) number) e)) }
     ensures fails { IfErr result (IfFlash (λ e. ReadFails (F.state flash.old) e (F.state flash.new))) }
     ensures only { IfErr result (λ e. is_of_pages e ≡ true) }
@@ -132,7 +133,7 @@ pub(crate) fn replay<F: Flash, const KNOTS: usize, const SLOTS: usize>(
     buf: &mut PageBuf,
 ) -> Result<(), MountFault>
     requires running { is_running table.old ≡ true }
-    requires none { pending_in table.old ≡ 0 }
+    requires none { table_words.NothingWaits table.old }
     requires no_blobs { has_blobs table.old ≡ false }
     requires lies { LiesOn log.old (F.state flash.old) }
     requires table_lies { table_words.LiesOn table.old (F.state flash.old) }
@@ -147,7 +148,7 @@ pub(crate) fn replay<F: Flash, const KNOTS: usize, const SLOTS: usize>(
     ensures mounted { OnOk result (is_mounted log.new ≡ true) }
     ensures running { OnOk result (is_running table.new ≡ true) }
     ensures calm { OnOk result (is_stopped table.new ≡ is_stopped table.old) }
-    ensures table_none { OnOk result (pending_in table.new ≡ 0) }
+    ensures table_empty { OnOk result (table_words.NothingWaits table.new) }
     ensures empty { (layout : RowLayout) → Gathers layout [] (rows_in log.new) }
     ensures ends { (first : ℕ) → (plan : Plan) → (table_now : model.Table) → (rose : Bool) → (device : Device) → IsWatched (F.state flash.old) (F.state flash.new) rose device
         → without_log.Stands table.old (F.state flash.old) first (bare plan) (ready (bare plan) (bare_table table_now)) → table_now.pending ≡ 0

@@ -1,5 +1,5 @@
 // The log of a table, where it has one.
-ghost use Rattle.std.specs.Prelude.{◌≡◌, ◌≤◌, ◌+◌, ℕ, Bool, None, true, is_some, IsTrue, IfErr, Ok, OnOk, OnErr, false, if◌then◌else◌};
+ghost use Rattle.std.specs.Prelude.{◌≡◌, ◌≤◌, ◌+◌, ℕ, Bool, None, true, is_some, IsTrue, IfErr, IfSome, Ok, OnOk, OnErr, false, if◌then◌else◌};
 ghost use Rattle.std.specs.Option.{ForSome};
 ghost use Rattle.fl_flash.specs.Flash.{Goes, OffChangesNothing, FlashState, page_at};
 ghost use Rattle.fl_model.specs.Record.{Plan, layout_len};
@@ -9,7 +9,7 @@ ghost use Rattle.fl_model.specs.Work.{Device};
 ghost use Rattle.fl_frame.specs.Causes.{CausedBy};
 ghost use Rattle.fl_ring.specs.Written.{Writes};
 ghost use Rattle.fl_schema.specs.Schema.{layout_of};
-ghost use Rattle.fl_rlc.specs.Memory.{is_mounted, page_len, LiesOn};
+ghost use Rattle.fl_rlc.specs.Memory.{is_mounted, page_len, LiesOn, LogAhead};
 ghost use Rattle.fl_rlc.specs.Paged.{RowLogged};
 ghost use Rattle.fl_rlc.specs.Refusal.{log_refused};
 ghost use Rattle.fl_rlc.specs.Rows.{RowEnds, StandOutside, AreBegun, HaveLogged};
@@ -42,6 +42,7 @@ pub(crate) fn log_row<F: Flash>(
     ensures outside { IsTrue (F.state flash.old).media.tells → StandOutside log.old (page_at (F.state flash.old)) (page_at (F.state flash.new)) }
     ensures writes { Writes (MaySealLog log.old) 0 (if is_some log.old then 1 else 0) (F.state flash.old) (F.state flash.new) }
     ensures page { OnOk result (IsTrue (F.state flash.old).media.tells → RowLogged (layout_of schema.now) (record { key = key; values = values.now; blob = None }) log.old (page_at (F.state flash.old)) (page_at (F.state flash.new))) }
+    ensures ahead { OnOk result (IsTrue (F.state flash.old).media.tells → IfSome log.old (λ l. LogAhead l (page_at (F.state flash.new)))) }
     ensures reads { (F.state flash.new).work.reads ≡ (F.state flash.old).work.reads }
     ensures media_reads { (F.state flash.new).media.reads ≤ (F.state flash.old).media.reads + (if is_some log.old then 1 else 0) }
     ensures logged { OnErr result (is_some log.old ≡ true) }

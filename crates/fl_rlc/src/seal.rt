@@ -18,7 +18,7 @@ impl RecordLog {
     ghost use Rattle.fl_ring.specs.Ring.{OutsideStands};
     ghost use Rattle.fl_ring.specs.Written.{Writes, done};
     ghost use Rattle.fl_frame.specs.Watched.{IsWatched};
-    ghost use Rattle.fl_rlc.specs.Memory.{is_mounted, next_in, rows_in, page_len, kept_rows, log_shape, IsSamePlan, LiesOn, MaySeal};
+    ghost use Rattle.fl_rlc.specs.Memory.{is_mounted, next_in, oldest_in, oldest_after, rows_in, page_len, kept_rows, log_shape, IsSamePlan, LiesOn, LogAhead, MaySeal};
     ghost use Rattle.fl_rlc.specs.Paged.{RowsLogged};
     ghost use Rattle.fl_rlc.specs.Sealing.{IsReady, SealEnds};
     ghost use Rattle.fl_schema.specs.Schema.{layout_of};
@@ -71,12 +71,14 @@ impl RecordLog {
         ensures lies { LiesOn self.new (F.state flash.new) }
         ensures mounted { is_mounted self.new ≡ is_ok result }
         ensures next { OnOk result (next_in self.new ≡ next_in self.old + 1) }
+        ensures oldest { OnOk result (oldest_in self.new ≡ oldest_after self.old) }
         ensures rows { (layout : RowLayout) (rows : List Row) → Gathers layout rows (rows_in self.old) → Gathers layout rows (rows_in self.new) }
         ensures ends { (first : ℕ) (plan : Plan) (table : model.Table) (rose : Bool) (device : Device) → IsWatched (F.state flash.old) (F.state flash.new) rose device
             → IsReady self.old (F.state flash.old) first plan table → SealEnds first plan table rose device self.old (F.state flash.old) result self.new (F.state flash.new) }
         ensures outside { IsTrue (F.state flash.old).media.tells → OutsideStands (log_shape self.old) (page_at (F.state flash.old)) (page_at (F.state flash.new)) }
         ensures writes { Writes (MaySeal self.old) (done result) 1 (F.state flash.old) (F.state flash.new) }
         ensures page { OnOk result (IsTrue (F.state flash.old).media.tells → (layout : RowLayout) → (rows : List Row) → Gathers layout rows (rows_in self.old) → RowsLogged self.old layout rows (page_at (F.state flash.old)) (page_at (F.state flash.new))) }
+        ensures ahead { OnOk result (IsTrue (F.state flash.old).media.tells → LogAhead self.old (page_at (F.state flash.new))) }
         ensures reads { (F.state flash.new).work.reads ≡ (F.state flash.old).work.reads }
         ensures media_reads { (F.state flash.new).media.reads ≤ (F.state flash.old).media.reads + 1 }
         ensures off { OffChangesNothing (F.state flash.old) result (F.state flash.new) }

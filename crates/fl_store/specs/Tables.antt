@@ -13,9 +13,8 @@ use Rattle.fl_words.specs.Config.{Lines}
 use Rattle.fl_machine.specs.Step.{all_ready}
 use Rattle.fl_rlc.specs.Logged.{Rests, Stands}
 use Rattle.fl_rlc.specs.Mounting.{pages_in}
-use Rattle.fl_rlc.specs.Table.{IsPlanned, LiesOn, is_running, table_in}
+use Rattle.fl_rlc.specs.Table.{IsPlanned, LiesOn, NothingWaits, is_running}
 use Rattle.fl_rlc.specs.declared.table.LoggedTable.{LoggedTable}
-use Rattle.fl_table.specs.Memory.{pending_in}
 use Rattle.fl_table.specs.declared.faults.MountFault.{MountFault}
 use Rattle.fl_table.specs.declared.faults.MountFault.TheVariants as mount
 use Rattle.fl_store.specs.declared.tables.BadMount.{BadMount}
@@ -60,9 +59,9 @@ LieOn entries f = (i : ℕ) (entry : Entry) → slice_get entries i ≡ Some ent
 abbrev pub AreRunning : List Entry → Type 0
 AreRunning entries = (i : ℕ) (entry : Entry) → slice_get entries i ≡ Some entry → is_running entry.table ≡ true
 
--- no row of any table is pending
-abbrev pub NonePending : List Entry → Type 0
-NonePending entries = (i : ℕ) (entry : Entry) → slice_get entries i ≡ Some entry → pending_in (table_in entry.table) ≡ 0
+-- nothing of any table waits in memory
+abbrev pub NoneWaits : List Entry → Type 0
+NoneWaits entries = (i : ℕ) (entry : Entry) → slice_get entries i ≡ Some entry → NothingWaits entry.table
 
 -- A mount of these tables stopped at this one: those before it are mounted, it isn't, and those behind it weren't touched.
 pub record StopsAt (old new : List Entry) (bad : BadMount) : Type 0 where

@@ -27,7 +27,7 @@ ghost use Rattle.fl_store.specs.Calls.{Finds, FlushEnds, GetEnds, HavePage, IsRe
 ghost use Rattle.fl_store.specs.InMemory.{AreSameTables, Becomes, Flushes, LeavesOthers, Takes, has_blobs_at};
 ghost use Rattle.fl_store.specs.Mounting.{MountsInTurn, OutsideStands, RefusesAt, repairs_of, tried};
 ghost use Rattle.fl_store.specs.Store.{Holds, IsOnMedium};
-ghost use Rattle.fl_store.specs.Tables.{AreRunning, LieOn, NonePending, StopsAt, TablesMount, pages_of};
+ghost use Rattle.fl_store.specs.Tables.{AreRunning, LieOn, NoneWaits, StopsAt, TablesMount, pages_of};
 ghost use Rattle.fl_store.specs.declared.tables.Entry.{Entry};
 
 use crate::pages::Pages;
@@ -54,7 +54,7 @@ impl<'m, M: Media> Store<'m, M> {
         ensures stops { IfErr result (λ bad. StopsAt self.old.tables.entries.items self.new.tables.entries.items bad) }
         ensures cause { IfErr result (λ bad. MountCausedBy (powered (⟦<SimFlash<'m, M> as Flash>⟧.state self.old.flash)) bad.fault (⟦<SimFlash<'m, M> as Flash>⟧.state self.new.flash)) }
         ensures running { OnOk result (AreRunning self.new.tables.entries.items) }
-        ensures none { OnOk result (NonePending self.new.tables.entries.items) }
+        ensures none { OnOk result (NoneWaits self.new.tables.entries.items) }
         ensures power { OnOk result ((⟦<SimFlash<'m, M> as Flash>⟧.state self.new.flash).is_on ≡ true) }
         ensures repairs { FewRepairs (repairs_of (tried result self.old.tables.entries.items)) (⟦<SimFlash<'m, M> as Flash>⟧.state self.old.flash) (⟦<SimFlash<'m, M> as Flash>⟧.state self.new.flash) }
         ensures outside { IsTrue (⟦<SimFlash<'m, M> as Flash>⟧.state self.old.flash).media.tells → OutsideStands (tried result self.old.tables.entries.items) (page_at (⟦<SimFlash<'m, M> as Flash>⟧.state self.old.flash)) (page_at (⟦<SimFlash<'m, M> as Flash>⟧.state self.new.flash)) }

@@ -46,7 +46,7 @@ impl Tables {
     ghost use Rattle.fl_table.specs.Mounting.{FewRepairs};
     ghost use Rattle.fl_store.specs.Mounting.{AreSameNames, AreSamePlans, AreUnlogged, MountsInTurn, OutsideStands, RefusesAt, repairs_of, tried};
     ghost use Rattle.fl_store.specs.Repaired.{IsLeft};
-    ghost use Rattle.fl_store.specs.Tables.{AreNewTables, Names, LieOn, AreRunning, NonePending, StopsAt, TablesStand, TablesMount, pages_of};
+    ghost use Rattle.fl_store.specs.Tables.{AreNewTables, Names, LieOn, AreRunning, NoneWaits, StopsAt, TablesStand, TablesMount, pages_of};
 
     /// The tables of a configuration, one for each line. None of them is mounted.
     pub fn plan(alloc: Global, config: &Config) -> Result<Tables, NoMemory>
@@ -87,7 +87,7 @@ impl Tables {
         ensures refused { IfErr result (λ bad. IsTrue (F.state flash.old).media.tells →
             RefusesAt self.old.entries.items self.new.entries.items bad (F.state flash.old) (F.state flash.new)) }
         ensures running { OnOk result (AreRunning self.new.entries.items) }
-        ensures none { OnOk result (NonePending self.new.entries.items) }
+        ensures none { OnOk result (NoneWaits self.new.entries.items) }
         ensures stops { IfErr result (λ bad. StopsAt self.old.entries.items self.new.entries.items bad) }
         ensures cause { IfErr result (λ bad. MountCausedBy (F.state flash.old) bad.fault (F.state flash.new)) }
         ensures repaired { OnOk result (IsTrue (F.state flash.old).media.tells → (plans : List Plan) → (tables : List model.Table) → TablesStand (F.state flash.old) (λ i. false) plans self.old.entries.items tables

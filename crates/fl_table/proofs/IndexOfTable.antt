@@ -21,7 +21,7 @@ use Rattle.fl_model.specs.Facts.{is_some_ring}
 use Rattle.fl_ring.specs.Place.{next_of, oldest_of}
 use Rattle.fl_ring.specs.declared.ring.Ring.{Ring}
 use Rattle.fl_table.specs.Bitmaps as numbers
-use Rattle.fl_table.specs.Bitmaps.{AreStillFound, StaysFound, ArePlanned, AreSamePlan, AreSameRing, AreRunning, AreBroken, EndAt, RoomMade, LieOn, Stand, HaveRoom, NumberLeft, AreNoted}
+use Rattle.fl_table.specs.Bitmaps.{AreStillFound, StaysFound, ArePlanned, AreSamePlan, AreSameRing, AreRunning, AreBroken, EndAt, RingGoesOn, RoomMade, LieOn, Stand, HaveRoom, NumberLeft, AreNoted}
 use Rattle.fl_table.specs.Pages.{bytes_in}
 use Rattle.fl_table.proofs.ListsStay.{has-index, ring-moved}
 use Rattle.fl_table.proofs.Plain.{IsPlainTable, IsIndexed}
@@ -153,6 +153,12 @@ still-next None (Some new) same = absurd same
 still-next (Some old) None same = absurd same
 still-next (Some old) (Some new) same = ap (λ (o : Option Ring). unwrap_or (option_map (λ ring. next_of ring) o) 0) same.ring
 
+pub still-oldest : (old new : Option BitmapIndex) → AreSameRing old new → numbers.oldest_of new ≡ numbers.oldest_of old
+still-oldest None None same = refl
+still-oldest None (Some new) same = absurd same
+still-oldest (Some old) None same = absurd same
+still-oldest (Some old) (Some new) same = ap (λ (o : Option Ring). unwrap_or (option_map (λ ring. oldest_of ring) o) 0) same.ring
+
 pub still-few : (n : ℕ) (old new : Option BitmapIndex) → AreSamePlan old new → ForSome old (λ index. n ≤ 65536) → ForSome new (λ index. n ≤ 65536)
 still-few n None None same h = h
 still-few n None (Some new) same h = absurd same
@@ -191,6 +197,15 @@ made-next (Some old) (Some new) made = by_full (waiting_in old == per_page old) 
   where
     by_full : (b : Bool) → memory.next_in new ≡ cond b (memory.next_in old + 1) (memory.next_in old) → memory.next_in new ≤ memory.next_in old + 1
     by_full true e = omega (arith, e)
+    by_full false e = omega (arith, e)
+
+pub made-sealed : (old new : Option BitmapIndex) → RoomMade old new → RingGoesOn old new
+made-sealed None new made = record { next = ap numbers.next_of made; oldest = ap numbers.oldest_of made }
+made-sealed (Some old) None made = absurd made
+made-sealed (Some old) (Some new) made = record { next = by_full (waiting_in old == per_page old) made.number; oldest = made.oldest }
+  where
+    by_full : (b : Bool) → memory.next_in new ≡ cond b (memory.next_in old + 1) (memory.next_in old) → memory.next_in new ≡ memory.next_in old + (cond b 1 0)
+    by_full true e = e
     by_full false e = omega (arith, e)
 
 -- where the waiting bitmaps have a number, a page of them has one

@@ -234,8 +234,7 @@ finds-as t t1 bitmaps f was least mounted now new h same blobs e = subst (λ (n 
   pages = data_as t t1 bitmaps f was h.ring mounted now.last_key h.end h.between same h.pages;
   waits = subst (λ (c : Come). WaitUnlisted c (pages_of h.ring h.between) bitmaps was (next_of h.ring) now.bitmaps) (comes_as t t1 bitmaps h.ring h.between same) h.waits;
   firsts = h.firsts;
-  pending = h.pending;
-  bits = h.bits;
+  empty = h.empty;
   learned = subst (λ (c : Come). HasLearned (error_in t.index) c now) (comes_as t t1 bitmaps h.ring h.between same)
       (subst (λ error. HasLearned error (comes_in t1 bitmaps h.ring h.between) now) same.error h.learned);
   counts = h.counts;

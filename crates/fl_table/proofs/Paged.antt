@@ -17,7 +17,7 @@ use Rattle.fl_table.specs.Bitmaps as bitmaps
 use Rattle.fl_table.specs.Blobs as variable
 use Rattle.fl_table.specs.Memory.{next_in, ring_shape, HasRoom, IsSamePlan, MaySeal}
 use Rattle.fl_table.specs.Mounting.{rings_in}
-use Rattle.fl_table.specs.Paged.{BlobsPaged, HasFlushed, HasMadePage, IsApart, RowsPaged, next_page}
+use Rattle.fl_table.specs.Paged.{BlobsAhead, BlobsPaged, RowsAhead, HasFlushed, HasMadePage, IsApart, RowsPaged, next_page}
 use Rattle.fl_table.specs.Stored.{WaitsSame}
 use Rattle.fl_table.specs.declared.table.Table.{Table}
 use Rattle.fl_table.proofs.Counted.{waiting-rows, waits-then}
@@ -27,7 +27,8 @@ use Rattle.fl_table.proofs.SealAnswers.{same-then}
 use Rattle.fl_table.proofs.Writing.{fill-moved, put-writes}
 use Rattle.fl_var.specs.Content.{content_body}
 use Rattle.fl_var.specs.Memory as memory
-use Rattle.fl_var.specs.Memory.{bytes_page, var_shape, waiting_in, BytesPaged}
+use Rattle.fl_var.specs.Memory.{bytes_page, var_shape, waiting_in, BytesAhead, BytesPaged}
+use Rattle.fl_var.proofs.Ahead.{ahead-later}
 use Rattle.fl_var.specs.declared.var_data.VarData.{VarData}
 
 -- rows that wait as they did, for a page that stood
@@ -72,11 +73,26 @@ blobs-paged t a u many least f m n g tells later same ring first paged last =
         last.tries.stands (subst IsTrue (sym later) told_then) (bytes_page var) (λ may. rows (subst (λ (o : Option Ring). MaySealIn o (bytes_page var)) ring may)) in
         stands ∙ (h some told_then ∙ ap (λ (page : List ℕ). sealed_over (var_shape var) (content_body (memory.room_in var) (memory.next_in var) (waiting_in var)) page) stood)
 
+-- .. and the block ahead of its ring, which the seal of the rows leaves
+pub blobs-ahead : {KNOTS SLOTS : ℕ} (t a u : Table KNOTS SLOTS) (least : ℕ) (f m n g : FlashState) → m.media.tells ≡ f.media.tells → n.media.tells ≡ m.media.tells → a.blobs ≡ t.blobs → u.ring ≡ t.ring →
+    IfSome a.blobs (λ var. 1 ≤ length (waiting_in var) → IsTrue m.media.tells → BytesAhead var (λ page. ⊥) (page_at n)) → Writes (MaySealIn u.ring) least 1 n g → BlobsAhead t f g
+blobs-ahead t a u least f m n g tells later same ring ahead last =
+    by-blobs t.blobs (subst (λ (o : Option VarData). IfSome o (λ var. 1 ≤ length (waiting_in var) → IsTrue m.media.tells → BytesAhead var (λ page. ⊥) (page_at n))) same ahead)
+  where
+    by-blobs : (o : Option VarData) → IfSome o (λ var. 1 ≤ length (waiting_in var) → IsTrue m.media.tells → BytesAhead var (λ page. ⊥) (page_at n)) →
+        IfSome o (λ var. 1 ≤ length (waiting_in var) → IsTrue f.media.tells → BytesAhead var (MaySealIn t.ring) (page_at g))
+    by-blobs None h = tt
+    by-blobs (Some var) h = λ some told.
+        let told_then = subst IsTrue (sym tells) told in
+        ahead-later var.ring (λ page. ⊥) (MaySealIn t.ring) (page_at n) (page_at g) (λ page not no. no)
+        (λ page not. last.tries.stands (subst IsTrue (sym later) told_then) page (λ may. not (subst (λ (o : Option Ring). MaySealIn o page) ring may))) (h some told_then)
+
 -- what a seal tells that was whole
 pub flushed-of : {KNOTS SLOTS : ℕ} (t : Table KNOTS SLOTS) (result : Result (Unit {0}) FlashFault) (f g : FlashState) → Writes (MaySeal t) (done result) (rings_in t) f g →
-    OnOk result (IsTrue f.media.tells → IsApart t (next_page t) → RowsPaged t (page_at f) (page_at g)) → OnOk result (BlobsPaged t f g) → OnOk result ((HasRoom t → ⊥) → HasFlushed t f g)
-flushed-of t (Ok u) f g writes page blobs = λ full. record { writes = writes; page = page; blobs = blobs }
-flushed-of t (Err e) f g writes page blobs = tt
+    OnOk result (IsTrue f.media.tells → IsApart t (next_page t) → RowsPaged t (page_at f) (page_at g)) → OnOk result (BlobsPaged t f g) → OnOk result (IsTrue f.media.tells → RowsAhead t (λ page. ⊥) (page_at g)) → OnOk result (BlobsAhead t f g) →
+    OnOk result ((HasRoom t → ⊥) → HasFlushed t f g)
+flushed-of t (Ok u) f g writes page blobs ahead blobs_ahead = λ full. record { writes = writes; page = page; blobs = blobs; ahead = ahead; blobs_ahead = blobs_ahead }
+flushed-of t (Err e) f g writes page blobs ahead blobs_ahead = tt
 
 -- a page outside of the variable data isn't one that a blob may fill
 not-filled : (blob : Option (List ℕ)) (blobs : Option VarData) (page : ℕ) → IfSome blobs (λ var. bitmaps.IsOutside (var_shape var) page) → variable.MayFill blob blobs page → ⊥
@@ -97,4 +113,11 @@ page-made t u blob f m g tells plan made fill = record {
       let stood : page_at g (next_page t) ≡ page_at m (next_page t) =
       fill.tries.stands (subst IsTrue (sym tells) told) (next_page t) (λ may. not-filled blob t.blobs (next_page t) apart.blobs (fill-moved blob t.blobs u.blobs plan (next_page t) may)) in
       stood ∙ made.page told apart rows gathers;
+  ahead = λ told.
+      ahead-later t.ring (λ page. ⊥) (variable.MayFill blob t.blobs) (page_at m) (page_at g) (λ page not no. no)
+      (λ page not. fill.tries.stands (subst IsTrue (sym tells) told) page (λ may. not (fill-moved blob t.blobs u.blobs plan page may))) (made.ahead told);
 }
+
+-- .. and so do calls behind it the block ahead
+pub rows-ahead-later : {KNOTS SLOTS : ℕ} (t : Table KNOTS SLOTS) (Changed May : ℕ → Type 0) (old new : ℕ → List ℕ) → ((page : ℕ) → (May page → ⊥) → Changed page → ⊥) → ((page : ℕ) → (May page → ⊥) → new page ≡ old page) → RowsAhead t Changed old → RowsAhead t May new
+rows-ahead-later t Changed May old new wider stands h = ahead-later t.ring Changed May old new wider stands h

@@ -112,6 +112,13 @@ next_of bitmaps = unwrap_or (option_map (λ index. next_in index) bitmaps) 0
 abbrev pub next_after : Option BitmapIndex → ℕ
 next_after bitmaps = unwrap_or (option_map (λ index. next_in index + (if waiting_in index == per_page index then 1 else 0)) bitmaps) 0
 
+-- the oldest index page that is kept, and after that seal
+abbrev pub oldest_of : Option BitmapIndex → ℕ
+oldest_of bitmaps = unwrap_or (option_map (λ index. memory.oldest_in index) bitmaps) 0
+
+abbrev pub oldest_after : Option BitmapIndex → ℕ
+oldest_after bitmaps = unwrap_or (option_map (λ index. if waiting_in index == per_page index then memory.oldest_after index else memory.oldest_in index) bitmaps) 0
+
 -- how many rings an index has
 abbrev pub rings_of : Option BitmapIndex → ℕ
 rings_of bitmaps = if is_some bitmaps then 1 else 0
@@ -146,11 +153,17 @@ pub record IsRoomMade (old new : BitmapIndex) : Type 0 where
   pub room : waiting_in new < per_page new
   pub same : first_waiting new + waiting_in new ≡ first_waiting old + waiting_in old
   pub number : next_in new ≡ (if waiting_in old == per_page old then next_in old + 1 else next_in old)
+  pub oldest : memory.oldest_in new ≡ (if waiting_in old == per_page old then memory.oldest_after old else memory.oldest_in old)
 
 abbrev pub RoomMade : Option BitmapIndex → Option BitmapIndex → Type 0
 RoomMade None new = new ≡ None
 RoomMade (Some old) None = ⊥
 RoomMade (Some old) (Some new) = IsRoomMade old new
+
+-- its next page, and the oldest one that it keeps, are those after the seal of the waiting entries
+pub record RingGoesOn (old new : Option BitmapIndex) : Type 0 where
+  pub next : next_of new ≡ next_after old
+  pub oldest : oldest_of new ≡ oldest_after old
 
 -- how the calls end, over a flash that stands for a table of the model
 abbrev pub MakesRoomOf : Option BitmapIndex → FlashState → ℕ → Plan → Table → Bool → Device → Result (Unit {0}) FlashFault → Option BitmapIndex → FlashState → Type 0

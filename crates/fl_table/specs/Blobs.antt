@@ -16,7 +16,7 @@ use Rattle.fl_ring.specs.Kept.{PagesStand}
 use Rattle.fl_ring.specs.Ring.{OutsideStands, room}
 use Rattle.fl_frame.specs.Watched.{IsWatched}
 use Rattle.fl_var.specs.Memory as memory
-use Rattle.fl_var.specs.Memory.{is_mounted, next_in, waiting_in, room_in, page_in, var_shape}
+use Rattle.fl_var.specs.Memory.{is_mounted, next_in, oldest_in, waiting_in, room_in, page_in, var_shape}
 use Rattle.fl_var.specs.Placing.{Breaks, where_placed, pages_placed, reference_in}
 pub use Rattle.fl_var.specs.Placing.{rest_seals}
 use Rattle.fl_var.specs.Standing as standing
@@ -80,9 +80,10 @@ placed_in None blobs = None
 placed_in (Some bytes) None = None
 placed_in (Some bytes) (Some var) = Some (reference_in var (length bytes))
 
--- It was placed: its bytes wait behind those that did, but for those that filled pages.
+-- It was placed: its bytes wait behind those that did, but for those that filled pages. For these the ring gave up what it had to.
 pub record HasPlaced (bytes : List ℕ) (old new : VarData) : Type 0 where
   pub next : next_in new ≡ next_in old + pages_placed old (length bytes)
+  pub oldest : oldest_in new ≡ memory.oldest_after old (pages_placed old (length bytes))
   pub waits : waiting_in new ≡ drop (pages_placed old (length bytes) * room_in old) (waiting_in old ++ bytes)
 
 abbrev pub HavePlaced : Option (List ℕ) → Option VarData → Option VarData → Type 0
@@ -98,6 +99,13 @@ next_of blobs = unwrap_or (option_map (λ var. next_in var) blobs) 0
 -- .. and after the bytes that wait were sealed
 abbrev pub next_after : Option VarData → ℕ
 next_after blobs = unwrap_or (option_map (λ var. if length (waiting_in var) == 0 then next_in var else next_in var + 1) blobs) 0
+
+-- the oldest page that is kept, and after that
+abbrev pub oldest_of : Option VarData → ℕ
+oldest_of blobs = unwrap_or (option_map (λ var. oldest_in var) blobs) 0
+
+abbrev pub oldest_after : Option VarData → ℕ
+oldest_after blobs = unwrap_or (option_map (λ var. memory.oldest_after var (if length (waiting_in var) == 0 then 0 else 1)) blobs) 0
 
 -- each blob of these records was given up, or is in kept pages
 abbrev pub AreIn : Plan → Ring → List Entry → Type 0

@@ -24,7 +24,7 @@ use Rattle.fl_var.specs.Memory.{var_shape}
 use Rattle.fl_table.specs.Causes.{of_ring}
 use Rattle.fl_table.specs.Knowing.{IsLearned}
 use Rattle.fl_table.specs.Look.{counts_in}
-use Rattle.fl_table.specs.Memory.{pending_in, ring_shape}
+use Rattle.fl_table.specs.Memory.{ring_shape, NothingWaits}
 use Rattle.fl_table.specs.declared.table.Table.{Table}
 use Rattle.fl_table.specs.declared.faults.MountFault.{MountFault}
 use Rattle.fl_table.specs.declared.faults.MountFault.TheVariants as mount
@@ -119,7 +119,7 @@ RemembersKept (Some index) f (Some now) = RemembersPages (memory.form_in index).
 abbrev pub HasLearned : {KNOTS SLOTS : ℕ} → ℕ → Come → Table KNOTS SLOTS → Type 0
 HasLearned error t now = IsLearned error t now.voids now.counts.items now.index
 
--- The entries of the last data pages wait that no index page lists, and no row is pending. What was counted is what the table counts from
+-- The entries of the last data pages wait that no index page lists, and nothing else. What was counted is what the table counts from
 -- then on, and it has learned where the keys are. The variable data were found then, where the table has any: each blob begins before
 -- their next page.
 pub record FindsRows {KNOTS SLOTS : ℕ} (t : Table KNOTS SLOTS) (bitmaps : Option BitmapIndex) (old : FlashState) (least : ℕ) (mounted : Mounted) (now : Table KNOTS SLOTS) (new : FlashState) : Type 0 where
@@ -130,8 +130,7 @@ pub record FindsRows {KNOTS SLOTS : ℕ} (t : Table KNOTS SLOTS) (bitmaps : Opti
   pub pages : FindsData t bitmaps old least ring mounted now.last_key end between
   pub waits : WaitUnlisted (comes_in t bitmaps ring between) (pages_of ring between) bitmaps least (next_of ring) now.bitmaps
   pub firsts : RemembersKept bitmaps between now.bitmaps
-  pub pending : pending_in now ≡ 0
-  pub bits : now.bitmap ≡ 0
+  pub empty : NothingWaits now
   pub learned : HasLearned (error_in t.index) (comes_in t bitmaps ring between) now
   pub counts : counts_in now ≡ record { rows = mounted.rows; pending = 0; pages = mounted.pages; voids = mounted.voids }
   pub blobs : FindsBlobs t.blobs between (least_of end) now.blobs new

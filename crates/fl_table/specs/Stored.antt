@@ -5,9 +5,11 @@ use Rattle.fl_find.specs.Index.{IndexOf, is_further, knots_in}
 use Rattle.fl_model.specs.Row.{Row}
 use Rattle.fl_ring.specs.Place.{oldest_after}
 use Rattle.fl_spline.specs.Points.{IsFurther}
-use Rattle.fl_table.specs.Blobs.{AreEmpty, HavePlaced, next_after, next_of, placed_in}
+use Rattle.fl_table.specs.Bitmaps.{RingGoesOn}
+use Rattle.fl_table.specs.Blobs as variable
+use Rattle.fl_table.specs.Blobs.{HavePlaced, next_after, next_of, placed_in}
 use Rattle.fl_table.specs.Look.{last_key_in, oldest_in}
-use Rattle.fl_table.specs.Memory.{bitmap_with, next_in, pending_in, HasRoom, PendingAre}
+use Rattle.fl_table.specs.Memory.{bitmap_with, next_in, pending_in, HasRoom, NothingWaits, PendingAre}
 use Rattle.fl_table.specs.declared.table.Table.{Table}
 
 -- what is known of the kept pages stays, and so do the entries that wait for the index
@@ -50,14 +52,15 @@ pub record HasCounted {KNOTS SLOTS : ℕ} (old new : Table KNOTS SLOTS) : Type 0
       IndexOf error (points ++ (row.key, next_in old) ∷ []) new.index
   pub left_out : (row : Row) (rows : List Row) → PendingAre old (row ∷ rows) → is_further (knots_in old.index) (row.key, next_in old) ≡ false → new.index ≡ old.index
 
--- The pending rows were sealed as a page, which is counted: none is left, and the bytes of blobs that waited are on a page too.
+-- The pending rows were sealed as a page, which is counted: none is left, and the bytes of blobs that waited are on a page too, and a full list
+-- of entries. Each ring gave up what it had to.
 pub record IsEmptied {KNOTS SLOTS : ℕ} (old new : Table KNOTS SLOTS) : Type 0 where
   pub next : next_in new ≡ next_in old + 1
-  pub none : pending_in new ≡ 0
+  pub empty : NothingWaits new
   pub rows : PendingAre new []
-  pub bits : new.bitmap ≡ 0
-  pub blobs : AreEmpty new.blobs
   pub blob_next : next_of new.blobs ≡ next_after old.blobs
+  pub blob_oldest : variable.oldest_of new.blobs ≡ variable.oldest_after old.blobs
+  pub index : RingGoesOn old.bitmaps new.bitmaps
   pub counted : HasCounted old new
 
 -- A record joins the pending ones where their page has room for it. Else that page is sealed first, and its row is the only one.

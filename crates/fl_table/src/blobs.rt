@@ -13,8 +13,8 @@ ghost use Rattle.fl_table.specs.BlobMount.{MountEndsOf, FindsBlobs, RefusesBlobs
 ghost use Rattle.fl_table.specs.Causes.{MountCausedBy, OffFailsAs};
 ghost use Rattle.fl_table.specs.MountLimits.{IsVarLimited};
 ghost use Rattle.fl_table.specs.Mounting.{FewReads, FewRepairs};
-ghost use Rattle.fl_table.specs.Blobs.{AreSamePlan, LieOn, AreRunning, AreEmpty, MayFill, MaySeal, NumbersLeft, RestEndsOf, PlaceEndsOf, StandOutside, next_of, next_after, rings_of, room_of, HasFew, HavePlaced, pages_for, placed_in, FitsRow};
-ghost use Rattle.fl_var.specs.Memory.{waiting_in, BytesPaged};
+ghost use Rattle.fl_table.specs.Blobs.{AreSamePlan, LieOn, AreRunning, AreEmpty, MayFill, MaySeal, NumbersLeft, RestEndsOf, PlaceEndsOf, StandOutside, next_of, next_after, oldest_of, oldest_after, rings_of, room_of, HasFew, HavePlaced, pages_for, placed_in, FitsRow};
+ghost use Rattle.fl_var.specs.Memory.{waiting_in, BytesAhead, BytesPaged};
 
 use crate::MountFault;
 use crate::blob_end::least_of;
@@ -73,6 +73,7 @@ pub(crate) fn mount_within<F: Flash>(
     ensures room { length buf.new.bytes ≡ length buf.old.bytes }
     ensures holds { buf.new.holds ≡ None }
     ensures running { OnOk result (AreRunning blobs.new) }
+    ensures empty { AreEmpty blobs.new }
     ensures ends { (first : ℕ) (plan : Plan) (table : model.Table) (rose : Bool) (device : Device) → end ≡ blob_end table →
         WithinEndsOf blobs.old (F.state flash.old) first plan table rose device result blobs.new (F.state flash.new) }
     ensures found { OnOk result (FindsBlobs blobs.old (F.state flash.old) (least_of end) blobs.new (F.state flash.new)) }
@@ -110,6 +111,7 @@ pub(crate) fn seal_rest<F: Flash>(
     ensures lies { LieOn blobs.new (F.state flash.new) }
     ensures running { OnOk result (AreRunning blobs.new) }
     ensures next { OnOk result (next_of blobs.new ≡ next_after blobs.old) }
+    ensures oldest { OnOk result (oldest_of blobs.new ≡ oldest_after blobs.old) }
     ensures empty { OnOk result (AreEmpty blobs.new) }
     ensures ends { (first : ℕ) (plan : Plan) (table : model.Table) (rose : Bool) (device : Device) →
         RestEndsOf blobs.old (F.state flash.old) first plan table rose device result blobs.new (F.state flash.new) }
@@ -118,6 +120,7 @@ pub(crate) fn seal_rest<F: Flash>(
     ensures quiet { AreEmpty blobs.old → (result ≡ Ok tt) × (F.state flash.new ≡ F.state flash.old) }
     ensures outside { IsTrue (F.state flash.old).media.tells → StandOutside blobs.old (page_at (F.state flash.old)) (page_at (F.state flash.new)) }
     ensures page { IfSome blobs.old (λ var. 1 ≤ length (waiting_in var) → OnOk result (IsTrue (F.state flash.old).media.tells → BytesPaged var (page_at (F.state flash.old)) (page_at (F.state flash.new)))) }
+    ensures ahead { IfSome blobs.old (λ var. 1 ≤ length (waiting_in var) → OnOk result (IsTrue (F.state flash.old).media.tells → BytesAhead var (λ page. ⊥) (page_at (F.state flash.new)))) }
     ensures writes { Writes (MaySeal blobs.old) 0 (rings_of blobs.old) (F.state flash.old) (F.state flash.new) }
     ensures reads { (F.state flash.new).work.reads ≡ (F.state flash.old).work.reads }
     ensures media_reads { (F.state flash.new).media.reads ≤ (F.state flash.old).media.reads + rings_of blobs.old }

@@ -46,7 +46,7 @@ impl<const KNOTS: usize, const SLOTS: usize> Table<KNOTS, SLOTS> {
     ghost use Rattle.fl_table.specs.Blobs as variable;
     ghost use Rattle.fl_model.specs.Work.{Device};
     ghost use Rattle.fl_frame.specs.Watched.{IsWatched};
-    ghost use Rattle.fl_table.specs.Memory.{is_running, is_stopped, pending_in, ring_shape, IsForgotten, IsPlanned, IsSamePlan, IsSameRest, LiesOn};
+    ghost use Rattle.fl_table.specs.Memory.{is_running, is_stopped, pending_in, ring_shape, IsForgotten, IsPlanned, IsSamePlan, IsSameRest, LiesOn, NothingWaits};
     ghost use Rattle.fl_table.specs.Pages.{Rests};
     ghost use Rattle.fl_table.specs.Outcomes.{DataEnds, MountEnds, RingsEnd, var_rings};
     ghost use Rattle.fl_table.specs.MountLimits.{rows_mount_limit};
@@ -167,7 +167,7 @@ impl<const KNOTS: usize, const SLOTS: usize> Table<KNOTS, SLOTS> {
         ensures lies { LiesOn self.new (F.state flash.new) }
         ensures room { length buf.new.bytes ≡ length buf.old.bytes }
         ensures holds { buf.new.holds ≡ None }
-        ensures none { (self.new.writer.count ≡ 0) × (self.new.bitmap ≡ 0) }
+        ensures none { (self.new.writer.count ≡ 0) × (self.new.bitmap ≡ 0) × (self.new.blob_end ≡ 0) }
         ensures down { self.new.ring ≡ None }
         ensures calm { is_stopped self.new ≡ false }
         ensures running { AreRunning self.new.bitmaps }
@@ -236,6 +236,7 @@ impl<const KNOTS: usize, const SLOTS: usize> Table<KNOTS, SLOTS> {
         ensures mounted { is_running self.new ≡ is_ok result }
         ensures calm { is_stopped self.new ≡ false }
         ensures none { pending_in self.new ≡ 0 }
+        ensures empty { OnOk result (NothingWaits self.new) }
         ensures found { IfOk result (λ mounted. IsTrue (F.state flash.old).media.tells → FindsRows self.old self.old.bitmaps (F.state flash.old) end mounted self.new (F.state flash.new)) }
         ensures refused { IfErr result (λ e. IsTrue (F.state flash.old).media.tells → RefusesRows self.old self.old.bitmaps (F.state flash.old) end e (F.state flash.new)) }
         ensures outside { IsTrue (F.state flash.old).media.tells → RowsStandOutside self.old (page_at (F.state flash.old)) (page_at (F.state flash.new)) }
@@ -274,6 +275,7 @@ impl<const KNOTS: usize, const SLOTS: usize> Table<KNOTS, SLOTS> {
         ensures mounted { is_running self.new ≡ is_ok result }
         ensures calm { is_stopped self.new ≡ false }
         ensures none { pending_in self.new ≡ 0 }
+        ensures empty { OnOk result (NothingWaits self.new) }
         ensures found { IfOk result (λ mounted. IsTrue (F.state flash.old).media.tells → FindsPages self.old (F.state flash.old) mounted self.new (F.state flash.new)) }
         ensures refused { IfErr result (λ e. IsTrue (F.state flash.old).media.tells → RefusesPages self.old (F.state flash.old) e (F.state flash.new)) }
         ensures outside { IsTrue (F.state flash.old).media.tells → OutsideStands self.old (page_at (F.state flash.old)) (page_at (F.state flash.new)) }

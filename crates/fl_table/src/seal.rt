@@ -25,14 +25,14 @@ impl<const KNOTS: usize, const SLOTS: usize> Table<KNOTS, SLOTS> {
     ghost use Rattle.fl_table.specs.Look.{last_key_in};
     ghost use Rattle.fl_table.specs.Memory.{is_running, is_stopped, next_in, pending_in, IsSamePlan, LiesOn, MaySeal, PendingAre};
     ghost use Rattle.fl_table.specs.Standing.{Stands};
-    ghost use Rattle.fl_table.specs.Bitmaps.{HaveRoom, bitmap_seals, next_of as index_next, rings_of, MaySeal as index_seals, StandOutside};
+    ghost use Rattle.fl_table.specs.Bitmaps.{RingGoesOn, HaveRoom, bitmap_seals, next_of as index_next, oldest_of, rings_of, MaySeal as index_seals, StandOutside};
     ghost use Rattle.fl_table.specs.Blobs as variable;
     ghost use Rattle.fl_table.specs.Blobs.{AreEmpty, rest_seals};
     ghost use Rattle.fl_table.specs.Causes.{OffFailsAs};
     ghost use Rattle.fl_table.specs.Mounting.{OutsideStands, rings_in};
     ghost use Rattle.fl_table.specs.Outcomes.{SealsEnd};
-    ghost use Rattle.fl_table.specs.Paged.{BlobsPaged, IsApart, RowsPaged, next_page};
-    ghost use Rattle.fl_var.specs.Memory.{waiting_in, BytesPaged};
+    ghost use Rattle.fl_table.specs.Paged.{BlobsAhead, BlobsPaged, IsApart, RowsAhead, RowsPaged, next_page};
+    ghost use Rattle.fl_var.specs.Memory.{waiting_in, BytesAhead, BytesPaged};
     ghost use Rattle.fl_table.specs.Stored.{HasCounted, IsEmptied, WaitsSame};
 
     /// Seals the table: the waiting entries, where they fill an index page, the blob bytes that wait, and then the pending
@@ -56,6 +56,8 @@ impl<const KNOTS: usize, const SLOTS: usize> Table<KNOTS, SLOTS> {
         ensures outside { IsTrue (F.state flash.old).media.tells → OutsideStands self.old (page_at (F.state flash.old)) (page_at (F.state flash.new)) }
         ensures page { OnOk result (IsTrue (F.state flash.old).media.tells → IsApart self.old (next_page self.old) → RowsPaged self.old (page_at (F.state flash.old)) (page_at (F.state flash.new))) }
         ensures blob_page { OnOk result (BlobsPaged self.old (F.state flash.old) (F.state flash.new)) }
+        ensures ahead { OnOk result (IsTrue (F.state flash.old).media.tells → RowsAhead self.old (λ page. ⊥) (page_at (F.state flash.new))) }
+        ensures blobs_ahead { OnOk result (BlobsAhead self.old (F.state flash.old) (F.state flash.new)) }
         ensures writes { Writes (MaySeal self.old) (done result) (rings_in self.old) (F.state flash.old) (F.state flash.new) }
         ensures reads { (F.state flash.new).work.reads ≡ (F.state flash.old).work.reads }
         ensures media_reads { (F.state flash.new).media.reads ≤ (F.state flash.old).media.reads + rings_in self.old }
@@ -86,6 +88,7 @@ impl<const KNOTS: usize, const SLOTS: usize> Table<KNOTS, SLOTS> {
         ensures running { OnOk result (is_running self.new ≡ true) }
         ensures next { OnOk result (next_in self.new ≡ next_in self.old) }
         ensures index_next { OnOk result (index_next self.new.bitmaps ≤ index_next self.old.bitmaps + 1) }
+        ensures index { OnOk result (RingGoesOn self.old.bitmaps self.new.bitmaps) }
         ensures calm { OnOk result (is_stopped self.new ≡ is_stopped self.old) }
         ensures stopped { OnErr result ((is_running self.new ≡ false) × (is_stopped self.new ≡ true)) }
         ensures outside { IsTrue (F.state flash.old).media.tells → OutsideStands self.old (page_at (F.state flash.old)) (page_at (F.state flash.new)) }
@@ -123,11 +126,13 @@ impl<const KNOTS: usize, const SLOTS: usize> Table<KNOTS, SLOTS> {
         ensures running { OnOk result (is_running self.new ≡ true) }
         ensures next { OnOk result (next_in self.new ≡ next_in self.old) }
         ensures blob_next { OnOk result (variable.next_of self.new.blobs ≡ variable.next_after self.old.blobs) }
+        ensures blob_oldest { OnOk result (variable.oldest_of self.new.blobs ≡ variable.oldest_after self.old.blobs) }
         ensures calm { OnOk result (is_stopped self.new ≡ is_stopped self.old) }
         ensures stopped { OnErr result ((is_running self.new ≡ false) × (is_stopped self.new ≡ true)) }
         ensures outside { IsTrue (F.state flash.old).media.tells → OutsideStands self.old (page_at (F.state flash.old)) (page_at (F.state flash.new)) }
         ensures still { WaitsSame self.old self.new × (IsTrue (F.state flash.old).media.tells → variable.StandOutside self.old.blobs (page_at (F.state flash.old)) (page_at (F.state flash.new))) }
         ensures page { IfSome self.old.blobs (λ var. 1 ≤ length (waiting_in var) → OnOk result (IsTrue (F.state flash.old).media.tells → BytesPaged var (page_at (F.state flash.old)) (page_at (F.state flash.new)))) }
+        ensures ahead { IfSome self.old.blobs (λ var. 1 ≤ length (waiting_in var) → OnOk result (IsTrue (F.state flash.old).media.tells → BytesAhead var (λ page. ⊥) (page_at (F.state flash.new)))) }
         ensures writes { Writes (variable.MaySeal self.old.blobs) 0 (variable.rings_of self.old.blobs) (F.state flash.old) (F.state flash.new) }
         ensures reads { (F.state flash.new).work.reads ≡ (F.state flash.old).work.reads }
         ensures media_reads { (F.state flash.new).media.reads ≤ (F.state flash.old).media.reads + variable.rings_of self.old.blobs }
@@ -168,18 +173,20 @@ impl<const KNOTS: usize, const SLOTS: usize> Table<KNOTS, SLOTS> {
         ensures lies { LiesOn self.new (F.state flash.new) }
         ensures ends { (first : ℕ) → (plan : Plan) → (table : model.Table) → (rose : Bool) → (device : Device) → IsWatched (F.state flash.old) (F.state flash.new) rose device
             → Stands self.old (F.state flash.old) first plan table → SealsEnd first plan (DataRing ∷ []) table rose device result self.new (F.state flash.old) (F.state flash.new) }
-        ensures empty { OnOk result ((self.new.writer.count ≡ 0) × (self.new.bitmap ≡ 0)) }
+        ensures empty { OnOk result ((self.new.writer.count ≡ 0) × (self.new.bitmap ≡ 0) × (self.new.blob_end ≡ 0)) }
         ensures counted { OnOk result (HasCounted self.old self.new) }
         ensures last { last_key_in self.new ≡ last_key_in self.old }
         ensures pending_stays { OnErr result (pending_in self.new ≡ pending_in self.old) }
         ensures running { OnOk result (is_running self.new ≡ true) }
         ensures next { OnOk result (next_in self.new ≡ next_in self.old + 1) }
         ensures index_next { OnOk result (index_next self.new.bitmaps ≡ index_next self.old.bitmaps) }
+        ensures index_oldest { OnOk result (oldest_of self.new.bitmaps ≡ oldest_of self.old.bitmaps) }
         ensures blobs { self.new.blobs ≡ self.old.blobs }
         ensures calm { OnOk result (is_stopped self.new ≡ is_stopped self.old) }
         ensures stopped { OnErr result ((is_running self.new ≡ false) × (is_stopped self.new ≡ true)) }
         ensures outside { IsTrue (F.state flash.old).media.tells → OutsideStands self.old (page_at (F.state flash.old)) (page_at (F.state flash.new)) }
         ensures page { OnOk result (IsTrue (F.state flash.old).media.tells → RowsPaged self.old (page_at (F.state flash.old)) (page_at (F.state flash.new))) }
+        ensures ahead { OnOk result (IsTrue (F.state flash.old).media.tells → RowsAhead self.old (λ page. ⊥) (page_at (F.state flash.new))) }
         ensures writes { Writes (MaySealIn self.old.ring) (done result) 1 (F.state flash.old) (F.state flash.new) }
         ensures reads { (F.state flash.new).work.reads ≡ (F.state flash.old).work.reads }
         ensures media_reads { (F.state flash.new).media.reads ≤ (F.state flash.old).media.reads + 1 }

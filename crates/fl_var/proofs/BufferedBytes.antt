@@ -25,7 +25,7 @@ use Rattle.fl_ring.specs.Sealing.{SealCalls}
 use Rattle.fl_ring.specs.Written as written
 use Rattle.fl_ring.proofs.Written.{writes-none, writes-wider}
 use Rattle.fl_frame.specs.Watched.{IsWatched}
-use Rattle.fl_var.specs.Memory.{is_mounted, next_in, waiting_in, room_in, var_shape, IsOnRing, IsSamePlan, LiesOn}
+use Rattle.fl_var.specs.Memory.{is_mounted, next_in, oldest_in, oldest_after, waiting_in, room_in, var_shape, IsOnRing, IsSamePlan, LiesOn}
 use Rattle.fl_var.specs.Placing.{Seals, Breaks, EndsWith, pages_placed}
 use Rattle.fl_var.specs.Standing.{HasRing}
 use Rattle.fl_var.specs.declared.var_data.VarData.{VarData}
@@ -33,6 +33,7 @@ use Rattle.fl_var.proofs.Lists.{drop-none, drop-short}
 use Rattle.fl_var.proofs.PageImages.{waiting-length}
 use Rattle.fl_var.proofs.SealsInTable.{room-planned, seal-err}
 use Rattle.fl_var.proofs.Joins.{seals-none, seals-refilled, seals-join, breaks-join, breaks-front, buffered-after, replicate-push, replicate-split, same-shape}
+use Rattle.fl_var.proofs.OldestKept.{after-then, oldest-same}
 use Rattle.fl_var.proofs.Written.{writes-both}
 use Rattle.fl_frame.proofs.WatchedInTurn.{watched-first, watched-then, cause-later}
 
@@ -43,6 +44,7 @@ pub record Writes (first : VarData) (first_f : FlashState) (bytes : List ℕ) (d
   pub lies : LiesOn v f
   pub mounted : is_mounted v ≡ true
   pub later : next_in first ≤ next_in v
+  pub oldest : oldest_in v ≡ oldest_after first (next_in v - next_in first)
   pub sum : length (waiting_in first) + done ≡ (next_in v - next_in first) * room_in first + length (waiting_in v)
   pub some : 1 ≤ length (waiting_in v)
   pub most : length (waiting_in v) ≤ room_in first
@@ -111,6 +113,7 @@ module _ (v w : VarData) (f : FlashState) (bytes : List ℕ) (n : ℕ) (ring : w
         lies = lies-refilled v w f ring same lies;
         mounted = ap is_some ring ∙ mounted;
         later = omega (arith, next);
+        oldest = oldest-same v w ring ∙ ap (oldest_after v) (sym none);
         sum = subst (λ k. length (waiting_in v) + n ≡ k * room_in v + length (waiting_in w)) (sym none) (omega (arith, fill));
         some = omega (arith, fill, count, some, room);
         most = omega (arith, fill, count, room);
@@ -152,7 +155,7 @@ SealsNext v f result mid g =
 
 -- the full buffer was sealed, and then bytes put
 module _ (first v mid w : VarData) (first_f f g : FlashState) (bytes : List ℕ) (done n : ℕ) (is : Writes first first_f bytes done v f) (less : done < length bytes)
-    (goes : Goes f g) (same : IsSamePlan v mid) (lies : LiesOn mid g) (mounted : is_mounted mid ≡ true) (next : next_in mid ≡ next_in v + 1) (empty : waiting_in mid ≡ [])
+    (goes : Goes f g) (same : IsSamePlan v mid) (lies : LiesOn mid g) (mounted : is_mounted mid ≡ true) (next : next_in mid ≡ next_in v + 1) (kept : oldest_in mid ≡ oldest_after v 1) (empty : waiting_in mid ≡ [])
     (ends : SealsNext v f (Ok tt) mid g)
     (outside : IsTrue f.media.tells → OutsideStands (var_shape v) (page_at f) (page_at g)) (reads : g.work.reads ≡ f.work.reads) (media_reads : g.media.reads ≤ f.media.reads + 1) (tries : written.Writes (IsOnRing v) 0 1 f g)
     (ring : w.ring ≡ mid.ring) (refilled : IsSamePlan mid w) (power : g.is_on ≡ true) (sealed_on : f.is_on ≡ false → ⊥) (some_len : ℕ) (len_is : some_len ≡ length bytes - done) (counted : n ≡ min some_len (length mid.waiting.body - (8 + mid.waiting.fill))) (filled : w.waiting.fill ≡ mid.waiting.fill + n)
@@ -196,6 +199,7 @@ module _ (first v mid w : VarData) (first_f f g : FlashState) (bytes : List ℕ)
         lies = lies-refilled mid w g ring refilled lies;
         mounted = ap is_some ring ∙ mounted;
         later = omega (arith, at, is.later);
+        oldest = oldest-same mid w ring ∙ (after-then first v mid (next_in v - next_in first) 1 is.same (omega (arith, is.later)) is.oldest kept ∙ ap (oldest_after first) (sym pages));
         sum =
             let more : (next_in v - next_in first + 1) * room_in first ≡ (next_in v - next_in first) * room_in first + room_in first = omega arith in
             subst (λ k. length (waiting_in first) + (done + n) ≡ k * room_in first + length (waiting_in w)) (sym pages) (omega (arith, more, is.sum, before, fill_there, none));
@@ -265,6 +269,9 @@ module _ (first v : VarData) (first_f f : FlashState) (bytes : List ℕ) (done :
 
   pub writes-tried : written.Writes (IsOnRing first) 0 (pages_placed first (length bytes)) first_f f
   writes-tried = subst (λ k. written.Writes (IsOnRing first) 0 k first_f f) (sym writes-pages) is.tried
+
+  pub writes-oldest : oldest_in v ≡ oldest_after first (pages_placed first (length bytes))
+  writes-oldest = is.oldest ∙ ap (oldest_after first) (sym writes-pages)
 
   pub writes-waits : waiting_in v ≡ drop (pages_placed first (length bytes) * room_in first) (waiting_in first ++ bytes)
   writes-waits =

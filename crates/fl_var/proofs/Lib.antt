@@ -8,6 +8,8 @@ pub mod States
 pub mod RingInTable
 pub mod SealsInTable
 pub mod Joins
+pub mod Ahead
+pub mod OldestKept
 pub mod Written
 pub mod BufferedBytes
 pub mod Placed

@@ -15,12 +15,13 @@ use Rattle.fl_model.specs.Work.{Device}
 use Rattle.fl_frame.specs.Watched.{IsWatched}
 use Rattle.fl_ring.specs.Written.{Writes}
 use Rattle.fl_ring.proofs.Written.{writes-wider}
-use Rattle.fl_var.specs.Memory.{next_in, waiting_in, room_in, IsOnRing, IsPlanned, IsSamePlan}
+use Rattle.fl_var.specs.Memory.{next_in, oldest_in, oldest_after, waiting_in, room_in, IsOnRing, IsPlanned, IsSamePlan}
 use Rattle.fl_var.specs.Placing.{Seals, Breaks, EndsWith, Finishes, PlaceEnds, RestEnds, where_placed, is_full_in, room_seals, rest_seals, pages_placed}
 use Rattle.fl_var.specs.Standing.{Stands, HasRing}
 use Rattle.fl_var.specs.declared.var_data.VarData.{VarData}
 use Rattle.fl_var.proofs.Joins.{has-joined, seals-none, seals-join, breaks-join, breaks-front, buffered-after, replicate-split}
 use Rattle.fl_frame.proofs.WatchedInTurn.{watched-then}
+use Rattle.fl_var.proofs.OldestKept.{after-then}
 use Rattle.fl_var.proofs.Written.{writes-both}
 use Rattle.fl_var.proofs.Lists.{drop-none, drop-short}
 use Rattle.fl_var.proofs.PageImages.{waiting-length, waiting-room}
@@ -111,6 +112,14 @@ module _ (v mid : VarData) (bytes : List ℕ) (some : 1 ≤ length bytes) (same 
       by_full : (b : Bool) → next_in mid ≡ cond b (next_in v + 1) (next_in v) → pages_placed v (length bytes) ≡ cond b 1 0 + pages_placed mid (length bytes) → last ≡ next_in v + pages_placed v (length bytes)
       by_full true n p = omega (arith, e, n, p)
       by_full false n p = omega (arith, e, n, p)
+
+  pub oldest-split : (w : VarData) → next_in mid ≡ cond (is_full_in v) (next_in v + 1) (next_in v) → oldest_in mid ≡ oldest_after v (cond (is_full_in v) 1 0) → oldest_in w ≡ oldest_after mid (pages_placed mid (length bytes)) →
+      oldest_in w ≡ oldest_after v (pages_placed v (length bytes))
+  oldest-split w next kept more = after-then v mid w (cond (is_full_in v) 1 0) (pages_placed mid (length bytes)) same (by_full (is_full_in v) next) kept more ∙ ap (oldest_after v) (sym pages-split)
+    where
+      by_full : (b : Bool) → next_in mid ≡ cond b (next_in v + 1) (next_in v) → next_in mid ≡ next_in v + cond b 1 0
+      by_full true n = n
+      by_full false n = omega (arith, n)
 
   pub reads-split : (old between new : ℕ) → (is_full_in v ≡ false → between ≡ old) → between ≤ old + 1 → new ≤ between + pages_placed mid (length bytes) → new ≤ old + pages_placed v (length bytes)
   reads-split old between new still one more = by_full (is_full_in v) refl pages-split

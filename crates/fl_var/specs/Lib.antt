@@ -1,5 +1,6 @@
 pub mod WaitingState
 pub mod Content
+pub mod Ahead
 pub mod Memory
 pub mod Standing
 pub mod Placing

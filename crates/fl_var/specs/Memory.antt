@@ -1,5 +1,5 @@
 -- What clauses see of a ring of variable data in memory.
-use Rattle.std.specs.Prelude.{◌≡◌, ℕ, ◌+◌, ◌-◌, ◌^◌, ◌<◌, ◌≤◌, Bool, ◌==◌, if◌then◌else◌, is_some, option_map, unwrap_or, List, drop}
+use Rattle.std.specs.Prelude.{◌≡◌, ℕ, zero, suc, ◌+◌, ◌-◌, ◌^◌, ◌<◌, ◌≤◌, Bool, ◌==◌, if◌then◌else◌, is_some, option_map, unwrap_or, List, drop}
 use Rattle.std.specs.Option.{ForSome}
 use Rattle.fl_flash.specs.Flash.{FlashState, pages, page_at}
 use Rattle.fl_model.specs.Layout.{committed}
@@ -8,8 +8,9 @@ use Rattle.fl_ring.specs.Mounting.{shape_at}
 use Rattle.fl_ring.specs.Place.{next_of, oldest_of}
 use Rattle.fl_ring.specs.Place as place
 use Rattle.fl_ring.specs.Ring as ring
-use Rattle.fl_ring.specs.Ring.{Shape}
+use Rattle.fl_ring.specs.Ring.{Shape, is_due_at}
 use Rattle.fl_ring.specs.Written.{MaySealIn, sealed_over}
+use Rattle.fl_var.specs.Ahead.{AheadBlank}
 use Rattle.fl_var.specs.Content.{content_body}
 use Rattle.fl_var.specs.WaitingState.{content_in}
 use Rattle.fl_var.specs.declared.var_data.VarData.{VarData}
@@ -44,6 +45,15 @@ room_in v = v.geometry.page - 16
 abbrev pub var_shape : VarData → Shape
 var_shape v = shape_at v.place v.geometry
 
+-- the oldest page that a ring keeps after so many seals: with each its oldest block goes where it has to
+abbrev pub oldest_through : Shape → ℕ → ℕ → ℕ → ℕ
+oldest_through r next oldest zero = oldest
+oldest_through r next oldest (suc n) =
+    let before = oldest_through r next oldest n in if is_due_at r (next + suc n) (next + suc n - before) then before + r.per_block else before
+
+abbrev pub oldest_after : VarData → ℕ → ℕ
+oldest_after v n = oldest_through (var_shape v) (next_in v) (oldest_in v) n
+
 -- the flash pages of the ring
 abbrev pub IsOnRing : VarData → ℕ → Type 0
 IsOnRing v page = ((var_shape v).first ≤ page) × (page < (var_shape v).first + ring.room (var_shape v))
@@ -54,6 +64,10 @@ bytes_page v = ring.place (var_shape v) (next_in v)
 
 abbrev pub BytesPaged : VarData → (ℕ → List ℕ) → (ℕ → List ℕ) → Type 0
 BytesPaged v old new = new (bytes_page v) ≡ sealed_over (var_shape v) (content_body (room_in v) (next_in v) (waiting_in v)) (old (bytes_page v))
+
+-- where the oldest block goes with their seal, the block ahead is blank then, but for the pages that may have changed since
+abbrev pub BytesAhead : VarData → (ℕ → Type 0) → (ℕ → List ℕ) → Type 0
+BytesAhead v Changed new = AheadBlank v.ring Changed new
 
 -- the bytes at the place of a page number
 abbrev pub page_in : VarData → FlashState → ℕ → List ℕ

@@ -16,7 +16,7 @@ impl VarData {
     ghost use Rattle.fl_ring.specs.Ring.{OutsideStands};
     ghost use Rattle.fl_frame.specs.Watched.{IsWatched};
     ghost use Rattle.fl_ring.specs.Written.{Writes, done};
-    ghost use Rattle.fl_var.specs.Memory.{is_mounted, next_in, waiting_in, room_in, var_shape, BytesPaged, IsOnRing, IsSamePlan, LiesOn, MaySeal};
+    ghost use Rattle.fl_var.specs.Memory.{is_mounted, next_in, oldest_in, oldest_after, waiting_in, room_in, var_shape, BytesAhead, BytesPaged, IsOnRing, IsSamePlan, LiesOn, MaySeal};
     ghost use Rattle.fl_var.specs.Placing.{is_full_in, room_seals, pages_placed, reference_in, EndsWith, PlaceEnds, RestEnds};
     ghost use Rattle.fl_var.specs.Standing.{Stands, HasRing};
 
@@ -31,6 +31,7 @@ impl VarData {
         ensures lies { LiesOn self.new (F.state flash.new) }
         ensures mounted { is_mounted self.new ≡ is_ok result }
         ensures next { OnOk result (next_in self.new ≡ next_in self.old + 1) }
+        ensures oldest { OnOk result (oldest_in self.new ≡ oldest_after self.old 1) }
         ensures power { OnOk result ((F.state flash.new).is_on ≡ true) }
         ensures empty { OnOk result (waiting_in self.new ≡ []) }
         ensures ends { (plan : Plan) → (table : model.Table) → (rose : Bool) → (device : Device) → IsWatched (F.state flash.old) (F.state flash.new) rose device
@@ -38,6 +39,7 @@ impl VarData {
             → EndsWith plan (VarRing ∷ []) table rose device self.old (F.state flash.old) result self.new (F.state flash.new) }
         ensures outside { IsTrue (F.state flash.old).media.tells → OutsideStands (var_shape self.old) (page_at (F.state flash.old)) (page_at (F.state flash.new)) }
         ensures page { OnOk result (IsTrue (F.state flash.old).media.tells → BytesPaged self.old (page_at (F.state flash.old)) (page_at (F.state flash.new))) }
+        ensures ahead { OnOk result (IsTrue (F.state flash.old).media.tells → BytesAhead self.old (λ page. ⊥) (page_at (F.state flash.new))) }
         ensures writes { Writes (MaySeal self.old) (done result) 1 (F.state flash.old) (F.state flash.new) }
         ensures reads { (F.state flash.new).work.reads ≡ (F.state flash.old).work.reads }
         ensures media_reads { (F.state flash.new).media.reads ≤ (F.state flash.old).media.reads + 1 }
@@ -65,6 +67,7 @@ impl VarData {
         ensures lies { LiesOn self.new (F.state flash.new) }
         ensures mounted { is_mounted self.new ≡ is_ok result }
         ensures next { OnOk result (next_in self.new ≡ (if is_full_in self.old then next_in self.old + 1 else next_in self.old)) }
+        ensures oldest { OnOk result (oldest_in self.new ≡ oldest_after self.old (if is_full_in self.old then 1 else 0)) }
         ensures waits { OnOk result (waiting_in self.new ≡ (if is_full_in self.old then [] else waiting_in self.old)) }
         ensures power { OnOk result ((F.state flash.new ≡ F.state flash.old) ⊎ ((F.state flash.new).is_on ≡ true)) }
         ensures room { OnOk result (length (waiting_in self.new) < room_in self.new) }
@@ -98,6 +101,7 @@ impl VarData {
         ensures lies { LiesOn self.new (F.state flash.new) }
         ensures mounted { is_mounted self.new ≡ is_ok result }
         ensures next { OnOk result (next_in self.new ≡ next_in self.old + pages_placed self.old (length bytes.now)) }
+        ensures oldest { OnOk result (oldest_in self.new ≡ oldest_after self.old (pages_placed self.old (length bytes.now))) }
         ensures ends { (plan : Plan) → (table : model.Table) → (rose : Bool) → (device : Device) → IsWatched (F.state flash.old) (F.state flash.new) rose device
             → HasRing self.old (F.state flash.old) plan table → table.buffered ≡ waiting_in self.old ++ bytes.now → EndsWith plan (replicate (pages_placed self.old (length bytes.now)) VarRing) table rose device self.old (F.state flash.old) result self.new (F.state flash.new) }
         ensures power { OnOk result ((F.state flash.new ≡ F.state flash.old) ⊎ ((F.state flash.new).is_on ≡ true)) }
@@ -137,6 +141,7 @@ impl VarData {
         ensures quiet { length (waiting_in self.old) + length bytes.now ≤ room_in self.old → (result ≡ Ok (reference_in self.old (length bytes.now))) × (F.state flash.new ≡ F.state flash.old) }
         ensures waits { OnOk result (waiting_in self.new ≡ drop (pages_placed self.old (length bytes.now) * room_in self.old) (waiting_in self.old ++ bytes.now)) }
         ensures next { OnOk result (next_in self.new ≡ next_in self.old + pages_placed self.old (length bytes.now)) }
+        ensures oldest { OnOk result (oldest_in self.new ≡ oldest_after self.old (pages_placed self.old (length bytes.now))) }
         ensures media_reads { (F.state flash.new).media.reads ≤ (F.state flash.old).media.reads + pages_placed self.old (length bytes.now) }
         // Whatever the flash holds: no more pages of the ring are sealed than the bytes fill.
         ensures writes { Writes (IsOnRing self.old) 0 (pages_placed self.old (length bytes.now)) (F.state flash.old) (F.state flash.new) }
@@ -173,6 +178,7 @@ impl VarData {
         ensures lies { LiesOn self.new (F.state flash.new) }
         ensures mounted { is_mounted self.new ≡ is_ok result }
         ensures next { OnOk result (next_in self.new ≡ (if length (waiting_in self.old) == 0 then next_in self.old else next_in self.old + 1)) }
+        ensures oldest { OnOk result (oldest_in self.new ≡ oldest_after self.old (if length (waiting_in self.old) == 0 then 0 else 1)) }
         ensures empty { OnOk result (waiting_in self.new ≡ []) }
         ensures ends { (plan : Plan) → (table : model.Table) → (rose : Bool) → (device : Device) → IsWatched (F.state flash.old) (F.state flash.new) rose device
             → Stands self.old (F.state flash.old) plan table → RestEnds plan table rose device self.old (F.state flash.old) result self.new (F.state flash.new) }
@@ -180,6 +186,7 @@ impl VarData {
         ensures power { OnOk result ((F.state flash.old).is_on ≡ true → (F.state flash.new).is_on ≡ true) }
         ensures outside { IsTrue (F.state flash.old).media.tells → OutsideStands (var_shape self.old) (page_at (F.state flash.old)) (page_at (F.state flash.new)) }
         ensures page { 1 ≤ length (waiting_in self.old) → OnOk result (IsTrue (F.state flash.old).media.tells → BytesPaged self.old (page_at (F.state flash.old)) (page_at (F.state flash.new))) }
+        ensures ahead { 1 ≤ length (waiting_in self.old) → OnOk result (IsTrue (F.state flash.old).media.tells → BytesAhead self.old (λ page. ⊥) (page_at (F.state flash.new))) }
         ensures writes { Writes (MaySeal self.old) 0 1 (F.state flash.old) (F.state flash.new) }
         ensures reads { (F.state flash.new).work.reads ≡ (F.state flash.old).work.reads }
         ensures media_reads { (F.state flash.new).media.reads ≤ (F.state flash.old).media.reads + 1 }

@@ -1,4 +1,4 @@
-use Rattle.std.proofs.Common.{◌≡◌, ℕ, List, IsTrue, sym, ◌∙◌, ap, subst}
+use Rattle.std.proofs.Common.{◌≡◌, ℕ, List, IsTrue, refl, sym, ◌∙◌, ap, subst}
 use Rattle.std.proofs.lemmas.Result.{err_from_is_err_and}
 use Rattle.fl_model.specs.Bare.{bare, bare_table}
 use Rattle.fl_model.specs.Layout.{committed}
@@ -18,7 +18,17 @@ use Rattle.fl_rlc.specs.Offering.{AreOffered}
 use Rattle.fl_rlc.specs.Pages.{log_body}
 use Rattle.fl_rlc.specs.Replaying.{IsBad}
 use Rattle.fl_rlc.proofs.NewestRead.{never-bad, bad-of_pages, bad-no_flash, read-fails, device-reads, newest-read}
+use Rattle.fl_rlc.proofs.OfferedRecords.{none-joined}
 use Rattle.fl_rlc.proofs.replay.join_newest.Goals as goal
+
+pub returns-in_err-read-clause-unjoined : goal.returns-in_err-read-clause-unjoined
+returns-in_err-read-clause-unjoined g c = λ none. refl
+
+pub returns-in_err-check_page-clause-unjoined : goal.returns-in_err-check_page-clause-unjoined
+returns-in_err-check_page-clause-unjoined g c = λ none. refl
+
+pub returns-clause-unjoined : goal.returns-clause-unjoined
+returns-clause-unjoined g c = λ none. none-joined _ c.args.table.now c.join_rows.new.table c.join_rows.ensures.offers none
 
 pub returns-in_err-read-clause-joins : goal.returns-in_err-read-clause-joins
 returns-in_err-read-clause-joins g c = λ first plan table rose device watched s none newest.

@@ -26,6 +26,7 @@ use Rattle.fl_rlc.proofs.JoinedRow.{same-pages}
 use Rattle.fl_rlc.proofs.LogReads.{log-reads, few-rings, found-none, found-some}
 use Rattle.fl_rlc.proofs.MountLimits.{log-more}
 use Rattle.fl_rlc.proofs.NewestRead.{if-told, device-reads}
+use Rattle.fl_rlc.proofs.OfferedRecords.{sealed-empty}
 use Rattle.fl_rlc.proofs.PutFrames.{log-moved}
 use Rattle.fl_rlc.proofs.ReplayLeft.{no-var-blocks, joined-rings, none-leaves, seal-leaves}
 use Rattle.fl_rlc.proofs.Replays.{begun-stands, begun-none, begun-ring, log-fault, none-well, page-fault, seal-well, seal-badly}
@@ -78,8 +79,8 @@ returns-in_default-clause-ends g c = λ first plan table rose device watched s n
     let empty = found-none l l1 old f1 (first + blocks_of (bare plan)) plan m.now.state k.same m.ring sizes watched.told c.in_ok-newest.field-0 k.found c.in_default.is in
     none-well c.args.table.now l old first plan table rose device s none rests.planned l1 k.same f1 (k.beside.outside watched.told) m empty
 
-pub returns-in_default-clause-table_none : goal.returns-in_default-clause-table_none
-returns-in_default-clause-table_none g c = c.requires.none
+pub returns-in_default-clause-table_empty : goal.returns-in_default-clause-table_empty
+returns-in_default-clause-table_empty g c = c.requires.none
 
 pub returns-in_default-clause-found : goal.returns-in_default-clause-found
 returns-in_default-clause-found g c = λ told.
@@ -123,7 +124,7 @@ join_newest-joined-requires g c =
         (
           c.requires.running,
           (
-            c.requires.none,
+            c.requires.none.none,
             (
               c.requires.no_blobs,
               (
@@ -346,8 +347,10 @@ returns-clause-ends g c = λ first plan table rose device watched s none rests.
     seal-well t l old first plan table rose device s none rests.planned l1 k.same f1 outside m c.join_newest-joined.new.table f2 f3 (same_pages f1 f2 1 reads) joins.planned (c.in_ok-seal_rows.ensures.outside later.told)
     c.seal_rows.new.table (c.in_ok-seal_rows.ensures.ends first (bare plan) (bare_table (joined (ready plan m.now.state))) rose m.now.device later joins)
 
-pub returns-clause-table_none : goal.returns-clause-table_none
-returns-clause-table_none g c = c.in_ok-seal_rows.ensures.sealed.none
+pub returns-clause-table_empty : goal.returns-clause-table_empty
+returns-clause-table_empty g c =
+    sealed-empty c.args.table.now c.join_newest-joined.new.table c.seal_rows.new.table (g.F.Flash.state c.join_newest-joined.new.flash) (g.F.Flash.state c.seal_rows.new.flash) c.requires.none c.in_ok-joined.ensures.unjoined
+    c.in_ok-seal_rows.ensures.sealed
 
 pub returns-clause-found : goal.returns-clause-found
 returns-clause-found g c = λ told.

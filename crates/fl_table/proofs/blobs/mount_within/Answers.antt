@@ -2,6 +2,7 @@ use Rattle.std.proofs.Common.{◌≡◌, ◌-◌, Option, Some, Ok, ◌∙◌, a
 use Rattle.std.proofs.lemmas.Result.{err_from_is_err_and}
 use Rattle.fl_table.specs.BlobEnds.{least_of}
 use Rattle.fl_table.specs.BlobMount.{FindsBlobs, MountEndsOf}
+use Rattle.fl_table.specs.Blobs.{AreEmpty}
 use Rattle.fl_table.specs.declared.faults.MountFault.TheVariants.{BadBlob}
 use Rattle.fl_table.proofs.BlobsWithin.{within-fails, within-ends, within-beyond}
 use Rattle.fl_table.proofs.blobs.mount_within.Goals as goal
@@ -21,6 +22,16 @@ returns-then-end-from-clause-ends g c = λ first plan table rose device there.
     within-beyond f new first plan table rose device c.args.end c.least_of-at_least.result c.least_of-at_least.ensures there c.args.blobs.now c.in-Some.var c.in_ok-mount.field-0 c.least_of-page.result c.next_number-next.result
     (λ least. subst (λ (o : Option VarData). MountEndsOf c.args.blobs.now f first plan table rose device (Ok c.in_ok-mount.field-0) o new) is (c.in_ok-mount.ensures.ends first plan table rose device least))
     (subst (λ (o : Option VarData). FindsBlobs c.args.blobs.now f c.least_of-at_least.result o new) is c.in_ok-mount.ensures.found) (omega (arith, c.if-end-from.true, c.from.ensures, c.next_number-next.ensures))
+
+pub returns-then-end-from-clause-empty : goal.returns-then-end-from-clause-empty
+returns-then-end-from-clause-empty g c =
+    let is : c.mount.new.blobs ≡ Some c.in-Some.var = c.in-Some.is in
+    subst (λ (o : Option VarData). AreEmpty o) is c.in_ok-mount.ensures.empty
+
+pub returns-clause-empty : goal.returns-clause-empty
+returns-clause-empty g c =
+    let is : c.mount.new.blobs ≡ Some c.in-Some.var = c.in-Some.is in
+    subst (λ (o : Option VarData). AreEmpty o) is c.in_ok-mount.ensures.empty
 
 pub returns-then-end-from-clause-refused : goal.returns-then-end-from-clause-refused
 returns-then-end-from-clause-refused g c =

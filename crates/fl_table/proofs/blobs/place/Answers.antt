@@ -96,7 +96,7 @@ returns-clause-placed g c =
     let e = c.in_ok-at.ensures in
     let bytes : c.args.blob ≡ Some c.in-Some-blob.bytes = c.in-Some-blob.is in
     one-placed (option_map (λ (b : Bor (List ℕ)). b.now) c.args.blob) c.args.blobs.now c.in-Some-blob.bytes.now c.in-Some.var c.append.new.self c.in_ok-at.at (ap (option_map (λ (b : Bor (List ℕ)). b.now)) bytes) c.in-Some.is e.reference
-    (record { next = e.next; waits = e.waits })
+    (record { next = e.next; oldest = e.oldest; waits = e.waits })
 
 pub returns-in_default-clause-writes : goal.returns-in_default-clause-writes
 returns-in_default-clause-writes g c =

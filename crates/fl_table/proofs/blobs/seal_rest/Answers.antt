@@ -1,9 +1,9 @@
 use Rattle.std.proofs.Common.{◌≡◌, ◌⊎◌, inl, inr, ℕ, List, [], ◌∷◌, length, Ok, OnOk, Option, Some, IfSome, IsTrue, ◌≤◌, refl, sym, ap, subst, arith}
-use Rattle.fl_table.specs.Blobs.{RestEndsOf}
+use Rattle.fl_table.specs.Blobs.{RestEndsOf, oldest_after}
 use Rattle.fl_table.proofs.BlobSteps.{rest-ends}
 use Rattle.fl_flash.specs.Flash.{OffChangesNothing, page_at}
 use Rattle.fl_table.proofs.PowerOff.{off-either}
-use Rattle.fl_var.specs.Memory.{waiting_in, BytesPaged}
+use Rattle.fl_var.specs.Memory.{oldest_in, waiting_in, BytesAhead, BytesPaged}
 use Rattle.fl_table.proofs.blobs.seal_rest.Goals as goal
 use Rattle.fl_ring.specs.Written.{Writes}
 use Rattle.fl_ring.proofs.Written.{writes-none}
@@ -18,6 +18,9 @@ returns-in-Some-clause-ends g c = λ first plan table rose device.
     let is : c.args.blobs.now ≡ Some c.in-Some.var = c.in-Some.is in
     subst (λ (o : Option VarData). RestEndsOf o f first plan table rose device c.seal_rest.result (Some c.seal_rest.new.self) h) (sym is)
     (λ watched stands. rest-ends c.in-Some.var c.seal_rest.new.self f h first plan table e.same stands rose device c.seal_rest.result (e.ends plan table rose device watched stands.in_pages))
+
+pub returns-in-Some-clause-oldest : goal.returns-in-Some-clause-oldest
+returns-in-Some-clause-oldest g c = subst (λ (o : Option VarData). OnOk c.seal_rest.result (oldest_in c.seal_rest.new.self ≡ oldest_after o)) (sym c.in-Some.is) c.seal_rest.ensures.oldest
 
 pub returns-in-Some-clause-off : goal.returns-in-Some-clause-off
 returns-in-Some-clause-off g c =
@@ -40,6 +43,14 @@ pub returns-in-Some-clause-page : goal.returns-in-Some-clause-page
 returns-in-Some-clause-page g c =
     subst (λ (o : Option VarData). IfSome o (λ var. 1 ≤ length (waiting_in var) → OnOk c.seal_rest.result (IsTrue (g.F.Flash.state c.args.flash.now).media.tells → BytesPaged var (page_at (g.F.Flash.state c.args.flash.now)) (page_at (g.F.Flash.state c.seal_rest.new.flash))))) (sym c.in-Some.is)
     c.seal_rest.ensures.page
+
+pub returns-in-Some-clause-ahead : goal.returns-in-Some-clause-ahead
+returns-in-Some-clause-ahead g c =
+    subst (λ (o : Option VarData). IfSome o (λ var. 1 ≤ length (waiting_in var) → OnOk c.seal_rest.result (IsTrue (g.F.Flash.state c.args.flash.now).media.tells → BytesAhead var (λ page. ⊥) (page_at (g.F.Flash.state c.seal_rest.new.flash))))) (sym c.in-Some.is)
+    c.seal_rest.ensures.ahead
+
+pub returns-in-None-clause-ahead : goal.returns-in-None-clause-ahead
+returns-in-None-clause-ahead g c = rw c.in-None.is tt
 
 pub returns-in-None-clause-page : goal.returns-in-None-clause-page
 returns-in-None-clause-page g c = rw c.in-None.is tt

@@ -1,5 +1,6 @@
 use Rattle.fl_ring.specs.declared.ring.Ring.{Ring}
-use Rattle.std.proofs.Common.{◌≡◌, Option, None, ◌+◌, ◌*◌, ◌%◌, ℕ, ◌<◌, ◌≤◌, List, ◌++◌, Some, Result, Ok, Err, length, take, drop, set, arith, refl, sym, ◌∙◌, ap, subst}
+use Rattle.std.proofs.Common.{◌≡◌, Option, None, ◌+◌, ◌*◌, ◌%◌, ℕ, ◌<◌, ◌≤◌, List, ◌++◌, Some, Result, Ok, Err, length, take, drop, set, unwrap_or, arith, refl, sym, ◌∙◌, ap, subst}
+use Rattle.std.specs.Prelude.{option_map}
 use Rattle.std.proofs.lemmas.Result.{err_from_is_err_and}
 use Rattle.fl_base.specs.Bytes.{splice}
 use Rattle.fl_flash.specs.Flash.{page_at}
@@ -7,7 +8,7 @@ use Rattle.fl_flash.specs.declared.flash.FlashFault.{FlashFault}
 use Rattle.fl_ring.specs.Written.{done}
 use Rattle.fl_ring.proofs.Written.{held-writes}
 use Rattle.fl_ring.specs.Operations.{change, seal_kinds}
-use Rattle.fl_ring.specs.Place.{shape_of, StandsFor}
+use Rattle.fl_ring.specs.Place.{oldest_after, shape_of, StandsFor}
 use Rattle.fl_ring.specs.Ring.{Shape, OutsideStands, oldest, place, sealed}
 use Rattle.fl_ring.specs.Sealing.{Performed, Seals}
 use Rattle.fl_index.specs.Page.{header_bytes}
@@ -132,6 +133,11 @@ invariant_of-self-2-clause-page g c =
     written-back t.body.len t.body.items c.write_header.new.body _ (c.write_header.ensures ∙ ap (λ (l : List ℕ). splice l 0 (header_bytes c.next_number-number.result t.first t.waiting)) c.deref_mut.ensures.value)
     (headed-length c.next_number-number.result t.first t.waiting t.body.items (omega (arith, t.page, t.served.page_least))) t.body.ok.0 in
     ap (λ (l : List ℕ). length l + 8) back ∙ (ap (λ n. n + 8) (headed-length c.next_number-number.result t.first t.waiting t.body.items (omega (arith, t.page, t.served.page_least))) ∙ t.page)
+
+pub returns-clause-oldest : goal.returns-clause-oldest
+returns-clause-oldest g c =
+    let has : c.args.self.now.ring ≡ Some c.in-Some.ring = sym c.take.ensures.value ∙ c.in-Some.is in
+    c.in_ok-seal.ensures.kept_from ∙ sym (ap (λ (o : Option Ring). unwrap_or (option_map (λ ring. oldest_after ring) o) 0) has)
 
 pub returns-in_err-seal-clause-writes : goal.returns-in_err-seal-clause-writes
 returns-in_err-seal-clause-writes g c =

@@ -1,4 +1,5 @@
-use Rattle.std.proofs.Common.{rules, ◌≡◌, ℕ, ◌+◌, ◌-◌, ◌<◌, ◌≤◌, None, Some, Result, Ok, Err, map, length, refl, sym, ◌∙◌, ap, subst, arith}
+use Rattle.std.proofs.Common.{rules, ◌≡◌, ℕ, ◌+◌, ◌-◌, ◌<◌, ◌≤◌, Option, None, Some, Result, Ok, Err, unwrap_or, map, length, refl, sym, ◌∙◌, ap, subst, arith}
+use Rattle.std.specs.Prelude.{option_map}
 use Rattle.std.proofs.lemmas.Result.{err_from_is_err_and}
 use Rattle.fl_flash.specs.Flash.{page_at}
 use Rattle.fl_flash.specs.declared.flash.FlashFault.{FlashFault}
@@ -7,12 +8,13 @@ use Rattle.fl_model.specs.Record.{row_layout}
 use Rattle.fl_model.specs.Row.{stored_row}
 use Rattle.fl_model.specs.Table.{log_pages, pending_entries}
 use Rattle.fl_ring.specs.Operations.{change, seal_kinds}
-use Rattle.fl_ring.specs.Place.{StandsFor, next_of, shape_of}
+use Rattle.fl_ring.specs.Place.{StandsFor, next_of, oldest_after, shape_of}
 use Rattle.fl_ring.specs.Ring.{Shape, OutsideStands, oldest, place, sealed}
 use Rattle.fl_ring.specs.Sealing.{Performed}
 use Rattle.fl_ring.specs.Written.{done}
 use Rattle.fl_ring.proofs.Written.{held-writes, page-as}
 use Rattle.fl_index.proofs.SealAnswers.{seal-on}
+use Rattle.fl_var.proofs.Ahead.{held-ahead}
 use Rattle.fl_rlc.specs.Memory.{log_shape, next_in}
 use Rattle.fl_rlc.specs.Pages.{log_body}
 use Rattle.fl_rlc.proofs.SealsInTable.{seal-breaks, seal-finishes, seal-err, ready, pages-size, next-is}
@@ -127,6 +129,19 @@ pub returns-clause-next : goal.returns-clause-next
 returns-clause-next g c =
     let ring_is : c.args.self.now.ring ≡ Some c.in-Some.ring = search rules in
     c.in_ok-seal.ensures.next ∙ ap (λ n. n + 1) (sym (next-is c.args.self.now c.in-Some.ring ring_is))
+
+pub returns-clause-ahead : goal.returns-clause-ahead
+returns-clause-ahead g c = λ told.
+    let ring_is : c.args.self.now.ring ≡ Some c.in-Some.ring = search rules in
+    held-ahead c.in-Some.ring c.body.result.now (g.F.Flash.state c.args.flash.now) (g.F.Flash.state c.seal.new.flash) (c.requires.lies.ring c.in-Some.ring ring_is) told c.args.self.now.ring ring_is c.in_ok-seal.field-0 c.in_ok-seal.ensures.calls
+
+pub returns-in_err-seal-clause-ahead : goal.returns-in_err-seal-clause-ahead
+returns-in_err-seal-clause-ahead g c = let p = err_from_is_err_and c.from_residual.result c.from_residual.ensures.1 in rw p.1 tt
+
+pub returns-clause-oldest : goal.returns-clause-oldest
+returns-clause-oldest g c =
+    let ring_is : c.args.self.now.ring ≡ Some c.in-Some.ring = search rules in
+    c.in_ok-seal.ensures.kept_from ∙ sym (ap (λ (o : Option Ring). unwrap_or (option_map (λ r. oldest_after r) o) 0) ring_is)
 
 pub returns-in_err-seal-clause-writes : goal.returns-in_err-seal-clause-writes
 returns-in_err-seal-clause-writes g c =

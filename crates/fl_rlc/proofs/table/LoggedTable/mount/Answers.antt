@@ -1,11 +1,12 @@
-use Rattle.std.proofs.Common.{◌≡◌, ◌⊎◌, ℕ, ◌+◌, Bool, true, false, Option, Some, Ok, Err, IsTrue, is_some, inl, inr, refl, sym, ◌∙◌, ap, subst, arith}
+use Rattle.std.proofs.Common.{◌≡◌, ◌⊎◌, ℕ, ◌+◌, Bool, true, false, Option, Some, IfSome, Ok, Err, [], IsTrue, is_some, inl, inr, refl, sym, ◌∙◌, ap, subst, arith}
 use Rattle.std.proofs.lemmas.Result.{err_from_is_err_and}
 use Rattle.fl_flash.specs.Flash.{page_at}
 use Rattle.fl_frame.proofs.CallsInTurn.{goes-then}
 use Rattle.fl_model.specs.Bare.{bare, bare_table, log_of, beside}
-use Rattle.fl_model.specs.Record.{Plan, row_layout, blocks_of}
+use Rattle.fl_model.specs.Record.{Plan, RowLayout, row_layout, blocks_of}
 use Rattle.fl_model.specs.Table.{Table}
 use Rattle.fl_model.specs.Work.{Device}
+use Rattle.fl_page.specs.Writer.{Gathers}
 use Rattle.fl_ring.specs.declared.ring.Ring.{Ring}
 use Rattle.fl_frame.specs.Watched.{IsWatched}
 use Rattle.fl_frame.proofs.WatchedInTurn.{watched-first, watched-then}
@@ -14,6 +15,7 @@ use Rattle.fl_table.proofs.SealAnswers.{same-then}
 use Rattle.fl_table.proofs.Sizes.{table-fits}
 use Rattle.fl_rlc.specs.Left.{LeavesPages}
 use Rattle.fl_rlc.specs.Logged.{Rests as LoggedRests}
+use Rattle.fl_rlc.specs.Memory.{rows_in}
 use Rattle.fl_rlc.specs.Repairing.{Rests}
 use Rattle.fl_rlc.specs.Replaying.{ReplayEnds}
 use Rattle.fl_rlc.specs.Table.{AreSameLog, IsLogPlanned, IsPlanned, is_logged, log_in}
@@ -109,8 +111,11 @@ returns-in_default-clause-leaves g c = λ told first plan table seen planned res
 pub returns-in_default-clause-outside : goal.returns-in_default-clause-outside
 returns-in_default-clause-outside g c = λ told page rows index var log. c.in_ok-mounted.ensures.outside told page rows index var
 
-pub returns-in_default-clause-none : goal.returns-in_default-clause-none
-returns-in_default-clause-none g c = c.in_ok-mounted.ensures.none
+pub returns-in_default-clause-empty : goal.returns-in_default-clause-empty
+returns-in_default-clause-empty g c = record {
+  table = c.in_ok-mounted.ensures.empty;
+  log = subst (λ (o : Option RecordLog). IfSome o (λ l. (layout : RowLayout) → Gathers layout [] (rows_in l))) (sym c.in_default.is) tt;
+}
 
 pub returns-in_default-clause-limit : goal.returns-in_default-clause-limit
 returns-in_default-clause-limit g c = λ first plan table rose device watched planned rests full.
@@ -131,7 +136,7 @@ replay-requires g c =
       (
         c.in_ok-mounted.ensures.mounted,
         (
-          c.in_ok-mounted.ensures.none,
+          c.in_ok-mounted.ensures.empty,
           (
             blobs-same t.table c.mount.new.self c.in_ok-mounted.ensures.same ∙ t.no_blobs (ap {B = Bool} (λ (o : Option RecordLog). is_some o) c.in-Some.is),
             (
@@ -298,8 +303,8 @@ returns-clause-ends g c = λ first plan table rose device watched planned rests.
     (between-stands t old first plan table planned l apart rose device c.in_ok-mounted.mounted c.mount.new.self f1 outside w k.none) (between-none t old first plan table planned l apart rose device c.in_ok-mounted.mounted c.mount.new.self f1 outside w k.none)
     (between-rests t old first plan table planned l apart rose device c.in_ok-mounted.mounted c.mount.new.self f1 outside w k.none)))
 
-pub returns-clause-none : goal.returns-clause-none
-returns-clause-none g c = c.in_default-replay.ensures.table_none
+pub returns-clause-empty : goal.returns-clause-empty
+returns-clause-empty g c = record { table = c.in_default-replay.ensures.table_empty; log = c.in_default-replay.ensures.empty }
 
 pub returns-clause-found : goal.returns-clause-found
 returns-clause-found g c = λ told.

@@ -461,4 +461,4 @@ returns-in-Err-clause-log_page g c = tt
 pub returns-clause-log_page : goal.returns-clause-log_page
 returns-clause-log_page g c =
     put-logged c.args.self.now (layout_of c.schema.result.now) (record { key = c.args.key; values = c.args.values.now; blob = None }) (g.F.Flash.state c.args.flash.now) (g.F.Flash.state c.put.new.flash) (g.F.Flash.state c.log_row.new.flash)
-    (c.schema.ensures.exact ∙ c.in_ok-put.ensures.same.layout) c.in_ok-put.ensures.goes.tells c.in_ok-put.ensures.outside c.in_default-log_row.ensures.page
+    (c.schema.ensures.exact ∙ c.in_ok-put.ensures.same.layout) c.in_ok-put.ensures.goes.tells c.in_ok-put.ensures.outside c.in_default-log_row.ensures.page c.in_default-log_row.ensures.ahead

@@ -5,9 +5,8 @@ use Rattle.std.proofs.lemmas.Option.{slice_get_within}
 use Rattle.fl_base.specs.declared.types.Geometry.{Geometry}
 use Rattle.fl_flash.specs.Flash.{page_at}
 use Rattle.fl_frame.specs.Watched.{IsWatched}
-use Rattle.fl_rlc.specs.Table.{is_running, table_in}
+use Rattle.fl_rlc.specs.Table.{NothingWaits, is_running}
 use Rattle.fl_rlc.specs.declared.table.LoggedTable.{LoggedTable}
-use Rattle.fl_table.specs.Memory.{pending_in}
 use Rattle.fl_frame.proofs.CallsInTurn.{goes-same, goes-then}
 use Rattle.fl_table.specs.Mounting.{FewRepairs}
 use Rattle.fl_table.proofs.MountJoined.{mount-cause-later}
@@ -162,7 +161,7 @@ loop-i-preserved g c =
       goes = goes-then f m n i.goes p.goes;
       power = λ on. c.in_default.ensures.power (i.power on);
       running = each-more (λ (t : LoggedTable 64 64). is_running t ≡ true) c.loop-i.self.entries.items c.loop-i.i c.index_mut.result.now c.mount.new.self here i.running c.in_default.ensures.mounted;
-      none = each-more (λ (t : LoggedTable 64 64). pending_in (table_in t) ≡ 0) c.loop-i.self.entries.items c.loop-i.i c.index_mut.result.now c.mount.new.self here i.none c.in_default.ensures.none;
+      none = each-more (λ (t : LoggedTable 64 64). NothingWaits t) c.loop-i.self.entries.items c.loop-i.i c.index_mut.result.now c.mount.new.self here i.none c.in_default.ensures.empty;
       ahead = λ j le. set-elsewhere c.loop-i.self.entries.items c.loop-i.i j (record { name = c.index_mut.result.now.name; table = c.mount.new.self }) (λ is. absurd (omega (arith, le, is))) ∙ i.ahead j (omega (arith, le));
       reads = λ told. reads-more c.args.self.now.entries.items c.loop-i.i c.index_mut.result.now f m n was_here (i.reads told) (p.reads (subst IsTrue (sym i.goes.tells) told));
       in_turn = λ told. turn-more c.loop-i.i c.args.self.now.entries.items c.loop-i.self.entries.items c.index_mut.result.now c.mount.new.self c.in_default.field-0 f m n was_here here p.same

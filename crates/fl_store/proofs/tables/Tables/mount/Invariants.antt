@@ -7,8 +7,7 @@ use Rattle.fl_model.specs.Record.{Plan}
 use Rattle.fl_model.specs.Table as model
 use Rattle.fl_model.specs.Work.{Device}
 use Rattle.fl_frame.specs.Device.{SameDevice}
-use Rattle.fl_rlc.specs.Table.{is_running, table_in}
-use Rattle.fl_table.specs.Memory.{pending_in}
+use Rattle.fl_rlc.specs.Table.{NothingWaits, is_running}
 use Rattle.fl_table.specs.Mounting.{FewRepairs}
 use Rattle.fl_store.specs.Mounting.{AreSameNames, AreSamePlans, MountsInTurn, OutsideStands, repairs_of}
 use Rattle.fl_store.specs.Tables.{LieOn, TablesStand, pages_of}
@@ -28,7 +27,7 @@ invariant-loop-i g l = record {
   goes : Goes (g.F.Flash.state l.fn.flash) (g.F.Flash.state l.flash);
   power : (g.F.Flash.state l.fn.flash).is_on ≡ true → (g.F.Flash.state l.flash).is_on ≡ true;
   running : (j : ℕ) (entry : Entry) → j < l.i → slice_get l.self.entries.items j ≡ Some entry → is_running entry.table ≡ true;
-  none : (j : ℕ) (entry : Entry) → j < l.i → slice_get l.self.entries.items j ≡ Some entry → pending_in (table_in entry.table) ≡ 0;
+  none : (j : ℕ) (entry : Entry) → j < l.i → slice_get l.self.entries.items j ≡ Some entry → NothingWaits entry.table;
   ahead : (j : ℕ) → l.i ≤ j → slice_get l.self.entries.items j ≡ slice_get l.fn.self.entries.items j;
   reads : IsTrue (g.F.Flash.state l.fn.flash).media.tells → (g.F.Flash.state l.flash).work.reads ≤ (g.F.Flash.state l.fn.flash).work.reads + 4 * pages_of (take l.i l.fn.self.entries.items);
   in_turn : IsTrue (g.F.Flash.state l.fn.flash).media.tells → MountsInTurn l.i l.fn.self.entries.items l.self.entries.items (g.F.Flash.state l.fn.flash) (g.F.Flash.state l.flash);

@@ -270,7 +270,7 @@ pub returns-clause-quiet : goal.returns-clause-quiet
 returns-clause-quiet g c = λ running none. absurd (c.if-count-eq0.false (c.count.ensures ∙ none))
 
 pub returns-clause-none : goal.returns-clause-none
-returns-clause-none g c = c.in_ok-seal.ensures.emptied.none
+returns-clause-none g c = c.in_ok-seal.ensures.emptied.empty.none
 
 pub returns-clause-seals : goal.returns-clause-seals
 returns-clause-seals g c = λ some. c.in_ok-seal.ensures.emptied
@@ -310,4 +310,4 @@ returns-in_err-seal-clause-sealed g c =
     rw p.1 tt
 
 pub returns-clause-sealed : goal.returns-clause-sealed
-returns-clause-sealed g c = λ some. record { writes = c.in_ok-seal.ensures.writes; page = c.in_ok-seal.ensures.page; blobs = c.in_ok-seal.ensures.blob_page }
+returns-clause-sealed g c = λ some. record { writes = c.in_ok-seal.ensures.writes; page = c.in_ok-seal.ensures.page; blobs = c.in_ok-seal.ensures.blob_page; ahead = c.in_ok-seal.ensures.ahead; blobs_ahead = c.in_ok-seal.ensures.blobs_ahead }

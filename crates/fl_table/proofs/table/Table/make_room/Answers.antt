@@ -237,7 +237,7 @@ returns-clause-blob_next g c =
 pub returns-clause-room : goal.returns-clause-room
 returns-clause-room g c =
     let u = c.seal.new.self in
-    on-ok c.seal.result (IsEmptied c.args.self.now u) (HasRoom u) (λ sealed. row-fits u.writer.count (layout_len (layout_of u.schema)) u.geometry.page (length u.writer.body) u.writer.end sealed.none u.rows_end u.page u.room_for_row) c.seal.ensures.emptied
+    on-ok c.seal.result (IsEmptied c.args.self.now u) (HasRoom u) (λ sealed. row-fits u.writer.count (layout_len (layout_of u.schema)) u.geometry.page (length u.writer.body) u.writer.end sealed.empty.none u.rows_end u.page u.room_for_row) c.seal.ensures.emptied
 
 pub returns-clause-full : goal.returns-clause-full
 returns-clause-full g c =
@@ -251,4 +251,4 @@ returns-then-not-is_full-clause-sealed g c = λ full.
     absurd (full (ltb-false (length t.writer.body) (t.writer.end + layout_len (layout_of t.schema)) (sym c.is_full.ensures.room ∙ c.if-not-is_full.true)))
 
 pub returns-clause-sealed : goal.returns-clause-sealed
-returns-clause-sealed g c = flushed-of c.args.self.now c.seal.result (g.F.Flash.state c.args.flash.now) (g.F.Flash.state c.seal.new.flash) c.seal.ensures.writes c.seal.ensures.page c.seal.ensures.blob_page
+returns-clause-sealed g c = flushed-of c.args.self.now c.seal.result (g.F.Flash.state c.args.flash.now) (g.F.Flash.state c.seal.new.flash) c.seal.ensures.writes c.seal.ensures.page c.seal.ensures.blob_page c.seal.ensures.ahead c.seal.ensures.blobs_ahead

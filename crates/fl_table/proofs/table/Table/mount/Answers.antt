@@ -326,6 +326,9 @@ returns-in_err-end-clause-mounted g c =
     let p = err_from_is_err_and c.from_residual.result c.from_residual.ensures.1 in
     rw p.1 (ap (λ (o : Option Ring). is_some o) c.forget.ensures.forgotten.down)
 
+pub returns-in_err-end-clause-empty : goal.returns-in_err-end-clause-empty
+returns-in_err-end-clause-empty g c = no-success _ _ c.from_residual.result c.from_residual.ensures.1
+
 pub returns-in_err-end-clause-found : goal.returns-in_err-end-clause-found
 returns-in_err-end-clause-found g c = no-success _ _ c.from_residual.result c.from_residual.ensures.1
 
@@ -360,6 +363,9 @@ returns-clause-calm g c = c.mount_rows.ensures.calm
 
 pub returns-clause-none : goal.returns-clause-none
 returns-clause-none g c = c.mount_rows.ensures.none
+
+pub returns-clause-empty : goal.returns-clause-empty
+returns-clause-empty g c = c.mount_rows.ensures.empty
 
 pub returns-clause-room : goal.returns-clause-room
 returns-clause-room g c = c.mount_rows.ensures.room ∙ c.in_ok-end.ensures.room

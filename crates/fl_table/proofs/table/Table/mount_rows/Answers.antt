@@ -7,7 +7,8 @@ use Rattle.fl_model.specs.Mount.{ready}
 use Rattle.fl_table.specs.Bitmaps.{EndAt, IsOutside}
 use Rattle.fl_table.specs.BlobEnds.{least_of}
 use Rattle.fl_table.specs.BlobMount.{FindsBlobs, RefusesWithin}
-use Rattle.fl_table.specs.Blobs.{room_of, rings_of}
+use Rattle.fl_table.specs.Blobs.{room_of, rings_of, AreEmpty}
+use Rattle.fl_table.specs.Memory.{NothingWaits}
 use Rattle.fl_table.proofs.Outsides.{var-outside}
 use Rattle.fl_var.specs.Memory.{var_shape}
 use Rattle.fl_table.proofs.BlobsOfTable as blobbing
@@ -30,6 +31,7 @@ use Rattle.fl_table.proofs.PowerOn.{blobs-on}
 use Rattle.fl_table.specs.Mounting.{FewRepairs}
 use Rattle.fl_table.specs.declared.faults.MountFault.{MountFault}
 use Rattle.fl_table.specs.declared.mount.FoundRows.{FoundRows}
+use Rattle.fl_table.specs.declared.table.Table.{Table}
 use Rattle.fl_table.proofs.SealAnswers.{same-then}
 use Rattle.fl_table.proofs.Untouched.{no-success}
 use Rattle.fl_table.proofs.table.Table.mount_rows.Goals as goal
@@ -100,12 +102,16 @@ returns-clause-ends g c = λ first plan table rose device watched planned rests 
       points = record { older = points.older; points = points.points; last = points.last };
     })
 
+-- no row, and no byte of a blob
+nothing-waits : {KNOTS SLOTS : ℕ} {t : Table KNOTS SLOTS} → (t.writer.count ≡ 0) × (t.bitmap ≡ 0) × (t.blob_end ≡ 0) → AreEmpty t.blobs → NothingWaits t
+nothing-waits rows blobs = record { none = rows.0; bits = rows.1; ends = rows.2; blobs = blobs }
+
 pub returns-clause-found : goal.returns-clause-found
 returns-clause-found g c = λ told.
     let mid = g.F.Flash.state c.read_rows.new.flash in
     let rows = c.in_ok-rows.rows in
     finds-rows c.args.self.now c.args.self.now.bitmaps (g.F.Flash.state c.args.flash.now) c.args.end rows.mounted _ (g.F.Flash.state c.mount_within.new.flash) rows.ring rows.blob_end mid refl
-    (c.in_ok-rows.ensures.found told) (c.in_ok-rows.ensures.waits told) (c.in_ok-rows.ensures.remembers told) c.in_ok-rows.ensures.none.0 c.in_ok-rows.ensures.none.1 (c.in_ok-rows.ensures.learned told)
+    (c.in_ok-rows.ensures.found told) (c.in_ok-rows.ensures.waits told) (c.in_ok-rows.ensures.remembers told) (nothing-waits c.in_ok-rows.ensures.none c.in_ok-mount_within.ensures.empty) (c.in_ok-rows.ensures.learned told)
     (subst (λ (o : Option VarData). FindsBlobs o mid (least_of rows.blob_end) c.mount_within.new.blobs (g.F.Flash.state c.mount_within.new.flash)) c.in_ok-rows.ensures.blobs c.in_ok-mount_within.ensures.found)
     c.in_ok-mount_within.ensures.below
 
@@ -362,6 +368,9 @@ returns-in_err-rows-clause-calm g c = c.in_err-rows.ensures.calm
 pub returns-in_err-rows-clause-none : goal.returns-in_err-rows-clause-none
 returns-in_err-rows-clause-none g c = c.in_err-rows.ensures.none.0
 
+pub returns-in_err-rows-clause-empty : goal.returns-in_err-rows-clause-empty
+returns-in_err-rows-clause-empty g c = no-success _ _ c.from_residual.result c.from_residual.ensures.1
+
 pub returns-in_err-rows-clause-found : goal.returns-in_err-rows-clause-found
 returns-in_err-rows-clause-found g c = no-success _ _ c.from_residual.result c.from_residual.ensures.1
 
@@ -396,6 +405,9 @@ returns-in_err-mount_within-clause-calm g c = c.in_ok-rows.ensures.calm
 pub returns-in_err-mount_within-clause-none : goal.returns-in_err-mount_within-clause-none
 returns-in_err-mount_within-clause-none g c = c.in_ok-rows.ensures.none.0
 
+pub returns-in_err-mount_within-clause-empty : goal.returns-in_err-mount_within-clause-empty
+returns-in_err-mount_within-clause-empty g c = no-success _ _ c.from_residual-in_err-mount_within.result c.from_residual-in_err-mount_within.ensures.1
+
 pub returns-in_err-mount_within-clause-found : goal.returns-in_err-mount_within-clause-found
 returns-in_err-mount_within-clause-found g c = no-success _ _ c.from_residual-in_err-mount_within.result c.from_residual-in_err-mount_within.ensures.1
 
@@ -428,6 +440,9 @@ returns-clause-calm g c = c.in_ok-rows.ensures.calm
 
 pub returns-clause-none : goal.returns-clause-none
 returns-clause-none g c = c.in_ok-rows.ensures.none.0
+
+pub returns-clause-empty : goal.returns-clause-empty
+returns-clause-empty g c = nothing-waits c.in_ok-rows.ensures.none c.in_ok-mount_within.ensures.empty
 
 pub returns-clause-same : goal.returns-clause-same
 returns-clause-same g c =

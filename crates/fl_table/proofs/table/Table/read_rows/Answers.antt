@@ -332,7 +332,7 @@ pub returns-in_err-ring-clause-holds : goal.returns-in_err-ring-clause-holds
 returns-in_err-ring-clause-holds g c = c.in_err-ring.ensures.holds
 
 pub returns-in_err-ring-clause-none : goal.returns-in_err-ring-clause-none
-returns-in_err-ring-clause-none g c = (c.requires.forgotten.none, c.requires.forgotten.bits)
+returns-in_err-ring-clause-none g c = (c.requires.forgotten.none, c.requires.forgotten.bits, c.requires.forgotten.ends)
 
 pub returns-in_err-ring-clause-down : goal.returns-in_err-ring-clause-down
 returns-in_err-ring-clause-down g c = c.requires.forgotten.down
@@ -390,7 +390,7 @@ pub returns-then-end-next-clause-holds : goal.returns-then-end-next-clause-holds
 returns-then-end-next-clause-holds g c = c.in_ok-ring.ensures.holds
 
 pub returns-then-end-next-clause-none : goal.returns-then-end-next-clause-none
-returns-then-end-next-clause-none g c = (c.requires.forgotten.none, c.requires.forgotten.bits)
+returns-then-end-next-clause-none g c = (c.requires.forgotten.none, c.requires.forgotten.bits, c.requires.forgotten.ends)
 
 pub returns-then-end-next-clause-down : goal.returns-then-end-next-clause-down
 returns-then-end-next-clause-down g c = c.requires.forgotten.down
@@ -453,7 +453,7 @@ pub returns-in_err-known-clause-holds : goal.returns-in_err-known-clause-holds
 returns-in_err-known-clause-holds g c = c.in_err-known.ensures.none
 
 pub returns-in_err-known-clause-none : goal.returns-in_err-known-clause-none
-returns-in_err-known-clause-none g c = (ap (λ w. w.count) c.in_err-known.ensures.rest.writer ∙ c.requires.forgotten.none, c.in_err-known.ensures.rest.bitmap ∙ c.requires.forgotten.bits)
+returns-in_err-known-clause-none g c = (ap (λ w. w.count) c.in_err-known.ensures.rest.writer ∙ c.requires.forgotten.none, c.in_err-known.ensures.rest.bitmap ∙ c.requires.forgotten.bits, c.in_err-known.ensures.rest.blob_end ∙ c.requires.forgotten.ends)
 
 pub returns-in_err-known-clause-down : goal.returns-in_err-known-clause-down
 returns-in_err-known-clause-down g c = c.in_err-known.ensures.rest.ring ∙ c.requires.forgotten.down
@@ -533,7 +533,7 @@ pub returns-clause-holds : goal.returns-clause-holds
 returns-clause-holds g c = c.in_ok-known.ensures.none
 
 pub returns-clause-none : goal.returns-clause-none
-returns-clause-none g c = (ap (λ w. w.count) c.in_ok-known.ensures.rest.writer ∙ c.requires.forgotten.none, c.in_ok-known.ensures.rest.bitmap ∙ c.requires.forgotten.bits)
+returns-clause-none g c = (ap (λ w. w.count) c.in_ok-known.ensures.rest.writer ∙ c.requires.forgotten.none, c.in_ok-known.ensures.rest.bitmap ∙ c.requires.forgotten.bits, c.in_ok-known.ensures.rest.blob_end ∙ c.requires.forgotten.ends)
 
 pub returns-clause-down : goal.returns-clause-down
 returns-clause-down g c = c.in_ok-known.ensures.rest.ring ∙ c.requires.forgotten.down

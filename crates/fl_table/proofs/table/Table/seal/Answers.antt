@@ -1,7 +1,7 @@
 use Rattle.std.proofs.Common.{◌≡◌, ◌+◌, ◌≤◌, true, Option, Result, ◌∷◌, [], ◌++◌, List, Err, IsTrue, arith, sym, ◌∙◌, ap, subst, ℕ}
 use Rattle.std.proofs.lemmas.Result.{err_from_is_err_and, on_err_weaker, IfErr-weaker}
 use Rattle.fl_model.specs.Table.{RingName, DataRing, after_seals}
-use Rattle.fl_table.specs.Bitmaps.{HaveRoom, bitmap_seals, next_of, rings_of}
+use Rattle.fl_table.specs.Bitmaps.{HaveRoom, bitmap_seals, next_of, oldest_of, rings_of}
 use Rattle.fl_table.specs.Blobs as variable
 use Rattle.fl_table.specs.Blobs.{rest_seals}
 use Rattle.fl_table.specs.Outcomes.{SealsEnd}
@@ -18,10 +18,12 @@ use Rattle.fl_table.proofs.PowerOff.{off-then}
 use Rattle.fl_table.proofs.Sizes.{table-fits}
 use Rattle.fl_table.specs.Memory.{is_stopped, next_in}
 use Rattle.fl_var.specs.declared.var_data.VarData.{VarData}
-use Rattle.fl_table.specs.Paged.{BlobsPaged, IsApart, RowsPaged, next_page}
+use Rattle.fl_table.specs.Paged.{BlobsAhead, BlobsPaged, IsApart, RowsAhead, RowsPaged, next_page}
+use Rattle.fl_ring.specs.declared.ring.Ring.{Ring}
+use Rattle.fl_var.specs.Ahead.{AheadBlank}
 use Rattle.fl_table.specs.Stored.{HasCounted, IsEmptied}
 use Rattle.fl_table.proofs.Counted.{counted-then, waits-then}
-use Rattle.fl_table.proofs.Paged.{blobs-paged, rows-paged}
+use Rattle.fl_table.proofs.Paged.{blobs-ahead, blobs-paged, rows-paged}
 use Rattle.fl_table.proofs.Stored.{pending-none}
 use Rattle.fl_table.proofs.Untouched.{on-both, on-ok, on-err, no-success}
 use Rattle.fl_ring.specs.Written.{done}
@@ -331,17 +333,20 @@ returns-clause-emptied g c =
     let then = c.in_ok-seal_blobs.ensures in
     let still : variable.next_after c.seal_bitmaps.new.self.blobs ≡ variable.next_after t.blobs = ap variable.next_after c.in_ok-seal_bitmaps.ensures.blobs in
     let last : variable.next_of u.blobs ≡ variable.next_of c.seal_blobs.new.self.blobs = ap variable.next_of c.seal_rows.ensures.blobs in
-    on-both c.seal_rows.result (HasCounted b u) ((next_in u ≡ next_in b + 1) × ((u.writer.count ≡ 0) × (u.bitmap ≡ 0))) (IsEmptied t u)
-    (λ counted both. record {
+    on-both c.seal_rows.result (HasCounted b u) (((next_in u ≡ next_in b + 1) × ((u.writer.count ≡ 0) × (u.bitmap ≡ 0) × (u.blob_end ≡ 0))) × ((next_of u.bitmaps ≡ next_of b.bitmaps) × (oldest_of u.bitmaps ≡ oldest_of b.bitmaps))) (IsEmptied t u)
+    (λ counted all. let both = all.0 in record {
       next = both.0 ∙ ap (λ n. n + 1) before;
-      none = both.1.0;
+      empty = record { none = both.1.0; bits = both.1.1; ends = both.1.2; blobs = subst (λ (o : Option VarData). variable.AreEmpty o) (sym c.seal_rows.ensures.blobs) then.empty };
       rows = pending-none u both.1.0;
-      bits = both.1.1;
-      blobs = subst (λ (o : Option VarData). variable.AreEmpty o) (sym c.seal_rows.ensures.blobs) then.empty;
       blob_next = last ∙ (then.blob_next ∙ still);
+      blob_oldest = ap variable.oldest_of c.seal_rows.ensures.blobs ∙ (then.blob_oldest ∙ ap variable.oldest_after first.blobs);
+      index = record { next = all.1.0 ∙ (ap next_of then.bitmaps ∙ first.index.next); oldest = all.1.1 ∙ (ap oldest_of then.bitmaps ∙ first.index.oldest) };
       counted = counted-then t b u (same-then t c.seal_bitmaps.new.self b first.same then.same) (then.ring ∙ first.ring) (waits-then t c.seal_bitmaps.new.self b first.still.0 then.still.0) counted;
     }) c.seal_rows.ensures.counted
-    (on-both c.seal_rows.result (next_in u ≡ next_in b + 1) ((u.writer.count ≡ 0) × (u.bitmap ≡ 0)) ((next_in u ≡ next_in b + 1) × ((u.writer.count ≡ 0) × (u.bitmap ≡ 0))) (λ next empty. (next, empty)) c.seal_rows.ensures.next c.seal_rows.ensures.empty)
+    (on-both c.seal_rows.result ((next_in u ≡ next_in b + 1) × ((u.writer.count ≡ 0) × (u.bitmap ≡ 0) × (u.blob_end ≡ 0))) ((next_of u.bitmaps ≡ next_of b.bitmaps) × (oldest_of u.bitmaps ≡ oldest_of b.bitmaps))
+    (((next_in u ≡ next_in b + 1) × ((u.writer.count ≡ 0) × (u.bitmap ≡ 0) × (u.blob_end ≡ 0))) × ((next_of u.bitmaps ≡ next_of b.bitmaps) × (oldest_of u.bitmaps ≡ oldest_of b.bitmaps))) (λ rows index. (rows, index))
+    (on-both c.seal_rows.result (next_in u ≡ next_in b + 1) ((u.writer.count ≡ 0) × (u.bitmap ≡ 0) × (u.blob_end ≡ 0)) ((next_in u ≡ next_in b + 1) × ((u.writer.count ≡ 0) × (u.bitmap ≡ 0) × (u.blob_end ≡ 0))) (λ next empty. (next, empty)) c.seal_rows.ensures.next c.seal_rows.ensures.empty)
+    (on-both c.seal_rows.result (next_of u.bitmaps ≡ next_of b.bitmaps) (oldest_of u.bitmaps ≡ oldest_of b.bitmaps) ((next_of u.bitmaps ≡ next_of b.bitmaps) × (oldest_of u.bitmaps ≡ oldest_of b.bitmaps)) (λ next oldest. (next, oldest)) c.seal_rows.ensures.index_next c.seal_rows.ensures.index_oldest))
 
 pub returns-in_err-seal_bitmaps-clause-page : goal.returns-in_err-seal_bitmaps-clause-page
 returns-in_err-seal_bitmaps-clause-page g c = no-success _ _ c.from_residual.result c.from_residual.ensures.1
@@ -361,6 +366,44 @@ returns-clause-page g c =
     let then = c.in_ok-seal_blobs.ensures in
     on-ok c.seal_rows.result (IsTrue n.media.tells → RowsPaged u (page_at n) (page_at new)) (IsTrue f.media.tells → IsApart t (next_page t) → RowsPaged t (page_at f) (page_at new))
     (rows-paged t c.seal_bitmaps.new.self u f m n new first.goes.tells then.goes.tells first.same then.same (then.next ∙ first.next) first.still then.still) c.seal_rows.ensures.page
+
+pub returns-in_err-seal_bitmaps-clause-ahead : goal.returns-in_err-seal_bitmaps-clause-ahead
+returns-in_err-seal_bitmaps-clause-ahead g c = no-success _ _ c.from_residual.result c.from_residual.ensures.1
+
+pub returns-in_err-seal_blobs-clause-ahead : goal.returns-in_err-seal_blobs-clause-ahead
+returns-in_err-seal_blobs-clause-ahead g c = no-success _ _ c.from_residual-in_err-seal_blobs.result c.from_residual-in_err-seal_blobs.ensures.1
+
+pub returns-clause-ahead : goal.returns-clause-ahead
+returns-clause-ahead g c =
+    let t = c.args.self.now in
+    let u = c.seal_blobs.new.self in
+    let first = c.in_ok-seal_bitmaps.ensures in
+    let then = c.in_ok-seal_blobs.ensures in
+    let f = g.F.Flash.state c.args.flash.now in
+    let n = g.F.Flash.state c.seal_blobs.new.flash in
+    let new = g.F.Flash.state c.seal_rows.new.flash in
+    on-ok c.seal_rows.result (IsTrue n.media.tells → RowsAhead u (λ page. ⊥) (page_at new)) (IsTrue f.media.tells → RowsAhead t (λ page. ⊥) (page_at new))
+    (λ h told. subst (λ (o : Option Ring). AheadBlank o (λ page. ⊥) (page_at new)) (then.ring ∙ first.ring) (h (subst IsTrue (sym (then.goes.tells ∙ first.goes.tells)) told))) c.seal_rows.ensures.ahead
+
+pub returns-in_err-seal_bitmaps-clause-blobs_ahead : goal.returns-in_err-seal_bitmaps-clause-blobs_ahead
+returns-in_err-seal_bitmaps-clause-blobs_ahead g c = no-success _ _ c.from_residual.result c.from_residual.ensures.1
+
+pub returns-in_err-seal_blobs-clause-blobs_ahead : goal.returns-in_err-seal_blobs-clause-blobs_ahead
+returns-in_err-seal_blobs-clause-blobs_ahead g c = no-success _ _ c.from_residual-in_err-seal_blobs.result c.from_residual-in_err-seal_blobs.ensures.1
+
+pub returns-clause-blobs_ahead : goal.returns-clause-blobs_ahead
+returns-clause-blobs_ahead g c =
+    let t = c.args.self.now in
+    let u = c.seal_blobs.new.self in
+    let f = g.F.Flash.state c.args.flash.now in
+    let m = g.F.Flash.state c.seal_bitmaps.new.flash in
+    let n = g.F.Flash.state c.seal_blobs.new.flash in
+    let new = g.F.Flash.state c.seal_rows.new.flash in
+    let first = c.in_ok-seal_bitmaps.ensures in
+    let then = c.in_ok-seal_blobs.ensures in
+    on-ok c.seal_rows.result (next_in c.seal_rows.new.self ≡ next_in u + 1) (BlobsAhead t f new)
+    (λ next. blobs-ahead t c.seal_bitmaps.new.self u (done c.seal_rows.result) f m n new first.goes.tells then.goes.tells first.blobs (then.ring ∙ first.ring) then.ahead c.seal_rows.ensures.writes)
+    c.seal_rows.ensures.next
 
 pub returns-in_err-seal_bitmaps-clause-blob_page : goal.returns-in_err-seal_bitmaps-clause-blob_page
 returns-in_err-seal_bitmaps-clause-blob_page g c = no-success _ _ c.from_residual.result c.from_residual.ensures.1

@@ -3,7 +3,7 @@ use Rattle.fl_flash.specs.Flash.{page_at}
 use Rattle.fl_table.specs.Bitmaps.{bitmap_seals}
 use Rattle.fl_table.proofs.BlobsOfTable.{stand-moved}
 use Rattle.fl_table.proofs.IndexSeals.{bitmaps-end, made-finishes, var-stand, with_index}
-use Rattle.fl_table.proofs.IndexOfTable.{still-few, still-planned, made-running, made-end, made-after, broken-after, made-room, made-next, number-left, none-is, none-there}
+use Rattle.fl_table.proofs.IndexOfTable.{still-few, still-planned, made-running, made-end, made-after, broken-after, made-room, made-next, made-sealed, number-left, none-is, none-there}
 use Rattle.fl_table.proofs.SealAnswers.{writer-count}
 use Rattle.fl_table.proofs.MountJoined.{stand-outside}
 use Rattle.fl_table.proofs.ReadsKeepTable.{lies-moved}
@@ -198,6 +198,9 @@ returns-in-Err-clause-next g c = tt
 pub returns-in-Err-clause-index_next : goal.returns-in-Err-clause-index_next
 returns-in-Err-clause-index_next g c = tt
 
+pub returns-in-Err-clause-index : goal.returns-in-Err-clause-index
+returns-in-Err-clause-index g c = tt
+
 pub returns-in-Err-clause-calm : goal.returns-in-Err-clause-calm
 returns-in-Err-clause-calm g c = tt
 
@@ -251,6 +254,9 @@ returns-clause-next g c = refl
 
 pub returns-clause-index_next : goal.returns-clause-index_next
 returns-clause-index_next g c = made-next c.args.self.now.bitmaps c.make_room.new.bitmaps c.in_default.ensures.made
+
+pub returns-clause-index : goal.returns-clause-index
+returns-clause-index g c = made-sealed c.args.self.now.bitmaps c.make_room.new.bitmaps c.in_default.ensures.made
 
 pub returns-clause-calm : goal.returns-clause-calm
 returns-clause-calm g c = refl

@@ -197,6 +197,9 @@ returns-in-Err-clause-next g c = tt
 pub returns-in-Err-clause-blob_next : goal.returns-in-Err-clause-blob_next
 returns-in-Err-clause-blob_next g c = tt
 
+pub returns-in-Err-clause-blob_oldest : goal.returns-in-Err-clause-blob_oldest
+returns-in-Err-clause-blob_oldest g c = tt
+
 pub returns-in-Err-clause-calm : goal.returns-in-Err-clause-calm
 returns-in-Err-clause-calm g c = tt
 
@@ -251,6 +254,9 @@ returns-clause-next g c = refl
 pub returns-clause-blob_next : goal.returns-clause-blob_next
 returns-clause-blob_next g c = c.in_default.ensures.next
 
+pub returns-clause-blob_oldest : goal.returns-clause-blob_oldest
+returns-clause-blob_oldest g c = c.in_default.ensures.oldest
+
 pub returns-clause-calm : goal.returns-clause-calm
 returns-clause-calm g c = refl
 
@@ -295,6 +301,12 @@ returns-in-Err-clause-still g c = (record { writer = refl; bitmap = refl; counts
 
 pub returns-clause-still : goal.returns-clause-still
 returns-clause-still g c = (record { writer = refl; bitmap = refl; counts = refl; voids = refl; index = refl }, c.in_default.ensures.outside)
+
+pub returns-in-Err-clause-ahead : goal.returns-in-Err-clause-ahead
+returns-in-Err-clause-ahead g c = c.in-Err.ensures.ahead
+
+pub returns-clause-ahead : goal.returns-clause-ahead
+returns-clause-ahead g c = c.in_default.ensures.ahead
 
 pub returns-in-Err-clause-page : goal.returns-in-Err-clause-page
 returns-in-Err-clause-page g c = c.in-Err.ensures.page

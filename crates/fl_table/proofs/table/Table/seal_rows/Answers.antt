@@ -21,12 +21,13 @@ use Rattle.std.specs.List.{sum}
 use Rattle.fl_table.proofs.BlobsOfTable as blobbing
 use Rattle.fl_table.proofs.BlobsOfTable.{var-stands}
 use Rattle.fl_index.proofs.SealAnswers.{seal-on}
+use Rattle.fl_var.proofs.Ahead.{held-ahead}
 use Rattle.fl_table.proofs.SealAnswers.{planned-ring, planned-shape, lies-size, sealing-of, seal-ready, writer-count, pending-length, ring-next, counts-room, note-same, written-back}
 use Rattle.fl_table.proofs.VarFacts.{rest-of}
 use Rattle.fl_table.proofs.VoidPages.{voids-told}
 use Rattle.fl_table.proofs.SealEnds.{IsSealing, KeepsAll, seal-breaks, seal-finishes}
 use Rattle.fl_table.proofs.SealsInTurn.{ends-alone}
-use Rattle.fl_table.proofs.IndexOfTable.{few-goes, lies-goes, plan-same, still-few, still-lies, still-next, still-planned, still-running, noted-end, stand-sealed, none-there, none-is}
+use Rattle.fl_table.proofs.IndexOfTable.{few-goes, lies-goes, plan-same, still-few, still-lies, still-next, still-oldest, still-planned, still-running, noted-end, stand-sealed, none-there, none-is}
 use Rattle.fl_table.proofs.ListsStay.{index-stands}
 use Rattle.fl_table.proofs.Plain.{table-parts, table-facts}
 use Rattle.fl_ring.specs.Mounting.{shape_at}
@@ -216,6 +217,9 @@ returns-clause-lies g c =
 pub returns-clause-index_next : goal.returns-clause-index_next
 returns-clause-index_next g c = still-next c.args.self.now.bitmaps c.note_entry.new.bitmaps c.note_entry.ensures.still
 
+pub returns-clause-index_oldest : goal.returns-clause-index_oldest
+returns-clause-index_oldest g c = still-oldest c.args.self.now.bitmaps c.note_entry.new.bitmaps c.note_entry.ensures.still
+
 pub returns-clause-power : goal.returns-clause-power
 returns-clause-power g c = λ on. seal-on _ _ _ _ _ _ _ c.in_default-seal.ensures.calls
 
@@ -350,17 +354,11 @@ returns-in-Err-clause-goes g c = c.seal.ensures.goes
 pub returns-in-Err-clause-blobs : goal.returns-in-Err-clause-blobs
 returns-in-Err-clause-blobs g c = refl
 
-pub returns-in-Err-clause-empty : goal.returns-in-Err-clause-empty
-returns-in-Err-clause-empty g c = tt
-
 pub returns-in-Err-clause-running : goal.returns-in-Err-clause-running
 returns-in-Err-clause-running g c = tt
 
 pub returns-in-Err-clause-calm : goal.returns-in-Err-clause-calm
 returns-in-Err-clause-calm g c = tt
-
-pub returns-in-Err-clause-next : goal.returns-in-Err-clause-next
-returns-in-Err-clause-next g c = tt
 
 pub returns-in-Err-clause-stopped : goal.returns-in-Err-clause-stopped
 returns-in-Err-clause-stopped g c = (ap (λ (o : Option Ring). is_some o) c.take.ensures.after, refl)
@@ -390,7 +388,7 @@ pub returns-clause-blobs : goal.returns-clause-blobs
 returns-clause-blobs g c = refl
 
 pub returns-clause-empty : goal.returns-clause-empty
-returns-clause-empty g c = (ap (λ (w : WriterState). w.count) c.clear.ensures.exact, refl)
+returns-clause-empty g c = (ap (λ (w : WriterState). w.count) c.clear.ensures.exact, refl, refl)
 
 pub returns-clause-running : goal.returns-clause-running
 returns-clause-running g c = refl
@@ -454,6 +452,12 @@ returns-clause-writes g c =
     let t = c.args.self.now in
     let has : t.ring ≡ Some c.in-Some.ring = sym c.take.ensures.value ∙ c.in-Some.is in
     held-writes t.ring c.in-Some.ring 1 1 _ _ has (omega arith) c.in_default-seal.ensures.writes
+
+pub returns-clause-ahead : goal.returns-clause-ahead
+returns-clause-ahead g c = λ told.
+    let t = c.args.self.now in
+    let has : t.ring ≡ Some c.in-Some.ring = sym c.take.ensures.value ∙ c.in-Some.is in
+    held-ahead c.in-Some.ring c.body.result.now (g.F.Flash.state c.args.flash.now) (g.F.Flash.state c.seal.new.flash) (c.requires.lies.ring c.in-Some.ring has) told t.ring has c.in_default-seal.field-0 c.in_default-seal.ensures.calls
 
 pub returns-in-Err-clause-page : goal.returns-in-Err-clause-page
 returns-in-Err-clause-page g c = tt

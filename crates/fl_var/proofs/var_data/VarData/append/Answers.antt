@@ -6,11 +6,11 @@ use Rattle.fl_flash.specs.declared.flash.FlashFault.{FlashFault}
 use Rattle.fl_frame.proofs.CallsInTurn.{goes-then}
 use Rattle.fl_model.specs.Table.{with_record}
 use Rattle.fl_ring.proofs.Written.{writes-none}
-use Rattle.fl_var.specs.Memory.{next_in, waiting_in, IsOnRing}
+use Rattle.fl_var.specs.Memory.{next_in, oldest_after, waiting_in, IsOnRing}
 use Rattle.fl_var.specs.Placing.{is_full_in, pages_placed}
 use Rattle.fl_var.specs.declared.var_data.VarData.{VarData}
 use Rattle.fl_frame.proofs.WatchedInTurn.{watched-first}
-use Rattle.fl_var.proofs.Placed.{joined-has, joined-bytes, buffered-room, watched-second, place-none, place-err, place-breaks_room, place-breaks, placed-whole, room-for, full-placed, next-split, reads-split, waits-split, waits-none, placed-none, room-writes, writes-split}
+use Rattle.fl_var.proofs.Placed.{joined-has, joined-bytes, buffered-room, watched-second, place-none, place-err, place-breaks_room, place-breaks, placed-whole, room-for, full-placed, next-split, oldest-split, reads-split, waits-split, waits-none, placed-none, room-writes, writes-split}
 use Rattle.fl_var.proofs.Lists.{some-there}
 use Rattle.fl_var.proofs.BufferedBytes.{cause-err, off-err, ok-on, lost-on}
 use Rattle.fl_var.proofs.var_data.VarData.append.Goals as goal
@@ -101,6 +101,17 @@ returns-clause-waits g c =
     let some : 1 ≤ length c.args.bytes.now = some-there (length c.args.bytes.now) c.is_empty.result c.is_empty.ensures c.if-is_empty.false in
     let e = c.in_ok-make_room.ensures in
     waits-split c.args.self.now c.make_room.new.self c.args.bytes.now some e.same e.waits (waiting_in c.write.new.self) c.in_ok-write.ensures.waits
+
+pub returns-then-is_empty-clause-oldest : goal.returns-then-is_empty-clause-oldest
+returns-then-is_empty-clause-oldest g c =
+    let none : length c.args.bytes.now ≡ 0 = search rules in
+    sym (ap (oldest_after c.args.self.now) (placed-none c.args.self.now (length c.args.bytes.now) none))
+
+pub returns-clause-oldest : goal.returns-clause-oldest
+returns-clause-oldest g c =
+    let some : 1 ≤ length c.args.bytes.now = some-there (length c.args.bytes.now) c.is_empty.result c.is_empty.ensures c.if-is_empty.false in
+    let e = c.in_ok-make_room.ensures in
+    oldest-split c.args.self.now c.make_room.new.self c.args.bytes.now some e.same e.waits c.write.new.self e.next e.oldest c.in_ok-write.ensures.oldest
 
 pub returns-then-is_empty-clause-next : goal.returns-then-is_empty-clause-next
 returns-then-is_empty-clause-next g c =

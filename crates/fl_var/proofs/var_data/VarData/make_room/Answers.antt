@@ -2,7 +2,7 @@ use Rattle.std.proofs.Common.{rules, ◌≡◌, ◌+◌, Bool, true, false, cond
 use Rattle.std.specs.Prelude.{OnOk}
 use Rattle.fl_ring.specs.Written.{Writes, done}
 use Rattle.fl_ring.proofs.Written.{writes-fewer, writes-none}
-use Rattle.fl_var.specs.Memory.{next_in, waiting_in, IsOnRing, MaySeal}
+use Rattle.fl_var.specs.Memory.{next_in, oldest_in, oldest_after, waiting_in, IsOnRing, MaySeal}
 use Rattle.fl_var.specs.Placing.{is_full_in}
 use Rattle.fl_var.proofs.Placed.{full-same, room-sealed, room-left, room-waits}
 use Rattle.fl_var.proofs.Written.{on-ring}
@@ -35,6 +35,18 @@ returns-clause-next g c =
     let v = c.args.self.now in
     let e : is_full_in c.args.self.now ≡ true = sym (full-same v) ∙ search rules in
     subst (λ (b : Bool). OnOk c.seal.result (next_in c.seal.new.self ≡ cond b (next_in c.args.self.now + 1) (next_in c.args.self.now))) (sym e) c.seal.ensures.next
+
+pub returns-then-not-is_full-clause-oldest : goal.returns-then-not-is_full-clause-oldest
+returns-then-not-is_full-clause-oldest g c =
+    let v = c.args.self.now in
+    let e : is_full_in c.args.self.now ≡ false = sym (full-same v) ∙ search rules in
+    ap (λ (b : Bool). oldest_after v (cond b 1 0)) (sym e)
+
+pub returns-clause-oldest : goal.returns-clause-oldest
+returns-clause-oldest g c =
+    let v = c.args.self.now in
+    let e : is_full_in c.args.self.now ≡ true = sym (full-same v) ∙ search rules in
+    subst (λ (b : Bool). OnOk c.seal.result (oldest_in c.seal.new.self ≡ oldest_after c.args.self.now (cond b 1 0))) (sym e) c.seal.ensures.oldest
 
 pub returns-then-not-is_full-clause-waits : goal.returns-then-not-is_full-clause-waits
 returns-then-not-is_full-clause-waits g c =

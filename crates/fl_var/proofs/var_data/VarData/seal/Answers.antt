@@ -12,6 +12,8 @@ use Rattle.fl_ring.specs.Sealing.{Performed}
 use Rattle.fl_var.specs.Content.{content_body}
 use Rattle.fl_var.specs.Memory.{next_in, waiting_in, room_in, var_shape}
 use Rattle.fl_var.proofs.SealsInTable.{seal-breaks, seal-finishes, seal-err, ready, pages-size, next-is}
+use Rattle.fl_var.proofs.Ahead.{held-ahead}
+use Rattle.fl_var.proofs.OldestKept.{sealed-oldest}
 use Rattle.fl_var.proofs.States.{state_of}
 use Rattle.fl_var.proofs.BufferedBytes.{seal-power, seal-lost, lost-on}
 use Rattle.fl_var.proofs.var_data.VarData.seal.Goals as goal
@@ -94,6 +96,20 @@ returns-clause-writes g c =
     let v = c.args.self.now in
     let ring_is : c.args.self.now.ring ≡ Some c.in-Some.ring = search rules in
     held-writes v.ring c.in-Some.ring 1 1 _ _ ring_is (omega arith) c.in_ok-seal.ensures.writes
+
+pub returns-clause-ahead : goal.returns-clause-ahead
+returns-clause-ahead g c = λ told.
+    let ring_is : c.args.self.now.ring ≡ Some c.in-Some.ring = search rules in
+    held-ahead c.in-Some.ring c.body.result.now (g.F.Flash.state c.args.flash.now) (g.F.Flash.state c.seal.new.flash) (c.requires.lies.ring c.in-Some.ring ring_is) told c.args.self.now.ring ring_is c.in_ok-seal.field-0 c.in_ok-seal.ensures.calls
+
+pub returns-in_err-seal-clause-ahead : goal.returns-in_err-seal-clause-ahead
+returns-in_err-seal-clause-ahead g c = let p = err_from_is_err_and c.from_residual.result c.from_residual.ensures.1 in rw p.1 tt
+
+pub returns-clause-oldest : goal.returns-clause-oldest
+returns-clause-oldest g c =
+    let v = c.args.self.now in
+    let ring_is : c.args.self.now.ring ≡ Some c.in-Some.ring = search rules in
+    c.in_ok-seal.ensures.kept_from ∙ sealed-oldest v c.in-Some.ring ring_is (v.lies c.in-Some.ring ring_is)
 
 pub returns-in_err-seal-clause-page : goal.returns-in_err-seal-clause-page
 returns-in_err-seal-clause-page g c = let p = err_from_is_err_and c.from_residual.result c.from_residual.ensures.1 in rw p.1 tt

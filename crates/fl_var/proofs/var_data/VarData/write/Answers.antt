@@ -5,7 +5,7 @@ use Rattle.fl_flash.specs.declared.flash.FlashFault.{FlashFault}
 use Rattle.fl_frame.proofs.CallsInTurn.{goes-then}
 use Rattle.fl_ring.proofs.Written.{writes-fewer}
 use Rattle.fl_var.specs.Memory.{room_in, MaySeal}
-use Rattle.fl_var.proofs.BufferedBytes.{writes-first, writes-next, writes-fail, writes-waits, writes-quiet, writes-end, writes-off, writes-tried, tried-fail, wrote-on, ok-on, cause-err, lost-on}
+use Rattle.fl_var.proofs.BufferedBytes.{writes-first, writes-next, writes-fail, writes-oldest, writes-waits, writes-quiet, writes-end, writes-off, writes-tried, tried-fail, wrote-on, ok-on, cause-err, lost-on}
 use Rattle.fl_var.proofs.Written.{on-ring}
 use Rattle.fl_var.proofs.var_data.VarData.write.Goals as goal
 
@@ -40,7 +40,7 @@ loop-done-preserved g c =
     let rest : length (take (length c.args.bytes.now - c.loop-done.done) (drop c.loop-done.done c.args.bytes.now)) ≡ length c.args.bytes.now - c.loop-done.done = search (rules, places) in
     let e = c.in_ok-seal.ensures in (
       writes-next c.args.self.now c.loop-done.self c.seal.new.self _ (g.F.Flash.state c.args.flash.now) (g.F.Flash.state c.loop-done.flash) (g.F.Flash.state c.seal.new.flash) c.args.bytes.now c.loop-done.done
-          c.put-done-in-loop-done.result c.loop-done.invariant.0 less e.goes e.same e.lies e.mounted e.next e.empty e.ends e.outside e.reads e.media_reads (on-ring c.loop-done.self (MaySeal c.loop-done.self) 0 1 (g.F.Flash.state c.loop-done.flash) (g.F.Flash.state c.seal.new.flash) e.outside (writes-fewer (MaySeal c.loop-done.self) 1 1 _ _ e.writes)) refl (record { geometry = refl; place = refl }) e.power (ok-on _ _ _ e.off)
+          c.put-done-in-loop-done.result c.loop-done.invariant.0 less e.goes e.same e.lies e.mounted e.next e.oldest e.empty e.ends e.outside e.reads e.media_reads (on-ring c.loop-done.self (MaySeal c.loop-done.self) 0 1 (g.F.Flash.state c.loop-done.flash) (g.F.Flash.state c.seal.new.flash) e.outside (writes-fewer (MaySeal c.loop-done.self) 1 1 _ _ e.writes)) refl (record { geometry = refl; place = refl }) e.power (ok-on _ _ _ e.off)
           (length (take (length c.args.bytes.now - c.loop-done.done) (drop c.loop-done.done c.args.bytes.now))) rest c.put-done-in-loop-done.ensures.count c.put-done-in-loop-done.ensures.fill c.put-done-in-loop-done.ensures.content,
       refl,
       c.requires.few,
@@ -59,6 +59,11 @@ pub returns-clause-quiet : goal.returns-clause-quiet
 returns-clause-quiet g c = λ none.
     let all : length c.args.bytes.now ≤ c.loop-done.done = search rules in
     (refl, writes-quiet c.args.self.now c.loop-done.self (g.F.Flash.state c.args.flash.now) (g.F.Flash.state c.loop-done.flash) c.args.bytes.now c.loop-done.done c.loop-done.invariant.0 all none)
+
+pub returns-clause-oldest : goal.returns-clause-oldest
+returns-clause-oldest g c =
+    let all : length c.args.bytes.now ≤ c.loop-done.done = search rules in
+    writes-oldest c.args.self.now c.loop-done.self (g.F.Flash.state c.args.flash.now) (g.F.Flash.state c.loop-done.flash) c.args.bytes.now c.loop-done.done c.loop-done.invariant.0 all
 
 pub returns-clause-waits : goal.returns-clause-waits
 returns-clause-waits g c =
