@@ -42,11 +42,11 @@ use Rattle.fl_cursor.proofs.NextPages.{Looked, ahead_at}
 use Rattle.fl_cursor.proofs.Wanted.{beyond-same, missed-wanted, rows-are, none-matches, unmatched-left, unmatched-asked}
 
 -- what a buffer holds, by a flash and by what that holds
-fresh-on : (bitmaps : Option BitmapIndex) (f : FlashState) (buf : BufferState) → AreFreshIn bitmaps (contents_of f) buf → AreFresh bitmaps f buf
+pub fresh-on : (bitmaps : Option BitmapIndex) (f : FlashState) (buf : BufferState) → AreFreshIn bitmaps (contents_of f) buf → AreFresh bitmaps f buf
 fresh-on None f buf h = tt
 fresh-on (Some index) f buf h = h
 
-fresh-in : (bitmaps : Option BitmapIndex) (f : FlashState) (buf : BufferState) → AreFresh bitmaps f buf → AreFreshIn bitmaps (contents_of f) buf
+pub fresh-in : (bitmaps : Option BitmapIndex) (f : FlashState) (buf : BufferState) → AreFresh bitmaps f buf → AreFreshIn bitmaps (contents_of f) buf
 fresh-in None f buf h = tt
 fresh-in (Some index) f buf h = h
 
@@ -153,7 +153,10 @@ bad-index t f buf (BadPage bad) good h = λ tells. inr (by_index t.bitmaps (h te
     by_index (Some index) e = record { from = e.from; before = e.before; committed = e.committed; not_good = e.not_good; told = e.told }
 
 -- the bytes that were read after the look
-pub page-bytes : {KNOTS SLOTS : ℕ} (t : Table KNOTS SLOTS) (number : ℕ) (f new : FlashState) (bytes : List ℕ) → IsStanding t (contents_of f) → OnlyReads f new → (IsTrue new.media.tells → bytes ≡ page_at new (place_of t number)) → bytes ≡ bytes_at t (contents_of f) number
-page-bytes t number f new bytes standing counts read =
-    read (subst (λ (k : Contents). IsTrue k.tells) (sym counts.contents) (standing-tells t (contents_of f) standing))
+pub told-bytes : {KNOTS SLOTS : ℕ} (t : Table KNOTS SLOTS) (number : ℕ) (f new : FlashState) (bytes : List ℕ) → IsTrue f.media.tells → OnlyReads f new → (IsTrue new.media.tells → bytes ≡ page_at new (place_of t number)) → bytes ≡ bytes_at t (contents_of f) number
+told-bytes t number f new bytes tells counts read =
+    read (subst (λ (k : Contents). IsTrue k.tells) (sym counts.contents) tells)
     ∙ ap (λ (k : Contents). page_of k.bytes k.start k.geometry.page (place_of t number)) counts.contents
+
+pub page-bytes : {KNOTS SLOTS : ℕ} (t : Table KNOTS SLOTS) (number : ℕ) (f new : FlashState) (bytes : List ℕ) → IsStanding t (contents_of f) → OnlyReads f new → (IsTrue new.media.tells → bytes ≡ page_at new (place_of t number)) → bytes ≡ bytes_at t (contents_of f) number
+page-bytes t number f new bytes standing counts read = told-bytes t number f new bytes (standing-tells t (contents_of f) standing) counts read

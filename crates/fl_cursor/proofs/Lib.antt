@@ -11,6 +11,7 @@ pub mod Beyond
 pub mod StartPlaces
 pub mod NextPages
 pub mod Indexed
+pub mod SoundPages
 pub mod Whole
 pub mod StepsOfRows
 pub mod LowestPage

@@ -25,14 +25,14 @@ use Rattle.fl_frame.specs.Contents.{Contents}
 use Rattle.fl_table.specs.Bitmaps.{ArePlanned}
 use Rattle.fl_table.specs.Look.{oldest_in, rows_noted}
 use Rattle.fl_table.specs.Memory.{next_in, HasBuckets}
-use Rattle.fl_table.specs.Skipping.{wants_page}
+use Rattle.fl_table.specs.Skipping.{mask_for, wants_page}
 use Rattle.fl_table.specs.Skipping as skipping
 use Rattle.fl_table.specs.declared.table.Table.{Table}
 use Rattle.fl_table.proofs.Skips.{mask-meets, index-stands, some-bits}
 use Rattle.fl_cursor.specs.Asked.{is_asked}
 use Rattle.fl_cursor.specs.Cursor.{IsStanding}
 use Rattle.fl_cursor.specs.Listed.{rows_on}
-use Rattle.fl_cursor.specs.Reads.{begins_above, bitmap_in, has_full, mask_for, is_beyond, is_indexed_in, is_missed}
+use Rattle.fl_cursor.specs.Reads.{begins_above, bitmap_in, has_full, is_beyond, is_indexed_in, is_missed}
 use Rattle.fl_cursor.proofs.PassedRows.{NotLeft}
 use Rattle.fl_cursor.proofs.Stood.{kept-rows, at-number, back, standing-many}
 

@@ -4,6 +4,7 @@ pub mod Sought
 pub mod Cursor
 pub mod Reads
 pub mod Ends
+pub mod Sound
 pub mod Going
 pub mod Ascending
 pub mod Retried

@@ -4,7 +4,7 @@ use Rattle.std.specs.List.{list_any}
 use Rattle.fl_model.specs.Query as model
 use Rattle.fl_model.specs.Query.{is_up_to}
 use Rattle.fl_base.specs.declared.types.Span.{Span}
-use Rattle.fl_bitmap.specs.Bucket.{mask_in, with_value}
+use Rattle.fl_bitmap.specs.Bucket.{with_value}
 use Rattle.fl_bitmap.specs.declared.buckets.Buckets.{Buckets}
 use Rattle.fl_flash.specs.Buffer.{BufferState}
 use Rattle.fl_index.specs.Memory.{form_in, is_waiting, listing_in}
@@ -16,7 +16,7 @@ use Rattle.fl_find.specs.Index.{most_reads}
 use Rattle.fl_find.specs.Pages.{first_key}
 use Rattle.fl_table.specs.Look.{layout_in, oldest_in, rows_noted, buffered_rows, voids_noted, learned_in, buckets_in}
 use Rattle.fl_table.specs.Memory.{next_in}
-use Rattle.fl_table.specs.Skipping.{index_in, unread_of, due_of}
+use Rattle.fl_table.specs.Skipping.{index_in, mask_for, unread_of, due_of}
 use Rattle.fl_table.specs.declared.table.Table.{Table}
 use Rattle.fl_cursor.specs.Asked.{is_asked, is_last, lowest_of}
 use Rattle.fl_cursor.specs.Cursor.{table_of, asked_of, buffer_of, index_page}
@@ -33,11 +33,6 @@ has_last top rows = list_any (λ row. is_last top row.key) rows
 abbrev pub bitmap_in : Option Buckets → List Row → ℕ
 bitmap_in None rows = 0
 bitmap_in (Some buckets) rows = fold (λ bits row. with_value buckets bits (unwrap_or (slice_get row.values 0) (pos 0))) 0 rows
-
--- the buckets of a span as bits
-abbrev pub mask_for : Option Buckets → Span → ℕ
-mask_for None span = 0
-mask_for (Some buckets) span = mask_in buckets span
 
 -- an index page lists a data page, or its entry waits
 abbrev pub is_indexed_in : Option BitmapIndex → ℕ → Bool

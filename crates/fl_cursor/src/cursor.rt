@@ -47,6 +47,7 @@ pub struct Cursor<'s, 'r, 'i, const KNOTS: usize, const SLOTS: usize> {
 impl<'s, 'r, 'i, const KNOTS: usize, const SLOTS: usize> Cursor<'s, 'r, 'i, KNOTS, SLOTS> {
     ghost use Rattle.fl_model.specs.Limits.{scan_limit, least_reads};
     ghost use Rattle.fl_cursor.specs.Asked.{asked_by, lowest_of};
+    ghost use Rattle.fl_cursor.specs.Sound.{IsSoundAhead, IsSoundOver};
     ghost use Rattle.fl_cursor.specs.Reads.{most_of, least_of, IsBegun, IsBounded};
     ghost use Rattle.fl_cursor.specs.Cursor.{table_of, mark_of, asked_of, place_of, left_of, IsStanding, IsTold, IsReady, rows_name, index_name, rows_page, index_page};
 
@@ -71,6 +72,7 @@ impl<'s, 'r, 'i, const KNOTS: usize, const SLOTS: usize> Cursor<'s, 'r, 'i, KNOT
         ensures index_forget { index_page result ≡ record index_buf.old { holds = None } }
         ensures ready { (f : FlashState) → LiesOn table.now f → length rows_buf.old.bytes ≡ f.geometry.page → length index_buf.old.bytes ≡ f.geometry.page → IsReady result (contents_of f) }
         ensures told { (contents : Contents) → IsStanding table.now contents → IsTold result contents }
+        ensures sound { (contents : Contents) → IsSoundAhead result contents → IsSoundOver table.now contents (asked_of result) }
         ensures limit { (f : FlashState) → (first : ℕ) → (plan : Plan) → (t : model.Table) → IsTrue f.media.tells → f.start + extent f.geometry f.blocks ≤ length f.media.content →
             LiesOn table.now f → Stands table.now f first plan t →
             most_of result (contents_of f) ≤ scan_limit KNOTS plan t range span range.low }
@@ -109,6 +111,7 @@ impl<'s, 'r, 'i, const KNOTS: usize, const SLOTS: usize> Cursor<'s, 'r, 'i, KNOT
             LiesOn table.now f → Stands table.now f first plan t → IsBounded mark.top mark.range.high →
             most_of result (contents_of f) ≤ scan_limit KNOTS plan t mark.range mark.span (lowest_of (asked_by mark)) }
         ensures begun { IsBegun (asked_by mark) table.now (place_of result) }
+        ensures sound { (contents : Contents) → IsSoundAhead result contents → IsSoundOver table.now contents (asked_by mark) }
     {
         index_buf.forget();
         Cursor {

@@ -7,6 +7,7 @@ use fl_table::Table;
 
 impl Bookmark {
     ghost use Rattle.fl_cursor.specs.Ends.{EndsPages};
+    ghost use Rattle.fl_cursor.specs.Sound.{pages_end};
 
     /// The number after the last kept page that may have a row that is still to be given, where `next` is that of the
     /// next page.
@@ -16,7 +17,8 @@ impl Bookmark {
         next: u32,
     ) -> u32
         requires next { next ≡ next_in table.now }
-        ensures { EndsPages table.now self.now.top result }
+        ensures exact { result ≡ pages_end table.now self.now.top }
+        ensures ends { EndsPages table.now self.now.top result }
     {
         match self.top {
             Some(top) => table.end_of_pages(top),

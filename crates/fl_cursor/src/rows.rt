@@ -39,6 +39,7 @@ impl<F: Flash, const KNOTS: usize, const SLOTS: usize> Rows<F>
     for Cursor<'_, '_, '_, KNOTS, SLOTS> {
     ghost use Rattle.fl_cursor.specs.Cursor.{table_of, has_ended, left_of, rows_name, index_name, IsReady, IsTold, MayBeBad};
     ghost use Rattle.fl_cursor.specs.Reads.{most_of, least_of};
+    ghost use Rattle.fl_cursor.specs.Sound.{IsSoundAhead};
     ghost use Rattle.fl_cursor.specs.Ascending.{left-ascends};
 
     ghost names = { λ cursor. rows_name cursor ∷ index_name cursor ∷ [] };
@@ -52,6 +53,8 @@ impl<F: Flash, const KNOTS: usize, const SLOTS: usize> Rows<F>
     ghost ended = { has_ended };
 
     ghost passes = { λ cursor. MayBeBad (table_of cursor) };
+
+    ghost sound = { IsSoundAhead };
 
     ghost most = { most_of };
 

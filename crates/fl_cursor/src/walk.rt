@@ -18,6 +18,7 @@ impl<const KNOTS: usize, const SLOTS: usize> Cursor<'_, '_, '_, KNOTS, SLOTS> {
     ghost use Rattle.fl_flash.specs.Flash.{FlashState};
     ghost use Rattle.fl_cursor.specs.Cursor.{table_of, mark_of, asked_of, buffer_of, place_of, here_of, is_here, has_ended, IsReady, IsTold, IsPlaced, IfBad, MayBeBad};
     ghost use Rattle.fl_cursor.specs.Ends.{EndsPages};
+    ghost use Rattle.fl_cursor.specs.Sound.{IsSoundAhead, pages_end};
     ghost use Rattle.fl_cursor.specs.Going.{Goes, Fails, took, pages_left, is_start, is_in_page, is_at_pages};
     ghost use Rattle.fl_cursor.specs.declared.place.Place.{Place};
 
@@ -42,6 +43,7 @@ impl<const KNOTS: usize, const SLOTS: usize> Cursor<'_, '_, '_, KNOTS, SLOTS> {
         requires short { length (buffer_of self.old) ≤ 4096 }
         requires few { next_in (table_of self.old) < 2 ^ 32 }
         ensures goes { (contents : Contents) (reads : ℕ) → Goes result contents reads self.old reads self.new }
+        ensures sound { (contents : Contents) → IsSoundAhead self.new contents → IsSoundAhead self.old contents }
         ensures here { OnFalse result (here_of self.new ≡ here_of self.old) }
         ensures begun { is_start (place_of self.new) ≡ false }
         ensures outside { OnFalse result (is_in_page (place_of self.new) ≡ false) }
@@ -79,6 +81,7 @@ impl<const KNOTS: usize, const SLOTS: usize> Cursor<'_, '_, '_, KNOTS, SLOTS> {
         requires placed { IsPlaced (table_of self.old) (buffer_of self.old) (place_of self.old) }
         requires behind { is_at_pages (place_of self.old) ≡ false }
         ensures goes { (contents : Contents) (reads : ℕ) → Goes result contents reads self.old reads self.new }
+        ensures sound { (contents : Contents) → IsSoundAhead self.new contents → IsSoundAhead self.old contents }
         ensures here { OnFalse result (here_of self.new ≡ here_of self.old) }
         ensures end { OnFalse result (has_ended self.new ≡ true) }
         ensures stays_ended { has_ended self.old ≡ true → result ≡ false }
@@ -114,6 +117,7 @@ impl<const KNOTS: usize, const SLOTS: usize> Cursor<'_, '_, '_, KNOTS, SLOTS> {
         ensures here { here_of self.new ≡ here_of self.old }
         ensures goes { OnOk result (Goes false (contents_of (F.state flash.old)) (F.state flash.old).work.reads self.old (F.state flash.new).work.reads self.new) }
         ensures fails { OnErr result (Fails (contents_of (F.state flash.old)) (F.state flash.old).work.reads self.old (F.state flash.new).work.reads self.new) }
+        ensures sound { OnOk result (IsSoundAhead self.new (contents_of (F.state flash.old)) → IsSoundAhead self.old (contents_of (F.state flash.old))) }
         ensures begun { OnOk result (is_start (place_of self.new) ≡ false) }
         ensures stays_ended { has_ended self.old ≡ true → (has_ended self.new ≡ true) × (F.state flash.new ≡ F.state flash.old) × OnErr result ⊥ }
         ensures behind { is_at_pages (place_of self.old) ≡ false → (is_at_pages (place_of self.new) ≡ false) × (F.state flash.new ≡ F.state flash.old) × OnErr result ⊥ }
@@ -143,12 +147,14 @@ impl<const KNOTS: usize, const SLOTS: usize> Cursor<'_, '_, '_, KNOTS, SLOTS> {
         requires ready { IsReady self.old (contents_of (F.state flash.old)) }
         requires next { place_of self.old ≡ Place.Pages next }
         requires end { EndsPages (table_of self.old) (mark_of self.old).top end }
+        requires end_is { end ≡ pages_end (table_of self.old) (mark_of self.old).top }
         ensures reads_only { OnlyReads (F.state flash.old) (F.state flash.new) }
         ensures cause { IfErr result (λ fault. IsCaused (F.state flash.old) fault (F.state flash.new)) }
         ensures bad_page { IfErr result (IfBad (MayBeBad (table_of self.old) (contents_of (F.state flash.old)))) }
         ensures here { here_of self.new ≡ here_of self.old }
         ensures goes { OnOk result (Goes false (contents_of (F.state flash.old)) (F.state flash.old).work.reads self.old (F.state flash.new).work.reads self.new) }
         ensures fails { OnErr result (Fails (contents_of (F.state flash.old)) (F.state flash.old).work.reads self.old (F.state flash.new).work.reads self.new) }
+        ensures sound { OnOk result (IsSoundAhead self.new (contents_of (F.state flash.old)) → IsSoundAhead self.old (contents_of (F.state flash.old))) }
         ensures begun { is_start (place_of self.new) ≡ false }
         ensures fewer { OnOk result (pages_left (table_of self.old) (place_of self.new) < pages_left (table_of self.old) (place_of self.old)) }
     {
@@ -199,6 +205,11 @@ impl<const KNOTS: usize, const SLOTS: usize> Cursor<'_, '_, '_, KNOTS, SLOTS> {
         ensures fails { OnErr result (Fails (contents_of (F.state flash.old)) (F.state flash.old).work.reads self.old (F.state flash.new).work.reads self.new) }
         ensures end { IfOk result (λ more. OnFalse more (has_ended self.new ≡ true)) }
         ensures stays_ended { has_ended self.old ≡ true → (result ≡ Ok false) × (F.state flash.new ≡ F.state flash.old) }
+
+        // Whatever the pages hold: no page between the old place and the new one was looked at and is bad, and where it comes to the end
+        // none was from the old place on.
+        ensures sound { OnOk result (IsSoundAhead self.new (contents_of (F.state flash.old)) → IsSoundAhead self.old (contents_of (F.state flash.old))) }
+        ensures all_sound { IfOk result (λ more. OnFalse more (IsSoundAhead self.old (contents_of (F.state flash.old)))) }
 
         // Among the pending rows, and where none is left, nothing is read, so no fault comes; it stays there.
         ensures behind { is_at_pages (place_of self.old) ≡ false → (is_at_pages (place_of self.new) ≡ false) × (F.state flash.new ≡ F.state flash.old) × OnErr result ⊥ }

@@ -75,6 +75,8 @@ impl<R: RowHere> Aggregate<R> {
         ensures input { Continues R.names R.schema R.above R.ready R.told R.passes (contents_of (F.state flash.old)) (input_of self.old) (input_of self.new) }
         ensures here { IfOk result (λ more. OnTrue more ((R.here (input_of self.new) ≡ true) × (R.above (input_of self.new) ≡ Some (R.present (input_of self.new)).key))) }
         ensures end { IfOk result (λ more. OnFalse more (R.ended (input_of self.new) ≡ true)) }
+        ensures sound { OnOk result (R.sound (input_of self.new) (contents_of (F.state flash.old)) → R.sound (input_of self.old) (contents_of (F.state flash.old))) }
+        ensures all_sound { IfOk result (λ more. OnFalse more (R.sound (input_of self.old) (contents_of (F.state flash.old)))) }
         ensures stays_ended { R.ended (input_of self.old) ≡ true → has_row self.old ≡ false → (result ≡ Ok false) × (F.state flash.new ≡ F.state flash.old) }
         ensures steps { R.told (input_of self.old) (contents_of (F.state flash.old)) →
             Steps result (ungrouped (has_row self.old) (R.present (input_of self.old)) (R.left (input_of self.old) (contents_of (F.state flash.old))))
@@ -105,6 +107,8 @@ impl<R: RowHere> Aggregate<R> {
         ensures width { width_of self.new ≡ width_of self.old }
         ensures input { Continues R.names R.schema R.above R.ready R.told R.passes (contents_of (F.state flash.old)) (input_of self.old) (input_of self.new) }
         ensures end { IfOk result (λ group. IfNone group ((R.ended (input_of self.new) ≡ true) × (has_row self.new ≡ false))) }
+        ensures sound { OnOk result (R.sound (input_of self.new) (contents_of (F.state flash.old)) → R.sound (input_of self.old) (contents_of (F.state flash.old))) }
+        ensures all_sound { IfOk result (λ group. IfNone group (R.sound (input_of self.old) (contents_of (F.state flash.old)))) }
         ensures stays_ended { R.ended (input_of self.old) ≡ true → has_row self.old ≡ false → (result ≡ Ok None) × (F.state flash.new ≡ F.state flash.old) }
         ensures steps { R.told (input_of self.old) (contents_of (F.state flash.old)) →
             GroupSteps result (groups_left self.old (R.present (input_of self.old)) (R.left (input_of self.old) (contents_of (F.state flash.old))))

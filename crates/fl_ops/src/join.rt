@@ -1,5 +1,5 @@
 // Pairs of rows with one key.
-ghost use Rattle.std.specs.Prelude.{◌≡◌, ◌≢◌, ◌⊎◌, ◌+◌, ◌<◌, ◌≤◌, true, false, Some, Ok, Err, IfOk, IfErr};
+ghost use Rattle.std.specs.Prelude.{◌≡◌, ◌≢◌, ◌⊎◌, ◌+◌, ◌<◌, ◌≤◌, true, false, Some, Ok, Err, OnOk, IfOk, IfErr};
 ghost use Rattle.std.specs.Bool.{OnTrue, OnFalse};
 ghost use Rattle.fl_model.specs.Operators.{key_join};
 ghost use Rattle.fl_flash.specs.Flash.{FlashState};
@@ -30,6 +30,9 @@ fn step_both<F: Flash, A: Rows<F>, B: Rows<F>>(
     ensures bad_page { (bad : BadPage) → result ≡ Err (ReadFault.BadPage bad) → A.passes left.old (contents_of (F.state flash.old)) bad ⊎ B.passes right.old (contents_of (F.state flash.old)) bad }
     ensures left { Continues A.names A.schema A.above A.ready A.told A.passes (contents_of (F.state flash.old)) left.old left.new }
     ensures right { Continues B.names B.schema B.above B.ready B.told B.passes (contents_of (F.state flash.old)) right.old right.new }
+    ensures left_sound { OnOk result (A.sound left.new (contents_of (F.state flash.old)) → A.sound left.old (contents_of (F.state flash.old))) }
+    ensures right_sound { OnOk result (B.sound right.new (contents_of (F.state flash.old)) → B.sound right.old (contents_of (F.state flash.old))) }
+    ensures all_sound { IfOk result (λ more. OnFalse more (A.sound left.old (contents_of (F.state flash.old)) ⊎ B.sound right.old (contents_of (F.state flash.old)))) }
     ensures here { IfOk result (λ more. OnTrue more ((A.here left.new ≡ true) × (B.here right.new ≡ true))) }
     ensures keys { IfOk result (λ more. OnTrue more ((A.above left.new ≡ Some (A.present left.new).key) × (B.above right.new ≡ Some (B.present right.new).key))) }
     ensures pairs { A.told left.old (contents_of (F.state flash.old)) → B.told right.old (contents_of (F.state flash.old)) → PairsGo result
@@ -64,6 +67,9 @@ fn step_lesser<F: Flash, A: Rows<F>, B: Rows<F>>(
     ensures bad_page { (bad : BadPage) → result ≡ Err (ReadFault.BadPage bad) → A.passes left.old (contents_of (F.state flash.old)) bad ⊎ B.passes right.old (contents_of (F.state flash.old)) bad }
     ensures left { Continues A.names A.schema A.above A.ready A.told A.passes (contents_of (F.state flash.old)) left.old left.new }
     ensures right { Continues B.names B.schema B.above B.ready B.told B.passes (contents_of (F.state flash.old)) right.old right.new }
+    ensures left_sound { OnOk result (A.sound left.new (contents_of (F.state flash.old)) → A.sound left.old (contents_of (F.state flash.old))) }
+    ensures right_sound { OnOk result (B.sound right.new (contents_of (F.state flash.old)) → B.sound right.old (contents_of (F.state flash.old))) }
+    ensures all_sound { IfOk result (λ more. OnFalse more (A.sound left.old (contents_of (F.state flash.old)) ⊎ B.sound right.old (contents_of (F.state flash.old)))) }
     ensures here { IfOk result (λ more. OnTrue more ((A.here left.new ≡ true) × (B.here right.new ≡ true))) }
     ensures keys { IfOk result (λ more. OnTrue more ((A.above left.new ≡ Some (A.present left.new).key) × (B.above right.new ≡ Some (B.present right.new).key))) }
     ensures fewer { IfOk result (λ more. OnTrue more (keys_above (A.above left.new) + keys_above (B.above right.new) < keys_above (A.above left.old) + keys_above (B.above right.old))) }
@@ -98,6 +104,9 @@ pub fn next_pair<F: Flash, A: Rows<F>, B: Rows<F>>(
     ensures bad_page { (bad : BadPage) → result ≡ Err (ReadFault.BadPage bad) → A.passes left.old (contents_of (F.state flash.old)) bad ⊎ B.passes right.old (contents_of (F.state flash.old)) bad }
     ensures left { Continues A.names A.schema A.above A.ready A.told A.passes (contents_of (F.state flash.old)) left.old left.new }
     ensures right { Continues B.names B.schema B.above B.ready B.told B.passes (contents_of (F.state flash.old)) right.old right.new }
+    ensures left_sound { OnOk result (A.sound left.new (contents_of (F.state flash.old)) → A.sound left.old (contents_of (F.state flash.old))) }
+    ensures right_sound { OnOk result (B.sound right.new (contents_of (F.state flash.old)) → B.sound right.old (contents_of (F.state flash.old))) }
+    ensures all_sound { IfOk result (λ more. OnFalse more (A.sound left.old (contents_of (F.state flash.old)) ⊎ B.sound right.old (contents_of (F.state flash.old)))) }
     ensures here { IfOk result (λ more. OnTrue more ((A.here left.new ≡ true) × (B.here right.new ≡ true))) }
     ensures steps { A.told left.old (contents_of (F.state flash.old)) → B.told right.old (contents_of (F.state flash.old)) →
         StepsOver result (key_join (records_of (A.left left.old (contents_of (F.state flash.old)))) (records_of (B.left right.old (contents_of (F.state flash.old)))))
@@ -169,6 +178,9 @@ impl<A: RowHere, B: RowHere> KeyJoin<A, B> {
         ensures bad_page { (bad : BadPage) → result ≡ Err (ReadFault.BadPage bad) → A.passes (left_of self.old) (contents_of (F.state flash.old)) bad ⊎ B.passes (right_of self.old) (contents_of (F.state flash.old)) bad }
         ensures left { Continues A.names A.schema A.above A.ready A.told A.passes (contents_of (F.state flash.old)) (left_of self.old) (left_of self.new) }
         ensures right { Continues B.names B.schema B.above B.ready B.told B.passes (contents_of (F.state flash.old)) (right_of self.old) (right_of self.new) }
+        ensures left_sound { OnOk result (A.sound (left_of self.new) (contents_of (F.state flash.old)) → A.sound (left_of self.old) (contents_of (F.state flash.old))) }
+        ensures right_sound { OnOk result (B.sound (right_of self.new) (contents_of (F.state flash.old)) → B.sound (right_of self.old) (contents_of (F.state flash.old))) }
+        ensures all_sound { has_ended self.old ≡ false → IfOk result (λ more. OnFalse more (A.sound (left_of self.old) (contents_of (F.state flash.old)) ⊎ B.sound (right_of self.old) (contents_of (F.state flash.old)))) }
         ensures here { IfOk result (λ more. OnTrue more ((A.here (left_of self.new) ≡ true) × (B.here (right_of self.new) ≡ true))) }
         ensures end { IfOk result (λ more. OnFalse more (has_ended self.new ≡ true)) }
         ensures stays_ended { has_ended self.old ≡ true → (result ≡ Ok false) × (F.state flash.new ≡ F.state flash.old) }

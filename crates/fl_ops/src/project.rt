@@ -57,6 +57,8 @@ impl<'c, R: RowHere> Project<'c, R> {
         ensures input { Continues R.names R.schema R.above R.ready R.told R.passes (contents_of (F.state flash.old)) (input_of self.old) (input_of self.new) }
         ensures here { IfOk result (λ more. R.here (input_of self.new) ≡ more) }
         ensures end { IfOk result (λ more. OnFalse more (R.ended (input_of self.new) ≡ true)) }
+        ensures sound { OnOk result (R.sound (input_of self.new) (contents_of (F.state flash.old)) → R.sound (input_of self.old) (contents_of (F.state flash.old))) }
+        ensures all_sound { IfOk result (λ more. OnFalse more (R.sound (input_of self.old) (contents_of (F.state flash.old)))) }
         ensures stays_ended { R.ended (input_of self.old) ≡ true → (result ≡ Ok false) × (F.state flash.new ≡ F.state flash.old) }
         ensures steps { R.told (input_of self.old) (contents_of (F.state flash.old)) →
             StepsOver result (project (columns_of self.old) (records_of (R.left (input_of self.old) (contents_of (F.state flash.old)))))

@@ -65,6 +65,8 @@ impl<F: Flash, R: Rows<F>> Rows<F> for Select<R> {
 
     ghost passes = { λ select. R.passes select.rows };
 
+    ghost sound = { λ select. R.sound select.rows };
+
     ghost most = { λ select. R.most select.rows };
 
     ghost least = { λ select. R.least select.rows };

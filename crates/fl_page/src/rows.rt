@@ -57,6 +57,9 @@ pub trait Rows<F: Flash>: RowHere {
     /// Whether a step may answer this bad page.
     ghost passes: { Self → Contents → BadPage → Type 0 };
 
+    /// Whether no page that they read from now on, up to the last row, is bad in a flash that holds this.
+    ghost sound: { Self → Contents → Type 0 };
+
     /// How many reads all steps to come make at most, up to the first that fails, and how many at least where none fails.
     ghost most: { Self → Contents → ℕ };
 
@@ -78,6 +81,8 @@ pub trait Rows<F: Flash>: RowHere {
         ensures stays_ended { ended self.old ≡ true → (result ≡ Ok false) × (F.state flash.new ≡ F.state flash.old) }
         ensures bad_page { (bad : BadPage) → result ≡ Err (ReadFault.BadPage bad) → passes self.old (contents_of (F.state flash.old)) bad }
         ensures same_test { (contents : Contents) (bad : BadPage) → passes self.new contents bad ↔ passes self.old contents bad }
+        ensures sound { OnOk result (sound self.new (contents_of (F.state flash.old)) → sound self.old (contents_of (F.state flash.old))) }
+        ensures all_sound { IfOk result (λ more. OnFalse more (sound self.old (contents_of (F.state flash.old)))) }
         ensures stays_told { told self.old (contents_of (F.state flash.old)) → told self.new (contents_of (F.state flash.old)) }
         ensures steps { told self.old (contents_of (F.state flash.old)) →
             Steps result (left self.old (contents_of (F.state flash.old))) (Self.present self.new) (left self.new (contents_of (F.state flash.old))) }

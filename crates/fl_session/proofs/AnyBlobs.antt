@@ -1,5 +1,6 @@
 -- The replies to a question for a blob, over any bytes.
-use Rattle.std.proofs.Common.{ℕ, zero, suc, inl, inr, Option, Result, Err, List, [], ◌∷◌, ◌++◌, length, codes, refl, sym, ap, subst, append_assoc}
+use Rattle.std.specs.Prelude.{is_ok}
+use Rattle.std.proofs.Common.{◌≡◌, ℕ, zero, suc, Bool, true, false, inl, inr, Option, Result, Err, List, [], ◌∷◌, ◌++◌, length, codes, refl, sym, ap, subst, append_assoc}
 use Rattle.fl_base.specs.Causes.{Appends, AppendsFront}
 use Rattle.fl_flash.specs.Flash.{FlashState}
 use Rattle.fl_page.specs.Causes.{IsCaused}
@@ -25,25 +26,25 @@ unread-said : (IsBad : BadPage → Type 0) (f g : FlashState) (e : ReadFault) �
 unread-said IsBad f g (fault.Flash x) caused is_bad = (x, caused)
 unread-said IsBad f g (fault.BadPage bad) caused is_bad = (bad, refl, is_bad)
 
-module _ {E : Type 0} (IsBad : BadPage → Type 0) (f g : FlashState) (told now : Option (List ℕ)) (result : Result (Unit {0}) E) where
+module _ {E : Type 0} (Tells : Reply → Type 0) (IsBad : BadPage → Type 0) (f g : FlashState) (told now : Option (List ℕ)) (result : Result (Unit {0}) E) where
   -- one line
-  pub says-one : (line : Reply) → IsBlob line → Written told now result (text line) → BlobSays IsBad f g told now result
-  says-one line is wrote = record { lines = []; are_lines = tt; last = line; ends = inl is; written = subst (λ (l : List ℕ). Written told now result l) (sym (one-text line)) wrote }
+  pub says-one : (line : Reply) → IsBlob line → (is_ok result ≡ true → Tells line) → Written told now result (text line) → BlobSays Tells IsBad f g told now result
+  says-one line is tells wrote = record { lines = []; are_lines = tt; last = line; ends = inl (is, tells); written = subst (λ (l : List ℕ). Written told now result l) (sym (one-text line)) wrote }
 
-  pub says-none_read : (e : ReadFault) → IsCaused f e g → IfBad IsBad e → Written told now result (text (read_reply e)) → BlobSays IsBad f g told now result
+  pub says-none_read : (e : ReadFault) → IsCaused f e g → IfBad IsBad e → Written told now result (text (read_reply e)) → BlobSays Tells IsBad f g told now result
   says-none_read e caused is_bad wrote =
       record { lines = []; are_lines = tt; last = read_reply e; ends = inr (unread-said IsBad f g e caused is_bad); written = subst (λ (l : List ℕ). Written told now result l) (sym (one-text (read_reply e))) wrote }
 
   -- a line of bytes, in its parts
-  pub says-parts : (bytes : List ℕ) (begun given : Option (List ℕ)) → Appends told begun (codes "bytes ") → Appends begun given (hex_text bytes) → Written given now result (10 ∷ []) → BlobSays IsBad f g told now result
-  says-parts bytes begun given first digits wrote =
-      says-one (reply.Bytes bytes) tt
+  pub says-parts : (bytes : List ℕ) (begun given : Option (List ℕ)) → Appends told begun (codes "bytes ") → Appends begun given (hex_text bytes) → Written given now result (10 ∷ []) → (is_ok result ≡ true → Tells (reply.Bytes bytes)) → BlobSays Tells IsBad f g told now result
+  says-parts bytes begun given first digits wrote tells =
+      says-one (reply.Bytes bytes) tt tells
       (subst (λ (l : List ℕ). Written told now result l) (sym (append_assoc (codes "bytes ") (hex_text bytes) (10 ∷ [])))
       (written-after told begun now result (codes "bytes ") (hex_text bytes ++ 10 ∷ []) first (written-after begun given now result (hex_text bytes) (10 ∷ []) digits wrote)))
 
   -- .. behind which a page wasn't read
   pub says-cut : (bytes : List ℕ) (begun given ended : Option (List ℕ)) (e : ReadFault) → IsCaused f e g → IfBad IsBad e → Appends told begun (codes "bytes ") → Appends begun given (hex_text bytes) → Appends given ended (10 ∷ []) → Written ended now result (text (read_reply e)) →
-      BlobSays IsBad f g told now result
+      BlobSays Tells IsBad f g told now result
   says-cut bytes begun given ended e caused is_bad first digits line wrote =
       let all : Appends told ended (text (reply.Bytes bytes)) =
       subst (λ (l : List ℕ). Appends told ended l) (sym (append_assoc (codes "bytes ") (hex_text bytes) (10 ∷ [])))
@@ -57,31 +58,35 @@ module _ {E : Type 0} (IsBad : BadPage → Type 0) (f g : FlashState) (told now 
       }
 
 -- the sink failed in the line of bytes
-module _ {E : Type 0} (IsBad : BadPage → Type 0) (f g : FlashState) (told now : Option (List ℕ)) (failed : E) where
-  pub says-failed : (bytes : List ℕ) → AppendsFront told now (text (reply.Bytes bytes)) → BlobSays IsBad f g told now (Err failed)
-  says-failed bytes front = says-one IsBad f g told now (Err failed) (reply.Bytes bytes) tt front
+-- a sink that failed took nothing whole
+pub untaken : false ≡ true → ⊥
+untaken e = cc
 
-  pub says-begun : AppendsFront told now (codes "bytes ") → BlobSays IsBad f g told now (Err failed)
+module _ {E : Type 0} (Tells : Reply → Type 0) (IsBad : BadPage → Type 0) (f g : FlashState) (told now : Option (List ℕ)) (failed : E) where
+  pub says-failed : (bytes : List ℕ) → AppendsFront told now (text (reply.Bytes bytes)) → BlobSays Tells IsBad f g told now (Err failed)
+  says-failed bytes front = says-one Tells IsBad f g told now (Err failed) (reply.Bytes bytes) tt (λ taken. absurd (untaken taken)) front
+
+  pub says-begun : AppendsFront told now (codes "bytes ") → BlobSays Tells IsBad f g told now (Err failed)
   says-begun front = says-failed [] (front-more told now (codes "bytes ") (10 ∷ []) front)
 
-  pub says-sunk : (bytes : List ℕ) (begun : Option (List ℕ)) → Appends told begun (codes "bytes ") → AppendsFront begun now (hex_text bytes) → BlobSays IsBad f g told now (Err failed)
+  pub says-sunk : (bytes : List ℕ) (begun : Option (List ℕ)) → Appends told begun (codes "bytes ") → AppendsFront begun now (hex_text bytes) → BlobSays Tells IsBad f g told now (Err failed)
   says-sunk bytes begun first front = says-failed bytes (front-more told now (codes "bytes " ++ hex_text bytes) (10 ∷ []) (front-behind told begun now (codes "bytes ") (hex_text bytes) first front))
 
 -- seen from an earlier flash, of which no less is said
-module _ (Was IsBad : BadPage → Type 0) (a b c : FlashState) (only : OnlyReads a b) (so : (bad : BadPage) → Was bad → IsBad bad) where
+module _ (Told Tells : Reply → Type 0) (Was IsBad : BadPage → Type 0) (a b c : FlashState) (only : OnlyReads a b) (same : (last : Reply) → Told last → Tells last) (so : (bad : BadPage) → Was bad → IsBad bad) where
   later-unread : (last : Reply) → IsUnread Was b c last → IsUnread IsBad a c last
   later-unread reply.ReadFault h = (h.0, IsCaused-later a b c (fault.Flash h.0) only h.1)
   later-unread (reply.BadPage number) h = (h.0, h.1, so h.0 h.2)
   later-unread last h = absurd h
 
-  later-ends : (n : ℕ) (last : Reply) → EndsBlob Was b c n last → EndsBlob IsBad a c n last
-  later-ends zero last (inl is) = inl is
-  later-ends zero last (inr unread) = inr (later-unread last unread)
-  later-ends (suc zero) last h = later-unread last h
-  later-ends (suc (suc n)) last h = h
+  later-ends : (taken : Bool) (n : ℕ) (last : Reply) → EndsBlob Told Was b c taken n last → EndsBlob Tells IsBad a c taken n last
+  later-ends taken zero last (inl (is, tells)) = inl (is, λ took. same last (tells took))
+  later-ends taken zero last (inr unread) = inr (later-unread last unread)
+  later-ends taken (suc zero) last h = later-unread last h
+  later-ends taken (suc (suc n)) last h = h
 
-  pub says-later : {E : Type 0} (told now : Option (List ℕ)) (result : Result (Unit {0}) E) → BlobSays Was b c told now result → BlobSays IsBad a c told now result
-  says-later told now result h = record { lines = h.lines; are_lines = h.are_lines; last = h.last; ends = later-ends (length h.lines) h.last h.ends; written = h.written }
+  pub says-later : {E : Type 0} (told now : Option (List ℕ)) (result : Result (Unit {0}) E) → BlobSays Told Was b c told now result → BlobSays Tells IsBad a c told now result
+  says-later told now result h = record { lines = h.lines; are_lines = h.are_lines; last = h.last; ends = later-ends (is_ok result) (length h.lines) h.last h.ends; written = h.written }
 
 -- the digits of one more chunk
 pub digits-more : (told mid now : Option (List ℕ)) (bytes chunk : List ℕ) → Appends told mid (hex_text bytes) → Appends mid now (hex_text chunk) → Appends told now (hex_text (bytes ++ chunk))

@@ -1,12 +1,14 @@
 -- Lines that are listed over any bytes.
-use Rattle.std.proofs.Common.{◌≡◌, ℕ, ◌+◌, ◌-◌, ◌^◌, ◌<◌, Bool, inl, inr, Option, Some, Result, Ok, Err, IfErr, List, [], ◌∷◌, ◌++◌, length, refl, sym, ◌∙◌, ap, subst, arith, length-append}
+use Rattle.std.proofs.Common.{◌≡◌, ◌⊎◌, ℕ, ◌+◌, ◌-◌, ◌^◌, ◌<◌, Bool, true, false, inl, inr, Option, Some, Result, Ok, Err, IfOk, IfErr, List, [], ◌∷◌, ◌++◌, length, refl, sym, ◌∙◌, ap, subst, arith, length-append}
 use Rattle.std.specs.Borrow.{Bor}
-use Rattle.std.specs.Prelude.{IfSome}
+use Rattle.std.specs.Prelude.{IfSome, is_ok}
 use Rattle.std.specs.List.{AllByRecursion, slice_get}
 use Rattle.fl_base.specs.Causes.{Appends, AppendsFront}
 use Rattle.fl_base.specs.declared.stream.SinkFailed.{SinkFailed}
 use Rattle.fl_cursor.specs.Cursor.{IfBad, MayBeBad, table_of}
+use Rattle.fl_base.specs.declared.types.KeyRange.{KeyRange}
 use Rattle.fl_cursor.specs.Going.{Keeps}
+use Rattle.fl_cursor.specs.Sound.{IsSoundAhead}
 use Rattle.fl_cursor.specs.declared.bookmark.Bookmark.{Bookmark}
 use Rattle.fl_cursor.specs.declared.cursor.Cursor.{Cursor}
 use Rattle.fl_flash.specs.Flash.{FlashState}
@@ -25,8 +27,8 @@ use Rattle.fl_words.specs.Reply as reply
 use Rattle.fl_words.specs.Reply.{Reply, text, texts}
 use Rattle.fl_store.specs.declared.tables.Entry.{Entry}
 use Rattle.fl_rlc.specs.Table.{table_in}
-use Rattle.fl_session.specs.Caused.{IsOpen, NextMoves, OnlyLooks, state_of}
-use Rattle.fl_session.specs.ListSays.{EndsBy, EndsCounted, EndsNext, EndsOnBoth, GivesLines, IsLineOf, IsPair, ListSays, SaysEnd, WroteInto, WroteLines}
+use Rattle.fl_session.specs.Caused.{EndsPairs, IsOpen, NextMoves, OnlyLooks, state_of}
+use Rattle.fl_session.specs.ListSays.{EndsAt, EndsAtBoth, EndsBy, EndsCounted, EndsNext, EndsOnBoth, EndsScan, IsUnread, PassesNoBad, GivesLines, IsLineOf, IsPair, ListSays, SaysEnd, WroteInto, WroteLines}
 use Rattle.fl_session.specs.Listed.{IfUnread, SaysFault}
 use Rattle.fl_session.specs.Notes.{with_cursor}
 use Rattle.fl_session.specs.RowsGiven.{MovesOver}
@@ -73,41 +75,44 @@ module _ (WereLines AreLines : List Reply → Type 0) (most : ℕ) (told mid : O
     }
 
 -- a line that ends a list
-ended : {E : Type 0} (AreLines : List Reply → Type 0) (Ends : ℕ → Reply → Type 0) (most : ℕ) (told mid now : Option (List ℕ)) (count : ℕ) (result : Result (Unit {0}) E) (last : Reply) → WroteLines AreLines most told mid count → Ends count last → Written mid now result (text last) →
+ended : {E : Type 0} (AreLines : List Reply → Type 0) (Ends : Bool → ℕ → Reply → Type 0) (most : ℕ) (told mid now : Option (List ℕ)) (count : ℕ) (result : Result (Unit {0}) E) (last : Reply) → WroteLines AreLines most told mid count → Ends (is_ok result) count last → Written mid now result (text last) →
     ListSays AreLines Ends told now result
 ended AreLines Ends most told mid now count result last h ends wrote = record {
   lines = h.lines;
   are_lines = h.are_lines;
   last = last;
-  ends = subst (λ n. Ends n last) (sym h.many) ends;
+  ends = subst (λ n. Ends (is_ok result) n last) (sym h.many) ends;
   written = written-last h.lines last told mid now result h.wrote wrote;
 }
 
-module _ (AreLines : List Reply → Type 0) (ending : ℕ → Reply) (most : ℕ) (IsBad : BadPage → Type 0) (f g : FlashState) (told mid now : Option (List ℕ)) (result : Result (Unit {0}) SinkFailed) where
+module _ (AreLines : List Reply → Type 0) (ending : ℕ → Reply) (most : ℕ) (Sound : Type 0) (IsBad : BadPage → Type 0) (f g : FlashState) (told mid now : Option (List ℕ)) (result : Result (Unit {0}) SinkFailed) where
   -- all were given
-  pub list-ends : (count : ℕ) → GivesLines AreLines IsBad most told mid (Ok count) → Written mid now result (text (ending count)) → ListSays AreLines (EndsBy ending most IsBad f g) told now result
-  list-ends count h wrote = ended AreLines (EndsBy ending most IsBad f g) most told mid now count result (ending count) h (h.upto, inl refl) wrote
+  pub list-ends : (count : ℕ) → (count < most → Sound) → GivesLines AreLines IsBad most told mid (Ok count) → Written mid now result (text (ending count)) → ListSays AreLines (EndsBy ending most Sound IsBad f g) told now result
+  list-ends count sound h wrote = ended AreLines (EndsBy ending most Sound IsBad f g) most told mid now count result (ending count) h (h.upto, inl (refl, λ taken. sound)) wrote
 
   -- .. or the sink failed, or a page wasn't read
-  pub list-fails : (why : ListFault) → GivesLines AreLines IsBad most told mid (Err why) → IfUnread f g why → SaysFault why mid now result → ListSays AreLines (EndsBy ending most IsBad f g) told now result
+  pub list-fails : (why : ListFault) → GivesLines AreLines IsBad most told mid (Err why) → IfUnread f g why → SaysFault why mid now result → ListSays AreLines (EndsBy ending most Sound IsBad f g) told now result
   list-fails (Sink failed) h caused said =
-      subst (λ (r : Result (Unit {0}) SinkFailed). ListSays AreLines (EndsBy ending most IsBad f g) told now r) (sym said.0)
-      (subst (λ (o : Option (List ℕ)). ListSays {E = SinkFailed} AreLines (EndsBy ending most IsBad f g) told o (Err failed)) (sym said.1)
+      subst (λ (r : Result (Unit {0}) SinkFailed). ListSays AreLines (EndsBy ending most Sound IsBad f g) told now r) (sym said.0)
+      (subst (λ (o : Option (List ℕ)). ListSays {E = SinkFailed} AreLines (EndsBy ending most Sound IsBad f g) told o (Err failed)) (sym said.1)
       (record {
         lines = h.lines;
         are_lines = h.are_lines;
         last = ending (length h.lines);
-        ends = (h.upto, inl refl);
+        ends = (h.upto, inl (refl, λ taken. absurd (untaken taken)));
         written = front-last h.lines (ending (length h.lines)) told mid h.wrote;
       }))
-  list-fails (Read (fault.Flash e)) h caused said = ended AreLines (EndsBy ending most IsBad f g) most told mid now h.0.0 result reply.ReadFault h.0.1 (h.0.1.upto, inr (e, caused)) said
-  list-fails (Read (fault.BadPage bad)) h caused said = ended AreLines (EndsBy ending most IsBad f g) most told mid now h.0.0 result (reply.BadPage bad.wanted) h.0.1 (h.0.1.upto, inr (bad, refl, h.1)) said
+    where
+      untaken : false ≡ true → ⊥
+      untaken e = cc
+  list-fails (Read (fault.Flash e)) h caused said = ended AreLines (EndsBy ending most Sound IsBad f g) most told mid now h.0.0 result reply.ReadFault h.0.1 (h.0.1.upto, inr (e, caused)) said
+  list-fails (Read (fault.BadPage bad)) h caused said = ended AreLines (EndsBy ending most Sound IsBad f g) most told mid now h.0.0 result (reply.BadPage bad.wanted) h.0.1 (h.0.1.upto, inr (bad, refl, h.1)) said
 
 -- .. and it is said how many they are
-pub list-ended : (AreLines : List Reply → Type 0) (IsBad : BadPage → Type 0) (f g : FlashState) (told mid now : Option (List ℕ)) (result : Result (Unit {0}) SinkFailed) (listed : Result ℕ ListFault) → GivesLines AreLines IsBad (2 ^ 64 - 1) told mid listed → IfErr listed (IfUnread f g) → SaysEnd listed mid now result →
-    ListSays AreLines (EndsCounted IsBad f g) told now result
-list-ended AreLines IsBad f g told mid now result (Ok count) h unread said = list-ends AreLines reply.EndCount (2 ^ 64 - 1) IsBad f g told mid now result count h said
-list-ended AreLines IsBad f g told mid now result (Err why) h unread said = list-fails AreLines reply.EndCount (2 ^ 64 - 1) IsBad f g told mid now result why h unread said
+pub list-ended : (AreLines : List Reply → Type 0) (Sound : Type 0) (IsBad : BadPage → Type 0) (f g : FlashState) (told mid now : Option (List ℕ)) (result : Result (Unit {0}) SinkFailed) (listed : Result ℕ ListFault) → IfOk listed (λ count. count < 2 ^ 64 - 1 → Sound) → GivesLines AreLines IsBad (2 ^ 64 - 1) told mid listed → IfErr listed (IfUnread f g) → SaysEnd listed mid now result →
+    ListSays AreLines (EndsCounted Sound IsBad f g) told now result
+list-ended AreLines Sound IsBad f g told mid now result (Ok count) sound h unread said = list-ends AreLines reply.EndCount (2 ^ 64 - 1) Sound IsBad f g told mid now result count sound h said
+list-ended AreLines Sound IsBad f g told mid now result (Err why) sound h unread said = list-fails AreLines reply.EndCount (2 ^ 64 - 1) Sound IsBad f g told mid now result why h unread said
 
 -- a page that isn't read while a cursor goes on is one of its table
 pub bad-from : (first mid : Cursor 64 64) (f between : FlashState) (e : ReadFault) → Keeps first mid → contents_of between ≡ contents_of f → IfBad (MayBeBad (table_of mid) (contents_of between)) e → IfBad (MayBeBad (table_of first) (contents_of f)) e
@@ -125,34 +130,62 @@ pub made-line : (IsLine : Reply → Type 0) (o : Option code.Reply) (made : code
 made-line IsLine o made is h = subst (λ (x : Option code.Reply). IfSome x (λ reply. IsLineOf IsLine reply)) is h
 
 -- lines that were made, of which something holds in whichever state they leave
-pub lists-made : {Lines E : Type 0} {Made : Lines → List Reply → Type 0} (AreLines : List Reply → Type 0) (Ends : ℕ → Reply → Type 0) (told now : Option (List ℕ)) (result : Result (Unit {0}) E) →
+pub lists-made : {Lines E : Type 0} {Made : Lines → List Reply → Type 0} (AreLines : List Reply → Type 0) (Ends : Bool → ℕ → Reply → Type 0) (told now : Option (List ℕ)) (result : Result (Unit {0}) E) →
     ListSays (λ lines. (last : Lines) × Made last lines) Ends told now result → ((last : Lines) (lines : List Reply) → Made last lines → AreLines lines) → ListSays AreLines Ends told now result
 lists-made AreLines Ends told now result h are = record { lines = h.lines; are_lines = are h.are_lines.0 h.lines h.are_lines.1; last = h.last; ends = h.ends; written = h.written }
 
 -- lines of the table, by whichever name
-pub lists-of : (AreLines : Table 64 64 → List Reply → Type 0) (Ends : Table 64 64 → FlashState → FlashState → ℕ → Reply → Type 0) (t u : Table 64 64) (f g : FlashState) (told told_now : Option (List ℕ)) (result : Result (Unit {0}) SinkFailed) → t ≡ u →
+pub lists-of : (AreLines : Table 64 64 → List Reply → Type 0) (Ends : Table 64 64 → FlashState → FlashState → Bool → ℕ → Reply → Type 0) (t u : Table 64 64) (f g : FlashState) (told told_now : Option (List ℕ)) (result : Result (Unit {0}) SinkFailed) → t ≡ u →
     ListSays (AreLines t) (Ends t f g) told told_now result → ListSays (AreLines u) (Ends u f g) told told_now result
 lists-of AreLines Ends t u f g told told_now result same h = subst (λ (x : Table 64 64). ListSays (AreLines x) (Ends x f g) told told_now result) same h
 
-pub lists-of_both : (t u v w : Table 64 64) (f g : FlashState) (told told_now : Option (List ℕ)) (result : Result (Unit {0}) SinkFailed) → t ≡ v → u ≡ w → ListSays (AllByRecursion IsPair) (EndsOnBoth t u f g) told told_now result →
-    ListSays (AllByRecursion IsPair) (EndsOnBoth v w f g) told told_now result
-lists-of_both t u v w f g told told_now result left right h =
-    subst (λ (x : Table 64 64). ListSays (AllByRecursion IsPair) (EndsOnBoth v x f g) told told_now result) right (subst (λ (x : Table 64 64). ListSays (AllByRecursion IsPair) (EndsOnBoth x u f g) told told_now result) left h)
+pub lists-of_both : (range : KeyRange) (t u v w : Table 64 64) (f g : FlashState) (told told_now : Option (List ℕ)) (result : Result (Unit {0}) SinkFailed) → t ≡ v → u ≡ w → ListSays (AllByRecursion IsPair) (EndsPairs range t u f g) told told_now result →
+    ListSays (AllByRecursion IsPair) (EndsPairs range v w f g) told told_now result
+lists-of_both range t u v w f g told told_now result left right h =
+    subst (λ (x : Table 64 64). ListSays (AllByRecursion IsPair) (EndsPairs range v x f g) told told_now result) right (subst (λ (x : Table 64 64). ListSays (AllByRecursion IsPair) (EndsPairs range x u f g) told told_now result) left h)
+
+-- what a cursor's list ends with, by its mark
+module _ (cursor : Cursor 64 64) (mark : Bookmark) (t : Table 64 64) (f g : FlashState) (same : table_of cursor ≡ t) (turn : IsSoundAhead cursor (contents_of f) → PassesNoBad mark t f) where
+  scan-ends : (taken : Bool) (count : ℕ) (last : Reply) → EndsAt cursor f g taken count last → EndsScan mark t f g taken count last
+  scan-ends taken count last (few, inl (is, sound)) = (few, inl (is, λ took less. turn (sound took less)))
+  scan-ends taken count last (few, inr unread) = (few, inr (subst (λ (x : Table 64 64). IsUnread (MayBeBad x (contents_of f)) f g last) same unread))
+
+  pub lists-scan : (AreLines : List Reply → Type 0) (told now : Option (List ℕ)) (result : Result (Unit {0}) SinkFailed) → ListSays AreLines (EndsAt cursor f g) told now result → ListSays AreLines (EndsScan mark t f g) told now result
+  lists-scan AreLines told now result h = record { lines = h.lines; are_lines = h.are_lines; last = h.last; ends = scan-ends (is_ok result) (length h.lines) h.last h.ends; written = h.written }
+
+-- .. and that of two
+module _ (left right : Cursor 64 64) (a b : Bookmark) (t u : Table 64 64) (f g : FlashState) (left_is : table_of left ≡ t) (right_is : table_of right ≡ u)
+    (left_turn : IsSoundAhead left (contents_of f) → PassesNoBad a t f) (right_turn : IsSoundAhead right (contents_of f) → PassesNoBad b u f) where
+  either : IsSoundAhead left (contents_of f) ⊎ IsSoundAhead right (contents_of f) → PassesNoBad a t f ⊎ PassesNoBad b u f
+  either (inl s) = inl (left_turn s)
+  either (inr s) = inr (right_turn s)
+
+  pair-ends : (taken : Bool) (count : ℕ) (last : Reply) → EndsAtBoth left right f g taken count last → EndsOnBoth a b t u f g taken count last
+  pair-ends taken count last (few, inl (is, sound)) = (few, inl (is, λ took less. either (sound took less)))
+  pair-ends taken count last (few, inr unread) = (
+    few,
+    inr
+        (subst (λ (x : Table 64 64). IsUnread (λ bad. MayBeBad t (contents_of f) bad ⊎ MayBeBad x (contents_of f) bad) f g last) right_is
+        (subst (λ (x : Table 64 64). IsUnread (λ bad. MayBeBad x (contents_of f) bad ⊎ MayBeBad (table_of right) (contents_of f) bad) f g last) left_is unread)),
+  )
+
+  pub lists-pairs : (told now : Option (List ℕ)) (result : Result (Unit {0}) SinkFailed) → ListSays (AllByRecursion IsPair) (EndsAtBoth left right f g) told now result → ListSays (AllByRecursion IsPair) (EndsOnBoth a b t u f g) told now result
+  lists-pairs told now result h = record { lines = h.lines; are_lines = h.are_lines; last = h.last; ends = pair-ends (is_ok result) (length h.lines) h.last h.ends; written = h.written }
 
 -- a table of a session was looked at, and lines of it were listed
-pub looks-lists : (entries : List Entry) (mounted : Bool) (a b c : Notes) (AreLines : Table 64 64 → List Reply → Type 0) (Ends : Table 64 64 → FlashState → FlashState → ℕ → Reply → Type 0) (t u : Table 64 64) (f g : FlashState) (told told_now : Option (List ℕ)) (result : Result (Unit {0}) SinkFailed) →
+pub looks-lists : (entries : List Entry) (mounted : Bool) (a b c : Notes) (AreLines : Table 64 64 → List Reply → Type 0) (Ends : Table 64 64 → FlashState → FlashState → Bool → ℕ → Reply → Type 0) (t u : Table 64 64) (f g : FlashState) (told told_now : Option (List ℕ)) (result : Result (Unit {0}) SinkFailed) →
     b ≡ c → OnlyReads f g → t ≡ u → ListSays (AreLines t) (Ends t f g) told told_now result → OnlyLooks (state_of entries mounted a f) (state_of entries mounted b g) c × ListSays (AreLines u) (Ends u f g) told told_now result
 looks-lists entries mounted a b c AreLines Ends t u f g told told_now result noted reads same h = (only-looks entries mounted a b c f g noted reads, lists-of AreLines Ends t u f g told told_now result same h)
 
 -- .. by a cursor, which moved
 pub next-moves : (entries : List Entry) (mounted : Bool) (a b : Notes) (n count : ℕ) (held : TableCursor) (entry : Entry) (t : Table 64 64) (mark : Bookmark) (f g : FlashState) (told told_now : Option (List ℕ)) (result : Result (Unit {0}) SinkFailed) →
     IsOpen (state_of entries mounted a f) n held → slice_get entries held.table ≡ Some entry → b ≡ with_cursor a n (Some (record held { mark = mark })) → OnlyReads f g → t ≡ table_in entry.table →
-    ListSays (MovesOver (has_blobs t) held.mark mark) (EndsNext count t f g) told told_now result → NextMoves (state_of entries mounted a f) (state_of entries mounted b g) n count told told_now result
+    ListSays (MovesOver (has_blobs t) held.mark mark) (EndsNext count held.mark t f g) told told_now result → NextMoves (state_of entries mounted a f) (state_of entries mounted b g) n count told told_now result
 next-moves entries mounted a b n count held entry t mark f g told told_now result is_open here moved reads same h =
-    let both = looks-lists entries mounted a b (with_cursor a n (Some (record held { mark = mark }))) (λ (x : Table 64 64). MovesOver (has_blobs x) held.mark mark) (EndsNext count) t (table_in entry.table) f g told told_now result moved reads same h in
+    let both = looks-lists entries mounted a b (with_cursor a n (Some (record held { mark = mark }))) (λ (x : Table 64 64). MovesOver (has_blobs x) held.mark mark) (EndsNext count held.mark) t (table_in entry.table) f g told told_now result moved reads same h in
     record { held = held; is_open = is_open; entry = entry; here = here; mark = mark; lists = both.1; looks = both.0 }
 
 -- two tables of a session were looked at, and pairs of their rows were listed
-pub looks-pairs : (entries : List Entry) (mounted : Bool) (a b c : Notes) (t u v w : Table 64 64) (f g : FlashState) (told told_now : Option (List ℕ)) (result : Result (Unit {0}) SinkFailed) → b ≡ c → OnlyReads f g → t ≡ v → u ≡ w →
-    ListSays (AllByRecursion IsPair) (EndsOnBoth t u f g) told told_now result → OnlyLooks (state_of entries mounted a f) (state_of entries mounted b g) c × ListSays (AllByRecursion IsPair) (EndsOnBoth v w f g) told told_now result
-looks-pairs entries mounted a b c t u v w f g told told_now result noted reads left right h = (only-looks entries mounted a b c f g noted reads, lists-of_both t u v w f g told told_now result left right h)
+pub looks-pairs : (entries : List Entry) (mounted : Bool) (a b c : Notes) (range : KeyRange) (t u v w : Table 64 64) (f g : FlashState) (told told_now : Option (List ℕ)) (result : Result (Unit {0}) SinkFailed) → b ≡ c → OnlyReads f g → t ≡ v → u ≡ w →
+    ListSays (AllByRecursion IsPair) (EndsPairs range t u f g) told told_now result → OnlyLooks (state_of entries mounted a f) (state_of entries mounted b g) c × ListSays (AllByRecursion IsPair) (EndsPairs range v w f g) told told_now result
+looks-pairs entries mounted a b c range t u v w f g told told_now result noted reads left right h = (only-looks entries mounted a b c f g noted reads, lists-of_both range t u v w f g told told_now result left right h)

@@ -1,5 +1,5 @@
 -- Bad pages of a blob, and of the lookup of its record, seen from an earlier flash.
-use Rattle.std.proofs.Common.{◌≡◌, ◌⊎◌, ℕ, ◌≤◌, Bool, inl, inr, IfErr, IsTrue, Option, Some, None, Result, Ok, Err, List, ap, subst}
+use Rattle.std.proofs.Common.{◌≡◌, ◌⊎◌, ◌+◌, ◌-◌, ◌<◌, true, false, take, drop, refl, ◌∙◌, ℕ, ◌≤◌, Bool, inl, inr, IfErr, IsTrue, Option, Some, None, Result, Ok, Err, List, ap, subst}
 use Rattle.std.specs.Prelude.{if◌then◌else◌, ◌==◌}
 use Rattle.fl_base.specs.declared.types.BlobRef.{BlobRef}
 use Rattle.fl_find.specs.Pages.{IsBadPage}
@@ -21,18 +21,26 @@ use Rattle.fl_table.specs.Kept.{place_of}
 use Rattle.fl_table.specs.Look.{layout_in}
 use Rattle.fl_table.specs.declared.table.Table.{Table}
 use Rattle.fl_base.specs.declared.stream.SinkFailed.{SinkFailed}
-use Rattle.fl_var.specs.Blobs.{IsBadFirst, IsBadLater}
+use Rattle.fl_var.specs.Blobs.{IsBadFirst, IsBadLater, IsGone, bytes_of, contents_from}
 use Rattle.fl_var.specs.Content.{HasContent, content_body}
-use Rattle.fl_var.specs.Memory.{image_in, next_in, room_in, var_shape, waiting_in}
-use Rattle.fl_var.specs.Reading.{data_of, turned, IfBad, Opens, Reads}
+use Rattle.fl_var.specs.Memory.{image_in, next_in, oldest_in, room_in, var_shape, waiting_in}
+use Rattle.fl_var.specs.Reading.{data_of, turned, IfBad, Opened, Opens, Reads}
 use Rattle.fl_var.specs.declared.reader.BlobReader.{BlobReader}
 use Rattle.fl_var.specs.declared.var_data.VarData.{VarData}
 use Rattle.fl_store.specs.declared.tables.Entry.{Entry}
-use Rattle.fl_session.specs.BlobSays.{AreBadIn, BlobSays, IsBadAhead, MayBeBadFor}
+use Rattle.fl_session.specs.BlobSays.{AnswersBlob, AreBadIn, BlobSays, IsBadAhead, IsLeft, MayBeBadFor, NamesFor, TellsBlob, TellsLeft}
 use Rattle.fl_session.specs.Caused.{OnlyLooks, state_of}
 use Rattle.fl_session.specs.declared.notes.Notes.{Notes}
 use Rattle.fl_session.proofs.GetReplies.{pages-read, tells-read}
 use Rattle.fl_session.proofs.ReplyCauses.{only-looks}
+use Rattle.fl_store.proofs.Readers.{bytes-kept, reads-kept}
+use Rattle.fl_session.specs.BlobShown.{found_in}
+use Rattle.fl_session.specs.Found.{FindsRow}
+use Rattle.fl_frame.specs.Reads as looking
+use Rattle.fl_model.specs.Row.{Row}
+use Rattle.fl_words.specs.Reply as reply
+use Rattle.fl_words.specs.Reply.{Reply}
+use Rattle.std.specs.Option.{IsSomeAnd}
 
 module _ (f g : FlashState) (only : OnlyReads f g) where
   images : (v : VarData) → image_in v g ≡ image_in v f
@@ -78,6 +86,61 @@ module _ (f g : FlashState) (only : OnlyReads f g) where
       let later = h (ready told) in
       inr (subst (λ (var : Option VarData). AreBadIn var f bad) is (inr (later.0, later-held v later.0 bad (subst (λ (x : VarData). IsBadLater x g later.0 bad) same later.1))))
 
+-- what was told of a blob, seen from an earlier flash
+module _ (t : Table 64 64) (key : ℕ) (f g : FlashState) (only : OnlyReads f g) (at : BlobRef) where
+  gone-held : (v : VarData) → IsGone v g at → IsGone v f at
+  gone-held v h = record {
+    some = h.some;
+    sealed = h.sealed;
+    lost = subst (λ (page : ℕ → List ℕ). (at.page < oldest_in v) ⊎ (state_of_page (page (place (var_shape v) at.page)) ≡ Committed → ⊥)) (pages-read f g only) h.lost;
+  }
+
+  bytes-held : (v : VarData) → bytes_of v g at ≡ bytes_of v f at
+  bytes-held v = ap (λ (image : ℕ → List ℕ). take at.length (drop at.offset (contents_from image at.page (next_in v + 1 - at.page)))) (images f g only v)
+
+  gone-in : (var : Option VarData) → IsSomeAnd var (λ v. IsGone v g at) → IsSomeAnd var (λ v. IsGone v f at)
+  gone-in None h = h
+  gone-in (Some v) h = gone-held v h
+
+  bytes-in : (bytes : List ℕ) (var : Option VarData) → IsSomeAnd var (λ v. bytes ≡ bytes_of v g at) → IsSomeAnd var (λ v. bytes ≡ bytes_of v f at)
+  bytes-in bytes None h = h
+  bytes-in bytes (Some v) h = h ∙ bytes-held v
+
+  names : (said : Reply) → FindsRow t key f (λ row. row.blob ≡ Some at) → TellsBlob t f at said → FindsRow t key f (λ row. (place : BlobRef) × (row.blob ≡ Some place) × TellsBlob t f place said)
+  names said h tells = record { row = h.row; holds = (at, h.holds, tells); key_is = h.key_is; place = h.place; here = h.here; answers = h.answers }
+
+  pub answers-held : FindsRow t key f (λ row. row.blob ≡ Some at) → (said : Reply) → TellsBlob t g at said → AnswersBlob t key f said
+  answers-held h reply.Gone tells = names reply.Gone h (λ told. gone-in (data_in t) (tells (tells-read f g only told)))
+  answers-held h reply.BytesEmpty tells = names reply.BytesEmpty h tells
+  answers-held h (reply.Bytes bytes) tells = names (reply.Bytes bytes) h (λ told. bytes-in bytes (data_in t) (tells (tells-read f g only told)))
+  answers-held h said tells = absurd tells
+
+-- what a row tells of its blob
+pub names-row : (t : Table 64 64) (key : ℕ) (f : FlashState) (row : Row) → FindsRow t key f (λ r. r ≡ row) → NamesFor t key f (found_in row.blob)
+names-row t key f row h = by_blob row.blob refl
+  where
+    found : (blob : Option BlobRef) → row.blob ≡ blob → FindsRow t key f (λ r. r.blob ≡ blob)
+    found blob is = record { row = h.row; holds = ap (λ (r : Row). r.blob) h.holds ∙ is; key_is = h.key_is; place = h.place; here = h.here; answers = h.answers }
+
+    by_blob : (blob : Option BlobRef) → row.blob ≡ blob → NamesFor t key f (found_in blob)
+    by_blob None is = found None is
+    by_blob (Some at) is = found (Some at) is
+
+-- what is told of the bytes that a reader has left is told of the blob
+pub left-told : (t : Table 64 64) (at : BlobRef) (f : FlashState) (r : BlobReader) (g : FlashState) → ((bytes : List ℕ) → IsLeft r g bytes → TellsBlob t f at (reply.Bytes bytes)) → (said : Reply) → TellsLeft r g said → TellsBlob t f at said
+left-told t at f r g left (reply.Bytes bytes) tells = left bytes tells
+left-told t at f r g left said tells = absurd tells
+
+-- a blob was opened, or is gone
+module _ (t : Table 64 64) (f g : FlashState) (only : looking.OnlyReads f 1 g) (v : VarData) (at : BlobRef) (stands : Result Bool ReadFault) (r : BlobReader) (is : Some v ≡ data_in t) (opens : IsTrue f.media.tells → Opens v f at (turned stands r)) where
+  pub opened-gone : stands ≡ Ok false → TellsBlob t f at reply.Gone
+  opened-gone e = λ told. subst (λ (var : Option VarData). IsSomeAnd var (λ x. IsGone x f at)) is (subst (λ (s : Result Bool ReadFault). Opens v f at (turned s r)) e (opens told))
+
+  pub opened-left : stands ≡ Ok true → (bytes : List ℕ) → IsLeft r g bytes → TellsBlob t f at (reply.Bytes bytes)
+  opened-left e bytes left = λ told.
+      let opened : Opened v f at r = subst (λ (s : Result Bool ReadFault). Opens v f at (turned s r)) e (opens told) in
+      subst (λ (var : Option VarData). IsSomeAnd var (λ x. bytes ≡ bytes_of x f at)) is (left (reads-kept r f g 1 only opened.reads) ∙ (bytes-kept r f g 1 only ∙ opened.left))
+
 -- a lookup that fails so
 pub looked-bad : (t : Table 64 64) (f g : FlashState) (e : ReadFault) → LookupFails t f e g → IfBad (MayBeBadFor t f) e
 looked-bad t f g (fault.Flash x) h = tt
@@ -90,7 +153,7 @@ opened-bad t f g v at (Err (fault.Flash e)) r is opens caused = (caused, tt)
 opened-bad t f g v at (Err (fault.BadPage bad)) r is opens caused = (caused, λ told. inr (subst (λ (var : Option VarData). AreBadIn var f bad) is (inl (at, (opens told).1))))
 
 -- a table of a session was looked at, and a blob of it was told
-pub looks-blob : (entries : List Entry) (mounted : Bool) (a b c : Notes) (t u : Table 64 64) (f g : FlashState) (told now : Option (List ℕ)) (result : Result (Unit {0}) SinkFailed) → b ≡ c → OnlyReads f g → t ≡ u → BlobSays (MayBeBadFor t f) f g told now result →
-    OnlyLooks (state_of entries mounted a f) (state_of entries mounted b g) c × BlobSays (MayBeBadFor u f) f g told now result
-looks-blob entries mounted a b c t u f g told now result noted reads same h =
-    (only-looks entries mounted a b c f g noted reads, subst (λ (x : Table 64 64). BlobSays (MayBeBadFor x f) f g told now result) same h)
+pub looks-blob : (entries : List Entry) (mounted : Bool) (a b c : Notes) (key : ℕ) (t u : Table 64 64) (f g : FlashState) (told now : Option (List ℕ)) (result : Result (Unit {0}) SinkFailed) → b ≡ c → OnlyReads f g → t ≡ u → BlobSays (AnswersBlob t key f) (MayBeBadFor t f) f g told now result →
+    OnlyLooks (state_of entries mounted a f) (state_of entries mounted b g) c × BlobSays (AnswersBlob u key f) (MayBeBadFor u f) f g told now result
+looks-blob entries mounted a b c key t u f g told now result noted reads same h =
+    (only-looks entries mounted a b c f g noted reads, subst (λ (x : Table 64 64). BlobSays (AnswersBlob x key f) (MayBeBadFor x f) f g told now result) same h)

@@ -34,7 +34,8 @@ use Rattle.fl_table.specs.declared.find.RowAt.{RowAt}
 use Rattle.fl_table.specs.declared.find.RowAt.TheVariants as at
 use Rattle.fl_table.specs.declared.table.Table.{Table}
 use Rattle.fl_table.proofs.PendingRows.{entry-front}
-use Rattle.fl_session.specs.Caused.{StandsAt, TellsRow}
+use Rattle.fl_session.specs.Caused.{TellsRow}
+use Rattle.fl_session.specs.Found.{FindsRow, StandsAt}
 use Rattle.fl_session.specs.Looked.{Looks}
 use Rattle.fl_session.specs.Rows.{row_reply}
 use Rattle.fl_session.proofs.RowLines.{row-line}
@@ -154,13 +155,18 @@ row-stands t f g buf (at.InPage place) row looks holds here = (
       ap (λ (bytes : List ℕ). slice_get (rows_on (layout_in t) bytes) place.row) (sym same) ∙ here,
 )
 
-pub tells-row : (t : Table 64 64) (key : ℕ) (f g : FlashState) (buf : BufferState) (place : RowAt) (row : Row) (blobs : Bool) → blobs ≡ has_blobs t → OnlyReads f g → HoldsIts t g buf place → row_in t buf place ≡ Some row →
-    HasKeyAt t buf key place → IsAnswered t f key (Some place) → TellsRow t key f (row_reply blobs row)
-tells-row t key f g buf place row blobs noted reads holds here has answers = record {
+pub finds-row : (t : Table 64 64) (key : ℕ) (f g : FlashState) (buf : BufferState) (place : RowAt) (row : Row) (Holds : Row → Type 0) → Holds row → OnlyReads f g → HoldsIts t g buf place → row_in t buf place ≡ Some row →
+    HasKeyAt t buf key place → IsAnswered t f key (Some place) → FindsRow t key f Holds
+finds-row t key f g buf place row Holds so reads holds here has answers = record {
   row = row;
-  said_is = ap (λ b. row_reply b row) noted;
+  holds = so;
   key_is = same-some row.key key (sym (ap (option_map (λ (r : Row). r.key)) here) ∙ has);
   place = place;
   here = row-stands t f g buf place row (record { reads = reads; power = reads.power; cuts = reads.cuts }) holds here;
   answers = answers;
 }
+
+pub tells-row : (t : Table 64 64) (key : ℕ) (f g : FlashState) (buf : BufferState) (place : RowAt) (row : Row) (blobs : Bool) → blobs ≡ has_blobs t → OnlyReads f g → HoldsIts t g buf place → row_in t buf place ≡ Some row →
+    HasKeyAt t buf key place → IsAnswered t f key (Some place) → TellsRow t key f (row_reply blobs row)
+tells-row t key f g buf place row blobs noted reads holds here has answers =
+    finds-row t key f g buf place row (λ (r : Row). row_reply blobs row ≡ row_reply (has_blobs t) r) (ap (λ b. row_reply b row) noted) reads holds here has answers

@@ -4,6 +4,7 @@ use Rattle.std.specs.Prelude.{◌↔◌, is_err, OnOk}
 use Rattle.std.specs.List.{slice_get}
 use Rattle.std.specs.Option.{is_none}
 use Rattle.std.proofs.lemmas.Bool.{lt-ltb, le-ltb}
+use Rattle.fl_base.specs.declared.types.KeyRange.{KeyRange}
 use Rattle.fl_model.specs.Record.{RowLayout}
 use Rattle.fl_frame.specs.Contents.{OnlyReads}
 use Rattle.fl_cursor.specs.declared.bookmark.Bookmark.{Bookmark}
@@ -30,8 +31,8 @@ use Rattle.fl_words.specs.Reply.{Reply, text}
 use Rattle.fl_session.proofs.NextCommand.{nothing-added}
 use Rattle.fl_session.specs.Answer.{IsReached, Refusal}
 use Rattle.fl_session.specs.Asked.{lacked_column}
-use Rattle.fl_session.specs.Caused.{Caused, State, state_of, Says, Writes, IsRefused, IsHere, OnTable, IfLacks, OnlyLooks, PutFails, FlushFails, LoadCounts}
-use Rattle.fl_session.specs.ListSays.{EndsOn, ListSays}
+use Rattle.fl_session.specs.Caused.{Caused, EndsRange, State, state_of, Says, Writes, IsRefused, IsHere, OnTable, IfLacks, OnlyLooks, PutFails, FlushFails, LoadCounts}
+use Rattle.fl_session.specs.ListSays.{ListSays}
 use Rattle.fl_session.specs.Notes.{with_cursor}
 use Rattle.fl_session.specs.declared.notes.Notes.{Notes}
 use Rattle.fl_session.specs.declared.notes.TableCursor.{TableCursor}
@@ -75,12 +76,12 @@ has-one layout column within =
     let is : nat_lt (length layout.columns) column ≡ false = le-ltb (length layout.columns) column within in
     rw is refl
 
-module _ (E : Type 0) (old new : State) (AreLines : List Reply → Type 0) (entry : Entry) (told told_now : Option (List ℕ)) (result : Result (Unit {0}) E) (o : Option ℕ) where
-  pub lacks-says : (column : ℕ) → o ≡ Some column → new ≡ old → Written told told_now result (text (reply.NoColumn column)) → IfLacks old new AreLines entry told told_now result o
-  lacks-says column lacks same wrote = subst (λ (x : Option ℕ). IfLacks old new AreLines entry told told_now result x) (sym lacks) (record { reply = reply.NoColumn column; written = wrote; holds = (refl, same) })
+module _ (E : Type 0) (old new : State) (range : KeyRange) (AreLines : List Reply → Type 0) (entry : Entry) (told told_now : Option (List ℕ)) (result : Result (Unit {0}) E) (o : Option ℕ) where
+  pub lacks-says : (column : ℕ) → o ≡ Some column → new ≡ old → Written told told_now result (text (reply.NoColumn column)) → IfLacks old new range AreLines entry told told_now result o
+  lacks-says column lacks same wrote = subst (λ (x : Option ℕ). IfLacks old new range AreLines entry told told_now result x) (sym lacks) (record { reply = reply.NoColumn column; written = wrote; holds = (refl, same) })
 
-  pub has-says : o ≡ None → OnlyLooks old new old.notes × ListSays AreLines (EndsOn (table_in entry.table) old.flash new.flash) told told_now result → IfLacks old new AreLines entry told told_now result o
-  has-says none both = subst (λ (x : Option ℕ). IfLacks old new AreLines entry told told_now result x) (sym none) both
+  pub has-says : o ≡ None → OnlyLooks old new old.notes × ListSays AreLines (EndsRange range (table_in entry.table) old.flash new.flash) told told_now result → IfLacks old new range AreLines entry told told_now result o
+  has-says none both = subst (λ (x : Option ℕ). IfLacks old new range AreLines entry told told_now result x) (sym none) both
 
 -- a cursor that isn't open, and one that is
 pub closed-as : (cursors : List (Option TableCursor)) (n : ℕ) (o : Option TableCursor) → slice_get cursors n ≡ Some o → is_none o ≡ true → slice_get cursors n ≡ Some None

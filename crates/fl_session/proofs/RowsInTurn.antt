@@ -44,7 +44,7 @@ module _ (blobs : Bool) (first mid new : Bookmark) (lines : List Reply) (over : 
     mark_is = mark-more first mid new over.are_rows.rows row over.mark_is moved;
   }
 
-module _ {E : Type 0} (Ends : ℕ → Reply → Type 0) (told now : Option (List ℕ)) (result : Result (Unit {0}) E) (blobs with_notes : Bool) (first mark behind : Bookmark) (noted : blobs ≡ with_notes) (is : first ≡ mark) where
+module _ {E : Type 0} (Ends : Bool → ℕ → Reply → Type 0) (told now : Option (List ℕ)) (result : Result (Unit {0}) E) (blobs with_notes : Bool) (first mark behind : Bookmark) (noted : blobs ≡ with_notes) (is : first ≡ mark) where
   -- the same marks by other names
   pub moves-by : (new : Bookmark) → behind ≡ new → ListSays (MovesOver blobs first behind) Ends told now result → ListSays (MovesOver with_notes mark new) Ends told now result
   moves-by new stays h =

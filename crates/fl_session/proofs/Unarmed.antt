@@ -1,6 +1,6 @@
 -- Where no cut is armed no command says that the power was lost, and only a cut arms one.
 use Rattle.std.proofs.Common.{◌≡◌, ℕ, zero, suc, ◌-◌, ◌^◌, ◌⊎◌, Bool, true, false, inl, inr, Option, Some, None, Result, Ok, Err, IfErr, List, [], ◌∷◌, ◌++◌, length, map, refl, sym, ◌∙◌, ap, subst}
-use Rattle.std.specs.Prelude.{◌==◌, if◌then◌else◌, ℤ}
+use Rattle.std.specs.Prelude.{◌==◌, if◌then◌else◌, is_ok, ℤ}
 use Rattle.std.specs.List.{AllByRecursion}
 use Rattle.fl_base.specs.declared.stream.SinkFailed.{SinkFailed}
 use Rattle.fl_flash.specs.Flash.{FlashState, Goes}
@@ -10,6 +10,7 @@ use Rattle.fl_frame.specs.Contents.{contents_of}
 use Rattle.fl_frame.proofs.WatchedInTurn.{never-lost}
 use Rattle.fl_cursor.specs.Asked.{above_range}
 use Rattle.fl_cursor.specs.Cursor.{MayBeBad}
+use Rattle.fl_base.specs.declared.types.KeyRange.{KeyRange}
 use Rattle.fl_cursor.specs.declared.bookmark.Bookmark.{Bookmark}
 use Rattle.fl_machine.specs.Machine as machine
 use Rattle.fl_machine.specs.Step.{cost_reply}
@@ -37,11 +38,11 @@ use Rattle.fl_words.specs.Reply.{Reply}
 use Rattle.fl_session.proofs.ExecutedCommand.{one-text}
 use Rattle.fl_session.specs.Answer.{bad_reply, load_replies, mount_reply}
 use Rattle.fl_session.specs.Asked.{lacked_column}
-use Rattle.fl_session.specs.BlobSays.{EndsBlob, IsBlob, IsBytes, MayBeBadFor}
-use Rattle.fl_session.specs.Caused.{Caused, CloseSays, CostSays, CutSays, FlushFails, FlushSays, GetSays, IfLacks, IsHere, IsPowered, IsRefused, LookSays, MountSays, OffSays, OnlyLooks, OnTable, OpenSays, PutFails, PutSays, StatSays, State, Writes, mark_on}
+use Rattle.fl_session.specs.BlobSays.{AnswersBlob, EndsBlob, IsBlob, IsBytes, MayBeBadFor}
+use Rattle.fl_session.specs.Caused.{Caused, CloseSays, CostSays, CutSays, EndsPairs, EndsRange, FlushFails, FlushSays, GetSays, IfLacks, IsHere, IsPowered, IsRefused, LookSays, MountSays, OffSays, OnlyLooks, OnTable, OpenSays, PutFails, PutSays, StatSays, State, Writes, mark_on}
 use Rattle.fl_session.specs.CausedEach.{CausedEach}
 use Rattle.fl_session.specs.Cost.{cost_of}
-use Rattle.fl_session.specs.ListSays.{EndsBy, EndsNext, EndsOn, EndsOnBoth, IsFields, IsGroup, IsPair, IsUnread, ListSays}
+use Rattle.fl_session.specs.ListSays.{EndsBy, EndsCounted, EndsNext, EndsScan, PassesNoBad, IsFields, IsGroup, IsPair, IsUnread, ListSays}
 use Rattle.fl_session.specs.LoadSays.{LoadFails}
 use Rattle.fl_session.specs.Nexts.{ending_of}
 use Rattle.fl_session.specs.Rising.{AreRising, IsRow}
@@ -92,18 +93,18 @@ and-last : (lines : List Reply) (last : Reply) → AllByRecursion IsNoLoss lines
 and-last [] last are ends = (ends, tt)
 and-last (line ∷ lines) last are ends = (are.0, and-last lines last are.1 ends)
 
-listed : {E : Type 0} (AreLines : List Reply → Type 0) (Ends : ℕ → Reply → Type 0) (told told_now : Option (List ℕ)) (result : Result (Unit {0}) E) → ListSays {E = E} AreLines Ends told told_now result →
-    ((lines : List Reply) → AreLines lines → AllByRecursion IsNoLoss lines) → ((count : ℕ) (last : Reply) → Ends count last → last ≡ reply.PowerLost → ⊥) → SaysNoLoss {E = E} told told_now result
+listed : {E : Type 0} (AreLines : List Reply → Type 0) (Ends : Bool → ℕ → Reply → Type 0) (told told_now : Option (List ℕ)) (result : Result (Unit {0}) E) → ListSays {E = E} AreLines Ends told told_now result →
+    ((lines : List Reply) → AreLines lines → AllByRecursion IsNoLoss lines) → ((taken : Bool) (count : ℕ) (last : Reply) → Ends taken count last → last ≡ reply.PowerLost → ⊥) → SaysNoLoss {E = E} told told_now result
 listed AreLines Ends told told_now result h others ends = record {
   replies = h.lines ++ h.last ∷ [];
   written = h.written;
-  none = and-last h.lines h.last (others h.lines h.are_lines) (ends (length h.lines) h.last h.ends);
+  none = and-last h.lines h.last (others h.lines h.are_lines) (ends (is_ok result) (length h.lines) h.last h.ends);
 }
 
 -- what ends them
-end-other : (ending : ℕ → Reply) (most : ℕ) (IsBad : BadPage → Type 0) (f g : FlashState) → ((count : ℕ) → ending count ≡ reply.PowerLost → ⊥) → (count : ℕ) (last : Reply) → EndsBy ending most IsBad f g count last → last ≡ reply.PowerLost → ⊥
-end-other ending most IsBad f g never count last (few, inl same) is = never count (sym same ∙ is)
-end-other ending most IsBad f g never count last (few, inr unread) is = subst (IsUnread IsBad f g) is unread
+end-other : (ending : ℕ → Reply) (most : ℕ) (Sound : Type 0) (IsBad : BadPage → Type 0) (f g : FlashState) → ((count : ℕ) → ending count ≡ reply.PowerLost → ⊥) → (taken : Bool) (count : ℕ) (last : Reply) → EndsBy ending most Sound IsBad f g taken count last → last ≡ reply.PowerLost → ⊥
+end-other ending most Sound IsBad f g never taken count last (few, inl (same, sound)) is = never count (sym same ∙ is)
+end-other ending most Sound IsBad f g never taken count last (few, inr unread) is = subst (IsUnread IsBad f g) is unread
 
 count-other : (count : ℕ) → reply.EndCount count ≡ reply.PowerLost → ⊥
 count-other count e = cc
@@ -115,11 +116,11 @@ next-other asked count e = by_count (count == asked) e
     by_count true k = cc
     by_count false k = cc
 
-blob-other : (IsBad : BadPage → Type 0) (f g : FlashState) (count : ℕ) (last : Reply) → EndsBlob IsBad f g count last → last ≡ reply.PowerLost → ⊥
-blob-other IsBad f g zero last (inl blob) is = subst IsBlob is blob
-blob-other IsBad f g zero last (inr unread) is = subst (IsUnread IsBad f g) is unread
-blob-other IsBad f g (suc zero) last unread is = subst (IsUnread IsBad f g) is unread
-blob-other IsBad f g (suc (suc count)) last none is = none
+blob-other : (Tells : Reply → Type 0) (IsBad : BadPage → Type 0) (f g : FlashState) (taken : Bool) (count : ℕ) (last : Reply) → EndsBlob Tells IsBad f g taken count last → last ≡ reply.PowerLost → ⊥
+blob-other Tells IsBad f g taken zero last (inl (blob, tells)) is = subst IsBlob is blob
+blob-other Tells IsBad f g taken zero last (inr unread) is = subst (IsUnread IsBad f g) is unread
+blob-other Tells IsBad f g taken (suc zero) last unread is = subst (IsUnread IsBad f g) is unread
+blob-other Tells IsBad f g taken (suc (suc count)) last none is = none
 
 cost-other : (cost : machine.Cost) → cost_reply cost ≡ reply.PowerLost → ⊥
 cost-other machine.NothingYet is = cc
@@ -199,18 +200,18 @@ module _ (E : Type 0) (old new : State) (told told_now : Option (List ℕ)) (res
     refused-says : (name : List ℕ) → Writes {E = E} told told_now result (IsRefused old new name) → SaysNoLoss {E = E} told told_now result
     refused-says name w = once told told_now result (IsRefused old new name) w (refused-other old new name)
 
-    row-end : (t : Table 64 64) (count : ℕ) (last : Reply) → EndsOn t old.flash new.flash count last → last ≡ reply.PowerLost → ⊥
-    row-end t count last h is = end-other reply.EndCount (2 ^ 64 - 1) (MayBeBad t (contents_of old.flash)) old.flash new.flash count-other count last h is
+    row-end : (t : Table 64 64) (Sound : Type 0) (taken : Bool) (count : ℕ) (last : Reply) → EndsCounted Sound (MayBeBad t (contents_of old.flash)) old.flash new.flash taken count last → last ≡ reply.PowerLost → ⊥
+    row-end t Sound taken count last h is = end-other reply.EndCount (2 ^ 64 - 1) Sound (MayBeBad t (contents_of old.flash)) old.flash new.flash count-other taken count last h is
 
-    pair-end : (t u : Table 64 64) (count : ℕ) (last : Reply) → EndsOnBoth t u old.flash new.flash count last → last ≡ reply.PowerLost → ⊥
-    pair-end t u count last h is = end-other reply.EndCount (2 ^ 64 - 1) (λ bad. MayBeBad t (contents_of old.flash) bad ⊎ MayBeBad u (contents_of old.flash) bad) old.flash new.flash count-other count last h is
+    pair-end : (range : KeyRange) (t u : Table 64 64) (taken : Bool) (count : ℕ) (last : Reply) → EndsPairs range t u old.flash new.flash taken count last → last ≡ reply.PowerLost → ⊥
+    pair-end range t u taken count last h is = end-other reply.EndCount (2 ^ 64 - 1) (PassesNoBad (mark_on t range None) t old.flash ⊎ PassesNoBad (mark_on u range None) u old.flash) (λ bad. MayBeBad t (contents_of old.flash) bad ⊎ MayBeBad u (contents_of old.flash) bad) old.flash new.flash count-other taken count last h is
 
-    next-end : (asked : ℕ) (t : Table 64 64) (count : ℕ) (last : Reply) → EndsNext asked t old.flash new.flash count last → last ≡ reply.PowerLost → ⊥
-    next-end asked t count last h is = end-other (ending_of asked) asked (MayBeBad t (contents_of old.flash)) old.flash new.flash (next-other asked) count last h is
+    next-end : (asked : ℕ) (mark : Bookmark) (t : Table 64 64) (taken : Bool) (count : ℕ) (last : Reply) → EndsNext asked mark t old.flash new.flash taken count last → last ≡ reply.PowerLost → ⊥
+    next-end asked mark t taken count last h is = end-other (ending_of asked) asked (PassesNoBad mark t old.flash) (MayBeBad t (contents_of old.flash)) old.flash new.flash (next-other asked) taken count last h is
 
-    lacks-says : (AreLines : List Reply → Type 0) (entry : Entry) (o : Option ℕ) → ((lines : List Reply) → AreLines lines → AllByRecursion IsNoLoss lines) → IfLacks {E = E} old new AreLines entry told told_now result o → SaysNoLoss {E = E} told told_now result
-    lacks-says AreLines entry (Some column) others w = once told told_now result (λ said. (said ≡ reply.NoColumn column) × (new ≡ old)) w (λ said h is. cc (h.0, is))
-    lacks-says AreLines entry None others h = listed AreLines (EndsOn (table_in entry.table) old.flash new.flash) told told_now result h.1 others (row-end (table_in entry.table))
+    lacks-says : (range : KeyRange) (AreLines : List Reply → Type 0) (entry : Entry) (o : Option ℕ) → ((lines : List Reply) → AreLines lines → AllByRecursion IsNoLoss lines) → IfLacks {E = E} old new range AreLines entry told told_now result o → SaysNoLoss {E = E} told told_now result
+    lacks-says range AreLines entry (Some column) others w = once told told_now result (λ said. (said ≡ reply.NoColumn column) × (new ≡ old)) w (λ said h is. cc (h.0, is))
+    lacks-says range AreLines entry None others h = listed AreLines (EndsRange range (table_in entry.table) old.flash new.flash) told told_now result h.1 others (row-end (table_in entry.table) (PassesNoBad (mark_on (table_in entry.table) range None) (table_in entry.table) old.flash))
 
     says : (c : Command) → Caused {E = E} c old new told told_now result → SaysNoLoss {E = E} told told_now result
     says command.Mount w = once told told_now result (MountSays old new) w mount-says
@@ -226,26 +227,26 @@ module _ (E : Type 0) (old new : State) (told told_now : Option (List ℕ)) (res
         once told told_now result (OnTable old new name (GetSays old new key)) w (table-other old new name (GetSays old new key) (λ at entry here said h is. subst (LookSays (table_in entry.table) key old.flash new.flash) is h.0))
     says (command.Blob name key) (inl w) = refused-says name w
     says (command.Blob name key) (inr (at, entry, here, (looks, tells))) =
-        listed (AllByRecursion IsBytes) (EndsBlob (MayBeBadFor (table_in entry.table) old.flash) old.flash new.flash) told told_now result tells (λ lines are. lines-other IsBytes lines (λ h. h) are) (blob-other (MayBeBadFor (table_in entry.table) old.flash) old.flash new.flash)
+        listed (AllByRecursion IsBytes) (EndsBlob (AnswersBlob (table_in entry.table) key old.flash) (MayBeBadFor (table_in entry.table) old.flash) old.flash new.flash) told told_now result tells (λ lines are. lines-other IsBytes lines (λ h. h) are) (blob-other (AnswersBlob (table_in entry.table) key old.flash) (MayBeBadFor (table_in entry.table) old.flash) old.flash new.flash)
     says (command.Scan name range span) (inl w) = refused-says name w
     says (command.Scan name range span) (inr (at, entry, here, (noted, tells))) =
-        listed (AreRows (has_blobs (table_in entry.table)) (mark_on (table_in entry.table) range span)) (EndsOn (table_in entry.table) old.flash new.flash) told told_now result tells
-        (given-other (has_blobs (table_in entry.table)) (mark_on (table_in entry.table) range span)) (row-end (table_in entry.table))
+        listed (AreRows (has_blobs (table_in entry.table)) (mark_on (table_in entry.table) range span)) (EndsScan (mark_on (table_in entry.table) range span) (table_in entry.table) old.flash new.flash) told told_now result tells
+        (given-other (has_blobs (table_in entry.table)) (mark_on (table_in entry.table) range span)) (row-end (table_in entry.table) (PassesNoBad (mark_on (table_in entry.table) range span) (table_in entry.table) old.flash))
     says (command.Next cursor count) (inl (down, w)) = once told told_now result (λ said. (said ≡ reply.NotMounted) × (new ≡ old)) w (λ said h is. cc (h.0, is))
     says (command.Next cursor count) (inr (inl (up, closed, w))) = once told told_now result (λ said. (said ≡ reply.NoCursor) × (new ≡ old)) w (λ said h is. cc (h.0, is))
     says (command.Next cursor count) (inr (inr (up, moves))) =
-        listed (MovesOver (has_blobs (table_in moves.entry.table)) moves.held.mark moves.mark) (EndsNext count (table_in moves.entry.table) old.flash new.flash) told told_now result moves.lists
-        (moved-other (has_blobs (table_in moves.entry.table)) moves.held.mark moves.mark) (next-end count (table_in moves.entry.table))
+        listed (MovesOver (has_blobs (table_in moves.entry.table)) moves.held.mark moves.mark) (EndsNext count moves.held.mark (table_in moves.entry.table) old.flash new.flash) told told_now result moves.lists
+        (moved-other (has_blobs (table_in moves.entry.table)) moves.held.mark moves.mark) (next-end count moves.held.mark (table_in moves.entry.table))
     says (command.Select name range column op value) (inl w) = refused-says name w
-    says (command.Select name range column op value) (inr (at, entry, here, tells)) = lacks-says (AreRising IsRow (above_range range.low None)) entry (lacked_column (layout_in (table_in entry.table)) (column ∷ [])) (rising-other (above_range range.low None)) tells
+    says (command.Select name range column op value) (inr (at, entry, here, tells)) = lacks-says range (AreRising IsRow (above_range range.low None)) entry (lacked_column (layout_in (table_in entry.table)) (column ∷ [])) (rising-other (above_range range.low None)) tells
     says (command.Project name range columns) (inl w) = refused-says name w
-    says (command.Project name range columns) (inr (at, entry, here, tells)) = lacks-says (AllByRecursion (IsFields (length columns))) entry (lacked_column (layout_in (table_in entry.table)) columns) (λ lines are. lines-other (IsFields (length columns)) lines (λ h. h) are) tells
+    says (command.Project name range columns) (inr (at, entry, here, tells)) = lacks-says range (AllByRecursion (IsFields (length columns))) entry (lacked_column (layout_in (table_in entry.table)) columns) (λ lines are. lines-other (IsFields (length columns)) lines (λ h. h) are) tells
     says (command.Agg name range column width) (inl w) = refused-says name w
-    says (command.Agg name range column width) (inr (at, entry, here, tells)) = lacks-says (AllByRecursion IsGroup) entry (lacked_column (layout_in (table_in entry.table)) (column ∷ [])) (λ lines are. lines-other IsGroup lines (λ h. h) are) tells
+    says (command.Agg name range column width) (inr (at, entry, here, tells)) = lacks-says range (AllByRecursion IsGroup) entry (lacked_column (layout_in (table_in entry.table)) (column ∷ [])) (λ lines are. lines-other IsGroup lines (λ h. h) are) tells
     says (command.Join left right range) (inl w) = refused-says left w
     says (command.Join left right range) (inr (at, entry, here, inl w)) = refused-says right w
     says (command.Join left right range) (inr (at, entry, here, inr (there, other, its, (looks, tells)))) =
-        listed (AllByRecursion IsPair) (EndsOnBoth (table_in entry.table) (table_in other.table) old.flash new.flash) told told_now result tells (λ lines are. lines-other IsPair lines (λ h. h) are) (pair-end (table_in entry.table) (table_in other.table))
+        listed (AllByRecursion IsPair) (EndsPairs range (table_in entry.table) (table_in other.table) old.flash new.flash) told told_now result tells (λ lines are. lines-other IsPair lines (λ h. h) are) (pair-end range (table_in entry.table) (table_in other.table))
     says (command.Load name count step seed) (inl w) = refused-says name w
     says (command.Load name count step seed) (inr (at, entry, here, loads)) = record {
       replies = load_replies loads.count loads.outcome;
@@ -285,9 +286,9 @@ module _ (E : Type 0) (old new : State) (told told_now : Option (List ℕ)) (res
   gets : (key : ℕ) (said : Reply) (at : ℕ) (entry : Entry) → GetSays old new key at entry said → new.flash.armed ≡ None
   gets key said at entry (found, few, (limit, looks)) = looked _ looks
 
-  lacking : (AreLines : List Reply → Type 0) (entry : Entry) (o : Option ℕ) → IfLacks {E = E} old new AreLines entry told told_now result o → new.flash.armed ≡ None
-  lacking AreLines entry (Some column) w = still w.holds.1
-  lacking AreLines entry None h = looked old.notes h.0
+  lacking : (range : KeyRange) (AreLines : List Reply → Type 0) (entry : Entry) (o : Option ℕ) → IfLacks {E = E} old new range AreLines entry told told_now result o → new.flash.armed ≡ None
+  lacking range AreLines entry (Some column) w = still w.holds.1
+  lacking range AreLines entry None h = looked old.notes h.0
 
   leaves-unarmed : (c : Command) → is_cut c ≡ false → Caused {E = E} c old new told told_now result → new.flash.armed ≡ None
   leaves-unarmed command.Mount uncut w = mounted w.reply w.holds
@@ -308,11 +309,11 @@ module _ (E : Type 0) (old new : State) (told told_now : Option (List ℕ)) (res
   leaves-unarmed (command.Next cursor count) uncut (inr (inl (up, none_open, w))) = still w.holds.1
   leaves-unarmed (command.Next cursor count) uncut (inr (inr (up, moves))) = looked _ moves.looks
   leaves-unarmed (command.Select name range column op value) uncut (inl w) = refused name w
-  leaves-unarmed (command.Select name range column op value) uncut (inr (at, entry, here, h)) = lacking (AreRising IsRow (above_range range.low None)) entry (lacked_column (layout_in (table_in entry.table)) (column ∷ [])) h
+  leaves-unarmed (command.Select name range column op value) uncut (inr (at, entry, here, h)) = lacking range (AreRising IsRow (above_range range.low None)) entry (lacked_column (layout_in (table_in entry.table)) (column ∷ [])) h
   leaves-unarmed (command.Project name range columns) uncut (inl w) = refused name w
-  leaves-unarmed (command.Project name range columns) uncut (inr (at, entry, here, h)) = lacking (AllByRecursion (IsFields (length columns))) entry (lacked_column (layout_in (table_in entry.table)) columns) h
+  leaves-unarmed (command.Project name range columns) uncut (inr (at, entry, here, h)) = lacking range (AllByRecursion (IsFields (length columns))) entry (lacked_column (layout_in (table_in entry.table)) columns) h
   leaves-unarmed (command.Agg name range column width) uncut (inl w) = refused name w
-  leaves-unarmed (command.Agg name range column width) uncut (inr (at, entry, here, h)) = lacking (AllByRecursion IsGroup) entry (lacked_column (layout_in (table_in entry.table)) (column ∷ [])) h
+  leaves-unarmed (command.Agg name range column width) uncut (inr (at, entry, here, h)) = lacking range (AllByRecursion IsGroup) entry (lacked_column (layout_in (table_in entry.table)) (column ∷ [])) h
   leaves-unarmed (command.Join left right range) uncut (inl w) = refused left w
   leaves-unarmed (command.Join left right range) uncut (inr (at, entry, here, inl w)) = refused right w
   leaves-unarmed (command.Join left right range) uncut (inr (at, entry, here, inr (there, other, its, (looks, tells)))) = looked old.notes looks

@@ -1,6 +1,7 @@
 -- The replies to a question for a blob, over any bytes and on any medium.
-use Rattle.std.specs.Prelude.{◌≡◌, ◌⊎◌, ℕ, zero, suc, Bool, true, IfErr, IsTrue, Option, Some, None, Result, Ok, Err, List}
+use Rattle.std.specs.Prelude.{◌≡◌, ◌⊎◌, ℕ, zero, suc, Bool, true, false, IfErr, IsTrue, Option, Some, None, Result, Ok, Err, List}
 use Rattle.std.specs.List.{AllByRecursion}
+use Rattle.std.specs.Option.{IsSomeAnd}
 use Rattle.fl_base.specs.Causes.{Appends, AppendsFront}
 use Rattle.fl_base.specs.declared.types.BlobRef.{BlobRef}
 use Rattle.fl_flash.specs.Flash.{FlashState}
@@ -9,15 +10,18 @@ use Rattle.fl_frame.specs.Contents.{OnlyReads}
 use Rattle.fl_page.specs.declared.fault.BadPage.{BadPage}
 use Rattle.fl_page.specs.declared.fault.ReadFault.{ReadFault}
 use Rattle.fl_table.specs.BlobAt.{data_in}
-use Rattle.fl_table.specs.Finding.{HasBadPage}
+use Rattle.fl_table.specs.Finding.{HasBadPage, IsAnswered}
 use Rattle.fl_table.specs.declared.table.Table.{Table}
-use Rattle.fl_var.specs.Blobs.{IsBadFirst, IsBadLater}
-use Rattle.fl_var.specs.Reading.{data_of, IfBad, Reads}
+use Rattle.fl_var.specs.Blobs.{IsBadFirst, IsBadLater, IsGone, bytes_of}
+use Rattle.fl_var.specs.Reading.{bytes_left, data_of, IfBad, Reads}
 use Rattle.fl_var.specs.declared.reader.BlobReader.{BlobReader}
 use Rattle.fl_var.specs.declared.var_data.VarData.{VarData}
 use Rattle.fl_words.specs.Reply as reply
 use Rattle.fl_words.specs.Reply.{Reply, hex_text}
+use Rattle.fl_session.specs.Found.{FindsRow}
 use Rattle.fl_session.specs.ListSays.{IsUnread, ListSays}
+use Rattle.fl_session.specs.declared.blob.BlobFound.{BlobFound}
+use Rattle.fl_session.specs.declared.blob.BlobFound.TheVariants as found
 use Rattle.fl_session.specs.declared.listing.ListFault.{ListFault}
 use Rattle.fl_session.specs.declared.listing.ListFault.TheVariants.{Sink, Read}
 
@@ -52,23 +56,53 @@ IsBlob reply.BytesEmpty = Unit {0}
 IsBlob (reply.Bytes bytes) = Unit {0}
 IsBlob _ = ⊥
 
--- One line tells it, or that a page wasn't read; or that stands behind a line of some bytes.
-abbrev pub EndsBlob : (BadPage → Type 0) → FlashState → FlashState → ℕ → Reply → Type 0
-EndsBlob IsBad old new zero last = IsBlob last ⊎ IsUnread IsBad old new last
-EndsBlob IsBad old new (suc zero) last = IsUnread IsBad old new last
-EndsBlob IsBad old new (suc (suc n)) last = ⊥
+-- What a line tells of the blob at the place that a row names: it is gone, or empty, or these are its bytes, as far as the flash tells.
+abbrev pub TellsBlob : Table 64 64 → FlashState → BlobRef → Reply → Type 0
+TellsBlob t f at reply.Gone = IsTrue f.media.tells → IsSomeAnd (data_in t) (λ var. IsGone var f at)
+TellsBlob t f at reply.BytesEmpty = at.length ≡ 0
+TellsBlob t f at (reply.Bytes bytes) = IsTrue f.media.tells → IsSomeAnd (data_in t) (λ var. bytes ≡ bytes_of var f at)
+TellsBlob t f at _ = ⊥
 
-abbrev pub BlobSays : {E : Type 0} → (BadPage → Type 0) → FlashState → FlashState → Option (List ℕ) → Option (List ℕ) → Result (Unit {0}) E → Type 0
-BlobSays IsBad old new told told_now result = ListSays (AllByRecursion IsBytes) (EndsBlob IsBad old new) told told_now result
+-- .. of that of the record with the key: no record has it, or the row that has it names no blob, or this one
+abbrev pub AnswersBlob : Table 64 64 → ℕ → FlashState → Reply → Type 0
+AnswersBlob t key f reply.Absent = IsAnswered t f key None
+AnswersBlob t key f reply.NoBlob = FindsRow t key f (λ row. row.blob ≡ None)
+AnswersBlob t key f said = FindsRow t key f (λ row. (at : BlobRef) × (row.blob ≡ Some at) × TellsBlob t f at said)
+
+-- these bytes are those that a reader has left
+abbrev pub IsLeft : BlobReader → FlashState → List ℕ → Type 0
+IsLeft reader f bytes = Reads reader f → bytes ≡ bytes_left reader f
+
+abbrev pub TellsLeft : BlobReader → FlashState → Reply → Type 0
+TellsLeft reader f (reply.Bytes bytes) = IsLeft reader f bytes
+TellsLeft reader f _ = ⊥
+
+-- One line tells it, of which something holds where it was written, or that a page wasn't read; or that stands behind a line of some
+-- bytes.
+abbrev pub EndsBlob : (Reply → Type 0) → (BadPage → Type 0) → FlashState → FlashState → Bool → ℕ → Reply → Type 0
+EndsBlob Tells IsBad old new taken zero last = (IsBlob last × (taken ≡ true → Tells last)) ⊎ IsUnread IsBad old new last
+EndsBlob Tells IsBad old new taken (suc zero) last = IsUnread IsBad old new last
+EndsBlob Tells IsBad old new taken (suc (suc n)) last = ⊥
+
+abbrev pub BlobSays : {E : Type 0} → (Reply → Type 0) → (BadPage → Type 0) → FlashState → FlashState → Option (List ℕ) → Option (List ℕ) → Result (Unit {0}) E → Type 0
+BlobSays Tells IsBad old new told told_now result = ListSays (AllByRecursion IsBytes) (EndsBlob Tells IsBad old new) told told_now result
+
+-- what a lookup finds of a record's blob
+abbrev pub NamesFor : Table 64 64 → ℕ → FlashState → BlobFound → Type 0
+NamesFor t key f found.NoRecord = IsAnswered t f key None
+NamesFor t key f found.NoBlob = FindsRow t key f (λ row. row.blob ≡ None)
+NamesFor t key f (found.At at) = FindsRow t key f (λ row. row.blob ≡ Some at)
 
 -- A reader was turned to a blob of this table, or wasn't: a page that wasn't read then, or isn't read from now on, has its cause.
-pub record OpensFor (t : Table 64 64) (f g : FlashState) (stands : Result Bool ReadFault) (reader : BlobReader) : Type 0 where
+pub record OpensFor (t : Table 64 64) (at : BlobRef) (f g : FlashState) (stands : Result Bool ReadFault) (reader : BlobReader) : Type 0 where
   pub only : OnlyReads f g
   pub fails : IfErr stands (λ fault. IsCaused f fault g × IfBad (MayBeBadFor t f) fault)
+  pub gone : stands ≡ Ok false → TellsBlob t f at reply.Gone
+  pub left : stands ≡ Ok true → (bytes : List ℕ) → IsLeft reader g bytes → TellsBlob t f at (reply.Bytes bytes)
   pub ahead : stands ≡ Ok true → (bad : BadPage) → IsBadAhead reader g bad → MayBeBadFor t f bad
 
--- The digits of some bytes were written; or the sink failed in them, or a page behind them wasn't read.
-abbrev pub GivesSome : (BadPage → Type 0) → Option (List ℕ) → Option (List ℕ) → Result (Unit {0}) ListFault → Type 0
-GivesSome IsBad told told_now (Ok done) = (bytes : List ℕ) × Appends told told_now (hex_text bytes)
-GivesSome IsBad told told_now (Err (Sink failed)) = (bytes : List ℕ) × AppendsFront told told_now (hex_text bytes)
-GivesSome IsBad told told_now (Err (Read fault)) = ((bytes : List ℕ) × Appends told told_now (hex_text bytes)) × IfBad IsBad fault
+-- The digits of some bytes were written, all that there are; or the sink failed in them, or a page behind them wasn't read.
+abbrev pub GivesSome : (List ℕ → Type 0) → (BadPage → Type 0) → Option (List ℕ) → Option (List ℕ) → Result (Unit {0}) ListFault → Type 0
+GivesSome AreAll IsBad told told_now (Ok done) = (bytes : List ℕ) × Appends told told_now (hex_text bytes) × AreAll bytes
+GivesSome AreAll IsBad told told_now (Err (Sink failed)) = (bytes : List ℕ) × AppendsFront told told_now (hex_text bytes)
+GivesSome AreAll IsBad told told_now (Err (Read fault)) = ((bytes : List ℕ) × Appends told told_now (hex_text bytes)) × IfBad IsBad fault

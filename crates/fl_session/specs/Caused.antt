@@ -51,12 +51,13 @@ use Rattle.fl_words.specs.Reply as reply
 use Rattle.fl_words.specs.Reply.{Reply, text, texts}
 use Rattle.fl_session.specs.Answer.{IsReached, load_replies, mount_reply}
 use Rattle.fl_session.specs.Asked.{lacked_column}
-use Rattle.fl_session.specs.BlobSays.{BlobSays, MayBeBadFor}
+use Rattle.fl_session.specs.BlobSays.{AnswersBlob, BlobSays, MayBeBadFor}
 use Rattle.fl_session.specs.Cost.{cost_of}
-use Rattle.fl_session.specs.ListSays.{EndsNext, EndsOn, EndsOnBoth, IsFields, IsGroup, IsPair, ListSays}
+use Rattle.fl_session.specs.ListSays.{EndsNext, EndsOnBoth, EndsScan, IsFields, IsGroup, IsPair, ListSays}
 use Rattle.fl_session.specs.LoadSays.{LoadFails, PutsRecords}
 use Rattle.fl_session.specs.Notes.{with_cursor, without_cursors}
 use Rattle.fl_session.specs.Rising.{AreRising, IsRow}
+use Rattle.fl_session.specs.Found.{FindsRow}
 use Rattle.fl_session.specs.Rows.{row_reply}
 use Rattle.fl_session.specs.RowsGiven.{AreRows, MovesOver}
 use Rattle.fl_session.specs.declared.cost.Cost.TheVariants.{OfGet, OfScan}
@@ -211,6 +212,13 @@ StatSays old new at entry said = (new ≡ old) × (let counts = counts_in (table
 abbrev pub mark_on : Table 64 64 → KeyRange → Option Span → Bookmark
 mark_on t range span = record { after = None; top = option_map (λ last. min range.high last) (last_key_in t); range = range; span = span }
 
+-- what ends a list of all rows of a range, and one of the pairs of two tables
+abbrev pub EndsRange : KeyRange → Table 64 64 → FlashState → FlashState → Bool → ℕ → Reply → Type 0
+EndsRange range t = EndsScan (mark_on t range None) t
+
+abbrev pub EndsPairs : KeyRange → Table 64 64 → Table 64 64 → FlashState → FlashState → Bool → ℕ → Reply → Type 0
+EndsPairs range t u = EndsOnBoth (mark_on t range None) (mark_on u range None) t u
+
 -- a cursor on the table is open there from then on, and nothing else is another
 abbrev pub OpenSays : State → State → ℕ → KeyRange → Option Span → ℕ → Entry → Reply → Type 0
 OpenSays old new cursor range span at entry said =
@@ -230,20 +238,9 @@ CloseSays old new cursor said =
     ⊎ ((old.mounted ≡ true) × IsClosed old cursor × (said ≡ reply.NoCursor) × (new ≡ old))
     ⊎ ((old.mounted ≡ true) × ((held : TableCursor) × IsOpen old cursor held) × (said ≡ reply.Done) × (new ≡ record old { notes = with_cursor old.notes cursor None }))
 
--- a row stands at a place: among the pending ones, or on a kept page, by its bytes where the flash tells them
-abbrev pub StandsAt : Table 64 64 → FlashState → RowAt → Row → Type 0
-StandsAt t f (placed.Pending i) row = slice_get (buffered_rows t) i ≡ Some row
-StandsAt t f (placed.InPage place) row =
-    (oldest_in t ≤ place.number) × (place.number < next_in t) × (IsTrue f.media.tells → slice_get (rows_at t f place.number) place.row ≡ Some row)
-
 -- The line of a row with the key, which stands where the lookup found it.
-pub record TellsRow (t : Table 64 64) (key : ℕ) (f : FlashState) (said : Reply) : Type 0 where
-  pub row : Row
-  pub said_is : said ≡ row_reply (has_blobs t) row
-  pub key_is : row.key ≡ key
-  pub place : RowAt
-  pub here : StandsAt t f place row
-  pub answers : IsAnswered t f key (Some place)
+abbrev pub TellsRow : Table 64 64 → ℕ → FlashState → Reply → Type 0
+TellsRow t key f said = FindsRow t key f (λ row. said ≡ row_reply (has_blobs t) row)
 
 -- The row with the key or that there is none, as the lookup in the table ends; a read fault, or the bad page, only where it
 -- fails so.
@@ -282,9 +279,9 @@ Lists old new name told told_now result Holds =
     Writes told told_now result (IsRefused old new name) ⊎ ((at : ℕ) × (entry : Entry) × IsHere old name at entry × Holds entry)
 
 -- it is refused since the table lacks this column, or it only looks, and lists lines of which this holds
-abbrev pub IfLacks : {E : Type 0} → State → State → (List Reply → Type 0) → Entry → Option (List ℕ) → Option (List ℕ) → Result (Unit {0}) E → Option ℕ → Type 0
-IfLacks old new AreLines entry told told_now result (Some column) = Writes told told_now result (λ said. (said ≡ reply.NoColumn column) × (new ≡ old))
-IfLacks old new AreLines entry told told_now result None = OnlyLooks old new old.notes × ListSays AreLines (EndsOn (table_in entry.table) old.flash new.flash) told told_now result
+abbrev pub IfLacks : {E : Type 0} → State → State → KeyRange → (List Reply → Type 0) → Entry → Option (List ℕ) → Option (List ℕ) → Result (Unit {0}) E → Option ℕ → Type 0
+IfLacks old new range AreLines entry told told_now result (Some column) = Writes told told_now result (λ said. (said ≡ reply.NoColumn column) × (new ≡ old))
+IfLacks old new range AreLines entry told told_now result None = OnlyLooks old new old.notes × ListSays AreLines (EndsRange range (table_in entry.table) old.flash new.flash) told told_now result
 
 -- an open cursor lists rows that it has still to give, and moves behind them
 pub record NextMoves {E : Type 0} (old new : State) (cursor count : ℕ) (told told_now : Option (List ℕ)) (result : Result (Unit {0}) E) : Type 0 where
@@ -293,7 +290,7 @@ pub record NextMoves {E : Type 0} (old new : State) (cursor count : ℕ) (told t
   pub entry : Entry
   pub here : slice_get old.entries held.table ≡ Some entry
   pub mark : Bookmark
-  pub lists : ListSays (MovesOver (has_blobs (table_in entry.table)) held.mark mark) (EndsNext count (table_in entry.table) old.flash new.flash) told told_now result
+  pub lists : ListSays (MovesOver (has_blobs (table_in entry.table)) held.mark mark) (EndsNext count held.mark (table_in entry.table) old.flash new.flash) told told_now result
   pub looks : OnlyLooks old new (with_cursor old.notes cursor (Some (record held { mark = mark })))
 
 abbrev pub NextLooks : {E : Type 0} → State → State → ℕ → ℕ → Option (List ℕ) → Option (List ℕ) → Result (Unit {0}) E → Type 0
@@ -335,13 +332,13 @@ Caused Cost old new told told_now result = Writes told told_now result (CostSays
 Caused (Open cursor name range span) old new told told_now result = Writes told told_now result (OnTable old new name (OpenSays old new cursor range span))
 Caused (Close cursor) old new told told_now result = Writes told told_now result (CloseSays old new cursor)
 Caused (Get name key) old new told told_now result = Writes told told_now result (OnTable old new name (GetSays old new key))
-Caused (Blob name key) old new told told_now result = Lists old new name told told_now result (λ entry. OnlyLooks old new old.notes × BlobSays (MayBeBadFor (table_in entry.table) old.flash) old.flash new.flash told told_now result)
-Caused (Scan name range span) old new told told_now result = Lists old new name told told_now result (λ entry. NotesScan old new × ListSays (AreRows (has_blobs (table_in entry.table)) (mark_on (table_in entry.table) range span)) (EndsOn (table_in entry.table) old.flash new.flash) told told_now result)
+Caused (Blob name key) old new told told_now result = Lists old new name told told_now result (λ entry. OnlyLooks old new old.notes × BlobSays (AnswersBlob (table_in entry.table) key old.flash) (MayBeBadFor (table_in entry.table) old.flash) old.flash new.flash told told_now result)
+Caused (Scan name range span) old new told told_now result = Lists old new name told told_now result (λ entry. NotesScan old new × ListSays (AreRows (has_blobs (table_in entry.table)) (mark_on (table_in entry.table) range span)) (EndsScan (mark_on (table_in entry.table) range span) (table_in entry.table) old.flash new.flash) told told_now result)
 Caused (Next cursor count) old new told told_now result = NextLooks old new cursor count told told_now result
-Caused (Select name range column op value) old new told told_now result = Lists old new name told told_now result (λ entry. IfLacks old new (AreRising IsRow (above_range range.low None)) entry told told_now result (lacked_column (layout_in (table_in entry.table)) (column ∷ [])))
-Caused (Project name range columns) old new told told_now result = Lists old new name told told_now result (λ entry. IfLacks old new (AllByRecursion (IsFields (length columns))) entry told told_now result (lacked_column (layout_in (table_in entry.table)) columns))
-Caused (Agg name range column width) old new told told_now result = Lists old new name told told_now result (λ entry. IfLacks old new (AllByRecursion IsGroup) entry told told_now result (lacked_column (layout_in (table_in entry.table)) (column ∷ [])))
-Caused (Join left right range) old new told told_now result = Lists old new left told told_now result (λ entry. Lists old new right told told_now result (λ other. OnlyLooks old new old.notes × ListSays (AllByRecursion IsPair) (EndsOnBoth (table_in entry.table) (table_in other.table) old.flash new.flash) told told_now result))
+Caused (Select name range column op value) old new told told_now result = Lists old new name told told_now result (λ entry. IfLacks old new range (AreRising IsRow (above_range range.low None)) entry told told_now result (lacked_column (layout_in (table_in entry.table)) (column ∷ [])))
+Caused (Project name range columns) old new told told_now result = Lists old new name told told_now result (λ entry. IfLacks old new range (AllByRecursion (IsFields (length columns))) entry told told_now result (lacked_column (layout_in (table_in entry.table)) columns))
+Caused (Agg name range column width) old new told told_now result = Lists old new name told told_now result (λ entry. IfLacks old new range (AllByRecursion IsGroup) entry told told_now result (lacked_column (layout_in (table_in entry.table)) (column ∷ [])))
+Caused (Join left right range) old new told told_now result = Lists old new left told told_now result (λ entry. Lists old new right told told_now result (λ other. OnlyLooks old new old.notes × ListSays (AllByRecursion IsPair) (EndsPairs range (table_in entry.table) (table_in other.table) old.flash new.flash) told told_now result))
 Caused (Load name count step seed) old new told told_now result = Writes told told_now result (IsRefused old new name) ⊎ ((at : ℕ) × (entry : Entry) × IsHere old name at entry × LoadSays old new count step seed at entry told told_now result)
 Caused Nothing old new told told_now result = Written told told_now result [] × (new ≡ old)
 Caused (Device page block) old new told told_now result = Written told told_now result [] × (new ≡ old)

@@ -1,6 +1,7 @@
 pub mod Paired
 pub mod BlobLine
 pub mod BlobNotes
+pub mod Found
 pub mod BlobSays
 pub mod BlobShown
 pub mod Words

@@ -1,8 +1,12 @@
 -- The replies of a command that lists, over any bytes and on any medium.
-use Rattle.std.specs.Prelude.{◌≡◌, ◌⊎◌, ℕ, ◌-◌, ◌^◌, ◌≤◌, ◌++◌, Option, Result, Ok, Err, List, [], ◌∷◌, length}
+use Rattle.std.specs.Prelude.{◌≡◌, ◌⊎◌, ℕ, ◌-◌, ◌^◌, ◌<◌, ◌≤◌, ◌++◌, Bool, true, is_ok, Option, Result, Ok, Err, List, [], ◌∷◌, length}
 use Rattle.fl_base.specs.Causes.{Appends, AppendsFront}
 use Rattle.fl_base.specs.declared.stream.SinkFailed.{SinkFailed}
-use Rattle.fl_cursor.specs.Cursor.{IfBad, MayBeBad}
+use Rattle.fl_cursor.specs.Asked.{asked_by}
+use Rattle.fl_cursor.specs.Cursor.{IfBad, MayBeBad, table_of}
+use Rattle.fl_cursor.specs.Sound.{IsSoundAhead, IsSoundOver}
+use Rattle.fl_cursor.specs.declared.bookmark.Bookmark.{Bookmark}
+use Rattle.fl_cursor.specs.declared.cursor.Cursor.{Cursor}
 use Rattle.fl_flash.specs.Flash.{FlashState}
 use Rattle.fl_flash.specs.declared.flash.FlashFault.{FlashFault}
 use Rattle.fl_page.specs.Causes.{IsCaused}
@@ -65,13 +69,13 @@ abbrev pub SaysEnd : Result ℕ ListFault → Option (List ℕ) → Option (List
 SaysEnd (Ok count) told told_now result = Written told told_now result (text (reply.EndCount count))
 SaysEnd (Err why) told told_now result = SaysFault why told told_now result
 
--- Lines of which this holds were written, and behind them one that ends the list, by their number; or a front of all these where
--- the sink failed.
-pub record ListSays {E : Type 0} (AreLines : List Reply → Type 0) (Ends : ℕ → Reply → Type 0) (told told_now : Option (List ℕ)) (result : Result (Unit {0}) E) : Type 0 where
+-- Lines of which this holds were written, and behind them one that ends the list, by their number and by whether the sink took them
+-- all; or a front of all these where it failed.
+pub record ListSays {E : Type 0} (AreLines : List Reply → Type 0) (Ends : Bool → ℕ → Reply → Type 0) (told told_now : Option (List ℕ)) (result : Result (Unit {0}) E) : Type 0 where
   pub lines : List Reply
   pub are_lines : AreLines lines
   pub last : Reply
-  pub ends : Ends (length lines) last
+  pub ends : Ends (is_ok result) (length lines) last
   pub written : Written told told_now result (texts (lines ++ last ∷ []))
 
 -- A page wasn't read: the power was off, or the medium failed in the command; or the page is a bad one.
@@ -80,21 +84,36 @@ IsUnread IsBad old new reply.ReadFault = (e : FlashFault) × IsCaused old (fault
 IsUnread IsBad old new (reply.BadPage number) = (bad : BadPage) × (bad.wanted ≡ number) × IsBad bad
 IsUnread IsBad old new _ = ⊥
 
--- What ends a list of so many lines: what is said of their number, or that a page wasn't read.
-abbrev pub EndsBy : (ℕ → Reply) → ℕ → (BadPage → Type 0) → FlashState → FlashState → ℕ → Reply → Type 0
-EndsBy ending most IsBad old new count last = (count ≤ most) × ((last ≡ ending count) ⊎ IsUnread IsBad old new last)
+-- What ends a list of so many lines: what is said of their number, or that a page wasn't read. The former is all of them, so that it
+-- is sound, where it was written and they are fewer than the list may have.
+abbrev pub EndsBy : (ℕ → Reply) → ℕ → Type 0 → (BadPage → Type 0) → FlashState → FlashState → Bool → ℕ → Reply → Type 0
+EndsBy ending most Sound IsBad old new taken count last = (count ≤ most) × (((last ≡ ending count) × (taken ≡ true → count < most → Sound)) ⊎ IsUnread IsBad old new last)
 
 -- .. whose number is told
-abbrev pub EndsCounted : (BadPage → Type 0) → FlashState → FlashState → ℕ → Reply → Type 0
-EndsCounted IsBad = EndsBy reply.EndCount (2 ^ 64 - 1) IsBad
+abbrev pub EndsCounted : Type 0 → (BadPage → Type 0) → FlashState → FlashState → Bool → ℕ → Reply → Type 0
+EndsCounted Sound IsBad = EndsBy reply.EndCount (2 ^ 64 - 1) Sound IsBad
 
--- .. of one table, which keeps the page, or of two
-abbrev pub EndsOn : Table 64 64 → FlashState → FlashState → ℕ → Reply → Type 0
-EndsOn t old new = EndsCounted (MayBeBad t (contents_of old)) old new
+-- no page that a cursor with this mark looks at, from there to the last row, is bad
+abbrev pub PassesNoBad : Bookmark → Table 64 64 → FlashState → Type 0
+PassesNoBad mark t f = IsSoundOver t (contents_of f) (asked_by mark)
 
-abbrev pub EndsOnBoth : Table 64 64 → Table 64 64 → FlashState → FlashState → ℕ → Reply → Type 0
-EndsOnBoth t u old new = EndsCounted (λ bad. MayBeBad t (contents_of old) bad ⊎ MayBeBad u (contents_of old) bad) old new
+-- what ends the rows that a scan from this mark gives
+abbrev pub EndsScan : Bookmark → Table 64 64 → FlashState → FlashState → Bool → ℕ → Reply → Type 0
+EndsScan mark t old new = EndsCounted (PassesNoBad mark t old) (MayBeBad t (contents_of old)) old new
 
--- what ends the rows that a cursor gives, where so many were asked for
-abbrev pub EndsNext : ℕ → Table 64 64 → FlashState → FlashState → ℕ → Reply → Type 0
-EndsNext asked t old new = EndsBy (ending_of asked) asked (MayBeBad t (contents_of old)) old new
+-- .. and the pairs of two, of which one comes to its end
+abbrev pub EndsOnBoth : Bookmark → Bookmark → Table 64 64 → Table 64 64 → FlashState → FlashState → Bool → ℕ → Reply → Type 0
+EndsOnBoth left right t u old new =
+    EndsCounted (PassesNoBad left t old ⊎ PassesNoBad right u old) (λ bad. MayBeBad t (contents_of old) bad ⊎ MayBeBad u (contents_of old) bad) old new
+
+-- .. of cursors that have begun
+abbrev pub EndsAt : Cursor 64 64 → FlashState → FlashState → Bool → ℕ → Reply → Type 0
+EndsAt cursor old new = EndsCounted (IsSoundAhead cursor (contents_of old)) (MayBeBad (table_of cursor) (contents_of old)) old new
+
+abbrev pub EndsAtBoth : Cursor 64 64 → Cursor 64 64 → FlashState → FlashState → Bool → ℕ → Reply → Type 0
+EndsAtBoth left right old new =
+    EndsCounted (IsSoundAhead left (contents_of old) ⊎ IsSoundAhead right (contents_of old)) (λ bad. MayBeBad (table_of left) (contents_of old) bad ⊎ MayBeBad (table_of right) (contents_of old) bad) old new
+
+-- .. and those that a cursor with this mark gives, where so many were asked for
+abbrev pub EndsNext : ℕ → Bookmark → Table 64 64 → FlashState → FlashState → Bool → ℕ → Reply → Type 0
+EndsNext asked mark t old new = EndsBy (ending_of asked) asked (PassesNoBad mark t old) (MayBeBad t (contents_of old)) old new

@@ -1,6 +1,7 @@
 // The blob of a record, looked up by its key.
 ghost use Rattle.std.specs.Prelude.{◌≡◌, ◌+◌, ◌/◌, ◌≤◌, ℕ, true, Some, List, length, slice_get, IsTrue, IfOk, IfErr};
 ghost use Rattle.fl_base.specs.Causes.{HasCause};
+ghost use Rattle.fl_base.specs.declared.types.BlobRef.{BlobRef};
 ghost use Rattle.fl_machine.specs.Reads.{length_of};
 ghost use Rattle.fl_model.specs.Query.{blob_of};
 ghost use Rattle.fl_model.specs.Record.{Plan};
@@ -17,7 +18,7 @@ ghost use Rattle.fl_table.specs.declared.table.Table as tables;
 ghost use Rattle.fl_var.specs.Memory as memory;
 ghost use Rattle.fl_var.specs.Reading.{data_of, buffer_of, pages_left};
 ghost use Rattle.fl_flash.specs.Flash.{FlashState};
-ghost use Rattle.fl_session.specs.BlobSays.{BlobSays, MayBeBadFor, OpensFor};
+ghost use Rattle.fl_session.specs.BlobSays.{AnswersBlob, BlobSays, MayBeBadFor, NamesFor, OpensFor, TellsBlob};
 ghost use Rattle.fl_session.specs.BlobShown.{found_in, IfNamed, FindsBlob, SaysBlob, ShowsBlob, WasOpened};
 
 use crate::blob_line::{read_reply, show_bytes};
@@ -66,6 +67,7 @@ fn find_blob<F: Flash>(
     ensures blobs { IfOk result (IfNamed (has_blobs table.now ≡ true)) }
     ensures finds { (first : ℕ) (plan : Plan) (t : model.Table) → IsTrue (F.state flash.old).media.tells → Stands table.now (F.state flash.old) first plan t → FindsBlob t key result }
     ensures reads { (first : ℕ) (plan : Plan) (t : model.Table) → IsTrue (F.state flash.old).media.tells → Stands table.now (F.state flash.old) first plan t → (F.state flash.new).work.reads ≤ (F.state flash.old).work.reads + lookup_limit 64 plan t key }
+    ensures names { IfOk result (NamesFor table.now key (F.state flash.old)) }
     ensures fails { IfErr result (λ fault. LookupFails table.now (F.state flash.old) fault (F.state flash.new)) }
 {
     let mut steps = Steps::new();
@@ -89,7 +91,7 @@ fn show_opened<F: Flash, K: Sink>(
     ensures data { data_of reader.new ≡ data_of reader.old }
     ensures buffer { buffer_of reader.new ≡ buffer_of reader.old }
     ensures cause { HasCause (K.faults out.old) (K.faults out.new) result }
-    ensures tells { (t : tables.Table 64 64) (f : FlashState) → OpensFor t f (F.state flash.old) stands reader.old → BlobSays (MayBeBadFor t f) f (F.state flash.new) (K.written out.old) (K.written out.new) result }
+    ensures tells { (t : tables.Table 64 64) (at : BlobRef) (f : FlashState) → OpensFor t at f (F.state flash.old) stands reader.old → BlobSays (TellsBlob t f at) (MayBeBadFor t f) f (F.state flash.new) (K.written out.old) (K.written out.new) result }
     ensures says { (t : model.Table) (entry : Entry) (bytes : List ℕ) (f : FlashState) → f.is_on ≡ true → WasOpened t entry bytes f (F.state flash.old) stands reader.old →
         SaysBlob (blob_of t entry) (K.written out.old) (K.written out.new) f.media.faults (F.state flash.new).media.faults f.work.reads (F.state flash.new).work.reads result }
     ensures reads { (t : model.Table) (entry : Entry) (bytes : List ℕ) (f : FlashState) → WasOpened t entry bytes f (F.state flash.old) stands reader.old →
@@ -117,7 +119,7 @@ fn show_at<F: Flash, K: Sink>(
     ensures counts { OnlyReads (F.state flash.old) (F.state flash.new) }
     ensures room { length buf.new.bytes ≡ length buf.old.bytes }
     ensures cause { HasCause (K.faults out.old) (K.faults out.new) result }
-    ensures tells { BlobSays (MayBeBadFor table.now (F.state flash.old)) (F.state flash.old) (F.state flash.new) (K.written out.old) (K.written out.new) result }
+    ensures tells { BlobSays (TellsBlob table.now (F.state flash.old) at) (MayBeBadFor table.now (F.state flash.old)) (F.state flash.old) (F.state flash.new) (K.written out.old) (K.written out.new) result }
     ensures says { (first : ℕ) (plan : Plan) (t : model.Table) (i : ℕ) (entry : Entry) (bytes : List ℕ) → IsTrue (F.state flash.old).media.tells → (F.state flash.old).is_on ≡ true → Stands table.now (F.state flash.old) first plan t
         → slice_get t.entries i ≡ Some entry → entry.kept.blob ≡ Some bytes → at ≡ record { page = entry.page; offset = entry.offset; length = length bytes }
         → SaysBlob (blob_of t entry) (K.written out.old) (K.written out.new) (F.state flash.old).media.faults (F.state flash.new).media.faults (F.state flash.old).work.reads (F.state flash.new).work.reads result }
@@ -149,7 +151,7 @@ pub(crate) fn show_blob<F: Flash, K: Sink>(
     ensures counts { OnlyReads (F.state flash.old) (F.state flash.new) }
     ensures room { length buf.new.bytes ≡ length buf.old.bytes }
     ensures cause { HasCause (K.faults out.old) (K.faults out.new) result }
-    ensures tells { BlobSays (MayBeBadFor table.now (F.state flash.old)) (F.state flash.old) (F.state flash.new) (K.written out.old) (K.written out.new) result }
+    ensures tells { BlobSays (AnswersBlob table.now key (F.state flash.old)) (MayBeBadFor table.now (F.state flash.old)) (F.state flash.old) (F.state flash.new) (K.written out.old) (K.written out.new) result }
     ensures shows { (first : ℕ) (plan : Plan) (t : model.Table) → IsTrue (F.state flash.old).media.tells → (F.state flash.old).is_on ≡ true → Stands table.now (F.state flash.old) first plan t →
         ShowsBlob plan t key (K.written out.old) (K.written out.new) (F.state flash.old).media.faults (F.state flash.new).media.faults (F.state flash.old).work.reads (F.state flash.new).work.reads result }
 {

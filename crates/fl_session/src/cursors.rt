@@ -72,7 +72,7 @@ pub(crate) fn next_rows<F: Flash, K: Sink>(
     ensures index { length buf.new.index.bytes ≡ length buf.old.index.bytes }
     ensures right { (length buf.new.right_rows.bytes ≡ length buf.old.right_rows.bytes) × (length buf.new.right_index.bytes ≡ length buf.old.right_index.bytes) }
     ensures cause { HasCause (K.faults out.old) (K.faults out.new) result }
-    ensures lines { ListSays (MovesOver (has_blobs table.now) mark.old mark.new) (EndsNext count table.now (F.state flash.old) (F.state flash.new)) (K.written out.old) (K.written out.new) result }
+    ensures lines { ListSays (MovesOver (has_blobs table.now) mark.old mark.new) (EndsNext count mark.old table.now (F.state flash.old) (F.state flash.new)) (K.written out.old) (K.written out.new) result }
     ensures nexts { (first : ℕ) → (plan : Plan) → (t : model.Table) → IsTrue (F.state flash.old).media.tells → (F.state flash.old).is_on ≡ true → Stands table.now (F.state flash.old) first plan t →
         Nexts plan t count mark.old mark.new (K.written out.old) (K.written out.new) (F.state flash.old).media.faults (F.state flash.new).media.faults (F.state flash.old).work.reads (F.state flash.new).work.reads result }
 {

@@ -41,6 +41,8 @@ impl<F: Flash, R: Rows<F>> ReplyLines<F> for Project<'_, R> {
 
     ghost passes = { λ rows. R.passes (input_of rows) };
 
+    ghost sound = { λ rows. R.sound (input_of rows) };
+
     ghost lines = { λ rows contents. map words.Fields (project (columns_of rows) (records_of (R.left (input_of rows) contents))) };
 
     ghost most = { λ rows. R.most (input_of rows) };

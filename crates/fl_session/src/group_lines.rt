@@ -40,6 +40,8 @@ impl<F: Flash, R: Rows<F>> ReplyLines<F> for Aggregate<R> {
 
     ghost passes = { λ groups. R.passes (input_of groups) };
 
+    ghost sound = { λ groups. R.sound (input_of groups) };
+
     ghost lines = { λ groups contents. map group_reply (groups_left groups (R.present (input_of groups)) (R.left (input_of groups) contents)) };
 
     ghost most = { λ groups. R.most (input_of groups) };

@@ -1,8 +1,9 @@
 // The rows that a cursor gives, as lines.
-ghost use Rattle.std.specs.Prelude.{◌≡◌, ◌≤◌, ℕ, length, IfErr};
+ghost use Rattle.std.specs.Prelude.{◌≡◌, ◌<◌, ◌≤◌, ℕ, length, IfOk, IfErr};
 ghost use Rattle.fl_base.specs.Causes.{HasCause, Rose};
 ghost use Rattle.fl_cursor.specs.Cursor.{table_of, mark_of, IsReady, IsTold, MayBeBad};
 ghost use Rattle.fl_cursor.specs.Going.{Keeps};
+ghost use Rattle.fl_cursor.specs.Sound.{IsSoundAhead};
 ghost use Rattle.fl_frame.specs.Contents.{contents_of, OnlyReads};
 ghost use Rattle.fl_table.specs.Look.{layout_in};
 ghost use Rattle.fl_session.specs.Gives.{Gives, ReadsToGive};
@@ -60,6 +61,7 @@ pub(crate) fn give_rows<F: Flash, K: Sink>(
     ensures later { K.faults out.old ≤ K.faults out.new }
     ensures sink { IfErr result (λ fault. IfSink fault (Rose (K.faults out.old) (K.faults out.new))) }
     ensures unread { IfErr result (IfUnread (F.state flash.old) (F.state flash.new)) }
+    ensures sound { IfOk result (λ given. given < count → IsSoundAhead cursor.old (contents_of (F.state flash.old))) }
     ensures lines { GivesLines (MovesOver form.blobs (mark_of cursor.old) (mark_of cursor.new)) (MayBeBad (table_of cursor.old) (contents_of (F.state flash.old))) count (K.written out.old) (K.written out.new) result }
     ensures gives { IsTold cursor.old (contents_of (F.state flash.old)) → Gives form.blobs count cursor.old cursor.new (contents_of (F.state flash.old)) (K.written out.old) (K.written out.new) result }
     ensures reads { IsTold cursor.old (contents_of (F.state flash.old)) → ReadsToGive count cursor.old (contents_of (F.state flash.old)) (F.state flash.old).work.reads (F.state flash.new).work.reads result }

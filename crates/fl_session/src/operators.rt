@@ -22,7 +22,8 @@ ghost use Rattle.fl_ops.specs.Select as selected;
 ghost use Rattle.fl_words.specs.Reply as words;
 ghost use Rattle.fl_session.specs.Rows.{row_reply};
 ghost use Rattle.fl_session.specs.Asked.{asked_records, lacked_column};
-ghost use Rattle.fl_session.specs.ListSays.{EndsOn, EndsOnBoth, IsFields, IsGroup, IsPair, ListSays};
+ghost use Rattle.fl_session.specs.Caused.{EndsPairs, EndsRange};
+ghost use Rattle.fl_session.specs.ListSays.{EndsAt, EndsAtBoth, IsFields, IsGroup, IsPair, ListSays};
 ghost use Rattle.fl_session.specs.Lines.{Counted};
 ghost use Rattle.fl_session.specs.Paired.{pair_lines};
 ghost use Rattle.fl_session.specs.Rising.{AreRising, IsRow};
@@ -61,7 +62,7 @@ fn list_selected<F: Flash, K: Sink>(
     ensures index_name { index_name (selected.input_of lines.new.rows) ≡ index_name (selected.input_of lines.old.rows) }
     ensures ready { IsReady (selected.input_of lines.new.rows) (contents_of (F.state flash.old)) }
     ensures cause { HasCause (K.faults out.old) (K.faults out.new) result }
-    ensures says { ListSays (AreRising IsRow (above_of (asked_of (selected.input_of lines.old.rows)))) (EndsOn (table_of (selected.input_of lines.old.rows)) (F.state flash.old) (F.state flash.new)) (K.written out.old) (K.written out.new) result }
+    ensures says { ListSays (AreRising IsRow (above_of (asked_of (selected.input_of lines.old.rows)))) (EndsAt (selected.input_of lines.old.rows) (F.state flash.old) (F.state flash.new)) (K.written out.old) (K.written out.new) result }
     ensures counted { IsTold (selected.input_of lines.old.rows) (contents_of (F.state flash.old)) → length (left_of (selected.input_of lines.old.rows) (contents_of (F.state flash.old))) < 2 ^ 63 → (F.state flash.old).is_on ≡ true →
         Counted (map (row_reply lines.old.blobs) (filter (row_passes (selected.comparison_of lines.old.rows)) (left_of (selected.input_of lines.old.rows) (contents_of (F.state flash.old)))))
         (most_of (selected.input_of lines.old.rows) (contents_of (F.state flash.old))) (least_of (selected.input_of lines.old.rows) (contents_of (F.state flash.old)))
@@ -87,7 +88,7 @@ pub(crate) fn select<F: Flash, K: Sink>(
     ensures lies { LiesOn table.now (F.state flash.new) }
     ensures room { HasRooms buf.new (F.state flash.old).geometry.page }
     ensures cause { HasCause (K.faults out.old) (K.faults out.new) result }
-    ensures says { ListSays (AreRising IsRow (above_range range.low None)) (EndsOn table.now (F.state flash.old) (F.state flash.new)) (K.written out.old) (K.written out.new) result }
+    ensures says { ListSays (AreRising IsRow (above_range range.low None)) (EndsRange range table.now (F.state flash.old) (F.state flash.new)) (K.written out.old) (K.written out.new) result }
     ensures counted { (first : ℕ) → (plan : Plan) → (t : model.Table) → IsTrue (F.state flash.old).media.tells → (F.state flash.old).is_on ≡ true → Stands table.now (F.state flash.old) first plan t →
         Counted (map (note_of plan) (operators.select comparison.column comparison.op comparison.value (asked_records range t))) (scan_limit 64 plan t range None range.low) (least_reads plan t range None)
         (K.written out.old) (K.written out.new) (F.state flash.old).media.faults (F.state flash.new).media.faults (F.state flash.old).work.reads (F.state flash.new).work.reads result }
@@ -139,7 +140,7 @@ fn list_projected<F: Flash, K: Sink>(
     ensures index_name { index_name (projected.input_of rows.new) ≡ index_name (projected.input_of rows.old) }
     ensures ready { IsReady (projected.input_of rows.new) (contents_of (F.state flash.old)) }
     ensures cause { HasCause (K.faults out.old) (K.faults out.new) result }
-    ensures says { ListSays (AllByRecursion (IsFields (length (projected.columns_of rows.old)))) (EndsOn (table_of (projected.input_of rows.old)) (F.state flash.old) (F.state flash.new)) (K.written out.old) (K.written out.new) result }
+    ensures says { ListSays (AllByRecursion (IsFields (length (projected.columns_of rows.old)))) (EndsAt (projected.input_of rows.old) (F.state flash.old) (F.state flash.new)) (K.written out.old) (K.written out.new) result }
     ensures counted { IsTold (projected.input_of rows.old) (contents_of (F.state flash.old)) → length (left_of (projected.input_of rows.old) (contents_of (F.state flash.old))) < 2 ^ 63 → (F.state flash.old).is_on ≡ true →
         Counted (map words.Fields (operators.project (projected.columns_of rows.old) (records_of (left_of (projected.input_of rows.old) (contents_of (F.state flash.old))))))
         (most_of (projected.input_of rows.old) (contents_of (F.state flash.old))) (least_of (projected.input_of rows.old) (contents_of (F.state flash.old)))
@@ -166,7 +167,7 @@ pub(crate) fn project<F: Flash, K: Sink>(
     ensures lies { LiesOn table.now (F.state flash.new) }
     ensures room { HasRooms buf.new (F.state flash.old).geometry.page }
     ensures cause { HasCause (K.faults out.old) (K.faults out.new) result }
-    ensures says { ListSays (AllByRecursion (IsFields (length columns.now))) (EndsOn table.now (F.state flash.old) (F.state flash.new)) (K.written out.old) (K.written out.new) result }
+    ensures says { ListSays (AllByRecursion (IsFields (length columns.now))) (EndsRange range table.now (F.state flash.old) (F.state flash.new)) (K.written out.old) (K.written out.new) result }
     ensures counted { (first : ℕ) → (plan : Plan) → (t : model.Table) → IsTrue (F.state flash.old).media.tells → (F.state flash.old).is_on ≡ true → Stands table.now (F.state flash.old) first plan t →
         Counted (map words.Fields (operators.project columns.now (asked_records range t))) (scan_limit 64 plan t range None range.low) (least_reads plan t range None)
         (K.written out.old) (K.written out.new) (F.state flash.old).media.faults (F.state flash.new).media.faults (F.state flash.old).work.reads (F.state flash.new).work.reads result }
@@ -189,7 +190,7 @@ fn list_groups<F: Flash, K: Sink>(
     ensures index_name { index_name (grouped.input_of groups.new) ≡ index_name (grouped.input_of groups.old) }
     ensures ready { IsReady (grouped.input_of groups.new) (contents_of (F.state flash.old)) }
     ensures cause { HasCause (K.faults out.old) (K.faults out.new) result }
-    ensures says { ListSays (AllByRecursion IsGroup) (EndsOn (table_of (grouped.input_of groups.old)) (F.state flash.old) (F.state flash.new)) (K.written out.old) (K.written out.new) result }
+    ensures says { ListSays (AllByRecursion IsGroup) (EndsAt (grouped.input_of groups.old) (F.state flash.old) (F.state flash.new)) (K.written out.old) (K.written out.new) result }
     ensures counted { IsTold (grouped.input_of groups.old) (contents_of (F.state flash.old)) →
         length (grouped.groups_left groups.old (present_of (grouped.input_of groups.old)) (left_of (grouped.input_of groups.old) (contents_of (F.state flash.old)))) < 2 ^ 63 → (F.state flash.old).is_on ≡ true →
         Counted (map group_reply (grouped.groups_left groups.old (present_of (grouped.input_of groups.old)) (left_of (grouped.input_of groups.old) (contents_of (F.state flash.old)))))
@@ -219,7 +220,7 @@ pub(crate) fn aggregate<F: Flash, K: Sink>(
     ensures lies { LiesOn table.now (F.state flash.new) }
     ensures room { HasRooms buf.new (F.state flash.old).geometry.page }
     ensures cause { HasCause (K.faults out.old) (K.faults out.new) result }
-    ensures says { ListSays (AllByRecursion IsGroup) (EndsOn table.now (F.state flash.old) (F.state flash.new)) (K.written out.old) (K.written out.new) result }
+    ensures says { ListSays (AllByRecursion IsGroup) (EndsRange range table.now (F.state flash.old) (F.state flash.new)) (K.written out.old) (K.written out.new) result }
     ensures counted { (first : ℕ) → (plan : Plan) → (t : model.Table) → IsTrue (F.state flash.old).media.tells → (F.state flash.old).is_on ≡ true → Stands table.now (F.state flash.old) first plan t →
         Counted (map group_reply (operators.aggregate column width (asked_records range t))) (scan_limit 64 plan t range None range.low) (least_reads plan t range None)
         (K.written out.old) (K.written out.new) (F.state flash.old).media.faults (F.state flash.new).media.faults (F.state flash.old).work.reads (F.state flash.new).work.reads result }
@@ -251,7 +252,7 @@ fn answer_pairs<F: Flash, K: Sink>(
     ensures left_ready { IsReady left.new (contents_of (F.state flash.old)) }
     ensures right_ready { IsReady right.new (contents_of (F.state flash.old)) }
     ensures cause { HasCause (K.faults out.old) (K.faults out.new) result }
-    ensures says { ListSays (AllByRecursion IsPair) (EndsOnBoth (table_of left.old) (table_of right.old) (F.state flash.old) (F.state flash.new)) (K.written out.old) (K.written out.new) result }
+    ensures says { ListSays (AllByRecursion IsPair) (EndsAtBoth left.old right.old (F.state flash.old) (F.state flash.new)) (K.written out.old) (K.written out.new) result }
     ensures counted { IsTold left.old (contents_of (F.state flash.old)) → IsTold right.old (contents_of (F.state flash.old)) →
         length (pair_lines (left_of left.old (contents_of (F.state flash.old))) (left_of right.old (contents_of (F.state flash.old)))) < 2 ^ 63 → (F.state flash.old).is_on ≡ true →
         Counted (pair_lines (left_of left.old (contents_of (F.state flash.old))) (left_of right.old (contents_of (F.state flash.old))))
@@ -279,7 +280,7 @@ pub(crate) fn join<F: Flash, K: Sink>(
     ensures reads_only { OnlyReads (F.state flash.old) (F.state flash.new) }
     ensures room { HasRooms buf.new (F.state flash.old).geometry.page }
     ensures cause { HasCause (K.faults out.old) (K.faults out.new) result }
-    ensures says { ListSays (AllByRecursion IsPair) (EndsOnBoth left.now right.now (F.state flash.old) (F.state flash.new)) (K.written out.old) (K.written out.new) result }
+    ensures says { ListSays (AllByRecursion IsPair) (EndsPairs range left.now right.now (F.state flash.old) (F.state flash.new)) (K.written out.old) (K.written out.new) result }
     ensures counted { (first second : ℕ) → (a b : Plan) → (t u : model.Table) → IsTrue (F.state flash.old).media.tells → (F.state flash.old).is_on ≡ true →
         Stands left.now (F.state flash.old) first a t → Stands right.now (F.state flash.old) second b u →
         Counted (map pair_reply (operators.key_join (asked_records range t) (asked_records range u))) (scan_limit 64 a t range None range.low + scan_limit 64 b u range None range.low) 0

@@ -1,5 +1,5 @@
 // Pairs of rows as lines.
-ghost use Rattle.std.specs.Prelude.{◌≡◌, ◌⊎◌, ◌+◌, ◌-◌, ◌≤◌, ◌<◌, ◌^◌, true, length, map, Err, IfErr, IfOk, IfSome};
+ghost use Rattle.std.specs.Prelude.{◌≡◌, ◌⊎◌, ◌+◌, ◌-◌, ◌≤◌, ◌<◌, ◌^◌, true, length, map, Err, OnOk, IfErr, IfOk, IfNone, IfSome};
 ghost use Rattle.std.specs.List.{AllByRecursion};
 ghost use Rattle.fl_flash.specs.Flash.{FlashState};
 ghost use Rattle.fl_machine.specs.Step.{pair_reply};
@@ -58,6 +58,9 @@ fn next_line<F: Flash, A: Rows<F>, B: Rows<F>>(
     ensures left { Continues A.names A.schema A.above A.ready A.told A.passes (contents_of (F.state flash.old)) left.old left.new }
     ensures right { Continues B.names B.schema B.above B.ready B.told B.passes (contents_of (F.state flash.old)) right.old right.new }
     ensures kind { IfOk result (λ line. IfSome line (λ reply. IsLineOf IsPair reply)) }
+    ensures left_sound { OnOk result (A.sound left.new (contents_of (F.state flash.old)) → A.sound left.old (contents_of (F.state flash.old))) }
+    ensures right_sound { OnOk result (B.sound right.new (contents_of (F.state flash.old)) → B.sound right.old (contents_of (F.state flash.old))) }
+    ensures all_sound { IfOk result (λ line. IfNone line (A.sound left.old (contents_of (F.state flash.old)) ⊎ B.sound right.old (contents_of (F.state flash.old)))) }
     ensures bad_page { (bad : BadPage) → result ≡ Err (ReadFault.BadPage bad) → A.passes left.old (contents_of (F.state flash.old)) bad ⊎ B.passes right.old (contents_of (F.state flash.old)) bad }
     ensures steps { A.told left.old (contents_of (F.state flash.old)) → B.told right.old (contents_of (F.state flash.old)) →
         LineSteps result (pair_lines (A.left left.old (contents_of (F.state flash.old))) (B.left right.old (contents_of (F.state flash.old))))
@@ -91,6 +94,7 @@ pub(crate) fn list_pairs<F: Flash, A: Rows<F>, B: Rows<F>, K: Sink>(
     ensures right { Continues B.names B.schema B.above B.ready B.told B.passes (contents_of (F.state flash.old)) right.old right.new }
     ensures cause { HasSinkCause (K.faults out.old) (K.faults out.new) result }
     ensures lines { GivesLines (AllByRecursion IsPair) (λ bad. A.passes left.old (contents_of (F.state flash.old)) bad ⊎ B.passes right.old (contents_of (F.state flash.old)) bad) (2 ^ 64 - 1) (K.written out.old) (K.written out.new) result }
+    ensures sound { IfOk result (λ count. count < 2 ^ 64 - 1 → A.sound left.old (contents_of (F.state flash.old)) ⊎ B.sound right.old (contents_of (F.state flash.old))) }
     ensures unread { IfErr result (IfUnread (F.state flash.old) (F.state flash.new)) }
     ensures lists { A.told left.old (contents_of (F.state flash.old)) → B.told right.old (contents_of (F.state flash.old)) →
         length (pair_lines (A.left left.old (contents_of (F.state flash.old))) (B.left right.old (contents_of (F.state flash.old)))) < 2 ^ 63 → (F.state flash.old).is_on ≡ true →

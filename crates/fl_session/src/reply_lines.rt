@@ -35,6 +35,9 @@ pub(crate) trait ReplyLines<F: Flash> {
     /// Which pages may be bad in a flash that holds this.
     ghost passes: { Self → Contents → BadPage → Type 0 };
 
+    /// Whether no page that it reads from now on, up to the last line, is bad in a flash that holds this.
+    ghost sound: { Self → Contents → Type 0 };
+
     /// The lines left.
     ghost lines: { Self → Contents → List words.Reply };
 
@@ -53,6 +56,8 @@ pub(crate) trait ReplyLines<F: Flash> {
         ensures makes { (first : Self) (before : List words.Reply) → made first self.old before → IfOk result (λ line. IfSome line (λ reply. IsLineOf (λ shown. made first self.new (before ++ shown ∷ [])) reply)) }
         ensures bad_page { (bad : BadPage) → result ≡ Err (ReadFault.BadPage bad) → passes self.old (contents_of (F.state flash.old)) bad }
         ensures same_test { (contents : Contents) (bad : BadPage) → passes self.new contents bad → passes self.old contents bad }
+        ensures sound { OnOk result (sound self.new (contents_of (F.state flash.old)) → sound self.old (contents_of (F.state flash.old))) }
+        ensures all_sound { IfOk result (λ line. IfNone line (sound self.old (contents_of (F.state flash.old)))) }
         ensures stays_told { told self.old (contents_of (F.state flash.old)) → told self.new (contents_of (F.state flash.old)) }
         ensures steps { told self.old (contents_of (F.state flash.old)) →
             LineSteps result (lines self.old (contents_of (F.state flash.old))) (lines self.new (contents_of (F.state flash.old))) }
@@ -79,6 +84,7 @@ pub(crate) fn list_lines<F: Flash, L: ReplyLines<F>, K: Sink>(
     ensures stays_ready { (contents : Contents) → L.ready lines.old columns contents → L.ready lines.new columns contents }
     ensures cause { HasSinkCause (K.faults out.old) (K.faults out.new) result }
     ensures lines { GivesLines (MadeFrom L.made lines.old) (L.passes lines.old (contents_of (F.state flash.old))) (2 ^ 64 - 1) (K.written out.old) (K.written out.new) result }
+    ensures sound { IfOk result (λ count. count < 2 ^ 64 - 1 → L.sound lines.old (contents_of (F.state flash.old))) }
     ensures unread { IfErr result (IfUnread (F.state flash.old) (F.state flash.new)) }
     ensures lists { L.told lines.old (contents_of (F.state flash.old)) → length (L.lines lines.old (contents_of (F.state flash.old))) < 2 ^ 63 → (F.state flash.old).is_on ≡ true →
         ListsAll (L.lines lines.old (contents_of (F.state flash.old))) (K.written out.old) (K.written out.new) (F.state flash.old).media.faults (F.state flash.new).media.faults result }
@@ -124,7 +130,7 @@ pub(crate) fn answer_lines<F: Flash, L: ReplyLines<F>, K: Sink>(
     ensures names { L.names lines.new ≡ L.names lines.old }
     ensures stays_ready { (contents : Contents) → L.ready lines.old columns contents → L.ready lines.new columns contents }
     ensures cause { HasCause (K.faults out.old) (K.faults out.new) result }
-    ensures says { ListSays (MadeFrom L.made lines.old) (EndsCounted (L.passes lines.old (contents_of (F.state flash.old))) (F.state flash.old) (F.state flash.new)) (K.written out.old) (K.written out.new) result }
+    ensures says { ListSays (MadeFrom L.made lines.old) (EndsCounted (L.sound lines.old (contents_of (F.state flash.old))) (L.passes lines.old (contents_of (F.state flash.old))) (F.state flash.old) (F.state flash.new)) (K.written out.old) (K.written out.new) result }
     ensures counted { L.told lines.old (contents_of (F.state flash.old)) → length (L.lines lines.old (contents_of (F.state flash.old))) < 2 ^ 63 → (F.state flash.old).is_on ≡ true →
         Counted (L.lines lines.old (contents_of (F.state flash.old))) (L.most lines.old (contents_of (F.state flash.old))) (L.least lines.old (contents_of (F.state flash.old)))
         (K.written out.old) (K.written out.new) (F.state flash.old).media.faults (F.state flash.new).media.faults (F.state flash.old).work.reads (F.state flash.new).work.reads result }

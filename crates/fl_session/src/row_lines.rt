@@ -30,6 +30,8 @@ impl<F: Flash, R: Rows<F>> ReplyLines<F> for RowLines<R> {
 
     ghost passes = { λ lines. ⟦<Select<R> as Rows<F>>⟧.passes lines.rows };
 
+    ghost sound = { λ lines. ⟦<Select<R> as Rows<F>>⟧.sound lines.rows };
+
     ghost lines = { λ lines contents. map (row_reply lines.blobs) (⟦<Select<R> as Rows<F>>⟧.left lines.rows contents) };
 
     ghost most = { λ lines. ⟦<Select<R> as Rows<F>>⟧.most lines.rows };

@@ -8,7 +8,7 @@ ghost use Rattle.fl_table.specs.BlobAt.{has_blobs};
 ghost use Rattle.fl_table.specs.Memory.{is_running, LiesOn};
 ghost use Rattle.fl_table.specs.Standing.{Stands};
 ghost use Rattle.fl_session.specs.Caused.{mark_on};
-ghost use Rattle.fl_session.specs.ListSays.{EndsOn, ListSays};
+ghost use Rattle.fl_session.specs.ListSays.{EndsScan, ListSays};
 ghost use Rattle.fl_session.specs.Listed.{Scans};
 ghost use Rattle.fl_session.specs.RowsGiven.{AreRows};
 ghost use Rattle.fl_session.specs.Standing.{HasRooms};
@@ -38,7 +38,7 @@ pub(crate) fn list_rows<F: Flash, K: Sink>(
     ensures index { length buf.new.index.bytes ≡ length buf.old.index.bytes }
     ensures right { (length buf.new.right_rows.bytes ≡ length buf.old.right_rows.bytes) × (length buf.new.right_index.bytes ≡ length buf.old.right_index.bytes) }
     ensures cause { HasCause (K.faults out.old) (K.faults out.new) result }
-    ensures lines { ListSays (AreRows (has_blobs table.now) (mark_on table.now range span)) (EndsOn table.now (F.state flash.old) (F.state flash.new)) (K.written out.old) (K.written out.new) result }
+    ensures lines { ListSays (AreRows (has_blobs table.now) (mark_on table.now range span)) (EndsScan (mark_on table.now range span) table.now (F.state flash.old) (F.state flash.new)) (K.written out.old) (K.written out.new) result }
     ensures scans { (first : ℕ) → (plan : Plan) → (t : model.Table) → IsTrue (F.state flash.old).media.tells → (F.state flash.old).is_on ≡ true → Stands table.now (F.state flash.old) first plan t →
         Scans plan t range span (K.written out.old) (K.written out.new) (F.state flash.old).media.faults (F.state flash.new).media.faults (F.state flash.old).work.reads (F.state flash.new).work.reads result }
 {

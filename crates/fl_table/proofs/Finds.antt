@@ -1,6 +1,6 @@
 -- What a lookup ends with, in the words of the table.
 use Rattle.std.proofs.Common.{◌≡◌, ℕ, ◌+◌, ◌*◌, ◌<◌, ◌≤◌, Bool, true, false, Option, Some, None, option_map, Result, Ok, Err, List, map, length, drop, refl, sym, ◌∙◌, ap, subst, arith, IsTrue}
-use Rattle.std.specs.Prelude.{IfOk, IfSome, MatchOption, if◌then◌else◌, unwrap_or}
+use Rattle.std.specs.Prelude.{IfOk, IfSome, MatchOption, OnOk, if◌then◌else◌, unwrap_or}
 use Rattle.std.specs.List.{slice_get}
 use Rattle.fl_find.specs.Index.{error_in, knots_in, most_reads, window_end}
 use Rattle.fl_find.specs.Looking.{LookFails}
@@ -35,7 +35,7 @@ use Rattle.fl_ring.specs.Ring.{Shape, place}
 use Rattle.fl_ring.specs.declared.ring.Ring.{Ring}
 use Rattle.fl_schema.specs.Schema.{layout_of}
 use Rattle.fl_search.specs.Search.{Ascends, IsPageOf}
-use Rattle.fl_table.specs.Finding.{AnswersInPages, AnswersPending, EndsOn, Finds, HasKeyAt, IsRowAt, HoldsIts, HoldsKept, HasBadPage, LookupFails, first_at, rows_at as rows_of_page, window_in}
+use Rattle.fl_table.specs.Finding.{AnswersInPages, AnswersPending, EndsOn, Finds, HasKeyAt, IsRowAt, HoldsIts, HoldsKept, HasBadPage, IsPageFor, LookupFails, first_at, rows_at as rows_of_page, window_in}
 use Rattle.fl_table.specs.Look.{buffered_rows, layout_in, oldest_in}
 use Rattle.fl_table.specs.Memory.{next_in, IsPlanned, LiesOn}
 use Rattle.fl_table.specs.Standing.{Stands}
@@ -170,6 +170,30 @@ module _ {KNOTS SLOTS : ℕ} (t : Table KNOTS SLOTS) (ring : Ring) (f : FlashSta
         (subst (λ o. Ascends (first_at t f) o (next_of ring)) (oldest-in t ring is) (subst (λ n. Ascends (first_at t f) (oldest_in t) n) (next-in t ring is) up)))
         (page-of-ring (next_in t) (next_of ring) page (next-in t ring is) h));
   }
+
+  ring-page : (end_now end : ℕ) (page : Option ℕ) → end_now ≡ end → IsPageOf (first_on (layout_in t) (shape_of ring) f) (oldest_of ring) end key page → IsPageOf (first_at t f) (oldest_in t) end_now key page
+  ring-page end_now end page same h =
+      subst (λ e. IsPageOf (first_at t f) (oldest_in t) e key page) (sym same)
+      (subst (λ o. IsPageOf (first_at t f) o end key page) (sym (oldest-in t ring is))
+      (subst (λ (first : ℕ → Option ℕ). IsPageOf first (oldest_of ring) end key page) (sym firsts-in) h))
+
+  pub page-for : (result : Result (Option ℕ) ReadFault) → IsTrue f.media.tells →
+      (is_covered (knots_in t.index) key ≡ true → IsTrue f.media.tells → IfOk result (λ page. IsPageOf (first_on (layout_in t) (shape_of ring) f) (oldest_of ring) (window_end t.index (next_of ring) key) key page)) →
+      ((page : Option ℕ) → is_covered (knots_in t.index) key ≡ true → IsTrue f.media.tells → IsPageOf (first_on (layout_in t) (shape_of ring) f) (oldest_of ring) (window_end t.index (next_of ring) key) key page →
+      OnOk result (find.NoneIsBad (layout_in t) ring f (unwrap_or page (oldest_of ring)) (window_end t.index (next_of ring) key))) →
+      (is_covered (knots_in t.index) key ≡ false → IsTrue f.media.tells → Ascends (first_on (layout_in t) (shape_of ring) f) (oldest_of ring) (next_of ring) →
+      IfOk result (λ page. IsPageOf (first_on (layout_in t) (shape_of ring) f) (oldest_of ring) (next_of ring) key page)) →
+      IfOk result (IsPageFor t (page_at f) key)
+  page-for (Ok page) told near sound far = record {
+    near = λ covered. ring-page (window_in t key) (window_end t.index (next_of ring) key) page window-is (near covered told);
+    sound = λ covered n from before bad is_bad. sound page covered told (near covered told) n
+        (subst (λ o. unwrap_or page o ≤ n) (oldest-in t ring is) from) (subst (λ e. n < e) window-is before) bad
+        (subst (λ p. IsBadPage (layout_in t) n (page_at f p) bad) (ring-place t ring n is) is_bad);
+    far = λ covered up. ring-page (next_in t) (next_of ring) page (next-in t ring is) (far covered told
+        (subst (λ (first : ℕ → Option ℕ). Ascends first (oldest_of ring) (next_of ring)) firsts-in
+        (subst (λ o. Ascends (first_at t f) o (next_of ring)) (oldest-in t ring is) (subst (λ n. Ascends (first_at t f) (oldest_in t) n) (next-in t ring is) up))));
+  }
+  page-for (Err e) told near sound far = tt
 
 -- the row that was found has the key
 has-key : (rows : List Row) (key row : ℕ) → HasKey rows key row → option_map (λ (r : Row). r.key) (slice_get rows row) ≡ Some key

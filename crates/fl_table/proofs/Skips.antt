@@ -1,21 +1,24 @@
 -- What is known of a page before it is read, and what was read to know it.
-use Rattle.std.proofs.Common.{◌≡◌, inl, inr, ℕ, ◌+◌, ◌-◌, ◌^◌, ◌<◌, ◌≤◌, Bool, true, false, not, ◌&&◌, ◌||◌, ◌==◌, nat_lt, cond, Option, Some, None, Ok, Err, IsTrue, List, [], ◌∷◌, bit_and, sym, ◌∙◌, ap, subst, arith, refl}
+use Rattle.std.proofs.Common.{◌≡◌, inl, inr, ℕ, ◌+◌, ◌-◌, ◌^◌, ◌<◌, ◌≤◌, Bool, true, false, not, ◌&&◌, ◌||◌, ◌==◌, nat_lt, cond, Option, Some, None, Result, Ok, Err, IfSome, IsTrue, List, [], ◌∷◌, bit_and, sym, ◌∙◌, ap, subst, arith, refl}
 use Rattle.std.proofs.lemmas.Bool.{cases_lt, eqb-true, lt-ltb, false_from_ne_true}
 use Rattle.std.proofs.Math.Nat.{mod-eq_of_lt}
 use Rattle.std.specs.List.{list_any, AllByRecursion}
 use Rattle.fl_base.specs.declared.types.Span.{Span}
 use Rattle.fl_bitmap.specs.Widths.{is_bits}
+use Rattle.fl_bitmap.specs.declared.buckets.Buckets.{Buckets}
 use Rattle.fl_flash.specs.Buffer.{BufferState}
-use Rattle.fl_flash.specs.Flash.{FlashState}
+use Rattle.fl_flash.specs.Flash.{FlashState, page_at}
 use Rattle.fl_index.specs.Looking as looking
-use Rattle.fl_index.specs.Looking.{IfBad, HoldsGood, IsFresh, IsScanning, ScansOn, TellsRows, is_looked_at, next_to_read, unread, due, ShowsEntry}
-use Rattle.fl_index.specs.Memory.{next_in, oldest_in}
-use Rattle.fl_index.specs.Page.{fields_of}
+use Rattle.fl_index.specs.Looking.{ByMemory, IfBad, IfRead, HoldsGood, IsFresh, IsScanning, ScansOn, TellsRows, entire, entry_of, is_looked_at, listing_by, looked_at, next_to_read, unread, due, ShowsEntry}
+use Rattle.fl_index.specs.Memory.{first_waiting, form_in, found_waiting, is_waiting, next_in, oldest_in, per_page, place_in}
+use Rattle.fl_index.specs.Page.{IsGoodPage, fields_of, found_at}
 use Rattle.fl_index.specs.declared.index.BitmapIndex.{BitmapIndex}
 use Rattle.fl_index.specs.declared.page.Found.{Found}
 use Rattle.fl_index.specs.declared.page.Full.{Full}
 use Rattle.fl_index.proofs.Counts.{count-none}
+use Rattle.fl_index.proofs.Held.{listed-by}
 use Rattle.fl_index.proofs.Scans.{scanning-from}
+use Rattle.fl_mark.specs.Mark.{state_of_page}
 use Rattle.fl_model.specs.Layout.{bitmap_of, full_of}
 use Rattle.fl_model.specs.Limits.{asks_values, waits, is_listed, is_indexed, mask_of}
 use Rattle.fl_model.specs.Record.{Plan}
@@ -26,7 +29,7 @@ use Rattle.fl_page.specs.declared.fault.ReadFault.{ReadFault}
 use Rattle.fl_page.specs.declared.fault.ReadFault.TheVariants.{Flash, BadPage}
 use Rattle.fl_index.specs.Standing as standing
 use Rattle.fl_table.specs.Bitmaps.{ArePlanned, Stand}
-use Rattle.fl_table.specs.Skipping.{AreFresh, AreScanning, HoldGood, IsBadIndex, LooksOn, ShowsPage, ahead_by, ahead_of, begins_above, due_of}
+use Rattle.fl_table.specs.Skipping.{AreFresh, AreScanning, HoldGood, IsBadIndex, IsEntryOf, IsToldBy, LooksOn, ShowsPage, ahead_by, ahead_of, begins_above, due_of, mask_for}
 use Rattle.fl_table.specs.declared.look_ahead.Ahead.{Ahead}
 use Rattle.fl_table.specs.declared.look_ahead.Ahead.TheVariants.{Wanted, Missed, Beyond}
 use Rattle.fl_table.specs.Standing.{Stands}
@@ -161,3 +164,70 @@ pub bad-index : (bitmaps : Option BitmapIndex) (index : BitmapIndex) → bitmaps
     IfBad (λ bad. IsTrue f.media.tells → HoldGood bitmaps buf → IsBadIndex bitmaps f bad) fault
 bad-index bitmaps index is f buf fault h =
     subst (λ (o : Option BitmapIndex). IfBad (λ bad. IsTrue f.media.tells → HoldGood o buf → IsBadIndex o f bad) fault) (sym is) h
+
+-- ---- over any bytes
+
+-- The entry that was found waits, or stands on an index page that lists it.
+module _ (index : BitmapIndex) (f : FlashState) (number : ℕ) (before : BufferState) (new : FlashState) (after : BufferState) (found : Found) (told : IsTrue f.media.tells) (fresh : IsFresh index f before) where
+  abbrev Memory : Option ℕ → Type 0
+  Memory o = o ≡ None → ByMemory entire index number f before (Ok (Some found)) new after
+
+  abbrev Tells : Option ℕ → Type 0
+  Tells o = IfSome o (λ listing. looking.IsFound entire index listing number after.bytes (Ok (Some found)))
+
+  abbrev Reads : Option ℕ → Type 0
+  Reads o = IfSome o (λ listing. IsTrue f.media.tells → IsFresh index f before → IfRead {X = Option Found} (Ok (Some found)) (after.bytes ≡ page_at f (place_in index listing)))
+
+  pub entry-is : Memory (looked_at index number before) → Tells (looked_at index number before) → Reads (looked_at index number before) → IsEntryOf index (page_at f) number found
+  entry-is memory tells reads = by_look (looked_at index number before) refl memory tells reads
+    where
+      some-found : (a : Found) → ◌≡◌ {A = Result (Option Found) ReadFault} (Ok (Some found)) (Ok (Some a)) → found ≡ a
+      some-found a e = cc
+
+      none-found : ◌≡◌ {A = Result (Option Found) ReadFault} (Ok (Some found)) (Ok None) → ⊥
+      none-found e = cc
+
+      by_waiting : (b : Bool) → is_waiting index number ≡ b → ◌≡◌ {A = Result (Option Found) ReadFault} (Ok (Some found)) (Ok (cond b (Some (found_waiting index (number - first_waiting index))) None)) →
+          IsEntryOf index (page_at f) number found
+      by_waiting true is e = inl (is, some-found (found_waiting index (number - first_waiting index)) e)
+      by_waiting false is e = absurd (none-found e)
+
+      listed : (listing : ℕ) (b : Bool) → cond b None (listing_by index number before) ≡ Some listing → listing_by index number before ≡ Some listing
+      listed listing true e = absurd (no e)
+        where
+          no : ◌≡◌ {A = Option ℕ} None (Some listing) → ⊥
+          no e = cc
+      listed listing false e = e
+
+      by_look : (o : Option ℕ) → looked_at index number before ≡ o → Memory o → Tells o → Reads o → IsEntryOf index (page_at f) number found
+      by_look None is memory tells reads = by_waiting (is_waiting index number) refl (memory refl).answer
+      by_look (Some listing) is memory tells reads =
+          let bytes = reads told fresh in
+          let at = listed-by index number listing before (listed listing (is_waiting index number) is) in
+          inr (
+            listing,
+            record {
+              kept = at.kept;
+              lists_it = at.here;
+              committed = ap state_of_page (sym bytes) ∙ tells.0;
+              good = subst (IsGoodPage (per_page index) listing) bytes tells.1;
+              found_is = tells.2 ∙ ap (λ (page : List ℕ). found_at (form_in index) page (entry_of index listing number)) bytes;
+            },
+          )
+
+-- what was answered is told by it
+pub told-by : (bitmaps : Option BitmapIndex) (buckets : Option Buckets) (asked : Option Span) (index : BitmapIndex) (span : Span) (is : bitmaps ≡ Some index) (is_span : asked ≡ Some span) (f : FlashState) (top : Option ℕ) (number : ℕ)
+    (before : BufferState) (new : FlashState) (after : BufferState) (answer : Option Found) (found : Found) (is_found : answer ≡ Some found) (ahead : Ahead) → IsTrue f.media.tells → AreFresh bitmaps f before →
+    (looked_at index number before ≡ None → ByMemory entire index number f before (Ok answer) new after) → IfSome (looked_at index number before) (λ listing. looking.IsFound entire index listing number after.bytes (Ok answer)) →
+    IfSome (looked_at index number before) (λ listing. IsTrue f.media.tells → IsFresh index f before → IfRead {X = Option Found} (Ok answer) (after.bytes ≡ page_at f (place_in index listing))) →
+    ahead ≡ ahead_by (mask_for buckets span) top found → IsToldBy bitmaps buckets (page_at f) asked top number ahead
+told-by bitmaps buckets asked index span is is_span f top number before new after answer found is_found ahead told fresh memory tells reads by =
+    subst (λ (s : Option Span). IsToldBy bitmaps buckets (page_at f) s top number ahead) (sym is_span)
+    (subst (λ (o : Option BitmapIndex). IsToldBy o buckets (page_at f) (Some span) top number ahead) (sym is) (
+      found,
+      entry-is index f number before new after found told (subst (λ (o : Option BitmapIndex). AreFresh o f before) is fresh)
+          (subst (λ (a : Option Found). looked_at index number before ≡ None → ByMemory entire index number f before (Ok a) new after) is_found memory)
+          (subst (λ (a : Option Found). IfSome (looked_at index number before) (λ listing. looking.IsFound entire index listing number after.bytes (Ok a))) is_found tells)
+          reads,
+      by,
+    ))

@@ -136,6 +136,22 @@ limit_in t key = if is_pending_in t key then 0 else most_reads t.index (next_in 
 abbrev pub NoneIsBad : {KNOTS SLOTS : ℕ} → Table KNOTS SLOTS → FlashState → ℕ → ℕ → Type 0
 NoneIsBad t f from end = (n : ℕ) → from ≤ n → n < end → IsSound (layout_in t) n (page_at f (place_of t n))
 
+-- the number after the last page that may have a row with at most a key
+abbrev pub end_in : {KNOTS SLOTS : ℕ} → Table KNOTS SLOTS → ℕ → ℕ
+end_in t key = if is_covered_in t key then window_in t key else next_in t
+
+-- the first key of the page with this number, among pages of these bytes
+abbrev pub first_among : {KNOTS SLOTS : ℕ} → Table KNOTS SLOTS → (ℕ → List ℕ) → ℕ → Option ℕ
+first_among t page number = first_key (rows_on (layout_in t) (page (place_of t number)))
+
+-- What a search for the page of a key ended with, among pages of these bytes. Of a covered key that is the greatest page of its window
+-- whose first key is at most the key, and neither it nor a page behind it in the window is bad. Of another key it is the greatest of
+-- all kept pages, which is told where first keys ascend.
+pub record IsPageFor {KNOTS SLOTS : ℕ} (t : Table KNOTS SLOTS) (page : ℕ → List ℕ) (key : ℕ) (found : Option ℕ) : Type 0 where
+  pub near : is_covered_in t key ≡ true → IsPageOf (first_among t page) (oldest_in t) (window_in t key) key found
+  pub sound : is_covered_in t key ≡ true → (n : ℕ) → unwrap_or found (oldest_in t) ≤ n → n < window_in t key → IsSound (layout_in t) n (page (place_of t n))
+  pub far : is_covered_in t key ≡ false → Ascends (first_among t page) (oldest_in t) (next_in t) → IsPageOf (first_among t page) (oldest_in t) (next_in t) key found
+
 -- A row that was found is one of this page. Where none was, there is no page, or the page has no row with the key, which is
 -- told where its rows rise.
 abbrev pub EndsOn : {KNOTS SLOTS : ℕ} → Table KNOTS SLOTS → FlashState → ℕ → Option ℕ → Option RowAt → Type 0

@@ -1,14 +1,20 @@
 -- What is known of a data page before it is read, as far as its index entry tells, and what index pages are read for it.
-use Rattle.std.specs.Prelude.{◌≡◌, ℕ, ◌+◌, ◌-◌, ◌^◌, ◌<◌, ◌≤◌, Bool, true, false, not, ◌&&◌, ◌||◌, nat_lt, ◌==◌, Option, Some, None, Result, Ok, Err, OnOk, List, ◌∷◌, bit_and, if◌then◌else◌}
+use Rattle.std.specs.Prelude.{◌≡◌, ◌⊎◌, ℕ, ◌+◌, ◌-◌, ◌^◌, ◌<◌, ◌≤◌, Bool, true, false, not, ◌&&◌, ◌||◌, nat_lt, ◌==◌, Option, Some, None, Result, Ok, Err, OnOk, List, ◌∷◌, bit_and, if◌then◌else◌}
 use Rattle.std.specs.List.{AllByRecursion}
 use Rattle.fl_base.specs.declared.types.Span.{Span}
+use Rattle.fl_bitmap.specs.Bucket.{mask_in}
+use Rattle.fl_bitmap.specs.declared.buckets.Buckets.{Buckets}
 use Rattle.fl_flash.specs.Buffer.{BufferState}
 use Rattle.fl_flash.specs.Flash.{FlashState}
 use Rattle.fl_index.specs.Looking as looking
-use Rattle.fl_index.specs.Looking.{IsFresh, IsScanning, HoldsGood, next_to_read, unread, due}
+use Rattle.fl_index.specs.Looking.{IsFresh, IsScanning, HoldsGood, entry_of, next_to_read, unread, due}
+use Rattle.fl_index.specs.Memory.{first_in, first_waiting, form_in, found_waiting, is_waiting, lists, next_in, oldest_in, per_page, place_in}
+use Rattle.fl_index.specs.Page.{IsGoodPage, found_at}
 use Rattle.fl_index.specs.declared.index.BitmapIndex.{BitmapIndex}
 use Rattle.fl_index.specs.declared.page.Found.{Found}
 use Rattle.fl_index.specs.declared.page.Full.{Full}
+use Rattle.fl_mark.specs.Mark.{state_of_page}
+use Rattle.fl_mark.specs.declared.page_state.PageState.TheVariants.{Committed}
 use Rattle.fl_model.specs.Layout.{bitmap_of}
 use Rattle.fl_model.specs.Limits.{asks_values, is_indexed, mask_of}
 use Rattle.fl_model.specs.Query.{is_up_to}
@@ -88,6 +94,30 @@ begins_above top (Some full) = not (is_up_to top full.first_key)
 abbrev pub ahead_by : ℕ → Option ℕ → Found → Ahead
 ahead_by mask top found =
     if begins_above top found.full then Beyond else if bit_and found.bitmap mask == 0 then Missed else Wanted
+
+-- the buckets of a span as bits; none where a table has no buckets
+abbrev pub mask_for : Option Buckets → Span → ℕ
+mask_for None span = 0
+mask_for (Some buckets) span = mask_in buckets span
+
+-- the entry of a data page stands on this kept index page, which lists it and is committed and good
+pub record IsEntryOn (index : BitmapIndex) (page : ℕ → List ℕ) (number listing : ℕ) (found : Found) : Type 0 where
+  pub kept : (oldest_in index ≤ listing) × (listing < next_in index)
+  pub lists_it : lists (per_page index) number (first_in index listing) ≡ true
+  pub committed : state_of_page (page (place_in index listing)) ≡ Committed
+  pub good : IsGoodPage (per_page index) listing (page (place_in index listing))
+  pub found_is : found ≡ found_at (form_in index) (page (place_in index listing)) (entry_of index listing number)
+
+-- .. or it waits in memory
+abbrev pub IsEntryOf : BitmapIndex → (ℕ → List ℕ) → ℕ → Found → Type 0
+IsEntryOf index page number found =
+    ((is_waiting index number ≡ true) × (found ≡ found_waiting index (number - first_waiting index))) ⊎ ((listing : ℕ) × IsEntryOn index page number listing found)
+
+-- Where values are asked for and there is an index, over pages of these bytes: an entry of a data page tells this of it.
+abbrev pub IsToldBy : Option BitmapIndex → Option Buckets → (ℕ → List ℕ) → Option Span → Option ℕ → ℕ → Ahead → Type 0
+IsToldBy bitmaps buckets page None top number ahead = ⊥
+IsToldBy None buckets page (Some span) top number ahead = ⊥
+IsToldBy (Some index) buckets page (Some span) top number ahead = (found : Found) × IsEntryOf index page number found × (ahead ≡ ahead_by (mask_for buckets span) top found)
 
 -- Over a flash that stands for a table: the scan goes on, what was read isn't read again, and what had to be read was. After a
 -- fault too no more is left to be read than before.

@@ -20,12 +20,13 @@ impl<const KNOTS: usize, const SLOTS: usize> Table<KNOTS, SLOTS> {
     ghost use Rattle.std.specs.Prelude.{Some, false};
     ghost use Rattle.fl_find.specs.Finding.{FindsPage, pages_end};
     ghost use Rattle.fl_find.specs.Pages.{IsFresh};
+    ghost use Rattle.fl_flash.specs.Flash as flashes;
     ghost use Rattle.fl_flash.specs.Flash.{FlashState};
     ghost use Rattle.fl_model.specs.Record.{Plan};
     ghost use Rattle.fl_base.specs.Bits.{bits};
     ghost use Rattle.fl_model.specs.Spline.{is_pending_key, lookup_limit, page_at};
     ghost use Rattle.fl_model.specs.Table as model;
-    ghost use Rattle.fl_table.specs.Finding.{Finds, FindsPending, HasKeyAt, IsAnswered, IsRowAt, HoldsIts, HoldsKept, LookupFails, IsInSlot, is_pending_in, knots_near, limit_in, row_in, row_of_place};
+    ghost use Rattle.fl_table.specs.Finding.{Finds, FindsPending, HasKeyAt, IsAnswered, IsRowAt, HoldsIts, HoldsKept, LookupFails, IsInSlot, IsPageFor, end_in, is_pending_in, knots_near, limit_in, row_in, row_of_place};
     ghost use Rattle.fl_schema.specs.Schema.{layout_of_row, row_of};
     ghost use Rattle.fl_table.specs.Look.{layout_in, oldest_in};
     ghost use Rattle.fl_table.specs.Memory.{is_running, next_in, LiesOn};
@@ -122,6 +123,8 @@ impl<const KNOTS: usize, const SLOTS: usize> Table<KNOTS, SLOTS> {
             FindsPage KNOTS plan table key (F.state flash.old).work.reads (F.state flash.new).work.reads result }
         ensures reads { (first : ℕ) → (plan : Plan) → (table : model.Table) → IsTrue (F.state flash.old).media.tells → Stands self.now (F.state flash.old) first plan table →
             is_pending_key table key ≡ false → (F.state flash.new).work.reads ≤ (F.state flash.old).work.reads + lookup_limit KNOTS plan table key }
+        // Whatever the pages hold: the page that is found is that of the key, and of a covered key no page that has to be read is bad.
+        ensures answers { IsTrue (F.state flash.old).media.tells → IfOk result (IsPageFor self.now (flashes.page_at (F.state flash.old)) key) }
         ensures most { (F.state flash.new).work.reads ≤ (F.state flash.old).work.reads + (next_in self.now - oldest_in self.now) + 1 }
         ensures counts { contents.OnlyReads (F.state flash.old) (F.state flash.new) }
         ensures lies { LiesOn self.now (F.state flash.new) }
@@ -145,7 +148,8 @@ impl<const KNOTS: usize, const SLOTS: usize> Table<KNOTS, SLOTS> {
     /// with rows is greater. Nothing is read.
     pub fn end_of_pages(&self, key: u64) -> u32
         ensures within { result ≤ next_in self.now }
-        ensures exact { (f : FlashState) → (first : ℕ) → (plan : Plan) → (table : model.Table) → Stands self.now f first plan table → result ≡ pages_end KNOTS plan table key }
+        ensures exact { result ≡ end_in self.now key }
+        ensures table { (f : FlashState) → (first : ℕ) → (plan : Plan) → (table : model.Table) → Stands self.now f first plan table → result ≡ pages_end KNOTS plan table key }
         ensures past { (f : FlashState) → (first : ℕ) → (plan : Plan) → (table : model.Table) → Stands self.now f first plan table → IfSome (page_at table key) (λ page. page < result) }
     {
         self.index.end_of_pages(key, self.next_number())

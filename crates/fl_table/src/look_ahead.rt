@@ -22,9 +22,10 @@ pub enum Ahead {
 }
 
 impl<const KNOTS: usize, const SLOTS: usize> Table<KNOTS, SLOTS> {
-    ghost use Rattle.std.specs.Prelude.{ℕ, List, [], bit_and, slice_get};
+    ghost use Rattle.std.specs.Prelude.{ℕ, List, [], IfOk, bit_and, slice_get};
     ghost use Rattle.fl_index.specs.Looking.{IfBad};
     ghost use Rattle.fl_base.specs.declared.types.KeyRange.{KeyRange};
+    ghost use Rattle.fl_flash.specs.Flash.{page_at};
     ghost use Rattle.fl_model.specs.Image.{rows_at};
     ghost use Rattle.fl_model.specs.Layout.{bitmap_of};
     ghost use Rattle.fl_model.specs.Limits.{mask_of};
@@ -33,7 +34,7 @@ impl<const KNOTS: usize, const SLOTS: usize> Table<KNOTS, SLOTS> {
     ghost use Rattle.fl_model.specs.Ring as rings;
     ghost use Rattle.fl_model.specs.Table as model;
     ghost use Rattle.fl_table.specs.Memory.{next_in, HasBuckets, LiesOn};
-    ghost use Rattle.fl_table.specs.Skipping.{AreFresh, AreScanning, HoldGood, IsBadIndex, LooksOn, ShowsPage, ahead_by, index_in};
+    ghost use Rattle.fl_table.specs.Skipping.{AreFresh, AreScanning, HoldGood, IsBadIndex, IsToldBy, LooksOn, ShowsPage, ahead_by, index_in, mask_for};
     ghost use Rattle.fl_table.specs.declared.look_ahead.Ahead.{Ahead};
     ghost use Rattle.fl_table.specs.Standing.{Stands};
 
@@ -69,6 +70,10 @@ impl<const KNOTS: usize, const SLOTS: usize> Table<KNOTS, SLOTS> {
             AreFresh (index_in self.now) (F.state flash.old) buf.old → AreScanning (index_in self.now) number buf.old →
             LooksOn (index_in self.now) span number buf.old (F.state flash.old).work.reads result (F.state flash.new).work.reads buf.new }
 
+        // Whatever the pages hold: a page that needn't be read is told so by its entry.
+        ensures told { IsTrue (F.state flash.old).media.tells → AreFresh (index_in self.now) (F.state flash.old) buf.old →
+            IfOk result (λ ahead. (ahead ≡ Ahead.Wanted → ⊥) → IsToldBy (index_in self.now) self.now.buckets (page_at (F.state flash.old)) span top number ahead) }
+
         // A page that is held isn't bad, and a bad one that is answered stands on the flash.
         ensures good { HoldGood (index_in self.now) buf.old → HoldGood (index_in self.now) buf.new }
         ensures bad { IfErr result (IfBad (λ bad. IsTrue (F.state flash.old).media.tells → HoldGood (index_in self.now) buf.old → IsBadIndex (index_in self.now) (F.state flash.old) bad)) }
@@ -92,6 +97,7 @@ impl<const KNOTS: usize, const SLOTS: usize> Table<KNOTS, SLOTS> {
 
     /// What an entry tells of its page, for a span and the greatest key wanted.
     fn ahead_by(&self, found: Found, span: Span, top: Option<u64>) -> Ahead
+        ensures told { result ≡ ahead_by (mask_for self.now.buckets span) top found }
         ensures exact { (plan : Plan) → HasBuckets plan self.now.buckets → (plan.bits ≡ 0 → ⊥) → result ≡ ahead_by (mask_of plan span) top found }
         ensures misses { (plan : Plan) → (entries : List model.Entry) → (range : KeyRange) → HasBuckets plan self.now.buckets → (plan.bits ≡ 0 → ⊥) →
             found.bitmap ≡ bitmap_of plan entries → result ≡ Ahead.Missed → selected range (Some span) entries ≡ [] }
@@ -107,6 +113,7 @@ impl<const KNOTS: usize, const SLOTS: usize> Table<KNOTS, SLOTS> {
 
     /// The bits of the buckets of a span; none where the table has no buckets.
     fn mask(&self, span: Span) -> u64
+        ensures told { result ≡ mask_for self.now.buckets span }
         ensures exact { (plan : Plan) → HasBuckets plan self.now.buckets → (plan.bits ≡ 0 → ⊥) → result ≡ mask_of plan span }
         ensures misses { (plan : Plan) → (entries : List model.Entry) → (range : KeyRange) → HasBuckets plan self.now.buckets → (plan.bits ≡ 0 → ⊥) →
             bit_and (bitmap_of plan entries) result ≡ 0 → selected range (Some span) entries ≡ [] }

@@ -60,6 +60,8 @@ impl<F: Flash> Rows<F> for PageRows<'_> {
 
     ghost passes = { λ rows contents bad. ⊥ };
 
+    ghost sound = { λ rows contents. Unit {0} };
+
     ghost most = { λ rows contents. 0 };
 
     ghost least = { λ rows contents. 0 };

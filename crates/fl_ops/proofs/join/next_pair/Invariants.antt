@@ -17,6 +17,8 @@ invariant-loop-left g l =
       reads_only : OnlyReads (g.F.Flash.state l.fn.flash) (g.F.Flash.state l.flash);
       left : Continues A.names HA.schema HA.above A.ready A.told A.passes contents l.fn.left l.left;
       right : Continues B.names HB.schema HB.above B.ready B.told B.passes contents l.fn.right l.right;
+      left_sound : A.sound l.left contents → A.sound l.fn.left contents;
+      right_sound : B.sound l.right contents → B.sound l.fn.right contents;
       left_here : HA.here l.left ≡ true;
       right_here : HB.here l.right ≡ true;
       left_key : HA.above l.left ≡ Some (HA.present l.left).key;

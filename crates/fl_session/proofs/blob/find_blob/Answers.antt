@@ -1,10 +1,14 @@
-use Rattle.std.proofs.Common.{◌≡◌, sym, subst}
+use Rattle.std.proofs.Common.{◌≡◌, refl, sym, subst}
 use Rattle.fl_schema.specs.Schema.{row_of}
 use Rattle.fl_table.specs.BlobAt.{has_blobs}
 use Rattle.fl_session.specs.BlobShown.{IfNamed, FindsBlob}
 use Rattle.fl_session.specs.declared.blob.BlobFound.{BlobFound}
 use Rattle.std.specs.Prelude.{true, Ok}
 use Rattle.fl_session.proofs.BlobShows.{named-has, finds-row, finds-unread}
+use Rattle.fl_model.specs.Row.{Row}
+use Rattle.fl_session.specs.BlobSays.{NamesFor}
+use Rattle.fl_session.proofs.BadBlobs.{names-row}
+use Rattle.fl_session.proofs.Lookups.{finds-row as finds-there}
 use Rattle.fl_session.proofs.blob.find_blob.Goals as goal
 
 pub returns-in-Ok-None-clause-finds : goal.returns-in-Ok-None-clause-finds
@@ -24,3 +28,15 @@ returns-in-Ok-Some-clause-finds g c = λ first plan t told stands.
 
 pub returns-in-Err-clause-finds : goal.returns-in-Err-clause-finds
 returns-in-Err-clause-finds g c = λ first plan t told stands. finds-unread 64 plan t c.args.key (g.F.Flash.state c.args.flash.now).work.reads (g.F.Flash.state c.find.new.flash).work.reads c.find.new.buf c.in-Err.fault (c.in-Err.ensures.finds first plan t told stands)
+
+pub returns-in-Ok-None-clause-names : goal.returns-in-Ok-None-clause-names
+returns-in-Ok-None-clause-names g c = rw c.in-Ok-None.field-0-is at c.in-Ok-None.ensures.answers
+
+pub returns-in-Ok-Some-clause-names : goal.returns-in-Ok-Some-clause-names
+returns-in-Ok-Some-clause-names g c =
+    let f = g.F.Flash.state c.args.flash.now in
+    let row = row_of c.row_at.result in
+    subst (λ (x : BlobFound). NamesFor c.args.table.now c.args.key (g.F.Flash.state c.args.flash.now) x) (sym c.found_in.ensures)
+    (names-row c.args.table.now c.args.key f row
+    (finds-there c.args.table.now c.args.key f (g.F.Flash.state c.find.new.flash) c.find.new.buf c.in-Ok-Some.place row (λ (r : Row). r ≡ row_of c.row_at.result) refl
+    c.find.ensures.counts (rw c.in-Ok-Some.field-0-is at c.in-Ok-Some.ensures.holds) c.row_at.ensures.row (rw c.in-Ok-Some.field-0-is at c.in-Ok-Some.ensures.key) (rw c.in-Ok-Some.field-0-is at c.in-Ok-Some.ensures.answers)))

@@ -6,9 +6,9 @@ use Rattle.fl_var.specs.Reading.{data_of}
 use Rattle.fl_store.proofs.Readers.{buffer-fits, data-lies, data-stands, opened-ready, reads-kept, room-same}
 use Rattle.fl_session.proofs.BlobShows.{says-empty, few-left, holds-blob}
 use Rattle.fl_words.specs.Reply.{BytesEmpty}
-use Rattle.fl_session.specs.BlobSays.{MayBeBadFor}
+use Rattle.fl_session.specs.BlobSays.{MayBeBadFor, TellsBlob}
 use Rattle.fl_session.proofs.AnyBlobs.{says-one}
-use Rattle.fl_session.proofs.BadBlobs.{opened-bad, turned-held}
+use Rattle.fl_session.proofs.BadBlobs.{opened-bad, opened-gone, opened-left, turned-held}
 use Rattle.fl_session.proofs.blob.show_at.Goals as goal
 
 pub returns-then-at-eq0-clause-says : goal.returns-then-at-eq0-clause-says
@@ -70,7 +70,7 @@ returns-clause-reads g c = λ first plan t i entry bytes tells stands slot blob_
     omega (arith, more, few)
 
 pub returns-then-at-eq0-clause-tells : goal.returns-then-at-eq0-clause-tells
-returns-then-at-eq0-clause-tells g c = says-one (MayBeBadFor c.args.table.now (g.F.Flash.state c.args.flash.now)) (g.F.Flash.state c.args.flash.now) (g.F.Flash.state c.args.flash.now) _ _ _ BytesEmpty tt c.write_reply.ensures.text
+returns-then-at-eq0-clause-tells g c = says-one (TellsBlob c.args.table.now (g.F.Flash.state c.args.flash.now) c.args.at) (MayBeBadFor c.args.table.now (g.F.Flash.state c.args.flash.now)) (g.F.Flash.state c.args.flash.now) (g.F.Flash.state c.args.flash.now) _ _ _ BytesEmpty tt (λ taken. c.if-at-eq0.true) c.write_reply.ensures.text
 
 pub returns-clause-tells : goal.returns-clause-tells
 returns-clause-tells g c =
@@ -78,7 +78,9 @@ returns-clause-tells g c =
     let h = g.F.Flash.state c.open-stands.new.flash in
     let t = c.args.table.now in
     let v = data_of c.blob_reader-reader.result in
-    c.show_opened-written.ensures.tells t f (record {
+    c.show_opened-written.ensures.tells t c.args.at f (record {
+      gone = opened-gone t f h c.open-stands.ensures.reads v c.args.at c.open-stands.result c.open-stands.new.self c.blob_reader-reader.ensures.var c.open-stands.ensures.opens;
+      left = opened-left t f h c.open-stands.ensures.reads v c.args.at c.open-stands.result c.open-stands.new.self c.blob_reader-reader.ensures.var c.open-stands.ensures.opens;
       only = c.open-stands.ensures.counts;
       fails = opened-bad t f h v c.args.at c.open-stands.result c.open-stands.new.self c.blob_reader-reader.ensures.var c.open-stands.ensures.opens c.open-stands.ensures.fails;
       ahead = λ is. turned-held f h c.open-stands.ensures.counts t v c.open-stands.new.self c.blob_reader-reader.ensures.var c.open-stands.ensures.data

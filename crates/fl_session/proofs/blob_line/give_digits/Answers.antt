@@ -1,10 +1,11 @@
-use Rattle.std.proofs.Common.{◌≡◌, ℕ, zero, suc, ◌+◌, ◌≤◌, Bool, true, false, Result, Ok, Err, List, [], ◌++◌, refl, ◌∙◌, subst, arith}
+use Rattle.std.proofs.Common.{◌≡◌, ℕ, zero, suc, ◌+◌, ◌≤◌, Bool, true, false, Result, Ok, Err, List, [], ◌++◌, append_assoc, refl, sym, ◌∙◌, ap, subst, arith}
+use Rattle.std.proofs.lemmas.List.{append-nil}
 use Rattle.std.proofs.lemmas.Result.{err_from_is_err_and}
 use Rattle.fl_base.specs.Causes.{Appends, AppendsFront}
 use Rattle.fl_page.proofs.ReadsInTurn.{IsCaused-later}
 use Rattle.fl_frame.proofs.ContentsInTurn.{OnlyReads-same, OnlyReads-then}
 use Rattle.fl_page.specs.declared.fault.ReadFault.{ReadFault}
-use Rattle.fl_var.specs.Reading.{chunk_of, count_left, page_of}
+use Rattle.fl_var.specs.Reading.{bytes_left, chunk_of, count_left, page_of}
 use Rattle.fl_words.specs.Reply.{hex_text}
 use Rattle.fl_store.proofs.Appends.{appends-none}
 use Rattle.fl_session.proofs.AnyBlobs.{digits-into, digits-more}
@@ -20,7 +21,7 @@ loop-reader-init g c = record {
   buffer = refl;
   later = omega arith;
   ready = λ h. h;
-  digits = ([], appends-none _);
+  digits = ([], appends-none _, λ ready. refl);
   gave = λ ready whole. gave-none c.args.reader.now (g.F.Flash.state c.args.flash.now) (g.K.Sink.written c.args.out.now) ready whole;
 }
 
@@ -61,7 +62,13 @@ loop-reader-preserved g c =
       buffer = e.buffer ∙ inv.buffer;
       later = omega (arith, inv.later, c.in_ok-write_digits.ensures.cause.later);
       ready = λ h. e.ready (inv.ready h);
-      digits = (inv.digits.0 ++ chunk_of c.step.new.self, digits-more _ _ _ inv.digits.0 (chunk_of c.step.new.self) inv.digits.1 (subst (λ (l : List ℕ). Appends (g.K.Sink.written c.loop-reader.out) (g.K.Sink.written c.write_digits.new.out) (hex_text l)) c.chunk.ensures c.in_ok-write_digits.ensures.text));
+      digits = (
+        inv.digits.0 ++ chunk_of c.step.new.self,
+        digits-more _ _ _ inv.digits.0 (chunk_of c.step.new.self) inv.digits.1 (subst (λ (l : List ℕ). Appends (g.K.Sink.written c.loop-reader.out) (g.K.Sink.written c.write_digits.new.out) (hex_text l)) c.chunk.ensures c.in_ok-write_digits.ensures.text),
+        λ ready.
+            let steps = rw c.if-branch.true at (e.steps (inv.ready ready)) in
+            append_assoc inv.digits.0 (chunk_of c.step.new.self) (bytes_left c.step.new.self (g.F.Flash.state c.step.new.flash)) ∙ (ap (λ (l : List ℕ). inv.digits.0 ++ l) (sym steps.0) ∙ inv.digits.2 ready),
+      );
       gave = λ ready whole.
           let so_far = inv.gave ready whole in
           let steps = rw c.if-branch.true at (e.steps so_far.ready) in
@@ -114,7 +121,7 @@ pub returns-in_err-step-clause-digits : goal.returns-in_err-step-clause-digits
 returns-in_err-step-clause-digits g c =
     let p = err_from_is_err_and c.from_residual.result c.from_residual.ensures.1 in
     let inv = c.loop-reader.invariant in
-    rw (p.1, p.2) (inv.digits, ahead-held (g.F.Flash.state c.args.flash.now) (g.F.Flash.state c.loop-reader.flash) inv.counts c.args.reader.now c.loop-reader.reader (page_of c.loop-reader.reader + 1) c.in_err-step.field-0.0 inv.same inv.ready c.in_err-step.ensures.bad)
+    rw (p.1, p.2) ((inv.digits.0, inv.digits.1), ahead-held (g.F.Flash.state c.args.flash.now) (g.F.Flash.state c.loop-reader.flash) inv.counts c.args.reader.now c.loop-reader.reader (page_of c.loop-reader.reader + 1) c.in_err-step.field-0.0 inv.same inv.ready c.in_err-step.ensures.bad)
 
 pub returns-in_err-write_digits-clause-digits : goal.returns-in_err-write_digits-clause-digits
 returns-in_err-write_digits-clause-digits g c =
@@ -126,4 +133,11 @@ returns-in_err-write_digits-clause-digits g c =
     )
 
 pub returns-clause-digits : goal.returns-clause-digits
-returns-clause-digits g c = c.loop-reader.invariant.digits
+returns-clause-digits g c =
+    let inv = c.loop-reader.invariant in (
+      inv.digits.0,
+      inv.digits.1,
+      λ ready.
+          let steps = rw c.if-branch.false at (c.in_ok-step.ensures.steps (inv.ready ready)) in
+          sym (append-nil inv.digits.0) ∙ (ap (λ (l : List ℕ). inv.digits.0 ++ l) (sym steps.0) ∙ inv.digits.2 ready),
+    )

@@ -3,7 +3,7 @@ use Rattle.fl_frame.specs.Contents.{contents_of}
 use Rattle.fl_script.specs.Written.{Written}
 use Rattle.fl_cursor.specs.Cursor.{mark_of, MayBeBad}
 use Rattle.fl_table.specs.declared.table.Table.{Table}
-use Rattle.fl_session.specs.ListSays.{EndsNext, GivesLines}
+use Rattle.fl_session.specs.ListSays.{EndsNext, GivesLines, PassesNoBad}
 use Rattle.fl_session.specs.Nexts.{ending_of}
 use Rattle.fl_session.specs.RowsGiven.{MovesOver}
 use Rattle.fl_session.proofs.AnyLines.{list-ends, list-fails}
@@ -27,15 +27,16 @@ returns-in-Ok-clause-nexts g c = λ first plan t tells on stands.
 
 pub returns-in-Ok-clause-lines : goal.returns-in-Ok-clause-lines
 returns-in-Ok-clause-lines g c =
-    moves-by (EndsNext c.args.count c.args.table.now (g.F.Flash.state c.args.flash.now) (g.F.Flash.state c.give_rows-given.new.flash)) _ _ _ _ _ _ _ _ c.form_of-form.ensures.blobs c.resume-cursor.ensures.mark _ (sym c.park.ensures.mark)
-    (list-ends (MovesOver c.form_of-form.result.blobs (mark_of c.resume-cursor.result) (mark_of c.give_rows-given.new.cursor)) (ending_of c.args.count) c.args.count (MayBeBad c.args.table.now (contents_of (g.F.Flash.state c.args.flash.now))) (g.F.Flash.state c.args.flash.now) (g.F.Flash.state c.give_rows-given.new.flash) _ _ _ _ c.in-Ok.given
+    moves-by (EndsNext c.args.count c.args.mark.now c.args.table.now (g.F.Flash.state c.args.flash.now) (g.F.Flash.state c.give_rows-given.new.flash)) _ _ _ _ _ _ _ _ c.form_of-form.ensures.blobs c.resume-cursor.ensures.mark _ (sym c.park.ensures.mark)
+    (list-ends (MovesOver c.form_of-form.result.blobs (mark_of c.resume-cursor.result) (mark_of c.give_rows-given.new.cursor)) (ending_of c.args.count) c.args.count (PassesNoBad c.args.mark.now c.args.table.now (g.F.Flash.state c.args.flash.now)) (MayBeBad c.args.table.now (contents_of (g.F.Flash.state c.args.flash.now))) (g.F.Flash.state c.args.flash.now) (g.F.Flash.state c.give_rows-given.new.flash) _ _ _ _ c.in-Ok.given
+    (λ less. c.resume-cursor.ensures.sound (contents_of (g.F.Flash.state c.args.flash.now)) (c.in-Ok.ensures.sound less))
     (subst (λ (t : Table 64 64). GivesLines (MovesOver c.form_of-form.result.blobs (mark_of c.resume-cursor.result) (mark_of c.give_rows-given.new.cursor)) (MayBeBad t (contents_of (g.F.Flash.state c.args.flash.now))) c.args.count (g.K.Sink.written c.args.out.now) (g.K.Sink.written c.give_rows-given.new.out) (Ok c.in-Ok.given)) c.resume-cursor.ensures.table c.in-Ok.ensures.lines)
     (subst (λ (l : List ℕ). Written (g.K.Sink.written c.give_rows-given.new.out) (g.K.Sink.written c.write_reply.new.out) c.write_reply.result l) c.ending.ensures c.write_reply.ensures.text))
 
 pub returns-in-Err-clause-lines : goal.returns-in-Err-clause-lines
 returns-in-Err-clause-lines g c =
-    moves-by (EndsNext c.args.count c.args.table.now (g.F.Flash.state c.args.flash.now) (g.F.Flash.state c.give_rows-given.new.flash)) _ _ _ _ _ _ _ _ c.form_of-form.ensures.blobs c.resume-cursor.ensures.mark _ (sym c.park.ensures.mark)
-    (list-fails (MovesOver c.form_of-form.result.blobs (mark_of c.resume-cursor.result) (mark_of c.give_rows-given.new.cursor)) (ending_of c.args.count) c.args.count (MayBeBad c.args.table.now (contents_of (g.F.Flash.state c.args.flash.now))) (g.F.Flash.state c.args.flash.now) (g.F.Flash.state c.give_rows-given.new.flash) _ _ _ _ c.in-Err.fault
+    moves-by (EndsNext c.args.count c.args.mark.now c.args.table.now (g.F.Flash.state c.args.flash.now) (g.F.Flash.state c.give_rows-given.new.flash)) _ _ _ _ _ _ _ _ c.form_of-form.ensures.blobs c.resume-cursor.ensures.mark _ (sym c.park.ensures.mark)
+    (list-fails (MovesOver c.form_of-form.result.blobs (mark_of c.resume-cursor.result) (mark_of c.give_rows-given.new.cursor)) (ending_of c.args.count) c.args.count (PassesNoBad c.args.mark.now c.args.table.now (g.F.Flash.state c.args.flash.now)) (MayBeBad c.args.table.now (contents_of (g.F.Flash.state c.args.flash.now))) (g.F.Flash.state c.args.flash.now) (g.F.Flash.state c.give_rows-given.new.flash) _ _ _ _ c.in-Err.fault
     (subst (λ (t : Table 64 64). GivesLines (MovesOver c.form_of-form.result.blobs (mark_of c.resume-cursor.result) (mark_of c.give_rows-given.new.cursor)) (MayBeBad t (contents_of (g.F.Flash.state c.args.flash.now))) c.args.count (g.K.Sink.written c.args.out.now) (g.K.Sink.written c.give_rows-given.new.out) (Err c.in-Err.fault)) c.resume-cursor.ensures.table c.in-Err.ensures.lines)
     c.in-Err.ensures.unread c.write_fault.ensures.says)
 

@@ -3,6 +3,7 @@ use Rattle.std.proofs.lemmas.Result.{err_from_is_err_and}
 use Rattle.fl_base.specs.Causes.{Appends, AppendsFront}
 use Rattle.fl_cursor.specs.Cursor.{table_of, mark_of, present_of, has_ended, IfBad, MayBeBad}
 use Rattle.fl_cursor.specs.Going.{Goes, Fails}
+use Rattle.fl_cursor.specs.Sound.{IsSoundAhead}
 use Rattle.fl_cursor.proofs.StepsOfRows.{steps-after}
 use Rattle.fl_cursor.proofs.Whole.{keeps-then}
 use Rattle.fl_model.specs.Row.{Row}
@@ -25,6 +26,7 @@ loop-given-init g c = record {
   ready = c.requires.ready;
   upto = omega arith;
   later = omega arith;
+  sound = λ s. s;
   told = λ told. told;
   most = λ told. omega arith;
   least = λ told below. omega arith;
@@ -145,6 +147,7 @@ loop-given-preserved g c =
       ready = goes.ready held inv.ready;
       upto = omega (arith, c.loop-given-test.true);
       later = omega (arith, inv.later, c.in_ok-show_row.ensures.cause.later);
+      sound = λ s. inv.sound (subst (λ (k : Contents). IsSoundAhead c.advance.new.self k → IsSoundAhead c.loop-given.cursor k) inv.counts.contents c.in_ok-advance.ensures.sound s);
       told = λ told. goes.told (inv.told told);
       most = λ told.
           let before = inv.most told in
@@ -216,3 +219,12 @@ pub returns-in_err-advance-clause-unread : goal.returns-in_err-advance-clause-un
 returns-in_err-advance-clause-unread g c =
     let p = err_from_is_err_and c.from_residual.result c.from_residual.ensures.1 in
     rw (p.1, p.2) (IsCaused-later (g.F.Flash.state c.args.flash.now) (g.F.Flash.state c.loop-given.flash) (g.F.Flash.state c.advance.new.flash) c.in_err-advance.field-0.0 c.loop-given.invariant.counts c.in_err-advance.ensures.cause)
+
+pub returns-then-not-branch-clause-sound : goal.returns-then-not-branch-clause-sound
+returns-then-not-branch-clause-sound g c = λ less.
+    let inv = c.loop-given.invariant in
+    let all : IsSoundAhead c.loop-given.cursor (contents_of (g.F.Flash.state c.loop-given.flash)) = rw c.if-not-branch.true at c.in_ok-advance.ensures.all_sound in
+    inv.sound (subst (λ (k : Contents). IsSoundAhead c.loop-given.cursor k) inv.counts.contents all)
+
+pub returns-clause-sound : goal.returns-clause-sound
+returns-clause-sound g c = λ less. absurd (omega (arith, less))

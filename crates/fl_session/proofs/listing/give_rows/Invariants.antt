@@ -1,6 +1,7 @@
 use Rattle.std.proofs.Common.{◌≡◌, ◌+◌, ◌-◌, ◌^◌, ◌<◌, ◌≤◌, List, length}
 use Rattle.fl_cursor.specs.Cursor.{mark_of, IsReady, IsTold}
 use Rattle.fl_cursor.specs.Going.{Keeps}
+use Rattle.fl_cursor.specs.Sound.{IsSoundAhead}
 use Rattle.fl_cursor.specs.Reads.{most_of, least_of}
 use Rattle.fl_model.specs.Row.{Row}
 use Rattle.fl_frame.specs.Contents.{contents_of, OnlyReads}
@@ -16,6 +17,7 @@ invariant-loop-given g l = record {
   ready : IsReady l.cursor (contents_of (g.F.Flash.state l.initial.flash));
   upto : l.given ≤ l.count;
   later : g.K.Sink.faults l.initial.out ≤ g.K.Sink.faults l.out;
+  sound : IsSoundAhead l.cursor (contents_of (g.F.Flash.state l.initial.flash)) → IsSoundAhead l.initial.cursor (contents_of (g.F.Flash.state l.initial.flash));
   told : IsTold l.initial.cursor (contents_of (g.F.Flash.state l.initial.flash)) → IsTold l.cursor (contents_of (g.F.Flash.state l.initial.flash));
   most : IsTold l.initial.cursor (contents_of (g.F.Flash.state l.initial.flash)) →
       (g.F.Flash.state l.flash).work.reads + most_of l.cursor (contents_of (g.F.Flash.state l.initial.flash)) ≤ (g.F.Flash.state l.initial.flash).work.reads + most_of l.initial.cursor (contents_of (g.F.Flash.state l.initial.flash));

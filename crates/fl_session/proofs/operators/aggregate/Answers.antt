@@ -15,12 +15,16 @@ use Rattle.fl_frame.specs.Contents.{contents_of}
 use Rattle.fl_table.specs.declared.table.Table.{Table}
 use Rattle.fl_session.specs.Lines.{Counted}
 use Rattle.fl_session.proofs.GroupLines.{grouped-records, groups-fewer}
-use Rattle.fl_session.specs.ListSays.{EndsOn, IsGroup}
-use Rattle.fl_session.proofs.AnyLines.{lists-of}
+use Rattle.fl_cursor.specs.Sound.{IsSoundAhead, IsSoundOver}
+use Rattle.fl_session.specs.Caused.{mark_on}
+use Rattle.fl_session.specs.ListSays.{IsGroup}
+use Rattle.fl_session.proofs.AnyLines.{lists-scan}
 use Rattle.fl_session.proofs.CountedLines.{counted-wider}
 use Rattle.fl_session.proofs.CursorMoves.{lies-read}
 use Rattle.fl_session.proofs.OperatorLines.{few-asked}
 use Rattle.fl_session.proofs.Resumed.{is-standing}
+use Rattle.fl_cursor.specs.Asked.{asked_by}
+use Rattle.fl_cursor.specs.declared.bookmark.Bookmark.{Bookmark}
 use Rattle.fl_session.proofs.operators.aggregate.Goals as goal
 
 pub list_groups-requires : goal.list_groups-requires
@@ -61,4 +65,8 @@ returns-clause-counted g c = λ first plan t tells on stands.
     (counted-wider _ _ _ (scan_limit 64 plan t c.args.range None c.args.range.low) (least_reads plan t c.args.range None) _ _ _ _ _ _ _ limit least (c.list_groups.ensures.counted told few on))
 
 pub returns-clause-says : goal.returns-clause-says
-returns-clause-says g c = lists-of (λ (t : Table 64 64). AllByRecursion IsGroup) EndsOn _ _ (g.F.Flash.state c.args.flash.now) (g.F.Flash.state c.list_groups.new.flash) _ _ _ (ap table_of c.new-groups.ensures.rows ∙ c.begin-cursor.ensures.table) c.list_groups.ensures.says
+returns-clause-says g c =
+    lists-scan (input_of c.new-groups.result) (mark_on c.args.table.now c.args.range None) c.args.table.now (g.F.Flash.state c.args.flash.now) (g.F.Flash.state c.list_groups.new.flash) (ap table_of c.new-groups.ensures.rows ∙ c.begin-cursor.ensures.table)
+    (λ s. subst (λ (m : Bookmark). IsSoundOver c.args.table.now (contents_of (g.F.Flash.state c.args.flash.now)) (asked_by m)) c.begin-cursor.ensures.mark
+    (c.begin-cursor.ensures.sound (contents_of (g.F.Flash.state c.args.flash.now)) (subst (λ (k : Cursor 64 64). IsSoundAhead k (contents_of (g.F.Flash.state c.args.flash.now))) c.new-groups.ensures.rows s)))
+    (AllByRecursion IsGroup) _ _ _ c.list_groups.ensures.says

@@ -1,6 +1,7 @@
 use Rattle.std.proofs.Common.{◌⊎◌}
 use Rattle.std.specs.List.{AllByRecursion}
 use Rattle.fl_cursor.specs.Cursor.{table_of, MayBeBad}
+use Rattle.fl_cursor.specs.Sound.{IsSoundAhead}
 use Rattle.fl_frame.specs.Contents.{contents_of}
 use Rattle.fl_frame.proofs.ContentsInTurn.{OnlyReads-reads}
 use Rattle.fl_session.specs.ListSays.{IsPair}
@@ -15,5 +16,5 @@ returns-clause-counted g c = λ left right few on.
 
 pub returns-clause-says : goal.returns-clause-says
 returns-clause-says g c =
-    list-ended (AllByRecursion IsPair) (λ bad. MayBeBad (table_of c.args.left.now) (contents_of (g.F.Flash.state c.args.flash.now)) bad ⊎ MayBeBad (table_of c.args.right.now) (contents_of (g.F.Flash.state c.args.flash.now)) bad) (g.F.Flash.state c.args.flash.now) (g.F.Flash.state c.list_pairs-listed.new.flash) _ _ _ _
-    c.list_pairs-listed.result c.list_pairs-listed.ensures.lines c.list_pairs-listed.ensures.unread c.end_list.ensures.says
+    list-ended (AllByRecursion IsPair) (IsSoundAhead c.args.left.now (contents_of (g.F.Flash.state c.args.flash.now)) ⊎ IsSoundAhead c.args.right.now (contents_of (g.F.Flash.state c.args.flash.now))) (λ bad. MayBeBad (table_of c.args.left.now) (contents_of (g.F.Flash.state c.args.flash.now)) bad ⊎ MayBeBad (table_of c.args.right.now) (contents_of (g.F.Flash.state c.args.flash.now)) bad) (g.F.Flash.state c.args.flash.now) (g.F.Flash.state c.list_pairs-listed.new.flash) _ _ _ _
+    c.list_pairs-listed.result c.list_pairs-listed.ensures.sound c.list_pairs-listed.ensures.lines c.list_pairs-listed.ensures.unread c.end_list.ensures.says

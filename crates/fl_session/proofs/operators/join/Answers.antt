@@ -12,11 +12,15 @@ use Rattle.fl_frame.specs.Contents.{contents_of}
 use Rattle.fl_words.specs.Reply.{Reply}
 use Rattle.fl_session.specs.Lines.{Counted}
 use Rattle.fl_session.specs.Paired.{pair_lines}
-use Rattle.fl_session.proofs.AnyLines.{lists-of_both}
+use Rattle.fl_session.proofs.AnyLines.{lists-pairs}
 use Rattle.fl_session.proofs.CountedLines.{counted-wider}
 use Rattle.fl_session.proofs.OperatorLines.{few-asked}
 use Rattle.fl_session.proofs.PairLines.{joined-records, pairs-fewer}
 use Rattle.fl_session.proofs.Resumed.{is-standing}
+use Rattle.fl_cursor.specs.Asked.{asked_by}
+use Rattle.fl_cursor.specs.declared.bookmark.Bookmark.{Bookmark}
+use Rattle.fl_cursor.specs.Sound.{IsSoundOver}
+use Rattle.fl_session.specs.Caused.{mark_on}
 use Rattle.fl_session.proofs.operators.join.Goals as goal
 
 pub returns-clause-counted : goal.returns-clause-counted
@@ -53,4 +57,8 @@ pub answer_pairs-requires-clause-right_ready : goal.answer_pairs-requires-clause
 answer_pairs-requires-clause-right_ready g c = c.begin-right_rows.ensures.ready (g.F.Flash.state c.args.flash.now) c.requires.right_lies c.requires.room.2 c.requires.room.3
 
 pub returns-clause-says : goal.returns-clause-says
-returns-clause-says g c = lists-of_both _ _ _ _ (g.F.Flash.state c.args.flash.now) (g.F.Flash.state c.answer_pairs.new.flash) _ _ _ c.begin-left_rows.ensures.table c.begin-right_rows.ensures.table c.answer_pairs.ensures.says
+returns-clause-says g c =
+    lists-pairs c.begin-left_rows.result c.begin-right_rows.result (mark_on c.args.left.now c.args.range None) (mark_on c.args.right.now c.args.range None) c.args.left.now c.args.right.now (g.F.Flash.state c.args.flash.now) (g.F.Flash.state c.answer_pairs.new.flash)
+    c.begin-left_rows.ensures.table c.begin-right_rows.ensures.table
+    (λ s. subst (λ (m : Bookmark). IsSoundOver c.args.left.now (contents_of (g.F.Flash.state c.args.flash.now)) (asked_by m)) c.begin-left_rows.ensures.mark (c.begin-left_rows.ensures.sound (contents_of (g.F.Flash.state c.args.flash.now)) s))
+    (λ s. subst (λ (m : Bookmark). IsSoundOver c.args.right.now (contents_of (g.F.Flash.state c.args.flash.now)) (asked_by m)) c.begin-right_rows.ensures.mark (c.begin-right_rows.ensures.sound (contents_of (g.F.Flash.state c.args.flash.now)) s)) _ _ _ c.answer_pairs.ensures.says

@@ -15,12 +15,16 @@ use Rattle.fl_table.specs.declared.table.Table.{Table}
 use Rattle.fl_words.specs.Reply as words
 use Rattle.fl_session.specs.Lines.{Counted}
 use Rattle.fl_session.proofs.Fields.{lacks-none}
-use Rattle.fl_session.specs.ListSays.{EndsOn, IsFields, ListSays}
-use Rattle.fl_session.proofs.AnyLines.{lists-of}
+use Rattle.fl_cursor.specs.Sound.{IsSoundAhead, IsSoundOver}
+use Rattle.fl_session.specs.Caused.{EndsRange, mark_on}
+use Rattle.fl_session.specs.ListSays.{IsFields, ListSays}
+use Rattle.fl_session.proofs.AnyLines.{lists-scan}
 use Rattle.fl_session.proofs.CountedLines.{counted-wider}
 use Rattle.fl_session.proofs.CursorMoves.{lies-read}
 use Rattle.fl_session.proofs.OperatorLines.{few-asked, projected-fields}
 use Rattle.fl_session.proofs.Resumed.{is-standing}
+use Rattle.fl_cursor.specs.Asked.{asked_by}
+use Rattle.fl_cursor.specs.declared.bookmark.Bookmark.{Bookmark}
 use Rattle.fl_session.proofs.operators.project.Goals as goal
 
 pub new-rows-requires : goal.new-rows-requires
@@ -58,5 +62,8 @@ returns-clause-counted g c = λ first plan t tells on stands.
 pub returns-clause-says : goal.returns-clause-says
 returns-clause-says g c =
     let columns : columns_of c.new-rows.result ≡ c.args.columns.now = c.new-rows.ensures.columns ∙ (c.as_slice.ensures.value ∙ c.places_of-places.ensures) in
-    subst (λ (cs : List ℕ). ListSays (AllByRecursion (IsFields (length cs))) (EndsOn c.args.table.now (g.F.Flash.state c.args.flash.now) (g.F.Flash.state c.list_projected.new.flash)) (g.K.Sink.written c.args.out.now) (g.K.Sink.written c.list_projected.new.out) c.list_projected.result) columns
-    (lists-of (λ (t : Table 64 64). AllByRecursion (IsFields (length (columns_of c.new-rows.result)))) EndsOn _ _ (g.F.Flash.state c.args.flash.now) (g.F.Flash.state c.list_projected.new.flash) _ _ _ (ap table_of c.new-rows.ensures.rows ∙ c.begin-cursor.ensures.table) c.list_projected.ensures.says)
+    subst (λ (cs : List ℕ). ListSays (AllByRecursion (IsFields (length cs))) (EndsRange c.args.range c.args.table.now (g.F.Flash.state c.args.flash.now) (g.F.Flash.state c.list_projected.new.flash)) (g.K.Sink.written c.args.out.now) (g.K.Sink.written c.list_projected.new.out) c.list_projected.result) columns
+    (lists-scan (input_of c.new-rows.result) (mark_on c.args.table.now c.args.range None) c.args.table.now (g.F.Flash.state c.args.flash.now) (g.F.Flash.state c.list_projected.new.flash) (ap table_of c.new-rows.ensures.rows ∙ c.begin-cursor.ensures.table)
+    (λ s. subst (λ (m : Bookmark). IsSoundOver c.args.table.now (contents_of (g.F.Flash.state c.args.flash.now)) (asked_by m)) c.begin-cursor.ensures.mark
+    (c.begin-cursor.ensures.sound (contents_of (g.F.Flash.state c.args.flash.now)) (subst (λ (k : Cursor 64 64). IsSoundAhead k (contents_of (g.F.Flash.state c.args.flash.now))) c.new-rows.ensures.rows s)))
+    (AllByRecursion (IsFields (length (columns_of c.new-rows.result)))) _ _ _ c.list_projected.ensures.says)

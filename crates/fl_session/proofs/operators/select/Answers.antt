@@ -19,9 +19,11 @@ use Rattle.fl_words.specs.Reply.{Reply}
 use Rattle.fl_session.specs.Lines.{Counted}
 use Rattle.fl_session.specs.Rows.{row_reply}
 use Rattle.fl_session.proofs.OperatorLines.{few-asked, selected-lines}
-use Rattle.fl_session.specs.ListSays.{EndsOn, ListSays}
+use Rattle.fl_cursor.specs.Sound.{IsSoundAhead, IsSoundOver}
+use Rattle.fl_session.specs.Caused.{EndsRange, mark_on}
+use Rattle.fl_session.specs.ListSays.{ListSays}
 use Rattle.fl_session.specs.Rising.{AreRising, IsRow}
-use Rattle.fl_session.proofs.AnyLines.{lists-of}
+use Rattle.fl_session.proofs.AnyLines.{lists-scan}
 use Rattle.fl_session.proofs.CountedLines.{counted-wider}
 use Rattle.fl_session.proofs.CursorMoves.{lies-read}
 use Rattle.fl_session.proofs.RowLines.{blobs-as}
@@ -69,6 +71,8 @@ returns-clause-counted g c = λ first plan t tells on stands.
 pub returns-clause-says : goal.returns-clause-says
 returns-clause-says g c =
     let above : above_of (asked_of (input_of c.new-rows.result)) ≡ above_range c.args.range.low None = ap (λ (k : Cursor 64 64). above_of (asked_of k)) c.new-rows.ensures.rows ∙ ap (λ (m : Bookmark). above_of (asked_by m)) c.begin-cursor.ensures.mark in
-    subst (λ (o : Option ℕ). ListSays (AreRising IsRow o) (EndsOn c.args.table.now (g.F.Flash.state c.args.flash.now) (g.F.Flash.state c.list_selected.new.flash)) (g.K.Sink.written c.args.out.now) (g.K.Sink.written c.list_selected.new.out) c.list_selected.result) above
-    (lists-of (λ (t : Table 64 64). AreRising IsRow (above_of (asked_of (input_of c.new-rows.result)))) EndsOn _ _ (g.F.Flash.state c.args.flash.now) (g.F.Flash.state c.list_selected.new.flash) _ _ _
-    (ap table_of c.new-rows.ensures.rows ∙ c.begin-cursor.ensures.table) c.list_selected.ensures.says)
+    subst (λ (o : Option ℕ). ListSays (AreRising IsRow o) (EndsRange c.args.range c.args.table.now (g.F.Flash.state c.args.flash.now) (g.F.Flash.state c.list_selected.new.flash)) (g.K.Sink.written c.args.out.now) (g.K.Sink.written c.list_selected.new.out) c.list_selected.result) above
+    (lists-scan (input_of c.new-rows.result) (mark_on c.args.table.now c.args.range None) c.args.table.now (g.F.Flash.state c.args.flash.now) (g.F.Flash.state c.list_selected.new.flash) (ap table_of c.new-rows.ensures.rows ∙ c.begin-cursor.ensures.table)
+    (λ s. subst (λ (m : Bookmark). IsSoundOver c.args.table.now (contents_of (g.F.Flash.state c.args.flash.now)) (asked_by m)) c.begin-cursor.ensures.mark
+    (c.begin-cursor.ensures.sound (contents_of (g.F.Flash.state c.args.flash.now)) (subst (λ (k : Cursor 64 64). IsSoundAhead k (contents_of (g.F.Flash.state c.args.flash.now))) c.new-rows.ensures.rows s)))
+    (AreRising IsRow (above_of (asked_of (input_of c.new-rows.result)))) _ _ _ c.list_selected.ensures.says)

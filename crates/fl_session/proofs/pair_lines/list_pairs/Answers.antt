@@ -1,4 +1,5 @@
-use Rattle.std.proofs.Common.{◌≡◌, ℕ, ◌+◌, ◌-◌, ◌^◌, ◌≤◌, inl, inr, Ok, Err, List, Option, sym, ◌∙◌, subst, arith}
+use Rattle.std.specs.Prelude.{IfNone}
+use Rattle.std.proofs.Common.{◌≡◌, ◌⊎◌, ◌<◌, ℕ, ◌+◌, ◌-◌, ◌^◌, ◌≤◌, inl, inr, Ok, Err, List, Option, sym, ◌∙◌, subst, arith}
 use Rattle.std.proofs.lemmas.Result.{err_from_is_err_and}
 use Rattle.std.specs.List.{AllByRecursion}
 use Rattle.fl_ops.proofs.ContinuedRows.{Continues-then}
@@ -20,6 +21,8 @@ loop-count-init g c = record {
   reads_only = OnlyReads-same _;
   left = continues-same _;
   right = continues-same _;
+  left_sound = λ s. s;
+  right_sound = λ s. s;
   later = omega arith;
   lines = wrote-none (AllByRecursion IsPair) _ _ tt;
   front = λ t u. front-none _ _ _;
@@ -64,6 +67,8 @@ loop-count-preserved g c =
       reads_only = OnlyReads-then _ _ _ c.loop-count.invariant.reads_only c.next_line.ensures.reads_only;
       left = Continues-then _ _ _ c.loop-count.invariant.left (rw c.loop-count.invariant.reads_only.contents at c.next_line.ensures.left);
       right = Continues-then _ _ _ c.loop-count.invariant.right (rw c.loop-count.invariant.reads_only.contents at c.next_line.ensures.right);
+      left_sound = λ s. c.loop-count.invariant.left_sound (subst (λ (k : Contents). g.A.Rows.sound c.next_line.new.left k → g.A.Rows.sound c.loop-count.left k) same c.in_ok-line.ensures.left_sound s);
+      right_sound = λ s. c.loop-count.invariant.right_sound (subst (λ (k : Contents). g.B.Rows.sound c.next_line.new.right k → g.B.Rows.sound c.loop-count.right k) same c.in_ok-line.ensures.right_sound s);
       later = omega (arith, c.loop-count.invariant.later, c.in_ok-write_reply.ensures.cause.later);
       lines =
           let line = made-line _ _ c.in-Some.line c.in-Some.is c.in_ok-line.ensures.kind in
@@ -164,3 +169,17 @@ pub returns-clause-lines : goal.returns-clause-lines
 returns-clause-lines g c =
     let is : c.loop-count.count ≡ 2 ^ 64 - 1 = omega (arith, c.loop-count-test.false, c.loop-count.invariant.lines.upto) in
     subst (λ n. WroteLines (AllByRecursion IsPair) (2 ^ 64 - 1) (g.K.Sink.written c.args.out.now) (g.K.Sink.written c.loop-count.out) n) is c.loop-count.invariant.lines
+
+pub returns-in_default-clause-sound : goal.returns-in_default-clause-sound
+returns-in_default-clause-sound g c = λ less.
+    either c.loop-count.invariant.left_sound c.loop-count.invariant.right_sound
+    (subst (λ (k : Contents). g.A.Rows.sound c.loop-count.left k ⊎ g.B.Rows.sound c.loop-count.right k) c.loop-count.invariant.reads_only.contents
+    (subst (λ (o : Option Reply). IfNone o (g.A.Rows.sound c.loop-count.left (contents_of (g.F.Flash.state c.loop-count.flash)) ⊎ g.B.Rows.sound c.loop-count.right (contents_of (g.F.Flash.state c.loop-count.flash)))) c.in_default.is
+    c.in_ok-line.ensures.all_sound))
+  where
+    either : {A B C D : Type 0} → (A → C) → (B → D) → A ⊎ B → C ⊎ D
+    either f g (inl a) = inl (f a)
+    either f g (inr b) = inr (g b)
+
+pub returns-clause-sound : goal.returns-clause-sound
+returns-clause-sound g c = λ less. absurd (omega (arith, less))

@@ -18,6 +18,8 @@ invariant-loop-count g l =
       reads_only : OnlyReads (g.F.Flash.state l.fn.flash) (g.F.Flash.state l.flash);
       left : Continues A.names HA.schema HA.above A.ready A.told A.passes contents l.fn.left l.left;
       right : Continues B.names HB.schema HB.above B.ready B.told B.passes contents l.fn.right l.right;
+      left_sound : A.sound l.left contents → A.sound l.fn.left contents;
+      right_sound : B.sound l.right contents → B.sound l.fn.right contents;
       later : g.K.Sink.faults l.fn.out ≤ g.K.Sink.faults l.out;
       lines : WroteLines (AllByRecursion IsPair) (2 ^ 64 - 1) (g.K.Sink.written l.fn.out) (g.K.Sink.written l.out) l.count;
       front : A.told l.fn.left contents → B.told l.fn.right contents →

@@ -1,4 +1,4 @@
-use Rattle.std.proofs.Common.{◌≡◌, ℕ, ◌+◌, ◌-◌, ◌^◌, ◌≤◌, Ok, Option, List, refl, sym, ◌∙◌, subst, arith}
+use Rattle.std.proofs.Common.{◌≡◌, ℕ, ◌+◌, ◌-◌, ◌^◌, ◌≤◌, ◌<◌, Ok, Option, List, refl, sym, ◌∙◌, subst, arith}
 use Rattle.std.proofs.lemmas.Result.{err_from_is_err_and}
 use Rattle.std.specs.Prelude.{IfNone}
 use Rattle.fl_frame.specs.Contents.{Contents, contents_of}
@@ -20,6 +20,7 @@ loop-count-init g c = record {
   later = omega arith;
   lines = wrote-none (g.L.ReplyLines.made c.args.lines.now c.args.lines.now) _ _ (g.met.L.ReplyLines.made_none c.args.lines.now);
   same_test = λ contents bad h. h;
+  sound = λ s. s;
   told = λ t. t;
   front = λ t. front-none _ _ _;
   most = λ t. omega arith;
@@ -104,6 +105,7 @@ loop-count-preserved g c =
           wrote-more _ (g.L.ReplyLines.made c.args.lines.now c.next_line.new.self) _ _ _ _ c.loop-count.invariant.lines _ c.loop-count-test.true line.line line.is_line
           (subst (λ (l : List ℕ). Appends (g.K.Sink.written c.loop-count.out) (g.K.Sink.written c.write_reply.new.out) l) line.text_is c.in_ok-write_reply.ensures.text);
       same_test = λ contents bad h. c.loop-count.invariant.same_test contents bad (c.next_line.ensures.same_test contents bad h);
+      sound = λ s. c.loop-count.invariant.sound (subst (λ (k : Contents). g.L.ReplyLines.sound c.next_line.new.self k → g.L.ReplyLines.sound c.loop-count.lines k) same c.in_ok-line.ensures.sound s);
       told = λ t.
           let told = subst (λ (k : Contents). g.L.ReplyLines.told c.loop-count.lines k) (sym same) (c.loop-count.invariant.told t) in
           subst (λ (k : Contents). g.L.ReplyLines.told c.next_line.new.self k) same (c.next_line.ensures.stays_told told);
@@ -178,3 +180,11 @@ returns-clause-lines g c =
     let is : c.loop-count.count ≡ 2 ^ 64 - 1 = omega (arith, c.loop-count-test.false, c.loop-count.invariant.lines.upto) in
     subst (λ n. WroteLines (MadeFrom g.L.ReplyLines.made c.args.lines.now) (2 ^ 64 - 1) (g.K.Sink.written c.args.out.now) (g.K.Sink.written c.loop-count.out) n) is
     (wrote-as _ (MadeFrom g.L.ReplyLines.made c.args.lines.now) _ _ _ _ inv.lines (c.loop-count.lines, inv.lines.are_lines))
+
+pub returns-in_default-clause-sound : goal.returns-in_default-clause-sound
+returns-in_default-clause-sound g c = λ less.
+    c.loop-count.invariant.sound (subst (λ (k : Contents). g.L.ReplyLines.sound c.loop-count.lines k) c.loop-count.invariant.reads_only.contents
+    (subst (λ (o : Option Reply). IfNone o (g.L.ReplyLines.sound c.loop-count.lines (contents_of (g.F.Flash.state c.loop-count.flash)))) c.in_default.is c.in_ok-line.ensures.all_sound))
+
+pub returns-clause-sound : goal.returns-clause-sound
+returns-clause-sound g c = λ less. absurd (omega (arith, less))

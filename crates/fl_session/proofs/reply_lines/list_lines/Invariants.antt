@@ -16,6 +16,7 @@ invariant-loop-count g l =
       later : g.K.Sink.faults l.fn.out ≤ g.K.Sink.faults l.out;
       lines : WroteLines (L.made l.fn.lines l.lines) (2 ^ 64 - 1) (g.K.Sink.written l.fn.out) (g.K.Sink.written l.out) l.count;
       same_test : (contents : Contents) (bad : BadPage) → L.passes l.lines contents bad → L.passes l.fn.lines contents bad;
+      sound : L.sound l.lines contents → L.sound l.fn.lines contents;
       told : L.told l.fn.lines contents → L.told l.lines contents;
       front : L.told l.fn.lines contents →
           Fronted (L.lines l.fn.lines contents) (L.lines l.lines contents) (g.K.Sink.written l.fn.out) (g.K.Sink.written l.out) (g.F.Flash.state l.fn.flash).media.faults l.count;

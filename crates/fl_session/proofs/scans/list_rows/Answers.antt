@@ -2,10 +2,14 @@ use Rattle.std.proofs.Common.{◌+◌, ◌-◌, ◌^◌, ◌<◌, ◌≤◌, ◌
 use Rattle.fl_model.specs.Limits.{scan_limit}
 use Rattle.fl_model.specs.Query.{selected}
 use Rattle.fl_frame.specs.Contents.{contents_of}
+use Rattle.fl_cursor.specs.Asked.{asked_by}
 use Rattle.fl_cursor.specs.Cursor.{mark_of, MayBeBad}
+use Rattle.fl_cursor.specs.Sound.{IsSoundOver}
+use Rattle.fl_cursor.specs.declared.bookmark.Bookmark.{Bookmark}
 use Rattle.fl_table.specs.declared.table.Table.{Table}
 use Rattle.fl_words.specs.Reply.{EndCount}
-use Rattle.fl_session.specs.ListSays.{EndsOn, GivesLines}
+use Rattle.fl_session.specs.Caused.{mark_on}
+use Rattle.fl_session.specs.ListSays.{EndsScan, GivesLines, PassesNoBad}
 use Rattle.fl_session.specs.RowsGiven.{MovesOver}
 use Rattle.fl_session.proofs.AnyLines.{list-ends, list-fails}
 use Rattle.fl_session.proofs.Few.{few-selected}
@@ -31,14 +35,16 @@ returns-in-Ok-clause-scans g c = λ first plan t tells on stands.
 
 pub returns-in-Ok-clause-lines : goal.returns-in-Ok-clause-lines
 returns-in-Ok-clause-lines g c =
-    rows-by (EndsOn c.args.table.now (g.F.Flash.state c.args.flash.now) (g.F.Flash.state c.give_rows-listed.new.flash)) _ _ _ _ _ _ _ (mark_of c.give_rows-listed.new.cursor) c.form_of-form.ensures.blobs c.begin-cursor.ensures.mark
-    (list-ends (MovesOver c.form_of-form.result.blobs (mark_of c.begin-cursor.result) (mark_of c.give_rows-listed.new.cursor)) EndCount (2 ^ 64 - 1) (MayBeBad c.args.table.now (contents_of (g.F.Flash.state c.args.flash.now))) (g.F.Flash.state c.args.flash.now) (g.F.Flash.state c.give_rows-listed.new.flash) _ _ _ _ c.in-Ok.count
+    rows-by (EndsScan (mark_on c.args.table.now c.args.range c.args.span) c.args.table.now (g.F.Flash.state c.args.flash.now) (g.F.Flash.state c.give_rows-listed.new.flash)) _ _ _ _ _ _ _ (mark_of c.give_rows-listed.new.cursor) c.form_of-form.ensures.blobs c.begin-cursor.ensures.mark
+    (list-ends (MovesOver c.form_of-form.result.blobs (mark_of c.begin-cursor.result) (mark_of c.give_rows-listed.new.cursor)) EndCount (2 ^ 64 - 1) (PassesNoBad (mark_on c.args.table.now c.args.range c.args.span) c.args.table.now (g.F.Flash.state c.args.flash.now)) (MayBeBad c.args.table.now (contents_of (g.F.Flash.state c.args.flash.now))) (g.F.Flash.state c.args.flash.now) (g.F.Flash.state c.give_rows-listed.new.flash) _ _ _ _ c.in-Ok.count
+    (λ less. subst (λ (m : Bookmark). IsSoundOver c.args.table.now (contents_of (g.F.Flash.state c.args.flash.now)) (asked_by m)) c.begin-cursor.ensures.mark
+    (c.begin-cursor.ensures.sound (contents_of (g.F.Flash.state c.args.flash.now)) (c.in-Ok.ensures.sound less)))
     (subst (λ (t : Table 64 64). GivesLines (MovesOver c.form_of-form.result.blobs (mark_of c.begin-cursor.result) (mark_of c.give_rows-listed.new.cursor)) (MayBeBad t (contents_of (g.F.Flash.state c.args.flash.now))) (2 ^ 64 - 1) (g.K.Sink.written c.args.out.now) (g.K.Sink.written c.give_rows-listed.new.out) (Ok c.in-Ok.count)) c.begin-cursor.ensures.table c.in-Ok.ensures.lines) c.write_reply.ensures.text)
 
 pub returns-in-Err-clause-lines : goal.returns-in-Err-clause-lines
 returns-in-Err-clause-lines g c =
-    rows-by (EndsOn c.args.table.now (g.F.Flash.state c.args.flash.now) (g.F.Flash.state c.give_rows-listed.new.flash)) _ _ _ _ _ _ _ (mark_of c.give_rows-listed.new.cursor) c.form_of-form.ensures.blobs c.begin-cursor.ensures.mark
-    (list-fails (MovesOver c.form_of-form.result.blobs (mark_of c.begin-cursor.result) (mark_of c.give_rows-listed.new.cursor)) EndCount (2 ^ 64 - 1) (MayBeBad c.args.table.now (contents_of (g.F.Flash.state c.args.flash.now))) (g.F.Flash.state c.args.flash.now) (g.F.Flash.state c.give_rows-listed.new.flash) _ _ _ _ c.in-Err.fault
+    rows-by (EndsScan (mark_on c.args.table.now c.args.range c.args.span) c.args.table.now (g.F.Flash.state c.args.flash.now) (g.F.Flash.state c.give_rows-listed.new.flash)) _ _ _ _ _ _ _ (mark_of c.give_rows-listed.new.cursor) c.form_of-form.ensures.blobs c.begin-cursor.ensures.mark
+    (list-fails (MovesOver c.form_of-form.result.blobs (mark_of c.begin-cursor.result) (mark_of c.give_rows-listed.new.cursor)) EndCount (2 ^ 64 - 1) (PassesNoBad (mark_on c.args.table.now c.args.range c.args.span) c.args.table.now (g.F.Flash.state c.args.flash.now)) (MayBeBad c.args.table.now (contents_of (g.F.Flash.state c.args.flash.now))) (g.F.Flash.state c.args.flash.now) (g.F.Flash.state c.give_rows-listed.new.flash) _ _ _ _ c.in-Err.fault
     (subst (λ (t : Table 64 64). GivesLines (MovesOver c.form_of-form.result.blobs (mark_of c.begin-cursor.result) (mark_of c.give_rows-listed.new.cursor)) (MayBeBad t (contents_of (g.F.Flash.state c.args.flash.now))) (2 ^ 64 - 1) (g.K.Sink.written c.args.out.now) (g.K.Sink.written c.give_rows-listed.new.out) (Err c.in-Err.fault)) c.begin-cursor.ensures.table c.in-Err.ensures.lines) c.in-Err.ensures.unread c.write_fault.ensures.says)
 
 pub returns-in-Err-clause-scans : goal.returns-in-Err-clause-scans

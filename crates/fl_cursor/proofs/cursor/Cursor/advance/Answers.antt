@@ -9,6 +9,8 @@ use Rattle.fl_cursor.specs.Cursor.{is_end}
 use Rattle.fl_cursor.specs.Going.{Goes, Fails, is_at_pages, pages_left}
 use Rattle.fl_cursor.proofs.BehindLastPage.{ends-kept}
 use Rattle.fl_cursor.proofs.Whole.{goes-then, fails-then, goes-nowhere, here-after, behind-pages}
+use Rattle.fl_cursor.specs.Sound.{IsSoundAhead}
+use Rattle.fl_cursor.proofs.SoundPages.{all-sound, end-kept}
 use Rattle.fl_cursor.proofs.cursor.Cursor.advance.Goals as goal
 
 no : true ≡ false → ⊥
@@ -69,6 +71,8 @@ loop-self-init g c =
       behind = λ past. let was = c.in_ok-find_start.ensures.behind past in ((c.if-step_in_page.ensures.behind was.0).1, was.1);
       few = omega (arith, small, is);
       end = search rules;
+      end_is = c.end_of_pages-end.ensures.exact;
+      sound = λ s. c.in_ok-find_start.ensures.sound (c.if-step_in_page.ensures.sound held s);
     }
 
 pub returns-in_err-read_page-clause-reads_only : goal.returns-in_err-read_page-clause-reads_only
@@ -133,6 +137,7 @@ loop-self-preserved g c =
     let mid = (g.F.Flash.state c.loop-self.flash).work.reads in
     let now = (g.F.Flash.state c.read_page.new.flash).work.reads in
     let page = subst (λ (k : Contents). Goes false k (g.F.Flash.state c.loop-self.flash).work.reads c.loop-self.self (g.F.Flash.state c.read_page.new.flash).work.reads c.read_page.new.self) c.loop-self.invariant.reads_only.contents c.in_ok-read_page.ensures.goes in
+    let back = subst (λ (k : Contents). IsSoundAhead c.read_page.new.self k → IsSoundAhead c.loop-self.self k) c.loop-self.invariant.reads_only.contents c.in_ok-read_page.ensures.sound in
     record {
       reads_only = OnlyReads-then _ _ _ c.loop-self.invariant.reads_only c.read_page.ensures.reads_only;
       goes = goes-then false held reads now now c.args.self.now c.read_page.new.self c.step_in_page-in-Pages.new.self (goes-then false held reads mid now c.args.self.now c.loop-self.self c.read_page.new.self c.loop-self.invariant.goes page)
@@ -146,6 +151,9 @@ loop-self-preserved g c =
           (subst (λ (t : Bor (Table g.row.KNOTS g.row.SLOTS)). next_in t.now < 2 ^ 32) (sym page.keeps.table) c.loop-self.invariant.few);
       end = ends-kept c.read_page.new.self c.step_in_page-in-Pages.new.self c.end_of_pages-end.result (c.if-step_in_page-2.ensures.goes held now).keeps (c.if-step_in_page-2.ensures.goes held now).notes
           (ends-kept c.loop-self.self c.read_page.new.self c.end_of_pages-end.result page.keeps page.notes c.loop-self.invariant.end);
+      end_is = end-kept c.read_page.new.self c.step_in_page-in-Pages.new.self c.end_of_pages-end.result (c.if-step_in_page-2.ensures.goes held now).keeps (c.if-step_in_page-2.ensures.goes held now).notes
+          (end-kept c.loop-self.self c.read_page.new.self c.end_of_pages-end.result page.keeps page.notes c.loop-self.invariant.end_is);
+      sound = λ s. c.loop-self.invariant.sound (back (c.if-step_in_page-2.ensures.sound held s));
     }
 
 pub step_pending-requires : goal.step_pending-requires
@@ -167,6 +175,17 @@ returns g c =
       goes = goes-then c.step_pending.result held reads mid mid c.args.self.now c.loop-self.self c.step_pending.new.self c.loop-self.invariant.goes goes;
       fails = tt;
       end = c.step_pending.ensures.end;
+      sound = λ s. c.loop-self.invariant.sound (c.step_pending.ensures.sound held s);
+      all_sound = all-sound c.step_pending.result c.args.self.now c.step_pending.new.self held c.step_pending.ensures.end (λ s. c.loop-self.invariant.sound (c.step_pending.ensures.sound held s));
       stays_ended = λ e. let was = c.loop-self.invariant.ended e in (ap (λ b. Ok b) (c.step_pending.ensures.stays_ended was.0), was.1);
       behind = λ past. (c.step_pending.ensures.behind, (c.loop-self.invariant.behind past).1, tt);
     }
+
+pub returns-then-step_in_page-clause-sound : goal.returns-then-step_in_page-clause-sound
+returns-then-step_in_page-clause-sound g c = λ s. c.in_ok-find_start.ensures.sound (c.if-step_in_page.ensures.sound (contents_of (g.F.Flash.state c.args.flash.now)) s)
+
+pub returns-then-step_in_page-2-clause-sound : goal.returns-then-step_in_page-2-clause-sound
+returns-then-step_in_page-2-clause-sound g c = λ s.
+    let held = contents_of (g.F.Flash.state c.args.flash.now) in
+    let back = subst (λ (k : Contents). IsSoundAhead c.read_page.new.self k → IsSoundAhead c.loop-self.self k) c.loop-self.invariant.reads_only.contents c.in_ok-read_page.ensures.sound in
+    c.loop-self.invariant.sound (back (c.if-step_in_page-2.ensures.sound held s))

@@ -3,6 +3,7 @@ use Rattle.fl_frame.specs.Contents.{contents_of, OnlyReads}
 use Rattle.fl_cursor.specs.Cursor.{has_ended}
 use Rattle.fl_table.specs.Memory.{next_in}
 use Rattle.fl_cursor.specs.Ends.{EndsPages}
+use Rattle.fl_cursor.specs.Sound.{IsSoundAhead, pages_end}
 use Rattle.fl_cursor.specs.Going.{Goes, is_start, is_in_page, is_at_pages, pages_left}
 use Rattle.fl_cursor.specs.declared.place.Here.TheVariants.{Nowhere}
 use Rattle.fl_cursor.proofs.cursor.Cursor.advance.Given as goal
@@ -19,6 +20,8 @@ invariant-loop-self g l =
       behind : is_at_pages l.fn.self.place ≡ false → (is_at_pages l.self.place ≡ false) × (g.F.Flash.state l.flash ≡ g.F.Flash.state l.fn.flash);
       few : next_in l.self.table.now < 2 ^ 32;
       end : EndsPages l.self.table.now l.self.mark.top l.end;
+      end_is : l.end ≡ pages_end l.self.table.now l.self.mark.top;
+      sound : IsSoundAhead l.self (contents_of (g.F.Flash.state l.fn.flash)) → IsSoundAhead l.fn.self (contents_of (g.F.Flash.state l.fn.flash));
     }
 
 abbrev pub decreases-loop-self : goal.decreases-loop-self

@@ -15,6 +15,7 @@ use Rattle.fl_cursor.proofs.Least.{begun-least}
 use Rattle.fl_cursor.proofs.Limited.{bounded-min}
 use Rattle.fl_cursor.proofs.Selected.{begins-selected}
 use Rattle.fl_cursor.proofs.Stood.{standing-rows, standing-ascends, left-entries}
+use Rattle.fl_cursor.specs.Sound.{IsSoundOver}
 use Rattle.fl_cursor.proofs.cursor.Cursor.begin.Goals as goal
 
 pub returns-clause-left : goal.returns-clause-left
@@ -52,3 +53,6 @@ returns-clause-model g c = λ f first plan t stands.
 
 pub returns-clause-ready : goal.returns-clause-ready
 returns-clause-ready g c = λ f lies rows index. c.resume.ensures.ready f lies (ap (λ (b : BufferState). length b.bytes) c.forget.ensures ∙ rows) index
+
+pub returns-clause-sound : goal.returns-clause-sound
+returns-clause-sound g c = λ contents s. subst (λ (a : query.Cursor). IsSoundOver c.args.table.now contents a) (sym (ap asked_by c.resume.ensures.mark)) (c.resume.ensures.sound contents s)

@@ -14,6 +14,10 @@ use Rattle.fl_cursor.specs.Reads.{most_to_find}
 use Rattle.fl_cursor.proofs.LowestPage.{stands-moved, standing-start, few-reads}
 use Rattle.fl_cursor.proofs.StartSearch.{start-fails, start-none, start-some}
 use Rattle.fl_cursor.proofs.Stood.{standing-tells}
+use Rattle.fl_cursor.specs.Sound.{pages_in}
+use Rattle.fl_cursor.proofs.Indexed.{told-bytes}
+use Rattle.fl_cursor.proofs.SoundPages.{sound-found, sound-oldest}
+use Rattle.fl_table.specs.Finding.{IsPageFor}
 use Rattle.fl_cursor.proofs.cursor.Cursor.find_start.Goals as goal
 
 pub returns-in_err-number-clause-fails : goal.returns-in_err-number-clause-fails
@@ -71,3 +75,19 @@ returns-clause-goes g c =
     subst (λ k. IsPageOf (λ n. first_key (rows_on c.args.self.now.table.now (contents_of (g.F.Flash.state c.args.flash.now)) n)) (oldest_in c.args.self.now.table.now) (next_in c.args.self.now.table.now) k (Some c.in-Some.number)) c.lowest-lowest.ensures
     (subst (λ (page : Option ℕ). IsPageOf (λ n. first_key (rows_on c.args.self.now.table.now (contents_of (g.F.Flash.state c.args.flash.now)) n)) (oldest_in c.args.self.now.table.now) (next_in c.args.self.now.table.now) c.lowest-lowest.result page)
     (sym finds.page_is ∙ c.in-Some.is) (standing-start t held told.standing c.lowest-lowest.result)))
+
+pub returns-in_default-2-clause-sound : goal.returns-in_default-2-clause-sound
+returns-in_default-2-clause-sound g c = λ s tells fresh.
+    let held = contents_of (g.F.Flash.state c.args.flash.now) in
+    sound-oldest c.args.self.now c.in-Start.is held c.lowest-lowest.result c.oldest.result c.lowest-lowest.ensures c.oldest.ensures.exact
+    (subst (λ (page : Option ℕ). IsPageFor c.args.self.now.table.now (pages_in (contents_of (g.F.Flash.state c.args.flash.now))) c.lowest-lowest.result page) c.in_default-2.is (c.in_ok-number.ensures.answers tells)) (s tells fresh)
+
+pub returns-clause-sound : goal.returns-clause-sound
+returns-clause-sound g c = λ s tells fresh.
+    let f = g.F.Flash.state c.args.flash.now in
+    let held = contents_of (g.F.Flash.state c.args.flash.now) in
+    let kept : HoldsKept c.args.self.now.table.now (g.F.Flash.state c.page_of.new.flash) c.in-Some.number c.page_of.new.buf =
+    subst (λ (page : Option ℕ). IfSome page (λ number. HoldsKept c.args.self.now.table.now (g.F.Flash.state c.page_of.new.flash) number c.page_of.new.buf)) c.in-Some.is c.in_ok-number.ensures.holds in
+    sound-found c.args.self.now c.in-Start.is held c.lowest-lowest.result c.in-Some.number c.page_of.new.buf.bytes c.lowest-lowest.ensures
+    (told-bytes c.args.self.now.table.now c.in-Some.number f (g.F.Flash.state c.page_of.new.flash) c.page_of.new.buf.bytes tells c.page_of.ensures.counts kept.bytes) kept.committed kept.good
+    (subst (λ (page : Option ℕ). IsPageFor c.args.self.now.table.now (pages_in (contents_of (g.F.Flash.state c.args.flash.now))) c.lowest-lowest.result page) c.in-Some.is (c.in_ok-number.ensures.answers tells)) (s tells fresh)

@@ -1,4 +1,4 @@
-use Rattle.std.proofs.Common.{rules, ◌≡◌, ◌<◌, refl, ◌∙◌, subst, arith, Ok}
+use Rattle.std.proofs.Common.{rules, ◌≡◌, ◌<◌, refl, sym, ◌∙◌, ap, subst, arith, Ok}
 use Rattle.std.proofs.lemmas.Result.{err_from_is_err_and}
 use Rattle.fl_mark.specs.Mark.{state_of_page}
 use Rattle.fl_mark.specs.declared.page_state.PageState.TheVariants.{Committed}
@@ -15,6 +15,10 @@ use Rattle.fl_frame.proofs.ContentsInTurn.{OnlyReads-then}
 use Rattle.std.proofs.lemmas.Result.{err_from_is_err_and}
 use Rattle.fl_mark.specs.Mark.{state_of_page}
 use Rattle.fl_mark.specs.declared.page_state.PageState.TheVariants.{Committed}
+use Rattle.fl_cursor.proofs.Indexed.{told-bytes}
+use Rattle.fl_cursor.proofs.SoundPages.{ahead-told, beyond-other, fresh-then, missed-other, rows-same, sound-beyond, sound-done, sound-good, sound-missed, sound-read, sound-skipped, sound-void}
+use Rattle.fl_cursor.specs.Reads.{has_last}
+use Rattle.fl_table.specs.declared.look_ahead.Ahead.TheVariants.{Missed, Beyond}
 use Rattle.fl_cursor.proofs.cursor.Cursor.read_page.Goals as goal
 
 pub returns-then-end-next-clause-goes : goal.returns-then-end-next-clause-goes
@@ -118,3 +122,55 @@ returns-clause-goes g c =
     (looked-as c.in-Wanted.is l)
     _ (g.F.Flash.state c.read_page.new.flash).work.reads refl c.read_page.ensures.room c.read_page.ensures.reads.reads (λ lt. omega (arith, one, lt))
     (λ told. page-bytes c.args.self.now.table.now c.args.next (g.F.Flash.state c.args.flash.now) (g.F.Flash.state c.look_ahead.new.flash) c.read_page.new.buf.bytes told.standing c.look_ahead.ensures.counts c.in_ok-read_page.ensures.page) good
+
+pub returns-then-end-next-clause-sound : goal.returns-then-end-next-clause-sound
+returns-then-end-next-clause-sound g c = λ s tells fresh.
+    sound-done c.args.self.now c.args.next c.args.end c.requires.next c.requires.end_is (contents_of (g.F.Flash.state c.args.flash.now)) c.if-end-next.true
+
+pub returns-then-rows_of-eq0-clause-sound : goal.returns-then-rows_of-eq0-clause-sound
+returns-then-rows_of-eq0-clause-sound g c = λ s tells fresh.
+    let none : rows_noted c.args.self.now.table.now c.args.next ≡ 0 = search rules in
+    sound-skipped c.args.self.now c.args.next c.args.end c.requires.next c.requires.end_is (contents_of (g.F.Flash.state c.args.flash.now)) c.if-end-next.false none (s tells fresh)
+
+pub returns-in-Missed-clause-sound : goal.returns-in-Missed-clause-sound
+returns-in-Missed-clause-sound g c = λ s tells fresh.
+    let t = c.args.self.now.table.now in
+    let f = g.F.Flash.state c.args.flash.now in
+    let held = contents_of (g.F.Flash.state c.args.flash.now) in
+    let e = c.in_ok-look_ahead.ensures in
+    let now = fresh-then t f (g.F.Flash.state c.look_ahead.new.flash) c.args.self.now.index_buf.now c.look_ahead.new.buf e.counts e.fresh tells fresh in
+    let told = ahead-told t f c.args.self.now.mark.span c.args.self.now.mark.top c.args.next c.args.self.now.index_buf.now c.in_ok-look_ahead.field-0 Missed e.told c.in-Missed.is missed-other tells fresh in
+    sound-missed c.args.self.now c.args.next c.args.end c.requires.next c.requires.end_is held c.if-end-next.false told (s tells now)
+
+pub returns-in-Beyond-clause-sound : goal.returns-in-Beyond-clause-sound
+returns-in-Beyond-clause-sound g c = λ s tells fresh.
+    let t = c.args.self.now.table.now in
+    let f = g.F.Flash.state c.args.flash.now in
+    let held = contents_of (g.F.Flash.state c.args.flash.now) in
+    let e = c.in_ok-look_ahead.ensures in
+    let told = ahead-told t f c.args.self.now.mark.span c.args.self.now.mark.top c.args.next c.args.self.now.index_buf.now c.in_ok-look_ahead.field-0 Beyond e.told c.in-Beyond.is beyond-other tells fresh in
+    sound-beyond c.args.self.now c.args.next c.args.end c.requires.next c.requires.end_is held c.if-end-next.false told
+
+pub returns-then-not-branch-clause-sound : goal.returns-then-not-branch-clause-sound
+returns-then-not-branch-clause-sound g c = λ s tells fresh.
+    let t = c.args.self.now.table.now in
+    let f = g.F.Flash.state c.args.flash.now in
+    let held = contents_of (g.F.Flash.state c.args.flash.now) in
+    let e = c.in_ok-look_ahead.ensures in
+    let now = fresh-then t f (g.F.Flash.state c.look_ahead.new.flash) c.args.self.now.index_buf.now c.look_ahead.new.buf e.counts e.fresh tells fresh in
+    let other : state_of_page c.read_page.new.buf.bytes ≡ Committed → ⊥ = search rules in
+    let same = told-bytes t c.args.next f (g.F.Flash.state c.look_ahead.new.flash) c.read_page.new.buf.bytes tells c.look_ahead.ensures.counts c.in_ok-read_page.ensures.page in
+    sound-read c.args.self.now c.args.next c.args.end c.requires.next c.requires.end_is held c.if-end-next.false (sound-void t held c.args.next c.read_page.new.buf.bytes same other) (λ last. s tells now)
+
+pub returns-clause-sound : goal.returns-clause-sound
+returns-clause-sound g c = λ s tells fresh.
+    let t = c.args.self.now.table.now in
+    let f = g.F.Flash.state c.args.flash.now in
+    let held = contents_of (g.F.Flash.state c.args.flash.now) in
+    let e = c.in_ok-look_ahead.ensures in
+    let now = fresh-then t f (g.F.Flash.state c.look_ahead.new.flash) c.args.self.now.index_buf.now c.look_ahead.new.buf e.counts e.fresh tells fresh in
+    let good : IsGoodPage (layout_in c.args.self.now.table.now) c.args.next c.read_page.new.buf.bytes = search rules in
+    let committed : state_of_page c.read_page.new.buf.bytes ≡ Committed = search rules in
+    let same = told-bytes t c.args.next f (g.F.Flash.state c.look_ahead.new.flash) c.read_page.new.buf.bytes tells c.look_ahead.ensures.counts c.in_ok-read_page.ensures.page in
+    sound-read c.args.self.now c.args.next c.args.end c.requires.next c.requires.end_is held c.if-end-next.false (sound-good t held c.args.next c.read_page.new.buf.bytes same good)
+    (λ last. s tells now (ap (has_last c.args.self.now.mark.top) (sym (rows-same t held c.args.next c.read_page.new.buf.bytes same committed)) ∙ last))

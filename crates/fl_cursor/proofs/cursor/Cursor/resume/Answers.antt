@@ -6,6 +6,7 @@ use Rattle.fl_cursor.specs.Cursor.{IsStanding}
 use Rattle.fl_cursor.proofs.Indexed.{fresh-none, good-none, looking-none}
 use Rattle.fl_cursor.proofs.Limited.{begun-limit}
 use Rattle.fl_cursor.proofs.Stood.{standing-ascends}
+use Rattle.fl_cursor.proofs.SoundPages.{sound-begun}
 use Rattle.fl_cursor.proofs.cursor.Cursor.resume.Goals as goal
 
 pub returns-clause-ready : goal.returns-clause-ready
@@ -32,3 +33,7 @@ pub returns-clause-limit : goal.returns-clause-limit
 returns-clause-limit g c = λ f first plan t tells reaches lies stands bounded.
     let h : IsStanding c.args.table.now (contents_of f) = record { flash = f; same = refl; tells = tells; reaches = reaches; lies = lies; first = first; plan = plan; table = t; stands = stands } in
     begun-limit c.args.table.now (contents_of f) h (asked_by c.args.mark) c.forget.new.self c.args.rows_buf.now.bytes c.first_place.result (ap (λ (b : BufferState). b.holds) c.forget.ensures) bounded c.first_place.ensures.begun
+
+pub returns-clause-sound : goal.returns-clause-sound
+returns-clause-sound g c = λ contents s.
+    sound-begun c.args.table.now contents (asked_by c.args.mark) c.forget.new.self c.args.rows_buf.now.bytes c.first_place.result (ap (λ (b : BufferState). b.holds) c.forget.ensures) c.first_place.ensures.begun s

@@ -17,6 +17,8 @@ use Rattle.fl_cursor.specs.declared.place.Place.TheVariants.{InPage}
 use Rattle.fl_cursor.specs.declared.search.Sought.TheVariants.{Row as At, Behind, Nowhere}
 use Rattle.fl_cursor.proofs.InPage.{page-taken, page-behind, page-nowhere}
 use Rattle.fl_cursor.proofs.Walks.{found-within}
+use Rattle.fl_cursor.specs.Sound.{IsSoundAhead}
+use Rattle.fl_cursor.proofs.SoundPages.{sound-behind, sound-nowhere, sound-taken}
 use Rattle.fl_cursor.proofs.cursor.Cursor.step_in_page.Goals as goal
 
 pub first_in_page-requires-clause-within : goal.first_in_page-requires-clause-within
@@ -74,3 +76,27 @@ returns-in-Nowhere-clause-goes g c = λ contents reads.
     let sought : Nowhere ≡ first_left (asked_by c.args.self.now.mark) (drop c.in-InPage.row (rows_in (layout_in t) page)) c.in-InPage.row =
     sym c.in-Nowhere.is ∙ (c.first_in_page.ensures ∙ ap (λ (rows : List Row). first_left (asked_by c.args.self.now.mark) (drop c.in-InPage.row rows) c.in-InPage.row) c.view-view.ensures.rows) in
     page-nowhere c.args.self.now c.in-InPage.number c.in-InPage.row c.in-InPage.is placed contents reads sought
+
+pub returns-in-Row-clause-sound : goal.returns-in-Row-clause-sound
+returns-in-Row-clause-sound g c = λ contents s.
+    let t = c.args.self.now.table.now in
+    let page = c.args.self.now.rows_buf.now.bytes in
+    let found = row_of c.row.result in
+    let here : slice_get (rows_in (layout_in t) page) c.in-Row.row ≡ Some found = ap (λ (rows : List Row). slice_get rows c.in-Row.row) (sym c.view-view.ensures.rows) ∙ c.row.ensures.row in
+    let sought : At c.in-Row.row ≡ first_left (asked_by c.args.self.now.mark) (drop c.in-InPage.row (rows_in (layout_in t) page)) c.in-InPage.row =
+    sym c.in-Row.is ∙ (c.first_in_page.ensures ∙ ap (λ (rows : List Row). first_left (asked_by c.args.self.now.mark) (drop c.in-InPage.row rows) c.in-InPage.row) c.view-view.ensures.rows) in
+    let key : c.key-key.result ≡ found.key = search rules in
+    sound-taken c.args.self.now c.in-InPage.number c.in-InPage.row c.in-InPage.is contents c.in-Row.row found (PageRow c.in-InPage.number c.in-Row.row) here sought
+    (subst (λ (new : Cursor g.row.KNOTS g.row.SLOTS). IsSoundAhead new contents)
+    (c.take.ensures ∙ ap (λ k. took k (PageRow c.in-InPage.number c.in-Row.row) (InPage c.in-InPage.number (c.in-Row.row + 1)) c.args.self.now) key) s)
+
+pub returns-in-Behind-clause-sound : goal.returns-in-Behind-clause-sound
+returns-in-Behind-clause-sound g c = λ contents s. sound-behind c.args.self.now c.in-InPage.number c.in-InPage.row c.in-InPage.is contents s
+
+pub returns-in-Nowhere-clause-sound : goal.returns-in-Nowhere-clause-sound
+returns-in-Nowhere-clause-sound g c = λ contents s.
+    let t = c.args.self.now.table.now in
+    let page = c.args.self.now.rows_buf.now.bytes in
+    let sought : Nowhere ≡ first_left (asked_by c.args.self.now.mark) (drop c.in-InPage.row (rows_in (layout_in t) page)) c.in-InPage.row =
+    sym c.in-Nowhere.is ∙ (c.first_in_page.ensures ∙ ap (λ (rows : List Row). first_left (asked_by c.args.self.now.mark) (drop c.in-InPage.row rows) c.in-InPage.row) c.view-view.ensures.rows) in
+    sound-nowhere c.args.self.now c.in-InPage.number c.in-InPage.row c.in-InPage.is contents sought

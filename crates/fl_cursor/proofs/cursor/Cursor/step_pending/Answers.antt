@@ -11,6 +11,7 @@ use Rattle.fl_cursor.specs.declared.search.Sought.TheVariants.{Row as At}
 use Rattle.fl_table.proofs.PendingKey.{length-buffered}
 use Rattle.fl_cursor.proofs.PendingRowSteps.{pending-taken, pending-ends, few-pending}
 use Rattle.fl_cursor.proofs.Walks.{found-within}
+use Rattle.fl_cursor.proofs.SoundPages.{sound-pending}
 use Rattle.fl_cursor.proofs.cursor.Cursor.step_pending.Goals as goal
 
 pub pending_row-requires : goal.pending_row-requires
@@ -42,3 +43,9 @@ overflow_add-row g c =
 pub returns-in-Behind-clause-goes : goal.returns-in-Behind-clause-goes
 returns-in-Behind-clause-goes g c = λ contents reads.
     pending-ends c.args.self.now c.in-Pending.row c.in-Pending.is contents reads c.in-Behind.is c.first_pending.ensures
+
+pub returns-in-Row-clause-sound : goal.returns-in-Row-clause-sound
+returns-in-Row-clause-sound g c = λ contents s. sound-pending c.args.self.now c.in-Pending.row contents c.in-Pending.is
+
+pub returns-in-Behind-clause-sound : goal.returns-in-Behind-clause-sound
+returns-in-Behind-clause-sound g c = λ contents s. sound-pending c.args.self.now c.in-Pending.row contents c.in-Pending.is

@@ -47,6 +47,7 @@ loop-self-init g c =
       width = c.begin.ensures.width;
       none_waits = c.begin.ensures.none_waits;
       input = c.begin.ensures.input;
+      sound = search rules;
       some = omega (arith, one);
       count = rw above (omega (arith, one, from));
       bounds = rw above bounds;
@@ -95,6 +96,7 @@ loop-self-preserved g c =
         same_test = c.step.ensures.same_test;
         stays_told = search rules;
       });
+      sound = search rules;
       some = omega (arith, more);
       count = rw above (omega (arith, more, c.loop-self.invariant.count, next_key-above (g.R.RowHere.above c.loop-self.self.rows) (g.R.RowHere.present c.step.new.self).key later));
       bounds = rw above bounds;

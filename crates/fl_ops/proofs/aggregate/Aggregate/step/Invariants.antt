@@ -18,6 +18,7 @@ invariant-loop-self g l =
       width : l.self.width ≡ l.fn.self.width;
       none_waits : l.self.waiting ≡ false;
       input : Continues R.names H.schema H.above R.ready R.told R.passes contents l.fn.self.rows l.self.rows;
+      sound : R.sound l.self.rows contents → R.sound l.fn.self.rows contents;
       some : 1 ≤ l.tally.count;
       count : l.tally.count + l.group * l.fn.self.width ≤ next_key (H.above l.self.rows);
       bounds : HasBounds l.fn.self.column (next_key (H.above l.self.rows)) l.tally;

@@ -19,6 +19,7 @@ loop-number-preserved g c = record {
   same_test = search rules;
   above = search rules;
   ended = search rules;
+  sound = search rules;
   told = search rules;
   left = search rules;
   most = search rules;

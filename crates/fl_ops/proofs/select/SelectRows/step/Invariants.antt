@@ -23,6 +23,7 @@ invariant-loop-number g l =
       same_test : (contents : Contents) (bad : BadPage) → R.passes l.self.rows contents bad ↔ R.passes l.initial.self.rows contents bad;
       above : (key : ℕ) → is_above (H.above l.self.rows) key ≡ true → is_above (H.above l.initial.self.rows) key ≡ true;
       ended : R.ended l.initial.self.rows ≡ true → (R.ended l.self.rows ≡ true) × (g.F.Flash.state l.flash ≡ g.F.Flash.state l.initial.flash);
+      sound : R.sound l.self.rows contents → R.sound l.initial.self.rows contents;
       told : R.told l.initial.self.rows contents → R.told l.self.rows contents;
       left : R.told l.initial.self.rows contents →
           filter (row_passes (comparison_of l.initial.self)) (R.left l.self.rows contents)

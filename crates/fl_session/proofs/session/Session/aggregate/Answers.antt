@@ -8,7 +8,8 @@ use Rattle.fl_words.specs.Command as words
 use Rattle.fl_machine.specs.Step.{group_reply, records_of}
 use Rattle.fl_session.specs.Asked.{lacked_column}
 use Rattle.fl_session.proofs.CommandReplies.{step-is}
-use Rattle.fl_session.specs.ListSays.{EndsOn, IsGroup}
+use Rattle.fl_session.specs.Caused.{EndsRange}
+use Rattle.fl_session.specs.ListSays.{IsGroup}
 use Rattle.fl_session.proofs.AnyLines.{looks-lists}
 use Rattle.fl_session.proofs.CountedReads.{has-read}
 use Rattle.fl_session.proofs.GetReplies.{goes-reads}
@@ -83,11 +84,11 @@ returns-then-columns-column-clause-cause g c =
       c.in-Ok.at,
       c.index.result.now,
       is-here _ c.args.name c.in-Ok.at c.index.result.now c.in-Ok.ensures here,
-      lacks-says _ _ _ (AllByRecursion IsGroup) c.index.result.now _ _ _ _ c.args.column (sym (ap (λ (t : Table 64 64). lacked_column (layout_in t) (c.args.column ∷ [])) c.table-table.ensures) ∙ lacks-one (layout_in c.table-table.result.now) c.args.column beyond) refl c.write_reply-then-columns-column.ensures.text,
+      lacks-says _ _ _ c.args.range (AllByRecursion IsGroup) c.index.result.now _ _ _ _ c.args.column (sym (ap (λ (t : Table 64 64). lacked_column (layout_in t) (c.args.column ∷ [])) c.table-table.ensures) ∙ lacks-one (layout_in c.table-table.result.now) c.args.column beyond) refl c.write_reply-then-columns-column.ensures.text,
     )
 
 pub returns-clause-cause : goal.returns-clause-cause
 returns-clause-cause g c =
     let here : slice_get c.args.self.now.tables.entries.items c.in-Ok.at ≡ Some c.index.result.now = reached-here c.args.self.now.tables.entries.items _ _ c.in-Ok.at c.index.result.now c.in-Ok.ensures c.index.ensures in
     let within : c.args.column ≤ length (layout_in c.table-table.result.now).columns = search rules in
-    inr (c.in-Ok.at, c.index.result.now, is-here _ c.args.name c.in-Ok.at c.index.result.now c.in-Ok.ensures here, has-says _ _ _ (AllByRecursion IsGroup) c.index.result.now _ _ _ _ (sym (ap (λ (t : Table 64 64). lacked_column (layout_in t) (c.args.column ∷ [])) c.table-table.ensures) ∙ has-one (layout_in c.table-table.result.now) c.args.column within) (looks-lists _ _ _ _ _ (λ (t : Table 64 64). AllByRecursion IsGroup) EndsOn _ _ _ _ _ _ _ refl c.aggregate.ensures.reads_only c.table-table.ensures c.aggregate.ensures.says))
+    inr (c.in-Ok.at, c.index.result.now, is-here _ c.args.name c.in-Ok.at c.index.result.now c.in-Ok.ensures here, has-says _ _ _ c.args.range (AllByRecursion IsGroup) c.index.result.now _ _ _ _ (sym (ap (λ (t : Table 64 64). lacked_column (layout_in t) (c.args.column ∷ [])) c.table-table.ensures) ∙ has-one (layout_in c.table-table.result.now) c.args.column within) (looks-lists _ _ _ _ _ (λ (t : Table 64 64). AllByRecursion IsGroup) (EndsRange c.args.range) _ _ _ _ _ _ _ refl c.aggregate.ensures.reads_only c.table-table.ensures c.aggregate.ensures.says))

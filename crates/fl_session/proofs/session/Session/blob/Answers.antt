@@ -48,4 +48,4 @@ returns-in-Err-clause-cause g c = inl (says-written _ _ _ _ _ _ (refusal-says _ 
 pub returns-clause-cause : goal.returns-clause-cause
 returns-clause-cause g c =
     let here : slice_get c.args.self.now.tables.entries.items c.in-Ok.at ≡ Some c.index.result.now = reached-here c.args.self.now.tables.entries.items _ _ c.in-Ok.at c.index.result.now c.in-Ok.ensures c.index.ensures in
-    inr (c.in-Ok.at, c.index.result.now, is-here _ c.args.name c.in-Ok.at c.index.result.now c.in-Ok.ensures here, looks-blob _ _ _ _ _ _ _ _ _ _ _ _ refl c.show_blob.ensures.counts c.table-table.ensures c.show_blob.ensures.tells)
+    inr (c.in-Ok.at, c.index.result.now, is-here _ c.args.name c.in-Ok.at c.index.result.now c.in-Ok.ensures here, looks-blob _ _ _ _ _ c.args.key _ _ _ _ _ _ _ refl c.show_blob.ensures.counts c.table-table.ensures c.show_blob.ensures.tells)

@@ -80,5 +80,5 @@ returns-clause-cause g c =
       c.in-Ok.at,
       c.index.result.now,
       is-here _ c.args.left c.in-Ok.at c.index.result.now c.in-Ok.ensures left,
-      inr (c.in-Ok-find.at, c.index-2.result.now, is-here _ c.args.right c.in-Ok-find.at c.index-2.result.now c.in-Ok-find.ensures right, looks-pairs _ _ _ _ _ _ _ _ _ _ _ _ _ _ refl c.join.ensures.reads_only c.table-left_table.ensures c.table-right_table.ensures c.join.ensures.says),
+      inr (c.in-Ok-find.at, c.index-2.result.now, is-here _ c.args.right c.in-Ok-find.at c.index-2.result.now c.in-Ok-find.ensures right, looks-pairs _ _ _ _ _ c.args.range _ _ _ _ _ _ _ _ _ refl c.join.ensures.reads_only c.table-left_table.ensures c.table-right_table.ensures c.join.ensures.says),
     )

@@ -10,7 +10,8 @@ use Rattle.fl_words.specs.Reply as reply
 use Rattle.fl_machine.specs.Step.{records_of}
 use Rattle.fl_session.specs.Asked.{lacked_column}
 use Rattle.fl_session.proofs.CommandReplies.{step-is}
-use Rattle.fl_session.specs.ListSays.{EndsOn, IsFields}
+use Rattle.fl_session.specs.Caused.{EndsRange}
+use Rattle.fl_session.specs.ListSays.{IsFields}
 use Rattle.fl_session.proofs.AnyLines.{looks-lists}
 use Rattle.fl_session.proofs.CountedReads.{has-read}
 use Rattle.fl_session.proofs.GetReplies.{goes-reads}
@@ -88,7 +89,7 @@ returns-in-Some-clause-cause g c =
       c.in-Ok.at,
       c.index.result.now,
       is-here _ c.args.name c.in-Ok.at c.index.result.now c.in-Ok.ensures here,
-      lacks-says _ _ _ (AllByRecursion (IsFields (length c.args.columns.now.items))) c.index.result.now _ _ _ _ c.in-Some.column (sym lacks) refl c.write_reply-in-Some.ensures.text,
+      lacks-says _ _ _ c.args.range (AllByRecursion (IsFields (length c.args.columns.now.items))) c.index.result.now _ _ _ _ c.in-Some.column (sym lacks) refl c.write_reply-in-Some.ensures.text,
     )
 
 pub returns-clause-cause : goal.returns-clause-cause
@@ -96,4 +97,4 @@ returns-clause-cause g c =
     let here : slice_get c.args.self.now.tables.entries.items c.in-Ok.at ≡ Some c.index.result.now = reached-here c.args.self.now.tables.entries.items _ _ c.in-Ok.at c.index.result.now c.in-Ok.ensures c.index.ensures in
     let none : None ≡ lacked_column (layout_in (table_in c.index.result.now.table)) c.args.columns.now.items =
     c.in_default.ensures ∙ (ap (lacked_column (layout_in c.table-table.result.now)) c.as_slice.ensures.value ∙ ap (λ (t : Table 64 64). lacked_column (layout_in t) c.args.columns.now.items) c.table-table.ensures) in
-    inr (c.in-Ok.at, c.index.result.now, is-here _ c.args.name c.in-Ok.at c.index.result.now c.in-Ok.ensures here, has-says _ _ _ (AllByRecursion (IsFields (length c.args.columns.now.items))) c.index.result.now _ _ _ _ (sym none) (looks-lists _ _ _ _ _ (λ (t : Table 64 64). AllByRecursion (IsFields (length c.args.columns.now.items))) EndsOn _ _ _ _ _ _ _ refl c.project.ensures.reads_only c.table-table.ensures (rw c.as_slice-columns.ensures.value at c.project.ensures.says)))
+    inr (c.in-Ok.at, c.index.result.now, is-here _ c.args.name c.in-Ok.at c.index.result.now c.in-Ok.ensures here, has-says _ _ _ c.args.range (AllByRecursion (IsFields (length c.args.columns.now.items))) c.index.result.now _ _ _ _ (sym none) (looks-lists _ _ _ _ _ (λ (t : Table 64 64). AllByRecursion (IsFields (length c.args.columns.now.items))) (EndsRange c.args.range) _ _ _ _ _ _ _ refl c.project.ensures.reads_only c.table-table.ensures (rw c.as_slice-columns.ensures.value at c.project.ensures.says)))

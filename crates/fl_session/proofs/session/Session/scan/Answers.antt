@@ -5,7 +5,7 @@ use Rattle.fl_table.specs.BlobAt.{has_blobs}
 use Rattle.fl_table.specs.declared.table.Table.{Table}
 use Rattle.fl_session.specs.declared.cost.Cost.TheVariants.{OfScan}
 use Rattle.fl_session.specs.Caused.{mark_on}
-use Rattle.fl_session.specs.ListSays.{EndsOn}
+use Rattle.fl_session.specs.ListSays.{EndsScan}
 use Rattle.fl_session.specs.RowsGiven.{AreRows}
 use Rattle.fl_session.proofs.AnyLines.{looks-lists}
 use Rattle.fl_session.proofs.CountedReads.{has-read}
@@ -63,5 +63,5 @@ returns-clause-cause g c =
       c.in-Ok.at,
       c.index.result.now,
       is-here _ c.args.name c.in-Ok.at c.index.result.now c.in-Ok.ensures here,
-      looks-lists _ _ _ _ _ (λ (t : Table 64 64). AreRows (has_blobs t) (mark_on t c.args.range c.args.span)) EndsOn _ _ _ _ _ _ _ (ap (λ n. record c.args.self.now.notes { cost = OfScan n }) reads) c.list_rows-written.ensures.counts c.table-table.ensures c.list_rows-written.ensures.lines,
+      looks-lists _ _ _ _ _ (λ (t : Table 64 64). AreRows (has_blobs t) (mark_on t c.args.range c.args.span)) (λ (t : Table 64 64). EndsScan (mark_on t c.args.range c.args.span) t) _ _ _ _ _ _ _ (ap (λ n. record c.args.self.now.notes { cost = OfScan n }) reads) c.list_rows-written.ensures.counts c.table-table.ensures c.list_rows-written.ensures.lines,
     )

@@ -11,7 +11,7 @@ use Rattle.fl_words.specs.Reply.{Reply}
 use Rattle.fl_machine.specs.Step.{note_of, records_of}
 use Rattle.fl_session.specs.Asked.{lacked_column}
 use Rattle.fl_session.proofs.CommandReplies.{step-is}
-use Rattle.fl_session.specs.ListSays.{EndsOn}
+use Rattle.fl_session.specs.Caused.{EndsRange}
 use Rattle.fl_session.specs.Rising.{AreRising, IsRow}
 use Rattle.fl_session.proofs.AnyLines.{looks-lists}
 use Rattle.fl_session.proofs.CountedReads.{has-read}
@@ -88,11 +88,11 @@ returns-then-columns-comparison-clause-cause g c =
       c.in-Ok.at,
       c.index.result.now,
       is-here _ c.args.name c.in-Ok.at c.index.result.now c.in-Ok.ensures here,
-      lacks-says _ _ _ (AreRising IsRow (above_range c.args.range.low None)) c.index.result.now _ _ _ _ c.args.comparison.column (sym (ap (λ (t : Table 64 64). lacked_column (layout_in t) (c.args.comparison.column ∷ [])) c.table-table.ensures) ∙ lacks-one (layout_in c.table-table.result.now) c.args.comparison.column beyond) refl c.write_reply-then-columns-comparison.ensures.text,
+      lacks-says _ _ _ c.args.range (AreRising IsRow (above_range c.args.range.low None)) c.index.result.now _ _ _ _ c.args.comparison.column (sym (ap (λ (t : Table 64 64). lacked_column (layout_in t) (c.args.comparison.column ∷ [])) c.table-table.ensures) ∙ lacks-one (layout_in c.table-table.result.now) c.args.comparison.column beyond) refl c.write_reply-then-columns-comparison.ensures.text,
     )
 
 pub returns-clause-cause : goal.returns-clause-cause
 returns-clause-cause g c =
     let here : slice_get c.args.self.now.tables.entries.items c.in-Ok.at ≡ Some c.index.result.now = reached-here c.args.self.now.tables.entries.items _ _ c.in-Ok.at c.index.result.now c.in-Ok.ensures c.index.ensures in
     let within : c.args.comparison.column ≤ length (layout_in c.table-table.result.now).columns = search rules in
-    inr (c.in-Ok.at, c.index.result.now, is-here _ c.args.name c.in-Ok.at c.index.result.now c.in-Ok.ensures here, has-says _ _ _ (AreRising IsRow (above_range c.args.range.low None)) c.index.result.now _ _ _ _ (sym (ap (λ (t : Table 64 64). lacked_column (layout_in t) (c.args.comparison.column ∷ [])) c.table-table.ensures) ∙ has-one (layout_in c.table-table.result.now) c.args.comparison.column within) (looks-lists _ _ _ _ _ (λ (t : Table 64 64). AreRising IsRow (above_range c.args.range.low None)) EndsOn _ _ _ _ _ _ _ refl c.select.ensures.reads_only c.table-table.ensures c.select.ensures.says))
+    inr (c.in-Ok.at, c.index.result.now, is-here _ c.args.name c.in-Ok.at c.index.result.now c.in-Ok.ensures here, has-says _ _ _ c.args.range (AreRising IsRow (above_range c.args.range.low None)) c.index.result.now _ _ _ _ (sym (ap (λ (t : Table 64 64). lacked_column (layout_in t) (c.args.comparison.column ∷ [])) c.table-table.ensures) ∙ has-one (layout_in c.table-table.result.now) c.args.comparison.column within) (looks-lists _ _ _ _ _ (λ (t : Table 64 64). AreRising IsRow (above_range c.args.range.low None)) (EndsRange c.args.range) _ _ _ _ _ _ _ refl c.select.ensures.reads_only c.table-table.ensures c.select.ensures.says))

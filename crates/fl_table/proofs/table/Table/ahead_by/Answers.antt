@@ -47,3 +47,14 @@ returns-clause-exact g c = λ plan has some.
 
 pub returns-clause-misses : goal.returns-clause-misses
 returns-clause-misses g c = λ plan entries range has some is e. absurd (not-wanted e)
+
+pub returns-then-begins_above-clause-told : goal.returns-then-begins_above-clause-told
+returns-then-begins_above-clause-told g c = beyond _ _ (sym c.begins_above.ensures ∙ c.if-begins_above.true)
+
+pub returns-then-found-mask-eq0-clause-told : goal.returns-then-found-mask-eq0-clause-told
+returns-then-found-mask-eq0-clause-told g c =
+    missed _ _ (sym c.begins_above.ensures ∙ c.if-begins_above.false) (subst (λ (mask : ℕ). bit_and c.args.found.bitmap mask ≡ 0) c.mask.ensures.told c.if-found-mask-eq0.true)
+
+pub returns-clause-told : goal.returns-clause-told
+returns-clause-told g c =
+    wanted _ _ (sym c.begins_above.ensures ∙ c.if-begins_above.false) (subst (λ (mask : ℕ). bit_and c.args.found.bitmap mask ≡ 0 → ⊥) c.mask.ensures.told c.if-found-mask-eq0.false)

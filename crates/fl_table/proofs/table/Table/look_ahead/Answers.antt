@@ -10,7 +10,7 @@ use Rattle.fl_page.specs.declared.fault.ReadFault.{ReadFault}
 use Rattle.fl_table.specs.declared.look_ahead.Ahead.{Ahead}
 use Rattle.fl_table.specs.declared.look_ahead.Ahead.TheVariants.{Wanted, Missed}
 use Rattle.fl_table.specs.Skipping.{AreFresh, AreScanning, LooksOn, ShowsPage}
-use Rattle.fl_table.proofs.Skips.{fresh-still, looks-none, looks-plain, looks-found, looks-failed, shows-none, shows-unindexed, shows-some, shows-fault, index-stands, some-bits, bad-index}
+use Rattle.fl_table.proofs.Skips.{fresh-still, looks-none, looks-plain, looks-found, looks-failed, shows-none, shows-unindexed, shows-some, shows-fault, index-stands, some-bits, bad-index, told-by}
 use Rattle.fl_table.proofs.Entries.{first-few, told-some}
 use Rattle.fl_table.proofs.Untouched.{at-most}
 use Rattle.fl_table.proofs.IndexOfTable.{none-there}
@@ -287,3 +287,21 @@ returns-in-Err-clause-misses g c = λ first plan table n rows range told stands 
 
 pub returns-in-Err-clause-room : goal.returns-in-Err-clause-room
 returns-in-Err-clause-room g c = ap (λ (b : BufferState). length b.bytes) c.forget.ensures ∙ c.in-Err.ensures.room
+
+pub returns-in_default-clause-told : goal.returns-in_default-clause-told
+returns-in_default-clause-told g c = λ told fresh other. absurd (other refl)
+
+pub returns-in_default-bitmaps-clause-told : goal.returns-in_default-bitmaps-clause-told
+returns-in_default-bitmaps-clause-told g c = λ told fresh other. absurd (other refl)
+
+pub returns-in-Ok-None-clause-told : goal.returns-in-Ok-None-clause-told
+returns-in-Ok-None-clause-told g c = λ told fresh other. absurd (other refl)
+
+pub returns-in-Err-clause-told : goal.returns-in-Err-clause-told
+returns-in-Err-clause-told g c = λ told fresh. tt
+
+pub returns-in-Ok-Some-clause-told : goal.returns-in-Ok-Some-clause-told
+returns-in-Ok-Some-clause-told g c = λ told fresh other.
+    let e = c.in-Ok-Some.ensures in
+    told-by c.args.self.now.bitmaps c.args.self.now.buckets c.args.span c.in-Some-bitmaps.index c.in-Some.span c.in-Some-bitmaps.is c.in-Some.is (g.F.Flash.state c.args.flash.now) c.args.top c.args.number c.args.buf.now
+    (g.F.Flash.state c.entry_of.new.flash) c.entry_of.new.buf _ c.in-Ok-Some.found c.in-Ok-Some.field-0-is c.ahead_by.result told fresh e.memory e.found e.page c.ahead_by.ensures.told

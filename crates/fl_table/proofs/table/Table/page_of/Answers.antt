@@ -1,5 +1,5 @@
 use Rattle.std.proofs.lemmas.Result.{IfErr-weaker}
-use Rattle.fl_table.proofs.Finds.{holds-in, holds-pages, lookup-fails}
+use Rattle.fl_table.proofs.Finds.{holds-in, holds-pages, lookup-fails, page-for}
 use Rattle.fl_table.proofs.IndexOfTable.{none-is}
 use Rattle.fl_table.proofs.ReadsKeepTable.{lies-read, most-kept}
 use Rattle.fl_table.proofs.Sizes.{index-fits}
@@ -60,3 +60,8 @@ returns-clause-most g c = most-kept c.args.self.now (g.F.Flash.state c.args.flas
 
 pub returns-clause-counts : goal.returns-clause-counts
 returns-clause-counts g c = c.page_of.ensures.looks.reads
+
+pub returns-clause-answers : goal.returns-clause-answers
+returns-clause-answers g c = λ told.
+    let e = c.page_of.ensures in
+    page-for c.args.self.now c.in-Some.ring (g.F.Flash.state c.args.flash.now) c.args.key c.in-Some.is c.page_of.result told e.near e.sound e.far
