@@ -231,20 +231,22 @@ WritesEnd first first_f bytes result v f =
     (plan : Plan) (table : Table) (rose : Bool) (device : Device) → IsWatched first_f f rose device → HasRing first first_f plan table → table.buffered ≡ waiting_in first ++ bytes →
     EndsWith plan (replicate (pages_placed first (length bytes)) VarRing) table rose device first first_f result v f
 
+-- the next page is one of those that the bytes fill
+pub pages-next : (first v : VarData) (first_f f : FlashState) (bytes : List ℕ) (done : ℕ) → Writes first first_f bytes done v f → done < length bytes → 0 < room_in first → next_in v - next_in first + 1 ≤ pages_placed first (length bytes)
+pages-next first v first_f f bytes done is less wide =
+    pages-more (length (waiting_in first)) done (length bytes) (next_in v - next_in first) (room_in first) wide (is.sum ∙ ap (λ k. (next_in v - next_in first) * room_in first + k) (is.full less)) less
+
 -- a seal failed
 module _ (first v w mid : VarData) (first_f f g : FlashState) (bytes : List ℕ) (done : ℕ) (fault : FlashFault) (is : Writes first first_f bytes done v f) (less : done < length bytes) (wide : 0 < room_in first)
     (goes : Goes f g) (ends : SealsNext v f (Err fault) mid g)
     (result : Result (Unit {0}) FlashFault) (result_is : result ≡ Err fault) where
   pub writes-fail : WritesEnd first first_f bytes result w g
   writes-fail plan table rose device watched has waits =
-      let n = next_in v - next_in first in
-      let len = length bytes in
       let a = is.seals plan table rose device (watched-first first_f f g rose device watched goes) has waits in
       let b = ends plan (after_seals plan (replicate (next_in v - next_in first) VarRing) table) rose a.now.device (watched-then first_f f g rose device a.now.device watched is.goes a.power a.counts) a.has
       (waits-next first v first_f f bytes done is less plan table has waits) in
       let joined = breaks-join plan (replicate (next_in v - next_in first) VarRing) (VarRing ∷ []) table rose device first v first_f f a fault g is.same b in
-      let fewer : next_in v - next_in first + 1 ≤ pages_placed first (length bytes) =
-      pages-more (length (waiting_in first)) done len (next_in v - next_in first) (room_in first) wide (is.sum ∙ ap (λ k. (next_in v - next_in first) * room_in first + k) (is.full less)) less in
+      let fewer : next_in v - next_in first + 1 ≤ pages_placed first (length bytes) = pages-next first v first_f f bytes done is less wide in
       let whole = breaks-front plan (replicate (next_in v - next_in first + 1) VarRing) (replicate (pages_placed first (length bytes) - (next_in v - next_in first + 1)) VarRing) table rose device fault first g
       (subst (λ (xs : List RingName). Breaks plan xs table rose device fault first g) (replicate-push (next_in v - next_in first)) joined) in
       let all : replicate (next_in v - next_in first + 1) VarRing ++ replicate (pages_placed first (length bytes) - (next_in v - next_in first + 1)) VarRing ≡ replicate (pages_placed first (length bytes)) VarRing =
@@ -256,8 +258,7 @@ module _ (first v w mid : VarData) (first_f f g : FlashState) (bytes : List ℕ)
 pub tried-fail : (first v : VarData) (first_f f g : FlashState) (bytes : List ℕ) (done : ℕ) → Writes first first_f bytes done v f → done < length bytes → 0 < room_in first → written.Writes (IsOnRing v) 0 1 f g →
     written.Writes (IsOnRing first) 0 (pages_placed first (length bytes)) first_f g
 tried-fail first v first_f f g bytes done is less wide tries =
-    let fewer : next_in v - next_in first + 1 ≤ pages_placed first (length bytes) =
-    pages-more (length (waiting_in first)) done (length bytes) (next_in v - next_in first) (room_in first) wide (is.sum ∙ ap (λ k. (next_in v - next_in first) * room_in first + k) (is.full less)) less in
+    let fewer : next_in v - next_in first + 1 ≤ pages_placed first (length bytes) = pages-next first v first_f f bytes done is less wide in
     writes-wider (IsOnRing first) (IsOnRing first) 0 0 (next_in v - next_in first + 1) (pages_placed first (length bytes)) first_f g (λ page may. may) (omega arith) fewer
     (writes-both first v (next_in v - next_in first) 1 first_f f g is.same is.goes.tells is.tried tries)
 

@@ -1,11 +1,12 @@
-use Rattle.std.proofs.Common.{rules, ◌≡◌, ◌-◌, ◌<◌, ◌≤◌, Err, length, take, drop, refl, ◌∙◌, ap, arith}
+use Rattle.std.proofs.Common.{rules, ◌≡◌, ◌-◌, ◌<◌, ◌≤◌, Err, length, take, drop, refl, sym, ◌∙◌, ap, arith}
 use Rattle.std.proofs.lemmas.List.{places}
 use Rattle.std.proofs.lemmas.Result.{err_from_is_err_and}
 use Rattle.fl_flash.specs.declared.flash.FlashFault.{FlashFault}
 use Rattle.fl_frame.proofs.CallsInTurn.{goes-then}
 use Rattle.fl_ring.proofs.Written.{writes-fewer}
 use Rattle.fl_var.specs.Memory.{room_in, MaySeal}
-use Rattle.fl_var.proofs.BufferedBytes.{writes-first, writes-next, writes-fail, writes-oldest, writes-waits, writes-quiet, writes-end, writes-off, writes-tried, tried-fail, wrote-on, ok-on, cause-err, lost-on}
+use Rattle.fl_var.proofs.BufferedBytes.{pages-next, writes-first, writes-next, writes-fail, writes-oldest, writes-waits, writes-quiet, writes-end, writes-off, writes-tried, tried-fail, wrote-on, ok-on, cause-err, lost-on}
+use Rattle.fl_var.proofs.PageImages.{waiting-length}
 use Rattle.fl_var.proofs.Written.{on-ring}
 use Rattle.fl_var.proofs.var_data.VarData.write.Goals as goal
 
@@ -46,6 +47,14 @@ loop-done-preserved g c =
       c.requires.few,
       c.requires.left,
     )
+
+pub loop-done-smaller : goal.loop-done-smaller
+loop-done-smaller g c =
+    let mid = c.seal.new.self in
+    let less : c.loop-done.done < length c.args.bytes.now = search rules in
+    let rest : length (take (length c.args.bytes.now - c.loop-done.done) (drop c.loop-done.done c.args.bytes.now)) ≡ length c.args.bytes.now - c.loop-done.done = search (rules, places) in
+    let none : c.seal.new.self.waiting.fill ≡ 0 = sym (waiting-length mid) ∙ ap length c.in_ok-seal.ensures.empty in
+    omega (arith, less, rest, c.put-done-in-loop-done.ensures.count, none, mid.page, mid.served.page_least)
 
 pub returns-clause-ends : goal.returns-clause-ends
 returns-clause-ends g c =
@@ -101,3 +110,10 @@ pub returns-clause-writes : goal.returns-clause-writes
 returns-clause-writes g c =
     let all : length c.args.bytes.now ≤ c.loop-done.done = search rules in
     writes-tried c.args.self.now c.loop-done.self (g.F.Flash.state c.args.flash.now) (g.F.Flash.state c.loop-done.flash) c.args.bytes.now c.loop-done.done c.loop-done.invariant.0 all
+
+pub returns-in_err-seal-clause-media_reads : goal.returns-in_err-seal-clause-media_reads
+returns-in_err-seal-clause-media_reads g c =
+    let less : c.loop-done.done < length c.args.bytes.now = search rules in
+    let wide : 0 < room_in c.args.self.now = omega (arith, c.args.self.now.served.page_least) in
+    let is = c.loop-done.invariant.0 in
+    omega (arith, c.in_err-seal.ensures.media_reads, is.media_reads, pages-next c.args.self.now c.loop-done.self (g.F.Flash.state c.args.flash.now) (g.F.Flash.state c.loop-done.flash) c.args.bytes.now c.loop-done.done is less wide)
