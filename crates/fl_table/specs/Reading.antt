@@ -1,5 +1,5 @@
 -- What a mount reads in the kept pages, over any bytes.
-use Rattle.std.specs.Prelude.{◌≡◌, ◌⊎◌, ℕ, ◌+◌, ◌-◌, ◌<◌, ◌≤◌, Bool, true, nat_lt, Option, Some, None, unwrap_or, List, [], ◌∷◌, length, map, take, drop, if◌then◌else◌}
+use Rattle.std.specs.Prelude.{◌≡◌, ◌⊎◌, ℕ, ◌+◌, ◌-◌, ◌≤◌, Bool, true, nat_lt, Option, Some, None, unwrap_or, List, [], ◌∷◌, length, map, take, drop, if◌then◌else◌}
 use Rattle.fl_find.specs.Pages.{first_key, rows_on}
 use Rattle.fl_flash.specs.Flash.{FlashState, page_at}
 use Rattle.fl_mark.specs.Mark.{state_of_page}
