@@ -13,7 +13,7 @@ use Rattle.fl_model.specs.Record.{Plan, RowLayout, has_index, entries_per_page}
 use Rattle.fl_model.specs.Ring as model
 use Rattle.fl_model.specs.Row.{stored_row}
 use Rattle.fl_model.specs.Table.{Table, Entry, DataRing, IndexRing, VarRing, shape_of, pending_entries, lose, end_of_blobs}
-use Rattle.fl_model.specs.Layout.{IndexPage, bitmap_of, full_of}
+use Rattle.fl_model.specs.Layout.{IndexEntry, IndexPage, bitmap_of, full_of}
 use Rattle.fl_model.specs.Limits.{rows_of_page}
 use Rattle.fl_model.specs.Mount.{Of, renumber, ready, index_end, waiting_after}
 use Rattle.fl_model.specs.Facts.{IsTable}
@@ -24,7 +24,7 @@ use Rattle.fl_table.proofs.BlobTables.{HoldsVar}
 use Rattle.fl_table.proofs.BlobsOfTable.{var-as, var-same}
 use Rattle.fl_table.proofs.MountCalls.{OthersStill}
 use Rattle.fl_table.proofs.Plain.{IsPlainTable, indexed-as, blobbed-moved, stand-as, table-parts, table-facts}
-use Rattle.fl_table.proofs.PageRows.{page-rows, entries-length}
+use Rattle.fl_table.proofs.PageRows.{entries_from, HaveEntries, page-rows, entries-length, entries-same}
 use Rattle.fl_table.proofs.ListsStay.{HoldsIndexed, has-index, indexed-moved, indexed-same, ring-moved}
 use Rattle.fl_page.specs.Writer.{Gathers}
 use Rattle.fl_frame.specs.Device.{ArmsAs, SameDevice}
@@ -61,7 +61,7 @@ use Rattle.fl_table.proofs.NotedEntries.{first-same, page-bitmap, void-bitmap}
 use Rattle.fl_table.proofs.IndexOfTable.{planned-none, planned-some, still-planned}
 use Rattle.fl_table.specs.Pages.{Rests, bytes_in}
 use Rattle.fl_find.specs.declared.index.KeyIndex.{KeyIndex}
-use Rattle.fl_table.specs.Reading.{pages_of, HaveEntries, entries_from, bitmap_on, full_on}
+use Rattle.fl_table.specs.Reading.{pages_of, bitmap_on, full_on}
 use Rattle.fl_table.specs.declared.counts.Mounted.{Mounted}
 use Rattle.fl_table.specs.declared.known.Known.{Known}
 use Rattle.fl_table.specs.declared.faults.MountFault.{MountFault}
@@ -334,7 +334,7 @@ module _ (first : ℕ) (plan : Plan) (table : Table) (rose : Bool) (device : Dev
         let image = to-image (page_at mid) first plan l.now.state mid_sizes large l.facts.rows on in
         let bitmap : (number : ℕ) → model.oldest l.now.state.rows ≤ number → number < l.now.state.rows.next → bitmap_on (pages_of ring mid number) ≡ bitmap_of plan (rows_of_page l.now.state number) =
         subst (λ (r : Shape). (number : ℕ) → model.oldest l.now.state.rows ≤ number → number < l.now.state.rows.next → bitmap_on (page_at mid (place_at r number)) ≡ bitmap_of plan (rows_of_page l.now.state number)) (sym is) (λ number low high. one_page image mid_sizes number low high) in
-        λ number low high. record { bitmap = bitmap number low high; full = full_page number low high }
+        λ number low high. rw (sym (bitmap number low high), sym (full_page number low high)) refl
       where
         bare_rows : (xs : List Entry) → take 0 xs ≡ []
         bare_rows [] = refl
@@ -391,7 +391,9 @@ module _ (first : ℕ) (plan : Plan) (table : Table) (rose : Bool) (device : Dev
         omega (arith, wait_is, end, ended, begin, waits.low, waits.listed.near, ends, old_is, next_is, per) in
         let low : model.oldest st.rows ≤ wait = omega (arith, first_is, end, ended, next_is, l.facts.rows.not_negative) in
         let w : Waits now wait (entries_from plan st wait (next_of ring - wait)) =
-        waits.waits plan (ready plan st) (subst (λ (x : RowLayout). HaveEntries x plan (ready plan l.now.state) (pages_of ring mid)) (sym layout) (reads-entries t planned is (planned-bits now D plan there))) low (omega (arith, next_is)) in
+        subst (λ (es : List IndexEntry). Waits now wait es)
+        (entries-same c.layout plan (ready plan st) (pages_of ring mid) wait (next_of ring - wait)
+        (subst (λ (x : RowLayout). HaveEntries x plan (ready plan l.now.state) (pages_of ring mid)) (sym layout) (reads-entries t planned is (planned-bits now D plan there))) low (omega (arith, next_is, first_is))) waits.waits in
         let begins : wait ≡ st.rows.next - waiting_after plan st = omega (arith, first_is, waiting) in
         let count : next_of ring - wait ≡ waiting_after plan st = omega (arith, first_is, waiting, next_is) in
         record {

@@ -8,11 +8,9 @@ use Rattle.fl_index.specs.declared.page.Full.{Full}
 use Rattle.fl_index.specs.Memory.{waiting_in, first_waiting, per_page, IsSamePlan}
 use Rattle.fl_index.specs.Page.{full_view}
 use Rattle.fl_index.specs.Standing.{Waits}
-use Rattle.fl_model.specs.Layout.{IndexEntry, bitmap_of, index_entry}
-use Rattle.fl_model.specs.Limits.{rows_of_page}
+use Rattle.fl_model.specs.Layout.{IndexEntry, bitmap_of}
 use Rattle.fl_model.specs.Record.{Plan, RowLayout}
-use Rattle.fl_model.specs.Ring.{oldest}
-use Rattle.fl_model.specs.Table.{Table, Entry}
+use Rattle.fl_model.specs.Table.{Entry}
 use Rattle.fl_bitmap.specs.Widths.{is_bits}
 use Rattle.fl_index.proofs.Bytes.{number_of-low}
 use Rattle.fl_index.proofs.WaitingEntries.{bitmap-small}
@@ -26,7 +24,7 @@ use Rattle.fl_ring.proofs.Found.{committed_state}
 use Rattle.fl_table.specs.Bitmaps.{AreSamePlan, AreIdle, AreWaiting, EndAt, HaveRoom, AreNoted, first_to_wait}
 use Rattle.fl_table.proofs.PageRows.{entries-push}
 use Rattle.fl_table.specs.Coming.{WaitBetween}
-use Rattle.fl_table.specs.Reading.{WaitFor, WaitFrom, entries_from, IsEntryOf, HaveEntries, GatherUpTo, AreGathered, bitmap_on, full_on, bitmap_where, page_bitmap}
+use Rattle.fl_table.specs.Reading.{WaitFor, WaitFrom, entries_on, entry_on, GatherUpTo, AreGathered, bitmap_on, full_on, bitmap_where, page_bitmap}
 use Rattle.fl_table.proofs.States.{committed-end}
 
 -- at first none waits
@@ -36,7 +34,7 @@ gathers-none (Some index) low high number e h = (refl, omega (arith, h.0, h.1, e
 
 pub gather-first : (layout : RowLayout) (bitmaps : Option BitmapIndex) (low high number : ℕ) (page : ℕ → List ℕ) → number ≡ low → WaitFor bitmaps low high → GatherUpTo layout bitmaps page number bitmaps
 gather-first layout None low high number page e h = refl
-gather-first layout (Some index) low high number page e h = λ plan table waits entries low' high'. subst (λ k. Waits index (first_waiting index) (entries_from plan table (first_waiting index) k)) (let z : 0 ≡ number - first_waiting index = omega (arith, h.1, e) in z) waits
+gather-first layout (Some index) low high number page e h = λ waits. subst (λ k. Waits index (first_waiting index) (entries_on layout page (first_waiting index) k)) (let z : 0 ≡ number - first_waiting index = omega (arith, h.1, e) in z) waits
 
 per_same : (old new : BitmapIndex) → IsSamePlan old new → per_page new ≡ per_page old
 per_same old new same =
@@ -75,24 +73,21 @@ pub gather-more : (layout : RowLayout) (old now later : Option BitmapIndex) (low
 gather-more layout None now later low high number bitmap full page h g noted bitmap_is full_is k = subst (λ (o : Option BitmapIndex). AreNoted o number bitmap full later → later ≡ None) (sym g) (λ n. n) noted
 gather-more layout (Some old) None later low high number bitmap full page h g noted bitmap_is full_is k = absurd g
 gather-more layout (Some old) (Some now) None low high number bitmap full page h g noted bitmap_is full_is k = absurd noted
-gather-more layout (Some old) (Some now) (Some later) low high number bitmap full page h g noted bitmap_is full_is k = λ plan table waits entries oldest_low next_high.
-    by_order plan table (k plan table waits entries oldest_low (omega (arith, next_high))) entries oldest_low next_high (cases_lt number (first_waiting old))
+gather-more layout (Some old) (Some now) (Some later) low high number bitmap full page h g noted bitmap_is full_is k = λ waits. by_order (k waits) (cases_lt number (first_waiting old))
   where
-    by_order : (plan : Plan) (table : Table) → Waits now (first_waiting old) (entries_from plan table (first_waiting old) (number - first_waiting old)) → HaveEntries layout plan table page → oldest table.rows ≤ first_waiting old → number + 1 ≤ table.rows.next →
-        (number < first_waiting old) ⊎ (first_waiting old ≤ number) → Waits later (first_waiting old) (entries_from plan table (first_waiting old) (number + 1 - first_waiting old))
-    by_order plan table w entries oldest_low next_high (inl before) =
+    by_order : Waits now (first_waiting old) (entries_on layout page (first_waiting old) (number - first_waiting old)) →
+        (number < first_waiting old) ⊎ (first_waiting old ≤ number) → Waits later (first_waiting old) (entries_on layout page (first_waiting old) (number + 1 - first_waiting old))
+    by_order w (inl before) =
         let unchanged = noted.1 (λ e. omega (arith, e, g.0, g.1, before)) in
-        subst (λ n. Waits later (first_waiting old) (entries_from plan table (first_waiting old) n)) (let z : number - first_waiting old ≡ number + 1 - first_waiting old = omega (arith, before) in z)
-        (subst (λ (x : BitmapIndex). Waits x (first_waiting old) (entries_from plan table (first_waiting old) (number - first_waiting old))) (sym unchanged) w)
-    by_order plan table w entries oldest_low next_high (inr from) =
+        subst (λ n. Waits later (first_waiting old) (entries_on layout page (first_waiting old) n)) (let z : number - first_waiting old ≡ number + 1 - first_waiting old = omega (arith, before) in z)
+        (subst (λ (x : BitmapIndex). Waits x (first_waiting old) (entries_on layout page (first_waiting old) (number - first_waiting old))) (sym unchanged) w)
+    by_order w (inr from) =
         let n = noted.0 (omega (arith, g.0, g.1, from)) in
         let at : first_waiting old + (number - first_waiting old) ≡ number = omega (arith, from) in
-        let entry = index_entry plan (rows_of_page table (first_waiting old + (number - first_waiting old))) in
-        let tells : IsEntryOf layout (page number) (index_entry plan (rows_of_page table (first_waiting old + (number - first_waiting old)))) =
-        subst (λ m. IsEntryOf layout (page number) (index_entry plan (rows_of_page table m))) (sym at) (entries number (omega (arith, from, oldest_low)) (omega (arith, next_high))) in
-        subst (λ m. Waits later (first_waiting old) (entries_from plan table (first_waiting old) m)) (let z : number - first_waiting old + 1 ≡ number + 1 - first_waiting old = omega (arith, from) in z)
-        (subst (λ (es : List IndexEntry). Waits later (first_waiting old) es) (sym (entries-push plan table (first_waiting old) (number - first_waiting old)))
-        (n.waits (first_waiting old) (entries_from plan table (first_waiting old) (number - first_waiting old)) entry w (sym (bitmap_is ∙ tells.bitmap)) (λ t. sym (ap full_view full_is ∙ tells.full))))
+        subst (λ m. Waits later (first_waiting old) (entries_on layout page (first_waiting old) m)) (let z : number - first_waiting old + 1 ≡ number + 1 - first_waiting old = omega (arith, from) in z)
+        (subst (λ (es : List IndexEntry). Waits later (first_waiting old) es) (sym (entries-push layout page (first_waiting old) (number - first_waiting old)))
+        (n.waits (first_waiting old) (entries_on layout page (first_waiting old) (number - first_waiting old)) (entry_on layout (page (first_waiting old + (number - first_waiting old)))) w
+        (ap (λ m. bitmap_on (page m)) at ∙ sym bitmap_is) (λ t. ap (λ m. full_view (full_on layout (page m))) at ∙ sym (ap full_view full_is))))
 
 -- they end where the pages do
 pub gathers-end : (old now : Option BitmapIndex) (low high : ℕ) → WaitFor old low high → AreGathered old high now → EndAt now high
@@ -114,18 +109,18 @@ wait-for (Some was) (Some now) end low high first is below le same idle at =
     let here = at now refl in
     (idle, omega (arith, is, here, idle, below, le), omega (arith, is, here, idle), omega (arith, is, here, idle, per))
 
-pub gather-waits : (layout : RowLayout) (old now : BitmapIndex) (page : ℕ → List ℕ) (high first : ℕ) (plan : Plan) (table : Table) → waiting_in old ≡ 0 → first_waiting old + waiting_in old ≡ first → Waits old first [] → HaveEntries layout plan table page → oldest table.rows ≤ first → high ≤ table.rows.next →
-    GatherUpTo layout (Some old) page high (Some now) → Waits now first (entries_from plan table first (high - first))
-gather-waits layout old now page high first plan table idle at waits entries low within h =
+pub gather-waits : (layout : RowLayout) (old now : BitmapIndex) (page : ℕ → List ℕ) (high first : ℕ) → waiting_in old ≡ 0 → first_waiting old + waiting_in old ≡ first → Waits old first [] →
+    GatherUpTo layout (Some old) page high (Some now) → Waits now first (entries_on layout page first (high - first))
+gather-waits layout old now page high first idle at waits h =
     let here : first_waiting old ≡ first = omega (arith, at, idle) in
-    subst (λ k. Waits now k (entries_from plan table k (high - k))) here (h plan table (subst (λ k. Waits old k []) (sym here) waits) entries (omega (arith, low, here)) within)
+    subst (λ k. Waits now k (entries_on layout page k (high - k))) here (h (subst (λ k. Waits old k []) (sym here) waits))
 
--- .. whose entries wait then, over any table
+-- .. whose entries wait then
 pub waits-from : (layout : RowLayout) (begun now : Option BitmapIndex) (page : ℕ → List ℕ) (high first : ℕ) → AreIdle begun → EndAt begun first → AreWaiting begun first [] → GatherUpTo layout begun page high now → WaitFrom layout page first high now
-waits-from layout None None page high first idle at waits h = λ plan table entries low within. tt
+waits-from layout None None page high first idle at waits h = tt
 waits-from layout None (Some now) page high first idle at waits h = absurd (cc h)
 waits-from layout (Some begun) None page high first idle at waits h = absurd h
-waits-from layout (Some begun) (Some now) page high first idle at waits h = λ plan table entries low within. gather-waits layout begun now page high first plan table idle (at begun refl) waits entries low within h
+waits-from layout (Some begun) (Some now) page high first idle at waits h = gather-waits layout begun now page high first idle (at begun refl) waits h
 
 -- .. and so many
 pub wait-between : (begun now : Option BitmapIndex) (high first : ℕ) → AreIdle begun → EndAt begun first → AreGathered begun high now → WaitBetween first high now

@@ -1,5 +1,5 @@
 -- The rows of a kept page by its number, and the entries of pages one after another.
-use Rattle.std.proofs.Common.{◌≡◌, ℕ, zero, suc, ◌+◌, ◌<◌, Bool, true, false, cond, ◌==◌, filter, Option, Some, None, option_map, unwrap_or, List, [], ◌∷◌, ◌++◌, length, take, drop, refl, sym, ◌∙◌, ap, arith}
+use Rattle.std.proofs.Common.{◌≡◌, ℕ, zero, suc, ◌+◌, ◌<◌, ◌≤◌, Bool, true, false, cond, ◌==◌, filter, Option, Some, None, option_map, unwrap_or, List, [], ◌∷◌, ◌++◌, length, map, take, drop, refl, sym, ◌∙◌, ap, arith}
 use Rattle.std.specs.List.{slice_get, sum}
 use Rattle.std.proofs.lemmas.Bool.{eq-eqb, ne_eqb, eqb-true}
 use Rattle.std.proofs.lemmas.List.{drop-drop, length-map}
@@ -7,11 +7,11 @@ use Rattle.std.proofs.lemmas.List.Sums.{sum_by-cons}
 use Rattle.fl_model.specs.Image.{rows_at}
 use Rattle.fl_model.specs.Index.{IndexEntry, index_entry}
 use Rattle.fl_model.specs.Limits.{numbers_from, rows_of_page}
-use Rattle.fl_model.specs.Record.{Plan}
+use Rattle.fl_model.specs.Record.{Plan, RowLayout}
 use Rattle.fl_model.specs.Ring.{oldest}
 use Rattle.fl_model.specs.Spline.{pages_from}
 use Rattle.fl_model.specs.Table.{Table, Entry}
-use Rattle.fl_table.specs.Reading.{entries_from}
+use Rattle.fl_table.specs.Reading.{entries_on, entry_on}
 
 drop_none : {X : Type 0} (xs : List X) → drop 0 xs ≡ xs
 drop_none [] = refl
@@ -93,16 +93,31 @@ numbers-length : (first n : ℕ) → length (numbers_from first n) ≡ n
 numbers-length first zero = refl
 numbers-length first (suc n) = ap suc (numbers-length (first + 1) n)
 
+-- those of a table's rows, of so many pages from one on
+abbrev pub entries_from : Plan → Table → ℕ → ℕ → List IndexEntry
+entries_from plan table first count = map (λ number. index_entry plan (rows_of_page table number)) (numbers_from first count)
+
 pub entries-length : (plan : Plan) (table : Table) (first n : ℕ) → length (entries_from plan table first n) ≡ n
 entries-length plan table first n = length-map (numbers_from first n) (λ number. index_entry plan (rows_of_page table number)) ∙ numbers-length first n
 
--- one more
-entries_next : (plan : Plan) (table : Table) (first n : ℕ) → entries_from plan table first (suc n) ≡ entries_from plan table first n ++ index_entry plan (rows_of_page table (first + n)) ∷ []
-entries_next plan table first zero = ap (λ k. index_entry plan (rows_of_page table k) ∷ []) (let e : first ≡ first + 0 = omega arith in e)
-entries_next plan table first (suc n) =
-    ap (λ (es : List IndexEntry). index_entry plan (rows_of_page table first) ∷ es)
-    (entries_next plan table (first + 1) n
-    ∙ ap (λ k. entries_from plan table (first + 1) n ++ index_entry plan (rows_of_page table k) ∷ []) (let e : first + 1 + n ≡ first + suc n = omega arith in e))
+-- one page more
+entries_next : (entry : ℕ → IndexEntry) (first n : ℕ) → map entry (numbers_from first (suc n)) ≡ map entry (numbers_from first n) ++ entry (first + n) ∷ []
+entries_next entry first zero = ap (λ k. entry k ∷ []) (let e : first ≡ first + 0 = omega arith in e)
+entries_next entry first (suc n) =
+    ap (λ (es : List IndexEntry). entry first ∷ es)
+    (entries_next entry (first + 1) n ∙ ap (λ k. map entry (numbers_from (first + 1) n) ++ entry k ∷ []) (let e : first + 1 + n ≡ first + suc n = omega arith in e))
 
-pub entries-push : (plan : Plan) (table : Table) (first n : ℕ) → entries_from plan table first (n + 1) ≡ entries_from plan table first n ++ index_entry plan (rows_of_page table (first + n)) ∷ []
-entries-push plan table first n = ap (λ k. entries_from plan table first k) (let e : n + 1 ≡ suc n = omega arith in e) ∙ entries_next plan table first n
+pub entries-push : (layout : RowLayout) (page : ℕ → List ℕ) (first n : ℕ) → entries_on layout page first (n + 1) ≡ entries_on layout page first n ++ entry_on layout (page (first + n)) ∷ []
+entries-push layout page first n = ap (λ k. entries_on layout page first k) (let e : n + 1 ≡ suc n = omega arith in e) ∙ entries_next (λ number. entry_on layout (page number)) first n
+
+-- pages of a ring whose bytes tell the entries of a table's rows ..
+abbrev pub HaveEntries : RowLayout → Plan → Table → (ℕ → List ℕ) → Type 0
+HaveEntries layout plan table page = (number : ℕ) → oldest table.rows ≤ number → number < table.rows.next → entry_on layout (page number) ≡ index_entry plan (rows_of_page table number)
+
+-- .. have the same entries
+pub entries-same : (layout : RowLayout) (plan : Plan) (table : Table) (page : ℕ → List ℕ) (first n : ℕ) → HaveEntries layout plan table page → oldest table.rows ≤ first → first + n ≤ table.rows.next →
+    entries_on layout page first n ≡ entries_from plan table first n
+entries-same layout plan table page first zero h low high = refl
+entries-same layout plan table page first (suc n) h low high =
+    ap (λ (e : IndexEntry). e ∷ entries_on layout page (first + 1) n) (h first low (omega (arith, high)))
+    ∙ ap (λ (es : List IndexEntry). index_entry plan (rows_of_page table first) ∷ es) (entries-same layout plan table page (first + 1) n h (omega (arith, low)) (omega (arith, high)))

@@ -77,7 +77,8 @@ abbrev pub WaitBetween : ℕ → ℕ → Option BitmapIndex → Type 0
 WaitBetween first next None = Unit {0}
 WaitBetween first next (Some index) = (first_waiting index ≡ first) × (waiting_in index ≡ next - first)
 
--- Of the data pages that no index page lists the entries of the last ones wait, as many as an index page holds.
+-- Of the data pages that no index page lists the entries of the last ones wait, as many as an index page holds, and as the bytes of
+-- each page tell it.
 pub record WaitUnlisted (t : Come) (page : ℕ → List ℕ) (old : Option BitmapIndex) (end next : ℕ) (new : Option BitmapIndex) : Type 0 where
   pub from : ℕ
   pub low : t.oldest ≤ from

@@ -1,5 +1,5 @@
 -- What a mount reads in the kept pages, over any bytes.
-use Rattle.std.specs.Prelude.{◌≡◌, ◌⊎◌, ℕ, ◌+◌, ◌-◌, ◌<◌, ◌≤◌, Bool, true, nat_lt, Option, Some, None, unwrap_or, List, [], ◌∷◌, length, map, take, drop, if◌then◌else◌}
+use Rattle.std.specs.Prelude.{◌≡◌, ◌⊎◌, ℕ, ◌+◌, ◌-◌, ◌≤◌, Bool, true, nat_lt, Option, Some, None, unwrap_or, List, [], ◌∷◌, length, map, take, drop, if◌then◌else◌}
 use Rattle.fl_find.specs.Pages.{first_key, rows_on}
 use Rattle.fl_flash.specs.Flash.{FlashState, page_at}
 use Rattle.fl_mark.specs.Mark.{state_of_page}
@@ -10,12 +10,10 @@ use Rattle.fl_index.specs.declared.page.Full.{Full}
 use Rattle.fl_index.specs.Memory.{first_waiting, waiting_in, per_page}
 use Rattle.fl_index.specs.Page.{full_view}
 use Rattle.fl_index.specs.Standing.{Waits}
-use Rattle.fl_model.specs.Layout.{IndexEntry, index_entry}
-use Rattle.fl_model.specs.Limits.{numbers_from, rows_of_page}
-use Rattle.fl_model.specs.Record.{Plan, RowLayout}
-use Rattle.fl_model.specs.Ring.{oldest as model_oldest}
+use Rattle.fl_model.specs.Layout.{IndexEntry}
+use Rattle.fl_model.specs.Limits.{numbers_from}
+use Rattle.fl_model.specs.Record.{RowLayout}
 use Rattle.fl_model.specs.Row.{Row, number_of}
-use Rattle.fl_model.specs.Table as model
 use Rattle.fl_page.specs.Page.{IsGoodPage, bad_page, rows_in}
 use Rattle.fl_ring.specs.Place.{shape_of}
 use Rattle.fl_ring.specs.Ring.{place}
@@ -81,32 +79,23 @@ full_on layout page =
     let rows = rows_on layout page in
     record { first_key = unwrap_or (first_key rows) 0; count = length rows; blob_end = least_of (blobs_end 0 rows) }
 
--- the bytes of a data page tell what its entry tells
-pub record IsEntryOf (layout : RowLayout) (page : List ℕ) (entry : IndexEntry) : Type 0 where
-  pub bitmap : bitmap_on page ≡ entry.bitmap
-  pub full : full_view (full_on layout page) ≡ entry.full
+-- the entry of a data page, by its bytes, and those of so many pages from one on
+abbrev pub entry_on : RowLayout → List ℕ → IndexEntry
+entry_on layout page = record { bitmap = bitmap_on page; full = full_view (full_on layout page) }
 
--- the kept pages of a ring tell what the entries of a table's pages tell
-abbrev pub HaveEntries : RowLayout → Plan → model.Table → (ℕ → List ℕ) → Type 0
-HaveEntries layout plan table page =
-    (number : ℕ) → model_oldest table.rows ≤ number → number < table.rows.next → IsEntryOf layout (page number) (index_entry plan (rows_of_page table number))
-
--- the entries of so many pages from one on
-abbrev pub entries_from : Plan → model.Table → ℕ → ℕ → List IndexEntry
-entries_from plan table first count = map (λ number. index_entry plan (rows_of_page table number)) (numbers_from first count)
+abbrev pub entries_on : RowLayout → (ℕ → List ℕ) → ℕ → ℕ → List IndexEntry
+entries_on layout page first count = map (λ number. entry_on layout (page number)) (numbers_from first count)
 
 -- the entries of the pages before a number wait then
 abbrev pub GatherUpTo : RowLayout → Option BitmapIndex → (ℕ → List ℕ) → ℕ → Option BitmapIndex → Type 0
 GatherUpTo layout None page next new = new ≡ None
 GatherUpTo layout (Some old) page next None = ⊥
 GatherUpTo layout (Some old) page next (Some new) =
-    (plan : Plan) (table : model.Table) → Waits old (first_waiting old) [] → HaveEntries layout plan table page →
-    model_oldest table.rows ≤ first_waiting old → next ≤ table.rows.next → Waits new (first_waiting old) (entries_from plan table (first_waiting old) (next - first_waiting old))
+    Waits old (first_waiting old) [] → Waits new (first_waiting old) (entries_on layout page (first_waiting old) (next - first_waiting old))
 
 -- those of the pages from a number on wait then
 abbrev pub WaitFrom : RowLayout → (ℕ → List ℕ) → ℕ → ℕ → Option BitmapIndex → Type 0
-WaitFrom layout page first next new =
-    (plan : Plan) (table : model.Table) → HaveEntries layout plan table page → model_oldest table.rows ≤ first → next ≤ table.rows.next → AreWaiting new first (entries_from plan table first (next - first))
+WaitFrom layout page first next new = AreWaiting new first (entries_on layout page first (next - first))
 
 -- .. as many as there are from the first that waits on
 abbrev pub AreGathered : Option BitmapIndex → ℕ → Option BitmapIndex → Type 0
