@@ -105,10 +105,10 @@ not-filled (Some bytes) (Some var) page out may = by_side out
     by_side (inr above) = absurd (omega (arith, above, may.1))
 
 -- a blob that is placed behind the page leaves it
-pub page-made : {KNOTS SLOTS : ℕ} (t u : Table KNOTS SLOTS) (blob : Option (List ℕ)) (f m g : FlashState) → m.media.tells ≡ f.media.tells → variable.AreSamePlan t.blobs u.blobs → HasFlushed t f m →
+pub page-made : {KNOTS SLOTS : ℕ} (t u : Table KNOTS SLOTS) (blob : Option (List ℕ)) (f m g : FlashState) → m.media.tells ≡ f.media.tells → variable.AreSamePlan t.blobs u.blobs → (HasRoom t → ⊥) → HasFlushed t f m →
     Writes (variable.MayFill blob u.blobs) 0 (variable.pages_for u.blobs blob) m g → HasMadePage t blob f g
-page-made t u blob f m g tells plan made fill = record {
-  writes = put-writes t u blob 1 f m g tells plan made.writes fill;
+page-made t u blob f m g tells plan full made fill = record {
+  writes = put-writes t u blob 1 f m g tells plan (λ room. absurd (full room)) made.writes fill;
   page = λ told apart rows gathers.
       let stood : page_at g (next_page t) ≡ page_at m (next_page t) =
       fill.tries.stands (subst IsTrue (sym tells) told) (next_page t) (λ may. not-filled blob t.blobs (next_page t) apart.blobs (fill-moved blob t.blobs u.blobs plan (next_page t) may)) in

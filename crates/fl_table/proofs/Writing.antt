@@ -1,13 +1,16 @@
 -- What the seals of a table's rings change of a flash, one after another.
-use Rattle.std.proofs.Common.{◌≡◌, ℕ, ◌+◌, ◌<◌, ◌≤◌, Option, Some, None, List, length, inl, inr, sym, subst, arith}
-use Rattle.fl_flash.specs.Flash.{FlashState}
+use Rattle.std.proofs.Common.{◌≡◌, ℕ, ◌+◌, ◌<◌, ◌≤◌, IsTrue, Option, Some, None, List, length, inl, inr, sym, ap, subst, arith}
+use Rattle.std.proofs.lemmas.Bool.{cases_lt}
+use Rattle.fl_flash.specs.Flash.{FlashState, page_at}
+use Rattle.fl_model.specs.Record.{layout_len}
 use Rattle.fl_ring.specs.Ring.{Shape, room}
 use Rattle.fl_ring.specs.Written.{MaySealIn, Writes}
 use Rattle.fl_ring.specs.declared.ring.Ring.{Ring}
 use Rattle.fl_ring.proofs.Written.{writes-then, writes-wider}
+use Rattle.fl_schema.specs.Schema.{layout_of}
 use Rattle.fl_table.specs.Bitmaps as bitmaps
 use Rattle.fl_table.specs.Blobs as variable
-use Rattle.fl_table.specs.Memory.{MayPut, MaySeal}
+use Rattle.fl_table.specs.Memory.{HasRoom, MayPut, MaySeal}
 use Rattle.fl_table.specs.Mounting.{rings_in}
 use Rattle.fl_table.specs.declared.table.Table.{Table}
 use Rattle.fl_table.proofs.BlobsOfTable.{pages-most}
@@ -42,17 +45,34 @@ fill-moved (Some bytes) (Some var) None plan page may = absurd may
 fill-moved (Some bytes) (Some var) (Some now) plan page may = subst (λ (r : Shape). (r.first ≤ page) × (page < r.first + room r)) (same-shape var now plan) may
 
 module _ {KNOTS SLOTS : ℕ} (t : Table KNOTS SLOTS) where
-  -- a put that seals the page of pending rows, ..
-  pub room-writes : (blob : Option (List ℕ)) (many : ℕ) (f g : FlashState) → Writes (MaySeal t) 0 (rings_in t) f g → Writes (MayPut t blob) 0 (rings_in t + many) f g
-  room-writes blob many f g h = writes-wider (MaySeal t) (MayPut t blob) 0 0 (rings_in t) (rings_in t + many) f g (λ page may. inl may) (same 0) (let e : rings_in t ≤ rings_in t + many = omega arith in e) h
+  -- a put that seals the page of pending rows, where it is full, ..
+  full-writes : (blob : Option (List ℕ)) (least most : ℕ) (f g : FlashState) → (HasRoom t → g ≡ f) → Writes (MaySeal t) least most f g → Writes (MayPut t blob) least most f g
+  full-writes blob least most f g quiet h = record {
+    programs = h.programs;
+    erases = h.erases;
+    least_programs = h.least_programs;
+    most_programs = h.most_programs;
+    most_erases = h.most_erases;
+    tries = record { work = h.tries.work; armed = h.tries.armed; stands = stood };
+  }
+    where
+      stood : IsTrue f.media.tells → (page : ℕ) → (MayPut t blob page → ⊥) → page_at g page ≡ page_at f page
+      stood told page not = elim (cases_lt (length t.writer.body) (t.writer.end + layout_len (layout_of t.schema))) [
+        | inl full ↦ h.tries.stands told page (λ may. not (inl (λ room. absurd (omega (arith, full, room)), may)))
+        | inr room ↦ ap (λ (s : FlashState). page_at s page) (quiet room)
+      ]
+
+  pub room-writes : (blob : Option (List ℕ)) (many : ℕ) (f g : FlashState) → (HasRoom t → g ≡ f) → Writes (MaySeal t) 0 (rings_in t) f g → Writes (MayPut t blob) 0 (rings_in t + many) f g
+  room-writes blob many f g quiet h =
+      writes-wider (MayPut t blob) (MayPut t blob) 0 0 (rings_in t) (rings_in t + many) f g (λ page may. may) (same 0) (let e : rings_in t ≤ rings_in t + many = omega arith in e) (full-writes blob 0 (rings_in t) f g quiet h)
 
   -- .. and then places a blob
-  pub put-writes : (u : Table KNOTS SLOTS) (blob : Option (List ℕ)) (least : ℕ) (f m g : FlashState) → m.media.tells ≡ f.media.tells → variable.AreSamePlan t.blobs u.blobs → Writes (MaySeal t) least (rings_in t) f m →
+  pub put-writes : (u : Table KNOTS SLOTS) (blob : Option (List ℕ)) (least : ℕ) (f m g : FlashState) → m.media.tells ≡ f.media.tells → variable.AreSamePlan t.blobs u.blobs → (HasRoom t → m ≡ f) → Writes (MaySeal t) least (rings_in t) f m →
       Writes (variable.MayFill blob u.blobs) 0 (variable.pages_for u.blobs blob) m g → Writes (MayPut t blob) least (rings_in t + variable.most_pages t.blobs blob) f g
-  put-writes u blob least f m g tells plan first second =
+  put-writes u blob least f m g tells plan quiet first second =
       let all : Writes (MayPut t blob) (least + 0) (rings_in t + variable.most_pages t.blobs blob) f g =
       writes-then (MayPut t blob) least (rings_in t) 0 (variable.most_pages t.blobs blob) f m g tells
-      (writes-wider (MaySeal t) (MayPut t blob) least least (rings_in t) (rings_in t) f m (λ page may. inl may) (same least) (same (rings_in t)) first)
+      (full-writes blob least (rings_in t) f m quiet first)
       (writes-wider (variable.MayFill blob u.blobs) (MayPut t blob) 0 0 (variable.pages_for u.blobs blob) (variable.most_pages t.blobs blob) m g (λ page may. inr (fill-moved blob t.blobs u.blobs plan page may)) (same 0) (pages-most t.blobs u.blobs blob plan) second) in
       subst (λ n. Writes (MayPut t blob) n (rings_in t + variable.most_pages t.blobs blob) f g) (let e : least + 0 ≡ least = omega arith in e) all
 

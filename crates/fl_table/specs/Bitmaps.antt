@@ -123,9 +123,9 @@ oldest_after bitmaps = unwrap_or (option_map (λ index. if waiting_in index == p
 abbrev pub rings_of : Option BitmapIndex → ℕ
 rings_of bitmaps = if is_some bitmaps then 1 else 0
 
--- the flash pages that a seal of it changes
+-- the flash pages that the seal of the waiting entries changes, where they fill a page
 abbrev pub MaySeal : Option BitmapIndex → ℕ → Type 0
-MaySeal bitmaps page = IsSomeAnd bitmaps (λ index. memory.MaySeal index page)
+MaySeal bitmaps page = IsSomeAnd bitmaps (λ index. (waiting_in index ≡ per_page index) × memory.MaySeal index page)
 
 -- an index page is sealed where as many entries wait as it holds
 abbrev pub bitmap_seals : Plan → Table → List RingName

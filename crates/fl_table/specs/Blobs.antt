@@ -174,9 +174,9 @@ abbrev pub StandOutside : Option VarData → (ℕ → List ℕ) → (ℕ → Lis
 StandOutside None old new = (page : ℕ) → new page ≡ old page
 StandOutside (Some var) old new = OutsideStands (var_shape var) old new
 
--- the flash pages that a seal of it changes
+-- the flash pages that the seal of the bytes changes that wait, where there are any
 abbrev pub MaySeal : Option VarData → ℕ → Type 0
-MaySeal blobs page = IsSomeAnd blobs (λ var. memory.MaySeal var page)
+MaySeal blobs page = IsSomeAnd blobs (λ var. (1 ≤ length (waiting_in var)) × memory.MaySeal var page)
 
 -- .. and those that may change while a blob is placed
 abbrev pub MayFill : Option (List ℕ) → Option VarData → ℕ → Type 0

@@ -67,14 +67,14 @@ HasRoom t = t.writer.end + layout_len (layout_of t.schema) ≤ length t.writer.b
 abbrev pub ring_shape : {KNOTS SLOTS : ℕ} → Table KNOTS SLOTS → Shape
 ring_shape t = shape_at t.place t.geometry
 
--- The flash pages that a seal changes, of each ring at most the next page and, where its oldest block goes, those of the block
--- ahead.
+-- The flash pages that a seal changes, of each ring of which a page is due at most that page and, where its oldest block goes,
+-- those of the block ahead.
 abbrev pub MaySeal : {KNOTS SLOTS : ℕ} → Table KNOTS SLOTS → ℕ → Type 0
 MaySeal t page = MaySealIn t.ring page ⊎ (bitmaps.MaySeal t.bitmaps page ⊎ variable.MaySeal t.blobs page)
 
--- .. and a put, whose blob may fill pages
+-- .. and a put: these where the page of pending rows is full, and those that its blob may fill
 abbrev pub MayPut : {KNOTS SLOTS : ℕ} → Table KNOTS SLOTS → Option (List ℕ) → ℕ → Type 0
-MayPut t blob page = MaySeal t page ⊎ variable.MayFill blob t.blobs page
+MayPut t blob page = ((HasRoom t → ⊥) × MaySeal t page) ⊎ variable.MayFill blob t.blobs page
 
 -- a table of this plan, whose blocks begin at `first`
 pub record IsPlanned {KNOTS SLOTS : ℕ} (t : Table KNOTS SLOTS) (first : ℕ) (plan : Plan) : Type 0 where

@@ -1,12 +1,13 @@
 use Rattle.std.proofs.Common.{◌≡◌, ◌⊎◌, inl, inr, ℕ, List, [], ◌∷◌, length, Ok, OnOk, Option, Some, IfSome, IsTrue, ◌≤◌, refl, sym, ap, subst, arith}
 use Rattle.fl_table.specs.Blobs.{RestEndsOf, oldest_after}
 use Rattle.fl_table.proofs.BlobSteps.{rest-ends}
-use Rattle.fl_flash.specs.Flash.{OffChangesNothing, page_at}
+use Rattle.fl_flash.specs.Flash.{FlashState, OffChangesNothing, page_at}
 use Rattle.fl_table.proofs.PowerOff.{off-either}
+use Rattle.fl_var.specs.Memory as memory
 use Rattle.fl_var.specs.Memory.{oldest_in, waiting_in, BytesAhead, BytesPaged}
 use Rattle.fl_table.proofs.blobs.seal_rest.Goals as goal
 use Rattle.fl_ring.specs.Written.{Writes}
-use Rattle.fl_ring.proofs.Written.{writes-none}
+use Rattle.fl_ring.proofs.Written.{writes-none, writes-wider}
 use Rattle.fl_table.specs.Blobs.{MaySeal, rings_of}
 use Rattle.fl_var.specs.declared.var_data.VarData.{VarData}
 
@@ -34,7 +35,14 @@ returns-in-Some-clause-off g c =
 pub returns-in-Some-clause-writes : goal.returns-in-Some-clause-writes
 returns-in-Some-clause-writes g c =
     let is : c.args.blobs.now ≡ Some c.in-Some.var = c.in-Some.is in
-    subst (λ (o : Option VarData). Writes (MaySeal o) 0 (rings_of o) (g.F.Flash.state c.args.flash.now) (g.F.Flash.state c.seal_rest.new.flash)) (sym is) c.seal_rest.ensures.writes
+    subst (λ (o : Option VarData). Writes (MaySeal o) 0 (rings_of o) (g.F.Flash.state c.args.flash.now) (g.F.Flash.state c.seal_rest.new.flash)) (sym is) (by_bytes (waiting_in c.in-Some.var) refl)
+  where
+    by_bytes : (bytes : List ℕ) → waiting_in c.in-Some.var ≡ bytes → Writes (MaySeal (Some c.in-Some.var)) 0 1 (g.F.Flash.state c.args.flash.now) (g.F.Flash.state c.seal_rest.new.flash)
+    by_bytes [] none =
+        subst (λ (s : FlashState). Writes (MaySeal (Some c.in-Some.var)) 0 1 (g.F.Flash.state c.args.flash.now) s) (sym (c.seal_rest.ensures.quiet none).1) (writes-none (MaySeal (Some c.in-Some.var)) 1 (g.F.Flash.state c.args.flash.now))
+    by_bytes (x ∷ xs) some =
+        let waits : 1 ≤ length (waiting_in c.in-Some.var) = omega (arith, ap length some) in
+        writes-wider (memory.MaySeal c.in-Some.var) (MaySeal (Some c.in-Some.var)) 0 0 1 1 (g.F.Flash.state c.args.flash.now) (g.F.Flash.state c.seal_rest.new.flash) (λ page may. (waits, may)) (omega arith) (omega arith) c.seal_rest.ensures.writes
 
 pub returns-in-None-clause-writes : goal.returns-in-None-clause-writes
 returns-in-None-clause-writes g c = writes-none (MaySeal c.args.blobs.now) (rings_of c.args.blobs.now) (g.F.Flash.state c.args.flash.now)

@@ -417,17 +417,17 @@ pub returns-in_err-make_room-clause-writes : goal.returns-in_err-make_room-claus
 returns-in_err-make_room-clause-writes g c =
     let t = c.args.self.now in
     let bytes = option_map (λ (b : Bor (List ℕ)). b.now) c.args.blob in
-    room-writes t bytes (most_pages t.blobs bytes) (g.F.Flash.state c.args.flash.now) (g.F.Flash.state c.make_room.new.flash) c.in_err-make_room.ensures.writes
+    room-writes t bytes (most_pages t.blobs bytes) (g.F.Flash.state c.args.flash.now) (g.F.Flash.state c.make_room.new.flash) (λ room. (c.in_err-make_room.ensures.quiet room).2) c.in_err-make_room.ensures.writes
 
 pub returns-in_err-join-clause-writes : goal.returns-in_err-join-clause-writes
 returns-in_err-join-clause-writes g c =
     put-writes c.args.self.now c.make_room.new.self (option_map (λ (b : Bor (List ℕ)). b.now) c.args.blob) 0 (g.F.Flash.state c.args.flash.now) (g.F.Flash.state c.make_room.new.flash) (g.F.Flash.state c.join.new.flash)
-    c.in_ok-make_room.ensures.goes.tells c.in_ok-make_room.ensures.same.blobs c.in_ok-make_room.ensures.writes c.in_err-join.ensures.writes
+    c.in_ok-make_room.ensures.goes.tells c.in_ok-make_room.ensures.same.blobs (λ room. (c.in_ok-make_room.ensures.quiet room).2) c.in_ok-make_room.ensures.writes c.in_err-join.ensures.writes
 
 pub returns-clause-writes : goal.returns-clause-writes
 returns-clause-writes g c =
     put-writes c.args.self.now c.make_room.new.self (option_map (λ (b : Bor (List ℕ)). b.now) c.args.blob) 0 (g.F.Flash.state c.args.flash.now) (g.F.Flash.state c.make_room.new.flash) (g.F.Flash.state c.join.new.flash)
-    c.in_ok-make_room.ensures.goes.tells c.in_ok-make_room.ensures.same.blobs c.in_ok-make_room.ensures.writes c.in_ok-join.ensures.writes
+    c.in_ok-make_room.ensures.goes.tells c.in_ok-make_room.ensures.same.blobs (λ room. (c.in_ok-make_room.ensures.quiet room).2) c.in_ok-make_room.ensures.writes c.in_ok-join.ensures.writes
 
 pub returns-in-Some-clause-sealed : goal.returns-in-Some-clause-sealed
 returns-in-Some-clause-sealed g c = tt
@@ -441,4 +441,4 @@ returns-in_err-join-clause-sealed g c = no-success _ _ c.from_residual-in_err-jo
 pub returns-clause-sealed : goal.returns-clause-sealed
 returns-clause-sealed g c = λ full.
     page-made c.args.self.now c.make_room.new.self (option_map (λ (b : Bor (List ℕ)). b.now) c.args.blob) (g.F.Flash.state c.args.flash.now) (g.F.Flash.state c.make_room.new.flash) (g.F.Flash.state c.join.new.flash)
-    c.in_ok-make_room.ensures.goes.tells c.in_ok-make_room.ensures.same.blobs (c.in_ok-make_room.ensures.sealed full) c.in_ok-join.ensures.writes
+    c.in_ok-make_room.ensures.goes.tells c.in_ok-make_room.ensures.same.blobs full (c.in_ok-make_room.ensures.sealed full) c.in_ok-join.ensures.writes
