@@ -72,18 +72,19 @@ stopped-last asked [] i e = absurd (other e)
   where
     other : Nowhere ≡ Behind → ⊥
     other e = cc
-stopped-last asked (row ∷ rows) i e = by_left (is_left asked row) e
+stopped-last asked (row ∷ rows) i e = by_left (λ later. stopped-last asked rows (i + 1) later) (is_left asked row) e
   where
     other : Nowhere ≡ At i → ⊥
     other e = cc
 
-    by_last : (b : Bool) → Nowhere ≡ cond b Nowhere (first_left asked rows (i + 1)) → (b || has_last asked.top rows) ≡ true
-    by_last true e = refl
-    by_last false e = stopped-last asked rows (i + 1) e
+    by_last : (Nowhere ≡ first_left asked rows (i + 1) → has_last asked.top rows ≡ true) → (b : Bool) → Nowhere ≡ cond b Nowhere (first_left asked rows (i + 1)) → (b || has_last asked.top rows) ≡ true
+    by_last behind true e = refl
+    by_last behind false e = behind e
 
-    by_left : (b : Bool) → Nowhere ≡ cond b (At i) (cond (is_last asked.top row.key) Nowhere (first_left asked rows (i + 1))) → has_last asked.top (row ∷ rows) ≡ true
-    by_left true e = absurd (other e)
-    by_left false e = by_last (is_last asked.top row.key) e
+    by_left : (Nowhere ≡ first_left asked rows (i + 1) → has_last asked.top rows ≡ true) → (b : Bool) → Nowhere ≡ cond b (At i) (cond (is_last asked.top row.key) Nowhere (first_left asked rows (i + 1))) →
+        has_last asked.top (row ∷ rows) ≡ true
+    by_left behind true e = absurd (other e)
+    by_left behind false e = by_last behind (is_last asked.top row.key) e
 
 -- ---- pages
 

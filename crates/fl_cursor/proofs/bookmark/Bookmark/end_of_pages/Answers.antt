@@ -13,4 +13,4 @@ pub returns-in-Some-clause-exact : goal.returns-in-Some-clause-exact
 returns-in-Some-clause-exact g c = c.end_of_pages.ensures.exact ∙ ap (λ (top : Option ℕ). pages_end c.args.table.now top) (sym c.in-Some.is)
 
 pub returns-in-None-clause-exact : goal.returns-in-None-clause-exact
-returns-in-None-clause-exact g c = c.requires ∙ ap (λ (top : Option ℕ). pages_end c.args.table.now top) (sym c.in-None.is)
+returns-in-None-clause-exact g c = c.requires.next ∙ ap (λ (top : Option ℕ). pages_end c.args.table.now top) (sym c.in-None.is)
