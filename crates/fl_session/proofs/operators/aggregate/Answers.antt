@@ -10,9 +10,8 @@ use Rattle.fl_model.specs.Operators.{Group, aggregate}
 use Rattle.fl_model.specs.Query.{selected}
 use Rattle.fl_model.specs.Row.{Row, stored_row}
 use Rattle.fl_ops.specs.Columns.{records_of, record_of}
-use Rattle.fl_ops.specs.Groups.{groups_left}
+use Rattle.fl_ops.specs.Groups.{groups_left, input_of}
 use Rattle.fl_frame.specs.Contents.{contents_of}
-use Rattle.fl_table.specs.declared.table.Table.{Table}
 use Rattle.fl_session.specs.Lines.{Counted}
 use Rattle.fl_session.proofs.GroupLines.{grouped-records, groups-fewer}
 use Rattle.fl_cursor.specs.Sound.{IsSoundAhead, IsSoundOver}

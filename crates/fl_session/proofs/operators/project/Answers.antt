@@ -8,7 +8,7 @@ use Rattle.fl_model.specs.Operators.{project}
 use Rattle.fl_model.specs.Query.{selected}
 use Rattle.fl_model.specs.Row.{Row, stored_row}
 use Rattle.fl_ops.specs.Columns.{HasColumn, records_of}
-use Rattle.fl_ops.specs.Project.{columns_of}
+use Rattle.fl_ops.specs.Project.{columns_of, input_of}
 use Rattle.fl_frame.specs.Contents.{contents_of}
 use Rattle.fl_table.specs.Look.{layout_in}
 use Rattle.fl_table.specs.declared.table.Table.{Table}
