@@ -33,17 +33,11 @@ offered-next i rows t u after key values is h more =
 -- where no row is pending behind them, none of them joined, and the table stays
 pub none-joined : {KNOTS SLOTS : ℕ} (rows : List Row) (t after : Table KNOTS SLOTS) → AreOffered t rows after → pending_in after ≡ 0 → after ≡ t
 none-joined [] t after h none = h
-none-joined {KNOTS} {SLOTS} (row ∷ rows) t after h none = by-refusal (put_refusal t row.key row.values None) refl
+none-joined {KNOTS} {SLOTS} (row ∷ rows) t after h none = by-refusal (none-joined rows h.0 after h.1.1 none) (put_refusal t row.key row.values None) refl
   where
-    u : Table KNOTS SLOTS
-    u = h.0
-
-    rest : after ≡ u
-    rest = none-joined rows u after h.1.1 none
-
-    by-refusal : (o : Option PutRefusal) → put_refusal t row.key row.values None ≡ o → after ≡ t
-    by-refusal (Some refusal) is = rest ∙ h.1.0.refused refusal is
-    by-refusal None is = absurd (omega (arith, none, ap (λ (x : Table KNOTS SLOTS). pending_in x) rest, (h.1.0.joins is).pending))
+    by-refusal : after ≡ h.0 → (o : Option PutRefusal) → put_refusal t row.key row.values None ≡ o → after ≡ t
+    by-refusal rest (Some refusal) is = rest ∙ h.1.0.refused refusal is
+    by-refusal rest None is = absurd (omega (arith, none, ap (λ (x : Table KNOTS SLOTS). pending_in x) rest, (h.1.0.joins is).pending))
 
 -- .. and where nothing waited, nothing does once those that joined are sealed
 pub sealed-empty : {KNOTS SLOTS : ℕ} (t u after : Table KNOTS SLOTS) (f g : FlashState) → NothingWaits t → (pending_in u ≡ 0 → u ≡ t) → AreSealed u f after g → NothingWaits after
