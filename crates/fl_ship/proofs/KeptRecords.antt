@@ -33,7 +33,7 @@ keeps-front held front more left h = record {
 }
 
 -- .. of which a front is kept
-pub keeps-less : (held given left : List Record) (k : ℕ) → KeepsOf held given left → KeepsOf held given (take k left)
+keeps-less : (held given left : List Record) (k : ℕ) → KeepsOf held given left → KeepsOf held given (take k left)
 keeps-less held given left k h = by-order (cases_lt h.first (h.given_up + k))
   where
     all : List Record
@@ -78,7 +78,7 @@ drops-all plan (item ∷ items) t =
     drops-trans (records_in t ++ item ∷ items) (records_in (put_record plan item t) ++ items) (records_in (put_all plan items (put_record plan item t))) first (drops-all plan items (put_record plan item t))
 
 -- operations, however they end
-pub drops-performed : (plan : Plan) (rose : Bool) (operations : List (RingName × Kind)) (device : Device) (t : Table) (now : PartProgress Table) → TablePerforms plan rose operations device t now → Drops (records_in t) (records_in now.state)
+drops-performed : (plan : Plan) (rose : Bool) (operations : List (RingName × Kind)) (device : Device) (t : Table) (now : PartProgress Table) → TablePerforms plan rose operations device t now → Drops (records_in t) (records_in now.state)
 drops-performed plan rose operations device t now did =
     let g = performs-along Dropped (λ operation. operation.1) (effect_within plan) (λ operation u. u)
     (λ operation others s u d. drops-trans (records_in t) (records_in s) (records_in (effect_within plan operation s)) d (effect-drops plan operation.0 operation.1 s))
@@ -130,7 +130,7 @@ module _ (plan : Plan) (given : List Record) (table : Table) where
       (keeps-front (records_in table) (take n given) (drop n given) (records_in after) (drops-some n mid after h drops))
 
   -- .. and then there was one more, of which the put ended somehow
-  pub keeps-next : (n : ℕ) (item : Record) (mid : Table) → slice_get given n ≡ Some item → HasPut plan given n table mid → (rose : Bool) (device : Device) (now : PartProgress Table) → TablePuts plan rose item device mid now →
+  keeps-next : (n : ℕ) (item : Record) (mid : Table) → slice_get given n ≡ Some item → HasPut plan given n table mid → (rose : Bool) (device : Device) (now : PartProgress Table) → TablePuts plan rose item device mid now →
       KeepsOf (records_in table) given (records_in now.state)
   keeps-next n item mid here h rose device now did = by-put (drops-puts plan rose item device mid now did)
     where

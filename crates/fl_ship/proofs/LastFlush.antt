@@ -1,6 +1,5 @@
 -- The flush behind the rows of a ship.
-use Rattle.std.proofs.Common.{◌≡◌, ℕ, ◌+◌, Bool, true, false, IsTrue, Result, Ok, Err, List, [], ◌++◌, take, drop, refl, sym, ◌∙◌, ap, subst, append-nil, arith}
-use Rattle.std.proofs.lemmas.List.{drop-drop}
+use Rattle.std.proofs.Common.{◌≡◌, ℕ, Bool, true, false, IsTrue, Ok, Err, List, [], refl, sym, ◌∙◌, subst, append-nil}
 use Rattle.fl_store.proofs.Risen.{has_risen}
 use Rattle.fl_flash.specs.Flash.{FlashState, Goes}
 use Rattle.fl_flash.specs.declared.flash.FlashFault.TheVariants.{PowerLost, Media}
@@ -8,24 +7,26 @@ use Rattle.fl_store.specs.Works.{Works}
 use Rattle.fl_store.proofs.Failing.{seals-work}
 use Rattle.fl_store.proofs.Works.{works-broken, works-done, works-uncut}
 use Rattle.fl_model.specs.Record.{Record, Plan}
-use Rattle.fl_model.specs.Ship.{KeepsOf, records_in}
+use Rattle.fl_model.specs.ShipWork.{TableShips}
 use Rattle.fl_model.specs.Table as model
 use Rattle.fl_model.specs.Table.{flushed, lose, table_seals}
-use Rattle.fl_model.specs.Within.{seals_within}
-use Rattle.fl_model.specs.Work.{Device, PartProgress}
-use Rattle.fl_model.proofs.ShipWork.{seals-drop}
+use Rattle.fl_model.specs.Within.{effect_within, seals_within}
+use Rattle.fl_model.specs.Work.{Device, PartEnd, PartProgress}
+use Rattle.fl_model.proofs.Among.{seals-all_done}
+use Rattle.fl_model.proofs.Performs.{performs-whole}
+use Rattle.fl_rlc.specs.Logged.{Rests, Stands}
 use Rattle.fl_rlc.specs.Outcomes.{FlushEnds}
 use Rattle.fl_rlc.specs.declared.table.LoggedTable.{LoggedTable}
 use Rattle.fl_table.specs.Causes as table
-use Rattle.fl_table.specs.Outcomes.{BySeals}
+use Rattle.fl_table.specs.Outcomes.{BySeals, FaultEnds}
 use Rattle.fl_table.specs.declared.faults.FlushFault.{FlushFault}
 use Rattle.fl_table.specs.declared.faults.FlushFault.TheVariants as flush
 use Rattle.fl_store.proofs.TablesChanged.{off-rests}
-use Rattle.fl_ship.specs.Puts.{HasPut}
-use Rattle.fl_ship.specs.Rows.{goes_on, FlushCausedBy, FlushesCopy, FlushKeeps, RowsKeep, RowsPut, RowsShip, Runs}
+use Rattle.fl_ship.specs.Puts.{AreAccepted, HasPut}
+use Rattle.fl_ship.specs.Rows.{FlushCausedBy, FlushesCopy, PutsWork, RowsPut, RowsShip, RowsWork, ShipsWork, WorksOn}
 use Rattle.fl_ship.specs.declared.fault.ShipFault.{ShipFault}
 use Rattle.fl_ship.specs.declared.fault.ShipFault.TheVariants.{Read, Put, Flush}
-use Rattle.fl_ship.proofs.KeptRecords.{drops-performed, keeps-less, keeps-lost, keeps-some}
+use Rattle.fl_ship.proofs.RowsWork.{puts-accepted, ships-behind}
 
 never : IsTrue false → ⊥
 never e = cc
@@ -46,34 +47,36 @@ module _ (first : ℕ) (plan : Plan) (table : model.Table) (t v : LoggedTable 64
 
   -- ---- .. or one may be
 
-  none-put : HasPut plan [] 0 table table
-  none-put = record { few = omega arith; accepted = tt; after_is = refl }
+  module _ (rose : Bool) (device : Device) where
+    pub flush-works : FlushEnds first plan table rose device (Ok tt) v g h → WorksOn {X = Unit {0}} first plan (λ now. BySeals plan (table_seals plan table) table rose device now) v h (Ok tt)
+    flush-works ends = record {
+      now = ends.now;
+      did = ends.did;
+      ends = (ends.whole, ends.power);
+      counts = ends.counts;
+      rests = subst (λ (x : model.Table). Rests h first plan (lose x)) (sym (left-is ends)) (off-rests v h first plan (flushed plan table) true ends.stands);
+      stands = λ whole. subst (λ (x : model.Table). Stands v h first plan x) (sym (left-is ends)) ends.stands;
+    }
+      where
+        left-is : (ends : FlushEnds first plan table rose device (Ok tt) v g h) → ends.now.state ≡ flushed plan table
+        left-is ends =
+            (performs-whole (λ operation. operation.1) (effect_within plan) rose (seals_within plan (table_seals plan table) table) device table ends.now ends.did ends.whole).0 ∙ seals-all_done plan (table_seals plan table) table
 
-  pub flush-keeps : (runs : Runs t g first plan table) → FlushEnds first plan table (has_risen g h) runs.device (Ok tt) v g h → FlushKeeps first plan table v h (Ok tt)
-  flush-keeps runs ends = record {
-    after = flushed plan table;
-    keeps = keeps-some plan [] table 0 table (flushed plan table) none-put (seals-drop plan (table_seals plan table) table);
-    rests = off-rests v h first plan (flushed plan table) true ends.stands;
-    runs = record { stands = ends.stands; told = subst IsTrue (sym goes.tells) runs.told; power = ends.power; device = ends.now.device; counts = ends.counts };
-  }
-
-  pub flush-breaks : (runs : Runs t g first plan table) (fault : FlushFault) → FlushEnds first plan table (has_risen g h) runs.device (Err fault) v g h → FlushKeeps first plan table v h (Err (Flush fault))
-  flush-breaks runs (flush.Flash fault) ends = record {
-    after = ends.now.state;
-    keeps = keeps-some plan [] table 0 table ends.now.state none-put (drops-performed plan (has_risen g h) (seals_within plan (table_seals plan table) table) runs.device table ends.now ends.did);
-    rests = ends.rests;
-    runs = tt;
-  }
-  flush-breaks runs flush.Stopped ends = absurd ends
+    pub flush-breaks : (fault : FlushFault) → FlushEnds first plan table rose device (Err fault) v g h → WorksOn {X = Unit {0}} first plan (λ now. BySeals plan (table_seals plan table) table rose device now) v h (Err (Flush fault))
+    flush-breaks (flush.Flash fault) ends = record {
+      now = ends.now;
+      did = ends.did;
+      ends = ends.answer;
+      counts = ends.counts;
+      rests = ends.rests;
+      stands = λ whole. absurd (subst (λ (e : PartEnd model.Table). FaultEnds e fault h) whole ends.answer);
+    }
+    flush-breaks flush.Stopped ends = absurd ends
 
 -- why it fails
 pub flush-caused : (f g : FlashState) (fault : FlushFault) → (fault ≡ flush.Stopped → ⊥) → table.FlushCausedBy f fault g → FlushCausedBy f g (Flush fault)
 flush-caused f g (flush.Flash fault) running cause = (fault, refl, cause)
 flush-caused f g flush.Stopped running cause = absurd (running refl)
-
--- .. and then the table is stopped
-pub flush-stops : (f g : FlashState) (fault : ShipFault) → FlushCausedBy f g fault → IsTrue (goes_on (Err fault)) → ⊥
-flush-stops f g fault (failed, is, cause) goes = never (subst (λ (x : ShipFault). IsTrue (goes_on (Err x))) is goes)
 
 -- ---- behind rows
 
@@ -109,25 +112,37 @@ module _ (first : ℕ) (plan : Plan) (table : model.Table) (Told : Type 0) (want
 
   -- ---- whether a cut is armed or not
 
-  -- what is kept of what was kept
-  keeps-then : (held given mid left : List Record) → KeepsOf held given mid → KeepsOf mid [] left → KeepsOf held given left
-  keeps-then held given mid left a b =
-      let front = keeps-less held given mid b.first a in
-      record {
-        given_up = front.given_up + b.given_up;
-        first = front.first;
-        kept = b.kept ∙ (ap (λ (l : List Record). drop b.given_up (take b.first l)) (append-nil mid) ∙ (ap (drop b.given_up) front.kept ∙ drop-drop b.given_up front.given_up (take front.first (held ++ given))));
-      }
+  module _ (rose : Bool) (device : Device) where
+    pub work-unput : (fault : ShipFault) → RowsWork first plan Told wanted (PutsWork plan rose device table (Err fault)) t g (Err fault) → RowsWork first plan Told wanted (ShipsWork plan rose device table (Err fault)) t g (Err fault)
+    work-unput fault rows =
+        let w = rows.works in
+        record { given = rows.given; are = rows.are; works = record { now = w.now; did = w.did; ends = w.ends; counts = w.counts; rests = w.rests; stands = w.stands } }
 
-  pub keep-flushed : (n : ℕ) (result : Result (Unit {0}) ShipFault) (end : Result ℕ ShipFault) (rows : RowsKeep first plan table Told wanted t g (Ok n)) → FlushKeeps first plan rows.after v h result → (IsTrue (goes_on end) → (keep : FlushKeeps first plan rows.after v h result) → Runs v h first plan keep.after) →
-      RowsKeep first plan table Told wanted v h end
-  keep-flushed n result end rows keep runs =
-      let keeps = keeps-then (records_in table) rows.given (records_in rows.after) (records_in keep.after) rows.keeps.0 keep.keeps in
-      record {
+    module _ (n : ℕ) (rows : RowsWork first plan Told wanted (PutsWork plan rose device table (Ok n)) t g (Ok n)) where
+      abbrev mid : PartProgress model.Table
+      mid = rows.works.now
+
+      abbrev Flushes : PartProgress model.Table → Type 0
+      Flushes now = BySeals plan (table_seals plan mid.state) mid.state rose mid.device now
+
+      ships : (now : PartProgress model.Table) → Flushes now → TableShips plan rose rows.given device table now
+      ships now did = subst (λ (l : List Record). TableShips plan rose l device table now) (append-nil rows.given) (ships-behind plan rose rows.given [] device table mid now rows.works.did.1 did)
+
+      accepted : AreAccepted plan rows.given table
+      accepted = puts-accepted plan rose rows.given device table mid rows.works.did.1
+
+      pub work-done : WorksOn {X = Unit {0}} first plan Flushes v h (Ok tt) → RowsWork first plan Told wanted (ShipsWork plan rose device table (Ok n)) v h (Ok n)
+      work-done w = record {
         given = rows.given;
         are = rows.are;
-        after = keep.after;
-        keeps = (keeps, keeps-lost (records_in table) rows.given keep.after keeps);
-        rests = keep.rests;
-        runs = λ goes. runs goes keep;
+        works = record { now = w.now; did = (rows.works.did.0, accepted, ships w.now w.did); ends = w.ends; counts = w.counts; rests = w.rests; stands = w.stands };
       }
+
+      pub work-unflushed : (fault : ShipFault) → FlushCausedBy g h fault → WorksOn {X = Unit {0}} first plan Flushes v h (Err fault) → RowsWork first plan Told wanted (ShipsWork plan rose device table (Err fault)) v h (Err fault)
+      work-unflushed fault (failed, is, cause) w =
+          let x = subst (λ (e : ShipFault). WorksOn {X = Unit {0}} first plan Flushes v h (Err e)) is w in
+          subst (λ (e : ShipFault). RowsWork first plan Told wanted (ShipsWork plan rose device table (Err e)) v h (Err e)) (sym is) (record {
+            given = rows.given;
+            are = rows.are;
+            works = record { now = x.now; did = (accepted, ships x.now x.did); ends = x.ends; counts = x.counts; rests = x.rests; stands = x.stands };
+          })

@@ -1,4 +1,5 @@
 mod KeptRecords
+mod RowsWork
 mod RowsSoFar
 mod LastFlush
 mod ToShip

@@ -10,34 +10,35 @@ use Rattle.fl_flash.specs.Flash.{FlashState, Goes}
 use Rattle.fl_flash.specs.declared.flash.FlashFault.TheVariants.{PowerLost, Media}
 use Rattle.fl_store.specs.Works.{Works}
 use Rattle.fl_store.proofs.Failing.{put-work}
-use Rattle.fl_store.proofs.Works.{works-broken, works-uncut}
+use Rattle.fl_store.proofs.Works.{works-broken, works-uncut, works-watched}
 use Rattle.fl_model.specs.Puts.{TablePuts}
 use Rattle.fl_model.specs.Query.{is_above}
 use Rattle.fl_model.specs.Record.{Record, Plan}
 use Rattle.fl_model.specs.Row.{Row}
-use Rattle.fl_model.specs.Ship.{records_in}
 use Rattle.fl_model.specs.Table as model
 use Rattle.fl_model.specs.Table.{refusal_of, put_record, lose}
-use Rattle.fl_model.specs.Work.{Device, PartProgress}
-use Rattle.fl_model.proofs.ShipWork.{drops-none}
+use Rattle.fl_model.specs.Work.{Device, PartEnd, PartProgress, Whole}
+use Rattle.fl_model.proofs.PutAmongTables as model_puts
 use Rattle.fl_ops.specs.Columns.{record_of, records_of}
 use Rattle.fl_page.specs.Steps.{Steps}
 use Rattle.fl_page.specs.declared.fault.ReadFault.{ReadFault}
 use Rattle.fl_page.specs.declared.fault.ReadFault.TheVariants as read
 use Rattle.fl_frame.specs.Device.{SameDevice}
 use Rattle.fl_frame.specs.Watched.{IsWatched}
+use Rattle.fl_frame.proofs.WatchedInTurn.{watched-first, watched-then}
 use Rattle.fl_rlc.specs.Logged.{Rests, Stands}
 use Rattle.fl_rlc.specs.Outcomes.{PutEnds}
 use Rattle.fl_rlc.specs.Refusal.{RefusedSame}
 use Rattle.fl_rlc.specs.declared.table.LoggedTable.{LoggedTable}
+use Rattle.fl_table.specs.Outcomes.{FaultEnds}
 use Rattle.fl_table.specs.declared.faults.PutRefusal.{PutRefusal}
 use Rattle.fl_table.specs.declared.faults.PutRefusal.TheVariants as put
 use Rattle.fl_store.proofs.TablesChanged.{off-rests}
 use Rattle.fl_ship.specs.Puts.{AreAccepted, ComesTo, HasPut, put_all}
-use Rattle.fl_ship.specs.Rows.{PutCausedBy, RowsKeep, RowsPut, Runs}
+use Rattle.fl_ship.specs.Rows.{ArePut, PutCausedBy, PutsWork, RowsPut, RowsWork, WorkEnds, WorksOn}
 use Rattle.fl_ship.specs.declared.fault.ShipFault.{ShipFault}
 use Rattle.fl_ship.specs.declared.fault.ShipFault.TheVariants.{Read, Put}
-use Rattle.fl_ship.proofs.KeptRecords.{keeps-some, keeps-next, keeps-lost}
+use Rattle.fl_ship.proofs.RowsWork.{puts-push, ships-behind, ships-broken, ships-refused, so-far, so-far-is}
 
 never : IsTrue false → ⊥
 never e = cc
@@ -81,7 +82,7 @@ above-next last above key before other last_is above_is before_is more =
 
 -- ---- some rows were put, whether a cut is armed or not
 
-pub record SoFar (first : ℕ) (plan : Plan) (table : model.Table) (done : List Record) (start : Device) (t : LoggedTable 64 64) (g : FlashState) : Type 0 where
+pub record SoFar (first : ℕ) (plan : Plan) (table : model.Table) (rose : Bool) (start : Device) (done : List Record) (t : LoggedTable 64 64) (g : FlashState) : Type 0 where
   pub accepted : AreAccepted plan done table
   pub stands : Stands t g first plan (put_all plan done table)
   pub told : IsTrue g.media.tells
@@ -89,24 +90,22 @@ pub record SoFar (first : ℕ) (plan : Plan) (table : model.Table) (done : List 
   pub device : Device
   pub counts : SameDevice g device
   pub unarmed : start.armed ≡ None → device.armed ≡ None
+  pub did : ArePut plan rose done start table (so-far device (put_all plan done table))
 
 -- .. and those are left
 pub record Far (Told : Type 0) (all left : List Row) (n : ℕ) (t : LoggedTable 64 64) (g : FlashState) (u : LoggedTable 64 64) (h : FlashState) : Type 0 where
   pub done : List Row
   pub as_many : length done ≡ n
   pub split : Told → all ≡ done ++ left
-  pub puts : (first : ℕ) (plan : Plan) (table : model.Table) (runs : Runs t g first plan table) → SoFar first plan table (records_of done) runs.device u h
+  pub puts : (first : ℕ) (plan : Plan) (table : model.Table) (rose : Bool) (device : Device) → IsWatched g h rose device → Stands t g first plan table → SoFar first plan table rose device (records_of done) u h
 
 pub far-none : (Told : Type 0) (all : List Row) (t : LoggedTable 64 64) (g : FlashState) → Far Told all all 0 t g t g
 far-none Told all t g = record {
   done = [];
   as_many = refl;
   split = λ told. refl;
-  puts = λ first plan table runs. record { accepted = tt; stands = runs.stands; told = runs.told; power = runs.power; device = runs.device; counts = runs.counts; unarmed = λ none. none };
+  puts = λ first plan table rose device w stands. record { accepted = tt; stands = stands; told = w.told; power = w.on; device = device; counts = w.counts; unarmed = λ none. none; did = refl };
 }
-
-abbrev runs-of : (t : LoggedTable 64 64) (g : FlashState) (first : ℕ) (plan : Plan) (table : model.Table) → Works t g first plan table → Runs t g first plan table
-runs-of t g first plan table works = record { stands = works.stands; told = works.told; power = works.power; device = works.device; counts = works.counts }
 
 module _ (Told : Type 0) (all left : List Row) (n count : ℕ) (t : LoggedTable 64 64) (g : FlashState) (u : LoggedTable 64 64) (h : FlashState) (far : Far Told all left n t g u h) (few : n ≤ count) where
   many : length (records_of far.done) ≡ n
@@ -161,18 +160,21 @@ module _ (Told : Type 0) (all left : List Row) (n count : ℕ) (t : LoggedTable 
   -- ---- where no cut is armed
 
   module _ (first : ℕ) (plan : Plan) (table : model.Table) where
-    rests-so : {start : Device} → SoFar first plan table (records_of far.done) start u h → Rests h first plan (lose (put_all plan (records_of far.done) table))
+    rests-so : {rose : Bool} {start : Device} → SoFar first plan table rose start (records_of far.done) u h → Rests h first plan (lose (put_all plan (records_of far.done) table))
     rests-so so_far = off-rests u h first plan (put_all plan (records_of far.done) table) true so_far.stands
+
+    abbrev far-works : (works : Works t g first plan table) → SoFar first plan table (has_risen g h) works.device (records_of far.done) u h
+    far-works works = far.puts first plan table (has_risen g h) works.device (works-watched first plan table t u g h works) works.stands
 
     abbrev works-so : (works : Works t g first plan table) → Works u h first plan (put_all plan (records_of far.done) table)
     works-so works =
-        let so_far = far.puts first plan table (runs-of t g first plan table works) in
+        let so_far = far-works works in
         record { stands = so_far.stands; told = so_far.told; power = so_far.power; device = so_far.device; counts = so_far.counts; unarmed = so_far.unarmed works.unarmed }
 
     -- all are put
     pub put-all : Works t g first plan table → (Told → records_of far.done ≡ take count (records_of all)) → RowsPut first plan table Told (take count (records_of all)) u h (Ok n)
     put-all works are =
-        let so_far = far.puts first plan table (runs-of t g first plan table works) in
+        let so_far = far-works works in
         record {
           given = records_of far.done;
           are = are;
@@ -191,7 +193,7 @@ module _ (Told : Type 0) (all left : List Row) (n count : ℕ) (t : LoggedTable 
     -- .. or a read failed
     pub put-unread : Works t g first plan table → (fault : ReadFault) → RowsPut first plan table Told (take count (records_of all)) u h (Err (Read fault))
     put-unread works fault =
-        let so_far = far.puts first plan table (runs-of t g first plan table works) in
+        let so_far = far-works works in
         record {
           given = records_of far.done ++ drop n (take count (records_of all));
           are = wanted-then;
@@ -203,28 +205,48 @@ module _ (Told : Type 0) (all left : List Row) (n count : ℕ) (t : LoggedTable 
 
     -- ---- whether one is armed or not
 
-    runs-so : {start : Device} → SoFar first plan table (records_of far.done) start u h → Runs u h first plan (put_all plan (records_of far.done) table)
-    runs-so so_far = record { stands = so_far.stands; told = so_far.told; power = so_far.power; device = so_far.device; counts = so_far.counts }
+    module _ (rose : Bool) (device : Device) (w : IsWatched g h rose device) (stands : Stands t g first plan table) where
+      abbrev so_far : SoFar first plan table rose device (records_of far.done) u h
+      so_far = far.puts first plan table rose device w stands
 
-    pub keep-so : (result : Result ℕ ShipFault) → Runs t g first plan table → RowsKeep first plan table Told (take count (records_of all)) u h result
-    keep-so result runs =
-        let so_far = far.puts first plan table runs in
-        let given = records_of far.done ++ drop n (take count (records_of all)) in
-        let all_put = has-front plan (records_of far.done) (drop n (take count (records_of all))) n table many so_far.accepted in
-        let after = put_all plan (records_of far.done) table in
-        let keeps = keeps-some plan given table n after after all_put (drops-none (records_in after)) in
-        record {
-          given = records_of far.done ++ drop n (take count (records_of all));
-          are = wanted-then;
-          after = put_all plan (records_of far.done) table;
-          keeps = (keeps, keeps-lost (records_in table) given after keeps);
-          rests = rests-so so_far;
-          runs = λ goes. runs-so so_far;
-        }
+      pub works-so-far : {Did : PartProgress model.Table → Type 0} {result : Result ℕ ShipFault} → Did (so-far so_far.device (put_all plan (records_of far.done) table)) → WorkEnds result Whole h → WorksOn first plan Did u h result
+      works-so-far did ends = record {
+        now = so-far so_far.device (put_all plan (records_of far.done) table);
+        did = did;
+        ends = ends;
+        counts = so_far.counts;
+        rests = rests-so so_far;
+        stands = λ whole. so_far.stands;
+      }
+
+      -- all are put
+      work-all : (Told → records_of far.done ≡ take count (records_of all)) → RowsWork first plan Told (take count (records_of all)) (PutsWork plan rose device table (Ok n)) u h (Ok n)
+      work-all are = record { given = records_of far.done; are = are; works = works-so-far (sym many, so_far.did) (refl, so_far.power) }
+
+      pub work-end : (Told → left ≡ []) → RowsWork first plan Told (take count (records_of all)) (PutsWork plan rose device table (Ok n)) u h (Ok n)
+      work-end none = work-all (λ told. wanted-end (none told) told)
+
+      pub work-whole : n ≡ count → RowsWork first plan Told (take count (records_of all)) (PutsWork plan rose device table (Ok count)) u h (Ok count)
+      work-whole is = subst (λ (k : ℕ). RowsWork first plan Told (take count (records_of all)) (PutsWork plan rose device table (Ok k)) u h (Ok k)) is (work-all (wanted-whole is))
+
+      -- .. or a read failed
+      pub work-unread : (fault : ReadFault) → RowsWork first plan Told (take count (records_of all)) (PutsWork plan rose device table (Err (Read fault))) u h (Err (Read fault))
+      work-unread fault =
+          let behind = drop n (take count (records_of all)) in
+          record {
+            given = records_of far.done ++ behind;
+            are = wanted-then;
+            works = works-so-far (
+              n,
+              (has-front plan (records_of far.done) behind n table many so_far.accepted).few,
+              subst (λ (l : List Record). ArePut plan rose l device table (so-far so_far.device (put_all plan (records_of far.done) table))) (sym (take_at (records_of far.done) behind n many)) so_far.did,
+            )
+                (refl, so_far.power);
+          }
 
   -- ---- the next row
 
-  module _ (row : Row) (others : List Row) (v : LoggedTable 64 64) (k : FlashState) (goes : Goes h k) where
+  module _ (row : Row) (others : List Row) (v : LoggedTable 64 64) (k : FlashState) (before : Goes g h) (goes : Goes h k) where
     -- it is put
     pub far-more : (Told → left ≡ row ∷ others) →
         ((first : ℕ) (plan : Plan) (x : model.Table) (rose : Bool) (device : Device) → IsWatched h k rose device → Stands u h first plan x → PutEnds first plan (record_of row) x rose device (Ok tt) v h k) →
@@ -233,22 +255,29 @@ module _ (Told : Type 0) (all left : List Row) (n count : ℕ) (t : LoggedTable 
       done = far.done ++ row ∷ [];
       as_many = length_push far.done row ∙ ap (λ (m : ℕ). m + 1) far.as_many;
       split = λ told. far.split told ∙ (ap (λ (l : List Row). far.done ++ l) (gives told) ∙ sym (append_assoc far.done (row ∷ []) others));
-      puts = λ first plan table runs. subst (λ (l : List Record). SoFar first plan table l runs.device v k) (sym (map_push record_of far.done row)) (one-more first plan table runs);
+      puts = λ first plan table rose device w stands. subst (λ (l : List Record). SoFar first plan table rose device l v k) (sym (map_push record_of far.done row)) (one-more first plan table rose device w stands);
     }
       where
-        one-more : (first : ℕ) (plan : Plan) (table : model.Table) (runs : Runs t g first plan table) → SoFar first plan table (records_of far.done ++ record_of row ∷ []) runs.device v k
-        one-more first plan table runs =
-            let so_far = far.puts first plan table runs in
+        -- what a put that is done leaves
+        done-is : (plan : Plan) (x : model.Table) (rose : Bool) (device : Device) (now : PartProgress model.Table) → TablePuts plan rose (record_of row) device x now → now.end ≡ Whole → {y : model.Table} → put_record plan (record_of row) x ≡ y → now ≡ so-far now.device y
+        done-is plan x rose device now did whole is = so-far-is now whole (model_puts.put-whole plan rose (record_of row) device x now did whole ∙ is)
+
+        one-more : (first : ℕ) (plan : Plan) (table : model.Table) (rose : Bool) (device : Device) → IsWatched g k rose device → Stands t g first plan table → SoFar first plan table rose device (records_of far.done ++ record_of row ∷ []) v k
+        one-more first plan table rose device w stands =
+            let so_far = far.puts first plan table rose device (watched-first g h k rose device w goes) stands in
             let x = put_all plan (records_of far.done) table in
-            let did = ends first plan x (has_risen h k) so_far.device (watched h k so_far.device so_far.told so_far.power so_far.counts) so_far.stands in
+            let did = ends first plan x rose so_far.device (watched-then g h k rose device so_far.device w before so_far.power so_far.counts) so_far.stands in
+            let now_is = put_all-push plan (records_of far.done) (record_of row) table in
             record {
               accepted = accepted-push plan (records_of far.done) (record_of row) table so_far.accepted did.0;
-              stands = subst (λ (y : model.Table). Stands v k first plan y) (sym (put_all-push plan (records_of far.done) (record_of row) table)) did.1.stands;
+              stands = subst (λ (y : model.Table). Stands v k first plan y) (sym now_is) did.1.stands;
               told = subst IsTrue (sym goes.tells) so_far.told;
               power = did.1.power;
               device = did.1.now.device;
               counts = did.1.counts;
-              unarmed = λ none. (put-work plan (record_of row) x (has_risen h k) so_far.device did.1.now (so_far.unarmed none) did.1.did).unarmed did.1.whole;
+              unarmed = λ none. (put-work plan (record_of row) x rose so_far.device did.1.now (so_far.unarmed none) did.1.did).unarmed did.1.whole;
+              did = puts-push plan rose (records_of far.done) (record_of row) device table (so-far so_far.device x) (so-far did.1.now.device (put_all plan (records_of far.done ++ record_of row ∷ []) table)) so_far.did did.0
+                  (subst (λ (p : PartProgress model.Table). TablePuts plan rose (record_of row) so_far.device x p) (done-is plan x rose so_far.device did.1.now did.1.did did.1.whole (sym now_is)) did.1.did) refl;
             }
 
     -- .. or not
@@ -271,7 +300,7 @@ module _ (Told : Type 0) (all left : List Row) (n count : ℕ) (t : LoggedTable 
       abbrev x : model.Table
       x = put_all plan (records_of far.done) table
 
-      abbrev comes : {start : Device} → SoFar first plan table (records_of far.done) start u h → ComesTo plan (records_of far.done ++ behind) table (record_of row) x
+      abbrev comes : {rose : Bool} {start : Device} → SoFar first plan table rose start (records_of far.done) u h → ComesTo plan (records_of far.done ++ behind) table (record_of row) x
       comes so_far = record {
         n = n;
         next = next-at (records_of far.done) (drop (suc n) (take count (records_of all))) (record_of row) n many;
@@ -281,8 +310,8 @@ module _ (Told : Type 0) (all left : List Row) (n count : ℕ) (t : LoggedTable 
       pub put-refused : Works t g first plan table → RowsPut first plan table Told (take count (records_of all)) v k (Err (Put refusal))
       put-refused works = by-refusal refusal cause same (ends first plan x (has_risen h k) so_far.device (watched h k so_far.device so_far.told so_far.power so_far.counts) so_far.stands)
         where
-          so_far : SoFar first plan table (records_of far.done) works.device u h
-          so_far = far.puts first plan table (runs-of t g first plan table works)
+          so_far : SoFar first plan table (has_risen g h) works.device (records_of far.done) u h
+          so_far = far-works first plan table works
 
           mid : Works u h first plan x
           mid = works-so first plan table works
@@ -317,29 +346,44 @@ module _ (Told : Type 0) (all left : List Row) (n count : ℕ) (t : LoggedTable 
           by-refusal (put.Blob limit) cause same ends = absurd cause
           by-refusal put.Stopped cause same ends = absurd cause
 
-      pub keep-refused : Runs t g first plan table → RowsKeep first plan table Told (take count (records_of all)) v k (Err (Put refusal))
-      keep-refused runs = by-refusal refusal cause same (ends first plan x (has_risen h k) so_far.device (watched h k so_far.device so_far.told so_far.power so_far.counts) so_far.stands)
+      pub work-refused : (rose : Bool) (device : Device) → IsWatched g k rose device → Stands t g first plan table →
+          RowsWork first plan Told (take count (records_of all)) (PutsWork plan rose device table (Err (Put refusal))) v k (Err (Put refusal))
+      work-refused rose device w stands = by-refusal refusal cause same (ends first plan x rose so_far.device (watched-then g h k rose device so_far.device w before so_far.power so_far.counts) so_far.stands)
         where
-          so_far : SoFar first plan table (records_of far.done) runs.device u h
-          so_far = far.puts first plan table runs
+          w-first : IsWatched g h rose device
+          w-first = watched-first g h k rose device w goes
 
-          by-refusal : (refusal : PutRefusal) → PutCausedBy h k refusal → RefusedSame u h refusal v k → PutEnds first plan (record_of row) x (has_risen h k) so_far.device (Err refusal) v h k →
-              RowsKeep first plan table Told (take count (records_of all)) v k (Err (Put refusal))
+          so_far : SoFar first plan table rose device (records_of far.done) u h
+          so_far = far.puts first plan table rose device w-first stands
+
+          Refused : (refusal : PutRefusal) → LoggedTable 64 64 → FlashState → Type 0
+          Refused refusal v k = RowsWork first plan Told (take count (records_of all)) (PutsWork plan rose device table (Err (Put refusal))) v k (Err (Put refusal))
+
+          by-refusal : (refusal : PutRefusal) → PutCausedBy h k refusal → RefusedSame u h refusal v k → PutEnds first plan (record_of row) x rose so_far.device (Err refusal) v h k → Refused refusal v k
           by-refusal put.Spent cause same ends =
-              subst (λ (f : FlashState). RowsKeep first plan table Told (take count (records_of all)) v f (Err (Put put.Spent))) (sym same.1)
-              (subst (λ (w : LoggedTable 64 64). RowsKeep first plan table Told (take count (records_of all)) w h (Err (Put put.Spent))) (sym same.0) (keep-so first plan table (Err (Put put.Spent)) runs))
+              subst (λ (f : FlashState). Refused put.Spent v f) (sym same.1)
+              (subst (λ (l : LoggedTable 64 64). Refused put.Spent l h) (sym same.0) (record {
+                given = records_of far.done ++ behind;
+                are = wanted-next;
+                works = works-so-far first plan table rose device w-first stands (
+                  (record_of row, comes so_far, ends),
+                  ships-behind plan rose (records_of far.done) behind device table (so-far so_far.device x) (so-far so_far.device x) so_far.did (ships-refused plan rose (record_of row) _ model.Spent so_far.device x ends),
+                )
+                    (refl, so_far.power);
+              }))
           by-refusal (put.Flash fault) cause same ends =
-              let given = records_of far.done ++ behind in
               let b = ends.1 in
-              let c = comes so_far in
-              let keeps = keeps-next plan given table n (record_of row) x c.next c.has_put (has_risen h k) so_far.device b.now b.did in
               record {
                 given = records_of far.done ++ behind;
                 are = wanted-next;
-                after = b.now.state;
-                keeps = (keeps, keeps-lost (records_in table) given b.now.state keeps);
-                rests = b.rests;
-                runs = λ goes. absurd (never goes);
+                works = record {
+                  now = b.now;
+                  did = ships-behind plan rose (records_of far.done) behind device table (so-far so_far.device x) b.now so_far.did (ships-broken plan rose (record_of row) _ so_far.device x b.now fault k ends.0 b.did b.answer);
+                  ends = b.answer;
+                  counts = b.counts;
+                  rests = b.rests;
+                  stands = λ whole. absurd (subst (λ (e : PartEnd model.Table). FaultEnds e fault k) whole b.answer);
+                };
               }
           by-refusal (put.Key last) cause same ends = absurd cause
           by-refusal (put.Columns wanted) cause same ends = absurd cause

@@ -1,24 +1,27 @@
 -- How a ship of rows ends, over the flash of the copy.
-use Rattle.std.specs.Prelude.{◌≡◌, ℕ, Bool, true, false, IsTrue, OnOk, Result, Ok, Err, List, [], length}
+use Rattle.std.specs.Prelude.{◌≡◌, ℕ, ◌≤◌, Bool, true, false, IsTrue, Some, None, Result, Ok, Err, List, [], ◌∷◌, length, take}
 use Rattle.fl_flash.specs.Flash.{FlashState}
 use Rattle.fl_flash.specs.declared.flash.FlashFault.{FlashFault}
 use Rattle.fl_flash.specs.declared.flash.FlashFault.TheVariants as flash
 use Rattle.fl_store.specs.Works.{FailsInFlush}
 use Rattle.fl_store.specs.Works.{Works}
 use Rattle.fl_model.specs.Record.{Record, Plan}
+use Rattle.fl_model.specs.Puts.{TablePuts}
 use Rattle.fl_model.specs.Ship.{KeepsOf, records_in}
+use Rattle.fl_model.specs.ShipWork.{TableShips}
 use Rattle.fl_model.specs.Table as model
-use Rattle.fl_model.specs.Table.{flushed, lose}
-use Rattle.fl_model.specs.Work.{Device}
+use Rattle.fl_model.specs.Table.{flushed, lose, refusal_of}
+use Rattle.fl_model.specs.Work.{Device, PartEnd, PartProgress, Whole}
 use Rattle.fl_page.specs.Causes.{IsCaused}
 use Rattle.fl_frame.specs.Causes.{CausedBy}
 use Rattle.fl_frame.specs.Device.{SameDevice}
 use Rattle.fl_rlc.specs.Logged.{Rests, Stands}
 use Rattle.fl_rlc.specs.declared.table.LoggedTable.{LoggedTable}
+use Rattle.fl_table.specs.Outcomes.{FaultEnds}
 use Rattle.fl_table.specs.declared.faults.FlushFault.TheVariants as flush
 use Rattle.fl_table.specs.declared.faults.PutRefusal.{PutRefusal}
 use Rattle.fl_table.specs.declared.faults.PutRefusal.TheVariants as put
-use Rattle.fl_ship.specs.Puts.{HasPut, ShipsGiven}
+use Rattle.fl_ship.specs.Puts.{AreAccepted, ComesTo, HasPut, ShipsGiven}
 use Rattle.fl_ship.specs.declared.fault.ShipFault.{ShipFault}
 use Rattle.fl_ship.specs.declared.fault.ShipFault.TheVariants.{Read, Put, Flush}
 
@@ -89,27 +92,52 @@ FlushesCopy first plan table t g (Err (Flush flush.Stopped)) = ⊥
 
 -- ---- a cut may be armed
 
--- a table that is mounted over a flash that tells its bytes, with the power on
-pub record Runs (t : LoggedTable 64 64) (g : FlashState) (first : ℕ) (plan : Plan) (table : model.Table) : Type 0 where
-  pub stands : Stands t g first plan table
-  pub told : IsTrue g.media.tells
-  pub power : g.is_on ≡ true
-  pub device : Device
-  pub counts : SameDevice g device
+-- These records are put one after another, and each put is done.
+abbrev pub ArePut : Plan → Bool → List Record → Device → model.Table → PartProgress model.Table → Type 0
+ArePut plan rose [] device table now = now ≡ record { end = Whole; device = device; state = table }
+ArePut plan rose (item ∷ items) device table now =
+    (refusal_of plan table item ≡ None)
+    × ((mid : PartProgress model.Table) × TablePuts plan rose item device table mid × (mid.end ≡ Whole) × ArePut plan rose items mid.device mid.state now)
 
--- The flash stands for a table that keeps a front of what it had and was given, without its oldest records. It was given those that
--- were wanted, where they are told. Where no operation failed, the table goes on.
-pub record RowsKeep (first : ℕ) (plan : Plan) (table : model.Table) (Told : Type 0) (wanted : List Record) (t : LoggedTable 64 64) (g : FlashState) (result : Result ℕ ShipFault) : Type 0 where
+-- The work on the copy of a ship of these records, by its answer. Where a read of the source failed, those before it were put, and
+-- nothing was flushed.
+abbrev pub ShipsWork : Plan → Bool → Device → model.Table → Result ℕ ShipFault → List Record → PartProgress model.Table → Type 0
+ShipsWork plan rose device table (Ok n) given now = (n ≡ length given) × AreAccepted plan given table × TableShips plan rose given device table now
+ShipsWork plan rose device table (Err (Read fault)) given now = (n : ℕ) × (n ≤ length given) × ArePut plan rose (take n given) device table now
+ShipsWork plan rose device table (Err (Put put.Spent)) given now =
+    ((item : Record) × ComesTo plan given table item now.state × (refusal_of plan now.state item ≡ Some model.Spent)) × TableShips plan rose given device table now
+ShipsWork plan rose device table (Err (Put refusal)) given now = TableShips plan rose given device table now
+ShipsWork plan rose device table (Err (Flush fault)) given now = AreAccepted plan given table × TableShips plan rose given device table now
+
+-- .. and the same before its flush
+abbrev pub PutsWork : Plan → Bool → Device → model.Table → Result ℕ ShipFault → List Record → PartProgress model.Table → Type 0
+PutsWork plan rose device table (Ok n) given now = (n ≡ length given) × ArePut plan rose given device table now
+PutsWork plan rose device table (Err fault) given now = ShipsWork plan rose device table (Err fault) given now
+
+-- an operation of the copy failed, as is answered; or none did
+abbrev pub WorkEnds : {X : Type 0} → Result X ShipFault → PartEnd model.Table → FlashState → Type 0
+WorkEnds (Err (Put (put.Flash fault))) end g = FaultEnds end fault g
+WorkEnds (Err (Flush (flush.Flash fault))) end g = FaultEnds end fault g
+WorkEnds result end g = (end ≡ Whole) × (g.is_on ≡ true)
+
+-- The flash stands for what the work left of the table, without what was in memory. Where no operation failed, the table goes on.
+pub record WorksOn {X : Type 0} (first : ℕ) (plan : Plan) (Did : PartProgress model.Table → Type 0) (t : LoggedTable 64 64) (g : FlashState) (result : Result X ShipFault) : Type 0 where
+  pub now : PartProgress model.Table
+  pub did : Did now
+  pub ends : WorkEnds result now.end g
+  pub counts : SameDevice g now.device
+  pub rests : Rests g first plan (lose now.state)
+  pub stands : now.end ≡ Whole → Stands t g first plan now.state
+
+-- .. over the records that came: those that were wanted, where they are told
+pub record RowsWork (first : ℕ) (plan : Plan) (Told : Type 0) (wanted : List Record) (Did : List Record → PartProgress model.Table → Type 0) (t : LoggedTable 64 64) (g : FlashState) (result : Result ℕ ShipFault) : Type 0 where
   pub given : List Record
   pub are : Told → given ≡ wanted
-  pub after : model.Table
-  pub keeps : KeepsOf (records_in table) given (records_in after) × KeepsOf (records_in table) given (records_in (lose after))
-  pub rests : Rests g first plan (lose after)
-  pub runs : IsTrue (goes_on result) → Runs t g first plan after
+  pub works : WorksOn first plan (Did given) t g result
 
--- .. of what it had, after a flush
-pub record FlushKeeps (first : ℕ) (plan : Plan) (table : model.Table) (t : LoggedTable 64 64) (g : FlashState) (result : Result (Unit {0}) ShipFault) : Type 0 where
-  pub after : model.Table
-  pub keeps : KeepsOf (records_in table) [] (records_in after)
-  pub rests : Rests g first plan (lose after)
-  pub runs : OnOk result (Runs t g first plan after)
+-- However that work ends, also by a cut, the table keeps a front of what it had and was given, without its oldest records, once
+-- nothing is in memory.
+abbrev pub WorkKeeps : Type 0
+WorkKeeps =
+    (plan : Plan) (rose : Bool) (device : Device) (table : model.Table) (result : Result ℕ ShipFault) (given : List Record) (now : PartProgress model.Table) →
+    ShipsWork plan rose device table result given now → KeepsOf (records_in table) given (records_in (lose now.state))

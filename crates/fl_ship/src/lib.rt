@@ -16,7 +16,7 @@ mod stop;
 mod tables;
 
 pub use fault::ShipFault;
-pub use laws::{ships_are_steps, ships_keep, ships_leave_parts, ships_reach_the_end};
+pub use laws::{ships_are_steps, ships_keep, ships_leave_parts, ships_reach_the_end, work_keeps};
 pub use rows::ship_rows;
 pub use ship::ship_image;
 pub use side::Side;

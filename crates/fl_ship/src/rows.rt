@@ -5,6 +5,7 @@ ghost use Rattle.fl_store.specs.Works.{Works};
 ghost use Rattle.fl_model.specs.Query.{is_above};
 ghost use Rattle.fl_model.specs.Record.{Plan};
 ghost use Rattle.fl_model.specs.Table as model;
+ghost use Rattle.fl_model.specs.Table.{table_seals};
 ghost use Rattle.fl_model.specs.Work.{Device};
 ghost use Rattle.fl_ops.specs.Columns.{record_of, records_of};
 ghost use Rattle.fl_ops.specs.Inputs.{Continues};
@@ -19,8 +20,9 @@ ghost use Rattle.fl_rlc.specs.Table.{is_running, table_in, IsSamePlan, LiesOn, O
 ghost use Rattle.fl_schema.specs.Schema.{layout_of_row, row_of};
 ghost use Rattle.fl_table.specs.Causes.{put_breaks};
 ghost use Rattle.fl_table.specs.Look.{last_key_in, layout_in};
+ghost use Rattle.fl_table.specs.Outcomes.{BySeals};
 ghost use Rattle.fl_table.specs.declared.faults.PutRefusal.{PutRefusal};
-ghost use Rattle.fl_ship.specs.Rows.{goes_on, FlushCausedBy, FlushesCopy, FlushKeeps, PutCausedBy, RowsKeep, RowsPut, RowsShip, Runs, ShipCausedBy};
+ghost use Rattle.fl_ship.specs.Rows.{goes_on, FlushCausedBy, FlushesCopy, PutCausedBy, PutsWork, RowsPut, RowsShip, RowsWork, ShipCausedBy, ShipsWork, WorksOn};
 ghost use Rattle.fl_ship.specs.declared.fault.ShipFault.{ShipFault};
 
 use crate::ShipFault;
@@ -78,8 +80,8 @@ fn put_rows<A: Flash, B: Flash, R: Rows<A>>(
     requires above { (last key : ℕ) → last_key_in (table_in to.old) ≡ Some last → is_above (R.above rows.old) key ≡ true → last < key }
     ensures puts { (first : ℕ) (plan : Plan) (t : model.Table) → Works to.old (B.state onto.old) first plan t
         → RowsPut first plan t (R.told rows.old (contents_of (A.state from.old))) (take count (records_of (R.left rows.old (contents_of (A.state from.old))))) to.new (B.state onto.new) result }
-    ensures cut { (first : ℕ) (plan : Plan) (t : model.Table) → Runs to.old (B.state onto.old) first plan t
-        → RowsKeep first plan t (R.told rows.old (contents_of (A.state from.old))) (take count (records_of (R.left rows.old (contents_of (A.state from.old))))) to.new (B.state onto.new) result }
+    ensures cut { (first : ℕ) (plan : Plan) (t : model.Table) (rose : Bool) (device : Device) → IsWatched (B.state onto.old) (B.state onto.new) rose device → Stands to.old (B.state onto.old) first plan t
+        → RowsWork first plan (R.told rows.old (contents_of (A.state from.old))) (take count (records_of (R.left rows.old (contents_of (A.state from.old))))) (PutsWork plan rose device t result) to.new (B.state onto.new) result }
     ensures none_bad { R.told rows.old (contents_of (A.state from.old)) → (bad : BadPage) → result ≡ Err (ShipFault.Read (ReadFault.BadPage bad)) → ⊥ }
     ensures number { R.told rows.old (contents_of (A.state from.old)) → IfOk result (λ shipped. shipped ≡ length (take count (R.left rows.old (contents_of (A.state from.old))))) }
     ensures cause { IfErr result (ShipCausedBy (A.state from.old) (A.state from.new) (B.state onto.old) (B.state onto.new)) }
@@ -114,7 +116,8 @@ pub(crate) fn flush_copy<B: Flash>(to: &mut LoggedTable, onto: &mut B) -> Result
     requires running { is_running to.old ≡ true }
     requires lies { LiesOn to.old (B.state onto.old) }
     ensures flushes { (first : ℕ) (plan : Plan) (t : model.Table) → Works to.old (B.state onto.old) first plan t → FlushesCopy first plan t to.new (B.state onto.new) result }
-    ensures cut { (first : ℕ) (plan : Plan) (t : model.Table) → Runs to.old (B.state onto.old) first plan t → FlushKeeps first plan t to.new (B.state onto.new) result }
+    ensures cut { (first : ℕ) (plan : Plan) (t : model.Table) (rose : Bool) (device : Device) → IsWatched (B.state onto.old) (B.state onto.new) rose device → Stands to.old (B.state onto.old) first plan t
+        → WorksOn first plan (λ now. BySeals plan (table_seals plan t) t rose device now) to.new (B.state onto.new) result }
     ensures cause { IfErr result (FlushCausedBy (B.state onto.old) (B.state onto.new)) }
     ensures last { last_key_in (table_in to.new) ≡ last_key_in (table_in to.old) }
     ensures running { is_running to.new ≡ is_ok result }
@@ -145,9 +148,10 @@ pub fn ship_rows<A: Flash, B: Flash, R: Rows<A>>(
     // Over a flash that stands for the copy the rows that come are put, and then it is flushed; where they are told, these come.
     ensures ships { (first : ℕ) (plan : Plan) (t : model.Table) → Works to.old (B.state onto.old) first plan t
         → RowsShip first plan t (R.told rows.old (contents_of (A.state from.old))) (take count (records_of (R.left rows.old (contents_of (A.state from.old))))) to.new (B.state onto.new) result }
-    // Also where a cut is armed, the copy keeps a front of what it had and was given, without its oldest records.
-    ensures cut { (first : ℕ) (plan : Plan) (t : model.Table) → Runs to.old (B.state onto.old) first plan t
-        → RowsKeep first plan t (R.told rows.old (contents_of (A.state from.old))) (take count (records_of (R.left rows.old (contents_of (A.state from.old))))) to.new (B.state onto.new) result }
+    // Also where a cut is armed, just the work of this ship is done, as far as is answered; where a read of the source fails, the rows
+    // before it are put, and nothing is flushed. So the copy keeps a front of what it had and was given, without its oldest records.
+    ensures cut { (first : ℕ) (plan : Plan) (t : model.Table) (rose : Bool) (device : Device) → IsWatched (B.state onto.old) (B.state onto.new) rose device → Stands to.old (B.state onto.old) first plan t
+        → RowsWork first plan (R.told rows.old (contents_of (A.state from.old))) (take count (records_of (R.left rows.old (contents_of (A.state from.old))))) (ShipsWork plan rose device t result) to.new (B.state onto.new) result }
     // Rows that are told have no bad page, and are as many as they are.
     ensures none_bad { R.told rows.old (contents_of (A.state from.old)) → (bad : BadPage) → result ≡ Err (ShipFault.Read (ReadFault.BadPage bad)) → ⊥ }
     ensures number { R.told rows.old (contents_of (A.state from.old)) → IfOk result (λ shipped. shipped ≡ length (take count (R.left rows.old (contents_of (A.state from.old))))) }

@@ -13,7 +13,7 @@ use Rattle.fl_schema.specs.Schema.{row_of}
 use Rattle.fl_table.specs.Look.{last_key_in}
 use Rattle.fl_store.proofs.CallsInTurn.{same-plan, same-on}
 use Rattle.fl_store.proofs.Outsides.{outside-then}
-use Rattle.fl_ship.proofs.RowsSoFar.{above-next, far-none, far-more, keep-refused, keep-so, put-end, put-refused, put-unread, put-whole, unread-behind}
+use Rattle.fl_ship.proofs.RowsSoFar.{above-next, far-none, far-more, put-end, put-refused, put-unread, put-whole, unread-behind, work-end, work-refused, work-unread, work-whole}
 use Rattle.fl_ship.proofs.rows.put_rows.Goals as goal
 
 pub puts-init : goal.puts-init
@@ -44,7 +44,9 @@ returns-in_err-step-clause-puts g c = λ first plan t works.
     rw (p.1, p.2) (put-unread _ _ _ _ c.args.count _ _ _ _ c.puts.invariant.far (omega (arith, c.puts-test.true)) first plan t works c.in_err-step.field-0.0)
 
 pub returns-in_err-step-clause-cut : goal.returns-in_err-step-clause-cut
-returns-in_err-step-clause-cut g c = λ first plan t runs. keep-so _ _ _ _ c.args.count _ _ _ _ c.puts.invariant.far (omega (arith, c.puts-test.true)) first plan t c.from_residual.result runs
+returns-in_err-step-clause-cut g c = λ first plan t rose device w stands.
+    let p = err_from_is_err_and c.from_residual.result c.from_residual.ensures.1 in
+    rw (p.1, p.2) (work-unread _ _ _ _ c.args.count _ _ _ _ c.puts.invariant.far (omega (arith, c.puts-test.true)) first plan t rose device w stands c.in_err-step.field-0.0)
 
 pub returns-in_err-step-clause-cause : goal.returns-in_err-step-clause-cause
 returns-in_err-step-clause-cause g c =
@@ -71,7 +73,13 @@ returns-then-not-branch-clause-puts g c = λ first plan t works.
     (steps (inv.input.stays_told told)).0)
 
 pub returns-then-not-branch-clause-cut : goal.returns-then-not-branch-clause-cut
-returns-then-not-branch-clause-cut g c = λ first plan t runs. keep-so _ _ _ _ c.args.count _ _ _ _ c.puts.invariant.far (omega (arith, c.puts-test.true)) first plan t (Ok c.puts.shipped) runs
+returns-then-not-branch-clause-cut g c = λ first plan t rose device w stands.
+    let inv = c.puts.invariant in
+    work-end _ _ _ _ c.args.count _ _ _ _ inv.far (omega (arith, c.puts-test.true)) first plan t rose device w stands
+    (λ told.
+    let steps = subst (λ (k : Contents). g.R.Rows.told c.puts.rows k → Steps (Ok false) (g.R.Rows.left c.puts.rows k) (g.R.RowHere.present c.step.new.self) (g.R.Rows.left c.step.new.self k)) inv.counts.contents
+    (rw c.if-not-branch.true at c.in_ok-step.ensures.steps) in
+    (steps (inv.input.stays_told told)).0)
 
 pub returns-then-not-branch-clause-above : goal.returns-then-not-branch-clause-above
 returns-then-not-branch-clause-above g c = λ last key is above. c.puts.invariant.above last key is (c.step.ensures.never_falls key above)
@@ -90,7 +98,7 @@ returns-in_err-put_row-clause-puts g c = λ first plan t works.
     let p = err_from_is_err_and c.from_residual-in_err-put_row.result c.from_residual-in_err-put_row.ensures.1 in
     let e = c.in_err-put_row.ensures in
     rw (p.1, p.2) (put-refused _ _ _ _ c.args.count _ _ _ _ inv.far (omega (arith, c.puts-test.true)) (row_of c.row.result) (g.R.Rows.left c.step.new.self (contents_of (g.A.Flash.state c.args.from.now)))
-    c.put_row.new.to (g.B.Flash.state c.put_row.new.onto) c.put_row.ensures.goes
+    c.put_row.new.to (g.B.Flash.state c.put_row.new.onto) inv.goes c.put_row.ensures.goes
     (λ told.
     let steps = subst (λ (k : Contents). g.R.Rows.told c.puts.rows k → Steps (Ok true) (g.R.Rows.left c.puts.rows k) (g.R.RowHere.present c.step.new.self) (g.R.Rows.left c.step.new.self k)) inv.counts.contents
     (rw c.if-not-branch.false at c.in_ok-step.ensures.steps) in
@@ -98,17 +106,17 @@ returns-in_err-put_row-clause-puts g c = λ first plan t works.
     c.puts-test.true c.in_err-put_row.field-0.0 e.cause e.refused e.ends first plan t works)
 
 pub returns-in_err-put_row-clause-cut : goal.returns-in_err-put_row-clause-cut
-returns-in_err-put_row-clause-cut g c = λ first plan t runs.
+returns-in_err-put_row-clause-cut g c = λ first plan t rose device w stands.
     let inv = c.puts.invariant in
     let e = c.in_err-put_row.ensures in
     let p = err_from_is_err_and c.from_residual-in_err-put_row.result c.from_residual-in_err-put_row.ensures.1 in
-    rw (p.1, p.2) (keep-refused _ _ _ _ c.args.count _ _ _ _ inv.far (omega (arith, c.puts-test.true)) (row_of c.row.result) (g.R.Rows.left c.step.new.self (contents_of (g.A.Flash.state c.args.from.now)))
-    c.put_row.new.to (g.B.Flash.state c.put_row.new.onto) c.put_row.ensures.goes
+    rw (p.1, p.2) (work-refused _ _ _ _ c.args.count _ _ _ _ inv.far (omega (arith, c.puts-test.true)) (row_of c.row.result) (g.R.Rows.left c.step.new.self (contents_of (g.A.Flash.state c.args.from.now)))
+    c.put_row.new.to (g.B.Flash.state c.put_row.new.onto) inv.goes c.put_row.ensures.goes
     (λ told.
     let steps = subst (λ (k : Contents). g.R.Rows.told c.puts.rows k → Steps (Ok true) (g.R.Rows.left c.puts.rows k) (g.R.RowHere.present c.step.new.self) (g.R.Rows.left c.step.new.self k)) inv.counts.contents
     (rw c.if-not-branch.false at c.in_ok-step.ensures.steps) in
     steps (inv.input.stays_told told) ∙ ap (λ (r : Row). r ∷ g.R.Rows.left c.step.new.self (contents_of (g.A.Flash.state c.args.from.now))) (sym c.row.ensures.row))
-    c.puts-test.true c.in_err-put_row.field-0.0 e.cause e.refused e.ends first plan t runs)
+    c.puts-test.true c.in_err-put_row.field-0.0 e.cause e.refused e.ends first plan t rose device w stands)
 
 pub returns-in_err-put_row-clause-rows : goal.returns-in_err-put_row-clause-rows
 returns-in_err-put_row-clause-rows g c =
@@ -166,7 +174,7 @@ puts-preserved g c =
           c.in_ok-step.ensures.most (inv.input.stays_told told) in
           omega (arith, before, more);
       far = far-more _ _ _ _ c.args.count _ _ _ _ inv.far (omega (arith, c.puts-test.true)) (row_of c.row.result) (g.R.Rows.left c.step.new.self (contents_of (g.A.Flash.state c.args.from.now)))
-          c.put_row.new.to (g.B.Flash.state c.put_row.new.onto) p.goes
+          c.put_row.new.to (g.B.Flash.state c.put_row.new.onto) inv.goes p.goes
           (λ told.
           let steps = subst (λ (k : Contents). g.R.Rows.told c.puts.rows k → Steps (Ok true) (g.R.Rows.left c.puts.rows k) (g.R.RowHere.present c.step.new.self) (g.R.Rows.left c.step.new.self k)) inv.counts.contents
           (rw c.if-not-branch.false at c.in_ok-step.ensures.steps) in
@@ -177,7 +185,7 @@ pub returns-clause-puts : goal.returns-clause-puts
 returns-clause-puts g c = λ first plan t works. put-whole _ _ _ _ c.args.count _ _ _ _ c.puts.invariant.far (omega arith) first plan t works (omega arith)
 
 pub returns-clause-cut : goal.returns-clause-cut
-returns-clause-cut g c = λ first plan t runs. keep-so _ _ _ _ c.args.count _ _ _ _ c.puts.invariant.far (omega arith) first plan t (Ok c.args.count) runs
+returns-clause-cut g c = λ first plan t rose device w stands. work-whole _ _ _ _ c.args.count _ _ _ _ c.puts.invariant.far (omega arith) first plan t rose device w stands (omega arith)
 
 pub returns-in_err-put_row-clause-goes : goal.returns-in_err-put_row-clause-goes
 returns-in_err-put_row-clause-goes g c = goes-then _ _ _ c.puts.invariant.goes c.put_row.ensures.goes

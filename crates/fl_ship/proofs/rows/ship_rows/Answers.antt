@@ -2,9 +2,10 @@ use Rattle.std.proofs.Common.{IsTrue, Ok, Err, refl, sym, ◌∙◌, subst}
 use Rattle.std.proofs.lemmas.Result.{err_from_is_err_and}
 use Rattle.fl_flash.specs.Flash.{page_at}
 use Rattle.fl_frame.proofs.CallsInTurn.{goes-then}
+use Rattle.fl_frame.proofs.WatchedInTurn.{watched-first, watched-then}
 use Rattle.fl_store.proofs.CallsInTurn.{same-on}
 use Rattle.fl_store.proofs.Outsides.{outside-then}
-use Rattle.fl_ship.proofs.LastFlush.{flush-stops, ship-done, ship-unput, ship-unflushed, keep-flushed}
+use Rattle.fl_ship.proofs.LastFlush.{ship-done, ship-unput, ship-unflushed, work-done, work-unput, work-unflushed}
 use Rattle.fl_ship.proofs.rows.ship_rows.Goals as goal
 
 pub returns-in_err-shipped-clause-ships : goal.returns-in_err-shipped-clause-ships
@@ -13,9 +14,10 @@ returns-in_err-shipped-clause-ships g c = λ first plan t works.
     rw (p.1, p.2) (ship-unput first plan t _ _ c.put_rows.new.to c.put_rows.new.to (g.B.Flash.state c.put_rows.new.onto) (g.B.Flash.state c.put_rows.new.onto) c.in_err-shipped.field-0.0 (c.in_err-shipped.ensures.puts first plan t works))
 
 pub returns-in_err-shipped-clause-cut : goal.returns-in_err-shipped-clause-cut
-returns-in_err-shipped-clause-cut g c = λ first plan t runs.
+returns-in_err-shipped-clause-cut g c = λ first plan t rose device w stands.
     let p = err_from_is_err_and c.from_residual.result c.from_residual.ensures.1 in
-    rw (p.1, p.2) (c.in_err-shipped.ensures.cut first plan t runs)
+    rw (p.1, p.2) (work-unput first plan t _ _ c.put_rows.new.to c.put_rows.new.to (g.B.Flash.state c.put_rows.new.onto) (g.B.Flash.state c.put_rows.new.onto) rose device c.in_err-shipped.field-0.0
+    (c.in_err-shipped.ensures.cut first plan t rose device w stands))
 
 pub returns-in_err-shipped-clause-unread : goal.returns-in_err-shipped-clause-unread
 returns-in_err-shipped-clause-unread g c =
@@ -30,12 +32,15 @@ returns-in_err-flush_copy-clause-ships g c = λ first plan t works.
     (c.in_err-flush_copy.ensures.flushes first plan rows.after (rows.works refl)))
 
 pub returns-in_err-flush_copy-clause-cut : goal.returns-in_err-flush_copy-clause-cut
-returns-in_err-flush_copy-clause-cut g c = λ first plan t runs.
+returns-in_err-flush_copy-clause-cut g c = λ first plan t rose device w stands.
     let p = err_from_is_err_and c.from_residual-in_err-flush_copy.result c.from_residual-in_err-flush_copy.ensures.1 in
-    let rows = c.in_ok-shipped.ensures.cut first plan t runs in
-    rw (p.1, p.2) (keep-flushed first plan t _ _ c.put_rows.new.to c.flush_copy.new.to (g.B.Flash.state c.put_rows.new.onto) (g.B.Flash.state c.flush_copy.new.onto) c.in_ok-shipped.shipped (Err c.in_err-flush_copy.field-0.0) (Err c.in_err-flush_copy.field-0.0) rows
-    (c.in_err-flush_copy.ensures.cut first plan rows.after (rows.runs refl))
-    (λ goes keep. absurd (flush-stops (g.B.Flash.state c.put_rows.new.onto) (g.B.Flash.state c.flush_copy.new.onto) c.in_err-flush_copy.field-0.0 c.in_err-flush_copy.ensures.cause goes)))
+    let f = g.B.Flash.state c.args.onto.now in
+    let mid = g.B.Flash.state c.put_rows.new.onto in
+    let new = g.B.Flash.state c.flush_copy.new.onto in
+    let rows = c.in_ok-shipped.ensures.cut first plan t rose device (watched-first f mid new rose device w c.flush_copy.ensures.goes) stands in
+    let works = rows.works in
+    rw (p.1, p.2) (work-unflushed first plan t _ _ c.put_rows.new.to c.flush_copy.new.to mid new rose device c.in_ok-shipped.shipped rows c.in_err-flush_copy.field-0.0 c.in_err-flush_copy.ensures.cause
+    (c.in_err-flush_copy.ensures.cut first plan works.now.state rose works.now.device (watched-then f mid new rose device works.now.device w c.put_rows.ensures.goes works.ends.1 works.counts) (works.stands works.ends.0)))
 
 pub returns-in_err-flush_copy-clause-outside : goal.returns-in_err-flush_copy-clause-outside
 returns-in_err-flush_copy-clause-outside g c = λ tells.
@@ -53,10 +58,14 @@ returns-clause-ships g c = λ first plan t works.
     (c.in_ok-flush_copy.ensures.flushes first plan rows.after (rows.works refl))
 
 pub returns-clause-cut : goal.returns-clause-cut
-returns-clause-cut g c = λ first plan t runs.
-    let rows = c.in_ok-shipped.ensures.cut first plan t runs in
-    keep-flushed first plan t _ _ c.put_rows.new.to c.flush_copy.new.to (g.B.Flash.state c.put_rows.new.onto) (g.B.Flash.state c.flush_copy.new.onto) c.in_ok-shipped.shipped (Ok c.in_ok-flush_copy.field-0) (Ok c.in_ok-shipped.shipped) rows
-    (c.in_ok-flush_copy.ensures.cut first plan rows.after (rows.runs refl)) (λ goes keep. keep.runs)
+returns-clause-cut g c = λ first plan t rose device w stands.
+    let f = g.B.Flash.state c.args.onto.now in
+    let mid = g.B.Flash.state c.put_rows.new.onto in
+    let new = g.B.Flash.state c.flush_copy.new.onto in
+    let rows = c.in_ok-shipped.ensures.cut first plan t rose device (watched-first f mid new rose device w c.flush_copy.ensures.goes) stands in
+    let works = rows.works in
+    work-done first plan t _ _ c.put_rows.new.to c.flush_copy.new.to mid new rose device c.in_ok-shipped.shipped rows
+    (c.in_ok-flush_copy.ensures.cut first plan works.now.state rose works.now.device (watched-then f mid new rose device works.now.device w c.put_rows.ensures.goes works.ends.1 works.counts) (works.stands works.ends.0))
 
 pub returns-clause-above : goal.returns-clause-above
 returns-clause-above g c = λ last key is above. c.in_ok-shipped.ensures.above last key (sym c.flush_copy.ensures.last ∙ is) above

@@ -1,0 +1,95 @@
+-- The work of records that are put one after another, and of the flush behind them, whether a cut is armed or not.
+use Rattle.std.proofs.Common.{◌≡◌, Bool, Option, Some, None, Ok, Err, MatchOption, List, [], ◌∷◌, ◌++◌, take, refl, sym, ap, subst}
+use Rattle.fl_model.specs.Puts.{TablePuts}
+use Rattle.fl_model.specs.Record.{Record, Plan}
+use Rattle.fl_model.specs.Ship.{records_in}
+use Rattle.fl_model.specs.ShipWork.{ShipGoesOn, TableShips}
+use Rattle.fl_model.specs.Table.{Table, Refusal, refusal_of}
+use Rattle.fl_model.specs.Work.{Device, PartEnd, Whole, CutIn, FailedIn, PartProgress}
+use Rattle.fl_model.proofs.PutAmongTables.{put-whole}
+use Rattle.fl_model.proofs.ShipWork.{drops-none}
+use Rattle.fl_model.proofs.ShipWork as model
+use Rattle.fl_flash.specs.Flash.{FlashState}
+use Rattle.fl_flash.specs.declared.flash.FlashFault.{FlashFault}
+use Rattle.fl_table.specs.Outcomes.{FaultEnds}
+use Rattle.fl_table.specs.declared.faults.PutRefusal.TheVariants as put
+use Rattle.fl_ship.specs.Puts.{AreAccepted, HasPut, put_all}
+use Rattle.fl_ship.specs.Rows.{ArePut, WorkKeeps}
+use Rattle.fl_ship.specs.declared.fault.ShipFault.TheVariants.{Read, Put, Flush}
+use Rattle.fl_ship.proofs.KeptRecords.{keeps-lost, keeps-some}
+
+-- so far, and nothing failed
+abbrev pub so-far : Device → Table → PartProgress Table
+so-far device table = record { end = Whole; device = device; state = table }
+
+pub so-far-is : (now : PartProgress Table) {table : Table} → now.end ≡ Whole → now.state ≡ table → now ≡ so-far now.device table
+so-far-is now {table} whole is =
+    subst (λ (e : PartEnd Table). now ≡ record { end = e; device = now.device; state = table }) whole
+    (subst (λ (t : Table). now ≡ record { end = now.end; device = now.device; state = t }) is refl)
+
+module _ (plan : Plan) (rose : Bool) where
+  -- one more is put behind others
+  pub puts-push : (items : List Record) (item : Record) (device : Device) (table : Table) (mid now : PartProgress Table) → ArePut plan rose items device table mid →
+      refusal_of plan mid.state item ≡ None → TablePuts plan rose item mid.device mid.state now → now.end ≡ Whole → ArePut plan rose (items ++ item ∷ []) device table now
+  puts-push [] item device table mid now is accepted did whole =
+      let own : refusal_of plan table item ≡ None = subst (λ (x : PartProgress Table). refusal_of plan x.state item ≡ None) is accepted in
+      (own, (now, subst (λ (x : PartProgress Table). TablePuts plan rose item x.device x.state now) is did, whole, so-far-is now whole refl))
+  puts-push (first ∷ items) item device table mid now (own, (one, did-one, whole-one, others)) accepted did whole =
+      (own, (one, did-one, whole-one, puts-push items item one.device one.state mid now others accepted did whole))
+
+  -- none of them was refused
+  pub puts-accepted : (items : List Record) (device : Device) (table : Table) (now : PartProgress Table) → ArePut plan rose items device table now → AreAccepted plan items table
+  puts-accepted [] device table now is = tt
+  puts-accepted (item ∷ items) device table now (own, (mid, did, whole, others)) =
+      (own, subst (λ (t : Table). AreAccepted plan items t) (put-whole plan rose item device table mid did whole) (puts-accepted items mid.device mid.state now others))
+
+  -- .. and this is the table then
+  pub puts-all : (items : List Record) (device : Device) (table : Table) (now : PartProgress Table) → ArePut plan rose items device table now → now.state ≡ put_all plan items table
+  puts-all [] device table now is = ap (λ (x : PartProgress Table). x.state) is
+  puts-all (item ∷ items) device table now (own, (mid, did, whole, others)) =
+      subst (λ (t : Table). now.state ≡ put_all plan items t) (put-whole plan rose item device table mid did whole) (puts-all items mid.device mid.state now others)
+
+  -- a ship goes on behind them
+  pub ships-behind : (items others : List Record) (device : Device) (table : Table) (mid now : PartProgress Table) → ArePut plan rose items device table mid →
+      TableShips plan rose others mid.device mid.state now → TableShips plan rose (items ++ others) device table now
+  ships-behind [] others device table mid now is ships = subst (λ (x : PartProgress Table). TableShips plan rose others x.device x.state now) is ships
+  ships-behind (item ∷ items) others device table mid now (own, (one, did, whole, more)) ships =
+      let rest = ships-behind items others one.device one.state mid now more ships in
+      subst (λ (o : Option Refusal). MatchOption o (Goes one) (λ refusal. now ≡ so-far device table)) (sym own)
+      (one, did, subst (λ (e : PartEnd Table). ShipGoesOn e one now (TableShips plan rose (items ++ others) one.device one.state now)) (sym whole) rest)
+    where
+      Goes : PartProgress Table → Type 0
+      Goes one = (mid : PartProgress Table) × TablePuts plan rose item device table mid × ShipGoesOn mid.end mid now (TableShips plan rose (items ++ others) mid.device mid.state now)
+
+  -- .. which ends with a record that is refused
+  pub ships-refused : (item : Record) (items : List Record) (refusal : Refusal) (device : Device) (table : Table) → refusal_of plan table item ≡ Some refusal → TableShips plan rose (item ∷ items) device table (so-far device table)
+  ships-refused item items refusal device table is =
+      subst (λ (o : Option Refusal). MatchOption o ((mid : PartProgress Table) × TablePuts plan rose item device table mid × ShipGoesOn mid.end mid (so-far device table) (TableShips plan rose items mid.device mid.state (so-far device table))) (λ refusal. so-far device table ≡ so-far device table))
+      (sym is) refl
+
+  -- .. or in the put of one
+  pub ships-broken : (item : Record) (items : List Record) (device : Device) (table : Table) (now : PartProgress Table) (fault : FlashFault) (g : FlashState) → refusal_of plan table item ≡ None →
+      TablePuts plan rose item device table now → FaultEnds now.end fault g → TableShips plan rose (item ∷ items) device table now
+  ships-broken item items device table now fault g accepted did answer =
+      subst (λ (o : Option Refusal). MatchOption o ((mid : PartProgress Table) × TablePuts plan rose item device table mid × ShipGoesOn mid.end mid now (TableShips plan rose items mid.device mid.state now)) (λ refusal. now ≡ so-far device table))
+      (sym accepted) (now, did, stops now.end answer)
+    where
+      stops : (e : PartEnd Table) → FaultEnds e fault g → ShipGoesOn e now now (TableShips plan rose items now.device now.state now)
+      stops Whole none = absurd none
+      stops (CutIn before) answer = refl
+      stops (FailedIn before) answer = refl
+
+-- what is kept, however it ends
+pub work-keeps : WorkKeeps
+work-keeps plan rose device table (Ok n) given now (number, accepted, ships) = model.keeps plan rose given device table now ships
+work-keeps plan rose device table (Err (Read fault)) given now (n, few, puts) =
+    let has_put : HasPut plan given n table now.state = record { few = few; accepted = puts-accepted plan rose (take n given) device table now puts; after_is = puts-all plan rose (take n given) device table now puts } in
+    keeps-lost (records_in table) given now.state (keeps-some plan given table n now.state now.state has_put (drops-none (records_in now.state)))
+work-keeps plan rose device table (Err (Put put.Spent)) given now (refused, ships) = model.keeps plan rose given device table now ships
+work-keeps plan rose device table (Err (Put (put.Flash fault))) given now ships = model.keeps plan rose given device table now ships
+work-keeps plan rose device table (Err (Put (put.Key last))) given now ships = model.keeps plan rose given device table now ships
+work-keeps plan rose device table (Err (Put (put.Columns wanted))) given now ships = model.keeps plan rose given device table now ships
+work-keeps plan rose device table (Err (Put (put.Value column))) given now ships = model.keeps plan rose given device table now ships
+work-keeps plan rose device table (Err (Put (put.Blob limit))) given now ships = model.keeps plan rose given device table now ships
+work-keeps plan rose device table (Err (Put put.Stopped)) given now ships = model.keeps plan rose given device table now ships
+work-keeps plan rose device table (Err (Flush fault)) given now (accepted, ships) = model.keeps plan rose given device table now ships
