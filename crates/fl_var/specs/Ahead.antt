@@ -3,7 +3,7 @@ use Rattle.std.specs.Prelude.{◌≡◌, ℕ, ◌+◌, ◌-◌, ◌<◌, ◌≤�
 use Rattle.fl_flash.specs.Flash.{blank}
 use Rattle.fl_ring.specs.Place.{shape_of, next_of, oldest_of}
 use Rattle.fl_ring.specs.Repairing.{ahead_first}
-use Rattle.fl_ring.specs.Ring.{Shape, is_due_at}
+use Rattle.fl_ring.specs.Ring.{is_due_at}
 use Rattle.fl_ring.specs.declared.ring.Ring.{Ring}
 
 -- a page of the block ahead of the page after the next one, where the oldest block goes with the seal of the next one
