@@ -12,8 +12,9 @@ After each of these the image is mounted, and what is found has to be what a pla
 all or none of the pending records, less exactly the reclaimed ones, whichever of the three ways the page in hand went (blank, void,
 committed). Blobs, a scan by values, a put and another mount have to agree.
 
-Then come images that no run leaves: noise behind a good header, each length that is too short, pages that a ring may not have; a line
-that holds a NUL byte; and an image that changes beside a mounted session, whose answers come from the pages that it reads.
+Then come images that no run leaves: noise behind a good header, each length that is too short, pages that a ring may not have, bad pages
+that a mount doesn't read; a line that holds a NUL byte; and an image that changes beside a mounted session, whose answers come from the
+pages that it reads.
 
 It wants a C compiler, for what makes calls fail.
 """
@@ -324,6 +325,39 @@ def bad_rings(program, folder):
     return len(rows), whys
 
 
+def bad_pages(program, folder):
+    """Pages that a mount goes past, since the index lists them: committed, but with a number or a count that isn't theirs."""
+    config = "device 128 2\ntable u 8 i32 6 3 12 64 0 10 1 224 index2\n"
+    whole = folder / "listed"
+    puts = [f"put u {key} {value(key)} blob {blob(key).hex()}\n" for key in range(1, 21)]
+    program.run(whole, config + "".join(["mount\n", *puts, "flush u\n"]))
+    # Five pages of four rows, of which the index lists all but the last. A lookup of key 10 comes to page 2, and one of key 1 doesn't.
+    # The blobs of each four rows begin on a page of their own, whose content has 112 bytes.
+    looks = "get u 1\nget u 10\nblob u 10\nscan u 1 300\nscan u 1 300 20 39\n"
+    shown = [f"row {key} {value(key)} blob 100" for key in range(1, 21)]
+    found = [shown[0], "bad page 2", "bad page 2", *shown[:8], "bad page 2", shown[19], "end 1"]
+    blobs = "blob u 6\nblob u 7\nblob u 8\n"
+    cut = [f"bytes {blob(6)[:12].hex()}", "bad page 5", "bad page 5", f"bytes {blob(8).hex()}"]
+    rows = [
+        ("a page of rows has another number", 2, 0, (9).to_bytes(4, "little"), looks, found),
+        ("a page of rows has no row", 2, 4, bytes(2), looks, found),
+        ("a page of rows has more rows than a page", 2, 4, b"\x05\x00", looks, found),
+        ("a page of blobs has another number", 18 + 5, 0, (9).to_bytes(4, "little"), blobs, cut),
+        ("a page of blobs has no byte", 18 + 5, 4, bytes(2), blobs, cut),
+    ]
+    whys = []
+    for number, (what, page, at, text, asked, wanted) in enumerate(rows):
+        image = folder / f"listed-{number}"
+        content = bytearray(whole.read_bytes())
+        place = 1024 + page * 128 + at
+        content[place:place + len(text)] = text
+        image.write_bytes(content)
+        status, replies = program.run(image, config + "mount\n" + asked)
+        if (status, replies) != (0, ["ok", *wanted]):
+            whys.append(f"{what}: status {status}, {replies}")
+    return len(rows), whys
+
+
 class Session:
     """A program that runs, and answers line after line."""
 
@@ -385,7 +419,7 @@ def main():
     with tempfile.TemporaryDirectory() as folder:
         program = Program(os.path.abspath(sys.argv[1]), pathlib.Path(folder))
         for what, table in (("cuts", cut_each), ("failing calls of the image's file", fail_image), ("failing streams", fail_streams),
-                            ("noise and lengths", noise_and_lengths), ("rings that no run leaves", bad_rings),
+                            ("noise and lengths", noise_and_lengths), ("rings that no run leaves", bad_rings), ("bad pages", bad_pages),
                             ("pages that change beside a session", changed_pages)):
             count, whys = table(program, pathlib.Path(folder))
             for why in whys[:5]:

@@ -14,7 +14,7 @@ use Rattle.fl_script.specs.Written.{Written}
 use Rattle.fl_store.proofs.Appends.{front-behind, front-more}
 use Rattle.fl_var.specs.Reading.{IfBad}
 use Rattle.fl_words.specs.Reply as reply
-use Rattle.fl_words.specs.Reply.{Reply, hex_text, text, texts}
+use Rattle.fl_words.specs.Reply.{Reply, hex_text, text}
 use Rattle.fl_session.specs.BlobLine.{read_reply}
 use Rattle.fl_session.specs.BlobSays.{BlobSays, EndsBlob, IsBlob}
 use Rattle.fl_session.specs.ListSays.{IsUnread}
@@ -57,11 +57,11 @@ module _ {E : Type 0} (Tells : Reply → Type 0) (IsBad : BadPage → Type 0) (f
         written = subst (λ (l : List ℕ). Written told now result l) (ap (λ (l : List ℕ). text (reply.Bytes bytes) ++ l) (sym (one-text (read_reply e)))) (written-after told ended now result (text (reply.Bytes bytes)) (text (read_reply e)) all wrote);
       }
 
--- the sink failed in the line of bytes
 -- a sink that failed took nothing whole
 pub untaken : false ≡ true → ⊥
 untaken e = cc
 
+-- the sink failed in the line of bytes
 module _ {E : Type 0} (Tells : Reply → Type 0) (IsBad : BadPage → Type 0) (f g : FlashState) (told now : Option (List ℕ)) (failed : E) where
   pub says-failed : (bytes : List ℕ) → AppendsFront told now (text (reply.Bytes bytes)) → BlobSays Tells IsBad f g told now (Err failed)
   says-failed bytes front = says-one Tells IsBad f g told now (Err failed) (reply.Bytes bytes) tt (λ taken. absurd (untaken taken)) front

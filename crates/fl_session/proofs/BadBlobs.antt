@@ -1,5 +1,5 @@
 -- Bad pages of a blob, and of the lookup of its record, seen from an earlier flash.
-use Rattle.std.proofs.Common.{◌≡◌, ◌⊎◌, ◌+◌, ◌-◌, ◌<◌, true, false, take, drop, refl, ◌∙◌, ℕ, ◌≤◌, Bool, inl, inr, IfErr, IsTrue, Option, Some, None, Result, Ok, Err, List, ap, subst}
+use Rattle.std.proofs.Common.{◌≡◌, ◌⊎◌, ◌+◌, ◌-◌, ◌<◌, true, false, take, drop, refl, ◌∙◌, ℕ, ◌≤◌, Bool, inl, inr, IfErr, IsTrue, Option, Some, None, Result, Ok, Err, List, ap, subst, sym}
 use Rattle.std.specs.Prelude.{if◌then◌else◌, ◌==◌}
 use Rattle.fl_base.specs.declared.types.BlobRef.{BlobRef}
 use Rattle.fl_find.specs.Pages.{IsBadPage}
@@ -95,6 +95,13 @@ module _ (t : Table 64 64) (key : ℕ) (f g : FlashState) (only : OnlyReads f g)
     lost = subst (λ (page : ℕ → List ℕ). (at.page < oldest_in v) ⊎ (state_of_page (page (place (var_shape v) at.page)) ≡ Committed → ⊥)) (pages-read f g only) h.lost;
   }
 
+  gone-seen : (v : VarData) → IsGone v f at → IsGone v g at
+  gone-seen v h = record {
+    some = h.some;
+    sealed = h.sealed;
+    lost = subst (λ (page : ℕ → List ℕ). (at.page < oldest_in v) ⊎ (state_of_page (page (place (var_shape v) at.page)) ≡ Committed → ⊥)) (sym (pages-read f g only)) h.lost;
+  }
+
   bytes-held : (v : VarData) → bytes_of v g at ≡ bytes_of v f at
   bytes-held v = ap (λ (image : ℕ → List ℕ). take at.length (drop at.offset (contents_from image at.page (next_in v + 1 - at.page)))) (images f g only v)
 
@@ -102,9 +109,9 @@ module _ (t : Table 64 64) (key : ℕ) (f g : FlashState) (only : OnlyReads f g)
   gone-in None h = h
   gone-in (Some v) h = gone-held v h
 
-  bytes-in : (bytes : List ℕ) (var : Option VarData) → IsSomeAnd var (λ v. bytes ≡ bytes_of v g at) → IsSomeAnd var (λ v. bytes ≡ bytes_of v f at)
+  bytes-in : (bytes : List ℕ) (var : Option VarData) → IsSomeAnd var (λ v. (IsGone v g at → ⊥) × (bytes ≡ bytes_of v g at)) → IsSomeAnd var (λ v. (IsGone v f at → ⊥) × (bytes ≡ bytes_of v f at))
   bytes-in bytes None h = h
-  bytes-in bytes (Some v) h = h ∙ bytes-held v
+  bytes-in bytes (Some v) h = ((λ gone. h.0 (gone-seen v gone)), h.1 ∙ bytes-held v)
 
   names : (said : Reply) → FindsRow t key f (λ row. row.blob ≡ Some at) → TellsBlob t f at said → FindsRow t key f (λ row. (place : BlobRef) × (row.blob ≡ Some place) × TellsBlob t f place said)
   names said h tells = record { row = h.row; holds = (at, h.holds, tells); key_is = h.key_is; place = h.place; here = h.here; answers = h.answers }
@@ -139,7 +146,8 @@ module _ (t : Table 64 64) (f g : FlashState) (only : looking.OnlyReads f 1 g) (
   pub opened-left : stands ≡ Ok true → (bytes : List ℕ) → IsLeft r g bytes → TellsBlob t f at (reply.Bytes bytes)
   opened-left e bytes left = λ told.
       let opened : Opened v f at r = subst (λ (s : Result Bool ReadFault). Opens v f at (turned s r)) e (opens told) in
-      subst (λ (var : Option VarData). IsSomeAnd var (λ x. bytes ≡ bytes_of x f at)) is (left (reads-kept r f g 1 only opened.reads) ∙ (bytes-kept r f g 1 only ∙ opened.left))
+      let same : bytes ≡ bytes_of v f at = left (reads-kept r f g 1 only opened.reads) ∙ (bytes-kept r f g 1 only ∙ opened.left) in
+      subst (λ (var : Option VarData). IsSomeAnd var (λ x. (IsGone x f at → ⊥) × (bytes ≡ bytes_of x f at))) is (opened.not_gone, same)
 
 -- a lookup that fails so
 pub looked-bad : (t : Table 64 64) (f g : FlashState) (e : ReadFault) → LookupFails t f e g → IfBad (MayBeBadFor t f) e

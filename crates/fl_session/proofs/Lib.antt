@@ -32,6 +32,7 @@ pub mod BlobLines
 pub mod BlobNotes
 pub mod LoadedValues
 pub mod LoadReads
+pub mod RunningPuts
 pub mod LoadsInTurn
 pub mod LoadPuts
 pub mod RowLines

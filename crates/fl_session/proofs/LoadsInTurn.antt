@@ -7,7 +7,7 @@ use Rattle.fl_frame.proofs.WatchedInTurn.{cause-later}
 use Rattle.fl_rlc.specs.Paged.{HasMadePage, PutLogged}
 use Rattle.fl_rlc.specs.Refusal.{NeedsNoOperation, RefusedSame, put_refusal}
 use Rattle.fl_rlc.specs.Rows.{HaveLogged}
-use Rattle.fl_rlc.specs.Table.{IsSamePlan, log_in, table_in}
+use Rattle.fl_rlc.specs.Table.{IsSamePlan, is_running, log_in, table_in}
 use Rattle.fl_rlc.specs.declared.table.LoggedTable.{LoggedTable}
 use Rattle.fl_table.specs.Causes.{PutCausedBy}
 use Rattle.fl_table.specs.Look.{last_key_in, layout_in}
@@ -17,6 +17,7 @@ use Rattle.fl_table.specs.Stored.{Stores}
 use Rattle.fl_table.specs.declared.faults.PutRefusal.{PutRefusal}
 use Rattle.fl_table.specs.declared.faults.PutRefusal.TheVariants as put
 use Rattle.fl_machine.specs.Step.{next_random}
+use Rattle.fl_session.proofs.RunningPuts.{runs-on}
 use Rattle.fl_session.specs.LoadSays.{LoadEnds, LoadFails, Loads, LoadsNext, WritesOne, next_row, random_at}
 
 -- ---- the next record
@@ -69,12 +70,13 @@ random-more seed n was now next is = next ∙ (ap (λ (r : ℕ). next_random r) 
 
 -- ---- why a load failed
 
-pub load-fails : (f m n : FlashState) (outcome : Result (Unit {0}) PutRefusal) → (f.is_on ≡ true → m.is_on ≡ true) → Goes f m → IfErr outcome (λ e. PutCausedBy m e n) → IfErr outcome (LoadFails f n)
-load-fails f m n (Ok done) on goes cause = tt
-load-fails f m n (Err (put.Flash fault)) on goes cause = cause-later f m n goes on fault cause
-load-fails f m n (Err (put.Key last)) on goes cause = tt
-load-fails f m n (Err (put.Columns wanted)) on goes cause = tt
-load-fails f m n (Err (put.Value column)) on goes cause = tt
-load-fails f m n (Err (put.Blob limit)) on goes cause = tt
-load-fails f m n (Err put.Spent) on goes cause = tt
-load-fails f m n (Err put.Stopped) on goes cause = tt
+pub load-fails : (t : LoggedTable 64 64) (key : ℕ) (values : List ℤ) (f m n : FlashState) (outcome : Result (Unit {0}) PutRefusal) → is_running t ≡ true → RefusesAs (put_refusal t key values None) outcome → (f.is_on ≡ true → m.is_on ≡ true) → Goes f m →
+    IfErr outcome (λ e. PutCausedBy m e n) → IfErr outcome (LoadFails f n)
+load-fails t key values f m n (Ok done) runs exact on goes cause = tt
+load-fails t key values f m n (Err (put.Flash fault)) runs exact on goes cause = cause-later f m n goes on fault cause
+load-fails t key values f m n (Err (put.Key last)) runs exact on goes cause = tt
+load-fails t key values f m n (Err (put.Columns wanted)) runs exact on goes cause = tt
+load-fails t key values f m n (Err (put.Value column)) runs exact on goes cause = tt
+load-fails t key values f m n (Err (put.Blob limit)) runs exact on goes cause = tt
+load-fails t key values f m n (Err put.Spent) runs exact on goes cause = tt
+load-fails t key values f m n (Err put.Stopped) runs exact on goes cause = runs-on t key values None runs exact

@@ -1,6 +1,6 @@
 -- The causes of replies, over any bytes.
 use Rattle.std.proofs.Common.{◌≡◌, ℕ, ◌<◌, ◌≤◌, Bool, true, false, not, nat_lt, inl, inr, Option, None, Some, Result, Ok, Err, IfErr, List, [], ◌∷◌, length, refl, sym, ◌∙◌, ap, subst}
-use Rattle.std.specs.Prelude.{◌↔◌, is_err, OnOk}
+use Rattle.std.specs.Prelude.{◌↔◌, is_err, OnOk, ℤ}
 use Rattle.std.specs.List.{slice_get}
 use Rattle.std.specs.Option.{is_none}
 use Rattle.std.proofs.lemmas.Bool.{lt-ltb, le-ltb}
@@ -17,8 +17,9 @@ use Rattle.fl_table.specs.declared.faults.FlushFault.{FlushFault}
 use Rattle.fl_table.specs.declared.faults.FlushFault.TheVariants as flush
 use Rattle.fl_table.specs.declared.faults.PutRefusal.{PutRefusal}
 use Rattle.fl_table.specs.declared.faults.PutRefusal.TheVariants as put
-use Rattle.fl_rlc.specs.Refusal.{RefusedSame}
-use Rattle.fl_rlc.specs.Table.{table_in}
+use Rattle.fl_table.specs.Refusal.{RefusesAs}
+use Rattle.fl_rlc.specs.Refusal.{RefusedSame, put_refusal}
+use Rattle.fl_rlc.specs.Table.{is_running, table_in}
 use Rattle.fl_rlc.specs.declared.table.LoggedTable.{LoggedTable}
 use Rattle.fl_store.specs.MountsOver.{MountsOver}
 use Rattle.fl_store.specs.Tables.{entries_with}
@@ -29,6 +30,7 @@ use Rattle.fl_words.specs.Command.{Command, Nothing}
 use Rattle.fl_words.specs.Reply as reply
 use Rattle.fl_words.specs.Reply.{Reply, text}
 use Rattle.fl_session.proofs.NextCommand.{nothing-added}
+use Rattle.fl_session.proofs.RunningPuts.{runs-on}
 use Rattle.fl_session.specs.Answer.{IsReached, Refusal}
 use Rattle.fl_session.specs.Asked.{lacked_column}
 use Rattle.fl_session.specs.Caused.{Caused, EndsRange, State, state_of, Says, Writes, IsRefused, IsHere, OnTable, IfLacks, OnlyLooks, PutFails, FlushFails, LoadCounts}
@@ -115,20 +117,22 @@ pub mounts-on : (old new : List Entry) (f on g : FlashState) (outcome : Result (
 mounts-on old new f on g outcome same h = subst (λ (x : FlashState). MountsOver old new x outcome g) same h
 
 -- a put that fails
-put-fails : (s : State) (at : ℕ) (entry : Entry) (t : LoggedTable 64 64) (g : FlashState) (e : PutRefusal) → slice_get s.entries at ≡ Some entry → s.mounted ≡ true →
+put-fails : (s : State) (at : ℕ) (entry : Entry) (t : LoggedTable 64 64) (g : FlashState) (e : PutRefusal) → slice_get s.entries at ≡ Some entry → s.mounted ≡ true → (e ≡ put.Stopped → ⊥) →
     RefusedSame entry.table s.flash e t g → PutCausedBy s.flash e g → PutFails s (state_of (entries_with s.entries at entry t) (not (put_breaks (Err e))) s.notes g) e
-put-fails s at entry t g (put.Flash fault) here up same cause = cause
-put-fails s at entry t g (put.Key last) here up same cause = kept-state s at entry t true g here same.0 (sym up) same.1
-put-fails s at entry t g (put.Columns count) here up same cause = kept-state s at entry t true g here same.0 (sym up) same.1
-put-fails s at entry t g (put.Value column) here up same cause = kept-state s at entry t true g here same.0 (sym up) same.1
-put-fails s at entry t g (put.Blob limit) here up same cause = kept-state s at entry t true g here same.0 (sym up) same.1
-put-fails s at entry t g put.Spent here up same cause = kept-state s at entry t true g here same.0 (sym up) same.1
-put-fails s at entry t g put.Stopped here up same cause = kept-state s at entry t true g here same.0 (sym up) same.1
+put-fails s at entry t g (put.Flash fault) here up runs same cause = cause
+put-fails s at entry t g (put.Key last) here up runs same cause = kept-state s at entry t true g here same.0 (sym up) same.1
+put-fails s at entry t g (put.Columns count) here up runs same cause = kept-state s at entry t true g here same.0 (sym up) same.1
+put-fails s at entry t g (put.Value column) here up runs same cause = kept-state s at entry t true g here same.0 (sym up) same.1
+put-fails s at entry t g (put.Blob limit) here up runs same cause = kept-state s at entry t true g here same.0 (sym up) same.1
+put-fails s at entry t g put.Spent here up runs same cause = kept-state s at entry t true g here same.0 (sym up) same.1
+put-fails s at entry t g put.Stopped here up runs same cause = runs refl
 
-pub put-fails-so : (s : State) (at : ℕ) (entry : Entry) (t : LoggedTable 64 64) (g : FlashState) (outcome : Result (Unit {0}) PutRefusal) → slice_get s.entries at ≡ Some entry → s.mounted ≡ true →
+pub put-fails-so : (s : State) (at : ℕ) (entry : Entry) (t : LoggedTable 64 64) (g : FlashState) (key : ℕ) (values : List ℤ) (blob : Option ℕ) (outcome : Result (Unit {0}) PutRefusal) → slice_get s.entries at ≡ Some entry → s.mounted ≡ true → is_running entry.table ≡ true →
+    RefusesAs (put_refusal entry.table key values blob) outcome →
     IfErr outcome (λ e. RefusedSame entry.table s.flash e t g) → IfErr outcome (λ e. PutCausedBy s.flash e g) → IfErr outcome (PutFails s (state_of (entries_with s.entries at entry t) (not (put_breaks outcome)) s.notes g))
-put-fails-so s at entry t g (Ok done) here up same cause = tt
-put-fails-so s at entry t g (Err e) here up same cause = put-fails s at entry t g e here up same cause
+put-fails-so s at entry t g key values blob (Ok done) here up runs exact same cause = tt
+put-fails-so s at entry t g key values blob (Err e) here up runs exact same cause =
+    put-fails s at entry t g e here up (λ is. runs-on entry.table key values blob runs (subst (λ (r : PutRefusal). RefusesAs (put_refusal entry.table key values blob) (Err r)) is exact)) same cause
 
 -- a flush that fails
 pub flush-fails : (f g : FlashState) (running : Bool) (outcome : Result (Unit {0}) FlushFault) → running ≡ true → ((outcome ≡ Err flush.Stopped) ↔ (running ≡ false)) → IfErr outcome (λ e. FlushCausedBy f e g) → IfErr outcome (FlushFails f g)

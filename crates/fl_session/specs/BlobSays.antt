@@ -56,11 +56,12 @@ IsBlob reply.BytesEmpty = Unit {0}
 IsBlob (reply.Bytes bytes) = Unit {0}
 IsBlob _ = ⊥
 
--- What a line tells of the blob at the place that a row names: it is gone, or empty, or these are its bytes, as far as the flash tells.
+-- What a line tells of the blob at the place that a row names: it is gone, or empty, or it isn't gone and these are its bytes, as far as
+-- the flash tells.
 abbrev pub TellsBlob : Table 64 64 → FlashState → BlobRef → Reply → Type 0
 TellsBlob t f at reply.Gone = IsTrue f.media.tells → IsSomeAnd (data_in t) (λ var. IsGone var f at)
 TellsBlob t f at reply.BytesEmpty = at.length ≡ 0
-TellsBlob t f at (reply.Bytes bytes) = IsTrue f.media.tells → IsSomeAnd (data_in t) (λ var. bytes ≡ bytes_of var f at)
+TellsBlob t f at (reply.Bytes bytes) = IsTrue f.media.tells → IsSomeAnd (data_in t) (λ var. (IsGone var f at → ⊥) × (bytes ≡ bytes_of var f at))
 TellsBlob t f at _ = ⊥
 
 -- .. of that of the record with the key: no record has it, or the row that has it names no blob, or this one

@@ -11,7 +11,6 @@ use Rattle.fl_flash.specs.declared.flash.FlashFault.{FlashFault}
 use Rattle.fl_flash.specs.declared.flash.FlashFault.TheVariants.{PowerLost}
 use Rattle.fl_flash.specs.declared.tear.Tear.TheVariants.{Kind}
 use Rattle.fl_machine.specs.Step.{cost_reply}
-use Rattle.fl_model.specs.Row.{Row}
 use Rattle.fl_frame.specs.Contents.{OnlyReads}
 use Rattle.fl_page.specs.declared.fault.BadPage.{BadPage}
 use Rattle.fl_page.specs.declared.fault.ReadFault.TheVariants as fault
@@ -27,8 +26,8 @@ use Rattle.fl_frame.specs.Causes.{CausedBy}
 use Rattle.fl_table.specs.Causes.{flush_breaks, put_breaks}
 use Rattle.fl_table.specs.BlobAt.{data_in, has_blobs}
 use Rattle.fl_table.specs.Blobs.{most_pages}
-use Rattle.fl_table.specs.Finding.{IsAnswered, LookupFails, rows_at}
-use Rattle.fl_table.specs.Look.{buffered_rows, counts_in, last_key_in, layout_in, oldest_in}
+use Rattle.fl_table.specs.Finding.{IsAnswered, LookupFails}
+use Rattle.fl_table.specs.Look.{counts_in, last_key_in, layout_in, oldest_in}
 use Rattle.fl_table.specs.Memory.{next_in, pending_in, HasRoom, MaySeal}
 use Rattle.fl_table.specs.Mounting.{rings_in as table_rings}
 use Rattle.fl_table.specs.Paged.{HasFlushed}
@@ -38,8 +37,6 @@ use Rattle.fl_table.specs.declared.faults.FlushFault.{FlushFault}
 use Rattle.fl_table.specs.declared.faults.FlushFault.TheVariants as flush
 use Rattle.fl_table.specs.declared.faults.PutRefusal.{PutRefusal}
 use Rattle.fl_table.specs.declared.faults.PutRefusal.TheVariants as put
-use Rattle.fl_table.specs.declared.find.RowAt.{RowAt}
-use Rattle.fl_table.specs.declared.find.RowAt.TheVariants as placed
 use Rattle.fl_table.specs.declared.table.Table.{Table}
 use Rattle.fl_store.specs.MountsOver.{MountsOver}
 use Rattle.fl_store.specs.Replies.{flush_reply, put_reply}
@@ -53,11 +50,11 @@ use Rattle.fl_session.specs.Answer.{IsReached, load_replies, mount_reply}
 use Rattle.fl_session.specs.Asked.{lacked_column}
 use Rattle.fl_session.specs.BlobSays.{AnswersBlob, BlobSays, MayBeBadFor}
 use Rattle.fl_session.specs.Cost.{cost_of}
+use Rattle.fl_session.specs.Found.{FindsRow}
 use Rattle.fl_session.specs.ListSays.{EndsNext, EndsOnBoth, EndsScan, IsFields, IsGroup, IsPair, ListSays}
 use Rattle.fl_session.specs.LoadSays.{LoadFails, PutsRecords}
 use Rattle.fl_session.specs.Notes.{with_cursor, without_cursors}
 use Rattle.fl_session.specs.Rising.{AreRising, IsRow}
-use Rattle.fl_session.specs.Found.{FindsRow}
 use Rattle.fl_session.specs.Rows.{row_reply}
 use Rattle.fl_session.specs.RowsGiven.{AreRows, MovesOver}
 use Rattle.fl_session.specs.declared.cost.Cost.TheVariants.{OfGet, OfScan}
@@ -153,9 +150,11 @@ pub record LeavesTable (old new : State) (at : ℕ) (entry : Entry) (breaks : Bo
   pub goes : Goes old.flash new.flash
   pub outside : IsTrue old.flash.media.tells → logged.OutsideStands entry.table (page_at old.flash) (page_at new.flash)
 
--- a fault of the flash has its cause, and any other refusal changes nothing
+-- A fault of the flash has its cause, and any other refusal changes nothing. A table of a mounted session runs, so none is refused as
+-- stopped.
 abbrev pub PutFails : State → State → PutRefusal → Type 0
 PutFails old new (put.Flash fault) = CausedBy old.flash fault new.flash
+PutFails old new put.Stopped = ⊥
 PutFails old new _ = new ≡ old
 
 -- A put is refused exactly as its table says. Else the record is the last one, and pending, where their page was full the only one,

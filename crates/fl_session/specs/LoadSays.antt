@@ -71,7 +71,8 @@ pub record PutsRecords (step seed n : ℕ) (t : LoggedTable 64 64) (f : FlashSta
   pub puts : Loads step seed n t f left left_f
   pub ends : LoadEnds step seed n left left_f outcome u g
 
--- a fault of the flash has its cause in the load
+-- a fault of the flash has its cause in the load, and none is refused as stopped, by a table that runs
 abbrev pub LoadFails : FlashState → FlashState → PutRefusal → Type 0
 LoadFails f g (put.Flash fault) = CausedBy f fault g
+LoadFails f g put.Stopped = ⊥
 LoadFails f g _ = Unit {0}

@@ -63,7 +63,7 @@ pub(crate) fn load<F: Flash>(
         (F.state flash.old) (F.state flash.new) (texts (load_replies result.count result.outcome)) }
     ensures counted { LoadCounts count result.count result.outcome }
     ensures puts { PutsRecords step seed result.count table.old (F.state flash.old) result.outcome table.new (F.state flash.new) }
-    ensures fails { IfErr result.outcome (LoadFails (F.state flash.old) (F.state flash.new)) }
+    ensures fails { is_running table.old ≡ true → IfErr result.outcome (LoadFails (F.state flash.old) (F.state flash.new)) }
     ensures running { is_running table.new ≡ (is_running table.old && not (put_breaks result.outcome)) }
     ensures power { put_breaks result.outcome ≡ false → (F.state flash.old).is_on ≡ true → (F.state flash.new).is_on ≡ true }
     ensures same { IsSamePlan table.old table.new }

@@ -126,8 +126,8 @@ returns-clause-puts g c =
     }
 
 pub returns-then-is_err-clause-fails : goal.returns-then-is_err-clause-fails
-returns-then-is_err-clause-fails g c =
-    load-fails (g.F.Flash.state c.args.flash.now) (g.F.Flash.state c.loop-loaded.flash) (g.F.Flash.state c.put-outcome.new.flash) c.put-outcome.result c.loop-loaded.invariant.power c.loop-loaded.invariant.goes c.put-outcome.ensures.cause
+returns-then-is_err-clause-fails g c = λ runs.
+    load-fails c.loop-loaded.table _ _ (g.F.Flash.state c.args.flash.now) (g.F.Flash.state c.loop-loaded.flash) (g.F.Flash.state c.put-outcome.new.flash) c.put-outcome.result (c.loop-loaded.invariant.running ∙ runs) c.put-outcome.ensures.exact c.loop-loaded.invariant.power c.loop-loaded.invariant.goes c.put-outcome.ensures.cause
 
 pub returns-then-is_err-clause-outside : goal.returns-then-is_err-clause-outside
 returns-then-is_err-clause-outside g c = λ told.

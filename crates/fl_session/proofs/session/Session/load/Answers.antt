@@ -46,7 +46,7 @@ returns-clause-cause g c =
         counted = c.load-loaded.ensures.counted;
         leaves = record { now = c.load-loaded.new.table; same = c.load-loaded.ensures.same; entries = refl; mounted = ap not c.put_breaks.ensures; notes = refl; unread = c.load-loaded.ensures.reads; goes = c.load-loaded.ensures.goes; outside = c.load-loaded.ensures.outside };
         puts = c.load-loaded.ensures.puts;
-        fails = c.load-loaded.ensures.fails;
+        fails = c.load-loaded.ensures.fails (c.requires.sound.running c.in-Ok.ensures.mounted_is c.in-Ok.at c.index_mut.result.now here);
         power = c.load-loaded.ensures.power;
         media_reads = c.load-loaded.ensures.media_reads;
       },

@@ -10,7 +10,7 @@ use Rattle.fl_table.specs.Refusal.{RefusesAs}
 use Rattle.fl_rlc.specs.Refusal.{put_refusal}
 use Rattle.fl_table.proofs.PutAnswers.{map-twice}
 use Rattle.std.specs.Borrow.{Bor}
-use Rattle.std.specs.Prelude.{length}
+use Rattle.std.specs.Prelude.{length, option_map}
 use Rattle.fl_session.proofs.session.Session.put.Goals as goal
 
 pub returns-in-Err-clause-step : goal.returns-in-Err-clause-step
@@ -54,7 +54,7 @@ returns-clause-cause g c =
           outcome = c.put-outcome.result;
           said_is = refl;
           exact = subst (λ n. RefusesAs (put_refusal c.index_mut.result.now.table c.args.key c.args.values.now n) c.put-outcome.result) (sym (map-twice (λ (b : Bor (List ℕ)). b.now) (λ (xs : List ℕ). length xs) c.args.blob)) c.put-outcome.ensures.exact;
-          fails = rw c.put_breaks.ensures (put-fails-so _ c.in-Ok.at c.index_mut.result.now c.put-outcome.new.self _ c.put-outcome.result here c.in-Ok.ensures.mounted_is c.put-outcome.ensures.refused c.put-outcome.ensures.cause);
+          fails = rw c.put_breaks.ensures (put-fails-so _ c.in-Ok.at c.index_mut.result.now c.put-outcome.new.self _ c.args.key c.args.values.now (option_map (λ (b : Bor (List ℕ)). length b.now) c.args.blob) c.put-outcome.result here c.in-Ok.ensures.mounted_is (c.requires.sound.running c.in-Ok.ensures.mounted_is c.in-Ok.at c.index_mut.result.now here) c.put-outcome.ensures.exact c.put-outcome.ensures.refused c.put-outcome.ensures.cause);
           leaves = record { now = c.put-outcome.new.self; same = c.put-outcome.ensures.same; entries = refl; mounted = ap not c.put_breaks.ensures; notes = refl; unread = c.put-outcome.ensures.reads; goes = c.put-outcome.ensures.goes; outside = c.put-outcome.ensures.outside };
           last = c.put-outcome.ensures.last;
           stores = c.put-outcome.ensures.stores;
