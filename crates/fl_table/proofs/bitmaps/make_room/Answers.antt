@@ -32,7 +32,7 @@ returns-in-Some-clause-writes g c =
     subst (λ (o : Option BitmapIndex). Writes (MaySeal o) 0 (rings_of o) f h) (sym c.in-Some.is) (elim (cases_lt (waiting_in index) (per_page index)) [
       | inl less ↦ subst (λ (s : FlashState). Writes (MaySeal (Some index)) 0 1 f s) (sym (c.make_room.ensures.nothing less).2) (writes-none (MaySeal (Some index)) 1 f)
       | inr most ↦ let full : waiting_in index ≡ per_page index = omega (arith, most, index.few) in
-        writes-wider (memory.MaySeal index) (MaySeal (Some index)) 0 0 1 1 f h (λ page may. (full, may)) (omega arith) (omega arith) c.make_room.ensures.writes
+          writes-wider (memory.MaySeal index) (MaySeal (Some index)) 0 0 1 1 f h (λ page may. (full, may)) (omega arith) (omega arith) c.make_room.ensures.writes
     ])
 
 pub returns-in-None-clause-writes : goal.returns-in-None-clause-writes
