@@ -335,6 +335,7 @@ returns-clause-emptied g c =
     let last : variable.next_of u.blobs ≡ variable.next_of c.seal_blobs.new.self.blobs = ap variable.next_of c.seal_rows.ensures.blobs in
     on-both c.seal_rows.result (HasCounted b u) (((next_in u ≡ next_in b + 1) × ((u.writer.count ≡ 0) × (u.bitmap ≡ 0) × (u.blob_end ≡ 0))) × ((next_of u.bitmaps ≡ next_of b.bitmaps) × (oldest_of u.bitmaps ≡ oldest_of b.bitmaps))) (IsEmptied t u)
     (λ counted all. let both = all.0 in record {
+      same = returns-clause-same g c;
       next = both.0 ∙ ap (λ n. n + 1) before;
       empty = record { none = both.1.0; bits = both.1.1; ends = both.1.2; blobs = subst (λ (o : Option VarData). variable.AreEmpty o) (sym c.seal_rows.ensures.blobs) then.empty };
       rows = pending-none u both.1.0;
