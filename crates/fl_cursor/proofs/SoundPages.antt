@@ -17,7 +17,7 @@ use Rattle.fl_model.specs.Row.{Row}
 use Rattle.fl_page.specs.Page.{IsGoodPage, rows_in}
 use Rattle.fl_table.specs.Finding.{IsPageFor}
 use Rattle.fl_table.specs.Look.{buckets_in, buffered_rows, layout_in, oldest_in, rows_noted}
-use Rattle.fl_table.specs.Skipping.{AreFresh, IsToldBy, index_in}
+use Rattle.fl_table.specs.Skipping.{AreFresh, IsLookedUp, IsToldBy, index_in}
 use Rattle.fl_table.specs.declared.look_ahead.Ahead.{Ahead}
 use Rattle.fl_table.specs.declared.look_ahead.Ahead.TheVariants.{Wanted, Missed, Beyond}
 use Rattle.fl_table.specs.declared.table.Table.{Table}
@@ -27,7 +27,7 @@ use Rattle.fl_cursor.specs.Going.{Keeps, took}
 use Rattle.fl_cursor.specs.Listed.{bytes_at}
 use Rattle.fl_cursor.specs.Reads.{IsBegun, begins_by, has_last}
 use Rattle.fl_cursor.specs.Sought.{first_left}
-use Rattle.fl_cursor.specs.Sound.{IsAhead, IsSoundAhead, IsSoundAt, IsSoundBehind, IsSoundFor, IsSoundFrom, IsSoundOver, PagesSound, pages_end, pages_in, rows_told}
+use Rattle.fl_cursor.specs.Sound.{IsAhead, IsLookedUpIn, IsSoundAhead, IsSoundAt, IsSoundBehind, IsSoundFor, IsSoundFrom, IsSoundOver, PagesSound, pages_end, pages_in, rows_told}
 use Rattle.fl_cursor.specs.declared.bookmark.Bookmark.{Bookmark}
 use Rattle.fl_cursor.specs.declared.cursor.Cursor.{Cursor}
 use Rattle.fl_cursor.specs.declared.place.Here.{Here}
@@ -115,6 +115,11 @@ pub ahead-told : {KNOTS SLOTS : ℕ} (t : Table KNOTS SLOTS) (f : FlashState) (s
 ahead-told t f span top number before ahead said told is other tells held =
     subst (λ (a : Ahead). IsToldBy (index_in t) (buckets_in t) (page_at f) span top number a) is (told tells (fresh-on (index_in t) f before held) (λ e. other (sym is ∙ e)))
 
+-- .. and of the index page that was looked at
+pub looked-told : {KNOTS SLOTS : ℕ} (t : Table KNOTS SLOTS) (f : FlashState) (span : Option Span) (number : ℕ) (before : BufferState) → (IsTrue f.media.tells → AreFresh (index_in t) f before → IsLookedUp (index_in t) (page_at f) span number) →
+    IsTrue f.media.tells → AreFreshIn (index_in t) (contents_of f) before → IsLookedUpIn t (contents_of f) span number
+looked-told t f span number before looked tells held = looked tells (fresh-on (index_in t) f before held)
+
 pub missed-other : Missed ≡ Wanted → ⊥
 missed-other e = cc
 
@@ -152,9 +157,9 @@ module _ {KNOTS SLOTS : ℕ} (old : Cursor KNOTS SLOTS) (next end : ℕ) (here_i
   pub sound-beyond : next < end → IsAhead (table_of old) contents (mark_of old).span (mark_of old).top next Beyond → IsSoundFor (table_of old) contents (asked_of old) (buffer_of old) old.place
   sound-beyond lt told = from-next lt (inr (inr (inl told)))
 
-  pub sound-read : next < end → IsSoundAt (table_of old) contents next → IsSoundBehind (table_of old) contents (asked_of old) next (rows_told (table_of old) contents next) →
+  pub sound-read : next < end → IsSoundAt (table_of old) contents next → IsLookedUpIn (table_of old) contents (mark_of old).span next → IsSoundBehind (table_of old) contents (asked_of old) next (rows_told (table_of old) contents next) →
       IsSoundFor (table_of old) contents (asked_of old) (buffer_of old) old.place
-  sound-read lt sound behind = from-next lt (inr (inr (inr (sound, behind))))
+  sound-read lt sound looked behind = from-next lt (inr (inr (inr (sound, looked, behind))))
 
 -- the pages end where they ended
 pub end-kept : {KNOTS SLOTS : ℕ} (old new : Cursor KNOTS SLOTS) (end : ℕ) → Keeps old new → mark_of new ≡ mark_of old → end ≡ pages_end (table_of old) (mark_of old).top → end ≡ pages_end (table_of new) (mark_of new).top

@@ -12,7 +12,7 @@ use Rattle.fl_page.specs.Page.{rows_in}
 use Rattle.fl_table.specs.Finding.{IsPageFor, end_in}
 use Rattle.fl_table.specs.Look.{buckets_in, buffered_rows, layout_in, oldest_in, rows_noted}
 use Rattle.fl_table.specs.Memory.{next_in}
-use Rattle.fl_table.specs.Skipping.{index_in, IsToldBy}
+use Rattle.fl_table.specs.Skipping.{index_in, IsLookedUp, IsToldBy}
 use Rattle.fl_table.specs.declared.look_ahead.Ahead.{Ahead}
 use Rattle.fl_table.specs.declared.look_ahead.Ahead.TheVariants.{Missed, Beyond}
 use Rattle.fl_table.specs.declared.table.Table.{Table}
@@ -40,16 +40,20 @@ rows_told t contents number = pages.rows_on (layout_in t) (bytes_at t contents n
 abbrev pub IsAhead : {KNOTS SLOTS : ℕ} → Table KNOTS SLOTS → Contents → Option Span → Option ℕ → ℕ → Ahead → Type 0
 IsAhead t contents span top number ahead = IsToldBy (index_in t) (buckets_in t) (pages_in contents) span top number ahead
 
+-- .. or, where values are asked for, no index page that is looked at for it is bad
+abbrev pub IsLookedUpIn : {KNOTS SLOTS : ℕ} → Table KNOTS SLOTS → Contents → Option Span → ℕ → Type 0
+IsLookedUpIn t contents span number = IsLookedUp (index_in t) (pages_in contents) span number
+
 -- Of so many pages from this one on, each is passed because the table has noted no rows of it, or because its index entry tells that
--- none has a value that is asked for; or it is looked at, and isn't bad. They end early at one whose entry tells that it begins
--- above the last key that may be given, and behind one with a row behind which none may be given.
+-- none has a value that is asked for; or it is looked at, and neither it nor the index page that lists it is bad. They end early at one
+-- whose entry tells that it begins above the last key that may be given, and behind one with a row behind which none may be given.
 abbrev pub PagesSound : {KNOTS SLOTS : ℕ} → Table KNOTS SLOTS → Contents → Option Span → Option ℕ → ℕ → ℕ → Type 0
 PagesSound t contents span top number zero = Unit {0}
 PagesSound t contents span top number (suc n) =
     ((rows_noted t number ≡ 0) × PagesSound t contents span top (number + 1) n)
     ⊎ ((IsAhead t contents span top number Missed × PagesSound t contents span top (number + 1) n)
     ⊎ (IsAhead t contents span top number Beyond
-    ⊎ (IsSoundAt t contents number × (has_last top (rows_told t contents number) ≡ false → PagesSound t contents span top (number + 1) n))))
+    ⊎ (IsSoundAt t contents number × IsLookedUpIn t contents span number × (has_last top (rows_told t contents number) ≡ false → PagesSound t contents span top (number + 1) n))))
 
 -- the number after the last page that may have a row up to the last key
 abbrev pub pages_end : {KNOTS SLOTS : ℕ} → Table KNOTS SLOTS → Option ℕ → ℕ

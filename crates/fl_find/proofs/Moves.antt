@@ -35,6 +35,11 @@ pub if-some : (P Q : ℕ → Type 0) (page : Option ℕ) → ((n : ℕ) → P n 
 if-some P Q None f h = tt
 if-some P Q (Some n) f h = f n h
 
+-- the page of a key begins with at most the key
+pub page-starts : (first : ℕ → Option ℕ) (oldest end key : ℕ) (page : Option ℕ) → IsPageOf first oldest end key page → IfSome page (λ n. starts_by first key n ≡ true)
+page-starts first oldest end key None is = tt
+page-starts first oldest end key (Some n) is = is.here
+
 pub page-moved : (first : ℕ → Option ℕ) (oldest oldest_now end end_now key : ℕ) (page : Option ℕ) → oldest_now ≡ oldest → end_now ≡ end → IsPageOf first oldest_now end_now key page → IsPageOf first oldest end key page
 page-moved first oldest oldest_now end end_now key page o e h =
     subst (λ (n : ℕ). IsPageOf first n end key page) o (subst (λ (n : ℕ). IsPageOf first oldest_now n key page) e h)

@@ -33,7 +33,7 @@ impl<const KNOTS: usize, const SLOTS: usize> KeyIndex<KNOTS, SLOTS> {
     ghost use Rattle.fl_radix.specs.Slots.{knots_in_slot};
     ghost use Rattle.fl_ring.specs.Place.{shape_of, oldest_of, next_of, LiesOn};
     ghost use Rattle.fl_schema.specs.Schema.{layout_of};
-    ghost use Rattle.fl_search.specs.Search.{IsPageOf, Ascends, RoseBy, RoseSome, looked_at, voids_in};
+    ghost use Rattle.fl_search.specs.Search.{IsPageOf, Ascends, RoseBy, RoseSome, looked_at, starts_by, voids_in};
     ghost use Rattle.fl_spline.specs.Points.{IsFurther, last_of};
     ghost use Rattle.fl_spline.specs.Segment.{IsSegment};
     ghost use Rattle.fl_find.specs.Pages.{first_on, Holds, IsFresh};
@@ -191,6 +191,8 @@ impl<const KNOTS: usize, const SLOTS: usize> KeyIndex<KNOTS, SLOTS> {
         ensures far { is_covered (knots_in self.now) key ≡ false → IsTrue (F.state flash.old).media.tells →
             Ascends (first_on (layout_of schema.now) (shape_of ring.now) (F.state flash.old)) (oldest_of ring.now) (next_of ring.now) →
             IfOk result (λ page. IsPageOf (first_on (layout_of schema.now) (shape_of ring.now) (F.state flash.old)) (oldest_of ring.now) (next_of ring.now) key page) }
+        ensures starts { IsTrue (F.state flash.old).media.tells →
+            IfOk result (λ page. IfSome page (λ number. starts_by (first_on (layout_of schema.now) (shape_of ring.now) (F.state flash.old)) key number ≡ true)) }
         ensures some { is_covered (knots_in self.now) key ≡ false → IfOk result (λ page. IfSome page (λ number. RoseSome (F.state flash.old).work.reads (F.state flash.new).work.reads)) }
         ensures few { is_covered (knots_in self.now) key ≡ false → IsTrue (F.state flash.old).media.tells →
             (F.state flash.new).work.reads ≤ (F.state flash.old).work.reads + bits (next_of ring.now - oldest_of ring.now) + 1

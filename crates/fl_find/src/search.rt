@@ -128,6 +128,8 @@ pub(crate) fn page_by_halves<F: Flash>(
     ensures page { IsTrue (F.state flash.old).media.tells →
         Ascends (first_on (layout_of schema.now) (shape_of ring.now) (F.state flash.old)) (oldest_of ring.now) (next_of ring.now) →
         IfOk result (λ page. IsPageOf (first_on (layout_of schema.now) (shape_of ring.now) (F.state flash.old)) (oldest_of ring.now) (next_of ring.now) key page) }
+    ensures starts { IsTrue (F.state flash.old).media.tells →
+        IfOk result (λ page. IfSome page (λ number. starts_by (first_on (layout_of schema.now) (shape_of ring.now) (F.state flash.old)) key number ≡ true)) }
     ensures some { IfOk result (λ page. IfSome page (λ number. RoseSome (F.state flash.old).work.reads (F.state flash.new).work.reads)) }
     ensures limit { IsTrue (F.state flash.old).media.tells →
         (F.state flash.new).work.reads ≤ (F.state flash.old).work.reads + bits (next_of ring.now - oldest_of ring.now) + 1

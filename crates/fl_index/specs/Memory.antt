@@ -1,5 +1,5 @@
 -- What clauses see of an index in memory.
-use Rattle.std.specs.Prelude.{◌≡◌, ℕ, zero, suc, ◌+◌, ◌-◌, ◌*◌, ◌/◌, ◌%◌, ◌^◌, ◌<◌, ◌≤◌, Bool, false, ◌&&◌, nat_lt, nat_le, Option, Some, None, is_some, option_map, unwrap_or, List, length, take, drop, slice_index_or, vec_len, if◌then◌else◌}
+use Rattle.std.specs.Prelude.{◌≡◌, ℕ, zero, suc, ◌+◌, ◌-◌, ◌*◌, ◌/◌, ◌%◌, ◌^◌, ◌<◌, ◌≤◌, Bool, false, ◌&&◌, nat_lt, nat_le, Option, Some, None, is_some, option_map, unwrap_or, List, length, take, drop, slice_index_or, slice_set, vec_len, if◌then◌else◌}
 use Rattle.std.specs.List.{flat_map}
 use Rattle.std.specs.Option.{ForSome}
 use Rattle.fl_flash.specs.Flash.{FlashState, pages}
@@ -70,6 +70,13 @@ is_waiting index number = nat_le (first_waiting index) number && nat_lt number (
 -- the first data page that the kept index page with this number lists, as it is remembered; a void page lists none
 abbrev pub first_in : BitmapIndex → ℕ → Option ℕ
 first_in index number = slice_index_or index.firsts.items (number % vec_len index.firsts) None
+
+-- the first data pages that are remembered, by the places of their index pages; and after the seal of the waiting entries
+abbrev pub firsts_in : BitmapIndex → List (Option ℕ)
+firsts_in index = index.firsts.items
+
+abbrev pub firsts_after : BitmapIndex → List (Option ℕ)
+firsts_after index = slice_set (firsts_in index) (next_in index % length (firsts_in index)) (Some (first_waiting index))
 
 -- an index page with this first data page lists a data page
 abbrev pub lists : ℕ → ℕ → Option ℕ → Bool

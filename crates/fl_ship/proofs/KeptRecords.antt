@@ -57,7 +57,7 @@ drop-next (first ∷ items) (suc n) item here = drop-next items n item here
 -- ---- a table
 
 -- what is in memory alone is lost
-pub keeps-lost : (held given : List Record) (t : Table) → KeepsOf held given (records_in t) → KeepsOf held given (records_in (lose t))
+keeps-lost : (held given : List Record) (t : Table) → KeepsOf held given (records_in t) → KeepsOf held given (records_in (lose t))
 keeps-lost held given t h = subst (λ (l : List Record). KeepsOf held given l) (sym (map-take (length t.entries - t.pending) t.entries)) (keeps-less held given (records_in t) (length t.entries - t.pending) h)
 
 drops-joined : (plan : Plan) (item : Record) (t : Table) → Drops (records_in t ++ item ∷ []) (records_in (put_joined plan item t))
@@ -78,7 +78,7 @@ drops-all plan (item ∷ items) t =
     drops-trans (records_in t ++ item ∷ items) (records_in (put_record plan item t) ++ items) (records_in (put_all plan items (put_record plan item t))) first (drops-all plan items (put_record plan item t))
 
 -- operations, however they end
-drops-performed : (plan : Plan) (rose : Bool) (operations : List (RingName × Kind)) (device : Device) (t : Table) (now : PartProgress Table) → TablePerforms plan rose operations device t now → Drops (records_in t) (records_in now.state)
+pub drops-performed : (plan : Plan) (rose : Bool) (operations : List (RingName × Kind)) (device : Device) (t : Table) (now : PartProgress Table) → TablePerforms plan rose operations device t now → Drops (records_in t) (records_in now.state)
 drops-performed plan rose operations device t now did =
     let g = performs-along Dropped (λ operation. operation.1) (effect_within plan) (λ operation u. u)
     (λ operation others s u d. drops-trans (records_in t) (records_in s) (records_in (effect_within plan operation s)) d (effect-drops plan operation.0 operation.1 s))
@@ -130,7 +130,7 @@ module _ (plan : Plan) (given : List Record) (table : Table) where
       (keeps-front (records_in table) (take n given) (drop n given) (records_in after) (drops-some n mid after h drops))
 
   -- .. and then there was one more, of which the put ended somehow
-  keeps-next : (n : ℕ) (item : Record) (mid : Table) → slice_get given n ≡ Some item → HasPut plan given n table mid → (rose : Bool) (device : Device) (now : PartProgress Table) → TablePuts plan rose item device mid now →
+  pub keeps-next : (n : ℕ) (item : Record) (mid : Table) → slice_get given n ≡ Some item → HasPut plan given n table mid → (rose : Bool) (device : Device) (now : PartProgress Table) → TablePuts plan rose item device mid now →
       KeepsOf (records_in table) given (records_in now.state)
   keeps-next n item mid here h rose device now did = by-put (drops-puts plan rose item device mid now did)
     where
@@ -150,7 +150,7 @@ module _ (plan : Plan) (given : List Record) (table : Table) where
           (keeps-front held (take n given ++ item ∷ []) (drop (suc n) given) (records_in now.state) (drops-trans (held ++ (take n given ++ item ∷ [])) (records_in mid ++ item ∷ []) (records_in now.state) all drops))
 
   -- the table, and what is left of it without what is in memory alone
-  both : (after : Table) → KeepsOf (records_in table) given (records_in after) → KeepsOf (records_in table) given (records_in after) × KeepsOf (records_in table) given (records_in (lose after))
+  pub both : (after : Table) → KeepsOf (records_in table) given (records_in after) → KeepsOf (records_in table) given (records_in after) × KeepsOf (records_in table) given (records_in (lose after))
   both after k = (k, keeps-lost (records_in table) given after k)
 
   keeps-broken : (n : ℕ) (item : Record) (mid after : Table) → slice_get given n ≡ Some item → HasPut plan given n table mid → FailsInPut plan item mid after → KeepsOf (records_in table) given (records_in after)

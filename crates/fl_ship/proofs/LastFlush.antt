@@ -22,11 +22,11 @@ use Rattle.fl_table.specs.Outcomes.{BySeals, FaultEnds}
 use Rattle.fl_table.specs.declared.faults.FlushFault.{FlushFault}
 use Rattle.fl_table.specs.declared.faults.FlushFault.TheVariants as flush
 use Rattle.fl_store.proofs.TablesChanged.{off-rests}
-use Rattle.fl_ship.specs.Puts.{AreAccepted, HasPut}
-use Rattle.fl_ship.specs.Rows.{FlushCausedBy, FlushesCopy, PutsWork, RowsPut, RowsShip, RowsWork, ShipsWork, WorksOn}
+use Rattle.fl_ship.specs.Puts.{HasPut}
+use Rattle.fl_ship.specs.Rows.{EndsInFlush, FlushCausedBy, FlushesCopy, PutsWork, RowsPut, RowsShip, RowsWork, ShipsWork, WorksOn}
 use Rattle.fl_ship.specs.declared.fault.ShipFault.{ShipFault}
 use Rattle.fl_ship.specs.declared.fault.ShipFault.TheVariants.{Read, Put, Flush}
-use Rattle.fl_ship.proofs.RowsWork.{puts-accepted, ships-behind}
+use Rattle.fl_ship.proofs.RowsWork.{ships-behind}
 
 never : IsTrue false → ⊥
 never e = cc
@@ -112,13 +112,13 @@ module _ (first : ℕ) (plan : Plan) (table : model.Table) (Told : Type 0) (want
 
   -- ---- whether a cut is armed or not
 
-  module _ (rose : Bool) (device : Device) where
-    pub work-unput : (fault : ShipFault) → RowsWork first plan Told wanted (PutsWork plan rose device table (Err fault)) t g (Err fault) → RowsWork first plan Told wanted (ShipsWork plan rose device table (Err fault)) t g (Err fault)
+  module _ (Taken : ℕ → Type 0) (rose : Bool) (device : Device) where
+    pub work-unput : (fault : ShipFault) → RowsWork first plan Told wanted (PutsWork Taken plan rose device table (Err fault)) t g (Err fault) → RowsWork first plan Told wanted (ShipsWork Taken plan rose device table (Err fault)) t g (Err fault)
     work-unput fault rows =
         let w = rows.works in
         record { given = rows.given; are = rows.are; works = record { now = w.now; did = w.did; ends = w.ends; counts = w.counts; rests = w.rests; stands = w.stands } }
 
-    module _ (n : ℕ) (rows : RowsWork first plan Told wanted (PutsWork plan rose device table (Ok n)) t g (Ok n)) where
+    module _ (n : ℕ) (rows : RowsWork first plan Told wanted (PutsWork Taken plan rose device table (Ok n)) t g (Ok n)) where
       abbrev mid : PartProgress model.Table
       mid = rows.works.now
 
@@ -128,21 +128,21 @@ module _ (first : ℕ) (plan : Plan) (table : model.Table) (Told : Type 0) (want
       ships : (now : PartProgress model.Table) → Flushes now → TableShips plan rose rows.given device table now
       ships now did = subst (λ (l : List Record). TableShips plan rose l device table now) (append-nil rows.given) (ships-behind plan rose rows.given [] device table mid now rows.works.did.1 did)
 
-      accepted : AreAccepted plan rows.given table
-      accepted = puts-accepted plan rose rows.given device table mid rows.works.did.1
+      ends-so : (now : PartProgress model.Table) → Flushes now → EndsInFlush plan rose rows.given device table now
+      ends-so now did = record { mid = mid; before = rows.works.did.1; did = did }
 
-      pub work-done : WorksOn {X = Unit {0}} first plan Flushes v h (Ok tt) → RowsWork first plan Told wanted (ShipsWork plan rose device table (Ok n)) v h (Ok n)
+      pub work-done : WorksOn {X = Unit {0}} first plan Flushes v h (Ok tt) → RowsWork first plan Told wanted (ShipsWork Taken plan rose device table (Ok n)) v h (Ok n)
       work-done w = record {
         given = rows.given;
         are = rows.are;
-        works = record { now = w.now; did = (rows.works.did.0, accepted, ships w.now w.did); ends = w.ends; counts = w.counts; rests = w.rests; stands = w.stands };
+        works = record { now = w.now; did = (rows.works.did.0, ends-so w.now w.did, ships w.now w.did); ends = w.ends; counts = w.counts; rests = w.rests; stands = w.stands };
       }
 
-      pub work-unflushed : (fault : ShipFault) → FlushCausedBy g h fault → WorksOn {X = Unit {0}} first plan Flushes v h (Err fault) → RowsWork first plan Told wanted (ShipsWork plan rose device table (Err fault)) v h (Err fault)
+      pub work-unflushed : (fault : ShipFault) → FlushCausedBy g h fault → WorksOn {X = Unit {0}} first plan Flushes v h (Err fault) → RowsWork first plan Told wanted (ShipsWork Taken plan rose device table (Err fault)) v h (Err fault)
       work-unflushed fault (failed, is, cause) w =
           let x = subst (λ (e : ShipFault). WorksOn {X = Unit {0}} first plan Flushes v h (Err e)) is w in
-          subst (λ (e : ShipFault). RowsWork first plan Told wanted (ShipsWork plan rose device table (Err e)) v h (Err e)) (sym is) (record {
+          subst (λ (e : ShipFault). RowsWork first plan Told wanted (ShipsWork Taken plan rose device table (Err e)) v h (Err e)) (sym is) (record {
             given = rows.given;
             are = rows.are;
-            works = record { now = x.now; did = (accepted, ships x.now x.did); ends = x.ends; counts = x.counts; rests = x.rests; stands = x.stands };
+            works = record { now = x.now; did = (ends-so x.now x.did, ships x.now x.did); ends = x.ends; counts = x.counts; rests = x.rests; stands = x.stands };
           })

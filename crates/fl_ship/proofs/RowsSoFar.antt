@@ -35,7 +35,7 @@ use Rattle.fl_table.specs.declared.faults.PutRefusal.{PutRefusal}
 use Rattle.fl_table.specs.declared.faults.PutRefusal.TheVariants as put
 use Rattle.fl_store.proofs.TablesChanged.{off-rests}
 use Rattle.fl_ship.specs.Puts.{AreAccepted, ComesTo, HasPut, put_all}
-use Rattle.fl_ship.specs.Rows.{ArePut, PutCausedBy, PutsWork, RowsPut, RowsWork, WorkEnds, WorksOn}
+use Rattle.fl_ship.specs.Rows.{ArePut, AreTaken, PutCausedBy, PutsWork, RowsPut, RowsWork, WorkEnds, WorksOn}
 use Rattle.fl_ship.specs.declared.fault.ShipFault.{ShipFault}
 use Rattle.fl_ship.specs.declared.fault.ShipFault.TheVariants.{Read, Put}
 use Rattle.fl_ship.proofs.RowsWork.{puts-push, ships-behind, ships-broken, ships-refused, so-far, so-far-is}
@@ -153,9 +153,12 @@ module _ (Told : Type 0) (all left : List Row) (n count : ℕ) (t : LoggedTable 
   left-behind told = sym (ap (drop n) (far.split told) ∙ drop_at far.done left n far.as_many)
 
   -- a read that fails leaves them
+  pub taken-behind : (fault : ReadFault) (row : Row) (others : List Row) → (Told → Steps (Err fault) left row others) → n < count → AreTaken Told count all others n
+  taken-behind (read.Flash fault) row others steps below = (below, λ told. steps told ∙ left-behind told)
+  taken-behind (read.BadPage bad) row others steps below = (below, λ told. absurd (steps told))
+
   pub unread-behind : (fault : ReadFault) (row : Row) (others : List Row) → (Told → Steps (Err fault) left row others) → n < count → Told → (m : ℕ) × (m < count) × (others ≡ drop m all)
-  unread-behind (read.Flash fault) row others steps below told = (n, below, steps told ∙ left-behind told)
-  unread-behind (read.BadPage bad) row others steps below told = absurd (steps told)
+  unread-behind fault row others steps below told = let taken = taken-behind fault row others steps below in (n, taken.0, taken.1 told)
 
   -- ---- where no cut is armed
 
@@ -205,7 +208,7 @@ module _ (Told : Type 0) (all left : List Row) (n count : ℕ) (t : LoggedTable 
 
     -- ---- whether one is armed or not
 
-    module _ (rose : Bool) (device : Device) (w : IsWatched g h rose device) (stands : Stands t g first plan table) where
+    module _ (Taken : ℕ → Type 0) (rose : Bool) (device : Device) (w : IsWatched g h rose device) (stands : Stands t g first plan table) where
       abbrev so_far : SoFar first plan table rose device (records_of far.done) u h
       so_far = far.puts first plan table rose device w stands
 
@@ -220,24 +223,25 @@ module _ (Told : Type 0) (all left : List Row) (n count : ℕ) (t : LoggedTable 
       }
 
       -- all are put
-      work-all : (Told → records_of far.done ≡ take count (records_of all)) → RowsWork first plan Told (take count (records_of all)) (PutsWork plan rose device table (Ok n)) u h (Ok n)
+      work-all : (Told → records_of far.done ≡ take count (records_of all)) → RowsWork first plan Told (take count (records_of all)) (PutsWork Taken plan rose device table (Ok n)) u h (Ok n)
       work-all are = record { given = records_of far.done; are = are; works = works-so-far (sym many, so_far.did) (refl, so_far.power) }
 
-      pub work-end : (Told → left ≡ []) → RowsWork first plan Told (take count (records_of all)) (PutsWork plan rose device table (Ok n)) u h (Ok n)
+      pub work-end : (Told → left ≡ []) → RowsWork first plan Told (take count (records_of all)) (PutsWork Taken plan rose device table (Ok n)) u h (Ok n)
       work-end none = work-all (λ told. wanted-end (none told) told)
 
-      pub work-whole : n ≡ count → RowsWork first plan Told (take count (records_of all)) (PutsWork plan rose device table (Ok count)) u h (Ok count)
-      work-whole is = subst (λ (k : ℕ). RowsWork first plan Told (take count (records_of all)) (PutsWork plan rose device table (Ok k)) u h (Ok k)) is (work-all (wanted-whole is))
+      pub work-whole : n ≡ count → RowsWork first plan Told (take count (records_of all)) (PutsWork Taken plan rose device table (Ok count)) u h (Ok count)
+      work-whole is = subst (λ (k : ℕ). RowsWork first plan Told (take count (records_of all)) (PutsWork Taken plan rose device table (Ok k)) u h (Ok k)) is (work-all (wanted-whole is))
 
       -- .. or a read failed
-      pub work-unread : (fault : ReadFault) → RowsWork first plan Told (take count (records_of all)) (PutsWork plan rose device table (Err (Read fault))) u h (Err (Read fault))
-      work-unread fault =
+      pub work-unread : (fault : ReadFault) → Taken n → RowsWork first plan Told (take count (records_of all)) (PutsWork Taken plan rose device table (Err (Read fault))) u h (Err (Read fault))
+      work-unread fault taken =
           let behind = drop n (take count (records_of all)) in
           record {
             given = records_of far.done ++ behind;
             are = wanted-then;
             works = works-so-far (
               n,
+              taken,
               (has-front plan (records_of far.done) behind n table many so_far.accepted).few,
               subst (λ (l : List Record). ArePut plan rose l device table (so-far so_far.device (put_all plan (records_of far.done) table))) (sym (take_at (records_of far.done) behind n many)) so_far.did,
             )
@@ -346,9 +350,9 @@ module _ (Told : Type 0) (all left : List Row) (n count : ℕ) (t : LoggedTable 
           by-refusal (put.Blob limit) cause same ends = absurd cause
           by-refusal put.Stopped cause same ends = absurd cause
 
-      pub work-refused : (rose : Bool) (device : Device) → IsWatched g k rose device → Stands t g first plan table →
-          RowsWork first plan Told (take count (records_of all)) (PutsWork plan rose device table (Err (Put refusal))) v k (Err (Put refusal))
-      work-refused rose device w stands = by-refusal refusal cause same (ends first plan x rose so_far.device (watched-then g h k rose device so_far.device w before so_far.power so_far.counts) so_far.stands)
+      pub work-refused : (Taken : ℕ → Type 0) (rose : Bool) (device : Device) → IsWatched g k rose device → Stands t g first plan table →
+          RowsWork first plan Told (take count (records_of all)) (PutsWork Taken plan rose device table (Err (Put refusal))) v k (Err (Put refusal))
+      work-refused Taken rose device w stands = by-refusal refusal cause same (ends first plan x rose so_far.device (watched-then g h k rose device so_far.device w before so_far.power so_far.counts) so_far.stands)
         where
           w-first : IsWatched g h rose device
           w-first = watched-first g h k rose device w goes
@@ -357,7 +361,7 @@ module _ (Told : Type 0) (all left : List Row) (n count : ℕ) (t : LoggedTable 
           so_far = far.puts first plan table rose device w-first stands
 
           Refused : (refusal : PutRefusal) → LoggedTable 64 64 → FlashState → Type 0
-          Refused refusal v k = RowsWork first plan Told (take count (records_of all)) (PutsWork plan rose device table (Err (Put refusal))) v k (Err (Put refusal))
+          Refused refusal v k = RowsWork first plan Told (take count (records_of all)) (PutsWork Taken plan rose device table (Err (Put refusal))) v k (Err (Put refusal))
 
           by-refusal : (refusal : PutRefusal) → PutCausedBy h k refusal → RefusedSame u h refusal v k → PutEnds first plan (record_of row) x rose so_far.device (Err refusal) v h k → Refused refusal v k
           by-refusal put.Spent cause same ends =
@@ -365,7 +369,7 @@ module _ (Told : Type 0) (all left : List Row) (n count : ℕ) (t : LoggedTable 
               (subst (λ (l : LoggedTable 64 64). Refused put.Spent l h) (sym same.0) (record {
                 given = records_of far.done ++ behind;
                 are = wanted-next;
-                works = works-so-far first plan table rose device w-first stands (
+                works = works-so-far first plan table Taken rose device w-first stands (
                   (record_of row, comes so_far, ends),
                   ships-behind plan rose (records_of far.done) behind device table (so-far so_far.device x) (so-far so_far.device x) so_far.did (ships-refused plan rose (record_of row) _ model.Spent so_far.device x ends),
                 )
@@ -378,7 +382,19 @@ module _ (Told : Type 0) (all left : List Row) (n count : ℕ) (t : LoggedTable 
                 are = wanted-next;
                 works = record {
                   now = b.now;
-                  did = ships-behind plan rose (records_of far.done) behind device table (so-far so_far.device x) b.now so_far.did (ships-broken plan rose (record_of row) _ so_far.device x b.now fault k ends.0 b.did b.answer);
+                  did = (
+                    record {
+                      n = n;
+                      item = record_of row;
+                      few = (comes so_far).has_put.few;
+                      next = (comes so_far).next;
+                      mid = so-far so_far.device x;
+                      before = subst (λ (l : List Record). ArePut plan rose l device table (so-far so_far.device x)) (sym (take_at (records_of far.done) behind n many)) so_far.did;
+                      accepted = ends.0;
+                      did = b.did;
+                    },
+                    ships-behind plan rose (records_of far.done) behind device table (so-far so_far.device x) b.now so_far.did (ships-broken plan rose (record_of row) _ so_far.device x b.now fault k ends.0 b.did b.answer),
+                  );
                   ends = b.answer;
                   counts = b.counts;
                   rests = b.rests;

@@ -1,22 +1,24 @@
 -- The work of records that are put one after another, and of the flush behind them, whether a cut is armed or not.
-use Rattle.std.proofs.Common.{◌≡◌, Bool, Option, Some, None, Ok, Err, MatchOption, List, [], ◌∷◌, ◌++◌, take, refl, sym, ap, subst}
+use Rattle.std.proofs.Common.{◌≡◌, ℕ, ◌≤◌, Bool, Option, Some, None, Ok, Err, MatchOption, List, [], ◌∷◌, ◌++◌, length, take, refl, sym, ap, subst, arith}
+use Rattle.std.proofs.lemmas.List.{take_all}
 use Rattle.fl_model.specs.Puts.{TablePuts}
 use Rattle.fl_model.specs.Record.{Record, Plan}
-use Rattle.fl_model.specs.Ship.{records_in}
+use Rattle.fl_model.specs.Ship.{KeepsOf, records_in}
 use Rattle.fl_model.specs.ShipWork.{ShipGoesOn, TableShips}
-use Rattle.fl_model.specs.Table.{Table, Refusal, refusal_of}
+use Rattle.fl_model.specs.Table.{Table, Refusal, refusal_of, table_seals}
+use Rattle.fl_model.specs.Within.{seals_within}
 use Rattle.fl_model.specs.Work.{Device, PartEnd, Whole, CutIn, FailedIn, PartProgress}
 use Rattle.fl_model.proofs.PutAmongTables.{put-whole}
 use Rattle.fl_model.proofs.ShipWork.{drops-none}
-use Rattle.fl_model.proofs.ShipWork as model
 use Rattle.fl_flash.specs.Flash.{FlashState}
 use Rattle.fl_flash.specs.declared.flash.FlashFault.{FlashFault}
 use Rattle.fl_table.specs.Outcomes.{FaultEnds}
+use Rattle.fl_table.specs.declared.faults.FlushFault.TheVariants as flush
 use Rattle.fl_table.specs.declared.faults.PutRefusal.TheVariants as put
 use Rattle.fl_ship.specs.Puts.{AreAccepted, HasPut, put_all}
-use Rattle.fl_ship.specs.Rows.{ArePut, WorkKeeps}
+use Rattle.fl_ship.specs.Rows.{ArePut, EndsInFlush, WorkKeeps}
 use Rattle.fl_ship.specs.declared.fault.ShipFault.TheVariants.{Read, Put, Flush}
-use Rattle.fl_ship.proofs.KeptRecords.{keeps-lost, keeps-some}
+use Rattle.fl_ship.proofs.KeptRecords.{both, drops-performed, keeps-next, keeps-some}
 
 -- so far, and nothing failed
 abbrev pub so-far : Device → Table → PartProgress Table
@@ -79,17 +81,32 @@ module _ (plan : Plan) (rose : Bool) where
       stops (CutIn before) answer = refl
       stops (FailedIn before) answer = refl
 
+  -- they are those that were put
+  pub puts-has : (given : List Record) (n : ℕ) (device : Device) (table : Table) (now : PartProgress Table) → n ≤ length given → ArePut plan rose (take n given) device table now → HasPut plan given n table now.state
+  puts-has given n device table now few puts =
+      record { few = few; accepted = puts-accepted (take n given) device table now puts; after_is = puts-all (take n given) device table now puts }
+
+  -- all of them, and the flush came last
+  flush-keeps : (given : List Record) (device : Device) (table : Table) (now : PartProgress Table) → EndsInFlush plan rose given device table now → KeepsOf (records_in table) given (records_in now.state)
+  flush-keeps given device table now h =
+      let puts : ArePut plan rose (take (length given) given) device table h.mid = subst (λ (l : List Record). ArePut plan rose l device table h.mid) (sym (take_all (length given) given (omega arith))) h.before in
+      keeps-some plan given table (length given) h.mid.state now.state (puts-has given (length given) device table h.mid (omega arith) puts)
+      (drops-performed plan rose (seals_within plan (table_seals plan h.mid.state) h.mid.state) h.mid.device h.mid.state now h.did)
+
 -- what is kept, however it ends
 pub work-keeps : WorkKeeps
-work-keeps plan rose device table (Ok n) given now (number, accepted, ships) = model.keeps plan rose given device table now ships
-work-keeps plan rose device table (Err (Read fault)) given now (n, few, puts) =
-    let has_put : HasPut plan given n table now.state = record { few = few; accepted = puts-accepted plan rose (take n given) device table now puts; after_is = puts-all plan rose (take n given) device table now puts } in
-    keeps-lost (records_in table) given now.state (keeps-some plan given table n now.state now.state has_put (drops-none (records_in now.state)))
-work-keeps plan rose device table (Err (Put put.Spent)) given now (refused, ships) = model.keeps plan rose given device table now ships
-work-keeps plan rose device table (Err (Put (put.Flash fault))) given now ships = model.keeps plan rose given device table now ships
-work-keeps plan rose device table (Err (Put (put.Key last))) given now ships = model.keeps plan rose given device table now ships
-work-keeps plan rose device table (Err (Put (put.Columns wanted))) given now ships = model.keeps plan rose given device table now ships
-work-keeps plan rose device table (Err (Put (put.Value column))) given now ships = model.keeps plan rose given device table now ships
-work-keeps plan rose device table (Err (Put (put.Blob limit))) given now ships = model.keeps plan rose given device table now ships
-work-keeps plan rose device table (Err (Put put.Stopped)) given now ships = model.keeps plan rose given device table now ships
-work-keeps plan rose device table (Err (Flush fault)) given now (accepted, ships) = model.keeps plan rose given device table now ships
+work-keeps plan rose device table (Ok n) given now (number, ends, ships) = both plan given table now.state (flush-keeps plan rose given device table now ends)
+work-keeps plan rose device table (Err (Read fault)) given now (n, taken, few, puts) =
+    both plan given table now.state (keeps-some plan given table n now.state now.state (puts-has plan rose given n device table now few puts) (drops-none (records_in now.state)))
+work-keeps plan rose device table (Err (Put put.Spent)) given now (refused, ships) =
+    let comes = refused.1 in
+    both plan given table now.state (keeps-some plan given table comes.n now.state now.state comes.has_put (drops-none (records_in now.state)))
+work-keeps plan rose device table (Err (Put (put.Flash fault))) given now (ends, ships) =
+    both plan given table now.state (keeps-next plan given table ends.n ends.item ends.mid.state ends.next (puts-has plan rose given ends.n device table ends.mid ends.few ends.before) rose ends.mid.device now ends.did)
+work-keeps plan rose device table (Err (Put (put.Key last))) given now none = absurd none
+work-keeps plan rose device table (Err (Put (put.Columns wanted))) given now none = absurd none
+work-keeps plan rose device table (Err (Put (put.Value column))) given now none = absurd none
+work-keeps plan rose device table (Err (Put (put.Blob limit))) given now none = absurd none
+work-keeps plan rose device table (Err (Put put.Stopped)) given now none = absurd none
+work-keeps plan rose device table (Err (Flush (flush.Flash fault))) given now (ends, ships) = both plan given table now.state (flush-keeps plan rose given device table now ends)
+work-keeps plan rose device table (Err (Flush flush.Stopped)) given now none = absurd none

@@ -1,5 +1,5 @@
 -- How a ship of rows ends, over the flash of the copy.
-use Rattle.std.specs.Prelude.{◌≡◌, ℕ, ◌≤◌, Bool, true, false, IsTrue, Some, None, Result, Ok, Err, List, [], ◌∷◌, length, take}
+use Rattle.std.specs.Prelude.{◌≡◌, ℕ, ◌≤◌, ◌<◌, Bool, true, false, IsTrue, Some, None, Result, Ok, Err, List, [], ◌∷◌, length, take, drop, slice_get}
 use Rattle.fl_flash.specs.Flash.{FlashState}
 use Rattle.fl_flash.specs.declared.flash.FlashFault.{FlashFault}
 use Rattle.fl_flash.specs.declared.flash.FlashFault.TheVariants as flash
@@ -7,21 +7,22 @@ use Rattle.fl_store.specs.Works.{FailsInFlush}
 use Rattle.fl_store.specs.Works.{Works}
 use Rattle.fl_model.specs.Record.{Record, Plan}
 use Rattle.fl_model.specs.Puts.{TablePuts}
+use Rattle.fl_model.specs.Row.{Row}
 use Rattle.fl_model.specs.Ship.{KeepsOf, records_in}
 use Rattle.fl_model.specs.ShipWork.{TableShips}
 use Rattle.fl_model.specs.Table as model
-use Rattle.fl_model.specs.Table.{flushed, lose, refusal_of}
+use Rattle.fl_model.specs.Table.{flushed, lose, refusal_of, table_seals}
 use Rattle.fl_model.specs.Work.{Device, PartEnd, PartProgress, Whole}
 use Rattle.fl_page.specs.Causes.{IsCaused}
 use Rattle.fl_frame.specs.Causes.{CausedBy}
 use Rattle.fl_frame.specs.Device.{SameDevice}
 use Rattle.fl_rlc.specs.Logged.{Rests, Stands}
 use Rattle.fl_rlc.specs.declared.table.LoggedTable.{LoggedTable}
-use Rattle.fl_table.specs.Outcomes.{FaultEnds}
+use Rattle.fl_table.specs.Outcomes.{BySeals, FaultEnds}
 use Rattle.fl_table.specs.declared.faults.FlushFault.TheVariants as flush
 use Rattle.fl_table.specs.declared.faults.PutRefusal.{PutRefusal}
 use Rattle.fl_table.specs.declared.faults.PutRefusal.TheVariants as put
-use Rattle.fl_ship.specs.Puts.{AreAccepted, ComesTo, HasPut, ShipsGiven}
+use Rattle.fl_ship.specs.Puts.{ComesTo, HasPut, ShipsGiven}
 use Rattle.fl_ship.specs.declared.fault.ShipFault.{ShipFault}
 use Rattle.fl_ship.specs.declared.fault.ShipFault.TheVariants.{Read, Put, Flush}
 
@@ -99,20 +100,47 @@ ArePut plan rose (item ∷ items) device table now =
     (refusal_of plan table item ≡ None)
     × ((mid : PartProgress model.Table) × TablePuts plan rose item device table mid × (mid.end ≡ Whole) × ArePut plan rose items mid.device mid.state now)
 
--- The work on the copy of a ship of these records, by its answer. Where a read of the source failed, those before it were put, and
+-- The put of one of these records came last, behind those before it.
+pub record EndsInPut (plan : Plan) (rose : Bool) (given : List Record) (device : Device) (table : model.Table) (now : PartProgress model.Table) : Type 0 where
+  pub n : ℕ
+  pub item : Record
+  pub few : n ≤ length given
+  pub next : slice_get given n ≡ Some item
+  pub mid : PartProgress model.Table
+  pub before : ArePut plan rose (take n given) device table mid
+  pub accepted : refusal_of plan mid.state item ≡ None
+  pub did : TablePuts plan rose item mid.device mid.state now
+
+-- All of them were put, and the flush came last.
+pub record EndsInFlush (plan : Plan) (rose : Bool) (given : List Record) (device : Device) (table : model.Table) (now : PartProgress model.Table) : Type 0 where
+  pub mid : PartProgress model.Table
+  pub before : ArePut plan rose given device table mid
+  pub did : BySeals plan (table_seals plan mid.state) mid.state rose mid.device now
+
+-- So many rows were taken, fewer than are asked for; where they are told, these are left.
+abbrev pub AreTaken : Type 0 → ℕ → List Row → List Row → ℕ → Type 0
+AreTaken Told count all left n = (n < count) × (Told → left ≡ drop n all)
+
+-- The work on the copy of a ship of these records, by its answer. Where a read of the source failed, those that were taken were put, and
 -- nothing was flushed.
-abbrev pub ShipsWork : Plan → Bool → Device → model.Table → Result ℕ ShipFault → List Record → PartProgress model.Table → Type 0
-ShipsWork plan rose device table (Ok n) given now = (n ≡ length given) × AreAccepted plan given table × TableShips plan rose given device table now
-ShipsWork plan rose device table (Err (Read fault)) given now = (n : ℕ) × (n ≤ length given) × ArePut plan rose (take n given) device table now
-ShipsWork plan rose device table (Err (Put put.Spent)) given now =
+abbrev pub ShipsWork : (ℕ → Type 0) → Plan → Bool → Device → model.Table → Result ℕ ShipFault → List Record → PartProgress model.Table → Type 0
+ShipsWork Taken plan rose device table (Ok n) given now = (n ≡ length given) × EndsInFlush plan rose given device table now × TableShips plan rose given device table now
+ShipsWork Taken plan rose device table (Err (Read fault)) given now = (n : ℕ) × Taken n × (n ≤ length given) × ArePut plan rose (take n given) device table now
+ShipsWork Taken plan rose device table (Err (Put put.Spent)) given now =
     ((item : Record) × ComesTo plan given table item now.state × (refusal_of plan now.state item ≡ Some model.Spent)) × TableShips plan rose given device table now
-ShipsWork plan rose device table (Err (Put refusal)) given now = TableShips plan rose given device table now
-ShipsWork plan rose device table (Err (Flush fault)) given now = AreAccepted plan given table × TableShips plan rose given device table now
+ShipsWork Taken plan rose device table (Err (Put (put.Flash fault))) given now = EndsInPut plan rose given device table now × TableShips plan rose given device table now
+ShipsWork Taken plan rose device table (Err (Put (put.Key last))) given now = ⊥
+ShipsWork Taken plan rose device table (Err (Put (put.Columns wanted))) given now = ⊥
+ShipsWork Taken plan rose device table (Err (Put (put.Value column))) given now = ⊥
+ShipsWork Taken plan rose device table (Err (Put (put.Blob limit))) given now = ⊥
+ShipsWork Taken plan rose device table (Err (Put put.Stopped)) given now = ⊥
+ShipsWork Taken plan rose device table (Err (Flush (flush.Flash fault))) given now = EndsInFlush plan rose given device table now × TableShips plan rose given device table now
+ShipsWork Taken plan rose device table (Err (Flush flush.Stopped)) given now = ⊥
 
 -- .. and the same before its flush
-abbrev pub PutsWork : Plan → Bool → Device → model.Table → Result ℕ ShipFault → List Record → PartProgress model.Table → Type 0
-PutsWork plan rose device table (Ok n) given now = (n ≡ length given) × ArePut plan rose given device table now
-PutsWork plan rose device table (Err fault) given now = ShipsWork plan rose device table (Err fault) given now
+abbrev pub PutsWork : (ℕ → Type 0) → Plan → Bool → Device → model.Table → Result ℕ ShipFault → List Record → PartProgress model.Table → Type 0
+PutsWork Taken plan rose device table (Ok n) given now = (n ≡ length given) × ArePut plan rose given device table now
+PutsWork Taken plan rose device table (Err fault) given now = ShipsWork Taken plan rose device table (Err fault) given now
 
 -- an operation of the copy failed, as is answered; or none did
 abbrev pub WorkEnds : {X : Type 0} → Result X ShipFault → PartEnd model.Table → FlashState → Type 0
@@ -135,9 +163,9 @@ pub record RowsWork (first : ℕ) (plan : Plan) (Told : Type 0) (wanted : List R
   pub are : Told → given ≡ wanted
   pub works : WorksOn first plan (Did given) t g result
 
--- However that work ends, also by a cut, the table keeps a front of what it had and was given, without its oldest records, once
--- nothing is in memory.
+-- However that work ends, also by a cut, and however many were taken, the table keeps a front of what it had and was given, without its
+-- oldest records, also once nothing is in memory.
 abbrev pub WorkKeeps : Type 0
 WorkKeeps =
     (plan : Plan) (rose : Bool) (device : Device) (table : model.Table) (result : Result ℕ ShipFault) (given : List Record) (now : PartProgress model.Table) →
-    ShipsWork plan rose device table result given now → KeepsOf (records_in table) given (records_in (lose now.state))
+    ShipsWork (λ n. Unit {0}) plan rose device table result given now → KeepsOf (records_in table) given (records_in now.state) × KeepsOf (records_in table) given (records_in (lose now.state))

@@ -10,7 +10,7 @@ pub fn ships_keep()
 {}
 
 /// However the work of a ship on its copy ends, also by a cut, the copy's table keeps a front of what it had and was given, without
-/// its oldest records, once nothing is in memory.
+/// its oldest records, also once nothing is in memory.
 pub fn work_keeps()
     ensures { WorkKeeps }
 {}

@@ -22,7 +22,7 @@ ghost use Rattle.fl_table.specs.Causes.{put_breaks};
 ghost use Rattle.fl_table.specs.Look.{last_key_in, layout_in};
 ghost use Rattle.fl_table.specs.Outcomes.{BySeals};
 ghost use Rattle.fl_table.specs.declared.faults.PutRefusal.{PutRefusal};
-ghost use Rattle.fl_ship.specs.Rows.{goes_on, FlushCausedBy, FlushesCopy, PutCausedBy, PutsWork, RowsPut, RowsShip, RowsWork, ShipCausedBy, ShipsWork, WorksOn};
+ghost use Rattle.fl_ship.specs.Rows.{goes_on, AreTaken, FlushCausedBy, FlushesCopy, PutCausedBy, PutsWork, RowsPut, RowsShip, RowsWork, ShipCausedBy, ShipsWork, WorksOn};
 ghost use Rattle.fl_ship.specs.declared.fault.ShipFault.{ShipFault};
 
 use crate::ShipFault;
@@ -81,7 +81,7 @@ fn put_rows<A: Flash, B: Flash, R: Rows<A>>(
     ensures puts { (first : ℕ) (plan : Plan) (t : model.Table) → Works to.old (B.state onto.old) first plan t
         → RowsPut first plan t (R.told rows.old (contents_of (A.state from.old))) (take count (records_of (R.left rows.old (contents_of (A.state from.old))))) to.new (B.state onto.new) result }
     ensures cut { (first : ℕ) (plan : Plan) (t : model.Table) (rose : Bool) (device : Device) → IsWatched (B.state onto.old) (B.state onto.new) rose device → Stands to.old (B.state onto.old) first plan t
-        → RowsWork first plan (R.told rows.old (contents_of (A.state from.old))) (take count (records_of (R.left rows.old (contents_of (A.state from.old))))) (PutsWork plan rose device t result) to.new (B.state onto.new) result }
+        → RowsWork first plan (R.told rows.old (contents_of (A.state from.old))) (take count (records_of (R.left rows.old (contents_of (A.state from.old))))) (PutsWork (AreTaken (R.told rows.old (contents_of (A.state from.old))) count (R.left rows.old (contents_of (A.state from.old))) (R.left rows.new (contents_of (A.state from.old)))) plan rose device t result) to.new (B.state onto.new) result }
     ensures none_bad { R.told rows.old (contents_of (A.state from.old)) → (bad : BadPage) → result ≡ Err (ShipFault.Read (ReadFault.BadPage bad)) → ⊥ }
     ensures number { R.told rows.old (contents_of (A.state from.old)) → IfOk result (λ shipped. shipped ≡ length (take count (R.left rows.old (contents_of (A.state from.old))))) }
     ensures cause { IfErr result (ShipCausedBy (A.state from.old) (A.state from.new) (B.state onto.old) (B.state onto.new)) }
@@ -149,9 +149,9 @@ pub fn ship_rows<A: Flash, B: Flash, R: Rows<A>>(
     ensures ships { (first : ℕ) (plan : Plan) (t : model.Table) → Works to.old (B.state onto.old) first plan t
         → RowsShip first plan t (R.told rows.old (contents_of (A.state from.old))) (take count (records_of (R.left rows.old (contents_of (A.state from.old))))) to.new (B.state onto.new) result }
     // Also where a cut is armed, just the work of this ship is done, as far as is answered; where a read of the source fails, the rows
-    // before it are put, and nothing is flushed. So the copy keeps a front of what it had and was given, without its oldest records.
+    // that were taken are put, and nothing is flushed. So the copy keeps a front of what it had and was given, without its oldest records.
     ensures cut { (first : ℕ) (plan : Plan) (t : model.Table) (rose : Bool) (device : Device) → IsWatched (B.state onto.old) (B.state onto.new) rose device → Stands to.old (B.state onto.old) first plan t
-        → RowsWork first plan (R.told rows.old (contents_of (A.state from.old))) (take count (records_of (R.left rows.old (contents_of (A.state from.old))))) (ShipsWork plan rose device t result) to.new (B.state onto.new) result }
+        → RowsWork first plan (R.told rows.old (contents_of (A.state from.old))) (take count (records_of (R.left rows.old (contents_of (A.state from.old))))) (ShipsWork (AreTaken (R.told rows.old (contents_of (A.state from.old))) count (R.left rows.old (contents_of (A.state from.old))) (R.left rows.new (contents_of (A.state from.old)))) plan rose device t result) to.new (B.state onto.new) result }
     // Rows that are told have no bad page, and are as many as they are.
     ensures none_bad { R.told rows.old (contents_of (A.state from.old)) → (bad : BadPage) → result ≡ Err (ShipFault.Read (ReadFault.BadPage bad)) → ⊥ }
     ensures number { R.told rows.old (contents_of (A.state from.old)) → IfOk result (λ shipped. shipped ≡ length (take count (R.left rows.old (contents_of (A.state from.old))))) }

@@ -34,7 +34,7 @@ use Rattle.fl_ring.specs.Place.{shape_of, next_of, oldest_of}
 use Rattle.fl_ring.specs.Ring.{Shape, place}
 use Rattle.fl_ring.specs.declared.ring.Ring.{Ring}
 use Rattle.fl_schema.specs.Schema.{layout_of}
-use Rattle.fl_search.specs.Search.{Ascends, IsPageOf}
+use Rattle.fl_search.specs.Search.{Ascends, IsPageOf, starts_by}
 use Rattle.fl_table.specs.Finding.{AnswersInPages, AnswersPending, EndsOn, Finds, HasKeyAt, IsRowAt, HoldsIts, HoldsKept, HasBadPage, IsPageFor, LookupFails, first_at, rows_at as rows_of_page, window_in}
 use Rattle.fl_table.specs.Look.{buffered_rows, layout_in, oldest_in}
 use Rattle.fl_table.specs.Memory.{next_in, IsPlanned, LiesOn}
@@ -177,14 +177,25 @@ module _ {KNOTS SLOTS : ℕ} (t : Table KNOTS SLOTS) (ring : Ring) (f : FlashSta
       (subst (λ o. IsPageOf (first_at t f) o end key page) (sym (oldest-in t ring is))
       (subst (λ (first : ℕ → Option ℕ). IsPageOf first (oldest_of ring) end key page) (sym firsts-in) h))
 
-  pub page-for : (result : Result (Option ℕ) ReadFault) → IsTrue f.media.tells →
+  begins-in : (page : Option ℕ) → IfSome page (λ number. (oldest_of ring ≤ number) × (number < next_of ring)) → IfSome page (λ number. starts_by (first_on (layout_in t) (shape_of ring) f) key number ≡ true) →
+      IfSome page (λ number. (oldest_in t ≤ number) × (number < next_in t) × (starts_by (first_at t f) key number ≡ true))
+  begins-in None kept starts = tt
+  begins-in (Some number) kept starts = (
+    omega (arith, oldest-in t ring is, kept.0),
+    omega (arith, next-in t ring is, kept.1),
+    subst (λ (first : ℕ → Option ℕ). starts_by first key number ≡ true) (sym firsts-in) starts,
+  )
+
+  pub page-for : (result : Result (Option ℕ) ReadFault) → IsTrue f.media.tells → IfOk result (λ page. IfSome page (λ number. (oldest_of ring ≤ number) × (number < next_of ring))) →
+      (IsTrue f.media.tells → IfOk result (λ page. IfSome page (λ number. starts_by (first_on (layout_in t) (shape_of ring) f) key number ≡ true))) →
       (is_covered (knots_in t.index) key ≡ true → IsTrue f.media.tells → IfOk result (λ page. IsPageOf (first_on (layout_in t) (shape_of ring) f) (oldest_of ring) (window_end t.index (next_of ring) key) key page)) →
       ((page : Option ℕ) → is_covered (knots_in t.index) key ≡ true → IsTrue f.media.tells → IsPageOf (first_on (layout_in t) (shape_of ring) f) (oldest_of ring) (window_end t.index (next_of ring) key) key page →
       OnOk result (find.NoneIsBad (layout_in t) ring f (unwrap_or page (oldest_of ring)) (window_end t.index (next_of ring) key))) →
       (is_covered (knots_in t.index) key ≡ false → IsTrue f.media.tells → Ascends (first_on (layout_in t) (shape_of ring) f) (oldest_of ring) (next_of ring) →
       IfOk result (λ page. IsPageOf (first_on (layout_in t) (shape_of ring) f) (oldest_of ring) (next_of ring) key page)) →
       IfOk result (IsPageFor t (page_at f) key)
-  page-for (Ok page) told near sound far = record {
+  page-for (Ok page) told kept starts near sound far = record {
+    begins = begins-in page kept (starts told);
     near = λ covered. ring-page (window_in t key) (window_end t.index (next_of ring) key) page window-is (near covered told);
     sound = λ covered n from before bad is_bad. sound page covered told (near covered told) n
         (subst (λ o. unwrap_or page o ≤ n) (oldest-in t ring is) from) (subst (λ e. n < e) window-is before) bad
@@ -193,7 +204,7 @@ module _ {KNOTS SLOTS : ℕ} (t : Table KNOTS SLOTS) (ring : Ring) (f : FlashSta
         (subst (λ (first : ℕ → Option ℕ). Ascends first (oldest_of ring) (next_of ring)) firsts-in
         (subst (λ o. Ascends (first_at t f) o (next_of ring)) (oldest-in t ring is) (subst (λ n. Ascends (first_at t f) (oldest_in t) n) (next-in t ring is) up))));
   }
-  page-for (Err e) told near sound far = tt
+  page-for (Err e) told kept starts near sound far = tt
 
 -- the row that was found has the key
 has-key : (rows : List Row) (key row : ℕ) → HasKey rows key row → option_map (λ (r : Row). r.key) (slice_get rows row) ≡ Some key

@@ -21,7 +21,7 @@ use Rattle.fl_model.specs.Facts.{is_some_ring}
 use Rattle.fl_ring.specs.Place.{next_of, oldest_of}
 use Rattle.fl_ring.specs.declared.ring.Ring.{Ring}
 use Rattle.fl_table.specs.Bitmaps as numbers
-use Rattle.fl_table.specs.Bitmaps.{AreStillFound, StaysFound, ArePlanned, AreSamePlan, AreSameRing, AreRunning, AreBroken, EndAt, RingGoesOn, RoomMade, LieOn, Stand, HaveRoom, NumberLeft, AreNoted}
+use Rattle.fl_table.specs.Bitmaps.{AreStillFound, StaysFound, ArePlanned, AreSamePlan, AreSameRing, AreRunning, AreBroken, EndAt, FirstsGoOn, RingGoesOn, RoomMade, LieOn, Stand, HaveRoom, NumberLeft, AreNoted}
 use Rattle.fl_table.specs.Pages.{bytes_in}
 use Rattle.fl_table.proofs.ListsStay.{has-index, ring-moved}
 use Rattle.fl_table.proofs.Plain.{IsPlainTable, IsIndexed}
@@ -159,6 +159,20 @@ still-oldest None (Some new) same = absurd same
 still-oldest (Some old) None same = absurd same
 still-oldest (Some old) (Some new) same = ap (λ (o : Option Ring). unwrap_or (option_map (λ ring. oldest_of ring) o) 0) same.ring
 
+firsts-stay : (old mid new : Option BitmapIndex) → FirstsGoOn old mid → AreSameRing mid new → FirstsGoOn old new
+firsts-stay None mid new h still = tt
+firsts-stay (Some old) None new h still = absurd h
+firsts-stay (Some old) (Some mid) None h still = absurd still
+firsts-stay (Some old) (Some mid) (Some new) h still = ap (λ v. v.items) still.firsts ∙ h
+
+-- a seal of the index, and then calls that leave its ring
+pub ring-stays : (old mid before new : Option BitmapIndex) → RingGoesOn old mid → before ≡ mid → AreSameRing before new → RingGoesOn old new
+ring-stays old mid before new h same still = record {
+  next = still-next before new still ∙ (ap numbers.next_of same ∙ h.next);
+  oldest = still-oldest before new still ∙ (ap numbers.oldest_of same ∙ h.oldest);
+  firsts = firsts-stay old mid new h.firsts (subst (λ (o : Option BitmapIndex). AreSameRing o new) same still);
+}
+
 pub still-few : (n : ℕ) (old new : Option BitmapIndex) → AreSamePlan old new → ForSome old (λ index. n ≤ 65536) → ForSome new (λ index. n ≤ 65536)
 still-few n None None same h = h
 still-few n None (Some new) same h = absurd same
@@ -200,9 +214,9 @@ made-next (Some old) (Some new) made = by_full (waiting_in old == per_page old) 
     by_full false e = omega (arith, e)
 
 pub made-sealed : (old new : Option BitmapIndex) → RoomMade old new → RingGoesOn old new
-made-sealed None new made = record { next = ap numbers.next_of made; oldest = ap numbers.oldest_of made }
+made-sealed None new made = record { next = ap numbers.next_of made; oldest = ap numbers.oldest_of made; firsts = tt }
 made-sealed (Some old) None made = absurd made
-made-sealed (Some old) (Some new) made = record { next = by_full (waiting_in old == per_page old) made.number; oldest = made.oldest }
+made-sealed (Some old) (Some new) made = record { next = by_full (waiting_in old == per_page old) made.number; oldest = made.oldest; firsts = made.firsts }
   where
     by_full : (b : Bool) → memory.next_in new ≡ cond b (memory.next_in old + 1) (memory.next_in old) → memory.next_in new ≡ memory.next_in old + (cond b 1 0)
     by_full true e = e

@@ -15,7 +15,7 @@ use Rattle.fl_table.specs.ByEntries.{Come, facts_on, rows_of, voids_of}
 use Rattle.fl_table.specs.Coming.{WaitUnlisted, most_in}
 use Rattle.fl_table.specs.Knowing.{IsLearned, KnowsWith}
 use Rattle.fl_table.specs.Look.{counts_in, kept_counts, oldest_in, rows_noted}
-use Rattle.fl_table.specs.Memory.{next_in, pending_in, NothingWaits}
+use Rattle.fl_table.specs.Memory.{next_in, pending_in, IsSamePlan, NothingWaits}
 use Rattle.fl_table.specs.Mounting.{FindsData, FindsRows, HasLearned, RemembersKept, comes_in}
 use Rattle.fl_table.specs.Reading.{pages_of}
 use Rattle.fl_table.specs.declared.counts.Mounted.{Mounted}
@@ -84,12 +84,13 @@ module _ {KNOTS SLOTS : ℕ} (error : ℕ) (t : Come) (u : Table KNOTS SLOTS) (h
       at total = ap (λ (o : ℕ). total o t.pages) begin ∙ ap (total (oldest_of ring)) pages
 
 -- what a mount found of a table without its index
-pub finds-rows : {KNOTS SLOTS : ℕ} (t : Table KNOTS SLOTS) (bitmaps : Option BitmapIndex) (f : FlashState) (least : ℕ) (mounted : Mounted) (now : Table KNOTS SLOTS) (new : FlashState) (ring : Ring) (end : ℕ) (between : FlashState) → now.ring ≡ Some ring →
+pub finds-rows : {KNOTS SLOTS : ℕ} (t : Table KNOTS SLOTS) (bitmaps : Option BitmapIndex) (f : FlashState) (least : ℕ) (mounted : Mounted) (now : Table KNOTS SLOTS) (new : FlashState) (ring : Ring) (end : ℕ) (between : FlashState) → IsSamePlan t now → now.ring ≡ Some ring →
     FindsData t bitmaps f least ring mounted now.last_key end between → WaitUnlisted (comes_in t bitmaps ring between) (pages_of ring between) bitmaps least (next_of ring) now.bitmaps → RemembersKept bitmaps between now.bitmaps →
     NothingWaits now → HasLearned (error_in t.index) (comes_in t bitmaps ring between) now → FindsBlobs t.blobs between (least_of end) now.blobs new → AreBelow end now.blobs → FindsRows t bitmaps f least mounted now new
-finds-rows t bitmaps f least mounted now new ring end between is pages waits firsts empty learned blobs below =
+finds-rows t bitmaps f least mounted now new ring end between same is pages waits firsts empty learned blobs below =
     let rows = come-rows (layout_of t.schema) (most_in t.geometry.page (layout_of t.schema)) bitmaps ring between in
     record {
+      plan = same;
       ring = ring;
       ring_is = is;
       end = end;

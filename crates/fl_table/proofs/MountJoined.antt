@@ -57,7 +57,7 @@ use Rattle.fl_table.proofs.MountLimits.{done-repaired, index-within, limit-bare,
 use Rattle.fl_table.proofs.MountIndexed.{index-fails, index-mounts, then-rows}
 use Rattle.fl_table.proofs.Plain.{IsPlainTable, none-listed, table-parts}
 use Rattle.fl_table.proofs.Repaired.{lost-idle}
-use Rattle.fl_table.proofs.SealAnswers.{planned-shape}
+use Rattle.fl_table.proofs.SealAnswers.{planned-shape, same-then}
 
 module _ {KNOTS SLOTS : ℕ} (t : code.Table KNOTS SLOTS) (old new : FlashState) (first : ℕ) (plan : Plan) (table : Table) (rose : Bool) (device : Device) (planned : IsPlanned t first plan) (rests : Rests old first plan table) (watched : IsWatched old new rose device) where
   facts : IsPlainTable plan table
@@ -227,6 +227,7 @@ data_as t t1 bitmaps f least ring mounted last end new same h =
 pub finds-as : {KNOTS SLOTS : ℕ} (t t1 : code.Table KNOTS SLOTS) (bitmaps : Option BitmapIndex) (f : FlashState) (was least : ℕ) (mounted : Found) (now : code.Table KNOTS SLOTS) (new : FlashState) → FindsRows t1 bitmaps f was mounted now new → IsSamePlan t t1 →
     t1.blobs ≡ t.blobs → was ≡ least → FindsRows t bitmaps f least mounted now new
 finds-as t t1 bitmaps f was least mounted now new h same blobs e = subst (λ (n : ℕ). FindsRows t bitmaps f n mounted now new) e (record {
+  plan = same-then t t1 now same h.plan;
   ring = h.ring;
   ring_is = h.ring_is;
   end = h.end;

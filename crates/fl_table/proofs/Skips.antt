@@ -10,8 +10,8 @@ use Rattle.fl_flash.specs.Buffer.{BufferState}
 use Rattle.fl_flash.specs.Flash.{FlashState, page_at}
 use Rattle.fl_index.specs.Looking as looking
 use Rattle.fl_index.specs.Looking.{ByMemory, IfBad, IfRead, HoldsGood, IsFresh, IsScanning, ScansOn, TellsRows, entire, entry_of, is_looked_at, listing_by, looked_at, next_to_read, unread, due, ShowsEntry}
-use Rattle.fl_index.specs.Memory.{first_waiting, form_in, found_waiting, is_waiting, next_in, oldest_in, per_page, place_in}
-use Rattle.fl_index.specs.Page.{IsGoodPage, fields_of, found_at}
+use Rattle.fl_index.specs.Memory.{first_waiting, form_in, found_waiting, is_waiting, listing_in, next_in, oldest_in, per_page, place_in}
+use Rattle.fl_index.specs.Page.{IsGoodPage, fields_of, found_at, page_number}
 use Rattle.fl_index.specs.declared.index.BitmapIndex.{BitmapIndex}
 use Rattle.fl_index.specs.declared.page.Found.{Found}
 use Rattle.fl_index.specs.declared.page.Full.{Full}
@@ -29,7 +29,7 @@ use Rattle.fl_page.specs.declared.fault.ReadFault.{ReadFault}
 use Rattle.fl_page.specs.declared.fault.ReadFault.TheVariants.{Flash, BadPage}
 use Rattle.fl_index.specs.Standing as standing
 use Rattle.fl_table.specs.Bitmaps.{ArePlanned, Stand}
-use Rattle.fl_table.specs.Skipping.{AreFresh, AreScanning, HoldGood, IsBadIndex, IsEntryOf, IsToldBy, LooksOn, ShowsPage, ahead_by, ahead_of, begins_above, due_of, mask_for}
+use Rattle.fl_table.specs.Skipping.{AreFresh, AreScanning, HoldGood, IsBadIndex, IsEntryOf, IsLookedUp, IsToldBy, LooksOn, ShowsPage, ahead_by, ahead_of, begins_above, due_of, mask_for}
 use Rattle.fl_table.specs.declared.look_ahead.Ahead.{Ahead}
 use Rattle.fl_table.specs.declared.look_ahead.Ahead.TheVariants.{Wanted, Missed, Beyond}
 use Rattle.fl_table.specs.Standing.{Stands}
@@ -231,3 +231,61 @@ told-by bitmaps buckets asked index span is is_span f top number before new afte
           reads,
       by,
     ))
+
+-- nothing is looked up where no value is asked for, or where there is no index
+pub unasked-up : (bitmaps : Option BitmapIndex) (page : ℕ → List ℕ) (asked : Option Span) (number : ℕ) → asked ≡ None → IsLookedUp bitmaps page asked number
+unasked-up None page None number is = tt
+unasked-up (Some index) page None number is = tt
+unasked-up bitmaps page (Some span) number is = absurd (some is)
+  where
+    some : Some span ≡ None → ⊥
+    some e = cc
+
+pub unindexed-up : (bitmaps : Option BitmapIndex) (page : ℕ → List ℕ) (asked : Option Span) (number : ℕ) → bitmaps ≡ None → IsLookedUp bitmaps page asked number
+unindexed-up None page None number is = tt
+unindexed-up None page (Some span) number is = tt
+unindexed-up (Some index) page asked number is = absurd (some is)
+  where
+    some : Some index ≡ None → ⊥
+    some e = cc
+
+-- an index page that was looked at isn't bad
+module _ (index : BitmapIndex) (f : FlashState) (number : ℕ) (before : BufferState) (after : BufferState) (told : IsTrue f.media.tells) (fresh : IsFresh index f before) where
+  not-bad : (answer : Option Found) (listing : ℕ) → looking.IsFound entire index listing number after.bytes (Ok answer) → after.bytes ≡ page_at f (place_in index listing) → state_of_page (page_at f (place_in index listing)) ≡ Committed →
+      IsGoodPage (per_page index) listing (page_at f (place_in index listing))
+  not-bad None listing tells bytes committed = absurd (tells (ap state_of_page bytes ∙ committed))
+  not-bad (Some found) listing tells bytes committed = subst (IsGoodPage (per_page index) listing) bytes tells.1
+
+  up-is : (answer : Option Found) (span : Span) → IfSome (looked_at index number before) (λ listing. looking.IsFound entire index listing number after.bytes (Ok answer)) →
+      IfSome (looked_at index number before) (λ listing. IsTrue f.media.tells → IsFresh index f before → IfRead {X = Option Found} (Ok answer) (after.bytes ≡ page_at f (place_in index listing))) → IsLookedUp (Some index) (page_at f) (Some span) number
+  up-is answer span tells reads = by_waiting (is_waiting index number) refl
+    where
+      by_listing : (o : Option ℕ) → listing_by index number before ≡ o → IfSome o (λ listing. looking.IsFound entire index listing number after.bytes (Ok answer)) →
+          IfSome o (λ listing. IsTrue f.media.tells → IsFresh index f before → IfRead {X = Option Found} (Ok answer) (after.bytes ≡ page_at f (place_in index listing))) → IsLookedUp (Some index) (page_at f) (Some span) number
+      by_listing None is tells reads = inr (inl (by_held (looking.held_lists index number before) is))
+        where
+          by_held : (b : Bool) → cond b (Some (page_number before.bytes)) (listing_in index number) ≡ None → listing_in index number ≡ None
+          by_held true e = absurd (some e)
+            where
+              some : Some (page_number before.bytes) ≡ None → ⊥
+              some e = cc
+          by_held false e = e
+      by_listing (Some listing) is tells reads =
+          let at = listed-by index number listing before is in
+          inr (inr (listing, record { kept = at.kept; lists_it = at.here; sound = not-bad answer listing tells (reads told fresh) }))
+
+      by_waiting : (b : Bool) → is_waiting index number ≡ b → IsLookedUp (Some index) (page_at f) (Some span) number
+      by_waiting true is = inl is
+      by_waiting false is =
+          let same : looked_at index number before ≡ listing_by index number before = ap (λ (b : Bool). cond b None (listing_by index number before)) is in
+          by_listing (listing_by index number before) refl (subst (λ (o : Option ℕ). IfSome o (λ listing. looking.IsFound entire index listing number after.bytes (Ok answer))) same tells)
+          (subst (λ (o : Option ℕ). IfSome o (λ listing. IsTrue f.media.tells → IsFresh index f before → IfRead {X = Option Found} (Ok answer) (after.bytes ≡ page_at f (place_in index listing)))) same reads)
+
+-- .. nor is that of the entry that was answered, or of none
+pub looked-up : (bitmaps : Option BitmapIndex) (asked : Option Span) (index : BitmapIndex) (span : Span) (is : bitmaps ≡ Some index) (is_span : asked ≡ Some span) (f : FlashState) (number : ℕ) (before : BufferState) (after : BufferState)
+    (answer : Option Found) → IsTrue f.media.tells → AreFresh bitmaps f before → IfSome (looked_at index number before) (λ listing. looking.IsFound entire index listing number after.bytes (Ok answer)) →
+    IfSome (looked_at index number before) (λ listing. IsTrue f.media.tells → IsFresh index f before → IfRead {X = Option Found} (Ok answer) (after.bytes ≡ page_at f (place_in index listing))) → IsLookedUp bitmaps (page_at f) asked number
+looked-up bitmaps asked index span is is_span f number before after answer told fresh tells reads =
+    subst (λ (s : Option Span). IsLookedUp bitmaps (page_at f) s number) (sym is_span)
+    (subst (λ (o : Option BitmapIndex). IsLookedUp o (page_at f) (Some span) number) (sym is)
+    (up-is index f number before after told (subst (λ (o : Option BitmapIndex). AreFresh o f before) is fresh) answer span tells reads))

@@ -1,5 +1,5 @@
 -- What a lookup in a table finds, and how many pages it reads.
-use Rattle.std.specs.Prelude.{◌≡◌, ℕ, ◌-◌, ◌<◌, ◌≤◌, nat_le, Bool, true, false, Option, Some, None, option_map, unwrap_or, List, IsTrue, length, Result, Ok, Err, slice_get, map, if◌then◌else◌}
+use Rattle.std.specs.Prelude.{◌≡◌, ℕ, ◌-◌, ◌<◌, ◌≤◌, nat_le, Bool, true, false, Option, Some, None, IfSome, option_map, unwrap_or, List, IsTrue, length, Result, Ok, Err, slice_get, map, if◌then◌else◌}
 use Rattle.fl_find.specs.Index.{knots_in, most_reads, shift_in, window_end}
 use Rattle.fl_find.specs.Looking.{IsSound}
 use Rattle.fl_find.specs.Pages.{first_key, rows_on, IsBadPage}
@@ -22,7 +22,7 @@ use Rattle.fl_page.specs.declared.fault.ReadFault.TheVariants as fault
 use Rattle.fl_radix.specs.Slots as radix
 use Rattle.fl_radix.specs.Slots.{knots_in_slot, IsLeastShift}
 use Rattle.fl_frame.specs.Causes.{ReadFails}
-use Rattle.fl_search.specs.Search.{Ascends, IsPageOf, RoseBy, RoseSome}
+use Rattle.fl_search.specs.Search.{Ascends, IsPageOf, RoseBy, RoseSome, starts_by}
 use Rattle.fl_table.specs.Kept.{place_of}
 use Rattle.fl_table.specs.Look.{buffered_rows, layout_in, oldest_in, voids_noted}
 use Rattle.fl_table.specs.Memory.{next_in, pending_in}
@@ -144,10 +144,11 @@ end_in t key = if is_covered_in t key then window_in t key else next_in t
 abbrev pub first_among : {KNOTS SLOTS : ℕ} → Table KNOTS SLOTS → (ℕ → List ℕ) → ℕ → Option ℕ
 first_among t page number = first_key (rows_on (layout_in t) (page (place_of t number)))
 
--- What a search for the page of a key ended with, among pages of these bytes. Of a covered key that is the greatest page of its window
--- whose first key is at most the key, and neither it nor a page behind it in the window is bad. Of another key it is the greatest of
--- all kept pages, which is told where first keys ascend.
+-- What a search for the page of a key ended with, among pages of these bytes. Where it found one, that is kept, and begins with at most
+-- the key. Of a covered key that is the greatest such page of its window, and neither it nor a page behind it in the window is bad. Of
+-- another key it is the greatest of all kept pages, which is told where first keys ascend.
 pub record IsPageFor {KNOTS SLOTS : ℕ} (t : Table KNOTS SLOTS) (page : ℕ → List ℕ) (key : ℕ) (found : Option ℕ) : Type 0 where
+  pub begins : IfSome found (λ number. (oldest_in t ≤ number) × (number < next_in t) × (starts_by (first_among t page) key number ≡ true))
   pub near : is_covered_in t key ≡ true → IsPageOf (first_among t page) (oldest_in t) (window_in t key) key found
   pub sound : is_covered_in t key ≡ true → (n : ℕ) → unwrap_or found (oldest_in t) ≤ n → n < window_in t key → IsSound (layout_in t) n (page (place_of t n))
   pub far : is_covered_in t key ≡ false → Ascends (first_among t page) (oldest_in t) (next_in t) → IsPageOf (first_among t page) (oldest_in t) (next_in t) key found

@@ -24,7 +24,7 @@ use Rattle.fl_var.specs.Memory.{var_shape}
 use Rattle.fl_table.specs.Causes.{of_ring}
 use Rattle.fl_table.specs.Knowing.{IsLearned}
 use Rattle.fl_table.specs.Look.{counts_in}
-use Rattle.fl_table.specs.Memory.{ring_shape, NothingWaits}
+use Rattle.fl_table.specs.Memory.{ring_shape, IsSamePlan, NothingWaits}
 use Rattle.fl_table.specs.declared.table.Table.{Table}
 use Rattle.fl_table.specs.declared.faults.MountFault.{MountFault}
 use Rattle.fl_table.specs.declared.faults.MountFault.TheVariants as mount
@@ -123,6 +123,7 @@ HasLearned error t now = IsLearned error t now.voids now.counts.items now.index
 -- then on, and it has learned where the keys are. The variable data were found then, where the table has any: each blob begins before
 -- their next page.
 pub record FindsRows {KNOTS SLOTS : ℕ} (t : Table KNOTS SLOTS) (bitmaps : Option BitmapIndex) (old : FlashState) (least : ℕ) (mounted : Mounted) (now : Table KNOTS SLOTS) (new : FlashState) : Type 0 where
+  pub plan : IsSamePlan t now
   pub ring : Ring
   pub ring_is : now.ring ≡ Some ring
   pub end : ℕ

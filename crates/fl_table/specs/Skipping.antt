@@ -8,7 +8,7 @@ use Rattle.fl_flash.specs.Buffer.{BufferState}
 use Rattle.fl_flash.specs.Flash.{FlashState}
 use Rattle.fl_index.specs.Looking as looking
 use Rattle.fl_index.specs.Looking.{IsFresh, IsScanning, HoldsGood, entry_of, next_to_read, unread, due}
-use Rattle.fl_index.specs.Memory.{first_in, first_waiting, form_in, found_waiting, is_waiting, lists, next_in, oldest_in, per_page, place_in}
+use Rattle.fl_index.specs.Memory.{first_in, first_waiting, form_in, found_waiting, is_waiting, listing_in, lists, next_in, oldest_in, per_page, place_in}
 use Rattle.fl_index.specs.Page.{IsGoodPage, found_at}
 use Rattle.fl_index.specs.declared.index.BitmapIndex.{BitmapIndex}
 use Rattle.fl_index.specs.declared.page.Found.{Found}
@@ -118,6 +118,19 @@ abbrev pub IsToldBy : Option BitmapIndex → Option Buckets → (ℕ → List �
 IsToldBy bitmaps buckets page None top number ahead = ⊥
 IsToldBy None buckets page (Some span) top number ahead = ⊥
 IsToldBy (Some index) buckets page (Some span) top number ahead = (found : Found) × IsEntryOf index page number found × (ahead ≡ ahead_by (mask_for buckets span) top found)
+
+-- a kept index page lists a data page, and is good or not committed
+pub record IsListedBy (index : BitmapIndex) (page : ℕ → List ℕ) (number listing : ℕ) : Type 0 where
+  pub kept : (oldest_in index ≤ listing) × (listing < next_in index)
+  pub lists_it : lists (per_page index) number (first_in index listing) ≡ true
+  pub sound : state_of_page (page (place_in index listing)) ≡ Committed → IsGoodPage (per_page index) listing (page (place_in index listing))
+
+-- Where values are asked for and there is an index, over pages of these bytes: the entry of a data page waits, or no kept index page
+-- lists it, or one that does isn't bad.
+abbrev pub IsLookedUp : Option BitmapIndex → (ℕ → List ℕ) → Option Span → ℕ → Type 0
+IsLookedUp bitmaps page None number = Unit {0}
+IsLookedUp None page (Some span) number = Unit {0}
+IsLookedUp (Some index) page (Some span) number = (is_waiting index number ≡ true) ⊎ ((listing_in index number ≡ None) ⊎ ((listing : ℕ) × IsListedBy index page number listing))
 
 -- Over a flash that stands for a table: the scan goes on, what was read isn't read again, and what had to be read was. After a
 -- fault too no more is left to be read than before.

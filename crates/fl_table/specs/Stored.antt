@@ -9,7 +9,7 @@ use Rattle.fl_table.specs.Bitmaps.{RingGoesOn}
 use Rattle.fl_table.specs.Blobs as variable
 use Rattle.fl_table.specs.Blobs.{HavePlaced, next_after, next_of, placed_in}
 use Rattle.fl_table.specs.Look.{last_key_in, oldest_in}
-use Rattle.fl_table.specs.Memory.{bitmap_with, next_in, pending_in, HasRoom, NothingWaits, PendingAre}
+use Rattle.fl_table.specs.Memory.{bitmap_with, next_in, pending_in, HasRoom, IsSamePlan, NothingWaits, PendingAre}
 use Rattle.fl_table.specs.declared.table.Table.{Table}
 
 -- what is known of the kept pages stays, and so do the entries that wait for the index
@@ -23,6 +23,7 @@ pub record KnowsSame {KNOTS SLOTS : ℕ} (old new : Table KNOTS SLOTS) : Type 0 
 -- The record is the last one. Its row is pending behind those that were, with its first value in their bitmap, and refers to where its
 -- blob begins, whose bytes wait.
 pub record HasJoined {KNOTS SLOTS : ℕ} (old : Table KNOTS SLOTS) (key : ℕ) (values : List ℤ) (blob : Option (List ℕ)) (new : Table KNOTS SLOTS) : Type 0 where
+  pub same : IsSamePlan old new
   pub last : last_key_in new ≡ Some key
   pub pending : pending_in new ≡ pending_in old + 1
   pub rows : (rows : List Row) → PendingAre old rows → PendingAre new (rows ++ (record { key = key; values = values; blob = placed_in blob old.blobs }) ∷ [])
@@ -55,6 +56,7 @@ pub record HasCounted {KNOTS SLOTS : ℕ} (old new : Table KNOTS SLOTS) : Type 0
 -- The pending rows were sealed as a page, which is counted: none is left, and the bytes of blobs that waited are on a page too, and a full list
 -- of entries. Each ring gave up what it had to.
 pub record IsEmptied {KNOTS SLOTS : ℕ} (old new : Table KNOTS SLOTS) : Type 0 where
+  pub same : IsSamePlan old new
   pub next : next_in new ≡ next_in old + 1
   pub empty : NothingWaits new
   pub rows : PendingAre new []

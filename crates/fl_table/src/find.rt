@@ -123,7 +123,8 @@ impl<const KNOTS: usize, const SLOTS: usize> Table<KNOTS, SLOTS> {
             FindsPage KNOTS plan table key (F.state flash.old).work.reads (F.state flash.new).work.reads result }
         ensures reads { (first : ℕ) → (plan : Plan) → (table : model.Table) → IsTrue (F.state flash.old).media.tells → Stands self.now (F.state flash.old) first plan table →
             is_pending_key table key ≡ false → (F.state flash.new).work.reads ≤ (F.state flash.old).work.reads + lookup_limit KNOTS plan table key }
-        // Whatever the pages hold: the page that is found is that of the key, and of a covered key no page that has to be read is bad.
+        // Whatever the pages hold: the page that is found begins with at most the key, and of a covered key it is that of the key and no
+        // page that has to be read is bad.
         ensures answers { IsTrue (F.state flash.old).media.tells → IfOk result (IsPageFor self.now (flashes.page_at (F.state flash.old)) key) }
         ensures most { (F.state flash.new).work.reads ≤ (F.state flash.old).work.reads + (next_in self.now - oldest_in self.now) + 1 }
         ensures counts { contents.OnlyReads (F.state flash.old) (F.state flash.new) }

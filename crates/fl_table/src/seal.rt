@@ -25,7 +25,7 @@ impl<const KNOTS: usize, const SLOTS: usize> Table<KNOTS, SLOTS> {
     ghost use Rattle.fl_table.specs.Look.{last_key_in};
     ghost use Rattle.fl_table.specs.Memory.{is_running, is_stopped, next_in, pending_in, IsSamePlan, LiesOn, MaySeal, PendingAre};
     ghost use Rattle.fl_table.specs.Standing.{Stands};
-    ghost use Rattle.fl_table.specs.Bitmaps.{RingGoesOn, HaveRoom, bitmap_seals, next_of as index_next, oldest_of, rings_of, MaySeal as index_seals, StandOutside};
+    ghost use Rattle.fl_table.specs.Bitmaps.{AreSameRing, RingGoesOn, HaveRoom, bitmap_seals, next_of as index_next, rings_of, MaySeal as index_seals, StandOutside};
     ghost use Rattle.fl_table.specs.Blobs as variable;
     ghost use Rattle.fl_table.specs.Blobs.{AreEmpty, rest_seals};
     ghost use Rattle.fl_table.specs.Causes.{OffFailsAs};
@@ -180,7 +180,7 @@ impl<const KNOTS: usize, const SLOTS: usize> Table<KNOTS, SLOTS> {
         ensures running { OnOk result (is_running self.new ≡ true) }
         ensures next { OnOk result (next_in self.new ≡ next_in self.old + 1) }
         ensures index_next { OnOk result (index_next self.new.bitmaps ≡ index_next self.old.bitmaps) }
-        ensures index_oldest { OnOk result (oldest_of self.new.bitmaps ≡ oldest_of self.old.bitmaps) }
+        ensures index { OnOk result (AreSameRing self.old.bitmaps self.new.bitmaps) }
         ensures blobs { self.new.blobs ≡ self.old.blobs }
         ensures calm { OnOk result (is_stopped self.new ≡ is_stopped self.old) }
         ensures stopped { OnErr result ((is_running self.new ≡ false) × (is_stopped self.new ≡ true)) }

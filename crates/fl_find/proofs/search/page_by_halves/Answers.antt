@@ -32,3 +32,6 @@ returns-then-is_none-clause-fails g c = (
 
 pub returns-clause-looks : goal.returns-clause-looks
 returns-clause-looks g c = looks-then _ _ _ c.halves.ensures.looks c.read_first.ensures.looks
+
+pub returns-clause-starts : goal.returns-clause-starts
+returns-clause-starts g c = λ told. let starts = rw c.in-Some.is at c.in_ok-number.ensures.starts told in starts

@@ -1,4 +1,4 @@
-use Rattle.std.proofs.Common.{◌+◌, ◌<◌, ◌≤◌, true, false, Some, Ok, Err, ◌∷◌, IsTrue, refl, sym, ◌∙◌, ap, subst, arith}
+use Rattle.std.proofs.Common.{ℕ, ◌+◌, ◌<◌, ◌≤◌, true, false, Some, Ok, Err, ◌∷◌, IsTrue, refl, sym, ◌∙◌, ap, subst, arith}
 use Rattle.std.proofs.lemmas.Result.{err_from_is_err_and}
 use Rattle.fl_flash.specs.Flash.{page_at}
 use Rattle.fl_frame.proofs.CallsInTurn.{goes-same, goes-then}
@@ -13,7 +13,8 @@ use Rattle.fl_schema.specs.Schema.{row_of}
 use Rattle.fl_table.specs.Look.{last_key_in}
 use Rattle.fl_store.proofs.CallsInTurn.{same-plan, same-on}
 use Rattle.fl_store.proofs.Outsides.{outside-then}
-use Rattle.fl_ship.proofs.RowsSoFar.{above-next, far-none, far-more, put-end, put-refused, put-unread, put-whole, unread-behind, work-end, work-refused, work-unread, work-whole}
+use Rattle.fl_ship.specs.Rows.{AreTaken}
+use Rattle.fl_ship.proofs.RowsSoFar.{above-next, far-none, far-more, put-end, put-refused, put-unread, put-whole, taken-behind, unread-behind, work-end, work-refused, work-unread, work-whole}
 use Rattle.fl_ship.proofs.rows.put_rows.Goals as goal
 
 pub puts-init : goal.puts-init
@@ -45,8 +46,14 @@ returns-in_err-step-clause-puts g c = λ first plan t works.
 
 pub returns-in_err-step-clause-cut : goal.returns-in_err-step-clause-cut
 returns-in_err-step-clause-cut g c = λ first plan t rose device w stands.
+    let inv = c.puts.invariant in
+    let fault = c.in_err-step.field-0.0 in
+    let taken : ℕ → Type 0 = AreTaken (g.R.Rows.told c.args.rows.now (contents_of (g.A.Flash.state c.args.from.now))) c.args.count (g.R.Rows.left c.args.rows.now (contents_of (g.A.Flash.state c.args.from.now))) (g.R.Rows.left c.step.new.self (contents_of (g.A.Flash.state c.args.from.now))) in
+    let steps = subst (λ (k : Contents). g.R.Rows.told c.puts.rows k → Steps (Err fault) (g.R.Rows.left c.puts.rows k) (g.R.RowHere.present c.step.new.self) (g.R.Rows.left c.step.new.self k)) inv.counts.contents
+    c.in_err-step.ensures.steps in
     let p = err_from_is_err_and c.from_residual.result c.from_residual.ensures.1 in
-    rw (p.1, p.2) (work-unread _ _ _ _ c.args.count _ _ _ _ c.puts.invariant.far (omega (arith, c.puts-test.true)) first plan t rose device w stands c.in_err-step.field-0.0)
+    rw (p.1, p.2) (work-unread _ _ _ _ c.args.count _ _ _ _ inv.far (omega (arith, c.puts-test.true)) first plan t taken rose device w stands fault
+    (taken-behind _ _ _ _ c.args.count _ _ _ _ inv.far (omega (arith, c.puts-test.true)) fault (g.R.RowHere.present c.step.new.self) _ (λ told. steps (inv.input.stays_told told)) c.puts-test.true))
 
 pub returns-in_err-step-clause-cause : goal.returns-in_err-step-clause-cause
 returns-in_err-step-clause-cause g c =
@@ -75,7 +82,7 @@ returns-then-not-branch-clause-puts g c = λ first plan t works.
 pub returns-then-not-branch-clause-cut : goal.returns-then-not-branch-clause-cut
 returns-then-not-branch-clause-cut g c = λ first plan t rose device w stands.
     let inv = c.puts.invariant in
-    work-end _ _ _ _ c.args.count _ _ _ _ inv.far (omega (arith, c.puts-test.true)) first plan t rose device w stands
+    work-end _ _ _ _ c.args.count _ _ _ _ inv.far (omega (arith, c.puts-test.true)) first plan t (AreTaken (g.R.Rows.told c.args.rows.now (contents_of (g.A.Flash.state c.args.from.now))) c.args.count (g.R.Rows.left c.args.rows.now (contents_of (g.A.Flash.state c.args.from.now))) (g.R.Rows.left c.step.new.self (contents_of (g.A.Flash.state c.args.from.now)))) rose device w stands
     (λ told.
     let steps = subst (λ (k : Contents). g.R.Rows.told c.puts.rows k → Steps (Ok false) (g.R.Rows.left c.puts.rows k) (g.R.RowHere.present c.step.new.self) (g.R.Rows.left c.step.new.self k)) inv.counts.contents
     (rw c.if-not-branch.true at c.in_ok-step.ensures.steps) in
@@ -116,7 +123,7 @@ returns-in_err-put_row-clause-cut g c = λ first plan t rose device w stands.
     let steps = subst (λ (k : Contents). g.R.Rows.told c.puts.rows k → Steps (Ok true) (g.R.Rows.left c.puts.rows k) (g.R.RowHere.present c.step.new.self) (g.R.Rows.left c.step.new.self k)) inv.counts.contents
     (rw c.if-not-branch.false at c.in_ok-step.ensures.steps) in
     steps (inv.input.stays_told told) ∙ ap (λ (r : Row). r ∷ g.R.Rows.left c.step.new.self (contents_of (g.A.Flash.state c.args.from.now))) (sym c.row.ensures.row))
-    c.puts-test.true c.in_err-put_row.field-0.0 e.cause e.refused e.ends first plan t rose device w stands)
+    c.puts-test.true c.in_err-put_row.field-0.0 e.cause e.refused e.ends first plan t (AreTaken (g.R.Rows.told c.args.rows.now (contents_of (g.A.Flash.state c.args.from.now))) c.args.count (g.R.Rows.left c.args.rows.now (contents_of (g.A.Flash.state c.args.from.now))) (g.R.Rows.left c.step.new.self (contents_of (g.A.Flash.state c.args.from.now)))) rose device w stands)
 
 pub returns-in_err-put_row-clause-rows : goal.returns-in_err-put_row-clause-rows
 returns-in_err-put_row-clause-rows g c =
@@ -185,7 +192,9 @@ pub returns-clause-puts : goal.returns-clause-puts
 returns-clause-puts g c = λ first plan t works. put-whole _ _ _ _ c.args.count _ _ _ _ c.puts.invariant.far (omega arith) first plan t works (omega arith)
 
 pub returns-clause-cut : goal.returns-clause-cut
-returns-clause-cut g c = λ first plan t rose device w stands. work-whole _ _ _ _ c.args.count _ _ _ _ c.puts.invariant.far (omega arith) first plan t rose device w stands (omega arith)
+returns-clause-cut g c = λ first plan t rose device w stands.
+    work-whole _ _ _ _ c.args.count _ _ _ _ c.puts.invariant.far (omega arith) first plan t (AreTaken (g.R.Rows.told c.args.rows.now (contents_of (g.A.Flash.state c.args.from.now))) c.args.count (g.R.Rows.left c.args.rows.now (contents_of (g.A.Flash.state c.args.from.now))) (g.R.Rows.left c.puts.rows (contents_of (g.A.Flash.state c.args.from.now)))) rose device w stands
+    (omega arith)
 
 pub returns-in_err-put_row-clause-goes : goal.returns-in_err-put_row-clause-goes
 returns-in_err-put_row-clause-goes g c = goes-then _ _ _ c.puts.invariant.goes c.put_row.ensures.goes

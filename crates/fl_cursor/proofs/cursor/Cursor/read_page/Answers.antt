@@ -16,7 +16,7 @@ use Rattle.std.proofs.lemmas.Result.{err_from_is_err_and}
 use Rattle.fl_mark.specs.Mark.{state_of_page}
 use Rattle.fl_mark.specs.declared.page_state.PageState.TheVariants.{Committed}
 use Rattle.fl_cursor.proofs.Indexed.{told-bytes}
-use Rattle.fl_cursor.proofs.SoundPages.{ahead-told, beyond-other, fresh-then, missed-other, rows-same, sound-beyond, sound-done, sound-good, sound-missed, sound-read, sound-skipped, sound-void}
+use Rattle.fl_cursor.proofs.SoundPages.{ahead-told, beyond-other, fresh-then, looked-told, missed-other, rows-same, sound-beyond, sound-done, sound-good, sound-missed, sound-read, sound-skipped, sound-void}
 use Rattle.fl_cursor.specs.Reads.{has_last}
 use Rattle.fl_table.specs.declared.look_ahead.Ahead.TheVariants.{Missed, Beyond}
 use Rattle.fl_cursor.proofs.cursor.Cursor.read_page.Goals as goal
@@ -160,7 +160,8 @@ returns-then-not-branch-clause-sound g c = λ s tells fresh.
     let now = fresh-then t f (g.F.Flash.state c.look_ahead.new.flash) c.args.self.now.index_buf.now c.look_ahead.new.buf e.counts e.fresh tells fresh in
     let other : state_of_page c.read_page.new.buf.bytes ≡ Committed → ⊥ = search rules in
     let same = told-bytes t c.args.next f (g.F.Flash.state c.look_ahead.new.flash) c.read_page.new.buf.bytes tells c.look_ahead.ensures.counts c.in_ok-read_page.ensures.page in
-    sound-read c.args.self.now c.args.next c.args.end c.requires.next c.requires.end_is held c.if-end-next.false (sound-void t held c.args.next c.read_page.new.buf.bytes same other) (λ last. s tells now)
+    sound-read c.args.self.now c.args.next c.args.end c.requires.next c.requires.end_is held c.if-end-next.false (sound-void t held c.args.next c.read_page.new.buf.bytes same other)
+    (looked-told t f c.args.self.now.mark.span c.args.next c.args.self.now.index_buf.now e.looked_up tells fresh) (λ last. s tells now)
 
 pub returns-clause-sound : goal.returns-clause-sound
 returns-clause-sound g c = λ s tells fresh.
@@ -173,4 +174,5 @@ returns-clause-sound g c = λ s tells fresh.
     let committed : state_of_page c.read_page.new.buf.bytes ≡ Committed = search rules in
     let same = told-bytes t c.args.next f (g.F.Flash.state c.look_ahead.new.flash) c.read_page.new.buf.bytes tells c.look_ahead.ensures.counts c.in_ok-read_page.ensures.page in
     sound-read c.args.self.now c.args.next c.args.end c.requires.next c.requires.end_is held c.if-end-next.false (sound-good t held c.args.next c.read_page.new.buf.bytes same good)
+    (looked-told t f c.args.self.now.mark.span c.args.next c.args.self.now.index_buf.now e.looked_up tells fresh)
     (λ last. s tells now (ap (has_last c.args.self.now.mark.top) (sym (rows-same t held c.args.next c.read_page.new.buf.bytes same committed)) ∙ last))

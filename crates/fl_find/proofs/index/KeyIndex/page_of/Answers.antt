@@ -9,7 +9,7 @@ use Rattle.fl_schema.specs.Schema.{layout_of}
 use Rattle.fl_find.specs.Pages.{first_on}
 use Rattle.fl_find.specs.Looking.{NoneIsBad}
 use Rattle.fl_find.specs.Index.{window_end}
-use Rattle.fl_find.proofs.Moves.{if-some}
+use Rattle.fl_find.proofs.Moves.{if-some, page-starts}
 use Rattle.fl_find.proofs.Modelled.{near-found, near-limit, far-found, far-limit, ascend-ring}
 use Rattle.fl_find.proofs.Indexed.{index-covered, index-end}
 use Rattle.fl_find.proofs.index.KeyIndex.page_of.Goals as goal
@@ -66,3 +66,11 @@ returns-in-Some-clause-within g c =
     let is = c.end_of_window-end.ensures in
     let next = c.next_number.ensures in
     IfOk-weaker c.page_downwards.result _ _ (λ page h. if-some _ _ page (λ n k. let before = k.1 in (k.0, omega (arith, before, is, next))) h) c.page_downwards.ensures.within
+
+pub returns-in-Some-clause-starts : goal.returns-in-Some-clause-starts
+returns-in-Some-clause-starts g c = λ told.
+    IfOk-weaker c.page_downwards.result _ _ (λ page is. page-starts (first_on (layout_of c.args.schema.now) (shape_of c.args.ring.now) (g.F.Flash.state c.args.flash.now)) (oldest_of c.args.ring.now) c.end_of_window-end.result c.args.key page is)
+    (c.page_downwards.ensures.page told)
+
+pub returns-in-None-clause-starts : goal.returns-in-None-clause-starts
+returns-in-None-clause-starts g c = c.page_by_halves.ensures.starts

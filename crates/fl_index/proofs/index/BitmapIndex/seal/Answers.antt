@@ -8,12 +8,12 @@ use Rattle.fl_flash.specs.declared.flash.FlashFault.{FlashFault}
 use Rattle.fl_ring.specs.Written.{done}
 use Rattle.fl_ring.proofs.Written.{held-writes}
 use Rattle.fl_ring.specs.Operations.{change, seal_kinds}
-use Rattle.fl_ring.specs.Place.{oldest_after, shape_of, StandsFor}
+use Rattle.fl_ring.specs.Place.{next_of, oldest_after, shape_of, StandsFor}
 use Rattle.fl_ring.specs.Ring.{Shape, OutsideStands, oldest, place, sealed}
 use Rattle.fl_ring.specs.Sealing.{Performed, Seals}
 use Rattle.fl_index.specs.Page.{header_bytes}
 use Rattle.fl_index.proofs.WaitingEntries.{written-back, headed-length, rest-headed}
-use Rattle.fl_index.specs.Memory.{per_page, len_in}
+use Rattle.fl_index.specs.Memory.{next_in, per_page, len_in}
 use Rattle.fl_index.proofs.State.{shape_in, HaveSize}
 use Rattle.fl_index.proofs.SealEnds.{planned-ring, lies-size, seal-ready, seal-breaks, seal-finishes}
 use Rattle.fl_index.proofs.SealAnswers.{sealing-of, some-room, number-of, seal-on}
@@ -133,6 +133,14 @@ invariant_of-self-2-clause-page g c =
     written-back t.body.len t.body.items c.write_header.new.body _ (c.write_header.ensures ∙ ap (λ (l : List ℕ). splice l 0 (header_bytes c.next_number-number.result t.first t.waiting)) c.deref_mut.ensures.value)
     (headed-length c.next_number-number.result t.first t.waiting t.body.items (omega (arith, t.page, t.served.page_least))) t.body.ok.0 in
     ap (λ (l : List ℕ). length l + 8) back ∙ (ap (λ n. n + 8) (headed-length c.next_number-number.result t.first t.waiting t.body.items (omega (arith, t.page, t.served.page_least))) ∙ t.page)
+
+pub returns-clause-firsts : goal.returns-clause-firsts
+returns-clause-firsts g c =
+    let t = c.args.self.now in
+    let has : t.ring ≡ Some c.in-Some.ring = sym c.take.ensures.value ∙ c.in-Some.is in
+    let number : c.next_number-number.result ≡ next_in t = c.next_number-number.ensures ∙ sym (ap (λ (o : Option Ring). unwrap_or (option_map (λ ring. next_of ring) o) 0) has) in
+    let len : c.len.result ≡ length t.firsts.items = c.len.ensures ∙ t.firsts.ok.0 in
+    ap (λ n. set t.firsts.items (n % c.len.result) (Some t.first)) number ∙ ap (λ n. set t.firsts.items (next_in t % n) (Some t.first)) len
 
 pub returns-clause-oldest : goal.returns-clause-oldest
 returns-clause-oldest g c =

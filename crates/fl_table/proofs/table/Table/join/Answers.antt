@@ -344,6 +344,7 @@ pub returns-clause-joined : goal.returns-clause-joined
 returns-clause-joined g c =
     let known = c.add.ensures.known in
     record {
+      same = returns-clause-same g c;
       last = c.add.ensures.last;
       pending = c.add.ensures.pending;
       rows = λ rows h. subst (λ (o : Option BlobRef). PendingAre c.add.new.self (rows ++ (record { key = c.args.key; values = c.args.values.now; blob = o }) ∷ [])) c.in-Ok.ensures.placed.0 (c.add.ensures.rows rows h);

@@ -1,6 +1,7 @@
 use Rattle.std.proofs.Common.{◌+◌, Option, Result, Ok, Err, sym, ap, subst, ◌≡◌, [], ◌∙◌, refl, length}
 use Rattle.fl_base.specs.declared.types.Span.{Span}
 use Rattle.fl_flash.specs.Buffer.{BufferState}
+use Rattle.fl_flash.specs.Flash.{page_at}
 use Rattle.fl_index.specs.declared.index.BitmapIndex.{BitmapIndex}
 use Rattle.fl_index.specs.declared.page.Found.{Found}
 use Rattle.fl_index.specs.Looking.{ShowsEntry, next_to_read}
@@ -10,7 +11,7 @@ use Rattle.fl_page.specs.declared.fault.ReadFault.{ReadFault}
 use Rattle.fl_table.specs.declared.look_ahead.Ahead.{Ahead}
 use Rattle.fl_table.specs.declared.look_ahead.Ahead.TheVariants.{Wanted, Missed}
 use Rattle.fl_table.specs.Skipping.{AreFresh, AreScanning, LooksOn, ShowsPage}
-use Rattle.fl_table.proofs.Skips.{fresh-still, looks-none, looks-plain, looks-found, looks-failed, shows-none, shows-unindexed, shows-some, shows-fault, index-stands, some-bits, bad-index, told-by}
+use Rattle.fl_table.proofs.Skips.{fresh-still, looks-none, looks-plain, looks-found, looks-failed, shows-none, shows-unindexed, shows-some, shows-fault, index-stands, some-bits, bad-index, looked-up, told-by, unasked-up, unindexed-up}
 use Rattle.fl_table.proofs.Entries.{first-few, told-some}
 use Rattle.fl_table.proofs.Untouched.{at-most}
 use Rattle.fl_table.proofs.IndexOfTable.{none-there}
@@ -305,3 +306,22 @@ returns-in-Ok-Some-clause-told g c = λ told fresh other.
     let e = c.in-Ok-Some.ensures in
     told-by c.args.self.now.bitmaps c.args.self.now.buckets c.args.span c.in-Some-bitmaps.index c.in-Some.span c.in-Some-bitmaps.is c.in-Some.is (g.F.Flash.state c.args.flash.now) c.args.top c.args.number c.args.buf.now
     (g.F.Flash.state c.entry_of.new.flash) c.entry_of.new.buf _ c.in-Ok-Some.found c.in-Ok-Some.field-0-is c.ahead_by.result told fresh e.memory e.found e.page c.ahead_by.ensures.told
+
+pub returns-in_default-clause-looked_up : goal.returns-in_default-clause-looked_up
+returns-in_default-clause-looked_up g c = λ told fresh. unasked-up c.args.self.now.bitmaps (page_at (g.F.Flash.state c.args.flash.now)) c.args.span c.args.number c.in_default.is
+
+pub returns-in_default-bitmaps-clause-looked_up : goal.returns-in_default-bitmaps-clause-looked_up
+returns-in_default-bitmaps-clause-looked_up g c = λ told fresh. unindexed-up c.args.self.now.bitmaps (page_at (g.F.Flash.state c.args.flash.now)) c.args.span c.args.number c.in_default-bitmaps.is
+
+pub returns-in-Ok-None-clause-looked_up : goal.returns-in-Ok-None-clause-looked_up
+returns-in-Ok-None-clause-looked_up g c = λ told fresh.
+    let e = c.in-Ok-None.ensures in
+    looked-up c.args.self.now.bitmaps c.args.span c.in-Some-bitmaps.index c.in-Some.span c.in-Some-bitmaps.is c.in-Some.is (g.F.Flash.state c.args.flash.now) c.args.number c.args.buf.now c.entry_of.new.buf _ told fresh e.found e.page
+
+pub returns-in-Ok-Some-clause-looked_up : goal.returns-in-Ok-Some-clause-looked_up
+returns-in-Ok-Some-clause-looked_up g c = λ told fresh.
+    let e = c.in-Ok-Some.ensures in
+    looked-up c.args.self.now.bitmaps c.args.span c.in-Some-bitmaps.index c.in-Some.span c.in-Some-bitmaps.is c.in-Some.is (g.F.Flash.state c.args.flash.now) c.args.number c.args.buf.now c.entry_of.new.buf _ told fresh e.found e.page
+
+pub returns-in-Err-clause-looked_up : goal.returns-in-Err-clause-looked_up
+returns-in-Err-clause-looked_up g c = λ told fresh. tt

@@ -106,11 +106,15 @@ returns-clause-ends g c = λ first plan table rose device watched planned rests 
 nothing-waits : {KNOTS SLOTS : ℕ} {t : Table KNOTS SLOTS} → (t.writer.count ≡ 0) × (t.bitmap ≡ 0) × (t.blob_end ≡ 0) → AreEmpty t.blobs → NothingWaits t
 nothing-waits rows blobs = record { none = rows.0; bits = rows.1; ends = rows.2; blobs = blobs }
 
+pub returns-clause-same : goal.returns-clause-same
+returns-clause-same g c =
+    same-then c.args.self.now c.read_rows.new.self _ c.in_ok-rows.ensures.same (record { geometry = refl; layout = refl; place = refl; buckets = refl; error = refl; bitmaps = plan-same c.read_rows.new.self.bitmaps; blobs = c.in_ok-mount_within.ensures.same; limit = refl })
+
 pub returns-clause-found : goal.returns-clause-found
 returns-clause-found g c = λ told.
     let mid = g.F.Flash.state c.read_rows.new.flash in
     let rows = c.in_ok-rows.rows in
-    finds-rows c.args.self.now c.args.self.now.bitmaps (g.F.Flash.state c.args.flash.now) c.args.end rows.mounted _ (g.F.Flash.state c.mount_within.new.flash) rows.ring rows.blob_end mid refl
+    finds-rows c.args.self.now c.args.self.now.bitmaps (g.F.Flash.state c.args.flash.now) c.args.end rows.mounted _ (g.F.Flash.state c.mount_within.new.flash) rows.ring rows.blob_end mid (returns-clause-same g c) refl
     (c.in_ok-rows.ensures.found told) (c.in_ok-rows.ensures.waits told) (c.in_ok-rows.ensures.remembers told) (nothing-waits c.in_ok-rows.ensures.none c.in_ok-mount_within.ensures.empty) (c.in_ok-rows.ensures.learned told)
     (subst (λ (o : Option VarData). FindsBlobs o mid (least_of rows.blob_end) c.mount_within.new.blobs (g.F.Flash.state c.mount_within.new.flash)) c.in_ok-rows.ensures.blobs c.in_ok-mount_within.ensures.found)
     c.in_ok-mount_within.ensures.below
@@ -443,10 +447,6 @@ returns-clause-none g c = c.in_ok-rows.ensures.none.0
 
 pub returns-clause-empty : goal.returns-clause-empty
 returns-clause-empty g c = nothing-waits c.in_ok-rows.ensures.none c.in_ok-mount_within.ensures.empty
-
-pub returns-clause-same : goal.returns-clause-same
-returns-clause-same g c =
-    same-then c.args.self.now c.read_rows.new.self _ c.in_ok-rows.ensures.same (record { geometry = refl; layout = refl; place = refl; buckets = refl; error = refl; bitmaps = plan-same c.read_rows.new.self.bitmaps; blobs = c.in_ok-mount_within.ensures.same; limit = refl })
 
 pub returns-clause-room : goal.returns-clause-room
 returns-clause-room g c = c.in_ok-mount_within.ensures.room ∙ c.in_ok-rows.ensures.room

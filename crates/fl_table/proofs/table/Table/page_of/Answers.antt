@@ -64,4 +64,4 @@ returns-clause-counts g c = c.page_of.ensures.looks.reads
 pub returns-clause-answers : goal.returns-clause-answers
 returns-clause-answers g c = λ told.
     let e = c.page_of.ensures in
-    page-for c.args.self.now c.in-Some.ring (g.F.Flash.state c.args.flash.now) c.args.key c.in-Some.is c.page_of.result told e.near e.sound e.far
+    page-for c.args.self.now c.in-Some.ring (g.F.Flash.state c.args.flash.now) c.args.key c.in-Some.is c.page_of.result told e.within e.starts e.near e.sound e.far

@@ -1,13 +1,14 @@
 use Rattle.std.proofs.Common.{◌≡◌, ◌+◌, ◌≤◌, true, Option, Result, ◌∷◌, [], ◌++◌, List, Err, IsTrue, arith, sym, ◌∙◌, ap, subst, ℕ}
 use Rattle.std.proofs.lemmas.Result.{err_from_is_err_and, on_err_weaker, IfErr-weaker}
 use Rattle.fl_model.specs.Table.{RingName, DataRing, after_seals}
-use Rattle.fl_table.specs.Bitmaps.{HaveRoom, bitmap_seals, next_of, oldest_of, rings_of}
+use Rattle.fl_table.specs.Bitmaps.{AreSameRing, HaveRoom, bitmap_seals, next_of, rings_of}
 use Rattle.fl_table.specs.Blobs as variable
 use Rattle.fl_table.specs.Blobs.{rest_seals}
 use Rattle.fl_table.specs.Outcomes.{SealsEnd}
 use Rattle.fl_table.proofs.SealsInTurn.{seals-stop, seals-then}
 use Rattle.fl_frame.proofs.WatchedInTurn.{cause-later, watched-first, watched-then}
 use Rattle.fl_flash.specs.Flash.{page_at}
+use Rattle.fl_table.proofs.IndexOfTable.{ring-stays}
 use Rattle.fl_table.proofs.Outsides.{outside-then}
 use Rattle.fl_table.proofs.Plain.{some-table_seals}
 use Rattle.fl_index.specs.declared.index.BitmapIndex.{BitmapIndex}
@@ -333,20 +334,21 @@ returns-clause-emptied g c =
     let then = c.in_ok-seal_blobs.ensures in
     let still : variable.next_after c.seal_bitmaps.new.self.blobs ≡ variable.next_after t.blobs = ap variable.next_after c.in_ok-seal_bitmaps.ensures.blobs in
     let last : variable.next_of u.blobs ≡ variable.next_of c.seal_blobs.new.self.blobs = ap variable.next_of c.seal_rows.ensures.blobs in
-    on-both c.seal_rows.result (HasCounted b u) (((next_in u ≡ next_in b + 1) × ((u.writer.count ≡ 0) × (u.bitmap ≡ 0) × (u.blob_end ≡ 0))) × ((next_of u.bitmaps ≡ next_of b.bitmaps) × (oldest_of u.bitmaps ≡ oldest_of b.bitmaps))) (IsEmptied t u)
+    on-both c.seal_rows.result (HasCounted b u) (((next_in u ≡ next_in b + 1) × ((u.writer.count ≡ 0) × (u.bitmap ≡ 0) × (u.blob_end ≡ 0))) × AreSameRing b.bitmaps u.bitmaps) (IsEmptied t u)
     (λ counted all. let both = all.0 in record {
+      same = returns-clause-same g c;
       next = both.0 ∙ ap (λ n. n + 1) before;
       empty = record { none = both.1.0; bits = both.1.1; ends = both.1.2; blobs = subst (λ (o : Option VarData). variable.AreEmpty o) (sym c.seal_rows.ensures.blobs) then.empty };
       rows = pending-none u both.1.0;
       blob_next = last ∙ (then.blob_next ∙ still);
       blob_oldest = ap variable.oldest_of c.seal_rows.ensures.blobs ∙ (then.blob_oldest ∙ ap variable.oldest_after first.blobs);
-      index = record { next = all.1.0 ∙ (ap next_of then.bitmaps ∙ first.index.next); oldest = all.1.1 ∙ (ap oldest_of then.bitmaps ∙ first.index.oldest) };
+      index = ring-stays t.bitmaps c.seal_bitmaps.new.self.bitmaps b.bitmaps u.bitmaps first.index then.bitmaps all.1;
       counted = counted-then t b u (same-then t c.seal_bitmaps.new.self b first.same then.same) (then.ring ∙ first.ring) (waits-then t c.seal_bitmaps.new.self b first.still.0 then.still.0) counted;
     }) c.seal_rows.ensures.counted
-    (on-both c.seal_rows.result ((next_in u ≡ next_in b + 1) × ((u.writer.count ≡ 0) × (u.bitmap ≡ 0) × (u.blob_end ≡ 0))) ((next_of u.bitmaps ≡ next_of b.bitmaps) × (oldest_of u.bitmaps ≡ oldest_of b.bitmaps))
-    (((next_in u ≡ next_in b + 1) × ((u.writer.count ≡ 0) × (u.bitmap ≡ 0) × (u.blob_end ≡ 0))) × ((next_of u.bitmaps ≡ next_of b.bitmaps) × (oldest_of u.bitmaps ≡ oldest_of b.bitmaps))) (λ rows index. (rows, index))
+    (on-both c.seal_rows.result ((next_in u ≡ next_in b + 1) × ((u.writer.count ≡ 0) × (u.bitmap ≡ 0) × (u.blob_end ≡ 0))) (AreSameRing b.bitmaps u.bitmaps)
+    (((next_in u ≡ next_in b + 1) × ((u.writer.count ≡ 0) × (u.bitmap ≡ 0) × (u.blob_end ≡ 0))) × AreSameRing b.bitmaps u.bitmaps) (λ rows index. (rows, index))
     (on-both c.seal_rows.result (next_in u ≡ next_in b + 1) ((u.writer.count ≡ 0) × (u.bitmap ≡ 0) × (u.blob_end ≡ 0)) ((next_in u ≡ next_in b + 1) × ((u.writer.count ≡ 0) × (u.bitmap ≡ 0) × (u.blob_end ≡ 0))) (λ next empty. (next, empty)) c.seal_rows.ensures.next c.seal_rows.ensures.empty)
-    (on-both c.seal_rows.result (next_of u.bitmaps ≡ next_of b.bitmaps) (oldest_of u.bitmaps ≡ oldest_of b.bitmaps) ((next_of u.bitmaps ≡ next_of b.bitmaps) × (oldest_of u.bitmaps ≡ oldest_of b.bitmaps)) (λ next oldest. (next, oldest)) c.seal_rows.ensures.index_next c.seal_rows.ensures.index_oldest))
+    c.seal_rows.ensures.index)
 
 pub returns-in_err-seal_bitmaps-clause-page : goal.returns-in_err-seal_bitmaps-clause-page
 returns-in_err-seal_bitmaps-clause-page g c = no-success _ _ c.from_residual.result c.from_residual.ensures.1

@@ -27,7 +27,7 @@ use Rattle.fl_table.proofs.VarFacts.{rest-of}
 use Rattle.fl_table.proofs.VoidPages.{voids-told}
 use Rattle.fl_table.proofs.SealEnds.{IsSealing, KeepsAll, seal-breaks, seal-finishes}
 use Rattle.fl_table.proofs.SealsInTurn.{ends-alone}
-use Rattle.fl_table.proofs.IndexOfTable.{few-goes, lies-goes, plan-same, still-few, still-lies, still-next, still-oldest, still-planned, still-running, noted-end, stand-sealed, none-there, none-is}
+use Rattle.fl_table.proofs.IndexOfTable.{few-goes, lies-goes, plan-same, still-few, still-lies, still-next, still-planned, still-running, noted-end, stand-sealed, none-there, none-is}
 use Rattle.fl_table.proofs.ListsStay.{index-stands}
 use Rattle.fl_table.proofs.Plain.{table-parts, table-facts}
 use Rattle.fl_ring.specs.Mounting.{shape_at}
@@ -217,8 +217,11 @@ returns-clause-lies g c =
 pub returns-clause-index_next : goal.returns-clause-index_next
 returns-clause-index_next g c = still-next c.args.self.now.bitmaps c.note_entry.new.bitmaps c.note_entry.ensures.still
 
-pub returns-clause-index_oldest : goal.returns-clause-index_oldest
-returns-clause-index_oldest g c = still-oldest c.args.self.now.bitmaps c.note_entry.new.bitmaps c.note_entry.ensures.still
+pub returns-in-Err-clause-index : goal.returns-in-Err-clause-index
+returns-in-Err-clause-index g c = tt
+
+pub returns-clause-index : goal.returns-clause-index
+returns-clause-index g c = c.note_entry.ensures.still
 
 pub returns-clause-power : goal.returns-clause-power
 returns-clause-power g c = λ on. seal-on _ _ _ _ _ _ _ c.in_default-seal.ensures.calls
