@@ -1,6 +1,5 @@
 -- The pages on which bytes go on, seen from a page before.
-use Rattle.std.proofs.Common.{◌≡◌, ℕ, suc, ◌+◌, ◌-◌, ◌<◌, ◌≤◌, ◌==◌, true, List, ◌++◌, length, refl, ◌∙◌, ap, subst, arith, inl, inr, length-append}
-use Rattle.std.specs.Prelude.{nat_lt}
+use Rattle.std.proofs.Common.{◌≡◌, ℕ, suc, ◌+◌, ◌-◌, ◌<◌, ◌≤◌, true, List, ◌++◌, length, ◌∙◌, ap, subst, arith, inl, inr, length-append}
 use Rattle.std.proofs.lemmas.Bool.{cases_lt, lt-ltb}
 use Rattle.fl_flash.specs.Flash.{FlashState}
 use Rattle.fl_page.specs.Page.{bad_page}
@@ -23,18 +22,18 @@ contents-split image page number lt =
 ends-here : (image : ℕ → List ℕ) (page end number : ℕ) → end ≤ length (content_of (image page)) → GoesOnTo image page end number → ⊥
 ends-here image page end number within goes = omega (arith, within, goes.1, contents-split image page number goes.0)
 
--- a page was given to its end, and the reader turns to the next one, which is there
-module _ (image : ℕ → List ℕ) (next page end left : ℕ) (done : length (content_of (image page)) ≡ end) (good : IsReadable image next (page + 1)) where
-  here : (number : ℕ) → page < number → number ≤ page + 1 → IsReadable image next number
-  here number low high =
-      let same : page + 1 ≡ number = omega (arith, low, high) in
-      subst (IsReadable image next) same good
+-- a page behind this one and not behind the next is the next
+at-next : (image : ℕ → List ℕ) (next page number : ℕ) → IsReadable image next (page + 1) → page < number → number ≤ page + 1 → IsReadable image next number
+at-next image next page number good low high =
+    let same : page + 1 ≡ number = omega (arith, low, high) in
+    subst (IsReadable image next) same good
 
-  pub there-turned : AreThere image next (page + 1) (0 + left) → AreThere image next page (end + left)
-  there-turned there = λ number goes. elim (cases_lt (page + 1) number) [
-    | inl lt ↦ there number (lt, omega (arith, goes.1, done, contents-split image page number goes.0))
-    | inr ge ↦ here number goes.0 ge
-  ]
+-- a page was given to its end, and the reader turns to the next one, which is there
+pub there-turned : (image : ℕ → List ℕ) (next page end left : ℕ) → length (content_of (image page)) ≡ end → IsReadable image next (page + 1) → AreThere image next (page + 1) (0 + left) → AreThere image next page (end + left)
+there-turned image next page end left done good there = λ number goes. elim (cases_lt (page + 1) number) [
+  | inl lt ↦ there number (lt, omega (arith, goes.1, done, contents-split image page number goes.0))
+  | inr ge ↦ at-next image next page number good goes.0 ge
+]
 
 pub bad-turned : (v : VarData) (f : FlashState) (page end left : ℕ) (bad : BadPage) → length (content_of (image_in v f page)) ≡ end → IsReadable (image_in v f) (next_in v) (page + 1) →
     IsBadBehind v f (page + 1) (0 + left) bad → IsBadBehind v f page (end + left) bad
@@ -45,7 +44,7 @@ bad-turned v f page end left bad done good h =
       goes_on = (later, omega (arith, h.goes_on.1, done, contents-split (image_in v f) page h.number later));
       before = λ n low high. elim (cases_lt (page + 1) n) [
         | inl lt ↦ h.before n lt high
-        | inr ge ↦ here (image_in v f) (next_in v) page end left done good n low ge
+        | inr ge ↦ at-next (image_in v f) (next_in v) page n good low ge
       ];
       is_bad = h.is_bad;
     }

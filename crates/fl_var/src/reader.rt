@@ -106,7 +106,7 @@ impl<'s, 'b> BlobReader<'s, 'b> {
 
     /// Takes the next chunk from the front of the bytes left. True where there is one, and false where no byte is left,
     /// for which nothing is read, so that it comes with the power off too. After a fault the bytes left are as they were.
-    /// Over any bytes each true leaves fewer bytes, by its chunk.
+    /// Over any bytes each true leaves fewer bytes, by its chunk, and a page that it turns to is there.
     pub fn step<F: Flash>(&mut self, flash: &mut F) -> Result<bool, ReadFault>
         requires lies { LiesOn (data_of self.old) (F.state flash.old) }
         ensures reads { OnlyReads (F.state flash.old) 1 (F.state flash.new) }
