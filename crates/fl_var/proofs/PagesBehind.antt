@@ -30,10 +30,12 @@ at-next image next page number good low high =
 
 -- a page was given to its end, and the reader turns to the next one, which is there
 pub there-turned : (image : ℕ → List ℕ) (next page end left : ℕ) → length (content_of (image page)) ≡ end → IsReadable image next (page + 1) → AreThere image next (page + 1) (0 + left) → AreThere image next page (end + left)
-there-turned image next page end left done good there = λ number goes. elim (cases_lt (page + 1) number) [
-  | inl lt ↦ there number (lt, omega (arith, goes.1, done, contents-split image page number goes.0))
-  | inr ge ↦ at-next image next page number good goes.0 ge
-]
+there-turned image next page end left done good there = record {
+  each = λ number goes. elim (cases_lt (page + 1) number) [
+    | inl lt ↦ there.each number (lt, omega (arith, goes.1, done, contents-split image page number goes.0))
+    | inr ge ↦ at-next image next page number good goes.0 ge
+  ];
+}
 
 pub bad-turned : (v : VarData) (f : FlashState) (page end left : ℕ) (bad : BadPage) → length (content_of (image_in v f page)) ≡ end → IsReadable (image_in v f) (next_in v) (page + 1) →
     IsBadBehind v f (page + 1) (0 + left) bad → IsBadBehind v f page (end + left) bad
@@ -56,7 +58,7 @@ there-taken image next page end left n within few there = elim (cases_lt n left)
   | inl lt ↦
       let same : end + n + (left - n) ≡ end + left = omega (arith, lt) in
       subst (AreThere image next page) same (there (omega (arith, lt)))
-  | inr ge ↦ λ number goes. absurd (ends-here image page (end + left) number (omega (arith, within, ge)) goes)
+  | inr ge ↦ record { each = λ number goes. absurd (ends-here image page (end + left) number (omega (arith, within, ge)) goes) }
 ]
 
 pub bad-taken : (v : VarData) (f : FlashState) (page end left n : ℕ) (bad : BadPage) → n ≤ left → IsBadBehind v f page (end + n + (left - n)) bad → IsBadBehind v f page (end + left) bad

@@ -59,13 +59,13 @@ pub record IsBadLater (v : VarData) (f : FlashState) (number : ℕ) (bad : BadPa
 abbrev pub GoesOnTo : (ℕ → List ℕ) → ℕ → ℕ → ℕ → Type 0
 GoesOnTo image page end number = (page < number) × (length (contents_from image page (number - page)) < end)
 
--- a page that is kept or the one in memory, and has content
+-- a page that isn't behind the one in memory, and has content
 abbrev pub IsReadable : (ℕ → List ℕ) → ℕ → ℕ → Type 0
 IsReadable image next number = (number ≤ next) × HasContent number (image number)
 
 -- all pages to which they go on are such
-abbrev pub AreThere : (ℕ → List ℕ) → ℕ → ℕ → ℕ → Type 0
-AreThere image next page end = (number : ℕ) → GoesOnTo image page end number → IsReadable image next number
+pub record AreThere (image : ℕ → List ℕ) (next page end : ℕ) : Type 0 where
+  pub each : (number : ℕ) → GoesOnTo image page end number → IsReadable image next number
 
 -- a blob begins in the content of its first page
 pub record Begins (v : VarData) (f : FlashState) (at : BlobRef) : Type 0 where
