@@ -1,8 +1,9 @@
-use Rattle.std.proofs.Common.{rules, ◌<◌, ◌≤◌, Err, inr, refl, arith}
+use Rattle.std.proofs.Common.{rules, ◌<◌, ◌≤◌, Err, inr, refl, sym, ◌∙◌, arith}
 use Rattle.fl_var.specs.Blobs.{Begins}
-use Rattle.fl_var.specs.Memory.{room_in}
+use Rattle.fl_var.specs.Memory.{room_in, image_in}
 use Rattle.fl_var.proofs.Found.{found-none, found-some, found-err}
 use Rattle.fl_var.proofs.SealsInTable.{pages-size}
+use Rattle.fl_var.proofs.Stored.{content-size}
 use Rattle.fl_var.proofs.Wholes.{pages-few}
 use Rattle.fl_var.proofs.reader.BlobReader.open.Goals as goal
 
@@ -57,7 +58,13 @@ returns-in-Ok-Some-clause-opens g c = λ told.
     let begins : Begins v f c.args.at = record { first = (within.0, here.2); inside = omega (arith, within.1, here.1) } in
     record {
       not_gone = here.0;
-      reads = search rules;
+      reads = record {
+        told = told;
+        within = within.0;
+        used = λ some. here.1;
+        size = λ some. content-size (image_in v f c.args.at.page) here.2.room ∙ sym here.1;
+        bytes = λ more lt. rw c.in-Ok-Some.field-0-is at (c.in-Ok-Some.ensures.holds told lt);
+      };
       reads_of = search rules;
       left = search rules;
       there = λ some behind. record { begins = begins; behind = behind some };

@@ -49,3 +49,6 @@ returns-clause-sound g c = λ reads there.
 pub returns-clause-ahead : goal.returns-clause-ahead
 returns-clause-ahead g c = λ reads bad h.
     c.in_ok-turn.ensures.ahead (record { told = reads.told; within = reads.within; used = reads.used; size = reads.size; bytes = reads.bytes }) bad (c.take.ensures.ahead (g.F.Flash.state c.turn.new.flash) bad h)
+
+pub returns-clause-most : goal.returns-clause-most
+returns-clause-most g c = λ reads whole. c.in_ok-turn.ensures.most (record { told = reads.told; within = reads.within; used = reads.used; size = reads.size; bytes = reads.bytes }) whole
