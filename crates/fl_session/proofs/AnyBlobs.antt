@@ -16,7 +16,7 @@ use Rattle.fl_var.specs.Reading.{IfBad}
 use Rattle.fl_words.specs.Reply as reply
 use Rattle.fl_words.specs.Reply.{Reply, hex_text, text}
 use Rattle.fl_session.specs.BlobLine.{read_reply}
-use Rattle.fl_session.specs.BlobSays.{BlobSays, EndsBlob, IsBlob}
+use Rattle.fl_session.specs.BlobSays.{BlobSays, EndsBlob, IsBlob, TellsTaken}
 use Rattle.fl_session.specs.ListSays.{IsUnread}
 use Rattle.fl_session.proofs.BlobLines.{hex-append, written-after}
 use Rattle.fl_session.proofs.ExecutedCommand.{one-text}
@@ -26,25 +26,25 @@ unread-said : (IsBad : BadPage → Type 0) (f g : FlashState) (e : ReadFault) �
 unread-said IsBad f g (fault.Flash x) caused is_bad = (x, caused)
 unread-said IsBad f g (fault.BadPage bad) caused is_bad = (bad, refl, is_bad)
 
-module _ {E : Type 0} (Tells : Reply → Type 0) (IsBad : BadPage → Type 0) (f g : FlashState) (told now : Option (List ℕ)) (result : Result (Unit {0}) E) where
+module _ {E : Type 0} (Tells : Reply → Type 0) (IsBad IsBadOn : BadPage → Type 0) (f g : FlashState) (told now : Option (List ℕ)) (result : Result (Unit {0}) E) where
   -- one line
-  pub says-one : (line : Reply) → IsBlob line → (is_ok result ≡ true → Tells line) → Written told now result (text line) → BlobSays Tells IsBad f g told now result
+  pub says-one : (line : Reply) → IsBlob line → TellsTaken Tells (is_ok result) line → Written told now result (text line) → BlobSays Tells IsBad IsBadOn f g told now result
   says-one line is tells wrote = record { lines = []; are_lines = tt; last = line; ends = inl (is, tells); written = subst (λ (l : List ℕ). Written told now result l) (sym (one-text line)) wrote }
 
-  pub says-none_read : (e : ReadFault) → IsCaused f e g → IfBad IsBad e → Written told now result (text (read_reply e)) → BlobSays Tells IsBad f g told now result
+  pub says-none_read : (e : ReadFault) → IsCaused f e g → IfBad IsBad e → Written told now result (text (read_reply e)) → BlobSays Tells IsBad IsBadOn f g told now result
   says-none_read e caused is_bad wrote =
       record { lines = []; are_lines = tt; last = read_reply e; ends = inr (unread-said IsBad f g e caused is_bad); written = subst (λ (l : List ℕ). Written told now result l) (sym (one-text (read_reply e))) wrote }
 
   -- a line of bytes, in its parts
-  pub says-parts : (bytes : List ℕ) (begun given : Option (List ℕ)) → Appends told begun (codes "bytes ") → Appends begun given (hex_text bytes) → Written given now result (10 ∷ []) → (is_ok result ≡ true → Tells (reply.Bytes bytes)) → BlobSays Tells IsBad f g told now result
+  pub says-parts : (bytes : List ℕ) (begun given : Option (List ℕ)) → Appends told begun (codes "bytes ") → Appends begun given (hex_text bytes) → Written given now result (10 ∷ []) → (is_ok result ≡ true → Tells (reply.Bytes bytes)) → BlobSays Tells IsBad IsBadOn f g told now result
   says-parts bytes begun given first digits wrote tells =
       says-one (reply.Bytes bytes) tt tells
       (subst (λ (l : List ℕ). Written told now result l) (sym (append_assoc (codes "bytes ") (hex_text bytes) (10 ∷ [])))
       (written-after told begun now result (codes "bytes ") (hex_text bytes ++ 10 ∷ []) first (written-after begun given now result (hex_text bytes) (10 ∷ []) digits wrote)))
 
   -- .. behind which a page wasn't read
-  pub says-cut : (bytes : List ℕ) (begun given ended : Option (List ℕ)) (e : ReadFault) → IsCaused f e g → IfBad IsBad e → Appends told begun (codes "bytes ") → Appends begun given (hex_text bytes) → Appends given ended (10 ∷ []) → Written ended now result (text (read_reply e)) →
-      BlobSays Tells IsBad f g told now result
+  pub says-cut : (bytes : List ℕ) (begun given ended : Option (List ℕ)) (e : ReadFault) → IsCaused f e g → IfBad IsBadOn e → Appends told begun (codes "bytes ") → Appends begun given (hex_text bytes) → Appends given ended (10 ∷ []) → Written ended now result (text (read_reply e)) →
+      BlobSays Tells IsBad IsBadOn f g told now result
   says-cut bytes begun given ended e caused is_bad first digits line wrote =
       let all : Appends told ended (text (reply.Bytes bytes)) =
       subst (λ (l : List ℕ). Appends told ended l) (sym (append_assoc (codes "bytes ") (hex_text bytes) (10 ∷ [])))
@@ -53,7 +53,7 @@ module _ {E : Type 0} (Tells : Reply → Type 0) (IsBad : BadPage → Type 0) (f
         lines = reply.Bytes bytes ∷ [];
         are_lines = (tt, tt);
         last = read_reply e;
-        ends = unread-said IsBad f g e caused is_bad;
+        ends = unread-said IsBadOn f g e caused is_bad;
         written = subst (λ (l : List ℕ). Written told now result l) (ap (λ (l : List ℕ). text (reply.Bytes bytes) ++ l) (sym (one-text (read_reply e)))) (written-after told ended now result (text (reply.Bytes bytes)) (text (read_reply e)) all wrote);
       }
 
@@ -62,30 +62,35 @@ pub untaken : false ≡ true → ⊥
 untaken e = cc
 
 -- the sink failed in the line of bytes
-module _ {E : Type 0} (Tells : Reply → Type 0) (IsBad : BadPage → Type 0) (f g : FlashState) (told now : Option (List ℕ)) (failed : E) where
-  pub says-failed : (bytes : List ℕ) → AppendsFront told now (text (reply.Bytes bytes)) → BlobSays Tells IsBad f g told now (Err failed)
-  says-failed bytes front = says-one Tells IsBad f g told now (Err failed) (reply.Bytes bytes) tt (λ taken. absurd (untaken taken)) front
+module _ {E : Type 0} (Tells : Reply → Type 0) (IsBad IsBadOn : BadPage → Type 0) (f g : FlashState) (told now : Option (List ℕ)) (failed : E) where
+  pub says-failed : (bytes : List ℕ) → AppendsFront told now (text (reply.Bytes bytes)) → BlobSays Tells IsBad IsBadOn f g told now (Err failed)
+  says-failed bytes front = says-one Tells IsBad IsBadOn f g told now (Err failed) (reply.Bytes bytes) tt (λ taken. absurd (untaken taken)) front
 
-  pub says-begun : AppendsFront told now (codes "bytes ") → BlobSays Tells IsBad f g told now (Err failed)
+  pub says-begun : AppendsFront told now (codes "bytes ") → BlobSays Tells IsBad IsBadOn f g told now (Err failed)
   says-begun front = says-failed [] (front-more told now (codes "bytes ") (10 ∷ []) front)
 
-  pub says-sunk : (bytes : List ℕ) (begun : Option (List ℕ)) → Appends told begun (codes "bytes ") → AppendsFront begun now (hex_text bytes) → BlobSays Tells IsBad f g told now (Err failed)
+  pub says-sunk : (bytes : List ℕ) (begun : Option (List ℕ)) → Appends told begun (codes "bytes ") → AppendsFront begun now (hex_text bytes) → BlobSays Tells IsBad IsBadOn f g told now (Err failed)
   says-sunk bytes begun first front = says-failed bytes (front-more told now (codes "bytes " ++ hex_text bytes) (10 ∷ []) (front-behind told begun now (codes "bytes ") (hex_text bytes) first front))
 
 -- seen from an earlier flash, of which no less is said
-module _ (Told Tells : Reply → Type 0) (Was IsBad : BadPage → Type 0) (a b c : FlashState) (only : OnlyReads a b) (same : (last : Reply) → Told last → Tells last) (so : (bad : BadPage) → Was bad → IsBad bad) where
-  later-unread : (last : Reply) → IsUnread Was b c last → IsUnread IsBad a c last
-  later-unread reply.ReadFault h = (h.0, IsCaused-later a b c (fault.Flash h.0) only h.1)
-  later-unread (reply.BadPage number) h = (h.0, h.1, so h.0 h.2)
-  later-unread last h = absurd h
+later-unread : (Was IsBad : BadPage → Type 0) (a b c : FlashState) → OnlyReads a b → ((bad : BadPage) → Was bad → IsBad bad) → (last : Reply) → IsUnread Was b c last → IsUnread IsBad a c last
+later-unread Was IsBad a b c only so reply.ReadFault h = (h.0, IsCaused-later a b c (fault.Flash h.0) only h.1)
+later-unread Was IsBad a b c only so (reply.BadPage number) h = (h.0, h.1, so h.0 h.2)
+later-unread Was IsBad a b c only so last h = absurd h
 
-  later-ends : (taken : Bool) (n : ℕ) (last : Reply) → EndsBlob Told Was b c taken n last → EndsBlob Tells IsBad a c taken n last
-  later-ends taken zero last (inl (is, tells)) = inl (is, λ took. same last (tells took))
-  later-ends taken zero last (inr unread) = inr (later-unread last unread)
-  later-ends taken (suc zero) last h = later-unread last h
+later-taken : (Told Tells : Reply → Type 0) → ((last : Reply) → Told last → Tells last) → (taken : Bool) (last : Reply) → TellsTaken Told taken last → TellsTaken Tells taken last
+later-taken Told Tells same taken (reply.Bytes bytes) tells = λ took. same (reply.Bytes bytes) (tells took)
+later-taken Told Tells same taken last tells = same last tells
+
+module _ (Told Tells : Reply → Type 0) (Was WasOn IsBad IsBadOn : BadPage → Type 0) (a b c : FlashState) (only : OnlyReads a b) (same : (last : Reply) → Told last → Tells last) (so : (bad : BadPage) → Was bad → IsBad bad)
+    (so_on : (bad : BadPage) → WasOn bad → IsBadOn bad) where
+  later-ends : (taken : Bool) (n : ℕ) (last : Reply) → EndsBlob Told Was WasOn b c taken n last → EndsBlob Tells IsBad IsBadOn a c taken n last
+  later-ends taken zero last (inl (is, tells)) = inl (is, later-taken Told Tells same taken last tells)
+  later-ends taken zero last (inr unread) = inr (later-unread Was IsBad a b c only so last unread)
+  later-ends taken (suc zero) last h = later-unread WasOn IsBadOn a b c only so_on last h
   later-ends taken (suc (suc n)) last h = h
 
-  pub says-later : {E : Type 0} (told now : Option (List ℕ)) (result : Result (Unit {0}) E) → BlobSays Told Was b c told now result → BlobSays Tells IsBad a c told now result
+  pub says-later : {E : Type 0} (told now : Option (List ℕ)) (result : Result (Unit {0}) E) → BlobSays Told Was WasOn b c told now result → BlobSays Tells IsBad IsBadOn a c told now result
   says-later told now result h = record { lines = h.lines; are_lines = h.are_lines; last = h.last; ends = later-ends (is_ok result) (length h.lines) h.last h.ends; written = h.written }
 
 -- the digits of one more chunk

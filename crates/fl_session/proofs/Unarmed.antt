@@ -38,7 +38,7 @@ use Rattle.fl_words.specs.Reply.{Reply}
 use Rattle.fl_session.proofs.ExecutedCommand.{one-text}
 use Rattle.fl_session.specs.Answer.{bad_reply, load_replies, mount_reply}
 use Rattle.fl_session.specs.Asked.{lacked_column}
-use Rattle.fl_session.specs.BlobSays.{AnswersBlob, EndsBlob, IsBlob, IsBytes, MayBeBadFor}
+use Rattle.fl_session.specs.BlobSays.{AnswersBlob, EndsBlob, IsBadNamed, IsBlob, IsBytes, MayBeBadFor}
 use Rattle.fl_session.specs.Caused.{Caused, CloseSays, CostSays, CutSays, EndsPairs, EndsRange, FlushFails, FlushSays, GetSays, IfLacks, IsHere, IsPowered, IsRefused, LookSays, MountSays, OffSays, OnlyLooks, OnTable, OpenSays, PutFails, PutSays, StatSays, State, Writes, mark_on}
 use Rattle.fl_session.specs.CausedEach.{CausedEach}
 use Rattle.fl_session.specs.Cost.{cost_of}
@@ -116,11 +116,11 @@ next-other asked count e = by_count (count == asked) e
     by_count true k = cc
     by_count false k = cc
 
-blob-other : (Tells : Reply → Type 0) (IsBad : BadPage → Type 0) (f g : FlashState) (taken : Bool) (count : ℕ) (last : Reply) → EndsBlob Tells IsBad f g taken count last → last ≡ reply.PowerLost → ⊥
-blob-other Tells IsBad f g taken zero last (inl (blob, tells)) is = subst IsBlob is blob
-blob-other Tells IsBad f g taken zero last (inr unread) is = subst (IsUnread IsBad f g) is unread
-blob-other Tells IsBad f g taken (suc zero) last unread is = subst (IsUnread IsBad f g) is unread
-blob-other Tells IsBad f g taken (suc (suc count)) last none is = none
+blob-other : (Tells : Reply → Type 0) (IsBad IsBadOn : BadPage → Type 0) (f g : FlashState) (taken : Bool) (count : ℕ) (last : Reply) → EndsBlob Tells IsBad IsBadOn f g taken count last → last ≡ reply.PowerLost → ⊥
+blob-other Tells IsBad IsBadOn f g taken zero last (inl (blob, tells)) is = subst IsBlob is blob
+blob-other Tells IsBad IsBadOn f g taken zero last (inr unread) is = subst (IsUnread IsBad f g) is unread
+blob-other Tells IsBad IsBadOn f g taken (suc zero) last unread is = subst (IsUnread IsBadOn f g) is unread
+blob-other Tells IsBad IsBadOn f g taken (suc (suc count)) last none is = none
 
 cost-other : (cost : machine.Cost) → cost_reply cost ≡ reply.PowerLost → ⊥
 cost-other machine.NothingYet is = cc
@@ -227,7 +227,7 @@ module _ (E : Type 0) (old new : State) (told told_now : Option (List ℕ)) (res
         once told told_now result (OnTable old new name (GetSays old new key)) w (table-other old new name (GetSays old new key) (λ at entry here said h is. subst (LookSays (table_in entry.table) key old.flash new.flash) is h.0))
     says (command.Blob name key) (inl w) = refused-says name w
     says (command.Blob name key) (inr (at, entry, here, (looks, tells))) =
-        listed (AllByRecursion IsBytes) (EndsBlob (AnswersBlob (table_in entry.table) key old.flash) (MayBeBadFor (table_in entry.table) old.flash) old.flash new.flash) told told_now result tells (λ lines are. lines-other IsBytes lines (λ h. h) are) (blob-other (AnswersBlob (table_in entry.table) key old.flash) (MayBeBadFor (table_in entry.table) old.flash) old.flash new.flash)
+        listed (AllByRecursion IsBytes) (EndsBlob (AnswersBlob (table_in entry.table) key old.flash) (MayBeBadFor (table_in entry.table) key old.flash) (IsBadNamed (table_in entry.table) key old.flash) old.flash new.flash) told told_now result tells (λ lines are. lines-other IsBytes lines (λ h. h) are) (blob-other (AnswersBlob (table_in entry.table) key old.flash) (MayBeBadFor (table_in entry.table) key old.flash) (IsBadNamed (table_in entry.table) key old.flash) old.flash new.flash)
     says (command.Scan name range span) (inl w) = refused-says name w
     says (command.Scan name range span) (inr (at, entry, here, (noted, tells))) =
         listed (AreRows (has_blobs (table_in entry.table)) (mark_on (table_in entry.table) range span)) (EndsScan (mark_on (table_in entry.table) range span) (table_in entry.table) old.flash new.flash) told told_now result tells

@@ -12,10 +12,9 @@ use Rattle.fl_page.specs.declared.fault.ReadFault.{ReadFault}
 use Rattle.fl_table.specs.BlobAt.{data_in}
 use Rattle.fl_table.specs.Finding.{HasBadPage, IsAnswered}
 use Rattle.fl_table.specs.declared.table.Table.{Table}
-use Rattle.fl_var.specs.Blobs.{IsBadFirst, IsBadLater, IsGone, bytes_of}
-use Rattle.fl_var.specs.Reading.{bytes_left, data_of, IfBad, Reads}
+use Rattle.fl_var.specs.Blobs.{IsBadOf, IsGone, IsThere, bytes_of}
+use Rattle.fl_var.specs.Reading.{bytes_left, IfBad, IsBadAhead, IsThereBehind, Reads}
 use Rattle.fl_var.specs.declared.reader.BlobReader.{BlobReader}
-use Rattle.fl_var.specs.declared.var_data.VarData.{VarData}
 use Rattle.fl_words.specs.Reply as reply
 use Rattle.fl_words.specs.Reply.{Reply, hex_text}
 use Rattle.fl_session.specs.Found.{FindsRow}
@@ -27,18 +26,25 @@ use Rattle.fl_session.specs.declared.listing.ListFault.TheVariants.{Sink, Read}
 
 -- ---- bad pages
 
--- a page on which a blob begins is bad, wherever a row says that it begins; or one on which it goes on
-abbrev pub AreBadIn : Option VarData → FlashState → BadPage → Type 0
-AreBadIn None f bad = ⊥
-AreBadIn (Some v) f bad = ((at : BlobRef) × IsBadFirst v f at bad) ⊎ ((number : ℕ) × IsBadLater v f number bad)
+-- a page of the blob at a place that a row names is bad, as far as the flash tells
+abbrev pub IsBadIn : Table 64 64 → FlashState → BlobRef → BadPage → Type 0
+IsBadIn t f at bad = IsTrue f.media.tells → IsSomeAnd (data_in t) (λ var. IsBadOf var f at bad)
 
--- .. or one that the lookup of its record read, as far as the flash tells
-abbrev pub MayBeBadFor : Table 64 64 → FlashState → BadPage → Type 0
-MayBeBadFor t f bad = IsTrue f.media.tells → HasBadPage t f bad ⊎ AreBadIn (data_in t) f bad
+-- a row with the key stands where the lookup found it, and names a blob of which this holds
+abbrev pub FindsNamed : Table 64 64 → ℕ → FlashState → (BlobRef → Type 0) → Type 0
+FindsNamed t key f Holds = FindsRow t key f (λ row. (at : BlobRef) × (row.blob ≡ Some at) × Holds at)
 
--- a page on which the bytes go on that a reader has left
-abbrev pub IsBadAhead : BlobReader → FlashState → BadPage → Type 0
-IsBadAhead reader f bad = Reads reader f → (number : ℕ) × IsBadLater (data_of reader) f number bad
+-- .. whose page is bad
+abbrev pub IsBadNamed : Table 64 64 → ℕ → FlashState → BadPage → Type 0
+IsBadNamed t key f bad = FindsNamed t key f (λ at. IsBadIn t f at bad)
+
+-- .. or a page that the lookup of its record read, as far as the flash tells
+abbrev pub MayBeBadFor : Table 64 64 → ℕ → FlashState → BadPage → Type 0
+MayBeBadFor t key f bad = (IsTrue f.media.tells → HasBadPage t f bad) ⊎ IsBadNamed t key f bad
+
+-- a page is bad on which the bytes go on that a reader has left
+abbrev pub MayBeBadAhead : BlobReader → FlashState → BadPage → Type 0
+MayBeBadAhead reader f bad = Reads reader f → IsBadAhead reader f bad
 
 -- ---- the lines
 
@@ -56,37 +62,42 @@ IsBlob reply.BytesEmpty = Unit {0}
 IsBlob (reply.Bytes bytes) = Unit {0}
 IsBlob _ = ⊥
 
--- What a line tells of the blob at the place that a row names: it is gone, or empty, or it isn't gone and these are its bytes, as far as
--- the flash tells.
+-- What a line tells of the blob at the place that a row names: it is gone, or empty, or it isn't gone, all of it is there, and these are its
+-- bytes, as far as the flash tells.
 abbrev pub TellsBlob : Table 64 64 → FlashState → BlobRef → Reply → Type 0
 TellsBlob t f at reply.Gone = IsTrue f.media.tells → IsSomeAnd (data_in t) (λ var. IsGone var f at)
 TellsBlob t f at reply.BytesEmpty = at.length ≡ 0
-TellsBlob t f at (reply.Bytes bytes) = IsTrue f.media.tells → IsSomeAnd (data_in t) (λ var. (IsGone var f at → ⊥) × (bytes ≡ bytes_of var f at))
+TellsBlob t f at (reply.Bytes bytes) = IsTrue f.media.tells → IsSomeAnd (data_in t) (λ var. (IsGone var f at → ⊥) × IsThere var f at × (bytes ≡ bytes_of var f at))
 TellsBlob t f at _ = ⊥
 
 -- .. of that of the record with the key: no record has it, or the row that has it names no blob, or this one
 abbrev pub AnswersBlob : Table 64 64 → ℕ → FlashState → Reply → Type 0
 AnswersBlob t key f reply.Absent = IsAnswered t f key None
 AnswersBlob t key f reply.NoBlob = FindsRow t key f (λ row. row.blob ≡ None)
-AnswersBlob t key f said = FindsRow t key f (λ row. (at : BlobRef) × (row.blob ≡ Some at) × TellsBlob t f at said)
+AnswersBlob t key f said = FindsNamed t key f (λ at. TellsBlob t f at said)
 
--- these bytes are those that a reader has left
+-- these bytes are those that a reader has left, and all of them are there
 abbrev pub IsLeft : BlobReader → FlashState → List ℕ → Type 0
-IsLeft reader f bytes = Reads reader f → bytes ≡ bytes_left reader f
+IsLeft reader f bytes = Reads reader f → IsThereBehind reader f × (bytes ≡ bytes_left reader f)
 
 abbrev pub TellsLeft : BlobReader → FlashState → Reply → Type 0
 TellsLeft reader f (reply.Bytes bytes) = IsLeft reader f bytes
 TellsLeft reader f _ = ⊥
 
--- One line tells it, of which something holds where it was written, or that a page wasn't read; or that stands behind a line of some
--- bytes.
-abbrev pub EndsBlob : (Reply → Type 0) → (BadPage → Type 0) → FlashState → FlashState → Bool → ℕ → Reply → Type 0
-EndsBlob Tells IsBad old new taken zero last = (IsBlob last × (taken ≡ true → Tells last)) ⊎ IsUnread IsBad old new last
-EndsBlob Tells IsBad old new taken (suc zero) last = IsUnread IsBad old new last
-EndsBlob Tells IsBad old new taken (suc (suc n)) last = ⊥
+-- What a line tells holds of one of a word whether the sink took it or failed in it, and of a line of bytes where it took it.
+abbrev pub TellsTaken : (Reply → Type 0) → Bool → Reply → Type 0
+TellsTaken Tells taken (reply.Bytes bytes) = taken ≡ true → Tells (reply.Bytes bytes)
+TellsTaken Tells taken last = Tells last
 
-abbrev pub BlobSays : {E : Type 0} → (Reply → Type 0) → (BadPage → Type 0) → FlashState → FlashState → Option (List ℕ) → Option (List ℕ) → Result (Unit {0}) E → Type 0
-BlobSays Tells IsBad old new told told_now result = ListSays (AllByRecursion IsBytes) (EndsBlob Tells IsBad old new) told told_now result
+-- One line tells it, or that a page wasn't read; or that stands behind a line of some bytes. A page is bad then of which something holds,
+-- and behind bytes something else.
+abbrev pub EndsBlob : (Reply → Type 0) → (BadPage → Type 0) → (BadPage → Type 0) → FlashState → FlashState → Bool → ℕ → Reply → Type 0
+EndsBlob Tells IsBad IsBadOn old new taken zero last = (IsBlob last × TellsTaken Tells taken last) ⊎ IsUnread IsBad old new last
+EndsBlob Tells IsBad IsBadOn old new taken (suc zero) last = IsUnread IsBadOn old new last
+EndsBlob Tells IsBad IsBadOn old new taken (suc (suc n)) last = ⊥
+
+abbrev pub BlobSays : {E : Type 0} → (Reply → Type 0) → (BadPage → Type 0) → (BadPage → Type 0) → FlashState → FlashState → Option (List ℕ) → Option (List ℕ) → Result (Unit {0}) E → Type 0
+BlobSays Tells IsBad IsBadOn old new told told_now result = ListSays (AllByRecursion IsBytes) (EndsBlob Tells IsBad IsBadOn old new) told told_now result
 
 -- what a lookup finds of a record's blob
 abbrev pub NamesFor : Table 64 64 → ℕ → FlashState → BlobFound → Type 0
@@ -97,10 +108,10 @@ NamesFor t key f (found.At at) = FindsRow t key f (λ row. row.blob ≡ Some at)
 -- A reader was turned to a blob of this table, or wasn't: a page that wasn't read then, or isn't read from now on, has its cause.
 pub record OpensFor (t : Table 64 64) (at : BlobRef) (f g : FlashState) (stands : Result Bool ReadFault) (reader : BlobReader) : Type 0 where
   pub only : OnlyReads f g
-  pub fails : IfErr stands (λ fault. IsCaused f fault g × IfBad (MayBeBadFor t f) fault)
+  pub fails : IfErr stands (λ fault. IsCaused f fault g × IfBad (IsBadIn t f at) fault)
   pub gone : stands ≡ Ok false → TellsBlob t f at reply.Gone
   pub left : stands ≡ Ok true → (bytes : List ℕ) → IsLeft reader g bytes → TellsBlob t f at (reply.Bytes bytes)
-  pub ahead : stands ≡ Ok true → (bad : BadPage) → IsBadAhead reader g bad → MayBeBadFor t f bad
+  pub ahead : stands ≡ Ok true → (bad : BadPage) → MayBeBadAhead reader g bad → IsBadIn t f at bad
 
 -- The digits of some bytes were written, all that there are; or the sink failed in them, or a page behind them wasn't read.
 abbrev pub GivesSome : (List ℕ → Type 0) → (BadPage → Type 0) → Option (List ℕ) → Option (List ℕ) → Result (Unit {0}) ListFault → Type 0

@@ -48,7 +48,7 @@ use Rattle.fl_words.specs.Reply as reply
 use Rattle.fl_words.specs.Reply.{Reply, text, texts}
 use Rattle.fl_session.specs.Answer.{IsReached, load_replies, mount_reply}
 use Rattle.fl_session.specs.Asked.{lacked_column}
-use Rattle.fl_session.specs.BlobSays.{AnswersBlob, BlobSays, MayBeBadFor}
+use Rattle.fl_session.specs.BlobSays.{AnswersBlob, BlobSays, IsBadNamed, MayBeBadFor}
 use Rattle.fl_session.specs.Cost.{cost_of}
 use Rattle.fl_session.specs.Found.{FindsRow}
 use Rattle.fl_session.specs.ListSays.{EndsNext, EndsOnBoth, EndsScan, IsFields, IsGroup, IsPair, ListSays}
@@ -331,7 +331,7 @@ Caused Cost old new told told_now result = Writes told told_now result (CostSays
 Caused (Open cursor name range span) old new told told_now result = Writes told told_now result (OnTable old new name (OpenSays old new cursor range span))
 Caused (Close cursor) old new told told_now result = Writes told told_now result (CloseSays old new cursor)
 Caused (Get name key) old new told told_now result = Writes told told_now result (OnTable old new name (GetSays old new key))
-Caused (Blob name key) old new told told_now result = Lists old new name told told_now result (λ entry. OnlyLooks old new old.notes × BlobSays (AnswersBlob (table_in entry.table) key old.flash) (MayBeBadFor (table_in entry.table) old.flash) old.flash new.flash told told_now result)
+Caused (Blob name key) old new told told_now result = Lists old new name told told_now result (λ entry. OnlyLooks old new old.notes × BlobSays (AnswersBlob (table_in entry.table) key old.flash) (MayBeBadFor (table_in entry.table) key old.flash) (IsBadNamed (table_in entry.table) key old.flash) old.flash new.flash told told_now result)
 Caused (Scan name range span) old new told told_now result = Lists old new name told told_now result (λ entry. NotesScan old new × ListSays (AreRows (has_blobs (table_in entry.table)) (mark_on (table_in entry.table) range span)) (EndsScan (mark_on (table_in entry.table) range span) (table_in entry.table) old.flash new.flash) told told_now result)
 Caused (Next cursor count) old new told told_now result = NextLooks old new cursor count told told_now result
 Caused (Select name range column op value) old new told told_now result = Lists old new name told told_now result (λ entry. IfLacks old new range (AreRising IsRow (above_range range.low None)) entry told told_now result (lacked_column (layout_in (table_in entry.table)) (column ∷ [])))

@@ -18,7 +18,7 @@ ghost use Rattle.fl_table.specs.declared.table.Table as tables;
 ghost use Rattle.fl_var.specs.Memory as memory;
 ghost use Rattle.fl_var.specs.Reading.{data_of, buffer_of, pages_left};
 ghost use Rattle.fl_flash.specs.Flash.{FlashState};
-ghost use Rattle.fl_session.specs.BlobSays.{AnswersBlob, BlobSays, MayBeBadFor, NamesFor, OpensFor, TellsBlob};
+ghost use Rattle.fl_session.specs.BlobSays.{AnswersBlob, BlobSays, IsBadIn, IsBadNamed, MayBeBadFor, NamesFor, OpensFor, TellsBlob};
 ghost use Rattle.fl_session.specs.BlobShown.{found_in, IfNamed, FindsBlob, SaysBlob, ShowsBlob, WasOpened};
 
 use crate::blob_line::{read_reply, show_bytes};
@@ -91,7 +91,7 @@ fn show_opened<F: Flash, K: Sink>(
     ensures data { data_of reader.new ≡ data_of reader.old }
     ensures buffer { buffer_of reader.new ≡ buffer_of reader.old }
     ensures cause { HasCause (K.faults out.old) (K.faults out.new) result }
-    ensures tells { (t : tables.Table 64 64) (at : BlobRef) (f : FlashState) → OpensFor t at f (F.state flash.old) stands reader.old → BlobSays (TellsBlob t f at) (MayBeBadFor t f) f (F.state flash.new) (K.written out.old) (K.written out.new) result }
+    ensures tells { (t : tables.Table 64 64) (at : BlobRef) (f : FlashState) → OpensFor t at f (F.state flash.old) stands reader.old → BlobSays (TellsBlob t f at) (IsBadIn t f at) (IsBadIn t f at) f (F.state flash.new) (K.written out.old) (K.written out.new) result }
     ensures says { (t : model.Table) (entry : Entry) (bytes : List ℕ) (f : FlashState) → f.is_on ≡ true → WasOpened t entry bytes f (F.state flash.old) stands reader.old →
         SaysBlob (blob_of t entry) (K.written out.old) (K.written out.new) f.media.faults (F.state flash.new).media.faults f.work.reads (F.state flash.new).work.reads result }
     ensures reads { (t : model.Table) (entry : Entry) (bytes : List ℕ) (f : FlashState) → WasOpened t entry bytes f (F.state flash.old) stands reader.old →
@@ -119,7 +119,7 @@ fn show_at<F: Flash, K: Sink>(
     ensures counts { OnlyReads (F.state flash.old) (F.state flash.new) }
     ensures room { length buf.new.bytes ≡ length buf.old.bytes }
     ensures cause { HasCause (K.faults out.old) (K.faults out.new) result }
-    ensures tells { BlobSays (TellsBlob table.now (F.state flash.old) at) (MayBeBadFor table.now (F.state flash.old)) (F.state flash.old) (F.state flash.new) (K.written out.old) (K.written out.new) result }
+    ensures tells { BlobSays (TellsBlob table.now (F.state flash.old) at) (IsBadIn table.now (F.state flash.old) at) (IsBadIn table.now (F.state flash.old) at) (F.state flash.old) (F.state flash.new) (K.written out.old) (K.written out.new) result }
     ensures says { (first : ℕ) (plan : Plan) (t : model.Table) (i : ℕ) (entry : Entry) (bytes : List ℕ) → IsTrue (F.state flash.old).media.tells → (F.state flash.old).is_on ≡ true → Stands table.now (F.state flash.old) first plan t
         → slice_get t.entries i ≡ Some entry → entry.kept.blob ≡ Some bytes → at ≡ record { page = entry.page; offset = entry.offset; length = length bytes }
         → SaysBlob (blob_of t entry) (K.written out.old) (K.written out.new) (F.state flash.old).media.faults (F.state flash.new).media.faults (F.state flash.old).work.reads (F.state flash.new).work.reads result }
@@ -151,7 +151,7 @@ pub(crate) fn show_blob<F: Flash, K: Sink>(
     ensures counts { OnlyReads (F.state flash.old) (F.state flash.new) }
     ensures room { length buf.new.bytes ≡ length buf.old.bytes }
     ensures cause { HasCause (K.faults out.old) (K.faults out.new) result }
-    ensures tells { BlobSays (AnswersBlob table.now key (F.state flash.old)) (MayBeBadFor table.now (F.state flash.old)) (F.state flash.old) (F.state flash.new) (K.written out.old) (K.written out.new) result }
+    ensures tells { BlobSays (AnswersBlob table.now key (F.state flash.old)) (MayBeBadFor table.now key (F.state flash.old)) (IsBadNamed table.now key (F.state flash.old)) (F.state flash.old) (F.state flash.new) (K.written out.old) (K.written out.new) result }
     ensures shows { (first : ℕ) (plan : Plan) (t : model.Table) → IsTrue (F.state flash.old).media.tells → (F.state flash.old).is_on ≡ true → Stands table.now (F.state flash.old) first plan t →
         ShowsBlob plan t key (K.written out.old) (K.written out.new) (F.state flash.old).media.faults (F.state flash.new).media.faults (F.state flash.old).work.reads (F.state flash.new).work.reads result }
 {

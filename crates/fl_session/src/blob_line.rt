@@ -4,7 +4,7 @@ ghost use Rattle.fl_base.specs.Causes.{HasCause, Rose};
 ghost use Rattle.fl_frame.specs.Contents.{OnlyReads};
 ghost use Rattle.fl_script.specs.ReplyView.{reply_text};
 ghost use Rattle.fl_session.specs.BlobLine.{GivesDigits, IsTurned, ShowsBytes, read_reply};
-ghost use Rattle.fl_session.specs.BlobSays.{BlobSays, GivesSome, IsBadAhead, IsLeft, TellsLeft};
+ghost use Rattle.fl_session.specs.BlobSays.{BlobSays, GivesSome, IsLeft, MayBeBadAhead, TellsLeft};
 ghost use Rattle.fl_session.specs.Listed.{IfSink, IfUnread};
 ghost use Rattle.fl_var.specs.Memory.{LiesOn};
 ghost use Rattle.fl_var.specs.Reading.{data_of, buffer_of, pages_left, bytes_left, Reads, IsWholeIn};
@@ -31,7 +31,7 @@ fn give_digits<F: Flash, K: Sink>(
     ensures later { K.faults out.old ≤ K.faults out.new }
     ensures sink { IfErr result (λ fault. IfSink fault (Rose (K.faults out.old) (K.faults out.new))) }
     ensures unread { IfErr result (IfUnread (F.state flash.old) (F.state flash.new)) }
-    ensures digits { GivesSome (IsLeft reader.old (F.state flash.old)) (IsBadAhead reader.old (F.state flash.old)) (K.written out.old) (K.written out.new) result }
+    ensures digits { GivesSome (IsLeft reader.old (F.state flash.old)) (MayBeBadAhead reader.old (F.state flash.old)) (K.written out.old) (K.written out.new) result }
     ensures reads { Reads reader.old (F.state flash.old) → IsWholeIn reader.old (F.state flash.old) → (F.state flash.new).work.reads ≤ (F.state flash.old).work.reads + pages_left reader.old }
     ensures gives { Reads reader.old (F.state flash.old) → IsWholeIn reader.old (F.state flash.old) → IsTurned reader.old (F.state flash.old) → GivesDigits (bytes_left reader.old (F.state flash.old)) (K.written out.old) (K.written out.new) result }
 {
@@ -53,7 +53,7 @@ pub(crate) fn show_bytes<F: Flash, K: Sink>(
     ensures data { data_of reader.new ≡ data_of reader.old }
     ensures buffer { buffer_of reader.new ≡ buffer_of reader.old }
     ensures cause { HasCause (K.faults out.old) (K.faults out.new) result }
-    ensures tells { BlobSays (TellsLeft reader.old (F.state flash.old)) (IsBadAhead reader.old (F.state flash.old)) (F.state flash.old) (F.state flash.new) (K.written out.old) (K.written out.new) result }
+    ensures tells { BlobSays (TellsLeft reader.old (F.state flash.old)) (MayBeBadAhead reader.old (F.state flash.old)) (MayBeBadAhead reader.old (F.state flash.old)) (F.state flash.old) (F.state flash.new) (K.written out.old) (K.written out.new) result }
     ensures reads { Reads reader.old (F.state flash.old) → IsWholeIn reader.old (F.state flash.old) → (F.state flash.new).work.reads ≤ (F.state flash.old).work.reads + pages_left reader.old }
     ensures shows { Reads reader.old (F.state flash.old) → IsWholeIn reader.old (F.state flash.old) → IsTurned reader.old (F.state flash.old) → (F.state flash.old).is_on ≡ true →
         ShowsBytes (bytes_left reader.old (F.state flash.old)) (K.written out.old) (K.written out.new) (F.state flash.old).media.faults (F.state flash.new).media.faults (F.state flash.old).work.reads (F.state flash.new).work.reads result }

@@ -16,3 +16,4 @@ pub mod Placed
 pub mod MountsInTable
 pub mod Stored
 pub mod Found
+pub mod PagesBehind

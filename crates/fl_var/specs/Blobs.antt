@@ -52,3 +52,38 @@ pub record IsBadFirst (v : VarData) (f : FlashState) (at : BlobRef) (bad : BadPa
 pub record IsBadLater (v : VarData) (f : FlashState) (number : ℕ) (bad : BadPage) : Type 0 where
   pub behind : next_in v < number → bad ≡ end_fault v
   pub here : number ≤ next_in v → (HasContent number (image_in v f number) → ⊥) × (bad ≡ bad_page number (image_in v f number))
+
+-- ---- where a blob is there, and where it isn't
+
+-- bytes on a page that end so far in the content from there on go on to a later page: the pages before that one have fewer
+abbrev pub GoesOnTo : (ℕ → List ℕ) → ℕ → ℕ → ℕ → Type 0
+GoesOnTo image page end number = (page < number) × (length (contents_from image page (number - page)) < end)
+
+-- a page that isn't behind the one in memory, and has content
+abbrev pub IsReadable : (ℕ → List ℕ) → ℕ → ℕ → Type 0
+IsReadable image next number = (number ≤ next) × HasContent number (image number)
+
+-- all pages to which they go on are such
+pub record AreThere (image : ℕ → List ℕ) (next page end : ℕ) : Type 0 where
+  pub each : (number : ℕ) → GoesOnTo image page end number → IsReadable image next number
+
+-- a blob begins in the content of its first page
+pub record Begins (v : VarData) (f : FlashState) (at : BlobRef) : Type 0 where
+  pub first : IsReadable (image_in v f) (next_in v) at.page
+  pub inside : at.offset < page_count (image_in v f at.page)
+
+-- .. and all of its bytes are there
+pub record IsThere (v : VarData) (f : FlashState) (at : BlobRef) : Type 0 where
+  pub begins : Begins v f at
+  pub behind : AreThere (image_in v f) (next_in v) at.page (at.offset + at.length)
+
+-- the first page to which bytes go on that isn't there
+pub record IsBadBehind (v : VarData) (f : FlashState) (page end : ℕ) (bad : BadPage) : Type 0 where
+  pub number : ℕ
+  pub goes_on : GoesOnTo (image_in v f) page end number
+  pub before : (n : ℕ) → page < n → n < number → IsReadable (image_in v f) (next_in v) n
+  pub is_bad : IsBadLater v f number bad
+
+-- A page of a blob that isn't gone is bad: its first one, or where it begins there, the first later one that isn't there.
+abbrev pub IsBadOf : VarData → FlashState → BlobRef → BadPage → Type 0
+IsBadOf v f at bad = (IsGone v f at → ⊥) × (IsBadFirst v f at bad ⊎ (Begins v f at × IsBadBehind v f at.page (at.offset + at.length) bad))

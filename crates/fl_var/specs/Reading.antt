@@ -12,7 +12,7 @@ use Rattle.fl_page.specs.Header.{page_count}
 use Rattle.fl_page.specs.declared.fault.BadPage.{BadPage}
 use Rattle.fl_page.specs.declared.fault.ReadFault.{ReadFault}
 use Rattle.fl_page.specs.declared.fault.ReadFault.TheVariants as fault
-use Rattle.fl_var.specs.Blobs.{IsGone, contents_in, bytes_of, IsWhole, IsBadFirst}
+use Rattle.fl_var.specs.Blobs.{IsGone, contents_in, bytes_of, IsWhole, IsBadFirst, AreThere, IsThere, IsBadBehind, IsBadOf}
 use Rattle.fl_var.specs.Content.{content_of}
 use Rattle.fl_var.specs.Memory.{next_in, room_in, page_in, image_in, present}
 use Rattle.fl_var.specs.declared.reader.BlobReader.{BlobReader}
@@ -66,12 +66,22 @@ pub record Reads (r : BlobReader) (f : FlashState) : Type 0 where
 abbrev pub IsWholeIn : BlobReader → FlashState → Type 0
 IsWholeIn r f = 0 < r.left → IsWhole (image_in r.var.now f) (next_in r.var.now) (room_in r.var.now) r.page r.end r.left
 
--- a blob was opened
+-- all pages are there to which they go on behind the one in hand
+abbrev pub IsThereBehind : BlobReader → FlashState → Type 0
+IsThereBehind r f = 0 < r.left → AreThere (image_in r.var.now f) (next_in r.var.now) r.page (r.end + r.left)
+
+-- the first of these that isn't there
+abbrev pub IsBadAhead : BlobReader → FlashState → BadPage → Type 0
+IsBadAhead r f bad = IsBadBehind r.var.now f r.page (r.end + r.left) bad
+
+-- A blob was opened. Where it has bytes it is there if what the reader has left is, and a bad page of these is one of the blob.
 pub record Opened (v : VarData) (f : FlashState) (at : BlobRef) (r : BlobReader) : Type 0 where
   pub not_gone : IsGone v f at → ⊥
   pub reads : Reads r f
   pub reads_of : data_of r ≡ v
   pub left : bytes_left r f ≡ bytes_of v f at
+  pub there : 0 < at.length → IsThereBehind r f → IsThere v f at
+  pub ahead : 0 < at.length → (bad : BadPage) → IsBadAhead r f bad → IsBadOf v f at bad
 
 -- how an opening ends over any bytes: none exactly where the blob is gone
 abbrev pub Opens : VarData → FlashState → BlobRef → Result (Option BlobReader) ReadFault → Type 0

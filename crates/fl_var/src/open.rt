@@ -18,6 +18,7 @@ impl VarData {
     ghost use Rattle.fl_model.specs.Agrees.{HoldsBlob};
     ghost use Rattle.fl_model.specs.Query.{page_stands};
     ghost use Rattle.fl_var.specs.Blobs.{IsGone, IsBadFirst};
+    ghost use Rattle.fl_var.specs.Content.{HasContent};
     ghost use Rattle.fl_var.specs.Memory.{is_mounted, LiesOn, next_in, page_len, room_in, present, image_in, page_in};
     ghost use Rattle.fl_var.specs.Reading.{data_of, buffer_of, chunk_of, count_left, pages_left, Opens, Finds, IfUnread, IfBad, IsOfPage};
     ghost use Rattle.fl_var.specs.Standing.{Stands};
@@ -40,7 +41,7 @@ impl VarData {
         ensures lies { LiesOn self.now (F.state flash.new) }
         ensures room { length buf.new.bytes ≡ length buf.old.bytes }
         ensures gone { IsTrue (F.state flash.old).media.tells → IfOk result (λ used. used ≡ None → IsGone self.now (F.state flash.old) at) }
-        ensures stands { IsTrue (F.state flash.old).media.tells → IfOk result (λ used. IfSome used (λ n. (IsGone self.now (F.state flash.old) at → ⊥) × (n ≡ page_count (image_in self.now (F.state flash.old) at.page)))) }
+        ensures stands { IsTrue (F.state flash.old).media.tells → IfOk result (λ used. IfSome used (λ n. (IsGone self.now (F.state flash.old) at → ⊥) × (n ≡ page_count (image_in self.now (F.state flash.old) at.page)) × HasContent at.page (image_in self.now (F.state flash.old) at.page))) }
         ensures holds { IsTrue (F.state flash.old).media.tells → at.page < next_in self.now → IfOk result (λ used. IfSome used (λ n. buf.new.bytes ≡ page_in self.now (F.state flash.old) at.page)) }
         ensures within { IfOk result (λ used. IfSome used (λ n. (at.page ≤ next_in self.now) × (at.offset < n) × (n ≤ length (present self.now at.page buf.new.bytes)) × (n ≤ room_in self.now))) }
         ensures fails { IfErr result (λ e. IfUnread (F.state flash.old) e (F.state flash.new)) }

@@ -38,7 +38,8 @@ impl<'s, 'b> BlobReader<'s, 'b> {
     ghost use Rattle.fl_frame.specs.Reads.{OnlyReads};
     ghost use Rattle.fl_var.specs.Blobs.{IsBadLater};
     ghost use Rattle.fl_var.specs.Memory.{LiesOn};
-    ghost use Rattle.fl_var.specs.Reading.{data_of, buffer_of, held_by, page_of, chunk_of, count_left, pages_left, has_here, bytes_left, Reads, IsWholeIn, Steps, IfUnread, IfBad, NoneBad};
+    ghost use Rattle.fl_page.specs.declared.fault.BadPage.{BadPage};
+    ghost use Rattle.fl_var.specs.Reading.{data_of, buffer_of, held_by, page_of, chunk_of, count_left, pages_left, has_here, bytes_left, Reads, IsWholeIn, IsThereBehind, IsBadAhead, Steps, IfUnread, IfBad, NoneBad};
 
     /// Turns to the next page, which has to have content, where the present one was given to its end.
     fn turn<F: Flash>(&mut self, flash: &mut F) -> Result<(), ReadFault>
@@ -61,6 +62,8 @@ impl<'s, 'b> BlobReader<'s, 'b> {
         ensures most { Reads self.old (F.state flash.old) → IsWholeIn self.old (F.state flash.old) → (F.state flash.new).work.reads ≤ (F.state flash.old).work.reads + pages_left self.old }
         ensures fails { IfErr result (λ e. IfUnread (F.state flash.old) e (F.state flash.new)) }
         ensures bad { IsTrue (F.state flash.old).media.tells → IfErr result (IfBad (IsBadLater (data_of self.old) (F.state flash.old) (page_of self.old + 1))) }
+        ensures sound { Reads self.old (F.state flash.old) → OnOk result (IsThereBehind self.new (F.state flash.new) → IsThereBehind self.old (F.state flash.old)) }
+        ensures ahead { Reads self.old (F.state flash.old) → OnOk result ((bad : BadPage) → IsBadAhead self.new (F.state flash.new) bad → IsBadAhead self.old (F.state flash.old) bad) }
     {
         if self.end < self.used {
             return Ok(());
@@ -92,6 +95,8 @@ impl<'s, 'b> BlobReader<'s, 'b> {
         ensures chunk { count_left self.old ≡ length (chunk_of self.new) + count_left self.new }
         ensures whole { (f : FlashState) → IsWholeIn self.old f → IsWholeIn self.new f }
         ensures few { pages_left self.new ≤ pages_left self.old }
+        ensures sound { (f : FlashState) → Reads self.old f → IsThereBehind self.new f → IsThereBehind self.old f }
+        ensures ahead { (f : FlashState) (bad : BadPage) → IsBadAhead self.new f bad → IsBadAhead self.old f bad }
     {
         let here = self.used - self.end;
         let len = here.min(self.left as usize);
@@ -101,7 +106,7 @@ impl<'s, 'b> BlobReader<'s, 'b> {
 
     /// Takes the next chunk from the front of the bytes left. True where there is one, and false where no byte is left,
     /// for which nothing is read, so that it comes with the power off too. After a fault the bytes left are as they were.
-    /// Over any bytes each true leaves fewer bytes, by its chunk.
+    /// Over any bytes each true leaves fewer bytes, by its chunk, and a page that it turns to is there.
     pub fn step<F: Flash>(&mut self, flash: &mut F) -> Result<bool, ReadFault>
         requires lies { LiesOn (data_of self.old) (F.state flash.old) }
         ensures reads { OnlyReads (F.state flash.old) 1 (F.state flash.new) }
@@ -122,6 +127,8 @@ impl<'s, 'b> BlobReader<'s, 'b> {
         ensures most { Reads self.old (F.state flash.old) → IsWholeIn self.old (F.state flash.old) → (F.state flash.new).work.reads ≤ (F.state flash.old).work.reads + pages_left self.old }
         ensures fails { IfErr result (λ e. IfUnread (F.state flash.old) e (F.state flash.new)) }
         ensures bad { Reads self.old (F.state flash.old) → IfErr result (IfBad (IsBadLater (data_of self.old) (F.state flash.old) (page_of self.old + 1))) }
+        ensures sound { Reads self.old (F.state flash.old) → OnOk result (IsThereBehind self.new (F.state flash.new) → IsThereBehind self.old (F.state flash.old)) }
+        ensures ahead { Reads self.old (F.state flash.old) → OnOk result ((bad : BadPage) → IsBadAhead self.new (F.state flash.new) bad → IsBadAhead self.old (F.state flash.old) bad) }
     {
         self.begin = self.end;
         if self.left == 0 {

@@ -1,14 +1,14 @@
-use Rattle.std.proofs.Common.{rules, ◌/◌, ◌≤◌, length, sym, ◌∙◌, ap, arith}
+use Rattle.std.proofs.Common.{rules, ◌/◌, ◌<◌, ◌≤◌, length, sym, ◌∙◌, ap, arith}
 use Rattle.fl_base.specs.declared.types.BlobRef.{BlobRef}
 use Rattle.fl_frame.proofs.ContentsInTurn.{OnlyReads-then}
 use Rattle.fl_table.specs.BlobAt.{content_in}
 use Rattle.fl_var.specs.Reading.{data_of}
-use Rattle.fl_store.proofs.Readers.{buffer-fits, data-lies, data-stands, opened-ready, reads-kept, room-same}
+use Rattle.fl_store.proofs.Readers.{buffer-fits, data-lies, data-stands, opened-ready, room-same}
 use Rattle.fl_session.proofs.BlobShows.{says-empty, few-left, holds-blob}
 use Rattle.fl_words.specs.Reply.{BytesEmpty}
-use Rattle.fl_session.specs.BlobSays.{MayBeBadFor, TellsBlob}
+use Rattle.fl_session.specs.BlobSays.{IsBadIn, TellsBlob}
 use Rattle.fl_session.proofs.AnyBlobs.{says-one}
-use Rattle.fl_session.proofs.BadBlobs.{opened-bad, opened-gone, opened-left, turned-held}
+use Rattle.fl_session.proofs.BadBlobs.{opened-ahead, opened-bad, opened-gone, opened-left}
 use Rattle.fl_session.proofs.blob.show_at.Goals as goal
 
 pub returns-then-at-eq0-clause-says : goal.returns-then-at-eq0-clause-says
@@ -70,7 +70,10 @@ returns-clause-reads g c = λ first plan t i entry bytes tells stands slot blob_
     omega (arith, more, few)
 
 pub returns-then-at-eq0-clause-tells : goal.returns-then-at-eq0-clause-tells
-returns-then-at-eq0-clause-tells g c = says-one (TellsBlob c.args.table.now (g.F.Flash.state c.args.flash.now) c.args.at) (MayBeBadFor c.args.table.now (g.F.Flash.state c.args.flash.now)) (g.F.Flash.state c.args.flash.now) (g.F.Flash.state c.args.flash.now) _ _ _ BytesEmpty tt (λ taken. c.if-at-eq0.true) c.write_reply.ensures.text
+returns-then-at-eq0-clause-tells g c =
+    let f = g.F.Flash.state c.args.flash.now in
+    let t = c.args.table.now in
+    says-one (TellsBlob t f c.args.at) (IsBadIn t f c.args.at) (IsBadIn t f c.args.at) f f _ _ _ BytesEmpty tt c.if-at-eq0.true c.write_reply.ensures.text
 
 pub returns-clause-tells : goal.returns-clause-tells
 returns-clause-tells g c =
@@ -78,11 +81,12 @@ returns-clause-tells g c =
     let h = g.F.Flash.state c.open-stands.new.flash in
     let t = c.args.table.now in
     let v = data_of c.blob_reader-reader.result in
+    let full : 1 ≤ c.args.at.length = search rules in
+    let some : 0 < c.args.at.length = omega (arith, full) in
     c.show_opened-written.ensures.tells t c.args.at f (record {
       gone = opened-gone t f h c.open-stands.ensures.reads v c.args.at c.open-stands.result c.open-stands.new.self c.blob_reader-reader.ensures.var c.open-stands.ensures.opens;
-      left = opened-left t f h c.open-stands.ensures.reads v c.args.at c.open-stands.result c.open-stands.new.self c.blob_reader-reader.ensures.var c.open-stands.ensures.opens;
+      left = λ is. opened-left t f h c.open-stands.ensures.reads v c.args.at c.open-stands.result c.open-stands.new.self c.blob_reader-reader.ensures.var c.open-stands.ensures.opens is some;
       only = c.open-stands.ensures.counts;
       fails = opened-bad t f h v c.args.at c.open-stands.result c.open-stands.new.self c.blob_reader-reader.ensures.var c.open-stands.ensures.opens c.open-stands.ensures.fails;
-      ahead = λ is. turned-held f h c.open-stands.ensures.counts t v c.open-stands.new.self c.blob_reader-reader.ensures.var c.open-stands.ensures.data
-          (λ tells. reads-kept c.open-stands.new.self f h 1 c.open-stands.ensures.reads (opened-ready v f c.args.at c.open-stands.result c.open-stands.new.self (c.open-stands.ensures.opens tells) is));
+      ahead = λ is. opened-ahead t f h c.open-stands.ensures.reads v c.args.at c.open-stands.result c.open-stands.new.self c.blob_reader-reader.ensures.var c.open-stands.ensures.opens is some;
     })

@@ -1,10 +1,10 @@
-use Rattle.std.proofs.Common.{◌∙◌, ℕ, List, refl, subst}
+use Rattle.std.proofs.Common.{◌∙◌, ℕ, List, inr, refl, subst}
 use Rattle.fl_frame.proofs.ContentsInTurn.{OnlyReads-then, OnlyReads-reads}
 use Rattle.fl_script.specs.Written.{Written}
 use Rattle.fl_words.specs.Reply.{Absent, NoBlob}
-use Rattle.fl_session.specs.BlobSays.{AnswersBlob, MayBeBadFor, TellsBlob}
+use Rattle.fl_session.specs.BlobSays.{AnswersBlob, IsBadIn, IsBadNamed, MayBeBadFor, TellsBlob}
 use Rattle.fl_session.proofs.AnyBlobs.{says-later, says-none_read, says-one}
-use Rattle.fl_session.proofs.BadBlobs.{answers-held, for-held, looked-bad}
+use Rattle.fl_session.proofs.BadBlobs.{answers-held, looked-bad, named-bad}
 use Rattle.fl_session.proofs.BlobShows.{lookup-caused, shows-absent, shows-none, shows-said, shows-unread, content-same}
 use Rattle.fl_session.proofs.GetReplies.{stands-read, tells-read}
 use Rattle.fl_session.proofs.blob.show_blob.Goals as goal
@@ -42,21 +42,40 @@ returns-in-Err-clause-shows g c = λ first plan t tells on stands.
     (subst (λ (l : List ℕ). Written (g.K.Sink.written c.args.out.now) (g.K.Sink.written c.write_reply-in-Err.new.out) c.write_reply-in-Err.result l) c.read_reply.ensures c.write_reply-in-Err.ensures.text) (c.find_blob.ensures.reads first plan t tells stands)
 
 pub returns-in-Ok-NoRecord-clause-tells : goal.returns-in-Ok-NoRecord-clause-tells
-returns-in-Ok-NoRecord-clause-tells g c = says-one (AnswersBlob c.args.table.now c.args.key (g.F.Flash.state c.args.flash.now)) (MayBeBadFor c.args.table.now (g.F.Flash.state c.args.flash.now)) (g.F.Flash.state c.args.flash.now) (g.F.Flash.state c.find_blob.new.flash) _ _ _ Absent tt (λ taken. rw (c.in-Ok-NoRecord.is, c.in-Ok-NoRecord.field-0-is) at c.find_blob.ensures.names) c.write_reply.ensures.text
+returns-in-Ok-NoRecord-clause-tells g c =
+    let f = g.F.Flash.state c.args.flash.now in
+    let t = c.args.table.now in
+    let key = c.args.key in
+    let names = rw (c.in-Ok-NoRecord.is, c.in-Ok-NoRecord.field-0-is) at c.find_blob.ensures.names in
+    says-one (AnswersBlob t key f) (MayBeBadFor t key f) (IsBadNamed t key f) f (g.F.Flash.state c.find_blob.new.flash) _ _ _ Absent tt names c.write_reply.ensures.text
 
 pub returns-in-Ok-NoBlob-clause-tells : goal.returns-in-Ok-NoBlob-clause-tells
-returns-in-Ok-NoBlob-clause-tells g c = says-one (AnswersBlob c.args.table.now c.args.key (g.F.Flash.state c.args.flash.now)) (MayBeBadFor c.args.table.now (g.F.Flash.state c.args.flash.now)) (g.F.Flash.state c.args.flash.now) (g.F.Flash.state c.find_blob.new.flash) _ _ _ NoBlob tt (λ taken. rw (c.in-Ok-NoBlob.is, c.in-Ok-NoBlob.field-0-is) at c.find_blob.ensures.names) c.write_reply-in-Ok-NoBlob.ensures.text
+returns-in-Ok-NoBlob-clause-tells g c =
+    let f = g.F.Flash.state c.args.flash.now in
+    let t = c.args.table.now in
+    let key = c.args.key in
+    let names = rw (c.in-Ok-NoBlob.is, c.in-Ok-NoBlob.field-0-is) at c.find_blob.ensures.names in
+    says-one (AnswersBlob t key f) (MayBeBadFor t key f) (IsBadNamed t key f) f (g.F.Flash.state c.find_blob.new.flash) _ _ _ NoBlob tt names c.write_reply-in-Ok-NoBlob.ensures.text
 
 pub returns-in-Ok-At-clause-tells : goal.returns-in-Ok-At-clause-tells
 returns-in-Ok-At-clause-tells g c =
     let f = g.F.Flash.state c.args.flash.now in
     let h = g.F.Flash.state c.find_blob.new.flash in
+    let t = c.args.table.now in
+    let key = c.args.key in
+    let at = c.in-Ok-At.at in
     let names = rw (c.in-Ok-At.is, c.in-Ok-At.field-0-is) at c.find_blob.ensures.names in
-    says-later (TellsBlob c.args.table.now h c.in-Ok-At.at) (AnswersBlob c.args.table.now c.args.key (g.F.Flash.state c.args.flash.now)) (MayBeBadFor c.args.table.now h) (MayBeBadFor c.args.table.now f) f h (g.F.Flash.state c.show_at.new.flash) c.find_blob.ensures.counts (answers-held c.args.table.now c.args.key f h c.find_blob.ensures.counts c.in-Ok-At.at names) (for-held f h c.find_blob.ensures.counts c.args.table.now) _ _ _ c.show_at.ensures.tells
+    let bad = named-bad f h c.find_blob.ensures.counts t key at names in
+    says-later (TellsBlob t h at) (AnswersBlob t key f) (IsBadIn t h at) (IsBadIn t h at) (MayBeBadFor t key f) (IsBadNamed t key f) f h (g.F.Flash.state c.show_at.new.flash) c.find_blob.ensures.counts
+    (answers-held t key f h c.find_blob.ensures.counts at names) (λ page is. inr (bad page is)) bad _ _ _ c.show_at.ensures.tells
 
 pub returns-in-Err-clause-tells : goal.returns-in-Err-clause-tells
 returns-in-Err-clause-tells g c =
+    let f = g.F.Flash.state c.args.flash.now in
+    let h = g.F.Flash.state c.find_blob.new.flash in
+    let t = c.args.table.now in
+    let key = c.args.key in
     let fails = rw c.in-Err.is at c.find_blob.ensures.fails in
-    let cause = lookup-caused c.args.table.now (g.F.Flash.state c.args.flash.now) (g.F.Flash.state c.find_blob.new.flash) c.in-Err.fault fails in
-    says-none_read (AnswersBlob c.args.table.now c.args.key (g.F.Flash.state c.args.flash.now)) (MayBeBadFor c.args.table.now (g.F.Flash.state c.args.flash.now)) (g.F.Flash.state c.args.flash.now) (g.F.Flash.state c.find_blob.new.flash) _ _ _ c.in-Err.fault cause (looked-bad c.args.table.now (g.F.Flash.state c.args.flash.now) (g.F.Flash.state c.find_blob.new.flash) c.in-Err.fault fails)
+    let cause = lookup-caused t f h c.in-Err.fault fails in
+    says-none_read (AnswersBlob t key f) (MayBeBadFor t key f) (IsBadNamed t key f) f h _ _ _ c.in-Err.fault cause (looked-bad t key f h c.in-Err.fault fails)
     (subst (λ (l : List ℕ). Written (g.K.Sink.written c.args.out.now) (g.K.Sink.written c.write_reply-in-Err.new.out) c.write_reply-in-Err.result l) c.read_reply.ensures c.write_reply-in-Err.ensures.text)

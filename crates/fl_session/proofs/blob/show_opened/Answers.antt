@@ -5,7 +5,7 @@ use Rattle.fl_script.specs.Written.{Written}
 use Rattle.fl_var.specs.Reading.{bytes_left}
 use Rattle.fl_words.specs.Reply.{Gone, text}
 use Rattle.fl_session.specs.BlobLine.{ShowsBytes}
-use Rattle.fl_session.specs.BlobSays.{IsBadAhead, MayBeBadFor, TellsBlob, TellsLeft}
+use Rattle.fl_session.specs.BlobSays.{IsBadIn, MayBeBadAhead, TellsBlob, TellsLeft}
 use Rattle.fl_store.proofs.Readers.{bytes-kept, reads-kept, whole-kept}
 use Rattle.fl_session.proofs.BlobShows.{says-gone, says-unread, says-bytes, unread-rose}
 use Rattle.fl_session.proofs.AnyBlobs.{says-later, says-none_read, says-one}
@@ -54,16 +54,17 @@ returns-in-Err-clause-reads g c = λ t entry bytes f opened. omega (arith, opene
 pub returns-in-Ok-true-clause-tells : goal.returns-in-Ok-true-clause-tells
 returns-in-Ok-true-clause-tells g c = λ t at f opened.
     let h = g.F.Flash.state c.args.flash.now in
+    let r = c.args.reader.now in
     let is : c.args.stands ≡ Ok true = c.in-Ok-true.is ∙ ap Ok c.in-Ok-true.field-0-test in
-    says-later (TellsLeft c.args.reader.now h) (TellsBlob t f at) (IsBadAhead c.args.reader.now h) (MayBeBadFor t f) f h (g.F.Flash.state c.show_bytes.new.flash) opened.only (left-told t at f c.args.reader.now h (opened.left is)) (opened.ahead is) _ _ _ c.show_bytes.ensures.tells
+    says-later (TellsLeft r h) (TellsBlob t f at) (MayBeBadAhead r h) (MayBeBadAhead r h) (IsBadIn t f at) (IsBadIn t f at) f h (g.F.Flash.state c.show_bytes.new.flash) opened.only (left-told t at f r h (opened.left is)) (opened.ahead is) (opened.ahead is) _ _ _ c.show_bytes.ensures.tells
 
 pub returns-in-Ok-false-clause-tells : goal.returns-in-Ok-false-clause-tells
 returns-in-Ok-false-clause-tells g c = λ t at f opened.
     let is : c.args.stands ≡ Ok false = c.in-Ok-false.is ∙ ap Ok c.in-Ok-false.field-0-test in
-    says-one (TellsBlob t f at) (MayBeBadFor t f) f (g.F.Flash.state c.args.flash.now) _ _ _ Gone tt (λ taken. opened.gone is) c.write_reply.ensures.text
+    says-one (TellsBlob t f at) (IsBadIn t f at) (IsBadIn t f at) f (g.F.Flash.state c.args.flash.now) _ _ _ Gone tt (opened.gone is) c.write_reply.ensures.text
 
 pub returns-in-Err-clause-tells : goal.returns-in-Err-clause-tells
 returns-in-Err-clause-tells g c = λ t at f opened.
     let why = rw c.in-Err.is at opened.fails in
-    says-none_read (TellsBlob t f at) (MayBeBadFor t f) f (g.F.Flash.state c.args.flash.now) _ _ _ c.in-Err.fault why.0 why.1
+    says-none_read (TellsBlob t f at) (IsBadIn t f at) (IsBadIn t f at) f (g.F.Flash.state c.args.flash.now) _ _ _ c.in-Err.fault why.0 why.1
     (subst (λ (l : List ℕ). Written (g.K.Sink.written c.args.out.now) (g.K.Sink.written c.write_reply-in-Err.new.out) c.write_reply-in-Err.result l) c.read_reply.ensures c.write_reply-in-Err.ensures.text)

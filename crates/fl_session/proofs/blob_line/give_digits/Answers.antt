@@ -5,13 +5,24 @@ use Rattle.fl_base.specs.Causes.{Appends, AppendsFront}
 use Rattle.fl_page.proofs.ReadsInTurn.{IsCaused-later}
 use Rattle.fl_frame.proofs.ContentsInTurn.{OnlyReads-same, OnlyReads-then}
 use Rattle.fl_page.specs.declared.fault.ReadFault.{ReadFault}
-use Rattle.fl_var.specs.Reading.{bytes_left, chunk_of, count_left, page_of}
+use Rattle.fl_var.specs.Reading.{bytes_left, chunk_of, count_left}
 use Rattle.fl_words.specs.Reply.{hex_text}
 use Rattle.fl_store.proofs.Appends.{appends-none}
 use Rattle.fl_session.proofs.AnyBlobs.{digits-into, digits-more}
-use Rattle.fl_session.proofs.BadBlobs.{ahead-held}
+use Rattle.fl_session.proofs.BadBlobs.{ahead-held, none-behind}
 use Rattle.fl_session.proofs.BlobLines.{gave-none, gave-chunk, gave-failed, gave-all, gave-unread}
 use Rattle.fl_session.proofs.blob_line.give_digits.Goals as goal
+
+no : false ≡ true → ⊥
+no e = cc
+
+-- a step that failed wasn't at the end
+not_done : {e : ReadFault} → ◌≡◌ {A = Result Bool ReadFault} (Err e) (Ok false) → ⊥
+not_done e = cc
+
+some_left : (n : ℕ) → (n ≡ 0 → ⊥) → 1 ≤ n
+some_left zero h = absurd (h refl)
+some_left (suc n) h = omega arith
 
 pub loop-reader-init : goal.loop-reader-init
 loop-reader-init g c = record {
@@ -21,6 +32,8 @@ loop-reader-init g c = record {
   buffer = refl;
   later = omega arith;
   ready = λ h. h;
+  sound = λ ready there. there;
+  ahead = λ ready bad h. h;
   digits = ([], appends-none _, λ ready. refl);
   gave = λ ready whole. gave-none c.args.reader.now (g.F.Flash.state c.args.flash.now) (g.K.Sink.written c.args.out.now) ready whole;
 }
@@ -39,17 +52,7 @@ returns-in_err-step-clause-gives g c = λ ready whole turned.
     let p = err_from_is_err_and c.from_residual.result c.from_residual.ensures.1 in
     rw (p.1, p.2) (gave-unread c.args.reader.now c.loop-reader.reader c.step.new.self (g.F.Flash.state c.args.flash.now) (g.F.Flash.state c.loop-reader.flash) (g.F.Flash.state c.step.new.flash)
     (g.K.Sink.written c.args.out.now) (g.K.Sink.written c.loop-reader.out) so_far c.in_err-step.field-0.0 (c.in_err-step.ensures.whole so_far.ready so_far.whole).0 turned
-    (some (count_left c.loop-reader.reader) (λ none. other (c.in_err-step.ensures.done none).0)) (λ here. no (c.in_err-step.ensures.held here).0))
-  where
-    no : false ≡ true → ⊥
-    no e = cc
-
-    other : {e : ReadFault} → ◌≡◌ {A = Result Bool ReadFault} (Err e) (Ok false) → ⊥
-    other e = cc
-
-    some : (n : ℕ) → (n ≡ 0 → ⊥) → 1 ≤ n
-    some zero h = absurd (h refl)
-    some (suc n) h = omega arith
+    (some_left (count_left c.loop-reader.reader) (λ none. not_done (c.in_err-step.ensures.done none).0)) (λ here. no (c.in_err-step.ensures.held here).0))
 
 pub loop-reader-preserved : goal.loop-reader-preserved
 loop-reader-preserved g c =
@@ -62,6 +65,8 @@ loop-reader-preserved g c =
       buffer = e.buffer ∙ inv.buffer;
       later = omega (arith, inv.later, c.in_ok-write_digits.ensures.cause.later);
       ready = λ h. e.ready (inv.ready h);
+      sound = λ ready there. inv.sound ready (e.sound (inv.ready ready) there);
+      ahead = λ ready bad h. inv.ahead ready bad (e.ahead (inv.ready ready) bad h);
       digits = (
         inv.digits.0 ++ chunk_of c.step.new.self,
         digits-more _ _ _ inv.digits.0 (chunk_of c.step.new.self) inv.digits.1 (subst (λ (l : List ℕ). Appends (g.K.Sink.written c.loop-reader.out) (g.K.Sink.written c.write_digits.new.out) (hex_text l)) c.chunk.ensures c.in_ok-write_digits.ensures.text),
@@ -121,7 +126,11 @@ pub returns-in_err-step-clause-digits : goal.returns-in_err-step-clause-digits
 returns-in_err-step-clause-digits g c =
     let p = err_from_is_err_and c.from_residual.result c.from_residual.ensures.1 in
     let inv = c.loop-reader.invariant in
-    rw (p.1, p.2) ((inv.digits.0, inv.digits.1), ahead-held (g.F.Flash.state c.args.flash.now) (g.F.Flash.state c.loop-reader.flash) inv.counts c.args.reader.now c.loop-reader.reader (page_of c.loop-reader.reader + 1) c.in_err-step.field-0.0 inv.same inv.ready c.in_err-step.ensures.bad)
+    rw (p.1, p.2) (
+      (inv.digits.0, inv.digits.1),
+      ahead-held (g.F.Flash.state c.args.flash.now) (g.F.Flash.state c.loop-reader.flash) c.args.reader.now c.loop-reader.reader c.in_err-step.field-0.0 inv.ready inv.ahead
+          (some_left (count_left c.loop-reader.reader) (λ none. not_done (c.in_err-step.ensures.done none).0)) (λ here. no (c.in_err-step.ensures.held here).0) c.in_err-step.ensures.bad,
+    )
 
 pub returns-in_err-write_digits-clause-digits : goal.returns-in_err-write_digits-clause-digits
 returns-in_err-write_digits-clause-digits g c =
@@ -139,5 +148,6 @@ returns-clause-digits g c =
       inv.digits.1,
       λ ready.
           let steps = rw c.if-branch.false at (c.in_ok-step.ensures.steps (inv.ready ready)) in
-          sym (append-nil inv.digits.0) ∙ (ap (λ (l : List ℕ). inv.digits.0 ++ l) (sym steps.0) ∙ inv.digits.2 ready),
+          (inv.sound ready (none-behind c.loop-reader.reader (g.F.Flash.state c.loop-reader.flash) (sym c.if-branch.false ∙ c.in_ok-step.ensures.more)),
+            sym (append-nil inv.digits.0) ∙ (ap (λ (l : List ℕ). inv.digits.0 ++ l) (sym steps.0) ∙ inv.digits.2 ready)),
     )

@@ -4,7 +4,7 @@ use Rattle.fl_script.specs.Written.{Written}
 use Rattle.fl_var.specs.Reading.{bytes_left}
 use Rattle.fl_words.specs.Reply.{hex_text, text}
 use Rattle.fl_session.specs.BlobLine.{read_reply}
-use Rattle.fl_session.specs.BlobSays.{IsBadAhead, TellsLeft}
+use Rattle.fl_session.specs.BlobSays.{MayBeBadAhead, TellsLeft}
 use Rattle.fl_session.specs.declared.listing.ListFault.TheVariants.{Sink, Read}
 use Rattle.fl_store.proofs.Appends.{front-more}
 use Rattle.fl_session.proofs.AnyBlobs.{says-begun, says-cut, says-parts, says-sunk, untaken}
@@ -59,32 +59,48 @@ returns-in_ok-write_reply-in-Err-Read-clause-shows g c = λ ready whole turned o
 
 pub returns-in_err-write_reply-clause-tells : goal.returns-in_err-write_reply-clause-tells
 returns-in_err-write_reply-clause-tells g c =
+    let r = c.args.reader.now in
+    let f = g.F.Flash.state c.args.flash.now in
     let p = err_from_is_err_and c.from_residual.result c.from_residual.ensures.1 in
-    rw (p.1, p.2) (says-begun (TellsLeft c.args.reader.now (g.F.Flash.state c.args.flash.now)) (IsBadAhead c.args.reader.now (g.F.Flash.state c.args.flash.now)) (g.F.Flash.state c.args.flash.now) (g.F.Flash.state c.args.flash.now) _ _ _ c.in_err-write_reply.ensures.text)
+    rw (p.1, p.2) (says-begun (TellsLeft r f) (MayBeBadAhead r f) (MayBeBadAhead r f) f f _ _ _ c.in_err-write_reply.ensures.text)
 
 pub returns-in-Ok-clause-tells : goal.returns-in-Ok-clause-tells
 returns-in-Ok-clause-tells g c =
+    let r = c.args.reader.now in
+    let f = g.F.Flash.state c.args.flash.now in
+    let h = g.F.Flash.state c.give_digits.new.flash in
     let given = rw c.in-Ok.is at c.give_digits.ensures.digits in
-    says-parts (TellsLeft c.args.reader.now (g.F.Flash.state c.args.flash.now)) (IsBadAhead c.args.reader.now (g.F.Flash.state c.args.flash.now)) (g.F.Flash.state c.args.flash.now) (g.F.Flash.state c.give_digits.new.flash) _ _ _ given.0 (g.K.Sink.written c.write_reply.new.out) (g.K.Sink.written c.give_digits.new.out) c.in_ok-write_reply.ensures.text given.1 c.write_reply-in-Ok.ensures.text (λ taken. given.2)
+    says-parts (TellsLeft r f) (MayBeBadAhead r f) (MayBeBadAhead r f) f h _ _ _ given.0 (g.K.Sink.written c.write_reply.new.out) (g.K.Sink.written c.give_digits.new.out) c.in_ok-write_reply.ensures.text given.1 c.write_reply-in-Ok.ensures.text (λ taken. given.2)
 
 pub returns-in-Err-Sink-clause-tells : goal.returns-in-Err-Sink-clause-tells
 returns-in-Err-Sink-clause-tells g c =
+    let r = c.args.reader.now in
+    let f = g.F.Flash.state c.args.flash.now in
+    let h = g.F.Flash.state c.give_digits.new.flash in
     let sunk : c.in-Err-Sink.field-0 ≡ Sink c.in-Err-Sink.failed = c.in-Err-Sink.field-0-is in
     let given = rw (c.in-Err-Sink.is, sunk) at c.give_digits.ensures.digits in
-    says-sunk (TellsLeft c.args.reader.now (g.F.Flash.state c.args.flash.now)) (IsBadAhead c.args.reader.now (g.F.Flash.state c.args.flash.now)) (g.F.Flash.state c.args.flash.now) (g.F.Flash.state c.give_digits.new.flash) _ _ c.in-Err-Sink.failed given.0 (g.K.Sink.written c.write_reply.new.out) c.in_ok-write_reply.ensures.text given.1
+    says-sunk (TellsLeft r f) (MayBeBadAhead r f) (MayBeBadAhead r f) f h _ _ c.in-Err-Sink.failed given.0 (g.K.Sink.written c.write_reply.new.out) c.in_ok-write_reply.ensures.text given.1
 
 pub returns-in_err-write_reply-in-Err-Read-clause-tells : goal.returns-in_err-write_reply-in-Err-Read-clause-tells
 returns-in_err-write_reply-in-Err-Read-clause-tells g c =
+    let r = c.args.reader.now in
+    let f = g.F.Flash.state c.args.flash.now in
+    let h = g.F.Flash.state c.give_digits.new.flash in
     let unread : c.in-Err-Read.field-0 ≡ Read c.in-Err-Read.fault = c.in-Err-Read.field-0-is in
     let given = rw (c.in-Err-Read.is, unread) at c.give_digits.ensures.digits in
     let p = err_from_is_err_and c.from_residual-in_err-write_reply-in-Err-Read.result c.from_residual-in_err-write_reply-in-Err-Read.ensures.1 in
-    rw (p.1, p.2) (says-parts (TellsLeft c.args.reader.now (g.F.Flash.state c.args.flash.now)) (IsBadAhead c.args.reader.now (g.F.Flash.state c.args.flash.now)) (g.F.Flash.state c.args.flash.now) (g.F.Flash.state c.give_digits.new.flash) _ _ (Err p.0) given.0.0 (g.K.Sink.written c.write_reply.new.out) (g.K.Sink.written c.give_digits.new.out) c.in_ok-write_reply.ensures.text given.0.1 c.in_err-write_reply-in-Err-Read.ensures.text (λ taken. absurd (untaken taken)))
+    rw (p.1, p.2) (says-parts (TellsLeft r f) (MayBeBadAhead r f) (MayBeBadAhead r f) f h _ _ (Err p.0) given.0.0 (g.K.Sink.written c.write_reply.new.out) (g.K.Sink.written c.give_digits.new.out) c.in_ok-write_reply.ensures.text given.0.1 c.in_err-write_reply-in-Err-Read.ensures.text
+    (λ taken. absurd (untaken taken)))
 
 pub returns-in_ok-write_reply-in-Err-Read-clause-tells : goal.returns-in_ok-write_reply-in-Err-Read-clause-tells
 returns-in_ok-write_reply-in-Err-Read-clause-tells g c =
+    let r = c.args.reader.now in
+    let f = g.F.Flash.state c.args.flash.now in
+    let h = g.F.Flash.state c.give_digits.new.flash in
     let unread : c.in-Err-Read.field-0 ≡ Read c.in-Err-Read.fault = c.in-Err-Read.field-0-is in
     let given = rw (c.in-Err-Read.is, unread) at c.give_digits.ensures.digits in
     let caused = rw (c.in-Err-Read.is, unread) at c.give_digits.ensures.unread in
     let said : Written (g.K.Sink.written c.write_reply-in-Err-Read.new.out) (g.K.Sink.written c.write_reply-in-Err-Read-2.new.out) c.write_reply-in-Err-Read-2.result (text (read_reply c.in-Err-Read.fault)) =
     subst (λ (l : List ℕ). Written (g.K.Sink.written c.write_reply-in-Err-Read.new.out) (g.K.Sink.written c.write_reply-in-Err-Read-2.new.out) c.write_reply-in-Err-Read-2.result l) c.read_reply.ensures c.write_reply-in-Err-Read-2.ensures.text in
-    says-cut (TellsLeft c.args.reader.now (g.F.Flash.state c.args.flash.now)) (IsBadAhead c.args.reader.now (g.F.Flash.state c.args.flash.now)) (g.F.Flash.state c.args.flash.now) (g.F.Flash.state c.give_digits.new.flash) _ _ _ given.0.0 (g.K.Sink.written c.write_reply.new.out) (g.K.Sink.written c.give_digits.new.out) (g.K.Sink.written c.write_reply-in-Err-Read.new.out) c.in-Err-Read.fault caused given.1 c.in_ok-write_reply.ensures.text given.0.1 c.in_ok-write_reply-in-Err-Read.ensures.text said
+    says-cut (TellsLeft r f) (MayBeBadAhead r f) (MayBeBadAhead r f) f h _ _ _ given.0.0 (g.K.Sink.written c.write_reply.new.out) (g.K.Sink.written c.give_digits.new.out) (g.K.Sink.written c.write_reply-in-Err-Read.new.out) c.in-Err-Read.fault caused given.1 c.in_ok-write_reply.ensures.text given.0.1
+    c.in_ok-write_reply-in-Err-Read.ensures.text said

@@ -40,3 +40,15 @@ pub returns-clause-few : goal.returns-clause-few
 returns-clause-few g c = λ reads whole.
     let turned = c.in_ok-turn.ensures.few (record { told = reads.told; within = reads.within; used = reads.used; size = reads.size; bytes = reads.bytes }) whole in
     omega (arith, turned, c.take.ensures.few)
+
+pub returns-clause-sound : goal.returns-clause-sound
+returns-clause-sound g c = λ reads there.
+    let ready = c.in_ok-turn.ensures.ready (record { told = reads.told; within = reads.within; used = reads.used; size = reads.size; bytes = reads.bytes }) in
+    c.in_ok-turn.ensures.sound (record { told = reads.told; within = reads.within; used = reads.used; size = reads.size; bytes = reads.bytes }) (c.take.ensures.sound (g.F.Flash.state c.turn.new.flash) ready there)
+
+pub returns-clause-ahead : goal.returns-clause-ahead
+returns-clause-ahead g c = λ reads bad h.
+    c.in_ok-turn.ensures.ahead (record { told = reads.told; within = reads.within; used = reads.used; size = reads.size; bytes = reads.bytes }) bad (c.take.ensures.ahead (g.F.Flash.state c.turn.new.flash) bad h)
+
+pub returns-clause-most : goal.returns-clause-most
+returns-clause-most g c = λ reads whole. c.in_ok-turn.ensures.most (record { told = reads.told; within = reads.within; used = reads.used; size = reads.size; bytes = reads.bytes }) whole

@@ -2,6 +2,7 @@ use Rattle.std.proofs.Common.{rules, ◌≡◌, ◌+◌, ◌-◌, ◌^◌, ◌<�
 use Rattle.fl_var.specs.Memory.{next_in, room_in, image_in}
 use Rattle.fl_var.proofs.Wholes.{whole-same}
 use Rattle.fl_var.proofs.Chunks.{chunk-front}
+use Rattle.fl_var.proofs.PagesBehind.{there-taken, bad-taken}
 use Rattle.fl_var.proofs.reader.BlobReader.take.Goals as goal
 
 pub returns-clause-bytes : goal.returns-clause-bytes
@@ -20,3 +21,18 @@ returns-clause-whole c = λ f whole some.
     let n = c.min-len.result in
     let few : c.min-len.result ≤ c.args.self.now.left = search rules in
     whole-same (image_in r.var.now f) (next_in r.var.now) (room_in r.var.now) r.page r.end r.left (r.end + n) (r.left - n) (omega (arith, few)) (whole (omega (arith, c.requires.left)))
+
+pub returns-clause-sound : goal.returns-clause-sound
+returns-clause-sound c = λ f reads there some.
+    let r = c.args.self.now in
+    let n = c.min-len.result in
+    let few : c.min-len.result ≤ c.args.self.now.left = search rules in
+    let within : c.args.self.now.end + c.min-len.result ≤ c.args.self.now.used = search rules in
+    let size = reads.size some in
+    there-taken (image_in r.var.now f) (next_in r.var.now) r.page r.end r.left n (omega (arith, within, size)) few there
+
+pub returns-clause-ahead : goal.returns-clause-ahead
+returns-clause-ahead c = λ f bad h.
+    let r = c.args.self.now in
+    let few : c.min-len.result ≤ c.args.self.now.left = search rules in
+    bad-taken r.var.now f r.page r.end r.left c.min-len.result bad few h

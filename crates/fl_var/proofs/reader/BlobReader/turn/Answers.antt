@@ -1,7 +1,7 @@
 use Rattle.std.proofs.Common.{rules, ◌≡◌, ◌+◌, ◌-◌, ◌<◌, ℕ, List, Option, None, IfSome, length, take, drop, sym, ◌∙◌, ap, subst, arith}
 use Rattle.std.proofs.lemmas.Result.{err_from_is_err_and}
 use Rattle.fl_page.specs.Header.{page_count}
-use Rattle.fl_var.specs.Blobs.{IsWhole, contents_from}
+use Rattle.fl_var.specs.Blobs.{IsWhole, contents_from, AreThere}
 use Rattle.fl_var.specs.Content.{content_of, HasContent}
 use Rattle.fl_var.specs.Memory.{next_in, room_in, image_in, var_shape}
 use Rattle.fl_frame.proofs.ReadsInTurn.{same_page, told_still}
@@ -10,6 +10,7 @@ use Rattle.fl_mark.specs.Mark.{state_of_page}
 use Rattle.fl_var.proofs.PageImages.{image-other}
 use Rattle.fl_var.proofs.Chunks.{contents-turned}
 use Rattle.fl_var.proofs.Lists.{before-end}
+use Rattle.fl_var.proofs.PagesBehind.{there-turned, bad-turned, bad-seen}
 use Rattle.fl_var.proofs.Stored.{content-size}
 use Rattle.fl_var.proofs.Wholes.{images-same, whole-good, whole-pages, whole-next, none-bad, pages-turned}
 use Rattle.fl_var.proofs.reader.BlobReader.turn.Goals as goal
@@ -109,3 +110,28 @@ returns-clause-ready g c = λ reads.
       size = λ left. ap (λ (image : ℕ → List ℕ). length (content_of (image (r.page + 1)))) images ∙ (content-size (image_in v f (r.page + 1)) good.0.room ∙ sym good.1);
       bytes = λ some lt. c.in_ok-used.ensures.holds reads.told lt ∙ sym (same_page f h 1 (place (var_shape v) (r.page + 1)) looks);
     }
+
+pub returns-clause-sound : goal.returns-clause-sound
+returns-clause-sound g c = λ reads there some.
+    let r = c.args.self.now in
+    let v = r.var.now in
+    let f = g.F.Flash.state c.args.flash.now in
+    let h = g.F.Flash.state c.find_content.new.flash in
+    let images = images-same v f h 1 c.find_content.ensures.reads in
+    let done : length (content_of (image_in c.args.self.now.var.now (g.F.Flash.state c.args.flash.now) c.args.self.now.page)) ≡ c.args.self.now.end = reads.size some ∙ search rules in
+    let good = subst (λ (found : Option ℕ). IfSome found (λ n. HasContent (r.page + 1) (image_in v f (r.page + 1)) × (n ≡ page_count (image_in v f (r.page + 1))))) c.in-Some.is (c.in_ok-used.ensures.good reads.told) in
+    let within = before-end r.page (next_in v) reads.within (λ end. c.if-self-next_number.false (end ∙ sym c.next_number.ensures)) in
+    there-turned (image_in v f) (next_in v) r.page r.end r.left done (within, good.0)
+    (subst (λ (image : ℕ → List ℕ). AreThere image (next_in v) (r.page + 1) (0 + r.left)) images (there some))
+
+pub returns-clause-ahead : goal.returns-clause-ahead
+returns-clause-ahead g c = λ reads bad ahead.
+    let r = c.args.self.now in
+    let v = r.var.now in
+    let f = g.F.Flash.state c.args.flash.now in
+    let h = g.F.Flash.state c.find_content.new.flash in
+    let done : length (content_of (image_in c.args.self.now.var.now (g.F.Flash.state c.args.flash.now) c.args.self.now.page)) ≡ c.args.self.now.end =
+    reads.size (omega (arith, c.requires.left)) ∙ search rules in
+    let good = subst (λ (found : Option ℕ). IfSome found (λ n. HasContent (r.page + 1) (image_in v f (r.page + 1)) × (n ≡ page_count (image_in v f (r.page + 1))))) c.in-Some.is (c.in_ok-used.ensures.good reads.told) in
+    let within = before-end r.page (next_in v) reads.within (λ end. c.if-self-next_number.false (end ∙ sym c.next_number.ensures)) in
+    bad-turned v f r.page r.end r.left bad done (within, good.0) (bad-seen v f h (images-same v f h 1 c.find_content.ensures.reads) (r.page + 1) (0 + r.left) bad ahead)
