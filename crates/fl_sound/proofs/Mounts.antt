@@ -1,9 +1,9 @@
 -- A flash on which a sound table lies stands for a table of the model, where the table is as runs leave it.
-use Rattle.std.proofs.Common.{◌≡◌, ℕ, ◌+◌, ◌*◌, ◌%◌, ◌^◌, ◌≤◌, ◌<◌, ◌++◌, ◌∷◌, false, cond, nat_lt, Option, Some, None, IfSome, List, [], length, map, filter, refl, sym, ◌∙◌, ap, subst, arith}
+use Rattle.std.proofs.Common.{◌≡◌, ℕ, ◌+◌, ◌*◌, ◌%◌, ◌≤◌, ◌<◌, ◌++◌, ◌∷◌, false, cond, nat_lt, Option, Some, None, IfSome, List, [], length, map, filter, refl, sym, ◌∙◌, ap, subst, arith}
 use Rattle.std.specs.List.{AllByRecursion, list_any}
 use Rattle.fl_base.specs.declared.types.Geometry.{Geometry}
 use Rattle.fl_base.specs.declared.types.RingPlace.{RingPlace}
-use Rattle.fl_check.specs.SoundImages.{RingImage, OfPlace, BlobsLead, PagesFit, IsNumbered, AreBehind, IsAsRunsLeave, StandsSettled, HasImage}
+use Rattle.fl_check.specs.SoundImages.{RingImage, OfPlace, BlobsLead, PagesFit, IsNumbered, IsAsRunsLeave, StandsSettled, HasImage}
 use Rattle.fl_check.specs.Whole.{shape_in}
 use Rattle.fl_check.specs.declared.numbering.Numbering.{Numbering}
 use Rattle.fl_check.proofs.SoundImages.{sound-images}
@@ -16,12 +16,12 @@ use Rattle.fl_model.specs.Image.{IsRingImage, HoldsEntries, HoldsContent, HoldsL
 use Rattle.fl_model.specs.Mount.{index_end, blob_end}
 use Rattle.fl_model.specs.Record.{Plan, blocks_of, rows_per_page}
 use Rattle.fl_model.specs.Ring.{Ring, IsRing, oldest}
-use Rattle.fl_model.specs.Table.{Table, Entry, RingName, DataRing, IndexRing, VarRing, LogRing, shape_of, ring_of, has_rows, log_pages, spent_from}
+use Rattle.fl_model.specs.Table.{Table, Entry, RingName, DataRing, IndexRing, VarRing, LogRing, ring_of, has_rows, log_pages}
 use Rattle.fl_model.proofs.Lists.{each-weaker}
 use Rattle.fl_plan.specs.Plan.{Label, label_of, blocks_in, plan_of_table, with_log, IsRingAt}
 use Rattle.fl_plan.specs.declared.table_config.TableConfig.{TableConfig}
 use Rattle.fl_table.specs.Blobs.{AreLed}
-use Rattle.fl_table.specs.Mountable.{AreVoid, IsPaged, IsMountable}
+use Rattle.fl_table.specs.Mountable.{AreVoid, IsPaged}
 use Rattle.fl_table.specs.Pages.{HoldsTable}
 use Rattle.fl_table.specs.Pages as pages
 use Rattle.fl_rlc.specs.Logged.{Rests}
