@@ -36,7 +36,7 @@ module _ (entries : List Entry) where
       first [] = refl
       first (entry ∷ entries) = refl
 
-  ends-stored : blobs_end 0 (map stored_row entries) ≡ end_of_blobs entries
+  pub ends-stored : blobs_end 0 (map stored_row entries) ≡ end_of_blobs entries
   ends-stored = ap (λ (ends : List ℕ). fold max 0 ends) (all entries)
     where
       one : (entry : Entry) → reference_end (stored_row entry).blob ≡ cond (blob_len entry.kept == 0) 0 (entry.page + 1)

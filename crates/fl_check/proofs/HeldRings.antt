@@ -1,21 +1,23 @@
 -- The pages of a ring that stands for a state are the image of a ring of the model, where each committed page holds something.
 use Rattle.std.proofs.Common.{◌≡◌, ℕ, ◌+◌, ◌-◌, ◌*◌, ◌%◌, ◌^◌, ◌≤◌, ◌<◌, ◌++◌, inl, inr, Bool, true, false, cond, nat_lt, Option, Some, None, IfSome, option_map, List, length, map, filter, get_or, slice_get, refl, sym, ◌∙◌, ap, subst, arith}
-use Rattle.std.specs.List.{AllByRecursion}
+use Rattle.std.specs.List.{AllByRecursion, list_any}
 use Rattle.std.proofs.Math.ListN.{get_or-eq_default}
 use Rattle.std.proofs.Math.Nat.{mod-lt, mul-le-mul_right}
-use Rattle.std.proofs.lemmas.Bool.{cases_lt, lt-ltb}
+use Rattle.std.proofs.lemmas.Bool.{cases_lt, lt-ltb, cond-false}
 use Rattle.std.proofs.lemmas.List.{length-map}
 use Rattle.std.proofs.lemmas.Option.{slice_get_within, slice_get-map, slice_get-get_or}
 use Rattle.fl_flash.specs.Flash.{FlashState, page_at}
 use Rattle.fl_mark.specs.Mark.{state_of_page}
 use Rattle.fl_model.specs.Image.{HoldsPage}
 use Rattle.fl_model.specs.Layout.{committed}
+use Rattle.fl_model.specs.Mount.{least_alike}
+use Rattle.fl_model.specs.Mount as mount
 use Rattle.fl_model.specs.Ring as model
-use Rattle.fl_ring.specs.Counts.{page_count, ring_counts}
+use Rattle.fl_ring.specs.Counts.{page_count, ring_counts, model_shape}
 use Rattle.fl_ring.specs.Head.{one}
 use Rattle.fl_ring.specs.Newest.{commits, page_back}
 use Rattle.fl_ring.specs.Ring.{Shape, RingState, IsShape, HoldsKept, count, oldest, place, room, committed_end}
-use Rattle.fl_ring.proofs.Counts.{counts_ring}
+use Rattle.fl_ring.proofs.Counts.{counts_ring, counts_renumbered}
 use Rattle.fl_ring.proofs.Found.{committed_state}
 use Rattle.fl_ring.proofs.Images.{image_from_on}
 use Rattle.fl_check.specs.Marks.{kept_page}
@@ -105,8 +107,18 @@ module _ (Form : ℕ → List ℕ → Type 0) (f : FlashState) (r : Shape) (at_l
       known = omega (arith, many, st.good.on.ring.not_negative);
       small = omega (arith, st.good.fits, st.renumbered_next, st.next);
       left = let fits : s.next + one s.torn < 2 ^ 32 = omega (arith, st.good.fits, st.renumbered_next, st.next) in subst (λ (k : ℕ). s.next + k < 2 ^ 32) (one-cond s.torn) fits;
+      behind = behind;
     }
       where
+        -- a ring without a committed page has the numbers that a mount gives it
+        behind : list_any (nat_lt 0) ring.counts ≡ false → at_least + length ring.counts ≤ s.next
+        behind void =
+            let given : mount.renumbered (model_shape r) at_least ring ≡ record ring { next = least_alike (r.blocks * r.per_block) s.next (at_least + length ring.counts) } =
+            cond-false (list_any (nat_lt 0) ring.counts) ring (record ring { next = least_alike (r.blocks * r.per_block) s.next (at_least + length ring.counts) }) void in
+            let same : s.next ≡ least_alike (r.blocks * r.per_block) s.next (at_least + length ring.counts) =
+            st.next ∙ sym st.renumbered_next ∙ ap (λ (g : model.Ring). g.next) (counts_renumbered count_of r at_least s some) ∙ ap (λ (g : model.Ring). g.next) given in
+            omega (arith, same)
+
         many : length ring.counts ≡ count s
         many = length-map s.kept (page_count count_of)
 

@@ -15,7 +15,7 @@ use Rattle.fl_model.specs.Layout.{committed, rows_body, data_body, index_body, c
 use Rattle.fl_model.specs.Record.{Plan, row_layout, layout_len, rows_per_page, entries_per_page}
 use Rattle.fl_model.specs.Ring as model
 use Rattle.fl_model.specs.Row.{Row, stored_row, le}
-use Rattle.fl_model.specs.Table.{Entry, full_pages}
+use Rattle.fl_model.specs.Table.{Entry, end_of_blobs, full_pages}
 use Rattle.fl_page.specs.Page.{rows_in}
 use Rattle.fl_page.specs.Steps.{Ascends}
 use Rattle.fl_plan.specs.Limits.{IsWithinLimits}
@@ -32,6 +32,7 @@ use Rattle.fl_check.specs.References.{BlobLeads, RowsLead, PageLeads}
 use Rattle.fl_check.specs.Rising.{KeysAscend}
 use Rattle.fl_check.specs.SoundImages.{RingImage, OfPlace}
 use Rattle.fl_check.specs.StandingRings.{HaveSize, IsSortedLogForm, StandsRuled}
+use Rattle.fl_check.specs.Tally.{blobs_end, tally_of}
 use Rattle.fl_check.specs.Whole.{OfRing, IsIndexForm, IsRowsForm, IsVarForm, IsLogForm, form_in, layout_in, shape_in, rows_shape}
 use Rattle.fl_check.specs.declared.numbering.Numbering.{Numbering}
 use Rattle.fl_check.proofs.AscendingPages.{HasRowsOf, map-flat, rows-ascend, keys-rise}
@@ -39,6 +40,7 @@ use Rattle.fl_check.proofs.BlobBytes.{IsReadBy, all-read}
 use Rattle.fl_check.proofs.Collected.{Held, all-flat, sum-flat, piece}
 use Rattle.fl_check.proofs.ConfigFacts.{has-buckets, some-bits, some-room}
 use Rattle.fl_check.proofs.DataPages.{data_rows}
+use Rattle.fl_check.proofs.FullEntries.{ends-stored}
 use Rattle.fl_check.proofs.HeldRings.{within, bytes_is, void_is, commits_is, some, first_same, read, counts_are, follows, held_as, collected, sized, followed, held}
 use Rattle.fl_check.proofs.LedBlobs.{entries-lead}
 use Rattle.fl_check.proofs.RingReads.{Follows, OfNumbered}
@@ -213,6 +215,12 @@ module _ (label : Label) (config : TableConfig) (log : Option RingPlace) (reader
       pub data_tallied : IsTallied (layout_in config) (λ x. map stored_row (entries_in x)) rows_count row_counts (page_at f) (rows_shape config) n.marks st.s.kept 0
       data_tallied = tallied (layout_in config) (λ x. map stored_row (entries_in x)) rows_count row_counts (page_at f) (rows_shape config) n.marks st.s.kept 0
           (λ i lt. (has-placed i lt, some (IsRowsForm config) f (rows_shape config) at_least n shape size st rows_count Read reads i lt))
+
+      -- the end of the blobs that its rows name
+      pub data_ends : (tally_of (layout_in config) (page_at f) (rows_shape config) n.marks n.marks.kept).blob_end ≡ end_of_blobs entries
+      data_ends =
+          ap (λ (k : ℕ). (tally_of (layout_in config) (page_at f) (rows_shape config) n.marks k).blob_end) (let e : n.marks.kept ≡ 0 + length st.s.kept = omega (arith, st.kept) in e)
+          ∙ data_tallied.ends ∙ ap (blobs_end 0) (sym (map-flat stored_row entries_in st.s.kept)) ∙ ends-stored entries
 
       -- ---- what the other rules read of them
 

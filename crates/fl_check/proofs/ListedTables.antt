@@ -1,9 +1,10 @@
 -- The index of a sound table tells of its data pages in the model's words, since the rule on entries holds.
-use Rattle.std.proofs.Common.{◌≡◌, ◌⊎◌, inl, inr, ℕ, ◌+◌, ◌-◌, ◌^◌, ◌<◌, ◌≤◌, Bool, true, false, cond, ◌||◌, ◌==◌, nat_lt, IsTrue, Option, Some, None, IfSome, List, [], ◌∷◌, length, map, take, drop, refl, sym, ◌∙◌, ap, subst, arith}
+use Rattle.std.proofs.Common.{◌≡◌, ◌⊎◌, inl, inr, ℕ, zero, suc, ◌+◌, ◌-◌, ◌^◌, ◌<◌, ◌≤◌, Bool, true, false, cond, ◌||◌, ◌==◌, nat_lt, IsTrue, Option, Some, None, IfSome, List, [], ◌∷◌, length, map, take, drop, refl, sym, ◌∙◌, ap, subst, arith}
 use Rattle.std.specs.List.{slice_get, sum, last_or, AllByRecursion}
 use Rattle.std.specs.Option.{option_map, unwrap_or}
 use Rattle.std.proofs.Math.Nat.{mod-eq_of_lt}
-use Rattle.std.proofs.lemmas.Bool.{cases_lt, lt-ltb, ltb-true, true≢false}
+use Rattle.std.proofs.lemmas.Bool.{cases_lt, cases_eq, cond-true, cond-false, lt-ltb, ltb-true, true≢false}
+use Rattle.fl_mark.specs.Mark.{state_of_page}
 use Rattle.fl_index.specs.Page.{page_first, bitmap_at, full_at, found_at, full_view}
 use Rattle.fl_index.specs.declared.page.Full as code
 use Rattle.fl_index.proofs.Lists.{first-at, firsts-length}
@@ -21,10 +22,13 @@ use Rattle.fl_model.proofs.FullPages.{full-page, full-below, full-within}
 use Rattle.fl_model.proofs.Lists.{slice_get-some, slice_get-short, last_or-get, each-at}
 use Rattle.fl_page.specs.Header.{page_number}
 use Rattle.fl_page.specs.Page.{rows_in, IsGoodPage}
+use Rattle.fl_ring.specs.Newest.{commits}
 use Rattle.fl_ring.specs.Ring.{Shape, place}
 use Rattle.fl_check.specs.Entries.{entries_in, Lists, first_listed, HaveEntries}
 use Rattle.fl_check.specs.Marks.{kept_page}
+use Rattle.fl_check.specs.Tally.{listed_after, listed_to}
 use Rattle.fl_check.specs.Told.{header_bitmap, full_in, TellsPage}
+use Rattle.fl_check.specs.declared.marks.Marks.{Marks}
 use Rattle.fl_check.specs.declared.numbering.Numbering.{Numbering}
 use Rattle.fl_check.proofs.FullEntries.{full-stored}
 use Rattle.fl_check.proofs.RingReads.{Follows}
@@ -39,17 +43,37 @@ end-within room next (first ∷ firsts) last =
     let within = last (length firsts) there.0 there.1 (omega arith) in
     omega (arith, is, within)
 
--- what the index of a table tells
-pub record IndexTells (plan : Plan) (table : Table) : Type 0 where
+-- the end of what the newest committed page lists
+module _ (per_page : ℕ) (page : ℕ → List ℕ) (x : Shape) (m : Marks) (i : ℕ) (lists : Lists page x m i) where
+  not-listed : (b : Bool) → (b ≡ true → ⊥) → b ≡ false
+  not-listed true none = absurd (none refl)
+  not-listed false none = refl
+
+  pub listed-to-last : (k : ℕ) → i < k → ((j : ℕ) → i < j → j < k → Lists page x m j → ⊥) → listed_to per_page page x m k ≡ first_listed page x m i + per_page
+  listed-to-last zero lt alone = absurd (omega (arith, lt))
+  listed-to-last (suc k) lt alone = elim (cases_eq i k) [
+    | inl same ↦
+        ap (λ (j : ℕ). listed_after per_page (page (kept_page x m j)) (listed_to per_page page x m k)) (sym same)
+        ∙ cond-true (commits (state_of_page (page (kept_page x m i)))) (page_first (page (kept_page x m i)) + per_page) (listed_to per_page page x m k) lists
+    | inr apart ↦
+        cond-false (commits (state_of_page (page (kept_page x m k)))) (page_first (page (kept_page x m k)) + per_page) (listed_to per_page page x m k)
+        (not-listed (commits (state_of_page (page (kept_page x m k)))) (alone k (omega (arith, lt, apart)) (omega arith)))
+        ∙ listed-to-last k (omega (arith, lt, apart)) (λ j more less. alone j more (omega (arith, less)))
+  ]
+
+-- what the index of a table tells, and the number after what it lists at most
+pub record IndexTells (plan : Plan) (table : Table) (end : ℕ) : Type 0 where
   pub firsts : (i j a b : ℕ) → i < j → slice_get (firsts table) i ≡ Some a → slice_get (firsts table) j ≡ Some b → a + entries_per_page plan ≤ b
   pub listed : index_end plan table ≤ table.rows.next
+  pub ends : index_end plan table ≤ end
   pub tell : (k : ℕ) (page : IndexPage) → slice_get table.index_pages k ≡ Some page → TellPages plan table page.first page.entries
 
 -- .. nothing, where it has no pages
-pub tells-none : (plan : Plan) (table : Table) → length table.index_pages ≡ 0 → IndexTells plan table
-tells-none plan table none = record {
+pub tells-none : (plan : Plan) (table : Table) (end : ℕ) → length table.index_pages ≡ 0 → IndexTells plan table end
+tells-none plan table end none = record {
   firsts = λ i j a b lt at then. absurd (no-first i a at);
   listed = end-within (entries_per_page plan) table.rows.next (firsts table) (λ k first at last. absurd (no-first k first at));
+  ends = end-within (entries_per_page plan) end (firsts table) (λ k first at last. absurd (no-first k first at));
   tell = λ k page at. absurd (let short = slice_get-short table.index_pages k page at in let never : ⊥ = omega (arith, short, none) in never);
 }
   where
@@ -160,15 +184,27 @@ module _ (plan : Plan) (page : ℕ → List ℕ) (x d : Shape) (least : ℕ) (la
       ((rule q.i (kept j g.listed q)).listing (lists j g.listed q)).ascends p.i (in-order i j f.listed g.listed p q lt) (lists i f.listed p) in
       omega (arith, step, per, first-is i f.listed p, first-is j g.listed q, f.is, g.is)
 
+  -- none comes behind the last one
+  last-alone : (k : ℕ) (listed : IndexPage) (p : IsPage k listed) → k + 1 ≡ length (firsts table) → (j : ℕ) → p.i < j → j < index.marks.kept → Lists page x index.marks j → ⊥
+  last-alone k listed p last j more lt later =
+      let all = firsts-length table.index_pages in
+      let up = full-below ring.counts p.i j p.c more p.here p.some in
+      let low = listed-before j lt later in
+      omega (arith, up, low, p.before, last, all)
+
   end-is-within : index_end plan table ≤ table.rows.next
   end-is-within = end-within (entries_per_page plan) table.rows.next (firsts table) (λ k first is last.
       let f = first-of k first is in
       let p = page-of k f.listed f.here in
-      let all = firsts-length table.index_pages in
-      let alone : (j : ℕ) → p.i < j → j < index.marks.kept → Lists page x index.marks j → ⊥ =
-      λ j more lt later. (let up = full-below ring.counts p.i j p.c more p.here p.some in let low = listed-before j lt later in omega (arith, up, low, p.before, last, all)) in
-      let end : first_listed page x index.marks p.i + entries_in x.size (plan_form plan) ≤ rows.next = (rule p.i (kept k f.listed p)).ends (lists k f.listed p) alone in
+      let end : first_listed page x index.marks p.i + entries_in x.size (plan_form plan) ≤ rows.next = (rule p.i (kept k f.listed p)).ends (lists k f.listed p) (last-alone k f.listed p last) in
       omega (arith, end, per, first-is k f.listed p, f.is, of_rows.next))
+
+  end-is-told : index_end plan table ≤ listed_to (entries_in x.size (plan_form plan)) page x index.marks index.marks.kept
+  end-is-told = end-within (entries_per_page plan) (listed_to (entries_in x.size (plan_form plan)) page x index.marks index.marks.kept) (firsts table) (λ k first is last.
+      let f = first-of k first is in
+      let p = page-of k f.listed f.here in
+      let told = listed-to-last (entries_in x.size (plan_form plan)) page x index.marks p.i (lists k f.listed p) index.marks.kept (kept k f.listed p) (last-alone k f.listed p last) in
+      omega (arith, told, per, first-is k f.listed p, f.is))
 
   -- ---- their entries
 
@@ -242,5 +278,5 @@ module _ (plan : Plan) (page : ℕ → List ℕ) (x d : Shape) (least : ℕ) (la
           subst (TellsAt plan (rows_at table n c)) (sym entry.1)
           (tells-of n c e (page (kept_page x index.marks p.i)) j entry.0 (p.shows.at j entry.0 entry.1) (each-at (IsTrimmed plan) listed.entries j entry.0 fits.each entry.1) tells told)
 
-  pub index-tells : IndexTells plan table
-  index-tells = record { firsts = firsts-rise; listed = end-is-within; tell = tell-pages }
+  pub index-tells : IndexTells plan table (listed_to (entries_in x.size (plan_form plan)) page x index.marks index.marks.kept)
+  index-tells = record { firsts = firsts-rise; listed = end-is-within; ends = end-is-told; tell = tell-pages }

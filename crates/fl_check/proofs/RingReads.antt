@@ -1,6 +1,6 @@
 -- What the numbers of a check tell of a ring of the model.
-use Rattle.std.proofs.Common.{◌≡◌, ◌⊎◌, ℕ, ◌+◌, ◌-◌, ◌^◌, ◌<◌, ◌≤◌, cond, nat_lt, Option, Some, None, List, length}
-use Rattle.std.specs.List.{slice_get}
+use Rattle.std.proofs.Common.{◌≡◌, ◌⊎◌, ℕ, ◌+◌, ◌-◌, ◌^◌, ◌<◌, ◌≤◌, false, cond, nat_lt, Option, Some, None, List, length}
+use Rattle.std.specs.List.{slice_get, list_any}
 use Rattle.fl_base.specs.declared.types.RingPlace.{RingPlace}
 use Rattle.fl_mark.specs.Mark.{state_of_page}
 use Rattle.fl_model.specs.Ring as model
@@ -28,6 +28,8 @@ pub record Follows (page : ℕ → List ℕ) (r : Shape) (at_least : ℕ) (ring 
   pub small : ring.next < 2 ^ 32
   -- .. with a void page more where the next one is torn
   pub left : ring.next + cond ring.torn 1 0 < 2 ^ 32
+  -- where none of its pages is committed, they have the numbers from the least one on
+  pub behind : list_any (nat_lt 0) ring.counts ≡ false → at_least + length ring.counts ≤ ring.next
 
 -- .. of a ring that a table may not have
 abbrev pub OfNumbered : (RingPlace → Numbering → model.Ring → Type 0) → Option RingPlace → Option Numbering → Option model.Ring → Type 0

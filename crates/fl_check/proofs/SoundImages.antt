@@ -13,6 +13,7 @@ use Rattle.fl_flash.specs.Places.{extent}
 use Rattle.fl_model.specs.Facts.{IsContent, IsLogPage, counts_in}
 use Rattle.fl_model.specs.Image.{HoldsPage, rows_at}
 use Rattle.fl_model.specs.Layout.{rows_body, index_body, content_body, IndexPage, ContentPage}
+use Rattle.fl_model.specs.Mount.{blob_end}
 use Rattle.fl_model.specs.Record.{Plan, row_layout, rows_per_page, entry_len, entries_per_page}
 use Rattle.fl_model.specs.Ring as model
 use Rattle.fl_model.specs.Row.{stored_row}
@@ -28,17 +29,17 @@ use Rattle.fl_check.specs.Claims.{AllBelow}
 use Rattle.fl_check.specs.Entries.{HaveEntries}
 use Rattle.fl_check.specs.Marks.{kept_page}
 use Rattle.fl_check.specs.References.{PageLeads, BlobLeads}
-use Rattle.fl_check.specs.SoundImages.{RingImage, OfPlace, TableImage, BlobsLead, PagesFit, IsNumbered, AreNumbered, StandsSettled, SoundImages}
+use Rattle.fl_check.specs.SoundImages.{RingImage, OfPlace, TableImage, BlobsLead, PagesFit, IsNumbered, AreNumbered, AreBehind, StandsSettled, SoundImages}
 use Rattle.fl_check.specs.StandingRings.{HaveSize, IsSortedLogForm, StandsRuled, RingsStand}
 use Rattle.fl_check.specs.Tally.{tally_of}
-use Rattle.fl_check.specs.Whole.{Fits, LogFits, OfRing, IsIndexForm, IsVarForm, layout_in, shape_in, rows_shape, indexing, index_end, tally_in}
+use Rattle.fl_check.specs.Whole.{Fits, LogFits, OfRing, IsIndexForm, IsVarForm, layout_in, shape_in, rows_shape, indexing, end_in, index_end, tally_in}
 use Rattle.fl_check.specs.declared.numbering.Numbering.{Numbering}
 use Rattle.fl_check.specs.declared.tally.Tally.{Tally}
 use Rattle.fl_check.proofs.BlobBytes.{IsReadBy, read_from, reads-all}
 use Rattle.fl_check.proofs.ConfigFacts.{some-bits}
 use Rattle.fl_check.proofs.ContentPages.{content_back}
 use Rattle.fl_check.proofs.HeldRings.{place-size}
-use Rattle.fl_check.proofs.HeldTables.{HasRing, has-ring, rows_count, entries, data_image, data_counted, data_few, data_fit, data_read, data_rise, data_tallied, data_follows, data_told, data_bytes, data_lead, index-reads, var-reads, log-reads}
+use Rattle.fl_check.proofs.HeldTables.{HasRing, has-ring, rows_count, entries, data_image, data_counted, data_few, data_fit, data_read, data_rise, data_tallied, data_ends, data_follows, data_told, data_bytes, data_lead, index-reads, var-reads, log-reads}
 use Rattle.fl_check.proofs.LedBlobs.{content_of, blobs-lead}
 use Rattle.fl_check.proofs.ListedTables.{HasData, IndexTells, tells-none, index-tells}
 use Rattle.fl_check.proofs.RingReads.{Follows, OfNumbered}
@@ -186,7 +187,7 @@ module _ (label : Label) (config : TableConfig) (log : Option RingPlace) (f : Fl
 
   -- ---- the index
 
-  index_told : IndexTells made_plan table
+  index_told : IndexTells made_plan table rows_least
   index_told = by_index config.index stand.t.index index.ring refl index.follows index.image stand.sound.entries index.many
     where
       few : entries_per_page made_plan < 2 ^ 16
@@ -194,8 +195,9 @@ module _ (label : Label) (config : TableConfig) (log : Option RingPlace) (f : Fl
 
       by_index : (o : Option RingPlace) (n : Option Numbering) (ring : Option model.Ring) → config.index ≡ o → OfNumbered (λ place n ring. Follows (page_at f) (shape_in config place) 0 ring n) o n ring →
           OfPlace (λ place ring. RingImage (page_at f) (shape_in config place) ring (λ i count page. HoldsPage index.pages listed_body ring i count page)) o ring →
-          OfRing (λ place n. HaveEntries (page_at f) (shape_in config place) (rows_shape config) (indexing config n stand.t.rows)) o n → length index.pages ≡ full_pages (counts_in ring) → IndexTells made_plan table
-      by_index None None None is of pages rule many = tells-none made_plan table many
+          OfRing (λ place n. HaveEntries (page_at f) (shape_in config place) (rows_shape config) (indexing config n stand.t.rows)) o n → length index.pages ≡ full_pages (counts_in ring) →
+          IndexTells made_plan table (end_in config (page_at f) o n)
+      by_index None None None is of pages rule many = tells-none made_plan table 0 many
       by_index None None (Some ring) is of pages rule many = absurd pages
       by_index None (Some n) ring is of pages rule many = absurd rule
       by_index (Some place) None ring is of pages rule many = absurd rule
@@ -300,6 +302,27 @@ module _ (label : Label) (config : TableConfig) (log : Option RingPlace) (f : Fl
         log stand.t.log logged.ring stand.logged logged.image logged.follows;
   }
 
+  ends_are : blob_end table ≡ var_least
+  unfolding all_entries
+  ends_are = sym (data_ends label config log reader all_read f large short rows_least stand.t.rows rows_sizes.0 rows_sizes.1 stand.rows)
+
+  behind : AreBehind made_plan table
+  behind = record {
+    rows = λ void. let at_least = follows.behind void in omega (arith, at_least, index_told.ends);
+    var = by_var config.var stand.t.var var.ring stand.var var.image var.follows;
+  }
+    where
+      by_var : (o : Option RingPlace) (n : Option Numbering) (ring : Option model.Ring) → OfRing (λ place n. StandsRuled IsVarForm f (shape_in config place) var_least n) o n →
+          OfPlace (λ place ring. RingImage (page_at f) (shape_in config place) ring (λ i count page. HoldsPage var.pages content_body ring i count page)) o ring →
+          OfNumbered (λ place n ring. Follows (page_at f) (shape_in config place) var_least ring n) o n ring →
+          IfSome ring (λ ring. list_any (nat_lt 0) ring.counts ≡ false → blob_end table + length ring.counts ≤ ring.next)
+      by_var None None None stands pages reads = tt
+      by_var None None (Some ring) stands pages reads = absurd pages
+      by_var None (Some n) ring stands pages reads = absurd stands
+      by_var (Some place) None ring stands pages reads = absurd stands
+      by_var (Some place) (Some n) None stands pages reads = absurd pages
+      by_var (Some place) (Some n) (Some ring) stands pages reads = λ void. let at_least = reads.behind void in let ends = ends_are in omega (arith, at_least, ends)
+
   settled : StandsSettled made_plan table
   settled = stands-settled made_plan table image.lost fit image.rows.is (ring-of (HoldsPage index.pages listed_body) config.index index.ring index.image) (ring-of (HoldsPage var.pages content_body) config.var var.ring var.image)
       (ring-of (HoldsPage logged.pages logged_body) log logged.ring logged.image)
@@ -332,6 +355,7 @@ sound-images label config log f rows pages voids fits logs reaches told is =
       image = image label config log f rows pages voids fits logs reaches told stand;
       fit = fit label config log f rows pages voids fits logs reaches told stand;
       numbered = numbered label config log f rows pages voids fits logs reaches told stand;
+      behind = behind label config log f rows pages voids fits logs reaches told stand;
       stands = settled label config log f rows pages voids fits logs reaches told stand;
       rows_are = many_rows label config log f rows pages voids fits logs reaches told stand;
       voids_are = many_voids label config log f rows pages voids fits logs reaches told stand;

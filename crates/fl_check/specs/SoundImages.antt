@@ -1,6 +1,6 @@
 -- The pages of a sound table are the image of a table of the model, of which all facts hold that its rules give.
 use Rattle.std.specs.Prelude.{◌≡◌, ℕ, ◌+◌, ◌-◌, ◌^◌, ◌<◌, ◌≤◌, ◌⊎◌, true, false, nat_lt, IsTrue, if◌then◌else◌, Option, Some, None, IfSome, List, [], length, map, filter, sum, slice_get}
-use Rattle.std.specs.List.{AllByRecursion}
+use Rattle.std.specs.List.{AllByRecursion, list_any}
 use Rattle.fl_base.specs.declared.types.RingPlace.{RingPlace}
 use Rattle.fl_flash.specs.Flash.{FlashState, page_at}
 use Rattle.fl_flash.specs.Places.{extent}
@@ -9,7 +9,7 @@ use Rattle.fl_model.specs.Facts.{FitsPlan, IsContent, IsLogPage, IsSettled, coun
 use Rattle.fl_model.specs.Image.{IsRingImage, HoldsRows, HoldsEntries, HoldsContent, HoldsLogged}
 use Rattle.fl_model.specs.Index.{IndexPage}
 use Rattle.fl_model.specs.Log.{IsLog}
-use Rattle.fl_model.specs.Mount.{index_end}
+use Rattle.fl_model.specs.Mount.{index_end, blob_end}
 use Rattle.fl_model.specs.Query.{page_stands}
 use Rattle.fl_model.specs.Record.{Plan, has_index, has_var, has_log, rows_per_page, entries_per_page}
 use Rattle.fl_model.specs.Ring as model
@@ -94,6 +94,12 @@ pub record AreNumbered (config : TableConfig) (log : Option RingPlace) (page : �
   pub var : IsNumbered t.var table.var
   pub logged : IsNumbered t.log table.log
 
+-- Where no page of the data ring is committed, all of its numbers are behind those that the index lists; where none of the ring of variable
+-- data is, they are behind the pages that rows name.
+pub record AreBehind (plan : Plan) (table : Table) : Type 0 where
+  pub rows : list_any (nat_lt 0) table.rows.counts ≡ false → index_end plan table + length table.rows.counts ≤ table.rows.next
+  pub var : IfSome table.var (λ ring. list_any (nat_lt 0) ring.counts ≡ false → blob_end table + length ring.counts ≤ ring.next)
+
 -- ---- a table that the model mounts
 
 -- Page numbers are left: for the void pages of repairs, and for a data ring that is numbered anew behind what its index lists.
@@ -121,6 +127,7 @@ pub record HasImage (config : TableConfig) (log : Option RingPlace) (page : ℕ 
   pub image : TableImage config log page plan table
   pub fit : PagesFit plan table
   pub numbered : AreNumbered config log page table
+  pub behind : AreBehind plan table
   pub stands : StandsSettled plan table
   pub rows_are : length table.entries ≡ rows
   pub pages_are : length table.rows.counts ≡ pages

@@ -26,6 +26,7 @@ use Rattle.fl_table.specs.declared.faults.MountFault.{MountFault}
 use Rattle.fl_table.specs.declared.faults.MountFault.TheVariants as mount
 use Rattle.fl_table.specs.declared.table.Table as code
 use Rattle.fl_table.proofs.Bare.{bare-table}
+use Rattle.fl_table.proofs.Loose.{rests-mountable}
 use Rattle.fl_table.proofs.MountVar.{mounts-append, mounts-stop, mounts-unread}
 use Rattle.fl_rlc.specs.Memory.{page_in, rows_in}
 use Rattle.fl_rlc.specs.MountingApart.{RestApart, MountsApart, FailsApart, MountApartEnds}
@@ -69,6 +70,10 @@ module _ {KNOTS SLOTS : ℕ} (t : LoggedTable KNOTS SLOTS) (f : FlashState) (fir
   has : has_log plan ≡ true
   has = log-there l (first + blocks_of (bare plan)) plan rests.log.planned
 
+  -- the table rests for its own mount
+  pub apart-mountable : pages.RestsToMount f first (bare plan) (bare_table table)
+  apart-mountable = rests-mountable f first (bare plan) (bare_table table) refl rests.unlogged
+
   -- the log's pages, by each flash on which they stand
   log-rests : (g : FlashState) (x : Table) → log_of x ≡ log_of table → page_in l g ≡ page_in l f → repairing.Rests l g (first + blocks_of (bare plan)) plan x
   log-rests g x same still =
@@ -99,7 +104,8 @@ module _ {KNOTS SLOTS : ℕ} (t : LoggedTable KNOTS SLOTS) (f : FlashState) (fir
         bare_outcomes.MountEnds first (bare plan) (bare_table table) rose device (Err (mount.Flash fault)) u new → FailsApart first plan table rose device fault l new
     table-fails fault u new outside b =
         let here = log-rests new (beside (log_of table) b.now.state) refl (log-still t.table l f new first plan planned.table outside rests.log.planned) in
-        let inner = subst (λ (x : Table). pages.Rests new first (bare plan) x) (b.rests.settled.lost ∙ sym (bare-same (bare plan) (lose b.now.state) refl (subst (IsTable (bare plan)) b.rests.settled.lost b.rests.settled.facts))) b.rests in
+        let left = b.rests rests.unlogged.settled in
+        let inner = subst (λ (x : Table). pages.Rests new first (bare plan) x) (left.settled.lost ∙ sym (bare-same (bare plan) (lose b.now.state) refl (subst (IsTable (bare plan)) left.settled.lost left.settled.facts))) left in
         record {
           now = progress_beside (log_of table) b.now;
           did = by-did b.did;
@@ -135,19 +141,22 @@ module _ {KNOTS SLOTS : ℕ} (t : LoggedTable KNOTS SLOTS) (f : FlashState) (fir
       abbrev pub between : Table
       between = beside (log_of table) w.now.state
 
+      at-first : without_log.Stands u mid first (bare plan) (ready (bare plan) w.now.state)
+      at-first = w.stands rests.unlogged.settled
+
       bare-between : bare_table w.now.state ≡ w.now.state
       bare-between =
-          let b = bare-table (bare plan) (ready (bare plan) w.now.state) refl w.stands.facts in
+          let b = bare-table (bare plan) (ready (bare plan) w.now.state) refl at-first.facts in
           ap (λ (o : Option Ring). record w.now.state { log = o; logged = []; logged_before = [] }) (sym b.0)
           ∙ (ap (λ (es : List Entry). record w.now.state { logged = es; logged_before = [] }) (sym b.1) ∙ ap (λ (ps : List (List Entry)). record w.now.state { logged_before = ps }) (sym b.2))
 
       pub between-stands : without_log.Stands u mid first (bare plan) (ready (bare plan) (bare_table (beside (log_of table) w.now.state)))
-      between-stands = subst (λ (x : Table). without_log.Stands u mid first (bare plan) (ready (bare plan) x)) (sym bare-between) w.stands
+      between-stands = subst (λ (x : Table). without_log.Stands u mid first (bare plan) (ready (bare plan) x)) (sym bare-between) at-first
 
       pub between-none : w.now.state.pending ≡ 0
       between-none =
-          let many = pending-many (ready (bare plan) w.now.state) (omega (arith, w.stands.facts.counted)) in
-          let count = w.stands.memory.gathers.count in
+          let many = pending-many (ready (bare plan) w.now.state) (omega (arith, at-first.facts.counted)) in
+          let count = at-first.memory.gathers.count in
           omega (arith, many, count, length-map (pending_entries (ready (bare plan) w.now.state)) stored_row, idle)
 
       pub between-rests : repairing.Rests l mid (first + blocks_of (bare plan)) plan (beside (log_of table) w.now.state)

@@ -34,6 +34,7 @@ use Rattle.fl_table.specs.declared.faults.MountFault.TheVariants as mount
 use Rattle.fl_table.specs.declared.table.Table as code
 use Rattle.fl_table.proofs.Bare.{bare-table}
 use Rattle.fl_table.proofs.BlobsOfTable.{planned-none}
+use Rattle.fl_table.proofs.Loose.{rests-mountable}
 use Rattle.fl_table.proofs.SealAnswers.{planned-shape}
 use Rattle.fl_var.specs.declared.var_data.VarData.{VarData}
 use Rattle.fl_rlc.specs.Logged.{Stands, Rests, LogStands}
@@ -62,6 +63,9 @@ module _ {KNOTS SLOTS : ℕ} (t : LoggedTable KNOTS SLOTS) (f : FlashState) (fir
     settled = record { facts = bare-facts plan table rests.settled.facts; lost = ap bare_table rests.settled.lost };
     pages = record { rows = rests.pages.rows; index = rests.pages.index; var = rests.pages.var };
   }
+
+  pub bare-mountable : pages.RestsToMount f first (bare plan) (bare_table table)
+  bare-mountable = rests-mountable f first (bare plan) (bare_table table) refl bare-rests
 
   none : table.pending ≡ 0
   none = ap (λ (x : Table). x.pending) rests.settled.lost
@@ -99,7 +103,7 @@ module _ {KNOTS SLOTS : ℕ} (t : LoggedTable KNOTS SLOTS) (f : FlashState) (fir
           did = along (TableMounted w.now) w.did;
           counts = w.counts;
           power = w.power;
-          stands = subst (λ (x : Table). Stands now new first plan x) (made w.now.state) (stands (ready plan w.now.state) w.stands);
+          stands = subst (λ (x : Table). Stands now new first plan x) (made w.now.state) (stands (ready plan w.now.state) (w.stands rests.settled));
           answer = w.answer ∙ ap mounted_of (made w.now.state);
         }
     alone-ends (Err (mount.Flash fault)) h = badly fault (same (Err (mount.Flash fault)) h)
@@ -109,10 +113,10 @@ module _ {KNOTS SLOTS : ℕ} (t : LoggedTable KNOTS SLOTS) (f : FlashState) (fir
           now = w.now;
           did = by-did w.did;
           counts = w.counts;
-          rests = subst (λ (x : Table). Rests new first plan x) w.rests.settled.lost (record {
-            settled = w.rests.settled;
-            pages = w.rests.pages;
-            log = subst (λ (o : Option Ring). IfSome o (λ r. IsRingImage (shape_of plan LogRing) r (bytes_in (page_at new) first plan LogRing) (HoldsLogged plan w.now.state r))) (sym (bare-table plan w.now.state alone w.rests.settled.facts).0) tt;
+          rests = subst (λ (x : Table). Rests new first plan x) (w.rests rests.settled).settled.lost (record {
+            settled = (w.rests rests.settled).settled;
+            pages = w.pages;
+            log = subst (λ (o : Option Ring). IfSome o (λ r. IsRingImage (shape_of plan LogRing) r (bytes_in (page_at new) first plan LogRing) (HoldsLogged plan w.now.state r))) (sym (bare-table plan w.now.state alone (w.rests rests.settled).settled.facts).0) tt;
           });
         }
           where

@@ -30,16 +30,19 @@ fn held<const KNOTS: usize, const SLOTS: usize>(table: &Table<KNOTS, SLOTS>) -> 
 
 impl<const KNOTS: usize, const SLOTS: usize> LoggedTable<KNOTS, SLOTS> {
     ghost use Rattle.std.specs.Prelude.{Bool};
+    ghost use Rattle.fl_model.specs.Bare.{bare};
     ghost use Rattle.fl_model.specs.MountLimit.{mount_limit};
     ghost use Rattle.fl_model.specs.Work.{Device};
     ghost use Rattle.fl_frame.specs.Watched.{IsWatched};
+    ghost use Rattle.fl_table.specs.Outcomes as without_log_ends;
+    ghost use Rattle.fl_table.specs.Pages.{RestsToMount};
     ghost use Rattle.fl_rlc.specs.Left.{LeavesPages};
     ghost use Rattle.fl_rlc.specs.Logged.{Rests};
     ghost use Rattle.fl_rlc.specs.Mounting.{FindsPages, RefusesPages, pages_in};
     ghost use Rattle.fl_rlc.specs.MountingApart.{RestApart, MountApartEnds};
     ghost use Rattle.fl_rlc.specs.Outcomes.{MountEnds};
     ghost use Rattle.fl_rlc.specs.declared.log.RecordLog.{RecordLog};
-    ghost use Rattle.fl_rlc.specs.Table.{is_logged, is_running, is_stopped, repairs_in, IsPlanned, IsSamePlan, LiesOn, NothingWaits, OutsideStands, log_in};
+    ghost use Rattle.fl_rlc.specs.Table.{is_logged, is_running, is_stopped, repairs_in, IsPlanned, IsSamePlan, LiesOn, NothingWaits, OutsideStands, log_in, table_in};
 
     /// Mounts the table and then its log, where it has one. The records of the log's newest page that no data page has
     /// become a page of the table, unless its page numbers are spent. It answers what the table holds then.
@@ -64,6 +67,8 @@ impl<const KNOTS: usize, const SLOTS: usize> LoggedTable<KNOTS, SLOTS> {
         ensures holds { buf.new.holds ≡ None }
         ensures ends { (first : ℕ) → (plan : Plan) → (table : model.Table) → (rose : Bool) → (device : Device) → IsWatched (F.state flash.old) (F.state flash.new) rose device
             → IsPlanned self.old first plan → Rests (F.state flash.old) first plan table → MountEnds first plan table rose device result self.new (F.state flash.new) }
+        ensures alone { (first : ℕ) → (plan : Plan) → (table : model.Table) → (rose : Bool) → (device : Device) → IsWatched (F.state flash.old) (F.state flash.new) rose device
+            → IsPlanned self.old first plan → log_in self.old ≡ None → RestsToMount (F.state flash.old) first (bare plan) table → without_log_ends.MountEnds first (bare plan) table rose device result (table_in self.new) (F.state flash.new) }
         ensures apart { (first : ℕ) → (plan : Plan) → (table : model.Table) → (rose : Bool) → (device : Device) → (log : RecordLog) → IsWatched (F.state flash.old) (F.state flash.new) rose device
             → IsPlanned self.old first plan → log_in self.old ≡ Some log → RestApart log (F.state flash.old) first plan table → MountApartEnds first plan table rose device log result self.new (F.state flash.new) }
         ensures mounted { is_running self.new ≡ is_ok result }

@@ -41,6 +41,7 @@ use Rattle.fl_schema.specs.Form.{key_width}
 use Rattle.fl_schema.specs.declared.schema.KeyWidth.{KeyWidth}
 use Rattle.fl_schema.specs.declared.schema.KeyWidth.TheVariants.{Four, Eight}
 use Rattle.fl_table.proofs.KeptPages.{kept, table-numbered}
+use Rattle.fl_table.proofs.Loose.{IsLoose, loose-of}
 use Rattle.fl_table.proofs.MountGood.{good-ring}
 use Rattle.fl_table.proofs.Plain.{IsPlainTable, table-parts}
 use Rattle.fl_plan.proofs.Fits.{few-blobs, row-fits}
@@ -95,6 +96,9 @@ module _ (label : Label) (config : TableConfig) (f : FlashState) (table : Table)
   pub plain : IsPlainTable (plan_of_table label config) table
   plain = table-parts (plan_of_table label config) table refl facts
 
+  loose : IsLoose (plan_of_table label config) table
+  loose = loose-of (plan_of_table label config) table plain
+
   pub counted : sum table.rows.counts ≡ length table.entries
   counted = let k = facts in let i = idle in omega (arith, k.counted, i.pending)
 
@@ -112,7 +116,8 @@ module _ (label : Label) (config : TableConfig) (f : FlashState) (table : Table)
 
   good-data : IsGood f (rows_shape config) (index_end (plan_of_table label config) table) (state_of (plan_of_table label config) table)
   good-data =
-      good-ring first plan table model_shape is.fits.limits.geometry.page_low (few-indexed label config is.fits.passes is.fits.limits) plain idle (page_at f) on f refl is.told
+      good-ring (Unit {0}) first plan table model_shape is.fits.limits.geometry.page_low (few-indexed label config is.fits.passes is.fits.limits) (record { loose = loose; plain = λ left. plain })
+      (λ void. plain.index.number_listed) idle (page_at f) on f refl is.told
 
   is-of : IsOf (state_of (plan_of_table label config) table) table.rows
   is-of = record {
@@ -146,7 +151,7 @@ module _ (label : Label) (config : TableConfig) (f : FlashState) (table : Table)
         let fit = row-fits config is.fits.passes in
         let large = is.fits.limits.geometry.page_low in
         let row_some = layout_some config.key config.columns.items (nat_lt 0 (blocks_in config.var)) in
-        let k = kept (page_at f) first plan table config.key config.columns.items (nat_lt 0 (blocks_in config.var)) refl (few-blobs config is.fits.passes) plain idle.pending large
+        let k = kept (page_at f) first plan table config.key config.columns.items (nat_lt 0 (blocks_in config.var)) refl (few-blobs config is.fits.passes) loose idle.pending large
         (omega (arith, fit, large)) (omega (arith, row_some)) is.fits.limits.geometry.page_high size on i c e in
         let good = subst (λ (p : List ℕ). IsGoodPage (layout_in config) (model.oldest table.rows + i) p) (sym here) (k.good committed) in
         record {
@@ -185,7 +190,7 @@ module _ (label : Label) (config : TableConfig) (f : FlashState) (table : Table)
         let less = div-le_self (config.geometry.page - 24) (row_len plan) in
         fields-fit plan (rows_at table m c) (each-take (FitsPlan plan) c (drop before table.entries) (each-drop (FitsPlan plan) before table.entries k.fit)) keys-small
         (omega (arith, many, most, less, high))
-        (λ j entry blob there is_blob some. table-numbered plan table plain idle.pending (before + j) entry blob
+        (λ j entry blob there is_blob some. table-numbered plan table loose idle.pending (before + j) entry blob
         (sym (slice_get-drop before table.entries j) ∙ slice_get-front c (drop before table.entries) j entry there) is_blob some)
         ∙ sym (full-stored (rows_at table m c))
 

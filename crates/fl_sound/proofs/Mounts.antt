@@ -1,22 +1,27 @@
 -- A flash on which a sound table lies stands for a table of the model, where the table is as runs leave it.
-use Rattle.std.proofs.Common.{◌≡◌, ℕ, ◌+◌, ◌*◌, ◌%◌, ◌≤◌, cond, nat_lt, Option, Some, None, IfSome, List, length, map, filter, refl, sym, ◌∙◌, ap, subst, arith}
-use Rattle.std.specs.List.{AllByRecursion}
+use Rattle.std.proofs.Common.{◌≡◌, ℕ, ◌+◌, ◌*◌, ◌%◌, ◌≤◌, ◌<◌, ◌++◌, ◌∷◌, false, cond, nat_lt, Option, Some, None, IfSome, List, [], length, map, filter, refl, sym, ◌∙◌, ap, subst, arith}
+use Rattle.std.specs.List.{AllByRecursion, list_any}
 use Rattle.fl_base.specs.declared.types.Geometry.{Geometry}
 use Rattle.fl_base.specs.declared.types.RingPlace.{RingPlace}
-use Rattle.fl_check.specs.SoundImages.{RingImage, OfPlace, BlobsLead, PagesFit, IsAsRunsLeave, StandsSettled, HasImage}
+use Rattle.fl_check.specs.SoundImages.{RingImage, OfPlace, BlobsLead, PagesFit, IsNumbered, IsAsRunsLeave, StandsSettled, HasImage}
 use Rattle.fl_check.specs.Whole.{shape_in}
+use Rattle.fl_check.specs.declared.numbering.Numbering.{Numbering}
 use Rattle.fl_check.proofs.SoundImages.{sound-images}
 use Rattle.fl_check.proofs.TableFacts.{stands-settled}
 use Rattle.fl_flash.specs.Flash.{FlashState, page_at}
+use Rattle.fl_model.specs.Agrees.{BlobsOf}
 use Rattle.fl_model.specs.Bare.{bare, bare_table}
 use Rattle.fl_model.specs.Facts.{FitsPlan, IsContent, IsSettled, counts_in}
 use Rattle.fl_model.specs.Image.{IsRingImage, HoldsEntries, HoldsContent, HoldsLogged}
+use Rattle.fl_model.specs.Mount.{index_end, blob_end}
 use Rattle.fl_model.specs.Record.{Plan, blocks_of, rows_per_page}
-use Rattle.fl_model.specs.Ring.{Ring, IsRing}
-use Rattle.fl_model.specs.Table.{Table, Entry, RingName, DataRing, IndexRing, VarRing, LogRing, ring_of, log_pages}
+use Rattle.fl_model.specs.Ring.{Ring, IsRing, oldest}
+use Rattle.fl_model.specs.Table.{Table, Entry, RingName, DataRing, IndexRing, VarRing, LogRing, ring_of, has_rows, log_pages}
 use Rattle.fl_model.proofs.Lists.{each-weaker}
 use Rattle.fl_plan.specs.Plan.{Label, label_of, blocks_in, plan_of_table, with_log, IsRingAt}
 use Rattle.fl_plan.specs.declared.table_config.TableConfig.{TableConfig}
+use Rattle.fl_table.specs.Blobs.{AreLed}
+use Rattle.fl_table.specs.Mountable.{AreVoid, IsPaged}
 use Rattle.fl_table.specs.Pages.{HoldsTable}
 use Rattle.fl_table.specs.Pages as pages
 use Rattle.fl_rlc.specs.Logged.{Rests}
@@ -51,7 +56,7 @@ module _ (page : ℕ → List ℕ) (config : TableConfig) where
 
 -- ---- the table without its log
 
-module _ (plan : Plan) (table : Table) (fit : PagesFit plan table) (left : IsAsRunsLeave plan table) where
+module _ (plan : Plan) (table : Table) (fit : PagesFit plan table) where
   bare-fit : PagesFit (bare plan) (bare_table table)
   bare-fit = record {
     has_rings = (fit.has_rings.0, fit.has_rings.1, refl);
@@ -85,8 +90,26 @@ module _ (plan : Plan) (table : Table) (fit : PagesFit plan table) (left : IsAsR
             holds = λ stands. let b = lead.holds stands in record { pages = b.pages; there = b.there; within = b.within; full = b.full; ends = b.ends; stored = b.stored };
           }
 
-  bare-left : IsAsRunsLeave (bare plan) (bare_table table)
-  bare-left = record { numbers = record { each = each; listed = left.numbers.listed }; begin = left.begin }
+  -- .. is the table, where it has none
+  bare-is : table.log ≡ None → bare_table table ≡ table
+  bare-is none =
+      let logged : table.logged ≡ [] = fit.logged_some (ap has_rows none) in
+      let before : table.logged_before ≡ [] =
+      no_pages table.logged_before (cond (has_rows table.log) (table.logged ∷ []) []) (no_map (log_pages table) (fit.log_each ∙ ap (λ (o : Option Ring). filter (nat_lt 0) (counts_in o)) none)) in
+      ap (λ (o : Option Ring). record table { log = o; logged = []; logged_before = [] }) (sym none)
+      ∙ ap (λ (rows : List Entry). record table { logged = rows; logged_before = [] }) (sym logged)
+      ∙ ap (λ (pages : List (List Entry)). record table { logged_before = pages }) (sym before)
+    where
+      no_map : (xs : List (List Entry)) → map (λ (rows : List Entry). length rows) xs ≡ [] → xs ≡ []
+      no_map [] e = refl
+      no_map (x ∷ xs) e = cc
+
+      no_pages : (xs ys : List (List Entry)) → xs ++ ys ≡ [] → xs ≡ []
+      no_pages [] ys e = refl
+      no_pages (x ∷ xs) ys e = cc
+
+  bare-left : IsAsRunsLeave plan table → IsAsRunsLeave (bare plan) (bare_table table)
+  bare-left left = record { numbers = record { each = each; listed = left.numbers.listed }; begin = left.begin }
     where
       each : (name : RingName) → IfSome (ring_of name (bare_table table)) (λ ring. ring.next + cond ring.torn 1 0 ≤ 4294967292)
       each DataRing = left.numbers.each DataRing
@@ -125,13 +148,90 @@ module _ (label : Label) (config : TableConfig) (log : Option RingPlace) (f : Fl
   bare-settled left = stands.settled (bare-left plan table image.fit left) (stands.unlogged refl)
     where
       stands : StandsSettled (bare plan) (bare_table table)
-      stands = stands-settled (bare plan) (bare_table table) (ap bare_table image.image.lost) (bare-fit plan table image.fit left) image.image.rows.is
+      stands = stands-settled (bare plan) (bare_table table) (ap bare_table image.image.lost) (bare-fit plan table image.fit) image.image.rows.is
           (ring-is (page_at f) config (HoldsEntries plan table) config.index table.index image.image.index) (ring-is (page_at f) config (HoldsContent table) config.var table.var image.image.var) tt
 
+  bare-holds : HoldsTable (page_at f) first (bare plan) (bare_table table)
+  bare-holds = record { rows = holds.rows; index = holds.index; var = holds.var }
+
   bare-rests : IsAsRunsLeave plan table → pages.Rests f first (bare plan) (bare_table table)
-  bare-rests left = record { settled = bare-settled left; pages = record { rows = holds.rows; index = holds.index; var = holds.var } }
+  bare-rests left = record { settled = bare-settled left; pages = bare-holds }
+
+  -- ---- what its mount asks
+
+  number-is : (n : Option Numbering) (o : Option Ring) → IsNumbered n o → IfSome o (λ ring. ring.next + cond ring.torn 1 0 ≤ 4294967295)
+  number-is None None is = tt
+  number-is None (Some ring) is = absurd is
+  number-is (Some n) None is = absurd is
+  number-is (Some n) (Some ring) is = omega (arith, is.1)
+
+  blobs-led : (o : Option Ring) → IfSome o (BlobsLead plan table) → IfSome o (λ ring. AreLed (bare plan) ring table.entries)
+  blobs-led None leads = tt
+  blobs-led (Some ring) leads = λ i entry blob here is some. let lead = leads i entry blob here is some in (lead.written, lead.reaches)
+
+  blobs-stand : (o : Option Ring) → IfSome o (BlobsLead (bare plan) (bare_table table)) → IfSome o (BlobsOf (bare plan) (bare_table table))
+  blobs-stand None leads = tt
+  blobs-stand (Some ring) leads = λ i entry blob here is some stands. (leads i entry blob here is some).holds stands
+
+  blobs-before : (o : Option Ring) → IfSome o (λ ring. list_any (nat_lt 0) ring.counts ≡ false → blob_end table + length ring.counts ≤ ring.next) → IfSome o (λ ring. AreVoid ring.counts → blob_end (bare_table table) ≤ oldest ring)
+  blobs-before None behind = tt
+  blobs-before (Some ring) behind = λ void. let h : blob_end (bare_table table) + length ring.counts ≤ ring.next = behind void in omega (arith, h)
+
+  bare-paged : IsPaged (bare plan) (bare_table table)
+  bare-paged =
+      let fit = bare-fit plan table image.fit in
+      record {
+        rows = image.image.rows.is;
+        index = ring-is (page_at f) config (HoldsEntries plan table) config.index table.index image.image.index;
+        var = ring-is (page_at f) config (HoldsContent table) config.var table.var image.image.var;
+        has_rings = (image.fit.has_rings.0, image.fit.has_rings.1);
+        unlogged = (refl, refl, refl);
+        fit = fit.fit;
+        counted = fit.counted;
+        few_rows = fit.few_rows;
+        ascending = fit.ascending;
+        index_counts = fit.index_counts;
+        index_each = fit.index_each;
+        index_fit = fit.index_fit;
+        firsts = fit.firsts;
+        listed = fit.listed;
+        tell = fit.tell;
+        var_counts = fit.var_counts;
+        var_each = fit.var_each;
+        var_fit = fit.var_fit;
+        led = blobs-led table.var image.fit.blobs;
+        stand = blobs-stand table.var fit.blobs;
+        numbers = numbers;
+      }
+    where
+      numbers : (name : RingName) → IfSome (ring_of name (bare_table table)) (λ ring. ring.next + cond ring.torn 1 0 ≤ 4294967295)
+      numbers DataRing = omega (arith, image.numbered.rows.1)
+      numbers IndexRing = number-is image.numbered.t.index table.index image.numbered.index
+      numbers VarRing = number-is image.numbered.t.var table.var image.numbered.var
+      numbers LogRing = tt
+
+  bare-mounts : pages.RestsToMount f first (bare plan) (bare_table table)
+  bare-mounts = record {
+    mountable = record {
+      lost = ap bare_table image.image.lost;
+      paged = bare-paged;
+      behind = λ void low some. absurd (never void low);
+      before = blobs-before table.var image.behind.var;
+    };
+    pages = bare-holds;
+  }
+    where
+      never : AreVoid table.rows.counts → oldest table.rows < index_end plan table → ⊥
+      never void low = let h = image.behind.rows void in omega (arith, h, low)
 
   -- ---- a log
+
+  none-logged : log ≡ None → table.log ≡ None
+  none-logged none = by_ring table.log (subst (λ (o : Option RingPlace). OfPlace (λ place ring. RingImage (page_at f) (shape_in config place) ring (HoldsLogged plan table ring)) o table.log) none image.image.logged)
+    where
+      by_ring : (o : Option Ring) → OfPlace (λ place ring. RingImage (page_at f) (shape_in config place) ring (HoldsLogged plan table ring)) None o → o ≡ None
+      by_ring None is = refl
+      by_ring (Some ring) is = absurd is
 
   module _ (left : IsAsRunsLeave plan table) (l : RecordLog) (planned : IsPlanned l (config.rows.first_block + blocks_of (bare plan)) plan) where
     -- its pages in the log's own words
@@ -175,7 +275,10 @@ module _ (label : Label) (config : TableConfig) (log : Option RingPlace) (f : Fl
     image = image.image;
     fit = image.fit;
     numbered = image.numbered;
+    behind = image.behind;
     stands = image.stands;
+    mounts = bare-mounts;
+    alone = λ none. bare-is plan table image.fit (none-logged none);
     rests = λ left log_is. rings-rest (image.stands.settled left log_is);
     apart = λ left place l there planned. record { unlogged = bare-rests left; log = log-rests left l planned place there };
     rows_are = image.rows_are;

@@ -1,9 +1,10 @@
 -- How the mount of variable data ends, for a table.
-use Rattle.std.proofs.Common.{◌≡◌, ℕ, ◌+◌, ◌*◌, ◌≤◌, Bool, Result, Ok, Err, List, sym, ◌∙◌, ap, subst, arith}
+use Rattle.std.proofs.Common.{◌≡◌, ℕ, ◌+◌, ◌*◌, ◌≤◌, Bool, Some, Result, Ok, Err, List, sym, ◌∙◌, ap, subst, arith}
 use Rattle.std.proofs.Math.Nat.{mul-le-mul_left, mul-le-mul_right}
 use Rattle.fl_flash.specs.Flash.{FlashState}
 use Rattle.fl_model.specs.Mount.{renumber}
 use Rattle.fl_model.specs.Record.{Plan}
+use Rattle.fl_model.specs.Ring.{Ring}
 use Rattle.fl_model.specs.Table.{Table, Entry, RingName, VarRing}
 use Rattle.fl_model.specs.Within.{repair_within, effect_within, TablePerforms}
 use Rattle.fl_model.specs.Work.{Kind, Device, PartProgress}
@@ -12,7 +13,7 @@ use Rattle.fl_ring.specs.Repairing.{Beside}
 use Rattle.fl_ring.specs.Ring as rings
 use Rattle.fl_ring.specs.declared.fault.RingFault.{RingFault}
 use Rattle.fl_ring.specs.declared.fault.RingFault.TheVariants.{Flash, BadHead, BadGap, BadPage, NoNumber}
-use Rattle.fl_table.specs.Blobs.{AreIn}
+use Rattle.fl_table.specs.Blobs.{AreIn, AreLed}
 use Rattle.fl_table.specs.BlobMount.{Rests, MountsWell, MountEnds}
 use Rattle.fl_table.specs.Mounting.{FewReads}
 use Rattle.fl_table.proofs.IndexSeals.{front-left}
@@ -34,7 +35,7 @@ module _ (old v : VarData) (f g : FlashState) (first : ℕ) (plan : Plan) (table
   well : mounting.MountsWell plan table rose device v g → MountsWell first plan table rose device v g
   well w =
       let ring = w.stands.ring in
-      let kept = done-keeps old f first plan table rests rose device w.now ring.ring ring.ring_is w.did in
+      let kept = done-keeps (AreIn plan rests.in_pages.ring table.entries) old f first plan table rests (λ inside. inside) rose device w.now ring.ring ring.ring_is w.did in
       let entries : w.now.state.entries ≡ table.entries = entries_left w.now w.did in
       record {
         now = w.now;
@@ -42,16 +43,17 @@ module _ (old v : VarData) (f g : FlashState) (first : ℕ) (plan : Plan) (table
         whole = w.whole;
         counts = w.counts;
         power = w.power;
-        stands = record {
-          planned = record {
-            planned = record { geometry = rests.planned.planned.geometry ∙ sym (same.geometry); blocks = rests.planned.planned.blocks ∙ sym (ap (λ p. p.blocks) same.place) };
-            begins = ap (λ (r : rings.Shape). r.first) (same-shape old v same) ∙ rests.planned.begins;
-          };
-          in_pages = w.stands;
-          placed = placed-in plan ring.ring w.now.state.entries kept.inside;
+        planned = record {
+          planned = record { geometry = rests.planned.planned.geometry ∙ sym (same.geometry); blocks = rests.planned.planned.blocks ∙ sym (ap (λ p. p.blocks) same.place) };
+          begins = ap (λ (r : rings.Shape). r.first) (same-shape old v same) ∙ rests.planned.begins;
         };
-        below = let le = held-below plan ring.ring table ring.pages.facts.not_negative (subst (λ (es : List Entry). AreIn plan ring.ring es) entries kept.inside) in omega (arith, le, ring.next);
+        in_pages = w.stands;
+        placed = λ before is inside. placed-in plan ring.ring w.now.state.entries (kept.inside (subst (λ (r : Ring). AreIn plan r table.entries) (one before (sym is ∙ rests.in_pages.ring_is)) inside));
+        below = let le = held-below plan ring.ring table (subst (λ (es : List Entry). AreLed plan ring.ring es) entries kept.led) in omega (arith, le, ring.next);
       }
+    where
+      one : (before : Ring) → Some before ≡ Some rests.in_pages.ring → before ≡ rests.in_pages.ring
+      one before e = cc
 
   pub mount-ends : (result : Result (Unit {0}) RingFault) → mounting.MountEnds plan table rose device old result v g → MountEnds first plan table rose device old result v g
   mount-ends (Ok u) h = well h

@@ -1,14 +1,14 @@
 -- Rows that refer to blobs tell their bytes, as their pages have numbers.
-use Rattle.std.proofs.Common.{◌≡◌, ℕ, ◌+◌, ◌-◌, ◌^◌, ◌<◌, ◌≤◌, ◌⊎◌, inl, inr, cond, Option, Some, None, IfSome, List, [], ◌∷◌, length, refl, sym, subst, arith}
+use Rattle.std.proofs.Common.{◌≡◌, ℕ, ◌+◌, ◌^◌, ◌<◌, ◌≤◌, cond, Option, Some, None, IfSome, List, [], ◌∷◌, length, refl, sym, subst, arith}
 use Rattle.std.specs.Prelude.{option_map}
 use Rattle.std.specs.List.{slice_get}
-use Rattle.fl_model.specs.Agrees.{reach_of}
 use Rattle.fl_model.specs.Facts.{FitsPlan, BlobFits}
 use Rattle.fl_model.specs.Record.{Plan, row_layout}
-use Rattle.fl_model.specs.Ring.{Ring, IsRing, oldest}
+use Rattle.fl_model.specs.Ring.{Ring}
 use Rattle.fl_model.specs.Row.{Row, IsStorable, stored_row}
-use Rattle.fl_model.specs.Table.{Table, Entry, VarRing, shape_of, written}
-use Rattle.fl_table.proofs.BlobTables.{IsBlobbed}
+use Rattle.fl_model.specs.Table.{Table, Entry, written}
+use Rattle.fl_table.specs.Blobs.{AreLed}
+use Rattle.fl_table.proofs.BlobTables.{IsLed}
 
 -- the row of a record whose blob begins on a page with a number
 pub stored-row : (plan : Plan) (entry : Entry) → FitsPlan plan entry → ((blob : List ℕ) → entry.kept.blob ≡ Some blob → 0 < length blob → entry.page + 1 < 2 ^ 32) → IsStorable (row_layout plan) (stored_row entry)
@@ -33,11 +33,9 @@ stored-row plan entry h numbered = by_blob entry.kept.blob refl h.blob
         by_length (x ∷ xs) e none = let k = numbered (x ∷ xs) e (omega arith) in (omega (arith, k), λ page offset len. omega (arith, k, page))
 
 -- the blobs of written records do
-pub written-numbered : (plan : Plan) (table : Table) → IsBlobbed plan table → (i : ℕ) (entry : Entry) (blob : List ℕ) → slice_get (written table) i ≡ Some entry → entry.kept.blob ≡ Some blob → 0 < length blob → IfSome table.var (λ ring. entry.page + 1 < 2 ^ 32)
-written-numbered plan table h i entry blob e k some = by_ring table.var h.ring h.number (h.blobs i entry blob e k some)
+pub written-numbered : (plan : Plan) (table : Table) → IsLed plan table → (i : ℕ) (entry : Entry) (blob : List ℕ) → slice_get (written table) i ≡ Some entry → entry.kept.blob ≡ Some blob → 0 < length blob → IfSome table.var (λ ring. entry.page + 1 < 2 ^ 32)
+written-numbered plan table h i entry blob e k some = by_ring table.var h.number h.led
   where
-    by_ring : (o : Option Ring) → IfSome o (IsRing (shape_of plan VarRing)) → IfSome o (λ ring. ring.next + (cond ring.torn 1 0) ≤ 4294967292) →
-        IfSome o (λ ring. (entry.page < oldest ring) ⊎ ((oldest ring ≤ entry.page) × (slice_get ring.counts (entry.page - oldest ring) ≡ Some 1) × (entry.page + reach_of plan entry blob < ring.next))) → IfSome o (λ ring. entry.page + 1 < 2 ^ 32)
-    by_ring None is number kept = tt
-    by_ring (Some ring) is number (inl lt) = omega (arith, lt, number)
-    by_ring (Some ring) is number (inr h) = omega (arith, h.2, number)
+    by_ring : (o : Option Ring) → IfSome o (λ ring. ring.next + (cond ring.torn 1 0) ≤ 4294967295) → IfSome o (λ ring. AreLed plan ring (written table)) → IfSome o (λ ring. entry.page + 1 < 2 ^ 32)
+    by_ring None number led = tt
+    by_ring (Some ring) number led = let lt = (led i entry blob e k some).0 in omega (arith, lt, number)

@@ -7,8 +7,8 @@ use Rattle.fl_flash.specs.Flash.{FlashState, page_at}
 use Rattle.fl_flash.specs.declared.flash.FlashFault.{FlashFault}
 use Rattle.fl_index.specs.declared.index.BitmapIndex.{BitmapIndex}
 use Rattle.fl_model.specs.Content.{ContentPage}
-use Rattle.fl_model.specs.Facts.{IsTable, is_some_ring}
-use Rattle.fl_model.specs.Record.{Plan}
+use Rattle.fl_model.specs.Facts.{is_some_ring}
+use Rattle.fl_model.specs.Record.{Plan, has_index}
 use Rattle.fl_model.specs.Ring.{Ring}
 use Rattle.fl_model.specs.Table.{Table, RingName, DataRing, IndexRing, VarRing, fill, after_seals, lose, spent_from}
 use Rattle.fl_model.specs.Within.{seals_within, TablePerforms}
@@ -32,7 +32,9 @@ use Rattle.fl_table.proofs.IndexOfTable.{stand-moved}
 use Rattle.fl_table.proofs.Plain.{IsPlainTable, plain-lose, table-parts}
 use Rattle.fl_table.proofs.SealAnswers.{planned-shape}
 use Rattle.fl_table.proofs.KeptPagesStay.{kept-same, pages-same, ring-same}
+use Rattle.fl_table.proofs.ListsStay.{ring-moved}
 use Rattle.fl_table.proofs.VarFacts.{HasVar}
+use Rattle.fl_index.specs.Standing.{HasIndex}
 use Rattle.fl_var.specs.Memory.{next_in, page_in, var_shape, waiting_in}
 use Rattle.fl_var.specs.Placing as placing
 use Rattle.fl_var.specs.declared.var_data.VarData.{VarData}
@@ -70,16 +72,16 @@ some-rows t first plan table f s =
     let k : 3 * plan.geometry.block ≤ plan.data_blocks * plan.geometry.block = mul-le-mul_right plan.geometry.block shape.blocks in
     omega (arith, k, shape.pages)
 
-pub index-pages : {KNOTS SLOTS : ℕ} (t : code.Table KNOTS SLOTS) (first : ℕ) (plan : Plan) (table : Table) → IsPlanned t first plan → IsTable plan table → (r : Ring) → table.index ≡ Some r → 0 < plan.index_blocks * plan.geometry.block
-index-pages t first plan table planned facts r is =
+pub index-pages : {KNOTS SLOTS : ℕ} (t : code.Table KNOTS SLOTS) (first : ℕ) (plan : Plan) (table : Table) → IsPlanned t first plan → is_some_ring table.index ≡ has_index plan → (r : Ring) → table.index ≡ Some r → 0 < plan.index_blocks * plan.geometry.block
+index-pages t first plan table planned has_ring r is =
     let shape = planned-shape t first plan planned in
-    let has : nat_lt 0 plan.index_blocks ≡ true = sym (facts.has_rings.0) ∙ ap is_some_ring is in
+    let has : nat_lt 0 plan.index_blocks ≡ true = sym has_ring ∙ ap is_some_ring is in
     let blocks = ltb-true 0 plan.index_blocks has in
     let k : 1 * plan.geometry.block ≤ plan.index_blocks * plan.geometry.block = mul-le-mul_right plan.geometry.block (omega (arith, blocks)) in
     omega (arith, k, shape.pages)
 
 pub some-index : {KNOTS SLOTS : ℕ} (t : code.Table KNOTS SLOTS) (first : ℕ) (plan : Plan) (table : Table) (f : FlashState) → Stands t f first plan table → (r : Ring) → table.index ≡ Some r → 0 < plan.index_blocks * plan.geometry.block
-some-index t first plan table f s r is = index-pages t first plan table s.planned s.facts r is
+some-index t first plan table f s r is = index-pages t first plan table s.planned s.facts.has_rings.0 r is
 
 -- the pages of each ring that are kept stand, as the other rings lie before that of variable data
 pub kept-var : (v w : VarData) (f new : FlashState) (first : ℕ) (plan : Plan) (table after : Table) (ring : Ring) → after.rows ≡ table.rows → after.index ≡ table.index → after.var ≡ Some ring →
@@ -209,10 +211,28 @@ bitmaps-moved (Some indexed) f g first plan table new planned pages index listed
 
 -- .. as its variable data
 pub bitmaps-stand : (indexed : Option BitmapIndex) (f g : FlashState) (first : ℕ) (plan : Plan) (table : Table) (ring : Option Ring) (pages : List ContentPage) (bytes : List ℕ) → bitmaps.ArePlanned indexed (first + plan.data_blocks) plan → 2 ≤ plan.geometry.block →
-    IsPlainTable plan (with_var table ring pages bytes) → (0 < plan.index_blocks * plan.geometry.block → (n : ℕ) → bytes_in (page_at g) first plan IndexRing n ≡ bytes_in (page_at f) first plan IndexRing n) →
+    (0 < plan.index_blocks * plan.geometry.block → (n : ℕ) → bytes_in (page_at g) first plan IndexRing n ≡ bytes_in (page_at f) first plan IndexRing n) →
     bitmaps.Stand indexed f (first + plan.data_blocks) plan table → bitmaps.Stand indexed g (first + plan.data_blocks) plan (with_var table ring pages bytes)
-bitmaps-stand indexed f g first plan table ring pages bytes planned some after same s =
-    bitmaps-moved indexed f g first plan table (with_var table ring pages bytes) planned some refl refl refl refl after same s
+bitmaps-stand None f g first plan table ring pages bytes planned some same s = s
+bitmaps-stand (Some indexed) f g first plan table ring pages bytes planned some same s =
+    let k : 3 * plan.geometry.block ≤ plan.index_blocks * plan.geometry.block = mul-le-mul_right plan.geometry.block (omega (arith, planned.blocks, indexed.some_blocks)) in
+    let h = s.in_ring.facts in
+    let facts : HasIndex plan (with_var table ring pages bytes) s.in_ring.ring = record {
+      ring_is = h.ring_is;
+      is_ring = h.is_ring;
+      counts = h.counts;
+      index_each = h.index_each;
+      index_fit = h.index_fit;
+      firsts = h.firsts;
+      waiting = h.waiting;
+      listed = h.listed;
+      tell = h.tell;
+      wait = h.wait;
+      counted = h.counted;
+      number = h.number;
+      rows_number = h.rows_number;
+    } in
+    record { in_ring = ring-moved indexed f g (first + plan.data_blocks) plan table (with_var table ring pages bytes) s.in_ring refl facts (same (omega (arith, k, some))); waits = s.waits }
 
 -- the table in memory stands where it stands with any variable data
 pub rested-finishes : {KNOTS SLOTS : ℕ} (t' : code.Table KNOTS SLOTS) (old new : FlashState) (first : ℕ) (plan : Plan) (seals : List RingName) (table : Table) (rose : Bool) (device : Device) (left : Option VarData) → IsRested first plan seals table rose device left old new →

@@ -16,11 +16,11 @@ use Rattle.fl_model.specs.Record.{Plan, has_var, content_per_page}
 use Rattle.fl_model.specs.Ring.{Ring, IsRing, IsShape, oldest}
 use Rattle.fl_model.specs.Table.{Table, Entry, VarRing, shape_of, fill, full_pages, written, spent_from}
 use Rattle.fl_model.proofs.Renumber.{least-alike}
-use Rattle.fl_table.specs.Blobs.{AreIn, ArePlaced, IsPlanned, IsStanding}
+use Rattle.fl_table.specs.Blobs.{AreIn, AreLed, ArePlaced, IsPlanned, IsStanding}
 use Rattle.fl_table.specs.BlobMount.{Rests}
+use Rattle.fl_table.specs.Mountable.{BlobsBefore}
 use Rattle.fl_table.specs.Pages.{bytes_in}
-use Rattle.fl_table.proofs.Renumbered.{held-old}
-use Rattle.fl_table.proofs.VarFacts.{HasVar}
+use Rattle.fl_table.proofs.VarFacts.{HasVar, in-led}
 use Rattle.fl_var.specs.Memory.{next_in, page_in, var_shape}
 use Rattle.fl_var.specs.Standing.{IsVarRing}
 use Rattle.fl_var.specs.declared.var_data.VarData.{VarData}
@@ -70,6 +70,42 @@ pub record IsBlobbed (plan : Plan) (table : Table) : Type 0 where
   pub stand : IfSome table.var (BlobsOf plan table)
   pub number : IfSome table.var (λ ring. ring.next + (cond ring.torn 1 0) ≤ 4294967292)
   pub number_pending : (table.pending ≡ 0 → ⊥) → IfSome table.var (λ ring. ring.next ≤ spent_from + 64)
+
+-- .. and less: its numbers fit, and a blob may begin on a void page
+pub record IsLed (plan : Plan) (table : Table) : Type 0 where
+  pub has : is_some_ring table.var ≡ has_var plan
+  pub ring : IfSome table.var (IsRing (shape_of plan VarRing))
+  pub counts : AllByRecursion (λ count. (count ≡ 0) ⊎ (count ≡ 1)) (counts_in table.var)
+  pub each : length table.var_pages ≡ full_pages (counts_in table.var)
+  pub fit : AllByRecursion (IsContent plan) table.var_pages
+  pub fill : fill table ≤ content_per_page plan
+  pub led : IfSome table.var (λ ring. AreLed plan ring (written table))
+  pub stand : IfSome table.var (BlobsOf plan table)
+  pub number : IfSome table.var (λ ring. ring.next + (cond ring.torn 1 0) ≤ 4294967295)
+
+pub blobbed-led : (plan : Plan) (table : Table) → IsBlobbed plan table → IsLed plan table
+blobbed-led plan table h = record {
+  has = h.has;
+  ring = h.ring;
+  counts = h.counts;
+  each = h.each;
+  fit = h.fit;
+  fill = h.fill;
+  led = by_ring table.var h.ring h.blobs;
+  stand = h.stand;
+  number = at_most table.var h.number;
+}
+  where
+    by_ring : (o : Option Ring) → IfSome o (IsRing (shape_of plan VarRing)) →
+        ((i : ℕ) (entry : Entry) (blob : List ℕ) → slice_get (written table) i ≡ Some entry → entry.kept.blob ≡ Some blob → 0 < length blob →
+        IfSome o (λ r. (entry.page < oldest r) ⊎ ((oldest r ≤ entry.page) × (slice_get r.counts (entry.page - oldest r) ≡ Some 1) × (entry.page + reach_of plan entry blob < r.next)))) →
+        IfSome o (λ r. AreLed plan r (written table))
+    by_ring None is inside = tt
+    by_ring (Some r) is inside = in-led plan r (written table) is.not_negative inside
+
+    at_most : (o : Option Ring) → IfSome o (λ r. r.next + (cond r.torn 1 0) ≤ 4294967292) → IfSome o (λ r. r.next + (cond r.torn 1 0) ≤ 4294967295)
+    at_most None le = tt
+    at_most (Some r) le = omega (arith, le)
 
 pub facts-blobbed : (plan : Plan) (table : Table) → IsTable plan table → IsBlobbed plan table
 facts-blobbed plan table h = record {
@@ -133,6 +169,20 @@ ring-blobbed plan table ring at is some pages inside stand few number pending = 
   number_pending = λ p. subst (λ (o : Option Ring). IfSome o (λ r. r.next ≤ spent_from + 64)) (sym is) (pending p);
 }
 
+pub ring-led : (plan : Plan) (table : Table) (ring : Ring) (at : ℕ → List ℕ) → table.var ≡ Some ring → has_var plan ≡ true → IsVarRing plan table.var_pages ring at → AreLed plan ring (written table) → BlobsOf plan table ring → fill table ≤ content_per_page plan →
+    ring.next + (cond ring.torn 1 0) ≤ 4294967295 → IsLed plan table
+ring-led plan table ring at is some pages led stand few number = record {
+  has = ap is_some_ring is ∙ sym some;
+  ring = subst (λ (o : Option Ring). IfSome o (IsRing (shape_of plan VarRing))) (sym is) pages.facts;
+  counts = subst (λ (o : Option Ring). AllByRecursion (λ count. (count ≡ 0) ⊎ (count ≡ 1)) (counts_in o)) (sym is) pages.counts;
+  each = pages.each ∙ ap (λ (o : Option Ring). full_pages (counts_in o)) (sym is);
+  fit = pages.fit;
+  fill = few;
+  led = subst (λ (o : Option Ring). IfSome o (λ r. AreLed plan r (written table))) (sym is) led;
+  stand = subst (λ (o : Option Ring). IfSome o (BlobsOf plan table)) (sym is) stand;
+  number = subst (λ (o : Option Ring). IfSome o (λ r. r.next + (cond r.torn 1 0) ≤ 4294967295)) (sym is) number;
+}
+
 -- .. where it stands
 pub standing-blobbed : (v : VarData) (f : FlashState) (first : ℕ) (plan : Plan) (table : Table) (s : IsStanding v f first plan table) → HasVar plan table s.in_pages.ring.ring → next_in v ≤ 4294967292 → ((table.pending ≡ 0 → ⊥) → next_in v ≤ spent_from + 64) → IsBlobbed plan table
 standing-blobbed v f first plan table s h number pending =
@@ -177,7 +227,7 @@ low-number plan ring least some le =
     omega (arith, least-alike (plan.var_blocks * plan.geometry.block) ring.next least some le, rest, le)
 
 -- variable data at rest on a flash, for their mount
-module _ (v : VarData) (f : FlashState) (first : ℕ) (plan : Plan) (table : Table) (planned : IsPlanned v (first + plan.data_blocks + plan.index_blocks) plan) (facts : IsBlobbed plan table) (holds : HoldsVar (page_at f) first plan table)
+module _ (v : VarData) (f : FlashState) (first : ℕ) (plan : Plan) (table : Table) (planned : IsPlanned v (first + plan.data_blocks + plan.index_blocks) plan) (facts : IsLed plan table) (before : BlobsBefore table) (holds : HoldsVar (page_at f) first plan table)
     (idle : table.pending ≡ 0) (empty : table.buffered ≡ []) where
   some-pages : 0 < plan.var_blocks * plan.geometry.block
   some-pages =
@@ -188,15 +238,19 @@ module _ (v : VarData) (f : FlashState) (first : ℕ) (plan : Plan) (table : Tab
   rests-at ring is = record {
     planned = planned;
     in_pages = record { planned = planned.planned; ring = ring; ring_is = is; pages = pages; empty = empty; fits = fits };
-    all = inside;
-    stand = blobbed-stand plan table ring is facts;
+    led = inside;
+    void = void;
+    stand = subst (λ (o : Option Ring). IfSome o (BlobsOf plan table)) is facts.stand;
   }
     where
       same : bytes_in (page_at f) first plan VarRing ≡ page_in v f
       same = var-pages v f first plan planned
 
-      number : ring.next + (cond ring.torn 1 0) ≤ 4294967292
-      number = subst (λ (o : Option Ring). IfSome o (λ r. r.next + (cond r.torn 1 0) ≤ 4294967292)) is facts.number
+      number : ring.next + (cond ring.torn 1 0) ≤ 4294967295
+      number = subst (λ (o : Option Ring). IfSome o (λ r. r.next + (cond r.torn 1 0) ≤ 4294967295)) is facts.number
+
+      void : list_any (nat_lt 0) ring.counts ≡ false → blob_end table ≤ oldest ring
+      void = subst (λ (o : Option Ring). IfSome o (λ r. list_any (nat_lt 0) r.counts ≡ false → blob_end table ≤ oldest r)) is before
 
       pages : IsVarRing plan table.var_pages ring (page_in v f)
       pages = record {
@@ -212,8 +266,8 @@ module _ (v : VarData) (f : FlashState) (first : ℕ) (plan : Plan) (table : Tab
       all : written table ≡ table.entries
       all = take_all (length table.entries - table.pending) table.entries (omega (arith, idle))
 
-      inside : AreIn plan ring table.entries
-      inside = subst (λ (es : List Entry). AreIn plan ring es) all (blobbed-in plan table ring (written table) is facts.blobs)
+      inside : AreLed plan ring table.entries
+      inside = subst (λ (es : List Entry). AreLed plan ring es) all (subst (λ (o : Option Ring). IfSome o (λ r. AreLed plan r (written table))) is facts.led)
 
       numbered_is : (renumber plan VarRing table).var ≡ Some (renumbered (shape_of plan VarRing) (blob_end table) ring)
       numbered_is = ap (option_map (renumbered (shape_of plan VarRing) (blob_end table))) is
@@ -224,7 +278,7 @@ module _ (v : VarData) (f : FlashState) (first : ℕ) (plan : Plan) (table : Tab
           by_any : (b : Bool) → list_any (nat_lt 0) ring.counts ≡ b → (cond b ring (record ring { next = least_alike (plan.var_blocks * plan.geometry.block) ring.next (blob_end table + length ring.counts) })).next ≤ ring.next
           by_any true e = omega arith
           by_any false e =
-              let old = held-old plan ring table e inside in
+              let old = void e in
               low-number plan ring (blob_end table + length ring.counts) some-pages (omega (arith, old, pages.facts.not_negative))
 
       is_some : (a b : Ring) → Some a ≡ Some b → a ≡ b

@@ -21,7 +21,7 @@ use Rattle.fl_var.specs.declared.var_data.VarData.{VarData}
 -- a page number tells it, where the blobs stand in a ring
 small-end : (v : VarData) (f : FlashState) (first : ℕ) (plan : Plan) (table : Table) (end : ℕ) → Rests v f first plan table → end ≡ blob_end table → least_of end ≡ blob_end table
 small-end v f first plan table end rests e =
-    let le = held-below plan rests.in_pages.ring table rests.in_pages.pages.facts.not_negative rests.all in
+    let le = held-below plan rests.in_pages.ring table rests.led in
     omega (arith, le, rests.in_pages.pages.number, e)
 
 module _ (f g : FlashState) (first : ℕ) (plan : Plan) (table : Table) (rose : Bool) (device : Device) (end at_least : ℕ) (is : at_least ≡ least_of end) (there : end ≡ blob_end table) where

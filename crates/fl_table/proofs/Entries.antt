@@ -12,14 +12,14 @@ use Rattle.fl_index.specs.Page.{fields_of, full_view}
 use Rattle.fl_index.specs.declared.index.BitmapIndex.{BitmapIndex}
 use Rattle.fl_index.specs.declared.page.Found.{Found}
 use Rattle.fl_base.specs.declared.types.Geometry.{Geometry}
-use Rattle.fl_model.specs.Agrees.{is_told, reach_of}
-use Rattle.fl_model.specs.Facts.{BlobFits, FitsPlan, IsTable, is_some_ring}
+use Rattle.fl_model.specs.Agrees.{is_told}
+use Rattle.fl_model.specs.Facts.{BlobFits, FitsPlan, is_some_ring}
 use Rattle.fl_model.specs.Image.{rows_at}
 use Rattle.fl_model.specs.Index.{full_of}
 use Rattle.fl_model.specs.Record.{Plan, RowLayout, greatest_key, has_var, key_limit, row_len, rows_per_page}
 use Rattle.fl_model.specs.Ring as rings
 use Rattle.fl_model.specs.Table as model
-use Rattle.fl_model.specs.Table.{Entry, VarRing, blob_len, end_of_blobs, first_key, lose, written}
+use Rattle.fl_model.specs.Table.{Entry, blob_len, end_of_blobs, first_key, lose, written}
 use Rattle.fl_model.proofs.Lists.{each-at, each-drop, each-take}
 use Rattle.fl_page.specs.declared.fault.ReadFault.{ReadFault}
 use Rattle.fl_page.specs.declared.fault.ReadFault.TheVariants.{Flash, BadPage}
@@ -27,12 +27,15 @@ use Rattle.fl_schema.specs.Form.{layout_with}
 use Rattle.fl_schema.specs.Schema.{types_of}
 use Rattle.fl_schema.specs.declared.schema.KeyWidth.{KeyWidth}
 use Rattle.fl_schema.specs.declared.schema.KeyWidth.TheVariants.{Four, Eight}
+use Rattle.fl_table.specs.Blobs.{AreLed}
 use Rattle.fl_table.specs.Entries.{LookFrom, LookUp, LooksFrom, LooksUp, ShowsFound, TellsOf}
 use Rattle.fl_table.specs.Memory.{IsPlanned}
 use Rattle.fl_table.specs.Skipping.{AreFresh, HoldGood, IsBadIndex}
 use Rattle.fl_table.specs.Standing.{Stands}
 use Rattle.fl_table.specs.declared.table.Table.{Table}
 use Rattle.fl_table.proofs.KeptRead.{rows-lose}
+use Rattle.fl_table.proofs.Loose.{IsLoose, loose-of}
+use Rattle.fl_table.proofs.Plain.{table-parts}
 use Rattle.fl_table.proofs.Skips.{bad-index}
 
 -- a page with rows is told of
@@ -56,9 +59,9 @@ first-within : (plan : Plan) (entries : List Entry) → AllByRecursion (FitsPlan
 first-within plan [] h = omega arith
 first-within plan (entry ∷ entries) h = h.0.key
 
-pub first-few : {KNOTS SLOTS : ℕ} (t : Table KNOTS SLOTS) (first : ℕ) (plan : Plan) (table : model.Table) → IsPlanned t first plan → IsTable plan table → (n rows : ℕ) → first_key (rows_at table n rows) < 2 ^ 64
-first-few t first plan table planned facts n rows =
-    let fit = each-take (FitsPlan plan) rows (drop (sum (take n table.rows.counts)) table.entries) (each-drop (FitsPlan plan) (sum (take n table.rows.counts)) table.entries facts.fit) in
+pub first-few : {KNOTS SLOTS : ℕ} (t : Table KNOTS SLOTS) (first : ℕ) (plan : Plan) (table : model.Table) → IsPlanned t first plan → AllByRecursion (FitsPlan plan) table.entries → (n rows : ℕ) → first_key (rows_at table n rows) < 2 ^ 64
+first-few t first plan table planned fits n rows =
+    let fit = each-take (FitsPlan plan) rows (drop (sum (take n table.rows.counts)) table.entries) (each-drop (FitsPlan plan) (sum (take n table.rows.counts)) table.entries fits) in
     let key = first-within plan (rows_at table n rows) fit in
     let few = few-keys t first plan planned in
     omega (arith, key, few)
@@ -76,13 +79,13 @@ ends-within : (most so_far : ℕ) (entries : List Entry) → so_far ≤ most →
 ends-within most so_far [] le h = le
 ends-within most so_far (entry ∷ entries) le h = ends-within most (max so_far (end_of entry)) entries (let one = h.0 in omega (arith, le, one)) h.1
 
-module _ (plan : Plan) (table : model.Table) (facts : IsTable plan table) where
-  end-at : (i : ℕ) (entry : Entry) → slice_get (written table) i ≡ Some entry → FitsPlan plan entry → (o : Option (List ℕ)) → entry.kept.blob ≡ o → end_of entry ≤ 4294967292
+module _ (plan : Plan) (table : model.Table) (facts : IsLoose plan table) where
+  end-at : (i : ℕ) (entry : Entry) → slice_get (written table) i ≡ Some entry → FitsPlan plan entry → (o : Option (List ℕ)) → entry.kept.blob ≡ o → end_of entry ≤ 4294967295
   end-at i entry e fits None is = rw is (omega arith)
   end-at i entry e fits (Some []) is = rw is (omega arith)
   end-at i entry e fits (Some (byte ∷ bytes)) is =
       let most = no-more (blob_len entry.kept == 0) (entry.page + 1) in
-      let within = by_ring table.var facts.has_rings.1 facts.var (facts.blobs i entry (byte ∷ bytes) e is (omega arith)) (facts.numbers VarRing) in
+      let within = by_ring table.var facts.blobs.has facts.blobs.led facts.blobs.number in
       omega (arith, most, within)
     where
       no-more : (b : Bool) (n : ℕ) → cond b 0 n ≤ n
@@ -95,34 +98,31 @@ module _ (plan : Plan) (table : model.Table) (facts : IsTable plan table) where
       no : false ≡ true → ⊥
       no e = cc
 
-      by_ring : (var : Option rings.Ring) → is_some_ring var ≡ has_var plan → IfSome var (rings.IsRing (model.shape_of plan VarRing)) →
-          IfSome var (λ ring. (entry.page < rings.oldest ring) ⊎ ((rings.oldest ring ≤ entry.page) × (slice_get ring.counts (entry.page - rings.oldest ring) ≡ Some 1) × (entry.page + reach_of plan entry (byte ∷ bytes) < ring.next))) →
-          IfSome var (λ ring. ring.next + cond ring.torn 1 0 ≤ 4294967292) → entry.page + 1 ≤ 4294967292
-      by_ring None some is_ring placed number = absurd (no (some ∙ has))
-      by_ring (Some ring) some is_ring (inl gone) number = omega (arith, gone, number)
-      by_ring (Some ring) some is_ring (inr here) number = let last = here.2 in omega (arith, last, number)
+      by_ring : (var : Option rings.Ring) → is_some_ring var ≡ has_var plan → IfSome var (λ ring. AreLed plan ring (written table)) → IfSome var (λ ring. ring.next + cond ring.torn 1 0 ≤ 4294967295) → entry.page + 1 ≤ 4294967295
+      by_ring None some led number = absurd (no (some ∙ has))
+      by_ring (Some ring) some led number = let lt = (led i entry (byte ∷ bytes) e is (omega arith)).0 in omega (arith, lt, number)
 
   ends-fit : (n rows : ℕ) → slice_get table.rows.counts n ≡ Some rows → end_of_blobs (rows_at table n rows) < 2 ^ 32
   ends-fit n rows e =
-      let fit = each-take (FitsPlan plan) (length table.entries - table.pending) table.entries facts.fit in
-      let each = each-from (λ entry. end_of entry ≤ 4294967292) (written table) (λ i entry at. end-at i entry at (each-at (FitsPlan plan) (written table) i entry fit at) entry.kept.blob refl) in
-      let those = each-take (λ entry. end_of entry ≤ 4294967292) rows (drop (sum (take n table.rows.counts)) (written table)) (each-drop (λ entry. end_of entry ≤ 4294967292) (sum (take n table.rows.counts)) (written table) each) in
-      let within = ends-within 4294967292 0 (rows_at (lose table) n rows) (omega arith) those in
-      let same = ap end_of_blobs (rows-lose table n rows e facts.counted) in
+      let fit = each-take (FitsPlan plan) (length table.entries - table.pending) table.entries facts.kept.fit in
+      let each = each-from (λ entry. end_of entry ≤ 4294967295) (written table) (λ i entry at. end-at i entry at (each-at (FitsPlan plan) (written table) i entry fit at) entry.kept.blob refl) in
+      let those = each-take (λ entry. end_of entry ≤ 4294967295) rows (drop (sum (take n table.rows.counts)) (written table)) (each-drop (λ entry. end_of entry ≤ 4294967295) (sum (take n table.rows.counts)) (written table) each) in
+      let within = ends-within 4294967295 0 (rows_at (lose table) n rows) (omega arith) those in
+      let same = ap end_of_blobs (rows-lose table n rows e facts.kept.counted) in
       omega (arith, within, same)
 
   count-fits : plan.geometry.page ≤ 4096 → (n rows : ℕ) → slice_get table.rows.counts n ≡ Some rows → length (rows_at table n rows) < 2 ^ 16
   count-fits size n rows e =
-      let few = each-at (λ count. count ≤ rows_per_page plan) table.rows.counts n rows facts.few_rows e in
+      let few = each-at (λ count. count ≤ rows_per_page plan) table.rows.counts n rows facts.kept.few_rows e in
       let most = div-le_self (plan.geometry.page - 24) (row_len plan) in
       let taken = length-take rows (drop (sum (take n table.rows.counts)) table.entries) in
       omega (arith, few, most, taken, size)
 
 -- all that a full entry tells of a page of a table fits its fields
-pub fields-fit : {KNOTS SLOTS : ℕ} (t : Table KNOTS SLOTS) (first : ℕ) (plan : Plan) (table : model.Table) → IsPlanned t first plan → IsTable plan table → (n rows : ℕ) → slice_get table.rows.counts n ≡ Some rows →
+pub fields-fit : {KNOTS SLOTS : ℕ} (t : Table KNOTS SLOTS) (first : ℕ) (plan : Plan) (table : model.Table) → IsPlanned t first plan → IsLoose plan table → (n rows : ℕ) → slice_get table.rows.counts n ≡ Some rows →
     full_view (fields_of (full_of (rows_at table n rows))) ≡ full_of (rows_at table n rows)
 fields-fit t first plan table planned facts n rows e =
-    ap (λ k. record { first_key = k; count = length (rows_at table n rows) % 2 ^ 16; blob_end = end_of_blobs (rows_at table n rows) % 2 ^ 32 }) (mod-eq_of_lt (first-few t first plan table planned facts n rows))
+    ap (λ k. record { first_key = k; count = length (rows_at table n rows) % 2 ^ 16; blob_end = end_of_blobs (rows_at table n rows) % 2 ^ 32 }) (mod-eq_of_lt (first-few t first plan table planned facts.kept.fit n rows))
     ∙ (ap (λ k. record { first_key = first_key (rows_at table n rows); count = k; blob_end = end_of_blobs (rows_at table n rows) % 2 ^ 32 }) (mod-eq_of_lt (count-fits plan table facts size n rows e))
     ∙ ap (λ k. record { first_key = first_key (rows_at table n rows); count = length (rows_at table n rows); blob_end = k }) (mod-eq_of_lt (ends-fit plan table facts n rows e)))
   where
@@ -135,7 +135,7 @@ pub tells-of : {KNOTS SLOTS : ℕ} (t : Table KNOTS SLOTS) (f : FlashState) (fir
 tells-of t f first plan table stands n rows e found tells = record { bitmap = tells.bitmap; full = ap (option_map full_view) tells.full ∙ by_form plan.full_index }
   where
     by_form : (full : Bool) → option_map full_view (cond full (Some (fields_of (full_of (rows_at table n rows)))) None) ≡ cond full (Some (full_of (rows_at table n rows))) None
-    by_form true = ap Some (fields-fit t first plan table stands.planned stands.facts n rows e)
+    by_form true = ap Some (fields-fit t first plan table stands.planned (loose-of plan table (table-parts plan table stands.planned.log stands.facts)) n rows e)
     by_form false = refl
 
 -- .. as the index shows it

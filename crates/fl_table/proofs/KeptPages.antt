@@ -20,7 +20,7 @@ use Rattle.fl_index.specs.Page.{full_view}
 use Rattle.fl_model.specs.Image.{IsRingImage, HoldsRows, rows_at}
 use Rattle.fl_model.proofs.Lists.{slice_get-short, slice_get-drop, slice_get-front, each-drop, each-take}
 use Rattle.fl_table.proofs.BlobRows.{stored-row, written-numbered}
-use Rattle.fl_table.proofs.Plain.{IsPlainTable}
+use Rattle.fl_table.proofs.Loose.{IsLoose}
 use Rattle.fl_page.specs.Page.{IsGoodPage, rows_in}
 use Rattle.fl_page.proofs.DataPages.{data_page}
 use Rattle.fl_ring.specs.Ring.{OnRing, place}
@@ -42,7 +42,7 @@ each-at P (y ∷ ys) zero x h e = let same : y ≡ x = cc in subst P same h.0
 each-at P (y ∷ ys) (suc i) x h e = each-at P ys i x h.1 e
 
 -- the blobs of a table without pending records begin on pages whose numbers fit
-pub table-numbered : (plan : Plan) (table : Table) → IsPlainTable plan table → table.pending ≡ 0 → AreNumbered table.entries
+pub table-numbered : (plan : Plan) (table : Table) → IsLoose plan table → table.pending ≡ 0 → AreNumbered table.entries
 table-numbered plan table facts none = λ i entry blob e is some.
     let there : slice_get (written table) i ≡ Some entry = ap (λ (es : List Entry). slice_get es i) (take_all (length table.entries - table.pending) table.entries (omega (arith, none))) ∙ e in
     by_ring entry.page table.var facts.blobs.has (has entry blob is (each-at (FitsPlan plan) table.entries i entry facts.kept.fit e).blob) (written-numbered plan table facts.blobs i entry blob there is some)
@@ -80,7 +80,7 @@ sum-next f (y ∷ ys) (suc i) x e =
     let b = sum_by-cons f y (take i ys) in omega (arith, h, a, b)
 
 module _ (page : ℕ → List ℕ) (first : ℕ) (plan : Plan) (table : Table) (key : KeyWidth) (types : List ColumnType) (blobs : Bool) (same : layout_with key types blobs ≡ row_layout plan)
-    (limit : plan.blob_limit ≤ 1500) (facts : IsPlainTable plan table) (none : table.pending ≡ 0) (large : 64 ≤ plan.geometry.page) (room : row_len plan + 24 ≤ plan.geometry.page) (some_row : 1 ≤ row_len plan)
+    (limit : plan.blob_limit ≤ 1500) (facts : IsLoose plan table) (none : table.pending ≡ 0) (large : 64 ≤ plan.geometry.page) (room : row_len plan + 24 ≤ plan.geometry.page) (some_row : 1 ≤ row_len plan)
     (short : plan.geometry.page ≤ 4096) (sizes : HaveSize first plan page) (on : OnRing (shape_in first plan) page (state_of plan table)) where
   image : IsRingImage (shape_of plan DataRing) table.rows (bytes_in page first plan DataRing) (HoldsRows plan table)
   image = to-image page first plan table sizes large facts.rows on

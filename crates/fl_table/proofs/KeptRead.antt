@@ -14,6 +14,7 @@ use Rattle.fl_model.specs.Ring as rings
 use Rattle.fl_model.specs.Row.{stored_row}
 use Rattle.fl_model.specs.Table as model
 use Rattle.fl_model.specs.Table.{Entry, lose}
+use Rattle.fl_table.proofs.Loose.{IsLoose, loose-of}
 use Rattle.fl_table.proofs.Plain.{IsPlainTable, table-parts, plain-lose}
 use Rattle.fl_page.specs.Header.{page_count}
 use Rattle.fl_page.specs.Page.{IsGoodPage, rows_in}
@@ -88,11 +89,11 @@ module _ {KNOTS SLOTS : ℕ} (t : Table KNOTS SLOTS) (f : FlashState) (first : �
   shown =
       let sizes = lies-size t f first plan stands.planned lies.geometry lies.within reaches in
       let large = planned-large t first plan stands.planned in
-      let lost = plain-lose plan table facts in
+      let lost : IsLoose plan (lose table) = loose-of plan (lose table) (plain-lose plan table facts) in
       let room : row_len plan + 24 ≤ plan.geometry.page = omega (arith, t.room_for_row, len-is, size-is) in
       let some : 1 ≤ row_len plan = omega (arith, t.some_row, len-is) in
       let short : plan.geometry.page ≤ 4096 = omega (arith, t.served.page_greatest, size-is) in
-      let on = plain-on (page_at f) first plan (lose table) sizes large lost stands.pages in
+      let on = plain-on (page_at f) first plan (lose table) sizes large lost.rows stands.pages in
       let k = kept (page_at f) first plan (lose table) t.schema.key (types_of t.schema) t.schema.blobs layout-is limit lost refl large room some short sizes on i c e in
       record {
         good = k.good;

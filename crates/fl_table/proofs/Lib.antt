@@ -8,6 +8,8 @@ pub mod BlobTables
 pub mod BlobEnds
 pub mod Bare
 pub mod Plain
+pub mod Loose
+pub mod MountKeeps
 pub mod ListsStay
 pub mod IndexOfTable
 pub mod IndexSeals

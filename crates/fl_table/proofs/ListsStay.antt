@@ -19,6 +19,7 @@ use Rattle.fl_index.specs.Standing.{HasIndex, HoldsIndex, RemembersAll, Remember
 use Rattle.fl_table.specs.Pages.{place_in, bytes_in as table_bytes}
 use Rattle.fl_ring.specs.Ring.{OutsideStands}
 use Rattle.fl_table.proofs.States.{shape_in}
+use Rattle.fl_table.proofs.Loose.{has-listed, loose-of}
 use Rattle.fl_table.proofs.Plain.{IsPlainTable}
 use Rattle.fl_table.proofs.KeptPages.{sum-next}
 
@@ -76,32 +77,7 @@ index-stands old new first plan stands n = stands (place_in first plan IndexRing
 
 -- the facts of an index among those of its table
 pub has-index : (plan : Plan) (table : Table) (ring : model.Ring) → table.index ≡ Some ring → IsPlainTable plan table → length table.waiting ≤ entries_per_page plan → HasIndex plan table ring
-has-index plan table ring is h few = record {
-  ring_is = is;
-  is_ring = of_ring table.index is h.index.ring;
-  counts = subst (λ (o : Option model.Ring). AllCounts (counts_in o)) is h.index.counts;
-  index_each = h.index.each ∙ ap (λ (o : Option model.Ring). full_pages (counts_in o)) is;
-  index_fit = h.index.fit;
-  firsts = h.index.firsts;
-  waiting = few;
-  listed = h.index.listed;
-  tell = h.index.tell;
-  wait = h.index.wait;
-  counted = h.kept.counted;
-  number = let n = of_number table.index is h.index.number in omega (arith, n);
-  rows_number = omega (arith, h.number);
-}
-  where
-    AllCounts : List ℕ → Type 0
-    AllCounts counts = AllByRecursion (λ count. (count ≡ 0) ⊎ (count ≡ entries_per_page plan)) counts
-
-    of_ring : (o : Option model.Ring) → o ≡ Some ring → IfSome o (model.IsRing (shape_of plan IndexRing)) → model.IsRing (shape_of plan IndexRing) ring
-    of_ring None e h = cc
-    of_ring (Some r) e h = let same : r ≡ ring = cc in subst (model.IsRing (shape_of plan IndexRing)) same h
-
-    of_number : (o : Option model.Ring) → o ≡ Some ring → IfSome o (λ r. r.next + (cond r.torn 1 0) ≤ 4294967292) → ring.next + (cond ring.torn 1 0) ≤ 4294967292
-    of_number None e h = cc
-    of_number (Some r) e h = let same : r ≡ ring = cc in subst (λ (x : model.Ring). x.next + (cond x.torn 1 0) ≤ 4294967292) same h
+has-index plan table ring is h few = has-listed plan table ring is (loose-of plan table h) few
 
 -- the pages of an index ring on another flash
 image-same : (first : ℕ) (plan : Plan) (table : Table) (ring : model.Ring) (old new : ℕ → List ℕ) → ((n : ℕ) → bytes_in new first plan n ≡ bytes_in old first plan n) → HoldsIndex old first plan table ring → HoldsIndex new first plan table ring

@@ -39,8 +39,8 @@ use Rattle.fl_table.proofs.IndexOfTable.{planned-none}
 use Rattle.fl_table.proofs.MountCalls.{OthersStill}
 use Rattle.fl_table.proofs.MountLifted.{RowsMount}
 use Rattle.fl_table.proofs.MountRead.{HoldRows, hold-rows, page-of}
-use Rattle.fl_table.proofs.ListsStay.{has-index, below-moved, ring-moved}
-use Rattle.fl_table.proofs.Plain.{none-listed, table-facts}
+use Rattle.fl_table.proofs.ListsStay.{below-moved, ring-moved}
+use Rattle.fl_table.proofs.Loose.{has-listed, none-listed}
 use Rattle.fl_table.proofs.Repaired.{idle-lost}
 use Rattle.fl_table.proofs.SealAnswers.{planned-large}
 use Rattle.fl_table.proofs.StandingMount.{IsOf, IsPageOf, IsIndexOf}
@@ -48,8 +48,8 @@ use Rattle.fl_table.proofs.StandingIndex.{index-of, ends-within, few-kept, liste
 use Rattle.fl_table.proofs.StandingTotals.{unlisted-counted, unlisted-few}
 use Rattle.fl_table.proofs.States.{shape_in, state_of, state-oldest, HaveSize}
 
-module _ {KNOTS SLOTS : ℕ} (t : code.Table KNOTS SLOTS) (first : ℕ) (plan : Plan) (table : Table) (rose : Bool) (device : Device) (ring : Ring) (old mid : FlashState) (planned : IsPlanned t first plan) (here : place.shape_of ring ≡ shape_in first plan)
-    (l : RowsMount first plan table rose device ring mid) (sizes : HaveSize first plan (page_at mid)) where
+module _ {Left : Type 0} {KNOTS SLOTS : ℕ} (t : code.Table KNOTS SLOTS) (first : ℕ) (plan : Plan) (table : Table) (rose : Bool) (device : Device) (ring : Ring) (old mid : FlashState) (planned : IsPlanned t first plan) (here : place.shape_of ring ≡ shape_in first plan)
+    (l : RowsMount Left first plan table rose device ring mid) (sizes : HaveSize first plan (page_at mid)) where
   old-is : oldest_of ring ≡ model.oldest l.now.state.rows
   old-is = l.stands.oldest ∙ state-oldest plan (lose l.now.state)
 
@@ -75,7 +75,7 @@ module _ {KNOTS SLOTS : ℕ} (t : code.Table KNOTS SLOTS) (first : ℕ) (plan : 
     found-there = by_index t.bitmaps stands
       where
         has : (r : model.Ring) → table.index ≡ Some r → HasIndex plan l.now.state r
-        has r e = has-index plan l.now.state r (l.repaired.index ∙ e) l.facts (omega (arith, ap length l.repaired.idle.waiting))
+        has r e = has-listed plan l.now.state r (l.repaired.index ∙ e) l.facts (omega (arith, ap length l.repaired.idle.waiting))
 
         by_form : (index : BitmapIndex) (full : Bool) → StandsFoundBy full index old (first + plan.data_blocks) plan table → StandsFoundBy full index mid (first + plan.data_blocks) plan l.now.state
         by_form index true h = below-moved (oldest_in index) index old mid (first + plan.data_blocks) plan table l.now.state h l.repaired.index_pages (has h.ring h.facts.ring_is) (λ n. (still n).0)
@@ -114,13 +114,13 @@ module _ {KNOTS SLOTS : ℕ} (t : code.Table KNOTS SLOTS) (first : ℕ) (plan : 
           bare : t.bitmaps ≡ None → (number : ℕ) → is_listed plan l.now.state number ≡ false
           bare is number =
               let has = planned-none (first + plan.data_blocks) plan (subst (λ (o : Option BitmapIndex). ArePlanned o (first + plan.data_blocks) plan) is planned.index) in
-              ap (λ (pages : List IndexPage). is_listed plan (record l.now.state { index_pages = pages }) number) (none-listed plan l.now.state has l.facts)
+              ap (λ (pages : List IndexPage). is_listed plan (record l.now.state { index_pages = pages }) number) (none-listed plan l.now.state has l.facts.index)
 
           by_form : (index : BitmapIndex) (full : Bool) → (form_in index).full ≡ full → StandsFoundBy full index mid (first + plan.data_blocks) plan l.now.state → ComesBy full c (layout_of t.schema) (most_in t.geometry.page (layout_of t.schema)) index ring mid → memory.LiesOn index mid → IsIndexed
           by_form index false e h k lie = none k.1 (λ full number. absurd (not_both (sym full ∙ (sym (ap (λ (form : EntryForm). form.full) (planned-form index (first + plan.data_blocks) plan h.planned)) ∙ e))))
           by_form index true e h k lie =
               let size = lies-size index mid (first + plan.data_blocks) plan h.planned lie.geometry lie.within reaches in
-              let fit = λ (n rows : ℕ) (e : slice_get l.now.state.rows.counts n ≡ Some rows). fields-fit t first plan l.now.state planned (table-facts plan l.now.state l.facts) n rows e in
+              let fit = λ (n rows : ℕ) (e : slice_get l.now.state.rows.counts n ≡ Some rows). fields-fit t first plan l.now.state planned l.facts n rows e in
               record {
                 index = λ j lt is. index-of (RemembersBelow (oldest_in index)) c (layout_of t.schema) (most_in t.geometry.page (layout_of t.schema)) index ring mid (first + plan.data_blocks) plan l.now.state k h size begin-is fit j lt is;
                 ends = ends-within (RemembersBelow (oldest_in index)) c (layout_of t.schema) (most_in t.geometry.page (layout_of t.schema)) index ring mid (first + plan.data_blocks) plan l.now.state k h size begin-is fit;

@@ -2,7 +2,7 @@
 use Rattle.fl_model.proofs.EntriesStayTold.{telling-stays}
 use Rattle.std.specs.List.{slice_get, sum}
 use Rattle.std.proofs.lemmas.Bool.{cases_lt}
-use Rattle.std.proofs.Common.{◌≡◌, ℕ, ◌+◌, ◌-◌, ◌*◌, ◌%◌, ◌≤◌, min, max, Bool, true, false, cond, ◌==◌, Option, Some, None, Result, Ok, Err, List, [], ◌∷◌, map, length, drop, get_or, refl, sym, ◌∙◌, ap, subst, ◌⊎◌, inl, inr, arith, IsTrue, ◌<◌, take}
+use Rattle.std.proofs.Common.{◌≡◌, ℕ, ◌+◌, ◌-◌, ◌*◌, ◌%◌, ◌≤◌, min, max, Bool, true, false, cond, ◌==◌, Option, Some, None, Result, Ok, Err, List, [], ◌∷◌, IfSome, map, length, drop, get_or, refl, sym, ◌∙◌, ap, subst, ◌⊎◌, inl, inr, arith, IsTrue, ◌<◌, take}
 use Rattle.fl_base.specs.Causes.{Rose}
 use Rattle.fl_flash.specs.Flash.{FlashState, page_at}
 use Rattle.fl_flash.specs.Places.{extent}
@@ -15,17 +15,19 @@ use Rattle.fl_model.specs.Row.{stored_row}
 use Rattle.fl_model.specs.Table.{Table, Entry, DataRing, IndexRing, VarRing, shape_of, pending_entries, lose, end_of_blobs}
 use Rattle.fl_model.specs.Layout.{IndexEntry, IndexPage, bitmap_of, full_of}
 use Rattle.fl_model.specs.Limits.{rows_of_page}
-use Rattle.fl_model.specs.Mount.{Of, renumber, ready, index_end, waiting_after}
-use Rattle.fl_model.specs.Facts.{IsTable}
+use Rattle.fl_model.specs.Mount.{Of, renumber, ready, index_end, blob_end, waiting_after}
+use Rattle.fl_model.specs.Facts.{IsTable, IsSettled}
 use Rattle.fl_model.specs.Work.{Device, PartProgress}
 use Rattle.fl_model.specs.Within.{TableMounts, TableStopped, TableUnread}
 use Rattle.fl_model.proofs.Lists.{slice_get-some}
 use Rattle.fl_table.proofs.BlobTables.{HoldsVar}
 use Rattle.fl_table.proofs.BlobsOfTable.{var-as, var-same}
 use Rattle.fl_table.proofs.MountCalls.{OthersStill}
-use Rattle.fl_table.proofs.Plain.{IsPlainTable, indexed-as, blobbed-moved, stand-as, table-parts, table-facts}
+use Rattle.fl_table.proofs.Loose.{IsLoose, has-listed, led-as, listed-as, paged-loose, plain-from}
+use Rattle.fl_table.proofs.Plain.{IsPlainTable, some_map, stand-as, table-parts, table-facts}
+use Rattle.fl_table.proofs.Renumbered.{blob-below, blob_end-most}
 use Rattle.fl_table.proofs.PageRows.{entries_from, HaveEntries, page-rows, entries-length, entries-same}
-use Rattle.fl_table.proofs.ListsStay.{HoldsIndexed, has-index, indexed-moved, indexed-same, ring-moved}
+use Rattle.fl_table.proofs.ListsStay.{HoldsIndexed, indexed-moved, indexed-same, ring-moved}
 use Rattle.fl_page.specs.Writer.{Gathers}
 use Rattle.fl_frame.specs.Device.{ArmsAs, SameDevice}
 use Rattle.fl_frame.specs.Reads.{OnlyReads}
@@ -59,7 +61,8 @@ use Rattle.fl_table.specs.Bitmaps.{AreSamePlan, Stand, StandForRing, first_to_wa
 use Rattle.fl_table.specs.Coming.{WaitUnlisted}
 use Rattle.fl_table.proofs.NotedEntries.{first-same, page-bitmap, void-bitmap}
 use Rattle.fl_table.proofs.IndexOfTable.{planned-none, planned-some, still-planned}
-use Rattle.fl_table.specs.Pages.{Rests, bytes_in}
+use Rattle.fl_table.specs.Mountable.{AreVoid, BlobsBefore, RowsBehind}
+use Rattle.fl_table.specs.Pages.{HoldsTable, Rests, RestsToMount, bytes_in}
 use Rattle.fl_find.specs.declared.index.KeyIndex.{KeyIndex}
 use Rattle.fl_table.specs.Reading.{pages_of, bitmap_on, full_on}
 use Rattle.fl_table.specs.declared.counts.Mounted.{Mounted}
@@ -67,12 +70,12 @@ use Rattle.fl_table.specs.declared.known.Known.{Known}
 use Rattle.fl_table.specs.declared.faults.MountFault.{MountFault}
 use Rattle.fl_table.specs.declared.faults.MountFault.TheVariants as mount
 use Rattle.fl_table.specs.declared.table.Table as code
-use Rattle.fl_table.proofs.TablePages.{plain-on, plain-rests}
+use Rattle.fl_table.proofs.TablePages.{plain-on, plain-holds}
 use Rattle.fl_table.proofs.RingInTable.{TableAnswers}
 use Rattle.fl_table.proofs.MountGood.{ring-renumbered, numbered-facts, numbered-idle, good-ring}
 use Rattle.fl_table.proofs.MountLifted.{RowsMount, mount-lifts, mount-fails}
 use Rattle.fl_table.proofs.MountComes.{pages-hold}
-use Rattle.fl_table.proofs.Repaired.{IsIdle, IsRepaired, idle-lost, lost-idle}
+use Rattle.fl_table.proofs.Repaired.{IsHeld, IsIdle, IsRepaired, idle-lost, lost-idle}
 use Rattle.fl_table.proofs.SealAnswers.{planned-shape, planned-large, planned-few, lies-size, counts-room}
 use Rattle.fl_table.proofs.SealEnds.{fault-ends}
 use Rattle.fl_table.proofs.StandingMount.{IsOf}
@@ -86,25 +89,30 @@ pub record IsMounting (first : ℕ) (plan : Plan) (table : Table) (old : FlashSt
   pub shape : model.IsShape (shape_of plan DataRing)
   pub large : 64 ≤ plan.geometry.page
   pub few : IsTrue (has_index plan) → plan.data_blocks * plan.geometry.block + 6 ≤ 65536
-  pub facts : IsPlainTable plan table
+  pub held : IsHeld (IsSettled plan table) plan table
+  pub behind : RowsBehind plan table
+  pub before : BlobsBefore table
   pub idle : IsIdle table
   pub on : OnRing (shape_in first plan) (page_at old) (state_of plan table)
   pub indexed : HoldsIndexed (page_at old) first plan table
   pub var : HoldsVar (page_at old) first plan table
 
-pub mounting-of : {KNOTS SLOTS : ℕ} (t : code.Table KNOTS SLOTS) (f : FlashState) (first : ℕ) (plan : Plan) (table : Table) → IsPlanned t first plan → f.geometry ≡ t.geometry → t.place.first_block + t.place.blocks ≤ f.blocks → f.start + extent f.geometry f.blocks ≤ length f.media.content → Rests f first plan table →
+pub mounting-of : {KNOTS SLOTS : ℕ} (t : code.Table KNOTS SLOTS) (f : FlashState) (first : ℕ) (plan : Plan) (table : Table) → IsPlanned t first plan → f.geometry ≡ t.geometry → t.place.first_block + t.place.blocks ≤ f.blocks → f.start + extent f.geometry f.blocks ≤ length f.media.content → RestsToMount f first plan table →
     IsMounting first plan table f
 mounting-of t f first plan table planned geometry within reaches rests =
-    let facts = table-parts plan table planned.log rests.settled.facts in
+    let idle = lost-idle table rests.mountable.lost in
+    let facts = paged-loose plan table planned.log idle.pending idle.buffered idle.waiting rests.mountable.paged in
     let large = planned-large t first plan planned in
     record {
       limit = omega (arith, planned.limit, t.blobs_fit);
       shape = planned-shape t first plan planned;
       large = large;
       few = planned-few t first plan planned;
-      facts = facts;
-      idle = lost-idle table rests.settled.lost;
-      on = plain-on (page_at f) first plan table (lies-size t f first plan planned geometry within reaches) large facts rests.pages;
+      held = record { loose = facts; plain = λ settled. table-parts plan table planned.log settled.facts };
+      behind = rests.mountable.behind;
+      before = rests.mountable.before;
+      idle = idle;
+      on = plain-on (page_at f) first plan table (lies-size t f first plan planned geometry within reaches) large facts.rows rests.pages;
       indexed = rests.pages.index;
       var = rests.pages.var;
     }
@@ -116,8 +124,8 @@ module _ (first : ℕ) (plan : Plan) (table : Table) (rose : Bool) (device : Dev
   large : 64 ≤ plan.geometry.page
   large = is.large
 
-  facts : IsPlainTable plan table
-  facts = is.facts
+  held : IsHeld (IsSettled plan table) plan table
+  held = is.held
 
   idle : IsIdle table
   idle = is.idle
@@ -128,11 +136,11 @@ module _ (first : ℕ) (plan : Plan) (table : Table) (rose : Bool) (device : Dev
   numbered : Table
   numbered = renumber plan DataRing table
 
-  known : IsPlainTable plan (renumber plan DataRing table)
-  known = numbered-facts first plan table shape large is.few facts idle (page_at old) is.on
+  known : IsHeld (IsSettled plan table) plan (renumber plan DataRing table)
+  known = numbered-facts (IsSettled plan table) first plan table shape large is.few held is.behind idle (page_at old) is.on
 
   same_state : renumbered (shape_in first plan) (index_end plan table) (state_of plan table) ≡ state_of plan (renumber plan DataRing table)
-  same_state = ring-renumbered first plan table shape large is.few facts idle (page_at old) is.on
+  same_state = ring-renumbered (IsSettled plan table) first plan table shape large is.few held is.behind idle (page_at old) is.on
 
   -- what the index lists stands where its pages do
   still_indexed : (now : Table) (new : FlashState) → IsRepaired (renumber plan DataRing table) now → ((n : ℕ) → bytes_in (page_at new) first plan IndexRing n ≡ bytes_in (page_at old) first plan IndexRing n) → HoldsIndexed (page_at new) first plan now
@@ -142,6 +150,15 @@ module _ (first : ℕ) (plan : Plan) (table : Table) (rose : Bool) (device : Dev
   -- .. and its variable data
   still_var : (now : Table) (new : FlashState) → IsRepaired (renumber plan DataRing table) now → ((n : ℕ) → bytes_in (page_at new) first plan VarRing n ≡ bytes_in (page_at old) first plan VarRing n) → HoldsVar (page_at new) first plan now
   still_var now new r still = var-same (page_at old) (page_at new) first plan now still (var-as (page_at old) first plan table now r.var r.var_pages is.var)
+
+  -- what the flash holds of it
+  still_holds : (now : Table) (new : FlashState) → IsRepaired (renumber plan DataRing table) now → IsLoose plan now → HaveSize first plan (page_at new) → OthersStill old new first plan → OnRing (shape_in first plan) (page_at new) (state_of plan (lose now)) → HoldsTable (page_at new) first plan now
+  still_holds now new r loose sizes still on =
+      plain-holds (page_at new) first plan now sizes large loose.rows (subst (λ (x : Table). OnRing (shape_in first plan) (page_at new) (state_of plan x)) (sym (idle-lost now r.idle)) on) (still_indexed now new r (λ n. (still n).0)) (still_var now new r (λ n. (still n).1))
+
+  -- .. and all facts where they held
+  still_settled : (now : Table) → IsRepaired (renumber plan DataRing table) now → (IsSettled plan table → IsPlainTable plan now) → IsSettled plan table → IsSettled plan now
+  still_settled now r strict settled = record { facts = table-facts plan now (strict settled); lost = idle-lost now r.idle }
 
   -- the mount of the ring failed
   pub ring-fails : {KNOTS SLOTS : ℕ} (e : RingFault) (t : code.Table KNOTS SLOTS) (new : FlashState) → HaveSize first plan (page_at new) → OthersStill old new first plan →
@@ -156,12 +173,14 @@ module _ (first : ℕ) (plan : Plan) (table : Table) (rose : Bool) (device : Dev
 
       by_fault : (e : RingFault) → ring_mount.MountEnds (shape_in first plan) rose device (state_of plan (renumber plan DataRing table)) (Err e) new → DataEnds first plan table rose device (Err (of_ring e)) t new
       by_fault (ring.Flash fault) m =
-          let l = mount-fails first plan table rose device new shape known (numbered-idle first plan table shape large is.few facts idle (page_at old) is.on) fault m in
+          let l = mount-fails (IsSettled plan table) first plan table rose device new shape known (numbered-idle (IsSettled plan table) first plan table shape large is.few held is.behind idle (page_at old) is.on) fault m in
+          let pages = still_holds l.now.state new l.repaired l.facts sizes still l.on in
           record {
             now = l.now;
             did = did_not l.now fault l.did;
             counts = l.counts;
-            rests = subst (λ (x : Table). Rests new first plan x) (sym (idle-lost l.now.state l.repaired.idle)) (plain-rests new first plan l.now.state sizes large l.facts l.on (still_indexed l.now.state new l.repaired (λ n. (still n).0)) (still_var l.now.state new l.repaired (λ n. (still n).1)));
+            pages = pages;
+            rests = λ settled. record { settled = still_settled l.now.state l.repaired l.strict settled; pages = pages };
           }
       by_fault (ring.BadHead heads) m = absurd m
       by_fault (ring.BadGap page) m = absurd m
@@ -176,13 +195,13 @@ module _ (first : ℕ) (plan : Plan) (table : Table) (rose : Bool) (device : Dev
       subst (λ n. ring_mount.MountEnds (shape_in first plan) rose device (renumbered (shape_in first plan) n (state_of plan table)) result new) end
       (subst (λ (x : Shape). ring_mount.MountEnds x rose device (renumbered x least (state_of plan table)) result new) e
       (ends (state_of plan table) rose device (subst (λ (x : Shape). ring_mount.IsGood old x least (state_of plan table)) (sym e)
-      (subst (λ n. ring_mount.IsGood old (shape_in first plan) n (state_of plan table)) (sym end) (good-ring first plan table shape large is.few facts idle (page_at old) is.on old refl watched.told))) watched))
+      (subst (λ n. ring_mount.IsGood old (shape_in first plan) n (state_of plan table)) (sym end) (good-ring (IsSettled plan table) first plan table shape large is.few held is.behind idle (page_at old) is.on old refl watched.told))) watched))
 
   -- it ended well
   pub ring-mounts : (ring : Ring) (new : FlashState) → ring_mount.MountEnds (shape_in first plan) rose device (renumbered (shape_in first plan) (index_end plan table) (state_of plan table)) (Ok ring) new →
-      RowsMount first plan table rose device ring new
+      RowsMount (IsSettled plan table) first plan table rose device ring new
   ring-mounts ring new h =
-      mount-lifts first plan table rose device new shape known (numbered-idle first plan table shape large is.few facts idle (page_at old) is.on) ring
+      mount-lifts (IsSettled plan table) first plan table rose device new shape known (numbered-idle (IsSettled plan table) first plan table shape large is.few held is.behind idle (page_at old) is.on) ring
       (subst (λ (s : RingState). ring_mount.MountEnds (shape_in first plan) rose device s (Ok ring) new) same_state h)
 
   -- the same index pages end where they did
@@ -190,13 +209,13 @@ module _ (first : ℕ) (plan : Plan) (table : Table) (rose : Bool) (device : Dev
   ends_as now same = ap (λ (pages : List IndexPage). end_after (entries_per_page plan) (map (λ page. page.first) pages)) same
 
   -- the index ends before its next number
-  pub ends-within : (ring : Ring) (mid : FlashState) (l : RowsMount first plan table rose device ring mid) (least : ℕ) → least ≡ index_end plan table → least ≤ next_of ring
+  pub ends-within : (ring : Ring) (mid : FlashState) (l : RowsMount (IsSettled plan table) first plan table rose device ring mid) (least : ℕ) → least ≡ index_end plan table → least ≤ next_of ring
   ends-within ring mid l least end =
       let ended : index_end plan l.now.state ≡ index_end plan table = ends_as l.now.state l.repaired.index_pages in
       omega (arith, l.facts.index.listed, ended, end, l.stands.next)
 
   -- and then the kept pages are read
-  module _ (ring : Ring) (mid new : FlashState) (n : ℕ) (l : RowsMount first plan table rose device ring mid) (reads : OnlyReads mid n new) (sizes : HaveSize first plan (page_at new))
+  module _ (ring : Ring) (mid new : FlashState) (n : ℕ) (l : RowsMount (IsSettled plan table) first plan table rose device ring mid) (reads : OnlyReads mid n new) (sizes : HaveSize first plan (page_at new))
       (still : OthersStill old new first plan) where
     on_now : OnRing (shape_in first plan) (page_at new) (state_of plan (lose l.now.state))
     on_now = subst (λ (page : ℕ → List ℕ). OnRing (shape_in first plan) page (state_of plan (lose l.now.state))) (sym (same_pages mid new n reads)) l.on
@@ -211,8 +230,18 @@ module _ (first : ℕ) (plan : Plan) (table : Table) (rose : Bool) (device : Dev
       erases = l.counts.erases ∙ sym reads.erases;
     }
 
-    pub rests_now : Rests new first plan l.now.state
-    rests_now = subst (λ (x : Table). Rests new first plan x) (sym (idle-lost l.now.state l.repaired.idle)) (plain-rests new first plan l.now.state sizes large l.facts on_now (still_indexed l.now.state new l.repaired (λ n. (still n).0)) (still_var l.now.state new l.repaired (λ n. (still n).1)))
+    pub pages_now : HoldsTable (page_at new) first plan l.now.state
+    pages_now = still_holds l.now.state new l.repaired l.facts sizes still on_now
+
+    pub settled_now : IsSettled plan table → IsSettled plan l.now.state
+    settled_now = still_settled l.now.state l.repaired l.strict
+
+    -- its blobs are some of those that there were
+    pub before_now : BlobsBefore l.now.state
+    before_now =
+        let less : blob_end l.now.state ≤ blob_end table = blob_end-most l.now.state (blob_end table) (λ i entry blob e k some. let w = l.repaired.left i entry e in blob-below table w.0 entry blob w.1 k some) in
+        subst (λ (o : Option model.Ring). IfSome o (λ r. AreVoid r.counts → blob_end l.now.state ≤ model.oldest r)) (sym l.repaired.var)
+        (some_map table.var (λ r. AreVoid r.counts → blob_end table ≤ model.oldest r) (λ r. AreVoid r.counts → blob_end l.now.state ≤ model.oldest r) (λ r was void. let le = was void in omega (arith, le, less)) is.before)
 
     pub reads-fail : (fault : FlashFault) → ReadFails mid fault new → (Rose mid.media.faults new.media.faults → IsTrue rose) → MountsBadly first plan (DataRing ∷ []) table rose device fault new
     reads-fail PowerLost off risen = absurd (not_both l.power off)
@@ -225,7 +254,8 @@ module _ (first : ℕ) (plan : Plan) (table : Table) (rose : Bool) (device : Dev
           now = u.0;
           did = inr (u.1, refl);
           counts = subst (λ (d : Device). SameDevice new d) (sym u.2) same_device;
-          rests = subst (λ (x : Table). Rests new first plan x) (sym u.3) rests_now;
+          pages = subst (λ (x : Table). HoldsTable (page_at new) first plan x) (sym u.3) pages_now;
+          rests = λ settled. subst (λ (x : Table). Rests new first plan x) (sym u.3) (record { settled = settled_now settled; pages = pages_now });
         }
 
     -- no page is refused
@@ -280,23 +310,34 @@ module _ (first : ℕ) (plan : Plan) (table : Table) (rose : Bool) (device : Dev
         by_index true = omega (arith, l.facts.index.listed)
         by_index false = omega (arith, l.facts.index.listed)
 
-    ready_plain : IsPlainTable plan (ready plan l.now.state)
-    ready_plain = record {
+    ready_loose : IsLoose plan (ready plan l.now.state)
+    ready_loose = record {
       plain = l.facts.plain;
       bare = l.facts.bare;
       rows = l.facts.rows;
       kept = l.facts.kept;
-      few_pending = l.facts.few_pending;
-      index = indexed-as plan l.now.state l.now.state.entries l.now.state.rows l.now.state.pending l.now.state.buffered (ready plan l.now.state).waiting (points_of l.now.state) l.facts.index
-          (λ t. few_wait) late_wait (λ p. p) l.facts.index.number_listed l.facts.index.tell
+      index = listed-as plan l.now.state l.now.state.entries l.now.state.rows l.now.state.pending l.now.state.buffered (ready plan l.now.state).waiting (points_of l.now.state) l.facts.index late_wait l.facts.index.tell
           (telling-stays.ready plan l.now.state l.facts.rows.not_negative);
-      blobs = blobbed-moved plan l.now.state (ready plan l.now.state) refl refl l.facts.blobs.fill (λ p. p) l.facts.blobs.blobs (stand-as plan l.now.state (ready plan l.now.state) refl (λ ring number. refl) l.facts.blobs.stand) l.facts.blobs;
+      blobs = led-as plan l.now.state l.now.state.entries l.now.state.rows l.now.state.pending (ready plan l.now.state).waiting (points_of l.now.state) (λ i entry e. (i, e))
+          (stand-as plan l.now.state (ready plan l.now.state) refl (λ ring number. refl) l.facts.blobs.stand) l.facts.blobs;
       number = l.facts.number;
-      number_pending = l.facts.number_pending;
     }
 
-    pub ready_facts : IsTable plan (ready plan l.now.state)
-    ready_facts = table-facts plan (ready plan l.now.state) ready_plain
+    pub ready_facts : IsSettled plan table → IsTable plan (ready plan l.now.state)
+    ready_facts settled =
+        let p = l.strict settled in
+        table-facts plan (ready plan l.now.state) (plain-from plan (ready plan l.now.state) ready_loose (record {
+          few_pending = p.few_pending;
+          waiting = λ t. few_wait;
+          number = p.number;
+          number_pending = p.number_pending;
+          index = p.index.number;
+          index_pending = p.index.number_pending;
+          listed = p.index.number_listed;
+          blobs = p.blobs.blobs;
+          var = p.blobs.number;
+          var_pending = p.blobs.number_pending;
+        }))
 
     old_is : oldest_of ring ≡ model.oldest l.now.state.rows
     old_is = l.stands.oldest ∙ state-oldest plan (lose l.now.state)
@@ -397,6 +438,6 @@ module _ (first : ℕ) (plan : Plan) (table : Table) (rose : Bool) (device : Dev
         let begins : wait ≡ st.rows.next - waiting_after plan st = omega (arith, first_is, waiting) in
         let count : next_of ring - wait ≡ waiting_after plan st = omega (arith, first_is, waiting, next_is) in
         record {
-          in_ring = ring-moved now new new D plan st (ready plan st) stands refl (has-index plan (ready plan st) stands.ring stands.facts.ring_is ready_plain few_wait) (λ k. refl);
+          in_ring = ring-moved now new new D plan st (ready plan st) stands refl (has-listed plan (ready plan st) stands.ring stands.facts.ring_is ready_loose few_wait) (λ k. refl);
           waits = subst (λ k. Waits now (st.rows.next - k) (ready plan st).waiting) (sym many_wait) (subst (λ k. Waits now k (entries_from plan st k (waiting_after plan st))) begins (subst (λ k. Waits now wait (entries_from plan st wait k)) count w));
         }

@@ -13,7 +13,8 @@ use Rattle.fl_model.proofs.Lists.{slice_get-some}
 use Rattle.fl_model.proofs.Pages.{pages-at}
 use Rattle.fl_ring.proofs.SamePlaces.{renumbered_on}
 use Rattle.fl_table.proofs.Memories.{few-kept}
-use Rattle.fl_table.proofs.Plain.{IsPlainTable, plain-renumber}
+use Rattle.fl_table.proofs.Loose.{IsLoose}
+use Rattle.fl_table.proofs.MountKeeps.{loose-renumber, plain-renumber}
 use Rattle.fl_ring.specs.Head.{one}
 use Rattle.fl_ring.specs.Mounting.{IsGood}
 use Rattle.fl_ring.specs.Newest.{number_of}
@@ -22,13 +23,14 @@ use Rattle.fl_ring.specs.Ring.{RingState, OnRing, oldest}
 use Rattle.fl_schema.proofs.Numbers.{length-le, number_of-le}
 use Rattle.fl_schema.proofs.References.{from_le_bytes_4}
 use Rattle.fl_table.proofs.States.{shape_in, state_of, state-count, state-oldest, ring-back}
-use Rattle.fl_table.proofs.Repaired.{IsIdle, state-renumbered}
+use Rattle.fl_table.proofs.Repaired.{IsHeld, IsIdle, state-renumbered}
+use Rattle.fl_table.specs.Mountable.{RowsBehind}
 
 -- a body begins with its number
 body-number : (plan : Plan) (number : ℕ) (entries : List Entry) → number < 2 ^ 32 → number_of (data_body plan number entries) ≡ number
 body-number plan number entries small = from_le_bytes_4 (le 4 number) (length-le 4 number) ∙ number_of-le 4 number small
 
-state-numbered : (plan : Plan) (table : Table) → IsPlainTable plan table → IsNumbered (state_of plan table)
+state-numbered : (plan : Plan) (table : Table) → IsLoose plan table → IsNumbered (state_of plan table)
 state-numbered plan table facts i lt =
     let len = state-count plan table in
     let old = state-oldest plan table in
@@ -42,16 +44,21 @@ state-numbered plan table facts i lt =
     by_count small e true entries = tt
     by_count small e false entries = body-number plan (model.oldest table.rows + i) entries small ∙ e
 
-module _ (first : ℕ) (plan : Plan) (table : Table) (shape : model.IsShape (shape_of plan DataRing)) (large : 64 ≤ plan.geometry.page) (few : IsTrue (has_index plan) → plan.data_blocks * plan.geometry.block + 6 ≤ 65536)
-    (facts : IsPlainTable plan table) (idle : IsIdle table) (page : ℕ → List ℕ) (on : OnRing (shape_in first plan) page (state_of plan table)) where
+module _ (Left : Type 0) (first : ℕ) (plan : Plan) (table : Table) (shape : model.IsShape (shape_of plan DataRing)) (large : 64 ≤ plan.geometry.page) (few : IsTrue (has_index plan) → plan.data_blocks * plan.geometry.block + 6 ≤ 65536)
+    (held : IsHeld Left plan table) (behind : RowsBehind plan table) (idle : IsIdle table) (page : ℕ → List ℕ) (on : OnRing (shape_in first plan) page (state_of plan table)) where
   pub ring-renumbered : renumbered (shape_in first plan) (index_end plan table) (state_of plan table) ≡ state_of plan (renumber plan DataRing table)
-  ring-renumbered = state-renumbered first plan table facts.rows.not_negative
+  ring-renumbered = state-renumbered first plan table held.loose.rows.not_negative
 
-  pub numbered-facts : IsPlainTable plan (renumber plan DataRing table)
+  pub numbered-facts : IsHeld Left plan (renumber plan DataRing table)
   numbered-facts =
+      let facts = held.loose in
       let there = renumbered_on (shape_in first plan) page (state_of plan table) (index_end plan table) (record { blocks = shape.blocks; per_block = shape.pages; size = large }) on in
-      plain-renumber plan table shape few (few-kept plan table shape facts.rows) facts
-      (ring-back first plan (renumber plan DataRing table) (subst (λ (s : RingState). OnRing (shape_in first plan) page s) ring-renumbered there).ring) idle.pending idle.waiting
+      let kept = few-kept plan table shape facts.rows in
+      let back = ring-back first plan (renumber plan DataRing table) (subst (λ (s : RingState). OnRing (shape_in first plan) page s) ring-renumbered there).ring in
+      record {
+        loose = loose-renumber plan table shape few kept facts back idle.waiting behind;
+        plain = λ left. plain-renumber plan table shape few kept facts back idle.waiting (held.plain left) idle.pending;
+      }
 
   pub numbered-idle : IsIdle (renumber plan DataRing table)
   numbered-idle = record { pending = idle.pending; buffered = idle.buffered; waiting = idle.waiting; points = idle.points }
@@ -71,9 +78,9 @@ module _ (first : ℕ) (plan : Plan) (table : Table) (shape : model.IsShape (sha
   good-ring f is told = record {
     told = told;
     on = subst (λ (p : ℕ → List ℕ). OnRing (shape_in first plan) p (state_of plan table)) is on;
-    numbered = state-numbered plan table facts;
+    numbered = state-numbered plan table held.loose;
     fits =
         let next = ap (λ (s : RingState). s.next) ring-renumbered in
         let torn : cond (renumber plan DataRing table).rows.torn 1 0 ≡ one table.rows.torn = ap (λ (b : Bool). cond b 1 0) same_torn ∙ sym (one_is table.rows.torn) in
-        omega (arith, next, torn, numbered-facts.number);
+        omega (arith, next, torn, numbered-facts.loose.number);
   }

@@ -10,6 +10,7 @@ use Rattle.fl_index.specs.Outcomes as outcomes
 use Rattle.fl_index.specs.Standing as standing
 use Rattle.fl_index.specs.Standing.{HasIndex}
 use Rattle.fl_index.proofs.Lists.{end-drop, end_after, firsts-drop}
+use Rattle.fl_model.specs.Facts.{IsSettled}
 use Rattle.fl_model.specs.Mount.{renumber, renumbered, rings_of, index_end, least_alike, Turn, Of}
 use Rattle.fl_model.specs.Record.{Plan, has_index, entries_per_page}
 use Rattle.fl_model.specs.Ring as model
@@ -19,14 +20,16 @@ use Rattle.fl_model.specs.Work.{Kind, Body, Mark, VoidMark, Erase, Device, PartE
 use Rattle.fl_model.specs.Within.{repair_within, effect_within, all_done, TablePerforms, TableUnreads, TableGoesOn, TableMounts, TableMountEnd, TableMounted, TableStopped, TableUnread}
 use Rattle.fl_model.proofs.Sealed.{sealed-next, sealed-torn}
 use Rattle.fl_table.specs.Outcomes.{FaultEnds, MountsBadly, RingsEnd, MountEnds, var_rings}
-use Rattle.fl_table.specs.Pages.{Rests, bytes_in}
+use Rattle.fl_table.specs.Mountable.{BlobsBefore, IsMountable}
+use Rattle.fl_table.specs.Pages.{RestsToMount, bytes_in}
 use Rattle.fl_table.specs.declared.counts.Mounted.{Mounted}
 use Rattle.fl_table.specs.declared.faults.MountFault.{MountFault}
 use Rattle.fl_table.specs.declared.faults.MountFault.TheVariants as mount
 use Rattle.fl_table.specs.declared.table.Table as code
 use Rattle.fl_table.proofs.IndexSeals.{IsBeside, IsNumberedTo, IsFront, front-left, erased-number, indexed-of, beside-facts, holds-beside, holds-indexed}
-use Rattle.fl_table.proofs.Plain.{IsPlainTable, table-facts, least-below}
-use Rattle.fl_table.proofs.Repaired.{IsIdle, idle-lost}
+use Rattle.fl_table.proofs.Loose.{IsListed, IsLoose, listed-of, loose-paged, loose-with_index, paged-loose}
+use Rattle.fl_table.proofs.Plain.{IsPlainTable, table-facts, table-parts, least-below}
+use Rattle.fl_table.proofs.Repaired.{IsIdle, idle-lost, lost-idle}
 
 -- the repairs of an index ring that are left
 abbrev pub AreErases : List (RingName × Kind) → Type 0
@@ -70,27 +73,27 @@ are_repairs plan table = by_torn (is_torn IndexRing table) refl (is_dirty IndexR
     by_torn false e false = tt
 
 -- what they leave of a table
-pub record IsLeft (plan : Plan) (table new : Table) : Type 0 where
+pub record IsLeft (n : ℕ) (plan : Plan) (table new : Table) : Type 0 where
   pub beside : IsBeside table new
-  pub number : IsNumberedTo 4294967292 new.index
+  pub number : IsNumberedTo n new.index
   pub end : index_end plan new ≤ index_end plan table
   pub waiting : new.waiting ≡ table.waiting
 
-erases_done : (plan : Plan) (table t : Table) (front : List (RingName × Kind)) → AreErases front → IsLeft plan table t → IsLeft plan table (all_done (effect_within plan) front t)
-erases_done plan table t [] h k = k
-erases_done plan table t ((IndexRing, Erase) ∷ front) h k =
-    erases_done plan table (effect_within plan (IndexRing, Erase) t) front h (record {
+erases_done : (n : ℕ) (plan : Plan) (table t : Table) (front : List (RingName × Kind)) → AreErases front → IsLeft n plan table t → IsLeft n plan table (all_done (effect_within plan) front t)
+erases_done n plan table t [] h k = k
+erases_done n plan table t ((IndexRing, Erase) ∷ front) h k =
+    erases_done n plan table (effect_within plan (IndexRing, Erase) t) front h (record {
       beside = (_, _, _, ap (effect_within plan (IndexRing, Erase)) k.beside.3);
-      number = erased-number 4294967292 t.index k.number;
+      number = erased-number n t.index k.number;
       end = k.end;
       waiting = k.waiting;
     })
-erases_done plan table t ((IndexRing, Body) ∷ front) h k = absurd h
-erases_done plan table t ((IndexRing, Mark) ∷ front) h k = absurd h
-erases_done plan table t ((IndexRing, VoidMark) ∷ front) h k = absurd h
-erases_done plan table t ((DataRing, kind) ∷ front) h k = absurd h
-erases_done plan table t ((VarRing, kind) ∷ front) h k = absurd h
-erases_done plan table t ((LogRing, kind) ∷ front) h k = absurd h
+erases_done n plan table t ((IndexRing, Body) ∷ front) h k = absurd h
+erases_done n plan table t ((IndexRing, Mark) ∷ front) h k = absurd h
+erases_done n plan table t ((IndexRing, VoidMark) ∷ front) h k = absurd h
+erases_done n plan table t ((DataRing, kind) ∷ front) h k = absurd h
+erases_done n plan table t ((VarRing, kind) ∷ front) h k = absurd h
+erases_done n plan table t ((LogRing, kind) ∷ front) h k = absurd h
 
 voided_number : (n : ℕ) (shape : model.Shape) (o : Option model.Ring) → unwrap_or (option_map (λ ring. ring.torn) o) false ≡ true → IsNumberedTo n o → IsNumberedTo n (option_map (model.sealed shape 0) o)
 voided_number n shape None torn h = tt
@@ -98,33 +101,33 @@ voided_number n shape (Some r) torn h =
     let was : r.next + 1 ≤ n = subst (λ b. r.next + (cond b 1 0) ≤ n) torn h in
     rw (sealed-torn shape 0 r, sealed-next shape 0 r) (omega (arith, was))
 
-repairs_done : (plan : Plan) (table t : Table) (front : List (RingName × Kind)) → AreRepairs front t → IsLeft plan table t → IsLeft plan table (all_done (effect_within plan) front t)
-repairs_done plan table t [] h k = k
-repairs_done plan table t ((IndexRing, VoidMark) ∷ front) h k =
-    erases_done plan table (effect_within plan (IndexRing, VoidMark) t) front h.1 (record {
+repairs_done : (n : ℕ) (plan : Plan) (table t : Table) (front : List (RingName × Kind)) → AreRepairs front t → IsLeft n plan table t → IsLeft n plan table (all_done (effect_within plan) front t)
+repairs_done n plan table t [] h k = k
+repairs_done n plan table t ((IndexRing, VoidMark) ∷ front) h k =
+    erases_done n plan table (effect_within plan (IndexRing, VoidMark) t) front h.1 (record {
       beside = (_, _, _, ap (effect_within plan (IndexRing, VoidMark)) k.beside.3);
-      number = voided_number 4294967292 (shape_of plan IndexRing) t.index h.0 k.number;
+      number = voided_number n (shape_of plan IndexRing) t.index h.0 k.number;
       end =
-          let n = full_pages (unwrap_or (option_map (model.given_up (shape_of plan IndexRing) 0) t.index) []) in
-          let less : end_after (entries_per_page plan) (map (λ (page : IndexPage). page.first) (drop n t.index_pages)) ≤ end_after (entries_per_page plan) (map (λ (page : IndexPage). page.first) t.index_pages) =
-          subst (λ (fs : List ℕ). end_after (entries_per_page plan) fs ≤ end_after (entries_per_page plan) (map (λ (page : IndexPage). page.first) t.index_pages)) (sym (firsts-drop n t.index_pages))
-          (end-drop (entries_per_page plan) n (map (λ (page : IndexPage). page.first) t.index_pages)) in
+          let gone = full_pages (unwrap_or (option_map (model.given_up (shape_of plan IndexRing) 0) t.index) []) in
+          let less : end_after (entries_per_page plan) (map (λ (page : IndexPage). page.first) (drop gone t.index_pages)) ≤ end_after (entries_per_page plan) (map (λ (page : IndexPage). page.first) t.index_pages) =
+          subst (λ (fs : List ℕ). end_after (entries_per_page plan) fs ≤ end_after (entries_per_page plan) (map (λ (page : IndexPage). page.first) t.index_pages)) (sym (firsts-drop gone t.index_pages))
+          (end-drop (entries_per_page plan) gone (map (λ (page : IndexPage). page.first) t.index_pages)) in
           omega (arith, less, k.end);
       waiting = k.waiting;
     })
-repairs_done plan table t ((IndexRing, Erase) ∷ front) h k = erases_done plan table t ((IndexRing, Erase) ∷ front) h k
-repairs_done plan table t ((IndexRing, Body) ∷ front) h k = absurd h
-repairs_done plan table t ((IndexRing, Mark) ∷ front) h k = absurd h
-repairs_done plan table t ((DataRing, kind) ∷ front) h k = absurd h
-repairs_done plan table t ((VarRing, kind) ∷ front) h k = absurd h
-repairs_done plan table t ((LogRing, kind) ∷ front) h k = absurd h
+repairs_done n plan table t ((IndexRing, Erase) ∷ front) h k = erases_done n plan table t ((IndexRing, Erase) ∷ front) h k
+repairs_done n plan table t ((IndexRing, Body) ∷ front) h k = absurd h
+repairs_done n plan table t ((IndexRing, Mark) ∷ front) h k = absurd h
+repairs_done n plan table t ((DataRing, kind) ∷ front) h k = absurd h
+repairs_done n plan table t ((VarRing, kind) ∷ front) h k = absurd h
+repairs_done n plan table t ((LogRing, kind) ∷ front) h k = absurd h
 
 -- renumbered from 0 on, a ring's number is the same or less
-lower_number : (shape : model.Shape) (o : Option model.Ring) → 0 < shape.blocks * shape.pages → IfSome o (model.IsRing shape) → IsNumberedTo 4294967292 o → IsNumberedTo 4294967292 (option_map (renumbered shape 0) o)
-lower_number shape None some h k = tt
-lower_number shape (Some r) some h k = by_test (list_any (nat_lt 0) r.counts)
+lower_number : (n : ℕ) (shape : model.Shape) (o : Option model.Ring) → 0 < shape.blocks * shape.pages → IfSome o (model.IsRing shape) → IsNumberedTo n o → IsNumberedTo n (option_map (renumbered shape 0) o)
+lower_number n shape None some h k = tt
+lower_number n shape (Some r) some h k = by_test (list_any (nat_lt 0) r.counts)
   where
-    by_test : (b : Bool) → IsNumberedTo 4294967292 (Some (cond b r (record r { next = least_alike (shape.blocks * shape.pages) r.next (0 + length r.counts) })))
+    by_test : (b : Bool) → IsNumberedTo n (Some (cond b r (record r { next = least_alike (shape.blocks * shape.pages) r.next (0 + length r.counts) })))
     by_test true = k
     by_test false = let low = least-below (shape.blocks * shape.pages) r.next (0 + length r.counts) some (omega (arith, h.not_negative)) in omega (arith, low, k)
 
@@ -134,31 +137,67 @@ turns rings = map (λ ring. Of ring) rings
 
 -- a table at rest, of which the index ring is mounted
 module _ (old new : FlashState) (first : ℕ) (plan : Plan) (table : Table) (rose : Bool) (device : Device) (has : has_index plan ≡ true) (some : 0 < plan.index_blocks * plan.geometry.block)
-    (facts : IsPlainTable plan table) (idle : IsIdle table) (rests : Rests old first plan table) (same_rows : (n : ℕ) → bytes_in (page_at new) first plan DataRing n ≡ bytes_in (page_at old) first plan DataRing n)
+    (log_none : plan.log_blocks ≡ 0) (rests : RestsToMount old first plan table) (same_rows : (n : ℕ) → bytes_in (page_at new) first plan DataRing n ≡ bytes_in (page_at old) first plan DataRing n)
     (same_var : (n : ℕ) → bytes_in (page_at new) first plan VarRing n ≡ bytes_in (page_at old) first plan VarRing n) where
-  -- the table rests on what the repairs left
-  pub left-rests : (left : Table) (ring : model.Ring) → IsFront (effect_within plan) (repair_within plan IndexRing (renumber plan IndexRing table)) (renumber plan IndexRing table) left → HasIndex plan left ring →
-      standing.HoldsIndex (page_at new) (first + plan.data_blocks) plan left ring → Rests new first plan left
-  left-rests left ring f known image =
-      let come = repairs_front f.front f.others (renumber plan IndexRing table) (subst (λ (ops : List (RingName × Kind)). AreRepairs ops (renumber plan IndexRing table)) f.split (are_repairs plan (renumber plan IndexRing table))) in
-      let is : IsLeft plan table left = subst (IsLeft plan table) (sym f.state) (repairs_done plan table (renumber plan IndexRing table) f.front come (record {
-        beside = (_, _, _, refl);
-        number = lower_number (shape_of plan IndexRing) table.index some facts.index.ring facts.index.number;
-        end = omega arith;
-        waiting = refl;
-      })) in
-      let number : ring.next + (cond ring.torn 1 0) ≤ 4294967292 = subst (IsNumberedTo 4294967292) known.ring_is is.number in
-      let b = is.beside in
-      let rows_are : left.rows ≡ table.rows = ap (λ (x : Table). x.rows) b.3 in
-      let pending_is : left.pending ≡ table.pending = ap (λ (x : Table). x.pending) b.3 in
-      let after : IsPlainTable plan left = beside-facts plan table left b facts (indexed-of plan left ring has known number (λ p. absurd (p (pending_is ∙ idle.pending)))
-      (λ lt more. subst (λ (r : model.Ring). r.next + (cond r.torn 1 0) ≤ spent_from + 1) (sym rows_are)
-      (facts.index.number_listed (omega (arith, ap oldest rows_are, lt, is.end)) (omega (arith, ap (λ (r : model.Ring). length r.counts) rows_are, more))))) in
-      let now : IsIdle left = record { pending = pending_is ∙ idle.pending; buffered = ap (λ (x : Table). x.buffered) b.3 ∙ idle.buffered; waiting = is.waiting ∙ idle.waiting; points = ap (λ (x : Table). x.points) b.3 ∙ idle.points } in
-      record {
-        settled = record { facts = table-facts plan left after; lost = idle-lost left now };
-        pages = holds-beside (page_at old) (page_at new) first plan table left b same_rows same_var rests.pages (holds-indexed (page_at new) first plan left ring known.ring_is image);
-      }
+  idle : IsIdle table
+  idle = lost-idle table rests.mountable.lost
+
+  loose : IsLoose plan table
+  loose = paged-loose plan table log_none idle.pending idle.buffered idle.waiting rests.mountable.paged
+
+  -- what the repairs left
+  module _ (left : Table) (ring : model.Ring) (f : IsFront (effect_within plan) (repair_within plan IndexRing (renumber plan IndexRing table)) (renumber plan IndexRing table) left) (known : HasIndex plan left ring)
+      (image : standing.HoldsIndex (page_at new) (first + plan.data_blocks) plan left ring) where
+    is-left : (n : ℕ) → IsNumberedTo n table.index → IsLeft n plan table left
+    is-left n number =
+        let come = repairs_front f.front f.others (renumber plan IndexRing table) (subst (λ (ops : List (RingName × Kind)). AreRepairs ops (renumber plan IndexRing table)) f.split (are_repairs plan (renumber plan IndexRing table))) in
+        subst (IsLeft n plan table) (sym f.state) (repairs_done n plan table (renumber plan IndexRing table) f.front come (record {
+          beside = (_, _, _, refl);
+          number = lower_number n (shape_of plan IndexRing) table.index some loose.index.ring number;
+          end = omega arith;
+          waiting = refl;
+        }))
+
+    is : IsLeft 4294967295 plan table left
+    is = is-left 4294967295 loose.index.number
+
+    rows_are : left.rows ≡ table.rows
+    rows_are = ap (λ (x : Table). x.rows) is.beside.3
+
+    pending_is : left.pending ≡ table.pending
+    pending_is = ap (λ (x : Table). x.pending) is.beside.3
+
+    now : IsIdle left
+    now = record { pending = pending_is ∙ idle.pending; buffered = ap (λ (x : Table). x.buffered) is.beside.3 ∙ idle.buffered; waiting = is.waiting ∙ idle.waiting; points = ap (λ (x : Table). x.points) is.beside.3 ∙ idle.points }
+
+    left-loose : IsLoose plan left
+    left-loose = subst (IsLoose plan) (sym is.beside.3) (loose-with_index plan table is.beside.0 is.beside.1 is.beside.2 loose
+        (subst (IsListed plan) is.beside.3 (listed-of plan left ring has known (subst (IsNumberedTo 4294967295) known.ring_is is.number))))
+
+    -- a mount of the other rings may go on, and all facts hold where they did
+    left-mountable : IsMountable plan left
+    left-mountable = record {
+      lost = idle-lost left now;
+      paged = loose-paged plan left now.pending left-loose;
+      behind = λ void lt more. subst (λ (r : model.Ring). r.next + (cond r.torn 1 0) ≤ spent_from + 1) (sym rows_are)
+          (rests.mountable.behind (ap (λ (r : model.Ring). list_any (nat_lt 0) r.counts) (sym rows_are) ∙ void) (let e = ap oldest rows_are in let le = is.end in omega (arith, e, lt, le)) (omega (arith, ap (λ (r : model.Ring). length r.counts) rows_are, more)));
+      before = subst BlobsBefore (sym is.beside.3) rests.mountable.before;
+    }
+
+    pub left-settled : IsSettled plan table → IsSettled plan left
+    left-settled settled =
+        let facts = table-parts plan table log_none settled.facts in
+        let number : ring.next + (cond ring.torn 1 0) ≤ 4294967292 = subst (IsNumberedTo 4294967292) known.ring_is (is-left 4294967292 facts.index.number).number in
+        let after : IsPlainTable plan left = beside-facts plan table left is.beside facts (indexed-of plan left ring has known number (λ p. absurd (p (pending_is ∙ idle.pending)))
+        (λ lt more. subst (λ (r : model.Ring). r.next + (cond r.torn 1 0) ≤ spent_from + 1) (sym rows_are)
+        (facts.index.number_listed (let e = ap oldest rows_are in let le = is.end in omega (arith, e, lt, le)) (omega (arith, ap (λ (r : model.Ring). length r.counts) rows_are, more))))) in
+        record { facts = table-facts plan left after; lost = idle-lost left now }
+
+    pub left-rests : RestsToMount new first plan left
+    left-rests = record {
+      mountable = left-mountable;
+      pages = holds-beside (page_at old) (page_at new) first plan table left is.beside same_rows same_var rests.pages (holds-indexed (page_at new) first plan left ring known.ring_is image);
+    }
 
   two_rings : rings_of plan ≡ IndexRing ∷ DataRing ∷ var_rings plan
   two_rings = ap (λ (b : Bool). (cond b (IndexRing ∷ []) []) ++ DataRing ∷ [] ++ var_rings plan) has
@@ -169,7 +208,11 @@ module _ (old new : FlashState) (first : ℕ) (plan : Plan) (table : Table) (ros
     now = h.now;
     did = subst (λ (rings : List RingName). (TableMounts plan rose (turns rings) device table (TableStopped h.now) × FaultEnds h.now.end fault new) ⊎ (TableMounts plan rose (turns rings) device table (TableUnread h.now) × (fault ≡ Media))) (sym two_rings) (by_did h.did);
     counts = h.counts;
-    rests = left-rests h.now.state h.rests.ring (front h.did) h.rests.facts h.rests.pages;
+    pages = (left-rests h.now.state h.rests.ring (front h.did) h.rests.facts h.rests.pages).pages;
+    rests = λ settled. record {
+      settled = left-settled h.now.state h.rests.ring (front h.did) h.rests.facts h.rests.pages settled;
+      pages = (left-rests h.now.state h.rests.ring (front h.did) h.rests.facts h.rests.pages).pages;
+    };
   }
     where
       stops : (now : PartProgress Table) (e : PartEnd Table) → now.end ≡ e → outcomes.FaultEnds e fault new →
@@ -193,9 +236,14 @@ module _ (old new : FlashState) (first : ℕ) (plan : Plan) (table : Table) (ros
           record { front = g.front; others = g.others ++ u.0.others; split = u.0.split ∙ (ap (λ (ops : List (RingName × Kind)). ops ++ u.0.others) g.split ∙ append_assoc g.front g.others u.0.others); state = g.state }
 
   -- it ended well, and then the data ring is mounted
-  pub index-mounts : (Remembers : BitmapIndex → Plan → Table → model.Ring → Type 0) (end : Option ℕ) (now : BitmapIndex) (h : outcomes.EndsWell Remembers (first + plan.data_blocks) plan table rose device end now new) → Rests new first plan h.now.state
+  pub index-mounts : (Remembers : BitmapIndex → Plan → Table → model.Ring → Type 0) (end : Option ℕ) (now : BitmapIndex) (h : outcomes.EndsWell Remembers (first + plan.data_blocks) plan table rose device end now new) → RestsToMount new first plan h.now.state
   index-mounts Remembers end now h =
       left-rests h.now.state h.stands.ring (front-left (λ (o : RingName × Kind). o.1) (effect_within plan) rose (repair_within plan IndexRing (renumber plan IndexRing table)) device (renumber plan IndexRing table) h.now h.did)
+      h.stands.facts h.stands.pages
+
+  pub index-settles : (Remembers : BitmapIndex → Plan → Table → model.Ring → Type 0) (end : Option ℕ) (now : BitmapIndex) (h : outcomes.EndsWell Remembers (first + plan.data_blocks) plan table rose device end now new) → IsSettled plan table → IsSettled plan h.now.state
+  index-settles Remembers end now h =
+      left-settled h.now.state h.stands.ring (front-left (λ (o : RingName × Kind). o.1) (effect_within plan) rose (repair_within plan IndexRing (renumber plan IndexRing table)) device (renumber plan IndexRing table) h.now h.did)
       h.stands.facts h.stands.pages
 
   pub then-rows : {KNOTS SLOTS : ℕ} (Remembers : BitmapIndex → Plan → Table → model.Ring → Type 0) (end : Option ℕ) (now : BitmapIndex) (h : outcomes.EndsWell Remembers (first + plan.data_blocks) plan table rose device end now new) (result : Result Mounted MountFault) (t : code.Table KNOTS SLOTS) (last : FlashState) →
@@ -207,8 +255,8 @@ module _ (old new : FlashState) (first : ℕ) (plan : Plan) (table : Table) (ros
           (inr (h.now, h.did, subst (λ (e : PartEnd Table). TableGoesOn e h.now how (TableMounts plan rose (turns (DataRing ∷ var_rings plan)) h.now.device h.now.state how)) (sym h.whole) m))
 
       by_result : (result : Result Mounted MountFault) → RingsEnd first plan (DataRing ∷ var_rings plan) h.now.state rose h.now.device result t last → MountEnds first plan table rose device result t last
-      by_result (Ok mounted) k = record { now = k.now; did = all (TableMounted k.now) k.did; counts = k.counts; power = k.power; stands = k.stands; answer = k.answer }
-      by_result (Err (mount.Flash fault)) k = record { now = k.now; did = by_did k.did; counts = k.counts; rests = k.rests }
+      by_result (Ok mounted) k = record { now = k.now; did = all (TableMounted k.now) k.did; counts = k.counts; power = k.power; loaded = k.loaded; stands = λ settled. k.stands (index-settles Remembers end now h settled); answer = k.answer }
+      by_result (Err (mount.Flash fault)) k = record { now = k.now; did = by_did k.did; counts = k.counts; pages = k.pages; rests = λ settled. k.rests (index-settles Remembers end now h settled) }
         where
           by_did : (TableMounts plan rose (turns (DataRing ∷ var_rings plan)) h.now.device h.now.state (TableStopped k.now) × FaultEnds k.now.end fault last) ⊎ (TableMounts plan rose (turns (DataRing ∷ var_rings plan)) h.now.device h.now.state (TableUnread k.now) × (fault ≡ Media)) →
               (TableMounts plan rose (turns (rings_of plan)) device table (TableStopped k.now) × FaultEnds k.now.end fault last) ⊎ (TableMounts plan rose (turns (rings_of plan)) device table (TableUnread k.now) × (fault ≡ Media))

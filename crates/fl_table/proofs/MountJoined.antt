@@ -13,7 +13,6 @@ use Rattle.fl_model.specs.Facts.{is_some_ring}
 use Rattle.fl_model.specs.Image.{IsRingImage, HoldsEntries}
 use Rattle.fl_index.specs.Standing as standing
 use Rattle.fl_ring.specs.Mounting.{shape_at}
-use Rattle.fl_table.proofs.ListsStay.{has-index}
 use Rattle.fl_model.specs.Mount.{rings_of, index_end}
 use Rattle.fl_model.specs.MountLimit.{repaired, all_repaired, part_mount_limit, mount_limit}
 use Rattle.fl_model.specs.Record.{Plan, RowLayout, has_index}
@@ -42,7 +41,7 @@ use Rattle.fl_table.specs.Coming.{StandFound, StandsFoundBy, WaitUnlisted, come_
 use Rattle.fl_find.specs.Index.{error_in}
 use Rattle.fl_table.specs.Mounting.{FindsBy, FindsBitmaps, FindsRows, ReadsRing, HasBadPage, HasLearned, FindsData, RefusesData, RefusesRows, comes_in}
 use Rattle.fl_table.specs.Outcomes.{RingsEnd, MountEnds, var_rings}
-use Rattle.fl_table.specs.Pages.{Rests, bytes_in}
+use Rattle.fl_table.specs.Pages.{RestsToMount, bytes_in}
 use Rattle.fl_table.specs.Reading.{pages_of}
 use Rattle.fl_table.specs.declared.counts.Mounted.{Mounted as Found}
 use Rattle.fl_table.specs.declared.faults.MountFault.{MountFault}
@@ -55,13 +54,16 @@ use Rattle.fl_var.specs.declared.var_data.VarData.{VarData}
 use Rattle.fl_table.specs.MountLimits.{IsIndexLimited, rows_mount_limit}
 use Rattle.fl_table.proofs.MountLimits.{done-repaired, index-within, limit-bare, limit-indexed}
 use Rattle.fl_table.proofs.MountIndexed.{index-fails, index-mounts, then-rows}
-use Rattle.fl_table.proofs.Plain.{IsPlainTable, none-listed, table-parts}
-use Rattle.fl_table.proofs.Repaired.{lost-idle}
+use Rattle.fl_table.proofs.Loose.{IsLoose, has-listed, none-listed, paged-loose}
+use Rattle.fl_table.proofs.Repaired.{IsIdle, lost-idle}
 use Rattle.fl_table.proofs.SealAnswers.{planned-shape, same-then}
 
-module _ {KNOTS SLOTS : ℕ} (t : code.Table KNOTS SLOTS) (old new : FlashState) (first : ℕ) (plan : Plan) (table : Table) (rose : Bool) (device : Device) (planned : IsPlanned t first plan) (rests : Rests old first plan table) (watched : IsWatched old new rose device) where
-  facts : IsPlainTable plan table
-  facts = table-parts plan table planned.log rests.settled.facts
+module _ {KNOTS SLOTS : ℕ} (t : code.Table KNOTS SLOTS) (old new : FlashState) (first : ℕ) (plan : Plan) (table : Table) (rose : Bool) (device : Device) (planned : IsPlanned t first plan) (rests : RestsToMount old first plan table) (watched : IsWatched old new rose device) where
+  idle : IsIdle table
+  idle = lost-idle table rests.mountable.lost
+
+  facts : IsLoose plan table
+  facts = paged-loose plan table planned.log idle.pending idle.buffered idle.waiting rests.mountable.paged
 
   some_blocks : 0 < plan.data_blocks * plan.geometry.block
   some_blocks =
@@ -93,10 +95,9 @@ module _ {KNOTS SLOTS : ℕ} (t : code.Table KNOTS SLOTS) (old new : FlashState)
     rests_index : standing.Rests old (first + plan.data_blocks) plan table
     rests_index =
         let r = ring_of_index table.index refl (facts.index.has ∙ has) in
-        let idle = lost-idle table rests.settled.lost in
         record {
           ring = r.0;
-          facts = has-index plan table r.0 r.1 facts (omega (arith, ap length idle.waiting));
+          facts = has-listed plan table r.0 r.1 facts (omega (arith, ap length idle.waiting));
           idle = idle.waiting;
           pages = subst (λ (o : Option model.Ring). IfSome o (λ x. IsRingImage (shape_of plan IndexRing) x (bytes_in (page_at old) first plan IndexRing) (HoldsEntries plan table x))) r.1 rests.pages.index;
         }
@@ -105,7 +106,7 @@ module _ {KNOTS SLOTS : ℕ} (t : code.Table KNOTS SLOTS) (old new : FlashState)
   none-ends : (end : Option ℕ) → ◌≡◌ {A = Result (Option ℕ) RingFault} (Ok end) (Ok None) → has_index plan ≡ false → unwrap_or end 0 ≡ index_end plan table
   none-ends end e none =
       let k : end ≡ None = cc in
-      ap (λ (o : Option ℕ). unwrap_or o 0) k ∙ sym (ap (λ (pages : List IndexPage). index_end plan (record table { index_pages = pages })) (none-listed plan table none facts))
+      ap (λ (o : Option ℕ). unwrap_or o 0) k ∙ sym (ap (λ (pages : List IndexPage). index_end plan (record table { index_pages = pages })) (none-listed plan table none facts.index))
 
   -- the index failed
   pub mount-fails : (bitmaps now : Option BitmapIndex) (e : RingFault) (t' : code.Table KNOTS SLOTS) → t.bitmaps ≡ bitmaps → StandOutside bitmaps (page_at old) (page_at new) → MountEndsOf bitmaps old (first + plan.data_blocks) plan table rose device (Err e) now new →
@@ -118,7 +119,7 @@ module _ {KNOTS SLOTS : ℕ} (t : code.Table KNOTS SLOTS) (old new : FlashState)
   mount-fails (Some index) (Some now) e t' is outside h = by_fault e (h watched (planned_index index is outside) (rests_index index is outside))
     where
       by_fault : (e : RingFault) → outcomes.EndsAs (RemembersFound (memory.form_in index).full now) (first + plan.data_blocks) plan table rose device (Err e) now new → MountEnds first plan table rose device (Err (of_ring e)) t' new
-      by_fault (ring.Flash fault) m = index-fails old new first plan table rose device (has index is outside) (some_pages index is outside) facts (lost-idle table rests.settled.lost) rests (same_rows index is outside) (same_var index is outside) fault m
+      by_fault (ring.Flash fault) m = index-fails old new first plan table rose device (has index is outside) (some_pages index is outside) planned.log rests (same_rows index is outside) (same_var index is outside) fault m
       by_fault (ring.BadHead heads) m = absurd m
       by_fault (ring.BadGap page) m = absurd m
       by_fault (ring.BadPage page wanted found) m = absurd m
@@ -127,21 +128,21 @@ module _ {KNOTS SLOTS : ℕ} (t : code.Table KNOTS SLOTS) (old new : FlashState)
   -- the index was mounted, and then the data ring
   pub mount-then : (bitmaps now : Option BitmapIndex) (end : Option ℕ) (result : Result Found MountFault) (t' : code.Table KNOTS SLOTS) (last : FlashState) → t.bitmaps ≡ bitmaps → AreSamePlan bitmaps now → StandOutside bitmaps (page_at old) (page_at new) →
       MountEndsOf bitmaps old (first + plan.data_blocks) plan table rose device (Ok end) now new →
-      ((x : Table) (later : Device) → new.is_on ≡ true → SameDevice new later → Rests new first plan x → StandFound now new (first + plan.data_blocks) plan x → unwrap_or end 0 ≡ index_end plan x →
+      ((x : Table) (later : Device) → new.is_on ≡ true → SameDevice new later → RestsToMount new first plan x → StandFound now new (first + plan.data_blocks) plan x → unwrap_or end 0 ≡ index_end plan x →
       RingsEnd first plan (DataRing ∷ var_rings plan) x rose later result t' last) → MountEnds first plan table rose device result t' last
   mount-then None now end result t' last is same outside h go =
       let none = planned-none (first + plan.data_blocks) plan (subst (λ (o : Option BitmapIndex). ArePlanned o (first + plan.data_blocks) plan) is planned.index) in
       let one : rings_of plan ≡ DataRing ∷ var_rings plan = ap (λ (b : Bool). (cond b (IndexRing ∷ []) []) ++ DataRing ∷ [] ++ var_rings plan) none in
       subst (λ (rings : List RingName). RingsEnd first plan rings table rose device result t' last) (sym one)
-      (go table device (ap (λ (f : FlashState). f.is_on) h.2 ∙ watched.on) (subst (λ (f : FlashState). SameDevice f device) (sym h.2) watched.counts) (subst (λ (f : FlashState). Rests f first plan table) (sym h.2) rests)
+      (go table device (ap (λ (f : FlashState). f.is_on) h.2 ∙ watched.on) (subst (λ (f : FlashState). SameDevice f device) (sym h.2) watched.counts) (subst (λ (f : FlashState). RestsToMount f first plan table) (sym h.2) rests)
       (subst (λ (o : Option BitmapIndex). StandFound o new (first + plan.data_blocks) plan table) (sym h.1) tt) (none-ends end h.0 none))
   mount-then (Some index) None end result t' last is same outside h go = absurd h
   mount-then (Some index) (Some now) end result t' last is same outside h go =
       let Remembers = RemembersFound (memory.form_in index).full now in
       let m = h watched (planned_index index is outside) (rests_index index is outside) in
-      let at_rest = index-mounts old new first plan table rose device (has index is outside) (some_pages index is outside) facts (lost-idle table rests.settled.lost) rests (same_rows index is outside) (same_var index is outside) Remembers end now m in
+      let at_rest = index-mounts old new first plan table rose device (has index is outside) (some_pages index is outside) planned.log rests (same_rows index is outside) (same_var index is outside) Remembers end now m in
       let stands = subst (λ (full : Bool). StandsFoundBy full now new (first + plan.data_blocks) plan m.now.state) (sym same.full) m.stands in
-      then-rows old new first plan table rose device (has index is outside) (some_pages index is outside) facts (lost-idle table rests.settled.lost) rests (same_rows index is outside) (same_var index is outside) Remembers end now m result t' last
+      then-rows old new first plan table rose device (has index is outside) (some_pages index is outside) planned.log rests (same_rows index is outside) (same_var index is outside) Remembers end now m result t' last
       (go m.now.state m.now.device m.power m.counts at_rest stands (ap (λ (o : Option ℕ). unwrap_or o 0) m.answer))
 
   -- what it reads at most, where entries are full
@@ -155,18 +156,18 @@ module _ {KNOTS SLOTS : ℕ} (t : code.Table KNOTS SLOTS) (old new : FlashState)
   -- .. and both
   pub limit-then : (bitmaps now : Option BitmapIndex) (end : Option ℕ) (last : FlashState) → t.bitmaps ≡ bitmaps → AreSamePlan bitmaps now → StandOutside bitmaps (page_at old) (page_at new) → MountEndsOf bitmaps old (first + plan.data_blocks) plan table rose device (Ok end) now new →
       IsIndexLimited bitmaps old (first + plan.data_blocks) plan table new → plan.full_index ≡ true →
-      ((x : Table) (later : Device) → new.is_on ≡ true → SameDevice new later → Rests new first plan x → StandFound now new (first + plan.data_blocks) plan x → unwrap_or end 0 ≡ index_end plan x →
+      ((x : Table) (later : Device) → new.is_on ≡ true → SameDevice new later → RestsToMount new first plan x → StandFound now new (first + plan.data_blocks) plan x → unwrap_or end 0 ≡ index_end plan x →
       last.work.reads ≤ new.work.reads + (rows_mount_limit plan x (repaired plan DataRing x) + part_mount_limit (shape_of plan VarRing) x.var)) → last.work.reads ≤ old.work.reads + mount_limit plan table
   limit-then None now end last is same outside h few full go =
       let none = planned-none (first + plan.data_blocks) plan (subst (λ (o : Option BitmapIndex). ArePlanned o (first + plan.data_blocks) plan) is planned.index) in
       limit-bare plan table old.work.reads new.work.reads last.work.reads none few
-      (go table device (ap (λ (f : FlashState). f.is_on) h.2 ∙ watched.on) (subst (λ (f : FlashState). SameDevice f device) (sym h.2) watched.counts) (subst (λ (f : FlashState). Rests f first plan table) (sym h.2) rests)
+      (go table device (ap (λ (f : FlashState). f.is_on) h.2 ∙ watched.on) (subst (λ (f : FlashState). SameDevice f device) (sym h.2) watched.counts) (subst (λ (f : FlashState). RestsToMount f first plan table) (sym h.2) rests)
       (subst (λ (o : Option BitmapIndex). StandFound o new (first + plan.data_blocks) plan table) (sym h.1) tt) (none-ends end h.0 none))
   limit-then (Some index) None end last is same outside h few full go = absurd h
   limit-then (Some index) (Some now) end last is same outside h few full go =
       let Remembers = RemembersFound (memory.form_in index).full now in
       let m = h watched (planned_index index is outside) (rests_index index is outside) in
-      let at_rest = index-mounts old new first plan table rose device (has index is outside) (some_pages index is outside) facts (lost-idle table rests.settled.lost) rests (same_rows index is outside) (same_var index is outside) Remembers end now m in
+      let at_rest = index-mounts old new first plan table rose device (has index is outside) (some_pages index is outside) planned.log rests (same_rows index is outside) (same_var index is outside) Remembers end now m in
       let stands = subst (λ (full : Bool). StandsFoundBy full now new (first + plan.data_blocks) plan m.now.state) (sym same.full) m.stands in
       limit-indexed plan table m.now.state old.work.reads new.work.reads last.work.reads (has index is outside) (done-repaired plan IndexRing table rose device m.now m.did m.whole)
       (few (planned_index index is outside) (rests_index index is outside) full) (go m.now.state m.now.device m.power m.counts at_rest stands (ap (λ (o : Option ℕ). unwrap_or o 0) m.answer))

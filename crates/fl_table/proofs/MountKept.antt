@@ -4,6 +4,7 @@ use Rattle.fl_find.specs.Index.{error_in}
 use Rattle.fl_base.specs.declared.types.Geometry.{Geometry}
 use Rattle.fl_flash.specs.Flash.{FlashState, Goes, page_at}
 use Rattle.fl_flash.specs.Places.{extent}
+use Rattle.fl_model.specs.Facts.{IsSettled}
 use Rattle.fl_model.specs.Mount.{index_end}
 use Rattle.fl_model.specs.Record.{Plan, RowLayout}
 use Rattle.fl_model.specs.MountLimit.{repaired, ring_mount_limit}
@@ -30,7 +31,7 @@ use Rattle.fl_table.specs.Memory.{IsPlanned, IsSamePlan, LiesOn}
 use Rattle.fl_table.specs.MountLimits.{rows_mount_limit}
 use Rattle.fl_table.specs.Mounting.{comes_in}
 use Rattle.fl_table.specs.Outcomes.{DataEnds, DataWell}
-use Rattle.fl_table.specs.Pages.{Rests}
+use Rattle.fl_table.specs.Pages.{RestsToMount}
 use Rattle.fl_table.specs.Reading.{pages_of}
 use Rattle.fl_table.specs.declared.faults.MountFault.{MountFault}
 use Rattle.fl_table.specs.declared.known.Known.{Known}
@@ -40,9 +41,11 @@ use Rattle.fl_frame.proofs.WatchedInTurn.{watched-first, risen-later}
 use Rattle.fl_table.proofs.IndexOfTable.{lies-goes}
 use Rattle.fl_table.proofs.MountCalls.{OthersStill, index-read, index-still, same-shape}
 use Rattle.fl_table.proofs.MountComes.{comes-to, few-come, few-unlisted, found-there, index-ends}
-use Rattle.fl_table.proofs.MountEnded.{IsMounting, mounting-of, mount-answer, reads-end, ready_facts, rests_now, ring-ends, ring-mounts, same_device, started-memory, started-stand}
+use Rattle.fl_table.proofs.MountEnded.{IsMounting, mounting-of, mount-answer, reads-end, ready_facts, before_now, pages_now, settled_now, ring-ends, ring-mounts, same_device, started-memory, started-stand}
+use Rattle.fl_table.proofs.Loose.{loose-paged}
 use Rattle.fl_table.proofs.MountLifted.{RowsMount}
 use Rattle.fl_table.proofs.MountLimits.{data-voids, mount-repaired}
+use Rattle.fl_table.proofs.Repaired.{idle-lost}
 use Rattle.fl_table.proofs.SealAnswers.{lies-size, plan-self, planned-ring, planned-same}
 use Rattle.fl_table.proofs.StandingMount.{IsOf}
 use Rattle.fl_table.proofs.StandingKnown.{KnowsTable, knows-table}
@@ -53,7 +56,7 @@ abbrev Reaches : FlashState → Type 0
 Reaches f = f.start + extent f.geometry f.blocks ≤ length f.media.content
 
 -- the mount of the ring reads at most its limit
-pub ring-limit : {KNOTS SLOTS : ℕ} (t : code.Table KNOTS SLOTS) (first : ℕ) (plan : Plan) (table : Table) (old mid : FlashState) → IsPlanned t first plan → Rests old first plan table → LiesOn t old → Reaches old →
+pub ring-limit : {KNOTS SLOTS : ℕ} (t : code.Table KNOTS SLOTS) (first : ℕ) (plan : Plan) (table : Table) (old mid : FlashState) → IsPlanned t first plan → RestsToMount old first plan table → LiesOn t old → Reaches old →
     ((s : RingState) → OnRing (shape_at t.place old.geometry) (page_at old) s → mid.work.reads ≤ old.work.reads + (t.place.blocks + 2 * old.geometry.block + 1 + voids_at_end s.kept)) →
     mid.work.reads ≤ old.work.reads + ring_mount_limit (model_shape plan DataRing) table.rows
 ring-limit t first plan table old mid planned rests lies reaches few =
@@ -63,7 +66,7 @@ ring-limit t first plan table old mid planned rests lies reaches few =
     omega (arith, h, planned.blocks, ap (λ (x : Geometry). x.block) (lies.geometry ∙ sym planned.geometry), data-voids plan table)
 
 module _ {KNOTS SLOTS : ℕ} (t : code.Table KNOTS SLOTS) (first : ℕ) (plan : Plan) (table : Table) (rose : Bool) (device : Device) (old mid new : FlashState) (ring : Ring) (n end : ℕ) (watched : IsWatched old new rose device) (planned : IsPlanned t first plan)
-    (rests : Rests old first plan table) (stands : StandFound t.bitmaps old (first + plan.data_blocks) plan table) (end_is : end ≡ index_end plan table) (lies : LiesOn t old) (reaches : Reaches old) (reaches_mid : Reaches mid) (reaches_new : Reaches new)
+    (rests : RestsToMount old first plan table) (stands : StandFound t.bitmaps old (first + plan.data_blocks) plan table) (end_is : end ≡ index_end plan table) (lies : LiesOn t old) (reaches : Reaches old) (reaches_mid : Reaches mid) (reaches_new : Reaches new)
     (goes : Goes old mid) (outside : OutsideStands (shape_at t.place old.geometry) (page_at old) (page_at mid)) (shape : place.shape_of ring ≡ shape_at t.place old.geometry)
     (mounts : (s : RingState) (rose : Bool) (device : Device) → ring_mount.IsGood old (shape_at t.place old.geometry) end s → IsWatched old mid rose device →
     ring_mount.MountEnds (shape_at t.place old.geometry) rose device (renumbered (shape_at t.place old.geometry) end s) (Ok ring) mid) (reads : OnlyReads mid n new) where
@@ -76,7 +79,7 @@ module _ {KNOTS SLOTS : ℕ} (t : code.Table KNOTS SLOTS) (first : ℕ) (plan : 
   here : place.shape_of ring ≡ shape_in first plan
   here = shape ∙ at
 
-  l : RowsMount first plan table rose device ring mid
+  l : RowsMount (IsSettled plan table) first plan table rose device ring mid
   l = ring-mounts first plan table rose device old is ring mid (ring-ends first plan table rose device old is (shape_at t.place old.geometry) at end end_is mid (Ok ring) mounts (watched-first old mid new rose device watched reads.goes))
 
   mid_sizes : HaveSize first plan (page_at mid)
@@ -123,7 +126,11 @@ module _ {KNOTS SLOTS : ℕ} (t : code.Table KNOTS SLOTS) (first : ℕ) (plan : 
         did = l.did;
         counts = same_device first plan table rose device old is ring mid new n l reads sizes still;
         power = reads.power ∙ l.power;
-        rests = rests_now first plan table rose device old is ring mid new n l reads sizes still;
+        lost = idle-lost l.now.state l.repaired.idle;
+        paged = loose-paged plan l.now.state l.repaired.idle.pending l.facts;
+        before = before_now first plan table rose device old is ring mid new n l reads sizes still;
+        pages = pages_now first plan table rose device old is ring mid new n l reads sizes still;
+        settled = settled_now first plan table rose device old is ring mid new n l reads sizes still;
         whole = l.whole;
         clean = l.clean;
         planned = planned_now;

@@ -11,6 +11,7 @@ use Rattle.fl_model.specs.Within.{repair_within, effect_within, TablePerforms, T
 use Rattle.fl_model.specs.Mount.{Of, renumber}
 use Rattle.fl_model.proofs.Performs.{performs-whole}
 use Rattle.fl_model.proofs.Sealed.{sealed-torn}
+use Rattle.fl_table.proofs.Loose.{IsLoose}
 use Rattle.fl_table.proofs.Plain.{IsPlainTable}
 use Rattle.fl_ring.specs.declared.ring.Ring.{Ring}
 use Rattle.fl_frame.specs.Device.{SameDevice}
@@ -20,7 +21,7 @@ use Rattle.fl_ring.specs.Place.{StandsFor}
 use Rattle.fl_ring.specs.Ring.{RingState, OnRing}
 use Rattle.fl_table.proofs.States.{shape_in, state_of}
 use Rattle.fl_table.proofs.RingInTable.{of_rows, TableAnswers}
-use Rattle.fl_table.proofs.Repaired.{IsIdle, IsRepaired, repair-lifts, repair-kinds}
+use Rattle.fl_table.proofs.Repaired.{IsHeld, IsIdle, IsRepaired, repair-lifts, repair-kinds}
 
 ok_not_err : (u : Unit {0}) (fault : FlashFault) → ◌≡◌ {A = Result (Unit {0}) FlashFault} (Ok u) (Err fault) → ⊥
 ok_not_err u fault e = cc
@@ -44,12 +45,13 @@ repairs_clean plan table = by_torn table.rows.torn refl
     by_torn false e = by_dirty table table.rows.dirty refl e
 
 -- the table after its ring was mounted; nothing of it is in memory yet
-pub record RowsMount (first : ℕ) (plan : Plan) (table : Table) (rose : Bool) (device : Device) (ring : Ring) (new : FlashState) : Type 0 where
+pub record RowsMount (Left : Type 0) (first : ℕ) (plan : Plan) (table : Table) (rose : Bool) (device : Device) (ring : Ring) (new : FlashState) : Type 0 where
   pub now : PartProgress Table
   pub did : TableMounts plan rose (Of DataRing ∷ []) device table (TableMounted now)
   pub counts : SameDevice new now.device
   pub power : new.is_on ≡ true
-  pub facts : IsPlainTable plan now.state
+  pub facts : IsLoose plan now.state
+  pub strict : Left → IsPlainTable plan now.state
   pub repaired : IsRepaired (renumber plan DataRing table) now.state
   pub whole : now.state.rows.torn ≡ false
   pub clean : now.state.rows.dirty ≡ false
@@ -59,22 +61,23 @@ pub record RowsMount (first : ℕ) (plan : Plan) (table : Table) (rose : Bool) (
   pub unread : IsTrue rose → (last : PartProgress Table) × TableMounts plan rose (Of DataRing ∷ []) device table (TableUnread last) × (last.device ≡ now.device) × (last.state ≡ now.state)
 
 -- a mount that failed in its ring
-pub record RowsFail (first : ℕ) (plan : Plan) (table : Table) (rose : Bool) (device : Device) (fault : FlashFault) (new : FlashState) : Type 0 where
+pub record RowsFail (Left : Type 0) (first : ℕ) (plan : Plan) (table : Table) (rose : Bool) (device : Device) (fault : FlashFault) (new : FlashState) : Type 0 where
   pub now : PartProgress Table
   pub did : (TableMounts plan rose (Of DataRing ∷ []) device table (TableStopped now) × TableAnswers now.end (Err fault) new)
       ⊎ (TableMounts plan rose (Of DataRing ∷ []) device table (TableUnread now) × (fault ≡ Media))
   pub counts : SameDevice new now.device
-  pub facts : IsPlainTable plan now.state
+  pub facts : IsLoose plan now.state
+  pub strict : Left → IsPlainTable plan now.state
   pub repaired : IsRepaired (renumber plan DataRing table) now.state
   pub on : OnRing (shape_in first plan) (page_at new) (state_of plan (lose now.state))
 
-module _ (first : ℕ) (plan : Plan) (table : Table) (rose : Bool) (device : Device) (new : FlashState) (shape : model.IsShape (shape_of plan DataRing))
-    (facts : IsPlainTable plan (renumber plan DataRing table)) (idle : IsIdle (renumber plan DataRing table)) where
+module _ (Left : Type 0) (first : ℕ) (plan : Plan) (table : Table) (rose : Bool) (device : Device) (new : FlashState) (shape : model.IsShape (shape_of plan DataRing))
+    (facts : IsHeld Left plan (renumber plan DataRing table)) (idle : IsIdle (renumber plan DataRing table)) where
   numbered : Table
   numbered = renumber plan DataRing table
 
   known : length (renumber plan DataRing table).rows.counts ≤ (renumber plan DataRing table).rows.next
-  known = facts.rows.not_negative
+  known = facts.loose.rows.not_negative
 
   same : map of_rows (repair_kinds (shape_in first plan) (state_of plan (renumber plan DataRing table))) ≡ repair_within plan DataRing (renumber plan DataRing table)
   same = repair-kinds first plan (renumber plan DataRing table) shape known
@@ -87,10 +90,10 @@ module _ (first : ℕ) (plan : Plan) (table : Table) (rose : Bool) (device : Dev
   map-append [] ys = refl
   map-append (x ∷ xs) ys = ap (λ zs. of_rows x ∷ zs) (map-append xs ys)
 
-  pub mount-lifts : (ring : Ring) → Mounted (shape_in first plan) rose device (state_of plan (renumber plan DataRing table)) ring new → RowsMount first plan table rose device ring new
+  pub mount-lifts : (ring : Ring) → Mounted (shape_in first plan) rose device (state_of plan (renumber plan DataRing table)) ring new → RowsMount Left first plan table rose device ring new
   mount-lifts ring m =
       let kinds = repair_kinds (shape_in first plan) (state_of plan (renumber plan DataRing table)) in
-      let l = repair-lifts first plan (renumber plan DataRing table) rose kinds [] device (Ok tt) new shape facts idle (append-nil kinds) m.performed in
+      let l = repair-lifts Left first plan (renumber plan DataRing table) rose kinds [] device (Ok tt) new shape facts idle (append-nil kinds) m.performed in
       let whole = all_whole l.now.end l.answer in
       let did : TablePerforms plan rose (repair_within plan DataRing (renumber plan DataRing table)) device (renumber plan DataRing table) l.now =
       subst (λ (ops : List (RingName × Kind)). TablePerforms plan rose ops device (renumber plan DataRing table) l.now) same l.did in
@@ -102,7 +105,8 @@ module _ (first : ℕ) (plan : Plan) (table : Table) (rose : Bool) (device : Dev
         did = (inr (l.now, did, goes_on l.now whole.0));
         counts = l.counts;
         power = whole.1;
-        facts = l.facts;
+        facts = l.facts.loose;
+        strict = l.facts.plain;
         repaired = l.more;
         whole = ap (λ (t : Table). t.rows.torn) after ∙ tidy.0;
         clean = ap (λ (t : Table). t.rows.dirty) after ∙ tidy.1;
@@ -131,17 +135,18 @@ module _ (first : ℕ) (plan : Plan) (table : Table) (rose : Bool) (device : Dev
       goes_on last e = rw e refl
 
   pub mount-fails : (fault : FlashFault) → RepairEnds (shape_in first plan) rose (repair_kinds (shape_in first plan) (state_of plan (renumber plan DataRing table))) device (state_of plan (renumber plan DataRing table)) (Err fault) new →
-      RowsFail first plan table rose device fault new
+      RowsFail Left first plan table rose device fault new
   mount-fails fault (inl p) =
       let kinds = repair_kinds (shape_in first plan) (state_of plan (renumber plan DataRing table)) in
-      let l = repair-lifts first plan (renumber plan DataRing table) rose kinds [] device (Err fault) new shape facts idle (append-nil kinds) p in
+      let l = repair-lifts Left first plan (renumber plan DataRing table) rose kinds [] device (Err fault) new shape facts idle (append-nil kinds) p in
       let did : TablePerforms plan rose (repair_within plan DataRing (renumber plan DataRing table)) device (renumber plan DataRing table) l.now =
       subst (λ (ops : List (RingName × Kind)). TablePerforms plan rose ops device (renumber plan DataRing table) l.now) same l.did in
       record {
         now = l.now;
         did = inl ((inr (l.now, did, stops l.now l.now.end refl l.answer)), l.answer);
         counts = l.counts;
-        facts = l.facts;
+        facts = l.facts.loose;
+        strict = l.facts.plain;
         repaired = l.more;
         on = l.on;
       }
@@ -152,7 +157,7 @@ module _ (first : ℕ) (plan : Plan) (table : Table) (rose : Bool) (device : Dev
       stops last (CutIn b) k a = rw k refl
       stops last (FailedIn b) k a = rw k refl
   mount-fails fault (inr u) =
-      let l = repair-lifts first plan (renumber plan DataRing table) rose u.front u.others device (Ok tt) new shape facts idle u.split u.did in
+      let l = repair-lifts Left first plan (renumber plan DataRing table) rose u.front u.others device (Ok tt) new shape facts idle u.split u.did in
       let whole = all_whole l.now.end l.answer in
       let unread : TableUnreads plan rose (repair_within plan DataRing (renumber plan DataRing table)) device (renumber plan DataRing table) l.now =
       record {
@@ -167,7 +172,8 @@ module _ (first : ℕ) (plan : Plan) (table : Table) (rose : Bool) (device : Dev
         now = l.now;
         did = inr ((inl (l.now, unread, refl)), is_media u.is);
         counts = l.counts;
-        facts = l.facts;
+        facts = l.facts.loose;
+        strict = l.facts.plain;
         repaired = l.more;
         on = l.on;
       }

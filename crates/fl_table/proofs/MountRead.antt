@@ -22,7 +22,7 @@ use Rattle.fl_table.specs.Reading.{full_on}
 use Rattle.fl_table.proofs.PageChecks.{uncommitted-rows}
 use Rattle.fl_table.proofs.KeptPages.{kept, length-kept, full-kept}
 use Rattle.fl_table.proofs.KeyRows.{page-length}
-use Rattle.fl_table.proofs.Plain.{IsPlainTable}
+use Rattle.fl_table.proofs.Loose.{IsLoose}
 use Rattle.fl_table.proofs.StandingMount.{IsPageOf}
 use Rattle.fl_table.proofs.States.{shape_in, state_of, HaveSize}
 use Rattle.fl_table.proofs.Unlisted.{committed-is, good-form}
@@ -35,7 +35,7 @@ pub record HoldRows (table : Table) (layout : RowLayout) (page : ℕ → List �
   pub full : (i c : ℕ) → slice_get table.rows.counts i ≡ Some c → full_view (full_on layout (page (number + i))) ≡ full_of (rows_at table i c)
 
 pub hold-rows : (page : ℕ → List ℕ) (first : ℕ) (plan : Plan) (table : Table) (key : KeyWidth) (types : List ColumnType) (blobs : Bool) → layout_with key types blobs ≡ row_layout plan →
-    plan.blob_limit ≤ 1500 → IsPlainTable plan table → table.pending ≡ 0 → 64 ≤ plan.geometry.page → row_len plan + 24 ≤ plan.geometry.page → 1 ≤ row_len plan → plan.geometry.page ≤ 4096 →
+    plan.blob_limit ≤ 1500 → IsLoose plan table → table.pending ≡ 0 → 64 ≤ plan.geometry.page → row_len plan + 24 ≤ plan.geometry.page → 1 ≤ row_len plan → plan.geometry.page ≤ 4096 →
     HaveSize first plan page → OnRing (shape_in first plan) page (state_of plan table) →
     HoldRows table (row_layout plan) (λ number. page (place (shape_in first plan) number)) (model.oldest table.rows)
 hold-rows page first plan table key types blobs same limit facts none large room some short sizes on =

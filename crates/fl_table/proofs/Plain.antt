@@ -57,21 +57,6 @@ pub record IsPlainTable (plan : Plan) (table : Table) : Type 0 where
   pub number : table.rows.next + (cond table.rows.torn 1 0) ≤ 4294967292
   pub number_pending : (table.pending ≡ 0 → ⊥) → table.rows.next ≤ spent_from
 
--- a table without an index lists nothing
-pub none-listed : (plan : Plan) (table : Table) → has_index plan ≡ false → IsPlainTable plan table → table.index_pages ≡ []
-none-listed plan table none facts = by_pages table.index_pages (by_ring table.index facts.index.has facts.index.each)
-  where
-    by_ring : (o : Option Ring) → is_some_ring o ≡ has_index plan → length table.index_pages ≡ full_pages (counts_in o) → length table.index_pages ≡ 0
-    by_ring None e k = k
-    by_ring (Some r) e k = absurd (no (e ∙ none))
-      where
-        no : true ≡ false → ⊥
-        no x = cc
-
-    by_pages : (pages : List IndexPage) → length pages ≡ 0 → pages ≡ []
-    by_pages [] e = refl
-    by_pages (x ∷ xs) e = absurd (omega (arith, e))
-
 -- they are the facts of a table
 pub table-parts : (plan : Plan) (table : Table) → plan.log_blocks ≡ 0 → IsTable plan table → IsPlainTable plan table
 table-parts plan table plain h = record {
@@ -140,10 +125,10 @@ table-facts plan table h = record {
     numbers VarRing = h.blobs.number
     numbers LogRing = subst (λ (o : Option Ring). IfSome o (λ ring. ring.next + (cond ring.torn 1 0) ≤ 4294967292)) (sym h.bare.0) tt
 
-pages-front : (plan : Plan) (table : Table) (entries : List Entry) (n : ℕ) → AreInPages plan table entries → AreInPages plan table (take n entries)
+pub pages-front : (plan : Plan) (table : Table) (entries : List Entry) (n : ℕ) → AreInPages plan table entries → AreInPages plan table (take n entries)
 pages-front plan table entries n h = λ i entry blob e k some. h i entry blob (slice_get-front n entries i entry e) k some
 
-pages-rest : (plan : Plan) (table : Table) (entries : List Entry) (n : ℕ) → AreInPages plan table entries → AreInPages plan table (drop n entries)
+pub pages-rest : (plan : Plan) (table : Table) (entries : List Entry) (n : ℕ) → AreInPages plan table entries → AreInPages plan table (drop n entries)
 pages-rest plan table entries n h = λ i entry blob e k some. h (n + i) entry blob (sym (slice_get-drop n entries i) ∙ e) k some
 
 -- a record more is pending
@@ -168,7 +153,7 @@ blobbed-moved plan table new var var_pages few pending pages stand h = record {
   number_pending = λ p. subst (λ (o : Option Ring). IfSome o (λ ring. ring.next ≤ spent_from + 64)) (sym var) (h.number_pending (pending p));
 }
 
-some_map : (o : Option Ring) (P Q : Ring → Type 0) → ((ring : Ring) → P ring → Q ring) → IfSome o P → IfSome o Q
+pub some_map : (o : Option Ring) (P Q : Ring → Type 0) → ((ring : Ring) → P ring → Q ring) → IfSome o P → IfSome o Q
 some_map None P Q f h = tt
 some_map (Some ring) P Q f h = f ring h
 
@@ -179,7 +164,7 @@ stand-as plan table new entries same h =
     (λ ring blobs. blobs-as plan table new ring ring (λ i entry e. (i, ap (λ (es : List Entry). slice_get es i) (sym entries) ∙ e)) (λ page. refl) (same ring) blobs) h
 
 -- .. where a data page is sealed or voided
-stand_given : (plan : Plan) (table new : Table) (count : ℕ) → new.entries ≡ table.entries → ((ring : Ring) (number : ℕ) → content_at plan new ring number ≡ content_at plan table ring number) → IfSome table.var (BlobsOf plan table) → IfSome table.var (BlobsOf plan (seal_page plan DataRing count new))
+pub stand_given : (plan : Plan) (table new : Table) (count : ℕ) → new.entries ≡ table.entries → ((ring : Ring) (number : ℕ) → content_at plan new ring number ≡ content_at plan table ring number) → IfSome table.var (BlobsOf plan table) → IfSome table.var (BlobsOf plan (seal_page plan DataRing count new))
 stand_given plan table new count entries same h =
     some_map table.var (BlobsOf plan new) (BlobsOf plan (seal_page plan DataRing count new)) (λ ring blobs. blobs-given_up plan new ring count blobs) (stand-as plan table new entries same h)
 
@@ -284,7 +269,7 @@ plain-erase plan table h = record {
     not_dirty false e = cc
 
 -- the oldest page that is kept after a seal isn't older
-sealed-oldest : (shape : Shape) (count : ℕ) (ring : Ring) → length ring.counts ≤ ring.next → oldest ring ≤ oldest (sealed shape count ring)
+pub sealed-oldest : (shape : Shape) (count : ℕ) (ring : Ring) → length ring.counts ≤ ring.next → oldest ring ≤ oldest (sealed shape count ring)
 sealed-oldest shape count ring le = by_test (is_full shape (extended count ring))
   where
     more : length (ring.counts ++ count ∷ []) ≡ length ring.counts + 1
@@ -343,36 +328,6 @@ plain-mark plan table shape h room some clean settled =
     wait false e = tell-none plan (seal_buffer plan DataRing table) ((seal_buffer plan DataRing table).rows.next - length (seal_buffer plan DataRing table).waiting) (seal_buffer plan DataRing table).waiting
         (ap (λ (t : Bool). cond t (table.waiting ++ index_entry plan (pending_entries table) ∷ []) []) e)
 
--- a torn page is voided
-pub plain-void : (plan : Plan) (table : Table) → IsShape (shape_of plan DataRing) → IsPlainTable plan table → table.pending ≡ 0 → table.waiting ≡ [] → table.rows.torn ≡ true → table.rows.dirty ≡ false →
-    IsPlainTable plan (seal_page plan DataRing 0 table)
-plain-void plan table shape h none idle torn clean =
-    let ring = sealed (shape_of plan DataRing) 0 table.rows in
-    let after = seal_page plan DataRing 0 table in
-    let next : ring.next ≡ table.rows.next + 1 = sealed-next (shape_of plan DataRing) 0 table.rows in
-    let whole = sealed-torn (shape_of plan DataRing) 0 table.rows in
-    let few : table.rows.next + 1 ≤ 4294967292 = subst (λ b. table.rows.next + (cond b 1 0) ≤ 4294967292) torn h.number in
-    let older = sealed-oldest (shape_of plan DataRing) 0 table.rows h.rows.not_negative in
-    record {
-      plain = h.plain;
-      bare = h.bare;
-      rows = ring-sealed (shape_of plan DataRing) 0 table.rows shape h.rows clean;
-      kept = subst (λ n. AreKept plan (entries_after (shape_of plan DataRing) 0 table.rows table.entries) ring.counts n) (sym none)
-          (kept-sealed plan (shape_of plan DataRing) 0 table.rows table.entries (subst (λ n. AreKept plan table.entries table.rows.counts n) none h.kept) (omega arith));
-      few_pending = h.few_pending;
-      index = indexed-as plan table after.entries ring table.pending table.buffered table.waiting table.points h.index h.index.waiting (omega (arith, h.index.listed, next)) (λ p. p)
-          (λ lt kept.
-          let was = h.index.number_listed (omega (arith, lt, older)) (omega (arith, lt, older, h.index.listed)) in
-          let was_one : table.rows.next + 1 ≤ spent_from + 1 = subst (λ b. table.rows.next + (cond b 1 0) ≤ spent_from + 1) torn was in
-          rw (whole, next) (omega (arith, was_one)))
-          (λ k page e. telling-stays.sealed plan table 0 page.first page.entries h.rows.not_negative (listed-below plan table h.index k page e) (h.index.tell k page e))
-          (tell-none plan after (ring.next - length table.waiting) table.waiting idle);
-      blobs = blobbed-moved plan table after refl refl h.blobs.fill (λ p. p) (pages-front plan table after.entries (length after.entries - table.pending) (pages-rest plan table table.entries (sum (given_up (shape_of plan DataRing) 0 table.rows))
-          (subst (AreInPages plan table) (take_all (length table.entries - table.pending) table.entries (omega (arith, none))) h.blobs.blobs))) (stand_given plan table table 0 refl (λ ring number. refl) h.blobs.stand) h.blobs;
-      number = rw (whole, next) (omega (arith, few));
-      number_pending = λ some. absurd (some none);
-    }
-
 -- what is in memory alone is lost
 pub plain-lose : (plan : Plan) (table : Table) → IsPlainTable plan table → IsPlainTable plan (lose table)
 plain-lose plan table h = record {
@@ -404,17 +359,6 @@ some-table_seals plan table some =
     by_test true e = absurd (some (eqb-true table.pending 0 e))
     by_test false e = refl
 
--- the next number of a ring whose pages are all void goes up by no more than the ring's room
-least_near : (room next least : ℕ) → 0 < room → next < least → least < next + room → least_alike room next least ≤ next + room
-least_near room next least some low high = by_order (cases_lt (next + room) (least_alike room next least))
-  where
-    small : (next % room + room - least % room) % room < room
-    small = mod-lt (next % room + room - least % room) some
-
-    by_order : (next + room < least_alike room next least) ⊎ (least_alike room next least ≤ next + room) → least_alike room next least ≤ next + room
-    by_order (inl lt) = absurd (apart room (next + room) (least_alike room next least) lt (omega (arith, small, high)) (add-mod_right next room ∙ sym (least_is_alike room next least some)))
-    by_order (inr le) = le
-
 -- the least number that is alike isn't above one that is alike and no less
 pub least-below : (room next least : ℕ) → 0 < room → least ≤ next → least_alike room next least ≤ next
 least-below room next least some low = by_order (cases_lt next (least_alike room next least))
@@ -425,61 +369,3 @@ least-below room next least some low = by_order (cases_lt next (least_alike room
     by_order : (next < least_alike room next least) ⊎ (least_alike room next least ≤ next) → least_alike room next least ≤ next
     by_order (inl lt) = absurd (apart room next (least_alike room next least) lt (omega (arith, small, low)) (sym (least_is_alike room next least some)))
     by_order (inr le) = le
-
--- the next number of a data ring whose pages are all void
-abbrev next_alike : Plan → Table → ℕ
-next_alike plan table = least_alike (plan.data_blocks * plan.geometry.block) table.rows.next (index_end plan table + length table.rows.counts)
-
--- the data ring is renumbered
-pub plain-renumber : (plan : Plan) (table : Table) → IsShape (shape_of plan DataRing) → (IsTrue (has_index plan) → plan.data_blocks * plan.geometry.block + 6 ≤ 65536) → length table.rows.counts < plan.data_blocks * plan.geometry.block →
-    IsPlainTable plan table → IsRing (shape_of plan DataRing) (renumber plan DataRing table).rows → table.pending ≡ 0 → table.waiting ≡ [] → IsPlainTable plan (renumber plan DataRing table)
-plain-renumber plan table shape most few h ring none idle = by_test (list_any (nat_lt 0) table.rows.counts) refl ring
-  where
-    some : 0 < plan.data_blocks * plan.geometry.block
-    some = let k : 3 * plan.geometry.block ≤ plan.data_blocks * plan.geometry.block = mul-le-mul_right plan.geometry.block shape.blocks in omega (arith, k, shape.pages)
-
-    indexed : 0 < index_end plan table → IsTrue (has_index plan)
-    indexed lt = by_index table.index h.index.has h.index.each (has_some table.index_pages lt)
-      where
-        has_some : (pages : List IndexPage) → 0 < index_end plan (record table { index_pages = pages }) → 0 < length pages
-        has_some [] lt = absurd (omega (arith, lt))
-        has_some (x ∷ xs) lt = omega arith
-
-        by_index : (o : Option Ring) → is_some_ring o ≡ has_index plan → length table.index_pages ≡ full_pages (counts_in o) → 0 < length table.index_pages → IsTrue (has_index plan)
-        by_index None e k lt = absurd (omega (arith, k, lt))
-        by_index (Some r) e k lt = sym e
-
-    -- it is the same or less, or follows the pages that the index lists
-    number : next_alike plan table + (cond table.rows.torn 1 0) ≤ 4294967292
-    number = elim (cases_lt table.rows.next (index_end plan table + length table.rows.counts)) [
-      | inl above ↦
-          let near = least_near (plan.data_blocks * plan.geometry.block) table.rows.next (index_end plan table + length table.rows.counts) some above (omega (arith, few, h.index.listed)) in
-          let was = h.index.number_listed (omega (arith, above, h.rows.not_negative)) (omega (arith, above, h.index.listed)) in
-          let m = most (indexed (omega (arith, above, h.rows.not_negative))) in
-          omega (arith, near, was, m)
-      | inr low ↦ let below = least-below (plan.data_blocks * plan.geometry.block) table.rows.next (index_end plan table + length table.rows.counts) some low in omega (arith, below, h.number)
-    ]
-
-    least : index_end plan table + length table.rows.counts ≤ next_alike plan table
-    least = omega arith
-
-    tell : (k : ℕ) (page : IndexPage) → slice_get table.index_pages k ≡ Some page → TellPages plan (renumber plan DataRing table) page.first page.entries
-    tell k page e = entries-stand plan table k page (table-facts plan table h) e (h.index.tell k page e)
-
-    by_test : (t : Bool) → list_any (nat_lt 0) table.rows.counts ≡ t → IsRing (shape_of plan DataRing) (cond t table.rows (record table.rows { next = next_alike plan table })) → IsPlainTable plan (record table { rows = cond t table.rows (record table.rows { next = next_alike plan table }) })
-    by_test true is r = h
-    by_test false is r = record {
-      plain = h.plain;
-      bare = h.bare;
-      rows = r;
-      kept = h.kept;
-      few_pending = h.few_pending;
-      index = indexed-as plan table table.entries (record table.rows { next = next_alike plan table }) table.pending table.buffered table.waiting table.points h.index h.index.waiting (omega (arith, least, ap length idle)) (λ p. p)
-          (λ lt more. absurd (omega (arith, lt, least)))
-          (λ k page e. subst (λ (b : Bool). TellPages plan (record table { rows = cond b table.rows (record table.rows { next = next_alike plan table }) }) page.first page.entries) is (tell k page e))
-          (tell-none plan (record table { rows = record table.rows { next = next_alike plan table } }) (next_alike plan table - length table.waiting) table.waiting idle);
-      blobs = blobbed-moved plan table (record table { rows = record table.rows { next = next_alike plan table } }) refl refl h.blobs.fill (λ p. p) h.blobs.blobs
-          (stand-as plan table (record table { rows = record table.rows { next = next_alike plan table } }) refl (λ ring number. refl) h.blobs.stand) h.blobs;
-      number = number;
-      number_pending = λ some. absurd (some none);
-    }

@@ -2,14 +2,16 @@
 use Rattle.std.proofs.Common.{◌≡◌, ℕ, zero, suc, ◌+◌, ◌-◌, ◌*◌, ◌<◌, ◌≤◌, ◌⊎◌, inl, inr, Bool, true, false, cond, ◌==◌, nat_lt, ◌||◌, Option, Some, None, List, [], ◌∷◌, length, max, map, refl, sym, ◌∙◌, ap, arith}
 use Rattle.std.specs.Prelude.{option_map}
 use Rattle.std.specs.List.{slice_get, list_any, fold}
-use Rattle.std.proofs.lemmas.Bool.{lt-ltb, ne_eqb}
+use Rattle.std.proofs.lemmas.Bool.{lt-ltb, ne_eqb, false≢true}
 use Rattle.fl_model.specs.Agrees.{reach_of, BlobsOf}
 use Rattle.fl_model.specs.Mount.{renumber, renumbered, blob_end, least_alike}
 use Rattle.fl_model.specs.Record.{Plan}
 use Rattle.fl_model.specs.Ring.{Ring, IsShape, oldest, sealed, erased}
+use Rattle.fl_model.specs.Query.{page_stands}
 use Rattle.fl_model.specs.Table.{Table, Entry, VarRing, shape_of, with_ring, seal_page, blob_len}
-use Rattle.fl_table.specs.Blobs.{AreIn}
-use Rattle.fl_table.proofs.VarFacts.{blobs-as, blobs-none, in-below, in-voided, var-voided, numbered-sealed}
+use Rattle.fl_model.proofs.StandingPages.{stands-not}
+use Rattle.fl_table.specs.Blobs.{AreIn, AreLed}
+use Rattle.fl_table.proofs.VarFacts.{blobs-as, blobs-none, in-voided, led-voided, var-voided, numbered-sealed}
 
 -- the greatest of numbers is none below any of them
 fold-least : (a : ℕ) (xs : List ℕ) → a ≤ fold max a xs
@@ -74,9 +76,9 @@ blob_end-most table n before = fold-most 0 n (map end_of table.entries) (omega a
         let le = by_blob i found.0 found.1 found.0.kept.blob refl in
         omega (arith, le, found.2)
 
--- blobs in the pages begin before the next page
-pub held-below : (plan : Plan) (ring : Ring) (table : Table) → length ring.counts ≤ ring.next → AreIn plan ring table.entries → blob_end table ≤ ring.next
-held-below plan ring table known inside = blob_end-most table ring.next (in-below plan ring table.entries known inside)
+-- blobs that begin on written pages begin before the next page
+pub held-below : (plan : Plan) (ring : Ring) (table : Table) → AreLed plan ring table.entries → blob_end table ≤ ring.next
+held-below plan ring table led = blob_end-most table ring.next (λ i entry blob e k some. (led i entry blob e k some).0)
 
 -- a ring with a committed page keeps its numbers
 pub any-one : (xs : List ℕ) (i : ℕ) → slice_get xs i ≡ Some 1 → list_any (nat_lt 0) xs ≡ true
@@ -108,26 +110,30 @@ held-old plan ring table void inside = blob_end-most table (oldest ring) (λ i e
 
 -- ---- what a mount keeps of the ring
 
-pub record IsMounting (plan : Plan) (table : Table) (ring : Ring) : Type 0 where
+-- .. and where no blob began on a void page, that none does
+pub record IsMounting (Left : Type 0) (plan : Plan) (table : Table) (ring : Ring) : Type 0 where
   pub is : table.var ≡ Some ring
   pub numbered : length ring.counts ≤ ring.next
-  pub inside : AreIn plan ring table.entries
+  pub led : AreLed plan ring table.entries
+  pub inside : Left → AreIn plan ring table.entries
   pub stand : BlobsOf plan table ring
 
-pub mounting-erased : (plan : Plan) (table : Table) (ring : Ring) → IsMounting plan table ring → IsMounting plan (with_ring VarRing erased table) (erased ring)
-mounting-erased plan table ring h = record {
+pub mounting-erased : (Left : Type 0) (plan : Plan) (table : Table) (ring : Ring) → IsMounting Left plan table ring → IsMounting Left plan (with_ring VarRing erased table) (erased ring)
+mounting-erased Left plan table ring h = record {
   is = ap (option_map erased) h.is;
   numbered = h.numbered;
+  led = h.led;
   inside = h.inside;
   stand = blobs-as plan table (with_ring VarRing erased table) ring (erased ring) (λ i entry e. (i, e)) (λ page. refl) (λ number. refl) h.stand;
 }
 
-pub mounting-voided : (plan : Plan) (table : Table) (ring : Ring) → IsShape (shape_of plan VarRing) → IsMounting plan table ring → IsMounting plan (seal_page plan VarRing 0 table) (sealed (shape_of plan VarRing) 0 ring)
-mounting-voided plan table ring shape h = record {
+pub mounting-voided : (Left : Type 0) (plan : Plan) (table : Table) (ring : Ring) → IsShape (shape_of plan VarRing) → IsMounting Left plan table ring → IsMounting Left plan (seal_page plan VarRing 0 table) (sealed (shape_of plan VarRing) 0 ring)
+mounting-voided Left plan table ring shape h = record {
   is = ap (option_map (sealed (shape_of plan VarRing) 0)) h.is;
   numbered = numbered-sealed (shape_of plan VarRing) 0 ring shape h.numbered;
-  inside = in-voided plan ring table.entries shape h.numbered h.inside;
-  stand = var-voided plan table ring shape h.is h.numbered h.inside h.stand;
+  led = led-voided plan ring table.entries shape h.numbered h.led;
+  inside = λ left. in-voided plan ring table.entries shape h.numbered (h.inside left);
+  stand = var-voided plan table ring shape h.is h.numbered h.led h.stand;
 }
 
 -- a ring whose pages are all void, with its numbers behind those that blobs name
@@ -135,8 +141,8 @@ abbrev behind_blobs : Plan → Table → Ring → Ring
 behind_blobs plan table ring = record ring { next = least_alike (plan.var_blocks * plan.geometry.block) ring.next (blob_end table + length ring.counts) }
 
 -- where all pages are void, no blob stands, and the numbers begin behind them
-pub mounting-renumbered : (plan : Plan) (table : Table) (ring : Ring) → IsMounting plan table ring → IsMounting plan (renumber plan VarRing table) (renumbered (shape_of plan VarRing) (blob_end table) ring)
-mounting-renumbered plan table ring h =
+pub mounting-renumbered : (Left : Type 0) (plan : Plan) (table : Table) (ring : Ring) → IsMounting Left plan table ring → IsMounting Left plan (renumber plan VarRing table) (renumbered (shape_of plan VarRing) (blob_end table) ring)
+mounting-renumbered Left plan table ring h =
     let is : (renumber plan VarRing table).var ≡ Some (renumbered (shape_of plan VarRing) (blob_end table) ring) = ap (option_map (renumbered (shape_of plan VarRing) (blob_end table))) h.is in
     by_any (list_any (nat_lt 0) ring.counts) refl is
   where
@@ -146,16 +152,20 @@ mounting-renumbered plan table ring h =
     below : (i : ℕ) (entry : Entry) (blob : List ℕ) → slice_get table.entries i ≡ Some entry → entry.kept.blob ≡ Some blob → 0 < length blob → entry.page < oldest (behind_blobs plan table ring)
     below i entry blob e k some = let lt = blob-below table i entry blob e k some in omega (arith, lt, higher)
 
-    by_any : (b : Bool) → list_any (nat_lt 0) ring.counts ≡ b → (renumber plan VarRing table).var ≡ Some (cond b ring (behind_blobs plan table ring)) → IsMounting plan (renumber plan VarRing table) (cond b ring (behind_blobs plan table ring))
+    by_any : (b : Bool) → list_any (nat_lt 0) ring.counts ≡ b → (renumber plan VarRing table).var ≡ Some (cond b ring (behind_blobs plan table ring)) → IsMounting Left plan (renumber plan VarRing table) (cond b ring (behind_blobs plan table ring))
     by_any true e is = record {
       is = is;
       numbered = h.numbered;
+      led = h.led;
       inside = h.inside;
       stand = blobs-as plan table (renumber plan VarRing table) ring ring (λ i entry e. (i, e)) (λ page. refl) (λ number. refl) h.stand;
     }
     by_any false e is = record {
       is = is;
       numbered = omega (arith, higher);
-      inside = λ i entry blob e k some. inl (below i entry blob e k some);
+      led = λ i entry blob e k some.
+          let lt = below i entry blob e k some in
+          (omega (arith, lt), λ here. absurd (false≢true (sym (stands-not (behind_blobs plan table ring) entry.page lt) ∙ here)));
+      inside = λ left i entry blob e k some. inl (below i entry blob e k some);
       stand = blobs-none plan (renumber plan VarRing table) (behind_blobs plan table ring) (λ i entry blob e k some. below i entry blob e k some);
     }

@@ -1,12 +1,13 @@
 -- The mount of the data ring, in the words of its table.
-use Rattle.std.proofs.Common.{◌≡◌, ℕ, ◌+◌, ◌-◌, ◌*◌, ◌≤◌, Bool, true, false, cond, ◌||◌, ◌&&◌, nat_lt, Option, None, is_some, Result, List, [], ◌∷◌, ◌++◌, map, length, take, drop, refl, sym, ◌∙◌, ap, subst, arith, IsTrue}
+use Rattle.std.proofs.Common.{◌≡◌, ℕ, ◌+◌, ◌-◌, ◌*◌, ◌≤◌, Bool, true, false, cond, ◌||◌, ◌&&◌, nat_lt, Option, Some, None, is_some, Result, List, [], ◌∷◌, ◌++◌, map, length, take, drop, refl, sym, ◌∙◌, ap, subst, arith, IsTrue}
 use Rattle.std.proofs.lemmas.Bool.{ltb-true, ltb-false}
 use Rattle.std.proofs.lemmas.List.{take_all}
-use Rattle.std.specs.List.{list_any}
+use Rattle.std.specs.List.{list_any, slice_get, sum}
 use Rattle.fl_flash.specs.Flash.{FlashState}
 use Rattle.fl_flash.specs.declared.flash.FlashFault.{FlashFault}
 use Rattle.fl_model.specs.Record.{Plan}
 use Rattle.fl_model.specs.Ring as model
+use Rattle.fl_model.specs.Ring.{given_up}
 use Rattle.fl_model.specs.Index.{IndexEntry}
 use Rattle.fl_model.specs.Table.{Table, Entry, DataRing, shape_of, with_ring, seal_page, lose, is_dirty}
 use Rattle.fl_model.specs.Work.{Kind, Body, Mark, VoidMark, Erase, effect, Device}
@@ -14,12 +15,15 @@ use Rattle.fl_model.specs.Within.{repair_within}
 use Rattle.fl_model.specs.Mount.{renumber, at_least_of}
 use Rattle.fl_model.specs.Mount as numbering
 use Rattle.fl_model.proofs.Pages.{page_with, pages_from}
-use Rattle.fl_table.proofs.Plain.{IsPlainTable, plain-void, plain-erase}
+use Rattle.fl_table.proofs.Loose.{IsLoose}
+use Rattle.fl_table.proofs.MountKeeps.{loose-void, loose-erase, plain-void}
+use Rattle.fl_table.proofs.Plain.{IsPlainTable, plain-erase}
 use Rattle.fl_ring.specs.Operations.{change, repair_kinds}
 use Rattle.fl_ring.specs.Numbers.{renumbered}
 use Rattle.fl_ring.specs.Ring.{RingState, voided, unerased, erased}
 use Rattle.fl_ring.specs.Sealing.{Performed}
 use Rattle.fl_table.proofs.States.{shape_in, state_of, state-count, page-some}
+use Rattle.fl_table.proofs.VarFacts.{rest-of}
 use Rattle.fl_table.proofs.Sealed.{state-voided, state-erased}
 use Rattle.fl_table.proofs.RingInTable.{of_rows, TablePerformed, performed-lifts, AreErases}
 
@@ -105,6 +109,13 @@ pub record IsRepaired (table now : Table) : Type 0 where
   pub index_pages : now.index_pages ≡ table.index_pages
   pub var : now.var ≡ table.var
   pub var_pages : now.var_pages ≡ table.var_pages
+  -- each record that it has the table had
+  pub left : (i : ℕ) (entry : Entry) → slice_get now.entries i ≡ Some entry → (j : ℕ) × (slice_get table.entries j ≡ Some entry)
+
+-- the facts on which a mount rests hold of a table, and all facts where they did
+pub record IsHeld (Left : Type 0) (plan : Plan) (table : Table) : Type 0 where
+  pub loose : IsLoose plan table
+  pub plain : Left → IsPlainTable plan table
 
 -- the repairs that are left
 abbrev pub RepairsCome : List Kind → Table → Type 0
@@ -114,9 +125,9 @@ RepairsCome (Erase ∷ kinds) table = AreErases kinds
 RepairsCome (Body ∷ kinds) table = ⊥
 RepairsCome (Mark ∷ kinds) table = ⊥
 
-pub record IsRepairOf (first : Table) (plan : Plan) (kinds : List Kind) (s : RingState) (table : Table) : Type 0 where
+pub record IsRepairOf (Left : Type 0) (first : Table) (plan : Plan) (kinds : List Kind) (s : RingState) (table : Table) : Type 0 where
   pub state : s ≡ state_of plan (lose table)
-  pub facts : IsPlainTable plan table
+  pub facts : IsHeld Left plan table
   pub repaired : IsRepaired first table
   pub come : RepairsCome kinds table
 
@@ -132,23 +143,28 @@ not_dirty true true e h = absurd (h refl)
 not_dirty true false e h = refl
 not_dirty false d e h = cc
 
-repair-along : (begin : Table) (first : ℕ) (plan : Plan) → model.IsShape (shape_of plan DataRing) → (kind : Kind) (kinds : List Kind) (s : RingState) (table : Table) →
-    IsRepairOf begin plan (kind ∷ kinds) s table → IsRepairOf begin plan kinds (change (shape_in first plan) [] kind s) (effect plan DataRing kind table)
-repair-along begin first plan shape Body kinds s table r = absurd r.come
-repair-along begin first plan shape Mark kinds s table r = absurd r.come
-repair-along begin first plan shape VoidMark kinds s table r =
+repair-along : (Left : Type 0) (begin : Table) (first : ℕ) (plan : Plan) → model.IsShape (shape_of plan DataRing) → (kind : Kind) (kinds : List Kind) (s : RingState) (table : Table) →
+    IsRepairOf Left begin plan (kind ∷ kinds) s table → IsRepairOf Left begin plan kinds (change (shape_in first plan) [] kind s) (effect plan DataRing kind table)
+repair-along Left begin first plan shape Body kinds s table r = absurd r.come
+repair-along Left begin first plan shape Mark kinds s table r = absurd r.come
+repair-along Left begin first plan shape VoidMark kinds s table r =
     let after = seal_page plan DataRing 0 table in
+    let clean = not_dirty table.rows.torn table.rows.dirty r.come.0 (λ b. r.facts.loose.rows.not_both (as_and table.rows.torn table.rows.dirty b)) in
     let idle : IsIdle after = record { pending = r.repaired.idle.pending; buffered = r.repaired.idle.buffered; waiting = r.repaired.idle.waiting; points = r.repaired.idle.points } in
     record {
       state = ap (voided (shape_in first plan)) (r.state ∙ ap (state_of plan) (sym (idle-lost table r.repaired.idle)))
-          ∙ (state-voided first plan table shape r.facts.rows.not_negative ∙ ap (state_of plan) (idle-lost after idle));
-      facts = plain-void plan table shape r.facts r.repaired.idle.pending r.repaired.idle.waiting r.come.0 (not_dirty table.rows.torn table.rows.dirty r.come.0 (λ b. r.facts.rows.not_both (as_and table.rows.torn table.rows.dirty b)));
+          ∙ (state-voided first plan table shape r.facts.loose.rows.not_negative ∙ ap (state_of plan) (idle-lost after idle));
+      facts = record {
+        loose = loose-void plan table shape r.facts.loose r.repaired.idle.pending r.repaired.idle.waiting r.come.0 clean;
+        plain = λ left. plain-void plan table shape (r.facts.plain left) r.repaired.idle.pending r.repaired.idle.waiting r.come.0 clean;
+      };
       repaired = record {
         idle = idle;
         index = r.repaired.index;
         index_pages = r.repaired.index_pages;
         var = r.repaired.var;
         var_pages = r.repaired.var_pages;
+        left = λ i entry e. let k = rest-of (sum (given_up (shape_of plan DataRing) 0 table.rows)) table.entries i entry e in r.repaired.left k.0 entry k.1;
       };
       come = erases_come kinds after r.come.1;
     }
@@ -156,15 +172,16 @@ repair-along begin first plan shape VoidMark kinds s table r =
     as_and : (t d : Bool) → cond t d false ≡ true → (t && d) ≡ true
     as_and true d e = e
     as_and false d e = cc
-repair-along begin first plan shape Erase kinds s table r = record {
+repair-along Left begin first plan shape Erase kinds s table r = record {
   state = ap erased r.state ∙ state-erased plan table;
-  facts = plain-erase plan table r.facts;
+  facts = record { loose = loose-erase plan table r.facts.loose; plain = λ left. plain-erase plan table (r.facts.plain left) };
   repaired = record {
     idle = record { pending = r.repaired.idle.pending; buffered = r.repaired.idle.buffered; waiting = r.repaired.idle.waiting; points = r.repaired.idle.points };
     index = r.repaired.index;
     index_pages = r.repaired.index_pages;
     var = r.repaired.var;
     var_pages = r.repaired.var_pages;
+    left = r.repaired.left;
   };
   come = erases_come kinds (with_ring DataRing model.erased table) r.come;
 }
@@ -210,15 +227,15 @@ repair-kinds first plan table shape known =
     dirt false = refl
 
 -- a front of the repairs
-pub repair-lifts : (first : ℕ) (plan : Plan) (table : Table) (rose : Bool) (front others : List Kind) (device : Device) (result : Result (Unit {0}) FlashFault) (new : FlashState) →
-    model.IsShape (shape_of plan DataRing) → IsPlainTable plan table → IsIdle table → repair_kinds (shape_in first plan) (state_of plan table) ≡ front ++ others →
+pub repair-lifts : (Left : Type 0) (first : ℕ) (plan : Plan) (table : Table) (rose : Bool) (front others : List Kind) (device : Device) (result : Result (Unit {0}) FlashFault) (new : FlashState) →
+    model.IsShape (shape_of plan DataRing) → IsHeld Left plan table → IsIdle table → repair_kinds (shape_in first plan) (state_of plan table) ≡ front ++ others →
     (h : Performed (shape_in first plan) (change (shape_in first plan) []) rose front device (state_of plan table) result new) →
-    TablePerformed (IsRepaired table) first plan (map of_rows front) table rose device result new h.now.state
-repair-lifts first plan table rose front others device result new shape facts idle split h =
-    performed-lifts (IsRepaired table) first plan [] (IsRepairOf table plan) (repair-along table first plan shape) (λ kinds s t r. (r.state, r.facts, r.repaired)) rose front device (state_of plan table) table result new
+    TablePerformed (IsHeld Left plan) (IsRepaired table) first plan (map of_rows front) table rose device result new h.now.state
+repair-lifts Left first plan table rose front others device result new shape facts idle split h =
+    performed-lifts (IsHeld Left plan) (IsRepaired table) first plan [] (IsRepairOf Left table plan) (repair-along Left table first plan shape) (λ kinds s t r. (r.state, r.facts, r.repaired)) rose front device (state_of plan table) table result new
     (record {
       state = ap (state_of plan) (idle-lost table idle);
       facts = facts;
-      repaired = record { idle = idle; index = refl; index_pages = refl; var = refl; var_pages = refl };
+      repaired = record { idle = idle; index = refl; index_pages = refl; var = refl; var_pages = refl; left = λ i entry e. (i, e) };
       come = repairs_front front others table (subst (λ (ks : List Kind). RepairsCome ks table) split (repairs_come first plan table));
     }) h

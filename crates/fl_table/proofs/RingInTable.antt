@@ -120,23 +120,23 @@ TableAnswers (CutIn before) result new = IsErrOf result PowerLost × (new.is_on 
 TableAnswers (FailedIn before) result new = IsErrOf result Media × (new.is_on ≡ true)
 
 -- operations of a table were done in order, until one failed, and the flash stands for the table that this leaves
-pub record TablePerformed (Q : Table → Type 0) (first : ℕ) (plan : Plan) (operations : List (RingName × Kind)) (table : Table) (rose : Bool) (device : Device) (result : Result (Unit {0}) FlashFault) (new : FlashState) (left : RingState) : Type 0 where
+pub record TablePerformed (Facts Q : Table → Type 0) (first : ℕ) (plan : Plan) (operations : List (RingName × Kind)) (table : Table) (rose : Bool) (device : Device) (result : Result (Unit {0}) FlashFault) (new : FlashState) (left : RingState) : Type 0 where
   pub now : PartProgress Table
   pub did : TablePerforms plan rose operations device table now
   pub answer : TableAnswers now.end result new
   pub counts : SameDevice new now.device
-  pub facts : IsPlainTable plan now.state
+  pub facts : Facts now.state
   pub left_is : left ≡ state_of plan (lose now.state)
   pub on : OnRing (shape_in first plan) (page_at new) (state_of plan (lose now.state))
   pub more : Q now.state
 
 -- the same operations of the ring and of its table, where each keeps a relation between their states
-module _ (Q : Table → Type 0) (first : ℕ) (plan : Plan) (body : List ℕ) (R : List Kind → RingState → Table → Type 0)
+module _ (Facts Q : Table → Type 0) (first : ℕ) (plan : Plan) (body : List ℕ) (R : List Kind → RingState → Table → Type 0)
     (step : (kind : Kind) (kinds : List Kind) (s : RingState) (table : Table) → R (kind ∷ kinds) s table → R kinds (change (shape_in first plan) body kind s) (effect plan DataRing kind table))
-    (known : (kinds : List Kind) (s : RingState) (table : Table) → R kinds s table → (s ≡ state_of plan (lose table)) × IsPlainTable plan table × Q table) where
+    (known : (kinds : List Kind) (s : RingState) (table : Table) → R kinds s table → (s ≡ state_of plan (lose table)) × Facts table × Q table) where
   pub performed-lifts : (rose : Bool) (kinds : List Kind) (device : Device) (s : RingState) (table : Table) (result : Result (Unit {0}) FlashFault) (new : FlashState) → R kinds s table →
       (h : Performed (shape_in first plan) (change (shape_in first plan) body) rose kinds device s result new) →
-      TablePerformed Q first plan (map of_rows kinds) table rose device result new h.now.state
+      TablePerformed Facts Q first plan (map of_rows kinds) table rose device result new h.now.state
   performed-lifts rose kinds device s table result new r h =
       let along = performs-along R (λ kind. kind) (change (shape_in first plan) body) (effect plan DataRing) step rose kinds device s table h.now r h.did in
       let e = ends h.now.end along.other.end h.now.state along.other.state along.ends h.answer in
@@ -152,7 +152,7 @@ module _ (Q : Table → Type 0) (first : ℕ) (plan : Plan) (body : List ℕ) (R
       }
     where
       ends : (a : PartEnd RingState) (b : PartEnd Table) (x : RingState) (t : Table) → EndsAlong R a b x t → AnswersEnd a result new →
-          (x ≡ state_of plan (lose t)) × IsPlainTable plan t × Q t × TableAnswers b result new
+          (x ≡ state_of plan (lose t)) × Facts t × Q t × TableAnswers b result new
       ends Whole Whole x t e a = let k = known [] x t e in (k.0, k.1, k.2, a)
       ends (CutIn s') (CutIn t') x t e a = let k = known e.1.0 x t e.1.1 in (k.0, k.1, k.2, a)
       ends (FailedIn s') (FailedIn t') x t e a = let k = known e.1.0 x t e.1.1 in (k.0, k.1, k.2, a)
@@ -167,10 +167,10 @@ module _ (Q : Table → Type 0) (first : ℕ) (plan : Plan) (body : List ℕ) (R
 pub seal-lifts : (page : ℕ → List ℕ) (first : ℕ) (plan : Plan) (body : List ℕ) (table : Table) (rose : Bool) (device : Device) (result : Result (Unit {0}) FlashFault) (new : FlashState) →
     model.IsShape (shape_of plan DataRing) → IsPlainTable plan table → MakesBody plan body table → HoldsOthers page first plan table →
     (h : Performed (shape_in first plan) (change (shape_in first plan) body) rose (seal_kinds (shape_in first plan) (state_of plan (lose table)) body) device (state_of plan (lose table)) result new) →
-    TablePerformed (HoldsOthers page first plan) first plan (seal_within plan DataRing table) table rose device result new h.now.state
+    TablePerformed (IsPlainTable plan) (HoldsOthers page first plan) first plan (seal_within plan DataRing table) table rose device result new h.now.state
 seal-lifts page first plan body table rose device result new shape facts makes others h =
-    subst (λ (ops : List (RingName × Kind)). TablePerformed (HoldsOthers page first plan) first plan ops table rose device result new h.now.state) (kinds_are (sealed (shape_in first plan) (state_of plan (lose table)) body).dirty refl)
-    (performed-lifts (HoldsOthers page first plan) first plan body (IsRingOf page first plan body) (step-along page first plan body shape) (λ kinds s t r. (r.state, r.facts, r.others)) rose
+    subst (λ (ops : List (RingName × Kind)). TablePerformed (IsPlainTable plan) (HoldsOthers page first plan) first plan ops table rose device result new h.now.state) (kinds_are (sealed (shape_in first plan) (state_of plan (lose table)) body).dirty refl)
+    (performed-lifts (IsPlainTable plan) (HoldsOthers page first plan) first plan body (IsRingOf page first plan body) (step-along page first plan body shape) (λ kinds s t r. (r.state, r.facts, r.others)) rose
     (seal_kinds (shape_in first plan) (state_of plan (lose table)) body) device (state_of plan (lose table)) table result new
     (record { state = refl; facts = facts; others = others; come = (makes, erases (sealed (shape_in first plan) (state_of plan (lose table)) body).dirty) }) h)
   where

@@ -10,7 +10,7 @@ use Rattle.fl_model.specs.Row.{Row, stored_row}
 use Rattle.fl_model.specs.Layout.{data_body, rows_body, bitmap_of}
 use Rattle.fl_model.specs.Table.{Table, DataRing, shape_of, pending_entries, lose}
 use Rattle.fl_table.specs.Blobs.{AreEmpty}
-use Rattle.fl_table.proofs.Plain.{table-parts, plain-lose}
+use Rattle.fl_table.proofs.Plain.{table-parts}
 use Rattle.fl_table.proofs.BlobsOfTable as blobbing
 use Rattle.fl_table.proofs.BlobsOnPages.{settled-pages}
 use Rattle.fl_table.proofs.IndexOfTable.{still-planned, plan-same, plan-then, planned-none, room-left}
@@ -156,7 +156,7 @@ pub seal-ready : {KNOTS SLOTS : ℕ} (t : code.Table KNOTS SLOTS) (f : FlashStat
 seal-ready t f first plan table ring s is shape sizes =
     let facts = table-parts plan table s.planned.log s.facts in
     let same : s.memory.ring ≡ ring = one_ring (sym s.memory.ring_is ∙ is) in
-    let on = plain-on (page_at f) first plan (lose table) sizes (planned-large t first plan s.planned) (plain-lose plan table facts) s.pages in
+    let on = plain-on (page_at f) first plan (lose table) sizes (planned-large t first plan s.planned) facts.rows s.pages in
     record {
       stands = record {
         next = subst (λ (r : Ring). r.next ≡ table.rows.next) same s.memory.next;

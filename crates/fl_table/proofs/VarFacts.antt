@@ -16,7 +16,7 @@ use Rattle.fl_model.proofs.BlobsStay.{blobs-sealed}
 use Rattle.fl_model.proofs.FullPages.{full-append, full-one, full-split, full-dropped, full-pushed}
 use Rattle.fl_model.proofs.Lists.{slice_get-drop, slice_get-left, slice_get-last, slice_get-front, slice_get-push}
 use Rattle.fl_model.proofs.StandingPages.{is_one, stands-behind, stands-not, stands-count, stands-kept, kept-stands}
-use Rattle.fl_table.specs.Blobs.{AreIn, ArePlaced}
+use Rattle.fl_table.specs.Blobs.{AreIn, AreLed, ArePlaced}
 
 -- ---- blobs that a table holds
 
@@ -101,6 +101,16 @@ module _ (ring : Ring) (c gone : ℕ) (numbered : length ring.counts ≤ ring.ne
       by_page entry blob (inr ge) (inl lt) = absurd (omega (arith, ge, lt, old_is))
       by_page entry blob (inr ge) (inr was) = inr (ge, count-same entry.page ge (omega (arith, was.2)) ∙ was.1, omega (arith, was.2, next))
 
+  led-after : (plan : Plan) (entries : List Entry) → AreLed plan ring entries → AreLed plan after entries
+  led-after plan entries h = λ i entry blob e k some.
+      let w = h i entry blob e k some in
+      (omega (arith, w.0, next), λ here. by_page entry blob w here (cases_lt entry.page (oldest after)))
+    where
+      by_page : (entry : Entry) (blob : List ℕ) → (entry.page < ring.next) × (page_stands ring entry.page ≡ true → entry.page + reach_of plan entry blob < ring.next) → page_stands after entry.page ≡ true →
+          (entry.page < oldest after) ⊎ (oldest after ≤ entry.page) → entry.page + reach_of plan entry blob < after.next
+      by_page entry blob w here (inl lt) = absurd (false≢true (sym (stands-not after entry.page lt) ∙ here))
+      by_page entry blob w here (inr ge) = let reach = w.1 (sym (stands-same entry.page ge w.0) ∙ here) in omega (arith, reach, next)
+
   -- .. where the new page isn't void
   placed-after : c ≡ 1 → (entries : List Entry) → ArePlaced ring entries → ArePlaced after entries
   placed-after one entries h = λ i entry blob e k some. by_page entry (cases_lt entry.page (oldest after)) (h i entry blob e k some)
@@ -120,11 +130,11 @@ module _ (ring : Ring) (c gone : ℕ) (numbered : length ring.counts ≤ ring.ne
       by_page entry (inr ge) (inr stands) = inr (by_number entry.page ge stands (cases_lt entry.page ring.next))
 
   -- what stands in the pages goes on to stand there, where those of the oldest ones go
-  blobs-after : (plan : Plan) (table new : Table) → new.entries ≡ table.entries → new.var_pages ≡ drop (full_pages (take gone (ring.counts ++ c ∷ []))) table.var_pages → AreIn plan ring table.entries →
+  blobs-after : (plan : Plan) (table new : Table) → new.entries ≡ table.entries → new.var_pages ≡ drop (full_pages (take gone (ring.counts ++ c ∷ []))) table.var_pages → AreLed plan ring table.entries →
       BlobsOf plan table ring → BlobsOf plan new after
-  blobs-after plan table new entries pages inside blobs = λ i entry blob e k some here.
+  blobs-after plan table new entries pages led blobs = λ i entry blob e k some here.
       let at : slice_get table.entries i ≡ Some entry = ap (λ (es : List Entry). slice_get es i) (sym entries) ∙ e in
-      by_place entry blob here (blobs i entry blob at k some) (inside i entry blob at k some)
+      by_place entry blob here (blobs i entry blob at k some) (led i entry blob at k some) (cases_lt entry.page (oldest after))
     where
       same : (number : ℕ) → oldest after ≤ number → number < ring.next → content_at plan new after number ≡ content_at plan table ring number
       same number low high =
@@ -142,12 +152,12 @@ module _ (ring : Ring) (c gone : ℕ) (numbered : length ring.counts ≤ ring.ne
           ∙ sym (ap (content_by plan table ring number) (lt-ltb number ring.next high))))
 
       by_place : (entry : Entry) (blob : List ℕ) → page_stands after entry.page ≡ true → (page_stands ring entry.page ≡ true → HoldsBlob plan table ring entry blob) →
-          (entry.page < oldest ring) ⊎ ((oldest ring ≤ entry.page) × (slice_get ring.counts (entry.page - oldest ring) ≡ Some 1) × (entry.page + reach_of plan entry blob < ring.next)) → HoldsBlob plan new after entry blob
-      by_place entry blob here held (inl lt) = absurd (false≢true (sym (stands-not after entry.page (omega (arith, lt, old_is))) ∙ here))
-      by_place entry blob here held (inr w) = elim (cases_lt entry.page (oldest after)) [
-        | inl lt ↦ absurd (false≢true (sym (stands-not after entry.page lt) ∙ here))
-        | inr ge ↦ held-as plan table new ring after entry blob (λ j le. same (entry.page + j) (omega (arith, ge)) (omega (arith, le, w.2))) (held (stands-kept ring entry.page w.0 w.1))
-      ]
+          (entry.page < ring.next) × (page_stands ring entry.page ≡ true → entry.page + reach_of plan entry blob < ring.next) → (entry.page < oldest after) ⊎ (oldest after ≤ entry.page) → HoldsBlob plan new after entry blob
+      by_place entry blob here held w (inl lt) = absurd (false≢true (sym (stands-not after entry.page lt) ∙ here))
+      by_place entry blob here held w (inr ge) =
+          let stands : page_stands ring entry.page ≡ true = sym (stands-same entry.page ge w.0) ∙ here in
+          let reach = w.1 stands in
+          held-as plan table new ring after entry blob (λ j le. same (entry.page + j) (omega (arith, ge)) (omega (arith, le, reach))) (held stands)
 
 -- so many pages go where one is sealed
 pub record Goes (shape : Shape) (c : ℕ) (ring : Ring) : Type 0 where
@@ -261,17 +271,22 @@ var-sealed plan table ring shape h = record {
         omega (arith, long, left, split, old, front, whole, one, went_is, h.each, ap full_pages g.counts)
 
 -- a torn page is voided, where no byte waits
-pub var-voided : (plan : Plan) (table : Table) (ring : Ring) → IsShape (shape_of plan VarRing) → table.var ≡ Some ring → length ring.counts ≤ ring.next → AreIn plan ring table.entries → BlobsOf plan table ring →
+pub var-voided : (plan : Plan) (table : Table) (ring : Ring) → IsShape (shape_of plan VarRing) → table.var ≡ Some ring → length ring.counts ≤ ring.next → AreLed plan ring table.entries → BlobsOf plan table ring →
     BlobsOf plan (seal_page plan VarRing 0 table) (sealed (shape_of plan VarRing) 0 ring)
-var-voided plan table ring shape is numbered inside blobs =
+var-voided plan table ring shape is numbered led blobs =
     let g = goes-sealed (shape_of plan VarRing) 0 ring shape in
     blobs-after ring 0 g.gone numbered g.few (sealed (shape_of plan VarRing) 0 ring) g.counts g.next plan table (seal_page plan VarRing 0 table) refl
-    (ap (λ n. drop n table.var_pages) (ap (λ (o : Option Ring). full_pages (unwrap_or (option_map (given_up (shape_of plan VarRing) 0) o) [])) is ∙ g.given)) inside blobs
+    (ap (λ n. drop n table.var_pages) (ap (λ (o : Option Ring). full_pages (unwrap_or (option_map (given_up (shape_of plan VarRing) 0) o) [])) is ∙ g.given)) led blobs
 
 pub in-voided : (plan : Plan) (ring : Ring) (entries : List Entry) → IsShape (shape_of plan VarRing) → length ring.counts ≤ ring.next → AreIn plan ring entries → AreIn plan (sealed (shape_of plan VarRing) 0 ring) entries
 in-voided plan ring entries shape numbered inside =
     let g = goes-sealed (shape_of plan VarRing) 0 ring shape in
     in-after ring 0 g.gone numbered g.few (sealed (shape_of plan VarRing) 0 ring) g.counts g.next plan entries inside
+
+pub led-voided : (plan : Plan) (ring : Ring) (entries : List Entry) → IsShape (shape_of plan VarRing) → length ring.counts ≤ ring.next → AreLed plan ring entries → AreLed plan (sealed (shape_of plan VarRing) 0 ring) entries
+led-voided plan ring entries shape numbered led =
+    let g = goes-sealed (shape_of plan VarRing) 0 ring shape in
+    led-after ring 0 g.gone numbered g.few (sealed (shape_of plan VarRing) 0 ring) g.counts g.next plan entries led
 
 pub numbered-sealed : (shape : Shape) (c : ℕ) (ring : Ring) → IsShape shape → length ring.counts ≤ ring.next → length (sealed shape c ring).counts ≤ (sealed shape c ring).next
 numbered-sealed shape c ring is numbered = let g = goes-sealed shape c ring is in numbered-after ring c g.gone numbered g.few (sealed shape c ring) g.counts g.next
@@ -359,16 +374,21 @@ in-placed plan table ring empty placed blobs = λ i entry blob e k some. by_plac
         let first = kept-stands ring entry.page (omega (arith, last)) stands in
         inr (first.0, first.1, last)
 
--- .. and the end of all of them is the next number at most
-pub in-below : (plan : Plan) (ring : Ring) (entries : List Entry) → length ring.counts ≤ ring.next → AreIn plan ring entries → (i : ℕ) (entry : Entry) (blob : List ℕ) → slice_get entries i ≡ Some entry → entry.kept.blob ≡ Some blob → 0 < length blob → entry.page < ring.next
-in-below plan ring entries numbered h i entry blob e k some = elim (h i entry blob e k some) [
-  | inl lt ↦ omega (arith, lt)
-  | inr w ↦ omega (arith, w.2)
-]
+-- .. and begins on one that was written
+pub in-led : (plan : Plan) (ring : Ring) (entries : List Entry) → length ring.counts ≤ ring.next → AreIn plan ring entries → AreLed plan ring entries
+in-led plan ring entries numbered h = λ i entry blob e k some. by_place entry blob (h i entry blob e k some)
+  where
+    by_place : (entry : Entry) (blob : List ℕ) → (entry.page < oldest ring) ⊎ ((oldest ring ≤ entry.page) × (slice_get ring.counts (entry.page - oldest ring) ≡ Some 1) × (entry.page + reach_of plan entry blob < ring.next)) →
+        (entry.page < ring.next) × (page_stands ring entry.page ≡ true → entry.page + reach_of plan entry blob < ring.next)
+    by_place entry blob (inl lt) = (omega (arith, lt), λ here. absurd (false≢true (sym (stands-not ring entry.page lt) ∙ here)))
+    by_place entry blob (inr w) = (omega (arith, w.2), λ here. w.2)
 
 -- some of the records
 pub in-some : (plan : Plan) (ring : Ring) (entries others : List Entry) → ((i : ℕ) (entry : Entry) → slice_get others i ≡ Some entry → (j : ℕ) × (slice_get entries j ≡ Some entry)) → AreIn plan ring entries → AreIn plan ring others
 in-some plan ring entries others within h = λ i entry blob e k some. let w = within i entry e in h w.0 entry blob w.1 k some
+
+pub led-some : (plan : Plan) (ring : Ring) (entries others : List Entry) → ((i : ℕ) (entry : Entry) → slice_get others i ≡ Some entry → (j : ℕ) × (slice_get entries j ≡ Some entry)) → AreLed plan ring entries → AreLed plan ring others
+led-some plan ring entries others within h = λ i entry blob e k some. let w = within i entry e in h w.0 entry blob w.1 k some
 
 pub placed-some : (ring : Ring) (entries others : List Entry) → ((i : ℕ) (entry : Entry) → slice_get others i ≡ Some entry → (j : ℕ) × (slice_get entries j ≡ Some entry)) → ArePlaced ring entries → ArePlaced ring others
 placed-some ring entries others within h = λ i entry blob e k some. let w = within i entry e in h w.0 entry blob w.1 k some

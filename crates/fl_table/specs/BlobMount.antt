@@ -4,6 +4,7 @@ use Rattle.fl_flash.specs.Flash.{FlashState}
 use Rattle.fl_model.specs.Agrees.{BlobsOf}
 use Rattle.fl_model.specs.Mount.{renumber, blob_end}
 use Rattle.fl_model.specs.Record.{Plan}
+use Rattle.fl_model.specs.Ring.{Ring, oldest}
 use Rattle.fl_model.specs.Table.{Table, VarRing}
 use Rattle.fl_model.specs.Within.{TablePerforms, repair_within}
 use Rattle.fl_model.specs.Work.{Device, Whole, PartProgress}
@@ -18,27 +19,34 @@ use Rattle.fl_table.specs.BlobEnds.{least_of}
 use Rattle.fl_table.specs.Causes.{of_ring}
 use Rattle.fl_table.specs.declared.faults.MountFault.{MountFault}
 use Rattle.fl_table.specs.declared.faults.MountFault.TheVariants as mount
-use Rattle.fl_table.specs.Blobs.{IsPlanned, IsStanding, AreIn}
+use Rattle.fl_table.specs.Blobs.{IsPlanned, AreIn, AreLed, ArePlaced}
+use Rattle.fl_table.specs.Mountable.{AreVoid}
 use Rattle.fl_var.specs.Memory.{next_in, var_shape}
 use Rattle.fl_var.specs.Mounting as mounting
 use Rattle.fl_var.specs.Mounting.{MountsBadly}
+use Rattle.fl_var.specs.Standing as standing
 use Rattle.fl_var.specs.declared.var_data.VarData.{VarData}
 
--- a flash stands for the variable data of a table that isn't mounted, which has the blobs that weren't given up in its pages
+-- a flash stands for the variable data of a table that isn't mounted, which has the blobs that stand in its pages
 pub record Rests (var : VarData) (f : FlashState) (first : ℕ) (plan : Plan) (table : Table) : Type 0 where
   pub planned : IsPlanned var first plan
   pub in_pages : mounting.Rests var f plan table
-  pub all : AreIn plan in_pages.ring table.entries
+  pub led : AreLed plan in_pages.ring table.entries
+  -- blobs begin before pages that are all void
+  pub void : AreVoid in_pages.ring.counts → blob_end table ≤ oldest in_pages.ring
   pub stand : BlobsOf plan table in_pages.ring
 
--- It ended well: the ring has its numbers and is repaired, and each blob begins on a page before the next one.
+-- It ended well: the ring has its numbers and is repaired, and each blob begins on a page before the next one. Where none began on a
+-- void page, none does.
 pub record MountsWell (first : ℕ) (plan : Plan) (table : Table) (rose : Bool) (device : Device) (var : VarData) (new : FlashState) : Type 0 where
   pub now : PartProgress Table
   pub did : TablePerforms plan rose (repair_within plan VarRing (renumber plan VarRing table)) device (renumber plan VarRing table) now
   pub whole : now.end ≡ Whole
   pub counts : SameDevice new now.device
   pub power : new.is_on ≡ true
-  pub stands : IsStanding var new first plan now.state
+  pub planned : IsPlanned var first plan
+  pub in_pages : standing.Stands var new plan now.state
+  pub placed : (ring : Ring) → table.var ≡ Some ring → AreIn plan ring table.entries → ArePlaced in_pages.ring.ring now.state.entries
   pub below : blob_end table ≤ next_in var
 
 abbrev pub MountEnds : ℕ → Plan → Table → Bool → Device → VarData → Result (Unit {0}) RingFault → VarData → FlashState → Type 0

@@ -113,6 +113,12 @@ AreIn plan ring entries =
     (i : ℕ) (entry : Entry) (blob : List ℕ) → slice_get entries i ≡ Some entry → entry.kept.blob ≡ Some blob → 0 < length blob →
     (entry.page < oldest ring) ⊎ ((oldest ring ≤ entry.page) × (slice_get ring.counts (entry.page - oldest ring) ≡ Some 1) × (entry.page + reach_of plan entry blob < ring.next))
 
+-- .. or begins on a page that was written, and where that page stands, all pages of the blob were: it may have become a void one
+abbrev pub AreLed : Plan → Ring → List Entry → Type 0
+AreLed plan ring entries =
+    (i : ℕ) (entry : Entry) (blob : List ℕ) → slice_get entries i ≡ Some entry → entry.kept.blob ≡ Some blob → 0 < length blob →
+    (entry.page < ring.next) × (page_stands ring entry.page ≡ true → entry.page + reach_of plan entry blob < ring.next)
+
 -- .. or begins on a page that is kept or to come
 abbrev pub ArePlaced : Ring → List Entry → Type 0
 ArePlaced ring entries =
@@ -124,6 +130,11 @@ pub record IsStanding (var : VarData) (f : FlashState) (first : ℕ) (plan : Pla
   pub planned : IsPlanned var first plan
   pub in_pages : standing.Stands var f plan table
   pub placed : ArePlaced in_pages.ring.ring table.entries
+
+-- .. but for where its blobs begin
+abbrev pub StandInPages : Option VarData → FlashState → ℕ → Plan → Table → Type 0
+StandInPages None f first plan table = table.buffered ≡ []
+StandInPages (Some var) f first plan table = IsPlanned var first plan × standing.Stands var f plan table
 
 -- where there is no variable data, no byte waits
 abbrev pub Stand : Option VarData → FlashState → ℕ → Plan → Table → Type 0

@@ -7,6 +7,7 @@ pub mod Memory
 pub mod Stored
 pub mod Refusal
 pub mod Standing
+pub mod Mountable
 pub mod Entries
 pub mod Skipping
 pub mod Accepting

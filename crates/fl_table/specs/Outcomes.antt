@@ -21,11 +21,12 @@ use Rattle.fl_table.specs.declared.faults.MountFault.{MountFault}
 use Rattle.fl_table.specs.declared.faults.MountFault.TheVariants as mount
 use Rattle.fl_table.specs.declared.counts.Mounted.{Mounted}
 use Rattle.fl_table.specs.declared.mount.FoundRows.{FoundRows}
-use Rattle.fl_model.specs.Facts.{IsTable}
+use Rattle.fl_model.specs.Facts.{IsTable, IsSettled}
 use Rattle.fl_table.specs.Bitmaps.{Stand}
 use Rattle.fl_table.specs.Memory.{IsPlanned, HoldsInMemory}
-use Rattle.fl_table.specs.Pages.{KeptStand, Rests}
-use Rattle.fl_table.specs.Standing.{Stands}
+use Rattle.fl_table.specs.Mountable.{IsPaged, BlobsBefore}
+use Rattle.fl_table.specs.Pages.{HoldsTable, KeptStand, Rests}
+use Rattle.fl_table.specs.Standing.{IsLoaded, Stands}
 
 -- how the seals of these rings may go, one after another
 abbrev pub BySeals : Plan → List RingName → model.Table → Bool → Device → PartProgress model.Table → Type 0
@@ -95,13 +96,14 @@ FlushEnds first plan table rose device (Err flush.Stopped) t old new = ⊥
 abbrev pub mounted_of : model.Table → Mounted
 mounted_of table = record { rows = length table.entries; pages = length table.rows.counts; voids = voids_of table }
 
--- A mount that ended well: the table is ready.
+-- A mount that ended well: the table is ready. Where all facts held of it, they hold of the table that is left.
 pub record MountsWell {KNOTS SLOTS : ℕ} (first : ℕ) (plan : Plan) (rings : List RingName) (table : model.Table) (rose : Bool) (device : Device) (mounted : Mounted) (t : Table KNOTS SLOTS) (new : FlashState) : Type 0 where
   pub now : PartProgress model.Table
   pub did : TableMounts plan rose (map (λ ring. Of ring) rings) device table (TableMounted now)
   pub counts : SameDevice new now.device
   pub power : new.is_on ≡ true
-  pub stands : Stands t new first plan (ready plan now.state)
+  pub loaded : IsLoaded t new first plan (ready plan now.state)
+  pub stands : IsSettled plan table → Stands t new first plan (ready plan now.state)
   pub answer : mounted ≡ mounted_of (ready plan now.state)
 
 -- It failed in an operation of a repair, or in a read: what was repaired until then stays.
@@ -110,7 +112,8 @@ pub record MountsBadly (first : ℕ) (plan : Plan) (rings : List RingName) (tabl
   pub did : (TableMounts plan rose (map (λ ring. Of ring) rings) device table (TableStopped now) × FaultEnds now.end fault new)
       ⊎ (TableMounts plan rose (map (λ ring. Of ring) rings) device table (TableUnread now) × (fault ≡ Media))
   pub counts : SameDevice new now.device
-  pub rests : Rests new first plan now.state
+  pub pages : HoldsTable (page_at new) first plan now.state
+  pub rests : IsSettled plan table → Rests new first plan now.state
 
 -- The data ring was mounted and its pages were read: this is known of the table then, whose variable data aren't mounted.
 pub record DataWell {KNOTS SLOTS : ℕ} (first : ℕ) (plan : Plan) (table : model.Table) (rose : Bool) (device : Device) (found : FoundRows) (t : Table KNOTS SLOTS) (new : FlashState) : Type 0 where
@@ -118,11 +121,15 @@ pub record DataWell {KNOTS SLOTS : ℕ} (first : ℕ) (plan : Plan) (table : mod
   pub did : TableMounts plan rose (Of DataRing ∷ []) device table (TableMounted now)
   pub counts : SameDevice new now.device
   pub power : new.is_on ≡ true
-  pub rests : Rests new first plan now.state
+  pub lost : now.state ≡ lose now.state
+  pub paged : IsPaged plan now.state
+  pub before : BlobsBefore now.state
+  pub pages : HoldsTable (page_at new) first plan now.state
+  pub settled : IsSettled plan table → IsSettled plan now.state
   pub whole : now.state.rows.torn ≡ false
   pub clean : now.state.rows.dirty ≡ false
   pub planned : IsPlanned t first plan
-  pub facts : IsTable plan (ready plan now.state)
+  pub facts : IsSettled plan table → IsTable plan (ready plan now.state)
   pub memory : HoldsInMemory t found.ring plan (ready plan now.state)
   pub bitmaps : Stand t.bitmaps new (first + plan.data_blocks) plan (ready plan now.state)
   pub answer : found.mounted ≡ mounted_of (ready plan now.state)

@@ -7,6 +7,7 @@ use Rattle.fl_model.specs.Facts.{IsSettled}
 use Rattle.fl_model.specs.Ring.{Ring}
 use Rattle.fl_model.specs.Image.{IsRingImage, HoldsRows, HoldsEntries, HoldsContent}
 use Rattle.fl_ring.specs.Kept.{PagesStand}
+use Rattle.fl_table.specs.Mountable.{IsMountable}
 
 -- the first block of a ring, where the blocks of its table begin at `first`
 abbrev pub ring_begin : ℕ → Plan → RingName → ℕ
@@ -33,6 +34,11 @@ pub record HoldsTable (page : ℕ → List ℕ) (first : ℕ) (plan : Plan) (tab
 -- a flash stands for a table that isn't mounted
 pub record Rests (f : FlashState) (first : ℕ) (plan : Plan) (table : Table) : Type 0 where
   pub settled : IsSettled plan table
+  pub pages : HoldsTable (page_at f) first plan table
+
+-- .. or for one that a mount may be given, of which less may hold than each run keeps
+pub record RestsToMount (f : FlashState) (first : ℕ) (plan : Plan) (table : Table) : Type 0 where
+  pub mountable : IsMountable plan table
   pub pages : HoldsTable (page_at f) first plan table
 
 -- the pages of each ring that were kept and still are have the bytes that they had

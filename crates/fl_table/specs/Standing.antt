@@ -9,8 +9,22 @@ use Rattle.fl_model.specs.Facts.{IsTable}
 use Rattle.fl_table.specs.declared.table.Table.{Table}
 use Rattle.fl_table.specs.Bitmaps.{Stand}
 use Rattle.fl_table.specs.Blobs as variable
+use Rattle.fl_table.specs.Mountable.{IsPaged}
 use Rattle.fl_table.specs.Pages.{HoldsTable}
 use Rattle.fl_table.specs.Memory.{InMemory, IsPlanned}
+
+-- A mounted table whose numbers fit, but may be spent, and of which a blob may begin on a void page: what it has in memory is what its
+-- pages tell.
+pub record IsLoaded {KNOTS SLOTS : ℕ} (t : Table KNOTS SLOTS) (f : FlashState) (first : ℕ) (plan : Plan) (table : model.Table) : Type 0 where
+  pub planned : IsPlanned t first plan
+  pub paged : IsPaged plan table
+  pub whole : table.rows.torn ≡ false
+  pub clean : table.rows.dirty ≡ false
+  pub pages : HoldsTable (page_at f) first plan (lose table)
+  pub memory : InMemory t plan table
+  pub bitmaps : Stand t.bitmaps f (first + plan.data_blocks) plan table
+  pub blobs : variable.StandInPages t.blobs f (first + plan.data_blocks + plan.index_blocks) plan table
+  pub points : HasPoints table
 
 pub record Stands {KNOTS SLOTS : ℕ} (t : Table KNOTS SLOTS) (f : FlashState) (first : ℕ) (plan : Plan) (table : model.Table) : Type 0 where
   pub planned : IsPlanned t first plan

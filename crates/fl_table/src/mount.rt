@@ -47,7 +47,7 @@ impl<const KNOTS: usize, const SLOTS: usize> Table<KNOTS, SLOTS> {
     ghost use Rattle.fl_model.specs.Work.{Device};
     ghost use Rattle.fl_frame.specs.Watched.{IsWatched};
     ghost use Rattle.fl_table.specs.Memory.{is_running, is_stopped, pending_in, ring_shape, IsForgotten, IsPlanned, IsSamePlan, IsSameRest, LiesOn, NothingWaits};
-    ghost use Rattle.fl_table.specs.Pages.{Rests};
+    ghost use Rattle.fl_table.specs.Pages.{RestsToMount};
     ghost use Rattle.fl_table.specs.Outcomes.{DataEnds, MountEnds, RingsEnd, var_rings};
     ghost use Rattle.fl_table.specs.MountLimits.{rows_mount_limit};
     ghost use Rattle.fl_table.specs.Mounting.{FewReads, FewRepairs, FindsData, FindsPages, FindsRows, HasLearned, OutsideStands, RefusesData, RefusesPages, RefusesRows, RemembersKept, RowsStandOutside, comes_in, pages_in, rings_in};
@@ -175,7 +175,7 @@ impl<const KNOTS: usize, const SLOTS: usize> Table<KNOTS, SLOTS> {
         ensures follow { IfOk result (λ rows. EndAt self.new.bitmaps (next_of rows.ring)) }
         ensures lies_ring { IfOk result (λ rows. place.LiesOn rows.ring (F.state flash.new)) }
         ensures ends { (first : ℕ) → (plan : Plan) → (table : model.Table) → (rose : Bool) → (device : Device) → IsWatched (F.state flash.old) (F.state flash.new) rose device
-            → IsPlanned self.old first plan → Rests (F.state flash.old) first plan table → StandFound self.old.bitmaps (F.state flash.old) (first + plan.data_blocks) plan table → end ≡ index_end plan table
+            → IsPlanned self.old first plan → RestsToMount (F.state flash.old) first plan table → StandFound self.old.bitmaps (F.state flash.old) (first + plan.data_blocks) plan table → end ≡ index_end plan table
             → DataEnds first plan table rose device result self.new (F.state flash.new) }
         ensures found { IfOk result (λ rows. IsTrue (F.state flash.old).media.tells → FindsData self.old self.old.bitmaps (F.state flash.old) end rows.ring rows.mounted self.new.last_key rows.blob_end (F.state flash.new)) }
         ensures learned { IfOk result (λ rows. IsTrue (F.state flash.old).media.tells → HasLearned (error_in self.old.index) (comes_in self.old self.old.bitmaps rows.ring (F.state flash.new)) self.new) }
@@ -185,7 +185,7 @@ impl<const KNOTS: usize, const SLOTS: usize> Table<KNOTS, SLOTS> {
         ensures outside { IsTrue (F.state flash.old).media.tells → rings.OutsideStands (ring_shape self.old) (page_at (F.state flash.old)) (page_at (F.state flash.new)) }
         ensures reads { IsTrue (F.state flash.old).media.tells → FewReads (4 * room (ring_shape self.old) + index_pages_of self.old.bitmaps) (F.state flash.old) (F.state flash.new) }
         ensures limit { (first : ℕ) → (plan : Plan) → (table : model.Table) → (rose : Bool) → (device : Device) → IsWatched (F.state flash.old) (F.state flash.new) rose device
-            → IsPlanned self.old first plan → Rests (F.state flash.old) first plan table → StandFound self.old.bitmaps (F.state flash.old) (first + plan.data_blocks) plan table → end ≡ index_end plan table → plan.full_index ≡ true
+            → IsPlanned self.old first plan → RestsToMount (F.state flash.old) first plan table → StandFound self.old.bitmaps (F.state flash.old) (first + plan.data_blocks) plan table → end ≡ index_end plan table → plan.full_index ≡ true
             → (F.state flash.new).work.reads ≤ (F.state flash.old).work.reads + rows_mount_limit plan table (repaired plan DataRing table) }
         ensures repairs { FewRepairs 1 (F.state flash.old) (F.state flash.new) }
         ensures power { OnOk result ((F.state flash.old).is_on ≡ true → (F.state flash.new).is_on ≡ true) }
@@ -231,7 +231,7 @@ impl<const KNOTS: usize, const SLOTS: usize> Table<KNOTS, SLOTS> {
         ensures room { length buf.new.bytes ≡ length buf.old.bytes }
         ensures holds { buf.new.holds ≡ None }
         ensures ends { (first : ℕ) → (plan : Plan) → (table : model.Table) → (rose : Bool) → (device : Device) → IsWatched (F.state flash.old) (F.state flash.new) rose device
-            → IsPlanned self.old first plan → Rests (F.state flash.old) first plan table → StandFound self.old.bitmaps (F.state flash.old) (first + plan.data_blocks) plan table → end ≡ index_end plan table
+            → IsPlanned self.old first plan → RestsToMount (F.state flash.old) first plan table → StandFound self.old.bitmaps (F.state flash.old) (first + plan.data_blocks) plan table → end ≡ index_end plan table
             → RingsEnd first plan (DataRing ∷ var_rings plan) table rose device result self.new (F.state flash.new) }
         ensures mounted { is_running self.new ≡ is_ok result }
         ensures calm { is_stopped self.new ≡ false }
@@ -242,7 +242,7 @@ impl<const KNOTS: usize, const SLOTS: usize> Table<KNOTS, SLOTS> {
         ensures outside { IsTrue (F.state flash.old).media.tells → RowsStandOutside self.old (page_at (F.state flash.old)) (page_at (F.state flash.new)) }
         ensures reads { IsTrue (F.state flash.old).media.tells → FewReads (4 * (room (ring_shape self.old) + variable.room_of self.old.blobs) + index_pages_of self.old.bitmaps) (F.state flash.old) (F.state flash.new) }
         ensures limit { (first : ℕ) → (plan : Plan) → (table : model.Table) → (rose : Bool) → (device : Device) → IsWatched (F.state flash.old) (F.state flash.new) rose device
-            → IsPlanned self.old first plan → Rests (F.state flash.old) first plan table → StandFound self.old.bitmaps (F.state flash.old) (first + plan.data_blocks) plan table → end ≡ index_end plan table → plan.full_index ≡ true
+            → IsPlanned self.old first plan → RestsToMount (F.state flash.old) first plan table → StandFound self.old.bitmaps (F.state flash.old) (first + plan.data_blocks) plan table → end ≡ index_end plan table → plan.full_index ≡ true
             → (F.state flash.new).work.reads ≤ (F.state flash.old).work.reads + (rows_mount_limit plan table (repaired plan DataRing table) + part_mount_limit (model_shape plan VarRing) table.var) }
         ensures repairs { FewRepairs (1 + variable.rings_of self.old.blobs) (F.state flash.old) (F.state flash.new) }
         ensures power { OnOk result ((F.state flash.old).is_on ≡ true → (F.state flash.new).is_on ≡ true) }
@@ -271,7 +271,7 @@ impl<const KNOTS: usize, const SLOTS: usize> Table<KNOTS, SLOTS> {
         ensures room { length buf.new.bytes ≡ length buf.old.bytes }
         ensures holds { buf.new.holds ≡ None }
         ensures ends { (first : ℕ) → (plan : Plan) → (table : model.Table) → (rose : Bool) → (device : Device) → IsWatched (F.state flash.old) (F.state flash.new) rose device
-            → IsPlanned self.old first plan → Rests (F.state flash.old) first plan table → MountEnds first plan table rose device result self.new (F.state flash.new) }
+            → IsPlanned self.old first plan → RestsToMount (F.state flash.old) first plan table → MountEnds first plan table rose device result self.new (F.state flash.new) }
         ensures mounted { is_running self.new ≡ is_ok result }
         ensures calm { is_stopped self.new ≡ false }
         ensures none { pending_in self.new ≡ 0 }
@@ -281,7 +281,7 @@ impl<const KNOTS: usize, const SLOTS: usize> Table<KNOTS, SLOTS> {
         ensures outside { IsTrue (F.state flash.old).media.tells → OutsideStands self.old (page_at (F.state flash.old)) (page_at (F.state flash.new)) }
         ensures reads { IsTrue (F.state flash.old).media.tells → FewReads (4 * pages_in self.old) (F.state flash.old) (F.state flash.new) }
         ensures limit { (first : ℕ) → (plan : Plan) → (table : model.Table) → (rose : Bool) → (device : Device) → IsWatched (F.state flash.old) (F.state flash.new) rose device
-            → IsPlanned self.old first plan → Rests (F.state flash.old) first plan table → plan.full_index ≡ true
+            → IsPlanned self.old first plan → RestsToMount (F.state flash.old) first plan table → plan.full_index ≡ true
             → (F.state flash.new).work.reads ≤ (F.state flash.old).work.reads + mount_limit plan table }
         ensures repairs { FewRepairs (rings_in self.old) (F.state flash.old) (F.state flash.new) }
         ensures power { OnOk result ((F.state flash.old).is_on ≡ true → (F.state flash.new).is_on ≡ true) }

@@ -22,8 +22,8 @@ use Rattle.fl_rlc.specs.Table.{AreSameLog, IsLogPlanned, IsPlanned, is_logged, l
 use Rattle.fl_rlc.specs.declared.log.RecordLog.{RecordLog}
 use Rattle.fl_rlc.specs.declared.table.LoggedTable.{LoggedTable}
 use Rattle.fl_rlc.proofs.Assembled.{log-there}
-use Rattle.fl_rlc.proofs.MountApart.{table-ends, log-stays, between-stands, between-none, between-rests, replay-ends, replayed}
-use Rattle.fl_rlc.proofs.MountEnded.{bare-rests, fails, mounts-alone, apart-of, badly-of, well-of}
+use Rattle.fl_rlc.proofs.MountApart.{apart-mountable, table-ends, log-stays, between-stands, between-none, between-rests, replay-ends, replayed}
+use Rattle.fl_rlc.proofs.MountEnded.{bare-mountable, fails, mounts-alone, apart-of, badly-of, well-of}
 use Rattle.fl_rlc.proofs.MountLimits.{limit-alone, limit-behind}
 use Rattle.fl_rlc.proofs.MountFound.{finds-alone, finds-behind, refuses-behind, outside-both, few-both, log-here}
 use Rattle.fl_rlc.proofs.MountLeaves.{bare-leaves, mount-leaves}
@@ -50,13 +50,18 @@ returns-in_err-mounted-clause-ends g c = λ first plan table rose device watched
     let new = g.F.Flash.state c.mount.new.flash in
     let p = err_from_is_err_and c.from_residual.result c.from_residual.ensures.1 in
     rw (p.1, p.2) (fails t old first plan table planned rests rose device c.in_err-mounted.field-0.0 c.mount.new.self _ refl refl new (c.in_err-mounted.ensures.outside watched.told)
-    (c.in_err-mounted.ensures.ends first (bare plan) (bare_table table) rose device watched planned.table (bare-rests t old first plan table planned rests)))
+    (c.in_err-mounted.ensures.ends first (bare plan) (bare_table table) rose device watched planned.table (bare-mountable t old first plan table planned rests)))
+
+pub returns-in_err-mounted-clause-alone : goal.returns-in_err-mounted-clause-alone
+returns-in_err-mounted-clause-alone g c = λ first plan table rose device watched planned none rests.
+    let p = err_from_is_err_and c.from_residual.result c.from_residual.ensures.1 in
+    rw (p.1, p.2) (c.in_err-mounted.ensures.ends first (bare plan) table rose device watched planned.table rests)
 
 pub returns-in_err-mounted-clause-apart : goal.returns-in_err-mounted-clause-apart
 returns-in_err-mounted-clause-apart g c = λ first plan table rose device l watched planned is apart.
     let p = err_from_is_err_and c.from_residual.result c.from_residual.ensures.1 in
     rw (p.1, p.2) (table-ends c.args.self.now (g.F.Flash.state c.args.flash.now) first plan table planned l apart rose device c.in_err-mounted.field-0.0 c.mount.new.self _ (g.F.Flash.state c.mount.new.flash) (c.in_err-mounted.ensures.outside watched.told)
-    (c.in_err-mounted.ensures.ends first (bare plan) (bare_table table) rose device watched planned.table apart.unlogged))
+    (c.in_err-mounted.ensures.ends first (bare plan) (bare_table table) rose device watched planned.table (apart-mountable c.args.self.now (g.F.Flash.state c.args.flash.now) first plan table planned l apart)))
 
 pub returns-in_err-mounted-clause-refused : goal.returns-in_err-mounted-clause-refused
 returns-in_err-mounted-clause-refused g c =
@@ -70,7 +75,7 @@ pub returns-in_err-mounted-clause-limit : goal.returns-in_err-mounted-clause-lim
 returns-in_err-mounted-clause-limit g c = λ first plan table rose device watched planned rests full.
     let t = c.args.self.now in
     let old = g.F.Flash.state c.args.flash.now in
-    limit-alone plan table old.work.reads (g.F.Flash.state c.mount.new.flash).work.reads (c.in_err-mounted.ensures.limit first (bare plan) (bare_table table) rose device watched planned.table (bare-rests t old first plan table planned rests) full)
+    limit-alone plan table old.work.reads (g.F.Flash.state c.mount.new.flash).work.reads (c.in_err-mounted.ensures.limit first (bare plan) (bare_table table) rose device watched planned.table (bare-mountable t old first plan table planned rests) full)
 
 pub returns-in_err-mounted-clause-repairs : goal.returns-in_err-mounted-clause-repairs
 returns-in_err-mounted-clause-repairs g c = repairs-alone c.args.self.now (g.F.Flash.state c.args.flash.now) (g.F.Flash.state c.mount.new.flash) c.in_err-mounted.ensures.repairs
@@ -92,7 +97,10 @@ returns-in_default-clause-ends g c = λ first plan table rose device watched pla
     let old = g.F.Flash.state c.args.flash.now in
     let new = g.F.Flash.state c.mount.new.flash in
     mounts-alone t old first plan table planned rests rose device (Ok c.in_ok-mounted.mounted) _ new c.in_default.is c.in_default.is
-    (c.in_ok-mounted.ensures.ends first (bare plan) (bare_table table) rose device watched planned.table (bare-rests t old first plan table planned rests))
+    (c.in_ok-mounted.ensures.ends first (bare plan) (bare_table table) rose device watched planned.table (bare-mountable t old first plan table planned rests))
+
+pub returns-in_default-clause-alone : goal.returns-in_default-clause-alone
+returns-in_default-clause-alone g c = λ first plan table rose device watched planned none rests. c.in_ok-mounted.ensures.ends first (bare plan) table rose device watched planned.table rests
 
 pub returns-in_default-clause-apart : goal.returns-in_default-clause-apart
 returns-in_default-clause-apart g c = λ first plan table rose device l watched planned is apart. absurd (none-some l (sym c.in_default.is ∙ is))
@@ -121,7 +129,7 @@ pub returns-in_default-clause-limit : goal.returns-in_default-clause-limit
 returns-in_default-clause-limit g c = λ first plan table rose device watched planned rests full.
     let t = c.args.self.now in
     let old = g.F.Flash.state c.args.flash.now in
-    limit-alone plan table old.work.reads (g.F.Flash.state c.mount.new.flash).work.reads (c.in_ok-mounted.ensures.limit first (bare plan) (bare_table table) rose device watched planned.table (bare-rests t old first plan table planned rests) full)
+    limit-alone plan table old.work.reads (g.F.Flash.state c.mount.new.flash).work.reads (c.in_ok-mounted.ensures.limit first (bare plan) (bare_table table) rose device watched planned.table (bare-mountable t old first plan table planned rests) full)
 
 pub returns-in_default-clause-repairs : goal.returns-in_default-clause-repairs
 returns-in_default-clause-repairs g c = repairs-alone c.args.self.now (g.F.Flash.state c.args.flash.now) (g.F.Flash.state c.mount.new.flash) c.in_ok-mounted.ensures.repairs
@@ -171,6 +179,9 @@ returns-in-Err-clause-lies g c = record {
   log = log-here c.replay.new.log (g.F.Flash.state c.replay.new.flash) c.in-Err.ensures.lies;
 }
 
+pub returns-in-Err-clause-alone : goal.returns-in-Err-clause-alone
+returns-in-Err-clause-alone g c = λ first plan table rose device watched planned none rests. absurd (none-some c.in-Some.log (sym none ∙ c.in-Some.is))
+
 pub returns-in-Err-clause-apart : goal.returns-in-Err-clause-apart
 returns-in-Err-clause-apart g c = λ first plan table rose device l watched planned is apart.
     let t = c.args.self.now in
@@ -180,7 +191,7 @@ returns-in-Err-clause-apart g c = λ first plan table rose device l watched plan
     let k = c.in_ok-mounted.ensures in
     let here : c.in-Some.log ≡ l = one-log (sym c.in-Some.is ∙ is) in
     let outside = k.outside watched.told in
-    let w = k.ends first (bare plan) (bare_table table) rose device (watched-first old f1 f2 rose device watched c.in-Err.ensures.goes) planned.table apart.unlogged in
+    let w = k.ends first (bare plan) (bare_table table) rose device (watched-first old f1 f2 rose device watched c.in-Err.ensures.goes) planned.table (apart-mountable t old first plan table planned l apart) in
     replay-ends t old first plan table planned l apart rose device c.in_ok-mounted.mounted c.mount.new.self f1 outside w k.none c.in-Err.fault c.replay.new.log c.replay.new.table _ f2
     (subst (λ (x : RecordLog). ReplayEnds first plan (beside (log_of table) w.now.state) rose w.now.device x (Err c.in-Err.fault) c.replay.new.log c.replay.new.table f2) here
     (c.in-Err.ensures.ends first plan (beside (log_of table) w.now.state) rose w.now.device (watched-then old f1 f2 rose device w.now.device watched k.goes w.power w.counts)
@@ -199,7 +210,7 @@ returns-in-Err-clause-ends g c = λ first plan table rose device watched planned
     let k = c.in_ok-mounted.ensures in
     let apart = apart-of t old first plan table planned rests l is in
     let outside = k.outside watched.told in
-    let w = k.ends first (bare plan) (bare_table table) rose device (watched-first old f1 f2 rose device watched c.in-Err.ensures.goes) planned.table apart.unlogged in
+    let w = k.ends first (bare plan) (bare_table table) rose device (watched-first old f1 f2 rose device watched c.in-Err.ensures.goes) planned.table (apart-mountable t old first plan table planned l apart) in
     badly-of t old first plan table planned rests l is rose device c.in-Err.fault _ f2
     (replay-ends t old first plan table planned l apart rose device c.in_ok-mounted.mounted c.mount.new.self f1 outside w k.none c.in-Err.fault c.replay.new.log c.replay.new.table _ f2
     (c.in-Err.ensures.ends first plan (beside (log_of table) w.now.state) rose w.now.device (watched-then old f1 f2 rose device w.now.device watched k.goes w.power w.counts)
@@ -238,7 +249,7 @@ returns-in-Err-clause-limit g c = λ first plan table rose device watched planne
     let k = c.in_ok-mounted.ensures in
     let apart = apart-of t old first plan table planned rests c.in-Some.log c.in-Some.is in
     limit-behind plan table old.work.reads f1.work.reads f2.work.reads
-    (k.limit first (bare plan) (bare_table table) rose device (watched-first old f1 f2 rose device watched c.in-Err.ensures.goes) planned.table (bare-rests t old first plan table planned rests) full)
+    (k.limit first (bare plan) (bare_table table) rose device (watched-first old f1 f2 rose device watched c.in-Err.ensures.goes) planned.table (bare-mountable t old first plan table planned rests) full)
     (c.in-Err.ensures.limit (first + blocks_of (bare plan)) plan table (subst IsTrue (sym k.goes.tells) watched.told) (log-stays t old first plan table planned c.in-Some.log apart f1 (k.outside watched.told)))
 
 pub returns-in-Err-clause-repairs : goal.returns-in-Err-clause-repairs
@@ -263,6 +274,9 @@ returns-clause-lies g c = record {
   log = log-here c.replay.new.log (g.F.Flash.state c.replay.new.flash) c.in_default-replay.ensures.lies;
 }
 
+pub returns-clause-alone : goal.returns-clause-alone
+returns-clause-alone g c = λ first plan table rose device watched planned none rests. absurd (none-some c.in-Some.log (sym none ∙ c.in-Some.is))
+
 pub returns-clause-apart : goal.returns-clause-apart
 returns-clause-apart g c = λ first plan table rose device l watched planned is apart.
     let t = c.args.self.now in
@@ -272,7 +286,7 @@ returns-clause-apart g c = λ first plan table rose device l watched planned is 
     let k = c.in_ok-mounted.ensures in
     let here : c.in-Some.log ≡ l = one-log (sym c.in-Some.is ∙ is) in
     let outside = k.outside watched.told in
-    let w = k.ends first (bare plan) (bare_table table) rose device (watched-first old f1 f2 rose device watched c.in_default-replay.ensures.goes) planned.table apart.unlogged in (
+    let w = k.ends first (bare plan) (bare_table table) rose device (watched-first old f1 f2 rose device watched c.in_default-replay.ensures.goes) planned.table (apart-mountable t old first plan table planned l apart) in (
       c.replay.new.log,
       (
         refl,
@@ -295,7 +309,7 @@ returns-clause-ends g c = λ first plan table rose device watched planned rests.
     let k = c.in_ok-mounted.ensures in
     let apart = apart-of t old first plan table planned rests l is in
     let outside = k.outside watched.told in
-    let w = k.ends first (bare plan) (bare_table table) rose device (watched-first old f1 f2 rose device watched c.in_default-replay.ensures.goes) planned.table apart.unlogged in
+    let w = k.ends first (bare plan) (bare_table table) rose device (watched-first old f1 f2 rose device watched c.in_default-replay.ensures.goes) planned.table (apart-mountable t old first plan table planned l apart) in
     let empty = c.in_default-replay.ensures.empty (row_layout plan) in
     well-of t old first plan table planned rests l is rose device c.replay.new.log _ f2 c.held.result refl empty
     (replayed t old first plan table planned l apart rose device c.in_ok-mounted.mounted c.mount.new.self f1 outside w k.none c.replay.new.log _ f2 c.held.result refl empty (c.held.ensures.stands f2 first (bare plan))
@@ -334,12 +348,12 @@ returns-clause-leaves g c = λ told first plan table seen planned rests. by-seen
         let k = c.in_ok-mounted.ensures in
         let apart = apart-of t old first plan table planned rests l is in
         let outside = k.outside watched.told in
-        let w = k.ends first (bare plan) (bare_table table) rose device (watched-first old f1 f2 rose device watched c.in_default-replay.ensures.goes) planned.table apart.unlogged in
+        let w = k.ends first (bare plan) (bare_table table) rose device (watched-first old f1 f2 rose device watched c.in_default-replay.ensures.goes) planned.table (apart-mountable t old first plan table planned l apart) in
         let leaves = c.in_default-replay.ensures.leaves first plan (beside (log_of table) w.now.state) rose w.now.device (watched-then old f1 f2 rose device w.now.device watched k.goes w.power w.counts)
         (between-stands t old first plan table planned l apart rose device c.in_ok-mounted.mounted c.mount.new.self f1 outside w k.none) (between-none t old first plan table planned l apart rose device c.in_ok-mounted.mounted c.mount.new.self f1 outside w k.none)
         (between-rests t old first plan table planned l apart rose device c.in_ok-mounted.mounted c.mount.new.self f1 outside w k.none) in
         mount-leaves t.table old f1 first plan planned.table watched.told (c.requires.lies.table.geometry ∙ sym planned.table.geometry) c.in_ok-mounted.mounted c.mount.new.self (k.found watched.told)
-        f2 table rose device w.now w.did rests.settled.facts rests.pages (beside (log_of table) w.now.state) refl refl w.stands.facts.has_rings.0 leaves (log-there l (first + blocks_of (bare plan)) plan apart.log.planned)
+        f2 table rose device w.now w.did rests.settled.facts rests.pages (beside (log_of table) w.now.state) refl refl (w.stands apart.unlogged.settled).facts.has_rings.0 leaves (log-there l (first + blocks_of (bare plan)) plan apart.log.planned)
         (g.met.F.Flash.reaches c.args.flash.now) (omega (arith, (c.requires.lies.log l is).within, apart.log.planned.begins))
 
 pub returns-clause-outside : goal.returns-clause-outside
@@ -362,7 +376,7 @@ returns-clause-limit g c = λ first plan table rose device watched planned rests
     let k = c.in_ok-mounted.ensures in
     let apart = apart-of t old first plan table planned rests c.in-Some.log c.in-Some.is in
     limit-behind plan table old.work.reads f1.work.reads f2.work.reads
-    (k.limit first (bare plan) (bare_table table) rose device (watched-first old f1 f2 rose device watched c.in_default-replay.ensures.goes) planned.table (bare-rests t old first plan table planned rests) full)
+    (k.limit first (bare plan) (bare_table table) rose device (watched-first old f1 f2 rose device watched c.in_default-replay.ensures.goes) planned.table (bare-mountable t old first plan table planned rests) full)
     (c.in_default-replay.ensures.limit (first + blocks_of (bare plan)) plan table (subst IsTrue (sym k.goes.tells) watched.told) (log-stays t old first plan table planned c.in-Some.log apart f1 (k.outside watched.told)))
 
 pub returns-clause-repairs : goal.returns-clause-repairs

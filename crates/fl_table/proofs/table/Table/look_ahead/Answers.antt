@@ -47,7 +47,7 @@ returns-in-Ok-Some-clause-shows g c = λ first plan table n rows told stands fre
     let tells = found.1 n rows at here (told-some plan rows some) in
     subst (λ (s : Option Span). ShowsPage plan table s c.args.top c.args.number (rows_at table n rows) (Ok c.ahead_by.result)) (sym c.in-Some.is)
     (c.ahead_by.ensures.exact plan stands.planned.buckets (some-bits t f first plan table stands index is)
-    ∙ shows-some plan table c.in-Some.span c.args.top c.args.number c.in-Ok-Some.found (rows_at table n rows) found.0 tells (first-few t first plan table stands.planned stands.facts n rows))
+    ∙ shows-some plan table c.in-Some.span c.args.top c.args.number c.in-Ok-Some.found (rows_at table n rows) found.0 tells (first-few t first plan table stands.planned stands.facts.fit n rows))
 
 pub returns-in-Err-clause-shows : goal.returns-in-Err-clause-shows
 returns-in-Err-clause-shows g c = λ first plan table n rows told stands fresh at here some.

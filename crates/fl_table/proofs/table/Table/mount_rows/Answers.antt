@@ -3,7 +3,6 @@ use Rattle.std.proofs.lemmas.Result.{err_from_is_err_and}
 use Rattle.fl_flash.specs.Flash.{page_at, FlashState}
 use Rattle.fl_frame.proofs.CallsInTurn.{goes-then}
 use Rattle.fl_find.proofs.Points.{mounts-points}
-use Rattle.fl_model.specs.Mount.{ready}
 use Rattle.fl_table.specs.Bitmaps.{EndAt, IsOutside}
 use Rattle.fl_table.specs.BlobEnds.{least_of}
 use Rattle.fl_table.specs.BlobMount.{FindsBlobs, RefusesWithin}
@@ -17,7 +16,7 @@ use Rattle.fl_table.proofs.Learned.{finds-rows}
 use Rattle.fl_table.proofs.MountJoined.{mount-cause-later}
 use Rattle.fl_table.proofs.BlobSeals.{with_var}
 use Rattle.fl_table.proofs.MountVar.{data-fails, mounted-ends, rows-fail, rows-mount, var-limit}
-use Rattle.fl_table.proofs.Plain.{table-facts}
+use Rattle.fl_table.proofs.Loose.{paged-ready}
 use Rattle.fl_base.specs.declared.types.Geometry.{Geometry}
 use Rattle.fl_base.specs.declared.types.RingPlace.{RingPlace}
 use Rattle.fl_ring.specs.Mounting.{shape_at}
@@ -67,7 +66,7 @@ returns-clause-ends g c = λ first plan table rose device watched planned rests 
     (c.in_ok-mount_within.ensures.ends (first + plan.data_blocks + plan.index_blocks) plan w.now.state rose w.now.device w.end_is) in
     let memory = w.memory in
     let points = mounts-points plan w.now.state in
-    mounted-ends t _ new first plan table w.now.state rose device c.in_ok-rows.rows c.mount_within.new.blobs h w.answer (record {
+    mounted-ends t _ new first plan table w.now.state rose device c.in_ok-rows.rows c.mount_within.new.blobs h w.answer refl (record {
       planned = record {
         geometry = w.planned.geometry;
         layout = w.planned.layout;
@@ -80,7 +79,7 @@ returns-clause-ends g c = λ first plan table rose device watched planned rests 
         error = w.planned.error;
         log = w.planned.log;
       };
-      facts = table-facts plan (with_var (ready plan w.now.state) h.ring h.content h.bytes) h.facts;
+      paged = paged-ready plan (with_var w.now.state h.ring h.content h.bytes) h.paged;
       whole = w.whole;
       clean = w.clean;
       pages = h.pages;

@@ -60,7 +60,7 @@ returns-clause-ends g c = λ first plan table rose device watched stands.
         voids = memory.voids;
         index = memory.index;
       };
-      bitmaps = bitmaps-stand t.bitmaps f new first plan table ring content bytes stands.planned.index (omega (arith, ap (λ x. x.block) stands.planned.geometry, t.served.block_least)) facts
+      bitmaps = bitmaps-stand t.bitmaps f new first plan table ring content bytes stands.planned.index (omega (arith, ap (λ x. x.block) stands.planned.geometry, t.served.block_least))
           (λ some. index-before t.blobs (page_at f) (page_at new) first plan stands.planned.var outside some) stands.bitmaps;
       blobs = blobs;
       points = record { older = stands.points.older; points = stands.points.points; last = stands.points.last };
