@@ -27,8 +27,8 @@ use Rattle.fl_search.specs.Search.{IsPageOf}
 use Rattle.fl_table.specs.Look.{oldest_in, buffered_rows}
 use Rattle.fl_table.specs.Memory.{next_in}
 use Rattle.fl_table.specs.declared.table.Table.{Table}
-use Rattle.fl_table.proofs.KeptPages.{sum-next}
-use Rattle.fl_table.proofs.KeyRows.{drop-row}
+use Rattle.fl_parts.proofs.KeptPages.{sum-next}
+use Rattle.fl_parts.proofs.KeyRows.{drop-row}
 use Rattle.fl_table.proofs.MemoryTells.{next-is, oldest-is}
 use Rattle.fl_table.proofs.Skips.{index-stands}
 use Rattle.fl_cursor.specs.Cursor.{IsStanding}

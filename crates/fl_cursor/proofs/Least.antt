@@ -21,8 +21,8 @@ use Rattle.fl_page.specs.Steps.{Ascends}
 use Rattle.fl_table.specs.Look.{oldest_in, buffered_rows}
 use Rattle.fl_table.specs.Memory.{next_in}
 use Rattle.fl_table.specs.declared.table.Table.{Table}
-use Rattle.fl_table.proofs.KeptPages.{sum-next}
-use Rattle.fl_table.proofs.KeyRows.{drop-row}
+use Rattle.fl_parts.proofs.KeptPages.{sum-next}
+use Rattle.fl_parts.proofs.KeyRows.{drop-row}
 use Rattle.fl_table.proofs.MemoryTells.{next-is, oldest-is}
 use Rattle.fl_cursor.specs.Ascending.{both}
 use Rattle.fl_cursor.specs.Asked.{is_asked, row_matches, lowest_of}
@@ -39,7 +39,7 @@ use Rattle.fl_flash.specs.Buffer.{BufferState}
 use Rattle.fl_index.specs.declared.index.BitmapIndex.{BitmapIndex}
 use Rattle.fl_index.specs.Looking.{due, next_to_read}
 use Rattle.fl_index.proofs.Lists.{firsts-length}
-use Rattle.fl_table.specs.Bitmaps.{ArePlanned}
+use Rattle.fl_parts.specs.Bitmaps.{ArePlanned}
 use Rattle.fl_table.specs.Skipping.{due_of}
 use Rattle.fl_cursor.proofs.PassedRows.{each-weaker}
 use Rattle.fl_cursor.proofs.Selected.{all-asked}

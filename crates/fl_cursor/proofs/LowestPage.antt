@@ -21,10 +21,10 @@ use Rattle.fl_model.specs.Table.{Entry, VarRing, lose, pending_entries}
 use Rattle.fl_frame.specs.Contents.{Contents, contents_of}
 use Rattle.fl_ring.specs.Place.{shape_of}
 use Rattle.fl_search.specs.Search.{IsPageOf, starts_by}
-use Rattle.fl_table.specs.Bitmaps.{Stand}
+use Rattle.fl_parts.specs.Bitmaps.{Stand}
 use Rattle.fl_table.specs.Look.{layout_in, oldest_in, buffered_rows}
 use Rattle.fl_table.specs.Memory.{next_in}
-use Rattle.fl_table.specs.Pages.{place_in}
+use Rattle.fl_parts.specs.Pages.{place_in}
 use Rattle.fl_table.specs.Standing.{Stands}
 use Rattle.fl_table.specs.declared.table.Table.{Table}
 use Rattle.fl_table.proofs.BlobsOfTable as blobbing

@@ -9,7 +9,7 @@ use Rattle.fl_page.specs.Steps.{Ascends}
 use Rattle.fl_table.specs.Look.{oldest_in, buffered_rows}
 use Rattle.fl_table.specs.Memory.{next_in}
 use Rattle.fl_table.specs.declared.table.Table.{Table}
-use Rattle.fl_table.proofs.KeyRows.{drop-row}
+use Rattle.fl_parts.proofs.KeyRows.{drop-row}
 use Rattle.fl_cursor.specs.Ascending.{both}
 use Rattle.fl_cursor.specs.Asked.{is_left, lowest, lowest_of}
 use Rattle.fl_cursor.specs.Cursor.{Passes, IsStanding}

@@ -13,7 +13,7 @@ use Rattle.fl_index.specs.Page.{IsGoodPage}
 use Rattle.fl_index.specs.declared.index.BitmapIndex.{BitmapIndex}
 use Rattle.fl_index.proofs.Goods.{kept-good}
 use Rattle.fl_mark.specs.Mark.{state_of_page}
-use Rattle.fl_table.specs.Bitmaps.{LieOn}
+use Rattle.fl_parts.specs.Bitmaps.{LieOn}
 use Rattle.fl_table.specs.declared.table.Table.{Table}
 use Rattle.fl_table.proofs.Skips.{index-stands}
 use Rattle.fl_cursor.specs.Asked.{asked_by, is_left}

@@ -30,10 +30,10 @@ use Rattle.fl_table.specs.Look.{layout_in, oldest_in, rows_noted, buffered_rows}
 use Rattle.fl_table.specs.Memory.{next_in}
 use Rattle.fl_table.specs.declared.table.Table.{Table}
 use Rattle.fl_table.proofs.PendingKey.{buffered-stored}
-use Rattle.fl_table.proofs.KeptPages.{sum-next}
+use Rattle.fl_parts.proofs.KeptPages.{sum-next}
 use Rattle.fl_table.proofs.KeptRead.{place-is, shown, rows-lose}
 use Rattle.fl_table.proofs.MemoryTells.{next-is, oldest-is, noted-is}
-use Rattle.fl_table.proofs.States.{shape_in}
+use Rattle.fl_parts.proofs.States.{shape_in}
 use Rattle.fl_cursor.specs.Asked.{is_left}
 use Rattle.fl_cursor.specs.Cursor.{IsStanding}
 use Rattle.fl_cursor.specs.Listed.{bytes_at, rows_on, rows_over, rows_of}

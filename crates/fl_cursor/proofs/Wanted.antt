@@ -22,7 +22,7 @@ use Rattle.fl_model.specs.Spline.{pages_from}
 use Rattle.fl_model.specs.Table.{Entry}
 use Rattle.fl_model.specs.Table as model
 use Rattle.fl_frame.specs.Contents.{Contents}
-use Rattle.fl_table.specs.Bitmaps.{ArePlanned}
+use Rattle.fl_parts.specs.Bitmaps.{ArePlanned}
 use Rattle.fl_table.specs.Look.{oldest_in, rows_noted}
 use Rattle.fl_table.specs.Memory.{next_in, HasBuckets}
 use Rattle.fl_table.specs.Skipping.{mask_for, wants_page}

@@ -19,10 +19,10 @@ use Rattle.fl_model.specs.Record.{Plan, Config, RowLayout, bytes_equal, has_var}
 use Rattle.fl_model.specs.Table.{Table}
 use Rattle.fl_model.proofs.Lists.{slice_get-some}
 use Rattle.fl_table.specs.BlobAt.{has_blobs}
-use Rattle.fl_table.specs.Causes.{MountCausedBy}
+use Rattle.fl_parts.specs.Faults.{MountCausedBy}
 use Rattle.fl_table.specs.Look.{layout_in}
 use Rattle.fl_table.specs.Memory.{IsPlanned}
-use Rattle.fl_table.specs.declared.faults.MountFault.{MountFault}
+use Rattle.fl_parts.specs.declared.mount_fault.MountFault.{MountFault}
 use Rattle.fl_table.specs.declared.table.Table.{Table as CodeTable}
 use Rattle.fl_words.specs.Config.{Lines}
 use Rattle.fl_words.specs.Medium.{IsImage}

@@ -9,10 +9,10 @@ use Rattle.fl_model.specs.Ring.{Ring}
 use Rattle.fl_model.specs.Table.{Table, LogRing, shape_of, lose}
 use Rattle.fl_model.specs.Work.{PartProgress}
 use Rattle.fl_table.specs.Outcomes as bare_outcomes
-use Rattle.fl_table.specs.Pages.{bytes_in}
+use Rattle.fl_parts.specs.Pages.{bytes_in}
 use Rattle.fl_table.specs.Standing as without_log
 use Rattle.fl_table.specs.declared.table.Table as code
-use Rattle.fl_table.proofs.Bare.{bare-table}
+use Rattle.fl_parts.proofs.Bare.{bare-table}
 use Rattle.fl_rlc.specs.Logged.{Stands, LogStands}
 use Rattle.fl_rlc.specs.Outcomes.{Finishes, Breaks}
 use Rattle.fl_rlc.specs.declared.log.RecordLog.{RecordLog}

@@ -12,13 +12,13 @@ use Rattle.fl_model.specs.Table.{Table, Entry, LogRing, shape_of, has_rows, log_
 use Rattle.fl_machine.proofs.RecordsChange.{Any}
 use Rattle.fl_machine.proofs.Logs.{core, IsFine, lost}
 use Rattle.fl_machine.proofs.LogTables.{Between, between-fine}
-use Rattle.fl_table.specs.Pages as pages
-use Rattle.fl_table.specs.Pages.{bytes_in}
+use Rattle.fl_parts.specs.Pages as pages
+use Rattle.fl_parts.specs.Pages.{bytes_in}
 use Rattle.fl_table.specs.Standing as table
 use Rattle.fl_table.specs.declared.table.Table as code
-use Rattle.fl_table.proofs.Bare.{bare-table}
-use Rattle.fl_table.proofs.TablePages.{lost-twice}
-use Rattle.fl_table.proofs.Plain.{plain-lose, table-facts, table-parts}
+use Rattle.fl_parts.proofs.Bare.{bare-table}
+use Rattle.fl_parts.proofs.TablePages.{lost-twice}
+use Rattle.fl_parts.proofs.Plain.{plain-lose, table-facts, table-parts}
 use Rattle.fl_rlc.specs.Logged.{Stands, Rests, LogStands, IsKept}
 use Rattle.fl_rlc.specs.Memory.{page_in, IsPlanned}
 use Rattle.fl_rlc.specs.Pages.{log_body, IsLogRing}

@@ -15,13 +15,13 @@ use Rattle.fl_page.specs.Writer.{Gathers}
 use Rattle.fl_table.specs.Mounting.{OutsideStands}
 use Rattle.fl_table.specs.Outcomes as bare_outcomes
 use Rattle.fl_table.specs.Outcomes.{BySeals}
-use Rattle.fl_table.specs.Pages as pages
-use Rattle.fl_table.specs.Pages.{bytes_in}
+use Rattle.fl_parts.specs.Pages as pages
+use Rattle.fl_parts.specs.Pages.{bytes_in}
 use Rattle.fl_table.specs.Standing as without_log
 use Rattle.fl_table.specs.declared.table.Table as code
 use Rattle.fl_table.specs.declared.faults.FlushFault.{FlushFault}
 use Rattle.fl_table.specs.declared.faults.FlushFault.TheVariants as flush
-use Rattle.fl_table.proofs.KeptPagesStay.{ring-same}
+use Rattle.fl_parts.proofs.KeptPagesStay.{ring-same}
 use Rattle.fl_rlc.specs.Logged.{Stands, LogStands, IsKept}
 use Rattle.fl_rlc.specs.Memory.{rows_in, page_in, IsSamePlan}
 use Rattle.fl_rlc.specs.Outcomes.{Finishes, Breaks, FlushEnds, LogStays}

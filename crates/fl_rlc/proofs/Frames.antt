@@ -12,7 +12,7 @@ use Rattle.fl_model.specs.Table.{DataRing, LogRing, shape_of}
 use Rattle.fl_ring.specs.Ring as ring
 use Rattle.fl_table.specs.Memory as table
 use Rattle.fl_table.specs.Mounting.{OutsideStands}
-use Rattle.fl_table.specs.Pages.{bytes_in}
+use Rattle.fl_parts.specs.Pages.{bytes_in}
 use Rattle.fl_table.specs.declared.table.Table.{Table}
 use Rattle.fl_table.proofs.SealAnswers.{planned-shape}
 use Rattle.fl_table.proofs.Apart.{PagesApart, beside-stands, some-pages}

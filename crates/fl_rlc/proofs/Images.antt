@@ -8,7 +8,7 @@ use Rattle.fl_model.specs.Ring.{fresh}
 use Rattle.fl_model.specs.Table.{Table, RingName, LogRing, shape_of, fresh_table}
 use Rattle.fl_table.proofs.Images as without_log
 use Rattle.fl_table.proofs.Images.{pages-medium}
-use Rattle.fl_table.specs.Pages.{HoldsTable, bytes_in, place_in}
+use Rattle.fl_parts.specs.Pages.{HoldsTable, bytes_in, place_in}
 use Rattle.fl_rlc.specs.Logged.{Rests}
 
 abbrev HoldsLog : (ℕ → List ℕ) → ℕ → Plan → Table → Type 0

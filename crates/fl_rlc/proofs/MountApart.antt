@@ -19,14 +19,14 @@ use Rattle.fl_table.specs.Memory as table_words
 use Rattle.fl_table.specs.Mounting.{OutsideStands}
 use Rattle.fl_table.specs.Outcomes as bare_outcomes
 use Rattle.fl_table.specs.Outcomes.{FaultEnds, mounted_of}
-use Rattle.fl_table.specs.Pages as pages
+use Rattle.fl_parts.specs.Pages as pages
 use Rattle.fl_table.specs.Standing as without_log
 use Rattle.fl_table.specs.declared.counts.Mounted.{Mounted}
-use Rattle.fl_table.specs.declared.faults.MountFault.{MountFault}
-use Rattle.fl_table.specs.declared.faults.MountFault.TheVariants as mount
+use Rattle.fl_parts.specs.declared.mount_fault.MountFault.{MountFault}
+use Rattle.fl_parts.specs.declared.mount_fault.MountFault.TheVariants as mount
 use Rattle.fl_table.specs.declared.table.Table as code
-use Rattle.fl_table.proofs.Bare.{bare-table}
-use Rattle.fl_table.proofs.Loose.{rests-mountable}
+use Rattle.fl_parts.proofs.Bare.{bare-table}
+use Rattle.fl_parts.proofs.Loose.{rests-mountable}
 use Rattle.fl_table.proofs.MountVar.{mounts-append, mounts-stop, mounts-unread}
 use Rattle.fl_rlc.specs.Memory.{page_in, rows_in}
 use Rattle.fl_rlc.specs.MountingApart.{RestApart, MountsApart, FailsApart, MountApartEnds}

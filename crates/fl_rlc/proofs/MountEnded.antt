@@ -21,20 +21,20 @@ use Rattle.fl_model.specs.Table.{Table, Entry, RingName, DataRing, LogRing, shap
 use Rattle.fl_model.specs.Within.{TableMounts, TableMountEnd, TableMounted, TableStopped, TableUnread}
 use Rattle.fl_model.specs.Work.{Device}
 use Rattle.fl_page.specs.Writer.{Gathers}
-use Rattle.fl_table.specs.Blobs.{ArePlanned}
+use Rattle.fl_parts.specs.Blobs.{ArePlanned}
 use Rattle.fl_table.specs.Mounting.{OutsideStands}
 use Rattle.fl_table.specs.Outcomes as bare_outcomes
 use Rattle.fl_table.specs.Outcomes.{FaultEnds, mounted_of}
-use Rattle.fl_table.specs.Pages as pages
-use Rattle.fl_table.specs.Pages.{bytes_in}
+use Rattle.fl_parts.specs.Pages as pages
+use Rattle.fl_parts.specs.Pages.{bytes_in}
 use Rattle.fl_table.specs.Standing as without_log
 use Rattle.fl_table.specs.declared.counts.Mounted.{Mounted}
-use Rattle.fl_table.specs.declared.faults.MountFault.{MountFault}
-use Rattle.fl_table.specs.declared.faults.MountFault.TheVariants as mount
+use Rattle.fl_parts.specs.declared.mount_fault.MountFault.{MountFault}
+use Rattle.fl_parts.specs.declared.mount_fault.MountFault.TheVariants as mount
 use Rattle.fl_table.specs.declared.table.Table as code
-use Rattle.fl_table.proofs.Bare.{bare-table}
+use Rattle.fl_parts.proofs.Bare.{bare-table}
 use Rattle.fl_table.proofs.BlobsOfTable.{planned-none}
-use Rattle.fl_table.proofs.Loose.{rests-mountable}
+use Rattle.fl_parts.proofs.Loose.{rests-mountable}
 use Rattle.fl_table.proofs.SealAnswers.{planned-shape}
 use Rattle.fl_var.specs.declared.var_data.VarData.{VarData}
 use Rattle.fl_rlc.specs.Logged.{Stands, Rests, LogStands}

@@ -17,16 +17,16 @@ use Rattle.fl_model.specs.Table.{Table, RingName, DataRing, IndexRing, shape_of}
 use Rattle.fl_model.specs.Within.{TableMounts, TableMounted}
 use Rattle.fl_model.specs.Work.{Device, PartProgress}
 use Rattle.fl_ring.specs.Head.{one}
-use Rattle.fl_table.specs.Bitmaps.{ArePlanned}
+use Rattle.fl_parts.specs.Bitmaps.{ArePlanned}
 use Rattle.fl_table.specs.Memory.{IsPlanned}
 use Rattle.fl_table.specs.Mounting.{FindsPages}
-use Rattle.fl_table.specs.Pages.{HoldsTable, place_in, bytes_in}
+use Rattle.fl_parts.specs.Pages.{HoldsTable, place_in, bytes_in}
 use Rattle.fl_table.specs.declared.counts.Mounted.{Mounted}
 use Rattle.fl_table.specs.declared.table.Table as code
 use Rattle.fl_table.proofs.Apart.{some-pages}
-use Rattle.fl_table.proofs.IndexOfTable.{planned-none}
+use Rattle.fl_parts.proofs.IndexOfTable.{planned-none}
 use Rattle.fl_table.proofs.SealAnswers.{planned-shape}
-use Rattle.fl_table.proofs.States.{blank-bytes}
+use Rattle.fl_parts.proofs.States.{blank-bytes}
 use Rattle.fl_rlc.specs.Left.{IsRepaired, IsReplayed, LeavesPages, ReplayLeaves, IsNextPage}
 use Rattle.fl_rlc.proofs.NextAfter.{data-next, index-next}
 use Rattle.fl_rlc.proofs.RingFilled.{next-blank}

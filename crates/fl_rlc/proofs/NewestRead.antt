@@ -18,13 +18,13 @@ use Rattle.fl_frame.specs.Reads.{OnlyReads}
 use Rattle.fl_frame.specs.Causes.{ReadFails}
 use Rattle.fl_schema.specs.Schema.{types_of}
 use Rattle.fl_table.specs.BlobAt.{has_blobs}
-use Rattle.fl_table.specs.Causes.{IfFlash, IfPage, is_of_pages}
+use Rattle.fl_parts.specs.Faults.{IfFlash, IfPage, is_of_pages}
 use Rattle.fl_table.specs.Look.{layout_in}
 use Rattle.fl_table.specs.Standing.{Stands}
-use Rattle.fl_table.specs.declared.faults.MountFault.{MountFault}
-use Rattle.fl_table.specs.declared.faults.MountFault.TheVariants as mount
+use Rattle.fl_parts.specs.declared.mount_fault.MountFault.{MountFault}
+use Rattle.fl_parts.specs.declared.mount_fault.MountFault.TheVariants as mount
 use Rattle.fl_table.specs.declared.table.Table.{Table}
-use Rattle.fl_table.proofs.Refused.{IsPageFault, of_keys}
+use Rattle.fl_parts.proofs.Refused.{IsPageFault, of_keys}
 use Rattle.fl_rlc.specs.Pages.{log_body, IsPage}
 use Rattle.fl_rlc.specs.Replaying.{MayStand, IsBad}
 use Rattle.fl_rlc.proofs.NewestRows.{IsRead, log-page}

@@ -25,10 +25,10 @@ use Rattle.fl_ring.proofs.Found.{committed_state}
 use Rattle.fl_schema.specs.Form.{layout_with}
 use Rattle.fl_schema.specs.declared.column.ColumnType.{ColumnType}
 use Rattle.fl_schema.specs.declared.schema.KeyWidth.{KeyWidth}
-use Rattle.fl_table.proofs.BlobRows.{stored-row}
+use Rattle.fl_parts.proofs.BlobRows.{stored-row}
 use Rattle.fl_table.proofs.KeyOrder.{rising}
-use Rattle.fl_table.proofs.States.{committed-end}
-use Rattle.fl_table.specs.Reading.{keys_fault}
+use Rattle.fl_parts.proofs.States.{committed-end}
+use Rattle.fl_parts.specs.Reading.{keys_fault}
 use Rattle.fl_rlc.specs.Joining.{HasNewest}
 use Rattle.fl_rlc.specs.Memory.{next_in, oldest_in, page_in, log_shape}
 use Rattle.fl_rlc.specs.Pages.{log_body, IsPage}

@@ -15,14 +15,14 @@ use Rattle.fl_model.specs.Record.{Plan, blocks_of, has_log}
 use Rattle.fl_model.specs.Ring.{Ring}
 use Rattle.fl_model.specs.Table.{Table, LogRing, shape_of, lose, log_pages}
 use Rattle.fl_table.specs.BlobAt.{data_in}
-use Rattle.fl_table.specs.Bitmaps.{ArePlanned, IsOutside}
-use Rattle.fl_table.specs.Blobs as variable
-use Rattle.fl_table.specs.Pages as pages
-use Rattle.fl_table.specs.Pages.{bytes_in, place_in}
+use Rattle.fl_parts.specs.Bitmaps.{ArePlanned, IsOutside}
+use Rattle.fl_parts.specs.Blobs as variable
+use Rattle.fl_parts.specs.Pages as pages
+use Rattle.fl_parts.specs.Pages.{bytes_in, place_in}
 use Rattle.fl_table.proofs.Apart.{IsBeside, PagesApart, outside-ring, holds-apart, stands-apart}
-use Rattle.fl_table.proofs.Bare.{bare-table}
+use Rattle.fl_parts.proofs.Bare.{bare-table}
 use Rattle.fl_table.proofs.SealAnswers.{planned-ring}
-use Rattle.fl_table.proofs.States.{shape_in}
+use Rattle.fl_parts.proofs.States.{shape_in}
 use Rattle.fl_var.specs.Memory.{var_shape}
 use Rattle.fl_var.specs.declared.var_data.VarData.{VarData}
 use Rattle.fl_rlc.specs.Logged.{Stands, Rests, LogStands}

@@ -10,7 +10,7 @@ use Rattle.fl_page.specs.Writer.{Gathers}
 use Rattle.fl_ring.specs.Place.{next_of}
 use Rattle.fl_ring.specs.Written.{sealed_over}
 use Rattle.fl_ring.specs.declared.ring.Ring.{Ring}
-use Rattle.fl_table.specs.Bitmaps.{IsOutside}
+use Rattle.fl_parts.specs.Bitmaps.{IsOutside}
 use Rattle.fl_table.specs.Look.{layout_in}
 use Rattle.fl_table.specs.Memory.{ring_shape}
 use Rattle.fl_table.specs.Mounting as mounting

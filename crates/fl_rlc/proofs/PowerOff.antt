@@ -5,7 +5,7 @@ use Rattle.fl_flash.specs.Flash.{FlashState}
 use Rattle.fl_flash.specs.declared.flash.FlashFault.TheVariants.{PowerLost}
 use Rattle.fl_model.specs.Record.{layout_len}
 use Rattle.fl_schema.specs.Schema.{layout_of}
-use Rattle.fl_table.specs.Blobs.{pages_for}
+use Rattle.fl_parts.specs.Blobs.{pages_for}
 use Rattle.fl_table.specs.Memory.{HasRoom}
 use Rattle.fl_table.specs.declared.faults.PutRefusal.{PutRefusal}
 use Rattle.fl_table.specs.declared.faults.PutRefusal.TheVariants as put

@@ -10,11 +10,11 @@ use Rattle.fl_base.specs.declared.types.RingPlace.{RingPlace}
 use Rattle.fl_ring.specs.Place as place
 use Rattle.fl_ring.specs.declared.ring.Ring.{Ring}
 use Rattle.fl_table.specs.BlobAt.{has_blobs}
-use Rattle.fl_table.specs.Blobs as variable
+use Rattle.fl_parts.specs.Blobs as variable
 use Rattle.fl_table.specs.Causes.{put_breaks}
 use Rattle.fl_table.specs.Look.{layout_in}
 use Rattle.fl_table.specs.Memory as table_words
-use Rattle.fl_table.specs.Bitmaps.{IsOutside}
+use Rattle.fl_parts.specs.Bitmaps.{IsOutside}
 use Rattle.fl_table.specs.Refusal.{or_else, refused_if, RefusesAs, put_refusal as table_refusal}
 use Rattle.fl_table.specs.declared.faults.PutRefusal.{PutRefusal}
 use Rattle.fl_table.specs.declared.faults.PutRefusal.TheVariants as put

@@ -19,12 +19,12 @@ use Rattle.fl_machine.proofs.Logs.{core, IsFine, lost}
 use Rattle.fl_machine.proofs.LogTables.{Between, put-goes, put-joined, join-goes-on}
 use Rattle.fl_ring.specs.Kept.{PagesStand}
 use Rattle.fl_ring.specs.Ring as ring
-use Rattle.fl_table.specs.Blobs.{ArePlanned}
+use Rattle.fl_parts.specs.Blobs.{ArePlanned}
 use Rattle.fl_table.specs.Mounting.{OutsideStands}
 use Rattle.fl_table.specs.Outcomes as bare_outcomes
 use Rattle.fl_table.specs.Outcomes.{FaultEnds}
-use Rattle.fl_table.specs.Pages as pages
-use Rattle.fl_table.specs.Pages.{KeptStand, bytes_in}
+use Rattle.fl_parts.specs.Pages as pages
+use Rattle.fl_parts.specs.Pages.{KeptStand, bytes_in}
 use Rattle.fl_table.specs.Standing as table_words
 use Rattle.fl_table.specs.declared.table.Table as code
 use Rattle.fl_table.specs.declared.faults.PutRefusal.TheVariants.{Spent}

@@ -12,9 +12,9 @@ use Rattle.fl_model.specs.Table.{Table, DataRing, IndexRing, table_seals, after_
 use Rattle.fl_ring.specs.Mounting.{HasNumbers}
 use Rattle.fl_ring.specs.Ring.{room}
 use Rattle.fl_ring.specs.declared.ring.Ring.{Ring}
-use Rattle.fl_table.specs.Blobs.{ArePlanned}
+use Rattle.fl_parts.specs.Blobs.{ArePlanned}
 use Rattle.fl_table.specs.Mounting.{OutsideStands}
-use Rattle.fl_table.specs.Pages.{KeptStand, place_in}
+use Rattle.fl_parts.specs.Pages.{KeptStand, place_in}
 use Rattle.fl_table.specs.Standing.{Stands}
 use Rattle.fl_table.specs.declared.table.Table as code
 use Rattle.fl_table.proofs.Apart.{beside-stands}

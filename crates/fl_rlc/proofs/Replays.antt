@@ -18,14 +18,14 @@ use Rattle.fl_frame.specs.Device.{SameDevice}
 use Rattle.fl_ring.specs.Ring as ring
 use Rattle.fl_ring.specs.declared.fault.RingFault.{RingFault}
 use Rattle.fl_ring.specs.declared.fault.RingFault.TheVariants as ring_fault
-use Rattle.fl_table.specs.Causes.{of_ring}
-use Rattle.fl_table.specs.declared.faults.MountFault.{MountFault}
-use Rattle.fl_table.specs.declared.faults.MountFault.TheVariants as mount
+use Rattle.fl_parts.specs.Faults.{of_ring}
+use Rattle.fl_parts.specs.declared.mount_fault.MountFault.{MountFault}
+use Rattle.fl_parts.specs.declared.mount_fault.MountFault.TheVariants as mount
 use Rattle.fl_table.specs.Memory as table_words
 use Rattle.fl_table.specs.Mounting.{OutsideStands}
 use Rattle.fl_table.specs.Outcomes as bare_outcomes
 use Rattle.fl_table.specs.Outcomes.{BySeals, FaultEnds}
-use Rattle.fl_table.specs.Pages as pages
+use Rattle.fl_parts.specs.Pages as pages
 use Rattle.fl_table.specs.Standing as without_log
 use Rattle.fl_table.specs.declared.table.Table as code
 use Rattle.fl_table.proofs.Apart.{stands-apart, rests-apart}

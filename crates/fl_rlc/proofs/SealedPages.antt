@@ -12,13 +12,13 @@ use Rattle.fl_model.specs.Record.{Plan, blocks_of, has_index, entries_per_page}
 use Rattle.fl_model.specs.Ring.{Ring, sealed, erased}
 use Rattle.fl_model.specs.Table.{Table, DataRing, IndexRing, VarRing, shape_of, table_seals, after_seals, fill, lose}
 use Rattle.fl_ring.proofs.Lengths.{page_length}
-use Rattle.fl_table.specs.Bitmaps.{ArePlanned, Stand}
+use Rattle.fl_parts.specs.Bitmaps.{ArePlanned, Stand}
 use Rattle.fl_table.specs.Mounting.{OutsideStands}
-use Rattle.fl_table.specs.Pages.{KeptStand, place_in}
+use Rattle.fl_parts.specs.Pages.{KeptStand, place_in}
 use Rattle.fl_table.specs.Standing.{Stands}
 use Rattle.fl_table.specs.declared.table.Table as code
 use Rattle.fl_table.proofs.Apart.{beside-stands}
-use Rattle.fl_table.proofs.States.{blank-bytes}
+use Rattle.fl_parts.proofs.States.{blank-bytes}
 use Rattle.fl_rlc.specs.Left.{IsNextPage}
 use Rattle.fl_rlc.proofs.NextAfter.{sealed-next}
 use Rattle.fl_rlc.proofs.RingFilled.{ring-filled}

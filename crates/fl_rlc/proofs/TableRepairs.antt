@@ -15,16 +15,17 @@ use Rattle.fl_ring.specs.Mounting.{HasNumbers}
 use Rattle.fl_ring.specs.Ring.{Shape}
 use Rattle.fl_ring.specs.declared.ring.Ring.{Ring}
 use Rattle.fl_ring.proofs.Founds.{same_pages}
-use Rattle.fl_table.specs.Bitmaps.{ArePlanned}
-use Rattle.fl_table.specs.BlobEnds.{least_of}
-use Rattle.fl_table.specs.BlobMount.{FindsBlobs}
-use Rattle.fl_table.specs.Blobs as variable
+use Rattle.fl_parts.specs.Bitmaps.{ArePlanned}
+use Rattle.fl_parts.specs.BlobEnds.{least_of}
+use Rattle.fl_parts.specs.BlobMount.{FindsBlobs}
+use Rattle.fl_parts.specs.Blobs as variable
 use Rattle.fl_table.specs.Memory.{IsPlanned, ring_shape}
-use Rattle.fl_table.specs.Mounting.{FindsBy, FindsBitmaps, FindsPages}
+use Rattle.fl_parts.specs.IndexMount.{FindsBy, FindsBitmaps}
+use Rattle.fl_table.specs.Mounting.{FindsPages}
 use Rattle.fl_table.specs.declared.counts.Mounted.{Mounted}
 use Rattle.fl_table.specs.declared.table.Table.{Table}
 use Rattle.fl_table.proofs.BlobsOfTable as blobbing
-use Rattle.fl_table.proofs.IndexOfTable.{planned-some}
+use Rattle.fl_parts.proofs.IndexOfTable.{planned-some}
 use Rattle.fl_table.proofs.SealAnswers.{planned-shape, planned-ring}
 use Rattle.fl_var.specs.Memory.{var_shape}
 use Rattle.fl_var.specs.declared.var_data.VarData.{VarData}

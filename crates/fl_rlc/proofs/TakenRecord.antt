@@ -15,8 +15,8 @@ use Rattle.fl_model.specs.Table as model
 use Rattle.fl_model.specs.Table.{Entry, pending_entries}
 use Rattle.fl_model.specs.Work.{Device}
 use Rattle.fl_table.specs.BlobAt.{has_blobs}
-use Rattle.fl_table.specs.Blobs as variable
-use Rattle.fl_table.specs.Blobs.{pages_for}
+use Rattle.fl_parts.specs.Blobs as variable
+use Rattle.fl_parts.specs.Blobs.{pages_for}
 use Rattle.fl_table.specs.Causes.{put_breaks, RefusedSame}
 use Rattle.fl_table.specs.Look.{layout_in}
 use Rattle.fl_table.specs.Memory.{HasRoom, pending_in}
@@ -29,7 +29,7 @@ use Rattle.fl_table.specs.Stored.{Stores}
 use Rattle.fl_table.specs.declared.faults.PutRefusal.{PutRefusal}
 use Rattle.fl_table.specs.declared.faults.PutRefusal.TheVariants as put
 use Rattle.fl_table.specs.declared.table.Table.{Table}
-use Rattle.fl_table.proofs.Bare.{bare-table}
+use Rattle.fl_parts.proofs.Bare.{bare-table}
 use Rattle.fl_table.proofs.BlobsOfTable.{planned-none}
 use Rattle.fl_table.proofs.Refusals.{refusal-calm}
 use Rattle.fl_var.specs.declared.var_data.VarData.{VarData}

@@ -3,7 +3,7 @@ use Rattle.std.proofs.Common.{◌≡◌, ℕ, ◌-◌, ◌≤◌, length, drop, 
 use Rattle.fl_base.specs.Bytes.{splice}
 use Rattle.fl_page.specs.WriterState.{WriterState}
 use Rattle.fl_page.specs.Header.{header_bytes}
-use Rattle.fl_table.proofs.Writers.{rest-clear, rest-finish}
+use Rattle.fl_parts.proofs.Writers.{rest-clear, rest-finish}
 
 pub record IsKept (w : WriterState) : Type 0 where
   pub begin : 16 ≤ w.end

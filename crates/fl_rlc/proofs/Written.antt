@@ -5,11 +5,11 @@ use Rattle.fl_frame.specs.Reads.{OnlyReads}
 use Rattle.fl_index.specs.declared.index.BitmapIndex.{BitmapIndex}
 use Rattle.fl_ring.specs.Written.{Writes}
 use Rattle.fl_ring.proofs.Written.{few-writes, writes-then, writes-wider}
-use Rattle.fl_table.specs.Bitmaps as bitmaps
-use Rattle.fl_table.specs.Blobs.{most_pages, MayFill}
+use Rattle.fl_parts.specs.Bitmaps as bitmaps
+use Rattle.fl_parts.specs.Blobs.{most_pages, MayFill}
 use Rattle.fl_table.specs.Memory as table
 use Rattle.fl_table.specs.Mounting as mounting
-use Rattle.fl_table.specs.Mounting.{FewRepairs}
+use Rattle.fl_parts.specs.IndexMount.{FewRepairs}
 use Rattle.fl_table.specs.Paged as paged
 use Rattle.fl_table.specs.Paged.{next_page}
 use Rattle.fl_table.specs.declared.table.Table.{Table}

@@ -13,13 +13,13 @@ use Rattle.fl_ring.specs.Written.{Writes}
 use Rattle.fl_ring.specs.declared.fault.RingFault.{RingFault}
 use Rattle.fl_ring.specs.declared.newest.NewestPage.{NewestPage}
 use Rattle.fl_table.specs.BlobAt.{data_in}
-use Rattle.fl_table.specs.Bitmaps.{IsOutside}
-use Rattle.fl_table.specs.Causes.{of_ring, IfFlash, IfPage, is_of_pages}
+use Rattle.fl_parts.specs.Bitmaps.{IsOutside}
+use Rattle.fl_parts.specs.Faults.{of_ring, IfFlash, IfPage, is_of_pages}
 use Rattle.fl_table.specs.Memory.{pending_in, ring_shape, MaySeal}
 use Rattle.fl_table.specs.Mounting.{rings_in}
 use Rattle.fl_table.specs.Skipping.{index_in}
-use Rattle.fl_table.specs.declared.faults.MountFault.{MountFault}
-use Rattle.fl_table.specs.declared.faults.MountFault.TheVariants as mount
+use Rattle.fl_parts.specs.declared.mount_fault.MountFault.{MountFault}
+use Rattle.fl_parts.specs.declared.mount_fault.MountFault.TheVariants as mount
 use Rattle.fl_table.specs.declared.table.Table.{Table}
 use Rattle.fl_var.specs.Memory.{var_shape}
 use Rattle.fl_rlc.specs.Memory.{log_shape, page_in}

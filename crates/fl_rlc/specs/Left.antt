@@ -6,7 +6,7 @@ use Rattle.fl_mark.specs.declared.page_state.PageState.TheVariants.{Torn}
 use Rattle.fl_model.specs.Bare.{bare}
 use Rattle.fl_model.specs.Record.{Plan, blocks_of, has_log}
 use Rattle.fl_model.specs.Table.{Table, DataRing, IndexRing}
-use Rattle.fl_table.specs.Pages.{place_in}
+use Rattle.fl_parts.specs.Pages.{place_in}
 
 -- a page of so many bytes stands, or it was torn and its void mark was programmed, or it was erased
 abbrev pub IsRepaired : ℕ → List ℕ → List ℕ → Type 0

@@ -7,7 +7,7 @@ use Rattle.fl_model.specs.Image.{IsRingImage, HoldsLogged}
 use Rattle.fl_model.specs.Record.{Plan, blocks_of}
 use Rattle.fl_model.specs.Table as model
 use Rattle.fl_model.specs.Table.{LogRing, shape_of, pending_entries, owed, is_rows_spent}
-use Rattle.fl_table.specs.Pages.{HoldsTable, bytes_in}
+use Rattle.fl_parts.specs.Pages.{HoldsTable, bytes_in}
 use Rattle.fl_table.specs.Standing as without_log
 use Rattle.fl_rlc.specs.Standing as of_log
 use Rattle.fl_rlc.specs.declared.log.RecordLog.{RecordLog}

@@ -6,7 +6,7 @@ use Rattle.fl_ring.specs.Ring.{room}
 use Rattle.fl_table.specs.Look.{layout_in}
 use Rattle.fl_table.specs.Mounting as mounting
 use Rattle.fl_table.specs.declared.counts.Mounted.{Mounted}
-use Rattle.fl_table.specs.declared.faults.MountFault.{MountFault}
+use Rattle.fl_parts.specs.declared.mount_fault.MountFault.{MountFault}
 use Rattle.fl_table.specs.declared.table.Table.{Table}
 use Rattle.fl_rlc.specs.Finding.{FindsLog, RefusesLog}
 use Rattle.fl_rlc.specs.Memory.{log_shape}

@@ -12,11 +12,11 @@ use Rattle.fl_model.specs.Within.{TableMounts, TableMounted, TableStopped, Table
 use Rattle.fl_model.specs.Work.{Device, PartProgress}
 use Rattle.fl_frame.specs.Device.{SameDevice}
 use Rattle.fl_table.specs.Outcomes.{FaultEnds, mounted_of}
-use Rattle.fl_table.specs.Pages as pages
+use Rattle.fl_parts.specs.Pages as pages
 use Rattle.fl_table.specs.Standing as without_log
 use Rattle.fl_table.specs.declared.counts.Mounted.{Mounted}
-use Rattle.fl_table.specs.declared.faults.MountFault.{MountFault}
-use Rattle.fl_table.specs.declared.faults.MountFault.TheVariants as mount
+use Rattle.fl_parts.specs.declared.mount_fault.MountFault.{MountFault}
+use Rattle.fl_parts.specs.declared.mount_fault.MountFault.TheVariants as mount
 use Rattle.fl_rlc.specs.Logged.{Stands}
 use Rattle.fl_rlc.specs.Repairing as repairing
 use Rattle.fl_rlc.specs.Standing.{HasRing}

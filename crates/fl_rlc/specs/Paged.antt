@@ -7,9 +7,9 @@ use Rattle.fl_model.specs.Row.{Row}
 use Rattle.fl_page.specs.Writer.{Gathers}
 use Rattle.fl_ring.specs.Ring.{place}
 use Rattle.fl_ring.specs.Written.{Writes, sealed_over}
-use Rattle.fl_table.specs.Bitmaps.{IsOutside}
+use Rattle.fl_parts.specs.Bitmaps.{IsOutside}
 use Rattle.fl_table.specs.BlobAt.{data_in}
-use Rattle.fl_table.specs.Blobs.{most_pages, MayFill}
+use Rattle.fl_parts.specs.Blobs.{most_pages, MayFill}
 use Rattle.fl_table.specs.Look.{layout_in}
 use Rattle.fl_table.specs.Memory.{ring_shape}
 use Rattle.fl_table.specs.Paged.{IsApart, RowsAhead, RowsPaged, next_page}

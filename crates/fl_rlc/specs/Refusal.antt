@@ -3,7 +3,7 @@ use Rattle.std.specs.Prelude.{◌≡◌, ℕ, ℤ, false, Option, Some, None, Li
 use Rattle.fl_flash.specs.Flash.{FlashState}
 use Rattle.fl_model.specs.Table.{spent_from}
 use Rattle.fl_table.specs.BlobAt.{data_in}
-use Rattle.fl_table.specs.Blobs.{pages_for}
+use Rattle.fl_parts.specs.Blobs.{pages_for}
 use Rattle.fl_table.specs.Memory.{HasRoom}
 use Rattle.fl_table.specs.Refusal as table
 use Rattle.fl_table.specs.Refusal.{or_else, refused_if}

@@ -14,11 +14,11 @@ use Rattle.fl_model.specs.Work.{Device, PartProgress}
 use Rattle.fl_page.specs.Page.{IsGoodPage, bad_page, rows_in}
 use Rattle.fl_frame.specs.Device.{SameDevice}
 use Rattle.fl_table.specs.Outcomes.{FaultEnds}
-use Rattle.fl_table.specs.Pages as pages
-use Rattle.fl_table.specs.Reading.{keys_fault}
+use Rattle.fl_parts.specs.Pages as pages
+use Rattle.fl_parts.specs.Reading.{keys_fault}
 use Rattle.fl_table.specs.Standing as without_log
-use Rattle.fl_table.specs.declared.faults.MountFault.{MountFault}
-use Rattle.fl_table.specs.declared.faults.MountFault.TheVariants as mount
+use Rattle.fl_parts.specs.declared.mount_fault.MountFault.{MountFault}
+use Rattle.fl_parts.specs.declared.mount_fault.MountFault.TheVariants as mount
 use Rattle.fl_table.specs.declared.table.Table.{Table}
 use Rattle.fl_rlc.specs.Memory.{page_in}
 use Rattle.fl_rlc.specs.Pages.{IsLogRing}

@@ -7,7 +7,7 @@ use Rattle.fl_model.specs.Bare.{bare}
 use Rattle.fl_model.specs.Record.{Plan, RowLayout, blocks_of}
 use Rattle.fl_page.specs.Writer.{Gathers}
 use Rattle.fl_table.specs.BlobAt.{data_in}
-use Rattle.fl_table.specs.Bitmaps.{IsOutside}
+use Rattle.fl_parts.specs.Bitmaps.{IsOutside}
 use Rattle.fl_table.specs.Look.{counts_in}
 use Rattle.fl_table.specs.Memory as table
 use Rattle.fl_table.specs.Memory.{ring_shape}

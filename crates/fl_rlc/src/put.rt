@@ -15,7 +15,7 @@ impl<const KNOTS: usize, const SLOTS: usize> LoggedTable<KNOTS, SLOTS> {
     ghost use Rattle.fl_model.specs.Work.{Device};
     ghost use Rattle.fl_frame.specs.Watched.{IsWatched};
     ghost use Rattle.fl_ring.specs.Written.{Writes};
-    ghost use Rattle.fl_table.specs.Blobs.{most_pages};
+    ghost use Rattle.fl_parts.specs.Blobs.{most_pages};
     ghost use Rattle.fl_table.specs.BlobAt.{data_in};
     ghost use Rattle.fl_table.specs.Causes.{PutCausedBy, FlushCausedBy, put_breaks, flush_breaks};
     ghost use Rattle.fl_table.specs.Look.{last_key_in, layout_in};

@@ -17,10 +17,11 @@ ghost use Rattle.fl_schema.specs.Schema.{layout_of};
 ghost use Rattle.fl_table.specs.BlobAt.{has_blobs};
 ghost use Rattle.fl_ring.specs.Ring.{room};
 ghost use Rattle.fl_ring.specs.Written.{Writes};
-ghost use Rattle.fl_table.specs.Causes.{IfFlash, IfPage, is_of_pages, MountCausedBy};
+ghost use Rattle.fl_parts.specs.Faults.{IfFlash, IfPage, is_of_pages, MountCausedBy};
 ghost use Rattle.fl_table.specs.Look.{layout_in};
 ghost use Rattle.fl_table.specs.Memory as table_words;
 ghost use Rattle.fl_table.specs.Memory.{is_running, is_stopped, pending_in};
+ghost use Rattle.fl_parts.specs.IndexMount.{FewReads, FewRepairs};
 ghost use Rattle.fl_table.specs.Mounting as mounting;
 ghost use Rattle.fl_table.specs.Outcomes.{SealsEnd};
 ghost use Rattle.fl_table.specs.Standing as without_log;
@@ -159,8 +160,8 @@ pub(crate) fn replay<F: Flash, const KNOTS: usize, const SLOTS: usize>(
         → repairing.Rests log.old (F.state flash.old) (first + blocks_of (bare plan)) plan table_now → ReplayLeaves first plan table_now (page_at (F.state flash.old)) (page_at (F.state flash.new))) }
     ensures refused { IfErr result (λ e. IsTrue (F.state flash.old).media.tells → RefusesLog (layout_in table.old) log.old (F.state flash.old) table.old e (F.state flash.new)) }
     ensures outside { IsTrue (F.state flash.old).media.tells → StandBeside table.old log.old (page_at (F.state flash.old)) (page_at (F.state flash.new)) }
-    ensures reads { mounting.FewReads (4 * room (log_shape log.old)) (F.state flash.old) (F.state flash.new) }
-    ensures repairs { mounting.FewRepairs (1 + 2 * mounting.rings_in table.old) (F.state flash.old) (F.state flash.new) }
+    ensures reads { FewReads (4 * room (log_shape log.old)) (F.state flash.old) (F.state flash.new) }
+    ensures repairs { FewRepairs (1 + 2 * mounting.rings_in table.old) (F.state flash.old) (F.state flash.new) }
     ensures limit { (first : ℕ) → (plan : Plan) → (table_now : model.Table) → IsTrue (F.state flash.old).media.tells → repairing.Rests log.old (F.state flash.old) first plan table_now
         → (F.state flash.new).work.reads ≤ (F.state flash.old).work.reads + log_mount_limit (shape_of plan LogRing) table_now.log }
     ensures power { OnOk result ((F.state flash.new).is_on ≡ true) }

@@ -17,7 +17,7 @@ use Rattle.fl_schema.specs.Form.{key_width}
 use Rattle.fl_schema.specs.Types.{column_of}
 use Rattle.fl_schema.specs.declared.schema.KeyWidth.{KeyWidth}
 use Rattle.fl_schema.specs.declared.schema.KeyWidth.TheVariants.{Four, Eight}
-use Rattle.fl_table.proofs.KeptPages.{sum-next}
+use Rattle.fl_parts.proofs.KeptPages.{sum-next}
 use Rattle.fl_words.specs.Command.{TableLine}
 use Rattle.fl_words.specs.Config.{Lines, columns_in, device_faults, first_fault, plan_of, table_faults}
 use Rattle.fl_saved.proofs.RingsOfImage.{IsHere, IsMadePlan}

@@ -25,9 +25,9 @@ use Rattle.fl_page.specs.Page.{IsGoodPage, rows_in}
 use Rattle.fl_page.proofs.DataPages.{IsDataPage, data_page}
 use Rattle.fl_page.proofs.WriterSteps.{layout_some}
 use Rattle.fl_ring.proofs.Found.{committed_state}
-use Rattle.fl_table.proofs.BlobEnds.{AreNumbered}
-use Rattle.fl_table.proofs.KeptPages.{all-stored, sum-next}
-use Rattle.fl_table.proofs.States.{committed-end}
+use Rattle.fl_parts.proofs.BlobEnds.{AreNumbered}
+use Rattle.fl_parts.proofs.KeptPages.{all-stored, sum-next}
+use Rattle.fl_parts.proofs.States.{committed-end}
 use Rattle.fl_salvage.specs.Pages.{found_at, has_rows, if_committed, numbered, numbers_at, page_of, with_number, with_passed}
 use Rattle.fl_salvage.specs.declared.passed_over.PassedOver.{PassedOver}
 use Rattle.fl_salvage.specs.Text.{Form, rows_of}

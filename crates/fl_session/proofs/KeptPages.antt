@@ -13,7 +13,7 @@ use Rattle.fl_model.specs.Table.{Table, RingName, DataRing, IndexRing, VarRing, 
 use Rattle.fl_model.proofs.Lists.{slice_get-some}
 use Rattle.fl_machine.specs.Stays.{RingStays, TablesStay}
 use Rattle.fl_ring.specs.Kept.{PagesStand}
-use Rattle.fl_table.specs.Pages.{KeptStand, bytes_in}
+use Rattle.fl_parts.specs.Pages.{KeptStand, bytes_in}
 use Rattle.fl_rlc.specs.Logged.{Stands}
 use Rattle.fl_rlc.specs.Outcomes.{LogStays}
 use Rattle.fl_rlc.specs.Table.{OutsideStands}

@@ -5,9 +5,9 @@ use Rattle.fl_index.specs.declared.index.BitmapIndex.{BitmapIndex}
 use Rattle.fl_rlc.specs.Table.{AreSameLog, IsSamePlan, rings_in, table_in}
 use Rattle.fl_rlc.specs.declared.log.RecordLog.{RecordLog}
 use Rattle.fl_rlc.specs.declared.table.LoggedTable.{LoggedTable}
-use Rattle.fl_table.specs.Bitmaps as bitmaps
+use Rattle.fl_parts.specs.Bitmaps as bitmaps
 use Rattle.fl_table.specs.BlobAt.{data_in}
-use Rattle.fl_table.specs.Blobs.{most_pages}
+use Rattle.fl_parts.specs.Blobs.{most_pages}
 use Rattle.fl_store.proofs.InMemory.{data-same}
 use Rattle.fl_var.specs.declared.var_data.VarData.{VarData}
 

@@ -6,7 +6,7 @@ use Rattle.std.proofs.Math.IntN.{ℤ}
 use Rattle.fl_model.specs.Record.{Column}
 use Rattle.fl_schema.specs.declared.column.ColumnType.{ColumnType}
 use Rattle.fl_schema.specs.Types.{column_of}
-use Rattle.fl_table.proofs.Misfits.{map-get}
+use Rattle.fl_parts.proofs.Misfits.{map-get}
 use Rattle.fl_machine.specs.Step.{load_values}
 use Rattle.fl_session.specs.declared.generator.Generator.{Generator}
 use Rattle.fl_session.specs.Load.{StandsBefore}

@@ -17,8 +17,8 @@ use Rattle.fl_words.specs.Reply as reply
 use Rattle.fl_words.specs.Reply.{text}
 use Rattle.fl_machine.specs.Machine.{Machine, stopped, no_cursors}
 use Rattle.fl_machine.specs.Step.{Moment, Step, Says, EndsAs, EndsMount, MountStep, all_ready}
-use Rattle.fl_table.specs.declared.faults.MountFault.{MountFault}
-use Rattle.fl_table.specs.declared.faults.MountFault.TheVariants as mount
+use Rattle.fl_parts.specs.declared.mount_fault.MountFault.{MountFault}
+use Rattle.fl_parts.specs.declared.mount_fault.MountFault.TheVariants as mount
 use Rattle.fl_store.specs.Mounting.{AreUnlogged}
 use Rattle.fl_store.specs.Repaired.{IsLeft}
 use Rattle.fl_store.specs.Tables.{TablesStand, FaultIs, TablesMounted, TablesBroken, MountBreaks, TablesMount}

@@ -14,7 +14,7 @@ use Rattle.fl_model.specs.Table.{Table, Entry}
 use Rattle.fl_page.specs.Steps.{Steps}
 use Rattle.fl_page.specs.declared.fault.ReadFault.{ReadFault}
 use Rattle.fl_page.specs.declared.fault.ReadFault.TheVariants.{Flash, BadPage}
-use Rattle.fl_table.specs.Blobs as variable
+use Rattle.fl_parts.specs.Blobs as variable
 use Rattle.fl_table.specs.Standing as standing
 use Rattle.fl_table.specs.declared.table.Table as memory
 use Rattle.fl_var.specs.declared.var_data.VarData.{VarData}

@@ -28,7 +28,7 @@ use Rattle.fl_store.specs.Tables.{first_of}
 use Rattle.fl_store.specs.declared.tables.Entry.{Entry}
 use Rattle.fl_session.specs.Ends.{IsOwn, IsFormed, new_content, opened}
 use Rattle.fl_session.specs.Opening.{Opened}
-use Rattle.fl_table.specs.Pages.{bytes_in, place_in}
+use Rattle.fl_parts.specs.Pages.{bytes_in, place_in}
 use Rattle.fl_session.specs.Cost.{cost_of}
 use Rattle.fl_session.specs.Notes.{no_notes}
 use Rattle.fl_session.specs.declared.notes.Notes.{Notes}

@@ -10,8 +10,8 @@ use Rattle.fl_rlc.specs.Table.{is_running}
 use Rattle.fl_rlc.specs.declared.log.RecordLog.{RecordLog}
 use Rattle.fl_rlc.specs.declared.table.LoggedTable.{LoggedTable}
 use Rattle.fl_schema.specs.Schema.{layout_of}
-use Rattle.fl_table.specs.Bitmaps as bitmaps
-use Rattle.fl_table.specs.Blobs as variable
+use Rattle.fl_parts.specs.Bitmaps as bitmaps
+use Rattle.fl_parts.specs.Blobs as variable
 use Rattle.fl_table.specs.Refusal as table
 use Rattle.fl_table.specs.Refusal.{RefusesAs, blob_refused, key_refused, limit_in, or_else, refused_if, spent_refused, value_refused}
 use Rattle.fl_table.specs.declared.faults.PutRefusal.{PutRefusal}

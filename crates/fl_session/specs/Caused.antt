@@ -25,7 +25,7 @@ use Rattle.fl_script.specs.Written.{Written}
 use Rattle.fl_frame.specs.Causes.{CausedBy}
 use Rattle.fl_table.specs.Causes.{flush_breaks, put_breaks}
 use Rattle.fl_table.specs.BlobAt.{data_in, has_blobs}
-use Rattle.fl_table.specs.Blobs.{most_pages}
+use Rattle.fl_parts.specs.Blobs.{most_pages}
 use Rattle.fl_table.specs.Finding.{IsAnswered, LookupFails}
 use Rattle.fl_table.specs.Look.{counts_in, last_key_in, layout_in, oldest_in}
 use Rattle.fl_table.specs.Memory.{next_in, pending_in, HasRoom, MaySeal}

@@ -11,7 +11,7 @@ use Rattle.fl_rlc.specs.Table.{IsSamePlan, MayPut, log_in, rings_in, table_in}
 use Rattle.fl_rlc.specs.declared.table.LoggedTable.{LoggedTable}
 use Rattle.fl_ring.specs.Written.{Writes}
 use Rattle.fl_table.specs.BlobAt.{data_in}
-use Rattle.fl_table.specs.Blobs.{most_pages}
+use Rattle.fl_parts.specs.Blobs.{most_pages}
 use Rattle.fl_table.specs.Look.{last_key_in, layout_in}
 use Rattle.fl_table.specs.Memory.{HasRoom}
 use Rattle.fl_table.specs.Refusal.{RefusesAs}

@@ -8,13 +8,13 @@ use Rattle.fl_image.specs.declared.status.ToolStatus.TheVariants as job
 use Rattle.fl_page.specs.declared.fault.BadPage.{BadPage}
 use Rattle.fl_page.specs.declared.fault.ReadFault.TheVariants as read
 use Rattle.fl_table.specs.declared.faults.FlushFault.TheVariants as flush
-use Rattle.fl_table.specs.declared.faults.MountFault.{MountFault}
-use Rattle.fl_table.specs.declared.faults.MountFault.TheVariants as mount
+use Rattle.fl_parts.specs.declared.mount_fault.MountFault.{MountFault}
+use Rattle.fl_parts.specs.declared.mount_fault.MountFault.TheVariants as mount
 use Rattle.fl_table.specs.declared.faults.PutRefusal.TheVariants as put
 use Rattle.fl_ship.specs.Fits.{is_refused}
 use Rattle.fl_frame.proofs.WatchedInTurn.{never-lost}
 use Rattle.fl_frame.specs.Causes.{IsUnarmed}
-use Rattle.fl_table.specs.Causes.{MountCausedBy}
+use Rattle.fl_parts.specs.Faults.{MountCausedBy}
 use Rattle.fl_ship.specs.Tables.{IsOfTables, RoseOn, StopCausedBy, mount_status, stop_status}
 use Rattle.fl_ship.specs.declared.fault.ShipFault.TheVariants.{Read, Put, Flush}
 use Rattle.fl_ship.specs.declared.side.Side.{Side}

@@ -13,8 +13,8 @@ use Rattle.fl_store.specs.Tables.{TablesStand}
 use Rattle.fl_store.specs.declared.tables.Entry.{Entry}
 use Rattle.fl_table.specs.Look.{layout_in}
 use Rattle.fl_table.specs.declared.faults.FlushFault.TheVariants as flush
-use Rattle.fl_table.specs.declared.faults.MountFault.{MountFault}
-use Rattle.fl_table.specs.declared.faults.MountFault.TheVariants as mount
+use Rattle.fl_parts.specs.declared.mount_fault.MountFault.{MountFault}
+use Rattle.fl_parts.specs.declared.mount_fault.MountFault.TheVariants as mount
 use Rattle.fl_table.specs.declared.faults.PutRefusal.TheVariants as put
 use Rattle.fl_ship.specs.Ends.{Told, Holding, IsGapBetween, IsUnread, ShipsSo}
 use Rattle.fl_ship.specs.Rows.{ShipCausedBy}

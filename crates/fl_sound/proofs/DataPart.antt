@@ -34,19 +34,19 @@ use Rattle.fl_plan.specs.declared.table_config.TableConfig.{TableConfig}
 use Rattle.fl_ring.specs.Mounting.{IsGood}
 use Rattle.fl_ring.specs.Newest.{commits}
 use Rattle.fl_ring.specs.Ring.{Shape, IsShape, OnRing, place}
-use Rattle.fl_table.specs.Pages.{Rests}
-use Rattle.fl_table.specs.Reading.{bitmap_where, page_bitmap}
-use Rattle.fl_table.proofs.NotedEntries.{page-bitmap}
+use Rattle.fl_parts.specs.Pages.{Rests}
+use Rattle.fl_parts.specs.Reading.{bitmap_where, page_bitmap}
+use Rattle.fl_parts.proofs.NotedEntries.{page-bitmap}
 use Rattle.fl_schema.specs.Form.{key_width}
 use Rattle.fl_schema.specs.declared.schema.KeyWidth.{KeyWidth}
 use Rattle.fl_schema.specs.declared.schema.KeyWidth.TheVariants.{Four, Eight}
-use Rattle.fl_table.proofs.KeptPages.{kept, table-numbered}
-use Rattle.fl_table.proofs.Loose.{IsLoose, loose-of}
+use Rattle.fl_parts.proofs.KeptPages.{kept, table-numbered}
+use Rattle.fl_parts.proofs.Loose.{IsLoose, loose-of}
 use Rattle.fl_table.proofs.MountGood.{good-ring}
-use Rattle.fl_table.proofs.Plain.{IsPlainTable, table-parts}
+use Rattle.fl_parts.proofs.Plain.{IsPlainTable, table-parts}
 use Rattle.fl_plan.proofs.Fits.{few-blobs, row-fits}
 use Rattle.fl_table.proofs.Repaired.{IsIdle, lost-idle}
-use Rattle.fl_table.proofs.States.{state_of, state-count, to-ring, HaveSize}
+use Rattle.fl_parts.proofs.States.{state_of, state-count, to-ring, HaveSize}
 use Rattle.fl_check.specs.Marks.{kept_page}
 use Rattle.fl_check.specs.Rising.{KeysAscend}
 use Rattle.fl_check.specs.Told.{header_bitmap, full_in, TellsCommitted, TellsVoid, TellsPage}

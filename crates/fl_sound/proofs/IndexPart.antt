@@ -25,8 +25,8 @@ use Rattle.fl_plan.specs.Plan.{Label, bits_in, blocks_in, plan_of_table}
 use Rattle.fl_plan.specs.declared.table_config.TableConfig.{TableConfig}
 use Rattle.fl_ring.specs.Mounting.{IsGood}
 use Rattle.fl_ring.specs.Ring.{Shape, IsShape, place}
-use Rattle.fl_table.specs.Pages.{bytes_in}
-use Rattle.fl_table.proofs.ListsStay.{has-index}
+use Rattle.fl_parts.specs.Pages.{bytes_in}
+use Rattle.fl_parts.proofs.ListsStay.{has-index}
 use Rattle.fl_check.specs.Entries.{entries_in, HaveEntries}
 use Rattle.fl_check.specs.Marks.{kept_page}
 use Rattle.fl_check.specs.RingRules.{NoRows, IsRingSound}

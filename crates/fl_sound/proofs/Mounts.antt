@@ -20,10 +20,10 @@ use Rattle.fl_model.specs.Table.{Table, Entry, RingName, DataRing, IndexRing, Va
 use Rattle.fl_model.proofs.Lists.{each-weaker}
 use Rattle.fl_plan.specs.Plan.{Label, label_of, blocks_in, plan_of_table, with_log, IsRingAt}
 use Rattle.fl_plan.specs.declared.table_config.TableConfig.{TableConfig}
-use Rattle.fl_table.specs.Blobs.{AreLed}
-use Rattle.fl_table.specs.Mountable.{AreVoid, IsPaged}
-use Rattle.fl_table.specs.Pages.{HoldsTable}
-use Rattle.fl_table.specs.Pages as pages
+use Rattle.fl_parts.specs.Blobs.{AreLed}
+use Rattle.fl_parts.specs.Mountable.{AreVoid, IsPaged}
+use Rattle.fl_parts.specs.Pages.{HoldsTable}
+use Rattle.fl_parts.specs.Pages as pages
 use Rattle.fl_rlc.specs.Logged.{Rests}
 use Rattle.fl_rlc.specs.Memory.{IsPlanned, page_in}
 use Rattle.fl_rlc.specs.Repairing as repairing

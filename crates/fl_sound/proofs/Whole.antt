@@ -21,7 +21,7 @@ use Rattle.fl_plan.specs.Plan.{Label, label_of, plan_of_table, with_log}
 use Rattle.fl_plan.specs.declared.table_config.TableConfig.{TableConfig}
 use Rattle.fl_ring.specs.Ring.{Shape}
 use Rattle.fl_ring.proofs.Images.{bytes_of}
-use Rattle.fl_table.specs.Pages.{Rests}
+use Rattle.fl_parts.specs.Pages.{Rests}
 use Rattle.fl_rlc.specs.Logged as with_log_ring
 use Rattle.fl_rlc.proofs.BareFacts.{bare-facts}
 use Rattle.fl_rlc.proofs.Images.{image-rests}

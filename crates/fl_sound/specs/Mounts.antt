@@ -16,7 +16,7 @@ use Rattle.fl_rlc.specs.Logged.{Rests}
 use Rattle.fl_rlc.specs.Memory.{IsPlanned}
 use Rattle.fl_rlc.specs.MountingApart.{RestApart}
 use Rattle.fl_rlc.specs.declared.log.RecordLog.{RecordLog}
-use Rattle.fl_table.specs.Pages.{RestsToMount}
+use Rattle.fl_parts.specs.Pages.{RestsToMount}
 
 -- a table as it is configured lies on a flash with its log, if it has one, and the flash's medium reaches to its end and is told
 pub record LiesOn (config : TableConfig) (log : Option RingPlace) (f : FlashState) (plan : Plan) : Type 0 where

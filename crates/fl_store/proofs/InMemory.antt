@@ -8,7 +8,7 @@ use Rattle.fl_rlc.specs.Rows.{AreBegun, HaveLogged}
 use Rattle.fl_rlc.specs.Table.{IsSamePlan, is_running, is_stopped, log_in, table_in}
 use Rattle.fl_rlc.specs.declared.table.LoggedTable.{LoggedTable}
 use Rattle.fl_table.specs.BlobAt.{has_blobs}
-use Rattle.fl_table.specs.Blobs as variable
+use Rattle.fl_parts.specs.Blobs as variable
 use Rattle.fl_table.specs.Causes.{flush_breaks, put_breaks}
 use Rattle.fl_table.specs.Look.{last_key_in, layout_in}
 use Rattle.fl_table.specs.Memory.{pending_in}

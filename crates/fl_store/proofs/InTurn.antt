@@ -9,7 +9,7 @@ use Rattle.fl_rlc.specs.Mounting.{FindsPages}
 use Rattle.fl_rlc.specs.Table as table
 use Rattle.fl_rlc.specs.Table.{IsSamePlan, repairs_in}
 use Rattle.fl_rlc.specs.declared.table.LoggedTable.{LoggedTable}
-use Rattle.fl_table.specs.Mounting.{FewRepairs}
+use Rattle.fl_parts.specs.IndexMount.{FewRepairs}
 use Rattle.fl_table.specs.declared.counts.Mounted.{Mounted}
 use Rattle.fl_store.specs.Mounting.{MountsInTurn, OutsideStands, repairs_of}
 use Rattle.fl_store.specs.Tables.{entries_with}

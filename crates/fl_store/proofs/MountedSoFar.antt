@@ -23,8 +23,8 @@ use Rattle.fl_model.proofs.MountAmongTables.{mounts-along}
 use Rattle.fl_frame.specs.Device.{SameDevice}
 use Rattle.fl_machine.specs.Step.{all_ready, made_ready}
 use Rattle.fl_table.specs.Outcomes.{FaultEnds}
-use Rattle.fl_table.specs.declared.faults.MountFault.{MountFault}
-use Rattle.fl_table.specs.declared.faults.MountFault.TheVariants as mount
+use Rattle.fl_parts.specs.declared.mount_fault.MountFault.{MountFault}
+use Rattle.fl_parts.specs.declared.mount_fault.MountFault.TheVariants as mount
 use Rattle.fl_table.specs.declared.counts.Mounted as found
 use Rattle.fl_rlc.specs.Outcomes.{MountsWell, MountsBadly, MountEnds}
 use Rattle.fl_rlc.specs.Table.{IsSamePlan, OutsideStands}

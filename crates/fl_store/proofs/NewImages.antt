@@ -8,7 +8,7 @@ use Rattle.fl_model.specs.Image.{IsTableImage, AreTableImages, medium_len}
 use Rattle.fl_model.specs.Layout.{is_blank}
 use Rattle.fl_model.specs.Record.{Plan, Config, blocks_of}
 use Rattle.fl_model.specs.Table.{fresh_table}
-use Rattle.fl_table.specs.Pages.{place_in}
+use Rattle.fl_parts.specs.Pages.{place_in}
 use Rattle.fl_rlc.proofs.Images.{rests-image, blank-rests}
 use Rattle.fl_words.specs.Medium.{IsImage, header}
 use Rattle.fl_image.specs.Header.{IsMade}

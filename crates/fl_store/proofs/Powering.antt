@@ -7,8 +7,8 @@ use Rattle.fl_model.specs.Record.{Config, Plan}
 use Rattle.fl_model.specs.Table as model
 use Rattle.fl_model.specs.Work.{Device}
 use Rattle.fl_frame.specs.Watched.{IsWatched}
-use Rattle.fl_table.specs.Causes.{MountCausedBy}
-use Rattle.fl_table.specs.Mounting.{FewRepairs}
+use Rattle.fl_parts.specs.Faults.{MountCausedBy}
+use Rattle.fl_parts.specs.IndexMount.{FewRepairs}
 use Rattle.fl_store.specs.Calls.{powered}
 use Rattle.fl_store.specs.Mounting.{MountsInTurn, OutsideStands, RefusesAt, repairs_of, tried}
 use Rattle.fl_store.specs.Store.{Holds, IsOnMedium}

@@ -16,7 +16,7 @@ use Rattle.fl_frame.specs.Reads as looking
 use Rattle.fl_ring.specs.Ring.{place}
 use Rattle.fl_ring.proofs.Founds.{same_pages}
 use Rattle.fl_table.specs.BlobAt.{data_in, has_blobs, blob_page_len, content_in}
-use Rattle.fl_table.specs.Blobs as variable
+use Rattle.fl_parts.specs.Blobs as variable
 use Rattle.fl_table.specs.Memory.{LiesOn as LiesAll}
 use Rattle.fl_table.specs.Standing.{Stands}
 use Rattle.fl_table.specs.declared.table.Table.{Table}

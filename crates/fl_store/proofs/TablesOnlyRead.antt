@@ -15,7 +15,7 @@ use Rattle.fl_rlc.specs.Logged as logged
 use Rattle.fl_rlc.specs.declared.table.LoggedTable.{LoggedTable}
 use Rattle.fl_rlc.proofs.Others.{logged-apart, logged-rests-apart}
 use Rattle.fl_model.specs.Table.{RingName, DataRing, IndexRing, VarRing, LogRing}
-use Rattle.fl_table.specs.Pages.{place_in}
+use Rattle.fl_parts.specs.Pages.{place_in}
 use Rattle.fl_store.specs.Tables.{first_of, EntryStands, TablesStand}
 use Rattle.fl_store.specs.declared.tables.Entry.{Entry}
 use Rattle.fl_table.proofs.Apart.{PagesApart, stands-pages}

@@ -7,7 +7,7 @@ use Rattle.fl_rlc.specs.Mounting.{FindsPages, RefusesPages}
 use Rattle.fl_rlc.specs.Table.{IsSamePlan, is_logged, log_in, repairs_in, table_in}
 use Rattle.fl_rlc.specs.declared.table.LoggedTable.{LoggedTable}
 use Rattle.fl_table.specs.BlobAt.{data_in}
-use Rattle.fl_table.specs.Bitmaps.{IsOutside}
+use Rattle.fl_parts.specs.Bitmaps.{IsOutside}
 use Rattle.fl_table.specs.Memory.{ring_shape}
 use Rattle.fl_table.specs.Skipping.{index_in}
 use Rattle.fl_table.specs.declared.counts.Mounted.{Mounted}

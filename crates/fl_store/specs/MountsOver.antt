@@ -1,8 +1,8 @@
 -- What a mount of all tables of an image does, over any bytes and on any medium.
 use Rattle.std.specs.Prelude.{◌≡◌, true, IsTrue, Result, OnOk, IfErr, List, length}
 use Rattle.fl_flash.specs.Flash.{FlashState, page_at}
-use Rattle.fl_table.specs.Causes.{MountCausedBy}
-use Rattle.fl_table.specs.Mounting.{FewRepairs}
+use Rattle.fl_parts.specs.Faults.{MountCausedBy}
+use Rattle.fl_parts.specs.IndexMount.{FewRepairs}
 use Rattle.fl_store.specs.Mounting.{AreSameNames, AreSamePlans, MountsInTurn, OutsideStands, RefusesAt, repairs_of, tried}
 use Rattle.fl_store.specs.Tables.{AreRunning, NoneWaits, StopsAt}
 use Rattle.fl_store.specs.declared.tables.BadMount.{BadMount}

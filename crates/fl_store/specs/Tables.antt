@@ -15,8 +15,8 @@ use Rattle.fl_rlc.specs.Logged.{Rests, Stands}
 use Rattle.fl_rlc.specs.Mounting.{pages_in}
 use Rattle.fl_rlc.specs.Table.{IsPlanned, LiesOn, NothingWaits, is_running}
 use Rattle.fl_rlc.specs.declared.table.LoggedTable.{LoggedTable}
-use Rattle.fl_table.specs.declared.faults.MountFault.{MountFault}
-use Rattle.fl_table.specs.declared.faults.MountFault.TheVariants as mount
+use Rattle.fl_parts.specs.declared.mount_fault.MountFault.{MountFault}
+use Rattle.fl_parts.specs.declared.mount_fault.MountFault.TheVariants as mount
 use Rattle.fl_store.specs.declared.tables.BadMount.{BadMount}
 use Rattle.fl_store.specs.declared.tables.Entry.{Entry}
 

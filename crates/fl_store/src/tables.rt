@@ -42,8 +42,8 @@ pub struct BadMount {
 
 impl Tables {
     ghost use Rattle.fl_machine.specs.Reads.{mounts_limit};
-    ghost use Rattle.fl_table.specs.Causes.{MountCausedBy};
-    ghost use Rattle.fl_table.specs.Mounting.{FewRepairs};
+    ghost use Rattle.fl_parts.specs.Faults.{MountCausedBy};
+    ghost use Rattle.fl_parts.specs.IndexMount.{FewRepairs};
     ghost use Rattle.fl_store.specs.Mounting.{AreSameNames, AreSamePlans, AreUnlogged, MountsInTurn, OutsideStands, RefusesAt, repairs_of, tried};
     ghost use Rattle.fl_store.specs.Repaired.{IsLeft};
     ghost use Rattle.fl_store.specs.Tables.{AreNewTables, Names, LieOn, AreRunning, NoneWaits, StopsAt, TablesStand, TablesMount, pages_of};

@@ -14,18 +14,18 @@ use Rattle.fl_model.specs.Ring.{Ring}
 use Rattle.fl_model.specs.Table as model
 use Rattle.fl_model.specs.Table.{DataRing, IndexRing, VarRing, shape_of, lose}
 use Rattle.fl_ring.specs.Ring.{Shape, room}
-use Rattle.fl_table.specs.Bitmaps.{ArePlanned, IsOutside, Stand}
-use Rattle.fl_table.specs.Blobs as variable
+use Rattle.fl_parts.specs.Bitmaps.{ArePlanned, IsOutside, Stand}
+use Rattle.fl_parts.specs.Blobs as variable
 use Rattle.fl_table.specs.Memory.{IsPlanned}
 use Rattle.fl_table.specs.Mounting.{OutsideStands}
-use Rattle.fl_table.specs.Pages.{HoldsTable, Rests, bytes_in, place_in}
+use Rattle.fl_parts.specs.Pages.{HoldsTable, Rests, bytes_in, place_in}
 use Rattle.fl_table.specs.Standing.{Stands}
 use Rattle.fl_table.specs.declared.table.Table.{Table}
 use Rattle.fl_table.proofs.BlobsOfTable as blobbing
-use Rattle.fl_table.proofs.IndexOfTable.{planned-some, stand-moved}
-use Rattle.fl_table.proofs.Plain.{IsPlainTable, plain-lose, table-facts, table-parts}
+use Rattle.fl_parts.proofs.IndexOfTable.{planned-some, stand-moved}
+use Rattle.fl_parts.proofs.Plain.{IsPlainTable, plain-lose, table-facts, table-parts}
 use Rattle.fl_table.proofs.SealAnswers.{planned-ring}
-use Rattle.fl_table.proofs.States.{shape_in}
+use Rattle.fl_parts.proofs.States.{shape_in}
 use Rattle.fl_var.specs.Memory.{var_shape}
 use Rattle.fl_var.specs.declared.var_data.VarData.{VarData}
 

@@ -17,23 +17,23 @@ use Rattle.fl_frame.specs.Device.{SameDevice}
 use Rattle.fl_ring.specs.Kept.{PagesStand}
 use Rattle.fl_ring.specs.Ring.{OutsideStands}
 use Rattle.fl_frame.specs.Watched.{IsWatched}
-use Rattle.fl_table.specs.Bitmaps as bitmaps
-use Rattle.fl_table.specs.Blobs as variable
-use Rattle.fl_table.specs.Blobs.{ArePlanned, Stand, StandOutside, IsStanding, RestEndsOf, RestEnds, rest_seals, next_of, next_after}
+use Rattle.fl_parts.specs.Bitmaps as bitmaps
+use Rattle.fl_parts.specs.Blobs as variable
+use Rattle.fl_parts.specs.Blobs.{ArePlanned, Stand, StandOutside, IsStanding, RestEndsOf, RestEnds, rest_seals, next_of, next_after}
 use Rattle.fl_table.specs.Memory.{IsPlanned}
 use Rattle.fl_table.specs.Outcomes.{Finishes, Breaks, FaultEnds, BySeals}
-use Rattle.fl_table.specs.Pages.{HoldsTable, KeptStand, bytes_in}
+use Rattle.fl_parts.specs.Pages.{HoldsTable, KeptStand, bytes_in}
 use Rattle.fl_table.specs.Standing.{Stands}
 use Rattle.fl_table.specs.declared.table.Table as code
-use Rattle.fl_table.proofs.BlobSeals.{IsBesideVar, with_var, before-var, blobs-break, blobs-finish, facts-with_var, seals-keep}
-use Rattle.fl_table.proofs.BlobSteps.{AreVar, after-var, rest-var}
-use Rattle.fl_table.proofs.BlobTables.{IsBlobbed, standing-blobbed, standing-has, var-pages, var-shape}
-use Rattle.fl_table.proofs.IndexOfTable.{stand-moved}
-use Rattle.fl_table.proofs.Plain.{IsPlainTable, plain-lose, table-parts}
+use Rattle.fl_parts.proofs.BlobSeals.{IsBesideVar, with_var, before-var, blobs-break, blobs-finish, facts-with_var, seals-keep}
+use Rattle.fl_parts.proofs.BlobSteps.{AreVar, after-var, rest-var}
+use Rattle.fl_parts.proofs.BlobTables.{IsBlobbed, standing-blobbed, standing-has, var-pages, var-shape}
+use Rattle.fl_parts.proofs.IndexOfTable.{stand-moved}
+use Rattle.fl_parts.proofs.Plain.{IsPlainTable, plain-lose, table-parts}
 use Rattle.fl_table.proofs.SealAnswers.{planned-shape}
-use Rattle.fl_table.proofs.KeptPagesStay.{kept-same, pages-same, ring-same}
-use Rattle.fl_table.proofs.ListsStay.{ring-moved}
-use Rattle.fl_table.proofs.VarFacts.{HasVar}
+use Rattle.fl_parts.proofs.KeptPagesStay.{kept-same, pages-same, ring-same}
+use Rattle.fl_parts.proofs.ListsStay.{ring-moved}
+use Rattle.fl_parts.proofs.VarFacts.{HasVar}
 use Rattle.fl_index.specs.Standing.{HasIndex}
 use Rattle.fl_var.specs.Memory.{next_in, page_in, var_shape, waiting_in}
 use Rattle.fl_var.specs.Placing as placing

@@ -12,12 +12,12 @@ use Rattle.fl_model.specs.Ring.{Ring}
 use Rattle.fl_model.specs.Table.{Table, Entry, VarRing, shape_of, spent_from}
 use Rattle.fl_model.specs.Image.{IsRingImage, HoldsContent, HoldsPage}
 use Rattle.fl_ring.specs.Ring.{Shape, OutsideStands, room}
-use Rattle.fl_table.specs.Blobs.{IsStanding, ArePlanned, AreSamePlan, LieOn, AreEmpty, NumbersLeft, HasFew, Stand, IsPlanned, next_of, next_after, pages_for, most_pages}
-use Rattle.fl_table.specs.Pages.{bytes_in, place_in}
-use Rattle.fl_table.proofs.BlobTables.{IsBlobbed, HoldsVar, planned-var, var-pages}
-use Rattle.fl_table.proofs.BlobTables as tables
-use Rattle.fl_table.proofs.VarFacts.{placed-some}
-use Rattle.fl_table.proofs.States.{shape_in}
+use Rattle.fl_parts.specs.Blobs.{IsStanding, ArePlanned, AreSamePlan, LieOn, AreEmpty, NumbersLeft, HasFew, Stand, IsPlanned, next_of, next_after, pages_for, most_pages}
+use Rattle.fl_parts.specs.Pages.{bytes_in, place_in}
+use Rattle.fl_parts.proofs.BlobTables.{IsBlobbed, HoldsVar, planned-var, var-pages}
+use Rattle.fl_parts.proofs.BlobTables as tables
+use Rattle.fl_parts.proofs.VarFacts.{placed-some}
+use Rattle.fl_parts.proofs.States.{shape_in}
 use Rattle.fl_var.specs.Memory.{next_in, waiting_in, room_in, page_in}
 use Rattle.fl_var.specs.Placing.{pages_placed}
 use Rattle.fl_var.proofs.PageImages.{waiting-room}

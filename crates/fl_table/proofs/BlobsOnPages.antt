@@ -3,10 +3,10 @@ use Rattle.std.proofs.Common.{ℕ, ◌+◌, Option, Some, None, ◌∙◌}
 use Rattle.fl_flash.specs.Flash.{FlashState}
 use Rattle.fl_model.specs.Record.{Plan}
 use Rattle.fl_model.specs.Table.{Table}
-use Rattle.fl_table.specs.Blobs.{AreEmpty, ArePlanned, Stand}
-use Rattle.fl_table.proofs.BlobTables.{AreInPages, IsBlobbed, blobbed-stand, in-blobbed}
+use Rattle.fl_parts.specs.Blobs.{AreEmpty, ArePlanned, Stand}
+use Rattle.fl_parts.proofs.BlobTables.{AreInPages, IsBlobbed, blobbed-stand, in-blobbed}
 use Rattle.fl_table.proofs.BlobsOfTable.{none-var}
-use Rattle.fl_table.proofs.VarFacts.{in-placed}
+use Rattle.fl_parts.proofs.VarFacts.{in-placed}
 use Rattle.fl_var.specs.declared.var_data.VarData.{VarData}
 
 pub settled-pages : (blobs : Option VarData) (f : FlashState) (first : ℕ) (plan : Plan) (table : Table) → ArePlanned blobs (first + plan.data_blocks + plan.index_blocks) plan → IsBlobbed plan table → Stand blobs f (first + plan.data_blocks + plan.index_blocks) plan table →

@@ -27,15 +27,15 @@ use Rattle.fl_schema.specs.Form.{layout_with}
 use Rattle.fl_schema.specs.Schema.{types_of}
 use Rattle.fl_schema.specs.declared.schema.KeyWidth.{KeyWidth}
 use Rattle.fl_schema.specs.declared.schema.KeyWidth.TheVariants.{Four, Eight}
-use Rattle.fl_table.specs.Blobs.{AreLed}
+use Rattle.fl_parts.specs.Blobs.{AreLed}
 use Rattle.fl_table.specs.Entries.{LookFrom, LookUp, LooksFrom, LooksUp, ShowsFound, TellsOf}
 use Rattle.fl_table.specs.Memory.{IsPlanned}
 use Rattle.fl_table.specs.Skipping.{AreFresh, HoldGood, IsBadIndex}
 use Rattle.fl_table.specs.Standing.{Stands}
 use Rattle.fl_table.specs.declared.table.Table.{Table}
 use Rattle.fl_table.proofs.KeptRead.{rows-lose}
-use Rattle.fl_table.proofs.Loose.{IsLoose, loose-of}
-use Rattle.fl_table.proofs.Plain.{table-parts}
+use Rattle.fl_parts.proofs.Loose.{IsLoose, loose-of}
+use Rattle.fl_parts.proofs.Plain.{table-parts}
 use Rattle.fl_table.proofs.Skips.{bad-index}
 
 -- a page with rows is told of

@@ -8,8 +8,8 @@ use Rattle.fl_model.specs.Table.{Table, RingName, DataRing, IndexRing, VarRing, 
 use Rattle.fl_model.specs.Layout.{is_blank}
 use Rattle.fl_model.specs.Image.{IsTableImage, IsRingImage, HoldsRows, HoldsEntries, HoldsContent, HoldsLogged, page_bytes, bytes_at}
 use Rattle.fl_model.proofs.Fresh.{new-stand}
-use Rattle.fl_table.proofs.Bare.{bare-table}
-use Rattle.fl_table.specs.Pages.{HoldsTable, Rests, bytes_in, place_in}
+use Rattle.fl_parts.proofs.Bare.{bare-table}
+use Rattle.fl_parts.specs.Pages.{HoldsTable, Rests, bytes_in, place_in}
 
 -- the pages of a medium whose flash begins behind its header
 pub pages-medium : (config : Config) (f : FlashState) → f.start ≡ 1024 → f.geometry ≡ config.geometry → page_bytes config f.media.content ≡ page_at f

@@ -1,9 +1,8 @@
 -- How a seal of the waiting bitmaps ends for their table.
-use Rattle.std.proofs.Common.{◌≡◌, ℕ, suc, ◌+◌, ◌*◌, ◌<◌, ◌≤◌, Bool, true, false, cond, ◌&&◌, ◌==◌, Option, Some, None, IfSome, option_map, OnOk, Result, Ok, Err, List, [], ◌∷◌, ◌++◌, length, refl, sym, ◌∙◌, ap, subst, arith, ◌⊎◌, inl, inr, length-append}
+use Rattle.std.proofs.Common.{◌≡◌, ℕ, suc, ◌+◌, ◌*◌, ◌<◌, ◌≤◌, Bool, true, false, cond, ◌&&◌, ◌==◌, Option, Some, None, IfSome, option_map, OnOk, Result, Ok, Err, List, [], ◌∷◌, ◌++◌, length, refl, sym, ◌∙◌, ap, subst, arith, ◌⊎◌, inl, length-append}
 use Rattle.std.proofs.Math.Path.{fun_ext}
 use Rattle.std.proofs.Math.Nat.{mod-lt, mul-le-mul_right, add-mul}
 use Rattle.std.specs.List.{AllByRecursion}
-use Rattle.fl_base.specs.declared.types.CutKind.{CutKind}
 use Rattle.fl_flash.specs.Flash.{FlashState, page_at}
 use Rattle.fl_flash.specs.declared.flash.FlashFault.{FlashFault}
 use Rattle.fl_index.specs.declared.index.BitmapIndex.{BitmapIndex}
@@ -20,57 +19,26 @@ use Rattle.fl_model.specs.Record.{Plan, has_index, entries_per_page}
 use Rattle.fl_model.specs.Ring as model
 use Rattle.fl_model.specs.Ring.{oldest}
 use Rattle.fl_model.specs.Table.{Table, RingName, DataRing, IndexRing, VarRing, LogRing, shape_of, full_pages, is_dirty, seal_buffer, after_seals, lose, spent_from}
-use Rattle.fl_model.specs.Work.{Kind, Body, Mark, VoidMark, Erase, Ending, AsBefore, AsAfter, Either, Leaves, Device, PartEnd, Whole, CutIn, FailedIn, PartProgress, PartFirst, PartPerforms, cut_now, counted}
+use Rattle.fl_model.specs.Work.{Kind, Body, Mark, VoidMark, Erase, Device, PartEnd, Whole, CutIn, FailedIn, PartProgress}
 use Rattle.fl_model.specs.Within.{seal_within, seals_within, effect_within, all_done, TablePerforms}
 use Rattle.fl_model.proofs.Sealed.{sealed-next, sealed-torn}
 use Rattle.fl_ring.specs.Ring.{Shape, OutsideStands}
 use Rattle.fl_frame.specs.Device.{SameDevice}
 use Rattle.fl_frame.specs.Watched.{IsWatched}
-use Rattle.fl_table.specs.Bitmaps.{ArePlanned, Stand, StandOutside, IsRoomMade, RoomMade, MakesRoomOf, bitmap_seals, next_after}
+use Rattle.fl_parts.proofs.Fronts.{front-left, IsNumberedTo, erased-number}
+use Rattle.fl_parts.specs.Bitmaps.{ArePlanned, Stand, StandOutside, IsRoomMade, RoomMade, MakesRoomOf, bitmap_seals, next_after}
 use Rattle.fl_table.specs.Outcomes.{Finishes, Breaks, FaultEnds, BySeals}
-use Rattle.fl_table.specs.Pages.{HoldsTable, KeptStand, bytes_in, place_in}
+use Rattle.fl_parts.specs.Pages.{HoldsTable, KeptStand, bytes_in, place_in}
 use Rattle.fl_table.specs.Standing.{Stands}
 use Rattle.fl_table.specs.declared.table.Table as code
-use Rattle.fl_table.proofs.TablePages.{lost-twice}
-use Rattle.fl_table.proofs.BlobTables.{HoldsVar}
+use Rattle.fl_parts.proofs.TablePages.{lost-twice}
+use Rattle.fl_parts.proofs.BlobTables.{HoldsVar}
 use Rattle.fl_table.proofs.BlobsOfTable.{var-behind, var-same}
 use Rattle.fl_table.proofs.SealAnswers.{planned-shape}
-use Rattle.fl_table.proofs.Plain.{IsPlainTable, IsIndexed, blobbed-moved, stand-as, table-parts, table-facts, plain-lose}
-use Rattle.fl_table.proofs.IndexOfTable.{planned-some, planned-none, index-next}
-use Rattle.fl_table.proofs.ListsStay.{HoldsIndexed}
-use Rattle.fl_table.proofs.KeptPagesStay.{kept-same, pages-same, ring-same}
-
--- What is left of a list of operations, of which one may have failed, is what some of the first ones make.
-pub record IsFront {O S : Type 0} (change : O → S → S) (operations : List O) (s left : S) : Type 0 where
-  pub front : List O
-  pub others : List O
-  pub split : operations ≡ front ++ others
-  pub state : left ≡ all_done change front s
-
-leaves : {S : Type 0} (e : Ending) (before after left : S) → Leaves e before after left → (left ≡ before) ⊎ (left ≡ after)
-leaves AsBefore before after left h = inl h
-leaves AsAfter before after left h = inr h
-leaves Either before after left h = h
-
-pub front-left : {O S : Type 0} (kind : O → Kind) (change : O → S → S) (rose : Bool) (operations : List O) (device : Device) (s : S) (now : PartProgress S) → PartPerforms kind change rose operations device s now →
-    IsFront change operations s now.state
-front-left kind change rose [] device s now h = record { front = []; others = []; split = refl; state = h.2 }
-front-left {O} {S} kind change rose (operation ∷ operations) device s now h =
-    by_cut (cut_now device) h (λ g. front-left kind change rose operations (counted (kind operation) device) (change operation s) now g)
-  where
-    either : (now.state ≡ s) ⊎ (now.state ≡ change operation s) → IsFront change (operation ∷ operations) s now.state
-    either (inl e) = record { front = []; others = operation ∷ operations; split = refl; state = e }
-    either (inr e) = record { front = operation ∷ []; others = operations; split = refl; state = e }
-
-    later : IsFront change operations (change operation s) now.state → IsFront change (operation ∷ operations) s now.state
-    later f = record { front = operation ∷ f.front; others = f.others; split = ap (λ (os : List O). operation ∷ os) f.split; state = f.state }
-
-    by_cut : (cut : Option CutKind) →
-        PartFirst rose cut (kind operation) device s (change operation s) now (PartPerforms kind change rose operations (counted (kind operation) device) (change operation s) now) →
-        (PartPerforms kind change rose operations (counted (kind operation) device) (change operation s) now → IsFront change operations (change operation s) now.state) → IsFront change (operation ∷ operations) s now.state
-    by_cut (Some c) h go = either (leaves _ s (change operation s) now.state h.2)
-    by_cut None (inl h) go = either (leaves Either s (change operation s) now.state h.3)
-    by_cut None (inr h) go = later (go h)
+use Rattle.fl_parts.proofs.Plain.{IsPlainTable, IsIndexed, blobbed-moved, stand-as, table-parts, table-facts, plain-lose}
+use Rattle.fl_parts.proofs.IndexOfTable.{planned-some, planned-none, index-next}
+use Rattle.fl_parts.proofs.ListsStay.{HoldsIndexed}
+use Rattle.fl_parts.proofs.KeptPagesStay.{kept-same, pages-same, ring-same}
 
 -- operations of an index ring alone
 abbrev pub IsOfIndex : RingName → Type 0
@@ -103,10 +71,6 @@ beside-done plan table t ((DataRing, kind) ∷ front) h b = absurd h.0
 beside-done plan table t ((VarRing, kind) ∷ front) h b = absurd h.0
 beside-done plan table t ((LogRing, kind) ∷ front) h b = absurd h.0
 
--- each raises the number of the index ring by one at most
-abbrev pub IsNumberedTo : ℕ → Option model.Ring → Type 0
-IsNumberedTo n ring = IfSome ring (λ r. r.next + (cond r.torn 1 0) ≤ n)
-
 up_to : (m n : ℕ) (o : Option model.Ring) → m ≤ n → IsNumberedTo m o → IsNumberedTo n o
 up_to m n None le h = tt
 up_to m n (Some r) le h = omega (arith, le, h)
@@ -118,10 +82,6 @@ begun_number n (Some r) h = omega (arith, h)
 sealed_number : (n : ℕ) (shape : model.Shape) (count : ℕ) (o : Option model.Ring) → IsNumberedTo n o → IsNumberedTo (n + 1) (option_map (model.sealed shape count) o)
 sealed_number n shape count None h = tt
 sealed_number n shape count (Some r) h = rw (sealed-torn shape count r, sealed-next shape count r) (omega (arith, h))
-
-pub erased-number : (n : ℕ) (o : Option model.Ring) → IsNumberedTo n o → IsNumberedTo n (option_map model.erased o)
-erased-number n None h = tt
-erased-number n (Some r) h = h
 
 pub number-done : (plan : Plan) (n : ℕ) (t : Table) (front : List (RingName × Kind)) → AreOfIndex front → IsNumberedTo n t.index → IsNumberedTo (n + length front) (all_done (effect_within plan) front t).index
 number-done plan n t [] h k = up_to n (n + 0) t.index (omega arith) k

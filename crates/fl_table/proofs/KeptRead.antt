@@ -14,8 +14,8 @@ use Rattle.fl_model.specs.Ring as rings
 use Rattle.fl_model.specs.Row.{stored_row}
 use Rattle.fl_model.specs.Table as model
 use Rattle.fl_model.specs.Table.{Entry, lose}
-use Rattle.fl_table.proofs.Loose.{IsLoose, loose-of}
-use Rattle.fl_table.proofs.Plain.{IsPlainTable, table-parts, plain-lose}
+use Rattle.fl_parts.proofs.Loose.{IsLoose, loose-of}
+use Rattle.fl_parts.proofs.Plain.{IsPlainTable, table-parts, plain-lose}
 use Rattle.fl_page.specs.Header.{page_count}
 use Rattle.fl_page.specs.Page.{IsGoodPage, rows_in}
 use Rattle.fl_page.specs.declared.fault.ReadFault.{ReadFault}
@@ -28,11 +28,11 @@ use Rattle.fl_table.specs.Kept.{place_of, IsFound, ShowsRows}
 use Rattle.fl_table.specs.Memory.{LiesOn}
 use Rattle.fl_table.specs.Standing.{Stands}
 use Rattle.fl_table.specs.declared.table.Table.{Table}
-use Rattle.fl_table.proofs.TablePages.{plain-on}
-use Rattle.fl_table.proofs.KeptPages.{kept, length-kept, sum-next}
-use Rattle.fl_table.proofs.KeyRows.{length-rows_from}
+use Rattle.fl_parts.proofs.TablePages.{plain-on}
+use Rattle.fl_parts.proofs.KeptPages.{kept, length-kept, sum-next}
+use Rattle.fl_parts.proofs.KeyRows.{length-rows_from}
 use Rattle.fl_table.proofs.SealAnswers.{planned-ring, planned-large, lies-size}
-use Rattle.fl_table.proofs.States.{shape_in}
+use Rattle.fl_parts.proofs.States.{shape_in}
 use Rattle.fl_find.specs.Pages.{rows_on, rows_where}
 
 -- where a number stands

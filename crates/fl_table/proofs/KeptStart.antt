@@ -7,13 +7,13 @@ use Rattle.fl_ring.specs.Place.{next_of, oldest_of}
 use Rattle.fl_ring.specs.Ring.{room}
 use Rattle.fl_ring.specs.declared.ring.Ring.{Ring}
 use Rattle.fl_schema.specs.Schema.{layout_of}
-use Rattle.fl_table.specs.Coming.{ComesTo, most_in}
-use Rattle.fl_table.specs.Knowing.{KnowsWith}
+use Rattle.fl_parts.specs.Coming.{ComesTo, most_in}
+use Rattle.fl_parts.specs.Knowing.{KnowsWith}
 use Rattle.fl_table.specs.Memory.{ring_shape}
 use Rattle.fl_table.specs.Mounting.{comes_in}
-use Rattle.fl_table.specs.declared.known.Known.{Known}
+use Rattle.fl_parts.specs.declared.known.Known.{Known}
 use Rattle.fl_table.specs.declared.table.Table as code
-use Rattle.fl_table.proofs.MountProgress.{comes-of, knows-nothing}
+use Rattle.fl_parts.proofs.MountProgress.{comes-of, knows-nothing}
 
 pub record KeptStart {KNOTS SLOTS : ℕ} (t : code.Table KNOTS SLOTS) (ring : Ring) (f : FlashState) (limit : ℕ) (known : Known) (counts : List ℕ) : Type 0 where
   pub few : next_of ring - oldest_of ring ≤ length counts

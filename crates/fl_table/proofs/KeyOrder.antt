@@ -5,8 +5,8 @@ use Rattle.std.specs.List.{slice_get, last_or}
 use Rattle.fl_model.specs.Row.{stored_row}
 use Rattle.fl_model.specs.Table.{Entry}
 use Rattle.fl_model.proofs.Lists.{slice_get-some, slice_get-short}
-use Rattle.fl_table.specs.Reading.{rises, keys_fault, last_in}
-use Rattle.fl_table.specs.declared.faults.MountFault.TheVariants.{BadKeys}
+use Rattle.fl_parts.specs.Reading.{rises, keys_fault, last_in}
+use Rattle.fl_parts.specs.declared.mount_fault.MountFault.TheVariants.{BadKeys}
 
 -- the key of the last of the first k entries
 abbrev pub key_before : List Entry → ℕ → Option ℕ

@@ -9,21 +9,22 @@ use Rattle.fl_index.specs.declared.index.BitmapIndex.{BitmapIndex}
 use Rattle.fl_ring.specs.Place.{next_of, oldest_of}
 use Rattle.fl_ring.specs.declared.ring.Ring.{Ring}
 use Rattle.fl_schema.specs.Schema.{layout_of}
-use Rattle.fl_table.specs.BlobEnds.{least_of}
-use Rattle.fl_table.specs.BlobMount.{FindsBlobs, AreBelow}
-use Rattle.fl_table.specs.ByEntries.{Come, facts_on, rows_of, voids_of}
-use Rattle.fl_table.specs.Coming.{WaitUnlisted, most_in}
-use Rattle.fl_table.specs.Knowing.{IsLearned, KnowsWith}
+use Rattle.fl_parts.specs.BlobEnds.{least_of}
+use Rattle.fl_parts.specs.BlobMount.{FindsBlobs, AreBelow}
+use Rattle.fl_parts.specs.ByEntries.{Come, facts_on, rows_of, voids_of}
+use Rattle.fl_parts.specs.Coming.{WaitUnlisted, most_in}
+use Rattle.fl_parts.specs.Knowing.{IsLearned, KnowsWith}
 use Rattle.fl_table.specs.Look.{counts_in, kept_counts, oldest_in, rows_noted}
 use Rattle.fl_table.specs.Memory.{next_in, pending_in, IsSamePlan, NothingWaits}
-use Rattle.fl_table.specs.Mounting.{FindsData, FindsRows, HasLearned, RemembersKept, comes_in}
-use Rattle.fl_table.specs.Reading.{pages_of}
+use Rattle.fl_parts.specs.IndexMount.{RemembersKept}
+use Rattle.fl_table.specs.Mounting.{FindsData, FindsRows, HasLearned, comes_in}
+use Rattle.fl_parts.specs.Reading.{pages_of}
 use Rattle.fl_table.specs.declared.counts.Mounted.{Mounted}
 use Rattle.fl_table.specs.declared.counts.TableCounts.{TableCounts}
-use Rattle.fl_table.specs.declared.known.Known.{Known}
+use Rattle.fl_parts.specs.declared.known.Known.{Known}
 use Rattle.fl_table.specs.declared.table.Table.{Table}
-use Rattle.fl_table.proofs.MountProgress.{come-rows}
-use Rattle.fl_table.proofs.WaitingPageComes.{knows-all, points-all}
+use Rattle.fl_parts.proofs.MountProgress.{come-rows}
+use Rattle.fl_parts.proofs.WaitingPageComes.{knows-all, points-all}
 
 -- what is known of all data pages is kept
 pub learned-all : {KNOTS SLOTS : ℕ} (error : ℕ) (t : Come) (k : ℕ) (known : Known) (counts : List ℕ) (index : KeyIndex KNOTS SLOTS) → KnowsWith error t k t.pages known counts index → known.newest ≡ None →

@@ -18,31 +18,32 @@ use Rattle.fl_ring.specs.declared.ring.Ring.{Ring}
 use Rattle.fl_ring.proofs.Founds.{same_pages}
 use Rattle.fl_frame.proofs.ReadsInTurn.{same_page}
 use Rattle.fl_schema.specs.Schema.{layout_of}
-use Rattle.fl_table.specs.Causes.{IfFlash, IfPage, MountCausedBy, is_of_pages, of_ring}
+use Rattle.fl_parts.specs.Faults.{IfFlash, IfPage, MountCausedBy, is_of_pages, of_ring}
 use Rattle.fl_model.specs.Table.{IndexRing, VarRing}
 use Rattle.fl_table.specs.Memory.{IsPlanned, IsSamePlan}
-use Rattle.fl_table.specs.Pages.{bytes_in, place_in}
+use Rattle.fl_parts.specs.Pages.{bytes_in, place_in}
 use Rattle.fl_table.proofs.BlobsOfTable.{var-stands}
-use Rattle.fl_table.proofs.ListsStay.{index-stands}
+use Rattle.fl_parts.proofs.ListsStay.{index-stands}
 use Rattle.fl_table.proofs.SealAnswers.{planned-ring}
 use Rattle.fl_find.specs.declared.index.KeyIndex.{KeyIndex}
 use Rattle.fl_index.specs.declared.index.BitmapIndex.{BitmapIndex}
-use Rattle.fl_table.specs.Bitmaps.{room_of}
-use Rattle.fl_table.specs.ByEntries.{Come, facts_on, rows_of, voids_of, end_of, known_after, mount_fault}
-use Rattle.fl_table.specs.Coming.{FirstsKnown, WaitUnlisted, index_pages_of, most_in}
-use Rattle.fl_table.specs.Knowing.{IsLearned, KnowsAll, KnowsBy, KnowsWith}
-use Rattle.fl_table.specs.Mounting.{ReadsRing, FindsData, HasBadPage, RefusesData, RemembersKept, comes_in}
-use Rattle.fl_table.specs.Reading.{pages_of}
+use Rattle.fl_parts.specs.Bitmaps.{room_of}
+use Rattle.fl_parts.specs.ByEntries.{Come, facts_on, rows_of, voids_of, end_of, known_after, mount_fault}
+use Rattle.fl_parts.specs.Coming.{FirstsKnown, WaitUnlisted, index_pages_of, most_in}
+use Rattle.fl_parts.specs.Knowing.{IsLearned, KnowsAll, KnowsBy, KnowsWith}
+use Rattle.fl_parts.specs.IndexMount.{RemembersKept}
+use Rattle.fl_table.specs.Mounting.{ReadsRing, FindsData, HasBadPage, RefusesData, comes_in}
+use Rattle.fl_parts.specs.Reading.{pages_of}
 use Rattle.fl_table.specs.declared.counts.Mounted.{Mounted}
-use Rattle.fl_table.specs.declared.known.Known.{Known}
-use Rattle.fl_table.specs.declared.known.Listed.{Listed}
-use Rattle.fl_table.specs.declared.faults.MountFault.{MountFault}
-use Rattle.fl_table.specs.declared.faults.MountFault.TheVariants.{Flash, Ring as OfRing, BadPage, BadKeys, BadIndex, BadBlob, BadEntry}
+use Rattle.fl_parts.specs.declared.known.Known.{Known}
+use Rattle.fl_parts.specs.declared.known.Listed.{Listed}
+use Rattle.fl_parts.specs.declared.mount_fault.MountFault.{MountFault}
+use Rattle.fl_parts.specs.declared.mount_fault.MountFault.TheVariants.{Flash, Ring as OfRing, BadPage, BadKeys, BadIndex, BadBlob, BadEntry}
 use Rattle.fl_table.specs.declared.table.Table.{Table}
-use Rattle.fl_table.proofs.MountProgress.{come-as, come-rows}
-use Rattle.fl_table.proofs.Firsts.{firsts-read, kept-firsts}
+use Rattle.fl_parts.proofs.MountProgress.{come-as, come-rows}
+use Rattle.fl_parts.proofs.Firsts.{firsts-read, kept-firsts}
 use Rattle.fl_table.proofs.Learned.{learned-all}
-use Rattle.fl_table.proofs.Steps.{ends-well}
+use Rattle.fl_parts.proofs.Steps.{ends-well}
 
 -- where its ring lies
 pub same-shape : {KNOTS SLOTS : ℕ} (old new : Table KNOTS SLOTS) (f : FlashState) → IsSamePlan old new → f.geometry ≡ old.geometry → shape_at new.place f.geometry ≡ shape_at old.place old.geometry

@@ -27,26 +27,26 @@ use Rattle.fl_ring.specs.Ring.{OnRing, Shape}
 use Rattle.fl_ring.specs.Ring.{place as place_at}
 use Rattle.fl_ring.specs.declared.ring.Ring.{Ring}
 use Rattle.fl_schema.specs.Schema.{layout_of, types_of}
-use Rattle.fl_table.specs.Bitmaps.{ArePlanned, LieOn}
-use Rattle.fl_table.specs.ByEntries.{Come, entry, index_page, is_committed, end_before, unlisted_of}
-use Rattle.fl_table.specs.Coming.{ComesBy, ComesTo, StandFound, StandsFoundBy, most_in}
+use Rattle.fl_parts.specs.Bitmaps.{ArePlanned, LieOn}
+use Rattle.fl_parts.specs.ByEntries.{Come, entry, index_page, is_committed, end_before, unlisted_of}
+use Rattle.fl_parts.specs.Coming.{ComesBy, ComesTo, StandFound, StandsFoundBy, most_in}
 use Rattle.fl_table.specs.Memory.{IsPlanned}
-use Rattle.fl_table.specs.Reading.{pages_of}
+use Rattle.fl_parts.specs.Reading.{pages_of}
 use Rattle.fl_table.specs.declared.table.Table as code
-use Rattle.fl_table.proofs.MountProgress.{rows-come}
+use Rattle.fl_parts.proofs.MountProgress.{rows-come}
 use Rattle.fl_table.proofs.Entries.{fields-fit}
-use Rattle.fl_table.proofs.IndexOfTable.{planned-none}
+use Rattle.fl_parts.proofs.IndexOfTable.{planned-none}
 use Rattle.fl_table.proofs.MountCalls.{OthersStill}
 use Rattle.fl_table.proofs.MountLifted.{RowsMount}
 use Rattle.fl_table.proofs.MountRead.{HoldRows, hold-rows, page-of}
-use Rattle.fl_table.proofs.ListsStay.{below-moved, ring-moved}
-use Rattle.fl_table.proofs.Loose.{has-listed, none-listed}
+use Rattle.fl_parts.proofs.ListsStay.{below-moved, ring-moved}
+use Rattle.fl_parts.proofs.Loose.{has-listed, none-listed}
 use Rattle.fl_table.proofs.Repaired.{idle-lost}
 use Rattle.fl_table.proofs.SealAnswers.{planned-large}
 use Rattle.fl_table.proofs.StandingMount.{IsOf, IsPageOf, IsIndexOf}
 use Rattle.fl_table.proofs.StandingIndex.{index-of, ends-within, few-kept, listed-told}
 use Rattle.fl_table.proofs.StandingTotals.{unlisted-counted, unlisted-few}
-use Rattle.fl_table.proofs.States.{shape_in, state_of, state-oldest, HaveSize}
+use Rattle.fl_parts.proofs.States.{shape_in, state_of, state-oldest, HaveSize}
 
 module _ {Left : Type 0} {KNOTS SLOTS : ℕ} (t : code.Table KNOTS SLOTS) (first : ℕ) (plan : Plan) (table : Table) (rose : Bool) (device : Device) (ring : Ring) (old mid : FlashState) (planned : IsPlanned t first plan) (here : place.shape_of ring ≡ shape_in first plan)
     (l : RowsMount Left first plan table rose device ring mid) (sizes : HaveSize first plan (page_at mid)) where

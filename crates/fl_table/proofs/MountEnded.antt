@@ -20,14 +20,14 @@ use Rattle.fl_model.specs.Facts.{IsTable, IsSettled}
 use Rattle.fl_model.specs.Work.{Device, PartProgress}
 use Rattle.fl_model.specs.Within.{TableMounts, TableStopped, TableUnread}
 use Rattle.fl_model.proofs.Lists.{slice_get-some}
-use Rattle.fl_table.proofs.BlobTables.{HoldsVar}
+use Rattle.fl_parts.proofs.BlobTables.{HoldsVar}
 use Rattle.fl_table.proofs.BlobsOfTable.{var-as, var-same}
 use Rattle.fl_table.proofs.MountCalls.{OthersStill}
-use Rattle.fl_table.proofs.Loose.{IsLoose, has-listed, led-as, listed-as, paged-loose, plain-from}
-use Rattle.fl_table.proofs.Plain.{IsPlainTable, some_map, stand-as, table-parts, table-facts}
-use Rattle.fl_table.proofs.Renumbered.{blob-below, blob_end-most}
-use Rattle.fl_table.proofs.PageRows.{entries_from, HaveEntries, page-rows, entries-length, entries-same}
-use Rattle.fl_table.proofs.ListsStay.{HoldsIndexed, indexed-moved, indexed-same, ring-moved}
+use Rattle.fl_parts.proofs.Loose.{IsLoose, has-listed, led-as, listed-as, paged-loose, plain-from}
+use Rattle.fl_parts.proofs.Plain.{IsPlainTable, some_map, stand-as, table-parts, table-facts}
+use Rattle.fl_parts.proofs.Renumbered.{blob-below, blob_end-most}
+use Rattle.fl_parts.proofs.PageRows.{entries_from, HaveEntries, page-rows, entries-length, entries-same}
+use Rattle.fl_parts.proofs.ListsStay.{HoldsIndexed, indexed-moved, indexed-same, ring-moved}
 use Rattle.fl_page.specs.Writer.{Gathers}
 use Rattle.fl_frame.specs.Device.{ArmsAs, SameDevice}
 use Rattle.fl_frame.specs.Reads.{OnlyReads}
@@ -44,8 +44,8 @@ use Rattle.fl_ring.specs.declared.fault.RingFault.TheVariants as ring
 use Rattle.fl_ring.specs.declared.ring.Ring.{Ring}
 use Rattle.fl_ring.proofs.Founds.{same_pages}
 use Rattle.fl_schema.specs.Schema.{layout_of}
-use Rattle.fl_table.specs.ByEntries.{Come, end_before, mount_fault}
-use Rattle.fl_table.specs.Causes.{of_ring, IfFlash, IfPage, is_of_pages}
+use Rattle.fl_parts.specs.ByEntries.{Come, end_before, mount_fault}
+use Rattle.fl_parts.specs.Faults.{of_ring, IfFlash, IfPage, is_of_pages}
 use Rattle.fl_table.specs.Memory.{IsPlanned, HoldsInMemory}
 use Rattle.fl_table.specs.Outcomes.{FaultEnds, MountsBadly, DataEnds, mounted_of}
 use Rattle.fl_model.specs.Spline.{points_of}
@@ -57,20 +57,20 @@ use Rattle.fl_index.specs.Standing.{Waits}
 use Rattle.fl_index.proofs.Lists.{end_after}
 use Rattle.fl_index.proofs.SealEnds.{planned-bits, planned-page}
 use Rattle.fl_model.specs.Image.{rows_at, IsRingImage, HoldsRows}
-use Rattle.fl_table.specs.Bitmaps.{AreSamePlan, Stand, StandForRing, first_to_wait}
-use Rattle.fl_table.specs.Coming.{WaitUnlisted}
-use Rattle.fl_table.proofs.NotedEntries.{first-same, page-bitmap, void-bitmap}
-use Rattle.fl_table.proofs.IndexOfTable.{planned-none, planned-some, still-planned}
-use Rattle.fl_table.specs.Mountable.{AreVoid, BlobsBefore, RowsBehind}
-use Rattle.fl_table.specs.Pages.{HoldsTable, Rests, RestsToMount, bytes_in}
+use Rattle.fl_parts.specs.Bitmaps.{AreSamePlan, Stand, StandForRing, first_to_wait}
+use Rattle.fl_parts.specs.Coming.{WaitUnlisted}
+use Rattle.fl_parts.proofs.NotedEntries.{first-same, page-bitmap, void-bitmap}
+use Rattle.fl_parts.proofs.IndexOfTable.{planned-none, planned-some, still-planned}
+use Rattle.fl_parts.specs.Mountable.{AreVoid, BlobsBefore, RowsBehind}
+use Rattle.fl_parts.specs.Pages.{HoldsTable, Rests, RestsToMount, bytes_in}
 use Rattle.fl_find.specs.declared.index.KeyIndex.{KeyIndex}
-use Rattle.fl_table.specs.Reading.{pages_of, bitmap_on, full_on}
+use Rattle.fl_parts.specs.Reading.{pages_of, bitmap_on, full_on}
 use Rattle.fl_table.specs.declared.counts.Mounted.{Mounted}
-use Rattle.fl_table.specs.declared.known.Known.{Known}
-use Rattle.fl_table.specs.declared.faults.MountFault.{MountFault}
-use Rattle.fl_table.specs.declared.faults.MountFault.TheVariants as mount
+use Rattle.fl_parts.specs.declared.known.Known.{Known}
+use Rattle.fl_parts.specs.declared.mount_fault.MountFault.{MountFault}
+use Rattle.fl_parts.specs.declared.mount_fault.MountFault.TheVariants as mount
 use Rattle.fl_table.specs.declared.table.Table as code
-use Rattle.fl_table.proofs.TablePages.{plain-on, plain-holds}
+use Rattle.fl_parts.proofs.TablePages.{plain-on, plain-holds}
 use Rattle.fl_table.proofs.RingInTable.{TableAnswers}
 use Rattle.fl_table.proofs.MountGood.{ring-renumbered, numbered-facts, numbered-idle, good-ring}
 use Rattle.fl_table.proofs.MountLifted.{RowsMount, mount-lifts, mount-fails}
@@ -81,7 +81,7 @@ use Rattle.fl_table.proofs.SealEnds.{fault-ends}
 use Rattle.fl_table.proofs.StandingMount.{IsOf}
 use Rattle.fl_table.proofs.StandingKeys.{mount-fine}
 use Rattle.fl_table.proofs.StandingKnown.{KnowsTable}
-use Rattle.fl_table.proofs.States.{shape_in, state_of, state-oldest, HaveSize, to-image}
+use Rattle.fl_parts.proofs.States.{shape_in, state_of, state-oldest, HaveSize, to-image}
 
 -- what the mount of the data ring is told of its table
 pub record IsMounting (first : ℕ) (plan : Plan) (table : Table) (old : FlashState) : Type 0 where

@@ -13,7 +13,7 @@ use Rattle.fl_model.proofs.Lists.{slice_get-some}
 use Rattle.fl_model.proofs.Pages.{pages-at}
 use Rattle.fl_ring.proofs.SamePlaces.{renumbered_on}
 use Rattle.fl_table.proofs.Memories.{few-kept}
-use Rattle.fl_table.proofs.Loose.{IsLoose}
+use Rattle.fl_parts.proofs.Loose.{IsLoose}
 use Rattle.fl_table.proofs.MountKeeps.{loose-renumber, plain-renumber}
 use Rattle.fl_ring.specs.Head.{one}
 use Rattle.fl_ring.specs.Mounting.{IsGood}
@@ -22,9 +22,9 @@ use Rattle.fl_ring.specs.Numbers.{renumbered, IsNumbered}
 use Rattle.fl_ring.specs.Ring.{RingState, OnRing, oldest}
 use Rattle.fl_schema.proofs.Numbers.{length-le, number_of-le}
 use Rattle.fl_schema.proofs.References.{from_le_bytes_4}
-use Rattle.fl_table.proofs.States.{shape_in, state_of, state-count, state-oldest, ring-back}
+use Rattle.fl_parts.proofs.States.{shape_in, state_of, state-count, state-oldest, ring-back}
 use Rattle.fl_table.proofs.Repaired.{IsHeld, IsIdle, state-renumbered}
-use Rattle.fl_table.specs.Mountable.{RowsBehind}
+use Rattle.fl_parts.specs.Mountable.{RowsBehind}
 
 -- a body begins with its number
 body-number : (plan : Plan) (number : ℕ) (entries : List Entry) → number < 2 ^ 32 → number_of (data_body plan number entries) ≡ number

@@ -20,15 +20,16 @@ use Rattle.fl_model.specs.Work.{Kind, Body, Mark, VoidMark, Erase, Device, PartE
 use Rattle.fl_model.specs.Within.{repair_within, effect_within, all_done, TablePerforms, TableUnreads, TableGoesOn, TableMounts, TableMountEnd, TableMounted, TableStopped, TableUnread}
 use Rattle.fl_model.proofs.Sealed.{sealed-next, sealed-torn}
 use Rattle.fl_table.specs.Outcomes.{FaultEnds, MountsBadly, RingsEnd, MountEnds, var_rings}
-use Rattle.fl_table.specs.Mountable.{BlobsBefore, IsMountable}
-use Rattle.fl_table.specs.Pages.{RestsToMount, bytes_in}
+use Rattle.fl_parts.specs.Mountable.{BlobsBefore, IsMountable}
+use Rattle.fl_parts.specs.Pages.{RestsToMount, bytes_in}
 use Rattle.fl_table.specs.declared.counts.Mounted.{Mounted}
-use Rattle.fl_table.specs.declared.faults.MountFault.{MountFault}
-use Rattle.fl_table.specs.declared.faults.MountFault.TheVariants as mount
+use Rattle.fl_parts.specs.declared.mount_fault.MountFault.{MountFault}
+use Rattle.fl_parts.specs.declared.mount_fault.MountFault.TheVariants as mount
 use Rattle.fl_table.specs.declared.table.Table as code
-use Rattle.fl_table.proofs.IndexSeals.{IsBeside, IsNumberedTo, IsFront, front-left, erased-number, indexed-of, beside-facts, holds-beside, holds-indexed}
-use Rattle.fl_table.proofs.Loose.{IsListed, IsLoose, listed-of, loose-paged, loose-with_index, paged-loose}
-use Rattle.fl_table.proofs.Plain.{IsPlainTable, table-facts, table-parts, least-below}
+use Rattle.fl_parts.proofs.Fronts.{IsNumberedTo, IsFront, front-left, erased-number}
+use Rattle.fl_table.proofs.IndexSeals.{IsBeside, indexed-of, beside-facts, holds-beside, holds-indexed}
+use Rattle.fl_parts.proofs.Loose.{IsListed, IsLoose, listed-of, loose-paged, loose-with_index, paged-loose}
+use Rattle.fl_parts.proofs.Plain.{IsPlainTable, table-facts, table-parts, least-below}
 use Rattle.fl_table.proofs.Repaired.{IsIdle, idle-lost, lost-idle}
 
 -- the repairs of an index ring that are left

@@ -31,30 +31,31 @@ use Rattle.fl_ring.specs.declared.fault.RingFault.TheVariants as ring
 use Rattle.fl_ring.specs.declared.ring.Ring.{Ring}
 use Rattle.fl_index.specs.Finding.{FindsIndex}
 use Rattle.fl_schema.specs.Schema.{layout_of}
-use Rattle.fl_table.specs.Bitmaps.{ArePlanned, AreSamePlan, AreStillFound, StaysFound, StandOutside, MountEndsOf, RemembersFound, IsOutside}
-use Rattle.fl_table.specs.BlobEnds.{least_of}
-use Rattle.fl_table.specs.BlobMount.{FindsBlobs, RefusesWithin}
-use Rattle.fl_table.specs.Causes.{MountCausedBy, of_ring}
+use Rattle.fl_parts.specs.Bitmaps.{ArePlanned, AreSamePlan, AreStillFound, StaysFound, StandOutside, MountEndsOf, RemembersFound, IsOutside}
+use Rattle.fl_parts.specs.BlobEnds.{least_of}
+use Rattle.fl_parts.specs.BlobMount.{FindsBlobs, RefusesWithin}
+use Rattle.fl_parts.specs.Faults.{MountCausedBy, of_ring}
 use Rattle.fl_table.specs.Memory.{IsPlanned, IsSamePlan, ring_shape}
-use Rattle.fl_table.specs.ByEntries.{Come, facts_on, known_after, rows_of, voids_of, end_of, mount_fault}
-use Rattle.fl_table.specs.Coming.{StandFound, StandsFoundBy, WaitUnlisted, come_of, most_in}
+use Rattle.fl_parts.specs.ByEntries.{Come, facts_on, known_after, rows_of, voids_of, end_of, mount_fault}
+use Rattle.fl_parts.specs.Coming.{StandFound, StandsFoundBy, WaitUnlisted, come_of, most_in}
 use Rattle.fl_find.specs.Index.{error_in}
-use Rattle.fl_table.specs.Mounting.{FindsBy, FindsBitmaps, FindsRows, ReadsRing, HasBadPage, HasLearned, FindsData, RefusesData, RefusesRows, comes_in}
+use Rattle.fl_parts.specs.IndexMount.{FindsBy, FindsBitmaps}
+use Rattle.fl_table.specs.Mounting.{FindsRows, ReadsRing, HasBadPage, HasLearned, FindsData, RefusesData, RefusesRows, comes_in}
 use Rattle.fl_table.specs.Outcomes.{RingsEnd, MountEnds, var_rings}
-use Rattle.fl_table.specs.Pages.{RestsToMount, bytes_in}
-use Rattle.fl_table.specs.Reading.{pages_of}
+use Rattle.fl_parts.specs.Pages.{RestsToMount, bytes_in}
+use Rattle.fl_parts.specs.Reading.{pages_of}
 use Rattle.fl_table.specs.declared.counts.Mounted.{Mounted as Found}
-use Rattle.fl_table.specs.declared.faults.MountFault.{MountFault}
-use Rattle.fl_table.specs.declared.faults.MountFault.TheVariants as mount
+use Rattle.fl_parts.specs.declared.mount_fault.MountFault.{MountFault}
+use Rattle.fl_parts.specs.declared.mount_fault.MountFault.TheVariants as mount
 use Rattle.fl_table.specs.declared.table.Table as code
 use Rattle.fl_frame.proofs.WatchedInTurn.{cause-later}
-use Rattle.fl_table.proofs.IndexOfTable.{planned-none, planned-some}
+use Rattle.fl_parts.proofs.IndexOfTable.{planned-none, planned-some}
 use Rattle.fl_table.proofs.IndexSeals.{rows-stand, var-stand}
 use Rattle.fl_var.specs.declared.var_data.VarData.{VarData}
-use Rattle.fl_table.specs.MountLimits.{IsIndexLimited, rows_mount_limit}
+use Rattle.fl_parts.specs.MountLimits.{IsIndexLimited, rows_mount_limit}
 use Rattle.fl_table.proofs.MountLimits.{done-repaired, index-within, limit-bare, limit-indexed}
 use Rattle.fl_table.proofs.MountIndexed.{index-fails, index-mounts, then-rows}
-use Rattle.fl_table.proofs.Loose.{IsLoose, has-listed, none-listed, paged-loose}
+use Rattle.fl_parts.proofs.Loose.{IsLoose, has-listed, none-listed, paged-loose}
 use Rattle.fl_table.proofs.Repaired.{IsIdle, lost-idle}
 use Rattle.fl_table.proofs.SealAnswers.{planned-shape, same-then}
 

@@ -15,11 +15,11 @@ use Rattle.fl_model.proofs.RingFactsStay.{ring-sealed}
 use Rattle.fl_model.proofs.Sealed.{sealed-next, sealed-torn, kept-sealed, entries_after}
 use Rattle.fl_ring.proofs.Modulo.{apart}
 use Rattle.fl_ring.proofs.SamePlaces.{least_is_alike}
-use Rattle.fl_table.specs.Mountable.{AreVoid}
-use Rattle.fl_table.proofs.BlobTables.{AreInPages}
-use Rattle.fl_table.proofs.Loose.{IsLoose, IsStrict, all-written, led-as, listed-as, listed-end, loose-of, plain-from}
-use Rattle.fl_table.proofs.Plain.{IsPlainTable, least-below, pages-front, pages-rest, sealed-oldest, stand-as, stand_given, tell-none}
-use Rattle.fl_table.proofs.VarFacts.{front-of, rest-of}
+use Rattle.fl_parts.specs.Mountable.{AreVoid}
+use Rattle.fl_parts.proofs.BlobTables.{AreInPages}
+use Rattle.fl_parts.proofs.Loose.{IsLoose, IsStrict, all-written, led-as, listed-as, listed-end, loose-of, plain-from}
+use Rattle.fl_parts.proofs.Plain.{IsPlainTable, least-below, pages-front, pages-rest, sealed-oldest, stand-as, stand_given, tell-none}
+use Rattle.fl_parts.proofs.VarFacts.{front-of, rest-of}
 
 -- the block ahead is erased
 pub loose-erase : (plan : Plan) (table : Table) → IsLoose plan table → IsLoose plan (with_ring DataRing erased table)

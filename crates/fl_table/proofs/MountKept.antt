@@ -22,34 +22,34 @@ use Rattle.fl_ring.specs.Ring.{Shape, RingState, OnRing, OutsideStands}
 use Rattle.fl_frame.specs.Watched.{IsWatched}
 use Rattle.fl_ring.specs.declared.ring.Ring.{Ring}
 use Rattle.fl_schema.specs.Schema.{layout_of}
-use Rattle.fl_table.specs.Bitmaps.{StandForRing}
-use Rattle.fl_table.specs.ByEntries.{Come, mount_fault, unlisted_of}
-use Rattle.fl_table.specs.Causes.{IfFlash, IfPage, is_of_pages}
-use Rattle.fl_table.specs.Coming.{StandFound, WaitUnlisted, most_in}
-use Rattle.fl_table.specs.Knowing.{KnowsWith}
+use Rattle.fl_parts.specs.Bitmaps.{StandForRing}
+use Rattle.fl_parts.specs.ByEntries.{Come, mount_fault, unlisted_of}
+use Rattle.fl_parts.specs.Faults.{IfFlash, IfPage, is_of_pages}
+use Rattle.fl_parts.specs.Coming.{StandFound, WaitUnlisted, most_in}
+use Rattle.fl_parts.specs.Knowing.{KnowsWith}
 use Rattle.fl_table.specs.Memory.{IsPlanned, IsSamePlan, LiesOn}
-use Rattle.fl_table.specs.MountLimits.{rows_mount_limit}
+use Rattle.fl_parts.specs.MountLimits.{rows_mount_limit}
 use Rattle.fl_table.specs.Mounting.{comes_in}
 use Rattle.fl_table.specs.Outcomes.{DataEnds, DataWell}
-use Rattle.fl_table.specs.Pages.{RestsToMount}
-use Rattle.fl_table.specs.Reading.{pages_of}
-use Rattle.fl_table.specs.declared.faults.MountFault.{MountFault}
-use Rattle.fl_table.specs.declared.known.Known.{Known}
+use Rattle.fl_parts.specs.Pages.{RestsToMount}
+use Rattle.fl_parts.specs.Reading.{pages_of}
+use Rattle.fl_parts.specs.declared.mount_fault.MountFault.{MountFault}
+use Rattle.fl_parts.specs.declared.known.Known.{Known}
 use Rattle.fl_table.specs.declared.table.Table as code
-use Rattle.fl_table.proofs.MountProgress.{come-most, come-rows, comes-of}
+use Rattle.fl_parts.proofs.MountProgress.{come-most, come-rows, comes-of}
 use Rattle.fl_frame.proofs.WatchedInTurn.{watched-first, risen-later}
-use Rattle.fl_table.proofs.IndexOfTable.{lies-goes}
+use Rattle.fl_parts.proofs.IndexOfTable.{lies-goes}
 use Rattle.fl_table.proofs.MountCalls.{OthersStill, index-read, index-still, same-shape}
 use Rattle.fl_table.proofs.MountComes.{comes-to, few-come, few-unlisted, found-there, index-ends}
 use Rattle.fl_table.proofs.MountEnded.{IsMounting, mounting-of, mount-answer, reads-end, ready_facts, before_now, pages_now, settled_now, ring-ends, ring-mounts, same_device, started-memory, started-stand}
-use Rattle.fl_table.proofs.Loose.{loose-paged}
+use Rattle.fl_parts.proofs.Loose.{loose-paged}
 use Rattle.fl_table.proofs.MountLifted.{RowsMount}
 use Rattle.fl_table.proofs.MountLimits.{data-voids, mount-repaired}
 use Rattle.fl_table.proofs.Repaired.{idle-lost}
 use Rattle.fl_table.proofs.SealAnswers.{lies-size, plan-self, planned-ring, planned-same}
 use Rattle.fl_table.proofs.StandingMount.{IsOf}
 use Rattle.fl_table.proofs.StandingKnown.{KnowsTable, knows-table}
-use Rattle.fl_table.proofs.States.{shape_in, state_of, HaveSize}
+use Rattle.fl_parts.proofs.States.{shape_in, state_of, HaveSize}
 
 -- the medium reaches to the end of the flash
 abbrev Reaches : FlashState → Type 0

@@ -11,15 +11,15 @@ use Rattle.fl_model.specs.Within.{repair_within, effect_within, TablePerforms, T
 use Rattle.fl_model.specs.Mount.{Of, renumber}
 use Rattle.fl_model.proofs.Performs.{performs-whole}
 use Rattle.fl_model.proofs.Sealed.{sealed-torn}
-use Rattle.fl_table.proofs.Loose.{IsLoose}
-use Rattle.fl_table.proofs.Plain.{IsPlainTable}
+use Rattle.fl_parts.proofs.Loose.{IsLoose}
+use Rattle.fl_parts.proofs.Plain.{IsPlainTable}
 use Rattle.fl_ring.specs.declared.ring.Ring.{Ring}
 use Rattle.fl_frame.specs.Device.{SameDevice}
 use Rattle.fl_ring.specs.Mounting.{Mounted, RepairEnds}
 use Rattle.fl_ring.specs.Operations.{repair_kinds}
 use Rattle.fl_ring.specs.Place.{StandsFor}
 use Rattle.fl_ring.specs.Ring.{RingState, OnRing}
-use Rattle.fl_table.proofs.States.{shape_in, state_of}
+use Rattle.fl_parts.proofs.States.{shape_in, state_of}
 use Rattle.fl_table.proofs.RingInTable.{of_rows, TableAnswers}
 use Rattle.fl_table.proofs.Repaired.{IsHeld, IsIdle, IsRepaired, repair-lifts, repair-kinds}
 

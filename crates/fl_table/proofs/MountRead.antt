@@ -17,15 +17,15 @@ use Rattle.fl_ring.specs.Ring.{OnRing, place}
 use Rattle.fl_schema.specs.Form.{layout_with}
 use Rattle.fl_schema.specs.declared.column.ColumnType.{ColumnType}
 use Rattle.fl_schema.specs.declared.schema.KeyWidth.{KeyWidth}
-use Rattle.fl_table.specs.ByEntries.{Come, is_committed}
-use Rattle.fl_table.specs.Reading.{full_on}
-use Rattle.fl_table.proofs.PageChecks.{uncommitted-rows}
-use Rattle.fl_table.proofs.KeptPages.{kept, length-kept, full-kept}
-use Rattle.fl_table.proofs.KeyRows.{page-length}
-use Rattle.fl_table.proofs.Loose.{IsLoose}
+use Rattle.fl_parts.specs.ByEntries.{Come, is_committed}
+use Rattle.fl_parts.specs.Reading.{full_on}
+use Rattle.fl_parts.proofs.PageChecks.{uncommitted-rows}
+use Rattle.fl_parts.proofs.KeptPages.{kept, length-kept, full-kept}
+use Rattle.fl_parts.proofs.KeyRows.{page-length}
+use Rattle.fl_parts.proofs.Loose.{IsLoose}
 use Rattle.fl_table.proofs.StandingMount.{IsPageOf}
-use Rattle.fl_table.proofs.States.{shape_in, state_of, HaveSize}
-use Rattle.fl_table.proofs.Unlisted.{committed-is, good-form}
+use Rattle.fl_parts.proofs.States.{shape_in, state_of, HaveSize}
+use Rattle.fl_parts.proofs.Unlisted.{committed-is, good-form}
 
 -- each of them holds the rows that the table has there
 pub record HoldRows (table : Table) (layout : RowLayout) (page : ℕ → List ℕ) (number : ℕ) : Type 0 where

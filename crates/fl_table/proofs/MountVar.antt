@@ -16,32 +16,32 @@ use Rattle.fl_model.specs.Work.{Device, PartEnd, Whole, CutIn, FailedIn, PartPro
 use Rattle.fl_model.specs.Within.{repair_within, TablePerforms, TableUnreads, TableGoesOn, TableMounts, TableMountEnd, TableMounted, TableStopped, TableUnread}
 use Rattle.fl_frame.specs.Device.{SameDevice}
 use Rattle.fl_frame.specs.Watched.{IsWatched}
-use Rattle.fl_table.specs.Bitmaps as bitmaps
-use Rattle.fl_table.specs.BlobMount as variable
+use Rattle.fl_parts.specs.Bitmaps as bitmaps
+use Rattle.fl_parts.specs.BlobMount as variable
 use Rattle.fl_var.specs.Mounting as mounting
-use Rattle.fl_table.specs.BlobMount.{WithinEndsOf, WithinEnds}
-use Rattle.fl_table.specs.Blobs.{AreIn, ArePlanned, Stand, StandInPages, StandOutside, IsPlanned}
-use Rattle.fl_table.specs.Mountable.{IsPaged}
-use Rattle.fl_table.specs.MountLimits.{IsVarLimited}
+use Rattle.fl_parts.specs.BlobMount.{WithinEndsOf, WithinEnds}
+use Rattle.fl_parts.specs.Blobs.{AreIn, ArePlanned, Stand, StandInPages, StandOutside, IsPlanned}
+use Rattle.fl_parts.specs.Mountable.{IsPaged}
+use Rattle.fl_parts.specs.MountLimits.{IsVarLimited}
 use Rattle.fl_table.proofs.MountLimits.{data-keeps, mount-repaired}
 use Rattle.fl_table.specs.Outcomes.{DataWell, DataEnds, FaultEnds, MountsBadly, RingsEnd, mounted_of, var_rings}
-use Rattle.fl_table.specs.Pages.{HoldsTable, Rests}
+use Rattle.fl_parts.specs.Pages.{HoldsTable, Rests}
 use Rattle.fl_table.specs.Standing.{IsLoaded, Stands}
-use Rattle.fl_table.specs.declared.faults.MountFault.{MountFault}
-use Rattle.fl_table.specs.declared.faults.MountFault.TheVariants as mount
+use Rattle.fl_parts.specs.declared.mount_fault.MountFault.{MountFault}
+use Rattle.fl_parts.specs.declared.mount_fault.MountFault.TheVariants as mount
 use Rattle.fl_table.specs.declared.mount.FoundRows.{FoundRows}
 use Rattle.fl_table.specs.declared.table.Table as code
-use Rattle.fl_table.proofs.BlobSeals.{with_var, facts-with_var, holds-with_var}
+use Rattle.fl_parts.proofs.BlobSeals.{with_var, facts-with_var, holds-with_var}
 use Rattle.fl_table.proofs.BlobStands.{bitmaps-stand, index-before, index-pages}
-use Rattle.fl_table.proofs.BlobTables.{IsBlobbed, IsLed, blobbed-in, ring-blobbed, ring-holds, ring-led, rests-var}
+use Rattle.fl_parts.proofs.BlobTables.{IsBlobbed, IsLed, blobbed-in, ring-blobbed, ring-holds, ring-led, rests-var}
 use Rattle.fl_table.proofs.BlobsOfTable.{planned-none, planned-some}
-use Rattle.fl_table.proofs.Loose.{IsLoose, loose-paged, loose-with_var, paged-loose}
-use Rattle.fl_table.proofs.Renumbered.{IsMounting}
-use Rattle.fl_table.proofs.VarFacts.{blobs-as, front-of, in-some, led-some, placed-in}
-use Rattle.fl_table.proofs.Plain.{IsPlainTable, table-facts, table-parts}
+use Rattle.fl_parts.proofs.Loose.{IsLoose, loose-paged, loose-with_var, paged-loose}
+use Rattle.fl_parts.proofs.Renumbered.{IsMounting}
+use Rattle.fl_parts.proofs.VarFacts.{blobs-as, front-of, in-some, led-some, placed-in}
+use Rattle.fl_parts.proofs.Plain.{IsPlainTable, table-facts, table-parts}
 use Rattle.fl_table.proofs.Repaired.{IsIdle, idle-lost, lost-idle}
 use Rattle.fl_table.proofs.SealAnswers.{planned-shape}
-use Rattle.fl_table.proofs.VarRepairs.{done-keeps, done-leaves, part-keeps, part-leaves}
+use Rattle.fl_parts.proofs.VarRepairs.{done-keeps, done-leaves, part-keeps, part-leaves}
 use Rattle.fl_var.specs.Memory.{page_in}
 use Rattle.fl_var.specs.Placing as placing
 use Rattle.fl_var.specs.Standing as standing

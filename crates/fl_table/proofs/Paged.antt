@@ -13,8 +13,8 @@ use Rattle.fl_ring.specs.Written.{Writes, done, sealed_over, MaySealIn}
 use Rattle.fl_ring.specs.declared.ring.Ring.{Ring}
 use Rattle.fl_ring.proofs.Written.{page-as}
 use Rattle.fl_schema.specs.Schema.{layout_of}
-use Rattle.fl_table.specs.Bitmaps as bitmaps
-use Rattle.fl_table.specs.Blobs as variable
+use Rattle.fl_parts.specs.Bitmaps as bitmaps
+use Rattle.fl_parts.specs.Blobs as variable
 use Rattle.fl_table.specs.Memory.{next_in, ring_shape, HasRoom, IsSamePlan, MaySeal}
 use Rattle.fl_table.specs.Mounting.{rings_in}
 use Rattle.fl_table.specs.Paged.{BlobsAhead, BlobsPaged, RowsAhead, HasFlushed, HasMadePage, IsApart, RowsPaged, next_page}

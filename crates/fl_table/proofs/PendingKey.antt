@@ -17,7 +17,7 @@ use Rattle.fl_table.specs.Look.{layout_in, buffered_rows}
 use Rattle.fl_table.specs.Memory.{pending_in}
 use Rattle.fl_table.specs.Standing.{Stands}
 use Rattle.fl_table.specs.declared.table.Table.{Table}
-use Rattle.fl_table.proofs.KeyRows.{length-rows_from}
+use Rattle.fl_parts.proofs.KeyRows.{length-rows_from}
 use Rattle.fl_table.proofs.PendingRows.{pending-rise}
 use Rattle.fl_table.proofs.Pointed.{first-key}
 

@@ -5,7 +5,7 @@ use Rattle.fl_ring.specs.Mounting.{HasNumbers}
 use Rattle.fl_ring.specs.Repairing.{VoidsNext, CleansAhead}
 use Rattle.fl_ring.specs.Ring.{Shape}
 use Rattle.fl_ring.specs.declared.ring.Ring.{Ring}
-use Rattle.fl_table.specs.BlobMount.{FindsBlobs}
+use Rattle.fl_parts.specs.BlobMount.{FindsBlobs}
 use Rattle.fl_var.specs.Memory.{var_shape}
 use Rattle.fl_var.specs.declared.var_data.VarData.{VarData}
 

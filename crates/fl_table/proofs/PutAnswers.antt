@@ -9,7 +9,7 @@ use Rattle.fl_model.specs.Table as model
 use Rattle.fl_model.specs.Table.{Table, Refusal, BadKey, BadColumns, BadValue, BadBlob, refusal_of, make_room_seals, after_seals}
 use Rattle.fl_model.specs.Work.{Device}
 use Rattle.fl_table.proofs.Accepted.{accepted}
-use Rattle.fl_table.proofs.Plain.{table-parts}
+use Rattle.fl_parts.proofs.Plain.{table-parts}
 use Rattle.fl_schema.specs.Schema.{layout_of}
 use Rattle.fl_table.specs.Accepting.{IsAcceptedBy}
 use Rattle.fl_table.specs.Outcomes.{Finishes, Breaks, BySeals, JoinEnds, PutEnds}

@@ -1,31 +1,25 @@
 -- Reads leave a table as it stands.
-use Rattle.std.proofs.Common.{◌≡◌, ℕ, ◌<◌, ◌≤◌, ◌^◌, ◌*◌, ◌+◌, ◌-◌, Bool, true, false, Option, Some, option_map, unwrap_or, Result, Err, refl, sym, ◌∙◌, ap, subst, arith}
-use Rattle.fl_flash.specs.Buffer.{BufferState}
-use Rattle.fl_flash.specs.Flash.{FlashState, ReadsPage, page_at, pages, StaysWith}
-use Rattle.fl_flash.specs.Media.{next_count}
+use Rattle.std.proofs.Common.{◌≡◌, ℕ, ◌<◌, ◌≤◌, ◌^◌, ◌*◌, ◌+◌, ◌-◌, Bool, Option, Some, option_map, unwrap_or, refl, sym, ◌∙◌, ap, subst, arith}
+use Rattle.fl_flash.specs.Flash.{FlashState, page_at, pages, StaysWith}
 use Rattle.fl_frame.specs.Contents as contents
 use Rattle.fl_frame.proofs.ContentsInTurn.{OnlyReads-goes}
-use Rattle.fl_flash.specs.declared.flash.FlashFault.{FlashFault}
-use Rattle.fl_flash.specs.declared.flash.Work.{Work}
 use Rattle.fl_model.specs.Record.{Plan}
 use Rattle.fl_model.specs.Table as model
 use Rattle.fl_model.specs.Table.{IndexRing, VarRing, lose}
-use Rattle.fl_flash.specs.declared.flash.FlashFault.TheVariants.{PowerLost, Media}
 use Rattle.fl_frame.specs.Reads.{OnlyReads}
-use Rattle.fl_frame.specs.Causes.{ReadFails}
 use Rattle.fl_ring.specs.Place.{next_of, oldest_of}
 use Rattle.fl_ring.specs.declared.ring.Ring.{Ring}
-use Rattle.fl_frame.proofs.ReadsInTurn.{no_reads, same_page}
+use Rattle.fl_frame.proofs.ReadsInTurn.{same_page}
 use Rattle.fl_table.specs.Look.{oldest_in}
 use Rattle.fl_table.specs.Memory.{next_in, LiesOn}
 use Rattle.fl_frame.proofs.CallsInTurn.{stays-set}
-use Rattle.fl_table.specs.Pages.{place_in}
+use Rattle.fl_parts.specs.Pages.{place_in}
 use Rattle.fl_table.specs.Standing.{Stands}
 use Rattle.fl_table.specs.declared.table.Table.{Table}
 use Rattle.fl_table.proofs.Images.{holds-same}
-use Rattle.fl_table.proofs.IndexOfTable.{lies-goes, stand-moved}
+use Rattle.fl_parts.proofs.IndexOfTable.{lies-goes, stand-moved}
 use Rattle.fl_table.proofs.BlobsOfTable as blobbing
-use Rattle.fl_table.proofs.Plain.{IsPlainTable, table-parts}
+use Rattle.fl_parts.proofs.Plain.{IsPlainTable, table-parts}
 
 pub stands-still : {KNOTS SLOTS : ℕ} (t : Table KNOTS SLOTS) (f g : FlashState) (n first : ℕ) (plan : Plan) (table : model.Table) → OnlyReads f n g → Stands t f first plan table → Stands t g first plan table
 stands-still t f g n first plan table reads stands = record {
@@ -70,48 +64,6 @@ lies-still t f g n reads lies = lies-moved t f g reads.goes lies
 pub lies-powered : {KNOTS SLOTS : ℕ} (t : Table KNOTS SLOTS) (f : FlashState) (on : Bool) → LiesOn t f → LiesOn t (record f { is_on = on })
 lies-powered t f on lies =
     lies-moved t f (record f { is_on = on }) (stays-set f on f.armed) lies
-
--- why a read of a page failed
-pub read-fails : (old new : FlashState) (page size : ℕ) (fault : FlashFault) (into : BufferState) → ReadsPage old page size (Err fault) into new → ReadFails old fault new
-read-fails old new page size PowerLost into is = by_power old.is_on refl
-  where
-    by_power : (on : Bool) → old.is_on ≡ on → old.is_on ≡ false
-    by_power true e = absurd (is.never_lost e refl)
-    by_power false e = e
-read-fails old new page size Media into is = is.cause.media refl
-
--- one read of a page
-pub read-once : (old new : FlashState) (page size : ℕ) (result : Result (Unit {0}) FlashFault) (into : BufferState) → ReadsPage old page size result into new → OnlyReads old 1 new
-read-once old new page size result into is = by_power old.is_on refl
-  where
-    by_power : (on : Bool) → old.is_on ≡ on → OnlyReads old 1 new
-    by_power true e =
-        let work = is.counted e in
-        let reads : new.work.reads ≡ next_count old.work.reads = ap (λ (w : Work). w.reads) work in
-        record {
-          goes = is.goes;
-          same = is.same;
-          armed = is.armed;
-          power = is.power;
-          cuts = is.cuts;
-          reads = omega (arith, reads);
-          media_reads = omega (arith, is.one_read e);
-          programs = ap (λ (w : Work). w.programs) work;
-          erases = ap (λ (w : Work). w.erases) work;
-        }
-    by_power false e =
-        let none = no_reads old in
-        subst (λ (f : FlashState). OnlyReads old 1 f) (sym (is.off e).1) (record {
-          goes = none.goes;
-          same = refl;
-          armed = refl;
-          power = refl;
-          cuts = refl;
-          reads = omega arith;
-          media_reads = omega arith;
-          programs = refl;
-          erases = refl;
-        })
 
 -- after calls that only read
 pub lies-read : {KNOTS SLOTS : ℕ} (t : Table KNOTS SLOTS) (f g : FlashState) → contents.OnlyReads f g → LiesOn t f → LiesOn t g

@@ -9,12 +9,12 @@ use Rattle.fl_model.specs.Row.{FitsRow}
 use Rattle.fl_model.specs.Ring as rings
 use Rattle.fl_model.specs.Table as model
 use Rattle.fl_model.specs.Table.{Table, Entry, Refusal, BadKey, BadColumns, BadValue, BadBlob, first_of as or_model, refuse_if, key_refusal, value_refusal, blob_refusal, refusal_of, is_spent, spent_from, last_entry}
-use Rattle.fl_table.specs.Bitmaps as bitmaps
-use Rattle.fl_table.proofs.IndexOfTable.{index-spent}
-use Rattle.fl_table.specs.Blobs as variable
-use Rattle.fl_table.specs.Blobs.{ArePlanned, HasFew}
+use Rattle.fl_parts.specs.Bitmaps as bitmaps
+use Rattle.fl_parts.proofs.IndexOfTable.{index-spent}
+use Rattle.fl_parts.specs.Blobs as variable
+use Rattle.fl_parts.specs.Blobs.{ArePlanned, HasFew}
 use Rattle.fl_table.proofs.BlobsOfTable.{planned-some, planned-none, var-spent}
-use Rattle.fl_table.proofs.Plain.{table-parts}
+use Rattle.fl_parts.proofs.Plain.{table-parts}
 use Rattle.fl_var.specs.declared.var_data.VarData.{VarData}
 use Rattle.fl_ring.specs.Place.{next_of}
 use Rattle.fl_ring.specs.declared.ring.Ring.{Ring}

@@ -11,14 +11,14 @@ use Rattle.fl_model.specs.Work.{Kind, Body, Mark, VoidMark, Erase, effect, Devic
 use Rattle.fl_model.specs.Within.{seal_within, effect_within, TablePerforms}
 use Rattle.fl_model.proofs.Performs.{performs-along, performs-map, performs-whole, EndsAlong}
 use Rattle.fl_model.proofs.Among.{seal-all_done}
-use Rattle.fl_table.proofs.BlobTables.{AreInPages, HoldsVar}
-use Rattle.fl_table.proofs.Plain.{IsPlainTable, plain-body, plain-mark, plain-erase}
-use Rattle.fl_table.proofs.ListsStay.{HoldsIndexed}
+use Rattle.fl_parts.proofs.BlobTables.{AreInPages, HoldsVar}
+use Rattle.fl_parts.proofs.Plain.{IsPlainTable, plain-body, plain-mark, plain-erase}
+use Rattle.fl_parts.proofs.ListsStay.{HoldsIndexed}
 use Rattle.fl_frame.specs.Device.{SameDevice}
 use Rattle.fl_ring.specs.Operations.{change, seal_kinds}
 use Rattle.fl_ring.specs.Ring.{RingState, OnRing, sealed, begun, erased}
 use Rattle.fl_ring.specs.Sealing.{Performed, AnswersEnd}
-use Rattle.fl_table.proofs.States.{shape_in, state_of}
+use Rattle.fl_parts.proofs.States.{shape_in, state_of}
 use Rattle.fl_table.proofs.Sealed.{state-sealed, state-begun, state-erased}
 
 -- an operation of the data ring

@@ -10,8 +10,8 @@ use Rattle.fl_model.specs.Ring.{Ring, oldest}
 use Rattle.fl_model.specs.Table as model
 use Rattle.fl_ring.specs.Place.{next_of, oldest_of}
 use Rattle.fl_ring.specs.declared.ring.Ring as code
-use Rattle.fl_table.specs.Bitmaps as bitmaps
-use Rattle.fl_table.specs.Blobs as variable
+use Rattle.fl_parts.specs.Bitmaps as bitmaps
+use Rattle.fl_parts.specs.Blobs as variable
 use Rattle.fl_table.specs.Look.{oldest_in}
 use Rattle.fl_table.specs.Memory.{next_in}
 use Rattle.fl_table.specs.Rings.{index_pages, blob_pages, oldest_page, rings_in, rings_of}

@@ -9,13 +9,13 @@ use Rattle.fl_model.specs.Ring as model
 use Rattle.fl_model.specs.Row.{Row, stored_row}
 use Rattle.fl_model.specs.Layout.{data_body, rows_body, bitmap_of}
 use Rattle.fl_model.specs.Table.{Table, DataRing, shape_of, pending_entries, lose}
-use Rattle.fl_table.specs.Blobs.{AreEmpty}
-use Rattle.fl_table.proofs.Plain.{table-parts}
+use Rattle.fl_parts.specs.Blobs.{AreEmpty}
+use Rattle.fl_parts.proofs.Plain.{table-parts}
 use Rattle.fl_table.proofs.BlobsOfTable as blobbing
 use Rattle.fl_table.proofs.BlobsOnPages.{settled-pages}
-use Rattle.fl_table.proofs.IndexOfTable.{still-planned, plan-same, plan-then, planned-none, room-left}
+use Rattle.fl_parts.proofs.IndexOfTable.{still-planned, plan-same, plan-then, planned-none, room-left}
 use Rattle.fl_index.specs.declared.index.BitmapIndex.{BitmapIndex}
-use Rattle.fl_table.specs.Bitmaps.{ArePlanned, HaveRoom}
+use Rattle.fl_parts.specs.Bitmaps.{ArePlanned, HaveRoom}
 use Rattle.fl_page.specs.Writer.{Gathers}
 use Rattle.fl_page.specs.WriterState.{WriterState}
 use Rattle.fl_ring.specs.Mounting.{shape_at}
@@ -28,9 +28,9 @@ use Rattle.fl_schema.specs.Schema.{layout_of}
 use Rattle.fl_table.specs.Memory.{IsPlanned, IsSamePlan, HasBuckets}
 use Rattle.fl_table.specs.Standing.{Stands}
 use Rattle.fl_table.specs.declared.table.Table as code
-use Rattle.fl_table.proofs.TablePages.{plain-on, have-size}
+use Rattle.fl_parts.proofs.TablePages.{plain-on, have-size}
 use Rattle.fl_table.proofs.SealEnds.{IsSealing}
-use Rattle.fl_table.proofs.States.{shape_in, state_of, state-oldest, HaveSize}
+use Rattle.fl_parts.proofs.States.{shape_in, state_of, state-oldest, HaveSize}
 
 pub planned-shape : {KNOTS SLOTS : ℕ} (t : code.Table KNOTS SLOTS) (first : ℕ) (plan : Plan) → IsPlanned t first plan → model.IsShape (shape_of plan DataRing)
 planned-shape t first plan h = record {

@@ -10,7 +10,7 @@ use Rattle.fl_model.specs.Table.{Table, Entry, DataRing, shape_of, with_ring, se
 use Rattle.fl_model.specs.Layout.{data_body}
 use Rattle.fl_model.proofs.Pages.{page_with, pages_from, pages-length, pages-push, pages-drop, pages-front}
 use Rattle.fl_ring.specs.Ring.{RingState, is_due, is_due_at, appended, trimmed, sealed, voided, begun, erased}
-use Rattle.fl_table.proofs.States.{shape_in, state_of, page-some}
+use Rattle.fl_parts.proofs.States.{shape_in, state_of, page-some}
 
 -- the state of a data ring whose records are these
 abbrev pub ring_state : Plan → model.Ring → List Entry → RingState

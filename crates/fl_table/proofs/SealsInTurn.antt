@@ -9,11 +9,11 @@ use Rattle.fl_model.specs.Work.{Kind, Device, PartEnd, PartProgress}
 use Rattle.fl_model.proofs.Among.{after_seals-append, seals-all_done}
 use Rattle.fl_model.proofs.Performs.{performs-front, performs-more, performs-whole}
 use Rattle.fl_table.specs.Outcomes.{Finishes, Breaks, FaultEnds, BySeals, SealsEnd}
-use Rattle.fl_table.specs.Pages.{KeptStand}
+use Rattle.fl_parts.specs.Pages.{KeptStand}
 use Rattle.fl_table.specs.Standing.{Stands}
 use Rattle.fl_table.specs.declared.table.Table as code
 use Rattle.fl_table.proofs.SealEnds.{ByRows}
-use Rattle.fl_table.proofs.KeptPagesStay.{kept-then}
+use Rattle.fl_parts.proofs.KeptPagesStay.{kept-then}
 
 pub within-append : (plan : Plan) (rings others : List RingName) (table : Table) → seals_within plan (rings ++ others) table ≡ seals_within plan rings table ++ seals_within plan others (after_seals plan rings table)
 within-append plan [] others table = refl

@@ -32,8 +32,8 @@ use Rattle.fl_ring.specs.Place.{next_of, oldest_of}
 use Rattle.fl_ring.specs.Ring as rings
 use Rattle.fl_ring.specs.Ring.{Shape}
 use Rattle.fl_ring.specs.declared.ring.Ring.{Ring}
-use Rattle.fl_table.specs.ByEntries.{Come, index_page, is_committed, is_fit, end_before, entry, lists, listing_among, told, told_at, no_rows}
-use Rattle.fl_table.specs.Coming.{IsComeTo}
+use Rattle.fl_parts.specs.ByEntries.{Come, index_page, is_committed, is_fit, end_before, entry, lists, listing_among, told, told_at, no_rows}
+use Rattle.fl_parts.specs.Coming.{IsComeTo}
 use Rattle.fl_table.proofs.StandingMount.{IsIndexOf}
 
 -- the committed ones of the first m index pages end by a number

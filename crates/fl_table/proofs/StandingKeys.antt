@@ -12,13 +12,13 @@ use Rattle.fl_model.specs.Limits.{numbers_from}
 use Rattle.fl_model.specs.Entry.{first_key}
 use Rattle.fl_model.specs.Table.{Table}
 use Rattle.fl_model.proofs.Lists.{slice_get-some, slice_get-short}
-use Rattle.fl_table.specs.ByEntries.{Come, entry, has_rows, are_void, is_read, facts_on, known_after, read_fault, entry_fault, page_check, first_some, first_of, index_check, checks_from, seen_before, mount_fault}
-use Rattle.fl_table.specs.Reading.{last_in}
-use Rattle.fl_table.specs.declared.faults.MountFault.{MountFault}
-use Rattle.fl_table.specs.declared.faults.MountFault.TheVariants.{BadKeys}
+use Rattle.fl_parts.specs.ByEntries.{Come, entry, has_rows, are_void, is_read, facts_on, known_after, read_fault, entry_fault, page_check, first_some, first_of, index_check, checks_from, seen_before, mount_fault}
+use Rattle.fl_parts.specs.Reading.{last_in}
+use Rattle.fl_parts.specs.declared.mount_fault.MountFault.{MountFault}
+use Rattle.fl_parts.specs.declared.mount_fault.MountFault.TheVariants.{BadKeys}
 use Rattle.fl_table.proofs.KeyOrder.{key_before, rising}
-use Rattle.fl_table.proofs.PageChecks.{is-void, no_both}
-use Rattle.fl_table.proofs.KeptPages.{sum-next}
+use Rattle.fl_parts.proofs.PageChecks.{is-void, no_both}
+use Rattle.fl_parts.proofs.KeptPages.{sum-next}
 use Rattle.fl_table.proofs.StandingMount.{IsOf, IsPageOf, facts-of, rows-of, count-of, index-fine, AtMost, at-most, AreBehind, are-behind}
 
 module _ (t : Come) (table : Table) (is : IsOf t table) where

@@ -8,11 +8,11 @@ use Rattle.fl_model.specs.Mount.{blob_end}
 use Rattle.fl_model.specs.Spline.{points_of, voids_of}
 use Rattle.fl_model.specs.Table.{Table, Entry, last_entry}
 use Rattle.fl_model.proofs.Lists.{slice_get-short}
-use Rattle.fl_table.specs.ByEntries.{Come}
-use Rattle.fl_table.specs.Knowing.{KnowsWith}
-use Rattle.fl_table.specs.declared.known.Known.{Known}
+use Rattle.fl_parts.specs.ByEntries.{Come}
+use Rattle.fl_parts.specs.Knowing.{KnowsWith}
+use Rattle.fl_parts.specs.declared.known.Known.{Known}
 use Rattle.fl_table.proofs.KeyOrder.{key-last}
-use Rattle.fl_table.proofs.WaitingPageComes.{knows-all, points-all}
+use Rattle.fl_parts.proofs.WaitingPageComes.{knows-all, points-all}
 use Rattle.fl_table.proofs.StandingMount.{IsOf, count-of}
 use Rattle.fl_table.proofs.StandingKeys.{last-known}
 use Rattle.fl_table.proofs.StandingTotals.{are-all}

@@ -15,14 +15,14 @@ use Rattle.fl_model.specs.Ring as rings
 use Rattle.fl_model.specs.Row.{Row, stored_row}
 use Rattle.fl_model.specs.Table.{Table, Entry}
 use Rattle.fl_model.proofs.Lists.{slice_get-some}
-use Rattle.fl_table.specs.BlobEnds.{blobs_end}
-use Rattle.fl_table.specs.ByEntries.{Come, entry, index_page, is_committed, is_fit, is_good, lists, listing_among, told_at, has_rows, is_read, by_rows, by_page, facts_on, no_rows, has_form, first_some, first_of, count_fault, index_check}
-use Rattle.fl_table.specs.Reading.{rises, last_in, keys_fault}
-use Rattle.fl_table.specs.declared.faults.MountFault.{MountFault}
-use Rattle.fl_table.specs.declared.faults.MountFault.TheVariants.{BadKeys, BadEntry}
-use Rattle.fl_table.proofs.BlobEnds.{ends-of}
-use Rattle.fl_table.proofs.PageChecks.{unlisted-read, no_both}
-use Rattle.fl_table.proofs.KeyRuns.{rises-on, last-up}
+use Rattle.fl_parts.specs.BlobEnds.{blobs_end}
+use Rattle.fl_parts.specs.ByEntries.{Come, entry, index_page, is_committed, is_fit, is_good, lists, listing_among, told_at, has_rows, is_read, by_rows, by_page, facts_on, no_rows, has_form, first_some, first_of, count_fault, index_check}
+use Rattle.fl_parts.specs.Reading.{rises, last_in, keys_fault}
+use Rattle.fl_parts.specs.declared.mount_fault.MountFault.{MountFault}
+use Rattle.fl_parts.specs.declared.mount_fault.MountFault.TheVariants.{BadKeys, BadEntry}
+use Rattle.fl_parts.proofs.BlobEnds.{ends-of}
+use Rattle.fl_parts.proofs.PageChecks.{unlisted-read, no_both}
+use Rattle.fl_parts.proofs.KeyRuns.{rises-on, last-up}
 
 -- a kept data page with these rows, as it stands on a flash
 pub record IsPageOf (t : Come) (number c : ℕ) (rows : List Entry) : Type 0 where

@@ -1,5 +1,5 @@
 -- What the seals of a table's rings change of a flash, one after another.
-use Rattle.std.proofs.Common.{◌≡◌, ℕ, ◌+◌, ◌<◌, ◌≤◌, IsTrue, Option, Some, None, List, length, inl, inr, sym, ap, subst, arith}
+use Rattle.std.proofs.Common.{◌≡◌, ℕ, ◌+◌, ◌<◌, ◌≤◌, IsTrue, Option, Some, None, List, length, inl, inr, ap, subst, arith}
 use Rattle.std.proofs.lemmas.Bool.{cases_lt}
 use Rattle.fl_flash.specs.Flash.{FlashState, page_at}
 use Rattle.fl_model.specs.Record.{layout_len}
@@ -8,14 +8,13 @@ use Rattle.fl_ring.specs.Written.{MaySealIn, Writes}
 use Rattle.fl_ring.specs.declared.ring.Ring.{Ring}
 use Rattle.fl_ring.proofs.Written.{writes-then, writes-wider}
 use Rattle.fl_schema.specs.Schema.{layout_of}
-use Rattle.fl_table.specs.Bitmaps as bitmaps
-use Rattle.fl_table.specs.Blobs as variable
+use Rattle.fl_parts.proofs.PlacedBlobs.{same}
+use Rattle.fl_parts.specs.Bitmaps as bitmaps
+use Rattle.fl_parts.specs.Blobs as variable
 use Rattle.fl_table.specs.Memory.{HasRoom, MayPut, MaySeal}
 use Rattle.fl_table.specs.Mounting.{rings_in}
 use Rattle.fl_table.specs.declared.table.Table.{Table}
 use Rattle.fl_table.proofs.BlobsOfTable.{pages-most}
-use Rattle.fl_var.specs.Memory.{IsOnRing}
-use Rattle.fl_var.specs.Placing.{pages_placed}
 use Rattle.fl_var.specs.declared.var_data.VarData.{VarData}
 use Rattle.fl_var.proofs.Joins.{same-shape}
 
@@ -24,17 +23,6 @@ few-first a b = omega arith
 
 few-both : (a b : ℕ) → a + b ≤ a + b + 1
 few-both a b = omega arith
-
-same : (n : ℕ) → n ≤ n
-same n = omega arith
-
--- a blob of a ring of variable data
-pub fill-writes : (blob : Option (List ℕ)) (blobs : Option VarData) (bytes : List ℕ) (var : VarData) (f g : FlashState) → blob ≡ Some bytes → blobs ≡ Some var → Writes (IsOnRing var) 0 (pages_placed var (length bytes)) f g →
-    Writes (variable.MayFill blob blobs) 0 (variable.pages_for blobs blob) f g
-fill-writes blob blobs bytes var f g b v h =
-    subst (λ (o : Option (List ℕ)). Writes (variable.MayFill o blobs) 0 (variable.pages_for blobs o) f g) (sym b)
-    (subst (λ (o : Option VarData). Writes (variable.MayFill (Some bytes) o) 0 (variable.pages_for o (Some bytes)) f g) (sym v)
-    (writes-wider (IsOnRing var) (variable.MayFill (Some bytes) (Some var)) 0 0 (pages_placed var (length bytes)) (pages_placed var (length bytes)) f g (λ page may. may) (same 0) (same (pages_placed var (length bytes))) h))
 
 -- it may change the same pages of another one with the same plan
 pub fill-moved : (blob : Option (List ℕ)) (old new : Option VarData) → variable.AreSamePlan old new → (page : ℕ) → variable.MayFill blob new page → variable.MayFill blob old page

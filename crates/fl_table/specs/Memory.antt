@@ -20,9 +20,9 @@ use Rattle.fl_ring.specs.Place as place
 use Rattle.fl_ring.specs.Ring.{Shape}
 use Rattle.fl_ring.specs.Written.{MaySealIn}
 use Rattle.fl_schema.specs.Schema.{layout_of}
-use Rattle.fl_table.specs.Bitmaps as bitmaps
-use Rattle.fl_table.specs.Bitmaps.{ArePlanned, AreSamePlan, LieOn}
-use Rattle.fl_table.specs.Blobs as variable
+use Rattle.fl_parts.specs.Bitmaps as bitmaps
+use Rattle.fl_parts.specs.Bitmaps.{ArePlanned, AreSamePlan, LieOn}
+use Rattle.fl_parts.specs.Blobs as variable
 use Rattle.fl_table.specs.declared.table.Table.{Table}
 
 -- an operation failed since the last mount

@@ -1,5 +1,5 @@
 -- What a mount found on a flash, over any bytes.
-use Rattle.std.specs.Prelude.{◌≡◌, ◌⊎◌, ℕ, ◌+◌, ◌-◌, ◌<◌, ◌≤◌, Bool, true, false, Option, Some, None, IfSome, unwrap_or, List}
+use Rattle.std.specs.Prelude.{◌≡◌, ◌⊎◌, ℕ, ◌+◌, ◌-◌, ◌<◌, ◌≤◌, Option, Some, None, IfSome, unwrap_or, List}
 use Rattle.fl_flash.specs.Flash.{FlashState}
 use Rattle.fl_flash.specs.declared.flash.FlashFault.{FlashFault}
 use Rattle.fl_ring.specs.declared.fault.RingFault.{RingFault}
@@ -13,37 +13,25 @@ use Rattle.fl_ring.specs.Place.{next_of, oldest_of, shape_of}
 use Rattle.fl_schema.specs.Schema.{layout_of}
 use Rattle.fl_find.specs.Index.{error_in}
 use Rattle.fl_index.specs.Memory as memory
-use Rattle.fl_index.specs.Finding as finding
-use Rattle.fl_index.specs.Finding.{FindsEnd, FindsIndex, RefusesEnd, RefusesIndex}
-use Rattle.fl_index.specs.Page.{first_on}
 use Rattle.fl_index.specs.declared.index.BitmapIndex.{BitmapIndex}
 use Rattle.fl_ring.specs.Ring.{room}
-use Rattle.fl_table.specs.Bitmaps.{room_of, rings_of, IsOutside, AreSamePlan, AreStillFound}
-use Rattle.fl_table.specs.Blobs as variable
+use Rattle.fl_parts.specs.IndexMount.{FindsBitmaps, RefusesBitmaps, RemembersKept}
+use Rattle.fl_parts.specs.Bitmaps.{room_of, rings_of, IsOutside, AreSamePlan, AreStillFound}
+use Rattle.fl_parts.specs.Blobs as variable
 use Rattle.fl_var.specs.Memory.{var_shape}
-use Rattle.fl_table.specs.Causes.{of_ring}
-use Rattle.fl_table.specs.Knowing.{IsLearned}
+use Rattle.fl_parts.specs.Faults.{of_ring}
+use Rattle.fl_parts.specs.Knowing.{IsLearned}
 use Rattle.fl_table.specs.Look.{counts_in}
 use Rattle.fl_table.specs.Memory.{ring_shape, IsSamePlan, NothingWaits}
 use Rattle.fl_table.specs.declared.table.Table.{Table}
-use Rattle.fl_table.specs.declared.faults.MountFault.{MountFault}
-use Rattle.fl_table.specs.declared.faults.MountFault.TheVariants as mount
+use Rattle.fl_parts.specs.declared.mount_fault.MountFault.{MountFault}
+use Rattle.fl_parts.specs.declared.mount_fault.MountFault.TheVariants as mount
 use Rattle.fl_table.specs.declared.counts.Mounted.{Mounted}
-use Rattle.fl_table.specs.BlobEnds.{least_of}
-use Rattle.fl_table.specs.BlobMount.{FindsBlobs, RefusesWithin, AreBelow}
-use Rattle.fl_table.specs.ByEntries.{Come, facts_on, known_after, rows_of, voids_of, end_of, mount_fault}
-use Rattle.fl_table.specs.Coming.{WaitUnlisted, come_of, most_in, index_pages_of}
-use Rattle.fl_table.specs.Reading.{pages_of}
-
--- at most so many reads
-pub record FewReads (n : ℕ) (old new : FlashState) : Type 0 where
-  pub reads : new.work.reads ≤ old.work.reads + n
-  pub media_reads : new.media.reads ≤ old.media.reads + n
-
--- at most one page of each ring is given up, and one block erased
-pub record FewRepairs (rings : ℕ) (old new : FlashState) : Type 0 where
-  pub programs : new.work.programs ≤ old.work.programs + rings
-  pub erases : new.work.erases ≤ old.work.erases + rings
+use Rattle.fl_parts.specs.BlobEnds.{least_of}
+use Rattle.fl_parts.specs.BlobMount.{FindsBlobs, RefusesWithin, AreBelow}
+use Rattle.fl_parts.specs.ByEntries.{Come, facts_on, known_after, rows_of, voids_of, end_of, mount_fault}
+use Rattle.fl_parts.specs.Coming.{WaitUnlisted, come_of, most_in, index_pages_of}
+use Rattle.fl_parts.specs.Reading.{pages_of}
 
 -- how many rings a table has, and how many pages they have
 abbrev pub rings_in : {KNOTS SLOTS : ℕ} → Table KNOTS SLOTS → ℕ
@@ -51,27 +39,6 @@ rings_in t = rings_of t.bitmaps + variable.rings_of t.blobs + 1
 
 abbrev pub pages_in : {KNOTS SLOTS : ℕ} → Table KNOTS SLOTS → ℕ
 pages_in t = room (ring_shape t) + room_of t.bitmaps + variable.room_of t.blobs
-
--- The index was found and repaired, where the table has one; it is this one now, and ends at this number. Where entries are full,
--- its kept pages are read later.
-abbrev pub FindsBy : Bool → BitmapIndex → FlashState → Option ℕ → BitmapIndex → FlashState → Type 0
-FindsBy true index old end now new = FindsEnd index old end now new
-FindsBy false index old end now new = FindsIndex index old end now new
-
-abbrev pub FindsBitmaps : Option BitmapIndex → FlashState → Option ℕ → Option BitmapIndex → FlashState → Type 0
-FindsBitmaps None old end None new = (end ≡ None) × (new ≡ old)
-FindsBitmaps None old end (Some now) new = ⊥
-FindsBitmaps (Some index) old end None new = ⊥
-FindsBitmaps (Some index) old end (Some now) new = FindsBy (memory.form_in index).full index old end now new
-
--- why it is refused, and what was done
-abbrev pub RefusesBy : Bool → BitmapIndex → FlashState → RingFault → FlashState → Type 0
-RefusesBy true index old fault new = RefusesEnd index old fault new
-RefusesBy false index old fault new = RefusesIndex index old fault new
-
-abbrev pub RefusesBitmaps : Option BitmapIndex → FlashState → RingFault → FlashState → Type 0
-RefusesBitmaps None old fault new = ⊥
-RefusesBitmaps (Some index) old fault new = RefusesBy (memory.form_in index).full index old fault new
 
 -- the index was found, and ends at this number
 pub record Indexed {KNOTS SLOTS : ℕ} (t : Table KNOTS SLOTS) (old : FlashState) (end : Option ℕ) (found : FlashState) : Type 0 where
@@ -103,17 +70,6 @@ pub record FindsData {KNOTS SLOTS : ℕ} (t : Table KNOTS SLOTS) (bitmaps : Opti
   }
   pub last_is : last ≡ known_after (comes_in t bitmaps ring new) (next_of ring - oldest_of ring)
   pub end_is : end ≡ end_of (facts_on (comes_in t bitmaps ring new)) (oldest_of ring) (next_of ring - oldest_of ring)
-
--- Where entries are full, the first data page of each kept index page is remembered.
-abbrev pub RemembersPages : Bool → BitmapIndex → FlashState → BitmapIndex → Type 0
-RemembersPages true index f now =
-    (number : ℕ) → memory.oldest_in index ≤ number → number < memory.next_in index → memory.first_in now number ≡ first_on (finding.pages_of index f number)
-RemembersPages false index f now = Unit {0}
-
-abbrev pub RemembersKept : Option BitmapIndex → FlashState → Option BitmapIndex → Type 0
-RemembersKept None f now = Unit {0}
-RemembersKept (Some index) f None = ⊥
-RemembersKept (Some index) f (Some now) = RemembersPages (memory.form_in index).full index f now
 
 -- a table in memory has learned what the kept data pages hold that a mount came to
 abbrev pub HasLearned : {KNOTS SLOTS : ℕ} → ℕ → Come → Table KNOTS SLOTS → Type 0

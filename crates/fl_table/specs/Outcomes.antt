@@ -17,15 +17,15 @@ use Rattle.fl_table.specs.declared.faults.PutRefusal.{PutRefusal}
 use Rattle.fl_table.specs.declared.faults.PutRefusal.TheVariants as put
 use Rattle.fl_table.specs.declared.faults.FlushFault.{FlushFault}
 use Rattle.fl_table.specs.declared.faults.FlushFault.TheVariants as flush
-use Rattle.fl_table.specs.declared.faults.MountFault.{MountFault}
-use Rattle.fl_table.specs.declared.faults.MountFault.TheVariants as mount
+use Rattle.fl_parts.specs.declared.mount_fault.MountFault.{MountFault}
+use Rattle.fl_parts.specs.declared.mount_fault.MountFault.TheVariants as mount
 use Rattle.fl_table.specs.declared.counts.Mounted.{Mounted}
 use Rattle.fl_table.specs.declared.mount.FoundRows.{FoundRows}
 use Rattle.fl_model.specs.Facts.{IsTable, IsSettled}
-use Rattle.fl_table.specs.Bitmaps.{Stand}
+use Rattle.fl_parts.specs.Bitmaps.{Stand}
 use Rattle.fl_table.specs.Memory.{IsPlanned, HoldsInMemory}
-use Rattle.fl_table.specs.Mountable.{IsPaged, BlobsBefore}
-use Rattle.fl_table.specs.Pages.{HoldsTable, KeptStand, Rests}
+use Rattle.fl_parts.specs.Mountable.{IsPaged, BlobsBefore}
+use Rattle.fl_parts.specs.Pages.{HoldsTable, KeptStand, Rests}
 use Rattle.fl_table.specs.Standing.{IsLoaded, Stands}
 
 -- how the seals of these rings may go, one after another

@@ -7,9 +7,9 @@ use Rattle.fl_model.specs.Row.{Row}
 use Rattle.fl_ring.specs.Ring.{place}
 use Rattle.fl_ring.specs.Written.{Writes, sealed_over, MaySealIn}
 use Rattle.fl_schema.specs.Schema.{layout_of}
-use Rattle.fl_table.specs.Bitmaps as bitmaps
-use Rattle.fl_table.specs.Bitmaps.{IsOutside}
-use Rattle.fl_table.specs.Blobs.{most_pages, MayFill}
+use Rattle.fl_parts.specs.Bitmaps as bitmaps
+use Rattle.fl_parts.specs.Bitmaps.{IsOutside}
+use Rattle.fl_parts.specs.Blobs.{most_pages, MayFill}
 use Rattle.fl_table.specs.Memory.{next_in, ring_shape, MayPut, MaySeal, PendingAre}
 use Rattle.fl_table.specs.Mounting.{rings_in}
 use Rattle.fl_table.specs.declared.table.Table.{Table}

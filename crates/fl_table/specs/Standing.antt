@@ -7,10 +7,10 @@ use Rattle.fl_model.specs.Table as model
 use Rattle.fl_model.specs.Table.{lose, pending_entries, last_entry}
 use Rattle.fl_model.specs.Facts.{IsTable}
 use Rattle.fl_table.specs.declared.table.Table.{Table}
-use Rattle.fl_table.specs.Bitmaps.{Stand}
-use Rattle.fl_table.specs.Blobs as variable
-use Rattle.fl_table.specs.Mountable.{IsPaged}
-use Rattle.fl_table.specs.Pages.{HoldsTable}
+use Rattle.fl_parts.specs.Bitmaps.{Stand}
+use Rattle.fl_parts.specs.Blobs as variable
+use Rattle.fl_parts.specs.Mountable.{IsPaged}
+use Rattle.fl_parts.specs.Pages.{HoldsTable}
 use Rattle.fl_table.specs.Memory.{InMemory, IsPlanned}
 
 -- A mounted table whose numbers fit, but may be spent, and of which a blob may begin on a void page: what it has in memory is what its

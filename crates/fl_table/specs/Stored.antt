@@ -5,9 +5,9 @@ use Rattle.fl_find.specs.Index.{IndexOf, is_further, knots_in}
 use Rattle.fl_model.specs.Row.{Row}
 use Rattle.fl_ring.specs.Place.{oldest_after}
 use Rattle.fl_spline.specs.Points.{IsFurther}
-use Rattle.fl_table.specs.Bitmaps.{RingGoesOn}
-use Rattle.fl_table.specs.Blobs as variable
-use Rattle.fl_table.specs.Blobs.{HavePlaced, next_after, next_of, placed_in}
+use Rattle.fl_parts.specs.Bitmaps.{RingGoesOn}
+use Rattle.fl_parts.specs.Blobs as variable
+use Rattle.fl_parts.specs.Blobs.{HavePlaced, next_after, next_of, placed_in}
 use Rattle.fl_table.specs.Look.{last_key_in, oldest_in}
 use Rattle.fl_table.specs.Memory.{bitmap_with, next_in, pending_in, HasRoom, IsSamePlan, NothingWaits, PendingAre}
 use Rattle.fl_table.specs.declared.table.Table.{Table}

@@ -1,21 +1,13 @@
 //! A table: its records in the pages of a ring, and those that wait in memory for their page.
 #![tactic(auto)]
 
-mod bitmaps;
 mod blob_at;
-mod blob_end;
-mod blobs;
-mod by_entries;
 mod counts;
 mod entry;
 mod facts;
 mod faults;
 mod find;
-mod keys;
-mod known;
-mod load;
 mod look_ahead;
-mod misfit;
 mod mount;
 mod page;
 mod pending;
@@ -28,9 +20,9 @@ mod state;
 mod table;
 
 pub use counts::{Mounted, TableCounts};
-pub use faults::{FlushFault, MountFault, PutRefusal};
+pub use faults::{FlushFault, PutRefusal};
 pub use find::RowAt;
-pub use keys::last_key_after;
+pub use fl_parts::{MountFault, last_key_after};
 pub use look_ahead::Ahead;
 pub use rings::TableRings;
 pub use table::Table;

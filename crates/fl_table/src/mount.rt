@@ -2,16 +2,15 @@
 ghost use Rattle.std.specs.Prelude.{◌≡◌, ◌≤◌, ◌+◌, ◌-◌, ◌*◌, Some, None, Err, false, true, is_ok, length, [], ◌∷◌, IsTrue, IfOk, IfErr, OnOk, OnErr};
 ghost use Rattle.fl_flash.specs.declared.flash.FlashFault.{FlashFault};
 ghost use Rattle.fl_flash.specs.Flash.{Goes, page_at};
-ghost use Rattle.fl_table.specs.Causes.{MountCausedBy};
+ghost use Rattle.fl_parts.specs.Faults.{MountCausedBy};
 
-use crate::bitmaps::{first_to_wait, mount_bitmaps, restart};
-use crate::blobs::mount_within;
-use crate::by_entries::read_listed;
-use crate::known::Known;
-use crate::load::{read_newest, read_pages};
+use crate::Mounted;
 use crate::table::Table;
-use crate::{MountFault, Mounted};
 use fl_flash::{Flash, PageBuf};
+use fl_parts::{
+    Known, MountFault, first_to_wait, mount_bitmaps, mount_within, read_listed, read_newest,
+    read_pages, restart,
+};
 use fl_ring::Ring;
 
 /// The data ring, what its pages hold, and one more than the greatest page that a blob of them names.
@@ -37,20 +36,21 @@ impl<const KNOTS: usize, const SLOTS: usize> Table<KNOTS, SLOTS> {
     ghost use Rattle.fl_frame.specs.Reads.{OnlyReads};
     ghost use Rattle.fl_frame.specs.Causes.{ReadFails};
     ghost use Rattle.fl_ring.specs.Place.{next_of, oldest_of, shape_of};
-    ghost use Rattle.fl_table.specs.Bitmaps.{AreIdle, AreRunning, AreStillFound, EndAt, StandForRing, room_of};
-    ghost use Rattle.fl_table.specs.ByEntries.{mount_fault, unlisted_of};
-    ghost use Rattle.fl_table.specs.Causes.{IfFlash, IfPage, is_of_pages};
-    ghost use Rattle.fl_table.specs.Coming.{FirstsKnown, StandFound, WaitUnlisted, index_pages_of};
-    ghost use Rattle.fl_table.specs.Knowing.{KnowsWith};
-    ghost use Rattle.fl_table.specs.Reading.{pages_of};
-    ghost use Rattle.fl_table.specs.Blobs as variable;
+    ghost use Rattle.fl_parts.specs.Bitmaps.{AreIdle, AreRunning, AreStillFound, EndAt, StandForRing, room_of};
+    ghost use Rattle.fl_parts.specs.ByEntries.{mount_fault, unlisted_of};
+    ghost use Rattle.fl_parts.specs.Faults.{IfFlash, IfPage, is_of_pages};
+    ghost use Rattle.fl_parts.specs.Coming.{FirstsKnown, StandFound, WaitUnlisted, index_pages_of};
+    ghost use Rattle.fl_parts.specs.Knowing.{KnowsWith};
+    ghost use Rattle.fl_parts.specs.Reading.{pages_of};
+    ghost use Rattle.fl_parts.specs.Blobs as variable;
     ghost use Rattle.fl_model.specs.Work.{Device};
     ghost use Rattle.fl_frame.specs.Watched.{IsWatched};
     ghost use Rattle.fl_table.specs.Memory.{is_running, is_stopped, pending_in, ring_shape, IsForgotten, IsPlanned, IsSamePlan, IsSameRest, LiesOn, NothingWaits};
-    ghost use Rattle.fl_table.specs.Pages.{RestsToMount};
+    ghost use Rattle.fl_parts.specs.Pages.{RestsToMount};
     ghost use Rattle.fl_table.specs.Outcomes.{DataEnds, MountEnds, RingsEnd, var_rings};
-    ghost use Rattle.fl_table.specs.MountLimits.{rows_mount_limit};
-    ghost use Rattle.fl_table.specs.Mounting.{FewReads, FewRepairs, FindsData, FindsPages, FindsRows, HasLearned, OutsideStands, RefusesData, RefusesPages, RefusesRows, RemembersKept, RowsStandOutside, comes_in, pages_in, rings_in};
+    ghost use Rattle.fl_parts.specs.MountLimits.{rows_mount_limit};
+    ghost use Rattle.fl_parts.specs.IndexMount.{FewReads, FewRepairs, RemembersKept};
+    ghost use Rattle.fl_table.specs.Mounting.{FindsData, FindsPages, FindsRows, HasLearned, OutsideStands, RefusesData, RefusesPages, RefusesRows, RowsStandOutside, comes_in, pages_in, rings_in};
 
     // As it was before its first mount.
     pub(crate) fn forget(&mut self)

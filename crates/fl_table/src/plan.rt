@@ -10,8 +10,8 @@ ghost use Rattle.fl_schema.specs.Form.{layout_with};
 ghost use Rattle.fl_schema.specs.Schema.{layout_of, types_of};
 ghost use Rattle.fl_model.specs.Record.{Plan};
 ghost use Rattle.fl_table.specs.BlobAt.{has_blobs};
-ghost use Rattle.fl_table.specs.Bitmaps.{ArePlanned, AreIdle, LieOn, next_after};
-ghost use Rattle.fl_table.specs.Blobs as variable;
+ghost use Rattle.fl_parts.specs.Bitmaps.{ArePlanned, AreIdle, LieOn, next_after};
+ghost use Rattle.fl_parts.specs.Blobs as variable;
 ghost use Rattle.fl_table.specs.Look.{layout_in};
 ghost use Rattle.fl_table.specs.Memory.{is_running, is_stopped, IsPlanned, LiesOn};
 

@@ -1,16 +1,15 @@
 // Puts and flushes.
 ghost use Rattle.std.specs.Prelude.{◌≡◌, ◌≤◌, ◌+◌, ◌^◌, ◌<◌, ◌++◌, ◌∷◌, [], true, false, length, IsTrue, OnOk, OnErr, IfErr, option_map};
 ghost use Rattle.fl_flash.specs.Flash.{Goes, OffChangesNothing, page_at};
-ghost use Rattle.fl_table.specs.BlobEnds.{reference_end};
+ghost use Rattle.fl_parts.specs.BlobEnds.{reference_end};
 ghost use Rattle.fl_table.specs.Memory.{bitmap_with};
 
-use crate::blob_end::{least_of, reference_end};
-use crate::blobs::place;
 use crate::table::Table;
 use crate::{FlushFault, PutRefusal};
 use fl_base::BlobRef;
 use fl_bitmap::Buckets;
 use fl_flash::{Flash, FlashFault};
+use fl_parts::{least_of, place, reference_end};
 
 /// The bitmap with one more value, where the table has buckets.
 fn with_value(buckets: Option<Buckets>, bitmap: u64, value: i64) -> u64
@@ -39,9 +38,9 @@ impl<const KNOTS: usize, const SLOTS: usize> Table<KNOTS, SLOTS> {
     ghost use Rattle.fl_table.specs.Memory.{is_running, is_stopped, next_in, pending_in, HasBuckets, HasRoom, InMemory, IsSameBeside, IsSamePlan, LiesOn, MayPut, MaySeal, PendingAre};
     ghost use Rattle.fl_table.specs.Refusal.{put_refusal, RefusesAs};
     ghost use Rattle.fl_table.specs.Standing.{Stands};
-    ghost use Rattle.fl_table.specs.Bitmaps.{next_of as index_next};
-    ghost use Rattle.fl_table.specs.Blobs as variable;
-    ghost use Rattle.fl_table.specs.Blobs.{HasFew};
+    ghost use Rattle.fl_parts.specs.Bitmaps.{next_of as index_next};
+    ghost use Rattle.fl_parts.specs.Blobs as variable;
+    ghost use Rattle.fl_parts.specs.Blobs.{HasFew};
     ghost use Rattle.fl_table.specs.Mounting.{OutsideStands, rings_in};
     ghost use Rattle.fl_table.specs.Outcomes.{SealsEnd, JoinEnds, PutEnds, FlushEnds};
     ghost use Rattle.fl_table.specs.Accepting.{IsAcceptedBy};

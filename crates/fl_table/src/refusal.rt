@@ -3,16 +3,16 @@ ghost use Rattle.std.specs.Prelude.{◌≡◌};
 ghost use Rattle.fl_schema.specs.Schema.{layout_of};
 
 use crate::PutRefusal;
-use crate::misfit::misfit;
 use crate::table::Table;
+use fl_parts::misfit;
 
 /// The first page number at which puts are refused: what is above it is left to mounts.
 const SPENT_FROM: u32 = 4_294_901_760;
 
 impl<const KNOTS: usize, const SLOTS: usize> Table<KNOTS, SLOTS> {
     ghost use Rattle.std.specs.Prelude.{not, length, ◌==◌, option_map};
-    ghost use Rattle.fl_table.specs.Bitmaps.{next_of as index_next};
-    ghost use Rattle.fl_table.specs.Blobs.{next_of as blob_next};
+    ghost use Rattle.fl_parts.specs.Bitmaps.{next_of as index_next};
+    ghost use Rattle.fl_parts.specs.Blobs.{next_of as blob_next};
     ghost use Rattle.fl_table.specs.Memory.{is_running};
     ghost use Rattle.fl_table.specs.Refusal.{key_refused, value_refused, blob_refused, spent_refused, put_refusal};
 

@@ -1,14 +1,13 @@
 // The seal of a table: a full list of bitmaps, the bytes of blobs that wait, and the pending rows.
-ghost use Rattle.std.specs.Prelude.{◌≡◌, ◌≤◌, ◌+◌, ◌-◌, ◌<◌, ◌%◌, ◌==◌, [], ◌∷◌, true, false, length, map, count_by, slice_index, slice_set, IsTrue, IfSome, OnOk, OnErr, IfErr};
+ghost use Rattle.std.specs.Prelude.{◌≡◌, ◌≤◌, ◌+◌, ◌-◌, ◌%◌, ◌==◌, [], ◌∷◌, true, false, length, map, count_by, slice_index, IsTrue, IfSome, OnOk, OnErr, IfErr};
 ghost use Rattle.std.specs.List.{range_with_len};
 ghost use Rattle.fl_flash.specs.Flash.{Goes, OffChangesNothing, page_at};
 ghost use Rattle.fl_frame.specs.Causes.{CausedBy};
 
-use crate::bitmaps::{make_room, note_entry};
-use crate::blobs::seal_rest;
 use crate::table::Table;
 use fl_flash::{Flash, FlashFault};
 use fl_index::Full;
+use fl_parts::{make_room, note, note_entry, seal_rest};
 
 impl<const KNOTS: usize, const SLOTS: usize> Table<KNOTS, SLOTS> {
     ghost use Rattle.std.specs.Prelude.{ℕ, Bool, List};
@@ -25,10 +24,10 @@ impl<const KNOTS: usize, const SLOTS: usize> Table<KNOTS, SLOTS> {
     ghost use Rattle.fl_table.specs.Look.{last_key_in};
     ghost use Rattle.fl_table.specs.Memory.{is_running, is_stopped, next_in, pending_in, IsSamePlan, LiesOn, MaySeal, PendingAre};
     ghost use Rattle.fl_table.specs.Standing.{Stands};
-    ghost use Rattle.fl_table.specs.Bitmaps.{AreSameRing, RingGoesOn, HaveRoom, bitmap_seals, next_of as index_next, rings_of, MaySeal as index_seals, StandOutside};
-    ghost use Rattle.fl_table.specs.Blobs as variable;
-    ghost use Rattle.fl_table.specs.Blobs.{AreEmpty, rest_seals};
-    ghost use Rattle.fl_table.specs.Causes.{OffFailsAs};
+    ghost use Rattle.fl_parts.specs.Bitmaps.{AreSameRing, RingGoesOn, HaveRoom, bitmap_seals, next_of as index_next, rings_of, MaySeal as index_seals, StandOutside};
+    ghost use Rattle.fl_parts.specs.Blobs as variable;
+    ghost use Rattle.fl_parts.specs.Blobs.{AreEmpty, rest_seals};
+    ghost use Rattle.fl_parts.specs.Faults.{OffFailsAs};
     ghost use Rattle.fl_table.specs.Mounting.{OutsideStands, rings_in};
     ghost use Rattle.fl_table.specs.Outcomes.{SealsEnd};
     ghost use Rattle.fl_table.specs.Paged.{BlobsAhead, BlobsPaged, IsApart, RowsAhead, RowsPaged, next_page};
@@ -230,14 +229,4 @@ fn voids_among(counts: &[u16], from: u32, to: u32) -> u32
         }
     }
     voids
-}
-
-/// The page with this number has so many rows.
-pub(crate) fn note(counts: &mut [u16], number: u32, rows: u32)
-    requires some { 1 ≤ length counts.old }
-    requires few { rows < 65536 }
-    ensures { counts.new ≡ slice_set counts.old (number % length counts.old) rows }
-{
-    let at = number as usize % counts.len();
-    counts[at] = rows as u16;
 }

@@ -7,8 +7,8 @@ ghost use Rattle.fl_model.specs.Table.{spent_from};
 ghost use Rattle.fl_schema.specs.Schema.{layout_of, types_of};
 ghost use Rattle.fl_ring.specs.Mounting.{shape_at};
 ghost use Rattle.fl_ring.specs.Place.{next_of, shape_of};
-ghost use Rattle.fl_table.specs.Bitmaps.{AreRunning, EndAt, next_after};
-ghost use Rattle.fl_table.specs.Blobs as variable;
+ghost use Rattle.fl_parts.specs.Bitmaps.{AreRunning, EndAt, next_after};
+ghost use Rattle.fl_parts.specs.Blobs as variable;
 
 use fl_base::{Geometry, RingPlace};
 use fl_bitmap::Buckets;

@@ -10,7 +10,7 @@ use Rattle.fl_model.specs.Table.{Table}
 use Rattle.fl_model.specs.Table.{LogRing, shape_of}
 use Rattle.fl_ring.specs.declared.newest.NewestPage.{NewestPage}
 use Rattle.fl_ring.proofs.Founds.{same_pages}
-use Rattle.fl_table.specs.Causes.{IfPage}
+use Rattle.fl_parts.specs.Faults.{IfPage}
 use Rattle.fl_table.specs.Look.{layout_in}
 use Rattle.fl_frame.proofs.WatchedInTurn.{watched-first, watched-then, cause-later}
 use Rattle.fl_table.proofs.MountCalls.{pages-cause}

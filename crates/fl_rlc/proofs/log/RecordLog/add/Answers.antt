@@ -4,7 +4,7 @@ use Rattle.fl_model.specs.Row.{Row, bytes_of_row}
 use Rattle.fl_page.specs.WriterState.{WriterState}
 use Rattle.fl_schema.specs.Schema.{layout_of, types_of}
 use Rattle.fl_schema.proofs.RoundTrip.{length-bytes_of_row}
-use Rattle.fl_table.proofs.Writers.{rest-push}
+use Rattle.fl_parts.proofs.Writers.{rest-push}
 use Rattle.fl_rlc.specs.Memory.{kept_rows, rows_in}
 use Rattle.fl_rlc.proofs.log.RecordLog.add.Goals as goal
 

@@ -3,7 +3,7 @@ use Rattle.fl_model.specs.Record.{RowLayout, layout_len}
 use Rattle.fl_page.specs.Writer.{Gathers}
 use Rattle.fl_page.specs.WriterState.{WriterState}
 use Rattle.fl_ring.specs.declared.ring.Ring.{Ring}
-use Rattle.fl_table.proofs.Writers.{gathers-blank}
+use Rattle.fl_parts.proofs.Writers.{gathers-blank}
 use Rattle.fl_rlc.proofs.log.RecordLog.plan.Goals as goal
 
 -- a page without rows

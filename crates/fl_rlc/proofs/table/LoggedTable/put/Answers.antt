@@ -14,7 +14,7 @@ use Rattle.fl_schema.specs.Schema.{layout_of}
 use Rattle.fl_table.specs.Refusal.{RefusesAs}
 use Rattle.fl_table.specs.declared.faults.PutRefusal.{PutRefusal}
 use Rattle.fl_table.specs.declared.faults.PutRefusal.TheVariants as put
-use Rattle.fl_table.specs.Blobs.{most_pages, pages_for}
+use Rattle.fl_parts.specs.Blobs.{most_pages, pages_for}
 use Rattle.fl_table.specs.Memory.{HasRoom}
 use Rattle.fl_rlc.specs.Refusal.{put_refusal, NeedsNoOperation}
 use Rattle.fl_rlc.specs.Rows.{RowEnds, HaveLogged}

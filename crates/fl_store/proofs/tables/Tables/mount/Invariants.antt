@@ -8,7 +8,7 @@ use Rattle.fl_model.specs.Table as model
 use Rattle.fl_model.specs.Work.{Device}
 use Rattle.fl_frame.specs.Device.{SameDevice}
 use Rattle.fl_rlc.specs.Table.{NothingWaits, is_running}
-use Rattle.fl_table.specs.Mounting.{FewRepairs}
+use Rattle.fl_parts.specs.IndexMount.{FewRepairs}
 use Rattle.fl_store.specs.Mounting.{AreSameNames, AreSamePlans, MountsInTurn, OutsideStands, repairs_of}
 use Rattle.fl_store.specs.Tables.{LieOn, TablesStand, pages_of}
 use Rattle.fl_store.specs.declared.tables.Entry.{Entry}

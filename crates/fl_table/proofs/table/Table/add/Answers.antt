@@ -11,17 +11,17 @@ use Rattle.fl_model.specs.Table as model
 use Rattle.fl_page.specs.Writer.{Gathers}
 use Rattle.fl_schema.specs.Schema.{layout_of, types_of}
 use Rattle.fl_schema.proofs.RoundTrip.{length-bytes_of_row}
-use Rattle.fl_table.specs.BlobEnds.{reference_end, least_of}
+use Rattle.fl_parts.specs.BlobEnds.{reference_end, least_of}
 use Rattle.fl_table.specs.Memory.{bitmap_with}
-use Rattle.fl_table.proofs.BlobEnds.{ends-push, least-few}
-use Rattle.fl_table.proofs.Writers.{rest-push}
+use Rattle.fl_parts.proofs.BlobEnds.{ends-push, least-few}
+use Rattle.fl_parts.proofs.Writers.{rest-push}
 use Rattle.fl_table.proofs.PendingAndFull.{bits-more, last-more, pending-more}
 use Rattle.fl_index.specs.Memory as memory
 use Rattle.fl_index.specs.declared.index.BitmapIndex.{BitmapIndex}
 use Rattle.fl_page.specs.WriterState.{WriterState}
-use Rattle.fl_table.specs.Bitmaps.{next_of, next_after}
+use Rattle.fl_parts.specs.Bitmaps.{next_of, next_after}
 use Rattle.fl_table.proofs.BlobsOfTable as blobbing
-use Rattle.fl_table.proofs.IndexOfTable.{plan-same}
+use Rattle.fl_parts.proofs.IndexOfTable.{plan-same}
 use Rattle.fl_table.proofs.Finds.{next-in}
 use Rattle.fl_table.proofs.Sizes.{schema-fits}
 use Rattle.fl_table.proofs.table.Table.add.Goals as goal

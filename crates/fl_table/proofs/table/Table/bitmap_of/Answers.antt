@@ -4,7 +4,7 @@ use Rattle.fl_index.specs.declared.index.BitmapIndex.{BitmapIndex}
 use Rattle.fl_table.specs.Skipping.{AreFresh}
 use Rattle.fl_table.proofs.Entries.{bad-answer, looks-from, looks-up}
 use Rattle.fl_table.proofs.Skips.{fresh-still, index-stands}
-use Rattle.fl_table.proofs.Untouched.{at-most}
+use Rattle.fl_parts.proofs.Untouched.{at-most}
 use Rattle.fl_frame.proofs.ContentsInTurn.{OnlyReads-same}
 use Rattle.fl_table.proofs.table.Table.bitmap_of.Goals as goal
 

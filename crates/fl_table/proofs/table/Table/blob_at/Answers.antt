@@ -2,7 +2,7 @@ use Rattle.std.proofs.Common.{◌≡◌, ◌+◌, Option, Some, None, Result, Ok
 use Rattle.std.specs.Prelude.{◌≤◌, IfOk, IfErr, IfSome}
 use Rattle.fl_page.specs.declared.fault.ReadFault.{ReadFault}
 use Rattle.fl_base.specs.declared.types.Geometry.{Geometry}
-use Rattle.fl_table.specs.Blobs.{Stand, LieOn}
+use Rattle.fl_parts.specs.Blobs.{Stand, LieOn}
 use Rattle.fl_var.specs.Memory as memory
 use Rattle.fl_var.specs.Reading.{IsOfPage, Opens}
 use Rattle.fl_var.specs.declared.reader.BlobReader.{BlobReader}
@@ -11,7 +11,7 @@ use Rattle.fl_model.specs.Agrees.{BlobsOf}
 use Rattle.fl_model.specs.Record.{Plan}
 use Rattle.fl_model.specs.Ring.{Ring}
 use Rattle.fl_model.specs.Table.{Table}
-use Rattle.fl_table.proofs.IndexOfTable.{none-is}
+use Rattle.fl_parts.proofs.IndexOfTable.{none-is}
 use Rattle.fl_table.proofs.ReadsKeepTable.{lies-still}
 use Rattle.fl_table.proofs.table.Table.blob_at.Goals as goal
 

@@ -5,14 +5,14 @@ use Rattle.fl_table.proofs.PendingAndFull.{flush-idle}
 use Rattle.fl_flash.specs.declared.flash.FlashFault.{FlashFault}
 use Rattle.fl_flash.specs.declared.flash.FlashFault.TheVariants.{PowerLost}
 use Rattle.fl_table.specs.declared.faults.FlushFault.TheVariants as flush
-use Rattle.fl_table.proofs.PowerOff.{off-ok}
+use Rattle.fl_parts.proofs.CallsOff.{off-ok}
 use Rattle.fl_table.proofs.Sizes.{table-fits}
 use Rattle.std.proofs.lemmas.Bool.{true≢false}
 use Rattle.fl_frame.proofs.CallsInTurn.{goes-same}
 use Rattle.fl_table.specs.Memory.{is_running}
 use Rattle.fl_table.specs.declared.faults.FlushFault.{FlushFault}
 use Rattle.fl_table.proofs.PutAnswers.{and-true}
-use Rattle.fl_table.proofs.Untouched.{at-most, and-false, no-ring, on-err, no-success}
+use Rattle.fl_parts.proofs.Untouched.{at-most, and-false, no-ring, on-err, no-success}
 use Rattle.fl_ring.proofs.Written.{writes-none, writes-fewer}
 use Rattle.fl_table.specs.Memory.{MaySeal}
 use Rattle.fl_table.specs.Mounting.{rings_in}

@@ -1,11 +1,11 @@
 use Rattle.std.proofs.Common.{arith, ap, refl, None, ◌≡◌, ℕ, sym, subst, []}
-use Rattle.fl_table.proofs.Writers.{rest-clear, gathers-none, end-none}
+use Rattle.fl_parts.proofs.Writers.{rest-clear, gathers-none, end-none}
 use Rattle.fl_find.specs.Index.{IndexOf}
 use Rattle.fl_model.specs.Record.{layout_len}
 use Rattle.fl_ring.specs.declared.ring.Ring.{Ring}
 use Rattle.fl_schema.specs.Schema.{layout_of}
 use Rattle.fl_table.proofs.BlobsOfTable as blobbing
-use Rattle.fl_table.proofs.IndexOfTable.{none-is, none-there, plan-same}
+use Rattle.fl_parts.proofs.IndexOfTable.{none-is, none-there, plan-same}
 use Rattle.fl_table.proofs.Sizes.{index-fits}
 use Rattle.fl_table.proofs.table.Table.forget.Goals as goal
 

@@ -13,8 +13,8 @@ use Rattle.fl_table.specs.declared.look_ahead.Ahead.TheVariants.{Wanted, Missed}
 use Rattle.fl_table.specs.Skipping.{AreFresh, AreScanning, LooksOn, ShowsPage}
 use Rattle.fl_table.proofs.Skips.{fresh-still, looks-none, looks-plain, looks-found, looks-failed, shows-none, shows-unindexed, shows-some, shows-fault, index-stands, some-bits, bad-index, looked-up, told-by, unasked-up, unindexed-up}
 use Rattle.fl_table.proofs.Entries.{first-few, told-some}
-use Rattle.fl_table.proofs.Untouched.{at-most}
-use Rattle.fl_table.proofs.IndexOfTable.{none-there}
+use Rattle.fl_parts.proofs.Untouched.{at-most}
+use Rattle.fl_parts.proofs.IndexOfTable.{none-there}
 use Rattle.fl_frame.proofs.ContentsInTurn.{OnlyReads-same}
 use Rattle.fl_table.proofs.table.Table.look_ahead.Goals as goal
 

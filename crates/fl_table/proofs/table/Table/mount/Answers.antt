@@ -8,25 +8,25 @@ use Rattle.fl_base.specs.declared.types.Geometry.{Geometry}
 use Rattle.fl_base.specs.declared.types.RingPlace.{RingPlace}
 use Rattle.fl_ring.specs.Mounting.{shape_at}
 use Rattle.fl_ring.specs.Ring.{Shape, room}
-use Rattle.fl_table.specs.Bitmaps.{AreSamePlan, IsOutside, StandOutside, room_of}
-use Rattle.fl_table.specs.Coming.{index_pages_of}
-use Rattle.fl_table.specs.Mounting.{FewReads, FindsBitmaps}
-use Rattle.fl_table.proofs.Firsts.{room-same}
-use Rattle.fl_table.proofs.FoundReads.{index-within, reads-joined}
+use Rattle.fl_parts.specs.Bitmaps.{AreSamePlan, IsOutside, StandOutside, room_of}
+use Rattle.fl_parts.specs.Coming.{index_pages_of}
+use Rattle.fl_parts.specs.IndexMount.{FewReads, FindsBitmaps}
+use Rattle.fl_parts.proofs.Firsts.{room-same}
+use Rattle.fl_parts.proofs.FoundReads.{index-within, reads-joined}
 use Rattle.fl_frame.proofs.WatchedInTurn.{watched-first, watched-then}
 use Rattle.fl_table.proofs.MountJoined.{index-limit, limit-then, mount-cause-later, mount-fails, mount-then, finds-as, refuses-by, stand-outside}
 use Rattle.fl_table.proofs.Outsides.{blobs-outside}
 use Rattle.fl_table.proofs.SealAnswers.{planned-same, same-then}
 use Rattle.fl_ring.specs.declared.fault.RingFault.{RingFault}
-use Rattle.fl_table.specs.Causes.{of_ring}
-use Rattle.fl_table.specs.Blobs as variable
+use Rattle.fl_parts.specs.Faults.{of_ring}
+use Rattle.fl_parts.specs.Blobs as variable
 use Rattle.fl_table.proofs.BlobsOfTable as blobbing
-use Rattle.fl_table.proofs.IndexOfTable.{few-goes, none-is, none-there, still-few}
+use Rattle.fl_parts.proofs.IndexOfTable.{few-goes, none-is, none-there, still-few}
 use Rattle.fl_var.specs.declared.var_data.VarData.{VarData}
 use Rattle.fl_table.proofs.Sizes.{table-fits}
 use Rattle.fl_table.proofs.PowerOn.{on-then}
 use Rattle.fl_ring.specs.declared.ring.Ring.{Ring}
-use Rattle.fl_table.proofs.Untouched.{no-success}
+use Rattle.fl_parts.proofs.Untouched.{no-success}
 use Rattle.fl_table.proofs.table.Table.mount.Goals as goal
 
 pub returns-in_err-end-clause-ends : goal.returns-in_err-end-clause-ends

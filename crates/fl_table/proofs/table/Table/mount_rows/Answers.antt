@@ -3,10 +3,10 @@ use Rattle.std.proofs.lemmas.Result.{err_from_is_err_and}
 use Rattle.fl_flash.specs.Flash.{page_at, FlashState}
 use Rattle.fl_frame.proofs.CallsInTurn.{goes-then}
 use Rattle.fl_find.proofs.Points.{mounts-points}
-use Rattle.fl_table.specs.Bitmaps.{EndAt, IsOutside}
-use Rattle.fl_table.specs.BlobEnds.{least_of}
-use Rattle.fl_table.specs.BlobMount.{FindsBlobs, RefusesWithin}
-use Rattle.fl_table.specs.Blobs.{room_of, rings_of, AreEmpty}
+use Rattle.fl_parts.specs.Bitmaps.{EndAt, IsOutside}
+use Rattle.fl_parts.specs.BlobEnds.{least_of}
+use Rattle.fl_parts.specs.BlobMount.{FindsBlobs, RefusesWithin}
+use Rattle.fl_parts.specs.Blobs.{room_of, rings_of, AreEmpty}
 use Rattle.fl_table.specs.Memory.{NothingWaits}
 use Rattle.fl_table.proofs.Outsides.{var-outside}
 use Rattle.fl_var.specs.Memory.{var_shape}
@@ -14,25 +14,25 @@ use Rattle.fl_table.proofs.BlobsOfTable as blobbing
 use Rattle.fl_frame.proofs.WatchedInTurn.{watched-first, watched-then}
 use Rattle.fl_table.proofs.Learned.{finds-rows}
 use Rattle.fl_table.proofs.MountJoined.{mount-cause-later}
-use Rattle.fl_table.proofs.BlobSeals.{with_var}
+use Rattle.fl_parts.proofs.BlobSeals.{with_var}
 use Rattle.fl_table.proofs.MountVar.{data-fails, mounted-ends, rows-fail, rows-mount, var-limit}
-use Rattle.fl_table.proofs.Loose.{paged-ready}
+use Rattle.fl_parts.proofs.Loose.{paged-ready}
 use Rattle.fl_base.specs.declared.types.Geometry.{Geometry}
 use Rattle.fl_base.specs.declared.types.RingPlace.{RingPlace}
 use Rattle.fl_ring.specs.Mounting.{shape_at}
 use Rattle.fl_ring.specs.Place as place
 use Rattle.fl_ring.specs.Place.{next_of, shape_of}
 use Rattle.fl_ring.specs.declared.ring.Ring.{Ring}
-use Rattle.fl_table.proofs.IndexOfTable.{none-is, plan-same}
+use Rattle.fl_parts.proofs.IndexOfTable.{none-is, plan-same}
 use Rattle.fl_table.proofs.ReadsKeepTable.{lies-moved}
 use Rattle.fl_table.proofs.Sizes.{table-fits}
 use Rattle.fl_table.proofs.PowerOn.{blobs-on}
-use Rattle.fl_table.specs.Mounting.{FewRepairs}
-use Rattle.fl_table.specs.declared.faults.MountFault.{MountFault}
+use Rattle.fl_parts.specs.IndexMount.{FewRepairs}
+use Rattle.fl_parts.specs.declared.mount_fault.MountFault.{MountFault}
 use Rattle.fl_table.specs.declared.mount.FoundRows.{FoundRows}
 use Rattle.fl_table.specs.declared.table.Table.{Table}
 use Rattle.fl_table.proofs.SealAnswers.{same-then}
-use Rattle.fl_table.proofs.Untouched.{no-success}
+use Rattle.fl_parts.proofs.Untouched.{no-success}
 use Rattle.fl_table.proofs.table.Table.mount_rows.Goals as goal
 use Rattle.fl_var.specs.declared.var_data.VarData.{VarData}
 

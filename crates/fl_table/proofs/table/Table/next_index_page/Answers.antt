@@ -1,5 +1,5 @@
 use Rattle.std.proofs.Common.{sym, ◌∙◌, ap}
-use Rattle.fl_table.specs.Bitmaps.{next_of}
+use Rattle.fl_parts.specs.Bitmaps.{next_of}
 use Rattle.fl_table.proofs.table.Table.next_index_page.Goals as goal
 
 pub returns-in-Some : goal.returns-in-Some

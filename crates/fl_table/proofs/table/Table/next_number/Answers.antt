@@ -2,7 +2,7 @@ use Rattle.std.proofs.Common.{◌≡◌, Option, option_map, unwrap_or, arith, s
 use Rattle.fl_ring.specs.Place.{next_of, oldest_of}
 use Rattle.fl_ring.specs.declared.ring.Ring.{Ring}
 use Rattle.fl_table.proofs.Finds.{next-in, oldest-in, some-same}
-use Rattle.fl_table.proofs.IndexOfTable.{none-there}
+use Rattle.fl_parts.proofs.IndexOfTable.{none-there}
 use Rattle.fl_table.proofs.table.Table.next_number.Goals as goal
 
 pub next_number-requires : goal.next_number-requires

@@ -2,7 +2,7 @@ use Rattle.std.proofs.Common.{◌≡◌, Option, option_map, unwrap_or, sym, ◌
 use Rattle.fl_ring.specs.Place.{oldest_of}
 use Rattle.fl_ring.specs.declared.ring.Ring.{Ring}
 use Rattle.fl_table.proofs.Finds.{oldest-in, some-same}
-use Rattle.fl_table.proofs.IndexOfTable.{none-there}
+use Rattle.fl_parts.proofs.IndexOfTable.{none-there}
 use Rattle.fl_table.proofs.table.Table.oldest.Goals as goal
 
 pub oldest-requires : goal.oldest-requires

@@ -6,17 +6,17 @@ use Rattle.fl_page.specs.WriterState.{WriterState}
 use Rattle.fl_schema.specs.Form.{key_width}
 use Rattle.fl_schema.specs.declared.schema.KeyWidth.{KeyWidth}
 use Rattle.fl_schema.specs.declared.schema.KeyWidth.TheVariants as code
-use Rattle.fl_table.specs.Bitmaps.{next_after}
+use Rattle.fl_parts.specs.Bitmaps.{next_after}
 use Rattle.fl_table.proofs.Sizes.{index-fits}
 use Rattle.std.proofs.Math.Nat.{mul-le-mul}
 use Rattle.fl_schema.specs.declared.column.ColumnType.{ColumnType}
 use Rattle.fl_schema.specs.Schema.{layout_of}
 use Rattle.fl_plan.proofs.Fits.{few-blobs}
-use Rattle.fl_table.proofs.Writers.{gathers-end, gathers-blank}
+use Rattle.fl_parts.proofs.Writers.{gathers-end, gathers-blank}
 use Rattle.fl_ring.specs.declared.ring.Ring.{Ring}
-use Rattle.fl_table.proofs.IndexOfTable.{none-is, none-there}
+use Rattle.fl_parts.proofs.IndexOfTable.{none-is, none-there}
 use Rattle.std.proofs.lemmas.Result.{err_from_is_err_and}
-use Rattle.fl_table.proofs.Untouched.{no-success}
+use Rattle.fl_parts.proofs.Untouched.{no-success}
 use Rattle.fl_table.proofs.table.Table.plan.Goals as goal
 
 pub invariant_of-result-clause-rows_end : goal.invariant_of-result-clause-rows_end

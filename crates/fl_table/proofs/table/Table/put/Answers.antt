@@ -21,8 +21,8 @@ use Rattle.fl_model.specs.Row.{FitsRow}
 use Rattle.fl_schema.specs.Schema.{layout_of}
 use Rattle.fl_table.proofs.SealAnswers.{same-then, plan-self}
 use Rattle.fl_table.proofs.Sizes.{table-fits}
-use Rattle.fl_table.specs.Blobs.{most_pages, pages_for}
-use Rattle.fl_table.proofs.Untouched.{at-most-two, at-most-more, and-false, on-err, no-success}
+use Rattle.fl_parts.specs.Blobs.{most_pages, pages_for}
+use Rattle.fl_parts.proofs.Untouched.{at-most-two, at-most-more, and-false, on-err, no-success}
 use Rattle.fl_ring.proofs.Written.{writes-none}
 use Rattle.fl_table.specs.Memory.{MayPut}
 use Rattle.fl_table.specs.Stored.{HasJoined}

@@ -7,25 +7,25 @@ use Rattle.fl_ring.specs.Place.{next_of, oldest_of, shape_of}
 use Rattle.fl_ring.specs.Ring.{place, room}
 use Rattle.fl_schema.specs.Schema.{layout_of}
 use Rattle.fl_model.specs.Record.{RowLayout}
-use Rattle.fl_table.specs.Bitmaps.{first_to_wait}
-use Rattle.fl_table.specs.Coming.{WaitBetween, index_pages_of, most_in}
-use Rattle.fl_table.specs.Knowing.{KnowsWith, IsWithin, ReadsBut, is_waiting}
+use Rattle.fl_parts.specs.Bitmaps.{first_to_wait}
+use Rattle.fl_parts.specs.Coming.{WaitBetween, index_pages_of, most_in}
+use Rattle.fl_parts.specs.Knowing.{KnowsWith, IsWithin, ReadsBut, is_waiting}
 use Rattle.fl_table.specs.Mounting.{comes_in}
-use Rattle.fl_table.specs.Reading.{WaitFrom}
-use Rattle.fl_table.specs.declared.known.Known.{Known}
+use Rattle.fl_parts.specs.Reading.{WaitFrom}
+use Rattle.fl_parts.specs.declared.known.Known.{Known}
 use Rattle.fl_ring.proofs.Founds.{same_pages}
 use Rattle.fl_frame.proofs.ReadsInTurn.{more_reads, told_still}
-use Rattle.fl_table.proofs.MountProgress.{unlisted-behind, come-rows, nothing-within, rows-still}
-use Rattle.fl_table.proofs.Firsts.{firsts-then}
-use Rattle.fl_table.proofs.NotedEntries.{first-same, gathers-end, wait-between, wait-for, waits-from}
+use Rattle.fl_parts.proofs.MountProgress.{unlisted-behind, come-rows, nothing-within, rows-still}
+use Rattle.fl_parts.proofs.Firsts.{firsts-then}
+use Rattle.fl_parts.proofs.NotedEntries.{first-same, gathers-end, wait-between, wait-for, waits-from}
 use Rattle.fl_table.proofs.KeptStart.{kept-start}
-use Rattle.fl_table.proofs.IndexOfTable.{few-goes, found-then, lies-goes, none-is, none-there, plan-then, ring-then, still-few, still-lies, still-running}
-use Rattle.fl_table.proofs.ListedPages.{data-lies, fails-later, ring-read, ring-stays, some-room}
+use Rattle.fl_parts.proofs.IndexOfTable.{few-goes, found-then, lies-goes, none-is, none-there, plan-then, ring-then, still-few, still-lies, still-running}
+use Rattle.fl_parts.proofs.ListedPages.{data-lies, fails-later, ring-read, ring-stays, some-room}
 use Rattle.fl_table.proofs.BlobsOfTable as blobbing
-use Rattle.fl_table.proofs.SparedReads.{waiting-few, reads-unlisted, reads-newest}
+use Rattle.fl_parts.proofs.SparedReads.{waiting-few, reads-unlisted, reads-newest}
 use Rattle.fl_table.proofs.SealAnswers.{written-back}
 use Rattle.fl_table.proofs.Sizes.{index-fits, schema-fits}
-use Rattle.fl_table.proofs.Untouched.{no-success}
+use Rattle.fl_parts.proofs.Untouched.{no-success}
 use Rattle.fl_table.proofs.table.Table.read_kept.Goals as goal
 
 pub returns-in_err-from-clause-knows : goal.returns-in_err-from-clause-knows

@@ -8,9 +8,9 @@ use Rattle.fl_page.specs.Writer.{Gathers}
 use Rattle.fl_ring.specs.Mounting.{shape_at}
 use Rattle.fl_ring.specs.Place.{next_of, oldest_of}
 use Rattle.fl_ring.specs.Ring.{Shape, OutsideStands}
-use Rattle.fl_table.specs.Coming.{index_pages_of}
+use Rattle.fl_parts.specs.Coming.{index_pages_of}
 use Rattle.fl_find.specs.Index.{error_in}
-use Rattle.fl_table.proofs.IndexOfTable.{found-same}
+use Rattle.fl_parts.proofs.IndexOfTable.{found-same}
 use Rattle.fl_table.proofs.MountCalls.{same-shape, outside-stands, index-still, refuses-ring, refuses-end, refuses-page, finds-data, finds-firsts, learns, same-waits, ring-cause, pages-cause}
 use Rattle.fl_table.proofs.MountEnded.{mounting-of, ring-fails, ring-ends, ring-mounts, ends-within}
 use Rattle.fl_table.proofs.MountKept.{kept-fails, kept-limit, kept-well, ring-limit}
@@ -21,9 +21,9 @@ use Rattle.fl_table.proofs.ReadsKeepTable.{lies-moved}
 use Rattle.fl_frame.specs.Reads.{OnlyReads}
 use Rattle.fl_ring.specs.declared.fault.RingFault.{RingFault}
 use Rattle.fl_ring.specs.declared.ring.Ring.{Ring}
-use Rattle.fl_table.specs.Mounting.{FewRepairs}
+use Rattle.fl_parts.specs.IndexMount.{FewRepairs}
 use Rattle.fl_table.proofs.Sizes.{table-fits}
-use Rattle.fl_table.proofs.Untouched.{no-success}
+use Rattle.fl_parts.proofs.Untouched.{no-success}
 use Rattle.fl_table.proofs.table.Table.read_rows.Goals as goal
 
 -- the ring was refused

@@ -5,7 +5,7 @@ use Rattle.std.proofs.Math.Nat.{mod-lt}
 use Rattle.fl_table.specs.Look.{rows_noted}
 use Rattle.fl_table.specs.declared.table.Table.{Table}
 use Rattle.fl_table.proofs.MemoryTells.{noted-is}
-use Rattle.fl_table.proofs.Writers.{some-room}
+use Rattle.fl_parts.proofs.Writers.{some-room}
 use Rattle.fl_table.proofs.table.Table.rows_of.Goals as goal
 
 -- there is a count for each page of the ring, which has some

@@ -1,21 +1,21 @@
 use Rattle.std.proofs.Common.{◌≡◌, ◌+◌, ◌≤◌, true, Option, Result, ◌∷◌, [], ◌++◌, List, Err, IsTrue, arith, sym, ◌∙◌, ap, subst, ℕ}
 use Rattle.std.proofs.lemmas.Result.{err_from_is_err_and, on_err_weaker, IfErr-weaker}
 use Rattle.fl_model.specs.Table.{RingName, DataRing, after_seals}
-use Rattle.fl_table.specs.Bitmaps.{AreSameRing, HaveRoom, bitmap_seals, next_of, rings_of}
-use Rattle.fl_table.specs.Blobs as variable
-use Rattle.fl_table.specs.Blobs.{rest_seals}
+use Rattle.fl_parts.specs.Bitmaps.{AreSameRing, HaveRoom, bitmap_seals, next_of, rings_of}
+use Rattle.fl_parts.specs.Blobs as variable
+use Rattle.fl_parts.specs.Blobs.{rest_seals}
 use Rattle.fl_table.specs.Outcomes.{SealsEnd}
 use Rattle.fl_table.proofs.SealsInTurn.{seals-stop, seals-then}
 use Rattle.fl_frame.proofs.WatchedInTurn.{cause-later, watched-first, watched-then}
 use Rattle.fl_flash.specs.Flash.{page_at}
-use Rattle.fl_table.proofs.IndexOfTable.{ring-stays}
+use Rattle.fl_parts.proofs.IndexOfTable.{ring-stays}
 use Rattle.fl_table.proofs.Outsides.{outside-then}
-use Rattle.fl_table.proofs.Plain.{some-table_seals}
+use Rattle.fl_parts.proofs.Plain.{some-table_seals}
 use Rattle.fl_index.specs.declared.index.BitmapIndex.{BitmapIndex}
 use Rattle.fl_table.proofs.SealAnswers.{same-then, writer-count}
 use Rattle.fl_flash.specs.declared.flash.FlashFault.{FlashFault}
 use Rattle.fl_frame.proofs.CallsInTurn.{goes-then}
-use Rattle.fl_table.proofs.PowerOff.{off-then}
+use Rattle.fl_parts.proofs.CallsOff.{off-then}
 use Rattle.fl_table.proofs.Sizes.{table-fits}
 use Rattle.fl_table.specs.Memory.{is_stopped, next_in}
 use Rattle.fl_var.specs.declared.var_data.VarData.{VarData}
@@ -26,7 +26,7 @@ use Rattle.fl_table.specs.Stored.{HasCounted, IsEmptied}
 use Rattle.fl_table.proofs.Counted.{counted-then, waits-then}
 use Rattle.fl_table.proofs.Paged.{blobs-ahead, blobs-paged, rows-paged}
 use Rattle.fl_table.proofs.Stored.{pending-none}
-use Rattle.fl_table.proofs.Untouched.{on-both, on-ok, on-err, no-success}
+use Rattle.fl_parts.proofs.Untouched.{on-both, on-ok, on-err, no-success}
 use Rattle.fl_ring.specs.Written.{done}
 use Rattle.fl_table.proofs.Writing.{index-writes, blob-writes, row-writes}
 use Rattle.fl_table.proofs.table.Table.seal.Goals as goal

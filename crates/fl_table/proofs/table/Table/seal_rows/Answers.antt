@@ -10,12 +10,12 @@ use Rattle.fl_page.specs.Writer.{Gathers}
 use Rattle.fl_ring.specs.Operations.{change, seal_kinds}
 use Rattle.fl_ring.specs.Place.{next_of, oldest_of, oldest_after, shape_of, StandsFor}
 use Rattle.fl_ring.specs.declared.ring.Ring.{Ring}
-use Rattle.fl_table.specs.Bitmaps.{EndAt}
+use Rattle.fl_parts.specs.Bitmaps.{EndAt}
 use Rattle.fl_ring.specs.Ring.{Shape, OutsideStands}
 use Rattle.fl_ring.specs.Sealing.{Performed, Seals}
 use Rattle.fl_schema.specs.Schema.{layout_of}
-use Rattle.fl_table.proofs.States.{shape_in, state_of, HaveSize}
-use Rattle.fl_table.proofs.Writers.{rest-finish, rest-clear, gathers-none, few-rows, some-room, end-same, end-none}
+use Rattle.fl_parts.proofs.States.{shape_in, state_of, HaveSize}
+use Rattle.fl_parts.proofs.Writers.{rest-finish, rest-clear, gathers-none, few-rows, some-room, end-same, end-none}
 use Rattle.fl_table.proofs.Pointed.{first-some, index-sealed, points-sealed}
 use Rattle.std.specs.List.{sum}
 use Rattle.fl_table.proofs.BlobsOfTable as blobbing
@@ -23,13 +23,13 @@ use Rattle.fl_table.proofs.BlobsOfTable.{var-stands}
 use Rattle.fl_index.proofs.SealAnswers.{seal-on}
 use Rattle.fl_var.proofs.Ahead.{held-ahead}
 use Rattle.fl_table.proofs.SealAnswers.{planned-ring, planned-shape, lies-size, sealing-of, seal-ready, writer-count, pending-length, ring-next, counts-room, note-same, written-back}
-use Rattle.fl_table.proofs.VarFacts.{rest-of}
+use Rattle.fl_parts.proofs.VarFacts.{rest-of}
 use Rattle.fl_table.proofs.VoidPages.{voids-told}
 use Rattle.fl_table.proofs.SealEnds.{IsSealing, KeepsAll, seal-breaks, seal-finishes}
 use Rattle.fl_table.proofs.SealsInTurn.{ends-alone}
-use Rattle.fl_table.proofs.IndexOfTable.{few-goes, lies-goes, plan-same, still-few, still-lies, still-next, still-planned, still-running, noted-end, stand-sealed, none-there, none-is}
-use Rattle.fl_table.proofs.ListsStay.{index-stands}
-use Rattle.fl_table.proofs.Plain.{table-parts, table-facts}
+use Rattle.fl_parts.proofs.IndexOfTable.{few-goes, lies-goes, plan-same, still-few, still-lies, still-next, still-planned, still-running, noted-end, stand-sealed, none-there, none-is}
+use Rattle.fl_parts.proofs.ListsStay.{index-stands}
+use Rattle.fl_parts.proofs.Plain.{table-parts, table-facts}
 use Rattle.fl_ring.specs.Mounting.{shape_at}
 use Rattle.fl_page.specs.WriterState.{WriterState}
 use Rattle.fl_model.specs.Record.{layout_len}

@@ -1,7 +1,7 @@
 use Rattle.std.proofs.Common.{ℕ, Bool, ◌||◌, nat_le, max, ◌∙◌, ap}
 use Rattle.fl_model.specs.Table.{spent_from}
-use Rattle.fl_table.specs.Bitmaps as bitmaps
-use Rattle.fl_table.specs.Blobs as variable
+use Rattle.fl_parts.specs.Bitmaps as bitmaps
+use Rattle.fl_parts.specs.Blobs as variable
 use Rattle.fl_table.specs.Memory.{next_in}
 use Rattle.fl_table.specs.Refusal.{refused_if}
 use Rattle.fl_table.specs.declared.faults.PutRefusal.TheVariants.{Spent}

@@ -2,9 +2,9 @@ use Rattle.std.proofs.Common.{Option, sym, subst, ◌∙◌, arith, ap}
 use Rattle.fl_base.specs.declared.types.RingPlace.{RingPlace}
 use Rattle.fl_index.specs.declared.index.BitmapIndex.{BitmapIndex}
 use Rattle.fl_var.specs.declared.var_data.VarData.{VarData}
-use Rattle.fl_table.specs.Bitmaps.{LieOn}
-use Rattle.fl_table.specs.Blobs as variable
-use Rattle.fl_table.proofs.IndexOfTable.{none-there}
+use Rattle.fl_parts.specs.Bitmaps.{LieOn}
+use Rattle.fl_parts.specs.Blobs as variable
+use Rattle.fl_parts.proofs.IndexOfTable.{none-there}
 use Rattle.fl_table.proofs.Sizes.{table-fits}
 use Rattle.fl_table.proofs.table.Table.unmount.Goals as goal
 

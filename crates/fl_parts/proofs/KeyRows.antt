@@ -1,0 +1,73 @@
+-- The rows of one page, and their keys.
+use Rattle.std.proofs.Common.{◌≡◌, ℕ, zero, suc, ◌+◌, ◌-◌, ◌*◌, ◌<◌, ◌≤◌, Bool, true, false, cond, nat_lt, Option, Some, None, unwrap_or, List, [], ◌∷◌, length, drop, refl, sym, ◌∙◌, ap, arith}
+use Rattle.std.proofs.Math.Nat.{le-div_iff_mul-le}
+use Rattle.std.proofs.lemmas.Bool.{ltb-true}
+use Rattle.std.specs.List.{slice_get}
+use Rattle.fl_model.specs.Record.{RowLayout, layout_len}
+use Rattle.fl_model.specs.Row.{Row}
+use Rattle.fl_mark.specs.Mark.{state_of_page}
+use Rattle.fl_mark.specs.declared.page_state.PageState.TheVariants.{Committed}
+use Rattle.fl_page.specs.Header.{page_count}
+use Rattle.fl_page.specs.Page.{rows_from, IsGoodPage}
+use Rattle.fl_parts.specs.Reading.{rises, keys_fault, last_in}
+use Rattle.fl_parts.specs.declared.mount_fault.MountFault.TheVariants.{BadKeys}
+use Rattle.fl_parts.proofs.Writers.{few-rows}
+use Rattle.fl_find.specs.Pages.{rows_on, rows_where}
+
+pub drop-row : (rows : List Row) (i : ℕ) (row : Row) → slice_get rows i ≡ Some row → drop i rows ≡ row ∷ drop (i + 1) rows
+drop-row rows i row e = at i rows e ∙ ap (λ n. row ∷ drop n rows) (let s : suc i ≡ i + 1 = omega arith in s)
+  where
+    at : (i : ℕ) (rows : List Row) → slice_get rows i ≡ Some row → drop i rows ≡ row ∷ drop (suc i) rows
+    at i [] e = absurd (none e)
+      where
+        none : None ≡ Some row → ⊥
+        none e = cc
+    at zero (r ∷ rows) e = let same : r ≡ row = cc in ap (λ x. x ∷ rows) same
+    at (suc i) (r ∷ rows) e = at i rows e
+
+drop-end : (rows : List Row) (i : ℕ) → length rows ≤ i → drop i rows ≡ []
+drop-end [] zero h = refl
+drop-end [] (suc i) h = refl
+drop-end (row ∷ rows) zero h = absurd (omega arith)
+drop-end (row ∷ rows) (suc i) h = drop-end rows i (omega arith)
+
+-- one row on
+pub keys-next : (number i : ℕ) (rows : List Row) (row : Row) (last first : Option ℕ) → slice_get rows i ≡ Some row → rises last row.key ≡ true →
+    keys_fault number first rows ≡ keys_fault number last (drop i rows) → keys_fault number first rows ≡ keys_fault number (Some row.key) (drop (i + 1) rows)
+keys-next number i rows row last first e up h =
+    h ∙ (ap (keys_fault number last) (drop-row rows i row e) ∙ ap (λ b. cond b (keys_fault number (Some row.key) (drop (i + 1) rows)) (Some (BadKeys number (unwrap_or last 0) row.key))) up)
+
+pub last-next : (i : ℕ) (rows : List Row) (row : Row) (last first : Option ℕ) → slice_get rows i ≡ Some row →
+    last_in first rows ≡ last_in last (drop i rows) → last_in first rows ≡ last_in (Some row.key) (drop (i + 1) rows)
+last-next i rows row last first e h = h ∙ ap (last_in last) (drop-row rows i row e)
+
+-- a key that doesn't rise
+pub keys-bad : (number i : ℕ) (rows : List Row) (row : Row) (before : ℕ) (first : Option ℕ) → slice_get rows i ≡ Some row → row.key ≤ before →
+    keys_fault number first rows ≡ keys_fault number (Some before) (drop i rows) → keys_fault number first rows ≡ Some (BadKeys number before row.key)
+keys-bad number i rows row before first e le h =
+    h ∙ (ap (keys_fault number (Some before)) (drop-row rows i row e)
+    ∙ ap (λ b. cond b (keys_fault number (Some row.key) (drop (i + 1) rows)) (Some (BadKeys number before row.key))) (by_test (nat_lt before row.key) refl))
+  where
+    by_test : (b : Bool) → nat_lt before row.key ≡ b → b ≡ false
+    by_test true k = absurd (omega (arith, le, ltb-true before row.key k))
+    by_test false k = refl
+
+-- after the last row
+pub keys-end : (number i : ℕ) (rows : List Row) (last first : Option ℕ) → length rows ≤ i → keys_fault number first rows ≡ keys_fault number last (drop i rows) → keys_fault number first rows ≡ None
+keys-end number i rows last first le h = h ∙ ap (keys_fault number last) (drop-end rows i le)
+
+pub last-end : (i : ℕ) (rows : List Row) (last first : Option ℕ) → length rows ≤ i → last_in first rows ≡ last_in last (drop i rows) → last ≡ last_in first rows
+last-end i rows last first le h = sym (h ∙ ap (last_in last) (drop-end rows i le))
+
+pub length-rows_from : (n : ℕ) (layout : RowLayout) (bytes : List ℕ) → length (rows_from n layout bytes) ≡ n
+length-rows_from zero layout bytes = refl
+length-rows_from (suc n) layout bytes = ap suc (length-rows_from n layout (drop (layout_len layout) bytes))
+
+-- a committed page has as many rows as it says
+pub page-length : (layout : RowLayout) (page : List ℕ) → state_of_page page ≡ Committed → length (rows_on layout page) ≡ page_count page
+page-length layout page e = ap (λ s. length (rows_where s layout page)) e ∙ length-rows_from (page_count page) layout (drop 16 page)
+
+pub good-few : (layout : RowLayout) (number : ℕ) (page : List ℕ) → IsGoodPage layout number page → 24 ≤ length page → length page ≤ 4096 → 1 ≤ layout_len layout → page_count page < 65536
+good-few layout number page h least most some =
+    let fits : page_count page * layout_len layout ≤ length page - 24 = (le-div_iff_mul-le {x = page_count page} {y = length page - 24} some).0 h.room in
+    few-rows (page_count page) (layout_len layout) (16 + page_count page * layout_len layout) (length page) refl (omega (arith, fits, least)) some most

@@ -1,0 +1,7 @@
+use Rattle.std.proofs.Common.{◌≡◌, take}
+use Rattle.fl_page.specs.View.{rows_of}
+use Rattle.fl_parts.specs.BlobEnds.{blobs_end}
+use Rattle.fl_parts.proofs.blob_end.blobs_end.Given as goal
+
+abbrev pub invariant-loop-i : goal.invariant-loop-i
+invariant-loop-i l = l.end ≡ blobs_end 0 (take l.i (rows_of l.view))

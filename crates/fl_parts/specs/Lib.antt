@@ -1,0 +1,13 @@
+pub mod Pages
+pub mod Blobs
+pub mod BlobMount
+pub mod BlobEnds
+pub mod Bitmaps
+pub mod Mountable
+pub mod Faults
+pub mod Reading
+pub mod ByEntries
+pub mod Coming
+pub mod Knowing
+pub mod IndexMount
+pub mod MountLimits
