@@ -19,6 +19,7 @@ use Rattle.fl_index.proofs.Counts.{count-none}
 use Rattle.fl_index.proofs.Held.{listed-by}
 use Rattle.fl_index.proofs.Scans.{scanning-from}
 use Rattle.fl_mark.specs.Mark.{state_of_page}
+use Rattle.fl_mark.specs.declared.page_state.PageState.TheVariants.{Committed}
 use Rattle.fl_model.specs.Layout.{bitmap_of, full_of}
 use Rattle.fl_model.specs.Limits.{asks_values, waits, is_listed, is_indexed, mask_of}
 use Rattle.fl_model.specs.Record.{Plan}
