@@ -272,7 +272,7 @@ module _ (label : Label) (config : TableConfig) (log : Option RingPlace) (f : Fl
 
   -- numbers are left, and no row has a blob
   unspent : plan.var_blocks ≡ 0 → is_spent table ≡ false → IsAsRunsLeave plan table
-  unspent none left = record { numbers = image.stands.unspent left; begin = λ i entry blob here is some. no-ring table.var entry.page (image.fit.has_rings.1.0 ∙ ap {B = Bool} (λ (n : ℕ). nat_lt 0 n) none) }
+  unspent none left = record { numbers = image.stands.unspent left; begin = λ i entry blob here is some. no-ring table.var entry.page (image.fit.has_rings.1 ∙ ap {B = Bool} (λ (n : ℕ). nat_lt 0 n) none) }
     where
       no-ring : (o : Option Ring) (number : ℕ) → is_some_ring o ≡ false → IfSome o (λ ring. oldest ring ≤ number → slice_get ring.counts (number - oldest ring) ≡ Some 0 → ⊥)
       no-ring None number is = tt
