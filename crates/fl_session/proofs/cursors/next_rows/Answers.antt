@@ -1,4 +1,4 @@
-use Rattle.std.proofs.Common.{◌∙◌, List, ℕ, Ok, Err, sym, subst, length, refl, ap}
+use Rattle.std.proofs.Common.{rules, ◌∙◌, List, ℕ, Ok, Err, sym, subst, length, refl, ap}
 use Rattle.fl_frame.specs.Contents.{contents_of}
 use Rattle.fl_script.specs.Written.{Written}
 use Rattle.fl_cursor.specs.Cursor.{mark_of, MayBeBad}
@@ -56,7 +56,7 @@ returns-in-Err-clause-nexts g c = λ first plan t tells on stands.
     c.in-Err.fault (c.in-Err.ensures.gives told) on c.in-Err.ensures.unread c.write_fault.ensures.says)
 
 pub resume-cursor-requires : goal.resume-cursor-requires
-resume-cursor-requires g c = c.requires.running
+resume-cursor-requires g c = (search rules, (search rules, c.requires.running))
 
 pub give_rows-given-requires-clause-ready : goal.give_rows-given-requires-clause-ready
 give_rows-given-requires-clause-ready g c = c.resume-cursor.ensures.ready (g.F.Flash.state c.args.flash.now) c.requires.lies c.requires.room.0 c.requires.room.1

@@ -1,4 +1,4 @@
-use Rattle.std.proofs.Common.{◌≡◌, ◌+◌, true, false, Ok, Err, [], ◌∷◌, ◌++◌, length-append, refl, ◌∙◌, ap, subst, arith, sym}
+use Rattle.std.proofs.Common.{rules, ◌≡◌, ◌+◌, true, false, Ok, Err, [], ◌∷◌, ◌++◌, length-append, refl, ◌∙◌, ap, subst, arith, sym}
 use Rattle.std.proofs.lemmas.Result.{err_from_is_err_and}
 use Rattle.fl_base.specs.Causes.{Appends, AppendsFront}
 use Rattle.fl_cursor.specs.Cursor.{table_of, mark_of, present_of, has_ended, IfBad, MayBeBad, IsReady}
@@ -232,7 +232,7 @@ pub returns-clause-sound : goal.returns-clause-sound
 returns-clause-sound g c = λ less. absurd (omega (arith, less))
 
 pub advance-requires : goal.advance-requires
-advance-requires g c = subst (λ (k : Contents). IsReady c.loop-given.cursor k) (sym c.loop-given.invariant.counts.contents) c.loop-given.invariant.ready
+advance-requires g c = (search rules, subst (λ (k : Contents). IsReady c.loop-given.cursor k) (sym c.loop-given.invariant.counts.contents) c.loop-given.invariant.ready)
 
 pub returns-in_err-advance-clause-keeps : goal.returns-in_err-advance-clause-keeps
 returns-in_err-advance-clause-keeps g c = keeps-then c.args.cursor.now c.loop-given.cursor c.advance.new.self c.loop-given.invariant.keeps c.in_err-advance.ensures.fails.keeps

@@ -1,4 +1,4 @@
-use Rattle.std.proofs.Common.{◌≡◌, ◌<◌, ◌^◌, None, List, length, map, sym, ◌∙◌, ap, subst, arith, ◌≤◌}
+use Rattle.std.proofs.Common.{rules, ◌≡◌, ◌<◌, ◌^◌, None, List, length, map, sym, ◌∙◌, ap, subst, arith, ◌≤◌}
 use Rattle.std.proofs.lemmas.List.{length-map}
 use Rattle.std.specs.List.{AllByRecursion}
 use Rattle.fl_cursor.specs.Cursor.{present_of, left_of, table_of, IsReady, IsTold}
@@ -77,4 +77,4 @@ pub returns-clause-cause : goal.returns-clause-cause
 returns-clause-cause g c = c.list_groups.ensures.cause
 
 pub begin-cursor-requires : goal.begin-cursor-requires
-begin-cursor-requires g c = c.requires.running
+begin-cursor-requires g c = (search rules, (search rules, c.requires.running))

@@ -1,4 +1,4 @@
-use Rattle.std.proofs.Common.{◌≡◌, ◌+◌, ◌<◌, ◌≤◌, ◌^◌, None, List, length, map, ◌∙◌, ap, subst, arith}
+use Rattle.std.proofs.Common.{rules, ◌≡◌, ◌+◌, ◌<◌, ◌≤◌, ◌^◌, None, List, length, map, ◌∙◌, ap, subst, arith}
 use Rattle.std.proofs.lemmas.List.{length-map}
 use Rattle.fl_cursor.specs.Cursor.{left_of}
 use Rattle.fl_cursor.specs.Reads.{most_of}
@@ -70,7 +70,7 @@ pub returns-clause-cause : goal.returns-clause-cause
 returns-clause-cause g c = c.answer_pairs.ensures.cause
 
 pub begin-left_rows-requires : goal.begin-left_rows-requires
-begin-left_rows-requires g c = c.requires.left_running
+begin-left_rows-requires g c = (search rules, (search rules, c.requires.left_running))
 
 pub begin-right_rows-requires : goal.begin-right_rows-requires
-begin-right_rows-requires g c = c.requires.right_running
+begin-right_rows-requires g c = (search rules, (search rules, c.requires.right_running))

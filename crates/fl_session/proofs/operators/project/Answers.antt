@@ -1,4 +1,4 @@
-use Rattle.std.proofs.Common.{◌≡◌, ◌<◌, ◌^◌, ℕ, ℤ, None, List, length, map, slice_index, sym, ◌∙◌, ap, subst, arith, ◌≤◌}
+use Rattle.std.proofs.Common.{rules, ◌≡◌, ◌<◌, ◌^◌, ℕ, ℤ, None, List, length, map, slice_index, sym, ◌∙◌, ap, subst, arith, ◌≤◌}
 use Rattle.std.specs.List.{AllByRecursion}
 use Rattle.fl_cursor.specs.Cursor.{table_of, left_of, IsTold}
 use Rattle.fl_cursor.specs.Reads.{most_of, least_of}
@@ -75,4 +75,4 @@ pub returns-clause-cause : goal.returns-clause-cause
 returns-clause-cause g c = c.list_projected.ensures.cause
 
 pub begin-cursor-requires : goal.begin-cursor-requires
-begin-cursor-requires g c = c.requires.running
+begin-cursor-requires g c = (search rules, (search rules, c.requires.running))

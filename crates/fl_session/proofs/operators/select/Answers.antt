@@ -84,4 +84,4 @@ pub returns-clause-cause : goal.returns-clause-cause
 returns-clause-cause g c = c.list_selected.ensures.cause
 
 pub begin-cursor-requires : goal.begin-cursor-requires
-begin-cursor-requires g c = c.requires.running
+begin-cursor-requires g c = (search rules, (search rules, c.requires.running))

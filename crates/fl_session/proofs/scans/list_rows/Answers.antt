@@ -1,4 +1,4 @@
-use Rattle.std.proofs.Common.{◌+◌, ◌-◌, ◌^◌, ◌<◌, ◌≤◌, ◌∙◌, Ok, Err, length, subst, arith, refl, sym, ap}
+use Rattle.std.proofs.Common.{rules, ◌+◌, ◌-◌, ◌^◌, ◌<◌, ◌≤◌, ◌∙◌, Ok, Err, length, subst, arith, refl, sym, ap}
 use Rattle.fl_model.specs.Limits.{scan_limit}
 use Rattle.fl_model.specs.Query.{selected}
 use Rattle.fl_frame.specs.Contents.{contents_of}
@@ -64,7 +64,7 @@ returns-in-Err-clause-scans g c = λ first plan t tells on stands.
     c.in-Err.fault (c.in-Err.ensures.gives told) on c.in-Err.ensures.unread c.write_fault.ensures.says
 
 pub begin-cursor-requires : goal.begin-cursor-requires
-begin-cursor-requires g c = c.requires.running
+begin-cursor-requires g c = (search rules, (search rules, c.requires.running))
 
 pub give_rows-listed-requires-clause-ready : goal.give_rows-listed-requires-clause-ready
 give_rows-listed-requires-clause-ready g c = c.begin-cursor.ensures.ready (g.F.Flash.state c.args.flash.now) c.requires.lies c.requires.room.0 c.requires.room.1
