@@ -205,15 +205,13 @@ module _ {KNOTS SLOTS : ℕ} (old : Cursor KNOTS SLOTS) (number row : ℕ) (here
   -- a row is taken
   pub sound-taken : (k : ℕ) (found : Row) (here : Here) → slice_get rows k ≡ Some found → At k ≡ first_left (asked_of old) (drop row rows) row →
       IsSoundAhead (took found.key here (InPage number (k + 1)) old) contents → IsSoundAhead old contents
-  sound-taken k found here at search s = record {
-    ahead = λ tells fresh. in-page (λ none.
-        let free = reached (asked_of old) (drop row rows ++ []) (drop row rows) [] row k (passes-all (asked_of old) (drop row rows ++ [])) search in
-        let other : is_last (asked_of old).top found.key ≡ false =
-        subst (λ (r : Row). is_last (asked_of old).top r.key ≡ false) (same-row rows row free.j k free.row found free.at free.here at) (none-at (λ r. is_last (asked_of old).top r.key) (drop row rows) free.j free.row free.here none) in
-        let later : has_last (asked_of old).top (drop (k + 1) rows) ≡ false =
-        subst (λ (xs : List Row). has_last (asked_of old).top xs ≡ false) (drop-same rows row free.j k free.at) (none-behind (λ r. is_last (asked_of old).top r.key) (suc free.j) (drop row rows) none) in
-        by_last (is_last (asked_of old).top found.key) other later (s.ahead tells fresh));
-  }
+  sound-taken k found here at search s = λ tells fresh. in-page (λ none.
+      let free = reached (asked_of old) (drop row rows ++ []) (drop row rows) [] row k (passes-all (asked_of old) (drop row rows ++ [])) search in
+      let other : is_last (asked_of old).top found.key ≡ false =
+      subst (λ (r : Row). is_last (asked_of old).top r.key ≡ false) (same-row rows row free.j k free.row found free.at free.here at) (none-at (λ r. is_last (asked_of old).top r.key) (drop row rows) free.j free.row free.here none) in
+      let later : has_last (asked_of old).top (drop (k + 1) rows) ≡ false =
+      subst (λ (xs : List Row). has_last (asked_of old).top xs ≡ false) (drop-same rows row free.j k free.at) (none-behind (λ r. is_last (asked_of old).top r.key) (suc free.j) (drop row rows) none) in
+      by_last (is_last (asked_of old).top found.key) other later (s tells fresh))
     where
       by_last : (b : Bool) → b ≡ false → has_last (asked_of old).top (drop (k + 1) rows) ≡ false →
           IsSoundFor (table_of old) contents (asked_of (took found.key here (InPage number (k + 1)) old)) (buffer_of old) (cond b Ended (InPage number (k + 1))) → IsSoundFrom (table_of old) contents (asked_of old) (number + 1)
@@ -222,16 +220,16 @@ module _ {KNOTS SLOTS : ℕ} (old : Cursor KNOTS SLOTS) (number row : ℕ) (here
 
   -- none is, and the next page comes
   pub sound-behind : IsSoundAhead (record old { place = Pages (number + 1) }) contents → IsSoundAhead old contents
-  sound-behind s = record { ahead = λ tells fresh. in-page (λ none. s.ahead tells fresh) }
+  sound-behind s = λ tells fresh. in-page (λ none. s tells fresh)
 
   -- .. or the last one was met
   pub sound-nowhere : Nowhere ≡ first_left (asked_of old) (drop row rows) row → IsSoundAhead old contents
-  sound-nowhere search = record { ahead = λ tells fresh. in-page (λ none. absurd (no (sym (stopped-last (asked_of old) (drop row rows) row search) ∙ none))) }
+  sound-nowhere search = λ tells fresh. in-page (λ none. absurd (no (sym (stopped-last (asked_of old) (drop row rows) row search) ∙ none)))
 
 -- ---- behind the pages
 
 pub sound-pending : {KNOTS SLOTS : ℕ} (old : Cursor KNOTS SLOTS) (row : ℕ) (contents : Contents) → old.place ≡ Pending row → IsSoundAhead old contents
-sound-pending old row contents is = record { ahead = λ tells fresh. subst (IsSoundFor (table_of old) contents (asked_of old) (buffer_of old)) (sym is) tt }
+sound-pending old row contents is = λ tells fresh. subst (IsSoundFor (table_of old) contents (asked_of old) (buffer_of old)) (sym is) tt
 
 ended-sound : {KNOTS SLOTS : ℕ} (t : Table KNOTS SLOTS) (contents : Contents) (asked : model.Cursor) (page : List ℕ) (place : Place) → is_end place ≡ true → IsSoundFor t contents asked page place
 ended-sound t contents asked page Ended e = tt
@@ -240,21 +238,17 @@ ended-sound t contents asked page Start e = absurd (no (sym e))
 ended-sound t contents asked page (Pages next) e = absurd (no (sym e))
 ended-sound t contents asked page (InPage number row) e = absurd (no (sym e))
 
--- what is here is nothing to it
-pub sound-here : {KNOTS SLOTS : ℕ} (old : Cursor KNOTS SLOTS) (here : Here) (contents : Contents) → IsSoundAhead (record old { here = here }) contents → IsSoundAhead old contents
-sound-here old here contents s = record { ahead = s.ahead }
-
 -- a step that came to the end
 pub all-sound : {KNOTS SLOTS : ℕ} (more : Bool) (old new : Cursor KNOTS SLOTS) (contents : Contents) → OnFalse more (has_ended new ≡ true) → (IsSoundAhead new contents → IsSoundAhead old contents) →
     OnFalse more (IsSoundAhead old contents)
 all-sound true old new contents end back = tt
-all-sound false old new contents end back = back (record { ahead = λ tells fresh. ended-sound (table_of new) contents (asked_of new) (buffer_of new) new.place end })
+all-sound false old new contents end back = back (λ tells fresh. ended-sound (table_of new) contents (asked_of new) (buffer_of new) new.place end)
 
 -- ---- where it begins
 
 pub sound-begun : {KNOTS SLOTS : ℕ} (t : Table KNOTS SLOTS) (contents : Contents) (asked : model.Cursor) (index : BufferState) (page : List ℕ) (place : Place) → index.holds ≡ None → IsBegun asked t place →
     (IsTrue contents.tells → AreFreshIn (index_in t) contents index → IsSoundFor t contents asked page place) → IsSoundOver t contents asked
-sound-begun t contents asked index page place none begun s = record { over = λ tells up begins. by_place place begun (s tells (fresh-none (index_in t) contents index none)) up begins }
+sound-begun t contents asked index page place none begun s = λ tells up begins. by_place place begun (s tells (fresh-none (index_in t) contents index none)) up begins
   where
     by_place : (place : Place) → IsBegun asked t place → IsSoundFor t contents asked page place → is_up_to asked.top (lowest_of asked) ≡ true → begins_by (lowest_of asked) (buffered_rows t) ≡ false →
         IsSoundFor t contents asked page Start

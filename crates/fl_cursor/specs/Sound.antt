@@ -88,9 +88,11 @@ IsSoundFor t contents asked page (Pending row) = Unit {0}
 IsSoundFor t contents asked page Ended = Unit {0}
 
 -- No page that it looks at from now on is bad, where the flash tells its bytes and an index page that the buffer holds has those.
-pub record IsSoundAhead {KNOTS SLOTS : ℕ} (cursor : Cursor KNOTS SLOTS) (contents : Contents) : Type 0 where
-  pub ahead : IsTrue contents.tells → AreFreshIn (index_in (table_of cursor)) contents (index_page cursor) → IsSoundFor (table_of cursor) contents (asked_of cursor) (buffer_of cursor) (place_of cursor)
+abbrev pub IsSoundAhead : {KNOTS SLOTS : ℕ} → Cursor KNOTS SLOTS → Contents → Type 0
+IsSoundAhead cursor contents =
+    IsTrue contents.tells → AreFreshIn (index_in (table_of cursor)) contents (index_page cursor) → IsSoundFor (table_of cursor) contents (asked_of cursor) (buffer_of cursor) (place_of cursor)
 
 -- .. that one looks at which begins anew: it looks at pages where the lowest key may be given and isn't pending
-pub record IsSoundOver {KNOTS SLOTS : ℕ} (t : Table KNOTS SLOTS) (contents : Contents) (asked : model.Cursor) : Type 0 where
-  pub over : IsTrue contents.tells → is_up_to asked.top (lowest_of asked) ≡ true → begins_by (lowest_of asked) (buffered_rows t) ≡ false → IsSoundAll t contents asked
+abbrev pub IsSoundOver : {KNOTS SLOTS : ℕ} → Table KNOTS SLOTS → Contents → model.Cursor → Type 0
+IsSoundOver t contents asked =
+    IsTrue contents.tells → is_up_to asked.top (lowest_of asked) ≡ true → begins_by (lowest_of asked) (buffered_rows t) ≡ false → IsSoundAll t contents asked

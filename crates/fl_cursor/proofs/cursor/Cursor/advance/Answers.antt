@@ -10,7 +10,7 @@ use Rattle.fl_cursor.specs.Going.{Goes, Fails, is_at_pages, pages_left}
 use Rattle.fl_cursor.proofs.BehindLastPage.{ends-kept}
 use Rattle.fl_cursor.proofs.Whole.{goes-then, fails-then, goes-nowhere, here-after, behind-pages}
 use Rattle.fl_cursor.specs.Sound.{IsSoundAhead}
-use Rattle.fl_cursor.proofs.SoundPages.{all-sound, end-kept, sound-here}
+use Rattle.fl_cursor.proofs.SoundPages.{all-sound, end-kept}
 use Rattle.fl_cursor.proofs.cursor.Cursor.advance.Goals as goal
 
 no : true ≡ false → ⊥
@@ -72,7 +72,7 @@ loop-self-init g c =
       few = omega (arith, small, is);
       end = search rules;
       end_is = c.end_of_pages-end.ensures.exact;
-      sound = λ s. sound-here c.args.self.now _ held (c.in_ok-find_start.ensures.sound (c.if-step_in_page.ensures.sound held s));
+      sound = λ s. c.in_ok-find_start.ensures.sound (c.if-step_in_page.ensures.sound held s);
     }
 
 pub returns-in_err-read_page-clause-reads_only : goal.returns-in_err-read_page-clause-reads_only
@@ -182,9 +182,7 @@ returns g c =
     }
 
 pub returns-then-step_in_page-clause-sound : goal.returns-then-step_in_page-clause-sound
-returns-then-step_in_page-clause-sound g c = λ s.
-    let held = contents_of (g.F.Flash.state c.args.flash.now) in
-    sound-here c.args.self.now _ held (c.in_ok-find_start.ensures.sound (c.if-step_in_page.ensures.sound held s))
+returns-then-step_in_page-clause-sound g c = λ s. c.in_ok-find_start.ensures.sound (c.if-step_in_page.ensures.sound (contents_of (g.F.Flash.state c.args.flash.now)) s)
 
 pub returns-then-step_in_page-2-clause-sound : goal.returns-then-step_in_page-2-clause-sound
 returns-then-step_in_page-2-clause-sound g c = λ s.

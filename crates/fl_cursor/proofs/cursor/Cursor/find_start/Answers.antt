@@ -77,21 +77,17 @@ returns-clause-goes g c =
     (sym finds.page_is ∙ c.in-Some.is) (standing-start t held told.standing c.lowest-lowest.result)))
 
 pub returns-in_default-2-clause-sound : goal.returns-in_default-2-clause-sound
-returns-in_default-2-clause-sound g c = λ s. record {
-  ahead = λ tells fresh.
-      let held = contents_of (g.F.Flash.state c.args.flash.now) in
-      sound-oldest c.args.self.now c.in-Start.is held c.lowest-lowest.result c.oldest.result c.lowest-lowest.ensures c.oldest.ensures.exact
-      (subst (λ (page : Option ℕ). IsPageFor c.args.self.now.table.now (pages_in (contents_of (g.F.Flash.state c.args.flash.now))) c.lowest-lowest.result page) c.in_default-2.is (c.in_ok-number.ensures.answers tells)) (s.ahead tells fresh);
-}
+returns-in_default-2-clause-sound g c = λ s tells fresh.
+    let held = contents_of (g.F.Flash.state c.args.flash.now) in
+    sound-oldest c.args.self.now c.in-Start.is held c.lowest-lowest.result c.oldest.result c.lowest-lowest.ensures c.oldest.ensures.exact
+    (subst (λ (page : Option ℕ). IsPageFor c.args.self.now.table.now (pages_in (contents_of (g.F.Flash.state c.args.flash.now))) c.lowest-lowest.result page) c.in_default-2.is (c.in_ok-number.ensures.answers tells)) (s tells fresh)
 
 pub returns-clause-sound : goal.returns-clause-sound
-returns-clause-sound g c = λ s. record {
-  ahead = λ tells fresh.
-      let f = g.F.Flash.state c.args.flash.now in
-      let held = contents_of (g.F.Flash.state c.args.flash.now) in
-      let kept : HoldsKept c.args.self.now.table.now (g.F.Flash.state c.page_of.new.flash) c.in-Some.number c.page_of.new.buf =
-      subst (λ (page : Option ℕ). IfSome page (λ number. HoldsKept c.args.self.now.table.now (g.F.Flash.state c.page_of.new.flash) number c.page_of.new.buf)) c.in-Some.is c.in_ok-number.ensures.holds in
-      sound-found c.args.self.now c.in-Start.is held c.lowest-lowest.result c.in-Some.number c.page_of.new.buf.bytes c.lowest-lowest.ensures
-      (told-bytes c.args.self.now.table.now c.in-Some.number f (g.F.Flash.state c.page_of.new.flash) c.page_of.new.buf.bytes tells c.page_of.ensures.counts kept.bytes) kept.committed kept.good
-      (subst (λ (page : Option ℕ). IsPageFor c.args.self.now.table.now (pages_in (contents_of (g.F.Flash.state c.args.flash.now))) c.lowest-lowest.result page) c.in-Some.is (c.in_ok-number.ensures.answers tells)) (s.ahead tells fresh);
-}
+returns-clause-sound g c = λ s tells fresh.
+    let f = g.F.Flash.state c.args.flash.now in
+    let held = contents_of (g.F.Flash.state c.args.flash.now) in
+    let kept : HoldsKept c.args.self.now.table.now (g.F.Flash.state c.page_of.new.flash) c.in-Some.number c.page_of.new.buf =
+    subst (λ (page : Option ℕ). IfSome page (λ number. HoldsKept c.args.self.now.table.now (g.F.Flash.state c.page_of.new.flash) number c.page_of.new.buf)) c.in-Some.is c.in_ok-number.ensures.holds in
+    sound-found c.args.self.now c.in-Start.is held c.lowest-lowest.result c.in-Some.number c.page_of.new.buf.bytes c.lowest-lowest.ensures
+    (told-bytes c.args.self.now.table.now c.in-Some.number f (g.F.Flash.state c.page_of.new.flash) c.page_of.new.buf.bytes tells c.page_of.ensures.counts kept.bytes) kept.committed kept.good
+    (subst (λ (page : Option ℕ). IsPageFor c.args.self.now.table.now (pages_in (contents_of (g.F.Flash.state c.args.flash.now))) c.lowest-lowest.result page) c.in-Some.is (c.in_ok-number.ensures.answers tells)) (s tells fresh)

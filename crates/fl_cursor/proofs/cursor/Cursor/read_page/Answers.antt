@@ -124,67 +124,55 @@ returns-clause-goes g c =
     (λ told. page-bytes c.args.self.now.table.now c.args.next (g.F.Flash.state c.args.flash.now) (g.F.Flash.state c.look_ahead.new.flash) c.read_page.new.buf.bytes told.standing c.look_ahead.ensures.counts c.in_ok-read_page.ensures.page) good
 
 pub returns-then-end-next-clause-sound : goal.returns-then-end-next-clause-sound
-returns-then-end-next-clause-sound g c = λ s. record {
-  ahead = λ tells fresh.
-      sound-done c.args.self.now c.args.next c.args.end c.requires.next c.requires.end_is (contents_of (g.F.Flash.state c.args.flash.now)) c.if-end-next.true;
-}
+returns-then-end-next-clause-sound g c = λ s tells fresh.
+    sound-done c.args.self.now c.args.next c.args.end c.requires.next c.requires.end_is (contents_of (g.F.Flash.state c.args.flash.now)) c.if-end-next.true
 
 pub returns-then-rows_of-eq0-clause-sound : goal.returns-then-rows_of-eq0-clause-sound
-returns-then-rows_of-eq0-clause-sound g c = λ s. record {
-  ahead = λ tells fresh.
-      let none : rows_noted c.args.self.now.table.now c.args.next ≡ 0 = search rules in
-      sound-skipped c.args.self.now c.args.next c.args.end c.requires.next c.requires.end_is (contents_of (g.F.Flash.state c.args.flash.now)) c.if-end-next.false none (s.ahead tells fresh);
-}
+returns-then-rows_of-eq0-clause-sound g c = λ s tells fresh.
+    let none : rows_noted c.args.self.now.table.now c.args.next ≡ 0 = search rules in
+    sound-skipped c.args.self.now c.args.next c.args.end c.requires.next c.requires.end_is (contents_of (g.F.Flash.state c.args.flash.now)) c.if-end-next.false none (s tells fresh)
 
 pub returns-in-Missed-clause-sound : goal.returns-in-Missed-clause-sound
-returns-in-Missed-clause-sound g c = λ s. record {
-  ahead = λ tells fresh.
-      let t = c.args.self.now.table.now in
-      let f = g.F.Flash.state c.args.flash.now in
-      let held = contents_of (g.F.Flash.state c.args.flash.now) in
-      let e = c.in_ok-look_ahead.ensures in
-      let now = fresh-then t f (g.F.Flash.state c.look_ahead.new.flash) c.args.self.now.index_buf.now c.look_ahead.new.buf e.counts e.fresh tells fresh in
-      let told = ahead-told t f c.args.self.now.mark.span c.args.self.now.mark.top c.args.next c.args.self.now.index_buf.now c.in_ok-look_ahead.field-0 Missed e.told c.in-Missed.is missed-other tells fresh in
-      sound-missed c.args.self.now c.args.next c.args.end c.requires.next c.requires.end_is held c.if-end-next.false told (s.ahead tells now);
-}
+returns-in-Missed-clause-sound g c = λ s tells fresh.
+    let t = c.args.self.now.table.now in
+    let f = g.F.Flash.state c.args.flash.now in
+    let held = contents_of (g.F.Flash.state c.args.flash.now) in
+    let e = c.in_ok-look_ahead.ensures in
+    let now = fresh-then t f (g.F.Flash.state c.look_ahead.new.flash) c.args.self.now.index_buf.now c.look_ahead.new.buf e.counts e.fresh tells fresh in
+    let told = ahead-told t f c.args.self.now.mark.span c.args.self.now.mark.top c.args.next c.args.self.now.index_buf.now c.in_ok-look_ahead.field-0 Missed e.told c.in-Missed.is missed-other tells fresh in
+    sound-missed c.args.self.now c.args.next c.args.end c.requires.next c.requires.end_is held c.if-end-next.false told (s tells now)
 
 pub returns-in-Beyond-clause-sound : goal.returns-in-Beyond-clause-sound
-returns-in-Beyond-clause-sound g c = λ s. record {
-  ahead = λ tells fresh.
-      let t = c.args.self.now.table.now in
-      let f = g.F.Flash.state c.args.flash.now in
-      let held = contents_of (g.F.Flash.state c.args.flash.now) in
-      let e = c.in_ok-look_ahead.ensures in
-      let told = ahead-told t f c.args.self.now.mark.span c.args.self.now.mark.top c.args.next c.args.self.now.index_buf.now c.in_ok-look_ahead.field-0 Beyond e.told c.in-Beyond.is beyond-other tells fresh in
-      sound-beyond c.args.self.now c.args.next c.args.end c.requires.next c.requires.end_is held c.if-end-next.false told;
-}
+returns-in-Beyond-clause-sound g c = λ s tells fresh.
+    let t = c.args.self.now.table.now in
+    let f = g.F.Flash.state c.args.flash.now in
+    let held = contents_of (g.F.Flash.state c.args.flash.now) in
+    let e = c.in_ok-look_ahead.ensures in
+    let told = ahead-told t f c.args.self.now.mark.span c.args.self.now.mark.top c.args.next c.args.self.now.index_buf.now c.in_ok-look_ahead.field-0 Beyond e.told c.in-Beyond.is beyond-other tells fresh in
+    sound-beyond c.args.self.now c.args.next c.args.end c.requires.next c.requires.end_is held c.if-end-next.false told
 
 pub returns-then-not-branch-clause-sound : goal.returns-then-not-branch-clause-sound
-returns-then-not-branch-clause-sound g c = λ s. record {
-  ahead = λ tells fresh.
-      let t = c.args.self.now.table.now in
-      let f = g.F.Flash.state c.args.flash.now in
-      let held = contents_of (g.F.Flash.state c.args.flash.now) in
-      let e = c.in_ok-look_ahead.ensures in
-      let now = fresh-then t f (g.F.Flash.state c.look_ahead.new.flash) c.args.self.now.index_buf.now c.look_ahead.new.buf e.counts e.fresh tells fresh in
-      let other : state_of_page c.read_page.new.buf.bytes ≡ Committed → ⊥ = search rules in
-      let same = told-bytes t c.args.next f (g.F.Flash.state c.look_ahead.new.flash) c.read_page.new.buf.bytes tells c.look_ahead.ensures.counts c.in_ok-read_page.ensures.page in
-      sound-read c.args.self.now c.args.next c.args.end c.requires.next c.requires.end_is held c.if-end-next.false (sound-void t held c.args.next c.read_page.new.buf.bytes same other)
-      (looked-told t f c.args.self.now.mark.span c.args.next c.args.self.now.index_buf.now e.looked_up tells fresh) (λ last. s.ahead tells now);
-}
+returns-then-not-branch-clause-sound g c = λ s tells fresh.
+    let t = c.args.self.now.table.now in
+    let f = g.F.Flash.state c.args.flash.now in
+    let held = contents_of (g.F.Flash.state c.args.flash.now) in
+    let e = c.in_ok-look_ahead.ensures in
+    let now = fresh-then t f (g.F.Flash.state c.look_ahead.new.flash) c.args.self.now.index_buf.now c.look_ahead.new.buf e.counts e.fresh tells fresh in
+    let other : state_of_page c.read_page.new.buf.bytes ≡ Committed → ⊥ = search rules in
+    let same = told-bytes t c.args.next f (g.F.Flash.state c.look_ahead.new.flash) c.read_page.new.buf.bytes tells c.look_ahead.ensures.counts c.in_ok-read_page.ensures.page in
+    sound-read c.args.self.now c.args.next c.args.end c.requires.next c.requires.end_is held c.if-end-next.false (sound-void t held c.args.next c.read_page.new.buf.bytes same other)
+    (looked-told t f c.args.self.now.mark.span c.args.next c.args.self.now.index_buf.now e.looked_up tells fresh) (λ last. s tells now)
 
 pub returns-clause-sound : goal.returns-clause-sound
-returns-clause-sound g c = λ s. record {
-  ahead = λ tells fresh.
-      let t = c.args.self.now.table.now in
-      let f = g.F.Flash.state c.args.flash.now in
-      let held = contents_of (g.F.Flash.state c.args.flash.now) in
-      let e = c.in_ok-look_ahead.ensures in
-      let now = fresh-then t f (g.F.Flash.state c.look_ahead.new.flash) c.args.self.now.index_buf.now c.look_ahead.new.buf e.counts e.fresh tells fresh in
-      let good : IsGoodPage (layout_in c.args.self.now.table.now) c.args.next c.read_page.new.buf.bytes = search rules in
-      let committed : state_of_page c.read_page.new.buf.bytes ≡ Committed = search rules in
-      let same = told-bytes t c.args.next f (g.F.Flash.state c.look_ahead.new.flash) c.read_page.new.buf.bytes tells c.look_ahead.ensures.counts c.in_ok-read_page.ensures.page in
-      sound-read c.args.self.now c.args.next c.args.end c.requires.next c.requires.end_is held c.if-end-next.false (sound-good t held c.args.next c.read_page.new.buf.bytes same good)
-      (looked-told t f c.args.self.now.mark.span c.args.next c.args.self.now.index_buf.now e.looked_up tells fresh)
-      (λ last. s.ahead tells now (ap (has_last c.args.self.now.mark.top) (sym (rows-same t held c.args.next c.read_page.new.buf.bytes same committed)) ∙ last));
-}
+returns-clause-sound g c = λ s tells fresh.
+    let t = c.args.self.now.table.now in
+    let f = g.F.Flash.state c.args.flash.now in
+    let held = contents_of (g.F.Flash.state c.args.flash.now) in
+    let e = c.in_ok-look_ahead.ensures in
+    let now = fresh-then t f (g.F.Flash.state c.look_ahead.new.flash) c.args.self.now.index_buf.now c.look_ahead.new.buf e.counts e.fresh tells fresh in
+    let good : IsGoodPage (layout_in c.args.self.now.table.now) c.args.next c.read_page.new.buf.bytes = search rules in
+    let committed : state_of_page c.read_page.new.buf.bytes ≡ Committed = search rules in
+    let same = told-bytes t c.args.next f (g.F.Flash.state c.look_ahead.new.flash) c.read_page.new.buf.bytes tells c.look_ahead.ensures.counts c.in_ok-read_page.ensures.page in
+    sound-read c.args.self.now c.args.next c.args.end c.requires.next c.requires.end_is held c.if-end-next.false (sound-good t held c.args.next c.read_page.new.buf.bytes same good)
+    (looked-told t f c.args.self.now.mark.span c.args.next c.args.self.now.index_buf.now e.looked_up tells fresh)
+    (λ last. s tells now (ap (has_last c.args.self.now.mark.top) (sym (rows-same t held c.args.next c.read_page.new.buf.bytes same committed)) ∙ last))

@@ -36,4 +36,4 @@ returns-clause-limit g c = λ f first plan t tells reaches lies stands bounded.
 
 pub returns-clause-sound : goal.returns-clause-sound
 returns-clause-sound g c = λ contents s.
-    sound-begun c.args.table.now contents (asked_by c.args.mark) c.forget.new.self c.args.rows_buf.now.bytes c.first_place.result (ap (λ (b : BufferState). b.holds) c.forget.ensures) c.first_place.ensures.begun s.ahead
+    sound-begun c.args.table.now contents (asked_by c.args.mark) c.forget.new.self c.args.rows_buf.now.bytes c.first_place.result (ap (λ (b : BufferState). b.holds) c.forget.ensures) c.first_place.ensures.begun s
