@@ -9,6 +9,7 @@ use Rattle.fl_session.proofs.NamedTable.{reached-here, reached-within}
 use Rattle.fl_session.proofs.Sound.{sound-read}
 use Rattle.fl_session.proofs.ReplyCauses.{refusal-says, says-written, is-here}
 use Rattle.fl_store.proofs.Queried.{lies-unlogged, runs-unlogged}
+use Rattle.fl_frame.proofs.CallsInTurn.{goes-same}
 use Rattle.fl_session.proofs.session.Session.blob.Goals as goal
 
 pub returns-in-Err-clause-step : goal.returns-in-Err-clause-step
@@ -49,3 +50,18 @@ pub returns-clause-cause : goal.returns-clause-cause
 returns-clause-cause g c =
     let here : slice_get c.args.self.now.tables.entries.items c.in-Ok.at ≡ Some c.index.result.now = reached-here c.args.self.now.tables.entries.items _ _ c.in-Ok.at c.index.result.now c.in-Ok.ensures c.index.ensures in
     inr (c.in-Ok.at, c.index.result.now, is-here _ c.args.name c.in-Ok.at c.index.result.now c.in-Ok.ensures here, looks-blob _ _ _ _ _ c.args.key _ _ _ _ _ _ _ refl c.show_blob.ensures.counts c.table-table.ensures c.show_blob.ensures.tells)
+
+pub returns-in-Err-clause-sound : goal.returns-in-Err-clause-sound
+returns-in-Err-clause-sound g c = c.requires.sound
+
+pub returns-in-Err-clause-goes : goal.returns-in-Err-clause-goes
+returns-in-Err-clause-goes g c = goes-same _
+
+pub returns-in-Err-clause-sink : goal.returns-in-Err-clause-sink
+returns-in-Err-clause-sink g c = c.write_reply.ensures.cause
+
+pub returns-clause-sink : goal.returns-clause-sink
+returns-clause-sink g c = c.show_blob.ensures.cause
+
+pub show_blob-requires-clause-room : goal.show_blob-requires-clause-room
+show_blob-requires-clause-room g c = c.requires.sound.room.0

@@ -8,6 +8,7 @@ use Rattle.fl_session.proofs.NamedTable.{reached-here, reached-within}
 use Rattle.fl_session.proofs.Sound.{sound-read}
 use Rattle.fl_session.proofs.ReplyCauses.{on-refusal, says-written, is-here, only-looks}
 use Rattle.fl_store.proofs.Queried.{lies-unlogged, runs-unlogged}
+use Rattle.fl_frame.proofs.CallsInTurn.{goes-same}
 use Rattle.fl_session.proofs.session.Session.get.Goals as goal
 
 pub returns-in-Err-clause-step : goal.returns-in-Err-clause-step
@@ -58,3 +59,18 @@ returns-clause-cause g c =
       said_is = says.said_is;
       holds = inr (c.in-Ok.at, c.index.result.now, is-here _ c.args.name c.in-Ok.at c.index.result.now c.in-Ok.ensures here, (look-said c.table-table.result.now c.index.result.now c.args.key _ _ says.reply c.table-table.ensures says.holds, reads-few c.table-table.result.now c.index.result.now _ _ c.table-table.ensures c.look_up-reply.ensures.counts c.look_up-reply.ensures.few, (c.lookup_limit-limit.result, only-looks _ _ _ _ _ _ _ (ap (λ n. record c.args.self.now.notes { cost = OfGet n c.lookup_limit-limit.result }) reads) c.look_up-reply.ensures.counts)));
     }) c.write_reply-2.ensures.text
+
+pub returns-in-Err-clause-sound : goal.returns-in-Err-clause-sound
+returns-in-Err-clause-sound g c = c.requires.sound
+
+pub returns-in-Err-clause-goes : goal.returns-in-Err-clause-goes
+returns-in-Err-clause-goes g c = goes-same _
+
+pub returns-in-Err-clause-sink : goal.returns-in-Err-clause-sink
+returns-in-Err-clause-sink g c = c.write_reply.ensures.cause
+
+pub returns-clause-sink : goal.returns-clause-sink
+returns-clause-sink g c = c.write_reply-2.ensures.cause
+
+pub look_up-reply-requires-clause-room : goal.look_up-reply-requires-clause-room
+look_up-reply-requires-clause-room g c = c.requires.sound.room.0

@@ -9,6 +9,7 @@ use Rattle.fl_session.proofs.NamedTable.{reached-here, reached-within}
 use Rattle.fl_session.proofs.Sound.{sound-roomed}
 use Rattle.fl_session.proofs.ReplyCauses.{reached-entry, refusal-says, says-written, is-here}
 use Rattle.fl_store.proofs.Queried.{lies-unlogged, runs-unlogged}
+use Rattle.fl_frame.proofs.CallsInTurn.{goes-same}
 use Rattle.fl_session.proofs.session.Session.join.Goals as goal
 
 pub returns-in-Err-clause-step : goal.returns-in-Err-clause-step
@@ -82,3 +83,27 @@ returns-clause-cause g c =
       is-here _ c.args.left c.in-Ok.at c.index.result.now c.in-Ok.ensures left,
       inr (c.in-Ok-find.at, c.index-2.result.now, is-here _ c.args.right c.in-Ok-find.at c.index-2.result.now c.in-Ok-find.ensures right, looks-pairs _ _ _ _ _ c.args.range _ _ _ _ _ _ _ _ _ refl c.join.ensures.reads_only c.table-left_table.ensures c.table-right_table.ensures c.join.ensures.says),
     )
+
+pub returns-in-Err-clause-sound : goal.returns-in-Err-clause-sound
+returns-in-Err-clause-sound g c = c.requires.sound
+
+pub returns-in-Err-clause-goes : goal.returns-in-Err-clause-goes
+returns-in-Err-clause-goes g c = goes-same _
+
+pub returns-in-Err-clause-sink : goal.returns-in-Err-clause-sink
+returns-in-Err-clause-sink g c = c.write_reply.ensures.cause
+
+pub returns-in-Err-find-clause-sound : goal.returns-in-Err-find-clause-sound
+returns-in-Err-find-clause-sound g c = c.requires.sound
+
+pub returns-in-Err-find-clause-goes : goal.returns-in-Err-find-clause-goes
+returns-in-Err-find-clause-goes g c = goes-same _
+
+pub returns-in-Err-find-clause-sink : goal.returns-in-Err-find-clause-sink
+returns-in-Err-find-clause-sink g c = c.write_reply-in-Err-find.ensures.cause
+
+pub returns-clause-sink : goal.returns-clause-sink
+returns-clause-sink g c = c.join.ensures.cause
+
+pub join-requires-clause-room : goal.join-requires-clause-room
+join-requires-clause-room g c = c.requires.sound.room

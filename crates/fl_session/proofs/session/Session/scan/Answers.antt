@@ -15,6 +15,7 @@ use Rattle.fl_session.proofs.ScanReplies.{scan-executes, scan-refused}
 use Rattle.fl_session.proofs.Sound.{sound-read}
 use Rattle.fl_session.proofs.ReplyCauses.{refusal-says, says-written, is-here}
 use Rattle.fl_store.proofs.Queried.{lies-unlogged, runs-unlogged}
+use Rattle.fl_frame.proofs.CallsInTurn.{goes-same}
 use Rattle.fl_session.proofs.session.Session.scan.Goals as goal
 
 pub returns-in-Err-clause-step : goal.returns-in-Err-clause-step
@@ -65,3 +66,18 @@ returns-clause-cause g c =
       is-here _ c.args.name c.in-Ok.at c.index.result.now c.in-Ok.ensures here,
       looks-lists _ _ _ _ _ (λ (t : Table 64 64). AreRows (has_blobs t) (mark_on t c.args.range c.args.span)) (λ (t : Table 64 64). EndsScan (mark_on t c.args.range c.args.span) t) _ _ _ _ _ _ _ (ap (λ n. record c.args.self.now.notes { cost = OfScan n }) reads) c.list_rows-written.ensures.counts c.table-table.ensures c.list_rows-written.ensures.lines,
     )
+
+pub returns-in-Err-clause-sound : goal.returns-in-Err-clause-sound
+returns-in-Err-clause-sound g c = c.requires.sound
+
+pub returns-in-Err-clause-goes : goal.returns-in-Err-clause-goes
+returns-in-Err-clause-goes g c = goes-same _
+
+pub returns-in-Err-clause-sink : goal.returns-in-Err-clause-sink
+returns-in-Err-clause-sink g c = c.write_reply.ensures.cause
+
+pub returns-clause-sink : goal.returns-clause-sink
+returns-clause-sink g c = c.list_rows-written.ensures.cause
+
+pub list_rows-written-requires-clause-room : goal.list_rows-written-requires-clause-room
+list_rows-written-requires-clause-room g c = c.requires.sound.room
