@@ -4,7 +4,7 @@ use Rattle.std.specs.List.{AllByRecursion, list_any, slice_get}
 use Rattle.std.proofs.lemmas.Bool.{true≢false}
 use Rattle.fl_base.specs.declared.types.Geometry.{Geometry}
 use Rattle.fl_base.specs.declared.types.RingPlace.{RingPlace}
-use Rattle.fl_check.specs.SoundImages.{RingImage, OfPlace, BlobsLead, PagesFit, IsNumbered, IsAsRunsLeave, StandsSettled, HasImage}
+use Rattle.fl_check.specs.SoundImages.{RingImage, OfPlace, BlobsLead, PagesFit, IsNumbered, NumbersAreLeft, IsAsRunsLeave, StandsSettled, HasImage}
 use Rattle.fl_check.specs.Whole.{shape_in}
 use Rattle.fl_check.specs.declared.numbering.Numbering.{Numbering}
 use Rattle.fl_check.proofs.SoundImages.{sound-images}
@@ -17,7 +17,7 @@ use Rattle.fl_model.specs.Image.{IsRingImage, HoldsEntries, HoldsContent, HoldsL
 use Rattle.fl_model.specs.Mount.{index_end, blob_end}
 use Rattle.fl_model.specs.Record.{Plan, blocks_of, rows_per_page}
 use Rattle.fl_model.specs.Ring.{Ring, IsRing, oldest}
-use Rattle.fl_model.specs.Table.{Table, Entry, RingName, DataRing, IndexRing, VarRing, LogRing, ring_of, has_rows, is_spent, log_pages}
+use Rattle.fl_model.specs.Table.{Table, Entry, RingName, DataRing, IndexRing, VarRing, LogRing, ring_of, has_rows, log_pages}
 use Rattle.fl_model.proofs.Lists.{each-weaker}
 use Rattle.fl_plan.specs.Plan.{Label, label_of, blocks_in, plan_of_table, with_log, IsRingAt}
 use Rattle.fl_plan.specs.declared.table_config.TableConfig.{TableConfig}
@@ -271,8 +271,8 @@ module _ (label : Label) (config : TableConfig) (log : Option RingPlace) (f : Fl
         }
 
   -- numbers are left, and no row has a blob
-  unspent : plan.var_blocks ≡ 0 → is_spent table ≡ false → IsAsRunsLeave plan table
-  unspent none left = record { numbers = image.stands.unspent left; begin = λ i entry blob here is some. no-ring table.var entry.page (image.fit.has_rings.1 ∙ ap {B = Bool} (λ (n : ℕ). nat_lt 0 n) none) }
+  as_left : plan.var_blocks ≡ 0 → NumbersAreLeft plan table → IsAsRunsLeave plan table
+  as_left none left = record { numbers = left; begin = λ i entry blob here is some. no-ring table.var entry.page (image.fit.has_rings.1 ∙ ap {B = Bool} (λ (n : ℕ). nat_lt 0 n) none) }
     where
       no-ring : (o : Option Ring) (number : ℕ) → is_some_ring o ≡ false → IfSome o (λ ring. oldest ring ≤ number → slice_get ring.counts (number - oldest ring) ≡ Some 0 → ⊥)
       no-ring None number is = tt
@@ -286,7 +286,7 @@ module _ (label : Label) (config : TableConfig) (log : Option RingPlace) (f : Fl
     numbered = image.numbered;
     behind = image.behind;
     stands = image.stands;
-    unspent = unspent;
+    as_left = as_left;
     mounts = bare-mounts;
     alone = λ none. bare-is plan table image.fit (none-logged none);
     rests = λ left log_is. rings-rest (image.stands.settled left log_is);

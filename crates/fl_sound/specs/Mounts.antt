@@ -1,7 +1,7 @@
 -- Sound tables, and what a mount finds there.
-use Rattle.std.specs.Prelude.{◌≡◌, ℕ, ◌+◌, ◌≤◌, false, IsTrue, Option, Some, None, length}
+use Rattle.std.specs.Prelude.{◌≡◌, ℕ, ◌+◌, ◌≤◌, IsTrue, Option, Some, None, length}
 use Rattle.fl_base.specs.declared.types.RingPlace.{RingPlace}
-use Rattle.fl_check.specs.SoundImages.{AreBehind, AreNumbered, IsAsRunsLeave, PagesFit, StandsSettled, TableImage}
+use Rattle.fl_check.specs.SoundImages.{AreBehind, AreNumbered, IsAsRunsLeave, NumbersAreLeft, PagesFit, StandsSettled, TableImage}
 use Rattle.fl_check.specs.Whole.{Fits, LogFits, IsFinding}
 use Rattle.fl_check.specs.declared.finding.Finding.TheVariants.{Sound}
 use Rattle.fl_flash.specs.Flash.{FlashState, page_at}
@@ -9,7 +9,7 @@ use Rattle.fl_flash.specs.Places.{extent}
 use Rattle.fl_model.specs.Bare.{bare, bare_table}
 use Rattle.fl_model.specs.Log.{IsLog}
 use Rattle.fl_model.specs.Record.{Plan, blocks_of}
-use Rattle.fl_model.specs.Table.{Table, full_pages, is_spent}
+use Rattle.fl_model.specs.Table.{Table, full_pages}
 use Rattle.fl_plan.specs.Plan.{IsConfigOf, IsRingAt}
 use Rattle.fl_plan.specs.declared.table_config.TableConfig.{TableConfig}
 use Rattle.fl_rlc.specs.Logged.{Rests}
@@ -38,7 +38,7 @@ pub record HasTable (config : TableConfig) (log : Option RingPlace) (f : FlashSt
   pub behind : AreBehind plan table
   pub stands : StandsSettled plan table
   -- of a table without variable data, and so of each with a log, numbers that are left are all of it
-  pub unspent : plan.var_blocks ≡ 0 → is_spent table ≡ false → IsAsRunsLeave plan table
+  pub as_left : plan.var_blocks ≡ 0 → NumbersAreLeft plan table → IsAsRunsLeave plan table
   -- what the mount of these rings asks, which is all that there is of a table without a log
   pub mounts : RestsToMount f config.rows.first_block (bare plan) (bare_table table)
   pub alone : log ≡ None → bare_table table ≡ table
