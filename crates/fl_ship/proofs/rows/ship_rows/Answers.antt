@@ -1,4 +1,4 @@
-use Rattle.std.proofs.Common.{IsTrue, Ok, Err, refl, sym, ◌∙◌, subst}
+use Rattle.std.proofs.Common.{IsTrue, refl, sym, ◌∙◌, subst}
 use Rattle.std.proofs.lemmas.Result.{err_from_is_err_and}
 use Rattle.fl_flash.specs.Flash.{page_at}
 use Rattle.fl_frame.proofs.CallsInTurn.{goes-then}
