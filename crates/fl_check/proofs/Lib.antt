@@ -56,6 +56,7 @@ pub mod TableFacts
 pub mod StoredRows
 pub mod TablePages
 pub mod TalliedPages
+pub mod TableRings
 pub mod TableTold
 pub mod Tallies
 pub mod TrimmedEntries

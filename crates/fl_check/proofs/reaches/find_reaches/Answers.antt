@@ -7,6 +7,9 @@ use Rattle.fl_frame.proofs.ReadsInTurn.{more_reads, same_page, told_still}
 use Rattle.fl_check.specs.Reaches.{reach, reach_from}
 use Rattle.fl_check.specs.References.{content_room}
 use Rattle.fl_check.proofs.BlobReaches.{reach_next, listed_next}
+use Rattle.std.proofs.lemmas.Result.{err_from_is_err_and}
+use Rattle.fl_check.proofs.FewerReads.{few_reads}
+use Rattle.fl_check.proofs.OneMorePage.{one_read, read_fails}
 use Rattle.fl_check.proofs.reaches.find_reaches.Goals as goal
 
 pub look-requires-clause-exists : goal.look-requires-clause-exists
@@ -37,3 +40,31 @@ loop-i-preserved g c =
       reaches = λ told. listed_next (page_at f) r c.args.m.at c.loop-i.i c.loop-i.reaches c.reach_from-reach.result (omega (arith, c.loop-i.auto.reaches, c.requires.listed, c.loop-i-test.true)) (next told)
           (c.loop-i.invariant.reaches told);
     }
+
+pub page_back-page-requires-clause-place : goal.page_back-page-requires-clause-place
+page_back-page-requires-clause-place g c = c.requires.within.at
+
+pub returns-in_err-look-clause-reads : goal.returns-in_err-look-clause-reads
+returns-in_err-look-clause-reads g c = one_read (g.F.Flash.state c.args.flash.now) (g.F.Flash.state c.loop-i.flash) (g.F.Flash.state c.look.new.flash) c.loop-i.i c.args.m.kept c.loop-i.invariant.reads c.look.ensures.reads c.loop-i-test.true
+
+pub returns-in_err-look-clause-room : goal.returns-in_err-look-clause-room
+returns-in_err-look-clause-room g c = c.look.ensures.room ∙ c.loop-i.invariant.room
+
+pub returns-in_err-look-clause-reaches : goal.returns-in_err-look-clause-reaches
+returns-in_err-look-clause-reaches g c =
+    let p = err_from_is_err_and c.from_residual.result c.from_residual.ensures.1 in
+    rw p.1 tt
+
+pub returns-in_err-look-clause-fails : goal.returns-in_err-look-clause-fails
+returns-in_err-look-clause-fails g c =
+    let p = err_from_is_err_and c.from_residual.result c.from_residual.ensures.1 in
+    rw (p.1, p.2) (read_fails (g.F.Flash.state c.args.flash.now) (g.F.Flash.state c.loop-i.flash) (g.F.Flash.state c.look.new.flash) c.loop-i.i 0 c.loop-i.invariant.reads c.in_err-look.field-0.0 c.in_err-look.ensures.fails)
+
+pub returns-clause-reads : goal.returns-clause-reads
+returns-clause-reads g c = few_reads (g.F.Flash.state c.args.flash.now) (g.F.Flash.state c.loop-i.flash) c.loop-i.i c.args.m.kept c.loop-i.invariant.reads c.loop-i.auto.i-end
+
+pub returns-clause-room : goal.returns-clause-room
+returns-clause-room g c = c.loop-i.invariant.room
+
+pub returns-clause-fails : goal.returns-clause-fails
+returns-clause-fails g c = tt

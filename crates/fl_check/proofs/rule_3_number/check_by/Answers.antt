@@ -7,6 +7,7 @@ use Rattle.fl_flash.specs.Flash.{page_at}
 use Rattle.fl_ring.specs.Place.{shape_of}
 use Rattle.fl_ring.specs.Ring.{room}
 use Rattle.fl_check.proofs.NumbersOfRing.{all_for, misnumbered_for, numbers_for, too_great_for}
+use Rattle.std.proofs.lemmas.Result.{err_from_is_err_and}
 use Rattle.fl_check.proofs.rule_3_number.check_by.Goals as goal
 
 pub returns-in-Some-clause-broken : goal.returns-in-Some-clause-broken
@@ -52,3 +53,36 @@ returns-in-None-clause-broken g c =
           (all_for f r m next c.in_ok-misnumbered.misnumbered (c.in_ok-misnumbered.ensures.none told) c.in-None.is) none refl,
     ))
     c.number_left.ensures.broken
+
+pub returns-in_err-misnumbered-clause-reads : goal.returns-in_err-misnumbered-clause-reads
+returns-in_err-misnumbered-clause-reads g c = c.first_misnumbered.ensures.reads
+
+pub returns-in_err-misnumbered-clause-room : goal.returns-in_err-misnumbered-clause-room
+returns-in_err-misnumbered-clause-room g c = c.first_misnumbered.ensures.room
+
+pub returns-in_err-misnumbered-clause-numbers : goal.returns-in_err-misnumbered-clause-numbers
+returns-in_err-misnumbered-clause-numbers g c =
+    let p = err_from_is_err_and c.from_residual.result c.from_residual.ensures.1 in
+    rw p.1 tt
+
+pub returns-in_err-misnumbered-clause-broken : goal.returns-in_err-misnumbered-clause-broken
+returns-in_err-misnumbered-clause-broken g c =
+    let p = err_from_is_err_and c.from_residual.result c.from_residual.ensures.1 in
+    rw (p.1, p.2) tt
+
+pub returns-in_err-misnumbered-clause-fails : goal.returns-in_err-misnumbered-clause-fails
+returns-in_err-misnumbered-clause-fails g c =
+    let p = err_from_is_err_and c.from_residual.result c.from_residual.ensures.1 in
+    rw (p.1, p.2) c.in_err-misnumbered.ensures.fails
+
+pub returns-in-Some-clause-reads : goal.returns-in-Some-clause-reads
+returns-in-Some-clause-reads g c = c.first_misnumbered.ensures.reads
+
+pub returns-in-Some-clause-room : goal.returns-in-Some-clause-room
+returns-in-Some-clause-room g c = c.first_misnumbered.ensures.room
+
+pub returns-in-None-clause-reads : goal.returns-in-None-clause-reads
+returns-in-None-clause-reads g c = c.first_misnumbered.ensures.reads
+
+pub returns-in-None-clause-room : goal.returns-in-None-clause-room
+returns-in-None-clause-room g c = c.first_misnumbered.ensures.room

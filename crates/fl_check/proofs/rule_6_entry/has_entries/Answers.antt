@@ -1,6 +1,6 @@
 use Rattle.std.proofs.Common.{ℕ, List, ◌+◌, ◌*◌, ◌≤◌, inl, inr, sym, subst, arith}
 use Rattle.std.proofs.Math.Nat.{mul-le-mul_right}
-use Rattle.std.proofs.lemmas.Bool.{cases_eq}
+use Rattle.std.proofs.lemmas.Bool.{cases_eq, true≢false, false≢true}
 use Rattle.fl_flash.specs.Flash.{page_at}
 use Rattle.fl_index.specs.Page.{form_len}
 use Rattle.fl_ring.specs.Place.{shape_of}
@@ -9,7 +9,9 @@ use Rattle.fl_frame.proofs.ReadsInTurn.{more_reads, told_still}
 use Rattle.fl_check.specs.Entries.{over, IsEntry}
 use Rattle.fl_check.proofs.FewerReads.{few_reads}
 use Rattle.std.proofs.lemmas.Result.{err_from_is_err_and}
-use Rattle.fl_check.proofs.OneMorePage.{read_fails}
+use Rattle.fl_check.proofs.OneMorePage.{read_fails, all_below}
+use Rattle.fl_ring.proofs.Exists.{lies_still}
+use Rattle.fl_check.specs.Claims.{AllBelow}
 use Rattle.fl_check.proofs.rule_6_entry.has_entries.Goals as goal
 
 pub is_entry-requires-clause-entry : goal.is_entry-requires-clause-entry
@@ -76,3 +78,38 @@ returns-clause-room g c = c.loop-j.invariant.room
 
 pub returns-clause-fails : goal.returns-clause-fails
 returns-clause-fails g c = tt
+
+pub is_entry-requires-clause-lies : goal.is_entry-requires-clause-lies
+is_entry-requires-clause-lies g c = lies_still c.args.rows.now (g.F.Flash.state c.args.flash.now) (g.F.Flash.state c.loop-j.flash) c.requires.lies c.loop-j.invariant.reads.goes
+
+pub is_entry-requires-clause-room : goal.is_entry-requires-clause-room
+is_entry-requires-clause-room g c = c.loop-j.invariant.room
+
+pub is_entry-requires-clause-within : goal.is_entry-requires-clause-within
+is_entry-requires-clause-within g c = c.requires.within
+
+pub is_entry-requires-clause-some : goal.is_entry-requires-clause-some
+is_entry-requires-clause-some g c = c.requires.some
+
+pub is_entry-requires-clause-few : goal.is_entry-requires-clause-few
+is_entry-requires-clause-few g c = c.requires.few
+
+pub is_entry-requires-clause-short : goal.is_entry-requires-clause-short
+is_entry-requires-clause-short g c = c.requires.short
+
+pub returns-in_err-is-clause-reads : goal.returns-in_err-is-clause-reads
+returns-in_err-is-clause-reads g c =
+    let f = g.F.Flash.state c.args.flash.now in
+    few_reads f (g.F.Flash.state c.is_entry.new.flash) _ _ (more_reads f (g.F.Flash.state c.loop-j.flash) (g.F.Flash.state c.is_entry.new.flash) _ _ c.loop-j.invariant.reads c.is_entry.ensures.reads)
+    (omega (arith, c.loop-j-test.true))
+
+pub returns-then-not-is-clause-yes : goal.returns-then-not-is-clause-yes
+returns-then-not-is-clause-yes g c = λ yes. absurd (false≢true yes)
+
+pub returns-clause-yes : goal.returns-clause-yes
+returns-clause-yes g c = λ yes told.
+    subst (λ (k : ℕ). AllBelow (IsEntry (page_at (g.F.Flash.state c.args.flash.now)) (shape_of c.args.rows.now) (over c.args.l) c.args.listing.now) k) (all_below c.loop-j.auto.j-end c.loop-j-test.false)
+    (c.loop-j.invariant.entries told)
+
+pub returns-clause-no : goal.returns-clause-no
+returns-clause-no g c = λ no. absurd (true≢false no)

@@ -14,6 +14,7 @@ use Rattle.fl_check.specs.Marks.{kept_page}
 use Rattle.fl_check.specs.References.{RowsLead}
 use Rattle.fl_check.proofs.OneMorePage.{one_read, read_fails, some_back, few_back}
 use Rattle.fl_check.proofs.RowsLead.{page_not, page_next, committed_as}
+use Rattle.fl_check.proofs.FewerReads.{few_reads}
 use Rattle.fl_check.proofs.rule_7_blob.find_misleading.Goals as goal
 use Rattle.fl_check.proofs.rule_7_blob.find_misleading.Goals.{then-is_committed+else-not-page_leads, else-is_committed}
 
@@ -110,3 +111,18 @@ returns-in_err-state-clause-fails g c =
 
 pub returns-clause-room : goal.returns-clause-room
 returns-clause-room g c = c.loop-i.invariant.room
+
+pub returns-then-not-page_leads-clause-none : goal.returns-then-not-page_leads-clause-none
+returns-then-not-page_leads-clause-none g c = λ told forms measured. tt
+
+pub returns-then-not-page_leads-clause-fails : goal.returns-then-not-page_leads-clause-fails
+returns-then-not-page_leads-clause-fails g c = tt
+
+pub returns-clause-reads : goal.returns-clause-reads
+returns-clause-reads g c = few_reads (g.F.Flash.state c.args.flash.now) (g.F.Flash.state c.loop-i.flash) c.loop-i.i c.args.m.kept c.loop-i.invariant.reads c.loop-i.auto.i-end
+
+pub returns-clause-some : goal.returns-clause-some
+returns-clause-some g c = λ told forms measured. tt
+
+pub returns-clause-fails : goal.returns-clause-fails
+returns-clause-fails g c = tt

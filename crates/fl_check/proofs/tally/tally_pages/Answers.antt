@@ -9,6 +9,9 @@ use Rattle.fl_check.specs.Rising.{HasRows}
 use Rattle.fl_check.specs.Tally.{with_page}
 use Rattle.fl_check.specs.declared.tally.Tally.{Tally}
 use Rattle.fl_check.proofs.Tallies.{tally_next}
+use Rattle.std.proofs.lemmas.Result.{err_from_is_err_and}
+use Rattle.fl_check.proofs.FewerReads.{few_reads}
+use Rattle.fl_check.proofs.OneMorePage.{one_read, read_fails, some_back, few_back}
 use Rattle.fl_check.proofs.tally.tally_pages.Goals as goal
 
 pub look-requires-clause-exists : goal.look-requires-clause-exists
@@ -36,3 +39,37 @@ loop-i-preserved g c =
           ∙ ap (λ (t : Tally). with_page layout (page_at first (kept_page r m c.loop-i.i)) t) (c.loop-i.invariant.tally told have)
           ∙ sym (tally_next layout (page_at first) r m c.loop-i.i);
     }
+
+pub page_back-page-requires-clause-place : goal.page_back-page-requires-clause-place
+page_back-page-requires-clause-place g c = c.requires.within.at
+
+pub page_back-page-requires-clause-some : goal.page_back-page-requires-clause-some
+page_back-page-requires-clause-some g c = some_back c.loop-i-test.true
+
+pub page_back-page-requires-clause-few : goal.page_back-page-requires-clause-few
+page_back-page-requires-clause-few g c = few_back _ c.requires.within.kept
+
+pub returns-in_err-look-clause-reads : goal.returns-in_err-look-clause-reads
+returns-in_err-look-clause-reads g c = one_read (g.F.Flash.state c.args.flash.now) (g.F.Flash.state c.loop-i.flash) (g.F.Flash.state c.look.new.flash) c.loop-i.i c.args.m.kept c.loop-i.invariant.reads c.look.ensures.reads c.loop-i-test.true
+
+pub returns-in_err-look-clause-room : goal.returns-in_err-look-clause-room
+returns-in_err-look-clause-room g c = c.look.ensures.room ∙ c.loop-i.invariant.room
+
+pub returns-in_err-look-clause-tally : goal.returns-in_err-look-clause-tally
+returns-in_err-look-clause-tally g c =
+    let p = err_from_is_err_and c.from_residual.result c.from_residual.ensures.1 in
+    rw p.1 tt
+
+pub returns-in_err-look-clause-fails : goal.returns-in_err-look-clause-fails
+returns-in_err-look-clause-fails g c =
+    let p = err_from_is_err_and c.from_residual.result c.from_residual.ensures.1 in
+    rw (p.1, p.2) (read_fails (g.F.Flash.state c.args.flash.now) (g.F.Flash.state c.loop-i.flash) (g.F.Flash.state c.look.new.flash) c.loop-i.i 0 c.loop-i.invariant.reads c.in_err-look.field-0.0 c.in_err-look.ensures.fails)
+
+pub returns-clause-reads : goal.returns-clause-reads
+returns-clause-reads g c = few_reads (g.F.Flash.state c.args.flash.now) (g.F.Flash.state c.loop-i.flash) c.loop-i.i c.args.m.kept c.loop-i.invariant.reads c.loop-i.auto.i-end
+
+pub returns-clause-room : goal.returns-clause-room
+returns-clause-room g c = c.loop-i.invariant.room
+
+pub returns-clause-fails : goal.returns-clause-fails
+returns-clause-fails g c = tt

@@ -10,6 +10,8 @@ use Rattle.fl_schema.specs.Schema.{layout_of}
 use Rattle.fl_check.specs.Entries.{IndexOver, HaveEntries, EntriesBreak}
 use Rattle.fl_check.specs.Whole.{shape_in, rows_shape, layout_in}
 use Rattle.fl_check.proofs.RulesTold.{if_ok_both, told_of}
+use Rattle.fl_frame.proofs.ReadsInTurn.{looks_by}
+use Rattle.fl_check.proofs.TableRings.{room_in, room_back, within, some_blocks, some_lies}
 use Rattle.fl_check.proofs.table.Checked.find_misentered.Goals as goal
 
 pub returns-clause-entries : goal.returns-clause-entries
@@ -32,3 +34,54 @@ returns-clause-entries g c =
     (λ p. EntriesBreak page r (shape_of c.unnumbered-rows.result) (of c.entry_form.result (layout_of c.args.self.now.schema)) p)) listings
     (told_of broken _ _ (none told) (some told))))))
     c.check_entries.ensures.none c.check_entries.ensures.some
+
+pub unnumbered-index-requires-clause-blocks : goal.unnumbered-index-requires-clause-blocks
+unnumbered-index-requires-clause-blocks g c = some_blocks c.args.self.now.config.now.index c.args.place c.requires.place c.requires.fits.limits.index
+
+pub unnumbered-index-requires-clause-lies : goal.unnumbered-index-requires-clause-lies
+unnumbered-index-requires-clause-lies g c = some_lies c.args.self.now.config.now.index c.args.place c.requires.place (g.F.Flash.state c.args.flash.now).blocks c.requires.fits.index
+
+pub unnumbered-index-requires-clause-few : goal.unnumbered-index-requires-clause-few
+unnumbered-index-requires-clause-few g c = c.requires.fits.few
+
+pub unnumbered-rows-requires-clause-blocks : goal.unnumbered-rows-requires-clause-blocks
+unnumbered-rows-requires-clause-blocks g c = c.requires.fits.limits.rows.0
+
+pub unnumbered-rows-requires-clause-lies : goal.unnumbered-rows-requires-clause-lies
+unnumbered-rows-requires-clause-lies g c = c.requires.fits.rows
+
+pub unnumbered-rows-requires-clause-few : goal.unnumbered-rows-requires-clause-few
+unnumbered-rows-requires-clause-few g c = c.requires.fits.few
+
+pub check_entries-requires-clause-listing : goal.check_entries-requires-clause-listing
+check_entries-requires-clause-listing g c =
+    room_in c.args.self.now.config.now (g.F.Flash.state c.args.flash.now) c.requires.fits c.args.place (shape_of c.unnumbered-index.result) c.unnumbered-index.ensures.shape c.requires.listing
+
+pub check_entries-requires-clause-room : goal.check_entries-requires-clause-room
+check_entries-requires-clause-room g c =
+    let config = c.args.self.now.config.now in
+    room_in config (g.F.Flash.state c.args.flash.now) c.requires.fits config.rows (shape_of c.unnumbered-rows.result) c.unnumbered-rows.ensures.shape c.requires.room
+
+pub check_entries-requires-clause-index_within : goal.check_entries-requires-clause-index_within
+check_entries-requires-clause-index_within g c =
+    within c.args.self.now.config.now (g.F.Flash.state c.args.flash.now) c.requires.fits c.args.place (shape_of c.unnumbered-index.result) c.unnumbered-index.ensures.shape c.args.index.marks c.requires.index
+
+pub check_entries-requires-clause-rows_within : goal.check_entries-requires-clause-rows_within
+check_entries-requires-clause-rows_within g c =
+    let config = c.args.self.now.config.now in
+    within config (g.F.Flash.state c.args.flash.now) c.requires.fits config.rows (shape_of c.unnumbered-rows.result) c.unnumbered-rows.ensures.shape c.args.rows.marks c.requires.rows
+
+pub returns-clause-looks : goal.returns-clause-looks
+returns-clause-looks g c = looks_by (g.F.Flash.state c.args.flash.now) (g.F.Flash.state c.check_entries.new.flash) _ c.check_entries.ensures.reads
+
+pub returns-clause-listing : goal.returns-clause-listing
+returns-clause-listing g c =
+    room_back c.args.self.now.config.now (g.F.Flash.state c.args.flash.now) c.requires.fits c.args.place (shape_of c.unnumbered-index.result) c.unnumbered-index.ensures.shape c.check_entries.ensures.listing
+
+pub returns-clause-room : goal.returns-clause-room
+returns-clause-room g c =
+    let config = c.args.self.now.config.now in
+    room_back config (g.F.Flash.state c.args.flash.now) c.requires.fits config.rows (shape_of c.unnumbered-rows.result) c.unnumbered-rows.ensures.shape c.check_entries.ensures.room
+
+pub returns-clause-fails : goal.returns-clause-fails
+returns-clause-fails g c = c.check_entries.ensures.fails

@@ -10,6 +10,7 @@ use Rattle.fl_frame.proofs.ReadsInTurn.{looks_by, looks_more}
 use Rattle.fl_check.proofs.LooksChangeNothing.{fits_still, fails_later}
 use Rattle.fl_check.proofs.RulesTold.{if_ok_both}
 use Rattle.fl_frame.specs.Causes.{ReadFails}
+use Rattle.fl_check.proofs.TableRings.{room_in, within, some_blocks, some_lies, some_room, kept_room}
 use Rattle.fl_check.proofs.table.Checked.find_misled.Goals as goal
 
 pub returns-clause-blobs : goal.returns-clause-blobs
@@ -56,3 +57,28 @@ returns-clause-fails g c =
     let looks = looks_by f mid c.args.var.marks.kept c.find_reaches.ensures.reads in
     let late = g.F.Flash.state c.find_misleading.new.flash in
     IfErr-weaker c.find_misleading.result (λ e. ReadFails mid e late) (λ e. ReadFails f e late) (λ e. fails_later f mid late e looks) c.find_misleading.ensures.fails
+
+pub unnumbered-ring-requires-clause-blocks : goal.unnumbered-ring-requires-clause-blocks
+unnumbered-ring-requires-clause-blocks g c = some_blocks c.args.self.now.config.now.var c.args.place c.requires.place c.requires.fits.limits.var
+
+pub unnumbered-ring-requires-clause-lies : goal.unnumbered-ring-requires-clause-lies
+unnumbered-ring-requires-clause-lies g c = some_lies c.args.self.now.config.now.var c.args.place c.requires.place (g.F.Flash.state c.args.flash.now).blocks c.requires.fits.var
+
+pub unnumbered-ring-requires-clause-few : goal.unnumbered-ring-requires-clause-few
+unnumbered-ring-requires-clause-few g c = c.requires.fits.few
+
+pub find_reaches-requires-clause-lies : goal.find_reaches-requires-clause-lies
+find_reaches-requires-clause-lies g c = c.unnumbered-ring.ensures.lies
+
+pub find_reaches-requires-clause-room : goal.find_reaches-requires-clause-room
+find_reaches-requires-clause-room g c =
+    room_in c.args.self.now.config.now (g.F.Flash.state c.args.flash.now) c.requires.fits c.args.place (shape_of c.unnumbered-ring.result) c.unnumbered-ring.ensures.shape c.requires.room
+
+pub find_reaches-requires-clause-within : goal.find_reaches-requires-clause-within
+find_reaches-requires-clause-within g c =
+    within c.args.self.now.config.now (g.F.Flash.state c.args.flash.now) c.requires.fits c.args.place (shape_of c.unnumbered-ring.result) c.unnumbered-ring.ensures.shape c.args.var.marks c.requires.var
+
+pub find_reaches-requires-clause-listed : goal.find_reaches-requires-clause-listed
+find_reaches-requires-clause-listed g c =
+    let config = c.args.self.now.config.now in
+    kept_room c.requires.var.kept (some_room config.var c.args.place c.requires.place config.geometry.block _ c.requires.listed)
