@@ -17,7 +17,6 @@ use Rattle.fl_session.proofs.Resumed.{is-standing}
 use Rattle.fl_session.proofs.Scanned.{scans-all, scans-fault}
 use Rattle.fl_session.proofs.RowLines.{blobs-as}
 use Rattle.fl_session.proofs.RowsInTurn.{rows-by}
-use Rattle.fl_flash.specs.Buffer.{BufferState}
 use Rattle.fl_table.specs.Look.{layout_in}
 use Rattle.fl_session.proofs.ReplyCauses.{cause-earlier}
 use Rattle.fl_session.proofs.scans.list_rows.Goals as goal
@@ -78,23 +77,11 @@ give_rows-listed-requires-clause-few g c = c.form_of-form.ensures.few
 pub returns-in-Ok-clause-counts : goal.returns-in-Ok-clause-counts
 returns-in-Ok-clause-counts g c = c.give_rows-listed.ensures.counts
 
-pub returns-in-Ok-clause-rows : goal.returns-in-Ok-clause-rows
-returns-in-Ok-clause-rows g c = ap (λ (b : BufferState). length b.bytes) c.park.ensures.rows_buf ∙ (c.give_rows-listed.ensures.keeps.rows_room ∙ ap (λ (b : BufferState). length b.bytes) c.begin-cursor.ensures.rows_forget)
-
-pub returns-in-Ok-clause-index : goal.returns-in-Ok-clause-index
-returns-in-Ok-clause-index g c = ap (λ (b : BufferState). length b.bytes) c.park.ensures.index_buf ∙ (c.give_rows-listed.ensures.keeps.index_room ∙ ap (λ (b : BufferState). length b.bytes) c.begin-cursor.ensures.index_forget)
-
 pub returns-in-Ok-clause-right : goal.returns-in-Ok-clause-right
 returns-in-Ok-clause-right g c = (refl, refl)
 
 pub returns-in-Err-clause-counts : goal.returns-in-Err-clause-counts
 returns-in-Err-clause-counts g c = c.give_rows-listed.ensures.counts
-
-pub returns-in-Err-clause-rows : goal.returns-in-Err-clause-rows
-returns-in-Err-clause-rows g c = ap (λ (b : BufferState). length b.bytes) c.park.ensures.rows_buf ∙ (c.give_rows-listed.ensures.keeps.rows_room ∙ ap (λ (b : BufferState). length b.bytes) c.begin-cursor.ensures.rows_forget)
-
-pub returns-in-Err-clause-index : goal.returns-in-Err-clause-index
-returns-in-Err-clause-index g c = ap (λ (b : BufferState). length b.bytes) c.park.ensures.index_buf ∙ (c.give_rows-listed.ensures.keeps.index_room ∙ ap (λ (b : BufferState). length b.bytes) c.begin-cursor.ensures.index_forget)
 
 pub returns-in-Err-clause-right : goal.returns-in-Err-clause-right
 returns-in-Err-clause-right g c = (refl, refl)

@@ -1,4 +1,4 @@
-use Rattle.std.proofs.Common.{◌≡◌, ◌^◌, ◌<◌, Some, rules, refl, ap, arith, inl, inr}
+use Rattle.std.proofs.Common.{◌≡◌, ◌^◌, ◌<◌, Some, rules, refl, ap, subst, inl, inr}
 use Rattle.std.specs.List.{slice_get}
 use Rattle.fl_flash.specs.declared.flash.Work.{Work}
 use Rattle.fl_session.proofs.AnyLines.{looks-pairs}
@@ -54,7 +54,7 @@ pub returns-clause-step : goal.returns-clause-step
 returns-clause-step g c = λ config old h.
     let before : c.work-before.result.reads ≡ c.args.self.now.flash.work.reads = ap (λ (w : Work). w.reads) c.work-before.ensures in
     let fits : c.work-before.result.reads < 2 ^ 64 = search rules in
-    let small : c.args.self.now.flash.work.reads < 2 ^ 64 = omega (arith, fits, before) in
+    let small : c.args.self.now.flash.work.reads < 2 ^ 64 = subst (λ n. n < 2 ^ 64) before fits in
     let left : slice_get c.args.self.now.tables.entries.items c.in-Ok.at ≡ Some c.index.result.now = reached-here c.args.self.now.tables.entries.items _ _ c.in-Ok.at c.index.result.now c.in-Ok.ensures c.index.ensures in
     let right : slice_get c.args.self.now.tables.entries.items c.in-Ok-find.at ≡ Some c.index-2.result.now = reached-here c.args.self.now.tables.entries.items _ _ c.in-Ok-find.at c.index-2.result.now c.in-Ok-find.ensures c.index-2.ensures in
     join-executes _ config old _ c.args.left c.args.right _ _ _ c.args.range _ _ _ c.in-Ok.at c.in-Ok-find.at c.index.result.now c.index-2.result.now c.table-left_table.result.now c.table-right_table.result.now _ _ h c.in-Ok.ensures left c.in-Ok-find.ensures right c.table-left_table.ensures c.table-right_table.ensures c.join.ensures.reads_only

@@ -1,4 +1,4 @@
-use Rattle.std.proofs.Common.{◌≡◌, ◌-◌, ◌^◌, ◌<◌, Some, rules, ap, arith, inl, inr}
+use Rattle.std.proofs.Common.{◌≡◌, ◌-◌, ◌^◌, ◌<◌, Some, rules, ap, subst, arith, inl, inr}
 use Rattle.std.specs.List.{slice_get}
 use Rattle.fl_flash.specs.declared.flash.Work.{Work}
 use Rattle.fl_table.specs.BlobAt.{has_blobs}
@@ -44,7 +44,7 @@ pub returns-clause-step : goal.returns-clause-step
 returns-clause-step g c = λ config old h.
     let before : c.work-before.result.reads ≡ c.args.self.now.flash.work.reads = ap (λ (w : Work). w.reads) c.work-before.ensures in
     let fits : c.work-before.result.reads < 2 ^ 64 = search rules in
-    let small : c.args.self.now.flash.work.reads < 2 ^ 64 = omega (arith, fits, before) in
+    let small : c.args.self.now.flash.work.reads < 2 ^ 64 = subst (λ n. n < 2 ^ 64) before fits in
     let after : c.work.result.reads ≡ c.list_rows-written.new.flash.work.reads = ap (λ (w : Work). w.reads) c.work.ensures in
     let reads : c.saturating_sub-reads.result ≡ c.list_rows-written.new.flash.work.reads - c.args.self.now.flash.work.reads = omega (arith, c.saturating_sub-reads.ensures, before, after) in
     let here : slice_get c.args.self.now.tables.entries.items c.in-Ok.at ≡ Some c.index.result.now = reached-here c.args.self.now.tables.entries.items _ _ c.in-Ok.at c.index.result.now c.in-Ok.ensures c.index.ensures in
