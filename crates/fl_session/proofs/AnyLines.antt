@@ -88,7 +88,7 @@ ended AreLines Ends most told mid now count result last h ends wrote = record {
 module _ (AreLines : List Reply → Type 0) (ending : ℕ → Reply) (most : ℕ) (Sound : Type 0) (IsBad : BadPage → Type 0) (f g : FlashState) (told mid now : Option (List ℕ)) (result : Result (Unit {0}) SinkFailed) where
   -- all were given
   pub list-ends : (count : ℕ) → (count < most → Sound) → GivesLines AreLines IsBad most told mid (Ok count) → Written mid now result (text (ending count)) → ListSays AreLines (EndsBy ending most Sound IsBad f g) told now result
-  list-ends count sound h wrote = ended AreLines (EndsBy ending most Sound IsBad f g) most told mid now count result (ending count) h (h.upto, inl (refl, λ taken. sound)) wrote
+  list-ends count sound h wrote = ended AreLines (EndsBy ending most Sound IsBad f g) most told mid now count result (ending count) h (record { upto = h.upto; either = inl (refl, λ taken. sound) }) wrote
 
   -- .. or the sink failed, or a page wasn't read
   pub list-fails : (why : ListFault) → GivesLines AreLines IsBad most told mid (Err why) → IfUnread f g why → SaysFault why mid now result → ListSays AreLines (EndsBy ending most Sound IsBad f g) told now result
@@ -99,14 +99,14 @@ module _ (AreLines : List Reply → Type 0) (ending : ℕ → Reply) (most : ℕ
         lines = h.lines;
         are_lines = h.are_lines;
         last = ending (length h.lines);
-        ends = (h.upto, inl (refl, λ taken. absurd (untaken taken)));
+        ends = record { upto = h.upto; either = inl (refl, λ taken. absurd (untaken taken)) };
         written = front-last h.lines (ending (length h.lines)) told mid h.wrote;
       }))
     where
       untaken : false ≡ true → ⊥
       untaken e = cc
-  list-fails (Read (fault.Flash e)) h caused said = ended AreLines (EndsBy ending most Sound IsBad f g) most told mid now h.0.0 result reply.ReadFault h.0.1 (h.0.1.upto, inr (e, caused)) said
-  list-fails (Read (fault.BadPage bad)) h caused said = ended AreLines (EndsBy ending most Sound IsBad f g) most told mid now h.0.0 result (reply.BadPage bad.wanted) h.0.1 (h.0.1.upto, inr (bad, refl, h.1)) said
+  list-fails (Read (fault.Flash e)) h caused said = ended AreLines (EndsBy ending most Sound IsBad f g) most told mid now h.0.0 result reply.ReadFault h.0.1 (record { upto = h.0.1.upto; either = inr (e, caused) }) said
+  list-fails (Read (fault.BadPage bad)) h caused said = ended AreLines (EndsBy ending most Sound IsBad f g) most told mid now h.0.0 result (reply.BadPage bad.wanted) h.0.1 (record { upto = h.0.1.upto; either = inr (bad, refl, h.1) }) said
 
 -- .. and it is said how many they are
 pub list-ended : (AreLines : List Reply → Type 0) (Sound : Type 0) (IsBad : BadPage → Type 0) (f g : FlashState) (told mid now : Option (List ℕ)) (result : Result (Unit {0}) SinkFailed) (listed : Result ℕ ListFault) → IfOk listed (λ count. count < 2 ^ 64 - 1 → Sound) → GivesLines AreLines IsBad (2 ^ 64 - 1) told mid listed → IfErr listed (IfUnread f g) → SaysEnd listed mid now result →
@@ -147,8 +147,12 @@ lists-of_both range t u v w f g told told_now result left right h =
 -- what a cursor's list ends with, by its mark
 module _ (cursor : Cursor 64 64) (mark : Bookmark) (t : Table 64 64) (f g : FlashState) (same : table_of cursor ≡ t) (turn : IsSoundAhead cursor (contents_of f) → PassesNoBad mark t f) where
   scan-ends : (taken : Bool) (count : ℕ) (last : Reply) → EndsAt cursor f g taken count last → EndsScan mark t f g taken count last
-  scan-ends taken count last (few, inl (is, sound)) = (few, inl (is, λ took less. turn (sound took less)))
-  scan-ends taken count last (few, inr unread) = (few, inr (subst (λ (x : Table 64 64). IsUnread (MayBeBad x (contents_of f)) f g last) same unread))
+  scan-ends taken count last ended = record { upto = ended.upto; either = by_end ended.either }
+    where
+      by_end : ((last ≡ reply.EndCount count) × (taken ≡ true → count < 2 ^ 64 - 1 → IsSoundAhead cursor (contents_of f))) ⊎ IsUnread (MayBeBad (table_of cursor) (contents_of f)) f g last →
+          ((last ≡ reply.EndCount count) × (taken ≡ true → count < 2 ^ 64 - 1 → PassesNoBad mark t f)) ⊎ IsUnread (MayBeBad t (contents_of f)) f g last
+      by_end (inl (is, sound)) = inl (is, λ took less. turn (sound took less))
+      by_end (inr unread) = inr (subst (λ (x : Table 64 64). IsUnread (MayBeBad x (contents_of f)) f g last) same unread)
 
   pub lists-scan : (AreLines : List Reply → Type 0) (told now : Option (List ℕ)) (result : Result (Unit {0}) SinkFailed) → ListSays AreLines (EndsAt cursor f g) told now result → ListSays AreLines (EndsScan mark t f g) told now result
   lists-scan AreLines told now result h = record { lines = h.lines; are_lines = h.are_lines; last = h.last; ends = scan-ends (is_ok result) (length h.lines) h.last h.ends; written = h.written }
@@ -156,18 +160,20 @@ module _ (cursor : Cursor 64 64) (mark : Bookmark) (t : Table 64 64) (f g : Flas
 -- .. and that of two
 module _ (left right : Cursor 64 64) (a b : Bookmark) (t u : Table 64 64) (f g : FlashState) (left_is : table_of left ≡ t) (right_is : table_of right ≡ u)
     (left_turn : IsSoundAhead left (contents_of f) → PassesNoBad a t f) (right_turn : IsSoundAhead right (contents_of f) → PassesNoBad b u f) where
-  either : IsSoundAhead left (contents_of f) ⊎ IsSoundAhead right (contents_of f) → PassesNoBad a t f ⊎ PassesNoBad b u f
-  either (inl s) = inl (left_turn s)
-  either (inr s) = inr (right_turn s)
+  one_sound : IsSoundAhead left (contents_of f) ⊎ IsSoundAhead right (contents_of f) → PassesNoBad a t f ⊎ PassesNoBad b u f
+  one_sound (inl s) = inl (left_turn s)
+  one_sound (inr s) = inr (right_turn s)
 
   pair-ends : (taken : Bool) (count : ℕ) (last : Reply) → EndsAtBoth left right f g taken count last → EndsOnBoth a b t u f g taken count last
-  pair-ends taken count last (few, inl (is, sound)) = (few, inl (is, λ took less. either (sound took less)))
-  pair-ends taken count last (few, inr unread) = (
-    few,
-    inr
-        (subst (λ (x : Table 64 64). IsUnread (λ bad. MayBeBad t (contents_of f) bad ⊎ MayBeBad x (contents_of f) bad) f g last) right_is
-        (subst (λ (x : Table 64 64). IsUnread (λ bad. MayBeBad x (contents_of f) bad ⊎ MayBeBad (table_of right) (contents_of f) bad) f g last) left_is unread)),
-  )
+  pair-ends taken count last ended = record { upto = ended.upto; either = by_end ended.either }
+    where
+      by_end : ((last ≡ reply.EndCount count) × (taken ≡ true → count < 2 ^ 64 - 1 → IsSoundAhead left (contents_of f) ⊎ IsSoundAhead right (contents_of f))) ⊎ IsUnread (λ bad. MayBeBad (table_of left) (contents_of f) bad ⊎ MayBeBad (table_of right) (contents_of f) bad) f g last →
+          ((last ≡ reply.EndCount count) × (taken ≡ true → count < 2 ^ 64 - 1 → PassesNoBad a t f ⊎ PassesNoBad b u f)) ⊎ IsUnread (λ bad. MayBeBad t (contents_of f) bad ⊎ MayBeBad u (contents_of f) bad) f g last
+      by_end (inl (is, sound)) = inl (is, λ took less. one_sound (sound took less))
+      by_end (inr unread) =
+          inr
+          (subst (λ (x : Table 64 64). IsUnread (λ bad. MayBeBad t (contents_of f) bad ⊎ MayBeBad x (contents_of f) bad) f g last) right_is
+          (subst (λ (x : Table 64 64). IsUnread (λ bad. MayBeBad x (contents_of f) bad ⊎ MayBeBad (table_of right) (contents_of f) bad) f g last) left_is unread))
 
   pub lists-pairs : (told now : Option (List ℕ)) (result : Result (Unit {0}) SinkFailed) → ListSays (AllByRecursion IsPair) (EndsAtBoth left right f g) told now result → ListSays (AllByRecursion IsPair) (EndsOnBoth a b t u f g) told now result
   lists-pairs told now result h = record { lines = h.lines; are_lines = h.are_lines; last = h.last; ends = pair-ends (is_ok result) (length h.lines) h.last h.ends; written = h.written }

@@ -94,11 +94,11 @@ module _ (f g : FlashState) (only : OnlyReads f g) where
   pub named-bad : (t : Table 64 64) (key : ℕ) (at : BlobRef) → FindsRow t key f (λ row. row.blob ≡ Some at) → (bad : BadPage) → IsBadIn t g at bad → IsBadNamed t key f bad
   named-bad t key at found bad h = names t key f at found (λ x. IsBadIn t f x bad) (λ told. in-held at bad (data_in t) (h (tells-read f g only told)))
 
-  -- .. on which the bytes go on that a reader has left, which is another one now
-  pub ahead-held : (first mid : BlobReader) (e : ReadFault) → (Reads first f → Reads mid g) → (Reads first f → (bad : BadPage) → IsBadAhead mid g bad → IsBadAhead first f bad) → 1 ≤ count_left mid → (has_here mid ≡ true → ⊥) →
-      (Reads mid g → IfBad (IsBadLater (data_of mid) g (page_of mid + 1)) e) → IfBad (MayBeBadAhead first f) e
-  ahead-held first mid (fault.Flash x) ready ahead some given h = tt
-  ahead-held first mid (fault.BadPage bad) ready ahead some given h = λ reads. ahead reads bad (next-bad mid g bad (ready reads) some given (h (ready reads)))
+-- .. on which the bytes go on that a reader has left, which is another one now
+pub ahead-held : (f g : FlashState) (first mid : BlobReader) (e : ReadFault) → (Reads first f → Reads mid g) → (Reads first f → (bad : BadPage) → IsBadAhead mid g bad → IsBadAhead first f bad) → 1 ≤ count_left mid → (has_here mid ≡ true → ⊥) →
+    (Reads mid g → IfBad (IsBadLater (data_of mid) g (page_of mid + 1)) e) → IfBad (MayBeBadAhead first f) e
+ahead-held f g first mid (fault.Flash x) ready ahead some given h = tt
+ahead-held f g first mid (fault.BadPage bad) ready ahead some given h = λ reads. ahead reads bad (next-bad mid g bad (ready reads) some given (h (ready reads)))
 
 -- no page is behind where no byte is left
 pub none-behind : (r : BlobReader) (f : FlashState) → false ≡ nat_lt 0 (count_left r) → IsThereBehind r f

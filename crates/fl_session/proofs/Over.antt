@@ -21,7 +21,7 @@ use Rattle.fl_session.specs.Standing.{SessionStands, IsSound, AreForgotten, Rest
 use Rattle.fl_session.specs.declared.notes.TableCursor.{TableCursor}
 use Rattle.fl_session.specs.declared.buffers.Buffers.{Buffers}
 use Rattle.fl_session.specs.Run.{RanFrom, around_of, IsOfCommands, refused_status}
-use Rattle.fl_session.specs.declared.status.Status.TheVariants.{Usage, MediaMake, OtherConfig}
+use Rattle.fl_session.specs.declared.status.Status.TheVariants.{Usage, MediaMake, NoMemory, OtherConfig, OutWrite, ScriptRead}
 use Rattle.fl_config.specs.declared.image.ImageRefusal.{ImageRefusal}
 use Rattle.fl_config.specs.declared.image.ImageRefusal.TheVariants.{Media, Other}
 use Rattle.fl_base.specs.Causes.{Rose}
@@ -200,3 +200,16 @@ opens-goes len head old (Err (Other wanted found at)) new h = record { tells = h
 
 pub media-goes_on : (old mid new : MediaState) → MediaGoes old mid → MediaGoes mid new → MediaGoes old new
 media-goes_on old mid new a b = record { tells = b.tells ∙ a.tells; faults = le_trans a.faults b.faults }
+
+-- a run that wants memory ends in no other way
+pub memory-words : NoMemory ≡ Usage → ⊥
+memory-words e = cc
+
+pub memory-read : NoMemory ≡ ScriptRead → ⊥
+memory-read e = cc
+
+pub memory-write : NoMemory ≡ OutWrite → ⊥
+memory-write e = cc
+
+pub memory-make : NoMemory ≡ MediaMake → ⊥
+memory-make e = cc

@@ -108,6 +108,14 @@ module _ (config : Config) (m : Machine) (entries : List Entry) (notes : Notes) 
           let rests = subst (λ b. MatchBool b (logged.Stands entry.0.table f (first_of config.plans at) plan table) (logged.Rests f (first_of config.plans at) plan table)) off (h.tables.each at plan entry.0 table p entry.1 t).on_flash in
           rows-zero plan.name table.pending (ap (λ (x : model.Table). x.pending) rests.settled.lost)
 
+  -- .. nor behind the last table
+  pub pending-past : length entries ≤ at → here ≡ None
+  pending-past past = by_plan (slice_get config.plans at) refl
+    where
+      by_plan : (plan : Option Plan) → slice_get config.plans at ≡ plan → pending_of plan (slice_get m.tables at) ≡ None
+      by_plan None p = refl
+      by_plan (Some plan) p = absurd (omega (arith, slice_get_within config.plans at plan p, h.tables.as_many, past))
+
   -- the table at a place tells what is pending of it
   module _ (entry : Entry) (t : Table 64 64) (rows : ℕ) (on : mounted ≡ true) (e : slice_get entries at ≡ Some entry) (table_is : t ≡ table_in entry.table)
       (tells : (f : FlashState) (first : ℕ) (plan : Plan) (table : model.Table) → Stands t f first plan table → rows ≡ table.pending) where

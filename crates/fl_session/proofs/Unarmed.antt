@@ -1,5 +1,5 @@
 -- Where no cut is armed no command says that the power was lost, and only a cut arms one.
-use Rattle.std.proofs.Common.{◌≡◌, ℕ, zero, suc, ◌-◌, ◌^◌, ◌⊎◌, Bool, true, false, inl, inr, Option, Some, None, Result, Ok, Err, IfErr, List, [], ◌∷◌, ◌++◌, length, map, refl, sym, ◌∙◌, ap, subst}
+use Rattle.std.proofs.Common.{◌≡◌, ℕ, zero, suc, ◌-◌, ◌^◌, ◌<◌, ◌⊎◌, Bool, true, false, inl, inr, Option, Some, None, Result, Ok, Err, IfErr, List, [], ◌∷◌, ◌++◌, length, map, refl, sym, ◌∙◌, ap, subst}
 use Rattle.std.specs.Prelude.{◌==◌, if◌then◌else◌, is_ok, ℤ}
 use Rattle.std.specs.List.{AllByRecursion}
 use Rattle.fl_base.specs.declared.stream.SinkFailed.{SinkFailed}
@@ -103,8 +103,11 @@ listed AreLines Ends told told_now result h others ends = record {
 
 -- what ends them
 end-other : (ending : ℕ → Reply) (most : ℕ) (Sound : Type 0) (IsBad : BadPage → Type 0) (f g : FlashState) → ((count : ℕ) → ending count ≡ reply.PowerLost → ⊥) → (taken : Bool) (count : ℕ) (last : Reply) → EndsBy ending most Sound IsBad f g taken count last → last ≡ reply.PowerLost → ⊥
-end-other ending most Sound IsBad f g never taken count last (few, inl (same, sound)) is = never count (sym same ∙ is)
-end-other ending most Sound IsBad f g never taken count last (few, inr unread) is = subst (IsUnread IsBad f g) is unread
+end-other ending most Sound IsBad f g never taken count last ended is = by_end ended.either
+  where
+    by_end : ((last ≡ ending count) × (taken ≡ true → count < most → Sound)) ⊎ IsUnread IsBad f g last → ⊥
+    by_end (inl (same, sound)) = never count (sym same ∙ is)
+    by_end (inr unread) = subst (IsUnread IsBad f g) is unread
 
 count-other : (count : ℕ) → reply.EndCount count ≡ reply.PowerLost → ⊥
 count-other count e = cc

@@ -86,8 +86,9 @@ IsUnread IsBad old new _ = ⊥
 
 -- What ends a list of so many lines: what is said of their number, or that a page wasn't read. The former is all of them, so that it
 -- is sound, where it was written and they are fewer than the list may have.
-abbrev pub EndsBy : (ℕ → Reply) → ℕ → Type 0 → (BadPage → Type 0) → FlashState → FlashState → Bool → ℕ → Reply → Type 0
-EndsBy ending most Sound IsBad old new taken count last = (count ≤ most) × (((last ≡ ending count) × (taken ≡ true → count < most → Sound)) ⊎ IsUnread IsBad old new last)
+pub record EndsBy (ending : ℕ → Reply) (most : ℕ) (Sound : Type 0) (IsBad : BadPage → Type 0) (old new : FlashState) (taken : Bool) (count : ℕ) (last : Reply) : Type 0 where
+  pub upto : count ≤ most
+  pub either : ((last ≡ ending count) × (taken ≡ true → count < most → Sound)) ⊎ IsUnread IsBad old new last
 
 -- .. whose number is told
 abbrev pub EndsCounted : Type 0 → (BadPage → Type 0) → FlashState → FlashState → Bool → ℕ → Reply → Type 0

@@ -1,9 +1,10 @@
 -- A flash on which a sound table lies stands for a table of the model, where the table is as runs leave it.
-use Rattle.std.proofs.Common.{◌≡◌, ℕ, ◌+◌, ◌*◌, ◌%◌, ◌≤◌, ◌<◌, ◌++◌, ◌∷◌, false, cond, nat_lt, Option, Some, None, IfSome, List, [], length, map, filter, refl, sym, ◌∙◌, ap, subst, arith}
-use Rattle.std.specs.List.{AllByRecursion, list_any}
+use Rattle.std.proofs.Common.{◌≡◌, ℕ, ◌+◌, ◌-◌, ◌*◌, ◌%◌, ◌≤◌, ◌<◌, ◌++◌, ◌∷◌, Bool, false, cond, nat_lt, Option, Some, None, IfSome, List, [], length, map, filter, refl, sym, ◌∙◌, ap, subst, arith}
+use Rattle.std.specs.List.{AllByRecursion, list_any, slice_get}
+use Rattle.std.proofs.lemmas.Bool.{true≢false}
 use Rattle.fl_base.specs.declared.types.Geometry.{Geometry}
 use Rattle.fl_base.specs.declared.types.RingPlace.{RingPlace}
-use Rattle.fl_check.specs.SoundImages.{RingImage, OfPlace, BlobsLead, PagesFit, IsNumbered, IsAsRunsLeave, StandsSettled, HasImage}
+use Rattle.fl_check.specs.SoundImages.{RingImage, OfPlace, BlobsLead, PagesFit, IsNumbered, NumbersAreLeft, IsAsRunsLeave, StandsSettled, HasImage}
 use Rattle.fl_check.specs.Whole.{shape_in}
 use Rattle.fl_check.specs.declared.numbering.Numbering.{Numbering}
 use Rattle.fl_check.proofs.SoundImages.{sound-images}
@@ -11,7 +12,7 @@ use Rattle.fl_check.proofs.TableFacts.{stands-settled}
 use Rattle.fl_flash.specs.Flash.{FlashState, page_at}
 use Rattle.fl_model.specs.Agrees.{BlobsOf}
 use Rattle.fl_model.specs.Bare.{bare, bare_table}
-use Rattle.fl_model.specs.Facts.{FitsPlan, IsContent, IsSettled, counts_in}
+use Rattle.fl_model.specs.Facts.{FitsPlan, IsContent, IsSettled, counts_in, is_some_ring}
 use Rattle.fl_model.specs.Image.{IsRingImage, HoldsEntries, HoldsContent, HoldsLogged}
 use Rattle.fl_model.specs.Mount.{index_end, blob_end}
 use Rattle.fl_model.specs.Record.{Plan, blocks_of, rows_per_page}
@@ -269,6 +270,14 @@ module _ (label : Label) (config : TableConfig) (log : Option RingPlace) (f : Fl
           logged_some = image.fit.logged_some;
         }
 
+  -- numbers are left, and no row has a blob
+  as_left : plan.var_blocks ≡ 0 → NumbersAreLeft plan table → IsAsRunsLeave plan table
+  as_left none left = record { numbers = left; begin = λ i entry blob here is some. no-ring table.var entry.page (image.fit.has_rings.1 ∙ ap {B = Bool} (λ (n : ℕ). nat_lt 0 n) none) }
+    where
+      no-ring : (o : Option Ring) (number : ℕ) → is_some_ring o ≡ false → IfSome o (λ ring. oldest ring ≤ number → slice_get ring.counts (number - oldest ring) ≡ Some 0 → ⊥)
+      no-ring None number is = tt
+      no-ring (Some ring) number is = absurd (true≢false is)
+
   found : HasTable config log f plan rows kept voids
   found = record {
     table = table;
@@ -277,6 +286,7 @@ module _ (label : Label) (config : TableConfig) (log : Option RingPlace) (f : Fl
     numbered = image.numbered;
     behind = image.behind;
     stands = image.stands;
+    as_left = as_left;
     mounts = bare-mounts;
     alone = λ none. bare-is plan table image.fit (none-logged none);
     rests = λ left log_is. rings-rest (image.stands.settled left log_is);

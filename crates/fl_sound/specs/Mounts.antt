@@ -1,7 +1,7 @@
 -- Sound tables, and what a mount finds there.
 use Rattle.std.specs.Prelude.{◌≡◌, ℕ, ◌+◌, ◌≤◌, IsTrue, Option, Some, None, length}
 use Rattle.fl_base.specs.declared.types.RingPlace.{RingPlace}
-use Rattle.fl_check.specs.SoundImages.{AreBehind, AreNumbered, IsAsRunsLeave, PagesFit, StandsSettled, TableImage}
+use Rattle.fl_check.specs.SoundImages.{AreBehind, AreNumbered, IsAsRunsLeave, NumbersAreLeft, PagesFit, StandsSettled, TableImage}
 use Rattle.fl_check.specs.Whole.{Fits, LogFits, IsFinding}
 use Rattle.fl_check.specs.declared.finding.Finding.TheVariants.{Sound}
 use Rattle.fl_flash.specs.Flash.{FlashState, page_at}
@@ -37,6 +37,8 @@ pub record HasTable (config : TableConfig) (log : Option RingPlace) (f : FlashSt
   pub numbered : AreNumbered config log (page_at f) table
   pub behind : AreBehind plan table
   pub stands : StandsSettled plan table
+  -- of a table without variable data, and so of each with a log, numbers that are left are all of it
+  pub as_left : plan.var_blocks ≡ 0 → NumbersAreLeft plan table → IsAsRunsLeave plan table
   -- what the mount of these rings asks, which is all that there is of a table without a log
   pub mounts : RestsToMount f config.rows.first_block (bare plan) (bare_table table)
   pub alone : log ≡ None → bare_table table ≡ table

@@ -14,7 +14,8 @@ pub fn tables_are_sound()
 /// Where a check finds a table sound, the flash's pages are the image of a table of the model with as many rows, kept pages and void ones,
 /// and with the numbers that the rules give to them. If the table has no log, a mount ends as the clause `alone` of `LoggedTable::mount`
 /// says. The flash stands for that table if page numbers are left, no blob begins in a void page, and its log is as runs leave it. So a
-/// mount ends as the clause `ends` of `LoggedTable::mount` says, and whatever records its log has, as the clause `apart` does.
+/// mount ends as the clause `ends` of `LoggedTable::mount` says, and whatever records its log has, as the clause `apart` does; for that a
+/// table without variable data, as each with a log is, needs only numbers, which are left while no put is refused for want of them.
 pub fn sound_tables_mount()
     ensures { SoundTablesMount }
 {}

@@ -1,7 +1,7 @@
-use Rattle.std.proofs.Common.{◌≡◌, ◌+◌, true, false, Ok, Err, [], ◌∷◌, ◌++◌, length-append, refl, ◌∙◌, ap, subst, arith}
+use Rattle.std.proofs.Common.{rules, ◌≡◌, ◌+◌, true, false, Ok, Err, [], ◌∷◌, ◌++◌, length-append, refl, ◌∙◌, ap, subst, arith, sym}
 use Rattle.std.proofs.lemmas.Result.{err_from_is_err_and}
 use Rattle.fl_base.specs.Causes.{Appends, AppendsFront}
-use Rattle.fl_cursor.specs.Cursor.{table_of, mark_of, present_of, has_ended, IfBad, MayBeBad}
+use Rattle.fl_cursor.specs.Cursor.{table_of, mark_of, present_of, has_ended, IfBad, MayBeBad, IsReady}
 use Rattle.fl_cursor.specs.Going.{Goes, Fails}
 use Rattle.fl_cursor.specs.Sound.{IsSoundAhead}
 use Rattle.fl_cursor.proofs.StepsOfRows.{steps-after}
@@ -17,6 +17,8 @@ use Rattle.fl_session.specs.RowsGiven.{MovesOver}
 use Rattle.fl_session.proofs.AnyLines.{bad-from, wrote-as, wrote-into, wrote-more, wrote-none}
 use Rattle.fl_session.proofs.GivenRows.{gave-none, gave-next, gave-failed, gives-fault, gives-all, least-ended}
 use Rattle.fl_session.proofs.RowsInTurn.{over-more, over-none, over-same}
+use Rattle.std.proofs.Math.Nat.{le_trans}
+use Rattle.fl_store.proofs.CallsInTurn.{rose-back}
 use Rattle.fl_session.proofs.listing.give_rows.Goals as goal
 
 pub loop-given-init : goal.loop-given-init
@@ -228,3 +230,51 @@ returns-then-not-branch-clause-sound g c = λ less.
 
 pub returns-clause-sound : goal.returns-clause-sound
 returns-clause-sound g c = λ less. absurd (omega (arith, less))
+
+pub advance-requires : goal.advance-requires
+advance-requires g c = (search rules, subst (λ (k : Contents). IsReady c.loop-given.cursor k) (sym c.loop-given.invariant.counts.contents) c.loop-given.invariant.ready)
+
+pub returns-in_err-advance-clause-keeps : goal.returns-in_err-advance-clause-keeps
+returns-in_err-advance-clause-keeps g c = keeps-then c.args.cursor.now c.loop-given.cursor c.advance.new.self c.loop-given.invariant.keeps c.in_err-advance.ensures.fails.keeps
+
+pub returns-in_err-advance-clause-later : goal.returns-in_err-advance-clause-later
+returns-in_err-advance-clause-later g c = c.loop-given.invariant.later
+
+pub returns-in_err-advance-clause-sink : goal.returns-in_err-advance-clause-sink
+returns-in_err-advance-clause-sink g c = let p = err_from_is_err_and c.from_residual.result c.from_residual.ensures.1 in rw (p.1, p.2) tt
+
+pub returns-in_err-advance-clause-sound : goal.returns-in_err-advance-clause-sound
+returns-in_err-advance-clause-sound g c = let p = err_from_is_err_and c.from_residual.result c.from_residual.ensures.1 in rw p.1 tt
+
+pub returns-then-not-branch-clause-keeps : goal.returns-then-not-branch-clause-keeps
+returns-then-not-branch-clause-keeps g c = keeps-then c.args.cursor.now c.loop-given.cursor c.advance.new.self c.loop-given.invariant.keeps c.in_ok-advance.ensures.goes.keeps
+
+pub returns-then-not-branch-clause-later : goal.returns-then-not-branch-clause-later
+returns-then-not-branch-clause-later g c = c.loop-given.invariant.later
+
+pub show_row-requires-clause-few : goal.show_row-requires-clause-few
+show_row-requires-clause-few g c = c.requires.few
+
+pub returns-in_err-show_row-clause-keeps : goal.returns-in_err-show_row-clause-keeps
+returns-in_err-show_row-clause-keeps g c = keeps-then c.args.cursor.now c.loop-given.cursor c.advance.new.self c.loop-given.invariant.keeps c.in_ok-advance.ensures.goes.keeps
+
+pub returns-in_err-show_row-clause-later : goal.returns-in_err-show_row-clause-later
+returns-in_err-show_row-clause-later g c = le_trans c.loop-given.invariant.later c.show_row.ensures.cause.later
+
+pub returns-in_err-show_row-clause-sink : goal.returns-in_err-show_row-clause-sink
+returns-in_err-show_row-clause-sink g c = let p = err_from_is_err_and c.from_residual-in_err-show_row.result c.from_residual-in_err-show_row.ensures.1 in rw (p.1, p.2) (rose-back _ _ _ c.loop-given.invariant.later c.in_err-show_row.ensures.cause.failed)
+
+pub returns-in_err-show_row-clause-unread : goal.returns-in_err-show_row-clause-unread
+returns-in_err-show_row-clause-unread g c = let p = err_from_is_err_and c.from_residual-in_err-show_row.result c.from_residual-in_err-show_row.ensures.1 in rw (p.1, p.2) tt
+
+pub returns-in_err-show_row-clause-sound : goal.returns-in_err-show_row-clause-sound
+returns-in_err-show_row-clause-sound g c = let p = err_from_is_err_and c.from_residual-in_err-show_row.result c.from_residual-in_err-show_row.ensures.1 in rw p.1 tt
+
+pub returns-clause-counts : goal.returns-clause-counts
+returns-clause-counts g c = c.loop-given.invariant.counts
+
+pub returns-clause-keeps : goal.returns-clause-keeps
+returns-clause-keeps g c = c.loop-given.invariant.keeps
+
+pub returns-clause-later : goal.returns-clause-later
+returns-clause-later g c = c.loop-given.invariant.later

@@ -1,4 +1,4 @@
-use Rattle.std.proofs.Common.{◌≡◌, ◌<◌, ◌^◌, None, List, length, map, sym, ◌∙◌, ap, subst, arith, ◌≤◌}
+use Rattle.std.proofs.Common.{rules, ◌≡◌, ◌<◌, ◌^◌, None, List, length, map, sym, ◌∙◌, ap, subst, arith, ◌≤◌}
 use Rattle.std.proofs.lemmas.List.{length-map}
 use Rattle.std.specs.List.{AllByRecursion}
 use Rattle.fl_cursor.specs.Cursor.{present_of, left_of, table_of, IsReady, IsTold}
@@ -69,3 +69,12 @@ returns-clause-says g c =
     (λ s. subst (λ (m : Bookmark). IsSoundOver c.args.table.now (contents_of (g.F.Flash.state c.args.flash.now)) (asked_by m)) c.begin-cursor.ensures.mark
     (c.begin-cursor.ensures.sound (contents_of (g.F.Flash.state c.args.flash.now)) (subst (λ (k : Cursor 64 64). IsSoundAhead k (contents_of (g.F.Flash.state c.args.flash.now))) c.new-groups.ensures.rows s)))
     (AllByRecursion IsGroup) _ _ _ c.list_groups.ensures.says
+
+pub returns-clause-reads_only : goal.returns-clause-reads_only
+returns-clause-reads_only g c = c.list_groups.ensures.reads_only
+
+pub returns-clause-cause : goal.returns-clause-cause
+returns-clause-cause g c = c.list_groups.ensures.cause
+
+pub begin-cursor-requires : goal.begin-cursor-requires
+begin-cursor-requires g c = (search rules, (search rules, c.requires.running))

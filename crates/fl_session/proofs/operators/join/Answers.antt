@@ -1,4 +1,4 @@
-use Rattle.std.proofs.Common.{◌≡◌, ◌+◌, ◌<◌, ◌≤◌, ◌^◌, None, List, length, map, ◌∙◌, ap, subst, arith}
+use Rattle.std.proofs.Common.{rules, ◌≡◌, ◌+◌, ◌<◌, ◌≤◌, ◌^◌, None, List, length, map, ◌∙◌, ap, subst, arith}
 use Rattle.std.proofs.lemmas.List.{length-map}
 use Rattle.fl_cursor.specs.Cursor.{left_of}
 use Rattle.fl_cursor.specs.Reads.{most_of}
@@ -62,3 +62,15 @@ returns-clause-says g c =
     c.begin-left_rows.ensures.table c.begin-right_rows.ensures.table
     (λ s. subst (λ (m : Bookmark). IsSoundOver c.args.left.now (contents_of (g.F.Flash.state c.args.flash.now)) (asked_by m)) c.begin-left_rows.ensures.mark (c.begin-left_rows.ensures.sound (contents_of (g.F.Flash.state c.args.flash.now)) s))
     (λ s. subst (λ (m : Bookmark). IsSoundOver c.args.right.now (contents_of (g.F.Flash.state c.args.flash.now)) (asked_by m)) c.begin-right_rows.ensures.mark (c.begin-right_rows.ensures.sound (contents_of (g.F.Flash.state c.args.flash.now)) s)) _ _ _ c.answer_pairs.ensures.says
+
+pub returns-clause-reads_only : goal.returns-clause-reads_only
+returns-clause-reads_only g c = c.answer_pairs.ensures.reads_only
+
+pub returns-clause-cause : goal.returns-clause-cause
+returns-clause-cause g c = c.answer_pairs.ensures.cause
+
+pub begin-left_rows-requires : goal.begin-left_rows-requires
+begin-left_rows-requires g c = (search rules, (search rules, c.requires.left_running))
+
+pub begin-right_rows-requires : goal.begin-right_rows-requires
+begin-right_rows-requires g c = (search rules, (search rules, c.requires.right_running))

@@ -25,3 +25,9 @@ returns-clause-counted g c = λ told few on.
 
 pub returns-clause-says : goal.returns-clause-says
 returns-clause-says g c = lists-made (AllByRecursion IsGroup) _ _ _ _ c.answer_lines.ensures.says (λ last lines h. h)
+
+pub returns-clause-reads_only : goal.returns-clause-reads_only
+returns-clause-reads_only g c = c.answer_lines.ensures.reads_only
+
+pub returns-clause-cause : goal.returns-clause-cause
+returns-clause-cause g c = c.answer_lines.ensures.cause

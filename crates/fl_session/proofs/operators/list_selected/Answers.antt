@@ -31,3 +31,9 @@ pub returns-clause-says : goal.returns-clause-says
 returns-clause-says g c =
     lists-made (AreRising IsRow (above_of (asked_of (input_of c.args.lines.now.rows)))) _ _ _ _ c.answer_lines.ensures.says
     (λ last lines h. are-rising IsRow (above_of (asked_of (input_of c.args.lines.now.rows))) _ lines h)
+
+pub returns-clause-reads_only : goal.returns-clause-reads_only
+returns-clause-reads_only g c = c.answer_lines.ensures.reads_only
+
+pub returns-clause-cause : goal.returns-clause-cause
+returns-clause-cause g c = c.answer_lines.ensures.cause

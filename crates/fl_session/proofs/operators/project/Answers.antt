@@ -1,4 +1,4 @@
-use Rattle.std.proofs.Common.{◌≡◌, ◌<◌, ◌^◌, ℕ, ℤ, None, List, length, map, slice_index, sym, ◌∙◌, ap, subst, arith, ◌≤◌}
+use Rattle.std.proofs.Common.{rules, ◌≡◌, ◌<◌, ◌^◌, ℕ, ℤ, None, List, length, map, slice_index, sym, ◌∙◌, ap, subst, arith, ◌≤◌}
 use Rattle.std.specs.List.{AllByRecursion}
 use Rattle.fl_cursor.specs.Cursor.{table_of, left_of, IsTold}
 use Rattle.fl_cursor.specs.Reads.{most_of, least_of}
@@ -67,3 +67,12 @@ returns-clause-says g c =
     (λ s. subst (λ (m : Bookmark). IsSoundOver c.args.table.now (contents_of (g.F.Flash.state c.args.flash.now)) (asked_by m)) c.begin-cursor.ensures.mark
     (c.begin-cursor.ensures.sound (contents_of (g.F.Flash.state c.args.flash.now)) (subst (λ (k : Cursor 64 64). IsSoundAhead k (contents_of (g.F.Flash.state c.args.flash.now))) c.new-rows.ensures.rows s)))
     (AllByRecursion (IsFields (length (columns_of c.new-rows.result)))) _ _ _ c.list_projected.ensures.says)
+
+pub returns-clause-reads_only : goal.returns-clause-reads_only
+returns-clause-reads_only g c = c.list_projected.ensures.reads_only
+
+pub returns-clause-cause : goal.returns-clause-cause
+returns-clause-cause g c = c.list_projected.ensures.cause
+
+pub begin-cursor-requires : goal.begin-cursor-requires
+begin-cursor-requires g c = (search rules, (search rules, c.requires.running))

@@ -76,3 +76,12 @@ returns-clause-says g c =
     (λ s. subst (λ (m : Bookmark). IsSoundOver c.args.table.now (contents_of (g.F.Flash.state c.args.flash.now)) (asked_by m)) c.begin-cursor.ensures.mark
     (c.begin-cursor.ensures.sound (contents_of (g.F.Flash.state c.args.flash.now)) (subst (λ (k : Cursor 64 64). IsSoundAhead k (contents_of (g.F.Flash.state c.args.flash.now))) c.new-rows.ensures.rows s)))
     (AreRising IsRow (above_of (asked_of (input_of c.new-rows.result)))) _ _ _ c.list_selected.ensures.says)
+
+pub returns-clause-reads_only : goal.returns-clause-reads_only
+returns-clause-reads_only g c = c.list_selected.ensures.reads_only
+
+pub returns-clause-cause : goal.returns-clause-cause
+returns-clause-cause g c = c.list_selected.ensures.cause
+
+pub begin-cursor-requires : goal.begin-cursor-requires
+begin-cursor-requires g c = (search rules, (search rules, c.requires.running))

@@ -10,6 +10,8 @@ use Rattle.fl_session.specs.ListSays.{WroteLines}
 use Rattle.fl_session.specs.Lines.{LineSteps, IsFirstLine, MadeFrom}
 use Rattle.fl_session.proofs.AnyLines.{bad-by, made-line, wrote-as, wrote-into, wrote-more, wrote-none}
 use Rattle.fl_session.proofs.LinesListed.{front-none, front-next, front-failed, front-count, front-read}
+use Rattle.std.proofs.Math.Nat.{le_trans}
+use Rattle.fl_store.proofs.CallsInTurn.{rose-back}
 use Rattle.fl_session.proofs.reply_lines.list_lines.Goals as goal
 
 pub loop-count-init : goal.loop-count-init
@@ -188,3 +190,42 @@ returns-in_default-clause-sound g c = λ less.
 
 pub returns-clause-sound : goal.returns-clause-sound
 returns-clause-sound g c = λ less. absurd (omega (arith, less))
+
+pub returns-in_err-line-clause-names : goal.returns-in_err-line-clause-names
+returns-in_err-line-clause-names g c = c.next_line.ensures.names ∙ c.loop-count.invariant.names
+
+pub returns-in_err-line-clause-stays_ready : goal.returns-in_err-line-clause-stays_ready
+returns-in_err-line-clause-stays_ready g c = λ contents ready. c.next_line.ensures.stays_ready contents (c.loop-count.invariant.ready contents ready)
+
+pub returns-in_default-clause-names : goal.returns-in_default-clause-names
+returns-in_default-clause-names g c = c.next_line.ensures.names ∙ c.loop-count.invariant.names
+
+pub returns-in_default-clause-stays_ready : goal.returns-in_default-clause-stays_ready
+returns-in_default-clause-stays_ready g c = λ contents ready. c.next_line.ensures.stays_ready contents (c.loop-count.invariant.ready contents ready)
+
+pub returns-in_err-write_reply-clause-names : goal.returns-in_err-write_reply-clause-names
+returns-in_err-write_reply-clause-names g c = c.next_line.ensures.names ∙ c.loop-count.invariant.names
+
+pub returns-in_err-write_reply-clause-stays_ready : goal.returns-in_err-write_reply-clause-stays_ready
+returns-in_err-write_reply-clause-stays_ready g c = λ contents ready. c.next_line.ensures.stays_ready contents (c.loop-count.invariant.ready contents ready)
+
+pub returns-clause-reads_only : goal.returns-clause-reads_only
+returns-clause-reads_only g c = c.loop-count.invariant.reads_only
+
+pub returns-clause-names : goal.returns-clause-names
+returns-clause-names g c = c.loop-count.invariant.names
+
+pub returns-clause-stays_ready : goal.returns-clause-stays_ready
+returns-clause-stays_ready g c = c.loop-count.invariant.ready
+
+pub returns-in_err-line-clause-cause : goal.returns-in_err-line-clause-cause
+returns-in_err-line-clause-cause g c = let p = err_from_is_err_and c.from_residual.result c.from_residual.ensures.1 in record { later = c.loop-count.invariant.later; failed = rw (p.1, p.2) tt }
+
+pub returns-in_default-clause-cause : goal.returns-in_default-clause-cause
+returns-in_default-clause-cause g c = record { later = c.loop-count.invariant.later; failed = tt }
+
+pub returns-in_err-write_reply-clause-cause : goal.returns-in_err-write_reply-clause-cause
+returns-in_err-write_reply-clause-cause g c = let p = err_from_is_err_and c.from_residual-in_err-write_reply.result c.from_residual-in_err-write_reply.ensures.1 in record { later = le_trans c.loop-count.invariant.later c.write_reply.ensures.cause.later; failed = rw (p.1, p.2) (rose-back _ _ _ c.loop-count.invariant.later c.in_err-write_reply.ensures.cause.failed) }
+
+pub returns-clause-cause : goal.returns-clause-cause
+returns-clause-cause g c = record { later = c.loop-count.invariant.later; failed = tt }

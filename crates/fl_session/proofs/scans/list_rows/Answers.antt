@@ -1,4 +1,4 @@
-use Rattle.std.proofs.Common.{◌+◌, ◌-◌, ◌^◌, ◌<◌, ◌≤◌, ◌∙◌, Ok, Err, length, subst, arith}
+use Rattle.std.proofs.Common.{rules, ◌+◌, ◌-◌, ◌^◌, ◌<◌, ◌≤◌, ◌∙◌, Ok, Err, length, subst, arith, refl, sym, ap}
 use Rattle.fl_model.specs.Limits.{scan_limit}
 use Rattle.fl_model.specs.Query.{selected}
 use Rattle.fl_frame.specs.Contents.{contents_of}
@@ -17,6 +17,8 @@ use Rattle.fl_session.proofs.Resumed.{is-standing}
 use Rattle.fl_session.proofs.Scanned.{scans-all, scans-fault}
 use Rattle.fl_session.proofs.RowLines.{blobs-as}
 use Rattle.fl_session.proofs.RowsInTurn.{rows-by}
+use Rattle.fl_table.specs.Look.{layout_in}
+use Rattle.fl_session.proofs.ReplyCauses.{cause-earlier}
 use Rattle.fl_session.proofs.scans.list_rows.Goals as goal
 
 pub returns-in-Ok-clause-scans : goal.returns-in-Ok-clause-scans
@@ -59,3 +61,33 @@ returns-in-Err-clause-scans g c = λ first plan t tells on stands.
     let few : length (selected c.args.range c.args.span t.entries) < 2 ^ 64 - 1 = few-selected c.args.table.now f first plan t stands c.args.range c.args.span in
     scans-fault plan c.form_of-form.result.blobs t c.args.range c.args.span (2 ^ 64 - 1) c.begin-cursor.result c.give_rows-listed.new.cursor (contents_of f) _ (g.K.Sink.written c.give_rows-listed.new.out) _ f (g.F.Flash.state c.give_rows-listed.new.flash) _ (c.form_of-form.ensures.blobs ∙ blobs-as c.args.table.now f first plan t stands) are few within
     c.in-Err.fault (c.in-Err.ensures.gives told) on c.in-Err.ensures.unread c.write_fault.ensures.says
+
+pub begin-cursor-requires : goal.begin-cursor-requires
+begin-cursor-requires g c = (search rules, (search rules, c.requires.running))
+
+pub give_rows-listed-requires-clause-ready : goal.give_rows-listed-requires-clause-ready
+give_rows-listed-requires-clause-ready g c = c.begin-cursor.ensures.ready (g.F.Flash.state c.args.flash.now) c.requires.lies c.requires.room.0 c.requires.room.1
+
+pub give_rows-listed-requires-clause-columns : goal.give_rows-listed-requires-clause-columns
+give_rows-listed-requires-clause-columns g c = c.form_of-form.ensures.columns ∙ ap (λ (t : Table 64 64). length (layout_in t).columns) (sym c.begin-cursor.ensures.table)
+
+pub give_rows-listed-requires-clause-few : goal.give_rows-listed-requires-clause-few
+give_rows-listed-requires-clause-few g c = c.form_of-form.ensures.few
+
+pub returns-in-Ok-clause-counts : goal.returns-in-Ok-clause-counts
+returns-in-Ok-clause-counts g c = c.give_rows-listed.ensures.counts
+
+pub returns-in-Ok-clause-right : goal.returns-in-Ok-clause-right
+returns-in-Ok-clause-right g c = (refl, refl)
+
+pub returns-in-Err-clause-counts : goal.returns-in-Err-clause-counts
+returns-in-Err-clause-counts g c = c.give_rows-listed.ensures.counts
+
+pub returns-in-Err-clause-right : goal.returns-in-Err-clause-right
+returns-in-Err-clause-right g c = (refl, refl)
+
+pub returns-in-Ok-clause-cause : goal.returns-in-Ok-clause-cause
+returns-in-Ok-clause-cause g c = cause-earlier _ _ _ c.write_reply.result c.give_rows-listed.ensures.later c.write_reply.ensures.cause
+
+pub returns-in-Err-clause-cause : goal.returns-in-Err-clause-cause
+returns-in-Err-clause-cause g c = c.write_fault.ensures.cause (g.K.Sink.faults c.args.out.now) c.give_rows-listed.ensures.later c.in-Err.ensures.sink

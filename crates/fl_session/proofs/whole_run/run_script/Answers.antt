@@ -1,4 +1,4 @@
-use Rattle.std.proofs.Common.{◌≡◌, inl, inr, [], IsTrue, Ok, Err, refl, sym, ◌∙◌, subst}
+use Rattle.std.proofs.Common.{◌≡◌, inl, inr, [], IsTrue, Ok, Err, refl, sym, ◌∙◌, subst, le_trans}
 use Rattle.fl_words.specs.Medium.{header}
 use Rattle.fl_model.specs.Image.{medium_len}
 use Rattle.fl_image.proofs.Made.{whole-of, makes-of}
@@ -9,8 +9,10 @@ use Rattle.fl_session.specs.CausedEach.{causes_of}
 use Rattle.fl_session.proofs.CausesInTurn.{causes-opened, causes-refused}
 use Rattle.fl_session.proofs.NextCommand.{nothing-added}
 use Rattle.fl_session.proofs.RunEnds.{begins-takes, ends-in_begin, script-over, commands-early}
-use Rattle.fl_session.proofs.Over.{ends-opened, opens-as, opens-goes, media-goes_on, ends-refused, script-refused, early-refused, make-refused, commands-words}
+use Rattle.fl_session.proofs.Over.{ends-opened, opens-as, opens-goes, media-goes_on, ends-refused, script-refused, early-refused, make-refused, commands-words, memory-words, memory-read, memory-write, memory-make}
 use Rattle.fl_session.proofs.Fresh.{new-blank, none-of}
+use Rattle.fl_store.proofs.CallsInTurn.{rose-back}
+use Rattle.fl_session.proofs.CommandReplies.{no-more}
 use Rattle.fl_session.proofs.whole_run.run_script.Goals as goal
 
 pub returns-in-Err-clause-ends : goal.returns-in-Err-clause-ends
@@ -122,3 +124,84 @@ returns-in_default-new-2-clause-script g c = λ text l. (tt, inr (begins-takes 6
 
 pub returns-in_default-new-2-clause-causes : goal.returns-in_default-new-2-clause-causes
 returns-in_default-new-2-clause-causes g c = λ text l. ((refl, refl), inr (begins-takes 64 text _ _ _ _ _ (c.in-Ok-read_config.ensures.begins 64 text l)))
+
+pub returns-in_default-clause-words : goal.returns-in_default-clause-words
+returns-in_default-clause-words g c = memory-words
+
+pub returns-in_default-clause-read : goal.returns-in_default-clause-read
+returns-in_default-clause-read g c = λ e. absurd (memory-read e)
+
+pub returns-in_default-clause-write : goal.returns-in_default-clause-write
+returns-in_default-clause-write g c = λ e. absurd (memory-write e)
+
+pub returns-in_default-clause-make : goal.returns-in_default-clause-make
+returns-in_default-clause-make g c = λ e. absurd (memory-make e)
+
+pub returns-in_default-clause-goes : goal.returns-in_default-clause-goes
+returns-in_default-clause-goes g c = record { tells = refl; faults = no-more _ _ refl }
+
+pub returns-in_default-clause-later : goal.returns-in_default-clause-later
+returns-in_default-clause-later g c = (no-more _ _ refl, no-more _ _ refl)
+
+pub returns-in_default-new-clause-words : goal.returns-in_default-new-clause-words
+returns-in_default-new-clause-words g c = memory-words
+
+pub returns-in_default-new-clause-read : goal.returns-in_default-new-clause-read
+returns-in_default-new-clause-read g c = λ e. absurd (memory-read e)
+
+pub returns-in_default-new-clause-write : goal.returns-in_default-new-clause-write
+returns-in_default-new-clause-write g c = λ e. absurd (memory-write e)
+
+pub returns-in_default-new-clause-make : goal.returns-in_default-new-clause-make
+returns-in_default-new-clause-make g c = λ e. absurd (memory-make e)
+
+pub returns-in_default-new-clause-goes : goal.returns-in_default-new-clause-goes
+returns-in_default-new-clause-goes g c = record { tells = refl; faults = no-more _ _ refl }
+
+pub returns-in_default-new-clause-later : goal.returns-in_default-new-clause-later
+returns-in_default-new-clause-later g c = (no-more _ _ refl, no-more _ _ refl)
+
+pub returns-in_default-new-2-clause-words : goal.returns-in_default-new-2-clause-words
+returns-in_default-new-2-clause-words g c = memory-words
+
+pub returns-in_default-new-2-clause-read : goal.returns-in_default-new-2-clause-read
+returns-in_default-new-2-clause-read g c = λ e. absurd (memory-read e)
+
+pub returns-in_default-new-2-clause-write : goal.returns-in_default-new-2-clause-write
+returns-in_default-new-2-clause-write g c = λ e. absurd (memory-write e)
+
+pub returns-in_default-new-2-clause-make : goal.returns-in_default-new-2-clause-make
+returns-in_default-new-2-clause-make g c = λ e. absurd (memory-make e)
+
+pub returns-in_default-new-2-clause-goes : goal.returns-in_default-new-2-clause-goes
+returns-in_default-new-2-clause-goes g c = record { tells = refl; faults = no-more _ _ refl }
+
+pub returns-in_default-new-2-clause-later : goal.returns-in_default-new-2-clause-later
+returns-in_default-new-2-clause-later g c = (c.read_config.ensures.later, no-more _ _ refl)
+
+pub returns-in-Err-clause-read : goal.returns-in-Err-clause-read
+returns-in-Err-clause-read g c = c.in-Err.ensures.read
+
+pub returns-in-Err-clause-goes : goal.returns-in-Err-clause-goes
+returns-in-Err-clause-goes g c = record { tells = refl; faults = no-more _ _ refl }
+
+pub returns-in-Err-clause-later : goal.returns-in-Err-clause-later
+returns-in-Err-clause-later g c = (c.read_config.ensures.later, no-more _ _ refl)
+
+pub returns-in-Ok-open_image-clause-read : goal.returns-in-Ok-open_image-clause-read
+returns-in-Ok-open_image-clause-read g c = λ e. rose-back _ _ _ c.read_config.ensures.later (c.run_session.ensures.read e)
+
+pub returns-in-Ok-open_image-clause-write : goal.returns-in-Ok-open_image-clause-write
+returns-in-Ok-open_image-clause-write g c = c.run_session.ensures.write
+
+pub returns-in-Ok-open_image-clause-later : goal.returns-in-Ok-open_image-clause-later
+returns-in-Ok-open_image-clause-later g c = (le_trans c.read_config.ensures.later c.run_session.ensures.later.0, c.run_session.ensures.later.1)
+
+pub returns-clause-later : goal.returns-clause-later
+returns-clause-later g c = (c.read_config.ensures.later, no-more _ _ refl)
+
+pub run_session-requires-clause-whole : goal.run_session-requires-clause-whole
+run_session-requires-clause-whole g c = c.in-Ok-read_config.ensures.whole
+
+pub run_session-requires-clause-in_hand : goal.run_session-requires-clause-in_hand
+run_session-requires-clause-in_hand g c = c.in-Ok-read_config.ensures.in_hand

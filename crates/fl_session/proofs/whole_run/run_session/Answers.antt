@@ -19,3 +19,18 @@ pub returns-clause-form : goal.returns-clause-form
 returns-clause-form g c =
     let e : g.M.Media.state c.media-1.given.0 ≡ g.M.Media.state c.end-media.result.now = search rules in
     flash-keeps _ _ _ _ c.over-session.ensures.medium (e ∙ c.end-media.ensures.state) c.over-session.ensures.start c.run_first-status.ensures.goes
+
+pub returns-clause-read : goal.returns-clause-read
+returns-clause-read g c = c.run_first-status.ensures.read
+
+pub returns-clause-write : goal.returns-clause-write
+returns-clause-write g c = c.run_first-status.ensures.write
+
+pub returns-clause-statuses : goal.returns-clause-statuses
+returns-clause-statuses g c = c.run_first-status.ensures.statuses
+
+pub returns-clause-later : goal.returns-clause-later
+returns-clause-later g c = c.run_first-status.ensures.later
+
+pub run_first-status-requires-clause-in_hand : goal.run_first-status-requires-clause-in_hand
+run_first-status-requires-clause-in_hand g c = c.requires.in_hand

@@ -18,3 +18,30 @@ returns-clause-makes g c = λ first before h.
       text_is = refl;
       is_line = (c.step.ensures.columns ∙ h.0, each-more (IsFields (length (columns_of first))) before (Fields c.fields_of-fields.result.items) h.1 many);
     }
+
+pub returns-in_err-step-clause-reads_only : goal.returns-in_err-step-clause-reads_only
+returns-in_err-step-clause-reads_only g c = c.step.ensures.reads_only
+
+pub returns-in_err-step-clause-names : goal.returns-in_err-step-clause-names
+returns-in_err-step-clause-names g c = c.step.ensures.input.same_names
+
+pub returns-in_err-step-clause-stays_told : goal.returns-in_err-step-clause-stays_told
+returns-in_err-step-clause-stays_told g c = c.step.ensures.input.stays_told
+
+pub returns-then-not-branch-clause-reads_only : goal.returns-then-not-branch-clause-reads_only
+returns-then-not-branch-clause-reads_only g c = c.step.ensures.reads_only
+
+pub returns-then-not-branch-clause-names : goal.returns-then-not-branch-clause-names
+returns-then-not-branch-clause-names g c = c.step.ensures.input.same_names
+
+pub returns-then-not-branch-clause-stays_told : goal.returns-then-not-branch-clause-stays_told
+returns-then-not-branch-clause-stays_told g c = c.step.ensures.input.stays_told
+
+pub returns-clause-reads_only : goal.returns-clause-reads_only
+returns-clause-reads_only g c = c.step.ensures.reads_only
+
+pub returns-clause-names : goal.returns-clause-names
+returns-clause-names g c = c.step.ensures.input.same_names
+
+pub returns-clause-stays_told : goal.returns-clause-stays_told
+returns-clause-stays_told g c = c.step.ensures.input.stays_told

@@ -1,4 +1,4 @@
-use Rattle.std.proofs.Common.{◌≡◌, ◌^◌, ◌<◌, ◌≤◌, length, Some, rules, refl, sym, ◌∙◌, ap, map, [], ◌∷◌, arith, inl, inr}
+use Rattle.std.proofs.Common.{◌≡◌, ◌^◌, ◌<◌, ◌≤◌, length, Some, rules, refl, sym, ◌∙◌, ap, map, [], ◌∷◌, subst, inl, inr}
 use Rattle.std.specs.List.{AllByRecursion, slice_get}
 use Rattle.fl_flash.specs.declared.flash.Work.{Work}
 use Rattle.fl_model.specs.Operators as operators
@@ -18,6 +18,7 @@ use Rattle.fl_session.proofs.Sound.{sound-roomed}
 use Rattle.fl_session.proofs.Operations.{operator-executes, operator-no_column, operator-refused, has-column, lacks-column}
 use Rattle.fl_session.proofs.ReplyCauses.{refusal-says, says-written, is-here, lacks-one, lacks-says, has-one, has-says}
 use Rattle.fl_store.proofs.Queried.{lies-unlogged, runs-unlogged}
+use Rattle.fl_frame.proofs.CallsInTurn.{goes-same}
 use Rattle.fl_session.proofs.session.Session.aggregate.Goals as goal
 
 pub returns-in-Err-clause-step : goal.returns-in-Err-clause-step
@@ -42,7 +43,7 @@ pub returns-clause-step : goal.returns-clause-step
 returns-clause-step g c = λ config old h.
     let before : c.work-before.result.reads ≡ c.args.self.now.flash.work.reads = ap (λ (w : Work). w.reads) c.work-before.ensures in
     let fits : c.work-before.result.reads < 2 ^ 64 = search rules in
-    let small : c.args.self.now.flash.work.reads < 2 ^ 64 = omega (arith, fits, before) in
+    let small : c.args.self.now.flash.work.reads < 2 ^ 64 = subst (λ n. n < 2 ^ 64) before fits in
     let within : c.args.column ≤ length (layout_in c.table-table.result.now).columns = search rules in
     let here : slice_get c.args.self.now.tables.entries.items c.in-Ok.at ≡ Some c.index.result.now = reached-here c.args.self.now.tables.entries.items _ _ c.in-Ok.at c.index.result.now c.in-Ok.ensures c.index.ensures in
     operator-executes _ config old _ c.args.name _ _ _
@@ -92,3 +93,30 @@ returns-clause-cause g c =
     let here : slice_get c.args.self.now.tables.entries.items c.in-Ok.at ≡ Some c.index.result.now = reached-here c.args.self.now.tables.entries.items _ _ c.in-Ok.at c.index.result.now c.in-Ok.ensures c.index.ensures in
     let within : c.args.column ≤ length (layout_in c.table-table.result.now).columns = search rules in
     inr (c.in-Ok.at, c.index.result.now, is-here _ c.args.name c.in-Ok.at c.index.result.now c.in-Ok.ensures here, has-says _ _ _ c.args.range (AllByRecursion IsGroup) c.index.result.now _ _ _ _ (sym (ap (λ (t : Table 64 64). lacked_column (layout_in t) (c.args.column ∷ [])) c.table-table.ensures) ∙ has-one (layout_in c.table-table.result.now) c.args.column within) (looks-lists _ _ _ _ _ (λ (t : Table 64 64). AllByRecursion IsGroup) (EndsRange c.args.range) _ _ _ _ _ _ _ refl c.aggregate.ensures.reads_only c.table-table.ensures c.aggregate.ensures.says))
+
+pub returns-in-Err-clause-sound : goal.returns-in-Err-clause-sound
+returns-in-Err-clause-sound g c = c.requires.sound
+
+pub returns-in-Err-clause-goes : goal.returns-in-Err-clause-goes
+returns-in-Err-clause-goes g c = goes-same _
+
+pub returns-in-Err-clause-sink : goal.returns-in-Err-clause-sink
+returns-in-Err-clause-sink g c = c.write_reply.ensures.cause
+
+pub returns-then-columns-column-clause-sound : goal.returns-then-columns-column-clause-sound
+returns-then-columns-column-clause-sound g c = c.requires.sound
+
+pub returns-then-columns-column-clause-goes : goal.returns-then-columns-column-clause-goes
+returns-then-columns-column-clause-goes g c = goes-same _
+
+pub returns-then-columns-column-clause-sink : goal.returns-then-columns-column-clause-sink
+returns-then-columns-column-clause-sink g c = c.write_reply-then-columns-column.ensures.cause
+
+pub returns-clause-sink : goal.returns-clause-sink
+returns-clause-sink g c = c.aggregate.ensures.cause
+
+pub aggregate-requires-clause-room : goal.aggregate-requires-clause-room
+aggregate-requires-clause-room g c = c.requires.sound.room
+
+pub aggregate-requires-clause-width : goal.aggregate-requires-clause-width
+aggregate-requires-clause-width g c = c.requires.width

@@ -3,6 +3,7 @@ use Rattle.std.specs.Option.{is_none}
 use Rattle.fl_session.proofs.CursorsOf.{close-off, close-none, close-open}
 use Rattle.fl_session.proofs.ReplyCauses.{closed-as, noted, open-as}
 use Rattle.fl_words.specs.Reply as reply
+use Rattle.fl_frame.proofs.CallsInTurn.{goes-same}
 use Rattle.fl_session.proofs.session.Session.close.Goals as goal
 
 pub returns-then-not-self-clause-step : goal.returns-then-not-self-clause-step
@@ -47,3 +48,27 @@ returns-clause-cause g c =
         noted _ _ _ _ _ c.set_cursor.ensures,
       ));
     }
+
+pub returns-then-not-self-clause-sound : goal.returns-then-not-self-clause-sound
+returns-then-not-self-clause-sound g c = c.requires.sound
+
+pub returns-then-not-self-clause-goes : goal.returns-then-not-self-clause-goes
+returns-then-not-self-clause-goes g c = goes-same _
+
+pub returns-then-not-self-clause-reads : goal.returns-then-not-self-clause-reads
+returns-then-not-self-clause-reads g c = refl
+
+pub returns-then-is_none-clause-sound : goal.returns-then-is_none-clause-sound
+returns-then-is_none-clause-sound g c = c.requires.sound
+
+pub returns-then-is_none-clause-goes : goal.returns-then-is_none-clause-goes
+returns-then-is_none-clause-goes g c = goes-same _
+
+pub returns-then-is_none-clause-reads : goal.returns-then-is_none-clause-reads
+returns-then-is_none-clause-reads g c = refl
+
+pub returns-clause-goes : goal.returns-clause-goes
+returns-clause-goes g c = goes-same _
+
+pub returns-clause-reads : goal.returns-clause-reads
+returns-clause-reads g c = refl

@@ -8,6 +8,7 @@ use Rattle.fl_session.proofs.ReplyCauses.{on-refusal, is-here, flush-fails, kept
 use Rattle.fl_table.specs.Causes.{flush_breaks}
 use Rattle.fl_rlc.specs.Table.{is_running}
 use Rattle.fl_store.specs.Replies.{flush_reply}
+use Rattle.fl_frame.proofs.CallsInTurn.{goes-same}
 use Rattle.fl_session.proofs.session.Session.flush.Goals as goal
 
 pub returns-in-Err-clause-step : goal.returns-in-Err-clause-step
@@ -67,3 +68,18 @@ returns-clause-cause g c =
         },
       );
     }
+
+pub returns-in-Err-clause-sound : goal.returns-in-Err-clause-sound
+returns-in-Err-clause-sound g c = c.requires.sound
+
+pub returns-in-Err-clause-goes : goal.returns-in-Err-clause-goes
+returns-in-Err-clause-goes g c = goes-same _
+
+pub returns-in-Err-clause-reads : goal.returns-in-Err-clause-reads
+returns-in-Err-clause-reads g c = refl
+
+pub returns-clause-goes : goal.returns-clause-goes
+returns-clause-goes g c = c.flush-outcome.ensures.goes
+
+pub returns-clause-reads : goal.returns-clause-reads
+returns-clause-reads g c = c.flush-outcome.ensures.reads

@@ -1,4 +1,4 @@
-use Rattle.std.proofs.Common.{◌≡◌, ◌-◌, ◌^◌, ◌<◌, Some, rules, refl, ap, arith, inr}
+use Rattle.std.proofs.Common.{◌≡◌, ◌-◌, ◌^◌, ◌<◌, Some, rules, refl, ap, subst, arith, inr}
 use Rattle.std.specs.List.{slice_get}
 use Rattle.fl_flash.specs.declared.flash.Work.{Work}
 use Rattle.fl_session.specs.declared.cost.Cost.TheVariants.{OfGet}
@@ -8,6 +8,7 @@ use Rattle.fl_session.proofs.NamedTable.{reached-here, reached-within}
 use Rattle.fl_session.proofs.Sound.{sound-read}
 use Rattle.fl_session.proofs.ReplyCauses.{on-refusal, says-written, is-here, only-looks}
 use Rattle.fl_store.proofs.Queried.{lies-unlogged, runs-unlogged}
+use Rattle.fl_frame.proofs.CallsInTurn.{goes-same}
 use Rattle.fl_session.proofs.session.Session.get.Goals as goal
 
 pub returns-in-Err-clause-step : goal.returns-in-Err-clause-step
@@ -36,7 +37,7 @@ pub returns-clause-step : goal.returns-clause-step
 returns-clause-step g c = λ config old h.
     let before : c.work-before.result.reads ≡ c.args.self.now.flash.work.reads = ap (λ (w : Work). w.reads) c.work-before.ensures in
     let fits : c.work-before.result.reads < 2 ^ 64 = search rules in
-    let small : c.args.self.now.flash.work.reads < 2 ^ 64 = omega (arith, fits, before) in
+    let small : c.args.self.now.flash.work.reads < 2 ^ 64 = subst (λ n. n < 2 ^ 64) before fits in
     let after : c.work.result.reads ≡ c.look_up-reply.new.flash.work.reads = ap (λ (w : Work). w.reads) c.work.ensures in
     let reads : c.saturating_sub-reads.result ≡ c.look_up-reply.new.flash.work.reads - c.args.self.now.flash.work.reads = omega (arith, c.saturating_sub-reads.ensures, before, after) in
     let here : slice_get c.args.self.now.tables.entries.items c.in-Ok.at ≡ Some c.index.result.now = reached-here c.args.self.now.tables.entries.items _ _ c.in-Ok.at c.index.result.now c.in-Ok.ensures c.index.ensures in
@@ -58,3 +59,18 @@ returns-clause-cause g c =
       said_is = says.said_is;
       holds = inr (c.in-Ok.at, c.index.result.now, is-here _ c.args.name c.in-Ok.at c.index.result.now c.in-Ok.ensures here, (look-said c.table-table.result.now c.index.result.now c.args.key _ _ says.reply c.table-table.ensures says.holds, reads-few c.table-table.result.now c.index.result.now _ _ c.table-table.ensures c.look_up-reply.ensures.counts c.look_up-reply.ensures.few, (c.lookup_limit-limit.result, only-looks _ _ _ _ _ _ _ (ap (λ n. record c.args.self.now.notes { cost = OfGet n c.lookup_limit-limit.result }) reads) c.look_up-reply.ensures.counts)));
     }) c.write_reply-2.ensures.text
+
+pub returns-in-Err-clause-sound : goal.returns-in-Err-clause-sound
+returns-in-Err-clause-sound g c = c.requires.sound
+
+pub returns-in-Err-clause-goes : goal.returns-in-Err-clause-goes
+returns-in-Err-clause-goes g c = goes-same _
+
+pub returns-in-Err-clause-sink : goal.returns-in-Err-clause-sink
+returns-in-Err-clause-sink g c = c.write_reply.ensures.cause
+
+pub returns-clause-sink : goal.returns-clause-sink
+returns-clause-sink g c = c.write_reply-2.ensures.cause
+
+pub look_up-reply-requires-clause-room : goal.look_up-reply-requires-clause-room
+look_up-reply-requires-clause-room g c = c.requires.sound.room.0

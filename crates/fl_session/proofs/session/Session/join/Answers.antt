@@ -1,4 +1,4 @@
-use Rattle.std.proofs.Common.{◌≡◌, ◌^◌, ◌<◌, Some, rules, refl, ap, arith, inl, inr}
+use Rattle.std.proofs.Common.{◌≡◌, ◌^◌, ◌<◌, Some, rules, refl, ap, subst, inl, inr}
 use Rattle.std.specs.List.{slice_get}
 use Rattle.fl_flash.specs.declared.flash.Work.{Work}
 use Rattle.fl_session.proofs.AnyLines.{looks-pairs}
@@ -9,6 +9,7 @@ use Rattle.fl_session.proofs.NamedTable.{reached-here, reached-within}
 use Rattle.fl_session.proofs.Sound.{sound-roomed}
 use Rattle.fl_session.proofs.ReplyCauses.{reached-entry, refusal-says, says-written, is-here}
 use Rattle.fl_store.proofs.Queried.{lies-unlogged, runs-unlogged}
+use Rattle.fl_frame.proofs.CallsInTurn.{goes-same}
 use Rattle.fl_session.proofs.session.Session.join.Goals as goal
 
 pub returns-in-Err-clause-step : goal.returns-in-Err-clause-step
@@ -53,7 +54,7 @@ pub returns-clause-step : goal.returns-clause-step
 returns-clause-step g c = λ config old h.
     let before : c.work-before.result.reads ≡ c.args.self.now.flash.work.reads = ap (λ (w : Work). w.reads) c.work-before.ensures in
     let fits : c.work-before.result.reads < 2 ^ 64 = search rules in
-    let small : c.args.self.now.flash.work.reads < 2 ^ 64 = omega (arith, fits, before) in
+    let small : c.args.self.now.flash.work.reads < 2 ^ 64 = subst (λ n. n < 2 ^ 64) before fits in
     let left : slice_get c.args.self.now.tables.entries.items c.in-Ok.at ≡ Some c.index.result.now = reached-here c.args.self.now.tables.entries.items _ _ c.in-Ok.at c.index.result.now c.in-Ok.ensures c.index.ensures in
     let right : slice_get c.args.self.now.tables.entries.items c.in-Ok-find.at ≡ Some c.index-2.result.now = reached-here c.args.self.now.tables.entries.items _ _ c.in-Ok-find.at c.index-2.result.now c.in-Ok-find.ensures c.index-2.ensures in
     join-executes _ config old _ c.args.left c.args.right _ _ _ c.args.range _ _ _ c.in-Ok.at c.in-Ok-find.at c.index.result.now c.index-2.result.now c.table-left_table.result.now c.table-right_table.result.now _ _ h c.in-Ok.ensures left c.in-Ok-find.ensures right c.table-left_table.ensures c.table-right_table.ensures c.join.ensures.reads_only
@@ -82,3 +83,27 @@ returns-clause-cause g c =
       is-here _ c.args.left c.in-Ok.at c.index.result.now c.in-Ok.ensures left,
       inr (c.in-Ok-find.at, c.index-2.result.now, is-here _ c.args.right c.in-Ok-find.at c.index-2.result.now c.in-Ok-find.ensures right, looks-pairs _ _ _ _ _ c.args.range _ _ _ _ _ _ _ _ _ refl c.join.ensures.reads_only c.table-left_table.ensures c.table-right_table.ensures c.join.ensures.says),
     )
+
+pub returns-in-Err-clause-sound : goal.returns-in-Err-clause-sound
+returns-in-Err-clause-sound g c = c.requires.sound
+
+pub returns-in-Err-clause-goes : goal.returns-in-Err-clause-goes
+returns-in-Err-clause-goes g c = goes-same _
+
+pub returns-in-Err-clause-sink : goal.returns-in-Err-clause-sink
+returns-in-Err-clause-sink g c = c.write_reply.ensures.cause
+
+pub returns-in-Err-find-clause-sound : goal.returns-in-Err-find-clause-sound
+returns-in-Err-find-clause-sound g c = c.requires.sound
+
+pub returns-in-Err-find-clause-goes : goal.returns-in-Err-find-clause-goes
+returns-in-Err-find-clause-goes g c = goes-same _
+
+pub returns-in-Err-find-clause-sink : goal.returns-in-Err-find-clause-sink
+returns-in-Err-find-clause-sink g c = c.write_reply-in-Err-find.ensures.cause
+
+pub returns-clause-sink : goal.returns-clause-sink
+returns-clause-sink g c = c.join.ensures.cause
+
+pub join-requires-clause-room : goal.join-requires-clause-room
+join-requires-clause-room g c = c.requires.sound.room

@@ -4,6 +4,7 @@ use Rattle.fl_session.proofs.LoadLines.{load-executes, load-refused}
 use Rattle.fl_session.proofs.NamedTable.{reached-here, reached-within}
 use Rattle.fl_session.proofs.Sound.{runs-after, sound-with, stays-on}
 use Rattle.fl_session.proofs.ReplyCauses.{refusal-says, says-written, is-here}
+use Rattle.fl_frame.proofs.CallsInTurn.{goes-same}
 use Rattle.fl_session.proofs.session.Session.load.Goals as goal
 
 pub returns-in-Err-clause-step : goal.returns-in-Err-clause-step
@@ -51,3 +52,27 @@ returns-clause-cause g c =
         media_reads = c.load-loaded.ensures.media_reads;
       },
     )
+
+pub returns-in-Err-clause-sound : goal.returns-in-Err-clause-sound
+returns-in-Err-clause-sound g c = c.requires.sound
+
+pub returns-in-Err-clause-goes : goal.returns-in-Err-clause-goes
+returns-in-Err-clause-goes g c = goes-same _
+
+pub returns-in-Err-clause-sink : goal.returns-in-Err-clause-sink
+returns-in-Err-clause-sink g c = c.write_reply.ensures.cause
+
+pub returns-in-Err-clause-reads : goal.returns-in-Err-clause-reads
+returns-in-Err-clause-reads g c = refl
+
+pub returns-clause-sink : goal.returns-clause-sink
+returns-clause-sink g c = c.write.ensures.cause
+
+pub returns-clause-goes : goal.returns-clause-goes
+returns-clause-goes g c = c.load-loaded.ensures.goes
+
+pub returns-clause-reads : goal.returns-clause-reads
+returns-clause-reads g c = c.load-loaded.ensures.reads
+
+pub load-loaded-requires-clause-steps : goal.load-loaded-requires-clause-steps
+load-loaded-requires-clause-steps g c = c.requires.steps

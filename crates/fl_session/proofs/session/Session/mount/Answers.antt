@@ -71,3 +71,6 @@ returns-clause-sound g c =
     let e = c.mount-outcome.ensures in
     sound-mounted _ _ _ _ _ _ _ _ _ _ _ c.mount-outcome.result c.power_on.ensures e.goes e.lie c.is_ok-self.ensures.value e.running e.power (c.keep_while.ensures.rows ∙ e.room) c.keep_while.ensures.index c.keep_while.ensures.right c.keep_while.ensures.none
     (λ i x. no-cursor 4 i x) c.requires.sound
+
+pub returns-then-self-clause-sound : goal.returns-then-self-clause-sound
+returns-then-self-clause-sound g c = c.requires.sound

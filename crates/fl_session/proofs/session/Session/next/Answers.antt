@@ -1,4 +1,4 @@
-use Rattle.std.proofs.Common.{◌≡◌, ◌-◌, ◌^◌, ◌<◌, rules, Some, refl, ap, subst, arith, inl, inr}
+use Rattle.std.proofs.Common.{◌≡◌, ◌-◌, ◌^◌, ◌<◌, rules, Some, refl, ap, subst, inl, inr}
 use Rattle.std.specs.Prelude.{IfSome, Option, option_map, unwrap_or, length}
 use Rattle.std.specs.List.{slice_get}
 use Rattle.fl_flash.specs.declared.flash.Work.{Work}
@@ -11,6 +11,7 @@ use Rattle.fl_session.proofs.GetReplies.{goes-reads}
 use Rattle.fl_session.proofs.Sound.{sound-read, cursors-set}
 use Rattle.fl_words.specs.Reply as reply
 use Rattle.fl_store.proofs.Queried.{lies-unlogged, runs-unlogged}
+use Rattle.fl_frame.proofs.CallsInTurn.{goes-same}
 use Rattle.fl_session.proofs.session.Session.next.Goals as goal
 
 pub returns-then-not-self-clause-step : goal.returns-then-not-self-clause-step
@@ -45,7 +46,7 @@ pub returns-clause-step : goal.returns-clause-step
 returns-clause-step g c = λ config old h.
     let before : c.work-before.result.reads ≡ c.args.self.now.flash.work.reads = ap (λ (w : Work). w.reads) c.work-before.ensures in
     let fits : c.work-before.result.reads < 2 ^ 64 = search rules in
-    let small : c.args.self.now.flash.work.reads < 2 ^ 64 = omega (arith, fits, before) in
+    let small : c.args.self.now.flash.work.reads < 2 ^ 64 = subst (λ n. n < 2 ^ 64) before fits in
     let here : slice_get c.args.self.now.tables.entries.items c.in-Some.open.table ≡ Some c.index.result.now =
     item-there c.args.self.now.tables.entries.items _ c.in-Some.open.table c.index.result.now refl (c.requires.sound.cursors c.args.cursor c.in-Some.open c.in-Some.ensures) c.index.ensures in
     let fits_after : IfSome c.in-Some.open.mark.after (λ after. after < 2 ^ 64) = search rules in
@@ -66,3 +67,27 @@ returns-clause-cause g c =
       c.if-not-self.false,
       next-moves _ _ _ _ c.args.cursor c.args.count c.in-Some.open c.index.result.now _ c.next_rows-written.new.mark _ _ _ _ _ c.in-Some.ensures here c.set_cursor.ensures c.next_rows-written.ensures.counts c.table.ensures c.next_rows-written.ensures.lines,
     ))
+
+pub returns-then-not-self-clause-sound : goal.returns-then-not-self-clause-sound
+returns-then-not-self-clause-sound g c = c.requires.sound
+
+pub returns-then-not-self-clause-goes : goal.returns-then-not-self-clause-goes
+returns-then-not-self-clause-goes g c = goes-same _
+
+pub returns-then-not-self-clause-sink : goal.returns-then-not-self-clause-sink
+returns-then-not-self-clause-sink g c = c.write_reply.ensures.cause
+
+pub returns-in_default-clause-sound : goal.returns-in_default-clause-sound
+returns-in_default-clause-sound g c = c.requires.sound
+
+pub returns-in_default-clause-goes : goal.returns-in_default-clause-goes
+returns-in_default-clause-goes g c = goes-same _
+
+pub returns-in_default-clause-sink : goal.returns-in_default-clause-sink
+returns-in_default-clause-sink g c = c.write_reply-in_default.ensures.cause
+
+pub returns-clause-sink : goal.returns-clause-sink
+returns-clause-sink g c = c.next_rows-written.ensures.cause
+
+pub next_rows-written-requires-clause-room : goal.next_rows-written-requires-clause-room
+next_rows-written-requires-clause-room g c = c.requires.sound.room

@@ -48,3 +48,18 @@ returns-clause-cause g c =
       said_is = refl;
       holds = inr (c.in-Ok.at, c.index.result.now, is-here _ c.args.name c.in-Ok.at c.index.result.now c.in-Ok.ensures here, (refl, opened _ _ _ _ _ c.args.cursor c.in-Ok.at _ _ c.set_cursor.ensures (c.open_cursor-mark.ensures.mark ∙ ap (λ (t : Table 64 64). mark_on t c.args.range c.args.span) c.table-table.ensures)));
     }
+
+pub returns-in-Err-clause-sound : goal.returns-in-Err-clause-sound
+returns-in-Err-clause-sound g c = c.requires.sound
+
+pub returns-in-Err-clause-goes : goal.returns-in-Err-clause-goes
+returns-in-Err-clause-goes g c = goes-same _
+
+pub returns-in-Err-clause-reads : goal.returns-in-Err-clause-reads
+returns-in-Err-clause-reads g c = refl
+
+pub returns-clause-goes : goal.returns-clause-goes
+returns-clause-goes g c = goes-same _
+
+pub returns-clause-reads : goal.returns-clause-reads
+returns-clause-reads g c = refl

@@ -1,7 +1,7 @@
 use Rattle.std.proofs.Common.{◌≡◌, ◌<◌, Some, length, refl, sym, arith}
 use Rattle.std.specs.List.{slice_get}
 use Rattle.fl_store.proofs.TablesChanged.{item-there}
-use Rattle.fl_session.proofs.ToldOfTable.{none-off, none-past, pending-off, pending-some, pending-zero, rows-are, rows-none}
+use Rattle.fl_session.proofs.ToldOfTable.{none-off, none-past, pending-off, pending-some, pending-zero, rows-are, rows-none, pending-past}
 use Rattle.fl_session.proofs.session.Session.pending_at.Goals as goal
 
 pub returns-then-not-self-clause-holds : goal.returns-then-not-self-clause-holds
@@ -40,3 +40,6 @@ returns-clause-cause g c =
     let within : c.args.at < length entries = omega (arith, c.len.ensures, c.if-at-len.false) in
     let here : slice_get entries c.args.at ≡ Some c.index-entry.result.now = item-there entries (length entries) c.args.at c.index-entry.result.now refl within c.index-entry.ensures in
     rows-are c.args.self.now.tables.entries.items c.args.self.now.mounted c.args.at c.index-entry.result.now c.table.result.now c.pending_rows-rows.result c.if-not-self.false here c.table.ensures c.pending_rows-rows.ensures.exact c.if-rows-eq0.false
+
+pub returns-then-at-len-clause-holds : goal.returns-then-at-len-clause-holds
+returns-then-at-len-clause-holds g c = λ config m h. sym (pending-past config m c.args.self.now.tables.entries.items c.args.self.now.notes _ c.args.self.now.mounted c.args.at h (omega (arith, c.len.ensures, c.if-at-len.true)))

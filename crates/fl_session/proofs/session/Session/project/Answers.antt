@@ -1,4 +1,4 @@
-use Rattle.std.proofs.Common.{◌≡◌, ◌^◌, ◌<◌, length, Some, None, rules, refl, sym, ◌∙◌, ap, map, arith, inl, inr}
+use Rattle.std.proofs.Common.{◌≡◌, ◌^◌, ◌<◌, length, Some, None, rules, refl, sym, ◌∙◌, ap, map, subst, inl, inr}
 use Rattle.std.specs.List.{AllByRecursion, slice_get}
 use Rattle.fl_flash.specs.declared.flash.Work.{Work}
 use Rattle.fl_model.specs.Operators as operators
@@ -21,6 +21,7 @@ use Rattle.fl_session.proofs.Operations.{operator-executes, operator-no_column, 
 use Rattle.fl_session.proofs.ReplyCauses.{refusal-says, says-written, is-here, lacks-says, has-says}
 use Rattle.fl_words.specs.Reply as reply
 use Rattle.fl_store.proofs.Queried.{lies-unlogged, runs-unlogged}
+use Rattle.fl_frame.proofs.CallsInTurn.{goes-same}
 use Rattle.fl_session.proofs.session.Session.project.Goals as goal
 
 pub returns-in-Err-clause-step : goal.returns-in-Err-clause-step
@@ -46,7 +47,7 @@ pub returns-clause-step : goal.returns-clause-step
 returns-clause-step g c = λ config old h.
     let before : c.work-before.result.reads ≡ c.args.self.now.flash.work.reads = ap (λ (w : Work). w.reads) c.work-before.ensures in
     let fits : c.work-before.result.reads < 2 ^ 64 = search rules in
-    let small : c.args.self.now.flash.work.reads < 2 ^ 64 = omega (arith, fits, before) in
+    let small : c.args.self.now.flash.work.reads < 2 ^ 64 = subst (λ n. n < 2 ^ 64) before fits in
     let none : None ≡ lacked_column (layout_in c.table-table.result.now) c.args.columns.now.items = c.in_default.ensures ∙ ap (lacked_column (layout_in c.table-table.result.now)) c.as_slice.ensures.value in
     let here : slice_get c.args.self.now.tables.entries.items c.in-Ok.at ≡ Some c.index.result.now = reached-here c.args.self.now.tables.entries.items _ _ c.in-Ok.at c.index.result.now c.in-Ok.ensures c.index.ensures in
     operator-executes _ config old _ c.args.name _ _ _
@@ -98,3 +99,27 @@ returns-clause-cause g c =
     let none : None ≡ lacked_column (layout_in (table_in c.index.result.now.table)) c.args.columns.now.items =
     c.in_default.ensures ∙ (ap (lacked_column (layout_in c.table-table.result.now)) c.as_slice.ensures.value ∙ ap (λ (t : Table 64 64). lacked_column (layout_in t) c.args.columns.now.items) c.table-table.ensures) in
     inr (c.in-Ok.at, c.index.result.now, is-here _ c.args.name c.in-Ok.at c.index.result.now c.in-Ok.ensures here, has-says _ _ _ c.args.range (AllByRecursion (IsFields (length c.args.columns.now.items))) c.index.result.now _ _ _ _ (sym none) (looks-lists _ _ _ _ _ (λ (t : Table 64 64). AllByRecursion (IsFields (length c.args.columns.now.items))) (EndsRange c.args.range) _ _ _ _ _ _ _ refl c.project.ensures.reads_only c.table-table.ensures (rw c.as_slice-columns.ensures.value at c.project.ensures.says)))
+
+pub returns-in-Err-clause-sound : goal.returns-in-Err-clause-sound
+returns-in-Err-clause-sound g c = c.requires.sound
+
+pub returns-in-Err-clause-goes : goal.returns-in-Err-clause-goes
+returns-in-Err-clause-goes g c = goes-same _
+
+pub returns-in-Err-clause-sink : goal.returns-in-Err-clause-sink
+returns-in-Err-clause-sink g c = c.write_reply.ensures.cause
+
+pub returns-in-Some-clause-sound : goal.returns-in-Some-clause-sound
+returns-in-Some-clause-sound g c = c.requires.sound
+
+pub returns-in-Some-clause-goes : goal.returns-in-Some-clause-goes
+returns-in-Some-clause-goes g c = goes-same _
+
+pub returns-in-Some-clause-sink : goal.returns-in-Some-clause-sink
+returns-in-Some-clause-sink g c = c.write_reply-in-Some.ensures.cause
+
+pub returns-clause-sink : goal.returns-clause-sink
+returns-clause-sink g c = c.project.ensures.cause
+
+pub project-requires-clause-room : goal.project-requires-clause-room
+project-requires-clause-room g c = c.requires.sound.room

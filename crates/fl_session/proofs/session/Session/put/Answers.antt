@@ -11,6 +11,7 @@ use Rattle.fl_rlc.specs.Refusal.{put_refusal}
 use Rattle.fl_table.proofs.PutAnswers.{map-twice}
 use Rattle.std.specs.Borrow.{Bor}
 use Rattle.std.specs.Prelude.{length, option_map}
+use Rattle.fl_frame.proofs.CallsInTurn.{goes-same}
 use Rattle.fl_session.proofs.session.Session.put.Goals as goal
 
 pub returns-in-Err-clause-step : goal.returns-in-Err-clause-step
@@ -69,3 +70,18 @@ returns-clause-cause g c =
         },
       );
     }
+
+pub returns-in-Err-clause-sound : goal.returns-in-Err-clause-sound
+returns-in-Err-clause-sound g c = c.requires.sound
+
+pub returns-in-Err-clause-goes : goal.returns-in-Err-clause-goes
+returns-in-Err-clause-goes g c = goes-same _
+
+pub returns-in-Err-clause-reads : goal.returns-in-Err-clause-reads
+returns-in-Err-clause-reads g c = refl
+
+pub returns-clause-goes : goal.returns-clause-goes
+returns-clause-goes g c = c.put-outcome.ensures.goes
+
+pub returns-clause-reads : goal.returns-clause-reads
+returns-clause-reads g c = c.put-outcome.ensures.reads

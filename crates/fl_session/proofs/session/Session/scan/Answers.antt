@@ -1,4 +1,4 @@
-use Rattle.std.proofs.Common.{◌≡◌, ◌-◌, ◌^◌, ◌<◌, Some, rules, ap, arith, inl, inr}
+use Rattle.std.proofs.Common.{◌≡◌, ◌-◌, ◌^◌, ◌<◌, Some, rules, ap, subst, arith, inl, inr}
 use Rattle.std.specs.List.{slice_get}
 use Rattle.fl_flash.specs.declared.flash.Work.{Work}
 use Rattle.fl_table.specs.BlobAt.{has_blobs}
@@ -15,6 +15,7 @@ use Rattle.fl_session.proofs.ScanReplies.{scan-executes, scan-refused}
 use Rattle.fl_session.proofs.Sound.{sound-read}
 use Rattle.fl_session.proofs.ReplyCauses.{refusal-says, says-written, is-here}
 use Rattle.fl_store.proofs.Queried.{lies-unlogged, runs-unlogged}
+use Rattle.fl_frame.proofs.CallsInTurn.{goes-same}
 use Rattle.fl_session.proofs.session.Session.scan.Goals as goal
 
 pub returns-in-Err-clause-step : goal.returns-in-Err-clause-step
@@ -43,7 +44,7 @@ pub returns-clause-step : goal.returns-clause-step
 returns-clause-step g c = λ config old h.
     let before : c.work-before.result.reads ≡ c.args.self.now.flash.work.reads = ap (λ (w : Work). w.reads) c.work-before.ensures in
     let fits : c.work-before.result.reads < 2 ^ 64 = search rules in
-    let small : c.args.self.now.flash.work.reads < 2 ^ 64 = omega (arith, fits, before) in
+    let small : c.args.self.now.flash.work.reads < 2 ^ 64 = subst (λ n. n < 2 ^ 64) before fits in
     let after : c.work.result.reads ≡ c.list_rows-written.new.flash.work.reads = ap (λ (w : Work). w.reads) c.work.ensures in
     let reads : c.saturating_sub-reads.result ≡ c.list_rows-written.new.flash.work.reads - c.args.self.now.flash.work.reads = omega (arith, c.saturating_sub-reads.ensures, before, after) in
     let here : slice_get c.args.self.now.tables.entries.items c.in-Ok.at ≡ Some c.index.result.now = reached-here c.args.self.now.tables.entries.items _ _ c.in-Ok.at c.index.result.now c.in-Ok.ensures c.index.ensures in
@@ -65,3 +66,18 @@ returns-clause-cause g c =
       is-here _ c.args.name c.in-Ok.at c.index.result.now c.in-Ok.ensures here,
       looks-lists _ _ _ _ _ (λ (t : Table 64 64). AreRows (has_blobs t) (mark_on t c.args.range c.args.span)) (λ (t : Table 64 64). EndsScan (mark_on t c.args.range c.args.span) t) _ _ _ _ _ _ _ (ap (λ n. record c.args.self.now.notes { cost = OfScan n }) reads) c.list_rows-written.ensures.counts c.table-table.ensures c.list_rows-written.ensures.lines,
     )
+
+pub returns-in-Err-clause-sound : goal.returns-in-Err-clause-sound
+returns-in-Err-clause-sound g c = c.requires.sound
+
+pub returns-in-Err-clause-goes : goal.returns-in-Err-clause-goes
+returns-in-Err-clause-goes g c = goes-same _
+
+pub returns-in-Err-clause-sink : goal.returns-in-Err-clause-sink
+returns-in-Err-clause-sink g c = c.write_reply.ensures.cause
+
+pub returns-clause-sink : goal.returns-clause-sink
+returns-clause-sink g c = c.list_rows-written.ensures.cause
+
+pub list_rows-written-requires-clause-room : goal.list_rows-written-requires-clause-room
+list_rows-written-requires-clause-room g c = c.requires.sound.room

@@ -1,4 +1,4 @@
-use Rattle.std.proofs.Common.{◌≡◌, ◌^◌, ◌<◌, ◌≤◌, length, Some, None, rules, refl, sym, ◌∙◌, ap, map, [], ◌∷◌, arith, inl, inr}
+use Rattle.std.proofs.Common.{◌≡◌, ◌^◌, ◌<◌, ◌≤◌, length, Some, None, rules, refl, sym, ◌∙◌, ap, map, [], ◌∷◌, subst, inl, inr}
 use Rattle.std.specs.List.{slice_get}
 use Rattle.fl_cursor.specs.Asked.{above_range}
 use Rattle.fl_flash.specs.declared.flash.Work.{Work}
@@ -22,6 +22,7 @@ use Rattle.fl_session.proofs.Operations.{operator-executes, operator-no_column, 
 use Rattle.fl_session.proofs.ReplyCauses.{refusal-says, says-written, is-here, lacks-one, lacks-says, has-one, has-says}
 use Rattle.fl_store.proofs.Queried.{lies-unlogged, runs-unlogged}
 use Rattle.fl_session.proofs.Unlogged.{notes-bare}
+use Rattle.fl_frame.proofs.CallsInTurn.{goes-same}
 use Rattle.fl_session.proofs.session.Session.select.Goals as goal
 
 pub returns-in-Err-clause-step : goal.returns-in-Err-clause-step
@@ -46,7 +47,7 @@ pub returns-clause-step : goal.returns-clause-step
 returns-clause-step g c = λ config old h.
     let before : c.work-before.result.reads ≡ c.args.self.now.flash.work.reads = ap (λ (w : Work). w.reads) c.work-before.ensures in
     let fits : c.work-before.result.reads < 2 ^ 64 = search rules in
-    let small : c.args.self.now.flash.work.reads < 2 ^ 64 = omega (arith, fits, before) in
+    let small : c.args.self.now.flash.work.reads < 2 ^ 64 = subst (λ n. n < 2 ^ 64) before fits in
     let within : c.args.comparison.column ≤ length (layout_in c.table-table.result.now).columns = search rules in
     let here : slice_get c.args.self.now.tables.entries.items c.in-Ok.at ≡ Some c.index.result.now = reached-here c.args.self.now.tables.entries.items _ _ c.in-Ok.at c.index.result.now c.in-Ok.ensures c.index.ensures in
     operator-executes _ config old _ c.args.name _ _ _
@@ -96,3 +97,27 @@ returns-clause-cause g c =
     let here : slice_get c.args.self.now.tables.entries.items c.in-Ok.at ≡ Some c.index.result.now = reached-here c.args.self.now.tables.entries.items _ _ c.in-Ok.at c.index.result.now c.in-Ok.ensures c.index.ensures in
     let within : c.args.comparison.column ≤ length (layout_in c.table-table.result.now).columns = search rules in
     inr (c.in-Ok.at, c.index.result.now, is-here _ c.args.name c.in-Ok.at c.index.result.now c.in-Ok.ensures here, has-says _ _ _ c.args.range (AreRising IsRow (above_range c.args.range.low None)) c.index.result.now _ _ _ _ (sym (ap (λ (t : Table 64 64). lacked_column (layout_in t) (c.args.comparison.column ∷ [])) c.table-table.ensures) ∙ has-one (layout_in c.table-table.result.now) c.args.comparison.column within) (looks-lists _ _ _ _ _ (λ (t : Table 64 64). AreRising IsRow (above_range c.args.range.low None)) (EndsRange c.args.range) _ _ _ _ _ _ _ refl c.select.ensures.reads_only c.table-table.ensures c.select.ensures.says))
+
+pub returns-in-Err-clause-sound : goal.returns-in-Err-clause-sound
+returns-in-Err-clause-sound g c = c.requires.sound
+
+pub returns-in-Err-clause-goes : goal.returns-in-Err-clause-goes
+returns-in-Err-clause-goes g c = goes-same _
+
+pub returns-in-Err-clause-sink : goal.returns-in-Err-clause-sink
+returns-in-Err-clause-sink g c = c.write_reply.ensures.cause
+
+pub returns-then-columns-comparison-clause-sound : goal.returns-then-columns-comparison-clause-sound
+returns-then-columns-comparison-clause-sound g c = c.requires.sound
+
+pub returns-then-columns-comparison-clause-goes : goal.returns-then-columns-comparison-clause-goes
+returns-then-columns-comparison-clause-goes g c = goes-same _
+
+pub returns-then-columns-comparison-clause-sink : goal.returns-then-columns-comparison-clause-sink
+returns-then-columns-comparison-clause-sink g c = c.write_reply-then-columns-comparison.ensures.cause
+
+pub returns-clause-sink : goal.returns-clause-sink
+returns-clause-sink g c = c.select.ensures.cause
+
+pub select-requires-clause-room : goal.select-requires-clause-room
+select-requires-clause-room g c = c.requires.sound.room
