@@ -1,13 +1,12 @@
 -- What an index lists stays right where other parts of its table change.
-use Rattle.std.proofs.Common.{◌≡◌, ℕ, suc, ◌+◌, ◌≤◌, cond, ◌==◌, Option, Some, None, IfSome, IsTrue, List, ◌++◌, length, map, take, drop, refl, sym, ◌∙◌, ap, subst, arith, ◌⊎◌, inr, length-drop}
+use Rattle.std.proofs.Common.{◌≡◌, ℕ, suc, ◌+◌, ◌≤◌, cond, ◌==◌, Option, Some, None, IfSome, IsTrue, List, ◌++◌, length, map, take, drop, refl, sym, ◌∙◌, ap, subst, arith, inr, length-drop}
 use Rattle.std.proofs.Math.Path.{fun_ext}
 use Rattle.std.proofs.lemmas.List.{take-append-le, drop-append-le}
 use Rattle.std.proofs.lemmas.List.Sums.{sum_by-take-le}
 use Rattle.std.proofs.Math.Nat.{add-mul}
-use Rattle.std.specs.List.{slice_get, sum, AllByRecursion}
+use Rattle.std.specs.List.{slice_get, sum}
 use Rattle.fl_flash.specs.Flash.{FlashState, page_at}
 use Rattle.fl_model.specs.Agrees.{TellPages, TellsAt, is_told}
-use Rattle.fl_model.specs.Facts.{counts_in}
 use Rattle.fl_model.specs.Image.{IsRingImage, HoldsEntries, HoldsPage, rows_at}
 use Rattle.fl_model.specs.Layout.{IndexEntry, IndexPage, index_body}
 use Rattle.fl_model.specs.Record.{Plan, entries_per_page}

@@ -1,21 +1,20 @@
 -- The facts of a table, by its parts, and what each operation of its data ring keeps of them.
-use Rattle.std.proofs.Common.{◌≡◌, ℕ, ◌+◌, ◌-◌, ◌*◌, ◌%◌, ◌<◌, ◌≤◌, ◌⊎◌, inl, inr, Bool, true, false, cond, ◌&&◌, ◌==◌, nat_lt, Option, Some, None, IfSome, List, [], ◌∷◌, ◌++◌, length, map, filter, take, drop, refl, sym, ◌∙◌, ap, subst, arith, IsTrue, append_assoc, length-append, length-drop}
-use Rattle.std.proofs.Math.Nat.{mod-lt, add-mod_right, mul-le-mul_right}
+use Rattle.std.proofs.Common.{◌≡◌, ℕ, ◌+◌, ◌-◌, ◌%◌, ◌<◌, ◌≤◌, ◌⊎◌, inl, inr, Bool, true, false, cond, ◌&&◌, ◌==◌, nat_lt, Option, Some, None, IfSome, List, [], ◌∷◌, ◌++◌, length, map, filter, take, drop, refl, sym, ◌∙◌, ap, subst, arith, IsTrue, append_assoc, length-append, length-drop}
+use Rattle.std.proofs.Math.Nat.{mod-lt}
 use Rattle.std.proofs.lemmas.Bool.{eqb-true, cases_lt}
-use Rattle.std.proofs.lemmas.List.{take_all, take-append-le}
-use Rattle.std.specs.List.{slice_get, sum, list_any, AllByRecursion}
+use Rattle.std.proofs.lemmas.List.{take-append-le}
+use Rattle.std.specs.List.{slice_get, sum, AllByRecursion}
 use Rattle.fl_model.specs.Record.{Plan, has_index, rows_per_page, entries_per_page, content_per_page}
 use Rattle.fl_model.specs.Ring.{Shape, IsShape, Ring, IsRing, oldest, sealed, given_up, is_full, extended, begun, erased}
 use Rattle.fl_model.specs.Agrees.{TellPages, BlobsOf, content_at, reach_of}
 use Rattle.fl_model.specs.Index.{IndexEntry, IndexPage, index_entry}
 use Rattle.fl_model.specs.Table.{Table, Entry, RingName, DataRing, IndexRing, VarRing, LogRing, shape_of, ring_of, with_ring, seal_page, seal_buffer, spent_from, lose, full_pages, fill, firsts, pending_entries, table_seals, after_seals, written}
-use Rattle.fl_model.specs.Mount.{index_end, least_alike, renumber}
+use Rattle.fl_model.specs.Mount.{index_end, least_alike}
 use Rattle.fl_model.specs.Facts.{IsTable, IsLogPage, IsContent, is_some_ring, counts_in}
 use Rattle.fl_model.proofs.BlobsJoined.{blobs-given_up}
-use Rattle.fl_model.proofs.FullIndex.{entries-stand}
 use Rattle.fl_model.proofs.Lists.{slice_get-drop, slice_get-front, each-at}
 use Rattle.fl_model.proofs.Kept.{AreKept, kept-lose}
-use Rattle.fl_model.proofs.Sealed.{sealed-next, sealed-torn, kept-sealed, entries_after}
+use Rattle.fl_model.proofs.Sealed.{sealed-next, sealed-torn, kept-sealed}
 use Rattle.fl_model.proofs.RingFactsStay.{ring-sealed}
 use Rattle.fl_model.proofs.EntriesStayTold.{telling-stays}
 use Rattle.fl_index.proofs.Lists.{below-end, first-at}

@@ -7,7 +7,6 @@ use Rattle.fl_model.specs.Agrees.{reach_of, BlobsOf}
 use Rattle.fl_model.specs.Mount.{renumber, renumbered, blob_end, least_alike}
 use Rattle.fl_model.specs.Record.{Plan}
 use Rattle.fl_model.specs.Ring.{Ring, IsShape, oldest, sealed, erased}
-use Rattle.fl_model.specs.Query.{page_stands}
 use Rattle.fl_model.specs.Table.{Table, Entry, VarRing, shape_of, with_ring, seal_page, blob_len}
 use Rattle.fl_model.proofs.StandingPages.{stands-not}
 use Rattle.fl_parts.specs.Blobs.{AreIn, AreLed}

@@ -108,10 +108,7 @@ pub fn mount_within<F: Flash>(
 /// # Errors
 ///
 /// A program or erase failed, or the power is off. The variable data are to be mounted again then.
-pub fn seal_rest<F: Flash>(
-    blobs: &mut Option<VarData>,
-    flash: &mut F,
-) -> Result<(), FlashFault>
+pub fn seal_rest<F: Flash>(blobs: &mut Option<VarData>, flash: &mut F) -> Result<(), FlashFault>
     requires running { AreRunning blobs.old }
     requires lies { LieOn blobs.old (F.state flash.old) }
     requires left { NumbersLeft blobs.old }

@@ -1,5 +1,5 @@
 -- What a full entry tells of a page of a table fits its fields.
-use Rattle.std.proofs.Common.{◌≡◌, ◌⊎◌, inl, inr, ℕ, suc, ◌+◌, ◌-◌, ◌%◌, ◌^◌, ◌<◌, ◌≤◌, Bool, true, false, ◌||◌, ◌==◌, cond, nat_lt, max, Option, Some, None, IfSome, option_map, Result, Ok, Err, IfErr, IsTrue, List, [], ◌∷◌, length, map, take, drop, refl, sym, ◌∙◌, ap, subst, arith}
+use Rattle.std.proofs.Common.{◌≡◌, ℕ, suc, ◌+◌, ◌-◌, ◌%◌, ◌^◌, ◌<◌, ◌≤◌, Bool, true, false, ◌||◌, ◌==◌, cond, nat_lt, max, Option, Some, None, IfSome, option_map, Result, Ok, Err, IfErr, IsTrue, List, [], ◌∷◌, length, map, take, drop, refl, sym, ◌∙◌, ap, subst, arith}
 use Rattle.std.specs.List.{AllByRecursion, slice_get, fold, sum}
 use Rattle.std.proofs.Math.Nat.{mod-eq_of_lt, div-le_self}
 use Rattle.std.proofs.lemmas.Bool.{lt-ltb}

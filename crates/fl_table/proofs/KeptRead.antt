@@ -13,7 +13,7 @@ use Rattle.fl_model.specs.Record.{Plan, RowLayout, row_layout, row_len, layout_l
 use Rattle.fl_model.specs.Ring as rings
 use Rattle.fl_model.specs.Row.{stored_row}
 use Rattle.fl_model.specs.Table as model
-use Rattle.fl_model.specs.Table.{Entry, lose}
+use Rattle.fl_model.specs.Table.{lose}
 use Rattle.fl_parts.proofs.Loose.{IsLoose, loose-of}
 use Rattle.fl_parts.proofs.Plain.{IsPlainTable, table-parts, plain-lose}
 use Rattle.fl_page.specs.Header.{page_count}

@@ -168,8 +168,8 @@ module _ (old new : FlashState) (first : ℕ) (plan : Plan) (table : Table) (ros
     pending_is : left.pending ≡ table.pending
     pending_is = ap (λ (x : Table). x.pending) is.beside.3
 
-    now : IsIdle left
-    now = record { pending = pending_is ∙ idle.pending; buffered = ap (λ (x : Table). x.buffered) is.beside.3 ∙ idle.buffered; waiting = is.waiting ∙ idle.waiting; points = ap (λ (x : Table). x.points) is.beside.3 ∙ idle.points }
+    left_idle : IsIdle left
+    left_idle = record { pending = pending_is ∙ idle.pending; buffered = ap (λ (x : Table). x.buffered) is.beside.3 ∙ idle.buffered; waiting = is.waiting ∙ idle.waiting; points = ap (λ (x : Table). x.points) is.beside.3 ∙ idle.points }
 
     left-loose : IsLoose plan left
     left-loose = subst (IsLoose plan) (sym is.beside.3) (loose-with_index plan table is.beside.0 is.beside.1 is.beside.2 loose
@@ -178,8 +178,8 @@ module _ (old new : FlashState) (first : ℕ) (plan : Plan) (table : Table) (ros
     -- a mount of the other rings may go on, and all facts hold where they did
     left-mountable : IsMountable plan left
     left-mountable = record {
-      lost = idle-lost left now;
-      paged = loose-paged plan left now.pending left-loose;
+      lost = idle-lost left left_idle;
+      paged = loose-paged plan left left_idle.pending left-loose;
       behind = λ void lt more. subst (λ (r : model.Ring). r.next + (cond r.torn 1 0) ≤ spent_from + 1) (sym rows_are)
           (rests.mountable.behind (ap (λ (r : model.Ring). list_any (nat_lt 0) r.counts) (sym rows_are) ∙ void) (let e = ap oldest rows_are in let le = is.end in omega (arith, e, lt, le)) (omega (arith, ap (λ (r : model.Ring). length r.counts) rows_are, more)));
       before = subst BlobsBefore (sym is.beside.3) rests.mountable.before;
@@ -192,7 +192,7 @@ module _ (old new : FlashState) (first : ℕ) (plan : Plan) (table : Table) (ros
         let after : IsPlainTable plan left = beside-facts plan table left is.beside facts (indexed-of plan left ring has known number (λ p. absurd (p (pending_is ∙ idle.pending)))
         (λ lt more. subst (λ (r : model.Ring). r.next + (cond r.torn 1 0) ≤ spent_from + 1) (sym rows_are)
         (facts.index.number_listed (let e = ap oldest rows_are in let le = is.end in omega (arith, e, lt, le)) (omega (arith, ap (λ (r : model.Ring). length r.counts) rows_are, more))))) in
-        record { facts = table-facts plan left after; lost = idle-lost left now }
+        record { facts = table-facts plan left after; lost = idle-lost left left_idle }
 
     pub left-rests : RestsToMount new first plan left
     left-rests = record {

@@ -114,7 +114,6 @@ least_near room next least some low high = by_order (cases_lt (next + room) (lea
     by_order (inl lt) = absurd (apart room (next + room) (least_alike room next least) lt (omega (arith, small, high)) (add-mod_right next room ∙ sym (least_is_alike room next least some)))
     by_order (inr le) = le
 
-
 -- the next number of a data ring whose pages are all void
 abbrev next_alike : Plan → Table → ℕ
 next_alike plan table = least_alike (plan.data_blocks * plan.geometry.block) table.rows.next (index_end plan table + length table.rows.counts)

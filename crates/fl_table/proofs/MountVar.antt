@@ -208,11 +208,11 @@ module _ {KNOTS SLOTS : ℕ} (t : code.Table KNOTS SLOTS) (mid new : FlashState)
         let pages : IsVarRing plan p b.ring (page_in v new) = subst (λ (ps : List ContentPage). IsVarRing plan ps b.ring (page_in v new)) (ap (λ (x : Table). x.var_pages) state) b.pages in
         let kept = subst (λ (x : Table). IsMounting (IsSettled plan table) plan x b.ring) state (part-keeps (IsSettled plan table) v mid D plan w.now.state at_rest inside rose w.now.device fault new b.now b.ring b.ring_is b.did) in
         let blobbed : IsSettled plan table → IsBlobbed plan (with_var w.now.state r p k) = λ settled.
-            let strict = part-leaves v mid D plan w.now.state at_rest some_var 4294967292 (facts settled).blobs.number rose w.now.device fault new b.now b.did in
-            let number = subst (λ (o : Option Ring). IfSome o (λ x. x.next + (cond x.torn 1 0) ≤ 4294967292)) b.ring_is strict.number in
-            ring-blobbed plan (with_var w.now.state r p k) b.ring (page_in v new) ring_is has pages
-            (in-some plan b.ring w.now.state.entries (written w.now.state) (front-of (length w.now.state.entries - w.now.state.pending) w.now.state.entries) (kept.inside settled)) kept.stand
-            (omega (arith, ap length emptied)) number (λ q. absurd (q idle.pending)) in
+        let strict = part-leaves v mid D plan w.now.state at_rest some_var 4294967292 (facts settled).blobs.number rose w.now.device fault new b.now b.did in
+        let number = subst (λ (o : Option Ring). IfSome o (λ x. x.next + (cond x.torn 1 0) ≤ 4294967292)) b.ring_is strict.number in
+        ring-blobbed plan (with_var w.now.state r p k) b.ring (page_in v new) ring_is has pages
+        (in-some plan b.ring w.now.state.entries (written w.now.state) (front-of (length w.now.state.entries - w.now.state.pending) w.now.state.entries) (kept.inside settled)) kept.stand
+        (omega (arith, ap length emptied)) number (λ q. absurd (q idle.pending)) in
         let var = ring-holds v new first plan (with_var w.now.state r p k) b.ring planned ring_is pages in
         let holds = holds-with_var v (page_at mid) (page_at new) first plan w.now.state r p k planned outside some_rows some_index w.pages var in
         record {
@@ -274,12 +274,12 @@ module _ {KNOTS SLOTS : ℕ} (t : code.Table KNOTS SLOTS) (mid new : FlashState)
         (led-some plan ring.ring w.now.state.entries (written w.now.state) (front-of (length w.now.state.entries - w.now.state.pending) w.now.state.entries) kept.led) kept.stand
         (omega (arith, ap length emptied)) number in
         let blobbed : IsSettled plan table → IsBlobbed plan (with_var (ready plan w.now.state) r p k) = λ settled.
-            let strict = done-leaves v mid D plan w.now.state at_rest some_var 4294967292 (facts settled).blobs.number rose w.now.device m.now m.did in
-            let here = subst (λ (o : Option Ring). IfSome o (λ x. x.next + (cond x.torn 1 0) ≤ 4294967292)) there strict.number in
-            ring-blobbed plan (with_var (ready plan w.now.state) r p k) ring.ring (page_in v' new) ring.ring_is has ring.pages
-            (in-some plan ring.ring w.now.state.entries (written w.now.state) (front-of (length w.now.state.entries - w.now.state.pending) w.now.state.entries) (kept.inside settled))
-            (blobs-as plan (with_var w.now.state r p k) (with_var (ready plan w.now.state) r p k) ring.ring ring.ring (λ i entry e. (i, e)) (λ page. refl) (λ number. refl) kept.stand)
-            (omega (arith, ap length emptied)) here (λ q. absurd (q idle.pending)) in
+        let strict = done-leaves v mid D plan w.now.state at_rest some_var 4294967292 (facts settled).blobs.number rose w.now.device m.now m.did in
+        let here = subst (λ (o : Option Ring). IfSome o (λ x. x.next + (cond x.torn 1 0) ≤ 4294967292)) there strict.number in
+        ring-blobbed plan (with_var (ready plan w.now.state) r p k) ring.ring (page_in v' new) ring.ring_is has ring.pages
+        (in-some plan ring.ring w.now.state.entries (written w.now.state) (front-of (length w.now.state.entries - w.now.state.pending) w.now.state.entries) (kept.inside settled))
+        (blobs-as plan (with_var w.now.state r p k) (with_var (ready plan w.now.state) r p k) ring.ring ring.ring (λ i entry e. (i, e)) (λ page. refl) (λ number. refl) kept.stand)
+        (omega (arith, ap length emptied)) here (λ q. absurd (q idle.pending)) in
         record {
           now = record { end = Whole; device = m.now.device; state = m.now.state };
           did = also (TableMounted (record { end = Whole; device = m.now.device; state = m.now.state })) (inr (m.now, m.did, goes m.now m.whole));

@@ -20,7 +20,6 @@ use Rattle.fl_page.specs.Writer.{Gathers}
 use Rattle.fl_page.specs.WriterState.{WriterState}
 use Rattle.fl_ring.specs.Mounting.{shape_at}
 use Rattle.fl_ring.specs.Place as place
-use Rattle.fl_ring.specs.Place.{StandsFor}
 use Rattle.fl_ring.specs.Ring.{Shape, OnRing}
 use Rattle.fl_ring.specs.Sealing.{IsReady}
 use Rattle.fl_ring.specs.declared.ring.Ring.{Ring}
