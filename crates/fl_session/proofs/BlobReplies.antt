@@ -19,7 +19,7 @@ use Rattle.fl_table.specs.declared.table.Table.{Table}
 use Rattle.fl_store.specs.declared.tables.Entry.{Entry}
 use Rattle.fl_store.specs.Tables.{first_of}
 use Rattle.fl_session.specs.Answer.{Refusal, IsReached}
-use Rattle.fl_session.specs.BlobShown.{ShowsBlob}
+use Rattle.fl_queries.specs.BlobShown.{ShowsBlob}
 use Rattle.fl_session.specs.Cost.{HasRead}
 use Rattle.fl_session.specs.Execute.{Executes}
 use Rattle.fl_session.specs.declared.notes.Notes.{Notes}

@@ -29,16 +29,17 @@ use Rattle.fl_machine.specs.Step.{Moment, StepOf, Says, NextStep, cursor_at}
 use Rattle.fl_frame.specs.Device.{ArmsAs}
 use Rattle.fl_rlc.specs.Table.{table_in}
 use Rattle.fl_script.specs.Written.{Written}
-use Rattle.fl_table.specs.Memory.{LiesOn}
 use Rattle.fl_table.specs.Standing.{Stands}
 use Rattle.fl_table.specs.declared.table.Table.{Table}
-use Rattle.fl_table.proofs.ReadsKeepTable.{lies-moved}
 use Rattle.fl_store.specs.declared.tables.Entry.{Entry}
 use Rattle.fl_store.specs.Tables.{first_of}
 use Rattle.fl_store.proofs.TablesChanged.{at-place}
+use Rattle.fl_store.proofs.Queried.{stands-unlogged}
+use Rattle.fl_store.proofs.Worked.{medium-goes}
+use Rattle.fl_queries.specs.Nexts.{Nexts, given_of}
+use Rattle.fl_queries.proofs.LeftByReads.{goes-reads}
 use Rattle.fl_session.specs.Cost.{HasRead, ReadsAsStated}
 use Rattle.fl_session.specs.Execute.{Executes}
-use Rattle.fl_session.specs.Nexts.{Nexts, given_of}
 use Rattle.fl_session.specs.Notes.{cursor_of}
 use Rattle.fl_session.specs.declared.notes.Notes.{Notes}
 use Rattle.fl_session.specs.declared.notes.TableCursor.{TableCursor}
@@ -46,15 +47,9 @@ use Rattle.fl_session.specs.Standing.{SessionStands}
 use Rattle.fl_session.proofs.CommandReplies.{answers-saying, executes-answered, saying, says}
 use Rattle.fl_session.proofs.CountedReads.{read-none}
 use Rattle.fl_session.proofs.CursorsOf.{cursor-told}
-use Rattle.fl_session.proofs.GetReplies.{goes-reads, tables-looked}
+use Rattle.fl_session.proofs.GetReplies.{tables-looked}
 use Rattle.fl_session.proofs.Rested.{session-ends}
-use Rattle.fl_store.proofs.Queried.{stands-unlogged}
 use Rattle.fl_session.proofs.Unlogged.{nexts-unlogged}
-use Rattle.fl_store.proofs.Worked.{medium-goes}
-
--- reads leave a table where it lies
-pub lies-read : (t : Table 64 64) (f g : FlashState) → OnlyReads f g → LiesOn t f → LiesOn t g
-lies-read t f g only lies = lies-moved t f g (goes-reads f g only) lies
 
 -- the session after reads, with a cursor that was moved
 stands-moved : (config : Config) (entries : List Entry) (notes : Notes) (f g : FlashState) (n : ℕ) (cursor : TableCursor) (m : Machine) → OnlyReads f g → SessionStands config entries f true notes m →

@@ -1,10 +1,10 @@
 -- A command that was executed.
-use Rattle.std.proofs.Common.{◌≡◌, ℕ, IsTrue, Option, Result, Ok, Err, List, [], ◌∷◌, refl, append-nil}
+use Rattle.std.proofs.Common.{◌≡◌, ℕ, IsTrue, Option, Result, Ok, Err, List, refl}
 use Rattle.fl_base.specs.Causes.{Rose}
 use Rattle.fl_flash.specs.Flash.{FlashState}
 use Rattle.fl_model.specs.Record.{Config}
 use Rattle.fl_words.specs.Command.{Command}
-use Rattle.fl_words.specs.Reply.{Reply, text, texts}
+use Rattle.fl_words.specs.Reply.{texts}
 use Rattle.fl_machine.specs.Machine.{Machine}
 use Rattle.fl_machine.specs.Stays.{MomentStays}
 use Rattle.fl_machine.specs.Step.{Moment, Step}
@@ -49,7 +49,3 @@ executes-by E config old command stands f g told told_now (Err e) moment is step
   told_all = tt;
   told_front = w;
 }
-
--- one reply
-pub one-text : (reply : Reply) → texts (reply ∷ []) ≡ text reply
-one-text reply = append-nil (text reply)

@@ -1,10 +1,8 @@
 -- The get of a session.
 use Rattle.std.proofs.Common.{◌≡◌, ℕ, Bool, true, false, ◌-◌, IsTrue, Option, Some, None, Result, ◌⊎◌, List, [], ◌∷◌, inl, inr, refl, sym, ◌∙◌, ap, subst, arith}
-use Rattle.fl_find.proofs.PageLooks.{looks-pages}
-use Rattle.fl_flash.specs.Flash.{FlashState, Goes, page_at}
+use Rattle.fl_flash.specs.Flash.{FlashState}
 use Rattle.fl_flash.specs.declared.armed.Armed.{Armed}
 use Rattle.fl_flash.specs.declared.flash.Work.{Work}
-use Rattle.fl_frame.proofs.ContentsInTurn.{OnlyReads-goes}
 use Rattle.fl_model.specs.Bare.{bare, bare_table}
 use Rattle.fl_model.specs.Query.{entry_at}
 use Rattle.fl_model.specs.Record.{Config, Plan}
@@ -28,11 +26,15 @@ use Rattle.fl_table.specs.Standing.{Stands}
 use Rattle.fl_table.specs.declared.table.Table.{Table}
 use Rattle.fl_store.specs.declared.tables.Entry.{Entry}
 use Rattle.fl_store.specs.Tables.{first_of, TablesStand}
-use Rattle.fl_table.proofs.Apart.{stands-pages}
+use Rattle.fl_store.proofs.Queried.{stands-unlogged}
+use Rattle.fl_store.proofs.TablesOnlyRead.{tables-kept}
+use Rattle.fl_store.proofs.Worked.{medium-goes}
+use Rattle.fl_queries.proofs.LeftByReads.{goes-reads, pages-read}
+use Rattle.fl_queries.specs.LookSays.{LookSays, ReadsFew}
+use Rattle.fl_queries.specs.Looked.{Looks}
+use Rattle.fl_queries.proofs.ListsAll.{one-text}
 use Rattle.fl_session.specs.Answer.{Refusal, IsReached}
-use Rattle.fl_session.specs.Caused.{LookSays, ReadsFew}
 use Rattle.fl_session.specs.Execute.{Executes}
-use Rattle.fl_session.specs.Looked.{Looks}
 use Rattle.fl_session.specs.Cost.{cost_of, HasRead, ReadsGet}
 use Rattle.fl_session.specs.declared.notes.Notes.{Notes}
 use Rattle.fl_session.specs.declared.cost.Cost.{Cost}
@@ -41,37 +43,20 @@ use Rattle.fl_session.specs.Standing.{SessionStands}
 use Rattle.fl_session.proofs.CommandReplies.{executes-answered, executes-read, step-is, table-step}
 use Rattle.fl_session.proofs.NamedTable.{own-of, own-none}
 use Rattle.fl_session.proofs.CountedReads.{read-none}
-use Rattle.fl_session.proofs.ExecutedCommand.{one-text}
 use Rattle.fl_session.proofs.RefusedCommands.{answers-refused}
-use Rattle.fl_store.proofs.Queried.{stands-unlogged}
-use Rattle.fl_store.proofs.TablesOnlyRead.{tables-kept}
 use Rattle.fl_session.proofs.Unlogged.{looks-unlogged}
-use Rattle.fl_store.proofs.Worked.{medium-goes}
 
+-- what reads leave of a session
 module _ (f g : FlashState) (only : OnlyReads f g) where
-  -- what reads leave as it is
-  pub goes-reads : Goes f g
-  goes-reads = OnlyReads-goes f g only
-
-  pub pages-read : page_at g ≡ page_at f
-  pages-read = looks-pages f g (record { reads = only; power = only.power; cuts = only.cuts })
-
-  -- a table still stands
-  pub stands-read : (t : Table 64 64) (first : ℕ) (plan : Plan) (table : model.Table) → Stands t f first plan table → Stands t g first plan table
-  stands-read t first plan table h = stands-pages f g pages-read t first plan table h
-
-  pub tells-read : IsTrue f.media.tells → IsTrue g.media.tells
-  tells-read told = subst IsTrue (sym goes-reads.tells) told
-
   pub tables-looked : (plans : List Plan) (entries : List Entry) (tables : List model.Table) → TablesStand f (λ i. true) plans entries tables → TablesStand g (λ i. true) plans entries tables
-  tables-looked plans entries tables h = tables-kept f g pages-read goes-reads.geometry (λ i. true) plans entries tables h
+  tables-looked plans entries tables h = tables-kept f g (pages-read f g only) (goes-reads f g only).geometry (λ i. true) plans entries tables h
 
   -- the session still stands, for a machine that knows what was read
   pub session-read : (config : Config) (entries : List Entry) (notes : Notes) (cost : Cost) (m : Machine) → SessionStands config entries f true notes m →
       SessionStands config entries g true (record notes { cost = cost }) (record m { cost = cost_of cost })
   session-read config entries notes cost m h = record {
     knots = h.knots;
-    medium = medium-goes config f g goes-reads h.medium;
+    medium = medium-goes config f g (goes-reads f g only) h.medium;
     tables = tables-looked config.plans entries m.tables h.tables;
     is_mounted = h.is_mounted;
     cursors = h.cursors;

@@ -19,8 +19,9 @@ use Rattle.fl_table.specs.declared.table.Table.{Table}
 use Rattle.fl_store.specs.Tables.{first_of}
 use Rattle.fl_store.specs.declared.tables.Entry.{Entry}
 use Rattle.fl_session.specs.Answer.{IsReached, Refusal}
-use Rattle.fl_session.specs.Keys.{all_keys}
-use Rattle.fl_session.specs.Oldest.{is_left, oldest_blob, reads_of, FindsOf, FindsOldest, LooksFor}
+use Rattle.fl_queries.specs.Keys.{all_keys}
+use Rattle.fl_queries.specs.OldestBlob.{is_left, oldest_blob, FindsOldest}
+use Rattle.fl_session.specs.Oldest.{reads_of, FindsOf, LooksFor}
 use Rattle.fl_session.specs.Standing.{SessionStands}
 use Rattle.fl_session.specs.declared.notes.Notes.{Notes}
 use Rattle.fl_session.proofs.Operations.{session-still}

@@ -30,10 +30,10 @@ use Rattle.fl_table.specs.declared.table.Table.{Table}
 use Rattle.fl_store.specs.Tables.{first_of}
 use Rattle.fl_store.specs.declared.tables.Entry.{Entry}
 use Rattle.fl_session.specs.Answer.{Refusal, IsReached}
-use Rattle.fl_session.specs.Asked.{lacked_column}
+use Rattle.fl_queries.specs.Asked.{lacked_column}
 use Rattle.fl_session.specs.Cost.{HasRead, CountsReads, ReadsScan, ReadsAsStated}
 use Rattle.fl_session.specs.Execute.{Executes}
-use Rattle.fl_session.specs.Lines.{Counted}
+use Rattle.fl_queries.specs.Lines.{Counted}
 use Rattle.fl_session.specs.Standing.{SessionStands}
 use Rattle.fl_session.specs.declared.notes.Notes.{Notes}
 use Rattle.fl_session.proofs.CommandReplies.{executes-answered, executes-read, answers-saying, saying, says, step-is, table-step}
@@ -41,7 +41,7 @@ use Rattle.fl_session.proofs.CountedReads.{read-none}
 use Rattle.fl_session.proofs.GetReplies.{session-read, on-table, off-table}
 use Rattle.fl_session.proofs.NamedTable.{own-of}
 use Rattle.fl_session.proofs.RefusedCommands.{answers-refused}
-use Rattle.fl_session.proofs.Scanned.{on-ok-weaker}
+use Rattle.fl_queries.proofs.Scanned.{on-ok-weaker}
 use Rattle.fl_store.proofs.Queried.{planned-unlogged, stands-unlogged}
 
 -- one column that is there, and one that isn't

@@ -17,9 +17,10 @@ use Rattle.fl_session.specs.declared.status.Status.{Status}
 use Rattle.fl_lines.specs.Stream.{LinesState}
 use Rattle.fl_session.specs.Notes.{no_notes}
 use Rattle.fl_session.specs.declared.notes.Notes.{Notes}
-use Rattle.fl_session.specs.Standing.{SessionStands, IsSound, AreForgotten, RestsTold, HasRooms}
+use Rattle.fl_queries.specs.Room.{AreForgotten, HasRooms}
+use Rattle.fl_session.specs.Standing.{SessionStands, IsSound, RestsTold}
 use Rattle.fl_session.specs.declared.notes.TableCursor.{TableCursor}
-use Rattle.fl_session.specs.declared.buffers.Buffers.{Buffers}
+use Rattle.fl_queries.specs.declared.buffers.Buffers.{Buffers}
 use Rattle.fl_session.specs.Run.{RanFrom, around_of, IsOfCommands, refused_status}
 use Rattle.fl_session.specs.declared.status.Status.TheVariants.{Usage, MediaMake, NoMemory, OtherConfig, OutWrite, ScriptRead}
 use Rattle.fl_config.specs.declared.image.ImageRefusal.{ImageRefusal}

@@ -4,8 +4,6 @@ use Rattle.std.specs.Prelude.{◌↔◌, is_err, OnOk, ℤ}
 use Rattle.std.specs.List.{slice_get}
 use Rattle.std.specs.Option.{is_none}
 use Rattle.std.proofs.lemmas.Bool.{lt-ltb, le-ltb}
-use Rattle.std.proofs.Math.Nat.{le_trans}
-use Rattle.fl_base.specs.Causes.{HasCause}
 use Rattle.fl_base.specs.declared.types.KeyRange.{KeyRange}
 use Rattle.fl_model.specs.Record.{RowLayout}
 use Rattle.fl_frame.specs.Contents.{OnlyReads}
@@ -27,17 +25,17 @@ use Rattle.fl_store.specs.MountsOver.{MountsOver}
 use Rattle.fl_store.specs.Tables.{entries_with}
 use Rattle.fl_store.specs.declared.tables.BadMount.{BadMount}
 use Rattle.fl_store.specs.declared.tables.Entry.{Entry}
-use Rattle.fl_store.proofs.CallsInTurn.{rose-back}
 use Rattle.fl_store.proofs.TablesChanged.{set-same}
 use Rattle.fl_words.specs.Command.{Command, Nothing}
 use Rattle.fl_words.specs.Reply as reply
 use Rattle.fl_words.specs.Reply.{Reply, text}
+use Rattle.fl_queries.specs.Asked.{lacked_column}
+use Rattle.fl_queries.specs.ListSays.{EndsRange, ListSays}
+use Rattle.fl_queries.specs.LookSays.{Says}
 use Rattle.fl_session.proofs.NextCommand.{nothing-added}
 use Rattle.fl_session.proofs.RunningPuts.{runs-on}
 use Rattle.fl_session.specs.Answer.{IsReached, Refusal}
-use Rattle.fl_session.specs.Asked.{lacked_column}
-use Rattle.fl_session.specs.Caused.{Caused, EndsRange, State, state_of, Says, Writes, IsRefused, IsHere, OnTable, IfLacks, OnlyLooks, PutFails, FlushFails, LoadCounts}
-use Rattle.fl_session.specs.ListSays.{ListSays}
+use Rattle.fl_session.specs.Caused.{Caused, State, state_of, Writes, IsRefused, IsHere, OnTable, IfLacks, OnlyLooks, PutFails, FlushFails, LoadCounts}
 use Rattle.fl_session.specs.Notes.{with_cursor}
 use Rattle.fl_session.specs.declared.notes.Notes.{Notes}
 use Rattle.fl_session.specs.declared.notes.TableCursor.{TableCursor}
@@ -69,11 +67,6 @@ noted entries mounted a b f same = ap (λ (notes : Notes). state_of entries moun
 
 pub is-here : (s : State) (name : List ℕ) (at : ℕ) (entry : Entry) → IsReached s.entries s.mounted name at → slice_get s.entries at ≡ Some entry → IsHere s name at entry
 is-here s name at entry reached here = record { reached = reached; here = here }
-
--- the cause of an error is one from an earlier count on
-pub cause-earlier : {E : Type 0} (before mid now : ℕ) (result : Result (Unit {0}) E) → before ≤ mid → HasCause mid now result → HasCause before now result
-cause-earlier before mid now (Ok done) le h = record { later = le_trans le h.later; failed = tt }
-cause-earlier before mid now (Err e) le h = record { later = le_trans le h.later; failed = rose-back before mid now le h.failed }
 
 -- a column that a table lacks, and one that it has
 pub lacks-one : (layout : RowLayout) (column : ℕ) → length layout.columns < column → lacked_column layout (column ∷ []) ≡ Some column

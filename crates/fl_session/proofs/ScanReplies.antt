@@ -22,7 +22,7 @@ use Rattle.fl_store.specs.declared.tables.Entry.{Entry}
 use Rattle.fl_store.specs.Tables.{first_of}
 use Rattle.fl_session.specs.Answer.{Refusal, IsReached}
 use Rattle.fl_session.specs.Execute.{Executes}
-use Rattle.fl_session.specs.Listed.{Scans}
+use Rattle.fl_queries.specs.Listed.{Scans}
 use Rattle.fl_session.specs.Cost.{HasRead, ReadsScan}
 use Rattle.fl_session.specs.declared.notes.Notes.{Notes}
 use Rattle.fl_session.specs.declared.cost.Cost.TheVariants as code_cost
@@ -32,7 +32,7 @@ use Rattle.fl_session.proofs.NamedTable.{own-of}
 use Rattle.fl_session.proofs.CountedReads.{read-none}
 use Rattle.fl_session.proofs.GetReplies.{session-read, on-table, off-table}
 use Rattle.fl_session.proofs.RefusedCommands.{answers-refused}
-use Rattle.fl_session.proofs.Scanned.{on-ok-weaker}
+use Rattle.fl_queries.proofs.Scanned.{on-ok-weaker}
 use Rattle.fl_store.proofs.Queried.{stands-unlogged}
 use Rattle.fl_session.proofs.Unlogged.{scans-unlogged}
 

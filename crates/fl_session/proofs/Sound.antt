@@ -23,8 +23,9 @@ use Rattle.fl_store.specs.declared.tables.BadMount.{BadMount}
 use Rattle.fl_store.specs.declared.tables.Entry.{Entry}
 use Rattle.fl_store.proofs.TablesLie.{lie-on, lie-with, running-with}
 use Rattle.fl_store.proofs.TablesChanged.{set-here, set-elsewhere}
-use Rattle.fl_session.specs.Standing.{AreForgotten, HasRooms, IsSound}
-use Rattle.fl_session.specs.declared.buffers.Buffers.{Buffers}
+use Rattle.fl_queries.specs.Room.{AreForgotten, HasRooms}
+use Rattle.fl_session.specs.Standing.{IsSound}
+use Rattle.fl_queries.specs.declared.buffers.Buffers.{Buffers}
 use Rattle.fl_session.specs.declared.notes.Notes.{Notes}
 use Rattle.fl_session.specs.declared.notes.TableCursor.{TableCursor}
 

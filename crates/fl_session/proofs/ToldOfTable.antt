@@ -31,7 +31,8 @@ use Rattle.fl_store.proofs.TablesChanged.{at-place}
 use Rattle.fl_session.specs.Answer.{IsReached, Refusal}
 use Rattle.fl_session.specs.Held.{TellsTable, TellsLast, TellsCounts, TellsRings}
 use Rattle.fl_session.specs.Pending.{rows_of, pending_of}
-use Rattle.fl_session.specs.Told.{OldestIn, rows_there}
+use Rattle.fl_queries.specs.OldestTold.{OldestIn}
+use Rattle.fl_session.specs.Told.{rows_there}
 use Rattle.fl_session.specs.declared.notes.Notes.{Notes}
 use Rattle.fl_session.specs.declared.pending.TableRows.{TableRows}
 use Rattle.fl_session.specs.Standing.{SessionStands}

@@ -35,19 +35,20 @@ use Rattle.fl_words.specs.Command as command
 use Rattle.fl_words.specs.Command.{Command}
 use Rattle.fl_words.specs.Reply as reply
 use Rattle.fl_words.specs.Reply.{Reply}
-use Rattle.fl_session.proofs.ExecutedCommand.{one-text}
+use Rattle.fl_queries.proofs.ListsAll.{one-text}
 use Rattle.fl_session.specs.Answer.{bad_reply, load_replies, mount_reply}
-use Rattle.fl_session.specs.Asked.{lacked_column}
-use Rattle.fl_session.specs.BlobSays.{AnswersBlob, EndsBlob, IsBadNamed, IsBlob, IsBytes, MayBeBadFor}
-use Rattle.fl_session.specs.Caused.{Caused, CloseSays, CostSays, CutSays, EndsPairs, EndsRange, FlushFails, FlushSays, GetSays, IfLacks, IsHere, IsPowered, IsRefused, LookSays, MountSays, OffSays, OnlyLooks, OnTable, OpenSays, PutFails, PutSays, StatSays, State, Writes, mark_on}
+use Rattle.fl_queries.specs.Asked.{lacked_column}
+use Rattle.fl_queries.specs.BlobSays.{AnswersBlob, EndsBlob, IsBadNamed, IsBlob, IsBytes, MayBeBadFor}
+use Rattle.fl_queries.specs.ListSays.{EndsPairs, EndsRange, mark_on, EndsBy, EndsCounted, EndsNext, EndsScan, PassesNoBad, IsFields, IsGroup, IsPair, IsUnread, ListSays}
+use Rattle.fl_queries.specs.LookSays.{LookSays}
+use Rattle.fl_session.specs.Caused.{Caused, CloseSays, CostSays, CutSays, FlushFails, FlushSays, GetSays, IfLacks, IsHere, IsPowered, IsRefused, MountSays, OffSays, OnlyLooks, OnTable, OpenSays, PutFails, PutSays, StatSays, State, Writes}
 use Rattle.fl_session.specs.CausedEach.{CausedEach}
 use Rattle.fl_session.specs.Cost.{cost_of}
-use Rattle.fl_session.specs.ListSays.{EndsBy, EndsCounted, EndsNext, EndsScan, PassesNoBad, IsFields, IsGroup, IsPair, IsUnread, ListSays}
 use Rattle.fl_session.specs.LoadSays.{LoadFails}
-use Rattle.fl_session.specs.Nexts.{ending_of}
-use Rattle.fl_session.specs.Rising.{AreRising, IsRow}
-use Rattle.fl_session.specs.Rows.{row_reply}
-use Rattle.fl_session.specs.RowsGiven.{AreRows, MovesOver}
+use Rattle.fl_queries.specs.Nexts.{ending_of}
+use Rattle.fl_queries.specs.Rising.{AreRising, IsRow}
+use Rattle.fl_queries.specs.Rows.{row_reply}
+use Rattle.fl_queries.specs.RowsGiven.{AreRows, MovesOver}
 use Rattle.fl_session.specs.Unarmed.{IsNoLoss, SaysNoLoss, UncutLosesNoPower, is_cut}
 use Rattle.fl_session.specs.declared.notes.Notes.{Notes}
 

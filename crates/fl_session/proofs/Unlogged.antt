@@ -17,10 +17,10 @@ use Rattle.fl_model.specs.Table.{Entry, Table}
 use Rattle.fl_words.specs.Reply as reply
 use Rattle.fl_words.specs.Reply.{Reply}
 use Rattle.fl_store.proofs.Queried.{blobs-bare}
-use Rattle.fl_session.specs.BlobShown.{ShowsBlob}
-use Rattle.fl_session.specs.Listed.{Scans}
-use Rattle.fl_session.specs.Looked.{Looks}
-use Rattle.fl_session.specs.Nexts.{Nexts, ending_of, given_of}
+use Rattle.fl_queries.specs.BlobShown.{ShowsBlob}
+use Rattle.fl_queries.specs.Listed.{Scans}
+use Rattle.fl_queries.specs.Looked.{Looks}
+use Rattle.fl_queries.specs.Nexts.{Nexts, ending_of, given_of}
 
 -- ---- replies
 

@@ -1,5 +1,5 @@
 -- What a command answers and leaves, and why, over any bytes and on any medium.
-use Rattle.std.specs.Prelude.{◌≡◌, ◌⊎◌, ℕ, ◌+◌, ◌-◌, ◌*◌, ◌<◌, ◌≤◌, min, Bool, true, false, not, is_ok, IsTrue, Option, None, Some, option_map, Result, Ok, Err, OnOk, IfErr, List, [], ◌∷◌, length, slice_get, ℤ}
+use Rattle.std.specs.Prelude.{◌≡◌, ◌⊎◌, ℕ, ◌+◌, ◌-◌, ◌*◌, ◌<◌, ◌≤◌, Bool, true, false, not, is_ok, IsTrue, Option, None, Some, option_map, Result, Ok, Err, OnOk, IfErr, List, [], ◌∷◌, length, slice_get, ℤ}
 use Rattle.std.specs.List.{AllByRecursion}
 use Rattle.fl_base.specs.declared.types.CutKind.{CutKind}
 use Rattle.fl_base.specs.declared.types.KeyRange.{KeyRange}
@@ -7,12 +7,10 @@ use Rattle.fl_base.specs.declared.types.Span.{Span}
 use Rattle.fl_cursor.specs.Asked.{above_range}
 use Rattle.fl_cursor.specs.declared.bookmark.Bookmark.{Bookmark}
 use Rattle.fl_flash.specs.Flash.{FlashState, Goes, page_at}
-use Rattle.fl_flash.specs.declared.flash.FlashFault.{FlashFault}
 use Rattle.fl_flash.specs.declared.flash.FlashFault.TheVariants.{PowerLost}
 use Rattle.fl_flash.specs.declared.tear.Tear.TheVariants.{Kind}
 use Rattle.fl_machine.specs.Step.{cost_reply}
 use Rattle.fl_frame.specs.Contents.{OnlyReads}
-use Rattle.fl_page.specs.declared.fault.BadPage.{BadPage}
 use Rattle.fl_page.specs.declared.fault.ReadFault.TheVariants as fault
 use Rattle.fl_ring.specs.Written as tried
 use Rattle.fl_rlc.specs.Paged.{HasMadePage, PutLogged}
@@ -26,9 +24,8 @@ use Rattle.fl_frame.specs.Causes.{CausedBy}
 use Rattle.fl_table.specs.Causes.{flush_breaks, put_breaks}
 use Rattle.fl_table.specs.BlobAt.{data_in, has_blobs}
 use Rattle.fl_parts.specs.Blobs.{most_pages}
-use Rattle.fl_table.specs.Finding.{IsAnswered, LookupFails}
-use Rattle.fl_table.specs.Look.{counts_in, last_key_in, layout_in, oldest_in}
-use Rattle.fl_table.specs.Memory.{next_in, pending_in, HasRoom, MaySeal}
+use Rattle.fl_table.specs.Look.{counts_in, last_key_in, layout_in}
+use Rattle.fl_table.specs.Memory.{pending_in, HasRoom, MaySeal}
 use Rattle.fl_table.specs.Mounting.{rings_in as table_rings}
 use Rattle.fl_table.specs.Paged.{HasFlushed}
 use Rattle.fl_table.specs.Refusal.{RefusesAs}
@@ -37,7 +34,6 @@ use Rattle.fl_table.specs.declared.faults.FlushFault.{FlushFault}
 use Rattle.fl_table.specs.declared.faults.FlushFault.TheVariants as flush
 use Rattle.fl_table.specs.declared.faults.PutRefusal.{PutRefusal}
 use Rattle.fl_table.specs.declared.faults.PutRefusal.TheVariants as put
-use Rattle.fl_table.specs.declared.table.Table.{Table}
 use Rattle.fl_store.specs.MountsOver.{MountsOver}
 use Rattle.fl_store.specs.Replies.{flush_reply, put_reply}
 use Rattle.fl_store.specs.Tables.{Names, entries_with}
@@ -46,17 +42,16 @@ use Rattle.fl_store.specs.declared.tables.Entry.{Entry}
 use Rattle.fl_words.specs.Command.{Command, Nothing, Device, Table as TableOf, Mount, Off, Cut, Put, Flush, Get, Blob, Scan, Open, Next, Close, Select, Project, Agg, Join, Stat, Cost, Load}
 use Rattle.fl_words.specs.Reply as reply
 use Rattle.fl_words.specs.Reply.{Reply, text, texts}
+use Rattle.fl_queries.specs.LookSays.{LookSays, ReadsFew}
+use Rattle.fl_queries.specs.ListSays.{mark_on, EndsRange, EndsPairs, EndsNext, EndsScan, IsFields, IsGroup, IsPair, ListSays}
+use Rattle.fl_queries.specs.Asked.{lacked_column}
+use Rattle.fl_queries.specs.BlobSays.{AnswersBlob, BlobSays, IsBadNamed, MayBeBadFor}
+use Rattle.fl_queries.specs.Rising.{AreRising, IsRow}
+use Rattle.fl_queries.specs.RowsGiven.{AreRows, MovesOver}
 use Rattle.fl_session.specs.Answer.{IsReached, load_replies, mount_reply}
-use Rattle.fl_session.specs.Asked.{lacked_column}
-use Rattle.fl_session.specs.BlobSays.{AnswersBlob, BlobSays, IsBadNamed, MayBeBadFor}
 use Rattle.fl_session.specs.Cost.{cost_of}
-use Rattle.fl_session.specs.Found.{FindsRow}
-use Rattle.fl_session.specs.ListSays.{EndsNext, EndsOnBoth, EndsScan, IsFields, IsGroup, IsPair, ListSays}
 use Rattle.fl_session.specs.LoadSays.{LoadFails, PutsRecords}
 use Rattle.fl_session.specs.Notes.{with_cursor, without_cursors}
-use Rattle.fl_session.specs.Rising.{AreRising, IsRow}
-use Rattle.fl_session.specs.Rows.{row_reply}
-use Rattle.fl_session.specs.RowsGiven.{AreRows, MovesOver}
 use Rattle.fl_session.specs.declared.cost.Cost.TheVariants.{OfGet, OfScan}
 use Rattle.fl_session.specs.declared.notes.Notes.{Notes}
 use Rattle.fl_session.specs.declared.notes.TableCursor.{TableCursor}
@@ -77,13 +72,7 @@ IsPowered s = s.mounted ≡ true → s.flash.is_on ≡ true
 
 -- ---- one reply
 
--- these bytes are the text of a reply of which this holds
-pub record Says (said : List ℕ) (Holds : Reply → Type 0) : Type 0 where
-  pub reply : Reply
-  pub said_is : said ≡ text reply
-  pub holds : Holds reply
-
--- .. and were written, or a front of them where the sink failed
+-- a reply of which this holds was written, or a front of it where the sink failed
 pub record Writes {E : Type 0} (told told_now : Option (List ℕ)) (result : Result (Unit {0}) E) (Holds : Reply → Type 0) : Type 0 where
   pub reply : Reply
   pub written : Written told told_now result (text reply)
@@ -207,17 +196,6 @@ abbrev pub StatSays : State → State → ℕ → Entry → Reply → Type 0
 StatSays old new at entry said = (new ≡ old) × (let counts = counts_in (table_in entry.table) in
     said ≡ reply.Stat counts.rows counts.pending counts.pages counts.voids old.flash.work.programs old.flash.work.erases)
 
--- before the first of the rows that are asked for, up to the last one that the table has now
-abbrev pub mark_on : Table 64 64 → KeyRange → Option Span → Bookmark
-mark_on t range span = record { after = None; top = option_map (λ last. min range.high last) (last_key_in t); range = range; span = span }
-
--- what ends a list of all rows of a range, and one of the pairs of two tables
-abbrev pub EndsRange : KeyRange → Table 64 64 → FlashState → FlashState → Bool → ℕ → Reply → Type 0
-EndsRange range t = EndsScan (mark_on t range None) t
-
-abbrev pub EndsPairs : KeyRange → Table 64 64 → Table 64 64 → FlashState → FlashState → Bool → ℕ → Reply → Type 0
-EndsPairs range t u = EndsOnBoth (mark_on t range None) (mark_on u range None) t u
-
 -- a cursor on the table is open there from then on, and nothing else is another
 abbrev pub OpenSays : State → State → ℕ → KeyRange → Option Span → ℕ → Entry → Reply → Type 0
 OpenSays old new cursor range span at entry said =
@@ -236,23 +214,6 @@ CloseSays old new cursor said =
     ((old.mounted ≡ false) × (said ≡ reply.NotMounted) × (new ≡ old))
     ⊎ ((old.mounted ≡ true) × IsClosed old cursor × (said ≡ reply.NoCursor) × (new ≡ old))
     ⊎ ((old.mounted ≡ true) × ((held : TableCursor) × IsOpen old cursor held) × (said ≡ reply.Done) × (new ≡ record old { notes = with_cursor old.notes cursor None }))
-
--- The line of a row with the key, which stands where the lookup found it.
-abbrev pub TellsRow : Table 64 64 → ℕ → FlashState → Reply → Type 0
-TellsRow t key f said = FindsRow t key f (λ row. said ≡ row_reply (has_blobs t) row)
-
--- The row with the key or that there is none, as the lookup in the table ends; a read fault, or the bad page, only where it
--- fails so.
-abbrev pub LookSays : Table 64 64 → ℕ → FlashState → FlashState → Reply → Type 0
-LookSays t key f g reply.Absent = IsAnswered t f key None
-LookSays t key f g (reply.Row k values note) = TellsRow t key f (reply.Row k values note)
-LookSays t key f g reply.ReadFault = (e : FlashFault) × LookupFails t f (fault.Flash e) g
-LookSays t key f g (reply.BadPage number) = (bad : BadPage) × (bad.wanted ≡ number) × LookupFails t f (fault.BadPage bad) g
-LookSays t key f g _ = ⊥
-
--- a lookup reads no more pages than the table keeps, and one
-abbrev pub ReadsFew : Table 64 64 → FlashState → FlashState → Type 0
-ReadsFew t f g = g.work.reads ≤ f.work.reads + (next_in t - oldest_in t) + 1
 
 -- the row of a key is looked up
 abbrev pub GetSays : State → State → ℕ → ℕ → Entry → Reply → Type 0

@@ -13,7 +13,7 @@ use Rattle.fl_script.specs.declared.reply.Reply.TheVariants.{NotMounted, NoTable
 use Rattle.fl_table.specs.Look.{counts_of}
 use Rattle.fl_table.specs.declared.counts.TableCounts.{TableCounts}
 use Rattle.fl_store.specs.Store.{IsLayoutOf}
-use Rattle.fl_session.specs.Standing.{AreForgotten, HasRooms}
+use Rattle.fl_queries.specs.Room.{AreForgotten, HasRooms}
 use Rattle.fl_session.specs.declared.opened.Rooms.{Rooms}
 
 -- there is room for a session of the configuration that these lines make

@@ -1,5 +1,5 @@
 -- A session, and the states of the machine for which it stands.
-use Rattle.std.specs.Prelude.{◌≡◌, ℕ, ◌<◌, Bool, true, false, IsTrue, List, length, None, Some, slice_get, if◌then◌else◌}
+use Rattle.std.specs.Prelude.{◌≡◌, ℕ, ◌<◌, Bool, true, false, IsTrue, List, length, Some, slice_get, if◌then◌else◌}
 use Rattle.fl_flash.specs.Flash.{FlashState}
 use Rattle.fl_flash.specs.Media.{MediaState}
 use Rattle.fl_frame.specs.Device.{SameDevice}
@@ -10,9 +10,10 @@ use Rattle.fl_machine.specs.Machine.{Machine, begins, no_cursors}
 use Rattle.fl_store.specs.Store.{IsOnMedium}
 use Rattle.fl_store.specs.Tables.{TablesStand, LieOn, AreRunning}
 use Rattle.fl_store.specs.declared.tables.Entry.{Entry}
+use Rattle.fl_queries.specs.Room.{HasRooms, AreForgotten}
+use Rattle.fl_queries.specs.declared.buffers.Buffers.{Buffers}
 use Rattle.fl_session.specs.Cost.{cost_of}
 use Rattle.fl_session.specs.Notes.{cursors_of}
-use Rattle.fl_session.specs.declared.buffers.Buffers.{Buffers}
 use Rattle.fl_session.specs.declared.notes.Notes.{Notes}
 use Rattle.fl_session.specs.declared.notes.TableCursor.{TableCursor}
 
@@ -26,15 +27,6 @@ pub record SessionStands (config : Config) (entries : List Entry) (f : FlashStat
   pub device : SameDevice f m.device
   pub cost_is : m.cost ≡ cost_of notes.cost
   pub power : IsTrue mounted → f.is_on ≡ true
-
--- each buffer has room for a page of this size
-abbrev pub HasRooms : Buffers → ℕ → Type 0
-HasRooms buf size =
-    (length buf.rows.bytes ≡ size) × (length buf.index.bytes ≡ size) × (length buf.right_rows.bytes ≡ size) × (length buf.right_index.bytes ≡ size)
-
--- no buffer holds a page
-abbrev pub AreForgotten : Buffers → Type 0
-AreForgotten buf = (buf.rows.holds ≡ None) × (buf.index.holds ≡ None) × (buf.right_rows.holds ≡ None) × (buf.right_index.holds ≡ None)
 
 -- what holds of a session always: a cursor that is open is over one of its tables
 pub record IsSound (entries : List Entry) (f : FlashState) (buf : Buffers) (mounted : Bool) (notes : Notes) : Type 0 where

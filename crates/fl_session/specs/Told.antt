@@ -1,18 +1,10 @@
 -- What a session tells beside the replies to its commands, over any bytes and on any medium.
 use Rattle.std.specs.Prelude.{◌≡◌, ◌⊎◌, ℕ, Option, Some, None, Result, Ok, Err, List, [], ◌∷◌, map, slice_get, if◌then◌else◌}
-use Rattle.fl_cursor.specs.Cursor.{MayBeBad}
-use Rattle.fl_flash.specs.Flash.{FlashState}
-use Rattle.fl_flash.specs.declared.flash.FlashFault.{FlashFault}
-use Rattle.fl_page.specs.Causes.{IsCaused}
-use Rattle.fl_frame.specs.Contents.{contents_of}
-use Rattle.fl_page.specs.declared.fault.BadPage.{BadPage}
-use Rattle.fl_page.specs.declared.fault.ReadFault.TheVariants as fault
 use Rattle.fl_rlc.specs.Table.{table_in}
 use Rattle.fl_script.specs.declared.reply.Reply.{Reply}
-use Rattle.fl_script.specs.declared.reply.Reply.TheVariants as reply
 use Rattle.fl_table.specs.Memory.{pending_in}
-use Rattle.fl_table.specs.declared.table.Table.{Table}
 use Rattle.fl_store.specs.declared.tables.Entry.{Entry}
+use Rattle.fl_queries.specs.OldestTold.{OldestIn}
 use Rattle.fl_session.specs.Answer.{Refusal}
 use Rattle.fl_session.specs.Caused.{IsHere, OnlyLooks, State}
 use Rattle.fl_session.specs.Pending.{rows_of}
@@ -24,13 +16,6 @@ use Rattle.fl_session.specs.declared.status.Status.TheVariants.{Done}
 abbrev pub TellsOf : {A : Type 0} → State → List ℕ → (Entry → A → Type 0) → Result A Reply → Type 0
 TellsOf s name Tells (Ok told) = (at : ℕ) × (entry : Entry) × IsHere s name at entry × Tells entry told
 TellsOf s name Tells (Err refusal) = Refusal s.entries s.mounted name refusal
-
--- A key or that there is none; or why a page wasn't read: the flash failed, or the page is a bad one of the table or its index.
-abbrev pub OldestIn : Table 64 64 → FlashState → FlashState → Result (Option ℕ) Reply → Type 0
-OldestIn t f g (Ok key) = Unit {0}
-OldestIn t f g (Err reply.ReadFault) = (e : FlashFault) × IsCaused f (fault.Flash e) g
-OldestIn t f g (Err (reply.BadPage number)) = (bad : BadPage) × (bad.wanted ≡ number) × MayBeBad t (contents_of f) bad
-OldestIn t f g (Err said) = ⊥
 
 -- it is refused as a command on the table is, and nothing changes; or the table and its pages are only looked at
 abbrev pub OldestSays : State → State → List ℕ → Result (Option ℕ) Reply → Type 0

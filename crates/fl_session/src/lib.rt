@@ -2,33 +2,17 @@
 #![tactic(auto)]
 
 mod begin;
-mod blob;
-mod blob_line;
-mod blob_note;
-mod buffers;
 mod commands;
 mod cost;
-mod cursors;
 mod executor;
-mod field_lines;
 mod generator;
-mod group_lines;
 mod laws;
-mod listing;
 mod load;
-mod lookup;
 mod next;
 mod notes;
-mod oldest;
 mod opened;
-mod operators;
-mod pair_lines;
 mod pending;
 mod replies;
-mod reply_lines;
-mod row_lines;
-mod rows;
-mod scans;
 mod session;
 mod status;
 mod whole_run;

@@ -12,12 +12,12 @@ ghost use Rattle.fl_session.specs.CausedEach.{IsNewSession};
 ghost use Rattle.fl_session.specs.Held.{AreRoomsFor};
 ghost use Rattle.fl_session.specs.Standing.{RestsTold};
 
-use crate::buffers::Buffers;
 use crate::executor::Executor;
 use crate::session::Session;
 use fl_base::NoMemory;
 use fl_config::Config;
 use fl_flash::Media;
+use fl_queries::Buffers;
 use fl_store::{KNOTS, Layout, Store};
 use std::alloc::Global;
 

@@ -19,7 +19,8 @@ use Rattle.fl_rlc.specs.declared.rings.RingCounts.{RingCounts}
 use Rattle.fl_script.specs.Written.{Written}
 use Rattle.fl_script.specs.declared.reply.Reply as code
 use Rattle.fl_session.specs.Held.{TellsTable, TellsCounts, TellsRings, TellsLast}
-use Rattle.fl_session.specs.Oldest.{oldest_blob, FindsOf, FindsOldest, LooksFor}
+use Rattle.fl_queries.specs.OldestBlob.{oldest_blob, FindsOldest}
+use Rattle.fl_session.specs.Oldest.{FindsOf, LooksFor}
 use Rattle.fl_session.proofs.NextCommand.{appends-more}
 use Rattle.fl_table.specs.Look.{counts_of}
 use Rattle.fl_table.specs.declared.counts.TableCounts.{TableCounts}

@@ -24,8 +24,8 @@ use Rattle.fl_model.specs.Query.{matches, selected}
 use Rattle.fl_model.specs.Record.{Config, Plan, Record}
 use Rattle.fl_model.specs.Table.{Entry}
 use Rattle.fl_script.specs.Written.{Written}
-use Rattle.fl_session.specs.Keys.{all_keys}
-use Rattle.fl_session.proofs.Few.{length-filter}
+use Rattle.fl_queries.specs.Keys.{all_keys}
+use Rattle.fl_queries.proofs.Few.{length-filter}
 use Rattle.fl_session.specs.Execute.{Executes}
 use Rattle.fl_words.specs.Grammar.{words_in}
 use Rattle.fl_words.specs.Reply as reply

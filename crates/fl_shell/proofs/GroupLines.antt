@@ -14,8 +14,8 @@ use Rattle.fl_model.specs.Record.{Record}
 use Rattle.fl_words.specs.Reply as reply
 use Rattle.fl_words.specs.Reply.{Reply, text, texts}
 use Rattle.fl_machine.specs.Step.{Lists, group_reply}
-use Rattle.fl_session.proofs.Few.{length-filter}
-use Rattle.fl_session.proofs.GroupLines.{filter_map-fewer}
+use Rattle.fl_queries.proofs.Few.{length-filter}
+use Rattle.fl_queries.proofs.GroupLines.{filter_map-fewer}
 use Rattle.fl_shell.specs.FirstKey.{BeginsShort, IsBelow}
 
 -- ---- two groups at most

@@ -19,7 +19,7 @@ use Rattle.fl_reason.specs.declared.line.LineReason.TheVariants.{TooLong, Unknow
 use Rattle.fl_script.specs.Written.{Written}
 use Rattle.fl_session.specs.Cost.{ReadsAsStated, ReadsScan}
 use Rattle.fl_session.specs.Execute.{Executes}
-use Rattle.fl_session.specs.Keys.{all_keys}
+use Rattle.fl_queries.specs.Keys.{all_keys}
 use Rattle.fl_session.proofs.NextCommand.{on-table-weaker}
 use Rattle.fl_shell.specs.Own.{Own, Describe, First, own_of}
 use Rattle.fl_shell.specs.Refusal.{Refuses}

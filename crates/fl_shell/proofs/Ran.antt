@@ -19,7 +19,7 @@ use Rattle.fl_machine.proofs.FewReads.{most_of_a_scan, scan-of-name}
 use Rattle.fl_machine.proofs.KeptPuts.{keeps-puts}
 use Rattle.fl_machine.proofs.Steps.{finds}
 use Rattle.fl_session.specs.Execute.{Executes, IsAlike, IsReady, StandsAlike}
-use Rattle.fl_session.specs.Keys.{all_keys}
+use Rattle.fl_queries.specs.Keys.{all_keys}
 use Rattle.fl_session.specs.Oldest.{reads_of}
 use Rattle.fl_session.proofs.NextCommand.{at_end, end_of-more, ran-none, ran-further, ran-further_moments, risen-more, rose-more, run-more}
 use Rattle.fl_session.proofs.RunEnds.{rose-earlier}

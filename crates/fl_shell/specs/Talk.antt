@@ -15,8 +15,8 @@ use Rattle.fl_model.specs.Record.{Config, Plan, has_var, rows_per_page}
 use Rattle.fl_model.specs.Table.{Table, last_entry}
 use Rattle.fl_rlc.specs.Rings.{rings_of}
 use Rattle.fl_rlc.specs.declared.rings.RingCounts.{RingCounts}
-use Rattle.fl_session.specs.Keys.{all_keys}
-use Rattle.fl_session.specs.Oldest.{oldest_blob}
+use Rattle.fl_queries.specs.Keys.{all_keys}
+use Rattle.fl_queries.specs.OldestBlob.{oldest_blob}
 use Rattle.fl_sizing.specs.Sizes.{rows_kept}
 use Rattle.fl_sizing.specs.Text.{figure_line}
 use Rattle.fl_table.specs.Look.{counts_of}

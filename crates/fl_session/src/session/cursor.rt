@@ -7,15 +7,16 @@ ghost use Rattle.fl_words.specs.Command as words;
 ghost use Rattle.fl_machine.specs.Machine.{Machine};
 ghost use Rattle.fl_script.specs.ReplyView.{reply_text};
 ghost use Rattle.fl_session.specs.Answer.{Answers};
-ghost use Rattle.fl_session.specs.Caused.{Caused, CloseSays, OnTable, OpenSays, Says};
+ghost use Rattle.fl_queries.specs.LookSays.{Says};
+ghost use Rattle.fl_session.specs.Caused.{Caused, CloseSays, OnTable, OpenSays};
 ghost use Rattle.fl_session.specs.Execute.{Executes};
 
 use super::Session;
-use crate::cursors::{next_rows, open_cursor};
 use crate::executor::Executor;
 use crate::notes::TableCursor;
 use fl_base::{KeyRange, Name, Sink, SinkFailed, Span};
 use fl_flash::{Flash, Media, SimFlash};
+use fl_queries::{next_rows, open_cursor};
 use fl_script::{Reply, write_reply};
 
 impl<'m, M: Media> Session<'m, M> {

@@ -10,10 +10,10 @@ ghost use Rattle.fl_session.specs.Execute.{Executes};
 
 use super::Session;
 use crate::executor::Executor;
-use crate::operators::{Comparison, aggregate, join, lacked_column, project, select};
 use arrayvec::ArrayVec;
 use fl_base::{KeyRange, Name, Sink, SinkFailed};
 use fl_flash::{Flash, Media, SimFlash};
+use fl_queries::{Comparison, aggregate, join, lacked_column, project, select};
 use fl_script::{Reply, write_reply};
 
 impl<'m, M: Media> Session<'m, M> {

@@ -6,7 +6,8 @@ ghost use Rattle.fl_words.specs.Command as words;
 ghost use Rattle.fl_machine.specs.Machine.{Machine};
 ghost use Rattle.fl_script.specs.ReplyView.{reply_text};
 ghost use Rattle.fl_session.specs.Answer.{Answers};
-ghost use Rattle.fl_session.specs.Caused.{CutSays, OffSays, Says};
+ghost use Rattle.fl_queries.specs.LookSays.{Says};
+ghost use Rattle.fl_session.specs.Caused.{CutSays, OffSays};
 
 use super::Session;
 use crate::executor::Executor;

@@ -6,13 +6,12 @@ use Rattle.fl_table.specs.Look.{layout_in}
 use Rattle.fl_table.specs.declared.table.Table.{Table}
 use Rattle.fl_words.specs.Command as words
 use Rattle.fl_machine.specs.Step.{group_reply, records_of}
-use Rattle.fl_session.specs.Asked.{lacked_column}
+use Rattle.fl_queries.specs.Asked.{lacked_column}
 use Rattle.fl_session.proofs.CommandReplies.{step-is}
-use Rattle.fl_session.specs.Caused.{EndsRange}
-use Rattle.fl_session.specs.ListSays.{IsGroup}
-use Rattle.fl_session.proofs.AnyLines.{looks-lists}
+use Rattle.fl_queries.specs.ListSays.{EndsRange, IsGroup}
+use Rattle.fl_session.proofs.LooksAt.{looks-lists}
 use Rattle.fl_session.proofs.CountedReads.{has-read}
-use Rattle.fl_session.proofs.GetReplies.{goes-reads}
+use Rattle.fl_queries.proofs.LeftByReads.{goes-reads}
 use Rattle.fl_session.proofs.NamedTable.{reached-here, reached-within}
 use Rattle.fl_session.proofs.Sound.{sound-roomed}
 use Rattle.fl_session.proofs.Operations.{operator-executes, operator-no_column, operator-refused, has-column, lacks-column}

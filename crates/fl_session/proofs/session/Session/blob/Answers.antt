@@ -1,10 +1,10 @@
 use Rattle.std.proofs.Common.{◌≡◌, ◌-◌, ◌^◌, ◌<◌, Some, rules, refl, ap, subst, inl, inr}
 use Rattle.std.specs.List.{slice_get}
 use Rattle.fl_flash.specs.declared.flash.Work.{Work}
-use Rattle.fl_session.proofs.BadBlobs.{looks-blob}
+use Rattle.fl_session.proofs.LooksAt.{looks-blob}
 use Rattle.fl_session.proofs.BlobReplies.{blob-executes, blob-refused}
 use Rattle.fl_session.proofs.CountedReads.{has-read}
-use Rattle.fl_session.proofs.GetReplies.{goes-reads}
+use Rattle.fl_queries.proofs.LeftByReads.{goes-reads}
 use Rattle.fl_session.proofs.NamedTable.{reached-here, reached-within}
 use Rattle.fl_session.proofs.Sound.{sound-read}
 use Rattle.fl_session.proofs.ReplyCauses.{refusal-says, says-written, is-here}

@@ -3,7 +3,8 @@ use Rattle.std.specs.List.{slice_get}
 use Rattle.fl_flash.specs.declared.flash.Work.{Work}
 use Rattle.fl_session.specs.declared.cost.Cost.TheVariants.{OfGet}
 use Rattle.fl_session.proofs.CountedReads.{has-read}
-use Rattle.fl_session.proofs.GetReplies.{get-executes, get-refused, goes-reads, look-said, reads-few}
+use Rattle.fl_queries.proofs.LeftByReads.{goes-reads}
+use Rattle.fl_session.proofs.GetReplies.{get-executes, get-refused, look-said, reads-few}
 use Rattle.fl_session.proofs.NamedTable.{reached-here, reached-within}
 use Rattle.fl_session.proofs.Sound.{sound-read}
 use Rattle.fl_session.proofs.ReplyCauses.{on-refusal, says-written, is-here, only-looks}

@@ -1,9 +1,9 @@
 use Rattle.std.proofs.Common.{◌≡◌, ◌^◌, ◌<◌, Some, rules, refl, ap, subst, inl, inr}
 use Rattle.std.specs.List.{slice_get}
 use Rattle.fl_flash.specs.declared.flash.Work.{Work}
-use Rattle.fl_session.proofs.AnyLines.{looks-pairs}
+use Rattle.fl_session.proofs.LooksAt.{looks-pairs}
 use Rattle.fl_session.proofs.CountedReads.{has-read}
-use Rattle.fl_session.proofs.GetReplies.{goes-reads}
+use Rattle.fl_queries.proofs.LeftByReads.{goes-reads}
 use Rattle.fl_session.proofs.Operations.{join-executes, join-refused, join-alone}
 use Rattle.fl_session.proofs.NamedTable.{reached-here, reached-within}
 use Rattle.fl_session.proofs.Sound.{sound-roomed}

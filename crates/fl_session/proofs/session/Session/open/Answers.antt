@@ -3,7 +3,7 @@ use Rattle.std.specs.List.{slice_get}
 use Rattle.std.specs.Prelude.{option_map, unwrap_or}
 use Rattle.fl_frame.proofs.CallsInTurn.{goes-same}
 use Rattle.fl_table.specs.declared.table.Table.{Table}
-use Rattle.fl_session.specs.Caused.{mark_on}
+use Rattle.fl_queries.specs.ListSays.{mark_on}
 use Rattle.fl_session.specs.declared.notes.TableCursor.{TableCursor}
 use Rattle.fl_session.proofs.CursorsOf.{open-call, open-refused}
 use Rattle.fl_session.proofs.NamedTable.{reached-here, reached-within}

@@ -4,12 +4,11 @@ use Rattle.fl_flash.specs.declared.flash.Work.{Work}
 use Rattle.fl_table.specs.BlobAt.{has_blobs}
 use Rattle.fl_table.specs.declared.table.Table.{Table}
 use Rattle.fl_session.specs.declared.cost.Cost.TheVariants.{OfScan}
-use Rattle.fl_session.specs.Caused.{mark_on}
-use Rattle.fl_session.specs.ListSays.{EndsScan}
-use Rattle.fl_session.specs.RowsGiven.{AreRows}
-use Rattle.fl_session.proofs.AnyLines.{looks-lists}
+use Rattle.fl_queries.specs.ListSays.{mark_on, EndsScan}
+use Rattle.fl_queries.specs.RowsGiven.{AreRows}
+use Rattle.fl_session.proofs.LooksAt.{looks-lists}
 use Rattle.fl_session.proofs.CountedReads.{has-read}
-use Rattle.fl_session.proofs.GetReplies.{goes-reads}
+use Rattle.fl_queries.proofs.LeftByReads.{goes-reads}
 use Rattle.fl_session.proofs.NamedTable.{reached-here, reached-within}
 use Rattle.fl_session.proofs.ScanReplies.{scan-executes, scan-refused}
 use Rattle.fl_session.proofs.Sound.{sound-read}

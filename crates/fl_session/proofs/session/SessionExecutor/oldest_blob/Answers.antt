@@ -1,7 +1,7 @@
 use Rattle.std.proofs.Common.{◌≡◌, Some, inl, inr, refl}
 use Rattle.std.specs.List.{slice_get}
 use Rattle.fl_frame.proofs.CallsInTurn.{stays}
-use Rattle.fl_session.proofs.GetReplies.{goes-reads}
+use Rattle.fl_queries.proofs.LeftByReads.{goes-reads}
 use Rattle.fl_session.proofs.LookingFor.{looks-refused, looks-there}
 use Rattle.fl_session.proofs.NamedTable.{reached-here, reached-within}
 use Rattle.fl_session.proofs.ReplyCauses.{is-here, only-looks}

@@ -1,0 +1,45 @@
+use Rattle.std.proofs.Common.{◌∙◌, refl}
+use Rattle.fl_schema.specs.Schema.{row_of}
+use Rattle.fl_queries.proofs.Lookups.{looks-absent, looks-found, looks-unread, tells-row}
+use Rattle.fl_queries.proofs.RowLines.{blobs-as}
+use Rattle.fl_queries.specs.Rows.{row_reply}
+use Rattle.fl_words.specs.Reply as reply
+use Rattle.fl_queries.proofs.lookup.look_up.Goals as goal
+
+pub returns-in-Ok-None-clause-looks : goal.returns-in-Ok-None-clause-looks
+returns-in-Ok-None-clause-looks g c = λ first plan t told on stands.
+    let found = rw c.in-Ok-None.field-0-is at (c.in-Ok-None.ensures.finds first plan t told stands) in
+    looks-absent plan t c.args.key _ _ _ _ _ _ found (c.in-Ok-None.ensures.reads first plan t told stands) found.entry refl
+
+pub returns-in-Ok-Some-clause-looks : goal.returns-in-Ok-Some-clause-looks
+returns-in-Ok-Some-clause-looks g c = λ first plan t told on stands.
+    let found = rw c.in-Ok-Some.field-0-is at (c.in-Ok-Some.ensures.finds first plan t told stands) in
+    looks-found plan t c.args.key _ _ _ _ c.find.new.buf c.in-Ok-Some.place (row_of c.row_at.result) c.form_of-form.result.blobs _ (c.form_of-form.ensures.blobs ∙ blobs-as c.args.table.now _ first plan t stands) stands.facts found (c.in-Ok-Some.ensures.reads first plan t told stands) found.entry (c.row_at.ensures.stands _ first plan t stands) c.line_of.ensures
+
+pub returns-in-Err-Flash-clause-looks : goal.returns-in-Err-Flash-clause-looks
+returns-in-Err-Flash-clause-looks g c = λ first plan t told on stands.
+    looks-unread plan t c.args.key c.args.table.now (g.F.Flash.state c.args.flash.now) (g.F.Flash.state c.find.new.flash) c.in-Err-Flash.field-0-0 _ on (rw c.in-Err-Flash.field-0-is at c.in-Err-Flash.ensures.fails) (c.in-Err-Flash.ensures.reads first plan t told stands) refl
+
+pub returns-in-Err-BadPage-clause-looks : goal.returns-in-Err-BadPage-clause-looks
+returns-in-Err-BadPage-clause-looks g c = λ first plan t told on stands. absurd (rw c.in-Err-BadPage.field-0-is at (c.in-Err-BadPage.ensures.finds first plan t told stands))
+
+pub returns-in-Ok-None-clause-cause : goal.returns-in-Ok-None-clause-cause
+returns-in-Ok-None-clause-cause g c = record { reply = reply.Absent; said_is = refl; holds = rw c.in-Ok-None.field-0-is at c.in-Ok-None.ensures.answers }
+
+pub returns-in-Ok-Some-clause-cause : goal.returns-in-Ok-Some-clause-cause
+returns-in-Ok-Some-clause-cause g c = record {
+  reply = row_reply c.form_of-form.result.blobs (row_of c.row_at.result);
+  said_is = c.line_of.ensures;
+  holds = tells-row c.args.table.now c.args.key (g.F.Flash.state c.args.flash.now) (g.F.Flash.state c.find.new.flash) c.find.new.buf c.in-Ok-Some.place (row_of c.row_at.result) c.form_of-form.result.blobs c.form_of-form.ensures.blobs
+      c.find.ensures.counts (rw c.in-Ok-Some.field-0-is at c.in-Ok-Some.ensures.holds) c.row_at.ensures.row (rw c.in-Ok-Some.field-0-is at c.in-Ok-Some.ensures.key) (rw c.in-Ok-Some.field-0-is at c.in-Ok-Some.ensures.answers);
+}
+
+pub returns-in-Err-Flash-clause-cause : goal.returns-in-Err-Flash-clause-cause
+returns-in-Err-Flash-clause-cause g c = record { reply = reply.ReadFault; said_is = refl; holds = (c.in-Err-Flash.field-0-0, rw c.in-Err-Flash.field-0-is at c.in-Err-Flash.ensures.fails) }
+
+pub returns-in-Err-BadPage-clause-cause : goal.returns-in-Err-BadPage-clause-cause
+returns-in-Err-BadPage-clause-cause g c = rw c.in-Err-BadPage.field-0-is (record {
+  reply = reply.BadPage c.in-Err-BadPage.bad.wanted;
+  said_is = refl;
+  holds = (c.in-Err-BadPage.bad, refl, rw c.in-Err-BadPage.field-0-is at c.in-Err-BadPage.ensures.fails);
+})
