@@ -12,9 +12,9 @@ use Rattle.fl_page.specs.Page.{rows_in}
 use Rattle.fl_page.specs.Steps.{Ascends}
 use Rattle.fl_ring.specs.Newest.{commits}
 use Rattle.fl_ring.specs.Ring.{Shape}
-use Rattle.fl_check.specs.Marks.{kept_page}
-use Rattle.fl_check.specs.Rising.{last_in, last_key, KeysAscend}
-use Rattle.fl_check.specs.declared.marks.Marks.{Marks}
+use Rattle.fl_rules.specs.Marks.{kept_page}
+use Rattle.fl_rules.specs.Rising.{last_in, last_key, KeysAscend}
+use Rattle.fl_rules.specs.declared.marks.Marks.{Marks}
 
 join : (before : Option ℕ) (rows others : List Row) → Ascends before rows → Ascends (last_in before rows) others → Ascends before (rows ++ others)
 join before [] others front back = back

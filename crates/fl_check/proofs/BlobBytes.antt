@@ -6,9 +6,9 @@ use Rattle.fl_base.specs.declared.types.RingPlace.{RingPlace}
 use Rattle.fl_model.specs.Row.{Row}
 use Rattle.fl_model.specs.Table.{Entry}
 use Rattle.fl_ring.specs.Ring.{Shape}
-use Rattle.fl_check.specs.References.{numbered, content_room}
-use Rattle.fl_check.specs.declared.numbering.Numbering.{Numbering}
-use Rattle.fl_check.proofs.TablePages.{ReadsAll, entry_by, zeros, zeros-all}
+use Rattle.fl_rules.specs.References.{numbered, content_room}
+use Rattle.fl_rules.specs.declared.numbering.Numbering.{Numbering}
+use Rattle.fl_rules.proofs.TablePages.{ReadsAll, entry_by, zeros, zeros-all}
 
 -- so many bytes from the k-th on
 abbrev pub bytes_from : (ℕ → ℕ) → ℕ → ℕ → List ℕ

@@ -5,21 +5,21 @@ use Rattle.fl_flash.specs.Flash.{FlashState, page_at}
 use Rattle.fl_model.specs.Record.{RowLayout}
 use Rattle.fl_plan.specs.declared.table_config.TableConfig.{TableConfig}
 use Rattle.fl_ring.specs.Ring.{Shape}
-use Rattle.fl_check.specs.Claims.{AllBelow}
-use Rattle.fl_check.specs.ContentPage.{IsContentPage}
+use Rattle.fl_rules.specs.Claims.{AllBelow}
+use Rattle.fl_rules.specs.ContentPage.{IsContentPage}
 use Rattle.fl_frame.specs.Reads.{OnlyLooks}
-use Rattle.fl_check.specs.Reaches.{AreReaches, HasContent, AreMeasured}
-use Rattle.fl_check.specs.References.{HasRows, PageLeads, ReferencesBreak}
-use Rattle.fl_check.specs.Rising.{HaveRows}
-use Rattle.fl_check.specs.RingRules.{NoRows, IsRingSound}
+use Rattle.fl_rules.specs.Reaches.{AreReaches, HasContent, AreMeasured}
+use Rattle.fl_rules.specs.References.{HasRows, PageLeads, ReferencesBreak}
+use Rattle.fl_rules.specs.Rising.{HaveRows}
+use Rattle.fl_rules.specs.RingRules.{NoRows, IsRingSound}
 use Rattle.fl_check.specs.Whole.{Fits, shape_in, rows_shape, layout_in, index_end, tally_in, AreRingsSound, AreEntriesSound, AreReferencesSound, IsFirstFault}
 use Rattle.fl_check.specs.declared.finding.RingName.TheVariants.{Data}
 use Rattle.fl_check.specs.declared.halt.Fault.{Fault}
-use Rattle.fl_check.specs.declared.marks.Marks.{Marks}
-use Rattle.fl_check.specs.declared.numbering.Numbering.{Numbering}
-use Rattle.fl_check.specs.declared.rule.Rule.TheVariants.{Blob}
+use Rattle.fl_rules.specs.declared.marks.Marks.{Marks}
+use Rattle.fl_rules.specs.declared.numbering.Numbering.{Numbering}
+use Rattle.fl_rules.specs.declared.rule.Rule.TheVariants.{Blob}
 use Rattle.fl_check.specs.declared.table.TableNumbers.{TableNumbers}
-use Rattle.fl_check.proofs.LooksChangeNothing.{same_pages, told_still}
+use Rattle.fl_rules.proofs.LooksChangeNothing.{same_pages, told_still}
 use Rattle.fl_check.proofs.RingsKnown.{sound_rows, sound_content}
 use Rattle.fl_check.proofs.RulesTold.{told_of}
 use Rattle.fl_check.proofs.Wholes.{of_ring, in_ring, references_fault}

@@ -6,7 +6,7 @@ use Rattle.fl_base.specs.declared.types.RingPlace.{RingPlace}
 use Rattle.fl_bitmap.proofs.Widths.{widths}
 use Rattle.fl_bitmap.specs.Widths.{is_bits}
 use Rattle.fl_bitmap.specs.declared.buckets.Buckets.{Buckets}
-use Rattle.fl_check.specs.DataPage.{HasBuckets}
+use Rattle.fl_rules.specs.DataPage.{HasBuckets}
 use Rattle.fl_index.specs.Page.{form_len}
 use Rattle.fl_index.specs.declared.page.EntryForm.{EntryForm}
 use Rattle.fl_index.proofs.WaitingEntries.{width-le, width-le22}

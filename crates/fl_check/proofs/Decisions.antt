@@ -1,7 +1,7 @@
 -- Checks of which one thing passes or one is told, and never both: one check after another is such a check.
 use Rattle.std.proofs.Common.{◌≡◌, ◌⊎◌, inl, inr, ℕ, refl, sym, ◌∙◌, ap, subst}
-use Rattle.fl_check.specs.declared.rule.Breach.{Breach}
-use Rattle.fl_check.specs.declared.rule.Rule.{Rule}
+use Rattle.fl_rules.specs.declared.rule.Breach.{Breach}
+use Rattle.fl_rules.specs.declared.rule.Rule.{Rule}
 
 pub record Decided {X B : Type 0} (Passes : X → Type 0) (Breaks : B → Type 0) : Type 0 where
   pub one : (x y : X) → Passes x → Passes y → x ≡ y

@@ -4,17 +4,17 @@ use Rattle.std.specs.Prelude.{is_none}
 use Rattle.fl_base.specs.declared.types.RingPlace.{RingPlace}
 use Rattle.fl_plan.specs.declared.table_config.TableConfig.{TableConfig}
 use Rattle.fl_ring.specs.Ring.{Shape}
-use Rattle.fl_check.specs.Claims.{AllBelow}
+use Rattle.fl_rules.specs.Claims.{AllBelow}
 use Rattle.fl_check.specs.Entries.{HaveEntries, EntriesBreak}
 use Rattle.fl_check.specs.Faults.{with_keys, is_clear, are_clear, fault_of, ring_faults, table_faults}
-use Rattle.fl_check.specs.Marks.{AreMarks}
-use Rattle.fl_check.specs.Numbering.{IsNumbered}
-use Rattle.fl_check.specs.References.{PageLeads, ReferencesBreak}
-use Rattle.fl_check.specs.Rest.{IsRestBlank, RestBreaks}
-use Rattle.fl_check.specs.RingRules.{KeyOrder, NoRows, OverPages, WithinPages, IsFormed, HaveKeys, BreakKeys, IsRingSound, BreaksRing}
+use Rattle.fl_rules.specs.Marks.{AreMarks}
+use Rattle.fl_rules.specs.Numbering.{IsNumbered}
+use Rattle.fl_rules.specs.References.{PageLeads, ReferencesBreak}
+use Rattle.fl_rules.specs.Rest.{IsRestBlank, RestBreaks}
+use Rattle.fl_rules.specs.RingRules.{KeyOrder, NoRows, OverPages, WithinPages, IsFormed, HaveKeys, BreakKeys, IsRingSound, BreaksRing}
 use Rattle.fl_check.specs.Rules as all
 use Rattle.fl_check.specs.Ruled.{BodiesTold, NumbersTold, HeadTold, RingTold, KeysTold, RowsTold}
-use Rattle.fl_check.specs.States.{HaveStates, StatesBreak}
+use Rattle.fl_rules.specs.States.{HaveStates, StatesBreak}
 use Rattle.fl_check.specs.Whole.{OfRing, shape_in, rows_shape, layout_in, indexing, index_end, tally_in, IsIndexForm, IsRowsForm, IsVarForm, IsLogForm, IsIndexSound, IsVarSound, IsLogSound, AreRingsSound, AreEntriesSound, AreReferencesSound, IsSound, IsFinding}
 use Rattle.fl_check.specs.declared.faults.RingFaults.{RingFaults}
 use Rattle.fl_check.specs.declared.faults.TableFaults.{TableFaults}
@@ -22,11 +22,11 @@ use Rattle.fl_check.specs.declared.finding.Finding.{Finding}
 use Rattle.fl_check.specs.declared.finding.Finding.TheVariants.{Fault}
 use Rattle.fl_check.specs.declared.finding.RingName.{RingName}
 use Rattle.fl_check.specs.declared.finding.RingName.TheVariants as named
-use Rattle.fl_check.specs.declared.marks.Marks.{Marks}
-use Rattle.fl_check.specs.declared.numbering.Numbering.{Numbering}
-use Rattle.fl_check.specs.declared.rule.Rule.{Rule}
+use Rattle.fl_rules.specs.declared.marks.Marks.{Marks}
+use Rattle.fl_rules.specs.declared.numbering.Numbering.{Numbering}
+use Rattle.fl_rules.specs.declared.rule.Rule.{Rule}
 use Rattle.fl_check.specs.declared.table.TableNumbers.{TableNumbers}
-use Rattle.fl_check.specs.declared.rule.Rule.TheVariants.{Head, State, Number, Body, Keys, Entry, Blob, Rest}
+use Rattle.fl_rules.specs.declared.rule.Rule.TheVariants.{Head, State, Number, Body, Keys, Entry, Blob, Rest}
 
 -- ---- one list of what is told after another
 

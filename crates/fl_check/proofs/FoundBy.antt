@@ -12,9 +12,9 @@ use Rattle.fl_ring.specs.Newest.{NoneBefore, IsNewest}
 use Rattle.fl_ring.specs.Numbers.{next_by, NumbersFit}
 use Rattle.fl_ring.specs.Ring.{Shape}
 use Rattle.fl_check.specs.MountLaw.{numbers_of}
-use Rattle.fl_check.specs.Numbering.{IsNumbered}
-use Rattle.fl_check.specs.Numbers.{next_of, FitsPlace}
-use Rattle.fl_check.specs.declared.marks.Marks.{Marks}
+use Rattle.fl_rules.specs.Numbering.{IsNumbered}
+use Rattle.fl_rules.specs.Numbers.{next_of, FitsPlace}
+use Rattle.fl_rules.specs.declared.marks.Marks.{Marks}
 
 module _ (f : FlashState) (r : Shape) (at_least : ℕ) (m : Marks) (next : ℕ) (is : IsNumbered (page_at f) r at_least m next) where
   abbrev front : Front

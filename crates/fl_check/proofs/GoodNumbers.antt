@@ -11,12 +11,12 @@ use Rattle.fl_ring.specs.Newest.{back_from, NoneBefore, IsNewest}
 use Rattle.fl_ring.specs.Numbers.{renumbered, next_by}
 use Rattle.fl_ring.specs.Ring.{Shape, RingState, IsShape, oldest}
 use Rattle.fl_ring.proofs.GoodNumbers.{commits_some, number_some, number_is, next_is, fits}
-use Rattle.fl_check.specs.Claims.{AllBelow}
-use Rattle.fl_check.specs.Marks.{AreMarks, kept_page}
-use Rattle.fl_check.specs.Numbers.{NewestOf, next_of, FitsPlace, HasItsNumber, IsLeft, NumbersBreak}
-use Rattle.fl_check.specs.declared.marks.Marks.{Marks}
+use Rattle.fl_rules.specs.Claims.{AllBelow}
+use Rattle.fl_rules.specs.Marks.{AreMarks, kept_page}
+use Rattle.fl_rules.specs.Numbers.{NewestOf, next_of, FitsPlace, HasItsNumber, IsLeft, NumbersBreak}
+use Rattle.fl_rules.specs.declared.marks.Marks.{Marks}
 use Rattle.fl_check.proofs.GoodStates.{all_ordered, torn_is, kept_is, holds_kept}
-use Rattle.fl_check.proofs.NumbersOfRing.{none_numbered, least_is}
+use Rattle.fl_rules.proofs.NumbersOfRing.{none_numbered, least_is}
 
 module _ (f : FlashState) (r : Shape) (at_least : ℕ) (s : RingState) (shape : IsShape r) (good : IsGood f r at_least s) (m : Marks) (marks : AreMarks (page_at f) r m) where
   head : HasHead f r m.pages.front

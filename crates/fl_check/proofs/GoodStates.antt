@@ -11,10 +11,10 @@ use Rattle.fl_ring.specs.Ring.{Shape, RingState, IsShape, OnRing, HoldsKept, cou
 use Rattle.fl_ring.proofs.Facts.{sizes, two_blocks}
 use Rattle.fl_ring.proofs.Found.{blank_state, kept_sealed, head_found}
 use Rattle.fl_ring.proofs.Good.{front_found, no_gap, torn_found, kept_found, place_found, kept_at_back}
-use Rattle.fl_check.specs.Marks.{HasOneHead, IsOrdered, AreMarks, kept_page}
-use Rattle.fl_check.specs.Rest.{IsRestBlank}
-use Rattle.fl_check.specs.States.{IsBlankAfter, page_after, HaveStates, StatesBreak}
-use Rattle.fl_check.specs.declared.marks.Marks.{Marks}
+use Rattle.fl_rules.specs.Marks.{HasOneHead, IsOrdered, AreMarks, kept_page}
+use Rattle.fl_rules.specs.Rest.{IsRestBlank}
+use Rattle.fl_rules.specs.States.{IsBlankAfter, page_after, HaveStates, StatesBreak}
+use Rattle.fl_rules.specs.declared.marks.Marks.{Marks}
 
 -- what holds doesn't break
 pub states_hold : (page : ℕ → List ℕ) (r : Shape) (m : Marks) (p : ℕ) → HaveStates page r m → StatesBreak page r m p → ⊥

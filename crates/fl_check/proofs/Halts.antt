@@ -1,14 +1,14 @@
 -- What holds of the results of a table's check.
-use Rattle.std.proofs.Common.{◌≡◌, Option, Some, None, IfSome, IfNone, Result, Ok, Err, IfOk, IfErr, OnOk, refl, subst}
+use Rattle.std.proofs.Common.{◌≡◌, Option, Some, None, IfSome, IfNone, Result, Ok, Err, IfOk, IfErr, OnOk, subst}
 use Rattle.fl_flash.specs.declared.flash.FlashFault.{FlashFault}
+use Rattle.fl_rules.specs.Stop.{IfFlash, IfBroken}
+use Rattle.fl_rules.specs.declared.rule.Breach.{Breach}
+use Rattle.fl_rules.specs.declared.rule.Stop.{Stop}
+use Rattle.fl_rules.specs.declared.rule.Stop.TheVariants.{Flash, Broken}
 use Rattle.fl_check.specs.Looks.{IfFailed, IfFound}
-use Rattle.fl_check.specs.Stop.{IfFlash, IfBroken}
 use Rattle.fl_check.specs.declared.halt.Fault.{Fault}
 use Rattle.fl_check.specs.declared.halt.Halt.{Halt}
 use Rattle.fl_check.specs.declared.halt.Halt.TheVariants.{Failed, Found}
-use Rattle.fl_check.specs.declared.rule.Breach.{Breach}
-use Rattle.fl_check.specs.declared.rule.Stop.{Stop}
-use Rattle.fl_check.specs.declared.rule.Stop.TheVariants.{Flash, Broken}
 
 pub failed_so : (P Q : FlashFault → Type 0) (halt : Halt) → ((e : FlashFault) → P e → Q e) → IfFailed P halt → IfFailed Q halt
 failed_so P Q (Failed e) f p = f e p
@@ -25,22 +25,6 @@ if_failed P Q (Err halt) f p = failed_so P Q halt f p
 pub if_found : {A : Type 0} (P Q : Fault → Type 0) (result : Result A Halt) → ((fault : Fault) → P fault → Q fault) → IfErr result (IfFound P) → IfErr result (IfFound Q)
 if_found P Q (Ok a) f p = tt
 if_found P Q (Err halt) f p = found_so P Q halt f p
-
-pub broken_so : (P Q : Breach → Type 0) (stop : Stop) → ((b : Breach) → P b → Q b) → IfBroken P stop → IfBroken Q stop
-broken_so P Q (Flash e) f p = tt
-broken_so P Q (Broken b) f p = f b p
-
-pub flash_so : (P Q : FlashFault → Type 0) (stop : Stop) → ((e : FlashFault) → P e → Q e) → IfFlash P stop → IfFlash Q stop
-flash_so P Q (Flash e) f p = f e p
-flash_so P Q (Broken b) f p = tt
-
--- a call that ended well didn't fail
-pub no_fault : {A E : Type 0} {a : A} {e : E} → ◌≡◌ {A = Result A E} (Ok a) (Err e) → ⊥
-no_fault h = cc
-
--- .. and one that failed did so whatever it answers else
-pub same_fault : {A B E : Type 0} {d e : E} → ◌≡◌ {A = Result A E} (Err d) (Err e) → ◌≡◌ {A = Result B E} (Err d) (Err e)
-same_fault {d = d} {e = e} h = let same : d ≡ e = cc in rw same refl
 
 -- what is known of a ring's check
 module _ {A : Type 0} (checked : Result A Stop) where

@@ -20,10 +20,10 @@ use Rattle.fl_ring.specs.Ring.{Shape, RingState, IsShape, HoldsKept, count, olde
 use Rattle.fl_ring.proofs.Counts.{counts_ring, counts_renumbered}
 use Rattle.fl_ring.proofs.Found.{committed_state}
 use Rattle.fl_ring.proofs.Images.{image_from_on}
-use Rattle.fl_check.specs.Marks.{kept_page}
+use Rattle.fl_rules.specs.Marks.{kept_page}
 use Rattle.fl_check.specs.SoundImages.{RingImage}
 use Rattle.fl_check.specs.StandingRings.{HaveSize, StandsRuled}
-use Rattle.fl_check.specs.declared.numbering.Numbering.{Numbering}
+use Rattle.fl_rules.specs.declared.numbering.Numbering.{Numbering}
 use Rattle.fl_check.proofs.Collected.{Held, Collected, all-map, collect}
 use Rattle.fl_check.proofs.RingReads.{Follows}
 

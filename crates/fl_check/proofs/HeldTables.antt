@@ -24,28 +24,28 @@ use Rattle.fl_plan.specs.declared.table_config.TableConfig.{TableConfig}
 use Rattle.fl_ring.specs.Counts.{page_count, ring_counts}
 use Rattle.fl_ring.specs.Newest.{commits}
 use Rattle.fl_ring.specs.Ring.{Shape, IsShape, count, oldest, place, committed_end}
-use Rattle.fl_check.specs.Claims.{AllBelow}
-use Rattle.fl_check.specs.ContentPage.{IsContentPage}
-use Rattle.fl_check.specs.DataPage.{HasBuckets, HasForm, IsDataPage}
-use Rattle.fl_check.specs.Marks.{kept_page}
-use Rattle.fl_check.specs.References.{BlobLeads, RowsLead, PageLeads}
-use Rattle.fl_check.specs.Rising.{KeysAscend}
+use Rattle.fl_rules.specs.Claims.{AllBelow}
+use Rattle.fl_rules.specs.ContentPage.{IsContentPage}
+use Rattle.fl_rules.specs.DataPage.{HasBuckets, HasForm, IsDataPage}
+use Rattle.fl_rules.specs.Marks.{kept_page}
+use Rattle.fl_rules.specs.References.{BlobLeads, RowsLead, PageLeads}
+use Rattle.fl_rules.specs.Rising.{KeysAscend}
 use Rattle.fl_check.specs.SoundImages.{RingImage, OfPlace}
 use Rattle.fl_check.specs.StandingRings.{HaveSize, IsSortedLogForm, StandsRuled}
-use Rattle.fl_check.specs.Tally.{blobs_end, tally_of}
+use Rattle.fl_rules.specs.Tally.{blobs_end, tally_of}
 use Rattle.fl_check.specs.Whole.{OfRing, IsIndexForm, IsRowsForm, IsVarForm, IsLogForm, form_in, layout_in, shape_in, rows_shape}
-use Rattle.fl_check.specs.declared.numbering.Numbering.{Numbering}
+use Rattle.fl_rules.specs.declared.numbering.Numbering.{Numbering}
 use Rattle.fl_check.proofs.AscendingPages.{HasRowsOf, map-flat, rows-ascend, keys-rise}
 use Rattle.fl_check.proofs.BlobBytes.{IsReadBy, all-read}
 use Rattle.fl_check.proofs.Collected.{Held, all-flat, sum-flat, piece}
 use Rattle.fl_check.proofs.ConfigFacts.{has-buckets, some-bits, some-room}
-use Rattle.fl_check.proofs.DataPages.{data_rows}
+use Rattle.fl_rules.proofs.DataPages.{data_rows}
 use Rattle.fl_check.proofs.FullEntries.{ends-stored}
 use Rattle.fl_check.proofs.HeldRings.{within, bytes_is, void_is, commits_is, some, first_same, read, counts_are, follows, held_as, collected, sized, followed, held}
 use Rattle.fl_check.proofs.LedBlobs.{entries-lead}
 use Rattle.fl_check.proofs.RingReads.{Follows, OfNumbered}
 use Rattle.fl_check.proofs.StoredRows.{rows-fit}
-use Rattle.fl_check.proofs.TablePages.{ReadsAll, entry_by, stored_rows, body-same, room-same}
+use Rattle.fl_rules.proofs.TablePages.{ReadsAll, entry_by, stored_rows, body-same, room-same}
 use Rattle.fl_check.proofs.TalliedPages.{IsTallied, tallied}
 use Rattle.fl_check.proofs.TrimmedEntries.{IsListed, trimmed, body-trimmed, all-trimmed}
 

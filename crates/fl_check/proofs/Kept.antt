@@ -3,9 +3,9 @@ use Rattle.std.proofs.Common.{ℕ}
 use Rattle.fl_flash.specs.Flash.{FlashState, page_at}
 use Rattle.fl_ring.specs.Mounting.{IsGood}
 use Rattle.fl_ring.specs.Ring.{Shape, RingState, IsShape}
-use Rattle.fl_check.specs.Numbering.{BreaksFirst}
-use Rattle.fl_check.specs.declared.rule.Rule.{Rule}
-use Rattle.fl_check.specs.declared.rule.Rule.TheVariants.{Head, State, Number, Body, Keys, Entry, Blob, Rest}
+use Rattle.fl_rules.specs.Numbering.{BreaksFirst}
+use Rattle.fl_rules.specs.declared.rule.Rule.{Rule}
+use Rattle.fl_rules.specs.declared.rule.Rule.TheVariants.{Head, State, Number, Body, Keys, Entry, Blob, Rest}
 use Rattle.fl_check.proofs.GoodNumbers.{numbers_hold}
 use Rattle.fl_check.proofs.GoodStates.{good_head, good_states, states_hold}
 

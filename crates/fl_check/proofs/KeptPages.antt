@@ -17,11 +17,11 @@ use Rattle.fl_model.specs.Row.{Row, IsStorable, stored_row}
 use Rattle.fl_model.specs.Table.{Table, Entry, DataRing, VarRing, shape_of, written, firsts, full_pages}
 use Rattle.fl_model.proofs.Lists.{slice_get-some, slice_get-short, slice_get-take, slice_get-drop, slice_get-front, each-drop, each-take, each-at, last_or-get}
 use Rattle.fl_page.specs.Steps.{Ascends}
-use Rattle.fl_check.specs.ContentPage.{IsContentPage}
-use Rattle.fl_check.specs.DataPage.{HoldsEntries, is_plain, are_plain}
-use Rattle.fl_check.specs.IndexPage.{IsIndexPage}
+use Rattle.fl_rules.specs.ContentPage.{IsContentPage}
+use Rattle.fl_rules.specs.DataPage.{HoldsEntries, is_plain, are_plain}
+use Rattle.fl_rules.specs.IndexPage.{IsIndexPage}
 use Rattle.fl_check.specs.KeptPages.{KeptPagesAreGood}
-use Rattle.fl_check.proofs.ContentPages.{content_of_page}
+use Rattle.fl_rules.proofs.ContentPages.{content_of_page}
 
 -- ---- one entry
 

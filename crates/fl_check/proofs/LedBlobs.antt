@@ -20,9 +20,9 @@ use Rattle.fl_model.proofs.StandingPages.{stands-kept, kept-stands}
 use Rattle.fl_page.specs.Header.{page_count}
 use Rattle.fl_ring.specs.Newest.{commits, page_back}
 use Rattle.fl_ring.specs.Ring.{Shape, place}
-use Rattle.fl_check.specs.References.{numbered, content_room, IsThere, HoldsPart, Leads, BlobLeads, RowsLead}
+use Rattle.fl_rules.specs.References.{numbered, content_room, IsThere, HoldsPart, Leads, BlobLeads, RowsLead}
 use Rattle.fl_check.specs.SoundImages.{LeadsToBlob, BlobsLead}
-use Rattle.fl_check.specs.declared.numbering.Numbering.{Numbering}
+use Rattle.fl_rules.specs.declared.numbering.Numbering.{Numbering}
 use Rattle.fl_check.proofs.BlobBytes.{bytes_from, byte_of, byte-from, IsReadBy}
 use Rattle.fl_check.proofs.RingReads.{Follows}
 

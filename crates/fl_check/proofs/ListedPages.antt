@@ -4,12 +4,12 @@ use Rattle.std.proofs.lemmas.Bool.{cases_eq}
 use Rattle.fl_index.specs.Page.{page_first, found_at}
 use Rattle.fl_ring.specs.Newest.{page_back}
 use Rattle.fl_ring.specs.Ring.{Shape}
-use Rattle.fl_check.specs.Claims.{AllBelow, FailsFirst}
+use Rattle.fl_rules.specs.Claims.{AllBelow, FailsFirst}
 use Rattle.fl_check.specs.Entries.{IndexOver, entries_in, IsEntry, Lists, first_listed, IsListing, AreSeen, HasEntries, HaveEntries}
-use Rattle.fl_check.specs.Marks.{kept_page}
-use Rattle.fl_check.specs.Told.{TellsPage}
+use Rattle.fl_rules.specs.Marks.{kept_page}
+use Rattle.fl_rules.specs.Told.{TellsPage}
 use Rattle.fl_check.specs.declared.rule_6_entry.Seen.{Seen}
-use Rattle.fl_check.specs.declared.numbering.Numbering.{Numbering}
+use Rattle.fl_rules.specs.declared.numbering.Numbering.{Numbering}
 
 -- one entry, by how many pages before the next one its data page stands
 module _ (page : ℕ → List ℕ) (rows : Shape) (l : IndexOver) (listing : List ℕ) (j : ℕ) where

@@ -25,11 +25,11 @@ use Rattle.fl_page.specs.Page.{rows_in, IsGoodPage}
 use Rattle.fl_ring.specs.Newest.{commits}
 use Rattle.fl_ring.specs.Ring.{Shape, place}
 use Rattle.fl_check.specs.Entries.{entries_in, Lists, first_listed, HaveEntries}
-use Rattle.fl_check.specs.Marks.{kept_page}
-use Rattle.fl_check.specs.Tally.{listed_after, listed_to}
-use Rattle.fl_check.specs.Told.{header_bitmap, full_in, TellsPage}
-use Rattle.fl_check.specs.declared.marks.Marks.{Marks}
-use Rattle.fl_check.specs.declared.numbering.Numbering.{Numbering}
+use Rattle.fl_rules.specs.Marks.{kept_page}
+use Rattle.fl_rules.specs.Tally.{listed_after, listed_to}
+use Rattle.fl_rules.specs.Told.{header_bitmap, full_in, TellsPage}
+use Rattle.fl_rules.specs.declared.marks.Marks.{Marks}
+use Rattle.fl_rules.specs.declared.numbering.Numbering.{Numbering}
 use Rattle.fl_check.proofs.FullEntries.{full-stored}
 use Rattle.fl_check.proofs.RingReads.{Follows}
 use Rattle.fl_check.proofs.TrimmedEntries.{IsTrimmed, IsListed}

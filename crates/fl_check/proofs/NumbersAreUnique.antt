@@ -8,17 +8,17 @@ use Rattle.fl_ring.specs.Front.{blanks}
 use Rattle.fl_ring.specs.Head.{counts_full, fulls, page_in}
 use Rattle.fl_ring.specs.Newest.{page_back}
 use Rattle.fl_ring.specs.Ring.{Shape}
-use Rattle.fl_check.specs.Claims.{AllBelow, FailsFirst}
-use Rattle.fl_check.specs.Marks.{HasOneHead, IsOrdered, AreMarks, IsFirstKept, kept_page}
-use Rattle.fl_check.specs.Numbering.{IsNumbered, BreaksFirst}
-use Rattle.fl_check.specs.Numbers.{NewestOf, next_of, FitsPlace, HasItsNumber, IsLeft, HaveNumbers, NumbersBreak}
-use Rattle.fl_check.specs.States.{IsSealed, HaveStates, StatesBreak}
-use Rattle.fl_check.specs.declared.marks.HeadPages.{HeadPages}
-use Rattle.fl_check.specs.declared.marks.Marks.{Marks}
-use Rattle.fl_check.specs.declared.numbering.Numbering.{Numbering}
-use Rattle.fl_check.specs.declared.rule.Breach.{Breach}
-use Rattle.fl_check.specs.declared.rule.Rule.{Rule}
-use Rattle.fl_check.specs.declared.rule.Rule.TheVariants.{Head, State, Number, Body, Keys, Entry, Blob, Rest}
+use Rattle.fl_rules.specs.Claims.{AllBelow, FailsFirst}
+use Rattle.fl_rules.specs.Marks.{HasOneHead, IsOrdered, AreMarks, IsFirstKept, kept_page}
+use Rattle.fl_rules.specs.Numbering.{IsNumbered, BreaksFirst}
+use Rattle.fl_rules.specs.Numbers.{NewestOf, next_of, FitsPlace, HasItsNumber, IsLeft, HaveNumbers, NumbersBreak}
+use Rattle.fl_rules.specs.States.{IsSealed, HaveStates, StatesBreak}
+use Rattle.fl_rules.specs.declared.marks.HeadPages.{HeadPages}
+use Rattle.fl_rules.specs.declared.marks.Marks.{Marks}
+use Rattle.fl_rules.specs.declared.numbering.Numbering.{Numbering}
+use Rattle.fl_rules.specs.declared.rule.Breach.{Breach}
+use Rattle.fl_rules.specs.declared.rule.Rule.{Rule}
+use Rattle.fl_rules.specs.declared.rule.Rule.TheVariants.{Head, State, Number, Body, Keys, Entry, Blob, Rest}
 use Rattle.fl_check.proofs.Decisions.{Decided, After, then_decided, then_claimed, rule_decided, claim_decided}
 use Rattle.fl_check.proofs.GoodStates.{states_hold}
 use Rattle.fl_check.proofs.OneFound.{not_above, newest_same}

@@ -2,17 +2,17 @@
 use Rattle.std.proofs.Common.{◌≡◌, ◌⊎◌, inl, inr, ℕ, List, refl, sym, ◌∙◌, ap}
 use Rattle.std.proofs.lemmas.Bool.{cases_order}
 use Rattle.fl_ring.specs.Ring.{Shape}
-use Rattle.fl_check.specs.Bodies.{HasBody, HaveBodies, BodiesBreak}
-use Rattle.fl_check.specs.Numbering.{IsNumbered, BreaksFirst}
-use Rattle.fl_check.specs.Rest.{IsRestBlank, RestBreaks, rest_from, rest_to}
-use Rattle.fl_check.specs.RingRules.{KeyOrder, NoRows, OverPages, WithinPages, IsAscending, IsFormed, HaveKeys, BreakKeys, IsRingSound, BreaksRing}
-use Rattle.fl_check.specs.Rising.{Rises}
-use Rattle.fl_check.specs.States.{IsWritten, page_after}
-use Rattle.fl_check.specs.declared.marks.Marks.{Marks}
-use Rattle.fl_check.specs.declared.numbering.Numbering.{Numbering}
-use Rattle.fl_check.specs.declared.rule.Breach.{Breach}
-use Rattle.fl_check.specs.declared.rule.Rule.{Rule}
-use Rattle.fl_check.specs.declared.rule.Rule.TheVariants.{Head, State, Number, Body, Keys, Entry, Blob, Rest}
+use Rattle.fl_rules.specs.Bodies.{HasBody, HaveBodies, BodiesBreak}
+use Rattle.fl_rules.specs.Numbering.{IsNumbered, BreaksFirst}
+use Rattle.fl_rules.specs.Rest.{IsRestBlank, RestBreaks, rest_from, rest_to}
+use Rattle.fl_rules.specs.RingRules.{KeyOrder, NoRows, OverPages, WithinPages, IsAscending, IsFormed, HaveKeys, BreakKeys, IsRingSound, BreaksRing}
+use Rattle.fl_rules.specs.Rising.{Rises}
+use Rattle.fl_rules.specs.States.{IsWritten, page_after}
+use Rattle.fl_rules.specs.declared.marks.Marks.{Marks}
+use Rattle.fl_rules.specs.declared.numbering.Numbering.{Numbering}
+use Rattle.fl_rules.specs.declared.rule.Breach.{Breach}
+use Rattle.fl_rules.specs.declared.rule.Rule.{Rule}
+use Rattle.fl_rules.specs.declared.rule.Rule.TheVariants.{Head, State, Number, Body, Keys, Entry, Blob, Rest}
 use Rattle.fl_check.proofs.Decisions.{Decided, After, then_claimed, claim_decided}
 use Rattle.fl_check.proofs.NumbersAreUnique.{kept_once, kept_never, numbering_decided}
 

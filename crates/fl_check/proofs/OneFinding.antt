@@ -3,22 +3,22 @@ use Rattle.std.proofs.Common.{◌≡◌, ◌⊎◌, inl, inr, ℕ, List, Option,
 use Rattle.fl_base.specs.declared.types.RingPlace.{RingPlace}
 use Rattle.fl_plan.specs.declared.table_config.TableConfig.{TableConfig}
 use Rattle.fl_ring.specs.Ring.{Shape}
-use Rattle.fl_check.specs.Claims.{AllBelow}
+use Rattle.fl_rules.specs.Claims.{AllBelow}
 use Rattle.fl_check.specs.Entries.{IndexOver, HasEntries, HaveEntries, EntriesBreak}
-use Rattle.fl_check.specs.Marks.{kept_page}
-use Rattle.fl_check.specs.References.{PageLeads, ReferencesBreak}
-use Rattle.fl_check.specs.RingRules.{NoRows, OverPages, WithinPages, IsRingSound, BreaksRing}
+use Rattle.fl_rules.specs.Marks.{kept_page}
+use Rattle.fl_rules.specs.References.{PageLeads, ReferencesBreak}
+use Rattle.fl_rules.specs.RingRules.{NoRows, OverPages, WithinPages, IsRingSound, BreaksRing}
 use Rattle.fl_check.specs.Whole.{OfRing, shape_in, rows_shape, layout_in, indexing, index_end, tally_in, IsIndexForm, IsRowsForm, IsVarForm, IsLogForm, IsIndexSound, AreRowsSound, IsVarSound, IsLogSound, AreRingsSound, AreEntriesSound, AreReferencesSound, IsSound, IsFirstFault, IsFinding}
 use Rattle.fl_check.specs.declared.finding.Finding.{Finding}
 use Rattle.fl_check.specs.declared.finding.Finding.TheVariants.{Sound, Fault}
 use Rattle.fl_check.specs.declared.finding.RingName.{RingName}
 use Rattle.fl_check.specs.declared.finding.RingName.TheVariants.{Index, Data, Var, Log}
 use Rattle.fl_check.specs.declared.halt.Fault as halt
-use Rattle.fl_check.specs.declared.numbering.Numbering.{Numbering}
-use Rattle.fl_check.specs.declared.rule.Breach.{Breach}
-use Rattle.fl_check.specs.declared.rule.Rule.{Rule}
-use Rattle.fl_check.specs.declared.rule.Rule.TheVariants.{Entry, Blob}
-use Rattle.fl_check.specs.declared.tally.Tally.{Tally}
+use Rattle.fl_rules.specs.declared.numbering.Numbering.{Numbering}
+use Rattle.fl_rules.specs.declared.rule.Breach.{Breach}
+use Rattle.fl_rules.specs.declared.rule.Rule.{Rule}
+use Rattle.fl_rules.specs.declared.rule.Rule.TheVariants.{Entry, Blob}
+use Rattle.fl_rules.specs.declared.tally.Tally.{Tally}
 use Rattle.fl_check.specs.declared.table.TableNumbers.{TableNumbers}
 use Rattle.fl_check.proofs.Decisions.{Decided, After, then_decided, then_claimed}
 use Rattle.fl_check.proofs.OneBreach.{ring_decided}

@@ -6,8 +6,8 @@ use Rattle.fl_mark.specs.Mark.{state_of_page}
 use Rattle.fl_model.specs.Ring as model
 use Rattle.fl_ring.specs.Newest.{commits, page_back}
 use Rattle.fl_ring.specs.Ring.{Shape, place}
-use Rattle.fl_check.specs.Marks.{kept_page}
-use Rattle.fl_check.specs.declared.numbering.Numbering.{Numbering}
+use Rattle.fl_rules.specs.Marks.{kept_page}
+use Rattle.fl_rules.specs.declared.numbering.Numbering.{Numbering}
 
 pub record Reads (page : ℕ → List ℕ) (r : Shape) (at_least : ℕ) (ring : model.Ring) (n : Numbering) : Type 0 where
   pub kept : n.marks.kept ≡ length ring.counts

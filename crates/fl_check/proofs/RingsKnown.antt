@@ -7,21 +7,21 @@ use Rattle.fl_mark.specs.Mark.{state_of_page}
 use Rattle.fl_plan.specs.Plan.{blocks_in}
 use Rattle.fl_plan.specs.declared.table_config.TableConfig.{TableConfig}
 use Rattle.fl_ring.specs.Newest.{commits, page_back}
-use Rattle.fl_check.specs.Bodies.{HaveBodies}
-use Rattle.fl_check.specs.Claims.{AllBelow}
-use Rattle.fl_check.specs.ContentPage.{IsContentPage}
+use Rattle.fl_rules.specs.Bodies.{HaveBodies}
+use Rattle.fl_rules.specs.Claims.{AllBelow}
+use Rattle.fl_rules.specs.ContentPage.{IsContentPage}
 use Rattle.fl_frame.specs.Reads.{OnlyLooks}
-use Rattle.fl_check.specs.Numbers.{HaveNumbers}
-use Rattle.fl_check.specs.Reaches.{HasContent}
-use Rattle.fl_check.specs.Rising.{HaveRows}
-use Rattle.fl_check.specs.RingRules.{NoRows, OverPages, IsRingSound}
+use Rattle.fl_rules.specs.Numbers.{HaveNumbers}
+use Rattle.fl_rules.specs.Reaches.{HasContent}
+use Rattle.fl_rules.specs.Rising.{HaveRows}
+use Rattle.fl_rules.specs.RingRules.{NoRows, OverPages, IsRingSound}
 use Rattle.fl_check.specs.Whole.{Fits, shape_in, rows_shape, layout_in, index_end, tally_in, IsRowsForm, IsVarForm, AreRowsSound}
-use Rattle.fl_check.specs.declared.numbering.Numbering.{Numbering}
-use Rattle.fl_check.specs.declared.tally.Tally.{Tally}
-use Rattle.fl_check.proofs.ContentPages.{content_count}
-use Rattle.fl_check.proofs.FormedRows.{rows_of, page_short}
+use Rattle.fl_rules.specs.declared.numbering.Numbering.{Numbering}
+use Rattle.fl_rules.specs.declared.tally.Tally.{Tally}
+use Rattle.fl_rules.proofs.ContentPages.{content_count}
+use Rattle.fl_rules.proofs.FormedRows.{rows_of, page_short}
 use Rattle.fl_frame.proofs.ReadsInTurn.{looks_more}
-use Rattle.fl_check.proofs.LooksChangeNothing.{seen}
+use Rattle.fl_rules.proofs.LooksChangeNothing.{seen}
 
 -- no page of a table is long
 pages_short : (config : TableConfig) (f : FlashState) → Fits config f → (p : ℕ) → length (page_at f p) < 65536

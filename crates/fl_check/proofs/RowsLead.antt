@@ -13,11 +13,11 @@ use Rattle.fl_page.specs.declared.fault.BadPage.{BadPage}
 use Rattle.fl_page.specs.declared.view.PageView.{PageView}
 use Rattle.fl_ring.specs.Newest.{commits}
 use Rattle.fl_ring.specs.Ring.{Shape}
-use Rattle.fl_check.specs.Claims.{AllBelow}
-use Rattle.fl_check.specs.Marks.{kept_page}
-use Rattle.fl_check.specs.References.{Leads, BlobLeads, RowLeads, RowsLead, HasRows, PageLeads, ReferencesBreak}
-use Rattle.fl_check.specs.declared.marks.Marks.{Marks}
-use Rattle.fl_check.specs.declared.numbering.Numbering.{Numbering}
+use Rattle.fl_rules.specs.Claims.{AllBelow}
+use Rattle.fl_rules.specs.Marks.{kept_page}
+use Rattle.fl_rules.specs.References.{Leads, BlobLeads, RowLeads, RowsLead, HasRows, PageLeads, ReferencesBreak}
+use Rattle.fl_rules.specs.declared.marks.Marks.{Marks}
+use Rattle.fl_rules.specs.declared.numbering.Numbering.{Numbering}
 
 -- what the view of a page says
 abbrev pub IsViewed : {COLS : ℕ} → RowLayout → ℕ → List ℕ → PageView COLS → Type 0

@@ -21,16 +21,16 @@ use Rattle.fl_ring.specs.Ring.{Shape, RingState, IsShape, IsRing, OnRing, HoldsK
 use Rattle.fl_ring.proofs.BlockAheadIsClean.{blank_of, blank_is_blank}
 use Rattle.fl_ring.proofs.GoodNumbers.{number_some, renumbered_some, renumbered_none}
 use Rattle.fl_ring.proofs.Modulo.{parts, rest_back, more, last_block}
-use Rattle.fl_check.specs.Bodies.{HaveBodies}
-use Rattle.fl_check.specs.Endings.{IsEnded}
-use Rattle.fl_check.specs.Marks.{kept_page}
-use Rattle.fl_check.specs.Numbering as numbering
-use Rattle.fl_check.specs.Numbers.{NewestOf, FitsPlace, next_of}
-use Rattle.fl_check.specs.Rest.{IsRestBlank, MayWait}
+use Rattle.fl_rules.specs.Bodies.{HaveBodies}
+use Rattle.fl_rules.specs.Endings.{IsEnded}
+use Rattle.fl_rules.specs.Marks.{kept_page}
+use Rattle.fl_rules.specs.Numbering as numbering
+use Rattle.fl_rules.specs.Numbers.{NewestOf, FitsPlace, next_of}
+use Rattle.fl_rules.specs.Rest.{IsRestBlank, MayWait}
 use Rattle.fl_check.specs.StandingRings.{HaveSize, EndsCommitted, StandsRuled}
-use Rattle.fl_check.specs.States.{IsBlankAfter, page_after}
-use Rattle.fl_check.specs.declared.marks.Marks.{Marks}
-use Rattle.fl_check.specs.declared.numbering.Numbering.{Numbering}
+use Rattle.fl_rules.specs.States.{IsBlankAfter, page_after}
+use Rattle.fl_rules.specs.declared.marks.Marks.{Marks}
+use Rattle.fl_rules.specs.declared.numbering.Numbering.{Numbering}
 use Rattle.fl_check.proofs.HeadsFound.{first_head, head_within, head_open}
 
 -- ---- the state of a page

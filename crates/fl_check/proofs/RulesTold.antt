@@ -5,16 +5,16 @@ use Rattle.std.specs.Bool.{then_some}
 use Rattle.std.proofs.lemmas.Bool.{true≢false}
 use Rattle.fl_flash.specs.declared.flash.FlashFault.{FlashFault}
 use Rattle.fl_ring.specs.Ring.{Shape}
-use Rattle.fl_check.specs.Bodies.{HaveBodies, BodiesBreak}
-use Rattle.fl_check.specs.Numbers.{HaveNumbers}
+use Rattle.fl_rules.specs.Bodies.{HaveBodies, BodiesBreak}
+use Rattle.fl_rules.specs.Numbers.{HaveNumbers}
 use Rattle.fl_check.specs.Ruled.{BodiesTold, NumbersTold, HeadTold, RingTold}
-use Rattle.fl_check.specs.Stop.{first_page, IfBroken}
+use Rattle.fl_rules.specs.Stop.{first_page, IfBroken}
 use Rattle.fl_check.specs.declared.faults.RingFaults.{RingFaults}
-use Rattle.fl_check.specs.declared.marks.Marks.{Marks}
-use Rattle.fl_check.specs.declared.numbering.Numbering.{Numbering}
-use Rattle.fl_check.specs.declared.rule.Rule.{Rule}
-use Rattle.fl_check.specs.declared.rule.Stop.{Stop}
-use Rattle.fl_check.specs.declared.rule.Stop.TheVariants.{Flash, Broken}
+use Rattle.fl_rules.specs.declared.marks.Marks.{Marks}
+use Rattle.fl_rules.specs.declared.numbering.Numbering.{Numbering}
+use Rattle.fl_rules.specs.declared.rule.Rule.{Rule}
+use Rattle.fl_rules.specs.declared.rule.Stop.{Stop}
+use Rattle.fl_rules.specs.declared.rule.Stop.TheVariants.{Flash, Broken}
 
 abbrev answer : Option ℕ → Result (Option ℕ) FlashFault
 answer o = Ok o

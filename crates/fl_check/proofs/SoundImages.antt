@@ -25,19 +25,19 @@ use Rattle.fl_plan.specs.Plan.{Label, blocks_in, bits_in, plan_of_table, with_lo
 use Rattle.fl_plan.specs.declared.table_config.TableConfig.{TableConfig}
 use Rattle.fl_ring.specs.Counts.{page_count, ring_counts}
 use Rattle.fl_ring.specs.Ring.{IsShape, oldest, place as placed}
-use Rattle.fl_check.specs.Claims.{AllBelow}
+use Rattle.fl_rules.specs.Claims.{AllBelow}
 use Rattle.fl_check.specs.Entries.{HaveEntries}
-use Rattle.fl_check.specs.Marks.{kept_page}
-use Rattle.fl_check.specs.References.{PageLeads, BlobLeads}
+use Rattle.fl_rules.specs.Marks.{kept_page}
+use Rattle.fl_rules.specs.References.{PageLeads, BlobLeads}
 use Rattle.fl_check.specs.SoundImages.{RingImage, OfPlace, TableImage, BlobsLead, PagesFit, IsNumbered, AreNumbered, AreBehind, StandsSettled, SoundImages}
 use Rattle.fl_check.specs.StandingRings.{HaveSize, IsSortedLogForm, StandsRuled, RingsStand}
-use Rattle.fl_check.specs.Tally.{tally_of}
+use Rattle.fl_rules.specs.Tally.{tally_of}
 use Rattle.fl_check.specs.Whole.{Fits, LogFits, OfRing, IsIndexForm, IsVarForm, layout_in, shape_in, rows_shape, indexing, end_in, index_end, tally_in}
-use Rattle.fl_check.specs.declared.numbering.Numbering.{Numbering}
-use Rattle.fl_check.specs.declared.tally.Tally.{Tally}
+use Rattle.fl_rules.specs.declared.numbering.Numbering.{Numbering}
+use Rattle.fl_rules.specs.declared.tally.Tally.{Tally}
 use Rattle.fl_check.proofs.BlobBytes.{IsReadBy, read_from, reads-all}
 use Rattle.fl_check.proofs.ConfigFacts.{some-bits}
-use Rattle.fl_check.proofs.ContentPages.{content_back}
+use Rattle.fl_rules.proofs.ContentPages.{content_back}
 use Rattle.fl_check.proofs.HeldRings.{place-size}
 use Rattle.fl_check.proofs.HeldTables.{HasRing, has-ring, rows_count, entries, data_image, data_counted, data_few, data_fit, data_read, data_rise, data_tallied, data_ends, data_follows, data_told, data_bytes, data_lead, index-reads, var-reads, log-reads}
 use Rattle.fl_check.proofs.LedBlobs.{content_of, blobs-lead}
@@ -45,7 +45,7 @@ use Rattle.fl_check.proofs.ListedTables.{HasData, IndexTells, tells-none, index-
 use Rattle.fl_check.proofs.RingReads.{Follows, OfNumbered}
 use Rattle.fl_check.proofs.SoundRings.{have_size, log-sizes, rings-stand}
 use Rattle.fl_check.proofs.TableFacts.{stands-settled}
-use Rattle.fl_check.proofs.TablePages.{ReadsAll, header-is}
+use Rattle.fl_rules.proofs.TablePages.{ReadsAll, header-is}
 use Rattle.fl_check.proofs.TrimmedEntries.{IsListed}
 
 -- ---- the pages of the log: the newest one, and those before it

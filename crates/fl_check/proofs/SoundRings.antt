@@ -12,13 +12,13 @@ use Rattle.fl_plan.specs.Plan.{plan_of_table}
 use Rattle.fl_plan.specs.Refusal.{nameless}
 use Rattle.fl_plan.specs.declared.table_config.TableConfig.{TableConfig}
 use Rattle.fl_ring.proofs.Lengths.{page_length}
-use Rattle.fl_check.specs.DataPage.{bitmap_in}
-use Rattle.fl_check.specs.Endings.{IsEnded}
-use Rattle.fl_check.specs.RingRules.{KeyOrder, NoRows, IsRingSound}
+use Rattle.fl_rules.specs.DataPage.{bitmap_in}
+use Rattle.fl_rules.specs.Endings.{IsEnded}
+use Rattle.fl_rules.specs.RingRules.{KeyOrder, NoRows, IsRingSound}
 use Rattle.fl_check.specs.StandingRings.{HaveSize, EndsCommitted, IsSortedLogForm, StandsRuled, SoundRingsStand}
 use Rattle.fl_check.specs.Whole.{Fits, OfRing, IsIndexForm, IsRowsForm, IsVarForm, IsLogSound, layout_in, shape_in}
-use Rattle.fl_check.specs.declared.numbering.Numbering.{Numbering}
-use Rattle.fl_check.specs.declared.tally.Tally.{Tally}
+use Rattle.fl_rules.specs.declared.numbering.Numbering.{Numbering}
+use Rattle.fl_rules.specs.declared.tally.Tally.{Tally}
 use Rattle.fl_check.proofs.RulesStand.{rules-stand}
 
 -- ---- the forms

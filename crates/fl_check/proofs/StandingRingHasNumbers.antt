@@ -12,10 +12,10 @@ use Rattle.fl_ring.specs.Newest.{commits, number_of, page_back, NoneBefore, IsNe
 use Rattle.fl_ring.specs.Ring.{Shape, RingState, IsShape}
 use Rattle.fl_ring.proofs.Found.{head_found}
 use Rattle.fl_ring.proofs.Good.{front_there}
-use Rattle.fl_check.specs.Marks.{AreMarks}
-use Rattle.fl_check.specs.Numbering.{HasNumbering}
-use Rattle.fl_check.specs.Numbers.{NewestOf, next_of}
-use Rattle.fl_check.specs.declared.marks.Marks.{Marks}
+use Rattle.fl_rules.specs.Marks.{AreMarks}
+use Rattle.fl_rules.specs.Numbering.{HasNumbering}
+use Rattle.fl_rules.specs.Numbers.{NewestOf, next_of}
+use Rattle.fl_rules.specs.declared.marks.Marks.{Marks}
 use Rattle.fl_check.proofs.GoodNumbers.{good_place, good_each, good_left}
 use Rattle.fl_check.proofs.GoodStates.{good_states}
 

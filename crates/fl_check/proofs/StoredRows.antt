@@ -6,8 +6,8 @@ use Rattle.fl_base.specs.declared.types.BlobRef.{BlobRef}
 use Rattle.fl_model.specs.Facts.{FitsPlan, BlobFits}
 use Rattle.fl_model.specs.Record.{Plan, row_layout}
 use Rattle.fl_model.specs.Row.{Row, FitsReference, FitsBytes, IsStorable}
-use Rattle.fl_check.specs.DataPage.{is_plain, are_plain}
-use Rattle.fl_check.proofs.TablePages.{ReadsAll, entry_by}
+use Rattle.fl_rules.specs.DataPage.{is_plain, are_plain}
+use Rattle.fl_rules.proofs.TablePages.{ReadsAll, entry_by}
 
 split : (a b : Bool) → (a && b) ≡ true → (a ≡ true) × (b ≡ true)
 split true b both = (refl, both)

@@ -8,9 +8,9 @@ use Rattle.fl_plan.specs.Plan.{blocks_in}
 use Rattle.fl_plan.specs.declared.table_config.TableConfig.{TableConfig}
 use Rattle.fl_ring.specs.Mounting.{shape_at}
 use Rattle.fl_ring.specs.Ring.{Shape}
-use Rattle.fl_check.specs.Marks.{AreWithin}
+use Rattle.fl_rules.specs.Marks.{AreWithin}
 use Rattle.fl_check.specs.Whole.{Fits, shape_in}
-use Rattle.fl_check.specs.declared.marks.Marks.{Marks}
+use Rattle.fl_rules.specs.declared.marks.Marks.{Marks}
 
 module _ (config : TableConfig) (f : FlashState) (fits : Fits config f) (place : RingPlace) (r : Shape) (at : r ≡ shape_at place f.geometry) where
   pub shape_is : r ≡ shape_in config place

@@ -6,16 +6,16 @@ use Rattle.fl_model.specs.Record.{RowLayout}
 use Rattle.fl_plan.specs.declared.table_config.TableConfig.{TableConfig}
 use Rattle.fl_ring.specs.Ring.{Shape}
 use Rattle.fl_check.specs.Faults.{with_keys, are_clear, table_faults}
-use Rattle.fl_check.specs.RingRules.{OverPages}
-use Rattle.fl_check.specs.Rising.{HaveRows, KeysAscend, KeysBreak}
+use Rattle.fl_rules.specs.RingRules.{OverPages}
+use Rattle.fl_rules.specs.Rising.{HaveRows, KeysAscend, KeysBreak}
 use Rattle.fl_check.specs.Ruled.{HeadTold, RingTold, KeysTold}
 use Rattle.fl_check.specs.Rules.{OfRing, BlobsTold, HaveContent, AreTold, AreRules, in_order, rules_of, tally_told, kept_in}
 use Rattle.fl_check.specs.Whole.{Fits, IfWithin, shape_in, rows_shape, layout_in, IsRowsForm, IsVarForm, IsFinding}
 use Rattle.fl_check.specs.declared.faults.RingFaults.{RingFaults}
 use Rattle.fl_check.specs.declared.faults.TableFaults.{TableFaults}
 use Rattle.fl_check.specs.declared.faults.TableRules.TheVariants.{Kept, Broken}
-use Rattle.fl_check.specs.declared.numbering.Numbering.{Numbering}
-use Rattle.fl_check.specs.declared.tally.Tally.{Tally}
+use Rattle.fl_rules.specs.declared.numbering.Numbering.{Numbering}
+use Rattle.fl_rules.specs.declared.tally.Tally.{Tally}
 use Rattle.fl_check.proofs.FirstTold.{FirstOf, IsSoundTable, table_first}
 use Rattle.fl_check.proofs.RingsKnown.{rows_there, content_there}
 use Rattle.fl_check.proofs.RulesTold.{legible}

@@ -13,10 +13,10 @@ use Rattle.fl_page.specs.Page.{rows_in}
 use Rattle.fl_ring.specs.Counts.{page_count}
 use Rattle.fl_ring.specs.Newest.{commits}
 use Rattle.fl_ring.specs.Ring.{Shape}
-use Rattle.fl_check.specs.Marks.{kept_page}
-use Rattle.fl_check.specs.Tally.{blobs_end, reference_end, tally_of}
-use Rattle.fl_check.specs.declared.marks.Marks.{Marks}
-use Rattle.fl_check.specs.declared.tally.Tally.{Tally}
+use Rattle.fl_rules.specs.Marks.{kept_page}
+use Rattle.fl_rules.specs.Tally.{blobs_end, reference_end, tally_of}
+use Rattle.fl_rules.specs.declared.marks.Marks.{Marks}
+use Rattle.fl_rules.specs.declared.tally.Tally.{Tally}
 use Rattle.fl_check.proofs.AscendingPages.{HasRowsOf}
 
 -- rows more, behind others

@@ -10,7 +10,7 @@ use Rattle.fl_model.specs.Record.{Plan, entries_per_page}
 use Rattle.fl_model.specs.Row.{le}
 use Rattle.fl_schema.proofs.Numbers.{length-le}
 use Rattle.fl_schema.proofs.RoundTrip.{le_each}
-use Rattle.fl_check.proofs.BytesBack.{le-number_as}
+use Rattle.fl_rules.proofs.BytesBack.{le-number_as}
 
 -- what the fields of an entry have room for
 abbrev pub trimmed : Plan → IndexEntry → IndexEntry

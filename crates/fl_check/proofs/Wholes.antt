@@ -3,14 +3,14 @@ use Rattle.std.proofs.Common.{◌≡◌, inl, inr, ℕ, Option, Some, None, List
 use Rattle.fl_base.specs.declared.types.RingPlace.{RingPlace}
 use Rattle.fl_plan.specs.declared.table_config.TableConfig.{TableConfig}
 use Rattle.fl_check.specs.Entries.{EntriesBreak}
-use Rattle.fl_check.specs.References.{ReferencesBreak}
-use Rattle.fl_check.specs.RingRules.{OverPages, BreaksRing}
+use Rattle.fl_rules.specs.References.{ReferencesBreak}
+use Rattle.fl_rules.specs.RingRules.{OverPages, BreaksRing}
 use Rattle.fl_check.specs.Whole.{OfRing, shape_in, rows_shape, layout_in, indexing, index_end, tally_in, IsRowsForm, IsIndexSound, AreRowsSound, IsVarSound, AreRingsSound, AreEntriesSound, BreaksIndex, BreaksRows, BreaksVarBy, BreaksVar, BreaksLogRing, BreaksLog, IsFirstFault}
 use Rattle.fl_check.specs.declared.finding.RingName.{RingName}
 use Rattle.fl_check.specs.declared.finding.RingName.TheVariants.{Index, Data, Var, Log}
 use Rattle.fl_check.specs.declared.halt.Fault.{Fault}
-use Rattle.fl_check.specs.declared.numbering.Numbering.{Numbering}
-use Rattle.fl_check.specs.declared.rule.Rule.TheVariants.{Entry, Blob}
+use Rattle.fl_rules.specs.declared.numbering.Numbering.{Numbering}
+use Rattle.fl_rules.specs.declared.rule.Rule.TheVariants.{Entry, Blob}
 use Rattle.fl_check.specs.declared.table.TableNumbers.{TableNumbers}
 
 -- of a ring that is there

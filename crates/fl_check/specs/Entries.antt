@@ -8,13 +8,13 @@ use Rattle.fl_model.specs.Record.{RowLayout}
 use Rattle.fl_ring.specs.Newest.{commits}
 use Rattle.fl_ring.specs.Ring.{Shape}
 use Rattle.fl_schema.specs.Schema.{layout_of}
-use Rattle.fl_check.specs.Claims.{AllBelow, FailsFirst}
-use Rattle.fl_check.specs.Marks.{kept_page}
-use Rattle.fl_check.specs.Told.{TellsPage}
+use Rattle.fl_rules.specs.Claims.{AllBelow, FailsFirst}
+use Rattle.fl_rules.specs.Marks.{kept_page}
+use Rattle.fl_rules.specs.Told.{TellsPage}
 use Rattle.fl_check.specs.declared.rule_6_entry.Indexing.{Indexing}
 use Rattle.fl_check.specs.declared.rule_6_entry.Seen.{Seen}
-use Rattle.fl_check.specs.declared.marks.Marks.{Marks}
-use Rattle.fl_check.specs.declared.numbering.Numbering.{Numbering}
+use Rattle.fl_rules.specs.declared.marks.Marks.{Marks}
+use Rattle.fl_rules.specs.declared.numbering.Numbering.{Numbering}
 
 -- an index over data pages: the form of its entries, the layout of the rows, the kept pages of its ring, and those of the data
 -- ring with the number of the next one

@@ -8,8 +8,8 @@ use Rattle.fl_check.specs.declared.finding.Finding.{Finding}
 use Rattle.fl_check.specs.declared.finding.Finding.TheVariants.{Sound, Fault}
 use Rattle.fl_check.specs.declared.finding.RingName.{RingName}
 use Rattle.fl_check.specs.declared.finding.RingName.TheVariants.{Index, Data, Var, Log}
-use Rattle.fl_check.specs.declared.rule.Rule.{Rule}
-use Rattle.fl_check.specs.declared.rule.Rule.TheVariants.{Head, State, Number, Body, Keys, Entry, Blob, Rest}
+use Rattle.fl_rules.specs.declared.rule.Rule.{Rule}
+use Rattle.fl_rules.specs.declared.rule.Rule.TheVariants.{Head, State, Number, Body, Keys, Entry, Blob, Rest}
 
 abbrev pub no_faults : RingFaults
 no_faults = record { head = None; state = None; number = None; body = None; keys = None; rest = None }

@@ -7,9 +7,9 @@ use Rattle.fl_model.specs.Ring.{Ring, oldest}
 use Rattle.fl_model.specs.Row.{stored_row}
 use Rattle.fl_model.specs.Table.{Table}
 use Rattle.fl_page.specs.Steps.{Ascends}
-use Rattle.fl_check.specs.ContentPage.{IsContentPage}
-use Rattle.fl_check.specs.DataPage.{HoldsEntries}
-use Rattle.fl_check.specs.IndexPage.{IsIndexPage}
+use Rattle.fl_rules.specs.ContentPage.{IsContentPage}
+use Rattle.fl_rules.specs.DataPage.{HoldsEntries}
+use Rattle.fl_rules.specs.IndexPage.{IsIndexPage}
 
 pub record KeptPagesAreGood : Type 0 where
   pub rows : (plan : Plan) (table : Table) (i count : ℕ) (page : List ℕ) → IsTable plan table →

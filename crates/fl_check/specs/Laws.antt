@@ -3,10 +3,10 @@ use Rattle.std.specs.Prelude.{◌≡◌, ℕ}
 use Rattle.fl_flash.specs.Flash.{FlashState, page_at}
 use Rattle.fl_ring.specs.Numbers.{renumbered}
 use Rattle.fl_ring.specs.Ring.{Shape, RingState, count}
-use Rattle.fl_check.specs.Numbering.{IsNumbered, HasNumbering, BreaksFirst}
-use Rattle.fl_check.specs.Rest.{IsRestBlank}
-use Rattle.fl_check.specs.declared.marks.Marks.{Marks}
-use Rattle.fl_check.specs.declared.rule.Rule.{Rule}
+use Rattle.fl_rules.specs.Numbering.{IsNumbered, HasNumbering, BreaksFirst}
+use Rattle.fl_rules.specs.Rest.{IsRestBlank}
+use Rattle.fl_rules.specs.declared.marks.Marks.{Marks}
+use Rattle.fl_rules.specs.declared.rule.Rule.{Rule}
 
 -- No page breaks a rule, the rules tell numbers, and these are those of the ring before it is repaired.
 pub record KeepsRules (f : FlashState) (r : Shape) (at_least : ℕ) (s : RingState) : Type 0 where

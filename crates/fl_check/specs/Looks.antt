@@ -15,10 +15,6 @@ abbrev pub CheckFails : FlashState → CheckFault → FlashState → Type 0
 CheckFails old (Flash fault) new = ReadFails old fault new
 CheckFails old NoMemory new = new ≡ old
 
--- with the power off it fails so, and nothing changes
-abbrev pub OffFails : {A E : Type 0} → E → FlashState → Result A E → FlashState → Type 0
-OffFails fault old result new = old.is_on ≡ false → (result ≡ Err fault) × (new ≡ old)
-
 -- .. unless memory is wanted before
 abbrev pub OffChecksNothing : {A : Type 0} → FlashState → Result A CheckFault → FlashState → Type 0
 OffChecksNothing old result new = old.is_on ≡ false → ((result ≡ Err (Flash PowerLost)) ⊎ (result ≡ Err NoMemory)) × (new ≡ old)

@@ -7,7 +7,7 @@ use Rattle.fl_ring.specs.Ring.{Shape}
 use Rattle.fl_ring.specs.declared.fault.RingFault.{RingFault}
 use Rattle.fl_ring.specs.declared.fault.RingFault.TheVariants.{Flash}
 use Rattle.fl_ring.specs.declared.numbers.Numbers.{Numbers}
-use Rattle.fl_check.specs.declared.marks.Marks.{Marks}
+use Rattle.fl_rules.specs.declared.marks.Marks.{Marks}
 
 abbrev pub numbers_of : Marks → ℕ → Numbers
 numbers_of m next = record { oldest = next - m.kept; next = next; torn = m.pages.front.torn }

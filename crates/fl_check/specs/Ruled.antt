@@ -2,16 +2,16 @@
 -- that on the bodies also on the numbers, and that on the keys also on the bodies.
 use Rattle.std.specs.Prelude.{◌≡◌, ℕ, Option, Some, None, MatchOption, List}
 use Rattle.fl_ring.specs.Ring.{Shape}
-use Rattle.fl_check.specs.Bodies.{HaveBodies, BodiesBreak}
+use Rattle.fl_rules.specs.Bodies.{HaveBodies, BodiesBreak}
 use Rattle.fl_check.specs.Faults.{headless, with_keys}
-use Rattle.fl_check.specs.Marks.{HasOneHead, AreMarks}
-use Rattle.fl_check.specs.Numbers.{HaveNumbers, NumbersBreak}
-use Rattle.fl_check.specs.Rest.{IsRestBlank, RestBreaks}
-use Rattle.fl_check.specs.RingRules.{KeyOrder, HaveKeys, BreakKeys}
-use Rattle.fl_check.specs.States.{HaveStates, StatesBreak}
+use Rattle.fl_rules.specs.Marks.{HasOneHead, AreMarks}
+use Rattle.fl_rules.specs.Numbers.{HaveNumbers, NumbersBreak}
+use Rattle.fl_rules.specs.Rest.{IsRestBlank, RestBreaks}
+use Rattle.fl_rules.specs.RingRules.{KeyOrder, HaveKeys, BreakKeys}
+use Rattle.fl_rules.specs.States.{HaveStates, StatesBreak}
 use Rattle.fl_check.specs.declared.faults.RingFaults.{RingFaults}
-use Rattle.fl_check.specs.declared.marks.Marks.{Marks}
-use Rattle.fl_check.specs.declared.numbering.Numbering.{Numbering}
+use Rattle.fl_rules.specs.declared.marks.Marks.{Marks}
+use Rattle.fl_rules.specs.declared.numbering.Numbering.{Numbering}
 
 -- `told` are the marks and the numbers of a ring whose rules on the head, the numbers and the bodies hold, and none else
 module _ (Form : ℕ → List ℕ → Type 0) (page : ℕ → List ℕ) (r : Shape) where

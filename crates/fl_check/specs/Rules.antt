@@ -2,14 +2,14 @@
 use Rattle.std.specs.Prelude.{◌≡◌, ℕ, false, if◌then◌else◌, Option, Some, None, MatchOption, List, ◌∷◌}
 use Rattle.fl_base.specs.declared.types.RingPlace.{RingPlace}
 use Rattle.fl_plan.specs.declared.table_config.TableConfig.{TableConfig}
-use Rattle.fl_check.specs.Claims.{AllBelow}
+use Rattle.fl_rules.specs.Claims.{AllBelow}
 use Rattle.fl_check.specs.Entries.{HaveEntries, EntriesBreak}
 use Rattle.fl_check.specs.Faults.{no_faults, are_clear, findings_of}
-use Rattle.fl_check.specs.Reaches.{HasContent}
-use Rattle.fl_check.specs.References.{PageLeads, ReferencesBreak}
-use Rattle.fl_check.specs.RingRules.{OverPages, WithinPages}
+use Rattle.fl_rules.specs.Reaches.{HasContent}
+use Rattle.fl_rules.specs.References.{PageLeads, ReferencesBreak}
+use Rattle.fl_rules.specs.RingRules.{OverPages, WithinPages}
 use Rattle.fl_check.specs.Ruled.{RingTold, RowsTold}
-use Rattle.fl_check.specs.Tally.{no_pages}
+use Rattle.fl_rules.specs.Tally.{no_pages}
 use Rattle.fl_check.specs.Whole.{shape_in, rows_shape, layout_in, indexing, index_end, tally_in, IsIndexForm, IsRowsForm, IsVarForm, IsLogForm, IsFinding}
 use Rattle.fl_check.specs.declared.faults.RingFaults.{RingFaults}
 use Rattle.fl_check.specs.declared.faults.TableFaults.{TableFaults}
@@ -17,8 +17,8 @@ use Rattle.fl_check.specs.declared.faults.TableRules.{TableRules}
 use Rattle.fl_check.specs.declared.faults.TableRules.TheVariants.{Kept, Broken}
 use Rattle.fl_check.specs.declared.finding.Finding.{Finding}
 use Rattle.fl_check.specs.declared.finding.Finding.TheVariants.{Sound}
-use Rattle.fl_check.specs.declared.numbering.Numbering.{Numbering}
-use Rattle.fl_check.specs.declared.tally.Tally.{Tally}
+use Rattle.fl_rules.specs.declared.numbering.Numbering.{Numbering}
+use Rattle.fl_rules.specs.declared.tally.Tally.{Tally}
 
 -- of a ring that a table may not have
 abbrev pub OfRing : (RingPlace → RingFaults → Option Numbering → Type 0) → Option RingPlace → RingFaults → Option Numbering → Type 0

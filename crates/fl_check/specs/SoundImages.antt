@@ -20,7 +20,7 @@ use Rattle.fl_ring.specs.Counts.{model_shape}
 use Rattle.fl_ring.specs.Ring.{Shape, place}
 use Rattle.fl_check.specs.Whole.{Fits, LogFits, IsFinding, IsSound, shape_in, rows_shape}
 use Rattle.fl_check.specs.declared.finding.Finding.TheVariants.{Sound}
-use Rattle.fl_check.specs.declared.numbering.Numbering.{Numbering}
+use Rattle.fl_rules.specs.declared.numbering.Numbering.{Numbering}
 use Rattle.fl_check.specs.declared.table.TableNumbers.{TableNumbers}
 
 -- a ring of the model, whose image the pages of a ring are; `Holds` says what its kept pages hold

@@ -7,12 +7,12 @@ use Rattle.fl_plan.specs.declared.table_config.TableConfig.{TableConfig}
 use Rattle.fl_ring.specs.Mounting.{IsGood}
 use Rattle.fl_ring.specs.Numbers.{renumbered}
 use Rattle.fl_ring.specs.Ring.{Shape, RingState, room, count, oldest, place}
-use Rattle.fl_check.specs.Endings.{IsEnded}
-use Rattle.fl_check.specs.Marks.{kept_page}
-use Rattle.fl_check.specs.RingRules.{IsAscending}
+use Rattle.fl_rules.specs.Endings.{IsEnded}
+use Rattle.fl_rules.specs.Marks.{kept_page}
+use Rattle.fl_rules.specs.RingRules.{IsAscending}
 use Rattle.fl_check.specs.Whole.{Fits, LogFits, OfRing, IsSound, IsFinding, IsIndexForm, IsRowsForm, IsVarForm, IsLogForm, layout_in, shape_in, rows_shape, index_end, tally_in}
 use Rattle.fl_check.specs.declared.finding.Finding.TheVariants.{Sound}
-use Rattle.fl_check.specs.declared.numbering.Numbering.{Numbering}
+use Rattle.fl_rules.specs.declared.numbering.Numbering.{Numbering}
 use Rattle.fl_check.specs.declared.table.TableNumbers.{TableNumbers}
 
 -- the pages of a ring have its size

@@ -12,23 +12,23 @@ use Rattle.fl_plan.specs.Refusal.{config_fault, nameless}
 use Rattle.fl_ring.specs.Mounting.{shape_at}
 use Rattle.fl_ring.specs.Ring.{Shape}
 use Rattle.fl_schema.specs.Form.{layout_with}
-use Rattle.fl_check.specs.Claims.{AllBelow}
-use Rattle.fl_check.specs.ContentPage.{IsContentPage}
-use Rattle.fl_check.specs.DataPage.{IsDataPage}
+use Rattle.fl_rules.specs.Claims.{AllBelow}
+use Rattle.fl_rules.specs.ContentPage.{IsContentPage}
+use Rattle.fl_rules.specs.DataPage.{IsDataPage}
+use Rattle.fl_rules.specs.IndexPage.{IsIndexPage}
+use Rattle.fl_rules.specs.Marks.{AreWithin}
+use Rattle.fl_rules.specs.References.{PageLeads, ReferencesBreak}
+use Rattle.fl_rules.specs.RingRules.{NoRows, OverPages, WithinPages, IsRingSound, BreaksRing}
+use Rattle.fl_rules.specs.Tally.{listed_to, tally_of}
+use Rattle.fl_rules.specs.declared.numbering.Numbering.{Numbering}
+use Rattle.fl_rules.specs.declared.rule.Rule.{Rule}
+use Rattle.fl_rules.specs.declared.rule.Rule.TheVariants.{Entry, Blob}
+use Rattle.fl_rules.specs.declared.tally.Tally.{Tally}
 use Rattle.fl_check.specs.Entries.{IndexOver, entries_in, HaveEntries, EntriesBreak}
-use Rattle.fl_check.specs.IndexPage.{IsIndexPage}
-use Rattle.fl_check.specs.Marks.{AreWithin}
-use Rattle.fl_check.specs.References.{PageLeads, ReferencesBreak}
-use Rattle.fl_check.specs.RingRules.{NoRows, OverPages, WithinPages, IsRingSound, BreaksRing}
-use Rattle.fl_check.specs.Tally.{listed_to, tally_of}
 use Rattle.fl_check.specs.declared.finding.Finding.{Finding}
 use Rattle.fl_check.specs.declared.finding.Finding.TheVariants.{Sound, Fault}
 use Rattle.fl_check.specs.declared.finding.RingName.{RingName}
 use Rattle.fl_check.specs.declared.finding.RingName.TheVariants.{Index, Data, Var, Log}
-use Rattle.fl_check.specs.declared.numbering.Numbering.{Numbering}
-use Rattle.fl_check.specs.declared.rule.Rule.{Rule}
-use Rattle.fl_check.specs.declared.rule.Rule.TheVariants.{Head, State, Number, Body, Keys, Entry, Blob, Rest}
-use Rattle.fl_check.specs.declared.tally.Tally.{Tally}
 use Rattle.fl_check.specs.declared.table.TableNumbers.{TableNumbers}
 
 -- ---- a table on a flash
@@ -216,18 +216,6 @@ IsFirstFault config log page Index p rule = BreaksIndex config page p rule ⊎ (
 IsFirstFault config log page Data p rule = BreaksRows config page p rule ⊎ ((rule ≡ Blob) × BreaksReferences config log page p)
 IsFirstFault config log page Var p rule = BreaksVar config page p rule
 IsFirstFault config log page Log p rule = BreaksLog config log page p rule
-
--- ---- what is found
-
-abbrev pub rule_number : Rule → ℕ
-rule_number Head = 1
-rule_number State = 2
-rule_number Number = 3
-rule_number Body = 4
-rule_number Keys = 5
-rule_number Entry = 6
-rule_number Blob = 7
-rule_number Rest = 8
 
 -- a sound table, and what its data ring holds
 pub record Holds (config : TableConfig) (log : Option RingPlace) (page : ℕ → List ℕ) (tally : Tally) (kept : ℕ) : Type 0 where

@@ -1,7 +1,7 @@
 // What a check finds of a table.
-use crate::rule::Rule;
 use fl_base::NoMemory;
 use fl_flash::FlashFault;
+use fl_rules::Rule;
 
 /// The rings of a table.
 #[derive(Clone, Copy, Debug, PartialEq, Eq)]

@@ -1,15 +1,14 @@
 // Why the check of a table ends before its end.
 ghost use Rattle.std.specs.Prelude.{◌≡◌, IfOk, IfErr};
 ghost use Rattle.fl_check.specs.Looks.{IfFailed, IfFound};
-ghost use Rattle.fl_check.specs.Stop.{IfFlash, IfBroken};
+ghost use Rattle.fl_rules.specs.Stop.{IfFlash, IfBroken};
 ghost use Rattle.fl_check.specs.declared.halt.Halt.{Halt};
-ghost use Rattle.fl_check.specs.declared.rule.Breach.{Breach};
+ghost use Rattle.fl_rules.specs.declared.rule.Breach.{Breach};
 ghost use Rattle.fl_flash.specs.declared.flash.FlashFault.{FlashFault};
 
 use crate::finding::RingName;
-use crate::numbering::Numbering;
-use crate::rule::{Rule, Stop};
 use fl_flash::FlashFault;
+use fl_rules::{Numbering, Rule, Stop};
 
 /// A rule doesn't hold: this page of the flash is the first of its ring that breaks it.
 #[derive(Clone, Copy)]

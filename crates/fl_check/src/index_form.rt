@@ -2,10 +2,9 @@
 ghost use Rattle.std.specs.Prelude.{◌≡◌, ◌≤◌};
 ghost use Rattle.fl_check.specs.Whole.{form_in};
 
-use crate::index_page::index_page_is_good;
-use crate::rule_4_body::Form;
 use fl_index::EntryForm;
 use fl_plan::TableConfig;
+use fl_rules::{Form, index_page_is_good};
 
 /// The form of the index pages of a table, whose entries have this form.
 #[derive(Clone, Copy)]

@@ -8,14 +8,14 @@ ghost use Rattle.fl_ring.specs.Ring.{Shape, RingState, IsShape};
 ghost use Rattle.fl_check.specs.KeptPages.{KeptPagesAreGood};
 ghost use Rattle.fl_check.specs.Laws.{KeepsRules};
 ghost use Rattle.fl_check.specs.MountLaw.{FindsNumbers};
-ghost use Rattle.fl_check.specs.Numbering.{IsNumbered};
+ghost use Rattle.fl_rules.specs.Numbering.{IsNumbered};
 ghost use Rattle.fl_check.specs.Rules.{AreRules, TellsFirst};
 ghost use Rattle.fl_check.specs.SoundImages.{SoundImages};
 ghost use Rattle.fl_check.specs.StandingRings.{SoundRingsStand};
 ghost use Rattle.fl_check.specs.Whole.{IsFinding};
 ghost use Rattle.fl_check.specs.declared.faults.TableRules.{TableRules};
 ghost use Rattle.fl_check.specs.declared.finding.Finding.{Finding};
-ghost use Rattle.fl_check.specs.declared.marks.Marks.{Marks};
+ghost use Rattle.fl_rules.specs.declared.marks.Marks.{Marks};
 
 /// A flash that stands for a ring keeps the rules on the ring's pages, torn and waiting for an erase or not.
 pub fn rings_keep_rules()

@@ -4,27 +4,23 @@ ghost use Rattle.fl_flash.specs.Flash.{page_at};
 ghost use Rattle.fl_frame.specs.Causes.{ReadFails};
 ghost use Rattle.fl_ring.specs.Place.{shape_of, LiesOn};
 ghost use Rattle.fl_schema.specs.Schema.{layout_of};
-ghost use Rattle.fl_check.specs.DataPage.{IsDataPage};
+ghost use Rattle.fl_rules.specs.DataPage.{IsDataPage};
 ghost use Rattle.fl_frame.specs.Reads.{OnlyLooks};
 ghost use Rattle.fl_check.specs.Looks.{IfFailed, IfFound};
-ghost use Rattle.fl_check.specs.Marks.{AreWithin};
-ghost use Rattle.fl_check.specs.RingRules.{WithinPages};
+ghost use Rattle.fl_rules.specs.Marks.{AreWithin};
+ghost use Rattle.fl_rules.specs.RingRules.{WithinPages};
 ghost use Rattle.fl_check.specs.Ruled.{KeysTold, RowsTold};
 ghost use Rattle.fl_check.specs.Rules.{OfRing};
 ghost use Rattle.fl_check.specs.Whole.{Fits, LogFits, shape_in, layout_in, IsLogForm, IsLogSound, BreaksLogRing};
 ghost use Rattle.fl_check.specs.declared.finding.RingName.{RingName};
 
 use crate::finding::RingName;
-use crate::forms::{AscendingForm, DataForm};
 use crate::halt::{Halt, in_ring};
-use crate::numbering::Numbering;
-use crate::ring::check_log;
 use crate::ring_rules::{Ruled, first_page, rule_ring};
-use crate::rule::Rule;
-use crate::rule_4_body::check_forms;
 use crate::table::Checked;
 use fl_flash::{Flash, FlashFault, PageBuf};
 use fl_ring::Ring;
+use fl_rules::{AscendingForm, DataForm, Numbering, Rule, check_forms, check_log};
 use fl_schema::Schema;
 
 /// Looks at the rule on the keys of a log, if it tells its marks and its rows.

@@ -5,21 +5,18 @@ ghost use Rattle.fl_flash.specs.declared.flash.FlashFault.{FlashFault};
 ghost use Rattle.fl_frame.specs.Causes.{ReadFails};
 ghost use Rattle.fl_ring.specs.Place.{shape_of, LiesOn};
 ghost use Rattle.fl_frame.specs.Reads.{OnlyLooks};
-ghost use Rattle.fl_check.specs.Looks.{OffFails};
-ghost use Rattle.fl_check.specs.Marks.{AreMarks, AreWithin};
+ghost use Rattle.fl_rules.specs.Off.{OffFails};
+ghost use Rattle.fl_rules.specs.Marks.{AreMarks, AreWithin};
 ghost use Rattle.fl_check.specs.Ruled.{BodiesTold, NumbersTold, HeadHolds, RingTold};
-ghost use Rattle.fl_check.specs.Stop.{first_page};
+ghost use Rattle.fl_rules.specs.Stop.{first_page};
 
 use crate::faults::RingFaults;
-use crate::marks::{Marks, read_marks};
-use crate::numbering::Numbering;
-use crate::rule::{Rule, Stop};
-use crate::rule_2_state::check_states;
-use crate::rule_3_number::check_numbers;
-use crate::rule_4_body::{Form, check_forms};
-use crate::rule_8_blank::check_rest;
 use fl_flash::{Flash, FlashFault, PageBuf};
 use fl_ring::Ring;
+use fl_rules::{
+    Form, Marks, Numbering, Rule, Stop, check_forms, check_numbers, check_rest, check_states,
+    read_marks,
+};
 
 /// What is told of a ring: the first page that breaks each rule, and the marks and the numbers of its pages if the rules on the
 /// head, the numbers and the bodies hold.

@@ -7,18 +7,17 @@ ghost use Rattle.fl_frame.specs.Causes.{ReadFails};
 ghost use Rattle.fl_ring.specs.Newest.{page_back};
 ghost use Rattle.fl_ring.specs.Place.{shape_of, LiesOn};
 ghost use Rattle.fl_ring.specs.Ring.{room};
-ghost use Rattle.fl_check.specs.Claims.{AllBelow, FailsFirst};
+ghost use Rattle.fl_rules.specs.Claims.{AllBelow, FailsFirst};
 ghost use Rattle.fl_schema.specs.Schema.{layout_of};
 ghost use Rattle.fl_check.specs.Entries.{entries_in, over, IsEntry, kept_below, AreSeen, HasEntries, HaveEntries, EntriesBreak};
-ghost use Rattle.fl_check.specs.Marks.{AreWithin};
-ghost use Rattle.fl_check.specs.Told.{TellsPage};
+ghost use Rattle.fl_rules.specs.Marks.{AreWithin};
+ghost use Rattle.fl_rules.specs.Told.{TellsPage};
 
-use crate::marks::Marks;
-use crate::numbering::Numbering;
 use crate::told_entry::tells_page;
 use fl_flash::{Flash, FlashFault, PageBuf};
 use fl_index::{EntryForm, Found, entry_len, first_in, found_in};
 use fl_ring::{Ring, is_committed, look};
+use fl_rules::{Marks, Numbering};
 use fl_schema::Schema;
 
 /// An index over data pages: the form of its entries, the schema of the rows, the kept pages of its ring, and those of the

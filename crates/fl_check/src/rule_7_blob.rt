@@ -8,17 +8,16 @@ ghost use Rattle.fl_frame.specs.Reads.{OnlyReads};
 ghost use Rattle.fl_frame.specs.Causes.{ReadFails};
 ghost use Rattle.fl_ring.specs.Place.{shape_of, LiesOn};
 ghost use Rattle.fl_schema.specs.Schema.{layout_of};
-ghost use Rattle.fl_check.specs.Claims.{AllBelow};
-ghost use Rattle.fl_check.specs.Marks.{AreWithin};
-ghost use Rattle.fl_check.specs.Reaches.{AreMeasured};
-ghost use Rattle.fl_check.specs.References.{content_room, Leads, BlobLeads, RowsLead, HasRows, PageLeads, ReferencesBreak};
+ghost use Rattle.fl_rules.specs.Claims.{AllBelow};
+ghost use Rattle.fl_rules.specs.Marks.{AreWithin};
+ghost use Rattle.fl_rules.specs.Reaches.{AreMeasured};
+ghost use Rattle.fl_rules.specs.References.{content_room, Leads, BlobLeads, RowsLead, HasRows, PageLeads, ReferencesBreak};
 
-use crate::marks::Marks;
-use crate::numbering::Numbering;
 use fl_base::{BlobRef, get_u32};
 use fl_flash::{Flash, FlashFault, PageBuf};
 use fl_page::PageView;
 use fl_ring::{Ring, is_committed, look};
+use fl_rules::{Marks, Numbering};
 use fl_schema::Schema;
 
 /// A ring of variable data whose marks and numbers were checked: the bytes of content that a page has room for, and how far

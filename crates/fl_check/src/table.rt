@@ -7,37 +7,35 @@ ghost use Rattle.fl_plan.specs.Plan.{blocks_in};
 ghost use Rattle.fl_plan.specs.Refusal.{config_fault};
 ghost use Rattle.fl_frame.specs.Causes.{ReadFails};
 ghost use Rattle.fl_schema.specs.Schema.{layout_of, types_of};
-ghost use Rattle.fl_check.specs.Claims.{AllBelow};
+ghost use Rattle.fl_rules.specs.Claims.{AllBelow};
 ghost use Rattle.fl_check.specs.Entries.{HaveEntries, EntriesBreak};
 ghost use Rattle.fl_frame.specs.Reads.{OnlyLooks};
-ghost use Rattle.fl_check.specs.Looks.{CheckFails, OffFails, OffChecksNothing, IfFailed, IfFound};
-ghost use Rattle.fl_check.specs.Marks.{AreWithin};
-ghost use Rattle.fl_check.specs.Reaches.{HasContent};
-ghost use Rattle.fl_check.specs.References.{PageLeads, ReferencesBreak};
-ghost use Rattle.fl_check.specs.Rising.{HaveRows};
-ghost use Rattle.fl_check.specs.RingRules.{NoRows, OverPages, IsRingSound, BreaksRing};
+ghost use Rattle.fl_rules.specs.Off.{OffFails};
+ghost use Rattle.fl_check.specs.Looks.{CheckFails, OffChecksNothing, IfFailed, IfFound};
+ghost use Rattle.fl_rules.specs.Marks.{AreWithin};
+ghost use Rattle.fl_rules.specs.Reaches.{HasContent};
+ghost use Rattle.fl_rules.specs.References.{PageLeads, ReferencesBreak};
+ghost use Rattle.fl_rules.specs.Rising.{HaveRows};
+ghost use Rattle.fl_rules.specs.RingRules.{NoRows, OverPages, IsRingSound, BreaksRing};
 ghost use Rattle.fl_check.specs.Whole.{Fits, LogFits, IfWithin, LiesWithin, OfRing, indexing, shape_in, rows_shape, layout_in, form_in, IsRowsForm, IsVarForm, IsIndexSound, AreRingsSound, AreEntriesSound, AreReferencesSound, IsSound, BreaksIndex, BreaksVarBy, IsFirstFault, index_end, tally_in, IsFinding};
 ghost use Rattle.fl_check.specs.declared.finding.RingName.{RingName};
 ghost use Rattle.fl_check.specs.declared.halt.Halt.{Halt};
-ghost use Rattle.fl_check.specs.declared.rule.Rule.{Rule};
+ghost use Rattle.fl_rules.specs.declared.rule.Rule.{Rule};
 
 use crate::finding::{CheckFault, Finding, RingName};
-use crate::forms::{ContentForm, DataForm};
 use crate::halt::{Fault, Halt, in_ring};
 use crate::index_form::IndexForm;
-use crate::marks::Marks;
-use crate::numbering::Numbering;
-use crate::reaches::find_reaches;
-use crate::ring::{check_ring, check_rows};
-use crate::rule::Rule;
 use crate::rule_6_entry::{Indexing, check_entries, entries_in};
 use crate::rule_7_blob::{BlobPages, find_misleading};
-use crate::tally::{Tally, find_end, tally_pages};
 use fl_base::{NoMemory, RingPlace};
 use fl_flash::{Flash, FlashFault, PageBuf};
 use fl_index::EntryForm;
 use fl_plan::TableConfig;
 use fl_ring::Ring;
+use fl_rules::{
+    ContentForm, DataForm, Marks, Numbering, Rule, Tally, check_ring, check_rows, find_end,
+    find_reaches, tally_pages,
+};
 use fl_schema::Schema;
 use std::alloc::Global;
 

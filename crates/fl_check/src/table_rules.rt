@@ -6,27 +6,25 @@ ghost use Rattle.fl_flash.specs.declared.flash.FlashFault.{FlashFault};
 ghost use Rattle.fl_plan.specs.Plan.{blocks_in};
 ghost use Rattle.fl_frame.specs.Causes.{ReadFails};
 ghost use Rattle.fl_frame.specs.Reads.{OnlyLooks};
-ghost use Rattle.fl_check.specs.Looks.{CheckFails, OffFails, OffChecksNothing};
-ghost use Rattle.fl_check.specs.Marks.{AreWithin};
-ghost use Rattle.fl_check.specs.Rising.{HaveRows};
-ghost use Rattle.fl_check.specs.RingRules.{OverPages};
+ghost use Rattle.fl_rules.specs.Off.{OffFails};
+ghost use Rattle.fl_check.specs.Looks.{CheckFails, OffChecksNothing};
+ghost use Rattle.fl_rules.specs.Marks.{AreWithin};
+ghost use Rattle.fl_rules.specs.Rising.{HaveRows};
+ghost use Rattle.fl_rules.specs.RingRules.{OverPages};
 ghost use Rattle.fl_check.specs.Ruled.{RingTold, KeysTold, RowsTold};
 ghost use Rattle.fl_check.specs.Rules.{OfRing, tally_told, rules_of, HaveContent, EntriesTold, BlobsTold, AreRules};
 ghost use Rattle.fl_check.specs.Whole.{Fits, LogFits, IfWithin, shape_in, rows_shape, layout_in, IsIndexForm, IsRowsForm, IsVarForm};
 
 use crate::faults::{TableFaults, TableRules};
 use crate::finding::CheckFault;
-use crate::forms::{ContentForm, DataForm};
 use crate::index_form::IndexForm;
-use crate::numbering::Numbering;
 use crate::ring_rules::{Ruled, first_page, rule_ring};
-use crate::rule_5_keys::check_keys;
 use crate::table::{Checked, reaches_room, schema_of};
-use crate::tally::Tally;
 use fl_base::RingPlace;
 use fl_flash::{Flash, FlashFault, PageBuf};
 use fl_plan::TableConfig;
 use fl_ring::Ring;
+use fl_rules::{ContentForm, DataForm, Numbering, Tally, check_keys};
 use std::alloc::Global;
 
 impl Checked<'_> {

@@ -3,15 +3,14 @@ ghost use Rattle.std.specs.Prelude.{◌≡◌, ◌<◌, ◌≤◌, ◌↔◌, le
 ghost use Rattle.fl_index.specs.Page.{full_view};
 ghost use Rattle.fl_page.specs.View.{count_of, rows_of};
 ghost use Rattle.fl_schema.specs.Schema.{layout_of};
-ghost use Rattle.fl_check.specs.Told.{header_bitmap, full_in, TellsCommitted, TellsVoid, TellsPage};
+ghost use Rattle.fl_rules.specs.Told.{header_bitmap, full_in, TellsCommitted, TellsVoid, TellsPage};
 
-use crate::rule_5_keys::number_in;
-use crate::tally::blobs_end;
 use fl_base::get_u64;
 use fl_index::{Found, Full};
 use fl_mark::state_of;
 use fl_page::PageView;
 use fl_ring::is_committed;
+use fl_rules::{blobs_end, number_in};
 use fl_schema::Schema;
 
 /// The bitmap in the header of a data page.

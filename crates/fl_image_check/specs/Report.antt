@@ -3,15 +3,15 @@ use Rattle.std.specs.Prelude.{ℕ, Bool, true, false, List, [], ◌∷◌, ◌++
 use Rattle.fl_model.specs.Record.{Plan}
 use Rattle.fl_words.specs.Medium.{line_text}
 use Rattle.fl_check.specs.Faults.{findings_of}
-use Rattle.fl_check.specs.Whole.{rule_number}
+use Rattle.fl_rules.specs.Rule.{rule_number}
 use Rattle.fl_check.specs.declared.faults.TableRules.{TableRules}
 use Rattle.fl_check.specs.declared.faults.TableRules.TheVariants.{Kept, Broken}
 use Rattle.fl_check.specs.declared.finding.RingName.{RingName}
 use Rattle.fl_check.specs.declared.finding.RingName.TheVariants.{Index, Data, Var, Log}
 use Rattle.fl_check.specs.declared.finding.Finding.{Finding}
 use Rattle.fl_check.specs.declared.finding.Finding.TheVariants.{Sound, Fault}
-use Rattle.fl_check.specs.declared.rule.Rule.{Rule}
-use Rattle.fl_check.specs.declared.rule.Rule.TheVariants.{Head, State, Number, Body, Keys, Entry, Blob, Rest}
+use Rattle.fl_rules.specs.declared.rule.Rule.{Rule}
+use Rattle.fl_rules.specs.declared.rule.Rule.TheVariants.{Head, State, Number, Body, Keys, Entry, Blob, Rest}
 use Rattle.fl_image_check.specs.declared.extent.Extent.{Extent}
 use Rattle.fl_image_check.specs.declared.extent.Extent.TheVariants.{FirstFault, AllTables}
 

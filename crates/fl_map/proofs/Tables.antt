@@ -7,7 +7,7 @@ use Rattle.fl_check.specs.declared.finding.RingName.{RingName}
 use Rattle.fl_check.specs.declared.finding.RingName.TheVariants.{Index, Data, Var, Log}
 use Rattle.fl_frame.specs.Reads.{OnlyLooks}
 use Rattle.fl_check.specs.Whole.{LogFits}
-use Rattle.fl_check.proofs.LooksChangeNothing.{same_pages, fails_later}
+use Rattle.fl_rules.proofs.LooksChangeNothing.{same_pages, fails_later}
 use Rattle.fl_flash.specs.Flash.{FlashState, page_at}
 use Rattle.fl_mark.specs.declared.page_state.PageState.{PageState}
 use Rattle.fl_model.specs.Record.{row_len}

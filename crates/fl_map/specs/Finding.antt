@@ -1,7 +1,7 @@
 -- What a map says of a ring's name, and of what a check finds.
 use Rattle.std.specs.Prelude.{ℕ, Option, Some, None, List, ◌++◌, codes, decimal}
-use Rattle.fl_check.specs.Whole.{rule_number}
-use Rattle.fl_check.specs.declared.rule.Rule.{Rule}
+use Rattle.fl_rules.specs.Rule.{rule_number}
+use Rattle.fl_rules.specs.declared.rule.Rule.{Rule}
 use Rattle.fl_check.specs.declared.finding.Finding.{Finding}
 use Rattle.fl_check.specs.declared.finding.Finding.TheVariants.{Sound, Fault}
 use Rattle.fl_check.specs.declared.finding.RingName.{RingName}

@@ -19,7 +19,7 @@ use Rattle.fl_model.specs.Table.{Table, VarRing, shape_of, full_pages}
 use Rattle.fl_model.proofs.Lists.{slice_get-short, each-at}
 use Rattle.fl_page.specs.Header.{page_number, page_count}
 use Rattle.fl_schema.proofs.Numbers.{number_of-le}
-use Rattle.fl_check.proofs.ContentPages.{content_used}
+use Rattle.fl_rules.proofs.ContentPages.{content_used}
 use Rattle.fl_salvage.specs.Blobs.{content_at, content_in}
 use Rattle.fl_salvage.specs.Ends.{form_at}
 use Rattle.fl_salvage.specs.Pages.{numbered, page_of}

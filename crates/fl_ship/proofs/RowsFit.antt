@@ -18,8 +18,8 @@ use Rattle.fl_table.specs.Refusal.{RefusesAs, key_refused, or_else, refused_if, 
 use Rattle.fl_table.specs.declared.faults.PutRefusal.{PutRefusal}
 use Rattle.fl_table.specs.declared.faults.PutRefusal.TheVariants.{Key, Columns, Value, Blob, Spent, Stopped, Flash}
 use Rattle.fl_table.specs.declared.table.Table.{Table}
-use Rattle.fl_check.proofs.BytesBack.{AreBytes}
-use Rattle.fl_check.proofs.RowsBack.{row_storable}
+use Rattle.fl_rules.proofs.BytesBack.{AreBytes}
+use Rattle.fl_rules.proofs.RowsBack.{row_storable}
 use Rattle.fl_ship.specs.Rows.{PutCausedBy}
 
 -- ---- a row that was read

@@ -14,10 +14,10 @@ use Rattle.fl_page.specs.Page.{rows_in}
 use Rattle.fl_page.specs.Steps.{Ascends}
 use Rattle.fl_ring.specs.Newest.{commits}
 use Rattle.fl_ring.specs.Ring.{Shape}
-use Rattle.fl_check.specs.Marks.{kept_page}
-use Rattle.fl_check.specs.Rising.{last_in, last_after, last_key, KeysAscend}
-use Rattle.fl_check.specs.Tally.{blobs_end, tally_of}
-use Rattle.fl_check.specs.declared.numbering.Numbering.{Numbering}
+use Rattle.fl_rules.specs.Marks.{kept_page}
+use Rattle.fl_rules.specs.Rising.{last_in, last_after, last_key, KeysAscend}
+use Rattle.fl_rules.specs.Tally.{blobs_end, tally_of}
+use Rattle.fl_rules.specs.declared.numbering.Numbering.{Numbering}
 use Rattle.fl_check.proofs.RingReads.{Reads}
 use Rattle.fl_sound.specs.Sound.{void_pages}
 use Rattle.fl_sound.proofs.Lists.{take-none, take-next, rows-behind, last-behind, ascends-behind, ascends-front, blobs-behind}

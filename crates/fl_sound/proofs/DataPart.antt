@@ -47,14 +47,14 @@ use Rattle.fl_parts.proofs.Plain.{IsPlainTable, table-parts}
 use Rattle.fl_plan.proofs.Fits.{few-blobs, row-fits}
 use Rattle.fl_table.proofs.Repaired.{IsIdle, lost-idle}
 use Rattle.fl_parts.proofs.States.{state_of, state-count, to-ring, HaveSize}
-use Rattle.fl_check.specs.Marks.{kept_page}
-use Rattle.fl_check.specs.Rising.{KeysAscend}
-use Rattle.fl_check.specs.Told.{header_bitmap, full_in, TellsCommitted, TellsVoid, TellsPage}
-use Rattle.fl_check.specs.RingRules.{OverPages}
+use Rattle.fl_rules.specs.Marks.{kept_page}
+use Rattle.fl_rules.specs.Rising.{KeysAscend}
+use Rattle.fl_rules.specs.Told.{header_bitmap, full_in, TellsCommitted, TellsVoid, TellsPage}
+use Rattle.fl_rules.specs.RingRules.{OverPages}
 use Rattle.fl_check.specs.Whole.{Fits, layout_in, rows_shape, IsRowsForm}
-use Rattle.fl_check.specs.declared.numbering.Numbering.{Numbering}
+use Rattle.fl_rules.specs.declared.numbering.Numbering.{Numbering}
 use Rattle.fl_check.proofs.KeptPages.{good}
-use Rattle.fl_check.proofs.TablePages.{is_data_page}
+use Rattle.fl_rules.proofs.TablePages.{is_data_page}
 use Rattle.fl_check.proofs.ConfigFacts.{few-indexed, has-buckets}
 use Rattle.fl_check.proofs.FullEntries.{full-stored}
 use Rattle.fl_check.proofs.RingReads.{Reads}

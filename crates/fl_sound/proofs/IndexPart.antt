@@ -28,12 +28,12 @@ use Rattle.fl_ring.specs.Ring.{Shape, IsShape, place}
 use Rattle.fl_parts.specs.Pages.{bytes_in}
 use Rattle.fl_parts.proofs.ListsStay.{has-index}
 use Rattle.fl_check.specs.Entries.{entries_in, HaveEntries}
-use Rattle.fl_check.specs.Marks.{kept_page}
-use Rattle.fl_check.specs.RingRules.{NoRows, IsRingSound}
-use Rattle.fl_check.specs.Tally.{listed_to}
+use Rattle.fl_rules.specs.Marks.{kept_page}
+use Rattle.fl_rules.specs.RingRules.{NoRows, IsRingSound}
+use Rattle.fl_rules.specs.Tally.{listed_to}
 use Rattle.fl_check.specs.Whole.{OfRing, shape_in as ring_shape, rows_shape, form_in, layout_in, end_in, indexing, IsIndexForm, IsIndexSound}
 use Rattle.fl_check.specs.Whole as whole
-use Rattle.fl_check.specs.declared.numbering.Numbering.{Numbering}
+use Rattle.fl_rules.specs.declared.numbering.Numbering.{Numbering}
 use Rattle.fl_check.proofs.Wholes.{of_ring, of_none}
 use Rattle.fl_check.proofs.ConfigFacts.{some-bits, some-room}
 use Rattle.fl_check.proofs.RingReads.{Reads}

@@ -21,10 +21,10 @@ use Rattle.fl_model.specs.Table.{Table, firsts, full_pages}
 use Rattle.fl_model.proofs.Lists.{slice_get-some, last_or-push}
 use Rattle.fl_ring.specs.Ring.{Shape}
 use Rattle.fl_check.specs.Entries.{IndexOver, entries_in, IsEntry, Lists, first_listed, HaveEntries}
-use Rattle.fl_check.specs.Marks.{kept_page}
-use Rattle.fl_check.specs.Tally.{listed_to}
-use Rattle.fl_check.specs.Told.{TellsPage}
-use Rattle.fl_check.specs.declared.numbering.Numbering.{Numbering}
+use Rattle.fl_rules.specs.Marks.{kept_page}
+use Rattle.fl_rules.specs.Tally.{listed_to}
+use Rattle.fl_rules.specs.Told.{TellsPage}
+use Rattle.fl_rules.specs.declared.numbering.Numbering.{Numbering}
 use Rattle.fl_check.proofs.RingReads.{Reads}
 use Rattle.fl_sound.proofs.Lists.{take-none, take-next}
 

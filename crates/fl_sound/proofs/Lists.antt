@@ -7,8 +7,8 @@ use Rattle.std.proofs.Math.Seq.{take-add}
 use Rattle.fl_model.specs.Row.{Row, stored_row}
 use Rattle.fl_model.specs.Table.{Entry}
 use Rattle.fl_page.specs.Steps.{Ascends}
-use Rattle.fl_check.specs.Rising.{last_in}
-use Rattle.fl_check.specs.Tally.{reference_end, blobs_end}
+use Rattle.fl_rules.specs.Rising.{last_in}
+use Rattle.fl_rules.specs.Tally.{reference_end, blobs_end}
 
 pub take-none : {X : Type 0} (xs : List X) → take 0 xs ≡ []
 take-none [] = refl

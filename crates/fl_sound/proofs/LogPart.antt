@@ -39,9 +39,9 @@ use Rattle.fl_rlc.proofs.States.{state_of, IsStateOf, state-is, holds-some}
 use Rattle.fl_schema.proofs.Numbers.{length-le, number_of-le}
 use Rattle.fl_schema.proofs.References.{from_le_bytes_4}
 use Rattle.fl_parts.proofs.Plain.{least-below}
-use Rattle.fl_check.specs.RingRules.{WithinPages, IsAscending}
+use Rattle.fl_rules.specs.RingRules.{WithinPages, IsAscending}
 use Rattle.fl_check.specs.Whole.{Fits, shape_in, layout_in, IsLogForm, IsLogSound}
-use Rattle.fl_check.specs.declared.numbering.Numbering.{Numbering}
+use Rattle.fl_rules.specs.declared.numbering.Numbering.{Numbering}
 use Rattle.fl_check.proofs.KeptPages.{rows-storable, rows-plain, entries-ascend}
 use Rattle.fl_sound.proofs.RingReads.{IsOf}
 use Rattle.fl_sound.proofs.RingSound.{SoundRing, AreFormed, sizes, formed-bodies, sound-ring}

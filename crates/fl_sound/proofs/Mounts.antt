@@ -6,7 +6,7 @@ use Rattle.fl_base.specs.declared.types.Geometry.{Geometry}
 use Rattle.fl_base.specs.declared.types.RingPlace.{RingPlace}
 use Rattle.fl_check.specs.SoundImages.{RingImage, OfPlace, BlobsLead, PagesFit, IsNumbered, NumbersAreLeft, IsAsRunsLeave, StandsSettled, HasImage}
 use Rattle.fl_check.specs.Whole.{shape_in}
-use Rattle.fl_check.specs.declared.numbering.Numbering.{Numbering}
+use Rattle.fl_rules.specs.declared.numbering.Numbering.{Numbering}
 use Rattle.fl_check.proofs.SoundImages.{sound-images}
 use Rattle.fl_check.proofs.TableFacts.{stands-settled}
 use Rattle.fl_flash.specs.Flash.{FlashState, page_at}

@@ -18,10 +18,10 @@ use Rattle.fl_model.proofs.StandingPages.{stands-kept, kept-stands}
 use Rattle.fl_page.specs.Header.{page_count}
 use Rattle.fl_ring.specs.Newest.{commits, page_back}
 use Rattle.fl_ring.specs.Ring.{Shape, place}
-use Rattle.fl_check.specs.Marks.{kept_page}
-use Rattle.fl_check.specs.References.{numbered, IsThere, last_part, HoldsPart, IsWhole, Leads, BlobLeads, RowsLead, PageLeads}
-use Rattle.fl_check.specs.Tally.{reference_end, blobs_end}
-use Rattle.fl_check.specs.declared.numbering.Numbering.{Numbering}
+use Rattle.fl_rules.specs.Marks.{kept_page}
+use Rattle.fl_rules.specs.References.{numbered, IsThere, last_part, HoldsPart, IsWhole, Leads, BlobLeads, RowsLead, PageLeads}
+use Rattle.fl_rules.specs.Tally.{reference_end, blobs_end}
+use Rattle.fl_rules.specs.declared.numbering.Numbering.{Numbering}
 use Rattle.fl_check.proofs.RingReads.{Reads}
 use Rattle.fl_sound.proofs.DataPages.{HaveRowsOf}
 

@@ -12,9 +12,9 @@ use Rattle.fl_ring.specs.Numbers.{renumbered}
 use Rattle.fl_ring.specs.Ring.{Shape, RingState, IsShape, count, room, place}
 use Rattle.fl_ring.proofs.Good.{back_page}
 use Rattle.fl_ring.proofs.GoodNumbers.{commits_some, renumbered_some, renumbered_none}
-use Rattle.fl_check.specs.Marks.{kept_page}
-use Rattle.fl_check.specs.Numbering.{IsNumbered}
-use Rattle.fl_check.specs.declared.numbering.Numbering.{Numbering}
+use Rattle.fl_rules.specs.Marks.{kept_page}
+use Rattle.fl_rules.specs.Numbering.{IsNumbered}
+use Rattle.fl_rules.specs.declared.numbering.Numbering.{Numbering}
 use Rattle.fl_check.proofs.GoodNumbers.{good_next}
 use Rattle.fl_check.proofs.GoodStates.{at_is, kept_is, holds_kept}
 use Rattle.fl_check.proofs.RingReads.{Reads}

@@ -12,11 +12,11 @@ use Rattle.fl_ring.specs.Counts.{page_count}
 use Rattle.fl_ring.specs.Mounting.{IsGood}
 use Rattle.fl_ring.specs.Ring.{Shape, RingState, IsShape, place}
 use Rattle.fl_ring.proofs.Lengths.{page_length}
-use Rattle.fl_check.specs.Bodies.{HaveBodies}
-use Rattle.fl_check.specs.Marks.{kept_page}
-use Rattle.fl_check.specs.Numbering.{IsNumbered}
-use Rattle.fl_check.specs.RingRules.{KeyOrder, HaveKeys, IsRingSound}
-use Rattle.fl_check.specs.declared.numbering.Numbering.{Numbering}
+use Rattle.fl_rules.specs.Bodies.{HaveBodies}
+use Rattle.fl_rules.specs.Marks.{kept_page}
+use Rattle.fl_rules.specs.Numbering.{IsNumbered}
+use Rattle.fl_rules.specs.RingRules.{KeyOrder, HaveKeys, IsRingSound}
+use Rattle.fl_rules.specs.declared.numbering.Numbering.{Numbering}
 use Rattle.fl_check.proofs.StandingRingHasNumbers.{good_numbering}
 use Rattle.fl_check.proofs.GoodStates.{good_rest}
 use Rattle.fl_check.proofs.RingReads.{Reads}

@@ -35,13 +35,13 @@ use Rattle.fl_parts.proofs.Plain.{least-below}
 use Rattle.fl_var.specs.Standing.{IsVarRing}
 use Rattle.fl_var.proofs.Bodies.{once, bodies-at}
 use Rattle.fl_var.proofs.States.{state_of, IsStateOf, state-is}
-use Rattle.fl_check.specs.Claims.{AllBelow}
-use Rattle.fl_check.specs.References.{PageLeads}
-use Rattle.fl_check.specs.RingRules.{NoRows, IsRingSound}
-use Rattle.fl_check.specs.Tally.{reference_end, blobs_end}
+use Rattle.fl_rules.specs.Claims.{AllBelow}
+use Rattle.fl_rules.specs.References.{PageLeads}
+use Rattle.fl_rules.specs.RingRules.{NoRows, IsRingSound}
+use Rattle.fl_rules.specs.Tally.{reference_end, blobs_end}
 use Rattle.fl_check.specs.Whole.{OfRing, shape_in as ring_shape, rows_shape, layout_in, IsVarForm}
-use Rattle.fl_check.specs.declared.numbering.Numbering.{Numbering}
-use Rattle.fl_check.proofs.ContentPages.{content_used}
+use Rattle.fl_rules.specs.declared.numbering.Numbering.{Numbering}
+use Rattle.fl_rules.proofs.ContentPages.{content_used}
 use Rattle.fl_check.proofs.KeptPages as pages
 use Rattle.fl_check.proofs.Wholes.{of_ring, of_none}
 use Rattle.fl_check.proofs.RingReads.{Reads}

@@ -2,12 +2,12 @@ use Rattle.std.proofs.Common.{sym, subst}
 use Rattle.fl_flash.specs.Flash.{page_at}
 use Rattle.fl_ring.specs.Place.{shape_of}
 use Rattle.fl_schema.specs.Schema.{layout_of}
-use Rattle.fl_check.specs.DataPage.{IsDataPage}
+use Rattle.fl_rules.specs.DataPage.{IsDataPage}
 use Rattle.fl_check.specs.Faults.{with_keys}
-use Rattle.fl_check.specs.RingRules.{WithinPages}
+use Rattle.fl_rules.specs.RingRules.{WithinPages}
 use Rattle.fl_check.specs.Ruled.{KeysTold, RowsTold}
 use Rattle.fl_check.specs.declared.faults.RingFaults.{RingFaults}
-use Rattle.fl_check.proofs.LooksChangeNothing.{seen}
+use Rattle.fl_rules.proofs.LooksChangeNothing.{seen}
 use Rattle.fl_check.proofs.TableTold.{keyless}
 use Rattle.fl_check.proofs.log.rule_log.Goals as goal
 

@@ -2,13 +2,13 @@ use Rattle.std.proofs.Common.{Option, IsTrue, sym, subst}
 use Rattle.fl_flash.specs.Flash.{page_at}
 use Rattle.fl_ring.specs.Place.{shape_of}
 use Rattle.fl_schema.specs.Schema.{layout_of}
-use Rattle.fl_check.specs.Bodies.{HaveBodies, BodiesBreak}
-use Rattle.fl_check.specs.RingRules.{WithinPages, IsAscending}
+use Rattle.fl_rules.specs.Bodies.{HaveBodies, BodiesBreak}
+use Rattle.fl_rules.specs.RingRules.{WithinPages, IsAscending}
 use Rattle.fl_check.specs.Ruled.{KeysTold}
-use Rattle.fl_check.specs.declared.numbering.Numbering.{Numbering}
-use Rattle.fl_check.specs.declared.rule.Rule.TheVariants.{Keys}
+use Rattle.fl_rules.specs.declared.numbering.Numbering.{Numbering}
+use Rattle.fl_rules.specs.declared.rule.Rule.TheVariants.{Keys}
 use Rattle.fl_check.proofs.RulesTold.{if_told}
-use Rattle.fl_check.proofs.Stops.{if_ok, if_broken}
+use Rattle.fl_rules.proofs.Stops.{if_ok, if_broken}
 use Rattle.fl_check.proofs.log.rule_order.Goals as goal
 
 pub returns-clause-keys : goal.returns-clause-keys

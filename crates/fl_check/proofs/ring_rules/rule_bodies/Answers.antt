@@ -1,8 +1,8 @@
 use Rattle.std.proofs.Common.{sym, ◌∙◌}
 use Rattle.fl_flash.specs.Flash.{page_at}
 use Rattle.fl_ring.specs.Place.{shape_of}
-use Rattle.fl_check.specs.Bodies.{HaveBodies, BodiesBreak}
-use Rattle.fl_check.specs.declared.rule.Rule.TheVariants.{Body}
+use Rattle.fl_rules.specs.Bodies.{HaveBodies, BodiesBreak}
+use Rattle.fl_rules.specs.declared.rule.Rule.TheVariants.{Body}
 use Rattle.fl_check.proofs.RulesTold.{told_by, bodies_told}
 use Rattle.fl_check.proofs.ring_rules.rule_bodies.Goals as goal
 

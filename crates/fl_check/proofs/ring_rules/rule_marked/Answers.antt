@@ -1,12 +1,12 @@
 use Rattle.std.proofs.Common.{ℕ, MatchOption, List, refl, sym, ◌∙◌}
 use Rattle.fl_flash.specs.Flash.{page_at}
 use Rattle.fl_ring.specs.Place.{shape_of}
-use Rattle.fl_check.specs.Rest.{IsRestBlank, RestBreaks}
+use Rattle.fl_rules.specs.Rest.{IsRestBlank, RestBreaks}
 use Rattle.fl_check.specs.Ruled.{NumbersTold}
-use Rattle.fl_check.specs.States.{HaveStates, StatesBreak}
-use Rattle.fl_check.specs.declared.rule.Rule.TheVariants.{State, Rest}
+use Rattle.fl_rules.specs.States.{HaveStates, StatesBreak}
+use Rattle.fl_rules.specs.declared.rule.Rule.TheVariants.{State, Rest}
 use Rattle.fl_frame.proofs.ReadsInTurn.{looks_by, looks_more}
-use Rattle.fl_check.proofs.LooksChangeNothing.{seen}
+use Rattle.fl_rules.proofs.LooksChangeNothing.{seen}
 use Rattle.fl_check.proofs.RulesTold.{told_by}
 use Rattle.fl_check.proofs.ring_rules.rule_marked.Goals as goal
 

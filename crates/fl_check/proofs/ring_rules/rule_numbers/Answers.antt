@@ -5,9 +5,9 @@ use Rattle.fl_frame.specs.Causes.{ReadFails}
 use Rattle.fl_ring.specs.Place.{shape_of}
 use Rattle.fl_ring.proofs.Exists.{lies_still}
 use Rattle.fl_check.specs.Ruled.{BodiesTold, NumbersTold}
-use Rattle.fl_check.specs.declared.numbering.Numbering.{Numbering}
+use Rattle.fl_rules.specs.declared.numbering.Numbering.{Numbering}
 use Rattle.fl_frame.proofs.ReadsInTurn.{looks_by, looks_more}
-use Rattle.fl_check.proofs.LooksChangeNothing.{seen, fails_later}
+use Rattle.fl_rules.proofs.LooksChangeNothing.{seen, fails_later}
 use Rattle.fl_check.proofs.RulesTold.{if_ok_both}
 use Rattle.fl_check.proofs.ring_rules.rule_numbers.Goals as goal
 

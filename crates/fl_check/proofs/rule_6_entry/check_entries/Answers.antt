@@ -1,7 +1,7 @@
 use Rattle.std.proofs.Common.{ℕ, Option, IfSome, IfNone, subst}
 use Rattle.fl_flash.specs.Flash.{page_at}
 use Rattle.fl_ring.specs.Place.{shape_of}
-use Rattle.fl_check.specs.Claims.{FailsFirst}
+use Rattle.fl_rules.specs.Claims.{FailsFirst}
 use Rattle.fl_check.specs.Entries.{over, HasEntries, HaveEntries}
 use Rattle.fl_check.proofs.rule_6_entry.check_entries.Goals as goal
 

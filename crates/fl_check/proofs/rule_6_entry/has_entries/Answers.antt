@@ -7,11 +7,11 @@ use Rattle.fl_ring.specs.Place.{shape_of}
 use Rattle.fl_ring.proofs.Founds.{same_pages}
 use Rattle.fl_frame.proofs.ReadsInTurn.{more_reads, told_still}
 use Rattle.fl_check.specs.Entries.{over, IsEntry}
-use Rattle.fl_check.proofs.FewerReads.{few_reads}
+use Rattle.fl_rules.proofs.FewerReads.{few_reads}
 use Rattle.std.proofs.lemmas.Result.{err_from_is_err_and}
-use Rattle.fl_check.proofs.OneMorePage.{read_fails, all_below}
+use Rattle.fl_rules.proofs.OneMorePage.{read_fails, all_below}
 use Rattle.fl_ring.proofs.Exists.{lies_still}
-use Rattle.fl_check.specs.Claims.{AllBelow}
+use Rattle.fl_rules.specs.Claims.{AllBelow}
 use Rattle.fl_check.proofs.rule_6_entry.has_entries.Goals as goal
 
 pub is_entry-requires-clause-entry : goal.is_entry-requires-clause-entry

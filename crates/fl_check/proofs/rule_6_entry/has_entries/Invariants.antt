@@ -3,7 +3,7 @@ use Rattle.fl_flash.specs.Flash.{page_at}
 use Rattle.fl_index.specs.Page.{page_first}
 use Rattle.fl_frame.specs.Reads.{OnlyReads}
 use Rattle.fl_ring.specs.Place.{shape_of}
-use Rattle.fl_check.specs.Claims.{AllBelow}
+use Rattle.fl_rules.specs.Claims.{AllBelow}
 use Rattle.fl_check.specs.Entries.{over, IsEntry, kept_below}
 use Rattle.fl_check.proofs.rule_6_entry.has_entries.Given as goal
 

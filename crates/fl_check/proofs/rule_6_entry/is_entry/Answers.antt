@@ -4,9 +4,9 @@ use Rattle.fl_index.specs.Page.{page_first}
 use Rattle.fl_ring.specs.Newest.{page_back}
 use Rattle.fl_ring.specs.Place.{shape_of}
 use Rattle.fl_check.specs.Entries.{over}
-use Rattle.fl_check.specs.Told.{TellsPage}
+use Rattle.fl_rules.specs.Told.{TellsPage}
 use Rattle.fl_check.proofs.ListedPages.{entry_for, told_for, no_entry}
-use Rattle.fl_check.proofs.Stops.{if_ok}
+use Rattle.fl_rules.proofs.Stops.{if_ok}
 use Rattle.fl_check.proofs.rule_6_entry.is_entry.Goals as goal
 
 pub returns-in-None-clause-yes : goal.returns-in-None-clause-yes

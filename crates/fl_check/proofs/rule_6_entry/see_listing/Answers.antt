@@ -10,11 +10,11 @@ use Rattle.fl_ring.proofs.Exists.{lies_exists}
 use Rattle.fl_ring.proofs.Founds.{same_pages}
 use Rattle.fl_frame.proofs.ReadsInTurn.{more_reads, told_still}
 use Rattle.fl_check.specs.Entries.{over, entries_in, kept_below}
-use Rattle.fl_check.specs.declared.numbering.Numbering.{Numbering}
+use Rattle.fl_rules.specs.declared.numbering.Numbering.{Numbering}
 use Rattle.fl_check.proofs.ListedPages.{one_more, descends, misentered, listing_more, entries_move}
-use Rattle.fl_check.proofs.FewerReads.{few_reads}
+use Rattle.fl_rules.proofs.FewerReads.{few_reads}
 use Rattle.std.proofs.lemmas.Result.{err_from_is_err_and}
-use Rattle.fl_check.proofs.OneMorePage.{one_of, at_most, behind, one_behind, read_fails}
+use Rattle.fl_rules.proofs.OneMorePage.{one_of, at_most, behind, one_behind, read_fails}
 use Rattle.fl_check.proofs.rule_6_entry.see_listing.Goals as goal
 
 pub look-requires-clause-exists : goal.look-requires-clause-exists

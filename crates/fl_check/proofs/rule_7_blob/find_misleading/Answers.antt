@@ -10,11 +10,11 @@ use Rattle.fl_ring.specs.Place.{shape_of}
 use Rattle.fl_ring.proofs.Exists.{page_exists}
 use Rattle.fl_frame.proofs.ReadsInTurn.{more_reads, same_page, told_still}
 use Rattle.fl_schema.specs.Schema.{layout_of}
-use Rattle.fl_check.specs.Marks.{kept_page}
-use Rattle.fl_check.specs.References.{RowsLead}
-use Rattle.fl_check.proofs.OneMorePage.{one_read, read_fails, some_back, few_back}
+use Rattle.fl_rules.specs.Marks.{kept_page}
+use Rattle.fl_rules.specs.References.{RowsLead}
+use Rattle.fl_rules.proofs.OneMorePage.{one_read, read_fails, some_back, few_back}
 use Rattle.fl_check.proofs.RowsLead.{page_not, page_next, committed_as}
-use Rattle.fl_check.proofs.FewerReads.{few_reads}
+use Rattle.fl_rules.proofs.FewerReads.{few_reads}
 use Rattle.fl_check.proofs.rule_7_blob.find_misleading.Goals as goal
 use Rattle.fl_check.proofs.rule_7_blob.find_misleading.Goals.{then-is_committed+else-not-page_leads, else-is_committed}
 

@@ -3,9 +3,9 @@ use Rattle.fl_flash.specs.Flash.{page_at}
 use Rattle.fl_frame.specs.Reads.{OnlyReads}
 use Rattle.fl_ring.specs.Place.{shape_of}
 use Rattle.fl_schema.specs.Schema.{layout_of}
-use Rattle.fl_check.specs.Claims.{AllBelow}
-use Rattle.fl_check.specs.Reaches.{AreMeasured}
-use Rattle.fl_check.specs.References.{HasRows, PageLeads}
+use Rattle.fl_rules.specs.Claims.{AllBelow}
+use Rattle.fl_rules.specs.Reaches.{AreMeasured}
+use Rattle.fl_rules.specs.References.{HasRows, PageLeads}
 use Rattle.fl_check.proofs.rule_7_blob.find_misleading.Given as goal
 
 abbrev pub invariant-loop-i : goal.invariant-loop-i

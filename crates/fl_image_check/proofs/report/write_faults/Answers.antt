@@ -2,7 +2,7 @@ use Rattle.std.proofs.Common.{[], ◌∷◌, ◌++◌}
 use Rattle.fl_script.proofs.SinkPieces.{written-err}
 use Rattle.fl_check.specs.Faults.{fault_of, ring_faults}
 use Rattle.fl_check.specs.declared.finding.RingName.TheVariants.{Index, Data, Var, Log}
-use Rattle.fl_check.specs.declared.rule.Rule.TheVariants.{Entry, Blob}
+use Rattle.fl_rules.specs.declared.rule.Rule.TheVariants.{Entry, Blob}
 use Rattle.fl_image_check.proofs.FindingLines.{more, more-front, front-of_all, then-written}
 use Rattle.fl_image_check.proofs.report.write_faults.Goals as goal
 

@@ -1,7 +1,7 @@
 use Rattle.std.proofs.Common.{◌++◌}
 use Rattle.fl_script.proofs.SinkPieces.{written-err}
 use Rattle.fl_check.specs.Faults.{fault_of}
-use Rattle.fl_check.specs.declared.rule.Rule.TheVariants.{Head, State, Number, Body, Keys, Rest}
+use Rattle.fl_rules.specs.declared.rule.Rule.TheVariants.{Head, State, Number, Body, Keys, Rest}
 use Rattle.fl_image_check.proofs.FindingLines.{more, more-front, front-of, then-written}
 use Rattle.fl_image_check.proofs.report.write_ring.Goals as goal
 

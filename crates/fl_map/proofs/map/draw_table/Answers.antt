@@ -1,6 +1,7 @@
 use Rattle.std.proofs.Common.{◌≡◌, IfSome, Option, refl, subst}
 use Rattle.fl_model.specs.Record.{Plan}
-use Rattle.fl_check.proofs.LooksChangeNothing.{fits_still, log_still, told_still}
+use Rattle.fl_rules.proofs.LooksChangeNothing.{told_still}
+use Rattle.fl_check.proofs.PlacesStay.{fits_still, log_still}
 use Rattle.fl_image_check.proofs.ToldTables.{plan-there, config-there, lies-at, log-there, log-alone, log-lies-at}
 use Rattle.fl_image_check.proofs.Ringed.{fits, log-fits}
 use Rattle.fl_map.specs.Canvas.{drawn_of}

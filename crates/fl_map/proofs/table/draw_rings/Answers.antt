@@ -1,6 +1,7 @@
 use Rattle.fl_plan.specs.Refusal.{nameless}
 use Rattle.fl_frame.proofs.ReadsInTurn.{looks_more}
-use Rattle.fl_check.proofs.LooksChangeNothing.{fits_still, log_still, told_still}
+use Rattle.fl_rules.proofs.LooksChangeNothing.{told_still}
+use Rattle.fl_check.proofs.PlacesStay.{fits_still, log_still}
 use Rattle.fl_map.specs.Canvas.{drawn_of}
 use Rattle.fl_map.proofs.Tables.{lies-there, log-there, rings-drawn}
 use Rattle.fl_map.proofs.table.draw_rings.Goals as goal

@@ -1,9 +1,9 @@
 use Rattle.std.proofs.Common.{◌+◌, ◌-◌, ◌<◌, ◌≤◌, sym, ◌∙◌, arith}
 use Rattle.std.proofs.lemmas.Bool.{leb-true, leb-false}
 use Rattle.fl_ring.specs.Place.{shape_of}
-use Rattle.fl_check.specs.Reaches.{reach}
-use Rattle.fl_check.specs.References.{content_room}
-use Rattle.fl_check.proofs.BlobReaches.{listed_reach, gone, whole, late, short}
+use Rattle.fl_rules.specs.Reaches.{reach}
+use Rattle.fl_rules.specs.References.{content_room}
+use Rattle.fl_rules.proofs.BlobReaches.{listed_reach, gone, whole, late, short}
 use Rattle.fl_check.proofs.rule_7_blob.BlobPages.leads.Goals as goal
 
 pub returns-then-self-at-clause-no : goal.returns-then-self-at-clause-no

@@ -6,7 +6,7 @@ use Rattle.fl_page.specs.View.{rows_of}
 use Rattle.fl_ring.specs.Place.{shape_of}
 use Rattle.fl_schema.proofs.References.{field_4}
 use Rattle.fl_schema.specs.Schema.{layout_of}
-use Rattle.fl_check.specs.References.{RowsLead}
+use Rattle.fl_rules.specs.References.{RowsLead}
 use Rattle.fl_check.proofs.RowsLead.{viewed, refused, view_rows}
 use Rattle.fl_check.proofs.rule_7_blob.BlobPages.page_leads.Goals as goal
 

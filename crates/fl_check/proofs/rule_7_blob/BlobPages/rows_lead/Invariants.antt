@@ -1,9 +1,9 @@
 use Rattle.std.proofs.Common.{ℕ, List}
 use Rattle.fl_page.specs.View.{rows_of}
 use Rattle.fl_ring.specs.Place.{shape_of}
-use Rattle.fl_check.specs.Claims.{AllBelow}
-use Rattle.fl_check.specs.Reaches.{AreMeasured}
-use Rattle.fl_check.specs.References.{RowLeads}
+use Rattle.fl_rules.specs.Claims.{AllBelow}
+use Rattle.fl_rules.specs.Reaches.{AreMeasured}
+use Rattle.fl_rules.specs.References.{RowLeads}
 use Rattle.fl_check.proofs.rule_7_blob.BlobPages.rows_lead.Given as goal
 
 abbrev pub invariant-loop-i : goal.invariant-loop-i

@@ -2,7 +2,8 @@ use Rattle.std.proofs.Common.{ℕ, List}
 use Rattle.std.proofs.lemmas.Result.{err_from_is_err_and}
 use Rattle.fl_frame.proofs.ReadsInTurn.{looks_more}
 use Rattle.fl_check.specs.Whole.{AreRingsSound, AreEntriesSound, AreReferencesSound}
-use Rattle.fl_check.proofs.LooksChangeNothing.{seen, fails_later, fits_still}
+use Rattle.fl_rules.proofs.LooksChangeNothing.{seen, fails_later}
+use Rattle.fl_check.proofs.PlacesStay.{fits_still}
 use Rattle.fl_check.proofs.Halts.{failed_so}
 use Rattle.fl_check.proofs.table.Checked.check.Goals as goal
 

@@ -5,12 +5,12 @@ use Rattle.fl_model.specs.Record.{RowLayout}
 use Rattle.fl_ring.specs.Mounting.{shape_at}
 use Rattle.fl_ring.specs.Place.{shape_of}
 use Rattle.fl_ring.specs.Ring.{Shape}
-use Rattle.fl_check.specs.DataPage.{IsDataPage}
-use Rattle.fl_check.specs.RingRules.{OverPages, IsRingSound, BreaksRing}
-use Rattle.fl_check.specs.Stop.{breach}
+use Rattle.fl_rules.specs.DataPage.{IsDataPage}
+use Rattle.fl_rules.specs.RingRules.{OverPages, IsRingSound, BreaksRing}
+use Rattle.fl_rules.specs.Stop.{breach}
 use Rattle.fl_check.specs.Whole.{rows_shape, layout_in}
 use Rattle.fl_check.proofs.Halts.{if_found, ok_of, found_of}
-use Rattle.fl_check.proofs.Stops.{if_ok}
+use Rattle.fl_rules.proofs.Stops.{if_ok}
 use Rattle.fl_check.proofs.table.Checked.check_data.Goals as goal
 
 pub returns-clause-sound : goal.returns-clause-sound

@@ -5,8 +5,8 @@ use Rattle.fl_flash.specs.Flash.{page_at}
 use Rattle.fl_ring.specs.Mounting.{shape_at}
 use Rattle.fl_ring.specs.Place.{shape_of}
 use Rattle.fl_ring.specs.Ring.{Shape}
-use Rattle.fl_check.specs.RingRules.{NoRows, IsRingSound, BreaksRing}
-use Rattle.fl_check.specs.Stop.{breach}
+use Rattle.fl_rules.specs.RingRules.{NoRows, IsRingSound, BreaksRing}
+use Rattle.fl_rules.specs.Stop.{breach}
 use Rattle.fl_check.specs.Whole.{shape_in, IsIndexForm}
 use Rattle.fl_check.proofs.Halts.{found_so, ok_of, found_of}
 use Rattle.fl_check.proofs.Wholes.{of_ring}

@@ -6,9 +6,9 @@ use Rattle.fl_model.specs.Record.{RowLayout}
 use Rattle.fl_ring.specs.Mounting.{shape_at}
 use Rattle.fl_ring.specs.Place.{shape_of}
 use Rattle.fl_ring.specs.Ring.{Shape}
-use Rattle.fl_check.specs.DataPage.{IsDataPage}
-use Rattle.fl_check.specs.RingRules.{WithinPages, IsRingSound, BreaksRing}
-use Rattle.fl_check.specs.Stop.{breach}
+use Rattle.fl_rules.specs.DataPage.{IsDataPage}
+use Rattle.fl_rules.specs.RingRules.{WithinPages, IsRingSound, BreaksRing}
+use Rattle.fl_rules.specs.Stop.{breach}
 use Rattle.fl_check.specs.Whole.{shape_in, layout_in}
 use Rattle.fl_check.proofs.Halts.{found_so, ok_of, found_of}
 use Rattle.fl_check.proofs.Wholes.{of_ring}

@@ -1,14 +1,15 @@
 use Rattle.std.proofs.Common.{◌≡◌, ℕ, IsTrue, ap, subst}
 use Rattle.std.proofs.lemmas.Result.{err_from_is_err_and}
 use Rattle.fl_flash.specs.Flash.{page_at}
-use Rattle.fl_check.specs.ContentPage.{IsContentPage}
-use Rattle.fl_check.specs.RingRules.{NoRows, IsRingSound}
+use Rattle.fl_rules.specs.ContentPage.{IsContentPage}
+use Rattle.fl_rules.specs.RingRules.{NoRows, IsRingSound}
 use Rattle.fl_check.specs.Whole.{OfRing, shape_in, tally_in, AreRowsSound, IsVarSound, IsLogSound, BreaksVarBy, BreaksLogRing}
 use Rattle.fl_check.specs.declared.finding.RingName.TheVariants.{Var, Log}
-use Rattle.fl_check.specs.declared.tally.Tally.{Tally}
+use Rattle.fl_rules.specs.declared.tally.Tally.{Tally}
 use Rattle.fl_check.proofs.Halts.{found_so, failed_so}
 use Rattle.fl_frame.proofs.ReadsInTurn.{looks_more}
-use Rattle.fl_check.proofs.LooksChangeNothing.{seen, fails_later, fits_still, log_still}
+use Rattle.fl_rules.proofs.LooksChangeNothing.{seen, fails_later}
+use Rattle.fl_check.proofs.PlacesStay.{fits_still, log_still}
 use Rattle.fl_check.proofs.RingsKnown.{rows_known, tally_known}
 use Rattle.fl_check.proofs.Wholes.{var_fault, log_fault}
 use Rattle.fl_check.proofs.table.Checked.check_rings.Goals as goal

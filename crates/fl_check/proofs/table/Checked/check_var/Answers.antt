@@ -4,8 +4,8 @@ use Rattle.fl_flash.specs.Flash.{page_at}
 use Rattle.fl_ring.specs.Mounting.{shape_at}
 use Rattle.fl_ring.specs.Place.{shape_of}
 use Rattle.fl_ring.specs.Ring.{Shape}
-use Rattle.fl_check.specs.ContentPage.{IsContentPage}
-use Rattle.fl_check.specs.RingRules.{NoRows, IsRingSound}
+use Rattle.fl_rules.specs.ContentPage.{IsContentPage}
+use Rattle.fl_rules.specs.RingRules.{NoRows, IsRingSound}
 use Rattle.fl_check.specs.Whole.{shape_in}
 use Rattle.fl_check.proofs.Halts.{ok_of}
 use Rattle.fl_check.proofs.Wholes.{of_ring}

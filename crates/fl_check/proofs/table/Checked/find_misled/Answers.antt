@@ -7,7 +7,8 @@ use Rattle.fl_schema.specs.Schema.{layout_of}
 use Rattle.fl_check.specs.Whole.{shape_in, rows_shape}
 use Rattle.fl_check.proofs.BlobsKnown.{misled_told}
 use Rattle.fl_frame.proofs.ReadsInTurn.{looks_by, looks_more}
-use Rattle.fl_check.proofs.LooksChangeNothing.{fits_still, fails_later}
+use Rattle.fl_rules.proofs.LooksChangeNothing.{fails_later}
+use Rattle.fl_check.proofs.PlacesStay.{fits_still}
 use Rattle.fl_check.proofs.RulesTold.{if_ok_both}
 use Rattle.fl_frame.specs.Causes.{ReadFails}
 use Rattle.fl_check.proofs.TableRings.{room_in, within, some_blocks, some_lies, some_room, kept_room}

@@ -1,5 +1,5 @@
 use Rattle.fl_flash.specs.Flash.{page_at}
-use Rattle.fl_check.proofs.Stops.{if_ok}
+use Rattle.fl_rules.proofs.Stops.{if_ok}
 use Rattle.fl_check.proofs.TableTold.{blobs_at}
 use Rattle.fl_check.proofs.table.Checked.rule_blobs.Goals as goal
 

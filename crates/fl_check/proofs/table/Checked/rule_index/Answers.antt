@@ -6,7 +6,7 @@ use Rattle.fl_ring.specs.Place.{shape_of}
 use Rattle.fl_ring.specs.Ring.{Shape}
 use Rattle.fl_check.specs.Ruled.{RingTold}
 use Rattle.fl_check.specs.Whole.{shape_in, IsIndexForm}
-use Rattle.fl_check.proofs.Stops.{if_ok}
+use Rattle.fl_rules.proofs.Stops.{if_ok}
 use Rattle.fl_check.proofs.TableTold.{at_place}
 use Rattle.fl_check.proofs.table.Checked.rule_index.Goals as goal
 

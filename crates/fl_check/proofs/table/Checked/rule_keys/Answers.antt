@@ -6,11 +6,11 @@ use Rattle.fl_ring.specs.Mounting.{shape_at}
 use Rattle.fl_ring.specs.Place.{shape_of}
 use Rattle.fl_ring.specs.Ring.{Shape}
 use Rattle.fl_schema.specs.Schema.{layout_of}
-use Rattle.fl_check.specs.Rising.{KeysAscend, KeysBreak, HaveRows}
+use Rattle.fl_rules.specs.Rising.{KeysAscend, KeysBreak, HaveRows}
 use Rattle.fl_check.specs.Whole.{rows_shape, layout_in}
-use Rattle.fl_check.specs.declared.rule.Rule.TheVariants.{Keys}
+use Rattle.fl_rules.specs.declared.rule.Rule.TheVariants.{Keys}
 use Rattle.fl_check.proofs.RulesTold.{if_told}
-use Rattle.fl_check.proofs.Stops.{if_ok}
+use Rattle.fl_rules.proofs.Stops.{if_ok}
 use Rattle.fl_check.proofs.TableTold.{keys_at}
 use Rattle.fl_check.proofs.table.Checked.rule_keys.Goals as goal
 

@@ -5,11 +5,11 @@ use Rattle.fl_model.specs.Record.{RowLayout}
 use Rattle.fl_ring.specs.Mounting.{shape_at}
 use Rattle.fl_ring.specs.Place.{shape_of}
 use Rattle.fl_ring.specs.Ring.{Shape}
-use Rattle.fl_check.specs.DataPage.{IsDataPage}
-use Rattle.fl_check.specs.RingRules.{WithinPages}
+use Rattle.fl_rules.specs.DataPage.{IsDataPage}
+use Rattle.fl_rules.specs.RingRules.{WithinPages}
 use Rattle.fl_check.specs.Ruled.{RowsTold}
 use Rattle.fl_check.specs.Whole.{shape_in, layout_in}
-use Rattle.fl_check.proofs.Stops.{if_ok}
+use Rattle.fl_rules.proofs.Stops.{if_ok}
 use Rattle.fl_check.proofs.TableTold.{at_place}
 use Rattle.fl_check.proofs.table.Checked.rule_log.Goals as goal
 

@@ -5,14 +5,15 @@ use Rattle.fl_model.specs.Record.{RowLayout}
 use Rattle.fl_ring.specs.Mounting.{shape_at}
 use Rattle.fl_ring.specs.Place.{shape_of}
 use Rattle.fl_ring.specs.Ring.{Shape}
-use Rattle.fl_check.specs.DataPage.{IsDataPage}
+use Rattle.fl_rules.specs.DataPage.{IsDataPage}
 use Rattle.fl_check.specs.Faults.{with_keys}
-use Rattle.fl_check.specs.Rising.{HaveRows}
-use Rattle.fl_check.specs.RingRules.{OverPages}
+use Rattle.fl_rules.specs.Rising.{HaveRows}
+use Rattle.fl_rules.specs.RingRules.{OverPages}
 use Rattle.fl_check.specs.Ruled.{RingTold, KeysTold, RowsTold}
 use Rattle.fl_check.specs.Whole.{rows_shape, layout_in, IsRowsForm}
 use Rattle.fl_check.specs.declared.faults.RingFaults.{RingFaults}
-use Rattle.fl_check.proofs.LooksChangeNothing.{seen, fails_later, fits_still}
+use Rattle.fl_rules.proofs.LooksChangeNothing.{seen, fails_later}
+use Rattle.fl_check.proofs.PlacesStay.{fits_still}
 use Rattle.fl_check.proofs.TableTold.{keyless, rows_told}
 use Rattle.std.proofs.lemmas.Result.{err_from_is_err_and}
 use Rattle.fl_frame.proofs.ReadsInTurn.{looks_more}

@@ -1,20 +1,21 @@
 use Rattle.std.proofs.Common.{◌≡◌, ℕ, Option, None, IfSome, sym, ap, subst}
 use Rattle.std.proofs.lemmas.Result.{err_from_is_err_and}
 use Rattle.fl_flash.specs.Flash.{page_at}
-use Rattle.fl_check.specs.ContentPage.{IsContentPage}
-use Rattle.fl_check.specs.DataPage.{IsDataPage}
+use Rattle.fl_rules.specs.ContentPage.{IsContentPage}
+use Rattle.fl_rules.specs.DataPage.{IsDataPage}
 use Rattle.fl_check.specs.Faults.{with_keys}
-use Rattle.fl_check.specs.Marks.{AreWithin}
-use Rattle.fl_check.specs.Rising.{HaveRows}
-use Rattle.fl_check.specs.RingRules.{OverPages, WithinPages}
+use Rattle.fl_rules.specs.Marks.{AreWithin}
+use Rattle.fl_rules.specs.Rising.{HaveRows}
+use Rattle.fl_rules.specs.RingRules.{OverPages, WithinPages}
 use Rattle.fl_check.specs.Ruled.{RingTold, RowsTold}
 use Rattle.fl_check.specs.Rules.{OfRing, EntriesTold, BlobsTold, HaveContent, AreTold, in_order, tally_told}
 use Rattle.fl_check.specs.Whole.{IfWithin, shape_in, rows_shape, layout_in, index_end, IsRowsForm}
 use Rattle.fl_check.specs.declared.faults.TableFaults.{TableFaults}
-use Rattle.fl_check.specs.declared.numbering.Numbering.{Numbering}
-use Rattle.fl_check.specs.declared.tally.Tally.{Tally}
+use Rattle.fl_rules.specs.declared.numbering.Numbering.{Numbering}
+use Rattle.fl_rules.specs.declared.tally.Tally.{Tally}
 use Rattle.fl_frame.proofs.ReadsInTurn.{looks_more}
-use Rattle.fl_check.proofs.LooksChangeNothing.{seen, fails_later, fits_still, log_still}
+use Rattle.fl_rules.proofs.LooksChangeNothing.{seen, fails_later}
+use Rattle.fl_check.proofs.PlacesStay.{fits_still, log_still}
 use Rattle.fl_check.proofs.TableTold.{rows_told, content_told, if_in_order, none_within, no_content, are_rules}
 use Rattle.fl_check.proofs.table.Checked.rules.Goals as goal
 

@@ -5,10 +5,10 @@ use Rattle.fl_model.specs.Record.{RowLayout}
 use Rattle.fl_ring.specs.Place.{shape_of}
 use Rattle.fl_ring.specs.Ring.{Shape}
 use Rattle.fl_schema.specs.Schema.{layout_of}
-use Rattle.fl_check.specs.Rising.{HaveRows}
-use Rattle.fl_check.specs.Tally.{tally_of}
+use Rattle.fl_rules.specs.Rising.{HaveRows}
+use Rattle.fl_rules.specs.Tally.{tally_of}
 use Rattle.fl_check.specs.Whole.{rows_shape}
-use Rattle.fl_check.proofs.Stops.{if_ok}
+use Rattle.fl_rules.proofs.Stops.{if_ok}
 use Rattle.fl_check.proofs.TableRings.{shape_is, room_in, room_back, within}
 use Rattle.fl_check.proofs.table.Checked.tally_rows.Goals as goal
 

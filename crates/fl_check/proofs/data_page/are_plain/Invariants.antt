@@ -1,7 +1,0 @@
-use Rattle.std.proofs.Common.{◌≡◌, drop}
-use Rattle.fl_page.specs.View.{rows_of}
-use Rattle.fl_check.specs.DataPage.{are_plain}
-use Rattle.fl_check.proofs.data_page.are_plain.Given as goal
-
-abbrev pub invariant-loop-i : goal.invariant-loop-i
-invariant-loop-i g l = are_plain (rows_of l.view) ≡ are_plain (drop l.i (rows_of l.view))

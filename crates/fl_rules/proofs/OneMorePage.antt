@@ -1,0 +1,60 @@
+-- The kept pages of a ring, looked at one after another: the reads so far and one more, and what was read.
+use Rattle.std.proofs.Common.{◌≡◌, ℕ, ◌+◌, ◌-◌, ◌<◌, ◌≤◌, List, IsTrue, ◌∙◌, ap, arith}
+use Rattle.fl_flash.specs.Flash.{FlashState, page_at}
+use Rattle.fl_flash.specs.declared.flash.FlashFault.{FlashFault}
+use Rattle.fl_frame.specs.Causes.{ReadFails}
+use Rattle.fl_frame.specs.Reads.{OnlyReads}
+use Rattle.fl_frame.proofs.ReadsInTurn.{looks_by, more_reads, no_reads, same_page, told_still}
+use Rattle.fl_mark.specs.declared.page_state.PageState.{PageState}
+use Rattle.fl_ring.specs.Looking.{state_at}
+use Rattle.fl_ring.proofs.ReadsInTurn.{same_state}
+use Rattle.fl_rules.proofs.FewerReads.{few_reads}
+use Rattle.fl_rules.proofs.LooksChangeNothing.{fails_later}
+
+module _ (a b c : FlashState) (i n : ℕ) (before : OnlyReads a i b) where
+  pub one_read : OnlyReads b 1 c → i < n → OnlyReads a n c
+  one_read here lt = few_reads a c (i + 1) n (more_reads a b c i 1 before here) (omega (arith, lt))
+
+  pub no_read : i < n → OnlyReads a n b
+  no_read lt = few_reads a b i n before (omega (arith, lt))
+
+  pub read_fails : (e : FlashFault) → ReadFails b e c → ReadFails a e c
+  read_fails e fails = fails_later a b c e (looks_by a b i before) fails
+
+  -- what stands at a page that was read
+  module _ (p q : ℕ) (same : p ≡ q) (told : IsTrue a.media.tells) where
+    pub bytes_read : (bytes : List ℕ) → (IsTrue b.media.tells → bytes ≡ page_at b p) → bytes ≡ page_at a q
+    bytes_read bytes is = is (told_still a b i before told) ∙ same_page a b i p before ∙ ap (page_at a) same
+
+    pub state_read : (s : PageState) → (IsTrue b.media.tells → s ≡ state_at b p) → s ≡ state_at a q
+    state_read s is = is (told_still a b i before told) ∙ same_state a b i p before ∙ ap (state_at a) same
+
+pub none_read : (f : FlashState) (n : ℕ) → OnlyReads f n f
+none_read f n = few_reads f f 0 n (no_reads f) (omega arith)
+
+-- bounds that say nothing
+pub one_of : (n : ℕ) → 1 ≤ 1 + n
+one_of n = omega arith
+
+pub more_of : (n m : ℕ) → n ≤ n + m
+more_of n m = omega arith
+
+pub at_most : (n : ℕ) → n ≤ n
+at_most n = omega arith
+
+pub behind : (n : ℕ) → n < n + 1
+behind n = omega arith
+
+pub one_behind : (n m : ℕ) → n < m → n < m + 1
+one_behind n m lt = omega (arith, lt)
+
+-- the i-th kept page, counted back from the next one
+pub some_back : {i kept : ℕ} → i < kept → 1 ≤ kept - i
+some_back lt = omega (arith, lt)
+
+pub few_back : (i : ℕ) {kept room : ℕ} → kept < room → kept - i ≤ room
+few_back i lt = omega (arith, lt)
+
+-- the loop ended
+pub all_below : {i kept : ℕ} → i ≤ kept → kept ≤ i → i ≡ kept
+all_below le ge = omega (arith, le, ge)

@@ -1,0 +1,103 @@
+use Rattle.std.proofs.Common.{arith, ◌+◌}
+use Rattle.std.proofs.lemmas.Result.{err_from_is_err_and}
+use Rattle.fl_ring.specs.Place.{shape_of}
+use Rattle.fl_frame.proofs.ReadsInTurn.{told_still, looks_by, more_reads}
+use Rattle.fl_rules.proofs.Heads.{marks_for, within_for}
+use Rattle.fl_rules.proofs.FewerReads.{few_reads}
+use Rattle.fl_ring.proofs.Exists.{lies_still}
+use Rattle.fl_rules.proofs.OneMorePage.{more_of}
+use Rattle.fl_rules.proofs.LooksChangeNothing.{fails_later}
+use Rattle.fl_rules.proofs.marks.read_marks.Goals as goal
+
+pub returns-clause-marks : goal.returns-clause-marks
+returns-clause-marks g c = λ told.
+    let ring = c.args.ring.now in
+    let f = g.F.Flash.state c.args.flash.now in
+    let second = g.F.Flash.state c.scan_blocks.new.flash in
+    let reads = c.scan_blocks.ensures.reads in
+    let r = shape_of ring in
+    marks_for f second r ring.blocks c.in_ok-scan.scan c.heads.result c.head-head.result c.fulls.result c.kept_pages-kept.result c.per_block.result c.in_ok-pages.pages reads
+    (omega (arith, ring.served.blocks)) (c.in_ok-scan.ensures.scanned told) c.heads.ensures c.if-heads-ne1.false c.head-head.ensures c.fulls.ensures c.kept_pages-kept.ensures.pages c.per_block.ensures.pages
+    (c.in_ok-pages.ensures.ordered (told_still f second ring.blocks reads told))
+
+pub returns-clause-within : goal.returns-clause-within
+returns-clause-within g c =
+    let ring = c.args.ring.now in
+    within_for (shape_of ring) ring.served c.head-head.result c.in_ok-pages.pages c.per_block.result c.fulls.result c.kept_pages-kept.result (omega (arith, c.head-head.ensures, c.in_ok-scan.ensures.head))
+    c.in_ok-pages.ensures.sealed c.in_ok-pages.ensures.within c.per_block.ensures.pages c.kept_pages-kept.ensures.pages c.kept_pages-kept.ensures.within
+
+pub scan_blocks-requires-clause-lies : goal.scan_blocks-requires-clause-lies
+scan_blocks-requires-clause-lies g c = c.requires.lies
+
+pub scan_blocks-requires-clause-room : goal.scan_blocks-requires-clause-room
+scan_blocks-requires-clause-room g c = c.requires.room
+
+pub returns-in_err-scan-clause-reads : goal.returns-in_err-scan-clause-reads
+returns-in_err-scan-clause-reads g c = few_reads (g.F.Flash.state c.args.flash.now) (g.F.Flash.state c.scan_blocks.new.flash) c.args.ring.now.blocks (c.args.ring.now.blocks + c.args.ring.now.per_block) c.scan_blocks.ensures.reads (more_of c.args.ring.now.blocks c.args.ring.now.per_block)
+
+pub returns-in_err-scan-clause-room : goal.returns-in_err-scan-clause-room
+returns-in_err-scan-clause-room g c = c.scan_blocks.ensures.room
+
+pub returns-in_err-scan-clause-marks : goal.returns-in_err-scan-clause-marks
+returns-in_err-scan-clause-marks g c =
+    let p = err_from_is_err_and c.from_residual.result c.from_residual.ensures.1 in
+    rw p.1 tt
+
+pub returns-in_err-scan-clause-within : goal.returns-in_err-scan-clause-within
+returns-in_err-scan-clause-within g c =
+    let p = err_from_is_err_and c.from_residual.result c.from_residual.ensures.1 in
+    rw p.1 tt
+
+pub returns-in_err-scan-clause-broken : goal.returns-in_err-scan-clause-broken
+returns-in_err-scan-clause-broken g c =
+    let p = err_from_is_err_and c.from_residual.result c.from_residual.ensures.1 in
+    rw (p.1, p.2) tt
+
+pub returns-in_err-scan-clause-fails : goal.returns-in_err-scan-clause-fails
+returns-in_err-scan-clause-fails g c =
+    let p = err_from_is_err_and c.from_residual.result c.from_residual.ensures.1 in
+    rw (p.1, p.2) c.in_err-scan.ensures.fails
+
+pub returns-then-heads-ne1-clause-reads : goal.returns-then-heads-ne1-clause-reads
+returns-then-heads-ne1-clause-reads g c = few_reads (g.F.Flash.state c.args.flash.now) (g.F.Flash.state c.scan_blocks.new.flash) c.args.ring.now.blocks (c.args.ring.now.blocks + c.args.ring.now.per_block) c.scan_blocks.ensures.reads (more_of c.args.ring.now.blocks c.args.ring.now.per_block)
+
+pub returns-then-heads-ne1-clause-room : goal.returns-then-heads-ne1-clause-room
+returns-then-heads-ne1-clause-room g c = c.scan_blocks.ensures.room
+
+pub read_head-requires-clause-lies : goal.read_head-requires-clause-lies
+read_head-requires-clause-lies g c = lies_still c.args.ring.now (g.F.Flash.state c.args.flash.now) (g.F.Flash.state c.scan_blocks.new.flash) c.requires.lies c.scan_blocks.ensures.reads.goes
+
+pub read_head-requires-clause-room : goal.read_head-requires-clause-room
+read_head-requires-clause-room g c = c.scan_blocks.ensures.room
+
+pub returns-in_err-pages-clause-reads : goal.returns-in_err-pages-clause-reads
+returns-in_err-pages-clause-reads g c = more_reads (g.F.Flash.state c.args.flash.now) (g.F.Flash.state c.scan_blocks.new.flash) (g.F.Flash.state c.read_head.new.flash) c.args.ring.now.blocks c.args.ring.now.per_block c.scan_blocks.ensures.reads c.read_head.ensures.reads
+
+pub returns-in_err-pages-clause-room : goal.returns-in_err-pages-clause-room
+returns-in_err-pages-clause-room g c = c.read_head.ensures.room
+
+pub returns-in_err-pages-clause-marks : goal.returns-in_err-pages-clause-marks
+returns-in_err-pages-clause-marks g c =
+    let p = err_from_is_err_and c.from_residual-in_err-pages.result c.from_residual-in_err-pages.ensures.1 in
+    rw p.1 tt
+
+pub returns-in_err-pages-clause-within : goal.returns-in_err-pages-clause-within
+returns-in_err-pages-clause-within g c =
+    let p = err_from_is_err_and c.from_residual-in_err-pages.result c.from_residual-in_err-pages.ensures.1 in
+    rw p.1 tt
+
+pub returns-in_err-pages-clause-broken : goal.returns-in_err-pages-clause-broken
+returns-in_err-pages-clause-broken g c =
+    let p = err_from_is_err_and c.from_residual-in_err-pages.result c.from_residual-in_err-pages.ensures.1 in
+    rw (p.1, p.2) tt
+
+pub returns-in_err-pages-clause-fails : goal.returns-in_err-pages-clause-fails
+returns-in_err-pages-clause-fails g c =
+    let p = err_from_is_err_and c.from_residual-in_err-pages.result c.from_residual-in_err-pages.ensures.1 in
+    rw (p.1, p.2) (fails_later (g.F.Flash.state c.args.flash.now) (g.F.Flash.state c.scan_blocks.new.flash) (g.F.Flash.state c.read_head.new.flash) c.in_err-pages.field-0.0 (looks_by (g.F.Flash.state c.args.flash.now) (g.F.Flash.state c.scan_blocks.new.flash) c.args.ring.now.blocks c.scan_blocks.ensures.reads) c.in_err-pages.ensures.fails)
+
+pub returns-clause-reads : goal.returns-clause-reads
+returns-clause-reads g c = more_reads (g.F.Flash.state c.args.flash.now) (g.F.Flash.state c.scan_blocks.new.flash) (g.F.Flash.state c.read_head.new.flash) c.args.ring.now.blocks c.args.ring.now.per_block c.scan_blocks.ensures.reads c.read_head.ensures.reads
+
+pub returns-clause-room : goal.returns-clause-room
+returns-clause-room g c = c.read_head.ensures.room
