@@ -115,7 +115,7 @@ module _ (t : Table 64 64) (key : ℕ) (f g : FlashState) (only : OnlyReads f g)
   pub answers-held : FindsRow t key f (λ row. row.blob ≡ Some at) → (said : Reply) → TellsBlob t g at said → AnswersBlob t key f said
   answers-held h reply.Gone tells = names t key f at h (λ x. TellsBlob t f x reply.Gone) (λ told. gone-in (data_in t) (tells (tells-read f g only told)))
   answers-held h reply.BytesEmpty tells = names t key f at h (λ x. TellsBlob t f x reply.BytesEmpty) tells
-  answers-held h (reply.Bytes bytes) tells = names t key f at h (λ x. TellsBlob t f x (reply.Bytes bytes)) (λ told. bytes-in bytes (data_in t) (tells (tells-read f g only told)))
+  answers-held h (reply.Bytes bytes) tells = names t key f at h (λ x. TellsBlob t f x (reply.Bytes bytes)) (tells.0, λ told. bytes-in bytes (data_in t) (tells.1 (tells-read f g only told)))
   answers-held h said tells = absurd tells
 
 -- what a row tells of its blob
@@ -144,12 +144,15 @@ module _ (t : Table 64 64) (f g : FlashState) (only : looking.OnlyReads f 1 g) (
     opened told = subst (λ (s : Result Bool ReadFault). Opens v f at (turned s r)) e (opens told)
 
     pub opened-left : (bytes : List ℕ) → IsLeft r g bytes → TellsBlob t f at (reply.Bytes bytes)
-    opened-left bytes left = λ told.
-        let o = opened told in
-        let all = left (reads-kept r f g 1 only o.reads) in
-        let there : IsThereBehind r f = subst (λ (image : ℕ → List ℕ). 0 < r.left → AreThere image (next_in r.var.now) r.page (r.end + r.left)) (images-same r.var.now f g 1 only) all.0 in
-        let same : bytes ≡ bytes_of v f at = all.1 ∙ (bytes-kept r f g 1 only ∙ o.left) in
-        subst (λ (var : Option VarData). IsSomeAnd var (λ x. (IsGone x f at → ⊥) × IsThere x f at × (bytes ≡ bytes_of x f at))) is (o.not_gone, o.there some there, same)
+    opened-left bytes left = (
+      some,
+      λ told.
+          let o = opened told in
+          let all = left (reads-kept r f g 1 only o.reads) in
+          let there : IsThereBehind r f = subst (λ (image : ℕ → List ℕ). 0 < r.left → AreThere image (next_in r.var.now) r.page (r.end + r.left)) (images-same r.var.now f g 1 only) all.0 in
+          let same : bytes ≡ bytes_of v f at = all.1 ∙ (bytes-kept r f g 1 only ∙ o.left) in
+          subst (λ (var : Option VarData). IsSomeAnd var (λ x. (IsGone x f at → ⊥) × IsThere x f at × (bytes ≡ bytes_of x f at))) is (o.not_gone, o.there some there, same),
+    )
 
     pub opened-ahead : (bad : BadPage) → MayBeBadAhead r g bad → IsBadIn t f at bad
     opened-ahead bad ahead = λ told.

@@ -1,5 +1,5 @@
 -- The replies to a question for a blob, over any bytes and on any medium.
-use Rattle.std.specs.Prelude.{◌≡◌, ◌⊎◌, ℕ, zero, suc, Bool, true, false, IfErr, IsTrue, Option, Some, None, Result, Ok, Err, List}
+use Rattle.std.specs.Prelude.{◌≡◌, ◌⊎◌, ◌<◌, ℕ, zero, suc, Bool, true, false, IfErr, IsTrue, Option, Some, None, Result, Ok, Err, List}
 use Rattle.std.specs.List.{AllByRecursion}
 use Rattle.std.specs.Option.{IsSomeAnd}
 use Rattle.fl_base.specs.Causes.{Appends, AppendsFront}
@@ -62,12 +62,12 @@ IsBlob reply.BytesEmpty = Unit {0}
 IsBlob (reply.Bytes bytes) = Unit {0}
 IsBlob _ = ⊥
 
--- What a line tells of the blob at the place that a row names: it is gone, or empty, or it isn't gone, all of it is there, and these are its
--- bytes, as far as the flash tells.
+-- What a line tells of the blob at the place that a row names: it is gone, or empty, or it has bytes, isn't gone, all of it is there, and these
+-- are its bytes, as far as the flash tells. Whether it has bytes is known from the row alone.
 abbrev pub TellsBlob : Table 64 64 → FlashState → BlobRef → Reply → Type 0
 TellsBlob t f at reply.Gone = IsTrue f.media.tells → IsSomeAnd (data_in t) (λ var. IsGone var f at)
 TellsBlob t f at reply.BytesEmpty = at.length ≡ 0
-TellsBlob t f at (reply.Bytes bytes) = IsTrue f.media.tells → IsSomeAnd (data_in t) (λ var. (IsGone var f at → ⊥) × IsThere var f at × (bytes ≡ bytes_of var f at))
+TellsBlob t f at (reply.Bytes bytes) = (0 < at.length) × (IsTrue f.media.tells → IsSomeAnd (data_in t) (λ var. (IsGone var f at → ⊥) × IsThere var f at × (bytes ≡ bytes_of var f at)))
 TellsBlob t f at _ = ⊥
 
 -- .. of that of the record with the key: no record has it, or the row that has it names no blob, or this one
