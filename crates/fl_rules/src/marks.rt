@@ -68,11 +68,7 @@ fn read_head<F: Flash>(
 /// # Errors
 ///
 /// `Flash` if a read fails, and `Broken` if there is no head, or more than one.
-pub fn read_marks<F: Flash>(
-    ring: &Ring,
-    flash: &mut F,
-    buf: &mut PageBuf,
-) -> Result<Marks, Stop>
+pub fn read_marks<F: Flash>(ring: &Ring, flash: &mut F, buf: &mut PageBuf) -> Result<Marks, Stop>
     requires lies { LiesOn ring.now (F.state flash.old) }
     requires room { length buf.old.bytes ≡ (shape_of ring.now).size }
     ensures reads { OnlyReads (F.state flash.old) ((shape_of ring.now).blocks + (shape_of ring.now).per_block) (F.state flash.new) }

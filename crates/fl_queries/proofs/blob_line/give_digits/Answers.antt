@@ -147,7 +147,8 @@ returns-clause-digits g c =
       inv.digits.0,
       inv.digits.1,
       λ ready.
-          let steps = rw c.if-branch.false at (c.in_ok-step.ensures.steps (inv.ready ready)) in
-          (inv.sound ready (none-behind c.loop-reader.reader (g.F.Flash.state c.loop-reader.flash) (sym c.if-branch.false ∙ c.in_ok-step.ensures.more)),
-            sym (append-nil inv.digits.0) ∙ (ap (λ (l : List ℕ). inv.digits.0 ++ l) (sym steps.0) ∙ inv.digits.2 ready)),
+          let steps = rw c.if-branch.false at (c.in_ok-step.ensures.steps (inv.ready ready)) in (
+            inv.sound ready (none-behind c.loop-reader.reader (g.F.Flash.state c.loop-reader.flash) (sym c.if-branch.false ∙ c.in_ok-step.ensures.more)),
+            sym (append-nil inv.digits.0) ∙ (ap (λ (l : List ℕ). inv.digits.0 ++ l) (sym steps.0) ∙ inv.digits.2 ready),
+          ),
     )
