@@ -23,7 +23,7 @@ use Rattle.fl_model.proofs.Lists.{slice_get-some}
 use Rattle.fl_parts.proofs.BlobTables.{HoldsVar}
 use Rattle.fl_table.proofs.BlobsOfTable.{var-as, var-same}
 use Rattle.fl_table.proofs.MountCalls.{OthersStill}
-use Rattle.fl_parts.proofs.Loose.{IsLoose, has-listed, led-as, listed-as, paged-loose, plain-from}
+use Rattle.fl_parts.proofs.Loose.{IsLoose, has-listed, led-as, listed-as, loose-paged, paged-loose, plain-from}
 use Rattle.fl_parts.proofs.Plain.{IsPlainTable, some_map, stand-as, table-parts, table-facts}
 use Rattle.fl_parts.proofs.Renumbered.{blob-below, blob_end-most}
 use Rattle.fl_parts.proofs.PageRows.{entries_from, HaveEntries, page-rows, entries-length, entries-same}
@@ -61,7 +61,7 @@ use Rattle.fl_parts.specs.Bitmaps.{AreSamePlan, Stand, StandForRing, first_to_wa
 use Rattle.fl_parts.specs.Coming.{WaitUnlisted}
 use Rattle.fl_parts.proofs.NotedEntries.{first-same, page-bitmap, void-bitmap}
 use Rattle.fl_parts.proofs.IndexOfTable.{planned-none, planned-some, still-planned}
-use Rattle.fl_parts.specs.Mountable.{AreVoid, BlobsBefore, RowsBehind}
+use Rattle.fl_parts.specs.Mountable.{AreVoid, BlobsBefore, IsPaged, RowsBehind}
 use Rattle.fl_parts.specs.Pages.{HoldsTable, Rests, RestsToMount, bytes_in}
 use Rattle.fl_find.specs.declared.index.KeyIndex.{KeyIndex}
 use Rattle.fl_parts.specs.Reading.{pages_of, bitmap_on, full_on}
@@ -179,6 +179,8 @@ module _ (first : ℕ) (plan : Plan) (table : Table) (rose : Bool) (device : Dev
             now = l.now;
             did = did_not l.now fault l.did;
             counts = l.counts;
+            lost = idle-lost l.now.state l.repaired.idle;
+            paged = loose-paged plan l.now.state l.repaired.idle.pending l.facts;
             pages = pages;
             rests = λ settled. record { settled = still_settled l.now.state l.repaired l.strict settled; pages = pages };
           }
@@ -254,6 +256,8 @@ module _ (first : ℕ) (plan : Plan) (table : Table) (rose : Bool) (device : Dev
           now = u.0;
           did = inr (u.1, refl);
           counts = subst (λ (d : Device). SameDevice new d) (sym u.2) same_device;
+          lost = subst (λ (x : Table). x ≡ lose x) (sym u.3) (idle-lost l.now.state l.repaired.idle);
+          paged = subst (IsPaged plan) (sym u.3) (loose-paged plan l.now.state l.repaired.idle.pending l.facts);
           pages = subst (λ (x : Table). HoldsTable (page_at new) first plan x) (sym u.3) pages_now;
           rests = λ settled. subst (λ (x : Table). Rests new first plan x) (sym u.3) (record { settled = settled_now settled; pages = pages_now });
         }

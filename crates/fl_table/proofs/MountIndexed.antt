@@ -209,6 +209,8 @@ module _ (old new : FlashState) (first : ℕ) (plan : Plan) (table : Table) (ros
     now = h.now;
     did = subst (λ (rings : List RingName). (TableMounts plan rose (turns rings) device table (TableStopped h.now) × FaultEnds h.now.end fault new) ⊎ (TableMounts plan rose (turns rings) device table (TableUnread h.now) × (fault ≡ Media))) (sym two_rings) (by_did h.did);
     counts = h.counts;
+    lost = (left-rests h.now.state h.rests.ring (front h.did) h.rests.facts h.rests.pages).mountable.lost;
+    paged = (left-rests h.now.state h.rests.ring (front h.did) h.rests.facts h.rests.pages).mountable.paged;
     pages = (left-rests h.now.state h.rests.ring (front h.did) h.rests.facts h.rests.pages).pages;
     rests = λ settled. record {
       settled = left-settled h.now.state h.rests.ring (front h.did) h.rests.facts h.rests.pages settled;
@@ -257,7 +259,7 @@ module _ (old new : FlashState) (first : ℕ) (plan : Plan) (table : Table) (ros
 
       by_result : (result : Result Mounted MountFault) → RingsEnd first plan (DataRing ∷ var_rings plan) h.now.state rose h.now.device result t last → MountEnds first plan table rose device result t last
       by_result (Ok mounted) k = record { now = k.now; did = all (TableMounted k.now) k.did; counts = k.counts; power = k.power; loaded = k.loaded; stands = λ settled. k.stands (index-settles Remembers end now h settled); answer = k.answer }
-      by_result (Err (mount.Flash fault)) k = record { now = k.now; did = by_did k.did; counts = k.counts; pages = k.pages; rests = λ settled. k.rests (index-settles Remembers end now h settled) }
+      by_result (Err (mount.Flash fault)) k = record { now = k.now; did = by_did k.did; counts = k.counts; lost = k.lost; paged = k.paged; pages = k.pages; rests = λ settled. k.rests (index-settles Remembers end now h settled) }
         where
           by_did : (TableMounts plan rose (turns (DataRing ∷ var_rings plan)) h.now.device h.now.state (TableStopped k.now) × FaultEnds k.now.end fault last) ⊎ (TableMounts plan rose (turns (DataRing ∷ var_rings plan)) h.now.device h.now.state (TableUnread k.now) × (fault ≡ Media)) →
               (TableMounts plan rose (turns (rings_of plan)) device table (TableStopped k.now) × FaultEnds k.now.end fault last) ⊎ (TableMounts plan rose (turns (rings_of plan)) device table (TableUnread k.now) × (fault ≡ Media))

@@ -106,7 +106,7 @@ of_rings rings = map (λ (ring : RingName). Of ring) rings
 
 -- the first of the rings failed
 pub rings-fail : (first : ℕ) (plan : Plan) (rings others : List RingName) (table : Table) (rose : Bool) (device : Device) (fault : FlashFault) (new : FlashState) → MountsBadly first plan rings table rose device fault new → MountsBadly first plan (rings ++ others) table rose device fault new
-rings-fail first plan rings others table rose device fault new b = record { now = b.now; did = by_did b.did; counts = b.counts; pages = b.pages; rests = b.rests }
+rings-fail first plan rings others table rose device fault new b = record { now = b.now; did = by_did b.did; counts = b.counts; lost = b.lost; paged = b.paged; pages = b.pages; rests = b.rests }
   where
     both : of_rings (rings ++ others) ≡ of_rings rings ++ of_rings others
     both = map-append (λ (ring : RingName). Of ring) rings others
@@ -213,17 +213,26 @@ module _ {KNOTS SLOTS : ℕ} (t : code.Table KNOTS SLOTS) (mid new : FlashState)
         ring-blobbed plan (with_var w.now.state r p k) b.ring (page_in v new) ring_is has pages
         (in-some plan b.ring w.now.state.entries (written w.now.state) (front-of (length w.now.state.entries - w.now.state.pending) w.now.state.entries) (kept.inside settled)) kept.stand
         (omega (arith, ap length emptied)) number (λ q. absurd (q idle.pending)) in
+        let number = subst (λ (o : Option Ring). IfSome o (λ x. x.next + (cond x.torn 1 0) ≤ 4294967295)) b.ring_is left.number in
+        let led : IsLed plan (with_var w.now.state r p k) =
+        ring-led plan (with_var w.now.state r p k) b.ring (page_in v new) ring_is has pages
+        (led-some plan b.ring w.now.state.entries (written w.now.state) (front-of (length w.now.state.entries - w.now.state.pending) w.now.state.entries) kept.led) kept.stand
+        (omega (arith, ap length emptied)) number in
+        let lost : with_var w.now.state r p k ≡ lose (with_var w.now.state r p k) =
+        idle-lost (with_var w.now.state r p k) (record { pending = idle.pending; buffered = emptied; waiting = idle.waiting; points = idle.points }) in
         let var = ring-holds v new first plan (with_var w.now.state r p k) b.ring planned ring_is pages in
         let holds = holds-with_var v (page_at mid) (page_at new) first plan w.now.state r p k planned outside some_rows some_index w.pages var in
         record {
           now = b.now;
           did = by_did b.did;
           counts = b.counts;
+          lost = subst (λ (x : Table). x ≡ lose x) (sym state) lost;
+          paged = subst (IsPaged plan) (sym state) (loose-paged plan (with_var w.now.state r p k) idle.pending (loose-with_var plan w.now.state r p k loose led));
           pages = subst (λ (x : Table). HoldsTable (page_at new) first plan x) (sym state) holds;
           rests = λ settled. subst (λ (x : Table). Rests new first plan x) (sym state) (record {
             settled = record {
               facts = table-facts plan (with_var w.now.state r p k) (facts-with_var plan w.now.state r p k (facts settled) (blobbed settled));
-              lost = idle-lost (with_var w.now.state r p k) (record { pending = idle.pending; buffered = emptied; waiting = idle.waiting; points = idle.points });
+              lost = lost;
             };
             pages = holds;
           });

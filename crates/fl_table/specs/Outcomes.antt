@@ -106,12 +106,15 @@ pub record MountsWell {KNOTS SLOTS : ℕ} (first : ℕ) (plan : Plan) (rings : L
   pub stands : IsSettled plan table → Stands t new first plan (ready plan now.state)
   pub answer : mounted ≡ mounted_of (ready plan now.state)
 
--- It failed in an operation of a repair, or in a read: what was repaired until then stays.
+-- It failed in an operation of a repair, or in a read: what was repaired until then stays, and its pages fit one another. So a further
+-- mount takes it, where a ring whose pages are all void can still be numbered anew.
 pub record MountsBadly (first : ℕ) (plan : Plan) (rings : List RingName) (table : model.Table) (rose : Bool) (device : Device) (fault : FlashFault) (new : FlashState) : Type 0 where
   pub now : PartProgress model.Table
   pub did : (TableMounts plan rose (map (λ ring. Of ring) rings) device table (TableStopped now) × FaultEnds now.end fault new)
       ⊎ (TableMounts plan rose (map (λ ring. Of ring) rings) device table (TableUnread now) × (fault ≡ Media))
   pub counts : SameDevice new now.device
+  pub lost : now.state ≡ lose now.state
+  pub paged : IsPaged plan now.state
   pub pages : HoldsTable (page_at new) first plan now.state
   pub rests : IsSettled plan table → Rests new first plan now.state
 
