@@ -195,9 +195,9 @@ loose-paged plan table none h = record {
     numbers VarRing = h.blobs.number
     numbers LogRing = subst (λ (o : Option Ring). IfSome o (λ ring. ring.next + (cond ring.torn 1 0) ≤ 4294967295)) (sym h.bare.0) tt
 
--- .. and of the table that is started then
-pub paged-ready : (plan : Plan) (table : Table) → IsPaged plan table → IsPaged plan (ready plan table)
-paged-ready plan table h = record {
+-- .. and of one where other entries wait, and which has other points
+pub paged-as : (plan : Plan) (table : Table) (waiting : List IndexEntry) (points : List (ℕ × ℕ)) → IsPaged plan table → IsPaged plan (record table { waiting = waiting; points = points })
+paged-as plan table waiting points h = record {
   rows = h.rows;
   index = h.index;
   var = h.var;
@@ -217,15 +217,19 @@ paged-ready plan table h = record {
   var_each = h.var_each;
   var_fit = h.var_fit;
   led = h.led;
-  stand = stand-as plan table (ready plan table) refl (λ ring number. refl) h.stand;
+  stand = stand-as plan table (record table { waiting = waiting; points = points }) refl (λ ring number. refl) h.stand;
   numbers = numbers;
 }
   where
-    numbers : (name : RingName) → IfSome (ring_of name (ready plan table)) (λ ring. ring.next + (cond ring.torn 1 0) ≤ 4294967295)
+    numbers : (name : RingName) → IfSome (ring_of name (record table { waiting = waiting; points = points })) (λ ring. ring.next + (cond ring.torn 1 0) ≤ 4294967295)
     numbers DataRing = h.numbers DataRing
     numbers IndexRing = h.numbers IndexRing
     numbers VarRing = h.numbers VarRing
     numbers LogRing = h.numbers LogRing
+
+-- .. so of the table that is started then
+pub paged-ready : (plan : Plan) (table : Table) → IsPaged plan table → IsPaged plan (ready plan table)
+paged-ready plan table h = paged-as plan table (ready plan table).waiting (ready plan table).points h
 
 -- a table without an index lists nothing
 pub none-listed : (plan : Plan) (table : Table) → has_index plan ≡ false → IsListed plan table → table.index_pages ≡ []

@@ -47,6 +47,7 @@ pub mod MountComes
 pub mod MountEnded
 pub mod MountKept
 pub mod MountVar
+pub mod FurtherMounts
 pub mod MountCalls
 pub mod MountReads
 pub mod Pointed

@@ -131,6 +131,7 @@ pub record IsMountedAll (Left : Type 0) {KNOTS SLOTS : ℕ} (t : code.Table KNOT
   pub content : List ContentPage
   pub bytes : List ℕ
   pub is : now.state ≡ with_var st ring content bytes
+  pub lost : with_var st ring content bytes ≡ lose (with_var st ring content bytes)
   pub paged : IsPaged plan (with_var st ring content bytes)
   pub facts : Left → IsPlainTable plan (with_var (ready plan st) ring content bytes)
   pub pages : HoldsTable (page_at new) first plan (lose (with_var (ready plan st) ring content bytes))
@@ -298,6 +299,7 @@ module _ {KNOTS SLOTS : ℕ} (t : code.Table KNOTS SLOTS) (mid new : FlashState)
           content = p;
           bytes = k;
           is = state;
+          lost = idle-lost (with_var w.now.state r p k) (record { pending = idle.pending; buffered = emptied; waiting = idle.waiting; points = idle.points });
           paged = loose-paged plan (with_var w.now.state r p k) idle.pending (loose-with_var plan w.now.state r p k loose led);
           facts = λ settled. facts-with_var plan (ready plan w.now.state) r p k (ready_parts settled) (blobbed settled);
           pages = holds-with_var v (page_at mid) (page_at new) first plan (lose w.now.state) r p [] planned outside some_rows some_index lost_pages (ring-holds v' new first plan (with_var w.now.state r p k) ring.ring m.planned ring.ring_is ring.pages);
@@ -344,6 +346,7 @@ module _ {KNOTS SLOTS : ℕ} (t : code.Table KNOTS SLOTS) (mid new : FlashState)
         content = w.now.state.var_pages;
         bytes = w.now.state.buffered;
         is = refl;
+        lost = w.lost;
         paged = w.paged;
         facts = ready_parts;
         pages = subst (λ (x : FlashState). HoldsTable (page_at x) first plan (lose w.now.state)) (sym same) lost_pages;

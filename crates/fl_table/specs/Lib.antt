@@ -6,6 +6,7 @@ pub mod Entries
 pub mod Skipping
 pub mod Accepting
 pub mod Outcomes
+pub mod Laws
 pub mod Causes
 pub mod Mounting
 pub mod Paged

@@ -6,6 +6,7 @@ use Rattle.fl_model.specs.Record.{Plan}
 use Rattle.fl_model.specs.Table as model
 use Rattle.fl_model.specs.Table.{lose, pending_entries, last_entry}
 use Rattle.fl_model.specs.Facts.{IsTable}
+use Rattle.fl_model.specs.Mount.{ready}
 use Rattle.fl_table.specs.declared.table.Table.{Table}
 use Rattle.fl_parts.specs.Bitmaps.{Stand}
 use Rattle.fl_parts.specs.Blobs as variable
@@ -13,11 +14,13 @@ use Rattle.fl_parts.specs.Mountable.{IsPaged}
 use Rattle.fl_parts.specs.Pages.{HoldsTable}
 use Rattle.fl_table.specs.Memory.{InMemory, IsPlanned}
 
--- A mounted table whose numbers fit, but may be spent, and of which a blob may begin on a void page: what it has in memory is what its
--- pages tell.
+-- A table as a mount leaves it, whose numbers fit, but may be spent, and of which a blob may begin on a void page: what it has in memory
+-- is what its pages tell.
 pub record IsLoaded {KNOTS SLOTS : ℕ} (t : Table KNOTS SLOTS) (f : FlashState) (first : ℕ) (plan : Plan) (table : model.Table) : Type 0 where
   pub planned : IsPlanned t first plan
   pub paged : IsPaged plan table
+  -- no row is pending, and no byte of a blob waits
+  pub started : table ≡ ready plan (lose table)
   pub whole : table.rows.torn ≡ false
   pub clean : table.rows.dirty ≡ false
   pub pages : HoldsTable (page_at f) first plan (lose table)

@@ -1,6 +1,7 @@
 use Rattle.std.proofs.Common.{◌≡◌, ◌+◌, Option, IfSome, arith, refl, sym, ◌∙◌, ap, subst, IsTrue, inl, inr, ℕ, Result, Ok, Err, is_some}
 use Rattle.std.proofs.lemmas.Result.{err_from_is_err_and}
 use Rattle.fl_flash.specs.Flash.{page_at, FlashState}
+use Rattle.fl_model.specs.Mount.{ready}
 use Rattle.fl_frame.proofs.CallsInTurn.{goes-then}
 use Rattle.fl_find.proofs.Points.{mounts-points}
 use Rattle.fl_parts.specs.Bitmaps.{EndAt, IsOutside}
@@ -80,6 +81,7 @@ returns-clause-ends g c = λ first plan table rose device watched planned rests 
         log = w.planned.log;
       };
       paged = paged-ready plan (with_var w.now.state h.ring h.content h.bytes) h.paged;
+      started = ap (ready plan) h.lost;
       whole = w.whole;
       clean = w.clean;
       pages = h.pages;
