@@ -62,8 +62,8 @@ impl<'s, 'b> BlobReader<'s, 'b> {
         ensures most { Reads self.old (F.state flash.old) → IsWholeIn self.old (F.state flash.old) → (F.state flash.new).work.reads ≤ (F.state flash.old).work.reads + pages_left self.old }
         ensures fails { IfErr result (λ e. IfUnread (F.state flash.old) e (F.state flash.new)) }
         ensures bad { IsTrue (F.state flash.old).media.tells → IfErr result (IfBad (IsBadLater (data_of self.old) (F.state flash.old) (page_of self.old + 1))) }
-        ensures sound { Reads self.old (F.state flash.old) → OnOk result (IsThereBehind self.new (F.state flash.new) → IsThereBehind self.old (F.state flash.old)) }
-        ensures ahead { Reads self.old (F.state flash.old) → OnOk result ((bad : BadPage) → IsBadAhead self.new (F.state flash.new) bad → IsBadAhead self.old (F.state flash.old) bad) }
+        ensures sound { Reads self.old (F.state flash.old) → IsThereBehind self.new (F.state flash.new) → IsThereBehind self.old (F.state flash.old) }
+        ensures ahead { Reads self.old (F.state flash.old) → (bad : BadPage) → IsBadAhead self.new (F.state flash.new) bad → IsBadAhead self.old (F.state flash.old) bad }
     {
         if self.end < self.used {
             return Ok(());
@@ -106,7 +106,8 @@ impl<'s, 'b> BlobReader<'s, 'b> {
 
     /// Takes the next chunk from the front of the bytes left. True where there is one, and false where no byte is left,
     /// for which nothing is read, so that it comes with the power off too. After a fault the bytes left are as they were.
-    /// Over any bytes each true leaves fewer bytes, by its chunk, and a page that it turns to is there.
+    /// Over any bytes each true leaves fewer bytes, by its chunk, and a page that it turns to is there. So a blob that is read to
+    /// its end was all there, whatever steps failed before.
     pub fn step<F: Flash>(&mut self, flash: &mut F) -> Result<bool, ReadFault>
         requires lies { LiesOn (data_of self.old) (F.state flash.old) }
         ensures reads { OnlyReads (F.state flash.old) 1 (F.state flash.new) }
@@ -127,8 +128,8 @@ impl<'s, 'b> BlobReader<'s, 'b> {
         ensures most { Reads self.old (F.state flash.old) → IsWholeIn self.old (F.state flash.old) → (F.state flash.new).work.reads ≤ (F.state flash.old).work.reads + pages_left self.old }
         ensures fails { IfErr result (λ e. IfUnread (F.state flash.old) e (F.state flash.new)) }
         ensures bad { Reads self.old (F.state flash.old) → IfErr result (IfBad (IsBadLater (data_of self.old) (F.state flash.old) (page_of self.old + 1))) }
-        ensures sound { Reads self.old (F.state flash.old) → OnOk result (IsThereBehind self.new (F.state flash.new) → IsThereBehind self.old (F.state flash.old)) }
-        ensures ahead { Reads self.old (F.state flash.old) → OnOk result ((bad : BadPage) → IsBadAhead self.new (F.state flash.new) bad → IsBadAhead self.old (F.state flash.old) bad) }
+        ensures sound { Reads self.old (F.state flash.old) → IsThereBehind self.new (F.state flash.new) → IsThereBehind self.old (F.state flash.old) }
+        ensures ahead { Reads self.old (F.state flash.old) → (bad : BadPage) → IsBadAhead self.new (F.state flash.new) bad → IsBadAhead self.old (F.state flash.old) bad }
     {
         self.begin = self.end;
         if self.left == 0 {

@@ -41,6 +41,14 @@ returns-clause-few g c = λ reads whole.
     let turned = c.in_ok-turn.ensures.few (record { told = reads.told; within = reads.within; used = reads.used; size = reads.size; bytes = reads.bytes }) whole in
     omega (arith, turned, c.take.ensures.few)
 
+pub returns-in_err-turn-clause-sound : goal.returns-in_err-turn-clause-sound
+returns-in_err-turn-clause-sound g c = λ reads there.
+    c.in_err-turn.ensures.sound (record { told = reads.told; within = reads.within; used = reads.used; size = reads.size; bytes = reads.bytes }) there
+
+pub returns-in_err-turn-clause-ahead : goal.returns-in_err-turn-clause-ahead
+returns-in_err-turn-clause-ahead g c = λ reads bad h.
+    c.in_err-turn.ensures.ahead (record { told = reads.told; within = reads.within; used = reads.used; size = reads.size; bytes = reads.bytes }) bad h
+
 pub returns-clause-sound : goal.returns-clause-sound
 returns-clause-sound g c = λ reads there.
     let ready = c.in_ok-turn.ensures.ready (record { told = reads.told; within = reads.within; used = reads.used; size = reads.size; bytes = reads.bytes }) in

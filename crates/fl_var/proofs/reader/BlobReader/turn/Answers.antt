@@ -135,3 +135,35 @@ returns-clause-ahead g c = λ reads bad ahead.
     let good = subst (λ (found : Option ℕ). IfSome found (λ n. HasContent (r.page + 1) (image_in v f (r.page + 1)) × (n ≡ page_count (image_in v f (r.page + 1))))) c.in-Some.is (c.in_ok-used.ensures.good reads.told) in
     let within = before-end r.page (next_in v) reads.within (λ end. c.if-self-next_number.false (end ∙ sym c.next_number.ensures)) in
     bad-turned v f r.page r.end r.left bad done (within, good.0) (bad-seen v f h (images-same v f h 1 c.find_content.ensures.reads) (r.page + 1) (0 + r.left) bad ahead)
+
+-- after a failed read the reader is where it was
+
+pub returns-in_err-used-clause-sound : goal.returns-in_err-used-clause-sound
+returns-in_err-used-clause-sound g c = λ reads there some.
+    let r = c.args.self.now in
+    let v = r.var.now in
+    let images = images-same v (g.F.Flash.state c.args.flash.now) (g.F.Flash.state c.find_content.new.flash) 1 c.find_content.ensures.reads in
+    subst (λ (image : ℕ → List ℕ). AreThere image (next_in v) r.page (r.end + r.left)) images (there some)
+
+pub returns-in_default-clause-sound : goal.returns-in_default-clause-sound
+returns-in_default-clause-sound g c = λ reads there some.
+    let r = c.args.self.now in
+    let v = r.var.now in
+    let images = images-same v (g.F.Flash.state c.args.flash.now) (g.F.Flash.state c.find_content.new.flash) 1 c.find_content.ensures.reads in
+    subst (λ (image : ℕ → List ℕ). AreThere image (next_in v) r.page (r.end + r.left)) images (there some)
+
+pub returns-in_err-used-clause-ahead : goal.returns-in_err-used-clause-ahead
+returns-in_err-used-clause-ahead g c = λ reads bad ahead.
+    let r = c.args.self.now in
+    let v = r.var.now in
+    let f = g.F.Flash.state c.args.flash.now in
+    let h = g.F.Flash.state c.find_content.new.flash in
+    bad-seen v f h (images-same v f h 1 c.find_content.ensures.reads) r.page (r.end + r.left) bad ahead
+
+pub returns-in_default-clause-ahead : goal.returns-in_default-clause-ahead
+returns-in_default-clause-ahead g c = λ reads bad ahead.
+    let r = c.args.self.now in
+    let v = r.var.now in
+    let f = g.F.Flash.state c.args.flash.now in
+    let h = g.F.Flash.state c.find_content.new.flash in
+    bad-seen v f h (images-same v f h 1 c.find_content.ensures.reads) r.page (r.end + r.left) bad ahead
