@@ -15,9 +15,10 @@ use Rattle.fl_model.specs.Query as model
 use Rattle.fl_model.specs.Query.{is_up_to}
 use Rattle.fl_model.specs.Row.{Row}
 use Rattle.fl_page.specs.Page.{IsGoodPage, rows_in}
+use Rattle.fl_table.proofs.Skips.{looked-any}
 use Rattle.fl_table.specs.Finding.{IsPageFor}
 use Rattle.fl_table.specs.Look.{buckets_in, buffered_rows, layout_in, oldest_in, rows_noted}
-use Rattle.fl_table.specs.Skipping.{AreFresh, IsLookedUp, IsToldBy, index_in}
+use Rattle.fl_table.specs.Skipping.{AreFresh, IsLookedUpBy, IsToldBy, index_in}
 use Rattle.fl_table.specs.declared.look_ahead.Ahead.{Ahead}
 use Rattle.fl_table.specs.declared.look_ahead.Ahead.TheVariants.{Wanted, Missed, Beyond}
 use Rattle.fl_table.specs.declared.table.Table.{Table}
@@ -116,9 +117,9 @@ ahead-told t f span top number before ahead said told is other tells held =
     subst (λ (a : Ahead). IsToldBy (index_in t) (buckets_in t) (page_at f) span top number a) is (told tells (fresh-on (index_in t) f before held) (λ e. other (sym is ∙ e)))
 
 -- .. and of the index page that was looked at
-pub looked-told : {KNOTS SLOTS : ℕ} (t : Table KNOTS SLOTS) (f : FlashState) (span : Option Span) (number : ℕ) (before : BufferState) → (IsTrue f.media.tells → AreFresh (index_in t) f before → IsLookedUp (index_in t) (page_at f) span number) →
+pub looked-told : {KNOTS SLOTS : ℕ} (t : Table KNOTS SLOTS) (f : FlashState) (span : Option Span) (number : ℕ) (before : BufferState) → (IsTrue f.media.tells → AreFresh (index_in t) f before → IsLookedUpBy (index_in t) (page_at f) span number before) →
     IsTrue f.media.tells → AreFreshIn (index_in t) (contents_of f) before → IsLookedUpIn t (contents_of f) span number
-looked-told t f span number before looked tells held = looked tells (fresh-on (index_in t) f before held)
+looked-told t f span number before looked tells held = looked-any (index_in t) (page_at f) span number before (looked tells (fresh-on (index_in t) f before held))
 
 pub missed-other : Missed ≡ Wanted → ⊥
 missed-other e = cc

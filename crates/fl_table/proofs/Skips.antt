@@ -30,7 +30,7 @@ use Rattle.fl_page.specs.declared.fault.ReadFault.{ReadFault}
 use Rattle.fl_page.specs.declared.fault.ReadFault.TheVariants.{Flash, BadPage}
 use Rattle.fl_index.specs.Standing as standing
 use Rattle.fl_parts.specs.Bitmaps.{ArePlanned, Stand}
-use Rattle.fl_table.specs.Skipping.{AreFresh, AreScanning, HoldGood, IsBadIndex, IsEntryOf, IsLookedUp, IsToldBy, LooksOn, ShowsPage, ahead_by, ahead_of, begins_above, due_of, mask_for}
+use Rattle.fl_table.specs.Skipping.{AreFresh, AreScanning, HoldGood, IsBadIndex, IsEntryOf, IsLookedUp, IsLookedUpBy, IsToldBy, LooksOn, ShowsPage, ahead_by, ahead_of, begins_above, due_of, mask_for}
 use Rattle.fl_table.specs.declared.look_ahead.Ahead.{Ahead}
 use Rattle.fl_table.specs.declared.look_ahead.Ahead.TheVariants.{Wanted, Missed, Beyond}
 use Rattle.fl_table.specs.Standing.{Stands}
@@ -234,18 +234,18 @@ told-by bitmaps buckets asked index span is is_span f top number before new afte
     ))
 
 -- nothing is looked up where no value is asked for, or where there is no index
-pub unasked-up : (bitmaps : Option BitmapIndex) (page : ℕ → List ℕ) (asked : Option Span) (number : ℕ) → asked ≡ None → IsLookedUp bitmaps page asked number
-unasked-up None page None number is = tt
-unasked-up (Some index) page None number is = tt
-unasked-up bitmaps page (Some span) number is = absurd (some is)
+pub unasked-up : (bitmaps : Option BitmapIndex) (page : ℕ → List ℕ) (asked : Option Span) (number : ℕ) (buf : BufferState) → asked ≡ None → IsLookedUpBy bitmaps page asked number buf
+unasked-up None page None number buf is = tt
+unasked-up (Some index) page None number buf is = tt
+unasked-up bitmaps page (Some span) number buf is = absurd (some is)
   where
     some : Some span ≡ None → ⊥
     some e = cc
 
-pub unindexed-up : (bitmaps : Option BitmapIndex) (page : ℕ → List ℕ) (asked : Option Span) (number : ℕ) → bitmaps ≡ None → IsLookedUp bitmaps page asked number
-unindexed-up None page None number is = tt
-unindexed-up None page (Some span) number is = tt
-unindexed-up (Some index) page asked number is = absurd (some is)
+pub unindexed-up : (bitmaps : Option BitmapIndex) (page : ℕ → List ℕ) (asked : Option Span) (number : ℕ) (buf : BufferState) → bitmaps ≡ None → IsLookedUpBy bitmaps page asked number buf
+unindexed-up None page None number buf is = tt
+unindexed-up None page (Some span) number buf is = tt
+unindexed-up (Some index) page asked number buf is = absurd (some is)
   where
     some : Some index ≡ None → ⊥
     some e = cc
@@ -258,12 +258,12 @@ module _ (index : BitmapIndex) (f : FlashState) (number : ℕ) (before : BufferS
   not-bad (Some found) listing tells bytes committed = subst (IsGoodPage (per_page index) listing) bytes tells.1
 
   up-is : (answer : Option Found) (span : Span) → IfSome (looked_at index number before) (λ listing. looking.IsFound entire index listing number after.bytes (Ok answer)) →
-      IfSome (looked_at index number before) (λ listing. IsTrue f.media.tells → IsFresh index f before → IfRead {X = Option Found} (Ok answer) (after.bytes ≡ page_at f (place_in index listing))) → IsLookedUp (Some index) (page_at f) (Some span) number
+      IfSome (looked_at index number before) (λ listing. IsTrue f.media.tells → IsFresh index f before → IfRead {X = Option Found} (Ok answer) (after.bytes ≡ page_at f (place_in index listing))) → IsLookedUpBy (Some index) (page_at f) (Some span) number before
   up-is answer span tells reads = by_waiting (is_waiting index number) refl
     where
-      by_listing : (o : Option ℕ) → listing_by index number before ≡ o → IfSome o (λ listing. looking.IsFound entire index listing number after.bytes (Ok answer)) →
-          IfSome o (λ listing. IsTrue f.media.tells → IsFresh index f before → IfRead {X = Option Found} (Ok answer) (after.bytes ≡ page_at f (place_in index listing))) → IsLookedUp (Some index) (page_at f) (Some span) number
-      by_listing None is tells reads = inr (inl (by_held (looking.held_lists index number before) is))
+      by_listing : (o : Option ℕ) → looked_at index number before ≡ listing_by index number before → listing_by index number before ≡ o → IfSome o (λ listing. looking.IsFound entire index listing number after.bytes (Ok answer)) →
+          IfSome o (λ listing. IsTrue f.media.tells → IsFresh index f before → IfRead {X = Option Found} (Ok answer) (after.bytes ≡ page_at f (place_in index listing))) → IsLookedUpBy (Some index) (page_at f) (Some span) number before
+      by_listing None same is tells reads = inr (inl (by_held (looking.held_lists index number before) is))
         where
           by_held : (b : Bool) → cond b (Some (page_number before.bytes)) (listing_in index number) ≡ None → listing_in index number ≡ None
           by_held true e = absurd (some e)
@@ -271,22 +271,31 @@ module _ (index : BitmapIndex) (f : FlashState) (number : ℕ) (before : BufferS
               some : Some (page_number before.bytes) ≡ None → ⊥
               some e = cc
           by_held false e = e
-      by_listing (Some listing) is tells reads =
+      by_listing (Some listing) same is tells reads =
           let at = listed-by index number listing before is in
-          inr (inr (listing, record { kept = at.kept; lists_it = at.here; sound = not-bad answer listing tells (reads told fresh) }))
+          inr (inr (listing, same ∙ is, record { kept = at.kept; lists_it = at.here; sound = not-bad answer listing tells (reads told fresh) }))
 
-      by_waiting : (b : Bool) → is_waiting index number ≡ b → IsLookedUp (Some index) (page_at f) (Some span) number
+      by_waiting : (b : Bool) → is_waiting index number ≡ b → IsLookedUpBy (Some index) (page_at f) (Some span) number before
       by_waiting true is = inl is
       by_waiting false is =
           let same : looked_at index number before ≡ listing_by index number before = ap (λ (b : Bool). cond b None (listing_by index number before)) is in
-          by_listing (listing_by index number before) refl (subst (λ (o : Option ℕ). IfSome o (λ listing. looking.IsFound entire index listing number after.bytes (Ok answer))) same tells)
+          by_listing (listing_by index number before) same refl (subst (λ (o : Option ℕ). IfSome o (λ listing. looking.IsFound entire index listing number after.bytes (Ok answer))) same tells)
           (subst (λ (o : Option ℕ). IfSome o (λ listing. IsTrue f.media.tells → IsFresh index f before → IfRead {X = Option Found} (Ok answer) (after.bytes ≡ page_at f (place_in index listing)))) same reads)
 
 -- .. nor is that of the entry that was answered, or of none
 pub looked-up : (bitmaps : Option BitmapIndex) (asked : Option Span) (index : BitmapIndex) (span : Span) (is : bitmaps ≡ Some index) (is_span : asked ≡ Some span) (f : FlashState) (number : ℕ) (before : BufferState) (after : BufferState)
     (answer : Option Found) → IsTrue f.media.tells → AreFresh bitmaps f before → IfSome (looked_at index number before) (λ listing. looking.IsFound entire index listing number after.bytes (Ok answer)) →
-    IfSome (looked_at index number before) (λ listing. IsTrue f.media.tells → IsFresh index f before → IfRead {X = Option Found} (Ok answer) (after.bytes ≡ page_at f (place_in index listing))) → IsLookedUp bitmaps (page_at f) asked number
+    IfSome (looked_at index number before) (λ listing. IsTrue f.media.tells → IsFresh index f before → IfRead {X = Option Found} (Ok answer) (after.bytes ≡ page_at f (place_in index listing))) → IsLookedUpBy bitmaps (page_at f) asked number before
 looked-up bitmaps asked index span is is_span f number before after answer told fresh tells reads =
-    subst (λ (s : Option Span). IsLookedUp bitmaps (page_at f) s number) (sym is_span)
-    (subst (λ (o : Option BitmapIndex). IsLookedUp o (page_at f) (Some span) number) (sym is)
+    subst (λ (s : Option Span). IsLookedUpBy bitmaps (page_at f) s number before) (sym is_span)
+    (subst (λ (o : Option BitmapIndex). IsLookedUpBy o (page_at f) (Some span) number before) (sym is)
     (up-is index f number before after told (subst (λ (o : Option BitmapIndex). AreFresh o f before) is fresh) answer span tells reads))
+
+-- .. so one that lists the page isn't, whatever was in the buffer
+pub looked-any : (bitmaps : Option BitmapIndex) (page : ℕ → List ℕ) (asked : Option Span) (number : ℕ) (buf : BufferState) → IsLookedUpBy bitmaps page asked number buf → IsLookedUp bitmaps page asked number
+looked-any None page None number buf h = tt
+looked-any (Some index) page None number buf h = tt
+looked-any None page (Some span) number buf h = tt
+looked-any (Some index) page (Some span) number buf (inl waits) = inl waits
+looked-any (Some index) page (Some span) number buf (inr (inl none)) = inr (inl none)
+looked-any (Some index) page (Some span) number buf (inr (inr listed)) = inr (inr (listed.0, listed.2))

@@ -7,7 +7,7 @@ use Rattle.fl_bitmap.specs.declared.buckets.Buckets.{Buckets}
 use Rattle.fl_flash.specs.Buffer.{BufferState}
 use Rattle.fl_flash.specs.Flash.{FlashState}
 use Rattle.fl_index.specs.Looking as looking
-use Rattle.fl_index.specs.Looking.{IsFresh, IsScanning, HoldsGood, entry_of, next_to_read, unread, due}
+use Rattle.fl_index.specs.Looking.{IsFresh, IsScanning, HoldsGood, entry_of, looked_at, next_to_read, unread, due}
 use Rattle.fl_index.specs.Memory.{first_in, first_waiting, form_in, found_waiting, is_waiting, listing_in, lists, next_in, oldest_in, per_page, place_in}
 use Rattle.fl_index.specs.Page.{IsGoodPage, found_at}
 use Rattle.fl_index.specs.declared.index.BitmapIndex.{BitmapIndex}
@@ -131,6 +131,14 @@ abbrev pub IsLookedUp : Option BitmapIndex → (ℕ → List ℕ) → Option Spa
 IsLookedUp bitmaps page None number = Unit {0}
 IsLookedUp None page (Some span) number = Unit {0}
 IsLookedUp (Some index) page (Some span) number = (is_waiting index number ≡ true) ⊎ ((listing_in index number ≡ None) ⊎ ((listing : ℕ) × IsListedBy index page number listing))
+
+-- .. and that one is the page that a buffer with these bytes has looked at: the one that it holds, if that lists the data page, or else the
+-- first that does.
+abbrev pub IsLookedUpBy : Option BitmapIndex → (ℕ → List ℕ) → Option Span → ℕ → BufferState → Type 0
+IsLookedUpBy bitmaps page None number buf = Unit {0}
+IsLookedUpBy None page (Some span) number buf = Unit {0}
+IsLookedUpBy (Some index) page (Some span) number buf =
+    (is_waiting index number ≡ true) ⊎ ((listing_in index number ≡ None) ⊎ ((listing : ℕ) × (looked_at index number buf ≡ Some listing) × IsListedBy index page number listing))
 
 -- Over a flash that stands for a table: the scan goes on, what was read isn't read again, and what had to be read was. After a
 -- fault too no more is left to be read than before.

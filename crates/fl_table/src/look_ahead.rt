@@ -34,7 +34,7 @@ impl<const KNOTS: usize, const SLOTS: usize> Table<KNOTS, SLOTS> {
     ghost use Rattle.fl_model.specs.Ring as rings;
     ghost use Rattle.fl_model.specs.Table as model;
     ghost use Rattle.fl_table.specs.Memory.{next_in, HasBuckets, LiesOn};
-    ghost use Rattle.fl_table.specs.Skipping.{AreFresh, AreScanning, HoldGood, IsBadIndex, IsLookedUp, IsToldBy, LooksOn, ShowsPage, ahead_by, index_in, mask_for};
+    ghost use Rattle.fl_table.specs.Skipping.{AreFresh, AreScanning, HoldGood, IsBadIndex, IsLookedUpBy, IsToldBy, LooksOn, ShowsPage, ahead_by, index_in, mask_for};
     ghost use Rattle.fl_table.specs.declared.look_ahead.Ahead.{Ahead};
     ghost use Rattle.fl_table.specs.Standing.{Stands};
 
@@ -70,10 +70,10 @@ impl<const KNOTS: usize, const SLOTS: usize> Table<KNOTS, SLOTS> {
             AreFresh (index_in self.now) (F.state flash.old) buf.old → AreScanning (index_in self.now) number buf.old →
             LooksOn (index_in self.now) span number buf.old (F.state flash.old).work.reads result (F.state flash.new).work.reads buf.new }
 
-        // Whatever the pages hold: a page that needn't be read is told so by its entry, and an index page that lists one isn't bad.
+        // Whatever the pages hold: a page that needn't be read is told so by its entry, and the index page that is looked at isn't bad.
         ensures told { IsTrue (F.state flash.old).media.tells → AreFresh (index_in self.now) (F.state flash.old) buf.old →
             IfOk result (λ ahead. (ahead ≡ Ahead.Wanted → ⊥) → IsToldBy (index_in self.now) self.now.buckets (page_at (F.state flash.old)) span top number ahead) }
-        ensures looked_up { IsTrue (F.state flash.old).media.tells → AreFresh (index_in self.now) (F.state flash.old) buf.old → OnOk result (IsLookedUp (index_in self.now) (page_at (F.state flash.old)) span number) }
+        ensures looked_up { IsTrue (F.state flash.old).media.tells → AreFresh (index_in self.now) (F.state flash.old) buf.old → OnOk result (IsLookedUpBy (index_in self.now) (page_at (F.state flash.old)) span number buf.old) }
 
         // A page that is held isn't bad, and a bad one that is answered stands on the flash.
         ensures good { HoldGood (index_in self.now) buf.old → HoldGood (index_in self.now) buf.new }

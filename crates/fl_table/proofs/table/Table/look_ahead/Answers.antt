@@ -308,10 +308,10 @@ returns-in-Ok-Some-clause-told g c = λ told fresh other.
     (g.F.Flash.state c.entry_of.new.flash) c.entry_of.new.buf _ c.in-Ok-Some.found c.in-Ok-Some.field-0-is c.ahead_by.result told fresh e.memory e.found e.page c.ahead_by.ensures.told
 
 pub returns-in_default-clause-looked_up : goal.returns-in_default-clause-looked_up
-returns-in_default-clause-looked_up g c = λ told fresh. unasked-up c.args.self.now.bitmaps (page_at (g.F.Flash.state c.args.flash.now)) c.args.span c.args.number c.in_default.is
+returns-in_default-clause-looked_up g c = λ told fresh. unasked-up c.args.self.now.bitmaps (page_at (g.F.Flash.state c.args.flash.now)) c.args.span c.args.number c.args.buf.now c.in_default.is
 
 pub returns-in_default-bitmaps-clause-looked_up : goal.returns-in_default-bitmaps-clause-looked_up
-returns-in_default-bitmaps-clause-looked_up g c = λ told fresh. unindexed-up c.args.self.now.bitmaps (page_at (g.F.Flash.state c.args.flash.now)) c.args.span c.args.number c.in_default-bitmaps.is
+returns-in_default-bitmaps-clause-looked_up g c = λ told fresh. unindexed-up c.args.self.now.bitmaps (page_at (g.F.Flash.state c.args.flash.now)) c.args.span c.args.number c.args.buf.now c.in_default-bitmaps.is
 
 pub returns-in-Ok-None-clause-looked_up : goal.returns-in-Ok-None-clause-looked_up
 returns-in-Ok-None-clause-looked_up g c = λ told fresh.
