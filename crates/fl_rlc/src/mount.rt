@@ -78,12 +78,17 @@ impl<const KNOTS: usize, const SLOTS: usize> LoggedTable<KNOTS, SLOTS> {
         ensures leaves { OnOk result (IsTrue (F.state flash.old).media.tells → (first : ℕ) → (plan : Plan) → (table : model.Table)
             → (is_logged self.old ≡ false) ⊎ ((rose : Bool) × (device : Device) × IsWatched (F.state flash.old) (F.state flash.new) rose device)
             → IsPlanned self.old first plan → Rests (F.state flash.old) first plan table → LeavesPages first plan (page_at (F.state flash.old)) (page_at (F.state flash.new))) }
+        ensures alone_leaves { OnOk result (IsTrue (F.state flash.old).media.tells → (first : ℕ) → (plan : Plan)
+            → IsPlanned self.old first plan → log_in self.old ≡ None → LeavesPages first plan (page_at (F.state flash.old)) (page_at (F.state flash.new))) }
         ensures refused { IfErr result (λ e. IsTrue (F.state flash.old).media.tells → RefusesPages self.old (F.state flash.old) e (F.state flash.new)) }
         ensures outside { IsTrue (F.state flash.old).media.tells → OutsideStands self.old (page_at (F.state flash.old)) (page_at (F.state flash.new)) }
         ensures reads { IsTrue (F.state flash.old).media.tells → FewReads (4 * pages_in self.old) (F.state flash.old) (F.state flash.new) }
         ensures limit { (first : ℕ) → (plan : Plan) → (table : model.Table) → (rose : Bool) → (device : Device) → IsWatched (F.state flash.old) (F.state flash.new) rose device
             → IsPlanned self.old first plan → Rests (F.state flash.old) first plan table → plan.full_index ≡ true
             → (F.state flash.new).work.reads ≤ (F.state flash.old).work.reads + mount_limit plan table }
+        ensures alone_limit { (first : ℕ) → (plan : Plan) → (table : model.Table) → (rose : Bool) → (device : Device) → IsWatched (F.state flash.old) (F.state flash.new) rose device
+            → IsPlanned self.old first plan → log_in self.old ≡ None → RestsToMount (F.state flash.old) first (bare plan) table → plan.full_index ≡ true
+            → (F.state flash.new).work.reads ≤ (F.state flash.old).work.reads + mount_limit (bare plan) table }
         ensures repairs { FewRepairs (repairs_in self.old) (F.state flash.old) (F.state flash.new) }
         ensures power { OnOk result ((F.state flash.old).is_on ≡ true → (F.state flash.new).is_on ≡ true) }
         ensures cause { IfErr result (λ e. MountCausedBy (F.state flash.old) e (F.state flash.new)) }

@@ -77,6 +77,14 @@ returns-in_err-mounted-clause-limit g c = λ first plan table rose device watche
     let old = g.F.Flash.state c.args.flash.now in
     limit-alone plan table old.work.reads (g.F.Flash.state c.mount.new.flash).work.reads (c.in_err-mounted.ensures.limit first (bare plan) (bare_table table) rose device watched planned.table (bare-mountable t old first plan table planned rests) full)
 
+pub returns-in_err-mounted-clause-alone_limit : goal.returns-in_err-mounted-clause-alone_limit
+returns-in_err-mounted-clause-alone_limit g c = λ first plan table rose device watched planned none rests full. c.in_err-mounted.ensures.limit first (bare plan) table rose device watched planned.table rests full
+
+pub returns-in_err-mounted-clause-alone_leaves : goal.returns-in_err-mounted-clause-alone_leaves
+returns-in_err-mounted-clause-alone_leaves g c =
+    let p = err_from_is_err_and c.from_residual.result c.from_residual.ensures.1 in
+    rw (p.1, p.2) tt
+
 pub returns-in_err-mounted-clause-repairs : goal.returns-in_err-mounted-clause-repairs
 returns-in_err-mounted-clause-repairs g c = repairs-alone c.args.self.now (g.F.Flash.state c.args.flash.now) (g.F.Flash.state c.mount.new.flash) c.in_err-mounted.ensures.repairs
 
@@ -116,6 +124,13 @@ returns-in_default-clause-leaves g c = λ told first plan table seen planned res
     bare-leaves t.table (g.F.Flash.state c.args.flash.now) (g.F.Flash.state c.mount.new.flash) first plan planned.table told (c.requires.lies.table.geometry ∙ sym planned.table.geometry)
     c.in_ok-mounted.mounted c.mount.new.self (c.in_ok-mounted.ensures.found told) none
 
+pub returns-in_default-clause-alone_leaves : goal.returns-in_default-clause-alone_leaves
+returns-in_default-clause-alone_leaves g c = λ told first plan planned none.
+    let t = c.args.self.now in
+    let alone : plan.log_blocks ≡ 0 = subst (λ (o : Option RecordLog). IsLogPlanned o (first + blocks_of (bare plan)) plan) c.in_default.is planned.log in
+    bare-leaves t.table (g.F.Flash.state c.args.flash.now) (g.F.Flash.state c.mount.new.flash) first plan planned.table told (c.requires.lies.table.geometry ∙ sym planned.table.geometry)
+    c.in_ok-mounted.mounted c.mount.new.self (c.in_ok-mounted.ensures.found told) alone
+
 pub returns-in_default-clause-outside : goal.returns-in_default-clause-outside
 returns-in_default-clause-outside g c = λ told page rows index var log. c.in_ok-mounted.ensures.outside told page rows index var
 
@@ -130,6 +145,9 @@ returns-in_default-clause-limit g c = λ first plan table rose device watched pl
     let t = c.args.self.now in
     let old = g.F.Flash.state c.args.flash.now in
     limit-alone plan table old.work.reads (g.F.Flash.state c.mount.new.flash).work.reads (c.in_ok-mounted.ensures.limit first (bare plan) (bare_table table) rose device watched planned.table (bare-mountable t old first plan table planned rests) full)
+
+pub returns-in_default-clause-alone_limit : goal.returns-in_default-clause-alone_limit
+returns-in_default-clause-alone_limit g c = λ first plan table rose device watched planned none rests full. c.in_ok-mounted.ensures.limit first (bare plan) table rose device watched planned.table rests full
 
 pub returns-in_default-clause-repairs : goal.returns-in_default-clause-repairs
 returns-in_default-clause-repairs g c = repairs-alone c.args.self.now (g.F.Flash.state c.args.flash.now) (g.F.Flash.state c.mount.new.flash) c.in_ok-mounted.ensures.repairs
@@ -181,6 +199,12 @@ returns-in-Err-clause-lies g c = record {
 
 pub returns-in-Err-clause-alone : goal.returns-in-Err-clause-alone
 returns-in-Err-clause-alone g c = λ first plan table rose device watched planned none rests. absurd (none-some c.in-Some.log (sym none ∙ c.in-Some.is))
+
+pub returns-in-Err-clause-alone_limit : goal.returns-in-Err-clause-alone_limit
+returns-in-Err-clause-alone_limit g c = λ first plan table rose device watched planned none rests full. absurd (none-some c.in-Some.log (sym none ∙ c.in-Some.is))
+
+pub returns-in-Err-clause-alone_leaves : goal.returns-in-Err-clause-alone_leaves
+returns-in-Err-clause-alone_leaves g c = tt
 
 pub returns-in-Err-clause-apart : goal.returns-in-Err-clause-apart
 returns-in-Err-clause-apart g c = λ first plan table rose device l watched planned is apart.
@@ -276,6 +300,12 @@ returns-clause-lies g c = record {
 
 pub returns-clause-alone : goal.returns-clause-alone
 returns-clause-alone g c = λ first plan table rose device watched planned none rests. absurd (none-some c.in-Some.log (sym none ∙ c.in-Some.is))
+
+pub returns-clause-alone_limit : goal.returns-clause-alone_limit
+returns-clause-alone_limit g c = λ first plan table rose device watched planned none rests full. absurd (none-some c.in-Some.log (sym none ∙ c.in-Some.is))
+
+pub returns-clause-alone_leaves : goal.returns-clause-alone_leaves
+returns-clause-alone_leaves g c = λ told first plan planned none. absurd (none-some c.in-Some.log (sym none ∙ c.in-Some.is))
 
 pub returns-clause-apart : goal.returns-clause-apart
 returns-clause-apart g c = λ first plan table rose device l watched planned is apart.
