@@ -1,7 +1,7 @@
 -- The headers of the pages of an index: the newest one, and one first data page more of those that a mount reads.
-use Rattle.std.proofs.Common.{◌≡◌, ◌≢◌, ◌⊎◌, inl, inr, ℕ, zero, suc, ◌+◌, ◌-◌, ◌%◌, ◌<◌, ◌≤◌, true, false, Option, Some, None, List, length, take, drop, get_or, set, refl, sym, ◌∙◌, ap, subst, arith, length-set, get_or-set_other, get_or-set_same}
+use Rattle.std.proofs.Common.{◌≡◌, ◌≢◌, ◌⊎◌, inl, inr, ℕ, zero, suc, ◌+◌, ◌-◌, ◌%◌, ◌<◌, ◌≤◌, true, false, cond, ◌==◌, Option, Some, None, List, length, take, drop, get_or, set, refl, sym, ◌∙◌, ap, subst, arith, eq-eqb, length-set, get_or-set_other, get_or-set_same}
 use Rattle.std.proofs.Math.Nat.{mod-lt}
-use Rattle.std.proofs.lemmas.Bool.{cases_lt, true≢false}
+use Rattle.std.proofs.lemmas.Bool.{cases_lt, ne_eqb, true≢false}
 use Rattle.std.proofs.lemmas.List.{take-take, drop-take}
 use Rattle.std.specs.Option.{option_map}
 use Rattle.fl_mark.specs.Mark.{state_of_page}
@@ -103,3 +103,19 @@ module _ (page : ℕ → List ℕ) (from n number m : ℕ) (here : number ≡ fr
           let some : number % length firsts < length firsts = mod-lt number (omega (arith, fits, more)) in
           ap (λ j. get_or (set firsts (number % length firsts) first) (j % length firsts) None) k
           ∙ (get_or-set_same firsts (number % length firsts) first None some ∙ (is ∙ ap (λ j. first_on (page j)) (sym k)))
+
+-- the first data page of the next index page is remembered, and those of the pages before it stay that have other places
+pub remembered-behind : (firsts : List (Option ℕ)) (next number : ℕ) (first : Option ℕ) → number < next + 1 → next + 1 ≤ number + length firsts →
+    get_or (set firsts (next % length firsts) first) (number % length firsts) None ≡ cond (number == next) first (get_or firsts (number % length firsts) None)
+remembered-behind firsts next number first low fits = by_place (cases_lt number next)
+  where
+    by_place : (number < next) ⊎ (next ≤ number) → get_or (set firsts (next % length firsts) first) (number % length firsts) None ≡ cond (number == next) first (get_or firsts (number % length firsts) None)
+    by_place (inl less) =
+        let ne : number % length firsts ≢ next % length firsts = apart (length firsts) number next less (omega (arith, fits)) in
+        get_or-set_other firsts (next % length firsts) (number % length firsts) first None ne
+        ∙ sym (ap (λ b. cond b first (get_or firsts (number % length firsts) None)) (ne_eqb number next (λ e. omega (arith, e, less))))
+    by_place (inr most) =
+        let same : number ≡ next = omega (arith, most, low) in
+        let some : next % length firsts < length firsts = mod-lt next (omega (arith, low, fits)) in
+        ap (λ n. get_or (set firsts (next % length firsts) first) (n % length firsts) None) same
+        ∙ (get_or-set_same firsts (next % length firsts) first None some ∙ sym (ap (λ b. cond b first (get_or firsts (number % length firsts) None)) (eq-eqb number next same)))

@@ -1,5 +1,5 @@
 -- What clauses see of an index in memory.
-use Rattle.std.specs.Prelude.{◌≡◌, ℕ, zero, suc, ◌+◌, ◌-◌, ◌*◌, ◌/◌, ◌%◌, ◌^◌, ◌<◌, ◌≤◌, Bool, false, ◌&&◌, nat_lt, nat_le, Option, Some, None, is_some, option_map, unwrap_or, List, length, take, drop, slice_index_or, slice_set, vec_len, if◌then◌else◌}
+use Rattle.std.specs.Prelude.{◌≡◌, ℕ, zero, suc, ◌+◌, ◌-◌, ◌*◌, ◌/◌, ◌%◌, ◌^◌, ◌<◌, ◌≤◌, Bool, false, ◌&&◌, ◌==◌, nat_lt, nat_le, Option, Some, None, is_some, option_map, unwrap_or, List, length, take, drop, slice_index_or, vec_len, if◌then◌else◌}
 use Rattle.std.specs.List.{flat_map}
 use Rattle.std.specs.Option.{ForSome}
 use Rattle.fl_flash.specs.Flash.{FlashState, pages}
@@ -71,12 +71,12 @@ is_waiting index number = nat_le (first_waiting index) number && nat_lt number (
 abbrev pub first_in : BitmapIndex → ℕ → Option ℕ
 first_in index number = slice_index_or index.firsts.items (number % vec_len index.firsts) None
 
--- the first data pages that are remembered, by the places of their index pages; and after the seal of the waiting entries
-abbrev pub firsts_in : BitmapIndex → List (Option ℕ)
-firsts_in index = index.firsts.items
-
-abbrev pub firsts_after : BitmapIndex → List (Option ℕ)
-firsts_after index = slice_set (firsts_in index) (next_in index % length (firsts_in index)) (Some (first_waiting index))
+-- That of each kept index page is remembered as it was, and of the next page, where it was sealed, that of the entries that waited.
+-- Nothing is said of pages that the ring gave up.
+abbrev pub FirstsGoOn : BitmapIndex → BitmapIndex → Type 0
+FirstsGoOn old new =
+    (number : ℕ) → oldest_in new ≤ number → number < next_in new → next_in new ≤ number + vec_len new.firsts →
+    first_in new number ≡ (if number == next_in old then Some (first_waiting old) else first_in old number)
 
 -- an index page with this first data page lists a data page
 abbrev pub lists : ℕ → ℕ → Option ℕ → Bool

@@ -15,7 +15,7 @@ impl BitmapIndex {
     ghost use Rattle.fl_ring.specs.Ring.{OutsideStands};
     ghost use Rattle.fl_frame.specs.Watched.{IsWatched};
     ghost use Rattle.fl_ring.specs.Written.{Writes, done};
-    ghost use Rattle.fl_index.specs.Memory.{is_running, first_waiting, firsts_after, firsts_in, next_in, oldest_in, oldest_after, per_page, ring_shape, waiting_at, waiting_in, IsSamePlan, LiesOn, MaySeal};
+    ghost use Rattle.fl_index.specs.Memory.{is_running, first_waiting, next_in, oldest_in, oldest_after, per_page, ring_shape, waiting_at, waiting_in, FirstsGoOn, IsSamePlan, LiesOn, MaySeal};
     ghost use Rattle.fl_index.specs.Standing.{Stands};
     ghost use Rattle.fl_index.specs.Outcomes.{MakesRoom, SealEnds};
 
@@ -34,7 +34,7 @@ impl BitmapIndex {
         ensures next { OnOk result (first_waiting self.new + waiting_in self.new ≡ first_waiting self.old + waiting_in self.old) }
         ensures number { OnOk result (next_in self.new ≡ (if waiting_in self.old == per_page self.old then next_in self.old + 1 else next_in self.old)) }
         ensures oldest { OnOk result (oldest_in self.new ≡ (if waiting_in self.old == per_page self.old then oldest_after self.old else oldest_in self.old)) }
-        ensures firsts { OnOk result (firsts_in self.new ≡ (if waiting_in self.old == per_page self.old then firsts_after self.old else firsts_in self.old)) }
+        ensures firsts { OnOk result (FirstsGoOn self.old self.new) }
         ensures nothing { waiting_in self.old < per_page self.old → (result ≡ Ok tt) × (self.new ≡ self.old) × (F.state flash.new ≡ F.state flash.old) }
         ensures running { OnOk result (is_running self.new ≡ true) }
         ensures broken { OnErr result (is_running self.new ≡ false) }
@@ -65,7 +65,7 @@ impl BitmapIndex {
             → Stands self.old (F.state flash.old) first plan table → SealEnds first plan table rose device result self.new (F.state flash.old) (F.state flash.new) }
         ensures number { OnOk result (next_in self.new ≡ next_in self.old + 1) }
         ensures oldest { OnOk result (oldest_in self.new ≡ oldest_after self.old) }
-        ensures firsts { OnOk result (firsts_in self.new ≡ firsts_after self.old) }
+        ensures firsts { OnOk result (FirstsGoOn self.old self.new) }
         ensures empty { OnOk result (waiting_in self.new ≡ 0) }
         ensures next { OnOk result (first_waiting self.new ≡ first_waiting self.old + waiting_in self.old) }
         ensures running { OnOk result (is_running self.new ≡ true) }

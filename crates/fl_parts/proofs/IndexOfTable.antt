@@ -1,6 +1,7 @@
 -- The index of a table, where it has one.
-use Rattle.std.proofs.Common.{◌≡◌, ℕ, ◌+◌, ◌-◌, ◌*◌, ◌^◌, ◌<◌, ◌≤◌, Bool, true, false, cond, nat_le, nat_lt, ◌==◌, is_some, option_map, unwrap_or, Option, Some, None, IfSome, List, [], ◌∷◌, ◌++◌, length, refl, sym, ◌∙◌, ap, subst, arith, IsTrue, length-append}
+use Rattle.std.proofs.Common.{◌≡◌, ℕ, ◌+◌, ◌-◌, ◌*◌, ◌%◌, ◌^◌, ◌<◌, ◌≤◌, Bool, true, false, cond, nat_le, nat_lt, ◌==◌, is_some, option_map, unwrap_or, Option, Some, None, IfSome, List, [], ◌∷◌, ◌++◌, length, refl, sym, ◌∙◌, ap, subst, arith, IsTrue, length-append}
 use Rattle.std.proofs.lemmas.Bool.{lt-ltb, ne_eqb}
+use Rattle.std.specs.Prelude.{slice_index_or, vec_len}
 use Rattle.std.specs.Option.{ForSome}
 use Rattle.fl_base.specs.declared.types.RingPlace.{RingPlace}
 use Rattle.fl_flash.specs.Flash.{FlashState, Goes, page_at, pages, StaysWith}
@@ -163,7 +164,11 @@ firsts-stay : (old mid new : Option BitmapIndex) → FirstsGoOn old mid → AreS
 firsts-stay None mid new h still = tt
 firsts-stay (Some old) None new h still = absurd h
 firsts-stay (Some old) (Some mid) None h still = absurd still
-firsts-stay (Some old) (Some mid) (Some new) h still = ap (λ v. v.items) still.firsts ∙ h
+firsts-stay (Some old) (Some mid) (Some new) h still = λ number low high fits.
+    let next : memory.next_in new ≡ memory.next_in mid = ap (λ (o : Option Ring). unwrap_or (option_map (λ ring. next_of ring) o) 0) still.ring in
+    let oldest : memory.oldest_in new ≡ memory.oldest_in mid = ap (λ (o : Option Ring). unwrap_or (option_map (λ ring. oldest_of ring) o) 0) still.ring in
+    let len : vec_len new.firsts ≡ vec_len mid.firsts = ap (λ v. vec_len v) still.firsts in
+    ap (λ v. slice_index_or v.items (number % vec_len v) None) still.firsts ∙ h number (omega (arith, oldest, low)) (omega (arith, next, high)) (omega (arith, next, len, fits))
 
 -- a seal of the index, and then calls that leave its ring
 pub ring-stays : (old mid before new : Option BitmapIndex) → RingGoesOn old mid → before ≡ mid → AreSameRing before new → RingGoesOn old new

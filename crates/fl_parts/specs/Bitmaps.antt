@@ -154,20 +154,21 @@ pub record IsRoomMade (old new : BitmapIndex) : Type 0 where
   pub same : first_waiting new + waiting_in new ≡ first_waiting old + waiting_in old
   pub number : next_in new ≡ (if waiting_in old == per_page old then next_in old + 1 else next_in old)
   pub oldest : memory.oldest_in new ≡ (if waiting_in old == per_page old then memory.oldest_after old else memory.oldest_in old)
-  pub firsts : memory.firsts_in new ≡ (if waiting_in old == per_page old then memory.firsts_after old else memory.firsts_in old)
+  pub firsts : memory.FirstsGoOn old new
 
 abbrev pub RoomMade : Option BitmapIndex → Option BitmapIndex → Type 0
 RoomMade None new = new ≡ None
 RoomMade (Some old) None = ⊥
 RoomMade (Some old) (Some new) = IsRoomMade old new
 
--- the first data pages of its pages are remembered as after the seal of the waiting entries
+-- the first data pages of the index pages that it keeps are remembered as after the seal of the waiting entries
 abbrev pub FirstsGoOn : Option BitmapIndex → Option BitmapIndex → Type 0
 FirstsGoOn None new = Unit {0}
 FirstsGoOn (Some old) None = ⊥
-FirstsGoOn (Some old) (Some new) = memory.firsts_in new ≡ (if waiting_in old == per_page old then memory.firsts_after old else memory.firsts_in old)
+FirstsGoOn (Some old) (Some new) = memory.FirstsGoOn old new
 
--- its next page, the oldest one that it keeps and what is remembered of its pages are those after the seal of the waiting entries
+-- its next page, the oldest one that it keeps and what is remembered of the pages that it keeps are those after the seal of the waiting
+-- entries
 pub record RingGoesOn (old new : Option BitmapIndex) : Type 0 where
   pub next : next_of new ≡ next_after old
   pub oldest : oldest_of new ≡ oldest_after old

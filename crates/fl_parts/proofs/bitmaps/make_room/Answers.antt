@@ -14,7 +14,7 @@ use Rattle.fl_parts.proofs.bitmaps.make_room.Goals as goal
 -- room was made for one more
 room-made : (old new : BitmapIndex) (result : Result (Unit {0}) FlashFault) → OnOk result (memory.is_running new ≡ true) → OnOk result (waiting_in new < per_page new) → OnOk result (first_waiting new + waiting_in new ≡ first_waiting old + waiting_in old) →
     OnOk result (memory.next_in new ≡ cond (waiting_in old == per_page old) (memory.next_in old + 1) (memory.next_in old)) → OnOk result (memory.oldest_in new ≡ cond (waiting_in old == per_page old) (memory.oldest_after old) (memory.oldest_in old)) →
-    OnOk result (memory.firsts_in new ≡ cond (waiting_in old == per_page old) (memory.firsts_after old) (memory.firsts_in old)) → OnOk result (IsRoomMade old new)
+    OnOk result (memory.FirstsGoOn old new) → OnOk result (IsRoomMade old new)
 room-made old new (Ok u) running room same number oldest firsts = record { running = running; room = room; same = same; number = number; oldest = oldest; firsts = firsts }
 room-made old new (Err e) running room same number oldest firsts = tt
 

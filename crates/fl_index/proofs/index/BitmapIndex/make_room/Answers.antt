@@ -1,8 +1,8 @@
-use Rattle.std.proofs.Common.{◌≡◌, ◌<◌, Bool, OnOk, cond, refl, sym, subst, arith, eq-eqb}
+use Rattle.std.proofs.Common.{◌<◌, Bool, Some, cond, sym, ap, arith}
 use Rattle.std.proofs.lemmas.Bool.{ne_eqb}
 use Rattle.fl_ring.specs.Written.{done}
 use Rattle.fl_ring.proofs.Written.{writes-none, writes-fewer}
-use Rattle.fl_index.specs.Memory.{firsts_after, firsts_in, per_page, waiting_in, MaySeal}
+use Rattle.fl_index.specs.Memory.{first_in, first_waiting, next_in, MaySeal}
 use Rattle.fl_index.proofs.Rooms.{makes-nothing, makes-room}
 use Rattle.fl_index.proofs.index.BitmapIndex.make_room.Goals as goal
 
@@ -16,16 +16,13 @@ returns-clause-ends g c = λ first plan table rose device watched stands.
     (c.seal.ensures.ends first plan table rose device watched stands)
 
 pub returns-then-self-capacity-clause-firsts : goal.returns-then-self-capacity-clause-firsts
-returns-then-self-capacity-clause-firsts g c =
+returns-then-self-capacity-clause-firsts g c = λ number low high fits.
     let t = c.args.self.now in
-    let fewer : waiting_in t < per_page t = omega (arith, c.if-self-capacity.true, c.capacity.ensures) in
-    subst (λ (b : Bool). firsts_in t ≡ cond b (firsts_after t) (firsts_in t)) (sym (ne_eqb (waiting_in t) (per_page t) (λ e. omega (arith, e, fewer)))) refl
+    let before : number < next_in t = high in
+    sym (ap (λ (b : Bool). cond b (Some (first_waiting t)) (first_in t number)) (ne_eqb number (next_in t) (λ e. omega (arith, e, before))))
 
 pub returns-clause-firsts : goal.returns-clause-firsts
-returns-clause-firsts g c =
-    let t = c.args.self.now in
-    let full : waiting_in t ≡ per_page t = omega (arith, c.if-self-capacity.false, c.capacity.ensures, t.few) in
-    subst (λ (b : Bool). OnOk c.seal.result (firsts_in c.seal.new.self ≡ cond b (firsts_after t) (firsts_in t))) (sym (eq-eqb (waiting_in t) (per_page t) full)) c.seal.ensures.firsts
+returns-clause-firsts g c = c.seal.ensures.firsts
 
 pub returns-then-self-capacity-clause-writes : goal.returns-then-self-capacity-clause-writes
 returns-then-self-capacity-clause-writes g c = writes-none (MaySeal c.args.self.now) 1 (g.F.Flash.state c.args.flash.now)

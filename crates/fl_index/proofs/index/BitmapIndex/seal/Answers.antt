@@ -1,5 +1,5 @@
 use Rattle.fl_ring.specs.declared.ring.Ring.{Ring}
-use Rattle.std.proofs.Common.{◌≡◌, Option, None, ◌+◌, ◌*◌, ◌%◌, ℕ, ◌<◌, ◌≤◌, List, ◌++◌, Some, Result, Ok, Err, length, take, drop, set, unwrap_or, arith, refl, sym, ◌∙◌, ap, subst}
+use Rattle.std.proofs.Common.{◌≡◌, Option, None, ◌+◌, ◌*◌, ◌%◌, ℕ, ◌<◌, ◌≤◌, ◌==◌, cond, List, ◌++◌, Some, Result, Ok, Err, length, take, drop, get_or, set, unwrap_or, arith, refl, sym, ◌∙◌, ap, subst}
 use Rattle.std.specs.Prelude.{option_map}
 use Rattle.std.proofs.lemmas.Result.{err_from_is_err_and}
 use Rattle.fl_base.specs.Bytes.{splice}
@@ -14,6 +14,7 @@ use Rattle.fl_ring.specs.Sealing.{Performed, Seals}
 use Rattle.fl_index.specs.Page.{header_bytes}
 use Rattle.fl_index.proofs.WaitingEntries.{written-back, headed-length, rest-headed}
 use Rattle.fl_index.specs.Memory.{next_in, per_page, len_in}
+use Rattle.fl_index.proofs.HeaderPages.{remembered-behind}
 use Rattle.fl_index.proofs.State.{shape_in, HaveSize}
 use Rattle.fl_index.proofs.SealEnds.{planned-ring, lies-size, seal-ready, seal-breaks, seal-finishes}
 use Rattle.fl_index.proofs.SealAnswers.{sealing-of, some-room, number-of, seal-on}
@@ -135,12 +136,20 @@ invariant_of-self-2-clause-page g c =
     ap (λ (l : List ℕ). length l + 8) back ∙ (ap (λ n. n + 8) (headed-length c.next_number-number.result t.first t.waiting t.body.items (omega (arith, t.page, t.served.page_least))) ∙ t.page)
 
 pub returns-clause-firsts : goal.returns-clause-firsts
-returns-clause-firsts g c =
+returns-clause-firsts g c = λ number low high fits.
     let t = c.args.self.now in
     let has : t.ring ≡ Some c.in-Some.ring = sym c.take.ensures.value ∙ c.in-Some.is in
-    let number : c.next_number-number.result ≡ next_in t = c.next_number-number.ensures ∙ sym (ap (λ (o : Option Ring). unwrap_or (option_map (λ ring. next_of ring) o) 0) has) in
+    let begin : c.next_number-number.result ≡ next_in t = c.next_number-number.ensures ∙ sym (ap (λ (o : Option Ring). unwrap_or (option_map (λ ring. next_of ring) o) 0) has) in
     let len : c.len.result ≡ length t.firsts.items = c.len.ensures ∙ t.firsts.ok.0 in
-    ap (λ n. set t.firsts.items (n % c.len.result) (Some t.first)) number ∙ ap (λ n. set t.firsts.items (next_in t % n) (Some t.first)) len
+    let end : next_of c.seal.new.self ≡ next_in t + 1 = c.in_ok-seal.ensures.next ∙ sym (ap (λ (o : Option Ring). unwrap_or (option_map (λ ring. next_of ring) o) 0 + 1) has) in
+    let before : number < next_of c.seal.new.self = high in
+    let within : next_of c.seal.new.self ≤ number + t.firsts.len = fits in
+    let all : set t.firsts.items (c.next_number-number.result % c.len.result) (Some t.first) ≡ set t.firsts.items (next_in t % length t.firsts.items) (Some t.first) =
+    ap (λ n. set t.firsts.items (n % c.len.result) (Some t.first)) begin ∙ ap (λ n. set t.firsts.items (next_in t % n) (Some t.first)) len in
+    ap (λ (xs : List (Option ℕ)). get_or xs (number % t.firsts.len) None) all
+    ∙ (ap (λ n. get_or (set t.firsts.items (next_in t % length t.firsts.items) (Some t.first)) (number % n) None) t.firsts.ok.0
+    ∙ (remembered-behind t.firsts.items (next_in t) number (Some t.first) (omega (arith, before, end)) (omega (arith, within, end, t.firsts.ok.0))
+    ∙ ap (λ n. cond (number == next_in t) (Some t.first) (get_or t.firsts.items (number % n) None)) (sym t.firsts.ok.0)))
 
 pub returns-clause-oldest : goal.returns-clause-oldest
 returns-clause-oldest g c =
