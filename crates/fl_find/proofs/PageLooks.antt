@@ -1,5 +1,6 @@
 -- Looks at pages, one after another.
-use Rattle.std.proofs.Common.{◌≡◌, ℕ, IsTrue, Option, Some, None, List, refl, sym, ap, subst, ◌∙◌, arith, Result, Ok, Err}
+use Rattle.std.proofs.Common.{◌≡◌, ℕ, ◌<◌, ◌≤◌, IsTrue, Option, Some, None, List, refl, sym, ap, subst, ◌∙◌, arith, Result, Ok, Err}
+use Rattle.std.specs.Prelude.{IfErr}
 use Rattle.fl_flash.specs.Buffer.{BufferState}
 use Rattle.fl_flash.specs.Places.{page_of}
 use Rattle.fl_flash.specs.Flash.{FlashState, ReadsPage, page_at}
@@ -11,12 +12,12 @@ use Rattle.fl_frame.proofs.ContentsInTurn.{OnlyReads-read, OnlyReads-same, OnlyR
 use Rattle.fl_page.specs.declared.fault.BadPage.{BadPage}
 use Rattle.fl_page.specs.declared.fault.ReadFault.{ReadFault}
 use Rattle.fl_page.specs.declared.fault.ReadFault.TheVariants as fault
-use Rattle.fl_ring.specs.Place.{shape_of}
+use Rattle.fl_ring.specs.Place.{oldest_of, shape_of}
 use Rattle.fl_ring.specs.Ring.{place}
 use Rattle.fl_ring.specs.declared.ring.Ring.{Ring}
-use Rattle.fl_search.specs.Search.{RoseSome}
-use Rattle.fl_find.specs.Pages.{IsBadPage, IsFresh}
-use Rattle.fl_find.specs.Looking.{OnlyLooks, HasBadPage, LookFails, Since}
+use Rattle.fl_search.specs.Search.{FailsBelow, RoseSome}
+use Rattle.fl_find.specs.Pages.{IsBadPage, IsFresh, first_on}
+use Rattle.fl_find.specs.Looking.{BlamesBelow, BlamesThis, OnlyLooks, HasBadPage, LookFails, Since, Tells}
 
 pub looks-read : (old new : FlashState) (page size : ℕ) (result : Result (Unit {0}) FlashFault) (into : BufferState) → ReadsPage old page size result into new → OnlyLooks old new
 looks-read old new page size result into is = record { reads = OnlyReads-read old new page size result into is; power = is.power; cuts = is.cuts }
@@ -89,3 +90,34 @@ pub fails-later : (ring : Ring) (layout : RowLayout) (f : FlashState) (now : Rin
 fails-later ring layout f now layout_now a b e ring_is layout_is looks h =
     fails-looked layout ring f a b e looks
     (subst (λ (r : Ring). LookFails layout r a e b) ring_is (subst (λ (l : RowLayout). LookFails l now a e b) layout_is h))
+
+blames-later : (ring : Ring) (layout : RowLayout) (f : FlashState) (now : Ring) (layout_now : RowLayout) (a : FlashState) (number : ℕ) (e : ReadFault) → now ≡ ring → layout_now ≡ layout → OnlyLooks f a →
+    BlamesThis layout_now now a number e → BlamesThis layout ring f number e
+blames-later ring layout f now layout_now a number (fault.Flash x) ring_is layout_is looks h = tt
+blames-later ring layout f now layout_now a number (fault.BadPage bad) ring_is layout_is looks h = λ told.
+    subst (λ (page : ℕ → List ℕ). IsBadPage layout number (page (place (shape_of ring) number)) bad) (looks-pages f a looks)
+    (subst (λ (r : Ring). IsBadPage layout number (page_at a (place (shape_of r) number)) bad) ring_is
+    (subst (λ (l : RowLayout). IsBadPage l number (page_at a (place (shape_of now) number)) bad) layout_is
+    (h (subst (λ t. IsTrue t) (sym (looks-tell f a looks)) told))))
+
+-- .. and it is the page that was looked at that is blamed
+pub fails-on : {T : Type 0} (result : Result T ReadFault) (ring : Ring) (layout : RowLayout) (f : FlashState) (now : Ring) (layout_now : RowLayout) (a b : FlashState) (number : ℕ) → now ≡ ring → layout_now ≡ layout → OnlyLooks f a →
+    IfErr result (λ e. LookFails layout_now now a e b) → IfErr result (BlamesThis layout_now now a number) → IfErr result (λ e. LookFails layout ring f e b × BlamesThis layout ring f number e)
+fails-on (Ok x) ring layout f now layout_now a b number ring_is layout_is looks fails blames = tt
+fails-on (Err e) ring layout f now layout_now a b number ring_is layout_is looks fails blames =
+    (fails-later ring layout f now layout_now a b e ring_is layout_is looks fails, blames-later ring layout f now layout_now a number e ring_is layout_is looks blames)
+
+-- what a search downwards blames
+pub blames-below : (layout : RowLayout) (ring : Ring) (f g : FlashState) (oldest end_now end key : ℕ) (e : ReadFault) → oldest ≡ oldest_of ring → end_now ≡ end →
+    FailsBelow (λ told. Tells layout ring f told) (λ number. LookFails layout ring f e g × BlamesThis layout ring f number e) oldest end_now key → BlamesBelow layout ring f end key e
+blames-below layout ring f g oldest end_now end key (fault.Flash x) from to h = tt
+blames-below layout ring f g oldest end_now end key (fault.BadPage bad) from to h = λ told.
+    let least = h.within.0 in
+    let below = h.within.1 in
+    let page = h.fails in
+    record {
+      number = h.number;
+      within = (omega (arith, from, least), omega (arith, to, below));
+      is_bad = page.1 told;
+      later = λ n after before. h.later (first_on layout (shape_of ring) f) (record { told = told; each = λ m kept sound. refl }) n after (omega (arith, to, before));
+    }

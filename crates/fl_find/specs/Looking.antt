@@ -1,5 +1,5 @@
 -- Calls that look at pages of a ring, and why they fail.
-use Rattle.std.specs.Prelude.{◌≡◌, ℕ, ◌≤◌, ◌<◌, Option, List, IsTrue}
+use Rattle.std.specs.Prelude.{◌≡◌, ℕ, ◌≤◌, ◌<◌, false, Option, List, IsTrue}
 use Rattle.fl_flash.specs.Buffer.{BufferState}
 use Rattle.fl_flash.specs.Flash.{FlashState}
 use Rattle.fl_flash.specs.declared.flash.FlashFault.TheVariants.{PowerLost, Media}
@@ -11,7 +11,7 @@ use Rattle.fl_page.specs.declared.fault.ReadFault.TheVariants as fault
 use Rattle.fl_frame.specs.Causes.{ReadFails}
 use Rattle.fl_ring.specs.Place.{shape_of, next_of, oldest_of}
 use Rattle.fl_ring.specs.declared.ring.Ring.{Ring}
-use Rattle.fl_search.specs.Search.{RoseSome}
+use Rattle.fl_search.specs.Search.{RoseSome, starts_by}
 use Rattle.fl_find.specs.Pages.{bytes_at, first_on, IsBadPage, IsFresh}
 
 -- pages were read, and the power is as it was
@@ -37,6 +37,23 @@ abbrev pub LookFails : RowLayout → Ring → FlashState → ReadFault → Flash
 LookFails layout ring old (fault.Flash PowerLost) new = ReadFails old PowerLost new × (oldest_of ring < next_of ring)
 LookFails layout ring old (fault.Flash Media) new = ReadFails old Media new × RoseSome old.work.reads new.work.reads
 LookFails layout ring old (fault.BadPage bad) new = (IsTrue old.media.tells → HasBadPage layout ring old bad) × RoseSome old.work.reads new.work.reads
+
+-- the page that was looked at is the one that is blamed
+abbrev pub BlamesThis : RowLayout → Ring → FlashState → ℕ → ReadFault → Type 0
+BlamesThis layout ring f number (fault.Flash e) = Unit {0}
+BlamesThis layout ring f number (fault.BadPage bad) = IsTrue f.media.tells → IsBadPage layout number (bytes_at (shape_of ring) f number) bad
+
+-- a kept page before an end is bad, behind which none begins with at most a key
+pub record IsBadBelow (layout : RowLayout) (ring : Ring) (f : FlashState) (end key : ℕ) (bad : BadPage) : Type 0 where
+  pub number : ℕ
+  pub within : (oldest_of ring ≤ number) × (number < end)
+  pub is_bad : IsBadPage layout number (bytes_at (shape_of ring) f number) bad
+  pub later : (n : ℕ) → number < n → n < end → starts_by (first_on layout (shape_of ring) f) key n ≡ false
+
+-- a look downwards from an end blames such a page
+abbrev pub BlamesBelow : RowLayout → Ring → FlashState → ℕ → ℕ → ReadFault → Type 0
+BlamesBelow layout ring f end key (fault.Flash e) = Unit {0}
+BlamesBelow layout ring f end key (fault.BadPage bad) = IsTrue f.media.tells → IsBadBelow layout ring f end key bad
 
 -- a page that isn't bad
 abbrev pub IsSound : RowLayout → ℕ → List ℕ → Type 0

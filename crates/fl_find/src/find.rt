@@ -9,7 +9,7 @@ ghost use Rattle.fl_ring.specs.Place.{shape_of, oldest_of, next_of, LiesOn};
 ghost use Rattle.fl_schema.specs.Schema.{layout_of};
 ghost use Rattle.fl_search.specs.Search.{Ascends, IsPageOf};
 ghost use Rattle.fl_find.specs.Pages.{rows_on, first_on, Holds, IsFresh};
-ghost use Rattle.fl_find.specs.Looking.{OnlyLooks, LookFails, NoneIsBad};
+ghost use Rattle.fl_find.specs.Looking.{BlamesBelow, OnlyLooks, LookFails, NoneIsBad};
 ghost use Rattle.fl_find.specs.Standing.{HoldsPages, HasPoints};
 ghost use Rattle.fl_find.specs.Index.{knots_in, shift_in, IndexOf, window_end};
 ghost use Rattle.fl_find.specs.Rows.{HasKey, IsOn, LooksUp};
@@ -60,6 +60,7 @@ impl<const KNOTS: usize, const SLOTS: usize> KeyIndex<KNOTS, SLOTS> {
         ensures row { IfOk result (λ row. IfSome row (λ at. HasKey (rows_on (layout_of schema.now) buf.new.bytes) key at.row)) }
         ensures fresh { IsFresh (F.state flash.old) buf.old → IsFresh (F.state flash.new) buf.new }
         ensures fails { IfErr result (λ e. LookFails (layout_of schema.now) ring.now (F.state flash.old) e (F.state flash.new)) }
+        ensures blames { is_covered (knots_in self.now) key ≡ true → IfErr result (BlamesBelow (layout_of schema.now) ring.now (F.state flash.old) (window_end self.now (next_of ring.now) key) key) }
         ensures later { min steps.old (2 ^ 64 - 1) ≤ steps.new }
         ensures comparisons { steps.new ≤ steps.old + bits (knots_in_slot (knots_in self.now) (shift_in self.now) key) + 2 }
     {

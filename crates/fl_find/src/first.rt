@@ -9,7 +9,7 @@ ghost use Rattle.fl_ring.specs.Place.{shape_of, LiesOn};
 ghost use Rattle.fl_schema.specs.Schema.{layout_of};
 ghost use Rattle.fl_search.specs.Search.{RoseBy};
 ghost use Rattle.fl_find.specs.Pages.{rows_on, first_key, first_on, bytes_at, Holds, IsBadPage, IsFresh};
-ghost use Rattle.fl_find.specs.Looking.{OnlyLooks, LookFails, IsKept, IsSound};
+ghost use Rattle.fl_find.specs.Looking.{BlamesThis, OnlyLooks, LookFails, IsKept, IsSound};
 
 use fl_flash::{Flash, PageBuf};
 use fl_mark::{PageState, state_of};
@@ -53,6 +53,7 @@ pub(crate) fn read_first<F: Flash>(
     ensures holds { IfOk result (λ key. IfSome key (λ first. Holds (layout_of schema.now) (shape_of ring.now) (F.state flash.new) number buf.new)) }
     ensures fresh { IsFresh (F.state flash.new) buf.new }
     ensures fails { IsKept ring.now number → IfErr result (λ e. LookFails (layout_of schema.now) ring.now (F.state flash.old) e (F.state flash.new)) }
+    ensures blames { IfErr result (BlamesThis (layout_of schema.now) ring.now (F.state flash.old) number) }
     ensures one { OnOk result (RoseBy 1 (F.state flash.old).work.reads (F.state flash.new).work.reads) }
     ensures most { (F.state flash.new).work.reads ≤ (F.state flash.old).work.reads + 1 }
 {

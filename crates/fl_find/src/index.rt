@@ -37,7 +37,7 @@ impl<const KNOTS: usize, const SLOTS: usize> KeyIndex<KNOTS, SLOTS> {
     ghost use Rattle.fl_spline.specs.Points.{IsFurther, last_of};
     ghost use Rattle.fl_spline.specs.Segment.{IsSegment};
     ghost use Rattle.fl_find.specs.Pages.{first_on, Holds, IsFresh};
-    ghost use Rattle.fl_find.specs.Looking.{OnlyLooks, LookFails, NoneIsBad};
+    ghost use Rattle.fl_find.specs.Looking.{BlamesBelow, OnlyLooks, LookFails, NoneIsBad};
     ghost use Rattle.fl_find.specs.Standing.{HoldsPages, HasPoints};
     ghost use Rattle.fl_find.specs.Finding.{FindsPage, pages_end};
     ghost use Rattle.fl_find.specs.Index.{error_in, knots_in, shift_in, is_further, IndexOf, window_end, most_reads};
@@ -202,6 +202,7 @@ impl<const KNOTS: usize, const SLOTS: usize> KeyIndex<KNOTS, SLOTS> {
         ensures within { IfOk result (λ page. IfSome page (λ number. (oldest_of ring.now ≤ number) × (number < next_of ring.now))) }
         ensures fresh { IsFresh (F.state flash.old) buf.old → IsFresh (F.state flash.new) buf.new }
         ensures fails { IfErr result (λ e. LookFails (layout_of schema.now) ring.now (F.state flash.old) e (F.state flash.new)) }
+        ensures blames { is_covered (knots_in self.now) key ≡ true → IfErr result (BlamesBelow (layout_of schema.now) ring.now (F.state flash.old) (window_end self.now (next_of ring.now) key) key) }
         ensures found { (plan : Plan) (table : model.Table) → HoldsPages (layout_of schema.now) ring.now (F.state flash.old) plan table → HasPoints table → IndexOf plan.error table.points self.now →
             FindsPage KNOTS plan table key (F.state flash.old).work.reads (F.state flash.new).work.reads result }
         ensures reads { (plan : Plan) (table : model.Table) → HoldsPages (layout_of schema.now) ring.now (F.state flash.old) plan table → HasPoints table → IndexOf plan.error table.points self.now →

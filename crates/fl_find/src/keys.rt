@@ -28,7 +28,7 @@ impl<'r, 's, 'f, 'b, F: Flash> FirstKeys for PageKeys<'r, 's, 'f, 'b, F> {
     ghost use Rattle.fl_ring.specs.Place.{shape_of};
     ghost use Rattle.fl_schema.specs.Schema.{layout_of};
     ghost use Rattle.fl_find.specs.Pages.{first_on, Holds};
-    ghost use Rattle.fl_find.specs.Looking.{OnlyLooks, LookFails, IsKept, Tells, Since};
+    ghost use Rattle.fl_find.specs.Looking.{BlamesThis, OnlyLooks, LookFails, IsKept, Tells, Since};
 
     ghost names = { λ k. k.flash.ghost_name ∷ k.buf.ghost_name ∷ [] };
 
@@ -42,7 +42,7 @@ impl<'r, 's, 'f, 'b, F: Flash> FirstKeys for PageKeys<'r, 's, 'f, 'b, F> {
 
     ghost since = { λ a b. Since a.ring.now (layout_of a.schema.now) (F.state a.flash.now) a.buf.now b.ring.now (layout_of b.schema.now) (F.state b.flash.now) b.buf.now };
 
-    ghost fails = { λ a fault b. LookFails (layout_of a.schema.now) a.ring.now (F.state a.flash.now) fault (F.state b.flash.now) };
+    ghost fails = { λ a n fault b. LookFails (layout_of a.schema.now) a.ring.now (F.state a.flash.now) fault (F.state b.flash.now) × BlamesThis (layout_of a.schema.now) a.ring.now (F.state a.flash.now) n fault };
 
     ghost here = { λ k n. Holds (layout_of k.schema.now) (shape_of k.ring.now) (F.state k.flash.now) n k.buf.now };
 

@@ -5,7 +5,7 @@ ghost use Rattle.fl_ring.specs.Place.{shape_of, oldest_of, next_of, LiesOn};
 ghost use Rattle.fl_schema.specs.Schema.{layout_of};
 ghost use Rattle.fl_search.specs.Search.{IsPageOf, Ascends, RoseBy, RoseSome, looked_at, starts_by, voids_in};
 ghost use Rattle.fl_find.specs.Pages.{first_on, Holds, IsFresh};
-ghost use Rattle.fl_find.specs.Looking.{OnlyLooks, LookFails, NoneIsBad};
+ghost use Rattle.fl_find.specs.Looking.{BlamesBelow, OnlyLooks, LookFails, NoneIsBad};
 
 use crate::first::read_first;
 use crate::keys::PageKeys;
@@ -47,6 +47,7 @@ pub(crate) fn page_downwards<F: Flash>(
     ensures within { IfOk result (λ page. IfSome page (λ number. (oldest_of ring.now ≤ number) × (number < end))) }
     ensures fresh { IsFresh (F.state flash.old) buf.old → IsFresh (F.state flash.new) buf.new }
     ensures fails { IfErr result (λ e. LookFails (layout_of schema.now) ring.now (F.state flash.old) e (F.state flash.new)) }
+    ensures blames { IfErr result (BlamesBelow (layout_of schema.now) ring.now (F.state flash.old) end key) }
 {
     let oldest = ring.oldest();
     if end <= oldest {

@@ -3,7 +3,7 @@ use Rattle.std.proofs.Common.{ℕ, zero, suc, ◌≡◌, ◌<◌, ◌≤◌, ◌
 use Rattle.std.specs.Prelude.{IfSome}
 use Rattle.std.proofs.lemmas.Bool.{cases_lt, le-leb, lt-leb}
 use Rattle.fl_base.specs.Bits.{bits}
-use Rattle.fl_search.specs.Search.{RoseSome, starts_by, IsPageOf, looked_at, Ascends, voids_from, voids_in, IsLastAt}
+use Rattle.fl_search.specs.Search.{FailsAmong, FailsBelow, RoseSome, starts_by, IsPageOf, looked_at, Ascends, voids_from, voids_in, IsLastAt}
 use Rattle.fl_base.proofs.BitsGrow.{bits-le, bits-half, has-digit}
 
 -- no page of a range starts by the key; all pages of a range are void
@@ -21,6 +21,18 @@ starts-low first key n x e le = rw e (le-leb _ _ le)
 
 pub starts-high : (first : ℕ → Option ℕ) (key n x : ℕ) → first n ≡ Some x → key < x → starts_by first key n ≡ false
 starts-high first key n x e lt = rw e (lt-leb _ _ lt)
+
+-- a call failed for a page, and no page behind it starts by the key
+pub failed-below : (Tells : (ℕ → Option ℕ) → Type 0) (Fails : ℕ → Type 0) (oldest end key number : ℕ) → Fails number → oldest ≤ number → number < end → ((first : ℕ → Option ℕ) → Tells first → NoneStarts first key (number + 1) end) → FailsBelow Tells Fails oldest end key
+failed-below Tells Fails oldest end key number fails from before none = record {
+  number = number;
+  within = (from, before);
+  fails = fails;
+  later = λ first tells n after within. none first tells n (omega (arith, after)) within;
+}
+
+pub failed-among : (Fails : ℕ → Type 0) (oldest end number : ℕ) → Fails number → oldest ≤ number → number < end → FailsAmong Fails oldest end
+failed-among Fails oldest end number fails from before = record { number = number; within = (from, before); fails = fails }
 
 -- one more page below
 pub none-more : (first : ℕ → Option ℕ) (key number to : ℕ) → NoneStarts first key (number + 1) to → starts_by first key number ≡ false → NoneStarts first key number to

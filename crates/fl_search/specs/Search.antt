@@ -56,3 +56,16 @@ IsLastFull first oldest end (Some last) = IsLastAt first oldest end last.0 last.
 abbrev pub probed : ℕ → ℕ → Option (ℕ × ℕ) → ℕ
 probed oldest end None = end - oldest
 probed oldest end (Some last) = end - last.0
+
+-- a call for one of the pages from one to before another failed
+pub record FailsAmong (Fails : ℕ → Type 0) (oldest end : ℕ) : Type 0 where
+  pub number : ℕ
+  pub within : (oldest ≤ number) × (number < end)
+  pub fails : Fails number
+
+-- .. and, as each of these functions tells, no page behind it begins with at most the key
+pub record FailsBelow (Tells : (ℕ → Option ℕ) → Type 0) (Fails : ℕ → Type 0) (oldest end key : ℕ) : Type 0 where
+  pub number : ℕ
+  pub within : (oldest ≤ number) × (number < end)
+  pub fails : Fails number
+  pub later : (first : ℕ → Option ℕ) → Tells first → (n : ℕ) → number < n → n < end → starts_by first key n ≡ false

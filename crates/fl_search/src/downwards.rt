@@ -1,7 +1,7 @@
 // A search downwards.
 ghost use Rattle.std.specs.Prelude.{◌≡◌, ◌+◌, ◌-◌, ◌≤◌, ◌<◌, ℕ, Option, IfSome, IfOk, IfErr};
 ghost use Rattle.fl_base.specs.Causes.{HasCause};
-ghost use Rattle.fl_search.specs.Search.{IsPageOf, looked_at, RoseBy};
+ghost use Rattle.fl_search.specs.Search.{FailsBelow, IsPageOf, looked_at, RoseBy};
 
 use crate::keys::FirstKeys;
 use fl_page::ReadFault;
@@ -26,7 +26,7 @@ pub fn near<K: FirstKeys>(
     ensures has { (n : ℕ) → K.has keys.old n → K.has keys.new n }
     ensures names { K.names keys.new ≡ K.names keys.old }
     ensures since { (first : K) → K.since first keys.old → K.since first keys.new }
-    ensures fails { (first : K) → K.since first keys.old → IfErr result (λ fault. K.fails first fault keys.new) }
+    ensures fails { (first : K) → K.since first keys.old → IfErr result (λ fault. FailsBelow (λ told. K.tells keys.old told) (λ number. K.fails first number fault keys.new) oldest (top + 1) key) }
     ensures here { IfOk result (λ page. IfSome page (λ number. K.here keys.new number)) }
     ensures within { IfOk result (λ page. IfSome page (λ number. (oldest ≤ number) × (number ≤ top))) }
 {

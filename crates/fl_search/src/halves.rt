@@ -2,7 +2,7 @@
 ghost use Rattle.std.specs.Prelude.{◌≡◌, ◌+◌, ◌-◌, ◌^◌, ◌≤◌, ◌<◌, ℕ, Option, IfSome, IfOk, IfErr, OnErr, MatchResult, true};
 ghost use Rattle.fl_base.specs.Causes.{HasCause};
 ghost use Rattle.fl_base.specs.Bits.{bits};
-ghost use Rattle.fl_search.specs.Search.{IsPageOf, IsLastFull, Ascends, RoseSome, starts_by, voids_in, probed};
+ghost use Rattle.fl_search.specs.Search.{FailsAmong, IsPageOf, IsLastFull, Ascends, RoseSome, starts_by, voids_in, probed};
 
 use crate::keys::FirstKeys;
 use fl_page::ReadFault;
@@ -25,7 +25,7 @@ fn last_full<K: FirstKeys>(
     ensures grows { IfOk result (λ last. K.calls keys.new < 2 ^ 64 - 1 → K.calls keys.old ≤ K.calls keys.new) }
     ensures names { K.names keys.new ≡ K.names keys.old }
     ensures since { (first : K) → K.since first keys.old → K.since first keys.new }
-    ensures fails { (first : K) → K.since first keys.old → IfErr result (λ fault. K.fails first fault keys.new) }
+    ensures fails { (first : K) → K.since first keys.old → IfErr result (λ fault. FailsAmong (λ number. K.fails first number fault keys.new) oldest end) }
 {
     let mut number = end;
     while number > oldest {
@@ -60,7 +60,7 @@ pub fn bisect<K: FirstKeys>(
     ensures starts { (first : ℕ → Option ℕ) → K.tells keys.old first → IfOk result (λ page. IfSome page (λ number. starts_by first key number ≡ true)) }
     ensures names { K.names keys.new ≡ K.names keys.old }
     ensures since { (first : K) → K.since first keys.old → K.since first keys.new }
-    ensures fails { (first : K) → K.since first keys.old → IfErr result (λ fault. K.fails first fault keys.new) }
+    ensures fails { (first : K) → K.since first keys.old → IfErr result (λ fault. FailsAmong (λ number. K.fails first number fault keys.new) oldest end) }
 {
     let mut found = None;
     let mut low = oldest;

@@ -27,8 +27,8 @@ pub trait FirstKeys {
     /// That it came from another by calls alone.
     ghost since: { Self → Self → Type 0 };
 
-    /// Why a call may fail, seen from one of those that it came from.
-    ghost fails: { Self → ReadFault → Self → Type 0 };
+    /// Why a call for a page may fail, seen from one of those that it came from.
+    ghost fails: { Self → ℕ → ReadFault → Self → Type 0 };
 
     /// The page that was asked for last, where it isn't void.
     ghost here: { Self → ℕ → Type 0 };
@@ -44,6 +44,6 @@ pub trait FirstKeys {
         ensures cause { HasCause (faults self.old) (faults self.new) result }
         ensures names { names self.new ≡ names self.old }
         ensures since { (first : Self) → since first self.old → since first self.new }
-        ensures fails { (first : Self) → since first self.old → IfErr result (λ fault. fails first fault self.new) }
+        ensures fails { (first : Self) → since first self.old → IfErr result (λ fault. fails first number fault self.new) }
         ensures here { IfOk result (λ key. IfSome key (λ first. Self.here self.new number)) };
 }

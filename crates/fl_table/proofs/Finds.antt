@@ -3,7 +3,7 @@ use Rattle.std.proofs.Common.{◌≡◌, ℕ, ◌+◌, ◌*◌, ◌<◌, ◌≤�
 use Rattle.std.specs.Prelude.{IfOk, IfSome, MatchOption, OnOk, if◌then◌else◌, unwrap_or}
 use Rattle.std.specs.List.{slice_get}
 use Rattle.fl_find.specs.Index.{error_in, knots_in, most_reads, window_end}
-use Rattle.fl_find.specs.Looking.{LookFails}
+use Rattle.fl_find.specs.Looking.{BlamesBelow, IsBadBelow, LookFails}
 use Rattle.fl_find.specs.Looking as find
 use Rattle.fl_find.specs.Pages.{first_key, first_on, rows_on, rows_where, Holds, IsBadPage, bytes_at}
 use Rattle.fl_find.specs.Rows.{RowsRise, HasKey, IsOn, LacksKey, LooksUp}
@@ -35,7 +35,7 @@ use Rattle.fl_ring.specs.Ring.{Shape, place}
 use Rattle.fl_ring.specs.declared.ring.Ring.{Ring}
 use Rattle.fl_schema.specs.Schema.{layout_of}
 use Rattle.fl_search.specs.Search.{Ascends, IsPageOf, starts_by}
-use Rattle.fl_table.specs.Finding.{AnswersInPages, AnswersPending, EndsOn, Finds, HasKeyAt, IsRowAt, HoldsIts, HoldsKept, HasBadPage, IsPageFor, LookupFails, first_at, rows_at as rows_of_page, window_in}
+use Rattle.fl_table.specs.Finding.{AnswersInPages, AnswersPending, BlamesFor, EndsOn, Finds, HasKeyAt, IsRowAt, HoldsIts, HoldsKept, HasBadPage, IsBadFor, IsPageFor, LookupFails, first_at, rows_at as rows_of_page, window_in}
 use Rattle.fl_table.specs.Look.{buffered_rows, layout_in, oldest_in}
 use Rattle.fl_table.specs.Memory.{next_in, IsPlanned, LiesOn}
 use Rattle.fl_table.specs.Standing.{Stands}
@@ -258,6 +258,20 @@ lookup-fails t ring old (fault.BadPage bad) new is h = (λ told. of (h.0 told), 
       number = page.number;
       kept = (omega (arith, oldest-in t ring is, page.kept.from), omega (arith, next-in t ring is, page.kept.before));
       is_bad = subst (λ p. IsBadPage (layout_of t.schema) page.number (page_at old p) bad) (sym (ring-place t ring page.number is)) page.is_bad;
+    }
+
+-- of a covered key the page that is blamed is one that was looked at
+pub lookup-blames : {KNOTS SLOTS : ℕ} (t : Table KNOTS SLOTS) (ring : Ring) (f : FlashState) (key : ℕ) (e : ReadFault) → t.ring ≡ Some ring → BlamesBelow (layout_of t.schema) ring f (window_end t.index (next_of ring) key) key e → BlamesFor t f key e
+lookup-blames t ring f key (fault.Flash e) is h = tt
+lookup-blames t ring f key (fault.BadPage bad) is h = λ told. of (h told)
+  where
+    of : IsBadBelow (layout_of t.schema) ring f (window_end t.index (next_of ring) key) key bad → IsBadFor t f key bad
+    of page = record {
+      number = page.number;
+      within = let least = page.within.0 in let below = page.within.1 in (omega (arith, oldest-in t ring is, least), omega (arith, window-is t ring f key is, below));
+      is_bad = subst (λ p. IsBadPage (layout_of t.schema) page.number (page_at f p) bad) (sym (ring-place t ring page.number is)) page.is_bad;
+      later = λ n after before.
+          subst (λ (first : ℕ → Option ℕ). starts_by first key n ≡ false) (sym (firsts-in t ring f key is)) (page.later n after (omega (arith, window-is t ring f key is, before)));
     }
 
 -- ---- the row at a place

@@ -192,6 +192,18 @@ pub record HasBadPage {KNOTS SLOTS : ℕ} (t : Table KNOTS SLOTS) (f : FlashStat
   pub kept : (oldest_in t ≤ number) × (number < next_in t)
   pub is_bad : IsBadPage (layout_in t) number (page_at f (place_of t number)) bad
 
+-- Of a covered key it is before the end of the pages that are looked at, and none of these behind it begins with at most the key.
+pub record IsBadFor {KNOTS SLOTS : ℕ} (t : Table KNOTS SLOTS) (f : FlashState) (key : ℕ) (bad : BadPage) : Type 0 where
+  pub number : ℕ
+  pub within : (oldest_in t ≤ number) × (number < window_in t key)
+  pub is_bad : IsBadPage (layout_in t) number (page_at f (place_of t number)) bad
+  pub later : (n : ℕ) → number < n → n < window_in t key → starts_by (first_at t f) key n ≡ false
+
+-- such a page is blamed, where the flash tells its bytes
+abbrev pub BlamesFor : {KNOTS SLOTS : ℕ} → Table KNOTS SLOTS → FlashState → ℕ → ReadFault → Type 0
+BlamesFor t f key (fault.Flash e) = Unit {0}
+BlamesFor t f key (fault.BadPage bad) = IsTrue f.media.tells → IsBadFor t f key bad
+
 -- why a lookup fails: the power was off and there are pages; or in a read the medium failed; or a kept page that was
 -- read is bad, which is told where the flash tells its bytes
 abbrev pub LookupFails : {KNOTS SLOTS : ℕ} → Table KNOTS SLOTS → FlashState → ReadFault → FlashState → Type 0

@@ -26,7 +26,7 @@ impl<const KNOTS: usize, const SLOTS: usize> Table<KNOTS, SLOTS> {
     ghost use Rattle.fl_base.specs.Bits.{bits};
     ghost use Rattle.fl_model.specs.Spline.{is_pending_key, lookup_limit, page_at};
     ghost use Rattle.fl_model.specs.Table as model;
-    ghost use Rattle.fl_table.specs.Finding.{Finds, FindsPending, HasKeyAt, IsAnswered, IsRowAt, HoldsIts, HoldsKept, LookupFails, IsInSlot, IsPageFor, end_in, is_pending_in, knots_near, limit_in, row_in, row_of_place};
+    ghost use Rattle.fl_table.specs.Finding.{BlamesFor, Finds, FindsPending, HasKeyAt, IsAnswered, IsRowAt, HoldsIts, HoldsKept, LookupFails, IsInSlot, IsPageFor, end_in, is_covered_in, is_pending_in, knots_near, limit_in, row_in, row_of_place};
     ghost use Rattle.fl_schema.specs.Schema.{layout_of_row, row_of};
     ghost use Rattle.fl_table.specs.Look.{layout_in, oldest_in};
     ghost use Rattle.fl_table.specs.Memory.{is_running, next_in, LiesOn};
@@ -75,6 +75,7 @@ impl<const KNOTS: usize, const SLOTS: usize> Table<KNOTS, SLOTS> {
         ensures holds { IfOk result (λ found. IfSome found (HoldsIts self.now (F.state flash.new) buf.new)) }
         ensures fresh { IsFresh (F.state flash.old) buf.old → IsFresh (F.state flash.new) buf.new }
         ensures fails { IfErr result (λ e. LookupFails self.now (F.state flash.old) e (F.state flash.new)) }
+        ensures blames { is_covered_in self.now key ≡ true → IfErr result (BlamesFor self.now (F.state flash.old) key) }
         ensures later { min steps.old (2 ^ 64 - 1) ≤ steps.new }
         ensures comparisons { steps.new ≤ steps.old + bits (knots_near self.now key) + 2 }
         ensures slot { (first : ℕ) → (plan : Plan) → (table : model.Table) → (count : ℕ) → Stands self.now (F.state flash.old) first plan table → IsInSlot KNOTS SLOTS plan table key count →
@@ -133,6 +134,7 @@ impl<const KNOTS: usize, const SLOTS: usize> Table<KNOTS, SLOTS> {
         ensures holds { IfOk result (λ page. IfSome page (λ number. HoldsKept self.now (F.state flash.new) number buf.new)) }
         ensures fresh { IsFresh (F.state flash.old) buf.old → IsFresh (F.state flash.new) buf.new }
         ensures fails { IfErr result (λ e. LookupFails self.now (F.state flash.old) e (F.state flash.new)) }
+        ensures blames { is_covered_in self.now key ≡ true → IfErr result (BlamesFor self.now (F.state flash.old) key) }
         ensures later { min steps.old (2 ^ 64 - 1) ≤ steps.new }
         ensures comparisons { steps.new ≤ steps.old + bits (knots_near self.now key) + 2 }
         ensures slot { (first : ℕ) → (plan : Plan) → (table : model.Table) → (count : ℕ) → Stands self.now (F.state flash.old) first plan table → IsInSlot KNOTS SLOTS plan table key count →

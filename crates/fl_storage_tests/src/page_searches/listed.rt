@@ -43,7 +43,7 @@ impl FirstKeys for Listed {
 
     ghost since = { λ first s. Unit {0} };
 
-    ghost fails = { λ first fault s. Unit {0} };
+    ghost fails = { λ first number fault s. Unit {0} };
 
     ghost here = { λ s n. Unit {0} };
 

@@ -42,7 +42,7 @@ pub returns-clause-fails : goal.returns-clause-fails
 returns-clause-fails g c =
     let fails = c.bisect.ensures.fails (record { ring = c.args.ring; schema = c.args.schema; flash = c.args.flash; buf = c.args.buf; faults = 0; lies = c.requires.lies; room = c.requires.room }) (since-same _ _ _ _) in
     let same : g.F.Flash.state c.flash-1.given.0 ≡ g.F.Flash.state c.bisect.new.keys.flash.now = search rules in
-    IfErr-weaker c.bisect.result _ _ (λ e h. subst (λ (f : FlashState). LookFails (layout_of c.args.schema.now) c.args.ring.now (g.F.Flash.state c.args.flash.now) e f) (sym same) h) fails
+    IfErr-weaker c.bisect.result _ _ (λ e h. let failed = h.fails in subst (λ (f : FlashState). LookFails (layout_of c.args.schema.now) c.args.ring.now (g.F.Flash.state c.args.flash.now) e f) (sym same) failed.0) fails
 
 pub returns-clause-starts : goal.returns-clause-starts
 returns-clause-starts g c = λ told.

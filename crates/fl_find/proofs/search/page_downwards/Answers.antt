@@ -6,7 +6,7 @@ use Rattle.fl_ring.specs.Place.{shape_of, oldest_of}
 use Rattle.fl_schema.specs.Schema.{layout_of}
 use Rattle.fl_find.specs.Pages.{first_on, IsFresh}
 use Rattle.fl_find.specs.Looking.{OnlyLooks, LookFails}
-use Rattle.fl_find.proofs.PageLooks.{since-same}
+use Rattle.fl_find.proofs.PageLooks.{blames-below, since-same}
 use Rattle.fl_find.proofs.Moves.{lies-looked, room-looked, holds-moved, if-some, page-moved}
 use Rattle.fl_find.proofs.Sound.{none-bad, none-searched}
 use Rattle.fl_find.proofs.search.page_downwards.Goals as goal
@@ -52,7 +52,14 @@ pub returns-clause-fails : goal.returns-clause-fails
 returns-clause-fails g c =
     let fails = c.near.ensures.fails (record { ring = c.args.ring; schema = c.args.schema; flash = c.args.flash; buf = c.args.buf; faults = 0; lies = c.requires.lies; room = c.requires.room }) (since-same _ _ _ _) in
     let same : g.F.Flash.state c.flash-1.given.0 ≡ g.F.Flash.state c.near.new.keys.flash.now = search rules in
-    IfErr-weaker c.near.result _ _ (λ e h. subst (λ (f : FlashState). LookFails (layout_of c.args.schema.now) c.args.ring.now (g.F.Flash.state c.args.flash.now) e f) (sym same) h) fails
+    IfErr-weaker c.near.result _ _ (λ e h. let failed = h.fails in subst (λ (f : FlashState). LookFails (layout_of c.args.schema.now) c.args.ring.now (g.F.Flash.state c.args.flash.now) e f) (sym same) failed.0) fails
+
+pub returns-clause-blames : goal.returns-clause-blames
+returns-clause-blames g c =
+    let some = c.if-end-oldest.false in
+    let fails = c.near.ensures.fails (record { ring = c.args.ring; schema = c.args.schema; flash = c.args.flash; buf = c.args.buf; faults = 0; lies = c.requires.lies; room = c.requires.room }) (since-same _ _ _ _) in
+    IfErr-weaker c.near.result _ _
+    (λ e h. blames-below (layout_of c.args.schema.now) c.args.ring.now (g.F.Flash.state c.args.flash.now) (g.F.Flash.state c.near.new.keys.flash.now) c.oldest-oldest.result (c.args.end - 1 + 1) c.args.end c.args.key e c.oldest-oldest.ensures (omega (arith, some)) h) fails
 
 pub returns-clause-fresh : goal.returns-clause-fresh
 returns-clause-fresh g c = λ fresh.

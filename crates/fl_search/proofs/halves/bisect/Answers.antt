@@ -1,5 +1,6 @@
 use Rattle.std.proofs.Common.{arith, ◌∙◌, ◌+◌, ◌-◌, ◌/◌, ◌≤◌}
-use Rattle.fl_search.proofs.Pages.{step-none, step-low, step-high, step-fault, found-none, found-some, none-from, grows-then, rose-after, some-later, found-starts}
+use Rattle.std.proofs.lemmas.Result.{err_from_is_err_and}
+use Rattle.fl_search.proofs.Pages.{failed-among, step-none, step-low, step-high, step-fault, found-none, found-some, none-from, grows-then, rose-after, some-later, found-starts}
 use Rattle.fl_search.proofs.halves.bisect.Goals as goal
 
 pub returns-in_err-last_full-clause-few : goal.returns-in_err-last_full-clause-few
@@ -8,6 +9,15 @@ returns-in_err-last_full-clause-few g c = λ first told.
     let high = c.loop-low.high in
     let fault = step-fault first low (low + (high - low) / 2 + 1) high (omega arith) (omega arith) (omega arith) (omega arith) in
     omega (arith, fault, c.loop-low.invariant.few first told, c.in_err-last_full.ensures.few first (c.loop-low.invariant.tells first told))
+
+pub returns-in_err-last_full-clause-fails : goal.returns-in_err-last_full-clause-fails
+returns-in_err-last_full-clause-fails g c = λ first from.
+    let inv = c.loop-low.invariant in
+    let failed = c.in_err-last_full.ensures.fails first (inv.since first from) in
+    let least = failed.within.0 in
+    let below = failed.within.1 in
+    let p = err_from_is_err_and c.from_residual.result c.from_residual.ensures.1 in
+    rw (p.1, p.2) (failed-among _ c.args.oldest c.args.end failed.number failed.fails (omega (arith, inv.from, least)) (omega (arith, inv.to, below)))
 
 pub loop-low-preserved-in-None : goal.loop-low-preserved-in-None
 loop-low-preserved-in-None g c =

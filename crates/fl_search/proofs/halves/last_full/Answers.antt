@@ -1,7 +1,8 @@
 use Rattle.std.proofs.Common.{arith, ◌+◌, ◌-◌, ◌≤◌, ◌∙◌, sym, Ok, Err}
+use Rattle.std.proofs.lemmas.Result.{err_from_is_err_and}
 use Rattle.std.specs.Prelude.{OnErr}
 use Rattle.fl_search.specs.Search.{voids_in}
-use Rattle.fl_search.proofs.Pages.{void-more, voids-end, grows-then, rose-after}
+use Rattle.fl_search.proofs.Pages.{failed-among, void-more, voids-end, grows-then, rose-after}
 use Rattle.fl_search.proofs.halves.last_full.Goals as goal
 
 pub returns-in_err-first-clause-few : goal.returns-in_err-first-clause-few
@@ -10,6 +11,12 @@ returns-in_err-first-clause-few g c = λ first told.
     let bound : g.K.FirstKeys.calls c.first_key.new.self ≤ g.K.FirstKeys.calls c.args.keys.now + voids_in first c.args.oldest c.args.end + 1
     = omega (arith, voids, c.loop-number.invariant.few, c.in_err-first.ensures.one) in
     elim c.from_residual.result as (λ r. OnErr r (g.K.FirstKeys.calls c.first_key.new.self ≤ g.K.FirstKeys.calls c.args.keys.now + voids_in first c.args.oldest c.args.end + 1)) [ Ok x ↦ tt | Err e ↦ bound ]
+
+pub returns-in_err-first-clause-fails : goal.returns-in_err-first-clause-fails
+returns-in_err-first-clause-fails g c = λ first from.
+    let inv = c.loop-number.invariant in
+    let p = err_from_is_err_and c.from_residual.result c.from_residual.ensures.1 in
+    rw (p.1, p.2) (failed-among _ c.args.oldest c.args.end _ (c.in_err-first.ensures.fails first (inv.since first from)) (omega arith) (omega (arith, inv.within)))
 
 pub returns-in-Some-clause-last : goal.returns-in-Some-clause-last
 returns-in-Some-clause-last g c = λ first told.

@@ -55,3 +55,8 @@ returns-in_default-row_of-clause-far g c = λ page covered told up is.
 
 pub returns-clause-far : goal.returns-clause-far
 returns-clause-far g c = λ page covered told up is. on-has (layout_of c.args.schema.now) c.args.ring.now (g.F.Flash.state c.args.flash.now) told (next_of c.args.ring.now) c.args.key page is c.in-Some.number c.in-Some-row_of.row (rw c.in-Some.is at c.in_ok-number.ensures.far covered told up)
+
+pub returns-in_err-number-clause-blames : goal.returns-in_err-number-clause-blames
+returns-in_err-number-clause-blames g c = λ covered.
+    let p = err_from_is_err_and c.from_residual.result c.from_residual.ensures.1 in
+    rw (p.1, p.2) (c.in_err-number.ensures.blames covered)

@@ -1,5 +1,5 @@
 use Rattle.std.proofs.Common.{◌≡◌, ℕ, true, false, sym, ap, subst, ◌∙◌, arith}
-use Rattle.std.specs.Prelude.{OnOk, unwrap_or}
+use Rattle.std.specs.Prelude.{IfErr, OnOk, unwrap_or}
 use Rattle.std.proofs.lemmas.Result.{IfOk-weaker}
 use Rattle.fl_ring.specs.Place.{shape_of, oldest_of, next_of}
 use Rattle.fl_search.specs.Search.{IsPageOf}
@@ -7,7 +7,7 @@ use Rattle.fl_spline.proofs.Segments.{segment-covered}
 use Rattle.fl_spline.specs.Spline.{kept}
 use Rattle.fl_schema.specs.Schema.{layout_of}
 use Rattle.fl_find.specs.Pages.{first_on}
-use Rattle.fl_find.specs.Looking.{NoneIsBad}
+use Rattle.fl_find.specs.Looking.{BlamesBelow, NoneIsBad}
 use Rattle.fl_find.specs.Index.{window_end}
 use Rattle.fl_find.proofs.Moves.{if-some, page-starts}
 use Rattle.fl_find.proofs.Modelled.{near-found, near-limit, far-found, far-limit, ascend-ring}
@@ -74,3 +74,11 @@ returns-in-Some-clause-starts g c = λ told.
 
 pub returns-in-None-clause-starts : goal.returns-in-None-clause-starts
 returns-in-None-clause-starts g c = c.page_by_halves.ensures.starts
+
+pub returns-in-Some-clause-blames : goal.returns-in-Some-clause-blames
+returns-in-Some-clause-blames g c = λ covered.
+    let end : c.end_of_window-end.result ≡ window_end c.args.self.now (next_of c.args.ring.now) c.args.key = c.end_of_window-end.ensures ∙ ap (λ (n : ℕ). window_end c.args.self.now n c.args.key) c.next_number.ensures in
+    subst (λ (e : ℕ). IfErr c.page_downwards.result (BlamesBelow (layout_of c.args.schema.now) c.args.ring.now (g.F.Flash.state c.args.flash.now) e c.args.key)) end c.page_downwards.ensures.blames
+
+pub returns-in-None-clause-blames : goal.returns-in-None-clause-blames
+returns-in-None-clause-blames g c = λ covered. absurd (no (sym covered ∙ c.in-None.ensures.segment))

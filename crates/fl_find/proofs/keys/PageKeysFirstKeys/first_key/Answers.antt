@@ -1,5 +1,4 @@
-use Rattle.std.proofs.lemmas.Result.{IfErr-weaker}
-use Rattle.fl_find.proofs.PageLooks.{since-then, fails-later}
+use Rattle.fl_find.proofs.PageLooks.{since-then, fails-on}
 use Rattle.fl_find.proofs.Sound.{key-told, tells-looked}
 use Rattle.fl_find.proofs.keys.PageKeysFirstKeys.first_key.Goals as goal
 
@@ -8,7 +7,11 @@ returns-then-is_err-clause-since g c = λ first from. since-then _ _ _ _ _ _ _ _
 
 pub returns-then-is_err-clause-fails : goal.returns-then-is_err-clause-fails
 returns-then-is_err-clause-fails g c = λ first from.
-    IfErr-weaker c.read_first-read.result _ _ (λ e h. fails-later _ _ _ _ _ _ _ e from.ring_is from.layout_is from.looks h) (c.read_first-read.ensures.fails c.requires)
+    fails-on c.read_first-read.result _ _ _ _ _ _ _ c.args.number from.ring_is from.layout_is from.looks (c.read_first-read.ensures.fails c.requires) c.read_first-read.ensures.blames
+
+pub returns-else-is_err-clause-fails : goal.returns-else-is_err-clause-fails
+returns-else-is_err-clause-fails g c = λ first from.
+    fails-on c.read_first-read.result _ _ _ _ _ _ _ c.args.number from.ring_is from.layout_is from.looks (c.read_first-read.ensures.fails c.requires) c.read_first-read.ensures.blames
 
 pub returns-else-is_err-clause-since : goal.returns-else-is_err-clause-since
 returns-else-is_err-clause-since g c = λ first from. since-then _ _ _ _ _ _ _ _ _ _ from c.read_first-read.ensures.looks c.read_first-read.ensures.fresh

@@ -6,7 +6,7 @@ use Rattle.fl_base.specs.declared.types.Geometry.{Geometry}
 use Rattle.fl_table.specs.Finding.{Finds, FindsPending, HasKeyAt, IsAnswered, IsRowAt, HoldsIts}
 use Rattle.fl_table.specs.declared.find.RowAt.{RowAt}
 use Rattle.fl_table.specs.declared.find.RowAt.TheVariants as at
-use Rattle.fl_table.proofs.Finds.{answers-in_pages, answers-pending, key-in_page, key-pending, lookup-fails, holds-pages, finds-page, finds-fault, finds-pending, here-page, holds-page}
+use Rattle.fl_table.proofs.Finds.{answers-in_pages, answers-pending, key-in_page, key-pending, lookup-blames, lookup-fails, holds-pages, finds-page, finds-fault, finds-pending, here-page, holds-page}
 use Rattle.fl_table.proofs.PendingKey.{found-stored}
 use Rattle.fl_table.proofs.Slots.{steps-model}
 use Rattle.fl_flash.specs.Buffer.{BufferState}
@@ -264,3 +264,13 @@ returns-in-Ok-clause-unread g c = λ is. absurd (no (sym c.if-is_pending_key.fal
 
 pub returns-in-Err-clause-unread : goal.returns-in-Err-clause-unread
 returns-in-Err-clause-unread g c = λ is. absurd (no (sym c.if-is_pending_key.false ∙ (c.is_pending_key.ensures.exact ∙ is)))
+
+pub returns-then-is_pending_key-clause-blames : goal.returns-then-is_pending_key-clause-blames
+returns-then-is_pending_key-clause-blames g c = λ covered. tt
+
+pub returns-in-Ok-clause-blames : goal.returns-in-Ok-clause-blames
+returns-in-Ok-clause-blames g c = λ covered. tt
+
+pub returns-in-Err-clause-blames : goal.returns-in-Err-clause-blames
+returns-in-Err-clause-blames g c = λ covered.
+    lookup-blames c.args.self.now c.in-Some.ring (g.F.Flash.state c.args.flash.now) c.args.key c.in-Err.fault c.in-Some.is (c.in-Err.ensures.blames covered)

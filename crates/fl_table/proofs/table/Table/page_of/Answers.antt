@@ -1,5 +1,5 @@
 use Rattle.std.proofs.lemmas.Result.{IfErr-weaker}
-use Rattle.fl_table.proofs.Finds.{holds-in, holds-pages, lookup-fails, page-for}
+use Rattle.fl_table.proofs.Finds.{holds-in, holds-pages, lookup-blames, lookup-fails, page-for}
 use Rattle.fl_parts.proofs.IndexOfTable.{none-is}
 use Rattle.fl_table.proofs.ReadsKeepTable.{lies-read, most-kept}
 use Rattle.fl_table.proofs.Sizes.{index-fits}
@@ -65,3 +65,7 @@ pub returns-clause-answers : goal.returns-clause-answers
 returns-clause-answers g c = λ told.
     let e = c.page_of.ensures in
     page-for c.args.self.now c.in-Some.ring (g.F.Flash.state c.args.flash.now) c.args.key c.in-Some.is c.page_of.result told e.within e.starts e.near e.sound e.far
+
+pub returns-clause-blames : goal.returns-clause-blames
+returns-clause-blames g c = λ covered.
+    IfErr-weaker c.page_of.result _ _ (λ e blames. lookup-blames c.args.self.now c.in-Some.ring (g.F.Flash.state c.args.flash.now) c.args.key e c.in-Some.is blames) (c.page_of.ensures.blames covered)
