@@ -80,11 +80,6 @@ returns-in_err-mounted-clause-limit g c = λ first plan table rose device watche
 pub returns-in_err-mounted-clause-alone_limit : goal.returns-in_err-mounted-clause-alone_limit
 returns-in_err-mounted-clause-alone_limit g c = λ first plan table rose device watched planned none rests full. c.in_err-mounted.ensures.limit first (bare plan) table rose device watched planned.table rests full
 
-pub returns-in_err-mounted-clause-alone_leaves : goal.returns-in_err-mounted-clause-alone_leaves
-returns-in_err-mounted-clause-alone_leaves g c =
-    let p = err_from_is_err_and c.from_residual.result c.from_residual.ensures.1 in
-    rw (p.1, p.2) tt
-
 pub returns-in_err-mounted-clause-repairs : goal.returns-in_err-mounted-clause-repairs
 returns-in_err-mounted-clause-repairs g c = repairs-alone c.args.self.now (g.F.Flash.state c.args.flash.now) (g.F.Flash.state c.mount.new.flash) c.in_err-mounted.ensures.repairs
 
@@ -202,9 +197,6 @@ returns-in-Err-clause-alone g c = λ first plan table rose device watched planne
 
 pub returns-in-Err-clause-alone_limit : goal.returns-in-Err-clause-alone_limit
 returns-in-Err-clause-alone_limit g c = λ first plan table rose device watched planned none rests full. absurd (none-some c.in-Some.log (sym none ∙ c.in-Some.is))
-
-pub returns-in-Err-clause-alone_leaves : goal.returns-in-Err-clause-alone_leaves
-returns-in-Err-clause-alone_leaves g c = tt
 
 pub returns-in-Err-clause-apart : goal.returns-in-Err-clause-apart
 returns-in-Err-clause-apart g c = λ first plan table rose device l watched planned is apart.
