@@ -1,8 +1,8 @@
--- The words of a configuration line that is read: a name, and numbers of 64 bits.
-use Rattle.std.proofs.Common.{◌≡◌, ℕ, ℤ, pos, neg_ℤ, zero, suc, ◌≤◌, Bool, true, false, ◌&&◌, nat_lt, nat_le, nat_eq, eqb, cond, Option, Some, None, Result, Ok, Err, List, [], ◌∷◌, length, refl, subst, arith}
+-- The words of a line that is read: of a configuration a name, and numbers of 64 bits; of a command its numbers that have bounds.
+use Rattle.std.proofs.Common.{◌≡◌, ℕ, ℤ, pos, neg_ℤ, zero, suc, ◌-◌, ◌≤◌, Bool, true, false, ◌&&◌, nat_lt, nat_le, nat_eq, eqb, cond, Option, Some, None, Result, Ok, Err, List, [], ◌∷◌, length, refl, sym, subst, arith}
 use Rattle.std.specs.Prelude.{IfOk, codes}
 use Rattle.std.specs.List.{starts_with}
-use Rattle.std.proofs.lemmas.Bool.{leb-true}
+use Rattle.std.proofs.lemmas.Bool.{lt-ltb, leb-true}
 use Rattle.fl_base.specs.declared.types.KeyRange.{KeyRange}
 use Rattle.fl_base.specs.declared.types.Span.{Span}
 use Rattle.fl_model.specs.Record.{bytes_equal}
@@ -25,10 +25,17 @@ pub record IsTableRead (line : TableLine) : Type 0 where
   pub error : line.error ≤ greatest_number
   pub blob_limit : line.blob_limit ≤ greatest_number
 
--- the words of a configuration line
+-- the words of a configuration line, and those numbers of a command that have bounds: a cut and the keys of a load go on by one at
+-- least, a group has room for a key, and there are four cursors
 abbrev pub IsRead : Command → Type 0
 IsRead (command.Device page block) = (page ≤ greatest_number) × (block ≤ greatest_number)
 IsRead (command.Table line) = IsTableRead line
+IsRead (command.Cut n kind) = nat_le 1 n ≡ true
+IsRead (command.Agg name range column width) = nat_le 1 width ≡ true
+IsRead (command.Open cursor name range span) = nat_lt cursor 4 ≡ true
+IsRead (command.Next cursor count) = nat_lt cursor 4 ≡ true
+IsRead (command.Close cursor) = nat_lt cursor 4 ≡ true
+IsRead (command.Load name count step seed) = nat_le 1 step ≡ true
 IsRead c = Unit {0}
 
 -- a line that is read is such a command
@@ -98,6 +105,27 @@ within (byte ∷ bytes) z e = by_sign (eqb byte 45) e
     by_sign true e = signed-of (are_digits bytes) (value_of bytes) 9223372036854775808 (neg_ℤ (pos (value_of bytes))) z (below-zero (value_of bytes)) e
     by_sign false e = signed-of (are_digits (byte ∷ bytes)) (value_of (byte ∷ bytes)) 9223372036854775807 (pos (value_of (byte ∷ bytes))) z (λ le. le) e
 
+-- a number from a least one on
+least-of : (low high : ℕ) (word : List ℕ) (n : ℕ) → number_in low high word ≡ Ok n → nat_le low n ≡ true
+least-of low high word n e = by_tests (are_digits word) (nat_le low (value_of word)) refl (nat_le (value_of word) high) e
+  where
+    by_tests : (a b : Bool) → nat_le low (value_of word) ≡ b → (c : Bool) → cond (a && b && c) (Ok (value_of word)) (Err Number) ≡ Ok n → nat_le low n ≡ true
+    by_tests true true k true e = let same : value_of word ≡ n = cc in subst (λ m. nat_le low m ≡ true) same k
+    by_tests true true k false e = cc
+    by_tests true false k c e = cc
+    by_tests false b k c e = cc
+
+-- a digit of a cursor
+few-cursors : (word : List ℕ) (n : ℕ) → cursor_of word ≡ Some n → nat_lt n 4 ≡ true
+few-cursors [] n e = cc
+few-cursors (byte ∷ next ∷ bytes) n e = cc
+few-cursors (byte ∷ []) n e = by_tests (nat_le 48 byte) (nat_le byte 51) refl e
+  where
+    by_tests : (a b : Bool) → nat_le byte 51 ≡ b → cond (a && b) (Some (byte - 48)) None ≡ Some n → nat_lt n 4 ≡ true
+    by_tests true true k e = let same : byte - 48 ≡ n = cc in lt-ltb n 4 (omega (arith, sym same, leb-true byte 51 k))
+    by_tests true false k e = cc
+    by_tests false b k e = cc
+
 -- ---- the lines
 
 device-within : (words : List (List ℕ)) → Gives (device_line words)
@@ -109,8 +137,8 @@ device-within (page ∷ block ∷ more ∷ words) = tt
 cut-within : (words : List (List ℕ)) → Gives (cut_line words)
 cut-within [] = tt
 cut-within (n ∷ []) = tt
-cut-within (n ∷ kind ∷ []) = parted (cut_kind kind) _ (λ k _. bound (number_in 1 _ n) _ (λ m e. tt))
-cut-within (n ∷ kind ∷ seed ∷ []) = formed _ _ (bound (number_in 1 _ n) _ (λ m e. bound (number seed) _ (λ s _. tt)))
+cut-within (n ∷ kind ∷ []) = parted (cut_kind kind) _ (λ k _. bound (number_in 1 _ n) _ (λ m e. least-of 1 _ n m e))
+cut-within (n ∷ kind ∷ seed ∷ []) = formed _ _ (bound (number_in 1 _ n) _ (λ m e. bound (number seed) _ (λ s _. least-of 1 _ n m e)))
 cut-within (n ∷ kind ∷ seed ∷ more ∷ words) = tt
 
 put-parts : (name key : List ℕ) (words : List (List ℕ)) (blob : Option (List ℕ)) → Gives (put_parts name key words blob)
@@ -147,17 +175,17 @@ scan-within (name ∷ words) = formed (is_name name) _ (ranged words _ (λ range
 open-within : (words : List (List ℕ)) → Gives (open_line words)
 open-within [] = tt
 open-within (cursor ∷ []) = tt
-open-within (cursor ∷ name ∷ words) = parted (cursor_of cursor) _ (λ c e. formed (is_name name) _ (ranged words _ (λ range span. tt)))
+open-within (cursor ∷ name ∷ words) = parted (cursor_of cursor) _ (λ c e. formed (is_name name) _ (ranged words _ (λ range span. few-cursors cursor c e)))
 
 next-within : (words : List (List ℕ)) → Gives (next_line words)
 next-within [] = tt
 next-within (cursor ∷ []) = tt
-next-within (cursor ∷ count ∷ []) = parted (cursor_of cursor) _ (λ c e. bound (number_in 1 1000000 count) _ (λ n _. tt))
+next-within (cursor ∷ count ∷ []) = parted (cursor_of cursor) _ (λ c e. bound (number_in 1 1000000 count) _ (λ n _. few-cursors cursor c e))
 next-within (cursor ∷ count ∷ more ∷ words) = tt
 
 close-within : (words : List (List ℕ)) → Gives (close_line words)
 close-within [] = tt
-close-within (cursor ∷ []) = parted (cursor_of cursor) _ (λ c e. tt)
+close-within (cursor ∷ []) = parted (cursor_of cursor) _ (λ c e. few-cursors cursor c e)
 close-within (cursor ∷ more ∷ words) = tt
 
 select-within : (words : List (List ℕ)) → Gives (select_line words)
@@ -171,7 +199,7 @@ project-within other = tt
 
 agg-within : (words : List (List ℕ)) → Gives (agg_line words)
 agg-within (name ∷ low ∷ high ∷ column ∷ width ∷ []) =
-    formed (is_name name) _ (bound (number low) _ (λ l _. bound (number high) _ (λ h _. bound (number column) _ (λ c _. bound (number_in 1 _ width) _ (λ w e. tt)))))
+    formed (is_name name) _ (bound (number low) _ (λ l _. bound (number high) _ (λ h _. bound (number column) _ (λ c _. bound (number_in 1 _ width) _ (λ w e. least-of 1 _ width w e)))))
 agg-within other = tt
 
 join-within : (words : List (List ℕ)) → Gives (join_line words)
@@ -180,7 +208,7 @@ join-within other = tt
 
 load-within : (words : List (List ℕ)) → Gives (load_line words)
 load-within (name ∷ count ∷ step ∷ seed ∷ []) =
-    formed (is_name name) _ (bound (number_in 1 1000000 count) _ (λ n _. bound (number_in 1 1000000 step) _ (λ s e. bound (number seed) _ (λ x _. tt))))
+    formed (is_name name) _ (bound (number_in 1 1000000 count) _ (λ n _. bound (number_in 1 1000000 step) _ (λ s e. bound (number seed) _ (λ x _. least-of 1 1000000 step s e))))
 load-within other = tt
 
 table-within : (words : List (List ℕ)) → Gives (table_line words)
