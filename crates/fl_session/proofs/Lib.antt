@@ -25,7 +25,6 @@ pub mod Calls
 pub mod Sound
 pub mod Rested
 pub mod Over
-pub mod Fresh
 pub mod CompleteRuns
 pub mod LoadedValues
 pub mod LoadReads

@@ -1,7 +1,6 @@
 -- A session that was begun over an opened image, and ended.
 use Rattle.std.proofs.Common.{◌≡◌, ℕ, zero, suc, Bool, true, false, IsTrue, Option, Some, None, Result, Ok, Err, inl, inr, length, take, List, ◌≤◌, refl, sym, ◌∙◌, ap, subst, le_trans, arith}
 use Rattle.std.specs.Prelude.{if◌then◌else◌, slice_get, replicate}
-use base.Fml.{GName}
 use Rattle.fl_flash.specs.Flash.{FlashState, Stays}
 use Rattle.fl_flash.specs.Media.{MediaState}
 use Rattle.fl_model.specs.Image.{medium_len}
@@ -100,14 +99,13 @@ flash-keeps f f' old new begun ended start goes =
     (subst (λ (m : MediaState). KeepsForm m f'.media) begun (record { len = goes.size; head = λ tells. subst (λ n. take n f'.media.content ≡ take n f.media.content) start (goes.front tells) }))
 
 -- a run over an image that was opened
-pub ends-opened : (knots : ℕ) (text : List ℕ) (lines : Lines) (first : Option code.Command) (number : ℕ) (state : LinesState) (left left_now told told_now : Option (List ℕ)) (config : Config) (old mid new : MediaState) (origin : GName) (status : Status) →
+pub ends-opened : (knots : ℕ) (text : List ℕ) (lines : Lines) (first : Option code.Command) (number : ℕ) (state : LinesState) (left left_now told told_now : Option (List ℕ)) (config : Config) (old mid new : MediaState) (status : Status) →
     BeginsAt knots text lines first number state left → whole knots lines ≡ Some config → IsTrue old.tells → Opened config old mid → KeepsForm mid new → mid.tells ≡ old.tells → old.faults ≤ mid.faults →
     RanFrom first number state left left_now (around_of config mid new told told_now) (RestsTold config mid) (EndsAt config status new.content) status →
     Ends knots text (told_of old new left_now told told_now) status
-ends-opened knots text lines first number state left left_now told told_now config old mid new origin status begins w tells opened kept same_tells later h =
+ends-opened knots text lines first number state left left_now told told_now config old mid new status begins w tells opened kept same_tells later h =
     let ready = begins-ready knots text lines first number state left config begins w in
     let accepted = ready-accepted config ready.0 ready.1 (start_in knots text) (start-accepted knots text) ready.2 in
-    let f : FlashState = record { geometry = config.geometry; blocks = 0; start = 1024; origin = origin; media = mid; is_on = true; armed = None; cuts = 0; work = record { reads = 0; programs = 0; erases = 0 } } in
     ends-over knots text lines first number state left config (told_of old new left_now told told_now) (around_of config mid new told told_now) (RestsTold config mid) (EndsAt config status new.content) status begins w
     (record {
       config_is = refl;
@@ -121,7 +119,7 @@ ends-opened knots text lines first number state left left_now told told_now conf
       written_now = refl;
       own = opened.own tells;
       formed = kept-formed config mid new (opened-formed config old mid tells opened) (subst IsTrue (sym same_tells) tells) kept;
-      begins = λ m s. ((subst IsTrue (sym same_tells) tells, opened-rests config old mid f m refl refl refl accepted.room tells opened s), stands-ready config old.content m accepted s);
+      begins = λ m s. ((subst IsTrue (sym same_tells) tells, opened-rests config old mid m tells opened s), stands-ready config old.content m accepted s);
       ends = λ m s. s;
     })
     h

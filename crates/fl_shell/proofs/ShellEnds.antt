@@ -1,6 +1,5 @@
 -- How a shell ends over an image that was opened.
-use Rattle.std.proofs.Common.{◌≡◌, ℕ, ◌^◌, ◌≤◌, inl, true, false, IsTrue, Option, Some, None, Result, List, [], length, lit≤, refl, sym, ◌∙◌, ap, subst, le_trans, arith}
-use base.Fml.{GName}
+use Rattle.std.proofs.Common.{◌≡◌, ℕ, ◌^◌, ◌≤◌, inl, false, IsTrue, Option, Some, Result, List, [], length, lit≤, refl, sym, ◌∙◌, ap, subst, le_trans, arith}
 use Rattle.fl_flash.specs.Flash.{FlashState, Stays}
 use Rattle.fl_flash.specs.Media.{MediaState}
 use Rattle.fl_image.specs.Image.{OnlyLooksAt}
@@ -28,17 +27,16 @@ use Rattle.fl_shell.specs.declared.end.ShellStatus.TheVariants.{Done, InputRead,
 use Rattle.fl_shell.proofs.EarlyEnds.{BeginsOn}
 use Rattle.fl_shell.proofs.TalkEnds.{medium-over}
 
-ended-over : (knots : ℕ) (text : List ℕ) (begun : Begun) (config : Config) (old looked made new : MediaState) (state : LinesState) (left left_now told told_mid told_now : Option (List ℕ)) (origin : GName) (flushed : Flushed) (status : ShellStatus) → IsTrue old.tells → OnlyLooksAt old looked →
+ended-over : (knots : ℕ) (text : List ℕ) (begun : Begun) (config : Config) (old looked made new : MediaState) (state : LinesState) (left left_now told told_mid told_now : Option (List ℕ)) (flushed : Flushed) (status : ShellStatus) → IsTrue old.tells → OnlyLooksAt old looked →
     (b : BeginsOn knots old.content (lines_of text) (length text) begun config state left told told_mid) → Opened config looked made → MediaGoes looked made → KeepsForm made new → IsOfSession status →
     ((m : Machine) → IsReady config m → RestsTold config made m →
     MediumEnds config m (others_of begun (length text) state left b.leaves) (length text) (StandsAfter config (Some new.content)) made.content new.content made.faults new.faults told_mid told_now left_now flushed status) →
     Ended knots text flushed status (told_of old new left_now told told_now)
-ended-over knots text begun config old looked made new state left left_now told told_mid told_now origin flushed status tells looks b opens goes kept of talks =
+ended-over knots text begun config old looked made new state left left_now told told_mid told_now flushed status tells looks b opens goes kept of talks =
     let others = others_of begun (length text) state left b.leaves in
     let looked_tells : IsTrue looked.tells = subst IsTrue (sym looks.tells) tells in
     let made_tells : IsTrue made.tells = subst IsTrue (sym goes.tells) looked_tells in
     let is : made.content ≡ opened config old.content = opened-content config looked made looked_tells opens ∙ ap (opened config) looks.content in
-    let f : FlashState = record { geometry = config.geometry; blocks = 0; start = 1024; origin = origin; media = made; is_on = true; armed = None; cuts = 0; work = record { reads = 0; programs = 0; erases = 0 } } in
     record {
       config = config;
       others = others;
@@ -48,20 +46,20 @@ ended-over knots text begun config old looked made new state left left_now told 
       begun = told_mid;
       begun_told = b.written;
       talks = λ m stood.
-          let rests : RestsTold config made m = (made_tells, opened-rests config looked made f m refl refl refl b.accepted.room looked_tells opens (subst (λ c. StandsFor config c m) (sym looks.content) stood)) in
+          let rests : RestsTold config made m = (made_tells, opened-rests config looked made m looked_tells opens (subst (λ c. StandsFor config c m) (sym looks.content) stood)) in
           subst (λ c. MediumEnds config m others (length text) (StandsAfter config (Some new.content)) c new.content old.faults new.faults told_mid told_now left_now flushed status) is
           (medium-over config m others (length text) (StandsAfter config (Some new.content)) (StandsAfter config (Some new.content)) made.content new.content old.faults made.faults new.faults told_mid told_now left_now flushed status (λ x stands. stands) (le_trans looks.later goes.faults)
           (talks m (stands-ready config old.content m b.accepted stood) rests));
     }
 
 -- the lines of an input were answered over an image
-pub shell-ends : (knots : ℕ) (text : List ℕ) (begun : Begun) (config : Config) (old looked made new : MediaState) (state : LinesState) (left left_now told told_mid told_now : Option (List ℕ)) (origin : GName) (flushed : Flushed) (status : ShellStatus) → IsTrue old.tells → OnlyLooksAt old looked →
+pub shell-ends : (knots : ℕ) (text : List ℕ) (begun : Begun) (config : Config) (old looked made new : MediaState) (state : LinesState) (left left_now told told_mid told_now : Option (List ℕ)) (flushed : Flushed) (status : ShellStatus) → IsTrue old.tells → OnlyLooksAt old looked →
     (b : BeginsOn knots old.content (lines_of text) (length text) begun config state left told told_mid) → Opened config looked made → MediaGoes looked made → KeepsForm made new → IsOfSession status →
     ((m : Machine) → IsReady config m → RestsTold config made m →
     MediumEnds config m (others_of begun (length text) state left b.leaves) (length text) (StandsAfter config (Some new.content)) made.content new.content made.faults new.faults told_mid told_now left_now flushed status) →
     ShellEnds knots text (told_of old new left_now told told_now) flushed status
-shell-ends knots text begun config old looked made new state left left_now told told_mid told_now origin flushed status tells looks b opens goes kept of talks =
-    by_status status of (ended-over knots text begun config old looked made new state left left_now told told_mid told_now origin flushed status tells looks b opens goes kept of talks)
+shell-ends knots text begun config old looked made new state left left_now told told_mid told_now flushed status tells looks b opens goes kept of talks =
+    by_status status of (ended-over knots text begun config old looked made new state left left_now told told_mid told_now flushed status tells looks b opens goes kept of talks)
   where
     by_status : (status : ShellStatus) → IsOfSession status → Ended knots text flushed status (told_of old new left_now told told_now) → ShellEnds knots text (told_of old new left_now told told_now) flushed status
     by_status Done of h = h

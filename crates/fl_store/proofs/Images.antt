@@ -28,7 +28,7 @@ use Rattle.fl_words.specs.Medium.{header, IsImage}
 
 -- ---- the images of tables, each at its place
 
-pub images-of : (config : Config) (content : List ℕ) (place : ℕ) (plans : List Plan) (tables : List Table) → length tables ≡ length plans →
+images-of : (config : Config) (content : List ℕ) (place : ℕ) (plans : List Plan) (tables : List Table) → length tables ≡ length plans →
     ((i : ℕ) (plan : Plan) (table : Table) → slice_get plans i ≡ Some plan → slice_get tables i ≡ Some table → IsTableImage config content (place + i) plan table) → AreTableImages config content place plans tables
 images-of config content place [] [] n each = tt
 images-of config content place [] (table ∷ tables) n each = absurd (omega (arith, n))

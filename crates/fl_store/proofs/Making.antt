@@ -43,17 +43,22 @@ len-of lines config geometry makes device =
     ap (λ (ps : List Plan). 1024 + sum_by blocks_of ps * config.geometry.block * config.geometry.page) (sym parts.plans_are)
     ∙ ap (λ (g : Geometry). 1024 + sum_by blocks_of lines.plans * g.block * g.page) same
 
-pub new-blank : (lines : Lines) (config : Config) (old new : MediaState) (geometry : Geometry) → Makes lines config → lines.device ≡ Some geometry → IsMade (medium_len config) (header config) old new → IsTrue new.tells →
-    IsBlankBehind geometry (sum_by blocks_of lines.plans) new.content
-new-blank lines config old new geometry makes device h told p within =
-    let e = h.content (subst IsTrue h.tells told) in
-    let count : medium_len config ≡ length (header config) + (medium_len config - 1024) =
-    sym h.len_is ∙ (ap length e ∙ (length-append (header config) (replicate (medium_len config - 1024) 255) ∙ ap (λ n. length (header config) + n) (length-replicate {A = ℕ} (medium_len config - 1024) 255))) in
-    let size : length (header config) ≡ 1024 = omega (arith, count) in
+-- the pages behind a whole header
+pub blank-behind : (lines : Lines) (config : Config) (geometry : Geometry) (content : List ℕ) → Makes lines config → lines.device ≡ Some geometry → content ≡ header config ++ replicate (medium_len config - 1024) 255 → length (header config) ≡ 1024 →
+    IsBlankBehind geometry (sum_by blocks_of lines.plans) content
+blank-behind lines config geometry content makes device e size p within =
     let all = len-of lines config geometry makes device in
     let fits : (p + 1) * geometry.page ≤ sum_by blocks_of lines.plans * geometry.block * geometry.page = mul-le-mul_right geometry.page (omega (arith, within)) in
     ap (λ c. slice_range c (1024 + p * geometry.page) (1024 + p * geometry.page + geometry.page)) e
     ∙ bytes-behind (header config) (medium_len config - 1024) (1024 + p * geometry.page) geometry.page (omega (arith, size)) (omega (arith, size, all, fits))
+
+new-blank : (lines : Lines) (config : Config) (old new : MediaState) (geometry : Geometry) → Makes lines config → lines.device ≡ Some geometry → IsMade (medium_len config) (header config) old new → IsTrue new.tells →
+    IsBlankBehind geometry (sum_by blocks_of lines.plans) new.content
+new-blank lines config old new geometry makes device h told =
+    let e = h.content (subst IsTrue h.tells told) in
+    let count : medium_len config ≡ length (header config) + (medium_len config - 1024) =
+    sym h.len_is ∙ (ap length e ∙ (length-append (header config) (replicate (medium_len config - 1024) 255) ∙ ap (λ n. length (header config) + n) (length-replicate {A = ℕ} (medium_len config - 1024) 255))) in
+    blank-behind lines config geometry new.content makes device e (omega (arith, count))
 
 -- ---- the call that makes an image
 

@@ -63,12 +63,12 @@ module _ (config : Config) (size : length (header config) ≡ 1024) where
       let least : 1024 ≤ medium_len config = omega arith in
       omega (arith, least, size, length-append (header config) (replicate (medium_len config - 1024) 255), length-replicate {A = ℕ} (medium_len config - 1024) 255)
 
-  image : IsImage config (new_image config) (fresh_tables config)
-  image = record {
+  pub sized-image : IsImage config (new_image config) (fresh_tables config)
+  sized-image = record {
     len = len;
     head = ap (λ (n : ℕ). take n (new_image config)) (sym size) ∙ take-append_seam (header config) (replicate (medium_len config - 1024) 255);
     tables_are = all 0 config.plans;
   }
 
 pub new-image : (config : Config) → IsMade config → IsImage config (new_image config) (fresh_tables config)
-new-image config made = image config (header-length made.lines config made.accepted made.makes)
+new-image config made = sized-image config (header-length made.lines config made.accepted made.makes)

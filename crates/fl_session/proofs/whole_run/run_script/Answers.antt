@@ -3,6 +3,7 @@ use Rattle.fl_words.specs.Medium.{header}
 use Rattle.fl_model.specs.Image.{medium_len}
 use Rattle.fl_image.proofs.Made.{whole-of, makes-of}
 use Rattle.fl_image.proofs.Reach.{reach}
+use Rattle.fl_store.proofs.Making.{blank-behind, none-of}
 use Rattle.fl_session.specs.Ends.{told_of, effects_of}
 use Rattle.fl_session.specs.ScriptEnds.{unsaid}
 use Rattle.fl_session.specs.CausedEach.{causes_of}
@@ -10,7 +11,7 @@ use Rattle.fl_session.proofs.CausesInTurn.{causes-opened, causes-refused}
 use Rattle.fl_session.proofs.NextCommand.{nothing-added}
 use Rattle.fl_session.proofs.RunEnds.{begins-takes, ends-in_begin, script-over, commands-early}
 use Rattle.fl_session.proofs.Over.{ends-opened, opens-as, opens-goes, media-goes_on, ends-refused, script-refused, early-refused, make-refused, commands-words, memory-words, memory-read, memory-write, memory-make}
-use Rattle.fl_session.proofs.Fresh.{new-blank, none-of}
+use Rattle.fl_session.proofs.Rested.{new-header}
 use Rattle.fl_store.proofs.CallsInTurn.{rose-back}
 use Rattle.fl_session.proofs.CommandReplies.{no-more}
 use Rattle.fl_session.proofs.whole_run.run_script.Goals as goal
@@ -41,7 +42,8 @@ run_session-requires-clause-blank g c = λ new told geometry device.
     let opened = opens-as w.0 old (Ok tt) made (c.in-Ok-open_image.ensures w.0 (makes-of 0 lines w.0 w.1)) in
     let goes = opens-goes (medium_len w.0) (header w.0) old (Ok tt) made (c.in-Ok-open_image.ensures w.0 (makes-of 0 lines w.0 w.1)) in
     let empty : old.content ≡ [] = none-of old.content c.len-is_new.result c.len-is_new.ensures new in
-    new-blank lines w.0 old made geometry (makes-of 0 lines w.0 w.1) device opened (opened.made (subst IsTrue goes.tells told) empty)
+    let held = opened.made (subst IsTrue goes.tells told) empty in
+    blank-behind lines w.0 geometry made.content (makes-of 0 lines w.0 w.1) device held (new-header w.0 old made opened held)
 
 pub returns-in-Ok-open_image-clause-ends : goal.returns-in-Ok-open_image-clause-ends
 returns-in-Ok-open_image-clause-ends g c = λ text told l.
@@ -49,7 +51,7 @@ returns-in-Ok-open_image-clause-ends g c = λ text told l.
     let w = whole-of 64 lines c.in-Ok-read_config.ensures.whole in
     let goes = opens-goes (medium_len w.0) (header w.0) (g.M.Media.state c.args.media.now) (Ok tt) (g.M.Media.state c.open_image.new.media) (c.in-Ok-open_image.ensures w.0 (makes-of 64 lines w.0 w.1)) in
     ends-opened 64 text lines c.in-Ok-read_config.begun.first c.in-Ok-read_config.begun.number _ _ _ _ _ w.0
-    (g.M.Media.state c.args.media.now) (g.M.Media.state c.open_image.new.media) (g.M.Media.state c.run_session.new.media) c.args.media.ghost_name _
+    (g.M.Media.state c.args.media.now) (g.M.Media.state c.open_image.new.media) (g.M.Media.state c.run_session.new.media) _
     (c.in-Ok-read_config.ensures.begins 64 text l) w.1 told (opens-as w.0 (g.M.Media.state c.args.media.now) (Ok tt) (g.M.Media.state c.open_image.new.media) (c.in-Ok-open_image.ensures w.0 (makes-of 64 lines w.0 w.1))) c.run_session.ensures.form goes.tells goes.faults
     (c.run_session.ensures.runs w.0 w.1)
 

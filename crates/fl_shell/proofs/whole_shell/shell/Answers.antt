@@ -4,9 +4,10 @@ use Rattle.fl_words.specs.Grammar.{lines_of}
 use Rattle.fl_words.specs.Medium.{header}
 use Rattle.fl_image.proofs.Made.{whole-of, makes-of}
 use Rattle.fl_image.proofs.Reach.{reach}
+use Rattle.fl_store.proofs.Making.{blank-behind, none-of}
 use Rattle.fl_session.specs.Ends.{told_of}
 use Rattle.fl_session.proofs.Over.{media-goes_on, opens-as, opens-goes}
-use Rattle.fl_session.proofs.Fresh.{new-blank, none-of}
+use Rattle.fl_session.proofs.Rested.{new-header}
 use Rattle.fl_shell.specs.Input.{InputEnds}
 use Rattle.fl_shell.specs.Statuses.{IsOfSession, opening_status}
 use Rattle.fl_shell.specs.declared.end.ShellStatus.TheVariants.{NoMemory}
@@ -32,7 +33,8 @@ talk_over-requires-clause-blank g c = λ new told geometry device.
     let opened = opens-as w.0 old (Ok tt) made (c.in-Ok-open_image.ensures w.0 (makes-of 0 lines w.0 w.1)) in
     let goes = opens-goes (medium_len w.0) (header w.0) old (Ok tt) made (c.in-Ok-open_image.ensures w.0 (makes-of 0 lines w.0 w.1)) in
     let empty : old.content ≡ [] = none-of old.content c.len-is_new.result c.len-is_new.ensures new in
-    new-blank lines w.0 old made geometry (makes-of 0 lines w.0 w.1) device opened (opened.made (subst IsTrue goes.tells told) empty)
+    let held = opened.made (subst IsTrue goes.tells told) empty in
+    blank-behind lines w.0 geometry made.content (makes-of 0 lines w.0 w.1) device held (new-header w.0 old made opened held)
 
 pub returns-in-Ok-open_image-clause-ends : goal.returns-in-Ok-open_image-clause-ends
 returns-in-Ok-open_image-clause-ends g c = λ text tells told.
@@ -50,7 +52,7 @@ returns-in-Ok-open_image-clause-ends g c = λ text tells told.
     let begins = unread-begins c.in-Ok.lines c.begin.new.lines old.content text (Ok begun) (S.left c.begin.new.input) (K.written c.args.out.now) (K.written c.begin.new.out) fresh
     (c.in-Ok-begin.ensures.begins text (length text) tells told (unread-left c.in-Ok.lines text fresh) (unread-short c.in-Ok.lines fresh)) in
     let b = begins-on 64 old.content (lines_of text) (length text) begun w.0 c.begin.new.lines (S.left c.begin.new.input) (K.written c.args.out.now) (K.written c.begin.new.out) w.1 begins in
-    shell-ends 64 text begun w.0 old looked made new c.begin.new.lines (S.left c.begin.new.input) (S.left c.talk_over.new.input) (K.written c.args.out.now) (K.written c.begin.new.out) (K.written c.talk_over.new.out) c.args.media.ghost_name
+    shell-ends 64 text begun w.0 old looked made new c.begin.new.lines (S.left c.begin.new.input) (S.left c.talk_over.new.input) (K.written c.args.out.now) (K.written c.begin.new.out) (K.written c.talk_over.new.out)
     c.talk_over.result.flushed c.talk_over.result.status tells c.in-Ok-begin.ensures.looks b (opens-as w.0 looked (Ok tt) made opens) (opens-goes (medium_len w.0) (header w.0) looked (Ok tt) made opens) c.talk_over.ensures.keeps c.talk_over.ensures.statuses
     (λ m ready rests. c.talk_over.ensures.ends w.0 m b.leaves.rest b.leaves.hand (length text) w.1 ready rests (λ more. unread-few c.in-Ok.lines _ fresh (c.in-Ok-begin.ensures.fewer more)) b.leaves.rest_told b.leaves.ended b.leaves.within b.leaves.hand_is)
 
