@@ -21,6 +21,7 @@ use Rattle.fl_store.specs.Tables.{entries_with, IsNamed}
 use Rattle.fl_store.specs.declared.tables.Entry.{Entry}
 use Rattle.fl_session.specs.Answer.{Answers, Refusal, IsReached, load_replies}
 use Rattle.fl_store.specs.Replies.{put_reply}
+use Rattle.fl_store.proofs.Appends.{front-more}
 use Rattle.fl_session.specs.Execute.{Executes}
 use Rattle.fl_session.specs.declared.notes.Notes.{Notes}
 use Rattle.fl_session.specs.Standing.{SessionStands}
@@ -28,14 +29,9 @@ use Rattle.fl_session.proofs.CommandReplies.{executes-answered, step-is}
 use Rattle.fl_session.proofs.RefusedCommands.{answers-refused}
 
 -- a front of a line is one of all lines
-front-of_more : (told now : Option (List ℕ)) (line others : List ℕ) → AppendsFront told now line → AppendsFront told now (line ++ others)
-front-of_more told now line others h =
-    let parts : h.0 ++ (h.1.0 ++ others) ≡ line ++ others = sym (append_assoc h.0 h.1.0 others) ∙ ap (λ l. l ++ others) h.1.1 in
-    (h.0, (h.1.0 ++ others, parts), h.2)
-
 pub front-first : (told now : Option (List ℕ)) (count : ℕ) (outcome : Result (Unit {0}) PutRefusal) → AppendsFront told now (text (reply.Loaded count)) → AppendsFront told now (texts (load_replies count outcome))
-front-first told now count (Ok done) h = front-of_more told now (text (reply.Loaded count)) [] h
-front-first told now count (Err refusal) h = front-of_more told now (text (reply.Loaded count)) (texts (put_reply (Err refusal) ∷ [])) h
+front-first told now count (Ok done) h = front-more told now (text (reply.Loaded count)) [] h
+front-first told now count (Err refusal) h = front-more told now (text (reply.Loaded count)) (texts (put_reply (Err refusal) ∷ [])) h
 
 -- .. and a front of the second behind the first
 pub front-second : (told mid now : Option (List ℕ)) (count : ℕ) (outcome : Result (Unit {0}) PutRefusal) (line : List ℕ) → is_err outcome ≡ true → line ≡ text (put_reply outcome) →

@@ -1,11 +1,12 @@
 -- A run goes on by one command.
-use Rattle.std.proofs.Common.{◌≡◌, ℕ, ◌+◌, ◌-◌, ◌*◌, ◌^◌, ◌<◌, ◌≤◌, Bool, true, false, inl, inr, IsTrue, Option, Some, None, Result, Ok, Err, List, [], ◌∷◌, ◌++◌, cond, refl, sym, ◌∙◌, ap, subst, length, append-nil, append_assoc, add-zero, arith}
+use Rattle.std.proofs.Common.{◌≡◌, ℕ, ◌+◌, ◌-◌, ◌*◌, ◌^◌, ◌<◌, ◌≤◌, Bool, true, false, inl, inr, IsTrue, Option, Some, None, Result, Ok, Err, List, [], ◌∷◌, ◌++◌, cond, refl, sym, ◌∙◌, ap, subst, length, append-nil, add-zero, arith}
 use Rattle.std.specs.Prelude.{IfSome, MatchBool, MatchOption, slice_get}
 use Rattle.std.proofs.lemmas.List.{length-map, map-append}
 use Rattle.std.specs.List.{AllByRecursion}
 use Rattle.std.proofs.lemmas.Grind.{flat_map-append}
 use Rattle.std.proofs.lemmas.Bool.{cases_lt}
 use Rattle.fl_base.specs.Causes.{Rose, Appends}
+use Rattle.fl_script.proofs.SinkPieces.{appends-append}
 use Rattle.fl_flash.specs.Flash.{FlashState}
 use Rattle.fl_model.specs.Record.{Plan, Config, has_log}
 use Rattle.fl_model.specs.Spline.{lookup_limit}
@@ -51,13 +52,6 @@ risen-more (m ∷ moments) moment = omega (arith, risen-more moments moment)
 pub nothing-added : (told : Option (List ℕ)) → Appends told told []
 nothing-added None = tt
 nothing-added (Some bytes) = ap Some (sym (append-nil bytes))
-
--- what is told goes on
-pub appends-more : (before mid now : Option (List ℕ)) (a b : List ℕ) → Appends before mid a → Appends mid now b → Appends before now (a ++ b)
-appends-more None mid now a b h k = tt
-appends-more (Some bytes) mid now a b h k =
-    let k' : Appends (Some (bytes ++ a)) now b = subst (λ m. Appends m now b) h k in
-    k' ∙ ap Some (append_assoc bytes a b)
 
 -- counts go on
 pub at_end : (n before mid now : ℕ) → RoseBy n before mid → mid ≤ now → RoseBy n before now
@@ -253,7 +247,7 @@ ran-further {E} config old commands command stands stands_now content faults mid
         rose = rw risen-more (rose-more (risen_in h.moments) faults mid.media.faults now.media.faults e.moment.rose h.rose later e.rose);
         found = λ place. finds config old (h.moments ++ e.moment ∷ []) place ready.room ready.off ready.rest (ready.logs place) run;
         kept = λ place. keeps-puts config old (h.moments ++ e.moment ∷ []) place ready.room ready.off ready.rest (ready.logs place) run;
-        told_all = rw written-more (appends-more told told_mid told_now (written_by h.moments) (texts e.moment.replies) h.told_all e.told_all);
+        told_all = rw written-more (appends-append told told_mid told_now (written_by h.moments) (texts e.moment.replies) h.told_all e.told_all);
       },
       more,
       limited.1,
@@ -308,7 +302,7 @@ ran-into config old commands command stands stands_now content faults mid now to
         exact = h.reads.exact;
         front = e.told_front.0;
         is_front = e.told_front.1;
-        told_front = appends-more told told_mid told_now (written_by h.moments) e.told_front.0 h.told_all e.told_front.2;
+        told_front = appends-append told told_mid told_now (written_by h.moments) e.told_front.0 h.told_all e.told_front.2;
       },
       omega (arith, reads-more h.moments e.moment, counted, counted-by mid e.moment now command e.reads),
     )

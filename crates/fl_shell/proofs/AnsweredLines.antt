@@ -12,7 +12,8 @@ use Rattle.fl_machine.specs.Script.{RoseBy}
 use Rattle.fl_machine.specs.Small.{AreTables}
 use Rattle.fl_machine.specs.Step.{Moment}
 use Rattle.fl_session.specs.Execute.{IsReady, StandsAlike}
-use Rattle.fl_session.proofs.NextCommand.{appends-more, nothing-added}
+use Rattle.fl_script.proofs.SinkPieces.{appends-append}
+use Rattle.fl_session.proofs.NextCommand.{nothing-added}
 use Rattle.fl_shell.specs.Flushing.{RanThese}
 use Rattle.fl_shell.specs.Talk.{Turn, Answers, AnswersEach, HasCauses, RanOver, moments_of, moments_onto, answers_of, after_turn}
 use Rattle.fl_shell.specs.Talking.{Answered, TalkedSoFar}
@@ -91,7 +92,7 @@ talked-silent config old lines stands stands_now content faults flash flash_now 
       runs = subst (λ n. RanThese config old n (moments_of (h.turns ++ turn ∷ [])) stands_now content faults flash_now) (sym (length-append lines (line ∷ [])))
           (subst (λ ms. RanThese config old (length lines + 1) ms stands_now content faults flash_now) same runs);
       causes = causes-more faults flash.media.faults flash_now.media.faults h.turns turn later h.causes (λ e. rose-since (risen_in h.runs.ran.moments) faults flash.media.faults flash_now.media.faults h.runs.ran.rose (s.looked.cause e));
-      told_all = subst (λ text. Appends told told_now text) (sym (answers-more h.turns turn)) (appends-more told told_mid told_now (answers_of h.turns) s.answer h.told_all s.written);
+      told_all = subst (λ text. Appends told told_now text) (sym (answers-more h.turns turn)) (appends-append told told_mid told_now (answers_of h.turns) s.answer h.told_all s.written);
     }
 
 none-failed : false ≡ true → ⊥
@@ -114,7 +115,7 @@ talked-command {E} config old lines stands stands_now content faults flash flash
       runs = subst (λ n. RanThese config old n (moments_of (h.turns ++ turn ∷ [])) stands_now content faults flash_now) (sym (length-append lines (line ∷ [])))
           (subst (λ ms. RanThese config old (length lines + 1) ms stands_now content faults flash_now) (sym (moments-more h.turns turn)) g.3);
       causes = causes-more faults flash.media.faults flash_now.media.faults h.turns turn later h.causes (λ e. absurd (none-failed e));
-      told_all = subst (λ text. Appends told told_now text) (sym (answers-more h.turns turn)) (appends-more told told_mid told_now (answers_of h.turns) answer h.told_all g.1.2);
+      told_all = subst (λ text. Appends told told_now text) (sym (answers-more h.turns turn)) (appends-append told told_mid told_now (answers_of h.turns) answer h.told_all g.1.2);
     }
 
 -- a line is answered
@@ -163,7 +164,7 @@ answered-into {E} config old lines stands stands_now content faults flash flash_
       before = h.turns;
       text = answers_of h.turns ++ wrote.0;
       written = (turn, wrote.0, refl, wrote.1, refl);
-      told_all = appends-more told told_mid told_now (answers_of h.turns) wrote.0 h.told_all wrote.2;
+      told_all = appends-append told told_mid told_now (answers_of h.turns) wrote.0 h.told_all wrote.2;
       reads = ran-reads config old (length lines) (moments_of h.turns) stands content faults flash h.runs;
     }
 

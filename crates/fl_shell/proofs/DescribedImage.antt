@@ -16,12 +16,13 @@ use Rattle.fl_plan.specs.Plan.{IsConfigOf, IsRingAt, Label, blocks_in, label_of,
 use Rattle.fl_plan.specs.declared.table_config.TableConfig.{TableConfig}
 use Rattle.fl_rlc.specs.Rings.{rings_of}
 use Rattle.fl_rlc.specs.declared.rings.RingCounts.{RingCounts}
+use Rattle.fl_script.proofs.SinkPieces.{appends-append}
 use Rattle.fl_script.specs.Written.{Written}
 use Rattle.fl_script.specs.declared.reply.Reply as code
 use Rattle.fl_session.specs.Held.{TellsTable, TellsCounts, TellsRings, TellsLast}
+use Rattle.fl_store.proofs.Appends.{front-behind, front-more}
 use Rattle.fl_queries.specs.OldestBlob.{oldest_blob, FindsOldest}
 use Rattle.fl_session.specs.Oldest.{FindsOf, LooksFor}
-use Rattle.fl_session.proofs.NextCommand.{appends-more}
 use Rattle.fl_table.specs.Look.{counts_of}
 use Rattle.fl_table.specs.declared.counts.TableCounts.{TableCounts}
 use Rattle.fl_words.specs.Medium.{device_text, table_text}
@@ -34,15 +35,8 @@ use Rattle.fl_shell.proofs.LineAnswer.{looked-none}
 
 -- ---- texts one behind another
 
-front-behind : (before mid now : Option (List ℕ)) (first second : List ℕ) → Appends before mid first → AppendsFront mid now second → AppendsFront before now (first ++ second)
-front-behind before mid now first second done wrote =
-    (first ++ wrote.0, (wrote.1.0, append_assoc first wrote.0 wrote.1.0 ∙ ap (λ l. first ++ l) wrote.1.1), appends-more before mid now first wrote.0 done wrote.2)
-
-front-more : (before now : Option (List ℕ)) (first second : List ℕ) → AppendsFront before now first → AppendsFront before now (first ++ second)
-front-more before now first second wrote = (wrote.0, (wrote.1.0 ++ second, sym (append_assoc wrote.0 wrote.1.0 second) ∙ ap (λ l. l ++ second) wrote.1.1), wrote.2)
-
 written-behind : {E : Type 0} (before mid now : Option (List ℕ)) (first second : List ℕ) (result : Result (Unit {0}) E) → Appends before mid first → Written mid now result second → Written before now result (first ++ second)
-written-behind before mid now first second (Ok done) one wrote = appends-more before mid now first second one wrote
+written-behind before mid now first second (Ok done) one wrote = appends-append before mid now first second one wrote
 written-behind before mid now first second (Err failed) one wrote = front-behind before mid now first second one wrote
 
 -- ---- what a table holds
@@ -221,7 +215,7 @@ table-written config m (Some plan) table log log_blocks first stands flash flash
     let figures_are = own-figures config m plan table name figures named of held in
     let so_far : Appends told behind (table_text plan ++ sizes_text plan ++ held_in config m plan plan.name) =
     subst (λ l. Appends told behind l) (sym (append_assoc (table_text plan) (sizes_text plan) (held_in config m plan plan.name)))
-    (appends-more told mid behind (table_text plan) (sizes_text plan ++ held_in config m plan plan.name) (subst (λ l. Appends told mid l) is wrote) (subst (λ l. Appends mid behind l) figures_are wrote_figures)) in
+    (appends-append told mid behind (table_text plan) (sizes_text plan ++ held_in config m plan plan.name) (subst (λ l. Appends told mid l) is wrote) (subst (λ l. Appends mid behind l) figures_are wrote_figures)) in
     record {
       unread = h.unread;
       looked = h.looked;
@@ -287,7 +281,7 @@ sent-more E config m plans at mid_stands stands flash flash_mid flash_now told m
       unread = h.unread ++ w.unread ∷ [];
       many = omega (arith, length-append h.unread (w.unread ∷ []), h.many, ap (λ (ps : List Plan). length ps) r.more, length-append (take at plans) (r.plan ∷ []));
       looked = looked-more config m h.unread w.unread mid_stands stands flash flash_mid flash_now first later h.looked w.looked;
-      sent = subst (λ l. Appends told told_now l) all (appends-more told mid told_now (so_far config m h.unread (take at plans)) (described config m w.unread r.plan) h.sent w.written);
+      sent = subst (λ l. Appends told told_now l) all (appends-append told mid told_now (so_far config m h.unread (take at plans)) (described config m w.unread r.plan) h.sent w.written);
     }
 
 -- the sink fails in the line of the device

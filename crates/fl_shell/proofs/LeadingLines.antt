@@ -15,7 +15,8 @@ use Rattle.fl_words.specs.Grammar.{LineFault, command_of, lines_of}
 use Rattle.fl_script.specs.CommandView.{command_view}
 use Rattle.fl_script.specs.Written.{Written}
 use Rattle.fl_script.specs.declared.command.Command as script
-use Rattle.fl_session.proofs.NextCommand.{appends-more, nothing-added}
+use Rattle.fl_script.proofs.SinkPieces.{appends-append}
+use Rattle.fl_session.proofs.NextCommand.{nothing-added}
 use Rattle.fl_shell.specs.Begin.{Step, Ends, Refuses, IsEnded, Leads, LeadsBy, LeadsTo, step_asked, step_command, step_config, step_of, step_own}
 use Rattle.fl_shell.specs.Leading.{LeadsAs, LeavesOn, Led, TakesBy, going_on}
 use Rattle.fl_shell.specs.OwnView.{own_view}
@@ -165,7 +166,7 @@ led-more E all total made after state left told told_mid told_now h by = record 
   led = record {
     answers = h.led.answers ++ by.0;
     leads = leads-more no_lines made after h.given h.led.answers h.hand by.0 h.led.leads (subst (λ s. LeadsTo made s by.0 after) (step-same made h.hand state.line h.hand_is) by.1);
-    written = appends-more told told_mid told_now h.led.answers by.0 h.led.written by.2;
+    written = appends-append told told_mid told_now h.led.answers by.0 h.led.written by.2;
   };
 }
 
@@ -188,7 +189,7 @@ led-into all total made after state new left left_now told told_mid told_now err
     leads_last = subst (λ s. LeadsTo made s by.0 after) (step-same made h.hand state.line h.hand_is) by.1;
     front = by.2.0;
     is_front = by.2.1;
-    written = appends-more told told_mid told_now h.led.answers by.2.0 h.led.written by.2.2;
+    written = appends-append told told_mid told_now h.led.answers by.2.0 h.led.written by.2.2;
   },
 )
 
