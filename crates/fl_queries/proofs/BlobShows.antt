@@ -42,10 +42,7 @@ use Rattle.fl_words.specs.Reply.{text}
 use Rattle.fl_queries.specs.BlobLine.{ShowsBytes, read_reply}
 use Rattle.fl_queries.specs.BlobShown.{found_in, IfNamed, FindsBlob, NamesBlob, SaysBlob, ShowsBlob}
 use Rattle.fl_queries.proofs.ListsAll.{one-text}
-use Rattle.fl_queries.proofs.Lookups.{found-place}
-
-same-some : {X : Type 0} (a b : X) → Some a ≡ Some b → a ≡ b
-same-some a b e = cc
+use Rattle.fl_queries.proofs.Lookups.{found-place, same-some}
 
 no : false ≡ true → ⊥
 no e = cc

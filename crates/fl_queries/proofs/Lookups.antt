@@ -40,7 +40,7 @@ use Rattle.fl_queries.specs.Looked.{Looks}
 use Rattle.fl_queries.specs.Rows.{row_reply}
 use Rattle.fl_queries.proofs.RowLines.{row-line}
 
-same-some : {X : Type 0} (a b : X) → Some a ≡ Some b → a ≡ b
+pub same-some : {X : Type 0} (a b : X) → Some a ≡ Some b → a ≡ b
 same-some a b e = cc
 
 never : {P : Type 0} → false ≡ true → P
