@@ -33,7 +33,7 @@ use Rattle.fl_words.specs.Reply as reply
 use Rattle.fl_words.specs.Reply.{Reply}
 use Rattle.std.specs.Option.{IsSomeAnd}
 use Rattle.fl_queries.specs.BlobSays.{AnswersBlob, FindsNamed, IsBadIn, IsBadNamed, IsLeft, MayBeBadAhead, MayBeBadFor, NamesFor, TellsBlob, TellsLeft}
-use Rattle.fl_queries.proofs.LeftByReads.{pages-read, tells-read}
+use Rattle.fl_store.proofs.TablesOnlyRead.{pages-read, tells-read}
 use Rattle.fl_queries.specs.BlobShown.{found_in}
 use Rattle.fl_queries.specs.Found.{FindsRow}
 

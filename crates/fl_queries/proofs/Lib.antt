@@ -4,7 +4,6 @@ pub mod BlobNotes
 pub mod RowLines
 pub mod Few
 pub mod Scanned
-pub mod LeftByReads
 pub mod Lookups
 pub mod AnyBlobs
 pub mod BadBlobs

@@ -37,7 +37,7 @@ use Rattle.fl_store.proofs.TablesChanged.{at-place}
 use Rattle.fl_store.proofs.Queried.{stands-unlogged}
 use Rattle.fl_store.proofs.Worked.{medium-goes}
 use Rattle.fl_queries.specs.Nexts.{Nexts, given_of}
-use Rattle.fl_queries.proofs.LeftByReads.{goes-reads}
+use Rattle.fl_frame.proofs.ContentsInTurn.{OnlyReads-goes}
 use Rattle.fl_session.specs.Cost.{HasRead, ReadsAsStated}
 use Rattle.fl_session.specs.Execute.{Executes}
 use Rattle.fl_session.specs.Notes.{cursor_of}
@@ -47,7 +47,7 @@ use Rattle.fl_session.specs.Standing.{SessionStands}
 use Rattle.fl_session.proofs.CommandReplies.{answers-saying, executes-answered, saying, says}
 use Rattle.fl_session.proofs.CountedReads.{read-none}
 use Rattle.fl_session.proofs.CursorsOf.{cursor-told}
-use Rattle.fl_session.proofs.GetReplies.{tables-looked}
+use Rattle.fl_store.proofs.TablesOnlyRead.{tables-read}
 use Rattle.fl_session.proofs.Rested.{session-ends}
 use Rattle.fl_session.proofs.Unlogged.{nexts-unlogged}
 
@@ -56,8 +56,8 @@ stands-moved : (config : Config) (entries : List Entry) (notes : Notes) (f g : F
     SessionStands config entries g true (record notes { cursors = set notes.cursors n (Some cursor) }) (record m { cursors = set m.cursors n (Some (cursor_of cursor)) })
 stands-moved config entries notes f g n cursor m only h = record {
   knots = h.knots;
-  medium = medium-goes config f g (goes-reads f g only) h.medium;
-  tables = tables-looked f g only config.plans entries m.tables h.tables;
+  medium = medium-goes config f g (OnlyReads-goes f g only) h.medium;
+  tables = tables-read f g only config.plans entries m.tables h.tables;
   is_mounted = h.is_mounted;
   cursors = ap (λ (cs : List (Option OpenCursor)). set cs n (Some (cursor_of cursor))) h.cursors ∙ sym (map-set (option_map cursor_of) notes.cursors n (Some cursor));
   device = record {

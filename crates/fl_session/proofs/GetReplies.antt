@@ -8,6 +8,7 @@ use Rattle.fl_model.specs.Query.{entry_at}
 use Rattle.fl_model.specs.Record.{Config, Plan}
 use Rattle.fl_model.specs.Spline.{retained, is_covered, is_pending_key, lookup_limit, lookup_reads}
 use Rattle.fl_model.specs.Table as model
+use Rattle.fl_frame.proofs.ContentsInTurn.{OnlyReads-goes}
 use Rattle.fl_frame.specs.Contents.{OnlyReads}
 use Rattle.fl_words.specs.Command as command
 use Rattle.fl_words.specs.Reply as reply
@@ -25,11 +26,10 @@ use Rattle.fl_script.specs.declared.reply.Reply as code
 use Rattle.fl_table.specs.Standing.{Stands}
 use Rattle.fl_table.specs.declared.table.Table.{Table}
 use Rattle.fl_store.specs.declared.tables.Entry.{Entry}
-use Rattle.fl_store.specs.Tables.{first_of, TablesStand}
+use Rattle.fl_store.specs.Tables.{first_of}
 use Rattle.fl_store.proofs.Queried.{stands-unlogged}
-use Rattle.fl_store.proofs.TablesOnlyRead.{tables-kept}
+use Rattle.fl_store.proofs.TablesOnlyRead.{tables-read}
 use Rattle.fl_store.proofs.Worked.{medium-goes}
-use Rattle.fl_queries.proofs.LeftByReads.{goes-reads, pages-read}
 use Rattle.fl_queries.specs.LookSays.{LookSays, ReadsFew}
 use Rattle.fl_queries.specs.Looked.{Looks}
 use Rattle.fl_queries.proofs.ListsAll.{one-text}
@@ -48,16 +48,13 @@ use Rattle.fl_session.proofs.Unlogged.{looks-unlogged}
 
 -- what reads leave of a session
 module _ (f g : FlashState) (only : OnlyReads f g) where
-  pub tables-looked : (plans : List Plan) (entries : List Entry) (tables : List model.Table) → TablesStand f (λ i. true) plans entries tables → TablesStand g (λ i. true) plans entries tables
-  tables-looked plans entries tables h = tables-kept f g (pages-read f g only) (goes-reads f g only).geometry (λ i. true) plans entries tables h
-
   -- the session still stands, for a machine that knows what was read
   pub session-read : (config : Config) (entries : List Entry) (notes : Notes) (cost : Cost) (m : Machine) → SessionStands config entries f true notes m →
       SessionStands config entries g true (record notes { cost = cost }) (record m { cost = cost_of cost })
   session-read config entries notes cost m h = record {
     knots = h.knots;
-    medium = medium-goes config f g (goes-reads f g only) h.medium;
-    tables = tables-looked config.plans entries m.tables h.tables;
+    medium = medium-goes config f g (OnlyReads-goes f g only) h.medium;
+    tables = tables-read f g only config.plans entries m.tables h.tables;
     is_mounted = h.is_mounted;
     cursors = h.cursors;
     device = record {

@@ -58,16 +58,16 @@ module _ (f g : FlashState) (only : OnlyReads f g) where
   pub page-read : g.geometry.page ≡ f.geometry.page
   page-read = ap (λ (c : Contents). c.geometry.page) only.contents
 
-  same-pages : page_at g ≡ page_at f
-  same-pages = ap (λ (c : Contents). page_of c.bytes c.start c.geometry.page) only.contents
+  pub pages-read : page_at g ≡ page_at f
+  pages-read = ap (λ (c : Contents). page_of c.bytes c.start c.geometry.page) only.contents
 
   -- a table still stands
   pub stands-read : (t : Table 64 64) (first : ℕ) (plan : Plan) (table : model.Table) → Stands t f first plan table → Stands t g first plan table
-  stands-read t first plan table h = stands-pages f g same-pages t first plan table h
+  stands-read t first plan table h = stands-pages f g pages-read t first plan table h
 
   -- .. and so do all, with their logs
   pub tables-read : (plans : List Plan) (entries : List Entry) (tables : List model.Table) → TablesStand f (λ i. true) plans entries tables → TablesStand g (λ i. true) plans entries tables
-  tables-read plans entries tables h = tables-kept f g same-pages (ap (λ (c : Contents). c.geometry) only.contents) (λ i. true) plans entries tables h
+  tables-read plans entries tables h = tables-kept f g pages-read (ap (λ (c : Contents). c.geometry) only.contents) (λ i. true) plans entries tables h
 
 module _ (t : Table 64 64) (f : FlashState) (first : ℕ) (plan : Plan) (table : model.Table) (tells : IsTrue f.media.tells) (reaches : f.start + extent f.geometry f.blocks ≤ length f.media.content) (lies : LiesOn t f) (stands : Stands t f first plan table) where
   abbrev pub is-standing : IsStanding t (contents_of f)

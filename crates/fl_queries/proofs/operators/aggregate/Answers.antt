@@ -18,7 +18,7 @@ use Rattle.fl_cursor.specs.Sound.{IsSoundAhead, IsSoundOver}
 use Rattle.fl_queries.specs.ListSays.{mark_on, IsGroup}
 use Rattle.fl_queries.proofs.AnyLines.{lists-scan}
 use Rattle.fl_queries.proofs.CountedLines.{counted-wider}
-use Rattle.fl_queries.proofs.LeftByReads.{lies-read}
+use Rattle.fl_store.proofs.TablesOnlyRead.{lies-read}
 use Rattle.fl_queries.proofs.OperatorLines.{few-asked}
 use Rattle.fl_queries.proofs.Resumed.{is-standing}
 use Rattle.fl_cursor.specs.Asked.{asked_by}
@@ -31,7 +31,7 @@ list_groups-requires g c = record {
 }
 
 pub returns-clause-lies : goal.returns-clause-lies
-returns-clause-lies g c = lies-read _ _ _ c.list_groups.ensures.reads_only c.requires.lies
+returns-clause-lies g c = lies-read _ _ c.list_groups.ensures.reads_only _ c.requires.lies
 
 pub returns-clause-counted : goal.returns-clause-counted
 returns-clause-counted g c = λ first plan t tells on stands.

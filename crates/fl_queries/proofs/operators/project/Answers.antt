@@ -19,7 +19,7 @@ use Rattle.fl_cursor.specs.Sound.{IsSoundAhead, IsSoundOver}
 use Rattle.fl_queries.specs.ListSays.{EndsRange, mark_on, IsFields, ListSays}
 use Rattle.fl_queries.proofs.AnyLines.{lists-scan}
 use Rattle.fl_queries.proofs.CountedLines.{counted-wider}
-use Rattle.fl_queries.proofs.LeftByReads.{lies-read}
+use Rattle.fl_store.proofs.TablesOnlyRead.{lies-read}
 use Rattle.fl_queries.proofs.OperatorLines.{few-asked, projected-fields}
 use Rattle.fl_queries.proofs.Resumed.{is-standing}
 use Rattle.fl_cursor.specs.Asked.{asked_by}
@@ -34,7 +34,7 @@ new-rows-requires g c = λ i lt.
     (subst (λ (t : Table 64 64). HasColumn (layout_in t) (slice_index c.args.columns.now i)) (sym c.begin-cursor.ensures.table) (lacks-none (layout_in c.args.table.now) c.args.columns.now i c.requires.columns there))
 
 pub returns-clause-lies : goal.returns-clause-lies
-returns-clause-lies g c = lies-read _ _ _ c.list_projected.ensures.reads_only c.requires.lies
+returns-clause-lies g c = lies-read _ _ c.list_projected.ensures.reads_only _ c.requires.lies
 
 pub returns-clause-counted : goal.returns-clause-counted
 returns-clause-counted g c = λ first plan t tells on stands.

@@ -24,7 +24,7 @@ use Rattle.fl_queries.specs.ListSays.{EndsRange, mark_on, ListSays}
 use Rattle.fl_queries.specs.Rising.{AreRising, IsRow}
 use Rattle.fl_queries.proofs.AnyLines.{lists-scan}
 use Rattle.fl_queries.proofs.CountedLines.{counted-wider}
-use Rattle.fl_queries.proofs.LeftByReads.{lies-read}
+use Rattle.fl_store.proofs.TablesOnlyRead.{lies-read}
 use Rattle.fl_queries.proofs.RowLines.{blobs-as}
 use Rattle.fl_queries.proofs.operators.select.Goals as goal
 
@@ -38,7 +38,7 @@ list_selected-requires g c =
     }
 
 pub returns-clause-lies : goal.returns-clause-lies
-returns-clause-lies g c = lies-read _ _ _ c.list_selected.ensures.reads_only c.requires.lies
+returns-clause-lies g c = lies-read _ _ c.list_selected.ensures.reads_only _ c.requires.lies
 
 pub returns-clause-counted : goal.returns-clause-counted
 returns-clause-counted g c = λ first plan t tells on stands.

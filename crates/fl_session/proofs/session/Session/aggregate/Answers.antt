@@ -11,7 +11,7 @@ use Rattle.fl_session.proofs.CommandReplies.{step-is}
 use Rattle.fl_queries.specs.ListSays.{EndsRange, IsGroup}
 use Rattle.fl_session.proofs.LooksAt.{looks-lists}
 use Rattle.fl_session.proofs.CountedReads.{has-read}
-use Rattle.fl_queries.proofs.LeftByReads.{goes-reads}
+use Rattle.fl_frame.proofs.ContentsInTurn.{OnlyReads-goes}
 use Rattle.fl_session.proofs.NamedTable.{reached-here, reached-within}
 use Rattle.fl_session.proofs.Sound.{sound-roomed}
 use Rattle.fl_session.proofs.Operations.{operator-executes, operator-no_column, operator-refused, has-column, lacks-column}
@@ -68,10 +68,10 @@ aggregate-requires-clause-lies g c =
     lies-unlogged c.table-table.result.now c.index.result.now c.table-table.ensures (c.requires.sound.lie c.in-Ok.at c.index.result.now here)
 
 pub returns-clause-goes : goal.returns-clause-goes
-returns-clause-goes g c = goes-reads _ _ c.aggregate.ensures.reads_only
+returns-clause-goes g c = OnlyReads-goes _ _ c.aggregate.ensures.reads_only
 
 pub returns-clause-sound : goal.returns-clause-sound
-returns-clause-sound g c = sound-roomed c.args.self.now.tables.entries.items _ _ _ _ _ _ (goes-reads _ _ c.aggregate.ensures.reads_only) c.aggregate.ensures.reads_only.power c.aggregate.ensures.room c.in-Ok.ensures.mounted_is c.requires.sound
+returns-clause-sound g c = sound-roomed c.args.self.now.tables.entries.items _ _ _ _ _ _ (OnlyReads-goes _ _ c.aggregate.ensures.reads_only) c.aggregate.ensures.reads_only.power c.aggregate.ensures.room c.in-Ok.ensures.mounted_is c.requires.sound
 
 pub returns-in-Err-clause-cause : goal.returns-in-Err-clause-cause
 returns-in-Err-clause-cause g c = inl (says-written _ _ _ _ _ _ (refusal-says _ c.args.name c.in-Err.refusal c.in-Err.ensures) c.write_reply.ensures.text)

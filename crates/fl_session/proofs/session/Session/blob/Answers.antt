@@ -4,7 +4,7 @@ use Rattle.fl_flash.specs.declared.flash.Work.{Work}
 use Rattle.fl_session.proofs.LooksAt.{looks-blob}
 use Rattle.fl_session.proofs.BlobReplies.{blob-executes, blob-refused}
 use Rattle.fl_session.proofs.CountedReads.{has-read}
-use Rattle.fl_queries.proofs.LeftByReads.{goes-reads}
+use Rattle.fl_frame.proofs.ContentsInTurn.{OnlyReads-goes}
 use Rattle.fl_session.proofs.NamedTable.{reached-here, reached-within}
 use Rattle.fl_session.proofs.Sound.{sound-read}
 use Rattle.fl_session.proofs.ReplyCauses.{refusal-says, says-written, is-here}
@@ -29,10 +29,10 @@ show_blob-requires-clause-lies g c =
     lies-unlogged c.table-table.result.now c.index.result.now c.table-table.ensures (c.requires.sound.lie c.in-Ok.at c.index.result.now here)
 
 pub returns-clause-goes : goal.returns-clause-goes
-returns-clause-goes g c = goes-reads _ _ c.show_blob.ensures.counts
+returns-clause-goes g c = OnlyReads-goes _ _ c.show_blob.ensures.counts
 
 pub returns-clause-sound : goal.returns-clause-sound
-returns-clause-sound g c = sound-read c.args.self.now.tables.entries.items _ _ _ _ _ _ _ (goes-reads _ _ c.show_blob.ensures.counts) c.show_blob.ensures.counts.power c.show_blob.ensures.room refl (refl, refl) c.requires.sound.cursors c.in-Ok.ensures.mounted_is c.requires.sound
+returns-clause-sound g c = sound-read c.args.self.now.tables.entries.items _ _ _ _ _ _ _ (OnlyReads-goes _ _ c.show_blob.ensures.counts) c.show_blob.ensures.counts.power c.show_blob.ensures.room refl (refl, refl) c.requires.sound.cursors c.in-Ok.ensures.mounted_is c.requires.sound
 
 pub returns-clause-step : goal.returns-clause-step
 returns-clause-step g c = λ config old h.

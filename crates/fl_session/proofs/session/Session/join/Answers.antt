@@ -3,7 +3,7 @@ use Rattle.std.specs.List.{slice_get}
 use Rattle.fl_flash.specs.declared.flash.Work.{Work}
 use Rattle.fl_session.proofs.LooksAt.{looks-pairs}
 use Rattle.fl_session.proofs.CountedReads.{has-read}
-use Rattle.fl_queries.proofs.LeftByReads.{goes-reads}
+use Rattle.fl_frame.proofs.ContentsInTurn.{OnlyReads-goes}
 use Rattle.fl_session.proofs.Operations.{join-executes, join-refused, join-alone}
 use Rattle.fl_session.proofs.NamedTable.{reached-here, reached-within}
 use Rattle.fl_session.proofs.Sound.{sound-roomed}
@@ -45,10 +45,10 @@ join-requires-clause-right_lies g c =
     lies-unlogged c.table-right_table.result.now c.index-2.result.now c.table-right_table.ensures (c.requires.sound.lie c.in-Ok-find.at c.index-2.result.now here)
 
 pub returns-clause-goes : goal.returns-clause-goes
-returns-clause-goes g c = goes-reads _ _ c.join.ensures.reads_only
+returns-clause-goes g c = OnlyReads-goes _ _ c.join.ensures.reads_only
 
 pub returns-clause-sound : goal.returns-clause-sound
-returns-clause-sound g c = sound-roomed c.args.self.now.tables.entries.items _ _ _ _ _ _ (goes-reads _ _ c.join.ensures.reads_only) c.join.ensures.reads_only.power c.join.ensures.room c.in-Ok.ensures.mounted_is c.requires.sound
+returns-clause-sound g c = sound-roomed c.args.self.now.tables.entries.items _ _ _ _ _ _ (OnlyReads-goes _ _ c.join.ensures.reads_only) c.join.ensures.reads_only.power c.join.ensures.room c.in-Ok.ensures.mounted_is c.requires.sound
 
 pub returns-clause-step : goal.returns-clause-step
 returns-clause-step g c = λ config old h.

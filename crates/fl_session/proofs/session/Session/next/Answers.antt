@@ -7,7 +7,7 @@ use Rattle.fl_session.specs.declared.notes.TableCursor.{TableCursor}
 use Rattle.fl_session.proofs.LooksAt.{next-moves}
 use Rattle.fl_session.proofs.CountedReads.{has-read}
 use Rattle.fl_session.proofs.CursorMoves.{next-executes, next-off, next-none}
-use Rattle.fl_queries.proofs.LeftByReads.{goes-reads}
+use Rattle.fl_frame.proofs.ContentsInTurn.{OnlyReads-goes}
 use Rattle.fl_session.proofs.Sound.{sound-read, cursors-set}
 use Rattle.fl_words.specs.Reply as reply
 use Rattle.fl_store.proofs.Queried.{lies-unlogged, runs-unlogged}
@@ -34,13 +34,13 @@ next_rows-written-requires-clause-lies g c =
 
 pub returns-clause-sound : goal.returns-clause-sound
 returns-clause-sound g c =
-    rw c.set_cursor.ensures (sound-read c.args.self.now.tables.entries.items _ _ _ _ _ _ _ (goes-reads _ _ c.next_rows-written.ensures.counts) c.next_rows-written.ensures.counts.power c.next_rows-written.ensures.rows c.next_rows-written.ensures.index c.next_rows-written.ensures.right
+    rw c.set_cursor.ensures (sound-read c.args.self.now.tables.entries.items _ _ _ _ _ _ _ (OnlyReads-goes _ _ c.next_rows-written.ensures.counts) c.next_rows-written.ensures.counts.power c.next_rows-written.ensures.rows c.next_rows-written.ensures.index c.next_rows-written.ensures.right
     (cursors-set c.args.self.now.tables.entries.items c.args.self.now.notes.cursors c.args.cursor (Some (record c.in-Some.open { mark = c.next_rows-written.new.mark })) c.requires.sound.cursors
     (λ x e. let is : c.in-Some.open.table ≡ x.table = ap (λ (o : Option TableCursor). unwrap_or (option_map (λ y. y.table) o) 0) e in subst (λ n. n < length c.args.self.now.tables.entries.items) is (c.requires.sound.cursors c.args.cursor c.in-Some.open c.in-Some.ensures)))
     c.if-not-self.false c.requires.sound)
 
 pub returns-clause-goes : goal.returns-clause-goes
-returns-clause-goes g c = goes-reads _ _ c.next_rows-written.ensures.counts
+returns-clause-goes g c = OnlyReads-goes _ _ c.next_rows-written.ensures.counts
 
 pub returns-clause-step : goal.returns-clause-step
 returns-clause-step g c = λ config old h.

@@ -8,7 +8,7 @@ use Rattle.fl_queries.specs.ListSays.{mark_on, EndsScan}
 use Rattle.fl_queries.specs.RowsGiven.{AreRows}
 use Rattle.fl_session.proofs.LooksAt.{looks-lists}
 use Rattle.fl_session.proofs.CountedReads.{has-read}
-use Rattle.fl_queries.proofs.LeftByReads.{goes-reads}
+use Rattle.fl_frame.proofs.ContentsInTurn.{OnlyReads-goes}
 use Rattle.fl_session.proofs.NamedTable.{reached-here, reached-within}
 use Rattle.fl_session.proofs.ScanReplies.{scan-executes, scan-refused}
 use Rattle.fl_session.proofs.Sound.{sound-read}
@@ -34,10 +34,10 @@ list_rows-written-requires-clause-lies g c =
     lies-unlogged c.table-table.result.now c.index.result.now c.table-table.ensures (c.requires.sound.lie c.in-Ok.at c.index.result.now here)
 
 pub returns-clause-goes : goal.returns-clause-goes
-returns-clause-goes g c = goes-reads _ _ c.list_rows-written.ensures.counts
+returns-clause-goes g c = OnlyReads-goes _ _ c.list_rows-written.ensures.counts
 
 pub returns-clause-sound : goal.returns-clause-sound
-returns-clause-sound g c = sound-read c.args.self.now.tables.entries.items _ _ _ _ _ _ _ (goes-reads _ _ c.list_rows-written.ensures.counts) c.list_rows-written.ensures.counts.power c.list_rows-written.ensures.rows c.list_rows-written.ensures.index c.list_rows-written.ensures.right c.requires.sound.cursors c.in-Ok.ensures.mounted_is c.requires.sound
+returns-clause-sound g c = sound-read c.args.self.now.tables.entries.items _ _ _ _ _ _ _ (OnlyReads-goes _ _ c.list_rows-written.ensures.counts) c.list_rows-written.ensures.counts.power c.list_rows-written.ensures.rows c.list_rows-written.ensures.index c.list_rows-written.ensures.right c.requires.sound.cursors c.in-Ok.ensures.mounted_is c.requires.sound
 
 pub returns-clause-step : goal.returns-clause-step
 returns-clause-step g c = λ config old h.

@@ -1,7 +1,7 @@
 use Rattle.std.proofs.Common.{◌≡◌, Some, inl, inr, refl}
 use Rattle.std.specs.List.{slice_get}
 use Rattle.fl_frame.proofs.CallsInTurn.{stays}
-use Rattle.fl_queries.proofs.LeftByReads.{goes-reads}
+use Rattle.fl_frame.proofs.ContentsInTurn.{OnlyReads-goes}
 use Rattle.fl_session.proofs.LookingFor.{looks-refused, looks-there}
 use Rattle.fl_session.proofs.NamedTable.{reached-here, reached-within}
 use Rattle.fl_session.proofs.ReplyCauses.{is-here, only-looks}
@@ -30,10 +30,10 @@ pub oldest_blob-requires-clause-room : goal.oldest_blob-requires-clause-room
 oldest_blob-requires-clause-room g c = c.requires.room
 
 pub returns-clause-goes : goal.returns-clause-goes
-returns-clause-goes g c = stays _ _ (goes-reads _ _ c.oldest_blob.ensures.counts)
+returns-clause-goes g c = stays _ _ (OnlyReads-goes _ _ c.oldest_blob.ensures.counts)
 
 pub returns-clause-sound : goal.returns-clause-sound
-returns-clause-sound g c = sound-roomed c.args.self.now.tables.entries.items _ _ _ _ _ _ (goes-reads _ _ c.oldest_blob.ensures.counts) c.oldest_blob.ensures.counts.power c.oldest_blob.ensures.room c.in-Ok.ensures.mounted_is c.requires
+returns-clause-sound g c = sound-roomed c.args.self.now.tables.entries.items _ _ _ _ _ _ (OnlyReads-goes _ _ c.oldest_blob.ensures.counts) c.oldest_blob.ensures.counts.power c.oldest_blob.ensures.room c.in-Ok.ensures.mounted_is c.requires
 
 pub returns-clause-looks : goal.returns-clause-looks
 returns-clause-looks g c = λ config m h.
