@@ -11,7 +11,6 @@ use Rattle.fl_flash.specs.declared.flash.FlashFault.TheVariants.{PowerLost}
 use Rattle.fl_flash.specs.declared.tear.Tear.TheVariants.{Kind}
 use Rattle.fl_machine.specs.Step.{cost_reply}
 use Rattle.fl_frame.specs.Contents.{OnlyReads}
-use Rattle.fl_page.specs.declared.fault.ReadFault.TheVariants as fault
 use Rattle.fl_ring.specs.Written as tried
 use Rattle.fl_rlc.specs.Paged.{HasMadePage, PutLogged}
 use Rattle.fl_rlc.specs.Refusal.{NeedsNoOperation, put_refusal}
