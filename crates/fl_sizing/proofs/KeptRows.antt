@@ -3,7 +3,7 @@ use Rattle.std.proofs.Common.{◌≡◌, ℕ, zero, suc, ◌+◌, ◌-◌, ◌*�
 use Rattle.std.specs.Prelude.{min, replicate, if◌then◌else◌}
 use Rattle.std.specs.List.{AllByRecursion, sum}
 use Rattle.std.proofs.Math.Nat.{add-mul, mod-add-div', mul-le-mul_right, mul-le-mul_left}
-use Rattle.std.proofs.lemmas.Bool.{cases_lt}
+use Rattle.std.proofs.lemmas.Bool.{cases_lt, false≢true}
 use Rattle.std.proofs.lemmas.List.Sums.{sum_by-cons}
 use Rattle.std.proofs.lemmas.Nat.{mod_below}
 use Rattle.std.proofs.lemmas.Nat.Gcd.{dvd-zero}
@@ -17,9 +17,6 @@ use Rattle.fl_sizing.specs.Rings.{rounded_up, least_pages, most_pages, blocks_fo
 use Rattle.fl_sizing.specs.Sizes.{rows_kept, index_pages, index_blocks}
 use Rattle.fl_sizing.specs.Laws.{sealed_all, KeepsPages, IsEnough}
 
-no : false ≡ true → ⊥
-no e = cc
-
 ring-fresh : (shape : Shape) → IsRing shape fresh
 ring-fresh shape = record {
   not_negative = omega arith;
@@ -27,8 +24,8 @@ ring-fresh shape = record {
   whole_rounds = λ few. dvd-zero _;
   kept = omega arith;
   kept_at_end = λ e. omega arith;
-  dirty_at_end = λ d. absurd (no d);
-  not_both = λ d. no d;
+  dirty_at_end = λ d. absurd (false≢true d);
+  not_both = λ d. false≢true d;
 }
 
 ring-erased : (shape : Shape) (ring : Ring) → IsRing shape ring → IsRing shape (erased ring)
@@ -38,13 +35,13 @@ ring-erased shape ring h = record {
   whole_rounds = h.whole_rounds;
   kept = h.kept;
   kept_at_end = h.kept_at_end;
-  dirty_at_end = λ d. absurd (no d);
+  dirty_at_end = λ d. absurd (false≢true d);
   not_both = neither ring.torn;
 }
   where
     neither : (b : Bool) → IsTrue (b && false) → ⊥
-    neither true d = no d
-    neither false d = no d
+    neither true d = false≢true d
+    neither false d = false≢true d
 
 -- a ring keeps all but two of its pages at most
 pub kept-most : (shape : Shape) (ring : Ring) → IsShape shape → IsRing shape ring → length ring.counts ≤ most_pages shape

@@ -1,6 +1,7 @@
 -- How many reads the mount of a table with full index entries makes.
-use Rattle.std.proofs.Common.{◌≡◌, ◌+◌, ◌≤◌, Bool, true, false, cond, ◌&&◌, not, Option, Some, None, IfSome, IsTrue, sym, ◌∙◌, ap, subst, arith}
+use Rattle.std.proofs.Common.{◌≡◌, ◌+◌, ◌≤◌, Bool, cond, ◌&&◌, not, Option, Some, None, IfSome, IsTrue, sym, ◌∙◌, ap, subst, arith}
 use Rattle.std.specs.Prelude.{count_by, if◌then◌else◌}
+use Rattle.std.proofs.lemmas.Bool.{false≢true, true≢false}
 use Rattle.fl_model.specs.Facts.{IsTable, is_some_ring}
 use Rattle.fl_model.specs.Limits.{is_listed, numbers_of}
 use Rattle.fl_model.specs.MountLimit.{voids_at_end, part_mount_limit, log_mount_limit, kept_in, full_mount_limit}
@@ -26,14 +27,8 @@ log-most shape (Some ring) has is none = subst (λ b. log_mount_limit shape (Som
 ring-most : (shape : Shape) (before after : Option Ring) (has : Bool) → IsShape shape → is_some_ring before ≡ has → is_some_ring after ≡ has → IfSome before (λ r. voids_at_end r.counts ≡ 0) → IfSome after (IsRing shape) →
     part_mount_limit shape before + kept_in after ≤ cond has (most_pages shape + end_reads shape) 0
 ring-most shape None None has is b a none h = omega arith
-ring-most shape None (Some after) has is b a none h = absurd (wrong (b ∙ sym a))
-  where
-    wrong : false ≡ true → ⊥
-    wrong e = cc
-ring-most shape (Some before) None has is b a none h = absurd (wrong (b ∙ sym a))
-  where
-    wrong : true ≡ false → ⊥
-    wrong e = cc
+ring-most shape None (Some after) has is b a none h = absurd (false≢true (b ∙ sym a))
+ring-most shape (Some before) None has is b a none h = absurd (true≢false (b ∙ sym a))
 ring-most shape (Some before) (Some after) has is b a none h =
     let kept = kept-most shape after is h in
     subst (λ x. part_mount_limit shape (Some before) + kept_in (Some after) ≤ cond x (most_pages shape + end_reads shape) 0) b (omega (arith, none, kept))
