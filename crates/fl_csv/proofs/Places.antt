@@ -4,6 +4,7 @@ use Rattle.std.specs.Prelude.{⊤, MatchOption, unwrap_or}
 use lib.Pointwise.{pointwise}
 use Rattle.std.proofs.lemmas.List.{take_all}
 use Rattle.std.specs.List.{fold}
+use Rattle.std.proofs.lemmas.Bool.{false≢true, true≢false}
 use Rattle.csv.specs.Machine.{in_field, start_field, start_record, step}
 use Rattle.csv.specs.Reading.{default_config, strip_bom}
 use Rattle.csv.specs.declared.parser.Action.{Action}
@@ -126,17 +127,11 @@ unmarked (a ∷ b ∷ c ∷ rest) h = by (eqb a 239) refl (eqb b 187) refl (eqb 
     by false e q f r g = rw e refl
     by true e false f r g = rw (e, f) refl
     by true e true f false g = rw (e, f, g) refl
-    by true e true f true g = absurd (no (rw (e, f, g) at h))
-      where
-        no : true ≡ false → ⊥
-        no k = cc k
+    by true e true f true g = absurd (true≢false (rw (e, f, g) at h))
 
 marked : (line : List ℕ) → pointwise eqb (take 3 line) mark ≡ true → drop 3 line ≡ strip_bom line
 unfolding strip_bom
-marked [] h = absurd (no h)
-  where
-    no : false ≡ true → ⊥
-    no k = cc k
+marked [] h = absurd (false≢true h)
 marked (a ∷ []) h = by (eqb a 239) refl
   where
     by : (p : Bool) → eqb a 239 ≡ p → drop 3 (a ∷ []) ≡ strip_bom (a ∷ [])
