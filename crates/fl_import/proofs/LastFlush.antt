@@ -1,6 +1,6 @@
 -- The flush behind the lines of an import.
 use Rattle.std.proofs.Common.{◌≡◌, ℕ, ◌-◌, ◌≤◌, ◌==◌, ◌&&◌, inl, inr, Bool, true, false, nat_lt, if◌then◌else◌, IfOk, IfErr, Option, Result, Ok, Err, List, [], ◌∷◌, ◌++◌, length, length-take, refl, sym, ◌∙◌, ap, subst, arith}
-use Rattle.std.proofs.lemmas.Bool.{eqb-true}
+use Rattle.std.proofs.lemmas.Bool.{eqb-true, true≢false, false≢true}
 use Rattle.fl_base.specs.Causes.{Rose, Appends, AppendsFront}
 use Rattle.fl_csv.specs.declared.record.GoneBlobs.{GoneBlobs}
 use Rattle.fl_import.specs.declared.job_end.LinesTaken.{LinesTaken}
@@ -34,7 +34,7 @@ use Rattle.fl_import.specs.Steps.{AllEnds, LinesEnd, IsOfLines, IsOfTable, Table
 use Rattle.fl_import.specs.Taking.{Ended, EndedAs}
 use Rattle.fl_store.proofs.Failing.{seals-work}
 use Rattle.fl_store.proofs.Works.{works-broken, works-done, works-uncut}
-use Rattle.fl_import.proofs.OneLine.{no-false, not-device}
+use Rattle.fl_import.proofs.OneLine.{not-device}
 
 not-done : Device ≡ Done → ⊥
 not-done e = cc
@@ -111,7 +111,7 @@ module _ (gone : GoneBlobs) (counts : LinesTaken) (first : ℕ) (plan : Plan) (t
   -- the table goes on behind the lines
   abbrev pub goes-on : (taken : Result (Unit {0}) ToolStatus) → is_broken taken ≡ false → AllEnds gone counts first plan table text u g told told_mid rest taken → LinesEnd gone counts first plan table text u g told told_mid rest (status_of taken)
   goes-on (Ok all) other ends = ends
-  goes-on (Err Device) other ends = absurd (no-false other)
+  goes-on (Err Device) other ends = absurd (true≢false other)
   goes-on (Err Done) other ends = ends
   goes-on (Err InputRead) other ends = ends
   goes-on (Err OutWrite) other ends = ends
@@ -248,9 +248,6 @@ broken-is (Err NoTable) is = cc
 broken-is (Err (BadInput n)) is = cc
 broken-is (Err Unsound) is = cc
 
-no-broken : false ≡ true → ⊥
-no-broken e = cc
-
 -- ---- the table was flushed, and it was told how many lines were put, where they were taken to their end
 
 module _ {X : Type 0} (gone : GoneBlobs) (counts : LinesTaken) (written : X → Option (List ℕ)) (faults : X → ℕ) (start mid now : X) (result : ToolStatus) where
@@ -281,7 +278,7 @@ module _ {X : Type 0} (gone : GoneBlobs) (counts : LinesTaken) (written : X → 
 
   pub all-rose : (f g : ℕ) → (taken : Result (Unit {0}) ToolStatus) → IfErr taken Untold → IfOk taken Told? → is_broken taken ≡ false → result ≡ Device → Rose f g
   all-rose f g (Ok all) none tells other is = absurd (subst (λ (s : ToolStatus). TellsCounts gone counts (written mid) (written now) (faults mid) (faults now) s) is tells)
-  all-rose f g (Err status) none tells other is = let no = sym other ∙ ap (λ (s : ToolStatus). is_broken (Err s)) (sym none.0 ∙ is) in absurd (no-broken no)
+  all-rose f g (Err status) none tells other is = let no = sym other ∙ ap (λ (s : ToolStatus). is_broken (Err s)) (sym none.0 ∙ is) in absurd (false≢true no)
 
   pub all-read : {P : Type 0} (taken : Result (Unit {0}) ToolStatus) → IfErr taken Untold → IfOk taken Told? → (taken ≡ Err InputRead → P) → result ≡ InputRead → P
   all-read (Ok all) none tells read is = absurd (subst (λ (s : ToolStatus). TellsCounts gone counts (written mid) (written now) (faults mid) (faults now) s) is tells)

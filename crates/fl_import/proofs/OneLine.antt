@@ -1,5 +1,6 @@
 -- One line of an import over a table that is mounted.
-use Rattle.std.proofs.Common.{None, ◌≡◌, ℕ, ◌⊎◌, inl, inr, Bool, true, false, IsErr, IfErr, Option, Some, Result, Ok, Err, List, [], ◌++◌, refl, sym, ◌∙◌, ap, subst}
+use Rattle.std.proofs.Common.{None, ◌≡◌, ℕ, ◌⊎◌, inl, inr, Bool, false, IsErr, IfErr, Option, Some, Result, Ok, Err, List, [], ◌++◌, refl, sym, ◌∙◌, ap, subst}
+use Rattle.std.proofs.lemmas.Bool.{true≢false}
 use Rattle.fl_base.specs.Causes.{Rose, HasCause, Appends, AppendsFront}
 use Rattle.fl_base.specs.declared.stream.SinkFailed.{SinkFailed}
 use Rattle.fl_csv.specs.declared.record.GoneBlobs.{GoneBlobs}
@@ -41,10 +42,6 @@ use Rattle.fl_import.specs.declared.line_end.LineEnd.{LineEnd}
 use Rattle.fl_store.specs.Works.{Works}
 use Rattle.fl_store.proofs.Failing.{put-work}
 use Rattle.fl_store.proofs.Works.{works-broken, works-done, works-uncut}
-
--- two answers are two
-pub no-false : true ≡ false → ⊥
-no-false e = cc
 
 no-fault : (fault : FlashFault) → None ≡ Some fault → ⊥
 no-fault fault e = cc
@@ -104,7 +101,7 @@ module _ (first : ℕ) (plan : Plan) (table : model.Table) (t u : LoggedTable 64
   module _ (lacking : Bool) (number : ℕ) (told told_now : Option (List ℕ)) where
     -- the line is no record
     pub ends-reason : (put : Result Record CsvRefusal) (why : CsvRefusal) → is_unread why ≡ false → (why ≡ unread.NoMemory) ⊎ (put ≡ Err why) → u ≡ t → g ≡ f → (wrote : Result (Unit {0}) SinkFailed) → Written told told_now wrote (reason_line number why) → LineEnds lacking first plan table number put u g told told_now (by_told wrote)
-    ends-reason put why other (inl none) e k wrote written = absurd (no-false (sym (ap is_unread none) ∙ other))
+    ends-reason put why other (inl none) e k wrote written = absurd (true≢false (sym (ap is_unread none) ∙ other))
     ends-reason put why other (inr is) e k (Ok done) written =
         rw is (refl, works-same e k, written)
     ends-reason put why other (inr is) e k (Err fault) written =
