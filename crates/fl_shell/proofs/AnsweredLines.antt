@@ -2,6 +2,7 @@
 use Rattle.std.proofs.Common.{◌≡◌, ℕ, ◌+◌, ◌^◌, ◌<◌, ◌≤◌, true, false, inl, inr, Option, Some, None, Ok, Err, List, [], ◌∷◌, ◌++◌, length, refl, sym, ◌∙◌, ap, subst, append-nil, length-append, arith}
 use Rattle.std.specs.List.{AllByRecursion}
 use Rattle.std.proofs.lemmas.Grind.{flat_map-append}
+use Rattle.std.proofs.lemmas.Bool.{false≢true}
 use Rattle.fl_base.specs.Causes.{Appends, AppendsFront, Rose}
 use Rattle.fl_flash.specs.Flash.{FlashState}
 use Rattle.fl_model.specs.Record.{Config}
@@ -95,9 +96,6 @@ talked-silent config old lines stands stands_now content faults flash flash_now 
       told_all = subst (λ text. Appends told told_now text) (sym (answers-more h.turns turn)) (appends-append told told_mid told_now (answers_of h.turns) s.answer h.told_all s.written);
     }
 
-none-failed : false ≡ true → ⊥
-none-failed e = cc
-
 -- .. and one for which it executes a command
 talked-command : {E : Type 0} (config : Config) (old : Machine) (lines : List (List ℕ)) (stands stands_now : Machine → Type 0) (content : List ℕ) (faults : ℕ) (flash flash_now : FlashState) (told told_mid told_now : Option (List ℕ)) (line : List ℕ) (c : Command) →
     IsReady config old → TalkedSoFar config old lines stands content faults flash told told_mid → length lines < 2 ^ 44 + 2 ^ 10 → ((m : Machine) → stands m → AreTables config.plans m.tables) → flash.media.faults ≤ flash_now.media.faults →
@@ -114,7 +112,7 @@ talked-command {E} config old lines stands stands_now content faults flash flash
       each = each-more config old lines h.turns line turn h.each g.1.1;
       runs = subst (λ n. RanThese config old n (moments_of (h.turns ++ turn ∷ [])) stands_now content faults flash_now) (sym (length-append lines (line ∷ [])))
           (subst (λ ms. RanThese config old (length lines + 1) ms stands_now content faults flash_now) (sym (moments-more h.turns turn)) g.3);
-      causes = causes-more faults flash.media.faults flash_now.media.faults h.turns turn later h.causes (λ e. absurd (none-failed e));
+      causes = causes-more faults flash.media.faults flash_now.media.faults h.turns turn later h.causes (λ e. absurd (false≢true e));
       told_all = subst (λ text. Appends told told_now text) (sym (answers-more h.turns turn)) (appends-append told told_mid told_now (answers_of h.turns) answer h.told_all g.1.2);
     }
 
@@ -180,4 +178,4 @@ answered-into {E} config old lines stands stands_now content faults flash flash_
         let over = ran-over config old (length lines) (moments_of h.turns) stands content faults flash h.runs in
         into (record { moment = Some e.moment; answer = s.answer; unread = [] }) s.answers
         (over-more config old (moments_of h.turns) e.moment (StandsAlike stands) (StandsAlike stands_now) content flash.media.content flash_now.media.content faults flash.media.faults flash_now.media.faults ready over e.step e.stays later e.rose (e.after, e.stands_after, e.alike))
-        (λ e. absurd (none-failed e)) s.written
+        (λ e. absurd (false≢true e)) s.written
