@@ -2,7 +2,7 @@
 use Rattle.std.proofs.Common.{◌≡◌, ◌⊎◌, inl, inr, ℕ, ◌+◌, ◌-◌, ◌*◌, ◌<◌, ◌≤◌, Bool, true, false, cond, ◌&&◌, ◌==◌, nat_lt, Option, Some, None, IfSome, option_map, unwrap_or, List, [], ◌∷◌, length, take, refl, sym, ◌∙◌, ap, subst, arith}
 use Rattle.std.specs.Prelude.{nat_le}
 use Rattle.std.specs.List.{slice_get, sum_by}
-use Rattle.std.proofs.lemmas.Bool.{cases_lt, le-leb, le-ltb, lt-leb, ne_eqb}
+use Rattle.std.proofs.lemmas.Bool.{cases_lt, le-leb, le-ltb, lt-leb, ne_eqb, false≢true}
 use Rattle.fl_csv.specs.Text.{Absent, Bytes, Gone}
 use Rattle.fl_model.specs.Agrees.{reach_of, BlobsOf}
 use Rattle.fl_model.specs.Entry.{blob_len}
@@ -111,10 +111,7 @@ module _ (config : Config) (bytes : List ℕ) (place : ℕ) (plan : Plan) (table
           ≡ told_blob (blob_in table entry (Some blob))
       by_length [] e none o k ring = refl
       by_length (byte ∷ rest) e (inr none) o k ring = let no : ⊥ = omega (arith, none) in absurd no
-      by_length (byte ∷ rest) e (inl some) None k ring = absurd (never (sym (ap is_some_ring k) ∙ ring ∙ has))
-        where
-          never : false ≡ true → ⊥
-          never q = cc
+      by_length (byte ∷ rest) e (inl some) None k ring = absurd (false≢true (sym (ap is_some_ring k) ∙ ring ∙ has))
       by_length (byte ∷ rest) e (inl some) (Some kept) k ring = some-told (byte ∷ rest) e some kept k (record { first = (sum_by blocks_of (take place config.plans) + plan.data_blocks + plan.index_blocks) * plan.geometry.block; pages = plan.var_blocks * plan.geometry.block; size = plan.geometry.page })
           (ap (λ (b : Bool). cond b (Some (record { first = (sum_by blocks_of (take place config.plans) + plan.data_blocks + plan.index_blocks) * plan.geometry.block; pages = plan.var_blocks * plan.geometry.block; size = plan.geometry.page })) None) has) has
 

@@ -2,7 +2,7 @@
 use Rattle.std.proofs.Common.{◌≡◌, ◌⊎◌, inl, inr, ℕ, ◌+◌, ◌-◌, ◌*◌, ◌<◌, ◌≤◌, true, false, Option, Some, None, unwrap_or, List, length, take, drop, refl, sym, ◌∙◌, ap, subst, arith, length-drop}
 use Rattle.std.specs.List.{slice_get}
 use Rattle.std.proofs.Math.Nat.{mul-le-mul_right}
-use Rattle.std.proofs.lemmas.Bool.{cases_Bool, cases_lt}
+use Rattle.std.proofs.lemmas.Bool.{cases_Bool, cases_lt, false≢true}
 use Rattle.std.proofs.lemmas.List.{length-take-le}
 use Rattle.std.proofs.lemmas.Option.{slice_get_past}
 use Rattle.fl_mark.specs.Mark.{state_of_page}
@@ -62,16 +62,13 @@ module _ (shape : Shape) (ring : Ring) (at : ℕ → List ℕ) (Holds : ℕ → 
   from-next number le lt = elim (cases_lt ring.next number) [
     | inl after ↦
         let there : ring.next + (number - ring.next) ≡ number = omega (arith, after) in
-        let blank = image.others (number - ring.next) (omega (arith, after)) (omega (arith, lt, there)) (λ dirty. absurd (no (sym clean ∙ dirty))) in
+        let blank = image.others (number - ring.next) (omega (arith, after)) (omega (arith, lt, there)) (λ dirty. absurd (false≢true (sym clean ∙ dirty))) in
         record { none = behind number le; state = inr (inl (subst (λ n. is_blank (at n) ≡ true) there blank)) }
     | inr here ↦
         let same : ring.next ≡ number = omega (arith, le, here) in
         record { none = behind number le; state = by_torn same (cases_Bool ring.torn) }
   ]
     where
-      no : false ≡ true → ⊥
-      no e = cc
-
       by_torn : ring.next ≡ number → (ring.torn ≡ true) ⊎ (ring.torn ≡ false) → (is_void (at number) ≡ true) ⊎ ((is_blank (at number) ≡ true) ⊎ IsTornPage (at number))
       by_torn same (inl torn) = inr (inr (subst (λ n. IsTornPage (at n)) same (image.torn_next torn)))
       by_torn same (inr not) = inr (inl (subst (λ n. is_blank (at n) ≡ true) same (image.blank_next not)))

@@ -4,7 +4,7 @@ use Rattle.std.specs.Prelude.{nat_le}
 use Rattle.std.specs.List.{slice_get, sum}
 use Rattle.std.specs.List.Sorted.{IsPermutation}
 use Rattle.std.proofs.Math.Nat.{le-div_iff_mul-le, mul-le-mul_left, mul-le-mul_right}
-use Rattle.std.proofs.lemmas.Bool.{eq-eqb, le-leb, lt-ltb, le-ltb}
+use Rattle.std.proofs.lemmas.Bool.{eq-eqb, le-leb, lt-ltb, le-ltb, false≢true}
 use Rattle.std.proofs.lemmas.List.{length-map, length-take-le}
 use Rattle.std.proofs.lemmas.List.Sums.{sum_by-take-le}
 use Rattle.std.proofs.lemmas.Nat.{mod_below}
@@ -151,10 +151,7 @@ module _ (config : Config) (bytes : List ℕ) (place : ℕ) (plan : Plan) (table
       fits = let f = facts config bytes place plan table is in subst (BlobFits plan entry) has (each-at (FitsPlan plan) table.entries i entry f.fit e).blob
 
       none : false ≡ has_var plan → ⊥
-      none k = no (k ∙ fits.0)
-        where
-          no : false ≡ true → ⊥
-          no q = cc
+      none k = false≢true (k ∙ fits.0)
 
       by_ring : (o : Option Ring) → is_some_ring o ≡ has_var plan → IfSome o (λ ring. ring.next + (cond ring.torn 1 0) ≤ 4294967292)
           → IfSome o (λ ring. (entry.page < oldest ring) ⊎ ((oldest ring ≤ entry.page) × (slice_get ring.counts (entry.page - oldest ring) ≡ Some 1) × (entry.page + reach_of plan entry blob < ring.next))) → entry.page + 1 < 2 ^ 32

@@ -1,7 +1,7 @@
 -- The state of each page of a ring of an image, by the ring.
 use Rattle.std.proofs.Common.{◌≡◌, ◌⊎◌, inl, inr, ℕ, ◌+◌, ◌-◌, ◌*◌, ◌<◌, ◌≤◌, true, false, cond, ◌&&◌, ◌==◌, nat_lt, if◌then◌else◌, Some, unwrap_or, List, length, sym, ◌∙◌, ap, subst, arith}
 use Rattle.std.specs.List.{slice_get}
-use Rattle.std.proofs.lemmas.Bool.{cases_Bool, cases_lt, eq-eqb, le-ltb, lt-ltb, ne_eqb}
+use Rattle.std.proofs.lemmas.Bool.{cases_Bool, cases_lt, eq-eqb, le-ltb, lt-ltb, ne_eqb, false≢true}
 use Rattle.fl_mark.specs.Mark.{state_of_page}
 use Rattle.fl_mark.specs.declared.page_state.PageState.{PageState}
 use Rattle.fl_mark.specs.declared.page_state.PageState.TheVariants.{Blank, Torn, Committed, Void}
@@ -41,7 +41,7 @@ module _ (shape : Shape) (ring : Ring) (at : ℕ → List ℕ) (Holds : ℕ → 
   later-state number le lt = elim (cases_lt ring.next number) [
     | inl after ↦
         let there : ring.next + (number - ring.next) ≡ number = omega (arith, after) in
-        let blank = image.others (number - ring.next) (omega (arith, after)) (omega (arith, lt, there)) (λ dirty. absurd (never (sym clean ∙ dirty))) in
+        let blank = image.others (number - ring.next) (omega (arith, after)) (omega (arith, lt, there)) (λ dirty. absurd (false≢true (sym clean ∙ dirty))) in
         let apart : (number == ring.next) ≡ false = ne_eqb number ring.next (λ e. let no : ⊥ = omega (arith, e, after) in no) in
         (model_state (at number) (long number)).blank.1 (subst (λ n. is_blank (at n) ≡ true) there blank)
         ∙ sym (ap (λ b. cond (b && ring.torn) Torn Blank) apart)
@@ -50,9 +50,6 @@ module _ (shape : Shape) (ring : Ring) (at : ℕ → List ℕ) (Holds : ℕ → 
         by_torn same (cases_Bool ring.torn) ∙ sym (ap (λ b. cond (b && ring.torn) Torn Blank) (eq-eqb number ring.next (sym same)))
   ]
     where
-      never : false ≡ true → ⊥
-      never e = cc
-
       by_torn : ring.next ≡ number → (ring.torn ≡ true) ⊎ (ring.torn ≡ false) → state_of_page (at number) ≡ cond ring.torn Torn Blank
       by_torn same (inl torn) = (model_state (at number) (long number)).torn.1 (subst (λ n. IsTornPage (at n)) same (image.torn_next torn)) ∙ sym (ap (λ b. cond b Torn Blank) torn)
       by_torn same (inr not) = (model_state (at number) (long number)).blank.1 (subst (λ n. is_blank (at n) ≡ true) same (image.blank_next not)) ∙ sym (ap (λ b. cond b Torn Blank) not)

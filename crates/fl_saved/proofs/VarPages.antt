@@ -3,7 +3,7 @@ use Rattle.std.proofs.Common.{◌≡◌, ◌⊎◌, inl, inr, ℕ, ◌+◌, ◌-
 use Rattle.std.specs.Prelude.{nat_le}
 use Rattle.std.specs.List.{AllByRecursion, slice_get}
 use Rattle.std.proofs.Math.Nat.{mul-le-mul_right}
-use Rattle.std.proofs.lemmas.Bool.{and_parts, eq-eqb, eqb-true, le-leb, leb-true, lt-leb, lt-ltb, le-ltb, ltb-true, ne_eqb}
+use Rattle.std.proofs.lemmas.Bool.{and_parts, eq-eqb, eqb-true, le-leb, leb-true, lt-leb, lt-ltb, le-ltb, ltb-true, ne_eqb, false≢true}
 use Rattle.std.proofs.lemmas.List.{take-append-le}
 use Rattle.std.proofs.lemmas.Nat.{mod_below}
 use Rattle.fl_mark.specs.Mark.{state_of_page}
@@ -163,10 +163,7 @@ module _ (config : Config) (bytes : List ℕ) (place : ℕ) (plan : Plan) (table
       (leb-true (oldest kept) number parts.0, by_count (slice_get kept.counts (number - oldest kept)) parts.1)
     where
       by_count : (o : Option ℕ) → unwrap_or (option_map (λ count. count == 1) o) false ≡ true → o ≡ Some 1
-      by_count None e = absurd (no e)
-        where
-          no : false ≡ true → ⊥
-          no q = cc
+      by_count None e = absurd (false≢true e)
       by_count (Some count) e = ap (λ n. Some n) (eqb-true count 1 e)
 
   -- the content that the table knows of it is what is found
