@@ -4,6 +4,7 @@ use Rattle.std.specs.Prelude.{sum_by, slice_get}
 use Rattle.std.specs.List.{list_all}
 use Rattle.std.proofs.lemmas.List.Sums.{sum_by-cons}
 use Rattle.std.proofs.lemmas.List.Folds.{list_all-append}
+use Rattle.std.proofs.lemmas.Bool.{false≢true}
 use Rattle.fl_base.specs.Causes.{Appends, AppendsFront}
 use Rattle.fl_base.specs.declared.types.RingPlace.{RingPlace}
 use Rattle.fl_flash.specs.Flash.{FlashState}
@@ -207,14 +208,11 @@ not-first extent all first = two (sym all ∙ first)
 
 -- ---- how the check of the tables ends
 
-not-all : false ≡ true → ⊥
-not-all e = cc
-
 module _ (Finds : TableConfig → Option RingPlace → FlashState → Finding → Type 0) (Rules : TableConfig → Option RingPlace → FlashState → TableRules → Type 0) (lines : Lines) (bytes : List ℕ) where
   pub ends-all : (told now : Option (List ℕ)) (extent : Extent) (all : Bool) → (extent ≡ FirstFault → all ≡ true) → Tells extent (FindsBy extent Finds Rules) lines bytes told now (length lines.plans) all →
       TablesEndBy extent Finds Rules lines bytes told now (if all then Done else Unsound)
   ends-all told now FirstFault true none h = h
-  ends-all told now FirstFault false none h = absurd (not-all (none refl))
+  ends-all told now FirstFault false none h = absurd (false≢true (none refl))
   ends-all told now AllTables true none h = h
   ends-all told now AllTables false none h = h
 
