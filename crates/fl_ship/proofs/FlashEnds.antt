@@ -1,6 +1,7 @@
 -- How a ship ends over two flashes that stand for tables.
 use Rattle.std.proofs.Common.{◌≡◌, ℕ, ◌+◌, ◌≤◌, inl, inr, true, false, IsTrue, Option, None, Some, Result, Ok, Err, List, [], map, sym, ◌∙◌, ap, subst, arith}
 use Rattle.std.specs.List.{slice_get}
+use Rattle.std.proofs.lemmas.Bool.{true≢false}
 use Rattle.fl_base.specs.Causes.{Rose, Appends}
 use Rattle.fl_store.specs.Store.{at_rest}
 use Rattle.fl_store.specs.Named.{has_name}
@@ -153,10 +154,7 @@ module _ (plans : List Plan) (sources copies : List model.Table) (name : List �
 
     unread : (e : FlashFault) → Shipped (Err (stop.Ship (Read (read.Flash e)))) → StopCausedBy m h n k (stop.Ship (Read (read.Flash e))) → Ends told told (stop_status (stop.Ship (Read (read.Flash e))) at)
     unread Media ships cause = (rises cause.0, quiet, inr (both-mounted told told (IsUnread count) ships.after ships.stops ships.rests))
-    unread PowerLost ships cause = absurd (no (sym mt.power ∙ cause))
-      where
-        no : true ≡ false → ⊥
-        no e = cc
+    unread PowerLost ships cause = absurd (true≢false (sym mt.power ∙ cause))
 
     unput : (e : FlashFault) → Shipped (Err (stop.Ship (Put (put.Flash e)))) → StopCausedBy m h n k (stop.Ship (Put (put.Flash e))) → Ends told told (stop_status (stop.Ship (Put (put.Flash e))) at)
     unput Media ships cause = (c_rises cause, quiet, inr (both-mounted told told (IsBroken count) ships.after (inl ships.stops) ships.rests))

@@ -2,7 +2,7 @@
 use Rattle.std.proofs.Common.{◌≡◌, ℕ, zero, suc, inl, inr, Bool, true, false, ◌==◌, if◌then◌else◌, Option, Some, None, Ok, Err, List, [], ◌∷◌, ◌++◌, map, refl, sym, ◌∙◌, ap}
 use Rattle.std.specs.List.{AllByRecursion, last_or, slice_get}
 use Rattle.std.specs.Option.{is_some, option_map}
-use Rattle.std.proofs.lemmas.Bool.{eqb-true, eq-eqb}
+use Rattle.std.proofs.lemmas.Bool.{eqb-true, eq-eqb, true≢false}
 use Rattle.fl_flash.specs.Buffer.{BufferState}
 use Rattle.fl_flash.specs.Flash.{FlashState}
 use Rattle.fl_flash.specs.declared.flash.FlashFault.TheVariants as flash
@@ -23,9 +23,6 @@ use Rattle.fl_ship.specs.declared.stop.Stop.TheVariants.{Gap, Ship}
 no-none : {X : Type 0} {x : X} → Some x ≡ None → ⊥
 no-none e = cc
 
-no-test : true ≡ false → ⊥
-no-test e = cc
-
 -- ---- the entry with a key
 
 found-in : (key : ℕ) (entries : List Entry) (entry : Entry) → entry_at key entries ≡ Some entry → HasKey (map (λ (other : Entry). other.kept) entries) key
@@ -42,18 +39,18 @@ none-in key (first ∷ entries) is = by-test (λ e. none-in key entries e) (firs
   where
     by-test : (entry_at key entries ≡ None → AllByRecursion (λ item. item.key ≡ key → ⊥) (map (λ (other : Entry). other.kept) entries)) → (b : Bool) → (first.kept.key == key) ≡ b → (if b then Some first else entry_at key entries) ≡ None → AllByRecursion (λ item. item.key ≡ key → ⊥) (map (λ (other : Entry). other.kept) (first ∷ entries))
     by-test go true own is = absurd (no-none is)
-    by-test go false own is = (λ e. no-test (sym (eq-eqb first.kept.key key e) ∙ own), go is)
+    by-test go false own is = (λ e. true≢false (sym (eq-eqb first.kept.key key e) ∙ own), go is)
 
 -- ---- the look
 
 -- a lookup of the copy's last key found its row, or none
 pub looks-found : (plan : Plan) (source : Table) (last : ℕ) (buf : BufferState) (place : Option RowAt) → FindsEntry plan source last buf place → true ≡ is_some place → FollowsOn (records_in source) (Some last)
 looks-found plan source last buf (Some place) found some = inr (found-in last source.entries found.entry found.found)
-looks-found plan source last buf None found some = absurd (no-test some)
+looks-found plan source last buf None found some = absurd (true≢false some)
 
 pub looks-lacking : (plan : Plan) (source : Table) (last : ℕ) (buf : BufferState) (place : Option RowAt) → FindsEntry plan source last buf place → false ≡ is_some place → entry_at last source.entries ≡ None
 looks-lacking plan source last buf None found none = found
-looks-lacking plan source last buf (Some place) found none = absurd (no-test (sym none))
+looks-lacking plan source last buf (Some place) found none = absurd (true≢false (sym none))
 
 -- .. or failed
 pub looks-failed : (plan : Plan) (source : Table) (key before now : ℕ) (buf : BufferState) (last : Option ℕ) (fault : ReadFault) → Finds 64 plan source key before now buf (Err fault) → LooksForGap (records_in source) last (Err (Ship (Read fault)))
@@ -92,7 +89,7 @@ none-last table is = by-entries table.entries is
 
 pub looks-empty : (table : Table) (last : Option ℕ) → last ≡ option_map (λ (entry : Entry). entry.kept.key) (last_entry table) → is_some last ≡ false → records_in table ≡ []
 looks-empty table None is none = none-last table (sym is)
-looks-empty table (Some key) is none = absurd (no-test none)
+looks-empty table (Some key) is none = absurd (true≢false none)
 
 -- .. and another one ends with it
 pub record EndsWith (items : List Record) (key : ℕ) : Type 0 where

@@ -3,6 +3,7 @@ use Rattle.std.proofs.Common.{◌≡◌, ℕ, zero, suc, ◌+◌, ◌-◌, ◌/�
 use Rattle.std.specs.List.{AllByRecursion, last_or, sum}
 use Rattle.std.proofs.lemmas.List.{length-map, take-append-le, take_all}
 use Rattle.std.proofs.lemmas.List.Sums.{sum_by-take-drop, sum_by-take-le, sum_by_push}
+use Rattle.std.proofs.lemmas.Bool.{true≢false}
 use Rattle.fl_machine.proofs.Trimmed.{full_long}
 use Rattle.fl_model.specs.Record.{Plan, Record, content_per_page, entries_per_page, has_index, has_log, rows_per_page}
 use Rattle.fl_model.specs.Ring.{IsShape, Ring, Shape, extended, given_up, is_full, sealed}
@@ -95,10 +96,7 @@ flush-last : (plan : Plan) (t : Table) (last : Option Record) → IsShape (shape
 flush-last plan t last ok h = flush-by plan t (t.pending == 0) (has_index plan && (length t.waiting == entries_per_page plan)) (nat_lt 0 (fill t)) last ok (some t.pending) h
   where
     some : (n : ℕ) → (n == 0) ≡ false → 0 < n
-    some zero e = absurd (not_either e)
-      where
-        not_either : true ≡ false → ⊥
-        not_either e = cc
+    some zero e = absurd (true≢false e)
     some (suc n) e = omega arith
 
 -- ---- puts

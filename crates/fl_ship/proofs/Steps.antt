@@ -5,6 +5,7 @@ use Rattle.std.specs.Option.{option_map}
 use Rattle.std.proofs.lemmas.List.{append-nil}
 use Rattle.std.proofs.lemmas.Option.{slice_get-map}
 use Rattle.std.proofs.Math.Seq.{take-length}
+use Rattle.std.proofs.lemmas.Bool.{false≢true}
 use Rattle.fl_store.specs.Store.{at_rest}
 use Rattle.fl_machine.specs.Machine.{Machine, begins}
 use Rattle.fl_machine.specs.Step.{Located, all_ready, located_from}
@@ -92,12 +93,9 @@ is-there config xs ys name a b e k =
 pub no-log : (plan : Plan) → is_shipped plan ≡ true → has_log plan ≡ false
 no-log plan h = by_tests (has_var plan) (has_log plan) h
   where
-    not_both : false ≡ true → ⊥
-    not_both e = cc
-
     by_tests : (v l : Bool) → not (v || l) ≡ true → l ≡ false
-    by_tests true l e = absurd (not_both e)
-    by_tests false true e = absurd (not_both e)
+    by_tests true l e = absurd (false≢true e)
+    by_tests false true e = absurd (false≢true e)
     by_tests false false e = refl
 
 -- ---- what is left of a table
