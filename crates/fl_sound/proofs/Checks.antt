@@ -1,7 +1,8 @@
 -- How a check of an image ends whose tables are sound.
-use Rattle.std.proofs.Common.{◌≡◌, ℕ, suc, ◌+◌, inl, inr, true, false, Option, Some, List, [], ◌∷◌, ◌++◌, length, map, take, length-take, refl, sym, ◌∙◌, ap, subst, arith}
+use Rattle.std.proofs.Common.{◌≡◌, ℕ, suc, ◌+◌, inl, inr, true, Option, Some, List, [], ◌∷◌, ◌++◌, length, map, take, length-take, refl, sym, ◌∙◌, ap, subst, arith}
 use Rattle.std.specs.List.{slice_get}
 use Rattle.std.proofs.lemmas.List.{length-map}
+use Rattle.std.proofs.lemmas.Bool.{true≢false}
 use Rattle.fl_base.specs.Causes.{IsFront, Appends, AppendsFront}
 use Rattle.fl_base.specs.declared.types.Geometry.{Geometry}
 use Rattle.fl_config.specs.Whole.{Makes}
@@ -109,10 +110,7 @@ module _ (lines : Lines) (config : Config) (bytes : List ℕ) (tables : List Tab
     unsound e =
         let fault = e.ends in
         let found = subst (λ (l : Lines). AreFound Finds l bytes 0 (fault.findings ++ fault.fault ∷ [])) (one e.lines e.accepted e.image) fault.are in
-        no (sym (all-good (0 + length fault.findings) fault.fault (found-last lines bytes 0 fault.findings fault.fault found)) ∙ fault.unsound)
-      where
-        no : true ≡ false → ⊥
-        no q = cc
+        true≢false (sym (all-good (0 + length fault.findings) fault.fault (found-last lines bytes 0 fault.findings fault.fault found)) ∙ fault.unsound)
 
     done : ImageEnds Finds bytes told told_now Done → Appends told told_now (sound_text config tables)
     done e =

@@ -1,7 +1,7 @@
 -- What the data pages tell that a table keeps: its rows in order of their keys, how many they are, and where their blobs end.
 use Rattle.std.proofs.Common.{◌≡◌, ◌⊎◌, inl, inr, ℕ, zero, suc, ◌+◌, ◌<◌, ◌≤◌, Bool, true, false, cond, nat_lt, ◌==◌, Option, Some, None, List, [], ◌∷◌, ◌++◌, length, map, take, drop, refl, sym, ◌∙◌, ap, subst, arith, length-drop, append_assoc}
 use Rattle.std.specs.List.{slice_get, sum}
-use Rattle.std.proofs.lemmas.Bool.{cases_lt, lt-ltb, ne_eqb}
+use Rattle.std.proofs.lemmas.Bool.{cases_lt, lt-ltb, ne_eqb, true≢false}
 use Rattle.std.proofs.lemmas.List.{length-map, length-take-le, take-append-drop, take_all, map-append}
 use Rattle.std.proofs.lemmas.List.Sums.{sum_by-append, sum_by-take-le}
 use Rattle.fl_mark.specs.Mark.{state_of_page}
@@ -102,10 +102,7 @@ module _ (layout : RowLayout) (page : ℕ → List ℕ) (d : Shape) (at_least : 
       by_count c e (inr none) = absurd (no (sym committed ∙ reads.committed i c e) none)
         where
           no : true ≡ nat_lt 0 c → c ≤ 0 → ⊥
-          no k le = let z : c ≡ 0 = omega (arith, le) in never (k ∙ ap (nat_lt 0) z)
-            where
-              never : true ≡ false → ⊥
-              never q = cc
+          no k le = let z : c ≡ 0 = omega (arith, le) in true≢false (k ∙ ap (nat_lt 0) z)
 
   -- ---- the tally
 

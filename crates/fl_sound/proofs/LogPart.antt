@@ -1,7 +1,7 @@
 -- The rules of the log hold where a flash stands for a table with one.
 use Rattle.std.proofs.Common.{◌≡◌, inl, inr, ℕ, zero, suc, ◌+◌, ◌-◌, ◌*◌, ◌^◌, ◌<◌, ◌≤◌, Bool, true, false, cond, nat_lt, IsTrue, Option, Some, None, IfSome, is_some, option_map, List, [], ◌∷◌, length, map, filter, take, get_or, refl, sym, ◌∙◌, ap, subst, arith}
 use Rattle.std.specs.List.{slice_get, list_any, AllByRecursion}
-use Rattle.std.proofs.lemmas.Bool.{cases_Bool, cases_lt, lt-ltb}
+use Rattle.std.proofs.lemmas.Bool.{cases_Bool, cases_lt, lt-ltb, true≢false}
 use Rattle.std.proofs.lemmas.List.{length-map}
 use Rattle.std.proofs.lemmas.Option.{slice_get-map}
 use Rattle.std.proofs.Math.Nat.{div-le_self, mul-le-mul_right}
@@ -125,10 +125,7 @@ module _ (label : Label) (config : TableConfig) (at : RingPlace) (f : FlashState
   -- no record has a blob
   no-blobs : (rows : List Entry) → AllByRecursion (FitsPlan (with_log at.blocks (plan_of_table label config))) rows → (i : ℕ) (entry : Entry) (blob : List ℕ) → slice_get rows i ≡ Some entry → entry.kept.blob ≡ Some blob
       → 0 < length blob → entry.page < 4294967295
-  no-blobs rows fit i entry blob e k some = absurd (no (sym (subst (BlobFits plan entry) k (each-at (FitsPlan plan) rows i entry fit e).blob).0 ∙ is.no_var))
-    where
-      no : true ≡ false → ⊥
-      no q = cc
+  no-blobs rows fit i entry blob e k some = absurd (true≢false (sym (subst (BlobFits plan entry) k (each-at (FitsPlan plan) rows i entry fit e).blob).0 ∙ is.no_var))
 
   module _ (ring : model.Ring) (ring_is : table.log ≡ Some ring) where
     in_ring : (P : Option model.Ring → Type 0) → P table.log → P (Some ring)

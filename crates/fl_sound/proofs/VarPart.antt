@@ -1,7 +1,7 @@
 -- The rules of the ring of variable data hold where a flash stands for a table.
 use Rattle.std.proofs.Common.{◌≡◌, ◌⊎◌, inl, inr, ℕ, suc, ◌+◌, ◌-◌, ◌*◌, ◌^◌, ◌<◌, ◌≤◌, Bool, true, false, cond, ◌==◌, nat_lt, Option, Some, None, IfSome, is_some, option_map, List, [], ◌∷◌, ◌++◌, length, map, max, take, get_or, length-append, refl, sym, ◌∙◌, ap, subst, arith}
 use Rattle.std.specs.List.{slice_get, list_any, AllByRecursion}
-use Rattle.std.proofs.lemmas.Bool.{cases_Bool, lt-ltb}
+use Rattle.std.proofs.lemmas.Bool.{cases_Bool, lt-ltb, false≢true}
 use Rattle.std.proofs.lemmas.List.{take_all}
 use Rattle.std.proofs.Math.Nat.{mul-le-mul_right}
 use Rattle.fl_base.specs.declared.types.RingPlace.{RingPlace}
@@ -160,10 +160,7 @@ module _ (label : Label) (config : TableConfig) (f : FlashState) (table : Table)
     end-low none = ends-within 0 (model.oldest ring) (map stored_row table.entries) (omega arith) each
       where
         never : {A : Type 0} → (j : ℕ) → slice_get ring.counts j ≡ Some 1 → A
-        never j e = absurd (no (sym none ∙ any_at s.kept j (is-of.some j 1 e)))
-          where
-            no : false ≡ true → ⊥
-            no k = cc
+        never j e = absurd (false≢true (sym none ∙ any_at s.kept j (is-of.some j 1 e)))
 
         each : (i : ℕ) (row : Row) → slice_get (map stored_row table.entries) i ≡ Some row → reference_end row.blob ≤ model.oldest ring
         each i row e =
