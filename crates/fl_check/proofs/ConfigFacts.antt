@@ -1,7 +1,8 @@
 -- What holds of a configuration that isn't refused, in the words of its plan.
-use Rattle.std.proofs.Common.{◌≡◌, ℕ, ◌+◌, ◌-◌, ◌*◌, ◌/◌, ◌<◌, ◌≤◌, true, false, nat_lt, IsTrue, Option, Some, None, IfSome, refl, sym, ◌∙◌, ap, subst, arith}
+use Rattle.std.proofs.Common.{◌≡◌, ℕ, ◌+◌, ◌-◌, ◌*◌, ◌/◌, ◌<◌, ◌≤◌, nat_lt, IsTrue, Option, Some, None, IfSome, refl, sym, ◌∙◌, ap, subst, arith}
 use Rattle.std.specs.Prelude.{IsSome}
 use Rattle.std.proofs.Math.Nat.{le-div_iff_mul-le}
+use Rattle.std.proofs.lemmas.Bool.{false≢true}
 use Rattle.fl_base.specs.declared.types.RingPlace.{RingPlace}
 use Rattle.fl_bitmap.proofs.Widths.{widths}
 use Rattle.fl_bitmap.specs.Widths.{is_bits}
@@ -22,10 +23,7 @@ module _ (label : Label) (config : TableConfig) where
   few-indexed passes limits has = by_index config.index refl
     where
       by_index : (o : Option RingPlace) → config.index ≡ o → config.rows.blocks * config.geometry.block + 6 ≤ 65536
-      by_index None e = absurd (no (sym (ap (λ (x : Option RingPlace). nat_lt 0 (blocks_in x)) e) ∙ has))
-        where
-          no : false ≡ true → ⊥
-          no k = cc
+      by_index None e = absurd (false≢true (sym (ap (λ (x : Option RingPlace). nat_lt 0 (blocks_in x)) e) ∙ has))
       by_index (Some place) e = few-pages config place passes limits e
 
   pub has-buckets : HasBuckets (plan_of_table label config) config.buckets
@@ -40,10 +38,7 @@ module _ (label : Label) (config : TableConfig) where
   some-bits place is limits = by_buckets config.buckets refl (subst (λ (o : Option RingPlace). IfSome o (λ p. IsSome config.buckets)) is limits.buckets)
     where
       by_buckets : (o : Option Buckets) → config.buckets ≡ o → IsSome o → IsTrue (is_bits (bits_in config.buckets))
-      by_buckets None e some = absurd (no some)
-        where
-          no : false ≡ true → ⊥
-          no k = cc
+      by_buckets None e some = absurd (false≢true some)
       by_buckets (Some buckets) e some = subst (λ (x : Option Buckets). IsTrue (is_bits (bits_in x))) (sym e) buckets.some_bits
 
 -- an index page has room for some entry

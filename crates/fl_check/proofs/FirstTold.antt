@@ -1,6 +1,7 @@
 -- The first page that is told of all rules of a table is that of the first rule that doesn't hold; if none is told the table is sound.
 use Rattle.std.proofs.Common.{◌≡◌, ◌⊎◌, inl, inr, ℕ, Bool, true, false, ◌&&◌, MatchOption, Option, Some, None, List, [], ◌∷◌, ◌++◌, refl, sym, ◌∙◌, ap, subst}
 use Rattle.std.specs.Prelude.{is_none}
+use Rattle.std.proofs.lemmas.Bool.{true≢false}
 use Rattle.fl_base.specs.declared.types.RingPlace.{RingPlace}
 use Rattle.fl_plan.specs.declared.table_config.TableConfig.{TableConfig}
 use Rattle.fl_ring.specs.Ring.{Shape}
@@ -80,14 +81,11 @@ one_first P Is ring rule (Some p) breaks = inr (record { finding = Fault ring p 
 some_same : (a b : Numbering) → Some a ≡ Some b → a ≡ b
 some_same a b e = cc
 
-not_both : true ≡ false → ⊥
-not_both e = cc
-
 -- a ring of which no page is told has its states
 no_state : (head state number body keys rest : Option ℕ) → (is_none head && is_none state && is_none number && is_none body && is_none keys && is_none rest) ≡ true → state ≡ None
 no_state head None number body keys rest e = refl
-no_state None (Some p) number body keys rest e = absurd (not_both (sym e))
-no_state (Some q) (Some p) number body keys rest e = absurd (not_both (sym e))
+no_state None (Some p) number body keys rest e = absurd (true≢false (sym e))
+no_state (Some q) (Some p) number body keys rest e = absurd (true≢false (sym e))
 
 pub stateless : (faults : RingFaults) → is_clear faults ≡ true → faults.state ≡ None
 stateless faults e = no_state faults.head faults.state faults.number faults.body faults.keys faults.rest e

@@ -1,5 +1,6 @@
 -- What is told of each rule of a table, put together of what is told of its rings.
 use Rattle.std.proofs.Common.{◌≡◌, inl, inr, ℕ, Bool, true, false, if◌then◌else◌, MatchOption, Option, Some, None, IfSome, List, refl, sym, ◌∙◌, ap}
+use Rattle.std.proofs.lemmas.Bool.{true≢false}
 use Rattle.fl_base.specs.declared.types.RingPlace.{RingPlace}
 use Rattle.fl_flash.specs.Flash.{FlashState, page_at}
 use Rattle.fl_model.specs.Record.{RowLayout}
@@ -88,9 +89,6 @@ module _ (config : TableConfig) (log : Option RingPlace) (page : ℕ → List �
     by_clear false e = (a, e)
     by_clear true e = sound (table_first config log page faults a)
       where
-        not_both : true ≡ false → ⊥
-        not_both e = cc
-
         sound : FirstOf (IsSoundTable config log page faults a) (λ finding. IsFinding config log page finding) (table_faults faults) (are_clear faults) → AreRules config log page (Kept tally.rows (kept_in a.rows) tally.voids)
         sound (inl passes) =
             let table = passes.holds in (
@@ -102,7 +100,7 @@ module _ (config : TableConfig) (log : Option RingPlace) (page : ℕ → List �
                 kept_is = ap kept_in table.rows;
               }),
             )
-        sound (inr begins) = absurd (not_both (sym e ∙ begins.unclear))
+        sound (inr begins) = absurd (true≢false (sym e ∙ begins.unclear))
 
     pub are_rules : AreRules config log page (rules_of faults a.rows tally)
     are_rules = by_clear (are_clear faults) refl
