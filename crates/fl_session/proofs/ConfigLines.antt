@@ -2,7 +2,7 @@
 use Rattle.std.proofs.Common.{◌≡◌, ℕ, ◌+◌, ◌<◌, Bool, true, false, Option, Some, None, Result, Ok, Err, List, [], ◌∷◌, ◌++◌, length, drop, refl, sym, ◌∙◌, ap, subst, append_assoc, append-nil, length-append, arith}
 use Rattle.std.specs.Prelude.{if◌then◌else◌, IfOk, IfErr}
 use Rattle.fl_session.specs.declared.begin.Begun.{Begun}
-use Rattle.std.proofs.lemmas.Bool.{le-ltb, ltb-false}
+use Rattle.std.proofs.lemmas.Bool.{le-ltb, ltb-false, false≢true, true≢false}
 use Rattle.fl_words.specs.Command as words
 use Rattle.fl_words.specs.Grammar as grammar
 use Rattle.fl_words.specs.Grammar.{command_of}
@@ -44,13 +44,10 @@ configured-first knots text now state left none fresh told = record {
   left_told = told;
   reading =
       subst (λ m. Given most_bytes text [] state.closed m (state.ahead ++ text)) (sym fresh.most)
-      (subst (λ a. Given most_bytes text [] state.closed most_bytes (a ++ text)) (sym fresh.ahead) (given-none most_bytes text state.closed (λ c. absurd (open_now (sym c ∙ fresh.is_open)))));
+      (subst (λ a. Given most_bytes text [] state.closed most_bytes (a ++ text)) (sym fresh.ahead) (given-none most_bytes text state.closed (λ c. absurd (true≢false (sym c ∙ fresh.is_open)))));
   configures = subst (λ l. Configures knots [] l) (sym none) (configures-none knots);
   numbered = refl;
 }
-  where
-    open_now : true ≡ false → ⊥
-    open_now e = cc
 
 -- the text as a tail, for the next line of it
 abbrev whole_tail : List ℕ → Tail
@@ -58,10 +55,7 @@ whole_tail text = record { number = 0; first = []; text = text; taken = 0; most 
 
 the_next : (text : List ℕ) (given : List (List ℕ)) (old new : LinesState) (left left_now : List ℕ) →
     Given most_bytes text given old.closed old.most (old.ahead ++ left) → Gives old (old.ahead ++ left) (Ok true) new left_now → NextLine (whole_tail text) given new (new.ahead ++ left_now)
-the_next text given old new left left_now g gives = next_line (whole_tail text) given old new left left_now g (λ e. absurd (no e)) gives
-  where
-    no : false ≡ true → ⊥
-    no e = cc
+the_next text given old new left left_now g gives = next_line (whole_tail text) given old new left left_now g (λ e. absurd (false≢true e)) gives
 
 not_long : (c : words.Command) → Ok c ≡ Err grammar.TooLong → ⊥
 not_long c e = cc

@@ -4,6 +4,7 @@ use Rattle.std.specs.Prelude.{unwrap_or, MatchBool, MatchOption}
 use Rattle.std.specs.List.{slice_get}
 use Rattle.std.specs.Option.{is_none}
 use Rattle.std.proofs.lemmas.List.{map-set}
+use Rattle.std.proofs.lemmas.Bool.{false≢true, true≢false}
 use Rattle.fl_base.specs.declared.types.KeyRange.{KeyRange}
 use Rattle.fl_base.specs.declared.types.Span.{Span}
 use Rattle.fl_cursor.specs.Asked.{asked_by}
@@ -106,17 +107,11 @@ module _ (config : Config) (old : Machine) (entries : List Entry) (notes : Notes
       let at : cursor_at old n ≡ None = ap (λ (cs : List (Option OpenCursor)). unwrap_or (slice_get cs n) None) h'.cursors ∙ cursor-told notes.cursors n None e in
       answers-saying config old c reply.NoCursor old entries notes f f mounted refl
       (close-of config old n (saying c (reply.NoCursor ∷ []) old) true None h'.is_mounted at (says c (reply.NoCursor ∷ []) old)) h
-  close-none mounted (Some mark) on e none h = absurd (no none)
-    where
-      no : false ≡ true → ⊥
-      no k = cc
+  close-none mounted (Some mark) on e none h = absurd (false≢true none)
 
   pub close-open : (mounted : Bool) (mark : Option TableCursor) → mounted ≡ true → slice_get notes.cursors n ≡ Some mark → is_none mark ≡ false → SessionStands config entries f mounted notes old →
       Answers config old (command.Close n) (SessionStands config entries f mounted (record notes { cursors = set notes.cursors n None })) f f (text reply.Done)
-  close-open mounted None on e some h = absurd (no some)
-    where
-      no : true ≡ false → ⊥
-      no k = cc
+  close-open mounted None on e some h = absurd (true≢false some)
   close-open mounted (Some mark) on e some h =
       let c = command.Close n in
       let h' = subst (λ m. SessionStands config entries f m notes old) on h in

@@ -2,6 +2,7 @@
 use Rattle.std.proofs.Common.{◌≡◌, ℕ, Bool, true, false, Option, Some, Result, Ok, Err, List, [], ◌∷◌, ◌++◌, append_assoc, refl, sym, ◌∙◌, ap, subst, arith}
 use Rattle.std.specs.Prelude.{is_err, not}
 use Rattle.std.specs.List.{slice_get}
+use Rattle.std.proofs.lemmas.Bool.{false≢true}
 use Rattle.fl_base.specs.Causes.{Appends, AppendsFront}
 use Rattle.fl_flash.specs.Flash.{FlashState}
 use Rattle.fl_model.specs.Record.{Config}
@@ -36,10 +37,7 @@ front-first told now count (Err refusal) h = front-more told now (text (reply.Lo
 -- .. and a front of the second behind the first
 pub front-second : (told mid now : Option (List ℕ)) (count : ℕ) (outcome : Result (Unit {0}) PutRefusal) (line : List ℕ) → is_err outcome ≡ true → line ≡ text (put_reply outcome) →
     Appends told mid (text (reply.Loaded count)) → AppendsFront mid now line → AppendsFront told now (texts (load_replies count outcome))
-front-second told mid now count (Ok done) line e is first h = absurd (ok e)
-  where
-    ok : false ≡ true → ⊥
-    ok k = cc
+front-second told mid now count (Ok done) line e is first h = absurd (false≢true e)
 front-second told mid now count (Err refusal) line e is first h =
     let a = text (reply.Loaded count) in
     let parts : (a ++ h.0) ++ (h.1.0 ++ []) ≡ a ++ (text (put_reply (Err refusal)) ++ []) =

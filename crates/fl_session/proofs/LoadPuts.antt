@@ -1,7 +1,7 @@
 -- The puts of a load, one after another.
 use Rattle.std.proofs.Common.{◌≡◌, ℕ, suc, ◌+◌, ◌-◌, ◌^◌, ◌<◌, min, Bool, true, false, not, IsTrue, IfErr, Option, Some, None, Result, Ok, Err, List, [], ◌∷◌, slice_get, refl, sym, ◌∙◌, ap, subst, arith}
 use Rattle.std.specs.Prelude.{MatchOption, option_map, unwrap_or, is_err}
-use Rattle.std.proofs.lemmas.Bool.{le-leb}
+use Rattle.std.proofs.lemmas.Bool.{le-leb, false≢true, true≢false}
 use Rattle.std.proofs.lemmas.List.{set-set}
 use Rattle.std.proofs.Math.IntN.{ℤ}
 use Rattle.fl_base.specs.Causes.{Rose}
@@ -263,10 +263,7 @@ module _ (config : Config) (entries : List Entry) (at : ℕ) (entry : Entry) (as
 
   pub ends-done : (result : Result (Unit {0}) PutRefusal) → is_err result ≡ false → EndsNext result → EndsNext (Ok tt)
   ends-done (Ok done) e ends = ends
-  ends-done (Err refusal) e ends = absurd (ok e)
-    where
-      ok : true ≡ false → ⊥
-      ok k = cc
+  ends-done (Err refusal) e ends = absurd (true≢false e)
 
   -- it was refused, or an operation of it failed
   load-broken : (before : FlashState) (fault : FlashFault) → SessionStands config entries before true notes old → rose ≡ has_risen before g → EndsNext (Err (put.Flash fault)) →
@@ -293,10 +290,7 @@ module _ (config : Config) (entries : List Entry) (at : ℕ) (entry : Entry) (as
   pub load-stopped : (before : FlashState) (result : Result (Unit {0}) PutRefusal) → start ≡ before.media.content → SessionStands config entries before true notes old → rose ≡ has_risen before g → is_err result ≡ true → EndsNext result →
       IfErr result (λ e. RefusedSame t f e u g) →
       Answers config old (command.Load asked count step seed) (SessionStands config (entries_with entries at entry u) g (not (put_breaks result)) notes) before g (texts (load_replies loaded result))
-  load-stopped before (Ok done) begun stood risen e ends r = absurd (ok e)
-    where
-      ok : false ≡ true → ⊥
-      ok k = cc
+  load-stopped before (Ok done) begun stood risen e ends r = absurd (false≢true e)
   load-stopped before (Err (put.Flash fault)) begun stood risen e ends r = load-broken before fault stood risen ends
   load-stopped before (Err (put.Key last)) begun stood risen e ends r = load-refused before (BadKey last) begun stood risen r.0 r.1 ends
   load-stopped before (Err (put.Columns wanted)) begun stood risen e ends r = load-refused before (BadColumns wanted) begun stood risen r.0 r.1 ends

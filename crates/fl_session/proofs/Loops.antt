@@ -1,6 +1,6 @@
 -- The loop over the commands of a script, step by step.
 use Rattle.std.proofs.Common.{◌≡◌, ℕ, ◌+◌, ◌^◌, ◌<◌, ◌≤◌, Bool, true, false, inl, inr, Option, Some, None, Result, Ok, Err, List, [], ◌∷◌, ◌++◌, length, take, drop, refl, sym, ◌∙◌, ap, subst, append_assoc, length-append, arith}
-use Rattle.std.proofs.lemmas.Bool.{ltb-false}
+use Rattle.std.proofs.lemmas.Bool.{ltb-false, true≢false}
 use Rattle.fl_words.specs.Command.{Command}
 use Rattle.fl_words.specs.Grammar as grammar
 use Rattle.fl_words.specs.Grammar.{command_of}
@@ -100,10 +100,7 @@ pub data NextLine (tail : Tail) (given : List (List ℕ)) (new : LinesState) (re
   too_long : IsTooLong tail.most tail.text given → 4096 < length new.line → NextLine tail given new rest
 
 was_open : (a b : Bool) → (a ≡ true → b ≡ true) → b ≡ false → a ≡ false
-was_open true b h e = absurd (two (sym (h refl) ∙ e))
-  where
-    two : true ≡ false → ⊥
-    two k = cc
+was_open true b h e = absurd (true≢false (sym (h refl) ∙ e))
 was_open false b h e = refl
 
 pub next_line : (tail : Tail) (given : List (List ℕ)) (old new : LinesState) (left left_now : List ℕ) →
@@ -152,15 +149,12 @@ in_hand-next tail All number old new left left_now c h read gives takes =
         all_run = h.all_run;
         numbered = h.numbered;
         runs = h.runs;
-        was_open = λ e. absurd (not_open (sym e ∙ is_open));
+        was_open = λ e. absurd (true≢false (sym e ∙ is_open));
         few = given-few tail.most tail.text h.given old left left_now h.reading takes;
       }
       | too_long t long ↦ absurd (not_long (sym read ∙ too_long-command new.line long))
     ]
   where
-    not_open : true ≡ false → ⊥
-    not_open k = cc
-
     not_long : Ok c ≡ Err grammar.TooLong → ⊥
     not_long k = cc
 

@@ -1,6 +1,7 @@
 -- A session that was begun over an opened image, and ended.
 use Rattle.std.proofs.Common.{◌≡◌, ℕ, zero, suc, Bool, true, false, IsTrue, Option, Some, None, Result, Ok, Err, inl, inr, length, take, List, ◌≤◌, refl, sym, ◌∙◌, ap, subst, le_trans, arith}
 use Rattle.std.specs.Prelude.{if◌then◌else◌, slice_get, replicate}
+use Rattle.std.proofs.lemmas.Bool.{true≢false}
 use Rattle.fl_flash.specs.Flash.{FlashState, Stays}
 use Rattle.fl_flash.specs.Media.{MediaState}
 use Rattle.fl_model.specs.Image.{medium_len}
@@ -57,14 +58,11 @@ pub new-sound : (entries entries' : List Entry) (f f' : FlashState) (buf buf' : 
 new-sound entries entries' f f' buf buf' mounted notes entries_are f_is buf_is off fresh lie room forgotten = rw (entries_are, f_is, buf_is) (record {
   lie = lie;
   room = room;
-  running = λ on. absurd (not_on (sym on ∙ off));
-  power = λ on. absurd (not_on (sym on ∙ off));
+  running = λ on. absurd (true≢false (sym on ∙ off));
+  power = λ on. absurd (true≢false (sym on ∙ off));
   forgotten = λ ended. forgotten;
   cursors = λ i c e. absurd (no-cursor 4 i c (ap (λ (n : Notes). slice_get n.cursors i) (sym fresh) ∙ e));
 })
-  where
-    not_on : true ≡ false → ⊥
-    not_on e = cc
 
 -- what was run in the session was run over the medium
 pub session-runs : (config : Config) (entries entries' : List Entry) (notes notes' : Notes) (f f' : FlashState) (old new : MediaState) (mounted mounted' : Bool) → f.media ≡ old → new ≡ f'.media →
