@@ -1,6 +1,7 @@
 -- The replies to a question for a blob, over any bytes.
 use Rattle.std.specs.Prelude.{is_ok}
-use Rattle.std.proofs.Common.{◌≡◌, ℕ, zero, suc, Bool, true, false, inl, inr, Option, Result, Err, List, [], ◌∷◌, ◌++◌, length, codes, refl, sym, ap, subst, append_assoc}
+use Rattle.std.proofs.Common.{◌≡◌, ℕ, zero, suc, Bool, true, inl, inr, Option, Result, Err, List, [], ◌∷◌, ◌++◌, length, codes, refl, sym, ap, subst, append_assoc}
+use Rattle.std.proofs.lemmas.Bool.{false≢true}
 use Rattle.fl_base.specs.Causes.{Appends, AppendsFront}
 use Rattle.fl_flash.specs.Flash.{FlashState}
 use Rattle.fl_page.specs.Causes.{IsCaused}
@@ -57,14 +58,10 @@ module _ {E : Type 0} (Tells : Reply → Type 0) (IsBad IsBadOn : BadPage → Ty
         written = subst (λ (l : List ℕ). Written told now result l) (ap (λ (l : List ℕ). text (reply.Bytes bytes) ++ l) (sym (one-text (read_reply e)))) (written-after told ended now result (text (reply.Bytes bytes)) (text (read_reply e)) all wrote);
       }
 
--- a sink that failed took nothing whole
-pub untaken : false ≡ true → ⊥
-untaken e = cc
-
 -- the sink failed in the line of bytes
 module _ {E : Type 0} (Tells : Reply → Type 0) (IsBad IsBadOn : BadPage → Type 0) (f g : FlashState) (told now : Option (List ℕ)) (failed : E) where
   pub says-failed : (bytes : List ℕ) → AppendsFront told now (text (reply.Bytes bytes)) → BlobSays Tells IsBad IsBadOn f g told now (Err failed)
-  says-failed bytes front = says-one Tells IsBad IsBadOn f g told now (Err failed) (reply.Bytes bytes) tt (λ taken. absurd (untaken taken)) front
+  says-failed bytes front = says-one Tells IsBad IsBadOn f g told now (Err failed) (reply.Bytes bytes) tt (λ taken. absurd (false≢true taken)) front
 
   pub says-begun : AppendsFront told now (codes "bytes ") → BlobSays Tells IsBad IsBadOn f g told now (Err failed)
   says-begun front = says-failed [] (front-more told now (codes "bytes ") (10 ∷ []) front)

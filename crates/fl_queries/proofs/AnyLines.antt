@@ -1,8 +1,9 @@
 -- Lines that are listed over any bytes.
-use Rattle.std.proofs.Common.{◌≡◌, ◌⊎◌, ℕ, ◌+◌, ◌-◌, ◌^◌, ◌<◌, Bool, true, false, inl, inr, Option, Some, Result, Ok, Err, IfOk, IfErr, List, [], ◌∷◌, ◌++◌, length, refl, sym, ◌∙◌, ap, subst, arith, length-append}
+use Rattle.std.proofs.Common.{◌≡◌, ◌⊎◌, ℕ, ◌+◌, ◌-◌, ◌^◌, ◌<◌, Bool, true, inl, inr, Option, Some, Result, Ok, Err, IfOk, IfErr, List, [], ◌∷◌, ◌++◌, length, refl, sym, ◌∙◌, ap, subst, arith, length-append}
 use Rattle.std.specs.Borrow.{Bor}
 use Rattle.std.specs.Prelude.{IfSome, is_ok}
 use Rattle.std.specs.List.{AllByRecursion}
+use Rattle.std.proofs.lemmas.Bool.{false≢true}
 use Rattle.fl_base.specs.Causes.{Appends, AppendsFront}
 use Rattle.fl_base.specs.declared.stream.SinkFailed.{SinkFailed}
 use Rattle.fl_cursor.specs.Cursor.{IfBad, MayBeBad, table_of}
@@ -89,12 +90,9 @@ module _ (AreLines : List Reply → Type 0) (ending : ℕ → Reply) (most : ℕ
         lines = h.lines;
         are_lines = h.are_lines;
         last = ending (length h.lines);
-        ends = record { upto = h.upto; either = inl (refl, λ taken. absurd (untaken taken)) };
+        ends = record { upto = h.upto; either = inl (refl, λ taken. absurd (false≢true taken)) };
         written = front-last h.lines (ending (length h.lines)) told mid h.wrote;
       }))
-    where
-      untaken : false ≡ true → ⊥
-      untaken e = cc
   list-fails (Read (fault.Flash e)) h caused said = ended AreLines (EndsBy ending most Sound IsBad f g) most told mid now h.0.0 result reply.ReadFault h.0.1 (record { upto = h.0.1.upto; either = inr (e, caused) }) said
   list-fails (Read (fault.BadPage bad)) h caused said = ended AreLines (EndsBy ending most Sound IsBad f g) most told mid now h.0.0 result (reply.BadPage bad.wanted) h.0.1 (record { upto = h.0.1.upto; either = inr (bad, refl, h.1) }) said
 

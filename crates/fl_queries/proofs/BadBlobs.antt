@@ -1,7 +1,7 @@
 -- Bad pages of a blob, and of the lookup of its record, seen from an earlier flash.
 use Rattle.std.proofs.Common.{◌≡◌, ◌⊎◌, ◌+◌, ◌-◌, ◌<◌, true, false, take, drop, refl, ◌∙◌, ℕ, ◌≤◌, Bool, inl, inr, IfErr, IsTrue, Option, Some, None, Result, Ok, Err, List, ap, subst, sym}
 use Rattle.std.specs.Prelude.{if◌then◌else◌, ◌==◌, nat_lt}
-use Rattle.std.proofs.lemmas.Bool.{lt-ltb}
+use Rattle.std.proofs.lemmas.Bool.{lt-ltb, false≢true}
 use Rattle.fl_base.specs.declared.types.BlobRef.{BlobRef}
 use Rattle.fl_flash.specs.Flash.{FlashState}
 use Rattle.fl_mark.specs.Mark.{state_of_page}
@@ -97,10 +97,7 @@ ahead-held f g first mid (fault.BadPage bad) ready ahead some given h = λ reads
 
 -- no page is behind where no byte is left
 pub none-behind : (r : BlobReader) (f : FlashState) → false ≡ nat_lt 0 (count_left r) → IsThereBehind r f
-none-behind r f none = λ some. absurd (differ (none ∙ lt-ltb 0 r.left some))
-  where
-    differ : false ≡ true → ⊥
-    differ e = cc
+none-behind r f none = λ some. absurd (false≢true (none ∙ lt-ltb 0 r.left some))
 
 -- what was told of a blob, seen from an earlier flash
 module _ (t : Table 64 64) (key : ℕ) (f g : FlashState) (only : OnlyReads f g) (at : BlobRef) where

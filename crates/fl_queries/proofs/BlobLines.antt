@@ -2,6 +2,7 @@
 use Rattle.std.proofs.Common.{◌≡◌, ℕ, zero, suc, ◌+◌, ◌/◌, ◌%◌, ◌<◌, ◌≤◌, Bool, true, false, inl, inr, IsErr, Option, Result, Ok, Err, List, [], ◌∷◌, ◌++◌, length, take, refl, sym, ◌∙◌, ap, subst, arith, append_assoc, append-nil, length-append, codes}
 use Rattle.std.proofs.lemmas.Grind.{flat_map-append}
 use Rattle.std.proofs.lemmas.List.{take_at}
+use Rattle.std.proofs.lemmas.Bool.{false≢true}
 use Rattle.fl_base.specs.Causes.{Rose, Appends, AppendsFront}
 use Rattle.fl_flash.specs.Flash.{FlashState}
 use Rattle.fl_page.specs.Causes.{IsCaused}
@@ -103,15 +104,12 @@ module _ {E : Type 0} (bytes : List ℕ) (told now : Option (List ℕ)) (faults 
   pub shows-line : Written told now result (codes "bytes " ++ (hex_text bytes ++ 10 ∷ [])) → ShowsBytes bytes told now faults faults_now reads reads_now result
   shows-line wrote = record {
     rose = false;
-    risen = λ t. absurd (no t);
+    risen = λ t. absurd (false≢true t);
     replies = words.Bytes bytes ∷ [];
     replied = inl refl;
     wrote = subst (λ (l : List ℕ). Written told now result l) (sym (bytes-line bytes)) wrote;
-    failed = λ t. absurd (no t);
+    failed = λ t. absurd (false≢true t);
   }
-    where
-      no : false ≡ true → ⊥
-      no e = cc
 
   -- a front of it, and then the fault
   pub shows-fault : (n : ℕ) → 1 ≤ n → n < length bytes → Rose faults faults_now → RoseSome reads reads_now → Written told now result (codes "bytes " ++ (hex_text (take n bytes) ++ (10 ∷ [] ++ text words.ReadFault))) → ShowsBytes bytes told now faults faults_now reads reads_now result

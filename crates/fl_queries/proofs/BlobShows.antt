@@ -1,7 +1,7 @@
 -- What is said of the blob of a record.
 use Rattle.std.proofs.Common.{◌≡◌, ◌⊎◌, ℕ, ◌+◌, ◌-◌, ◌/◌, ◌^◌, ◌<◌, ◌≤◌, Bool, true, false, cond, inl, inr, IsTrue, Option, Some, None, Result, Ok, Err, List, [], ◌∷◌, length, take, drop, refl, sym, ◌∙◌, ap, subst, arith}
 use Rattle.std.specs.Prelude.{IfOk, IfSome, OnErr, MatchOption, if◌then◌else◌, ◌==◌, option_map, unwrap_or, slice_get}
-use Rattle.std.proofs.lemmas.Bool.{eq-eqb}
+use Rattle.std.proofs.lemmas.Bool.{eq-eqb, false≢true}
 use Rattle.fl_base.specs.Causes.{Rose}
 use Rattle.fl_base.specs.declared.types.BlobRef.{BlobRef}
 use Rattle.fl_base.specs.declared.types.Geometry.{Geometry}
@@ -43,9 +43,6 @@ use Rattle.fl_queries.specs.BlobLine.{ShowsBytes, read_reply}
 use Rattle.fl_queries.specs.BlobShown.{found_in, IfNamed, FindsBlob, NamesBlob, SaysBlob, ShowsBlob}
 use Rattle.fl_queries.proofs.ListsAll.{one-text}
 use Rattle.fl_queries.proofs.Lookups.{found-place, same-some}
-
-no : false ≡ true → ⊥
-no e = cc
 
 -- ---- where a blob starts
 
@@ -124,11 +121,11 @@ module _ {E : Type 0} (told now : Option (List ℕ)) (faults faults_now reads re
   pub says-one : (state : BlobState) (reply : words.Reply) → is_read_fault reply ≡ false → BlobReplies false state (reply ∷ []) → Written told now result (text reply) → SaysBlob state told now faults faults_now reads reads_now result
   says-one state reply other is wrote = record {
     rose = false;
-    risen = λ t. absurd (no t);
+    risen = λ t. absurd (false≢true t);
     replies = reply ∷ [];
     replied = inl is;
     wrote = subst (λ (l : List ℕ). Written told now result l) (sym (one-text reply)) wrote;
-    failed = λ t. absurd (no (sym other ∙ t));
+    failed = λ t. absurd (false≢true (sym other ∙ t));
   }
 
   pub says-gone : (state : BlobState) → state ≡ Lost → Written told now result (text words.Gone) → SaysBlob state told now faults faults_now reads reads_now result
@@ -172,7 +169,7 @@ module _ {E : Type 0} (told now : Option (List ℕ)) (faults faults_now reads re
 
 -- why the opening failed: the medium's faults rose in a read of it that is counted
 pub unread-rose : (f g : FlashState) (e : ReadFault) (table : model.Table) (entry : Entry) (bytes : List ℕ) → f.is_on ≡ true → reading.IfUnread f e g → reading.Finds table entry bytes f (Err e) → Rose f.media.faults g.media.faults × RoseSome f.work.reads g.work.reads × (read_reply e ≡ words.ReadFault)
-unread-rose f g (Flash PowerLost) table entry bytes on fails finds = absurd (no (sym fails ∙ on))
+unread-rose f g (Flash PowerLost) table entry bytes on fails finds = absurd (false≢true (sym fails ∙ on))
 unread-rose f g (Flash Media) table entry bytes on fails finds = (fails.0, fails.1, refl)
 unread-rose f g (BadPage bad) table entry bytes on fails finds = absurd finds
 
@@ -187,25 +184,25 @@ module _ {E : Type 0} (plan : Plan) (table : model.Table) (key : ℕ) (told now 
   pub shows-absent : entry_at key table.entries ≡ None → Written told now result (text words.Absent) → reads_now ≤ reads + lookup_limit 64 plan table key → ShowsBlob plan table key told now faults faults_now reads reads_now result
   shows-absent none wrote most = record {
     rose = false;
-    risen = λ t. absurd (no t);
+    risen = λ t. absurd (false≢true t);
     replies = words.Absent ∷ [];
     replied = inl (subst (λ (o : Option Entry). MatchOption o (words.Absent ∷ [] ≡ words.Absent ∷ []) (λ entry. BlobReplies false (blob_of table entry) (words.Absent ∷ []))) (sym none) refl);
     wrote = subst (λ (l : List ℕ). Written told now result l) (sym (one-text words.Absent)) wrote;
     within = omega (arith, most);
-    failed = λ t. absurd (no t);
+    failed = λ t. absurd (false≢true t);
   }
 
   -- the record has none
   pub shows-none : (entry : Entry) → entry_at key table.entries ≡ Some entry → entry.kept.blob ≡ None → Written told now result (text words.NoBlob) → reads_now ≤ reads + lookup_limit 64 plan table key → ShowsBlob plan table key told now faults faults_now reads reads_now result
   shows-none entry found none wrote most = record {
     rose = false;
-    risen = λ t. absurd (no t);
+    risen = λ t. absurd (false≢true t);
     replies = words.NoBlob ∷ [];
     replied = inl (subst (λ (o : Option Entry). MatchOption o (words.NoBlob ∷ [] ≡ words.Absent ∷ []) (λ entry. BlobReplies false (blob_of table entry) (words.NoBlob ∷ []))) (sym found)
         (subst (λ s. BlobReplies false s (words.NoBlob ∷ [])) (sym (ap (blob_in table entry) none)) refl));
     wrote = subst (λ (l : List ℕ). Written told now result l) (sym (one-text words.NoBlob)) wrote;
     within = omega (arith, most);
-    failed = λ t. absurd (no t);
+    failed = λ t. absurd (false≢true t);
   }
 
   -- what is left of it was said
@@ -229,7 +226,7 @@ module _ {E : Type 0} (plan : Plan) (table : model.Table) (key : ℕ) (told now 
 
   -- a page wasn't read in the lookup
   pub shows-unread : (f g : FlashState) (e : ReadFault) → faults ≡ f.media.faults → faults_now ≡ g.media.faults → reads ≡ f.work.reads → reads_now ≡ g.work.reads → f.is_on ≡ true → IsCaused f e g → FindsBlob table key (Err e) → Written told now result (text (read_reply e)) → reads_now ≤ reads + lookup_limit 64 plan table key → ShowsBlob plan table key told now faults faults_now reads reads_now result
-  shows-unread f g (Flash PowerLost) a b read read_now on cause finds wrote most = absurd (no (sym cause ∙ on))
+  shows-unread f g (Flash PowerLost) a b read read_now on cause finds wrote most = absurd (false≢true (sym cause ∙ on))
   shows-unread f g (Flash Media) a b read read_now on cause finds wrote most = record {
     rose = true;
     risen = λ t. rw (a, b) cause.0;

@@ -1,5 +1,6 @@
 -- The replies to lines that were listed.
-use Rattle.std.proofs.Common.{◌≡◌, ℕ, ◌+◌, ◌≤◌, true, false, Option, Result, Ok, Err, List, [], ◌∷◌, ◌++◌, length, take, refl, sym, ◌∙◌, subst, inl, inr, arith}
+use Rattle.std.proofs.Common.{ℕ, ◌+◌, ◌≤◌, true, false, Option, Result, Ok, Err, List, [], ◌∷◌, ◌++◌, length, take, refl, sym, ◌∙◌, subst, inl, inr, arith}
+use Rattle.std.proofs.lemmas.Bool.{false≢true}
 use Rattle.fl_base.specs.declared.stream.SinkFailed.{SinkFailed}
 use Rattle.fl_flash.specs.declared.flash.FlashFault.{FlashFault}
 use Rattle.fl_page.specs.declared.fault.ReadFault.TheVariants.{Flash, BadPage}
@@ -14,15 +15,12 @@ use Rattle.fl_queries.specs.declared.listing.ListFault.TheVariants.{Sink, Read}
 use Rattle.fl_queries.proofs.RowLines.{written-last, front-last}
 use Rattle.fl_queries.proofs.Scanned.{on-ok, on-ok-weaker, unread-last, none-unread}
 
-no : false ≡ true → ⊥
-no e = cc
-
 module _ {E : Type 0} (lines : List Reply) (most least : ℕ) (told mid now : Option (List ℕ)) (faults faults_now reads reads_now : ℕ) (result : Result (Unit {0}) E) where
   -- all lines were listed, and their number is said
   pub counted-all : (count : ℕ) → ListsAll lines told mid faults faults_now (Ok count) → ReadsLines most least reads reads_now (Ok count) → Written mid now result (text (reply.EndCount count)) → Counted lines most least told now faults faults_now reads reads_now result
   counted-all count listed rises wrote = record {
     rose = false;
-    risen = λ t. absurd (no t);
+    risen = λ t. absurd (false≢true t);
     replies = lines ++ reply.EndCount (length lines) ∷ [];
     lists = inl refl;
     wrote = written-last lines (reply.EndCount (length lines)) told mid now result listed.0 (subst (λ n. Written mid now result (text (reply.EndCount n))) listed.1 wrote);
@@ -42,7 +40,7 @@ module _ {E : Type 0} (lines : List Reply) (most least : ℕ) (told mid now : Op
         lists = inr (refl, (n, listed.1.1, refl));
         wrote = written-last (take n lines) reply.ReadFault told mid now result listed.1.2 wrote;
         within = within;
-        some = on-ok (λ unread. absurd (no (sym unread ∙ unread-last (take n lines)))) result;
+        some = on-ok (λ unread. absurd (false≢true (sym unread ∙ unread-last (take n lines)))) result;
         failed = λ unread. counted;
       }
 
@@ -51,7 +49,7 @@ pub counted-failed : {E : Type 0} (lines : List Reply) (most least : ℕ) (told 
     Counted lines most least told now faults faults_now reads reads_now (Err e)
 counted-failed lines most least told now faults faults_now reads reads_now failed e listed within = record {
   rose = false;
-  risen = λ t. absurd (no t);
+  risen = λ t. absurd (false≢true t);
   replies = lines ++ reply.EndCount (length lines) ∷ [];
   lists = inl refl;
   wrote = front-last lines (reply.EndCount (length lines)) told now listed;

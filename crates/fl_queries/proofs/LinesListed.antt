@@ -1,5 +1,6 @@
 -- Lines that are listed one after another.
-use Rattle.std.proofs.Common.{◌≡◌, ℕ, ◌+◌, ◌≤◌, true, false, Option, Ok, Err, List, [], ◌∷◌, ◌++◌, length, refl, sym, ◌∙◌, ap, subst, append_assoc, append-nil, length-append, arith}
+use Rattle.std.proofs.Common.{◌≡◌, ℕ, ◌+◌, ◌≤◌, true, Option, Ok, Err, List, [], ◌∷◌, ◌++◌, length, refl, sym, ◌∙◌, ap, subst, append_assoc, append-nil, length-append, arith}
+use Rattle.std.proofs.lemmas.Bool.{true≢false}
 use Rattle.fl_base.specs.Causes.{Rose, Appends, AppendsFront}
 use Rattle.fl_base.specs.declared.stream.SinkFailed.{SinkFailed}
 use Rattle.fl_flash.specs.Flash.{FlashState}
@@ -49,10 +50,7 @@ module _ (all left after : List words.Reply) (reply : Reply) (told mid now : Opt
 -- a read fails
 pub front-unread : (all left after : List words.Reply) (told now : Option (List ℕ)) (faults count : ℕ) (fault : ReadFault) (old new : FlashState) → Fronted all left told now faults count → faults ≤ old.media.faults → old.is_on ≡ true →
     LineSteps (Err fault) left after → IsCaused old fault new → ListsAll all told now faults new.media.faults (Err (Read fault))
-front-unread all left after told now faults count (Flash PowerLost) old new front le on step cause = absurd (no (sym on ∙ cause))
-  where
-    no : true ≡ false → ⊥
-    no e = cc
+front-unread all left after told now faults count (Flash PowerLost) old new front le on step cause = absurd (true≢false (sym on ∙ cause))
 front-unread all left after told now faults count (Flash Media) old new front le on step cause =
     let rose : Rose faults new.media.faults = omega (arith, le, cause.0) in
     lists-stop front.shown [] left all told now now faults faults new.media.faults count (Read (Flash Media)) front.parts (omega arith) front.listed (rose, (0, omega arith, appends-none now))

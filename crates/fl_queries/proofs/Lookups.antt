@@ -1,7 +1,7 @@
 -- The replies to a lookup.
 use Rattle.std.proofs.Common.{◌≡◌, ℕ, suc, ◌+◌, ◌-◌, ◌<◌, ◌≤◌, Bool, true, false, IsTrue, Option, Some, None, option_map, List, [], ◌∷◌, length, map, refl, sym, ◌∙◌, ap, subst, inl, inr, arith}
 use Rattle.std.specs.Prelude.{is_some, ◌==◌}
-use Rattle.std.proofs.lemmas.Bool.{eqb-true}
+use Rattle.std.proofs.lemmas.Bool.{eqb-true, true≢false}
 use Rattle.std.proofs.Common.{length-take}
 use Rattle.std.specs.List.{slice_get}
 use Rattle.fl_find.proofs.Entries.{row-entry}
@@ -134,13 +134,10 @@ looks-unread plan table key t old new Media said on fails within is = record {
   reply_is = inr (refl, refl);
   said_is = is;
   within = within;
-  exact = λ unread. absurd (no unread);
-  found = λ unread. absurd (no unread);
+  exact = λ unread. absurd (true≢false unread);
+  found = λ unread. absurd (true≢false unread);
   failed = λ t. fails.1;
 }
-  where
-    no : true ≡ false → ⊥
-    no e = cc
 
 -- ---- over any bytes
 

@@ -2,7 +2,7 @@
 use Rattle.std.proofs.Common.{◌≡◌, ℕ, zero, suc, ◌+◌, ◌<◌, ◌≤◌, Bool, true, false, Option, Result, Ok, Err, OnOk, List, [], ◌∷◌, ◌++◌, length, map, take, refl, sym, ◌∙◌, ap, subst, arith, inl, inr, append-nil}
 use Rattle.std.specs.Prelude.{if◌then◌else◌, ◌==◌}
 use Rattle.std.specs.List.{last_or}
-use Rattle.std.proofs.lemmas.Bool.{eq-eqb, ne_eqb, cases_lt}
+use Rattle.std.proofs.lemmas.Bool.{eq-eqb, ne_eqb, cases_lt, false≢true}
 use Rattle.std.proofs.lemmas.List.{take-map, length-map, take_all}
 use Rattle.fl_base.specs.Causes.{Rose, AppendsFront}
 use Rattle.fl_base.specs.declared.stream.SinkFailed.{SinkFailed}
@@ -83,7 +83,7 @@ module _ (plan : Plan) (blobs : Bool) (table : model.Table) (count : ℕ) (first
         length (given_of count (mark_of first) table) ≡ length rows → Written mid now result (text last) → Nexts plan table count (mark_of first) (mark_of new) told now f.media.faults g.media.faults f.work.reads g.work.reads result
     nexts-whole last same ends many wrote = record {
       rose = false;
-      risen = λ t. absurd (no t);
+      risen = λ t. absurd (false≢true t);
       given = length (given_of count (mark_of first) table);
       some = omega arith;
       replies = rows_of plan (given_of count (mark_of first) table) ++ ending_of count (length (given_of count (mark_of first) table)) ∷ [];
@@ -95,9 +95,6 @@ module _ (plan : Plan) (blobs : Bool) (table : model.Table) (count : ℕ) (first
       within = within;
       failed = none-unread (rows_of plan (given_of count (mark_of first) table)) (ending_of count (length (given_of count (mark_of first) table))) (ending-read count (length (given_of count (mark_of first) table)));
     }
-      where
-        no : false ≡ true → ⊥
-        no e = cc
 
     nexts-more : length rows ≡ count → Written mid now result (text words.More) → Nexts plan table count (mark_of first) (mark_of new) told now f.media.faults g.media.faults f.work.reads g.work.reads result
     nexts-more full wrote =
@@ -144,7 +141,7 @@ module _ (plan : Plan) (blobs : Bool) (table : model.Table) (count : ℕ) (first
       ap (λ (l : List Row). map (row_reply blobs) (take count l)) are ∙ (ap (map (row_reply blobs)) (take-map stored_row count (query.left_of (asked_by (mark_of first)) table.entries)) ∙ lines-stored plan blobs (given_of count (mark_of first) table) noted) in
       record {
         rose = false;
-        risen = λ t. absurd (no t);
+        risen = λ t. absurd (false≢true t);
         given = length (given_of count (mark_of first) table);
         some = omega arith;
         replies = rows_of plan (given_of count (mark_of first) table) ++ ending_of count (length (given_of count (mark_of first) table)) ∷ [];
@@ -154,9 +151,6 @@ module _ (plan : Plan) (blobs : Bool) (table : model.Table) (count : ℕ) (first
         within = within;
         failed = none-unread (rows_of plan (given_of count (mark_of first) table)) (ending_of count (length (given_of count (mark_of first) table))) (ending-read count (length (given_of count (mark_of first) table)));
       }
-    where
-      no : false ≡ true → ⊥
-      no e = cc
 
   -- so many were given, and that there may be more or that none is left was said
   pub nexts-given : (given : ℕ) → Gives blobs count first new contents told mid (Ok given) → Written mid now result (text (ending_of count given)) →

@@ -2,7 +2,7 @@
 use Rattle.std.proofs.Common.{◌≡◌, ◌⊎◌, ℕ, zero, suc, ◌+◌, ◌<◌, ◌≤◌, Bool, true, false, cond, inl, inr, Option, Some, None, Err, List, [], ◌∷◌, length, map, refl, sym, ◌∙◌, ap, subst, arith}
 use Rattle.std.specs.Prelude.{◌||◌, ◌&&◌, ◌==◌, nat_le, nat_lt, option_map, unwrap_or, slice_get}
 use Rattle.std.specs.List.{AllByRecursion, find}
-use Rattle.std.proofs.lemmas.Bool.{le-leb, lt-leb, cases_lt}
+use Rattle.std.proofs.lemmas.Bool.{le-leb, lt-leb, cases_lt, false≢true, true≢false}
 use Rattle.fl_cursor.proofs.Selected.{all-selected, few-keys}
 use Rattle.fl_flash.specs.Flash.{FlashState}
 use Rattle.fl_model.specs.Facts.{BlobFits, FitsPlan, is_some_ring}
@@ -79,12 +79,9 @@ page-before ring page within lt = gone (nat_le ring.next page) (nat_le (oldest r
 stands-as : (ring : Ring) (page : ℕ) → length ring.counts ≤ ring.next → (page < oldest ring) ⊎ (page_stands ring page ≡ true) → nat_le (oldest ring) page ≡ page_stands ring page
 stands-as ring page within (inl lt) = lt-leb (oldest ring) page lt ∙ sym (page-before ring page within lt)
 stands-as ring page within (inr stands) = elim (cases_lt page (oldest ring)) [
-  | inl lt ↦ absurd (no (sym (page-before ring page within lt) ∙ stands))
+  | inl lt ↦ absurd (false≢true (sym (page-before ring page within lt) ∙ stands))
   | inr ge ↦ le-leb (oldest ring) page (omega (arith, ge)) ∙ sym stands
 ]
-  where
-    no : false ≡ true → ⊥
-    no e = cc
 
 -- the row of an entry tells whether its blob stands
 kept-as : (table : Table) (ring : Ring) (entry : Entry) → table.var ≡ Some ring → length ring.counts ≤ ring.next →
@@ -115,12 +112,9 @@ kept-as table ring entry var_is within placed = by-blob entry.kept.blob placed
 none-left : (plan : Plan) (table : Table) (entry : Entry) → has_var plan ≡ false → FitsPlan plan entry → is_left (blob_of table entry) ≡ false
 none-left plan table entry none fits = by-blob entry.kept.blob fits.blob
   where
-    no : false ≡ true → ⊥
-    no e = cc
-
     by-blob : (blob : Option (List ℕ)) → BlobFits plan entry blob → is_left (blob_in table entry blob) ≡ false
     by-blob None h = refl
-    by-blob (Some bytes) h = absurd (no (sym none ∙ h.0))
+    by-blob (Some bytes) h = absurd (false≢true (sym none ∙ h.0))
 
 -- each entry of a list
 each-fits : (P : Entry → Type 0) (entries : List Entry) → AllByRecursion P entries → (i : ℕ) (entry : Entry) → slice_get entries i ≡ Some entry → P entry
@@ -151,10 +145,7 @@ module _ (t : memory.Table 64 64) (f : FlashState) (first : ℕ) (plan : Plan) (
       by-data None (Some ring) b var_is e =
           let planned : plan.var_blocks ≡ 0 = subst (λ (v : Option VarData). variable.ArePlanned v (first + plan.data_blocks + plan.index_blocks) plan) b stands.planned.var in
           let has : true ≡ nat_lt 0 plan.var_blocks = sym (ap is_some_ring var_is) ∙ stands.facts.has_rings.1 in
-          absurd (never (has ∙ ap (nat_lt 0) planned))
-        where
-          never : true ≡ false → ⊥
-          never e = cc
+          absurd (true≢false (has ∙ ap (nat_lt 0) planned))
       by-data (Some v) (Some ring) b var_is e =
           let there : variable.IsStanding v f (first + plan.data_blocks + plan.index_blocks) plan table = subst (λ (v : Option VarData). variable.Stand v f (first + plan.data_blocks + plan.index_blocks) plan table) b stands.blobs in
           let s = there.in_pages.ring in

@@ -1,5 +1,6 @@
 -- A cursor that is resumed over a flash that stands for its table.
-use Rattle.std.proofs.Common.{◌≡◌, ℕ, ◌+◌, ◌≤◌, true, false, IsTrue, Option, Result, List, length, map, filter, refl, sym, ◌∙◌, ap, subst}
+use Rattle.std.proofs.Common.{◌≡◌, ℕ, ◌+◌, ◌≤◌, true, IsTrue, Option, Result, List, length, map, filter, refl, sym, ◌∙◌, ap, subst}
+use Rattle.std.proofs.lemmas.Bool.{true≢false}
 use Rattle.fl_base.specs.Causes.{Rose}
 use Rattle.fl_cursor.specs.Asked.{asked_by, is_left}
 use Rattle.fl_cursor.specs.Cursor.{table_of, mark_of, asked_of, left_of, IsStanding}
@@ -36,18 +37,12 @@ module _ (t : Table 64 64) (f : FlashState) (first : ℕ) (plan : Plan) (table :
 
 -- a read failed with the power on, so the medium did
 pub rose-read : (f g : FlashState) (e : FlashFault) → f.is_on ≡ true → IsCaused f (Flash e) g → Rose f.media.faults g.media.faults
-rose-read f g PowerLost on off = absurd (no (sym on ∙ off))
-  where
-    no : true ≡ false → ⊥
-    no e = cc
+rose-read f g PowerLost on off = absurd (true≢false (sym on ∙ off))
 rose-read f g Media on cause = cause.0
 
 -- .. in a read that is counted
 pub read-counted : (f g : FlashState) (e : FlashFault) → f.is_on ≡ true → IsCaused f (Flash e) g → RoseSome f.work.reads g.work.reads
-read-counted f g PowerLost on off = absurd (no (sym on ∙ off))
-  where
-    no : true ≡ false → ⊥
-    no e = cc
+read-counted f g PowerLost on off = absurd (true≢false (sym on ∙ off))
 read-counted f g Media on cause = cause.1
 
 -- the same bookmarks by other names

@@ -1,6 +1,7 @@
 -- The replies to a whole scan.
 use Rattle.std.proofs.Common.{◌≡◌, ℕ, ◌+◌, ◌-◌, ◌^◌, ◌<◌, ◌≤◌, Bool, true, false, IsTrue, Option, None, option_map, unwrap_or, Result, Ok, Err, OnOk, List, [], ◌∷◌, ◌++◌, length, map, take, refl, sym, ◌∙◌, ap, subst, inl, inr, append-nil, length-append, arith}
 use Rattle.std.proofs.lemmas.List.{length-map, take-map, take_all}
+use Rattle.std.proofs.lemmas.Bool.{false≢true}
 use Rattle.fl_base.specs.Causes.{AppendsFront}
 use Rattle.fl_base.specs.declared.stream.SinkFailed.{SinkFailed}
 use Rattle.fl_base.specs.declared.types.KeyRange.{KeyRange}
@@ -38,9 +39,6 @@ pub on-ok-weaker : {E P Q : Type 0} (result : Result (Unit {0}) E) → (P → Q)
 on-ok-weaker (Ok done) f p = f p
 on-ok-weaker (Err e) f p = tt
 
-no : false ≡ true → ⊥
-no e = cc
-
 -- what ends with a read fault
 pub unread-last : (lines : List Reply) → ends_unread (lines ++ reply.ReadFault ∷ []) ≡ true
 unread-last lines = ap (λ (last : Option Reply). unwrap_or (option_map is_read_fault last) false) (last_or-push None lines reply.ReadFault)
@@ -49,7 +47,7 @@ unread-last lines = ap (λ (last : Option Reply). unwrap_or (option_map is_read_
 pub none-unread : {P : Type 0} (lines : List Reply) (last : Reply) → is_read_fault last ≡ false → IsTrue (ends_unread (lines ++ last ∷ [])) → P
 none-unread lines last other unread =
     let is : ends_unread (lines ++ last ∷ []) ≡ false = ap (λ (end : Option Reply). unwrap_or (option_map is_read_fault end) false) (last_or-push None lines last) ∙ other in
-    absurd (no (sym is ∙ unread))
+    absurd (false≢true (sym is ∙ unread))
 
 module _ (plan : Plan) (blobs : Bool) (table : model.Table) (range : KeyRange) (span : Option Span) (count : ℕ) (first new : Cursor 64 64) (contents : Contents) (told mid now : Option (List ℕ)) (f g : FlashState) (result : Result (Unit {0}) SinkFailed)
     (noted : blobs ≡ has_var plan) (are : left_of first contents ≡ map stored_row (selected range span table.entries)) (few : length (selected range span table.entries) < count)
@@ -74,7 +72,7 @@ module _ (plan : Plan) (blobs : Bool) (table : model.Table) (range : KeyRange) (
       let many : given ≡ length (rows_of plan (selected range span table.entries)) = sym gives.2 ∙ (sym (length-map rows (row_reply blobs)) ∙ ap length lines_are) in
       record {
         rose = false;
-        risen = λ t. absurd (no t);
+        risen = λ t. absurd (false≢true t);
         replies = lines ++ reply.EndCount (length lines) ∷ [];
         lists = inl refl;
         wrote = subst (λ (l : List Reply). Written told now result (texts (l ++ reply.EndCount (length (rows_of plan (selected range span table.entries))) ∷ []))) lines_are
@@ -92,7 +90,7 @@ module _ (plan : Plan) (blobs : Bool) (table : model.Table) (range : KeyRange) (
       let lines_are : map (row_reply blobs) (take count (left_of first contents)) ≡ rows_of plan (selected range span table.entries) = ap (map (row_reply blobs)) all ∙ lines-stored plan blobs (selected range span table.entries) noted in
       record {
         rose = false;
-        risen = λ t. absurd (no t);
+        risen = λ t. absurd (false≢true t);
         replies = lines ++ reply.EndCount (length lines) ∷ [];
         lists = inl refl;
         wrote = rw (says.0, says.1) (front-last lines (reply.EndCount (length lines)) told mid (subst (λ (l : List Reply). AppendsFront told mid (texts l)) lines_are front));
@@ -115,7 +113,7 @@ module _ (plan : Plan) (blobs : Bool) (table : model.Table) (range : KeyRange) (
         lists = inr (refl, (length rows, most, refl));
         wrote = subst (λ (l : List Reply). Written told now result (texts (l ++ reply.ReadFault ∷ []))) front (written-last (map (row_reply blobs) rows) reply.ReadFault told mid now result gave.wrote says);
         within = within;
-        least = on-ok (λ unread. absurd (no (sym unread ∙ unread-last (take (length rows) lines)))) result;
+        least = on-ok (λ unread. absurd (false≢true (sym unread ∙ unread-last (take (length rows) lines)))) result;
         failed = λ unread. read-counted f g fault on why;
       }
   scans-fault (Read (BadPage bad)) gives on why says = absurd gives

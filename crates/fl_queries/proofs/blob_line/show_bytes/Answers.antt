@@ -1,5 +1,6 @@
 use Rattle.std.proofs.Common.{◌≡◌, ℕ, codes, Err, List, [], ◌∷◌, ◌++◌, subst}
 use Rattle.std.proofs.lemmas.Result.{err_from_is_err_and}
+use Rattle.std.proofs.lemmas.Bool.{false≢true}
 use Rattle.fl_script.specs.Written.{Written}
 use Rattle.fl_var.specs.Reading.{bytes_left}
 use Rattle.fl_words.specs.Reply.{hex_text, text}
@@ -7,7 +8,7 @@ use Rattle.fl_queries.specs.BlobLine.{read_reply}
 use Rattle.fl_queries.specs.BlobSays.{MayBeBadAhead, TellsLeft}
 use Rattle.fl_queries.specs.declared.listing.ListFault.TheVariants.{Sink, Read}
 use Rattle.fl_store.proofs.Appends.{front-more}
-use Rattle.fl_queries.proofs.AnyBlobs.{says-begun, says-cut, says-parts, says-sunk, untaken}
+use Rattle.fl_queries.proofs.AnyBlobs.{says-begun, says-cut, says-parts, says-sunk}
 use Rattle.fl_queries.proofs.BlobLines.{written-after, shows-line, shows-unread, shows-unended, rose-with}
 use Rattle.fl_queries.proofs.blob_line.show_bytes.Goals as goal
 
@@ -90,7 +91,7 @@ returns-in_err-write_reply-in-Err-Read-clause-tells g c =
     let given = rw (c.in-Err-Read.is, unread) at c.give_digits.ensures.digits in
     let p = err_from_is_err_and c.from_residual-in_err-write_reply-in-Err-Read.result c.from_residual-in_err-write_reply-in-Err-Read.ensures.1 in
     rw (p.1, p.2) (says-parts (TellsLeft r f) (MayBeBadAhead r f) (MayBeBadAhead r f) f h _ _ (Err p.0) given.0.0 (g.K.Sink.written c.write_reply.new.out) (g.K.Sink.written c.give_digits.new.out) c.in_ok-write_reply.ensures.text given.0.1 c.in_err-write_reply-in-Err-Read.ensures.text
-    (λ taken. absurd (untaken taken)))
+    (λ taken. absurd (false≢true taken)))
 
 pub returns-in_ok-write_reply-in-Err-Read-clause-tells : goal.returns-in_ok-write_reply-in-Err-Read-clause-tells
 returns-in_ok-write_reply-in-Err-Read-clause-tells g c =
