@@ -1,6 +1,7 @@
 -- Readers of a table's blobs, over a flash on which the table lies.
-use Rattle.std.proofs.Common.{◌≡◌, ℕ, ◌+◌, ◌-◌, Bool, true, false, IsTrue, Option, Some, None, Result, Ok, Err, List, length, take, drop, sym, ◌∙◌, ap, subst}
+use Rattle.std.proofs.Common.{◌≡◌, ℕ, ◌+◌, ◌-◌, Bool, true, IsTrue, Option, Some, None, Result, Ok, Err, List, length, take, drop, sym, ◌∙◌, ap, subst}
 use Rattle.std.specs.Prelude.{IfOk, IfSome, is_some, option_map, unwrap_or}
+use Rattle.std.proofs.lemmas.Bool.{false≢true}
 use Rattle.fl_base.specs.declared.types.BlobRef.{BlobRef}
 use Rattle.fl_base.specs.declared.types.Geometry.{Geometry}
 use Rattle.fl_flash.specs.Flash.{FlashState}
@@ -30,15 +31,12 @@ use Rattle.fl_var.specs.declared.var_data.VarData.{VarData}
 use Rattle.fl_var.proofs.Wholes.{images-same}
 use Rattle.fl_store.proofs.Queried.{blobs-bare}
 
-no : false ≡ true → ⊥
-no e = cc
-
 module _ (t : Table 64 64) (f : FlashState) (lies : LiesAll t f) where
   pub buffer-fits : has_blobs t ≡ true → f.geometry.page ≡ blob_page_len t
   buffer-fits some = by_blobs t.blobs some lies.blobs
     where
       by_blobs : (o : Option VarData) → is_some o ≡ true → variable.LieOn o f → f.geometry.page ≡ unwrap_or (option_map (λ (v : VarData). v.geometry.page) o) 0
-      by_blobs None e h = absurd (no e)
+      by_blobs None e h = absurd (false≢true e)
       by_blobs (Some v) e h = ap (λ (g : Geometry). g.page) h.geometry
 
   module _ (v : VarData) (is : Some v ≡ data_in t) where
@@ -85,7 +83,7 @@ finds-held table entry bytes f g n only (Err (fault.Flash e)) h = h
 
 -- .. and a reader that was made over any bytes reads on
 pub ready-kept : (var : Option VarData) (f g : FlashState) (n : ℕ) (at : BlobRef) → looking.OnlyReads f n g → is_some var ≡ true → (result : Result (Option BlobReader) ReadFault) → IfSome var (λ v. reading.Opens v f at result) → IfOk result (λ reader. IfSome reader (λ r. Reads r g))
-ready-kept None f g n at only some result h = absurd (no some)
+ready-kept None f g n at only some result h = absurd (false≢true some)
 ready-kept (Some v) f g n at only some (Ok None) h = tt
 ready-kept (Some v) f g n at only some (Ok (Some r)) h = reads-kept r f g n only h.reads
 ready-kept (Some v) f g n at only some (Err e) h = tt
