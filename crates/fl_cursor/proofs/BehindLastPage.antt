@@ -28,9 +28,6 @@ use Rattle.fl_cursor.proofs.PassedRows.{Above, ascends-behind, each-front, each-
 use Rattle.fl_cursor.proofs.TakenRows.{moves-on}
 use Rattle.fl_cursor.proofs.Walks.{asked-over}
 
-no : true ≡ false → ⊥
-no e = cc
-
 -- pages none of which begins by a key have greater keys alone
 over-above : {KNOTS SLOTS : ℕ} (t : Table KNOTS SLOTS) (contents : Contents) (key n number : ℕ) (before rest : List Row) → ((k : ℕ) → number ≤ k → k < number + n → begins_by key (rows_on t contents k) ≡ false) →
     Ascends None (before ++ (rows_over t contents number n ++ rest)) → Above key (rows_over t contents number n)

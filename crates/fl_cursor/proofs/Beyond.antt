@@ -2,7 +2,7 @@
 use Rattle.std.proofs.Common.{◌≡◌, ℕ, suc, ◌+◌, ◌-◌, ◌<◌, Bool, true, false, not, ◌&&◌, ◌||◌, cond, Option, Some, None, List, [], ◌∷◌, ◌++◌, refl, sym, ◌∙◌, ap, subst, arith}
 use Rattle.std.specs.List.{list_any}
 use Rattle.std.proofs.Math.Bool.{and-false}
-use Rattle.std.proofs.lemmas.Bool.{le-leb, leb-false}
+use Rattle.std.proofs.lemmas.Bool.{le-leb, leb-false, false≢true}
 use Rattle.fl_base.specs.declared.types.Span.{Span}
 use Rattle.fl_model.specs.Query.{Cursor, is_above, is_up_to}
 use Rattle.fl_model.specs.Row.{Row}
@@ -20,9 +20,6 @@ use Rattle.fl_cursor.proofs.IndexLookups.{looked-over, none-up}
 use Rattle.fl_cursor.proofs.PassedRows.{NotLeft, each-front, each-back, none-asked, none-past, passes-above, passes-same}
 use Rattle.fl_cursor.proofs.Walks.{asked-over}
 
-no : false ≡ true → ⊥
-no e = cc
-
 -- a page without rows doesn't begin above a key
 pub none-beyond : {KNOTS SLOTS : ℕ} (t : Table KNOTS SLOTS) (contents : Contents) (span : Option Span) (top : Option ℕ) (number : ℕ) → rows_on t contents number ≡ [] → is_beyond t contents span top number ≡ false
 none-beyond t contents None top number none = refl
@@ -30,7 +27,7 @@ none-beyond t contents (Some span) top number none =
     ap (λ (rows : List Row). (has_full t.bitmaps && is_indexed_in t.bitmaps number) && begins_above top rows) none ∙ and-false (has_full t.bitmaps && is_indexed_in t.bitmaps number)
 
 pub beyond-begins : {KNOTS SLOTS : ℕ} (t : Table KNOTS SLOTS) (contents : Contents) (span : Option Span) (top : Option ℕ) (number : ℕ) → is_beyond t contents span top number ≡ true → begins_above top (rows_on t contents number) ≡ true
-beyond-begins t contents None top number e = absurd (no e)
+beyond-begins t contents None top number e = absurd (false≢true e)
 beyond-begins t contents (Some span) top number e = (both (has_full t.bitmaps && is_indexed_in t.bitmaps number) (begins_above top (rows_on t contents number)) e).1
 
 -- a key above the last one is behind it
@@ -43,11 +40,11 @@ up-last (Some top) key e =
   where
     not-true : (b : Bool) → not b ≡ true → b ≡ false
     not-true false e = refl
-    not-true true e = absurd (no e)
+    not-true true e = absurd (false≢true e)
 
 -- its first row has the last key or is behind it
 pub beyond-last : (top : Option ℕ) (rows : List Row) → begins_above top rows ≡ true → has_last top rows ≡ true
-beyond-last top [] e = absurd (no e)
+beyond-last top [] e = absurd (false≢true e)
 beyond-last top (row ∷ rows) e = ap (λ b. b || has_last top rows) (up-last top row.key e).1
 
 -- what none of the rows from a page on is
@@ -64,7 +61,7 @@ past-beyond t contents asked next before all ascends passes begins = by_rows (ro
     one = omega (arith, before)
 
     by_rows : (rows : List Row) → rows_on t contents next ≡ rows → begins_above asked.top rows ≡ true → Past t contents asked next
-    by_rows [] is begins = absurd (no begins)
+    by_rows [] is begins = absurd (false≢true begins)
     by_rows (row ∷ rest) is begins =
         let key = up-last asked.top row.key begins in
         let above = passes-above asked all (rest ++ rows_from t contents (next + 1)) row ascends

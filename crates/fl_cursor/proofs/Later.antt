@@ -1,7 +1,7 @@
 -- The index pages that list a page with rows after the first one of a scan.
 use Rattle.std.proofs.Common.{◌≡◌, ◌⊎◌, inl, inr, ℕ, zero, suc, ◌+◌, ◌-◌, ◌<◌, ◌≤◌, Bool, true, false, ◌&&◌, ◌||◌, cond, ◌==◌, nat_le, nat_lt, Option, Some, None, unwrap_or, List, [], ◌∷◌, ◌++◌, length, map, take, drop, refl, sym, ◌∙◌, ap, subst, append_assoc, arith}
 use Rattle.std.specs.List.{slice_get, list_any, count_by, sum, AllByRecursion}
-use Rattle.std.proofs.lemmas.Bool.{cases_lt, leb-true, le-leb, ltb-true, false_from_ne_true}
+use Rattle.std.proofs.lemmas.Bool.{cases_lt, leb-true, le-leb, ltb-true, false_from_ne_true, true≢false}
 use Rattle.std.proofs.lemmas.List.{length-drop}
 use Rattle.std.proofs.lemmas.List.Sums.{sum_by-cons, sum_by-take-le}
 use Rattle.fl_base.specs.declared.types.KeyRange.{KeyRange}
@@ -41,12 +41,9 @@ use Rattle.fl_cursor.proofs.Selected.{all-up}
 use Rattle.fl_cursor.proofs.StartPlaces.{ascends-front}
 use Rattle.fl_cursor.proofs.Stood.{kept-rows, standing-rows, standing-ascends}
 
-no : true ≡ false → ⊥
-no e = cc
-
 both : (a b : Bool) → (a && b) ≡ true → (a ≡ true) × (b ≡ true)
 both true b h = (refl, h)
-both false b h = absurd (no (sym h))
+both false b h = absurd (true≢false (sym h))
 
 -- ---- pages with rows
 
@@ -68,7 +65,7 @@ kept-later p first x counts k = record {
 }
 
 any-kept : (p : ℕ → Bool) (first : ℕ) (counts : List ℕ) (entries : List Entry) → list_any (λ (page : ℕ × List Entry). p page.0) (pages_from first counts entries) ≡ true → KeptPage p first counts
-any-kept p first [] entries e = absurd (no (sym e))
+any-kept p first [] entries e = absurd (true≢false (sym e))
 any-kept p first (x ∷ counts) entries e = by_zero (x == 0) refl e (λ es h. any-kept p (first + 1) counts es h)
   where
     by_test : (b : Bool) → p first ≡ b → 0 < x → (b || list_any (λ (page : ℕ × List Entry). p page.0) (pages_from (first + 1) counts (drop x entries))) ≡ true →
@@ -84,7 +81,7 @@ any-kept p first (x ∷ counts) entries e = by_zero (x == 0) refl e (λ es h. an
       where
         not_zero : (0 < x) ⊎ (x ≤ 0) → 0 < x
         not_zero (inl lt) = lt
-        not_zero (inr le) = let n : x ≡ 0 = omega (arith, le) in absurd (no (sym (ap (λ k. k == 0) n) ∙ z))
+        not_zero (inr le) = let n : x ≡ 0 = omega (arith, le) in absurd (true≢false (sym (ap (λ k. k == 0) n) ∙ z))
 
 count-false : (q : ℕ → Bool) (xs : List ℕ) → ((x : ℕ) → q x ≡ false) → count_by q xs ≡ 0
 count-false q [] h = refl
@@ -231,7 +228,7 @@ module _ {KNOTS SLOTS : ℕ} (t : Table KNOTS SLOTS) (contents : Contents) (h : 
 
     in-range : (n : ℕ) (row : Row) → oldest_in t ≤ n → n < next_in t → slice_get (rows_on t contents n) 0 ≡ Some row → (page : Option ℕ) → in_pages (first_page h.table range.low) page n ≡ true →
         IsPageOf (λ n. first_key (rows_on t contents n)) (oldest_in t) (next_in t) range.high page → row.key ≤ range.high
-    in-range n row low high first None e is = absurd (no (sym e))
+    in-range n row low high first None e is = absurd (true≢false (sym e))
     in-range n row low high first (Some page) e is =
         let b = both (nat_le (first_page h.table range.low) n) (nat_le n page) e in
         let le = leb-true n page b.1 in
@@ -293,7 +290,7 @@ module _ {KNOTS SLOTS : ℕ} (t : Table KNOTS SLOTS) (contents : Contents) (h : 
     not-begun n low high behind (Some page) e is = is.later n (omega (arith, behind, e)) high
 
     later-above : (first n : ℕ) → (l : IsLater first n) → l.row.key ≤ range.low → ⊥
-    later-above first n l le = no (sym (begun-row range.low (rows_on t contents n) l.row l.is_first le) ∙ not-begun n l.kept l.within l.behind (page_at h.table range.low) refl (standing-start t contents h range.low))
+    later-above first n l le = true≢false (sym (begun-row range.low (rows_on t contents n) l.row l.is_first le) ∙ not-begun n l.kept l.within l.behind (page_at h.table range.low) refl (standing-start t contents h range.low))
 
     -- where each row up to the last key is at most the low key there is none
     pub none-later : ((n : ℕ) (row : Row) → oldest_in t ≤ n → n < next_in t → slice_get (rows_on t contents n) 0 ≡ Some row → is_up_to (begin range span h.table).top row.key ≡ true → row.key ≤ range.low) → (first : ℕ) → lists_later first ≡ false

@@ -1,7 +1,7 @@
 -- What a cursor that begins reads at least, in the words of the model.
 use Rattle.std.proofs.Common.{◌≡◌, ℕ, zero, suc, ◌+◌, ◌-◌, ◌<◌, ◌≤◌, Bool, true, false, ◌||◌, cond, ◌==◌, nat_le, nat_lt, Option, Some, None, List, [], ◌∷◌, ◌++◌, length, map, take, drop, refl, sym, ◌∙◌, ap, subst, arith, inl, inr}
 use Rattle.std.specs.List.{slice_get, list_any, count_by, sum, AllByRecursion}
-use Rattle.std.proofs.lemmas.Bool.{cases_lt, leb-true, le-leb, eqb-true, false_from_ne_true}
+use Rattle.std.proofs.lemmas.Bool.{cases_lt, leb-true, le-leb, eqb-true, false_from_ne_true, true≢false}
 use Rattle.std.proofs.lemmas.List.{drop-drop}
 use Rattle.std.proofs.lemmas.List.Sums.{sum_by-cons}
 use Rattle.fl_base.specs.declared.types.KeyRange.{KeyRange}
@@ -45,9 +45,6 @@ use Rattle.fl_cursor.proofs.PassedRows.{each-weaker}
 use Rattle.fl_cursor.proofs.Selected.{all-asked}
 use Rattle.fl_cursor.proofs.StartPlaces.{ascends-front}
 use Rattle.fl_cursor.proofs.Stood.{kept-rows, standing-rows, standing-ascends}
-
-no : true ≡ false → ⊥
-no e = cc
 
 -- ---- lists
 
@@ -113,7 +110,7 @@ none-past asked (row ∷ rows) past = ap (λ b. b || list_any (is_asked (raised 
         let parts = both (row_matches (raised asked).range asked.span row) (is_up_to asked.top row.key) e in
         let matching = both (in_range (raised asked).range row.key) (in_span asked.span (slice_get row.values 0)) parts.0 in
         let from = leb-true (lowest_of asked) row.key (both (nat_le (lowest_of asked) row.key) (nat_le row.key asked.range.high) matching.0).0 in
-        no (sym (by_top asked.top parts.1 from) ∙ past))
+        true≢false (sym (by_top asked.top parts.1 from) ∙ past))
 
 pages-past : {KNOTS SLOTS : ℕ} (t : Table KNOTS SLOTS) (contents : Contents) (asked : Cursor) (n number : ℕ) → is_up_to asked.top (lowest_of asked) ≡ false → pages_asked t contents (raised asked) number n ≡ 0
 pages-past t contents asked zero number past = refl
@@ -129,7 +126,7 @@ has_match range span page = list_any (λ (entry : Entry). matches range span ent
 
 any-asked : (asked : Cursor) (entries : List Entry) → AllByRecursion (λ (e : Entry). matches asked.range asked.span e.kept ≡ true → is_asked asked (stored_row e) ≡ true) entries →
     list_any (λ (entry : Entry). matches asked.range asked.span entry.kept) entries ≡ true → list_any (is_asked asked) (map stored_row entries) ≡ true
-any-asked asked [] h e = absurd (no (sym e))
+any-asked asked [] h e = absurd (true≢false (sym e))
 any-asked asked (x ∷ xs) h e = by_here (matches asked.range asked.span x.kept) refl (λ later. any-asked asked xs h.1 later) e
   where
     by_here : (b : Bool) → matches asked.range asked.span x.kept ≡ b → (list_any (λ (entry : Entry). matches asked.range asked.span entry.kept) xs ≡ true → list_any (is_asked asked) (map stored_row xs) ≡ true) →
@@ -212,7 +209,7 @@ module _ {KNOTS SLOTS : ℕ} (t : Table KNOTS SLOTS) (contents : Contents) (h : 
     where
       by_index : (index : Option Ring) → is_some_ring index ≡ false → full_pages (counts_in index) ≡ 0
       by_index None e = refl
-      by_index (Some ring) e = absurd (no e)
+      by_index (Some ring) e = absurd (true≢false e)
 
   -- the index pages of the model
   abbrev pages_listed : KeyRange → Option Span → ℕ
@@ -252,9 +249,9 @@ module _ {KNOTS SLOTS : ℕ} (t : Table KNOTS SLOTS) (contents : Contents) (h : 
       (least-all (begin range span h.table) (all-asked range span h.table (subst (Ascends None) (standing-rows t contents h) (standing-ascends t contents h))))
     where
       up-below : (top : Option ℕ) (row : Row) → is_up_to top range.low ≡ false → is_up_to top row.key ≡ true → row.key ≤ range.low
-      up-below None row low up = absurd (no (sym up))
+      up-below None row low up = absurd (true≢false (sym up))
       up-below (Some top) row low up = elim (cases_lt range.low row.key) [
-        | inl lt ↦ let le = leb-true row.key top up in absurd (no (sym (le-leb range.low top (omega (arith, lt, le))) ∙ low))
+        | inl lt ↦ let le = leb-true row.key top up in absurd (true≢false (sym (le-leb range.low top (omega (arith, lt, le))) ∙ low))
         | inr le ↦ le
       ]
 

@@ -1,7 +1,7 @@
 -- What a cursor that begins reads at most, in the words of the model.
 use Rattle.std.proofs.Common.{◌≡◌, ℕ, zero, suc, ◌+◌, ◌-◌, ◌<◌, ◌≤◌, ◌⊎◌, Bool, true, false, ◌&&◌, ◌||◌, not, cond, min, ◌==◌, nat_le, Option, Some, None, option_map, unwrap_or, IfSome, List, [], ◌∷◌, length, refl, sym, ◌∙◌, ap, subst, arith, inl, inr}
 use Rattle.std.specs.List.{count_by, slice_get}
-use Rattle.std.proofs.lemmas.Bool.{cases_lt, le-leb, leb-false, leb-true, eq-eqb}
+use Rattle.std.proofs.lemmas.Bool.{cases_lt, le-leb, leb-false, leb-true, eq-eqb, true≢false}
 use Rattle.std.proofs.lemmas.List.Sums.{sum_by-cons}
 use Rattle.fl_base.specs.declared.types.KeyRange.{KeyRange}
 use Rattle.fl_base.specs.declared.types.Span.{Span}
@@ -46,18 +46,15 @@ use Rattle.fl_model.specs.Ring as rings
 use Rattle.fl_table.specs.Skipping.{unread_of, wants_page}
 use Rattle.fl_table.proofs.Skips.{index-stands}
 
-no : true ≡ false → ⊥
-no e = cc
-
 -- a page with rows, none of which is the last that may be given, begins by the high key
 not-last : (top : Option ℕ) (high : ℕ) (rows : List Row) → IsBounded top high → 0 < length rows → has_last top rows ≡ false → begins_by high rows ≡ true
 not-last top high [] bounded some none = absurd (omega (arith, some))
-not-last None high (row ∷ rows) bounded some none = absurd (no none)
+not-last None high (row ∷ rows) bounded some none = absurd (true≢false none)
 not-last (Some top) high (row ∷ rows) bounded some none = by_key (cases_lt row.key top)
   where
     by_key : (row.key < top) ⊎ (top ≤ row.key) → nat_le row.key high ≡ true
     by_key (inl lt) = le-leb row.key high (omega (arith, lt, bounded))
-    by_key (inr le) = absurd (no (sym (ap (λ b. b || has_last (Some top) rows) (le-leb top row.key le)) ∙ none))
+    by_key (inr le) = absurd (true≢false (sym (ap (λ b. b || has_last (Some top) rows) (le-leb top row.key le)) ∙ none))
 
 later-counts : (p : ℕ → Bool) (k m from : ℕ) → count_by p (numbers_from (from + k) m) ≤ count_by p (numbers_from from (k + m))
 later-counts p zero m from =
@@ -82,11 +79,11 @@ module _ {KNOTS SLOTS : ℕ} (t : Table KNOTS SLOTS) (contents : Contents) (h : 
     where
       or-parts : (a b : Bool) → (a || b) ≡ false → (a ≡ false) × (b ≡ false)
       or-parts false b e = (refl, e)
-      or-parts true b e = absurd (no e)
+      or-parts true b e = absurd (true≢false e)
 
       not-false : (b : Bool) → not b ≡ false → b ≡ true
       not-false true e = refl
-      not-false false e = absurd (no e)
+      not-false false e = absurd (true≢false e)
 
       by_count : (0 < rows_noted t number) ⊎ (rows_noted t number ≤ 0) → (0 < rows_noted t number) × (is_wanted h.plan h.table span number ≡ true)
       by_count (inl some) =
@@ -95,16 +92,16 @@ module _ {KNOTS SLOTS : ℕ} (t : Table KNOTS SLOTS) (contents : Contents) (h : 
           (some, sym (wanted-same t contents h number from before span some) ∙ wants)
       by_count (inr none) =
           let z : rows_noted t number ≡ 0 = omega (arith, none) in
-          absurd (no (sym (ap (λ b. b || is_missed t span number (rows_on t contents number)) (eq-eqb (rows_noted t number) 0 z)) ∙ skipped))
+          absurd (true≢false (sym (ap (λ b. b || is_missed t span number (rows_on t contents number)) (eq-eqb (rows_noted t number) 0 z)) ∙ skipped))
 
   within : (high first number : ℕ) (page : Option ℕ) → IsPageOf (λ n. first_key (rows_on t contents n)) (oldest_in t) (next_in t) high page → oldest_in t ≤ number → number < next_in t →
       begins_by high (rows_on t contents number) ≡ true → first ≤ number → in_pages first page number ≡ true
-  within high first number None is from before begins le = absurd (no (sym begins ∙ is number from before))
+  within high first number None is from before begins le = absurd (true≢false (sym begins ∙ is number from before))
   within high first number (Some page) is from before begins le =
       ap (λ b. b && nat_le number page) (le-leb first number le) ∙ le-leb number page (by_order (cases_lt page number))
     where
       by_order : (page < number) ⊎ (number ≤ page) → number ≤ page
-      by_order (inl lt) = absurd (no (sym begins ∙ is.later number lt before))
+      by_order (inl lt) = absurd (true≢false (sym begins ∙ is.later number lt before))
       by_order (inr le) = le
 
   abbrev counted : Option Span → ℕ → ℕ → ℕ → Bool
@@ -180,7 +177,7 @@ module _ {KNOTS SLOTS : ℕ} (t : Table KNOTS SLOTS) (contents : Contents) (h : 
       within-high = by_top top up bounded
         where
           by_top : (top : Option ℕ) → is_up_to top low ≡ true → IsBounded top range.high → low ≤ range.high
-          by_top None e bounded = absurd (no (sym e))
+          by_top None e bounded = absurd (true≢false (sym e))
           by_top (Some top) e bounded = let le = leb-true low top e in omega (arith, le, bounded)
 
       -- a page behind the range is read
@@ -215,7 +212,7 @@ module _ {KNOTS SLOTS : ℕ} (t : Table KNOTS SLOTS) (contents : Contents) (h : 
                 | inr le ↦
                     let same : page ≡ number = omega (arith, le, comes) in
                     let beyond = told-beyond page e (behind-is t contents h range.high page (o_is ∙ e)) in
-                    absurd (no (sym beyond ∙ (ap (is_beyond t contents (Some spanned) top) same ∙ kept)))
+                    absurd (true≢false (sym beyond ∙ (ap (is_beyond t contents (Some spanned) top) same ∙ kept)))
               ]
 
           ends : (number : ℕ) → oldest_in t ≤ number → number < next_in t → first_page h.table low ≤ number → IfSome o (λ page. number ≤ page) → is_beyond t contents (Some spanned) top number ≡ false →
@@ -240,7 +237,7 @@ module _ {KNOTS SLOTS : ℕ} (t : Table KNOTS SLOTS) (contents : Contents) (h : 
                   let reached : number ≤ first.0 = subst (λ (p : Option ℕ). IfSome p (λ page. number ≤ page)) at comes in
                   let same : first.0 ≡ number = omega (arith, reached, first.2) in
                   let beyond = told-beyond number (at ∙ ap Some same) here in
-                  absurd (no (sym beyond ∙ kept))
+                  absurd (true≢false (sym beyond ∙ kept))
 
       by_past : (b : Bool) → (h.plan.full_index && is_spanned span && unwrap_or (option_map (is_indexed h.plan h.table) (page_behind h.table range.high)) true) ≡ b →
           pages_to_last t contents span top start n ≤ past h.plan h.table range span + count_by (counted span range.high (first_page h.table low)) (numbers_from start n)
@@ -252,7 +249,7 @@ module _ {KNOTS SLOTS : ℕ} (t : Table KNOTS SLOTS) (contents : Contents) (h : 
         where
           by_span : (s : Option Span) → span ≡ s → is_spanned s ≡ true → h.plan.full_index ≡ true → unwrap_or (option_map (is_indexed h.plan h.table) (page_behind h.table range.high)) true ≡ true →
               pages_to_last t contents span top start n ≤ past h.plan h.table range span + count_by (counted span range.high (first_page h.table low)) (numbers_from start n)
-          by_span None is spanned full indexed = absurd (no (sym spanned))
+          by_span None is spanned full indexed = absurd (true≢false (sym spanned))
           by_span (Some spanned) is asks full indexed =
               let none = read-none spanned is full (page_behind h.table range.high) refl indexed in
               let same = ap (λ (s : Option Span). pages_to_last t contents s top start n) is in

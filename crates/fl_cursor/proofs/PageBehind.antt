@@ -1,7 +1,7 @@
 -- The first page behind a range of keys, in the model and on a flash that stands for it.
 use Rattle.std.proofs.Common.{◌≡◌, ℕ, zero, suc, ◌+◌, ◌-◌, ◌<◌, ◌≤◌, Bool, true, false, not, ◌&&◌, cond, ◌==◌, nat_lt, Option, Some, None, option_map, List, [], ◌∷◌, length, filter, map, take, drop, refl, sym, ◌∙◌, ap, subst, arith}
 use Rattle.std.specs.List.{slice_get, sum}
-use Rattle.std.proofs.lemmas.Bool.{eqb-true, lt-ltb, ltb-true, false_from_ne_true, leb-true}
+use Rattle.std.proofs.lemmas.Bool.{eqb-true, lt-ltb, ltb-true, false_from_ne_true, leb-true, true≢false}
 use Rattle.std.proofs.lemmas.List.{drop-drop}
 use Rattle.std.proofs.lemmas.List.Sums.{sum_by-cons}
 use Rattle.fl_base.specs.declared.types.Span.{Span}
@@ -23,9 +23,6 @@ use Rattle.fl_cursor.specs.Listed.{rows_on}
 use Rattle.fl_cursor.specs.Reads.{is_beyond, IsBounded}
 use Rattle.fl_cursor.proofs.Stood.{at-number, kept-rows, standing-many}
 use Rattle.fl_cursor.proofs.Wanted.{beyond-same, rows-are}
-
-no : true ≡ false → ⊥
-no e = cc
 
 some-same : {X : Type 0} {a b : X} → Some a ≡ Some b → a ≡ b
 some-same e = cc
@@ -69,7 +66,7 @@ begins-later high first x counts entries number b = record {
 }
 
 not-zero : (x : ℕ) → (x == 0) ≡ false → 0 < x
-not-zero zero z = absurd (no z)
+not-zero zero z = absurd (true≢false z)
 not-zero (suc x) z = omega arith
 
 -- the first that begins above a key is one of them

@@ -2,7 +2,7 @@
 use Rattle.std.proofs.Common.{◌≡◌, ℕ, ◌<◌, true, false, ◌&&◌, ◌||◌, cond, nat_lt, nat_le, Option, Some, None, List, [], ◌∷◌, ◌++◌, filter, refl, sym, ◌∙◌, ap, subst, append_assoc, arith}
 use Rattle.std.specs.List.{AllByRecursion, list_any}
 use Rattle.std.proofs.Math.Bool.{and-false}
-use Rattle.std.proofs.lemmas.Bool.{lt-ltb, ltb-true, leb-true, false_from_ne_true}
+use Rattle.std.proofs.lemmas.Bool.{lt-ltb, ltb-true, leb-true, false_from_ne_true, true≢false}
 use Rattle.std.proofs.lemmas.List.{append-nil}
 use Rattle.std.proofs.lemmas.List.Elements.{filter-append}
 use Rattle.fl_model.specs.Query.{Cursor, is_above, is_up_to}
@@ -11,9 +11,6 @@ use Rattle.fl_page.specs.Steps.{Ascends}
 use Rattle.fl_cursor.specs.Asked.{is_left, is_asked, is_last, row_matches}
 use Rattle.fl_cursor.specs.Ascending.{both}
 use Rattle.fl_cursor.specs.Cursor.{Passes}
-
-no : true ≡ false → ⊥
-no e = cc
 
 pub each-append : {X : Type 0} (P : X → Type 0) (xs ys : List X) → AllByRecursion P xs → AllByRecursion P ys → AllByRecursion P (xs ++ ys)
 each-append P [] ys h k = k
@@ -118,7 +115,7 @@ not-left asked key row above none = false_from_ne_true (is_left (taken asked key
         let left : is_left asked row ≡ true =
         ap (λ b. (b && is_above asked.after row.key) && is_up_to asked.top row.key) parts.0
         ∙ (ap (λ b. b && is_up_to asked.top row.key) over ∙ parts.2) in
-        no (sym left ∙ none)
+        true≢false (sym left ∙ none)
 
 not-twice : (asked : Cursor) (row : Row) → is_left (taken asked row.key) row ≡ false
 not-twice asked row = false_from_ne_true (is_left (taken asked row.key) row) (λ left. above_self (left-parts (taken asked row.key) row left).1)

@@ -3,6 +3,7 @@ use Rattle.std.proofs.Common.{◌≡◌, inl, inr, ℕ, zero, suc, ◌+◌, ◌-
 use Rattle.std.specs.Bool.{OnFalse}
 use Rattle.std.specs.Borrow.{Bor}
 use Rattle.std.specs.List.{list_any, slice_get}
+use Rattle.std.proofs.lemmas.Bool.{true≢false}
 use Rattle.fl_base.specs.declared.types.Span.{Span}
 use Rattle.fl_find.specs.Pages as pages
 use Rattle.fl_flash.specs.Buffer.{BufferState}
@@ -40,14 +41,11 @@ use Rattle.fl_cursor.proofs.Indexed.{fresh-in, fresh-none, fresh-on}
 use Rattle.fl_cursor.proofs.PassedRows.{passes-all}
 use Rattle.fl_cursor.proofs.Walks.{reached}
 
-no : true ≡ false → ⊥
-no e = cc
-
 -- ---- rows behind which none may be given
 
 or-false : (a b : Bool) → (a || b) ≡ false → (a ≡ false) × (b ≡ false)
 or-false false b e = (refl, e)
-or-false true b e = absurd (no e)
+or-false true b e = absurd (true≢false e)
 
 -- where none of some is one, none of those behind a place is, nor the one at a place
 none-behind : (test : Row → Bool) (n : ℕ) (rows : List Row) → list_any test rows ≡ false → list_any test (drop n rows) ≡ false
@@ -216,7 +214,7 @@ module _ {KNOTS SLOTS : ℕ} (old : Cursor KNOTS SLOTS) (number row : ℕ) (here
     where
       by_last : (b : Bool) → b ≡ false → has_last (asked_of old).top (drop (k + 1) rows) ≡ false →
           IsSoundFor (table_of old) contents (asked_of (took found.key here (InPage number (k + 1)) old)) (buffer_of old) (cond b Ended (InPage number (k + 1))) → IsSoundFrom (table_of old) contents (asked_of old) (number + 1)
-      by_last true e later s = absurd (no e)
+      by_last true e later s = absurd (true≢false e)
       by_last false e later s = s later
 
   -- none is, and the next page comes
@@ -225,7 +223,7 @@ module _ {KNOTS SLOTS : ℕ} (old : Cursor KNOTS SLOTS) (number row : ℕ) (here
 
   -- .. or the last one was met
   pub sound-nowhere : Nowhere ≡ first_left (asked_of old) (drop row rows) row → IsSoundAhead old contents
-  sound-nowhere search = λ tells fresh. in-page (λ none. absurd (no (sym (stopped-last (asked_of old) (drop row rows) row search) ∙ none)))
+  sound-nowhere search = λ tells fresh. in-page (λ none. absurd (true≢false (sym (stopped-last (asked_of old) (drop row rows) row search) ∙ none)))
 
 -- ---- behind the pages
 
@@ -235,9 +233,9 @@ sound-pending old row contents is = λ tells fresh. subst (IsSoundFor (table_of 
 ended-sound : {KNOTS SLOTS : ℕ} (t : Table KNOTS SLOTS) (contents : Contents) (asked : model.Cursor) (page : List ℕ) (place : Place) → is_end place ≡ true → IsSoundFor t contents asked page place
 ended-sound t contents asked page Ended e = tt
 ended-sound t contents asked page (Pending row) e = tt
-ended-sound t contents asked page Start e = absurd (no (sym e))
-ended-sound t contents asked page (Pages next) e = absurd (no (sym e))
-ended-sound t contents asked page (InPage number row) e = absurd (no (sym e))
+ended-sound t contents asked page Start e = absurd (true≢false (sym e))
+ended-sound t contents asked page (Pages next) e = absurd (true≢false (sym e))
+ended-sound t contents asked page (InPage number row) e = absurd (true≢false (sym e))
 
 -- a step that came to the end
 pub all-sound : {KNOTS SLOTS : ℕ} (more : Bool) (old new : Cursor KNOTS SLOTS) (contents : Contents) → OnFalse more (has_ended new ≡ true) → (IsSoundAhead new contents → IsSoundAhead old contents) →
@@ -254,7 +252,7 @@ sound-begun t contents asked index page place none begun s = λ tells up begins.
     by_place : (place : Place) → IsBegun asked t place → IsSoundFor t contents asked page place → is_up_to asked.top (lowest_of asked) ≡ true → begins_by (lowest_of asked) (buffered_rows t) ≡ false →
         IsSoundFor t contents asked page Start
     by_place Start begun s up begins = s
-    by_place (Pending row) begun s up begins = absurd (no (sym begun ∙ begins))
-    by_place Ended begun s up begins = absurd (no (sym up ∙ begun))
+    by_place (Pending row) begun s up begins = absurd (true≢false (sym begun ∙ begins))
+    by_place Ended begun s up begins = absurd (true≢false (sym up ∙ begun))
     by_place (Pages next) begun s up begins = absurd begun
     by_place (InPage number row) begun s up begins = absurd begun

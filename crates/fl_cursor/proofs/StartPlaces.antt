@@ -1,7 +1,7 @@
 -- Where a cursor may begin.
 use Rattle.std.proofs.Common.{◌≡◌, ℕ, ◌-◌, ◌<◌, ◌≤◌, true, false, nat_le, Option, Some, None, List, [], ◌∷◌, ◌++◌, drop, sym, ◌∙◌, subst, arith}
 use Rattle.std.specs.List.{slice_get, AllByRecursion}
-use Rattle.std.proofs.lemmas.Bool.{leb-true, le-leb, ltb-true, false_from_ne_true}
+use Rattle.std.proofs.lemmas.Bool.{leb-true, le-leb, ltb-true, false_from_ne_true, true≢false}
 use Rattle.fl_model.specs.Query.{Cursor, in_range, in_span, is_above, is_up_to}
 use Rattle.fl_model.specs.Row.{Row}
 use Rattle.fl_frame.specs.Contents.{Contents}
@@ -16,9 +16,6 @@ use Rattle.fl_cursor.specs.Cursor.{Passes, IsStanding}
 use Rattle.fl_cursor.specs.Listed.{rows_over, rows_of}
 use Rattle.fl_cursor.proofs.PassedRows.{NotLeft, left-parts, passes-all, passes-over, passes-end, each-weaker}
 use Rattle.fl_cursor.proofs.Stood.{standing-ascends}
-
-no : true ≡ false → ⊥
-no e = cc
 
 -- no row below the lowest key is left
 pub lowest-least : (asked : Cursor) (row : Row) → is_left asked row ≡ true → lowest_of asked ≤ row.key
@@ -42,7 +39,7 @@ none-up-to asked (row ∷ rows) past = (false_from_ne_true (is_left asked row) (
     by_top (Some top) up least = let le = leb-true row.key top up in le-leb (lowest_of asked) top (omega (arith, le, least))
 
     up : is_up_to asked.top row.key ≡ true → lowest_of asked ≤ row.key → ⊥
-    up e least = no (sym (by_top asked.top e least) ∙ past)
+    up e least = true≢false (sym (by_top asked.top e least) ∙ past)
 
 -- rows with lesser keys aren't left
 pub none-below : (asked : Cursor) (rows : List Row) → AllByRecursion (λ row. row.key < lowest_of asked) rows → NotLeft asked rows

@@ -2,7 +2,7 @@
 use Rattle.std.proofs.Common.{◌≡◌, ℕ, suc, ◌+◌, ◌-◌, ◌^◌, ◌<◌, ◌≤◌, Bool, true, false, cond, ◌==◌, Option, Some, None, List, [], ◌∷◌, ◌++◌, length, drop, refl, sym, ◌∙◌, ap, subst, append_assoc, arith}
 use Rattle.std.specs.Borrow.{MutBor}
 use Rattle.std.specs.List.{slice_get, list_any}
-use Rattle.std.proofs.lemmas.Bool.{leb-true, false_from_ne_true}
+use Rattle.std.proofs.lemmas.Bool.{leb-true, false_from_ne_true, false≢true}
 use Rattle.fl_find.specs.Pages.{first_key}
 use Rattle.fl_flash.specs.Buffer.{BufferState}
 use Rattle.fl_model.specs.Row.{Row}
@@ -36,10 +36,7 @@ pub record Begins (key : ℕ) (rows : List Row) : Type 0 where
   pub up_to : row.key ≤ key
 
 pub begins : (key : ℕ) (rows : List Row) → begins_by key rows ≡ true → Begins key rows
-begins key [] e = absurd (no e)
-  where
-    no : false ≡ true → ⊥
-    no e = cc
+begins key [] e = absurd (false≢true e)
 begins key (row ∷ rows) e = record { row = row; first = refl; up_to = leb-true row.key key e }
 
 pub first-front : (xs ys : List Row) (row : Row) → slice_get xs 0 ≡ Some row → slice_get (xs ++ ys) 0 ≡ Some row

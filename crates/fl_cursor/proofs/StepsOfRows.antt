@@ -2,6 +2,7 @@
 use Rattle.std.proofs.Common.{◌≡◌, ℕ, ◌+◌, ◌-◌, ◌^◌, ◌<◌, ◌≤◌, true, false, Bool, [], filter, Result, Ok, Err, OnOk, OnErr, IfOk, IfErr, refl, ◌∙◌, ap, arith, inl, inr, Option, Some, None, subst}
 use Rattle.std.specs.Bool.{OnFalse}
 use Rattle.std.specs.Borrow.{Bor}
+use Rattle.std.proofs.lemmas.Bool.{false≢true}
 use Rattle.fl_frame.specs.Contents.{Contents}
 use Rattle.fl_page.specs.Steps.{Steps, left_after}
 use Rattle.fl_page.specs.declared.fault.BadPage.{BadPage as BadPageOf}
@@ -29,15 +30,12 @@ use Rattle.fl_cursor.proofs.PassedRows.{passes-left}
 use Rattle.fl_cursor.proofs.Stood.{standing-good, standing-tells}
 use Rattle.fl_cursor.proofs.Whole.{goes-steps}
 
-no : false ≡ true → ⊥
-no e = cc
-
 end-is : (place : Place) → is_end place ≡ true → place ≡ Ended
 end-is Ended e = refl
-end-is Start e = absurd (no e)
-end-is (Pages next) e = absurd (no e)
-end-is (InPage number row) e = absurd (no e)
-end-is (Pending row) e = absurd (no e)
+end-is Start e = absurd (false≢true e)
+end-is (Pages next) e = absurd (false≢true e)
+end-is (InPage number row) e = absurd (false≢true e)
+end-is (Pending row) e = absurd (false≢true e)
 
 -- at the end no row is left
 pub ended-none : {KNOTS SLOTS : ℕ} (cursor : Cursor KNOTS SLOTS) (contents : Contents) → IsTold cursor contents → has_ended cursor ≡ true → left_of cursor contents ≡ []

@@ -2,7 +2,7 @@
 use Rattle.std.proofs.Common.{◌≡◌, ℕ, zero, suc, ◌+◌, ◌-◌, ◌^◌, ◌<◌, ◌≤◌, Bool, true, false, not, ◌&&◌, ◌||◌, cond, ◌==◌, nat_lt, Option, Some, None, option_map, unwrap_or, List, [], ◌∷◌, length, filter, fold, map, take, drop, bit_and, bit_or, refl, sym, ◌∙◌, ap, subst, arith}
 use Rattle.std.specs.Prelude.{pos, int_le}
 use Rattle.std.specs.List.{slice_get, sum, list_any, AllByRecursion}
-use Rattle.std.proofs.lemmas.Bool.{eq-eqb, eqb-true, false_from_ne_true}
+use Rattle.std.proofs.lemmas.Bool.{eq-eqb, eqb-true, false_from_ne_true, true≢false}
 use Rattle.std.proofs.lemmas.List.{drop-drop}
 use Rattle.std.proofs.lemmas.List.Sums.{sum_by-cons}
 use Rattle.fl_base.specs.declared.types.Span.{Span}
@@ -179,10 +179,7 @@ module _ {KNOTS SLOTS : ℕ} (t : Table KNOTS SLOTS) (contents : Contents) (h : 
         and-none : (a b c : Bool) → b ≡ false → ((a && b) && c) ≡ false
         and-none true false c e = refl
         and-none false b c e = refl
-        and-none true true c e = absurd (no e)
-          where
-            no : true ≡ false → ⊥
-            no e = cc
+        and-none true true c e = absurd (true≢false e)
 
         by_index : (bitmaps : Option BitmapIndex) → t.bitmaps ≡ bitmaps → ((has_full t.bitmaps && is_indexed_in t.bitmaps number) && begins_above top (rows_on t contents number)) ≡ ((h.plan.full_index && is_indexed h.plan h.table number) && not (is_up_to top (model.first_key entries)))
         by_index None is =

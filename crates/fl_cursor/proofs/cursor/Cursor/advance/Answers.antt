@@ -1,6 +1,7 @@
 use Rattle.std.proofs.Common.{rules, ◌≡◌, ◌<◌, ◌^◌, true, false, Ok, sym, ◌∙◌, ap, subst, arith}
 use Rattle.std.specs.Borrow.{Bor}
 use Rattle.std.proofs.lemmas.Result.{err_from_is_err_and}
+use Rattle.std.proofs.lemmas.Bool.{true≢false}
 use Rattle.fl_frame.specs.Contents.{Contents, contents_of}
 use Rattle.fl_frame.proofs.ContentsInTurn.{OnlyReads-then}
 use Rattle.fl_table.specs.Memory.{next_in}
@@ -12,9 +13,6 @@ use Rattle.fl_cursor.proofs.Whole.{goes-then, fails-then, goes-nowhere, here-aft
 use Rattle.fl_cursor.specs.Sound.{IsSoundAhead}
 use Rattle.fl_cursor.proofs.SoundPages.{all-sound, end-kept}
 use Rattle.fl_cursor.proofs.cursor.Cursor.advance.Goals as goal
-
-no : true ≡ false → ⊥
-no e = cc
 
 pub returns-in_err-find_start-clause-fails : goal.returns-in_err-find_start-clause-fails
 returns-in_err-find_start-clause-fails g c =
@@ -145,8 +143,8 @@ loop-self-preserved g c =
       here = c.if-step_in_page-2.ensures.here ∙ (c.read_page.ensures.here ∙ c.loop-self.invariant.here);
       begun = c.if-step_in_page-2.ensures.begun;
       outside = c.if-step_in_page-2.ensures.outside;
-      ended = λ e. absurd (no (sym (c.loop-self.invariant.ended e).0 ∙ ap is_end c.in-Pages.is));
-      behind = λ past. absurd (no (sym (ap is_at_pages c.in-Pages.is) ∙ (c.loop-self.invariant.behind past).0));
+      ended = λ e. absurd (true≢false (sym (c.loop-self.invariant.ended e).0 ∙ ap is_end c.in-Pages.is));
+      behind = λ past. absurd (true≢false (sym (ap is_at_pages c.in-Pages.is) ∙ (c.loop-self.invariant.behind past).0));
       few = subst (λ (t : Bor (Table g.row.KNOTS g.row.SLOTS)). next_in t.now < 2 ^ 32) (sym (c.if-step_in_page-2.ensures.goes held now).keeps.table)
           (subst (λ (t : Bor (Table g.row.KNOTS g.row.SLOTS)). next_in t.now < 2 ^ 32) (sym page.keeps.table) c.loop-self.invariant.few);
       end = ends-kept c.read_page.new.self c.step_in_page-in-Pages.new.self c.end_of_pages-end.result (c.if-step_in_page-2.ensures.goes held now).keeps (c.if-step_in_page-2.ensures.goes held now).notes
