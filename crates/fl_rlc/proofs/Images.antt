@@ -1,5 +1,6 @@
 -- A table with its log at rest on a flash, and its image on the flash's medium.
 use Rattle.std.proofs.Common.{◌≡◌, ℕ, ◌+◌, Bool, true, false, cond, Option, Some, None, IfSome, List, take, sym, subst, sum_by}
+use Rattle.std.proofs.lemmas.Bool.{false≢true}
 use Rattle.fl_flash.specs.Flash.{FlashState, page_at}
 use Rattle.fl_model.specs.Image.{IsTableImage, IsRingImage, HoldsLogged, page_bytes}
 use Rattle.fl_model.specs.Layout.{is_blank}
@@ -43,9 +44,6 @@ blank-rests f first plan blank =
     let rests = without_log.blank-rests f first plan blank in
     record { settled = rests.settled; pages = rests.pages; log = by_log (has_log plan) }
   where
-    no : false ≡ true → ⊥
-    no e = cc
-
     nothing : {n : ℕ} → None ≡ Some n → ⊥
     nothing e = cc
 
@@ -54,8 +52,8 @@ blank-rests f first plan blank =
       void = λ i e. absurd (nothing e);
       kept = λ i count e some. absurd (nothing e);
       blank_next = λ e. blank LogRing 0;
-      torn_next = λ e. absurd (no e);
-      dirty = λ e. absurd (no e);
+      torn_next = λ e. absurd (false≢true e);
+      dirty = λ e. absurd (false≢true e);
       others = λ k some few clear. blank LogRing (0 + k);
     }
     by_log false = tt

@@ -1,7 +1,7 @@
 -- What the mount of a table, and the replay of its log, leave of the pages of a flash.
-use Rattle.std.proofs.Common.{◌≡◌, ◌⊎◌, ℕ, ◌+◌, ◌*◌, ◌%◌, ◌<◌, ◌≤◌, Bool, true, false, IsTrue, IsSomeAnd, IfSome, Option, Some, None, List, inl, inr, map, length, refl, sym, ◌∙◌, ap, subst, arith}
+use Rattle.std.proofs.Common.{◌≡◌, ◌⊎◌, ℕ, ◌+◌, ◌*◌, ◌%◌, ◌<◌, ◌≤◌, Bool, true, IsTrue, IsSomeAnd, IfSome, Option, Some, None, List, inl, inr, map, length, refl, sym, ◌∙◌, ap, subst, arith}
 use Rattle.std.proofs.Math.Nat.{mod-lt, mul-le-mul_right, add-mul}
-use Rattle.std.proofs.lemmas.Bool.{cases_lt}
+use Rattle.std.proofs.lemmas.Bool.{cases_lt, false≢true}
 use Rattle.fl_flash.specs.Flash.{FlashState, page_at, blank}
 use Rattle.fl_flash.specs.Places.{extent}
 use Rattle.fl_index.specs.declared.index.BitmapIndex.{BitmapIndex}
@@ -87,19 +87,13 @@ module _ {K S : ℕ} (t : code.Table K S) (f between : FlashState) (first : ℕ)
 
         the-ring : (o : Option Ring) → is_some_ring o ≡ true → (x : Ring) × (o ≡ Some x)
         the-ring (Some x) e = (x, refl)
-        the-ring None e = absurd (no e)
-          where
-            no : false ≡ true → ⊥
-            no e = cc
+        the-ring None e = absurd (false≢true e)
 
         same-ring : {x y : Ring} → Some x ≡ Some y → x ≡ y
         same-ring e = cc
 
         by-index : (o : Option BitmapIndex) → ArePlanned o (first + plan.data_blocks) (bare plan) → (x : Ring) × (table.index ≡ Some x) → IsReplayed first plan page (page_at f page)
-        by-index None p x = absurd (no (sym (planned-none (first + plan.data_blocks) (bare plan) p) ∙ has))
-          where
-            no : false ≡ true → ⊥
-            no e = cc
+        by-index None p x = absurd (false≢true (sym (planned-none (first + plan.data_blocks) (bare plan) p) ∙ has))
         by-index (Some i) p x =
             let room = plan.index_blocks * plan.geometry.block in
             let before = x.0 in

@@ -3,6 +3,7 @@ use Rattle.std.proofs.Common.{◌≡◌, inl, inr, ℕ, ◌+◌, ◌-◌, ◌*�
 use Rattle.std.specs.Prelude.{option_map, is_some, IfSome}
 use Rattle.std.specs.List.{list_any}
 use Rattle.std.proofs.Math.Nat.{mul-le-mul_right}
+use Rattle.std.proofs.lemmas.Bool.{true≢false}
 use Rattle.fl_base.specs.declared.types.Geometry.{Geometry}
 use Rattle.fl_flash.specs.Flash.{FlashState, page_at}
 use Rattle.fl_flash.specs.declared.flash.FlashFault.{FlashFault}
@@ -54,10 +55,7 @@ bodies-anew : (plan : Plan) (n m : ℕ) (kept : List (Option (List ℕ))) (pages
 bodies-anew plan n m [] [] e h = tt
 bodies-anew plan n m [] (p ∷ pages) e h = absurd h
 bodies-anew plan n m (None ∷ kept) pages e h = bodies-anew plan (n + 1) (m + 1) kept pages e h
-bodies-anew plan n m (Some b ∷ kept) pages e h = absurd (no e)
-  where
-    no : true ≡ false → ⊥
-    no k = cc
+bodies-anew plan n m (Some b ∷ kept) pages e h = absurd (true≢false e)
 
 -- the same bodies have other numbers only where there are none
 renumbered-bodies : (plan : Plan) (r : Shape) (at_least : ℕ) (s : RingState) (pages : List (List Entry)) → HoldBodies plan (oldest s) s.kept pages →

@@ -1,6 +1,7 @@
 -- The read of a log's newest page, over any bytes and over a flash that stands for a table and its log.
 use Rattle.std.proofs.Common.{◌≡◌, ℕ, ◌-◌, ◌^◌, ◌<◌, ◌≤◌, Bool, true, false, Option, Some, None, List, refl, sym, ◌∙◌, ap, subst, arith, inl, inr, IsTrue}
 use Rattle.std.proofs.Math.Nat.{div-le_self}
+use Rattle.std.proofs.lemmas.Bool.{true≢false}
 use Rattle.fl_base.specs.Causes.{Rose}
 use Rattle.fl_base.specs.declared.types.Geometry.{Geometry}
 use Rattle.fl_flash.specs.Flash.{FlashState}
@@ -51,10 +52,7 @@ bad-no_flash layout number page fault P h = (of-page layout number page fault h)
 
 -- a read with the power on fails only where the medium does
 pub read-fails : (old new : FlashState) (fault : FlashFault) (rose : Bool) → old.is_on ≡ true → (Rose old.media.faults new.media.faults → IsTrue rose) → ReadFails old fault new → IsTrue rose × (fault ≡ Media)
-read-fails old new PowerLost rose on risen off = absurd (no (sym on ∙ off))
-  where
-    no : true ≡ false → ⊥
-    no k = cc
+read-fails old new PowerLost rose on risen off = absurd (true≢false (sym on ∙ off))
 read-fails old new Media rose on risen h = (risen h, refl)
 
 -- reads leave what the model counts

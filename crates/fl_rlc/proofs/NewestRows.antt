@@ -3,7 +3,7 @@ use Rattle.std.proofs.Common.{◌≡◌, ℕ, zero, suc, ◌+◌, ◌-◌, ◌*�
 use Rattle.std.specs.List.{AllByRecursion, list_any, slice_get}
 use Rattle.std.proofs.Math.Nat.{le-div_iff_mul-le}
 use Rattle.std.proofs.Math.Seq.{take-length}
-use Rattle.std.proofs.lemmas.Bool.{cases_lt, lt-ltb}
+use Rattle.std.proofs.lemmas.Bool.{cases_lt, lt-ltb, true≢false}
 use Rattle.std.proofs.lemmas.List.{length-map}
 use Rattle.fl_flash.specs.Flash.{FlashState, page_at}
 use Rattle.fl_mark.specs.Mark.{state_of_page}
@@ -41,12 +41,9 @@ use Rattle.fl_rlc.proofs.Bodies.{filter-some}
 pub fits-plain : (plan : Plan) (entry : Entry) → has_var plan ≡ false → FitsPlan plan entry → (entry.kept.blob ≡ None) × (entry.page ≡ 0) × (entry.offset ≡ 0)
 fits-plain plan entry none h = by-blob entry.kept.blob refl h.blob
   where
-    not-both : true ≡ false → ⊥
-    not-both e = cc
-
     by-blob : (o : Option (List ℕ)) → entry.kept.blob ≡ o → BlobFits plan entry o → (o ≡ None) × (entry.page ≡ 0) × (entry.offset ≡ 0)
     by-blob None e b = (refl, b.0, b.1)
-    by-blob (Some bytes) e b = absurd (not-both (sym b.0 ∙ none))
+    by-blob (Some bytes) e b = absurd (true≢false (sym b.0 ∙ none))
 
 all-stored : (plan : Plan) → has_var plan ≡ false → (rows : List Entry) → AllByRecursion (FitsPlan plan) rows → AllByRecursion (IsStorable (row_layout plan)) (map stored_row rows)
 all-stored plan none [] h = tt
@@ -152,10 +149,7 @@ module _ (l : RecordLog) (f : FlashState) (first : ℕ) (plan : Plan) (table : T
       ap (λ (s : PageState). commits s) ((model_state (page_in l f (model.oldest h.ring + i)) long).void.1 (h.pages.image.void i e))
 
   not-both : {b : Bool} → b ≡ true → b ≡ false → ⊥
-  not-both e k = no (sym e ∙ k)
-    where
-      no : true ≡ false → ⊥
-      no j = cc
+  not-both e k = true≢false (sym e ∙ k)
 
   -- none of some pages is committed
   all-void : (from : ℕ) → NoneCommitted (page_at f) (log_shape l) from (next_in l) → (i c : ℕ) → slice_get h.ring.counts i ≡ Some c → from ≤ model.oldest h.ring + i → c ≡ 0

@@ -2,7 +2,7 @@
 use Rattle.std.proofs.Common.{◌≡◌, ℕ, ◌+◌, ◌<◌, ◌≤◌, Bool, true, false, cond, ◌==◌, ◌&&◌, nat_lt, Option, Some, None, List, [], ◌∷◌, ◌++◌, length, take, drop, filter, refl, sym, ◌∙◌, ap, subst, arith, ◌⊎◌, inl, inr, eq-eqb}
 use Rattle.std.specs.List.{AllByRecursion, last_or, sum}
 use Rattle.std.specs.Option.{option_map, unwrap_or}
-use Rattle.std.proofs.lemmas.Bool.{eqb-true, ltb-false}
+use Rattle.std.proofs.lemmas.Bool.{eqb-true, ltb-false, false≢true, true≢false}
 use Rattle.std.proofs.lemmas.List.{drop-append-le}
 use Rattle.std.proofs.lemmas.List.Sums.{sum_by-take-le}
 use Rattle.fl_model.specs.Bare.{bare, bare_table, log_of, beside}
@@ -44,10 +44,7 @@ below-all others es w e tops below = filter_none (λ x. is_above others x) es (a
     last_key_of = unwrap_or (option_map (λ (x : Entry). x.kept.key) (last_or None es)) 0
 
     by-last : (x : Entry) → x.kept.key ≤ last_key_of → (o : Option Entry) → last_or None others ≡ o → unwrap_or (option_map (λ (l : Entry). nat_lt l.kept.key w.kept.key) o) true ≡ false → is_above others x ≡ false
-    by-last x le None q k = absurd (not_both k)
-      where
-        not_both : true ≡ false → ⊥
-        not_both e = cc
+    by-last x le None q k = absurd (true≢false k)
     by-last x le (Some l) q k =
         let more = ltb-false l.kept.key w.kept.key k in
         let key = last-key es w e in
@@ -98,10 +95,7 @@ record Sealed (before more : List Entry) (after : Table) : Type 0 where
 module _ (plan : Plan) (shape : IsShape (shape_of (bare plan) DataRing)) where
   -- without its log a table has room for what is said of tables with one
   room : HasRoom (bare plan)
-  room = record { blocks = shape.blocks; pages = shape.pages; log_blocks = λ some. absurd (no some); no_var = λ some. absurd (no some) }
-    where
-      no : false ≡ true → ⊥
-      no e = cc
+  room = record { blocks = shape.blocks; pages = shape.pages; log_blocks = λ some. absurd (false≢true some); no_var = λ some. absurd (false≢true some) }
 
   seals-leave : (t : Table) (before more : List Entry) → t.entries ≡ before ++ more → sum t.rows.counts ≡ length before → length t.rows.counts ≤ t.rows.next → (a b : Bool) → Sealed before more (after_seals (bare plan) (seals_by false a b) t)
   seals-leave t before more is counted numbered a b = by-rings a b
@@ -139,22 +133,13 @@ module _ (plan : Plan) (shape : IsShape (shape_of (bare plan) DataRing)) where
     nothing (x ∷ xs) e = absurd (let none = eqb-true (length (x ∷ xs)) 0 e in omega (arith, none))
 
     some-of : (es : List Entry) → (length es == 0) ≡ false → 0 < length es
-    some-of [] e = absurd (no e)
-      where
-        no : true ≡ false → ⊥
-        no e = cc
+    some-of [] e = absurd (true≢false e)
     some-of (x ∷ xs) e = omega arith
 
     -- no page can be sealed, so none was
     spent : (z a b : Bool) → (y.pending == 0) ≡ z → is_rows_spent y ≡ true → is_rows_spent (sealed_by y z a b) ≡ false → owed (sealed_by y z a b) ≡ []
-    spent true a b e s left = absurd (no (sym s ∙ left))
-      where
-        no : true ≡ false → ⊥
-        no e = cc
-    spent false a b e s left = absurd (no (sym (eq-eqb y.pending 0 none) ∙ e))
-      where
-        no : true ≡ false → ⊥
-        no e = cc
+    spent true a b e s left = absurd (true≢false (sym s ∙ left))
+    spent false a b e s left = absurd (true≢false (sym (eq-eqb y.pending 0 none) ∙ e))
 
     joins : (z a b : Bool) → (length (owed y) == 0) ≡ z → owed (sealed_by with_owed z a b) ≡ []
     joins true a b e = replayed-owed (core y) none ∙ nothing (owed y) e

@@ -2,6 +2,7 @@
 use Rattle.std.proofs.Common.{◌≡◌, ℕ, ◌+◌, Bool, true, false, nat_le, Option, Some, None, Result, Ok, Err, List, length, refl, sym, ◌∙◌, ap, subst}
 use Rattle.std.proofs.Math.IntN.{ℤ}
 use Rattle.std.specs.Option.{option_map}
+use Rattle.std.proofs.lemmas.Bool.{false≢true}
 use Rattle.fl_flash.specs.Flash.{FlashState, page_at}
 use Rattle.fl_flash.specs.declared.flash.FlashFault.{FlashFault}
 use Rattle.fl_model.specs.Bare.{bare, bare_table, log_of, beside}
@@ -121,10 +122,7 @@ module _ {KNOTS SLOTS : ℕ} (t : LoggedTable KNOTS SLOTS) (f : FlashState) (fir
         where
           by-blob : (o : Option (List ℕ)) → blob ≡ o → o ≡ None
           by-blob None k = refl
-          by-blob (Some bytes) k = absurd (not-both (sym ((room t l e f first plan table h).no_var (has t l e f first plan table h)) ∙ ((accepted plan table item ok).blob bytes k).0))
-            where
-              not-both : false ≡ true → ⊥
-              not-both x = cc
+          by-blob (Some bytes) k = absurd (false≢true (sym ((room t l e f first plan table h).no_var (has t l e f first plan table h)) ∙ ((accepted plan table item ok).blob bytes k).0))
 
       pub row-failed : (fault : FlashFault) (last : Option RecordLog) → StandOutside t.log (page_at mid) (page_at new) →
           RowEnds t.log mid (first + blocks_of (bare plan)) plan (beside (log_of table) (put_record (bare plan) (record { key = key; values = values; blob = blob }) (bare_table table))) (layout_in u) (record { key = key; values = values; blob = None }) rose p.now.device (Err fault) last new →

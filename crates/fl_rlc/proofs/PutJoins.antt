@@ -1,7 +1,7 @@
 -- The record that a put of the table has made pending is to join the rows of its log.
 use Rattle.std.proofs.Common.{◌≡◌, ℕ, ◌+◌, ◌-◌, ◌*◌, ◌/◌, ◌≤◌, inl, inr, Bool, true, false, cond, ◌==◌, nat_lt, Option, Some, None, List, [], ◌∷◌, ◌++◌, length, map, refl, sym, ◌∙◌, ap, subst, arith, eq-eqb, length-append}
 use Rattle.std.proofs.Math.Nat.{le-div_iff_mul-le, add-mul}
-use Rattle.std.proofs.lemmas.Bool.{cases_lt, eqb-true, lt-ltb}
+use Rattle.std.proofs.lemmas.Bool.{cases_lt, eqb-true, lt-ltb, false≢true}
 use Rattle.std.proofs.lemmas.List.{length-map, map_push}
 use Rattle.fl_base.specs.declared.types.Geometry.{Geometry}
 use Rattle.fl_flash.specs.Flash.{FlashState, page_at}
@@ -71,11 +71,8 @@ module _ {KNOTS SLOTS : ℕ} (t : LoggedTable KNOTS SLOTS) (l : RecordLog) (t_is
                 let fits : (table.pending + 1) * layout_len (row_layout plan) ≤ plan.geometry.page - 24 =
                 (le-div_iff_mul-le {k = layout_len (row_layout plan)} {x = table.pending + 1} {y = plan.geometry.page - 24} some).0 (omega (arith, less)) in
                 omega (arith, fits, end, one-more, l.body, page, l.served.page_least)
-            | inr more ↦ absurd (no (sym e ∙ eq-eqb table.pending (rows_per_page plan) (omega (arith, more, h.facts.few_pending))))
+            | inr more ↦ absurd (false≢true (sym e ∙ eq-eqb table.pending (rows_per_page plan) (omega (arith, more, h.facts.few_pending))))
           ]))
-        where
-          no : false ≡ true → ⊥
-          no k = cc
 
   module _ (item : Record) (none : item.blob ≡ None) (rose : Bool) (device : Device) (u : code.Table KNOTS SLOTS) (mid : FlashState)
       (p : bare_outcomes.Finishes first (bare plan) (TablePuts (bare plan) rose item device (bare_table table)) (bare_table table) (put_record (bare plan) item (bare_table table)) u f mid)

@@ -1,7 +1,7 @@
 -- The pages of a ring to which one page more was sealed, and the page that comes next after a repair.
 use Rattle.std.proofs.Common.{◌≡◌, ◌⊎◌, ℕ, ◌+◌, ◌-◌, ◌*◌, ◌%◌, ◌<◌, ◌≤◌, Bool, true, false, ◌&&◌, IsTrue, inl, inr, List, length, refl, sym, ◌∙◌, ap, subst, arith}
 use Rattle.std.proofs.Math.Nat.{mod-lt, mul-le-mul_right, mod-eq_of_lt}
-use Rattle.std.proofs.lemmas.Bool.{cases_lt}
+use Rattle.std.proofs.lemmas.Bool.{cases_lt, false≢true}
 use Rattle.fl_model.specs.Image.{IsRingImage}
 use Rattle.fl_model.specs.Layout.{is_blank}
 use Rattle.fl_model.specs.Mount.{least_alike}
@@ -50,10 +50,7 @@ ring-filled shape begin old new a b Holds whole clean few image stand q low high
     here = omega (arith, is.at, low)
 
     waits : b.dirty ≡ true → ⊥
-    waits e = no (sym clean ∙ e)
-      where
-        no : false ≡ true → ⊥
-        no e = cc
+    waits e = false≢true (sym clean ∙ e)
 
     blank-there : (k : ℕ) → is.number ≡ b.next + k → is_blank (on_ring begin (shape.blocks * shape.pages) new (b.next + k)) ≡ true → is_blank (new q) ≡ true
     blank-there k e h = subst (λ (p : ℕ). is_blank (new p) ≡ true) here (subst (λ (n : ℕ). is_blank (on_ring begin room new n) ≡ true) (sym e) h)

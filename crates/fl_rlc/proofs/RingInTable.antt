@@ -2,7 +2,7 @@
 use Rattle.std.proofs.Common.{◌≡◌, ℕ, zero, suc, ◌+◌, ◌≤◌, Bool, true, false, cond, ◌||◌, nat_lt, Option, Some, None, Result, Ok, Err, List, [], ◌∷◌, ◌++◌, map, drop, length, refl, sym, ◌∙◌, ap, subst, arith, IsOk, IsErrOf}
 use Rattle.std.specs.Prelude.{option_map, unwrap_or}
 use Rattle.std.specs.List.{list_any}
-use Rattle.std.proofs.lemmas.Bool.{lt-ltb}
+use Rattle.std.proofs.lemmas.Bool.{lt-ltb, false≢true, true≢false}
 use Rattle.std.proofs.lemmas.List.{append-nil}
 use Rattle.fl_flash.specs.Flash.{FlashState}
 use Rattle.fl_flash.specs.declared.flash.FlashFault.{FlashFault}
@@ -139,10 +139,7 @@ rows-erased None = refl
 rows-erased (Some ring) = refl
 
 cond-none : {X : Type 0} (b : Bool) (xs : List X) → b ≡ false → cond b xs [] ≡ []
-cond-none true xs e = absurd (no e)
-  where
-    no : true ≡ false → ⊥
-    no k = cc
+cond-none true xs e = absurd (true≢false e)
 cond-none false xs e = refl
 
 module _ (r : Shape) (plan : Plan) (body : List ℕ) (bare : Table) (shape : IsShape r) (here : model_shape r ≡ shape_of plan LogRing) where
@@ -230,10 +227,7 @@ module _ (r : Shape) (plan : Plan) (body : List ℕ) (bare : Table) (shape : IsS
       where
         none-before : (before : List (List Entry)) → false ≡ is_more (before ++ []) → before ≡ []
         none-before [] e = refl
-        none-before (x ∷ before) e = absurd (no e)
-          where
-            no : false ≡ true → ⊥
-            no k = cc
+        none-before (x ∷ before) e = absurd (false≢true e)
 
         picks : (b : Bool) → cond b (cond b table.logged [] ∷ []) [] ≡ cond b (table.logged ∷ []) []
         picks true = refl

@@ -1,7 +1,7 @@
 -- What the seals of a flush leave of the pages of a flash.
 use Rattle.std.proofs.Common.{◌≡◌, ◌⊎◌, ℕ, ◌+◌, ◌*◌, ◌%◌, ◌<◌, ◌≤◌, Bool, true, false, cond, ◌==◌, ◌&&◌, nat_lt, Option, Some, None, option_map, inl, inr, [], ◌∷◌, ◌++◌, length, refl, sym, ◌∙◌, ap, subst, arith, IsSomeAnd}
 use Rattle.std.proofs.Math.Nat.{add-mul, mul-le-mul_right}
-use Rattle.std.proofs.lemmas.Bool.{cases_lt}
+use Rattle.std.proofs.lemmas.Bool.{cases_lt, false≢true}
 use Rattle.fl_flash.specs.Flash.{FlashState, page_at, pages, blank}
 use Rattle.fl_flash.specs.Places.{extent}
 use Rattle.fl_index.specs.declared.index.BitmapIndex.{BitmapIndex}
@@ -90,10 +90,7 @@ module _ {K S : ℕ} (old_t t : code.Table K S) (f g : FlashState) (first : ℕ)
     where
       ring-before : (o : Option Ring) → is_some_ring o ≡ true → (r : Ring) × (o ≡ Some r)
       ring-before (Some r) e = (r, refl)
-      ring-before None e = absurd (no e)
-        where
-          no : false ≡ true → ⊥
-          no e = cc
+      ring-before None e = absurd (false≢true e)
 
       by-index : (o : Option BitmapIndex) → ArePlanned o (first + plan.data_blocks) plan → Stand o g (first + plan.data_blocks) plan (after_seals plan (table_seals plan table) table) → IsLeft page
       by-index None p s = absurd (omega (arith, low, high, ap (λ (b : ℕ). b * plan.geometry.block) p.0))

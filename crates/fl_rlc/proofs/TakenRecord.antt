@@ -1,9 +1,10 @@
 -- A record that is put where there is room for it joins its table, or is refused: the flash stays in either case.
-use Rattle.std.proofs.Common.{◌≡◌, ℕ, ◌+◌, ◌-◌, ◌*◌, ◌/◌, ◌<◌, ◌≤◌, Bool, true, false, Option, Some, None, is_some, Result, Ok, Err, List, length, map, refl, sym, ◌∙◌, ap, subst, arith}
+use Rattle.std.proofs.Common.{◌≡◌, ℕ, ◌+◌, ◌-◌, ◌*◌, ◌/◌, ◌<◌, ◌≤◌, Bool, false, Option, Some, None, is_some, Result, Ok, Err, List, length, map, refl, sym, ◌∙◌, ap, subst, arith}
 use Rattle.std.proofs.Math.IntN.{ℤ}
 use Rattle.std.proofs.Math.Nat.{le-div_iff_mul-le, add-mul, mul-le-mul_right}
 use Rattle.std.proofs.lemmas.List.{length-map}
 use Rattle.std.specs.Prelude.{IfErr, OnOk}
+use Rattle.std.proofs.lemmas.Bool.{true≢false}
 use Rattle.fl_base.specs.declared.types.Geometry.{Geometry}
 use Rattle.fl_flash.specs.Flash.{FlashState}
 use Rattle.fl_model.specs.Bare.{bare}
@@ -51,10 +52,7 @@ plain-of t f first plan b none s = by-blobs t.blobs none s.planned.var s.blobs
     by-blobs None e p empty =
         let no_var = planned-none (first + plan.data_blocks + plan.index_blocks) plan p in
         record { log_blocks = s.planned.log; no_var = no_var; var = no-ring b.var (s.facts.has_rings.1 ∙ no_var); log = (bare-table plan b s.planned.log s.facts).0; buffered = empty }
-    by-blobs (Some v) e p stands = absurd (no e)
-      where
-        no : true ≡ false → ⊥
-        no k = cc
+    by-blobs (Some v) e p stands = absurd (true≢false e)
 
 -- a record that fits a plan fits it without its log
 pub fits-bare : (plan : Plan) (entry : Entry) → FitsPlan plan entry → FitsPlan (bare plan) entry
@@ -102,10 +100,7 @@ module _ {KNOTS SLOTS : ℕ} (t u : Table KNOTS SLOTS) (f g : FlashState) (key :
   no-pages (Some var) = refl
 
   unchanged : (e : PutRefusal) → put_breaks (Err e) ≡ false → RefusedSame t f e u g → (u ≡ t) × (g ≡ f)
-  unchanged (put.Flash fault) calm h = absurd (no calm)
-    where
-      no : true ≡ false → ⊥
-      no k = cc
+  unchanged (put.Flash fault) calm h = absurd (true≢false calm)
   unchanged (put.Key last) calm h = h
   unchanged (put.Columns wanted) calm h = h
   unchanged (put.Value column) calm h = h
@@ -189,10 +184,7 @@ module _ {KNOTS SLOTS : ℕ} (t u : Table KNOTS SLOTS) (f g : FlashState) (key :
           (put-more plan b entry plain (room-left t f first plan b room s) parts.0 parts.1 parts.2 ∙ sym (accepted-more plan b entry p.0)) p.1.stands
 
       some-refusal : (e : PutRefusal) → put_breaks (Err e) ≡ false → PutEnds first plan entry.kept b rose device (Err e) u f g → taken b entry ≡ b
-      some-refusal (put.Flash fault) calm p = absurd (no calm)
-        where
-          no : true ≡ false → ⊥
-          no k = cc
+      some-refusal (put.Flash fault) calm p = absurd (true≢false calm)
       some-refusal (put.Key last) calm p = refused-same plan b entry (model.BadKey last) plain fits p
       some-refusal (put.Columns wanted) calm p = refused-same plan b entry (model.BadColumns wanted) plain fits p
       some-refusal (put.Value column) calm p = refused-same plan b entry (model.BadValue column) plain fits p

@@ -1,5 +1,6 @@
-use Rattle.std.proofs.Common.{◌≡◌, ◌⊎◌, ℕ, ◌+◌, Bool, true, false, Option, Some, IfSome, Ok, Err, [], IsTrue, is_some, inl, inr, refl, sym, ◌∙◌, ap, subst, arith}
+use Rattle.std.proofs.Common.{◌≡◌, ◌⊎◌, ℕ, ◌+◌, Bool, false, Option, Some, IfSome, Ok, Err, [], IsTrue, is_some, inl, inr, refl, sym, ◌∙◌, ap, subst, arith}
 use Rattle.std.proofs.lemmas.Result.{err_from_is_err_and}
+use Rattle.std.proofs.lemmas.Bool.{true≢false}
 use Rattle.fl_flash.specs.Flash.{page_at}
 use Rattle.fl_frame.proofs.CallsInTurn.{goes-then}
 use Rattle.fl_model.specs.Bare.{bare, bare_table, log_of, beside}
@@ -352,10 +353,7 @@ pub returns-clause-leaves : goal.returns-clause-leaves
 returns-clause-leaves g c = λ told first plan table seen planned rests. by-seen first plan table seen planned rests
   where
     not-none : (t : LoggedTable g.row.KNOTS g.row.SLOTS) (l : RecordLog) → log_in t ≡ Some l → is_logged t ≡ false → ⊥
-    not-none t l is none = no (sym (ap (λ (o : Option RecordLog). is_some o) is) ∙ none)
-      where
-        no : true ≡ false → ⊥
-        no e = cc
+    not-none t l is none = true≢false (sym (ap (λ (o : Option RecordLog). is_some o) is) ∙ none)
 
     by-seen : (first : ℕ) (plan : Plan) (table : Table) → (is_logged c.args.self.now ≡ false) ⊎ ((rose : Bool) × (device : Device) × IsWatched (g.F.Flash.state c.args.flash.now) (g.F.Flash.state c.replay.new.flash) rose device) →
         IsPlanned c.args.self.now first plan → LoggedRests (g.F.Flash.state c.args.flash.now) first plan table → LeavesPages first plan (page_at (g.F.Flash.state c.args.flash.now)) (page_at (g.F.Flash.state c.replay.new.flash))
