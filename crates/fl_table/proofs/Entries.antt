@@ -2,7 +2,7 @@
 use Rattle.std.proofs.Common.{◌≡◌, ℕ, suc, ◌+◌, ◌-◌, ◌%◌, ◌^◌, ◌<◌, ◌≤◌, Bool, true, false, ◌||◌, ◌==◌, cond, nat_lt, max, Option, Some, None, IfSome, option_map, Result, Ok, Err, IfErr, IsTrue, List, [], ◌∷◌, length, map, take, drop, refl, sym, ◌∙◌, ap, subst, arith}
 use Rattle.std.specs.List.{AllByRecursion, slice_get, fold, sum}
 use Rattle.std.proofs.Math.Nat.{mod-eq_of_lt, div-le_self}
-use Rattle.std.proofs.lemmas.Bool.{lt-ltb}
+use Rattle.std.proofs.lemmas.Bool.{lt-ltb, false≢true}
 use Rattle.std.proofs.lemmas.List.{length-take}
 use Rattle.fl_flash.specs.Buffer.{BufferState}
 use Rattle.fl_flash.specs.Flash.{FlashState}
@@ -95,11 +95,8 @@ module _ (plan : Plan) (table : model.Table) (facts : IsLoose plan table) where
       has : has_var plan ≡ true
       has = (subst (BlobFits plan entry) is fits.blob).0
 
-      no : false ≡ true → ⊥
-      no e = cc
-
       by_ring : (var : Option rings.Ring) → is_some_ring var ≡ has_var plan → IfSome var (λ ring. AreLed plan ring (written table)) → IfSome var (λ ring. ring.next + cond ring.torn 1 0 ≤ 4294967295) → entry.page + 1 ≤ 4294967295
-      by_ring None some led number = absurd (no (some ∙ has))
+      by_ring None some led number = absurd (false≢true (some ∙ has))
       by_ring (Some ring) some led number = let lt = (led i entry (byte ∷ bytes) e is (omega arith)).0 in omega (arith, lt, number)
 
   ends-fit : (n rows : ℕ) → slice_get table.rows.counts n ≡ Some rows → end_of_blobs (rows_at table n rows) < 2 ^ 32

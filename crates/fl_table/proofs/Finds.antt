@@ -2,6 +2,7 @@
 use Rattle.std.proofs.Common.{◌≡◌, ℕ, ◌+◌, ◌*◌, ◌<◌, ◌≤◌, Bool, true, false, Option, Some, None, option_map, Result, Ok, Err, List, map, length, drop, refl, sym, ◌∙◌, ap, subst, arith, IsTrue}
 use Rattle.std.specs.Prelude.{IfOk, IfSome, MatchOption, OnOk, if◌then◌else◌, unwrap_or}
 use Rattle.std.specs.List.{slice_get}
+use Rattle.std.proofs.lemmas.Bool.{true≢false}
 use Rattle.fl_find.specs.Index.{error_in, knots_in, most_reads, window_end}
 use Rattle.fl_find.specs.Looking.{BlamesBelow, IsBadBelow, LookFails}
 use Rattle.fl_find.specs.Looking as find
@@ -93,16 +94,10 @@ module _ {KNOTS SLOTS : ℕ} (t : Table KNOTS SLOTS) (f : FlashState) (first : �
   pub finds-pending : (place : Option ℕ) → is_pending_key table key ≡ true →
       MatchOption place (LacksKey (map stored_row (pending_entries table)) key) (λ i. HasKey (map stored_row (pending_entries table)) key i) →
       Finds KNOTS plan table key before now buf (Ok (option_map at.Pending place))
-  finds-pending None is h = record { entry = pending-none plan table stands.facts key is h; exact = λ p covered. absurd (no (sym is ∙ p)); some = tt }
-    where
-      no : true ≡ false → ⊥
-      no e = cc
+  finds-pending None is h = record { entry = pending-none plan table stands.facts key is h; exact = λ p covered. absurd (true≢false (sym is ∙ p)); some = tt }
   finds-pending (Some i) is h =
       let x = pending-found plan table stands.facts key i h in
-      record { entry = record { entry = x.0; found = x.1; row = x.2 }; exact = λ p covered. absurd (no (sym is ∙ p)); some = tt }
-    where
-      no : true ≡ false → ⊥
-      no e = cc
+      record { entry = record { entry = x.0; found = x.1; row = x.2 }; exact = λ p covered. absurd (true≢false (sym is ∙ p)); some = tt }
 
 -- ---- over any bytes
 

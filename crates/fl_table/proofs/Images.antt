@@ -1,6 +1,7 @@
 -- A table at rest on a flash, and its image on the flash's medium.
 use Rattle.std.proofs.Common.{◌≡◌, ℕ, ◌+◌, ◌-◌, ◌*◌, Bool, true, false, cond, Option, Some, None, IfSome, List, take, drop, refl, sym, ◌∙◌, ap, subst, arith, sum_by}
 use Rattle.std.proofs.Math.Path.{fun_ext}
+use Rattle.std.proofs.lemmas.Bool.{false≢true}
 use Rattle.fl_flash.specs.Flash.{FlashState, page_at}
 use Rattle.fl_model.specs.Record.{Plan, Config, blocks_of, has_index, has_var}
 use Rattle.fl_model.specs.Ring.{Shape, Ring, fresh}
@@ -56,9 +57,6 @@ holds-same old new first plan table same h = record {
     equal : (ring : RingName) → bytes_in new first plan ring ≡ bytes_in old first plan ring
     equal ring = fun_ext (λ n. same ring n)
 
-no : false ≡ true → ⊥
-no e = cc
-
 nothing : {n : ℕ} → None ≡ Some n → ⊥
 nothing e = cc
 
@@ -68,8 +66,8 @@ fresh_image shape at Holds blank = record {
   void = λ i e. absurd (nothing e);
   kept = λ i count e some. absurd (nothing e);
   blank_next = λ e. blank 0;
-  torn_next = λ e. absurd (no e);
-  dirty = λ e. absurd (no e);
+  torn_next = λ e. absurd (false≢true e);
+  dirty = λ e. absurd (false≢true e);
   others = λ k some few clear. blank (0 + k);
 }
 

@@ -12,6 +12,7 @@ use Rattle.fl_model.specs.Ring.{Ring}
 use Rattle.fl_model.specs.Row.{stored_row}
 use Rattle.std.proofs.Math.Nat.{div-le_self}
 use Rattle.std.proofs.lemmas.List.{length-replicate}
+use Rattle.std.proofs.lemmas.Bool.{false≢true}
 use Rattle.fl_model.specs.Table.{Table, Entry, RingName, IndexRing, VarRing, fill, blob_len, fill_seals, after_seals, start_page, start_offset, with_record, lose, spent_from}
 use Rattle.fl_model.specs.Within.{seals_within, TablePerforms}
 use Rattle.fl_model.specs.Work.{Device, Whole, PartProgress}
@@ -225,12 +226,9 @@ module _ {KNOTS SLOTS : ℕ} (t : code.Table KNOTS SLOTS) (f new : FlashState) (
       at_none : ◌≡◌ {A = Result (Option BlobRef) FlashFault} (Ok at) (Ok None) → at ≡ None
       at_none e = cc
 
-      no : false ≡ true → ⊥
-      no e = cc
-
       by_blob : (o : Option (List ℕ)) → item.blob ≡ o → has_var plan ≡ false → item.blob ≡ None
       by_blob None e k = e
-      by_blob (Some bytes) e k = absurd (no (sym k ∙ (ok.blob_fits bytes e).0))
+      by_blob (Some bytes) e k = absurd (false≢true (sym k ∙ (ok.blob_fits bytes e).0))
   join-done (Some v) at None is left outside ends = absurd ends
   join-done (Some v) at (Some w) is left outside ends =
       let standing = standing-in t f new first plan table rose device stands watched v is in

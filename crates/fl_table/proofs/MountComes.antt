@@ -3,6 +3,7 @@ use Rattle.std.proofs.Common.{◌≡◌, ℕ, ◌+◌, ◌-◌, ◌/◌, ◌<◌
 use Rattle.std.specs.List.{count_by, slice_get}
 use Rattle.std.specs.Option.{is_none}
 use Rattle.std.specs.Prelude.{not}
+use Rattle.std.proofs.lemmas.Bool.{true≢false}
 use Rattle.fl_flash.specs.Flash.{FlashState, page_at}
 use Rattle.fl_flash.specs.Places.{extent}
 use Rattle.fl_index.specs.declared.index.BitmapIndex.{BitmapIndex}
@@ -100,14 +101,11 @@ module _ {Left : Type 0} {KNOTS SLOTS : ℕ} (t : code.Table KNOTS SLOTS) (first
       index-comes : IsIndexed
       index-comes = by_index t.bitmaps refl found-there comes lies
         where
-          not_both : true ≡ false → ⊥
-          not_both e = cc
-
           none : c.index_pages ≡ 0 → (plan.full_index ≡ true → (number : ℕ) → is_listed plan l.now.state number ≡ false) → IsIndexed
           none e unlisted = record {
             index = λ k lt is. absurd (omega (arith, lt, e));
             ends = let z : end_before c c.index_pages ≡ 0 = ap (end_before c) e in omega (arith, z);
-            listed = λ full number is. absurd (not_both (sym is ∙ unlisted full number));
+            listed = λ full number is. absurd (true≢false (sym is ∙ unlisted full number));
             few = omega (arith, e);
           }
 
@@ -117,7 +115,7 @@ module _ {Left : Type 0} {KNOTS SLOTS : ℕ} (t : code.Table KNOTS SLOTS) (first
               ap (λ (pages : List IndexPage). is_listed plan (record l.now.state { index_pages = pages }) number) (none-listed plan l.now.state has l.facts.index)
 
           by_form : (index : BitmapIndex) (full : Bool) → (form_in index).full ≡ full → StandsFoundBy full index mid (first + plan.data_blocks) plan l.now.state → ComesBy full c (layout_of t.schema) (most_in t.geometry.page (layout_of t.schema)) index ring mid → memory.LiesOn index mid → IsIndexed
-          by_form index false e h k lie = none k.1 (λ full number. absurd (not_both (sym full ∙ (sym (ap (λ (form : EntryForm). form.full) (planned-form index (first + plan.data_blocks) plan h.planned)) ∙ e))))
+          by_form index false e h k lie = none k.1 (λ full number. absurd (true≢false (sym full ∙ (sym (ap (λ (form : EntryForm). form.full) (planned-form index (first + plan.data_blocks) plan h.planned)) ∙ e))))
           by_form index true e h k lie =
               let size = lies-size index mid (first + plan.data_blocks) plan h.planned lie.geometry lie.within reaches in
               let fit = λ (n rows : ℕ) (e : slice_get l.now.state.rows.counts n ≡ Some rows). fields-fit t first plan l.now.state planned l.facts n rows e in
@@ -168,9 +166,6 @@ module _ {Left : Type 0} {KNOTS SLOTS : ℕ} (t : code.Table KNOTS SLOTS) (first
           let pages = ap (λ n. count_by (λ number. not (is_listed plan l.now.state number)) (numbers_from (model.oldest l.now.state.rows) n)) comes-to.pages in
           omega (arith, few, counted, same, pages)
         where
-          not_both : true ≡ false → ⊥
-          not_both e = cc
-
           by_test : (number : ℕ) (b : Bool) → is_listed plan l.now.state number ≡ b → (is_listed plan l.now.state number ≡ true → is_none (entry c number) ≡ false) → is_none (entry c number) ≡ true → not b ≡ true
-          by_test number true e told none = absurd (not_both (sym none ∙ told e))
+          by_test number true e told none = absurd (true≢false (sym none ∙ told e))
           by_test number false e told none = refl

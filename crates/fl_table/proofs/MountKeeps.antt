@@ -1,7 +1,7 @@
 -- What a mount does to the data ring, and what it keeps of the facts of its table: of those on which it rests, and of all of them.
 use Rattle.std.proofs.Common.{◌≡◌, ℕ, ◌+◌, ◌-◌, ◌*◌, ◌%◌, ◌<◌, ◌≤◌, ◌⊎◌, inl, inr, Bool, true, false, cond, nat_lt, Option, Some, None, List, [], ◌∷◌, length, take, drop, refl, sym, ◌∙◌, ap, subst, arith, IsTrue, ◌&&◌}
 use Rattle.std.proofs.Math.Nat.{mod-lt, add-mod_right, mul-le-mul_right}
-use Rattle.std.proofs.lemmas.Bool.{cases_lt}
+use Rattle.std.proofs.lemmas.Bool.{cases_lt, false≢true}
 use Rattle.std.specs.List.{slice_get, sum, list_any}
 use Rattle.fl_model.specs.Facts.{is_some_ring, counts_in}
 use Rattle.fl_model.specs.Index.{IndexPage}
@@ -32,7 +32,7 @@ loose-erase plan table h = record {
     whole_rounds = h.rows.whole_rounds;
     kept = h.rows.kept;
     kept_at_end = h.rows.kept_at_end;
-    dirty_at_end = λ d. absurd (no d);
+    dirty_at_end = λ d. absurd (false≢true d);
     not_both = λ both. not_dirty table.rows.torn both;
   };
   kept = h.kept;
@@ -41,9 +41,6 @@ loose-erase plan table h = record {
   number = h.number;
 }
   where
-    no : false ≡ true → ⊥
-    no e = cc
-
     not_dirty : (t : Bool) → IsTrue (t && false) → ⊥
     not_dirty true e = cc
     not_dirty false e = cc

@@ -1,7 +1,7 @@
 -- A record joins the pending ones, and pages that are full.
 use Rattle.std.proofs.Common.{◌≡◌, ℕ, ◌+◌, ◌-◌, ◌*◌, ◌/◌, ◌^◌, ◌<◌, ◌≤◌, Bool, true, false, cond, ◌&&◌, ◌==◌, nat_lt, Option, Some, None, eq-eqb, unwrap_or, List, [], ◌∷◌, ◌++◌, length, drop, get_or, fold, refl, sym, ◌∙◌, ap, subst, arith, inl, inr, length-append, pos, bit_or}
 use Rattle.std.proofs.Math.Nat.{le-div_iff_mul-le, add-mul}
-use Rattle.std.proofs.lemmas.Bool.{eqb-true, cases_lt}
+use Rattle.std.proofs.lemmas.Bool.{eqb-true, cases_lt, false≢true}
 use Rattle.std.proofs.lemmas.List.{drop-append-le}
 use Rattle.std.proofs.lemmas.List.Sums.{fold_push}
 use Rattle.std.proofs.lemmas.Option.{unwrap_or-slice_get}
@@ -53,11 +53,8 @@ bits-more plan (Some buckets) entries entry h =
         three : (n : ℕ) → n ≡ 0 → is_bits n ≡ false
         three n z = rw z refl
 
-        no : false ≡ true → ⊥
-        no x = cc
-
         by_test : (b : Bool) → (plan.bits == 0) ≡ b → b ≡ false
-        by_test true k = absurd (no (sym (three bits (sym e ∙ eqb-true plan.bits 0 k)) ∙ t))
+        by_test true k = absurd (false≢true (sym (three bits (sym e ∙ eqb-true plan.bits 0 k)) ∙ t))
         by_test false k = refl
 
     value : get_or entry.kept.values 0 (pos 0) ≡ unwrap_or (slice_get entry.kept.values 0) (pos 0)
@@ -244,9 +241,6 @@ room-accepts plan table item shape facts some ok room =
           left = omega (arith, next, ap (λ (r : Ring). r.next) rows, ok.left);
         })
     by_full false e room =
-        let less : table.pending < rows_per_page plan = elim (cases_lt table.pending (rows_per_page plan)) [ inl lt ↦ lt | inr more ↦ absurd (no (sym e ∙ eq-eqb table.pending (rows_per_page plan) (omega (arith, more, facts.few_pending)))) ] in
+        let less : table.pending < rows_per_page plan = elim (cases_lt table.pending (rows_per_page plan)) [ inl lt ↦ lt | inr more ↦ absurd (false≢true (sym e ∙ eq-eqb table.pending (rows_per_page plan) (omega (arith, more, facts.few_pending)))) ] in
         subst (λ (rs : List RingName). IsAcceptedBy plan (after_seals plan rs table) item.key item.values item.blob) (sym (room-room_seals plan table (λ is. absurd (omega (arith, is, less)))))
         (record { above = ok.above; fits = ok.key; as_many = ok.as_many; values_fit = ok.values; blob_fits = ok.blob; room = less; left = omega (arith, ok.left) })
-      where
-        no : false ≡ true → ⊥
-        no x = cc

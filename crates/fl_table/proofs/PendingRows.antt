@@ -2,7 +2,7 @@
 use Rattle.std.proofs.Common.{◌≡◌, ℕ, zero, suc, ◌+◌, ◌-◌, ◌<◌, ◌≤◌, Bool, true, false, Option, Some, None, option_map, List, [], ◌∷◌, length, map, take, refl, sym, ◌∙◌, ap, arith, ⊎_elim, length-drop}
 use Rattle.std.specs.Prelude.{◌==◌, nat_le, unwrap_or}
 use Rattle.std.specs.List.{slice_get}
-use Rattle.std.proofs.lemmas.Bool.{cases_lt, lt-leb, leb-false}
+use Rattle.std.proofs.lemmas.Bool.{cases_lt, lt-leb, leb-false, true≢false}
 use Rattle.std.proofs.lemmas.List.{length-map}
 use Rattle.fl_find.proofs.Entries.{found-at, found-none, row-entry, rows-rise}
 use Rattle.fl_find.proofs.Firsts.{Ascending}
@@ -14,9 +14,6 @@ use Rattle.fl_model.specs.Row.{Row, stored_row}
 use Rattle.fl_model.specs.Spline.{is_pending_key}
 use Rattle.fl_model.specs.Table.{Table, Entry, pending_entries, written}
 use Rattle.fl_model.proofs.Lists.{slice_get-some, slice_get-drop, slice_get-take, slice_get-front, slice_get-short}
-
-no : true ≡ false → ⊥
-no e = cc
 
 -- an entry of the front of a list is one of the list
 pub entry-front : (key n : ℕ) (entries : List Entry) (entry : Entry) → entry_at key (take n entries) ≡ Some entry → entry_at key entries ≡ Some entry
@@ -77,12 +74,12 @@ module _ (plan : Plan) (table : Table) (facts : IsTable plan table) where
   written-below key i entry is e lt = by_first (slice_get (pending_entries table) 0) refl
     where
       by_first : (o : Option Entry) → slice_get (pending_entries table) 0 ≡ o → entry.kept.key < key
-      by_first None h = absurd (no (sym is ∙ ap (λ (o : Option Entry). unwrap_or (option_map (λ first. nat_le first key) (option_map (λ (y : Entry). y.kept.key) o)) false) h))
+      by_first None h = absurd (true≢false (sym is ∙ ap (λ (o : Option Entry). unwrap_or (option_map (λ first. nat_le first key) (option_map (λ (y : Entry). y.kept.key) o)) false) h))
       by_first (Some x) h =
           let told : nat_le x.kept.key key ≡ true = sym (ap (λ (o : Option Entry). unwrap_or (option_map (λ first. nat_le first key) (option_map (λ (y : Entry). y.kept.key) o)) false) h) ∙ is in
           let up = facts.ascending i (n + 0) entry x (omega (arith, lt)) e (sym (slice_get-drop n table.entries 0) ∙ h) in
           ⊎_elim
-          (λ less. absurd (no (sym told ∙ lt-leb x.kept.key key less)))
+          (λ less. absurd (true≢false (sym told ∙ lt-leb x.kept.key key less)))
           (λ le. omega (arith, le, up))
           (cases_lt key x.kept.key)
 

@@ -1,6 +1,7 @@
 -- How many pages the rings of a table in memory keep, of the table of the model for which it stands.
-use Rattle.std.proofs.Common.{◌≡◌, ℕ, ◌+◌, ◌-◌, ◌≤◌, true, false, Option, Some, None, option_map, unwrap_or, length, refl, sym, ◌∙◌, ap, arith}
+use Rattle.std.proofs.Common.{◌≡◌, ℕ, ◌+◌, ◌-◌, ◌≤◌, Option, Some, None, option_map, unwrap_or, length, refl, sym, ◌∙◌, ap, arith}
 use Rattle.std.specs.Prelude.{nat_lt}
+use Rattle.std.proofs.lemmas.Bool.{true≢false}
 use Rattle.fl_flash.specs.Flash.{FlashState}
 use Rattle.fl_index.specs.Memory as of_index
 use Rattle.fl_index.specs.declared.index.BitmapIndex.{BitmapIndex}
@@ -25,10 +26,7 @@ use Rattle.fl_var.specs.declared.var_data.VarData.{VarData}
 -- no ring has no pages
 pub no-ring : (of : Ring → ℕ) (ring : Option Ring) (blocks : ℕ) → is_some_ring ring ≡ nat_lt 0 blocks → blocks ≡ 0 → option_map of ring ≡ None
 no-ring of None blocks has none = refl
-no-ring of (Some ring) blocks has none = absurd (no (has ∙ ap (nat_lt 0) none))
-  where
-    no : true ≡ false → ⊥
-    no e = cc
+no-ring of (Some ring) blocks has none = absurd (true≢false (has ∙ ap (nat_lt 0) none))
 
 pub kept-length : (next old : ℕ) (ring : Ring) → length ring.counts ≤ ring.next → next ≡ ring.next → old ≡ oldest ring → next - old ≡ length ring.counts
 kept-length next old ring few next_is old_is = omega (arith, few, next_is, old_is)

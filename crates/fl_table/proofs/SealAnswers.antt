@@ -1,7 +1,8 @@
 -- What a table that is sealed tells of its ring.
-use Rattle.std.proofs.Common.{◌≡◌, ℕ, ◌+◌, ◌-◌, ◌*◌, ◌%◌, ◌≤◌, true, false, Option, Some, None, List, ◌++◌, map, length, take, drop, set, refl, sym, ◌∙◌, ap, subst, arith, IsTrue, length-drop}
+use Rattle.std.proofs.Common.{◌≡◌, ℕ, ◌+◌, ◌-◌, ◌*◌, ◌%◌, ◌≤◌, Option, Some, None, List, ◌++◌, map, length, take, drop, set, refl, sym, ◌∙◌, ap, subst, arith, IsTrue, length-drop}
 use Rattle.std.proofs.lemmas.List.{length-map, take-append-le, take_all}
 use Rattle.std.specs.List.{sum}
+use Rattle.std.proofs.lemmas.Bool.{false≢true}
 use Rattle.fl_flash.specs.Flash.{FlashState, page_at}
 use Rattle.fl_flash.specs.Places.{extent}
 use Rattle.fl_model.specs.Record.{Plan, RowLayout, row_layout, has_index}
@@ -45,10 +46,7 @@ pub planned-few : {KNOTS SLOTS : ℕ} (t : code.Table KNOTS SLOTS) (first : ℕ)
 planned-few t first plan h some = by_index t.bitmaps refl h.index
   where
     by_index : (o : Option BitmapIndex) → t.bitmaps ≡ o → ArePlanned o (first + plan.data_blocks) plan → plan.data_blocks * plan.geometry.block + 6 ≤ 65536
-    by_index None e planned = absurd (no (sym (planned-none (first + plan.data_blocks) plan planned) ∙ some))
-      where
-        no : false ≡ true → ⊥
-        no k = cc
+    by_index None e planned = absurd (false≢true (sym (planned-none (first + plan.data_blocks) plan planned) ∙ some))
     by_index (Some index) e planned = let few = t.few_pages index e in rw (h.blocks, h.geometry) few
 
 pub planned-ring : {KNOTS SLOTS : ℕ} (t : code.Table KNOTS SLOTS) (first : ℕ) (plan : Plan) → IsPlanned t first plan → shape_at t.place t.geometry ≡ shape_in first plan

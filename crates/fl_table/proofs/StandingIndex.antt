@@ -3,7 +3,7 @@ use Rattle.std.proofs.Common.{◌≡◌, inl, inr, ℕ, zero, suc, ◌+◌, ◌-
 use Rattle.std.specs.Prelude.{option_map, unwrap_or}
 use Rattle.std.specs.List.{list_any, slice_get}
 use Rattle.std.specs.Option.{is_none}
-use Rattle.std.proofs.lemmas.Bool.{cases_lt, eq-eqb, le-leb, leb-true, lt-ltb, ltb-true}
+use Rattle.std.proofs.lemmas.Bool.{cases_lt, eq-eqb, le-leb, leb-true, lt-ltb, ltb-true, false≢true, true≢false}
 use Rattle.fl_flash.specs.Flash.{FlashState, page_at}
 use Rattle.fl_index.specs.declared.index.BitmapIndex.{BitmapIndex}
 use Rattle.fl_index.specs.declared.page.EntryForm.{EntryForm}
@@ -47,10 +47,7 @@ ends-by c most (suc m) h = by_test (ends-by c most m (λ j lt is. h j (omega (ar
 
 -- one of these passes a test
 any-at : (p : ℕ → Bool) (xs : List ℕ) → list_any p xs ≡ true → (k : ℕ) × (x : ℕ) × (slice_get xs k ≡ Some x) × (p x ≡ true)
-any-at p [] e = absurd (no e)
-  where
-    no : false ≡ true → ⊥
-    no e = cc
+any-at p [] e = absurd (false≢true e)
 any-at p (y ∷ ys) e = by_test (p y) refl e (λ h. any-at p ys h)
   where
     by_test : (b : Bool) → p y ≡ b → (b || list_any p ys) ≡ true → (list_any p ys ≡ true → (k : ℕ) × (x : ℕ) × (slice_get ys k ≡ Some x) × (p x ≡ true)) → (k : ℕ) × (x : ℕ) × (slice_get (y ∷ ys) k ≡ Some x) × (p x ≡ true)
@@ -62,12 +59,9 @@ listed-some : (t : Come) (number m k : ℕ) → k < m → lists t number k ≡ t
 listed-some t number zero k lt here = absurd (omega (arith, lt))
 listed-some t number (suc m) k lt here = by_test (lists t number m) refl (λ less. listed-some t number m k less here)
   where
-    not_both : true ≡ false → ⊥
-    not_both e = cc
-
     less : lists t number m ≡ false → (k < m) ⊎ (m ≤ k) → k < m
     less e (inl h) = h
-    less e (inr h) = let same : k ≡ m = omega (arith, h, lt) in absurd (not_both (sym here ∙ (ap (lists t number) same ∙ e)))
+    less e (inr h) = let same : k ≡ m = omega (arith, h, lt) in absurd (true≢false (sym here ∙ (ap (lists t number) same ∙ e)))
 
     by_test : (b : Bool) → lists t number m ≡ b → (k < m → is_none (option_map (told_at t number) (listing_among t number m)) ≡ false) → is_none (option_map (told_at t number) (cond b (Some m) (listing_among t number m))) ≡ false
     by_test true e go = refl
@@ -124,11 +118,8 @@ module _ (R : BitmapIndex → Plan → Table → model.Ring → Type 0) (c : Com
         | inl some ↦ record { count = n.0; here = n.1; some = some; listed = is-listed (page_at f) first plan table stands.ring stands.facts stands.pages sizes large few k n.0 n.1 some }
         | inr none ↦
             let z : n.0 ≡ 0 = omega (arith, none) in
-            absurd (no (sym is ∙ (ap is_committed (bytes-is k) ∙ ap commits (void-none (page_at f) first plan table stands.ring stands.facts stands.pages sizes large few k (n.1 ∙ ap (λ (m : ℕ). Some m) z)))))
+            absurd (true≢false (sym is ∙ (ap is_committed (bytes-is k) ∙ ap commits (void-none (page_at f) first plan table stands.ring stands.facts stands.pages sizes large few k (n.1 ∙ ap (λ (m : ℕ). Some m) z)))))
       ]
-    where
-      no : true ≡ false → ⊥
-      no e = cc
 
   first-is : (k : ℕ) (l : IsFilled k) → page_first (index_page c k) ≡ l.listed.first_page
   first-is k l = ap page_first (bytes-is k) ∙ l.listed.is.first_is

@@ -1,6 +1,6 @@
 -- The void pages of a table, as pages are sealed and given up.
 use Rattle.std.proofs.Common.{◌≡◌, ℕ, ◌+◌, ◌-◌, ◌*◌, ◌%◌, ◌<◌, ◌≤◌, Bool, true, false, cond, ◌==◌, ◌&&◌, Some, List, [], ◌∷◌, ◌++◌, length, map, take, drop, get_or, refl, sym, ◌∙◌, ap, arith, length-append, length-drop}
-use Rattle.std.proofs.lemmas.Bool.{ltb-true, ne_eqb}
+use Rattle.std.proofs.lemmas.Bool.{ltb-true, ne_eqb, false≢true}
 use Rattle.std.proofs.lemmas.List.{drop-append-le}
 use Rattle.std.proofs.lemmas.List.FromFn.{take-map-range_with_len}
 use Rattle.std.proofs.lemmas.List.Sums.{sum_by-append, sum_by-take-drop}
@@ -66,10 +66,7 @@ module _ (plan : Plan) (table : Table) (shape : model.IsShape (shape_of plan Dat
         where
           and_right : (a b : Bool) → (a && b) ≡ true → b ≡ true
           and_right true b h = h
-          and_right false b h = absurd (no h)
-            where
-              no : false ≡ true → ⊥
-              no e = cc
+          and_right false b h = absurd (false≢true h)
       by_test false e =
           let gone : table.rows.next + 1 - length (table.rows.counts ++ table.pending ∷ []) - model.oldest table.rows ≡ 0 = omega (arith, more, facts.not_negative) in
           record {

@@ -1,6 +1,7 @@
 use Rattle.std.proofs.Common.{◌≡◌, ◌≤◌, ◌<◌, ℕ, min, true, false, Option, None, Some, option_map, Ok, length, refl, sym, ◌∙◌, ap, subst, arith}
 use Rattle.std.specs.Prelude.{IfSome, MatchOption}
 use Rattle.std.specs.Option.{IsSomeAnd}
+use Rattle.std.proofs.lemmas.Bool.{false≢true}
 use Rattle.fl_model.specs.Spline.{is_pending_key}
 use Rattle.fl_base.specs.declared.types.Geometry.{Geometry}
 use Rattle.fl_table.specs.Finding.{Finds, FindsPending, HasKeyAt, IsAnswered, IsRowAt, HoldsIts}
@@ -19,9 +20,6 @@ use Rattle.fl_table.proofs.ReadsKeepTable.{lies-read, most-kept}
 use Rattle.fl_table.proofs.Sizes.{table-fits, index-fits}
 use Rattle.fl_parts.proofs.Untouched.{at-most, at-most-two}
 use Rattle.fl_table.proofs.table.Table.find.Goals as goal
-
-no : false ≡ true → ⊥
-no e = cc
 
 -- each answer of a look is a place
 mapped : {A : Type 0} (f : A → RowAt) (o : Option A) (r : Option RowAt) → MatchOption o (r ≡ None) (λ x. IsSomeAnd r (λ place. place ≡ f x)) → r ≡ option_map f o
@@ -55,7 +53,7 @@ returns-in-Ok-clause-reads g c = λ first plan table tells stands.
 
 pub returns-in-Ok-clause-pending : goal.returns-in-Ok-clause-pending
 returns-in-Ok-clause-pending g c = λ first plan table stands is.
-    absurd (no (sym c.if-is_pending_key.false ∙ (c.is_pending_key.ensures.stands (g.F.Flash.state c.args.flash.now) first plan table stands ∙ is)))
+    absurd (false≢true (sym c.if-is_pending_key.false ∙ (c.is_pending_key.ensures.stands (g.F.Flash.state c.args.flash.now) first plan table stands ∙ is)))
 
 pub returns-in-Ok-clause-here : goal.returns-in-Ok-clause-here
 returns-in-Ok-clause-here g c =
@@ -85,7 +83,7 @@ returns-in-Err-clause-reads g c = λ first plan table tells stands.
 
 pub returns-in-Err-clause-pending : goal.returns-in-Err-clause-pending
 returns-in-Err-clause-pending g c = λ first plan table stands is.
-    absurd (no (sym c.if-is_pending_key.false ∙ (c.is_pending_key.ensures.stands (g.F.Flash.state c.args.flash.now) first plan table stands ∙ is)))
+    absurd (false≢true (sym c.if-is_pending_key.false ∙ (c.is_pending_key.ensures.stands (g.F.Flash.state c.args.flash.now) first plan table stands ∙ is)))
 
 pub returns-in-Ok-clause-slot : goal.returns-in-Ok-clause-slot
 returns-in-Ok-clause-slot g c = λ first plan table count stands is.
@@ -244,7 +242,7 @@ returns-then-is_pending_key-clause-answers g c =
     subst (λ (o : Option RowAt). IsAnswered c.args.self.now (g.F.Flash.state c.args.flash.now) c.args.key o) (sym e)
     (record {
       pending = λ is. answers-pending c.args.self.now c.args.buf.now c.args.key c.pending_place.result c.pending_place.ensures.found;
-      kept = λ is. absurd (no (sym is ∙ (sym c.is_pending_key.ensures.exact ∙ c.if-is_pending_key.true)));
+      kept = λ is. absurd (false≢true (sym is ∙ (sym c.is_pending_key.ensures.exact ∙ c.if-is_pending_key.true)));
     })
 
 pub returns-in-Ok-clause-answers : goal.returns-in-Ok-clause-answers
@@ -252,7 +250,7 @@ returns-in-Ok-clause-answers g c =
     let e : c.map-in-Ok.result ≡ option_map at.InPage c.in-Ok.found = mapped at.InPage c.in-Ok.found c.map-in-Ok.result c.map-in-Ok.ensures.cases in
     subst (λ (o : Option RowAt). IsAnswered c.args.self.now (g.F.Flash.state c.args.flash.now) c.args.key o) (sym e)
     (record {
-      pending = λ is. absurd (no (sym c.if-is_pending_key.false ∙ (c.is_pending_key.ensures.exact ∙ is)));
+      pending = λ is. absurd (false≢true (sym c.if-is_pending_key.false ∙ (c.is_pending_key.ensures.exact ∙ is)));
       kept = λ is. answers-in_pages c.args.self.now c.in-Some.ring (g.F.Flash.state c.args.flash.now) c.args.key c.in-Some.is c.in-Ok.found c.in-Ok.ensures.sound c.in-Ok.ensures.near c.in-Ok.ensures.far;
     })
 
@@ -260,10 +258,10 @@ pub returns-then-is_pending_key-clause-unread : goal.returns-then-is_pending_key
 returns-then-is_pending_key-clause-unread g c = λ is. (refl, refl, refl)
 
 pub returns-in-Ok-clause-unread : goal.returns-in-Ok-clause-unread
-returns-in-Ok-clause-unread g c = λ is. absurd (no (sym c.if-is_pending_key.false ∙ (c.is_pending_key.ensures.exact ∙ is)))
+returns-in-Ok-clause-unread g c = λ is. absurd (false≢true (sym c.if-is_pending_key.false ∙ (c.is_pending_key.ensures.exact ∙ is)))
 
 pub returns-in-Err-clause-unread : goal.returns-in-Err-clause-unread
-returns-in-Err-clause-unread g c = λ is. absurd (no (sym c.if-is_pending_key.false ∙ (c.is_pending_key.ensures.exact ∙ is)))
+returns-in-Err-clause-unread g c = λ is. absurd (false≢true (sym c.if-is_pending_key.false ∙ (c.is_pending_key.ensures.exact ∙ is)))
 
 pub returns-then-is_pending_key-clause-blames : goal.returns-then-is_pending_key-clause-blames
 returns-then-is_pending_key-clause-blames g c = λ covered. tt

@@ -1,4 +1,5 @@
 use Rattle.std.proofs.Common.{true, false, Bool, None, is_some, ◌&&◌, ◌==◌, cond, IfSome, ◌≡◌, ℕ, ◌+◌, ◌^◌, ◌<◌, ◌≤◌, Bor, List, [], ◌∷◌, ◌++◌, Some, option_map, arith, refl, sym, ◌∙◌, ap, subst, Option}
+use Rattle.std.proofs.lemmas.Bool.{false≢true}
 use Rattle.fl_base.specs.declared.types.BlobRef.{BlobRef}
 use Rattle.fl_model.specs.Record.{Record, RowLayout}
 use Rattle.fl_model.specs.Row.{stored_row, FitsReference}
@@ -325,14 +326,11 @@ few-left : (blobs : Option VarData) → variable.next_of blobs ≤ model.spent_f
 few-left None le = tt
 few-left (Some var) le = omega (arith, le)
 
-no-error : false ≡ true → ⊥
-no-error e = cc
-
 pub place-requires-clause-left : goal.place-requires-clause-left
 place-requires-clause-left g c = few-left c.args.self.now.blobs c.requires.blobs_left
 
 pub returns-in-Err-clause-quiet : goal.returns-in-Err-clause-quiet
-returns-in-Err-clause-quiet g c = λ few. absurd (no-error (c.in-Err.ensures.quiet few).0)
+returns-in-Err-clause-quiet g c = λ few. absurd (false≢true (c.in-Err.ensures.quiet few).0)
 
 pub returns-clause-quiet : goal.returns-clause-quiet
 returns-clause-quiet g c = λ few. (refl, (c.in-Ok.ensures.quiet few).1)
