@@ -4,7 +4,7 @@ use Rattle.std.specs.Prelude.{option_map}
 use Rattle.std.specs.List.{slice_get, list_any, AllByRecursion}
 use Rattle.std.proofs.Math.Path.{fun_ext}
 use Rattle.std.proofs.Math.Nat.{mul-le-mul_right, mod-le}
-use Rattle.std.proofs.lemmas.Bool.{lt-ltb}
+use Rattle.std.proofs.lemmas.Bool.{lt-ltb, false≢true}
 use Rattle.std.proofs.lemmas.List.{take_all}
 use Rattle.fl_flash.specs.Flash.{FlashState, page_at}
 use Rattle.fl_model.specs.Agrees.{reach_of, BlobsOf}
@@ -294,7 +294,4 @@ module _ (v : VarData) (f : FlashState) (first : ℕ) (plan : Plan) (table : Tab
     where
       by_ring : (o : Option Ring) → table.var ≡ o → Rests v f (first + plan.data_blocks + plan.index_blocks) plan table
       by_ring (Some ring) e = rests-at ring e
-      by_ring None e = absurd (no (ap is_some_ring (sym e) ∙ (facts.has ∙ planned-var v (first + plan.data_blocks + plan.index_blocks) plan planned)))
-        where
-          no : false ≡ true → ⊥
-          no k = cc
+      by_ring None e = absurd (false≢true (ap is_some_ring (sym e) ∙ (facts.has ∙ planned-var v (first + plan.data_blocks + plan.index_blocks) plan planned)))

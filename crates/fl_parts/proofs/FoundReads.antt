@@ -68,6 +68,3 @@ module _ (index now : BitmapIndex) (f g : FlashState) (beside : Beside (ring_sha
 pub ok-then : {T E Q : Type 0} (r : Result T E) (P : T → Type 0) → IfOk r P → ((x : T) → P x → Q) → OnOk r Q
 ok-then (Ok x) P p f = f x p
 ok-then (Err e) P p f = tt
-
-pub not-both : true ≡ false → ⊥
-not-both e = cc

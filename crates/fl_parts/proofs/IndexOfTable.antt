@@ -1,6 +1,6 @@
 -- The index of a table, where it has one.
 use Rattle.std.proofs.Common.{◌≡◌, ℕ, ◌+◌, ◌-◌, ◌*◌, ◌%◌, ◌^◌, ◌<◌, ◌≤◌, Bool, true, false, cond, nat_le, nat_lt, ◌==◌, is_some, option_map, unwrap_or, Option, Some, None, IfSome, List, [], ◌∷◌, ◌++◌, length, refl, sym, ◌∙◌, ap, subst, arith, IsTrue, length-append}
-use Rattle.std.proofs.lemmas.Bool.{lt-ltb, ne_eqb}
+use Rattle.std.proofs.lemmas.Bool.{lt-ltb, ne_eqb, false≢true}
 use Rattle.std.specs.Prelude.{slice_index_or, vec_len}
 use Rattle.std.specs.Option.{ForSome}
 use Rattle.fl_base.specs.declared.types.RingPlace.{RingPlace}
@@ -276,10 +276,7 @@ noted-end (Some old) (Some new) number bitmap full noted h = λ index e.
 
 -- a bitmap more has room
 pub room-left : (bitmaps : Option BitmapIndex) (f : FlashState) (first : ℕ) (plan : Plan) (table : Table) → ArePlanned bitmaps first plan → Stand bitmaps f first plan table → HaveRoom bitmaps → IsTrue (has_index plan) → length table.waiting < entries_per_page plan
-room-left None f first plan table h s room t = absurd (no (sym (planned-none first plan h) ∙ t))
-  where
-    no : false ≡ true → ⊥
-    no e = cc
+room-left None f first plan table h s room t = absurd (false≢true (sym (planned-none first plan h) ∙ t))
 room-left (Some index) f first plan table h s room t = omega (arith, room index refl, s.waits.count_is, planned-page index first plan h)
 
 -- the number of the next index page

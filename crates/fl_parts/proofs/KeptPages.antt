@@ -1,7 +1,7 @@
 -- What the kept pages of a table read as.
-use Rattle.std.proofs.Common.{◌≡◌, ℕ, zero, suc, ◌+◌, ◌-◌, ◌*◌, ◌^◌, ◌<◌, ◌≤◌, ◌⊎◌, Bool, true, false, Option, Some, None, IfSome, List, [], ◌∷◌, length, map, take, drop, refl, sym, ◌∙◌, ap, subst, arith, inl, inr}
+use Rattle.std.proofs.Common.{◌≡◌, ℕ, zero, suc, ◌+◌, ◌-◌, ◌*◌, ◌^◌, ◌<◌, ◌≤◌, ◌⊎◌, Bool, true, Option, Some, None, IfSome, List, [], ◌∷◌, length, map, take, drop, refl, sym, ◌∙◌, ap, subst, arith, inl, inr}
 use Rattle.std.proofs.Math.Nat.{le-div_iff_mul-le, mul-le-mul_left}
-use Rattle.std.proofs.lemmas.Bool.{cases_lt}
+use Rattle.std.proofs.lemmas.Bool.{cases_lt, false≢true}
 use Rattle.fl_parts.proofs.BlobEnds.{AreNumbered}
 use Rattle.fl_parts.proofs.FullEntries.{full-on}
 use Rattle.std.proofs.lemmas.List.{length-map, length-take-le, length-drop, take_all}
@@ -51,10 +51,7 @@ table-numbered plan table facts none = λ i entry blob e is some.
     has entry blob is fits = (subst (BlobFits plan entry) is fits).0
 
     by_ring : (page : ℕ) (o : Option model.Ring) → is_some_ring o ≡ has_var plan → has_var plan ≡ true → IfSome o (λ ring. page + 1 < 2 ^ 32) → page + 1 < 2 ^ 32
-    by_ring page None has is h = absurd (no (has ∙ is))
-      where
-        no : false ≡ true → ⊥
-        no e = cc
+    by_ring page None has is h = absurd (false≢true (has ∙ is))
     by_ring page (Some ring) has is h = h
 
 -- rows that refer to blobs tell their bytes

@@ -1,5 +1,6 @@
 -- The pages that calls keep: where nothing changed, and where one call follows another.
-use Rattle.std.proofs.Common.{◌≡◌, ℕ, true, false, Option, Some, None, List, refl, sym, ◌∙◌, ap, subst, arith}
+use Rattle.std.proofs.Common.{◌≡◌, ℕ, Option, Some, None, List, refl, sym, ◌∙◌, ap, subst, arith}
+use Rattle.std.proofs.lemmas.Bool.{false≢true}
 use Rattle.fl_model.specs.Facts.{IsTable, is_some_ring}
 use Rattle.fl_model.specs.Record.{Plan}
 use Rattle.fl_model.specs.Ring.{Ring}
@@ -30,10 +31,7 @@ kept-same first plan table after old new rows index var same = record {
 -- a table has the rings of its plan
 middle : (m n : Option Ring) (ring : Ring) → is_some_ring m ≡ is_some_ring n → n ≡ Some ring → (r : Ring) × (m ≡ Some r)
 middle (Some r) n ring same is = (r, refl)
-middle None n ring same is = absurd (no (same ∙ ap is_some_ring is))
-  where
-    no : false ≡ true → ⊥
-    no e = cc
+middle None n ring same is = absurd (false≢true (same ∙ ap is_some_ring is))
 
 pub kept-then : (first : ℕ) (plan : Plan) (a b c : Table) (x y z : ℕ → List ℕ) → IsTable plan b → IsTable plan c → KeptStand first plan a b x y → KeptStand first plan b c y z → KeptStand first plan a c x z
 kept-then first plan a b c x y z mid last h k = record {

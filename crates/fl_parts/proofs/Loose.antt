@@ -3,6 +3,7 @@
 use Rattle.std.proofs.Common.{◌≡◌, ℕ, ◌+◌, ◌-◌, ◌<◌, ◌≤◌, ◌⊎◌, true, false, cond, Option, Some, None, IfSome, List, [], ◌∷◌, length, take, refl, sym, ◌∙◌, ap, subst, arith, IsTrue}
 use Rattle.std.proofs.lemmas.List.{take_all}
 use Rattle.std.specs.List.{slice_get, AllByRecursion}
+use Rattle.std.proofs.lemmas.Bool.{true≢false}
 use Rattle.fl_flash.specs.Flash.{FlashState}
 use Rattle.fl_index.specs.Standing.{HasIndex}
 use Rattle.fl_index.proofs.Lists.{below-end, first-at}
@@ -237,10 +238,7 @@ none-listed plan table none facts = by_pages table.index_pages (by_ring table.in
   where
     by_ring : (o : Option Ring) → is_some_ring o ≡ has_index plan → length table.index_pages ≡ full_pages (counts_in o) → length table.index_pages ≡ 0
     by_ring None e k = k
-    by_ring (Some r) e k = absurd (no (e ∙ none))
-      where
-        no : true ≡ false → ⊥
-        no x = cc
+    by_ring (Some r) e k = absurd (true≢false (e ∙ none))
 
     by_pages : (pages : List IndexPage) → length pages ≡ 0 → pages ≡ []
     by_pages [] e = refl

@@ -1,6 +1,6 @@
 -- The entries that a mount notes as it reads the pages.
 use Rattle.std.proofs.Common.{◌≡◌, ℕ, ◌+◌, ◌-◌, ◌/◌, ◌%◌, ◌^◌, ◌<◌, ◌≤◌, ◌==◌, Bool, true, false, cond, IsTrue, min, max, List, [], length, Option, Some, None, IfSome, refl, sym, ◌∙◌, ap, subst, arith, ◌⊎◌, inl, inr}
-use Rattle.std.proofs.lemmas.Bool.{cases_lt, eqb-true}
+use Rattle.std.proofs.lemmas.Bool.{cases_lt, eqb-true, false≢true}
 use Rattle.std.proofs.Math.Nat.{mod-lt, mod-eq_of_lt}
 use Rattle.fl_base.specs.declared.types.Geometry.{Geometry}
 use Rattle.fl_index.specs.declared.index.BitmapIndex.{BitmapIndex}
@@ -147,9 +147,6 @@ bits_small bits b is small = by_width (bits == 8) refl
         let lt : b < 256 ^ w = subst (λ n. n < 256 ^ w) (ap (λ n. b % 256 ^ n) (sym e) ∙ small) (mod-lt b some) in
         mod-eq_of_lt (omega (arith, lt, le))
 
-    no : false ≡ true → ⊥
-    no e = cc
-
     by_width : (t : Bool) → (bits == 8) ≡ t → b % 256 ^ 8 ≡ b
     by_width true e = let k : bits ≡ 8 = eqb-true bits 8 e in room 1 (ap (λ n. n / 8) k) (omega arith) (omega arith)
     by_width false e = by_next (bits == 16) refl
@@ -160,7 +157,7 @@ bits_small bits b is small = by_width (bits == 8) refl
           where
             by_last : (t : Bool) → (bits == 64) ≡ t → b % 256 ^ 8 ≡ b
             by_last true m = let o : bits ≡ 64 = eqb-true bits 64 m in room 8 (ap (λ n. n / 8) o) (omega arith) (omega arith)
-            by_last false m = absurd (no (sym (rw (e, k, m) refl) ∙ is))
+            by_last false m = absurd (false≢true (sym (rw (e, k, m) refl) ∙ is))
 
 pub page-bitmap : (plan : Plan) (number : ℕ) (entries : List Entry) (page : List ℕ) → IsTrue (is_bits plan.bits) → page ≡ committed (data_body plan number entries) → bitmap_on page ≡ bitmap_of plan entries
 page-bitmap plan number entries page is e =

@@ -1,7 +1,7 @@
 -- The facts of a table, by its parts, and what each operation of its data ring keeps of them.
 use Rattle.std.proofs.Common.{◌≡◌, ℕ, ◌+◌, ◌-◌, ◌%◌, ◌<◌, ◌≤◌, ◌⊎◌, inl, inr, Bool, true, false, cond, ◌&&◌, ◌==◌, nat_lt, Option, Some, None, IfSome, List, [], ◌∷◌, ◌++◌, length, map, filter, take, drop, refl, sym, ◌∙◌, ap, subst, arith, IsTrue, append_assoc, length-append, length-drop}
 use Rattle.std.proofs.Math.Nat.{mod-lt}
-use Rattle.std.proofs.lemmas.Bool.{eqb-true, cases_lt}
+use Rattle.std.proofs.lemmas.Bool.{eqb-true, cases_lt, false≢true}
 use Rattle.std.proofs.lemmas.List.{take-append-le}
 use Rattle.std.specs.List.{slice_get, sum, AllByRecursion}
 use Rattle.fl_model.specs.Record.{Plan, has_index, rows_per_page, entries_per_page, content_per_page}
@@ -233,10 +233,7 @@ plain-body plan table h some clean = record {
 }
   where
     not_dirty : (d : Bool) → d ≡ false → IsTrue (true && d) → ⊥
-    not_dirty d e t = no (sym e ∙ t)
-      where
-        no : false ≡ true → ⊥
-        no e = cc
+    not_dirty d e t = false≢true (sym e ∙ t)
 
 -- the block ahead is erased
 pub plain-erase : (plan : Plan) (table : Table) → IsPlainTable plan table → IsPlainTable plan (with_ring DataRing erased table)
@@ -249,7 +246,7 @@ plain-erase plan table h = record {
     whole_rounds = h.rows.whole_rounds;
     kept = h.rows.kept;
     kept_at_end = h.rows.kept_at_end;
-    dirty_at_end = λ d. absurd (no d);
+    dirty_at_end = λ d. absurd (false≢true d);
     not_both = λ both. not_dirty table.rows.torn both;
   };
   kept = h.kept;
@@ -260,9 +257,6 @@ plain-erase plan table h = record {
   number_pending = h.number_pending;
 }
   where
-    no : false ≡ true → ⊥
-    no e = cc
-
     not_dirty : (t : Bool) → IsTrue (t && false) → ⊥
     not_dirty true e = cc
     not_dirty false e = cc

@@ -99,10 +99,7 @@ any-one (x ∷ xs) (suc i) e = right (nat_lt 0 x) (list_any (nat_lt 0) xs) (any-
 old-void : (plan : Plan) (ring : Ring) (entry : Entry) (blob : List ℕ) → list_any (nat_lt 0) ring.counts ≡ false →
     (entry.page < oldest ring) ⊎ ((oldest ring ≤ entry.page) × (slice_get ring.counts (entry.page - oldest ring) ≡ Some 1) × (entry.page + reach_of plan entry blob < ring.next)) → entry.page < oldest ring
 old-void plan ring entry blob void (inl lt) = lt
-old-void plan ring entry blob void (inr w) = absurd (no (sym void ∙ any-one ring.counts (entry.page - oldest ring) w.1))
-  where
-    no : false ≡ true → ⊥
-    no k = cc
+old-void plan ring entry blob void (inr w) = absurd (false≢true (sym void ∙ any-one ring.counts (entry.page - oldest ring) w.1))
 
 pub held-old : (plan : Plan) (ring : Ring) (table : Table) → list_any (nat_lt 0) ring.counts ≡ false → AreIn plan ring table.entries → blob_end table ≤ oldest ring
 held-old plan ring table void inside = blob_end-most table (oldest ring) (λ i entry blob e k some. old-void plan ring entry blob void (inside i entry blob e k some))

@@ -1,6 +1,6 @@
 -- The data ring of a table as a list of bodies, and the same pages in the words of the model's image.
 use Rattle.std.proofs.Common.{◌≡◌, ℕ, zero, suc, ◌+◌, ◌-◌, ◌*◌, ◌%◌, ◌<◌, ◌≤◌, Bool, true, false, cond, ◌&&◌, ◌==◌, Option, Some, None, List, ◌++◌, length, take, drop, replicate, get_or, refl, sym, ◌∙◌, ap, subst, arith, ◌⊎◌, inl, inr, length-append, append_assoc, MatchBool}
-use Rattle.std.proofs.lemmas.Bool.{cases_lt, cases_Bool, eqb-true as is_same}
+use Rattle.std.proofs.lemmas.Bool.{cases_lt, cases_Bool, eqb-true as is_same, false≢true}
 use Rattle.std.proofs.lemmas.Nat.Gcd.{mod-eq-zero_of_dvd, dvd_of_mod-eq-zero}
 use Rattle.std.specs.List.{slice_get, sum}
 use Rattle.fl_flash.specs.Flash.{blank}
@@ -115,15 +115,12 @@ module _ (page : ℕ → List ℕ) (first : ℕ) (plan : Plan) (table : Table) (
     kept = λ i lt. let c = slice_get-some table.rows.counts i (omega (arith, state-count plan table, lt)) in kept i c.0 c.1;
     head = head table.rows.torn refl;
     ahead = λ clean j some few. blank_at (table.rows.next + j) (image.others j (omega arith)
-        (let len = state-count plan table in let k = facts.not_negative in omega (arith, few, len, k)) (λ d. absurd (no (sym clean ∙ d))));
+        (let len = state-count plan table in let k = facts.not_negative in omega (arith, few, len, k)) (λ d. absurd (false≢true (sym clean ∙ d))));
     waits = λ d all. let k = image.dirty d in absurd (not_blank (page (place (shape_in first plan) (table.rows.next + k.0))) (all k.0 (omega (arith, k.1)) k.2) k.3);
   }
     where
-      no : false ≡ true → ⊥
-      no e = cc
-
       not_blank : (p : List ℕ) → p ≡ blank plan.geometry.page → is_blank p ≡ false → ⊥
-      not_blank p e f = no (sym f ∙ (ap is_blank e ∙ blank-is plan.geometry.page))
+      not_blank p e f = false≢true (sym f ∙ (ap is_blank e ∙ blank-is plan.geometry.page))
 
       head : (t : Bool) → table.rows.torn ≡ t → MatchBool t (state_of_page (page (place (shape_in first plan) table.rows.next)) ≡ Torn) (page (place (shape_in first plan) table.rows.next) ≡ blank plan.geometry.page)
       head true e = (in_model table.rows.next).torn.1 (image.torn_next e)
@@ -162,9 +159,6 @@ module _ (page : ℕ → List ℕ) (first : ℕ) (plan : Plan) (table : Table) (
     others = λ k some few clear. by_dirty table.rows.dirty refl k some few clear;
   }
     where
-      no : false ≡ true → ⊥
-      no e = cc
-
       held : (i c : ℕ) → slice_get table.rows.counts i ≡ Some c →
           HoldsKept (shape_in first plan) (page_with plan (model.oldest table.rows + i) c (drop (sum (take i table.rows.counts)) table.entries)) (page (place (shape_in first plan) (model.oldest table.rows + i)))
       held i c e =

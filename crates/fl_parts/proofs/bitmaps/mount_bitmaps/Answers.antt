@@ -1,4 +1,5 @@
 use Rattle.std.proofs.Common.{◌≡◌, ◌*◌, ◌-◌, true, false, cond, Option, Some, IsTrue, sym, ◌∙◌, ap, subst}
+use Rattle.std.proofs.lemmas.Bool.{true≢false}
 use Rattle.fl_index.specs.declared.index.BitmapIndex.{BitmapIndex}
 use Rattle.fl_index.specs.Finding.{FindsEnd}
 use Rattle.fl_index.specs.Memory.{form_in, next_in, oldest_in}
@@ -8,7 +9,7 @@ use Rattle.fl_parts.specs.MountLimits.{IsIndexLimited}
 use Rattle.fl_parts.specs.IndexMount.{FewReads}
 use Rattle.fl_index.specs.declared.page.EntryForm.{EntryForm}
 use Rattle.fl_index.proofs.SealEnds.{planned-form}
-use Rattle.fl_parts.proofs.FoundReads.{not-both, found-few, found-spared, ok-then}
+use Rattle.fl_parts.proofs.FoundReads.{found-few, found-spared, ok-then}
 use Rattle.fl_parts.proofs.bitmaps.mount_bitmaps.Goals as goal
 
 pub returns-in-Some-clause-ends : goal.returns-in-Some-clause-ends
@@ -55,4 +56,4 @@ returns-in-Some-2-clause-limit g c = λ first plan table told.
     let new = g.F.Flash.state c.mount.new.flash in
     let bare : (form_in c.in-Some.index).full ≡ false = sym c.is_full.ensures ∙ c.if-is_full.false in
     subst (λ (o : Option BitmapIndex). IsIndexLimited o old first plan table new) (sym c.in-Some.is)
-    (λ planned rests full. absurd (not-both (sym full ∙ (sym (ap (λ (form : EntryForm). form.full) (planned-form c.in-Some.index first plan planned)) ∙ bare))))
+    (λ planned rests full. absurd (true≢false (sym full ∙ (sym (ap (λ (form : EntryForm). form.full) (planned-form c.in-Some.index first plan planned)) ∙ bare))))
