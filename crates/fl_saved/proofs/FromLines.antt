@@ -5,6 +5,7 @@ use Rattle.std.specs.List.{slice_get, slice_split, sum_by}
 use Rattle.std.proofs.Math.Nat.{mul-le-mul_right}
 use Rattle.std.proofs.lemmas.Bool.{eqb-true, ltb-false, or_parts}
 use Rattle.std.proofs.lemmas.List.Sums.{sum_by-take-le}
+use Rattle.std.proofs.lemmas.Option.{none-some, same_Some}
 use Rattle.fl_base.specs.declared.types.Geometry.{Geometry}
 use Rattle.fl_image.specs.Header.{IsAccepted}
 use Rattle.fl_image.proofs.AcceptedLines.{AreTaken, Stands, accepted-stands}
@@ -87,17 +88,11 @@ module _ (geometry : Geometry) (before : List Plan) (line : TableLine) (device :
 -- each plan that was taken
 taken-at : (geometry : Geometry) (before plans : List Plan) (i : ℕ) (plan : Plan) → first_fault (device_faults geometry) ≡ None → AreTaken geometry before plans → slice_get plans i ≡ Some plan
     → IsMadePlan plan × (plan.geometry ≡ geometry)
-taken-at geometry before [] i plan device taken e = absurd (none e)
-  where
-    none : ◌≡◌ {A = Option Plan} None (Some plan) → ⊥
-    none q = cc
+taken-at geometry before [] i plan device taken e = absurd (none-some plan e)
 taken-at geometry before (first ∷ plans) zero plan device taken e =
     let t = taken.0 in
-    let same : plan_of geometry t.line ≡ plan = t.plan_is ∙ some e in
+    let same : plan_of geometry t.line ≡ plan = t.plan_is ∙ same_Some first _ e in
     (subst IsMadePlan same (line-plan geometry before t.line device t.passes), ap (λ (p : Plan). p.geometry) (sym same))
-  where
-    some : ◌≡◌ {A = Option Plan} (Some first) (Some plan) → first ≡ plan
-    some q = cc
 taken-at geometry before (first ∷ plans) (suc i) plan device taken e = taken-at geometry (before ++ first ∷ []) plans i plan device taken.1 e
 
 pub here-from : (lines : Lines) (config : Config) (bytes : List ℕ) (place : ℕ) (plan : Plan) (table : Table) → IsAccepted lines → lines.device ≡ Some config.geometry → lines.plans ≡ config.plans

@@ -1,7 +1,8 @@
 -- A table of an image, and where a salvage looks for the pages of its rings.
-use Rattle.std.proofs.Common.{◌≡◌, ℕ, ◌+◌, ◌-◌, ◌*◌, ◌%◌, ◌<◌, ◌≤◌, Bool, true, cond, Option, Some, None, List, length, take, drop, sym, ◌∙◌, ap, arith}
+use Rattle.std.proofs.Common.{◌≡◌, ℕ, ◌+◌, ◌-◌, ◌*◌, ◌%◌, ◌<◌, ◌≤◌, Bool, true, cond, Some, None, List, length, take, drop, sym, ◌∙◌, ap, arith}
 use Rattle.std.specs.List.{sum_by}
 use Rattle.std.proofs.Math.Nat.{mul-le-mul_right}
+use Rattle.std.proofs.lemmas.Option.{same_Some}
 use Rattle.fl_model.specs.Facts.{IsTable}
 use Rattle.fl_model.specs.Image.{IsTableImage, bytes_at}
 use Rattle.fl_model.specs.Record.{Plan, Config, blocks_of, has_var, row_layout, row_len}
@@ -61,10 +62,7 @@ module _ (config : Config) (bytes : List ℕ) (place : ℕ) (plan : Plan) (table
 
   module _ (ring : _) (ring_is : (form_at config.plans place plan).var ≡ Some ring) (has : has_var plan ≡ true) where
     is-ring : record { first = var_first; pages = plan.var_blocks * plan.geometry.block; size = plan.geometry.page } ≡ ring
-    is-ring = some (sym (ap (λ (b : Bool). cond b (Some (record { first = var_first; pages = plan.var_blocks * plan.geometry.block; size = plan.geometry.page })) None) has) ∙ ring_is)
-      where
-        some : {A : Type 0} {a b : A} → ◌≡◌ {A = Option A} (Some a) (Some b) → a ≡ b
-        some q = cc
+    is-ring = same_Some _ _ (sym (ap (λ (b : Bool). cond b (Some (record { first = var_first; pages = plan.var_blocks * plan.geometry.block; size = plan.geometry.page })) None) has) ∙ ring_is)
 
     first_is : ring.first ≡ var_first
     first_is = ap (λ r. r.first) (sym is-ring)

@@ -1,6 +1,7 @@
 -- No blob of a table is longer than its plan allows, in each state of a run that began so.
 use Rattle.std.proofs.Common.{◌≡◌, ℕ, zero, suc, ◌+◌, ◌≤◌, Bool, true, false, cond, Option, Some, None, List, [], ◌∷◌, map, refl, sym, ◌∙◌, ap, subst, arith, inl, inr, MatchBool}
 use Rattle.std.specs.List.{slice_get}
+use Rattle.std.proofs.lemmas.Option.{none-some, same_Some}
 use Rattle.fl_base.specs.declared.types.CutKind.{CutKind}
 use Rattle.fl_model.specs.Entry.{blob_len}
 use Rattle.fl_model.specs.Record.{Record, Plan, Config, bytes_equal, has_log}
@@ -22,14 +23,8 @@ use Rattle.fl_saved.proofs.ShortTables.{Keeps, keeps-effect, keeps-seals, keeps-
 
 -- the plan of a table that was found by its name
 located-by : (start : ℕ) (plans : List Plan) (tables : List Table) (name : List ℕ) (at : Located) → located_from start plans tables name ≡ Some at → (k : ℕ) × (at.place ≡ start + k) × (slice_get plans k ≡ Some at.plan)
-located-by start [] tables name at e = absurd (none e)
-  where
-    none : None ≡ Some at → ⊥
-    none q = cc
-located-by start (plan ∷ plans) [] name at e = absurd (none e)
-  where
-    none : None ≡ Some at → ⊥
-    none q = cc
+located-by start [] tables name at e = absurd (none-some at e)
+located-by start (plan ∷ plans) [] name at e = absurd (none-some at e)
 located-by start (plan ∷ plans) (t ∷ tables) name at e = by_name (bytes_equal plan.name name) e (λ g. located-by (start + 1) plans tables name at g)
   where
     by_name : (b : Bool) → cond b (Some (record { place = start; plan = plan; table = t })) (located_from (start + 1) plans tables name) ≡ Some at →
@@ -246,11 +241,8 @@ short-blobs-stay = record {
   runs = λ config old moments place plan before after plan_is before_is short run after_is.
       keeps-lose plan.blob_limit after
       (both_at plan.blob_limit before after (slice_get old.tables place) (slice_get (end_of old moments).tables place) before_is after_is
-      (run-keeps config plan.blob_limit place old moments (λ other is. let same = same_plan (sym plan_is ∙ is) in let e : plan.blob_limit ≡ other.blob_limit = ap (λ (p : Plan). p.blob_limit) same in omega (arith, e)) run) short);
+      (run-keeps config plan.blob_limit place old moments (λ other is. let same = same_Some _ _ (sym plan_is ∙ is) in let e : plan.blob_limit ≡ other.blob_limit = ap (λ (p : Plan). p.blob_limit) same in omega (arith, e)) run) short);
 }
   where
-    same_plan : {a b : Plan} → ◌≡◌ {A = Option Plan} (Some a) (Some b) → a ≡ b
-    same_plan q = cc
-
     both_at : (limit : ℕ) (before after : Table) (a b : Option Table) → a ≡ Some before → b ≡ Some after → Both (Keeps limit) a b → Keeps limit before after
     both_at limit before after a b e k h = subst (λ (o : Option Table). Both (Keeps limit) (Some before) o) k (subst (λ (o : Option Table). Both (Keeps limit) o b) e h)

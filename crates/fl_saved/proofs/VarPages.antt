@@ -6,6 +6,7 @@ use Rattle.std.proofs.Math.Nat.{mul-le-mul_right}
 use Rattle.std.proofs.lemmas.Bool.{and_parts, eq-eqb, eqb-true, le-leb, leb-true, lt-leb, lt-ltb, le-ltb, ltb-true, ne_eqb, false≢true}
 use Rattle.std.proofs.lemmas.List.{take-append-le}
 use Rattle.std.proofs.lemmas.Nat.{mod_below}
+use Rattle.std.proofs.lemmas.Option.{none-some, same_Some}
 use Rattle.fl_mark.specs.Mark.{state_of_page}
 use Rattle.fl_model.specs.Agrees.{content_at as kept_content}
 use Rattle.fl_model.specs.Content.{ContentPage, content_page}
@@ -178,11 +179,8 @@ module _ (config : Config) (bytes : List ℕ) (place : ℕ) (plan : Plan) (table
           → IsKept kept (HoldsContent table kept) number (at number) ⊎ IsOther kept number (at number) → (content_at ring bytes number ≡ Some (used_of content)) × IsContent plan content
       by_case page one (inl k) =
           let i_is : number - oldest kept ≡ k.i = omega (arith, k.at) in
-          let same : k.holds.holds ≡ content = some_same (sym k.holds.is ∙ ap (λ i. slice_get table.var_pages (full_pages (take i kept.counts))) (sym i_is) ∙ page) in
+          let same : k.holds.holds ≡ content = same_Some _ _ (sym k.holds.is ∙ ap (λ i. slice_get table.var_pages (full_pages (take i kept.counts))) (sym i_is) ∙ page) in
           (kept-content number k ∙ ap (λ c. Some (used_of c)) same, subst (IsContent plan) same (held number k))
-        where
-          some_same : {a b : ContentPage} → ◌≡◌ {A = Option ContentPage} (Some a) (Some b) → a ≡ b
-          some_same q = cc
       by_case page one (inr o) = absurd (let none : 1 ≡ 0 = sym (ap (λ x. unwrap_or x 0) one) ∙ o.none in omega (arith, none))
 
       by_stands : (b : Bool) → page_stands kept number ≡ b → cond b (slice_get table.var_pages (full_pages (take (number - oldest kept) kept.counts))) None ≡ Some content
@@ -192,7 +190,4 @@ module _ (config : Config) (bytes : List ℕ) (place : ℕ) (plan : Plan) (table
           let whole = ring-facts.not_negative in
           let round = kept-round in
           by_case page s.1 (here number s.0 (omega (arith, lt, round, whole)))
-      by_stands false stands page = absurd (never page)
-        where
-          never : ◌≡◌ {A = Option ContentPage} None (Some content) → ⊥
-          never q = cc
+      by_stands false stands page = absurd (none-some content page)

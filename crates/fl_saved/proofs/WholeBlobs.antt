@@ -6,6 +6,7 @@ use Rattle.std.proofs.Math.Nat.{mod-add-div', mod-eq_of_lt, div-eq_of_lt}
 use Rattle.std.proofs.lemmas.Bool.{cases_lt, eq-eqb, le-leb, lt-leb}
 use Rattle.std.proofs.lemmas.List.{length-take-le, take-append-drop}
 use Rattle.std.proofs.lemmas.Nat.{mod-mul-add, div-mul-add, mod_below}
+use Rattle.std.proofs.lemmas.Option.{same_Some}
 use Rattle.fl_model.proofs.Lists.{slice_get-drop, slice_get-front, slice_get-short, slice_get-take}
 use Rattle.fl_salvage.specs.Blobs.{blob_from, joined, piece_in}
 use Rattle.fl_salvage.proofs.Pieces.{length-range}
@@ -16,10 +17,7 @@ same-lists [] [] len h = refl
 same-lists [] (y ∷ ys) len h = let no : ⊥ = omega (arith, len) in absurd no
 same-lists (x ∷ xs) [] len h = let no : ⊥ = omega (arith, len) in absurd no
 same-lists {X} (x ∷ xs) (y ∷ ys) len h =
-    ap (λ z. z ∷ xs) (some (h 0 y refl)) ∙ ap (λ l. y ∷ l) (same-lists xs ys (omega (arith, len)) (λ i z e. h (suc i) z e))
-  where
-    some : ◌≡◌ {A = Option X} (Some x) (Some y) → x ≡ y
-    some e = cc
+    ap (λ z. z ∷ xs) (same_Some x y (h 0 y refl)) ∙ ap (λ l. y ∷ l) (same-lists xs ys (omega (arith, len)) (λ i z e. h (suc i) z e))
 
 -- a whole room more leads to the next page
 next-room : (room y : ℕ) → 0 < room → ((room + y) / room ≡ y / room + 1) × ((room + y) % room ≡ y % room)
