@@ -4,7 +4,7 @@ use Rattle.std.specs.List.{last_or, slice_get}
 use Rattle.std.specs.Option.{is_some, option_map}
 use Rattle.std.proofs.lemmas.Bool.{cases_eq, cases_lt}
 use Rattle.std.proofs.lemmas.List.{append-nil, append_assoc}
-use Rattle.std.proofs.lemmas.Option.{slice_get-map}
+use Rattle.std.proofs.lemmas.Option.{slice_get-map, none-some}
 use Rattle.std.proofs.Math.Seq.{drop-length, take-append_seam, take-length}
 use Rattle.fl_model.specs.Puts.{Puts}
 use Rattle.fl_model.specs.Record.{Config, Plan, Record}
@@ -182,10 +182,7 @@ module _ (Bad : Type 0) (config : Config) (p : ℕ) (plan : Plan) (written : Lis
       order = subst (InOrder Bad) all h.order
 
       by_last : (o : Option Record) → last_or None written ≡ o → InOrder Bad (written ++ item ∷ [])
-      by_last None q = order-push Bad written item order (λ last k. absurd (none last (sym q ∙ k)))
-        where
-          none : (last : Record) → None ≡ Some last → ⊥
-          none last e = cc
+      by_last None q = order-push Bad written item order (λ last k. absurd (none-some last (sym q ∙ k)))
       by_last (Some last) q = by_order (cases_lt last.key item.key)
         where
           by_order : (last.key < item.key) ⊎ (item.key ≤ last.key) → InOrder Bad (written ++ item ∷ [])

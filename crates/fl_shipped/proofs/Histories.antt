@@ -1,9 +1,10 @@
 -- After each event the copy's table has a part of all that was ever written into the source's.
-use Rattle.std.proofs.Common.{◌≡◌, ℕ, suc, ◌+◌, Bool, true, false, cond, Option, Some, None, List, [], ◌∷◌, ◌++◌, length, map, drop, refl, sym, ◌∙◌, ap, subst, ◌⊎◌, inl, inr, arith}
+use Rattle.std.proofs.Common.{◌≡◌, ℕ, suc, ◌+◌, Bool, true, false, cond, Option, Some, List, [], ◌∷◌, ◌++◌, length, map, drop, refl, sym, ◌∙◌, ap, subst, ◌⊎◌, inl, inr, arith}
 use Rattle.std.specs.List.{slice_get}
 use Rattle.std.specs.Option.{unwrap_or}
 use Rattle.std.proofs.lemmas.List.{append-nil}
 use Rattle.std.proofs.Math.Seq.{drop-length, take-length}
+use Rattle.std.proofs.lemmas.Option.{none-some}
 use Rattle.fl_image.specs.Header.{IsMade}
 use Rattle.fl_machine.specs.Machine.{Machine, begins, fresh_tables}
 use Rattle.fl_machine.specs.Run.{Run, end_of}
@@ -28,9 +29,6 @@ use Rattle.fl_shipped.proofs.RunsGrow.{ascends-on, begins-kept, run-keeps}
 use Rattle.fl_shipped.proofs.Orders.{DropsFrom, drops-from, from-drop, from-more}
 use Rattle.fl_shipped.proofs.Pasts.{Past, past-begins, past-more, past-on, past-part}
 
-no-table : {X : Type 0} (x : X) → None ≡ Some x → ⊥
-no-table x e = cc
-
 -- the table of a name, and other tables at its place
 record IsPlace (start : ℕ) (plans : List Plan) (name : List ℕ) (a : Located) : Type 0 where
   k : ℕ
@@ -38,8 +36,8 @@ record IsPlace (start : ℕ) (plans : List Plan) (name : List ℕ) (a : Located)
   there : (ys : List Table) (t : Table) → slice_get ys k ≡ Some t → located_from start plans ys name ≡ Some (record { place = a.place; plan = a.plan; table = t })
 
 is-place : (start : ℕ) (plans : List Plan) (xs : List Table) (name : List ℕ) (a : Located) → located_from start plans xs name ≡ Some a → IsPlace start plans name a
-is-place start [] xs name a e = absurd (no-table a e)
-is-place start (plan ∷ plans) [] name a e = absurd (no-table a e)
+is-place start [] xs name a e = absurd (none-some a e)
+is-place start (plan ∷ plans) [] name a e = absurd (none-some a e)
 is-place start (plan ∷ plans) (x ∷ xs) name a e = by_name (bytes_equal plan.name name) refl e (is-place (start + 1) plans xs name a)
   where
     by_name : (b : Bool) → bytes_equal plan.name name ≡ b → cond b (Some (record { place = start; plan = plan; table = x })) (located_from (start + 1) plans xs name) ≡ Some a →
@@ -50,7 +48,7 @@ is-place start (plan ∷ plans) (x ∷ xs) name a e = by_name (bytes_equal plan.
         same = cc (e)
 
         there : (ys : List Table) (t : Table) → slice_get ys 0 ≡ Some t → located_from start (plan ∷ plans) ys name ≡ Some (record { place = a.place; plan = a.plan; table = t })
-        there [] t g = absurd (no-table t g)
+        there [] t g = absurd (none-some t g)
         there (y ∷ ys) t g =
             let found : located_from start (plan ∷ plans) (y ∷ ys) name ≡ Some (record { place = start; plan = plan; table = y }) =
             ap (λ (b : Bool). cond b (Some (record { place = start; plan = plan; table = y })) (located_from (start + 1) plans ys name)) q in
@@ -63,7 +61,7 @@ is-place start (plan ∷ plans) (x ∷ xs) name a e = by_name (bytes_equal plan.
         next = go e
 
         there : (ys : List Table) (t : Table) → slice_get ys (suc next.k) ≡ Some t → located_from start (plan ∷ plans) ys name ≡ Some (record { place = a.place; plan = a.plan; table = t })
-        there [] t g = absurd (no-table t g)
+        there [] t g = absurd (none-some t g)
         there (y ∷ ys) t g =
             ap (λ (b : Bool). cond b (Some (record { place = start; plan = plan; table = y })) (located_from (start + 1) plans ys name)) q ∙ next.there ys t g
 

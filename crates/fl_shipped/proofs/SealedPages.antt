@@ -5,6 +5,7 @@ use Rattle.std.specs.Option.{option_map}
 use Rattle.std.proofs.lemmas.List.{append-nil, append_assoc, drop-append-le, length-map, take-append-drop, take-append-le}
 use Rattle.std.proofs.lemmas.List.Concat.{flat_map-append}
 use Rattle.std.proofs.Math.Seq.{drop-length, take-length}
+use Rattle.std.proofs.lemmas.Option.{none-some}
 use Rattle.fl_model.specs.Record.{Record, Plan, entries_per_page, has_index, rows_per_page}
 use Rattle.fl_model.specs.Ring.{given_up}
 use Rattle.fl_model.specs.Table.{Table, Entry, RingName, DataRing, IndexRing, VarRing, LogRing, after_seal, after_seals, blob_len, fill, join_seals, make_room_seals, put_joined, put_record, refusal_of, seal_buffer, shape_of, start_offset, start_page, table_seals, with_record, with_room}
@@ -101,10 +102,7 @@ last-entry : (es : List Entry) (last : Record) → last_or None (records es) ≡
 last-entry es last e = by_some (last_or None es) refl (sym (last-kept None es) ∙ e)
   where
     by_some : (o : Option Entry) → last_or None es ≡ o → option_map (λ (w : Entry). w.kept) o ≡ Some last → (w : Entry) × (last_or None es ≡ Some w) × (w.kept ≡ last)
-    by_some None q k = absurd (none k)
-      where
-        none : None ≡ Some last → ⊥
-        none e = cc
+    by_some None q k = absurd (none-some last k)
     by_some (Some w) q k = (w, q, cc (k))
 
 -- a key that isn't refused is above the last, where the table has records
