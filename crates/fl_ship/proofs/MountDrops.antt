@@ -4,6 +4,7 @@ use Rattle.std.specs.List.{AllByRecursion, slice_get}
 use Rattle.std.specs.Option.{option_map, unwrap_or}
 use Rattle.std.proofs.lemmas.List.{drop_all, drop-take, length-map}
 use Rattle.std.proofs.lemmas.Bool.{cases_lt}
+use Rattle.std.proofs.lemmas.Option.{none-some}
 use Rattle.fl_base.specs.declared.types.CutKind.{CutKind}
 use Rattle.fl_model.specs.Mount.{Turn, Of, Replay, GoesOn, MountEnd, Mounted, Mounts, Stopped, Unread, operations_at, ready, turn_operations, turned, turned_at, turns_from}
 use Rattle.fl_model.specs.Record.{Plan, Record, has_log}
@@ -209,10 +210,7 @@ left-there p x xs ys e h = by_both (slice_get xs p) (slice_get ys p) e refl h
     by_both (Some y) (Some z) e k h = let same : y ≡ x = cc in record { table = z; is = k; drops = subst (λ (t : Table). DropsOldest t z) same h }
     by_both (Some y) None e k h = absurd h
     by_both None (Some z) e k h = absurd h
-    by_both None None e k h = absurd (none e)
-      where
-        none : None ≡ Some x → ⊥
-        none e = cc
+    by_both None None e k h = absurd (none-some x e)
 
 mount-oldest : (plans : List Plan) (plan : Plan) (p : ℕ) (rose : Bool) (device : Device) (tables : List Table) (how : MountEnd) → slice_get plans p ≡ Some plan → has_log plan ≡ false →
     Mounts plans rose (turns_from 0 plans) device tables how → OldestAt p tables (tables_left how)

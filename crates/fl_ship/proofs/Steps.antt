@@ -1,9 +1,9 @@
 -- A ship between two images is two steps of a shipment, however it ends.
-use Rattle.std.proofs.Common.{◌≡◌, ℕ, zero, suc, ◌+◌, ◌-◌, Bool, true, false, cond, not, ◌||◌, Some, None, Result, Ok, Err, List, [], ◌∷◌, ◌++◌, length, map, take, drop, refl, sym, ◌∙◌, ap, subst, arith, ◌⊎◌, inl, inr}
+use Rattle.std.proofs.Common.{◌≡◌, ℕ, zero, suc, ◌+◌, ◌-◌, Bool, true, false, cond, not, ◌||◌, Some, Result, Ok, Err, List, [], ◌∷◌, ◌++◌, length, map, take, drop, refl, sym, ◌∙◌, ap, subst, arith, ◌⊎◌, inl, inr}
 use Rattle.std.specs.List.{slice_get}
 use Rattle.std.specs.Option.{option_map}
 use Rattle.std.proofs.lemmas.List.{append-nil}
-use Rattle.std.proofs.lemmas.Option.{slice_get-map}
+use Rattle.std.proofs.lemmas.Option.{slice_get-map, none-some, same_Some}
 use Rattle.std.proofs.Math.Seq.{take-length}
 use Rattle.std.proofs.lemmas.Bool.{false≢true}
 use Rattle.fl_store.specs.Store.{at_rest}
@@ -34,25 +34,19 @@ use Rattle.fl_ship.specs.declared.status.ShipStatus.TheVariants.{BadImage, Devic
 use Rattle.fl_ship.proofs.KeptRecords.{ships-keep}
 use Rattle.fl_ship.proofs.MountDrops.{DropsOldest, IsLeft, lose-records, mount-drops, mounted-drops}
 
-no-table : {X : Type 0} (x : X) → None ≡ Some x → ⊥
-no-table x e = cc
-
-same-some : {X : Type 0} (x y : X) → Some x ≡ Some y → x ≡ y
-same-some x y e = cc (e)
-
 -- ---- tables between two runs
 
 -- nothing of them is in memory
 images-rest : (config : Config) (bytes : List ℕ) (place : ℕ) (plans : List Plan) (tables : List Table) (k : ℕ) (t : Table) → AreTableImages config bytes place plans tables → slice_get tables k ≡ Some t → t.pending ≡ 0
-images-rest config bytes place [] [] k t images e = absurd (no-table t e)
+images-rest config bytes place [] [] k t images e = absurd (none-some t e)
 images-rest config bytes place [] (x ∷ tables) k t images e = absurd images
 images-rest config bytes place (plan ∷ plans) [] k t images e = absurd images
-images-rest config bytes place (plan ∷ plans) (x ∷ tables) zero t images e = ap (λ (u : Table). u.pending) (sym (same-some x t e)) ∙ ap (λ (u : Table). u.pending) images.0.settled.lost
+images-rest config bytes place (plan ∷ plans) (x ∷ tables) zero t images e = ap (λ (u : Table). u.pending) (sym (same_Some x t e)) ∙ ap (λ (u : Table). u.pending) images.0.settled.lost
 images-rest config bytes place (plan ∷ plans) (x ∷ tables) (suc k) t images e = images-rest config bytes (place + 1) plans tables k t images.1 e
 
 fresh-rest : (plans : List Plan) (k : ℕ) (t : Table) → slice_get (map fresh_table plans) k ≡ Some t → t.pending ≡ 0
-fresh-rest [] k t e = absurd (no-table t e)
-fresh-rest (plan ∷ plans) zero t e = ap (λ (u : Table). u.pending) (sym (same-some (fresh_table plan) t e))
+fresh-rest [] k t e = absurd (none-some t e)
+fresh-rest (plan ∷ plans) zero t e = ap (λ (u : Table). u.pending) (sym (same_Some (fresh_table plan) t e))
 fresh-rest (plan ∷ plans) (suc k) t e = fresh-rest plans k t e
 
 pub copies-rest : (config : Config) (bytes : List ℕ) (copies : List Table) (k : ℕ) (t : Table) → IsCopy config bytes copies → slice_get copies k ≡ Some t → t.pending ≡ 0
@@ -63,17 +57,17 @@ copies-rest config bytes copies k t (inr (tables, image, same)) e =
 
 -- the place of a name is one, whatever the tables are
 one-place : (start : ℕ) (plans : List Plan) (xs ys : List Table) (name : List ℕ) (a b : Located) → located_from start plans xs name ≡ Some a → located_from start plans ys name ≡ Some b → (b.place ≡ a.place) × (b.plan ≡ a.plan)
-one-place start [] xs ys name a b e k = absurd (no-table a e)
-one-place start (plan ∷ plans) [] ys name a b e k = absurd (no-table a e)
-one-place start (plan ∷ plans) (x ∷ xs) [] name a b e k = absurd (no-table b k)
+one-place start [] xs ys name a b e k = absurd (none-some a e)
+one-place start (plan ∷ plans) [] ys name a b e k = absurd (none-some a e)
+one-place start (plan ∷ plans) (x ∷ xs) [] name a b e k = absurd (none-some b k)
 one-place start (plan ∷ plans) (x ∷ xs) (y ∷ ys) name a b e k = by_name (bytes_equal plan.name name) e k (one-place (start + 1) plans xs ys name a b)
   where
     by_name : (t : Bool) → cond t (Some (record { place = start; plan = plan; table = x })) (located_from (start + 1) plans xs name) ≡ Some a →
         cond t (Some (record { place = start; plan = plan; table = y })) (located_from (start + 1) plans ys name) ≡ Some b →
         (located_from (start + 1) plans xs name ≡ Some a → located_from (start + 1) plans ys name ≡ Some b → (b.place ≡ a.place) × (b.plan ≡ a.plan)) → (b.place ≡ a.place) × (b.plan ≡ a.plan)
     by_name true e k go =
-        let p = same-some (record { place = start; plan = plan; table = x }) a e in
-        let q = same-some (record { place = start; plan = plan; table = y }) b k in
+        let p = same_Some (record { place = start; plan = plan; table = x }) a e in
+        let q = same_Some (record { place = start; plan = plan; table = y }) b k in
         (ap (λ (l : Located). l.place) (sym q) ∙ ap (λ (l : Located). l.place) p, ap (λ (l : Located). l.plan) (sym q) ∙ ap (λ (l : Located). l.plan) p)
     by_name false e k go = go e k
 
@@ -194,12 +188,12 @@ module _ (config : Config) (sources copies : List Table) (name : List ℕ) (byte
       source_drops : DropsOldest source m.from.table
       source_drops =
           let left = mounted-drops config.plans plan place m.source.rose at_rest sources m.source.end source (found b).plan none (found b).table m.source.did in
-          subst (λ (t : Table). DropsOldest source t) (same-some left.table m.from.table (sym left.is ∙ from.there)) left.drops
+          subst (λ (t : Table). DropsOldest source t) (same_Some left.table m.from.table (sym left.is ∙ from.there)) left.drops
 
       copy_drops : DropsOldest copy m.to.table
       copy_drops =
           let left = mounted-drops config.plans plan place m.copy.rose at_rest copies m.copy.end copy (found b).plan none b.copy_there m.copy.did in
-          subst (λ (t : Table). DropsOldest copy t) (same-some left.table m.to.table (sym left.is ∙ to.there)) left.drops
+          subst (λ (t : Table). DropsOldest copy t) (same_Some left.table m.to.table (sym left.is ∙ to.there)) left.drops
 
   -- records were shipped
   so-leads : Before → (count : ℕ) (result : Result ℕ ShipFault) (y z after : Table) → DropsOldest source y → ShipsSo count result plan y z after → Leads y z after
@@ -272,7 +266,7 @@ module _ (config : Config) (sources copies : List Table) (name : List ℕ) (byte
   -- a table of this form has no log
   formed : Before → IsOfForm config sources name true → has_log plan ≡ false
   formed b f =
-      let same = same-some f.at (record { place = place; plan = plan; table = source }) (sym f.found ∙ b.located) in
+      let same = same_Some f.at (record { place = place; plan = plan; table = source }) (sym f.found ∙ b.located) in
       no-log plan (sym (ap (λ (l : Located). is_shipped l.plan) same) ∙ f.form)
 
   ships-over : (count : ℕ) (told : Told) (status : ShipStatus) → Before → ShipsOver config sources copies name count told bytes status → Steps
@@ -309,7 +303,7 @@ module _ (config : Config) (sources copies : List Table) (name : List ℕ) (byte
   ships count told (Device Copy) b (inl (rose, inr h)) = inl (refl, h)
   ships count told (Device Copy) b (inr h) = inr (ships-over count told (Device Copy) b h)
   ships count told (BadImage side table) b h = inr (ships-over count told (BadImage side table) b h)
-  ships count told NoTable b h = absurd (no-table (record { place = place; plan = plan; table = source }) (sym h.0 ∙ b.located))
+  ships count told NoTable b h = absurd (none-some (record { place = place; plan = plan; table = source }) (sym h.0 ∙ b.located))
   ships count told (Gap last oldest) b h = inr (ships-over count told (Gap last oldest) b h)
   ships count told OtherForm b h = inr (unbegun told b h.1)
   ships count told Spent b h = inr (ships-over count told Spent b h)

@@ -3,6 +3,7 @@ use Rattle.std.proofs.Common.{◌≡◌, ℕ, ◌+◌, ◌-◌, ◌^◌, ◌<◌
 use Rattle.std.specs.List.{AllByRecursion, filter, last_or}
 use Rattle.std.specs.Option.{option_map, unwrap_or}
 use Rattle.std.proofs.lemmas.Bool.{le-leb, leb-true, ltb-true, ltb-false, eqb-true}
+use Rattle.std.proofs.lemmas.Option.{same_Some}
 use Rattle.fl_base.specs.declared.types.KeyRange.{KeyRange}
 use Rattle.fl_cursor.proofs.Selected.{range-at}
 use Rattle.fl_model.specs.Facts.{BlobFits, FitsPlan}
@@ -75,20 +76,17 @@ next-le last key = by-test (nat_lt last key) refl
         not-le true e le = let more = leb-true (last + 1) key e in absurd (omega (arith, more, le))
         not-le false e le = refl
 
-some-range : (a b : KeyRange) → Some a ≡ Some b → a ≡ b
-some-range a b e = cc
-
 no-range : {P : Type 0} (range : KeyRange) → None ≡ Some range → P
 no-range range e = absurd (cc e)
 
 in-range-is : (last : Option Entry) (range : KeyRange) (item : Record) → keys_above (key_of last) ≡ Some range → item.key ≤ 2 ^ 64 - 1 →
     in_range range item.key ≡ unwrap_or (option_map (λ (other : Record). nat_lt other.key item.key) (option_map (λ (entry : Entry). entry.kept) last)) true
-in-range-is None range item is within = subst (λ (r : KeyRange). in_range r item.key ≡ true) (some-range _ range is) (range-at 0 (2 ^ 64 - 1) item.key within ∙ le-leb 0 item.key (omega arith))
+in-range-is None range item is within = subst (λ (r : KeyRange). in_range r item.key ≡ true) (same_Some _ range is) (range-at 0 (2 ^ 64 - 1) item.key within ∙ le-leb 0 item.key (omega arith))
 in-range-is (Some entry) range item is within = by-test (entry.kept.key == 2 ^ 64 - 1) is
   where
     by-test : (b : Bool) → (if b then None else Some (above entry.kept.key)) ≡ Some range → in_range range item.key ≡ nat_lt entry.kept.key item.key
     by-test true is = no-range range is
-    by-test false is = subst (λ (r : KeyRange). in_range r item.key ≡ nat_lt entry.kept.key item.key) (some-range _ range is) (range-at (entry.kept.key + 1) (2 ^ 64 - 1) item.key within ∙ next-le entry.kept.key item.key)
+    by-test false is = subst (λ (r : KeyRange). in_range r item.key ≡ nat_lt entry.kept.key item.key) (same_Some _ range is) (range-at (entry.kept.key + 1) (2 ^ 64 - 1) item.key within ∙ next-le entry.kept.key item.key)
 
 -- the rows of the keys above its last one
 pub rows-to-ship : (source copy : Table) (last : Option ℕ) (range : KeyRange) → last ≡ option_map (λ (entry : Entry). entry.kept.key) (last_entry copy) → keys_above last ≡ Some range → AllByRecursion IsPlain source.entries →
