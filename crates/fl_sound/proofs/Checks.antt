@@ -3,6 +3,7 @@ use Rattle.std.proofs.Common.{◌≡◌, ℕ, suc, ◌+◌, inl, inr, true, Opti
 use Rattle.std.specs.List.{slice_get}
 use Rattle.std.proofs.lemmas.List.{length-map}
 use Rattle.std.proofs.lemmas.Bool.{true≢false}
+use Rattle.std.proofs.lemmas.Option.{same_Some}
 use Rattle.fl_base.specs.Causes.{IsFront, Appends, AppendsFront}
 use Rattle.fl_base.specs.declared.types.Geometry.{Geometry}
 use Rattle.fl_config.specs.Whole.{Makes}
@@ -27,13 +28,10 @@ use Rattle.fl_image.proofs.Made.{made-by}
 use Rattle.fl_sound.proofs.Scripts.{made}
 use Rattle.fl_sound.proofs.Whole.{table-sound, image-sound, run-sound, check-sound}
 
-same-geometry : {a b : Geometry} → ◌≡◌ {A = Option Geometry} (Some a) (Some b) → a ≡ b
-same-geometry q = cc
-
 -- the same lines make the same header and the same length
 module _ (lines : Lines) (a b : Config) (makes_a : Makes lines a) (makes_b : Makes lines b) where
   one-geometry : a.geometry ≡ b.geometry
-  one-geometry = same-geometry (sym (made-by lines a makes_a).device_is ∙ (made-by lines b makes_b).device_is)
+  one-geometry = same_Some _ _ (sym (made-by lines a makes_a).device_is ∙ (made-by lines b makes_b).device_is)
 
   one-plans : a.plans ≡ b.plans
   one-plans = sym (made-by lines a makes_a).plans_are ∙ (made-by lines b makes_b).plans_are

@@ -1,8 +1,8 @@
 -- The rule on the entries of an index holds where its pages are those of a table's index.
-use Rattle.std.proofs.Common.{◌≡◌, ◌⊎◌, inl, inr, ℕ, zero, suc, ◌+◌, ◌<◌, ◌≤◌, Bool, true, false, cond, ◌||◌, nat_lt, Option, Some, None, IfSome, IsTrue, List, [], ◌∷◌, length, take, refl, sym, ◌∙◌, ap, subst, arith}
+use Rattle.std.proofs.Common.{◌≡◌, ◌⊎◌, inl, inr, ℕ, zero, suc, ◌+◌, ◌<◌, ◌≤◌, Bool, cond, nat_lt, Option, Some, None, IfSome, IsTrue, List, [], ◌∷◌, length, take, refl, sym, ◌∙◌, ap, subst, arith}
 use Rattle.std.specs.List.{slice_get, last_or}
 use Rattle.std.specs.Option.{option_map, unwrap_or}
-use Rattle.std.proofs.lemmas.Bool.{cases_Bool, cases_lt, lt-ltb, ltb-true, ltb-false}
+use Rattle.std.proofs.lemmas.Bool.{cases_Bool, cases_lt, lt-ltb, ltb-true, ltb-false, or_parts}
 use Rattle.std.proofs.lemmas.List.{take_all}
 use Rattle.fl_index.specs.Page.{page_first, found_at, full_at}
 use Rattle.fl_index.specs.Standing.{HasIndex}
@@ -117,7 +117,7 @@ module _ (plan : Plan) (page : ℕ → List ℕ) (x d : Shape) (at_least : ℕ) 
     kept-entry l bytes j m c at here tells = elim (cases_Bool (is_told plan c)) [
       | inl is ↦ by_entry (slice_get l j) refl (tells is)
       | inr none ↦
-          let parts = neither plan.full_index (nat_lt 0 c) none in
+          let parts = or_parts plan.full_index (nat_lt 0 c) none in
           let void = ltb-false 0 c parts.1 in
           untold m (here ∙ ap (λ (k : ℕ). Some k) (omega (arith, void))) (found_at (plan_form plan) bytes j) (ap (λ (b : Bool). cond b (Some (full_at (plan_form plan) bytes j)) None) parts.0)
     ]
@@ -125,10 +125,6 @@ module _ (plan : Plan) (page : ℕ → List ℕ) (x d : Shape) (at_least : ℕ) 
         by_entry : (o : Option IndexEntry) → slice_get l j ≡ o → TellsAt plan (rows_at table m c) o → TellsPage layout (page (kept_page d n.marks m)) (found_at (plan_form plan) bytes j)
         by_entry None e h = absurd h
         by_entry (Some entry) e h = told m c here bytes j entry (at entry e) h
-
-        neither : (a b : Bool) → (a || b) ≡ false → (a ≡ false) × (b ≡ false)
-        neither true b e = cc
-        neither false b e = (refl, e)
 
     -- where an index page ends
     end-below : (i : ℕ) → (l : ListsPages plan table ring i (page (kept_page x index.marks i))) → l.first + entries_per_page plan ≤ index_end plan table

@@ -3,7 +3,7 @@ use Rattle.std.proofs.Common.{◌≡◌, inl, inr, ℕ, zero, suc, ◌+◌, ◌-
 use Rattle.std.specs.List.{slice_get, list_any, AllByRecursion}
 use Rattle.std.proofs.lemmas.Bool.{cases_Bool, cases_lt, lt-ltb, true≢false}
 use Rattle.std.proofs.lemmas.List.{length-map}
-use Rattle.std.proofs.lemmas.Option.{slice_get-map}
+use Rattle.std.proofs.lemmas.Option.{slice_get-map, none-some, same_Some}
 use Rattle.std.proofs.Math.Nat.{div-le_self, mul-le-mul_right}
 use Rattle.fl_base.specs.declared.types.RingPlace.{RingPlace}
 use Rattle.fl_flash.specs.Flash.{FlashState, page_at}
@@ -50,10 +50,7 @@ use Rattle.fl_sound.proofs.RingSound.{SoundRing, AreFormed, sizes, formed-bodies
 
 -- where each page with a body counts some rows, the counts tell which pages have one
 counts-some : (kept : List (Option (List ℕ))) (i c : ℕ) → slice_get (map (page_count rows_of) kept) i ≡ Some c → IfSome (get_or kept i None) (λ body. 0 < rows_of body) → is_some (get_or kept i None) ≡ nat_lt 0 c
-counts-some [] i c e some = absurd (none e)
-  where
-    none : ◌≡◌ {A = Option ℕ} None (Some c) → ⊥
-    none k = cc
+counts-some [] i c e some = absurd (none-some c e)
 counts-some (None ∷ kept) zero c e some = ap (nat_lt 0) (same e)
   where
     same : ◌≡◌ {A = Option ℕ} (Some 0) (Some c) → 0 ≡ c
@@ -66,10 +63,7 @@ counts-some (x ∷ kept) (suc i) c e some = counts-some kept i c e some
 
 -- the count of a page that isn't void, among those that aren't
 count-at : (counts : List ℕ) (i c : ℕ) → slice_get counts i ≡ Some c → 0 < c → slice_get (filter (nat_lt 0) counts) (full_pages (take i counts)) ≡ Some c
-count-at [] i c e some = absurd (none e)
-  where
-    none : ◌≡◌ {A = Option ℕ} None (Some c) → ⊥
-    none k = cc
+count-at [] i c e some = absurd (none-some c e)
 count-at (x ∷ counts) zero c e some =
     let same : x ≡ c = cc in
     ap (λ (b : Bool). slice_get (cond b (x ∷ filter (nat_lt 0) counts) (filter (nat_lt 0) counts)) 0) (lt-ltb 0 x (omega (arith, same, some))) ∙ ap (λ (n : ℕ). Some n) same
@@ -196,13 +190,10 @@ module _ (label : Label) (config : TableConfig) (at : RingPlace) (f : FlashState
         let own = slice_get-map (λ (rows : List Entry). length rows) (log_pages table) k ∙ ap (λ (o : Option (List Entry)). option_map (λ (rows : List Entry). length rows) o) h.is in
         record {
           rows = h.holds;
-          count_is = same (sym own ∙ counts);
+          count_is = same_Some _ _ (sym own ∙ counts);
           fit = each-at (IsLogPage plan) (log_pages table) k h.holds pages-are.fit h.is;
           bytes = h.bytes;
         }
-      where
-        same : {a b : ℕ} → ◌≡◌ {A = Option ℕ} (Some a) (Some b) → a ≡ b
-        same q = cc
 
     count-few : (i c : ℕ) → slice_get ring.counts i ≡ Some c → c ≤ rows_per_page (with_log at.blocks (plan_of_table label config))
     count-few i c e = each-at (λ (count : ℕ). count ≤ rows_per_page plan) ring.counts i c pages-are.few e

@@ -3,6 +3,7 @@ use Rattle.std.proofs.Common.{◌≡◌, ◌⊎◌, inl, inr, ℕ, zero, suc, �
 use Rattle.std.specs.List.{slice_get, sum}
 use Rattle.std.specs.Option.{option_map}
 use Rattle.std.proofs.lemmas.Bool.{ltb-true, lt-ltb, ne_eqb}
+use Rattle.std.proofs.lemmas.Option.{none-some, same_Some}
 use Rattle.fl_base.specs.declared.types.BlobRef.{BlobRef}
 use Rattle.fl_mark.specs.Mark.{state_of_page}
 use Rattle.fl_model.specs.Agrees.{BlobsOf, HoldsBlob, content_at, reach_of}
@@ -33,10 +34,7 @@ pub record EntryOf (entries : List Entry) (i : ℕ) (row : Row) : Type 0 where
   pub is : stored_row entry ≡ row
 
 pub entry-of : (entries : List Entry) (i : ℕ) (row : Row) → slice_get (map stored_row entries) i ≡ Some row → EntryOf entries i row
-entry-of [] i row e = absurd (none e)
-  where
-    none : ◌≡◌ {A = Option Row} None (Some row) → ⊥
-    none k = cc
+entry-of [] i row e = absurd (none-some row e)
 entry-of (x ∷ entries) zero row e = record { entry = x; here = refl; is = some e }
   where
     some : ◌≡◌ {A = Option Row} (Some (stored_row x)) (Some row) → stored_row x ≡ row
@@ -49,29 +47,17 @@ ends-start so_far [] = omega arith
 ends-start so_far (row ∷ rows) = let k = ends-start (max so_far (reference_end row.blob)) rows in omega (arith, k)
 
 ends-behind : (so_far : ℕ) (rows : List Row) (i : ℕ) (row : Row) → slice_get rows i ≡ Some row → reference_end row.blob ≤ blobs_end so_far rows
-ends-behind so_far [] i row e = absurd (none e)
-  where
-    none : ◌≡◌ {A = Option Row} None (Some row) → ⊥
-    none k = cc
+ends-behind so_far [] i row e = absurd (none-some row e)
 ends-behind so_far (x ∷ rows) zero row e =
-    let same : x ≡ row = some e in
+    let same : x ≡ row = same_Some _ _ e in
     let k = ends-start (max so_far (reference_end x.blob)) rows in
     let r : reference_end x.blob ≡ reference_end row.blob = ap (λ (y : Row). reference_end y.blob) same in
     omega (arith, k, r)
-  where
-    some : ◌≡◌ {A = Option Row} (Some x) (Some row) → x ≡ row
-    some k = cc
 ends-behind so_far (x ∷ rows) (suc i) row e = ends-behind (max so_far (reference_end x.blob)) rows i row e
 
 row-at : (entries : List Entry) (i : ℕ) (entry : Entry) → slice_get entries i ≡ Some entry → slice_get (map stored_row entries) i ≡ Some (stored_row entry)
-row-at [] i entry e = absurd (none e)
-  where
-    none : ◌≡◌ {A = Option Entry} None (Some entry) → ⊥
-    none k = cc
-row-at (x ∷ entries) zero entry e = ap (λ (y : Entry). Some (stored_row y)) (some e)
-  where
-    some : ◌≡◌ {A = Option Entry} (Some x) (Some entry) → x ≡ entry
-    some k = cc
+row-at [] i entry e = absurd (none-some entry e)
+row-at (x ∷ entries) zero entry e = ap (λ (y : Entry). Some (stored_row y)) (same_Some x entry e)
 row-at (x ∷ entries) (suc i) entry e = row-at entries i entry e
 
 -- where the blobs of a table stand

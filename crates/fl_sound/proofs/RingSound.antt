@@ -3,6 +3,7 @@ use Rattle.std.proofs.Common.{◌≡◌, ℕ, zero, suc, ◌+◌, ◌*◌, ◌%�
 use Rattle.std.specs.List.{slice_get}
 use Rattle.std.proofs.lemmas.Bool.{ltb-true, lt-ltb}
 use Rattle.std.proofs.Math.Nat.{mod-lt, mul-le-mul_right, add-mul}
+use Rattle.std.proofs.lemmas.Option.{none-some}
 use Rattle.fl_base.specs.declared.types.Geometry.{Geometry}
 use Rattle.fl_flash.specs.Flash.{FlashState, page_at, pages}
 use Rattle.fl_flash.specs.Places.{extent}
@@ -25,10 +26,7 @@ use Rattle.fl_sound.proofs.RingReads.{IsOf, reads}
 -- where each body has a count, the counts tell which pages have one
 pub counts-some : (count_of : List ℕ → ℕ) → ((body : List ℕ) → 0 < count_of body) → (kept : List (Option (List ℕ))) (i c : ℕ) → slice_get (map (page_count count_of) kept) i ≡ Some c
     → is_some (get_or kept i None) ≡ nat_lt 0 c
-counts-some count_of some [] i c e = absurd (none e)
-  where
-    none : ◌≡◌ {A = Option ℕ} None (Some c) → ⊥
-    none k = cc
+counts-some count_of some [] i c e = absurd (none-some c e)
 counts-some count_of some (None ∷ kept) zero c e = ap (nat_lt 0) (same e)
   where
     same : ◌≡◌ {A = Option ℕ} (Some 0) (Some c) → 0 ≡ c

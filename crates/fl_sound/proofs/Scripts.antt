@@ -1,6 +1,7 @@
 -- The configuration of a script is made by lines that are accepted.
 use Rattle.std.proofs.Common.{◌≡◌, ℕ, ◌+◌, Option, Some, None, Result, Ok, Err, List, [], ◌∷◌, ◌++◌, refl, sym, ◌∙◌, ap}
 use Rattle.std.specs.Option.{option_and_then}
+use Rattle.std.proofs.lemmas.Option.{same_Some}
 use Rattle.fl_base.specs.declared.types.Geometry.{Geometry}
 use Rattle.fl_config.specs.Whole.{Makes}
 use Rattle.fl_image.specs.Header.{unless_refused, after_command, after_lines, IsMade}
@@ -15,10 +16,7 @@ use Rattle.fl_words.specs.Grammar.{LineFault, command_of}
 after-next : (text : List ℕ) (before now : Lines) → after_command before (command_of text) ≡ Some now → (texts : List (List ℕ)) (start : Lines) → after_lines start texts ≡ Some before
     → after_lines start (texts ++ text ∷ []) ≡ Some now
 after-next text before now e [] start h =
-    ap (λ (l : Lines). after_lines l (text ∷ [])) (some h) ∙ ap (λ (o : Option Lines). option_and_then (λ next. after_lines next []) o) e
-  where
-    some : ◌≡◌ {A = Option Lines} (Some start) (Some before) → start ≡ before
-    some q = cc
+    ap (λ (l : Lines). after_lines l (text ∷ [])) (same_Some start before h) ∙ ap (λ (o : Option Lines). option_and_then (λ next. after_lines next []) o) e
 after-next text before now e (x ∷ texts) start h = by_first (after-next text before now e texts) (after_command start (command_of x)) h
   where
     by_first : ((s : Lines) → after_lines s texts ≡ Some before → after_lines s (texts ++ text ∷ []) ≡ Some now) → (o : Option Lines) → option_and_then (λ next. after_lines next texts) o ≡ Some before

@@ -4,6 +4,7 @@ use Rattle.std.specs.List.{slice_get, list_any, AllByRecursion}
 use Rattle.std.proofs.lemmas.Bool.{cases_Bool, lt-ltb, false≢true}
 use Rattle.std.proofs.lemmas.List.{take_all}
 use Rattle.std.proofs.Math.Nat.{mul-le-mul_right}
+use Rattle.std.proofs.lemmas.Option.{same_Some}
 use Rattle.fl_base.specs.declared.types.RingPlace.{RingPlace}
 use Rattle.fl_flash.specs.Flash.{FlashState, page_at}
 use Rattle.fl_model.specs.Facts.{IsContent, is_some_ring, counts_in}
@@ -217,14 +218,11 @@ module _ (label : Label) (config : TableConfig) (f : FlashState) (table : Table)
     used number content low e k =
         let there : model.oldest ring + (number - model.oldest ring) ≡ number = omega (arith, low) in
         let h = pages-are.image.kept (number - model.oldest ring) 1 e (omega arith) in
-        let same : h.holds ≡ content = some_same (sym h.is ∙ k) in
+        let same : h.holds ≡ content = same_Some _ _ (sym h.is ∙ k) in
         let fit = each-at (IsContent plan) table.var_pages (full_pages (take (number - model.oldest ring) ring.counts)) h.holds pages-are.fit h.is in
         let page = page_at f (place r (model.oldest ring + (number - model.oldest ring))) in
         let count = content_used page (model.oldest ring + (number - model.oldest ring)) plan h.holds fit h.bytes (omega (arith, size (model.oldest ring + (number - model.oldest ring)), is.fits.limits.geometry.page_high)) in
         sym (ap (λ (n : ℕ). page_count (page_at f (place r n))) there) ∙ count ∙ ap (λ (c : ContentPage). c.used) same
-      where
-        some_same : {a b : ContentPage} → ◌≡◌ {A = Option ContentPage} (Some a) (Some b) → a ≡ b
-        some_same q = cc
 
     blobs : HasBlobs plan table ring (λ number. page_at f (place r number))
     blobs = record {

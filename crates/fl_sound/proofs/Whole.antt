@@ -2,7 +2,7 @@
 use Rattle.std.proofs.Common.{◌≡◌, ℕ, zero, suc, ◌+◌, ◌*◌, ◌≤◌, true, IsTrue, nat_lt, Option, Some, None, IfSome, List, [], ◌∷◌, length, map, take, refl, sym, ◌∙◌, ap, subst, arith}
 use Rattle.std.specs.List.{slice_get, sum, sum_by}
 use Rattle.std.specs.Option.{option_map}
-use Rattle.std.proofs.lemmas.Option.{slice_get-map}
+use Rattle.std.proofs.lemmas.Option.{slice_get-map, none-some, same_Some}
 use Rattle.fl_base.specs.declared.types.Geometry.{Geometry}
 use Rattle.fl_base.specs.declared.types.RingPlace.{RingPlace}
 use Rattle.fl_flash.specs.Flash.{FlashState, page_at}
@@ -157,20 +157,12 @@ table-sound config log f plan table h =
 -- the i-th table of an image
 table-image : (config : Config) (bytes : List ℕ) (start : ℕ) (plans : List Plan) (tables : List Table) (i : ℕ) (plan : Plan) (table : Table) → AreTableImages config bytes start plans tables
     → slice_get plans i ≡ Some plan → slice_get tables i ≡ Some table → IsTableImage config bytes (start + i) plan table
-table-image config bytes start [] tables i plan table h e k = absurd (none e)
-  where
-    none : ◌≡◌ {A = Option Plan} None (Some plan) → ⊥
-    none q = cc
+table-image config bytes start [] tables i plan table h e k = absurd (none-some plan e)
 table-image config bytes start (p ∷ plans) [] i plan table h e k = absurd h
 table-image config bytes start (p ∷ plans) (x ∷ tables) zero plan table h e k =
     subst (λ (n : ℕ). IsTableImage config bytes n plan table) (let q : start ≡ start + 0 = omega arith in q)
-    (subst (λ (y : Table). IsTableImage config bytes start plan y) (same_table k) (subst (λ (y : Plan). IsTableImage config bytes start y x) (same_plan e) h.0))
-  where
-    same_plan : ◌≡◌ {A = Option Plan} (Some p) (Some plan) → p ≡ plan
-    same_plan q = cc
+    (subst (λ (y : Table). IsTableImage config bytes start plan y) (same_Some x table k) (subst (λ (y : Plan). IsTableImage config bytes start y x) (same_Some p plan e) h.0))
 
-    same_table : ◌≡◌ {A = Option Table} (Some x) (Some table) → x ≡ table
-    same_table q = cc
 table-image config bytes start (p ∷ plans) (x ∷ tables) (suc i) plan table h e k =
     subst (λ (n : ℕ). IsTableImage config bytes n plan table) (let q : start + 1 + i ≡ start + suc i = omega arith in q) (table-image config bytes (start + 1) plans tables i plan table h.1 e k)
 
@@ -214,10 +206,7 @@ check-sound config lines bytes tables i table finding device plans image table_i
       fits = fits h.config h.flash h.lies;
       content = h.content;
       start = h.over.start;
-      geometry = same_geometry (sym h.over.device ∙ device);
+      geometry = same_Some _ _ (sym h.over.device ∙ device);
       blocks = h.over.blocks ∙ ap (sum_by blocks_of) plans;
     }) in
     here.alone finding h.finds
-  where
-    same_geometry : {a b : Geometry} → ◌≡◌ {A = Option Geometry} (Some a) (Some b) → a ≡ b
-    same_geometry q = cc
