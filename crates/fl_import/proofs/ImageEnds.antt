@@ -2,7 +2,7 @@
 use Rattle.std.proofs.Common.{◌≡◌, ℕ, ◌<◌, ◌⊎◌, inl, inr, Bool, false, IsTrue, IfSome, Option, Some, None, List, length, refl, sym, ◌∙◌, ap, subst, arith}
 use Rattle.std.specs.Prelude.{find}
 use Rattle.std.specs.List.{slice_get}
-use Rattle.std.proofs.lemmas.Option.{slice_get_within}
+use Rattle.std.proofs.lemmas.Option.{slice_get_within, none-some}
 use Rattle.fl_base.specs.Causes.{Rose}
 use Rattle.fl_csv.specs.declared.record.GoneBlobs.{GoneBlobs}
 use Rattle.fl_csv.specs.declared.record.LineForm.{LineForm}
@@ -136,15 +136,12 @@ module _ (bytes name : List ℕ) (text rest : Option (List ℕ)) (lines : Lines)
       Some-of : ℕ → Bool → List ℕ → Type 0
       Some-of columns blobs l = TakesSome columns blobs l rest
 
-      no-text : (l : List ℕ) → None ≡ Some l → ⊥
-      no-text l e = cc
-
       by-end : (l : List ℕ) → text ≡ Some l → (rest ≡ Some l) ⊎ TakesSome (length at-plan.0.columns) (has_var at-plan.0) l rest → MayTake bytes name text rest
       by-end l e (inl none) = inl (none ∙ sym e)
       by-end l e (inr some) = inr (for-own (λ columns blobs l. TakesSome columns blobs l rest) (λ k is. subst (λ (x : List ℕ). TakesSome (length at-plan.0.columns) (has_var at-plan.0) x rest) (some-is text l k e is) some))
 
       by-text : (t : Option (List ℕ)) → text ≡ t → MayTake bytes name text rest
-      by-text None e = inr (for-own (λ columns blobs l. TakesSome columns blobs l rest) (λ l is. absurd (no-text l (sym e ∙ is))))
+      by-text None e = inr (for-own (λ columns blobs l. TakesSome columns blobs l rest) (λ l is. absurd (none-some l (sym e ∙ is))))
       by-text (Some l) e = by-end l e (h l e)
 
   pub fits-table : (status : ToolStatus) → IsOfMounted status → ((table : ℕ) → status ≡ BadImage table → table < length lines.plans) → ((table : ℕ) → status ≡ BadImage table → rest ≡ text) →

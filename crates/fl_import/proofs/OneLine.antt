@@ -1,6 +1,7 @@
 -- One line of an import over a table that is mounted.
 use Rattle.std.proofs.Common.{None, ◌≡◌, ℕ, ◌⊎◌, inl, inr, Bool, false, IsErr, IfErr, Option, Some, Result, Ok, Err, List, [], ◌++◌, refl, sym, ◌∙◌, ap, subst}
 use Rattle.std.proofs.lemmas.Bool.{true≢false}
+use Rattle.std.proofs.lemmas.Option.{none-some}
 use Rattle.fl_base.specs.Causes.{Rose, HasCause, Appends, AppendsFront}
 use Rattle.fl_base.specs.declared.stream.SinkFailed.{SinkFailed}
 use Rattle.fl_csv.specs.declared.record.GoneBlobs.{GoneBlobs}
@@ -43,9 +44,6 @@ use Rattle.fl_store.specs.Works.{Works}
 use Rattle.fl_store.proofs.Failing.{put-work}
 use Rattle.fl_store.proofs.Works.{works-broken, works-done, works-uncut}
 
-no-fault : (fault : FlashFault) → None ≡ Some fault → ⊥
-no-fault fault e = cc
-
 pub not-device : NoMemory ≡ Device → ⊥
 not-device e = cc
 
@@ -54,13 +52,13 @@ not-written e = cc
 
 -- the medium failed in a put that is told so
 pub put-rose : (f g : FlashState) (outcome : Result (Unit {0}) PutRefusal) (fault : FlashFault) → IsUnarmed f → fault_in outcome ≡ Some fault → IfErr outcome (λ e. PutCausedBy f e g) → Rose f.media.faults g.media.faults
-put-rose f g (Ok done) fault unarmed breaks cause = absurd (no-fault fault breaks)
-put-rose f g (Err (refusal.Key last)) fault unarmed breaks cause = absurd (no-fault fault breaks)
-put-rose f g (Err (refusal.Columns wanted)) fault unarmed breaks cause = absurd (no-fault fault breaks)
-put-rose f g (Err (refusal.Value column)) fault unarmed breaks cause = absurd (no-fault fault breaks)
-put-rose f g (Err (refusal.Blob limit)) fault unarmed breaks cause = absurd (no-fault fault breaks)
-put-rose f g (Err refusal.Spent) fault unarmed breaks cause = absurd (no-fault fault breaks)
-put-rose f g (Err refusal.Stopped) fault unarmed breaks cause = absurd (no-fault fault breaks)
+put-rose f g (Ok done) fault unarmed breaks cause = absurd (none-some fault breaks)
+put-rose f g (Err (refusal.Key last)) fault unarmed breaks cause = absurd (none-some fault breaks)
+put-rose f g (Err (refusal.Columns wanted)) fault unarmed breaks cause = absurd (none-some fault breaks)
+put-rose f g (Err (refusal.Value column)) fault unarmed breaks cause = absurd (none-some fault breaks)
+put-rose f g (Err (refusal.Blob limit)) fault unarmed breaks cause = absurd (none-some fault breaks)
+put-rose f g (Err refusal.Spent) fault unarmed breaks cause = absurd (none-some fault breaks)
+put-rose f g (Err refusal.Stopped) fault unarmed breaks cause = absurd (none-some fault breaks)
 put-rose f g (Err (refusal.Flash Media)) fault unarmed breaks cause = cause
 put-rose f g (Err (refusal.Flash PowerLost)) fault unarmed breaks cause = absurd (never-lost f g unarmed cause)
 
@@ -136,18 +134,18 @@ module _ (first : ℕ) (plan : Plan) (table : model.Table) (t u : LoggedTable 64
 
       pub ends-broken : (outcome : Result (Unit {0}) PutRefusal) (fault : FlashFault) → fault_in outcome ≡ Some fault → told_now ≡ told → PutEnds first plan item table (has_risen f g) works.device outcome u f g →
           LineEnds lacking first plan table number put u g told told_now (Err Device)
-      ends-broken (Ok done) fault breaks same ends = absurd (no-fault fault breaks)
-      ends-broken (Err (refusal.Key last)) fault breaks same ends = absurd (no-fault fault breaks)
-      ends-broken (Err (refusal.Columns wanted)) fault breaks same ends = absurd (no-fault fault breaks)
-      ends-broken (Err (refusal.Value column)) fault breaks same ends = absurd (no-fault fault breaks)
-      ends-broken (Err (refusal.Blob limit)) fault breaks same ends = absurd (no-fault fault breaks)
-      ends-broken (Err refusal.Spent) fault breaks same ends = absurd (no-fault fault breaks)
-      ends-broken (Err refusal.Stopped) fault breaks same ends = absurd (no-fault fault breaks)
+      ends-broken (Ok done) fault breaks same ends = absurd (none-some fault breaks)
+      ends-broken (Err (refusal.Key last)) fault breaks same ends = absurd (none-some fault breaks)
+      ends-broken (Err (refusal.Columns wanted)) fault breaks same ends = absurd (none-some fault breaks)
+      ends-broken (Err (refusal.Value column)) fault breaks same ends = absurd (none-some fault breaks)
+      ends-broken (Err (refusal.Blob limit)) fault breaks same ends = absurd (none-some fault breaks)
+      ends-broken (Err refusal.Spent) fault breaks same ends = absurd (none-some fault breaks)
+      ends-broken (Err refusal.Stopped) fault breaks same ends = absurd (none-some fault breaks)
       ends-broken (Err (refusal.Flash own)) fault breaks same ends = broken-by own same ends.0 ends.1
 
       pub ends-told : (why : PutRefusal) → fault_in (Err why) ≡ None → PutEnds first plan item table (has_risen f g) works.device (Err why) u f g → RefusedSame t f why u g →
           (wrote : Result (Unit {0}) SinkFailed) → Written told told_now wrote (number_text number ++ text (put_reply (Err why))) → LineEnds lacking first plan table number put u g told told_now (by_told wrote)
-      ends-told (refusal.Flash fault) other ends same wrote written = absurd (no-fault fault (sym other))
+      ends-told (refusal.Flash fault) other ends same wrote written = absurd (none-some fault (sym other))
       ends-told (refusal.Key last) other ends same wrote written = ends-refused put item (BadKey last) (put_reply (Err (refusal.Key last))) is ends refl same.0 same.1 wrote written
       ends-told (refusal.Columns wanted) other ends same wrote written = ends-refused put item (BadColumns wanted) (put_reply (Err (refusal.Columns wanted))) is ends refl same.0 same.1 wrote written
       ends-told (refusal.Value column) other ends same wrote written = ends-refused put item (BadValue column) (put_reply (Err (refusal.Value column))) is ends refl same.0 same.1 wrote written
