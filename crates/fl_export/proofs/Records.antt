@@ -2,6 +2,7 @@
 use Rattle.std.proofs.Common.{◌≡◌, ℕ, ℤ, ◌+◌, Bool, true, false, cond, Option, Some, None, IfSome, List, [], length, drop, refl, sym, ◌∙◌, ap, subst}
 use Rattle.std.specs.Prelude.{option_map, unwrap_or, if◌then◌else◌}
 use Rattle.std.proofs.lemmas.Bool.{eq-eqb}
+use Rattle.std.proofs.lemmas.Option.{same_Some}
 use Rattle.fl_base.specs.declared.types.BlobRef.{BlobRef}
 use Rattle.fl_csv.specs.Text as csv
 use Rattle.fl_csv.specs.Text.{Blob, entry_text}
@@ -41,9 +42,6 @@ named-has t row layout =
 
 -- ---- the blob of an entry
 
-same-ref : {a b : BlobRef} → Some a ≡ Some b → a ≡ b
-same-ref e = cc
-
 -- an entry has none where its row names none, and else its bytes stand where the row says
 pub unnamed : (table : model.Table) (entry : Entry) → None ≡ (stored_row entry).blob → blob_of table entry ≡ Without
 unnamed table entry e = by_blob entry.kept.blob refl e
@@ -68,7 +66,7 @@ named-by entry at e = by_blob entry.kept.blob refl e
       where
         none : ◌≡◌ {A = Option BlobRef} (Some at) None → ⊥
         none k = cc
-    by_blob (Some bytes) is e = record { bytes = bytes; blob_is = is; at_is = same-ref e }
+    by_blob (Some bytes) is e = record { bytes = bytes; blob_is = is; at_is = same_Some _ _ e }
 
 -- the empty blob is never gone
 pub empty-stands : (table : model.Table) (entry : Entry) (bytes : List ℕ) → entry.kept.blob ≡ Some bytes → length bytes ≡ 0 → blob_of table entry ≡ StandsWith []
