@@ -1,6 +1,7 @@
 -- Texts of one item after another.
 use Rattle.std.proofs.Common.{◌≡◌, ℕ, ℤ, zero, suc, ◌+◌, ◌≤◌, Option, Some, None, Result, Ok, Err, List, [], ◌∷◌, ◌++◌, length, drop, refl, sym, ◌∙◌, ap, append-nil, append_assoc, arith}
 use Rattle.std.specs.List.{flat_map, slice_get}
+use Rattle.std.proofs.lemmas.Option.{none-some}
 use Rattle.fl_base.specs.Causes.{Appends, AppendsFront}
 use Rattle.fl_csv.specs.Text.{Blob, entry_text}
 use Rattle.fl_model.specs.Row.{Row}
@@ -21,10 +22,7 @@ sent-none o text = record { front = []; parts = refl; appended = appends-none o 
 
 -- the text of the items from a place on is that of the one there, and that of the others
 pub flat-next : {X : Type 0} (f : X → List ℕ) (xs : List X) (i : ℕ) (x : X) → slice_get xs i ≡ Some x → f x ++ flat_map f (drop (i + 1) xs) ≡ flat_map f (drop i xs)
-flat-next f [] i x is = absurd (none is)
-  where
-    none : ◌≡◌ {A = Option _} None (Some x) → ⊥
-    none e = cc
+flat-next f [] i x is = absurd (none-some x is)
 flat-next f (y ∷ ys) zero x is =
     let same : y ≡ x = cc in
     ap (λ z. f z ++ flat_map f ys) (sym same)

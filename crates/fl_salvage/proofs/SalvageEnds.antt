@@ -4,6 +4,7 @@ use Rattle.std.specs.List.{slice_get}
 use Rattle.std.specs.Prelude.{nat_lt, option_map, if◌then◌else◌}
 use Rattle.std.proofs.lemmas.Bool.{cases_lt, false≢true, lt-ltb}
 use Rattle.std.specs.Cmp.Lexicographic.{bytes_decides}
+use Rattle.std.proofs.lemmas.Option.{none-some}
 use lib.Pointwise.{pointwise}
 use Rattle.fl_base.specs.Causes.{Appends, AppendsFront}
 use Rattle.fl_base.specs.declared.types.Geometry.{Geometry}
@@ -59,10 +60,7 @@ form-as config plans place plan of limits first =
 -- ---- the table with a name
 
 pub if-some : {X : Type 0} (P : X → Type 0) (o : Option X) (x : X) → o ≡ Some x → IfSome o P → P x
-if-some P None x is holds = absurd (no is)
-  where
-    no : ◌≡◌ {A = Option _} None (Some x) → ⊥
-    no e = cc
+if-some P None x is holds = absurd (none-some x is)
 if-some P (Some y) x is holds =
     let same : y ≡ x = cc in
     subst P same holds
