@@ -3,6 +3,7 @@ use Rattle.std.proofs.Common.{◌≡◌, ℕ, zero, suc, ◌+◌, ◌<◌, ◌�
 use Rattle.std.specs.List.{flat_map}
 use Rattle.std.proofs.lemmas.Bool.{cond-true, cond-false, lt-ltb, ltb-true}
 use Rattle.std.proofs.lemmas.List.{map-append}
+use Rattle.std.proofs.lemmas.Option.{none-some, same_Some}
 use Rattle.fl_mark.specs.Mark.{state_of_page}
 use Rattle.fl_model.specs.Query.{is_above}
 use Rattle.fl_model.specs.Record.{RowLayout}
@@ -54,14 +55,8 @@ module _ (layout : RowLayout) (rows_of : Option (List ℕ) → List Row) where
 -- ---- entries whose rows ascend
 
 above-first : (above : Option ℕ) (entries : List Entry) (j : ℕ) (b : Entry) → Ascends above (map stored_row entries) → slice_get entries j ≡ Some b → is_above above b.kept.key ≡ true
-above-first above [] j b rising at = absurd (none at)
-  where
-    none : None ≡ Some b → ⊥
-    none e = cc
-above-first above (entry ∷ entries) zero b rising at = subst (λ (e : Entry). is_above above e.kept.key ≡ true) (same at) rising.0
-  where
-    same : Some entry ≡ Some b → entry ≡ b
-    same e = cc
+above-first above [] j b rising at = absurd (none-some b at)
+above-first above (entry ∷ entries) zero b rising at = subst (λ (e : Entry). is_above above e.kept.key ≡ true) (same_Some entry b at) rising.0
 above-first None (entry ∷ entries) (suc j) b rising at = refl
 above-first (Some low) (entry ∷ entries) (suc j) b rising at =
     let over = ltb-true entry.kept.key b.kept.key (above-first (Some entry.kept.key) entries j b rising.1 at) in
@@ -69,14 +64,8 @@ above-first (Some low) (entry ∷ entries) (suc j) b rising at =
 
 pub keys-rise : (above : Option ℕ) (entries : List Entry) → Ascends above (map stored_row entries) →
     (i j : ℕ) (a b : Entry) → i < j → slice_get entries i ≡ Some a → slice_get entries j ≡ Some b → a.kept.key < b.kept.key
-keys-rise above [] rising i j a b less at then = absurd (none at)
-  where
-    none : None ≡ Some a → ⊥
-    none e = cc
+keys-rise above [] rising i j a b less at then = absurd (none-some a at)
 keys-rise above (entry ∷ entries) rising i zero a b less at then = absurd (omega (arith, less))
 keys-rise above (entry ∷ entries) rising zero (suc j) a b less at then =
-    subst (λ (e : Entry). e.kept.key < b.kept.key) (same at) (ltb-true entry.kept.key b.kept.key (above-first (Some entry.kept.key) entries j b rising.1 then))
-  where
-    same : Some entry ≡ Some a → entry ≡ a
-    same e = cc
+    subst (λ (e : Entry). e.kept.key < b.kept.key) (same_Some entry a at) (ltb-true entry.kept.key b.kept.key (above-first (Some entry.kept.key) entries j b rising.1 then))
 keys-rise above (entry ∷ entries) rising (suc i) (suc j) a b less at then = keys-rise (Some entry.kept.key) entries rising.1 i j a b (omega (arith, less)) at then

@@ -1,6 +1,7 @@
 -- The bytes of a blob, as the pages of variable data that it needs have them.
 use Rattle.std.proofs.Common.{◌≡◌, ℕ, zero, suc, ◌+◌, ◌/◌, ◌%◌, Option, Some, None, IfSome, List, [], ◌∷◌, length, map, drop, get_or, slice_get, refl, sym, ◌∙◌, ap, arith}
 use Rattle.std.specs.List.{AllByRecursion}
+use Rattle.std.proofs.lemmas.Option.{none-some}
 use Rattle.fl_base.specs.declared.types.BlobRef.{BlobRef}
 use Rattle.fl_base.specs.declared.types.RingPlace.{RingPlace}
 use Rattle.fl_model.specs.Row.{Row}
@@ -20,10 +21,7 @@ length-from byte k zero = refl
 length-from byte k (suc n) = ap suc (length-from byte (suc k) n)
 
 pub byte-from : (byte : ℕ → ℕ) (k n j b : ℕ) → slice_get (bytes_from byte k n) j ≡ Some b → b ≡ byte (k + j)
-byte-from byte k zero j b e = absurd (none e)
-  where
-    none : ◌≡◌ {A = Option ℕ} None (Some b) → ⊥
-    none h = cc
+byte-from byte k zero j b e = absurd (none-some b e)
 byte-from byte k (suc n) zero b e = some e ∙ ap byte (let h : k ≡ k + 0 = omega arith in h)
   where
     some : ◌≡◌ {A = Option ℕ} (Some (byte k)) (Some b) → b ≡ byte k

@@ -4,6 +4,7 @@ use Rattle.std.specs.List.{flat_map, AllByRecursion}
 use Rattle.std.proofs.Math.Seq.{take-append_seam, drop-append-add}
 use Rattle.std.proofs.lemmas.Bool.{lt-ltb}
 use Rattle.std.proofs.lemmas.List.Sums.{sum_by-cons}
+use Rattle.std.proofs.lemmas.Option.{none-some, same_Some}
 use Rattle.fl_model.specs.Table.{full_pages}
 use Rattle.fl_model.proofs.FullPages.{full-cons, full-one}
 use Rattle.fl_ring.specs.Counts.{page_count}
@@ -65,10 +66,7 @@ collect X Fits count_of (None ∷ kept) P all =
   where
     each : (rest : Collected X Fits count_of kept (λ i body x. P (suc i) body x)) → (i : ℕ) (body : List ℕ) → i < suc (length kept) → get_or (None ∷ kept) i None ≡ Some body →
         (x : X) × (slice_get rest.pages (full_pages (take i (0 ∷ map (page_count count_of) kept))) ≡ Some x) × P i body x
-    each rest zero body lt is = absurd (none is)
-      where
-        none : None ≡ Some body → ⊥
-        none e = cc
+    each rest zero body lt is = absurd (none-some body is)
     each rest (suc i) body lt is = rest.each i body (omega arith) is
 collect X Fits count_of (Some body ∷ kept) P all =
     let here = all 0 body (omega arith) refl in
@@ -91,10 +89,7 @@ collect X Fits count_of (Some body ∷ kept) P all =
 
     each : (x : X) → P 0 body x → (rest : Collected X Fits count_of kept (λ i b y. P (suc i) b y)) → 0 < count_of body → (i : ℕ) (b : List ℕ) → i < suc (length kept) → get_or (Some body ∷ kept) i None ≡ Some b →
         (y : X) × (slice_get (x ∷ rest.pages) (full_pages (take i (count_of body ∷ map (page_count count_of) kept))) ≡ Some y) × P i b y
-    each x holds rest one zero b lt is = (x, refl, subst (λ l. P 0 l x) (same is) holds)
-      where
-        same : Some body ≡ Some b → body ≡ b
-        same e = cc
+    each x holds rest one zero b lt is = (x, refl, subst (λ l. P 0 l x) (same_Some body b is) holds)
     each x holds rest one (suc i) b lt is =
         let later = rest.each i b (omega arith) is in
         (later.0, ap (λ (n : ℕ). slice_get (x ∷ rest.pages) n) (first one (take i (map (page_count count_of) kept))) ∙ later.1, later.2)

@@ -2,6 +2,7 @@
 use Rattle.std.proofs.Common.{◌≡◌, ◌⊎◌, inl, inr, ℕ, Bool, true, false, ◌&&◌, MatchOption, Option, Some, None, List, [], ◌∷◌, ◌++◌, refl, sym, ◌∙◌, ap, subst}
 use Rattle.std.specs.Prelude.{is_none}
 use Rattle.std.proofs.lemmas.Bool.{true≢false}
+use Rattle.std.proofs.lemmas.Option.{same_Some}
 use Rattle.fl_base.specs.declared.types.RingPlace.{RingPlace}
 use Rattle.fl_plan.specs.declared.table_config.TableConfig.{TableConfig}
 use Rattle.fl_ring.specs.Ring.{Shape}
@@ -77,9 +78,6 @@ then_first P Q Is xs ys c d (inr begins) next = inr (record {
 pub one_first : (P : Type 0) (Is : Finding → Type 0) (ring : RingName) (rule : Rule) (o : Option ℕ) → MatchOption o P (λ p. Is (Fault ring p rule)) → FirstOf P Is (fault_of ring rule o) (is_none o)
 one_first P Is ring rule None holds = inl (record { none = refl; cleared = refl; holds = holds })
 one_first P Is ring rule (Some p) breaks = inr (record { finding = Fault ring p rule; others = []; is = refl; unclear = refl; holds = breaks })
-
-some_same : (a b : Numbering) → Some a ≡ Some b → a ≡ b
-some_same a b e = cc
 
 -- a ring of which no page is told has its states
 no_state : (head state number body keys rest : Option ℕ) → (is_none head && is_none state && is_none number && is_none body && is_none keys && is_none rest) ≡ true → state ≡ None
@@ -253,7 +251,7 @@ module _ (config : TableConfig) (log : Option RingPlace) (page : ℕ → List �
     Three = (Index × Rows) × Var
 
     one_rows : (m n : Numbering) → a.rows ≡ Some m → a.rows ≡ Some n → m ≡ n
-    one_rows m n x y = some_same m n (sym x ∙ y)
+    one_rows m n x y = same_Some m n (sym x ∙ y)
 
     var_sound : (three : Three) → IsVarSound config page three.0.1.n a.var
     var_sound three = subst (λ (n : Numbering). IsVarSound config page n a.var) (one_rows three.1.0 three.0.1.n three.1.1 three.0.1.is) three.1.2

@@ -5,7 +5,7 @@ use Rattle.std.proofs.Math.ListN.{get_or-eq_default}
 use Rattle.std.proofs.Math.Nat.{mod-lt, mul-le-mul_right}
 use Rattle.std.proofs.lemmas.Bool.{cases_lt, lt-ltb, cond-false}
 use Rattle.std.proofs.lemmas.List.{length-map}
-use Rattle.std.proofs.lemmas.Option.{slice_get_within, slice_get-map, slice_get-get_or}
+use Rattle.std.proofs.lemmas.Option.{slice_get_within, slice_get-map, slice_get-get_or, none-some, same_Some}
 use Rattle.fl_flash.specs.Flash.{FlashState, page_at}
 use Rattle.fl_mark.specs.Mark.{state_of_page}
 use Rattle.fl_model.specs.Image.{HoldsPage}
@@ -53,11 +53,8 @@ module _ (Form : ℕ → List ℕ → Type 0) (f : FlashState) (r : Shape) (at_l
   pub within : (i : ℕ) (body : List ℕ) → get_or s.kept i None ≡ Some body → i < count s
   within i body is = elim (cases_lt i (count s)) [
     | inl lt ↦ lt
-    | inr ge ↦ absurd (none (sym (get_or-eq_default s.kept None ge) ∙ is))
+    | inr ge ↦ absurd (none-some body (sym (get_or-eq_default s.kept None ge) ∙ is))
   ]
-    where
-      none : None ≡ Some body → ⊥
-      none e = cc
 
   pub bytes_is : (i : ℕ) (body : List ℕ) → i < count s → get_or s.kept i None ≡ Some body → page_of i ≡ body ++ committed_end
   bytes_is i body lt is = (subst (λ (x : Option (List ℕ)). HoldsKept r x (page_of i)) is (st.good.on.kept i lt)).0
@@ -142,10 +139,7 @@ module _ (Form : ℕ → List ℕ → Type 0) (f : FlashState) (r : Shape) (at_l
         committed i c is =
             let lt : i < count s = omega (arith, slice_get_within ring.counts i c is, many) in
             let there = slice_get-map (page_count count_of) s.kept i ∙ ap (λ (o : Option (Option (List ℕ))). option_map (page_count count_of) o) (slice_get-get_or s.kept i None lt) in
-            ap (λ (p : ℕ). commits (state_of_page (page_at f p))) (st.places i lt) ∙ by_kept i c (get_or s.kept i None) lt refl (same-count (sym is ∙ there))
-          where
-            same-count : {a b : ℕ} → ◌≡◌ {A = Option ℕ} (Some a) (Some b) → a ≡ b
-            same-count e = cc
+            ap (λ (p : ℕ). commits (state_of_page (page_at f p))) (st.places i lt) ∙ by_kept i c (get_or s.kept i None) lt refl (same_Some _ _ (sym is ∙ there))
 
     pub held_as : (Holds : ℕ → ℕ → List ℕ → Type 0) → ((i : ℕ) (body : List ℕ) → get_or s.kept i None ≡ Some body → Read (oldest s + i) (page_of i) body → Holds i (count_of body) (page_of i)) → RingImage (page_at f) r ring Holds
     held_as Holds holds = record {

@@ -3,7 +3,7 @@ use Rattle.std.proofs.Common.{◌≡◌, ℕ, ◌+◌, ◌-◌, ◌/◌, ◌^◌
 use Rattle.std.specs.List.{flat_map, AllByRecursion}
 use Rattle.std.proofs.lemmas.Bool.{lt-ltb}
 use Rattle.std.proofs.lemmas.List.{take-append-drop, length-map, length-take-le, drop-drop}
-use Rattle.std.proofs.lemmas.Option.{slice_get_within, slice_get-map, slice_get-get_or}
+use Rattle.std.proofs.lemmas.Option.{slice_get_within, slice_get-map, slice_get-get_or, same_Some}
 use Rattle.fl_base.specs.declared.types.BlobRef.{BlobRef}
 use Rattle.fl_base.specs.declared.types.RingPlace.{RingPlace}
 use Rattle.fl_bitmap.specs.declared.buckets.Buckets.{Buckets}
@@ -243,12 +243,9 @@ module _ (label : Label) (config : TableConfig) (log : Option RingPlace) (reader
           told : Some c ≡ Some (page_count rows_count (get_or st.s.kept i None))
           told = sym here ∙ slice_get-map (page_count rows_count) st.s.kept i ∙ ap (λ (o : Option (Option (List ℕ))). option_map (page_count rows_count) o) (slice_get-get_or st.s.kept i None low)
 
-          same : {a b : ℕ} → ◌≡◌ {A = Option ℕ} (Some a) (Some b) → a ≡ b
-          same e = cc
-
           by_kept : (x : Option (List ℕ)) → get_or st.s.kept i None ≡ x → HasBody i c
-          by_kept None is = absurd (let none : c ≡ 0 = same told ∙ ap (page_count rows_count) is in let never : ⊥ = omega (arith, none, some) in never)
-          by_kept (Some body) is = record { body = body; kept = low; is = is; count_is = same told ∙ ap (page_count rows_count) is }
+          by_kept None is = absurd (let none : c ≡ 0 = same_Some _ _ told ∙ ap (page_count rows_count) is in let never : ⊥ = omega (arith, none, some) in never)
+          by_kept (Some body) is = record { body = body; kept = low; is = is; count_is = same_Some _ _ told ∙ ap (page_count rows_count) is }
 
       pub data_told : (i c : ℕ) → slice_get data_ring.counts i ≡ Some c → 0 < c → rows_in (layout_in config) (page_at f (kept_page (rows_shape config) n.marks i)) ≡ map stored_row (rows_of i c)
       data_told i c here some =

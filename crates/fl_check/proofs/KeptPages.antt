@@ -3,7 +3,7 @@ use Rattle.std.proofs.Common.{◌≡◌, ℕ, zero, suc, ◌+◌, ◌-◌, ◌<�
 use Rattle.std.specs.List.{last_or, sum, AllByRecursion}
 use Rattle.std.proofs.lemmas.Bool.{eq-eqb, lt-ltb, cases_lt}
 use Rattle.std.proofs.lemmas.List.{length-take-le}
-use Rattle.std.proofs.lemmas.Option.{slice_get-map}
+use Rattle.std.proofs.lemmas.Option.{slice_get-map, none-some, same_Some}
 use Rattle.std.proofs.lemmas.List.Sums.{sum_by-cons}
 use Rattle.fl_model.specs.Agrees.{reach_of}
 use Rattle.fl_model.specs.Facts.{IsTable, IsContent, FitsPlan, BlobFits, is_some_ring}
@@ -92,10 +92,7 @@ module _ (plan : Plan) (table : Table) (facts : IsTable plan table) where
 
 -- the pages before a page, and it, have no more records than all
 sum-within : (counts : List ℕ) (i count : ℕ) → slice_get counts i ≡ Some count → sum (take i counts) + count ≤ sum counts
-sum-within [] i count e = absurd (none e)
-  where
-    none : None ≡ Some count → ⊥
-    none e = cc
+sum-within [] i count e = absurd (none-some count e)
 sum-within (x ∷ xs) zero count e = let same : x ≡ count = cc in let all = sum_by-cons (λ (n : ℕ). n) x xs in omega (arith, same, all)
 sum-within (x ∷ xs) (suc i) count e =
     let rest = sum-within xs i count e in
@@ -147,10 +144,7 @@ entries-ascend above (entry ∷ entries) first ascending = (
 
 first-below : (room first k : ℕ) (firsts : List ℕ) → slice_get firsts k ≡ Some first → ((i j a b : ℕ) → i < j → slice_get firsts i ≡ Some a → slice_get firsts j ≡ Some b → a + room ≤ b)
     → first ≤ unwrap_or (option_map (λ page. page + room) (last_or None firsts)) 0
-first-below room first k [] at ascending = absurd (none at)
-  where
-    none : None ≡ Some first → ⊥
-    none e = cc
+first-below room first k [] at ascending = absurd (none-some first at)
 first-below room first k (x ∷ xs) at ascending =
     let last = slice_get-some (x ∷ xs) (length xs) (omega arith) in
     let end : unwrap_or (option_map (λ page. page + room) (last_or None (x ∷ xs))) 0 ≡ last.0 + room =
@@ -160,12 +154,9 @@ first-below room first k (x ∷ xs) at ascending =
       | inl before ↦ let step = ascending k (length xs) first last.0 before at last.1 in omega (arith, step, end)
       | inr past ↦
           let k_is : k ≡ length xs = omega (arith, past, short) in
-          let same : first ≡ last.0 = same-some (sym at ∙ ap (slice_get (x ∷ xs)) k_is ∙ last.1) in
+          let same : first ≡ last.0 = same_Some _ _ (sym at ∙ ap (slice_get (x ∷ xs)) k_is ∙ last.1) in
           omega (arith, same, end)
     ]
-  where
-    same-some : {a b : ℕ} → Some a ≡ Some b → a ≡ b
-    same-some e = cc
 
 index-good : (plan : Plan) (table : Table) (ring : Ring) (i count : ℕ) (page : List ℕ) → IsTable plan table → HoldsListing plan table ring i count page → IsIndexPage plan (oldest ring + i) page
 index-good plan table ring i count page facts is =

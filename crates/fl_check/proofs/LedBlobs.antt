@@ -4,7 +4,7 @@ use Rattle.std.specs.List.{slice_get, AllByRecursion}
 use Rattle.std.proofs.Math.Nat.{mod-lt}
 use Rattle.std.proofs.lemmas.Bool.{lt-ltb, ltb-true}
 use Rattle.std.proofs.lemmas.List.{length-take-le, get_or-take}
-use Rattle.std.proofs.lemmas.Option.{slice_get-get_or}
+use Rattle.std.proofs.lemmas.Option.{slice_get-get_or, same_Some}
 use Rattle.fl_base.specs.declared.types.BlobRef.{BlobRef}
 use Rattle.fl_bitmap.proofs.Values.{div-le-div}
 use Rattle.fl_mark.specs.Mark.{state_of_page}
@@ -74,10 +74,7 @@ module _ (plan : Plan) (page : ℕ → List ℕ) (r : Shape) (least : ℕ) (tabl
 
         by_count : (count : ℕ) → slice_get ring.counts (number - model.oldest ring) ≡ Some count → (count ≡ 0) ⊎ (count ≡ 1) → slice_get ring.counts (number - model.oldest ring) ≡ Some 1
         by_count count is (inr one) = is ∙ ap (λ (k : ℕ). Some k) one
-        by_count count is (inl none) = absurd (let some = ltb-true 0 c.0 committed in let same = same-count (sym c.1 ∙ is) in let never : ⊥ = omega (arith, some, same, none) in never)
-          where
-            same-count : {a b : ℕ} → ◌≡◌ {A = Option ℕ} (Some a) (Some b) → a ≡ b
-            same-count e = cc
+        by_count count is (inl none) = absurd (let some = ltb-true 0 c.0 committed in let same = same_Some _ _ (sym c.1 ∙ is) in let never : ⊥ = omega (arith, some, same, none) in never)
 
     content-is : content_at plan table ring number ≡ Some (content_of (content_room r) (numbered page r v number))
     content-is =

@@ -4,6 +4,7 @@ use Rattle.std.specs.List.{slice_get, sum, last_or, AllByRecursion}
 use Rattle.std.specs.Option.{option_map, unwrap_or}
 use Rattle.std.proofs.Math.Nat.{mod-eq_of_lt}
 use Rattle.std.proofs.lemmas.Bool.{cases_lt, cases_eq, cond-true, cond-false, lt-ltb, ltb-true, true≢false}
+use Rattle.std.proofs.lemmas.Option.{same_Some}
 use Rattle.fl_mark.specs.Mark.{state_of_page}
 use Rattle.fl_index.specs.Page.{page_first, bitmap_at, full_at, found_at, full_view}
 use Rattle.fl_index.specs.declared.page.Full as code
@@ -108,7 +109,7 @@ module _ (plan : Plan) (page : ℕ → List ℕ) (x d : Shape) (least : ℕ) (la
       let f = full-page ring.counts k (omega (arith, short, many)) in
       let lt = slice_get-short ring.counts f.i f.c f.here in
       let h = held f.i f.c f.here f.some in
-      let same : h.holds ≡ listed = same-page (sym h.is ∙ ap (slice_get table.index_pages) f.before ∙ is) in
+      let same : h.holds ≡ listed = same_Some _ _ (sym h.is ∙ ap (slice_get table.index_pages) f.before ∙ is) in
       let fits = each-at (IsListed plan) table.index_pages k listed fit is in
       let small : model.oldest ring + f.i < 2 ^ 32 = omega (arith, lt, of_index.known, of_index.small) in
       let bytes : page (kept_page x index.marks f.i) ≡ committed (index_body plan (model.oldest ring + f.i) listed.first listed.entries) =
@@ -122,9 +123,6 @@ module _ (plan : Plan) (page : ℕ → List ℕ) (x d : Shape) (least : ℕ) (la
         fits = fits;
         shows = index-page plan (model.oldest ring + f.i) listed.first listed.entries (page (kept_page x index.marks f.i)) small fits.small fits.many few bytes;
       }
-    where
-      same-page : {a b : IndexPage} → ◌≡◌ {A = Option IndexPage} (Some a) (Some b) → a ≡ b
-      same-page e = cc
 
   module _ (k : ℕ) (listed : IndexPage) (p : IsPage k listed) where
     kept : p.i < index.marks.kept
@@ -169,10 +167,7 @@ module _ (plan : Plan) (page : ℕ → List ℕ) (x d : Shape) (least : ℕ) (la
   first-of k first is =
       let short = slice_get-short (firsts table) k first is in
       let there = slice_get-some table.index_pages k (omega (arith, short, firsts-length table.index_pages)) in
-      record { listed = there.0; here = there.1; is = same-first (sym (first-at table.index_pages k there.0 there.1) ∙ is) }
-    where
-      same-first : {a b : ℕ} → ◌≡◌ {A = Option ℕ} (Some a) (Some b) → a ≡ b
-      same-first e = cc
+      record { listed = there.0; here = there.1; is = same_Some _ _ (sym (first-at table.index_pages k there.0 there.1) ∙ is) }
 
   firsts-rise : (i j a b : ℕ) → i < j → slice_get (firsts table) i ≡ Some a → slice_get (firsts table) j ≡ Some b → a + entries_per_page plan ≤ b
   firsts-rise i j a b lt at then =

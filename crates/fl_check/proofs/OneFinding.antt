@@ -1,5 +1,6 @@
 -- Of a table on some pages there is one finding and no other.
 use Rattle.std.proofs.Common.{◌≡◌, ◌⊎◌, inl, inr, ℕ, List, Option, Some, None, refl, sym, ◌∙◌, ap, subst}
+use Rattle.std.proofs.lemmas.Option.{same_Some}
 use Rattle.fl_base.specs.declared.types.RingPlace.{RingPlace}
 use Rattle.fl_plan.specs.declared.table_config.TableConfig.{TableConfig}
 use Rattle.fl_ring.specs.Ring.{Shape}
@@ -52,14 +53,11 @@ pub record BreaksAt (Breaks : RingPlace → halt.Fault → Type 0) (o : Option R
   pub is : o ≡ Some place
   pub breaks : Breaks place fault
 
-some_same : {A : Type 0} (a b : A) → Some a ≡ Some b → a ≡ b
-some_same a b e = cc
-
 none_some : {A : Type 0} (a : A) → None ≡ Some a → ⊥
 none_some a e = cc
 
 place_same : (o : Option RingPlace) (a b : RingPlace) → o ≡ Some a → o ≡ Some b → a ≡ b
-place_same o a b x y = some_same a b (sym x ∙ y)
+place_same o a b x y = same_Some a b (sym x ∙ y)
 
 of_decided : (Holds : RingPlace → Numbering → Type 0) (Breaks : RingPlace → halt.Fault → Type 0) → ((place : RingPlace) → Decided (Holds place) (Breaks place)) → (o : Option RingPlace)
     → Decided (λ (x : Option Numbering). OfRing Holds o x) (BreaksAt Breaks o)
@@ -189,7 +187,7 @@ module _ (config : TableConfig) (log : Option RingPlace) (page : ℕ → List �
     where
       first : (b c : halt.Fault) → EntriesBreakIn t b → EntriesBreakIn t c → b ≡ c
       first b c h k =
-          let moved = subst (λ (n : Numbering). EntriesBreak page (shape_in config k.place) (rows_shape config) (indexing config n t.rows) b.page) (some_same h.n k.n (sym h.numbered ∙ k.numbered))
+          let moved = subst (λ (n : Numbering). EntriesBreak page (shape_in config k.place) (rows_shape config) (indexing config n t.rows) b.page) (same_Some h.n k.n (sym h.numbered ∙ k.numbered))
           (subst (λ (place : RingPlace). EntriesBreak page (shape_in config place) (rows_shape config) (indexing config h.n t.rows) b.page) (place_same config.index h.place k.place h.is k.is) h.breaks) in
           fault_same b c (h.ring ∙ sym k.ring) (entries_once (shape_in config k.place) (rows_shape config) (indexing config k.n t.rows) b.page c.page moved k.breaks) (h.rule ∙ sym k.rule)
 
@@ -223,7 +221,7 @@ module _ (config : TableConfig) (log : Option RingPlace) (page : ℕ → List �
     where
       first : (b c : halt.Fault) → ReferencesBreakIn t b → ReferencesBreakIn t c → b ≡ c
       first b c h k =
-          let moved = subst (λ (n : Numbering). ReferencesBreak (layout_in config) page (rows_shape config) t.rows.marks (shape_in config k.place) n b.page) (some_same h.n k.n (sym h.numbered ∙ k.numbered))
+          let moved = subst (λ (n : Numbering). ReferencesBreak (layout_in config) page (rows_shape config) t.rows.marks (shape_in config k.place) n b.page) (same_Some h.n k.n (sym h.numbered ∙ k.numbered))
           (subst (λ (place : RingPlace). ReferencesBreak (layout_in config) page (rows_shape config) t.rows.marks (shape_in config place) h.n b.page) (place_same config.var h.place k.place h.is k.is) h.breaks) in
           fault_same b c (h.ring ∙ sym k.ring) (references_once t (shape_in config k.place) k.n b.page c.page moved k.breaks) (h.rule ∙ sym k.rule)
 

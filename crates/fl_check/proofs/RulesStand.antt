@@ -8,6 +8,7 @@ use Rattle.std.proofs.lemmas.Bool.{true≢false, cases_lt, cases_Bool, eq-eqb, e
 use Rattle.std.proofs.lemmas.List.{take-append-drop, length-take-le}
 use Rattle.std.proofs.lemmas.List.Folds.{list_any_at}
 use Rattle.std.proofs.lemmas.List.FromFn.{length-map-range_with_len, get_or-map-range_with_len}
+use Rattle.std.proofs.lemmas.Option.{none-some}
 use Rattle.fl_flash.specs.Flash.{FlashState, page_at, blank}
 use Rattle.fl_mark.specs.Mark.{state_of_page}
 use Rattle.fl_mark.specs.declared.page_state.PageState.{PageState}
@@ -290,11 +291,8 @@ module _ (page : ℕ → List ℕ) (r : Shape) (at_least : ℕ) (n : Numbering) 
           let number : n.next - (m.kept - i) ≡ n.next - m.kept + i = omega (arith, lt, kept_within) in
           subst (λ (k : ℕ). Form k (page (r.first + (n.next - m.kept + i) % room r))) number
           (subst (λ (p : ℕ). Form (n.next - (m.kept - i)) (page p)) (place_is i lt) (forms i lt (n.next - (m.kept - i)) (omega (arith, own.not_negative)) committed))
-      | inr void ↦ absurd (none (sym (cond-false (commits (state_of_page (page_of i))) (Some (body_of r.size (page_of i))) None void) ∙ here))
+      | inr void ↦ absurd (none-some body (sym (cond-false (commits (state_of_page (page_of i))) (Some (body_of r.size (page_of i))) None void) ∙ here))
     ]
-      where
-        none : None ≡ Some body → ⊥
-        none e = cc
 
     -- ---- the page after them, and the others
 

@@ -3,6 +3,7 @@ use Rattle.std.proofs.Common.{◌≡◌, ℕ, Bool, true, false, not, is_some, O
 use Rattle.std.specs.Prelude.{MatchOption}
 use Rattle.std.specs.Bool.{then_some}
 use Rattle.std.proofs.lemmas.Bool.{true≢false}
+use Rattle.std.proofs.lemmas.Option.{none-some, same_Some}
 use Rattle.fl_flash.specs.declared.flash.FlashFault.{FlashFault}
 use Rattle.fl_ring.specs.Ring.{Shape}
 use Rattle.fl_rules.specs.Bodies.{HaveBodies, BodiesBreak}
@@ -49,12 +50,6 @@ pub if_ok_both : {A E : Type 0} (P Q R : A → Type 0) (result : Result A E) →
 if_ok_both P Q R (Ok a) f p q = f a p q
 if_ok_both P Q R (Err e) f p q = tt
 
-some_same : (a b : Numbering) → Some a ≡ Some b → a ≡ b
-some_same a b e = cc
-
-none_some : (a : Numbering) → None ≡ Some a → ⊥
-none_some a e = cc
-
 module _ (Form : ℕ → List ℕ → Type 0) (page : ℕ → List ℕ) (r : Shape) where
   pub bodies_told : (n : Numbering) (body : Option ℕ) (none : Bool) (told : Option Numbering) → told ≡ then_some none n → is_some body ≡ not none
       → MatchOption body (HaveBodies Form page r n) (λ p. BodiesBreak Form page r n p) → BodiesTold Form page r n body told
@@ -70,16 +65,16 @@ module _ (Form : ℕ → List ℕ → Type 0) (page : ℕ → List ℕ) (r : Sha
 
   by_bodies : (at_least : ℕ) (m n : Numbering) (body : Option ℕ) (told : Option Numbering) → told ≡ Some n → HaveNumbers page r m.marks at_least m.next → BodiesTold Form page r m body told → IsLegible at_least n
   by_bodies at_least m n None told is numbers bodies =
-      subst (λ (x : Numbering). IsLegible at_least x) (some_same m n (sym bodies.1 ∙ is)) (record { numbers = numbers; bodies = bodies.0 })
-  by_bodies at_least m n (Some p) told is numbers bodies = absurd (none_some n (sym bodies.1 ∙ is))
+      subst (λ (x : Numbering). IsLegible at_least x) (same_Some m n (sym bodies.1 ∙ is)) (record { numbers = numbers; bodies = bodies.0 })
+  by_bodies at_least m n (Some p) told is numbers bodies = absurd (none-some n (sym bodies.1 ∙ is))
 
   by_numbers : (m : Marks) (at_least : ℕ) (n : Numbering) (number body : Option ℕ) (told : Option Numbering) → told ≡ Some n → NumbersTold Form page r m at_least number body told → IsLegible at_least n
   by_numbers m at_least n None body told is numbers = by_bodies at_least (record { marks = m; next = numbers.next }) n body told is numbers.numbers numbers.bodies
-  by_numbers m at_least n (Some p) body told is numbers = absurd (none_some n (sym numbers.2 ∙ is))
+  by_numbers m at_least n (Some p) body told is numbers = absurd (none-some n (sym numbers.2 ∙ is))
 
   by_head : (at_least : ℕ) (n : Numbering) (head : Option ℕ) (faults : RingFaults) (told : Option Numbering) → told ≡ Some n → HeadTold Form page r at_least head faults told → IsLegible at_least n
   by_head at_least n None faults told is holds = by_numbers holds.m at_least n faults.number faults.body told is holds.numbers
-  by_head at_least n (Some p) faults told is none = absurd (none_some n (sym none.3 ∙ is))
+  by_head at_least n (Some p) faults told is none = absurd (none-some n (sym none.3 ∙ is))
 
   pub legible : (at_least : ℕ) (n : Numbering) (faults : RingFaults) (told : Option Numbering) → told ≡ Some n → RingTold Form page r at_least faults told → IsLegible at_least n
   legible at_least n faults told is ring = by_head at_least n faults.head faults told is ring

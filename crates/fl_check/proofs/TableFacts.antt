@@ -1,7 +1,7 @@
 -- The model's facts hold of a table of which the rules give theirs, where it is as runs leave it.
-use Rattle.std.proofs.Common.{◌≡◌, ◌⊎◌, inl, inr, ℕ, ◌+◌, ◌-◌, ◌<◌, ◌≤◌, Bool, true, false, cond, ◌||◌, nat_le, Option, Some, None, IfSome, List, [], length, filter, refl, sym, ◌∙◌, ap, subst, arith}
+use Rattle.std.proofs.Common.{◌≡◌, ◌⊎◌, inl, inr, ℕ, ◌+◌, ◌-◌, ◌<◌, ◌≤◌, Bool, true, false, cond, ◌||◌, nat_le, Option, Some, None, IfSome, List, [], length, filter, sym, ◌∙◌, ap, subst, arith}
 use Rattle.std.specs.List.{slice_get, AllByRecursion}
-use Rattle.std.proofs.lemmas.Bool.{cases_lt, le-leb, true≢false}
+use Rattle.std.proofs.lemmas.Bool.{cases_lt, le-leb, true≢false, or_parts}
 use Rattle.fl_model.specs.Agrees.{BlobsOf, reach_of}
 use Rattle.fl_model.specs.Facts.{IsTable, counts_in}
 use Rattle.fl_model.specs.Log.{IsLog, last_key}
@@ -24,10 +24,6 @@ fits-torn ring unspent = elim (cases_lt ring.next spent_from) [
     by_torn true lt = omega (arith, lt)
     by_torn false lt = omega (arith, lt)
 
-neither : (a b : Bool) → (a || b) ≡ false → (a ≡ false) × (b ≡ false)
-neither true b both = absurd (true≢false both)
-neither false b both = (refl, both)
-
 -- ---- a table
 
 module _ (plan : Plan) (table : Table) (lost : table ≡ lose table) where
@@ -44,13 +40,13 @@ module _ (plan : Plan) (table : Table) (lost : table ≡ lose table) where
   unspent-left none = record { each = each; listed = λ low some. let few = rows_few in omega (arith, few) }
     where
       logs : ((is_rows_spent table || is_ring_spent table.var) ≡ false) × (is_ring_spent table.log ≡ false)
-      logs = neither (is_rows_spent table || is_ring_spent table.var) (is_ring_spent table.log) none
+      logs = or_parts (is_rows_spent table || is_ring_spent table.var) (is_ring_spent table.log) none
 
       vars : (is_rows_spent table ≡ false) × (is_ring_spent table.var ≡ false)
-      vars = neither (is_rows_spent table) (is_ring_spent table.var) logs.0
+      vars = or_parts (is_rows_spent table) (is_ring_spent table.var) logs.0
 
       indexes : (nat_le spent_from table.rows.next ≡ false) × (is_ring_spent table.index ≡ false)
-      indexes = neither (nat_le spent_from table.rows.next) (is_ring_spent table.index) vars.0
+      indexes = or_parts (nat_le spent_from table.rows.next) (is_ring_spent table.index) vars.0
 
       rows_few : table.rows.next + cond table.rows.torn 1 0 ≤ spent_from
       rows_few = fits-torn table.rows indexes.0
