@@ -1,8 +1,9 @@
 -- The rows of a page, one after another.
-use Rattle.std.proofs.Common.{◌≡◌, ◌↔◌, ℕ, zero, suc, ◌+◌, ◌≤◌, Bool, true, false, ◌&&◌, Option, Some, None, unwrap_or, List, [], ◌∷◌, length, take, drop, slice_get, refl, sym, subst, ap, ◌∙◌, arith, pos}
+use Rattle.std.proofs.Common.{◌≡◌, ◌↔◌, ℕ, zero, suc, ◌+◌, ◌≤◌, Bool, true, false, ◌&&◌, Option, Some, unwrap_or, List, [], ◌∷◌, length, take, drop, slice_get, refl, sym, subst, ap, ◌∙◌, arith, pos}
 use Rattle.std.specs.List.{fold}
 use Rattle.std.proofs.lemmas.Bool.{ltb-true}
 use Rattle.std.proofs.lemmas.List.{take_all}
+use Rattle.std.proofs.lemmas.Option.{none-some, same_Some}
 use Rattle.fl_bitmap.specs.Bucket.{with_value}
 use Rattle.fl_bitmap.specs.declared.buckets.Buckets.{Buckets}
 use Rattle.fl_model.specs.Query.{is_above}
@@ -20,10 +21,7 @@ pub drop-row : (rows : List Row) (i : ℕ) (row : Row) → slice_get rows i ≡ 
 drop-row rows i row e = at i rows e ∙ ap (λ n. row ∷ drop n rows) (let s : suc i ≡ i + 1 = omega arith in s)
   where
     at : (i : ℕ) (rows : List Row) → slice_get rows i ≡ Some row → drop i rows ≡ row ∷ drop (suc i) rows
-    at i [] e = absurd (none e)
-      where
-        none : None ≡ Some row → ⊥
-        none e = cc
+    at i [] e = absurd (none-some row e)
     at zero (r ∷ rows) e = let same : r ≡ row = cc in ap (λ x. x ∷ rows) same
     at (suc i) (r ∷ rows) e = at i rows e
 
@@ -79,14 +77,8 @@ bitmap-next buckets rows i row e = onto 0 rows i e
   where
     onto : (bits : ℕ) (rows : List Row) (i : ℕ) → slice_get rows i ≡ Some row
         → bits_onto buckets bits (take (i + 1) rows) ≡ with_value buckets (bits_onto buckets bits (take i rows)) (unwrap_or (slice_get row.values 0) (pos 0))
-    onto bits [] i e = absurd (none e)
-      where
-        none : None ≡ Some row → ⊥
-        none k = cc
-    onto bits (x ∷ rows) zero e = ap (λ (r : Row). with_value buckets bits (unwrap_or (slice_get r.values 0) (pos 0))) (same e)
-      where
-        same : Some x ≡ Some row → x ≡ row
-        same k = cc
+    onto bits [] i e = absurd (none-some row e)
+    onto bits (x ∷ rows) zero e = ap (λ (r : Row). with_value buckets bits (unwrap_or (slice_get r.values 0) (pos 0))) (same_Some x row e)
     onto bits (x ∷ rows) (suc i) e =
         ap (λ k. bits_onto buckets bits (take k (x ∷ rows))) (let k : suc i + 1 ≡ suc (i + 1) = omega arith in k)
         ∙ onto (with_value buckets bits (unwrap_or (slice_get x.values 0) (pos 0))) rows i e
