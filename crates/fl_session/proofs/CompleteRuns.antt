@@ -1,6 +1,7 @@
 -- A script of commands in their places is run to its end.
-use Rattle.std.proofs.Common.{◌≡◌, ℕ, inl, inr, ◌⊎◌, Some, None, List, [], length, take, refl, sym, ◌∙◌, subst, arith}
+use Rattle.std.proofs.Common.{◌≡◌, ℕ, inl, inr, ◌⊎◌, Some, List, [], length, take, refl, sym, ◌∙◌, subst, arith}
 use Rattle.std.specs.List.{slice_get}
+use Rattle.std.proofs.lemmas.Option.{none-some}
 use Rattle.fl_model.specs.Record.{Config}
 use Rattle.fl_model.specs.Image.{medium_len}
 use Rattle.fl_words.specs.Command.{Command}
@@ -39,10 +40,7 @@ completes knots text config commands told NoMemory h p own a b c d =
     record { written = h.0.0; content = new-unbegun config p.number p.lines told (subst (λ s. (told.content_now ≡ told.content) ⊎ IsNew s told) p.starts h.0.1) }
 completes knots text config commands told Usage h p own a b c d = a refl
 completes knots text config commands told (Line n) h p own a b c d =
-    let line : EndsLine (effects_of told (Line n)) (Ready config p.number p.lines) n = subst (λ s. EndsLine (effects_of told (Line n)) s n) p.starts h.0 in none (sym p.accepts ∙ line.0)
-  where
-    none : None ≡ Some n → ⊥
-    none e = cc
+    let line : EndsLine (effects_of told (Line n)) (Ready config p.number p.lines) n = subst (λ s. EndsLine (effects_of told (Line n)) s n) p.starts h.0 in none-some _ (sym p.accepts ∙ line.0)
 completes knots text config commands told ScriptRead h p own a b c d = b refl
 completes knots text config commands told OutWrite h p own a b c d = c refl
 completes knots text config commands told MediaMake h p own a b c d = d refl

@@ -5,6 +5,7 @@ use Rattle.std.specs.List.{slice_get}
 use Rattle.std.specs.Option.{is_none}
 use Rattle.std.proofs.lemmas.List.{map-set}
 use Rattle.std.proofs.lemmas.Bool.{false≢true, true≢false}
+use Rattle.std.proofs.lemmas.Option.{none-some}
 use Rattle.fl_base.specs.declared.types.KeyRange.{KeyRange}
 use Rattle.fl_base.specs.declared.types.Span.{Span}
 use Rattle.fl_cursor.specs.Asked.{asked_by}
@@ -38,10 +39,7 @@ use Rattle.fl_store.proofs.Queried.{stands-unlogged}
 
 -- the cursor with a number
 pub cursor-told : (marks : List (Option TableCursor)) (n : ℕ) (mark : Option TableCursor) → slice_get marks n ≡ Some mark → unwrap_or (slice_get (cursors_of marks) n) None ≡ option_map cursor_of mark
-cursor-told [] n mark e = absurd (none e)
-  where
-    none : ◌≡◌ {A = Option (Option TableCursor)} None (Some mark) → ⊥
-    none e = cc
+cursor-told [] n mark e = absurd (none-some mark e)
 cursor-told (x ∷ marks) zero mark e = let same : x ≡ mark = cc in ap (option_map cursor_of) same
 cursor-told (x ∷ marks) (suc n) mark e = cursor-told marks n mark e
 

@@ -1,8 +1,9 @@
 -- The values of the records of a load.
-use Rattle.std.proofs.Common.{◌≡◌, ℕ, zero, suc, slice_get, Some, None, take, subst, ◌+◌, ◌*◌, ◌%◌, ◌-ℤ◌, pos, Bool, if◌then◌else◌, List, [], ◌∷◌, ◌++◌, map, drop, get_or, length, length-append, ◌<◌, ◌≤◌, append_assoc, append-nil, add-one, refl, sym, ◌∙◌, ap, arith}
+use Rattle.std.proofs.Common.{◌≡◌, ℕ, zero, suc, slice_get, Some, take, subst, ◌+◌, ◌*◌, ◌%◌, ◌-ℤ◌, pos, Bool, if◌then◌else◌, List, [], ◌∷◌, ◌++◌, map, drop, get_or, length, length-append, ◌<◌, ◌≤◌, append_assoc, append-nil, add-one, refl, sym, ◌∙◌, ap, arith}
 use Rattle.std.proofs.Math.Seq.{drop-cons}
 use Rattle.std.proofs.lemmas.List.{drop_all}
 use Rattle.std.proofs.Math.IntN.{ℤ}
+use Rattle.std.proofs.lemmas.Option.{none-some}
 use Rattle.fl_model.specs.Record.{Column}
 use Rattle.fl_schema.specs.declared.column.ColumnType.{ColumnType}
 use Rattle.fl_schema.specs.Types.{column_of}
@@ -53,10 +54,7 @@ values_so_far-all n columns seed i values generator h so_far stands =
 
 -- which columns are signed
 take-get : {X : Type 0} (xs : List X) (n : ℕ) (x : X) → slice_get xs n ≡ Some x → take (suc n) xs ≡ take n xs ++ x ∷ []
-take-get [] n x e = absurd (none e)
-  where
-    none : None ≡ Some x → ⊥
-    none k = cc
+take-get [] n x e = absurd (none-some x e)
 take-get (y ∷ ys) zero x e = let same : y ≡ x = cc in rw same refl
 take-get (y ∷ ys) (suc n) x e = ap (λ zs. y ∷ zs) (take-get ys n x e)
 
