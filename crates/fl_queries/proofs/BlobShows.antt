@@ -2,6 +2,7 @@
 use Rattle.std.proofs.Common.{◌≡◌, ◌⊎◌, ℕ, ◌+◌, ◌-◌, ◌/◌, ◌^◌, ◌<◌, ◌≤◌, Bool, true, false, cond, inl, inr, IsTrue, Option, Some, None, Result, Ok, Err, List, [], ◌∷◌, length, take, drop, refl, sym, ◌∙◌, ap, subst, arith}
 use Rattle.std.specs.Prelude.{IfOk, IfSome, OnErr, MatchOption, if◌then◌else◌, ◌==◌, option_map, unwrap_or, slice_get}
 use Rattle.std.proofs.lemmas.Bool.{eq-eqb, false≢true}
+use Rattle.std.proofs.lemmas.Option.{same_Some}
 use Rattle.fl_base.specs.Causes.{Rose}
 use Rattle.fl_base.specs.declared.types.BlobRef.{BlobRef}
 use Rattle.fl_base.specs.declared.types.Geometry.{Geometry}
@@ -42,7 +43,7 @@ use Rattle.fl_words.specs.Reply.{text}
 use Rattle.fl_queries.specs.BlobLine.{ShowsBytes, read_reply}
 use Rattle.fl_queries.specs.BlobShown.{found_in, IfNamed, FindsBlob, NamesBlob, SaysBlob, ShowsBlob}
 use Rattle.fl_queries.proofs.ListsAll.{one-text}
-use Rattle.fl_queries.proofs.Lookups.{found-place, same-some}
+use Rattle.fl_queries.proofs.Lookups.{found-place}
 
 -- ---- where a blob starts
 
@@ -63,7 +64,7 @@ named-has t row layout =
 -- what the row of the entry with the key tells
 pub finds-row : (plan : Plan) (table : model.Table) (key : ℕ) (buf : BufferState) (place : RowAt) (row : Row) → ShowsEntry plan table key buf place → row_of_place plan table buf place ≡ Some row → FindsBlob table key (Ok (found_in row.blob))
 finds-row plan table key buf place row shows at =
-    let same : row ≡ stored_row shows.entry = same-some row (stored_row shows.entry) (sym at ∙ shows.row) in
+    let same : row ≡ stored_row shows.entry = same_Some row (stored_row shows.entry) (sym at ∙ shows.row) in
     subst (λ (r : Row). FindsBlob table key (Ok (found_in r.blob))) (sym same) (by_blob shows.entry.kept.blob refl)
   where
     here : (i : ℕ) × (slice_get table.entries i ≡ Some shows.entry) × (shows.entry.kept.key ≡ key)

@@ -4,6 +4,7 @@ use Rattle.std.specs.Prelude.{is_some, ◌==◌}
 use Rattle.std.proofs.lemmas.Bool.{eqb-true, true≢false}
 use Rattle.std.proofs.Common.{length-take}
 use Rattle.std.specs.List.{slice_get}
+use Rattle.std.proofs.lemmas.Option.{none-some, same_Some}
 use Rattle.fl_find.proofs.Entries.{row-entry}
 use Rattle.fl_find.proofs.PageLooks.{looks-pages, looks-tell}
 use Rattle.fl_find.specs.Looking.{OnlyLooks}
@@ -40,9 +41,6 @@ use Rattle.fl_queries.specs.Looked.{Looks}
 use Rattle.fl_queries.specs.Rows.{row_reply}
 use Rattle.fl_queries.proofs.RowLines.{row-line}
 
-pub same-some : {X : Type 0} (a b : X) → Some a ≡ Some b → a ≡ b
-same-some a b e = cc
-
 never : {P : Type 0} → false ≡ true → P
 never e = cc
 
@@ -54,15 +52,12 @@ the-entry (Some entry) some = (entry, refl)
 
 -- the record that is found has the key, and a place
 pub found-place : (key : ℕ) (entries : List Entry) (entry : Entry) → entry_at key entries ≡ Some entry → (i : ℕ) × (slice_get entries i ≡ Some entry) × (entry.kept.key ≡ key)
-found-place key [] entry e = absurd (none e)
-  where
-    none : ◌≡◌ {A = Option Entry} None (Some entry) → ⊥
-    none e = cc
+found-place key [] entry e = absurd (none-some entry e)
 found-place key (x ∷ entries) entry e = by_key (x.kept.key == key) refl (found-place key entries entry)
   where
     by_key : (b : Bool) → (x.kept.key == key) ≡ b → (entry_at key entries ≡ Some entry → (i : ℕ) × (slice_get entries i ≡ Some entry) × (entry.kept.key ≡ key)) → (i : ℕ) × (slice_get (x ∷ entries) i ≡ Some entry) × (entry.kept.key ≡ key)
     by_key true t later =
-        let same : x ≡ entry = same-some x entry (rw t at e) in
+        let same : x ≡ entry = same_Some x entry (rw t at e) in
         (0, ap (λ (y : Entry). Some y) same, ap (λ (y : Entry). y.kept.key) (sym same) ∙ eqb-true x.kept.key key t)
     by_key false t later =
         let rest = later (rw t at e) in
@@ -99,18 +94,15 @@ looks-absent plan table key faults faults_now reads reads_now said buf found wit
   exact = λ unread. found.exact;
   found = λ unread some.
       let w = the-entry (entry_at key (written table)) some in
-      absurd (no w.0 (sym none ∙ entry-front key (length table.entries - table.pending) table.entries w.0 w.1));
+      absurd (none-some w.0 (sym none ∙ entry-front key (length table.entries - table.pending) table.entries w.0 w.1));
   failed = λ t. never t;
 }
-  where
-    no : (entry : Entry) → ◌≡◌ {A = Option Entry} None (Some entry) → ⊥
-    no entry e = cc
 
 -- one has it, and this is its row
 pub looks-found : (plan : Plan) (table : model.Table) (key faults faults_now reads reads_now : ℕ) (buf : BufferState) (place : RowAt) (row : Row) (blobs : Bool) (said : List ℕ) → blobs ≡ has_var plan → IsTable plan table → IsFound 64 plan table key reads reads_now buf (Some place) → reads_now ≤ reads + lookup_limit 64 plan table key →
     ShowsEntry plan table key buf place → row_of_place plan table buf place ≡ Some row → said ≡ text (row_reply blobs row) → Looks plan table key faults faults_now reads reads_now said
 looks-found plan table key faults faults_now reads reads_now buf place row blobs said noted facts found within shows at is =
-    let same : row ≡ stored_row shows.entry = same-some row (stored_row shows.entry) (sym at ∙ shows.row) in
+    let same : row ≡ stored_row shows.entry = same_Some row (stored_row shows.entry) (sym at ∙ shows.row) in
     record {
       rose = false;
       risen = λ t. never t;
@@ -157,7 +149,7 @@ pub finds-row : (t : Table 64 64) (key : ℕ) (f g : FlashState) (buf : BufferSt
 finds-row t key f g buf place row Holds so reads holds here has answers = record {
   row = row;
   holds = so;
-  key_is = same-some row.key key (sym (ap (option_map (λ (r : Row). r.key)) here) ∙ has);
+  key_is = same_Some row.key key (sym (ap (option_map (λ (r : Row). r.key)) here) ∙ has);
   place = place;
   here = row-stands t f g buf place row (record { reads = reads; power = reads.power; cuts = reads.cuts }) holds here;
   answers = answers;

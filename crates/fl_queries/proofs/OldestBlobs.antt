@@ -3,6 +3,7 @@ use Rattle.std.proofs.Common.{◌≡◌, ◌⊎◌, ℕ, zero, suc, ◌+◌, ◌
 use Rattle.std.specs.Prelude.{◌||◌, ◌&&◌, ◌==◌, nat_le, nat_lt, option_map, unwrap_or, slice_get}
 use Rattle.std.specs.List.{AllByRecursion, find}
 use Rattle.std.proofs.lemmas.Bool.{le-leb, lt-leb, cases_lt, false≢true, true≢false}
+use Rattle.std.proofs.lemmas.Option.{same_Some}
 use Rattle.fl_cursor.proofs.Selected.{all-selected, few-keys}
 use Rattle.fl_flash.specs.Flash.{FlashState}
 use Rattle.fl_model.specs.Facts.{BlobFits, FitsPlan, is_some_ring}
@@ -149,19 +150,13 @@ module _ (t : memory.Table 64 64) (f : FlashState) (first : ℕ) (plan : Plan) (
       by-data (Some v) (Some ring) b var_is e =
           let there : variable.IsStanding v f (first + plan.data_blocks + plan.index_blocks) plan table = subst (λ (v : Option VarData). variable.Stand v f (first + plan.data_blocks + plan.index_blocks) plan table) b stands.blobs in
           let s = there.in_pages.ring in
-          let same : s.ring ≡ ring = some-ring (sym s.ring_is ∙ var_is) in
-          let number_is : number ≡ oldest ring = some-number e in
+          let same : s.ring ≡ ring = same_Some _ _ (sym s.ring_is ∙ var_is) in
+          let number_is : number ≡ oldest ring = same_Some _ _ e in
           let few : length ring.counts ≤ ring.next = subst (λ (r : Ring). length r.counts ≤ r.next) same s.pages.facts.not_negative in
           let placed = subst (λ (r : Ring). variable.ArePlaced r table.entries) same there.placed in
           ap (λ n. first_kept n (map stored_row table.entries)) number_is
           ∙ find-as (λ entry. is_left (blob_of table entry)) (λ row. is_kept (oldest ring) row.blob) table.entries
           (λ i entry at. kept-as table ring entry var_is few (λ blob k some. placed i entry blob at k some))
-        where
-          some-ring : {a b : Ring} → Some a ≡ Some b → a ≡ b
-          some-ring e = cc
-
-          some-number : {a b : ℕ} → Some a ≡ Some b → a ≡ b
-          some-number e = cc
 
   -- all of its rows
   pub all-rows : map stored_row (selected all_keys None table.entries) ≡ map stored_row table.entries
