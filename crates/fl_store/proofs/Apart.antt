@@ -1,9 +1,10 @@
 -- Tables of one configuration, whose rings stand beside the one that a call changes.
-use Rattle.std.proofs.Common.{◌≡◌, ℕ, zero, suc, ◌+◌, ◌*◌, ◌%◌, ◌<◌, ◌≤◌, ◌⊎◌, Bool, true, false, inl, inr, None, Some, List, [], ◌∷◌, take, sym, ◌∙◌, ap, arith}
+use Rattle.std.proofs.Common.{◌≡◌, ℕ, zero, suc, ◌+◌, ◌*◌, ◌%◌, ◌<◌, ◌≤◌, ◌⊎◌, Bool, true, false, inl, inr, Some, List, [], ◌∷◌, take, sym, ◌∙◌, ap, arith}
 use Rattle.std.specs.Prelude.{MatchBool}
 use Rattle.std.proofs.lemmas.Bool.{cases_order, ltb-true}
 use Rattle.std.proofs.lemmas.List.Sums.{sum_by-cons}
 use Rattle.std.specs.List.{slice_get}
+use Rattle.std.proofs.lemmas.Option.{none-some}
 use Rattle.fl_base.specs.declared.types.Geometry.{Geometry}
 use Rattle.fl_flash.specs.Flash.{FlashState, page_at}
 use Rattle.fl_model.specs.Bare.{bare}
@@ -22,10 +23,7 @@ use Rattle.fl_store.specs.declared.tables.Entry.{Entry}
 
 -- the blocks of a table end before those of a later one begin
 pub blocks-apart : (plans : List Plan) (i j : ℕ) (plan : Plan) → slice_get plans i ≡ Some plan → i < j → first_of plans i + blocks_of plan ≤ first_of plans j
-blocks-apart [] i j plan e lt = absurd (none e)
-  where
-    none : None ≡ Some plan → ⊥
-    none k = cc
+blocks-apart [] i j plan e lt = absurd (none-some plan e)
 blocks-apart (p ∷ ps) i zero plan e lt = absurd (omega (arith, lt))
 blocks-apart (p ∷ ps) zero (suc j) plan e lt =
     let same : p ≡ plan = cc in

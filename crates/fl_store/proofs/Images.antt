@@ -4,7 +4,7 @@ use Rattle.std.specs.Prelude.{sum_by}
 use Rattle.std.specs.List.{slice_get}
 use Rattle.std.proofs.lemmas.Bool.{ltb-false}
 use Rattle.std.proofs.lemmas.List.Sums.{sum_by-take-le}
-use Rattle.std.proofs.lemmas.Option.{slice_get_within}
+use Rattle.std.proofs.lemmas.Option.{slice_get_within, none-some}
 use Rattle.fl_base.specs.declared.types.Geometry.{Geometry}
 use Rattle.fl_config.specs.Whole.{Makes}
 use base.Fml.{GName}
@@ -47,10 +47,7 @@ images-many config content place (plan ∷ plans) (table ∷ tables) h = ap suc 
 
 pub images-at : (config : Config) (content : List ℕ) (place : ℕ) (plans : List Plan) (tables : List Table) → AreTableImages config content place plans tables → (i : ℕ) (plan : Plan) (table : Table) → slice_get plans i ≡ Some plan → slice_get tables i ≡ Some table →
     IsTableImage config content (place + i) plan table
-images-at config content place [] tables h i plan table e k = absurd (none e)
-  where
-    none : None ≡ Some plan → ⊥
-    none x = cc
+images-at config content place [] tables h i plan table e k = absurd (none-some plan e)
 images-at config content place (p ∷ plans) [] h i plan table e k = absurd h
 images-at config content place (p ∷ plans) (t ∷ tables) h zero plan table e k =
     let plan_is : p ≡ plan = cc in

@@ -1,5 +1,5 @@
 -- The mount of an image's tables, one after another.
-use Rattle.std.proofs.Common.{◌≡◌, ℕ, zero, suc, ◌+◌, ◌<◌, ◌≤◌, ◌⊎◌, Bool, true, false, nat_lt, if◌then◌else◌, inl, inr, None, Some, Err, List, [], ◌∷◌, ◌++◌, length, map, drop, refl, sym, ◌∙◌, ap, subst, arith}
+use Rattle.std.proofs.Common.{◌≡◌, ℕ, zero, suc, ◌+◌, ◌<◌, ◌≤◌, ◌⊎◌, Bool, true, false, nat_lt, if◌then◌else◌, inl, inr, Some, Err, List, [], ◌∷◌, ◌++◌, length, map, drop, refl, sym, ◌∙◌, ap, subst, arith}
 use Rattle.std.specs.Prelude.{option_map}
 use Rattle.std.specs.List.{slice_get}
 use Rattle.std.proofs.lemmas.Bool.{cases_lt, lt-ltb, le-ltb}
@@ -7,7 +7,7 @@ use Rattle.std.proofs.lemmas.Bool.Decides.{eqb_tells}
 use Rattle.std.proofs.lemmas.List.{drop_all, length-map}
 use Rattle.std.proofs.Math.Dec.{eqb}
 use Rattle.std.proofs.Math.Path.{fun_ext}
-use Rattle.std.proofs.lemmas.Option.{slice_get-map, slice_get_within, slice_get_past}
+use Rattle.std.proofs.lemmas.Option.{slice_get-map, slice_get_within, slice_get_past, none-some}
 use Rattle.fl_flash.specs.Flash.{FlashState, Goes, page_at}
 use Rattle.fl_flash.specs.declared.flash.FlashFault.{FlashFault}
 use Rattle.fl_flash.specs.declared.flash.FlashFault.TheVariants.{Media}
@@ -99,10 +99,7 @@ module _ (plans : List Plan) (start : List model.Table) (rose : Bool) (device : 
   turns = ap (λ (ps : List Plan). turns_from k ps) (drop-at plans k own.plan own.plan_is ∙ ap (λ n. own.plan ∷ drop n plans) (let e : suc k ≡ k + 1 = omega arith in e))
     where
       drop-at : (ps : List Plan) (n : ℕ) (plan : Plan) → slice_get ps n ≡ Some plan → drop n ps ≡ plan ∷ drop (suc n) ps
-      drop-at [] n plan e = absurd (none e)
-        where
-          none : None ≡ Some plan → ⊥
-          none x = cc
+      drop-at [] n plan e = absurd (none-some plan e)
       drop-at (p ∷ ps) zero plan e = let is : p ≡ plan = cc in ap (λ x. x ∷ ps) is
       drop-at (p ∷ ps) (suc n) plan e = drop-at ps n plan e
 
@@ -224,14 +221,8 @@ module _ (plans : List Plan) (start : List model.Table) (rose : Bool) (device : 
 
 -- all were mounted
 all-ready-at : (plans : List Plan) (tables : List model.Table) (i : ℕ) (plan : Plan) (table : model.Table) → slice_get plans i ≡ Some plan → slice_get tables i ≡ Some table → slice_get (all_ready plans tables) i ≡ Some (made_ready plan table)
-all-ready-at [] tables i plan table p t = absurd (none p)
-  where
-    none : None ≡ Some plan → ⊥
-    none x = cc
-all-ready-at (q ∷ plans) [] i plan table p t = absurd (none t)
-  where
-    none : None ≡ Some table → ⊥
-    none x = cc
+all-ready-at [] tables i plan table p t = absurd (none-some plan p)
+all-ready-at (q ∷ plans) [] i plan table p t = absurd (none-some table t)
 all-ready-at (q ∷ plans) (y ∷ tables) zero plan table p t =
     let plan_is : q ≡ plan = cc in
     let table_is : y ≡ table = cc in

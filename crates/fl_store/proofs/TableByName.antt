@@ -2,7 +2,7 @@
 use Rattle.std.proofs.Common.{◌≡◌, ℕ, zero, suc, ◌+◌, ◌<◌, Bool, true, false, ◌||◌, if◌then◌else◌, Option, None, Some, List, [], ◌∷◌, refl, sym, ◌∙◌, ap, arith}
 use Rattle.std.specs.Prelude.{find}
 use Rattle.std.specs.List.{slice_get}
-use Rattle.std.proofs.lemmas.Option.{slice_get_within}
+use Rattle.std.proofs.lemmas.Option.{slice_get_within, none-some}
 use Rattle.fl_config.proofs.Names.{bytes_equal-other}
 use Rattle.fl_flash.specs.Flash.{FlashState}
 use Rattle.fl_model.specs.Record.{Plan, bytes_equal}
@@ -22,14 +22,8 @@ AsLocated place plan table = Some (record { place = place; plan = plan; table = 
 -- the first plan with the name, and the table beside it
 pub located-first : (plans : List Plan) (tables : List model.Table) (place at : ℕ) (name : List ℕ) (plan : Plan) (table : model.Table) → slice_get plans at ≡ Some plan → slice_get tables at ≡ Some table → plan.name ≡ name →
     ((i : ℕ) (other : Plan) → i < at → slice_get plans i ≡ Some other → other.name ≡ name → ⊥) → located_from place plans tables name ≡ AsLocated (place + at) plan table
-located-first [] tables place at name plan table p t named others = absurd (none p)
-  where
-    none : None ≡ Some plan → ⊥
-    none e = cc
-located-first (q ∷ plans) [] place at name plan table p t named others = absurd (none t)
-  where
-    none : None ≡ Some table → ⊥
-    none e = cc
+located-first [] tables place at name plan table p t named others = absurd (none-some plan p)
+located-first (q ∷ plans) [] place at name plan table p t named others = absurd (none-some table t)
 located-first (q ∷ plans) (x ∷ tables) place zero name plan table p t named others =
     let plan_is : q ≡ plan = cc in
     let table_is : x ≡ table = cc in
@@ -54,10 +48,7 @@ located-none (q ∷ plans) (x ∷ tables) place name others =
 -- the first plan with a name
 pub find-first : (plans : List Plan) (at : ℕ) (name : List ℕ) (plan : Plan) → slice_get plans at ≡ Some plan → plan.name ≡ name → ((i : ℕ) (other : Plan) → i < at → slice_get plans i ≡ Some other → other.name ≡ name → ⊥) →
     find (λ p. bytes_equal p.name name) plans ≡ Some plan
-find-first [] at name plan e named others = absurd (none e)
-  where
-    none : None ≡ Some plan → ⊥
-    none k = cc
+find-first [] at name plan e named others = absurd (none-some plan e)
 find-first (q ∷ plans) zero name plan e named others =
     let plan_is : q ≡ plan = cc in
     let own : bytes_equal q.name name ≡ true = ap (bytes_equal q.name) (sym named ∙ ap (λ (r : Plan). r.name) (sym plan_is)) ∙ bytes_equal-own q.name in
@@ -68,10 +59,7 @@ find-first (q ∷ plans) (suc at) name plan e named others =
 
 -- a name is among plans, or it isn't
 pub name-there : (plans : List Plan) (at : ℕ) (name : List ℕ) (plan : Plan) → slice_get plans at ≡ Some plan → plan.name ≡ name → has_name name plans ≡ true
-name-there [] at name plan p named = absurd (none p)
-  where
-    none : None ≡ Some plan → ⊥
-    none e = cc
+name-there [] at name plan p named = absurd (none-some plan p)
 name-there (q ∷ plans) zero name plan p named =
     let plan_is : q ≡ plan = cc in
     let own : bytes_equal q.name name ≡ true = ap (bytes_equal q.name) (sym named ∙ ap (λ (r : Plan). r.name) (sym plan_is)) ∙ bytes_equal-own q.name in

@@ -5,7 +5,7 @@ use Rattle.std.proofs.Math.Dec.{eqb}
 use Rattle.std.specs.List.{slice_get}
 use Rattle.std.proofs.lemmas.Bool.Decides.{eqb_tells}
 use Rattle.std.proofs.lemmas.List.{length-set, length-map}
-use Rattle.std.proofs.lemmas.Option.{slice_get-map, slice_get_within, slice_get_read}
+use Rattle.std.proofs.lemmas.Option.{slice_get-map, slice_get_within, slice_get_read, none-some}
 use Rattle.fl_flash.specs.Flash.{FlashState, page_at}
 use Rattle.fl_model.specs.Record.{Plan}
 use Rattle.fl_model.specs.Table as model
@@ -22,18 +22,12 @@ use Rattle.fl_store.proofs.Apart.{other-stands}
 
 -- the elements of a list of which one was changed
 pub set-there : {X : Type 0} (xs : List X) (n : ℕ) (x y : X) → slice_get xs n ≡ Some x → slice_get (set xs n y) n ≡ Some y
-set-there [] n x y e = absurd (none e)
-  where
-    none : None ≡ Some x → ⊥
-    none k = cc
+set-there [] n x y e = absurd (none-some x e)
 set-there (z ∷ zs) zero x y e = refl
 set-there (z ∷ zs) (suc n) x y e = set-there zs n x y e
 
 pub set-here : {X : Type 0} (xs : List X) (n : ℕ) (y z : X) → slice_get (set xs n y) n ≡ Some z → y ≡ z
-set-here [] n y z e = absurd (none e)
-  where
-    none : None ≡ Some z → ⊥
-    none k = cc
+set-here [] n y z e = absurd (none-some z e)
 set-here (x ∷ xs) zero y z e = cc
 set-here (x ∷ xs) (suc n) y z e = set-here xs n y z e
 

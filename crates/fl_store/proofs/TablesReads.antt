@@ -3,6 +3,7 @@ use Rattle.std.proofs.Common.{◌≡◌, ℕ, zero, suc, ◌+◌, ◌*◌, ◌�
 use Rattle.std.specs.List.{slice_get}
 use Rattle.std.proofs.Math.Nat.{add-mul}
 use Rattle.std.proofs.lemmas.List.Sums.{sum_by-cons, sum_by-take-le}
+use Rattle.std.proofs.lemmas.Option.{none-some}
 use Rattle.fl_flash.specs.Flash.{FlashState}
 use Rattle.fl_index.specs.declared.index.BitmapIndex.{BitmapIndex}
 use Rattle.fl_machine.specs.Reads.{most_of_mount, mounts_limit}
@@ -23,10 +24,7 @@ use Rattle.fl_store.specs.declared.tables.Entry.{Entry}
 
 -- a sum over one more
 pub sum-more : {X : Type 0} (f : X → ℕ) (xs : List X) (i : ℕ) (x : X) → slice_get xs i ≡ Some x → sum_by f (take (suc i) xs) ≡ sum_by f (take i xs) + f x
-sum-more f [] i x e = absurd (none e)
-  where
-    none : None ≡ Some x → ⊥
-    none k = cc
+sum-more f [] i x e = absurd (none-some x e)
 sum-more f (y ∷ xs) zero x e = let same : y ≡ x = cc in omega (arith, sum_by-cons f y [], ap f same)
 sum-more f (y ∷ xs) (suc i) x e = omega (arith, sum-more f xs i x e, sum_by-cons f y (take i xs), sum_by-cons f y (take (suc i) xs))
 
@@ -66,14 +64,8 @@ planned-pages t first plan h =
 -- the mounts of one more
 mounts-more : (plans : List Plan) (tables : List model.Table) (i : ℕ) (plan : Plan) (table : model.Table) → slice_get plans i ≡ Some plan → slice_get tables i ≡ Some table →
     mounts_limit (take (suc i) plans) tables ≡ mounts_limit (take i plans) tables + most_of_mount plan table
-mounts-more [] tables i plan table p t = absurd (none p)
-  where
-    none : None ≡ Some plan → ⊥
-    none k = cc
-mounts-more (q ∷ plans) [] i plan table p t = absurd (none t)
-  where
-    none : None ≡ Some table → ⊥
-    none k = cc
+mounts-more [] tables i plan table p t = absurd (none-some plan p)
+mounts-more (q ∷ plans) [] i plan table p t = absurd (none-some table t)
 mounts-more (q ∷ plans) (x ∷ tables) zero plan table p t =
     let plan_is : q ≡ plan = cc in
     let table_is : x ≡ table = cc in
