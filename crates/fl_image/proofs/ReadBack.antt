@@ -7,6 +7,7 @@ use Rattle.std.specs.List.{AllByRecursion, list_all, list_any, slice_get, slice_
 use Rattle.std.proofs.lemmas.Bool.{and_parts}
 use Rattle.std.proofs.lemmas.Bool.Decides.{nat_tests}
 use Rattle.std.proofs.lemmas.List.{length-replicate, length-map}
+use Rattle.std.proofs.lemmas.Option.{none-some, same_Some}
 use Rattle.fl_base.specs.declared.types.Geometry.{Geometry}
 use Rattle.fl_model.specs.Record.{Column, Plan, Config, row_len, bytes_equal}
 use Rattle.fl_words.specs.Command as command
@@ -215,15 +216,9 @@ faults_by geometry plans line cols log =
 
 -- where no fault applies, no test passes
 pub test-passes : (tests : List (Bool × ConfigFault)) (i : ℕ) (test : Bool × ConfigFault) → first_fault tests ≡ None → slice_get tests i ≡ Some test → test.0 ≡ false
-test-passes [] i test h e = absurd (none e)
+test-passes [] i test h e = absurd (none-some test e)
+test-passes (t ∷ tests) zero test h e = subst (λ (x : Bool × ConfigFault). x.0 ≡ false) (same_Some t test e) (by_test t.0 h)
   where
-    none : None ≡ Some test → ⊥
-    none e = cc
-test-passes (t ∷ tests) zero test h e = subst (λ (x : Bool × ConfigFault). x.0 ≡ false) (same e) (by_test t.0 h)
-  where
-    same : Some t ≡ Some test → t ≡ test
-    same e = cc
-
     by_test : (b : Bool) → cond b (Some t.1) (first_fault tests) ≡ None → b ≡ false
     by_test true h = cc
     by_test false h = refl
