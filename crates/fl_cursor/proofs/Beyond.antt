@@ -1,8 +1,8 @@
 -- No row is left from a page on that begins above the last key.
-use Rattle.std.proofs.Common.{◌≡◌, ℕ, suc, ◌+◌, ◌-◌, ◌<◌, Bool, true, false, not, ◌&&◌, ◌||◌, cond, Option, Some, None, List, [], ◌∷◌, ◌++◌, refl, sym, ◌∙◌, ap, subst, arith}
+use Rattle.std.proofs.Common.{◌≡◌, ℕ, suc, ◌+◌, ◌-◌, ◌<◌, true, false, not, ◌&&◌, ◌||◌, cond, Option, Some, None, List, [], ◌∷◌, ◌++◌, refl, sym, ◌∙◌, ap, subst, arith}
 use Rattle.std.specs.List.{list_any}
 use Rattle.std.proofs.Math.Bool.{and-false}
-use Rattle.std.proofs.lemmas.Bool.{le-leb, leb-false, false≢true}
+use Rattle.std.proofs.lemmas.Bool.{le-leb, leb-false, false≢true, not-true}
 use Rattle.fl_base.specs.declared.types.Span.{Span}
 use Rattle.fl_model.specs.Query.{Cursor, is_above, is_up_to}
 use Rattle.fl_model.specs.Row.{Row}
@@ -37,10 +37,6 @@ up-last (Some top) key e =
     let up = not-true (is_up_to (Some top) key) e in
     let lt : top < key = leb-false key top up in
     (up, le-leb top key (omega (arith, lt)))
-  where
-    not-true : (b : Bool) → not b ≡ true → b ≡ false
-    not-true false e = refl
-    not-true true e = absurd (false≢true e)
 
 -- its first row has the last key or is behind it
 pub beyond-last : (top : Option ℕ) (rows : List Row) → begins_above top rows ≡ true → has_last top rows ≡ true

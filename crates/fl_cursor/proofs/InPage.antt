@@ -3,6 +3,7 @@ use Rattle.std.proofs.Common.{◌≡◌, ℕ, suc, ◌+◌, ◌-◌, ◌^◌, �
 use Rattle.std.specs.List.{slice_get}
 use Rattle.std.proofs.lemmas.Bool.{lt-ltb, le-leb, eq-eqb}
 use Rattle.std.proofs.lemmas.List.{drop-drop}
+use Rattle.std.proofs.lemmas.Option.{same_Some}
 use Rattle.fl_model.specs.Record.{RowLayout, layout_len}
 use Rattle.fl_model.specs.Row.{Row}
 use Rattle.fl_model.proofs.Lists.{slice_get-drop, slice_get-short}
@@ -40,10 +41,7 @@ good-seen layout number page good =
 -- the same row
 pub same-row : (rows : List Row) (from j k : ℕ) (r row : Row) → k ≡ from + j → slice_get (drop from rows) j ≡ Some r → slice_get rows k ≡ Some row → r ≡ row
 same-row rows from j k r row at one other =
-    some-same r row (sym one ∙ (slice_get-drop from rows j ∙ (ap (slice_get rows) (sym at) ∙ other)))
-  where
-    some-same : (a b : Row) → Some a ≡ Some b → a ≡ b
-    some-same a b e = cc
+    same_Some r row (sym one ∙ (slice_get-drop from rows j ∙ (ap (slice_get rows) (sym at) ∙ other)))
 
 pub drop-same : (rows : List Row) (from j k : ℕ) → k ≡ from + j → drop (suc j) (drop from rows) ≡ drop (k + 1) rows
 drop-same rows from j k at = drop-drop (suc j) from rows ∙ ap (λ n. drop n rows) (let e : from + suc j ≡ k + 1 = omega (arith, at) in e)

@@ -3,6 +3,7 @@ use Rattle.std.proofs.Common.{◌≡◌, inl, inr, ℕ, ◌+◌, ◌-◌, ◌<�
 use Rattle.std.specs.Borrow.{MutBor}
 use Rattle.std.specs.List.{slice_get, list_any}
 use Rattle.std.proofs.lemmas.Bool.{cases_lt}
+use Rattle.std.proofs.lemmas.Option.{none-some}
 use Rattle.fl_base.specs.declared.types.KeyRange.{KeyRange}
 use Rattle.fl_flash.specs.Buffer.{BufferState}
 use Rattle.fl_flash.specs.Flash.{FlashState, page_at}
@@ -53,17 +54,11 @@ fresh-in (Some index) f buf h = h
 -- a buffer that holds no page
 pub fresh-none : (bitmaps : Option BitmapIndex) (contents : Contents) (buf : BufferState) → buf.holds ≡ None → AreFreshIn bitmaps contents buf
 fresh-none None contents buf none = tt
-fresh-none (Some index) contents buf none = λ number held. absurd (no (sym none ∙ held.place))
-  where
-    no : {n : ℕ} → ◌≡◌ {A = Option ℕ} None (Some n) → ⊥
-    no e = cc
+fresh-none (Some index) contents buf none = λ number held. absurd (none-some _ (sym none ∙ held.place))
 
 pub good-none : (bitmaps : Option BitmapIndex) (buf : BufferState) → buf.holds ≡ None → HoldGood bitmaps buf
 good-none None buf none = tt
-good-none (Some index) buf none = λ number held. absurd (no (sym none ∙ held.place))
-  where
-    no : {n : ℕ} → ◌≡◌ {A = Option ℕ} None (Some n) → ⊥
-    no e = cc
+good-none (Some index) buf none = λ number held. absurd (none-some _ (sym none ∙ held.place))
 
 pub scanning-none : (bitmaps : Option BitmapIndex) (number : ℕ) (buf : BufferState) → buf.holds ≡ None → AreScanning bitmaps number buf
 scanning-none None number buf none = tt

@@ -1,9 +1,10 @@
 -- The index pages that list a page with rows after the first one of a scan.
 use Rattle.std.proofs.Common.{◌≡◌, ◌⊎◌, inl, inr, ℕ, zero, suc, ◌+◌, ◌-◌, ◌<◌, ◌≤◌, Bool, true, false, ◌&&◌, ◌||◌, cond, ◌==◌, nat_le, nat_lt, Option, Some, None, unwrap_or, List, [], ◌∷◌, ◌++◌, length, map, take, drop, refl, sym, ◌∙◌, ap, subst, append_assoc, arith}
 use Rattle.std.specs.List.{slice_get, list_any, count_by, sum, AllByRecursion}
-use Rattle.std.proofs.lemmas.Bool.{cases_lt, leb-true, le-leb, ltb-true, false_from_ne_true, true≢false}
+use Rattle.std.proofs.lemmas.Bool.{cases_lt, leb-true, le-leb, ltb-true, false_from_ne_true, true≢false, and_parts}
 use Rattle.std.proofs.lemmas.List.{length-drop}
 use Rattle.std.proofs.lemmas.List.Sums.{sum_by-cons, sum_by-take-le}
+use Rattle.std.proofs.lemmas.Option.{none-some, same_Some}
 use Rattle.fl_base.specs.declared.types.KeyRange.{KeyRange}
 use Rattle.fl_base.specs.declared.types.Span.{Span}
 use Rattle.fl_find.specs.Pages.{first_key}
@@ -40,10 +41,6 @@ use Rattle.fl_cursor.proofs.PassedRows.{each-front, each-back}
 use Rattle.fl_cursor.proofs.Selected.{all-up}
 use Rattle.fl_cursor.proofs.StartPlaces.{ascends-front}
 use Rattle.fl_cursor.proofs.Stood.{kept-rows, standing-rows, standing-ascends}
-
-both : (a b : Bool) → (a && b) ≡ true → (a ≡ true) × (b ≡ true)
-both true b h = (refl, h)
-both false b h = absurd (true≢false (sym h))
 
 -- ---- pages with rows
 
@@ -104,14 +101,8 @@ each-take P (suc n) (x ∷ xs) h = (h.0, each-take P n xs h.1)
 
 -- the first row of a page that begins so
 begun-row : (key : ℕ) (rows : List Row) (row : Row) → slice_get rows 0 ≡ Some row → row.key ≤ key → begins_by key rows ≡ true
-begun-row key [] row e le = absurd (none e)
-  where
-    none : ◌≡◌ {A = Option Row} None (Some row) → ⊥
-    none e = cc
-begun-row key (x ∷ rows) row e le = let same = ap (λ (r : Row). r.key) (some-same x row e) in le-leb x.key key (omega (arith, same, le))
-  where
-    some-same : (a b : Row) → Some a ≡ Some b → a ≡ b
-    some-same a b e = cc
+begun-row key [] row e le = absurd (none-some row e)
+begun-row key (x ∷ rows) row e le = let same = ap (λ (r : Row). r.key) (same_Some x row e) in le-leb x.key key (omega (arith, same, le))
 
 -- a page is looked up
 or-true : (b c : Bool) → c ≡ true → (b || c) ≡ true
@@ -134,24 +125,12 @@ looked-any t contents top q (suc n) number k low high up is = elim (cases_lt num
     by_rows false e = e
 
 first-any : (p : Row → Bool) (rows : List Row) (row : Row) → slice_get rows 0 ≡ Some row → p row ≡ true → list_any p rows ≡ true
-first-any p [] row e is = absurd (none e)
-  where
-    none : ◌≡◌ {A = Option Row} None (Some row) → ⊥
-    none e = cc
-first-any p (x ∷ rows) row e is = ap (λ b. b || list_any p rows) (ap p (some-same x row e) ∙ is)
-  where
-    some-same : (a b : Row) → Some a ≡ Some b → a ≡ b
-    some-same a b e = cc
+first-any p [] row e is = absurd (none-some row e)
+first-any p (x ∷ rows) row e is = ap (λ b. b || list_any p rows) (ap p (same_Some x row e) ∙ is)
 
 first-each : (P : Row → Type 0) (rows : List Row) (row : Row) → slice_get rows 0 ≡ Some row → AllByRecursion P rows → P row
-first-each P [] row e h = absurd (none e)
-  where
-    none : ◌≡◌ {A = Option Row} None (Some row) → ⊥
-    none e = cc
-first-each P (x ∷ rows) row e h = subst P (some-same x row e) h.0
-  where
-    some-same : (a b : Row) → Some a ≡ Some b → a ≡ b
-    some-same a b e = cc
+first-each P [] row e h = absurd (none-some row e)
+first-each P (x ∷ rows) row e h = subst P (same_Some x row e) h.0
 
 -- the first entry of a page with rows
 record HasFirst (P : Entry → Type 0) (entries : List Entry) : Type 0 where
@@ -230,19 +209,16 @@ module _ {KNOTS SLOTS : ℕ} (t : Table KNOTS SLOTS) (contents : Contents) (h : 
         IsPageOf (λ n. first_key (rows_on t contents n)) (oldest_in t) (next_in t) range.high page → row.key ≤ range.high
     in-range n row low high first None e is = absurd (true≢false (sym e))
     in-range n row low high first (Some page) e is =
-        let b = both (nat_le (first_page h.table range.low) n) (nat_le n page) e in
+        let b = and_parts (nat_le (first_page h.table range.low) n) (nat_le n page) e in
         let le = leb-true n page b.1 in
         let begun = begins range.high (rows_on t contents page) is.here in
         elim (cases_lt n page) [
           | inl lt ↦ let less = earlier n page row begun.row low lt is.before first begun.first in omega (arith, less, begun.up_to)
           | inr ge ↦
               let same : page ≡ n = omega (arith, le, ge) in
-              let equal = some-same begun.row row (sym begun.first ∙ (ap (λ k. slice_get (rows_on t contents k) 0) same ∙ first)) in
+              let equal = same_Some begun.row row (sym begun.first ∙ (ap (λ k. slice_get (rows_on t contents k) 0) same ∙ first)) in
               omega (arith, begun.up_to, ap (λ (r : Row). r.key) equal)
         ]
-      where
-        some-same : (a b : Row) → Some a ≡ Some b → a ≡ b
-        some-same a b e = cc
 
     later-is : (first : ℕ) → lists_later first ≡ true → (n : ℕ) × IsLater first n
     later-is first e = by_kept (any-kept (is_later first) (rings.oldest h.table.rows) h.table.rows.counts h.table.entries e)
@@ -250,9 +226,9 @@ module _ {KNOTS SLOTS : ℕ} (t : Table KNOTS SLOTS) (contents : Contents) (h : 
         by_kept : KeptPage (is_later first) (rings.oldest h.table.rows) h.table.rows.counts → (n : ℕ) × IsLater first n
         by_kept k =
             let n = rings.oldest h.table.rows + k.i in
-            let b1 = both (nat_le first n && nat_lt n (first + entries_per_page h.plan) && nat_lt (first_page h.table range.low) n) (in_pages (first_page h.table range.low) (last_page h.table range.high) n) k.passes in
-            let b2 = both (nat_le first n && nat_lt n (first + entries_per_page h.plan)) (nat_lt (first_page h.table range.low) n) b1.0 in
-            let b3 = both (nat_le first n) (nat_lt n (first + entries_per_page h.plan)) b2.0 in
+            let b1 = and_parts (nat_le first n && nat_lt n (first + entries_per_page h.plan) && nat_lt (first_page h.table range.low) n) (in_pages (first_page h.table range.low) (last_page h.table range.high) n) k.passes in
+            let b2 = and_parts (nat_le first n && nat_lt n (first + entries_per_page h.plan)) (nat_lt (first_page h.table range.low) n) b1.0 in
+            let b3 = and_parts (nat_le first n) (nat_lt n (first + entries_per_page h.plan)) b2.0 in
             let oldest = oldest-is t h.flash h.first h.plan h.table h.stands in
             let next = next-is t h.flash h.first h.plan h.table h.stands in
             let short = slice_get-short h.table.rows.counts k.i k.c k.here in

@@ -4,6 +4,7 @@ use Rattle.std.specs.List.{slice_get, list_any, count_by, sum, AllByRecursion}
 use Rattle.std.proofs.lemmas.Bool.{cases_lt, leb-true, le-leb, eqb-true, false_from_ne_true, true≢false}
 use Rattle.std.proofs.lemmas.List.{drop-drop}
 use Rattle.std.proofs.lemmas.List.Sums.{sum_by-cons}
+use Rattle.std.proofs.lemmas.Option.{none-some}
 use Rattle.fl_base.specs.declared.types.KeyRange.{KeyRange}
 use Rattle.fl_base.specs.declared.types.Span.{Span}
 use Rattle.fl_model.specs.Facts.{is_some_ring, counts_in}
@@ -61,10 +62,7 @@ each-take P (suc n) [] h = tt
 each-take P (suc n) (x ∷ xs) h = (h.0, each-take P n xs h.1)
 
 drop-at : (i x : ℕ) (xs : List ℕ) → slice_get xs i ≡ Some x → drop i xs ≡ x ∷ drop (suc i) xs
-drop-at i x [] e = absurd (none e)
-  where
-    none : ◌≡◌ {A = Option ℕ} None (Some x) → ⊥
-    none e = cc
+drop-at i x [] e = absurd (none-some x e)
 drop-at zero x (y ∷ []) e = let same : y ≡ x = cc in ap (λ (z : ℕ). z ∷ []) same
 drop-at zero x (y ∷ z ∷ ys) e = let same : y ≡ x = cc in ap (λ (w : ℕ). w ∷ z ∷ ys) same
 drop-at (suc i) x (y ∷ ys) e = drop-at i x ys e

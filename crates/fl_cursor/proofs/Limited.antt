@@ -1,7 +1,7 @@
 -- What a cursor that begins reads at most, in the words of the model.
-use Rattle.std.proofs.Common.{◌≡◌, ℕ, zero, suc, ◌+◌, ◌-◌, ◌<◌, ◌≤◌, ◌⊎◌, Bool, true, false, ◌&&◌, ◌||◌, not, cond, min, ◌==◌, nat_le, Option, Some, None, option_map, unwrap_or, IfSome, List, [], ◌∷◌, length, refl, sym, ◌∙◌, ap, subst, arith, inl, inr}
+use Rattle.std.proofs.Common.{◌≡◌, ℕ, zero, suc, ◌+◌, ◌-◌, ◌<◌, ◌≤◌, ◌⊎◌, Bool, true, false, ◌&&◌, ◌||◌, cond, min, ◌==◌, nat_le, Option, Some, None, option_map, unwrap_or, IfSome, List, [], ◌∷◌, length, refl, sym, ◌∙◌, ap, subst, arith, inl, inr}
 use Rattle.std.specs.List.{count_by, slice_get}
-use Rattle.std.proofs.lemmas.Bool.{cases_lt, le-leb, leb-false, leb-true, eq-eqb, true≢false}
+use Rattle.std.proofs.lemmas.Bool.{cases_lt, le-leb, leb-false, leb-true, eq-eqb, true≢false, not-false, or_parts}
 use Rattle.std.proofs.lemmas.List.Sums.{sum_by-cons}
 use Rattle.fl_base.specs.declared.types.KeyRange.{KeyRange}
 use Rattle.fl_base.specs.declared.types.Span.{Span}
@@ -77,17 +77,9 @@ module _ {KNOTS SLOTS : ℕ} (t : Table KNOTS SLOTS) (contents : Contents) (h : 
   wanted : (span : Option Span) (number : ℕ) → oldest_in t ≤ number → number < next_in t → is_skipped t contents span number ≡ false → (0 < rows_noted t number) × (is_wanted h.plan h.table span number ≡ true)
   wanted span number from before skipped = by_count (cases_lt 0 (rows_noted t number))
     where
-      or-parts : (a b : Bool) → (a || b) ≡ false → (a ≡ false) × (b ≡ false)
-      or-parts false b e = (refl, e)
-      or-parts true b e = absurd (true≢false e)
-
-      not-false : (b : Bool) → not b ≡ false → b ≡ true
-      not-false true e = refl
-      not-false false e = absurd (true≢false e)
-
       by_count : (0 < rows_noted t number) ⊎ (rows_noted t number ≤ 0) → (0 < rows_noted t number) × (is_wanted h.plan h.table span number ≡ true)
       by_count (inl some) =
-          let parts = or-parts (rows_noted t number == 0) (is_missed t span number (rows_on t contents number)) skipped in
+          let parts = or_parts (rows_noted t number == 0) (is_missed t span number (rows_on t contents number)) skipped in
           let wants = not-false (wants_page h.plan h.table span number (rows_at h.table (number - rings.oldest h.table.rows) (rows_noted t number))) (sym (missed-wanted t contents h number from before span) ∙ parts.1) in
           (some, sym (wanted-same t contents h number from before span some) ∙ wants)
       by_count (inr none) =

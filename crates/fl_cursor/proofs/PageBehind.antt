@@ -4,6 +4,7 @@ use Rattle.std.specs.List.{slice_get, sum}
 use Rattle.std.proofs.lemmas.Bool.{eqb-true, lt-ltb, ltb-true, false_from_ne_true, leb-true, true≢false}
 use Rattle.std.proofs.lemmas.List.{drop-drop}
 use Rattle.std.proofs.lemmas.List.Sums.{sum_by-cons}
+use Rattle.std.proofs.lemmas.Option.{none-some, same_Some}
 use Rattle.fl_base.specs.declared.types.Span.{Span}
 use Rattle.fl_model.specs.Image.{rows_at}
 use Rattle.fl_model.specs.Limits.{is_indexed, page_behind}
@@ -23,9 +24,6 @@ use Rattle.fl_cursor.specs.Listed.{rows_on}
 use Rattle.fl_cursor.specs.Reads.{is_beyond, IsBounded}
 use Rattle.fl_cursor.proofs.Stood.{at-number, kept-rows, standing-many}
 use Rattle.fl_cursor.proofs.Wanted.{beyond-same, rows-are}
-
-some-same : {X : Type 0} {a b : X} → Some a ≡ Some b → a ≡ b
-some-same e = cc
 
 -- ---- among the pages with rows
 
@@ -71,17 +69,14 @@ not-zero (suc x) z = omega arith
 
 -- the first that begins above a key is one of them
 above-at : (high first : ℕ) (counts : List ℕ) (entries : List Entry) (page : ℕ × List Entry) → slice_get (filter (is_above_key high) (pages_from first counts entries)) 0 ≡ Some page → BeginsAbove high first counts entries page.0
-above-at high first [] entries page e = absurd (none e)
-  where
-    none : ◌≡◌ {A = Option (ℕ × List Entry)} None (Some page) → ⊥
-    none e = cc
+above-at high first [] entries page e = absurd (none-some page e)
 above-at high first (x ∷ counts) entries page e = by_zero (x == 0) refl e (λ es h. above-at high (first + 1) counts es page h)
   where
     by_test : (b : Bool) → nat_lt high (first_key (take x entries)) ≡ b → 0 < x →
         slice_get (cond b ((first, take x entries) ∷ filter (is_above_key high) (pages_from (first + 1) counts (drop x entries))) (filter (is_above_key high) (pages_from (first + 1) counts (drop x entries)))) 0 ≡ Some page →
         (slice_get (filter (is_above_key high) (pages_from (first + 1) counts (drop x entries))) 0 ≡ Some page → BeginsAbove high (first + 1) counts (drop x entries) page.0) → BeginsAbove high first (x ∷ counts) entries page.0
     by_test true is some e others =
-        let same : (first, take x entries) ≡ page = some-same e in
+        let same : (first, take x entries) ≡ page = same_Some _ _ e in
         record {
           i = 0;
           c = x;
@@ -107,14 +102,11 @@ record FirstAbove (high first : ℕ) (counts : List ℕ) (entries : List Entry) 
   le : page.0 ≤ most
 
 first-above : (high first : ℕ) (counts : List ℕ) (entries : List Entry) (i c : ℕ) → slice_get counts i ≡ Some c → 0 < c → nat_lt high (first_key (page_rows counts entries i c)) ≡ true → FirstAbove high first counts entries (first + i)
-first-above high first [] entries i c e some above = absurd (none e)
-  where
-    none : ◌≡◌ {A = Option ℕ} None (Some c) → ⊥
-    none e = cc
+first-above high first [] entries i c e some above = absurd (none-some c e)
 first-above high first (x ∷ counts) entries zero c e some above = by_zero (x == 0) refl
   where
     same : x ≡ c
-    same = some-same e
+    same = same_Some _ _ e
 
     here : nat_lt high (first_key (take x entries)) ≡ true
     here = ap (λ n. nat_lt high (first_key (take n entries))) same ∙ (sym (ap (λ (es : List Entry). nat_lt high (first_key (take c es))) (drop-none entries)) ∙ above)
@@ -160,11 +152,8 @@ first-above high first (x ∷ counts) entries (suc i) c e some above =
 
 -- the key of the first row
 first-entry : (entries : List Entry) (row : Row) → slice_get (map stored_row entries) 0 ≡ Some row → first_key entries ≡ row.key
-first-entry [] row e = absurd (none e)
-  where
-    none : ◌≡◌ {A = Option Row} None (Some row) → ⊥
-    none e = cc
-first-entry (entry ∷ entries) row e = ap (λ (r : Row). r.key) (some-same e)
+first-entry [] row e = absurd (none-some row e)
+first-entry (entry ∷ entries) row e = ap (λ (r : Row). r.key) (same_Some _ _ e)
 
 -- a page with rows, the first of which is above a key
 pub record IsBehind {KNOTS SLOTS : ℕ} (t : Table KNOTS SLOTS) (contents : Contents) (high number : ℕ) : Type 0 where
@@ -187,13 +176,10 @@ module _ {KNOTS SLOTS : ℕ} (t : Table KNOTS SLOTS) (contents : Contents) (h : 
       by_rows (entry ∷ rows) above = (stored_row entry, refl, ltb-true high entry.kept.key above)
 
       by_page : (o : Option (ℕ × List Entry)) → slice_get (filter (is_above_key high) (pages_of h.table)) 0 ≡ o → option_map (λ (page : ℕ × List Entry). page.0) o ≡ Some number → IsBehind t contents high number
-      by_page None is e = absurd (none e)
-        where
-          none : ◌≡◌ {A = Option ℕ} None (Some number) → ⊥
-          none e = cc
+      by_page None is e = absurd (none-some number e)
       by_page (Some page) is e =
           let b = above-at high (rings.oldest h.table.rows) h.table.rows.counts h.table.entries page is in
-          let same : page.0 ≡ number = some-same e in
+          let same : page.0 ≡ number = same_Some _ _ e in
           let there : rings.oldest h.table.rows + b.i ≡ number = omega (arith, b.at, same) in
           let oldest = oldest-is t h.flash h.first h.plan h.table h.stands in
           let next = next-is t h.flash h.first h.plan h.table h.stands in

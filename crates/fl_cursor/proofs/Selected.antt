@@ -2,6 +2,7 @@
 use Rattle.std.proofs.Common.{◌≡◌, ℕ, ◌+◌, ◌-◌, ◌^◌, ◌<◌, ◌≤◌, min, Bool, true, false, ◌&&◌, cond, nat_le, Option, Some, None, option_map, List, [], ◌∷◌, map, filter, refl, sym, ◌∙◌, ap, subst, arith}
 use Rattle.std.specs.List.{slice_get, last_or, AllByRecursion}
 use Rattle.std.proofs.lemmas.Bool.{leb-true, le-leb, ltb-true}
+use Rattle.std.proofs.lemmas.Option.{same_Some}
 use Rattle.fl_base.specs.declared.types.KeyRange.{KeyRange}
 use Rattle.fl_base.specs.declared.types.Span.{Span}
 use Rattle.fl_model.specs.Facts.{FitsPlan}
@@ -20,16 +21,13 @@ use Rattle.fl_cursor.specs.Ascending.{both}
 use Rattle.fl_cursor.specs.Asked.{is_asked}
 use Rattle.fl_cursor.proofs.PassedRows.{each-weaker}
 
-some-same : {a b : Entry} → Some a ≡ Some b → a ≡ b
-some-same e = cc
-
 -- no key is above the last one
 record UpTo (last first : Entry) (entries : List Entry) : Type 0 where
   first_too : first.kept.key ≤ last.kept.key
   others : AllByRecursion (λ (e : Entry). e.kept.key ≤ last.kept.key) entries
 
 up-to-last : (last first : Entry) (entries : List Entry) → last_or (Some first) entries ≡ Some last → Ascends (Some first.kept.key) (map stored_row entries) → UpTo last first entries
-up-to-last last first [] is ascends = record { first_too = let e = ap (λ (x : Entry). x.kept.key) (some-same is) in omega (arith, e); others = tt }
+up-to-last last first [] is ascends = record { first_too = let e = ap (λ (x : Entry). x.kept.key) (same_Some _ _ is) in omega (arith, e); others = tt }
 up-to-last last first (e ∷ entries) is ascends =
     let h = up-to-last last e entries is ascends.1 in
     let lt = ltb-true first.kept.key e.kept.key ascends.0 in

@@ -3,7 +3,8 @@ use Rattle.std.proofs.Common.{◌≡◌, inl, inr, ℕ, zero, suc, ◌+◌, ◌-
 use Rattle.std.specs.Bool.{OnFalse}
 use Rattle.std.specs.Borrow.{Bor}
 use Rattle.std.specs.List.{list_any, slice_get}
-use Rattle.std.proofs.lemmas.Bool.{true≢false}
+use Rattle.std.proofs.lemmas.Bool.{true≢false, or_parts}
+use Rattle.std.proofs.lemmas.Option.{none-some, same_Some}
 use Rattle.fl_base.specs.declared.types.Span.{Span}
 use Rattle.fl_find.specs.Pages as pages
 use Rattle.fl_flash.specs.Buffer.{BufferState}
@@ -43,27 +44,17 @@ use Rattle.fl_cursor.proofs.Walks.{reached}
 
 -- ---- rows behind which none may be given
 
-or-false : (a b : Bool) → (a || b) ≡ false → (a ≡ false) × (b ≡ false)
-or-false false b e = (refl, e)
-or-false true b e = absurd (true≢false e)
-
 -- where none of some is one, none of those behind a place is, nor the one at a place
 none-behind : (test : Row → Bool) (n : ℕ) (rows : List Row) → list_any test rows ≡ false → list_any test (drop n rows) ≡ false
 none-behind test zero [] e = e
 none-behind test zero (row ∷ rows) e = e
 none-behind test (suc n) [] e = e
-none-behind test (suc n) (row ∷ rows) e = none-behind test n rows (or-false (test row) (list_any test rows) e).1
+none-behind test (suc n) (row ∷ rows) e = none-behind test n rows (or_parts (test row) (list_any test rows) e).1
 
 none-at : (test : Row → Bool) (rows : List Row) (j : ℕ) (row : Row) → slice_get rows j ≡ Some row → list_any test rows ≡ false → test row ≡ false
-none-at test [] j row at e = absurd (none at)
-  where
-    none : None ≡ Some row → ⊥
-    none e = cc
-none-at test (x ∷ rows) zero row at e = subst (λ (r : Row). test r ≡ false) (same at) (or-false (test x) (list_any test rows) e).0
-  where
-    same : Some x ≡ Some row → x ≡ row
-    same e = cc
-none-at test (x ∷ rows) (suc j) row at e = none-at test rows j row at (or-false (test x) (list_any test rows) e).1
+none-at test [] j row at e = absurd (none-some row at)
+none-at test (x ∷ rows) zero row at e = subst (λ (r : Row). test r ≡ false) (same_Some x row at) (or_parts (test x) (list_any test rows) e).0
+none-at test (x ∷ rows) (suc j) row at e = none-at test rows j row at (or_parts (test x) (list_any test rows) e).1
 
 -- a search that ends before the others met one
 stopped-last : (asked : model.Cursor) (rows : List Row) (i : ℕ) → Nowhere ≡ first_left asked rows i → has_last asked.top rows ≡ true

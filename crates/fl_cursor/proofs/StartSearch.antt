@@ -1,8 +1,9 @@
 -- A cursor that finds the page of the lowest key.
-use Rattle.std.proofs.Common.{◌≡◌, ℕ, suc, ◌+◌, ◌-◌, ◌^◌, ◌<◌, ◌≤◌, Bool, true, false, cond, ◌==◌, Option, Some, None, List, [], ◌∷◌, ◌++◌, length, drop, refl, sym, ◌∙◌, ap, subst, append_assoc, arith}
+use Rattle.std.proofs.Common.{◌≡◌, ℕ, suc, ◌+◌, ◌-◌, ◌^◌, ◌<◌, ◌≤◌, Bool, true, false, cond, ◌==◌, Some, None, List, [], ◌∷◌, ◌++◌, length, drop, refl, sym, ◌∙◌, ap, subst, append_assoc, arith}
 use Rattle.std.specs.Borrow.{MutBor}
 use Rattle.std.specs.List.{slice_get, list_any}
 use Rattle.std.proofs.lemmas.Bool.{leb-true, false_from_ne_true, false≢true}
+use Rattle.std.proofs.lemmas.Option.{none-some}
 use Rattle.fl_find.specs.Pages.{first_key}
 use Rattle.fl_flash.specs.Buffer.{BufferState}
 use Rattle.fl_model.specs.Row.{Row}
@@ -40,10 +41,7 @@ begins key [] e = absurd (false≢true e)
 begins key (row ∷ rows) e = record { row = row; first = refl; up_to = leb-true row.key key e }
 
 pub first-front : (xs ys : List Row) (row : Row) → slice_get xs 0 ≡ Some row → slice_get (xs ++ ys) 0 ≡ Some row
-first-front [] ys row e = absurd (none e)
-  where
-    none : ◌≡◌ {A = Option Row} None (Some row) → ⊥
-    none e = cc
+first-front [] ys row e = absurd (none-some row e)
 first-front (x ∷ xs) ys row e = e
 
 module _ {KNOTS SLOTS : ℕ} (old : Cursor KNOTS SLOTS) (here_is : old.place ≡ Start) (buf : MutBor BufferState) (contents : Contents) (reads reads_now : ℕ) (named : buf.ghost_name ≡ old.rows_buf.ghost_name) (room : length buf.now.bytes ≡ length old.rows_buf.now.bytes)
@@ -146,10 +144,7 @@ module _ {KNOTS SLOTS : ℕ} (old : Cursor KNOTS SLOTS) (here_is : old.place ≡
 
     noted : IsTold old contents → (rows_noted (table_of old) number == 0) ≡ false
     noted told = false_from_ne_true (rows_noted (table_of old) number == 0) (λ b.
-        none (sym (ap (λ (xs : List Row). slice_get xs 0) (ap (λ b. cond b [] (rows_in (layout_in (table_of old)) (bytes_at (table_of old) contents number))) b)) ∙ (first told).first))
-      where
-        none : {row : Row} → ◌≡◌ {A = Option Row} None (Some row) → ⊥
-        none e = cc
+        none-some _ (sym (ap (λ (xs : List Row). slice_get xs 0) (ap (λ b. cond b [] (rows_in (layout_in (table_of old)) (bytes_at (table_of old) contents number))) b)) ∙ (first told).first))
 
     rows-here : IsTold old contents → rows_on (table_of old) contents number ≡ rows_in (layout_in (table_of old)) buf.now.bytes
     rows-here told = ap (λ b. cond b [] (rows_in (layout_in (table_of old)) (bytes_at (table_of old) contents number))) (noted told) ∙ ap (rows_in (layout_in (table_of old))) (sym (bytes told))

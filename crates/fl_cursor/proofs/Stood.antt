@@ -5,6 +5,7 @@ use Rattle.std.proofs.lemmas.Bool.{cases_lt, lt-ltb, eq-eqb, eqb-true, false_fro
 use Rattle.std.proofs.lemmas.List.{map-append, drop-drop, take_all}
 use Rattle.std.proofs.lemmas.List.Sums.{sum_by-take-le}
 use Rattle.std.specs.List.{slice_get, sum}
+use Rattle.std.proofs.lemmas.Option.{same_Some}
 use Rattle.fl_flash.specs.Flash.{page_at}
 use Rattle.fl_flash.specs.Places.{page_of}
 use Rattle.fl_mark.specs.Mark.{state_of_page}
@@ -37,9 +38,6 @@ use Rattle.fl_parts.proofs.States.{shape_in}
 use Rattle.fl_cursor.specs.Asked.{is_left}
 use Rattle.fl_cursor.specs.Cursor.{IsStanding}
 use Rattle.fl_cursor.specs.Listed.{bytes_at, rows_on, rows_over, rows_of}
-
-some-same : {X : Type 0} {a b : X} → Some a ≡ Some b → a ≡ b
-some-same e = cc
 
 -- a page with some rows is committed
 where-rows : (s : PageState) (layout : RowLayout) (page : List ℕ) (rows : List Row) → rows_where s layout page ≡ rows → 0 < length rows → rows_in layout page ≡ rows
@@ -77,7 +75,7 @@ module _ {KNOTS SLOTS : ℕ} (t : Table KNOTS SLOTS) (contents : Contents) (h : 
       let within : i < length h.table.rows.counts = slice_get-short h.table.rows.counts i c e in
       let high : first_number + i < h.table.rows.next = omega (arith, within, h.stands.facts.rows.not_negative) in
       let i_is : first_number + i - first_number ≡ i = omega arith in
-      sym (some-same (sym e ∙ (ap (slice_get h.table.rows.counts) (sym i_is) ∙ noted-is t h.flash h.first h.plan h.table h.stands (first_number + i) low high)))
+      sym (same_Some _ _ (sym e ∙ (ap (slice_get h.table.rows.counts) (sym i_is) ∙ noted-is t h.flash h.first h.plan h.table h.stands (first_number + i) low high)))
 
   -- the rows on a page by its state
   abbrev there : ℕ → List ℕ

@@ -5,6 +5,7 @@ use Rattle.std.specs.List.{slice_get, sum, list_any, AllByRecursion}
 use Rattle.std.proofs.lemmas.Bool.{eq-eqb, eqb-true, false_from_ne_true, true≢false}
 use Rattle.std.proofs.lemmas.List.{drop-drop}
 use Rattle.std.proofs.lemmas.List.Sums.{sum_by-cons}
+use Rattle.std.proofs.lemmas.Option.{none-some}
 use Rattle.fl_base.specs.declared.types.Span.{Span}
 use Rattle.fl_bitmap.specs.Bucket.{AreBucketsOf, bucket_in, mask_in, with_value}
 use Rattle.fl_bitmap.specs.declared.buckets.Buckets.{Buckets}
@@ -51,10 +52,7 @@ is_at number page = page.0 == number
 
 page-in : (first : ℕ) (counts : List ℕ) (entries : List Entry) (i c : ℕ) → slice_get counts i ≡ Some c → 0 < c →
     slice_get (filter (is_at (first + i)) (pages_from first counts entries)) 0 ≡ Some (first + i, take c (drop (sum (take i counts)) entries))
-page-in first [] entries i c e some = absurd (none e)
-  where
-    none : ◌≡◌ {A = Option ℕ} None (Some c) → ⊥
-    none e = cc
+page-in first [] entries i c e some = absurd (none-some c e)
 page-in first (x ∷ xs) entries zero c e some = by_zero (x == 0) refl
   where
     same : x ≡ c
