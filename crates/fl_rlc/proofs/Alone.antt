@@ -1,5 +1,6 @@
 -- A table without a log: its calls end as those of the table itself.
-use Rattle.std.proofs.Common.{◌≡◌, ℕ, ◌+◌, Option, Some, None, IfSome, sym, ◌∙◌, ap, subst}
+use Rattle.std.proofs.Common.{◌≡◌, ℕ, ◌+◌, Option, None, IfSome, sym, ◌∙◌, ap, subst}
+use Rattle.std.proofs.lemmas.Option.{none-some}
 use Rattle.fl_flash.specs.Flash.{FlashState, page_at}
 use Rattle.fl_flash.specs.declared.flash.FlashFault.{FlashFault}
 use Rattle.fl_model.specs.Bare.{bare, bare_table}
@@ -48,11 +49,8 @@ module _ {KNOTS SLOTS : ℕ} (t : LoggedTable KNOTS SLOTS) (f : FlashState) (fir
           log = subst (λ (o : Option RecordLog). LogStands o new (first + blocks_of (bare plan)) plan (after plan table)) (sym l_is) none;
         };
         stand = q.stand;
-        log = λ a b e k. absurd (not-there a (sym (bare-table plan table none h.facts).0 ∙ e));
+        log = λ a b e k. absurd (none-some a (sym (bare-table plan table none h.facts).0 ∙ e));
       }
-    where
-      not-there : (a : Ring) → None ≡ Some a → ⊥
-      not-there a e = cc
 
   pub alone-breaks : (fault : FlashFault) (new : FlashState) → bare_outcomes.Breaks first (bare plan) (Did (bare plan) (bare_table table)) fault new → Breaks first plan (Did plan table) fault new
   alone-breaks fault new p =

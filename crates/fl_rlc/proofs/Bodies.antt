@@ -3,6 +3,7 @@ use Rattle.std.proofs.Common.{◌≡◌, ℕ, zero, suc, ◌+◌, ◌<◌, ◌�
 use Rattle.std.specs.List.{slice_get, AllByRecursion}
 use Rattle.std.proofs.lemmas.Bool.{lt-ltb}
 use Rattle.std.proofs.lemmas.List.{drop-append-le, length-map}
+use Rattle.std.proofs.lemmas.Option.{none-some, same_Some}
 use Rattle.fl_model.specs.Facts.{IsLogPage}
 use Rattle.fl_model.specs.Record.{Plan, rows_per_page}
 use Rattle.fl_model.specs.Ring as model
@@ -90,12 +91,9 @@ pub record IsHeld (plan : Plan) (n : ℕ) (kept : List (Option (List ℕ))) (pag
   pub body_is : body ≡ log_body plan (n + i) rows
   pub some : 0 < header.page_count body
 
-none_of : (body : List ℕ) → ◌≡◌ {A = Option (List ℕ)} None (Some body) → ⊥
-none_of body k = cc
-
 pub bodies-at : (plan : Plan) (n : ℕ) (kept : List (Option (List ℕ))) (pages : List (List Entry)) (i : ℕ) (body : List ℕ) → HoldBodies plan n kept pages → get_or kept i None ≡ Some body → IsHeld plan n kept pages i body
-bodies-at plan n [] pages i body h e = absurd (none_of body e)
-bodies-at plan n (None ∷ kept) pages zero body h e = absurd (none_of body e)
+bodies-at plan n [] pages i body h e = absurd (none-some body e)
+bodies-at plan n (None ∷ kept) pages zero body h e = absurd (none-some body e)
 bodies-at plan n (None ∷ kept) pages (suc i) body h e =
     let r = bodies-at plan (n + 1) kept pages i body h e in
     record {
@@ -108,12 +106,9 @@ bodies-at plan n (Some b ∷ kept) [] i body h e = absurd h
 bodies-at plan n (Some b ∷ kept) (p ∷ pages) zero body h e = record {
   rows = p;
   is = refl;
-  body_is = sym (same e) ∙ (h.0.is ∙ ap (λ k. log_body plan k p) (let k : n ≡ n + 0 = omega arith in k));
-  some = subst (λ (x : List ℕ). 0 < header.page_count x) (same e) (some-rows h.0);
+  body_is = sym (same_Some b body e) ∙ (h.0.is ∙ ap (λ k. log_body plan k p) (let k : n ≡ n + 0 = omega arith in k));
+  some = subst (λ (x : List ℕ). 0 < header.page_count x) (same_Some b body e) (some-rows h.0);
 }
-  where
-    same : Some b ≡ Some body → b ≡ body
-    same k = cc
 bodies-at plan n (Some b ∷ kept) (p ∷ pages) (suc i) body h e =
     let r = bodies-at plan (n + 1) kept pages i body h.1 e in
     record {

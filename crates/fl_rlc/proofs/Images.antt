@@ -1,6 +1,7 @@
 -- A table with its log at rest on a flash, and its image on the flash's medium.
 use Rattle.std.proofs.Common.{◌≡◌, ℕ, ◌+◌, Bool, true, false, cond, Option, Some, None, IfSome, List, take, sym, subst, sum_by}
 use Rattle.std.proofs.lemmas.Bool.{false≢true}
+use Rattle.std.proofs.lemmas.Option.{none-some}
 use Rattle.fl_flash.specs.Flash.{FlashState, page_at}
 use Rattle.fl_model.specs.Image.{IsTableImage, IsRingImage, HoldsLogged, page_bytes}
 use Rattle.fl_model.specs.Layout.{is_blank}
@@ -44,13 +45,10 @@ blank-rests f first plan blank =
     let rests = without_log.blank-rests f first plan blank in
     record { settled = rests.settled; pages = rests.pages; log = by_log (has_log plan) }
   where
-    nothing : {n : ℕ} → None ≡ Some n → ⊥
-    nothing e = cc
-
     by_log : (b : Bool) → IfSome (cond b (Some fresh) None) (λ ring. IsRingImage (shape_of plan LogRing) ring (bytes_in (page_at f) first plan LogRing) (HoldsLogged plan (fresh_table plan) ring))
     by_log true = record {
-      void = λ i e. absurd (nothing e);
-      kept = λ i count e some. absurd (nothing e);
+      void = λ i e. absurd (none-some _ e);
+      kept = λ i count e some. absurd (none-some _ e);
       blank_next = λ e. blank LogRing 0;
       torn_next = λ e. absurd (false≢true e);
       dirty = λ e. absurd (false≢true e);

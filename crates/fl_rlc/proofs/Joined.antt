@@ -6,6 +6,7 @@ use Rattle.std.proofs.Math.Nat.{lt_trans, zero-div}
 use Rattle.std.proofs.Math.Seq.{take-length}
 use Rattle.std.proofs.lemmas.Bool.{le-ltb, lt-leb, ltb-true, eqb-true}
 use Rattle.std.proofs.lemmas.List.{append-nil}
+use Rattle.std.proofs.lemmas.Option.{none-some}
 use Rattle.fl_model.specs.Bare.{bare_table}
 use Rattle.fl_model.specs.Facts.{FitsPlan, IsLogPage}
 use Rattle.fl_model.specs.Mount.{joined}
@@ -175,11 +176,8 @@ fits-taken plan t e plain fits left above =
 pub refused-same : (plan : Plan) (t : Table) (e : Entry) (r : Refusal) → IsPlain plan t → FitsPlan plan e → refusal_of plan t e.kept ≡ Some r → taken t e ≡ t
 refused-same plan t e r plain fits refused = by-spent (is_rows_spent t) refl
   where
-    none-some : None ≡ Some r → ⊥
-    none-some k = cc
-
     by-above : (b : Bool) → is_rows_spent t ≡ false → is_above t.entries e ≡ b → cond b (more t e) t ≡ t
-    by-above true s k = absurd (none-some (sym (fits-taken plan t e plain fits s k) ∙ refused))
+    by-above true s k = absurd (none-some r (sym (fits-taken plan t e plain fits s k) ∙ refused))
     by-above false s k = refl
 
     by-spent : (b : Bool) → is_rows_spent t ≡ b → cond b t (cond (is_above t.entries e) (more t e) t) ≡ t

@@ -3,6 +3,7 @@ use Rattle.std.proofs.Common.{◌≡◌, ℕ, zero, suc, ◌+◌, ◌-◌, ◌<�
 use Rattle.std.specs.List.{AllByRecursion, last_or}
 use Rattle.std.specs.Option.{option_map, unwrap_or}
 use Rattle.std.proofs.lemmas.Bool.{lt-ltb}
+use Rattle.std.proofs.lemmas.Option.{none-some}
 use Rattle.fl_model.specs.Facts.{IsTable}
 use Rattle.fl_model.specs.Log.{IsLog, IsSafe}
 use Rattle.fl_model.specs.Record.{Plan}
@@ -20,10 +21,7 @@ all-at P (x ∷ xs) h = (h 0 x refl, all-at P xs (λ i y e. h (suc i) y e))
 
 -- where a list ends
 last-at : {X : Type 0} (xs : List X) (w : X) → last_or None xs ≡ Some w → (i : ℕ) × (i < length xs) × (slice_get xs i ≡ Some w)
-last-at [] w e = absurd (none e)
-  where
-    none : None ≡ Some w → ⊥
-    none k = cc
+last-at [] w e = absurd (none-some w e)
 last-at (x ∷ xs) w e = (length xs, omega arith, sym (last_or-get None x xs) ∙ e)
 
 above-last : (others : List Entry) (e : Entry) → ((w : Entry) → last_or None others ≡ Some w → w.kept.key < e.kept.key) → IsTrue (is_above others e)

@@ -1,5 +1,6 @@
 -- Wherever the mount of a table with a log ends, the records of its log are as they should.
 use Rattle.std.proofs.Common.{◌≡◌, Bool, true, false, Some, [], ◌∷◌, ◌++◌, length, refl, sym, subst}
+use Rattle.std.proofs.lemmas.Option.{same_Some}
 use Rattle.fl_model.specs.Facts.{IsTable}
 use Rattle.fl_model.specs.Mount.{turns_of, turns_from, Mounted, Stopped, Unread}
 use Rattle.fl_model.specs.Record.{Plan, has_log}
@@ -21,9 +22,6 @@ module _ (plan : Plan) (table : Table) (ring : Ring) (ring_is : table.log ≡ So
   rests : RestsAs (record { held = table.entries ++ owed table; pending = length (owed table); unlogged = false; given_up = 0 }) (core table)
   rests = record { fine = fine-of plan table ring ring_is facts; none = none; found = owed-found past (core table) table.entries (owed table) refl refl refl refl refl }
 
-  one : {a b : Table} → Some a ≡ Some b → a ≡ b
-  one e = cc
-
   -- it succeeds
   pub mounted-done : (rose : Bool) (device : Device) (now : PartProgress Table) → TableMounts plan rose (turns_of plan) device table (TableMounted now) →
       IsDone (record { held = table.entries ++ owed table; pending = length (owed table); unlogged = false; given_up = 0 }) (core table) now.state
@@ -31,10 +29,10 @@ module _ (plan : Plan) (table : Table) (ring : Ring) (ring_is : table.log ≡ So
       let end : Progress = record { outcome = Finished; device = now.device; tables = with_table 0 (table ∷ []) now.state } in
       let all = mounts-along (plan ∷ []) plan 0 rose (turns_of plan) [] device (table ∷ []) table (TableMounted now) refl refl did (Mounted end) refl in
       let k = mounts-logged (plan ∷ []) rose (turns_from 0 (plan ∷ [])) device (table ∷ []) (Mounted end) 0 plan past (core table) Start table room has rests refl (log-turns 0 (plan ∷ []) plan refl has) refl refl all in
-      subst (IsDone past (core table)) (one (sym k.1)) k.2
+      subst (IsDone past (core table)) (same_Some _ _ (sym k.1)) k.2
 
   left-fine : (now : PartProgress Table) → LeftBy 0 (record { held = table.entries ++ owed table; pending = length (owed table); unlogged = false; given_up = 0 }) (core table) (with_table 0 (table ∷ []) now.state) → IsFine (lost (core now.state))
-  left-fine now h = subst (λ (t : Table). IsFine (lost (core t))) (one (sym h.is)) h.halts.fine
+  left-fine now h = subst (λ (t : Table). IsFine (lost (core t))) (same_Some _ _ (sym h.is)) h.halts.fine
 
   -- an operation of it failed
   pub stopped-fine : (rose : Bool) (device : Device) (now : PartProgress Table) → TableMounts plan rose (turns_of plan) device table (TableStopped now) → IsFine (lost (core now.state))

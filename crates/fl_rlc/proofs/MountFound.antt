@@ -2,6 +2,7 @@
 use Rattle.std.proofs.Common.{◌≡◌, ℕ, ◌*◌, Option, Some, None, List, inr, refl, sym, ◌∙◌, ap, subst, arith}
 use Rattle.std.specs.Option.{ForSome}
 use Rattle.std.specs.Prelude.{IfSome}
+use Rattle.std.proofs.lemmas.Option.{same_Some}
 use Rattle.fl_base.specs.declared.types.Geometry.{Geometry}
 use Rattle.fl_base.specs.declared.types.RingPlace.{RingPlace}
 use Rattle.fl_flash.specs.Flash.{FlashState, page_at}
@@ -79,7 +80,4 @@ module _ {KNOTS SLOTS : ℕ} (t : LoggedTable KNOTS SLOTS) (old : FlashState) wh
 
 -- a log that is there lies on a flash
 pub log-here : (l : RecordLog) (f : FlashState) → LiesOn l f → ForSome (Some l) (λ x. LiesOn x f)
-log-here l f h = λ x is. subst (λ (y : RecordLog). LiesOn y f) (one is) h
-  where
-    one : {x y : RecordLog} → Some x ≡ Some y → x ≡ y
-    one e = cc
+log-here l f h = λ x is. subst (λ (y : RecordLog). LiesOn y f) (same_Some _ _ is) h

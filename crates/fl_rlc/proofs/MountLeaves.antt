@@ -2,6 +2,7 @@
 use Rattle.std.proofs.Common.{◌≡◌, ◌⊎◌, ℕ, ◌+◌, ◌*◌, ◌%◌, ◌<◌, ◌≤◌, Bool, true, IsTrue, IsSomeAnd, IfSome, Option, Some, None, List, inl, inr, map, length, refl, sym, ◌∙◌, ap, subst, arith}
 use Rattle.std.proofs.Math.Nat.{mod-lt, mul-le-mul_right, add-mul}
 use Rattle.std.proofs.lemmas.Bool.{cases_lt, false≢true}
+use Rattle.std.proofs.lemmas.Option.{same_Some}
 use Rattle.fl_flash.specs.Flash.{FlashState, page_at, blank}
 use Rattle.fl_flash.specs.Places.{extent}
 use Rattle.fl_index.specs.declared.index.BitmapIndex.{BitmapIndex}
@@ -89,9 +90,6 @@ module _ {K S : ℕ} (t : code.Table K S) (f between : FlashState) (first : ℕ)
         the-ring (Some x) e = (x, refl)
         the-ring None e = absurd (false≢true e)
 
-        same-ring : {x y : Ring} → Some x ≡ Some y → x ≡ y
-        same-ring e = cc
-
         by-index : (o : Option BitmapIndex) → ArePlanned o (first + plan.data_blocks) (bare plan) → (x : Ring) × (table.index ≡ Some x) → IsReplayed first plan page (page_at f page)
         by-index None p x = absurd (false≢true (sym (planned-none (first + plan.data_blocks) (bare plan) p) ∙ has))
         by-index (Some i) p x =
@@ -100,7 +98,7 @@ module _ {K S : ℕ} (t : code.Table K S) (f between : FlashState) (first : ℕ)
             let index_shape : IsShape (shape_of plan IndexRing) = index.planned-shape i (first + plan.data_blocks) (bare plan) p in
             let some : 0 < plan.index_blocks = omega (arith, index_shape.blocks) in
             let next = index-next (bare plan) rose (bare_table table) now device before (some-pages plan.index_blocks plan.geometry.block some shape.pages) has x.1 did in
-            let same : r ≡ next.ring = same-ring (sym is ∙ (index_same ∙ next.is)) in
+            let same : r ≡ next.ring = same_Some _ _ (sym is ∙ (index_same ∙ next.is)) in
             let here : page ≡ (first + plan.data_blocks) * plan.geometry.block + (before.next + one before.torn) % (plan.index_blocks * plan.geometry.block) =
             at ∙ ap (λ (y : Ring). (first + plan.data_blocks) * plan.geometry.block + y.next % room) same ∙ ap (λ (n : ℕ). (first + plan.data_blocks) * plan.geometry.block + n) next.next in
             let facts_in : IsRing (shape_of plan IndexRing) before = subst (λ (o : Option Ring). IfSome o (IsRing (shape_of plan IndexRing))) x.1 facts.index in

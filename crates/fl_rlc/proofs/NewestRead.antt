@@ -1,7 +1,8 @@
 -- The read of a log's newest page, over any bytes and over a flash that stands for a table and its log.
-use Rattle.std.proofs.Common.{◌≡◌, ℕ, ◌-◌, ◌^◌, ◌<◌, ◌≤◌, Bool, true, false, Option, Some, None, List, refl, sym, ◌∙◌, ap, subst, arith, inl, inr, IsTrue}
+use Rattle.std.proofs.Common.{◌≡◌, ℕ, ◌-◌, ◌^◌, ◌<◌, ◌≤◌, Bool, true, false, Option, None, List, refl, sym, ◌∙◌, ap, subst, arith, inl, inr, IsTrue}
 use Rattle.std.proofs.Math.Nat.{div-le_self}
 use Rattle.std.proofs.lemmas.Bool.{true≢false}
+use Rattle.std.proofs.lemmas.Option.{none-some}
 use Rattle.fl_base.specs.Causes.{Rose}
 use Rattle.fl_base.specs.declared.types.Geometry.{Geometry}
 use Rattle.fl_flash.specs.Flash.{FlashState}
@@ -34,10 +35,7 @@ use Rattle.fl_rlc.proofs.TakenRecord.{plain-of}
 -- a page that may stand isn't bad
 pub never-bad : (layout : RowLayout) (number : ℕ) (page : List ℕ) (fault : MountFault) → MayStand layout number page → IsBad layout number page fault → ⊥
 never-bad layout number page fault h (inl bad) = bad.0 h.good
-never-bad layout number page fault h (inr keys) = none (sym h.keys ∙ keys.1)
-  where
-    none : None ≡ Some fault → ⊥
-    none k = cc
+never-bad layout number page fault h (inr keys) = none-some fault (sym h.keys ∙ keys.1)
 
 -- a bad page is a fault of a page alone
 of-page : (layout : RowLayout) (number : ℕ) (page : List ℕ) (fault : MountFault) → IsBad layout number page fault → IsPageFault fault

@@ -5,6 +5,7 @@ use Rattle.std.proofs.Math.Nat.{le-div_iff_mul-le}
 use Rattle.std.proofs.Math.Seq.{take-length}
 use Rattle.std.proofs.lemmas.Bool.{cases_lt, lt-ltb, true≢false}
 use Rattle.std.proofs.lemmas.List.{length-map}
+use Rattle.std.proofs.lemmas.Option.{none-some, same_Some}
 use Rattle.fl_flash.specs.Flash.{FlashState, page_at}
 use Rattle.fl_mark.specs.Mark.{state_of_page}
 use Rattle.fl_mark.specs.declared.page_state.PageState.{PageState}
@@ -47,10 +48,7 @@ fits-plain plan entry none h = by-blob entry.kept.blob refl h.blob
 
 all-stored : (plan : Plan) → has_var plan ≡ false → (rows : List Entry) → AllByRecursion (FitsPlan plan) rows → AllByRecursion (IsStorable (row_layout plan)) (map stored_row rows)
 all-stored plan none [] h = tt
-all-stored plan none (row ∷ rows) h = (stored-row plan row h.0 (λ blob is some. absurd (no (sym (fits-plain plan row none h.0).0 ∙ is))), all-stored plan none rows h.1)
-  where
-    no : {blob : List ℕ} → None ≡ Some blob → ⊥
-    no e = cc
+all-stored plan none (row ∷ rows) h = (stored-row plan row h.0 (λ blob is some. absurd (none-some _ (sym (fits-plain plan row none h.0).0 ∙ is))), all-stored plan none rows h.1)
 
 -- a page of these records, read
 pub record IsRead (plan : Plan) (number : ℕ) (logged : List Entry) (page : List ℕ) : Type 0 where
@@ -92,10 +90,7 @@ log-page key types blobs plan number rows same none some_row room small h low =
 
 -- behind the last page that isn't void no page has records
 last-full : (counts : List ℕ) (i c : ℕ) → slice_get counts i ≡ Some c → 0 < c → ((j d : ℕ) → i < j → slice_get counts j ≡ Some d → d ≡ 0) → length (filter (nat_lt 0) counts) ≡ full_pages (take i counts) + 1
-last-full [] i c e some later = absurd (none e)
-  where
-    none : None ≡ Some c → ⊥
-    none k = cc
+last-full [] i c e some later = absurd (none-some c e)
 last-full (x ∷ counts) zero c e some later =
     let same : x ≡ c = cc in
     let rest : filter (nat_lt 0) counts ≡ [] = all-void counts (λ j d k. later (suc j) d (omega arith) k) in
@@ -123,10 +118,7 @@ none-any [] h = refl
 none-any (y ∷ ys) h = ap (λ (n : ℕ). nat_lt 0 n || list_any (nat_lt 0) ys) (h 0 y refl) ∙ none-any ys (λ j d k. h (suc j) d k)
 
 some-any : (counts : List ℕ) (i c : ℕ) → slice_get counts i ≡ Some c → 0 < c → list_any (nat_lt 0) counts ≡ true
-some-any [] i c e some = absurd (none e)
-  where
-    none : None ≡ Some c → ⊥
-    none k = cc
+some-any [] i c e some = absurd (none-some c e)
 some-any (y ∷ ys) zero c e some = let same : y ≡ c = cc in ap (λ (b : Bool). b || list_any (nat_lt 0) ys) (lt-ltb 0 y (omega (arith, same, some)))
 some-any (y ∷ ys) (suc i) c e some = ap (λ (b : Bool). nat_lt 0 y || b) (some-any ys i c e some) ∙ or-true (nat_lt 0 y)
   where
@@ -206,16 +198,10 @@ module _ (l : RecordLog) (f : FlashState) (first : ℕ) (plan : Plan) (table : T
           counted : (pages : List (List Entry)) (counts : List ℕ) (i c n : ℕ) (rows : List Entry) → map (λ (rows : List Entry). length rows) pages ≡ filter (nat_lt 0) counts → full_pages (take i counts) ≡ n → slice_get counts i ≡ Some (suc c) →
               slice_get pages n ≡ Some rows → length rows ≡ suc c
           counted pages counts i c n rows each n_is e there =
-              one (sym (mapped pages n rows there) ∙ (ap (λ (ns : List ℕ). slice_get ns n) each ∙ (ap (λ (m : ℕ). slice_get (filter (nat_lt 0) counts) m) (sym n_is) ∙ filtered counts i c e)))
+              same_Some _ _ (sym (mapped pages n rows there) ∙ (ap (λ (ns : List ℕ). slice_get ns n) each ∙ (ap (λ (m : ℕ). slice_get (filter (nat_lt 0) counts) m) (sym n_is) ∙ filtered counts i c e)))
             where
-              one : {a b : ℕ} → Some a ≡ Some b → a ≡ b
-              one k = cc
-
               mapped : (pages : List (List Entry)) (n : ℕ) (rows : List Entry) → slice_get pages n ≡ Some rows → slice_get (map (λ (rows : List Entry). length rows) pages) n ≡ Some (length rows)
-              mapped [] n rows e = absurd (none e)
-                where
-                  none : None ≡ Some rows → ⊥
-                  none k = cc
+              mapped [] n rows e = absurd (none-some rows e)
               mapped (p ∷ pages) zero rows e = let same : p ≡ rows = cc in ap (λ (r : List Entry). Some (length r)) same
               mapped (p ∷ pages) (suc n) rows e = mapped pages n rows e
 

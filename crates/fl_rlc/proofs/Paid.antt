@@ -5,6 +5,7 @@ use Rattle.std.specs.Option.{option_map, unwrap_or}
 use Rattle.std.proofs.lemmas.Bool.{eqb-true, ltb-false, false≢true, true≢false}
 use Rattle.std.proofs.lemmas.List.{drop-append-le}
 use Rattle.std.proofs.lemmas.List.Sums.{sum_by-take-le}
+use Rattle.std.proofs.lemmas.Option.{none-some, same_Some}
 use Rattle.fl_model.specs.Bare.{bare, bare_table, log_of, beside}
 use Rattle.fl_model.specs.Facts.{IsLogPage}
 use Rattle.fl_model.specs.Mount.{joined}
@@ -19,17 +20,11 @@ use Rattle.fl_machine.proofs.LogTables.{marked-by, seals_by}
 
 -- the last of some that passes a test is the last of those that do
 last-kept : (test : Entry → Bool) (xs : List Entry) (w : Entry) (o : Option Entry) → last_or None xs ≡ Some w → test w ≡ true → last_or o (filter test xs) ≡ Some w
-last-kept test [] w o e k = absurd (none e)
-  where
-    none : None ≡ Some w → ⊥
-    none e = cc
+last-kept test [] w o e k = absurd (none-some w e)
 last-kept test (x ∷ []) w o e k =
-    let same : x ≡ w = one e in
+    let same : x ≡ w = same_Some _ _ e in
     let passes : test x ≡ true = ap test same ∙ k in
     ap (λ (b : Bool). last_or o (cond b (x ∷ []) [])) passes ∙ e
-  where
-    one : {x y : Entry} → Some x ≡ Some y → x ≡ y
-    one e = cc
 last-kept test (x ∷ y ∷ ys) w o e k = by-test (test x) (last-kept test (y ∷ ys) w (Some x) e k) (last-kept test (y ∷ ys) w o e k)
   where
     by-test : (b : Bool) → last_or (Some x) (filter test (y ∷ ys)) ≡ Some w → last_or o (filter test (y ∷ ys)) ≡ Some w → last_or o (cond b (x ∷ filter test (y ∷ ys)) (filter test (y ∷ ys))) ≡ Some w

@@ -10,7 +10,6 @@ use Rattle.fl_plan.specs.declared.refusal.ConfigRefusal.TheVariants.{NoMemory}
 use Rattle.fl_plan.specs.declared.table_config.TableConfig.{TableConfig}
 use Rattle.fl_plan.proofs.Fits.{RingsFit, rings-fit, alone-fits}
 use Rattle.fl_words.specs.Config.{ConfigFault}
-use Rattle.fl_rlc.specs.declared.log.RecordLog.{RecordLog}
 
 -- the last tests of a log that is there
 pub logged-fits : (log : Option RingPlace) (config : TableConfig) (place : RingPlace) → log ≡ Some place → config_fault_with log config ≡ None → RingsFit (Some place) config
@@ -25,12 +24,6 @@ pub table-refused : {A : Type 0} (result : Result A ConfigRefusal) (refusal : Co
 table-refused (Ok value) refusal log config is fits refused = absurd is
 table-refused (Err other) refusal log config is fits refused =
     subst (λ (fault : Option ConfigFault). IsRefusal fault other) (alone-fits log config fits ∙ sym fits) (subst (λ (r : ConfigRefusal). IsRefusal (config_fault config) r) (sym is) refused)
-
-pub none-some : (l : RecordLog) → None ≡ Some l → ⊥
-none-some l e = cc
-
-pub one-log : {x y : RecordLog} → Some x ≡ Some y → x ≡ y
-one-log e = cc
 
 -- a ring that isn't bad has three blocks
 pub three-blocks : (place : RingPlace) → is_bad_ring (Some place) ≡ false → 3 ≤ place.blocks

@@ -3,6 +3,7 @@ use Rattle.std.proofs.Common.{◌≡◌, ℕ, ◌+◌, Bool, true, false, nat_le
 use Rattle.std.proofs.Math.IntN.{ℤ}
 use Rattle.std.specs.Option.{option_map}
 use Rattle.std.proofs.lemmas.Bool.{false≢true}
+use Rattle.std.proofs.lemmas.Option.{none-some}
 use Rattle.fl_flash.specs.Flash.{FlashState, page_at}
 use Rattle.fl_flash.specs.declared.flash.FlashFault.{FlashFault}
 use Rattle.fl_model.specs.Bare.{bare, bare_table, log_of, beside}
@@ -79,10 +80,7 @@ module _ {KNOTS SLOTS : ℕ} (t : LoggedTable KNOTS SLOTS) (f : FlashState) (fir
       by-refusal model.Spent k = k
 
       by-model : (o : Option Refusal) → refusal_of plan table (record { key = key; values = values; blob = blob }) ≡ o → answer o ≡ Some refusal → PutEnds first plan (record { key = key; values = values; blob = blob }) table rose device (Err refusal) after old new
-      by-model None k e = absurd (none e)
-        where
-          none : None ≡ Some refusal → ⊥
-          none k = cc
+      by-model None k e = absurd (none-some refusal e)
       by-model (Some r) k e = subst (λ (x : PutRefusal). PutEnds first plan (record { key = key; values = values; blob = blob }) table rose device (Err x) after old new) (same e) (by-refusal r k)
         where
           same : Some (answer_of r) ≡ Some refusal → answer_of r ≡ refusal

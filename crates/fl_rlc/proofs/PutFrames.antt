@@ -4,6 +4,7 @@ use Rattle.std.proofs.Math.IntN.{ℤ}
 use Rattle.std.proofs.Props.{props}
 use Rattle.std.specs.Prelude.{IfSome}
 use Rattle.std.specs.Option.{ForSome}
+use Rattle.std.proofs.lemmas.Option.{none-some, same_Some}
 use Rattle.fl_flash.specs.Flash.{FlashState, StaysWith}
 use Rattle.fl_model.specs.Record.{RowLayout, layout_len}
 use Rattle.fl_base.specs.declared.types.RingPlace.{RingPlace}
@@ -82,28 +83,19 @@ blobs-same t u same = by-blobs t.blobs u.blobs same.blobs
 
 -- a row has room in the log's page as before
 pub room-same : {KNOTS SLOTS : ℕ} (t u : code.Table KNOTS SLOTS) (a b : Option RecordLog) → table_words.IsSamePlan t u → AreSameLog a b → ForSome a (λ l. layout_len (layout_in t) + 24 ≤ page_len l) → ForSome b (λ l. layout_len (layout_in u) + 24 ≤ page_len l)
-room-same t u None None same logs h = λ l is. absurd (none l is)
-  where
-    none : (l : RecordLog) → None ≡ Some l → ⊥
-    none l e = cc
+room-same t u None None same logs h = λ l is. absurd (none-some l is)
 room-same t u None (Some w) same logs h = absurd logs
 room-same t u (Some v) None same logs h = absurd logs
 room-same t u (Some v) (Some w) same logs h = λ l is.
-    subst (λ (x : RecordLog). layout_len (layout_in u) + 24 ≤ page_len x) (one is)
+    subst (λ (x : RecordLog). layout_len (layout_in u) + 24 ≤ page_len x) (same_Some _ _ is)
     (subst (λ (r : RowLayout). layout_len r + 24 ≤ page_len w) (sym same.layout) (let k = h v refl in omega (arith, k, ap (λ g. g.page) logs.geometry)))
-  where
-    one : {x y : RecordLog} → Some x ≡ Some y → x ≡ y
-    one e = cc
 
 -- no refusal is a fault of the flash
 pub logged-calm : {KNOTS SLOTS : ℕ} (t : LoggedTable KNOTS SLOTS) (key : ℕ) (values : List ℤ) (blob : Option ℕ) (refusal : PutRefusal) → put_refusal t key values blob ≡ Some refusal → put_breaks (Err refusal) ≡ false
 logged-calm t key values blob refusal e = by-first (table_refusal t.table key values blob) refl e
   where
-    some-is : {x y : PutRefusal} → Some x ≡ Some y → x ≡ y
-    some-is k = cc
-
     spent : (b : Bool) → refused_if b put.Spent ≡ Some refusal → put_breaks (Err refusal) ≡ false
-    spent true k = subst (λ (r : PutRefusal). put_breaks (Err r) ≡ false) (some-is k) refl
+    spent true k = subst (λ (r : PutRefusal). put_breaks (Err r) ≡ false) (same_Some _ _ k) refl
     spent false k = cc
 
     by-log : (o : Option RecordLog) → log_refused o ≡ Some refusal → put_breaks (Err refusal) ≡ false
@@ -164,16 +156,10 @@ begun-same (Some v) None h = absurd h
 begun-same (Some v) (Some w) h = h.same
 
 pub begun-lies : (a b : Option RecordLog) (f : FlashState) → AreBegun a b → ForSome a (λ l. LiesOn l f) → ForSome b (λ l. LiesOn l f)
-begun-lies None b f h lies = λ l is. absurd (none l (sym h ∙ is))
-  where
-    none : (l : RecordLog) → None ≡ Some l → ⊥
-    none l e = cc
+begun-lies None b f h lies = λ l is. absurd (none-some l (sym h ∙ is))
 begun-lies (Some v) None f h lies = absurd h
-begun-lies (Some v) (Some w) f h lies = λ l is. subst (λ (x : RecordLog). LiesOn x f) (one is) (moved (lies v refl))
+begun-lies (Some v) (Some w) f h lies = λ l is. subst (λ (x : RecordLog). LiesOn x f) (same_Some _ _ is) (moved (lies v refl))
   where
-    one : {x y : RecordLog} → Some x ≡ Some y → x ≡ y
-    one e = cc
-
     moved : LiesOn v f → LiesOn w f
     moved k = record {
       geometry = k.geometry ∙ sym h.same.geometry;
@@ -183,12 +169,6 @@ begun-lies (Some v) (Some w) f h lies = λ l is. subst (λ (x : RecordLog). Lies
     }
 
 pub begun-mounted : (a b : Option RecordLog) (B : Type 0) → AreBegun a b → ForSome a (λ l. B → is_mounted l ≡ true) → ForSome b (λ l. B → is_mounted l ≡ true)
-begun-mounted None b B h k = λ l is. absurd (none l (sym h ∙ is))
-  where
-    none : (l : RecordLog) → None ≡ Some l → ⊥
-    none l e = cc
+begun-mounted None b B h k = λ l is. absurd (none-some l (sym h ∙ is))
 begun-mounted (Some v) None B h k = absurd h
-begun-mounted (Some v) (Some w) B h k = λ l is up. subst (λ (x : RecordLog). is_mounted x ≡ true) (one is) (ap (λ (o : Option Ring). is_some o) h.ring ∙ k v refl up)
-  where
-    one : {x y : RecordLog} → Some x ≡ Some y → x ≡ y
-    one e = cc
+begun-mounted (Some v) (Some w) B h k = λ l is up. subst (λ (x : RecordLog). is_mounted x ≡ true) (same_Some _ _ is) (ap (λ (o : Option Ring). is_some o) h.ring ∙ k v refl up)

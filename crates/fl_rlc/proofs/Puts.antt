@@ -1,6 +1,7 @@
 -- How a put of a table with a log ends, by that of the table without it and by the seal of the log.
 use Rattle.std.proofs.Common.{◌≡◌, ℕ, ◌+◌, Bool, true, false, nat_le, Option, Some, None, is_some, List, refl, sym, ◌∙◌, ap, subst, arith}
 use Rattle.std.proofs.Math.Path.{fun_ext}
+use Rattle.std.proofs.lemmas.Option.{same_Some}
 use Rattle.fl_flash.specs.Flash.{FlashState, page_at}
 use Rattle.fl_flash.specs.declared.flash.FlashFault.{FlashFault}
 use Rattle.fl_model.specs.Bare.{bare, bare_table, log_of, beside, end_beside, progress_beside}
@@ -194,11 +195,8 @@ module _ {KNOTS SLOTS : ℕ} (t : LoggedTable KNOTS SLOTS) (l : RecordLog) (t_is
             log = subst (λ (x : Table). LogStays first plan table x f new) (sym is) (λ a b e k.
                 subst (λ (at : ℕ → List ℕ). PagesStand a at b (bytes_in (page_at new) first plan LogRing)) (still ∙ log-bytes l f first plan hr.planned)
                 (subst (λ (at : ℕ → List ℕ). PagesStand a (page_in l mid) b at) (log-bytes last new first plan s.stands.ring.planned)
-                (subst (λ (r : Ring). PagesStand a (page_in l mid) r (page_in last new)) (same-ring (sym s.stands.ring.ring_is ∙ k)) (s.stand a e))));
+                (subst (λ (r : Ring). PagesStand a (page_in l mid) r (page_in last new)) (same_Some _ _ (sym s.stands.ring.ring_is ∙ k)) (s.stand a e))));
           }
         where
-          same-ring : {a b : Ring} → ◌≡◌ {A = Option Ring} (Some a) (Some b) → a ≡ b
-          same-ring e = cc
-
           has-ring : (o : Option Ring) (b : Bool) (a : Ring) → o ≡ Some a → is_some_ring o ≡ b → b ≡ true
           has-ring o b a e k = sym k ∙ ap is_some_ring e

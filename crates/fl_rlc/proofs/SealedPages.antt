@@ -2,6 +2,7 @@
 use Rattle.std.proofs.Common.{◌≡◌, ◌⊎◌, ℕ, ◌+◌, ◌*◌, ◌%◌, ◌<◌, ◌≤◌, Bool, true, false, cond, ◌==◌, ◌&&◌, nat_lt, Option, Some, None, option_map, inl, inr, [], ◌∷◌, ◌++◌, length, refl, sym, ◌∙◌, ap, subst, arith, IsSomeAnd}
 use Rattle.std.proofs.Math.Nat.{add-mul, mul-le-mul_right}
 use Rattle.std.proofs.lemmas.Bool.{cases_lt, false≢true}
+use Rattle.std.proofs.lemmas.Option.{same_Some}
 use Rattle.fl_flash.specs.Flash.{FlashState, page_at, pages, blank}
 use Rattle.fl_flash.specs.Places.{extent}
 use Rattle.fl_index.specs.declared.index.BitmapIndex.{BitmapIndex}
@@ -28,10 +29,7 @@ abbrev FewMore : Option Ring → Option Ring → Type 0
 FewMore before after = (a b : Ring) → before ≡ Some a → after ≡ Some b → b.next ≤ a.next + 1
 
 few-same : (o p : Option Ring) → p ≡ o → FewMore o p
-few-same o p same a b a_is b_is = omega (arith, ap (λ (r : Ring). r.next) (one (sym b_is ∙ (same ∙ a_is))))
-  where
-    one : Some b ≡ Some a → b ≡ a
-    one e = cc
+few-same o p same a b a_is b_is = omega (arith, ap (λ (r : Ring). r.next) (same_Some b a (sym b_is ∙ (same ∙ a_is))))
 
 few-sealed : (plan : Plan) (count : ℕ) (o p : Option Ring) → p ≡ option_map erased (option_map (sealed (shape_of plan IndexRing) count) o) → FewMore o p
 few-sealed plan count o p same a b a_is b_is =

@@ -3,7 +3,7 @@ use Rattle.std.specs.List.{slice_get}
 use Rattle.std.proofs.Math.IntN.{ℤ}
 use Rattle.std.proofs.Math.Seq.{take-length}
 use Rattle.std.proofs.lemmas.List.{drop_all, length-map}
-use Rattle.std.proofs.lemmas.Option.{slice_get-map}
+use Rattle.std.proofs.lemmas.Option.{slice_get-map, none-some}
 use Rattle.std.specs.Option.{option_map}
 use Rattle.fl_base.specs.declared.types.Geometry.{Geometry}
 use Rattle.fl_flash.specs.Flash.{FlashState}
@@ -36,10 +36,7 @@ take-none [] = refl
 take-none (x ∷ xs) = refl
 
 take-more : {X : Type 0} (i : ℕ) (xs : List X) (x : X) → slice_get xs i ≡ Some x → take (suc i) xs ≡ take i xs ++ x ∷ []
-take-more {X} i [] x e = absurd (none e)
-  where
-    none : None ≡ Some x → ⊥
-    none k = cc
+take-more {X} i [] x e = absurd (none-some x e)
 take-more {X} zero (y ∷ ys) x e = let same : y ≡ x = cc in ap (λ (z : X). z ∷ take 0 ys) same ∙ ap (λ (zs : List X). x ∷ zs) (take-none ys)
 take-more {X} (suc i) (y ∷ ys) x e = ap (λ (zs : List X). y ∷ zs) (take-more i ys x e)
 

@@ -1,5 +1,6 @@
-use Rattle.std.proofs.Common.{◌≡◌, Some, None, Ok, Err, refl, sym, ◌∙◌, ap, subst, arith}
+use Rattle.std.proofs.Common.{◌≡◌, Ok, Err, refl, sym, ◌∙◌, ap, subst, arith}
 use Rattle.std.proofs.lemmas.Result.{err_from_is_err_and}
+use Rattle.std.proofs.lemmas.Option.{none-some, same_Some}
 use Rattle.fl_base.specs.declared.types.Geometry.{Geometry}
 use Rattle.fl_flash.specs.Flash.{page_at}
 use Rattle.fl_model.specs.Table.{log_pages}
@@ -21,10 +22,7 @@ pub invariant_of-self : goal.invariant_of-self
 invariant_of-self g c =
     let v = c.args.self.now in
     let k = kept-clear v.rows c.clear.new.self c.clear.ensures.exact c.clear.ensures.size (record { begin = v.rows_begin; room = v.rows_room; rest = v.blank_rest }) in
-    record { served = v.served; some_blocks = v.some_blocks; body = omega (arith, c.clear.ensures.size, v.body); rows_begin = k.begin; rows_room = k.room; blank_rest = k.rest; lies = λ r is. absurd (none r is) }
-  where
-    none : (r : Ring) → None ≡ Some r → ⊥
-    none r e = cc
+    record { served = v.served; some_blocks = v.some_blocks; body = omega (arith, c.clear.ensures.size, v.body); rows_begin = k.begin; rows_room = k.room; blank_rest = k.rest; lies = λ r is. absurd (none-some r is) }
 
 pub invariant_of-self-2 : goal.invariant_of-self-2
 invariant_of-self-2 g c =
@@ -37,11 +35,8 @@ invariant_of-self-2 g c =
       rows_begin = k.begin;
       rows_room = k.room;
       blank_rest = k.rest;
-      lies = λ r is. subst (λ (x : Ring). shape_of x ≡ shape_at v.place v.geometry) (one is) (c.in_ok-ring.ensures.mounts.shape ∙ ap (shape_at v.place) c.requires.lies.geometry);
+      lies = λ r is. subst (λ (x : Ring). shape_of x ≡ shape_at v.place v.geometry) (same_Some _ _ is) (c.in_ok-ring.ensures.mounts.shape ∙ ap (shape_at v.place) c.requires.lies.geometry);
     }
-  where
-    one : {x y : Ring} → Some x ≡ Some y → x ≡ y
-    one e = cc
 
 pub returns-in_err-ring-clause-ends : goal.returns-in_err-ring-clause-ends
 returns-in_err-ring-clause-ends g c = λ first plan table rose device watched rests.

@@ -1,8 +1,8 @@
-use Rattle.std.proofs.Common.{◌≡◌, ◌*◌, false, None, Some, [], arith}
+use Rattle.std.proofs.Common.{◌≡◌, ◌*◌, false, [], arith}
+use Rattle.std.proofs.lemmas.Option.{none-some}
 use Rattle.fl_model.specs.Record.{RowLayout, layout_len}
 use Rattle.fl_page.specs.Writer.{Gathers}
 use Rattle.fl_page.specs.WriterState.{WriterState}
-use Rattle.fl_ring.specs.declared.ring.Ring.{Ring}
 use Rattle.fl_parts.proofs.Writers.{gathers-blank}
 use Rattle.fl_rlc.proofs.log.RecordLog.plan.Goals as goal
 
@@ -23,8 +23,5 @@ invariant_of-result c =
       rows_begin = omega (arith, end);
       rows_room = omega (arith, end, c.in_ok-new.ensures.size, c.requires.served.page_least);
       blank_rest = gathers-blank plain w gathers;
-      lies = λ r is. absurd (none r is);
+      lies = λ r is. absurd (none-some r is);
     }
-  where
-    none : (r : Ring) → None ≡ Some r → ⊥
-    none r e = cc

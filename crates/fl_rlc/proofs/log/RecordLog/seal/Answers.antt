@@ -1,6 +1,7 @@
 use Rattle.std.proofs.Common.{rules, ◌≡◌, ℕ, ◌+◌, ◌-◌, ◌<◌, ◌≤◌, Option, None, Some, Result, Ok, Err, unwrap_or, map, length, refl, sym, ◌∙◌, ap, subst, arith}
 use Rattle.std.specs.Prelude.{option_map}
 use Rattle.std.proofs.lemmas.Result.{err_from_is_err_and}
+use Rattle.std.proofs.lemmas.Option.{none-some, same_Some}
 use Rattle.fl_flash.specs.Flash.{page_at}
 use Rattle.fl_flash.specs.declared.flash.FlashFault.{FlashFault}
 use Rattle.fl_model.specs.Layout.{rows_body}
@@ -23,9 +24,6 @@ use Rattle.fl_ring.specs.Mounting.{shape_at}
 use Rattle.fl_ring.specs.declared.ring.Ring.{Ring}
 use Rattle.fl_rlc.proofs.Writers.{kept-finish}
 use Rattle.fl_rlc.proofs.log.RecordLog.seal.Goals as goal
-
-none-log : (r : Ring) → None ≡ Some r → ⊥
-none-log r e = cc
 
 pub returns-in_err-seal-clause-ends : goal.returns-in_err-seal-clause-ends
 returns-in_err-seal-clause-ends g c = λ first plan table rose device watched h.
@@ -101,7 +99,7 @@ invariant_of-self g c =
       rows_begin = k.begin;
       rows_room = k.room;
       blank_rest = k.rest;
-      lies = λ r is. absurd (none-log r (sym gone ∙ is));
+      lies = λ r is. absurd (none-some r (sym gone ∙ is));
     }
 
 pub invariant_of-self-2 : goal.invariant_of-self-2
@@ -116,11 +114,8 @@ invariant_of-self-2 g c =
       rows_begin = k.begin;
       rows_room = k.room;
       blank_rest = k.rest;
-      lies = λ r is. subst (λ (x : Ring). shape_of x ≡ shape_at v.place v.geometry) (one is) (c.in_ok-seal.ensures.same ∙ v.lies c.in-Some.ring ring_is);
+      lies = λ r is. subst (λ (x : Ring). shape_of x ≡ shape_at v.place v.geometry) (same_Some _ _ is) (c.in_ok-seal.ensures.same ∙ v.lies c.in-Some.ring ring_is);
     }
-  where
-    one : {x y : Ring} → Some x ≡ Some y → x ≡ y
-    one e = cc
 
 pub returns-clause-power : goal.returns-clause-power
 returns-clause-power g c = seal-on _ _ _ _ _ _ _ c.in_ok-seal.ensures.calls

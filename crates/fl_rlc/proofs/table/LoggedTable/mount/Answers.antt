@@ -1,6 +1,7 @@
 use Rattle.std.proofs.Common.{◌≡◌, ◌⊎◌, ℕ, ◌+◌, Bool, false, Option, Some, IfSome, Ok, Err, [], IsTrue, is_some, inl, inr, refl, sym, ◌∙◌, ap, subst, arith}
 use Rattle.std.proofs.lemmas.Result.{err_from_is_err_and}
 use Rattle.std.proofs.lemmas.Bool.{true≢false}
+use Rattle.std.proofs.lemmas.Option.{same_Some, none-some}
 use Rattle.fl_flash.specs.Flash.{page_at}
 use Rattle.fl_frame.proofs.CallsInTurn.{goes-then}
 use Rattle.fl_model.specs.Bare.{bare, bare_table, log_of, beside}
@@ -28,7 +29,6 @@ use Rattle.fl_rlc.proofs.MountEnded.{bare-mountable, fails, mounts-alone, apart-
 use Rattle.fl_rlc.proofs.MountLimits.{limit-alone, limit-behind}
 use Rattle.fl_rlc.proofs.MountFound.{finds-alone, finds-behind, refuses-behind, outside-both, few-both, log-here}
 use Rattle.fl_rlc.proofs.MountLeaves.{bare-leaves, mount-leaves}
-use Rattle.fl_rlc.proofs.Planned.{none-some, one-log}
 use Rattle.fl_rlc.proofs.PutFrames.{log-self, log-lies, log-moved, blobs-same}
 use Rattle.fl_rlc.proofs.Written.{repairs-alone, repairs-both}
 use Rattle.fl_rlc.proofs.table.LoggedTable.mount.Goals as goal
@@ -206,7 +206,7 @@ returns-in-Err-clause-apart g c = λ first plan table rose device l watched plan
     let f1 = g.F.Flash.state c.mount.new.flash in
     let f2 = g.F.Flash.state c.replay.new.flash in
     let k = c.in_ok-mounted.ensures in
-    let here : c.in-Some.log ≡ l = one-log (sym c.in-Some.is ∙ is) in
+    let here : c.in-Some.log ≡ l = same_Some _ _ (sym c.in-Some.is ∙ is) in
     let outside = k.outside watched.told in
     let w = k.ends first (bare plan) (bare_table table) rose device (watched-first old f1 f2 rose device watched c.in-Err.ensures.goes) planned.table (apart-mountable t old first plan table planned l apart) in
     replay-ends t old first plan table planned l apart rose device c.in_ok-mounted.mounted c.mount.new.self f1 outside w k.none c.in-Err.fault c.replay.new.log c.replay.new.table _ f2
@@ -307,7 +307,7 @@ returns-clause-apart g c = λ first plan table rose device l watched planned is 
     let f1 = g.F.Flash.state c.mount.new.flash in
     let f2 = g.F.Flash.state c.replay.new.flash in
     let k = c.in_ok-mounted.ensures in
-    let here : c.in-Some.log ≡ l = one-log (sym c.in-Some.is ∙ is) in
+    let here : c.in-Some.log ≡ l = same_Some _ _ (sym c.in-Some.is ∙ is) in
     let outside = k.outside watched.told in
     let w = k.ends first (bare plan) (bare_table table) rose device (watched-first old f1 f2 rose device watched c.in_default-replay.ensures.goes) planned.table (apart-mountable t old first plan table planned l apart) in (
       c.replay.new.log,

@@ -1,5 +1,6 @@
 use Rattle.std.proofs.Common.{◌≡◌, ℕ, ◌+◌, ◌≤◌, false, Option, refl, sym, ◌∙◌, ap, subst, arith}
 use Rattle.std.specs.Prelude.{IfSome}
+use Rattle.std.proofs.lemmas.Option.{same_Some, none-some}
 use Rattle.fl_base.specs.declared.types.RingPlace.{RingPlace}
 use Rattle.fl_model.specs.Bare.{bare}
 use Rattle.fl_model.specs.Record.{Plan, blocks_of, layout_len}
@@ -10,7 +11,7 @@ use Rattle.fl_table.specs.Look.{layout_in}
 use Rattle.fl_table.specs.Memory as table_words
 use Rattle.fl_rlc.specs.Memory.{page_len, IsPlanned, LiesOn}
 use Rattle.fl_rlc.specs.declared.log.RecordLog.{RecordLog}
-use Rattle.fl_rlc.proofs.Planned.{logged-fits, table-refused, none-some, one-log, three-blocks, few-var}
+use Rattle.fl_rlc.proofs.Planned.{logged-fits, table-refused, three-blocks, few-var}
 use Rattle.fl_rlc.proofs.PutFrames.{not-both}
 use Rattle.fl_rlc.proofs.table.LoggedTable.plan.Goals as goal
 
@@ -49,7 +50,7 @@ invariant_of-result-2 g c = record {
       c.in_ok-table.ensures.shape.0
       ∙ few-var c.args.config.now.var (logged-fits c.args.log c.args.config.now c.in-Some.place c.in-Some.is c.in_ok-check_with.ensures.refusal).no_blobs;
   room = λ l is.
-      subst (λ (x : RecordLog). layout_len (layout_in c.in_ok-table.table) + 24 ≤ page_len x) (one-log is)
+      subst (λ (x : RecordLog). layout_len (layout_in c.in_ok-table.table) + 24 ≤ page_len x) (same_Some _ _ is)
       (let page : page_len c.in_ok-log.log ≡ c.args.config.now.geometry.page = ap (λ (r : Shape). r.size) c.in_ok-log.ensures.shape in omega (arith, c.in_ok-table.ensures.shape.1, page));
 }
 
@@ -64,7 +65,7 @@ pub returns-clause-lies : goal.returns-clause-lies
 returns-clause-lies g c = λ f geometry rows index var log few. record {
   table = c.in_ok-table.ensures.lies f geometry rows index var few;
   log = λ l is.
-      subst (λ (x : RecordLog). LiesOn x f) (one-log is)
+      subst (λ (x : RecordLog). LiesOn x f) (same_Some _ _ is)
       (c.in_ok-log.ensures.lies f geometry (subst (λ (o : Option RingPlace). IfSome o (λ place. place.first_block + place.blocks ≤ f.blocks)) c.in-Some.is log) few);
 }
 

@@ -1,6 +1,7 @@
-use Rattle.std.proofs.Common.{◌≡◌, ℕ, ◌+◌, ◌≤◌, Bool, true, false, not, ◌&&◌, ◌||◌, Bor, List, Option, Some, None, Result, Ok, Err, length, option_map, refl, sym, ◌∙◌, ap, subst, arith}
+use Rattle.std.proofs.Common.{◌≡◌, ℕ, ◌+◌, ◌≤◌, Bool, true, false, not, ◌&&◌, ◌||◌, Bor, List, Option, None, Result, Ok, Err, length, option_map, refl, sym, ◌∙◌, ap, subst, arith}
 use Rattle.std.proofs.lemmas.Result.{err_from_is_err_and}
 use Rattle.std.specs.Prelude.{IsTrue}
+use Rattle.std.proofs.lemmas.Option.{none-some}
 use Rattle.fl_flash.specs.Flash.{FlashState, page_at}
 use Rattle.fl_flash.specs.declared.flash.FlashFault.{FlashFault}
 use Rattle.fl_flash.specs.declared.flash.FlashFault.TheVariants.{PowerLost}
@@ -101,9 +102,6 @@ returns-clause-ends g c = λ first plan table rose device watched h.
 
 -- ---- a refusal
 
-not-refused : (refusal : PutRefusal) → ◌≡◌ {A = Option PutRefusal} None (Some refusal) → ⊥
-not-refused refusal e = cc
-
 pub returns-in-Some-clause-exact : goal.returns-in-Some-clause-exact
 returns-in-Some-clause-exact g c = subst (λ (o : Option PutRefusal). RefusesAs o (Err c.in-Some.refusal)) (sym (sym c.refusal.ensures ∙ c.in-Some.is)) refl
 
@@ -143,10 +141,10 @@ pub returns-in-Some-clause-media_reads : goal.returns-in-Some-clause-media_reads
 returns-in-Some-clause-media_reads g c = omega arith
 
 pub returns-in-Some-clause-quiet : goal.returns-in-Some-clause-quiet
-returns-in-Some-clause-quiet g c = λ none. absurd (not-refused c.in-Some.refusal (sym none ∙ (sym c.refusal.ensures ∙ c.in-Some.is)))
+returns-in-Some-clause-quiet g c = λ none. absurd (none-some c.in-Some.refusal (sym none ∙ (sym c.refusal.ensures ∙ c.in-Some.is)))
 
 pub returns-in-Some-clause-off : goal.returns-in-Some-clause-off
-returns-in-Some-clause-off g c = λ none. absurd (not-refused c.in-Some.refusal (sym none ∙ (sym c.refusal.ensures ∙ c.in-Some.is)))
+returns-in-Some-clause-off g c = λ none. absurd (none-some c.in-Some.refusal (sym none ∙ (sym c.refusal.ensures ∙ c.in-Some.is)))
 
 -- ---- the table's put fails
 
