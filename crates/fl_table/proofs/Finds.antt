@@ -3,6 +3,7 @@ use Rattle.std.proofs.Common.{◌≡◌, ℕ, ◌+◌, ◌*◌, ◌<◌, ◌≤�
 use Rattle.std.specs.Prelude.{IfOk, IfSome, MatchOption, OnOk, if◌then◌else◌, unwrap_or}
 use Rattle.std.specs.List.{slice_get}
 use Rattle.std.proofs.lemmas.Bool.{true≢false}
+use Rattle.std.proofs.lemmas.Option.{same_Some}
 use Rattle.fl_find.specs.Index.{error_in, knots_in, most_reads, window_end}
 use Rattle.fl_find.specs.Looking.{BlamesBelow, IsBadBelow, LookFails}
 use Rattle.fl_find.specs.Looking as find
@@ -48,14 +49,11 @@ use Rattle.fl_table.proofs.PendingRows.{written-found, written-none, pending-fou
 use Rattle.fl_table.proofs.SealAnswers.{planned-ring}
 use Rattle.fl_parts.proofs.States.{shape_in}
 
-pub some-same : (a b : Ring) → Some a ≡ Some b → a ≡ b
-some-same a b h = cc
-
 -- the kept pages hold what is written
 pub holds-pages : {KNOTS SLOTS : ℕ} (t : Table KNOTS SLOTS) (f : FlashState) (first : ℕ) (plan : Plan) (table : model.Table) (ring : Ring) → Stands t f first plan table → LiesOn t f → f.start + extent f.geometry f.blocks ≤ length f.media.content →
     t.ring ≡ Some ring → IsTrue f.media.tells → HoldsPages (layout_of t.schema) ring f plan table
 holds-pages t f first plan table ring stands lies reaches is tells =
-    let same : stands.memory.ring ≡ ring = some-same stands.memory.ring ring (sym stands.memory.ring_is ∙ is) in
+    let same : stands.memory.ring ≡ ring = same_Some stands.memory.ring ring (sym stands.memory.ring_is ∙ is) in
     let shape : shape_in first plan ≡ shape_of ring = sym (t.lies ring is ∙ planned-ring t first plan stands.planned) in
     record {
       tells = tells;

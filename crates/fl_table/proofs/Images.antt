@@ -2,6 +2,7 @@
 use Rattle.std.proofs.Common.{◌≡◌, ℕ, ◌+◌, ◌-◌, ◌*◌, Bool, true, false, cond, Option, Some, None, IfSome, List, take, drop, refl, sym, ◌∙◌, ap, subst, arith, sum_by}
 use Rattle.std.proofs.Math.Path.{fun_ext}
 use Rattle.std.proofs.lemmas.Bool.{false≢true}
+use Rattle.std.proofs.lemmas.Option.{none-some}
 use Rattle.fl_flash.specs.Flash.{FlashState, page_at}
 use Rattle.fl_model.specs.Record.{Plan, Config, blocks_of, has_index, has_var}
 use Rattle.fl_model.specs.Ring.{Shape, Ring, fresh}
@@ -57,14 +58,11 @@ holds-same old new first plan table same h = record {
     equal : (ring : RingName) → bytes_in new first plan ring ≡ bytes_in old first plan ring
     equal ring = fun_ext (λ n. same ring n)
 
-nothing : {n : ℕ} → None ≡ Some n → ⊥
-nothing e = cc
-
 -- the pages of an empty ring
 fresh_image : (shape : Shape) (at : ℕ → List ℕ) (Holds : ℕ → ℕ → List ℕ → Type 0) → ((n : ℕ) → is_blank (at n) ≡ true) → IsRingImage shape fresh at Holds
 fresh_image shape at Holds blank = record {
-  void = λ i e. absurd (nothing e);
-  kept = λ i count e some. absurd (nothing e);
+  void = λ i e. absurd (none-some _ e);
+  kept = λ i count e some. absurd (none-some _ e);
   blank_next = λ e. blank 0;
   torn_next = λ e. absurd (false≢true e);
   dirty = λ e. absurd (false≢true e);

@@ -3,6 +3,7 @@ use Rattle.fl_model.proofs.EntriesStayTold.{telling-stays}
 use Rattle.std.specs.List.{slice_get, sum}
 use Rattle.std.proofs.lemmas.Bool.{cases_lt}
 use Rattle.std.proofs.Common.{◌≡◌, ℕ, ◌+◌, ◌-◌, ◌*◌, ◌%◌, ◌≤◌, min, max, Bool, true, false, cond, ◌==◌, Option, Some, None, Result, Ok, Err, List, [], ◌∷◌, IfSome, map, length, drop, get_or, refl, sym, ◌∙◌, ap, subst, ◌⊎◌, inl, inr, arith, IsTrue, ◌<◌, take}
+use Rattle.std.proofs.lemmas.Option.{none-some}
 use Rattle.fl_base.specs.Causes.{Rose}
 use Rattle.fl_flash.specs.Flash.{FlashState, page_at}
 use Rattle.fl_flash.specs.Places.{extent}
@@ -268,10 +269,7 @@ module _ (first : ℕ) (plan : Plan) (table : Table) (rose : Bool) (device : Dev
     reads-end t e c is risen only fails refused = by_fault e only fails refused
       where
         fine : (fault : MountFault) → mount_fault c ≡ Some fault → ⊥
-        fine fault h = none (sym (mount-fine c l.now.state is) ∙ h)
-          where
-            none : ◌≡◌ {A = Option MountFault} None (Some fault) → ⊥
-            none k = cc
+        fine fault h = none-some fault (sym (mount-fine c l.now.state is) ∙ h)
 
         by_fault : (e : MountFault) → is_of_pages e ≡ true → IfFlash (λ fault. ReadFails mid fault new) e → IfPage (λ fault. mount_fault c ≡ Some fault) e → DataEnds first plan table rose device (Err e) t new
         by_fault (mount.Flash fault) only fails refused = reads-fail fault fails risen

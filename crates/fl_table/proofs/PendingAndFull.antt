@@ -2,7 +2,7 @@
 use Rattle.std.proofs.Common.{◌≡◌, ℕ, ◌+◌, ◌-◌, ◌*◌, ◌/◌, ◌^◌, ◌<◌, ◌≤◌, Bool, true, false, cond, ◌&&◌, ◌==◌, nat_lt, Option, Some, None, eq-eqb, unwrap_or, List, [], ◌∷◌, ◌++◌, length, drop, get_or, fold, refl, sym, ◌∙◌, ap, subst, arith, inl, inr, length-append, pos, bit_or}
 use Rattle.std.proofs.Math.Nat.{le-div_iff_mul-le, add-mul}
 use Rattle.std.proofs.lemmas.Bool.{eqb-true, cases_lt, false≢true}
-use Rattle.std.proofs.lemmas.List.{drop-append-le}
+use Rattle.std.proofs.lemmas.List.{drop-append-le, append-nil}
 use Rattle.std.proofs.lemmas.List.Sums.{fold_push}
 use Rattle.std.proofs.lemmas.Option.{unwrap_or-slice_get}
 use Rattle.std.specs.List.{slice_get, sum, last_or}
@@ -122,10 +122,6 @@ module _ {KNOTS SLOTS : ℕ} (t : code.Table KNOTS SLOTS) (f : FlashState) (firs
   some-full lt e =
       let none : table.pending * layout_len (layout_of t.schema) ≡ 0 * layout_len (layout_of t.schema) = ap (λ n. n * layout_len (layout_of t.schema)) e in
       absurd (omega (arith, none, end, lt, t.page, t.room_for_row))
-
-append-nil : {X : Type 0} (xs : List X) → xs ++ [] ≡ xs
-append-nil [] = refl
-append-nil (x ∷ xs) = ap (λ ys. x ∷ ys) (append-nil xs)
 
 -- the same seals
 pub finishes-as : {KNOTS SLOTS : ℕ} (first : ℕ) (plan : Plan) (rings others : List RingName) (table : Table) (rose : Bool) (device : Device) (t : code.Table KNOTS SLOTS) (old new : FlashState) → rings ≡ others →

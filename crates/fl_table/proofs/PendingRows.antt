@@ -4,6 +4,7 @@ use Rattle.std.specs.Prelude.{◌==◌, nat_le, unwrap_or}
 use Rattle.std.specs.List.{slice_get}
 use Rattle.std.proofs.lemmas.Bool.{cases_lt, lt-leb, leb-false, true≢false}
 use Rattle.std.proofs.lemmas.List.{length-map}
+use Rattle.std.proofs.lemmas.Option.{none-some, same_Some}
 use Rattle.fl_find.proofs.Entries.{found-at, found-none, row-entry, rows-rise}
 use Rattle.fl_find.proofs.Firsts.{Ascending}
 use Rattle.fl_find.specs.Rows.{RowsRise, HasKey, LacksKey}
@@ -17,11 +18,8 @@ use Rattle.fl_model.proofs.Lists.{slice_get-some, slice_get-drop, slice_get-take
 
 -- an entry of the front of a list is one of the list
 pub entry-front : (key n : ℕ) (entries : List Entry) (entry : Entry) → entry_at key (take n entries) ≡ Some entry → entry_at key entries ≡ Some entry
-entry-front key zero entries entry e = absurd (none (take_none entries ∙ e))
+entry-front key zero entries entry e = absurd (none-some entry (take_none entries ∙ e))
   where
-    none : ◌≡◌ {A = Option Entry} None (Some entry) → ⊥
-    none e = cc
-
     take_none : (xs : List Entry) → None ≡ entry_at key (take 0 xs)
     take_none [] = refl
     take_none (x ∷ xs) = refl
@@ -54,12 +52,9 @@ module _ (plan : Plan) (table : Table) (facts : IsTable plan table) where
         x.1,
         ⊎_elim
             (λ less. let up = pending-up 0 j x.0 entry less x.1 e in omega (arith, up))
-            (λ le. let zero_is : j ≡ 0 = omega (arith, le) in let same = some-same x.0 entry (sym x.1 ∙ (ap (slice_get (pending_entries table)) (sym zero_is) ∙ e)) in omega (arith, ap (λ (y : Entry). y.kept.key) same))
+            (λ le. let zero_is : j ≡ 0 = omega (arith, le) in let same = same_Some x.0 entry (sym x.1 ∙ (ap (slice_get (pending_entries table)) (sym zero_is) ∙ e)) in omega (arith, ap (λ (y : Entry). y.kept.key) same))
             (cases_lt 0 j),
       )
-    where
-      some-same : (a b : Entry) → Some a ≡ Some b → a ≡ b
-      some-same a b h = cc
 
   -- a key that isn't pending lies below all pending keys
   pending-above : (key j : ℕ) (entry : Entry) → is_pending_key table key ≡ false → slice_get (pending_entries table) j ≡ Some entry → key < entry.kept.key
@@ -90,15 +85,12 @@ module _ (plan : Plan) (table : Table) (facts : IsTable plan table) where
   -- and where no written one has a key that isn't pending, none has it
   pub written-none : (key : ℕ) → is_pending_key table key ≡ false → entry_at key (written table) ≡ None → entry_at key table.entries ≡ None
   written-none key is e = found-none key table.entries (λ i entry at k. ⊎_elim
-      (λ less. none entry (sym e ∙ found-at key (written table) i entry written-up (slice_get-take n table.entries i less ∙ at) k))
+      (λ less. none-some entry (sym e ∙ found-at key (written table) i entry written-up (slice_get-take n table.entries i less ∙ at) k))
       (λ le.
       let split : n + (i - n) ≡ i = omega (arith, le) in
       let above = pending-above key (i - n) entry is (slice_get-drop n table.entries (i - n) ∙ (ap (slice_get table.entries) split ∙ at)) in
       omega (arith, above, k))
       (cases_lt i n))
-    where
-      none : (entry : Entry) → ◌≡◌ {A = Option Entry} None (Some entry) → ⊥
-      none entry e = cc
 
   -- the entry of a pending row
   pub pending-found : (key i : ℕ) → HasKey (map stored_row (pending_entries table)) key i →
@@ -118,10 +110,7 @@ module _ (plan : Plan) (table : Table) (facts : IsTable plan table) where
       (cases_lt i n))
     where
       map-get : (es : List Entry) (i : ℕ) (entry : Entry) → slice_get es i ≡ Some entry → slice_get (map stored_row es) i ≡ Some (stored_row entry)
-      map-get [] i entry e = absurd (none e)
-        where
-          none : ◌≡◌ {A = Option Entry} None (Some entry) → ⊥
-          none e = cc
+      map-get [] i entry e = absurd (none-some entry e)
       map-get (x ∷ es) zero entry e = let same : x ≡ entry = cc in ap (λ (y : Entry). Some (stored_row y)) same
       map-get (x ∷ es) (suc i) entry e = map-get es i entry e
 
@@ -134,21 +123,15 @@ pub below-middle : (rows : List Row) (middle key : ℕ) (row : Row) → RowsRise
     (i : ℕ) (other : Row) → i < middle + 1 → slice_get rows i ≡ Some other → other.key < key
 below-middle rows middle key row up e lt i other less f = ⊎_elim
     (λ before. let h = up i middle other row before f e in omega (arith, h, lt))
-    (λ le. let same : i ≡ middle = omega (arith, le, less) in let is = some-same other row (sym f ∙ (ap (slice_get rows) same ∙ e)) in omega (arith, lt, ap (λ (r : Row). r.key) is))
+    (λ le. let same : i ≡ middle = omega (arith, le, less) in let is = same_Some other row (sym f ∙ (ap (slice_get rows) same ∙ e)) in omega (arith, lt, ap (λ (r : Row). r.key) is))
     (cases_lt i middle)
-  where
-    some-same : (a b : Row) → Some a ≡ Some b → a ≡ b
-    some-same a b h = cc
 
 pub above-middle : (rows : List Row) (middle key : ℕ) (row : Row) → RowsRise rows → slice_get rows middle ≡ Some row → key ≤ row.key →
     (i : ℕ) (other : Row) → middle ≤ i → slice_get rows i ≡ Some other → key ≤ other.key
 above-middle rows middle key row up e le i other from f = ⊎_elim
     (λ after. let h = up middle i row other after e f in omega (arith, h, le))
-    (λ upto. let same : i ≡ middle = omega (arith, upto, from) in let is = some-same other row (sym f ∙ (ap (slice_get rows) same ∙ e)) in omega (arith, le, ap (λ (r : Row). r.key) is))
+    (λ upto. let same : i ≡ middle = omega (arith, upto, from) in let is = same_Some other row (sym f ∙ (ap (slice_get rows) same ∙ e)) in omega (arith, le, ap (λ (r : Row). r.key) is))
     (cases_lt middle i)
-  where
-    some-same : (a b : Row) → Some a ≡ Some b → a ≡ b
-    some-same a b h = cc
 
 -- the row behind all lesser ones has the key, or none has it
 pub lacks-beyond : (rows : List Row) (key place : ℕ) → ((i : ℕ) (row : Row) → i < place → slice_get rows i ≡ Some row → row.key < key) → ((i : ℕ) (row : Row) → place ≤ i → slice_get rows i ≡ Some row → key ≤ row.key) →

@@ -1,9 +1,10 @@
 -- The index of a table's points, as records come and pages are sealed.
-use Rattle.std.proofs.Common.{◌≡◌, ℕ, zero, suc, ◌+◌, ◌<◌, ◌≤◌, Bool, Option, Some, None, option_map, List, [], ◌∷◌, ◌++◌, length, map, take, drop, refl, sym, ◌∙◌, ap, subst, arith, length-drop}
+use Rattle.std.proofs.Common.{◌≡◌, ℕ, zero, suc, ◌+◌, ◌<◌, ◌≤◌, Bool, Option, Some, option_map, List, [], ◌∷◌, ◌++◌, length, map, take, drop, refl, sym, ◌∙◌, ap, subst, arith, length-drop}
 use Rattle.std.specs.Prelude.{unwrap_or, if◌then◌else◌}
 use Rattle.std.specs.List.{slice_get, sum}
 use Rattle.std.proofs.Math.Dec.{eqb-suc-zero}
 use Rattle.std.proofs.lemmas.List.{take-append-le, drop-append-le}
+use Rattle.std.proofs.lemmas.Option.{none-some}
 use Rattle.fl_find.specs.Index.{IndexOf}
 use Rattle.fl_find.specs.Standing.{HasPoints}
 use Rattle.fl_find.specs.declared.index.KeyIndex.{KeyIndex}
@@ -55,10 +56,7 @@ pub first-key : (table : Table) (row : Row) → slice_get (map stored_row (pendi
 first-key table row = of (pending_entries table)
   where
     of : (es : List Entry) → slice_get (map stored_row es) 0 ≡ Some row → option_map (λ (e : Entry). e.kept.key) (slice_get es 0) ≡ Some row.key
-    of [] h = absurd (none h)
-      where
-        none : ◌≡◌ {A = Option Row} None (Some row) → ⊥
-        none h = cc
+    of [] h = absurd (none-some row h)
     of (e ∷ es) h = let same : stored_row e ≡ row = cc in ap (λ (r : Row). Some r.key) same
 
 pub first-some : (entries : List Entry) → 0 < length entries → option_map (λ (e : Entry). e.kept.key) (slice_get entries 0) ≡ Some (first_key entries)

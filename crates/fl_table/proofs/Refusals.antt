@@ -1,8 +1,9 @@
 -- A table refuses as its model does.
 use Rattle.std.proofs.Common.{◌≡◌, ℕ, ◌+◌, Bool, true, false, cond, not, ◌||◌, ◌==◌, nat_le, nat_lt, Option, Some, None, IfSome, Err, subst, is_some, option_map, unwrap_or, List, length, refl, sym, ◌∙◌, ap, arith, ◌<◌, ◌≤◌}
-use Rattle.std.proofs.lemmas.Bool.{ltb-false, leb-false, eqb-true}
+use Rattle.std.proofs.lemmas.Bool.{ltb-false, leb-false, eqb-true, not-false}
 use Rattle.std.specs.Prelude.{if◌then◌else◌}
 use Rattle.std.proofs.Math.IntN.{ℤ}
+use Rattle.std.proofs.lemmas.Option.{none-some}
 use Rattle.fl_flash.specs.Flash.{FlashState}
 use Rattle.fl_model.specs.Record.{Record, Plan, RowLayout, row_layout, has_var, key_limit, greatest_key, first_misfit}
 use Rattle.fl_model.specs.Row.{FitsRow}
@@ -135,10 +136,7 @@ module _ {KNOTS SLOTS : ℕ} (t : code.Table KNOTS SLOTS) (f : FlashState) (firs
     where
       by_model : (o : Option Refusal) → refusal_of plan table (record { key = key; values = values; blob = blob }) ≡ o → answer o ≡ Some refusal →
           (r : Refusal) × (refusal_of plan table (record { key = key; values = values; blob = blob }) ≡ Some r) × (refusal ≡ answer_of r)
-      by_model None k e = absurd (none e)
-        where
-          none : None ≡ Some refusal → ⊥
-          none e = cc
+      by_model None k e = absurd (none-some refusal e)
       by_model (Some r) k e = (r, k, same e)
         where
           same : Some (answer_of r) ≡ Some refusal → refusal ≡ answer_of r
@@ -162,10 +160,6 @@ not_so : (b : Bool) (r : PutRefusal) → refused_if b r ≡ None → b ≡ false
 not_so true r e = cc
 not_so false r e = refl
 
-not_not : (b : Bool) → not b ≡ false → b ≡ true
-not_not true e = refl
-not_not false e = cc
-
 or_false : (a b : Bool) → (a || b) ≡ false → (a ≡ false) × (b ≡ false)
 or_false true b e = cc
 or_false false b e = (refl, e)
@@ -180,7 +174,7 @@ module _ {KNOTS SLOTS : ℕ} (t : code.Table KNOTS SLOTS) (key : ℕ) (values : 
       neither (blob_refused t blob) (spent_refused t) d.1
 
   pub told-running : is_running t ≡ true
-  told-running = not_not (is_running t) (not_so (not (is_running t)) Stopped (neither (refused_if (not (is_running t)) Stopped) _ e).0)
+  told-running = not-false (is_running t) (not_so (not (is_running t)) Stopped (neither (refused_if (not (is_running t)) Stopped) _ e).0)
 
   -- its row fits, as far as its blob isn't told
   pub fits-row : FitsRow (layout_of t.schema) (record { key = key; values = values; blob = None })
@@ -190,7 +184,7 @@ module _ {KNOTS SLOTS : ℕ} (t : code.Table KNOTS SLOTS) (key : ℕ) (values : 
       let c = neither (refused_if (not (length values == length (layout_of t.schema).columns)) (Columns (length (layout_of t.schema).columns))) _ b.1 in
       let d = neither (value_refused t key values) _ c.1 in
       let fits = by_key (nat_lt (greatest_key (layout_of t.schema)) key) refl d.0 in
-      let many = not_not (length values == length (layout_of t.schema).columns) (not_so (not (length values == length (layout_of t.schema).columns)) (Columns (length (layout_of t.schema).columns)) c.0) in
+      let many = not-false (length values == length (layout_of t.schema).columns) (not_so (not (length values == length (layout_of t.schema).columns)) (Columns (length (layout_of t.schema).columns)) c.0) in
       record {
         key = let n = ltb-false (greatest_key (layout_of t.schema)) key fits.0 in omega (arith, n);
         as_many = eqb-true (length values) (length (layout_of t.schema).columns) many;

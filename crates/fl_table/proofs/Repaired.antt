@@ -1,6 +1,6 @@
 -- The mount of the data ring, in the words of its table.
 use Rattle.std.proofs.Common.{◌≡◌, ℕ, ◌+◌, ◌-◌, ◌*◌, ◌≤◌, Bool, true, false, cond, ◌||◌, ◌&&◌, nat_lt, Option, Some, None, is_some, Result, List, [], ◌∷◌, ◌++◌, map, length, take, drop, refl, sym, ◌∙◌, ap, subst, arith, IsTrue}
-use Rattle.std.proofs.lemmas.Bool.{ltb-true, ltb-false}
+use Rattle.std.proofs.lemmas.Bool.{ltb-true, ltb-false, or_parts}
 use Rattle.std.proofs.lemmas.List.{take_all}
 use Rattle.std.specs.List.{list_any, slice_get, sum}
 use Rattle.fl_flash.specs.Flash.{FlashState}
@@ -68,15 +68,11 @@ some_rows plan number entries (c ∷ counts) =
     ap (λ b. b || list_any is_some (pages_from plan (number + 1) (drop c entries) counts)) (has_rows plan number c entries)
     ∙ ap (λ b. nat_lt 0 c || b) (some_rows plan (number + 1) (drop c entries) counts)
 
-or_false : (a b : Bool) → (a || b) ≡ false → (a ≡ false) × (b ≡ false)
-or_false true b h = cc
-or_false false b h = (refl, h)
-
 -- void pages are the same with other numbers
 void_pages : (plan : Plan) (number other : ℕ) (entries : List Entry) (counts : List ℕ) → list_any (nat_lt 0) counts ≡ false → pages_from plan number entries counts ≡ pages_from plan other entries counts
 void_pages plan number other entries [] h = refl
 void_pages plan number other entries (c ∷ counts) h =
-    let parts = or_false (nat_lt 0 c) (list_any (nat_lt 0) counts) h in
+    let parts = or_parts (nat_lt 0 c) (list_any (nat_lt 0) counts) h in
     let none : c ≡ 0 = let k = ltb-false 0 c parts.0 in omega (arith, k) in
     ap (λ (x : Option (List ℕ)). x ∷ pages_from plan (number + 1) (drop c entries) counts) (void number none ∙ sym (void other none))
     ∙ ap (λ (xs : List (Option (List ℕ))). page_with plan other c entries ∷ xs) (void_pages plan (number + 1) (other + 1) (drop c entries) counts parts.1)

@@ -3,6 +3,7 @@ use Rattle.std.proofs.Common.{◌≡◌, ℕ, ◌+◌, ◌-◌, ◌*◌, ◌%◌
 use Rattle.std.proofs.lemmas.List.{length-map, take-append-le, take_all}
 use Rattle.std.specs.List.{sum}
 use Rattle.std.proofs.lemmas.Bool.{false≢true}
+use Rattle.std.proofs.lemmas.Option.{same_Some}
 use Rattle.fl_flash.specs.Flash.{FlashState, page_at}
 use Rattle.fl_flash.specs.Places.{extent}
 use Rattle.fl_model.specs.Record.{Plan, RowLayout, row_layout, has_index}
@@ -141,18 +142,15 @@ sealing-of t f first plan table w s some room empty body =
         ∙ (ap (λ (l : RowLayout). rows_body (plan.geometry.page - 8) l table.rows.next t.bitmap (map stored_row (pending_entries table))) layout
         ∙ ap (λ n. rows_body (plan.geometry.page - 8) (row_layout plan) table.rows.next n (map stored_row (pending_entries table))) bits)
 
-one_ring : {a b : Ring} → Some a ≡ Some b → a ≡ b
-one_ring e = cc
-
 pub ring-next : {KNOTS SLOTS : ℕ} (t : code.Table KNOTS SLOTS) (f : FlashState) (first : ℕ) (plan : Plan) (table : Table) (ring : Ring) → Stands t f first plan table → t.ring ≡ Some ring → place.next_of ring ≡ table.rows.next
-ring-next t f first plan table ring s is = subst (λ (r : Ring). r.next ≡ table.rows.next) (one_ring (sym s.memory.ring_is ∙ is)) s.memory.next
+ring-next t f first plan table ring s is = subst (λ (r : Ring). r.next ≡ table.rows.next) (same_Some _ _ (sym s.memory.ring_is ∙ is)) s.memory.next
 
 -- the ring is ready for a seal
 pub seal-ready : {KNOTS SLOTS : ℕ} (t : code.Table KNOTS SLOTS) (f : FlashState) (first : ℕ) (plan : Plan) (table : Table) (ring : Ring) → Stands t f first plan table → t.ring ≡ Some ring → place.shape_of ring ≡ shape_in first plan → HaveSize first plan (page_at f) →
     IsReady ring f (state_of plan (lose table))
 seal-ready t f first plan table ring s is shape sizes =
     let facts = table-parts plan table s.planned.log s.facts in
-    let same : s.memory.ring ≡ ring = one_ring (sym s.memory.ring_is ∙ is) in
+    let same : s.memory.ring ≡ ring = same_Some _ _ (sym s.memory.ring_is ∙ is) in
     let on = plain-on (page_at f) first plan (lose table) sizes (planned-large t first plan s.planned) facts.rows s.pages in
     record {
       stands = record {

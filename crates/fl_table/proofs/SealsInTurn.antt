@@ -1,5 +1,6 @@
 -- Seals of a table, one after another.
 use Rattle.std.proofs.Common.{◌≡◌, ℕ, Bool, Result, Ok, Err, List, [], ◌∷◌, ◌++◌, refl, sym, ◌∙◌, ap, subst, append_assoc}
+use Rattle.std.proofs.lemmas.List.{append-nil}
 use Rattle.fl_flash.specs.Flash.{FlashState, page_at}
 use Rattle.fl_flash.specs.declared.flash.FlashFault.{FlashFault}
 use Rattle.fl_model.specs.Record.{Plan}
@@ -58,10 +59,6 @@ module _ (first : ℕ) (plan : Plan) (rings others : List RingName) (table : Tab
             (kept-then first plan table (after_seals plan rings table) (after_seals plan others (after_seals plan rings table)) (page_at old) (page_at mid) (page_at new) h.stands.facts k.stands.facts h.stand k.stand);
       }
       by_result (Err fault) k = record { now = k.now; did = did k.now k.did; answer = k.answer; counts = k.counts; rests = k.rests }
-
-append-nil : {X : Type 0} (xs : List X) → xs ++ [] ≡ xs
-append-nil [] = refl
-append-nil (x ∷ xs) = ap (λ ys. x ∷ ys) (append-nil xs)
 
 -- how a seal of the pending rows alone ends
 abbrev pub RowsEnd : {KNOTS SLOTS : ℕ} → ℕ → Plan → Table → Bool → Device → Result (Unit {0}) FlashFault → code.Table KNOTS SLOTS → FlashState → FlashState → Type 0

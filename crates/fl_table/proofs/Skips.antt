@@ -3,6 +3,7 @@ use Rattle.std.proofs.Common.{◌≡◌, inl, inr, ℕ, ◌+◌, ◌-◌, ◌^�
 use Rattle.std.proofs.lemmas.Bool.{cases_lt, eqb-true, lt-ltb, false_from_ne_true}
 use Rattle.std.proofs.Math.Nat.{mod-eq_of_lt}
 use Rattle.std.specs.List.{list_any, AllByRecursion}
+use Rattle.std.proofs.lemmas.Option.{none-some}
 use Rattle.fl_base.specs.declared.types.Span.{Span}
 use Rattle.fl_bitmap.specs.Widths.{is_bits}
 use Rattle.fl_bitmap.specs.declared.buckets.Buckets.{Buckets}
@@ -194,10 +195,7 @@ module _ (index : BitmapIndex) (f : FlashState) (number : ℕ) (before : BufferS
       by_waiting false is e = absurd (none-found e)
 
       listed : (listing : ℕ) (b : Bool) → cond b None (listing_by index number before) ≡ Some listing → listing_by index number before ≡ Some listing
-      listed listing true e = absurd (no e)
-        where
-          no : ◌≡◌ {A = Option ℕ} None (Some listing) → ⊥
-          no e = cc
+      listed listing true e = absurd (none-some listing e)
       listed listing false e = e
 
       by_look : (o : Option ℕ) → looked_at index number before ≡ o → Memory o → Tells o → Reads o → IsEntryOf index (page_at f) number found

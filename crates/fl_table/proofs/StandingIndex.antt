@@ -3,7 +3,8 @@ use Rattle.std.proofs.Common.{◌≡◌, inl, inr, ℕ, zero, suc, ◌+◌, ◌-
 use Rattle.std.specs.Prelude.{option_map, unwrap_or}
 use Rattle.std.specs.List.{list_any, slice_get}
 use Rattle.std.specs.Option.{is_none}
-use Rattle.std.proofs.lemmas.Bool.{cases_lt, eq-eqb, le-leb, leb-true, lt-ltb, ltb-true, false≢true, true≢false}
+use Rattle.std.proofs.lemmas.Bool.{cases_lt, eq-eqb, le-leb, leb-true, lt-ltb, ltb-true, false≢true, true≢false, and_parts}
+use Rattle.std.proofs.lemmas.Option.{same_Some}
 use Rattle.fl_flash.specs.Flash.{FlashState, page_at}
 use Rattle.fl_index.specs.declared.index.BitmapIndex.{BitmapIndex}
 use Rattle.fl_index.specs.declared.page.EntryForm.{EntryForm}
@@ -66,10 +67,6 @@ listed-some t number (suc m) k lt here = by_test (lists t number m) refl (λ les
     by_test : (b : Bool) → lists t number m ≡ b → (k < m → is_none (option_map (told_at t number) (listing_among t number m)) ≡ false) → is_none (option_map (told_at t number) (cond b (Some m) (listing_among t number m))) ≡ false
     by_test true e go = refl
     by_test false e go = go (less e (cases_lt k m))
-
-both_true : (a b : Bool) → (a && b) ≡ true → (a ≡ true) × (b ≡ true)
-both_true true b h = (refl, h)
-both_true false b h = cc
 
 all_true : (a b c d : Bool) → a ≡ true → b ≡ true → c ≡ true → d ≡ true → (((a && b) && c) && d) ≡ true
 all_true a b c d x y z w = rw (x, y, z, w) refl
@@ -172,16 +169,13 @@ module _ (R : BitmapIndex → Plan → Table → model.Ring → Type 0) (c : Com
       let at = any-at (λ first. nat_le first number && nat_lt number (first + entries_per_page plan)) (firsts table) is in
       let k = full-page stands.ring.counts at.0 (omega (arith, slice_get-short (firsts table) at.0 at.1 at.2, firsts-length table.index_pages, stands.facts.index_each)) in
       let l = is-listed (page_at f) first plan table stands.ring stands.facts stands.pages sizes large few k.i k.c k.here k.some in
-      let same = one l.first_page at.1 (sym l.listed ∙ (ap (slice_get (firsts table)) k.before ∙ at.2)) in
-      let tests = both_true _ _ at.3 in
+      let same = same_Some l.first_page at.1 (sym l.listed ∙ (ap (slice_get (firsts table)) k.before ∙ at.2)) in
+      let tests = and_parts _ _ at.3 in
       let below : k.i < c.index_pages = omega (arith, slice_get-short stands.ring.counts k.i k.c k.here, comes.index_pages, old-is, next-is, stands.facts.is_ring.not_negative) in
       let done : is_committed (index_page c k.i) ≡ true = ap is_committed (bytes-is k.i) ∙ ap commits l.is.committed_is in
       let begins : page_first (index_page c k.i) ≡ at.1 = ap page_first (bytes-is k.i) ∙ (l.is.first_is ∙ same) in
       listed-some c number c.index_pages k.i below
       (all_true (is_committed (index_page c k.i)) (is_fit c k.i) _ _ done (index-of k.i below done).fit (le-leb _ _ (omega (arith, begins, leb-true at.1 number tests.0))) (lt-ltb _ _ (omega (arith, begins, per, ltb-true number (at.1 + entries_per_page plan) tests.1))))
-    where
-      one : (a b : ℕ) → ◌≡◌ {A = Option ℕ} (Some a) (Some b) → a ≡ b
-      one a b e = cc
 
   -- no more index pages come than the table keeps
   pub few-kept : c.index_pages ≤ kept_in table.index

@@ -2,8 +2,9 @@
 use Rattle.std.proofs.Common.{◌≡◌, ℕ, zero, suc, ◌+◌, ◌-◌, ◌<◌, ◌≤◌, ◌⊎◌, inl, inr, Bool, true, false, cond, ◌&&◌, nat_le, nat_lt, Option, Some, None, List, [], ◌∷◌, length, map, refl, sym, ◌∙◌, ap, subst, arith}
 use Rattle.std.specs.Prelude.{option_map, unwrap_or}
 use Rattle.std.specs.List.{slice_get, sum}
-use Rattle.std.proofs.lemmas.Bool.{cases_lt, lt-ltb, ltb-true, leb-true}
+use Rattle.std.proofs.lemmas.Bool.{cases_lt, lt-ltb, ltb-true, leb-true, and_parts}
 use Rattle.std.proofs.lemmas.List.{length-map}
+use Rattle.std.proofs.lemmas.Option.{none-some, same_Some}
 use Rattle.fl_find.specs.Pages.{rows_on}
 use Rattle.fl_find.specs.Pages as pages
 use Rattle.fl_index.specs.Page.{page_first}
@@ -48,10 +49,6 @@ pub record IsOf (t : Come) (table : Table) : Type 0 where
   pub ascending : (i j : ℕ) (a b : Entry) → i < j → slice_get table.entries i ≡ Some a → slice_get table.entries j ≡ Some b → a.kept.key < b.kept.key
   pub counted : sum table.rows.counts ≡ length table.entries
 
-both_true : (a b : Bool) → (a && b) ≡ true → (a ≡ true) × (b ≡ true)
-both_true true b h = (refl, h)
-both_true false b h = cc
-
 -- ---- what rows tell
 
 pub by-rows : (rows : List Entry) → by_rows (map stored_row rows) ≡ full_of rows
@@ -74,23 +71,17 @@ record IsListing (t : Come) (number m k : ℕ) : Type 0 where
   high : number < page_first (index_page t k) + t.per_page
 
 listing : (t : Come) (number m k : ℕ) → listing_among t number m ≡ Some k → IsListing t number m k
-listing t number zero k e = absurd (none e)
-  where
-    none : ◌≡◌ {A = Option ℕ} None (Some k) → ⊥
-    none e = cc
+listing t number zero k e = absurd (none-some k e)
 listing t number (suc m) k e = by_test (lists t number m) refl (λ h. listing t number m k h)
   where
     here : (j : ℕ) → lists t number j ≡ true → IsListing t number (suc j) j
     here j h =
-        let a = both_true _ _ h in
-        let b = both_true _ _ a.0 in
+        let a = and_parts _ _ h in
+        let b = and_parts _ _ a.0 in
         record { below = omega arith; good = b.0; low = leb-true _ _ b.1; high = ltb-true _ _ a.1 }
 
-    same : (a b : ℕ) → ◌≡◌ {A = Option ℕ} (Some a) (Some b) → a ≡ b
-    same a b e = cc
-
     by_test : (b : Bool) → lists t number m ≡ b → (listing_among t number m ≡ Some k → IsListing t number m k) → IsListing t number (suc m) k
-    by_test true h more = subst (λ j. IsListing t number (suc m) j) (same m k (sym (ap (λ b. cond b (Some m) (listing_among t number m)) h) ∙ e)) (here m h)
+    by_test true h more = subst (λ j. IsListing t number (suc m) j) (same_Some m k (sym (ap (λ b. cond b (Some m) (listing_among t number m)) h) ∙ e)) (here m h)
     by_test false h more =
         let l = more (sym (ap (λ b. cond b (Some m) (listing_among t number m)) h) ∙ e) in
         record { below = omega (arith, l.below); good = l.good; low = l.low; high = l.high }
@@ -100,17 +91,14 @@ module _ (t : Come) (table : Table) (is : IsOf t table) where
   pub entry-of : (n c : ℕ) → slice_get table.rows.counts n ≡ Some c → (full : Full) → entry t (t.oldest + n) ≡ Some full → full ≡ full_of (rows_at table n c)
   entry-of n c e full h = by_listing (listing_among t (t.oldest + n) t.index_pages) refl
     where
-      none : ◌≡◌ {A = Option Full} None (Some full) → ⊥
-      none e = cc
-
       same : (a b : Full) → ◌≡◌ {A = Option Full} (Some a) (Some b) → b ≡ a
       same a b e = cc
 
       by_listing : (o : Option ℕ) → listing_among t (t.oldest + n) t.index_pages ≡ o → full ≡ full_of (rows_at table n c)
-      by_listing None k = absurd (none (sym (ap (option_map (told_at t (t.oldest + n))) k) ∙ h))
+      by_listing None k = absurd (none-some full (sym (ap (option_map (told_at t (t.oldest + n))) k) ∙ h))
       by_listing (Some j) k =
           let l = listing t (t.oldest + n) t.index_pages j k in
-          let page = is.index j l.below (both_true _ _ l.good).0 in
+          let page = is.index j l.below (and_parts _ _ l.good).0 in
           same (told_at t (t.oldest + n) j) full (sym (ap (option_map (told_at t (t.oldest + n))) k) ∙ h) ∙ page.tells n c l.low l.high e
 
   -- so what is known of a page is what its rows tell
@@ -163,8 +151,8 @@ module _ (t : Come) (table : Table) (is : IsOf t table) where
               cond b (Some (BadEntry (page_first (index_page t k) + j) (told_at t (page_first (index_page t k) + j) k).count t.most)) None ≡ None
           by_test false h = refl
           by_test true h =
-              let a = both_true _ _ h in
-              let b = both_true _ _ a.0 in
+              let a = and_parts _ _ h in
+              let b = and_parts _ _ a.0 in
               let low = leb-true t.oldest (page_first (index_page t k) + j) b.0 in
               let high = ltb-true (page_first (index_page t k) + j) (t.oldest + t.pages) b.1 in
               let above = ltb-true t.most (told_at t (page_first (index_page t k) + j) k).count a.1 in

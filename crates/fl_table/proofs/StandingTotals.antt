@@ -1,5 +1,5 @@
 -- Where a flash stands for a table, the totals of a mount are those of the table, and it reads few of its pages.
-use Rattle.std.proofs.Common.{◌≡◌, ℕ, zero, suc, ◌+◌, ◌<◌, ◌≤◌, Bool, true, false, cond, ◌==◌, max, Option, Some, None, List, [], ◌∷◌, ◌++◌, length, map, take, drop, refl, sym, ◌∙◌, ap, arith}
+use Rattle.std.proofs.Common.{◌≡◌, ℕ, zero, suc, ◌+◌, ◌<◌, ◌≤◌, Bool, true, false, cond, ◌==◌, max, Some, List, [], ◌∷◌, ◌++◌, length, map, take, drop, refl, sym, ◌∙◌, ap, arith}
 use Rattle.std.specs.Prelude.{if◌then◌else◌}
 use Rattle.std.specs.Option.{is_none}
 use Rattle.std.specs.List.{slice_get, sum, count_by}
@@ -7,6 +7,7 @@ use Rattle.std.proofs.Math.Dec.{eqb-suc-zero}
 use Rattle.std.proofs.Math.Seq.{take-add}
 use Rattle.std.proofs.lemmas.List.{take_all, map-append, length-take-le}
 use Rattle.std.proofs.lemmas.List.Sums.{sum_by-cons}
+use Rattle.std.proofs.lemmas.Option.{none-some}
 use Rattle.fl_find.proofs.Firsts.{points_from}
 use Rattle.fl_find.proofs.Points.{points-append}
 use Rattle.fl_model.specs.Agrees.{rows_at}
@@ -34,10 +35,7 @@ one-point m (suc c) (x ∷ entries) h =
     ∙ sym (ap (λ (b : Bool). cond b [] ((first_key (take (suc c) (x ∷ entries)), m) ∷ [])) (eqb-suc-zero c))
 
 take-next : (xs : List ℕ) (n x : ℕ) → slice_get xs n ≡ Some x → take (suc n) xs ≡ take n xs ++ x ∷ []
-take-next [] n x e = absurd (none e)
-  where
-    none : ◌≡◌ {A = Option ℕ} None (Some x) → ⊥
-    none e = cc
+take-next [] n x e = absurd (none-some x e)
 take-next (y ∷ ys) zero x e = let same : y ≡ x = cc in ap (λ (l : List ℕ). y ∷ l) (take_none ys) ∙ ap (λ z. z ∷ []) same
   where
     take_none : (zs : List ℕ) → take 0 zs ≡ []

@@ -6,6 +6,7 @@ use Rattle.std.proofs.lemmas.List.FromFn.{take-map-range_with_len}
 use Rattle.std.proofs.lemmas.List.Sums.{sum_by-append, sum_by-take-drop}
 use Rattle.std.proofs.Math.Nat.{mul-le-mul_right}
 use Rattle.std.specs.List.{count_by, range_with_len}
+use Rattle.std.proofs.lemmas.Option.{same_Some}
 use Rattle.fl_flash.specs.Flash.{FlashState}
 use Rattle.fl_model.specs.Record.{Plan}
 use Rattle.fl_model.specs.Ring as model
@@ -81,7 +82,7 @@ pub voids-told : {KNOTS SLOTS : ℕ} (t : code.Table KNOTS SLOTS) (f : FlashStat
     voids ≡ voids_of (after_seal plan DataRing table)
 voids-told t f first plan table stands ring counts from to gone voids is at next shape some same told left =
     let g = gives-up plan table shape stands.facts.rows some in
-    let old : from ≡ model.oldest table.rows = at ∙ ap oldest_of (some-same ring stands.memory.ring (sym is ∙ stands.memory.ring_is)) ∙ stands.memory.oldest in
+    let old : from ≡ model.oldest table.rows = at ∙ ap oldest_of (same_Some ring stands.memory.ring (sym is ∙ stands.memory.ring_is)) ∙ stands.memory.oldest in
     let k : to - from ≡ model.oldest (after_seal plan DataRing table).rows - model.oldest table.rows = omega (arith, next, old) in
     let kept : take (model.oldest (after_seal plan DataRing table).rows - model.oldest table.rows) (kept_counts t)
     ≡ map (rows_noted t) (range_with_len (oldest_in t) (model.oldest (after_seal plan DataRing table).rows - model.oldest table.rows)) =
@@ -92,6 +93,3 @@ voids-told t f first plan table stands ring counts from to gone voids is at next
     ∙ (ap (λ a. map (rows_noted t) (range_with_len a (to - from))) (old ∙ sym (oldest-is t f first plan table stands))
     ∙ (ap (λ m. map (rows_noted t) (range_with_len (oldest_in t) m)) k ∙ (sym kept ∙ ap (take (model.oldest (after_seal plan DataRing table).rows - model.oldest table.rows)) (kept-is t f first plan table stands))))) in
     omega (arith, left, told, ap (λ (l : List ℕ). voids_in l) noted, g.voids, stands.memory.voids)
-  where
-    some-same : (a b : Ring) → Some a ≡ Some b → a ≡ b
-    some-same a b h = cc

@@ -1,7 +1,8 @@
 use Rattle.std.proofs.Common.{◌≡◌, Option, option_map, unwrap_or, arith, sym, ◌∙◌, ap}
+use Rattle.std.proofs.lemmas.Option.{same_Some}
 use Rattle.fl_ring.specs.Place.{next_of, oldest_of}
 use Rattle.fl_ring.specs.declared.ring.Ring.{Ring}
-use Rattle.fl_table.proofs.Finds.{next-in, oldest-in, some-same}
+use Rattle.fl_table.proofs.Finds.{next-in, oldest-in}
 use Rattle.fl_parts.proofs.IndexOfTable.{none-there}
 use Rattle.fl_table.proofs.table.Table.next_number.Goals as goal
 
@@ -16,7 +17,7 @@ returns-in-Some-clause-ordered g c = omega (arith, c.next_number.ensures, oldest
 
 pub returns-in-Some-clause-stands : goal.returns-in-Some-clause-stands
 returns-in-Some-clause-stands g c = λ f first plan table stands.
-    let same : c.in-Some.ring ≡ stands.memory.ring = some-same c.in-Some.ring stands.memory.ring (sym c.in-Some.is ∙ stands.memory.ring_is) in
+    let same : c.in-Some.ring ≡ stands.memory.ring = same_Some c.in-Some.ring stands.memory.ring (sym c.in-Some.is ∙ stands.memory.ring_is) in
     c.next_number.ensures ∙ (ap (λ (r : Ring). next_of r) same ∙ stands.memory.next)
 
 pub returns-in-None-clause-exact : goal.returns-in-None-clause-exact

@@ -1,7 +1,8 @@
 use Rattle.std.proofs.Common.{◌≡◌, Option, option_map, unwrap_or, sym, ◌∙◌, ap}
+use Rattle.std.proofs.lemmas.Option.{same_Some}
 use Rattle.fl_ring.specs.Place.{oldest_of}
 use Rattle.fl_ring.specs.declared.ring.Ring.{Ring}
-use Rattle.fl_table.proofs.Finds.{oldest-in, some-same}
+use Rattle.fl_table.proofs.Finds.{oldest-in}
 use Rattle.fl_parts.proofs.IndexOfTable.{none-there}
 use Rattle.fl_table.proofs.table.Table.oldest.Goals as goal
 
@@ -13,7 +14,7 @@ returns-in-Some-clause-exact g c = c.oldest.ensures ∙ sym (oldest-in c.args.se
 
 pub returns-in-Some-clause-stands : goal.returns-in-Some-clause-stands
 returns-in-Some-clause-stands g c = λ f first plan table stands.
-    let same : c.in-Some.ring ≡ stands.memory.ring = some-same c.in-Some.ring stands.memory.ring (sym c.in-Some.is ∙ stands.memory.ring_is) in
+    let same : c.in-Some.ring ≡ stands.memory.ring = same_Some c.in-Some.ring stands.memory.ring (sym c.in-Some.is ∙ stands.memory.ring_is) in
     c.oldest.ensures ∙ (ap (λ (r : Ring). oldest_of r) same ∙ stands.memory.oldest)
 
 pub returns-in-None-clause-exact : goal.returns-in-None-clause-exact

@@ -1,4 +1,5 @@
-use Rattle.std.proofs.Common.{◌≡◌, Some, sym, ap, ◌∙◌, arith}
+use Rattle.std.proofs.Common.{sym, ap, ◌∙◌, arith}
+use Rattle.std.proofs.lemmas.Option.{same_Some}
 use Rattle.fl_model.specs.Row.{Row}
 use Rattle.fl_model.proofs.Lists.{slice_get-short}
 use Rattle.fl_schema.specs.Schema.{row_of}
@@ -17,10 +18,7 @@ returns-then-place-pending_rows-clause-found g c = λ up.
 pub returns-then-key-clause-found : goal.returns-then-key-clause-found
 returns-then-key-clause-found g c = λ up.
     lacks-beyond (buffered_rows c.args.self.now) c.args.key c.pending_below-place.result (c.pending_below-place.ensures.below up) (c.pending_below-place.ensures.at_least up) up
-    (λ row e k. c.if-key.true (c.key.ensures ∙ (ap (λ (r : Row). r.key) (same (row_of c.pending_row.result) row (sym c.pending_row.ensures.row ∙ e)) ∙ k)))
-  where
-    same : (a b : Row) → Some a ≡ Some b → a ≡ b
-    same a b h = cc
+    (λ row e k. c.if-key.true (c.key.ensures ∙ (ap (λ (r : Row). r.key) (same_Some (row_of c.pending_row.result) row (sym c.pending_row.ensures.row ∙ e)) ∙ k)))
 
 pub returns-clause-found : goal.returns-clause-found
 returns-clause-found g c = record {

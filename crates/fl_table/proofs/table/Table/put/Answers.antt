@@ -1,5 +1,6 @@
 use Rattle.std.proofs.Common.{refl, ◌≡◌, ◌+◌, ℕ, Bor, List, Option, Some, None, Result, Ok, Err, length, option_map, not, ◌&&◌, ◌||◌, IsTrue, arith, sym, ◌∙◌, ap, subst}
 use Rattle.std.proofs.lemmas.Result.{err_from_is_err_and}
+use Rattle.std.proofs.lemmas.Option.{none-some}
 use Rattle.fl_model.specs.Table.{after_seals, make_room_seals}
 use Rattle.fl_table.specs.Refusal.{put_refusal, RefusesAs}
 use Rattle.fl_table.specs.Memory.{is_running, is_stopped, pending_in}
@@ -236,9 +237,6 @@ pub returns-in_err-join-clause-pending_stays : goal.returns-in_err-join-clause-p
 returns-in_err-join-clause-pending_stays g c =
     on-err c.from_residual-in_err-join.result (λ room. c.in_err-join.ensures.pending_stays ∙ ap (λ (t : Table g.row.KNOTS g.row.SLOTS). pending_in t) (c.in_ok-make_room.ensures.quiet room).1)
 
-not-both : (r : PutRefusal) → ◌≡◌ {A = Option PutRefusal} None (Some r) → ⊥
-not-both r e = cc
-
 not-done : (fault : FlashFault) (u : Unit {0}) → ◌≡◌ {A = Result (Unit {0}) FlashFault} (Err fault) (Ok u) → ⊥
 not-done fault u e = cc
 
@@ -258,7 +256,7 @@ pub returns-in-Some-clause-refused : goal.returns-in-Some-clause-refused
 returns-in-Some-clause-refused g c = calm-same c.args.self.now (g.F.Flash.state c.args.flash.now) c.in-Some.refusal (refusal-calm c.args.self.now c.args.key c.args.values.now _ c.in-Some.refusal (sym c.refusal.ensures ∙ c.in-Some.is))
 
 pub returns-in-Some-clause-quiet : goal.returns-in-Some-clause-quiet
-returns-in-Some-clause-quiet g c = λ none. absurd (not-both c.in-Some.refusal (sym none ∙ (sym c.refusal.ensures ∙ c.in-Some.is)))
+returns-in-Some-clause-quiet g c = λ none. absurd (none-some c.in-Some.refusal (sym none ∙ (sym c.refusal.ensures ∙ c.in-Some.is)))
 
 pub returns-in-Some-clause-last : goal.returns-in-Some-clause-last
 returns-in-Some-clause-last g c = tt
