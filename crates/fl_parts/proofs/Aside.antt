@@ -1,7 +1,7 @@
 -- The newest page with rows so far, where an index page lists it: whether it stays the newest, and what is known then.
-use Rattle.std.proofs.Common.{◌≡◌, ℕ, zero, suc, ◌+◌, ◌-◌, ◌%◌, ◌<◌, ◌≤◌, inl, inr, Bool, true, false, cond, ◌&&◌, ◌==◌, nat_lt, max, Option, Some, None, List, length, set, refl, sym, ◌∙◌, ap, subst, arith}
-use Rattle.std.specs.Prelude.{option_map, unwrap_or, not, slice_index, slice_set}
-use Rattle.std.proofs.lemmas.Bool.{cases_lt, eqb-true, lt-ltb}
+use Rattle.std.proofs.Common.{◌≡◌, ℕ, zero, suc, ◌+◌, ◌-◌, ◌%◌, ◌<◌, ◌≤◌, inl, inr, Bool, true, false, cond, ◌==◌, nat_lt, max, Option, Some, None, List, length, set, refl, sym, ◌∙◌, ap, subst, arith}
+use Rattle.std.specs.Prelude.{option_map, unwrap_or, slice_index, slice_set}
+use Rattle.std.proofs.lemmas.Bool.{cases_lt, eqb-true, lt-ltb, and_parts, not-true}
 use Rattle.fl_index.specs.Page.{full_view}
 use Rattle.fl_model.specs.Layout.{Full}
 use Rattle.fl_page.specs.declared.fault.BadPage.{BadPage as Refusal}
@@ -22,29 +22,17 @@ fault_of fault = option_map (λ bad. BadPage bad) fault
 run-void : (t : Come) (number q i : ℕ) → are_void t number q ≡ true → i < q → has_rows t (number + i) ≡ false
 run-void t number zero i h lt = absurd (omega (arith, lt))
 run-void t number (suc q) i h lt = elim (cases_lt i q) [
-  | inl less ↦ run-void t number q i (both_true _ _ h).0 less
-  | inr ge ↦ ap (λ k. has_rows t (number + k)) (let e : i ≡ q = omega (arith, ge, lt) in e) ∙ not_true _ (both_true _ _ h).1
+  | inl less ↦ run-void t number q i (and_parts _ _ h).0 less
+  | inr ge ↦ ap (λ k. has_rows t (number + k)) (let e : i ≡ q = omega (arith, ge, lt) in e) ∙ not-true _ (and_parts _ _ h).1
 ]
-  where
-    both_true : (a b : Bool) → (a && b) ≡ true → (a ≡ true) × (b ≡ true)
-    both_true true b h = (refl, h)
-    both_true false b h = cc
-
-    not_true : (b : Bool) → not b ≡ true → b ≡ false
-    not_true true h = cc
-    not_true false h = refl
 
 -- a page isn't the newest with rows where a later one has rows
 pub not-newest : (t : Come) (m later : ℕ) → m < later → later < t.pages → has_rows t (t.oldest + later) ≡ true → is_newest t (t.oldest + m) ≡ false
 not-newest t m later lt within some = by_test (is_newest t (t.oldest + m)) refl
   where
-    both_true : (a b : Bool) → (a && b) ≡ true → (a ≡ true) × (b ≡ true)
-    both_true true b h = (refl, h)
-    both_true false b h = cc
-
     by_test : (b : Bool) → is_newest t (t.oldest + m) ≡ b → b ≡ false
     by_test true e =
-        let void = (both_true _ _ e).1 in
+        let void = (and_parts _ _ e).1 in
         let none = run-void t (t.oldest + m + 1) (t.oldest + t.pages - (t.oldest + m + 1)) (later - suc m) void (omega (arith, lt, within)) in
         no_both (has_rows t (t.oldest + later)) some (ap (has_rows t) (let k : t.oldest + later ≡ t.oldest + m + 1 + (later - suc m) = omega (arith, lt) in k) ∙ none)
     by_test false e = refl

@@ -3,6 +3,7 @@ use Rattle.std.proofs.Common.{◌≡◌, ℕ, zero, suc, ◌+◌, ◌^◌, ◌<�
 use Rattle.std.specs.List.{slice_get, fold}
 use Rattle.std.proofs.lemmas.List.{map-append, take_all}
 use Rattle.std.proofs.lemmas.List.Sums.{fold-append}
+use Rattle.std.proofs.lemmas.Option.{none-some, same_Some}
 use Rattle.fl_model.specs.Mount.{blob_end}
 use Rattle.fl_model.specs.Row.{Row, stored_row}
 use Rattle.fl_model.specs.Table.{Table, Entry, blob_len, end_of_blobs}
@@ -14,14 +15,8 @@ ends-append so_far rows others = ap (fold max so_far) (map-append (λ (row : Row
 
 -- one row more
 pub ends-next : (so_far : ℕ) (rows : List Row) (i : ℕ) (row : Row) → slice_get rows i ≡ Some row → blobs_end so_far (take (i + 1) rows) ≡ max (blobs_end so_far (take i rows)) (reference_end row.blob)
-ends-next so_far [] i row e = absurd (none e)
-  where
-    none : None ≡ Some row → ⊥
-    none k = cc
-ends-next so_far (x ∷ rows) zero row e = ap (λ (r : Row). max so_far (reference_end r.blob)) (same e)
-  where
-    same : Some x ≡ Some row → x ≡ row
-    same k = cc
+ends-next so_far [] i row e = absurd (none-some row e)
+ends-next so_far (x ∷ rows) zero row e = ap (λ (r : Row). max so_far (reference_end r.blob)) (same_Some x row e)
 ends-next so_far (x ∷ rows) (suc i) row e =
     ap (λ k. blobs_end so_far (take k (x ∷ rows))) (let k : suc i + 1 ≡ suc (i + 1) = omega arith in k) ∙ ends-next (max so_far (reference_end x.blob)) rows i row e
 

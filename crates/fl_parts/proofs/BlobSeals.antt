@@ -4,6 +4,7 @@ use Rattle.std.proofs.Math.Path.{fun_ext}
 use Rattle.std.proofs.Math.Nat.{mod-lt, add-mul}
 use Rattle.std.proofs.lemmas.List.{take_all}
 use Rattle.std.specs.List.{AllByRecursion}
+use Rattle.std.proofs.lemmas.Option.{same_Some}
 use Rattle.fl_flash.specs.Flash.{FlashState, page_at}
 use Rattle.fl_flash.specs.declared.flash.FlashFault.{FlashFault}
 use Rattle.fl_model.specs.Agrees.{BlobsOf}
@@ -176,10 +177,7 @@ done_keeps plan t ring ((LogRing, kind) ∷ front) shape h k = absurd h.0
 
 -- after whole seals too
 pub seals-keep : (plan : Plan) (t : Table) (ring : model.Ring) (seals : List RingName) → model.IsShape (shape_of plan VarRing) → AreVar seals → HasVar plan t ring → (r : model.Ring) → (after_seals plan seals t).var ≡ Some r → HasVar plan (after_seals plan seals t) r
-seals-keep plan t ring [] shape are h r is = subst (HasVar plan t) (same (sym h.is ∙ is)) h
-  where
-    same : Some ring ≡ Some r → ring ≡ r
-    same e = cc
+seals-keep plan t ring [] shape are h r is = subst (HasVar plan t) (same_Some ring r (sym h.is ∙ is)) h
 seals-keep plan t ring (VarRing ∷ seals) shape are h r is =
     seals-keep plan (after_seal plan VarRing t) (model.erased (model.sealed (shape_of plan VarRing) 1 ring)) seals shape are
     (var-erased plan (seal_buffer plan VarRing t) (model.sealed (shape_of plan VarRing) 1 ring) (var-sealed plan t ring shape h)) r is

@@ -1,6 +1,8 @@
 -- How seals and placings of variable data end, for a table.
 use Rattle.std.proofs.Common.{◌≡◌, ℕ, zero, suc, ◌+◌, ◌-◌, ◌*◌, ◌/◌, ◌<◌, ◌≤◌, Bool, true, false, cond, nat_lt, Option, Some, None, option_map, unwrap_or, Result, Ok, Err, List, [], ◌∷◌, ◌++◌, length, replicate, refl, sym, ◌∙◌, ap, subst, arith}
 use Rattle.std.proofs.Math.Nat.{div-lt_iff_lt-mul}
+use Rattle.std.proofs.lemmas.List.{append-nil}
+use Rattle.std.proofs.lemmas.Option.{same_Some}
 use Rattle.fl_base.specs.declared.types.BlobRef.{BlobRef}
 use Rattle.fl_flash.specs.Flash.{FlashState}
 use Rattle.fl_flash.specs.declared.flash.FlashFault.{FlashFault}
@@ -64,10 +66,7 @@ after-var plan (LogRing ∷ seals) table are = absurd are
 -- no blob begins on a void page then
 placed-seals : (plan : Plan) (table : Table) (ring : Ring) (seals : List RingName) → IsShape (shape_of plan VarRing) → AreVar seals → table.var ≡ Some ring → length ring.counts ≤ ring.next → ArePlaced ring table.entries →
     (r : Ring) → (after_seals plan seals table).var ≡ Some r → ArePlaced r (after_seals plan seals table).entries
-placed-seals plan table ring [] shape are is numbered placed r there = subst (λ (x : Ring). ArePlaced x table.entries) (same (sym is ∙ there)) placed
-  where
-    same : Some ring ≡ Some r → ring ≡ r
-    same e = cc
+placed-seals plan table ring [] shape are is numbered placed r there = subst (λ (x : Ring). ArePlaced x table.entries) (same_Some ring r (sym is ∙ there)) placed
 placed-seals plan table ring (VarRing ∷ seals) shape are is numbered placed r there =
     placed-seals plan (after_seal plan VarRing table) (erased (sealed (shape_of plan VarRing) 1 ring)) seals shape are (ap (λ (o : Option Ring). option_map erased (option_map (sealed (shape_of plan VarRing) 1) o)) is)
     (numbered-sealed (shape_of plan VarRing) 1 ring shape numbered) (placed-sealed (shape_of plan VarRing) ring table.entries shape numbered placed) r there
@@ -130,12 +129,8 @@ place-none v f first plan table item rose device e watched stands = (
     joined : Table
     joined = with_record plan item table
 
-    append_nil : (xs : List ℕ) → xs ++ [] ≡ xs
-    append_nil [] = refl
-    append_nil (x ∷ xs) = ap (λ ys. x ∷ ys) (append_nil xs)
-
     buffered : (with_record plan item table).buffered ≡ table.buffered
-    buffered = ap (λ (o : Option (List ℕ)). table.buffered ++ unwrap_or o []) e ∙ append_nil table.buffered
+    buffered = ap (λ (o : Option (List ℕ)). table.buffered ++ unwrap_or o []) e ∙ append-nil table.buffered
 
     none : fill_seals plan (with_record plan item table) ≡ []
     none = no-fill plan (with_record plan item table) (omega (arith, v.served.page_least, ap (λ g. g.page) stands.planned.planned.geometry))

@@ -6,6 +6,7 @@ use Rattle.std.proofs.Math.Path.{fun_ext}
 use Rattle.std.proofs.Math.Nat.{mul-le-mul_right, mod-le}
 use Rattle.std.proofs.lemmas.Bool.{lt-ltb, false≢true}
 use Rattle.std.proofs.lemmas.List.{take_all}
+use Rattle.std.proofs.lemmas.Option.{same_Some}
 use Rattle.fl_flash.specs.Flash.{FlashState, page_at}
 use Rattle.fl_model.specs.Agrees.{reach_of, BlobsOf}
 use Rattle.fl_model.specs.Facts.{IsTable, IsContent, is_some_ring, counts_in}
@@ -281,12 +282,9 @@ module _ (v : VarData) (f : FlashState) (first : ℕ) (plan : Plan) (table : Tab
               let old = void e in
               low-number plan ring (blob_end table + length ring.counts) some-pages (omega (arith, old, pages.facts.not_negative))
 
-      is_some : (a b : Ring) → Some a ≡ Some b → a ≡ b
-      is_some a b e = cc
-
       fits : (numbered : Ring) → (renumber plan VarRing table).var ≡ Some numbered → numbered.next + (cond ring.torn 1 0) < 4294967296
       fits numbered e =
-          let here = ap (λ (r : Ring). r.next) (is_some (renumbered (shape_of plan VarRing) (blob_end table) ring) numbered (sym numbered_is ∙ e)) in
+          let here = ap (λ (r : Ring). r.next) (same_Some (renumbered (shape_of plan VarRing) (blob_end table) ring) numbered (sym numbered_is ∙ e)) in
           omega (arith, here, low, number)
 
   pub rests-var : Rests v f (first + plan.data_blocks + plan.index_blocks) plan table

@@ -1,7 +1,7 @@
 -- What is remembered of the index pages that a mount reads.
-use Rattle.std.proofs.Common.{◌≡◌, ℕ, ◌+◌, ◌-◌, ◌<◌, ◌≤◌, ◌⊎◌, inl, inr, suc, zero, Bool, true, false, ◌&&◌, cond, refl, Option, List, sym, ◌∙◌, ap, subst, arith}
+use Rattle.std.proofs.Common.{◌≡◌, ℕ, ◌+◌, ◌-◌, ◌<◌, ◌≤◌, ◌⊎◌, inl, inr, suc, zero, Bool, true, false, cond, refl, Option, List, sym, ◌∙◌, ap, subst, arith}
 use Rattle.std.specs.Prelude.{◌/◌, ◌%◌, [], ◌∷◌, ◌++◌, max, Some, None, slice_index_or, vec_len}
-use Rattle.std.proofs.lemmas.Bool.{cases_lt, eqb-true}
+use Rattle.std.proofs.lemmas.Bool.{cases_lt, eqb-true, and_parts}
 use Rattle.fl_base.specs.declared.types.Geometry.{Geometry}
 use Rattle.fl_flash.specs.Flash.{FlashState, page_at}
 use Rattle.fl_index.specs.Finding.{pages_of}
@@ -113,13 +113,9 @@ checks-none t j k done (suc left) h low high =
 good-page : (t : Come) (k : ℕ) → index_check t k ≡ None → is_committed (index_page t k) ≡ true → IsGoodPage t.per_page (t.index_oldest + k) (index_page t k)
 good-page t k none committed = by_test (is_fit t k) refl
   where
-    both_true : (a b : Bool) → (a && b) ≡ true → (a ≡ true) × (b ≡ true)
-    both_true true b h = (refl, h)
-    both_true false b h = cc
-
     by_test : (b : Bool) → is_fit t k ≡ b → IsGoodPage t.per_page (t.index_oldest + k) (index_page t k)
     by_test true e =
-        let both = both_true _ _ (both_true _ _ e).0 in
+        let both = and_parts _ _ (and_parts _ _ e).0 in
         record { number_is = eqb-true _ _ both.0; full = eqb-true _ _ both.1 }
     by_test false e = absurd (cc (sym none ∙ unfit-check t k committed e))
 

@@ -3,6 +3,7 @@ use Rattle.std.proofs.Common.{◌≡◌, ℕ, ◌+◌, ◌-◌, ◌*◌, ◌%◌
 use Rattle.std.proofs.lemmas.Bool.{lt-ltb, ne_eqb, false≢true}
 use Rattle.std.specs.Prelude.{slice_index_or, vec_len}
 use Rattle.std.specs.Option.{ForSome}
+use Rattle.std.proofs.lemmas.Option.{none-some}
 use Rattle.fl_base.specs.declared.types.RingPlace.{RingPlace}
 use Rattle.fl_flash.specs.Flash.{FlashState, Goes, page_at, pages, StaysWith}
 use Rattle.fl_index.specs.declared.index.BitmapIndex.{BitmapIndex}
@@ -29,10 +30,7 @@ use Rattle.fl_parts.proofs.Plain.{IsPlainTable, IsIndexed}
 
 -- nothing is there
 pub none-there : {X : Type 0} (o : Option X) (x : X) → o ≡ None → o ≡ Some x → ⊥
-none-there None x e k = no k
-  where
-    no : {X : Type 0} {x : X} → ◌≡◌ {A = Option X} None (Some x) → ⊥
-    no k = cc
+none-there None x e k = none-some _ k
 none-there (Some y) x e k = cc
 
 pub none-is : {X : Type 0} (o : Option X) → o ≡ None → is_some o ≡ true → ⊥
@@ -139,10 +137,7 @@ found-then (Some x) (Some y) (Some z) h k = by_form (memory.form_in x).full h
     by_form false h = record { ring = k.ring ∙ h.ring; firsts = k.firsts ∙ h.firsts }
 
 pub still-running : (old new : Option BitmapIndex) → AreSameRing old new → AreRunning old → AreRunning new
-still-running None None same h = λ index e. absurd (none index e)
-  where
-    none : (index : BitmapIndex) → ◌≡◌ {A = Option BitmapIndex} None (Some index) → ⊥
-    none index e = cc
+still-running None None same h = λ index e. absurd (none-some index e)
 still-running None (Some new) same h = absurd same
 still-running (Some old) None same h = absurd same
 still-running (Some old) (Some new) same h = λ index e.
@@ -186,26 +181,17 @@ still-few n (Some old) (Some new) same h = λ index e. h old refl
 
 -- where room was made
 pub made-running : (old new : Option BitmapIndex) → RoomMade old new → AreRunning new
-made-running None new made = λ index e. absurd (none index (sym made ∙ e))
-  where
-    none : (index : BitmapIndex) → ◌≡◌ {A = Option BitmapIndex} None (Some index) → ⊥
-    none index e = cc
+made-running None new made = λ index e. absurd (none-some index (sym made ∙ e))
 made-running (Some old) None made = absurd made
 made-running (Some old) (Some new) made = λ index e. subst (λ (o : Option BitmapIndex). IfSome o (λ x. memory.is_running x ≡ true)) e made.running
 
 pub made-end : (old new : Option BitmapIndex) (n : ℕ) → RoomMade old new → EndAt old n → EndAt new n
-made-end None new n made h = λ index e. absurd (none index (sym made ∙ e))
-  where
-    none : (index : BitmapIndex) → ◌≡◌ {A = Option BitmapIndex} None (Some index) → ⊥
-    none index e = cc
+made-end None new n made h = λ index e. absurd (none-some index (sym made ∙ e))
 made-end (Some old) None n made h = absurd made
 made-end (Some old) (Some new) n made h = λ index e. subst (λ (o : Option BitmapIndex). IfSome o (λ x. first_waiting x + waiting_in x ≡ n)) e (made.same ∙ h old refl)
 
 pub made-room : (old new : Option BitmapIndex) → RoomMade old new → HaveRoom new
-made-room None new made = λ index e. absurd (none index (sym made ∙ e))
-  where
-    none : (index : BitmapIndex) → ◌≡◌ {A = Option BitmapIndex} None (Some index) → ⊥
-    none index e = cc
+made-room None new made = λ index e. absurd (none-some index (sym made ∙ e))
 made-room (Some old) None made = absurd made
 made-room (Some old) (Some new) made = λ index e. subst (λ (o : Option BitmapIndex). IfSome o (λ x. waiting_in x < per_page x)) e made.room
 
@@ -264,10 +250,7 @@ broken-after (Some index) h =
 
 -- the next page's entry was noted
 pub noted-end : (old new : Option BitmapIndex) (number bitmap : ℕ) (full : Full) → AreNoted old number bitmap full new → EndAt old number → EndAt new (number + 1)
-noted-end None new number bitmap full noted h = λ index e. absurd (none index (sym noted ∙ e))
-  where
-    none : (index : BitmapIndex) → ◌≡◌ {A = Option BitmapIndex} None (Some index) → ⊥
-    none index e = cc
+noted-end None new number bitmap full noted h = λ index e. absurd (none-some index (sym noted ∙ e))
 noted-end (Some old) None number bitmap full noted h = absurd noted
 noted-end (Some old) (Some new) number bitmap full noted h = λ index e.
     let n = noted.0 (h old refl) in

@@ -1,7 +1,8 @@
 -- A kept index page is read.
 use Rattle.std.proofs.Common.{◌≡◌, ℕ, zero, suc, ◌+◌, ◌-◌, ◌<◌, ◌≤◌, ◌⊎◌, inl, inr, Bool, true, false, cond, ◌&&◌, nat_le, nat_lt, max, min, Option, Some, None, List, map, refl, sym, ◌∙◌, ap, subst, arith}
 use Rattle.std.specs.Prelude.{◌^◌, IfSome, option_map, unwrap_or}
-use Rattle.std.proofs.lemmas.Bool.{cases_lt, eqb-true, eq-eqb, leb-true, ltb-true, le-leb, lt-ltb}
+use Rattle.std.proofs.lemmas.Bool.{cases_lt, eqb-true, eq-eqb, leb-true, ltb-true, le-leb, lt-ltb, and_from, and_parts}
+use Rattle.std.proofs.lemmas.Option.{none-some}
 use Rattle.fl_find.specs.Index.{IndexOf}
 use Rattle.fl_find.specs.declared.index.KeyIndex.{KeyIndex}
 use Rattle.fl_flash.specs.Flash.{FlashState}
@@ -90,26 +91,18 @@ module _ (t : Come) (k : ℕ) where
   pub bad-unfit : (IsGoodPage t.per_page (t.index_oldest + k) (index_page t k) → ⊥) → is_fit t k ≡ false
   bad-unfit bad = by_test (is_fit t k) refl
     where
-      both_true : (a b : Bool) → (a && b) ≡ true → (a ≡ true) × (b ≡ true)
-      both_true true b h = (refl, h)
-      both_true false b h = cc
-
       by_test : (b : Bool) → is_fit t k ≡ b → b ≡ false
       by_test true e =
-          let a = (both_true _ _ e).0 in
-          let b = both_true _ _ a in
+          let a = (and_parts _ _ e).0 in
+          let b = and_parts _ _ a in
           absurd (bad (record { number_is = eqb-true _ _ b.0; full = eqb-true _ _ b.1 }))
       by_test false e = refl
 
   pub low-unfit : page_first (index_page t k) < end_before t k → is_fit t k ≡ false
   low-unfit low = by_test (is_fit t k) refl
     where
-      both_true : (a b : Bool) → (a && b) ≡ true → (a ≡ true) × (b ≡ true)
-      both_true true b h = (refl, h)
-      both_true false b h = cc
-
       by_test : (b : Bool) → is_fit t k ≡ b → b ≡ false
-      by_test true e = let le = leb-true (end_before t k) (page_first (index_page t k)) (both_true _ _ e).1 in absurd (omega (arith, le, low))
+      by_test true e = let le = leb-true (end_before t k) (page_first (index_page t k)) (and_parts _ _ e).1 in absurd (omega (arith, le, low))
       by_test false e = refl
 
   pub good-fit : IsGoodPage t.per_page (t.index_oldest + k) (index_page t k) → end_before t k ≤ page_first (index_page t k) → is_fit t k ≡ true
@@ -126,14 +119,10 @@ module _ (t : Come) (k : ℕ) where
 pub none-loaded : (index : BitmapIndex) (number : ℕ) → waiting_in index ≡ 0 → loaded_full index number ≡ None
 none-loaded index number none = by_test (is_waiting index number) refl
   where
-    both_true : (a b : Bool) → (a && b) ≡ true → (a ≡ true) × (b ≡ true)
-    both_true true b h = (refl, h)
-    both_true false b h = cc
-
     by_test : (b : Bool) → is_waiting index number ≡ b → cond b (found_waiting index (number - first_waiting index)).full None ≡ None
     by_test false e = refl
     by_test true e =
-        let b = both_true _ _ e in
+        let b = and_parts _ _ e in
         let low = leb-true (first_waiting index) number b.0 in
         let high = ltb-true number (first_waiting index + waiting_in index) b.1 in
         absurd (omega (arith, low, high, none))
@@ -217,7 +206,7 @@ module _ (t : Come) (layout : RowLayout) (most : ℕ) (bitmaps now : BitmapIndex
     -- its entries are those that are loaded
     pub listed-told : (number : ℕ) → first ≤ number → number < first + t.per_page → number < 2 ^ 32 - 1 → option_map full_view (loaded_full now number) ≡ Some (told_at t number k)
     listed-told number low high few =
-        let waits : is_waiting now number ≡ true = both (nat_le (first_waiting now) number) (nat_lt number (first_waiting now + waiting_in now)) (le-leb (first_waiting now) number (omega (arith, h.begin, low))) (lt-ltb number (first_waiting now + waiting_in now) (omega (arith, h.begin, h.many, is.per, low, high, few))) in
+        let waits : is_waiting now number ≡ true = and_from (nat_le (first_waiting now) number) (nat_lt number (first_waiting now + waiting_in now)) (le-leb (first_waiting now) number (omega (arith, h.begin, low))) (lt-ltb number (first_waiting now + waiting_in now) (omega (arith, h.begin, h.many, is.per, low, high, few))) in
         let j = number - first_waiting now in
         let same : found_waiting now j ≡ found_at t.form (index_page t k) (number - page_first (index_page t k)) =
         h.each j (omega (arith, h.begin, h.many, is.per, low, high, few))
@@ -227,10 +216,6 @@ module _ (t : Come) (layout : RowLayout) (most : ℕ) (bitmaps now : BitmapIndex
         ap (λ b. option_map full_view (cond b (found_waiting now j).full None)) waits
         ∙ (ap (λ (x : Found). option_map full_view x.full) same ∙ whole t.form (index_page t k) (number - page_first (index_page t k)) is.full_is)
       where
-        both : (a b : Bool) → a ≡ true → b ≡ true → (a && b) ≡ true
-        both true b x y = y
-        both false b x y = cc
-
         whole : (form : EntryForm) (bytes : List ℕ) (j : ℕ) → form.full ≡ true → option_map full_view (found_at form bytes j).full ≡ Some (told (found_at form bytes j))
         whole form bytes j e = rw (e) refl
 
@@ -240,25 +225,18 @@ module _ (t : Come) (layout : RowLayout) (most : ℕ) (bitmaps now : BitmapIndex
     counts-fine low high from to few fine = rw (good-committed, fits) (all 0 t.per_page (omega arith))
       where
         of_some : (o : Option code.Full) (full : Full) → option_map full_view o ≡ Some full → IfSome o (λ full. full.count ≤ t.most) → full.count ≤ t.most
-        of_some None full e le = absurd (none e)
-          where
-            none : ◌≡◌ {A = Option Full} None (Some full) → ⊥
-            none e = cc
+        of_some None full e le = absurd (none-some full e)
         of_some (Some x) full e le = let same : full_view x ≡ full = cc in omega (arith, le, ap (λ (f : Full). f.count) same)
 
         one : (j : ℕ) → j < t.per_page → count_fault t k j ≡ None
         one j less = by_test ((nat_le t.oldest (page_first (index_page t k) + j) && nat_lt (page_first (index_page t k) + j) (t.oldest + t.pages)) && nat_lt t.most (told_at t (page_first (index_page t k) + j) k).count) refl
           where
-            both_true : (a b : Bool) → (a && b) ≡ true → (a ≡ true) × (b ≡ true)
-            both_true true b h = (refl, h)
-            both_true false b h = cc
-
             by_test : (b : Bool) → ((nat_le t.oldest (page_first (index_page t k) + j) && nat_lt (page_first (index_page t k) + j) (t.oldest + t.pages)) && nat_lt t.most (told_at t (page_first (index_page t k) + j) k).count) ≡ b →
                 cond b (Some (BadEntry (page_first (index_page t k) + j) (told_at t (page_first (index_page t k) + j) k).count t.most)) None ≡ None
             by_test false e = refl
             by_test true e =
-                let a = both_true _ _ e in
-                let b = both_true _ _ a.0 in
+                let a = and_parts _ _ e in
+                let b = and_parts _ _ a.0 in
                 let number = page_first (index_page t k) + j in
                 let low' = leb-true t.oldest (page_first (index_page t k) + j) b.0 in
                 let high' = ltb-true (page_first (index_page t k) + j) (t.oldest + t.pages) b.1 in
@@ -292,11 +270,7 @@ module _ (t : Come) (layout : RowLayout) (most : ℕ) (bitmaps now : BitmapIndex
             not_le false e = refl
 
             not_waiting : (b : Bool) → is_waiting now number ≡ b → b ≡ false
-            not_waiting true e = let le = leb-true (first_waiting now) number (both_true (nat_le (first_waiting now) number) _ e).0 in absurd (omega (arith, le, before, h.begin))
-              where
-                both_true : (a b : Bool) → (a && b) ≡ true → (a ≡ true) × (b ≡ true)
-                both_true true b h = (refl, h)
-                both_true false b h = cc
+            not_waiting true e = let le = leb-true (first_waiting now) number (and_parts (nat_le (first_waiting now) number) _ e).0 in absurd (omega (arith, le, before, h.begin))
             not_waiting false e = refl
         by_order (inr behind) =
             let listed : lists t number k ≡ true = rw (good-committed, fits, le-leb (page_first (index_page t k)) number (omega (arith, begins, behind))) (lt-ltb number (page_first (index_page t k) + t.per_page) (omega (arith, begins, high))) in
@@ -308,10 +282,7 @@ module _ (t : Come) (layout : RowLayout) (most : ℕ) (bitmaps now : BitmapIndex
     counts-bad low number count low_is from to few over is_count fine = (rw (good-committed, fits) (all 0 t.per_page (omega arith) (omega (arith, low_is, from, begins)) (omega (arith, to, begins))), count_is)
       where
         of_some : (P : ℕ → Type 0) (o : Option code.Full) (full : Full) → option_map full_view o ≡ Some full → IfSome o (λ x. P x.count) → P full.count
-        of_some P None full e p = absurd (none e)
-          where
-            none : ◌≡◌ {A = Option Full} None (Some full) → ⊥
-            none e = cc
+        of_some P None full e p = absurd (none-some full e)
         of_some P (Some x) full e p = let same : full_view x ≡ full = cc in subst P (ap (λ (f : Full). f.count) same) p
 
         count_is : (told_at t number k).count ≡ count
@@ -327,16 +298,12 @@ module _ (t : Come) (layout : RowLayout) (most : ℕ) (bitmaps now : BitmapIndex
         one : (j : ℕ) → page_first (index_page t k) + j < number → count_fault t k j ≡ None
         one j less = by_test ((nat_le t.oldest (page_first (index_page t k) + j) && nat_lt (page_first (index_page t k) + j) (t.oldest + t.pages)) && nat_lt t.most (told_at t (page_first (index_page t k) + j) k).count) refl
           where
-            both_true : (a b : Bool) → (a && b) ≡ true → (a ≡ true) × (b ≡ true)
-            both_true true b h = (refl, h)
-            both_true false b h = cc
-
             by_test : (b : Bool) → ((nat_le t.oldest (page_first (index_page t k) + j) && nat_lt (page_first (index_page t k) + j) (t.oldest + t.pages)) && nat_lt t.most (told_at t (page_first (index_page t k) + j) k).count) ≡ b →
                 cond b (Some (BadEntry (page_first (index_page t k) + j) (told_at t (page_first (index_page t k) + j) k).count t.most)) None ≡ None
             by_test false e = refl
             by_test true e =
-                let a = both_true _ _ e in
-                let b = both_true _ _ a.0 in
+                let a = and_parts _ _ e in
+                let b = and_parts _ _ a.0 in
                 let low' = leb-true t.oldest (page_first (index_page t k) + j) b.0 in
                 let over' = ltb-true t.most (told_at t (page_first (index_page t k) + j) k).count a.1 in
                 let told_is = listed-told (page_first (index_page t k) + j) (omega (arith, begins)) (omega (arith, less, to)) (omega (arith, less, to, few)) in

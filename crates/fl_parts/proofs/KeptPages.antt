@@ -7,6 +7,7 @@ use Rattle.fl_parts.proofs.FullEntries.{full-on}
 use Rattle.std.proofs.lemmas.List.{length-map, length-take-le, length-drop, take_all}
 use Rattle.std.proofs.lemmas.List.Sums.{sum_by-cons, sum_by-take-le}
 use Rattle.std.specs.List.{slice_get, sum, sum_by, AllByRecursion}
+use Rattle.std.proofs.lemmas.Option.{none-some}
 use Rattle.fl_mark.specs.Mark.{state_of_page}
 use Rattle.fl_mark.specs.declared.page_state.PageState.TheVariants.{Committed, Void}
 use Rattle.fl_mark.proofs.InModel.{model_state}
@@ -34,10 +35,7 @@ use Rattle.fl_parts.proofs.States.{shape_in, state_of, HaveSize, to-image, commi
 use Rattle.fl_find.specs.Pages.{rows_on, rows_where}
 
 each-at : {X : Type 0} (P : X → Type 0) (xs : List X) (i : ℕ) (x : X) → AllByRecursion P xs → slice_get xs i ≡ Some x → P x
-each-at {X} P [] i x h e = absurd (none e)
-  where
-    none : ◌≡◌ {A = Option X} None (Some x) → ⊥
-    none e = cc
+each-at {X} P [] i x h e = absurd (none-some x e)
 each-at P (y ∷ ys) zero x h e = let same : y ≡ x = cc in subst P same h.0
 each-at P (y ∷ ys) (suc i) x h e = each-at P ys i x h.1 e
 
@@ -62,10 +60,7 @@ all-stored plan (entry ∷ entries) numbered h =
 
 -- a sum over one more
 pub sum-next : {X : Type 0} (f : X → ℕ) (xs : List X) (i : ℕ) (x : X) → slice_get xs i ≡ Some x → sum_by f (take (suc i) xs) ≡ sum_by f (take i xs) + f x
-sum-next {X} f [] i x e = absurd (none e)
-  where
-    none : ◌≡◌ {A = Option X} None (Some x) → ⊥
-    none e = cc
+sum-next {X} f [] i x e = absurd (none-some x e)
 sum-next {X} f (y ∷ ys) zero x e = let same : y ≡ x = cc in sum_by-cons f y (take 0 ys) ∙ (ap (λ (zs : List X). f y + sum_by f zs) (take_none ys) ∙ omega (arith, ap f same))
   where
     take_none : (zs : List X) → take 0 zs ≡ []

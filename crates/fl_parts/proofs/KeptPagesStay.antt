@@ -1,6 +1,7 @@
 -- The pages that calls keep: where nothing changed, and where one call follows another.
 use Rattle.std.proofs.Common.{◌≡◌, ℕ, Option, Some, None, List, refl, sym, ◌∙◌, ap, subst, arith}
 use Rattle.std.proofs.lemmas.Bool.{false≢true}
+use Rattle.std.proofs.lemmas.Option.{same_Some}
 use Rattle.fl_model.specs.Facts.{IsTable, is_some_ring}
 use Rattle.fl_model.specs.Record.{Plan}
 use Rattle.fl_model.specs.Ring.{Ring}
@@ -15,10 +16,7 @@ pages-same ring after old new is same = subst (λ (r : Ring). PagesStand ring ol
 
 -- .. where a table has it
 pub ring-same : (before after : Option Ring) (old new : ℕ → List ℕ) → after ≡ before → ((ring : Ring) → before ≡ Some ring → (n : ℕ) → new n ≡ old n) → (a b : Ring) → before ≡ Some a → after ≡ Some b → PagesStand a old b new
-ring-same before after old new is same a b before_is after_is = pages-same a b old new (one (sym after_is ∙ (is ∙ before_is))) (same a before_is)
-  where
-    one : Some b ≡ Some a → b ≡ a
-    one e = cc
+ring-same before after old new is same a b before_is after_is = pages-same a b old new (same_Some b a (sym after_is ∙ (is ∙ before_is))) (same a before_is)
 
 pub kept-same : (first : ℕ) (plan : Plan) (table after : Table) (old new : ℕ → List ℕ) → after.rows ≡ table.rows → after.index ≡ table.index → after.var ≡ table.var →
     ((ring : RingName) (n : ℕ) → bytes_in new first plan ring n ≡ bytes_in old first plan ring n) → KeptStand first plan table after old new

@@ -3,6 +3,7 @@ use Rattle.std.proofs.Common.{◌≡◌, ℕ, zero, suc, ◌+◌, ◌-◌, ◌*�
 use Rattle.std.proofs.Math.Nat.{le-div_iff_mul-le}
 use Rattle.std.proofs.lemmas.Bool.{ltb-true}
 use Rattle.std.specs.List.{slice_get}
+use Rattle.std.proofs.lemmas.Option.{none-some}
 use Rattle.fl_model.specs.Record.{RowLayout, layout_len}
 use Rattle.fl_model.specs.Row.{Row}
 use Rattle.fl_mark.specs.Mark.{state_of_page}
@@ -18,10 +19,7 @@ pub drop-row : (rows : List Row) (i : ℕ) (row : Row) → slice_get rows i ≡ 
 drop-row rows i row e = at i rows e ∙ ap (λ n. row ∷ drop n rows) (let s : suc i ≡ i + 1 = omega arith in s)
   where
     at : (i : ℕ) (rows : List Row) → slice_get rows i ≡ Some row → drop i rows ≡ row ∷ drop (suc i) rows
-    at i [] e = absurd (none e)
-      where
-        none : None ≡ Some row → ⊥
-        none e = cc
+    at i [] e = absurd (none-some row e)
     at zero (r ∷ rows) e = let same : r ≡ row = cc in ap (λ x. x ∷ rows) same
     at (suc i) (r ∷ rows) e = at i rows e
 

@@ -1,13 +1,9 @@
 -- Which index page lists a data page.
-use Rattle.std.proofs.Common.{◌≡◌, ℕ, zero, suc, ◌+◌, ◌<◌, ◌≤◌, inl, inr, Bool, true, false, cond, ◌&&◌, max, Option, Some, None, refl, sym, ◌∙◌, ap, subst, arith}
+use Rattle.std.proofs.Common.{◌≡◌, ℕ, zero, suc, ◌+◌, ◌<◌, ◌≤◌, inl, inr, Bool, true, false, cond, max, Option, Some, None, refl, sym, ◌∙◌, ap, subst, arith}
 use Rattle.std.specs.Prelude.{option_map}
-use Rattle.std.proofs.lemmas.Bool.{cases_lt, eqb-true, leb-true, ltb-true}
+use Rattle.std.proofs.lemmas.Bool.{cases_lt, eqb-true, leb-true, ltb-true, and_parts}
 use Rattle.fl_index.specs.Page.{page_first, page_entries}
 use Rattle.fl_parts.specs.ByEntries.{Come, index_page, is_committed, end_before, is_good, lists, listing_among, told_at, entry}
-
-both_true : (a b : Bool) → (a && b) ≡ true → (a ≡ true) × (b ≡ true)
-both_true true b h = (refl, h)
-both_true false b h = cc
 
 -- what holds of a good index page
 pub record IsGood (t : Come) (k : ℕ) : Type 0 where
@@ -17,9 +13,9 @@ pub record IsGood (t : Come) (k : ℕ) : Type 0 where
 
 pub good-is : (t : Come) (k : ℕ) → is_good t k ≡ true → IsGood t k
 good-is t k h =
-    let a = both_true _ _ h in
-    let b = both_true _ _ a.1 in
-    let c = both_true _ _ b.0 in
+    let a = and_parts _ _ h in
+    let b = and_parts _ _ a.1 in
+    let c = and_parts _ _ b.0 in
     record { committed = a.0; entries = eqb-true _ _ c.1; behind = leb-true _ _ b.1 }
 
 -- the ends rise
@@ -48,8 +44,8 @@ pub record Lists (t : Come) (number k : ℕ) : Type 0 where
 
 pub lists-is : (t : Come) (number k : ℕ) → lists t number k ≡ true → Lists t number k
 lists-is t number k h =
-    let a = both_true _ _ h in
-    let b = both_true _ _ a.0 in
+    let a = and_parts _ _ h in
+    let b = and_parts _ _ a.0 in
     record { good = good-is t k b.0; low = leb-true _ _ b.1; high = ltb-true _ _ a.1 }
 
 -- its end is the next one

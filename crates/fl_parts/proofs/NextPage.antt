@@ -1,21 +1,13 @@
 -- One page more of those that a mount comes to.
-use Rattle.std.proofs.Common.{◌≡◌, ◌≢◌, ℕ, zero, suc, ◌+◌, ◌-◌, ◌%◌, ◌<◌, ◌≤◌, ◌⊎◌, inl, inr, Bool, true, false, cond, ◌&&◌, ◌==◌, max, None, List, [], ◌∷◌, ◌++◌, length, get_or, set, append-nil, length-set, get_or-set_other, get_or-set_same, refl, sym, ◌∙◌, ap, subst, arith}
-use Rattle.std.specs.Prelude.{not, slice_index}
+use Rattle.std.proofs.Common.{◌≡◌, ◌≢◌, ℕ, zero, suc, ◌+◌, ◌-◌, ◌%◌, ◌<◌, ◌≤◌, ◌⊎◌, inl, inr, true, false, cond, ◌==◌, max, None, List, [], ◌∷◌, ◌++◌, length, get_or, set, append-nil, length-set, get_or-set_other, get_or-set_same, refl, sym, ◌∙◌, ap, subst, arith}
+use Rattle.std.specs.Prelude.{slice_index}
 use Rattle.std.proofs.Math.Nat.{mod-lt}
-use Rattle.std.proofs.lemmas.Bool.{cases_lt}
+use Rattle.std.proofs.lemmas.Bool.{cases_lt, and_parts, not-true}
 use Rattle.fl_model.specs.Layout.{Full}
 use Rattle.fl_ring.proofs.Modulo.{apart}
 use Rattle.fl_parts.specs.ByEntries.{Come, has_rows, are_void, facts_on, rows_of, voids_of, points_of, end_of, known_after, page_check}
 use Rattle.fl_parts.specs.Knowing.{AreNoted}
 use Rattle.fl_parts.proofs.PageChecks.{is-void}
-
-both_true : (a b : Bool) → (a && b) ≡ true → (a ≡ true) × (b ≡ true)
-both_true true b h = (refl, h)
-both_true false b h = cc
-
-not_true : (b : Bool) → not b ≡ true → b ≡ false
-not_true true h = cc
-not_true false h = refl
 
 -- ---- a run of pages without rows
 
@@ -51,10 +43,10 @@ void-run t m zero n e h =
       fine = λ i low high. absurd (omega (arith, low, high));
     })
 void-run t m (suc q) n e h =
-    let b = both_true _ _ h in
+    let b = and_parts _ _ h in
     let front = void-run t m q (m + q) refl b.0 in
     subst (IsRun t m) (let k : suc (m + q) ≡ n = omega (arith, e) in k)
-    (one_more t m (m + q) (omega arith) front (ap (has_rows t) (let k : t.oldest + (m + q) ≡ t.oldest + m + q = omega arith in k) ∙ not_true _ b.1))
+    (one_more t m (m + q) (omega arith) front (ap (has_rows t) (let k : t.oldest + (m + q) ≡ t.oldest + m + q = omega arith in k) ∙ not-true _ b.1))
 
 -- the end of so many pages and of others behind them
 pub end-split : (facts : ℕ → Full) (number m q n : ℕ) → n ≡ m + q → end_of facts number n ≡ max (end_of facts number m) (end_of facts (number + m) q)

@@ -2,6 +2,7 @@
 use Rattle.std.proofs.Common.{◌≡◌, ℕ, ◌+◌, ◌-◌, ◌/◌, ◌%◌, ◌^◌, ◌<◌, ◌≤◌, ◌==◌, Bool, true, false, cond, IsTrue, min, max, List, [], length, Option, Some, None, IfSome, refl, sym, ◌∙◌, ap, subst, arith, ◌⊎◌, inl, inr}
 use Rattle.std.proofs.lemmas.Bool.{cases_lt, eqb-true, false≢true}
 use Rattle.std.proofs.Math.Nat.{mod-lt, mod-eq_of_lt}
+use Rattle.std.proofs.lemmas.Option.{none-some}
 use Rattle.fl_base.specs.declared.types.Geometry.{Geometry}
 use Rattle.fl_index.specs.declared.index.BitmapIndex.{BitmapIndex}
 use Rattle.fl_index.specs.declared.page.Full.{Full}
@@ -43,10 +44,7 @@ per_same old new same =
 
 -- there is room for the next
 pub gather-room : (old now : Option BitmapIndex) (low high number : ℕ) → WaitFor old low high → number < high → AreSamePlan old now → AreGathered old number now → EndAt now number → HaveRoom now
-gather-room None now low high number h lt same g end = λ index e. absurd (none index (sym g ∙ e))
-  where
-    none : (index : BitmapIndex) → ◌≡◌ {A = Option BitmapIndex} None (Some index) → ⊥
-    none index e = cc
+gather-room None now low high number h lt same g end = λ index e. absurd (none-some index (sym g ∙ e))
 gather-room (Some old) None low high number h lt same g end = absurd g
 gather-room (Some old) (Some now) low high number h lt same g end = λ index e.
     let per = per_same old now same in
@@ -91,10 +89,7 @@ gather-more layout (Some old) (Some now) (Some later) low high number bitmap ful
 
 -- they end where the pages do
 pub gathers-end : (old now : Option BitmapIndex) (low high : ℕ) → WaitFor old low high → AreGathered old high now → EndAt now high
-gathers-end None now low high h g = λ index e. absurd (none index (sym g ∙ e))
-  where
-    none : (index : BitmapIndex) → ◌≡◌ {A = Option BitmapIndex} None (Some index) → ⊥
-    none index e = cc
+gathers-end None now low high h g = λ index e. absurd (none-some index (sym g ∙ e))
 gathers-end (Some old) None low high h g = absurd g
 gathers-end (Some old) (Some now) low high h g = λ index e.
     let end : first_waiting now + waiting_in now ≡ high = omega (arith, g.0, g.1, h.2) in

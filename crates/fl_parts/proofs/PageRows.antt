@@ -1,9 +1,10 @@
 -- The rows of a kept page by its number, and the entries of pages one after another.
-use Rattle.std.proofs.Common.{◌≡◌, ℕ, zero, suc, ◌+◌, ◌<◌, ◌≤◌, Bool, true, false, cond, ◌==◌, filter, Option, Some, None, option_map, unwrap_or, List, [], ◌∷◌, ◌++◌, length, map, take, drop, refl, sym, ◌∙◌, ap, arith}
+use Rattle.std.proofs.Common.{◌≡◌, ℕ, zero, suc, ◌+◌, ◌<◌, ◌≤◌, Bool, true, false, cond, ◌==◌, filter, Some, option_map, unwrap_or, List, [], ◌∷◌, ◌++◌, length, map, take, drop, refl, sym, ◌∙◌, ap, arith}
 use Rattle.std.specs.List.{slice_get, sum}
 use Rattle.std.proofs.lemmas.Bool.{eq-eqb, ne_eqb, eqb-true}
 use Rattle.std.proofs.lemmas.List.{drop-drop, length-map}
 use Rattle.std.proofs.lemmas.List.Sums.{sum_by-cons}
+use Rattle.std.proofs.lemmas.Option.{none-some}
 use Rattle.fl_model.specs.Image.{rows_at}
 use Rattle.fl_model.specs.Index.{IndexEntry, index_entry}
 use Rattle.fl_model.specs.Limits.{numbers_from, rows_of_page}
@@ -39,10 +40,7 @@ none-lower number first (c ∷ cs) entries lt =
         (ne_eqb first number (λ e. omega (arith, e, lt))) ∙ k
 
 rows-by : (first n c : ℕ) (counts : List ℕ) (entries : List Entry) → slice_get counts n ≡ Some c → rows_by (first + n) (pages_from first counts entries) ≡ take c (drop (sum (take n counts)) entries)
-rows-by first n c [] entries e = absurd (none e)
-  where
-    none : ◌≡◌ {A = Option ℕ} None (Some c) → ⊥
-    none e = cc
+rows-by first n c [] entries e = absurd (none-some c e)
 rows-by first zero c (x ∷ cs) entries e = by_count (x == 0) refl
   where
     same : x ≡ c

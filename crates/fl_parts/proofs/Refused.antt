@@ -1,5 +1,6 @@
 -- What a refused page answers.
-use Rattle.std.proofs.Common.{◌≡◌, ℕ, Bool, true, false, cond, Option, Some, None, unwrap_or, List, [], ◌∷◌, refl, sym, subst, inl, inr}
+use Rattle.std.proofs.Common.{◌≡◌, ℕ, Bool, true, false, cond, Option, Some, unwrap_or, List, [], ◌∷◌, refl, sym, subst, inl, inr}
+use Rattle.std.proofs.lemmas.Option.{none-some}
 use Rattle.fl_flash.specs.declared.flash.FlashFault.{FlashFault}
 use Rattle.fl_model.specs.Record.{RowLayout}
 use Rattle.fl_model.specs.Row.{Row}
@@ -16,10 +17,7 @@ pub record IsPageFault (fault : MountFault) : Type 1 where
   pub no_flash : (P : FlashFault → Type 0) → IfFlash P fault
 
 pub of_keys : (number : ℕ) (last : Option ℕ) (rows : List Row) (fault : MountFault) → keys_fault number last rows ≡ Some fault → IsPageFault fault
-of_keys number last [] fault e = absurd (none e)
-  where
-    none : None ≡ Some fault → ⊥
-    none e = cc
+of_keys number last [] fault e = absurd (none-some fault e)
 of_keys number last (row ∷ rows) fault e = by_test (of_keys number (Some row.key) rows fault) (rises last row.key) e
   where
     same : Some (BadKeys number (unwrap_or last 0) row.key) ≡ Some fault → BadKeys number (unwrap_or last 0) row.key ≡ fault

@@ -3,6 +3,7 @@ use Rattle.std.proofs.Common.{◌≡◌, ℕ, zero, suc, ◌+◌, ◌-◌, ◌*�
 use Rattle.std.specs.Prelude.{option_map}
 use Rattle.std.specs.List.{slice_get, list_any, fold}
 use Rattle.std.proofs.lemmas.Bool.{lt-ltb, ne_eqb, false≢true}
+use Rattle.std.proofs.lemmas.Option.{none-some, same_Some}
 use Rattle.fl_model.specs.Agrees.{reach_of, BlobsOf}
 use Rattle.fl_model.specs.Mount.{renumber, renumbered, blob_end, least_alike}
 use Rattle.fl_model.specs.Record.{Plan}
@@ -18,14 +19,8 @@ fold-least a [] = omega arith
 fold-least a (x ∷ xs) = let k = fold-least (max a x) xs in omega (arith, k)
 
 fold-each : (a : ℕ) (xs : List ℕ) (i x : ℕ) → slice_get xs i ≡ Some x → x ≤ fold max a xs
-fold-each a [] i x e = absurd (none e)
-  where
-    none : None ≡ Some x → ⊥
-    none k = cc
-fold-each a (y ∷ ys) zero x e = let k = fold-least (max a y) ys in omega (arith, k, same e)
-  where
-    same : Some y ≡ Some x → y ≡ x
-    same k = cc
+fold-each a [] i x e = absurd (none-some x e)
+fold-each a (y ∷ ys) zero x e = let k = fold-least (max a y) ys in omega (arith, k, same_Some y x e)
 fold-each a (y ∷ ys) (suc i) x e = fold-each (max a y) ys i x e
 
 -- .. and at most what all of them are
@@ -81,10 +76,7 @@ held-below plan ring table led = blob_end-most table ring.next (λ i entry blob 
 
 -- a ring with a committed page keeps its numbers
 pub any-one : (xs : List ℕ) (i : ℕ) → slice_get xs i ≡ Some 1 → list_any (nat_lt 0) xs ≡ true
-any-one [] i e = absurd (none 1 e)
-  where
-    none : (n : ℕ) → None ≡ Some n → ⊥
-    none n k = cc
+any-one [] i e = absurd (none-some 1 e)
 any-one (x ∷ xs) zero e = ap (λ (b : Bool). b || list_any (nat_lt 0) xs) (lt-ltb 0 x (omega (arith, same 1 e)))
   where
     same : (n : ℕ) → Some x ≡ Some n → x ≡ n

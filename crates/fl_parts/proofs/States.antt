@@ -1,6 +1,6 @@
 -- The data ring of a table as a list of bodies, and the same pages in the words of the model's image.
-use Rattle.std.proofs.Common.{◌≡◌, ℕ, zero, suc, ◌+◌, ◌-◌, ◌*◌, ◌%◌, ◌<◌, ◌≤◌, Bool, true, false, cond, ◌&&◌, ◌==◌, Option, Some, None, List, ◌++◌, length, take, drop, replicate, get_or, refl, sym, ◌∙◌, ap, subst, arith, ◌⊎◌, inl, inr, length-append, append_assoc, MatchBool}
-use Rattle.std.proofs.lemmas.Bool.{cases_lt, cases_Bool, eqb-true as is_same, false≢true}
+use Rattle.std.proofs.Common.{◌≡◌, ℕ, zero, suc, ◌+◌, ◌-◌, ◌*◌, ◌%◌, ◌<◌, ◌≤◌, Bool, true, false, cond, ◌==◌, Option, Some, None, List, ◌++◌, length, take, drop, replicate, get_or, refl, sym, ◌∙◌, ap, subst, arith, ◌⊎◌, inl, inr, length-append, append_assoc, MatchBool}
+use Rattle.std.proofs.lemmas.Bool.{cases_lt, cases_Bool, eqb-true as is_same, false≢true, and_from, and_parts}
 use Rattle.std.proofs.lemmas.Nat.Gcd.{mod-eq-zero_of_dvd, dvd_of_mod-eq-zero}
 use Rattle.std.specs.List.{slice_get, sum}
 use Rattle.fl_flash.specs.Flash.{blank}
@@ -53,12 +53,8 @@ ring-from first plan table h =
       most = omega (arith, len, h.kept);
       most_ahead = λ e. let k = h.kept_at_end e in omega (arith, len, k);
       dirty_when = λ d. let k = h.dirty_at_end d in (k.0, omega (arith, len, k.1));
-      not_both = λ t d. h.not_both (both table.rows.torn table.rows.dirty t d);
+      not_both = λ t d. h.not_both (and_from table.rows.torn table.rows.dirty t d);
     }
-  where
-    both : (a b : Bool) → a ≡ true → b ≡ true → (a && b) ≡ true
-    both true b e k = k
-    both false b e k = cc
 
 pub ring-back : (first : ℕ) (plan : Plan) (table : Table) → IsRing (shape_in first plan) (state_of plan table) → model.IsRing (shape_of plan DataRing) table.rows
 ring-back first plan table h =
@@ -70,12 +66,8 @@ ring-back first plan table h =
       kept = omega (arith, len, h.most);
       kept_at_end = λ e. let k = h.most_ahead e in omega (arith, len, k);
       dirty_at_end = λ d. let k = h.dirty_when d in (k.0, omega (arith, len, k.1));
-      not_both = λ both. let p = parts table.rows.torn table.rows.dirty both in h.not_both p.0 p.1;
+      not_both = λ both. let p = and_parts table.rows.torn table.rows.dirty both in h.not_both p.0 p.1;
     }
-  where
-    parts : (a b : Bool) → (a && b) ≡ true → (a ≡ true) × (b ≡ true)
-    parts true b e = (refl, e)
-    parts false b e = cc
 
 -- blank bytes
 pub blank-bytes : (page : List ℕ) (size : ℕ) → length page ≡ size → is_blank page ≡ true → page ≡ blank size

@@ -1,7 +1,8 @@
 -- A data page comes that no index page lists.
 use Rattle.std.proofs.Common.{◌≡◌, ℕ, suc, ◌+◌, ◌*◌, ◌%◌, ◌<◌, ◌≤◌, inl, inr, Bool, true, false, max, Option, Some, None, List, [], ◌∷◌, ◌++◌, length, refl, sym, ◌∙◌, ap, subst, arith}
 use Rattle.std.specs.Prelude.{cond, ◌==◌, ◌&&◌, nat_le, nat_lt, IfSome, option_map, unwrap_or, slice_set}
-use Rattle.std.proofs.lemmas.Bool.{eqb-true, eq-eqb, le-leb, leb-true}
+use Rattle.std.proofs.lemmas.Bool.{eqb-true, eq-eqb, le-leb, leb-true, and_parts}
+use Rattle.std.proofs.lemmas.Option.{none-some}
 use Rattle.fl_find.specs.Index.{IndexOf}
 use Rattle.fl_find.specs.Pages.{first_key, rows_on, rows_where}
 use Rattle.fl_find.specs.declared.index.KeyIndex.{KeyIndex}
@@ -40,13 +41,9 @@ good-form layout number page g = join (page_number page == number) (nat_le 1 (pa
 
 form-good : (layout : RowLayout) (number : ℕ) (page : List ℕ) → has_form layout number page ≡ true → IsGoodPage layout number page
 form-good layout number page h =
-    let a = both_true _ _ h in
-    let b = both_true _ _ a.0 in
+    let a = and_parts _ _ h in
+    let b = and_parts _ _ a.0 in
     record { number_is = eqb-true _ _ b.0; some = leb-true _ _ b.1; room = leb-true _ _ a.1 }
-  where
-    both_true : (a b : Bool) → (a && b) ≡ true → (a ≡ true) × (b ≡ true)
-    both_true true b h = (refl, h)
-    both_true false b h = cc
 
 pub committed-is : (s : PageState) → commits s ≡ true → s ≡ Committed
 committed-is Committed e = refl
@@ -76,10 +73,7 @@ read-faulty layout number page last fault h =
 
 -- a page with a first key has rows and is committed
 pub first-some : (rows : List Row) (key : ℕ) → first_key rows ≡ Some key → 0 < length rows
-first-some [] key e = absurd (none e)
-  where
-    none : ◌≡◌ {A = Option ℕ} None (Some key) → ⊥
-    none e = cc
+first-some [] key e = absurd (none-some key e)
 first-some (row ∷ rows) key e = omega arith
 
 pub first-none : (rows : List Row) → first_key rows ≡ None → rows ≡ []
@@ -90,10 +84,7 @@ first-none (row ∷ rows) e = absurd (some e)
     some e = cc
 
 pub last-some : (rows : List Row) (before : Option ℕ) (key other : ℕ) → first_key rows ≡ Some key → Some (unwrap_or (last_in before rows) other) ≡ last_in before rows
-last-some [] before key other e = absurd (none e)
-  where
-    none : ◌≡◌ {A = Option ℕ} None (Some key) → ⊥
-    none e = cc
+last-some [] before key other e = absurd (none-some key e)
 last-some (row ∷ rows) before key other e = some row.key rows
   where
     some : (k : ℕ) (rows : List Row) → Some (unwrap_or (last_in (Some k) rows) other) ≡ last_in (Some k) rows

@@ -5,6 +5,7 @@ use Rattle.std.specs.List.{slice_get}
 use Rattle.std.proofs.Math.Nat.{mul-le-mul_right}
 use Rattle.std.proofs.lemmas.Bool.{cases_lt, le-ltb, lt-ltb, ltb-true, ne_eqb, and_parts, false≢true}
 use Rattle.std.proofs.lemmas.List.{take-append-le}
+use Rattle.std.proofs.lemmas.Option.{same_Some}
 use Rattle.fl_model.specs.Agrees.{content_at, reach_of, HoldsBlob, BlobsOf}
 use Rattle.fl_model.specs.Content.{ContentPage, content_page}
 use Rattle.fl_model.specs.Query.{page_stands}
@@ -356,14 +357,11 @@ in-placed plan table ring empty placed blobs = λ i entry blob e k some. by_plac
       | inl lt ↦ lt
       | inr ge ↦
           let waits : Some (content_page plan (take (content_per_page plan) (drop ((number - ring.next) * content_per_page plan) table.buffered))) ≡ Some page = sym (ap (content_by plan table ring number) (le-ltb number ring.next ge)) ∙ e in
-          let used : length (take (content_per_page plan) (drop ((number - ring.next) * content_per_page plan) table.buffered)) ≡ page.used = ap (λ (p : ContentPage). p.used) (some_same _ _ waits) in
+          let used : length (take (content_per_page plan) (drop ((number - ring.next) * content_per_page plan) table.buffered)) ≡ page.used = ap (λ (p : ContentPage). p.used) (same_Some _ _ waits) in
           let long = length-take (content_per_page plan) (drop ((number - ring.next) * content_per_page plan) table.buffered) in
           let rest = length-drop ((number - ring.next) * content_per_page plan) table.buffered in
           absurd (omega (arith, used, long, rest, ap length empty, some))
     ]
-      where
-        some_same : (a b : ContentPage) → Some a ≡ Some b → a ≡ b
-        some_same a b k = cc
 
     by_place : (entry : Entry) (blob : List ℕ) → 0 < length blob → (page_stands ring entry.page ≡ true → HoldsBlob plan table ring entry blob) → (entry.page < oldest ring) ⊎ (page_stands ring entry.page ≡ true) →
         (entry.page < oldest ring) ⊎ ((oldest ring ≤ entry.page) × (slice_get ring.counts (entry.page - oldest ring) ≡ Some 1) × (entry.page + reach_of plan entry blob < ring.next))
