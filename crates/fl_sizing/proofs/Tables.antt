@@ -1,10 +1,11 @@
 -- What is told of tables, one after another.
-use Rattle.std.proofs.Common.{◌≡◌, ℕ, zero, suc, ◌+◌, ◌<◌, Option, Some, None, IfSome, List, [], ◌∷◌, ◌++◌, length, take, sym, ◌∙◌, ap, subst, arith}
+use Rattle.std.proofs.Common.{◌≡◌, ℕ, zero, suc, ◌+◌, ◌<◌, Option, Some, IfSome, List, [], ◌∷◌, ◌++◌, length, take, sym, ◌∙◌, ap, subst, arith}
 use Rattle.std.specs.List.{flat_map, slice_get, sum_by}
 use Rattle.std.proofs.lemmas.Grind.{flat_map-append}
 use Rattle.std.proofs.lemmas.List.Sums.{sum_by_push}
 use Rattle.std.proofs.lemmas.List.Concat.{flat_map-cons}
 use Rattle.std.proofs.lemmas.List.{append-nil}
+use Rattle.std.proofs.lemmas.Option.{none-some}
 use Rattle.fl_base.specs.declared.types.RingPlace.{RingPlace}
 use Rattle.fl_model.specs.Bare.{bare}
 use Rattle.fl_model.specs.Record.{Plan, blocks_of}
@@ -17,10 +18,7 @@ use Rattle.fl_sizing.specs.Text.{named_text, table_text}
 use Rattle.fl_sizing.specs.declared.sizes.TableSizes.{TableSizes}
 
 take-next : {X : Type 0} (xs : List X) (i : ℕ) (x : X) → slice_get xs i ≡ Some x → take (i + 1) xs ≡ take i xs ++ x ∷ []
-take-next [] i x e = absurd (none e)
-  where
-    none : None ≡ Some x → ⊥
-    none e = cc
+take-next [] i x e = absurd (none-some x e)
 take-next (y ∷ ys) zero x e = let s : Some y ≡ Some x = e in let same : y ≡ x = cc in ap (λ z. z ∷ []) same
 take-next (y ∷ ys) (suc i) x e =
     let n : suc i + 1 ≡ suc (i + 1) = omega arith in
