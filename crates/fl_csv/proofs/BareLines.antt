@@ -2,7 +2,7 @@
 use Rattle.std.proofs.Common.{◌≡◌, ◌≢◌, ℕ, ◌<◌, ◌≤◌, get_or, Bool, true, false, not, eqb, ◌||◌, Some, List, [], ◌∷◌, ◌++◌, length, refl, ◌∙◌, ap, arith, append_assoc}
 use Rattle.std.specs.Prelude.{All}
 use Rattle.std.specs.List.{flat_map, fold, list_all, onto_first}
-use Rattle.std.proofs.lemmas.Bool.{and_parts, ne_eqb, false≢true, true≢false}
+use Rattle.std.proofs.lemmas.Bool.{and_parts, ne_eqb, false≢true, true≢false, not-true}
 use Rattle.std.proofs.lemmas.Bool.Decides.{nat_tests}
 use Rattle.std.proofs.lemmas.List.{append-nil}
 use Rattle.std.proofs.lemmas.List.Elements.{All-cons, All-nil}
@@ -113,15 +113,11 @@ closed (byte ∷ bytes) Edge out h =
 closed (byte ∷ bytes) Bare out h = closed bytes (place_outside byte) (outside byte) (and_parts _ _ h).1
 closed (byte ∷ bytes) Quoted out h = absurd (true≢false out)
 
-not-mark : (t : Bool) → not t ≡ true → t ≡ false
-not-mark false h = refl
-not-mark true h = cc h
-
 pub bare-line : BareLines
 bare-line [] h = absurd (false≢true h)
 bare-line (byte ∷ bytes) h =
     let parts = and_parts (not (eqb byte 239)) (list_all stands_alone (byte ∷ bytes)) h in
-    let same = no-mark byte bytes (not-mark (eqb byte 239) parts.0) in
+    let same = no-mark byte bytes (not-true (eqb byte 239) parts.0) in
     let shut = closed (byte ∷ bytes) Edge refl parts.1 in
     let read = one-record (byte ∷ bytes) (parts_of (byte ∷ bytes)) st.StartRecord [] (reached-one _ _ _ _ (from-record byte bytes parts.1)) empty-none in
     rw (same, shut) read

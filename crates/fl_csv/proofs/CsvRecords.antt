@@ -1,5 +1,6 @@
 -- The records that the crate csv reads, from its reads of one record.
-use Rattle.std.proofs.Common.{◌≡◌, ℕ, suc, List, [], ◌∷◌, length, Option, Some, None, refl, sym, ◌∙◌, ap, arith}
+use Rattle.std.proofs.Common.{◌≡◌, ℕ, suc, List, [], ◌∷◌, length, Some, None, refl, sym, ◌∙◌, ap, arith}
+use Rattle.std.proofs.lemmas.Option.{none-some}
 use Rattle.csv.specs.Machine.{Read, next_record}
 use Rattle.csv.specs.Reading.{default_config, records, records_from, Reached}
 use Rattle.csv.specs.declared.parser.State.{State}
@@ -30,10 +31,7 @@ no-record xs e = ap only_record (records-suc xs ∙ from-none (length xs) st.Sta
 pub one-record : (xs : List ℕ) (fields : List (List ℕ)) (s : State) (ys : List ℕ) → Reached default_config st.StartRecord xs (fields ∷ []) s ys
     → next_record default_config s [] [] ys ≡ None → only_record (records default_config xs) ≡ Some fields
 unfolding Reached
-one-record [] fields s ys h e = absurd (never (sym empty-none ∙ h.1))
-  where
-    never : {A : Type 0} {a : A} → ◌≡◌ {A = Option A} None (Some a) → ⊥
-    never e = cc e
+one-record [] fields s ys h e = absurd (none-some _ (sym empty-none ∙ h.1))
 one-record (x ∷ xs) fields s ys h e =
     let last : next_record default_config h.0.1 [] [] h.0.2 ≡ None = rw (h.3.0, h.3.1) e in
     let rows = records-suc (x ∷ xs) ∙ from-some (length (x ∷ xs)) st.StartRecord (x ∷ xs) h.0 h.1
@@ -43,10 +41,7 @@ one-record (x ∷ xs) fields s ys h e =
 pub two-records : (xs : List ℕ) (fields next : List (List ℕ)) (s : State) (ys : List ℕ) → Reached default_config st.StartRecord xs (fields ∷ next ∷ []) s ys
     → only_record (records default_config xs) ≡ None
 unfolding Reached
-two-records [] fields next s ys h = absurd (never (sym empty-none ∙ h.1))
-  where
-    never : {A : Type 0} {a : A} → ◌≡◌ {A = Option A} None (Some a) → ⊥
-    never e = cc e
+two-records [] fields next s ys h = absurd (none-some _ (sym empty-none ∙ h.1))
 two-records (x ∷ xs) fields next s ys h =
     let rows = records-suc (x ∷ xs) ∙ from-some (length (x ∷ xs)) st.StartRecord (x ∷ xs) h.0 h.1
     ∙ ap (λ l. h.0.0 ∷ l) (from-some (length xs) h.0.1 h.0.2 h.3.0 h.3.1) in
