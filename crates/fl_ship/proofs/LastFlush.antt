@@ -28,7 +28,7 @@ use Rattle.fl_ship.specs.declared.fault.ShipFault.{ShipFault}
 use Rattle.fl_ship.specs.declared.fault.ShipFault.TheVariants.{Read, Put, Flush}
 use Rattle.fl_ship.proofs.RowsWork.{ships-behind}
 
-never : IsTrue false → ⊥
+pub never : IsTrue false → ⊥
 never e = cc
 
 -- ---- a flush, where no cut is armed

@@ -1,5 +1,5 @@
 -- Rows that are put into the table of a copy one after another, as far as they have come.
-use Rattle.std.proofs.Common.{◌≡◌, ℕ, suc, ◌+◌, ◌-◌, ◌<◌, ◌≤◌, Bool, true, false, IsTrue, Option, Some, None, Result, Ok, Err, List, [], ◌∷◌, ◌++◌, length, take, drop, refl, sym, ◌∙◌, ap, subst, append_assoc, append-nil, length-append, arith}
+use Rattle.std.proofs.Common.{◌≡◌, ℕ, suc, ◌+◌, ◌-◌, ◌<◌, ◌≤◌, Bool, true, IsTrue, Option, Some, None, Result, Ok, Err, List, [], ◌∷◌, ◌++◌, length, take, drop, refl, sym, ◌∙◌, ap, subst, append_assoc, append-nil, length-append, arith}
 use Rattle.std.specs.List.{slice_get}
 use Rattle.std.proofs.Math.Seq.{take-append-add}
 use Rattle.std.proofs.lemmas.List.{map-append, map_push, take_at, take_all, drop_at, length-map, length_push, length-take}
@@ -39,9 +39,7 @@ use Rattle.fl_ship.specs.Rows.{ArePut, AreTaken, PutCausedBy, PutsWork, RowsPut,
 use Rattle.fl_ship.specs.declared.fault.ShipFault.{ShipFault}
 use Rattle.fl_ship.specs.declared.fault.ShipFault.TheVariants.{Read, Put}
 use Rattle.fl_ship.proofs.RowsWork.{puts-push, ships-behind, ships-broken, ships-refused, so-far, so-far-is}
-
-never : IsTrue false → ⊥
-never e = cc
+use Rattle.fl_ship.proofs.LastFlush.{never}
 
 -- ---- one more record behind others
 
