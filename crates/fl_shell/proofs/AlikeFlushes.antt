@@ -16,9 +16,10 @@ use Rattle.fl_machine.specs.Run.{end_of}
 use Rattle.fl_machine.specs.Stays.{CommandStays, MomentStays, TablesStay}
 use Rattle.fl_machine.specs.Step.{EndsAs, FlushStep, Located, Moment, Says, Step, StepOf, located}
 use Rattle.fl_session.specs.Execute.{IsAlike, IsReady, StandsAlike}
+use Rattle.fl_session.proofs.ExecutedCommand.{alike-same}
 use Rattle.fl_shell.specs.Flushing.{FlushesOne}
 use Rattle.fl_shell.specs.Talk.{IsDone, RanOver, pending_rows}
-use Rattle.fl_shell.proofs.Ran.{alike-same, over-more}
+use Rattle.fl_shell.proofs.Ran.{over-more}
 
 -- ---- states that are alike but for their cursors
 

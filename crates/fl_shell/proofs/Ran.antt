@@ -18,11 +18,12 @@ use Rattle.fl_machine.proofs.BytesStay.{stays-more}
 use Rattle.fl_machine.proofs.FewReads.{most_of_a_scan, scan-of-name}
 use Rattle.fl_machine.proofs.KeptPuts.{keeps-puts}
 use Rattle.fl_machine.proofs.Steps.{finds}
-use Rattle.fl_session.specs.Execute.{Executes, IsAlike, IsReady, StandsAlike}
+use Rattle.fl_session.specs.Execute.{Executes, IsReady, StandsAlike}
 use Rattle.fl_queries.specs.Keys.{all_keys}
 use Rattle.fl_session.specs.Oldest.{reads_of}
 use Rattle.fl_session.proofs.NextCommand.{at_end, end_of-more, ran-none, ran-further, ran-further_moments, risen-more, rose-more, run-more}
 use Rattle.fl_session.proofs.RunEnds.{rose-earlier}
+use Rattle.fl_session.proofs.ExecutedCommand.{alike-same}
 use Rattle.fl_shell.specs.Flushing.{RanThese}
 use Rattle.fl_shell.specs.Talk.{RanOver}
 use Rattle.fl_shell.specs.Turning.{Looked}
@@ -70,9 +71,6 @@ ran-kept config old lines moments stands stands_now content faults flash flash_n
     subst (λ f. RanThese config old lines moments stands_now content faults f) (sym same) (record { ran = r.0; are = r.1 ∙ h.are; counted = h.counted })
 
 -- ---- what a run says without its count of reads
-
-pub alike-same : (m : Machine) → IsAlike m m
-alike-same m = record { cost = refl; tables = refl; mounted = refl; device = refl }
 
 pub ran-over : (config : Config) (old : Machine) (lines : ℕ) (moments : List Moment) (stands : Machine → Type 0) (content : List ℕ) (faults : ℕ) (flash : FlashState) → RanThese config old lines moments stands content faults flash →
     RanOver config old moments (StandsAlike stands) content flash.media.content faults flash.media.faults
