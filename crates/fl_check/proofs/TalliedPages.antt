@@ -20,7 +20,7 @@ use Rattle.fl_rules.specs.declared.tally.Tally.{Tally}
 use Rattle.fl_check.proofs.AscendingPages.{HasRowsOf}
 
 -- rows more, behind others
-ends-append : (so_far : ℕ) (rows others : List Row) → blobs_end so_far (rows ++ others) ≡ blobs_end (blobs_end so_far rows) others
+pub ends-append : (so_far : ℕ) (rows others : List Row) → blobs_end so_far (rows ++ others) ≡ blobs_end (blobs_end so_far rows) others
 ends-append so_far rows others =
     ap (fold max so_far) (map-append (λ (row : Row). reference_end row.blob) rows others)
     ∙ fold-append max so_far (map (λ (row : Row). reference_end row.blob) rows) (map (λ (row : Row). reference_end row.blob) others)

@@ -19,8 +19,9 @@ use Rattle.fl_rules.specs.Rising.{last_in, last_after, last_key, KeysAscend}
 use Rattle.fl_rules.specs.Tally.{blobs_end, tally_of}
 use Rattle.fl_rules.specs.declared.numbering.Numbering.{Numbering}
 use Rattle.fl_check.proofs.RingReads.{Reads}
+use Rattle.fl_check.proofs.TalliedPages.{ends-append}
 use Rattle.fl_sound.specs.Sound.{void_pages}
-use Rattle.fl_sound.proofs.Lists.{take-none, take-next, rows-behind, last-behind, ascends-behind, ascends-front, blobs-behind}
+use Rattle.fl_sound.proofs.Lists.{take-none, take-next, rows-behind, last-behind, ascends-behind, ascends-front}
 
 pub voids-append : (a b : List ℕ) → void_pages (a ++ b) ≡ void_pages a + void_pages b
 voids-append a b = sum_by-append (λ (x : ℕ). cond (x == 0) 1 0) a b
@@ -166,7 +167,7 @@ module _ (layout : RowLayout) (page : ℕ → List ℕ) (d : Shape) (at_least : 
           by_test true (reads.committed i c e ∙ lt-ltb 0 c some)
           ∙ ap (λ (k : ℕ). blobs_end k (rows_in layout (page (kept_page d n.marks i)))) before_is
           ∙ ap (blobs_end (blobs_end 0 (map stored_row (take (sum (take i table.rows.counts)) table.entries)))) (rows i c e some)
-          ∙ sym (blobs-behind 0 (map stored_row (take (sum (take i table.rows.counts)) table.entries)) (map stored_row (rows_at table i c))) ∙ ap (blobs_end 0) (sym (rows-next i c e))
+          ∙ sym (ends-append 0 (map stored_row (take (sum (take i table.rows.counts)) table.entries)) (map stored_row (rows_at table i c))) ∙ ap (blobs_end 0) (sym (rows-next i c e))
       by_count before_is c e (inr none) =
           let z : c ≡ 0 = omega (arith, none) in
           by_test false (reads.committed i c e ∙ ap (nat_lt 0) z) ∙ before_is ∙ ap (blobs_end 0) (sym (rows-void i (e ∙ ap (λ (k : ℕ). Some k) z)))

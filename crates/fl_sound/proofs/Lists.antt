@@ -1,15 +1,13 @@
 -- Parts of lists, one element after another.
-use Rattle.std.proofs.Common.{◌≡◌, ℕ, zero, suc, ◌+◌, Option, Some, List, [], ◌∷◌, ◌++◌, map, take, drop, max, refl, ◌∙◌, ap}
-use Rattle.std.specs.List.{slice_get, fold}
+use Rattle.std.proofs.Common.{◌≡◌, ℕ, zero, suc, ◌+◌, Option, Some, List, [], ◌∷◌, ◌++◌, map, take, drop, refl, ◌∙◌, ap}
+use Rattle.std.specs.List.{slice_get}
 use Rattle.std.proofs.lemmas.List.{map-append}
-use Rattle.std.proofs.lemmas.List.Sums.{fold-append}
 use Rattle.std.proofs.Math.Seq.{take-add}
 use Rattle.std.proofs.lemmas.Option.{none-some, same_Some}
 use Rattle.fl_model.specs.Row.{Row, stored_row}
 use Rattle.fl_model.specs.Table.{Entry}
 use Rattle.fl_page.specs.Steps.{Ascends}
 use Rattle.fl_rules.specs.Rising.{last_in}
-use Rattle.fl_rules.specs.Tally.{reference_end, blobs_end}
 
 pub take-none : {X : Type 0} (xs : List X) → take 0 xs ≡ []
 take-none [] = refl
@@ -40,8 +38,3 @@ ascends-front before [] others h = tt
 ascends-front before (row ∷ rows) others h = (h.0, ascends-front (Some row.key) rows others h.1)
 
 -- ---- blobs
-
-pub blobs-behind : (so_far : ℕ) (rows others : List Row) → blobs_end so_far (rows ++ others) ≡ blobs_end (blobs_end so_far rows) others
-blobs-behind so_far rows others =
-    ap (fold max so_far) (map-append (λ (row : Row). reference_end row.blob) rows others)
-    ∙ fold-append max so_far (map (λ (row : Row). reference_end row.blob) rows) (map (λ (row : Row). reference_end row.blob) others)
