@@ -1,10 +1,10 @@
 -- The references of rows, one after another.
-use Rattle.std.proofs.Common.{◌≡◌, ℕ, zero, suc, ◌+◌, ◌<◌, Bool, true, Option, Some, None, IfSome, Result, Ok, Err, MatchResult, List, length, drop, slice_get, inl, inr, refl, sym, ◌∙◌, ap, subst, arith}
+use Rattle.std.proofs.Common.{◌≡◌, ℕ, ◌+◌, ◌<◌, Bool, true, Option, Some, None, IfSome, Result, Ok, Err, MatchResult, List, length, drop, slice_get, inl, inr, sym, ◌∙◌, ap, subst, arith}
 use Rattle.std.proofs.lemmas.Bool.{cases_eq}
 use Rattle.fl_base.specs.declared.types.BlobRef.{BlobRef}
 use Rattle.fl_mark.specs.Mark.{state_of_page}
 use Rattle.fl_mark.specs.declared.page_state.PageState.{PageState}
-use Rattle.fl_model.specs.Record.{RowLayout, layout_len}
+use Rattle.fl_model.specs.Record.{RowLayout}
 use Rattle.fl_model.specs.Row.{Row}
 use Rattle.fl_page.specs.Header.{page_number, page_count}
 use Rattle.fl_page.specs.Page.{IsGoodPage, bad_page, rows_from, rows_in}
@@ -33,10 +33,6 @@ viewed {COLS} layout number bytes result view e is = subst (λ (x : Result (Page
 pub refused : {COLS : ℕ} (layout : RowLayout) (number : ℕ) (bytes : List ℕ) (result : Result (PageView COLS) BadPage) (bad : BadPage) → result ≡ Err bad
     → MatchResult result (IsViewed layout number bytes) (IsRefused layout number bytes) → IsRefused layout number bytes bad
 refused {COLS} layout number bytes result bad e is = subst (λ (x : Result (PageView COLS) BadPage). MatchResult x (IsViewed layout number bytes) (IsRefused layout number bytes)) e is
-
-pub count_rows : (n : ℕ) (layout : RowLayout) (bytes : List ℕ) → length (rows_from n layout bytes) ≡ n
-count_rows zero layout bytes = refl
-count_rows (suc n) layout bytes = ap suc (count_rows n layout (drop (layout_len layout) bytes))
 
 -- a view has the rows of its bytes
 pub view_rows : {COLS : ℕ} (view : PageView COLS) (layout : RowLayout) (bytes : List ℕ) → page_of view ≡ bytes → layout_of_page view ≡ layout → count_of view ≡ page_count bytes → rows_of view ≡ rows_in layout bytes
