@@ -32,7 +32,7 @@ unread-less (Some span) None number later buf le = omega arith
 unread-less (Some span) (Some index) number later buf le = unread-fewer index number later (next_to_read index buf) le
 
 -- more pages have more index pages
-or-true : (b c : Bool) → c ≡ true → (b || c) ≡ true
+pub or-true : (b c : Bool) → c ≡ true → (b || c) ≡ true
 or-true true c e = refl
 or-true false c e = e
 

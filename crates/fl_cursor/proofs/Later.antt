@@ -41,6 +41,7 @@ use Rattle.fl_cursor.proofs.PassedRows.{each-front, each-back}
 use Rattle.fl_cursor.proofs.Selected.{all-up}
 use Rattle.fl_cursor.proofs.StartPlaces.{ascends-front}
 use Rattle.fl_cursor.proofs.Stood.{kept-rows, standing-rows, standing-ascends}
+use Rattle.fl_cursor.proofs.IndexLookups.{or-true}
 
 -- ---- pages with rows
 
@@ -103,11 +104,6 @@ each-take P (suc n) (x ∷ xs) h = (h.0, each-take P n xs h.1)
 begun-row : (key : ℕ) (rows : List Row) (row : Row) → slice_get rows 0 ≡ Some row → row.key ≤ key → begins_by key rows ≡ true
 begun-row key [] row e le = absurd (none-some row e)
 begun-row key (x ∷ rows) row e le = let same = ap (λ (r : Row). r.key) (same_Some x row e) in le-leb x.key key (omega (arith, same, le))
-
--- a page is looked up
-or-true : (b c : Bool) → c ≡ true → (b || c) ≡ true
-or-true true c e = refl
-or-true false c e = e
 
 looked-any : {KNOTS SLOTS : ℕ} (t : Table KNOTS SLOTS) (contents : Contents) (top : Option ℕ) (q : ℕ → Bool) (n number k : ℕ) → number ≤ k → k < number + n → list_any (λ row. is_up_to top row.key) (rows_on t contents k) ≡ true → q k ≡ true →
     list_any q (pages_looked_up t contents top number n) ≡ true
