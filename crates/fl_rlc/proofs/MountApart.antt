@@ -54,7 +54,7 @@ rings-bare plan = by-tests (has_index plan) (has_var plan)
 turns-with : (plan : Plan) → has_log plan ≡ true → map (λ (ring : RingName). Of ring) (rings_of plan) ++ (Of LogRing ∷ Replay ∷ []) ≡ turns_of plan
 turns-with plan has = ap (λ (b : Bool). map (λ (ring : RingName). Of ring) (rings_of plan) ++ cond b (Of LogRing ∷ Replay ∷ []) []) (sym has)
 
-fault-beside : (L : Log) (e : PartEnd Table) (fault : FlashFault) (new : FlashState) → FaultEnds e fault new → FaultEnds (end_beside L e) fault new
+pub fault-beside : (L : Log) (e : PartEnd Table) (fault : FlashFault) (new : FlashState) → FaultEnds e fault new → FaultEnds (end_beside L e) fault new
 fault-beside L Whole fault new a = a
 fault-beside L (CutIn b) fault new a = a
 fault-beside L (FailedIn b) fault new a = a

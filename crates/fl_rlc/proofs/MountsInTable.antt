@@ -47,7 +47,7 @@ use Rattle.fl_rlc.proofs.SealsInTable.{shape-is, shape-here, rows-few, next-is, 
 use Rattle.fl_rlc.proofs.States.{state_of, holds-some, IsStateOf, state-is, log-ring-of}
 
 -- a body begins with its number
-body-number : (plan : Plan) (n : ℕ) (rows : List Entry) (body : List ℕ) → body ≡ log_body plan n rows → n < 4294967296 → number_of body ≡ n
+pub body-number : (plan : Plan) (n : ℕ) (rows : List Entry) (body : List ℕ) → body ≡ log_body plan n rows → n < 4294967296 → number_of body ≡ n
 body-number plan n rows body is small = ap number_of is ∙ (from_le_bytes_4 (le 4 n) (length-le 4 n) ∙ number_of-le 4 n small)
 
 -- pages that are all void have any numbers

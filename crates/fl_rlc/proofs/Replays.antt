@@ -43,6 +43,7 @@ use Rattle.fl_rlc.proofs.JoinedRow.{same-pages}
 use Rattle.fl_rlc.proofs.Paid.{logged-tops, sealed-paid}
 use Rattle.fl_rlc.proofs.PutRows.{sealed-none}
 use Rattle.fl_rlc.proofs.PutSteps.{table-bare}
+use Rattle.fl_rlc.proofs.MountApart.{fault-beside}
 
 -- a ring stands for that of each table with the same log, and on each flash on which its pages stand
 pub ring-of : (l : RecordLog) (f g : FlashState) (first : ℕ) (plan : Plan) (a b : Table) → log_of b ≡ log_of a → page_in l g ≡ page_in l f → HasRing l f first plan a → HasRing l g first plan b
@@ -79,11 +80,6 @@ stops-by : (e : PartEnd Table) (now : PartProgress Table) (others : Type 0) (fau
 stops-by Whole now others fault new a = absurd a
 stops-by (CutIn b) now others fault new a = refl
 stops-by (FailedIn b) now others fault new a = refl
-
-fault-beside : (L : Log) (e : PartEnd Table) (fault : FlashFault) (new : FlashState) → FaultEnds e fault new → FaultEnds (end_beside L e) fault new
-fault-beside L Whole fault new a = a
-fault-beside L (CutIn b) fault new a = a
-fault-beside L (FailedIn b) fault new a = a
 
 module _ {KNOTS SLOTS : ℕ} (t : code.Table KNOTS SLOTS) (l : RecordLog) (old : FlashState) (first : ℕ) (plan : Plan) (x : Table) (rose : Bool) (device : Device)
     (s : without_log.Stands t old first (bare plan) (ready (bare plan) (bare_table x))) (none : x.pending ≡ 0) (planned : IsPlanned l (first + blocks_of (bare plan)) plan) where

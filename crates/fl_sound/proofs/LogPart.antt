@@ -36,9 +36,8 @@ use Rattle.fl_rlc.specs.Pages.{log_body, IsLogRing}
 use Rattle.fl_rlc.proofs.Bodies.{rows_of, bodies-at}
 use Rattle.fl_rlc.proofs.NewestRows.{log-page}
 use Rattle.fl_rlc.proofs.States.{state_of, IsStateOf, state-is, holds-some}
-use Rattle.fl_schema.proofs.Numbers.{length-le, number_of-le}
-use Rattle.fl_schema.proofs.References.{from_le_bytes_4}
 use Rattle.fl_parts.proofs.Plain.{least-below}
+use Rattle.fl_rlc.proofs.MountsInTable.{body-number}
 use Rattle.fl_rules.specs.RingRules.{WithinPages, IsAscending}
 use Rattle.fl_check.specs.Whole.{Fits, shape_in, layout_in, IsLogForm, IsLogSound}
 use Rattle.fl_rules.specs.declared.numbering.Numbering.{Numbering}
@@ -91,10 +90,6 @@ pub record LoggedOn (label : Label) (config : TableConfig) (at : RingPlace) (f :
   pub no_var : has_var (plan_of_table label config) ≡ false
   pub facts : IsTable (with_log at.blocks (plan_of_table label config)) table
   pub image : IfSome table.log (λ ring. IsRingImage (shape_of (with_log at.blocks (plan_of_table label config)) LogRing) ring (bytes_of (shape_in config at) (page_at f)) (HoldsLogged (with_log at.blocks (plan_of_table label config)) table ring))
-
--- a body begins with its number
-body-number : (plan : Plan) (n : ℕ) (rows : List Entry) (body : List ℕ) → body ≡ log_body plan n rows → n < 4294967296 → number_of body ≡ n
-body-number plan n rows body is small = ap number_of is ∙ (from_le_bytes_4 (le 4 n) (length-le 4 n) ∙ number_of-le 4 n small)
 
 one-is : (b : Bool) → one b ≡ cond b 1 0
 one-is true = refl
