@@ -17,6 +17,7 @@ use Rattle.fl_schema.specs.declared.schema.KeyWidth.{KeyWidth}
 use Rattle.fl_schema.specs.declared.schema.KeyWidth.TheVariants.{Four, Eight}
 use Rattle.fl_table.specs.Memory.{IsPlanned}
 use Rattle.fl_table.specs.declared.table.Table as memory
+use Rattle.fl_table.proofs.PutAnswers.{and-true}
 use Rattle.fl_cursor.specs.Ascending.{both}
 use Rattle.fl_cursor.specs.Asked.{is_asked}
 use Rattle.fl_cursor.proofs.PassedRows.{each-weaker}
@@ -112,10 +113,6 @@ all-up range span table ascends = by_entries table.entries refl ascends
         (λ e le high. up l.0 e top le high) (h.first_too, h.others)
 
 -- ---- all of them
-
-and-true : (b : Bool) → (b && true) ≡ b
-and-true true = refl
-and-true false = refl
 
 -- a range without an upper end
 pub range-at : (low high key : ℕ) → key ≤ high → in_range (record { low = low; high = high }) key ≡ nat_le low key

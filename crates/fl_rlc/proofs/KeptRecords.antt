@@ -1,6 +1,6 @@
 -- What the log of a mounted table has, as the laws on logs speak of it.
 use Rattle.std.proofs.Common.{◌≡◌, ℕ, zero, suc, ◌+◌, ◌-◌, ◌<◌, ◌≤◌, inl, inr, Bool, true, false, nat_lt, Option, Some, None, IfSome, IsTrue, List, [], ◌∷◌, ◌++◌, length, take, drop, slice_get, refl, sym, ◌∙◌, ap, subst, arith}
-use Rattle.std.specs.List.{AllByRecursion, last_or}
+use Rattle.std.specs.List.{last_or}
 use Rattle.std.specs.Option.{option_map, unwrap_or}
 use Rattle.std.proofs.lemmas.Bool.{lt-ltb}
 use Rattle.std.proofs.lemmas.Option.{none-some}
@@ -13,11 +13,8 @@ use Rattle.fl_model.proofs.Lists.{slice_get-drop, slice_get-front, last_or-get}
 use Rattle.fl_machine.proofs.RecordsChange.{Any, adds-all, sure_in}
 use Rattle.fl_machine.proofs.Logs.{core, log_in, IsFine, IsThere, IsSafePage, AreAbove, ascending-tops, front_of, rest_of}
 use Rattle.fl_machine.proofs.LogTables.{Between, Resting, Pending}
+use Rattle.fl_table.proofs.Entries.{each-from}
 use Rattle.fl_rlc.specs.Logged.{IsKept}
-
-all-at : {X : Type 0} (P : X → Type 0) (xs : List X) → ((i : ℕ) (x : X) → slice_get xs i ≡ Some x → P x) → AllByRecursion P xs
-all-at P [] h = tt
-all-at P (x ∷ xs) h = (h 0 x refl, all-at P xs (λ i y e. h (suc i) y e))
 
 -- where a list ends
 last-at : {X : Type 0} (xs : List X) (w : X) → last_or None xs ≡ Some w → (i : ℕ) × (i < length xs) × (slice_get xs i ≡ Some w)
@@ -35,7 +32,7 @@ above-last others e h = by-last (last_or None others) refl
 pub pending-above : (plan : Plan) (table : Table) → IsTable plan table → AreAbove (front_of (core table)) (rest_of (core table))
 pending-above plan table facts =
     let n = length table.entries - table.pending in
-    all-at (λ e. IsTrue (is_above (take n table.entries) e)) (drop n table.entries)
+    each-from (λ e. IsTrue (is_above (take n table.entries) e)) (drop n table.entries)
     (λ j e at. above-last (take n table.entries) e (λ w last.
     let k = last-at (take n table.entries) w last in
     facts.ascending k.0 (length table.entries - table.pending + j) w e (omega (arith, k.1, length-front n table.entries)) (slice_get-front n table.entries k.0 w k.2) (sym (slice_get-drop n table.entries j) ∙ at)))

@@ -1,25 +1,7 @@
 -- The room that a table with a log takes, whatever the numbers of its knots and slots.
 use Rattle.std.proofs.Common.{ℕ, ◌+◌, ◌*◌, ◌^◌, ◌<◌, ◌≤◌, arith}
 use prog.Memory.{up}
-
--- each part begins where it is aligned
-at-eight : (a : ℕ) {e n : ℕ} → e ≤ n → a + up 8 e ≤ a + 8 + n
-at-eight a le = omega arith
-
-after-eight : (a : ℕ) {e n : ℕ} → e ≤ n → up 8 e + a ≤ n + 8 + a
-after-eight a le = omega arith
-
-after-four : (a : ℕ) {e n : ℕ} → e ≤ n → up 4 e + a ≤ n + 4 + a
-after-four a le = omega arith
-
-at-one : {e n : ℕ} → e ≤ n → up 1 e + 0 ≤ n + 1
-at-one le = omega arith
-
-side-by-side : {d e m n : ℕ} → d ≤ m → e ≤ n → up 8 d + up 8 e ≤ m + n + 16
-side-by-side first second = omega arith
-
-whole : {e n : ℕ} → e ≤ n → n ≤ 2 ^ 62 → up 8 e < 2 ^ 63
-whole le few = omega arith
+use Rattle.fl_table.proofs.Sizes.{side-by-side, at-eight, after-eight, after-four, whole, at-one}
 
 -- what is asked at each call that is given the table with its log
 pub logged-fits : (knots slots : ℕ) → knots ≤ 65536 → slots ≤ 65536 → up 8 (up 8 (0 + up 8 (up 4 (up 8 (up 8 (264 + up 8 (up 8 (8 + up 8 (up 8 (8 + up 8 (up 1 (up 8 (0 + up 8 (0 + knots * 16)) + 8) + 0)) + 48)) + up 8 (16 + up 8 (up 1 (up 8 (0 + up 8 (0 + slots * 8)) + 8) + 0)))) + 120) + 88) + 4)) + 96) < 2 ^ 63

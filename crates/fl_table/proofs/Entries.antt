@@ -71,7 +71,7 @@ first-few t first plan table planned fits n rows =
 abbrev end_of : Entry → ℕ
 end_of entry = cond (blob_len entry.kept == 0) 0 (entry.page + 1)
 
-each-from : {X : Type 0} (P : X → Type 0) (xs : List X) → ((i : ℕ) (x : X) → slice_get xs i ≡ Some x → P x) → AllByRecursion P xs
+pub each-from : {X : Type 0} (P : X → Type 0) (xs : List X) → ((i : ℕ) (x : X) → slice_get xs i ≡ Some x → P x) → AllByRecursion P xs
 each-from P [] h = tt
 each-from P (x ∷ xs) h = (h 0 x refl, each-from P xs (λ i y e. h (suc i) y e))
 

@@ -3,22 +3,22 @@ use Rattle.std.proofs.Common.{ℕ, ◌+◌, ◌*◌, ◌^◌, ◌<◌, ◌≤◌
 use prog.Memory.{up}
 
 -- each part begins where it is aligned
-at-eight : (a : ℕ) {e n : ℕ} → e ≤ n → a + up 8 e ≤ a + 8 + n
+pub at-eight : (a : ℕ) {e n : ℕ} → e ≤ n → a + up 8 e ≤ a + 8 + n
 at-eight a le = omega arith
 
-after-eight : (a : ℕ) {e n : ℕ} → e ≤ n → up 8 e + a ≤ n + 8 + a
+pub after-eight : (a : ℕ) {e n : ℕ} → e ≤ n → up 8 e + a ≤ n + 8 + a
 after-eight a le = omega arith
 
-after-four : (a : ℕ) {e n : ℕ} → e ≤ n → up 4 e + a ≤ n + 4 + a
+pub after-four : (a : ℕ) {e n : ℕ} → e ≤ n → up 4 e + a ≤ n + 4 + a
 after-four a le = omega arith
 
-at-one : {e n : ℕ} → e ≤ n → up 1 e + 0 ≤ n + 1
+pub at-one : {e n : ℕ} → e ≤ n → up 1 e + 0 ≤ n + 1
 at-one le = omega arith
 
-side-by-side : {d e m n : ℕ} → d ≤ m → e ≤ n → up 8 d + up 8 e ≤ m + n + 16
+pub side-by-side : {d e m n : ℕ} → d ≤ m → e ≤ n → up 8 d + up 8 e ≤ m + n + 16
 side-by-side first second = omega arith
 
-whole : {e n : ℕ} → e ≤ n → n ≤ 2 ^ 62 → up 8 e < 2 ^ 63
+pub whole : {e n : ℕ} → e ≤ n → n ≤ 2 ^ 62 → up 8 e < 2 ^ 63
 whole le few = omega arith
 
 -- what is asked at each call that is given the table itself
