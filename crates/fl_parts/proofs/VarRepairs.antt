@@ -97,7 +97,7 @@ erases_done n plan table t ((DataRing, kind) ∷ front) h k = absurd h
 erases_done n plan table t ((IndexRing, kind) ∷ front) h k = absurd h
 erases_done n plan table t ((LogRing, kind) ∷ front) h k = absurd h
 
-voided_number : (n : ℕ) (shape : model.Shape) (o : Option model.Ring) → unwrap_or (option_map (λ ring. ring.torn) o) false ≡ true → IsNumberedTo n o → IsNumberedTo n (option_map (model.sealed shape 0) o)
+pub voided_number : (n : ℕ) (shape : model.Shape) (o : Option model.Ring) → unwrap_or (option_map (λ ring. ring.torn) o) false ≡ true → IsNumberedTo n o → IsNumberedTo n (option_map (model.sealed shape 0) o)
 voided_number n shape None torn h = tt
 voided_number n shape (Some r) torn h =
     let was : r.next + 1 ≤ n = subst (λ b. r.next + (cond b 1 0) ≤ n) torn h in

@@ -141,10 +141,6 @@ pub and-left : (a b : Bool) → (a && b) ≡ true → a ≡ true
 and-left true b e = refl
 and-left false b e = cc
 
-pub and-false : (b : Bool) → (b && false) ≡ false
-and-false true = refl
-and-false false = refl
-
 pub not-both : (b : Bool) → b ≡ true → b ≡ false → ⊥
 not-both true e k = cc
 not-both false e k = cc

@@ -10,6 +10,7 @@ use Rattle.fl_parts.specs.Blobs.{most_pages, MayFill}
 use Rattle.fl_table.specs.Memory as table
 use Rattle.fl_table.specs.Mounting as mounting
 use Rattle.fl_parts.specs.IndexMount.{FewRepairs}
+use Rattle.fl_parts.proofs.PlacedBlobs.{same}
 use Rattle.fl_table.specs.Paged as paged
 use Rattle.fl_table.specs.Paged.{next_page}
 use Rattle.fl_table.specs.declared.table.Table.{Table}
@@ -29,9 +30,6 @@ one-more a b c = omega arith
 
 other-order : (a b c : ℕ) → a + b + c ≤ a + c + b
 other-order a b c = omega arith
-
-same : (n : ℕ) → n ≤ n
-same n = omega arith
 
 nothing-more : (n : ℕ) → n ≤ n + 0
 nothing-more n = omega arith

@@ -18,7 +18,6 @@ use Rattle.fl_model.specs.Ring.{oldest}
 use Rattle.fl_model.specs.Table.{Table, RingName, DataRing, IndexRing, VarRing, shape_of, full_pages, is_torn, is_dirty, seal_page, spent_from, LogRing}
 use Rattle.fl_model.specs.Work.{Kind, Body, Mark, VoidMark, Erase, Device, PartEnd, Whole, CutIn, FailedIn, PartProgress}
 use Rattle.fl_model.specs.Within.{repair_within, effect_within, all_done, TablePerforms, TableUnreads, TableGoesOn, TableMounts, TableMountEnd, TableMounted, TableStopped, TableUnread}
-use Rattle.fl_model.proofs.Sealed.{sealed-next, sealed-torn}
 use Rattle.fl_table.specs.Outcomes.{FaultEnds, MountsBadly, RingsEnd, MountEnds, var_rings}
 use Rattle.fl_parts.specs.Mountable.{BlobsBefore, IsMountable}
 use Rattle.fl_parts.specs.Pages.{RestsToMount, bytes_in}
@@ -30,6 +29,7 @@ use Rattle.fl_parts.proofs.Fronts.{IsNumberedTo, IsFront, front-left, erased-num
 use Rattle.fl_table.proofs.IndexSeals.{IsBeside, indexed-of, beside-facts, holds-beside, holds-indexed}
 use Rattle.fl_parts.proofs.Loose.{IsListed, IsLoose, listed-of, loose-paged, loose-with_index, paged-loose}
 use Rattle.fl_parts.proofs.Plain.{IsPlainTable, table-facts, table-parts, least-below}
+use Rattle.fl_parts.proofs.VarRepairs.{voided_number}
 use Rattle.fl_table.proofs.Repaired.{IsIdle, idle-lost, lost-idle}
 
 -- the repairs of an index ring that are left
@@ -95,12 +95,6 @@ erases_done n plan table t ((IndexRing, VoidMark) ∷ front) h k = absurd h
 erases_done n plan table t ((DataRing, kind) ∷ front) h k = absurd h
 erases_done n plan table t ((VarRing, kind) ∷ front) h k = absurd h
 erases_done n plan table t ((LogRing, kind) ∷ front) h k = absurd h
-
-voided_number : (n : ℕ) (shape : model.Shape) (o : Option model.Ring) → unwrap_or (option_map (λ ring. ring.torn) o) false ≡ true → IsNumberedTo n o → IsNumberedTo n (option_map (model.sealed shape 0) o)
-voided_number n shape None torn h = tt
-voided_number n shape (Some r) torn h =
-    let was : r.next + 1 ≤ n = subst (λ b. r.next + (cond b 1 0) ≤ n) torn h in
-    rw (sealed-torn shape 0 r, sealed-next shape 0 r) (omega (arith, was))
 
 repairs_done : (n : ℕ) (plan : Plan) (table t : Table) (front : List (RingName × Kind)) → AreRepairs front t → IsLeft n plan table t → IsLeft n plan table (all_done (effect_within plan) front t)
 repairs_done n plan table t [] h k = k

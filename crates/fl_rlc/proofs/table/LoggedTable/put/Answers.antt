@@ -20,13 +20,14 @@ use Rattle.fl_table.specs.Memory.{HasRoom}
 use Rattle.fl_rlc.specs.Refusal.{put_refusal, NeedsNoOperation}
 use Rattle.fl_rlc.specs.Rows.{RowEnds, HaveLogged}
 use Rattle.fl_rlc.proofs.PutEnded.{logged-refused, logged-accepted, failed-ends, row-failed, row-done, bare-none, log-none}
-use Rattle.fl_rlc.proofs.PutFrames.{log-self, log-lies, blobs-same, room-same, logged-calm, refused-same, flash-alone, log-outside, some-same, and-left, and-false, not-both}
+use Rattle.fl_rlc.proofs.PutFrames.{log-self, log-lies, blobs-same, room-same, logged-calm, refused-same, flash-alone, log-outside, some-same, and-left, not-both}
 use Rattle.fl_frame.proofs.ReadsInTurn.{no_reads}
 use Rattle.fl_model.specs.Record.{layout_len}
 use Rattle.fl_model.specs.Row.{FitsRow}
 use Rattle.fl_rlc.specs.Memory.{page_len}
 use Rattle.fl_rlc.specs.Table.{is_logged, is_running, is_stopped, rings_in, MayPut}
 use Rattle.fl_ring.proofs.Written.{writes-none}
+use Rattle.fl_parts.proofs.Untouched.{and-false}
 use Rattle.fl_rlc.proofs.Written.{logged-writes, page-logged, table-writes}
 use Rattle.fl_rlc.proofs.Paged.{put-logged}
 use Rattle.fl_rlc.proofs.PowerOff.{idle-put}
