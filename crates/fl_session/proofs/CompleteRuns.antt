@@ -7,8 +7,9 @@ use Rattle.fl_model.specs.Image.{medium_len}
 use Rattle.fl_words.specs.Command.{Command}
 use Rattle.fl_words.specs.Medium.{header}
 use Rattle.fl_machine.specs.Script.{Ready}
+use Rattle.fl_config.specs.Opening.{Differs}
 use Rattle.fl_session.specs.Complete.{IsInPlace, Completes}
-use Rattle.fl_session.specs.Ends.{Told, Ends, IsOwn, IsOther, Differs, RunsAll, IsNew, effects_of, new_content}
+use Rattle.fl_session.specs.Ends.{Told, Ends, IsOwn, IsOther, RunsAll, IsNew, effects_of, new_content}
 use Rattle.fl_session.specs.ScriptEnds.{EndsDone, EndsLine, EndsConfig, EndsOther}
 use Rattle.fl_session.specs.declared.status.Status.{Status}
 use Rattle.fl_session.specs.declared.status.Status.TheVariants.{Done, Usage, Line, ScriptRead, OutWrite, MediaMake, Config as BadConfiguration, OtherConfig, ScriptLong, NoMemory}

@@ -30,10 +30,9 @@ use Rattle.fl_lines.specs.Texts.{is_long, lines_read}
 use Rattle.fl_session.specs.Begin.{BeginsAt}
 use Rattle.fl_session.specs.Opening.{Opened, HalfOpened, Foreign, OpensAs, KeepsForm, MediaGoes}
 use Rattle.fl_session.specs.Pending.{TellsPending, EndsAt}
-use Rattle.fl_session.specs.Ends.{Ends, IsFormed, IsOther, told_of, effects_of, IsEarlyBy, Differs}
+use Rattle.fl_session.specs.Ends.{Ends, IsFormed, IsOther, told_of, effects_of, IsEarlyBy}
 use Rattle.fl_session.specs.ScriptEnds.{unsaid, start_in, ScriptEnds}
 use Rattle.fl_words.specs.Medium.{header}
-use Rattle.fl_config.specs.Opening as opening
 use Rattle.fl_config.specs.Opening.{Opens}
 use Rattle.fl_session.proofs.NextCommand.{nothing-added}
 use Rattle.fl_session.proofs.Ready.{ready-accepted, stands-ready}
@@ -160,9 +159,6 @@ pub make-refused : (config : Config) (old new : MediaState) (refusal : ImageRefu
 make-refused config old new Media h e = h.rose
 make-refused config old new (Other wanted found at) h e = cc
 
-differs : (config : Config) (old : MediaState) (wanted found at : ℕ) → opening.Differs (header config) (take 1024 old.content) at wanted found → Differs (header config) (take 1024 old.content) at wanted found
-differs config old wanted found at h = record { same = h.same; wanted_is = h.wanted_is; found_is = h.found_is; differ = h.differ }
-
 -- an image that was opened, in the words of a run
 pub opens-as : (config : Config) (old : MediaState) (result : Result (Unit {0}) ImageRefusal) (new : MediaState) → Opens (medium_len config) (header config) old result new → OpensAs config old result new
 opens-as config old (Ok done) new (inl h) = record {
@@ -184,7 +180,7 @@ opens-as config old (Ok done) new (inr h) = record {
 opens-as config old (Err Media) new h = record { rose = h.rose; kept = h.same; part = h.part; unread = h.unread; reads = h.reads }
 opens-as config old (Err (Other wanted found at)) new h = record {
   some = h.some;
-  other = elim h.other [ inl k ↦ inl k | inr k ↦ inr (k.0, λ t. differs config old wanted found at (k.1 t)) ];
+  other = h.other;
   kept = h.same;
   reads = h.reads;
 }

@@ -1,5 +1,5 @@
 -- How a run over a script and a medium ends, by its status.
-use Rattle.std.specs.Prelude.{◌≡◌, ℕ, ◌+◌, ◌-◌, ◌≤◌, ◌⊎◌, Option, Some, List, [], ◌∷◌, ◌++◌, length, take, replicate, slice_get}
+use Rattle.std.specs.Prelude.{◌≡◌, ℕ, ◌+◌, ◌-◌, ◌≤◌, ◌⊎◌, Option, Some, List, [], ◌∷◌, ◌++◌, length, take, replicate}
 use Rattle.fl_base.specs.Causes.{Rose, Appends}
 use Rattle.fl_flash.specs.Media.{MediaState}
 use Rattle.fl_model.specs.Record.{Config}
@@ -9,6 +9,7 @@ use Rattle.fl_words.specs.Medium.{header}
 use Rattle.fl_machine.specs.Machine.{Machine}
 use Rattle.fl_machine.specs.Script.{Start, Ready, Unended, BadLine, BadConfig, StandsFor, StandsAfter}
 use Rattle.fl_machine.specs.WholeReads.{RanReading, RanIntoReading}
+use Rattle.fl_config.specs.Opening.{Differs}
 use Rattle.fl_session.specs.Determined.{IsUncut, RanPlainly, RanPlainlyInto}
 use Rattle.fl_session.specs.Pending.{EndsAt}
 use Rattle.fl_session.specs.ScriptEnds.{Effects, EndsWith}
@@ -74,13 +75,6 @@ pub record RunsInto (config : Config) (commands : List Command) (told : Told) : 
       RanIntoReading config old commands (StandsAfter config (Some told.content_now)) (opened config told.content) told.content_now told.faults told.faults_now (told.reads + 1) told.reads_now told.written told.written_now
   pub plain : IsCalm told → (old : Machine) → StandsFor config told.content old → IsUncut config old commands →
       RanPlainlyInto config old commands (opened config told.content) told.content_now told.written told.written_now
-
--- the first place at which two texts differ
-pub record Differs (wanted found : List ℕ) (at a b : ℕ) : Type 0 where
-  pub same : take at wanted ≡ take at found
-  pub wanted_is : slice_get wanted at ≡ Some a
-  pub found_is : slice_get found at ≡ Some b
-  pub differ : a ≡ b → ⊥
 
 -- a medium of another configuration: its length or its header
 abbrev pub IsOther : Config → List ℕ → ℕ → ℕ → ℕ → Type 0

@@ -7,7 +7,8 @@ use Rattle.fl_model.specs.Record.{Config}
 use Rattle.fl_model.specs.Image.{medium_len}
 use Rattle.fl_flash.specs.Media.{MediaState}
 use Rattle.fl_words.specs.Medium.{header}
-use Rattle.fl_session.specs.Ends.{Differs, IsOwn, new_content}
+use Rattle.fl_config.specs.Opening.{Differs}
+use Rattle.fl_session.specs.Ends.{IsOwn, new_content}
 
 -- An empty medium was made, and another is one of the configuration, and was read once at most.
 pub record Opened (config : Config) (old new : MediaState) : Type 0 where

@@ -11,13 +11,14 @@ use Rattle.fl_image.proofs.Made.{makes-of}
 use Rattle.fl_lines.specs.Stream.{LinesState}
 use Rattle.fl_machine.proofs.Accepted.{IsAccepted}
 use Rattle.fl_model.specs.Record.{Config}
-use Rattle.fl_session.specs.Ends.{Differs, Told, IsOther, IsUntouched, told_of}
+use Rattle.fl_session.specs.Ends.{Told, IsOther, IsUntouched, told_of}
 use Rattle.fl_session.specs.Opening.{MediaGoes, OpensAs}
 use Rattle.fl_session.proofs.NextCommand.{nothing-added}
 use Rattle.fl_session.proofs.Over.{foreign-other}
 use Rattle.fl_words.specs.Config.{Lines, whole}
 use Rattle.fl_words.specs.Grammar.{lines_of}
 use Rattle.fl_words.specs.Medium.{header}
+use Rattle.fl_config.specs.Opening.{Differs}
 use Rattle.fl_shell.specs.Ends.{BeginsWith, ShellEnds, Unbegun, UnbegunInto, none_pending}
 use Rattle.fl_shell.specs.Leading.{BeginsAs, Led, LedInto, LeavesOn, others_of}
 use Rattle.fl_shell.specs.Statuses.{opening_status}
