@@ -1,13 +1,10 @@
 -- The answer to a line that is refused.
-use Rattle.std.specs.Prelude.{◌≡◌, ℕ, ◌==◌, false, All, Option, Result, List, ◌++◌, codes}
+use Rattle.std.specs.Prelude.{◌≡◌, ℕ, Option, Result, List, ◌++◌, codes}
 use Rattle.fl_script.specs.Written.{Written}
+use Rattle.fl_lines.specs.Stream.{IsOneLine}
 
 abbrev pub line_of : List ℕ → List ℕ
 line_of words = words ++ codes "\n"
-
--- a line without a newline in it
-abbrev pub IsOneLine : List ℕ → Type 0
-IsOneLine line = All (λ byte. (byte == 10) ≡ false) line
 
 -- one line, which begins with a question mark and a space
 pub record IsRefusal (answer : List ℕ) : Type 0 where

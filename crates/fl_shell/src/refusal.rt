@@ -1,7 +1,8 @@
 // The answer to a line that is no command.
 ghost use Rattle.std.specs.Prelude.{IfOk};
 ghost use Rattle.fl_base.specs.Causes.{HasCause};
-ghost use Rattle.fl_shell.specs.Refusal.{IsOneLine, IsRefusal, Refuses};
+ghost use Rattle.fl_lines.specs.Stream.{IsOneLine};
+ghost use Rattle.fl_shell.specs.Refusal.{IsRefusal, Refuses};
 
 use fl_base::{NoMemory, Sink, SinkFailed};
 use fl_script::write_all;
