@@ -2,7 +2,7 @@
 -- its rows lead to their blobs. And of one that isn't, the first rule that doesn't hold.
 use Rattle.std.specs.Prelude.{◌≡◌, ◌⊎◌, ℕ, ◌+◌, ◌^◌, ◌/◌, ◌<◌, ◌≤◌, Option, Some, None, IfSome, nat_lt, List, length}
 use Rattle.fl_base.specs.declared.types.RingPlace.{RingPlace}
-use Rattle.fl_flash.specs.Flash.{FlashState, pages}
+use Rattle.fl_flash.specs.Flash.{FlashState, pages, page_at}
 use Rattle.fl_index.specs.declared.page.EntryForm.{EntryForm}
 use Rattle.fl_model.specs.Record.{RowLayout}
 use Rattle.fl_plan.specs.declared.table_config.TableConfig.{TableConfig}
@@ -227,3 +227,7 @@ pub record Holds (config : TableConfig) (log : Option RingPlace) (page : ℕ →
 abbrev pub IsFinding : TableConfig → Option RingPlace → (ℕ → List ℕ) → Finding → Type 0
 IsFinding config log page (Sound rows pages voids) = (blob_end : ℕ) × Holds config log page (record { rows = rows; voids = voids; blob_end = blob_end }) pages
 IsFinding config log page (Fault ring p rule) = IsFirstFault config log page ring p rule
+
+-- what is found rightly of a table over a flash
+abbrev pub Finds : TableConfig → Option RingPlace → FlashState → Finding → Type 0
+Finds config log f finding = IsFinding config log (page_at f) finding

@@ -2,26 +2,20 @@
 use Rattle.std.specs.Prelude.{◌≡◌, ℕ, zero, suc, Option, Some, List, [], length}
 use Rattle.fl_base.specs.Causes.{Appends, AppendsFront}
 use Rattle.fl_base.specs.declared.types.Geometry.{Geometry}
-use Rattle.fl_base.specs.declared.types.RingPlace.{RingPlace}
-use Rattle.fl_flash.specs.Flash.{FlashState, page_at}
-use Rattle.fl_plan.specs.declared.table_config.TableConfig.{TableConfig}
+use Rattle.fl_flash.specs.Flash.{page_at}
 use Rattle.fl_words.specs.Config.{Lines}
 use Rattle.fl_image_check.specs.Checking.{IsFound}
 use Rattle.fl_image.specs.Header.{IsAccepted}
 use Rattle.fl_image.specs.Image.{IsImageOf}
 use Rattle.fl_image.specs.declared.status.ToolStatus.{ToolStatus}
 use Rattle.fl_image.specs.declared.status.ToolStatus.TheVariants.{Done, InputRead, OutWrite, InputLong, NoMemory, NotImage, Device, BadImage, NoTable, BadInput, Unsound}
-use Rattle.fl_check.specs.Whole.{IsFinding}
+use Rattle.fl_check.specs.Whole.{Finds}
 use Rattle.fl_check.specs.declared.finding.Finding.{Finding}
 use Rattle.fl_map.specs.declared.drawing.Drawing.{Drawing}
 use Rattle.fl_map.specs.declared.fault.MapFault.{MapFault}
 use Rattle.fl_map.specs.declared.fault.MapFault.TheVariants as fault
 use Rattle.fl_map.specs.Drawn.{Drawn, no_tables, map_text}
 use Rattle.fl_map.specs.Table.{with_table}
-
--- what a check finds of a table
-abbrev pub Finds : TableConfig → Option RingPlace → FlashState → Finding → Type 0
-Finds config log f finding = IsFinding config log (page_at f) finding
 
 -- one table more, the n-th, with what a check finds of it in these bytes
 pub record IsDrawnNext (drawing : Drawing) (lines : Lines) (bytes : List ℕ) (n : ℕ) (before now : Drawn) : Type 0 where

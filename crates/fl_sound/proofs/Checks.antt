@@ -21,10 +21,11 @@ use Rattle.fl_model.proofs.Lists.{slice_get-some, slice_get-short}
 use Rattle.fl_words.specs.Config.{Lines}
 use Rattle.fl_words.specs.Medium.{IsImage, header}
 use Rattle.fl_check.specs.declared.finding.Finding.{Finding}
-use Rattle.fl_sound.specs.Sound.{sound_table, sound_text, Finds, TablesAreSound}
+use Rattle.fl_sound.specs.Sound.{sound_table, sound_text, TablesAreSound}
 use Rattle.fl_sound.specs.Sound as law
 use Rattle.fl_sound.proofs.Fronts.{all-of, report-front, front-nothing, front-all, front-longer}
 use Rattle.fl_image.proofs.Made.{made-by}
+use Rattle.fl_check.specs.Whole.{Finds}
 use Rattle.fl_sound.proofs.Scripts.{made}
 use Rattle.fl_sound.proofs.Whole.{table-sound, image-sound, run-sound, check-sound}
 

@@ -28,13 +28,13 @@ use Rattle.fl_rlc.proofs.Images.{image-rests}
 use Rattle.fl_words.specs.Config.{Lines}
 use Rattle.fl_words.specs.Medium.{IsImage}
 use Rattle.fl_rules.specs.RingRules.{NoRows, OverPages, IsRingSound}
-use Rattle.fl_check.specs.Whole.{OfRing, Fits, shape_in, rows_shape, layout_in, tally_in, IsRowsForm, IsVarForm, IsLogSound, AreRingsSound, IsSound, IsFinding}
+use Rattle.fl_check.specs.Whole.{OfRing, Fits, shape_in, rows_shape, layout_in, tally_in, IsRowsForm, IsVarForm, IsLogSound, AreRingsSound, IsSound, IsFinding, Finds}
 use Rattle.fl_check.specs.declared.finding.Finding.{Finding}
 use Rattle.fl_check.specs.declared.finding.Finding.TheVariants.{Sound}
 use Rattle.fl_rules.specs.declared.numbering.Numbering.{Numbering}
 use Rattle.fl_check.specs.declared.table.TableNumbers.{TableNumbers}
 use Rattle.fl_check.proofs.OneFinding.{one_finding}
-use Rattle.fl_sound.specs.Sound.{sound_table, LiesIn, Finds, FindsAlone}
+use Rattle.fl_sound.specs.Sound.{sound_table, LiesIn, FindsAlone}
 use Rattle.fl_sound.specs.Sound as law
 use Rattle.fl_sound.proofs.DataPart.{StandsOn, counted, rows-of, data-sound}
 use Rattle.fl_sound.proofs.DataPages.{rows-are, voids-are, blobs-are}

@@ -19,7 +19,7 @@ use Rattle.fl_plan.specs.declared.table_config.TableConfig.{TableConfig}
 use Rattle.fl_rlc.specs.Logged.{Rests}
 use Rattle.fl_words.specs.Config.{Lines}
 use Rattle.fl_words.specs.Medium.{IsImage}
-use Rattle.fl_check.specs.Whole.{Fits, LogFits, IsFinding}
+use Rattle.fl_check.specs.Whole.{Fits, LogFits, IsFinding, Finds}
 use Rattle.fl_check.specs.declared.finding.Finding.{Finding}
 use Rattle.fl_check.specs.declared.finding.Finding.TheVariants.{Sound}
 
@@ -61,10 +61,6 @@ pub record LiesIn (config : Config) (bytes : List ℕ) (i : ℕ) (plan : Plan) (
 pub record FindsAlone (config : TableConfig) (log : Option RingPlace) (f : FlashState) (finding : Finding) : Type 0 where
   pub found : IsFinding config log (page_at f) finding
   pub alone : (other : Finding) → IsFinding config log (page_at f) other → other ≡ finding
-
--- what is found rightly of a table over a flash
-abbrev pub Finds : TableConfig → Option RingPlace → FlashState → Finding → Type 0
-Finds config log f finding = IsFinding config log (page_at f) finding
 
 -- the lines of sound tables
 abbrev pub sound_text : Config → List Table → List ℕ
