@@ -17,7 +17,7 @@ use Rattle.fl_table.specs.Look.{last_key_in}
 use Rattle.fl_table.specs.declared.faults.FlushFault.TheVariants as flush
 use Rattle.fl_table.specs.declared.faults.PutRefusal.TheVariants as put
 use Rattle.fl_table.specs.declared.table.Table.{Table}
-use Rattle.fl_ship.specs.Over.{IsGapOver, ShipsFrom, ShipsOnto, ShipsOver, Tells}
+use Rattle.fl_ship.specs.Over.{IsGapOver, ShipsFrom, ShipsOnto, ShipsBetween, Tells}
 use Rattle.fl_ship.specs.Tables.{TellsShipped, mount_status, stop_status}
 use Rattle.fl_ship.specs.declared.fault.ShipFault.TheVariants.{Read, Put, Flush}
 use Rattle.fl_ship.specs.declared.side.Side.TheVariants.{Source, Copy}
@@ -75,21 +75,21 @@ gap-there sources copies at last source copy t here there own h = record {
 
 module _ (count at : ℕ) (sources s_now : List Entry) (f m : FlashState) (outcome : Result (Unit {0}) BadMount) (mounts : MountsOver sources s_now f outcome m) (copies : List Entry) (onto : FlashState) where
   -- a table of the source is refused
-  pub source-refused : (bad : BadMount) → outcome ≡ Err bad → ShipsOver count (mount_status Source bad.fault bad.at) at sources f m copies onto onto
+  pub source-refused : (bad : BadMount) → outcome ≡ Err bad → ShipsBetween count (mount_status Source bad.fault bad.at) at sources f m copies onto onto
   source-refused bad is =
       let status = mount_status Source bad.fault bad.at in
       mounts-alone sources s_now f m outcome mounts (ShipsFrom count status at m copies onto onto) (subst (λ (r : Result (Unit {0}) BadMount). ShipsFrom count status at m copies onto onto r s_now m) (sym is) (refl, refl, refl))
 
   module _ (done : Unit {0}) (is : outcome ≡ Ok done) (c_now : List Entry) (n : FlashState) (c_outcome : Result (Unit {0}) BadMount) (c_mounts : MountsOver copies c_now onto c_outcome n) where
     -- .. or one of the copy
-    pub copy-refused : (bad : BadMount) → c_outcome ≡ Err bad → ShipsOver count (mount_status Copy bad.fault bad.at) at sources f m copies onto n
+    pub copy-refused : (bad : BadMount) → c_outcome ≡ Err bad → ShipsBetween count (mount_status Copy bad.fault bad.at) at sources f m copies onto n
     copy-refused bad c_is =
         let status = mount_status Copy bad.fault bad.at in
         let refused = mounts-alone copies c_now onto n c_outcome c_mounts (ShipsOnto count status at s_now m copies n) (subst (λ (r : Result (Unit {0}) BadMount). ShipsOnto count status at s_now m copies n r c_now n) (sym c_is) (refl, refl)) in
         mounts-alone sources s_now f m outcome mounts (ShipsFrom count status at m copies onto n) (subst (λ (r : Result (Unit {0}) BadMount). ShipsFrom count status at m copies onto n r s_now m) (sym is) (OnlyReads-same m, refused))
 
     -- .. or none
-    pub tables-shipped : (status : ShipStatus) (h k : FlashState) (c_done : Unit {0}) → c_outcome ≡ Ok c_done → Goes onto n → OnlyReads m h → ChangesOwn copies at n k → Tells count at s_now m c_now n k status → ShipsOver count status at sources f h copies onto k
+    pub tables-shipped : (status : ShipStatus) (h k : FlashState) (c_done : Unit {0}) → c_outcome ≡ Ok c_done → Goes onto n → OnlyReads m h → ChangesOwn copies at n k → Tells count at s_now m c_now n k status → ShipsBetween count status at sources f h copies onto k
     tables-shipped status h k c_done c_is goes only own tells =
         let shipped = mounts-work copies c_now onto n k c_outcome c_done c_is c_mounts goes at own (ShipsOnto count status at s_now m copies k) (subst (λ (r : Result (Unit {0}) BadMount). ShipsOnto count status at s_now m copies k r c_now n) (sym c_is) (own, tells)) in
         mounts-read sources s_now f m outcome mounts h only (ShipsFrom count status at h copies onto k) (subst (λ (r : Result (Unit {0}) BadMount). ShipsFrom count status at h copies onto k r s_now m) (sym is) (only, shipped))

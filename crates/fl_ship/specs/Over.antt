@@ -62,8 +62,8 @@ ShipsFrom count status at from_now copies onto onto_now (Ok done) now between =
     OnlyReads between from_now × MountsThen copies onto onto_now (ShipsOnto count status at now between copies onto_now)
 
 -- the tables of both were mounted, the source's first, and records were put into the copy's table at this place
-abbrev pub ShipsOver : ℕ → ShipStatus → ℕ → List Entry → FlashState → FlashState → List Entry → FlashState → FlashState → Type 0
-ShipsOver count status at sources from from_now copies onto onto_now = MountsThen sources from from_now (ShipsFrom count status at from_now copies onto onto_now)
+abbrev pub ShipsBetween : ℕ → ShipStatus → ℕ → List Entry → FlashState → FlashState → List Entry → FlashState → FlashState → Type 0
+ShipsBetween count status at sources from from_now copies onto onto_now = MountsThen sources from from_now (ShipsFrom count status at from_now copies onto onto_now)
 
 -- ---- between two media
 
@@ -88,13 +88,13 @@ pub record ShipOver (name : List ℕ) (count : ℕ) (source source_now copy copy
   pub opened : IsOpened lines looked from × IsOpened lines begun onto
   pub from_now : FlashState
   pub onto_now : FlashState
-  pub ships : ShipsOver count status at sources from from_now copies onto onto_now
+  pub ships : ShipsBetween count status at sources from from_now copies onto onto_now
   -- the bytes before and behind the pages of each flash stand, and no count falls
   pub goes : Goes from from_now × Goes onto onto_now
   pub left : (source_now ≡ from_now.media) × (copy_now ≡ onto_now.media)
 
 -- .. or an empty copy wasn't made whole, and wasn't read, as a mount does first
-pub record IsHalfMade (source source_now copy copy_now : MediaState) (status : ShipStatus) : Type 0 where
+pub record IsMadeInPart (source source_now copy copy_now : MediaState) (status : ShipStatus) : Type 0 where
   pub told : status ≡ Device Copy
   pub empty : copy.content ≡ []
   pub unread : copy_now.reads ≡ copy.reads
@@ -103,4 +103,4 @@ pub record IsHalfMade (source source_now copy copy_now : MediaState) (status : S
 -- .. or both media were only looked at
 abbrev pub ShipJob : List ℕ → ℕ → MediaState → MediaState → MediaState → MediaState → ShipStatus → Type 0
 ShipJob name count source source_now copy copy_now status =
-    (IsEarly status × OnlyLooksAt source source_now × OnlyLooksAt copy copy_now) ⊎ IsHalfMade source source_now copy copy_now status ⊎ ShipOver name count source source_now copy copy_now status
+    (IsEarly status × OnlyLooksAt source source_now × OnlyLooksAt copy copy_now) ⊎ IsMadeInPart source source_now copy copy_now status ⊎ ShipOver name count source source_now copy copy_now status

@@ -23,7 +23,7 @@ ghost use Rattle.fl_store.specs.Tables.{IsNamed, LieOn, TablesStand};
 ghost use Rattle.fl_frame.specs.Causes.{IsUnarmed};
 ghost use Rattle.fl_store.specs.declared.tables.Entry.{Entry};
 ghost use Rattle.fl_ship.specs.Ends.{TablesShip};
-ghost use Rattle.fl_ship.specs.Over.{ShipsOver};
+ghost use Rattle.fl_ship.specs.Over.{ShipsBetween};
 ghost use Rattle.fl_ship.specs.Tables.{HaveOneForm, IsOfTables, ShipLeaves, StopCausedBy, TellsShipped, standing_on, told_of};
 ghost use Rattle.fl_ship.specs.declared.fault.ShipFault.{ShipFault};
 ghost use Rattle.fl_ship.specs.declared.side.Side.{Side};
@@ -144,7 +144,7 @@ pub(crate) fn ship_on<A: Flash, B: Flash, K: Sink>(
     ensures good_copy { (plans : List Plan) (cs : List model.Table) (name : List ℕ) (table : ℕ) → IsTrue (B.state onto.old).media.tells → (B.state onto.old).is_on ≡ true → SameDevice (B.state onto.old) at_rest
         → TablesStand (B.state onto.old) (λ i. false) plans copies.old.entries.items cs → IsNamed copies.old.entries.items name at → result ≡ ShipStatus.BadImage Side.Copy table → ⊥ }
     // Whatever bytes both hold, and whether they are told.
-    ensures over { ShipsOver count result at sources.old.entries.items (A.state from.old) (A.state from.new) copies.old.entries.items (B.state onto.old) (B.state onto.new) }
+    ensures over { ShipsBetween count result at sources.old.entries.items (A.state from.old) (A.state from.new) copies.old.entries.items (B.state onto.old) (B.state onto.new) }
     ensures statuses { IsOfTables result }
     ensures device { result ≡ ShipStatus.Device Side.Source → Rose (A.state from.old).media.faults (A.state from.new).media.faults }
     ensures copy_device { result ≡ ShipStatus.Device Side.Copy → Rose (B.state onto.old).media.faults (B.state onto.new).media.faults }
