@@ -9,7 +9,7 @@ use Rattle.fl_rules.specs.Claims.{AllBelow}
 use Rattle.fl_rules.specs.ContentPage.{IsContentPage}
 use Rattle.fl_frame.specs.Reads.{OnlyLooks}
 use Rattle.fl_rules.specs.Reaches.{AreReaches, HasContent, AreMeasured}
-use Rattle.fl_rules.specs.References.{HasRows, PageLeads, ReferencesBreak}
+use Rattle.fl_rules.specs.References.{HasKeptRows, PageLeads, ReferencesBreak}
 use Rattle.fl_rules.specs.Rising.{HaveRows}
 use Rattle.fl_rules.specs.RingRules.{NoRows, IsRingSound}
 use Rattle.fl_check.specs.Whole.{Fits, shape_in, rows_shape, layout_in, index_end, tally_in, AreRingsSound, AreEntriesSound, AreReferencesSound, IsFirstFault}
@@ -35,9 +35,9 @@ module _ (rows : Marks) (var : Numbering) (broken : Option ℕ) where
 
   pub misled_told : (config : TableConfig) (f mid : FlashState) (place : RingPlace) (layout : RowLayout) (d r : Shape) (listed : List ℕ) → OnlyLooks f mid → layout ≡ layout_in config → d ≡ rows_shape config
       → r ≡ shape_in config place → (IsTrue f.media.tells → AreReaches (page_at f) r var.marks.at var.marks.kept listed)
-      → (IsTrue mid.media.tells → AllBelow (HasRows layout (page_at mid) d rows) rows.kept → AreMeasured (page_at mid) r var.marks.at var.marks.kept listed
+      → (IsTrue mid.media.tells → AllBelow (HasKeptRows layout (page_at mid) d rows) rows.kept → AreMeasured (page_at mid) r var.marks.at var.marks.kept listed
       → IfNone broken (AllBelow (PageLeads layout (page_at mid) d rows r var) rows.kept))
-      → (IsTrue mid.media.tells → AllBelow (HasRows layout (page_at mid) d rows) rows.kept → AreMeasured (page_at mid) r var.marks.at var.marks.kept listed
+      → (IsTrue mid.media.tells → AllBelow (HasKeptRows layout (page_at mid) d rows) rows.kept → AreMeasured (page_at mid) r var.marks.at var.marks.kept listed
       → IfSome broken (ReferencesBreak layout (page_at mid) d rows r var))
       → IsTrue f.media.tells → MisledTold (layout_in config) (page_at f) (rows_shape config) (shape_in config place)
   misled_told config f mid place layout d r listed looks layout_is d_is r_is reaches none some told =

@@ -181,7 +181,7 @@ module _ (config : TableConfig) (log : Option RingPlace) (page : ℕ → List �
   ring_may : (Form : ℕ → List ℕ → Type 0) (order : KeyOrder) (at_least : ℕ) (Told : RingPlace → RingFaults → Option Numbering → Type 0) (o : Option RingPlace) (faults : RingFaults) (told : Option Numbering)
       (name : RingName) (Is : Finding → Type 0)
       → ((place : RingPlace) → o ≡ Some place → Told place faults told → FirstOf (IsSoundBy Form order page (shape_in config place) at_least told) Is (ring_faults name faults) (is_clear faults))
-      → all.OfRing Told o faults told
+      → all.OfToldRing Told o faults told
       → FirstOf (OfRing (λ place n. IsRingSound Form order page (shape_in config place) at_least n) o told) Is (ring_faults name faults) (is_clear faults)
   ring_may Form order at_least Told None faults told name Is first none = inl (record {
     none = ap (ring_faults name) none.0;
@@ -240,7 +240,7 @@ module _ (config : TableConfig) (log : Option RingPlace) (page : ℕ → List �
         (λ place faults told. RingTold IsVarForm page (shape_in config place) (tally_in config page two.1.n).blob_end faults told) config.var faults.var a.var named.Var Is
         (λ place is. ring_first IsVarForm page (shape_in config place) (tally_in config page two.1.n).blob_end faults.var a.var named.Var Is
         (λ rule p breaks. record { index = a.index; rows = two.1.n; index_sound = two.0; rows_sound = two.1.sound; breaks = record { place = place; is = is; breaks = breaks } }))
-        (subst (λ (x : Option Numbering). all.OfRing (λ place faults told. RingTold IsVarForm page (shape_in config place) (all.tally_told config page x).blob_end faults told) config.var faults.var a.var) two.1.is a.in_var))
+        (subst (λ (x : Option Numbering). all.OfToldRing (λ place faults told. RingTold IsVarForm page (shape_in config place) (all.tally_told config page x).blob_end faults told) config.var faults.var a.var) two.1.is a.in_var))
       where
         by : FirstOf (OfRing (λ place n. IsRingSound IsVarForm NoRows page (shape_in config place) (tally_in config page two.1.n).blob_end n) config.var a.var) Is (ring_faults named.Var faults.var) (is_clear faults.var)
             → FirstOf Var Is (ring_faults named.Var faults.var) (is_clear faults.var)

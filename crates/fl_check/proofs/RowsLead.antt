@@ -15,7 +15,7 @@ use Rattle.fl_ring.specs.Newest.{commits}
 use Rattle.fl_ring.specs.Ring.{Shape}
 use Rattle.fl_rules.specs.Claims.{AllBelow}
 use Rattle.fl_rules.specs.Marks.{kept_page}
-use Rattle.fl_rules.specs.References.{Leads, BlobLeads, RowLeads, RowsLead, HasRows, PageLeads, ReferencesBreak}
+use Rattle.fl_rules.specs.References.{Leads, BlobLeads, RowLeads, RowsLead, HasKeptRows, PageLeads, ReferencesBreak}
 use Rattle.fl_rules.specs.declared.marks.Marks.{Marks}
 use Rattle.fl_rules.specs.declared.numbering.Numbering.{Numbering}
 
@@ -81,7 +81,7 @@ module _ (page : ℕ → List ℕ) (layout : RowLayout) (d : Shape) (m : Marks) 
     is = place_is;
   }
 
-  pub page_next : (commits (state_of_page bytes) ≡ true → IsGoodPage layout (page_number bytes) bytes → RowsLead page r n (rows_in layout bytes)) → AllBelow (HasRows layout page d m) m.kept
+  pub page_next : (commits (state_of_page bytes) ≡ true → IsGoodPage layout (page_number bytes) bytes → RowsLead page r n (rows_in layout bytes)) → AllBelow (HasKeptRows layout page d m) m.kept
       → AllBelow (PageLeads layout page d m r n) i → AllBelow (PageLeads layout page d m r n) (i + 1)
   page_next there forms before j le = elim (cases_eq j i) [
     | inl same ↦

@@ -10,7 +10,7 @@ use Rattle.fl_check.specs.Faults.{with_keys, are_clear, table_faults}
 use Rattle.fl_rules.specs.RingRules.{OverPages}
 use Rattle.fl_rules.specs.Rising.{HaveRows, KeysAscend, KeysBreak}
 use Rattle.fl_check.specs.Ruled.{HeadTold, RingTold, KeysTold}
-use Rattle.fl_check.specs.Rules.{OfRing, BlobsTold, HaveContent, AreTold, AreRules, in_order, rules_of, tally_told, kept_in}
+use Rattle.fl_check.specs.Rules.{OfToldRing, BlobsTold, HaveContent, AreTold, AreRules, in_order, rules_of, tally_told, kept_in}
 use Rattle.fl_check.specs.Whole.{Fits, IfWithin, shape_in, rows_shape, layout_in, IsRowsForm, IsVarForm, IsFinding}
 use Rattle.fl_check.specs.declared.faults.RingFaults.{RingFaults}
 use Rattle.fl_check.specs.declared.faults.TableFaults.{TableFaults}
@@ -24,7 +24,7 @@ use Rattle.fl_check.proofs.RulesTold.{legible}
 -- ---- of a ring that a table may not have
 
 pub at_place : (Told : RingPlace → RingFaults → Option Numbering → Type 0) (o : Option RingPlace) (place : RingPlace) (faults : RingFaults) (told : Option Numbering) → o ≡ Some place → Told place faults told
-    → OfRing Told o faults told
+    → OfToldRing Told o faults told
 at_place Told o place faults told e is = rw e is
 
 -- ---- the keys of a data ring
@@ -53,7 +53,7 @@ rows_told config f at_least faults (Some n) fits ring =
     rows_there config f at_least n fits known.numbers known.bodies
 
 pub content_told : (config : TableConfig) (f : FlashState) (at_least : ℕ) (o : Option RingPlace) (faults : RingFaults) (told : Option Numbering) → Fits config f
-    → OfRing (λ place faults told. RingTold IsVarForm (page_at f) (shape_in config place) at_least faults told) o faults told → HaveContent config (page_at f) o told
+    → OfToldRing (λ place faults told. RingTold IsVarForm (page_at f) (shape_in config place) at_least faults told) o faults told → HaveContent config (page_at f) o told
 content_told config f at_least None faults told fits ring = tt
 content_told config f at_least (Some place) faults None fits ring = tt
 content_told config f at_least (Some place) faults (Some n) fits ring =

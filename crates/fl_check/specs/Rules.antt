@@ -21,9 +21,9 @@ use Rattle.fl_rules.specs.declared.numbering.Numbering.{Numbering}
 use Rattle.fl_rules.specs.declared.tally.Tally.{Tally}
 
 -- of a ring that a table may not have
-abbrev pub OfRing : (RingPlace → RingFaults → Option Numbering → Type 0) → Option RingPlace → RingFaults → Option Numbering → Type 0
-OfRing Told None faults told = (faults ≡ no_faults) × (told ≡ None)
-OfRing Told (Some place) faults told = Told place faults told
+abbrev pub OfToldRing : (RingPlace → RingFaults → Option Numbering → Type 0) → Option RingPlace → RingFaults → Option Numbering → Type 0
+OfToldRing Told None faults told = (faults ≡ no_faults) × (told ≡ None)
+OfToldRing Told (Some place) faults told = Told place faults told
 
 -- what the data pages tell, where they tell their marks and numbers
 abbrev pub tally_told : TableConfig → (ℕ → List ℕ) → Option Numbering → Tally
@@ -72,10 +72,10 @@ pub record AreTold (config : TableConfig) (log : Option RingPlace) (page : ℕ �
   pub rows : Option Numbering
   pub var : Option Numbering
   pub logged : Option Numbering
-  pub in_index : OfRing (λ place faults told. RingTold (IsIndexForm config) page (shape_in config place) 0 faults told) config.index faults.index index
+  pub in_index : OfToldRing (λ place faults told. RingTold (IsIndexForm config) page (shape_in config place) 0 faults told) config.index faults.index index
   pub in_rows : RowsTold (IsRowsForm config) (OverPages (layout_in config)) page (rows_shape config) (index_end config page index) faults.rows rows
-  pub in_var : OfRing (λ place faults told. RingTold IsVarForm page (shape_in config place) (tally_told config page rows).blob_end faults told) config.var faults.var var
-  pub in_log : OfRing (λ place faults told. RowsTold (IsLogForm config) (WithinPages (layout_in config)) page (shape_in config place) 0 faults told) log faults.log logged
+  pub in_var : OfToldRing (λ place faults told. RingTold IsVarForm page (shape_in config place) (tally_told config page rows).blob_end faults told) config.var faults.var var
+  pub in_log : OfToldRing (λ place faults told. RowsTold (IsLogForm config) (WithinPages (layout_in config)) page (shape_in config place) 0 faults told) log faults.log logged
   pub entry : EntriesTold config page config.index index (in_order faults.rows.state rows) faults.entry
   pub blob : BlobsTold config page config.var (in_order faults.var.state var) (in_order faults.rows.state rows) faults.blob
 

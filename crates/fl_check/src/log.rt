@@ -10,7 +10,7 @@ ghost use Rattle.fl_check.specs.Looks.{IfFailed, IfFound};
 ghost use Rattle.fl_rules.specs.Marks.{AreWithin};
 ghost use Rattle.fl_rules.specs.RingRules.{WithinPages};
 ghost use Rattle.fl_check.specs.Ruled.{KeysTold, RowsTold};
-ghost use Rattle.fl_check.specs.Rules.{OfRing};
+ghost use Rattle.fl_check.specs.Rules.{OfToldRing};
 ghost use Rattle.fl_check.specs.Whole.{Fits, LogFits, shape_in, layout_in, IsLogForm, IsLogSound, BreaksLogRing};
 ghost use Rattle.fl_check.specs.declared.finding.RingName.{RingName};
 
@@ -110,7 +110,7 @@ impl Checked<'_> {
         ensures looks { OnlyLooks (F.state flash.old) (F.state flash.new) }
         ensures room { length buf.new.bytes ≡ self.now.config.now.geometry.page }
         ensures rules { IfOk result (λ told. IsTrue (F.state flash.old).media.tells
-            → OfRing (λ place faults n. RowsTold (IsLogForm self.now.config.now) (WithinPages (layout_in self.now.config.now)) (page_at (F.state flash.old)) (shape_in self.now.config.now place) 0 faults n)
+            → OfToldRing (λ place faults n. RowsTold (IsLogForm self.now.config.now) (WithinPages (layout_in self.now.config.now)) (page_at (F.state flash.old)) (shape_in self.now.config.now place) 0 faults n)
             self.now.log told.faults told.numbering) }
         ensures fails { IfErr result (λ e. ReadFails (F.state flash.old) e (F.state flash.new)) }
     {

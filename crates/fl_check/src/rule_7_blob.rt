@@ -11,7 +11,7 @@ ghost use Rattle.fl_schema.specs.Schema.{layout_of};
 ghost use Rattle.fl_rules.specs.Claims.{AllBelow};
 ghost use Rattle.fl_rules.specs.Marks.{AreWithin};
 ghost use Rattle.fl_rules.specs.Reaches.{AreMeasured};
-ghost use Rattle.fl_rules.specs.References.{content_room, Leads, BlobLeads, RowsLead, HasRows, PageLeads, ReferencesBreak};
+ghost use Rattle.fl_rules.specs.References.{content_room, Leads, BlobLeads, RowsLead, HasKeptRows, PageLeads, ReferencesBreak};
 
 use fl_base::{BlobRef, get_u32};
 use fl_flash::{Flash, FlashFault, PageBuf};
@@ -122,10 +122,10 @@ pub(crate) fn find_misleading<F: Flash, const COLS: usize>(
     requires within { AreWithin (shape_of ring.now) m }
     ensures reads { OnlyReads (F.state flash.old) m.kept (F.state flash.new) }
     ensures room { length buf.new.bytes ≡ (shape_of ring.now).size }
-    ensures none { IfOk result (λ o. IsTrue (F.state flash.old).media.tells → AllBelow (HasRows (layout_of schema.now) (page_at (F.state flash.old)) (shape_of ring.now) m) m.kept
+    ensures none { IfOk result (λ o. IsTrue (F.state flash.old).media.tells → AllBelow (HasKeptRows (layout_of schema.now) (page_at (F.state flash.old)) (shape_of ring.now) m) m.kept
         → AreMeasured (page_at (F.state flash.old)) (shape_of blobs.now.ring.now) blobs.now.numbering.marks.at blobs.now.numbering.marks.kept blobs.now.reaches.now
         → IfNone o (AllBelow (PageLeads (layout_of schema.now) (page_at (F.state flash.old)) (shape_of ring.now) m (shape_of blobs.now.ring.now) blobs.now.numbering) m.kept)) }
-    ensures some { IfOk result (λ o. IsTrue (F.state flash.old).media.tells → AllBelow (HasRows (layout_of schema.now) (page_at (F.state flash.old)) (shape_of ring.now) m) m.kept
+    ensures some { IfOk result (λ o. IsTrue (F.state flash.old).media.tells → AllBelow (HasKeptRows (layout_of schema.now) (page_at (F.state flash.old)) (shape_of ring.now) m) m.kept
         → AreMeasured (page_at (F.state flash.old)) (shape_of blobs.now.ring.now) blobs.now.numbering.marks.at blobs.now.numbering.marks.kept blobs.now.reaches.now
         → IfSome o (ReferencesBreak (layout_of schema.now) (page_at (F.state flash.old)) (shape_of ring.now) m (shape_of blobs.now.ring.now) blobs.now.numbering)) }
     ensures fails { IfErr result (λ e. ReadFails (F.state flash.old) e (F.state flash.new)) }

@@ -12,7 +12,7 @@ ghost use Rattle.fl_rules.specs.Marks.{AreWithin};
 ghost use Rattle.fl_rules.specs.Rising.{HaveRows};
 ghost use Rattle.fl_rules.specs.RingRules.{OverPages};
 ghost use Rattle.fl_check.specs.Ruled.{RingTold, KeysTold, RowsTold};
-ghost use Rattle.fl_check.specs.Rules.{OfRing, tally_told, rules_of, HaveContent, EntriesTold, BlobsTold, AreRules};
+ghost use Rattle.fl_check.specs.Rules.{OfToldRing, tally_told, rules_of, HaveContent, EntriesTold, BlobsTold, AreRules};
 ghost use Rattle.fl_check.specs.Whole.{Fits, LogFits, IfWithin, shape_in, rows_shape, layout_in, IsIndexForm, IsRowsForm, IsVarForm};
 
 use crate::faults::{TableFaults, TableRules};
@@ -36,7 +36,7 @@ impl Checked<'_> {
         ensures room { length buf.new.bytes ≡ self.now.config.now.geometry.page }
         ensures within { IfOk result (λ told. IfWithin self.now.config.now self.now.config.now.index told.numbering) }
         ensures rules { IfOk result (λ told. IsTrue (F.state flash.old).media.tells
-            → OfRing (λ place faults n. RingTold (IsIndexForm self.now.config.now) (page_at (F.state flash.old)) (shape_in self.now.config.now place) 0 faults n)
+            → OfToldRing (λ place faults n. RingTold (IsIndexForm self.now.config.now) (page_at (F.state flash.old)) (shape_in self.now.config.now place) 0 faults n)
             self.now.config.now.index told.faults told.numbering) }
         ensures fails { IfErr result (λ e. ReadFails (F.state flash.old) e (F.state flash.new)) }
         ensures off { IsTrue (is_some self.now.config.now.index) → OffFails FlashFault.PowerLost (F.state flash.old) result (F.state flash.new) }
@@ -143,7 +143,7 @@ impl Checked<'_> {
         ensures room { length buf.new.bytes ≡ self.now.config.now.geometry.page }
         ensures within { IfOk result (λ told. IfWithin self.now.config.now self.now.config.now.var told.numbering) }
         ensures rules { IfOk result (λ told. IsTrue (F.state flash.old).media.tells
-            → OfRing (λ place faults n. RingTold IsVarForm (page_at (F.state flash.old)) (shape_in self.now.config.now place) at_least faults n)
+            → OfToldRing (λ place faults n. RingTold IsVarForm (page_at (F.state flash.old)) (shape_in self.now.config.now place) at_least faults n)
             self.now.config.now.var told.faults told.numbering) }
         ensures fails { IfErr result (λ e. ReadFails (F.state flash.old) e (F.state flash.new)) }
     {

@@ -70,8 +70,8 @@ RowsLead page r n rows = AllBelow (RowLeads page r n rows) (length rows)
 -- ---- the data pages
 
 -- the i-th kept data page, where it is committed, has from one row on as many as it has room for
-abbrev pub HasRows : RowLayout → (ℕ → List ℕ) → Shape → Marks → ℕ → Type 0
-HasRows layout page d m i =
+abbrev pub HasKeptRows : RowLayout → (ℕ → List ℕ) → Shape → Marks → ℕ → Type 0
+HasKeptRows layout page d m i =
     let bytes = page (kept_page d m i) in commits (state_of_page bytes) ≡ true → IsGoodPage layout (page_number bytes) bytes
 
 -- .. its rows lead to their blobs

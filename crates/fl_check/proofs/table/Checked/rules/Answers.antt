@@ -8,7 +8,7 @@ use Rattle.fl_rules.specs.Marks.{AreWithin}
 use Rattle.fl_rules.specs.Rising.{HaveRows}
 use Rattle.fl_rules.specs.RingRules.{OverPages, WithinPages}
 use Rattle.fl_check.specs.Ruled.{RingTold, RowsTold}
-use Rattle.fl_check.specs.Rules.{OfRing, EntriesTold, BlobsTold, HaveContent, AreTold, in_order, tally_told}
+use Rattle.fl_check.specs.Rules.{OfToldRing, EntriesTold, BlobsTold, HaveContent, AreTold, in_order, tally_told}
 use Rattle.fl_check.specs.Whole.{IfWithin, shape_in, rows_shape, layout_in, index_end, IsRowsForm}
 use Rattle.fl_check.specs.declared.faults.TableFaults.{TableFaults}
 use Rattle.fl_rules.specs.declared.numbering.Numbering.{Numbering}
@@ -77,9 +77,9 @@ returns-clause-rules g c = λ told.
     let tally_is : tally ≡ tally_told config (page_at f0) rows.numbering =
     seen f0 f3 (λ page. IfSome rows.numbering (λ n. HaveRows (layout_in config) page (rows_shape config) n.marks) → tally ≡ tally_told config page rows.numbering) to3 c.in_ok-tally.ensures.tally told have in
     let least : tally.blob_end ≡ (tally_told config (page_at f0) rows.numbering).blob_end = ap (λ (x : Tally). x.blob_end) tally_is in
-    let in_var : OfRing (λ place faults n. RingTold (λ number bytes. IsContentPage number bytes) (page_at f0) (shape_in config place) (tally_told config (page_at f0) rows.numbering).blob_end faults n) config.var var.faults var.numbering =
-    subst (λ (k : ℕ). OfRing (λ place faults n. RingTold (λ number bytes. IsContentPage number bytes) (page_at f0) (shape_in config place) k faults n) config.var var.faults var.numbering) least
-    (seen f0 f4 (λ page. OfRing (λ place faults n. RingTold (λ number bytes. IsContentPage number bytes) page (shape_in config place) tally.blob_end faults n) config.var var.faults var.numbering) to4
+    let in_var : OfToldRing (λ place faults n. RingTold (λ number bytes. IsContentPage number bytes) (page_at f0) (shape_in config place) (tally_told config (page_at f0) rows.numbering).blob_end faults n) config.var var.faults var.numbering =
+    subst (λ (k : ℕ). OfToldRing (λ place faults n. RingTold (λ number bytes. IsContentPage number bytes) (page_at f0) (shape_in config place) k faults n) config.var var.faults var.numbering) least
+    (seen f0 f4 (λ page. OfToldRing (λ place faults n. RingTold (λ number bytes. IsContentPage number bytes) page (shape_in config place) tally.blob_end faults n) config.var var.faults var.numbering) to4
     c.in_ok-var.ensures.rules told) in
     let content = content_told config f0 (tally_told config (page_at f0) rows.numbering).blob_end config.var var.faults var.numbering c.requires.fits in_var in
     let faults : TableFaults = record { index = index.faults; rows = rows.faults; var = var.faults; log = log.faults; entry = entry; blob = blob } in
@@ -92,7 +92,7 @@ returns-clause-rules g c = λ told.
       in_rows = in_rows;
       in_var = in_var;
       in_log = seen f0 f5
-          (λ page. OfRing (λ place faults n. RowsTold (λ number bytes. IsDataPage (layout_in config) None number bytes) (WithinPages (layout_in config)) page (shape_in config place) 0 faults n) place log.faults log.numbering) to5
+          (λ page. OfToldRing (λ place faults n. RowsTold (λ number bytes. IsDataPage (layout_in config) None number bytes) (WithinPages (layout_in config)) page (shape_in config place) 0 faults n) place log.faults log.numbering) to5
           c.in_ok-log.ensures.rules told;
       entry = subst (λ (x : Option Numbering). EntriesTold config (page_at f0) config.index index.numbering x entry) c.in_order-listed.ensures
           (seen f0 f6 (λ page. EntriesTold config page config.index index.numbering listed entry) to6 c.in_ok-entry.ensures.entries told);
