@@ -26,7 +26,7 @@ use Rattle.fl_parts.specs.MountLimits.{IsVarLimited}
 use Rattle.fl_table.proofs.MountLimits.{data-keeps, mount-repaired}
 use Rattle.fl_table.specs.Outcomes.{DataWell, DataEnds, FaultEnds, MountsBadly, RingsEnd, mounted_of, var_rings}
 use Rattle.fl_parts.specs.Pages.{HoldsTable, Rests}
-use Rattle.fl_table.specs.Standing.{IsLoaded, Stands}
+use Rattle.fl_table.specs.Standing.{StandsAsTold, Stands}
 use Rattle.fl_parts.specs.declared.mount_fault.MountFault.{MountFault}
 use Rattle.fl_parts.specs.declared.mount_fault.MountFault.TheVariants as mount
 use Rattle.fl_table.specs.declared.mount.FoundRows.{FoundRows}
@@ -367,13 +367,13 @@ module _ {KNOTS SLOTS : ℕ} (t : code.Table KNOTS SLOTS) (mid new : FlashState)
 
 -- the table that was started
 pub mounted-ends : {KNOTS SLOTS : ℕ} (t t' : code.Table KNOTS SLOTS) (new : FlashState) (first : ℕ) (plan : Plan) (table was : Table) (rose : Bool) (device : Device) (found : FoundRows) (left : Option VarData) → (h : IsMountedAll (IsSettled plan table) t first plan table was rose device left new) →
-    found.mounted ≡ mounted_of (ready plan was) → t'.blobs ≡ left → IsLoaded t' new first plan (with_var (ready plan was) h.ring h.content h.bytes) → RingsEnd first plan (DataRing ∷ var_rings plan) table rose device (Ok found.mounted) t' new
+    found.mounted ≡ mounted_of (ready plan was) → t'.blobs ≡ left → StandsAsTold t' new first plan (with_var (ready plan was) h.ring h.content h.bytes) → RingsEnd first plan (DataRing ∷ var_rings plan) table rose device (Ok found.mounted) t' new
 mounted-ends t t' new first plan table was rose device found left h answer here loaded = record {
   now = h.now;
   did = h.did;
   counts = h.counts;
   power = h.power;
-  loaded = subst (λ (x : Table). IsLoaded t' new first plan (ready plan x)) (sym h.is) loaded;
+  loaded = subst (λ (x : Table). StandsAsTold t' new first plan (ready plan x)) (sym h.is) loaded;
   stands = λ settled. subst (λ (x : Table). Stands t' new first plan (ready plan x)) (sym h.is) (stands settled);
   answer = subst (λ (x : Table). found.mounted ≡ mounted_of (ready plan x)) (sym h.is) answer;
 }

@@ -26,7 +26,7 @@ use Rattle.fl_parts.specs.Bitmaps.{Stand}
 use Rattle.fl_table.specs.Memory.{IsPlanned, HoldsInMemory}
 use Rattle.fl_parts.specs.Mountable.{IsPaged, BlobsBefore}
 use Rattle.fl_parts.specs.Pages.{HoldsTable, KeptStand, Rests}
-use Rattle.fl_table.specs.Standing.{IsLoaded, Stands}
+use Rattle.fl_table.specs.Standing.{StandsAsTold, Stands}
 
 -- how the seals of these rings may go, one after another
 abbrev pub BySeals : Plan → List RingName → model.Table → Bool → Device → PartProgress model.Table → Type 0
@@ -102,7 +102,7 @@ pub record MountsWell {KNOTS SLOTS : ℕ} (first : ℕ) (plan : Plan) (rings : L
   pub did : TableMounts plan rose (map (λ ring. Of ring) rings) device table (TableMounted now)
   pub counts : SameDevice new now.device
   pub power : new.is_on ≡ true
-  pub loaded : IsLoaded t new first plan (ready plan now.state)
+  pub loaded : StandsAsTold t new first plan (ready plan now.state)
   pub stands : IsSettled plan table → Stands t new first plan (ready plan now.state)
   pub answer : mounted ≡ mounted_of (ready plan now.state)
 

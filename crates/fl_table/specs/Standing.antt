@@ -16,7 +16,7 @@ use Rattle.fl_table.specs.Memory.{InMemory, IsPlanned}
 
 -- A table as a mount leaves it, whose numbers fit, but may be spent, and of which a blob may begin on a void page: what it has in memory
 -- is what its pages tell.
-pub record IsLoaded {KNOTS SLOTS : ℕ} (t : Table KNOTS SLOTS) (f : FlashState) (first : ℕ) (plan : Plan) (table : model.Table) : Type 0 where
+pub record StandsAsTold {KNOTS SLOTS : ℕ} (t : Table KNOTS SLOTS) (f : FlashState) (first : ℕ) (plan : Plan) (table : model.Table) : Type 0 where
   pub planned : IsPlanned t first plan
   pub paged : IsPaged plan table
   -- no row is pending, and no byte of a blob waits
