@@ -8,8 +8,9 @@ use Rattle.fl_words.specs.Command.{Command}
 use Rattle.fl_words.specs.Medium.{header}
 use Rattle.fl_machine.specs.Script.{Ready}
 use Rattle.fl_config.specs.Opening.{Differs}
+use Rattle.fl_store.specs.Laws.{new_image}
 use Rattle.fl_session.specs.Complete.{IsInPlace, Completes}
-use Rattle.fl_session.specs.Ends.{Told, Ends, IsOwn, IsOther, RunsAll, IsNew, effects_of, new_content}
+use Rattle.fl_session.specs.Ends.{Told, Ends, IsOwn, IsOther, RunsAll, IsNew, effects_of}
 use Rattle.fl_session.specs.ScriptEnds.{EndsDone, EndsLine, EndsConfig, EndsOther}
 use Rattle.fl_session.specs.declared.status.Status.{Status}
 use Rattle.fl_session.specs.declared.status.Status.TheVariants.{Done, Usage, Line, ScriptRead, OutWrite, MediaMake, Config as BadConfiguration, OtherConfig, ScriptLong, NoMemory}
@@ -28,7 +29,7 @@ own-other config content wanted found at (inr own) h = by_kind h.1
 -- ---- each status
 
 new-unbegun : (config : Config) (n : ℕ) (lines : List (List ℕ)) (told : Told) → (told.content_now ≡ told.content) ⊎ IsNew (Ready config n lines) told →
-    (told.content_now ≡ told.content) ⊎ ((told.content ≡ []) × (told.content_now ≡ new_content config))
+    (told.content_now ≡ told.content) ⊎ ((told.content ≡ []) × (told.content_now ≡ new_image config))
 new-unbegun config n lines told (inl e) = inl e
 new-unbegun config n lines told (inr e) = inr e
 

@@ -19,7 +19,8 @@ use Rattle.fl_store.proofs.NewImages.{sized-image}
 use Rattle.fl_store.proofs.Unmounted.{off}
 use Rattle.fl_store.specs.Store.{at_rest, Holds}
 use Rattle.fl_store.specs.declared.tables.Entry.{Entry}
-use Rattle.fl_session.specs.Ends.{IsOwn, IsFormed, new_content, opened}
+use Rattle.fl_store.specs.Laws.{new_image, made_image}
+use Rattle.fl_session.specs.Ends.{IsOwn, IsFormed}
 use Rattle.fl_session.specs.Opening.{Opened}
 use Rattle.fl_session.specs.Cost.{cost_of}
 use Rattle.fl_session.specs.Notes.{no_notes}
@@ -27,20 +28,20 @@ use Rattle.fl_session.specs.declared.notes.Notes.{Notes}
 use Rattle.fl_session.specs.Standing.{SessionStands, RestsOn}
 
 -- a medium that was opened stands for a state between two runs
-pub new-header : (config : Config) (old new : MediaState) → Opened config old new → new.content ≡ new_content config → length (header config) ≡ 1024
+pub new-header : (config : Config) (old new : MediaState) → Opened config old new → new.content ≡ new_image config → length (header config) ≡ 1024
 new-header config old new h e =
     let count : medium_len config ≡ length (header config) + (medium_len config - 1024) =
     sym h.len ∙ (ap length e ∙ (length-append (header config) (replicate (medium_len config - 1024) 255) ∙ ap (λ n. length (header config) + n) (length-replicate {A = ℕ} (medium_len config - 1024) 255))) in
     omega (arith, count)
 
-new-rests : (config : Config) (old new : MediaState) → Opened config old new → new.content ≡ new_content config → IsImage config new.content (fresh_tables config)
+new-rests : (config : Config) (old new : MediaState) → Opened config old new → new.content ≡ new_image config → IsImage config new.content (fresh_tables config)
 new-rests config old new h e = subst (λ (c : List ℕ). IsImage config c (fresh_tables config)) (sym e) (sized-image config (new-header config old new h e))
 
 -- .. and holds what it had, or is new
-pub opened-content : (config : Config) (old new : MediaState) → IsTrue old.tells → Opened config old new → new.content ≡ opened config old.content
+pub opened-content : (config : Config) (old new : MediaState) → IsTrue old.tells → Opened config old new → new.content ≡ made_image config old.content
 opened-content config old new told h = by-content old.content refl
   where
-    by-content : (content : List ℕ) → old.content ≡ content → new.content ≡ opened config content
+    by-content : (content : List ℕ) → old.content ≡ content → new.content ≡ made_image config content
     by-content [] e = h.made told e
     by-content (byte ∷ bytes) e = h.kept (λ empty. some (sym e ∙ empty)) ∙ e
       where

@@ -19,9 +19,10 @@ use Rattle.fl_lines.specs.Taken.{HasTaken, TakesFew, begin_behind}
 use Rattle.fl_lines.proofs.LinesInTurn.{begin-fits}
 use Rattle.std.proofs.lemmas.List.Sums.{sum_by-append}
 use Rattle.fl_script.specs.declared.command.Command as code
+use Rattle.fl_store.specs.Laws.{made_image}
 use Rattle.fl_session.specs.Run.{tail_of, RanFrom, RunsFrom, IsOfCommands}
 use Rattle.fl_session.specs.Begin.{AtCommand, AtEnd, EndsBegin, BeginsAt}
-use Rattle.fl_session.specs.Ends.{Told, IsOwn, IsFormed, opened, RunsAll, RunsInto, effects_of, Ends, IsEarlyBy}
+use Rattle.fl_session.specs.Ends.{Told, IsOwn, IsFormed, RunsAll, RunsInto, effects_of, Ends, IsEarlyBy}
 use Rattle.fl_session.specs.Pending.{EndsAt}
 use Rattle.fl_session.specs.declared.pending.PendingRows.{PendingRows}
 use Rattle.fl_session.specs.ScriptEnds.{Effects, unsaid, start_in, EndsEarly, EndsDone, EndsLine, EndsInto, EndsConfig, EndsMaking, EndsOther, EndsWith, ScriptEnds}
@@ -80,7 +81,7 @@ start-at_end knots text now number left_now config a w =
 -- what was run in the session is what was run over the medium, and the status tells what is pending
 pub record Over (config : Config) (told : Told) (status : Status) (around : Around) (stands stands_now : Machine → Type 0) : Type 0 where
   pub config_is : around.config ≡ config
-  pub content : around.content ≡ opened config told.content
+  pub content : around.content ≡ made_image config told.content
   pub content_now : around.content_now ≡ told.content_now
   pub faults_now : around.faults_now ≡ told.faults_now
   pub faults : told.faults ≤ around.faults
@@ -142,22 +143,22 @@ ran_into-earlier config old commands stands content content_now before mid now r
 
 -- where commands were run from each state, they were run as the plain machine does if nothing fails
 runs-with : (config : Config) (commands : List Command) (told : Told) (status : Status) → IsOwn config told.content → IsFormed config told.content_now →
-    ((old : Machine) → StandsFor config told.content old → RanReading config old commands (EndsAt config status told.content_now) (opened config told.content) told.content_now told.faults told.faults_now (told.reads + 1) told.reads_now told.written told.written_now) → RunsAll config commands told status
+    ((old : Machine) → StandsFor config told.content old → RanReading config old commands (EndsAt config status told.content_now) (made_image config told.content) told.content_now told.faults told.faults_now (told.reads + 1) told.reads_now told.written told.written_now) → RunsAll config commands told status
 runs-with config commands told status own formed runs = record {
   own = own;
   formed = formed;
   runs = runs;
-  plain = λ calm old s uncut. ran-plainly config old commands status (opened config told.content) told.content_now told.faults told.faults_now told.written told.written_now calm uncut (runs old s).0;
+  plain = λ calm old s uncut. ran-plainly config old commands status (made_image config told.content) told.content_now told.faults told.faults_now told.written told.written_now calm uncut (runs old s).0;
 }
 
 run-over : (config : Config) (told : Told) (status : Status) (around : Around) (stands stands_now : Machine → Type 0) (commands : List Command) → Over config told status around stands stands_now → RanAll around stands stands_now commands →
-    (old : Machine) → StandsFor config told.content old → RanReading config old commands (EndsAt config status told.content_now) (opened config told.content) told.content_now told.faults told.faults_now (told.reads + 1) told.reads_now told.written told.written_now
+    (old : Machine) → StandsFor config told.content old → RanReading config old commands (EndsAt config status told.content_now) (made_image config told.content) told.content_now told.faults told.faults_now (told.reads + 1) told.reads_now told.written told.written_now
 run-over config told status around stands stands_now commands o h old s =
     let b = o.begins old s in
     let ran = h old b.0 (subst (λ c. IsReady c old) (sym o.config_is) b.1) in
     let seen = ran-seen around.config old commands stands_now (EndsAt config status told.content_now) around.content around.content_now around.faults around.faults_now around.reads around.reads_now around.told around.told_now o.ends ran in
     let earlier = ran-earlier around.config old commands (EndsAt config status told.content_now) around.content around.content_now told.faults around.faults around.faults_now (told.reads + 1) around.reads around.reads_now around.told around.told_now o.faults o.reads seen in
-    subst (λ c. RanReading c old commands (EndsAt config status told.content_now) (opened config told.content) told.content_now told.faults told.faults_now (told.reads + 1) told.reads_now told.written told.written_now) o.config_is
+    subst (λ c. RanReading c old commands (EndsAt config status told.content_now) (made_image config told.content) told.content_now told.faults told.faults_now (told.reads + 1) told.reads_now told.written told.written_now) o.config_is
     (subst (λ b. RanReading around.config old commands (EndsAt config status told.content_now) b told.content_now told.faults told.faults_now (told.reads + 1) told.reads_now told.written told.written_now) o.content
     (subst (λ b. RanReading around.config old commands (EndsAt config status told.content_now) around.content b told.faults told.faults_now (told.reads + 1) told.reads_now told.written told.written_now) o.content_now
     (subst (λ f. RanReading around.config old commands (EndsAt config status told.content_now) around.content around.content_now told.faults f (told.reads + 1) told.reads_now told.written told.written_now) o.faults_now
@@ -169,14 +170,14 @@ pub runs-all : (config : Config) (told : Told) (status : Status) (around : Aroun
 runs-all config told status around stands stands_now commands o h = runs-with config commands told status o.own o.formed (run-over config told status around stands stands_now commands o h)
 
 run-over_into : (config : Config) (told : Told) (status : Status) (around : Around) (stands stands_now : Machine → Type 0) (commands : List Command) → Over config told status around stands stands_now → RanPart around stands stands_now commands →
-    (old : Machine) → StandsFor config told.content old → RanIntoReading config old commands (StandsAfter config (Some told.content_now)) (opened config told.content) told.content_now told.faults told.faults_now (told.reads + 1) told.reads_now told.written told.written_now
+    (old : Machine) → StandsFor config told.content old → RanIntoReading config old commands (StandsAfter config (Some told.content_now)) (made_image config told.content) told.content_now told.faults told.faults_now (told.reads + 1) told.reads_now told.written told.written_now
 run-over_into config told status around stands stands_now commands o h old s =
     let b = o.begins old s in
     let ran = h old b.0 (subst (λ c. IsReady c old) (sym o.config_is) b.1) in
     let seen = ran_into-seen around.config old commands (StandsAlike stands_now) (StandsAfter config (Some told.content_now)) around.content around.content_now around.faults around.faults_now around.reads around.reads_now around.told around.told_now
     (after-alike config (Some told.content_now) stands_now (λ m s. (o.ends m s).0)) ran in
     let earlier = ran_into-earlier around.config old commands (StandsAfter config (Some told.content_now)) around.content around.content_now told.faults around.faults around.faults_now (told.reads + 1) around.reads around.reads_now around.told around.told_now o.faults o.reads seen in
-    subst (λ c. RanIntoReading c old commands (StandsAfter config (Some told.content_now)) (opened config told.content) told.content_now told.faults told.faults_now (told.reads + 1) told.reads_now told.written told.written_now) o.config_is
+    subst (λ c. RanIntoReading c old commands (StandsAfter config (Some told.content_now)) (made_image config told.content) told.content_now told.faults told.faults_now (told.reads + 1) told.reads_now told.written told.written_now) o.config_is
     (subst (λ b. RanIntoReading around.config old commands (StandsAfter config (Some told.content_now)) b told.content_now told.faults told.faults_now (told.reads + 1) told.reads_now told.written told.written_now) o.content
     (subst (λ b. RanIntoReading around.config old commands (StandsAfter config (Some told.content_now)) around.content b told.faults told.faults_now (told.reads + 1) told.reads_now told.written told.written_now) o.content_now
     (subst (λ f. RanIntoReading around.config old commands (StandsAfter config (Some told.content_now)) around.content around.content_now told.faults f (told.reads + 1) told.reads_now told.written told.written_now) o.faults_now
@@ -189,7 +190,7 @@ runs-into config told status around stands stands_now commands o h = record {
   own = o.own;
   formed = o.formed;
   runs = run-over_into config told status around stands stands_now commands o h;
-  plain = λ calm old s uncut. ran_into-plainly config old commands (opened config told.content) told.content_now told.faults told.faults_now told.written told.written_now calm uncut (run-over_into config told status around stands stands_now commands o h old s).0;
+  plain = λ calm old s uncut. ran_into-plainly config old commands (made_image config told.content) told.content_now told.faults told.faults_now told.written told.written_now calm uncut (run-over_into config told status around stands stands_now commands o h old s).0;
 }
 
 -- the lines up to a place behind the command that ended the configuration

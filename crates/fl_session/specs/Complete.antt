@@ -4,9 +4,10 @@ use Rattle.fl_base.specs.Causes.{Appends}
 use Rattle.fl_model.specs.Record.{Config}
 use Rattle.fl_words.specs.Command.{Command}
 use Rattle.fl_machine.specs.Script.{Ready, accepted, first_refused}
-use Rattle.fl_session.specs.Ends.{Told, RunsAll, new_content}
+use Rattle.fl_session.specs.Ends.{Told, RunsAll}
 use Rattle.fl_session.specs.ScriptEnds.{start_in}
 use Rattle.fl_lines.specs.Texts.{most_bytes}
+use Rattle.fl_store.specs.Laws.{new_image}
 use Rattle.fl_session.specs.declared.status.Status.{Status}
 use Rattle.fl_session.specs.declared.status.Status.TheVariants.{Done, Usage, Line, ScriptRead, OutWrite, MediaMake, Config as BadConfiguration, OtherConfig, ScriptLong, NoMemory}
 
@@ -23,7 +24,7 @@ pub record IsInPlace (knots : ℕ) (text : List ℕ) (config : Config) (commands
 -- no command was run: nothing was written, and the medium is as it was or newly made
 pub record IsUnbegun (config : Config) (told : Told) : Type 0 where
   pub written : Appends told.written told.written_now []
-  pub content : (told.content_now ≡ told.content) ⊎ ((told.content ≡ []) × (told.content_now ≡ new_content config))
+  pub content : (told.content_now ≡ told.content) ⊎ ((told.content ≡ []) × (told.content_now ≡ new_image config))
 
 -- All its commands are run, or memory was wanted before the first of them.
 abbrev pub Completes : Config → List Command → Told → Status → Type 0

@@ -1,5 +1,5 @@
 -- How a run over a script and a medium ends, by its status.
-use Rattle.std.specs.Prelude.{◌≡◌, ℕ, ◌+◌, ◌-◌, ◌≤◌, ◌⊎◌, Option, Some, List, [], ◌∷◌, ◌++◌, length, take, replicate}
+use Rattle.std.specs.Prelude.{◌≡◌, ℕ, ◌+◌, ◌≤◌, ◌⊎◌, Option, Some, List, [], length, take}
 use Rattle.fl_base.specs.Causes.{Rose, Appends}
 use Rattle.fl_flash.specs.Media.{MediaState}
 use Rattle.fl_model.specs.Record.{Config}
@@ -10,6 +10,7 @@ use Rattle.fl_machine.specs.Machine.{Machine}
 use Rattle.fl_machine.specs.Script.{Start, Ready, Unended, BadLine, BadConfig, StandsFor, StandsAfter}
 use Rattle.fl_machine.specs.WholeReads.{RanReading, RanIntoReading}
 use Rattle.fl_config.specs.Opening.{Differs}
+use Rattle.fl_store.specs.Laws.{new_image, made_image}
 use Rattle.fl_session.specs.Determined.{IsUncut, RanPlainly, RanPlainlyInto}
 use Rattle.fl_session.specs.Pending.{EndsAt}
 use Rattle.fl_session.specs.ScriptEnds.{Effects, EndsWith}
@@ -46,15 +47,6 @@ IsFormed config content = (length content ≡ medium_len config) × (take 1024 c
 abbrev pub IsOwn : Config → List ℕ → Type 0
 IsOwn config content = (content ≡ []) ⊎ IsFormed config content
 
--- the medium is newly made: the header and blank pages
-abbrev pub new_content : Config → List ℕ
-new_content config = header config ++ replicate (medium_len config - 1024) 255
-
--- what a medium holds once its image is opened
-abbrev pub opened : Config → List ℕ → List ℕ
-opened config [] = new_content config
-opened config (byte ∷ bytes) = byte ∷ bytes
-
 -- From each state for which the medium stands these commands were run, and it stands for the state after them, of which the
 -- status tells what is pending. Its length and its header are those of the configuration, whatever stands behind them. Of the
 -- medium's reads one is for the header, and the others are those of the commands.
@@ -62,19 +54,19 @@ pub record RunsAll (config : Config) (commands : List Command) (told : Told) (st
   pub own : IsOwn config told.content
   pub formed : IsFormed config told.content_now
   pub runs : (old : Machine) → StandsFor config told.content old →
-      RanReading config old commands (EndsAt config status told.content_now) (opened config told.content) told.content_now told.faults told.faults_now (told.reads + 1) told.reads_now told.written told.written_now
+      RanReading config old commands (EndsAt config status told.content_now) (made_image config told.content) told.content_now told.faults told.faults_now (told.reads + 1) told.reads_now told.written told.written_now
   -- where the medium doesn't fail and no cut falls into an operation, as the plain machine runs them
   pub plain : IsCalm told → (old : Machine) → StandsFor config told.content old → IsUncut config old commands →
-      RanPlainly config old commands status (opened config told.content) told.content_now told.written told.written_now
+      RanPlainly config old commands status (made_image config told.content) told.content_now told.written told.written_now
 
 -- .. and in the reply of the last of them the sink failed
 pub record RunsInto (config : Config) (commands : List Command) (told : Told) : Type 0 where
   pub own : IsOwn config told.content
   pub formed : IsFormed config told.content_now
   pub runs : (old : Machine) → StandsFor config told.content old →
-      RanIntoReading config old commands (StandsAfter config (Some told.content_now)) (opened config told.content) told.content_now told.faults told.faults_now (told.reads + 1) told.reads_now told.written told.written_now
+      RanIntoReading config old commands (StandsAfter config (Some told.content_now)) (made_image config told.content) told.content_now told.faults told.faults_now (told.reads + 1) told.reads_now told.written told.written_now
   pub plain : IsCalm told → (old : Machine) → StandsFor config told.content old → IsUncut config old commands →
-      RanPlainlyInto config old commands (opened config told.content) told.content_now told.written told.written_now
+      RanPlainlyInto config old commands (made_image config told.content) told.content_now told.written told.written_now
 
 -- a medium of another configuration: its length or its header
 abbrev pub IsOther : Config → List ℕ → ℕ → ℕ → ℕ → Type 0
@@ -84,7 +76,7 @@ IsOther config content wanted found at =
     ⊎ ((length content ≡ medium_len config) × Differs (header config) (take 1024 content) at wanted found))
 
 abbrev pub IsNew : Start → Told → Type 0
-IsNew (Ready config n lines) told = (told.content ≡ []) × (told.content_now ≡ new_content config)
+IsNew (Ready config n lines) told = (told.content ≡ []) × (told.content_now ≡ new_image config)
 IsNew (Unended config n) told = ⊥
 IsNew (BadLine n) told = ⊥
 IsNew (BadConfig n) told = ⊥
@@ -137,7 +129,7 @@ pub record IsHalfMade (old new : MediaState) (told told_now : Option (List ℕ))
 -- .. or it is unchanged or newly made and blank
 pub record IsMadeAtMost (old new : MediaState) (told told_now : Option (List ℕ)) : Type 0 where
   pub written : Appends told told_now []
-  pub content : (new.content ≡ old.content) ⊎ ((old.content ≡ []) × ((config : Config) × (new.content ≡ new_content config)))
+  pub content : (new.content ≡ old.content) ⊎ ((old.content ≡ []) × ((config : Config) × (new.content ≡ new_image config)))
 
 abbrev pub IsEarlyBy : MediaState → MediaState → Option (List ℕ) → Option (List ℕ) → Status → Type 0
 IsEarlyBy old new told told_now Usage = IsEarly old new told told_now

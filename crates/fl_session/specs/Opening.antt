@@ -8,14 +8,15 @@ use Rattle.fl_model.specs.Image.{medium_len}
 use Rattle.fl_flash.specs.Media.{MediaState}
 use Rattle.fl_words.specs.Medium.{header}
 use Rattle.fl_config.specs.Opening.{Differs}
-use Rattle.fl_session.specs.Ends.{IsOwn, new_content}
+use Rattle.fl_store.specs.Laws.{new_image}
+use Rattle.fl_session.specs.Ends.{IsOwn}
 
 -- An empty medium was made, and another is one of the configuration, and was read once at most.
 pub record Opened (config : Config) (old new : MediaState) : Type 0 where
   pub len : length new.content ≡ medium_len config
   pub sized : (old.content ≡ []) ⊎ (length old.content ≡ medium_len config)
   pub own : IsTrue old.tells → IsOwn config old.content
-  pub made : IsTrue old.tells → old.content ≡ [] → new.content ≡ new_content config
+  pub made : IsTrue old.tells → old.content ≡ [] → new.content ≡ new_image config
   pub kept : (old.content ≡ [] → ⊥) → new.content ≡ old.content
   pub reads : new.reads ≤ old.reads + 1
 

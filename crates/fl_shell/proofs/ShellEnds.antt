@@ -7,7 +7,7 @@ use Rattle.fl_lines.specs.Stream.{LinesState}
 use Rattle.fl_machine.specs.Machine.{Machine}
 use Rattle.fl_machine.specs.Script.{StandsFor, StandsAfter}
 use Rattle.fl_model.specs.Record.{Config}
-use Rattle.fl_session.specs.Ends.{opened, told_of}
+use Rattle.fl_session.specs.Ends.{told_of}
 use Rattle.fl_session.specs.Execute.{IsReady, StandsAlike}
 use Rattle.fl_session.specs.Opening.{KeepsForm, MediaGoes, Opened}
 use Rattle.fl_session.specs.Standing.{RestsTold}
@@ -15,6 +15,7 @@ use Rattle.fl_session.proofs.Over.{kept-formed}
 use Rattle.fl_session.proofs.Ready.{after-alike, stands-ready}
 use Rattle.fl_session.proofs.Rested.{opened-content, opened-formed, opened-rests}
 use Rattle.fl_words.specs.Grammar.{lines_of}
+use Rattle.fl_store.specs.Laws.{made_image}
 use Rattle.fl_shell.specs.Ends.{Ended, ShellEnds}
 use Rattle.fl_shell.specs.Leading.{BeginsAs, others_of}
 use Rattle.fl_shell.specs.Reading.{IsLeft, rest_in}
@@ -36,7 +37,7 @@ ended-over knots text begun config old looked made new state left left_now told 
     let others = others_of begun (length text) state left b.leaves in
     let looked_tells : IsTrue looked.tells = subst IsTrue (sym looks.tells) tells in
     let made_tells : IsTrue made.tells = subst IsTrue (sym goes.tells) looked_tells in
-    let is : made.content ≡ opened config old.content = opened-content config looked made looked_tells opens ∙ ap (opened config) looks.content in
+    let is : made.content ≡ made_image config old.content = opened-content config looked made looked_tells opens ∙ ap (made_image config) looks.content in
     record {
       config = config;
       others = others;

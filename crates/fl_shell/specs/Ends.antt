@@ -9,9 +9,10 @@ use Rattle.fl_machine.specs.Machine.{Machine}
 use Rattle.fl_machine.specs.Script.{StandsFor, StandsAfter}
 use Rattle.fl_model.specs.Image.{medium_len}
 use Rattle.fl_model.specs.Record.{Config}
-use Rattle.fl_session.specs.Ends.{Told, IsFormed, IsUntouched, opened}
+use Rattle.fl_session.specs.Ends.{Told, IsFormed, IsUntouched}
 use Rattle.fl_words.specs.Config.{Lines, no_lines, whole}
 use Rattle.fl_words.specs.Grammar.{lines_of}
+use Rattle.fl_store.specs.Laws.{made_image}
 use Rattle.fl_shell.specs.Begin.{Leads, LeadsTo, IsEnded, step_of}
 use Rattle.fl_shell.specs.Talking.{MediumEnds, OfFront}
 use Rattle.fl_shell.specs.declared.end.Flushed.{Flushed}
@@ -40,7 +41,7 @@ pub record Ended (knots : ℕ) (text : List ℕ) (flushed : Flushed) (status : S
   pub begun : Option (List ℕ)
   pub begun_told : Appends told.written begun answers
   pub talks : (old : Machine) → StandsFor config told.content old →
-      MediumEnds config old others (length text) (StandsAfter config (Some told.content_now)) (opened config told.content) told.content_now told.faults told.faults_now begun told.written_now told.left_now flushed status
+      MediumEnds config old others (length text) (StandsAfter config (Some told.content_now)) (made_image config told.content) told.content_now told.faults told.faults_now begun told.written_now told.left_now flushed status
 
 -- nothing but leading lines of a configuration was answered, over an empty medium, and no image was made
 pub record Unbegun (lines : List (List ℕ)) (made : Lines) (told : Told) : Type 0 where

@@ -25,8 +25,9 @@ use Rattle.fl_store.specs.Tables.{AreNewTables, IsNamed, Names}
 use Rattle.fl_store.specs.declared.tables.Entry.{Entry}
 use Rattle.fl_words.specs.Config.{Lines}
 use Rattle.fl_words.specs.Medium.{IsImage}
+use Rattle.fl_store.specs.Laws.{made_image}
 use Rattle.fl_ship.specs.Ends.{Bytes, IsCopy, IsOfForm, IsUnbegun, ShipEnds, TablesShip, Told, held_in, is_shipped}
-use Rattle.fl_ship.specs.Media.{bytes_of, made_copy, source_status}
+use Rattle.fl_ship.specs.Media.{bytes_of, source_status}
 use Rattle.fl_ship.specs.Tables.{IsOfTables, told_of}
 use Rattle.fl_ship.specs.declared.side.Side.TheVariants.{Source, Copy}
 use Rattle.fl_ship.specs.declared.status.ShipStatus.{ShipStatus}
@@ -47,10 +48,10 @@ copy-image config bytes copies (inl h) some = absurd (some h.0)
 copy-image config bytes copies (inr h) some = subst (λ (ts : List Table). IsImage config bytes ts) (sym (ap (λ (m : Machine). m.tables) h.2)) h.1
 
 -- .. and one that is empty is an image once it is made
-pub copy-made : (config : Config) (bytes : List ℕ) (copies : List Table) → IsMade config → IsCopy config bytes copies → IsImage config (made_copy config bytes) copies
+pub copy-made : (config : Config) (bytes : List ℕ) (copies : List Table) → IsMade config → IsCopy config bytes copies → IsImage config (made_image config bytes) copies
 copy-made config bytes copies made (inl h) =
-    subst (λ (l : List ℕ). IsImage config (made_copy config l) copies) (sym h.0)
-    (subst (λ (ts : List Table). IsImage config (made_copy config []) ts) (sym (ap (λ (m : Machine). m.tables) h.1)) (new-image config made))
+    subst (λ (l : List ℕ). IsImage config (made_image config l) copies) (sym h.0)
+    (subst (λ (ts : List Table). IsImage config (made_image config []) ts) (sym (ap (λ (m : Machine). m.tables) h.1)) (new-image config made))
 copy-made config bytes copies made (inr h) =
     let image = copy-image config bytes copies (inr h) (image-some config bytes h.0 h.1) in
     subst (λ (l : List ℕ). IsImage config l copies) (kept-copy config bytes (image-some config bytes h.0 h.1)) image
@@ -72,7 +73,7 @@ copy-makes config made bytes copies lines image accepted own = same-lines config
 
 -- It is one of some tables once it is made, of a configuration that the lines make.
 pub copy-known : (config : Config) (made_so : IsMade config) (bytes now : List ℕ) (copies : List Table) (lines : Lines) → IsTrue (is_whole lines) → IsAccepted lines → (bytes ≡ []) ⊎ IsImageOf bytes lines → IsCopy config bytes copies →
-    ((configured : Config) → Makes lines configured → now ≡ made_copy configured bytes) → (configured : Config) × (tables : List Table) × Makes lines configured × IsImage configured now tables
+    ((configured : Config) → Makes lines configured → now ≡ made_image configured bytes) → (configured : Config) × (tables : List Table) × Makes lines configured × IsImage configured now tables
 copy-known config made_so bytes now copies lines whole accepted (inl empty) stands content =
     let own = made lines whole in
     let own_made : IsMade own.0 = record { lines = lines; accepted = accepted; makes = own.1 } in

@@ -12,7 +12,8 @@ use Rattle.fl_model.specs.Image.{medium_len}
 use Rattle.fl_model.specs.Record.{Config}
 use Rattle.fl_words.specs.Config.{Lines}
 use Rattle.fl_words.specs.Medium.{header}
-use Rattle.fl_ship.specs.Media.{OpensCopy, made_copy}
+use Rattle.fl_store.specs.Laws.{made_image}
+use Rattle.fl_ship.specs.Media.{OpensCopy}
 use Rattle.fl_ship.specs.declared.side.Side.TheVariants.{Source, Copy}
 use Rattle.fl_ship.specs.declared.status.ShipStatus.{ShipStatus}
 use Rattle.fl_ship.specs.declared.status.ShipStatus.TheVariants.{Done, OutWrite, NoMemory, NotImage, Device, BadImage, NoTable, Gap, OtherForm, Spent}
@@ -25,7 +26,7 @@ no-bytes [] n len none = refl
 no-bytes (byte ∷ bytes) n len none = absurd (omega (arith, len, none))
 
 -- a copy that holds bytes isn't made
-pub kept-copy : (config : Config) (bytes : List ℕ) → (bytes ≡ [] → ⊥) → bytes ≡ made_copy config bytes
+pub kept-copy : (config : Config) (bytes : List ℕ) → (bytes ≡ [] → ⊥) → bytes ≡ made_image config bytes
 kept-copy config [] some = absurd (some refl)
 kept-copy config (byte ∷ bytes) some = refl
 

@@ -1,12 +1,11 @@
 -- The bytes of two media, and what is made of the copy's.
-use Rattle.std.specs.Prelude.{◌⊎◌, ℕ, Result, Ok, Err, List, [], ◌∷◌}
+use Rattle.std.specs.Prelude.{◌⊎◌, ℕ, Result, Ok, Err, []}
 use Rattle.fl_config.specs.Opening as opening
 use Rattle.fl_flash.specs.Media.{MediaState}
 use Rattle.fl_image.specs.declared.status.ToolStatus.{ToolStatus}
 use Rattle.fl_image.specs.declared.status.ToolStatus.TheVariants as job
 use Rattle.fl_model.specs.Image.{medium_len}
 use Rattle.fl_model.specs.Record.{Config}
-use Rattle.fl_store.specs.Laws.{new_image}
 use Rattle.fl_words.specs.Medium.{header}
 use Rattle.fl_ship.specs.Ends.{Bytes}
 use Rattle.fl_ship.specs.declared.side.Side.TheVariants.{Source, Copy}
@@ -16,11 +15,6 @@ use Rattle.fl_ship.specs.declared.status.ShipStatus.TheVariants.{Done, OutWrite,
 abbrev pub bytes_of : MediaState → MediaState → MediaState → MediaState → Bytes
 bytes_of source source_now copy copy_now =
     record { source = source.content; source_now = source_now.content; copy = copy.content; copy_now = copy_now.content }
-
--- what a copy holds once it is made, where it was empty
-abbrev pub made_copy : Config → List ℕ → List ℕ
-made_copy config [] = new_image config
-made_copy config (byte ∷ bytes) = byte ∷ bytes
 
 -- the status of a source that isn't opened
 abbrev pub source_status : ToolStatus → ShipStatus

@@ -15,7 +15,7 @@ use Rattle.fl_store.specs.declared.tables.BadMount.{BadMount}
 use Rattle.fl_store.specs.declared.tables.Entry.{Entry}
 use Rattle.fl_table.specs.Look.{last_key_in}
 use Rattle.fl_words.specs.Config.{Lines}
-use Rattle.fl_ship.specs.Media.{made_copy}
+use Rattle.fl_store.specs.Laws.{made_image}
 use Rattle.fl_ship.specs.Ready.{IsEarly}
 use Rattle.fl_ship.specs.Tables.{mount_status}
 use Rattle.fl_ship.specs.declared.side.Side.TheVariants.{Source, Copy}
@@ -82,7 +82,7 @@ pub record ShipOver (name : List ℕ) (count : ℕ) (source source_now copy copy
   pub looks : OnlyLooksAt source looked
   pub begun : MediaState
   pub keeps : (copy.content ≡ [] → ⊥) → OnlyLooksAt copy begun
-  pub makes : (config : Config) → Makes lines config → IsTrue copy.tells → begun.content ≡ made_copy config copy.content
+  pub makes : (config : Config) → Makes lines config → IsTrue copy.tells → begun.content ≡ made_image config copy.content
   pub from : FlashState
   pub onto : FlashState
   pub opened : IsOpened lines looked from × IsOpened lines begun onto

@@ -5,7 +5,8 @@ ghost use Rattle.fl_config.specs.Whole.{is_whole, Makes};
 ghost use Rattle.fl_image.specs.Image.{IsImageOf, OnlyLooksAt};
 ghost use Rattle.fl_model.specs.Image.{medium_len};
 ghost use Rattle.fl_model.specs.Record.{Config as Configured};
-ghost use Rattle.fl_ship.specs.Media.{OpensCopy, made_copy};
+ghost use Rattle.fl_store.specs.Laws.{made_image};
+ghost use Rattle.fl_ship.specs.Media.{OpensCopy};
 ghost use Rattle.fl_ship.specs.declared.side.Side.{Side};
 ghost use Rattle.fl_ship.specs.declared.status.ShipStatus.{ShipStatus};
 
@@ -45,7 +46,7 @@ pub(crate) fn look_at_copy<C: Media>(config: &Config, copy: &mut C) -> Result<()
 /// Makes a copy that is empty.
 pub(crate) fn make_copy<C: Media>(config: &Config, copy: &mut C) -> Result<(), ShipStatus>
     requires { IsTrue (is_whole config.now) }
-    ensures made { OnOk result ((configured : Configured) → Makes config.now configured → IsTrue (C.state copy.old).tells → (C.state copy.new).content ≡ made_copy configured (C.state copy.old).content) }
+    ensures made { OnOk result ((configured : Configured) → Makes config.now configured → IsTrue (C.state copy.old).tells → (C.state copy.new).content ≡ made_image configured (C.state copy.old).content) }
     ensures size { OnOk result ((configured : Configured) → Makes config.now configured → (C.state copy.old).content ≡ [] → length (C.state copy.new).content ≡ medium_len configured) }
     ensures kept { ((C.state copy.old).content ≡ [] → ⊥) → OnlyLooksAt (C.state copy.old) (C.state copy.new) × OnOk result ((C.state copy.new) ≡ (C.state copy.old)) }
     ensures part { (configured : Configured) → Makes config.now configured → (C.state copy.old).content ≡ [] → length (C.state copy.new).content ≤ medium_len configured }

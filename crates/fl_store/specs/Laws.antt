@@ -1,5 +1,5 @@
 -- What stores go on to hold, and for what new images stand.
-use Rattle.std.specs.Prelude.{ℕ, ◌-◌, true, false, List, ◌++◌, map, replicate}
+use Rattle.std.specs.Prelude.{ℕ, ◌-◌, true, false, List, [], ◌∷◌, ◌++◌, map, replicate}
 use Rattle.fl_flash.specs.Flash.{FlashState}
 use Rattle.fl_image.specs.Header.{IsMade}
 use Rattle.fl_machine.specs.Machine.{fresh_tables}
@@ -21,6 +21,11 @@ pub record StoresHold : Type 0 where
 -- the bytes of an image that was just made: its header, and blank pages
 abbrev pub new_image : Config → List ℕ
 new_image config = header config ++ replicate (medium_len config - 1024) 255
+
+-- what a medium holds once its image is opened, which is made where it was empty
+abbrev pub made_image : Config → List ℕ → List ℕ
+made_image config [] = new_image config
+made_image config (byte ∷ bytes) = byte ∷ bytes
 
 abbrev pub NewImagesAreEmpty : Type 0
 NewImagesAreEmpty = (config : Config) → IsMade config → IsImage config (new_image config) (fresh_tables config)

@@ -15,9 +15,10 @@ use Rattle.fl_store.proofs.TablesChanged.{some-is}
 use Rattle.fl_store.proofs.Worked.{held-since, worked-by, worked-image, worked-keeps, worked-others, worked-repaired, worked-rose}
 use Rattle.fl_words.specs.Config.{Lines}
 use Rattle.fl_words.specs.Medium.{IsImage}
+use Rattle.fl_store.specs.Laws.{made_image}
 use Rattle.fl_ship.specs.Ends.{ShipEnds}
 use Rattle.fl_ship.specs.Fits.{StatusFits, is_refused}
-use Rattle.fl_ship.specs.Media.{bytes_of, made_copy}
+use Rattle.fl_ship.specs.Media.{bytes_of}
 use Rattle.fl_ship.specs.Ready.{IsEarly}
 use Rattle.fl_ship.specs.Tables.{told_of}
 use Rattle.fl_ship.specs.declared.side.Side.{Side}
@@ -218,7 +219,7 @@ returns-clause-ends g c = λ config sources copies tells copy_tells made_so imag
     let ready = c.in-Ok.ensures.ready in
     let copy_looks = c.in-Ok.ensures.copy_looks in
     let makes = ready.makes config sources tells made_so image in
-    let content : (g.C.Media.state c.make_copy.new.copy).content ≡ made_copy config (g.C.Media.state c.args.copy.now).content = c.in_default.ensures.made config makes (subst IsTrue (sym copy_looks.tells) copy_tells) ∙ ap (made_copy config) copy_looks.content in
+    let content : (g.C.Media.state c.make_copy.new.copy).content ≡ made_image config (g.C.Media.state c.args.copy.now).content = c.in_default.ensures.made config makes (subst IsTrue (sym copy_looks.tells) copy_tells) ∙ ap (made_image config) copy_looks.content in
     let copy = subst (λ (l : List ℕ). IsImage config l copies) (sym content) (copy-made config (g.C.Media.state c.args.copy.now).content copies made_so stands) in
     let from = held-since config sources c.in-Ok.ready.config (g.M.Media.state c.args.media.now) (g.M.Media.state c.make_ready.new.media) _ _ tells makes image c.in-Ok.ensures.looks c.over-from.ensures.holds in
     let onto = c.over-onto.ensures.holds config copies (subst IsTrue (sym (c.make_copy.ensures.tells ∙ copy_looks.tells)) copy_tells) makes copy in
@@ -260,7 +261,7 @@ returns-clause-good_copy g c = λ config copies table tells copy_tells made_so s
     let ready = c.in-Ok.ensures.ready in
     let looks = c.in-Ok.ensures.copy_looks in
     let known = copy-known config made_so (g.C.Media.state c.args.copy.now).content (g.C.Media.state c.make_copy.new.copy).content copies c.in-Ok.ready.config ready.whole (ready.image tells).0 (ready.own copy_tells) stands
-    (λ configured makes. c.in_default.ensures.made configured makes (subst IsTrue (sym looks.tells) copy_tells) ∙ ap (made_copy configured) looks.content) in
+    (λ configured makes. c.in_default.ensures.made configured makes (subst IsTrue (sym looks.tells) copy_tells) ∙ ap (made_image configured) looks.content) in
     let onto = c.over-onto.ensures.holds known.0 known.1 (subst IsTrue (sym (c.make_copy.ensures.tells ∙ looks.tells)) copy_tells) known.2 known.3 in
     c.ship_on-status.ensures.good_copy known.0.plans known.1 c.args.name table onto.medium.told c.over-onto.ensures.opened.on c.over-onto.ensures.opened.calm onto.stand (named-in _ _ _ _ c.over-onto.ensures.tables ready.copy_named) is_bad
 
@@ -358,7 +359,7 @@ returns-clause-over g c =
       looks = c.in-Ok.ensures.looks;
       begun = g.C.Media.state c.make_copy.new.copy;
       keeps = λ some. looks-kept (g.C.Media.state c.args.copy.now) (g.C.Media.state c.make_ready.new.copy) (g.C.Media.state c.make_copy.new.copy) some copy_looks (λ held. (c.make_copy.ensures.kept held).0);
-      makes = λ config makes tells. c.in_default.ensures.made config makes (subst IsTrue (sym copy_looks.tells) tells) ∙ ap (made_copy config) copy_looks.content;
+      makes = λ config makes tells. c.in_default.ensures.made config makes (subst IsTrue (sym copy_looks.tells) tells) ∙ ap (made_image config) copy_looks.content;
       from = _;
       onto = _;
       opened = (c.over-from.ensures.opened, c.over-onto.ensures.opened);
