@@ -1,3 +1,4 @@
+pub mod SomeRows
 pub mod KeptPagesStay
 pub mod BlobSteps
 pub mod VarFacts

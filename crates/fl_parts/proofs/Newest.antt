@@ -1,7 +1,6 @@
 -- All data pages came, and the one that waits is the newest with rows: it is read.
-use Rattle.std.proofs.Common.{◌≡◌, ℕ, suc, ◌+◌, ◌-◌, ◌%◌, ◌<◌, ◌≤◌, Bool, true, false, max, Option, Some, None, List, [], ◌∷◌, ◌++◌, length, refl, sym, ◌∙◌, ap, subst, arith}
-use Rattle.std.specs.Prelude.{cond, ◌==◌, unwrap_or, slice_set}
-use Rattle.std.proofs.lemmas.Bool.{eqb-true}
+use Rattle.std.proofs.Common.{◌≡◌, ℕ, suc, ◌+◌, ◌-◌, ◌%◌, ◌≤◌, true, max, Option, Some, None, List, [], ◌∷◌, ◌++◌, length, sym, ◌∙◌, ap, subst, arith}
+use Rattle.std.specs.Prelude.{cond, unwrap_or, slice_set}
 use Rattle.fl_find.specs.Index.{IndexOf}
 use Rattle.fl_find.specs.Pages.{first_key, rows_on}
 use Rattle.fl_find.specs.declared.index.KeyIndex.{KeyIndex}
@@ -22,6 +21,7 @@ use Rattle.fl_parts.proofs.PointsKnown.{further-known}
 use Rattle.fl_parts.proofs.WaitingPageComes.{knows-aside, points-aside}
 use Rattle.fl_parts.proofs.Steps.{newest-read, newest-check, newest-refused, fault-refused, newest-all}
 use Rattle.fl_parts.proofs.Unlisted.{first-some, last-some}
+use Rattle.fl_parts.proofs.SomeRows.{not_zero}
 
 module _ {KNOTS SLOTS : ℕ} (error : ℕ) (t : Come) (known : Known) (counts : List ℕ) (index : KeyIndex KNOTS SLOTS) (h : KnowsWith error t t.index_pages t.pages known counts index)
     (listed : Listed) (e : known.newest ≡ Some listed) (layout : RowLayout) (bytes : List ℕ) (layout_is : t.layout ≡ layout) (bytes_are : t.rows listed.number ≡ bytes) where
@@ -70,10 +70,3 @@ module _ {KNOTS SLOTS : ℕ} (error : ℕ) (t : Come) (known : Known) (counts : 
         points = subst (λ (o : Option Listed). IndexOf error (points_of (facts_on t) t.oldest (counted_to t t.pages o)) new) (sym newest)
             (subst (λ (l : List (ℕ × ℕ)). IndexOf error l new) (sym (run.points ∙ next)) points);
       }
-    where
-      not_zero : (c : ℕ) → 0 < c → (c == 0) ≡ false
-      not_zero c some = by_test (c == 0) refl
-        where
-          by_test : (b : Bool) → (c == 0) ≡ b → b ≡ false
-          by_test true e = absurd (omega (arith, eqb-true c 0 e, some))
-          by_test false e = refl

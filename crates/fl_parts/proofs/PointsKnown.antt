@@ -1,7 +1,7 @@
 -- The points of the pages that a mount has counted.
 use Rattle.std.proofs.Common.{◌≡◌, ℕ, zero, suc, ◌+◌, ◌<◌, ◌≤◌, ◌⊎◌, inl, inr, Bool, true, false, cond, ◌==◌, Option, Some, None, List, [], ◌∷◌, ◌++◌, length, append-nil, refl, sym, ◌∙◌, ap, subst, arith}
 use Rattle.std.specs.Prelude.{IfSome, unwrap_or}
-use Rattle.std.proofs.lemmas.Bool.{cases_lt, ltb-true, eqb-true}
+use Rattle.std.proofs.lemmas.Bool.{cases_lt, ltb-true}
 use Rattle.fl_find.specs.Pages.{rows_on}
 use Rattle.fl_model.specs.Record.{RowLayout}
 use Rattle.fl_model.specs.Row.{Row}
@@ -14,6 +14,7 @@ use Rattle.fl_parts.specs.declared.mount_fault.MountFault.{MountFault}
 use Rattle.fl_parts.specs.declared.mount_fault.MountFault.TheVariants.{BadPage, BadKeys}
 use Rattle.fl_parts.proofs.PageChecks.{uncommitted-rows}
 use Rattle.fl_parts.proofs.KeyRuns.{rises-on, last-up}
+use Rattle.fl_parts.proofs.SomeRows.{not_zero}
 
 -- the last point comes before a number, and its key is at most the last key
 abbrev IsBelow : Option (ℕ × ℕ) → ℕ → Option ℕ → Type 0
@@ -78,13 +79,6 @@ adds-keys t n fine some = by_read (is_read t (t.oldest + n)) refl
           );
         }
       where
-        not_zero : (c : ℕ) → 0 < c → (c == 0) ≡ false
-        not_zero c some = by_test (c == 0) refl
-          where
-            by_test : (b : Bool) → (c == 0) ≡ b → b ≡ false
-            by_test true e = absurd (omega (arith, eqb-true c 0 e, some))
-            by_test false e = refl
-
         by_up : (b : Bool) → rises (known_after t n) (facts_on t (t.oldest + n)).first_key ≡ b → ((facts_on t (t.oldest + n)).count == 0) ≡ false → entry_fault (t.oldest + n) (facts_on t (t.oldest + n)) (known_after t n) ≡ None → b ≡ true
         by_up true e count check = refl
         by_up false e count check =
@@ -107,13 +101,6 @@ module _ (t : Come) where
           subst (λ b. IsBelow (last_of (points_of (facts_on t) t.oldest n ++ cond b [] (((facts_on t (t.oldest + n)).first_key, t.oldest + n) ∷ []))) (t.oldest + suc n) (known_after t (suc n))) (sym (not_zero (facts_on t (t.oldest + n)).count some))
           (subst (λ (o : Option (ℕ × ℕ)). IsBelow o (t.oldest + suc n) (known_after t (suc n))) (sym (last_of-push (points_of (facts_on t) t.oldest n) ((facts_on t (t.oldest + n)).first_key, t.oldest + n)))
           (omega arith, keys.last))
-        where
-          not_zero : (c : ℕ) → 0 < c → (c == 0) ≡ false
-          not_zero c some = by_test (c == 0) refl
-            where
-              by_test : (b : Bool) → (c == 0) ≡ b → b ≡ false
-              by_test true e = absurd (omega (arith, eqb-true c 0 e, some))
-              by_test false e = refl
       by_count (inr none) before =
           let z : (facts_on t (t.oldest + n)).count ≡ 0 = omega (arith, none) in
           subst (λ c. IsBelow (last_of (points_of (facts_on t) t.oldest n ++ cond (c == 0) [] (((facts_on t (t.oldest + n)).first_key, t.oldest + n) ∷ []))) (t.oldest + suc n) (known_after t (suc n))) (sym z)

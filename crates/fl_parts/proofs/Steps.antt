@@ -2,7 +2,7 @@
 use Rattle.std.proofs.Common.{◌≡◌, ℕ, suc, ◌+◌, ◌-◌, ◌%◌, ◌<◌, ◌≤◌, inl, inr, Bool, true, false, cond, ◌&&◌, ◌||◌, ◌==◌, max, Option, Some, None, List, length, set, refl, sym, ◌∙◌, ap, subst, arith}
 use Rattle.std.specs.Prelude.{unwrap_or, not, slice_index, slice_set}
 use Rattle.std.specs.Option.{is_none}
-use Rattle.std.proofs.lemmas.Bool.{cases_lt, eqb-true}
+use Rattle.std.proofs.lemmas.Bool.{cases_lt}
 use Rattle.fl_find.specs.Pages.{rows_on}
 use Rattle.fl_index.specs.Page.{full_view}
 use Rattle.fl_model.specs.Layout.{Full}
@@ -17,6 +17,7 @@ use Rattle.fl_parts.specs.declared.known.Listed.{Listed}
 use Rattle.fl_parts.proofs.Aside.{fault_of, has-rows}
 use Rattle.fl_parts.proofs.PageChecks.{is-void, unlisted-read, left-none}
 use Rattle.fl_parts.proofs.NextPage.{void-run, end-split, noted-next, noted-here, noted-other}
+use Rattle.fl_parts.proofs.SomeRows.{not_zero}
 
 -- ---- a page that is counted: its check found nothing, and these are its count of rows and its last key
 
@@ -126,13 +127,6 @@ module _ (t : Come) (k n : ℕ) (next : left t k n ≡ first_of (page_check t n)
           fault = fault_is ∙ h.fault;
           cause = h.cause ∙ (next ∙ ap (λ (o : Option MountFault). first_of o (left t k (suc n))) fine);
         }
-      where
-        not_zero : (c : ℕ) → 0 < c → (c == 0) ≡ false
-        not_zero c some = by_test (c == 0) refl
-          where
-            by_test : (b : Bool) → (c == 0) ≡ b → b ≡ false
-            by_test true e = absurd (omega (arith, eqb-true c 0 e, some))
-            by_test false e = refl
 
 -- ---- an index page
 
@@ -252,13 +246,6 @@ module _ (t : Come) (known : Known) (counts : List ℕ) where
               ∙ ap (λ (o : Option Refusal). first_of (fault_of o) (left t t.index_pages t.pages)) none);
         }
       where
-        not_zero : (c : ℕ) → 0 < c → (c == 0) ≡ false
-        not_zero c some = by_test (c == 0) refl
-          where
-            by_test : (b : Bool) → (c == 0) ≡ b → b ≡ false
-            by_test true e = absurd (omega (arith, eqb-true c 0 e, some))
-            by_test false e = refl
-
         all_noted : (rows : ℕ) → rows ≡ (facts_on t (t.oldest + h.m)).count → AreNoted t 0 t.pages (set counts ((t.oldest + h.m) % length counts) rows)
         all_noted rows count i low high = elim (cases_lt i h.m) [
           | inl less ↦ noted-other t h.m i rows counts (λ e. omega (arith, less, e)) (omega (arith, high, fits)) (omega (arith, h.within, fits)) (h.counted.noted i low less)

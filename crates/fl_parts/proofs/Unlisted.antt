@@ -30,6 +30,7 @@ use Rattle.fl_parts.proofs.PointsKnown.{further-known}
 use Rattle.fl_parts.proofs.WaitingPageComes.{knows-all, points-all}
 use Rattle.fl_parts.proofs.ListedPageComes.{saw-void}
 use Rattle.fl_parts.proofs.Steps.{read-check, read-refused, read-facts, read-all}
+use Rattle.fl_parts.proofs.SomeRows.{not_zero}
 
 -- ---- a page by its bytes
 
@@ -144,13 +145,6 @@ module _ {KNOTS SLOTS : ℕ} (error : ℕ) (t : Come) (k n : ℕ) (known : Known
         knows = subst (λ (o : Option Listed). KnowsBy o t k (suc n) now (slice_set counts ((t.oldest + n) % length counts) rows)) (sym newest) all;
         points = subst (λ (o : Option Listed). IndexOf error (points_of (facts_on t) t.oldest (counted_to t (suc n) o)) new) (sym newest) (subst (λ (l : List (ℕ × ℕ)). IndexOf error l new) (sym joined) points);
       })
-    where
-      not_zero : (c : ℕ) → 0 < c → (c == 0) ≡ false
-      not_zero c some = by_test (c == 0) refl
-        where
-          by_test : (b : Bool) → (c == 0) ≡ b → b ≡ false
-          by_test true e = absurd (omega (arith, eqb-true c 0 e, some))
-          by_test false e = refl
 
   -- it has none; then nothing of what waits changes
   pub saw-none : (now : Known) → is_committed bytes ≡ false → n < length counts → now ≡ record known { voids = known.voids + 1; blob_end = max known.blob_end 0 } → KnowsWith error t k (suc n) now (slice_set counts (number % length counts) 0) index

@@ -1,7 +1,6 @@
 -- A page with rows comes behind the one that waits.
-use Rattle.std.proofs.Common.{◌≡◌, ℕ, suc, ◌+◌, ◌-◌, ◌*◌, ◌%◌, ◌<◌, ◌≤◌, Bool, true, false, max, Option, Some, None, List, [], ◌∷◌, ◌++◌, length, refl, sym, ◌∙◌, ap, subst, arith}
-use Rattle.std.specs.Prelude.{cond, ◌==◌, IfSome, unwrap_or, slice_set}
-use Rattle.std.proofs.lemmas.Bool.{eqb-true}
+use Rattle.std.proofs.Common.{◌≡◌, ℕ, suc, ◌+◌, ◌-◌, ◌*◌, ◌%◌, ◌<◌, ◌≤◌, true, false, max, Option, Some, None, List, [], ◌∷◌, ◌++◌, length, refl, sym, ◌∙◌, ap, subst, arith}
+use Rattle.std.specs.Prelude.{cond, IfSome, unwrap_or, slice_set}
 use Rattle.fl_find.specs.Index.{IndexOf}
 use Rattle.fl_find.specs.declared.index.KeyIndex.{KeyIndex}
 use Rattle.fl_model.specs.Layout.{Full}
@@ -16,6 +15,7 @@ use Rattle.fl_parts.specs.declared.known.Listed.{Listed}
 use Rattle.fl_parts.proofs.Aside.{aside-refused, behind-refused, counted-aside, facts-aside}
 use Rattle.fl_parts.proofs.NextPage.{void-run}
 use Rattle.fl_parts.proofs.PointsKnown.{further-known}
+use Rattle.fl_parts.proofs.SomeRows.{not_zero}
 
 module _ {KNOTS SLOTS : ℕ} (error : ℕ) (t : Come) (k n : ℕ) (known : Known) (counts : List ℕ) (index : KeyIndex KNOTS SLOTS) (h : KnowsWith error t k n known counts index) where
   -- what is known by the page that waits
@@ -63,13 +63,6 @@ module _ {KNOTS SLOTS : ℕ} (error : ℕ) (t : Come) (k n : ℕ) (known : Known
           points = subst (λ (o : Option Listed). IndexOf error (points_of (facts_on t) t.oldest (counted_to t n o)) new) (sym newest)
               (subst (λ (l : List (ℕ × ℕ)). IndexOf error l new) (sym (run.points ∙ next)) points);
         }
-      where
-        not_zero : (c : ℕ) → 0 < c → (c == 0) ≡ false
-        not_zero c some = by_test (c == 0) refl
-          where
-            by_test : (b : Bool) → (c == 0) ≡ b → b ≡ false
-            by_test true e = absurd (omega (arith, eqb-true c 0 e, some))
-            by_test false e = refl
 
 -- nothing waits
 pub within-settled : (oldest n : ℕ) (known now : Known) (listed : Listed) → known.newest ≡ Some listed → listed.full.count < 65536 → now.rows ≡ known.rows + listed.full.count → now.voids ≡ known.voids → now.newest ≡ None → IsWithin oldest n known → IsWithin oldest n now

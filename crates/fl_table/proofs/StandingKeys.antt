@@ -3,7 +3,7 @@ use Rattle.std.proofs.Common.{◌≡◌, ℕ, zero, suc, ◌+◌, ◌-◌, ◌<�
 use Rattle.std.specs.Prelude.{unwrap_or, not}
 use Rattle.std.specs.Option.{is_none}
 use Rattle.std.specs.List.{slice_get, sum}
-use Rattle.std.proofs.lemmas.Bool.{cases_lt, eqb-true, lt-ltb}
+use Rattle.std.proofs.lemmas.Bool.{cases_lt, lt-ltb}
 use Rattle.std.proofs.lemmas.List.{take_all}
 use Rattle.fl_find.specs.Pages.{rows_on}
 use Rattle.fl_model.specs.Agrees.{rows_at}
@@ -20,6 +20,7 @@ use Rattle.fl_table.proofs.KeyOrder.{key_before, rising}
 use Rattle.fl_parts.proofs.PageChecks.{is-void, no_both}
 use Rattle.fl_parts.proofs.KeptPages.{sum-next}
 use Rattle.fl_table.proofs.StandingMount.{IsOf, IsPageOf, facts-of, rows-of, count-of, index-fine, AtMost, at-most, AreBehind, are-behind}
+use Rattle.fl_parts.proofs.SomeRows.{not_zero}
 
 module _ (t : Come) (table : Table) (is : IsOf t table) where
   -- the key before the n-th page
@@ -111,13 +112,6 @@ module _ (t : Come) (table : Table) (is : IsOf t table) where
                 most = subst (λ (o : Option ℕ). AtMost o (key_before table.entries (sum (take (suc n) table.rows.counts)))) (sym first) (b.first long);
                 exact = λ ends. no_both (is_read t (t.oldest + n)) (newest-read n c e some ends) k;
               }
-            where
-              not_zero : (c : ℕ) → 0 < c → (c == 0) ≡ false
-              not_zero c some = by_test (c == 0) refl
-                where
-                  by_test : (b : Bool) → (c == 0) ≡ b → b ≡ false
-                  by_test true e = absurd (omega (arith, eqb-true c 0 e, some))
-                  by_test false e = refl
 
   pub is-known : (n : ℕ) → n ≤ t.pages → IsKnown n
   is-known zero le = record { most = tt; exact = λ ends. ap (key_before table.entries) (sym (none table.rows.counts)) }
