@@ -2,7 +2,7 @@
 use Rattle.std.proofs.Common.{◌≡◌, ℕ, zero, suc, ◌+◌, ◌-◌, ◌<◌, ◌≤◌, ◌⊎◌, inl, inr, ⊎_elim, true, false, Option, Some, None, option_map, List, [], ◌∷◌, length, map, take, drop, refl, sym, ◌∙◌, ap, arith}
 use Rattle.std.specs.Prelude.{◌==◌}
 use Rattle.std.specs.List.{slice_get, sum}
-use Rattle.std.proofs.lemmas.Bool.{cases_lt, eq-eqb, ne_eqb}
+use Rattle.std.proofs.lemmas.Bool.{cases_lt, eq-eqb, ne_eqb, false≢true}
 use Rattle.fl_model.specs.Row.{Row, stored_row}
 use Rattle.fl_model.specs.Table.{Entry}
 use Rattle.fl_model.specs.Query.{entry_at}
@@ -11,9 +11,6 @@ use Rattle.fl_search.specs.Search.{IsPageOf, starts_by}
 use Rattle.fl_search.proofs.Pages.{starts-low, starts-high, starts-void}
 use Rattle.fl_find.specs.Rows.{RowsRise, HasKey, LacksKey}
 use Rattle.fl_find.proofs.Firsts.{key_of, Ascending, sum-cons}
-
-no : false ≡ true → ⊥
-no e = cc
 
 tail : (entry : Entry) (entries : List Entry) → Ascending (entry ∷ entries) → Ascending entries
 tail entry entries up i j a b less e f = up (suc i) (suc j) a b (omega (arith, less)) e f
@@ -165,7 +162,7 @@ module _ (first : ℕ → Option ℕ) (oldest : ℕ) (counts : List ℕ) (entrie
   lacks-page hi key hi_is none = found-none key entries (λ i entry e k.
       let at = stands i entry e in
       let within = slice_get-short counts at.page at.count at.at in
-      no (sym (none (oldest + at.page) (omega arith) (omega (arith, hi_is, within))) ∙ starts i key entry at e k))
+      false≢true (sym (none (oldest + at.page) (omega arith) (omega (arith, hi_is, within))) ∙ starts i key entry at e k))
 
   -- a row with the key is that of the entry
   pub has-row : (key page count row : ℕ) → slice_get counts page ≡ Some count → HasKey (map stored_row (part counts entries page count)) key row →
@@ -183,7 +180,7 @@ module _ (first : ℕ → Option ℕ) (oldest : ℕ) (counts : List ℕ) (entrie
       let within = slice_get-short counts s.page s.count s.at in
       let begins = starts i key entry s e k in
       ⊎_elim
-      (λ after. no (sym (is.later (oldest + s.page) (omega (arith, after)) (omega (arith, hi_is, within))) ∙ begins))
+      (λ after. false≢true (sym (is.later (oldest + s.page) (omega (arith, after)) (omega (arith, hi_is, within))) ∙ begins))
       (λ upto. ⊎_elim
       (λ before. earlier i entry s e k before)
       (λ ge.
@@ -204,10 +201,10 @@ module _ (first : ℕ → Option ℕ) (oldest : ℕ) (counts : List ℕ) (entrie
           by_first None h = void (told page count at ∙ ap (option_map (λ (y : Entry). y.kept.key)) h)
             where
               void : first (oldest + page) ≡ None → ⊥
-              void f = no (sym (starts-void first key (oldest + page) f) ∙ is.here)
+              void f = false≢true (sym (starts-void first key (oldest + page) f) ∙ is.here)
           by_first (Some x) h =
               let first_is : first (oldest + page) ≡ Some x.kept.key = told page count at ∙ ap (option_map (λ (y : Entry). y.kept.key)) h in
               let sums = sums-mono counts s.page page s.count before s.at in
               let stand = part-entry counts entries page count 0 x h in
               let lt = up i (sum (take page counts) + 0) entry x (omega (arith, sums, s.to)) e stand in
-              no (sym (starts-high first key (oldest + page) x.kept.key first_is (omega (arith, lt, k))) ∙ is.here)
+              false≢true (sym (starts-high first key (oldest + page) x.kept.key first_is (omega (arith, lt, k))) ∙ is.here)

@@ -2,6 +2,7 @@
 use Rattle.std.proofs.Common.{◌≡◌, ℕ, zero, suc, ◌+◌, ◌-◌, ◌*◌, ◌<◌, ◌≤◌, min, true, false, Option, Some, None, option_map, List, [], ◌∷◌, length, map, drop, refl, sym, ◌∙◌, ap, subst, arith, Result, Ok, Err, IfOk}
 use Rattle.std.specs.Prelude.{unwrap_or, IfSome, IfErr}
 use Rattle.std.specs.List.{slice_get, sum}
+use Rattle.std.proofs.lemmas.Bool.{false≢true}
 use Rattle.fl_flash.specs.Flash.{FlashState}
 use Rattle.fl_model.specs.Record.{Plan, RowLayout}
 use Rattle.fl_model.specs.Ring as model
@@ -99,9 +100,6 @@ module _ (layout : RowLayout) (ring : Ring) (f : FlashState) (plan : Plan) (tabl
   some-page : (knots : ℕ) (points : HasPoints table) (key : ℕ) → is_covered (retained knots plan.error table.points) key ≡ true → 0 < table.rows.next
   some-page knots points key covered = by_counts table.rows.counts refl
     where
-      no : false ≡ true → ⊥
-      no e = cc
-
       none_covered : (n : ℕ) → is_covered (drop n []) key ≡ false
       none_covered zero = refl
       none_covered (suc n) = refl
@@ -121,7 +119,7 @@ module _ (layout : RowLayout) (ring : Ring) (f : FlashState) (plan : Plan) (tabl
       by_counts [] e =
           let none : points_of table ≡ [] = points_none (table.rows.counts) e in
           let empty : table.points ≡ [] = none_last table.points (points.last ∙ ap last_of none) in
-          absurd (no (sym (ap (λ (l : List (ℕ × ℕ)). is_covered (retained knots plan.error l) key) empty ∙ none_covered (0 - knots)) ∙ covered))
+          absurd (false≢true (sym (ap (λ (l : List (ℕ × ℕ)). is_covered (retained knots plan.error l) key) empty ∙ none_covered (0 - knots)) ∙ covered))
         where
           points_none : (counts : List ℕ) → table.rows.counts ≡ [] → points_of table ≡ []
           points_none counts e = ap (λ (l : List ℕ). map (λ page. (Rattle.fl_model.specs.Spline.page_key page, page.0)) (Rattle.fl_model.specs.Spline.pages_from (model.oldest table.rows) l table.entries)) e
@@ -162,12 +160,9 @@ module _ (layout : RowLayout) (ring : Ring) (f : FlashState) (plan : Plan) (tabl
       IsPageOf (first_on layout (shape_of ring) f) (model.oldest table.rows) table.rows.next key page → IfSome page (λ n. RoseSome before now) → IsFound knots plan table key before now page
   finds-far knots key before now page uncovered is some = record {
     page_is = one-page (first_on layout (shape_of ring) f) (model.oldest table.rows) table.rows.next key page (page_at table key) is (found key);
-    exact = λ covered. absurd (no (sym uncovered ∙ covered));
+    exact = λ covered. absurd (false≢true (sym uncovered ∙ covered));
     some = some;
   }
-    where
-      no : false ≡ true → ⊥
-      no e = cc
 
   pub limit-near : (knots : ℕ) (points : HasPoints table) (key before now : ℕ) → Rises table.points → is_covered (retained knots plan.error table.points) key ≡ true → is_pending_key table key ≡ false →
       ((page : Option ℕ) → IsPageOf (first_on layout (shape_of ring) f) (model.oldest table.rows) (end_of knots plan table key) key page →

@@ -1,6 +1,7 @@
 -- Facts of searched pages, after the search and at other names of the same values.
 use Rattle.std.proofs.Common.{◌≡◌, ℕ, true, false, Option, Some, None, List, refl, sym, ap, subst, ◌∙◌, arith, length}
 use Rattle.std.specs.Prelude.{IfSome, is_some}
+use Rattle.std.proofs.lemmas.Bool.{false≢true}
 use Rattle.fl_flash.specs.Buffer.{BufferState}
 use Rattle.fl_flash.specs.Flash.{FlashState}
 use Rattle.fl_model.specs.Record.{RowLayout}
@@ -56,12 +57,9 @@ pub starts-none : (layout : RowLayout) (shape : Shape) (old new : FlashState) (n
     now ≡ first_on layout shape new n → is_some now ≡ false → ⊥
 starts-none layout shape old new n key now looks starts is none = by_first (first_on layout shape old n) refl
   where
-    no : false ≡ true → ⊥
-    no e = cc
-
     by_first : (first : Option ℕ) → first_on layout shape old n ≡ first → ⊥
-    by_first None e = no (sym (starts-at (first_on layout shape old) key n e) ∙ starts)
+    by_first None e = false≢true (sym (starts-at (first_on layout shape old) key n e) ∙ starts)
       where
         starts-at : (first : ℕ → Option ℕ) (key n : ℕ) → first n ≡ None → starts_by first key n ≡ false
         starts-at first key n e = rw e refl
-    by_first (Some x) e = no (sym none ∙ ap is_some (is ∙ (first-looked layout shape old new n looks ∙ e)))
+    by_first (Some x) e = false≢true (sym none ∙ ap is_some (is ∙ (first-looked layout shape old new n looks ∙ e)))

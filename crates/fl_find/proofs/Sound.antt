@@ -2,7 +2,7 @@
 -- gone on over each of them.
 use Rattle.std.proofs.Common.{◌≡◌, ℕ, ◌<◌, ◌≤◌, Bool, true, false, Option, Some, None, List, IsTrue, refl, sym, ap, subst, ◌∙◌, arith, Result, Ok, Err, inl, inr}
 use Rattle.std.specs.Prelude.{IfOk, OnOk, option_map, unwrap_or, nat_le, ◌==◌, if◌then◌else◌}
-use Rattle.std.proofs.lemmas.Bool.{cases_lt, eq-eqb, ne_eqb, le-leb}
+use Rattle.std.proofs.lemmas.Bool.{cases_lt, eq-eqb, ne_eqb, le-leb, false≢true}
 use Rattle.fl_flash.specs.Flash.{FlashState}
 use Rattle.fl_model.specs.Record.{RowLayout}
 use Rattle.fl_page.specs.declared.fault.BadPage.{BadPage}
@@ -14,9 +14,6 @@ use Rattle.fl_search.specs.Search.{IsPageOf, starts_by}
 use Rattle.fl_find.specs.Pages.{bytes_at, rows_on, first_key, first_on, IsBadPage}
 use Rattle.fl_find.specs.Looking.{OnlyLooks, IsKept, IsSound, NoneIsBad, Tells}
 use Rattle.fl_find.proofs.PageLooks.{looks-pages, looks-tell}
-
-no : false ≡ true → ⊥
-no e = cc
 
 -- a read that is Ok gives what each function tells
 pub key-told : (layout : RowLayout) (ring : Ring) (f : FlashState) (first : ℕ → Option ℕ) (number : ℕ) (result : Result (Option ℕ) ReadFault) → IsKept ring number →
@@ -59,17 +56,17 @@ module _ (layout : RowLayout) (ring : Ring) (f : FlashState) (told : IsTrue f.me
     not-passed : (page : Option ℕ) → IsPageOf firsts oldest end key page → unwrap_or page oldest ≤ n →
         (found : Option ℕ) → ((first : ℕ → Option ℕ) → Tells layout ring f first → IsPageOf first oldest end key found) → ⊥
     not-passed page is from None finds =
-        no (sym (finds (changed firsts n (Some 0)) (tells-changed (Some 0)) n (least page is from) before) ∙ starts-at_zero firsts n key)
+        false≢true (sym (finds (changed firsts n (Some 0)) (tells-changed (Some 0)) n (least page is from) before) ∙ starts-at_zero firsts n key)
       where
         least : (page : Option ℕ) → IsPageOf firsts oldest end key page → unwrap_or page oldest ≤ n → oldest ≤ n
         least None is from = from
         least (Some p) is from = omega (arith, is.from, from)
     not-passed page is from (Some q) finds =
         elim (cases_lt q n) [
-          | inl lower ↦ no (sym ((finds (changed firsts n (Some 0)) (tells-changed (Some 0))).later n lower before) ∙ starts-at_zero firsts n key)
+          | inl lower ↦ false≢true (sym ((finds (changed firsts n (Some 0)) (tells-changed (Some 0))).later n lower before) ∙ starts-at_zero firsts n key)
           | inr rest ↦ elim (cases_lt n q) [
             | inl higher ↦ above page is from higher
-            | inr same ↦ no (sym (starts-changed firsts n key None) ∙ (ap (starts_by (changed firsts n None) key) (omega (arith, rest, same)) ∙ (finds (changed firsts n None) (tells-changed None)).here))
+            | inr same ↦ false≢true (sym (starts-changed firsts n key None) ∙ (ap (starts_by (changed firsts n None) key) (omega (arith, rest, same)) ∙ (finds (changed firsts n None) (tells-changed None)).here))
           ]
         ]
       where
@@ -77,8 +74,8 @@ module _ (layout : RowLayout) (ring : Ring) (f : FlashState) (told : IsTrue f.me
         here = (finds firsts (record { told = told; each = λ m kept sound. refl })).here
 
         above : (page : Option ℕ) → IsPageOf firsts oldest end key page → unwrap_or page oldest ≤ n → n < q → ⊥
-        above None is from higher = no (sym (is q (omega (arith, from, higher)) (finds firsts (record { told = told; each = λ m kept sound. refl })).before) ∙ here)
-        above (Some p) is from higher = no (sym (is.later q (omega (arith, from, higher)) (finds firsts (record { told = told; each = λ m kept sound. refl })).before) ∙ here)
+        above None is from higher = false≢true (sym (is q (omega (arith, from, higher)) (finds firsts (record { told = told; each = λ m kept sound. refl })).before) ∙ here)
+        above (Some p) is from higher = false≢true (sym (is.later q (omega (arith, from, higher)) (finds firsts (record { told = told; each = λ m kept sound. refl })).before) ∙ here)
 
 pub none-bad : (layout : RowLayout) (ring : Ring) (f : FlashState) (oldest end key : ℕ) (result : Result (Option ℕ) ReadFault) (page : Option ℕ) → IsTrue f.media.tells →
     ((first : ℕ → Option ℕ) → Tells layout ring f first → IfOk result (λ found. IsPageOf first oldest end key found)) →

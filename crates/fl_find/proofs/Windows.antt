@@ -1,6 +1,6 @@
 -- What the window of a key allows, and how many pages are looked at in it.
-use Rattle.std.proofs.Common.{◌≡◌, ℕ, zero, suc, ◌+◌, ◌-◌, ◌*◌, ◌<◌, ◌≤◌, ◌⊎◌, inl, inr, ⊎_elim, min, true, false, Option, Some, None, refl, sym, ◌∙◌, ap, arith}
-use Rattle.std.proofs.lemmas.Bool.{cases_lt}
+use Rattle.std.proofs.Common.{◌≡◌, ℕ, zero, suc, ◌+◌, ◌-◌, ◌*◌, ◌<◌, ◌≤◌, ◌⊎◌, inl, inr, ⊎_elim, min, false, Option, Some, None, refl, sym, ◌∙◌, ap, arith}
+use Rattle.std.proofs.lemmas.Bool.{cases_lt, false≢true, true≢false}
 use Rattle.fl_search.specs.Search.{IsPageOf, starts_by, looked_at, voids_in}
 use Rattle.fl_search.proofs.Pages.{AreVoid, starts-void, starts-low, starts-high, voids-end, voids-split}
 
@@ -80,11 +80,8 @@ in-window first lo from hi key estimate error window le fits none =
     above_key : (n x : ℕ) → first n ≡ Some x → starts_by first key n ≡ false → key < x
     above_key n x e starts = ⊎_elim
         (λ less. less)
-        (λ at_most. absurd (no (sym (starts-low first key n x e at_most) ∙ starts)))
+        (λ at_most. absurd (true≢false (sym (starts-low first key n x e at_most) ∙ starts)))
         (cases_lt key x)
-      where
-        no : true ≡ false → ⊥
-        no e = cc
 
 pub window-looks : (first : ℕ → Option ℕ) (lo hi key estimate error : ℕ) (page : Option ℕ) → IsWindow first lo hi key estimate error → lo ≤ hi → IsPageOf first lo hi key page →
     looked_at lo (min (estimate + error + 1) hi) page ≤ 2 * error + 2 + voids_in first lo hi
@@ -97,24 +94,15 @@ window-looks first lo hi key estimate error (Some page) window le is =
 -- there is one such page only
 pub one-page : (first : ℕ → Option ℕ) (lo hi key : ℕ) (page other : Option ℕ) → IsPageOf first lo hi key page → IsPageOf first lo hi key other → page ≡ other
 one-page first lo hi key None None a b = refl
-one-page first lo hi key None (Some n) a b = absurd (no (sym (a n b.from b.before) ∙ b.here))
-  where
-    no : false ≡ true → ⊥
-    no e = cc
-one-page first lo hi key (Some m) None a b = absurd (no (sym (b m a.from a.before) ∙ a.here))
-  where
-    no : false ≡ true → ⊥
-    no e = cc
+one-page first lo hi key None (Some n) a b = absurd (false≢true (sym (a n b.from b.before) ∙ b.here))
+one-page first lo hi key (Some m) None a b = absurd (false≢true (sym (b m a.from a.before) ∙ a.here))
 one-page first lo hi key (Some m) (Some n) a b = ap (λ (k : ℕ). Some k) (⊎_elim
-    (λ less. absurd (no (sym (a.later n less b.before) ∙ b.here)))
+    (λ less. absurd (false≢true (sym (a.later n less b.before) ∙ b.here)))
     (λ ge. ⊎_elim
-    (λ less. absurd (no (sym (b.later m less a.before) ∙ a.here)))
+    (λ less. absurd (false≢true (sym (b.later m less a.before) ∙ a.here)))
     (λ le. omega arith)
     (cases_lt n m))
     (cases_lt m n))
-  where
-    no : false ≡ true → ⊥
-    no e = cc
 
 -- the page among all of them is the one in the window
 pub window-back : (first : ℕ → Option ℕ) (lo hi key estimate error : ℕ) (page : Option ℕ) → IsWindow first lo hi key estimate error →
@@ -124,11 +112,8 @@ window-back first lo hi key estimate error (Some page) window is = record {
   from = is.from;
   before = ⊎_elim
       (λ within. omega (arith, within, is.before))
-      (λ above. absurd (no (sym (above-window first lo hi key estimate error page window is.from is.before (omega (arith, above))) ∙ is.here)))
+      (λ above. absurd (false≢true (sym (above-window first lo hi key estimate error page window is.from is.before (omega (arith, above))) ∙ is.here)))
       (cases_lt page (estimate + error + 1));
   here = is.here;
   later = λ n after before. is.later n after (omega (arith, before));
 }
-  where
-    no : false ≡ true → ⊥
-    no e = cc

@@ -1,6 +1,7 @@
 use Rattle.std.proofs.Common.{◌≡◌, ℕ, true, false, sym, ap, subst, ◌∙◌, arith}
 use Rattle.std.specs.Prelude.{IfErr, OnOk, unwrap_or}
 use Rattle.std.proofs.lemmas.Result.{IfOk-weaker}
+use Rattle.std.proofs.lemmas.Bool.{true≢false}
 use Rattle.fl_ring.specs.Place.{shape_of, oldest_of, next_of}
 use Rattle.fl_search.specs.Search.{IsPageOf}
 use Rattle.fl_spline.proofs.Segments.{segment-covered}
@@ -14,20 +15,17 @@ use Rattle.fl_find.proofs.Modelled.{near-found, near-limit, far-found, far-limit
 use Rattle.fl_find.proofs.Indexed.{index-covered, index-end}
 use Rattle.fl_find.proofs.index.KeyIndex.page_of.Goals as goal
 
-no : true ≡ false → ⊥
-no e = cc
-
 pub returns-in-Some-clause-far : goal.returns-in-Some-clause-far
 returns-in-Some-clause-far g c = λ uncovered.
-    absurd (no (sym (segment-covered (kept c.args.self.now.spline) c.args.key c.in-Some.segment c.args.self.now.spline.rises c.in-Some.ensures.segment) ∙ uncovered))
+    absurd (true≢false (sym (segment-covered (kept c.args.self.now.spline) c.args.key c.in-Some.segment c.args.self.now.spline.rises c.in-Some.ensures.segment) ∙ uncovered))
 
 pub returns-in-Some-clause-some : goal.returns-in-Some-clause-some
 returns-in-Some-clause-some g c = λ uncovered.
-    absurd (no (sym (segment-covered (kept c.args.self.now.spline) c.args.key c.in-Some.segment c.args.self.now.spline.rises c.in-Some.ensures.segment) ∙ uncovered))
+    absurd (true≢false (sym (segment-covered (kept c.args.self.now.spline) c.args.key c.in-Some.segment c.args.self.now.spline.rises c.in-Some.ensures.segment) ∙ uncovered))
 
 pub returns-in-Some-clause-few : goal.returns-in-Some-clause-few
 returns-in-Some-clause-few g c = λ uncovered.
-    absurd (no (sym (segment-covered (kept c.args.self.now.spline) c.args.key c.in-Some.segment c.args.self.now.spline.rises c.in-Some.ensures.segment) ∙ uncovered))
+    absurd (true≢false (sym (segment-covered (kept c.args.self.now.spline) c.args.key c.in-Some.segment c.args.self.now.spline.rises c.in-Some.ensures.segment) ∙ uncovered))
 
 pub returns-in-Some-clause-found : goal.returns-in-Some-clause-found
 returns-in-Some-clause-found g c = λ plan table holds points index.
