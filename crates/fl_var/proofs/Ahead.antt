@@ -1,6 +1,7 @@
 -- The block ahead of a ring after a seal.
 use Rattle.std.proofs.Common.{◌≡◌, ℕ, ◌+◌, ◌-◌, ◌*◌, Bool, true, false, IsTrue, Option, Some, None, Ok, List, inl, inr, refl, sym, ◌∙◌, ap, subst, arith}
 use Rattle.std.specs.Prelude.{IsErr}
+use Rattle.std.proofs.lemmas.Bool.{true≢false}
 use Rattle.fl_base.specs.declared.types.Geometry.{Geometry}
 use Rattle.fl_flash.specs.Flash.{FlashState, page_at, blank}
 use Rattle.fl_flash.specs.declared.flash.FlashFault.{FlashFault}
@@ -16,9 +17,6 @@ module _ (ring : Ring) (body : List ℕ) (old new : FlashState) (lies : LiesOn r
   abbrev due : Bool
   due = is_due_at (shape_of ring) (next_of ring + 1) (next_of ring + 1 - oldest_of ring)
 
-  not-false : true ≡ false → ⊥
-  not-false k = cc
-
   erased : (u : Unit {0}) (s : SealsLast (shape_of ring) (next_of ring) due body old (Ok u) new) (page : ℕ) → IsAhead ring page → (b : Bool) → due ≡ b → ErasesWhere (shape_of ring) (next_of ring) b s.marked (Ok u) new → page_at new page ≡ blank (shape_of ring).size
   erased u s page ahead true is e =
       let geometry : s.marked.geometry ≡ old.geometry = s.mark_then.goes.geometry ∙ s.body_first.goes.geometry in
@@ -28,7 +26,7 @@ module _ (ring : Ring) (body : List ℕ) (old new : FlashState) (lies : LiesOn r
       let at : page ≡ e.block * s.marked.geometry.block + (page - ahead_first (shape_of ring) (next_of ring + 1)) = omega (arith, first, ahead.1) in
       let here = (e.erases.ok (subst IsTrue (sym (s.mark_then.goes.tells ∙ s.body_first.goes.tells)) told)).here (page - ahead_first (shape_of ring) (next_of ring + 1)) (omega (arith, ahead.1, ahead.2, block)) in
       ap (page_at new) at ∙ (here ∙ ap blank size)
-  erased u s page ahead false is e = absurd (not-false (sym ahead.0 ∙ is))
+  erased u s page ahead false is e = absurd (true≢false (sym ahead.0 ∙ is))
 
   seal-ahead : (u : Unit {0}) → SealCalls (shape_of ring) (next_of ring) due body old (Ok u) new → (page : ℕ) → IsAhead ring page → page_at new page ≡ blank (shape_of ring).size
   seal-ahead u (inl s) page ahead = erased u s page ahead due refl s.erase_last

@@ -3,6 +3,7 @@ use Rattle.std.proofs.Common.{◌≡◌, ℕ, zero, suc, ◌+◌, ◌≤◌, Boo
 use Rattle.std.specs.Prelude.{is_some}
 use Rattle.std.specs.List.{slice_get, list_any, AllByRecursion}
 use Rattle.std.proofs.lemmas.List.{drop-append-le, length-map}
+use Rattle.std.proofs.lemmas.Bool.{true≢false}
 use Rattle.fl_model.specs.Facts.{IsContent}
 use Rattle.fl_model.specs.Layout.{ContentPage, content_body}
 use Rattle.fl_model.specs.Record.{Plan}
@@ -133,10 +134,7 @@ pub bodies-anew : (plan : Plan) (n m : ℕ) (kept : List (Option (List ℕ))) (p
 bodies-anew plan n m [] [] e h = tt
 bodies-anew plan n m [] (p ∷ pages) e h = absurd h
 bodies-anew plan n m (None ∷ kept) pages e h = bodies-anew plan (n + 1) (m + 1) kept pages e h
-bodies-anew plan n m (Some b ∷ kept) pages e h = absurd (no e)
-  where
-    no : true ≡ false → ⊥
-    no k = cc
+bodies-anew plan n m (Some b ∷ kept) pages e h = absurd (true≢false e)
 
 -- what a page that is added, and then the oldest block where it goes, makes of a ring
 module _ (r : Shape) (s : RingState) (x : Option (List ℕ)) (shape : IsShape r) (known : count s ≤ s.next) where

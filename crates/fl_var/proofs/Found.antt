@@ -2,7 +2,7 @@
 use Rattle.std.proofs.Common.{◌≡◌, ℕ, zero, suc, ◌+◌, ◌-◌, ◌*◌, ◌/◌, ◌%◌, ◌^◌, ◌<◌, ◌≤◌, Bool, true, false, cond, ◌==◌, ◌&&◌, Option, Some, None, unwrap_or, Result, Err, List, [], ◌∷◌, length, take, drop, refl, sym, ◌∙◌, ap, subst, arith, inl, inr, ◌⊎◌, length-take, length-drop}
 use Rattle.std.specs.Prelude.{option_map, nat_le}
 use Rattle.std.specs.List.{slice_get}
-use Rattle.std.proofs.lemmas.Bool.{cases_lt, lt-ltb, le-ltb, le-leb, lt-leb, eq-eqb, ne_eqb}
+use Rattle.std.proofs.lemmas.Bool.{cases_lt, lt-ltb, le-ltb, le-leb, lt-leb, eq-eqb, ne_eqb, false≢true}
 use Rattle.std.proofs.lemmas.List.{take_all}
 use Rattle.std.proofs.lemmas.Nat.{div-add-mod'}
 use Rattle.fl_base.specs.declared.types.BlobRef.{BlobRef}
@@ -190,9 +190,6 @@ module _ (v : VarData) (f : FlashState) (plan : Plan) (table : model.Table) (sta
         none : ◌≡◌ {A = Option ContentPage} None (Some (holds.pages j)) → ⊥
         none k = cc
 
-        no : false ≡ true → ⊥
-        no k = cc
-
         -- a kept page
         kept : entry.page + j < stands.ring.ring.next → oldest stands.ring.ring ≤ entry.page + j → slice_get stands.ring.ring.counts (entry.page + j - oldest stands.ring.ring) ≡ Some 1 →
             slice_get table.var_pages (full_pages (take (entry.page + j - oldest stands.ring.ring) stands.ring.ring.counts)) ≡ Some (holds.pages j) → IsPage j
@@ -211,9 +208,9 @@ module _ (v : VarData) (f : FlashState) (plan : Plan) (table : model.Table) (sta
         sealed : entry.page + j < stands.ring.ring.next → (b : Bool) → page_stands stands.ring.ring (entry.page + j) ≡ b → here j (page_stands stands.ring.ring (entry.page + j)) ≡ Some (holds.pages j) → IsPage j
         sealed lt false k e = absurd (none (sym (ap (λ (b : Bool). here j b) k) ∙ e))
         sealed lt true k e = elim (cases_lt (entry.page + j) (oldest ring)) [
-          | inl before ↦ absurd (no (sym (stands-behind (entry.page + j) before) ∙ k))
+          | inl before ↦ absurd (false≢true (sym (stands-behind (entry.page + j) before) ∙ k))
           | inr ge ↦ elim (count-at (entry.page + j - oldest ring) (omega (arith, ge, lt, known))) [
-            | inl zero_is ↦ absurd (no (sym (stands-kept (entry.page + j) 0 lt ge zero_is) ∙ k))
+            | inl zero_is ↦ absurd (false≢true (sym (stands-kept (entry.page + j) 0 lt ge zero_is) ∙ k))
             | inr one ↦ kept lt ge one (sym (ap (λ (b : Bool). here j b) k) ∙ e)
           ]
         ]

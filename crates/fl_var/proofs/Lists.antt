@@ -1,6 +1,6 @@
 -- Fronts and ends of lists.
-use Rattle.std.proofs.Common.{◌≡◌, ℕ, zero, suc, ◌+◌, ◌≤◌, Bool, true, false, ◌==◌, List, [], ◌∷◌, length, take, drop, inl, inr, refl, sym, ◌∙◌, arith}
-use Rattle.std.proofs.lemmas.Bool.{cases_lt}
+use Rattle.std.proofs.Common.{◌≡◌, ℕ, zero, suc, ◌+◌, ◌≤◌, Bool, false, ◌==◌, List, [], ◌∷◌, length, take, drop, inl, inr, refl, sym, ◌∙◌, arith}
+use Rattle.std.proofs.lemmas.Bool.{cases_lt, true≢false}
 
 pub drop-none : {X : Type 0} (xs : List X) → drop 0 xs ≡ xs
 drop-none [] = refl
@@ -17,12 +17,9 @@ drop-short zero (x ∷ xs) le = absurd (omega (arith, le))
 drop-short (suc n) [] le = refl
 drop-short (suc n) (x ∷ xs) le = drop-short n xs (omega (arith, le))
 
-differ : true ≡ false → ⊥
-differ k = cc
-
 -- a list that was found not to be empty has an element
 pub some-there : (n : ℕ) (empty : Bool) → empty ≡ (n == 0) → empty ≡ false → 1 ≤ n
-some-there zero empty is none = absurd (differ (sym is ∙ none))
+some-there zero empty is none = absurd (true≢false (sym is ∙ none))
 some-there (suc n) empty is none = omega arith
 
 -- a place that isn't the end stands before it

@@ -1,7 +1,7 @@
 -- A blob that is placed: a full buffer is sealed first, and then its bytes are written.
 use Rattle.std.proofs.Common.{◌≡◌, ℕ, ◌+◌, ◌-◌, ◌*◌, ◌/◌, ◌<◌, ◌≤◌, inl, inr, Bool, true, false, cond, ◌||◌, ◌==◌, Option, Some, unwrap_or, Result, Ok, Err, List, [], ◌∷◌, ◌++◌, length, take, drop, replicate, refl, sym, ◌∙◌, ap, subst, arith, length-append}
 use Rattle.std.specs.Prelude.{option_map, OnOk}
-use Rattle.std.proofs.lemmas.Bool.{eq-eqb, eqb-true, cases_Bool, ne_eqb, lt-ltb, le-ltb}
+use Rattle.std.proofs.lemmas.Bool.{eq-eqb, eqb-true, cases_Bool, ne_eqb, lt-ltb, le-ltb, false≢true}
 use Rattle.std.proofs.lemmas.List.{append-nil, drop-drop, drop_at, take_all, take_at}
 use Rattle.std.proofs.Math.Nat.{div-eq_of_lt, mul-add-div_right}
 use Rattle.fl_base.specs.declared.types.BlobRef.{BlobRef}
@@ -38,12 +38,9 @@ full-same v = by_test (is_full_in v) refl
     by_test false e = elim (cases_Bool (8 + v.waiting.fill == length v.waiting.body)) [
       | inl yes_full ↦
           let same : 8 + v.waiting.fill ≡ length v.waiting.body = eqb-true (8 + v.waiting.fill) (length v.waiting.body) yes_full in
-          absurd (not_both (sym e ∙ eq-eqb (length (waiting_in v)) (room_in v) (omega (arith, same, waiting-length v, v.page))))
+          absurd (false≢true (sym e ∙ eq-eqb (length (waiting_in v)) (room_in v) (omega (arith, same, waiting-length v, v.page))))
       | inr not_full ↦ not_full
     ]
-      where
-        not_both : false ≡ true → ⊥
-        not_both k = cc
 
 -- a full buffer was sealed
 pub room-sealed : (plan : Plan) (table : Table) (rose : Bool) (device : Device) (old : VarData) (old_f : FlashState) (full : Bool) (result : Result (Unit {0}) FlashFault) (v : VarData) (new : FlashState) → full ≡ true →

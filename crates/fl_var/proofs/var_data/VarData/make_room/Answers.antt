@@ -1,5 +1,6 @@
 use Rattle.std.proofs.Common.{rules, ◌≡◌, ◌+◌, Bool, true, false, cond, [], sym, ◌∙◌, ap, subst}
 use Rattle.std.specs.Prelude.{OnOk}
+use Rattle.std.proofs.lemmas.Bool.{false≢true, true≢false}
 use Rattle.fl_ring.specs.Written.{Writes, done}
 use Rattle.fl_ring.proofs.Written.{writes-fewer, writes-none}
 use Rattle.fl_var.specs.Memory.{next_in, oldest_in, oldest_after, waiting_in, IsOnRing, MaySeal}
@@ -19,10 +20,7 @@ returns-clause-quiet g c = λ left.
     let v = c.args.self.now in
     let e : is_full_in c.args.self.now ≡ true = sym (full-same v) ∙ search rules in
     let no : true ≡ false = sym e ∙ left in
-    absurd (differ no)
-  where
-    differ : true ≡ false → ⊥
-    differ k = cc
+    absurd (true≢false no)
 
 pub returns-clause-ends : goal.returns-clause-ends
 returns-clause-ends g c = λ plan table rest rose device watched has waits.
@@ -63,10 +61,7 @@ returns-clause-waits g c =
 pub returns-then-not-is_full-clause-off : goal.returns-then-not-is_full-clause-off
 returns-then-not-is_full-clause-off g c = λ full.
     let e : is_full_in c.args.self.now ≡ false = sym (full-same c.args.self.now) ∙ search rules in
-    absurd (differ (sym e ∙ full))
-  where
-    differ : false ≡ true → ⊥
-    differ k = cc
+    absurd (false≢true (sym e ∙ full))
 
 pub returns-then-not-is_full-clause-writes : goal.returns-then-not-is_full-clause-writes
 returns-then-not-is_full-clause-writes g c = writes-none (IsOnRing c.args.self.now) (cond (is_full_in c.args.self.now) 1 0) (g.F.Flash.state c.args.flash.now)
