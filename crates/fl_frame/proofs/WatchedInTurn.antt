@@ -1,5 +1,6 @@
 -- Calls that are watched, one after another, and the cause of a fault in a later one.
 use Rattle.std.proofs.Common.{◌≡◌, inl, inr, Bool, true, false, IsTrue, refl, sym, ◌∙◌, subst, arith}
+use Rattle.std.proofs.lemmas.Bool.{false≢true}
 use Rattle.fl_base.specs.Causes.{Rose}
 use Rattle.fl_flash.specs.Flash.{FlashState, Goes}
 use Rattle.fl_flash.specs.declared.flash.FlashFault.{FlashFault}
@@ -33,10 +34,7 @@ pub cause-later : (old mid new : FlashState) → Goes old mid → (old.is_on ≡
 cause-later old mid new goes on PowerLost (inl off) = inl (by_power old.is_on refl)
   where
     by_power : (b : Bool) → old.is_on ≡ b → old.is_on ≡ false
-    by_power true e = absurd (not_both (sym off ∙ on e))
-      where
-        not_both : false ≡ true → ⊥
-        not_both k = cc
+    by_power true e = absurd (false≢true (sym off ∙ on e))
     by_power false e = e
 cause-later old mid new goes on PowerLost (inr cut) = inr (cut-later old mid new goes cut)
 cause-later old mid new goes on Media rises = omega (arith, rises, goes.faults)
