@@ -1,7 +1,7 @@
 -- A configuration that is accepted has room: blocks of two pages at least, and three blocks of rows. And it is a small one.
 use Rattle.std.proofs.Common.{◌≡◌, ℕ, zero, suc, ◌+◌, ◌≤◌, Bool, true, false, IsTrue, cond, not, ◌&&◌, ◌||◌, nat_lt, ◌==◌, Option, Some, None, IfSome, is_some, unwrap_or, Result, Ok, Err, List, [], ◌∷◌, ◌++◌, refl, sym, ◌∙◌, ap, subst, ◌*◌, sum_by, arith}
 use Rattle.std.specs.List.{AllByRecursion, slice_get}
-use Rattle.std.proofs.lemmas.Bool.{ltb-false}
+use Rattle.std.proofs.lemmas.Bool.{ltb-false, false≢true}
 use Rattle.std.proofs.lemmas.Bool.Decides.{nat_tests}
 use Rattle.std.proofs.lemmas.List.Sums.{sum_by-append}
 use Rattle.std.proofs.Math.Nat.{add-mul}
@@ -95,18 +95,12 @@ table-small lines line geometry h small =
 
 -- a log has at least three blocks
 log_room : (blocks : Option ℕ) → bad_log blocks ≡ false → IsTrue (nat_lt 0 (unwrap_or blocks 0)) → 3 ≤ unwrap_or blocks 0
-log_room None e h = absurd (not_both h)
-  where
-    not_both : false ≡ true → ⊥
-    not_both e = cc
+log_room None e h = absurd (false≢true h)
 log_room (Some n) e h = ltb-false n 3 (or_left (nat_lt n 3) (nat_lt 16384 n) e)
 
 -- .. and there is no variable data beside it
 log_alone : (blocks : Option ℕ) (var : ℕ) → (is_some blocks && not (var == 0)) ≡ false → IsTrue (nat_lt 0 (unwrap_or blocks 0)) → nat_lt 0 var ≡ false
-log_alone None var e h = absurd (not_both h)
-  where
-    not_both : false ≡ true → ⊥
-    not_both e = cc
+log_alone None var e h = absurd (false≢true h)
 log_alone (Some n) var e h = let none : var ≡ 0 = grind (arith, nat_tests, e) in rw none refl
 
 table-room : (lines now : Lines) (line : TableLine) (geometry : Option Geometry) → LinesHaveRoom lines → lines.device ≡ geometry → with_table_line lines line geometry ≡ Ok now → LinesHaveRoom now

@@ -2,7 +2,7 @@
 use Rattle.std.proofs.Common.{◌≡◌, ℕ, ◌+◌, ◌-◌, ◌≤◌, Bool, true, false, cond, nat_lt, nat_le, Option, Some, None, IfSome, MatchOption, MatchBool, List, [], ◌∷◌, ◌++◌, length, take, drop, filter, refl, sym, ◌∙◌, ap, subst, arith, ◌⊎◌, inl, inr, IsTrue, length-append, length-drop, length-take, ◌<◌}
 use Rattle.std.specs.List.{slice_get, AllByRecursion, last_or, sum}
 use Rattle.std.specs.Option.{option_map, unwrap_or}
-use Rattle.std.proofs.lemmas.Bool.{cases_lt, leb-true}
+use Rattle.std.proofs.lemmas.Bool.{cases_lt, leb-true, true≢false}
 use Rattle.std.proofs.lemmas.List.{append-nil, take-append-drop, drop-append-le, drop-drop, drop-take, drop_all}
 use Rattle.std.proofs.Math.Seq.{drop-append_seam}
 use Rattle.fl_model.specs.Record.{Plan, Config, has_log}
@@ -73,9 +73,6 @@ pub record Follows (put : PutSoFar) (past : LoggedPast) : Type 0 where
 pub record IsSoFar (p : ℕ) (put : PutSoFar) (past : LoggedPast) (machine : Machine) : Type 0 where
   pub session : machine.mounted ≡ true → EndsWith put (sure_at p machine.tables)
   pub resting : machine.mounted ≡ false → Follows put past
-
-not_both : true ≡ false → ⊥
-not_both e = cc
 
 trimmed-same : (ring : Ring) → trimmed ring ring ≡ 0
 trimmed-same ring = let zero : oldest ring - oldest ring ≡ 0 = omega arith in ap (λ (n : ℕ). sum (take n ring.counts)) zero ∙ ap sum (take_none ring.counts)
@@ -233,9 +230,9 @@ goes p put past now old moment kept so_far keeps = by_old old.mounted refl
     without = cond moment.after.mounted (standing_at p moment.after.tables) (mount_gives_up p put old moment)
 
     by_after : old.mounted ≡ false → (b : Bool) → moment.after.mounted ≡ b → IsSoFar p (cond b (standing_at p moment.after.tables) (mount_gives_up p put old moment)) now moment.after
-    by_after off true e = record { session = λ m. record { front = []; is = refl; given_up = refl }; resting = λ m. absurd (not_both (sym e ∙ m)) }
+    by_after off true e = record { session = λ m. record { front = []; is = refl; given_up = refl }; resting = λ m. absurd (true≢false (sym e ∙ m)) }
     by_after off false e = record {
-      session = λ m. absurd (not_both (sym m ∙ e));
+      session = λ m. absurd (true≢false (sym m ∙ e));
       resting = λ m. subst (Follows (mount_gives_up p put old moment)) (sym (keeps.passes off)) (rest-goes p put past old moment (so_far.resting off));
     }
 
@@ -270,7 +267,7 @@ keeps-puts config old moments place room off rest logs run = by_plan (slice_get 
         let s = log-start place old t off rest q h in
         keeps-run config place plan (standing_at place old.tables) (logged_stop_at place old.tables) old moments room e l s.0
         (record {
-          session = λ m. absurd (not_both (sym m ∙ off));
+          session = λ m. absurd (true≢false (sym m ∙ off));
           resting = λ m. record {
             gone = 0;
             few = omega arith;

@@ -4,7 +4,7 @@ use Rattle.std.specs.List.{list_any, sum}
 use Rattle.std.specs.Option.{option_map}
 use Rattle.std.proofs.lemmas.List.{drop-append-le, append-nil, take-append-le}
 use Rattle.std.proofs.lemmas.List.Sums.{sum_by_push}
-use Rattle.std.proofs.lemmas.Bool.{cases_lt, eqb-true}
+use Rattle.std.proofs.lemmas.Bool.{cases_lt, eqb-true, false≢true, true≢false}
 use Rattle.fl_model.specs.Record.{Plan, has_index, has_log, entries_per_page}
 use Rattle.fl_model.specs.Ring.{Shape, Ring, sealed, erased}
 use Rattle.fl_model.specs.Table.{Table, Entry, RingName, DataRing, IndexRing, VarRing, LogRing, shape_of, with_ring, is_dirty, is_torn, seal_buffer, seal_page, after_seal, after_seals, table_seals, owed, is_rows_spent}
@@ -429,15 +429,12 @@ joined-data plan past x c t room is h some =
     let done : IsDone past x (seal_buffer plan DataRing t) = record { rests = subst (λ (g : ℕ). RestsAs (record past { given_up = g }) d) all both.0; calm = marked.torn; paid = inl both.1 } in
     let torn : Core = record (core t) { torn = true } in
     let here : (k : Core) → Halts past x k (core t) = λ k.
-    subst (λ (f : Core). Halts past x k f) (sym is) (replayed-rests (pass past x c) c c.torn h.mid.rests (λ t. absurd (not_both (sym h.calm ∙ t))) (λ t. t)) in
+    subst (λ (f : Core). Halts past x k f) (sym is) (replayed-rests (pass past x c) c c.torn h.mid.rests (λ t. absurd (false≢true (sym h.calm ∙ t))) (λ t. t)) in
     let begins : (k : Core) → Halts past x k torn = λ k.
-    subst (λ (f : Core). Halts past x k (record f { torn = true })) (sym is) (replayed-rests (pass past x c) c true h.mid.rests (λ t. whole) (λ t. absurd (not_both (sym t)))) in
+    subst (λ (f : Core). Halts past x k (record f { torn = true })) (sym is) (replayed-rests (pass past x c) c true h.mid.rests (λ t. whole) (λ t. absurd (false≢true (sym t)))) in
     let marks : (k : Core) → Halts past x k d = λ k. rests-lost (pass past x d) d done.rests in
     (data-goes plan (Halts past x) t (here (core t)) (begins (core t)) (begins torn) (marks torn) (marks d), done)
   where
-    not_both : false ≡ true → ⊥
-    not_both e = cc
-
     whole : IsWhole c
     whole = by_case h.mid.rests.fine.whole
       where
@@ -455,10 +452,7 @@ joined-seals plan past x c t a b room is h some = by_rings a b
   where
     halts : (u : Table) → core u ≡ core t → Halts past x (core u) (core u)
     halts u e =
-        subst (λ (f : Core). Halts past x f f) (sym (e ∙ is)) (replayed-rests (pass past x c) c c.torn h.mid.rests (λ t. absurd (not_both (sym h.calm ∙ t))) (λ t. t))
-      where
-        not_both : false ≡ true → ⊥
-        not_both e = cc
+        subst (λ (f : Core). Halts past x f f) (sym (e ∙ is)) (replayed-rests (pass past x c) c c.torn h.mid.rests (λ t. absurd (false≢true (sym h.calm ∙ t))) (λ t. t))
 
     last : (u : Table) → core u ≡ core t → Goes plan (Halts past x) (seals_within plan (DataRing ∷ []) u) u × IsDone past x (after_seal plan DataRing u)
     last u e = let d = joined-data plan past x c u room (e ∙ is) h some in (goes-seals plan (Halts past x) DataRing [] u d.0 tt, done-erased plan past x u d.1)
@@ -479,10 +473,7 @@ replay-joined plan past x c t true a b room is h e = (tt, nothing-joins past x c
 replay-joined plan past x c t false a b room is h e = joined-seals plan past x c t a b room is h (some (length (owed_of c)) e)
   where
     some : (n : ℕ) → (n == 0) ≡ false → 0 < n
-    some zero e = absurd (not_both e)
-      where
-        not_both : true ≡ false → ⊥
-        not_both e = cc
+    some zero e = absurd (true≢false e)
     some (suc n) e = omega arith
 
 pub replay-turn : (plan : Plan) (past : LoggedPast) (x : Core) (t : Table) → HasRoom plan → IsAfter past x (core t) →
@@ -501,10 +492,7 @@ replay-turn plan past x t room h = by_spent (is_rows_spent y) refl
 
     idle : (z a b : Bool) → (t.pending == 0) ≡ z → IsTrue (is_rows_spent y) → Goes plan (Halts past x) (seals_within plan (seals_by z a b) y) y × IsDone past x (after_seals plan (seals_by z a b) y)
     idle true a b e spent = (tt, record { rests = h.mid.rests; calm = h.calm; paid = inr spent })
-    idle false a b e spent = absurd (not_both (sym (eq-eqb t.pending 0 h.mid.rests.none) ∙ e))
-      where
-        not_both : true ≡ false → ⊥
-        not_both e = cc
+    idle false a b e spent = absurd (true≢false (sym (eq-eqb t.pending 0 h.mid.rests.none) ∙ e))
 
     by_spent : (s : Bool) → is_rows_spent y ≡ s →
         let u = cond s y j in TurnGoes plan (Halts past x) (IsDone past x) (seals_within plan (table_seals plan u) u) u

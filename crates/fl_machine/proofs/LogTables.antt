@@ -3,7 +3,7 @@ use Rattle.std.proofs.Common.{◌≡◌, ℕ, zero, suc, ◌+◌, ◌-◌, ◌/�
 use Rattle.std.specs.List.{AllByRecursion, last_or, list_any, sum}
 use Rattle.std.specs.Option.{option_map, unwrap_or}
 use Rattle.std.proofs.lemmas.List.{append-nil, drop-append-le}
-use Rattle.std.proofs.lemmas.Bool.{leb-false}
+use Rattle.std.proofs.lemmas.Bool.{leb-false, false≢true, true≢false}
 use Rattle.fl_model.specs.Record.{Record, Plan, has_index, has_log, rows_per_page, entries_per_page, content_per_page}
 use Rattle.fl_model.specs.Ring.{IsShape, Ring, sealed, begun, erased}
 use Rattle.fl_model.specs.Table.{Table, Entry, RingName, DataRing, IndexRing, VarRing, LogRing, shape_of, with_ring, is_dirty, seal_buffer, after_seal, after_seals, table_seals, make_room_seals, fill, fill_seals, join_seals, put_joined, log_seals, blob_len, start_page, start_offset, flushed, is_rows_spent, refusal_of, Refusal, key_refusal, value_refusal, blob_refusal, refuse_if, is_spent, BadKey, BadColumns, Spent, first_of as or_else}
@@ -167,10 +167,7 @@ paid-between : {Q : Rows → Type 0} (t : Table) → IsPaid Q (core t) → Betwe
 paid-between t h = Resting h.fine h.idle (inl h.paid) h.kept
 
 some-pending : {Q : Rows → Type 0} (t : Table) → Between Q t → (t.pending == 0) ≡ false → IsReady (core t)
-some-pending t (Resting fine idle paid kept) e = absurd (not_both (sym (eq-eqb t.pending 0 idle.none) ∙ e))
-  where
-    not_both : true ≡ false → ⊥
-    not_both e = cc
+some-pending t (Resting fine idle paid kept) e = absurd (true≢false (sym (eq-eqb t.pending 0 idle.none) ∙ e))
 some-pending t (Pending fine ready ends kept) e = ready
 
 -- room for a record: the log owes nothing, or has just what is pending
@@ -188,10 +185,7 @@ open-kept {Q} c (Filling fine ready ends kept) = subst (λ (es : List Entry). Q 
 
 between-open : {Q : Rows → Type 0} (t : Table) → is_rows_spent t ≡ false → Between Q t → Open Q (core t)
 between-open t e (Resting fine idle (inl paid) kept) = Paid (record { fine = fine; idle = idle; paid = paid; kept = kept })
-between-open t e (Resting fine idle (inr spent) kept) = absurd (not_both (sym e ∙ spent))
-  where
-    not_both : false ≡ true → ⊥
-    not_both e = cc
+between-open t e (Resting fine idle (inr spent) kept) = absurd (false≢true (sym e ∙ spent))
 between-open t e (Pending fine ready ends kept) = Filling fine ready ends kept
 
 open-between : {Q : Rows → Type 0} (t : Table) → Open Q (core t) → Between Q t

@@ -4,6 +4,7 @@ use Rattle.std.specs.List.{slice_get, AllByRecursion, sum}
 use Rattle.std.specs.Option.{is_some, option_map, unwrap_or}
 use Rattle.std.proofs.lemmas.List.{append-nil}
 use Rattle.std.proofs.lemmas.Option.{slice_get-map}
+use Rattle.std.proofs.lemmas.Bool.{false≢true, true≢false}
 use Rattle.fl_model.specs.Record.{Plan, Record, Config, has_log, bytes_equal}
 use Rattle.fl_model.specs.Ring.{Ring, fresh}
 use Rattle.fl_model.specs.Table.{Table, Entry, refusal_of, lose, put_joined, put_record, join_seals, flushed, table_seals, is_rows_spent, make_room_seals}
@@ -77,12 +78,6 @@ pub record LogKeeps (p : ℕ) (past now : LoggedPast) (old : Machine) (moment : 
 abbrev pub LogKeepsAll : ℕ → LoggedPast → Machine → Moment → Command → Type 0
 LogKeepsAll p past old moment c = LogKeeps p past (logged_past_on p past old moment moment.last c) old moment c
 
-not_both : true ≡ false → ⊥
-not_both e = cc
-
-not_either : false ≡ true → ⊥
-not_either e = cc
-
 -- ---- the past
 
 ring-there : (p : ℕ) (list : List Table) (t : Table) → slice_get list p ≡ Some t → ring_at p list ≡ t.rows
@@ -105,7 +100,7 @@ same-session : (p : ℕ) (now : LoggedPast) (old : Machine) (moment : Moment) �
 same-session p now old moment last same mounted m = record {
   goes = subst (λ (list : List Table). GoesFrom (rows_at p old.tables) (rows_at p list)) (sym (tables-none moment last ∙ same)) (from-none (rows_at p old.tables));
   last = λ e. last;
-  stops = λ off. absurd (not_both (sym (mounted ∙ m) ∙ off));
+  stops = λ off. absurd (true≢false (sym (mounted ∙ m) ∙ off));
 }
 
 stands-now : (p : ℕ) (list : List Table) → Stands Any p list → Stands (GoesFrom (rows_at p list)) p list
@@ -157,15 +152,15 @@ log-working : (p : ℕ) (past : LoggedPast) (old : Machine) (moment : Moment) (c
 log-working p past old moment c new other last same was mounted stands = record {
   kept = record {
     session = λ m. subst (λ (list : List Table). Stands Any p list) (sym same) (stands-any (GoesFrom (rows_at p old.tables)) p new stands);
-    resting = λ m. absurd (not_both (sym mounted ∙ m));
+    resting = λ m. absurd (true≢false (sym mounted ∙ m));
   };
   session = λ m. record {
     goes = subst (λ (list : List Table). GoesFrom (rows_at p old.tables) (rows_at p list)) (sym (tables-none moment last ∙ same))
         (subst (GoesFrom (rows_at p old.tables)) (sym (rows-there p new stands.table stands.is)) (between-kept stands.table stands.between));
     last = λ e. last;
-    stops = λ off. absurd (not_both (sym mounted ∙ off));
+    stops = λ off. absurd (true≢false (sym mounted ∙ off));
   };
-  passes = λ off. absurd (not_both (sym was ∙ off));
+  passes = λ off. absurd (true≢false (sym was ∙ off));
   finds = λ e r. absurd (other e);
 }
 
@@ -186,12 +181,12 @@ log-stopped p past old moment c end last replies other mounted halts stops =
     subst (λ (l : Option (List Table)). LogKeeps p past (logged_past_on p past old moment l c) old moment c) (sym stops.last_is)
     (subst (λ (q : LoggedPast). LogKeeps p past q old moment c) (sym is) (record {
       kept = record {
-        session = λ m. absurd (not_either (sym (ap (λ (m : Machine). m.mounted) stops.after_is) ∙ m));
+        session = λ m. absurd (false≢true (sym (ap (λ (m : Machine). m.mounted) stops.after_is) ∙ m));
         resting = λ m. subst (λ (list : List Table). Rests p (logged_passing p (logged_stop_at p last) last list) list) (sym same) (record { table = lose halts.after; is = there; rests = rests });
       };
       session = λ m. record {
         goes = subst (λ (list : List Table). GoesFrom (rows_at p old.tables) (rows_at p list)) (sym now) (subst (GoesFrom (rows_at p old.tables)) (sym (rows-there p last halts.before halts.before_is)) halts.stops.1);
-        last = λ on. absurd (not_either (sym (ap (λ (m : Machine). m.mounted) stops.after_is) ∙ on));
+        last = λ on. absurd (false≢true (sym (ap (λ (m : Machine). m.mounted) stops.after_is) ∙ on));
         stops = λ off. record {
           sure = ap (sure_at p) now;
           unsure = ap (λ (list : List Table). unsure (logged_stop_at p list)) now;
@@ -201,7 +196,7 @@ log-stopped p past old moment c end last replies other mounted halts stops =
               ∙ (zero-add (trimmed (ring_at p last) (ring_at p moment.after.tables)) ∙ ap (λ (list : List Table). trimmed (ring_at p list) (ring_at p moment.after.tables)) (sym now));
         };
       };
-      passes = λ off. absurd (not_both (sym mounted ∙ off));
+      passes = λ off. absurd (true≢false (sym mounted ∙ off));
       finds = λ e r. absurd (other e);
     }))
 
@@ -508,10 +503,10 @@ log-off-session p past old moment end last replies x off other e h stops =
     subst (λ (l : Option (List Table)). LogKeeps p past (logged_past_on p past old moment l command.Mount) old moment command.Mount) (sym stops.last_is)
     (subst (λ (q : LoggedPast). LogKeeps p past q old moment command.Mount) (sym is) (record {
       kept = record {
-        session = λ m. absurd (not_either (sym (ap (λ (m : Machine). m.mounted) stops.after_is) ∙ m));
+        session = λ m. absurd (false≢true (sym (ap (λ (m : Machine). m.mounted) stops.after_is) ∙ m));
         resting = λ m. log-left p past old moment end.tables x e h (ap (λ (m : Machine). m.tables) stops.after_is);
       };
-      session = λ m. absurd (not_both (sym m ∙ off));
+      session = λ m. absurd (true≢false (sym m ∙ off));
       passes = λ m. refl;
       finds = λ c r. absurd (other (sym stops.replies_are ∙ r));
     }))
@@ -543,19 +538,19 @@ log-mount config p own past old moment (Mounted end) x e logged off k kept (t, i
     subst (λ (l : Option (List Table)). LogKeeps p past (logged_past_on p past old moment l command.Mount) old moment command.Mount) (sym h.last_is) (record {
       kept = record {
         session = λ m. record { table = t; is = now; between = Resting rests.fine (record { none = rests.none; calm = done.calm }) done.paid (adds-all (sure_in (core t))) };
-        resting = λ m. absurd (not_both (sym (ap (λ (m : Machine). m.mounted) h.after_is) ∙ m));
+        resting = λ m. absurd (true≢false (sym (ap (λ (m : Machine). m.mounted) h.after_is) ∙ m));
       };
-      session = λ m. absurd (not_both (sym m ∙ off));
+      session = λ m. absurd (true≢false (sym m ∙ off));
       passes = λ m. refl;
       finds = λ c r. subst (λ (o : Option Table). MatchOption o ⊥ (IsLoggedFound (logged_passing p past old.tables moment.after.tables))) (sym now) (found-done (logged_passing p past old.tables moment.after.tables) t rests.found done.paid);
     })
 log-mount config p own past old moment (Unread end) x e logged off k kept left h =
     subst (λ (l : Option (List Table)). LogKeeps p past (logged_past_on p past old moment l command.Mount) old moment command.Mount) (sym h.last_is) (record {
       kept = record {
-        session = λ m. absurd (not_either (sym (ap (λ (m : Machine). m.mounted) h.after_is ∙ off) ∙ m));
+        session = λ m. absurd (false≢true (sym (ap (λ (m : Machine). m.mounted) h.after_is ∙ off) ∙ m));
         resting = λ m. log-left p past old moment end.tables x k left (ap (λ (m : Machine). m.tables) h.after_is);
       };
-      session = λ m. absurd (not_both (sym m ∙ off));
+      session = λ m. absurd (true≢false (sym m ∙ off));
       passes = λ m. refl;
       finds = λ c r. absurd (no_fault (sym h.replies_are ∙ r));
     })
@@ -595,7 +590,7 @@ log-off p past old moment kept h = by_test old.mounted refl
         subst (λ (l : Option (List Table)). LogKeeps p past (logged_past_on p past old moment l command.Off) old moment command.Off) (sym h.last_is)
         (subst (λ (r : LoggedPast). LogKeeps p past r old moment command.Off) (sym is) (record {
           kept = record {
-            session = λ m. absurd (not_either (sym (ap (λ (m : Machine). m.mounted) h.after_is) ∙ m));
+            session = λ m. absurd (false≢true (sym (ap (λ (m : Machine). m.mounted) h.after_is) ∙ m));
             resting = λ m. subst (λ (list : List Table). Rests p q list) (sym same) rests;
           };
           session = session;
@@ -657,11 +652,11 @@ log-off p past old moment kept h = by_test old.mounted refl
         let begins : logged_stop_at p old.tables ≡ past_of t = ap (λ (o : Option Table). unwrap_or (option_map past_of o) nothing_held) s.is in
         after_off (past_of t) (ap (λ (b : Bool). cond b (logged_stop_at p old.tables) past) e ∙ begins)
         (record { table = lose t; is = lose-there t s.is; rests = rests-here (core t) 0 refl (between-fine t s.between) (between-phase t s.between) })
-        (λ m. stopped_at t s.is s.between) (λ m. absurd (not_both (sym e ∙ m)))
+        (λ m. stopped_at t s.is s.between) (λ m. absurd (true≢false (sym e ∙ m)))
     by_test false e =
         let r = kept.resting e in
         after_off past (ap (λ (b : Bool). cond b (logged_stop_at p old.tables) past) e) (record { table = lose r.table; is = lose-there r.table r.is; rests = rests-lost past (core r.table) r.rests })
-        (λ m. absurd (not_both (sym m ∙ e))) (λ m. passes_off r.table r.is)
+        (λ m. absurd (true≢false (sym m ∙ e))) (λ m. passes_off r.table r.is)
 
 -- ---- each step
 
@@ -769,7 +764,7 @@ rest-start t rest logged = record { fine = fine; none = rest.pending; found = ow
     owes = ap (λ (z : Bool). cond z (length (owed_of (core t))) t.pending) b
 
     there : (o : Option Ring) → IsTrue (is_some o) → IsThere (log_in o)
-    there None h = absurd (not_either h)
+    there None h = absurd (false≢true h)
     there (Some r) h = tt
 
     safe_in : (o : Option Ring) → IfSome o IsSafe → IfSome (log_in o) IsSafePage
@@ -800,7 +795,7 @@ pub log-start : (p : ℕ) (old : Machine) (t : Table) → old.mounted ≡ false 
     IsLogKept p (logged_stop_at p old.tables) old × (unsure (logged_stop_at p old.tables) ≡ [])
 log-start p old t off rest k logged = (
   record {
-    session = λ m. absurd (not_either (sym off ∙ m));
+    session = λ m. absurd (false≢true (sym off ∙ m));
     resting = λ m. record { table = t; is = k; rests = subst (λ (q : LoggedPast). RestsAs q (core t)) (sym begins) start };
   },
   ap unsure begins ∙ ap (λ (u : Bool). cond u (drop (length (past_of t).held - 1) (past_of t).held) []) (all-logged (core t) start.fine (inl start.none)),

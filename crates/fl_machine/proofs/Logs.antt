@@ -5,7 +5,7 @@ use Rattle.std.specs.Option.{is_some, option_map, unwrap_or}
 use Rattle.std.proofs.lemmas.List.Sums.{sum_by-append, sum_by_push, sum_by-take-drop, sum_by-take-le}
 use Rattle.std.proofs.lemmas.List.{take-append-drop, take-append-le, drop-append-le, drop-drop, append-nil}
 use Rattle.std.proofs.Math.Seq.{take-add, take-append_seam, drop-append_seam}
-use Rattle.std.proofs.lemmas.Bool.{ltb-true, ltb-false, eqb-true}
+use Rattle.std.proofs.lemmas.Bool.{ltb-true, ltb-false, eqb-true, false≢true, true≢false}
 use Rattle.fl_model.specs.Ring.{Shape, IsShape, Ring, sealed, extended, is_full}
 use Rattle.fl_model.specs.Table.{Table, Entry, is_above}
 use Rattle.fl_model.specs.Log.{last_key}
@@ -388,10 +388,7 @@ below-last xs (y ∷ ys) e some h = by_last (last_or (Some y) ys) refl (some_las
     some_last o (z ∷ zs) h = some_last (Some z) zs refl
 
     by_last : (o : Option Entry) → last_or (Some y) ys ≡ o → IsTrue (is_some (last_or (Some y) ys)) → is_above (xs ++ y ∷ ys) e ≡ false
-    by_last None q t = absurd (not_some (subst (λ (p : Option Entry). IsTrue (is_some p)) q t))
-      where
-        not_some : false ≡ true → ⊥
-        not_some e = cc
+    by_last None q t = absurd (false≢true (subst (λ (p : Option Entry). IsTrue (is_some p)) q t))
     by_last (Some last) q t =
         let key : e.kept.key ≤ last.kept.key = subst (λ (p : Option Entry). e.kept.key ≤ unwrap_or (option_map (λ (x : Entry). x.kept.key) p) 0) q h in
         ap (λ (p : Option Entry). unwrap_or (option_map (λ (x : Entry). nat_lt x.kept.key e.kept.key) p) true) (last-append None xs y ys ∙ q) ∙ not-lt last.kept.key e.kept.key key
@@ -655,10 +652,7 @@ paid-below c new paid h =
     below e k = by_last (last_or None (front_of c)) refl k
       where
         by_last : (o : Option Entry) → last_or None (front_of c) ≡ o → unwrap_or (option_map (λ (l : Entry). nat_lt l.kept.key e.kept.key) o) true ≡ false → e.kept.key < new.kept.key
-        by_last None q k = absurd (not_both k)
-          where
-            not_both : true ≡ false → ⊥
-            not_both e = cc
+        by_last None q k = absurd (true≢false k)
         by_last (Some w) q k = let more = ltb-false w.kept.key e.kept.key k in let less = h w q in omega (arith, more, less)
 
 -- a record with a greater key joins
@@ -715,10 +709,7 @@ joins-ready new c fine h ends greater = record {
     last_same = ap (last_or None) (sym (splits c)) ∙ last_part (front_of c) (rest_of c) some
 
     key_less : (o : Option Entry) → ((w : Entry) → o ≡ Some w → w.kept.key < new.kept.key) → IsTrue (is_some o) → unwrap_or (option_map (λ (y : Entry). y.kept.key) o) 0 < new.kept.key
-    key_less None k t = absurd (no t)
-      where
-        no : false ≡ true → ⊥
-        no e = cc
+    key_less None k t = absurd (false≢true t)
     key_less (Some w) k t = k w refl
 
     is_there : (xs : List Entry) → 0 < length xs → IsTrue (is_some (last_or None xs))
@@ -840,10 +831,7 @@ torn-whole c t fine = by_case fine.whole
   where
     by_case : (owed_of c ≡ c.logged) ⊎ ((owed_of c ≡ []) × (c.torn ≡ false)) → IsWhole c
     by_case (inl e) = e
-    by_case (inr e) = absurd (not_both (sym t ∙ e.1))
-      where
-        not_both : true ≡ false → ⊥
-        not_both e = cc
+    by_case (inr e) = absurd (true≢false (sym t ∙ e.1))
 
 voided-front : (c d : Core) → c.pending ≡ 0 → (h : IsVoided c d) → front_of d ≡ drop (sum (take h.gone c.counts)) (front_of c)
 voided-front c d none h = front-all d (h.pending ∙ none) ∙ (h.entries ∙ ap (drop (sum (take h.gone c.counts))) (sym (front-all c none)))
@@ -913,10 +901,7 @@ log-voided-rests past c counts gone logged is few fewer keeps rests = by_keeps k
       where
         by_safe : IsSafePage (counts, true) → (others : List ℕ) × (count : ℕ) × (0 < count) × (counts ≡ others ++ count ∷ [])
         by_safe (others, count, full, inl e) = (others, count, full, e)
-        by_safe (others, count, full, inr e) = absurd (not_both e.1)
-          where
-            not_both : true ≡ false → ⊥
-            not_both e = cc
+        by_safe (others, count, full, inr e) = absurd (true≢false e.1)
 
     kept_counts : (others : List ℕ) (count : ℕ) → counts ≡ others ++ count ∷ [] → drop gone (counts ++ 0 ∷ []) ≡ drop gone others ++ count ∷ 0 ∷ []
     kept_counts others count e =
@@ -963,16 +948,13 @@ log-voided-rests past c counts gone logged is few fewer keeps rests = by_keeps k
       where
         by_owed : (es : List Entry) → owed_of c ≡ es → owed_of c ≡ []
         by_owed [] q = q
-        by_owed (e ∷ es) q = absurd (differ (sym (ap (list_any (nat_lt 0)) (kept_counts s.0 s.1 s.3) ∙ any-end (drop gone s.0) s.1 (0 ∷ []) s.2) ∙ k.0))
+        by_owed (e ∷ es) q = absurd (true≢false (sym (ap (list_any (nat_lt 0)) (kept_counts s.0 s.1 s.3) ∙ any-end (drop gone s.0) s.1 (0 ∷ []) s.2) ∙ k.0))
           where
             s : (others : List ℕ) × (count : ℕ) × (0 < count) × (counts ≡ others ++ count ∷ [])
             s = safe_counts (λ z. differs (sym q ∙ z))
               where
                 differs : e ∷ es ≡ [] → ⊥
                 differs z = cc
-
-            differ : true ≡ false → ⊥
-            differ e = cc
 
 -- ---- the replay
 
