@@ -3,6 +3,7 @@ use Rattle.std.proofs.Common.{◌≡◌, ◌⊎◌, inl, inr, ℕ, suc, ◌+◌,
 use Rattle.std.specs.Prelude.{IfSome}
 use Rattle.std.specs.List.{AllByRecursion, last_or}
 use Rattle.std.proofs.lemmas.Bool.{leb-true}
+use Rattle.std.proofs.lemmas.Option.{none-some}
 use Rattle.fl_model.specs.Facts.{IsTable}
 use Rattle.fl_model.specs.Record.{Plan}
 use Rattle.fl_model.specs.Ring.{oldest}
@@ -76,9 +77,6 @@ last-point end key before (page ∷ pages) number below e = by_key (λ before e.
 pub end-past : (knots : ℕ) (plan : Plan) (table : Table) (key : ℕ) → IsTable plan table → HasPoints table → Rises table.points → IfSome (page_at table key) (λ page. page < pages_end knots plan table key)
 end-past knots plan table key facts points up = by_page (page_at table key) refl
   where
-    no : {n : ℕ} → ◌≡◌ {A = Option ℕ} None (Some n) → ⊥
-    no e = cc
-
     by_covered : (page : ℕ) (b : Bool) → is_covered (retained knots plan.error table.points) key ≡ b → HasPoint (oldest table.rows + length table.rows.counts) (pages_of table) key page →
         page < cond b (min (estimate (retained knots plan.error table.points) key + plan.error + 1) table.rows.next) table.rows.next
     by_covered page true covered p =
@@ -93,6 +91,6 @@ end-past knots plan table key facts points up = by_page (page_at table key) refl
     by_page : (o : Option ℕ) → page_at table key ≡ o → IfSome o (λ page. page < pages_end knots plan table key)
     by_page None e = tt
     by_page (Some page) e = elim (last-point (oldest table.rows + length table.rows.counts) key None (pages_of table) page (each-below (oldest table.rows) table.rows.counts table.entries) e) [
-      | inl none ↦ absurd (no none)
+      | inl none ↦ absurd (none-some _ none)
       | inr p ↦ by_covered page (is_covered (retained knots plan.error table.points) key) refl p
     ]

@@ -3,6 +3,7 @@ use Rattle.std.proofs.Common.{◌≡◌, ℕ, zero, suc, ◌+◌, ◌-◌, ◌<�
 use Rattle.std.specs.Prelude.{◌==◌}
 use Rattle.std.specs.List.{slice_get, sum}
 use Rattle.std.proofs.lemmas.Bool.{cases_lt, eq-eqb, ne_eqb, false≢true}
+use Rattle.std.proofs.lemmas.Option.{none-some}
 use Rattle.fl_model.specs.Row.{Row, stored_row}
 use Rattle.fl_model.specs.Table.{Entry}
 use Rattle.fl_model.specs.Query.{entry_at}
@@ -17,10 +18,7 @@ tail entry entries up i j a b less e f = up (suc i) (suc j) a b (omega (arith, l
 
 -- an entry with the key is the one that is found
 pub found-at : (key : ℕ) (entries : List Entry) (i : ℕ) (entry : Entry) → Ascending entries → slice_get entries i ≡ Some entry → entry.kept.key ≡ key → entry_at key entries ≡ Some entry
-found-at key [] i entry up e k = absurd (none e)
-  where
-    none : ◌≡◌ {A = Option Entry} None (Some entry) → ⊥
-    none e = cc
+found-at key [] i entry up e k = absurd (none-some entry e)
 found-at key (x ∷ entries) zero entry up e k =
     let same : x ≡ entry = cc in
     let test : (x.kept.key == key) ≡ true = eq-eqb x.kept.key key (ap (λ (y : Entry). y.kept.key) same ∙ k) in
@@ -78,18 +76,12 @@ part-ascends counts entries page count up i j a b less e f =
 
 -- the rows of entries in the order of their keys
 pub row-entry : (entries : List Entry) (i : ℕ) (row : Row) → slice_get (map stored_row entries) i ≡ Some row → (entry : Entry) × (slice_get entries i ≡ Some entry) × (stored_row entry ≡ row)
-row-entry [] i row e = absurd (none e)
-  where
-    none : ◌≡◌ {A = Option Row} None (Some row) → ⊥
-    none e = cc
+row-entry [] i row e = absurd (none-some row e)
 row-entry (x ∷ entries) zero row e = (x, refl, let same : stored_row x ≡ row = cc in same)
 row-entry (x ∷ entries) (suc i) row e = row-entry entries i row e
 
 pub entry-row : (entries : List Entry) (i : ℕ) (entry : Entry) → slice_get entries i ≡ Some entry → slice_get (map stored_row entries) i ≡ Some (stored_row entry)
-entry-row [] i entry e = absurd (none e)
-  where
-    none : ◌≡◌ {A = Option Entry} None (Some entry) → ⊥
-    none e = cc
+entry-row [] i entry e = absurd (none-some entry e)
 entry-row (x ∷ entries) zero entry e = let same : x ≡ entry = cc in ap (λ (y : Entry). Some (stored_row y)) same
 entry-row (x ∷ entries) (suc i) entry e = entry-row entries i entry e
 
@@ -102,10 +94,7 @@ rows-rise entries up i j a b less e f =
 
 -- the entries of earlier pages come before
 sums-mono : (counts : List ℕ) (p q count : ℕ) → p < q → slice_get counts p ≡ Some count → sum (take p counts) + count ≤ sum (take q counts)
-sums-mono [] p q count less e = absurd (none e)
-  where
-    none : ◌≡◌ {A = Option ℕ} None (Some count) → ⊥
-    none e = cc
+sums-mono [] p q count less e = absurd (none-some count e)
 sums-mono (d ∷ counts) p zero count less e = absurd (omega (arith, less))
 sums-mono (d ∷ counts) zero (suc q) count less e = let same : d ≡ count = cc in let total = sum-cons d (take q counts) in omega (arith, same, total)
 sums-mono (d ∷ counts) (suc p) (suc q) count less e =
@@ -124,9 +113,6 @@ module _ (first : ℕ → Option ℕ) (oldest : ℕ) (counts : List ℕ) (entrie
       by_head : (o : Option Entry) → slice_get entries (sum (take at.page counts)) ≡ o → starts_by first key (oldest + at.page) ≡ true
       by_head None h = absurd (missing (cases_lt (sum (take at.page counts)) i))
         where
-          lost : ◌≡◌ {A = Option Entry} None (Some entry) → ⊥
-          lost f = cc
-
           missing : (sum (take at.page counts) < i) ⊎ (i ≤ sum (take at.page counts)) → ⊥
           missing (inl less) = short (sum (take at.page counts)) h (omega (arith, less, slice_get-short entries i entry e))
             where
@@ -138,7 +124,7 @@ module _ (first : ℕ → Option ℕ) (oldest : ℕ) (counts : List ℕ) (entrie
                     where
                       differ : ◌≡◌ {A = Option Entry} None (Some x.0) → ⊥
                       differ q = cc
-          missing (inr ge) = let same : sum (take at.page counts) ≡ i = omega (arith, ge, at.from) in lost (sym h ∙ (ap (slice_get entries) same ∙ e))
+          missing (inr ge) = let same : sum (take at.page counts) ≡ i = omega (arith, ge, at.from) in none-some entry (sym h ∙ (ap (slice_get entries) same ∙ e))
       by_head (Some x) h =
           let here = part-get counts entries at.page at.count (sum (take at.page counts)) x (omega arith) (omega (arith, at.from, at.to)) h in
           let zero_is : sum (take at.page counts) - sum (take at.page counts) ≡ 0 = omega arith in

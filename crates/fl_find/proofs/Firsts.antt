@@ -6,6 +6,7 @@ use Rattle.std.proofs.Math.Dec.{eqb-suc-zero}
 use Rattle.std.proofs.lemmas.Bool.{cases_lt, leb-true, leb-false}
 use Rattle.std.proofs.lemmas.List.{drop-drop, take-take, drop-take, length-drop}
 use Rattle.std.proofs.lemmas.List.Sums.{sum_by-cons}
+use Rattle.std.proofs.lemmas.Option.{none-some}
 use Rattle.fl_model.specs.Table.{Entry}
 use Rattle.fl_model.specs.Spline.{pages_from, page_key}
 use Rattle.fl_model.proofs.Lists.{slice_get-drop, slice_get-front}
@@ -159,10 +160,7 @@ begins-by first number (count ∷ counts) entries n key firsts from less e = ⊎
     (cases_lt number n)
   where
     head : (taken : List Entry) (o : Option Entry) → ((x : Entry) → slice_get taken 0 ≡ Some x → slice_get entries 0 ≡ Some x) → key_of taken ≡ Some key → BeginsBy entries key
-    head [] o front k = absurd (no k)
-      where
-        no : ◌≡◌ {A = Option ℕ} None (Some key) → ⊥
-        no k = cc
+    head [] o front k = absurd (none-some key k)
     head (x ∷ taken) o front k = let same : x.kept.key ≡ key = cc in record { index = 0; entry = x; here = front x refl; key_is = same }
 
 -- entries in the order of their keys
@@ -184,10 +182,7 @@ firsts-ascend first number (count ∷ counts) entries firsts up i j x y from les
     (cases_lt number i)
   where
     by_head : (taken : List Entry) (n : ℕ) → take count entries ≡ taken → key_of taken ≡ Some x → BeginsBy (drop count entries) y → x < y
-    by_head [] n t k b = absurd (no k)
-      where
-        no : ◌≡◌ {A = Option ℕ} None (Some x) → ⊥
-        no k = cc
+    by_head [] n t k b = absurd (none-some x k)
     by_head (a ∷ taken) n t k b =
         let some : 0 < count = some_taken count t in
         let key : a.kept.key ≡ x = cc in
@@ -223,12 +218,9 @@ point-of first number (zero ∷ counts) entries n key firsts enough from less e 
     (λ after.
     let total = sum-cons 0 counts in
     point-of first (number + 1) counts entries n key (subst (λ (l : List Entry). AreFirsts first (number + 1) counts l) (drop_none entries) firsts.1) (omega (arith, total, enough)) (omega arith) (omega (arith, less)) e)
-    (λ here. let same : number ≡ n = omega (arith, from) in absurd (no (sym (firsts.0 ∙ ap key_of (take_none entries)) ∙ (ap first same ∙ e))))
+    (λ here. let same : number ≡ n = omega (arith, from) in absurd (none-some key (sym (firsts.0 ∙ ap key_of (take_none entries)) ∙ (ap first same ∙ e))))
     (cases_lt number n)
   where
-    no : ◌≡◌ {A = Option ℕ} None (Some key) → ⊥
-    no k = cc
-
     take_none : (xs : List Entry) → take 0 xs ≡ []
     take_none [] = refl
     take_none (x ∷ xs) = refl

@@ -1,6 +1,7 @@
 -- Looks at pages, one after another.
-use Rattle.std.proofs.Common.{◌≡◌, ℕ, IsTrue, Option, Some, None, List, refl, sym, ap, subst, ◌∙◌, arith, Result, Ok, Err}
+use Rattle.std.proofs.Common.{◌≡◌, ℕ, IsTrue, List, refl, sym, ap, subst, ◌∙◌, arith, Result, Ok, Err}
 use Rattle.std.specs.Prelude.{IfErr}
+use Rattle.std.proofs.lemmas.Option.{none-some, same_Some}
 use Rattle.fl_flash.specs.Buffer.{BufferState}
 use Rattle.fl_flash.specs.Places.{page_of}
 use Rattle.fl_flash.specs.Flash.{FlashState, ReadsPage, page_at}
@@ -49,14 +50,8 @@ since-then ring layout f buf now layout_now a buf_a b buf_b since looks fresh =
 -- a buffer that was read into
 pub fresh-read : (old new : FlashState) (page size : ℕ) (result : Result (Unit {0}) FlashFault) (into : BufferState) → ReadsPage old page size result into new → IsFresh new into
 fresh-read old new page size (Ok u) into is p told holds =
-    is.bytes (subst (λ t. IsTrue t) is.goes.tells told) ∙ (ap (page_at old) (one page p (sym is.holds ∙ holds)) ∙ ap (λ (pages : ℕ → List ℕ). pages p) (sym (looks-pages old new (looks-read old new page size (Ok u) into is))))
-  where
-    one : (x y : ℕ) → ◌≡◌ {A = Option ℕ} (Some x) (Some y) → x ≡ y
-    one x y h = cc
-fresh-read old new page size (Err e) into is p told holds = absurd (no (sym is.none ∙ holds))
-  where
-    no : ◌≡◌ {A = Option ℕ} None (Some p) → ⊥
-    no h = cc
+    is.bytes (subst (λ t. IsTrue t) is.goes.tells told) ∙ (ap (page_at old) (same_Some page p (sym is.holds ∙ holds)) ∙ ap (λ (pages : ℕ → List ℕ). pages p) (sym (looks-pages old new (looks-read old new page size (Ok u) into is))))
+fresh-read old new page size (Err e) into is p told holds = absurd (none-some p (sym is.none ∙ holds))
 
 -- reads that rose stay so
 pub rose-later : (a b c : FlashState) → RoseSome a.work.reads b.work.reads → OnlyLooks b c → RoseSome a.work.reads c.work.reads

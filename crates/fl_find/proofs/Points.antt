@@ -6,6 +6,7 @@ use Rattle.std.proofs.Math.Dec.{eqb-suc-zero}
 use Rattle.std.proofs.Math.Nat.{mul-le-mul_right}
 use Rattle.std.proofs.lemmas.Bool.{ltb-true}
 use Rattle.std.proofs.lemmas.List.{drop-drop, take-append-drop, length-drop, length-take-le}
+use Rattle.std.proofs.lemmas.Option.{none-some}
 use Rattle.fl_model.specs.Record.{Plan}
 use Rattle.fl_model.specs.Ring.{IsShape, oldest, is_full, extended}
 use Rattle.fl_model.specs.Table.{Table, Entry, DataRing, shape_of, pending_entries, first_pending, seal_buffer}
@@ -128,10 +129,7 @@ module _ (plan : Plan) (table : Table) (facts : IsTable plan table) where
       here = ap (λ n. slice_get (drop n table.entries) 0) (sym written_is) ∙ first
 
       key_is : (c : ℕ) (l : List Entry) → slice_get l 0 ≡ Some e → page_key (table.rows.next, take (suc c) l) ≡ e.kept.key
-      key_is c [] h = absurd (none h)
-        where
-          none : ◌≡◌ {A = Option Entry} None (Some e) → ⊥
-          none h = cc
+      key_is c [] h = absurd (none-some e h)
       key_is c (x ∷ l) h = let same : x ≡ e = cc in ap (λ (y : Entry). y.kept.key) same
 
       by_count : (n : ℕ) → table.pending ≡ n → points_from table.rows.next (table.pending ∷ []) (drop (sum table.rows.counts) table.entries) ≡ (e.kept.key, table.rows.next) ∷ []
@@ -160,10 +158,7 @@ module _ (plan : Plan) (table : Table) (facts : IsTable plan table) where
   further points key first = by_last (last_of (points_of table)) refl
     where
       by_pending : (o : Option Entry) → slice_get (pending_entries table) 0 ≡ o → option_map (λ (entry : Entry). entry.kept.key) o ≡ Some key → (e : Entry) × (slice_get (pending_entries table) 0 ≡ Some e) × (e.kept.key ≡ key)
-      by_pending None h k = absurd (none k)
-        where
-          none : ◌≡◌ {A = Option ℕ} None (Some key) → ⊥
-          none k = cc
+      by_pending None h k = absurd (none-some key k)
       by_pending (Some e) h k = (e, h, let same : e.kept.key ≡ key = cc in same)
 
       by_last : (o : Option (ℕ × ℕ)) → last_of (points_of table) ≡ o → IsFurther table.points (key, table.rows.next)
