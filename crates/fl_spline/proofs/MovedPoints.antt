@@ -1,7 +1,7 @@
 -- Which points one more point moves: the last one alone, where no other came or went.
 use Rattle.std.proofs.Common.{ℕ, ◌≡◌, ◌<◌, ◌≤◌, ◌+◌, ◌-◌, List, [], ◌∷◌, ◌++◌, length, take, drop, arith, refl, ap, sym, ◌∙◌, Some, length-append, length-take, length-drop, get_or}
 use Rattle.std.proofs.lemmas.List.{get_or-take, get_or-drop}
-use Rattle.std.proofs.lemmas.Option.{slice_get-get_or}
+use Rattle.std.proofs.lemmas.Option.{slice_get-get_or, same_Some}
 use Rattle.std.proofs.Math.ListN.{get_or-append}
 use Rattle.std.proofs.Math.Seq.{get_or-append_seam}
 use Rattle.fl_spline.specs.Points.{IsPast, IsFurther, Rises, LastMoved, newest, oldest_key}
@@ -36,10 +36,7 @@ moved-push n xs p two up count oldest =
     let second : get_or (drop 1 xs ++ p ∷ []) 0 (0, 0) ≡ get_or xs 1 (0, 0)
     = get_or-append (drop 1 xs) (p ∷ []) (0, 0) 0 (omega (arith, full, length-drop 1 xs)) ∙ get_or-drop 1 xs 0 (0, 0) in
     let same : (get_or (newest n (xs ++ p ∷ [])) 0 (0, 0)).0 ≡ (get_or xs 0 (0, 0)).0
-    = some-is (sym (oldest-at (newest n (xs ++ p ∷ [])) (omega (arith, count, full))) ∙ oldest ∙ oldest-at xs (omega (arith, full))) in
+    = same_Some _ _ (sym (oldest-at (newest n (xs ++ p ∷ [])) (omega (arith, count, full))) ∙ oldest ∙ oldest-at xs (omega (arith, full))) in
     let rising = up 0 1 (0, 0) (omega arith) (omega (arith, full)) in
     let key : (get_or (newest n (xs ++ p ∷ [])) 0 (0, 0)).0 ≡ (get_or xs 1 (0, 0)).0 = ap (λ (ys : List (ℕ × ℕ)). (get_or ys 0 (0, 0)).0) new ∙ ap (λ (k : ℕ × ℕ). k.0) second in
     absurd (omega (arith, rising.0, key, same))
-  where
-    some-is : {a b : ℕ} → Some a ≡ Some b → a ≡ b
-    some-is e = cc
