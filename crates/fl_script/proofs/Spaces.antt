@@ -1,22 +1,19 @@
 -- The length of a word by the place of the first space.
-use Rattle.std.proofs.Common.{◌≡◌, ℕ, ◌<◌, ◌≤◌, Bool, true, false, not, ◌==◌, Option, Some, None, List, length, refl, sym, ap, ◌∙◌, arith}
+use Rattle.std.proofs.Common.{◌≡◌, ℕ, ◌<◌, ◌≤◌, Bool, true, false, not, ◌==◌, Option, Some, None, List, length, sym, ap, ◌∙◌, arith}
 use Rattle.std.specs.Prelude.{slice_index}
 use Rattle.std.specs.List.{prefix_len}
 use Rattle.std.specs.Option.{unwrap_or}
 use Rattle.std.proofs.lemmas.List.Sums.{prefix_len-le-length, prefix_len_passes, prefix_len_stops}
+use Rattle.std.proofs.lemmas.Bool.{not-false}
 use Rattle.memchr.specs.Find.{IsFirstByte, is_byte}
 
 at_most : (a b : ℕ) → ¬ (b < a) → a ≤ b
 at_most a b h = omega (arith, h)
 
-is_true : (b : Bool) → not b ≡ false → b ≡ true
-is_true true h = refl
-is_true false h = cc h
-
 -- where no space comes before a place, the word doesn't end before it
 reaches : (line : List ℕ) (to : ℕ) → to ≤ length line → ((k : ℕ) → 0 ≤ k → k < to → ¬ (is_byte 32 (slice_index line k) ≡ true)) → prefix_len (λ byte. not (byte == 32)) line < to → ⊥
 reaches line to fits none below =
-    none _ (omega arith) below (is_true _ (prefix_len_stops (λ byte. not (byte == 32)) line 0 (omega (arith, fits, below))))
+    none _ (omega arith) below (not-false _ (prefix_len_stops (λ byte. not (byte == 32)) line 0 (omega (arith, fits, below))))
 
 clash : {b : Bool} → not b ≡ true → b ≡ true → ⊥
 clash h is = let wrong : false ≡ true = sym (ap not is) ∙ h in cc wrong
