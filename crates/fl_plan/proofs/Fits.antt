@@ -1,6 +1,6 @@
 -- What holds of a configuration that isn't refused: its rings, its blobs, its rows and its columns.
 use Rattle.std.proofs.Common.{◌≡◌, ℕ, ◌+◌, ◌*◌, ◌≤◌, ◌-◌, ◌==◌, not, Bool, true, false, cond, ◌||◌, ◌&&◌, nat_lt, is_some, Option, Some, None, IfSome, [], ◌∷◌, ◌++◌, length, map, refl, ap, arith}
-use Rattle.std.proofs.lemmas.Bool.{ltb-false, le-ltb, eqb-true, ne_eqb}
+use Rattle.std.proofs.lemmas.Bool.{ltb-false, le-ltb, eqb-true, ne_eqb, not-false}
 use Rattle.std.proofs.lemmas.Bool.Decides.{nat_tests}
 use Rattle.std.proofs.lemmas.List.{length-map}
 use Rattle.std.proofs.Math.Nat.{mul-le-mul_right, add-mul}
@@ -104,12 +104,8 @@ few-blobs config fits =
     let plan = plan_of_table nameless config in
     by_blocks (plan.var_blocks == 0) (not_first (bad_blob_limit plan) BlobLimit _ (rooms config fits))
   where
-    not_not : (b : Bool) → not b ≡ false → b ≡ true
-    not_not true e = refl
-    not_not false e = cc
-
     by_blocks : (b : Bool) → cond b (not (config.blob_limit == 0)) ((config.blob_limit == 0) || nat_lt 1500 config.blob_limit || nat_lt (content_per_page (plan_of_table nameless config) * ((blocks_in config.var - 1) * config.geometry.block - 2)) config.blob_limit) ≡ false → config.blob_limit ≤ 1500
-    by_blocks true e = let z = eqb-true config.blob_limit 0 (not_not (config.blob_limit == 0) e) in omega (arith, z)
+    by_blocks true e = let z = eqb-true config.blob_limit 0 (not-false (config.blob_limit == 0) e) in omega (arith, z)
     by_blocks false e =
         let a = or_false ((config.blob_limit == 0) || nat_lt 1500 config.blob_limit) (nat_lt (content_per_page (plan_of_table nameless config) * ((blocks_in config.var - 1) * config.geometry.block - 2)) config.blob_limit) e in
         let le = ltb-false 1500 config.blob_limit (or_right (config.blob_limit == 0) (nat_lt 1500 config.blob_limit) a) in
