@@ -4,6 +4,7 @@ use Rattle.std.specs.Prelude.{is_some}
 use Rattle.std.specs.List.{slice_get, list_any, AllByRecursion}
 use Rattle.std.proofs.lemmas.List.{drop-append-le, length-map}
 use Rattle.std.proofs.lemmas.Bool.{true≢false}
+use Rattle.std.proofs.lemmas.Option.{none-some, same_Some}
 use Rattle.fl_model.specs.Facts.{IsContent}
 use Rattle.fl_model.specs.Layout.{ContentPage, content_body}
 use Rattle.fl_model.specs.Record.{Plan}
@@ -61,14 +62,8 @@ pub record IsHeld (plan : Plan) (n : ℕ) (kept : List (Option (List ℕ))) (pag
   pub good : IsContent plan page
 
 pub bodies-at : (plan : Plan) (n : ℕ) (kept : List (Option (List ℕ))) (pages : List ContentPage) (i : ℕ) (body : List ℕ) → HoldBodies plan n kept pages → get_or kept i None ≡ Some body → IsHeld plan n kept pages i body
-bodies-at plan n [] pages i body h e = absurd (none e)
-  where
-    none : ◌≡◌ {A = Option (List ℕ)} None (Some body) → ⊥
-    none k = cc
-bodies-at plan n (None ∷ kept) pages zero body h e = absurd (none e)
-  where
-    none : ◌≡◌ {A = Option (List ℕ)} None (Some body) → ⊥
-    none k = cc
+bodies-at plan n [] pages i body h e = absurd (none-some body e)
+bodies-at plan n (None ∷ kept) pages zero body h e = absurd (none-some body e)
 bodies-at plan n (None ∷ kept) pages (suc i) body h e =
     let r = bodies-at plan (n + 1) kept pages i body h e in
     record {
@@ -81,12 +76,9 @@ bodies-at plan n (Some b ∷ kept) [] i body h e = absurd h
 bodies-at plan n (Some b ∷ kept) (p ∷ pages) zero body h e = record {
   page = p;
   is = refl;
-  body_is = sym (same e) ∙ (h.0 ∙ ap (λ k. content_body k p) (let k : n ≡ n + 0 = omega arith in k));
+  body_is = sym (same_Some b body e) ∙ (h.0 ∙ ap (λ k. content_body k p) (let k : n ≡ n + 0 = omega arith in k));
   good = h.1;
 }
-  where
-    same : Some b ≡ Some body → b ≡ body
-    same k = cc
 bodies-at plan n (Some b ∷ kept) (p ∷ pages) (suc i) body h e =
     let r = bodies-at plan (n + 1) kept pages i body h.2 e in
     record {

@@ -1,7 +1,8 @@
 -- Seals of the buffer, one after another.
-use Rattle.std.proofs.Common.{◌≡◌, ℕ, zero, suc, ◌+◌, ◌*◌, Bool, Option, Some, unwrap_or, List, [], ◌∷◌, ◌++◌, drop, replicate, refl, sym, ◌∙◌, ap, subst, arith, append_assoc}
+use Rattle.std.proofs.Common.{◌≡◌, ℕ, zero, suc, ◌+◌, ◌*◌, Bool, Option, unwrap_or, List, [], ◌∷◌, ◌++◌, drop, replicate, refl, sym, ◌∙◌, ap, subst, arith, append_assoc}
 use Rattle.std.specs.Prelude.{option_map, is_some}
 use Rattle.std.proofs.lemmas.List.{drop-drop}
+use Rattle.std.proofs.lemmas.Option.{same_Some}
 use Rattle.fl_flash.specs.Flash.{FlashState, page_at}
 use Rattle.fl_flash.specs.declared.flash.FlashFault.{FlashFault}
 use Rattle.fl_model.specs.Record.{Record, Plan, content_per_page}
@@ -100,13 +101,10 @@ seals-none plan table rose device v w f ring same has watched = record {
   power = watched.on;
   has = has-refilled v w f plan table ring same has;
   stand = λ before e.
-      let is : before ≡ has.ring = some_is before has.ring (sym e ∙ has.ring_is) in
+      let is : before ≡ has.ring = same_Some before has.ring (sym e ∙ has.ring_is) in
       subst (λ (x : Ring). PagesStand x (page_in v f) has.ring (page_in w f)) (sym is)
       (subst (λ (at : ℕ → List ℕ). PagesStand has.ring (page_in v f) has.ring at) (sym (same-pages_in v w f same)) (stands-same has.ring (page_in v f)));
 }
-  where
-    some_is : (a b : Ring) → Some a ≡ Some b → a ≡ b
-    some_is a b e = cc
 
 module _ (plan : Plan) (xs ys : List RingName) (table : Table) (rose : Bool) (device : Device) (old v : VarData) (old_f f : FlashState) (a : Seals plan xs table rose device old old_f v f) where
   state-is : a.now.state ≡ after_seals plan xs table

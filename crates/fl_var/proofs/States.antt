@@ -1,8 +1,10 @@
 -- The pages of a ring of variable data as a list of bodies, and in the words of the model's image.
-use Rattle.std.proofs.Common.{◌≡◌, ℕ, zero, suc, ◌+◌, ◌-◌, ◌*◌, ◌%◌, ◌<◌, ◌⊎◌, inl, inr, Bool, true, false, ◌&&◌, Option, Some, None, List, [], ◌∷◌, map, length, get_or, refl, sym, ◌∙◌, ap, subst, arith}
+use Rattle.std.proofs.Common.{◌≡◌, ℕ, zero, suc, ◌+◌, ◌-◌, ◌*◌, ◌%◌, ◌<◌, ◌⊎◌, inl, inr, Option, Some, None, List, [], ◌∷◌, map, length, get_or, refl, sym, ◌∙◌, ap, subst, arith}
 use Rattle.std.proofs.lemmas.Nat.Gcd.{mod-eq-zero_of_dvd}
 use Rattle.std.specs.List.{AllByRecursion}
 use Rattle.std.specs.Prelude.{IfSome}
+use Rattle.std.proofs.lemmas.Bool.{and_from}
+use Rattle.std.proofs.lemmas.Option.{same_Some}
 use Rattle.fl_model.specs.Facts.{IsContent}
 use Rattle.fl_model.specs.Image.{IsRingImage, HoldsPage}
 use Rattle.fl_model.specs.Layout.{ContentPage, content_body, committed}
@@ -77,12 +79,8 @@ module _ (r : Shape) (plan : Plan) (page : ℕ → List ℕ) (sizes : (n : ℕ) 
         most = omega (arith, len, h.kept);
         most_ahead = λ e. let k = h.kept_at_end e in omega (arith, len, k);
         dirty_when = λ d. let k = h.dirty_at_end d in (k.0, sym len ∙ k.1);
-        not_both = λ t d. h.not_both (both s.torn s.dirty t d);
+        not_both = λ t d. h.not_both (and_from s.torn s.dirty t d);
       }
-    where
-      both : (a b : Bool) → a ≡ true → b ≡ true → (a && b) ≡ true
-      both true b e k = k
-      both false b e k = cc
 
   -- a ring of the model and what its pages hold, as a list of bodies
   pub record IsStateOf (ring : model.Ring) (pages : List ContentPage) (s : RingState) : Type 0 where
@@ -112,13 +110,10 @@ module _ (r : Shape) (plan : Plan) (page : ℕ → List ℕ) (sizes : (n : ℕ) 
           page (place r (oldest s + i)) ≡ committed body
       held s bodies i body e h =
           let at = bodies-at plan (oldest s) s.kept pages i body bodies e in
-          let same : h.holds ≡ at.page = some_is (sym h.is ∙ at.is) in
+          let same : h.holds ≡ at.page = same_Some _ _ (sym h.is ∙ at.is) in
           h.bytes
           ∙ (ap (λ n. committed (content_body (s.next - n + i) h.holds)) (counts_length once s)
           ∙ (ap (λ (p : ContentPage). committed (content_body (oldest s + i) p)) same ∙ ap committed (sym at.body_is)))
-        where
-          some_is : {a b : ContentPage} → Some a ≡ Some b → a ≡ b
-          some_is k = cc
 
   -- the ring of the model that a list of bodies is
   pub var-ring-of : (s : RingState) (pages : List ContentPage) → OnRing r page s → HoldBodies plan (oldest s) s.kept pages → s.next < 4294967296 → IsVarRing plan pages (counted s) (bytes_of r page)

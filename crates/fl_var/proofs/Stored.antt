@@ -1,19 +1,17 @@
 -- The bytes of a blob in the contents of its pages.
-use Rattle.std.proofs.Common.{◌≡◌, ℕ, zero, suc, ◌+◌, ◌-◌, ◌*◌, ◌/◌, ◌%◌, ◌<◌, ◌≤◌, Some, None, List, [], ◌∷◌, ◌++◌, length, drop, refl, ◌∙◌, ap, arith}
+use Rattle.std.proofs.Common.{◌≡◌, ℕ, zero, suc, ◌+◌, ◌-◌, ◌*◌, ◌/◌, ◌%◌, ◌<◌, ◌≤◌, Some, List, [], ◌∷◌, ◌++◌, length, drop, refl, ◌∙◌, ap, arith}
 use Rattle.std.proofs.Math.Nat.{mod-lt}
 use Rattle.std.proofs.lemmas.List.{length-take-le, length-drop}
 use Rattle.std.proofs.lemmas.Nat.{le-div, div-add-mod'}
 use Rattle.std.specs.List.{slice_get}
+use Rattle.std.proofs.lemmas.Option.{none-some, same_Some}
 use Rattle.fl_page.specs.Header.{page_count}
 use Rattle.fl_var.specs.Blobs.{contents_from}
 use Rattle.fl_var.specs.Content.{content_of}
 
 -- what stands in the first list, and in the second behind it
 get-left : (xs ys : List ℕ) (i b : ℕ) → slice_get xs i ≡ Some b → slice_get (xs ++ ys) i ≡ Some b
-get-left [] ys i b e = absurd (none e)
-  where
-    none : None ≡ Some b → ⊥
-    none k = cc
+get-left [] ys i b e = absurd (none-some b e)
 get-left (x ∷ xs) ys zero b e = e
 get-left (x ∷ xs) ys (suc i) b e = get-left xs ys i b e
 
@@ -41,17 +39,11 @@ contents-at image room (suc q) number (suc n) m b full lt e =
 -- a list that has all of another's elements, and no more
 pub same-front : (xs ys : List ℕ) → length xs ≤ length ys → ((j b : ℕ) → slice_get ys j ≡ Some b → slice_get xs j ≡ Some b) → xs ≡ ys
 same-front [] [] le each = refl
-same-front [] (y ∷ ys) le each = absurd (none (each 0 y refl))
-  where
-    none : None ≡ Some y → ⊥
-    none k = cc
+same-front [] (y ∷ ys) le each = absurd (none-some y (each 0 y refl))
 same-front (x ∷ xs) [] le each = absurd (omega arith)
 same-front (x ∷ xs) (y ∷ ys) le each =
-    let same : x ≡ y = some_is (each 0 y refl) in
+    let same : x ≡ y = same_Some _ _ (each 0 y refl) in
     ap (λ z. z ∷ xs) same ∙ ap (λ zs. y ∷ zs) (same-front xs ys (omega arith) (λ j b e. each (suc j) b e))
-  where
-    some_is : Some x ≡ Some y → x ≡ y
-    some_is k = cc
 
 -- the content of a page
 pub content-size : (page : List ℕ) → page_count page ≤ length page - 16 → length (content_of page) ≡ page_count page
