@@ -1,6 +1,6 @@
 -- The index page in a buffer, and that it is the only one that lists a data page.
 use Rattle.std.proofs.Common.{◌≡◌, inl, inr, ℕ, ◌-◌, ◌<◌, ◌≤◌, Bool, true, false, cond, ◌&&◌, nat_le, nat_lt, Option, Some, None, refl, sym, ◌∙◌, ap, arith}
-use Rattle.std.proofs.lemmas.Bool.{cases_lt, leb-true, ltb-true, eqb-true, false≢true}
+use Rattle.std.proofs.lemmas.Bool.{cases_lt, leb-true, ltb-true, eqb-true, false≢true, and_parts}
 use Rattle.fl_flash.specs.Buffer.{BufferState}
 use Rattle.fl_flash.specs.Flash.{FlashState}
 use Rattle.fl_model.specs.Record.{Plan}
@@ -12,7 +12,7 @@ use Rattle.fl_index.specs.Page.{page_number}
 use Rattle.fl_index.specs.Standing.{Stands}
 use Rattle.fl_model.proofs.FullPages.{full-below}
 use Rattle.fl_index.proofs.ListingPages.{listing-is, listing-no}
-use Rattle.fl_index.proofs.LookupsOfTable.{both_true, ListingPage, listing-page}
+use Rattle.fl_index.proofs.LookupsOfTable.{ListingPage, listing-page}
 
 page-some : (number : ℕ) (o : Option ℕ) → is_page number o ≡ true → o ≡ Some number
 page-some number None e = absurd (false≢true e)
@@ -21,8 +21,8 @@ page-some number (Some page) e = ap (λ (n : ℕ). Some n) (eqb-true page number
 -- the page in the buffer is kept
 pub kept-held : (t : BitmapIndex) (buf : BufferState) → is_kept t buf ≡ true → IsHeld t (page_number buf.bytes) buf
 kept-held t buf e =
-    let b = both_true (nat_le (oldest_in t) (page_number buf.bytes) && nat_lt (page_number buf.bytes) (next_in t)) (is_page (place_in t (page_number buf.bytes)) buf.holds) e in
-    let c = both_true (nat_le (oldest_in t) (page_number buf.bytes)) (nat_lt (page_number buf.bytes) (next_in t)) b.0 in
+    let b = and_parts (nat_le (oldest_in t) (page_number buf.bytes) && nat_lt (page_number buf.bytes) (next_in t)) (is_page (place_in t (page_number buf.bytes)) buf.holds) e in
+    let c = and_parts (nat_le (oldest_in t) (page_number buf.bytes)) (nat_lt (page_number buf.bytes) (next_in t)) b.0 in
     record {
       kept = (leb-true (oldest_in t) (page_number buf.bytes) c.0, ltb-true (page_number buf.bytes) (next_in t) c.1);
       place = page-some (place_in t (page_number buf.bytes)) buf.holds b.1;
@@ -48,7 +48,7 @@ listed-by t number page buf e = by_held (held_lists t number buf) refl e
     by_held : (b : Bool) → held_lists t number buf ≡ b → cond b (Some (page_number buf.bytes)) (listing_in t number) ≡ Some page → IsListed t number page
     by_held false h e = listed-in t number page e
     by_held true h e =
-        let b = both_true (is_kept t buf) (lists (per_page t) number (first_in t (page_number buf.bytes))) h in
+        let b = and_parts (is_kept t buf) (lists (per_page t) number (first_in t (page_number buf.bytes))) h in
         let at = same e in
         record {
           kept = let k = (kept-held t buf b.0).kept in (omega (arith, k.0, at), omega (arith, k.1, at));

@@ -1,6 +1,7 @@
 -- The index page that lists a data page.
 use Rattle.std.proofs.Common.{◌≡◌, ℕ, zero, suc, ◌+◌, ◌-◌, ◌<◌, ◌≤◌, Bool, true, false, cond, Option, Some, None, inl, inr, refl, sym, ◌∙◌, ap, arith}
 use Rattle.std.proofs.lemmas.Bool.{cases_lt}
+use Rattle.std.proofs.lemmas.Option.{none-some, same_Some}
 use Rattle.fl_index.specs.Memory.{lists, listing_from}
 
 module _ (most : ℕ) (first : ℕ → Option ℕ) (number : ℕ) where
@@ -42,19 +43,13 @@ module _ (most : ℕ) (first : ℕ → Option ℕ) (number : ℕ) where
     pub before : (k : ℕ) → from ≤ k → k < page → lists most number (first k) ≡ false
 
   pub listing-is : (n from page : ℕ) → listing_from most first number from n ≡ Some page → IsListing from n page
-  listing-is zero from page h = absurd (not_some h)
-    where
-      not_some : ◌≡◌ {A = Option ℕ} None (Some page) → ⊥
-      not_some e = cc
+  listing-is zero from page h = absurd (none-some page h)
   listing-is (suc n) from page h = by_test (lists most number (first from)) refl h (λ g. listing-is n (from + 1) page g)
     where
-      same : ◌≡◌ {A = Option ℕ} (Some from) (Some page) → from ≡ page
-      same e = cc
-
       by_test : (b : Bool) → lists most number (first from) ≡ b → cond b (Some from) (listing_from most first number (from + 1) n) ≡ Some page →
           (listing_from most first number (from + 1) n ≡ Some page → IsListing (from + 1) n page) → IsListing from (suc n) page
       by_test true t h go =
-          let e = same h in
+          let e = same_Some from page h in
           record { low = omega (arith, e); high = omega (arith, e); here = ap (λ p. lists most number (first p)) (sym e) ∙ t; before = λ k low high. absurd (omega (arith, e, low, high)) }
       by_test false t h go =
           let r = go h in

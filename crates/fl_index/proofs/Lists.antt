@@ -3,6 +3,7 @@ use Rattle.std.proofs.Common.{◌≡◌, ℕ, zero, suc, ◌+◌, ◌<◌, ◌�
 use Rattle.std.proofs.lemmas.Bool.{cases_lt}
 use Rattle.std.specs.List.{slice_get, last_or}
 use Rattle.std.specs.Option.{option_map, unwrap_or}
+use Rattle.std.proofs.lemmas.Option.{none-some, same_Some}
 use Rattle.fl_model.specs.Table.{full_pages}
 use Rattle.fl_model.specs.Layout.{IndexPage}
 use Rattle.fl_model.proofs.Lists.{slice_get-drop, slice_get-push, slice_get-short, slice_get-some, last_or-get}
@@ -46,22 +47,16 @@ end-drop X k firsts = elim (last-drop k firsts) [
 abbrev pub Ascend : ℕ → List ℕ → Type 0
 Ascend X firsts = (i j a b : ℕ) → i < j → slice_get firsts i ≡ Some a → slice_get firsts j ≡ Some b → a + X ≤ b
 
-some-same : {a b : ℕ} → ◌≡◌ {A = Option ℕ} (Some a) (Some b) → a ≡ b
-some-same e = cc
-
 -- each ends where the last does, or before
 pub below-end : (X : ℕ) (firsts : List ℕ) (i a : ℕ) → Ascend X firsts → slice_get firsts i ≡ Some a → a + X ≤ end_after X firsts
-below-end X [] i a asc e = absurd (none e)
-  where
-    none : None ≡ Some a → ⊥
-    none e = cc
+below-end X [] i a asc e = absurd (none-some a e)
 below-end X (x ∷ xs) i a asc e =
     let l = slice_get-some (x ∷ xs) (length xs) (omega arith) in
     let end : end_after X (x ∷ xs) ≡ l.0 + X = ap (λ (o : Option ℕ). unwrap_or (option_map (λ page. page + X) o) 0) (last_or-get None x xs ∙ l.1) in
     let short = slice_get-short (x ∷ xs) i a e in
     elim (cases_lt i (length xs)) [
       | inl lt ↦ omega (arith, asc i (length xs) a l.0 lt e l.1, end)
-      | inr ge ↦ let k : i ≡ length xs = omega (arith, ge, short) in let same : a ≡ l.0 = some-same (sym e ∙ (ap (slice_get (x ∷ xs)) k ∙ l.1)) in omega (arith, same, end)
+      | inr ge ↦ let k : i ≡ length xs = omega (arith, ge, short) in let same : a ≡ l.0 = same_Some _ _ (sym e ∙ (ap (slice_get (x ∷ xs)) k ∙ l.1)) in omega (arith, same, end)
     ]
 
 pub ascend-drop : (X k : ℕ) (firsts : List ℕ) → Ascend X firsts → Ascend X (drop k firsts)
@@ -95,10 +90,7 @@ abbrev pub firsts_of : List IndexPage → List ℕ
 firsts_of pages = map (λ page. page.first) pages
 
 pub first-at : (pages : List IndexPage) (k : ℕ) (page : IndexPage) → slice_get pages k ≡ Some page → slice_get (firsts_of pages) k ≡ Some page.first
-first-at [] k page e = absurd (none e)
-  where
-    none : ◌≡◌ {A = Option IndexPage} None (Some page) → ⊥
-    none e = cc
+first-at [] k page e = absurd (none-some page e)
 first-at (p ∷ ps) zero page e = let same : p ≡ page = cc in rw same refl
 first-at (p ∷ ps) (suc k) page e = first-at ps k page e
 

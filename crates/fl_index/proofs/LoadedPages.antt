@@ -5,6 +5,7 @@ use Rattle.std.proofs.lemmas.Bool.{cases_lt}
 use Rattle.std.proofs.lemmas.List.{take_at, drop_at, drop-drop, take-take, drop-take, length-take-le}
 use Rattle.std.specs.List.{slice_get}
 use Rattle.std.specs.Option.{option_map, unwrap_or}
+use Rattle.std.proofs.lemmas.Option.{same_Some}
 use Rattle.fl_base.specs.Bytes.{splice}
 use borrow.Rule.Slice.PartMut.{put_mid}
 use Rattle.fl_flash.specs.Flash.{FlashState, page_at}
@@ -158,9 +159,6 @@ loaded-from a b number page (Bad first bad) now most form h = (h.0, (λ good. h.
 
 -- ---- the index of a table
 
-one-count : {a b : ℕ} → ◌≡◌ {A = Option ℕ} (Some a) (Some b) → a ≡ b
-one-count e = cc
-
 module _ (old now : BitmapIndex) (f g : FlashState) (first : ℕ) (plan : Plan) (table : Table) (number : ℕ) (stands : StandsBelow number old f first plan table)
     (sizes : HaveSize first plan (page_at f)) (low : oldest_in old ≤ number) (high : number < next_in old) (same : IsSamePlan old now) (ring-same : now.ring ≡ old.ring) (pages : page_at g ≡ page_at f)
     (others : (n : ℕ) → (place_in old n ≡ place_in old number → ⊥) → first_in now n ≡ first_in old n) where
@@ -233,7 +231,7 @@ module _ (old now : BitmapIndex) (f g : FlashState) (first : ℕ) (plan : Plan) 
       by_place k c e (inl lt) below = others (model.oldest ring + k) (apart-places k lt) ∙ stands.first_of k c lt e
       by_place k c e (inr ge) below =
           let here : k ≡ i = omega (arith, ge, below, at) in
-          let count : there.0 ≡ c = one-count (sym there.1 ∙ (ap (slice_get ring.counts) (sym here) ∙ e)) in
+          let count : there.0 ≡ c = same_Some _ _ (sym there.1 ∙ (ap (slice_get ring.counts) (sym here) ∙ e)) in
           ap (first_in now) (let n : model.oldest ring + k ≡ number = omega (arith, ge, below) in n)
           ∙ (is ∙ (told-first ∙ (ap (first_told plan table ring i) count ∙ ap (λ (m : ℕ). first_told plan table ring m c) (sym here))))
 

@@ -4,6 +4,7 @@ use Rattle.std.proofs.lemmas.Bool.{cases_lt, ltb-true, lt-ltb, eqb-true, false�
 use Rattle.std.proofs.lemmas.List.Sums.{sum_by-cons}
 use Rattle.std.specs.List.{slice_get, range_with_len, count_by}
 use Rattle.std.specs.Option.{option_map, unwrap_or}
+use Rattle.std.proofs.lemmas.Option.{none-some, same_Some}
 use Rattle.fl_flash.specs.Buffer.{BufferState}
 use Rattle.fl_flash.specs.Flash.{FlashState, page_at}
 use Rattle.fl_model.specs.Record.{Plan}
@@ -25,14 +26,8 @@ use Rattle.fl_index.proofs.ListingPages.{IsListing, listing-is}
 use Rattle.fl_index.proofs.LookupsOfTable.{KeptPage, kept-page, ListingPage, listing-page, PageIs, page-is, X_is}
 
 pub some-of : {A : Type 0} (b : Bool) (x y : A) → ◌≡◌ {A = Option A} (cond b (Some x) None) (Some y) → (b ≡ true) × (y ≡ x)
-some-of {A} true x y h = (refl, sym (same h))
-  where
-    same : ◌≡◌ {A = Option A} (Some x) (Some y) → x ≡ y
-    same e = cc
-some-of {A} false x y h = absurd (none h)
-  where
-    none : ◌≡◌ {A = Option A} None (Some y) → ⊥
-    none e = cc
+some-of {A} true x y h = (refl, sym (same_Some x y h))
+some-of {A} false x y h = absurd (none-some y h)
 
 pub none-of : {A : Type 0} (b : Bool) (x : A) → ◌≡◌ {A = Option A} (cond b (Some x) None) None → b ≡ false
 none-of {A} true x h = absurd (none h)
@@ -129,11 +124,8 @@ module _ (t : BitmapIndex) (f : FlashState) (first : ℕ) (plan : Plan) (table :
       by_first None e p = refl
       by_first (Some x) e p = by_count (cases_lt 0 p.c)
         where
-          none : ◌≡◌ {A = Option ℕ} None (Some x) → ⊥
-          none h = cc
-
           by_count : (0 < p.c) ⊎ (p.c ≤ 0) → nat_lt number (x + per_page t) ≡ false
-          by_count (inr z) = let c0 : p.c ≡ 0 = omega (arith, z) in absurd (none (sym (p.memory ∙ ap (λ c. cond (c == 0) None (slice_get (firsts table) (full_pages (take p.i stands.in_ring.ring.counts)))) c0) ∙ e))
+          by_count (inr z) = let c0 : p.c ≡ 0 = omega (arith, z) in absurd (none-some x (sym (p.memory ∙ ap (λ c. cond (c == 0) None (slice_get (firsts table) (full_pages (take p.i stands.in_ring.ring.counts)))) c0) ∙ e))
           by_count (inl some) =
               let is : slice_get (firsts table) (full_pages (take p.i stands.in_ring.ring.counts)) ≡ Some x = sym (not_zero p.c some (slice_get (firsts table) (full_pages (take p.i stands.in_ring.ring.counts)))) ∙ (sym p.memory ∙ e) in
               let less : full_pages (take p.i stands.in_ring.ring.counts) < full_pages (take l.kept.i stands.in_ring.ring.counts) =

@@ -1,10 +1,11 @@
 -- A lookup in an index that stands for that of a table.
 use Rattle.std.proofs.Common.{◌≡◌, ◌⊎◌, inl, inr, ℕ, zero, suc, ◌+◌, ◌-◌, ◌*◌, ◌/◌, ◌%◌, ◌^◌, ◌<◌, ◌≤◌, Bool, true, false, cond, ◌&&◌, ◌||◌, ◌==◌, nat_le, nat_lt, Option, Some, None, IfSome, IsTrue, Result, Ok, Err, List, [], ◌∷◌, ◌++◌, length, take, drop, replicate, refl, sym, ◌∙◌, ap, subst, arith, length-append, append_assoc}
-use Rattle.std.proofs.lemmas.Bool.{cases_lt, ltb-true, leb-true, lt-ltb, le-leb, eqb-true}
+use Rattle.std.proofs.lemmas.Bool.{cases_lt, ltb-true, leb-true, lt-ltb, le-leb, eqb-true, and_from, and_parts}
 use Rattle.std.proofs.lemmas.List.{take_at}
 use Rattle.std.proofs.Math.Nat.{add-mul, div-le_self}
 use Rattle.std.specs.List.{slice_get, list_any, flat_map}
 use Rattle.std.specs.Option.{option_map, unwrap_or}
+use Rattle.std.proofs.lemmas.Option.{none-some, same_Some}
 use Rattle.fl_flash.specs.Flash.{FlashState, page_at}
 use Rattle.fl_mark.specs.Mark.{state_of_page}
 use Rattle.fl_mark.specs.declared.page_state.PageState.TheVariants.{Committed}
@@ -39,14 +40,6 @@ use Rattle.fl_index.proofs.WaitingEntries.{InFront, plan_form, length-entry, rea
 use Rattle.fl_index.proofs.Lists.{below-end, first-at, firsts-length}
 use Rattle.fl_index.proofs.ListingPages.{listing-is, listing-no}
 use Rattle.fl_index.proofs.SealEnds.{planned-page, planned-form, planned-bits, planned-ring, planned-shape}
-
-pub both_true : (a b : Bool) → (a && b) ≡ true → (a ≡ true) × (b ≡ true)
-both_true true b h = (refl, h)
-both_true false b h = cc
-
-and_join : (a b : Bool) → a ≡ true → b ≡ true → (a && b) ≡ true
-and_join true b e h = h
-and_join false b e h = cc
 
 -- ---- the bytes of an index page
 
@@ -127,10 +120,7 @@ any-none p [] h = refl
 any-none p (x ∷ xs) h = ap (λ b. b || list_any p xs) (h 0 x refl) ∙ any-none p xs (λ k y e. h (suc k) y e)
 
 pub any-some : (p : ℕ → Bool) (xs : List ℕ) (k x : ℕ) → slice_get xs k ≡ Some x → p x ≡ true → list_any p xs ≡ true
-any-some p [] k x e t = absurd (none e)
-  where
-    none : ◌≡◌ {A = Option ℕ} None (Some x) → ⊥
-    none e = cc
+any-some p [] k x e t = absurd (none-some x e)
 any-some p (y ∷ ys) zero x e t = let same : y ≡ x = cc in ap (λ b. b || list_any p ys) (ap p same ∙ t)
 any-some p (y ∷ ys) (suc k) x e t = ap (λ b. p y || b) (any-some p ys k x e t) ∙ or_true (p y)
   where
@@ -199,7 +189,7 @@ module _ (t : BitmapIndex) (f : FlashState) (first : ℕ) (plan : Plan) (table :
       by_first : (k : KeptPage page) → 0 < k.c → (x : Option ℕ) → slice_get (firsts table) (full_pages (take k.i ring.counts)) ≡ x → first_in t page ≡ x → ListingPage number page
       by_first k some None e m = absurd (no_page (ap (lists (per_page t) number) (sym m) ∙ h))
       by_first k some (Some p) e m =
-          let b = both_true (nat_le p number) (nat_lt number (p + per_page t)) (ap (lists (per_page t) number) (sym m) ∙ h) in
+          let b = and_parts (nat_le p number) (nat_lt number (p + per_page t)) (ap (lists (per_page t) number) (sym m) ∙ h) in
           record { kept = k; first_page = p; memory = m; listed = e; some = some; low = leb-true p number b.0; high = omega (arith, ltb-true number (p + per_page t) b.1, X_is) }
 
       by_count : (k : KeptPage page) → (0 < k.c) ⊎ (k.c ≤ 0) → ListingPage number page
@@ -224,9 +214,9 @@ module _ (t : BitmapIndex) (f : FlashState) (first : ℕ) (plan : Plan) (table :
   -- a data page that the index lists, or whose bitmap waits, is indexed
   pub listed-indexed : (number page : ℕ) → ListingPage number page → is_indexed plan table number ≡ true
   listed-indexed number page l =
-      and_join (nat_lt 0 plan.index_blocks) _ some_index
+      and_from (nat_lt 0 plan.index_blocks) _ some_index
       (ap (λ b. waits table number || b) (any-some (λ first. nat_le first number && nat_lt number (first + entries_per_page plan)) (firsts table) _ l.first_page l.listed
-      (and_join _ _ (le-leb l.first_page number l.low) (lt-ltb number (l.first_page + entries_per_page plan) l.high))) ∙ or_true (waits table number))
+      (and_from _ _ (le-leb l.first_page number l.low) (lt-ltb number (l.first_page + entries_per_page plan) l.high))) ∙ or_true (waits table number))
     where
       or_true : (b : Bool) → (b || true) ≡ true
       or_true true = refl
@@ -234,7 +224,7 @@ module _ (t : BitmapIndex) (f : FlashState) (first : ℕ) (plan : Plan) (table :
 
   pub waits-indexed : (number : ℕ) → is_waiting t number ≡ true → is_indexed plan table number ≡ true
   waits-indexed number h =
-      and_join (nat_lt 0 plan.index_blocks) _ some_index
+      and_from (nat_lt 0 plan.index_blocks) _ some_index
       (ap (λ (x : Bool). x || is_listed plan table number) (sym (waits-is number) ∙ h))
 
   -- the entry of a page that waits
@@ -243,7 +233,7 @@ module _ (t : BitmapIndex) (f : FlashState) (first : ℕ) (plan : Plan) (table :
     where
       right : (n rows : ℕ) → number ≡ model.oldest table.rows + n → slice_get table.rows.counts n ≡ Some rows → IsTrue (is_told plan rows) → TellsRows plan (rows_at table n rows) entry
       right n rows e c told =
-          let b = both_true (nat_le (first_waiting t) number) (nat_lt number (first_waiting t + waiting_in t)) h in
+          let b = and_parts (nat_le (first_waiting t) number) (nat_lt number (first_waiting t + waiting_in t)) h in
           let low = leb-true (first_waiting t) number b.0 in
           let high = ltb-true number (first_waiting t + waiting_in t) b.1 in
           let j = number - first_waiting t in
@@ -295,7 +285,7 @@ module _ (t : BitmapIndex) (f : FlashState) (first : ℕ) (plan : Plan) (table :
       let l = listing-page number page at.low (omega (arith, at.high)) at.here in
       let held = stands.in_ring.pages.kept l.kept.i l.kept.c l.kept.here l.some in
       let k = full_pages (take l.kept.i ring.counts) in
-      let same : held.holds.first ≡ l.first_page = one (sym (first-at table.index_pages k held.holds held.is) ∙ l.listed) in
+      let same : held.holds.first ≡ l.first_page = same_Some _ _ (sym (first-at table.index_pages k held.holds held.is) ∙ l.listed) in
       let many = each-at (λ (p : IndexPage). length p.entries ≡ entries_per_page plan) table.index_pages k held.holds stands.in_ring.facts.index_fit held.is in
       let place_is : bytes ≡ bytes_in (page_at f) first plan (model.oldest ring + l.kept.i) =
       is ∙ (ap (λ (r : Shape). page_at f (place_at r page)) (planned-ring t first plan stands.in_ring.planned) ∙ ap (bytes_in (page_at f) first plan) l.kept.at) in
@@ -310,9 +300,6 @@ module _ (t : BitmapIndex) (f : FlashState) (first : ℕ) (plan : Plan) (table :
             (stands.in_ring.facts.tell k held.holds held.is (number - l.first_page) n (omega (arith, l.low, l.high, many)) (omega (arith, same, l.low, e))) some;
       }
     where
-      one : {a b : ℕ} → ◌≡◌ {A = Option ℕ} (Some a) (Some b) → a ≡ b
-      one e = cc
-
       number_small : ring.next < 2 ^ 32
       number_small = omega (arith, stands.in_ring.facts.number)
 

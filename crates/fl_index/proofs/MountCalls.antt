@@ -1,6 +1,7 @@
 -- What the calls of a mount say of its index, over any bytes.
 use Rattle.std.proofs.Common.{◌≡◌, ℕ, ◌+◌, ◌-◌, ◌*◌, ◌<◌, ◌≤◌, Bool, true, false, cond, ◌&&◌, IsTrue, Option, Some, None, ◌%◌, get_or, length, List, inl, inr, refl, sym, ◌∙◌, ap, subst, arith}
 use Rattle.std.proofs.Math.Nat.{mul-le-mul_right, mul-le-mul_left}
+use Rattle.std.proofs.lemmas.Option.{same_Some}
 use Rattle.fl_base.specs.declared.types.Geometry.{Geometry}
 use Rattle.fl_base.specs.declared.types.RingPlace.{RingPlace}
 use Rattle.fl_flash.specs.Flash.{FlashState, page_at}
@@ -24,7 +25,7 @@ use Rattle.fl_index.specs.Finding.{FewReads, ReadsRing, FindsEnd, FindsIndex, Re
 use Rattle.fl_index.specs.Headers.{AreRemembered, kept_page}
 use Rattle.fl_index.specs.Memory.{IsSamePlan, first_in, per_page}
 use Rattle.fl_index.specs.Page.{page_entries, newest_of, first_on}
-use Rattle.fl_index.proofs.MountEnded.{IsBadEnd, same-ring}
+use Rattle.fl_index.proofs.MountEnded.{IsBadEnd}
 
 -- a first data page is remembered by its page's number
 pub remembered-at : (now : BitmapIndex) (ring : Ring) (page : ℕ → List ℕ) → AreRemembered page (oldest_of ring) (next_of ring - oldest_of ring) now.firsts.items →
@@ -122,7 +123,7 @@ four-each blocks pages b p =
 -- the kept pages are read on the flash that the first part left
 module _ (old found : BitmapIndex) (f mid g : FlashState) (end : Option ℕ) (h : FindsEnd old f end found mid) (ring : Ring) (same : IsSamePlan old found) (was : found.ring ≡ Some ring) (reads : OnlyReads mid (next_of ring - oldest_of ring) g) where
   ring-is : h.ring ≡ ring
-  ring-is = same-ring (sym h.ring_is ∙ was)
+  ring-is = same_Some _ _ (sym h.ring_is ∙ was)
 
   pub found-shape : shape_of ring ≡ shape_at old.place old.geometry
   found-shape =

@@ -2,6 +2,7 @@
 use Rattle.std.proofs.Common.{◌≡◌, inr, ℕ, ◌+◌, ◌-◌, ◌*◌, ◌%◌, ◌^◌, ◌<◌, ◌≤◌, Bool, true, false, IsTrue, Option, Some, None, IfSome, MatchOption, Result, Ok, Err, List, [], length, get_or, refl, sym, ◌∙◌, ap, subst, arith}
 use Rattle.std.proofs.lemmas.List.{append-nil}
 use Rattle.std.specs.Option.{option_map, unwrap_or}
+use Rattle.std.proofs.lemmas.Option.{same_Some}
 use Rattle.fl_base.specs.Causes.{Rose}
 use Rattle.fl_flash.specs.Flash.{FlashState, page_at}
 use Rattle.fl_flash.specs.Places.{extent}
@@ -72,9 +73,6 @@ mounting-of t f first plan table planned lies reaches rests =
       is = found.is;
       on = found.on;
     }
-
-pub same-ring : {a b : Ring} → ◌≡◌ {A = Option Ring} (Some a) (Some b) → a ≡ b
-same-ring e = cc
 
 -- ---- the answer
 
@@ -241,7 +239,7 @@ module _ (first : ℕ) (plan : Plan) (table : Table) (rose : Bool) (device : Dev
       found.ring ≡ Some ring → now.ring ≡ Some ring → waiting_in now ≡ 0 →
       (next_of ring - oldest_of ring ≤ length now.firsts.items → AreRemembered (kept_page ring mid) (oldest_of ring) (next_of ring - oldest_of ring) now.firsts.items) → MountsWell first plan table rose device end now new
   mounts-well ring now planned is sizes shape large few was ring_is none remembered =
-      let same : w.stands.in_memory ≡ ring = same-ring (sym w.stands.memory_is ∙ was) in
+      let same : w.stands.in_memory ≡ ring = same_Some _ _ (sym w.stands.memory_is ∙ was) in
       let old_is : oldest_of ring ≡ model.oldest w.stands.ring = ap (λ (r : Ring). oldest_of r) (sym same) ∙ w.stands.oldest_is in
       let next_is : next_of ring ≡ w.stands.ring.next = ap (λ (r : Ring). next_of r) (sym same) ∙ w.stands.next in
       let many : next_of ring - oldest_of ring ≡ length w.stands.ring.counts = omega (arith, next_is, old_is, w.stands.facts.is_ring.not_negative) in

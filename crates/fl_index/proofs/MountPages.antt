@@ -5,6 +5,7 @@ use Rattle.std.proofs.lemmas.Bool.{cases_lt, eqb-true}
 use Rattle.std.proofs.lemmas.List.{take_all}
 use Rattle.std.specs.List.{slice_get, last_or}
 use Rattle.std.specs.Option.{option_map}
+use Rattle.std.proofs.lemmas.Option.{none-some}
 use Rattle.fl_mark.specs.Mark.{state_of_page}
 use Rattle.fl_mark.specs.declared.page_state.PageState.{PageState}
 use Rattle.fl_mark.specs.declared.page_state.PageState.TheVariants.{Void}
@@ -84,10 +85,7 @@ module _ (page : ℕ → List ℕ) (first : ℕ) (plan : Plan) (table : Table) (
   Newest n (Some number) = (i : ℕ) × (c : ℕ) × (number ≡ model.oldest ring + i) × (slice_get ring.counts i ≡ Some c) × (0 < c) × (full_pages (take n ring.counts) ≡ full_pages (take i ring.counts) + 1)
 
   take-more : (counts : List ℕ) (n c : ℕ) → slice_get counts n ≡ Some c → full_pages (take (suc n) counts) ≡ full_pages (take n counts) + full_pages (c ∷ [])
-  take-more [] n c e = absurd (none e)
-    where
-      none : ◌≡◌ {A = Option ℕ} None (Some c) → ⊥
-      none e = cc
+  take-more [] n c e = absurd (none-some c e)
   take-more (x ∷ xs) zero c e = let same : x ≡ c = cc in ap (λ k. full_pages (k ∷ take 0 xs)) same ∙ (ap (λ (ys : List ℕ). full_pages (c ∷ ys)) (nothing xs) ∙ omega arith)
     where
       nothing : (xs : List ℕ) → take 0 xs ≡ []
@@ -135,11 +133,8 @@ module _ (page : ℕ → List ℕ) (first : ℕ) (plan : Plan) (table : Table) (
   newest-end = by_newest (newest_of (bytes_in page first plan) (model.oldest ring) (length ring.counts)) (newest-there (length ring.counts) (omega arith))
     where
       by_newest : (o : Option ℕ) → Newest (length ring.counts) o → IsNewestEnd o
-      by_newest None h = record { fits = λ number e. absurd (none number e); end = λ x e. e ∙ sym (ap (option_map (λ page. page + entries_per_page plan)) (empty (firsts table) (omega (arith, firsts-length table.index_pages, facts.index_each, all-full, h)))) }
+      by_newest None h = record { fits = λ number e. absurd (none-some number e); end = λ x e. e ∙ sym (ap (option_map (λ page. page + entries_per_page plan)) (empty (firsts table) (omega (arith, firsts-length table.index_pages, facts.index_each, all-full, h)))) }
         where
-          none : (number : ℕ) → ◌≡◌ {A = Option ℕ} None (Some number) → ⊥
-          none number e = cc
-
           empty : (firsts : List ℕ) → length firsts ≡ 0 → last_or None firsts ≡ None
           empty [] h = refl
           empty (x ∷ xs) h = absurd (omega (arith, h))

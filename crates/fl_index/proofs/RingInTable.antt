@@ -3,6 +3,7 @@ use Rattle.std.proofs.Common.{◌≡◌, ℕ, ◌+◌, ◌-◌, ◌^◌, ◌<◌
 use Rattle.std.proofs.lemmas.List.{append-nil}
 use Rattle.std.specs.List.{slice_get, AllByRecursion}
 use Rattle.std.specs.Option.{option_map, unwrap_or}
+use Rattle.std.proofs.lemmas.Option.{none-some, same_Some}
 use Rattle.fl_flash.specs.Flash.{FlashState}
 use Rattle.fl_flash.specs.declared.flash.FlashFault.{FlashFault}
 use Rattle.fl_flash.specs.declared.flash.FlashFault.TheVariants.{PowerLost, Media}
@@ -37,9 +38,6 @@ pub record MakesBody (plan : Plan) (body : List ℕ) (table : Table) (ring : mod
   pub body_is : body ≡ index_body plan ring.next (table.rows.next - entries_per_page plan) table.waiting
   pub clean : ring.dirty ≡ false
   pub left : ring.next + 1 < 2 ^ 32
-
-some_same : {X : Type 0} {a b : X} → ◌≡◌ {A = Option X} (Some a) (Some b) → a ≡ b
-some_same e = cc
 
 -- a page is begun
 pub begun-state : (plan : Plan) (table : Table) (s : RingState) (is : IsStateOf plan table s) → is.ring.dirty ≡ false → is.ring.next + 1 < 2 ^ 32 → IsStateOf plan (with_ring IndexRing model.begun table) (begun s)
@@ -124,7 +122,7 @@ sealed-page plan body table s is m body' e = record {
   holds = page_waited plan table;
   is = ap (slice_get (table.index_pages ++ page_waited plan table ∷ [])) (full-last is.ring.counts (entries_per_page plan ∷ []) ∙ sym is.facts.index_each)
       ∙ slice_get-last table.index_pages (page_waited plan table);
-  bytes = ap committed (sym (some_same e) ∙ m.body_is) ∙ ap (λ n. committed (index_body plan n (table.rows.next - entries_per_page plan) table.waiting)) here;
+  bytes = ap committed (sym (same_Some _ _ e) ∙ m.body_is) ∙ ap (λ n. committed (index_body plan n (table.rows.next - entries_per_page plan) table.waiting)) here;
 }
   where
     pushed_length : (xs : List ℕ) (y : ℕ) → length (xs ++ y ∷ []) ≡ length xs + 1
@@ -205,11 +203,8 @@ voided-state first plan table s is shape idle torn =
     (let e = ap (λ (ps : List IndexPage). end_after (entries_per_page plan) (firsts_of ps)) (append-nil table.index_pages) in omega (arith, e, is.facts.listed))
     (subst (AllByRecursion (λ (p : IndexPage). length p.entries ≡ entries_per_page plan)) (sym (append-nil table.index_pages)) is.facts.index_fit)
     (λ k p e. is.facts.tell k p (ap (λ (ps : List IndexPage). slice_get ps k) (sym (append-nil table.index_pages)) ∙ e))
-    (λ body e. absurd (none body e)))
+    (λ body e. absurd (none-some body e)))
   where
-    none : (body : List ℕ) → ◌≡◌ {A = Option (List ℕ)} None (Some body) → ⊥
-    none body e = cc
-
     clean : (t d : Bool) → t ≡ true → (IsTrue (t && d) → ⊥) → d ≡ false
     clean true true e h = absurd (h refl)
     clean true false e h = refl

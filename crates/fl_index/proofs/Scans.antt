@@ -1,7 +1,8 @@
 -- What a lookup of a scan reads, at most and at least.
 use Rattle.std.proofs.Common.{◌≡◌, ◌⊎◌, inl, inr, ℕ, suc, ◌+◌, ◌-◌, ◌<◌, ◌≤◌, Bool, true, false, cond, ◌||◌, ◌==◌, nat_le, nat_lt, Option, Some, None, IfErr, OnErr, IsTrue, Result, Ok, Err, List, [], ◌∷◌, refl, sym, ◌∙◌, ap, subst, arith}
-use Rattle.std.proofs.lemmas.Bool.{cases_lt, ltb-true, lt-ltb, eqb-true, false≢true, false_from_ne_true}
+use Rattle.std.proofs.lemmas.Bool.{cases_lt, ltb-true, lt-ltb, eqb-true, false≢true, false_from_ne_true, and_parts}
 use Rattle.std.specs.List.{list_any, range_with_len, count_by, AllByRecursion}
+use Rattle.std.proofs.lemmas.Option.{none-some}
 use Rattle.fl_flash.specs.Buffer.{BufferState}
 use Rattle.fl_flash.specs.Flash.{FlashState, page_at}
 use Rattle.fl_mark.specs.Mark.{state_of_page}
@@ -19,7 +20,6 @@ use Rattle.fl_index.specs.Standing.{Stands}
 use Rattle.fl_index.proofs.Counts.{count-cons, count-split, count-none, count-fewer, at-most-one}
 use Rattle.fl_index.proofs.ListingPages.{listing-is}
 use Rattle.fl_index.proofs.Lookups.{within, ends, before-it, unread-later}
-use Rattle.fl_index.proofs.LookupsOfTable.{both_true}
 
 -- the index page from which a scan may still read
 pub scanning-from : (t : BitmapIndex) (number from : ℕ) (buf : BufferState) → IsScanning t number from buf → from ≡ next_to_read t buf
@@ -52,7 +52,7 @@ unread-fewer t number later from le =
 lists-ends : (most number later : ℕ) (first : Option ℕ) → number ≤ later → lists most later first ≡ true → ends_above most number first ≡ true
 lists-ends most number later None le e = e
 lists-ends most number later (Some first) le e =
-    let b = both_true (nat_le first later) (nat_lt later (first + most)) e in
+    let b = and_parts (nat_le first later) (nat_lt later (first + most)) e in
     let lt = ltb-true later (first + most) b.1 in
     lt-ltb number (first + most) (omega (arith, lt, le))
 
@@ -61,10 +61,7 @@ page-is listing None e = absurd (false≢true e)
 page-is listing (Some page) e = ap (λ (n : ℕ). Some n) (eqb-true page listing e)
 
 looked-listed : (b : Bool) (o : Option ℕ) (page : ℕ) → cond b None o ≡ Some page → o ≡ Some page
-looked-listed true o page e = absurd (none e)
-  where
-    none : ◌≡◌ {A = Option ℕ} None (Some page) → ⊥
-    none e = cc
+looked-listed true o page e = absurd (none-some page e)
 looked-listed false o page e = e
 
 looked-lists : (t : BitmapIndex) (listing number : ℕ) → is_looked_at t listing number ≡ true → lists (per_page t) number (first_in t listing) ≡ true

@@ -2,6 +2,7 @@
 use Rattle.std.proofs.Common.{◌≡◌, inl, inr, Bool, true, false, Ok, IsErr, List, ℕ, ◌+◌, ◌-◌, ◌*◌, ◌^◌, ◌<◌, ◌≤◌, Option, Some, length, drop, replicate, sym, ◌∙◌, ap, subst, arith}
 use Rattle.std.proofs.Math.Nat.{mul-le-mul_right, div-add-mod'}
 use Rattle.std.specs.Option.{option_map, unwrap_or}
+use Rattle.std.proofs.lemmas.Option.{same_Some}
 use Rattle.fl_base.specs.Bytes.{splice}
 use Rattle.fl_flash.specs.Flash.{FlashState, page_at}
 use Rattle.fl_model.specs.Record.{Plan, entry_len, entries_per_page}
@@ -28,9 +29,6 @@ some-room index len is =
     let up : 3 * index.geometry.block ≤ index.place.blocks * index.geometry.block = mul-le-mul_right index.geometry.block index.some_blocks in
     omega (arith, is, index.remembered, up, index.served.block_least)
 
-one_ring : {a b : Ring} → ◌≡◌ {A = Option Ring} (Some a) (Some b) → a ≡ b
-one_ring e = cc
-
 pub sealing-of : (index : BitmapIndex) (f : FlashState) (first : ℕ) (plan : Plan) (table : Table) (ring : Ring) (number : ℕ) → Stands index f first plan table → HaveSize first plan (page_at f) →
     index.ring ≡ Some ring → number ≡ place.next_of ring → next_in index + 1 < 2 ^ 32 → waiting_in index ≡ per_page index →
     IsSealing index f first plan table (splice index.body.items 0 (header_bytes number index.first index.waiting))
@@ -40,7 +38,7 @@ sealing-of index f first plan table ring number stands sizes has at left full =
     let found = to-state first plan (page_at f) sizes (served-shape index first plan planned) (some-entries index first plan planned) table in_ring.ring in_ring.facts in_ring.pages in
     let X = planned-page index first plan planned in
     let all : length table.waiting ≡ entries_per_page plan = sym stands.waits.count_is ∙ (full ∙ X) in
-    let same_ring : in_ring.in_memory ≡ ring = one_ring (sym in_ring.memory_is ∙ has) in
+    let same_ring : in_ring.in_memory ≡ ring = same_Some _ _ (sym in_ring.memory_is ∙ has) in
     let next : place.next_of ring ≡ in_ring.ring.next = subst (λ (r : Ring). r.next ≡ in_ring.ring.next) same_ring in_ring.next in
     let page_is : index.first ≡ table.rows.next - entries_per_page plan = stands.waits.first_is ∙ ap (λ n. table.rows.next - n) all in
     let size : length index.body.items + 8 ≡ plan.geometry.page = index.page ∙ ap (λ g. g.page) (sym planned.geometry) in
@@ -85,7 +83,7 @@ pub number-of : (index : BitmapIndex) (f : FlashState) (first : ℕ) (plan : Pla
     (s : RingState) (is : IsStateOf plan table s) → number ≡ is.ring.next
 number-of index f first plan table ring number stands has at s is =
     let in_ring = stands.in_ring in
-    let next : place.next_of ring ≡ in_ring.ring.next = subst (λ (r : Ring). r.next ≡ in_ring.ring.next) (one_ring (sym in_ring.memory_is ∙ has)) in_ring.next in
+    let next : place.next_of ring ≡ in_ring.ring.next = subst (λ (r : Ring). r.next ≡ in_ring.ring.next) (same_Some _ _ (sym in_ring.memory_is ∙ has)) in_ring.next in
     at ∙ (next ∙ ap (λ (r : model.Ring). r.next) (one (sym in_ring.facts.ring_is ∙ is.facts.ring_is)))
   where
     one : {a b : model.Ring} → ◌≡◌ {A = Option model.Ring} (Some a) (Some b) → a ≡ b

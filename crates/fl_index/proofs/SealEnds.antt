@@ -6,6 +6,7 @@ use Rattle.std.proofs.lemmas.List.Sums.{sum_by-take-drop, sum_by-cons}
 use Rattle.std.proofs.Math.Nat.{mod-lt, mul-le-mul_right, add-mul, div-add-mod'}
 use Rattle.std.specs.List.{slice_get}
 use Rattle.std.specs.Option.{option_map, unwrap_or}
+use Rattle.std.proofs.lemmas.Option.{none-some, same_Some}
 use Rattle.fl_bitmap.proofs.Widths.{widths}
 use Rattle.fl_bitmap.specs.Widths.{is_bits}
 use Rattle.fl_flash.specs.Flash.{FlashState, pages, page_at}
@@ -151,10 +152,7 @@ rows-lost table counted n rows e =
     ∙ (ap (take rows) (drop-take before (last - before) table.entries) ∙ take-take rows (last - before) (drop before table.entries) (omega (arith, all, some, counted)))
   where
     first_counts : (xs : List ℕ) → slice_get xs 0 ≡ Some rows → rows ≤ sum xs
-    first_counts [] e = absurd (none e)
-      where
-        none : None ≡ Some rows → ⊥
-        none e = cc
+    first_counts [] e = absurd (none-some rows e)
     first_counts (x ∷ xs) e = let same : x ≡ rows = cc in omega (arith, same, sum_by-cons (λ (k : ℕ). k) x xs)
 
 -- what entries tell they tell where the pending rows are lost
@@ -198,9 +196,6 @@ lost-rests f first plan table ring facts image = record {
   where
     nothing : (j : ℕ) → j < 0 → ⊥
     nothing j lt = omega arith
-
-one_ring : {a b : Ring} → ◌≡◌ {A = Option Ring} (Some a) (Some b) → a ≡ b
-one_ring e = cc
 
 same_model : {a b : model.Ring} → ◌≡◌ {A = Option model.Ring} (Some a) (Some b) → a ≡ b
 same_model e = cc
@@ -305,7 +300,7 @@ module _ (index : BitmapIndex) (f : FlashState) (first : ℕ) (plan : Plan) (tab
   -- the ring is ready for the seal
   pub seal-ready : (ring : Ring) → index.ring ≡ Some ring → place.shape_of ring ≡ shape_in first plan → IsReady ring f h.s
   seal-ready ring has at =
-      let same : h.stands.in_ring.in_memory ≡ ring = one_ring (sym h.stands.in_ring.memory_is ∙ has) in
+      let same : h.stands.in_ring.in_memory ≡ ring = same_Some _ _ (sym h.stands.in_ring.memory_is ∙ has) in
       record {
         stands = record {
           next = subst (λ (r : Ring). r.next ≡ h.s.next) same (h.stands.in_ring.next ∙ (ap (λ (r : model.Ring). r.next) (sym h.same) ∙ sym state_next));

@@ -1,9 +1,10 @@
 -- What a scan over a table's index pages counts, in the words of the model.
 use Rattle.std.proofs.Common.{◌≡◌, ◌⊎◌, inl, inr, ℕ, zero, suc, ◌+◌, ◌-◌, ◌<◌, ◌≤◌, Bool, true, false, cond, ◌&&◌, ◌||◌, ◌==◌, nat_le, nat_lt, Option, Some, None, is_some, List, [], ◌∷◌, length, take, drop, refl, sym, ◌∙◌, ap, arith}
-use Rattle.std.proofs.lemmas.Bool.{cases_lt, lt-ltb, leb-true, le-leb, eq-eqb, eqb-true, false_from_ne_true}
+use Rattle.std.proofs.lemmas.Bool.{cases_lt, lt-ltb, leb-true, le-leb, eq-eqb, eqb-true, false_from_ne_true, and_parts}
 use Rattle.std.proofs.lemmas.List.{take_all}
 use Rattle.std.proofs.lemmas.List.Sums.{sum_by-cons}
 use Rattle.std.specs.List.{slice_get, list_any, range_with_len, count_by}
+use Rattle.std.proofs.lemmas.Option.{none-some}
 use Rattle.fl_flash.specs.Flash.{FlashState}
 use Rattle.fl_model.specs.Limits.{is_indexed}
 use Rattle.fl_model.specs.Record.{Plan, entries_per_page}
@@ -18,13 +19,10 @@ use Rattle.fl_model.proofs.FullPages.{full-one, full-void, full-append, full-wit
 use Rattle.fl_index.proofs.Lists.{below-end, firsts-length}
 use Rattle.fl_index.proofs.Held.{listed-first}
 use Rattle.fl_index.proofs.ListingPages.{listing-is}
-use Rattle.fl_index.proofs.LookupsOfTable.{both_true, ListingPage, listing-page, listed-indexed, waits-indexed, none-shows, number_old, kept_len, X_is}
+use Rattle.fl_index.proofs.LookupsOfTable.{ListingPage, listing-page, listed-indexed, waits-indexed, none-shows, number_old, kept_len, X_is}
 
 drop-at : (i x : ℕ) (xs : List ℕ) → slice_get xs i ≡ Some x → drop i xs ≡ x ∷ drop (suc i) xs
-drop-at i x [] e = absurd (none e)
-  where
-    none : ◌≡◌ {A = Option ℕ} None (Some x) → ⊥
-    none e = cc
+drop-at i x [] e = absurd (none-some x e)
 drop-at zero x (y ∷ xs) e = let same : y ≡ x = cc in ap (λ z. z ∷ xs) same
 drop-at (suc i) x (y ∷ xs) e = drop-at i x xs e
 
@@ -35,10 +33,7 @@ drop-past (suc i) [] h = refl
 drop-past (suc i) (x ∷ xs) h = drop-past i xs (omega (arith, h))
 
 take-at : (i x : ℕ) (xs : List ℕ) → slice_get xs i ≡ Some x → full_pages (take (suc i) xs) ≡ full_pages (take i xs) + full_pages (x ∷ [])
-take-at i x [] e = absurd (none e)
-  where
-    none : ◌≡◌ {A = Option ℕ} None (Some x) → ⊥
-    none e = cc
+take-at i x [] e = absurd (none-some x e)
 take-at zero x (y ∷ xs) e =
     let same : y ≡ x = cc in
     let one : full_pages (take 1 (y ∷ xs)) ≡ full_pages (x ∷ []) = ap (λ (zs : List ℕ). full_pages (y ∷ zs)) (take_none xs) ∙ ap (λ z. full_pages (z ∷ [])) same in
@@ -123,7 +118,7 @@ module _ (t : BitmapIndex) (f : FlashState) (first : ℕ) (plan : Plan) (table :
     where
       not_waiting : ListingPage t f first plan table stands number page → is_waiting t number ≡ false
       not_waiting l = false_from_ne_true (is_waiting t number) (λ e.
-          let b = both_true (nat_le (first_waiting t) number) (nat_lt number (first_waiting t + waiting_in t)) e in
+          let b = and_parts (nat_le (first_waiting t) number) (nat_lt number (first_waiting t + waiting_in t)) e in
           let least = leb-true (first_waiting t) number b.0 in
           let end = below-end (entries_per_page plan) (firsts table) _ l.first_page stands.in_ring.facts.firsts l.listed in
           omega (arith, least, end, l.high, stands.in_ring.facts.listed, stands.waits.first_is))

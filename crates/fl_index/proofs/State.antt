@@ -1,7 +1,9 @@
 -- The index ring of a table as a list of bodies.
-use Rattle.std.proofs.Common.{◌≡◌, ℕ, zero, suc, ◌+◌, ◌-◌, ◌*◌, ◌%◌, ◌<◌, ◌⊎◌, inl, inr, Bool, true, false, ◌&&◌, Option, Some, None, IfSome, List, [], ◌∷◌, ◌++◌, length, take, map, replicate, get_or, refl, sym, ◌∙◌, ap, subst, arith, length-append}
+use Rattle.std.proofs.Common.{◌≡◌, ℕ, zero, suc, ◌+◌, ◌-◌, ◌*◌, ◌%◌, ◌<◌, ◌⊎◌, inl, inr, Option, Some, None, IfSome, List, [], ◌∷◌, ◌++◌, length, take, map, replicate, get_or, refl, sym, ◌∙◌, ap, subst, arith, length-append}
 use Rattle.std.proofs.lemmas.Nat.Gcd.{mod-eq-zero_of_dvd}
 use Rattle.std.specs.List.{slice_get, AllByRecursion}
+use Rattle.std.proofs.lemmas.Bool.{and_from}
+use Rattle.std.proofs.lemmas.Option.{none-some}
 use Rattle.fl_model.specs.Record.{Plan, entries_per_page}
 use Rattle.fl_model.specs.Ring as model
 use Rattle.fl_model.specs.Table.{Table, IndexRing, shape_of, full_pages}
@@ -46,10 +48,7 @@ bodies-length size page number [] = refl
 bodies-length size page number (c ∷ counts) = ap suc (bodies-length size page (number + 1) counts)
 
 bodies-at : (size : ℕ) (page : ℕ → List ℕ) (number : ℕ) (counts : List ℕ) (i c : ℕ) → slice_get counts i ≡ Some c → get_or (bodies_from size page number counts) i None ≡ body_where size c (page (number + i))
-bodies-at size page number [] i c e = absurd (none e)
-  where
-    none : None ≡ Some c → ⊥
-    none e = cc
+bodies-at size page number [] i c e = absurd (none-some c e)
 bodies-at size page number (x ∷ counts) zero c e =
     let same : x ≡ c = cc in
     ap (λ (k : ℕ). body_where size k (page number)) same ∙ ap (λ (n : ℕ). body_where size c (page n)) (omega arith)
@@ -70,10 +69,7 @@ bodies-count X size page number (c ∷ counts) each some =
 
 -- where a body stands there is a count
 body-some : (size c : ℕ) (page body : List ℕ) → body_where size c page ≡ Some body → (0 < c) × (body ≡ take (size - 8) page)
-body-some size zero page body e = absurd (none e)
-  where
-    none : None ≡ Some body → ⊥
-    none e = cc
+body-some size zero page body e = absurd (none-some body e)
 body-some size (suc c) page body e = (omega arith, sym (same e))
   where
     same : Some (take (size - 8) page) ≡ Some body → take (size - 8) page ≡ body
@@ -100,12 +96,8 @@ ring-from r s counts len h = record {
   most = omega (arith, len, h.kept);
   most_ahead = λ e. let k = h.kept_at_end e in omega (arith, len, k);
   dirty_when = λ d. let k = h.dirty_at_end d in (k.0, omega (arith, len, k.1));
-  not_both = λ t d. h.not_both (both s.torn s.dirty t d);
+  not_both = λ t d. h.not_both (and_from s.torn s.dirty t d);
 }
-  where
-    both : (a b : Bool) → a ≡ true → b ≡ true → (a && b) ≡ true
-    both true b e k = k
-    both false b e k = cc
 
 -- What holds of an index page by other names of the same things.
 pub holds-moved : (plan : Plan) (t t' : Table) (ring ring' : model.Ring) (i i' count : ℕ) (page : List ℕ) → model.oldest ring' + i' ≡ model.oldest ring + i →
@@ -118,10 +110,7 @@ holds-moved plan t t' ring ring' i i' count page at pages h = record {
 }
 
 pub kept-short : (kept : List (Option (List ℕ))) (i : ℕ) (body : List ℕ) → get_or kept i None ≡ Some body → i < length kept
-kept-short [] i body e = absurd (none e)
-  where
-    none : ◌≡◌ {A = Option (List ℕ)} None (Some body) → ⊥
-    none e = cc
+kept-short [] i body e = absurd (none-some body e)
 kept-short (x ∷ kept) zero body e = omega arith
 kept-short (x ∷ kept) (suc i) body e = let k = kept-short kept i body e in omega (arith, k)
 

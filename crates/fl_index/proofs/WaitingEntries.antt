@@ -1,5 +1,5 @@
 -- Entries one after another behind the header of a page.
-use Rattle.std.proofs.Common.{◌≡◌, ℕ, zero, suc, ◌+◌, ◌-◌, ◌*◌, ◌/◌, ◌%◌, ◌^◌, ◌<◌, ◌≤◌, ◌⊎◌, inl, inr, Bool, true, false, cond, ◌==◌, ◌||◌, IsTrue, Some, None, ℤ, pos, negsuc, ◌-ℤ◌, List, [], ◌∷◌, ◌++◌, length, take, drop, replicate, bit_or, refl, sym, ◌∙◌, ap, subst, arith, length-append, length-drop, append_assoc, if◌then◌else◌}
+use Rattle.std.proofs.Common.{◌≡◌, ℕ, zero, suc, ◌+◌, ◌-◌, ◌*◌, ◌/◌, ◌%◌, ◌^◌, ◌<◌, ◌≤◌, ◌⊎◌, inl, inr, Bool, true, false, cond, ◌==◌, ◌||◌, IsTrue, Some, ℤ, pos, negsuc, ◌-ℤ◌, List, [], ◌∷◌, ◌++◌, length, take, drop, replicate, bit_or, refl, sym, ◌∙◌, ap, subst, arith, length-append, length-drop, append_assoc, if◌then◌else◌}
 use Rattle.std.specs.Int.{int_div_euclid, w64, to_le_bytes, bytes_low_first}
 use borrow.Rule.Slice.PartMut.{put_mid}
 use Rattle.std.specs.List.{slice_get, flat_map}
@@ -9,6 +9,7 @@ use Rattle.std.proofs.lemmas.List.{take_at, take_all, drop-take, drop-drop, drop
 use Rattle.std.proofs.lemmas.Nat.{or_lt}
 use Rattle.std.proofs.Math.Nat.{add-mul, mod-eq_of_lt, mul-le-mul_right, one-le-pow}
 use Rattle.std.proofs.Math.Pow.{pow-lt}
+use Rattle.std.proofs.lemmas.Option.{none-some}
 use Rattle.fl_base.specs.Bytes.{splice}
 use Rattle.fl_base.proofs.Ranges.{length-splice, drop-splice}
 use Rattle.fl_bitmap.specs.Widths.{is_bits}
@@ -107,10 +108,7 @@ module _ (form : EntryForm) (xs : List ℕ) (x : IndexEntry) (entries : List Ind
 
 -- the j-th of them
 pub entry-at : (form : EntryForm) (xs : List ℕ) (entries : List IndexEntry) (j : ℕ) (b : IndexEntry) → InFront form xs entries → slice_get entries j ≡ Some b → take (form_len form) (drop (j * form_len form) xs) ≡ bytes_of form b
-entry-at form xs [] j b h e = absurd (none e)
-  where
-    none : None ≡ Some b → ⊥
-    none e = cc
+entry-at form xs [] j b h e = absurd (none-some b e)
 entry-at form xs (x ∷ entries) zero b h e =
     let same : x ≡ b = cc in
     ap (λ n. take (form_len form) (drop n xs)) (let k : 0 * form_len form ≡ 0 = omega arith in k) ∙ (ap (take (form_len form)) (zero-drop xs) ∙ (first-in form xs x entries h ∙ ap (bytes_of form) same))

@@ -1,4 +1,5 @@
 use Rattle.std.proofs.Common.{◌≡◌, ◌⊎◌, inl, inr, ℕ, ◌-◌, cond, Option, Some, None, IfSome, IsTrue, List, sym, ◌∙◌, ap, subst, arith}
+use Rattle.std.proofs.lemmas.Option.{none-some, same_Some}
 use Rattle.fl_ring.specs.Place.{shape_of}
 use Rattle.fl_ring.specs.Ring.{place}
 use Rattle.fl_flash.specs.Buffer.{BufferState}
@@ -78,10 +79,7 @@ returns-clause-fresh g c = λ told fresh number held.
     let ring = c.in-Some-ring.ring in
     let bytes = here-bytes t ring c.in-Some-ring.is c.args.number page c.args.buf.now c.in-Some-listing.ensures.some.0 f c.hold.new.buf fresh (c.in_default-hold.ensures.page told) in
     let holds : c.hold.new.buf.holds ≡ Some (place_in t page) = c.in_default-hold.ensures.holds ∙ ap (λ (n : ℕ). Some n) (place-same t ring c.in-Some-ring.is page) in
-    bytes ∙ (ap (page_at f) (one_place (place_in t page) (place_in t number) (sym holds ∙ held.place)) ∙ sym (same_page f new 1 (place_in t number) c.in_default-hold.ensures.reads))
-  where
-    one_place : (a b : ℕ) → ◌≡◌ {A = Option ℕ} (Some a) (Some b) → a ≡ b
-    one_place a b e = cc
+    bytes ∙ (ap (page_at f) (same_Some (place_in t page) (place_in t number) (sym holds ∙ held.place)) ∙ sym (same_page f new 1 (place_in t number) c.in_default-hold.ensures.reads))
 
 pub returns-in_default-listing-clause-least : goal.returns-in_default-listing-clause-least
 returns-in_default-listing-clause-least g c = λ first plan table from numbers told stands fresh scanning later lt.
@@ -135,10 +133,7 @@ returns-in-Err-clause-again g c = λ first plan table from told stands fresh sca
     (λ held.
     let holds = held.place ∙ ap (λ (n : ℕ). Some n) (sym (place-same t ring c.in-Some-ring.is page)) in
     let same = c.hold.ensures.held holds held.number_is in
-    none (sym c.in-Err.ensures.none ∙ (ap (λ (b : BufferState). b.holds) same.1 ∙ holds)))
-  where
-    none : {n : ℕ} → ◌≡◌ {A = Option ℕ} None (Some n) → ⊥
-    none e = cc
+    none-some _ (sym c.in-Err.ensures.none ∙ (ap (λ (b : BufferState). b.holds) same.1 ∙ holds)))
 
 pub returns-clause-again : goal.returns-clause-again
 returns-clause-again g c = λ first plan table from told stands fresh scanning.

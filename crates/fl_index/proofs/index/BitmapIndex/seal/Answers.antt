@@ -1,7 +1,8 @@
 use Rattle.fl_ring.specs.declared.ring.Ring.{Ring}
-use Rattle.std.proofs.Common.{◌≡◌, Option, None, ◌+◌, ◌*◌, ◌%◌, ℕ, ◌<◌, ◌≤◌, ◌==◌, cond, List, ◌++◌, Some, Result, Ok, Err, length, take, drop, get_or, set, unwrap_or, arith, refl, sym, ◌∙◌, ap, subst}
+use Rattle.std.proofs.Common.{◌≡◌, Option, ◌+◌, ◌*◌, ◌%◌, ℕ, ◌<◌, ◌≤◌, ◌==◌, cond, List, ◌++◌, Some, Result, Ok, Err, length, take, drop, get_or, set, unwrap_or, arith, refl, sym, ◌∙◌, ap, subst}
 use Rattle.std.specs.Prelude.{option_map}
 use Rattle.std.proofs.lemmas.Result.{err_from_is_err_and}
+use Rattle.std.proofs.lemmas.Option.{none-some}
 use Rattle.fl_base.specs.Bytes.{splice}
 use Rattle.fl_flash.specs.Flash.{page_at}
 use Rattle.fl_flash.specs.declared.flash.FlashFault.{FlashFault}
@@ -113,11 +114,8 @@ invariant_of-self g c =
       blank_rest = rest-headed c.next_number-number.result t.first t.waiting (per_page t * len_in t) t.body.items _ (omega (arith, t.page, t.served.page_least)) back t.blank_rest;
       few = t.few;
       left = t.left;
-      lies = λ r has. absurd (none r (sym c.take.ensures.after ∙ has));
+      lies = λ r has. absurd (none-some r (sym c.take.ensures.after ∙ has));
     }
-  where
-    none : (r : Ring) → ◌≡◌ {A = Option Ring} None (Some r) → ⊥
-    none r e = cc
 
 pub invariant_of-self-2-clause-blank_rest : goal.invariant_of-self-2-clause-blank_rest
 invariant_of-self-2-clause-blank_rest g c =
