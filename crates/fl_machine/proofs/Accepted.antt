@@ -5,6 +5,7 @@ use Rattle.std.proofs.lemmas.Bool.{ltb-false, false≢true}
 use Rattle.std.proofs.lemmas.Bool.Decides.{nat_tests}
 use Rattle.std.proofs.lemmas.List.Sums.{sum_by-append}
 use Rattle.std.proofs.Math.Nat.{add-mul}
+use Rattle.std.proofs.lemmas.Option.{none-some, same_Some}
 use Rattle.fl_base.specs.declared.types.Geometry.{Geometry}
 use Rattle.fl_model.specs.Record.{Plan, Config, blocks_of}
 use Rattle.fl_words.specs.Command as command
@@ -33,15 +34,9 @@ pub record LinesHaveRoom (lines : Lines) : Type 0 where
 
 -- where no fault applies, no test passes
 pub test_passes : (tests : List (Bool × ConfigFault)) (i : ℕ) (test : Bool × ConfigFault) → first_fault tests ≡ None → slice_get tests i ≡ Some test → test.0 ≡ false
-test_passes [] i test h e = absurd (none e)
+test_passes [] i test h e = absurd (none-some test e)
+test_passes (t ∷ tests) zero test h e = subst (λ (x : Bool × ConfigFault). x.0 ≡ false) (same_Some t test e) (by_test t.0 h)
   where
-    none : None ≡ Some test → ⊥
-    none e = cc
-test_passes (t ∷ tests) zero test h e = subst (λ (x : Bool × ConfigFault). x.0 ≡ false) (same e) (by_test t.0 h)
-  where
-    same : Some t ≡ Some test → t ≡ test
-    same e = cc
-
     by_test : (b : Bool) → cond b (Some t.1) (first_fault tests) ≡ None → b ≡ false
     by_test true h = cc
     by_test false h = refl

@@ -5,6 +5,7 @@ use Rattle.std.proofs.lemmas.Bool.{ltb-true, le-ltb, lt-leb, ne_eqb, cases_lt}
 use Rattle.std.proofs.lemmas.List.Sums.{count_by-le-length}
 use Rattle.std.proofs.lemmas.Nat.{mod_below}
 use Rattle.std.proofs.Math.Nat.{suc-mul, add-mul, mul_comm, mul-le-mul_right, div-le_self, div-le_of_le-mul, lt-div-mul-add, div-zero}
+use Rattle.std.proofs.lemmas.Option.{none-some, same_Some}
 use Rattle.fl_base.specs.declared.types.KeyRange.{KeyRange}
 use Rattle.fl_base.specs.declared.types.Span.{Span}
 use Rattle.fl_model.specs.Record.{Plan, Config, has_index, content_per_page, bytes_equal}
@@ -110,10 +111,7 @@ module _ (knots : ℕ) (plan : Plan) (table : Table) (small : IsSmallPlan plan) 
 
   -- the entry of a key stands among the entries
   found-at : (key : ℕ) (entries : List Entry) (entry : Entry) → entry_at key entries ≡ Some entry → (i : ℕ) × (slice_get entries i ≡ Some entry)
-  found-at key [] entry e = absurd (none e)
-    where
-      none : None ≡ Some entry → ⊥
-      none k = cc
+  found-at key [] entry e = absurd (none-some entry e)
   found-at key (x ∷ entries) entry e = by_key (x.kept.key == key) e (found-at key entries entry)
     where
       by_key : (b : Bool) → cond b (Some x) (entry_at key entries) ≡ Some entry → (entry_at key entries ≡ Some entry → (i : ℕ) × (slice_get entries i ≡ Some entry)) →
@@ -223,14 +221,8 @@ module _ (knots : ℕ) (plan : Plan) (table : Table) (small : IsSmallPlan plan) 
 
 -- the plans of a configuration
 at-place : (P : Plan → Type 0) (plans : List Plan) (place : ℕ) (plan : Plan) → AllByRecursion P plans → slice_get plans place ≡ Some plan → P plan
-at-place P [] place plan all e = absurd (none e)
-  where
-    none : None ≡ Some plan → ⊥
-    none k = cc
-at-place P (p ∷ plans) zero plan all e = subst P (same e) all.0
-  where
-    same : Some p ≡ Some plan → p ≡ plan
-    same k = cc
+at-place P [] place plan all e = absurd (none-some plan e)
+at-place P (p ∷ plans) zero plan all e = subst P (same_Some p plan e) all.0
 at-place P (p ∷ plans) (suc place) plan all e = at-place P plans place plan all.1 e
 
 -- a table that a name locates stands beside its plan

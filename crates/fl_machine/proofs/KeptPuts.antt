@@ -3,7 +3,7 @@ use Rattle.std.proofs.Common.{◌≡◌, ℕ, ◌+◌, ◌-◌, ◌≤◌, Bool,
 use Rattle.std.specs.List.{slice_get, AllByRecursion, last_or, sum}
 use Rattle.std.specs.Option.{option_map, unwrap_or}
 use Rattle.std.proofs.lemmas.Bool.{cases_lt, leb-true, true≢false}
-use Rattle.std.proofs.lemmas.List.{append-nil, take-append-drop, drop-append-le, drop-drop, drop-take, drop_all}
+use Rattle.std.proofs.lemmas.List.{append-nil, take-append-drop, drop-append-le, drop-drop, drop-take, drop_all, append_assoc}
 use Rattle.std.proofs.Math.Seq.{drop-append_seam}
 use Rattle.fl_model.specs.Record.{Plan, Config, has_log}
 use Rattle.fl_model.specs.Ring.{Ring, oldest}
@@ -19,7 +19,7 @@ use Rattle.fl_machine.specs.Found.{trimmed, ring_at, HasRoom, IsLoggedAtRest, Is
 use Rattle.fl_machine.specs.Keeping.{sure, unsure, sure_at, tables_of, newer, PutSoFar, given_up_by, session_adds, mount_gives_up, standing_at, put_after, kept_of, IsKept, KeepsPuts, PutsAreKept}
 use Rattle.fl_machine.proofs.Logs.{Tops, drop_none, filter_all, filter_none, all_weaker, all_drop, is_last, last-key, not-lt}
 use Rattle.fl_machine.proofs.Trimmed.{take_none}
-use Rattle.fl_machine.proofs.RecordsChange.{GoesOn, append-assoc}
+use Rattle.fl_machine.proofs.RecordsChange.{GoesOn}
 use Rattle.fl_machine.proofs.LoggedSteps.{IsLogKept, InSession, LogKeeps, stands-tops, stands-full, log-step, log-start}
 
 -- ---- the new records of a moment
@@ -98,8 +98,8 @@ module _ (p : ℕ) (put : PutSoFar) (now : LoggedPast) (old : Machine) (moment :
   held-ends : Tops xs → (ends : EndsWith put xs) → held ≡ before ends ++ ys
   held-ends tops ends =
       ap (λ (es : List Entry). put.held ++ es) (newer-is xs ys tops on)
-      ∙ (ap (λ (es : List Entry). es ++ on.new) (ends.is ∙ (ap (λ (es : List Entry). ends.front ++ es) (sym (take-append-drop on.gone xs)) ∙ sym (append-assoc ends.front (take on.gone xs) (drop on.gone xs))))
-      ∙ (append-assoc (before ends) (drop on.gone xs) on.new ∙ ap (λ (es : List Entry). before ends ++ es) (sym on.is)))
+      ∙ (ap (λ (es : List Entry). es ++ on.new) (ends.is ∙ (ap (λ (es : List Entry). ends.front ++ es) (sym (take-append-drop on.gone xs)) ∙ sym (append_assoc ends.front (take on.gone xs) (drop on.gone xs))))
+      ∙ (append_assoc (before ends) (drop on.gone xs) on.new ∙ ap (λ (es : List Entry). before ends ++ es) (sym on.is)))
 
   held-front : Tops xs → (ends : EndsWith put xs) → length held - length ys ≡ length (before ends)
   held-front tops ends = let l = length-append (before ends) ys in let m : length held ≡ length (before ends ++ ys) = ap (λ (es : List Entry). length es) (held-ends tops ends) in omega (arith, l, m)

@@ -1,10 +1,10 @@
 -- The mount of a table with a log, turn by turn: what stands wherever it stops, and what it ends with.
-use Rattle.std.proofs.Common.{◌≡◌, ℕ, zero, suc, ◌+◌, ◌-◌, ◌<◌, ◌≤◌, Bool, true, false, cond, ◌&&◌, ◌||◌, ◌==◌, nat_lt, Option, Some, None, List, [], ◌∷◌, ◌++◌, length, take, drop, refl, sym, ◌∙◌, ap, subst, arith, ◌⊎◌, inl, inr, length-append, length-drop, IsTrue, eq-eqb}
+use Rattle.std.proofs.Common.{◌≡◌, ℕ, zero, suc, ◌+◌, ◌-◌, ◌<◌, ◌≤◌, Bool, true, false, cond, ◌&&◌, ◌==◌, nat_lt, Option, Some, None, List, [], ◌∷◌, ◌++◌, length, take, drop, refl, sym, ◌∙◌, ap, subst, arith, ◌⊎◌, inl, inr, length-append, length-drop, IsTrue, eq-eqb}
 use Rattle.std.specs.List.{list_any, sum}
 use Rattle.std.specs.Option.{option_map}
 use Rattle.std.proofs.lemmas.List.{drop-append-le, append-nil, take-append-le}
 use Rattle.std.proofs.lemmas.List.Sums.{sum_by_push}
-use Rattle.std.proofs.lemmas.Bool.{cases_lt, eqb-true, false≢true, true≢false}
+use Rattle.std.proofs.lemmas.Bool.{cases_lt, eqb-true, false≢true, true≢false, or_parts}
 use Rattle.fl_model.specs.Record.{Plan, has_index, has_log, entries_per_page}
 use Rattle.fl_model.specs.Ring.{Shape, Ring, sealed, erased}
 use Rattle.fl_model.specs.Table.{Table, Entry, RingName, DataRing, IndexRing, VarRing, LogRing, shape_of, with_ring, is_dirty, is_torn, seal_buffer, seal_page, after_seal, after_seals, table_seals, owed, is_rows_spent}
@@ -157,19 +157,15 @@ voided-by plan t room n =
 void_end : (gone : ℕ) (xs : List ℕ) → list_any (nat_lt 0) xs ≡ false → list_any (nat_lt 0) (drop gone (xs ++ 0 ∷ [])) ≡ false
 void_end gone xs h = void_drop gone (xs ++ 0 ∷ []) (void_push xs h)
   where
-    or_false : (a b : Bool) → (a || b) ≡ false → (a ≡ false) × (b ≡ false)
-    or_false true b h = cc
-    or_false false b h = (refl, h)
-
     void_push : (xs : List ℕ) → list_any (nat_lt 0) xs ≡ false → list_any (nat_lt 0) (xs ++ 0 ∷ []) ≡ false
     void_push [] h = refl
-    void_push (x ∷ xs) h = let both = or_false (nat_lt 0 x) (list_any (nat_lt 0) xs) h in rw (both.0, void_push xs both.1) refl
+    void_push (x ∷ xs) h = let both = or_parts (nat_lt 0 x) (list_any (nat_lt 0) xs) h in rw (both.0, void_push xs both.1) refl
 
     void_drop : (n : ℕ) (ys : List ℕ) → list_any (nat_lt 0) ys ≡ false → list_any (nat_lt 0) (drop n ys) ≡ false
     void_drop zero [] h = refl
     void_drop (suc n) [] h = refl
     void_drop zero (y ∷ ys) h = h
-    void_drop (suc n) (y ∷ ys) h = void_drop n ys (or_false (nat_lt 0 y) (list_any (nat_lt 0) ys) h).1
+    void_drop (suc n) (y ∷ ys) h = void_drop n ys (or_parts (nat_lt 0 y) (list_any (nat_lt 0) ys) h).1
 
 -- the pages of the ring are those from which the mount began, or all of them are void
 pub record IsStart (x c : Core) : Type 0 where

@@ -2,6 +2,7 @@
 use Rattle.std.proofs.Common.{◌≡◌, ◌≢◌, ℕ, zero, suc, ◌+◌, Bool, true, false, cond, Option, Some, None, List, [], ◌∷◌, ◌++◌, map, refl, sym, ◌∙◌, ap, subst, arith, ◌⊎◌, inl, inr, IsTrue}
 use Rattle.std.specs.List.{slice_get, AllByRecursion}
 use Rattle.std.specs.Option.{option_map, unwrap_or}
+use Rattle.std.proofs.lemmas.Option.{none-some}
 use Rattle.fl_base.specs.declared.types.CutKind.{CutKind}
 use Rattle.fl_model.specs.Record.{Plan, has_index, has_var, has_log}
 use Rattle.fl_model.specs.Table.{Table, RingName, DataRing, IndexRing, VarRing, LogRing}
@@ -50,10 +51,7 @@ changed_at-elsewhere (suc n) zero f (x ∷ xs) h = refl
 changed_at-elsewhere (suc n) (suc p) f (x ∷ xs) h = changed_at-elsewhere n p f xs (λ e. h (ap suc e))
 
 pub changed_at-there : {X : Type 0} (p : ℕ) (f : X → X) (xs : List X) (x : X) → slice_get xs p ≡ Some x → slice_get (changed_at p f xs) p ≡ Some (f x)
-changed_at-there p f [] x e = absurd (none e)
-  where
-    none : None ≡ Some x → ⊥
-    none e = cc
+changed_at-there p f [] x e = absurd (none-some x e)
 changed_at-there {X} zero f (y ∷ ys) x e = let same : y ≡ x = cc in ap (λ z. Some (f z)) same
 changed_at-there (suc p) f (y ∷ ys) x e = changed_at-there p f ys x e
 
@@ -165,9 +163,6 @@ stage-halts past x Start t c rests h = subst (λ (d : Core). Halts past x c d) (
 stage-halts past x Middle t c rests h = after-halts past x c (core t) h
 stage-halts past x Ready t c rests h = done-halts past x c t h
 
-no_stage : {X : Type 0} (x : X) → None ≡ Some x → ⊥
-no_stage x e = cc
-
 same_stage : (P : Stage → Type 0) (a b : Stage) → Some a ≡ Some b → P a → P b
 same_stage P a b e h = let s : a ≡ b = cc in subst P s h
 
@@ -186,16 +181,16 @@ stage-turn plan past x Middle next (Of LogRing) t room logged rests e h =
     same_stage (λ s. TurnGoes plan (Halts past x) (AtStage past x s) (turn_within plan (Of LogRing) (turned plan (Of LogRing) t)) (turned plan (Of LogRing) t)) Middle next e (log-turn plan past x t room logged h)
 stage-turn plan past x Middle next Replay t room logged rests e h =
     same_stage (λ s. TurnGoes plan (Halts past x) (AtStage past x s) (turn_within plan Replay (turned plan Replay t)) (turned plan Replay t)) Ready next e (replay-turn plan past x t room h)
-stage-turn plan past x Start next (Of VarRing) t room logged rests e h = absurd (no_stage next e)
-stage-turn plan past x Start next (Of LogRing) t room logged rests e h = absurd (no_stage next e)
-stage-turn plan past x Start next Replay t room logged rests e h = absurd (no_stage next e)
-stage-turn plan past x Middle next (Of IndexRing) t room logged rests e h = absurd (no_stage next e)
-stage-turn plan past x Middle next (Of DataRing) t room logged rests e h = absurd (no_stage next e)
-stage-turn plan past x Ready next (Of IndexRing) t room logged rests e h = absurd (no_stage next e)
-stage-turn plan past x Ready next (Of DataRing) t room logged rests e h = absurd (no_stage next e)
-stage-turn plan past x Ready next (Of VarRing) t room logged rests e h = absurd (no_stage next e)
-stage-turn plan past x Ready next (Of LogRing) t room logged rests e h = absurd (no_stage next e)
-stage-turn plan past x Ready next Replay t room logged rests e h = absurd (no_stage next e)
+stage-turn plan past x Start next (Of VarRing) t room logged rests e h = absurd (none-some next e)
+stage-turn plan past x Start next (Of LogRing) t room logged rests e h = absurd (none-some next e)
+stage-turn plan past x Start next Replay t room logged rests e h = absurd (none-some next e)
+stage-turn plan past x Middle next (Of IndexRing) t room logged rests e h = absurd (none-some next e)
+stage-turn plan past x Middle next (Of DataRing) t room logged rests e h = absurd (none-some next e)
+stage-turn plan past x Ready next (Of IndexRing) t room logged rests e h = absurd (none-some next e)
+stage-turn plan past x Ready next (Of DataRing) t room logged rests e h = absurd (none-some next e)
+stage-turn plan past x Ready next (Of VarRing) t room logged rests e h = absurd (none-some next e)
+stage-turn plan past x Ready next (Of LogRing) t room logged rests e h = absurd (none-some next e)
+stage-turn plan past x Ready next Replay t room logged rests e h = absurd (none-some next e)
 
 -- the operations of a turn are those of one table
 at-by : (n : ℕ) (turn : Turn) (plan : Option Plan) (table : Option Table) → AllAt n (unwrap_or (option_map (λ plan. unwrap_or (option_map (turn_operations plan n turn) table) []) plan) [])
@@ -351,7 +346,7 @@ turns-over p place [] h all = tt
 turns-over p place (plan ∷ plans) h all = skip-all p Ready place _ (turns_from (place + 1) plans) (λ e. h (sym e)) (turns-over p (place + 1) plans (λ e. all 1 e) (λ k e. all (k + 1) (omega (arith, e))))
 
 log-turns-from : (p place k : ℕ) (plans : List Plan) (plan : Plan) → p ≡ place + k → slice_get plans k ≡ Some plan → IsTrue (has_log plan) → LogTurns p Start (turns_from place plans)
-log-turns-from p place k [] plan e s l = absurd (no_stage plan s)
+log-turns-from p place k [] plan e s l = absurd (none-some plan s)
 log-turns-from p place zero (q ∷ plans) plan e s l =
     let here : place ≡ p = omega (arith, e) in
     let same : q ≡ plan = cc in

@@ -4,6 +4,7 @@ use Rattle.std.specs.List.{AllByRecursion, last_or, list_any, sum}
 use Rattle.std.specs.Option.{option_map, unwrap_or}
 use Rattle.std.proofs.lemmas.List.{append-nil, drop-append-le}
 use Rattle.std.proofs.lemmas.Bool.{leb-false, false≢true, true≢false}
+use Rattle.std.proofs.lemmas.Option.{none-some}
 use Rattle.fl_model.specs.Record.{Record, Plan, has_index, has_log, rows_per_page, entries_per_page, content_per_page}
 use Rattle.fl_model.specs.Ring.{IsShape, Ring, sealed, begun, erased}
 use Rattle.fl_model.specs.Table.{Table, Entry, RingName, DataRing, IndexRing, VarRing, LogRing, shape_of, with_ring, is_dirty, seal_buffer, after_seal, after_seals, table_seals, make_room_seals, fill, fill_seals, join_seals, put_joined, log_seals, blob_len, start_page, start_offset, flushed, is_rows_spent, refusal_of, Refusal, key_refusal, value_refusal, blob_refusal, refuse_if, is_spent, BadKey, BadColumns, Spent, first_of as or_else}
@@ -192,16 +193,12 @@ open-between : {Q : Rows → Type 0} (t : Table) → Open Q (core t) → Between
 open-between t (Paid h) = paid-between t h
 open-between t (Filling fine ready ends kept) = Pending fine ready ends kept
 
--- what a table that takes a record says of it
-none_of : {X : Type 0} (x : X) → None ≡ Some x → ⊥
-none_of x e = cc
-
 neither : (a b : Option Refusal) → or_else a b ≡ None → (a ≡ None) × (b ≡ None)
 neither None b e = (refl, e)
-neither (Some r) b e = absurd (none_of r (sym e))
+neither (Some r) b e = absurd (none-some r (sym e))
 
 not_refused : (b : Bool) (r : Refusal) → refuse_if b r ≡ None → b ≡ false
-not_refused true r e = absurd (none_of r (sym e))
+not_refused true r e = absurd (none-some r (sym e))
 not_refused false r e = refl
 
 or_left : (a b : Bool) → (a || b) ≡ false → a ≡ false
@@ -222,7 +219,7 @@ takes plan t item h =
     (above (last_or None t.entries) a.0, or_left (is_rows_spent t) (unwrap_or (option_map (λ (ring : Ring). nat_le 4294901760 ring.next) t.var) false) v)
   where
     above : (o : Option Entry) → unwrap_or (option_map (λ (last : Entry). refuse_if (nat_le item.key last.kept.key) (BadKey last.kept.key)) o) None ≡ None → (w : Entry) → o ≡ Some w → w.kept.key < item.key
-    above None e w k = absurd (none_of w k)
+    above None e w k = absurd (none-some w k)
     above (Some x) e w k =
         let less : x.kept.key < item.key = let n = not_refused (nat_le item.key x.kept.key) (BadKey x.kept.key) e in omega (arith, leb-false item.key x.kept.key n) in
         let same : x ≡ w = cc in

@@ -3,7 +3,7 @@ use Rattle.std.proofs.Common.{◌≡◌, ◌≢◌, ℕ, zero, suc, ◌+◌, ◌
 use Rattle.std.specs.List.{slice_get, AllByRecursion, sum}
 use Rattle.std.specs.Option.{is_some, option_map, unwrap_or}
 use Rattle.std.proofs.lemmas.List.{append-nil}
-use Rattle.std.proofs.lemmas.Option.{slice_get-map}
+use Rattle.std.proofs.lemmas.Option.{slice_get-map, none-some}
 use Rattle.std.proofs.lemmas.Bool.{false≢true, true≢false}
 use Rattle.fl_model.specs.Record.{Plan, Record, Config, has_log, bytes_equal}
 use Rattle.fl_model.specs.Ring.{Ring, fresh}
@@ -208,14 +208,8 @@ pub record IsLocated (plans : List Plan) (list : List Table) (at : Located) (pla
   pub table : slice_get list place ≡ Some at.table
 
 located-by : (start : ℕ) (plans : List Plan) (list : List Table) (name : List ℕ) (at : Located) → located_from start plans list name ≡ Some at → (k : ℕ) × (at.place ≡ start + k) × IsLocated plans list at k
-located-by start [] list name at e = absurd (none e)
-  where
-    none : None ≡ Some at → ⊥
-    none e = cc
-located-by start (plan ∷ plans) [] name at e = absurd (none e)
-  where
-    none : None ≡ Some at → ⊥
-    none e = cc
+located-by start [] list name at e = absurd (none-some at e)
+located-by start (plan ∷ plans) [] name at e = absurd (none-some at e)
 located-by start (plan ∷ plans) (t ∷ list) name at e = by_name (bytes_equal plan.name name) e (λ g. located-by (start + 1) plans list name at g)
   where
     by_name : (b : Bool) → cond b (Some (record { place = start; plan = plan; table = t })) (located_from (start + 1) plans list name) ≡ Some at →
@@ -783,10 +777,7 @@ rest-start t rest logged = record { fine = fine; none = rest.pending; found = ow
     }
 
 at-rest : (list : List Table) (p : ℕ) (t : Table) → AllByRecursion IsAtRest list → slice_get list p ≡ Some t → IsAtRest t
-at-rest [] p t h e = absurd (none e)
-  where
-    none : None ≡ Some t → ⊥
-    none e = cc
+at-rest [] p t h e = absurd (none-some t e)
 at-rest (x ∷ xs) zero t h e = let same : x ≡ t = cc (e) in subst IsAtRest same h.0
 at-rest (x ∷ xs) (suc p) t h e = at-rest xs p t h.1 e
 

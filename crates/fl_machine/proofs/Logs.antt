@@ -3,9 +3,10 @@ use Rattle.std.proofs.Common.{◌≡◌, ℕ, suc, ◌+◌, ◌-◌, ◌*◌, �
 use Rattle.std.specs.List.{AllByRecursion, last_or, list_any, slice_get, sum}
 use Rattle.std.specs.Option.{is_some, option_map, unwrap_or}
 use Rattle.std.proofs.lemmas.List.Sums.{sum_by-append, sum_by_push, sum_by-take-drop, sum_by-take-le}
-use Rattle.std.proofs.lemmas.List.{take-append-drop, take-append-le, drop-append-le, drop-drop, append-nil}
+use Rattle.std.proofs.lemmas.List.{take-append-drop, take-append-le, drop-append-le, drop-drop, append-nil, append_assoc}
 use Rattle.std.proofs.Math.Seq.{take-add, take-append_seam, drop-append_seam}
 use Rattle.std.proofs.lemmas.Bool.{ltb-true, ltb-false, eqb-true, false≢true, true≢false}
+use Rattle.std.proofs.lemmas.Option.{none-some}
 use Rattle.fl_model.specs.Ring.{Shape, IsShape, Ring, sealed, extended, is_full}
 use Rattle.fl_model.specs.Table.{Table, Entry, is_above}
 use Rattle.fl_model.specs.Log.{last_key}
@@ -246,18 +247,11 @@ unlogged-joining c g fine h = by_tests (c.pending == 0) refl (last_or None c.log
 
     last_is : last_key c.entries ≡ h.new.kept.key
     last_is =
-        let whole : c.entries ≡ (front_of c ++ h.front) ++ h.new ∷ [] = sym (splits c) ∙ (ap (λ (es : List Entry). front_of c ++ es) h.is ∙ sym (append-assoc (front_of c) h.front (h.new ∷ []))) in
+        let whole : c.entries ≡ (front_of c ++ h.front) ++ h.new ∷ [] = sym (splits c) ∙ (ap (λ (es : List Entry). front_of c ++ es) h.is ∙ sym (append_assoc (front_of c) h.front (h.new ∷ []))) in
         ap (λ (o : Option Entry). unwrap_or (option_map (λ (e : Entry). e.kept.key) o) 0) (ap (last_or None) whole ∙ last_or-push None (front_of c ++ h.front) h.new)
-      where
-        append-assoc : {X : Type 0} (xs ys zs : List X) → (xs ++ ys) ++ zs ≡ xs ++ (ys ++ zs)
-        append-assoc [] ys zs = refl
-        append-assoc (x ∷ xs) ys zs = ap (λ ws. x ∷ ws) (append-assoc xs ys zs)
 
     last_in : (es : List Entry) (o : Option Entry) (last : Entry) → AllByRecursion (λ e. e.kept.key < h.new.kept.key) es → IfSome o (λ e. e.kept.key < h.new.kept.key) → last_or o es ≡ Some last → last.kept.key < h.new.kept.key
-    last_in [] None last a k e = absurd (none e)
-      where
-        none : None ≡ Some last → ⊥
-        none e = cc
+    last_in [] None last a k e = absurd (none-some last e)
     last_in [] (Some x) last a k e = let same : x ≡ last = cc in subst (λ (y : Entry). y.kept.key < h.new.kept.key) same k
     last_in (x ∷ xs) o last a k e = last_in xs (Some x) last a.1 a.0 e
 
@@ -293,12 +287,8 @@ behind-found : (past : LoggedPast) (c : Core) (es front : List Entry) (new : Ent
     c.entries ≡ es → owed_of c ≡ front → IsOwedFound past c
 behind-found past c es front new none held pending unlogged is owes =
     let first : drop past.given_up (take (length past.held - past.pending) past.held) ≡ es = drop_zero past.given_up (take (length past.held - past.pending) past.held) none ∙ take_seam past.held es (front ++ new ∷ []) past.pending held pending in
-    let cut : take (length past.held - 1) past.held ≡ es ++ front = take_seam past.held (es ++ front) (new ∷ []) 1 (held ∙ sym (append-assoc es front (new ∷ []))) (omega arith) in
+    let cut : take (length past.held - 1) past.held ≡ es ++ front = take_seam past.held (es ++ front) (new ∷ []) 1 (held ∙ sym (append_assoc es front (new ∷ []))) (omega arith) in
     inr (inl (is ∙ sym first, inr (unlogged, (ap (λ xs. xs ++ owed_of c) is ∙ ap (λ ys. es ++ ys) owes) ∙ sym (drop_zero past.given_up (take (length past.held - 1) past.held) none ∙ cut))))
-  where
-    append-assoc : {X : Type 0} (xs ys zs : List X) → (xs ++ ys) ++ zs ≡ xs ++ (ys ++ zs)
-    append-assoc [] ys zs = refl
-    append-assoc (x ∷ xs) ys zs = ap (λ ws. x ∷ ws) (append-assoc xs ys zs)
 
 joining-owed : (c : Core) → (h : IsJoining c) → owed_of c ≡ h.front
 joining-owed c h = by_case h.logged
@@ -397,11 +387,8 @@ below-last xs (y ∷ ys) e some h = by_last (last_or (Some y) ys) refl (some_las
 pub last-drop : (n : ℕ) (xs : List Entry) (w : Entry) → last_or None (drop n xs) ≡ Some w → last_or None xs ≡ Some w
 last-drop n xs w e = by_rest (drop n xs) refl e
   where
-    none_of : None ≡ Some w → ⊥
-    none_of e = cc
-
     by_rest : (rest : List Entry) → drop n xs ≡ rest → last_or None rest ≡ Some w → last_or None xs ≡ Some w
-    by_rest [] q k = absurd (none_of k)
+    by_rest [] q k = absurd (none-some w k)
     by_rest (y ∷ ys) q k = ap (last_or None) (sym (take-append-drop n xs) ∙ ap (λ (es : List Entry). take n xs ++ es) q) ∙ (last-append None (take n xs) y ys ∙ k)
 
 pub all_drop : {X : Type 0} (P : X → Type 0) (n : ℕ) (xs : List X) → AllByRecursion P xs → AllByRecursion P (drop n xs)
@@ -661,13 +648,9 @@ joins new c = record c { entries = c.entries ++ new ∷ []; pending = c.pending 
 
 joins-front : (new : Entry) (c : Core) → IsFine c → (front_of (joins new c) ≡ front_of c) × (rest_of (joins new c) ≡ rest_of c ++ new ∷ [])
 joins-front new c fine =
-    let parts : c.entries ++ new ∷ [] ≡ front_of c ++ (rest_of c ++ new ∷ []) = ap (λ es. es ++ new ∷ []) (sym (splits c)) ∙ append-assoc (front_of c) (rest_of c) (new ∷ []) in
+    let parts : c.entries ++ new ∷ [] ≡ front_of c ++ (rest_of c ++ new ∷ []) = ap (λ es. es ++ new ∷ []) (sym (splits c)) ∙ append_assoc (front_of c) (rest_of c) (new ∷ []) in
     let len : length (rest_of c ++ new ∷ []) ≡ c.pending + 1 = length-append (rest_of c) (new ∷ []) ∙ ap (λ n. n + 1) (rest-length c fine) in
     (front-is (joins new c) (front_of c) (rest_of c ++ new ∷ []) parts len, rest-is (joins new c) (front_of c) (rest_of c ++ new ∷ []) parts len)
-  where
-    append-assoc : {X : Type 0} (xs ys zs : List X) → (xs ++ ys) ++ zs ≡ xs ++ (ys ++ zs)
-    append-assoc [] ys zs = refl
-    append-assoc (x ∷ xs) ys zs = ap (λ ws. x ∷ ws) (append-assoc xs ys zs)
 
 joins-owed : (new : Entry) (c : Core) → IsFine c → owed_of (joins new c) ≡ owed_of c
 joins-owed new c fine = ap (λ (es : List Entry). filter (λ e. is_above es e) c.logged) (joins-front new c fine).0
@@ -907,11 +890,7 @@ log-voided-rests past c counts gone logged is few fewer keeps rests = by_keeps k
     kept_counts others count e =
         let len : length counts ≡ length others + 1 = ap (λ (xs : List ℕ). length xs) e ∙ length-append others (count ∷ []) in
         let within : gone ≤ length others = elim fewer [ inl z ↦ omega (arith, z) | inr m ↦ omega (arith, m, len) ] in
-        ap (drop gone) (ap (λ xs. xs ++ 0 ∷ []) e ∙ append-assoc others (count ∷ []) (0 ∷ [])) ∙ drop-append-le gone others (count ∷ 0 ∷ []) within
-      where
-        append-assoc : {X : Type 0} (xs ys zs : List X) → (xs ++ ys) ++ zs ≡ xs ++ (ys ++ zs)
-        append-assoc [] ys zs = refl
-        append-assoc (x ∷ xs) ys zs = ap (λ ws. x ∷ ws) (append-assoc xs ys zs)
+        ap (drop gone) (ap (λ xs. xs ++ 0 ∷ []) e ∙ append_assoc others (count ∷ []) (0 ∷ [])) ∙ drop-append-le gone others (count ∷ 0 ∷ []) within
 
     by_keeps : KeepsLogged (drop gone (counts ++ 0 ∷ [])) c.logged logged → RestsAs past d
     by_keeps (inl k) =

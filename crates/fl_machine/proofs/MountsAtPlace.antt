@@ -2,6 +2,7 @@
 use Rattle.std.proofs.Common.{◌≡◌, ◌≢◌, ◌≤◌, length, ℕ, zero, suc, Bool, true, false, cond, Option, Some, None, List, [], ◌∷◌, ◌++◌, refl, sym, ap, subst, ◌⊎◌, inl, inr}
 use Rattle.std.specs.List.{slice_get, AllByRecursion}
 use Rattle.std.specs.Option.{option_map, unwrap_or}
+use Rattle.std.proofs.lemmas.Option.{none-some, same_Some}
 use Rattle.fl_model.specs.Record.{Plan}
 use Rattle.fl_model.specs.Table.{Table, RingName, DataRing, IndexRing, VarRing, LogRing, is_torn, is_dirty, seal_page, seal_buffer, with_ring, shape_of, table_seals, owed, is_rows_spent}
 use Rattle.fl_model.specs.Ring.{Ring, erased}
@@ -16,14 +17,8 @@ use Rattle.fl_machine.proofs.Performed.{performs-numbered, performs-quiet, eithe
 
 -- a plan of the list
 pub room_at : (plans : List Plan) (n : ℕ) (plan : Plan) → AllByRecursion HasRoom plans → slice_get plans n ≡ Some plan → HasRoom plan
-room_at [] n plan h e = absurd (none e)
-  where
-    none : None ≡ Some plan → ⊥
-    none e = cc
-room_at (q ∷ plans) zero plan h e = subst HasRoom (same e) h.0
-  where
-    same : Some q ≡ Some plan → q ≡ plan
-    same e = cc
+room_at [] n plan h e = absurd (none-some plan e)
+room_at (q ∷ plans) zero plan h e = subst HasRoom (same_Some q plan e) h.0
 room_at (q ∷ plans) (suc n) plan h e = room_at plans n plan h.1 e
 
 -- entries are gone just with their pages, where no number was negative

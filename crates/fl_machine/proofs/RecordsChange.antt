@@ -4,9 +4,10 @@ use Rattle.std.proofs.Common.{◌≡◌, ℕ, ◌+◌, ◌-◌, ◌<◌, ◌≤�
 use Rattle.std.specs.List.{AllByRecursion, last_or, sum}
 use Rattle.std.specs.Option.{option_map, unwrap_or}
 use Rattle.std.proofs.lemmas.Bool.{cases_lt, ltb-true}
-use Rattle.std.proofs.lemmas.List.{append-nil, take-append-le, drop-append-le, drop-drop, drop_all}
+use Rattle.std.proofs.lemmas.List.{append-nil, take-append-le, drop-append-le, drop-drop, drop_all, append_assoc}
 use Rattle.std.proofs.lemmas.List.Sums.{sum_by-take-le}
 use Rattle.std.proofs.Math.Seq.{drop-append-add}
+use Rattle.std.proofs.lemmas.Option.{none-some}
 use Rattle.fl_model.specs.Table.{Entry, is_above}
 use Rattle.fl_model.specs.Log.{last_key}
 use Rattle.fl_model.proofs.Lists.{each-push}
@@ -65,17 +66,11 @@ lasts-less : (xs : List Entry) (n : ℕ) (ys : List Entry) → n < length ys →
 lasts-less xs n ys few e = let l : length (drop n ys) ≡ 0 = ap (λ (es : List Entry). length es) e in absurd (omega (arith, l, few, length-drop n ys))
 
 pub last-behind : (xs ys : List Entry) (w : Entry) → last_or None ys ≡ Some w → last_or None (xs ++ ys) ≡ Some w
-last-behind xs [] w e = absurd (none e)
-  where
-    none : None ≡ Some w → ⊥
-    none e = cc
+last-behind xs [] w e = absurd (none-some w e)
 last-behind xs (y ∷ ys) w e = last-append None xs y ys ∙ e
 
 last_all : (P : Entry → Type 0) (es : List Entry) (w : Entry) → last_or None es ≡ Some w → AllByRecursion P es → P w
-last_all P [] w e h = absurd (none e)
-  where
-    none : None ≡ Some w → ⊥
-    none e = cc
+last_all P [] w e h = absurd (none-some w e)
 last_all P (x ∷ xs) w e h = from x xs h.0 e h.1
   where
     from : (y : Entry) (zs : List Entry) → P y → last_or (Some y) zs ≡ Some w → AllByRecursion P zs → P w
@@ -116,10 +111,6 @@ above-all xs ys new h greatest = by_last (is_last xs)
     by_last (inl e) = nothing e
     by_last (inr (w, e)) = elim (is_last ys) [ inl none ↦ nothing (h.lasts none) | inr v ↦ by_less w e (by_new w v.0 e v.1 (is_last h.goes_on.new)) ]
 
-pub append-assoc : {X : Type 0} (xs ys zs : List X) → (xs ++ ys) ++ zs ≡ xs ++ (ys ++ zs)
-append-assoc [] ys zs = refl
-append-assoc (x ∷ xs) ys zs = ap (λ ws. x ∷ ws) (append-assoc xs ys zs)
-
 adds-more : (xs ys : List Entry) (new : Entry) → IsGreatest new ys → Adds xs ys → Adds xs (ys ++ new ∷ [])
 adds-more xs ys new greatest h =
     let on = h.goes_on in
@@ -127,7 +118,7 @@ adds-more xs ys new greatest h =
       goes_on = record {
         gone = on.gone;
         new = on.new ++ new ∷ [];
-        is = ap (λ (es : List Entry). es ++ new ∷ []) on.is ∙ append-assoc (drop on.gone xs) on.new (new ∷ []);
+        is = ap (λ (es : List Entry). es ++ new ∷ []) on.is ∙ append_assoc (drop on.gone xs) on.new (new ∷ []);
         above = each-push (λ e. IsTrue (is_above xs e)) on.new new on.above (above-all xs ys new h greatest);
       };
       lasts = λ e. absurd (some ys e);
@@ -224,7 +215,7 @@ from-less start now gone count few numbered some h = by_order (cases_lt (length 
           more = e.more ++ count ∷ [];
           counts =
               ap (λ (cs : List ℕ). drop gone (cs ++ count ∷ [])) e.counts
-              ∙ (ap (drop gone) (append-assoc (drop (pages_gone start now) start.counts) e.more (count ∷ []))
+              ∙ (ap (drop gone) (append_assoc (drop (pages_gone start now) start.counts) e.more (count ∷ []))
               ∙ (drop-append-le gone (drop (pages_gone start now) start.counts) (e.more ++ count ∷ []) (let l = length-drop (pages_gone start now) start.counts in let p = pages in omega (arith, l, p, le))
               ∙ (ap (λ (cs : List ℕ). cs ++ (e.more ++ count ∷ [])) (drop-drop gone (pages_gone start now) start.counts)
               ∙ ap (λ (n : ℕ). drop n start.counts ++ (e.more ++ count ∷ [])) (sym pages))));
