@@ -26,7 +26,7 @@ bytes_equal-same (a ∷ as') (b ∷ bs) is = at-head (a == b) refl (λ rest. byt
 pub bytes_equal-other : (a b : List ℕ) → b ≢ a → bytes_equal a b ≡ false
 bytes_equal-other a b other = false_from_ne_true (bytes_equal a b) (λ is. other (sym (bytes_equal-same a b is)))
 
-named : (of : ColumnType) → column_named (name_of of) ≡ Some (column_of of)
+pub named : (of : ColumnType) → column_named (name_of of) ≡ Some (column_of of)
 named U8 = refl
 named I8 = refl
 named U16 = refl

@@ -9,6 +9,7 @@ use Rattle.fl_schema.specs.declared.column.ColumnType.{ColumnType}
 use Rattle.fl_schema.specs.declared.column.ColumnType.TheVariants.{U8, I8, U16, I16, U32, I32, I64}
 use Rattle.fl_schema.specs.Types.{name_of, column_of}
 use Rattle.fl_config.proofs.Texts.{column_name-is}
+use Rattle.fl_config.proofs.Names.{named}
 use Rattle.fl_image.proofs.LineWords.{IsWord, split-join, all-append}
 
 -- a column that has a name is that of a type
@@ -66,15 +67,6 @@ pub columns-some : (word : List ℕ) (columns : List Column) → columns_in word
 columns-some word columns h = omega (arith, named-length (slice_split (λ byte. eqb byte 44) word) columns h, length-slice_split (λ byte. eqb byte 44) word)
 
 -- ---- the word that they are written as
-
-named : (of : ColumnType) → column_named (name_of of) ≡ Some (column_of of)
-named U8 = refl
-named I8 = refl
-named U16 = refl
-named I16 = refl
-named U32 = refl
-named I32 = refl
-named I64 = refl
 
 abbrev names : List ColumnType → List (List ℕ)
 names types = map column_name (map column_of types)
