@@ -15,6 +15,7 @@ use Rattle.fl_csv.specs.declared.record.CsvRefusal.TheVariants.{Number, NoMemory
 use Rattle.fl_words.specs.Reply.{hex_digit, hex_text}
 use Rattle.fl_csv.specs.Text.{bytes_field}
 use Rattle.fl_words.specs.Grammar.{hex_bytes, hex_value, onto_bytes}
+use Rattle.fl_script.proofs.Blobs.{odd}
 
 abbrev pub right : {A : Type 0} → Result A FromHexError → Option A
 right (Ok x) = Some x
@@ -38,16 +39,6 @@ same-pairs i (digit ∷ []) = refl
 same-pairs i (high ∷ low ∷ digits) =
     same-pair high low i (hex_digit_value high) (hex_digit_value low) (decode_pairs (i + 2) digits)
     ∙ rw (same-digit high, same-digit low, same-pairs (i + 2) digits) refl
-
-odd : (digits : List ℕ) → length digits % 2 ≡ 1 → hex_bytes digits ≡ None
-odd [] h = absurd (omega (arith, h))
-odd (high ∷ []) h = refl
-odd (high ∷ low ∷ digits) h = rw (odd digits (omega (arith, h))) (none (hex_value high) (hex_value low))
-  where
-    none : (h l : Option ℕ) → onto_bytes h l None ≡ None
-    none None l = refl
-    none (Some h) None = refl
-    none (Some h) (Some l) = refl
 
 pub decodes : (digits : List ℕ) → right (decode_of digits) ≡ hex_bytes digits
 decodes digits = by (eqb (length digits % 2) 1) refl

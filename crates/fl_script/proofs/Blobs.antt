@@ -3,7 +3,7 @@ use Rattle.std.proofs.Common.{◌≡◌, ◌≢◌, ℕ, ◌/◌, ◌%◌, false
 use Rattle.fl_words.specs.Grammar.{hex_bytes, hex_value, onto_bytes, blob_word}
 use Rattle.fl_model.specs.Record.{bytes_equal}
 
-odd : (digits : List ℕ) → length digits % 2 ≡ 1 → hex_bytes digits ≡ None
+pub odd : (digits : List ℕ) → length digits % 2 ≡ 1 → hex_bytes digits ≡ None
 odd [] h = absurd (omega (arith, h))
 odd (high ∷ []) h = refl
 odd (high ∷ low ∷ digits) h = rw (odd digits (omega (arith, h))) (none (hex_value high) (hex_value low))
