@@ -60,7 +60,7 @@ pub last_of-at : (xs : List (ℕ × ℕ)) (d : ℕ × ℕ) → 0 < length xs →
 last_of-at xs d some = slice_get-get_or xs (length xs - 1) d (omega arith)
 
 -- a later one still
-past-trans : (p q r : ℕ × ℕ) → IsPast p q → IsPast q r → IsPast p r
+pub past-trans : (p q r : ℕ × ℕ) → IsPast p q → IsPast q r → IsPast p r
 past-trans p q r h k = (omega (arith, h, k), omega (arith, h, k))
 
 -- the points rise, also with one more, and without the first or the last ones

@@ -11,6 +11,7 @@ use Rattle.fl_spline.specs.declared.spline.Spline.{Spline}
 use Rattle.fl_spline.specs.Spline.{SplineOf, kept}
 use Rattle.fl_spline.specs.Segment.{InWindow, IsSegment, point_at}
 use Rattle.fl_spline.proofs.Segments.{segment-covered}
+use Rattle.fl_spline.proofs.Lists.{past-trans}
 
 -- two points that are neighbours, against an estimate of a key
 abbrev Between : ℕ → ℕ → ℕ → ℕ × ℕ → ℕ × ℕ → Type 0
@@ -57,9 +58,6 @@ all-drop P (suc n) (x ∷ xs) h = all-drop P n xs h.1
 climbs-back : (xs ys : List (ℕ × ℕ)) → Climbs (xs ++ ys) → Climbs ys
 climbs-back [] ys up = up
 climbs-back (x ∷ xs) ys up = climbs-back xs ys up.1
-
-past-trans : (p q r : ℕ × ℕ) → IsPast p q → IsPast q r → IsPast p r
-past-trans p q r h k = (omega (arith, h, k), omega (arith, h, k))
 
 -- a line of DY over DX, at dk, against a point at dx whose rise is dy
 near-low : (error dx dy DX DY dk : ℕ) → 0 < DX → dx ≤ dk → dy * DX ≤ dx * DY + error * DX → dy ≤ dk * DY / DX + error
