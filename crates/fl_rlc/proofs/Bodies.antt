@@ -9,13 +9,14 @@ use Rattle.fl_model.specs.Record.{Plan, rows_per_page}
 use Rattle.fl_model.specs.Ring as model
 use Rattle.fl_model.specs.Row.{stored_row}
 use Rattle.fl_model.specs.Table.{Entry, full_pages}
-use Rattle.fl_model.proofs.FullPages.{full-cons, full-one, full-void, full-pushed}
+use Rattle.fl_model.proofs.FullPages.{full-cons, full-one, full-pushed}
 use Rattle.fl_page.specs.Header as header
 use Rattle.fl_ring.specs.Counts.{page_count, ring_counts, model_shape}
 use Rattle.fl_ring.specs.Ring.{Shape, RingState, IsShape, count, oldest, is_due, is_due_at, appended, trimmed}
 use Rattle.fl_ring.proofs.Facts.{due_true, two_blocks}
 use Rattle.fl_schema.proofs.Numbers.{number_of-le}
 use Rattle.fl_var.proofs.Lists.{drop-none, take-none}
+use Rattle.fl_var.proofs.Bodies.{full-none}
 use Rattle.fl_rlc.specs.Pages.{log_body, IsPage}
 
 -- how many rows a body has, by its header
@@ -48,9 +49,6 @@ HoldBodies plan n [] (p ∷ pages) = ⊥
 HoldBodies plan n (None ∷ kept) pages = HoldBodies plan (n + 1) kept pages
 HoldBodies plan n (Some body ∷ kept) [] = ⊥
 HoldBodies plan n (Some body ∷ kept) (p ∷ pages) = IsBody plan n body p × HoldBodies plan (n + 1) kept pages
-
-full-none : (counts : List ℕ) → full_pages (0 ∷ counts) ≡ full_pages counts
-full-none counts = omega (arith, full-cons 0 counts, full-void 0 (omega arith))
 
 full-some : (c : ℕ) (counts : List ℕ) → 0 < c → full_pages (c ∷ counts) ≡ suc (full_pages counts)
 full-some c counts some = omega (arith, full-cons c counts, full-one c some)

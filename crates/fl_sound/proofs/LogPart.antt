@@ -32,6 +32,7 @@ use Rattle.fl_ring.specs.Ring.{Shape, RingState, IsShape, count, oldest, place a
 use Rattle.fl_ring.proofs.Counts.{counts_length}
 use Rattle.fl_ring.proofs.GoodNumbers.{renumbered_some, renumbered_none}
 use Rattle.fl_ring.proofs.Images.{bytes_of}
+use Rattle.fl_var.proofs.MountsInTable.{one-is}
 use Rattle.fl_rlc.specs.Pages.{log_body, IsLogRing}
 use Rattle.fl_rlc.proofs.Bodies.{rows_of, bodies-at}
 use Rattle.fl_rlc.proofs.NewestRows.{log-page}
@@ -90,10 +91,6 @@ pub record LoggedOn (label : Label) (config : TableConfig) (at : RingPlace) (f :
   pub no_var : has_var (plan_of_table label config) ≡ false
   pub facts : IsTable (with_log at.blocks (plan_of_table label config)) table
   pub image : IfSome table.log (λ ring. IsRingImage (shape_of (with_log at.blocks (plan_of_table label config)) LogRing) ring (bytes_of (shape_in config at) (page_at f)) (HoldsLogged (with_log at.blocks (plan_of_table label config)) table ring))
-
-one-is : (b : Bool) → one b ≡ cond b 1 0
-one-is true = refl
-one-is false = refl
 
 module _ (label : Label) (config : TableConfig) (at : RingPlace) (f : FlashState) (table : Table) (is : LoggedOn label config at f table) where
   abbrev plan : Plan

@@ -36,6 +36,7 @@ use Rattle.fl_parts.proofs.Plain.{least-below}
 use Rattle.fl_var.specs.Standing.{IsVarRing}
 use Rattle.fl_var.proofs.Bodies.{once, bodies-at}
 use Rattle.fl_var.proofs.States.{state_of, IsStateOf, state-is}
+use Rattle.fl_var.proofs.MountsInTable.{one-is}
 use Rattle.fl_rules.specs.Claims.{AllBelow}
 use Rattle.fl_rules.specs.References.{PageLeads}
 use Rattle.fl_rules.specs.RingRules.{NoRows, IsRingSound}
@@ -55,10 +56,6 @@ use Rattle.fl_sound.proofs.RingSound.{SoundRing, AreFormed, sizes, counts-some, 
 body-number : (n : ℕ) (content : ContentPage) → n < 4294967296 → number_of (content_body n content) ≡ n
 body-number n content small =
     field_4 (content_body n content) 0 0 0 4 refl refl (omega (arith, length-append (le 4 n ++ le 2 content.used ++ le 2 0) content.bytes)) ∙ number_of-le 4 n (omega (arith, small))
-
-one-is : (b : Bool) → one b ≡ cond b 1 0
-one-is true = refl
-one-is false = refl
 
 -- blobs that all begin before a page end there
 ends-within : (so_far bound : ℕ) (rows : List Row) → so_far ≤ bound → ((i : ℕ) (row : Row) → slice_get rows i ≡ Some row → reference_end row.blob ≤ bound) → blobs_end so_far rows ≤ bound

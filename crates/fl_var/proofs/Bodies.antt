@@ -34,7 +34,7 @@ HoldBodies plan n (None ∷ kept) pages = HoldBodies plan (n + 1) kept pages
 HoldBodies plan n (Some body ∷ kept) [] = ⊥
 HoldBodies plan n (Some body ∷ kept) (p ∷ pages) = (body ≡ content_body n p) × IsContent plan p × HoldBodies plan (n + 1) kept pages
 
-full-none : (counts : List ℕ) → full_pages (0 ∷ counts) ≡ full_pages counts
+pub full-none : (counts : List ℕ) → full_pages (0 ∷ counts) ≡ full_pages counts
 full-none counts = omega (arith, full-cons 0 counts, full-void 0 (omega arith))
 
 full-some : (counts : List ℕ) → full_pages (1 ∷ counts) ≡ suc (full_pages counts)

@@ -61,7 +61,7 @@ renumbered-bodies plan r at_least s pages h = by_any (list_any is_some s.kept) r
     by_any true e = h
     by_any false e = bodies-anew plan (oldest s) _ s.kept pages e h
 
-one-is : (b : Bool) → one b ≡ cond b 1 0
+pub one-is : (b : Bool) → one b ≡ cond b 1 0
 one-is true = refl
 one-is false = refl
 
