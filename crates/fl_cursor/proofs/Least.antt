@@ -40,6 +40,8 @@ use Rattle.fl_flash.specs.Buffer.{BufferState}
 use Rattle.fl_index.specs.declared.index.BitmapIndex.{BitmapIndex}
 use Rattle.fl_index.specs.Looking.{due, next_to_read}
 use Rattle.fl_index.proofs.Lists.{firsts-length}
+use Rattle.fl_index.proofs.Counts.{one-fewer}
+use Rattle.fl_index.proofs.Spanned.{drop-past}
 use Rattle.fl_parts.specs.Bitmaps.{ArePlanned}
 use Rattle.fl_table.specs.Skipping.{due_of}
 use Rattle.fl_cursor.proofs.PassedRows.{each-weaker}
@@ -67,12 +69,6 @@ drop-at zero x (y ∷ []) e = let same : y ≡ x = cc in ap (λ (z : ℕ). z ∷
 drop-at zero x (y ∷ z ∷ ys) e = let same : y ≡ x = cc in ap (λ (w : ℕ). w ∷ z ∷ ys) same
 drop-at (suc i) x (y ∷ ys) e = drop-at i x ys e
 
-drop-past : (i : ℕ) (xs : List ℕ) → length xs ≤ i → drop i xs ≡ []
-drop-past zero [] h = refl
-drop-past zero (x ∷ xs) h = absurd (omega (arith, h))
-drop-past (suc i) [] h = refl
-drop-past (suc i) (x ∷ xs) h = drop-past i xs (omega (arith, h))
-
 drop-none : {X : Type 0} (xs : List X) → drop 0 xs ≡ xs
 drop-none [] = refl
 drop-none (x ∷ xs) = refl
@@ -88,10 +84,6 @@ length-none (x ∷ xs) e = absurd (omega (arith, e))
 or-true : (a b : Bool) → b ≡ true → (a || b) ≡ true
 or-true true b e = refl
 or-true false b e = e
-
-one-fewer : (a b : Bool) → (a ≡ true → b ≡ true) → cond a 1 0 ≤ cond b 1 0
-one-fewer true b f = let e : cond {A = ℕ} b 1 0 ≡ 1 = ap (λ x. cond {A = ℕ} x 1 0) (f refl) in omega (arith, e)
-one-fewer false b f = omega arith
 
 -- ---- pages past which none is asked for
 

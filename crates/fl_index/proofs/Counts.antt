@@ -30,7 +30,7 @@ count-none p (suc n) from h =
     let others = count-none p n (from + 1) (λ k low high. h k (omega (arith, low)) (omega (arith, high))) in
     omega (arith, count-cons p n from, here, others)
 
-one-fewer : (a b : Bool) → (a ≡ true → b ≡ true) → cond a 1 0 ≤ cond b 1 0
+pub one-fewer : (a b : Bool) → (a ≡ true → b ≡ true) → cond a 1 0 ≤ cond b 1 0
 one-fewer true b f = let e : cond {A = ℕ} b 1 0 ≡ 1 = ap (λ x. cond {A = ℕ} x 1 0) (f refl) in omega (arith, e)
 one-fewer false b f = omega arith
 

@@ -114,7 +114,7 @@ ring-few old new r ring some h told =
     not_less false = omega arith
 
 -- four for each page
-four-each : (blocks pages : ℕ) → 3 ≤ blocks → 2 ≤ pages → blocks + pages + blocks * pages + pages + blocks * pages ≤ 4 * (blocks * pages)
+pub four-each : (blocks pages : ℕ) → 3 ≤ blocks → 2 ≤ pages → blocks + pages + blocks * pages + pages + blocks * pages ≤ 4 * (blocks * pages)
 four-each blocks pages b p =
     let rows : blocks * 2 ≤ blocks * pages = mul-le-mul_left blocks p in
     let columns : 3 * pages ≤ blocks * pages = mul-le-mul_right pages b in

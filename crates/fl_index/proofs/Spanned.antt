@@ -26,7 +26,7 @@ drop-at i x [] e = absurd (none-some x e)
 drop-at zero x (y ∷ xs) e = let same : y ≡ x = cc in ap (λ z. z ∷ xs) same
 drop-at (suc i) x (y ∷ xs) e = drop-at i x xs e
 
-drop-past : (i : ℕ) (xs : List ℕ) → length xs ≤ i → drop i xs ≡ []
+pub drop-past : (i : ℕ) (xs : List ℕ) → length xs ≤ i → drop i xs ≡ []
 drop-past zero [] h = refl
 drop-past zero (x ∷ xs) h = absurd (omega (arith, h))
 drop-past (suc i) [] h = refl

@@ -1,12 +1,11 @@
 -- How many reads it takes to find an index.
 use Rattle.std.proofs.Common.{◌≡◌, ℕ, ◌+◌, ◌-◌, ◌*◌, ◌≤◌, Bool, true, false, cond, Option, Some, None, Result, Ok, Err, IsTrue, ap, arith}
 use Rattle.std.specs.Prelude.{IfOk, OnOk, option_map, unwrap_or}
-use Rattle.std.proofs.Math.Nat.{mul-le-mul_right, mul-le-mul_left}
 use Rattle.fl_flash.specs.Flash.{FlashState}
 use Rattle.fl_index.specs.Finding.{FindsEnd}
 use Rattle.fl_index.specs.Memory.{next_in, oldest_in, ring_shape}
 use Rattle.fl_index.specs.declared.index.BitmapIndex.{BitmapIndex}
-use Rattle.fl_index.proofs.MountCalls.{ring-few}
+use Rattle.fl_index.proofs.MountCalls.{ring-few, four-each}
 use Rattle.fl_ring.specs.Mounting.{search_reads}
 use Rattle.fl_ring.specs.Place.{next_of, oldest_of}
 use Rattle.fl_ring.specs.Repairing.{Beside}
@@ -15,13 +14,6 @@ use Rattle.fl_ring.specs.declared.ring.Ring.{Ring}
 use Rattle.fl_parts.specs.Bitmaps.{AreSamePlan, room_of}
 use Rattle.fl_parts.specs.Coming.{index_pages_of}
 use Rattle.fl_parts.specs.IndexMount.{FewReads, FindsBy, FindsBitmaps}
-
--- four for each page
-pub four-each : (blocks pages : ℕ) → 3 ≤ blocks → 2 ≤ pages → blocks + pages + blocks * pages + pages + blocks * pages ≤ 4 * (blocks * pages)
-four-each blocks pages b p =
-    let rows : blocks * 2 ≤ blocks * pages = mul-le-mul_left blocks p in
-    let columns : 3 * pages ≤ blocks * pages = mul-le-mul_right pages b in
-    omega (arith, rows, columns)
 
 -- the ring of an index that was found keeps no more pages than it has
 kept-within : (index now : BitmapIndex) (f g : FlashState) (end : Option ℕ) (full : Bool) → FindsEnd index f end now g → IsTrue f.media.tells → cond full (next_in now - oldest_in now) 0 ≤ index.place.blocks * index.geometry.block

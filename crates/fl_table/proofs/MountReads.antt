@@ -10,10 +10,10 @@ use Rattle.fl_ring.specs.Place.{next_of, oldest_of}
 use Rattle.fl_ring.specs.Repairing.{Beside}
 use Rattle.fl_ring.specs.Ring.{Shape, room, is_due_at}
 use Rattle.fl_ring.specs.declared.ring.Ring.{Ring}
+use Rattle.fl_index.proofs.MountCalls.{four-each}
 use Rattle.fl_table.specs.Memory.{ring_shape, IsSamePlan}
 use Rattle.fl_parts.specs.IndexMount.{FewReads}
 use Rattle.fl_table.specs.declared.table.Table.{Table}
-use Rattle.fl_parts.proofs.FoundReads.{four-each}
 use Rattle.fl_table.proofs.MountCalls.{same-shape}
 
 -- a ring is found to keep fewer pages than it has
