@@ -39,13 +39,13 @@ alike k old e = ap (λ cost. record old { cost = cost }) e
 agrees-says : (c : Command) (m : Moment) (new other : Machine) (replies : List Reply) → Says m replies new → state_without_reads new ≡ state_without_reads other → Agrees m (says c replies other)
 agrees-says c m new other replies h e = record { last = h.last_is; replies = ap (map reply_without_reads) h.replies_are; after = ap state_without_reads h.after_is ∙ e }
 
-cut-not-finished : (last : List Table) → CutShort last ≡ Finished → ⊥
+pub cut-not-finished : (last : List Table) → CutShort last ≡ Finished → ⊥
 cut-not-finished last e = cc
 
-failed-not-finished : (last : List Table) → Failed last ≡ Finished → ⊥
+pub failed-not-finished : (last : List Table) → Failed last ≡ Finished → ⊥
 failed-not-finished last e = cc
 
-not-both : (b : Bool) → b ≡ false → IsTrue b → ⊥
+pub not-both : (b : Bool) → b ≡ false → IsTrue b → ⊥
 not-both b e h = cc
 
 some-not-none : (last : List Table) → Some last ≡ None → ⊥

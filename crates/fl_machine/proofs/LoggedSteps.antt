@@ -225,7 +225,7 @@ located-is config old name at e =
     let same : r.0 ≡ at.place = let q = r.1 in omega (arith, q) in
     subst (IsLocated config.plans old.tables at) same r.2
 
-same-plan : (plans : List Plan) (p : ℕ) (a b : Plan) → slice_get plans p ≡ Some a → slice_get plans p ≡ Some b → a ≡ b
+pub same-plan : (plans : List Plan) (p : ℕ) (a b : Plan) → slice_get plans p ≡ Some a → slice_get plans p ≡ Some b → a ≡ b
 same-plan plans p a b e k = let q : Some a ≡ Some b = sym e ∙ k in cc (q)
 
 same-table : (list : List Table) (p : ℕ) (a b : Table) → slice_get list p ≡ Some a → slice_get list p ≡ Some b → a ≡ b

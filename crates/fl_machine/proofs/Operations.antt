@@ -1,5 +1,5 @@
 -- The totals rise by the operations of each command.
-use Rattle.std.proofs.Common.{◌≡◌, ℕ, zero, suc, ◌+◌, ◌<◌, Bool, true, false, cond, Option, Some, None, List, [], ◌∷◌, ◌++◌, ◌-◌, ◌^◌, append-nil, append_assoc, refl, sym, ap, subst, ◌∙◌, arith, inl, inr, MatchOption, MatchBool, IsTrue}
+use Rattle.std.proofs.Common.{◌≡◌, ℕ, zero, suc, ◌+◌, ◌<◌, Bool, true, false, cond, Option, Some, None, List, [], ◌∷◌, ◌++◌, ◌-◌, ◌^◌, append-nil, append_assoc, refl, sym, ap, subst, ◌∙◌, arith, inl, inr, MatchOption, MatchBool}
 use Rattle.std.specs.List.{slice_get}
 use Rattle.fl_base.specs.declared.types.CutKind.{CutKind}
 use Rattle.fl_model.specs.Record.{Plan, Record, Config}
@@ -15,6 +15,7 @@ use Rattle.fl_words.specs.Reply.{Reply}
 use Rattle.fl_machine.specs.Machine.{Machine, OpenCursor}
 use Rattle.fl_machine.specs.Step.{Moment, StepOf, Says, EndsAs, EndsMount, WithTable, Located, located, LoadsFrom, LoadsOn, NextStep, cursor_at, no_column, load_record, next_random, refused}
 use Rattle.fl_machine.specs.Operations.{programs_in, erases_in, unless_refused, of_table, load_operations, mount_operations, accepted_operations, of_located, operations_by, Counts, CountsFront, CountsMoment, OperationsAreExact}
+use Rattle.fl_machine.proofs.Determined.{cut-not-finished, failed-not-finished, not-both}
 
 -- nothing fails in a moment
 record IsWhole (m : Moment) : Type 0 where
@@ -85,12 +86,6 @@ counts-one operation device = by_kind operation.kind refl
     by_kind Mark e = rw e record { programs = λ less. omega arith; erases = λ less. omega arith }
     by_kind VoidMark e = rw e record { programs = λ less. omega arith; erases = λ less. omega arith }
     by_kind Erase e = rw e record { programs = λ less. omega arith; erases = λ less. omega arith }
-
-cut-not-finished : (last : List Table) → CutShort last ≡ Finished → ⊥
-cut-not-finished last e = cc
-
-failed-not-finished : (last : List Table) → Failed last ≡ Finished → ⊥
-failed-not-finished last e = cc
 
 some-not-none : (m : Moment) (last : List Table) → m.last ≡ Some last → m.last ≡ None → ⊥
 some-not-none m last e k = differ (sym e ∙ k)
@@ -300,10 +295,6 @@ loads-counted config old m plan place step seed (suc turns) i s loaded device ta
     by_table None h go = load-ends m old device tables [] h
     by_table (Some table) h go = by_refusal table (load_record plan table step seed i s) (refusal_of plan table (load_record plan table step seed i s)) h go
 
--- a mount
-not-true : (b : Bool) → b ≡ false → IsTrue b → ⊥
-not-true b e h = cc
-
 rings-counted : (config : Config) (old : Machine) (m : Moment) (rings : List (ℕ × Turn)) (device : Device) (tables : List Table) (how : MountEnd) →
     Mounts config.plans m.rose rings device tables how → EndsMount config old m how → Does m device (mount_operations config.plans rings tables)
 rings-counted config old m [] device tables how is ends = ended (subst (λ (x : MountEnd). EndsMount config old m x) is ends)
@@ -324,7 +315,7 @@ rings-counted config old m (at ∷ rings) device tables how (inl (end, unread, i
         does-front m device repairs (mount_operations config.plans rings (all_done (done config.plans) repairs numbered))
         (front-to device repairs end.device m.after.device (ap (λ (x : Machine). x.device) h.after_is)
         (record { front = unread.front; others = unread.others; split = sym unread.split; counts = (performs-did config.plans m.rose unread.front device numbered end unread.did unread.outcome).counts }))
-        (λ w. not-true m.rose w.rose unread.may_fail)
+        (λ w. not-both m.rose w.rose unread.may_fail)
 rings-counted config old m (at ∷ rings) device tables how (inr (end, did, goes)) ends =
     by_outcome end.outcome refl goes (λ g. rings-counted config old m rings end.device end.tables how g ends)
   where

@@ -37,7 +37,7 @@ done-numbered plans p operation tables =
 pub rel-trans : (p : ℕ) (xs ys zs : List Table) → RelAt StaysNumbered p xs ys → RelAt StaysNumbered p ys zs → RelAt StaysNumbered p xs zs
 rel-trans p xs ys zs h k = both-trans StaysNumbered StaysNumbered StaysNumbered numbered_trans _ _ _ h k
 
-ends-after : (plans : List Plan) (p : ℕ) (start mid left : List Table) (outcome : Outcome) → RelAt StaysNumbered p start mid → EndsNumbered plans p mid left outcome → EndsNumbered plans p start left outcome
+pub ends-after : (plans : List Plan) (p : ℕ) (start mid left : List Table) (outcome : Outcome) → RelAt StaysNumbered p start mid → EndsNumbered plans p mid left outcome → EndsNumbered plans p start left outcome
 ends-after plans p start mid left Finished h k = rel-trans p start mid left h k
 ends-after plans p start mid left (CutShort last) h k = record { numbered = rel-trans p start mid last h k.numbered; operation = k.operation; leaves = k.leaves }
 ends-after plans p start mid left (Failed last) h k = record { numbered = rel-trans p start mid last h k.numbered; operation = k.operation; leaves = k.leaves }

@@ -18,7 +18,7 @@ use Rattle.fl_machine.specs.Machine.{Machine}
 use Rattle.fl_machine.specs.Step.{EndsAs, FlushStep, LoadStep, LoadsFrom, LoadsOn, Located, Moment, PutStep, Says, located, load_record, next_random, refused}
 use Rattle.fl_machine.proofs.LogMoves.{changed_at-elsewhere}
 use Rattle.fl_machine.proofs.Logs.{core}
-use Rattle.fl_machine.proofs.LoggedSteps.{IsLocated, located-is, with-option}
+use Rattle.fl_machine.proofs.LoggedSteps.{IsLocated, located-is, with-option, same-plan}
 use Rattle.fl_shipped.specs.Growing.{flush_pages, load_pages, paged_records, put_pages, waiting_records, sealed_pages, written_by}
 use Rattle.fl_shipped.proofs.SealedPages.{Halts, HasSealed, IsUnderway, flush-goes, joined, order-takes, put-some, records}
 use Rattle.fl_shipped.proofs.Orders.{DropsFrom, InOrder, order-front, order-push}
@@ -27,9 +27,6 @@ use Rattle.fl_shipped.proofs.PagesAtPlace.{At, FailsWell, LeftAt, flush-there, l
 
 pub same-table : (tables : List Table) (p : ℕ) (a b : Table) → slice_get tables p ≡ Some a → slice_get tables p ≡ Some b → a ≡ b
 same-table tables p a b e k = let q : Some a ≡ Some b = sym e ∙ k in cc (q)
-
-same-plan : (plans : List Plan) (p : ℕ) (a b : Plan) → slice_get plans p ≡ Some a → slice_get plans p ≡ Some b → a ≡ b
-same-plan plans p a b e k = let q : Some a ≡ Some b = sym e ∙ k in cc (q)
 
 none-taken : {X : Type 0} (xs : List X) → take 0 xs ≡ []
 none-taken [] = refl
