@@ -14,7 +14,7 @@ use Rattle.fl_words.specs.Reply as reply
 use Rattle.fl_words.specs.Reply.{Reply}
 use Rattle.fl_machine.specs.Machine.{Machine, OpenCursor}
 use Rattle.fl_machine.specs.Step.{Moment, StepOf, Says, EndsAs, EndsMount, WithTable, Located, located, LoadsFrom, LoadsOn, NextStep, cursor_at, no_column, load_record, next_random, refused}
-use Rattle.fl_machine.specs.Operations.{programs_in, erases_in, unless_refused, of_table, load_operations, mount_operations, accepted_operations, of_located, operations_by, Counts, CountsFront, CountsMoment, OperationsAreExact}
+use Rattle.fl_machine.specs.Operations.{programs_in, erases_in, unless_refused, of_table, load_operations, mount_operations, accepted_operations, of_located, operations_by, CountsOperations, CountsFront, CountsMoment, OperationsAreExact}
 use Rattle.fl_machine.proofs.Determined.{cut-not-finished, failed-not-finished, not-both}
 
 -- nothing fails in a moment
@@ -25,7 +25,7 @@ record IsWhole (m : Moment) : Type 0 where
 -- from a device on, a moment does a front of these operations, and all of them where nothing fails
 record Does (m : Moment) (device : Device) (operations : List Operation) : Type 0 where
   front : CountsFront device operations m.after.device
-  whole : IsWhole m → Counts device operations m.after.device
+  whole : IsWhole m → CountsOperations device operations m.after.device
 
 abbrev Counted : Machine → List Operation → Moment → Type 0
 Counted old operations m = Does m old.device operations
@@ -33,7 +33,7 @@ Counted old operations m = Does m old.device operations
 zero-plus : (n : ℕ) → n ≡ n + 0
 zero-plus n = omega arith
 
-counts-none : (a b : Device) → b.programs ≡ a.programs → b.erases ≡ a.erases → Counts a [] b
+counts-none : (a b : Device) → b.programs ≡ a.programs → b.erases ≡ a.erases → CountsOperations a [] b
 counts-none a b p e = record { programs = λ less. p ∙ zero-plus a.programs; erases = λ less. e ∙ zero-plus a.erases }
 
 programs-append : (xs ys : List Operation) → programs_in (xs ++ ys) ≡ programs_in xs + programs_in ys
@@ -48,17 +48,17 @@ erases-append (x ∷ xs) ys = omega (arith, erases-append xs ys)
 rises : (most a b c m n : ℕ) → (b < most → b ≡ a + m) → (c < most → c ≡ b + n) → c < most → c ≡ a + (m + n)
 rises most a b c m n f g less = omega (arith, g less, f (omega (arith, g less)))
 
-counts-more : (a b c : Device) (xs ys : List Operation) → Counts a xs b → Counts b ys c → Counts a (xs ++ ys) c
+counts-more : (a b c : Device) (xs ys : List Operation) → CountsOperations a xs b → CountsOperations b ys c → CountsOperations a (xs ++ ys) c
 counts-more a b c xs ys h k = record {
   programs = λ less. rises _ a.programs b.programs c.programs (programs_in xs) (programs_in ys) h.programs k.programs less ∙ ap (λ n. a.programs + n) (sym (programs-append xs ys));
   erases = λ less. rises _ a.erases b.erases c.erases (erases_in xs) (erases_in ys) h.erases k.erases less ∙ ap (λ n. a.erases + n) (sym (erases-append xs ys));
 }
 
 -- all operations are done, or some and then a front of others, or only a front
-does-all : (m : Moment) (device : Device) (operations : List Operation) → Counts device operations m.after.device → Does m device operations
+does-all : (m : Moment) (device : Device) (operations : List Operation) → CountsOperations device operations m.after.device → Does m device operations
 does-all m device operations h = record { front = record { front = operations; others = []; split = append-nil operations; counts = h }; whole = λ w. h }
 
-does-more : (m : Moment) (device mid : Device) (xs ys : List Operation) → Counts device xs mid → Does m mid ys → Does m device (xs ++ ys)
+does-more : (m : Moment) (device mid : Device) (xs ys : List Operation) → CountsOperations device xs mid → Does m mid ys → Does m device (xs ++ ys)
 does-more m device mid xs ys h k = record {
   front = record {
     front = xs ++ k.front.front;
@@ -78,10 +78,10 @@ does-front m device xs ys h broken = record {
 does-part : (m : Moment) (device : Device) (xs : List Operation) → CountsFront device xs m.after.device → (IsWhole m → ⊥) → Does m device xs
 does-part m device xs h broken = record { front = h; whole = λ w. absurd (broken w) }
 
-counts-one : (operation : Operation) (device : Device) → Counts device (operation ∷ []) (counted operation.kind device)
+counts-one : (operation : Operation) (device : Device) → CountsOperations device (operation ∷ []) (counted operation.kind device)
 counts-one operation device = by_kind operation.kind refl
   where
-    by_kind : (kind : Kind) → operation.kind ≡ kind → Counts device (operation ∷ []) (counted operation.kind device)
+    by_kind : (kind : Kind) → operation.kind ≡ kind → CountsOperations device (operation ∷ []) (counted operation.kind device)
     by_kind Body e = rw e record { programs = λ less. omega arith; erases = λ less. omega arith }
     by_kind Mark e = rw e record { programs = λ less. omega arith; erases = λ less. omega arith }
     by_kind VoidMark e = rw e record { programs = λ less. omega arith; erases = λ less. omega arith }
@@ -95,7 +95,7 @@ some-not-none m last e k = differ (sym e ∙ k)
 
 -- operations that were all done
 record Did (plans : List Plan) (operations : List Operation) (device : Device) (tables : List Table) (end : Progress) : Type 0 where
-  counts : Counts device operations end.device
+  counts : CountsOperations device operations end.device
   tables_are : end.tables ≡ all_done (done plans) operations tables
 
 performs-did : (plans : List Plan) (rose : Bool) (operations : List Operation) (device : Device) (tables : List Table) (end : Progress) →
@@ -144,11 +144,11 @@ performs-front plans rose (operation ∷ operations) device tables end h =
 
 -- a put
 puts-did : (plans : List Plan) (rose : Bool) (plan : Plan) (place : ℕ) (item : Record) (table : Table) (device : Device) (tables : List Table) (end : Progress) →
-    Puts plans rose plan place item table device tables end → end.outcome ≡ Finished → Counts device (accepted_operations plan place item table) end.device
+    Puts plans rose plan place item table device tables end → end.outcome ≡ Finished → CountsOperations device (accepted_operations plan place item table) end.device
 puts-did plans rose plan place item table device tables end (mid, did, goes) e = by_outcome mid.outcome refl goes
   where
     by_outcome : (o : Outcome) → mid.outcome ≡ o → PutGoesOn o mid end (Performs plans rose (join_operations plan place item table) mid.device (changed_at place (put_joined plan item) tables) end) →
-        Counts device (accepted_operations plan place item table) end.device
+        CountsOperations device (accepted_operations plan place item table) end.device
     by_outcome Finished q g =
         counts-more device mid.device end.device (room_operations plan place table) (join_operations plan place item table)
         (performs-did plans rose (room_operations plan place table) device tables mid did q).counts
@@ -213,7 +213,7 @@ operations-counted plans old m operations ok new same (end, did, ends) = by_outc
     by_outcome : (o : Outcome) → end.outcome ≡ o → EndsAs o old m end [] ok (new end) → Does m old.device operations
     by_outcome Finished e h =
         does-all m old.device operations
-        (subst (λ (d : Device). Counts old.device operations d) (sym (ap (λ (x : Machine). x.device) h.after_is ∙ same end)) (performs-did plans m.rose operations old.device old.tables end did e).counts)
+        (subst (λ (d : Device). CountsOperations old.device operations d) (sym (ap (λ (x : Machine). x.device) h.after_is ∙ same end)) (performs-did plans m.rose operations old.device old.tables end did e).counts)
     by_outcome (CutShort before) e h = does-part m old.device operations (stopped_front (ap (λ (x : Machine). x.device) h.after_is)) (stops-broken m before h.last_is)
     by_outcome (Failed before) e h = does-part m old.device operations (stopped_front (ap (λ (x : Machine). x.device) h.after_is)) (stops-broken m before h.last_is)
 
@@ -235,7 +235,7 @@ put-counted config old m item at None (end, did, ends) = by_outcome end.outcome 
     by_outcome : (o : Outcome) → end.outcome ≡ o → EndsAs o old m end [] (reply.Done ∷ []) (record old { device = end.device; tables = changed_at at.place (put_record at.plan item) old.tables }) → Does m old.device operations
     by_outcome Finished e h =
         does-all m old.device operations
-        (subst (λ (d : Device). Counts old.device operations d) (sym (ap (λ (x : Machine). x.device) h.after_is)) (puts-did config.plans m.rose at.plan at.place item at.table old.device old.tables end did e))
+        (subst (λ (d : Device). CountsOperations old.device operations d) (sym (ap (λ (x : Machine). x.device) h.after_is)) (puts-did config.plans m.rose at.plan at.place item at.table old.device old.tables end did e))
     by_outcome (CutShort before) e h = does-part m old.device operations (stopped_front (ap (λ (x : Machine). x.device) h.after_is)) (stops-broken m before h.last_is)
     by_outcome (Failed before) e h = does-part m old.device operations (stopped_front (ap (λ (x : Machine). x.device) h.after_is)) (stops-broken m before h.last_is)
 

@@ -51,10 +51,10 @@ ReadsOf config old moment (command.Join left right range) =
 ReadsOf config old moment (command.Next cursor count) = OnCursor config old moment cursor (NextReads config moment)
 ReadsOf config old moment _ = none_read moment
 
-abbrev pub ReadsWithin : Config → Machine → Moment → Type 0
-ReadsWithin config old moment = ReadsOf config old moment moment.command
+abbrev pub ReadsAllowed : Config → Machine → Moment → Type 0
+ReadsAllowed config old moment = ReadsOf config old moment moment.command
 
 -- each moment of a run
 abbrev pub RunReads : Config → Machine → List Moment → Type 0
 RunReads config old [] = Unit {0}
-RunReads config old (moment ∷ moments) = ReadsWithin config old moment × RunReads config moment.after moments
+RunReads config old (moment ∷ moments) = ReadsAllowed config old moment × RunReads config moment.after moments

@@ -73,7 +73,7 @@ operations_by config old (command.Load name count step seed) =
 operations_by config old _ = []
 
 -- The totals rise by just these operations, where they aren't at their end.
-pub record Counts (old : Device) (operations : List Operation) (new : Device) : Type 0 where
+pub record CountsOperations (old : Device) (operations : List Operation) (new : Device) : Type 0 where
   pub programs : new.programs < 2 ^ 64 - 1 → new.programs ≡ old.programs + programs_in operations
   pub erases : new.erases < 2 ^ 64 - 1 → new.erases ≡ old.erases + erases_in operations
 
@@ -82,12 +82,12 @@ pub record CountsFront (old : Device) (operations : List Operation) (new : Devic
   pub front : List Operation
   pub others : List Operation
   pub split : front ++ others ≡ operations
-  pub counts : Counts old front new
+  pub counts : CountsOperations old front new
 
 -- a moment does a front of the operations of its command, and all where none fails and the medium's faults don't rise
 pub record CountsMoment (config : Config) (old : Machine) (moment : Moment) : Type 0 where
   pub front : CountsFront old.device (operations_by config old moment.command) moment.after.device
-  pub whole : moment.rose ≡ false → moment.last ≡ None → Counts old.device (operations_by config old moment.command) moment.after.device
+  pub whole : moment.rose ≡ false → moment.last ≡ None → CountsOperations old.device (operations_by config old moment.command) moment.after.device
 
 -- .. in each moment
 abbrev pub CountsEach : Config → Machine → List Moment → Type 0
@@ -98,7 +98,7 @@ CountsEach config old (moment ∷ moments) = CountsMoment config old moment × C
 abbrev pub DoesEach : Config → Machine → List Moment → Type 0
 DoesEach config old [] = Unit {0}
 DoesEach config old (moment ∷ moments) =
-    Counts old.device (operations_by config old moment.command) moment.after.device × DoesEach config moment.after moments
+    CountsOperations old.device (operations_by config old moment.command) moment.after.device × DoesEach config moment.after moments
 
 abbrev pub OperationsAreExact : Type 0
 OperationsAreExact = (config : Config) (old : Machine) (moments : List Moment) → Run config old moments → CountsEach config old moments

@@ -10,7 +10,7 @@ use Rattle.fl_words.specs.Command.{Command}
 use Rattle.fl_words.specs.Medium.{IsImage}
 use Rattle.fl_machine.specs.Determined.{SameRuns}
 use Rattle.fl_machine.specs.Machine.{Machine}
-use Rattle.fl_machine.specs.Operations.{operations_by, programs_in, erases_in, Counts, CountsEach}
+use Rattle.fl_machine.specs.Operations.{operations_by, programs_in, erases_in, CountsOperations, CountsEach}
 use Rattle.fl_machine.specs.Plain.{plain, plain_run}
 use Rattle.fl_machine.specs.Run.{Run}
 use Rattle.fl_machine.specs.Stays.{TablesStay, CommandStays}
@@ -27,7 +27,7 @@ not-risen false P h calm = refl
 -- one step of a machine in which nothing fails
 record IsCalmStep (config : Config) (old : Machine) (m : Moment) : Type 0 where
   whole : m.last ≡ None
-  counts : Counts old.device (operations_by config old m.command) m.after.device
+  counts : CountsOperations old.device (operations_by config old m.command) m.after.device
   same : SameRuns old (m ∷ []) (plain_run config old (m.command ∷ []))
 
 calm-step : (config : Config) (old : Machine) (m : Moment) → Step config old m → m.rose ≡ false → (plain config old m.command).last ≡ None → IsCalmStep config old m
@@ -49,7 +49,7 @@ commands-exact config old command entries entries_now f f_now mounted mounted_no
     let m = e.moment in
     let rose = not-risen m.rose (Rose f.media.faults f_now.media.faults) e.rose calm in
     let s = calm-step config old m e.step rose (subst (λ c. (plain config old c).last ≡ None) (sym e.command_is) whole) in
-    let counts : Counts old.device (operations_by config old command) m.after.device = subst (λ c. Counts old.device (operations_by config old c) m.after.device) e.command_is s.counts in
+    let counts : CountsOperations old.device (operations_by config old command) m.after.device = subst (λ c. CountsOperations old.device (operations_by config old c) m.after.device) e.command_is s.counts in
     let after = e.stands_after in
     let device = e.alike.device in
     let programs : m.after.device.programs ≡ f_now.work.programs = sym (ap (λ (d : Device). d.programs) device) ∙ after.device.programs in
