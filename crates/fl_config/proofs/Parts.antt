@@ -1,18 +1,15 @@
 -- The columns in a word, part by part.
 use Rattle.std.proofs.Common.{◌≡◌, ◌↔◌, ℕ, ◌+◌, ◌<◌, ◌≤◌, Bool, true, false, nat_le, nat_lt, Option, Some, None, Result, Ok, Err, IsOk, OnOk, OnErr, inl, inr, List, [], ◌∷◌, ◌++◌, length, map, take, drop, get_or, append_assoc, append-nil, length-append, arith, refl, sym, ◌∙◌, ap, subst}
-use Rattle.std.specs.Prelude.{◌==◌, is_ok}
-use Rattle.std.specs.List.{slice_split}
+use Rattle.std.specs.Prelude.{is_ok}
 use Rattle.std.proofs.lemmas.List.{at_drop_more, at_drop_all, take-append-le, take_all, length-take-le, length-map}
 use Rattle.std.proofs.lemmas.Bool.{cases_lt, false≢true}
 use Rattle.std.proofs.lemmas.Bool.Decides.{nat_tests}
 use Rattle.fl_model.specs.Record.{Column}
 use Rattle.fl_words.specs.Config.{ColumnType as bad_type, ColumnCount as bad_count, cons_column, column_named, columns_named, columns_in, first_fault}
+use Rattle.fl_words.specs.Parts.{comma_parts}
 use Rattle.fl_schema.specs.declared.column.ColumnType.{ColumnType}
 use Rattle.fl_schema.specs.Types.{column_of}
 use Rattle.fl_config.specs.Lines.{word_faults}
-
-abbrev pub parts_of : List ℕ → List (List ℕ)
-parts_of word = slice_split (λ byte. byte == 44) word
 
 -- the columns so far before the others
 abbrev pub onto : List Column → Option (List Column) → Option (List Column)
@@ -111,19 +108,19 @@ seen-all parts k items fits before le =
 pub word-bad : (word : List ℕ) → columns_in word ≡ None → first_fault (word_faults word) ≡ Some bad_type
 word-bad word none = rw none refl
 
-pub word-good : (word : List ℕ) (k : ℕ) (items : List ColumnType) → (before : Seen (parts_of word) k items true) → length (parts_of word) ≤ k →
+pub word-good : (word : List ℕ) (k : ℕ) (items : List ColumnType) → (before : Seen (comma_parts word) k items true) → length (comma_parts word) ≤ k →
     (columns_in word ≡ Some (map column_of items)) × (first_fault (word_faults word) ≡ None)
 word-good word k items before le =
     let few : length before.seen ≤ 8 = grind (arith, nat_tests, before.fits_is) in
     let all : items ≡ before.seen = before.kept ∙ take-short before.seen few in
-    let is : columns_in word ≡ Some (map column_of before.seen) = seen-all (parts_of word) k items true before le in
+    let is : columns_in word ≡ Some (map column_of before.seen) = seen-all (comma_parts word) k items true before le in
     let short : nat_lt 8 (length (map column_of before.seen)) ≡ false = grind (arith, nat_tests, few, length-map before.seen column_of) in
     (is ∙ ap (λ (l : List ColumnType). Some (map column_of l)) (sym all), rw is (rw short refl))
 
-pub word-long : (word : List ℕ) (k : ℕ) (items : List ColumnType) → (before : Seen (parts_of word) k items false) → length (parts_of word) ≤ k →
+pub word-long : (word : List ℕ) (k : ℕ) (items : List ColumnType) → (before : Seen (comma_parts word) k items false) → length (comma_parts word) ≤ k →
     first_fault (word_faults word) ≡ Some bad_count
 word-long word k items before le =
-    let is : columns_in word ≡ Some (map column_of before.seen) = seen-all (parts_of word) k items false before le in
+    let is : columns_in word ≡ Some (map column_of before.seen) = seen-all (comma_parts word) k items false before le in
     let long : nat_lt 8 (length (map column_of before.seen)) ≡ true = grind (arith, nat_tests, before.fits_is, length-map before.seen column_of) in
     rw is (rw long refl)
 

@@ -11,10 +11,11 @@ use Rattle.csv.specs.Machine.{next_record}
 use Rattle.csv.specs.Reading.{default_config, strip_bom}
 use Rattle.csv.specs.declared.parser.State.TheVariants as st
 use Rattle.csv.proofs.RoundTrip.{record-same, start-same}
+use Rattle.fl_words.specs.Parts.{comma_parts}
 use Rattle.fl_csv.specs.declared.quotes.Place.{Place}
 use Rattle.fl_csv.specs.declared.quotes.Place.TheVariants.{Edge, Bare, Quoted}
 use Rattle.fl_csv.specs.Laws.{BareLines}
-use Rattle.fl_csv.specs.Lines.{is_bare, is_between, line_fields, parts_of, place_after, place_outside, stands_alone}
+use Rattle.fl_csv.specs.Lines.{is_bare, is_between, line_fields, place_after, place_outside, stands_alone}
 use Rattle.fl_csv.specs.Text.{joined}
 use Rattle.fl_csv.proofs.Plain.{IsPlain, ArePlain}
 use Rattle.fl_csv.proofs.CsvRecords.{empty-none, one-record, reached-one}
@@ -53,7 +54,7 @@ begun-more : (field : List ℕ) (byte : ℕ) (parts : List (List ℕ)) → begun
 begun-more field byte [] = refl
 begun-more field byte (part ∷ parts) = ap (λ l. l ∷ parts) (append_assoc field (byte ∷ []) part)
 
-some-part : (bytes : List ℕ) → 0 < length (parts_of bytes)
+some-part : (bytes : List ℕ) → 0 < length (comma_parts bytes)
 some-part bytes = omega (arith, length-slice_split (λ byte. eqb byte 44) bytes)
 
 from-start : (fields : List (List ℕ)) (bytes : List ℕ) → AreAlone bytes
@@ -63,16 +64,16 @@ from-start fields [] h = refl
 from-start fields (byte ∷ bytes) h = start-same fields [] byte bytes (alone byte (and_parts _ _ h).0).0
 
 in-field : (bytes : List ℕ) (fields : List (List ℕ)) (field : List ℕ) → AreAlone bytes
-    → next_record default_config st.InField fields field bytes ≡ Some (fields ++ begun field (parts_of bytes), st.StartRecord, [])
+    → next_record default_config st.InField fields field bytes ≡ Some (fields ++ begun field (comma_parts bytes), st.StartRecord, [])
 unfolding next_record
 in-field [] fields field h = rw (append-nil field) refl
 in-field (byte ∷ bytes) fields field h = by (eqb byte 44) refl (λ fs f. in-field bytes fs f (and_parts _ _ h).1)
   where
     by : (t : Bool) → eqb byte 44 ≡ t
-        → ((fs : List (List ℕ)) (f : List ℕ) → next_record default_config st.InField fs f bytes ≡ Some (fs ++ begun f (parts_of bytes), st.StartRecord, []))
-        → next_record default_config st.InField fields field (byte ∷ bytes) ≡ Some (fields ++ begun field (parts_of (byte ∷ bytes)), st.StartRecord, [])
+        → ((fs : List (List ℕ)) (f : List ℕ) → next_record default_config st.InField fs f bytes ≡ Some (fs ++ begun f (comma_parts bytes), st.StartRecord, []))
+        → next_record default_config st.InField fields field (byte ∷ bytes) ≡ Some (fields ++ begun field (comma_parts (byte ∷ bytes)), st.StartRecord, [])
     by true e more =
-        let parts = parts_of bytes in
+        let parts = comma_parts bytes in
         rw (e, append-nil field)
         (from-start (fields ++ field ∷ []) bytes (and_parts _ _ h).1
         ∙ more (fields ++ field ∷ []) []
@@ -82,14 +83,14 @@ in-field (byte ∷ bytes) fields field h = by (eqb byte 44) refl (λ fs f. in-fi
         let a = alone byte (and_parts _ _ h).0 in
         rw (e, a.1, a.2)
         (more fields (field ++ byte ∷ [])
-        ∙ ap (λ (l : List (List ℕ)). Some (fields ++ l, st.StartRecord, [])) (begun-more field byte (parts_of bytes)))
+        ∙ ap (λ (l : List (List ℕ)). Some (fields ++ l, st.StartRecord, [])) (begun-more field byte (comma_parts bytes)))
 
 from-record : (byte : ℕ) (bytes : List ℕ) → AreAlone (byte ∷ bytes)
-    → next_record default_config st.StartRecord [] [] (byte ∷ bytes) ≡ Some (parts_of (byte ∷ bytes), st.StartRecord, [])
+    → next_record default_config st.StartRecord [] [] (byte ∷ bytes) ≡ Some (comma_parts (byte ∷ bytes), st.StartRecord, [])
 from-record byte bytes h =
     let a = alone byte (and_parts _ _ h).0 in
     record-same [] [] byte bytes a.1 a.2 ∙ from-start [] (byte ∷ bytes) h ∙ in-field (byte ∷ bytes) [] [] h
-    ∙ ap (λ (l : List (List ℕ)). Some (l, st.StartRecord, [])) (begun-none (parts_of (byte ∷ bytes)) (some-part (byte ∷ bytes)))
+    ∙ ap (λ (l : List (List ℕ)). Some (l, st.StartRecord, [])) (begun-none (comma_parts (byte ∷ bytes)) (some-part (byte ∷ bytes)))
 
 no-mark : (byte : ℕ) (bytes : List ℕ) → eqb byte 239 ≡ false → strip_bom (byte ∷ bytes) ≡ byte ∷ bytes
 unfolding strip_bom
@@ -119,7 +120,7 @@ bare-line (byte ∷ bytes) h =
     let parts = and_parts (not (eqb byte 239)) (list_all stands_alone (byte ∷ bytes)) h in
     let same = no-mark byte bytes (not-true (eqb byte 239) parts.0) in
     let shut = closed (byte ∷ bytes) Edge refl parts.1 in
-    let read = one-record (byte ∷ bytes) (parts_of (byte ∷ bytes)) st.StartRecord [] (reached-one _ _ _ _ (from-record byte bytes parts.1)) empty-none in
+    let read = one-record (byte ∷ bytes) (comma_parts (byte ∷ bytes)) st.StartRecord [] (reached-one _ _ _ _ (from-record byte bytes parts.1)) empty-none in
     rw (same, shut) read
 
 pub bare-is : (line : List ℕ) (are : Bool) → are ≡ list_all stands_alone line → 0 < length line → get_or line 0 0 ≢ 239 → are ≡ is_bare line
@@ -152,8 +153,8 @@ no-comma (byte ∷ bytes) h =
     let other : eqb byte 44 ≡ false = grind (arith, nat_tests, h.0) in
     All-cons (λ byte. eqb byte 44 ≡ false) byte bytes other (no-comma bytes h.1)
 
-parts-joined : (field : List ℕ) (fields : List (List ℕ)) → IsPlain field → ArePlain fields → parts_of (field ++ behind fields) ≡ field ∷ fields
-parts-joined field [] h hs = ap parts_of (append-nil field) ∙ slice_split_none (λ byte. eqb byte 44) field (no-comma field h)
+parts-joined : (field : List ℕ) (fields : List (List ℕ)) → IsPlain field → ArePlain fields → comma_parts (field ++ behind fields) ≡ field ∷ fields
+parts-joined field [] h hs = ap comma_parts (append-nil field) ∙ slice_split_none (λ byte. eqb byte 44) field (no-comma field h)
 parts-joined field (next ∷ fields) h hs =
     slice_split_at (λ byte. eqb byte 44) field 44 (next ++ behind fields) (no-comma field h) refl
     ∙ ap (λ l. field ∷ l) (parts-joined next fields hs.0 hs.1)

@@ -6,8 +6,9 @@ use Rattle.csv.specs.Reading.{default_config, strip_bom}
 use Rattle.csv.specs.declared.parser.State.{State}
 use Rattle.csv.specs.declared.parser.State.TheVariants as st
 use Rattle.fl_model.specs.Record.{Record}
+use Rattle.fl_words.specs.Parts.{comma_parts}
 use Rattle.fl_csv.specs.Text.{Blob, Absent, Nothing, Bytes, Entry, entry_fields, header_fields, joined, csv_text}
-use Rattle.fl_csv.specs.Lines.{IsHeader, is_bare, is_open, line_fields, line_put, parts_of, text_puts}
+use Rattle.fl_csv.specs.Lines.{IsHeader, is_bare, is_open, line_fields, line_put, text_puts}
 use Rattle.fl_csv.specs.declared.record.GoneBlobs.{GoneBlobs}
 
 -- a number of 64 bits with a sign
@@ -67,4 +68,4 @@ QuotesAsCsv = (line : List ℕ) → is_open line ≡ is_quoted (fold (λ state b
 
 -- what stands between the commas of a bare line is the one record that the crate csv reads
 abbrev pub BareLines : Type 0
-BareLines = (line : List ℕ) → is_bare line ≡ true → line_fields line ≡ Some (parts_of line)
+BareLines = (line : List ℕ) → is_bare line ≡ true → line_fields line ≡ Some (comma_parts line)

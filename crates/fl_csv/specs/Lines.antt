@@ -1,6 +1,6 @@
 -- What a line means: the record that it is, or why it is none.
 use Rattle.std.specs.Prelude.{◌≡◌, ℕ, ◌+◌, ℤ, Bool, true, false, not, ◌==◌, ◌&&◌, ◌||◌, Option, Some, None, Result, Ok, Err, List, [], ◌∷◌, length, take, drop, get_or, map, codes, if◌then◌else◌}
-use Rattle.std.specs.List.{fold, list_all, slice_split}
+use Rattle.std.specs.List.{fold, list_all}
 use Rattle.fl_model.specs.Record.{Record, bytes_equal}
 use Rattle.fl_words.specs.Grammar as grammar
 use Rattle.csv.specs.Reading.{default_config, records, strip_bom}
@@ -45,9 +45,6 @@ stands_alone byte = not ((byte == 34) || (byte == 13) || (byte == 10))
 abbrev pub is_bare : List ℕ → Bool
 is_bare [] = false
 is_bare (byte ∷ bytes) = not (byte == 239) && list_all stands_alone (byte ∷ bytes)
-
-abbrev pub parts_of : List ℕ → List (List ℕ)
-parts_of line = slice_split (λ byte. byte == 44) line
 
 infixl 10 ◌>>=◌
 abbrev pub ◌>>=◌ : {A B : Type 0} → Result A CsvRefusal → (A → Result B CsvRefusal) → Result B CsvRefusal

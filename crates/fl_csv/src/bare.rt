@@ -1,6 +1,7 @@
 // Lines without quotes, which are cut at their commas.
 ghost use Rattle.std.specs.Prelude.{◌≡◌};
 ghost use Rattle.std.specs.List.{list_all};
+ghost use Rattle.fl_words.specs.Parts.{comma_parts};
 ghost use Rattle.fl_csv.specs.Lines as lines;
 ghost use Rattle.fl_csv.specs.Views.{AreFields};
 
@@ -34,7 +35,7 @@ pub(crate) fn is_bare(line: &[u8]) -> bool
 
 /// What stands between the commas of a line, where these aren't more fields than any record has.
 pub(crate) fn bare_fields(line: &[u8]) -> Option<ArrayVec<&[u8], MOST_FIELDS>>
-    ensures { AreFields result (lines.parts_of line.now) }
+    ensures { AreFields result (comma_parts line.now) }
 {
     let mut fields = ArrayVec::new();
     for field in line.split(|byte| *byte == b',') {

@@ -6,7 +6,7 @@ use Rattle.std.proofs.lemmas.List.Elements.{All-from_recursion}
 use Rattle.std.proofs.lemmas.List.Splits.{slice_split_at, slice_split_none}
 use Rattle.fl_words.specs.Grammar.{words_in, without_return}
 use Rattle.fl_words.specs.Medium.{line_text}
-use Rattle.fl_image.specs.Header.{parts_of}
+use Rattle.fl_words.specs.Parts.{line_parts}
 
 -- each byte comes after the space
 abbrev pub IsVisible : List ℕ → Type 0
@@ -83,10 +83,10 @@ text-return (byte ∷ []) h =
 text-return (byte ∷ next ∷ text) h = ap (λ l. byte ∷ l) (text-return (next ∷ text) h.1)
 
 -- a line and its newline before another text are its first part
-pub line-part : (words : List (List ℕ)) (rest : List ℕ) → AllByRecursion IsWord words → parts_of (line_text words ++ rest) ≡ join_with_byte 32 words ∷ parts_of rest
+pub line-part : (words : List (List ℕ)) (rest : List ℕ) → AllByRecursion IsWord words → line_parts (line_text words ++ rest) ≡ join_with_byte 32 words ∷ line_parts rest
 line-part words rest h =
     let line = join_with_byte 32 words in
-    ap parts_of (append_assoc line (10 ∷ []) rest)
+    ap line_parts (append_assoc line (10 ∷ []) rest)
     ∙ slice_split_at (λ byte. eqb byte 10) line 10 rest (has-no 10 line (all-weaker (λ byte. 32 ≤ byte) (λ byte. eqb byte 10 ≡ false) no-newline line (line-is_text words h))) refl
 
 -- ---- spaces alone
@@ -98,7 +98,7 @@ pub spaces-text : (n : ℕ) → IsText (spaces n)
 spaces-text zero = tt
 spaces-text (suc n) = (omega arith, spaces-text n)
 
-pub spaces-part : (n : ℕ) → parts_of (spaces n) ≡ spaces n ∷ []
+pub spaces-part : (n : ℕ) → line_parts (spaces n) ≡ spaces n ∷ []
 spaces-part n = slice_split_none (λ byte. eqb byte 10) (spaces n) (has-no 10 (spaces n) (all-weaker (λ byte. 32 ≤ byte) (λ byte. eqb byte 10 ≡ false) no-newline (spaces n) (spaces-text n)))
 
 pub spaces-words : (n : ℕ) → words_in (spaces n) ≡ []

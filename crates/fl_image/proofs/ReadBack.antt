@@ -16,9 +16,10 @@ use Rattle.fl_words.specs.Config as words
 use Rattle.fl_words.specs.Config.{ConfigFault, Lines, no_lines, configured, unless, first_fault, device_faults, table_faults, plan_of, columns_in, is_odd_ring, bad_blob_limit, too_large, bad_log}
 use Rattle.fl_words.specs.Grammar.{command_of, words_command, full_index_in, log_word_in, maybe_number, is_name, is_letter, is_digit, words_in}
 use Rattle.fl_words.specs.Medium.{column_name, device_text, table_text}
+use Rattle.fl_words.specs.Parts.{line_parts}
 use Rattle.fl_schema.specs.Types.{column_of}
 use Rattle.fl_config.specs.Whole.{is_whole_of, Makes}
-use Rattle.fl_image.specs.Header.{unless_refused, after_command, after_lines, parts_of, IsAccepted, IsHeaderOf}
+use Rattle.fl_image.specs.Header.{unless_refused, after_command, after_lines, IsAccepted, IsHeaderOf}
 use Rattle.fl_image.proofs.LineWords.{IsWord, IsVisible, line-words, line-is_text, text-return, line-part, spaces-text, spaces-part, spaces-words}
 use Rattle.fl_image.proofs.Numbers.{decimal-number, decimal-signed, decimal-word, signed-word}
 use Rattle.fl_image.proofs.ColumnWords.{named-are_typed, columns-some, names-in, names-word}
@@ -36,9 +37,9 @@ line-command word others h short =
 
 -- .. and the line after it
 line-after : (lines now : Lines) (words : List (List ℕ)) (rest : List ℕ) → AllByRecursion IsWord words → after_command lines (command_of (join_with_byte 32 words)) ≡ Some now →
-    after_lines lines (parts_of ((join_with_byte 32 words ++ 10 ∷ []) ++ rest)) ≡ after_lines now (parts_of rest)
+    after_lines lines (line_parts ((join_with_byte 32 words ++ 10 ∷ []) ++ rest)) ≡ after_lines now (line_parts rest)
 line-after lines now words rest h is =
-    ap (after_lines lines) (line-part words rest h) ∙ ap (option_and_then (λ next. after_lines next (parts_of rest))) is
+    ap (after_lines lines) (line-part words rest h) ∙ ap (option_and_then (λ next. after_lines next (line_parts rest))) is
 
 shorter : (line rest : List ℕ) (most : ℕ) → length ((line ++ 10 ∷ []) ++ rest) ≤ most → (length line ≤ most) × (length rest ≤ most)
 shorter line rest most le =
@@ -61,7 +62,7 @@ device-taken : (geometry : Geometry) → IsDevice geometry → configured no_lin
 device-taken geometry h = ap (λ f. unless f (record { device = Some geometry; plans = [] })) h.passes
 
 device-after : (geometry : Geometry) (rest : List ℕ) → IsDevice geometry → length (device_text geometry ++ rest) ≤ 4096 →
-    after_lines no_lines (parts_of (device_text geometry ++ rest)) ≡ after_lines (record { device = Some geometry; plans = [] }) (parts_of rest)
+    after_lines no_lines (line_parts (device_text geometry ++ rest)) ≡ after_lines (record { device = Some geometry; plans = [] }) (line_parts rest)
 device-after geometry rest h le =
     let are : AllByRecursion IsWord (device-words geometry) = (device-word, (decimal-word geometry.page h.page, (decimal-word geometry.block h.block, tt))) in
     let line = join_with_byte 32 (device-words geometry) in
@@ -308,36 +309,36 @@ module _ (geometry : Geometry) (before : List Plan) (line : TableLine) (read : I
   )
 
   table-after-line : (rest : List ℕ) → length (table_text plan ++ rest) ≤ 4096 →
-      after_lines (record { device = Some geometry; plans = before }) (parts_of (table_text plan ++ rest)) ≡ after_lines (record { device = Some geometry; plans = before ++ plan ∷ [] }) (parts_of rest)
+      after_lines (record { device = Some geometry; plans = before }) (line_parts (table_text plan ++ rest)) ≡ after_lines (record { device = Some geometry; plans = before ++ plan ∷ [] }) (line_parts rest)
   table-after-line rest le =
       let lines : Lines = record { device = Some geometry; plans = before } in
       let is = line-command (codes "table") (table-others plan) are-words (shorter (join_with_byte 32 (table-words plan)) rest 4096 le).0 ∙ table-read in
       line-after lines (record { device = Some geometry; plans = before ++ plan ∷ [] }) (table-words plan) rest are-words (ap (after_command lines) is ∙ ap unless_refused table-taken)
 
 table-after : (geometry : Geometry) (before : List Plan) (of : Plan) (rest : List ℕ) → IsTaken geometry before of → length (table_text of ++ rest) ≤ 4096 →
-    after_lines (record { device = Some geometry; plans = before }) (parts_of (table_text of ++ rest)) ≡ after_lines (record { device = Some geometry; plans = before ++ of ∷ [] }) (parts_of rest)
+    after_lines (record { device = Some geometry; plans = before }) (line_parts (table_text of ++ rest)) ≡ after_lines (record { device = Some geometry; plans = before ++ of ∷ [] }) (line_parts rest)
 table-after geometry before of rest h =
     subst
     (λ (p : Plan). length (table_text p ++ rest) ≤ 4096 →
-    after_lines (record { device = Some geometry; plans = before }) (parts_of (table_text p ++ rest)) ≡ after_lines (record { device = Some geometry; plans = before ++ p ∷ [] }) (parts_of rest))
+    after_lines (record { device = Some geometry; plans = before }) (line_parts (table_text p ++ rest)) ≡ after_lines (record { device = Some geometry; plans = before ++ p ∷ [] }) (line_parts rest))
     h.plan_is
     (table-after-line geometry before h.line h.read h.passes rest)
 
 tables-after : (geometry : Geometry) (before plans : List Plan) (rest : List ℕ) → AreTaken geometry before plans → length (flat_map table_text plans ++ rest) ≤ 4096 →
-    after_lines (record { device = Some geometry; plans = before }) (parts_of (flat_map table_text plans ++ rest)) ≡ after_lines (record { device = Some geometry; plans = before ++ plans }) (parts_of rest)
-tables-after geometry before [] rest h le = ap (λ l. after_lines (record { device = Some geometry; plans = l }) (parts_of rest)) (sym (append-nil before))
+    after_lines (record { device = Some geometry; plans = before }) (line_parts (flat_map table_text plans ++ rest)) ≡ after_lines (record { device = Some geometry; plans = before ++ plans }) (line_parts rest)
+tables-after geometry before [] rest h le = ap (λ l. after_lines (record { device = Some geometry; plans = l }) (line_parts rest)) (sym (append-nil before))
 tables-after geometry before (plan ∷ plans) rest h le =
     let others = flat_map table_text plans ++ rest in
     let split = append_assoc (table_text plan) (flat_map table_text plans) rest in
     let size : length (table_text plan ++ others) ≤ 4096 = subst (λ (l : List ℕ). length l ≤ 4096) split le in
-    ap (λ l. after_lines (record { device = Some geometry; plans = before }) (parts_of l)) split
+    ap (λ l. after_lines (record { device = Some geometry; plans = before }) (line_parts l)) split
     ∙ table-after geometry before plan others h.0 size
     ∙ tables-after geometry (before ++ plan ∷ []) plans rest h.1 (shorter (join_with_byte 32 (table-words plan)) others 4096 size).1
-    ∙ ap (λ l. after_lines (record { device = Some geometry; plans = l }) (parts_of rest)) (append_assoc before (plan ∷ []) plans)
+    ∙ ap (λ l. after_lines (record { device = Some geometry; plans = l }) (line_parts rest)) (append_assoc before (plan ∷ []) plans)
 
 -- ---- the spaces behind the lines, and all of it
 
-spaces-after : (lines : Lines) (n : ℕ) → n ≤ 4096 → after_lines lines (parts_of (replicate n 32)) ≡ Some lines
+spaces-after : (lines : Lines) (n : ℕ) → n ≤ 4096 → after_lines lines (line_parts (replicate n 32)) ≡ Some lines
 spaces-after lines n le =
     let fits : nat_lt 4096 (length {A = ℕ} (replicate n 32)) ≡ false = grind (arith, nat_tests, le, length-replicate {A = ℕ} n 32) in
     let nothing : command_of (replicate n 32) ≡ Ok command.Nothing =
@@ -345,7 +346,7 @@ spaces-after lines n le =
     ap (after_lines lines) (spaces-part n) ∙ ap (option_and_then (λ next. after_lines next [])) (ap (after_command lines) nothing)
 
 whole-read : (geometry : Geometry) (plans : List Plan) (n : ℕ) → IsDevice geometry → AreTaken geometry [] plans → length ((device_text geometry ++ flat_map table_text plans) ++ replicate n 32) ≤ 4096 →
-    after_lines no_lines (parts_of ((device_text geometry ++ flat_map table_text plans) ++ replicate n 32)) ≡ Some (record { device = Some geometry; plans = plans })
+    after_lines no_lines (line_parts ((device_text geometry ++ flat_map table_text plans) ++ replicate n 32)) ≡ Some (record { device = Some geometry; plans = plans })
 whole-read geometry plans n device taken le =
     let spaces : List ℕ = replicate n 32 in
     let others = flat_map table_text plans ++ spaces in
@@ -353,28 +354,28 @@ whole-read geometry plans n device taken le =
     let size : length (device_text geometry ++ others) ≤ 4096 = subst (λ (l : List ℕ). length l ≤ 4096) split le in
     let behind = (shorter (join_with_byte 32 (device-words geometry)) others 4096 size).1 in
     let few : n ≤ 4096 = omega (arith, behind, length-append (flat_map table_text plans) spaces, length-replicate {A = ℕ} n 32) in
-    ap (λ l. after_lines no_lines (parts_of l)) split
+    ap (λ l. after_lines no_lines (line_parts l)) split
     ∙ device-after geometry others device size
     ∙ tables-after geometry [] plans spaces taken behind
     ∙ spaces-after (record { device = Some geometry; plans = plans }) n few
 
 -- the lines in the header of a configuration that is accepted make it
-pub header-read : (bytes : List ℕ) (lines : Lines) → length bytes ≤ 4096 → IsAccepted lines → IsHeaderOf bytes lines → after_lines no_lines (parts_of bytes) ≡ Some lines
+pub header-read : (bytes : List ℕ) (lines : Lines) → length bytes ≤ 4096 → IsAccepted lines → IsHeaderOf bytes lines → after_lines no_lines (line_parts bytes) ≡ Some lines
 header-read bytes lines short accepted is = by lines.device lines.plans refl refl (accepted-stands lines accepted) is.whole
   where
-    by : (device : Option Geometry) (plans : List Plan) → lines.device ≡ device → lines.plans ≡ plans → Stands device plans → IsTrue (is_whole_of device plans) → after_lines no_lines (parts_of bytes) ≡ Some lines
+    by : (device : Option Geometry) (plans : List Plan) → lines.device ≡ device → lines.plans ≡ plans → Stands device plans → IsTrue (is_whole_of device plans) → after_lines no_lines (line_parts bytes) ≡ Some lines
     by None plans d p stands whole = absurd (search (rules, whole))
     by (Some geometry) [] d p stands whole = absurd (search (rules, whole))
     by (Some geometry) (plan ∷ plans) d p stands whole =
         let config : Config = record { geometry = geometry; plans = plan ∷ plans; knots = 0 } in
         let makes : Makes lines config = rw (d, p) refl in
         let text = is.text config makes in
-        ap (λ l. after_lines no_lines (parts_of l)) text
+        ap (λ l. after_lines no_lines (line_parts l)) text
         ∙ whole-read geometry (plan ∷ plans) _ stands.0 stands.1 (subst (λ (l : List ℕ). length l ≤ 4096) text short)
         ∙ ap (λ l. Some l) (rw (d, p) refl)
 
 -- .. so that what the lines in the bytes make is the only one that has them as its header
-pub only-header : (bytes : List ℕ) (found : Option Lines) (lines : Lines) → length bytes ≤ 4096 → found ≡ after_lines no_lines (parts_of bytes) → IsAccepted lines → IsHeaderOf bytes lines → found ≡ Some lines
+pub only-header : (bytes : List ℕ) (found : Option Lines) (lines : Lines) → length bytes ≤ 4096 → found ≡ after_lines no_lines (line_parts bytes) → IsAccepted lines → IsHeaderOf bytes lines → found ≡ Some lines
 only-header bytes found lines short is accepted head = is ∙ header-read bytes lines short accepted head
 
 -- two configurations that are accepted have two headers

@@ -1,6 +1,5 @@
 -- The configuration that the first bytes of an image tell.
-use Rattle.std.specs.Prelude.{◌≡◌, ℕ, ◌==◌, IsTrue, Option, Some, None, Result, Ok, Err, List, [], ◌∷◌}
-use Rattle.std.specs.List.{slice_split}
+use Rattle.std.specs.Prelude.{◌≡◌, ℕ, IsTrue, Option, Some, None, Result, Ok, Err, List, [], ◌∷◌}
 use Rattle.std.specs.Option.{option_and_then}
 use Rattle.fl_model.specs.Record.{Config}
 use Rattle.fl_words.specs.Command.{Command}
@@ -32,10 +31,6 @@ pub record IsMade (config : Config) : Type 0 where
   pub lines : Lines
   pub accepted : IsAccepted lines
   pub makes : Makes lines config
-
--- the parts of a text between newlines
-abbrev pub parts_of : List ℕ → List (List ℕ)
-parts_of text = slice_split (λ byte. byte == 10) text
 
 -- the bytes are the header of the images of a whole configuration
 pub record IsHeaderOf (bytes : List ℕ) (lines : Lines) : Type 0 where

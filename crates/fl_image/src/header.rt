@@ -3,8 +3,9 @@ ghost use Rattle.std.specs.Prelude.{◌≡◌, length, IsTrue, IfSome, IfNone, S
 ghost use Rattle.std.specs.Bool.{OnTrue, OnFalse};
 ghost use Rattle.fl_words.specs.Config.{Lines, no_lines};
 ghost use Rattle.fl_words.specs.Grammar.{command_of};
+ghost use Rattle.fl_words.specs.Parts.{line_parts};
 ghost use Rattle.fl_config.specs.Whole.{is_whole};
-ghost use Rattle.fl_image.specs.Header.{after_command, after_lines, parts_of, IsAccepted, IsHeaderOf};
+ghost use Rattle.fl_image.specs.Header.{after_command, after_lines, IsAccepted, IsHeaderOf};
 
 use fl_config::Config;
 use fl_script::{LineRoom, read_line};
@@ -25,7 +26,7 @@ fn take_line(config: &mut Config, line: &[u8], room: &mut LineRoom) -> bool
 
 /// The configuration that the lines of a text make, if each of them is a command and none is refused.
 pub fn config_of_lines(text: &[u8], room: &mut LineRoom) -> Option<Config>
-    ensures { result ≡ after_lines no_lines (parts_of text.now) }
+    ensures { result ≡ after_lines no_lines (line_parts text.now) }
 {
     let mut config = Config::new();
     for line in text.split(|byte| *byte == b'\n') {

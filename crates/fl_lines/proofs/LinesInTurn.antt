@@ -8,11 +8,12 @@ use Rattle.std.specs.List.{onto_first, last_or}
 use Rattle.std.proofs.lemmas.List.Elements.{All-head, All-tail}
 use Rattle.std.proofs.lemmas.List.Splits.{slice_split-cons_no}
 use Rattle.fl_words.specs.Grammar.{lines_of, no_empty_last}
+use Rattle.fl_words.specs.Parts.{line_parts}
 use Rattle.fl_lines.specs.Given.{Given}
 use Rattle.fl_lines.specs.Taken.{HasTaken, TakesWithin, begin_behind}
 use Rattle.fl_lines.specs.Stream.{LinesState, TakesAhead}
 use Rattle.fl_lines.specs.declared.lines.LinesFault.TheVariants.{Long}
-use Rattle.fl_lines.specs.Texts.{parts_of, all_but_last, whole_lines, rest_of, long_rest, lines_within}
+use Rattle.fl_lines.specs.Texts.{all_but_last, whole_lines, rest_of, long_rest, lines_within}
 use Rattle.fl_lines.proofs.Parts.{OneLine, within-line, whole-line, whole-rest, rest-line, rest-rest, lines-rest, parts-some, same_test}
 
 -- the next line begins behind one more
@@ -196,8 +197,8 @@ first-none : (parts : List (List ℕ)) → 0 < length parts → BeginsWith [] pa
 first-none [] h = absurd (omega arith)
 first-none (part ∷ parts) h = record { first = part; others = parts; parts_are = refl }
 
-first-part : (front rest : List ℕ) → OneLine front → BeginsWith front (parts_of (front ++ rest))
-first-part [] rest h = first-none (parts_of rest) (parts-some rest)
+first-part : (front rest : List ℕ) → OneLine front → BeginsWith front (line_parts (front ++ rest))
+first-part [] rest h = first-none (line_parts rest) (parts-some rest)
 first-part (byte ∷ bytes) rest h =
     let b = first-part bytes rest (All-tail (λ b. (b == 10) ≡ false) byte bytes h) in
     record {
@@ -239,14 +240,14 @@ long_cases most rest front others true e h long few =
     ap (take most) e
     ∙ (ap (λ n. take n (front ++ others)) (let k : most ≡ length front + (most - length front) = omega arith in k) ∙ take-append-add front others (most - length front)) in
     let b = first-part front (take (most - length front) others) h in
-    let parts : parts_of (take most rest) ≡ (front ++ b.first) ∷ b.others = ap parts_of cut ∙ b.parts_are in
+    let parts : line_parts (take most rest) ≡ (front ++ b.first) ∷ b.others = ap line_parts cut ∙ b.parts_are in
     subst
     (λ ps. FirstLong (all_but_last ps ++ (if nat_lt 4096 (length (unwrap_or (last_or None ps) [])) then unwrap_or (last_or None ps) [] ∷ [] else [])))
     (sym parts)
     (whole-long (front ++ b.first) b.others (omega (arith, length-append front b.first)))
 long_cases most rest front others false e h long few =
     let b = first-part front others h in
-    let parts : parts_of rest ≡ (front ++ b.first) ∷ b.others = ap parts_of e ∙ b.parts_are in
+    let parts : line_parts rest ≡ (front ++ b.first) ∷ b.others = ap line_parts e ∙ b.parts_are in
     subst (λ ps. FirstLong (no_empty_last ps)) (sym parts) (lines-long (front ++ b.first) b.others (omega (arith, length-append front b.first)))
 
 pub given-too_long : (most : ℕ) (text : List ℕ) (given : List (List ℕ)) (closed : Bool) (most_now : ℕ) (rest front others : List ℕ) →

@@ -6,19 +6,20 @@ use Rattle.std.proofs.lemmas.List.Splits.{slice_split_at, slice_split_none, leng
 use Rattle.std.proofs.lemmas.Bool.{cases_lt, lt-ltb, le-ltb, ne_eqb}
 use Rattle.std.proofs.Math.Seq.{take-append-add}
 use Rattle.fl_words.specs.Grammar.{no_empty_last, lines_of}
-use Rattle.fl_lines.specs.Texts.{parts_of, all_but_last, whole_lines, rest_of, long_rest, lines_within}
+use Rattle.fl_words.specs.Parts.{line_parts}
+use Rattle.fl_lines.specs.Texts.{all_but_last, whole_lines, rest_of, long_rest, lines_within}
 
 -- a text without a newline
 abbrev pub OneLine : List ℕ → Type 0
 OneLine line = All (λ byte. (byte == 10) ≡ false) line
 
-pub parts-line : (line rest : List ℕ) → OneLine line → parts_of (line ++ 10 ∷ rest) ≡ line ∷ parts_of rest
+pub parts-line : (line rest : List ℕ) → OneLine line → line_parts (line ++ 10 ∷ rest) ≡ line ∷ line_parts rest
 parts-line line rest h = slice_split_at (λ byte. byte == 10) line 10 rest h refl
 
-pub parts-rest : (line : List ℕ) → OneLine line → parts_of line ≡ line ∷ []
+pub parts-rest : (line : List ℕ) → OneLine line → line_parts line ≡ line ∷ []
 parts-rest line h = slice_split_none (λ byte. byte == 10) line h
 
-pub parts-some : (text : List ℕ) → 0 < length (parts_of text)
+pub parts-some : (text : List ℕ) → 0 < length (line_parts text)
 parts-some text = omega (arith, length-slice_split (λ byte. byte == 10) text)
 
 but-last : (line : List ℕ) (parts : List (List ℕ)) → 0 < length parts → all_but_last (line ∷ parts) ≡ line ∷ all_but_last parts
@@ -34,20 +35,20 @@ no_empty-last line [] h = absurd (omega arith)
 no_empty-last line (part ∷ parts) h = refl
 
 pub whole-line : (line rest : List ℕ) → OneLine line → whole_lines (line ++ 10 ∷ rest) ≡ line ∷ whole_lines rest
-whole-line line rest h = ap all_but_last (parts-line line rest h) ∙ but-last line (parts_of rest) (parts-some rest)
+whole-line line rest h = ap all_but_last (parts-line line rest h) ∙ but-last line (line_parts rest) (parts-some rest)
 
 pub whole-rest : (line : List ℕ) → OneLine line → whole_lines line ≡ []
 whole-rest line h = ap all_but_last (parts-rest line h)
 
 pub rest-line : (line rest : List ℕ) → OneLine line → rest_of (line ++ 10 ∷ rest) ≡ rest_of rest
 rest-line line rest h =
-    ap (λ o. unwrap_or o []) (ap (last_or None) (parts-line line rest h) ∙ last-of line (parts_of rest) (parts-some rest))
+    ap (λ o. unwrap_or o []) (ap (last_or None) (parts-line line rest h) ∙ last-of line (line_parts rest) (parts-some rest))
 
 pub rest-rest : (line : List ℕ) → OneLine line → rest_of line ≡ line
 rest-rest line h = ap (λ parts. unwrap_or (last_or None parts) []) (parts-rest line h)
 
 pub lines-line : (line rest : List ℕ) → OneLine line → lines_of (line ++ 10 ∷ rest) ≡ line ∷ lines_of rest
-lines-line line rest h = ap no_empty_last (parts-line line rest h) ∙ no_empty-last line (parts_of rest) (parts-some rest)
+lines-line line rest h = ap no_empty_last (parts-line line rest h) ∙ no_empty-last line (line_parts rest) (parts-some rest)
 
 pub lines-rest : (line : List ℕ) → OneLine line → 0 < length line → lines_of line ≡ line ∷ []
 lines-rest line h some =

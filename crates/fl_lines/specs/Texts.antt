@@ -1,15 +1,12 @@
 -- The lines that are read of a text, however long it is.
-use Rattle.std.specs.Prelude.{ℕ, ◌^◌, Bool, nat_lt, ◌==◌, unwrap_or, None, List, [], ◌∷◌, ◌++◌, length, take, if◌then◌else◌}
-use Rattle.std.specs.List.{slice_split, last_or}
+use Rattle.std.specs.Prelude.{ℕ, ◌^◌, Bool, nat_lt, unwrap_or, None, List, [], ◌∷◌, ◌++◌, length, take, if◌then◌else◌}
+use Rattle.std.specs.List.{last_or}
 use Rattle.fl_words.specs.Grammar.{lines_of}
+use Rattle.fl_words.specs.Parts.{line_parts}
 
 -- the bytes of a text that are read at most
 abbrev pub most_bytes : ℕ
 most_bytes = 2 ^ 24
-
--- the parts between newlines
-abbrev pub parts_of : List ℕ → List (List ℕ)
-parts_of text = slice_split (λ byte. byte == 10) text
 
 -- all but the last
 abbrev pub all_but_last : List (List ℕ) → List (List ℕ)
@@ -19,10 +16,10 @@ all_but_last (line ∷ next ∷ lines) = line ∷ all_but_last (next ∷ lines)
 
 -- the lines that end with a newline, and the bytes behind them
 abbrev pub whole_lines : List ℕ → List (List ℕ)
-whole_lines text = all_but_last (parts_of text)
+whole_lines text = all_but_last (line_parts text)
 
 abbrev pub rest_of : List ℕ → List ℕ
-rest_of text = unwrap_or (last_or None (parts_of text)) []
+rest_of text = unwrap_or (last_or None (line_parts text)) []
 
 -- the rest, where it is too long for a line
 abbrev pub long_rest : List ℕ → List (List ℕ)

@@ -1,11 +1,12 @@
 -- The configuration of an image that may be damaged.
 use Rattle.std.specs.Prelude.{◌≡◌, ◌⊎◌, ℕ, ◌<◌, IsTrue, Option, Some, IfSome, List, length}
 use Rattle.fl_config.specs.Whole.{is_whole}
-use Rattle.fl_image.specs.Header.{after_lines, parts_of, IsAccepted}
+use Rattle.fl_image.specs.Header.{after_lines, IsAccepted}
 use Rattle.fl_image.specs.Image.{IsImageOf}
 use Rattle.fl_image.specs.declared.status.ToolStatus.{ToolStatus}
 use Rattle.fl_image.specs.declared.status.ToolStatus.TheVariants.{Done, InputRead, OutWrite, InputLong, NoMemory, NotImage, Device, BadImage, NoTable, BadInput, Unsound}
 use Rattle.fl_words.specs.Config.{Lines, no_lines}
+use Rattle.fl_words.specs.Parts.{line_parts}
 
 -- the bytes are no image: their header is that of no configuration, or their length isn't that one's
 abbrev pub IsNoImage : List ℕ → Type 0
@@ -13,7 +14,7 @@ IsNoImage bytes = (lines : Lines) → IsAccepted lines → IsImageOf bytes lines
 
 -- the lines of a text are the commands of a configuration, none of which is refused, and with a device and a table at least
 pub record IsGiven (text : List ℕ) (lines : Lines) : Type 0 where
-  pub lines_are : after_lines no_lines (parts_of text) ≡ Some lines
+  pub lines_are : after_lines no_lines (line_parts text) ≡ Some lines
   pub whole : IsTrue (is_whole lines)
 
 abbrev pub IsNoneGiven : List ℕ → Type 0

@@ -1,10 +1,11 @@
 -- Lists of numbers, read word by word.
-use Rattle.std.proofs.Common.{◌≡◌, ℕ, ℤ, ◌+◌, ◌<◌, ◌≤◌, Bool, true, false, ◌&&◌, nat_le, if◌then◌else◌, List, [], ◌∷◌, ◌++◌, length, map, drop, get_or, Option, Some, None, Result, Ok, Err, refl, sym, ap, ◌∙◌, arith, cond, zero-add, append_assoc, append-nil, length-append, Bor, ◌==◌, eqb, eqb-true}
-use Rattle.std.specs.List.{list_all, slice_split}
+use Rattle.std.proofs.Common.{◌≡◌, ℕ, ℤ, ◌+◌, ◌<◌, ◌≤◌, Bool, true, false, ◌&&◌, nat_le, if◌then◌else◌, List, [], ◌∷◌, ◌++◌, length, map, drop, get_or, Option, Some, None, Result, Ok, Err, refl, sym, ap, ◌∙◌, arith, cond, zero-add, append_assoc, append-nil, length-append, Bor, eqb, eqb-true}
+use Rattle.std.specs.List.{list_all}
 use Rattle.std.proofs.lemmas.List.{at_drop_more, at_drop_all}
 use Rattle.std.proofs.lemmas.Bool.Decides.{nat_tests}
 use Rattle.fl_script.specs.Lines.{is_column}
 use Rattle.fl_words.specs.Grammar.{LineFault, Number, signed, each_signed, are_digits, value_of, number, columns_of, ◌>>=◌}
+use Rattle.fl_words.specs.Parts.{comma_parts}
 
 -- the numbers so far, and those of the other words
 abbrev pub each_from : List ℤ → List (Bor (List ℕ)) → Result (List ℤ) LineFault
@@ -35,16 +36,12 @@ each_bad words i d done lt h = at_drop_more (each_from done) words i d lt ∙ rw
 pub each_ends : (words : List (Bor (List ℕ))) (i : ℕ) (done : List ℤ) → length words ≤ i → each_from done (drop i words) ≡ Ok done
 each_ends words i done h = at_drop_all (each_from done) words i h ∙ ap Ok (append-nil done)
 
--- the parts of a list of columns
-abbrev pub parts_of : List ℕ → List (List ℕ)
-parts_of word = slice_split (λ byte. byte == 44) word
-
 abbrev pub columns_from : List ℕ → List (List ℕ) → Option (List ℕ)
 columns_from done parts =
     if list_all is_column parts && nat_le (length done + length parts) 8 then Some (done ++ map value_of parts) else None
 
-pub columns_begin : (word : List ℕ) → columns_of word ≡ columns_from [] (parts_of word)
-columns_begin word = rw (zero-add (length (parts_of word))) refl
+pub columns_begin : (word : List ℕ) → columns_of word ≡ columns_from [] (comma_parts word)
+columns_begin word = rw (zero-add (length (comma_parts word))) refl
 
 columns_more : (done : List ℕ) (part : List ℕ) (parts : List (List ℕ)) → is_column part ≡ true → columns_from done (part ∷ parts) ≡ columns_from (done ++ value_of part ∷ []) parts
 columns_more done part parts h =

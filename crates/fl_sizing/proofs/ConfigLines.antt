@@ -9,8 +9,9 @@ use Rattle.fl_words.specs.Config.{ConfigFault, Lines, configured, no_lines, whol
 use Rattle.fl_words.specs.Grammar as grammar
 use Rattle.fl_words.specs.Grammar.{command_of, no_empty_last}
 use Rattle.fl_model.specs.Record.{Config}
+use Rattle.fl_words.specs.Parts.{line_parts}
 use Rattle.fl_machine.specs.Script.{Start, start_with, start_config, start_line, start_from, start_of}
-use Rattle.fl_sizing.specs.Lines.{Follows, IsEnded, Reaches, RefusesText, configured_in, parts_of, told_by, told_of}
+use Rattle.fl_sizing.specs.Lines.{Follows, IsEnded, Reaches, RefusesText, configured_in, told_by, told_of}
 use Rattle.fl_sizing.specs.declared.end.PlanEnd.{PlanEnd}
 use Rattle.fl_sizing.specs.declared.end.PlanStatus.TheVariants.{Config as BadConfiguration}
 
@@ -22,21 +23,21 @@ told-with (Some config) n lines = refl
 -- the lines before a line of a text
 pub record Passed (text : List ℕ) (now : Lines) (k number : ℕ) : Type 0 where
   pub numbered : number ≡ k + 1
-  pub starts : (knots : ℕ) → start_of knots (parts_of text) ≡ start_from knots (k + 1) now (drop k (parts_of text))
+  pub starts : (knots : ℕ) → start_of knots (line_parts text) ≡ start_from knots (k + 1) now (drop k (line_parts text))
 
 pub passed-none : (text : List ℕ) (now : Lines) (number : ℕ) → now ≡ no_lines → number ≡ 1 → Passed text now 0 number
-passed-none text now number none one = record { numbered = one; starts = λ knots. ap (λ (l : Lines). start_from knots 1 l (parts_of text)) (sym none) }
+passed-none text now number none one = record { numbered = one; starts = λ knots. ap (λ (l : Lines). start_from knots 1 l (line_parts text)) (sym none) }
 
-pub passed-line : (text : List ℕ) (now : Lines) (k number : ℕ) (line : List ℕ) → Passed text now k number → k < length (parts_of text) → line ≡ get_or (parts_of text) k line → Reaches text now line number
+pub passed-line : (text : List ℕ) (now : Lines) (k number : ℕ) (line : List ℕ) → Passed text now k number → k < length (line_parts text) → line ≡ get_or (line_parts text) k line → Reaches text now line number
 passed-line text now k number line h lt is = record {
-  others = drop (k + 1) (parts_of text);
-  lines = (k, h.numbered, at_drop_more (λ (l : List (List ℕ)). l) (parts_of text) k line lt ∙ ap (λ (x : List ℕ). x ∷ drop (k + 1) (parts_of text)) (sym is));
-  starts = λ knots. h.starts knots ∙ ap (λ (n : ℕ). start_from knots n now (drop k (parts_of text))) (sym h.numbered)
-      ∙ at_drop_more (start_from knots number now) (parts_of text) k line lt ∙ ap (λ (x : List ℕ). start_from knots number now (x ∷ drop (k + 1) (parts_of text))) (sym is);
+  others = drop (k + 1) (line_parts text);
+  lines = (k, h.numbered, at_drop_more (λ (l : List (List ℕ)). l) (line_parts text) k line lt ∙ ap (λ (x : List ℕ). x ∷ drop (k + 1) (line_parts text)) (sym is));
+  starts = λ knots. h.starts knots ∙ ap (λ (n : ℕ). start_from knots n now (drop k (line_parts text))) (sym h.numbered)
+      ∙ at_drop_more (start_from knots number now) (line_parts text) k line lt ∙ ap (λ (x : List ℕ). start_from knots number now (x ∷ drop (k + 1) (line_parts text))) (sym is);
 }
 
 -- it goes on
-pub passed-more : (text : List ℕ) (now next : Lines) (k number : ℕ) (line : List ℕ) → Passed text now k number → k < length (parts_of text) → line ≡ get_or (parts_of text) k line →
+pub passed-more : (text : List ℕ) (now next : Lines) (k number : ℕ) (line : List ℕ) → Passed text now k number → k < length (line_parts text) → line ≡ get_or (line_parts text) k line →
     Follows now line number (Ok true) next → Passed text next (k + 1) (number + 1)
 unfolding passed-line
 passed-more text now next k number line h lt is goes =
@@ -94,22 +95,22 @@ alike knots n l (line ∷ next ∷ others) =
     line-alike knots n l line (no_empty_last (next ∷ others)) (next ∷ others) (λ now. start_from knots (n + 1) now (no_empty_last (next ∷ others))) (λ now. start_from knots (n + 1) now (next ∷ others))
     (λ x. alike knots (n + 1) x (next ∷ others)) (command_of line)
 
-same-lines : (knots : ℕ) (text : List ℕ) → configured_in knots text ≡ told_by (start_of knots (parts_of text))
-same-lines knots text = alike knots 1 no_lines (parts_of text)
+same-lines : (knots : ℕ) (text : List ℕ) → configured_in knots text ≡ told_by (start_of knots (line_parts text))
+same-lines knots text = alike knots 1 no_lines (line_parts text)
 
 -- it ends with the text
-pub ended-all : (text : List ℕ) (now : Lines) (k number : ℕ) → Passed text now k number → drop k (parts_of text) ≡ [] → IsEnded text now
+pub ended-all : (text : List ℕ) (now : Lines) (k number : ℕ) → Passed text now k number → drop k (line_parts text) ≡ [] → IsEnded text now
 ended-all text now k number h none = λ knots. same-lines knots text ∙ ap told_by (h.starts knots ∙ ap (start_from knots (k + 1) now) none)
 
 -- or at the first other command
-pub ended-there : (text : List ℕ) (now next : Lines) (k number : ℕ) (line : List ℕ) → Passed text now k number → k < length (parts_of text) → line ≡ get_or (parts_of text) k line →
+pub ended-there : (text : List ℕ) (now next : Lines) (k number : ℕ) (line : List ℕ) → Passed text now k number → k < length (line_parts text) → line ≡ get_or (line_parts text) k line →
     Follows now line number (Ok false) next → IsEnded text next
 ended-there text now next k number line h lt is ends =
     let r = passed-line text now k number line h lt is in
     subst (λ (l : Lines). IsEnded text l) (sym ends.0) (λ knots. same-lines knots text ∙ ap told_by (r.starts knots) ∙ ends.1 knots r.others (λ l. start_from knots (number + 1) l r.others))
 
 -- a line of it is refused
-pub refused-there : (text : List ℕ) (now next : Lines) (k number : ℕ) (line : List ℕ) (end : PlanEnd) → Passed text now k number → k < length (parts_of text) → line ≡ get_or (parts_of text) k line →
+pub refused-there : (text : List ℕ) (now next : Lines) (k number : ℕ) (line : List ℕ) (end : PlanEnd) → Passed text now k number → k < length (line_parts text) → line ≡ get_or (line_parts text) k line →
     Follows now line number (Err end) next → RefusesText text end
 refused-there text now next k number line end h lt is refused =
     let r = passed-line text now k number line h lt is in (

@@ -1,11 +1,11 @@
 -- The lines of a configuration as a run of a script takes them, one by one.
-use Rattle.std.specs.Prelude.{◌≡◌, ◌⊎◌, ℕ, ◌+◌, ◌==◌, Bool, true, false, Option, Some, None, Result, Ok, Err, IsSomeAnd, List, ◌∷◌, drop}
-use Rattle.std.specs.List.{slice_split}
+use Rattle.std.specs.Prelude.{◌≡◌, ◌⊎◌, ℕ, ◌+◌, Bool, true, false, Option, Some, None, Result, Ok, Err, IsSomeAnd, List, ◌∷◌, drop}
 use Rattle.fl_words.specs.Command as command
 use Rattle.fl_words.specs.Command.{Command}
 use Rattle.fl_words.specs.Config.{Lines, whole}
 use Rattle.fl_words.specs.Grammar.{command_of, lines_of}
 use Rattle.fl_model.specs.Record.{Config}
+use Rattle.fl_words.specs.Parts.{line_parts}
 use Rattle.fl_machine.specs.Script.{Start, Ready, Unended, BadLine, BadConfig, start_line, start_from, start_of}
 use Rattle.fl_reason.specs.Reason.{Explains, IsRefusedFor}
 use Rattle.fl_reason.specs.declared.text.Reason.{Reason}
@@ -13,10 +13,6 @@ use Rattle.fl_reason.specs.declared.text.Reason.TheVariants as reason
 use Rattle.fl_sizing.specs.declared.end.PlanEnd.{PlanEnd}
 use Rattle.fl_sizing.specs.declared.end.PlanStatus.{PlanStatus}
 use Rattle.fl_sizing.specs.declared.end.PlanStatus.TheVariants as status
-
--- the parts of a text between newlines
-abbrev pub parts_of : List ℕ → List (List ℕ)
-parts_of text = slice_split (λ byte. byte == 10) text
 
 -- the configuration that the start of a script makes, or how it ends: with 0 it has no device line, or no table
 abbrev pub told_of : Option Config → Result Config PlanStatus
@@ -69,8 +65,8 @@ Follows old line number (Err end) new =
 -- the configuration that the first lines of a text make, and the line behind them
 pub record Reaches (text : List ℕ) (before : Lines) (line : List ℕ) (number : ℕ) : Type 0 where
   pub others : List (List ℕ)
-  pub lines : (k : ℕ) × (number ≡ k + 1) × (drop k (parts_of text) ≡ line ∷ others)
-  pub starts : (knots : ℕ) → start_of knots (parts_of text) ≡ start_from knots number before (line ∷ others)
+  pub lines : (k : ℕ) × (number ≡ k + 1) × (drop k (line_parts text) ≡ line ∷ others)
+  pub starts : (knots : ℕ) → start_of knots (line_parts text) ≡ start_from knots number before (line ∷ others)
 
 -- the line of this text that was refused, and why
 pub record IsRefusedIn (text : List ℕ) (number : ℕ) (end : PlanEnd) : Type 0 where

@@ -3,12 +3,13 @@ ghost use Rattle.std.specs.Prelude.{◌≡◌, ◌⊎◌, ◌+◌, ◌≤◌, tr
 ghost use Rattle.fl_base.specs.declared.types.Geometry.{Geometry};
 ghost use Rattle.fl_config.specs.Whole.{is_whole, Makes};
 ghost use Rattle.fl_flash.specs.Places.{extent};
-ghost use Rattle.fl_image.specs.Header.{IsAccepted, after_lines, parts_of};
+ghost use Rattle.fl_image.specs.Header.{IsAccepted, after_lines};
 ghost use Rattle.fl_machine.specs.Machine.{fresh_tables};
 ghost use Rattle.fl_model.specs.Image.{medium_len};
 ghost use Rattle.fl_model.specs.Record.{Config as Configured, blocks_of};
 ghost use Rattle.fl_words.specs.Config.{Lines, no_lines};
 ghost use Rattle.fl_words.specs.Medium.{IsImage, header};
+ghost use Rattle.fl_words.specs.Parts.{line_parts};
 ghost use Rattle.fl_store.specs.Made.{MakesImage};
 ghost use Rattle.fl_store.specs.Store.{IsBlankBehind};
 ghost use Rattle.fl_store.specs.declared.fault.StoreFault.{StoreFault};
@@ -24,9 +25,9 @@ use std::alloc::Global;
 /// # Errors
 /// `Config`: a line is no command, or is refused, or they are no whole configuration. `NoMemory`: memory isn't there.
 pub fn config_of(alloc: Global, text: &[u8]) -> Result<Config, StoreFault>
-    ensures made { IfOk result (λ config. after_lines no_lines (parts_of text.now) ≡ Some config) }
+    ensures made { IfOk result (λ config. after_lines no_lines (line_parts text.now) ≡ Some config) }
     ensures whole { IfOk result (λ config. IsTrue (is_whole config)) }
-    ensures none { result ≡ Err StoreFault.Config → (config : Lines) → after_lines no_lines (parts_of text.now) ≡ Some config → IsTrue (is_whole config) → ⊥ }
+    ensures none { result ≡ Err StoreFault.Config → (config : Lines) → after_lines no_lines (line_parts text.now) ≡ Some config → IsTrue (is_whole config) → ⊥ }
     ensures causes { IfErr result (λ fault. (fault ≡ StoreFault.Config) ⊎ (fault ≡ StoreFault.NoMemory)) }
 {
     let mut room = LineRoom::new(alloc)?;

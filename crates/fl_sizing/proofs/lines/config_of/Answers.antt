@@ -2,7 +2,7 @@ use Rattle.std.proofs.Common.{List, ℕ, length, eqb, rules, tests, arith}
 use Rattle.std.proofs.lemmas.List.{length_push, at_drop_all}
 use Rattle.std.proofs.lemmas.Iterator.Consumers.{YieldsList-turn, YieldsList-end}
 use Rattle.std.proofs.lemmas.Iterator.Splits.{YieldsList-from_slice_split}
-use Rattle.fl_sizing.specs.Lines.{parts_of}
+use Rattle.fl_words.specs.Parts.{line_parts}
 use Rattle.fl_sizing.proofs.ConfigLines.{passed-more, ended-all, ended-there, refused-there, finished-ended, finished-refused}
 use Rattle.fl_sizing.proofs.lines.config_of.Goals as goal
 
@@ -33,11 +33,11 @@ loop-line-preserved c =
 pub returns-clause-ended : goal.returns-clause-ended
 returns-clause-ended c =
     let end = YieldsList-end (YieldsList-from_slice_split _ (λ byte. eqb byte 10) c.args.text.now (cc) (cc) (cc) (λ x r q k. search (rules, tests))) c.loop-line.yielded _ c.loop-line.yielded_by _ _ c.in-None.is c.next.ensures.steps in
-    let none = at_drop_all (λ (l : List (List ℕ)). l) (parts_of c.args.text.now) (length c.loop-line.yielded) (omega (arith, end.1)) in
+    let none = at_drop_all (λ (l : List (List ℕ)). l) (line_parts c.args.text.now) (length c.loop-line.yielded) (omega (arith, end.1)) in
     finished-ended c.finish-2.result c.args.text.now c.loop-line.config _ c.finish-2.ensures.whole (ended-all c.args.text.now c.loop-line.config (length c.loop-line.yielded) c.loop-line.number c.loop-line.invariant.2 none)
 
 pub returns-clause-refused : goal.returns-clause-refused
 returns-clause-refused c =
     let end = YieldsList-end (YieldsList-from_slice_split _ (λ byte. eqb byte 10) c.args.text.now (cc) (cc) (cc) (λ x r q k. search (rules, tests))) c.loop-line.yielded _ c.loop-line.yielded_by _ _ c.in-None.is c.next.ensures.steps in
-    let none = at_drop_all (λ (l : List (List ℕ)). l) (parts_of c.args.text.now) (length c.loop-line.yielded) (omega (arith, end.1)) in
+    let none = at_drop_all (λ (l : List (List ℕ)). l) (line_parts c.args.text.now) (length c.loop-line.yielded) (omega (arith, end.1)) in
     finished-refused c.finish-2.result c.args.text.now c.loop-line.config c.finish-2.ensures.incomplete (ended-all c.args.text.now c.loop-line.config (length c.loop-line.yielded) c.loop-line.number c.loop-line.invariant.2 none)
