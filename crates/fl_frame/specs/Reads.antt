@@ -23,3 +23,8 @@ pub record OnlyReads (old : FlashState) (n : ℕ) (new : FlashState) : Type 0 wh
   pub media_reads : new.media.reads ≤ old.media.reads + n
   pub programs : new.work.programs ≡ old.work.programs
   pub erases : new.work.erases ≡ old.work.erases
+
+-- at most so many reads
+pub record FewReads (n : ℕ) (old new : FlashState) : Type 0 where
+  pub reads : new.work.reads ≤ old.work.reads + n
+  pub media_reads : new.media.reads ≤ old.media.reads + n

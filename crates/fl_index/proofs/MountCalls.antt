@@ -8,7 +8,7 @@ use Rattle.fl_flash.specs.Flash.{FlashState, page_at}
 use Rattle.fl_flash.specs.declared.flash.FlashFault.{FlashFault}
 use Rattle.fl_ring.specs.Finding.{FoundFault}
 use Rattle.fl_ring.specs.Head.{one}
-use Rattle.fl_frame.specs.Reads.{OnlyReads}
+use Rattle.fl_frame.specs.Reads.{OnlyReads, FewReads}
 use Rattle.fl_frame.specs.Causes.{ReadFails}
 use Rattle.fl_ring.specs.Mounting.{shape_at, search_reads, HasNumbers, FailsAs}
 use Rattle.fl_ring.specs.Place.{next_of, oldest_of, shape_of}
@@ -21,7 +21,7 @@ use Rattle.fl_ring.proofs.Founds.{same_pages}
 use Rattle.fl_frame.proofs.ReadsInTurn.{same_page}
 use Rattle.fl_ring.proofs.TornPages.{kept_few}
 use Rattle.fl_index.specs.declared.index.BitmapIndex.{BitmapIndex}
-use Rattle.fl_index.specs.Finding.{FewReads, ReadsRing, FindsEnd, FindsIndex, RefusesEnd, RefusesIndex, HasEnd, IsEnd, pages_of}
+use Rattle.fl_index.specs.Finding.{ReadsRing, FindsEnd, FindsIndex, RefusesEnd, RefusesIndex, HasEnd, IsEnd, pages_of}
 use Rattle.fl_index.specs.Headers.{AreRemembered, kept_page}
 use Rattle.fl_index.specs.Memory.{IsSamePlan, first_in, per_page}
 use Rattle.fl_index.specs.Page.{page_entries, newest_of, first_on}

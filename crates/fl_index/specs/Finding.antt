@@ -14,11 +14,6 @@ use Rattle.fl_index.specs.declared.index.BitmapIndex.{BitmapIndex}
 use Rattle.fl_index.specs.Memory.{ring_shape, place_in, per_page, first_in}
 use Rattle.fl_index.specs.Page.{page_first, page_entries, first_on, newest_of}
 
--- at most so many reads
-pub record FewReads (n : ℕ) (old new : FlashState) : Type 0 where
-  pub reads : new.work.reads ≤ old.work.reads + n
-  pub media_reads : new.media.reads ≤ old.media.reads + n
-
 -- at most one page is given up, and one block erased
 pub record FewRepairs (old new : FlashState) : Type 0 where
   pub programs : new.work.programs ≤ old.work.programs + 1

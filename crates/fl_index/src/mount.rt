@@ -36,7 +36,8 @@ impl BitmapIndex {
     ghost use Rattle.fl_ring.specs.Repairing.{Beside};
     ghost use Rattle.fl_ring.specs.Ring.{OutsideStands};
     ghost use Rattle.fl_frame.specs.Watched.{IsWatched};
-    ghost use Rattle.fl_index.specs.Finding.{FewReads, FewRepairs, FindsEnd, FindsIndex, RefusesEnd, RefusesIndex};
+    ghost use Rattle.fl_index.specs.Finding.{FewRepairs, FindsEnd, FindsIndex, RefusesEnd, RefusesIndex};
+    ghost use Rattle.fl_frame.specs.Reads.{FewReads};
     ghost use Rattle.fl_index.specs.Memory.{first_in, is_running, waiting_in, per_page, ring_shape, IsPlanned, IsSamePlan, LiesOn};
     ghost use Rattle.fl_index.specs.Outcomes.{FindEnds, MountEnds};
     ghost use Rattle.fl_index.specs.Standing.{Rests};

@@ -8,6 +8,7 @@ use Rattle.fl_model.specs.Ring.{Ring}
 use Rattle.fl_model.specs.Table.{Table, Entry, RingName, VarRing}
 use Rattle.fl_model.specs.Within.{repair_within, effect_within, TablePerforms}
 use Rattle.fl_model.specs.Work.{Kind, Device, PartProgress}
+use Rattle.fl_frame.specs.Reads.{FewReads}
 use Rattle.fl_ring.specs.Mounting.{search_reads}
 use Rattle.fl_ring.specs.Repairing.{Beside}
 use Rattle.fl_ring.specs.Ring as rings
@@ -15,7 +16,6 @@ use Rattle.fl_ring.specs.declared.fault.RingFault.{RingFault}
 use Rattle.fl_ring.specs.declared.fault.RingFault.TheVariants.{Flash, BadHead, BadGap, BadPage, NoNumber}
 use Rattle.fl_parts.specs.Blobs.{AreIn, AreLed}
 use Rattle.fl_parts.specs.BlobMount.{Rests, MountsWell, MountEnds}
-use Rattle.fl_parts.specs.IndexMount.{FewReads}
 use Rattle.fl_parts.proofs.Fronts.{front-left}
 use Rattle.fl_parts.proofs.Renumbered.{held-below}
 use Rattle.fl_parts.proofs.VarFacts.{placed-in}

@@ -2,6 +2,7 @@
 use Rattle.std.proofs.Common.{◌≡◌, ℕ, ◌+◌, ◌-◌, ◌*◌, ◌≤◌, Bool, true, false, cond, Option, Some, None, Result, Ok, Err, IsTrue, ap, arith}
 use Rattle.std.specs.Prelude.{IfOk, OnOk, option_map, unwrap_or}
 use Rattle.fl_flash.specs.Flash.{FlashState}
+use Rattle.fl_frame.specs.Reads.{FewReads}
 use Rattle.fl_index.specs.Finding.{FindsEnd}
 use Rattle.fl_index.specs.Memory.{next_in, oldest_in, ring_shape}
 use Rattle.fl_index.specs.declared.index.BitmapIndex.{BitmapIndex}
@@ -13,7 +14,7 @@ use Rattle.fl_ring.specs.Ring.{room}
 use Rattle.fl_ring.specs.declared.ring.Ring.{Ring}
 use Rattle.fl_parts.specs.Bitmaps.{AreSamePlan, room_of}
 use Rattle.fl_parts.specs.Coming.{index_pages_of}
-use Rattle.fl_parts.specs.IndexMount.{FewReads, FindsBy, FindsBitmaps}
+use Rattle.fl_parts.specs.IndexMount.{FindsBy, FindsBitmaps}
 
 -- the ring of an index that was found keeps no more pages than it has
 kept-within : (index now : BitmapIndex) (f g : FlashState) (end : Option ℕ) (full : Bool) → FindsEnd index f end now g → IsTrue f.media.tells → cond full (next_in now - oldest_in now) 0 ≤ index.place.blocks * index.geometry.block

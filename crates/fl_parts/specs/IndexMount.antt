@@ -8,11 +8,6 @@ use Rattle.fl_index.specs.Finding.{FindsEnd, FindsIndex, RefusesEnd, RefusesInde
 use Rattle.fl_index.specs.Page.{first_on}
 use Rattle.fl_index.specs.declared.index.BitmapIndex.{BitmapIndex}
 
--- at most so many reads
-pub record FewReads (n : ℕ) (old new : FlashState) : Type 0 where
-  pub reads : new.work.reads ≤ old.work.reads + n
-  pub media_reads : new.media.reads ≤ old.media.reads + n
-
 -- at most one page of each ring is given up, and one block erased
 pub record FewRepairs (rings : ℕ) (old new : FlashState) : Type 0 where
   pub programs : new.work.programs ≤ old.work.programs + rings

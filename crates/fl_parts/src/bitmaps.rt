@@ -5,13 +5,14 @@ ghost use Rattle.fl_model.specs.Record.{Plan};
 ghost use Rattle.fl_model.specs.Table as model;
 ghost use Rattle.fl_model.specs.Work.{Device};
 ghost use Rattle.fl_frame.specs.Causes.{CausedBy};
+ghost use Rattle.fl_frame.specs.Reads.{FewReads};
 ghost use Rattle.fl_ring.specs.Causes.{IfFlash};
 ghost use Rattle.fl_ring.specs.Written.{Writes};
 ghost use Rattle.fl_parts.specs.Bitmaps.{AreSamePlan, AreSameRing, LieOn, AreRunning, AreBroken, AreWaiting, AreIdle, HaveRoom, EndAt, NumberLeft, AreNoted, MaySeal, StandOutside, MountEndsOf, MakesRoomOf, RoomMade, first_to_wait, room_of, rings_of};
 ghost use Rattle.fl_parts.specs.Faults.{OffFailsAs};
 ghost use Rattle.fl_parts.specs.Coming.{index_pages_of};
 ghost use Rattle.fl_parts.specs.MountLimits.{IsIndexLimited};
-ghost use Rattle.fl_parts.specs.IndexMount.{FewReads, FewRepairs, FindsBitmaps, RefusesBitmaps};
+ghost use Rattle.fl_parts.specs.IndexMount.{FewRepairs, FindsBitmaps, RefusesBitmaps};
 
 use fl_flash::{Flash, FlashFault, PageBuf};
 use fl_index::{BitmapIndex, Full};

@@ -6,13 +6,14 @@ ghost use Rattle.fl_model.specs.Table as model;
 ghost use Rattle.fl_model.specs.Work.{Device};
 ghost use Rattle.fl_model.specs.Mount.{blob_end};
 ghost use Rattle.fl_frame.specs.Causes.{CausedBy};
+ghost use Rattle.fl_frame.specs.Reads.{FewReads};
 ghost use Rattle.fl_ring.specs.Causes.{IfFlash};
 ghost use Rattle.fl_ring.specs.Written.{Writes};
 ghost use Rattle.fl_parts.specs.BlobEnds.{least_of};
 ghost use Rattle.fl_parts.specs.BlobMount.{MountEndsOf, FindsBlobs, RefusesBlobs, WithinEndsOf, RefusesWithin, AreBelow};
 ghost use Rattle.fl_parts.specs.Faults.{MountCausedBy, OffFailsAs};
 ghost use Rattle.fl_parts.specs.MountLimits.{IsVarLimited};
-ghost use Rattle.fl_parts.specs.IndexMount.{FewReads, FewRepairs};
+ghost use Rattle.fl_parts.specs.IndexMount.{FewRepairs};
 ghost use Rattle.fl_parts.specs.Blobs.{AreSamePlan, LieOn, AreRunning, AreEmpty, MayFill, MaySeal, NumbersLeft, RestEndsOf, PlaceEndsOf, StandOutside, next_of, next_after, oldest_of, oldest_after, rings_of, room_of, HasFew, HavePlaced, pages_for, placed_in, FitsRow};
 ghost use Rattle.fl_var.specs.Memory.{waiting_in, BytesAhead, BytesPaged};
 

@@ -7,13 +7,13 @@ use Rattle.fl_base.specs.declared.types.Geometry.{Geometry}
 use Rattle.fl_base.specs.declared.types.RingPlace.{RingPlace}
 use Rattle.fl_flash.specs.Flash.{FlashState, page_at}
 use Rattle.fl_model.specs.Record.{RowLayout}
+use Rattle.fl_frame.specs.Reads.{FewReads}
 use Rattle.fl_ring.specs.Mounting.{shape_at}
 use Rattle.fl_ring.specs.Ring.{Shape, room}
 use Rattle.fl_parts.specs.Bitmaps.{IsOutside}
 use Rattle.fl_table.specs.Look.{layout_in}
 use Rattle.fl_table.specs.Memory as table_words
 use Rattle.fl_table.specs.Mounting as mounting
-use Rattle.fl_parts.specs.IndexMount.{FewReads}
 use Rattle.fl_table.specs.declared.counts.Mounted.{Mounted}
 use Rattle.fl_parts.specs.declared.mount_fault.MountFault.{MountFault}
 use Rattle.fl_table.specs.declared.table.Table.{Table}

@@ -10,7 +10,7 @@ ghost use Rattle.fl_model.specs.Table.{LogRing, shape_of, table_seals};
 ghost use Rattle.fl_model.specs.Work.{Device};
 ghost use Rattle.fl_page.specs.Page.{rows_in as page_rows};
 ghost use Rattle.fl_page.specs.Writer.{Gathers};
-ghost use Rattle.fl_frame.specs.Reads.{OnlyReads};
+ghost use Rattle.fl_frame.specs.Reads.{OnlyReads, FewReads};
 ghost use Rattle.fl_frame.specs.Causes.{ReadFails, CausedBy};
 ghost use Rattle.fl_frame.specs.Watched.{IsWatched};
 ghost use Rattle.fl_schema.specs.Schema.{layout_of};
@@ -21,7 +21,7 @@ ghost use Rattle.fl_parts.specs.Faults.{IfFlash, IfPage, is_of_pages, MountCause
 ghost use Rattle.fl_table.specs.Look.{layout_in};
 ghost use Rattle.fl_table.specs.Memory as table_words;
 ghost use Rattle.fl_table.specs.Memory.{is_running, is_stopped, pending_in};
-ghost use Rattle.fl_parts.specs.IndexMount.{FewReads, FewRepairs};
+ghost use Rattle.fl_parts.specs.IndexMount.{FewRepairs};
 ghost use Rattle.fl_table.specs.Mounting as mounting;
 ghost use Rattle.fl_table.specs.Outcomes.{SealsEnd};
 ghost use Rattle.fl_table.specs.Standing as without_log;

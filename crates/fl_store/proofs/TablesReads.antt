@@ -11,9 +11,9 @@ use Rattle.fl_model.specs.Bare.{bare}
 use Rattle.fl_model.specs.MountLimit.{mount_limit}
 use Rattle.fl_model.specs.Record.{Plan, blocks_of}
 use Rattle.fl_model.specs.Table as model
+use Rattle.fl_frame.specs.Reads.{FewReads}
 use Rattle.fl_parts.specs.Bitmaps.{ArePlanned, room_of}
 use Rattle.fl_parts.specs.Blobs as variable
-use Rattle.fl_parts.specs.IndexMount.{FewReads}
 use Rattle.fl_rlc.specs.Mounting.{log_pages, pages_in}
 use Rattle.fl_rlc.specs.Table.{IsLogPlanned, IsPlanned}
 use Rattle.fl_rlc.specs.declared.log.RecordLog.{RecordLog}

@@ -4,7 +4,7 @@ use Rattle.std.proofs.Math.Nat.{mul-le-mul_right, add-mul}
 use Rattle.fl_flash.specs.Flash.{FlashState}
 use Rattle.fl_ring.specs.Finding.{kept_pages, kept_at, full_of}
 use Rattle.fl_ring.specs.Head.{one, fulls}
-use Rattle.fl_frame.specs.Reads.{OnlyReads}
+use Rattle.fl_frame.specs.Reads.{OnlyReads, FewReads}
 use Rattle.fl_ring.specs.Mounting.{shape_at, search_reads, HasNumbers}
 use Rattle.fl_ring.specs.Place.{next_of, oldest_of}
 use Rattle.fl_ring.specs.Repairing.{Beside}
@@ -12,7 +12,6 @@ use Rattle.fl_ring.specs.Ring.{Shape, room, is_due_at}
 use Rattle.fl_ring.specs.declared.ring.Ring.{Ring}
 use Rattle.fl_index.proofs.MountCalls.{four-each}
 use Rattle.fl_table.specs.Memory.{ring_shape, IsSamePlan}
-use Rattle.fl_parts.specs.IndexMount.{FewReads}
 use Rattle.fl_table.specs.declared.table.Table.{Table}
 use Rattle.fl_table.proofs.MountCalls.{same-shape}
 

@@ -33,7 +33,7 @@ impl<const KNOTS: usize, const SLOTS: usize> Table<KNOTS, SLOTS> {
     ghost use Rattle.fl_ring.specs.Mounting.{shape_at};
     ghost use Rattle.fl_ring.specs.Place as place;
     ghost use Rattle.fl_find.specs.Index.{error_in};
-    ghost use Rattle.fl_frame.specs.Reads.{OnlyReads};
+    ghost use Rattle.fl_frame.specs.Reads.{OnlyReads, FewReads};
     ghost use Rattle.fl_frame.specs.Causes.{ReadFails};
     ghost use Rattle.fl_ring.specs.Place.{next_of, oldest_of, shape_of};
     ghost use Rattle.fl_parts.specs.Bitmaps.{AreIdle, AreRunning, AreStillFound, EndAt, StandForRing, room_of};
@@ -49,7 +49,7 @@ impl<const KNOTS: usize, const SLOTS: usize> Table<KNOTS, SLOTS> {
     ghost use Rattle.fl_parts.specs.Pages.{RestsToMount};
     ghost use Rattle.fl_table.specs.Outcomes.{DataEnds, MountEnds, RingsEnd, var_rings};
     ghost use Rattle.fl_parts.specs.MountLimits.{rows_mount_limit};
-    ghost use Rattle.fl_parts.specs.IndexMount.{FewReads, FewRepairs, RemembersKept};
+    ghost use Rattle.fl_parts.specs.IndexMount.{FewRepairs, RemembersKept};
     ghost use Rattle.fl_table.specs.Mounting.{FindsData, FindsPages, FindsRows, HasLearned, OutsideStands, RefusesData, RefusesPages, RefusesRows, RowsStandOutside, comes_in, pages_in, rings_in};
 
     // As it was before its first mount.

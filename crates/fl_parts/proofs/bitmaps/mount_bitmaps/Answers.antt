@@ -1,12 +1,12 @@
 use Rattle.std.proofs.Common.{◌≡◌, ◌*◌, ◌-◌, true, false, cond, Option, Some, IsTrue, sym, ◌∙◌, ap, subst}
 use Rattle.std.proofs.lemmas.Bool.{true≢false}
+use Rattle.fl_frame.specs.Reads.{FewReads}
 use Rattle.fl_index.specs.declared.index.BitmapIndex.{BitmapIndex}
 use Rattle.fl_index.specs.Finding.{FindsEnd}
 use Rattle.fl_index.specs.Memory.{form_in, next_in, oldest_in}
 use Rattle.fl_index.specs.Outcomes.{EndsAs}
 use Rattle.fl_parts.specs.Bitmaps.{MountEndsOf, RemembersFound, room_of}
 use Rattle.fl_parts.specs.MountLimits.{IsIndexLimited}
-use Rattle.fl_parts.specs.IndexMount.{FewReads}
 use Rattle.fl_index.specs.declared.page.EntryForm.{EntryForm}
 use Rattle.fl_index.proofs.SealEnds.{planned-form}
 use Rattle.fl_parts.proofs.FoundReads.{found-few, found-spared, ok-then}

@@ -1,8 +1,8 @@
 use Rattle.std.proofs.Common.{◌≡◌, ◌*◌, Option, Some, sym, subst}
+use Rattle.fl_frame.specs.Reads.{FewReads}
 use Rattle.fl_parts.specs.BlobMount.{MountEndsOf}
 use Rattle.fl_parts.specs.Blobs.{LieOn, room_of}
 use Rattle.fl_parts.specs.MountLimits.{IsVarLimited}
-use Rattle.fl_parts.specs.IndexMount.{FewReads}
 use Rattle.fl_parts.proofs.BlobMount.{mount-ends, few-reads}
 use Rattle.fl_parts.proofs.blobs.mount.Goals as goal
 use Rattle.fl_var.specs.declared.var_data.VarData.{VarData}

@@ -10,10 +10,11 @@ use Rattle.fl_ring.specs.Mounting.{shape_at}
 use Rattle.fl_ring.specs.Ring.{Shape, room}
 use Rattle.fl_parts.specs.Bitmaps.{AreSamePlan, IsOutside, StandOutside, room_of}
 use Rattle.fl_parts.specs.Coming.{index_pages_of}
-use Rattle.fl_parts.specs.IndexMount.{FewReads, FindsBitmaps}
+use Rattle.fl_parts.specs.IndexMount.{FindsBitmaps}
 use Rattle.fl_parts.proofs.Firsts.{room-same}
 use Rattle.fl_parts.proofs.FoundReads.{index-within, reads-joined}
 use Rattle.fl_frame.proofs.WatchedInTurn.{watched-first, watched-then}
+use Rattle.fl_frame.specs.Reads.{FewReads}
 use Rattle.fl_table.proofs.MountJoined.{index-limit, limit-then, mount-cause-later, mount-fails, mount-then, finds-as, refuses-by, stand-outside}
 use Rattle.fl_table.proofs.Outsides.{blobs-outside}
 use Rattle.fl_table.proofs.SealAnswers.{planned-same, same-then}
