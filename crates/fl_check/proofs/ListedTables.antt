@@ -21,14 +21,14 @@ use Rattle.fl_model.specs.Row.{stored_row}
 use Rattle.fl_model.specs.Table.{Table, Entry, firsts, full_pages}
 use Rattle.fl_model.proofs.FullPages.{full-page, full-below, full-within}
 use Rattle.fl_model.proofs.Lists.{slice_get-some, slice_get-short, last_or-get, each-at}
-use Rattle.fl_page.specs.Header.{page_number}
+use Rattle.fl_page.specs.Header.{page_number, page_bitmap}
 use Rattle.fl_page.specs.Page.{rows_in, IsGoodPage}
 use Rattle.fl_ring.specs.Newest.{commits}
 use Rattle.fl_ring.specs.Ring.{Shape, place}
 use Rattle.fl_check.specs.Entries.{entries_in, Lists, first_listed, HaveEntries}
 use Rattle.fl_rules.specs.Marks.{kept_page}
 use Rattle.fl_rules.specs.Tally.{listed_after, listed_to}
-use Rattle.fl_rules.specs.Told.{header_bitmap, full_in, TellsPage}
+use Rattle.fl_rules.specs.Told.{full_in, TellsPage}
 use Rattle.fl_rules.specs.declared.marks.Marks.{Marks}
 use Rattle.fl_rules.specs.declared.numbering.Numbering.{Numbering}
 use Rattle.fl_check.proofs.FullEntries.{full-stored}
@@ -83,7 +83,7 @@ tells-none plan table end none = record {
 
 -- what the data pages of a table have
 pub record HasData (plan : Plan) (page : ℕ → List ℕ) (d : Shape) (layout : RowLayout) (table : Table) (rows : Numbering) : Type 0 where
-  pub headers : (i c : ℕ) → slice_get table.rows.counts i ≡ Some c → 0 < c → header_bitmap (page (kept_page d rows.marks i)) ≡ bitmap_of plan (rows_at table i c)
+  pub headers : (i c : ℕ) → slice_get table.rows.counts i ≡ Some c → 0 < c → page_bitmap (page (kept_page d rows.marks i)) ≡ bitmap_of plan (rows_at table i c)
   pub rows_told : (i c : ℕ) → slice_get table.rows.counts i ≡ Some c → 0 < c → rows_in layout (page (kept_page d rows.marks i)) ≡ map stored_row (rows_at table i c)
 
 module _ (plan : Plan) (page : ℕ → List ℕ) (x d : Shape) (least : ℕ) (layout : RowLayout) (table : Table) (ring : model.Ring) (index rows : Numbering)

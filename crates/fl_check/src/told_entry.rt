@@ -3,7 +3,8 @@ ghost use Rattle.std.specs.Prelude.{◌≡◌, ◌<◌, ◌≤◌, ◌↔◌, le
 ghost use Rattle.fl_index.specs.Page.{full_view};
 ghost use Rattle.fl_page.specs.View.{count_of, rows_of};
 ghost use Rattle.fl_schema.specs.Schema.{layout_of};
-ghost use Rattle.fl_rules.specs.Told.{header_bitmap, full_in, TellsCommitted, TellsVoid, TellsPage};
+ghost use Rattle.fl_page.specs.Header.{page_bitmap};
+ghost use Rattle.fl_rules.specs.Told.{full_in, TellsCommitted, TellsVoid, TellsPage};
 
 use fl_base::get_u64;
 use fl_index::{Found, Full};
@@ -16,7 +17,7 @@ use fl_schema::Schema;
 /// The bitmap in the header of a data page.
 fn header_bitmap(page: &[u8]) -> u64
     requires { 16 ≤ length page.now }
-    ensures { result ≡ header_bitmap page.now }
+    ensures { result ≡ page_bitmap page.now }
 {
     get_u64(page, 8)
 }

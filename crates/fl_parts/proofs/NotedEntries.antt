@@ -21,11 +21,12 @@ use Rattle.fl_mark.specs.declared.page_state.PageState.{PageState}
 use Rattle.fl_mark.specs.declared.page_state.PageState.TheVariants.{Committed}
 use Rattle.fl_model.specs.Layout.{committed, data_body, is_void}
 use Rattle.fl_model.specs.Row.{le, number_of}
+use Rattle.fl_page.specs.Header.{page_bitmap}
 use Rattle.fl_ring.proofs.Found.{committed_state}
 use Rattle.fl_parts.specs.Bitmaps.{AreSamePlan, AreIdle, AreWaiting, EndAt, HaveRoom, AreNoted, first_to_wait}
 use Rattle.fl_parts.proofs.PageRows.{entries-push}
 use Rattle.fl_parts.specs.Coming.{WaitBetween}
-use Rattle.fl_parts.specs.Reading.{WaitFor, WaitFrom, entries_on, entry_on, GatherUpTo, AreGathered, bitmap_on, full_on, bitmap_where, page_bitmap}
+use Rattle.fl_parts.specs.Reading.{WaitFor, WaitFrom, entries_on, entry_on, GatherUpTo, AreGathered, bitmap_on, full_on, bitmap_where}
 use Rattle.fl_parts.proofs.States.{committed-end}
 
 -- at first none waits

@@ -1,5 +1,5 @@
 -- What a mount reads in the kept pages, over any bytes.
-use Rattle.std.specs.Prelude.{◌≡◌, ◌⊎◌, ℕ, ◌+◌, ◌-◌, ◌≤◌, Bool, true, nat_lt, Option, Some, None, unwrap_or, List, [], ◌∷◌, length, map, take, drop, if◌then◌else◌}
+use Rattle.std.specs.Prelude.{◌≡◌, ◌⊎◌, ℕ, ◌+◌, ◌-◌, ◌≤◌, Bool, true, nat_lt, Option, Some, None, unwrap_or, List, [], ◌∷◌, length, map, if◌then◌else◌}
 use Rattle.fl_find.specs.Pages.{first_key, rows_on}
 use Rattle.fl_flash.specs.Flash.{FlashState, page_at}
 use Rattle.fl_mark.specs.Mark.{state_of_page}
@@ -13,8 +13,9 @@ use Rattle.fl_index.specs.Standing.{Waits}
 use Rattle.fl_model.specs.Layout.{IndexEntry}
 use Rattle.fl_model.specs.Limits.{numbers_from}
 use Rattle.fl_model.specs.Record.{RowLayout}
-use Rattle.fl_model.specs.Row.{Row, number_of}
+use Rattle.fl_model.specs.Row.{Row}
 use Rattle.fl_page.specs.Page.{IsGoodPage, bad_page, rows_in}
+use Rattle.fl_page.specs.Header.{page_bitmap}
 use Rattle.fl_ring.specs.Place.{shape_of}
 use Rattle.fl_ring.specs.Ring.{place}
 use Rattle.fl_ring.specs.declared.ring.Ring.{Ring}
@@ -54,10 +55,7 @@ pub record IsRefused (layout : RowLayout) (number : ℕ) (page : List ℕ) (last
 abbrev pub pages_of : Ring → FlashState → ℕ → List ℕ
 pages_of ring f number = page_at f (place (shape_of ring) number)
 
--- the bitmap in the header of a data page, and in a page by its bytes; a page that isn't committed has none
-abbrev pub page_bitmap : List ℕ → ℕ
-page_bitmap page = number_of (take 8 (drop 8 page))
-
+-- the bitmap of a page by its state: one that isn't committed has none
 abbrev pub bitmap_where : PageState → ℕ → ℕ
 bitmap_where Committed bitmap = bitmap
 bitmap_where Blank bitmap = 0

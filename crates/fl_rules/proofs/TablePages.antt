@@ -15,8 +15,8 @@ use Rattle.fl_model.specs.Layout.{bucket_of, bitmap_of, rows_body, data_body, co
 use Rattle.fl_model.specs.Record.{Plan, RowLayout, row_layout, layout_len, rows_per_page}
 use Rattle.fl_model.specs.Row.{Row, IsStorable, stored_row, le, number_of}
 use Rattle.fl_model.specs.Table.{Entry}
+use Rattle.fl_page.specs.Header.{page_bitmap}
 use Rattle.fl_rules.specs.DataPage.{IsDataPage, HasBuckets, HasForm, HoldsEntries, bitmap_in, are_plain}
-use Rattle.fl_rules.specs.Told.{header_bitmap}
 
 -- as many bytes are read of a blob as its row says
 abbrev pub ReadsAll : (BlobRef → List ℕ) → Type 0
@@ -71,14 +71,14 @@ bitmap-same plan (Some buckets) entries same =
     ∙ bits-same plan buckets 0 entries same
 
 -- the bitmap in the header of a data page is that of its rows
-pub header-is : (plan : Plan) (number : ℕ) (entries : List Entry) (page : List ℕ) → IsTrue (is_bits plan.bits) → plan.bits / 8 ≤ 8 → page ≡ committed (data_body plan number entries) → header_bitmap page ≡ bitmap_of plan entries
+pub header-is : (plan : Plan) (number : ℕ) (entries : List Entry) (page : List ℕ) → IsTrue (is_bits plan.bits) → plan.bits / 8 ≤ 8 → page ≡ committed (data_body plan number entries) → page_bitmap page ≡ bitmap_of plan entries
 header-is plan number entries page bits few is =
     let bitmap = bitmap_of plan entries in
     let same : bitmap_of plan entries % 256 ^ (plan.bits / 8) ≡ bitmap_of plan entries = bitmap-small plan entries bits in
     let some : 0 < 256 ^ (plan.bits / 8) = omega (arith, one-le-pow (plan.bits / 8) 256 (omega arith)) in
     let below : bitmap_of plan entries < 256 ^ (plan.bits / 8) = subst (λ (n : ℕ). n < 256 ^ (plan.bits / 8)) same (mod-lt (bitmap_of plan entries) some) in
     let power : 256 ^ (plan.bits / 8) ≤ 256 ^ 8 = pow-le-pow_right {n = 256} (lit≤ tt) few in
-    let bytes : header_bitmap page ≡ number_of (le 8 (bitmap_of plan entries)) = ap header_bitmap is ∙ refl in
+    let bytes : page_bitmap page ≡ number_of (le 8 (bitmap_of plan entries)) = ap page_bitmap is ∙ refl in
     bytes ∙ number_of-low 8 bitmap ∙ mod-eq_of_lt (omega (arith, below, power))
 
 -- ---- pages

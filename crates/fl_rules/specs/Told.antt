@@ -1,19 +1,15 @@
 -- What an entry of an index page has to tell of its data page.
-use Rattle.std.specs.Prelude.{◌≡◌, ℕ, true, false, IfSome, option_map, unwrap_or, List, [], length, take, drop, slice_get}
+use Rattle.std.specs.Prelude.{◌≡◌, ℕ, true, false, IfSome, option_map, unwrap_or, List, [], length, slice_get}
 use Rattle.fl_index.specs.Page.{full_view}
 use Rattle.fl_index.specs.declared.page.Found.{Found}
 use Rattle.fl_mark.specs.Mark.{state_of_page}
 use Rattle.fl_model.specs.Layout.{Full, full_of}
 use Rattle.fl_model.specs.Record.{RowLayout}
-use Rattle.fl_model.specs.Row.{Row, number_of}
-use Rattle.fl_page.specs.Header.{page_number}
+use Rattle.fl_model.specs.Row.{Row}
+use Rattle.fl_page.specs.Header.{page_number, page_bitmap}
 use Rattle.fl_page.specs.Page.{rows_in, IsGoodPage}
 use Rattle.fl_ring.specs.Newest.{commits}
 use Rattle.fl_rules.specs.Tally.{blobs_end}
-
--- the bitmap in the header of a data page
-abbrev pub header_bitmap : List ℕ → ℕ
-header_bitmap page = number_of (take 8 (drop 8 page))
 
 -- what a full entry tells of a page with these rows beside its bitmap
 abbrev pub full_in : List Row → Full
@@ -21,7 +17,7 @@ full_in rows = record { first_key = unwrap_or (option_map (λ row. row.key) (sli
 
 -- an entry tells of a page of rows: its bitmap, and a full one the rest too, where the page has the rows that it counts
 pub record TellsCommitted (layout : RowLayout) (page : List ℕ) (found : Found) : Type 0 where
-  pub bitmap : found.bitmap ≡ header_bitmap page
+  pub bitmap : found.bitmap ≡ page_bitmap page
   pub full : IfSome found.full (λ full. IsGoodPage layout (page_number page) page × (full_view full ≡ full_in (rows_in layout page)))
 
 -- .. and a full one of a page without rows: it is all zero

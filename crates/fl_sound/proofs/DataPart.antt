@@ -26,7 +26,7 @@ use Rattle.fl_model.specs.Row.{stored_row}
 use Rattle.fl_model.specs.Table.{Table, Entry, DataRing, shape_of}
 use Rattle.fl_model.proofs.Lists.{slice_get-short, slice_get-drop, slice_get-front, each-at, each-drop, each-take}
 use Rattle.fl_model.proofs.Pages.{pages-at}
-use Rattle.fl_page.specs.Header.{page_number}
+use Rattle.fl_page.specs.Header.{page_number, page_bitmap}
 use Rattle.fl_page.specs.Page.{rows_in, IsGoodPage}
 use Rattle.fl_page.proofs.WriterSteps.{layout_some}
 use Rattle.fl_plan.specs.Plan.{Label, blocks_in, plan_of_table}
@@ -35,7 +35,7 @@ use Rattle.fl_ring.specs.Mounting.{IsGood}
 use Rattle.fl_ring.specs.Newest.{commits}
 use Rattle.fl_ring.specs.Ring.{Shape, IsShape, OnRing, place}
 use Rattle.fl_parts.specs.Pages.{Rests}
-use Rattle.fl_parts.specs.Reading.{bitmap_where, page_bitmap}
+use Rattle.fl_parts.specs.Reading.{bitmap_where}
 use Rattle.fl_parts.proofs.NotedEntries.{page-bitmap}
 use Rattle.fl_schema.specs.Form.{key_width}
 use Rattle.fl_schema.specs.declared.schema.KeyWidth.{KeyWidth}
@@ -49,7 +49,7 @@ use Rattle.fl_table.proofs.Repaired.{IsIdle, lost-idle}
 use Rattle.fl_parts.proofs.States.{state_of, state-count, to-ring, HaveSize}
 use Rattle.fl_rules.specs.Marks.{kept_page}
 use Rattle.fl_rules.specs.Rising.{KeysAscend}
-use Rattle.fl_rules.specs.Told.{header_bitmap, full_in, TellsCommitted, TellsVoid, TellsPage}
+use Rattle.fl_rules.specs.Told.{full_in, TellsCommitted, TellsVoid, TellsPage}
 use Rattle.fl_rules.specs.RingRules.{OverPages}
 use Rattle.fl_check.specs.Whole.{Fits, layout_in, rows_shape, IsRowsForm}
 use Rattle.fl_rules.specs.declared.numbering.Numbering.{Numbering}
@@ -166,7 +166,7 @@ module _ (label : Label) (config : TableConfig) (f : FlashState) (table : Table)
 
     -- ---- what index entries tell of its pages
 
-    headers : IsTrue (is_bits plan.bits) → (m c : ℕ) → slice_get table.rows.counts m ≡ Some c → 0 < c → header_bitmap (page_at f (kept_page (rows_shape config) n.marks m)) ≡ bitmap_of (plan_of_table label config) (rows_at table m c)
+    headers : IsTrue (is_bits plan.bits) → (m c : ℕ) → slice_get table.rows.counts m ≡ Some c → 0 < c → page_bitmap (page_at f (kept_page (rows_shape config) n.marks m)) ≡ bitmap_of (plan_of_table label config) (rows_at table m c)
     headers bits m c e some =
         let p = page_at f (kept_page (rows_shape config) n.marks m) in
         let holds = reads.at m (slice_get-short table.rows.counts m c e) ∙ is.rests.pages.rows.kept m c e some in
