@@ -9,13 +9,13 @@ use Rattle.fl_model.specs.Row.{Row}
 use Rattle.fl_model.proofs.Lists.{slice_get-drop, slice_get-short}
 use Rattle.fl_frame.specs.Contents.{Contents}
 use Rattle.fl_page.specs.Header.{page_number, page_count}
-use Rattle.fl_page.specs.Page.{IsGoodPage, rows_in}
+use Rattle.fl_page.specs.Page.{IsGoodPage, rows_in, has_form}
 use Rattle.fl_table.specs.Look.{layout_in, oldest_in, buffered_rows}
 use Rattle.fl_table.specs.Memory.{next_in}
 use Rattle.fl_table.specs.Skipping.{AreScanning, due_of}
 use Rattle.fl_parts.proofs.KeyRows.{length-rows_from}
 use Rattle.fl_cursor.specs.Asked.{is_left, is_last}
-use Rattle.fl_cursor.specs.Cursor.{table_of, asked_of, buffer_of, is_good, index_page, is_here_at, rows_behind, Passes, IsPlaced, IsTold, IsLooking}
+use Rattle.fl_cursor.specs.Cursor.{table_of, asked_of, buffer_of, index_page, is_here_at, rows_behind, Passes, IsPlaced, IsTold, IsLooking}
 use Rattle.fl_cursor.specs.Going.{Goes, took}
 use Rattle.fl_cursor.specs.Listed.{rows_from, rows_over, rows_of}
 use Rattle.fl_cursor.specs.Reads.{has_last, pages_to_last, pages_asked, index_most, index_least, most_from, least_from}
@@ -31,7 +31,7 @@ use Rattle.fl_cursor.proofs.TakenRows.{takes-row, moves-on, pages-taken}
 use Rattle.fl_cursor.proofs.Walks.{reached, passed, stopped, asked-over}
 
 -- a good page is seen as one
-pub good-seen : (layout : RowLayout) (number : ℕ) (page : List ℕ) → IsGoodPage layout number page → is_good layout number page ≡ true
+pub good-seen : (layout : RowLayout) (number : ℕ) (page : List ℕ) → IsGoodPage layout number page → has_form layout number page ≡ true
 good-seen layout number page good =
     let number_is : (page_number page == number) ≡ true = ap (λ n. n == number) good.number_is ∙ eq-eqb number number refl in
     ap (λ b. (b && nat_le 1 (page_count page)) && nat_le (page_count page) ((length page - 24) / layout_len layout)) number_is

@@ -1,5 +1,5 @@
 -- What clauses see of a cursor.
-use Rattle.std.specs.Prelude.{◌≡◌, ◌⊎◌, ℕ, ◌+◌, ◌-◌, ◌/◌, ◌<◌, ◌≤◌, Bool, true, false, ◌&&◌, nat_lt, nat_le, ◌==◌, Option, Some, None, unwrap_or, List, [], ◌++◌, length, drop, filter, slice_get, IsTrue}
+use Rattle.std.specs.Prelude.{◌≡◌, ◌⊎◌, ℕ, ◌+◌, ◌<◌, ◌≤◌, Bool, true, false, ◌&&◌, nat_lt, nat_le, Option, Some, None, unwrap_or, List, [], ◌++◌, length, drop, filter, slice_get, IsTrue}
 use Rattle.std.specs.List.{AllByRecursion}
 use Rattle.std.specs.Borrow.{GName}
 use Rattle.fl_flash.specs.Buffer.{BufferState}
@@ -14,12 +14,12 @@ use Rattle.fl_index.specs.declared.index.BitmapIndex.{BitmapIndex}
 use Rattle.fl_mark.specs.Mark.{state_of_page}
 use Rattle.fl_mark.specs.declared.page_state.PageState.TheVariants.{Committed}
 use Rattle.fl_model.specs.Query as model
-use Rattle.fl_model.specs.Record.{Plan, RowLayout, layout_len}
+use Rattle.fl_model.specs.Record.{Plan}
 use Rattle.fl_model.specs.Row.{Row}
 use Rattle.fl_model.specs.Table as tables
 use Rattle.fl_frame.specs.Contents.{Contents, contents_of}
-use Rattle.fl_page.specs.Header.{page_number, page_count}
-use Rattle.fl_page.specs.Page.{IsGoodPage, bad_page, rows_in}
+use Rattle.fl_page.specs.Header.{page_count}
+use Rattle.fl_page.specs.Page.{IsGoodPage, bad_page, rows_in, has_form}
 use Rattle.fl_page.specs.Steps.{Ascends}
 use Rattle.fl_page.specs.declared.fault.BadPage.{BadPage}
 use Rattle.fl_page.specs.declared.fault.ReadFault.{ReadFault}
@@ -85,13 +85,9 @@ has_ended cursor = is_end cursor.place
 
 -- ---- the present row
 
-abbrev pub is_good : RowLayout → ℕ → List ℕ → Bool
-is_good layout number page =
-    (page_number page == number) && nat_le 1 (page_count page) && nat_le (page_count page) ((length page - 24) / layout_len layout)
-
 abbrev pub is_here_at : {KNOTS SLOTS : ℕ} → Table KNOTS SLOTS → List ℕ → Here → Bool
 is_here_at t page Nowhere = false
-is_here_at t page (PageRow number row) = is_good (layout_in t) number page && nat_lt row (page_count page) && nat_le (length page) 4096
+is_here_at t page (PageRow number row) = has_form (layout_in t) number page && nat_lt row (page_count page) && nat_le (length page) 4096
 is_here_at t page (PendingRow row) = nat_lt row (pending_in t)
 
 -- whether there is one

@@ -1,5 +1,5 @@
 -- The rows of a page, by its bytes.
-use Rattle.std.specs.Prelude.{◌≡◌, ℕ, zero, suc, ◌+◌, ◌-◌, ◌*◌, ◌/◌, ◌≤◌, List, [], ◌∷◌, length, take, drop, slice_range}
+use Rattle.std.specs.Prelude.{◌≡◌, ℕ, zero, suc, ◌+◌, ◌-◌, ◌*◌, ◌/◌, ◌≤◌, Bool, ◌&&◌, nat_le, ◌==◌, List, [], ◌∷◌, length, take, drop, slice_range}
 use Rattle.fl_model.specs.Record.{RowLayout, layout_len}
 use Rattle.fl_model.specs.Row.{Row, row_in}
 use Rattle.fl_page.specs.Header.{page_number, page_count}
@@ -25,6 +25,11 @@ pub record IsGoodPage (layout : RowLayout) (number : ℕ) (page : List ℕ) : Ty
   pub number_is : page_number page ≡ number
   pub some : 1 ≤ page_count page
   pub room : page_count page ≤ (length page - 24) / layout_len layout
+
+-- .. as a test
+abbrev pub has_form : RowLayout → ℕ → List ℕ → Bool
+has_form layout number page =
+    (page_number page == number) && nat_le 1 (page_count page) && nat_le (page_count page) ((length page - 24) / layout_len layout)
 
 abbrev pub bad_page : ℕ → List ℕ → BadPage
 bad_page number page = record { wanted = number; found = page_number page; count = page_count page }

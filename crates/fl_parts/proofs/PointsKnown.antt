@@ -5,10 +5,10 @@ use Rattle.std.proofs.lemmas.Bool.{cases_lt, ltb-true}
 use Rattle.fl_find.specs.Pages.{rows_on}
 use Rattle.fl_model.specs.Record.{RowLayout}
 use Rattle.fl_model.specs.Row.{Row}
-use Rattle.fl_page.specs.Page.{bad_page}
+use Rattle.fl_page.specs.Page.{bad_page, has_form}
 use Rattle.fl_spline.specs.Points.{IsPast, IsFurther, last_of}
 use Rattle.fl_spline.proofs.Lists.{last_of-push}
-use Rattle.fl_parts.specs.ByEntries.{Come, entry, is_committed, has_rows, is_read, by_page, facts_on, no_rows, points_of, known_after, has_form, read_fault, entry_fault, page_check}
+use Rattle.fl_parts.specs.ByEntries.{Come, entry, is_committed, has_rows, is_read, by_page, facts_on, no_rows, points_of, known_after, read_fault, entry_fault, page_check}
 use Rattle.fl_parts.specs.Reading.{rises, last_in, keys_fault}
 use Rattle.fl_parts.specs.declared.mount_fault.MountFault.{MountFault}
 use Rattle.fl_parts.specs.declared.mount_fault.MountFault.TheVariants.{BadPage, BadKeys}

@@ -1,6 +1,6 @@
 -- What a mount knows of the kept data pages, and why it is refused, over any bytes. Where index entries are full it reads the
 -- kept index pages, and of the data pages those that none lists and the newest with rows; else it reads each data page.
-use Rattle.std.specs.Prelude.{ℕ, zero, suc, ◌+◌, ◌-◌, ◌/◌, max, min, Bool, true, not, ◌&&◌, ◌||◌, nat_lt, nat_le, ◌==◌, Option, Some, None, is_none, option_map, unwrap_or, List, [], ◌∷◌, ◌++◌, length, map, if◌then◌else◌}
+use Rattle.std.specs.Prelude.{ℕ, zero, suc, ◌+◌, ◌-◌, max, min, Bool, true, not, ◌&&◌, ◌||◌, nat_lt, nat_le, ◌==◌, Option, Some, None, is_none, option_map, unwrap_or, List, [], ◌∷◌, ◌++◌, length, map, if◌then◌else◌}
 use Rattle.fl_find.specs.Pages.{first_key, rows_on}
 use Rattle.fl_index.specs.Page.{page_first, page_entries, found_at, full_view}
 use Rattle.fl_index.specs.declared.page.EntryForm.{EntryForm}
@@ -8,10 +8,10 @@ use Rattle.fl_index.specs.declared.page.Found.{Found}
 use Rattle.fl_mark.specs.Mark.{state_of_page}
 use Rattle.fl_model.specs.Layout.{Full}
 use Rattle.fl_model.specs.Limits.{numbers_from}
-use Rattle.fl_model.specs.Record.{RowLayout, layout_len}
+use Rattle.fl_model.specs.Record.{RowLayout}
 use Rattle.fl_model.specs.Row.{Row}
-use Rattle.fl_page.specs.Header.{page_number, page_count}
-use Rattle.fl_page.specs.Page.{bad_page}
+use Rattle.fl_page.specs.Header.{page_number}
+use Rattle.fl_page.specs.Page.{bad_page, has_form}
 use Rattle.fl_ring.specs.Newest.{commits}
 use Rattle.fl_parts.specs.BlobEnds.{blobs_end}
 use Rattle.fl_parts.specs.Reading.{rises, last_in, keys_fault}
@@ -143,11 +143,6 @@ unlisted_of t number zero = 0
 unlisted_of t number (suc n) = unlisted_of t number n + (if is_none (entry t (number + n)) then 1 else 0)
 
 -- ---- what may be wrong, in the order in which it is checked
-
--- a data page's number and count of rows are such as it may have
-abbrev pub has_form : RowLayout → ℕ → List ℕ → Bool
-has_form layout number page =
-    (page_number page == number) && nat_le 1 (page_count page) && nat_le (page_count page) ((length page - 24) / layout_len layout)
 
 -- a page that is read, by its bytes; `rows` says whether its entry tells rows
 abbrev pub read_fault : RowLayout → ℕ → List ℕ → Bool → Option ℕ → Option MountFault
