@@ -7,11 +7,11 @@ use Rattle.fl_base.specs.declared.types.RingPlace.{RingPlace}
 use Rattle.fl_bitmap.proofs.Widths.{widths}
 use Rattle.fl_bitmap.specs.Widths.{is_bits}
 use Rattle.fl_bitmap.specs.declared.buckets.Buckets.{Buckets}
-use Rattle.fl_rules.specs.DataPage.{HasBuckets}
 use Rattle.fl_index.specs.Page.{form_len}
 use Rattle.fl_index.specs.declared.page.EntryForm.{EntryForm}
 use Rattle.fl_index.proofs.WaitingEntries.{width-le, width-le22}
 use Rattle.fl_model.specs.Record.{has_index}
+use Rattle.fl_bitmap.specs.Bucket.{HasBuckets}
 use Rattle.fl_plan.specs.declared.table_config.TableConfig.{TableConfig}
 use Rattle.fl_plan.specs.Limits.{IsWithinLimits}
 use Rattle.fl_plan.specs.Plan.{Label, bits_in, base_in, width_in, blocks_in, plan_of_table}

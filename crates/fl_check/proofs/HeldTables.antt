@@ -16,6 +16,7 @@ use Rattle.fl_model.specs.Record.{Plan, row_layout, layout_len, rows_per_page, e
 use Rattle.fl_model.specs.Ring as model
 use Rattle.fl_model.specs.Row.{Row, stored_row, le}
 use Rattle.fl_model.specs.Table.{Entry, end_of_blobs, full_pages}
+use Rattle.fl_bitmap.specs.Bucket.{HasBuckets}
 use Rattle.fl_page.specs.Page.{rows_in}
 use Rattle.fl_page.specs.Steps.{Ascends}
 use Rattle.fl_plan.specs.Limits.{IsWithinLimits}
@@ -26,7 +27,7 @@ use Rattle.fl_ring.specs.Newest.{commits}
 use Rattle.fl_ring.specs.Ring.{Shape, IsShape, count, oldest, place, committed_end}
 use Rattle.fl_rules.specs.Claims.{AllBelow}
 use Rattle.fl_rules.specs.ContentPage.{IsContentPage}
-use Rattle.fl_rules.specs.DataPage.{HasBuckets, HasForm, IsDataPage}
+use Rattle.fl_rules.specs.DataPage.{HasForm, IsDataPage}
 use Rattle.fl_rules.specs.Marks.{kept_page}
 use Rattle.fl_rules.specs.References.{BlobLeads, RowsLead, PageLeads}
 use Rattle.fl_rules.specs.Rising.{KeysAscend}

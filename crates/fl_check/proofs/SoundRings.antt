@@ -7,12 +7,12 @@ use Rattle.fl_base.specs.declared.types.RingPlace.{RingPlace}
 use Rattle.fl_flash.specs.Flash.{FlashState, page_at, pages}
 use Rattle.fl_flash.specs.Places.{extent}
 use Rattle.fl_model.specs.Layout.{committed, index_body, rows_body}
+use Rattle.fl_bitmap.specs.Bucket.{bitmap_in}
 use Rattle.fl_plan.specs.Limits.{IsRingSize}
 use Rattle.fl_plan.specs.Plan.{plan_of_table}
 use Rattle.fl_plan.specs.Refusal.{nameless}
 use Rattle.fl_plan.specs.declared.table_config.TableConfig.{TableConfig}
 use Rattle.fl_ring.proofs.Lengths.{page_length}
-use Rattle.fl_rules.specs.DataPage.{bitmap_in}
 use Rattle.fl_rules.specs.Endings.{IsEnded}
 use Rattle.fl_rules.specs.RingRules.{KeyOrder, NoRows, IsRingSound}
 use Rattle.fl_check.specs.StandingRings.{HaveSize, EndsCommitted, IsSortedLogForm, StandsRuled, SoundRingsStand}

@@ -7,7 +7,7 @@ use Rattle.std.proofs.lemmas.List.{drop-drop}
 use Rattle.std.proofs.lemmas.List.Sums.{sum_by-cons}
 use Rattle.std.proofs.lemmas.Option.{none-some}
 use Rattle.fl_base.specs.declared.types.Span.{Span}
-use Rattle.fl_bitmap.specs.Bucket.{AreBucketsOf, bucket_in, mask_in, with_value}
+use Rattle.fl_bitmap.specs.Bucket.{AreBucketsOf, bucket_in, mask_in, with_value, HasBuckets, bitmap_in}
 use Rattle.fl_bitmap.specs.declared.buckets.Buckets.{Buckets}
 use Rattle.fl_bitmap.proofs.Spans.{bucket_of-is}
 use Rattle.fl_index.specs.declared.index.BitmapIndex.{BitmapIndex}
@@ -25,7 +25,7 @@ use Rattle.fl_model.specs.Table as model
 use Rattle.fl_frame.specs.Contents.{Contents}
 use Rattle.fl_parts.specs.Bitmaps.{ArePlanned}
 use Rattle.fl_table.specs.Look.{oldest_in, rows_noted}
-use Rattle.fl_table.specs.Memory.{next_in, HasBuckets}
+use Rattle.fl_table.specs.Memory.{next_in}
 use Rattle.fl_table.specs.Skipping.{mask_for, wants_page}
 use Rattle.fl_table.specs.Skipping as skipping
 use Rattle.fl_table.specs.declared.table.Table.{Table}
@@ -33,7 +33,7 @@ use Rattle.fl_table.proofs.Skips.{mask-meets, index-stands, some-bits}
 use Rattle.fl_cursor.specs.Asked.{is_asked}
 use Rattle.fl_cursor.specs.Cursor.{IsStanding}
 use Rattle.fl_cursor.specs.Listed.{rows_on}
-use Rattle.fl_cursor.specs.Reads.{begins_above, bitmap_in, has_full, is_beyond, is_indexed_in, is_missed}
+use Rattle.fl_cursor.specs.Reads.{begins_above, has_full, is_beyond, is_indexed_in, is_missed}
 use Rattle.fl_cursor.proofs.PassedRows.{NotLeft}
 use Rattle.fl_cursor.proofs.Stood.{kept-rows, at-number, back, standing-many}
 

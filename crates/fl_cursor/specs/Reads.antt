@@ -1,11 +1,10 @@
 -- How many reads the steps to come make.
-use Rattle.std.specs.Prelude.{◌≡◌, ◌≤◌, ℕ, zero, suc, ◌+◌, ◌-◌, ◌==◌, pos, Bool, true, false, not, ◌&&◌, ◌||◌, nat_le, min, Option, Some, None, is_some, option_map, unwrap_or, List, [], ◌∷◌, drop, fold, bit_and, slice_get, if◌then◌else◌}
+use Rattle.std.specs.Prelude.{◌≡◌, ◌≤◌, ℕ, zero, suc, ◌+◌, ◌-◌, ◌==◌, Bool, true, false, not, ◌&&◌, ◌||◌, nat_le, min, Option, Some, None, is_some, option_map, unwrap_or, List, [], ◌∷◌, drop, bit_and, if◌then◌else◌}
 use Rattle.std.specs.List.{list_any}
 use Rattle.fl_model.specs.Query as model
 use Rattle.fl_model.specs.Query.{is_up_to}
 use Rattle.fl_base.specs.declared.types.Span.{Span}
-use Rattle.fl_bitmap.specs.Bucket.{with_value}
-use Rattle.fl_bitmap.specs.declared.buckets.Buckets.{Buckets}
+use Rattle.fl_bitmap.specs.Bucket.{bitmap_in}
 use Rattle.fl_flash.specs.Buffer.{BufferState}
 use Rattle.fl_index.specs.Memory.{form_in, is_waiting, listing_in}
 use Rattle.fl_index.specs.declared.index.BitmapIndex.{BitmapIndex}
@@ -28,11 +27,6 @@ use Rattle.fl_cursor.specs.declared.cursor.Cursor.{Cursor}
 -- a row behind which none may be given
 abbrev pub has_last : Option ℕ → List Row → Bool
 has_last top rows = list_any (λ row. is_last top row.key) rows
-
--- the bitmap of rows: the buckets of their first values
-abbrev pub bitmap_in : Option Buckets → List Row → ℕ
-bitmap_in None rows = 0
-bitmap_in (Some buckets) rows = fold (λ bits row. with_value buckets bits (unwrap_or (slice_get row.values 0) (pos 0))) 0 rows
 
 -- an index page lists a data page, or its entry waits
 abbrev pub is_indexed_in : Option BitmapIndex → ℕ → Bool

@@ -11,6 +11,7 @@ use Rattle.fl_base.specs.Bytes.{all_are}
 use Rattle.fl_model.specs.Layout.{rows_body}
 use Rattle.fl_model.specs.Record.{RowLayout, layout_len}
 use Rattle.fl_model.specs.Row.{Row, le, bytes_of_row}
+use Rattle.fl_bitmap.specs.Bucket.{bitmap_in}
 use Rattle.fl_page.specs.Header.{page_count}
 use Rattle.fl_page.specs.Page.{rows_from, rows_in, IsGoodPage}
 use Rattle.fl_page.proofs.DataPages.{length-rows, good_body, rows_in-rows_body}
@@ -18,7 +19,7 @@ use Rattle.fl_page.proofs.WriterSteps.{layout_some}
 use Rattle.fl_schema.specs.Form.{layout_with}
 use Rattle.fl_schema.specs.declared.column.ColumnType.{ColumnType}
 use Rattle.fl_schema.specs.declared.schema.KeyWidth.{KeyWidth}
-use Rattle.fl_rules.specs.DataPage.{IsDataPage, bitmap_in, are_plain}
+use Rattle.fl_rules.specs.DataPage.{IsDataPage, are_plain}
 use Rattle.fl_rules.specs.Endings.{IsFilled}
 use Rattle.fl_rules.proofs.BytesBack.{AreBytes}
 use Rattle.fl_rules.proofs.PageRows.{length-rows_from}

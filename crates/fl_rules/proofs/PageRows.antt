@@ -4,14 +4,14 @@ use Rattle.std.specs.List.{fold}
 use Rattle.std.proofs.lemmas.Bool.{ltb-true}
 use Rattle.std.proofs.lemmas.List.{take_all}
 use Rattle.std.proofs.lemmas.Option.{none-some, same_Some}
-use Rattle.fl_bitmap.specs.Bucket.{with_value}
+use Rattle.fl_bitmap.specs.Bucket.{with_value, bitmap_in}
 use Rattle.fl_bitmap.specs.declared.buckets.Buckets.{Buckets}
 use Rattle.fl_model.specs.Query.{is_above}
 use Rattle.fl_model.specs.Record.{RowLayout, layout_len}
 use Rattle.fl_model.specs.Row.{Row}
 use Rattle.fl_page.specs.Page.{rows_from}
 use Rattle.fl_page.specs.Steps.{Ascends}
-use Rattle.fl_rules.specs.DataPage.{bitmap_in, is_plain, are_plain}
+use Rattle.fl_rules.specs.DataPage.{is_plain, are_plain}
 
 pub length-rows_from : (n : ℕ) (layout : RowLayout) (bytes : List ℕ) → length (rows_from n layout bytes) ≡ n
 length-rows_from zero layout bytes = refl

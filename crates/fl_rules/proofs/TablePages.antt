@@ -5,7 +5,7 @@ use Rattle.std.proofs.Math.Nat.{mod-lt, mod-eq_of_lt, one-le-pow, pow-le-pow_rig
 use Rattle.std.proofs.lemmas.Bool.{eqb-true, false_from_ne_true, eq-eqb}
 use Rattle.std.proofs.lemmas.List.{length-replicate, length-map}
 use Rattle.fl_base.specs.declared.types.BlobRef.{BlobRef}
-use Rattle.fl_bitmap.specs.Bucket.{AreBucketsOf, with_value, bucket_in}
+use Rattle.fl_bitmap.specs.Bucket.{AreBucketsOf, with_value, bucket_in, HasBuckets, bitmap_in}
 use Rattle.fl_bitmap.specs.Widths.{is_bits}
 use Rattle.fl_bitmap.specs.declared.buckets.Buckets.{Buckets}
 use Rattle.fl_bitmap.proofs.Spans.{bucket_of-is}
@@ -16,7 +16,7 @@ use Rattle.fl_model.specs.Record.{Plan, RowLayout, row_layout, layout_len, rows_
 use Rattle.fl_model.specs.Row.{Row, IsStorable, stored_row, le, number_of}
 use Rattle.fl_model.specs.Table.{Entry}
 use Rattle.fl_page.specs.Header.{page_bitmap}
-use Rattle.fl_rules.specs.DataPage.{IsDataPage, HasBuckets, HasForm, HoldsEntries, bitmap_in, are_plain}
+use Rattle.fl_rules.specs.DataPage.{IsDataPage, HasForm, HoldsEntries, are_plain}
 
 -- as many bytes are read of a blob as its row says
 abbrev pub ReadsAll : (BlobRef → List ℕ) → Type 0

@@ -1,18 +1,13 @@
 -- Data pages that are whole, by their bytes.
-use Rattle.std.specs.Prelude.{◌≡◌, ℕ, ◌-◌, ◌/◌, ◌≤◌, Bool, true, ◌&&◌, ◌||◌, nat_lt, ◌==◌, pos, Option, Some, None, unwrap_or, List, length, fold, map, slice_get}
+use Rattle.std.specs.Prelude.{◌≡◌, ℕ, ◌-◌, ◌/◌, ◌≤◌, Bool, true, ◌&&◌, ◌||◌, nat_lt, ◌==◌, Option, Some, None, List, length, map}
 use Rattle.std.specs.List.{list_all, AllByRecursion}
 use Rattle.fl_base.specs.declared.types.BlobRef.{BlobRef}
-use Rattle.fl_bitmap.specs.Bucket.{AreBucketsOf, with_value}
+use Rattle.fl_bitmap.specs.Bucket.{HasBuckets, bitmap_in}
 use Rattle.fl_bitmap.specs.declared.buckets.Buckets.{Buckets}
 use Rattle.fl_model.specs.Layout.{rows_body, data_body, committed}
 use Rattle.fl_model.specs.Record.{Plan, RowLayout, row_layout, layout_len, rows_per_page}
 use Rattle.fl_model.specs.Row.{Row, IsStorable, stored_row}
 use Rattle.fl_model.specs.Table.{Entry}
-
--- the bitmap of rows: the buckets of their first values; 0 where the table has no buckets
-abbrev pub bitmap_in : Option Buckets → List Row → ℕ
-bitmap_in None rows = 0
-bitmap_in (Some buckets) rows = fold (λ bits row. with_value buckets bits (unwrap_or (slice_get row.values 0) (pos 0))) 0 rows
 
 -- a reference of length 0 is ten bytes 0
 abbrev pub is_plain : Option BlobRef → Bool
@@ -30,11 +25,6 @@ pub record IsDataPage (layout : RowLayout) (buckets : Option Buckets) (number : 
   pub storable : AllByRecursion (IsStorable layout) rows
   pub plain : are_plain rows ≡ true
   pub bytes : page ≡ committed (rows_body (length page - 8) layout number (bitmap_in buckets rows) rows)
-
--- a table may have no buckets
-abbrev pub HasBuckets : Plan → Option Buckets → Type 0
-HasBuckets plan None = plan.bits ≡ 0
-HasBuckets plan (Some buckets) = AreBucketsOf plan buckets
 
 -- the data pages of a table have rows of this layout, these buckets and so many bytes
 pub record HasForm (plan : Plan) (layout : RowLayout) (buckets : Option Buckets) (size : ℕ) : Type 0 where

@@ -2,9 +2,10 @@
 // rows, and FF behind them.
 ghost use Rattle.std.specs.Prelude.{◌≡◌, ◌+◌, ◌*◌, ◌↔◌, ◌≤◌, ◌<◌, IsTrue, length};
 ghost use Rattle.fl_model.specs.Record.{Plan};
+ghost use Rattle.fl_bitmap.specs.Bucket.{bitmap_in};
 ghost use Rattle.fl_page.specs.View.{layout_of_page, page_of, count_of, rows_of};
 ghost use Rattle.fl_schema.specs.Schema.{layout_of, types_of};
-ghost use Rattle.fl_rules.specs.DataPage.{IsDataPage, HasForm, HoldsEntries, bitmap_in, is_plain, are_plain};
+ghost use Rattle.fl_rules.specs.DataPage.{IsDataPage, HasForm, HoldsEntries, is_plain, are_plain};
 
 use crate::bytes::ends_filled;
 use fl_base::{BlobRef, each_is, get_u64};

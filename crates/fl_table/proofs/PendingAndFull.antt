@@ -6,7 +6,7 @@ use Rattle.std.proofs.lemmas.List.{drop-append-le, append-nil}
 use Rattle.std.proofs.lemmas.List.Sums.{fold_push}
 use Rattle.std.proofs.lemmas.Option.{unwrap_or-slice_get}
 use Rattle.std.specs.List.{slice_get, sum, last_or}
-use Rattle.fl_bitmap.specs.Bucket.{bucket_in}
+use Rattle.fl_bitmap.specs.Bucket.{bucket_in, HasBuckets}
 use Rattle.fl_bitmap.specs.Widths.{is_bits}
 use Rattle.fl_bitmap.specs.declared.buckets.Buckets.{Buckets}
 use Rattle.fl_flash.specs.Flash.{FlashState, page_at}
@@ -31,7 +31,7 @@ use Rattle.fl_model.proofs.TableSeals.{idle-table_seals, full-room_seals, room-r
 use Rattle.fl_flash.specs.declared.flash.FlashFault.{FlashFault}
 use Rattle.fl_schema.specs.Schema.{layout_of}
 use Rattle.fl_table.specs.Accepting.{IsAcceptedBy}
-use Rattle.fl_table.specs.Memory.{HasBuckets, bitmap_with}
+use Rattle.fl_table.specs.Memory.{bitmap_with}
 use Rattle.fl_table.specs.Outcomes.{Finishes, Breaks, BySeals, FaultEnds}
 use Rattle.fl_parts.specs.Pages.{KeptStand}
 use Rattle.fl_table.specs.Standing.{Stands}

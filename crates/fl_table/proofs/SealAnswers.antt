@@ -11,6 +11,7 @@ use Rattle.fl_model.specs.Ring as model
 use Rattle.fl_model.specs.Row.{Row, stored_row}
 use Rattle.fl_model.specs.Layout.{data_body, rows_body, bitmap_of}
 use Rattle.fl_model.specs.Table.{Table, DataRing, shape_of, pending_entries, lose}
+use Rattle.fl_bitmap.specs.Bucket.{HasBuckets}
 use Rattle.fl_parts.specs.Blobs.{AreEmpty}
 use Rattle.fl_parts.proofs.Plain.{table-parts}
 use Rattle.fl_table.proofs.BlobsOfTable as blobbing
@@ -26,7 +27,7 @@ use Rattle.fl_ring.specs.Ring.{Shape, OnRing}
 use Rattle.fl_ring.specs.Sealing.{IsReady}
 use Rattle.fl_ring.specs.declared.ring.Ring.{Ring}
 use Rattle.fl_schema.specs.Schema.{layout_of}
-use Rattle.fl_table.specs.Memory.{IsPlanned, IsSamePlan, HasBuckets}
+use Rattle.fl_table.specs.Memory.{IsPlanned, IsSamePlan}
 use Rattle.fl_table.specs.Standing.{Stands}
 use Rattle.fl_table.specs.declared.table.Table as code
 use Rattle.fl_parts.proofs.TablePages.{plain-on, have-size}

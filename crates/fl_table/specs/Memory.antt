@@ -1,7 +1,7 @@
 -- What clauses see of a table in memory.
 use Rattle.std.specs.Prelude.{◌≡◌, ◌⊎◌, ℕ, ◌+◌, ◌*◌, ◌%◌, ◌^◌, ◌<◌, ◌≤◌, Bool, false, ◌||◌, Option, Some, None, List, [], ℤ, is_some, option_map, unwrap_or, map, length, slice_get, slice_index}
 use Rattle.std.specs.Option.{ForSome}
-use Rattle.fl_bitmap.specs.Bucket.{AreBucketsOf, with_value}
+use Rattle.fl_bitmap.specs.Bucket.{with_value, HasBuckets}
 use Rattle.fl_bitmap.specs.declared.buckets.Buckets.{Buckets}
 use Rattle.fl_find.specs.Index.{IndexOf, error_in}
 use Rattle.fl_flash.specs.Flash.{FlashState, pages}
@@ -36,11 +36,6 @@ is_running t = is_some t.ring
 -- the last mount succeeded
 abbrev pub is_mounted : {KNOTS SLOTS : ℕ} → Table KNOTS SLOTS → Bool
 is_mounted t = is_running t || is_stopped t
-
--- a table may have no buckets
-abbrev pub HasBuckets : Plan → Option Buckets → Type 0
-HasBuckets plan None = plan.bits ≡ 0
-HasBuckets plan (Some buckets) = AreBucketsOf plan buckets
 
 -- the bitmap with one more value
 abbrev pub bitmap_with : Option Buckets → ℕ → ℤ → ℕ

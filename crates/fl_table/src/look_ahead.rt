@@ -33,8 +33,9 @@ impl<const KNOTS: usize, const SLOTS: usize> Table<KNOTS, SLOTS> {
     ghost use Rattle.fl_model.specs.Record.{Plan};
     ghost use Rattle.fl_model.specs.Ring as rings;
     ghost use Rattle.fl_model.specs.Table as model;
-    ghost use Rattle.fl_table.specs.Memory.{next_in, HasBuckets, LiesOn};
+    ghost use Rattle.fl_table.specs.Memory.{next_in, LiesOn};
     ghost use Rattle.fl_table.specs.Skipping.{AreFresh, AreScanning, HoldGood, IsBadIndex, IsLookedUpBy, IsToldBy, LooksOn, ShowsPage, ahead_by, index_in, mask_for};
+    ghost use Rattle.fl_bitmap.specs.Bucket.{HasBuckets};
     ghost use Rattle.fl_table.specs.declared.look_ahead.Ahead.{Ahead};
     ghost use Rattle.fl_table.specs.Standing.{Stands};
 

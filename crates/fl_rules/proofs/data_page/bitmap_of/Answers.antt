@@ -1,11 +1,10 @@
 use Rattle.std.proofs.Common.{◌≡◌, ℕ, ℤ, pos, Option, Some, take, length, slice_get, unwrap_or, sym, ◌∙◌, ap, arith, rules}
 use Rattle.std.specs.Int.{w64}
 use Rattle.std.proofs.lemmas.Int.{to_z-of_z}
-use Rattle.fl_bitmap.specs.Bucket.{with_value}
+use Rattle.fl_bitmap.specs.Bucket.{with_value, bitmap_in}
 use Rattle.fl_bitmap.specs.declared.buckets.Buckets.{Buckets}
 use Rattle.fl_page.specs.View.{rows_of, count_of}
 use Rattle.fl_schema.specs.Schema.{row_of}
-use Rattle.fl_rules.specs.DataPage.{bitmap_in}
 use Rattle.fl_rules.proofs.PageRows.{length-rows_from, bitmap-next, bitmap-end}
 use Rattle.fl_rules.proofs.data_page.bitmap_of.Goals as goal
 

@@ -1,11 +1,12 @@
 use Rattle.std.proofs.Common.{◌≡◌, ℕ, ◌+◌, ◌*◌, sym, subst, ◌∙◌, ap, arith, rules}
 use Rattle.fl_model.specs.Record.{layout_len}
 use Rattle.fl_model.specs.Row.{le}
+use Rattle.fl_bitmap.specs.Bucket.{bitmap_in}
 use Rattle.fl_page.specs.Header.{page_count}
 use Rattle.fl_page.specs.Page.{rows_in}
 use Rattle.fl_page.specs.View.{page_of, layout_of_page, count_of, rows_of}
 use Rattle.fl_schema.specs.Schema.{layout_of, types_of}
-use Rattle.fl_rules.specs.DataPage.{bitmap_in, are_plain}
+use Rattle.fl_rules.specs.DataPage.{are_plain}
 use Rattle.fl_rules.specs.Endings.{IsFilled}
 use Rattle.fl_rules.proofs.DataPages.{rows_fit, is_data, data_bits, data_plain, data_zero, data_ends, bits_are, bits_read, rows_seen}
 use Rattle.fl_rules.proofs.TablePages.{holds_entries, is_data_page}
