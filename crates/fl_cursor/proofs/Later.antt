@@ -24,12 +24,12 @@ use Rattle.fl_model.specs.Table.{Entry, firsts}
 use Rattle.fl_model.proofs.Lists.{slice_get-short}
 use Rattle.fl_frame.specs.Contents.{Contents}
 use Rattle.fl_page.specs.Steps.{Ascends}
+use Rattle.fl_page.proofs.RowsFrom.{drop-row}
 use Rattle.fl_search.specs.Search.{IsPageOf}
 use Rattle.fl_table.specs.Look.{oldest_in, buffered_rows}
 use Rattle.fl_table.specs.Memory.{next_in}
 use Rattle.fl_table.specs.declared.table.Table.{Table}
 use Rattle.fl_parts.proofs.KeptPages.{sum-next}
-use Rattle.fl_parts.proofs.KeyRows.{drop-row}
 use Rattle.fl_table.proofs.MemoryTells.{next-is, oldest-is}
 use Rattle.fl_table.proofs.Skips.{index-stands}
 use Rattle.fl_cursor.specs.Cursor.{IsStanding}

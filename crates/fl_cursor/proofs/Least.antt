@@ -23,7 +23,6 @@ use Rattle.fl_table.specs.Look.{oldest_in, buffered_rows}
 use Rattle.fl_table.specs.Memory.{next_in}
 use Rattle.fl_table.specs.declared.table.Table.{Table}
 use Rattle.fl_parts.proofs.KeptPages.{sum-next}
-use Rattle.fl_parts.proofs.KeyRows.{drop-row}
 use Rattle.fl_table.proofs.MemoryTells.{next-is, oldest-is}
 use Rattle.fl_cursor.specs.Ascending.{both}
 use Rattle.fl_cursor.specs.Asked.{is_asked, row_matches, lowest_of}
@@ -37,6 +36,7 @@ use Rattle.fl_cursor.proofs.StartSearch.{begins}
 use Rattle.fl_cursor.proofs.Later.{lists_later, due-later, none-counted, first-over}
 use Rattle.fl_cursor.proofs.IndexLookups.{due-both}
 use Rattle.fl_flash.specs.Buffer.{BufferState}
+use Rattle.fl_page.proofs.RowsFrom.{drop-row}
 use Rattle.fl_index.specs.declared.index.BitmapIndex.{BitmapIndex}
 use Rattle.fl_index.specs.Looking.{due, next_to_read}
 use Rattle.fl_index.proofs.Lists.{firsts-length}

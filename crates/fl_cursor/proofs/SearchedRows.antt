@@ -6,7 +6,7 @@ use Rattle.fl_model.specs.Query.{Cursor}
 use Rattle.fl_model.specs.Record.{RowLayout}
 use Rattle.fl_model.specs.Row.{Row}
 use Rattle.fl_page.specs.Page.{rows_from}
-use Rattle.fl_parts.proofs.KeyRows.{drop-row, length-rows_from}
+use Rattle.fl_page.proofs.RowsFrom.{drop-row, length-rows_from}
 use Rattle.fl_cursor.specs.Asked.{is_left, is_last}
 use Rattle.fl_cursor.specs.Sought.{first_left}
 use Rattle.fl_cursor.specs.declared.search.Sought.TheVariants.{Row as At, Behind, Nowhere}

@@ -6,10 +6,10 @@ use Rattle.fl_model.specs.Query.{Cursor, in_range, in_span, is_above, is_up_to}
 use Rattle.fl_model.specs.Row.{Row}
 use Rattle.fl_frame.specs.Contents.{Contents}
 use Rattle.fl_page.specs.Steps.{Ascends}
+use Rattle.fl_page.proofs.RowsFrom.{drop-row}
 use Rattle.fl_table.specs.Look.{oldest_in, buffered_rows}
 use Rattle.fl_table.specs.Memory.{next_in}
 use Rattle.fl_table.specs.declared.table.Table.{Table}
-use Rattle.fl_parts.proofs.KeyRows.{drop-row}
 use Rattle.fl_cursor.specs.Ascending.{both}
 use Rattle.fl_cursor.specs.Asked.{is_left, lowest, lowest_of}
 use Rattle.fl_cursor.specs.Cursor.{Passes, IsStanding}

@@ -1,4 +1,5 @@
 pub mod RowBytes
+pub mod RowsFrom
 pub mod WriterSteps
 pub mod DataPages
 pub mod ReadsInTurn

@@ -3,25 +3,17 @@ use Rattle.std.proofs.Common.{◌≡◌, ℕ, zero, suc, ◌+◌, ◌-◌, ◌*�
 use Rattle.std.proofs.Math.Nat.{le-div_iff_mul-le}
 use Rattle.std.proofs.lemmas.Bool.{ltb-true}
 use Rattle.std.specs.List.{slice_get}
-use Rattle.std.proofs.lemmas.Option.{none-some}
 use Rattle.fl_model.specs.Record.{RowLayout, layout_len}
 use Rattle.fl_model.specs.Row.{Row}
 use Rattle.fl_mark.specs.Mark.{state_of_page}
 use Rattle.fl_mark.specs.declared.page_state.PageState.TheVariants.{Committed}
 use Rattle.fl_page.specs.Header.{page_count}
-use Rattle.fl_page.specs.Page.{rows_from, IsGoodPage}
+use Rattle.fl_page.specs.Page.{IsGoodPage}
+use Rattle.fl_page.proofs.RowsFrom.{drop-row, length-rows_from}
 use Rattle.fl_parts.specs.Reading.{rises, keys_fault, last_in}
 use Rattle.fl_parts.specs.declared.mount_fault.MountFault.TheVariants.{BadKeys}
 use Rattle.fl_parts.proofs.Writers.{few-rows}
 use Rattle.fl_find.specs.Pages.{rows_on, rows_where}
-
-pub drop-row : (rows : List Row) (i : ℕ) (row : Row) → slice_get rows i ≡ Some row → drop i rows ≡ row ∷ drop (i + 1) rows
-drop-row rows i row e = at i rows e ∙ ap (λ n. row ∷ drop n rows) (let s : suc i ≡ i + 1 = omega arith in s)
-  where
-    at : (i : ℕ) (rows : List Row) → slice_get rows i ≡ Some row → drop i rows ≡ row ∷ drop (suc i) rows
-    at i [] e = absurd (none-some row e)
-    at zero (r ∷ rows) e = let same : r ≡ row = cc in ap (λ x. x ∷ rows) same
-    at (suc i) (r ∷ rows) e = at i rows e
 
 drop-end : (rows : List Row) (i : ℕ) → length rows ≤ i → drop i rows ≡ []
 drop-end [] zero h = refl
@@ -56,10 +48,6 @@ keys-end number i rows last first le h = h ∙ ap (keys_fault number last) (drop
 
 pub last-end : (i : ℕ) (rows : List Row) (last first : Option ℕ) → length rows ≤ i → last_in first rows ≡ last_in last (drop i rows) → last ≡ last_in first rows
 last-end i rows last first le h = sym (h ∙ ap (last_in last) (drop-end rows i le))
-
-pub length-rows_from : (n : ℕ) (layout : RowLayout) (bytes : List ℕ) → length (rows_from n layout bytes) ≡ n
-length-rows_from zero layout bytes = refl
-length-rows_from (suc n) layout bytes = ap suc (length-rows_from n layout (drop (layout_len layout) bytes))
 
 -- a committed page has as many rows as it says
 pub page-length : (layout : RowLayout) (page : List ℕ) → state_of_page page ≡ Committed → length (rows_on layout page) ≡ page_count page

@@ -19,10 +19,10 @@ use Rattle.fl_page.proofs.WriterSteps.{layout_some}
 use Rattle.fl_schema.specs.Form.{layout_with}
 use Rattle.fl_schema.specs.declared.column.ColumnType.{ColumnType}
 use Rattle.fl_schema.specs.declared.schema.KeyWidth.{KeyWidth}
+use Rattle.fl_page.proofs.RowsFrom.{length-rows_from}
 use Rattle.fl_rules.specs.DataPage.{IsDataPage, are_plain}
 use Rattle.fl_rules.specs.Endings.{IsFilled}
 use Rattle.fl_rules.proofs.BytesBack.{AreBytes}
-use Rattle.fl_rules.proofs.PageRows.{length-rows_from}
 use Rattle.fl_rules.proofs.Parts.{each-taken, each-dropped, field_is, zero_is, is_zero, joined, ends_of}
 use Rattle.fl_rules.proofs.RowsBack.{rows_back, rows_storable}
 

@@ -1,18 +1,15 @@
 -- The rows of a page from one on.
-use Rattle.std.proofs.Common.{ℕ, zero, suc, ◌≡◌, ◌+◌, ◌≤◌, true, List, [], ◌∷◌, length, drop, Option, Some, refl, ap, ◌∙◌, sym, subst, arith}
+use Rattle.std.proofs.Common.{ℕ, zero, suc, ◌≡◌, ◌+◌, ◌≤◌, true, List, [], ◌∷◌, drop, Option, Some, ap, ◌∙◌, sym, subst, arith}
 use Rattle.std.specs.List.{slice_get}
 use Rattle.std.proofs.lemmas.Grind.{common_steps}
 use Rattle.std.proofs.lemmas.List.{drop_all}
 use Rattle.std.proofs.lemmas.Option.{slice_get_within}
-use Rattle.fl_model.specs.Record.{RowLayout, layout_len}
+use Rattle.fl_model.specs.Record.{RowLayout}
 use Rattle.fl_model.specs.Row.{Row}
 use Rattle.fl_model.specs.Query.{is_above}
 use Rattle.fl_page.specs.Page.{rows_from}
 use Rattle.fl_page.specs.Steps.{Ascends}
-
-length-rows_from : (n : ℕ) (layout : RowLayout) (bytes : List ℕ) → length (rows_from n layout bytes) ≡ n
-length-rows_from zero layout bytes = refl
-length-rows_from (suc n) layout bytes = ap suc (length-rows_from n layout (drop (layout_len layout) bytes))
+use Rattle.fl_page.proofs.RowsFrom.{length-rows_from}
 
 -- none is left past the last one
 pub rows_from-end : (n : ℕ) (layout : RowLayout) (bytes : List ℕ) (i : ℕ) → n ≤ i → drop i (rows_from n layout bytes) ≡ []

@@ -36,6 +36,7 @@ use Rattle.fl_ring.specs.Place.{shape_of, next_of, oldest_of}
 use Rattle.fl_ring.specs.Ring.{Shape, place}
 use Rattle.fl_ring.specs.declared.ring.Ring.{Ring}
 use Rattle.fl_schema.specs.Schema.{layout_of}
+use Rattle.fl_page.proofs.RowsFrom.{length-rows_from}
 use Rattle.fl_search.specs.Search.{Ascends, IsPageOf, starts_by}
 use Rattle.fl_table.specs.Finding.{AnswersInPages, AnswersPending, BlamesFor, EndsOn, Finds, HasKeyAt, IsRowAt, HoldsIts, HoldsKept, HasBadPage, IsBadFor, IsPageFor, LookupFails, first_at, rows_at as rows_of_page, window_in}
 use Rattle.fl_table.specs.Look.{buffered_rows, layout_in, oldest_in}
@@ -44,7 +45,6 @@ use Rattle.fl_table.specs.Standing.{Stands}
 use Rattle.fl_table.specs.declared.find.RowAt.TheVariants as at
 use Rattle.fl_table.specs.declared.table.Table.{Table}
 use Rattle.fl_table.proofs.KeptRead.{ring-place, shown}
-use Rattle.fl_parts.proofs.KeyRows.{length-rows_from}
 use Rattle.fl_table.proofs.PendingRows.{written-found, written-none, pending-found, pending-none}
 use Rattle.fl_table.proofs.SealAnswers.{planned-ring}
 use Rattle.fl_parts.proofs.States.{shape_in}

@@ -24,13 +24,13 @@ use Rattle.fl_ring.specs.Place.{shape_of}
 use Rattle.fl_ring.specs.Ring.{place}
 use Rattle.fl_ring.specs.declared.ring.Ring.{Ring}
 use Rattle.fl_schema.specs.Schema.{layout_of, types_of}
+use Rattle.fl_page.proofs.RowsFrom.{length-rows_from}
 use Rattle.fl_table.specs.Kept.{place_of, IsFound, ShowsRows}
 use Rattle.fl_table.specs.Memory.{LiesOn}
 use Rattle.fl_table.specs.Standing.{Stands}
 use Rattle.fl_table.specs.declared.table.Table.{Table}
 use Rattle.fl_parts.proofs.TablePages.{plain-on}
 use Rattle.fl_parts.proofs.KeptPages.{kept, length-kept, sum-next}
-use Rattle.fl_parts.proofs.KeyRows.{length-rows_from}
 use Rattle.fl_table.proofs.SealAnswers.{planned-ring, planned-large, lies-size}
 use Rattle.fl_parts.proofs.States.{shape_in}
 use Rattle.fl_find.specs.Pages.{rows_on, rows_where}

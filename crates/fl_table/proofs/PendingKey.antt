@@ -12,12 +12,12 @@ use Rattle.fl_model.specs.Table.{pending_entries}
 use Rattle.fl_page.specs.Page.{rows_from}
 use Rattle.fl_page.proofs.RowBytes.{rows_from-rows}
 use Rattle.fl_schema.specs.Schema.{types_of}
+use Rattle.fl_page.proofs.RowsFrom.{length-rows_from}
 use Rattle.fl_table.specs.Finding.{is_pending_in}
 use Rattle.fl_table.specs.Look.{layout_in, buffered_rows}
 use Rattle.fl_table.specs.Memory.{pending_in}
 use Rattle.fl_table.specs.Standing.{Stands}
 use Rattle.fl_table.specs.declared.table.Table.{Table}
-use Rattle.fl_parts.proofs.KeyRows.{length-rows_from}
 use Rattle.fl_table.proofs.PendingRows.{pending-rise}
 use Rattle.fl_table.proofs.Pointed.{first-key}
 

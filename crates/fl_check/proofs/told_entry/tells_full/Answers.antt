@@ -2,8 +2,8 @@ use Rattle.std.proofs.Common.{◌≡◌, length, sym, ◌∙◌}
 use Rattle.std.proofs.lemmas.Bool.{eqb-true, eq-eqb, true≢false}
 use Rattle.fl_page.specs.View.{count_of, rows_of}
 use Rattle.fl_schema.specs.Schema.{row_of}
+use Rattle.fl_page.proofs.RowsFrom.{length-rows_from}
 use Rattle.fl_check.proofs.FullEntries.{full-told, key-told, count-told, end-told}
-use Rattle.fl_rules.proofs.PageRows.{length-rows_from}
 use Rattle.fl_check.proofs.told_entry.tells_full.Goals.{then-full-key, else-full-key}
 use Rattle.fl_check.proofs.told_entry.tells_full.Goals as goal
 

@@ -2,9 +2,10 @@ use Rattle.std.proofs.Common.{◌≡◌, ℕ, ◌+◌, ◌≤◌, true, drop, Op
 use Rattle.std.proofs.lemmas.Bool.{lt-ltb}
 use Rattle.fl_page.specs.View.{rows_of, count_of}
 use Rattle.fl_schema.specs.Schema.{row_of}
+use Rattle.fl_page.proofs.RowsFrom.{length-rows_from}
 use Rattle.fl_parts.specs.Reading.{rises, keys_fault, last_in}
 use Rattle.fl_parts.specs.declared.mount_fault.MountFault.TheVariants.{BadKeys}
-use Rattle.fl_parts.proofs.KeyRows.{keys-next, keys-bad, keys-end, last-next, last-end, length-rows_from}
+use Rattle.fl_parts.proofs.KeyRows.{keys-next, keys-bad, keys-end, last-next, last-end}
 use Rattle.fl_parts.proofs.keys.last_key_after.Goals as goal
 use Rattle.fl_parts.proofs.keys.last_key_after.Goals.{in-Some+else-key-before, in_default}
 

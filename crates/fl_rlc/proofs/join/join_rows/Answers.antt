@@ -18,9 +18,9 @@ use Rattle.fl_page.specs.Header.{page_count}
 use Rattle.fl_page.specs.Page.{IsGoodPage, rows_in}
 use Rattle.fl_page.specs.View.{page_of, layout_of_page, count_of}
 use Rattle.fl_frame.specs.Watched.{IsWatched}
+use Rattle.fl_page.proofs.RowsFrom.{length-rows_from}
 use Rattle.fl_table.specs.Look.{layout_in}
 use Rattle.fl_table.specs.Standing.{Stands}
-use Rattle.fl_parts.proofs.KeyRows.{length-rows_from}
 use Rattle.fl_table.proofs.SealAnswers.{plan-self, same-then}
 use Rattle.fl_table.proofs.Sizes.{table-fits}
 use Rattle.fl_rlc.specs.Joining.{all_taken}

@@ -2,8 +2,8 @@ use Rattle.std.proofs.Common.{length, drop, ap, arith, List}
 use Rattle.fl_model.specs.Row.{Row}
 use Rattle.fl_page.specs.Header.{page_count}
 use Rattle.fl_page.specs.View.{page_of, layout_of_page, count_of}
+use Rattle.fl_page.proofs.RowsFrom.{length-rows_from}
 use Rattle.fl_table.specs.Look.{layout_in}
-use Rattle.fl_parts.proofs.KeyRows.{length-rows_from}
 use Rattle.fl_rlc.proofs.join.record_at.Goals as goal
 
 pub row-row-requires : goal.row-row-requires

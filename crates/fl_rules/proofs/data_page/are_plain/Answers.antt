@@ -1,8 +1,9 @@
 use Rattle.std.proofs.Common.{◌≡◌, true, false, length, sym, ◌∙◌, ap, arith}
 use Rattle.fl_page.specs.View.{rows_of, count_of}
 use Rattle.fl_schema.specs.Schema.{row_of}
+use Rattle.fl_page.proofs.RowsFrom.{length-rows_from}
 use Rattle.fl_rules.specs.DataPage.{is_plain}
-use Rattle.fl_rules.proofs.PageRows.{length-rows_from, plain-next, plain-bad, plain-end}
+use Rattle.fl_rules.proofs.PageRows.{plain-next, plain-bad, plain-end}
 use Rattle.fl_rules.proofs.data_page.are_plain.Goals as goal
 
 pub returns-then-not-is_plain : goal.returns-then-not-is_plain

@@ -5,7 +5,8 @@ use Rattle.fl_bitmap.specs.Bucket.{with_value, bitmap_in}
 use Rattle.fl_bitmap.specs.declared.buckets.Buckets.{Buckets}
 use Rattle.fl_page.specs.View.{rows_of, count_of}
 use Rattle.fl_schema.specs.Schema.{row_of}
-use Rattle.fl_rules.proofs.PageRows.{length-rows_from, bitmap-next, bitmap-end}
+use Rattle.fl_page.proofs.RowsFrom.{length-rows_from}
+use Rattle.fl_rules.proofs.PageRows.{bitmap-next, bitmap-end}
 use Rattle.fl_rules.proofs.data_page.bitmap_of.Goals as goal
 
 pub loop-i-preserved : goal.loop-i-preserved

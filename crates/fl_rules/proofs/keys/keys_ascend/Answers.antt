@@ -4,7 +4,8 @@ use Rattle.fl_model.specs.Query.{is_above}
 use Rattle.fl_page.specs.Steps.{Ascends}
 use Rattle.fl_page.specs.View.{rows_of, count_of}
 use Rattle.fl_schema.specs.Schema.{row_of}
-use Rattle.fl_rules.proofs.PageRows.{length-rows_from, ascends-next, ascends-bad, ascends-end}
+use Rattle.fl_page.proofs.RowsFrom.{length-rows_from}
+use Rattle.fl_rules.proofs.PageRows.{ascends-next, ascends-bad, ascends-end}
 use Rattle.fl_rules.proofs.keys.keys_ascend.Goals as goal
 use Rattle.fl_rules.proofs.keys.keys_ascend.Goals.{in-Some+else-key-before, in_default}
 

@@ -1,8 +1,8 @@
 use Rattle.std.proofs.Common.{◌≡◌, ◌-◌, ℕ, Some, length, sym, ◌∙◌, ap, arith}
 use Rattle.fl_page.specs.View.{rows_of, count_of}
 use Rattle.fl_schema.specs.Schema.{row_of}
+use Rattle.fl_page.proofs.RowsFrom.{length-rows_from}
 use Rattle.fl_rules.proofs.LastKeys.{last_at}
-use Rattle.fl_rules.proofs.PageRows.{length-rows_from}
 use Rattle.fl_rules.proofs.rule_5_keys.last_of.Goals as goal
 
 pub returns : goal.returns

@@ -2,8 +2,8 @@ use Rattle.std.proofs.Common.{◌≡◌, List, ℕ, length, arith, subst}
 use Rattle.std.proofs.lemmas.Result.{err_from_is_err_and}
 use Rattle.fl_base.specs.Causes.{Appends, AppendsFront}
 use Rattle.fl_page.specs.View.{count_of, rows_of}
-use Rattle.fl_rules.proofs.PageRows.{length-rows_from}
 use Rattle.fl_schema.specs.Schema.{row_of}
+use Rattle.fl_page.proofs.RowsFrom.{length-rows_from}
 use Rattle.fl_script.proofs.SinkPieces.{written-err}
 use Rattle.fl_salvage.specs.Text.{form_of, row_text}
 use Rattle.fl_salvage.proofs.Lines.{sent-none, item-failed, item-sent, all-sent}

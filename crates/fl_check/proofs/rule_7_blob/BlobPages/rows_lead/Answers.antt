@@ -2,7 +2,7 @@ use Rattle.std.proofs.Common.{◌≡◌, length, arith}
 use Rattle.fl_page.specs.View.{rows_of, count_of}
 use Rattle.fl_ring.specs.Place.{shape_of}
 use Rattle.fl_schema.specs.Schema.{row_of}
-use Rattle.fl_rules.proofs.PageRows.{length-rows_from}
+use Rattle.fl_page.proofs.RowsFrom.{length-rows_from}
 use Rattle.fl_check.proofs.RowsLead.{row_not, row_next}
 use Rattle.fl_check.proofs.rule_7_blob.BlobPages.rows_lead.Goals as goal
 

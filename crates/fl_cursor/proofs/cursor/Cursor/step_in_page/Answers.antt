@@ -5,8 +5,8 @@ use Rattle.fl_page.specs.Header.{page_count}
 use Rattle.fl_page.specs.Page.{rows_in}
 use Rattle.fl_page.specs.View.{rows_of, count_of, page_of, layout_of_page}
 use Rattle.fl_schema.specs.Schema.{row_of}
+use Rattle.fl_page.proofs.RowsFrom.{length-rows_from}
 use Rattle.fl_table.specs.Look.{layout_in}
-use Rattle.fl_parts.proofs.KeyRows.{length-rows_from}
 use Rattle.fl_cursor.specs.Asked.{asked_by}
 use Rattle.fl_cursor.specs.Cursor.{IsPlaced}
 use Rattle.fl_cursor.specs.Going.{Goes, took}

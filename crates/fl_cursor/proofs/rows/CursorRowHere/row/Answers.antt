@@ -4,8 +4,8 @@ use Rattle.fl_model.specs.Row.{Row}
 use Rattle.fl_page.specs.Header.{page_count}
 use Rattle.fl_page.specs.View.{count_of, layout_of_page, page_of}
 use Rattle.fl_page.specs.Page.{has_form}
+use Rattle.fl_page.proofs.RowsFrom.{length-rows_from}
 use Rattle.fl_table.specs.Look.{layout_in}
-use Rattle.fl_parts.proofs.KeyRows.{length-rows_from}
 use Rattle.fl_cursor.specs.Ascending.{both}
 use Rattle.fl_cursor.specs.Cursor.{is_here_at}
 use Rattle.fl_cursor.proofs.rows.CursorRowHere.row.Goals as goal
