@@ -3,3 +3,4 @@ pub mod Values
 pub mod Pages
 pub mod Spans
 pub mod Widths
+pub mod StoredBits

@@ -7,7 +7,7 @@ use Rattle.std.proofs.lemmas.List.{drop-drop}
 use Rattle.std.proofs.lemmas.List.Sums.{sum_by-cons}
 use Rattle.std.proofs.lemmas.Option.{none-some}
 use Rattle.fl_base.specs.declared.types.Span.{Span}
-use Rattle.fl_bitmap.specs.Bucket.{AreBucketsOf, bucket_in, mask_in, with_value, HasBuckets, bitmap_in}
+use Rattle.fl_bitmap.specs.Bucket.{AreBucketsOf, bucket_in, mask_in, HasBuckets, bitmap_in}
 use Rattle.fl_bitmap.specs.declared.buckets.Buckets.{Buckets}
 use Rattle.fl_bitmap.proofs.Spans.{bucket_of-is}
 use Rattle.fl_index.specs.declared.index.BitmapIndex.{BitmapIndex}
@@ -23,6 +23,7 @@ use Rattle.fl_model.specs.Spline.{pages_from}
 use Rattle.fl_model.specs.Table.{Entry}
 use Rattle.fl_model.specs.Table as model
 use Rattle.fl_frame.specs.Contents.{Contents}
+use Rattle.fl_bitmap.proofs.StoredBits.{bits-same}
 use Rattle.fl_parts.specs.Bitmaps.{ArePlanned}
 use Rattle.fl_table.specs.Look.{oldest_in, rows_noted}
 use Rattle.fl_table.specs.Memory.{next_in}
@@ -100,14 +101,6 @@ mask-same : (plan : Plan) (buckets : Buckets) (span : Span) → AreBucketsOf pla
 mask-same plan buckets span same =
     ap (λ n. cond (int_le span.low span.high) (bits_from n (bucket_of plan span.high + 1 - n)) 0) (bucket_of-is plan buckets span.low same)
     ∙ ap (λ n. cond (int_le span.low span.high) (bits_from (bucket_in buckets span.low) (n + 1 - bucket_in buckets span.low)) 0) (bucket_of-is plan buckets span.high same)
-
-bits-same : (plan : Plan) (buckets : Buckets) (bits : ℕ) (entries : List Entry) → AreBucketsOf plan buckets →
-    fold (λ bits (entry : Entry). bit_or bits (2 ^ bucket_of plan (unwrap_or (slice_get entry.kept.values 0) (pos 0)))) bits entries
-    ≡ fold (λ bits (row : Row). with_value buckets bits (unwrap_or (slice_get row.values 0) (pos 0))) bits (map stored_row entries)
-bits-same plan buckets bits [] same = refl
-bits-same plan buckets bits (entry ∷ entries) same =
-    ap (λ n. fold (λ bits (entry : Entry). bit_or bits (2 ^ bucket_of plan (unwrap_or (slice_get entry.kept.values 0) (pos 0)))) (bit_or bits (2 ^ n)) entries) (bucket_of-is plan buckets (unwrap_or (slice_get entry.kept.values 0) (pos 0)) same)
-    ∙ bits-same plan buckets (bit_or bits (2 ^ bucket_in buckets (unwrap_or (slice_get entry.kept.values 0) (pos 0)))) entries same
 
 bitmap-same : (plan : Plan) (buckets : Buckets) (entries : List Entry) → AreBucketsOf plan buckets → (plan.bits ≡ 0 → ⊥) → bitmap_of plan entries ≡ bitmap_in (Some buckets) (map stored_row entries)
 bitmap-same plan buckets entries same some =

@@ -5,16 +5,16 @@ use Rattle.std.proofs.Math.Nat.{mod-lt, mod-eq_of_lt, one-le-pow, pow-le-pow_rig
 use Rattle.std.proofs.lemmas.Bool.{eqb-true, false_from_ne_true, eq-eqb}
 use Rattle.std.proofs.lemmas.List.{length-replicate, length-map}
 use Rattle.fl_base.specs.declared.types.BlobRef.{BlobRef}
-use Rattle.fl_bitmap.specs.Bucket.{AreBucketsOf, with_value, bucket_in, HasBuckets, bitmap_in}
+use Rattle.fl_bitmap.specs.Bucket.{HasBuckets, bitmap_in}
 use Rattle.fl_bitmap.specs.Widths.{is_bits}
 use Rattle.fl_bitmap.specs.declared.buckets.Buckets.{Buckets}
-use Rattle.fl_bitmap.proofs.Spans.{bucket_of-is}
 use Rattle.fl_index.proofs.Bytes.{number_of-low}
 use Rattle.fl_index.proofs.WaitingEntries.{bitmap-small}
 use Rattle.fl_model.specs.Layout.{bucket_of, bitmap_of, rows_body, data_body, committed}
 use Rattle.fl_model.specs.Record.{Plan, RowLayout, row_layout, layout_len, rows_per_page}
 use Rattle.fl_model.specs.Row.{Row, IsStorable, stored_row, le, number_of}
 use Rattle.fl_model.specs.Table.{Entry}
+use Rattle.fl_bitmap.proofs.StoredBits.{bits-same}
 use Rattle.fl_page.specs.Header.{page_bitmap}
 use Rattle.fl_rules.specs.DataPage.{IsDataPage, HasForm, HoldsEntries, are_plain}
 
@@ -50,14 +50,6 @@ module _ (read : BlobRef → List ℕ) (all : ReadsAll read) where
   stored_rows (row ∷ rows) = ap (λ (r : Row). r ∷ map stored_row (map (entry_by read) rows)) (stored_back row) ∙ ap (λ (l : List Row). row ∷ l) (stored_rows rows)
 
 -- ---- the bitmap
-
-bits-same : (plan : Plan) (buckets : Buckets) (bits : ℕ) (entries : List Entry) → AreBucketsOf plan buckets →
-    fold (λ bits (entry : Entry). bit_or bits (2 ^ bucket_of plan (unwrap_or (slice_get entry.kept.values 0) (pos 0)))) bits entries
-    ≡ fold (λ bits (row : Row). with_value buckets bits (unwrap_or (slice_get row.values 0) (pos 0))) bits (map stored_row entries)
-bits-same plan buckets bits [] same = refl
-bits-same plan buckets bits (entry ∷ entries) same =
-    ap (λ n. fold (λ bits (entry : Entry). bit_or bits (2 ^ bucket_of plan (unwrap_or (slice_get entry.kept.values 0) (pos 0)))) (bit_or bits (2 ^ n)) entries) (bucket_of-is plan buckets (unwrap_or (slice_get entry.kept.values 0) (pos 0)) same)
-    ∙ bits-same plan buckets (bit_or bits (2 ^ bucket_in buckets (unwrap_or (slice_get entry.kept.values 0) (pos 0)))) entries same
 
 some-bits : (bits : ℕ) → IsTrue (is_bits bits) → bits ≡ 0 → ⊥
 some-bits bits is none = cc (sym (ap is_bits none) ∙ is)
