@@ -4,6 +4,7 @@ use Rattle.std.specs.List.{slice_get}
 use Rattle.std.specs.Option.{is_some}
 use Rattle.fl_base.specs.declared.types.KeyRange.{KeyRange}
 use Rattle.fl_base.specs.declared.types.Span.{Span}
+use Rattle.fl_base.specs.Generator.{next_random}
 use Rattle.fl_model.specs.Record.{Plan, Record, Config}
 use Rattle.fl_model.specs.Table.{Table, Refusal, refusal_of, put_record}
 use Rattle.fl_model.specs.Work.{Device, Progress, Outcome, Finished, CutShort, Failed, changed_at}
@@ -17,7 +18,7 @@ use Rattle.fl_words.specs.Command.{Command}
 use Rattle.fl_words.specs.Reply as reply
 use Rattle.fl_words.specs.Reply.{Reply}
 use Rattle.fl_machine.specs.Machine.{Machine, OpenCursor, Cost, OfGet}
-use Rattle.fl_machine.specs.Step.{Moment, Step, StepOf, Says, EndsAs, EndsMount, WithTable, Located, located, LoadsFrom, LoadsOn, GetStep, NextStep, cursor_at, no_column, load_record, next_random, rows_of, cost_reply, refused}
+use Rattle.fl_machine.specs.Step.{Moment, Step, StepOf, Says, EndsAs, EndsMount, WithTable, Located, located, LoadsFrom, LoadsOn, GetStep, NextStep, cursor_at, no_column, load_record, rows_of, cost_reply, refused}
 use Rattle.fl_machine.specs.Run.{Run}
 use Rattle.fl_machine.specs.Reads.{has_reads, is_unread, none_read, blob_limit, OnTable, OnColumns, OnCursor, FaultHasRead, GetExact, ScanExact, ExactOf, RunExact}
 use Rattle.fl_machine.specs.AllReads.{Within, GetReads, ScanReads, NextReads, ReadsOf, RunReads}

@@ -3,6 +3,7 @@ use Rattle.std.proofs.Common.{◌≡◌, ℕ, zero, suc, ◌+◌, ◌<◌, ◌�
 use Rattle.std.specs.List.{slice_get, AllByRecursion}
 use Rattle.std.proofs.Math.Seq.{take-length}
 use Rattle.fl_base.specs.declared.types.CutKind.{CutKind}
+use Rattle.fl_base.specs.Generator.{next_random}
 use Rattle.fl_model.specs.Record.{Plan, Record, Config}
 use Rattle.fl_model.specs.Table.{Table, Entry, Refusal, refusal_of, put_joined, put_record, lose, table_seals, flushed}
 use Rattle.fl_model.specs.Work.{Operation, Device, cut_now, counted, done, Progress, Outcome, Finished, CutShort, Failed, Performs, PerformsFirst, operations_of, changed_at}
@@ -15,7 +16,7 @@ use Rattle.fl_words.specs.Command.{Command, TableLine}
 use Rattle.fl_words.specs.Reply as reply
 use Rattle.fl_words.specs.Reply.{Reply}
 use Rattle.fl_machine.specs.Machine.{Machine, OpenCursor, Cost, NothingYet, OfGet, OfScan, stopped, no_cursors}
-use Rattle.fl_machine.specs.Step.{Moment, StepOf, Says, EndsAs, EndsMount, WithTable, Located, located, LoadsFrom, LoadsOn, NextStep, BlobReplies, Lists, Counts, cursor_at, no_column, load_record, next_random, rows_of, note_of, records_of, group_reply, pair_reply, stat_reply, cost_reply, refused, all_ready}
+use Rattle.fl_machine.specs.Step.{Moment, StepOf, Says, EndsAs, EndsMount, WithTable, Located, located, LoadsFrom, LoadsOn, NextStep, BlobReplies, Lists, Counts, cursor_at, no_column, load_record, rows_of, note_of, records_of, group_reply, pair_reply, stat_reply, cost_reply, refused, all_ready}
 use Rattle.fl_machine.specs.Plain.{perform, perform_first, mount_on, mount_turns, put_on, put_performs, says, ends_as, located_or, on_table, ends_mount, mounts, put_or, flushes, plain, blob_replies, blob_reply, next_on, on_cursor, on_columns, loads_on, load_on, or_stuck, loads_from, counted_lines, plain_run}
 use Rattle.fl_machine.specs.Run.{Run, end_of, commands_of, risen_in}
 use Rattle.fl_machine.specs.Determined.{without_reads, reply_without_reads, state_without_reads, replies_of, IsWhole, IsDetermined}

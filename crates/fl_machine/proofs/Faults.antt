@@ -3,6 +3,7 @@ use Rattle.std.proofs.Common.{◌≡◌, ℕ, zero, suc, ◌+◌, ◌<◌, ◌�
 use Rattle.std.specs.List.{slice_get, count_by}
 use Rattle.std.proofs.lemmas.List.Sums.{sum_by-cons, sum_by_push, sum_by-take-le}
 use Rattle.fl_base.specs.declared.types.CutKind.{CutKind}
+use Rattle.fl_base.specs.Generator.{next_random}
 use Rattle.fl_model.specs.Record.{Plan, Record, Config}
 use Rattle.fl_model.specs.Table.{Table, Entry, Refusal, BadKey, BadColumns, BadValue, BadBlob, Spent, refusal_of, put_joined, put_record, table_seals, flushed}
 use Rattle.fl_model.specs.Work.{Operation, Device, cut_now, counted, done, Progress, Outcome, Finished, CutShort, Failed, Performs, PerformsFirst, operations_of, changed_at}
@@ -15,7 +16,7 @@ use Rattle.fl_words.specs.Command.{Command}
 use Rattle.fl_words.specs.Reply as reply
 use Rattle.fl_words.specs.Reply.{Reply}
 use Rattle.fl_machine.specs.Machine.{Machine, OpenCursor, Cost, NothingYet, OfGet, OfScan}
-use Rattle.fl_machine.specs.Step.{Moment, StepOf, Says, EndsAs, EndsMount, WithTable, Located, located, LoadsFrom, LoadsOn, NextStep, BlobReplies, Lists, Counts, cursor_at, no_column, load_record, next_random, row_of, rows_of, found_reply, note_of, records_of, group_reply, pair_reply, cost_reply, stat_reply, refused}
+use Rattle.fl_machine.specs.Step.{Moment, StepOf, Says, EndsAs, EndsMount, WithTable, Located, located, LoadsFrom, LoadsOn, NextStep, BlobReplies, Lists, Counts, cursor_at, no_column, load_record, row_of, rows_of, found_reply, note_of, records_of, group_reply, pair_reply, cost_reply, stat_reply, refused}
 use Rattle.fl_machine.specs.Run.{risen_in}
 use Rattle.fl_machine.specs.Faults.{is_fault, faults_told, FaultsHaveCauses}
 

@@ -5,6 +5,7 @@ use Rattle.std.specs.Option.{is_some, option_map, unwrap_or}
 use Rattle.std.proofs.lemmas.List.{append-nil}
 use Rattle.std.proofs.lemmas.Option.{slice_get-map, none-some}
 use Rattle.std.proofs.lemmas.Bool.{false≢true, true≢false}
+use Rattle.fl_base.specs.Generator.{next_random}
 use Rattle.fl_model.specs.Record.{Plan, Record, Config, has_log, bytes_equal}
 use Rattle.fl_model.specs.Ring.{Ring, fresh}
 use Rattle.fl_model.specs.Table.{Table, Entry, refusal_of, lose, put_joined, put_record, join_seals, flushed, table_seals, is_rows_spent, make_room_seals}
@@ -19,7 +20,7 @@ use Rattle.fl_words.specs.Command.{Command}
 use Rattle.fl_words.specs.Reply as reply
 use Rattle.fl_words.specs.Reply.{Reply}
 use Rattle.fl_machine.specs.Machine.{Machine, stopped}
-use Rattle.fl_machine.specs.Step.{Moment, StepOf, Says, Stops, EndsAs, EndsMount, Located, located, located_from, PutStep, FlushStep, LoadsFrom, LoadsOn, Counts, load_record, next_random, all_ready, no_column, cursor_at}
+use Rattle.fl_machine.specs.Step.{Moment, StepOf, Says, Stops, EndsAs, EndsMount, Located, located, located_from, PutStep, FlushStep, LoadsFrom, LoadsOn, Counts, load_record, all_ready, no_column, cursor_at}
 use Rattle.fl_machine.specs.Run.{Run}
 use Rattle.fl_machine.specs.Found.{trimmed, ring_at, HasRoom, IsLoggedAtRest, IsAtRest, LoggedPast, nothing_held, past_of, logged_stop_at, logged_passing, logged_past_on, logged_past_after, IsLoggedFound, LoggedFinds}
 use Rattle.fl_machine.specs.Keeping.{sure, unsure, sure_at, tables_of}

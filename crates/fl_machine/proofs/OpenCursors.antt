@@ -4,6 +4,7 @@ use Rattle.std.specs.List.{slice_get, last_or, AllByRecursion}
 use Rattle.std.proofs.lemmas.Bool.{leb-true}
 use Rattle.fl_base.specs.declared.types.KeyRange.{KeyRange}
 use Rattle.fl_base.specs.declared.types.Span.{Span}
+use Rattle.fl_base.specs.Generator.{next_random}
 use Rattle.fl_model.specs.Record.{Plan, Record, Config}
 use Rattle.fl_model.specs.Table.{Table, Entry, Refusal, refusal_of, put_record, last_entry}
 use Rattle.fl_model.specs.Work.{Device, Progress, Outcome, Finished, CutShort, Failed, changed_at}
@@ -16,7 +17,7 @@ use Rattle.fl_words.specs.Reply as reply
 use Rattle.fl_words.specs.Reply.{Reply}
 use Rattle.fl_machine.specs.Machine.{Machine, OpenCursor, no_cursors}
 use Rattle.fl_machine.specs.OpenCursors.{IsWithin, IsOpenWithin, AreWithin}
-use Rattle.fl_machine.specs.Step.{Moment, StepOf, Says, EndsAs, EndsMount, WithTable, Located, located, LoadsFrom, LoadsOn, NextStep, cursor_at, no_column, load_record, next_random, rows_of, refused, cost_reply}
+use Rattle.fl_machine.specs.Step.{Moment, StepOf, Says, EndsAs, EndsMount, WithTable, Located, located, LoadsFrom, LoadsOn, NextStep, cursor_at, no_column, load_record, rows_of, refused, cost_reply}
 use Rattle.fl_machine.specs.Run.{Run, end_of}
 
 pub none-within : AreWithin no_cursors

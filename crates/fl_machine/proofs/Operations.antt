@@ -2,6 +2,7 @@
 use Rattle.std.proofs.Common.{◌≡◌, ℕ, zero, suc, ◌+◌, ◌<◌, Bool, true, false, cond, Option, Some, None, List, [], ◌∷◌, ◌++◌, ◌-◌, ◌^◌, append-nil, append_assoc, refl, sym, ap, subst, ◌∙◌, arith, inl, inr, MatchOption, MatchBool}
 use Rattle.std.specs.List.{slice_get}
 use Rattle.fl_base.specs.declared.types.CutKind.{CutKind}
+use Rattle.fl_base.specs.Generator.{next_random}
 use Rattle.fl_model.specs.Record.{Plan, Record, Config}
 use Rattle.fl_model.specs.Table.{Table, Refusal, refusal_of, put_joined, put_record, table_seals}
 use Rattle.fl_model.specs.Work.{Kind, Body, Mark, VoidMark, Erase, Operation, Device, cut_now, counted, done, Progress, Outcome, Finished, CutShort, Failed, Performs, PerformsFirst, operations_of, changed_at}
@@ -13,7 +14,7 @@ use Rattle.fl_words.specs.Command.{Command}
 use Rattle.fl_words.specs.Reply as reply
 use Rattle.fl_words.specs.Reply.{Reply}
 use Rattle.fl_machine.specs.Machine.{Machine, OpenCursor}
-use Rattle.fl_machine.specs.Step.{Moment, StepOf, Says, EndsAs, EndsMount, WithTable, Located, located, LoadsFrom, LoadsOn, NextStep, cursor_at, no_column, load_record, next_random, refused}
+use Rattle.fl_machine.specs.Step.{Moment, StepOf, Says, EndsAs, EndsMount, WithTable, Located, located, LoadsFrom, LoadsOn, NextStep, cursor_at, no_column, load_record, refused}
 use Rattle.fl_machine.specs.Operations.{programs_in, erases_in, unless_refused, of_table, load_operations, mount_operations, accepted_operations, of_located, operations_by, CountsOperations, CountsFront, CountsMoment, OperationsAreExact}
 use Rattle.fl_machine.proofs.Determined.{cut-not-finished, failed-not-finished, not-both}
 

@@ -3,6 +3,7 @@ use Rattle.std.proofs.Common.{◌≡◌, ℕ, zero, suc, ◌+◌, ◌<◌, ◌�
 use Rattle.std.specs.List.{slice_get}
 use Rattle.std.proofs.Math.Seq.{take-length}
 use Rattle.fl_base.specs.declared.types.CutKind.{CutKind}
+use Rattle.fl_base.specs.Generator.{next_random}
 use Rattle.fl_model.specs.Record.{Plan, Record, Config}
 use Rattle.fl_model.specs.Table.{Table, Entry, Refusal, refusal_of, put_joined, put_record, table_seals, flushed}
 use Rattle.fl_model.specs.Work.{Operation, Ending, AsBefore, AsAfter, Either, ending_of, Leaves, Device, cut_now, counted, done, Progress, Outcome, Finished, CutShort, Failed, Performs, PerformsFirst, operations_of, changed_at}
@@ -15,7 +16,7 @@ use Rattle.fl_machine.specs.Run.{Run}
 use Rattle.fl_words.specs.Reply as reply
 use Rattle.fl_words.specs.Reply.{Reply}
 use Rattle.fl_machine.specs.Machine.{Machine, OpenCursor}
-use Rattle.fl_machine.specs.Step.{Moment, StepOf, Says, Stops, EndsAs, EndsMount, MountStep, PutStep, FlushStep, WhenMounted, WithTable, WithColumns, Located, located, LoadsFrom, LoadsOn, NextStep, BlobReplies, cursor_at, no_column, load_record, next_random, rows_of, LoadStep, GetStep, BlobStep, ScanStep, OpenStep, Counts, note_of, records_of, group_reply, pair_reply, stat_reply, cost_reply, refused}
+use Rattle.fl_machine.specs.Step.{Moment, StepOf, Says, Stops, EndsAs, EndsMount, MountStep, PutStep, FlushStep, WhenMounted, WithTable, WithColumns, Located, located, LoadsFrom, LoadsOn, NextStep, BlobReplies, cursor_at, no_column, load_record, rows_of, LoadStep, GetStep, BlobStep, ScanStep, OpenStep, Counts, note_of, records_of, group_reply, pair_reply, stat_reply, cost_reply, refused}
 use Rattle.fl_model.specs.Operators.{select, project, aggregate, key_join}
 use Rattle.fl_machine.specs.Plain.{chosen, perform, perform_first, mount_on, mount_turns, put_on, put_performs, says, stops, ends_as, located_or, if_mounted, on_table, ends_mount, mounts, put_or, flushes, plain, blob_replies, blob_reply, next_on, on_cursor, on_columns, loads_on, load_on, or_stuck, loads_from, IsRun, AlwaysGoesOn, plain_run}
 

@@ -1,5 +1,6 @@
 -- The operations on the flash that a command does, and how the totals rise by them.
 use Rattle.std.specs.Prelude.{◌≡◌, ℕ, zero, suc, ◌+◌, ◌-◌, ◌^◌, ◌<◌, false, Option, Some, None, List, [], ◌∷◌, ◌++◌, slice_get, if◌then◌else◌}
+use Rattle.fl_base.specs.Generator.{next_random}
 use Rattle.fl_model.specs.Record.{Record, Plan, Config}
 use Rattle.fl_model.specs.Table.{Table, Refusal, refusal_of, put_record, table_seals}
 use Rattle.fl_model.specs.Work.{Operation, Device, is_erase, done, operations_of, changed_at}
@@ -9,7 +10,7 @@ use Rattle.fl_model.specs.Mount.{Turn, turns_from, turned_at, operations_at}
 use Rattle.fl_words.specs.Command as command
 use Rattle.fl_words.specs.Command.{Command}
 use Rattle.fl_machine.specs.Machine.{Machine}
-use Rattle.fl_machine.specs.Step.{Moment, Located, located, load_record, next_random}
+use Rattle.fl_machine.specs.Step.{Moment, Located, located, load_record}
 use Rattle.fl_machine.specs.Run.{Run}
 
 -- how many of them program, and how many erase

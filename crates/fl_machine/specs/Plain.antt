@@ -1,6 +1,7 @@
 -- The machine as a plain program, over a medium that never fails: one of the steps that it may take.
 use Rattle.std.specs.Prelude.{ℕ, zero, suc, ◌+◌, true, false, ◌==◌, Option, Some, None, List, [], ◌∷◌, ◌++◌, length, take, map, slice_get, slice_set, if◌then◌else◌}
 use Rattle.fl_base.specs.declared.types.CutKind.{CutKind}
+use Rattle.fl_base.specs.Generator.{next_random}
 use Rattle.fl_model.specs.Record.{Record, Plan, Config}
 use Rattle.fl_model.specs.Table.{Table, Entry, Refusal, refusal_of, put_joined, put_record, table_seals, flushed, lose}
 use Rattle.fl_model.specs.Work.{Operation, Ending, AsBefore, AsAfter, Either, ending_of, Device, cut_now, counted, fired, done, Progress, Outcome, Finished, CutShort, Failed, operations_of, changed_at}
@@ -14,7 +15,7 @@ use Rattle.fl_words.specs.Command.{Command}
 use Rattle.fl_words.specs.Reply as reply
 use Rattle.fl_words.specs.Reply.{Reply}
 use Rattle.fl_machine.specs.Machine.{Machine, OpenCursor, OfGet, OfScan, stopped, no_cursors}
-use Rattle.fl_machine.specs.Step.{Moment, StepOf, Located, located, all_ready, rows_of, found_reply, cursor_at, no_column, records_of, note_of, group_reply, pair_reply, stat_reply, cost_reply, load_record, next_random, refused}
+use Rattle.fl_machine.specs.Step.{Moment, StepOf, Located, located, all_ready, rows_of, found_reply, cursor_at, no_column, records_of, note_of, group_reply, pair_reply, stat_reply, cost_reply, load_record, refused}
 
 -- the end that a torn operation leaves, or the later one where either may be left
 abbrev pub chosen : {S : Type 0} → Ending → S → S → S

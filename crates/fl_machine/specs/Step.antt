@@ -1,5 +1,6 @@
 -- One command of the machine: what it may reply, and the state to which it may go on.
 use Rattle.std.specs.Prelude.{◌≡◌, ℕ, zero, suc, ◌+◌, ◌-◌, ◌*◌, ◌/◌, ◌%◌, ◌^◌, ◌<◌, ◌≤◌, min, Bool, true, nat_lt, ◌==◌, ◌⊎◌, ℤ, pos, ◌-ℤ◌, Option, Some, None, option_map, unwrap_or, MatchOption, MatchBool, List, [], ◌∷◌, ◌++◌, length, take, map, find, slice_get, slice_set, if◌then◌else◌, IsTrue}
+use Rattle.fl_base.specs.Generator.{next_random}
 use Rattle.fl_base.specs.declared.types.KeyRange.{KeyRange}
 use Rattle.fl_base.specs.declared.types.Span.{Span}
 use Rattle.fl_model.specs.Record.{Record, Column, Plan, Config, bytes_equal, has_var, has_log}
@@ -122,10 +123,6 @@ abbrev pub FlushStep : Config → Machine → Moment → Located → Type 0
 FlushStep config old moment at =
     (end : Progress) × Performs config.plans moment.rose (operations_of at.plan at.place (table_seals at.plan at.table) at.table) old.device old.tables end
     × EndsAs end.outcome old moment end [] (reply.Done ∷ []) (record old { device = end.device; tables = changed_at at.place (flushed at.plan) old.tables })
-
--- the pseudo-random sequence
-abbrev pub next_random : ℕ → ℕ
-next_random s = (s * 6364136223846793005 + 1442695040888963407) % 2 ^ 64
 
 -- the i-th record of a load
 abbrev pub load_values : ℕ → ℕ → ℕ → List Column → List ℤ

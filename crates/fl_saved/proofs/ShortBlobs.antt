@@ -3,6 +3,7 @@ use Rattle.std.proofs.Common.{◌≡◌, ℕ, zero, suc, ◌+◌, ◌≤◌, Boo
 use Rattle.std.specs.List.{slice_get}
 use Rattle.std.proofs.lemmas.Option.{none-some, same_Some}
 use Rattle.fl_base.specs.declared.types.CutKind.{CutKind}
+use Rattle.fl_base.specs.Generator.{next_random}
 use Rattle.fl_model.specs.Entry.{blob_len}
 use Rattle.fl_model.specs.Record.{Record, Plan, Config, bytes_equal, has_log}
 use Rattle.fl_model.specs.Table.{Table, refusal_of, put_joined, put_record, table_seals, flushed, lose}
@@ -13,7 +14,7 @@ use Rattle.fl_words.specs.Command as command
 use Rattle.fl_words.specs.Command.{Command}
 use Rattle.fl_words.specs.Reply as reply
 use Rattle.fl_machine.specs.Machine.{Machine}
-use Rattle.fl_machine.specs.Step.{Moment, StepOf, Says, EndsAs, EndsMount, LoadsFrom, LoadsOn, Located, located, located_from, cursor_at, no_column, load_record, next_random, all_ready}
+use Rattle.fl_machine.specs.Step.{Moment, StepOf, Says, EndsAs, EndsMount, LoadsFrom, LoadsOn, Located, located, located_from, cursor_at, no_column, load_record, all_ready}
 use Rattle.fl_machine.specs.Run.{Run, end_of}
 use Rattle.fl_machine.proofs.Places.{Both, RelAt, both-refl, both-trans, rel-changed_by, rel-changed_at, rel-map}
 use Rattle.fl_machine.proofs.Performed.{either_ending}

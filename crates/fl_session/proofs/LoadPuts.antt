@@ -5,6 +5,7 @@ use Rattle.std.proofs.lemmas.Bool.{le-leb, false≢true, true≢false}
 use Rattle.std.proofs.lemmas.List.{set-set}
 use Rattle.std.proofs.Math.IntN.{ℤ}
 use Rattle.fl_base.specs.Causes.{Rose}
+use Rattle.fl_base.specs.Generator.{next_random}
 use Rattle.fl_flash.specs.Flash.{FlashState, Goes, page_at}
 use Rattle.fl_flash.specs.declared.flash.FlashFault.{FlashFault}
 use Rattle.fl_frame.specs.Watched.{IsWatched}
@@ -23,7 +24,7 @@ use Rattle.fl_words.specs.Reply.{Reply, texts}
 use Rattle.fl_machine.specs.Machine.{Machine, stopped}
 use Rattle.fl_machine.specs.Reads.{none_read}
 use Rattle.fl_machine.specs.Stays.{CommandStays, TablesStay, IsIdle, are_refusal}
-use Rattle.fl_machine.specs.Step.{Moment, Says, Located, refused, LoadStep, LoadsFrom, LoadsOn, load_record, load_values, next_random}
+use Rattle.fl_machine.specs.Step.{Moment, Says, Located, refused, LoadStep, LoadsFrom, LoadsOn, load_record, load_values}
 use Rattle.fl_table.specs.declared.table.Table.{Table}
 use Rattle.fl_table.specs.declared.faults.PutRefusal.{PutRefusal}
 use Rattle.fl_table.specs.declared.faults.PutRefusal.TheVariants as put

@@ -1,6 +1,7 @@
 -- The records of a load, put one after another, and what became of the next one.
 use Rattle.std.proofs.Common.{◌≡◌, ℕ, suc, ◌+◌, true, false, Option, None, Some, Result, Ok, Err, IfErr, List, refl, ◌∙◌, ap, subst, arith}
 use Rattle.std.specs.Prelude.{is_err, OnOk, ℤ}
+use Rattle.fl_base.specs.Generator.{next_random}
 use Rattle.fl_flash.specs.Flash.{FlashState, Goes}
 use Rattle.fl_model.specs.Row.{Row}
 use Rattle.fl_frame.proofs.WatchedInTurn.{cause-later}
@@ -16,7 +17,6 @@ use Rattle.fl_table.specs.Refusal.{RefusesAs}
 use Rattle.fl_table.specs.Stored.{Stores}
 use Rattle.fl_table.specs.declared.faults.PutRefusal.{PutRefusal}
 use Rattle.fl_table.specs.declared.faults.PutRefusal.TheVariants as put
-use Rattle.fl_machine.specs.Step.{next_random}
 use Rattle.fl_session.proofs.RunningPuts.{runs-on}
 use Rattle.fl_session.specs.LoadSays.{LoadEnds, LoadFails, Loads, LoadsNext, WritesOne, next_row, random_at}
 

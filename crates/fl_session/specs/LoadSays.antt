@@ -1,7 +1,8 @@
 -- The records that a load puts, one after another, over any bytes and on any medium.
 use Rattle.std.specs.Prelude.{◌≡◌, ℕ, zero, suc, ◌+◌, true, unwrap_or, Option, None, Some, Result, Ok, Err}
+use Rattle.fl_base.specs.Generator.{next_random}
 use Rattle.fl_flash.specs.Flash.{FlashState}
-use Rattle.fl_machine.specs.Step.{load_values, next_random}
+use Rattle.fl_machine.specs.Step.{load_values}
 use Rattle.fl_model.specs.Row.{Row}
 use Rattle.fl_frame.specs.Causes.{CausedBy}
 use Rattle.fl_rlc.specs.Paged.{HasMadePage, PutLogged}

@@ -1,6 +1,6 @@
 // The records of a load.
 ghost use Rattle.std.specs.Prelude.{◌≡◌, ◌≤◌, ◌<◌, ◌%◌, ◌-ℤ◌, pos, if◌then◌else◌};
-ghost use Rattle.fl_machine.specs.Step as machine;
+ghost use Rattle.fl_base.specs.Generator as sequence;
 ghost use Rattle.fl_schema.specs.Types.{column_of};
 
 use arrayvec::ArrayVec;
@@ -40,7 +40,7 @@ pub(crate) struct Generator {
 }
 
 fn next_random(random: u64) -> u64
-    ensures { result ≡ machine.next_random random }
+    ensures { result ≡ sequence.next_random random }
 {
     random.wrapping_mul(FACTOR).wrapping_add(INCREMENT)
 }
@@ -69,7 +69,7 @@ impl Generator {
     pub(crate) fn new(table: &Table, step: u64, seed: u64) -> Generator
         requires { 1 ≤ step }
         ensures stands { StandsBefore (layout_in table.now).columns seed 1 result }
-        ensures random { random_of result ≡ machine.next_random seed }
+        ensures random { random_of result ≡ sequence.next_random seed }
         ensures step { step_of result ≡ step }
     {
         let mut signed = ArrayVec::new();
@@ -103,7 +103,7 @@ impl Generator {
 
     fn advance(&mut self)
         ensures stands { (columns : List Column) → (seed i : ℕ) → StandsBefore columns seed i self.old → StandsBefore columns seed (i + 1) self.new }
-        ensures random { random_of self.new ≡ machine.next_random (random_of self.old) }
+        ensures random { random_of self.new ≡ sequence.next_random (random_of self.old) }
         ensures step { step_of self.new ≡ step_of self.old }
     {
         self.random = next_random(self.random);
@@ -115,7 +115,7 @@ impl Generator {
         ensures key { result.key ≡ load_key (unwrap_or last 0) (step_of self.old) (random_of self.old) }
         ensures values { (columns : List Column) → (seed i : ℕ) → StandsBefore columns seed i self.old → result.values.items ≡ load_values i seed 1 columns }
         ensures stands { (columns : List Column) → (seed i : ℕ) → StandsBefore columns seed i self.old → StandsBefore columns seed (i + 1) self.new }
-        ensures random { random_of self.new ≡ machine.next_random (random_of self.old) }
+        ensures random { random_of self.new ≡ sequence.next_random (random_of self.old) }
         ensures step { step_of self.new ≡ step_of self.old }
     {
         let record = Generated {

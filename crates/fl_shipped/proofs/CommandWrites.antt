@@ -6,6 +6,7 @@ use Rattle.std.proofs.lemmas.Bool.{cases_eq, cases_lt}
 use Rattle.std.proofs.lemmas.List.{append-nil, append_assoc}
 use Rattle.std.proofs.lemmas.Option.{slice_get-map, none-some}
 use Rattle.std.proofs.Math.Seq.{drop-length, take-append_seam, take-length}
+use Rattle.fl_base.specs.Generator.{next_random}
 use Rattle.fl_model.specs.Puts.{Puts}
 use Rattle.fl_model.specs.Record.{Config, Plan, Record}
 use Rattle.fl_model.specs.Table.{Entry, Table, flushed, lose, put_record, refusal_of, table_seals, written}
@@ -15,7 +16,7 @@ use Rattle.fl_words.specs.Command.{Command}
 use Rattle.fl_words.specs.Reply as reply
 use Rattle.fl_words.specs.Reply.{Reply}
 use Rattle.fl_machine.specs.Machine.{Machine}
-use Rattle.fl_machine.specs.Step.{EndsAs, FlushStep, LoadStep, LoadsFrom, LoadsOn, Located, Moment, PutStep, Says, located, load_record, next_random, refused}
+use Rattle.fl_machine.specs.Step.{EndsAs, FlushStep, LoadStep, LoadsFrom, LoadsOn, Located, Moment, PutStep, Says, located, load_record, refused}
 use Rattle.fl_machine.proofs.LogMoves.{changed_at-elsewhere}
 use Rattle.fl_machine.proofs.Logs.{core}
 use Rattle.fl_machine.proofs.LoggedSteps.{IsLocated, located-is, with-option, same-plan}

@@ -1,9 +1,10 @@
 -- Where the keys of all that was ever written into a table ascend, and where they fail to.
 use Rattle.std.specs.Prelude.{◌≡◌, ◌⊎◌, ℕ, zero, suc, ◌≤◌, false, true, None, Option, Some, List, [], ◌∷◌, ◌++◌, slice_get}
 use Rattle.std.specs.List.{last_or}
+use Rattle.fl_base.specs.Generator.{next_random}
 use Rattle.fl_machine.specs.Machine.{Machine}
 use Rattle.fl_machine.specs.Run.{Run}
-use Rattle.fl_machine.specs.Step.{Moment, load_record, located, next_random}
+use Rattle.fl_machine.specs.Step.{Moment, load_record, located}
 use Rattle.fl_model.specs.Record.{Config, Plan, Record, has_log}
 use Rattle.fl_model.specs.Ship.{Ascends, IsEnd, records_in}
 use Rattle.fl_model.specs.Table.{Table, refusal_of}

@@ -1,6 +1,7 @@
 -- What a run writes into the pages of a table, and what these keep of it.
 use Rattle.std.specs.Prelude.{◌≡◌, ℕ, zero, suc, ◌+◌, ◌-◌, ◌==◌, false, is_some, Some, unwrap_or, List, [], ◌∷◌, ◌++◌, drop, map, slice_get, take, if◌then◌else◌}
 use Rattle.std.specs.List.{flat_map}
+use Rattle.fl_base.specs.Generator.{next_random}
 use Rattle.fl_model.specs.Record.{Record, Plan, Config, has_log, rows_per_page}
 use Rattle.fl_model.specs.Ship.{records_in}
 use Rattle.fl_model.specs.Table.{Table, fresh_table, lose, pending_entries, put_record, refusal_of}
@@ -8,7 +9,7 @@ use Rattle.fl_words.specs.Command as command
 use Rattle.fl_words.specs.Command.{Command}
 use Rattle.fl_machine.specs.Machine.{Machine}
 use Rattle.fl_machine.specs.Run.{Run, end_of}
-use Rattle.fl_machine.specs.Step.{Moment, load_record, next_random}
+use Rattle.fl_machine.specs.Step.{Moment, load_record}
 
 -- the records that no page of the table has yet, and those that its pages have
 abbrev pub waiting_records : Table → List Record
