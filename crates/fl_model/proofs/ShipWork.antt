@@ -10,7 +10,7 @@ use Rattle.fl_model.specs.Work.{Kind, Body, Mark, VoidMark, Erase, effect, Endin
 use Rattle.fl_model.specs.Within.{seals_within, effect_within, TablePerforms}
 use Rattle.fl_model.specs.Puts.{TablePuts, TablePutGoesOn}
 use Rattle.fl_model.specs.Ship.{records_in, KeepsOf}
-use Rattle.fl_model.specs.ShipWork.{ShipGoesOn, TableShips, ShipKeeps}
+use Rattle.fl_model.specs.ShipWork.{TableShips, ShipKeeps}
 
 -- so many of the first records went
 pub record Drops (before after : List Record) : Type 0 where
@@ -186,7 +186,7 @@ ships-keep plan rose (item ∷ items) device t now held given h did =
     stops mid (inl k) e = stops-keep held given (item ∷ items) now.state (subst (λ (x : PartProgress Table). Has (held ++ given) (records_in x.state)) (sym e) k)
     stops mid (inr k) e = with_item (stops-keep held (given ++ item ∷ []) items now.state (subst (λ (x : PartProgress Table). Has (held ++ (given ++ item ∷ [])) (records_in x.state)) (sym e) k))
 
-    goes_on : (mid : PartProgress Table) (o : PartEnd Table) → mid.end ≡ o → TablePuts plan rose item device t mid → ShipGoesOn o mid now (TableShips plan rose items mid.device mid.state now) →
+    goes_on : (mid : PartProgress Table) (o : PartEnd Table) → mid.end ≡ o → TablePuts plan rose item device t mid → TablePutGoesOn o mid now (TableShips plan rose items mid.device mid.state now) →
         ((mid : PartProgress Table) → TableShips plan rose items mid.device mid.state now → Has (held ++ (given ++ item ∷ [])) (records_in mid.state) → KeepsOf held ((given ++ item ∷ []) ++ items) (records_in (lose now.state))) →
         KeepsOf held (given ++ item ∷ items) (records_in (lose now.state))
     goes_on mid Whole q put g go = with_item (go mid g (whole_has put q))
@@ -210,7 +210,7 @@ ships-keep plan rose (item ∷ items) device t now held given h did =
     goes_on mid (FailedIn b) q put g go = stops mid (put-has mid put) g
 
     by_refusal : (o : Option Refusal) →
-        MatchOption o ((mid : PartProgress Table) × TablePuts plan rose item device t mid × ShipGoesOn mid.end mid now (TableShips plan rose items mid.device mid.state now)) (λ refusal. now ≡ record { end = Whole; device = device; state = t }) →
+        MatchOption o ((mid : PartProgress Table) × TablePuts plan rose item device t mid × TablePutGoesOn mid.end mid now (TableShips plan rose items mid.device mid.state now)) (λ refusal. now ≡ record { end = Whole; device = device; state = t }) →
         ((mid : PartProgress Table) → TableShips plan rose items mid.device mid.state now → Has (held ++ (given ++ item ∷ [])) (records_in mid.state) → KeepsOf held ((given ++ item ∷ []) ++ items) (records_in (lose now.state))) →
         KeepsOf held (given ++ item ∷ items) (records_in (lose now.state))
     by_refusal (Some refusal) e go = stops-keep held given (item ∷ items) now.state (subst (λ (x : PartProgress Table). Has (held ++ given) (records_in x.state)) (sym e) h)

@@ -1,10 +1,10 @@
 -- The work of records that are put one after another, and of the flush behind them, whether a cut is armed or not.
 use Rattle.std.proofs.Common.{◌≡◌, ℕ, ◌≤◌, Bool, Option, Some, None, Ok, Err, MatchOption, List, [], ◌∷◌, ◌++◌, length, take, refl, sym, ap, subst, arith}
 use Rattle.std.proofs.lemmas.List.{take_all}
-use Rattle.fl_model.specs.Puts.{TablePuts}
+use Rattle.fl_model.specs.Puts.{TablePuts, TablePutGoesOn}
 use Rattle.fl_model.specs.Record.{Record, Plan}
 use Rattle.fl_model.specs.Ship.{KeepsOf, records_in}
-use Rattle.fl_model.specs.ShipWork.{ShipGoesOn, TableShips}
+use Rattle.fl_model.specs.ShipWork.{TableShips}
 use Rattle.fl_model.specs.Table.{Table, Refusal, refusal_of, table_seals}
 use Rattle.fl_model.specs.Within.{seals_within}
 use Rattle.fl_model.specs.Work.{Device, PartEnd, Whole, CutIn, FailedIn, PartProgress}
@@ -58,25 +58,25 @@ module _ (plan : Plan) (rose : Bool) where
   ships-behind (item ∷ items) others device table mid now (own, (one, did, whole, more)) ships =
       let rest = ships-behind items others one.device one.state mid now more ships in
       subst (λ (o : Option Refusal). MatchOption o (Goes one) (λ refusal. now ≡ so-far device table)) (sym own)
-      (one, did, subst (λ (e : PartEnd Table). ShipGoesOn e one now (TableShips plan rose (items ++ others) one.device one.state now)) (sym whole) rest)
+      (one, did, subst (λ (e : PartEnd Table). TablePutGoesOn e one now (TableShips plan rose (items ++ others) one.device one.state now)) (sym whole) rest)
     where
       Goes : PartProgress Table → Type 0
-      Goes one = (mid : PartProgress Table) × TablePuts plan rose item device table mid × ShipGoesOn mid.end mid now (TableShips plan rose (items ++ others) mid.device mid.state now)
+      Goes one = (mid : PartProgress Table) × TablePuts plan rose item device table mid × TablePutGoesOn mid.end mid now (TableShips plan rose (items ++ others) mid.device mid.state now)
 
   -- .. which ends with a record that is refused
   pub ships-refused : (item : Record) (items : List Record) (refusal : Refusal) (device : Device) (table : Table) → refusal_of plan table item ≡ Some refusal → TableShips plan rose (item ∷ items) device table (so-far device table)
   ships-refused item items refusal device table is =
-      subst (λ (o : Option Refusal). MatchOption o ((mid : PartProgress Table) × TablePuts plan rose item device table mid × ShipGoesOn mid.end mid (so-far device table) (TableShips plan rose items mid.device mid.state (so-far device table))) (λ refusal. so-far device table ≡ so-far device table))
+      subst (λ (o : Option Refusal). MatchOption o ((mid : PartProgress Table) × TablePuts plan rose item device table mid × TablePutGoesOn mid.end mid (so-far device table) (TableShips plan rose items mid.device mid.state (so-far device table))) (λ refusal. so-far device table ≡ so-far device table))
       (sym is) refl
 
   -- .. or in the put of one
   pub ships-broken : (item : Record) (items : List Record) (device : Device) (table : Table) (now : PartProgress Table) (fault : FlashFault) (g : FlashState) → refusal_of plan table item ≡ None →
       TablePuts plan rose item device table now → FaultEnds now.end fault g → TableShips plan rose (item ∷ items) device table now
   ships-broken item items device table now fault g accepted did answer =
-      subst (λ (o : Option Refusal). MatchOption o ((mid : PartProgress Table) × TablePuts plan rose item device table mid × ShipGoesOn mid.end mid now (TableShips plan rose items mid.device mid.state now)) (λ refusal. now ≡ so-far device table))
+      subst (λ (o : Option Refusal). MatchOption o ((mid : PartProgress Table) × TablePuts plan rose item device table mid × TablePutGoesOn mid.end mid now (TableShips plan rose items mid.device mid.state now)) (λ refusal. now ≡ so-far device table))
       (sym accepted) (now, did, stops now.end answer)
     where
-      stops : (e : PartEnd Table) → FaultEnds e fault g → ShipGoesOn e now now (TableShips plan rose items now.device now.state now)
+      stops : (e : PartEnd Table) → FaultEnds e fault g → TablePutGoesOn e now now (TableShips plan rose items now.device now.state now)
       stops Whole none = absurd none
       stops (CutIn before) answer = refl
       stops (FailedIn before) answer = refl
