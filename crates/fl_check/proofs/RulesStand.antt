@@ -9,6 +9,7 @@ use Rattle.std.proofs.lemmas.List.{take-append-drop, length-take-le}
 use Rattle.std.proofs.lemmas.List.Folds.{list_any_at}
 use Rattle.std.proofs.lemmas.List.FromFn.{length-map-range_with_len, get_or-map-range_with_len}
 use Rattle.std.proofs.lemmas.Option.{none-some}
+use Rattle.fl_model.specs.Mount.{least_alike}
 use Rattle.fl_flash.specs.Flash.{FlashState, page_at, blank}
 use Rattle.fl_mark.specs.Mark.{state_of_page}
 use Rattle.fl_mark.specs.declared.page_state.PageState.{PageState}
@@ -17,7 +18,7 @@ use Rattle.fl_ring.specs.declared.newest.Newest.{Newest}
 use Rattle.fl_ring.specs.Front.{IsFront, blanks}
 use Rattle.fl_ring.specs.Head.{seals, is_sealed, page_in, counts_full, fulls}
 use Rattle.fl_ring.specs.Newest.{commits, page_back, number_of}
-use Rattle.fl_ring.specs.Numbers.{least_alike, renumbered, IsNumbered}
+use Rattle.fl_ring.specs.Numbers.{renumbered, IsNumbered}
 use Rattle.fl_ring.specs.Ring.{Shape, RingState, IsShape, IsRing, OnRing, HoldsKept, count, oldest, room, place, committed_end}
 use Rattle.fl_ring.proofs.BlockAheadIsClean.{blank_of, blank_is_blank}
 use Rattle.fl_ring.proofs.GoodNumbers.{number_some, renumbered_some, renumbered_none}

@@ -18,7 +18,7 @@ use Rattle.fl_model.specs.Table.{Table, RingName, IndexRing, shape_of, seal_page
 use Rattle.fl_model.specs.Image.{HoldsEntries}
 use Rattle.fl_model.specs.Layout.{committed, index_body}
 use Rattle.fl_model.specs.Mount as numbering
-use Rattle.fl_model.specs.Mount.{renumber}
+use Rattle.fl_model.specs.Mount.{renumber, least_alike}
 use Rattle.fl_model.specs.Work.{Kind, Body, Mark, VoidMark, Erase, effect, Device, Whole, PartProgress}
 use Rattle.fl_model.specs.Within.{repair_within, effect_within, TablePerforms, TableUnreads, all_done}
 use Rattle.fl_model.proofs.Performs.{performs-whole}
@@ -29,7 +29,7 @@ use Rattle.fl_frame.specs.Device.{SameDevice}
 use Rattle.fl_ring.specs.Head.{one}
 use Rattle.fl_ring.specs.Mounting.{IsGood, Mounted, RepairEnds}
 use Rattle.fl_ring.specs.Newest.{number_of}
-use Rattle.fl_ring.specs.Numbers.{renumbered, least_alike}
+use Rattle.fl_ring.specs.Numbers.{renumbered}
 use Rattle.fl_ring.specs.Operations.{change, repair_kinds}
 use Rattle.fl_ring.specs.Place.{StandsFor}
 use Rattle.fl_ring.specs.Ring.{Shape, RingState, OnRing, count, oldest, room, voided, unerased}

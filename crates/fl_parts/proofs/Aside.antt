@@ -4,8 +4,9 @@ use Rattle.std.specs.Prelude.{option_map, unwrap_or, slice_index, slice_set}
 use Rattle.std.proofs.lemmas.Bool.{cases_lt, eqb-true, lt-ltb, and_parts, not-true}
 use Rattle.fl_index.specs.Page.{full_view}
 use Rattle.fl_model.specs.Layout.{Full}
+use Rattle.fl_model.specs.Table.{first_of}
 use Rattle.fl_page.specs.declared.fault.BadPage.{BadPage as Refusal}
-use Rattle.fl_parts.specs.ByEntries.{Come, has_rows, are_void, is_newest, is_read, facts_on, voids_of, known_after, page_check, first_of, mount_fault, is_committed}
+use Rattle.fl_parts.specs.ByEntries.{Come, has_rows, are_void, is_newest, is_read, facts_on, voids_of, known_after, page_check, mount_fault, is_committed}
 use Rattle.fl_parts.specs.Knowing.{left, AreNoted, KnowsAll, KnowsAside}
 use Rattle.fl_parts.specs.Reading.{rises}
 use Rattle.fl_parts.specs.declared.mount_fault.MountFault.{MountFault}

@@ -22,10 +22,11 @@ use Rattle.fl_ring.specs.Ring.{Shape, room}
 use Rattle.fl_ring.proofs.Modulo.{apart}
 use Rattle.fl_frame.proofs.ReadsInTurn.{same_page}
 use Rattle.fl_model.specs.Record.{RowLayout}
+use Rattle.fl_model.specs.Table.{first_of}
 use Rattle.fl_ring.specs.Newest.{commits}
 use Rattle.fl_ring.specs.declared.ring.Ring.{Ring}
 use Rattle.fl_parts.specs.Bitmaps.{AreSamePlan, AreSameRing, room_of}
-use Rattle.fl_parts.specs.ByEntries.{Come, checks_from, first_of, first_some, index_check, index_page, is_committed, is_fit, mount_fault, page_checks, seen_before}
+use Rattle.fl_parts.specs.ByEntries.{Come, checks_from, first_some, index_check, index_page, is_committed, is_fit, mount_fault, page_checks, seen_before}
 use Rattle.fl_parts.specs.Coming.{AreRemembered, FirstsKnown, IsFineListing, RememberedBy, come_of, index_pages_of}
 use Rattle.fl_parts.specs.IndexMount.{RemembersKept, RemembersPages}
 use Rattle.fl_parts.proofs.IndexPages.{unfit-check}

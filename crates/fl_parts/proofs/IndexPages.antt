@@ -24,8 +24,9 @@ use Rattle.fl_index.specs.declared.page.Found.{Found}
 use Rattle.fl_index.specs.declared.page.Full as code
 use Rattle.fl_model.specs.Layout.{Full}
 use Rattle.fl_model.specs.Limits.{numbers_from}
+use Rattle.fl_model.specs.Table.{first_of}
 use Rattle.fl_page.specs.declared.fault.BadPage.{BadPage as Refusal}
-use Rattle.fl_parts.specs.ByEntries.{Come, has_rows, facts_on, points_of, index_page, is_committed, is_fit, is_good, lists, end_before, seen_before, entry, told, told_at, first_of, first_some, count_fault, index_check, bad_index_page, mount_fault}
+use Rattle.fl_parts.specs.ByEntries.{Come, has_rows, facts_on, points_of, index_page, is_committed, is_fit, is_good, lists, end_before, seen_before, entry, told, told_at, first_some, count_fault, index_check, bad_index_page, mount_fault}
 use Rattle.fl_parts.specs.Knowing.{KnowsBy, KnowsWith, counted_to}
 use Rattle.fl_parts.specs.declared.mount_fault.MountFault.{MountFault}
 use Rattle.fl_parts.specs.declared.mount_fault.MountFault.TheVariants.{BadPage, BadEntry}

@@ -7,7 +7,8 @@ use Rattle.fl_find.specs.declared.index.KeyIndex.{KeyIndex}
 use Rattle.fl_index.specs.Page.{full_view}
 use Rattle.fl_index.specs.declared.page.Full as code
 use Rattle.fl_model.specs.Layout.{Full}
-use Rattle.fl_parts.specs.ByEntries.{Come, entry, has_rows, is_committed, by_page, facts_on, no_rows, points_of, page_check, first_of}
+use Rattle.fl_model.specs.Table.{first_of}
+use Rattle.fl_parts.specs.ByEntries.{Come, entry, has_rows, is_committed, by_page, facts_on, no_rows, points_of, page_check}
 use Rattle.fl_parts.specs.Knowing.{left, KnowsBy, KnowsWith, IsWithin, counted_to, is_waiting}
 use Rattle.fl_parts.specs.declared.known.Known.{Known}
 use Rattle.fl_parts.specs.declared.known.Listed.{Listed}

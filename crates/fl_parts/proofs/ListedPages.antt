@@ -24,7 +24,8 @@ use Rattle.fl_ring.proofs.CutPages.{same_content}
 use Rattle.fl_frame.proofs.ReadsInTurn.{same_page}
 use Rattle.fl_index.proofs.Memories.{planned-same, ring-same}
 use Rattle.fl_model.specs.Ring.{oldest as model_oldest}
-use Rattle.fl_parts.specs.ByEntries.{Come, end_before, listing_among, told_at, page_check, seen_before, unlisted_of, first_of}
+use Rattle.fl_model.specs.Table.{first_of}
+use Rattle.fl_parts.specs.ByEntries.{Come, end_before, listing_among, told_at, page_check, seen_before, unlisted_of}
 use Rattle.fl_parts.specs.Faults.{IfFlash}
 use Rattle.fl_parts.specs.declared.mount_fault.MountFault.{MountFault}
 use Rattle.fl_parts.specs.declared.mount_fault.MountFault.TheVariants as mount

@@ -10,8 +10,9 @@ use Rattle.fl_mark.specs.declared.page_state.PageState.TheVariants.{Blank, Torn,
 use Rattle.fl_model.specs.Layout.{Full}
 use Rattle.fl_model.specs.Limits.{numbers_from}
 use Rattle.fl_model.specs.Record.{RowLayout}
+use Rattle.fl_model.specs.Table.{first_of}
 use Rattle.fl_ring.specs.Newest.{commits}
-use Rattle.fl_parts.specs.ByEntries.{Come, entry, is_committed, has_rows, are_void, is_newest, is_read, facts_on, known_after, page_check, first_of, first_some, index_check, seen_before, page_checks, checks_from}
+use Rattle.fl_parts.specs.ByEntries.{Come, entry, is_committed, has_rows, are_void, is_newest, is_read, facts_on, known_after, page_check, first_some, index_check, seen_before, page_checks, checks_from}
 use Rattle.fl_parts.specs.Knowing.{left}
 use Rattle.fl_parts.specs.declared.mount_fault.MountFault.{MountFault}
 

@@ -6,8 +6,9 @@ use Rattle.std.proofs.lemmas.Bool.{cases_lt}
 use Rattle.fl_find.specs.Pages.{rows_on}
 use Rattle.fl_index.specs.Page.{full_view}
 use Rattle.fl_model.specs.Layout.{Full}
+use Rattle.fl_model.specs.Table.{first_of}
 use Rattle.fl_page.specs.declared.fault.BadPage.{BadPage as Refusal}
-use Rattle.fl_parts.specs.ByEntries.{Come, entry, has_rows, are_void, is_read, by_page, facts_on, voids_of, end_of, known_after, read_fault, entry_fault, page_check, first_of, index_check, mount_fault, is_committed, no_rows}
+use Rattle.fl_parts.specs.ByEntries.{Come, entry, has_rows, are_void, is_read, by_page, facts_on, voids_of, end_of, known_after, read_fault, entry_fault, page_check, index_check, mount_fault, is_committed, no_rows}
 use Rattle.fl_parts.specs.Knowing.{left, AreNoted, AreCounted, KnowsAll, KnowsAside}
 use Rattle.fl_parts.specs.Reading.{last_in}
 use Rattle.fl_parts.specs.declared.mount_fault.MountFault.{MountFault}

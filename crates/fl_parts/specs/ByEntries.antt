@@ -10,6 +10,7 @@ use Rattle.fl_model.specs.Layout.{Full}
 use Rattle.fl_model.specs.Limits.{numbers_from}
 use Rattle.fl_model.specs.Record.{RowLayout}
 use Rattle.fl_model.specs.Row.{Row}
+use Rattle.fl_model.specs.Table.{first_of}
 use Rattle.fl_page.specs.Header.{page_number}
 use Rattle.fl_page.specs.Page.{bad_page, has_form}
 use Rattle.fl_ring.specs.Newest.{commits}
@@ -165,10 +166,6 @@ page_check t n =
     else entry_fault number (facts_on t number) (known_after t n)
 
 -- the first that there is
-abbrev pub first_of : {X : Type 0} → Option X → Option X → Option X
-first_of None other = other
-first_of (Some x) other = Some x
-
 abbrev pub first_some : {X : Type 0} → List (Option X) → Option X
 first_some [] = None
 first_some (one ∷ others) = first_of one (first_some others)

@@ -10,12 +10,12 @@ use Rattle.fl_index.specs.Standing.{StandsWith}
 use Rattle.fl_mark.specs.Mark.{state_of_page}
 use Rattle.fl_mark.specs.declared.page_state.PageState.TheVariants.{Committed}
 use Rattle.fl_model.specs.Record.{Plan, RowLayout, layout_len}
-use Rattle.fl_model.specs.Table.{Table}
+use Rattle.fl_model.specs.Table.{Table, first_of}
 use Rattle.fl_ring.specs.Place.{next_of, oldest_of}
 use Rattle.fl_ring.specs.Ring.{room}
 use Rattle.fl_ring.specs.declared.ring.Ring.{Ring}
 use Rattle.fl_parts.specs.Bitmaps.{RemembersFound, first_to_wait}
-use Rattle.fl_parts.specs.ByEntries.{Come, entry, end_before, page_check, first_of}
+use Rattle.fl_parts.specs.ByEntries.{Come, entry, end_before, page_check}
 use Rattle.fl_parts.specs.Knowing.{left}
 use Rattle.fl_parts.specs.Reading.{pages_of, WaitFrom}
 

@@ -5,8 +5,9 @@ use Rattle.fl_find.specs.declared.index.KeyIndex.{KeyIndex}
 use Rattle.fl_flash.specs.Flash.{FlashState}
 use Rattle.fl_index.specs.Page.{full_view}
 use Rattle.fl_model.specs.Record.{RowLayout}
+use Rattle.fl_model.specs.Table.{first_of}
 use Rattle.fl_frame.specs.Reads.{OnlyReads}
-use Rattle.fl_parts.specs.ByEntries.{Come, entry, are_void, facts_on, rows_of, voids_of, points_of, end_of, known_after, page_check, first_of, first_some, checks_from, mount_fault}
+use Rattle.fl_parts.specs.ByEntries.{Come, entry, are_void, facts_on, rows_of, voids_of, points_of, end_of, known_after, page_check, first_some, checks_from, mount_fault}
 use Rattle.fl_parts.specs.declared.mount_fault.MountFault.{MountFault}
 use Rattle.fl_parts.specs.declared.mount_fault.MountFault.TheVariants.{BadPage}
 use Rattle.fl_parts.specs.declared.known.Known.{Known}

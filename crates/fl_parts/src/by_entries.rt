@@ -8,13 +8,14 @@ ghost use Rattle.fl_index.specs.Memory.{is_running, IsSamePlan, LiesOn as IndexL
 ghost use Rattle.fl_index.specs.Standing.{StandsBelow};
 ghost use Rattle.fl_model.specs.Record.{Plan, RowLayout, layout_len};
 ghost use Rattle.fl_model.specs.Table as model;
+ghost use Rattle.fl_model.specs.Table.{first_of};
 ghost use Rattle.fl_frame.specs.Reads.{OnlyReads};
 ghost use Rattle.fl_frame.specs.Causes.{ReadFails};
 ghost use Rattle.fl_ring.specs.Place.{shape_of, next_of, oldest_of, LiesOn};
 ghost use Rattle.fl_ring.specs.Ring.{room};
 ghost use Rattle.fl_schema.specs.Schema.{layout_of};
 ghost use Rattle.fl_parts.specs.Bitmaps.{AreIdle, AreRunning, AreSamePlan, AreStillFound, LieOn, StandForRing};
-ghost use Rattle.fl_parts.specs.ByEntries.{Come, entry, end_before, first_of, page_check, seen_before, unlisted_of, mount_fault};
+ghost use Rattle.fl_parts.specs.ByEntries.{Come, entry, end_before, page_check, seen_before, unlisted_of, mount_fault};
 ghost use Rattle.fl_parts.specs.Faults.{IfFlash, IfPage, is_of_pages};
 ghost use Rattle.fl_parts.specs.Coming.{AreRowsOf, AreRemembered, ComesTo, FirstsKnown, IsComeTo, IsFineListing, AreLoaded, AreNext, AreListedBefore, StandFound, index_pages_of, loaded_full};
 ghost use Rattle.fl_parts.specs.declared.mount_fault.MountFault.{MountFault};

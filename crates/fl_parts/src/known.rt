@@ -1,9 +1,10 @@
 // What a mount knows of the data pages that it has come to.
 ghost use Rattle.std.specs.Prelude.{◌≡◌, ◌+◌, ◌*◌, ◌%◌, ◌^◌, ◌<◌, ◌≤◌, ℕ, suc, true, false, max, unwrap_or, Some, None, List, [], ◌∷◌, ◌++◌, length, slice_set, IfErr, OnOk};
+ghost use Rattle.fl_model.specs.Table.{first_of};
 ghost use Rattle.fl_find.specs.Index.{error_in, IndexOf};
 ghost use Rattle.fl_index.specs.Page.{full_view};
 ghost use Rattle.fl_spline.specs.Points.{IsFurther};
-ghost use Rattle.fl_parts.specs.ByEntries.{Come, entry, facts_on, has_rows, page_check, mount_fault, first_of};
+ghost use Rattle.fl_parts.specs.ByEntries.{Come, entry, facts_on, has_rows, page_check, mount_fault};
 ghost use Rattle.fl_parts.specs.Faults.{is_refused};
 ghost use Rattle.fl_parts.specs.Knowing.{left, KnowsWith, IsWithin};
 ghost use Rattle.fl_parts.specs.Reading.{rises};

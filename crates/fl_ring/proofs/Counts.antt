@@ -6,8 +6,9 @@ use Rattle.std.proofs.lemmas.List.{length-map, map_push}
 use Rattle.std.proofs.lemmas.Nat.Gcd.{dvd_of_mod-eq-zero}
 use Rattle.fl_model.specs.Ring as model
 use Rattle.fl_model.specs.Mount as mount
+use Rattle.fl_model.specs.Mount.{least_alike}
 use Rattle.fl_ring.specs.Counts.{page_count, ring_counts, model_shape, HoldsSome}
-use Rattle.fl_ring.specs.Numbers.{least_alike, renumbered}
+use Rattle.fl_ring.specs.Numbers.{renumbered}
 use Rattle.fl_ring.specs.Ring.{Shape, RingState, count, room, IsRing, is_due, is_due_at, begun, appended, trimmed, sealed, voided, erased}
 
 module _ (count_of : List ℕ → ℕ) where

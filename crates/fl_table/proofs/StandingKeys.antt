@@ -10,9 +10,9 @@ use Rattle.fl_model.specs.Agrees.{rows_at}
 use Rattle.fl_model.specs.Index.{Full}
 use Rattle.fl_model.specs.Limits.{numbers_from}
 use Rattle.fl_model.specs.Entry.{first_key}
-use Rattle.fl_model.specs.Table.{Table}
+use Rattle.fl_model.specs.Table.{Table, first_of}
 use Rattle.fl_model.proofs.Lists.{slice_get-some, slice_get-short}
-use Rattle.fl_parts.specs.ByEntries.{Come, entry, has_rows, are_void, is_read, facts_on, known_after, read_fault, entry_fault, page_check, first_some, first_of, index_check, checks_from, seen_before, mount_fault}
+use Rattle.fl_parts.specs.ByEntries.{Come, entry, has_rows, are_void, is_read, facts_on, known_after, read_fault, entry_fault, page_check, first_some, index_check, checks_from, seen_before, mount_fault}
 use Rattle.fl_parts.specs.Reading.{last_in}
 use Rattle.fl_parts.specs.declared.mount_fault.MountFault.{MountFault}
 use Rattle.fl_parts.specs.declared.mount_fault.MountFault.TheVariants.{BadKeys}

@@ -9,7 +9,7 @@ use Rattle.fl_flash.specs.declared.flash.FlashFault.TheVariants.{PowerLost, Medi
 use Rattle.fl_model.specs.Layout.{le, ContentPage, content_body}
 use Rattle.fl_model.specs.Row.{number_of as model_number}
 use Rattle.fl_model.specs.Mount as numbering
-use Rattle.fl_model.specs.Mount.{renumber, blob_end}
+use Rattle.fl_model.specs.Mount.{renumber, blob_end, least_alike}
 use Rattle.fl_model.specs.MountLimit.{ring_mount_limit, part_mount_limit}
 use Rattle.fl_model.specs.Record.{Plan}
 use Rattle.fl_model.specs.Ring as model
@@ -21,7 +21,7 @@ use Rattle.fl_ring.specs.Head.{one}
 use Rattle.fl_ring.specs.Mounting.{shape_at, IsGood, Mounted, RepairEnds}
 use Rattle.fl_ring.specs.Mounting as ring_mounting
 use Rattle.fl_ring.specs.Newest.{number_of}
-use Rattle.fl_ring.specs.Numbers.{renumbered, least_alike, voids_at_end}
+use Rattle.fl_ring.specs.Numbers.{renumbered, voids_at_end}
 use Rattle.fl_ring.specs.Operations.{change, repair_kinds}
 use Rattle.fl_ring.specs.Ring.{Shape, RingState, IsShape, OnRing, room, place, count, oldest, voided}
 use Rattle.fl_ring.specs.Sealing.{AnswersEnd}
