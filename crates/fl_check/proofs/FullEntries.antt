@@ -8,7 +8,7 @@ use Rattle.fl_index.specs.declared.page.Full as code
 use Rattle.fl_model.specs.Entry.{Entry, blob_len, first_key, end_of_blobs}
 use Rattle.fl_model.specs.Layout.{Full, full_of}
 use Rattle.fl_model.specs.Row.{Row, stored_row}
-use Rattle.fl_rules.specs.Tally.{reference_end, blobs_end}
+use Rattle.fl_model.specs.BlobEnds.{reference_end, blobs_end}
 use Rattle.fl_rules.specs.Told.{full_in}
 
 module _ (rows : List Row) (row : Row) (full : code.Full) (first : slice_get rows 0 ≡ Some row) where

@@ -16,6 +16,7 @@ use Rattle.fl_model.specs.Record.{Plan, row_layout, layout_len, rows_per_page, e
 use Rattle.fl_model.specs.Ring as model
 use Rattle.fl_model.specs.Row.{Row, stored_row, le}
 use Rattle.fl_model.specs.Table.{Entry, end_of_blobs, full_pages}
+use Rattle.fl_model.specs.BlobEnds.{blobs_end}
 use Rattle.fl_bitmap.specs.Bucket.{HasBuckets}
 use Rattle.fl_page.specs.Page.{rows_in}
 use Rattle.fl_page.specs.Steps.{Ascends}
@@ -33,7 +34,7 @@ use Rattle.fl_rules.specs.References.{BlobLeads, RowsLead, PageLeads}
 use Rattle.fl_rules.specs.Rising.{KeysAscend}
 use Rattle.fl_check.specs.SoundImages.{RingImage, OfPlace}
 use Rattle.fl_check.specs.StandingRings.{HaveSize, IsSortedLogForm, StandsRuled}
-use Rattle.fl_rules.specs.Tally.{blobs_end, tally_of}
+use Rattle.fl_rules.specs.Tally.{tally_of}
 use Rattle.fl_check.specs.Whole.{OfRing, IsIndexForm, IsRowsForm, IsVarForm, IsLogForm, form_in, layout_in, shape_in, rows_shape}
 use Rattle.fl_rules.specs.declared.numbering.Numbering.{Numbering}
 use Rattle.fl_check.proofs.AscendingPages.{HasRowsOf, map-flat, rows-ascend, keys-rise}

@@ -9,12 +9,13 @@ use Rattle.fl_model.specs.Record.{RowLayout}
 use Rattle.fl_model.specs.Row.{Row}
 use Rattle.fl_model.specs.Table.{full_pages}
 use Rattle.fl_model.proofs.FullPages.{full-cons, full-one, full-void}
+use Rattle.fl_model.specs.BlobEnds.{reference_end, blobs_end}
 use Rattle.fl_page.specs.Page.{rows_in}
 use Rattle.fl_ring.specs.Counts.{page_count}
 use Rattle.fl_ring.specs.Newest.{commits}
 use Rattle.fl_ring.specs.Ring.{Shape}
 use Rattle.fl_rules.specs.Marks.{kept_page}
-use Rattle.fl_rules.specs.Tally.{blobs_end, reference_end, tally_of}
+use Rattle.fl_rules.specs.Tally.{tally_of}
 use Rattle.fl_rules.specs.declared.marks.Marks.{Marks}
 use Rattle.fl_rules.specs.declared.tally.Tally.{Tally}
 use Rattle.fl_check.proofs.AscendingPages.{HasRowsOf}

@@ -15,6 +15,7 @@ pub mod Puts
 pub mod Laws
 pub mod Operators
 pub mod Row
+pub mod BlobEnds
 pub mod Layout
 pub mod Agrees
 pub mod Facts

@@ -7,7 +7,8 @@ use Rattle.std.proofs.lemmas.Option.{none-some, same_Some}
 use Rattle.fl_model.specs.Mount.{blob_end}
 use Rattle.fl_model.specs.Row.{Row, stored_row}
 use Rattle.fl_model.specs.Table.{Table, Entry, blob_len, end_of_blobs}
-use Rattle.fl_parts.specs.BlobEnds.{reference_end, least_of, blobs_end}
+use Rattle.fl_model.specs.BlobEnds.{reference_end, blobs_end}
+use Rattle.fl_parts.specs.BlobEnds.{least_of}
 
 -- rows behind others
 pub ends-append : (so_far : ℕ) (rows others : List Row) → blobs_end so_far (rows ++ others) ≡ blobs_end (blobs_end so_far rows) others

@@ -10,7 +10,8 @@ use Rattle.fl_model.specs.Entry.{Entry, end_of_blobs}
 use Rattle.fl_model.specs.Layout.{Full, full_of}
 use Rattle.fl_model.specs.Record.{RowLayout}
 use Rattle.fl_model.specs.Row.{Row, stored_row}
-use Rattle.fl_parts.specs.BlobEnds.{least_of, blobs_end}
+use Rattle.fl_model.specs.BlobEnds.{blobs_end}
+use Rattle.fl_parts.specs.BlobEnds.{least_of}
 use Rattle.fl_parts.specs.Reading.{full_on}
 use Rattle.fl_parts.proofs.BlobEnds.{AreNumbered, ends-of, ends-few, least-few}
 

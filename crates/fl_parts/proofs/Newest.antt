@@ -6,9 +6,9 @@ use Rattle.fl_find.specs.Pages.{first_key, rows_on}
 use Rattle.fl_find.specs.declared.index.KeyIndex.{KeyIndex}
 use Rattle.fl_model.specs.Layout.{Full}
 use Rattle.fl_model.specs.Record.{RowLayout}
+use Rattle.fl_model.specs.BlobEnds.{blobs_end}
 use Rattle.fl_page.specs.declared.fault.BadPage.{BadPage as Refusal}
 use Rattle.fl_spline.specs.Points.{IsFurther}
-use Rattle.fl_parts.specs.BlobEnds.{blobs_end}
 use Rattle.fl_parts.specs.ByEntries.{Come, entry, by_rows, by_page, facts_on, no_rows, points_of, read_fault, mount_fault, page_check}
 use Rattle.fl_parts.specs.Knowing.{KnowsBy, KnowsAside, KnowsWith, counted_to}
 use Rattle.fl_parts.specs.Reading.{last_in}

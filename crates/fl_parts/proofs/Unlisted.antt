@@ -13,11 +13,11 @@ use Rattle.fl_model.specs.Layout.{Full}
 use Rattle.fl_model.specs.Record.{RowLayout}
 use Rattle.fl_model.specs.Row.{Row}
 use Rattle.fl_model.specs.Table.{first_of}
+use Rattle.fl_model.specs.BlobEnds.{blobs_end}
 use Rattle.fl_page.specs.Header.{page_number, page_count}
 use Rattle.fl_page.specs.Page.{IsGoodPage, bad_page, has_form}
 use Rattle.fl_ring.specs.Newest.{commits}
 use Rattle.fl_spline.specs.Points.{IsFurther}
-use Rattle.fl_parts.specs.BlobEnds.{blobs_end}
 use Rattle.fl_parts.specs.ByEntries.{Come, entry, has_rows, is_committed, is_read, by_rows, by_page, facts_on, no_rows, points_of, read_fault, mount_fault, page_check}
 use Rattle.fl_parts.specs.Knowing.{left, KnowsBy, KnowsWith, IsWithin, IsUnlisted, counted_to, is_waiting}
 use Rattle.fl_parts.specs.Reading.{last_in, keys_fault, IsRead, IsRefused}

@@ -1,18 +1,6 @@
--- Where the blobs of rows end.
-use Rattle.std.specs.Prelude.{ℕ, ◌+◌, ◌-◌, ◌^◌, min, max, ◌==◌, Option, Some, None, List, map, if◌then◌else◌}
-use Rattle.std.specs.List.{fold}
-use Rattle.fl_base.specs.declared.types.BlobRef.{BlobRef}
-use Rattle.fl_model.specs.Row.{Row}
-
--- one more than the page at which a blob begins, and 0 where it has no page
-abbrev pub reference_end : Option BlobRef → ℕ
-reference_end None = 0
-reference_end (Some at) = if at.length == 0 then 0 else at.page + 1
+-- Where a ring begins whose pages tell no number.
+use Rattle.std.specs.Prelude.{ℕ, ◌-◌, ◌^◌, min}
 
 -- the number from which those of a ring begin whose pages tell none
 abbrev pub least_of : ℕ → ℕ
 least_of end = min end (2 ^ 32 - 1)
-
--- the greatest of them, or `so_far`
-abbrev pub blobs_end : ℕ → List Row → ℕ
-blobs_end so_far rows = fold max so_far (map (λ row. reference_end row.blob) rows)

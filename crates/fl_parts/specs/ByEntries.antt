@@ -11,10 +11,10 @@ use Rattle.fl_model.specs.Limits.{numbers_from}
 use Rattle.fl_model.specs.Record.{RowLayout}
 use Rattle.fl_model.specs.Row.{Row}
 use Rattle.fl_model.specs.Table.{first_of}
+use Rattle.fl_model.specs.BlobEnds.{blobs_end}
 use Rattle.fl_page.specs.Header.{page_number}
 use Rattle.fl_page.specs.Page.{bad_page, has_form}
 use Rattle.fl_ring.specs.Newest.{commits}
-use Rattle.fl_parts.specs.BlobEnds.{blobs_end}
 use Rattle.fl_parts.specs.Reading.{rises, last_in, keys_fault}
 use Rattle.fl_parts.specs.declared.mount_fault.MountFault.{MountFault}
 use Rattle.fl_parts.specs.declared.mount_fault.MountFault.TheVariants.{BadPage, BadKeys, BadEntry}

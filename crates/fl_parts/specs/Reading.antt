@@ -14,13 +14,14 @@ use Rattle.fl_model.specs.Layout.{IndexEntry}
 use Rattle.fl_model.specs.Limits.{numbers_from}
 use Rattle.fl_model.specs.Record.{RowLayout}
 use Rattle.fl_model.specs.Row.{Row}
+use Rattle.fl_model.specs.BlobEnds.{blobs_end}
 use Rattle.fl_page.specs.Page.{IsGoodPage, bad_page, rows_in}
 use Rattle.fl_page.specs.Header.{page_bitmap}
 use Rattle.fl_ring.specs.Place.{shape_of}
 use Rattle.fl_ring.specs.Ring.{place}
 use Rattle.fl_ring.specs.declared.ring.Ring.{Ring}
 use Rattle.fl_parts.specs.Bitmaps.{AreWaiting}
-use Rattle.fl_parts.specs.BlobEnds.{least_of, blobs_end}
+use Rattle.fl_parts.specs.BlobEnds.{least_of}
 use Rattle.fl_parts.specs.declared.mount_fault.MountFault.{MountFault}
 use Rattle.fl_parts.specs.declared.mount_fault.MountFault.TheVariants.{BadPage, BadKeys}
 

@@ -1,7 +1,8 @@
 // Where the blobs of rows end: the numbers of variable data begin behind them.
 ghost use Rattle.std.specs.Prelude.{◌≡◌, ◌<◌};
+ghost use Rattle.fl_model.specs.BlobEnds.{reference_end, blobs_end};
 ghost use Rattle.fl_page.specs.View.{count_of, rows_of};
-ghost use Rattle.fl_parts.specs.BlobEnds.{reference_end, least_of, blobs_end};
+ghost use Rattle.fl_parts.specs.BlobEnds.{least_of};
 
 use fl_base::BlobRef;
 use fl_page::PageView;

@@ -5,6 +5,7 @@ ghost use Rattle.fl_find.specs.Pages.{first_key, rows_on};
 ghost use Rattle.fl_flash.specs.Flash.{pages, page_at};
 ghost use Rattle.fl_model.specs.Record.{layout_len};
 ghost use Rattle.fl_model.specs.Table.{first_of};
+ghost use Rattle.fl_model.specs.BlobEnds.{blobs_end};
 ghost use Rattle.fl_frame.specs.Reads.{OnlyReads};
 ghost use Rattle.fl_frame.specs.Causes.{ReadFails};
 ghost use Rattle.fl_ring.specs.Place.{shape_of, next_of, oldest_of, LiesOn};
@@ -18,7 +19,7 @@ ghost use Rattle.fl_parts.specs.Bitmaps.{AreSamePlan, AreSameRing};
 ghost use Rattle.fl_parts.specs.ByEntries.{Come, has_rows, is_committed, page_check, read_fault, mount_fault};
 ghost use Rattle.fl_parts.specs.Coming.{AreRowsOf, AreUnlisted};
 ghost use Rattle.fl_parts.specs.Knowing.{left, KnowsWith, IsWithin, IsUnlisted, is_waiting};
-ghost use Rattle.fl_parts.specs.BlobEnds.{blobs_end, least_of};
+ghost use Rattle.fl_parts.specs.BlobEnds.{least_of};
 
 use crate::MountFault;
 use crate::bitmaps::note_entry;

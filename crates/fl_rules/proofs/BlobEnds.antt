@@ -4,7 +4,7 @@ use Rattle.std.specs.List.{slice_get}
 use Rattle.std.proofs.lemmas.List.{take_all}
 use Rattle.std.proofs.lemmas.Option.{none-some, same_Some}
 use Rattle.fl_model.specs.Row.{Row}
-use Rattle.fl_rules.specs.Tally.{reference_end, blobs_end}
+use Rattle.fl_model.specs.BlobEnds.{reference_end, blobs_end}
 
 -- one row more
 pub ends-next : (so_far : ℕ) (rows : List Row) (i : ℕ) (row : Row) → slice_get rows i ≡ Some row → blobs_end so_far (take (i + 1) rows) ≡ max (blobs_end so_far (take i rows)) (reference_end row.blob)

@@ -2,11 +2,12 @@
 use Rattle.std.proofs.Common.{◌≡◌, ℕ, suc, ◌+◌, true, List, length, ap, ◌∙◌, arith}
 use Rattle.fl_mark.specs.Mark.{state_of_page}
 use Rattle.fl_model.specs.Record.{RowLayout}
+use Rattle.fl_model.specs.BlobEnds.{blobs_end}
 use Rattle.fl_page.specs.Page.{rows_in}
 use Rattle.fl_ring.specs.Newest.{commits}
 use Rattle.fl_ring.specs.Ring.{Shape}
 use Rattle.fl_rules.specs.Marks.{kept_page}
-use Rattle.fl_rules.specs.Tally.{blobs_end, listed_after, listed_to, with_page, tally_of}
+use Rattle.fl_rules.specs.Tally.{listed_after, listed_to, with_page, tally_of}
 use Rattle.fl_rules.specs.declared.marks.Marks.{Marks}
 use Rattle.fl_rules.specs.declared.tally.Tally.{Tally}
 

@@ -1,11 +1,9 @@
 -- What the kept pages of a table tell: the rows, the void pages, and where its blobs and the entries of its index end.
-use Rattle.std.specs.Prelude.{ℕ, zero, suc, ◌+◌, max, ◌==◌, if◌then◌else◌, Option, Some, None, List, length, map}
-use Rattle.std.specs.List.{fold}
-use Rattle.fl_base.specs.declared.types.BlobRef.{BlobRef}
+use Rattle.std.specs.Prelude.{ℕ, zero, suc, ◌+◌, if◌then◌else◌, List, length}
 use Rattle.fl_index.specs.Page.{page_first}
 use Rattle.fl_mark.specs.Mark.{state_of_page}
 use Rattle.fl_model.specs.Record.{RowLayout}
-use Rattle.fl_model.specs.Row.{Row}
+use Rattle.fl_model.specs.BlobEnds.{blobs_end}
 use Rattle.fl_page.specs.Page.{rows_in}
 use Rattle.fl_ring.specs.Newest.{commits}
 use Rattle.fl_ring.specs.Ring.{Shape}
@@ -21,15 +19,6 @@ listed_after per_page page before = if commits (state_of_page page) then page_fi
 abbrev pub listed_to : ℕ → (ℕ → List ℕ) → Shape → Marks → ℕ → ℕ
 listed_to per_page page r m zero = 0
 listed_to per_page page r m (suc i) = listed_after per_page (page (kept_page r m i)) (listed_to per_page page r m i)
-
--- one more than the page at which a blob begins, and 0 where it has no page
-abbrev pub reference_end : Option BlobRef → ℕ
-reference_end None = 0
-reference_end (Some at) = if at.length == 0 then 0 else at.page + 1
-
--- the greatest of them, or `so_far`
-abbrev pub blobs_end : ℕ → List Row → ℕ
-blobs_end so_far rows = fold max so_far (map (λ row. reference_end row.blob) rows)
 
 -- one page more
 abbrev pub with_page : RowLayout → List ℕ → Tally → Tally

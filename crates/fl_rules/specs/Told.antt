@@ -6,10 +6,10 @@ use Rattle.fl_mark.specs.Mark.{state_of_page}
 use Rattle.fl_model.specs.Layout.{Full, full_of}
 use Rattle.fl_model.specs.Record.{RowLayout}
 use Rattle.fl_model.specs.Row.{Row}
+use Rattle.fl_model.specs.BlobEnds.{blobs_end}
 use Rattle.fl_page.specs.Header.{page_number, page_bitmap}
 use Rattle.fl_page.specs.Page.{rows_in, IsGoodPage}
 use Rattle.fl_ring.specs.Newest.{commits}
-use Rattle.fl_rules.specs.Tally.{blobs_end}
 
 -- what a full entry tells of a page with these rows beside its bitmap
 abbrev pub full_in : List Row → Full

@@ -1,6 +1,7 @@
 // What the kept pages of a table tell beside its rules: the rows, the void pages, and where its blobs and the entries of its
 // index end.
 ghost use Rattle.std.specs.Prelude.{◌≡◌, ◌<◌, ◌≤◌, ◌+◌, Option, length, IsTrue, IfOk, IfErr};
+ghost use Rattle.fl_model.specs.BlobEnds.{reference_end, blobs_end};
 ghost use Rattle.fl_flash.specs.Flash.{page_at};
 ghost use Rattle.fl_page.specs.View.{count_of, rows_of};
 ghost use Rattle.fl_frame.specs.Reads.{OnlyReads};
@@ -9,7 +10,7 @@ ghost use Rattle.fl_ring.specs.Place.{shape_of, LiesOn};
 ghost use Rattle.fl_schema.specs.Schema.{layout_of};
 ghost use Rattle.fl_rules.specs.Rising.{HasRows, HaveRows};
 ghost use Rattle.fl_rules.specs.Marks.{AreWithin};
-ghost use Rattle.fl_rules.specs.Tally.{listed_after, listed_to, reference_end, blobs_end, with_page, tally_of};
+ghost use Rattle.fl_rules.specs.Tally.{listed_after, listed_to, with_page, tally_of};
 
 use crate::marks::Marks;
 use fl_base::{BlobRef, get_u32};

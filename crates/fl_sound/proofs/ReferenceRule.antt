@@ -16,12 +16,12 @@ use Rattle.fl_model.specs.Row.{Row, stored_row}
 use Rattle.fl_model.specs.Table.{Table, Entry, full_pages}
 use Rattle.fl_model.proofs.Lists.{slice_get-drop, slice_get-front, slice_get-some}
 use Rattle.fl_model.proofs.StandingPages.{stands-kept, kept-stands}
+use Rattle.fl_model.specs.BlobEnds.{reference_end, blobs_end}
 use Rattle.fl_page.specs.Header.{page_count}
 use Rattle.fl_ring.specs.Newest.{commits, page_back}
 use Rattle.fl_ring.specs.Ring.{Shape, place}
 use Rattle.fl_rules.specs.Marks.{kept_page}
 use Rattle.fl_rules.specs.References.{numbered, IsThere, last_part, HoldsPart, IsWhole, Leads, BlobLeads, RowsLead, PageLeads}
-use Rattle.fl_rules.specs.Tally.{reference_end, blobs_end}
 use Rattle.fl_rules.specs.declared.numbering.Numbering.{Numbering}
 use Rattle.fl_check.proofs.RingReads.{Reads}
 use Rattle.fl_sound.proofs.DataPages.{HaveRowsOf}

@@ -18,6 +18,7 @@ use Rattle.fl_model.specs.Row.{Row, le, stored_row}
 use Rattle.fl_model.specs.Content.{ContentPage}
 use Rattle.fl_model.specs.Table.{Table, Entry, VarRing, shape_of, full_pages, written}
 use Rattle.fl_model.proofs.Lists.{each-at}
+use Rattle.fl_model.specs.BlobEnds.{reference_end, blobs_end}
 use Rattle.fl_page.specs.Header.{page_count}
 use Rattle.fl_plan.specs.Limits.{IsRingSize}
 use Rattle.fl_plan.specs.Plan.{Label, blocks_in, plan_of_table}
@@ -40,7 +41,6 @@ use Rattle.fl_var.proofs.MountsInTable.{one-is}
 use Rattle.fl_rules.specs.Claims.{AllBelow}
 use Rattle.fl_rules.specs.References.{PageLeads}
 use Rattle.fl_rules.specs.RingRules.{NoRows, IsRingSound}
-use Rattle.fl_rules.specs.Tally.{reference_end, blobs_end}
 use Rattle.fl_check.specs.Whole.{OfRing, shape_in as ring_shape, rows_shape, layout_in, IsVarForm}
 use Rattle.fl_rules.specs.declared.numbering.Numbering.{Numbering}
 use Rattle.fl_rules.proofs.ContentPages.{content_used}

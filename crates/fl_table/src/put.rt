@@ -1,7 +1,7 @@
 // Puts and flushes.
 ghost use Rattle.std.specs.Prelude.{◌≡◌, ◌≤◌, ◌+◌, ◌^◌, ◌<◌, ◌++◌, ◌∷◌, [], true, false, length, IsTrue, OnOk, OnErr, IfErr, option_map};
+ghost use Rattle.fl_model.specs.BlobEnds.{reference_end};
 ghost use Rattle.fl_flash.specs.Flash.{Goes, OffChangesNothing, page_at};
-ghost use Rattle.fl_parts.specs.BlobEnds.{reference_end};
 ghost use Rattle.fl_table.specs.Memory.{bitmap_with};
 
 use crate::table::Table;

@@ -1,6 +1,6 @@
 use Rattle.std.proofs.Common.{◌≡◌, take}
+use Rattle.fl_model.specs.BlobEnds.{blobs_end}
 use Rattle.fl_page.specs.View.{rows_of}
-use Rattle.fl_parts.specs.BlobEnds.{blobs_end}
 use Rattle.fl_parts.proofs.blob_end.blobs_end.Given as goal
 
 abbrev pub invariant-loop-i : goal.invariant-loop-i

@@ -1,8 +1,8 @@
 use Rattle.std.proofs.Common.{rules, arith, ◌≡◌, ℕ, List, Some, length, true, ap, subst, ◌∙◌, sym}
 use Rattle.std.proofs.lemmas.Result.{err_from_is_err_and, IfErr-weaker, IfOk-weaker}
+use Rattle.fl_model.specs.BlobEnds.{blobs_end}
 use Rattle.fl_find.specs.Pages.{rows_on, first_key}
 use Rattle.fl_schema.specs.Schema.{layout_of}
-use Rattle.fl_parts.specs.BlobEnds.{blobs_end}
 use Rattle.fl_parts.specs.ByEntries.{mount_fault}
 use Rattle.fl_parts.specs.Faults.{is_of_pages}
 use Rattle.fl_parts.specs.Knowing.{IsUnlisted}

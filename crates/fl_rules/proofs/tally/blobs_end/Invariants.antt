@@ -1,6 +1,6 @@
 use Rattle.std.proofs.Common.{◌≡◌, take}
+use Rattle.fl_model.specs.BlobEnds.{blobs_end}
 use Rattle.fl_page.specs.View.{rows_of}
-use Rattle.fl_rules.specs.Tally.{blobs_end}
 use Rattle.fl_rules.proofs.tally.blobs_end.Given as goal
 
 abbrev pub invariant-loop-i : goal.invariant-loop-i

@@ -1,11 +1,11 @@
 use Rattle.std.proofs.Common.{◌≡◌, List, length, sym, ◌∙◌, ap, arith}
 use Rattle.fl_model.specs.Row.{Row}
+use Rattle.fl_model.specs.BlobEnds.{blobs_end}
 use Rattle.fl_page.specs.Page.{rows_in}
 use Rattle.fl_page.specs.View.{count_of, rows_of, layout_of_page, page_of}
 use Rattle.fl_ring.specs.Newest.{commits}
 use Rattle.fl_schema.specs.Schema.{layout_of, types_of}
 use Rattle.fl_page.proofs.RowsFrom.{length-rows_from}
-use Rattle.fl_rules.specs.Tally.{blobs_end}
 use Rattle.fl_rules.proofs.DataPages.{rows_seen}
 use Rattle.fl_rules.proofs.FormedRows.{good_few}
 use Rattle.fl_rules.proofs.Tallies.{more_page}

@@ -4,9 +4,9 @@ use Rattle.fl_base.specs.declared.types.BlobRef.{BlobRef}
 use Rattle.fl_model.specs.Record.{Record, RowLayout}
 use Rattle.fl_model.specs.Row.{stored_row, FitsReference}
 use Rattle.fl_model.specs.Table as model
+use Rattle.fl_model.specs.BlobEnds.{reference_end}
 use Rattle.fl_index.specs.declared.index.BitmapIndex.{BitmapIndex}
 use Rattle.fl_parts.specs.Bitmaps as bitmaps
-use Rattle.fl_parts.specs.BlobEnds.{reference_end}
 use Rattle.fl_parts.specs.Blobs as variable
 use Rattle.fl_table.specs.Memory.{PendingAre}
 use Rattle.fl_table.specs.Standing.{Stands}
