@@ -1,14 +1,15 @@
 -- What a full entry tells of rows, field by field.
-use Rattle.std.proofs.Common.{◌≡◌, ℕ, ◌+◌, ◌==◌, cond, max, Option, Some, None, List, [], ◌∷◌, length, map, fold, refl, ap, sym, ◌∙◌}
+use Rattle.std.proofs.Common.{◌≡◌, Option, Some, List, [], ◌∷◌, length, map, refl, ap, sym, ◌∙◌}
 use Rattle.std.specs.List.{slice_get}
 use Rattle.std.specs.Option.{option_map, unwrap_or}
 use Rattle.std.proofs.lemmas.List.{length-map}
 use Rattle.fl_index.specs.Page.{full_view}
 use Rattle.fl_index.specs.declared.page.Full as code
-use Rattle.fl_model.specs.Entry.{Entry, blob_len, first_key, end_of_blobs}
+use Rattle.fl_model.specs.Entry.{Entry, first_key}
 use Rattle.fl_model.specs.Layout.{Full, full_of}
 use Rattle.fl_model.specs.Row.{Row, stored_row}
-use Rattle.fl_model.specs.BlobEnds.{reference_end, blobs_end}
+use Rattle.fl_model.specs.BlobEnds.{blobs_end}
+use Rattle.fl_model.proofs.BlobEnds.{ends-of}
 use Rattle.fl_rules.specs.Told.{full_in}
 
 module _ (rows : List Row) (row : Row) (full : code.Full) (first : slice_get rows 0 ≡ Some row) where
@@ -36,20 +37,5 @@ module _ (entries : List Entry) where
       first [] = refl
       first (entry ∷ entries) = refl
 
-  pub ends-stored : blobs_end 0 (map stored_row entries) ≡ end_of_blobs entries
-  ends-stored = ap (λ (ends : List ℕ). fold max 0 ends) (all entries)
-    where
-      one : (entry : Entry) → reference_end (stored_row entry).blob ≡ cond (blob_len entry.kept == 0) 0 (entry.page + 1)
-      one entry = by_blob entry.kept.blob refl
-        where
-          by_blob : (o : Option (List ℕ)) → entry.kept.blob ≡ o → reference_end (stored_row entry).blob ≡ cond (blob_len entry.kept == 0) 0 (entry.page + 1)
-          by_blob None e = rw e refl
-          by_blob (Some bytes) e = rw e refl
-
-      all : (entries : List Entry) → map (λ (row : Row). reference_end row.blob) (map stored_row entries) ≡ map (λ (entry : Entry). cond (blob_len entry.kept == 0) 0 (entry.page + 1)) entries
-      all [] = refl
-      all (entry ∷ entries) =
-          ap (λ (n : ℕ). n ∷ map (λ (row : Row). reference_end row.blob) (map stored_row entries)) (one entry) ∙ ap (λ (ends : List ℕ). cond (blob_len entry.kept == 0) 0 (entry.page + 1) ∷ ends) (all entries)
-
   pub full-stored : full_in (map stored_row entries) ≡ full_of entries
-  full-stored = rw (key-stored, length-map entries stored_row, ends-stored) refl
+  full-stored = rw (key-stored, length-map entries stored_row, ends-of entries) refl

@@ -17,6 +17,7 @@ use Rattle.fl_model.specs.Ring as model
 use Rattle.fl_model.specs.Row.{Row, stored_row, le}
 use Rattle.fl_model.specs.Table.{Entry, end_of_blobs, full_pages}
 use Rattle.fl_model.specs.BlobEnds.{blobs_end}
+use Rattle.fl_model.proofs.BlobEnds.{ends-of}
 use Rattle.fl_bitmap.specs.Bucket.{HasBuckets}
 use Rattle.fl_page.specs.Page.{rows_in}
 use Rattle.fl_page.specs.Steps.{Ascends}
@@ -42,7 +43,6 @@ use Rattle.fl_check.proofs.BlobBytes.{IsReadBy, all-read}
 use Rattle.fl_check.proofs.Collected.{Held, all-flat, sum-flat, piece}
 use Rattle.fl_check.proofs.ConfigFacts.{has-buckets, some-bits, some-room}
 use Rattle.fl_rules.proofs.DataPages.{data_rows}
-use Rattle.fl_check.proofs.FullEntries.{ends-stored}
 use Rattle.fl_check.proofs.HeldRings.{within, bytes_is, void_is, commits_is, some, first_same, read, counts_are, follows, held_as, collected, sized, followed, held}
 use Rattle.fl_check.proofs.LedBlobs.{entries-lead}
 use Rattle.fl_check.proofs.RingReads.{Follows, OfNumbered}
@@ -222,7 +222,7 @@ module _ (label : Label) (config : TableConfig) (log : Option RingPlace) (reader
       pub data_ends : (tally_of (layout_in config) (page_at f) (rows_shape config) n.marks n.marks.kept).blob_end ≡ end_of_blobs entries
       data_ends =
           ap (λ (k : ℕ). (tally_of (layout_in config) (page_at f) (rows_shape config) n.marks k).blob_end) (let e : n.marks.kept ≡ 0 + length st.s.kept = omega (arith, st.kept) in e)
-          ∙ data_tallied.ends ∙ ap (blobs_end 0) (sym (map-flat stored_row entries_in st.s.kept)) ∙ ends-stored entries
+          ∙ data_tallied.ends ∙ ap (blobs_end 0) (sym (map-flat stored_row entries_in st.s.kept)) ∙ ends-of entries
 
       -- ---- what the other rules read of them
 

@@ -1,15 +1,15 @@
 -- The rows and the void pages of a ring as a check tallies them, and as its state has them.
-use Rattle.std.proofs.Common.{◌≡◌, ℕ, suc, ◌+◌, ◌<◌, ◌++◌, max, Option, Some, None, IfSome, List, [], ◌∷◌, length, map, fold, sum, get_or, sym, ◌∙◌, ap, subst, arith}
+use Rattle.std.proofs.Common.{◌≡◌, ℕ, suc, ◌+◌, ◌<◌, ◌++◌, Option, Some, None, IfSome, List, [], ◌∷◌, length, map, sum, get_or, sym, ◌∙◌, ap, subst, arith}
 use Rattle.std.specs.List.{flat_map}
 use Rattle.std.proofs.lemmas.Bool.{cond-true, cond-false}
-use Rattle.std.proofs.lemmas.List.{map-append}
-use Rattle.std.proofs.lemmas.List.Sums.{sum_by-cons, fold-append}
+use Rattle.std.proofs.lemmas.List.Sums.{sum_by-cons}
 use Rattle.fl_mark.specs.Mark.{state_of_page}
 use Rattle.fl_model.specs.Record.{RowLayout}
 use Rattle.fl_model.specs.Row.{Row}
 use Rattle.fl_model.specs.Table.{full_pages}
 use Rattle.fl_model.proofs.FullPages.{full-cons, full-one, full-void}
-use Rattle.fl_model.specs.BlobEnds.{reference_end, blobs_end}
+use Rattle.fl_model.specs.BlobEnds.{blobs_end}
+use Rattle.fl_model.proofs.BlobEnds.{ends-append}
 use Rattle.fl_page.specs.Page.{rows_in}
 use Rattle.fl_ring.specs.Counts.{page_count}
 use Rattle.fl_ring.specs.Newest.{commits}
@@ -19,12 +19,6 @@ use Rattle.fl_rules.specs.Tally.{tally_of}
 use Rattle.fl_rules.specs.declared.marks.Marks.{Marks}
 use Rattle.fl_rules.specs.declared.tally.Tally.{Tally}
 use Rattle.fl_check.proofs.AscendingPages.{HasRowsOf}
-
--- rows more, behind others
-pub ends-append : (so_far : ℕ) (rows others : List Row) → blobs_end so_far (rows ++ others) ≡ blobs_end (blobs_end so_far rows) others
-ends-append so_far rows others =
-    ap (fold max so_far) (map-append (λ (row : Row). reference_end row.blob) rows others)
-    ∙ fold-append max so_far (map (λ (row : Row). reference_end row.blob) rows) (map (λ (row : Row). reference_end row.blob) others)
 
 module _ (layout : RowLayout) (rows_of : Option (List ℕ) → List Row) (count_of : List ℕ → ℕ) (same : (body : List ℕ) → count_of body ≡ length (rows_of (Some body))) (page : ℕ → List ℕ) (r : Shape) (m : Marks) where
   abbrev tally : ℕ → Tally

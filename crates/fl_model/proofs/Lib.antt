@@ -16,6 +16,7 @@ pub mod ShipWork
 pub mod Bare
 pub mod EntriesStayTold
 pub mod BlobsStay
+pub mod BlobEnds
 pub mod BlobsJoined
 pub mod Fresh
 pub mod StandingPages

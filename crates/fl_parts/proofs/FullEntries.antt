@@ -11,9 +11,10 @@ use Rattle.fl_model.specs.Layout.{Full, full_of}
 use Rattle.fl_model.specs.Record.{RowLayout}
 use Rattle.fl_model.specs.Row.{Row, stored_row}
 use Rattle.fl_model.specs.BlobEnds.{blobs_end}
+use Rattle.fl_model.proofs.BlobEnds.{ends-of, AreNumbered, ends-few}
 use Rattle.fl_parts.specs.BlobEnds.{least_of}
 use Rattle.fl_parts.specs.Reading.{full_on}
-use Rattle.fl_parts.proofs.BlobEnds.{AreNumbered, ends-of, ends-few, least-few}
+use Rattle.fl_parts.proofs.BlobEnds.{least-few}
 
 first-of : (entries : List Entry) → unwrap_or (first_key (map stored_row entries)) 0 ≡ model.first_key entries
 first-of [] = refl

@@ -2,7 +2,6 @@
 use Rattle.std.proofs.Common.{◌≡◌, ℕ, zero, suc, ◌+◌, ◌-◌, ◌*◌, ◌^◌, ◌<◌, ◌≤◌, ◌⊎◌, Bool, true, Option, Some, None, IfSome, List, [], ◌∷◌, length, map, take, drop, refl, sym, ◌∙◌, ap, subst, arith, inl, inr}
 use Rattle.std.proofs.Math.Nat.{le-div_iff_mul-le, mul-le-mul_left}
 use Rattle.std.proofs.lemmas.Bool.{cases_lt, false≢true}
-use Rattle.fl_parts.proofs.BlobEnds.{AreNumbered}
 use Rattle.fl_parts.proofs.FullEntries.{full-on}
 use Rattle.std.proofs.lemmas.List.{length-map, length-take-le, length-drop, take_all}
 use Rattle.std.proofs.lemmas.List.Sums.{sum_by-cons, sum_by-take-le}
@@ -20,6 +19,7 @@ use Rattle.fl_model.specs.Layout.{data_body, committed, full_of}
 use Rattle.fl_index.specs.Page.{full_view}
 use Rattle.fl_model.specs.Image.{IsRingImage, HoldsRows, rows_at}
 use Rattle.fl_model.proofs.Lists.{slice_get-short, slice_get-drop, slice_get-front, each-drop, each-take}
+use Rattle.fl_model.proofs.BlobEnds.{AreNumbered}
 use Rattle.fl_parts.proofs.BlobRows.{stored-row, written-numbered}
 use Rattle.fl_parts.proofs.Loose.{IsLoose}
 use Rattle.fl_page.specs.Page.{IsGoodPage, rows_in}

@@ -1,4 +1,3 @@
-pub mod BlobEnds
 pub mod BlobReaches
 pub mod Breaks
 pub mod BytesBack

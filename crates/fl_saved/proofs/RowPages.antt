@@ -20,12 +20,12 @@ use Rattle.fl_model.specs.Ring.{Ring, oldest}
 use Rattle.fl_model.specs.Row.{stored_row}
 use Rattle.fl_model.specs.Table.{Table, Entry, DataRing, VarRing, shape_of, written}
 use Rattle.fl_model.proofs.Lists.{slice_get-short, slice_get-drop, slice_get-front, slice_get-take, each-drop, each-take, each-at}
+use Rattle.fl_model.proofs.BlobEnds.{AreNumbered}
 use Rattle.fl_page.specs.Header.{page_number, page_count}
 use Rattle.fl_page.specs.Page.{IsGoodPage, rows_in}
 use Rattle.fl_page.proofs.DataPages.{IsDataPage, data_page}
 use Rattle.fl_page.proofs.WriterSteps.{layout_some}
 use Rattle.fl_ring.proofs.Found.{committed_state}
-use Rattle.fl_parts.proofs.BlobEnds.{AreNumbered}
 use Rattle.fl_parts.proofs.KeptPages.{all-stored, sum-next}
 use Rattle.fl_parts.proofs.States.{committed-end}
 use Rattle.fl_salvage.specs.Pages.{found_at, has_rows, if_committed, numbered, numbers_at, page_of, with_number, with_passed}

@@ -11,6 +11,7 @@ use Rattle.fl_model.specs.Row.{Row, stored_row}
 use Rattle.fl_model.specs.Table.{Table, Entry}
 use Rattle.fl_model.proofs.Lists.{slice_get-some}
 use Rattle.fl_model.specs.BlobEnds.{blobs_end}
+use Rattle.fl_model.proofs.BlobEnds.{ends-append}
 use Rattle.fl_page.specs.Page.{rows_in}
 use Rattle.fl_page.specs.Steps.{Ascends}
 use Rattle.fl_ring.specs.Newest.{commits}
@@ -20,7 +21,6 @@ use Rattle.fl_rules.specs.Rising.{last_in, last_after, last_key, KeysAscend}
 use Rattle.fl_rules.specs.Tally.{tally_of}
 use Rattle.fl_rules.specs.declared.numbering.Numbering.{Numbering}
 use Rattle.fl_check.proofs.RingReads.{Reads}
-use Rattle.fl_check.proofs.TalliedPages.{ends-append}
 use Rattle.fl_sound.specs.Sound.{void_pages}
 use Rattle.fl_sound.proofs.Lists.{take-none, take-next, rows-behind, last-behind, ascends-behind, ascends-front}
 

@@ -7,7 +7,7 @@ use Rattle.fl_model.specs.Entry.{Entry, first_key}
 use Rattle.fl_model.specs.Facts.{FitsPlan}
 use Rattle.fl_model.specs.Layout.{full_of}
 use Rattle.fl_model.specs.Record.{Plan, key_limit}
-use Rattle.fl_parts.proofs.BlobEnds.{AreNumbered, ends-few}
+use Rattle.fl_model.proofs.BlobEnds.{AreNumbered, ends-few}
 
 module _ (plan : Plan) (rows : List Entry) (fit : AllByRecursion (FitsPlan plan) rows) (keys : key_limit plan < 2 ^ 64) (few : length rows < 2 ^ 16) (numbered : AreNumbered rows) where
   key-few : (rows : List Entry) → AllByRecursion (FitsPlan plan) rows → first_key rows < 2 ^ 64

@@ -17,12 +17,12 @@ use Rattle.fl_model.specs.Row.{Row, stored_row}
 use Rattle.fl_model.specs.Table.{Table, Entry, first_of}
 use Rattle.fl_model.proofs.Lists.{slice_get-some}
 use Rattle.fl_model.specs.BlobEnds.{blobs_end}
+use Rattle.fl_model.proofs.BlobEnds.{ends-of}
 use Rattle.fl_page.specs.Page.{has_form}
 use Rattle.fl_parts.specs.ByEntries.{Come, entry, index_page, is_committed, is_fit, is_good, lists, listing_among, told_at, has_rows, is_read, by_rows, by_page, facts_on, no_rows, first_some, count_fault, index_check}
 use Rattle.fl_parts.specs.Reading.{rises, last_in, keys_fault}
 use Rattle.fl_parts.specs.declared.mount_fault.MountFault.{MountFault}
 use Rattle.fl_parts.specs.declared.mount_fault.MountFault.TheVariants.{BadKeys, BadEntry}
-use Rattle.fl_parts.proofs.BlobEnds.{ends-of}
 use Rattle.fl_parts.proofs.PageChecks.{unlisted-read, no_both}
 use Rattle.fl_parts.proofs.KeyRuns.{rises-on, last-up}
 

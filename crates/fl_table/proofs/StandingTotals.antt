@@ -20,8 +20,8 @@ use Rattle.fl_model.specs.Spline.{pages_from, page_key, points_of as model_point
 use Rattle.fl_model.specs.Table.{Table, Entry}
 use Rattle.fl_model.proofs.Lists.{slice_get-some, slice_get-short}
 use Rattle.fl_model.specs.BlobEnds.{blobs_end}
+use Rattle.fl_model.proofs.BlobEnds.{ends-append, ends-max, ends-of}
 use Rattle.fl_parts.specs.ByEntries.{Come, entry, facts_on, rows_of, voids_of, points_of, end_of, unlisted_of}
-use Rattle.fl_parts.proofs.BlobEnds.{ends-append, ends-max, ends-of}
 use Rattle.fl_parts.proofs.KeptPages.{sum-next}
 use Rattle.fl_table.proofs.StandingMount.{IsOf, facts-of, count-of}
 

@@ -1,9 +1,9 @@
 use Rattle.std.proofs.Common.{◌≡◌, max, take, length, sym, ◌∙◌, ap, arith}
 use Rattle.fl_model.specs.BlobEnds.{reference_end, blobs_end}
+use Rattle.fl_model.proofs.BlobEnds.{ends-next, ends-all}
 use Rattle.fl_page.specs.View.{rows_of, count_of}
 use Rattle.fl_schema.specs.Schema.{row_of}
 use Rattle.fl_page.proofs.RowsFrom.{length-rows_from}
-use Rattle.fl_parts.proofs.BlobEnds.{ends-next, ends-all}
 use Rattle.fl_parts.proofs.blob_end.blobs_end.Goals as goal
 
 pub loop-i-preserved : goal.loop-i-preserved

@@ -9,12 +9,13 @@ use Rattle.fl_model.specs.Ring as rings
 use Rattle.fl_model.specs.Row.{Row, bytes_of_row, stored_row}
 use Rattle.fl_model.specs.Table as model
 use Rattle.fl_model.specs.BlobEnds.{reference_end}
+use Rattle.fl_model.proofs.BlobEnds.{ends-push}
 use Rattle.fl_page.specs.Writer.{Gathers}
 use Rattle.fl_schema.specs.Schema.{layout_of, types_of}
 use Rattle.fl_schema.proofs.RoundTrip.{length-bytes_of_row}
 use Rattle.fl_parts.specs.BlobEnds.{least_of}
 use Rattle.fl_table.specs.Memory.{bitmap_with}
-use Rattle.fl_parts.proofs.BlobEnds.{ends-push, least-few}
+use Rattle.fl_parts.proofs.BlobEnds.{least-few}
 use Rattle.fl_parts.proofs.Writers.{rest-push}
 use Rattle.fl_table.proofs.PendingAndFull.{bits-more, last-more, pending-more}
 use Rattle.fl_index.specs.Memory as memory
