@@ -1,5 +1,5 @@
 -- The pages of a ring that stands for a state are the image of a ring of the model, where each committed page holds something.
-use Rattle.std.proofs.Common.{◌≡◌, ℕ, ◌+◌, ◌-◌, ◌*◌, ◌%◌, ◌^◌, ◌≤◌, ◌<◌, ◌++◌, inl, inr, Bool, true, false, cond, nat_lt, Option, Some, None, IfSome, option_map, List, length, map, filter, get_or, slice_get, refl, sym, ◌∙◌, ap, subst, arith}
+use Rattle.std.proofs.Common.{◌≡◌, ℕ, ◌+◌, ◌-◌, ◌*◌, ◌%◌, ◌^◌, ◌≤◌, ◌<◌, ◌++◌, inl, inr, true, false, nat_lt, Option, Some, None, IfSome, option_map, List, length, map, filter, get_or, slice_get, refl, sym, ◌∙◌, ap, subst, arith}
 use Rattle.std.specs.List.{AllByRecursion, list_any}
 use Rattle.std.proofs.Math.ListN.{get_or-eq_default}
 use Rattle.std.proofs.Math.Nat.{mod-lt, mul-le-mul_right}
@@ -20,16 +20,13 @@ use Rattle.fl_ring.specs.Ring.{Shape, RingState, IsShape, HoldsKept, count, olde
 use Rattle.fl_ring.proofs.Counts.{counts_ring, counts_renumbered}
 use Rattle.fl_ring.proofs.Found.{committed_state}
 use Rattle.fl_ring.proofs.Images.{image_from_on}
+use Rattle.fl_ring.proofs.Heads.{one-is}
 use Rattle.fl_rules.specs.Marks.{kept_page}
 use Rattle.fl_check.specs.SoundImages.{RingImage}
 use Rattle.fl_check.specs.StandingRings.{HaveSize, StandsRuled}
 use Rattle.fl_rules.specs.declared.numbering.Numbering.{Numbering}
 use Rattle.fl_check.proofs.Collected.{Held, Collected, all-map, collect}
 use Rattle.fl_check.proofs.RingReads.{Follows}
-
-one-cond : (b : Bool) → one b ≡ cond b 1 0
-one-cond true = refl
-one-cond false = refl
 
 -- the page of each number has the size of the ring's
 pub place-size : (page : ℕ → List ℕ) (r : Shape) → IsShape r → HaveSize page r → (k : ℕ) → length (page (place r k)) ≡ r.size
@@ -103,7 +100,7 @@ module _ (Form : ℕ → List ℕ → Type 0) (f : FlashState) (r : Shape) (at_l
       next = sym st.next;
       known = omega (arith, many, st.good.on.ring.not_negative);
       small = omega (arith, st.good.fits, st.renumbered_next, st.next);
-      left = let fits : s.next + one s.torn < 2 ^ 32 = omega (arith, st.good.fits, st.renumbered_next, st.next) in subst (λ (k : ℕ). s.next + k < 2 ^ 32) (one-cond s.torn) fits;
+      left = let fits : s.next + one s.torn < 2 ^ 32 = omega (arith, st.good.fits, st.renumbered_next, st.next) in subst (λ (k : ℕ). s.next + k < 2 ^ 32) (one-is s.torn) fits;
       behind = behind;
     }
       where

@@ -38,6 +38,7 @@ use Rattle.fl_ring.specs.declared.ring.Ring.{Ring}
 use Rattle.fl_ring.proofs.Counts.{counts_renumbered}
 use Rattle.fl_schema.proofs.Numbers.{length-le, number_of-le}
 use Rattle.fl_schema.proofs.References.{from_le_bytes_4}
+use Rattle.fl_ring.proofs.Heads.{one-is}
 use Rattle.fl_index.specs.Standing.{HasIndex}
 use Rattle.fl_index.specs.Outcomes.{FaultEnds}
 use Rattle.fl_index.proofs.RingInTable.{of_index, AreErases, IndexPerformed, performed-lifts, voided-state, erased-state}
@@ -203,7 +204,7 @@ module _ (first : ℕ) (plan : Plan) (shape : model.IsShape (shape_of plan Index
     fits =
         let after = renumbered-state in
         let next = state-next plan (renumber plan IndexRing table) (renumbered (shape_in first plan) 0 s) after in
-        let torn : cond after.ring.torn 1 0 ≡ one s.torn = ap (λ (b : Bool). cond b 1 0) (sym (state-torn plan (renumber plan IndexRing table) (renumbered (shape_in first plan) 0 s) after) ∙ same_torn) ∙ sym (one_is s.torn) in
+        let torn : cond after.ring.torn 1 0 ≡ one s.torn = ap (λ (b : Bool). cond b 1 0) (sym (state-torn plan (renumber plan IndexRing table) (renumbered (shape_in first plan) 0 s) after) ∙ same_torn) ∙ sym (one-is s.torn) in
         omega (arith, next, torn, after.facts.number);
   }
     where
@@ -217,10 +218,6 @@ module _ (first : ℕ) (plan : Plan) (shape : model.IsShape (shape_of plan Index
           by_test : (b : Bool) → (cond b s (record s { next = least_alike (room (shape_in first plan)) s.next (0 + length s.kept) })).torn ≡ s.torn
           by_test true = refl
           by_test false = refl
-
-      one_is : (b : Bool) → one b ≡ cond b 1 0
-      one_is true = refl
-      one_is false = refl
 
 -- ---- the repairs
 

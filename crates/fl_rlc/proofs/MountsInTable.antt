@@ -36,7 +36,7 @@ use Rattle.fl_ring.proofs.SamePlaces.{renumbered_on, renumbered_same}
 use Rattle.fl_ring.proofs.VoidsAtEnd.{voids_are}
 use Rattle.fl_schema.proofs.Numbers.{length-le, number_of-le}
 use Rattle.fl_schema.proofs.References.{from_le_bytes_4}
-use Rattle.fl_var.proofs.MountsInTable.{one-is}
+use Rattle.fl_ring.proofs.Heads.{one-is}
 use Rattle.fl_parts.proofs.Plain.{least-below}
 use Rattle.fl_rlc.specs.Memory.{page_in, log_shape, IsSamePlan}
 use Rattle.fl_rlc.specs.Pages.{log_body, IsLogRing}

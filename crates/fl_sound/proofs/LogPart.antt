@@ -32,7 +32,7 @@ use Rattle.fl_ring.specs.Ring.{Shape, RingState, IsShape, count, oldest, place a
 use Rattle.fl_ring.proofs.Counts.{counts_length}
 use Rattle.fl_ring.proofs.GoodNumbers.{renumbered_some, renumbered_none}
 use Rattle.fl_ring.proofs.Images.{bytes_of}
-use Rattle.fl_var.proofs.MountsInTable.{one-is}
+use Rattle.fl_ring.proofs.Heads.{one-is}
 use Rattle.fl_rlc.specs.Pages.{log_body, IsLogRing}
 use Rattle.fl_rlc.proofs.Bodies.{rows_of, bodies-at}
 use Rattle.fl_rlc.proofs.NewestRows.{log-page}

@@ -33,11 +33,11 @@ use Rattle.fl_ring.proofs.GoodNumbers.{renumbered_some, renumbered_none}
 use Rattle.fl_ring.proofs.Images.{bytes_of}
 use Rattle.fl_schema.proofs.Numbers.{number_of-le}
 use Rattle.fl_schema.proofs.References.{field_4}
+use Rattle.fl_ring.proofs.Heads.{one-is}
 use Rattle.fl_parts.proofs.Plain.{least-below}
 use Rattle.fl_var.specs.Standing.{IsVarRing}
 use Rattle.fl_var.proofs.Bodies.{once, bodies-at}
 use Rattle.fl_var.proofs.States.{state_of, IsStateOf, state-is}
-use Rattle.fl_var.proofs.MountsInTable.{one-is}
 use Rattle.fl_rules.specs.Claims.{AllBelow}
 use Rattle.fl_rules.specs.References.{PageLeads}
 use Rattle.fl_rules.specs.RingRules.{NoRows, IsRingSound}

@@ -22,6 +22,7 @@ use Rattle.fl_ring.specs.Numbers.{renumbered, IsNumbered}
 use Rattle.fl_ring.specs.Ring.{RingState, OnRing, oldest}
 use Rattle.fl_schema.proofs.Numbers.{length-le, number_of-le}
 use Rattle.fl_schema.proofs.References.{from_le_bytes_4}
+use Rattle.fl_ring.proofs.Heads.{one-is}
 use Rattle.fl_parts.proofs.States.{shape_in, state_of, state-count, state-oldest, ring-back}
 use Rattle.fl_table.proofs.Repaired.{IsHeld, IsIdle, state-renumbered}
 use Rattle.fl_parts.specs.Mountable.{RowsBehind}
@@ -70,10 +71,6 @@ module _ (Left : Type 0) (first : ℕ) (plan : Plan) (table : Table) (shape : mo
       by_test true = refl
       by_test false = refl
 
-  one_is : (b : Bool) → one b ≡ cond b 1 0
-  one_is true = refl
-  one_is false = refl
-
   pub good-ring : (f : FlashState) → page ≡ page_at f → IsTrue f.media.tells → IsGood f (shape_in first plan) (index_end plan table) (state_of plan table)
   good-ring f is told = record {
     told = told;
@@ -81,6 +78,6 @@ module _ (Left : Type 0) (first : ℕ) (plan : Plan) (table : Table) (shape : mo
     numbered = state-numbered plan table held.loose;
     fits =
         let next = ap (λ (s : RingState). s.next) ring-renumbered in
-        let torn : cond (renumber plan DataRing table).rows.torn 1 0 ≡ one table.rows.torn = ap (λ (b : Bool). cond b 1 0) same_torn ∙ sym (one_is table.rows.torn) in
+        let torn : cond (renumber plan DataRing table).rows.torn 1 0 ≡ one table.rows.torn = ap (λ (b : Bool). cond b 1 0) same_torn ∙ sym (one-is table.rows.torn) in
         omega (arith, next, torn, numbered-facts.loose.number);
   }

@@ -33,6 +33,7 @@ use Rattle.fl_ring.proofs.VoidsAtEnd.{voids_are}
 use Rattle.fl_ring.proofs.SamePlaces.{renumbered_on, renumbered_same}
 use Rattle.fl_schema.proofs.Numbers.{number_of-le}
 use Rattle.fl_schema.proofs.References.{field_4}
+use Rattle.fl_ring.proofs.Heads.{one-is}
 use Rattle.fl_var.specs.Memory.{waiting_in, page_in, var_shape, IsSamePlan}
 use Rattle.fl_var.specs.Mounting.{Rests, MountEnds}
 use Rattle.fl_var.specs.Standing.{IsVarRing}
@@ -60,10 +61,6 @@ renumbered-bodies plan r at_least s pages h = by_any (list_any is_some s.kept) r
         (cond b s (record s { next = least_alike (room r) s.next (at_least + length s.kept) })).kept pages
     by_any true e = h
     by_any false e = bodies-anew plan (oldest s) _ s.kept pages e h
-
-pub one-is : (b : Bool) → one b ≡ cond b 1 0
-one-is true = refl
-one-is false = refl
 
 -- what all repairs leave
 pub record IsClean (left : RingState) : Type 0 where
