@@ -7,7 +7,7 @@ use Rattle.fl_model.specs.Facts.{IsTable, counts_in}
 use Rattle.fl_model.specs.Log.{IsLog, last_key}
 use Rattle.fl_model.specs.Record.{Plan}
 use Rattle.fl_model.specs.Ring.{Ring, IsRing, oldest}
-use Rattle.fl_model.specs.Table.{Table, Entry, RingName, DataRing, IndexRing, VarRing, LogRing, shape_of, ring_of, written, has_rows, is_above, is_ring_spent, is_rows_spent, is_spent, owed, spent_from, lose}
+use Rattle.fl_model.specs.Table.{Table, Entry, RingName, DataRing, IndexRing, VarRing, LogRing, shape_of, ring_of, written, has_rows, is_after, is_ring_spent, is_rows_spent, is_spent, owed, spent_from, lose}
 use Rattle.fl_model.proofs.Lists.{slice_get-some, slice_get-front, each-at}
 use Rattle.fl_model.proofs.StandingPages.{stands-kept}
 use Rattle.fl_check.specs.SoundImages.{BlobsLead, PagesFit, NumbersAreLeft, IsAsRunsLeave, StandsSettled}
@@ -75,7 +75,7 @@ module _ (plan : Plan) (table : Table) (lost : table ≡ lose table) where
         nothing = fit.logged_some (ap has_rows none)
 
         none_owed : owed table ≡ []
-        none_owed = ap (λ (l : List Entry). filter (λ (entry : Entry). is_above (written table) entry) l) nothing
+        none_owed = ap (λ (l : List Entry). filter (λ (entry : Entry). is_after (written table) entry) l) nothing
 
     -- ---- the blobs
 

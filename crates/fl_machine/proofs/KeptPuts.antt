@@ -7,7 +7,7 @@ use Rattle.std.proofs.lemmas.List.{append-nil, take-append-drop, drop-append-le,
 use Rattle.std.proofs.Math.Seq.{drop-append_seam}
 use Rattle.fl_model.specs.Record.{Plan, Config, has_log}
 use Rattle.fl_model.specs.Ring.{Ring, oldest}
-use Rattle.fl_model.specs.Table.{Table, Entry, is_above, owed}
+use Rattle.fl_model.specs.Table.{Table, Entry, is_after, owed}
 use Rattle.fl_model.specs.Log.{last_key}
 use Rattle.fl_model.specs.Mount.{MountEnd, Mounts, turns_from}
 use Rattle.fl_words.specs.Command.{Command}
@@ -34,13 +34,13 @@ filter_append {X} test (x ∷ xs) ys = by_test (test x) (filter_append test xs y
     by_test false e = e
 
 -- none of some records whose last has the greatest key came after them
-none-newer : (es : List Entry) → Tops es → AllByRecursion (λ e. is_above es e ≡ false) es
+none-newer : (es : List Entry) → Tops es → AllByRecursion (λ e. is_after es e ≡ false) es
 none-newer es tops = by_last (is_last es)
   where
-    by_last : (es ≡ []) ⊎ ((w : Entry) × (last_or None es ≡ Some w)) → AllByRecursion (λ e. is_above es e ≡ false) es
-    by_last (inl e) = subst (AllByRecursion (λ e. is_above es e ≡ false)) (sym e) tt
+    by_last : (es ≡ []) ⊎ ((w : Entry) × (last_or None es ≡ Some w)) → AllByRecursion (λ e. is_after es e ≡ false) es
+    by_last (inl e) = subst (AllByRecursion (λ e. is_after es e ≡ false)) (sym e) tt
     by_last (inr (w, e)) =
-        all_weaker (λ x. x.kept.key ≤ last_key es) (λ x. is_above es x ≡ false)
+        all_weaker (λ x. x.kept.key ≤ last_key es) (λ x. is_after es x ≡ false)
         (λ x m.
         ap (λ (o : Option Entry). unwrap_or (option_map (λ (l : Entry). nat_lt l.kept.key x.kept.key) o) true) e
         ∙ not-lt w.kept.key x.kept.key (let key = last-key es w e in omega (arith, m, key)))
@@ -48,10 +48,10 @@ none-newer es tops = by_last (is_last es)
 
 newer-is : (xs ys : List Entry) → Tops xs → (h : GoesOn xs ys) → newer xs ys ≡ h.new
 newer-is xs ys tops h =
-    ap (filter (λ e. is_above xs e)) h.is
-    ∙ (filter_append (λ e. is_above xs e) (drop h.gone xs) h.new
-    ∙ (ap (λ (es : List Entry). es ++ filter (λ e. is_above xs e) h.new) (filter_none (λ e. is_above xs e) (drop h.gone xs) (all_drop (λ e. is_above xs e ≡ false) h.gone xs (none-newer xs tops)))
-    ∙ filter_all (λ e. is_above xs e) h.new h.above))
+    ap (filter (λ e. is_after xs e)) h.is
+    ∙ (filter_append (λ e. is_after xs e) (drop h.gone xs) h.new
+    ∙ (ap (λ (es : List Entry). es ++ filter (λ e. is_after xs e) h.new) (filter_none (λ e. is_after xs e) (drop h.gone xs) (all_drop (λ e. is_after xs e ≡ false) h.gone xs (none-newer xs tops)))
+    ∙ filter_all (λ e. is_after xs e) h.new h.above))
 
 -- ---- what was put so far
 

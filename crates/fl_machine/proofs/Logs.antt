@@ -8,7 +8,7 @@ use Rattle.std.proofs.Math.Seq.{take-add, take-append_seam, drop-append_seam}
 use Rattle.std.proofs.lemmas.Bool.{ltb-true, ltb-false, eqb-true, false≢true, true≢false}
 use Rattle.std.proofs.lemmas.Option.{none-some}
 use Rattle.fl_model.specs.Ring.{Shape, IsShape, Ring, sealed, extended, is_full}
-use Rattle.fl_model.specs.Table.{Table, Entry, is_above}
+use Rattle.fl_model.specs.Table.{Table, Entry, is_after}
 use Rattle.fl_model.specs.Log.{last_key}
 use Rattle.fl_model.proofs.Lists.{last_or-push, each-push}
 use Rattle.fl_machine.proofs.Trimmed.{full_long}
@@ -48,10 +48,10 @@ abbrev pub rest_of : Core → List Entry
 rest_of c = drop (length c.entries - c.pending) c.entries
 
 abbrev pub owed_of : Core → List Entry
-owed_of c = filter (λ e. is_above (front_of c) e) c.logged
+owed_of c = filter (λ e. is_after (front_of c) e) c.logged
 
 abbrev pub AreAbove : List Entry → List Entry → Type 0
-AreAbove others es = AllByRecursion (λ e. IsTrue (is_above others e)) es
+AreAbove others es = AllByRecursion (λ e. IsTrue (is_after others e)) es
 
 abbrev pub IsSafePage : List ℕ × Bool → Type 0
 IsSafePage log =
@@ -205,7 +205,7 @@ pub front-lost : (c : Core) → front_of (lost c) ≡ front_of c
 front-lost c = front-all (lost c) refl
 
 pub owed-lost : (c : Core) → owed_of (lost c) ≡ owed_of c
-owed-lost c = ap (λ (es : List Entry). filter (λ e. is_above es e) c.logged) (front-lost c)
+owed-lost c = ap (λ (es : List Entry). filter (λ e. is_after es e) c.logged) (front-lost c)
 
 pub fine-lost : (c : Core) → IsFine c → IsFine (lost c)
 fine-lost c h = record {
@@ -222,7 +222,7 @@ fine-lost c h = record {
 
 -- an operation that isn't done leaves what the log has
 pub ready-owed : (c : Core) → IsReady c → owed_of c ≡ rest_of c
-ready-owed c h = ap (λ (es : List Entry). filter (λ e. is_above (front_of c) e) es) h.same ∙ filter_all (λ e. is_above (front_of c) e) (rest_of c) h.above
+ready-owed c h = ap (λ (es : List Entry). filter (λ e. is_after (front_of c) e) es) h.same ∙ filter_all (λ e. is_after (front_of c) e) (rest_of c) h.above
 
 pub held-pending : (c : Core) (g : ℕ) → 0 < c.pending → (past_in c g).held ≡ c.entries
 held-pending c g some = by_test (c.pending == 0) refl
@@ -294,7 +294,7 @@ joining-owed : (c : Core) → (h : IsJoining c) → owed_of c ≡ h.front
 joining-owed c h = by_case h.logged
   where
     by_case : ((c.logged ≡ h.front) × EndsFull c) ⊎ ((h.front ≡ []) × (owed_of c ≡ []) × (c.torn ≡ false)) → owed_of c ≡ h.front
-    by_case (inl k) = ap (λ (es : List Entry). filter (λ e. is_above (front_of c) e) es) k.0 ∙ filter_all (λ e. is_above (front_of c) e) h.front (all_front (λ e. IsTrue (is_above (front_of c) e)) h.front (h.new ∷ []) h.above)
+    by_case (inl k) = ap (λ (es : List Entry). filter (λ e. is_after (front_of c) e) es) k.0 ∙ filter_all (λ e. is_after (front_of c) e) h.front (all_front (λ e. IsTrue (is_after (front_of c) e)) h.front (h.new ∷ []) h.above)
     by_case (inr k) = k.1 ∙ sym k.0
 
 pub joining-some : (c : Core) → IsFine c → IsJoining c → 0 < c.pending
@@ -369,7 +369,7 @@ not-lt a b h = by_test (nat_lt a b) refl
     by_test true e = let less = ltb-true a b e in absurd (omega (arith, less, h))
     by_test false e = refl
 
-below-last : (xs rest : List Entry) (e : Entry) → 0 < length rest → e.kept.key ≤ last_key rest → is_above (xs ++ rest) e ≡ false
+below-last : (xs rest : List Entry) (e : Entry) → 0 < length rest → e.kept.key ≤ last_key rest → is_after (xs ++ rest) e ≡ false
 below-last xs [] e some h = absurd (omega (arith, some))
 below-last xs (y ∷ ys) e some h = by_last (last_or (Some y) ys) refl (some_last (Some y) ys refl)
   where
@@ -377,7 +377,7 @@ below-last xs (y ∷ ys) e some h = by_last (last_or (Some y) ys) refl (some_las
     some_last o [] h = h
     some_last o (z ∷ zs) h = some_last (Some z) zs refl
 
-    by_last : (o : Option Entry) → last_or (Some y) ys ≡ o → IsTrue (is_some (last_or (Some y) ys)) → is_above (xs ++ y ∷ ys) e ≡ false
+    by_last : (o : Option Entry) → last_or (Some y) ys ≡ o → IsTrue (is_some (last_or (Some y) ys)) → is_after (xs ++ y ∷ ys) e ≡ false
     by_last None q t = absurd (false≢true (subst (λ (p : Option Entry). IsTrue (is_some p)) q t))
     by_last (Some last) q t =
         let key : e.kept.key ≤ last.kept.key = subst (λ (p : Option Entry). e.kept.key ≤ unwrap_or (option_map (λ (x : Entry). x.kept.key) p) 0) q h in
@@ -431,11 +431,11 @@ tops-above xs (y ∷ ys) h k above =
         all_weaker (λ e. e.kept.key ≤ last_key xs) (λ e. e.kept.key ≤ last_key (xs ++ y ∷ ys))
         (λ x m. let k0 = k.0 in let key = last-key xs w e in omega (arith, m, below, k0, key, same)) xs h
 
-above-drop : (n : ℕ) (others : List Entry) (e : Entry) → IsTrue (is_above others e) → IsTrue (is_above (drop n others) e)
+above-drop : (n : ℕ) (others : List Entry) (e : Entry) → IsTrue (is_after others e) → IsTrue (is_after (drop n others) e)
 above-drop n others e h = by_last (is_last (drop n others))
   where
-    by_last : (drop n others ≡ []) ⊎ ((w : Entry) × (last_or None (drop n others) ≡ Some w)) → IsTrue (is_above (drop n others) e)
-    by_last (inl q) = subst (λ (rest : List Entry). IsTrue (is_above rest e)) (sym q) refl
+    by_last : (drop n others ≡ []) ⊎ ((w : Entry) × (last_or None (drop n others) ≡ Some w)) → IsTrue (is_after (drop n others) e)
+    by_last (inl q) = subst (λ (rest : List Entry). IsTrue (is_after rest e)) (sym q) refl
     by_last (inr (w, q)) = subst (λ (o : Option Entry). IsTrue (unwrap_or (option_map (λ (l : Entry). nat_lt l.kept.key e.kept.key) o) true)) (last-drop n others w q ∙ sym q) h
 
 -- .. as it has where their keys ascend
@@ -450,7 +450,7 @@ ascending-tops (x ∷ y ∷ es) ascends =
 
 tops-part : (n : ℕ) (xs ys : List Entry) → Tops xs → Tops ys → AreAbove xs ys → Tops (drop n xs ++ ys)
 tops-part n xs ys h k above =
-    tops-above (drop n xs) ys (tops-drop n xs h) k (all_weaker (λ e. IsTrue (is_above xs e)) (λ e. IsTrue (is_above (drop n xs) e)) (λ e t. above-drop n xs e t) ys above)
+    tops-above (drop n xs) ys (tops-drop n xs h) k (all_weaker (λ e. IsTrue (is_after xs e)) (λ e. IsTrue (is_after (drop n xs) e)) (λ e t. above-drop n xs e t) ys above)
 
 ready-tops : (c : Core) → IsFine c → IsReady c → Tops (rest_of c)
 ready-tops c fine h = subst Tops h.same fine.ascending
@@ -484,11 +484,11 @@ marked-owed c d fine ready h =
     let g = sum (take h.gone c.counts) in
     let front = marked-front c d fine h in
     let some : 0 < length (rest_of c) = let n = rest-length c fine in omega (arith, n, ready.some) in
-    let key : (e : Entry) → e.kept.key ≤ last_key c.logged → is_above (drop g (front_of c) ++ rest_of c) e ≡ false =
+    let key : (e : Entry) → e.kept.key ≤ last_key c.logged → is_after (drop g (front_of c) ++ rest_of c) e ≡ false =
     λ e k. below-last (drop g (front_of c)) (rest_of c) e some (subst (λ (es : List Entry). e.kept.key ≤ last_key es) ready.same k) in
-    ap (λ (es : List Entry). filter (λ e. is_above (front_of d) e) es) h.logged
-    ∙ (ap (λ (fs : List Entry). filter (λ e. is_above fs e) c.logged) front
-    ∙ filter_none (λ e. is_above (drop g (front_of c) ++ rest_of c) e) c.logged (all_weaker (λ e. e.kept.key ≤ last_key c.logged) (λ e. is_above (drop g (front_of c) ++ rest_of c) e ≡ false) key c.logged fine.ascending))
+    ap (λ (es : List Entry). filter (λ e. is_after (front_of d) e) es) h.logged
+    ∙ (ap (λ (fs : List Entry). filter (λ e. is_after fs e) c.logged) front
+    ∙ filter_none (λ e. is_after (drop g (front_of c) ++ rest_of c) e) c.logged (all_weaker (λ e. e.kept.key ≤ last_key c.logged) (λ e. is_after (drop g (front_of c) ++ rest_of c) e ≡ false) key c.logged fine.ascending))
 
 pub marked-fine : (c d : Core) → IsFine c → IsReady c → IsMarked c d → IsFine d
 marked-fine c d fine ready h =
@@ -607,10 +607,10 @@ above-last : (others es : List Entry) (n : ℕ) → AreAbove others es → 0 < l
 above-last others [] n a some less w e = absurd (omega (arith, some))
 above-last others (x ∷ xs) n a some less w e = by_last x xs a.0 a.1 less
   where
-    first_above : (y : Entry) → IsTrue (is_above others y) → w.kept.key < y.kept.key
+    first_above : (y : Entry) → IsTrue (is_after others y) → w.kept.key < y.kept.key
     first_above y t = ltb-true w.kept.key y.kept.key (subst (λ (o : Option Entry). IsTrue (unwrap_or (option_map (λ (l : Entry). nat_lt l.kept.key y.kept.key) o) true)) e t)
 
-    by_last : (y : Entry) (zs : List Entry) → IsTrue (is_above others y) → AllByRecursion (λ y. IsTrue (is_above others y)) zs →
+    by_last : (y : Entry) (zs : List Entry) → IsTrue (is_after others y) → AllByRecursion (λ y. IsTrue (is_after others y)) zs →
         unwrap_or (option_map (λ (y : Entry). y.kept.key) (last_or (Some y) zs)) 0 < n → w.kept.key < n
     by_last y [] t k l = let more = first_above y t in omega (arith, more, l)
     by_last y (z ∷ zs) t k l = by_last z zs k.0 k.1 l
@@ -623,7 +623,7 @@ lt-true a b h = by_test (nat_lt a b) refl
     by_test true e = refl
     by_test false e = let more = ltb-false a b e in absurd (omega (arith, more, h))
 
-above-all : (others : List Entry) (e : Entry) → ((w : Entry) → last_or None others ≡ Some w → w.kept.key < e.kept.key) → IsTrue (is_above others e)
+above-all : (others : List Entry) (e : Entry) → ((w : Entry) → last_or None others ≡ Some w → w.kept.key < e.kept.key) → IsTrue (is_after others e)
 above-all others e h = by_last (last_or None others) refl
   where
     by_last : (o : Option Entry) → last_or None others ≡ o → IsTrue (unwrap_or (option_map (λ (l : Entry). nat_lt l.kept.key e.kept.key) o) true)
@@ -633,9 +633,9 @@ above-all others e h = by_last (last_or None others) refl
 -- the records of the log are in data pages: none is above the last entry, whose key is below the new one
 paid-below : (c : Core) (new : Entry) → owed_of c ≡ [] → ((w : Entry) → last_or None (front_of c) ≡ Some w → w.kept.key < new.kept.key) → AllByRecursion (λ e. e.kept.key < new.kept.key) c.logged
 paid-below c new paid h =
-    all_weaker (λ e. is_above (front_of c) e ≡ false) (λ e. e.kept.key < new.kept.key) below c.logged (filter_empty (λ e. is_above (front_of c) e) c.logged paid)
+    all_weaker (λ e. is_after (front_of c) e ≡ false) (λ e. e.kept.key < new.kept.key) below c.logged (filter_empty (λ e. is_after (front_of c) e) c.logged paid)
   where
-    below : (e : Entry) → is_above (front_of c) e ≡ false → e.kept.key < new.kept.key
+    below : (e : Entry) → is_after (front_of c) e ≡ false → e.kept.key < new.kept.key
     below e k = by_last (last_or None (front_of c)) refl k
       where
         by_last : (o : Option Entry) → last_or None (front_of c) ≡ o → unwrap_or (option_map (λ (l : Entry). nat_lt l.kept.key e.kept.key) o) true ≡ false → e.kept.key < new.kept.key
@@ -653,7 +653,7 @@ joins-front new c fine =
     (front-is (joins new c) (front_of c) (rest_of c ++ new ∷ []) parts len, rest-is (joins new c) (front_of c) (rest_of c ++ new ∷ []) parts len)
 
 joins-owed : (new : Entry) (c : Core) → IsFine c → owed_of (joins new c) ≡ owed_of c
-joins-owed new c fine = ap (λ (es : List Entry). filter (λ e. is_above es e) c.logged) (joins-front new c fine).0
+joins-owed new c fine = ap (λ (es : List Entry). filter (λ e. is_after es e) c.logged) (joins-front new c fine).0
 
 pub joins-fine : (new : Entry) (c : Core) → IsFine c → IsFine (joins new c)
 joins-fine new c fine = record {
@@ -672,7 +672,7 @@ joins-ready new c fine h ends greater = record {
   front = rest_of c;
   new = new;
   is = both.1;
-  above = subst (λ (fs : List Entry). AreAbove fs (rest_of c ++ new ∷ [])) (sym both.0) (each-push (λ e. IsTrue (is_above (front_of c) e)) (rest_of c) new h.above (above-all (front_of c) new (above-last (front_of c) (rest_of c) new.kept.key h.above some last_less)));
+  above = subst (λ (fs : List Entry). AreAbove fs (rest_of c ++ new ∷ [])) (sym both.0) (each-push (λ e. IsTrue (is_after (front_of c) e)) (rest_of c) new h.above (above-all (front_of c) new (above-last (front_of c) (rest_of c) new.kept.key h.above some last_less)));
   least = subst (λ (es : List Entry). AllByRecursion (λ e. e.kept.key < new.kept.key) es) h.same behind;
   behind = behind;
   logged = inl (h.same, (ends.0, ends.1, false, ends.2, ends.3));
@@ -822,11 +822,11 @@ voided-front c d none h = front-all d (h.pending ∙ none) ∙ (h.entries ∙ ap
 pub voided-whole : (c d : Core) → c.pending ≡ 0 → IsWhole c → IsVoided c d → owed_of d ≡ c.logged
 voided-whole c d none whole h =
     let front = voided-front c d none h in
-    ap (λ (es : List Entry). filter (λ e. is_above (front_of d) e) es) h.logged
-    ∙ (ap (λ (fs : List Entry). filter (λ e. is_above fs e) c.logged) front
-    ∙ filter_all (λ e. is_above (drop (sum (take h.gone c.counts)) (front_of c)) e) c.logged
-    (all_weaker (λ e. IsTrue (is_above (front_of c) e)) (λ e. IsTrue (is_above (drop (sum (take h.gone c.counts)) (front_of c)) e)) (λ e k. above-drop (sum (take h.gone c.counts)) (front_of c) e k) c.logged
-    (filter_whole (λ e. is_above (front_of c) e) c.logged whole)))
+    ap (λ (es : List Entry). filter (λ e. is_after (front_of d) e) es) h.logged
+    ∙ (ap (λ (fs : List Entry). filter (λ e. is_after fs e) c.logged) front
+    ∙ filter_all (λ e. is_after (drop (sum (take h.gone c.counts)) (front_of c)) e) c.logged
+    (all_weaker (λ e. IsTrue (is_after (front_of c) e)) (λ e. IsTrue (is_after (drop (sum (take h.gone c.counts)) (front_of c)) e)) (λ e k. above-drop (sum (take h.gone c.counts)) (front_of c) e k) c.logged
+    (filter_whole (λ e. is_after (front_of c) e) c.logged whole)))
 
 pub voided-fine : (c d : Core) → c.pending ≡ 0 → IsWhole c → IsFine c → IsVoided c d → IsFine d
 voided-fine c d none whole fine h =
@@ -894,7 +894,7 @@ log-voided-rests past c counts gone logged is few fewer keeps rests = by_keeps k
 
     by_keeps : KeepsLogged (drop gone (counts ++ 0 ∷ [])) c.logged logged → RestsAs past d
     by_keeps (inl k) =
-        let owes : owed_of d ≡ owed_of c = ap (λ (es : List Entry). filter (λ e. is_above (front_of c) e) es) k.1 in
+        let owes : owed_of d ≡ owed_of c = ap (λ (es : List Entry). filter (λ e. is_after (front_of c) e) es) k.1 in
         record {
           fine = record {
             counted = rests.fine.counted;
@@ -909,7 +909,7 @@ log-voided-rests past c counts gone logged is few fewer keeps rests = by_keeps k
           found = found-same past c d refl owes rests.found;
         }
     by_keeps (inr k) =
-        let none_left : owed_of d ≡ [] = ap (λ (es : List Entry). filter (λ e. is_above (front_of c) e) es) k.1 in
+        let none_left : owed_of d ≡ [] = ap (λ (es : List Entry). filter (λ e. is_after (front_of c) e) es) k.1 in
         let paid : owed_of c ≡ [] = by_owed (owed_of c) refl in
         record {
           fine = record {
@@ -945,7 +945,7 @@ pub replayed-front : (c : Core) → (front_of (replayed c) ≡ c.entries) × (re
 replayed-front c = (front-is (replayed c) c.entries (owed_of c) refl refl, rest-is (replayed c) c.entries (owed_of c) refl refl)
 
 pub replayed-owed : (c : Core) → c.pending ≡ 0 → owed_of (replayed c) ≡ owed_of c
-replayed-owed c none = ap (λ (fs : List Entry). filter (λ e. is_above fs e) c.logged) ((replayed-front c).0 ∙ sym (front-all c none))
+replayed-owed c none = ap (λ (fs : List Entry). filter (λ e. is_after fs e) c.logged) ((replayed-front c).0 ∙ sym (front-all c none))
 
 pub replayed-fine : (c : Core) → c.pending ≡ 0 → IsFine c → IsFine (replayed c)
 replayed-fine c none fine = record {
@@ -966,7 +966,7 @@ replayed-ready c none fine some =
       some = some;
       same = sym whole ∙ sym both.1;
       above = subst (λ (fs : List Entry). AreAbove fs (rest_of (replayed c))) (sym (both.0 ∙ sym (front-all c none)))
-          (subst (λ (es : List Entry). AreAbove (front_of c) es) (sym (both.1 ∙ whole)) (filter_whole (λ e. is_above (front_of c) e) c.logged whole));
+          (subst (λ (es : List Entry). AreAbove (front_of c) es) (sym (both.1 ∙ whole)) (filter_whole (λ e. is_after (front_of c) e) c.logged whole));
     }
   where
     by_case : (owed_of c ≡ c.logged) ⊎ ((owed_of c ≡ []) × (c.torn ≡ false)) → owed_of c ≡ c.logged

@@ -8,7 +8,7 @@ use Rattle.std.proofs.lemmas.List.{append-nil, take-append-le, drop-append-le, d
 use Rattle.std.proofs.lemmas.List.Sums.{sum_by-take-le}
 use Rattle.std.proofs.Math.Seq.{drop-append-add}
 use Rattle.std.proofs.lemmas.Option.{none-some}
-use Rattle.fl_model.specs.Table.{Entry, is_above}
+use Rattle.fl_model.specs.Table.{Entry, is_after}
 use Rattle.fl_model.specs.Log.{last_key}
 use Rattle.fl_model.proofs.Lists.{each-push}
 use Rattle.fl_machine.specs.Keeping.{sure}
@@ -59,7 +59,7 @@ cut-more xs ys n h lt =
           ap (drop n) h.is
           ∙ (ap (λ (k : ℕ). drop k (left ++ h.new)) more
           ∙ (drop-append-add left h.new m ∙ ap (λ (es : List Entry). es ++ drop m h.new) (sym (drop_all (length xs) xs (omega arith)))));
-      above = all_drop (λ e. IsTrue (is_above xs e)) m h.new h.above;
+      above = all_drop (λ e. IsTrue (is_after xs e)) m h.new h.above;
     }
 
 lasts-less : (xs : List Entry) (n : ℕ) (ys : List Entry) → n < length ys → drop n ys ≡ [] → xs ≡ []
@@ -84,13 +84,13 @@ same-last : (es : List Entry) (v w : Entry) → last_or None es ≡ Some v → l
 same-last es v w e k = let q : Some v ≡ Some w = sym e ∙ k in cc (q)
 
 -- one that is above those to which they went on is above those from which they did
-above-all : (xs ys : List Entry) (new : Entry) → Adds xs ys → IsGreatest new ys → IsTrue (is_above xs new)
+above-all : (xs ys : List Entry) (new : Entry) → Adds xs ys → IsGreatest new ys → IsTrue (is_after xs new)
 above-all xs ys new h greatest = by_last (is_last xs)
   where
-    nothing : xs ≡ [] → IsTrue (is_above xs new)
-    nothing e = subst (λ (es : List Entry). IsTrue (is_above es new)) (sym e) refl
+    nothing : xs ≡ [] → IsTrue (is_after xs new)
+    nothing e = subst (λ (es : List Entry). IsTrue (is_after es new)) (sym e) refl
 
-    by_less : (w : Entry) → last_or None xs ≡ Some w → w.kept.key < new.kept.key → IsTrue (is_above xs new)
+    by_less : (w : Entry) → last_or None xs ≡ Some w → w.kept.key < new.kept.key → IsTrue (is_after xs new)
     by_less w e less =
         subst (λ (o : Option Entry). IsTrue (unwrap_or (option_map (λ (l : Entry). nat_lt l.kept.key new.kept.key) o) true)) (sym e) (lt-true w.kept.key new.kept.key less)
 
@@ -102,12 +102,12 @@ above-all xs ys new h greatest = by_last (is_last xs)
         subst (λ (x : Entry). x.kept.key < new.kept.key) same (greatest v k)
     by_new w v e k (inr (u, q)) =
         let last : last_or None ys ≡ Some u = ap (last_or None) h.goes_on.is ∙ last-behind (drop h.goes_on.gone xs) h.goes_on.new u q in
-        let above : IsTrue (is_above xs u) = last_all (λ x. IsTrue (is_above xs x)) h.goes_on.new u q h.goes_on.above in
+        let above : IsTrue (is_after xs u) = last_all (λ x. IsTrue (is_after xs x)) h.goes_on.new u q h.goes_on.above in
         let more : w.kept.key < u.kept.key = ltb-true w.kept.key u.kept.key (subst (λ (o : Option Entry). IsTrue (unwrap_or (option_map (λ (l : Entry). nat_lt l.kept.key u.kept.key) o) true)) e above) in
         let less = greatest u last in
         omega (arith, more, less)
 
-    by_last : (xs ≡ []) ⊎ ((w : Entry) × (last_or None xs ≡ Some w)) → IsTrue (is_above xs new)
+    by_last : (xs ≡ []) ⊎ ((w : Entry) × (last_or None xs ≡ Some w)) → IsTrue (is_after xs new)
     by_last (inl e) = nothing e
     by_last (inr (w, e)) = elim (is_last ys) [ inl none ↦ nothing (h.lasts none) | inr v ↦ by_less w e (by_new w v.0 e v.1 (is_last h.goes_on.new)) ]
 
@@ -119,7 +119,7 @@ adds-more xs ys new greatest h =
         gone = on.gone;
         new = on.new ++ new ∷ [];
         is = ap (λ (es : List Entry). es ++ new ∷ []) on.is ∙ append_assoc (drop on.gone xs) on.new (new ∷ []);
-        above = each-push (λ e. IsTrue (is_above xs e)) on.new new on.above (above-all xs ys new h greatest);
+        above = each-push (λ e. IsTrue (is_after xs e)) on.new new on.above (above-all xs ys new h greatest);
       };
       lasts = λ e. absurd (some ys e);
     }
@@ -347,7 +347,7 @@ sure-tops c fine (inl none) = subst Tops (sym (sure-idle c none)) (by_whole fine
     by_whole : (owed_of c ≡ c.logged) ⊎ ((owed_of c ≡ []) × (c.torn ≡ false)) → Tops (c.entries ++ owed_of c)
     by_whole (inl e) =
         subst (λ (os : List Entry). Tops (c.entries ++ os)) (sym e)
-        (tops-above c.entries c.logged entries fine.ascending (subst (λ (es : List Entry). AreAbove es c.logged) (front-all c none) (filter_whole (λ x. is_above (front_of c) x) c.logged e)))
+        (tops-above c.entries c.logged entries fine.ascending (subst (λ (es : List Entry). AreAbove es c.logged) (front-all c none) (filter_whole (λ x. is_after (front_of c) x) c.logged e)))
     by_whole (inr e) = subst Tops (sym (ap (λ (os : List Entry). c.entries ++ os) e.0 ∙ append-nil c.entries)) entries
 sure-tops c fine (inr h) =
     subst Tops (splits c ∙ sym (sure-ready c fine h)) (tops-above (front_of c) (rest_of c) fine.greatest (subst Tops h.same fine.ascending) h.above)

@@ -5,7 +5,7 @@ use Rattle.std.specs.Prelude.{◌≡◌, ℕ, ◌+◌, ◌-◌, nat_le, ◌⊎�
 use Rattle.std.specs.List.{AllByRecursion}
 use Rattle.fl_model.specs.Record.{Config, has_log}
 use Rattle.fl_model.specs.Ring.{Ring, oldest}
-use Rattle.fl_model.specs.Table.{Table, Entry, is_above, is_rows_spent, owed}
+use Rattle.fl_model.specs.Table.{Table, Entry, is_after, is_rows_spent, owed}
 use Rattle.fl_machine.specs.Machine.{Machine}
 use Rattle.fl_machine.specs.Step.{Moment}
 use Rattle.fl_machine.specs.Run.{Run}
@@ -28,7 +28,7 @@ tables_of moment = unwrap_or moment.last moment.after.tables
 
 -- those of some entries that came after others
 abbrev pub newer : List Entry → List Entry → List Entry
-newer before entries = filter (λ e. is_above before e) entries
+newer before entries = filter (λ e. is_after before e) entries
 
 -- what was put into a table so far
 pub record PutSoFar : Type 0 where

@@ -5,7 +5,7 @@ use Rattle.std.specs.Option.{option_map, unwrap_or}
 use Rattle.std.proofs.lemmas.List.{take-append-drop, append-nil}
 use Rattle.std.proofs.lemmas.Bool.{ltb-true, ltb-false}
 use Rattle.fl_model.specs.Record.{Record}
-use Rattle.fl_model.specs.Ship.{Ascends, IsPart, IsEnd, to_ship, GoesOn, MayShip, KeepsOf, Shipment, nothing_yet, ShipmentStep, Shipments, IsWhole, CopiesAreParts, ShipsParts, ShipsAll}
+use Rattle.fl_model.specs.Ship.{Ascends, IsPart, IsEnd, to_ship, HasLastOf, MayShip, KeepsOf, Shipment, nothing_yet, ShipmentStep, Shipments, IsWhole, CopiesAreParts, ShipsParts, ShipsAll}
 use Rattle.fl_model.proofs.Lists.{last_or-push}
 
 append-assoc : {X : Type 0} (xs ys zs : List X) → (xs ++ ys) ++ zs ≡ xs ++ (ys ++ zs)
@@ -114,7 +114,7 @@ after-last : (front : List Record) (last : Record) (source : List Record) → to
 after-last front last source =
     ap (λ (o : Option Record). filter (λ item. unwrap_or (option_map (λ (l : Record). nat_lt l.key item.key) o) true) source) (last_or-push None front last)
 
-ships-back : (source copy : List Record) → Ascends source → (g : GoesOn source copy) → to_ship source copy ≡ g.back
+ships-back : (source copy : List Record) → Ascends source → (g : HasLastOf source copy) → to_ship source copy ≡ g.back
 ships-back source copy a g =
     ap (to_ship source) g.copy_is
     ∙ (after-last g.front g.last source
@@ -123,7 +123,7 @@ ships-back source copy a g =
 
 -- the copy's last record is the one with its key in the first table, and what comes after it in the list of all records begins
 -- with what comes after it there
-meets : (source copy ever : List Record) (s : IsPart source ever) (c : IsPart copy ever) → Ascends ever → (g : GoesOn source copy) → (g.found ≡ g.last) × (c.after ≡ g.back ++ s.after)
+meets : (source copy ever : List Record) (s : IsPart source ever) (c : IsPart copy ever) → Ascends ever → (g : HasLastOf source copy) → (g.found ≡ g.last) × (c.after ≡ g.back ++ s.after)
 meets source copy ever s c a g =
     let one : ever ≡ (c.before ++ g.front) ++ g.last ∷ c.after =
     c.is ∙ (ap (λ xs. c.before ++ (xs ++ c.after)) g.copy_is ∙ (ap (λ xs. c.before ++ xs) (append-assoc g.front (g.last ∷ []) c.after) ∙ sym (append-assoc c.before g.front (g.last ∷ c.after)))) in
@@ -141,7 +141,7 @@ meets source copy ever s c a g =
     tails : {x y : Record} {xs ys : List Record} → x ∷ xs ≡ y ∷ ys → xs ≡ ys
     tails e = cc
 
-goes-on-part : (source copy ever : List Record) (count : ℕ) → IsPart source ever → IsPart copy ever → Ascends ever → GoesOn source copy → IsPart (copy ++ take count (to_ship source copy)) ever
+goes-on-part : (source copy ever : List Record) (count : ℕ) → IsPart source ever → IsPart copy ever → Ascends ever → HasLastOf source copy → IsPart (copy ++ take count (to_ship source copy)) ever
 goes-on-part source copy ever count s c a g =
     let back_is = ships-back source copy (part-ascends source ever s a) g in
     let after_is : c.after ≡ g.back ++ s.after = (meets source copy ever s c a g).1 in

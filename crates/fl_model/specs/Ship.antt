@@ -32,7 +32,7 @@ abbrev pub to_ship : List Record → List Record → List Record
 to_ship source copy = filter (comes_after copy) source
 
 -- The copy goes on where the first table still has a record with its last key, or where one of them has none. Else there is a gap.
-pub record GoesOn (source copy : List Record) : Type 0 where
+pub record HasLastOf (source copy : List Record) : Type 0 where
   pub front : List Record
   pub last : Record
   pub others : List Record
@@ -43,7 +43,7 @@ pub record GoesOn (source copy : List Record) : Type 0 where
   pub key : found.key ≡ last.key
 
 abbrev pub MayShip : List Record → List Record → Type 0
-MayShip source copy = (source ≡ []) ⊎ ((copy ≡ []) ⊎ GoesOn source copy)
+MayShip source copy = (source ≡ []) ⊎ ((copy ≡ []) ⊎ HasLastOf source copy)
 
 -- What a copy may keep after records were put into it in order, until its puts or its flush ended or failed, and a mount: it
 -- has a front of what it had and was given, without its oldest records.
@@ -112,5 +112,5 @@ CopiesAreParts =
 -- A ship of all that is left leaves the first table's last record in the copy.
 abbrev pub ShipsAll : Type 0
 ShipsAll =
-    (source copy ever : List Record) → IsPart source ever → IsPart copy ever → Ascends ever → (copy ≡ []) ⊎ GoesOn source copy →
+    (source copy ever : List Record) → IsPart source ever → IsPart copy ever → Ascends ever → (copy ≡ []) ⊎ HasLastOf source copy →
     last_or None (copy ++ to_ship source copy) ≡ last_or None source

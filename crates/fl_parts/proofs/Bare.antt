@@ -3,7 +3,7 @@ use Rattle.std.proofs.Common.{◌≡◌, ◌≤◌, false, cond, nat_lt, Option,
 use Rattle.std.specs.List.{AllByRecursion}
 use Rattle.fl_model.specs.Record.{Plan}
 use Rattle.fl_model.specs.Ring.{Ring}
-use Rattle.fl_model.specs.Table.{Table, Entry, has_rows, log_pages, owed, is_above, written}
+use Rattle.fl_model.specs.Table.{Table, Entry, has_rows, log_pages, owed, is_after, written}
 use Rattle.fl_model.specs.Log.{IsLog, last_key}
 use Rattle.fl_model.specs.Facts.{IsTable, is_some_ring, counts_in}
 
@@ -42,4 +42,4 @@ bare-log table h = record {
 }
   where
     none : owed table ≡ []
-    none = ap (λ (es : List Entry). filter (λ entry. is_above (written table) entry) es) h.1
+    none = ap (λ (es : List Entry). filter (λ entry. is_after (written table) entry) es) h.1

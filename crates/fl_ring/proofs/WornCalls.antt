@@ -11,7 +11,7 @@ use Rattle.fl_ring.specs.Repairing.{ahead_first, ErasesAhead, CleansAhead, Voids
 use Rattle.fl_ring.specs.Ring.{Shape, RingState, fresh, count, oldest, place, IsShape, IsRing, OnRing, is_due_at, sealed, erased, voided, repaired}
 use Rattle.fl_ring.specs.Sealing.{AnswersEnd, ErasesWhere, SealCalls}
 use Rattle.fl_ring.specs.Wear.{turns}
-use Rattle.fl_ring.specs.Worn.{SealsWell, MountsWell, erased_next, erased_calls, erased_ahead, erased_by_seal, erased_by_mount, Call, Seal, Mount, GoWell, times, erases_in, CallsWearAlike, QuietMountsEraseNothing}
+use Rattle.fl_ring.specs.Worn.{SealsWell, MountsWell, erased_next, erased_calls, erased_ahead, erased_by_seal, erased_by_mount, Call, Seal, Mount, GoWell, times_among, erases_in, CallsWearAlike, QuietMountsEraseNothing}
 use Rattle.fl_ring.proofs.Clean.{ahead_place}
 use Rattle.fl_ring.proofs.Facts.{Due, due_true, sizes, two_blocks}
 use Rattle.fl_ring.proofs.Founds.{same_pages}
@@ -61,7 +61,7 @@ module _ (r : Shape) (s : RingState) (body : List ℕ) (shape : IsShape r) (ring
   ]
 
   pub seal_turned : (next : ℕ) (due : Bool) (old new : FlashState) → is_due_at r (s.next + 1) (length (s.kept ++ Some body ∷ [])) ≡ due → next ≡ s.next → (e : ErasesWhere r next due old (Ok tt) new)
-      → Turned r q block (times r block (erased_next r next due old new e)) (length (erased_next r next due old new e)) (erased (sealed r s body))
+      → Turned r q block (times_among r block (erased_next r next due old new e)) (length (erased_next r next due old new e)) (erased (sealed r s body))
   seal_turned next false old new due at e = none_more r q block s (erased (sealed r s body)) turned (ap (λ (k : ℕ). k / r.per_block % r.blocks) (oldest_not r s body shape ring due))
   seal_turned next true old new due at e =
       let goes = subst (λ (n : ℕ). Due r (s.next + 1) n) kept_len (due_true r (s.next + 1) (length (s.kept ++ Some body ∷ [])) shape due) in
@@ -75,7 +75,7 @@ module _ (r : Shape) (s : RingState) (body : List ℕ) (shape : IsShape r) (ring
       )
 
   pub calls_turned : (next : ℕ) (due : Bool) (old new : FlashState) → is_due_at r (s.next + 1) (length (s.kept ++ Some body ∷ [])) ≡ due → next ≡ s.next → (calls : SealCalls r next due body old (Ok tt) new)
-      → Turned r q block (times r block (erased_calls r next due body old new calls)) (length (erased_calls r next due body old new calls)) (erased (sealed r s body))
+      → Turned r q block (times_among r block (erased_calls r next due body old new calls)) (length (erased_calls r next due body old new calls)) (erased (sealed r s body))
   calls_turned next due old new is at (inl all) = seal_turned next due all.marked new is at all.erase_last
   calls_turned next due old new is at (inr (inl failed)) = absurd (cc failed.fails)
   calls_turned next due old new is at (inr (inr failed)) = absurd (cc failed.fails)
@@ -85,8 +85,8 @@ abbrev pub IsQuiet : RingState → Type 0
 IsQuiet s = (s.torn ≡ false) × (s.dirty ≡ false)
 
 seal_well : (r : Shape) (s : RingState) (w : SealsWell r s) (q block : ℕ) → IsShape r → oldest s / r.per_block % r.blocks ≡ q % r.blocks
-    → Turned r q block (times r block (erased_by_seal r s w)) (length (erased_by_seal r s w)) w.seals.performed.now.state × IsQuiet w.seals.performed.now.state
-seal_well r s w q block shape turned = (subst (λ (x : Shape). Turned x q block (times x block erases) (length erases) after) w.shape here, (ap (λ (t : RingState). t.torn) after_is ∙ trimmed_torn R _, ap (λ (t : RingState). t.dirty) after_is))
+    → Turned r q block (times_among r block (erased_by_seal r s w)) (length (erased_by_seal r s w)) w.seals.performed.now.state × IsQuiet w.seals.performed.now.state
+seal_well r s w q block shape turned = (subst (λ (x : Shape). Turned x q block (times_among x block erases) (length erases) after) w.shape here, (ap (λ (t : RingState). t.torn) after_is ∙ trimmed_torn R _, ap (λ (t : RingState). t.dirty) after_is))
   where
     R : Shape
     R = shape_of w.before
@@ -112,8 +112,8 @@ seal_well r s w q block shape turned = (subst (λ (x : Shape). Turned x q block 
     due : is_due_at R (s.next + 1) (length (s.kept ++ Some w.body ∷ [])) ≡ is_due_at R (next_of w.before + 1) (next_of w.before + 1 - oldest_of w.before)
     due = sym (ap (λ (n : ℕ). is_due_at R n (next_of w.before + 1 - oldest_of w.before)) next ∙ ap (λ (k : ℕ). is_due_at R (s.next + 1) k) kept)
 
-    here : Turned R q block (times R block erases) (length erases) after
-    here = subst (λ (t : RingState). Turned R q block (times R block erases) (length erases) t) (sym after_is)
+    here : Turned R q block (times_among R block erases) (length erases) after
+    here = subst (λ (t : RingState). Turned R q block (times_among R block erases) (length erases) t) (sym after_is)
         (calls_turned R s w.body (subst IsShape (sym w.shape) shape) ring q block (subst (λ (x : Shape). oldest s / x.per_block % x.blocks ≡ q % x.blocks) (sym w.shape) turned) (next_of w.before) _ w.old w.new due w.ready.stands.next w.calls)
 
 -- the repair of a ring that needs none
@@ -163,9 +163,9 @@ module _ (r : Shape) (s : RingState) (w : MountsWell r s) (shape : IsShape r) (q
   mounted_is = whole_repair r (renumbered r w.at_least s) [] w.rose w.device w.ends.performed.now w.ends.performed.did (ended_whole w.ends.performed.now.end w.new w.ends.performed.answer) ∙ quiet_repair r (renumbered r w.at_least s) quiet_0
 
   mount_well : (q block : ℕ) → oldest s / r.per_block % r.blocks ≡ q % r.blocks
-      → Turned r q block (times r block (erased_by_mount r s w)) (length (erased_by_mount r s w)) w.ends.performed.now.state × IsQuiet w.ends.performed.now.state
+      → Turned r q block (times_among r block (erased_by_mount r s w)) (length (erased_by_mount r s w)) w.ends.performed.now.state × IsQuiet w.ends.performed.now.state
   mount_well q block turned = (
-    subst (λ (l : List ℕ). Turned r q block (times r block l) (length l) w.ends.performed.now.state) (sym mount_quiet)
+    subst (λ (l : List ℕ). Turned r q block (times_among r block l) (length l) w.ends.performed.now.state) (sym mount_quiet)
         (none_more r q block s w.ends.performed.now.state turned
         (ap (λ (t : RingState). oldest t / r.per_block % r.blocks) mounted_is
         ∙ turn_alike r.blocks r.per_block (oldest (renumbered r w.at_least s)) (oldest s) (omega (arith, shape.blocks)) (omega (arith, shape.per_block)) on_0.ring.whole_blocks w.good.on.ring.whole_blocks

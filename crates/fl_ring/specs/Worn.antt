@@ -69,15 +69,15 @@ GoWell r (Seal ∷ calls) s = (seal : SealsWell r s) × GoWell r calls seal.seal
 GoWell r (Mount ∷ calls) s = (mount : MountsWell r s) × GoWell r calls mount.ends.performed.now.state
 
 -- how many of these blocks of the flash are the ring's block with this number, from 0
-abbrev pub times : Shape → ℕ → List ℕ → ℕ
-times r block [] = 0
-times r block (b ∷ blocks) = one (b * r.per_block == r.first + block * r.per_block) + times r block blocks
+abbrev pub times_among : Shape → ℕ → List ℕ → ℕ
+times_among r block [] = 0
+times_among r block (b ∷ blocks) = one (b * r.per_block == r.first + block * r.per_block) + times_among r block blocks
 
 -- how often the calls erased it
 abbrev pub erases_in : (r : Shape) (block : ℕ) (calls : List Call) (s : RingState) → GoWell r calls s → ℕ
 erases_in r block [] s went = 0
-erases_in r block (Seal ∷ calls) s went = times r block (erased_by_seal r s went.0) + erases_in r block calls went.0.seals.performed.now.state went.1
-erases_in r block (Mount ∷ calls) s went = times r block (erased_by_mount r s went.0) + erases_in r block calls went.0.ends.performed.now.state went.1
+erases_in r block (Seal ∷ calls) s went = times_among r block (erased_by_seal r s went.0) + erases_in r block calls went.0.seals.performed.now.state went.1
+erases_in r block (Mount ∷ calls) s went = times_among r block (erased_by_mount r s went.0) + erases_in r block calls went.0.ends.performed.now.state went.1
 
 -- From a new ring on, whatever seals and mounts come, the numbers of erases of two blocks differ by at most one.
 abbrev pub CallsWearAlike : Type 0

@@ -8,7 +8,7 @@ use Rattle.fl_model.specs.Facts.{IsTable}
 use Rattle.fl_model.specs.Log.{IsLog, IsSafe}
 use Rattle.fl_model.specs.Record.{Plan}
 use Rattle.fl_model.specs.Ring.{Ring}
-use Rattle.fl_model.specs.Table.{Table, Entry, is_above}
+use Rattle.fl_model.specs.Table.{Table, Entry, is_after}
 use Rattle.fl_model.proofs.Lists.{slice_get-drop, slice_get-front, last_or-get}
 use Rattle.fl_machine.proofs.RecordsChange.{Any, adds-all, sure_in}
 use Rattle.fl_machine.proofs.Logs.{core, log_in, IsFine, IsThere, IsSafePage, AreAbove, ascending-tops, front_of, rest_of}
@@ -21,7 +21,7 @@ last-at : {X : Type 0} (xs : List X) (w : X) → last_or None xs ≡ Some w → 
 last-at [] w e = absurd (none-some w e)
 last-at (x ∷ xs) w e = (length xs, omega arith, sym (last_or-get None x xs) ∙ e)
 
-above-last : (others : List Entry) (e : Entry) → ((w : Entry) → last_or None others ≡ Some w → w.kept.key < e.kept.key) → IsTrue (is_above others e)
+above-last : (others : List Entry) (e : Entry) → ((w : Entry) → last_or None others ≡ Some w → w.kept.key < e.kept.key) → IsTrue (is_after others e)
 above-last others e h = by-last (last_or None others) refl
   where
     by-last : (o : Option Entry) → last_or None others ≡ o → unwrap_or (option_map (λ last. nat_lt last.kept.key e.kept.key) o) true ≡ true
@@ -32,7 +32,7 @@ above-last others e h = by-last (last_or None others) refl
 pub pending-above : (plan : Plan) (table : Table) → IsTable plan table → AreAbove (front_of (core table)) (rest_of (core table))
 pending-above plan table facts =
     let n = length table.entries - table.pending in
-    each-from (λ e. IsTrue (is_above (take n table.entries) e)) (drop n table.entries)
+    each-from (λ e. IsTrue (is_after (take n table.entries) e)) (drop n table.entries)
     (λ j e at. above-last (take n table.entries) e (λ w last.
     let k = last-at (take n table.entries) w last in
     facts.ascending k.0 (length table.entries - table.pending + j) w e (omega (arith, k.1, length-front n table.entries)) (slice_get-front n table.entries k.0 w k.2) (sym (slice_get-drop n table.entries j) ∙ at)))

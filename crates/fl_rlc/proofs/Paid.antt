@@ -11,7 +11,7 @@ use Rattle.fl_model.specs.Facts.{IsLogPage}
 use Rattle.fl_model.specs.Mount.{joined}
 use Rattle.fl_model.specs.Record.{Plan, has_index, entries_per_page}
 use Rattle.fl_model.specs.Ring.{IsShape}
-use Rattle.fl_model.specs.Table.{Table, Entry, DataRing, IndexRing, VarRing, shape_of, after_seal, after_seals, table_seals, fill, has_rows, is_above, is_rows_spent, log_pages, owed}
+use Rattle.fl_model.specs.Table.{Table, Entry, DataRing, IndexRing, VarRing, shape_of, after_seal, after_seals, table_seals, fill, has_rows, is_after, is_rows_spent, log_pages, owed}
 use Rattle.fl_machine.specs.Found.{HasRoom}
 use Rattle.fl_machine.proofs.Logs.{core, front_of, Tops, all_weaker, all_back, filter_none, front-all, is_last, last-append, last-key, not-lt, replayed-owed, ascending-tops}
 use Rattle.fl_machine.proofs.LogTables.{marked-by, seals_by}
@@ -32,13 +32,13 @@ last-kept test (x ∷ y ∷ ys) w o e k = by-test (test x) (last-kept test (y �
     by-test false here rest = rest
 
 -- where the last of them, which has the greatest key, isn't above others, none of them is
-below-all : (others es : List Entry) (w : Entry) → last_or None es ≡ Some w → Tops es → is_above others w ≡ false → filter (λ e. is_above others e) es ≡ []
-below-all others es w e tops below = filter_none (λ x. is_above others x) es (all_weaker (λ x. x.kept.key ≤ last_key_of) (λ x. is_above others x ≡ false) (λ x le. by-last x le (last_or None others) refl below) es tops)
+below-all : (others es : List Entry) (w : Entry) → last_or None es ≡ Some w → Tops es → is_after others w ≡ false → filter (λ e. is_after others e) es ≡ []
+below-all others es w e tops below = filter_none (λ x. is_after others x) es (all_weaker (λ x. x.kept.key ≤ last_key_of) (λ x. is_after others x ≡ false) (λ x le. by-last x le (last_or None others) refl below) es tops)
   where
     last_key_of : ℕ
     last_key_of = unwrap_or (option_map (λ (x : Entry). x.kept.key) (last_or None es)) 0
 
-    by-last : (x : Entry) → x.kept.key ≤ last_key_of → (o : Option Entry) → last_or None others ≡ o → unwrap_or (option_map (λ (l : Entry). nat_lt l.kept.key w.kept.key) o) true ≡ false → is_above others x ≡ false
+    by-last : (x : Entry) → x.kept.key ≤ last_key_of → (o : Option Entry) → last_or None others ≡ o → unwrap_or (option_map (λ (l : Entry). nat_lt l.kept.key w.kept.key) o) true ≡ false → is_after others x ≡ false
     by-last x le None q k = absurd (true≢false k)
     by-last x le (Some l) q k =
         let more = ltb-false l.kept.key w.kept.key k in
@@ -46,26 +46,26 @@ below-all others es w e tops below = filter_none (λ x. is_above others x) es (a
         ap (λ (o : Option Entry). unwrap_or (option_map (λ (l : Entry). nat_lt l.kept.key x.kept.key) o) true) q ∙ not-lt l.kept.key x.kept.key (omega (arith, le, key, more))
 
 -- behind those of them that are above others none of them is
-above-none : (others es front : List Entry) → Tops es → 0 < length (filter (λ e. is_above others e) es) → filter (λ e. is_above (front ++ filter (λ e. is_above others e) es) e) es ≡ []
+above-none : (others es front : List Entry) → Tops es → 0 < length (filter (λ e. is_after others e) es) → filter (λ e. is_after (front ++ filter (λ e. is_after others e) es) e) es ≡ []
 above-none others es front tops some = by-last (is_last es)
   where
-    none-kept : filter (λ e. is_above others e) es ≡ [] → ⊥
-    none-kept z = let n : length (filter (λ e. is_above others e) es) ≡ 0 = ap (λ (xs : List Entry). length xs) z in omega (arith, n, some)
+    none-kept : filter (λ e. is_after others e) es ≡ [] → ⊥
+    none-kept z = let n : length (filter (λ e. is_after others e) es) ≡ 0 = ap (λ (xs : List Entry). length xs) z in omega (arith, n, some)
 
     last-part : (xs ys : List Entry) → 0 < length ys → last_or None (xs ++ ys) ≡ last_or None ys
     last-part xs [] n = absurd (omega (arith, n))
     last-part xs (y ∷ ys) n = last-append None xs y ys
 
-    by-last : (es ≡ []) ⊎ ((w : Entry) × (last_or None es ≡ Some w)) → filter (λ e. is_above (front ++ filter (λ e. is_above others e) es) e) es ≡ []
-    by-last (inl z) = absurd (none-kept (ap (filter (λ e. is_above others e)) z))
-    by-last (inr (w, e)) = by-test (is_above others w) refl
+    by-last : (es ≡ []) ⊎ ((w : Entry) × (last_or None es ≡ Some w)) → filter (λ e. is_after (front ++ filter (λ e. is_after others e) es) e) es ≡ []
+    by-last (inl z) = absurd (none-kept (ap (filter (λ e. is_after others e)) z))
+    by-last (inr (w, e)) = by-test (is_after others w) refl
       where
-        by-test : (b : Bool) → is_above others w ≡ b → filter (λ e. is_above (front ++ filter (λ e. is_above others e) es) e) es ≡ []
+        by-test : (b : Bool) → is_after others w ≡ b → filter (λ e. is_after (front ++ filter (λ e. is_after others e) es) e) es ≡ []
         by-test false k = absurd (none-kept (below-all others es w e tops k))
         by-test true k =
-            let last : last_or None (front ++ filter (λ e. is_above others e) es) ≡ Some w = last-part front (filter (λ e. is_above others e) es) some ∙ last-kept (λ e. is_above others e) es w None e k in
-            filter_none (λ e. is_above (front ++ filter (λ e. is_above others e) es) e) es
-            (all_weaker (λ x. x.kept.key ≤ unwrap_or (option_map (λ (y : Entry). y.kept.key) (last_or None es)) 0) (λ x. is_above (front ++ filter (λ e. is_above others e) es) x ≡ false)
+            let last : last_or None (front ++ filter (λ e. is_after others e) es) ≡ Some w = last-part front (filter (λ e. is_after others e) es) some ∙ last-kept (λ e. is_after others e) es w None e k in
+            filter_none (λ e. is_after (front ++ filter (λ e. is_after others e) es) e) es
+            (all_weaker (λ x. x.kept.key ≤ unwrap_or (option_map (λ (y : Entry). y.kept.key) (last_or None es)) 0) (λ x. is_after (front ++ filter (λ e. is_after others e) es) x ≡ false)
             (λ x le. let key = last-key es w e in ap (λ (o : Option Entry). unwrap_or (option_map (λ (l : Entry). nat_lt l.kept.key x.kept.key) o) true) last ∙ not-lt w.kept.key x.kept.key (omega (arith, le, key)))
             es tops)
 
@@ -143,7 +143,7 @@ module _ (plan : Plan) (shape : IsShape (shape_of (bare plan) DataRing)) where
         let last = sealed_by with_owed false a b in
         let front : front_of (core (sealed_by with_owed false a b)) ≡ drop s.gone y.entries ++ owed y = front-all (core last) s.none ∙ s.entries in
         let whole : front_of (core y) ≡ y.entries = front-all (core y) none in
-        ap (λ (es : List Entry). filter (λ e. is_above es e) y.logged) front ∙ above-none (front_of (core y)) y.logged (drop s.gone y.entries) tops (some-of (owed y) e)
+        ap (λ (es : List Entry). filter (λ e. is_after es e) y.logged) front ∙ above-none (front_of (core y)) y.logged (drop s.gone y.entries) tops (some-of (owed y) e)
 
     pub sealed-paid : is_rows_spent (beside (log_of (joined y)) (after_seals (bare plan) (table_seals (bare plan) (bare_table (joined y))) (bare_table (joined y)))) ≡ false →
         owed (beside (log_of (joined y)) (after_seals (bare plan) (table_seals (bare plan) (bare_table (joined y))) (bare_table (joined y)))) ≡ []

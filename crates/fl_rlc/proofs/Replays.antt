@@ -8,7 +8,7 @@ use Rattle.fl_model.specs.Bare.{bare, bare_table, Log, log_of, beside, end_besid
 use Rattle.fl_model.specs.Mount.{Of, Replay, renumber, ready, joined}
 use Rattle.fl_model.specs.Record.{Plan, blocks_of, has_index, entries_per_page}
 use Rattle.fl_model.specs.Table as model
-use Rattle.fl_model.specs.Table.{Table, Entry, RingName, LogRing, fill, has_rows, log_pages, lose, is_above, is_rows_spent, owed, written, table_seals, after_seals}
+use Rattle.fl_model.specs.Table.{Table, Entry, RingName, LogRing, fill, has_rows, log_pages, lose, is_after, is_rows_spent, owed, written, table_seals, after_seals}
 use Rattle.fl_model.specs.Within.{TablePerforms, TableGoesOn, TableMountEnd, TableMounts, TableMounted, TableStopped, TableUnread, TableUnreads, seals_within, repair_within, effect_within}
 use Rattle.fl_model.specs.Work.{Device, PartEnd, Whole, CutIn, FailedIn, PartProgress}
 use Rattle.fl_model.proofs.Among.{seals-all_done}
@@ -181,7 +181,7 @@ module _ {KNOTS SLOTS : ℕ} (t : code.Table KNOTS SLOTS) (l : RecordLog) (old :
           unlogged = subst (λ (z : Table). without_log.Stands t f1 first (bare plan) (bare_table z)) (sym same) begun-stands;
           ring = ring-of l1 f1 f1 (first + blocks_of (bare plan)) plan y (joined y) (joined-log y) refl begun-ring;
           none = ap (λ (z : Table). z.pending) same ∙ begun-none;
-          paid = λ left. ap (λ (z : Table). owed z) same ∙ ap (filter (λ (e : Entry). is_above (written (ready plan m.now.state)) e)) empty;
+          paid = λ left. ap (λ (z : Table). owed z) same ∙ ap (filter (λ (e : Entry). is_after (written (ready plan m.now.state)) e)) empty;
         }
       where
         seals_of : Table → List RingName

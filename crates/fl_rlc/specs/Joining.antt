@@ -3,7 +3,7 @@ use Rattle.std.specs.Prelude.{◌≡◌, ℕ, ◌+◌, ◌^◌, ◌<◌, List, [
 use Rattle.fl_flash.specs.Flash.{FlashState}
 use Rattle.fl_model.specs.Layout.{committed}
 use Rattle.fl_model.specs.Record.{Plan}
-use Rattle.fl_model.specs.Table.{Table, Entry, is_above, is_rows_spent}
+use Rattle.fl_model.specs.Table.{Table, Entry, is_after, is_rows_spent}
 use Rattle.fl_rlc.specs.Memory.{page_in}
 use Rattle.fl_rlc.specs.Pages.{log_body, IsPage}
 use Rattle.fl_rlc.specs.declared.log.RecordLog.{RecordLog}
@@ -14,7 +14,7 @@ more t e = record t { entries = t.entries ++ e ∷ []; pending = t.pending + 1 }
 
 -- .. where the table takes it: page numbers are left, and it is above the others
 abbrev pub taken : Table → Entry → Table
-taken t e = if is_rows_spent t then t else if is_above t.entries e then more t e else t
+taken t e = if is_rows_spent t then t else if is_after t.entries e then more t e else t
 
 abbrev pub all_taken : Table → List Entry → Table
 all_taken t [] = t

@@ -4,7 +4,7 @@ use Rattle.std.specs.List.{sum}
 use Rattle.fl_model.specs.Entry.{blob_len}
 use Rattle.fl_model.specs.Record.{Record, Plan}
 use Rattle.fl_model.specs.Ring.{given_up, sealed}
-use Rattle.fl_model.specs.Table.{Table, Entry, RingName, DataRing, IndexRing, VarRing, LogRing, shape_of, refusal_of, put_joined, put_record, join_seals, make_room_seals, seal_buffer, after_seal, after_seals, has_rows, is_above, is_rows_spent, lose, owed, pending_entries, written, with_room}
+use Rattle.fl_model.specs.Table.{Table, Entry, RingName, DataRing, IndexRing, VarRing, LogRing, shape_of, refusal_of, put_joined, put_record, join_seals, make_room_seals, seal_buffer, after_seal, after_seals, has_rows, is_after, is_rows_spent, lose, owed, pending_entries, written, with_room}
 use Rattle.fl_model.specs.Work.{Kind, Body, Mark, VoidMark, Erase, effect}
 use Rattle.fl_model.specs.Mount.{Turn, Of, Replay, turned, ready}
 use Rattle.fl_model.proofs.Lists.{each-drop, each-push, each-take}
@@ -89,7 +89,7 @@ module _ (limit : ℕ) where
     where
       by_spent : (s : Bool) → HasShortBlobs limit (cond s (ready plan t) (record (ready plan t) { entries = (ready plan t).entries ++ owed (ready plan t); pending = length (owed (ready plan t)) }))
       by_spent true = record { records = h.records; logged = h.logged }
-      by_spent false = record { records = each-append limit t.entries (owed (ready plan t)) h.records (each-filter limit (λ entry. is_above (written (ready plan t)) entry) t.logged h.logged); logged = h.logged }
+      by_spent false = record { records = each-append limit t.entries (owed (ready plan t)) h.records (each-filter limit (λ entry. is_after (written (ready plan t)) entry) t.logged h.logged); logged = h.logged }
 
   pub keeps-lose : (t : Table) → Keeps limit t (lose t)
   keeps-lose t h = record { records = each-take Short (length t.entries - t.pending) t.entries h.records; logged = h.logged }

@@ -8,7 +8,7 @@ use Rattle.fl_flash.specs.Flash.{FlashState}
 use Rattle.fl_flash.specs.declared.flash.FlashFault.TheVariants as flash
 use Rattle.fl_model.specs.Query.{entry_at}
 use Rattle.fl_model.specs.Record.{Record, Plan}
-use Rattle.fl_model.specs.Ship.{GoesOn, MayShip, records_in}
+use Rattle.fl_model.specs.Ship.{HasLastOf, MayShip, records_in}
 use Rattle.fl_model.specs.Table.{Table, Entry, last_entry}
 use Rattle.fl_page.specs.Causes.{IsCaused}
 use Rattle.fl_page.specs.declared.fault.ReadFault.{ReadFault}
@@ -111,7 +111,7 @@ module _ (source copy : Table) (last : Option ℕ) (last_is : last ≡ option_ma
   pub may-ship : FollowsOn (records_in source) last → MayShip (records_in source) (records_in copy)
   may-ship follows = by-last last (sym last_is) follows
     where
-      by-key : (key : ℕ) → EndsWith (records_in copy) key → HasKey (records_in source) key → GoesOn (records_in source) (records_in copy)
+      by-key : (key : ℕ) → EndsWith (records_in copy) key → HasKey (records_in source) key → HasLastOf (records_in source) (records_in copy)
       by-key key ends has =
           let s = split (records_in source) has.place has.item has.here in
           record { front = ends.front; last = ends.last; others = s.0; found = has.item; back = s.1; copy_is = ends.is; source_is = s.2; key = has.key_is ∙ sym ends.key_is }

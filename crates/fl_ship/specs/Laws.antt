@@ -8,7 +8,7 @@ use Rattle.fl_model.specs.Record.{Record, Plan, Config}
 use Rattle.fl_model.specs.Ship as model
 use Rattle.fl_model.specs.Facts.{IsTable}
 use Rattle.fl_model.specs.Ring.{IsShape}
-use Rattle.fl_model.specs.Ship.{Ascends, CopyRests, GoesOn, IsPart, Shipment, records_in}
+use Rattle.fl_model.specs.Ship.{Ascends, CopyRests, HasLastOf, IsPart, Shipment, records_in}
 use Rattle.fl_model.specs.Table.{Table, DataRing, lose, shape_of}
 use Rattle.fl_words.specs.Medium.{IsImage}
 use Rattle.fl_ship.specs.Ends.{Bytes, IsCopy, IsHalfMade, ShipEnds, ShipsSo, Told, shipped_records}
@@ -57,5 +57,5 @@ ShipsLeaveParts =
 abbrev pub ShipsReachTheEnd : Type 0
 ShipsReachTheEnd =
     (plan : Plan) (count n : ℕ) (source copy after : Table) (ever : List Record) → IsTable plan copy → IsShape (shape_of plan DataRing) →
-    IsPart (records_in source) ever → IsPart (records_in copy) ever → Ascends ever → (records_in copy ≡ []) ⊎ GoesOn (records_in source) (records_in copy) →
+    IsPart (records_in source) ever → IsPart (records_in copy) ever → Ascends ever → (records_in copy ≡ []) ⊎ HasLastOf (records_in source) (records_in copy) →
     ShipsGiven plan (shipped_records count source copy) copy (Ok n) after → n < count → last_or None (records_in after) ≡ last_or None (records_in source)
