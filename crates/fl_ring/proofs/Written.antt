@@ -1,7 +1,7 @@
 -- What seals change of a flash, call by call.
 use Rattle.std.proofs.Common.{◌≡◌, ℕ, zero, suc, ◌+◌, ◌-◌, ◌*◌, ◌<◌, ◌≤◌, Bool, true, false, IsTrue, Option, Some, Result, Ok, Err, List, replicate, inl, inr, refl, sym, ◌∙◌, ap, subst, arith}
 use Rattle.std.specs.Prelude.{IsErr}
-use Rattle.std.proofs.lemmas.Bool.{cases_lt}
+use Rattle.std.proofs.lemmas.Bool.{cases_lt, false≢true}
 use Rattle.fl_base.specs.declared.types.Geometry.{Geometry}
 use Rattle.fl_flash.specs.Flash.{FlashState, page_at, OffChangesNothing, ProgramsPage, ErasesBlock}
 use Rattle.fl_flash.specs.Media.{next_count}
@@ -104,10 +104,7 @@ module _ (r : Shape) (next : ℕ) (due : Bool) (body : List ℕ) (old : FlashSta
   few (Err e) = omega arith
 
   none-done : (result : Result (Unit {0}) FlashFault) → IsErr result → done result ≡ 0
-  none-done (Ok u) fails = absurd (no fails)
-    where
-      no : false ≡ true → ⊥
-      no e = cc
+  none-done (Ok u) fails = absurd (false≢true fails)
   none-done (Err e) fails = refl
 
   -- a body and a mark, of which the first one was done
