@@ -1,7 +1,7 @@
 -- Blobs stand where a record joins with its blob, and where a table is lost.
 use Rattle.std.proofs.Common.{◌≡◌, ℕ, zero, suc, ◌+◌, ◌-◌, ◌*◌, ◌/◌, ◌%◌, ◌<◌, ◌≤◌, ◌⊎◌, inl, inr, Bool, true, false, cond, ◌&&◌, ◌||◌, ◌==◌, nat_le, min, Option, Some, None, IfSome, option_map, unwrap_or, List, [], ◌∷◌, ◌++◌, length, take, drop, replicate, refl, sym, ◌∙◌, ap, subst, arith, length-append, length-drop, length-take, if◌then◌else◌}
 use Rattle.std.specs.List.{slice_get, sum}
-use Rattle.std.proofs.lemmas.Bool.{cases_lt, lt-ltb, le-ltb, lt-leb, eq-eqb, ne_eqb, eqb-true}
+use Rattle.std.proofs.lemmas.Bool.{cases_lt, lt-ltb, le-ltb, lt-leb, eq-eqb, ne_eqb, eqb-true, true≢false}
 use Rattle.std.proofs.lemmas.List.{drop-append-le}
 use Rattle.std.proofs.lemmas.Nat.{le-div}
 use Rattle.std.proofs.Math.Nat.{add-mul, mul-le-mul_right, mod-lt, mod-add-div', div-mul-le_self}
@@ -185,11 +185,8 @@ module _ (plan : Plan) (item : Record) (table : Table) (ring : Ring) (some_room 
       by_full false e =
           let o = offset-by false e in
           let none : 0 * R ≡ 0 = omega arith in
-          let other : fill table ≡ R → ⊥ = λ f. both (sym (eq-eqb (fill table) R f) ∙ e) in
+          let other : fill table ≡ R → ⊥ = λ f. true≢false (sym (eq-eqb (fill table) R f) ∙ e) in
           record { q = 0; page_is = page-by false e; whole = omega (arith, o, none); small = omega (arith, o, few, other) }
-        where
-          both : true ≡ false → ⊥
-          both h = cc
 
   holds-joined : (bytes : List ℕ) → item.blob ≡ Some bytes → 0 < length bytes → HoldsBlob plan after ring new_entry bytes
   holds-joined bytes has some = record {

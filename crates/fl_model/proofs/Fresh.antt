@@ -2,6 +2,7 @@
 use Rattle.std.proofs.Common.{◌≡◌, ℕ, ◌+◌, ◌-◌, ◌<◌, ◌≤◌, Bool, true, false, cond, nat_lt, Option, Some, None, IfSome, IsTrue, List, [], ◌∷◌, ◌++◌, length, map, filter, refl, sym, ap, subst, arith, inl}
 use Rattle.std.specs.List.{slice_get, AllByRecursion}
 use Rattle.std.proofs.lemmas.Nat.Gcd.{dvd-zero}
+use Rattle.std.proofs.lemmas.Bool.{false≢true}
 use Rattle.fl_model.specs.Record.{Plan, has_index, has_var, has_log, entries_per_page}
 use Rattle.fl_model.specs.Ring.{Shape, Ring, IsRing, fresh, oldest}
 use Rattle.fl_model.specs.Table.{Table, Entry, RingName, DataRing, IndexRing, VarRing, LogRing, fresh_table, ring_of, shape_of, full_pages, has_rows}
@@ -17,12 +18,9 @@ ring-fresh shape = record {
   whole_rounds = λ few. dvd-zero _;
   kept = omega arith;
   kept_at_end = λ e. omega arith;
-  dirty_at_end = λ d. absurd (no d);
-  not_both = λ d. no d;
+  dirty_at_end = λ d. absurd (false≢true d);
+  not_both = λ d. false≢true d;
 }
-  where
-    no : false ≡ true → ⊥
-    no e = cc
 
 -- a ring that may be missing
 abbrev maybe : Bool → Option Ring

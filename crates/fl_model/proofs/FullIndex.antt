@@ -1,7 +1,7 @@
 -- What full index entries tell, and how many pages a mount by them reads.
 use Rattle.std.proofs.Common.{◌≡◌, ℕ, zero, suc, ◌+◌, ◌-◌, ◌*◌, ◌%◌, ◌<◌, ◌≤◌, Bool, true, false, cond, ◌&&◌, ◌||◌, not, nat_lt, nat_le, ◌==◌, Option, Some, None, List, [], ◌∷◌, ◌++◌, length, map, max, fold, take, drop, if◌then◌else◌, refl, sym, ◌∙◌, ap, arith, IsTrue, IfSome, ◌⊎◌, inl, inr, option_map, unwrap_or}
 use Rattle.std.specs.List.{AllByRecursion, list_any, last_or, slice_get, sum}
-use Rattle.std.proofs.lemmas.Bool.{cases_lt, le-ltb}
+use Rattle.std.proofs.lemmas.Bool.{cases_lt, le-ltb, false≢true, true≢false}
 use Rattle.std.proofs.lemmas.Bool.Decides.{nat_tests}
 use Rattle.std.proofs.lemmas.List.{take-append-drop, map-append, length-drop}
 use Rattle.std.proofs.lemmas.List.Sums.{sum_by-cons, fold-append, count_by-le-length}
@@ -90,10 +90,7 @@ listed-renumbered plan table number is void le = listed-behind plan table number
     next = least_alike m table.rows.next (end + length table.rows.counts)
 
     begins : (b : Bool) → b ≡ false → oldest (cond b table.rows (record table.rows { next = next })) ≤ number → end ≤ number
-    begins true e h = absurd (wrong e)
-      where
-        wrong : true ≡ false → ⊥
-        wrong e = cc
+    begins true e h = absurd (true≢false e)
     begins false e h = omega (arith, h)
 
 -- a data page that an index page lists is listed
@@ -109,9 +106,6 @@ any-at p (y ∷ ys) (suc k) x e t = by_first (p y) (any-at p ys k x e t)
 is-listed : (plan : Plan) (table : Table) (k first j : ℕ) → slice_get (firsts table) k ≡ Some first → j < entries_per_page plan → is_listed plan table (first + j) ≡ true
 is-listed plan table k first j e lt =
     any-at (λ f. nat_le f (first + j) && nat_lt (first + j) (f + entries_per_page plan)) (firsts table) k first e (grind (arith, nat_tests, lt))
-
-not_false : true ≡ false → ⊥
-not_false e = cc
 
 first-at : (pages : List IndexPage) (k : ℕ) (page : IndexPage) → slice_get pages k ≡ Some page → slice_get (map (λ (p : IndexPage). p.first) pages) k ≡ Some page.first
 first-at [] k page e = absurd (none_some page e)
@@ -150,7 +144,7 @@ entries-stand plan table k page is at tell = by_rows (list_any (nat_lt 0) table.
             let old : oldest (renumber plan DataRing table).rows ≡ next - length table.rows.counts = ap oldest rows in
             let not_listed = unlisted (page.first + j) e (omega (arith, old, number)) in
             let k : true ≡ false = sym listed ∙ not_listed in
-            not_false k
+            true≢false k
 
 -- ---- the blobs that they tell
 
@@ -236,14 +230,8 @@ ring-mounts shape ring is h =
 part-mounts : (shape : Shape) (before after : Option Ring) (has : Bool) → is_some_ring before ≡ has → is_some_ring after ≡ has → (IsTrue has → IsShape shape) → IfSome before (IsRing shape) → IfSome after (IsRing shape) →
     part_mount_limit shape before + kept_in after ≤ 4 * (shape.blocks * shape.pages)
 part-mounts shape None None has b a is h k = omega arith
-part-mounts shape None (Some after) has b a is h k = absurd (wrong (b ∙ sym a))
-  where
-    wrong : false ≡ true → ⊥
-    wrong e = cc
-part-mounts shape (Some before) None has b a is h k = absurd (wrong (b ∙ sym a))
-  where
-    wrong : true ≡ false → ⊥
-    wrong e = cc
+part-mounts shape None (Some after) has b a is h k = absurd (false≢true (b ∙ sym a))
+part-mounts shape (Some before) None has b a is h k = absurd (true≢false (b ∙ sym a))
 part-mounts shape (Some before) (Some after) has b a is h k =
     let there : IsTrue has = sym b in
     let reads = ring-mounts shape before (is there) h in
