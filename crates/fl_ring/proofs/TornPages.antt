@@ -2,7 +2,7 @@
 use Rattle.std.proofs.Common.{◌≡◌, ℕ, zero, suc, ◌+◌, ◌-◌, ◌*◌, ◌/◌, ◌%◌, ◌<◌, ◌≤◌, min, Bool, true, false, not, ◌==◌, if◌then◌else◌, Option, Some, None, inl, inr, refl, sym, ◌∙◌, ap, subst, arith}
 use Rattle.std.proofs.Math.Nat.{mul-le-mul_right, mod-eq_of_lt, add-mod_right, mul-add-mod_self_right, min-le_right}
 use Rattle.std.proofs.lemmas.Nat.{mod-mul-add}
-use Rattle.std.proofs.lemmas.Bool.{cases_lt, cases_eq, cases_Bool, and_parts, true≢false, cond-true, cond-false, eq-eqb, ne_eqb}
+use Rattle.std.proofs.lemmas.Bool.{cases_lt, cases_eq, cases_Bool, and_parts, true≢false, cond-true, cond-false, eq-eqb, ne_eqb, not-true}
 use Rattle.fl_flash.specs.Flash.{FlashState}
 use Rattle.fl_mark.specs.declared.page_state.PageState.{PageState}
 use Rattle.fl_mark.specs.declared.page_state.PageState.TheVariants.{Blank, Torn, Committed, Void}
@@ -15,10 +15,6 @@ use Rattle.fl_ring.specs.Numbers.{next_by, NumbersFit}
 use Rattle.fl_ring.specs.Ring.{Shape, place, room}
 use Rattle.fl_ring.proofs.Modulo.{parts, more, last_block}
 use Rattle.fl_ring.proofs.SamePlaces.{in_block, least_is_alike}
-
-not_false : (b : Bool) → not b ≡ true → b ≡ false
-not_false true e = sym e
-not_false false e = refl
 
 one_none : (b : Bool) → one b ≡ 0 → b ≡ false
 one_none true e = absurd (omega (arith, e))
@@ -56,7 +52,7 @@ module _ (full : ℕ → Bool) (B : ℕ) where
     | inr many ↦
         let ends_one : ends full B B ≡ 1 = sym (cond-false (fulls full B == 0) 1 (ends full B B) (ne_eqb (fulls full B) 0 many)) ∙ one_head in
         let b = head_of full B in
-        not_false (full b) (and_parts (full (before B b)) (not (full b)) (last_is_head B (λ e. absurd (omega (arith, e, ends_one))))).1
+        not-true (full b) (and_parts (full (before B b)) (not (full b)) (last_is_head B (λ e. absurd (omega (arith, e, ends_one))))).1
   ]
 
 torn_of : (s : PageState) → seals s ≡ false → blanks s ≡ false → s ≡ Torn
@@ -151,5 +147,5 @@ module _ (f : FlashState) (r : Shape) (at_least : ℕ) (some : 0 < r.blocks) (nu
   pub torn_there : numbers.torn ≡ true → state_at f (place r numbers.next) ≡ Torn
   torn_there torn =
       let some : blanks (state_at f (page_in r (head_at f r) found.front.sealed)) ≡ false =
-      not_false (blanks (state_at f (page_in r (head_at f r) found.front.sealed))) (sym (found.head.front_is.torn found.head.front_is.below) ∙ sym found.torn ∙ torn) in
+      not-true (blanks (state_at f (page_in r (head_at f r) found.front.sealed))) (sym (found.head.front_is.torn found.head.front_is.below) ∙ sym found.torn ∙ torn) in
       ap (λ (p : ℕ). state_at f p) next_is ∙ torn_of (state_at f (page_in r (head_at f r) found.front.sealed)) unsealed some
