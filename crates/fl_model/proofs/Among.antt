@@ -2,6 +2,7 @@
 use Rattle.std.proofs.Common.{◌≡◌, ℕ, zero, suc, Bool, true, false, cond, Option, Some, None, List, [], ◌∷◌, ◌++◌, map, refl, sym, ◌∙◌, ap, subst, inl, inr}
 use Rattle.std.specs.List.{slice_get}
 use Rattle.std.specs.Option.{option_map, unwrap_or}
+use Rattle.std.proofs.lemmas.Option.{none-some}
 use Rattle.fl_base.specs.declared.types.CutKind.{CutKind}
 use Rattle.fl_model.specs.Record.{Plan}
 use Rattle.fl_model.specs.Ring.{Ring, begun, erased}
@@ -44,14 +45,8 @@ turn-at plan place Replay table = seals-at plan place (table_seals plan table) t
 -- a change of the table at a place
 pub changed-by : {P X : Type 0} (n : ℕ) (f : P → X → X) (plans : List P) (xs : List X) (plan : P) (x : X) → slice_get plans n ≡ Some plan → slice_get xs n ≡ Some x →
     changed_by n f plans xs ≡ changed_at n (λ _. f plan x) xs
-changed-by n f [] xs plan x e k = absurd (none e)
-  where
-    none : None ≡ Some plan → ⊥
-    none e = cc
-changed-by n f (p ∷ ps) [] plan x e k = absurd (none k)
-  where
-    none : None ≡ Some x → ⊥
-    none e = cc
+changed-by n f [] xs plan x e k = absurd (none-some plan e)
+changed-by n f (p ∷ ps) [] plan x e k = absurd (none-some x k)
 changed-by {P} {X} zero f (p ∷ ps) (y ∷ ys) plan x e k =
     let same_plan : p ≡ plan = cc in
     let same_x : y ≡ x = cc in
@@ -74,10 +69,7 @@ changed-to_same {X} zero x (y ∷ ys) e = let same : y ≡ x = cc in rw same ref
 changed-to_same (suc n) x (y ∷ ys) e = ap (λ zs. y ∷ zs) (changed-to_same n x ys e)
 
 pub changed-there : {X : Type 0} (n : ℕ) (x y : X) (xs : List X) → slice_get xs n ≡ Some x → slice_get (changed_at n (λ _. y) xs) n ≡ Some y
-changed-there n x y [] e = absurd (none e)
-  where
-    none : None ≡ Some x → ⊥
-    none e = cc
+changed-there n x y [] e = absurd (none-some x e)
 changed-there zero x y (z ∷ zs) e = refl
 changed-there (suc n) x y (z ∷ zs) e = changed-there n x y zs e
 

@@ -1,6 +1,7 @@
 -- What a table without its log does, seen with the log beside it.
 use Rattle.std.proofs.Common.{◌≡◌, ◌+◌, Bool, true, false, cond, ◌==◌, nat_lt, ◌&&◌, ◌||◌, not, length, Option, Some, None, List, [], ◌∷◌, ◌++◌, map, arith, refl, sym, ◌∙◌, ap, subst, ◌⊎◌, inl, inr}
 use Rattle.std.specs.List.{AllByRecursion}
+use Rattle.std.proofs.lemmas.List.{append-nil}
 use Rattle.fl_base.specs.declared.types.CutKind.{CutKind}
 use Rattle.fl_model.specs.Record.{Record, Plan, rows_per_page, has_index, has_var, entries_per_page}
 use Rattle.fl_model.specs.Table.{Table, RingName, DataRing, IndexRing, VarRing, LogRing, shape_of, is_dirty, is_torn, seal_buffer, seal_page, after_seal, after_seals, table_seals, make_room_seals, put_joined, with_record, fill, fill_seals, join_seals, log_seals, refusal_of, first_of, refuse_if, Refusal, BadColumns, Spent, is_ring_spent, is_rows_spent, key_refusal, value_refusal, blob_refusal}
@@ -113,10 +114,6 @@ room-beside plan log t = seals-beside plan log (make_room_seals (bare plan) t) t
 
 put_joined-beside : (plan : Plan) (item : Record) (t : Table) (log : Log) → put_joined plan item (beside log t) ≡ beside log (put_joined (bare plan) item t)
 put_joined-beside plan item t log = ap (with_record plan item) (room-beside plan log t)
-
-append-nil : (xs : List RingName) → xs ++ [] ≡ xs
-append-nil [] = refl
-append-nil (x ∷ xs) = ap (λ ys. x ∷ ys) (append-nil xs)
 
 join_seals-beside : (plan : Plan) (t : Table) (log : Log) → join_seals plan (beside log t) ≡ join_seals (bare plan) t ++ log_seals plan
 join_seals-beside plan t log = ap (λ (xs : List RingName). xs ++ log_seals plan) (sym (append-nil (fill_seals (bare plan) t)))

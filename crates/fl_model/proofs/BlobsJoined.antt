@@ -5,6 +5,7 @@ use Rattle.std.proofs.lemmas.Bool.{cases_lt, lt-ltb, le-ltb, lt-leb, eq-eqb, ne_
 use Rattle.std.proofs.lemmas.List.{drop-append-le}
 use Rattle.std.proofs.lemmas.Nat.{le-div}
 use Rattle.std.proofs.Math.Nat.{add-mul, mul-le-mul_right, mod-lt, mod-add-div', div-mul-le_self}
+use Rattle.std.proofs.lemmas.Option.{same_Some}
 use Rattle.fl_model.specs.Record.{Record, Plan, content_per_page}
 use Rattle.fl_model.specs.Content.{ContentPage, content_page}
 use Rattle.fl_model.specs.Ring.{Ring, oldest, given_up}
@@ -65,7 +66,7 @@ module _ (plan : Plan) (item : Record) (table : Table) (ring : Ring) (some_room 
       full = λ f. f;
       same = λ i a b. refl;
     }
-    | inr ge ↦ by_waiting ge (had (sym (ap (content_by plan table ring number) (le-ltb number ring.next ge)) ∙ e))
+    | inr ge ↦ by_waiting ge (same_Some old page (sym (ap (content_by plan table ring number) (le-ltb number ring.next ge)) ∙ e))
   ]
     where
       d : ℕ
@@ -76,9 +77,6 @@ module _ (plan : Plan) (item : Record) (table : Table) (ring : Ring) (some_room 
 
       new : ContentPage
       new = content_page plan (take R (drop d after.buffered))
-
-      had : Some old ≡ Some page → old ≡ page
-      had h = cc
 
       by_waiting : ring.next ≤ number → old ≡ page → Grown number page
       by_waiting ge e =

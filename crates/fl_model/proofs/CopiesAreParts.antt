@@ -2,15 +2,11 @@
 use Rattle.std.proofs.Common.{◌≡◌, ℕ, zero, suc, ◌+◌, ◌<◌, Bool, true, false, not, nat_lt, Option, Some, None, List, [], ◌∷◌, ◌++◌, take, drop, filter, refl, sym, ◌∙◌, ap, subst, arith, inl, inr}
 use Rattle.std.specs.List.{AllByRecursion, last_or}
 use Rattle.std.specs.Option.{option_map, unwrap_or}
-use Rattle.std.proofs.lemmas.List.{take-append-drop, append-nil}
+use Rattle.std.proofs.lemmas.List.{take-append-drop, append-nil, append_assoc}
 use Rattle.std.proofs.lemmas.Bool.{ltb-true, ltb-false}
 use Rattle.fl_model.specs.Record.{Record}
 use Rattle.fl_model.specs.Ship.{Ascends, IsPart, IsEnd, to_ship, HasLastOf, MayShip, KeepsOf, Shipment, nothing_yet, ShipmentStep, Shipments, IsWhole, CopiesAreParts, ShipsParts, ShipsAll}
 use Rattle.fl_model.proofs.Lists.{last_or-push}
-
-append-assoc : {X : Type 0} (xs ys zs : List X) → (xs ++ ys) ++ zs ≡ xs ++ (ys ++ zs)
-append-assoc [] ys zs = refl
-append-assoc (x ∷ xs) ys zs = ap (λ ws. x ∷ ws) (append-assoc xs ys zs)
 
 -- ---- parts
 
@@ -21,31 +17,31 @@ part-drop n part whole h = record {
   is =
       h.is
       ∙ (ap (λ xs. h.before ++ (xs ++ h.after)) (sym (take-append-drop n part))
-      ∙ (ap (λ xs. h.before ++ xs) (append-assoc (take n part) (drop n part) h.after) ∙ sym (append-assoc h.before (take n part) (drop n part ++ h.after))));
+      ∙ (ap (λ xs. h.before ++ xs) (append_assoc (take n part) (drop n part) h.after) ∙ sym (append_assoc h.before (take n part) (drop n part ++ h.after))));
 }
 
 part-take : (n : ℕ) (part whole : List Record) → IsPart part whole → IsPart (take n part) whole
 part-take n part whole h = record {
   before = h.before;
   after = drop n part ++ h.after;
-  is = h.is ∙ ap (λ xs. h.before ++ xs) (ap (λ xs. xs ++ h.after) (sym (take-append-drop n part)) ∙ append-assoc (take n part) (drop n part) h.after);
+  is = h.is ∙ ap (λ xs. h.before ++ xs) (ap (λ xs. xs ++ h.after) (sym (take-append-drop n part)) ∙ append_assoc (take n part) (drop n part) h.after);
 }
 
 part-more : (part whole more : List Record) → IsPart part whole → IsPart part (whole ++ more)
 part-more part whole more h = record {
   before = h.before;
   after = h.after ++ more;
-  is = ap (λ xs. xs ++ more) h.is ∙ (append-assoc h.before (part ++ h.after) more ∙ ap (λ xs. h.before ++ xs) (append-assoc part h.after more));
+  is = ap (λ xs. xs ++ more) h.is ∙ (append_assoc h.before (part ++ h.after) more ∙ ap (λ xs. h.before ++ xs) (append_assoc part h.after more));
 }
 
 end-drop : (n : ℕ) (part whole : List Record) → IsEnd part whole → IsEnd (drop n part) whole
 end-drop n part whole h = record {
   before = h.before ++ take n part;
-  is = h.is ∙ (ap (λ xs. h.before ++ xs) (sym (take-append-drop n part)) ∙ sym (append-assoc h.before (take n part) (drop n part)));
+  is = h.is ∙ (ap (λ xs. h.before ++ xs) (sym (take-append-drop n part)) ∙ sym (append_assoc h.before (take n part) (drop n part)));
 }
 
 end-more : (part whole more : List Record) → IsEnd part whole → IsEnd (part ++ more) (whole ++ more)
-end-more part whole more h = record { before = h.before; is = ap (λ xs. xs ++ more) h.is ∙ append-assoc h.before part more }
+end-more part whole more h = record { before = h.before; is = ap (λ xs. xs ++ more) h.is ∙ append_assoc h.before part more }
 
 end-part : (part whole : List Record) → IsEnd part whole → IsPart part whole
 end-part part whole h = record { before = h.before; after = []; is = h.is ∙ ap (λ xs. h.before ++ xs) (sym (append-nil part)) }
@@ -126,9 +122,9 @@ ships-back source copy a g =
 meets : (source copy ever : List Record) (s : IsPart source ever) (c : IsPart copy ever) → Ascends ever → (g : HasLastOf source copy) → (g.found ≡ g.last) × (c.after ≡ g.back ++ s.after)
 meets source copy ever s c a g =
     let one : ever ≡ (c.before ++ g.front) ++ g.last ∷ c.after =
-    c.is ∙ (ap (λ xs. c.before ++ (xs ++ c.after)) g.copy_is ∙ (ap (λ xs. c.before ++ xs) (append-assoc g.front (g.last ∷ []) c.after) ∙ sym (append-assoc c.before g.front (g.last ∷ c.after)))) in
+    c.is ∙ (ap (λ xs. c.before ++ (xs ++ c.after)) g.copy_is ∙ (ap (λ xs. c.before ++ xs) (append_assoc g.front (g.last ∷ []) c.after) ∙ sym (append_assoc c.before g.front (g.last ∷ c.after)))) in
     let other : ever ≡ (s.before ++ g.others) ++ g.found ∷ (g.back ++ s.after) =
-    s.is ∙ (ap (λ xs. s.before ++ (xs ++ s.after)) g.source_is ∙ (ap (λ xs. s.before ++ xs) (append-assoc g.others (g.found ∷ g.back) s.after) ∙ sym (append-assoc s.before g.others (g.found ∷ (g.back ++ s.after))))) in
+    s.is ∙ (ap (λ xs. s.before ++ (xs ++ s.after)) g.source_is ∙ (ap (λ xs. s.before ++ xs) (append_assoc g.others (g.found ∷ g.back) s.after) ∙ sym (append_assoc s.before g.others (g.found ∷ (g.back ++ s.after))))) in
     let both : g.found ∷ (g.back ++ s.after) ≡ g.last ∷ c.after =
     sym (from-here g.last.key (s.before ++ g.others) g.found (g.back ++ s.after) g.key (subst Ascends other a))
     ∙ (ap (filter (λ (item : Record). not (nat_lt item.key g.last.key))) (sym other ∙ one)
@@ -151,8 +147,8 @@ goes-on-part source copy ever count s c a g =
       is =
           c.is
           ∙ ap (λ xs. c.before ++ xs)
-          (ap (λ xs. copy ++ xs) (after_is ∙ (ap (λ xs. xs ++ s.after) (sym (take-append-drop count g.back)) ∙ append-assoc (take count g.back) (drop count g.back) s.after))
-          ∙ (sym (append-assoc copy (take count g.back) (drop count g.back ++ s.after)) ∙ ap (λ xs. (copy ++ take count xs) ++ (drop count g.back ++ s.after)) (sym back_is)));
+          (ap (λ xs. copy ++ xs) (after_is ∙ (ap (λ xs. xs ++ s.after) (sym (take-append-drop count g.back)) ∙ append_assoc (take count g.back) (drop count g.back) s.after))
+          ∙ (sym (append_assoc copy (take count g.back) (drop count g.back ++ s.after)) ∙ ap (λ xs. (copy ++ take count xs) ++ (drop count g.back ++ s.after)) (sym back_is)));
     }
 
 filter-true : (xs : List Record) → filter (λ (item : Record). true) xs ≡ xs
@@ -215,7 +211,7 @@ ships-all source copy ever s c a (inl none) = ap (λ xs. last_or None (xs ++ to_
 ships-all source copy ever s c a (inr g) =
     ap (λ xs. last_or None (copy ++ xs)) (ships-back source copy (part-ascends source ever s a) g)
     ∙ (ap (λ xs. last_or None (xs ++ g.back)) g.copy_is
-    ∙ (ap (last_or None) (append-assoc g.front (g.last ∷ []) g.back)
+    ∙ (ap (last_or None) (append_assoc g.front (g.last ∷ []) g.back)
     ∙ (last-append None g.front g.last g.back
     ∙ (ap (λ (x : Record). last_or (Some x) g.back) (sym (meets source copy ever s c a g).0)
     ∙ (sym (last-append None g.others g.found g.back) ∙ ap (last_or None) (sym g.source_is))))))

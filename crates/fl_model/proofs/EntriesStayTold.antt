@@ -4,6 +4,7 @@ use Rattle.std.specs.List.{slice_get, sum}
 use Rattle.std.proofs.lemmas.Bool.{cases_lt, eq-eqb, ne_eqb, eqb-true}
 use Rattle.std.proofs.lemmas.List.{take-append-drop, drop-drop, take-append-le, take_all}
 use Rattle.std.proofs.lemmas.List.Sums.{sum_by-append, sum_by-cons}
+use Rattle.std.proofs.lemmas.Option.{none-some, same_Some}
 use Rattle.fl_model.specs.Record.{Plan, has_index, entries_per_page}
 use Rattle.fl_model.specs.Index.{IndexEntry, IndexPage, index_entry, bitmap_of, full_of}
 use Rattle.fl_model.specs.Ring.{Ring, oldest, is_full, extended}
@@ -158,7 +159,7 @@ module _ (plan : Plan) (table : Table) (is : IsTable plan table) (gone : ℕ) (d
           by_count (Some c) e = λ told.
               let short = slice_get-short (drop gone all) n c e in
               let place : gone + n ≡ length base.rows.counts = omega (arith, at, len, last, lt, short, length-drop gone all, long, numbered, next, is.listed) in
-              let count : c ≡ table.pending = one (sym e ∙ (slice_get-drop gone all n ∙ (ap (slice_get all) place ∙ slice_get-last base.rows.counts table.pending))) in
+              let count : c ≡ table.pending = same_Some _ _ (sym e ∙ (slice_get-drop gone all n ∙ (ap (slice_get all) place ∙ slice_get-last base.rows.counts table.pending))) in
               let before : sum (take (gone + n) all) ≡ sum table.rows.counts =
               ap (λ k. sum (take k all)) place ∙ (ap sum (take-append-le (length base.rows.counts) base.rows.counts (table.pending ∷ []) (omega arith)) ∙ (ap sum (take_all (length base.rows.counts) base.rows.counts (omega arith)) ∙ ap sum counts)) in
               let rows : rows_at after n c ≡ pending_entries table =
@@ -168,9 +169,6 @@ module _ (plan : Plan) (table : Table) (is : IsTable plan table) (gone : ℕ) (d
               ∙ (ap (λ k. take c (drop k table.entries)) (let k : sum table.rows.counts ≡ length table.entries - table.pending = omega (arith, is.counted) in k)
               ∙ take_all c (pending_entries table) (let l = length-drop (length table.entries - table.pending) table.entries in omega (arith, l, count, is.counted))))) in
               record { bitmap = ap (bitmap_of plan) (sym rows); full = λ f. ap full_of (sym rows) }
-            where
-              one : {a b : ℕ} → ◌≡◌ {A = Option ℕ} (Some a) (Some b) → a ≡ b
-              one e = cc
 
 tell-buffer : (plan : Plan) (table : Table) → IsTable plan table → IsTrue (has_index plan) →
     TellPages plan (seal_buffer plan DataRing table) ((seal_buffer plan DataRing table).rows.next - length (seal_buffer plan DataRing table).waiting) (seal_buffer plan DataRing table).waiting
@@ -225,10 +223,7 @@ none-lower number first (c ∷ cs) entries lt =
         (ne_eqb first number (λ e. omega (arith, e, lt))) ∙ k
 
 rows-by : (first n c : ℕ) (counts : List ℕ) (entries : List Entry) → slice_get counts n ≡ Some c → rows_by (first + n) (pages_from first counts entries) ≡ take c (drop (sum (take n counts)) entries)
-rows-by first n c [] entries e = absurd (none e)
-  where
-    none : ◌≡◌ {A = Option ℕ} None (Some c) → ⊥
-    none e = cc
+rows-by first n c [] entries e = absurd (none-some c e)
 rows-by first zero c (x ∷ cs) entries e = by_count (x == 0) refl
   where
     same : x ≡ c
@@ -321,10 +316,7 @@ tell-lost plan table first entries counted h j n lt e = by_count (slice_get tabl
       where
         -- the rows of a page are all written
         within : (n count : ℕ) (counts : List ℕ) → slice_get counts n ≡ Some count → sum (take n counts) + count ≤ sum counts
-        within n count [] e = absurd (none e)
-          where
-            none : ◌≡◌ {A = Option ℕ} None (Some count) → ⊥
-            none e = cc
+        within n count [] e = absurd (none-some count e)
         within zero count (x ∷ xs) e = let here : x ≡ count = cc in let all = sum_by-cons (λ (k : ℕ). k) x xs in let z = ap sum (take_none (x ∷ xs)) in omega (arith, here, all, z)
         within (suc n) count (x ∷ xs) e =
             let rest = within n count xs e in

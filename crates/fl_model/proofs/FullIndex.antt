@@ -7,6 +7,7 @@ use Rattle.std.proofs.lemmas.List.{take-append-drop, map-append, length-drop}
 use Rattle.std.proofs.lemmas.List.Sums.{sum_by-cons, fold-append, count_by-le-length}
 use Rattle.std.proofs.lemmas.Nat.{mod_below}
 use Rattle.std.proofs.Math.Nat.{add-mul, mul-le-mul_right, mul-le-mul_left}
+use Rattle.std.proofs.lemmas.Option.{none-some}
 use Rattle.fl_model.specs.Record.{Plan, has_index, has_var, has_log, blocks_of, entries_per_page}
 use Rattle.fl_model.specs.Ring.{Shape, IsShape, Ring, IsRing, oldest}
 use Rattle.fl_model.specs.Table.{Table, Entry, DataRing, IndexRing, VarRing, LogRing, shape_of, end_of_blobs, blob_len, firsts}
@@ -21,14 +22,11 @@ use Rattle.fl_model.proofs.Lists.{slice_get-some, slice_get-short, last_or-get}
 
 -- ---- which data pages are listed
 
-none_some : {X : Type 0} (x : X) → None ≡ Some x → ⊥
-none_some x e = cc
-
 -- each first data page with those that its index page lists ends at the end of the index, or before it
 first-ends : (x i a : ℕ) (firsts : List ℕ) →
     ((i j a b : ℕ) → i < j → slice_get firsts i ≡ Some a → slice_get firsts j ≡ Some b → a + x ≤ b) →
     slice_get firsts i ≡ Some a → a + x ≤ unwrap_or (option_map (λ page. page + x) (last_or None firsts)) 0
-first-ends x i a [] rising e = absurd (none_some a e)
+first-ends x i a [] rising e = absurd (none-some a e)
 first-ends x i a (f ∷ fs) rising e =
     let last = slice_get-some (f ∷ fs) (length fs) (omega arith) in
     let is : last_or None (f ∷ fs) ≡ Some last.0 = last_or-get None f fs ∙ last.1 in
@@ -95,7 +93,7 @@ listed-renumbered plan table number is void le = listed-behind plan table number
 
 -- a data page that an index page lists is listed
 any-at : (p : ℕ → Bool) (xs : List ℕ) (k x : ℕ) → slice_get xs k ≡ Some x → p x ≡ true → list_any p xs ≡ true
-any-at p [] k x e t = absurd (none_some x e)
+any-at p [] k x e t = absurd (none-some x e)
 any-at p (y ∷ ys) zero x e t = let same : y ≡ x = cc in let here : p y ≡ true = ap p same ∙ t in rw here refl
 any-at p (y ∷ ys) (suc k) x e t = by_first (p y) (any-at p ys k x e t)
   where
@@ -108,13 +106,13 @@ is-listed plan table k first j e lt =
     any-at (λ f. nat_le f (first + j) && nat_lt (first + j) (f + entries_per_page plan)) (firsts table) k first e (grind (arith, nat_tests, lt))
 
 first-at : (pages : List IndexPage) (k : ℕ) (page : IndexPage) → slice_get pages k ≡ Some page → slice_get (map (λ (p : IndexPage). p.first) pages) k ≡ Some page.first
-first-at [] k page e = absurd (none_some page e)
+first-at [] k page e = absurd (none-some page e)
 first-at (p ∷ ps) zero page e = let same : p ≡ page = cc in rw same refl
 first-at (p ∷ ps) (suc k) page e = first-at ps k page e
 
 -- each of these lists has so many entries
 long-at : (n : ℕ) (pages : List IndexPage) (k : ℕ) (page : IndexPage) → AllByRecursion (λ (p : IndexPage). length p.entries ≡ n) pages → slice_get pages k ≡ Some page → length page.entries ≡ n
-long-at n [] k page h e = absurd (none_some page e)
+long-at n [] k page h e = absurd (none-some page e)
 long-at n (p ∷ ps) zero page h e = let same : p ≡ page = cc in ap (λ (x : IndexPage). length x.entries) (sym same) ∙ h.0
 long-at n (p ∷ ps) (suc k) page h e = long-at n ps k page h.1 e
 

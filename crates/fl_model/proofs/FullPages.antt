@@ -1,9 +1,10 @@
 -- The pages that aren't void, counted from the oldest on.
-use Rattle.std.proofs.Common.{◌≡◌, ℕ, zero, suc, ◌+◌, ◌<◌, ◌≤◌, ◌⊎◌, inl, inr, cond, nat_lt, Some, None, List, [], ◌∷◌, ◌++◌, length, take, drop, refl, sym, ◌∙◌, ap, arith}
+use Rattle.std.proofs.Common.{◌≡◌, ℕ, zero, suc, ◌+◌, ◌<◌, ◌≤◌, ◌⊎◌, inl, inr, cond, nat_lt, Some, List, [], ◌∷◌, ◌++◌, length, take, drop, refl, sym, ◌∙◌, ap, arith}
 use Rattle.std.proofs.lemmas.Bool.{cases_lt, lt-ltb}
 use Rattle.std.proofs.lemmas.List.{take-take, drop-take, take-append-drop, take-append-le, take_all}
 use Rattle.std.proofs.lemmas.List.Sums.{sum_by-append}
 use Rattle.std.specs.List.{slice_get}
+use Rattle.std.proofs.lemmas.Option.{none-some}
 use Rattle.fl_model.specs.Table.{full_pages}
 
 pub full-append : (a b : List ℕ) → full_pages (a ++ b) ≡ full_pages a + full_pages b
@@ -36,10 +37,7 @@ full-split p counts = sym (full-append (take p counts) (drop p counts)) ∙ ap f
 
 -- a page that isn't void counts in each longer front
 pub full-below : (counts : List ℕ) (i j c : ℕ) → i < j → slice_get counts i ≡ Some c → 0 < c → full_pages (take i counts) + 1 ≤ full_pages (take j counts)
-full-below [] i j c lt e some = absurd (none e)
-  where
-    none : None ≡ Some c → ⊥
-    none e = cc
+full-below [] i j c lt e some = absurd (none-some c e)
 full-below (x ∷ xs) zero zero c lt e some = absurd (omega arith)
 full-below (x ∷ xs) zero (suc j) c lt e some =
     let same : x ≡ c = cc in

@@ -3,6 +3,7 @@ use Rattle.std.proofs.Common.{◌≡◌, ℕ, ◌+◌, ◌-◌, ◌<◌, ◌≤�
 use Rattle.std.proofs.lemmas.Bool.{cases_lt}
 use Rattle.std.proofs.lemmas.List.Sums.{sum_by_push, sum_by-take-drop}
 use Rattle.std.specs.List.{slice_get, AllByRecursion, last_or, sum}
+use Rattle.std.proofs.lemmas.Option.{none-some}
 use Rattle.fl_model.specs.Record.{Plan, rows_per_page}
 use Rattle.fl_model.specs.Table.{Entry}
 use Rattle.fl_model.specs.Facts.{FitsPlan}
@@ -51,10 +52,7 @@ kept-lose plan entries counts pending h = record {
 pub last-greatest : (entries : List Entry) (last : Entry) →
     ((i j : ℕ) (a b : Entry) → i < j → slice_get entries i ≡ Some a → slice_get entries j ≡ Some b → a.kept.key < b.kept.key) →
     last_or None entries ≡ Some last → (i : ℕ) (a : Entry) → slice_get entries i ≡ Some a → a.kept.key ≤ last.kept.key
-last-greatest [] last asc e i a k = absurd (none e)
-  where
-    none : None ≡ Some last → ⊥
-    none e = cc
+last-greatest [] last asc e i a k = absurd (none-some last e)
 last-greatest (x ∷ xs) last asc e i a k =
     let short = slice_get-short (x ∷ xs) i a k in
     let at_end : slice_get (x ∷ xs) (length xs) ≡ Some last = sym (last_or-get None x xs) ∙ e in
@@ -77,10 +75,7 @@ kept-record plan entries counts pending entry h fits above = record {
 }
   where
     last_of : (xs : List Entry) (i : ℕ) (a : Entry) → slice_get xs i ≡ Some a → (last : Entry) × (last_or None xs ≡ Some last)
-    last_of [] i a e = absurd (none e)
-      where
-        none : None ≡ Some a → ⊥
-        none e = cc
+    last_of [] i a e = absurd (none-some a e)
     last_of (x ∷ xs) i a e = let l = slice_get-some (x ∷ xs) (length xs) (omega arith) in (l.0, last_or-get None x xs ∙ l.1)
 
     by_place : (i j : ℕ) (a b : Entry) → i < j → (slice_get entries i ≡ Some a) ⊎ ((i ≡ length entries) × (entry ≡ a)) → (slice_get entries j ≡ Some b) ⊎ ((j ≡ length entries) × (entry ≡ b)) → a.kept.key < b.kept.key

@@ -1,6 +1,7 @@
 -- Lists, element by element.
-use Rattle.std.proofs.Common.{◌≡◌, ℕ, zero, suc, ◌+◌, ◌<◌, Option, Some, None, List, [], ◌∷◌, ◌++◌, length, take, drop, refl, ◌∙◌, ap, subst, arith, ◌⊎◌, inl, inr}
+use Rattle.std.proofs.Common.{◌≡◌, ℕ, zero, suc, ◌+◌, ◌<◌, Option, Some, List, [], ◌∷◌, ◌++◌, length, take, drop, refl, ◌∙◌, ap, subst, arith, ◌⊎◌, inl, inr}
 use Rattle.std.specs.List.{slice_get, AllByRecursion, last_or}
+use Rattle.std.proofs.lemmas.Option.{none-some}
 
 pub slice_get-drop : {X : Type 0} (n : ℕ) (xs : List X) (i : ℕ) → slice_get (drop n xs) i ≡ slice_get xs (n + i)
 slice_get-drop zero [] i = refl
@@ -17,10 +18,7 @@ slice_get-take (suc n) (x ∷ xs) (suc i) h = slice_get-take n xs i (omega arith
 -- what stands in a front of a list stands there in the list
 pub slice_get-front : {X : Type 0} (n : ℕ) (xs : List X) (i : ℕ) (x : X) → slice_get (take n xs) i ≡ Some x → slice_get xs i ≡ Some x
 slice_get-front zero [] i x h = h
-slice_get-front {X} zero (y ∷ ys) i x h = absurd (none h)
-  where
-    none : None ≡ Some x → ⊥
-    none e = cc
+slice_get-front {X} zero (y ∷ ys) i x h = absurd (none-some x h)
 slice_get-front (suc n) [] i x h = h
 slice_get-front (suc n) (y ∷ ys) zero x h = h
 slice_get-front (suc n) (y ∷ ys) (suc i) x h = slice_get-front n ys i x h
@@ -33,10 +31,7 @@ slice_get-left (x ∷ xs) ys (suc i) h = slice_get-left xs ys i (omega arith)
 -- a list with one more element
 pub slice_get-push : {X : Type 0} (xs : List X) (y : X) (i : ℕ) (x : X) → slice_get (xs ++ y ∷ []) i ≡ Some x → (slice_get xs i ≡ Some x) ⊎ ((i ≡ length xs) × (y ≡ x))
 slice_get-push {X} [] y zero x h = inr (refl, cc)
-slice_get-push {X} [] y (suc i) x h = absurd (none h)
-  where
-    none : None ≡ Some x → ⊥
-    none e = cc
+slice_get-push {X} [] y (suc i) x h = absurd (none-some x h)
 slice_get-push (z ∷ zs) y zero x h = inl h
 slice_get-push (z ∷ zs) y (suc i) x h = elim (slice_get-push zs y i x h) [ inl e ↦ inl e | inr e ↦ inr (ap suc e.0, e.1) ]
 
@@ -45,10 +40,7 @@ slice_get-last [] y = refl
 slice_get-last (x ∷ xs) y = slice_get-last xs y
 
 pub slice_get-short : {X : Type 0} (xs : List X) (i : ℕ) (x : X) → slice_get xs i ≡ Some x → i < length xs
-slice_get-short {X} [] i x h = absurd (none h)
-  where
-    none : None ≡ Some x → ⊥
-    none e = cc
+slice_get-short {X} [] i x h = absurd (none-some x h)
 slice_get-short (y ∷ ys) zero x h = omega arith
 slice_get-short (y ∷ ys) (suc i) x h = let k = slice_get-short ys i x h in omega (arith, k)
 
@@ -84,10 +76,7 @@ each-push P [] y h k = (k, tt)
 each-push P (x ∷ xs) y h k = (h.0, each-push P xs y h.1 k)
 
 pub each-at : {X : Type 0} (P : X → Type 0) (xs : List X) (i : ℕ) (x : X) → AllByRecursion P xs → slice_get xs i ≡ Some x → P x
-each-at {X} P [] i x h e = absurd (none e)
-  where
-    none : None ≡ Some x → ⊥
-    none e = cc
+each-at {X} P [] i x h e = absurd (none-some x e)
 each-at {X} P (y ∷ ys) zero x h e = let same : y ≡ x = cc in subst P same h.0
 each-at P (y ∷ ys) (suc i) x h e = each-at P ys i x h.1 e
 

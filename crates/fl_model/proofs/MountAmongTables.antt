@@ -2,16 +2,13 @@
 use Rattle.std.proofs.Common.{◌≡◌, ℕ, Bool, Option, Some, List, [], ◌∷◌, ◌++◌, map, refl, sym, ◌∙◌, ap, subst, ◌⊎◌, inl, inr}
 use Rattle.std.specs.List.{slice_get}
 use Rattle.std.specs.Option.{option_map, unwrap_or}
+use Rattle.std.proofs.lemmas.List.{map-append}
 use Rattle.fl_model.specs.Record.{Plan}
 use Rattle.fl_model.specs.Table.{Table, RingName}
 use Rattle.fl_model.specs.Work.{Kind, Operation, Device, Progress, CutShort, Failed, Performs, PartEnd, Whole, CutIn, FailedIn, PartProgress}
 use Rattle.fl_model.specs.Mount.{Turn, turned, turn_operations, turned_at, operations_at, Mounts, MountEnd, Stopped, Unread, GoesOn, IsUnread}
 use Rattle.fl_model.specs.Within.{turn_within, at_place, TablePerforms, with_table, outcome_at, progress_at, TableMountEnd, TableMounted, TableStopped, TableUnread, TableUnreads, TableGoesOn, TableMounts, MountsAlong}
 use Rattle.fl_model.proofs.Among.{turn-at, changed-by, changed-again, changed-there, changed-to_same, performs-at}
-
-map-append : {A B : Type 0} (f : A → B) (xs ys : List A) → map f (xs ++ ys) ≡ map f xs ++ map f ys
-map-append f [] ys = refl
-map-append f (x ∷ xs) ys = ap (λ zs. f x ∷ zs) (map-append f xs ys)
 
 -- the progress of a table doesn't ask what it was before
 progress-again : (place : ℕ) (tables : List Table) (table : Table) (now : PartProgress Table) → progress_at place (with_table place tables table) now ≡ progress_at place tables now

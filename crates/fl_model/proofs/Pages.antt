@@ -3,6 +3,7 @@ use Rattle.std.proofs.Common.{◌≡◌, ℕ, zero, suc, ◌+◌, ◌-◌, ◌�
 use Rattle.std.proofs.lemmas.List.Sums.{sum_by-cons}
 use Rattle.std.proofs.lemmas.List.{drop-drop}
 use Rattle.std.specs.List.{slice_get, sum}
+use Rattle.std.proofs.lemmas.Option.{none-some}
 use Rattle.fl_model.specs.Record.{Plan}
 use Rattle.fl_model.specs.Table.{Entry}
 use Rattle.fl_model.specs.Layout.{data_body}
@@ -64,10 +65,7 @@ pages-drop plan number entries (c ∷ counts) (suc pages) h =
 -- each page
 pub pages-at : (plan : Plan) (number : ℕ) (entries : List Entry) (counts : List ℕ) (i count : ℕ) → slice_get counts i ≡ Some count →
     get_or (pages_from plan number entries counts) i None ≡ page_with plan (number + i) count (drop (sum (take i counts)) entries)
-pages-at plan number entries [] i count e = absurd (none e)
-  where
-    none : None ≡ Some count → ⊥
-    none e = cc
+pages-at plan number entries [] i count e = absurd (none-some count e)
 pages-at plan number entries (c ∷ counts) zero count e =
     let same : c ≡ count = cc in
     let n : number ≡ number + 0 = omega arith in

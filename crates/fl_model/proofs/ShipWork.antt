@@ -1,6 +1,6 @@
 -- What a ship leaves in the copy, however it ends.
 use Rattle.std.proofs.Common.{◌≡◌, ℕ, zero, suc, ◌+◌, ◌-◌, ◌<◌, ◌≤◌, Bool, cond, Option, Some, None, List, [], ◌∷◌, ◌++◌, length, map, take, drop, refl, sym, ◌∙◌, ap, subst, arith, ◌⊎◌, inl, inr, MatchOption, length-append}
-use Rattle.std.proofs.lemmas.List.{drop-drop, drop-take, take-append-le, drop-append-le, append-nil, drop_all}
+use Rattle.std.proofs.lemmas.List.{drop-drop, drop-take, take-append-le, drop-append-le, append-nil, drop_all, append_assoc}
 use Rattle.std.proofs.Math.Seq.{take-append_seam, drop-length}
 use Rattle.std.proofs.lemmas.Bool.{cases_lt}
 use Rattle.fl_base.specs.declared.types.CutKind.{CutKind}
@@ -124,19 +124,15 @@ stops-keep held given rest t h = by_order (cases_lt (length (held ++ given)) (h.
     all : List Record
     all = held ++ given
 
-    append-assoc : (xs ys zs : List Record) → (xs ++ ys) ++ zs ≡ xs ++ (ys ++ zs)
-    append-assoc [] ys zs = refl
-    append-assoc (x ∷ xs) ys zs = ap (λ ws. x ∷ ws) (append-assoc xs ys zs)
-
     front : records_in (lose t) ≡ drop h.gone (take (h.gone + k) all)
     front = map-take k t.entries ∙ (ap (take k) h.is ∙ sym (drop-take h.gone k all))
 
     by_order : (length all < h.gone + k) ⊎ (h.gone + k ≤ length all) → KeepsOf held (given ++ rest) (records_in (lose t))
-    by_order (inr le) = record { given_up = h.gone; first = h.gone + k; kept = front ∙ ap (drop h.gone) (sym (take-append-le (h.gone + k) all rest le) ∙ ap (take (h.gone + k)) (append-assoc held given rest)) }
+    by_order (inr le) = record { given_up = h.gone; first = h.gone + k; kept = front ∙ ap (drop h.gone) (sym (take-append-le (h.gone + k) all rest le) ∙ ap (take (h.gone + k)) (append_assoc held given rest)) }
     by_order (inl lt) = record {
       given_up = h.gone;
       first = length all;
-      kept = front ∙ ap (drop h.gone) (take-all (h.gone + k) all (omega (arith, lt)) ∙ (sym (take-append_seam all rest) ∙ ap (take (length all)) (append-assoc held given rest)));
+      kept = front ∙ ap (drop h.gone) (take-all (h.gone + k) all (omega (arith, lt)) ∙ (sym (take-append_seam all rest) ∙ ap (take (length all)) (append_assoc held given rest)));
     }
       where
         take-all : (n : ℕ) (ys : List Record) → length ys ≤ n → take n ys ≡ ys
@@ -159,12 +155,8 @@ ships-keep plan rose [] device t now held given h did =
 ships-keep plan rose (item ∷ items) device t now held given h did =
     by_refusal (refusal_of plan t item) did (λ mid g has. ships-keep plan rose items mid.device mid.state now held (given ++ item ∷ []) has g)
   where
-    append-assoc : (xs ys zs : List Record) → (xs ++ ys) ++ zs ≡ xs ++ (ys ++ zs)
-    append-assoc [] ys zs = refl
-    append-assoc (x ∷ xs) ys zs = ap (λ ws. x ∷ ws) (append-assoc xs ys zs)
-
     with_item : KeepsOf held ((given ++ item ∷ []) ++ items) (records_in (lose now.state)) → KeepsOf held (given ++ item ∷ items) (records_in (lose now.state))
-    with_item k = subst (λ xs. KeepsOf held xs (records_in (lose now.state))) (append-assoc given (item ∷ []) items) k
+    with_item k = subst (λ xs. KeepsOf held xs (records_in (lose now.state))) (append_assoc given (item ∷ []) items) k
 
     -- what a put leaves: all but the record, or with it
     put-has : (mid : PartProgress Table) → TablePuts plan rose item device t mid → Has (held ++ given) (records_in mid.state) ⊎ Has (held ++ (given ++ item ∷ [])) (records_in mid.state)
@@ -177,7 +169,7 @@ ships-keep plan rose (item ∷ items) device t now held given h did =
             Has (held ++ given) (records_in mid.state) ⊎ Has (held ++ (given ++ item ∷ [])) (records_in mid.state)
         by_end Whole g =
             let joined = joined-has plan item t (held ++ given) h in
-            inr (subst (λ xs. Has xs (records_in mid.state)) (append-assoc held given (item ∷ []))
+            inr (subst (λ xs. Has xs (records_in mid.state)) (append_assoc held given (item ∷ []))
             (has-drops ((held ++ given) ++ item ∷ []) (records_in (put_joined plan item t)) (records_in mid.state) joined (performs-drops plan rose (seals_within plan (join_seals plan (put_joined plan item t)) (put_joined plan item t)) seals.device (put_joined plan item t) mid g)))
         by_end (CutIn b) g = inl (subst (λ (x : PartProgress Table). Has (held ++ given) (records_in x.state)) (sym g) at_seals)
         by_end (FailedIn b) g = inl (subst (λ (x : PartProgress Table). Has (held ++ given) (records_in x.state)) (sym g) at_seals)
@@ -196,7 +188,7 @@ ships-keep plan rose (item ∷ items) device t now held given h did =
           where
             by_end : (o : PartEnd Table) → seals.end ≡ o → TablePutGoesOn o seals mid (TablePerforms plan rose (seals_within plan (join_seals plan (put_joined plan item t)) (put_joined plan item t)) seals.device (put_joined plan item t) mid) → Has (held ++ (given ++ item ∷ [])) (records_in mid.state)
             by_end Whole z g =
-                subst (λ xs. Has xs (records_in mid.state)) (append-assoc held given (item ∷ []))
+                subst (λ xs. Has xs (records_in mid.state)) (append_assoc held given (item ∷ []))
                 (has-drops ((held ++ given) ++ item ∷ []) (records_in (put_joined plan item t)) (records_in mid.state) (joined-has plan item t (held ++ given) h) (performs-drops plan rose (seals_within plan (join_seals plan (put_joined plan item t)) (put_joined plan item t)) seals.device (put_joined plan item t) mid g))
             by_end (CutIn b) z g = absurd (not_cut (sym z ∙ (ap (λ (x : PartProgress Table). x.end) (sym g) ∙ w)))
               where
