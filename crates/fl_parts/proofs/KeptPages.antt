@@ -29,9 +29,10 @@ use Rattle.fl_ring.proofs.Found.{committed_state}
 use Rattle.fl_schema.specs.Form.{layout_with}
 use Rattle.fl_schema.specs.declared.column.ColumnType.{ColumnType}
 use Rattle.fl_schema.specs.declared.schema.KeyWidth.{KeyWidth}
+use Rattle.fl_ring.proofs.Images.{committed_is}
 use Rattle.fl_parts.specs.Pages.{bytes_in}
 use Rattle.fl_parts.specs.Reading.{full_on}
-use Rattle.fl_parts.proofs.States.{shape_in, state_of, HaveSize, to-image, committed-end}
+use Rattle.fl_parts.proofs.States.{shape_in, state_of, HaveSize, to-image}
 use Rattle.fl_find.specs.Pages.{rows_on, rows_where}
 
 each-at : {X : Type 0} (P : X → Type 0) (xs : List X) (i : ℕ) (x : X) → AllByRecursion P xs → slice_get xs i ≡ Some x → P x
@@ -121,7 +122,7 @@ module _ (page : ℕ → List ℕ) (first : ℕ) (plan : Plan) (table : Table) (
           (all-stored plan (rows_at table i c) (numbered i c) (each-take (FitsPlan plan) c (drop (sum (take i table.rows.counts)) table.entries) (each-drop (FitsPlan plan) (sum (take i table.rows.counts)) table.entries facts.kept.fit)))
           (omega (arith, lt, facts.rows.not_negative, facts.number)) (omega (arith, many, some)) (omega (arith, many, small c sized)) (omega (arith, ap (λ n. n * row_len plan) many, sized)) in
           let state : state_of_page (page (place (shape_in first plan) (model.oldest table.rows + i))) ≡ Committed =
-          ap state_of_page (is ∙ committed-end (data_body plan (model.oldest table.rows + i) (rows_at table i c))) ∙ committed_state (data_body plan (model.oldest table.rows + i) (rows_at table i c)) in
+          ap state_of_page (is ∙ committed_is (data_body plan (model.oldest table.rows + i) (rows_at table i c))) ∙ committed_state (data_body plan (model.oldest table.rows + i) (rows_at table i c)) in
           record {
             good = λ s. subst (λ (p : List ℕ). IsGoodPage (row_layout plan) (model.oldest table.rows + i) p) (sym is) d.good;
             rows = ap (λ s. rows_where s (row_layout plan) (page (place (shape_in first plan) (model.oldest table.rows + i)))) state ∙ (ap (rows_in (row_layout plan)) is ∙ d.rows);

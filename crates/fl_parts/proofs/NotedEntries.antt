@@ -23,11 +23,11 @@ use Rattle.fl_model.specs.Layout.{committed, data_body, is_void}
 use Rattle.fl_model.specs.Row.{le, number_of}
 use Rattle.fl_page.specs.Header.{page_bitmap}
 use Rattle.fl_ring.proofs.Found.{committed_state}
+use Rattle.fl_ring.proofs.Images.{committed_is}
 use Rattle.fl_parts.specs.Bitmaps.{AreSamePlan, AreIdle, AreWaiting, EndAt, HaveRoom, AreNoted, first_to_wait}
 use Rattle.fl_parts.proofs.PageRows.{entries-push}
 use Rattle.fl_parts.specs.Coming.{WaitBetween}
 use Rattle.fl_parts.specs.Reading.{WaitFor, WaitFrom, entries_on, entry_on, GatherUpTo, AreGathered, bitmap_on, full_on, bitmap_where}
-use Rattle.fl_parts.proofs.States.{committed-end}
 
 -- at first none waits
 pub gathers-none : (bitmaps : Option BitmapIndex) (low high number : ℕ) → number ≡ low → WaitFor bitmaps low high → AreGathered bitmaps number bitmaps
@@ -158,7 +158,7 @@ bits_small bits b is small = by_width (bits == 8) refl
 pub page-bitmap : (plan : Plan) (number : ℕ) (entries : List Entry) (page : List ℕ) → IsTrue (is_bits plan.bits) → page ≡ committed (data_body plan number entries) → bitmap_on page ≡ bitmap_of plan entries
 page-bitmap plan number entries page is e =
     let body = data_body plan number entries in
-    let state : state_of_page page ≡ Committed = ap state_of_page (e ∙ committed-end (data_body plan number entries)) ∙ committed_state (data_body plan number entries) in
+    let state : state_of_page page ≡ Committed = ap state_of_page (e ∙ committed_is (data_body plan number entries)) ∙ committed_state (data_body plan number entries) in
     let bytes : page_bitmap page ≡ number_of (le 8 (bitmap_of plan entries)) = ap page_bitmap e ∙ refl in
     ap (λ (s : PageState). bitmap_where s (page_bitmap page)) state
     ∙ (bytes ∙ (number_of-low 8 (bitmap_of plan entries) ∙ bits_small plan.bits (bitmap_of plan entries) is (bitmap-small plan entries is)))

@@ -1,5 +1,5 @@
 -- The data ring of a table as a list of bodies, and the same pages in the words of the model's image.
-use Rattle.std.proofs.Common.{◌≡◌, ℕ, zero, suc, ◌+◌, ◌-◌, ◌*◌, ◌%◌, ◌<◌, ◌≤◌, Bool, true, false, cond, ◌==◌, Option, Some, None, List, ◌++◌, length, take, drop, replicate, get_or, refl, sym, ◌∙◌, ap, subst, arith, ◌⊎◌, inl, inr, length-append, append_assoc, MatchBool}
+use Rattle.std.proofs.Common.{◌≡◌, ℕ, zero, suc, ◌+◌, ◌-◌, ◌*◌, ◌%◌, ◌<◌, ◌≤◌, Bool, true, false, cond, ◌==◌, Option, Some, None, List, ◌++◌, length, take, drop, replicate, get_or, refl, sym, ◌∙◌, ap, subst, arith, ◌⊎◌, inl, inr, length-append, MatchBool}
 use Rattle.std.proofs.lemmas.Bool.{cases_lt, cases_Bool, eqb-true as is_same, false≢true, and_from, and_parts}
 use Rattle.std.proofs.lemmas.Nat.Gcd.{mod-eq-zero_of_dvd, dvd_of_mod-eq-zero}
 use Rattle.std.specs.List.{slice_get, sum}
@@ -12,11 +12,12 @@ use Rattle.fl_mark.proofs.InModel.{model_state}
 use Rattle.fl_model.specs.Record.{Plan}
 use Rattle.fl_model.specs.Ring as model
 use Rattle.fl_model.specs.Table.{Table, Entry, DataRing, shape_of}
-use Rattle.fl_model.specs.Layout.{data_body, committed, is_blank}
+use Rattle.fl_model.specs.Layout.{data_body, is_blank}
 use Rattle.fl_model.specs.Image.{IsRingImage, HoldsRows, rows_at}
 use Rattle.fl_model.proofs.Lists.{slice_get-some, slice_get-short}
 use Rattle.fl_model.proofs.Pages.{page_with, pages_from, pages-length, pages-at}
 use Rattle.fl_ring.specs.Ring.{Shape, RingState, IsRing, OnRing, HoldsKept, place, count, oldest, committed_end}
+use Rattle.fl_ring.proofs.Images.{committed_is}
 use Rattle.fl_parts.specs.Pages.{bytes_in}
 
 -- where the data ring of a table stands whose blocks begin at `first`
@@ -77,9 +78,6 @@ pub blank-is : (size : ℕ) → is_blank (blank size) ≡ true
 blank-is zero = refl
 blank-is (suc size) = blank-is size
 
-pub committed-end : (body : List ℕ) → committed body ≡ body ++ committed_end
-committed-end body = append_assoc body (replicate 4 0) (replicate 4 255)
-
 -- a page with rows isn't void
 pub page-some : (plan : Plan) (number n : ℕ) (entries : List Entry) → 0 < n → page_with plan number n entries ≡ Some (data_body plan number (take n entries))
 page-some plan number n entries h = by_test (n == 0) refl
@@ -130,7 +128,7 @@ module _ (page : ℕ → List ℕ) (first : ℕ) (plan : Plan) (table : Table) (
           by_count : (0 < c) ⊎ (c ≤ 0) → HoldsKept (shape_in first plan) (page_with plan (model.oldest table.rows + i) c (drop (sum (take i table.rows.counts)) table.entries)) (page (place (shape_in first plan) (model.oldest table.rows + i)))
           by_count (inl some) =
               let body = data_body plan (model.oldest table.rows + i) (rows_at table i c) in
-              let is : page (place (shape_in first plan) (model.oldest table.rows + i)) ≡ body ++ committed_end = image.kept i c e some ∙ committed-end body in
+              let is : page (place (shape_in first plan) (model.oldest table.rows + i)) ≡ body ++ committed_end = image.kept i c e some ∙ committed_is body in
               subst (λ (x : Option (List ℕ)). HoldsKept (shape_in first plan) x (page (place (shape_in first plan) (model.oldest table.rows + i)))) (sym (page-some plan (model.oldest table.rows + i) c (drop (sum (take i table.rows.counts)) table.entries) some))
               (is, omega (arith, sizes (model.oldest table.rows + i), ap length is, length-append body committed_end))
           by_count (inr none) =
@@ -144,7 +142,7 @@ module _ (page : ℕ → List ℕ) (first : ℕ) (plan : Plan) (table : Table) (
     kept = λ i c e some.
         let body = data_body plan (model.oldest table.rows + i) (rows_at table i c) in
         (subst (λ (x : Option (List ℕ)). HoldsKept (shape_in first plan) x (page (place (shape_in first plan) (model.oldest table.rows + i)))) (page-some plan (model.oldest table.rows + i) c (drop (sum (take i table.rows.counts)) table.entries) some) (held i c e)).0
-        ∙ sym (committed-end body);
+        ∙ sym (committed_is body);
     blank_next = λ e. ap is_blank (subst (λ b. MatchBool b (state_of_page (page (place (shape_in first plan) table.rows.next)) ≡ Torn) (page (place (shape_in first plan) table.rows.next) ≡ blank plan.geometry.page)) e on.head) ∙ blank-is plan.geometry.page;
     torn_next = λ e. (in_model table.rows.next).torn.0 (subst (λ b. MatchBool b (state_of_page (page (place (shape_in first plan) table.rows.next)) ≡ Torn) (page (place (shape_in first plan) table.rows.next) ≡ blank plan.geometry.page)) e on.head);
     dirty = λ d. some_begun plan.geometry.block (on.waits d);

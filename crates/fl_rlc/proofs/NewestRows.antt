@@ -26,9 +26,9 @@ use Rattle.fl_ring.proofs.Found.{committed_state}
 use Rattle.fl_schema.specs.Form.{layout_with}
 use Rattle.fl_schema.specs.declared.column.ColumnType.{ColumnType}
 use Rattle.fl_schema.specs.declared.schema.KeyWidth.{KeyWidth}
+use Rattle.fl_ring.proofs.Images.{committed_is}
 use Rattle.fl_parts.proofs.BlobRows.{stored-row}
 use Rattle.fl_table.proofs.KeyOrder.{rising}
-use Rattle.fl_parts.proofs.States.{committed-end}
 use Rattle.fl_parts.specs.Reading.{keys_fault}
 use Rattle.fl_rlc.specs.Joining.{HasNewest}
 use Rattle.fl_rlc.specs.Memory.{next_in, oldest_in, page_in, log_shape}
@@ -133,7 +133,7 @@ module _ (l : RecordLog) (f : FlashState) (first : ℕ) (plan : Plan) (table : T
   committed-is : (i c : ℕ) → slice_get h.ring.counts i ≡ Some c → 0 < c → commits (state_of_page (page_in l f (model.oldest h.ring + i))) ≡ true
   committed-is i c e some =
       let held = h.pages.image.kept i c e some in
-      ap (λ (s : PageState). commits s) (ap state_of_page (held.bytes ∙ committed-end (log_body plan (model.oldest h.ring + i) held.holds)) ∙ committed_state (log_body plan (model.oldest h.ring + i) held.holds))
+      ap (λ (s : PageState). commits s) (ap state_of_page (held.bytes ∙ committed_is (log_body plan (model.oldest h.ring + i) held.holds)) ∙ committed_state (log_body plan (model.oldest h.ring + i) held.holds))
 
   void-is : (i : ℕ) → slice_get h.ring.counts i ≡ Some 0 → commits (state_of_page (page_in l f (model.oldest h.ring + i))) ≡ false
   void-is i e =

@@ -26,8 +26,8 @@ use Rattle.fl_page.specs.Page.{IsGoodPage, rows_in}
 use Rattle.fl_page.proofs.DataPages.{IsDataPage, data_page}
 use Rattle.fl_page.proofs.WriterSteps.{layout_some}
 use Rattle.fl_ring.proofs.Found.{committed_state}
+use Rattle.fl_ring.proofs.Images.{committed_is}
 use Rattle.fl_parts.proofs.KeptPages.{all-stored, sum-next}
-use Rattle.fl_parts.proofs.States.{committed-end}
 use Rattle.fl_salvage.specs.Pages.{found_at, has_rows, if_committed, numbered, numbers_at, page_of, with_number, with_passed}
 use Rattle.fl_salvage.specs.declared.passed_over.PassedOver.{PassedOver}
 use Rattle.fl_salvage.specs.Text.{Form, rows_of}
@@ -39,7 +39,7 @@ use Rattle.fl_saved.proofs.RingsOfImage.{IsHere, facts, idle, rows-at, rows-size
 
 -- a committed page
 pub state-committed : (body page : List ℕ) → page ≡ committed body → state_of_page page ≡ Committed
-state-committed body page is = ap state_of_page (is ∙ committed-end body) ∙ committed_state body
+state-committed body page is = ap state_of_page (is ∙ committed_is body) ∙ committed_state body
 
 -- ---- the numbers that are gathered
 
