@@ -7,6 +7,7 @@ use Rattle.std.proofs.lemmas.Option.{same_Some}
 use Rattle.fl_model.specs.Record.{RowLayout, layout_len}
 use Rattle.fl_model.specs.Row.{Row}
 use Rattle.fl_model.proofs.Lists.{slice_get-drop, slice_get-short}
+use Rattle.fl_model.proofs.CopiesAreParts.{all-back}
 use Rattle.fl_frame.specs.Contents.{Contents}
 use Rattle.fl_page.specs.Header.{page_number, page_count}
 use Rattle.fl_page.specs.Page.{IsGoodPage, rows_in, has_form}
@@ -26,7 +27,7 @@ use Rattle.fl_cursor.specs.declared.place.Place.TheVariants.{Pages, InPage, Ende
 use Rattle.fl_cursor.specs.declared.search.Sought.TheVariants.{Row as At, Behind, Nowhere}
 use Rattle.fl_cursor.specs.declared.place.Place.{Place}
 use Rattle.fl_cursor.proofs.IndexLookups.{due-nothing, looked-over}
-use Rattle.fl_cursor.proofs.PassedRows.{passes-all, passes-same, passes-end, passes-above, none-past, taken, each-front, each-back, Above}
+use Rattle.fl_cursor.proofs.PassedRows.{passes-all, passes-same, passes-end, passes-above, none-past, taken, each-front, Above}
 use Rattle.fl_cursor.proofs.TakenRows.{takes-row, moves-on, pages-taken}
 use Rattle.fl_cursor.proofs.Walks.{reached, passed, stopped, asked-over}
 
@@ -73,7 +74,7 @@ module _ {KNOTS SLOTS : ℕ} (old : Cursor KNOTS SLOTS) (number row : ℕ) (here
   -- no page behind the last key is asked for
   none-behind : (key : ℕ) (front : List Row) → is_last (asked_of old).top key ≡ true → Above key (front ++ rest) → least_from (table_of old) contents (asked_of old) (index_page old) old.place ≡ 0
   none-behind key front last above =
-      let behind = each-back (λ r. key < r.key) front rest above in
+      let behind = all-back (λ r. key < r.key) front rest above in
       let over = each-front (λ r. key < r.key) (rows_over (table_of old) contents (number + 1) (next_in (table_of old) - (number + 1))) (buffered_rows (table_of old)) behind in
       let asked = asked-over (table_of old) contents (asked_of old) key (next_in (table_of old) - (number + 1)) (number + 1) last over in
       let looked : index_least (table_of old) contents (asked_of old) (index_page old) (number + 1) ≡ 0 =

@@ -12,6 +12,7 @@ use Rattle.fl_index.proofs.Scans.{scanning-later, unread-fewer}
 use Rattle.fl_model.specs.Limits.{asks_values}
 use Rattle.fl_model.specs.Query.{Cursor, is_up_to}
 use Rattle.fl_model.specs.Row.{Row}
+use Rattle.fl_model.proofs.CopiesAreParts.{all-back}
 use Rattle.fl_frame.specs.Contents.{Contents}
 use Rattle.fl_table.specs.Memory.{next_in}
 use Rattle.fl_table.specs.Skipping.{AreScanning, unread_of, due_of}
@@ -19,7 +20,7 @@ use Rattle.fl_table.specs.declared.table.Table.{Table}
 use Rattle.fl_cursor.specs.Asked.{is_last}
 use Rattle.fl_cursor.specs.Listed.{rows_on, rows_over}
 use Rattle.fl_cursor.specs.Reads.{pages_looked_up, index_least}
-use Rattle.fl_cursor.proofs.PassedRows.{Above, past-last, each-front, each-back, each-weaker}
+use Rattle.fl_cursor.proofs.PassedRows.{Above, past-last, each-front, each-weaker}
 
 -- a scan that has come to a page has come to each later one
 pub looking-later : (bitmaps : Option BitmapIndex) (number later : ℕ) (buf : BufferState) → number ≤ later → AreScanning bitmaps number buf → AreScanning bitmaps later buf
@@ -80,7 +81,7 @@ looked-over t contents top key zero number last h = refl
 looked-over t contents top key (suc n) number last h =
     let here = none-up top key (rows_on t contents number) last (each-front (λ (row : Row). key < row.key) (rows_on t contents number) (rows_over t contents (number + 1) n) h) in
     ap (λ b. cond b (number ∷ pages_looked_up t contents top (number + 1) n) (pages_looked_up t contents top (number + 1) n)) here
-    ∙ looked-over t contents top key n (number + 1) last (each-back (λ (row : Row). key < row.key) (rows_on t contents number) (rows_over t contents (number + 1) n) h)
+    ∙ looked-over t contents top key n (number + 1) last (all-back (λ (row : Row). key < row.key) (rows_on t contents number) (rows_over t contents (number + 1) n) h)
 
 -- a page less is looked up from the next one on
 pub looked-less : {KNOTS SLOTS : ℕ} (t : Table KNOTS SLOTS) (contents : Contents) (asked : Cursor) (index : BufferState) (number : ℕ) → index_least t contents asked index (number + 1) ≤ index_least t contents asked index number

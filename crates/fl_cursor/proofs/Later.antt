@@ -21,7 +21,8 @@ use Rattle.fl_model.specs.Ring as rings
 use Rattle.fl_model.specs.Row.{Row, stored_row}
 use Rattle.fl_model.specs.Spline.{pages_from, pages_of, page_at}
 use Rattle.fl_model.specs.Table.{Entry, firsts}
-use Rattle.fl_model.proofs.Lists.{slice_get-short}
+use Rattle.fl_model.proofs.Lists.{slice_get-short, each-drop}
+use Rattle.fl_model.proofs.CopiesAreParts.{all-back}
 use Rattle.fl_frame.specs.Contents.{Contents}
 use Rattle.fl_page.specs.Steps.{Ascends}
 use Rattle.fl_page.proofs.RowsFrom.{drop-row}
@@ -37,7 +38,7 @@ use Rattle.fl_cursor.specs.Listed.{rows_on, rows_over, rows_of}
 use Rattle.fl_cursor.specs.Reads.{begins_by, start_of, pages_looked_up}
 use Rattle.fl_cursor.proofs.LowestPage.{standing-start, start-is, over-split}
 use Rattle.fl_cursor.proofs.StartSearch.{begins, first-front}
-use Rattle.fl_cursor.proofs.PassedRows.{each-front, each-back}
+use Rattle.fl_cursor.proofs.PassedRows.{each-front}
 use Rattle.fl_cursor.proofs.Selected.{all-up}
 use Rattle.fl_cursor.proofs.StartPlaces.{ascends-front}
 use Rattle.fl_cursor.proofs.Stood.{kept-rows, standing-rows, standing-ascends}
@@ -88,18 +89,6 @@ count-false q (x ∷ xs) h =
     let others = count-false q xs h in
     omega (arith, sum_by-cons (λ y. cond (q y) 1 0) x xs, here, others)
 
-each-drop : {X : Type 0} (P : X → Type 0) (n : ℕ) (xs : List X) → AllByRecursion P xs → AllByRecursion P (drop n xs)
-each-drop P zero [] h = h
-each-drop P zero (x ∷ xs) h = h
-each-drop P (suc n) [] h = h
-each-drop P (suc n) (x ∷ xs) h = each-drop P n xs h.1
-
-each-take : {X : Type 0} (P : X → Type 0) (n : ℕ) (xs : List X) → AllByRecursion P xs → AllByRecursion P (take n xs)
-each-take P zero [] h = tt
-each-take P zero (x ∷ xs) h = tt
-each-take P (suc n) [] h = tt
-each-take P (suc n) (x ∷ xs) h = (h.0, each-take P n xs h.1)
-
 -- the first row of a page that begins so
 begun-row : (key : ℕ) (rows : List Row) (row : Row) → slice_get rows 0 ≡ Some row → row.key ≤ key → begins_by key rows ≡ true
 begun-row key [] row e le = absurd (none-some row e)
@@ -148,7 +137,7 @@ module _ {KNOTS SLOTS : ℕ} (t : Table KNOTS SLOTS) (contents : Contents) where
       let at : oldest_in t + k ≡ n = omega (arith, low) in
       let many : next_in t - oldest_in t ≡ k + suc m = omega (arith, low, high) in
       let whole = ap (rows_over t contents (oldest_in t)) many ∙ over-split t contents k (suc m) (oldest_in t) in
-      let part = each-back P (rows_over t contents (oldest_in t) k) (rows_over t contents (oldest_in t + k) (suc m)) (subst (AllByRecursion P) whole all) in
+      let part = all-back P (rows_over t contents (oldest_in t) k) (rows_over t contents (oldest_in t + k) (suc m)) (subst (AllByRecursion P) whole all) in
       let here = each-front P (rows_on t contents n) (rows_over t contents (n + 1) m) (subst (λ j. AllByRecursion P (rows_over t contents j (suc m))) at part) in
       first-each P (rows_on t contents n) row first here
 
@@ -172,7 +161,7 @@ module _ {KNOTS SLOTS : ℕ} (t : Table KNOTS SLOTS) (contents : Contents) (h : 
       let is_first = drop-row (rows_on t contents b ++ rest) 0 y (first-front (rows_on t contents b) rest y first_y) in
       let ascends = subst (λ (xs : List Row). Ascends None (rows_over t contents (oldest_in t) (k + suc m) ++ xs)) is_first (subst (Ascends None) split (standing-ascends t contents h)) in
       let below = ascends-front None front y (drop 1 (rows_on t contents b ++ rest)) ascends in
-      let part = each-back (λ (r : Row). r.key < y.key) (rows_over t contents (oldest_in t) k) (rows_over t contents (oldest_in t + k) (suc m)) (subst (AllByRecursion (λ (r : Row). r.key < y.key)) (over-split t contents k (suc m) (oldest_in t)) below) in
+      let part = all-back (λ (r : Row). r.key < y.key) (rows_over t contents (oldest_in t) k) (rows_over t contents (oldest_in t + k) (suc m)) (subst (AllByRecursion (λ (r : Row). r.key < y.key)) (over-split t contents k (suc m) (oldest_in t)) below) in
       let here = each-front (λ (r : Row). r.key < y.key) (rows_on t contents a) (rows_over t contents (a + 1) m) (subst (λ j. AllByRecursion (λ (r : Row). r.key < y.key) (rows_over t contents j (suc m))) at part) in
       first-each (λ (r : Row). r.key < y.key) (rows_on t contents a) x first_x here
     where

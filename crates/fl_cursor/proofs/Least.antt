@@ -16,7 +16,8 @@ use Rattle.fl_model.specs.Ring.{Ring}
 use Rattle.fl_model.specs.Row.{Row, stored_row}
 use Rattle.fl_model.specs.Spline.{pages_from, pages_of}
 use Rattle.fl_model.specs.Table.{Entry, full_pages, firsts}
-use Rattle.fl_model.proofs.Lists.{slice_get-some}
+use Rattle.fl_model.proofs.Lists.{slice_get-some, each-take, each-drop}
+use Rattle.fl_model.proofs.BlobsStay.{drop_none, take_none}
 use Rattle.fl_frame.specs.Contents.{Contents}
 use Rattle.fl_page.specs.Steps.{Ascends}
 use Rattle.fl_table.specs.Look.{oldest_in, buffered_rows}
@@ -51,31 +52,11 @@ use Rattle.fl_cursor.proofs.Stood.{kept-rows, standing-rows, standing-ascends}
 
 -- ---- lists
 
-each-drop : {X : Type 0} (P : X → Type 0) (n : ℕ) (xs : List X) → AllByRecursion P xs → AllByRecursion P (drop n xs)
-each-drop P zero [] h = h
-each-drop P zero (x ∷ xs) h = h
-each-drop P (suc n) [] h = h
-each-drop P (suc n) (x ∷ xs) h = each-drop P n xs h.1
-
-each-take : {X : Type 0} (P : X → Type 0) (n : ℕ) (xs : List X) → AllByRecursion P xs → AllByRecursion P (take n xs)
-each-take P zero [] h = tt
-each-take P zero (x ∷ xs) h = tt
-each-take P (suc n) [] h = tt
-each-take P (suc n) (x ∷ xs) h = (h.0, each-take P n xs h.1)
-
 drop-at : (i x : ℕ) (xs : List ℕ) → slice_get xs i ≡ Some x → drop i xs ≡ x ∷ drop (suc i) xs
 drop-at i x [] e = absurd (none-some x e)
 drop-at zero x (y ∷ []) e = let same : y ≡ x = cc in ap (λ (z : ℕ). z ∷ []) same
 drop-at zero x (y ∷ z ∷ ys) e = let same : y ≡ x = cc in ap (λ (w : ℕ). w ∷ z ∷ ys) same
 drop-at (suc i) x (y ∷ ys) e = drop-at i x ys e
-
-drop-none : {X : Type 0} (xs : List X) → drop 0 xs ≡ xs
-drop-none [] = refl
-drop-none (x ∷ xs) = refl
-
-take-none : {X : Type 0} (xs : List X) → take 0 xs ≡ []
-take-none [] = refl
-take-none (x ∷ xs) = refl
 
 length-none : (xs : List ℕ) → length xs ≡ 0 → xs ≡ []
 length-none [] e = refl
@@ -186,9 +167,9 @@ module _ {KNOTS SLOTS : ℕ} (t : Table KNOTS SLOTS) (contents : Contents) (h : 
         let le = least-over (length h.table.rows.counts) 0 (omega arith) in
         let left : count_by (has_match asked.range asked.span) (pages_from (rings.oldest h.table.rows + 0) (drop 0 h.table.rows.counts) (drop (before 0) h.table.entries)) ≡ count_by (has_match asked.range asked.span) (pages_of h.table) =
         ap (λ a. count_by (has_match asked.range asked.span) (pages_from a (drop 0 h.table.rows.counts) (drop (before 0) h.table.entries))) from
-        ∙ (ap (λ (cs : List ℕ). count_by (has_match asked.range asked.span) (pages_from (rings.oldest h.table.rows) cs (drop (before 0) h.table.entries))) (drop-none h.table.rows.counts)
-        ∙ (ap (λ k. count_by (has_match asked.range asked.span) (pages_from (rings.oldest h.table.rows) h.table.rows.counts (drop k h.table.entries))) (ap sum (take-none h.table.rows.counts))
-        ∙ ap (λ (es : List Entry). count_by (has_match asked.range asked.span) (pages_from (rings.oldest h.table.rows) h.table.rows.counts es)) (drop-none h.table.entries))) in
+        ∙ (ap (λ (cs : List ℕ). count_by (has_match asked.range asked.span) (pages_from (rings.oldest h.table.rows) cs (drop (before 0) h.table.entries))) (drop_none h.table.rows.counts)
+        ∙ (ap (λ k. count_by (has_match asked.range asked.span) (pages_from (rings.oldest h.table.rows) h.table.rows.counts (drop k h.table.entries))) (ap sum (take_none h.table.rows.counts))
+        ∙ ap (λ (es : List Entry). count_by (has_match asked.range asked.span) (pages_from (rings.oldest h.table.rows) h.table.rows.counts es)) (drop_none h.table.entries))) in
         let right : pages_asked t contents asked (rings.oldest h.table.rows + 0) (length h.table.rows.counts) ≡ pages_asked t contents asked (oldest_in t) (next_in t - oldest_in t) =
         ap (λ a. pages_asked t contents asked a (length h.table.rows.counts)) at ∙ ap (λ n. pages_asked t contents asked (oldest_in t) n) many in
         omega (arith, le, left, right)

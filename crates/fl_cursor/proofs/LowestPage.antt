@@ -18,6 +18,7 @@ use Rattle.fl_model.specs.Row.{Row, stored_row}
 use Rattle.fl_model.specs.Spline.{page_at as page_with, is_pending_key, lookup_limit}
 use Rattle.fl_model.specs.Table as tables
 use Rattle.fl_model.specs.Table.{Entry, VarRing, lose, pending_entries}
+use Rattle.fl_model.proofs.CopiesAreParts.{all-back}
 use Rattle.fl_frame.specs.Contents.{Contents, contents_of}
 use Rattle.fl_ring.specs.Place.{shape_of}
 use Rattle.fl_search.specs.Search.{IsPageOf, starts_by}
@@ -37,7 +38,7 @@ use Rattle.fl_cursor.specs.Asked.{is_asked, row_matches, lowest, lowest_of}
 use Rattle.fl_cursor.specs.Cursor.{IsStanding}
 use Rattle.fl_cursor.specs.Listed.{rows_on, rows_over}
 use Rattle.fl_cursor.specs.Reads.{begins_by, start_among, start_of, most_to_find, pages_asked, raised}
-use Rattle.fl_cursor.proofs.PassedRows.{each-front, each-back}
+use Rattle.fl_cursor.proofs.PassedRows.{each-front}
 use Rattle.fl_cursor.proofs.Stood.{same-rows, standing-buffered}
 
 -- an index that stands on a flash stands on each with the same pages
@@ -179,7 +180,7 @@ pub raised-below : {KNOTS SLOTS : ℕ} (t : Table KNOTS SLOTS) (contents : Conte
 raised-below t contents asked zero number below = refl
 raised-below t contents asked (suc n) number below =
     let here = none-raised asked (rows_on t contents number) (each-front (λ row. row.key < lowest_of asked) (rows_on t contents number) (rows_over t contents (number + 1) n) below) in
-    let others = raised-below t contents asked n (number + 1) (each-back (λ row. row.key < lowest_of asked) (rows_on t contents number) (rows_over t contents (number + 1) n) below) in
+    let others = raised-below t contents asked n (number + 1) (all-back (λ row. row.key < lowest_of asked) (rows_on t contents number) (rows_over t contents (number + 1) n) below) in
     ap (λ b. cond b 1 0 + pages_asked t contents (raised asked) (number + 1) n) here ∙ omega (arith, others)
 
 -- what is asked from the lowest key on is asked

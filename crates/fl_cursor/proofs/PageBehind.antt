@@ -14,6 +14,7 @@ use Rattle.fl_model.specs.Row.{Row, stored_row}
 use Rattle.fl_model.specs.Spline.{page_key, pages_from, pages_of}
 use Rattle.fl_model.specs.Table.{Entry, first_key}
 use Rattle.fl_model.proofs.Lists.{slice_get-short}
+use Rattle.fl_model.proofs.BlobsStay.{drop_none}
 use Rattle.fl_frame.specs.Contents.{Contents}
 use Rattle.fl_table.specs.Look.{oldest_in, rows_noted}
 use Rattle.fl_table.specs.Memory.{next_in}
@@ -33,10 +34,6 @@ is_above_key high page = nat_lt high (page_key page)
 -- the rows of the i-th page
 abbrev page_rows : List ℕ → List Entry → ℕ → ℕ → List Entry
 page_rows counts entries i c = take c (drop (sum (take i counts)) entries)
-
-drop-none : {X : Type 0} (xs : List X) → drop 0 xs ≡ xs
-drop-none [] = refl
-drop-none (x ∷ xs) = refl
 
 -- the rows of a page behind the first one
 rows-later : (x : ℕ) (counts : List ℕ) (entries : List Entry) (i c : ℕ) → page_rows counts (drop x entries) i c ≡ page_rows (x ∷ counts) entries (suc i) c
@@ -83,7 +80,7 @@ above-at high first (x ∷ counts) entries page e = by_zero (x == 0) refl e (λ 
           at = let number = ap (λ (p : ℕ × List Entry). p.0) same in omega (arith, number);
           here = refl;
           some = some;
-          above = ap (λ (es : List Entry). nat_lt high (first_key (take x es))) (drop-none entries) ∙ is;
+          above = ap (λ (es : List Entry). nat_lt high (first_key (take x es))) (drop_none entries) ∙ is;
         }
     by_test false is some e others = begins-later high first x counts entries page.0 (others e)
 
@@ -91,7 +88,7 @@ above-at high first (x ∷ counts) entries page e = by_zero (x == 0) refl e (λ 
         slice_get (filter (is_above_key high) (cond b (pages_from (first + 1) counts entries) ((first, take x entries) ∷ pages_from (first + 1) counts (drop x entries)))) 0 ≡ Some page →
         ((es : List Entry) → slice_get (filter (is_above_key high) (pages_from (first + 1) counts es)) 0 ≡ Some page → BeginsAbove high (first + 1) counts es page.0) → BeginsAbove high first (x ∷ counts) entries page.0
     by_zero true z e others =
-        let none : drop x entries ≡ entries = ap (λ n. drop n entries) (eqb-true x 0 z) ∙ drop-none entries in
+        let none : drop x entries ≡ entries = ap (λ n. drop n entries) (eqb-true x 0 z) ∙ drop_none entries in
         begins-later high first x counts entries page.0 (subst (λ (es : List Entry). BeginsAbove high (first + 1) counts es page.0) (sym none) (others entries e))
     by_zero false z e others = by_test (nat_lt high (first_key (take x entries))) refl (not-zero x z) e (others (drop x entries))
 
@@ -109,7 +106,7 @@ first-above high first (x ∷ counts) entries zero c e some above = by_zero (x =
     same = same_Some _ _ e
 
     here : nat_lt high (first_key (take x entries)) ≡ true
-    here = ap (λ n. nat_lt high (first_key (take n entries))) same ∙ (sym (ap (λ (es : List Entry). nat_lt high (first_key (take c es))) (drop-none entries)) ∙ above)
+    here = ap (λ n. nat_lt high (first_key (take n entries))) same ∙ (sym (ap (λ (es : List Entry). nat_lt high (first_key (take c es))) (drop_none entries)) ∙ above)
 
     by_zero : (b : Bool) → (x == 0) ≡ b → FirstAbove high first (x ∷ counts) entries (first + 0)
     by_zero true z = let n = eqb-true x 0 z in absurd (omega (arith, n, same, some))
@@ -139,7 +136,7 @@ first-above high first (x ∷ counts) entries (suc i) c e some above =
 
     by_zero : (b : Bool) → (x == 0) ≡ b → FirstAbove high (first + 1) counts (drop x entries) (first + 1 + i) → FirstAbove high first (x ∷ counts) entries (first + suc i)
     by_zero true z later =
-        let none : drop x entries ≡ entries = ap (λ n. drop n entries) (eqb-true x 0 z) ∙ drop-none entries in
+        let none : drop x entries ≡ entries = ap (λ n. drop n entries) (eqb-true x 0 z) ∙ drop_none entries in
         record {
           page = later.page;
           is = ap (λ b. slice_get (filter (is_above_key high) (cond b (pages_from (first + 1) counts entries) ((first, take x entries) ∷ pages_from (first + 1) counts (drop x entries)))) 0) z

@@ -20,10 +20,6 @@ pub each-front : {X : Type 0} (P : X → Type 0) (xs ys : List X) → AllByRecur
 each-front P [] ys h = tt
 each-front P (x ∷ xs) ys h = (h.0, each-front P xs ys h.1)
 
-pub each-back : {X : Type 0} (P : X → Type 0) (xs ys : List X) → AllByRecursion P (xs ++ ys) → AllByRecursion P ys
-each-back P [] ys h = h
-each-back P (x ∷ xs) ys h = each-back P xs ys h.1
-
 pub each-weaker : {X : Type 0} (P Q : X → Type 0) (xs : List X) → ((x : X) → P x → Q x) → AllByRecursion P xs → AllByRecursion Q xs
 each-weaker P Q [] f h = tt
 each-weaker P Q (x ∷ xs) f h = (f x h.0, each-weaker P Q xs f h.1)

@@ -22,6 +22,7 @@ use Rattle.fl_model.specs.Row.{Row, stored_row}
 use Rattle.fl_model.specs.Table as model
 use Rattle.fl_model.specs.Table.{Entry, pending_entries}
 use Rattle.fl_model.proofs.Lists.{slice_get-some, slice_get-short}
+use Rattle.fl_model.proofs.BlobsStay.{take_none}
 use Rattle.fl_frame.specs.Contents.{Contents}
 use Rattle.fl_page.specs.Page.{IsGoodPage, rows_in}
 use Rattle.fl_page.specs.Steps.{Ascends}
@@ -51,10 +52,6 @@ where-committed Committed layout page some = refl
 where-committed Blank layout page some = absurd (omega (arith, some))
 where-committed Torn layout page some = absurd (omega (arith, some))
 where-committed Void layout page some = absurd (omega (arith, some))
-
-take_none : {X : Type 0} (xs : List X) → take 0 xs ≡ []
-take_none [] = refl
-take_none (x ∷ xs) = refl
 
 module _ {KNOTS SLOTS : ℕ} (t : Table KNOTS SLOTS) (contents : Contents) (h : IsStanding t contents) where
   abbrev table : model.Table

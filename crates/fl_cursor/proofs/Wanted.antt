@@ -22,6 +22,7 @@ use Rattle.fl_model.specs.Row.{Row, stored_row}
 use Rattle.fl_model.specs.Spline.{pages_from}
 use Rattle.fl_model.specs.Table.{Entry}
 use Rattle.fl_model.specs.Table as model
+use Rattle.fl_model.proofs.BlobsStay.{drop_none}
 use Rattle.fl_frame.specs.Contents.{Contents}
 use Rattle.fl_bitmap.proofs.StoredBits.{bits-same}
 use Rattle.fl_parts.specs.Bitmaps.{ArePlanned}
@@ -39,14 +40,6 @@ use Rattle.fl_cursor.proofs.PassedRows.{NotLeft}
 use Rattle.fl_cursor.proofs.Stood.{kept-rows, at-number, back, standing-many}
 
 -- ---- the rows of a page
-
-take-none : {X : Type 0} (xs : List X) → take 0 xs ≡ []
-take-none [] = refl
-take-none (x ∷ xs) = refl
-
-drop-none : {X : Type 0} (xs : List X) → drop 0 xs ≡ xs
-drop-none [] = refl
-drop-none (x ∷ xs) = refl
 
 abbrev is_at : ℕ → ℕ × List Entry → Bool
 is_at number page = page.0 == number
@@ -66,7 +59,7 @@ page-in first (x ∷ xs) entries zero c e some = by_zero (x == 0) refl
         let is : (first == first + 0) ≡ true = eq-eqb first (first + 0) at in
         let page : ℕ × List Entry = (first, take x entries) in
         ap (λ b. slice_get (cond b (page ∷ filter (is_at (first + 0)) (pages_from (first + 1) xs (drop x entries))) (filter (is_at (first + 0)) (pages_from (first + 1) xs (drop x entries)))) 0) is
-        ∙ (ap (λ n. Some (n, take x entries)) at ∙ (ap (λ n. Some (first + 0, take n entries)) same ∙ ap (λ (es : List Entry). Some (first + 0, take c es)) (sym (drop-none entries))))
+        ∙ (ap (λ n. Some (n, take x entries)) at ∙ (ap (λ n. Some (first + 0, take n entries)) same ∙ ap (λ (es : List Entry). Some (first + 0, take c es)) (sym (drop_none entries))))
 page-in first (x ∷ xs) entries (suc i) c e some = by_zero (x == 0) refl (λ es. page-in (first + 1) xs es i c e some)
   where
     at : first + 1 + i ≡ first + suc i

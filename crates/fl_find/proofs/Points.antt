@@ -13,15 +13,12 @@ use Rattle.fl_model.specs.Table.{Table, Entry, DataRing, shape_of, pending_entri
 use Rattle.fl_model.specs.Facts.{IsTable}
 use Rattle.fl_model.specs.Spline.{pages_from, page_key, points_of}
 use Rattle.fl_model.proofs.Lists.{slice_get-drop, slice_get-some}
+use Rattle.fl_model.proofs.BlobsStay.{drop_none, and_right}
 use Rattle.fl_spline.specs.Points.{IsFurther, IsPast, last_of}
 use Rattle.fl_spline.proofs.Lists.{last_of-push}
 use Rattle.fl_find.specs.Standing.{HasPoints}
 use Rattle.fl_find.specs.Laws.{MountsHavePoints}
 use Rattle.fl_find.proofs.Firsts.{points_from, sum-cons}
-
-drop_none : {X : Type 0} (xs : List X) → drop 0 xs ≡ xs
-drop_none [] = refl
-drop_none (x ∷ xs) = refl
 
 -- a page with rows, and the points after it
 points-suc : (number c : ℕ) (counts : List ℕ) (entries : List Entry) →
@@ -99,14 +96,10 @@ last-same front l points p q e =
     sym (last_of-push (front ++ l) p) ∙ (ap last_of (append_assoc front l (p ∷ [])) ∙ (ap last_of e ∙ last_of-push points q)) in
     cc
 
-both-right : (a b : Bool) → (a && b) ≡ true → b ≡ true
-both-right true b h = h
-both-right false b h = cc
-
 full-long : (blocks pages next count : ℕ) → IsShape (record { blocks = blocks; pages = pages }) → ((next % pages == pages - 1) && nat_lt ((blocks - 1) * pages - 1) count) ≡ true → pages < count
 full-long blocks pages next count shape full =
     let more : 2 * pages ≤ (blocks - 1) * pages = mul-le-mul_right pages (omega (arith, shape.blocks)) in
-    let lt = ltb-true ((blocks - 1) * pages - 1) count (both-right (next % pages == pages - 1) (nat_lt ((blocks - 1) * pages - 1) count) full) in
+    let lt = ltb-true ((blocks - 1) * pages - 1) count (and_right (next % pages == pages - 1) (nat_lt ((blocks - 1) * pages - 1) count) full) in
     omega (arith, more, lt, shape.pages)
 
 -- after a mount the points are those of the pages

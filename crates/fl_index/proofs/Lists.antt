@@ -8,6 +8,7 @@ use Rattle.fl_model.specs.Table.{full_pages}
 use Rattle.fl_model.specs.Layout.{IndexPage}
 use Rattle.fl_model.proofs.Lists.{slice_get-drop, slice_get-push, slice_get-short, slice_get-some, last_or-get}
 use Rattle.fl_model.proofs.FullPages.{full-split}
+use Rattle.fl_model.proofs.BlobsStay.{drop_none}
 
 pub drop-front : {X : Type 0} (k : ℕ) (xs ys : List X) → k ≤ length xs → drop k (xs ++ ys) ≡ drop k xs ++ ys
 drop-front zero [] ys h = none ys
@@ -19,17 +20,13 @@ drop-front zero (x ∷ xs) ys h = refl
 drop-front (suc k) [] ys h = absurd (omega arith)
 drop-front (suc k) (x ∷ xs) ys h = drop-front k xs ys (omega arith)
 
-pub drop-zero : {X : Type 0} (xs : List X) → drop 0 xs ≡ xs
-drop-zero [] = refl
-drop-zero (x ∷ xs) = refl
-
 drop-empty : {X : Type 0} (k : ℕ) → let xs : List X = [] in drop k xs ≡ []
 drop-empty zero = refl
 drop-empty (suc k) = refl
 
 -- the last of the others is the last of all, unless all are gone
 pub last-drop : {X : Type 0} (k : ℕ) (xs : List X) → (last_or None (drop k xs) ≡ None) ⊎ (last_or None (drop k xs) ≡ last_or None xs)
-last-drop zero xs = inr (ap (last_or None) (drop-zero xs))
+last-drop zero xs = inr (ap (last_or None) (drop_none xs))
 last-drop (suc k) [] = inl refl
 last-drop {X} (suc k) (x ∷ []) = inl (ap (last_or None) (drop-empty {X = X} k))
 last-drop (suc k) (x ∷ y ∷ ys) = last-drop k (y ∷ ys)

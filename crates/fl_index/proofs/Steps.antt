@@ -1,5 +1,5 @@
 -- What the steps of a ring make of the index ring, as a list of bodies and as a table.
-use Rattle.std.proofs.Common.{◌≡◌, ℕ, suc, ◌+◌, ◌-◌, ◌*◌, ◌%◌, ◌^◌, ◌<◌, ◌≤◌, ◌⊎◌, inl, inr, Bool, true, false, cond, ◌&&◌, ◌==◌, Option, Some, None, List, [], ◌∷◌, ◌++◌, length, take, drop, get_or, refl, sym, ◌∙◌, ap, subst, arith, length-append, length-drop}
+use Rattle.std.proofs.Common.{◌≡◌, ℕ, suc, ◌+◌, ◌-◌, ◌*◌, ◌%◌, ◌^◌, ◌<◌, ◌≤◌, ◌⊎◌, inl, inr, Bool, true, false, cond, ◌==◌, Option, Some, None, List, [], ◌∷◌, ◌++◌, length, take, drop, get_or, refl, sym, ◌∙◌, ap, subst, arith, length-append, length-drop}
 use Rattle.std.proofs.lemmas.Bool.{ltb-true, cases_lt}
 use Rattle.std.proofs.lemmas.List.{get_or-drop}
 use Rattle.std.proofs.Math.Nat.{mul-le-mul_right}
@@ -17,7 +17,8 @@ use Rattle.fl_ring.specs.Ring.{RingState, count, is_due, is_due_at, appended, tr
 use Rattle.fl_ring.proofs.Counts.{counts_sealed, counts_voided}
 use Rattle.fl_index.specs.Standing.{HasIndex}
 use Rattle.fl_model.proofs.FullPages.{full-append, full-pushed, full-dropped, full-split}
-use Rattle.fl_index.proofs.Lists.{drop-front, drop-zero, firsts_of, firsts-drop, end_after, end-drop, Ascend, ascend-drop, get_or-left, get_or-end, as-many-drop}
+use Rattle.fl_model.proofs.BlobsStay.{drop_none, and_right}
+use Rattle.fl_index.proofs.Lists.{drop-front, firsts_of, firsts-drop, end_after, end-drop, Ascend, ascend-drop, get_or-left, get_or-end, as-many-drop}
 use Rattle.fl_index.proofs.State.{shape_in, full_count, IsStateOf, holds-moved}
 
 -- each body lists what the table's index does
@@ -28,10 +29,6 @@ Bodies plan table ring s =
 -- the table with this index ring and these pages of it, where none waits
 abbrev pub with_index : Table → model.Ring → List IndexPage → Table
 with_index table ring pages = record table { index = Some ring; index_pages = pages; waiting = [] }
-
-and_right : (a b : Bool) → (a && b) ≡ true → b ≡ true
-and_right true b h = h
-and_right false b h = cc
 
 -- a ring that gives up a block keeps more pages than that
 long : (shape : model.Shape) (ring : model.Ring) (c : ℕ) → model.IsShape shape → model.is_full shape (model.extended c ring) ≡ true → shape.pages ≤ length ring.counts
@@ -161,12 +158,12 @@ module _ (first : ℕ) (plan : Plan) (shape : model.IsShape (shape_of plan Index
     ring_is = refl;
     is_ring = r;
     counts = counts_each;
-    index_each = ap (λ (fs : List IndexPage). length (fs ++ more)) (drop-zero table.index_pages) ∙ many;
-    firsts = subst (λ (fs : List IndexPage). Ascend (entries_per_page plan) (firsts_of (fs ++ more))) (sym (drop-zero table.index_pages)) rises;
+    index_each = ap (λ (fs : List IndexPage). length (fs ++ more)) (drop_none table.index_pages) ∙ many;
+    firsts = subst (λ (fs : List IndexPage). Ascend (entries_per_page plan) (firsts_of (fs ++ more))) (sym (drop_none table.index_pages)) rises;
     waiting = omega arith;
-    listed = let g = ap (λ (fs : List IndexPage). end_after (entries_per_page plan) (firsts_of (fs ++ more))) (drop-zero table.index_pages) in omega (arith, g, ends);
-    index_fit = subst (λ (fs : List IndexPage). AllByRecursion (λ (p : IndexPage). length p.entries ≡ entries_per_page plan) (fs ++ more)) (sym (drop-zero table.index_pages)) fit;
-    tell = λ n p at. tell n p (ap (λ (fs : List IndexPage). slice_get (fs ++ more) n) (sym (drop-zero table.index_pages)) ∙ at);
+    listed = let g = ap (λ (fs : List IndexPage). end_after (entries_per_page plan) (firsts_of (fs ++ more))) (drop_none table.index_pages) in omega (arith, g, ends);
+    index_fit = subst (λ (fs : List IndexPage). AllByRecursion (λ (p : IndexPage). length p.entries ≡ entries_per_page plan) (fs ++ more)) (sym (drop_none table.index_pages)) fit;
+    tell = λ n p at. tell n p (ap (λ (fs : List IndexPage). slice_get (fs ++ more) n) (sym (drop_none table.index_pages)) ∙ at);
     wait = λ j n lt at. absurd (nothing j lt);
     counted = is.facts.counted;
     number = omega (arith, left);
@@ -189,7 +186,7 @@ module _ (first : ℕ) (plan : Plan) (shape : model.IsShape (shape_of plan Index
       ∙ (ap (slice_get (table.index_pages ++ more)) (sym (full-dropped P i (ring.counts ++ c ∷ []))) ∙ g)))
       (pushed (P + i) body (omega (arith, lt, length-drop P (s.kept ++ x ∷ []))) (sym (get_or-drop P (s.kept ++ x ∷ []) i None) ∙ at))
   bodies_after false e i body lt at =
-      subst (λ (fs : List IndexPage). HoldsEntries plan (with_index table grown (fs ++ more)) grown i (entries_per_page plan) (committed body)) (sym (drop-zero table.index_pages)) (pushed i body lt at)
+      subst (λ (fs : List IndexPage). HoldsEntries plan (with_index table grown (fs ++ more)) grown i (entries_per_page plan) (committed body)) (sym (drop_none table.index_pages)) (pushed i body lt at)
 
   -- one page more is kept, and the oldest block goes where it has to
   pub state-kept : IsStateOf plan last_table (trimmed (shape_in first plan) (appended s x))
@@ -229,7 +226,7 @@ module _ (first : ℕ) (plan : Plan) (shape : model.IsShape (shape_of plan Index
     few = omega arith;
     counts = λ i. ap (slice_get (ring.counts ++ c ∷ [])) (let k : i ≡ 0 + i = omega arith in k);
     old = λ i. omega (arith, len, is.facts.is_ring.not_negative);
-    listed = λ i. ap (λ (fs : List IndexPage). slice_get (fs ++ more) (full_pages (take i (ring.counts ++ c ∷ [])))) (drop-zero table.index_pages)
+    listed = λ i. ap (λ (fs : List IndexPage). slice_get (fs ++ more) (full_pages (take i (ring.counts ++ c ∷ [])))) (drop_none table.index_pages)
         ∙ ap (λ n. slice_get (table.index_pages ++ more) (full_pages (take n (ring.counts ++ c ∷ [])))) (let k : i ≡ 0 + i = omega arith in k);
   }
 

@@ -15,9 +15,10 @@ use Rattle.fl_model.specs.Content.{ContentPage, content_page}
 use Rattle.fl_model.specs.Agrees.{content_at, reach_of, HoldsBlob, BlobsOf}
 use Rattle.fl_model.specs.Facts.{IsTable, is_some_ring}
 use Rattle.fl_model.specs.Query.{entry_at, page_stands, BlobState, Stands, Lost, blob_in}
-use Rattle.fl_model.specs.Limits.{scan_limit, past, page_behind, is_indexed, is_spanned, is_wanted, in_pages, first_page, last_page, numbers_of, numbers_from}
+use Rattle.fl_model.specs.Limits.{scan_limit, past, page_behind, is_indexed, is_spanned, is_wanted, in_pages, first_page, last_page, numbers_of}
 use Rattle.fl_base.specs.Bits.{bits}
 use Rattle.fl_model.specs.Spline.{lookup_limit, voids_of, is_pending_key, is_covered, retained}
+use Rattle.fl_model.proofs.EntriesStayTold.{numbers-length}
 use Rattle.fl_words.specs.Command as command
 use Rattle.fl_words.specs.Command.{Command}
 use Rattle.fl_machine.specs.Found.{HasRoom}
@@ -36,10 +37,6 @@ ring-short (suc b) pages next kept one some h =
 
 bits-few : (n : ℕ) → bits n ≤ 64
 bits-few n = omega arith
-
-numbers-length : (first n : ℕ) → length (numbers_from first n) ≡ n
-numbers-length first zero = refl
-numbers-length first (suc n) = ap suc (numbers-length (first + 1) n)
 
 -- a table of a small plan
 module _ (knots : ℕ) (plan : Plan) (table : Table) (small : IsSmallPlan plan) (room : HasRoom plan) (is : IsTable plan table) where

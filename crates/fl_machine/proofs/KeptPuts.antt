@@ -10,6 +10,7 @@ use Rattle.fl_model.specs.Ring.{Ring, oldest}
 use Rattle.fl_model.specs.Table.{Table, Entry, is_after, owed}
 use Rattle.fl_model.specs.Log.{last_key}
 use Rattle.fl_model.specs.Mount.{MountEnd, Mounts, turns_from}
+use Rattle.fl_model.proofs.BlobsStay.{drop_none, take_none}
 use Rattle.fl_words.specs.Command.{Command}
 use Rattle.fl_words.specs.Reply as reply
 use Rattle.fl_machine.specs.Machine.{Machine}
@@ -17,8 +18,7 @@ use Rattle.fl_machine.specs.Step.{Moment, StepOf, Says, EndsMount}
 use Rattle.fl_machine.specs.Run.{Run}
 use Rattle.fl_machine.specs.Found.{trimmed, ring_at, HasRoom, IsLoggedAtRest, IsMounting, LoggedPast, past_of, nothing_held, logged_stop_at, logged_passing, logged_past_after, IsLoggedFound}
 use Rattle.fl_machine.specs.Keeping.{sure, unsure, sure_at, tables_of, newer, PutSoFar, given_up_by, session_adds, mount_gives_up, standing_at, put_after, kept_of, IsKept, KeepsPuts, PutsAreKept}
-use Rattle.fl_machine.proofs.Logs.{Tops, drop_none, filter_all, filter_none, all_weaker, all_drop, is_last, last-key, not-lt}
-use Rattle.fl_machine.proofs.Trimmed.{take_none}
+use Rattle.fl_machine.proofs.Logs.{Tops, filter_all, filter_none, all_weaker, all_drop, is_last, last-key, not-lt}
 use Rattle.fl_machine.proofs.RecordsChange.{GoesOn}
 use Rattle.fl_machine.proofs.LoggedSteps.{IsLogKept, InSession, LogKeeps, stands-tops, stands-full, log-step, log-start}
 

@@ -11,8 +11,9 @@ use Rattle.fl_model.specs.Table.{Table, Entry, RingName, DataRing, IndexRing, Va
 use Rattle.fl_model.specs.Work.{Kind, Body, Mark, Erase}
 use Rattle.fl_model.specs.Within.{seal_within, seals_within, effect_within, all_done}
 use Rattle.fl_model.proofs.Among.{after_seals-append, seal-all_done, seals-all_done}
+use Rattle.fl_model.proofs.BlobsStay.{take_none}
 use Rattle.fl_machine.specs.Found.{HasRoom}
-use Rattle.fl_machine.proofs.Trimmed.{take_none, trimmed-sealed}
+use Rattle.fl_machine.proofs.Trimmed.{trimmed-sealed}
 use Rattle.fl_machine.proofs.Effects.{shape_ok}
 use Rattle.fl_machine.proofs.RecordsChange.{IsGreatest, IsLasting, Rows, marked_rows, rows_in, rows_with, sure_in, sure-idle, sure-ready, sure-joining}
 use Rattle.fl_machine.proofs.Logs.{Core, core, log_in, rest_of, owed_of, IsFine, front_of, EndsWhole, IsIdle, IsReady, IsJoining, Phase, Idle, Ready, Joining, past_in, lost, RestsAs, IsMarked, sealed-at, trimmed-seals, IsThere, rests-here, joining-some, marked-rests, marked-fine, marked-owed, marked-few, ready-owed, last-drop, begun-fine, begun-joining, logged-ready, logged-fine, logged-rests, joins, joins-fine, joins-ready, joins-idle, any-end}

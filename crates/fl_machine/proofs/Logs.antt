@@ -11,6 +11,8 @@ use Rattle.fl_model.specs.Ring.{Shape, IsShape, Ring, sealed, extended, is_full}
 use Rattle.fl_model.specs.Table.{Table, Entry, is_after}
 use Rattle.fl_model.specs.Log.{last_key}
 use Rattle.fl_model.proofs.Lists.{last_or-push, each-push}
+use Rattle.fl_model.proofs.CopiesAreParts.{lt-true, all-back}
+use Rattle.fl_model.proofs.BlobsStay.{drop_none}
 use Rattle.fl_machine.proofs.Trimmed.{full_long}
 use Rattle.fl_machine.specs.Found.{LoggedPast, trimmed}
 
@@ -138,10 +140,6 @@ pub record RestsAs (past : LoggedPast) (c : Core) : Type 0 where
 
 -- ---- lists
 
-pub drop_none : {X : Type 0} (xs : List X) → drop 0 xs ≡ xs
-drop_none [] = refl
-drop_none (x ∷ xs) = refl
-
 pub sum_take_more : (m n : ℕ) (xs : List ℕ) → sum (take (m + n) xs) ≡ sum (take m xs) + sum (take n (drop m xs))
 sum_take_more m n xs = ap sum (take-add m n xs) ∙ sum_by-append (λ (k : ℕ). k) (take m xs) (take n (drop m xs))
 
@@ -152,10 +150,6 @@ all_append P (x ∷ xs) ys h k = (h.0, all_append P xs ys h.1 k)
 pub all_front : {X : Type 0} (P : X → Type 0) (xs ys : List X) → AllByRecursion P (xs ++ ys) → AllByRecursion P xs
 all_front P [] ys h = tt
 all_front P (x ∷ xs) ys h = (h.0, all_front P xs ys h.1)
-
-pub all_back : {X : Type 0} (P : X → Type 0) (xs ys : List X) → AllByRecursion P (xs ++ ys) → AllByRecursion P ys
-all_back P [] ys h = h
-all_back P (x ∷ xs) ys h = all_back P xs ys h.1
 
 pub all_weaker : {X : Type 0} (P Q : X → Type 0) → ((x : X) → P x → Q x) → (xs : List X) → AllByRecursion P xs → AllByRecursion Q xs
 all_weaker P Q w [] h = tt
@@ -392,7 +386,7 @@ last-drop n xs w e = by_rest (drop n xs) refl e
     by_rest (y ∷ ys) q k = ap (last_or None) (sym (take-append-drop n xs) ∙ ap (λ (es : List Entry). take n xs ++ es) q) ∙ (last-append None (take n xs) y ys ∙ k)
 
 pub all_drop : {X : Type 0} (P : X → Type 0) (n : ℕ) (xs : List X) → AllByRecursion P xs → AllByRecursion P (drop n xs)
-all_drop P n xs h = all_back P (take n xs) (drop n xs) (subst (AllByRecursion P) (sym (take-append-drop n xs)) h)
+all_drop P n xs h = all-back P (take n xs) (drop n xs) (subst (AllByRecursion P) (sym (take-append-drop n xs)) h)
 
 pub is_last : (xs : List Entry) → (xs ≡ []) ⊎ ((w : Entry) × (last_or None xs ≡ Some w))
 is_last [] = inl refl
@@ -614,14 +608,6 @@ above-last others (x ∷ xs) n a some less w e = by_last x xs a.0 a.1 less
         unwrap_or (option_map (λ (y : Entry). y.kept.key) (last_or (Some y) zs)) 0 < n → w.kept.key < n
     by_last y [] t k l = let more = first_above y t in omega (arith, more, l)
     by_last y (z ∷ zs) t k l = by_last z zs k.0 k.1 l
-
--- a record above the last of others
-pub lt-true : (a b : ℕ) → a < b → nat_lt a b ≡ true
-lt-true a b h = by_test (nat_lt a b) refl
-  where
-    by_test : (t : Bool) → nat_lt a b ≡ t → t ≡ true
-    by_test true e = refl
-    by_test false e = let more = ltb-false a b e in absurd (omega (arith, more, h))
 
 above-all : (others : List Entry) (e : Entry) → ((w : Entry) → last_or None others ≡ Some w → w.kept.key < e.kept.key) → IsTrue (is_after others e)
 above-all others e h = by_last (last_or None others) refl

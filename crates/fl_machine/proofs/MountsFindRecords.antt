@@ -8,6 +8,7 @@ use Rattle.fl_model.specs.Record.{Plan, has_index, has_var, has_log}
 use Rattle.fl_model.specs.Table.{Table, Entry, RingName, DataRing, IndexRing, VarRing, LogRing, lose}
 use Rattle.fl_model.specs.Work.{Kind, Body, Mark, VoidMark, Erase, effect, Operation, done, Leaves, Either}
 use Rattle.fl_model.specs.Mount.{Turn, Of, Replay, turns_from}
+use Rattle.fl_model.proofs.BlobsStay.{take_none}
 use Rattle.fl_machine.specs.Found.{trimmed, HasRoom}
 use Rattle.fl_machine.proofs.Places.{RelAt, both-refl, rel-changed_by}
 use Rattle.fl_machine.proofs.Effects.{Numbered, SamePages, same-refl, trims-same, effect-other, effect-body, effect-erase, effect-void, effect-mark}
@@ -64,10 +65,6 @@ LosesTo old new =
     Numbered old →
     ((lose new).entries ≡ drop (trimmed old.rows new.rows) old.entries)
     ⊎ ((lose new).entries ≡ drop (trimmed old.rows new.rows) (take (length old.entries - old.pending) old.entries))
-
-take_none : {X : Type 0} (xs : List X) → take 0 xs ≡ []
-take_none [] = refl
-take_none (x ∷ xs) = refl
 
 take-drop : {X : Type 0} (n m : ℕ) (xs : List X) → take (m - n) (drop n xs) ≡ drop n (take m xs)
 take-drop n m xs = by_order (cases_lt m n)

@@ -11,9 +11,10 @@ use Rattle.std.proofs.lemmas.Option.{none-some}
 use Rattle.fl_model.specs.Table.{Entry, is_after}
 use Rattle.fl_model.specs.Log.{last_key}
 use Rattle.fl_model.proofs.Lists.{each-push}
+use Rattle.fl_model.proofs.CopiesAreParts.{lt-true}
+use Rattle.fl_model.proofs.BlobsStay.{drop_none, take_none}
 use Rattle.fl_machine.specs.Keeping.{sure}
-use Rattle.fl_machine.proofs.Trimmed.{take_none}
-use Rattle.fl_machine.proofs.Logs.{Core, sum_take_more, front_of, rest_of, owed_of, AreAbove, IsFine, IsReady, IsJoining, past_in, lost, front-all, owed-lost, ready-owed, filter_whole, Tops, tops-above, drop_none, all_drop, last-append, last-drop, is_last, last-key, lt-true, splits, rest-length, held-pending, owing-pending, unlogged-joining, joining-some, take_seam}
+use Rattle.fl_machine.proofs.Logs.{Core, sum_take_more, front_of, rest_of, owed_of, AreAbove, IsFine, IsReady, IsJoining, past_in, lost, front-all, owed-lost, ready-owed, filter_whole, Tops, tops-above, all_drop, last-append, last-drop, is_last, last-key, splits, rest-length, held-pending, owing-pending, unlogged-joining, joining-some, take_seam}
 
 -- some are left of the oldest, and new ones come above the last
 pub record GoesOn (xs ys : List Entry) : Type 0 where

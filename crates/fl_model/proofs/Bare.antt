@@ -92,7 +92,7 @@ within-bare plan (ring ∷ rings) t h = all_append (seal_within plan ring t) (se
     by_dirty false = (h.0, (h.0, tt))
 
 -- the seals of a put
-table-bare : (plan : Plan) (t : Table) → AreBare (table_seals plan t)
+pub table-bare : (plan : Plan) (t : Table) → AreBare (table_seals plan t)
 table-bare plan t = by_tests (t.pending == 0) (has_index plan && (length t.waiting == entries_per_page plan)) (nat_lt 0 (fill t))
   where
     by_tests : (z a b : Bool) → AreBare (cond z [] ((cond a (IndexRing ∷ []) []) ++ (cond b (VarRing ∷ []) []) ++ DataRing ∷ []))
@@ -102,7 +102,7 @@ table-bare plan t = by_tests (t.pending == 0) (has_index plan && (length t.waiti
     by_tests false false true = (tt, (tt, tt))
     by_tests false false false = (tt, tt)
 
-room-bare : (plan : Plan) (t : Table) → AreBare (make_room_seals plan t)
+pub room-bare : (plan : Plan) (t : Table) → AreBare (make_room_seals plan t)
 room-bare plan t = by_test (t.pending == rows_per_page plan)
   where
     by_test : (b : Bool) → AreBare (cond b (table_seals plan t) [])

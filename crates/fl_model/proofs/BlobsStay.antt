@@ -14,11 +14,11 @@ use Rattle.fl_model.specs.Agrees.{content_at, reach_of, HoldsBlob, BlobsOf}
 use Rattle.fl_model.proofs.FullPages.{full-dropped, full-pushed, full-within, full-last}
 use Rattle.fl_model.proofs.Lists.{slice_get-drop, slice_get-left, slice_get-last, slice_get-some}
 
-drop_none : {X : Type 0} (xs : List X) → drop 0 xs ≡ xs
+pub drop_none : {X : Type 0} (xs : List X) → drop 0 xs ≡ xs
 drop_none [] = refl
 drop_none (x ∷ xs) = refl
 
-take_none : {X : Type 0} (xs : List X) → take 0 xs ≡ []
+pub take_none : {X : Type 0} (xs : List X) → take 0 xs ≡ []
 take_none [] = refl
 take_none (x ∷ xs) = refl
 
@@ -209,7 +209,7 @@ module _ (plan : Plan) (table : Table) (ring : Ring) (numbered : length ring.cou
         stored = held.stored;
       }
 
-and_right : (a b : Bool) → (a && b) ≡ true → b ≡ true
+pub and_right : (a b : Bool) → (a && b) ≡ true → b ≡ true
 and_right true b h = h
 and_right false b h = cc
 

@@ -51,7 +51,7 @@ keeps-part held given left whole h k = subst (λ xs. IsPart xs whole) (sym k.kep
 
 -- ---- records after others
 
-all-back : {X : Type 0} (P : X → Type 0) (xs ys : List X) → AllByRecursion P (xs ++ ys) → AllByRecursion P ys
+pub all-back : {X : Type 0} (P : X → Type 0) (xs ys : List X) → AllByRecursion P (xs ++ ys) → AllByRecursion P ys
 all-back P [] ys h = h
 all-back P (x ∷ xs) ys h = all-back P xs ys h.1
 
@@ -70,7 +70,7 @@ ascends-front (x ∷ xs) ys h = (all-front xs ys h.0, ascends-front xs ys h.1)
 part-ascends : (part whole : List Record) → IsPart part whole → Ascends whole → Ascends part
 part-ascends part whole h a = ascends-front part h.after (ascends-back h.before (part ++ h.after) (subst Ascends h.is a))
 
-lt-true : (a b : ℕ) → a < b → nat_lt a b ≡ true
+pub lt-true : (a b : ℕ) → a < b → nat_lt a b ≡ true
 lt-true a b h = by_test (nat_lt a b) refl
   where
     by_test : (t : Bool) → nat_lt a b ≡ t → t ≡ true

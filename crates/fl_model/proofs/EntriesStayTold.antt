@@ -16,14 +16,7 @@ use Rattle.fl_model.specs.Agrees.{rows_at, Tells, TellsAt, is_told, TellPages}
 use Rattle.fl_model.specs.Facts.{IsTable}
 use Rattle.fl_model.specs.Telling.{TellingStays}
 use Rattle.fl_model.proofs.Lists.{slice_get-drop, slice_get-left, slice_get-push, slice_get-last, slice_get-short}
-
-drop_none : {X : Type 0} (xs : List X) → drop 0 xs ≡ xs
-drop_none [] = refl
-drop_none (x ∷ xs) = refl
-
-take_none : {X : Type 0} (xs : List X) → take 0 xs ≡ []
-take_none [] = refl
-take_none (x ∷ xs) = refl
+use Rattle.fl_model.proofs.BlobsStay.{drop_none, take_none}
 
 -- the entry at a place tells of each kept page with its number, where what is told doesn't change with the table
 abbrev TellsOf : Plan → Table → ℕ → Option IndexEntry → Type 0
@@ -210,7 +203,7 @@ abbrev rows_by : ℕ → List (ℕ × List Entry) → List Entry
 rows_by number pages = unwrap_or (option_map (λ (page : ℕ × List Entry). page.1) (slice_get (filter (λ (page : ℕ × List Entry). page.0 == number) pages) 0)) []
 
 -- no page from a number on has a lower one
-none-lower : (number first : ℕ) (counts : List ℕ) (entries : List Entry) → number < first → filter (λ (page : ℕ × List Entry). page.0 == number) (pages_from first counts entries) ≡ []
+pub none-lower : (number first : ℕ) (counts : List ℕ) (entries : List Entry) → number < first → filter (λ (page : ℕ × List Entry). page.0 == number) (pages_from first counts entries) ≡ []
 none-lower number first [] entries lt = refl
 none-lower number first (c ∷ cs) entries lt =
     by_count (c == 0) (none-lower number (first + 1) cs entries (omega (arith, lt))) (none-lower number (first + 1) cs (drop c entries) (omega (arith, lt)))
@@ -266,7 +259,7 @@ rows-by first (suc n) c (x ∷ cs) entries e = by_count (rows-by (first + 1) n c
         ∙ ap (take c) (drop-drop (sum (take n cs)) x entries ∙ ap (λ m. drop m entries) (let y : x + sum (take n cs) ≡ sum (take (suc n) (x ∷ cs)) = omega (arith, all) in y))))
 
 -- the entry of each number
-numbers-length : (first n : ℕ) → length (numbers_from first n) ≡ n
+pub numbers-length : (first n : ℕ) → length (numbers_from first n) ≡ n
 numbers-length first zero = refl
 numbers-length first (suc n) = ap suc (numbers-length (first + 1) n)
 

@@ -11,7 +11,7 @@ use Rattle.fl_model.specs.Facts.{IsTable, is_some_ring, counts_in}
 use Rattle.fl_model.specs.Agrees.{BlobsOf, HoldsBlob}
 use Rattle.fl_model.specs.Fresh.{NewTablesStand}
 
-ring-fresh : (shape : Shape) → IsRing shape fresh
+pub ring-fresh : (shape : Shape) → IsRing shape fresh
 ring-fresh shape = record {
   not_negative = omega arith;
   whole_blocks = dvd-zero shape.pages;

@@ -14,11 +14,12 @@ use Rattle.fl_model.specs.Table.{Table, Entry, DataRing, IndexRing, VarRing, Log
 use Rattle.fl_model.specs.Index.{IndexPage}
 use Rattle.fl_model.specs.Spline.{pages_from, pages_of}
 use Rattle.fl_model.specs.Agrees.{TellPages}
-use Rattle.fl_model.specs.Limits.{is_indexed, is_listed, numbers_of, numbers_from}
+use Rattle.fl_model.specs.Limits.{is_indexed, is_listed, numbers_of}
 use Rattle.fl_model.specs.MountLimit.{voids_at_end, ring_mount_limit, part_mount_limit, log_mount_limit, kept_in, full_mount_limit}
 use Rattle.fl_model.specs.Mount.{index_end, blob_end, renumber, least_alike}
 use Rattle.fl_model.specs.Facts.{IsTable, is_some_ring}
 use Rattle.fl_model.proofs.Lists.{slice_get-some, slice_get-short, last_or-get}
+use Rattle.fl_model.proofs.EntriesStayTold.{numbers-length}
 
 -- ---- which data pages are listed
 
@@ -240,10 +241,6 @@ log-mounts : (shape : Shape) (ring : Option Ring) (has : Bool) → is_some_ring 
     log_mount_limit shape ring ≤ 4 * (shape.blocks * shape.pages)
 log-mounts shape None has e is h = omega arith
 log-mounts shape (Some ring) has e is h = let reads = ring-mounts shape ring (is (sym e)) h in omega (arith, reads)
-
-numbers-length : (first n : ℕ) → length (numbers_from first n) ≡ n
-numbers-length first zero = refl
-numbers-length first (suc n) = ap suc (numbers-length (first + 1) n)
 
 pub mounts-short : (plan : Plan) (before after : Table) → IsTable plan before → IsTable plan after →
     IsShape (shape_of plan DataRing) → (IsTrue (has_index plan) → IsShape (shape_of plan IndexRing)) → (IsTrue (has_var plan) → IsShape (shape_of plan VarRing)) →

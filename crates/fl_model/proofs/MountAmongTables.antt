@@ -11,7 +11,7 @@ use Rattle.fl_model.specs.Within.{turn_within, at_place, TablePerforms, with_tab
 use Rattle.fl_model.proofs.Among.{turn-at, changed-by, changed-again, changed-there, changed-to_same, performs-at}
 
 -- the progress of a table doesn't ask what it was before
-progress-again : (place : ℕ) (tables : List Table) (table : Table) (now : PartProgress Table) → progress_at place (with_table place tables table) now ≡ progress_at place tables now
+pub progress-again : (place : ℕ) (tables : List Table) (table : Table) (now : PartProgress Table) → progress_at place (with_table place tables table) now ≡ progress_at place tables now
 progress-again place tables table now = rw (outcomes now.end, changed-again place table now.state tables) refl
   where
     outcomes : (o : PartEnd Table) → outcome_at place (with_table place tables table) o ≡ outcome_at place tables o

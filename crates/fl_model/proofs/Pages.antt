@@ -7,6 +7,7 @@ use Rattle.std.proofs.lemmas.Option.{none-some}
 use Rattle.fl_model.specs.Record.{Plan}
 use Rattle.fl_model.specs.Table.{Entry}
 use Rattle.fl_model.specs.Layout.{data_body}
+use Rattle.fl_model.proofs.BlobsStay.{drop_none, take_none}
 
 -- the body of a page with so many of these records, or none where it is void
 abbrev pub page_with : Plan → ℕ → ℕ → List Entry → Option (List ℕ)
@@ -20,10 +21,6 @@ pages_from plan number entries (count ∷ counts) = page_with plan number count 
 pub pages-length : (plan : Plan) (number : ℕ) (entries : List Entry) (counts : List ℕ) → length (pages_from plan number entries counts) ≡ length counts
 pages-length plan number entries [] = refl
 pages-length plan number entries (count ∷ counts) = ap suc (pages-length plan (number + 1) (drop count entries) counts)
-
-drop_none : {X : Type 0} (xs : List X) → drop 0 xs ≡ xs
-drop_none [] = refl
-drop_none (x ∷ xs) = refl
 
 -- dropping a first part and then more
 drop_more : (c : ℕ) (counts : List ℕ) (entries : List Entry) → drop (sum counts) (drop c entries) ≡ drop (sum (c ∷ counts)) entries
@@ -74,10 +71,6 @@ pages-at plan number entries (c ∷ counts) (suc i) count e =
     let n : number + 1 + i ≡ number + suc i = omega arith in
     pages-at plan (number + 1) (drop c entries) counts i count e
     ∙ (ap (λ k. page_with plan k count (drop (sum (take i counts)) (drop c entries))) n ∙ ap (page_with plan (number + suc i) count) (drop_more c (take i counts) entries))
-
-take_none : {X : Type 0} (xs : List X) → take 0 xs ≡ []
-take_none [] = refl
-take_none (x ∷ xs) = refl
 
 drop_nothing : {X : Type 0} (n : ℕ) → let xs : List X = [] in drop n xs ≡ []
 drop_nothing zero = refl

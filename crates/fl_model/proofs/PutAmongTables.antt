@@ -3,12 +3,13 @@ use Rattle.std.proofs.Common.{◌≡◌, ℕ, Bool, Some, List, refl, sym, ◌�
 use Rattle.std.specs.List.{slice_get}
 use Rattle.fl_model.specs.Record.{Record, Plan}
 use Rattle.fl_model.specs.Table.{Table, RingName, make_room_seals, join_seals, put_joined, put_record}
-use Rattle.fl_model.specs.Work.{Operation, Device, Progress, CutShort, Failed, Performs, operations_of, changed_at, PartEnd, Whole, CutIn, FailedIn, PartProgress}
+use Rattle.fl_model.specs.Work.{Operation, Device, Progress, Performs, operations_of, changed_at, PartEnd, Whole, CutIn, FailedIn, PartProgress}
 use Rattle.fl_model.specs.Within.{seals_within, effect_within, TablePerforms, with_table, outcome_at, progress_at}
 use Rattle.fl_model.specs.Puts.{PutGoesOn, TablePuts, TablePutGoesOn, join_operations}
 use Rattle.fl_model.specs.Laws.{TablesPut}
 use Rattle.fl_model.proofs.Performs.{performs-whole}
-use Rattle.fl_model.proofs.Among.{seals-all_done, seals-at, changed-at, changed-there, changed-again, performs-at}
+use Rattle.fl_model.proofs.Among.{seals-all_done, seals-at, changed-at, changed-there, performs-at}
+use Rattle.fl_model.proofs.MountAmongTables.{progress-again}
 
 -- seals of one table among all
 performs-seals : (plans : List Plan) (plan : Plan) (place : ℕ) (rose : Bool) (rings : List RingName) (device : Device) (tables : List Table) (table : Table) (now : PartProgress Table) →
@@ -17,15 +18,6 @@ performs-seals : (plans : List Plan) (plan : Plan) (place : ℕ) (rose : Bool) (
 performs-seals plans plan place rose rings device tables table now e k h =
     subst (λ (ops : List Operation). Performs plans rose ops device tables (progress_at place tables now)) (sym (seals-at plan place rings table))
     (performs-at plans plan place rose (seals_within plan rings table) device tables table now e k h)
-
--- the progress of a table doesn't ask what it was before
-progress-again : (place : ℕ) (tables : List Table) (table : Table) (now : PartProgress Table) → progress_at place (with_table place tables table) now ≡ progress_at place tables now
-progress-again place tables table now = rw (outcomes now.end, changed-again place table now.state tables) refl
-  where
-    outcomes : (o : PartEnd Table) → outcome_at place (with_table place tables table) o ≡ outcome_at place tables o
-    outcomes Whole = refl
-    outcomes (CutIn b) = ap (λ ts. CutShort ts) (changed-again place table b tables)
-    outcomes (FailedIn b) = ap (λ ts. Failed ts) (changed-again place table b tables)
 
 pub puts-at : TablesPut
 puts-at plans plan place rose item device tables table now e k (mid, did, goes) =

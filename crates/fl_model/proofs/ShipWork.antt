@@ -11,15 +11,12 @@ use Rattle.fl_model.specs.Within.{seals_within, effect_within, TablePerforms}
 use Rattle.fl_model.specs.Puts.{TablePuts, TablePutGoesOn}
 use Rattle.fl_model.specs.Ship.{records_in, KeepsOf}
 use Rattle.fl_model.specs.ShipWork.{TableShips, ShipKeeps}
+use Rattle.fl_model.proofs.BlobsStay.{drop_none}
 
 -- so many of the first records went
 pub record Drops (before after : List Record) : Type 0 where
   pub gone : ℕ
   pub is : after ≡ drop gone before
-
-drop_none : {X : Type 0} (xs : List X) → drop 0 xs ≡ xs
-drop_none [] = refl
-drop_none (x ∷ xs) = refl
 
 pub drops-none : (xs : List Record) → Drops xs xs
 drops-none xs = record { gone = 0; is = sym (drop_none xs) }

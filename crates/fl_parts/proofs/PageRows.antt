@@ -12,32 +12,13 @@ use Rattle.fl_model.specs.Record.{Plan, RowLayout}
 use Rattle.fl_model.specs.Ring.{oldest}
 use Rattle.fl_model.specs.Spline.{pages_from}
 use Rattle.fl_model.specs.Table.{Table, Entry}
+use Rattle.fl_model.proofs.EntriesStayTold.{none-lower, numbers-length}
+use Rattle.fl_model.proofs.BlobsStay.{drop_none, take_none}
 use Rattle.fl_parts.specs.Reading.{entries_on, entry_on}
-
-drop_none : {X : Type 0} (xs : List X) → drop 0 xs ≡ xs
-drop_none [] = refl
-drop_none (x ∷ xs) = refl
-
-take_none : {X : Type 0} (xs : List X) → take 0 xs ≡ []
-take_none [] = refl
-take_none (x ∷ xs) = refl
 
 -- the rows of a page by its number
 abbrev rows_by : ℕ → List (ℕ × List Entry) → List Entry
 rows_by number pages = unwrap_or (option_map (λ (page : ℕ × List Entry). page.1) (slice_get (filter (λ (page : ℕ × List Entry). page.0 == number) pages) 0)) []
-
--- no page from a number on has a lower one
-none-lower : (number first : ℕ) (counts : List ℕ) (entries : List Entry) → number < first → filter (λ (page : ℕ × List Entry). page.0 == number) (pages_from first counts entries) ≡ []
-none-lower number first [] entries lt = refl
-none-lower number first (c ∷ cs) entries lt =
-    by_count (c == 0) (none-lower number (first + 1) cs entries (omega (arith, lt))) (none-lower number (first + 1) cs (drop c entries) (omega (arith, lt)))
-  where
-    by_count : (b : Bool) → filter (λ (page : ℕ × List Entry). page.0 == number) (pages_from (first + 1) cs entries) ≡ [] →
-        filter (λ (page : ℕ × List Entry). page.0 == number) (pages_from (first + 1) cs (drop c entries)) ≡ [] →
-        filter (λ (page : ℕ × List Entry). page.0 == number) (cond b (pages_from (first + 1) cs entries) ((first, take c entries) ∷ pages_from (first + 1) cs (drop c entries))) ≡ []
-    by_count true h k = h
-    by_count false h k = ap (λ t. cond t ((first, take c entries) ∷ filter (λ (page : ℕ × List Entry). page.0 == number) (pages_from (first + 1) cs (drop c entries))) (filter (λ (page : ℕ × List Entry). page.0 == number) (pages_from (first + 1) cs (drop c entries))))
-        (ne_eqb first number (λ e. omega (arith, e, lt))) ∙ k
 
 rows-by : (first n c : ℕ) (counts : List ℕ) (entries : List Entry) → slice_get counts n ≡ Some c → rows_by (first + n) (pages_from first counts entries) ≡ take c (drop (sum (take n counts)) entries)
 rows-by first n c [] entries e = absurd (none-some c e)
@@ -86,10 +67,6 @@ pub page-rows : (table : Table) (n c : ℕ) → slice_get table.rows.counts n �
 page-rows table n c e = rows-by (oldest table.rows) n c table.rows.counts table.entries e
 
 -- ---- entries of pages
-
-numbers-length : (first n : ℕ) → length (numbers_from first n) ≡ n
-numbers-length first zero = refl
-numbers-length first (suc n) = ap suc (numbers-length (first + 1) n)
 
 -- those of a table's rows, of so many pages from one on
 abbrev pub entries_from : Plan → Table → ℕ → ℕ → List IndexEntry

@@ -8,7 +8,7 @@ use Rattle.fl_model.specs.Row.{stored_row}
 use Rattle.fl_model.specs.Table.{Table, Entry, LogRing, table_seals, flushed, pending_entries, fill, lose, log_pages}
 use Rattle.fl_model.specs.Within.{seals_within}
 use Rattle.fl_model.specs.Work.{Device, PartProgress}
-use Rattle.fl_model.proofs.Bare.{bare-tables}
+use Rattle.fl_model.proofs.Bare.{bare-tables, table-bare}
 use Rattle.fl_machine.proofs.RecordsChange.{Any, any-last}
 use Rattle.fl_machine.proofs.LogTables.{Between, flush-goes, flush-between}
 use Rattle.fl_page.specs.Writer.{Gathers}
@@ -36,7 +36,6 @@ use Rattle.fl_rlc.proofs.Frames.{log-bytes, log-still}
 use Rattle.fl_rlc.proofs.JoinedRow.{ring-moved}
 use Rattle.fl_rlc.proofs.Puts.{log-stands, between, room, fault-beside, fault-broken}
 use Rattle.fl_rlc.proofs.PutRows.{none-left, sealed-none}
-use Rattle.fl_rlc.proofs.PutSteps.{table-bare}
 use Rattle.fl_rlc.proofs.Stops.{stops-fine, unbeside}
 
 -- a log whose next page no longer has the pending rows of a table

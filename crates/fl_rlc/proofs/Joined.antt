@@ -13,7 +13,8 @@ use Rattle.fl_model.specs.Mount.{joined}
 use Rattle.fl_model.specs.Record.{Plan, has_var, key_limit, rows_per_page, content_per_page}
 use Rattle.fl_model.specs.Table.{Table, Entry, RingName, VarRing, LogRing, Refusal, BadKey, after_seals, is_after, is_rows_spent, owed, written, refusal_of, put_joined, put_record, with_room, with_record, join_seals, log_seals, table_seals, refuse_if}
 use Rattle.fl_model.proofs.Lists.{last_or-push}
-use Rattle.fl_machine.proofs.Logs.{filter_all, lt-true}
+use Rattle.fl_model.proofs.CopiesAreParts.{lt-true}
+use Rattle.fl_machine.proofs.Logs.{filter_all}
 use Rattle.fl_machine.proofs.LogTables.{takes}
 use Rattle.fl_rlc.specs.Joining.{more, taken, all_taken}
 use Rattle.fl_rlc.proofs.NewestRows.{fits-plain}

@@ -12,8 +12,9 @@ use Rattle.fl_model.specs.Mount.{joined}
 use Rattle.fl_model.specs.Record.{Plan, has_index, entries_per_page}
 use Rattle.fl_model.specs.Ring.{IsShape}
 use Rattle.fl_model.specs.Table.{Table, Entry, DataRing, IndexRing, VarRing, shape_of, after_seal, after_seals, table_seals, fill, has_rows, is_after, is_rows_spent, log_pages, owed}
+use Rattle.fl_model.proofs.CopiesAreParts.{all-back}
 use Rattle.fl_machine.specs.Found.{HasRoom}
-use Rattle.fl_machine.proofs.Logs.{core, front_of, Tops, all_weaker, all_back, filter_none, front-all, is_last, last-append, last-key, not-lt, replayed-owed, ascending-tops}
+use Rattle.fl_machine.proofs.Logs.{core, front_of, Tops, all_weaker, filter_none, front-all, is_last, last-append, last-key, not-lt, replayed-owed, ascending-tops}
 use Rattle.fl_machine.proofs.LogTables.{marked-by, seals_by}
 
 -- ---- lists
@@ -76,7 +77,7 @@ pub logged-tops : (plan : Plan) (table : Table) → AllByRecursion (IsLogPage pl
 logged-tops plan table fit some = by-rows (has_rows table.log) refl fit
   where
     by-rows : (b : Bool) → has_rows table.log ≡ b → AllByRecursion (IsLogPage plan) (table.logged_before ++ cond b (table.logged ∷ []) []) → Tops table.logged
-    by-rows true e h = ascending-tops table.logged (all_back (IsLogPage plan) table.logged_before (table.logged ∷ []) h).0.ascending
+    by-rows true e h = ascending-tops table.logged (all-back (IsLogPage plan) table.logged_before (table.logged ∷ []) h).0.ascending
     by-rows false e h = subst Tops (sym (some e)) tt
 
 -- ---- the seals of what joined

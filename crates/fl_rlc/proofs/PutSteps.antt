@@ -1,36 +1,19 @@
 -- A put of a table without its log, and the seal of its log after it, are the put of the table with it.
-use Rattle.std.proofs.Common.{◌≡◌, ℕ, Bool, true, false, cond, ◌==◌, nat_lt, zero, suc, ◌&&◌, List, [], ◌∷◌, ◌++◌, length, replicate, refl, sym, ◌∙◌, ap, subst}
+use Rattle.std.proofs.Common.{◌≡◌, ℕ, Bool, true, cond, zero, suc, List, [], ◌∷◌, ◌++◌, replicate, refl, sym, ◌∙◌, ap, subst}
 use Rattle.std.proofs.lemmas.List.{append-nil}
 use Rattle.fl_model.specs.Bare.{bare, bare_table, Log, log_of, beside, end_beside, progress_beside, AreBare}
 use Rattle.fl_model.specs.Puts.{TablePuts, TablePutGoesOn}
-use Rattle.fl_model.specs.Record.{Record, Plan, has_log, has_index, entries_per_page, rows_per_page}
-use Rattle.fl_model.specs.Table.{Table, RingName, IndexRing, DataRing, VarRing, LogRing, after_seal, after_seals, table_seals, make_room_seals, put_joined, put_record, join_seals, log_seals, fill, fill_seals}
+use Rattle.fl_model.specs.Record.{Record, Plan, has_log}
+use Rattle.fl_model.specs.Table.{Table, RingName, IndexRing, DataRing, VarRing, LogRing, after_seal, after_seals, make_room_seals, put_joined, put_record, join_seals, log_seals, fill_seals}
 use Rattle.fl_model.specs.Within.{seal_within, seals_within, effect_within, TablePerforms}
 use Rattle.fl_model.specs.Work.{Kind, Device, PartEnd, Whole, CutIn, FailedIn, PartProgress}
 use Rattle.fl_model.proofs.Among.{after_seals-append, seals-all_done}
-use Rattle.fl_model.proofs.Bare.{bare-tables}
+use Rattle.fl_model.proofs.Bare.{bare-tables, room-bare}
 use Rattle.fl_model.proofs.Performs.{performs-front, performs-more, performs-whole}
 use Rattle.fl_table.proofs.SealsInTurn.{within-append}
 use Rattle.fl_rlc.proofs.Stops.{unbeside}
 
 -- ---- seals of other rings than the log
-
-pub table-bare : (plan : Plan) (t : Table) → AreBare (table_seals plan t)
-table-bare plan t = by_tests (t.pending == 0) (has_index plan && (length t.waiting == entries_per_page plan)) (nat_lt 0 (fill t))
-  where
-    by_tests : (z a b : Bool) → AreBare (cond z [] ((cond a (IndexRing ∷ []) []) ++ (cond b (VarRing ∷ []) []) ++ DataRing ∷ []))
-    by_tests true a b = tt
-    by_tests false true true = (tt, (tt, (tt, tt)))
-    by_tests false true false = (tt, (tt, tt))
-    by_tests false false true = (tt, (tt, tt))
-    by_tests false false false = (tt, tt)
-
-room-bare : (plan : Plan) (t : Table) → AreBare (make_room_seals plan t)
-room-bare plan t = by_test (t.pending == rows_per_page plan)
-  where
-    by_test : (b : Bool) → AreBare (cond b (table_seals plan t) [])
-    by_test true = table-bare plan t
-    by_test false = tt
 
 vars-bare : (n : ℕ) → AreBare (replicate n VarRing)
 vars-bare zero = tt

@@ -12,7 +12,7 @@ use Rattle.fl_model.specs.Table.{Table, Entry, RingName, LogRing, fill, has_rows
 use Rattle.fl_model.specs.Within.{TablePerforms, TableGoesOn, TableMountEnd, TableMounts, TableMounted, TableStopped, TableUnread, TableUnreads, seals_within, repair_within, effect_within}
 use Rattle.fl_model.specs.Work.{Device, PartEnd, Whole, CutIn, FailedIn, PartProgress}
 use Rattle.fl_model.proofs.Among.{seals-all_done}
-use Rattle.fl_model.proofs.Bare.{bare-tables}
+use Rattle.fl_model.proofs.Bare.{bare-tables, table-bare}
 use Rattle.fl_model.proofs.Performs.{performs-whole}
 use Rattle.fl_frame.specs.Device.{SameDevice}
 use Rattle.fl_ring.specs.Ring as ring
@@ -42,7 +42,6 @@ use Rattle.fl_rlc.proofs.Joined.{nothing-joins}
 use Rattle.fl_rlc.proofs.JoinedRow.{same-pages}
 use Rattle.fl_rlc.proofs.Paid.{logged-tops, sealed-paid}
 use Rattle.fl_rlc.proofs.PutRows.{sealed-none}
-use Rattle.fl_rlc.proofs.PutSteps.{table-bare}
 use Rattle.fl_rlc.proofs.MountApart.{fault-beside}
 
 -- a ring stands for that of each table with the same log, and on each flash on which its pages stand

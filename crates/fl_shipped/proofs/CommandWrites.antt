@@ -11,6 +11,7 @@ use Rattle.fl_model.specs.Puts.{Puts}
 use Rattle.fl_model.specs.Record.{Config, Plan, Record}
 use Rattle.fl_model.specs.Table.{Entry, Table, flushed, lose, put_record, refusal_of, table_seals, written}
 use Rattle.fl_model.specs.Work.{CutShort, Device, Failed, Finished, Outcome, Progress, changed_at}
+use Rattle.fl_model.proofs.BlobsStay.{take_none}
 use Rattle.fl_words.specs.Command as command
 use Rattle.fl_words.specs.Command.{Command}
 use Rattle.fl_words.specs.Reply as reply
@@ -28,10 +29,6 @@ use Rattle.fl_shipped.proofs.PagesAtPlace.{At, FailsWell, LeftAt, flush-there, l
 
 pub same-table : (tables : List Table) (p : ℕ) (a b : Table) → slice_get tables p ≡ Some a → slice_get tables p ≡ Some b → a ≡ b
 same-table tables p a b e k = let q : Some a ≡ Some b = sym e ∙ k in cc (q)
-
-none-taken : {X : Type 0} (xs : List X) → take 0 xs ≡ []
-none-taken [] = refl
-none-taken (x ∷ xs) = refl
 
 -- ---- what is known of a table between two commands
 
@@ -58,7 +55,7 @@ pub record StepKeeps (Bad : Type 0) (plan : Plan) (p : ℕ) (written : List Reco
 none-written : (plan : Plan) (x y : Table) (c : Command) → y.rows.next ≡ x.rows.next → written_by plan x y c ≡ []
 none-written plan x y c e =
     let z : y.rows.next - x.rows.next ≡ 0 = omega (arith, e) in
-    ap (λ n. joined (take n (sealed_pages plan x c))) z ∙ ap joined (none-taken (sealed_pages plan x c))
+    ap (λ n. joined (take n (sealed_pages plan x c))) z ∙ ap joined (take_none (sealed_pages plan x c))
 
 pub kept-none : (Bad : Type 0) (plan : Plan) (written : List Record) (x y : Table) (c : Command) → written_by plan x y c ≡ [] → Kept Bad written y → Kept Bad (written ++ written_by plan x y c) y
 kept-none Bad plan written x y c none h = subst (λ (rs : List Record). Kept Bad rs y) (sym (ap (λ (rs : List Record). written ++ rs) none ∙ append-nil written)) h

@@ -4,9 +4,10 @@ use Rattle.std.specs.List.{AllByRecursion, last_or}
 use Rattle.std.proofs.lemmas.Bool.{cases_lt}
 use Rattle.std.proofs.lemmas.List.{drop_all, drop-append-le, drop-drop}
 use Rattle.std.proofs.Math.Seq.{drop-length}
-use Rattle.fl_machine.proofs.Logs.{all_back, all_front}
+use Rattle.fl_machine.proofs.Logs.{all_front}
 use Rattle.fl_model.specs.Record.{Record}
 use Rattle.fl_model.specs.Ship.{Ascends}
+use Rattle.fl_model.proofs.CopiesAreParts.{all-back}
 
 -- ---- lists of which the oldest records went
 
@@ -45,7 +46,7 @@ ascends-push (x ∷ []) item h above = ((above x refl, tt), (tt, tt))
 ascends-push (x ∷ y ∷ ys) item h above =
     let rest = ascends-push (y ∷ ys) item h.1 above in
     let next : x.key < y.key = h.0.0 in
-    let last : y.key < item.key = (all_back (λ (other : Record). y.key < other.key) ys (item ∷ []) rest.0).0 in
+    let last : y.key < item.key = (all-back (λ (other : Record). y.key < other.key) ys (item ∷ []) rest.0).0 in
     ((next, all-push ys (item ∷ []) h.0.1 (omega (arith, next, last), tt)), rest)
   where
     all-push : (zs more : List Record) → AllByRecursion (λ (other : Record). x.key < other.key) zs → AllByRecursion (λ (other : Record). x.key < other.key) more → AllByRecursion (λ (other : Record). x.key < other.key) (zs ++ more)

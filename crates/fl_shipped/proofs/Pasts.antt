@@ -2,11 +2,11 @@
 use Rattle.std.proofs.Common.{◌≡◌, List, [], ◌∷◌, ◌++◌, refl, sym, ◌∙◌, ap, subst, inr}
 use Rattle.std.specs.List.{AllByRecursion}
 use Rattle.std.proofs.lemmas.List.{append-nil, append_assoc}
-use Rattle.fl_machine.proofs.Logs.{all_back, all_weaker}
+use Rattle.fl_machine.proofs.Logs.{all_weaker}
 use Rattle.fl_model.specs.Record.{Record}
 use Rattle.fl_model.specs.Ship.{Ascends, IsPart, IsWhole, Shipment, ShipmentStep, Shipments, nothing_yet}
 use Rattle.fl_model.proofs.Lists.{each-push}
-use Rattle.fl_model.proofs.CopiesAreParts.{parts}
+use Rattle.fl_model.proofs.CopiesAreParts.{parts, all-back}
 use Rattle.fl_shipped.proofs.Orders.{ascends-front}
 
 -- steps that led from nothing to this shipment; all that was written before begins what was ever written
@@ -42,7 +42,7 @@ past-begins = record {
 
 pub past-part : (now : Shipment) → Past now → Ascends now.ever → IsPart now.copy now.ever
 past-part now past a =
-    (all_back IsWhole past.before (now ∷ [])
+    (all-back IsWhole past.before (now ∷ [])
     (parts (past.before ++ now ∷ []) past.steps
     (each-push (λ (s : Shipment). Ascends s.ever) past.before now
     (all_weaker (λ (s : Shipment). (more : List Record) × (now.ever ≡ s.ever ++ more)) (λ (s : Shipment). Ascends s.ever) (λ s h. ascends-front s.ever h.0 (subst Ascends h.1 a)) past.before past.written) a))).0

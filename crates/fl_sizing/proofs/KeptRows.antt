@@ -6,27 +6,16 @@ use Rattle.std.proofs.Math.Nat.{add-mul, mod-add-div', mul-le-mul_right, mul-le-
 use Rattle.std.proofs.lemmas.Bool.{cases_lt, false≢true}
 use Rattle.std.proofs.lemmas.List.Sums.{sum_by-cons}
 use Rattle.std.proofs.lemmas.Nat.{mod_below}
-use Rattle.std.proofs.lemmas.Nat.Gcd.{dvd-zero}
 use Rattle.fl_model.specs.Record.{Plan, has_index, rows_per_page, entries_per_page}
 use Rattle.fl_model.specs.Ring.{Shape, IsShape, Ring, IsRing, fresh, sealed, extended, erased, is_full}
 use Rattle.fl_model.specs.MountLimit.{ring_mount_limit, voids_at_end}
 use Rattle.fl_model.specs.Table.{DataRing, shape_of}
 use Rattle.fl_model.proofs.RingFactsStay.{ring-sealed}
 use Rattle.fl_model.proofs.Lists.{each-drop, each-push}
+use Rattle.fl_model.proofs.Fresh.{ring-fresh}
 use Rattle.fl_sizing.specs.Rings.{rounded_up, least_pages, most_pages, blocks_for, end_reads}
 use Rattle.fl_sizing.specs.Sizes.{rows_kept, index_pages, index_blocks}
 use Rattle.fl_sizing.specs.Laws.{sealed_all, KeepsPages, IsEnough}
-
-ring-fresh : (shape : Shape) → IsRing shape fresh
-ring-fresh shape = record {
-  not_negative = omega arith;
-  whole_blocks = dvd-zero shape.pages;
-  whole_rounds = λ few. dvd-zero _;
-  kept = omega arith;
-  kept_at_end = λ e. omega arith;
-  dirty_at_end = λ d. absurd (false≢true d);
-  not_both = λ d. false≢true d;
-}
 
 ring-erased : (shape : Shape) (ring : Ring) → IsRing shape ring → IsRing shape (erased ring)
 ring-erased shape ring h = record {

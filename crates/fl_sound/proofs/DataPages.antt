@@ -12,6 +12,7 @@ use Rattle.fl_model.specs.Table.{Table, Entry}
 use Rattle.fl_model.proofs.Lists.{slice_get-some}
 use Rattle.fl_model.specs.BlobEnds.{blobs_end}
 use Rattle.fl_model.proofs.BlobEnds.{ends-append}
+use Rattle.fl_model.proofs.BlobsStay.{take_none}
 use Rattle.fl_page.specs.Page.{rows_in}
 use Rattle.fl_page.specs.Steps.{Ascends}
 use Rattle.fl_ring.specs.Newest.{commits}
@@ -22,7 +23,7 @@ use Rattle.fl_rules.specs.Tally.{tally_of}
 use Rattle.fl_rules.specs.declared.numbering.Numbering.{Numbering}
 use Rattle.fl_check.proofs.RingReads.{Reads}
 use Rattle.fl_sound.specs.Sound.{void_pages}
-use Rattle.fl_sound.proofs.Lists.{take-none, take-next, rows-behind, last-behind, ascends-behind, ascends-front}
+use Rattle.fl_sound.proofs.Lists.{take-next, rows-behind, last-behind, ascends-behind, ascends-front}
 
 pub voids-append : (a b : List ℕ) → void_pages (a ++ b) ≡ void_pages a + void_pages b
 voids-append a b = sum_by-append (λ (x : ℕ). cond (x == 0) 1 0) a b
@@ -62,7 +63,7 @@ module _ (layout : RowLayout) (page : ℕ → List ℕ) (d : Shape) (at_least : 
   -- ---- keys
 
   last-is : (i : ℕ) → i ≤ length table.rows.counts → last_key layout page d n.marks i ≡ last_in None (map stored_row (take (sum (take i table.rows.counts)) table.entries))
-  last-is zero le = sym (ap (λ (l : List ℕ). last_in None (map stored_row (take (sum l) table.entries))) (take-none table.rows.counts) ∙ ap (λ (l : List Entry). last_in None (map stored_row l)) (take-none table.entries))
+  last-is zero le = sym (ap (λ (l : List ℕ). last_in None (map stored_row (take (sum l) table.entries))) (take_none table.rows.counts) ∙ ap (λ (l : List Entry). last_in None (map stored_row l)) (take_none table.entries))
   last-is (suc i) le =
       let c = slice_get-some table.rows.counts i (omega (arith, le)) in
       by_count (last-is i (omega (arith, le))) c.0 c.1 (cases_lt 0 c.0)
@@ -115,7 +116,7 @@ module _ (layout : RowLayout) (page : ℕ → List ℕ) (d : Shape) (at_least : 
   some-void c some = ap (λ (b : Bool). 0 + cond b 1 0) (ne_eqb c 0 (λ e. let no : ⊥ = omega (arith, some, e) in no))
 
   rows-told : (i : ℕ) → i ≤ length table.rows.counts → (tally_of layout page d n.marks i).rows ≡ sum (take i table.rows.counts)
-  rows-told zero le = sym (ap sum (take-none table.rows.counts))
+  rows-told zero le = sym (ap sum (take_none table.rows.counts))
   rows-told (suc i) le =
       let c = slice_get-some table.rows.counts i (omega (arith, le)) in
       by_count (rows-told i (omega (arith, le))) c.0 c.1 (cases_lt 0 c.0)
@@ -134,7 +135,7 @@ module _ (layout : RowLayout) (page : ℕ → List ℕ) (d : Shape) (at_least : 
           by_test false (reads.committed i c e ∙ ap (nat_lt 0) z) ∙ omega (arith, before_is, before-next i c e, z)
 
   voids-told : (i : ℕ) → i ≤ length table.rows.counts → (tally_of layout page d n.marks i).voids ≡ void_pages (take i table.rows.counts)
-  voids-told zero le = sym (ap void_pages (take-none table.rows.counts))
+  voids-told zero le = sym (ap void_pages (take_none table.rows.counts))
   voids-told (suc i) le =
       let c = slice_get-some table.rows.counts i (omega (arith, le)) in
       by_count (voids-told i (omega (arith, le))) c.0 c.1 (cases_lt 0 c.0)
@@ -152,7 +153,7 @@ module _ (layout : RowLayout) (page : ℕ → List ℕ) (d : Shape) (at_least : 
           by_test false (reads.committed i c e ∙ ap (nat_lt 0) z) ∙ omega (arith, before_is, voids-next i c e, ap (λ (k : ℕ). void_pages (k ∷ [])) z)
 
   blobs-told : (i : ℕ) → i ≤ length table.rows.counts → (tally_of layout page d n.marks i).blob_end ≡ blobs_end 0 (map stored_row (take (sum (take i table.rows.counts)) table.entries))
-  blobs-told zero le = sym (ap (λ (l : List ℕ). blobs_end 0 (map stored_row (take (sum l) table.entries))) (take-none table.rows.counts) ∙ ap (λ (l : List Entry). blobs_end 0 (map stored_row l)) (take-none table.entries))
+  blobs-told zero le = sym (ap (λ (l : List ℕ). blobs_end 0 (map stored_row (take (sum l) table.entries))) (take_none table.rows.counts) ∙ ap (λ (l : List Entry). blobs_end 0 (map stored_row l)) (take_none table.entries))
   blobs-told (suc i) le =
       let c = slice_get-some table.rows.counts i (omega (arith, le)) in
       by_count (blobs-told i (omega (arith, le))) c.0 c.1 (cases_lt 0 c.0)

@@ -26,6 +26,7 @@ use Rattle.fl_model.specs.Row.{stored_row}
 use Rattle.fl_model.specs.Table.{Table, Entry, DataRing, shape_of}
 use Rattle.fl_model.proofs.Lists.{slice_get-short, slice_get-drop, slice_get-front, each-at, each-drop, each-take}
 use Rattle.fl_model.proofs.Pages.{pages-at}
+use Rattle.fl_model.proofs.BlobsStay.{take_none}
 use Rattle.fl_page.specs.Header.{page_number, page_bitmap}
 use Rattle.fl_page.specs.Page.{rows_in, IsGoodPage}
 use Rattle.fl_page.proofs.WriterSteps.{layout_some}
@@ -59,7 +60,6 @@ use Rattle.fl_check.proofs.ConfigFacts.{few-indexed, has-buckets}
 use Rattle.fl_check.proofs.FullEntries.{full-stored}
 use Rattle.fl_check.proofs.RingReads.{Reads}
 use Rattle.fl_sound.proofs.DataPages.{HaveRowsOf, keys-ascend}
-use Rattle.fl_sound.proofs.Lists.{take-none}
 use Rattle.fl_sound.proofs.RingReads.{IsOf}
 use Rattle.fl_sound.proofs.RingSound.{SoundRing, AreFormed, sizes, sound-ring}
 use Rattle.fl_sound.proofs.Told.{fields-fit}
@@ -235,7 +235,7 @@ module _ (label : Label) (config : TableConfig) (f : FlashState) (table : Table)
           let z : c ≡ 0 = omega (arith, none) in
           record {
             rows = λ committed. absurd (true≢false (sym committed ∙ reads.committed m c e ∙ ap (nat_lt 0) z));
-            void = λ not. void-told bits bytes j entry is_at (rows_at table m c) (ap (λ (k : ℕ). take k (drop (sum (take m table.rows.counts)) table.entries)) z ∙ take-none (drop (sum (take m table.rows.counts)) table.entries)) tells;
+            void = λ not. void-told bits bytes j entry is_at (rows_at table m c) (ap (λ (k : ℕ). take k (drop (sum (take m table.rows.counts)) table.entries)) z ∙ take_none (drop (sum (take m table.rows.counts)) table.entries)) tells;
           }
     ]
 

@@ -19,6 +19,7 @@ use Rattle.fl_model.specs.Record.{Plan, RowLayout, entries_per_page}
 use Rattle.fl_model.specs.Ring as model
 use Rattle.fl_model.specs.Table.{Table, firsts, full_pages}
 use Rattle.fl_model.proofs.Lists.{slice_get-some, last_or-push}
+use Rattle.fl_model.proofs.BlobsStay.{take_none}
 use Rattle.fl_ring.specs.Ring.{Shape}
 use Rattle.fl_check.specs.Entries.{IndexOver, entries_in, IsEntry, Lists, first_listed, HaveEntries}
 use Rattle.fl_rules.specs.Marks.{kept_page}
@@ -26,7 +27,7 @@ use Rattle.fl_rules.specs.Tally.{listed_to}
 use Rattle.fl_rules.specs.Told.{TellsPage}
 use Rattle.fl_rules.specs.declared.numbering.Numbering.{Numbering}
 use Rattle.fl_check.proofs.RingReads.{Reads}
-use Rattle.fl_sound.proofs.Lists.{take-none, take-next}
+use Rattle.fl_sound.proofs.Lists.{take-next}
 
 -- an index page lists the data pages from its first one on, with entries that tell of them
 pub record ListsPages (plan : Plan) (table : Table) (ring : model.Ring) (i : ℕ) (page : List ℕ) : Type 0 where
@@ -50,7 +51,7 @@ module _ (plan : Plan) (page : ℕ → List ℕ) (x d : Shape) (at_least : ℕ) 
   full-next i c e = ap full_pages (take-next ring.counts i c e) ∙ full-append (take i ring.counts) (c ∷ [])
 
   listed-at : (i : ℕ) → i ≤ length ring.counts → listed_to (entries_in x.size (plan_form plan)) page x index.marks i ≡ ended (take (full_pages (take i ring.counts)) (firsts table))
-  listed-at zero le = sym (ap (λ (l : List ℕ). ended (take (full_pages l) (firsts table))) (take-none ring.counts) ∙ ap ended (take-none (firsts table)))
+  listed-at zero le = sym (ap (λ (l : List ℕ). ended (take (full_pages l) (firsts table))) (take_none ring.counts) ∙ ap ended (take_none (firsts table)))
   listed-at (suc i) le =
       let c = slice_get-some ring.counts i (omega (arith, le)) in
       by_count (listed-at i (omega (arith, le))) c.0 c.1 (cases_lt 0 c.0)

@@ -6,17 +6,14 @@ use Rattle.std.proofs.Math.Seq.{take-add}
 use Rattle.std.proofs.lemmas.Option.{none-some, same_Some}
 use Rattle.fl_model.specs.Row.{Row, stored_row}
 use Rattle.fl_model.specs.Table.{Entry}
+use Rattle.fl_model.proofs.BlobsStay.{take_none}
 use Rattle.fl_page.specs.Steps.{Ascends}
 use Rattle.fl_rules.specs.Rising.{last_in}
-
-pub take-none : {X : Type 0} (xs : List X) → take 0 xs ≡ []
-take-none [] = refl
-take-none (x ∷ xs) = refl
 
 -- one more is taken
 pub take-next : {X : Type 0} (xs : List X) (i : ℕ) (x : X) → slice_get xs i ≡ Some x → take (suc i) xs ≡ take i xs ++ x ∷ []
 take-next {X} [] i x e = absurd (none-some x e)
-take-next {X} (y ∷ ys) zero x e = let same : y ≡ x = same_Some y x e in ap (λ (l : List X). y ∷ l) (take-none ys) ∙ ap (λ (z : X). z ∷ []) same
+take-next {X} (y ∷ ys) zero x e = let same : y ≡ x = same_Some y x e in ap (λ (l : List X). y ∷ l) (take_none ys) ∙ ap (λ (z : X). z ∷ []) same
 take-next {X} (y ∷ ys) (suc i) x e = ap (λ (l : List X). y ∷ l) (take-next ys i x e)
 
 -- the rows of entries, and of those behind them

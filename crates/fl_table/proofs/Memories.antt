@@ -1,5 +1,5 @@
 -- What a seal makes of what a table holds in memory.
-use Rattle.std.proofs.Common.{◌≡◌, ◌≢◌, ℕ, zero, suc, ◌+◌, ◌-◌, ◌*◌, ◌%◌, ◌<◌, ◌≤◌, Bool, true, false, cond, ◌&&◌, ◌==◌, Some, None, List, [], ◌∷◌, ◌++◌, length, take, drop, get_or, set, refl, sym, ◌∙◌, ap, arith, inl, inr, length-append, length-drop, get_or-set_other, get_or-set_same}
+use Rattle.std.proofs.Common.{◌≡◌, ◌≢◌, ℕ, zero, suc, ◌+◌, ◌-◌, ◌*◌, ◌%◌, ◌<◌, ◌≤◌, Bool, true, false, cond, ◌==◌, Some, None, List, [], ◌∷◌, ◌++◌, length, take, drop, get_or, set, refl, sym, ◌∙◌, ap, arith, inl, inr, length-append, length-drop, get_or-set_other, get_or-set_same}
 use Rattle.std.proofs.lemmas.Bool.{ltb-true}
 use Rattle.std.proofs.lemmas.List.{take-append-le}
 use Rattle.std.proofs.lemmas.List.Sums.{sum_by-take-drop}
@@ -9,6 +9,7 @@ use Rattle.fl_model.specs.Record.{Plan}
 use Rattle.fl_model.specs.Ring as model
 use Rattle.fl_model.specs.Table.{Table, Entry, DataRing, shape_of, pending_entries, last_entry, after_seal}
 use Rattle.fl_model.proofs.Lists.{slice_get-drop, slice_get-push, slice_get-short}
+use Rattle.fl_model.proofs.BlobsStay.{and_right}
 use Rattle.fl_ring.proofs.Modulo.{apart}
 use Rattle.fl_table.proofs.Sealed.{full_long}
 
@@ -32,10 +33,6 @@ last_drop (suc k) [] h = absurd (omega arith)
 last_drop (suc k) (e ∷ []) h = absurd (omega arith)
 last_drop (suc k) (e ∷ f ∷ es) h = last_drop k (f ∷ es) (omega arith)
 
-right_of : (a b : Bool) → (a && b) ≡ true → b ≡ true
-right_of true b h = h
-right_of false b h = cc
-
 pub last-sealed : (plan : Plan) (table : Table) → model.IsShape (shape_of plan DataRing) → sum table.rows.counts + table.pending ≡ length table.entries → 0 < table.pending →
     last_entry (after_seal plan DataRing table) ≡ last_entry table
 last-sealed plan table shape counted some = by_test (model.is_full (shape_of plan DataRing) (model.extended table.pending table.rows)) refl
@@ -52,7 +49,7 @@ last-sealed plan table shape counted some = by_test (model.is_full (shape_of pla
       where
         full_two : (s : model.Shape) (r : model.Ring) → model.IsShape s → model.is_full s r ≡ true → s.pages + 1 ≤ length r.counts
         full_two s r k f =
-            let lt = ltb-true ((s.blocks - 1) * s.pages - 1) (length r.counts) (right_of (r.next % s.pages == s.pages - 1) _ f) in
+            let lt = ltb-true ((s.blocks - 1) * s.pages - 1) (length r.counts) (and_right (r.next % s.pages == s.pages - 1) _ f) in
             let two : 2 * s.pages ≤ (s.blocks - 1) * s.pages = mul-le-mul_right s.pages (let e : 2 ≤ s.blocks - 1 = omega (arith, k.blocks) in e) in
             omega (arith, lt, two, k.pages)
     by_test false e = last_drop 0 table.entries (omega (arith, counted, some))

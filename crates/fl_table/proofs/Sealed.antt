@@ -1,5 +1,5 @@
 -- What the operations of a seal and of a repair make of the data ring, as a list of bodies and as a table.
-use Rattle.std.proofs.Common.{◌≡◌, ℕ, ◌+◌, ◌-◌, ◌*◌, ◌%◌, ◌<◌, ◌≤◌, Bool, true, false, cond, ◌&&◌, ◌==◌, Option, Some, None, List, [], ◌∷◌, ◌++◌, length, take, drop, refl, sym, ◌∙◌, ap, arith, length-append, length-drop}
+use Rattle.std.proofs.Common.{◌≡◌, ℕ, ◌+◌, ◌-◌, ◌*◌, ◌%◌, ◌<◌, ◌≤◌, Bool, true, false, cond, ◌==◌, Option, Some, None, List, [], ◌∷◌, ◌++◌, length, take, drop, refl, sym, ◌∙◌, ap, arith, length-append, length-drop}
 use Rattle.std.proofs.lemmas.Bool.{ltb-true}
 use Rattle.std.proofs.lemmas.List.{take_all}
 use Rattle.std.proofs.Math.Nat.{mul-le-mul_right}
@@ -9,6 +9,7 @@ use Rattle.fl_model.specs.Ring as model
 use Rattle.fl_model.specs.Table.{Table, Entry, DataRing, shape_of, with_ring, seal_buffer, seal_page, written, pending_entries, lose}
 use Rattle.fl_model.specs.Layout.{data_body}
 use Rattle.fl_model.proofs.Pages.{page_with, pages_from, pages-length, pages-push, pages-drop, pages-front}
+use Rattle.fl_model.proofs.BlobsStay.{and_right}
 use Rattle.fl_ring.specs.Ring.{RingState, is_due, is_due_at, appended, trimmed, sealed, voided, begun, erased}
 use Rattle.fl_parts.proofs.States.{shape_in, state_of, page-some}
 
@@ -20,10 +21,6 @@ ring_state plan ring entries = record {
   torn = ring.torn;
   dirty = ring.dirty;
 }
-
-and_right : (a b : Bool) → (a && b) ≡ true → b ≡ true
-and_right true b h = h
-and_right false b h = cc
 
 -- a full ring has kept more pages than a block has
 pub full_long : (shape : model.Shape) (ring : model.Ring) → model.IsShape shape → model.is_full shape ring ≡ true → shape.pages ≤ length ring.counts

@@ -11,10 +11,10 @@ use Rattle.fl_model.specs.Record.{Plan}
 use Rattle.fl_model.specs.Ring as model
 use Rattle.fl_model.specs.Table.{full_pages}
 use Rattle.fl_model.proofs.FullPages.{full-cons, full-one, full-void, full-pushed}
+use Rattle.fl_model.proofs.BlobsStay.{drop_none, take_none}
 use Rattle.fl_ring.specs.Counts.{page_count, ring_counts, model_shape}
 use Rattle.fl_ring.specs.Ring.{Shape, RingState, IsShape, count, oldest, is_due, is_due_at, appended, trimmed}
 use Rattle.fl_ring.proofs.Facts.{due_true, two_blocks}
-use Rattle.fl_var.proofs.Lists.{drop-none, take-none}
 
 -- each committed page counts once
 abbrev pub once : List ℕ → ℕ
@@ -107,9 +107,9 @@ bodies-void plan n (Some b ∷ kept) (q ∷ pages) h = (h.0, h.1, bodies-void pl
 -- the oldest pages go
 bodies-drop : (plan : Plan) (n k : ℕ) (kept : List (Option (List ℕ))) (pages : List ContentPage) → HoldBodies plan n kept pages → HoldBodies plan (n + k) (drop k kept) (drop (full_pages (take k (counts_of kept))) pages)
 bodies-drop plan n zero kept pages h =
-    let none : full_pages (take 0 (counts_of kept)) ≡ 0 = ap full_pages (take-none (counts_of kept)) in
-    subst (λ (ks : List (Option (List ℕ))). HoldBodies plan (n + 0) ks (drop (full_pages (take 0 (counts_of kept))) pages)) (sym (drop-none kept))
-    (subst (λ (ps : List ContentPage). HoldBodies plan (n + 0) kept ps) (sym (ap (λ g. drop g pages) none ∙ drop-none pages))
+    let none : full_pages (take 0 (counts_of kept)) ≡ 0 = ap full_pages (take_none (counts_of kept)) in
+    subst (λ (ks : List (Option (List ℕ))). HoldBodies plan (n + 0) ks (drop (full_pages (take 0 (counts_of kept))) pages)) (sym (drop_none kept))
+    (subst (λ (ps : List ContentPage). HoldBodies plan (n + 0) kept ps) (sym (ap (λ g. drop g pages) none ∙ drop_none pages))
     (subst (λ m. HoldBodies plan m kept pages) (let e : n ≡ n + 0 = omega arith in e) h))
 bodies-drop plan n (suc k) [] [] h = tt
 bodies-drop plan n (suc k) [] (p ∷ pages) h = absurd h
@@ -196,7 +196,7 @@ module _ (r : Shape) (s : RingState) (x : Option (List ℕ)) (shape : IsShape r)
     by_due false e =
         let number : oldest s ≡ oldest more = omega (arith, len, known) in
         subst (λ n. HoldBodies plan n (s.kept ++ x ∷ []) (drop (full_pages []) pages ++ added)) number
-        (subst (λ (ps : List ContentPage). HoldBodies plan (oldest s) (s.kept ++ x ∷ []) (ps ++ added)) (sym (drop-none pages)) (push (oldest s) s.kept pages h (omega (arith, known))))
+        (subst (λ (ps : List ContentPage). HoldBodies plan (oldest s) (s.kept ++ x ∷ []) (ps ++ added)) (sym (drop_none pages)) (push (oldest s) s.kept pages h (omega (arith, known))))
 
     pub kept-bodies : HoldBodies plan (oldest (trimmed r (appended s x))) (trimmed r (appended s x)).kept (drop (full_pages (model.given_up (model_shape r) c (counted s))) pages ++ added)
     kept-bodies =

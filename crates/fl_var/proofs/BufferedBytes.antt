@@ -16,6 +16,7 @@ use Rattle.fl_frame.proofs.CallsInTurn.{goes-same, goes-then}
 use Rattle.fl_model.specs.Record.{Plan, content_per_page}
 use Rattle.fl_model.specs.Table.{Table, RingName, VarRing, after_seals}
 use Rattle.fl_model.specs.Work.{Device}
+use Rattle.fl_model.proofs.BlobsStay.{drop_none}
 use Rattle.fl_ring.specs.Place as place_words
 use Rattle.fl_ring.specs.Ring as rings
 use Rattle.fl_ring.specs.Ring.{Shape, OutsideStands}
@@ -29,7 +30,7 @@ use Rattle.fl_var.specs.Memory.{is_mounted, next_in, oldest_in, oldest_after, wa
 use Rattle.fl_var.specs.Placing.{Seals, Breaks, EndsWith, pages_placed}
 use Rattle.fl_var.specs.Standing.{HasRing}
 use Rattle.fl_var.specs.declared.var_data.VarData.{VarData}
-use Rattle.fl_var.proofs.Lists.{drop-none, drop-short}
+use Rattle.fl_var.proofs.Lists.{drop-short}
 use Rattle.fl_var.proofs.PageImages.{waiting-length}
 use Rattle.fl_var.proofs.SealsInTable.{room-planned, seal-err}
 use Rattle.fl_var.proofs.Joins.{seals-none, seals-refilled, seals-join, breaks-join, breaks-front, buffered-after, replicate-push, replicate-split, same-shape}
@@ -122,7 +123,7 @@ module _ (v w : VarData) (f : FlashState) (bytes : List ℕ) (n : ℕ) (ring : w
         left =
             let nothing : (next_in w - next_in v) * room_in v ≡ 0 = ap (λ k. k * room_in v) none ∙ (let e : 0 * room_in v ≡ 0 = omega arith in e) in
             ap (λ k. drop k (waiting_in v ++ bytes)) nothing
-            ∙ (drop-none (waiting_in v ++ bytes)
+            ∙ (drop_none (waiting_in v ++ bytes)
             ∙ (ap (λ (l : List ℕ). waiting_in v ++ l) (sym (take-append-drop n bytes)) ∙ (sym (append_assoc (waiting_in v) (take n bytes) (drop n bytes)) ∙ ap (λ (l : List ℕ). l ++ drop n bytes) (sym put))));
         outside = λ told q far. refl;
         reads = refl;

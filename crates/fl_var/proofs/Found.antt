@@ -20,6 +20,7 @@ use Rattle.fl_model.specs.Ring.{Ring, oldest}
 use Rattle.fl_model.specs.Table as model
 use Rattle.fl_model.specs.Table.{Entry, full_pages}
 use Rattle.fl_model.proofs.Lists.{slice_get-short, slice_get-some, slice_get-drop, slice_get-take, each-at}
+use Rattle.fl_model.proofs.BlobsStay.{drop_none}
 use Rattle.fl_page.specs.Header.{page_count}
 use Rattle.fl_page.specs.declared.fault.BadPage.{BadPage}
 use Rattle.fl_page.specs.declared.fault.ReadFault.{ReadFault}
@@ -34,7 +35,6 @@ use Rattle.fl_var.specs.Reading.{IfBad, NoneBad, Finds}
 use Rattle.fl_var.specs.Standing.{Stands}
 use Rattle.fl_var.specs.declared.reader.BlobReader.{BlobReader}
 use Rattle.fl_var.specs.declared.var_data.VarData.{VarData}
-use Rattle.fl_var.proofs.Lists.{drop-none}
 use Rattle.fl_var.proofs.PageImages.{image-other, image-next, page-count, page-content, page-has, filled-length, waiting-room}
 use Rattle.fl_var.proofs.Stored.{contents-at, same-front, content-size, place-within, place-last, place-lt}
 
@@ -227,7 +227,7 @@ module _ (v : VarData) (f : FlashState) (plan : Plan) (table : model.Table) (sta
             let number : entry.page + j ≡ next_in v = omega (arith, first, ge, stands.ring.next) in
             let bytes_are : take (content_per_page plan) (drop ((entry.page + j - stands.ring.ring.next) * content_per_page plan) table.buffered) ≡ waiting_in v =
             ap (λ n. take (content_per_page plan) (drop (n * content_per_page plan) table.buffered)) first
-            ∙ (ap (take (content_per_page plan)) (ap (λ n. drop n table.buffered) (let z : 0 * content_per_page plan ≡ 0 = omega arith in z) ∙ drop-none table.buffered)
+            ∙ (ap (take (content_per_page plan)) (ap (λ n. drop n table.buffered) (let z : 0 * content_per_page plan ≡ 0 = omega arith in z) ∙ drop_none table.buffered)
             ∙ (take_all (content_per_page plan) table.buffered (omega (arith, fill, waiting-room v, room-is)) ∙ stands.buffered)) in
             let page : page_with (room_in v) (waiting_in v) ≡ holds.pages j =
             sym (ap (content_page plan) bytes_are ∙ ap (λ n. page_with n (waiting_in v)) (sym room-is)) ∙ e in

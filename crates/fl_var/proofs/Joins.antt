@@ -23,10 +23,10 @@ use Rattle.fl_var.specs.Memory.{page_in, var_shape, IsSamePlan}
 use Rattle.fl_ring.specs.Mounting.{shape_at}
 use Rattle.fl_base.specs.declared.types.Geometry.{Geometry}
 use Rattle.fl_base.specs.declared.types.RingPlace.{RingPlace}
+use Rattle.fl_model.proofs.BlobsStay.{drop_none}
 use Rattle.fl_var.specs.Placing.{Seals, Breaks, FaultEnds}
 use Rattle.fl_var.specs.Standing.{IsVarRing, HasRing}
 use Rattle.fl_var.specs.declared.var_data.VarData.{VarData}
-use Rattle.fl_var.proofs.Lists.{drop-none}
 
 -- the operations of joined seals
 pub seals-append : (plan : Plan) (xs ys : List RingName) (table : Table) → seals_within plan (xs ++ ys) table ≡ seals_within plan xs table ++ seals_within plan ys (after_seals plan xs table)
@@ -181,7 +181,7 @@ replicate-split (suc n) m = ap (λ (l : List RingName). VarRing ∷ l) (replicat
 pub buffered-after : (plan : Plan) (n : ℕ) (table : Table) → (after_seals plan (replicate n VarRing) table).buffered ≡ drop (n * content_per_page plan) table.buffered
 buffered-after plan zero table =
     let none : 0 ≡ 0 * content_per_page plan = omega arith in
-    sym (drop-none table.buffered) ∙ ap (λ k. drop k table.buffered) none
+    sym (drop_none table.buffered) ∙ ap (λ k. drop k table.buffered) none
 buffered-after plan (suc n) table =
     let more : content_per_page plan + n * content_per_page plan ≡ suc n * content_per_page plan = omega arith in
     buffered-after plan n (after_seal plan VarRing table)

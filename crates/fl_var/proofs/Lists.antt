@@ -1,14 +1,6 @@
 -- Fronts and ends of lists.
-use Rattle.std.proofs.Common.{◌≡◌, ℕ, zero, suc, ◌+◌, ◌≤◌, Bool, false, ◌==◌, List, [], ◌∷◌, length, take, drop, inl, inr, refl, sym, ◌∙◌, arith}
+use Rattle.std.proofs.Common.{◌≡◌, ℕ, zero, suc, ◌+◌, ◌≤◌, Bool, false, ◌==◌, List, [], ◌∷◌, length, drop, inl, inr, refl, sym, ◌∙◌, arith}
 use Rattle.std.proofs.lemmas.Bool.{cases_lt, true≢false}
-
-pub drop-none : {X : Type 0} (xs : List X) → drop 0 xs ≡ xs
-drop-none [] = refl
-drop-none (x ∷ xs) = refl
-
-pub take-none : {X : Type 0} (xs : List X) → take 0 xs ≡ []
-take-none [] = refl
-take-none (x ∷ xs) = refl
 
 -- nothing is left behind the end
 pub drop-short : {X : Type 0} (n : ℕ) (xs : List X) → length xs ≤ n → drop n xs ≡ []

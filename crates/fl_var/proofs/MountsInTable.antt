@@ -17,6 +17,7 @@ use Rattle.fl_model.specs.Table.{Table, RingName, VarRing, shape_of, seal_page, 
 use Rattle.fl_model.specs.Work.{Kind, VoidMark, Erase, Device, PartEnd, Whole, CutIn, FailedIn}
 use Rattle.fl_model.specs.Within.{repair_within, TablePerforms, effect_within, all_done}
 use Rattle.fl_model.proofs.Performs.{performs-whole}
+use Rattle.fl_model.proofs.BlobsStay.{drop_none}
 use Rattle.fl_ring.specs.Head.{one}
 use Rattle.fl_ring.specs.Mounting.{shape_at, IsGood, Mounted, RepairEnds}
 use Rattle.fl_ring.specs.Mounting as ring_mounting
@@ -39,7 +40,6 @@ use Rattle.fl_var.specs.Mounting.{Rests, MountEnds}
 use Rattle.fl_var.specs.Standing.{IsVarRing}
 use Rattle.fl_var.specs.declared.var_data.VarData.{VarData}
 use Rattle.fl_var.proofs.Bodies.{counted, once, HoldBodies, bodies-at, bodies-anew, kept-torn}
-use Rattle.fl_var.proofs.Lists.{drop-none}
 use Rattle.fl_var.proofs.RingInTable.{of_var, AreErases, HasCome, IsRingOf, come-front, come-small, performed-lifts, fault-ends, all-whole}
 use Rattle.fl_var.proofs.SealsInTable.{shape-is, shape-here, next-is, oldest-is}
 use Rattle.fl_var.proofs.States.{all-once, state_of, IsStateOf, state-is, var-ring-of}
@@ -50,7 +50,7 @@ body-number n p body is small =
     let four : take 4 body ≡ le 4 n = ap (take 4) is in
     let long : 4 ≤ length body = omega (arith, ap length is) in
     field_4 body 0 0 0 4 refl refl long
-    ∙ (ap (λ (l : List ℕ). model_number (take 4 l)) (drop-none (drop 0 body) ∙ drop-none body) ∙ (ap model_number four ∙ number_of-le 4 n small))
+    ∙ (ap (λ (l : List ℕ). model_number (take 4 l)) (drop_none (drop 0 body) ∙ drop_none body) ∙ (ap model_number four ∙ number_of-le 4 n small))
 
 -- the same bodies have other numbers only where there are none
 renumbered-bodies : (plan : Plan) (r : Shape) (at_least : ℕ) (s : RingState) (pages : List ContentPage) → HoldBodies plan (oldest s) s.kept pages →

@@ -12,6 +12,7 @@ use Rattle.fl_model.specs.Record.{Record, Plan, content_per_page}
 use Rattle.fl_model.specs.Ring.{Ring}
 use Rattle.fl_model.specs.Table.{Table, RingName, VarRing, fill, blob_len, after_seals, fill_seals, with_record, start_page, start_offset}
 use Rattle.fl_model.specs.Work.{Device}
+use Rattle.fl_model.proofs.BlobsStay.{drop_none}
 use Rattle.fl_frame.specs.Watched.{IsWatched}
 use Rattle.fl_ring.specs.Written.{Writes}
 use Rattle.fl_ring.proofs.Written.{writes-wider}
@@ -23,7 +24,7 @@ use Rattle.fl_var.proofs.Joins.{has-joined, seals-none, seals-join, breaks-join,
 use Rattle.fl_frame.proofs.WatchedInTurn.{watched-then}
 use Rattle.fl_var.proofs.OldestKept.{after-then}
 use Rattle.fl_var.proofs.Written.{writes-both}
-use Rattle.fl_var.proofs.Lists.{drop-none, drop-short}
+use Rattle.fl_var.proofs.Lists.{drop-short}
 use Rattle.fl_var.proofs.PageImages.{waiting-length, waiting-room}
 use Rattle.fl_var.proofs.SealsInTable.{room-planned}
 
@@ -324,7 +325,7 @@ pub waits-none : (v : VarData) (bytes : List ℕ) → length bytes ≡ 0 → wai
 waits-none v (x ∷ xs) e = absurd (omega (arith, e))
 waits-none v [] e =
     sym (ap (λ n. drop (n * room_in v) (waiting_in v ++ [])) (none-placed v)
-    ∙ (ap (λ n. drop n (waiting_in v ++ [])) (let k : 0 * room_in v ≡ 0 = omega arith in k) ∙ (drop-none (waiting_in v ++ []) ∙ append-nil (waiting_in v))))
+    ∙ (ap (λ n. drop n (waiting_in v ++ [])) (let k : 0 * room_in v ≡ 0 = omega arith in k) ∙ (drop_none (waiting_in v ++ []) ∙ append-nil (waiting_in v))))
 
 pub placed-none : (v : VarData) (len : ℕ) → len ≡ 0 → pages_placed v len ≡ 0
 placed-none v len e = ap (pages_placed v) e ∙ none-placed v
