@@ -6,7 +6,7 @@ use Rattle.std.proofs.lemmas.Bool.{le-leb, leb-false, false≢true, not-true}
 use Rattle.fl_base.specs.declared.types.Span.{Span}
 use Rattle.fl_model.specs.Query.{Cursor, is_above, is_up_to}
 use Rattle.fl_model.specs.Row.{Row}
-use Rattle.fl_model.proofs.CopiesAreParts.{all-back}
+use Rattle.fl_model.proofs.Lists.{all-back}
 use Rattle.fl_frame.specs.Contents.{Contents}
 use Rattle.fl_page.specs.Steps.{Ascends}
 use Rattle.fl_table.specs.Look.{buffered_rows}

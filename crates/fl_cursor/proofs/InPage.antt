@@ -6,8 +6,7 @@ use Rattle.std.proofs.lemmas.List.{drop-drop}
 use Rattle.std.proofs.lemmas.Option.{same_Some}
 use Rattle.fl_model.specs.Record.{RowLayout, layout_len}
 use Rattle.fl_model.specs.Row.{Row}
-use Rattle.fl_model.proofs.Lists.{slice_get-drop, slice_get-short}
-use Rattle.fl_model.proofs.CopiesAreParts.{all-back}
+use Rattle.fl_model.proofs.Lists.{slice_get-drop, slice_get-short, all-back}
 use Rattle.fl_frame.specs.Contents.{Contents}
 use Rattle.fl_page.specs.Header.{page_number, page_count}
 use Rattle.fl_page.specs.Page.{IsGoodPage, rows_in, has_form}

@@ -12,7 +12,7 @@ use Rattle.fl_index.proofs.Scans.{scanning-later, unread-fewer}
 use Rattle.fl_model.specs.Limits.{asks_values}
 use Rattle.fl_model.specs.Query.{Cursor, is_up_to}
 use Rattle.fl_model.specs.Row.{Row}
-use Rattle.fl_model.proofs.CopiesAreParts.{all-back}
+use Rattle.fl_model.proofs.Lists.{all-back}
 use Rattle.fl_frame.specs.Contents.{Contents}
 use Rattle.fl_table.specs.Memory.{next_in}
 use Rattle.fl_table.specs.Skipping.{AreScanning, unread_of, due_of}

@@ -21,8 +21,7 @@ use Rattle.fl_model.specs.Ring as rings
 use Rattle.fl_model.specs.Row.{Row, stored_row}
 use Rattle.fl_model.specs.Spline.{pages_from, pages_of, page_at}
 use Rattle.fl_model.specs.Table.{Entry, firsts}
-use Rattle.fl_model.proofs.Lists.{slice_get-short, each-drop}
-use Rattle.fl_model.proofs.CopiesAreParts.{all-back}
+use Rattle.fl_model.proofs.Lists.{slice_get-short, each-drop, all-back}
 use Rattle.fl_frame.specs.Contents.{Contents}
 use Rattle.fl_page.specs.Steps.{Ascends}
 use Rattle.fl_page.proofs.RowsFrom.{drop-row}

@@ -16,8 +16,7 @@ use Rattle.fl_model.specs.Ring.{Ring}
 use Rattle.fl_model.specs.Row.{Row, stored_row}
 use Rattle.fl_model.specs.Spline.{pages_from, pages_of}
 use Rattle.fl_model.specs.Table.{Entry, full_pages, firsts}
-use Rattle.fl_model.proofs.Lists.{slice_get-some, each-take, each-drop}
-use Rattle.fl_model.proofs.BlobsStay.{drop_none, take_none}
+use Rattle.fl_model.proofs.Lists.{slice_get-some, each-take, each-drop, drop_none, take_none}
 use Rattle.fl_frame.specs.Contents.{Contents}
 use Rattle.fl_page.specs.Steps.{Ascends}
 use Rattle.fl_table.specs.Look.{oldest_in, buffered_rows}

@@ -18,7 +18,7 @@ use Rattle.fl_model.specs.Row.{Row, stored_row}
 use Rattle.fl_model.specs.Spline.{page_at as page_with, is_pending_key, lookup_limit}
 use Rattle.fl_model.specs.Table as tables
 use Rattle.fl_model.specs.Table.{Entry, VarRing, lose, pending_entries}
-use Rattle.fl_model.proofs.CopiesAreParts.{all-back}
+use Rattle.fl_model.proofs.Lists.{all-back}
 use Rattle.fl_frame.specs.Contents.{Contents, contents_of}
 use Rattle.fl_ring.specs.Place.{shape_of}
 use Rattle.fl_search.specs.Search.{IsPageOf, starts_by}

@@ -13,8 +13,7 @@ use Rattle.fl_model.specs.Ring as rings
 use Rattle.fl_model.specs.Row.{Row, stored_row}
 use Rattle.fl_model.specs.Spline.{page_key, pages_from, pages_of}
 use Rattle.fl_model.specs.Table.{Entry, first_key}
-use Rattle.fl_model.proofs.Lists.{slice_get-short}
-use Rattle.fl_model.proofs.BlobsStay.{drop_none}
+use Rattle.fl_model.proofs.Lists.{slice_get-short, drop_none}
 use Rattle.fl_frame.specs.Contents.{Contents}
 use Rattle.fl_table.specs.Look.{oldest_in, rows_noted}
 use Rattle.fl_table.specs.Memory.{next_in}

@@ -3,8 +3,7 @@ use Rattle.std.proofs.Common.{◌≡◌, ℕ, zero, suc, ◌+◌, ◌<◌, Bool,
 use Rattle.std.specs.List.{slice_get}
 use Rattle.fl_model.specs.Query.{Cursor}
 use Rattle.fl_model.specs.Row.{Row}
-use Rattle.fl_model.proofs.Lists.{slice_get-drop, slice_get-short}
-use Rattle.fl_model.proofs.CopiesAreParts.{all-back}
+use Rattle.fl_model.proofs.Lists.{slice_get-drop, slice_get-short, all-back}
 use Rattle.fl_frame.specs.Contents.{Contents}
 use Rattle.fl_table.specs.declared.table.Table.{Table}
 use Rattle.fl_cursor.specs.Asked.{is_left, is_last}

@@ -22,7 +22,7 @@ use Rattle.fl_model.specs.Row.{Row, stored_row}
 use Rattle.fl_model.specs.Spline.{pages_from}
 use Rattle.fl_model.specs.Table.{Entry}
 use Rattle.fl_model.specs.Table as model
-use Rattle.fl_model.proofs.BlobsStay.{drop_none}
+use Rattle.fl_model.proofs.Lists.{drop_none}
 use Rattle.fl_frame.specs.Contents.{Contents}
 use Rattle.fl_bitmap.proofs.StoredBits.{bits-same}
 use Rattle.fl_parts.specs.Bitmaps.{ArePlanned}

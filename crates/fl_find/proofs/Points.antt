@@ -12,8 +12,7 @@ use Rattle.fl_model.specs.Ring.{IsShape, oldest, is_full, extended}
 use Rattle.fl_model.specs.Table.{Table, Entry, DataRing, shape_of, pending_entries, first_pending, seal_buffer}
 use Rattle.fl_model.specs.Facts.{IsTable}
 use Rattle.fl_model.specs.Spline.{pages_from, page_key, points_of}
-use Rattle.fl_model.proofs.Lists.{slice_get-drop, slice_get-some}
-use Rattle.fl_model.proofs.BlobsStay.{drop_none, and_right}
+use Rattle.fl_model.proofs.Lists.{slice_get-drop, slice_get-some, drop_none, and_right}
 use Rattle.fl_spline.specs.Points.{IsFurther, IsPast, last_of}
 use Rattle.fl_spline.proofs.Lists.{last_of-push}
 use Rattle.fl_find.specs.Standing.{HasPoints}

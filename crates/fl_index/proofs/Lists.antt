@@ -6,9 +6,8 @@ use Rattle.std.specs.Option.{option_map, unwrap_or}
 use Rattle.std.proofs.lemmas.Option.{none-some, same_Some}
 use Rattle.fl_model.specs.Table.{full_pages}
 use Rattle.fl_model.specs.Layout.{IndexPage}
-use Rattle.fl_model.proofs.Lists.{slice_get-drop, slice_get-push, slice_get-short, slice_get-some, last_or-get}
+use Rattle.fl_model.proofs.Lists.{slice_get-drop, slice_get-push, slice_get-short, slice_get-some, last_or-get, drop_none}
 use Rattle.fl_model.proofs.FullPages.{full-split}
-use Rattle.fl_model.proofs.BlobsStay.{drop_none}
 
 pub drop-front : {X : Type 0} (k : ℕ) (xs ys : List X) → k ≤ length xs → drop k (xs ++ ys) ≡ drop k xs ++ ys
 drop-front zero [] ys h = none ys

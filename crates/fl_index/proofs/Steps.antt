@@ -10,14 +10,13 @@ use Rattle.fl_model.specs.Table.{Table, IndexRing, shape_of, full_pages}
 use Rattle.fl_model.specs.Layout.{IndexPage, committed}
 use Rattle.fl_model.specs.Agrees.{TellPages}
 use Rattle.fl_model.specs.Image.{HoldsEntries}
-use Rattle.fl_model.proofs.Lists.{each-push, each-drop, slice_get-drop, slice_get-left, slice_get-short}
+use Rattle.fl_model.proofs.Lists.{each-push, each-drop, slice_get-drop, slice_get-left, slice_get-short, drop_none, and_right}
 use Rattle.fl_model.proofs.RingFactsStay.{ring-sealed}
 use Rattle.fl_ring.specs.Counts.{page_count, ring_counts}
 use Rattle.fl_ring.specs.Ring.{RingState, count, is_due, is_due_at, appended, trimmed}
 use Rattle.fl_ring.proofs.Counts.{counts_sealed, counts_voided}
 use Rattle.fl_index.specs.Standing.{HasIndex}
 use Rattle.fl_model.proofs.FullPages.{full-append, full-pushed, full-dropped, full-split}
-use Rattle.fl_model.proofs.BlobsStay.{drop_none, and_right}
 use Rattle.fl_index.proofs.Lists.{drop-front, firsts_of, firsts-drop, end_after, end-drop, Ascend, ascend-drop, get_or-left, get_or-end, as-many-drop}
 use Rattle.fl_index.proofs.State.{shape_in, full_count, IsStateOf, holds-moved}
 

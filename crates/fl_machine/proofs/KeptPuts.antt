@@ -10,7 +10,7 @@ use Rattle.fl_model.specs.Ring.{Ring, oldest}
 use Rattle.fl_model.specs.Table.{Table, Entry, is_after, owed}
 use Rattle.fl_model.specs.Log.{last_key}
 use Rattle.fl_model.specs.Mount.{MountEnd, Mounts, turns_from}
-use Rattle.fl_model.proofs.BlobsStay.{drop_none, take_none}
+use Rattle.fl_model.proofs.Lists.{drop_none, take_none}
 use Rattle.fl_words.specs.Command.{Command}
 use Rattle.fl_words.specs.Reply as reply
 use Rattle.fl_machine.specs.Machine.{Machine}

@@ -11,7 +11,7 @@ use Rattle.fl_model.specs.Table.{Table, Entry, RingName, DataRing, IndexRing, Va
 use Rattle.fl_model.specs.Work.{Kind, Body, Mark, Erase}
 use Rattle.fl_model.specs.Within.{seal_within, seals_within, effect_within, all_done}
 use Rattle.fl_model.proofs.Among.{after_seals-append, seal-all_done, seals-all_done}
-use Rattle.fl_model.proofs.BlobsStay.{take_none}
+use Rattle.fl_model.proofs.Lists.{take_none}
 use Rattle.fl_machine.specs.Found.{HasRoom}
 use Rattle.fl_machine.proofs.Trimmed.{trimmed-sealed}
 use Rattle.fl_machine.proofs.Effects.{shape_ok}

@@ -10,9 +10,8 @@ use Rattle.std.proofs.lemmas.Option.{none-some}
 use Rattle.fl_model.specs.Ring.{Shape, IsShape, Ring, sealed, extended, is_full}
 use Rattle.fl_model.specs.Table.{Table, Entry, is_after}
 use Rattle.fl_model.specs.Log.{last_key}
-use Rattle.fl_model.proofs.Lists.{last_or-push, each-push}
-use Rattle.fl_model.proofs.CopiesAreParts.{lt-true, all-back}
-use Rattle.fl_model.proofs.BlobsStay.{drop_none}
+use Rattle.fl_model.proofs.Lists.{last_or-push, each-push, drop_none, all-back}
+use Rattle.fl_model.proofs.CopiesAreParts.{lt-true}
 use Rattle.fl_machine.proofs.Trimmed.{full_long}
 use Rattle.fl_machine.specs.Found.{LoggedPast, trimmed}
 

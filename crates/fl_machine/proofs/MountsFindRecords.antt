@@ -8,7 +8,7 @@ use Rattle.fl_model.specs.Record.{Plan, has_index, has_var, has_log}
 use Rattle.fl_model.specs.Table.{Table, Entry, RingName, DataRing, IndexRing, VarRing, LogRing, lose}
 use Rattle.fl_model.specs.Work.{Kind, Body, Mark, VoidMark, Erase, effect, Operation, done, Leaves, Either}
 use Rattle.fl_model.specs.Mount.{Turn, Of, Replay, turns_from}
-use Rattle.fl_model.proofs.BlobsStay.{take_none}
+use Rattle.fl_model.proofs.Lists.{take_none}
 use Rattle.fl_machine.specs.Found.{trimmed, HasRoom}
 use Rattle.fl_machine.proofs.Places.{RelAt, both-refl, rel-changed_by}
 use Rattle.fl_machine.proofs.Effects.{Numbered, SamePages, same-refl, trims-same, effect-other, effect-body, effect-erase, effect-void, effect-mark}

@@ -10,9 +10,8 @@ use Rattle.std.proofs.Math.Seq.{drop-append-add}
 use Rattle.std.proofs.lemmas.Option.{none-some}
 use Rattle.fl_model.specs.Table.{Entry, is_after}
 use Rattle.fl_model.specs.Log.{last_key}
-use Rattle.fl_model.proofs.Lists.{each-push}
+use Rattle.fl_model.proofs.Lists.{each-push, drop_none, take_none}
 use Rattle.fl_model.proofs.CopiesAreParts.{lt-true}
-use Rattle.fl_model.proofs.BlobsStay.{drop_none, take_none}
 use Rattle.fl_machine.specs.Keeping.{sure}
 use Rattle.fl_machine.proofs.Logs.{Core, sum_take_more, front_of, rest_of, owed_of, AreAbove, IsFine, IsReady, IsJoining, past_in, lost, front-all, owed-lost, ready-owed, filter_whole, Tops, tops-above, all_drop, last-append, last-drop, is_last, last-key, splits, rest-length, held-pending, owing-pending, unlogged-joining, joining-some, take_seam}
 

@@ -11,10 +11,6 @@ use Rattle.fl_model.specs.Mount.{Turn, Of, Replay, turn_operations}
 use Rattle.fl_model.specs.Work.{Kind, Body, Mark, VoidMark, Erase, effect, done, Ending, AsBefore, AsAfter, Either, Leaves, ending_of, Device, Progress, CutShort, Failed, Performs, PerformsFirst, cut_now, counted, changed_at, changed_by, operations_of, repair_operations, PartEnd, Whole, CutIn, FailedIn, PartProgress, PartFirst}
 use Rattle.fl_model.specs.Within.{seal_within, seals_within, repair_within, turn_within, at_place, effect_within, TablePerforms, all_done, with_table, outcome_at, progress_at}
 
-map-append : {A B : Type 0} (f : A → B) (xs ys : List A) → map f (xs ++ ys) ≡ map f xs ++ map f ys
-map-append f [] ys = refl
-map-append f (x ∷ xs) ys = ap (λ zs. f x ∷ zs) (map-append f xs ys)
-
 -- the operations of a table's seals and repairs, at the table's place
 pub seals-at : (plan : Plan) (place : ℕ) (rings : List RingName) (table : Table) → operations_of plan place rings table ≡ map (at_place place) (seals_within plan rings table)
 seals-at plan place [] table = refl

@@ -12,15 +12,7 @@ use Rattle.fl_model.specs.Table.{Table, Entry, VarRing, shape_of, full_pages, se
 use Rattle.fl_model.specs.Query.{page_stands}
 use Rattle.fl_model.specs.Agrees.{content_at, reach_of, HoldsBlob, BlobsOf}
 use Rattle.fl_model.proofs.FullPages.{full-dropped, full-pushed, full-within, full-last}
-use Rattle.fl_model.proofs.Lists.{slice_get-drop, slice_get-left, slice_get-last, slice_get-some}
-
-pub drop_none : {X : Type 0} (xs : List X) → drop 0 xs ≡ xs
-drop_none [] = refl
-drop_none (x ∷ xs) = refl
-
-pub take_none : {X : Type 0} (xs : List X) → take 0 xs ≡ []
-take_none [] = refl
-take_none (x ∷ xs) = refl
+use Rattle.fl_model.proofs.Lists.{slice_get-drop, slice_get-left, slice_get-last, slice_get-some, drop_none, take_none, and_right}
 
 -- the ring with one page more, and so many of the oldest given up
 abbrev shifted : ℕ → Bool → Ring → Ring
@@ -208,10 +200,6 @@ module _ (plan : Plan) (table : Table) (ring : Ring) (numbered : length ring.cou
         ends = held.ends;
         stored = held.stored;
       }
-
-pub and_right : (a b : Bool) → (a && b) ≡ true → b ≡ true
-and_right true b h = h
-and_right false b h = cc
 
 pub blobs-sealed : (plan : Plan) (table : Table) (ring : Ring) → IsShape (shape_of plan VarRing) → table.var ≡ Some ring → length ring.counts ≤ ring.next → length table.var_pages ≡ full_pages ring.counts →
     BlobsOf plan table ring → BlobsOf plan (seal_buffer plan VarRing table) (sealed (shape_of plan VarRing) 1 ring)

@@ -6,7 +6,7 @@ use Rattle.std.proofs.lemmas.List.{take-append-drop, append-nil, append_assoc}
 use Rattle.std.proofs.lemmas.Bool.{ltb-true, ltb-false}
 use Rattle.fl_model.specs.Record.{Record}
 use Rattle.fl_model.specs.Ship.{Ascends, IsPart, IsEnd, to_ship, HasLastOf, MayShip, KeepsOf, Shipment, nothing_yet, ShipmentStep, Shipments, IsWhole, CopiesAreParts, ShipsParts, ShipsAll}
-use Rattle.fl_model.proofs.Lists.{last_or-push}
+use Rattle.fl_model.proofs.Lists.{last_or-push, all-back}
 
 -- ---- parts
 
@@ -50,10 +50,6 @@ keeps-part : (held given left whole : List Record) → IsPart (held ++ given) wh
 keeps-part held given left whole h k = subst (λ xs. IsPart xs whole) (sym k.kept) (part-drop k.given_up (take k.first (held ++ given)) whole (part-take k.first (held ++ given) whole h))
 
 -- ---- records after others
-
-pub all-back : {X : Type 0} (P : X → Type 0) (xs ys : List X) → AllByRecursion P (xs ++ ys) → AllByRecursion P ys
-all-back P [] ys h = h
-all-back P (x ∷ xs) ys h = all-back P xs ys h.1
 
 ascends-back : (xs ys : List Record) → Ascends (xs ++ ys) → Ascends ys
 ascends-back [] ys h = h

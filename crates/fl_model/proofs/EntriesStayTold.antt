@@ -15,8 +15,7 @@ use Rattle.fl_model.specs.Mount.{ready, waiting_after}
 use Rattle.fl_model.specs.Agrees.{rows_at, Tells, TellsAt, is_told, TellPages}
 use Rattle.fl_model.specs.Facts.{IsTable}
 use Rattle.fl_model.specs.Telling.{TellingStays}
-use Rattle.fl_model.proofs.Lists.{slice_get-drop, slice_get-left, slice_get-push, slice_get-last, slice_get-short}
-use Rattle.fl_model.proofs.BlobsStay.{drop_none, take_none}
+use Rattle.fl_model.proofs.Lists.{slice_get-drop, slice_get-left, slice_get-push, slice_get-last, slice_get-short, drop_none, take_none}
 
 -- the entry at a place tells of each kept page with its number, where what is told doesn't change with the table
 abbrev TellsOf : Plan → Table → ℕ → Option IndexEntry → Type 0

@@ -7,7 +7,7 @@ use Rattle.std.proofs.lemmas.Option.{none-some}
 use Rattle.fl_model.specs.Record.{Plan}
 use Rattle.fl_model.specs.Table.{Entry}
 use Rattle.fl_model.specs.Layout.{data_body}
-use Rattle.fl_model.proofs.BlobsStay.{drop_none, take_none}
+use Rattle.fl_model.proofs.Lists.{drop_none, take_none}
 
 -- the body of a page with so many of these records, or none where it is void
 abbrev pub page_with : Plan → ℕ → ℕ → List Entry → Option (List ℕ)

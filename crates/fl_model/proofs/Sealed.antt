@@ -5,7 +5,7 @@ use Rattle.fl_model.specs.Record.{Plan, rows_per_page}
 use Rattle.fl_model.specs.Ring.{Shape, Ring, sealed, given_up, is_full, extended}
 use Rattle.fl_model.specs.Table.{Entry}
 use Rattle.fl_model.proofs.Kept.{AreKept, kept-push, kept-drop}
-use Rattle.fl_model.proofs.BlobsStay.{drop_none}
+use Rattle.fl_model.proofs.Lists.{drop_none}
 
 -- the pages after a seal of a page with so many rows, the last of the table
 abbrev pub entries_after : Shape → ℕ → Ring → List Entry → List Entry

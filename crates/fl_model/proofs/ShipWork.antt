@@ -11,7 +11,7 @@ use Rattle.fl_model.specs.Within.{seals_within, effect_within, TablePerforms}
 use Rattle.fl_model.specs.Puts.{TablePuts, TablePutGoesOn}
 use Rattle.fl_model.specs.Ship.{records_in, KeepsOf}
 use Rattle.fl_model.specs.ShipWork.{TableShips, ShipKeeps}
-use Rattle.fl_model.proofs.BlobsStay.{drop_none}
+use Rattle.fl_model.proofs.Lists.{drop_none}
 
 -- so many of the first records went
 pub record Drops (before after : List Record) : Type 0 where

@@ -13,7 +13,7 @@ use Rattle.fl_model.specs.Ring.{oldest}
 use Rattle.fl_model.specs.Spline.{pages_from}
 use Rattle.fl_model.specs.Table.{Table, Entry}
 use Rattle.fl_model.proofs.EntriesStayTold.{none-lower, numbers-length}
-use Rattle.fl_model.proofs.BlobsStay.{drop_none, take_none}
+use Rattle.fl_model.proofs.Lists.{drop_none, take_none}
 use Rattle.fl_parts.specs.Reading.{entries_on, entry_on}
 
 -- the rows of a page by its number

@@ -10,7 +10,7 @@ use Rattle.fl_model.specs.Ring as model
 use Rattle.fl_model.specs.Row.{stored_row}
 use Rattle.fl_model.specs.Table.{Entry, full_pages}
 use Rattle.fl_model.proofs.FullPages.{full-cons, full-one, full-pushed}
-use Rattle.fl_model.proofs.BlobsStay.{drop_none, take_none}
+use Rattle.fl_model.proofs.Lists.{drop_none, take_none}
 use Rattle.fl_page.specs.Header as header
 use Rattle.fl_ring.specs.Counts.{page_count, ring_counts, model_shape}
 use Rattle.fl_ring.specs.Ring.{Shape, RingState, IsShape, count, oldest, is_due, is_due_at, appended, trimmed}

@@ -12,7 +12,7 @@ use Rattle.fl_model.specs.Mount.{joined}
 use Rattle.fl_model.specs.Record.{Plan, has_index, entries_per_page}
 use Rattle.fl_model.specs.Ring.{IsShape}
 use Rattle.fl_model.specs.Table.{Table, Entry, DataRing, IndexRing, VarRing, shape_of, after_seal, after_seals, table_seals, fill, has_rows, is_after, is_rows_spent, log_pages, owed}
-use Rattle.fl_model.proofs.CopiesAreParts.{all-back}
+use Rattle.fl_model.proofs.Lists.{all-back}
 use Rattle.fl_machine.specs.Found.{HasRoom}
 use Rattle.fl_machine.proofs.Logs.{core, front_of, Tops, all_weaker, filter_none, front-all, is_last, last-append, last-key, not-lt, replayed-owed, ascending-tops}
 use Rattle.fl_machine.proofs.LogTables.{marked-by, seals_by}

@@ -11,7 +11,7 @@ use Rattle.fl_model.specs.Puts.{Puts}
 use Rattle.fl_model.specs.Record.{Config, Plan, Record}
 use Rattle.fl_model.specs.Table.{Entry, Table, flushed, lose, put_record, refusal_of, table_seals, written}
 use Rattle.fl_model.specs.Work.{CutShort, Device, Failed, Finished, Outcome, Progress, changed_at}
-use Rattle.fl_model.proofs.BlobsStay.{take_none}
+use Rattle.fl_model.proofs.Lists.{take_none}
 use Rattle.fl_words.specs.Command as command
 use Rattle.fl_words.specs.Command.{Command}
 use Rattle.fl_words.specs.Reply as reply

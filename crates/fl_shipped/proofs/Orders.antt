@@ -7,7 +7,7 @@ use Rattle.std.proofs.Math.Seq.{drop-length}
 use Rattle.fl_machine.proofs.Logs.{all_front}
 use Rattle.fl_model.specs.Record.{Record}
 use Rattle.fl_model.specs.Ship.{Ascends}
-use Rattle.fl_model.proofs.CopiesAreParts.{all-back}
+use Rattle.fl_model.proofs.Lists.{all-back}
 
 -- ---- lists of which the oldest records went
 

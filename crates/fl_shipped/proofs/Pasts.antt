@@ -5,8 +5,8 @@ use Rattle.std.proofs.lemmas.List.{append-nil, append_assoc}
 use Rattle.fl_machine.proofs.Logs.{all_weaker}
 use Rattle.fl_model.specs.Record.{Record}
 use Rattle.fl_model.specs.Ship.{Ascends, IsPart, IsWhole, Shipment, ShipmentStep, Shipments, nothing_yet}
-use Rattle.fl_model.proofs.Lists.{each-push}
-use Rattle.fl_model.proofs.CopiesAreParts.{parts, all-back}
+use Rattle.fl_model.proofs.Lists.{each-push, all-back}
+use Rattle.fl_model.proofs.CopiesAreParts.{parts}
 use Rattle.fl_shipped.proofs.Orders.{ascends-front}
 
 -- steps that led from nothing to this shipment; all that was written before begins what was ever written

@@ -9,10 +9,9 @@ use Rattle.fl_model.specs.Image.{rows_at}
 use Rattle.fl_model.specs.Record.{RowLayout}
 use Rattle.fl_model.specs.Row.{Row, stored_row}
 use Rattle.fl_model.specs.Table.{Table, Entry}
-use Rattle.fl_model.proofs.Lists.{slice_get-some}
+use Rattle.fl_model.proofs.Lists.{slice_get-some, take_none}
 use Rattle.fl_model.specs.BlobEnds.{blobs_end}
 use Rattle.fl_model.proofs.BlobEnds.{ends-append}
-use Rattle.fl_model.proofs.BlobsStay.{take_none}
 use Rattle.fl_page.specs.Page.{rows_in}
 use Rattle.fl_page.specs.Steps.{Ascends}
 use Rattle.fl_ring.specs.Newest.{commits}

@@ -24,9 +24,8 @@ use Rattle.fl_model.specs.Record.{Plan, key_limit, row_len, rows_per_page}
 use Rattle.fl_model.specs.Ring as model
 use Rattle.fl_model.specs.Row.{stored_row}
 use Rattle.fl_model.specs.Table.{Table, Entry, DataRing, shape_of}
-use Rattle.fl_model.proofs.Lists.{slice_get-short, slice_get-drop, slice_get-front, each-at, each-drop, each-take}
+use Rattle.fl_model.proofs.Lists.{slice_get-short, slice_get-drop, slice_get-front, each-at, each-drop, each-take, take_none}
 use Rattle.fl_model.proofs.Pages.{pages-at}
-use Rattle.fl_model.proofs.BlobsStay.{take_none}
 use Rattle.fl_page.specs.Header.{page_number, page_bitmap}
 use Rattle.fl_page.specs.Page.{rows_in, IsGoodPage}
 use Rattle.fl_page.proofs.WriterSteps.{layout_some}

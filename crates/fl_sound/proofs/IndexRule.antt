@@ -18,8 +18,7 @@ use Rattle.fl_model.specs.Mount.{index_end}
 use Rattle.fl_model.specs.Record.{Plan, RowLayout, entries_per_page}
 use Rattle.fl_model.specs.Ring as model
 use Rattle.fl_model.specs.Table.{Table, firsts, full_pages}
-use Rattle.fl_model.proofs.Lists.{slice_get-some, last_or-push}
-use Rattle.fl_model.proofs.BlobsStay.{take_none}
+use Rattle.fl_model.proofs.Lists.{slice_get-some, last_or-push, take_none}
 use Rattle.fl_ring.specs.Ring.{Shape}
 use Rattle.fl_check.specs.Entries.{IndexOver, entries_in, IsEntry, Lists, first_listed, HaveEntries}
 use Rattle.fl_rules.specs.Marks.{kept_page}

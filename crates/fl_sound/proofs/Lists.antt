@@ -6,7 +6,7 @@ use Rattle.std.proofs.Math.Seq.{take-add}
 use Rattle.std.proofs.lemmas.Option.{none-some, same_Some}
 use Rattle.fl_model.specs.Row.{Row, stored_row}
 use Rattle.fl_model.specs.Table.{Entry}
-use Rattle.fl_model.proofs.BlobsStay.{take_none}
+use Rattle.fl_model.proofs.Lists.{take_none}
 use Rattle.fl_page.specs.Steps.{Ascends}
 use Rattle.fl_rules.specs.Rising.{last_in}
 

@@ -8,8 +8,7 @@ use Rattle.std.specs.List.{slice_get, last_or, sum}
 use Rattle.fl_model.specs.Record.{Plan}
 use Rattle.fl_model.specs.Ring as model
 use Rattle.fl_model.specs.Table.{Table, Entry, DataRing, shape_of, pending_entries, last_entry, after_seal}
-use Rattle.fl_model.proofs.Lists.{slice_get-drop, slice_get-push, slice_get-short}
-use Rattle.fl_model.proofs.BlobsStay.{and_right}
+use Rattle.fl_model.proofs.Lists.{slice_get-drop, slice_get-push, slice_get-short, and_right}
 use Rattle.fl_ring.proofs.Modulo.{apart}
 use Rattle.fl_table.proofs.Sealed.{full_long}
 

@@ -9,7 +9,7 @@ use Rattle.fl_model.specs.Ring as model
 use Rattle.fl_model.specs.Table.{Table, Entry, DataRing, shape_of, with_ring, seal_buffer, seal_page, written, pending_entries, lose}
 use Rattle.fl_model.specs.Layout.{data_body}
 use Rattle.fl_model.proofs.Pages.{page_with, pages_from, pages-length, pages-push, pages-drop, pages-front}
-use Rattle.fl_model.proofs.BlobsStay.{and_right}
+use Rattle.fl_model.proofs.Lists.{and_right}
 use Rattle.fl_ring.specs.Ring.{RingState, is_due, is_due_at, appended, trimmed, sealed, voided, begun, erased}
 use Rattle.fl_parts.proofs.States.{shape_in, state_of, page-some}
 

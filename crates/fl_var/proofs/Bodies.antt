@@ -11,7 +11,7 @@ use Rattle.fl_model.specs.Record.{Plan}
 use Rattle.fl_model.specs.Ring as model
 use Rattle.fl_model.specs.Table.{full_pages}
 use Rattle.fl_model.proofs.FullPages.{full-cons, full-one, full-void, full-pushed}
-use Rattle.fl_model.proofs.BlobsStay.{drop_none, take_none}
+use Rattle.fl_model.proofs.Lists.{drop_none, take_none}
 use Rattle.fl_ring.specs.Counts.{page_count, ring_counts, model_shape}
 use Rattle.fl_ring.specs.Ring.{Shape, RingState, IsShape, count, oldest, is_due, is_due_at, appended, trimmed}
 use Rattle.fl_ring.proofs.Facts.{due_true, two_blocks}

@@ -16,7 +16,7 @@ use Rattle.fl_frame.proofs.CallsInTurn.{goes-same, goes-then}
 use Rattle.fl_model.specs.Record.{Plan, content_per_page}
 use Rattle.fl_model.specs.Table.{Table, RingName, VarRing, after_seals}
 use Rattle.fl_model.specs.Work.{Device}
-use Rattle.fl_model.proofs.BlobsStay.{drop_none}
+use Rattle.fl_model.proofs.Lists.{drop_none}
 use Rattle.fl_ring.specs.Place as place_words
 use Rattle.fl_ring.specs.Ring as rings
 use Rattle.fl_ring.specs.Ring.{Shape, OutsideStands}

@@ -19,8 +19,7 @@ use Rattle.fl_model.specs.Record.{Plan, content_per_page}
 use Rattle.fl_model.specs.Ring.{Ring, oldest}
 use Rattle.fl_model.specs.Table as model
 use Rattle.fl_model.specs.Table.{Entry, full_pages}
-use Rattle.fl_model.proofs.Lists.{slice_get-short, slice_get-some, slice_get-drop, slice_get-take, each-at}
-use Rattle.fl_model.proofs.BlobsStay.{drop_none}
+use Rattle.fl_model.proofs.Lists.{slice_get-short, slice_get-some, slice_get-drop, slice_get-take, each-at, drop_none}
 use Rattle.fl_page.specs.Header.{page_count}
 use Rattle.fl_page.specs.declared.fault.BadPage.{BadPage}
 use Rattle.fl_page.specs.declared.fault.ReadFault.{ReadFault}

@@ -23,7 +23,7 @@ use Rattle.fl_var.specs.Memory.{page_in, var_shape, IsSamePlan}
 use Rattle.fl_ring.specs.Mounting.{shape_at}
 use Rattle.fl_base.specs.declared.types.Geometry.{Geometry}
 use Rattle.fl_base.specs.declared.types.RingPlace.{RingPlace}
-use Rattle.fl_model.proofs.BlobsStay.{drop_none}
+use Rattle.fl_model.proofs.Lists.{drop_none}
 use Rattle.fl_var.specs.Placing.{Seals, Breaks, FaultEnds}
 use Rattle.fl_var.specs.Standing.{IsVarRing, HasRing}
 use Rattle.fl_var.specs.declared.var_data.VarData.{VarData}

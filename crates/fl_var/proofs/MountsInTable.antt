@@ -17,7 +17,7 @@ use Rattle.fl_model.specs.Table.{Table, RingName, VarRing, shape_of, seal_page, 
 use Rattle.fl_model.specs.Work.{Kind, VoidMark, Erase, Device, PartEnd, Whole, CutIn, FailedIn}
 use Rattle.fl_model.specs.Within.{repair_within, TablePerforms, effect_within, all_done}
 use Rattle.fl_model.proofs.Performs.{performs-whole}
-use Rattle.fl_model.proofs.BlobsStay.{drop_none}
+use Rattle.fl_model.proofs.Lists.{drop_none}
 use Rattle.fl_ring.specs.Head.{one}
 use Rattle.fl_ring.specs.Mounting.{shape_at, IsGood, Mounted, RepairEnds}
 use Rattle.fl_ring.specs.Mounting as ring_mounting

@@ -12,7 +12,7 @@ use Rattle.fl_model.specs.Record.{Record, Plan, content_per_page}
 use Rattle.fl_model.specs.Ring.{Ring}
 use Rattle.fl_model.specs.Table.{Table, RingName, VarRing, fill, blob_len, after_seals, fill_seals, with_record, start_page, start_offset}
 use Rattle.fl_model.specs.Work.{Device}
-use Rattle.fl_model.proofs.BlobsStay.{drop_none}
+use Rattle.fl_model.proofs.Lists.{drop_none}
 use Rattle.fl_frame.specs.Watched.{IsWatched}
 use Rattle.fl_ring.specs.Written.{Writes}
 use Rattle.fl_ring.proofs.Written.{writes-wider}
