@@ -20,7 +20,7 @@ use Rattle.fl_model.specs.Ring as model
 use Rattle.fl_model.specs.Row.{stored_row}
 use Rattle.fl_model.specs.Table.{Table, Entry, firsts, full_pages}
 use Rattle.fl_model.proofs.FullPages.{full-page, full-below, full-within}
-use Rattle.fl_model.proofs.Lists.{slice_get-some, slice_get-short, last_or-get, each-at}
+use Rattle.fl_model.proofs.Lists.{slice_get-some, slice_get-short, last_or-get, each-at, take_none}
 use Rattle.fl_page.specs.Header.{page_number, page_bitmap}
 use Rattle.fl_page.specs.Page.{rows_in, IsGoodPage}
 use Rattle.fl_ring.specs.Newest.{commits}
@@ -239,12 +239,8 @@ module _ (plan : Plan) (page : ℕ → List ℕ) (x d : Shape) (least : ℕ) (la
         let zero_is : c ≡ 0 = omega (arith, none) in
         let full : plan.full_index ≡ true = or-left plan.full_index (nat_lt 0 c) is (ap (nat_lt 0) zero_is) in
         let void = full-told (λ (f : code.Full). (bitmap_at (plan_form plan) bytes j ≡ 0) × (full_view f ≡ full_of [])) full (tells.void (of_rows.reads.committed i c here ∙ ap (nat_lt 0) zero_is)) in
-        let rows_are : rows_at table i c ≡ [] = ap (λ (n : ℕ). take n (drop (sum (take i table.rows.counts)) table.entries)) zero_is ∙ take-none (drop (sum (take i table.rows.counts)) table.entries) in
+        let rows_are : rows_at table i c ≡ [] = ap (λ (n : ℕ). take n (drop (sum (take i table.rows.counts)) table.entries)) zero_is ∙ take_none (drop (sum (take i table.rows.counts)) table.entries) in
         subst (λ (es : List Entry). Tells plan es entry) (sym rows_are) (record { bitmap = sym bitmap-is ∙ void.0 ∙ sym (no-bits (plan.bits == 0)); full = λ f. sym (full-is f) ∙ void.1 })
-      where
-        take-none : (entries : List Entry) → take 0 entries ≡ []
-        take-none [] = refl
-        take-none (entry ∷ entries) = refl
 
     tells-of : IsTrue (is_told plan c) → Tells plan (rows_at table i c) entry
     tells-of is = elim (cases_lt 0 c) [

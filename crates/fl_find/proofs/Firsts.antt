@@ -9,7 +9,7 @@ use Rattle.std.proofs.lemmas.List.Sums.{sum_by-cons}
 use Rattle.std.proofs.lemmas.Option.{none-some}
 use Rattle.fl_model.specs.Table.{Entry}
 use Rattle.fl_model.specs.Spline.{pages_from, page_key}
-use Rattle.fl_model.proofs.Lists.{slice_get-drop, slice_get-front}
+use Rattle.fl_model.proofs.Lists.{slice_get-drop, slice_get-front, drop_none, take_none}
 use Rattle.fl_spline.specs.Segment.{point_at}
 use Rattle.fl_search.specs.Search.{IsPageOf, starts_by, Ascends, voids_from}
 use Rattle.fl_search.proofs.Pages.{starts-void, starts-low, starts-high}
@@ -84,14 +84,7 @@ page_from-is first number (zero ∷ counts) entries key lo before firsts enough 
     subst (λ n. IsPageOf first lo n key (page_from before (number + 1) counts entries key)) (omega arith)
     (page_from-is first (number + 1) counts entries key lo before (subst (λ (l : List Entry). AreFirsts first (number + 1) counts l) (drop_none entries) firsts.1) (omega (arith, total, enough)) (omega (arith, le))
     (none-here first lo number key before (starts-void first key number void) is))
-  where
-    take_none : (xs : List Entry) → take 0 xs ≡ []
-    take_none [] = refl
-    take_none (x ∷ xs) = refl
 
-    drop_none : (xs : List Entry) → drop 0 xs ≡ xs
-    drop_none [] = refl
-    drop_none (x ∷ xs) = refl
 page_from-is first number (suc c ∷ counts) [] key lo before firsts enough le is = let total = sum-cons (suc c) counts in absurd (omega (arith, total, enough))
 page_from-is first number (suc c ∷ counts) (entry ∷ entries) key lo before firsts enough le is =
     let total = sum-cons (suc c) counts in
@@ -122,14 +115,7 @@ voids-counted first number (zero ∷ counts) entries firsts enough =
     let one : voids_from first number (length (zero ∷ counts)) ≡ 1 + voids_from first (number + 1) (length counts) = rw void refl in
     let left = voids-counted first (number + 1) counts entries (subst (λ (l : List Entry). AreFirsts first (number + 1) counts l) (drop_none entries) firsts.1) (omega (arith, total, enough)) in
     one ∙ (ap (λ n. 1 + n) left ∙ sym more)
-  where
-    take_none : (xs : List Entry) → take 0 xs ≡ []
-    take_none [] = refl
-    take_none (x ∷ xs) = refl
 
-    drop_none : (xs : List Entry) → drop 0 xs ≡ xs
-    drop_none [] = refl
-    drop_none (x ∷ xs) = refl
 voids-counted first number (suc c ∷ counts) [] firsts enough = let total = sum-cons (suc c) counts in absurd (omega (arith, total, enough))
 voids-counted first number (suc c ∷ counts) (entry ∷ entries) firsts enough =
     let total = sum-cons (suc c) counts in
@@ -193,10 +179,6 @@ firsts-ascend first number (count ∷ counts) entries firsts up i j x y from les
         some_taken : (m : ℕ) → take m entries ≡ a ∷ taken → 0 < m
         some_taken zero t = absurd (no (sym (take_none entries) ∙ t))
           where
-            take_none : (xs : List Entry) → take 0 xs ≡ []
-            take_none [] = refl
-            take_none (x ∷ xs) = refl
-
             no : ◌≡◌ {A = List Entry} [] (a ∷ taken) → ⊥
             no k = cc
         some_taken (suc m) t = omega arith
@@ -220,14 +202,7 @@ point-of first number (zero ∷ counts) entries n key firsts enough from less e 
     point-of first (number + 1) counts entries n key (subst (λ (l : List Entry). AreFirsts first (number + 1) counts l) (drop_none entries) firsts.1) (omega (arith, total, enough)) (omega arith) (omega (arith, less)) e)
     (λ here. let same : number ≡ n = omega (arith, from) in absurd (none-some key (sym (firsts.0 ∙ ap key_of (take_none entries)) ∙ (ap first same ∙ e))))
     (cases_lt number n)
-  where
-    take_none : (xs : List Entry) → take 0 xs ≡ []
-    take_none [] = refl
-    take_none (x ∷ xs) = refl
 
-    drop_none : (xs : List Entry) → drop 0 xs ≡ xs
-    drop_none [] = refl
-    drop_none (x ∷ xs) = refl
 point-of first number (suc c ∷ counts) [] n key firsts enough from less e = let total = sum-cons (suc c) counts in absurd (omega (arith, total, enough))
 point-of first number (suc c ∷ counts) (entry ∷ entries) n key firsts enough from less e = ⊎_elim
     (λ after.

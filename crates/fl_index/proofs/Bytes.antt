@@ -1,9 +1,10 @@
 -- The bitmaps in the bytes of a page.
-use Rattle.std.proofs.Common.{◌≡◌, ℕ, zero, suc, ◌+◌, ◌-◌, ◌/◌, ◌%◌, ◌^◌, ◌≤◌, List, [], ◌∷◌, length, take, drop, slice_range, refl, sym, ap, ◌∙◌, arith}
+use Rattle.std.proofs.Common.{◌≡◌, ℕ, zero, suc, ◌+◌, ◌-◌, ◌/◌, ◌%◌, ◌^◌, ◌≤◌, List, [], ◌∷◌, length, take, drop, slice_range, sym, ap, ◌∙◌, arith}
 use Rattle.std.proofs.lemmas.List.{take_all, append-nil}
 use Rattle.byteorder.specs.Endian.{little_number}
 use Rattle.byteorder.specs.Numbers.{little_from-bytes}
 use Rattle.std.specs.Int.{byte_at, bytes_low_first}
+use Rattle.fl_model.proofs.Lists.{take_none}
 use Rattle.fl_model.specs.Row.{le, number_of}
 use Rattle.fl_schema.proofs.Numbers.{number_read, little_number_is, length-le}
 
@@ -25,11 +26,7 @@ number_of-low width n =
 
 -- the first bytes of a number are its low ones
 pub take-low : (width more i n : ℕ) → take width (bytes_low_first i (width + more) n) ≡ bytes_low_first i width n
-take-low zero more i n = none (bytes_low_first i (0 + more) n)
-  where
-    none : (xs : List ℕ) → take 0 xs ≡ []
-    none [] = refl
-    none (x ∷ xs) = refl
+take-low zero more i n = take_none (bytes_low_first i (0 + more) n)
 take-low (suc width) more i n =
     let e : suc width + more ≡ suc (width + more) = omega arith in
     ap (λ (k : ℕ). take (suc width) (bytes_low_first i k n)) e ∙ ap (λ (xs : List ℕ). byte_at i n ∷ xs) (take-low width more (suc i) n)

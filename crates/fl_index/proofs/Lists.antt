@@ -10,11 +10,7 @@ use Rattle.fl_model.proofs.Lists.{slice_get-drop, slice_get-push, slice_get-shor
 use Rattle.fl_model.proofs.FullPages.{full-split}
 
 pub drop-front : {X : Type 0} (k : ℕ) (xs ys : List X) → k ≤ length xs → drop k (xs ++ ys) ≡ drop k xs ++ ys
-drop-front zero [] ys h = none ys
-  where
-    none : {X : Type 0} (ys : List X) → drop 0 ys ≡ ys
-    none [] = refl
-    none (y ∷ ys) = refl
+drop-front zero [] ys h = drop_none ys
 drop-front zero (x ∷ xs) ys h = refl
 drop-front (suc k) [] ys h = absurd (omega arith)
 drop-front (suc k) (x ∷ xs) ys h = drop-front k xs ys (omega arith)

@@ -16,7 +16,7 @@ use Rattle.fl_model.specs.Mount.{index_end}
 use Rattle.fl_model.specs.Record.{Plan, entry_len, entries_per_page}
 use Rattle.fl_model.specs.Ring as model
 use Rattle.fl_model.specs.Table.{Table, full_pages, firsts}
-use Rattle.fl_model.proofs.Lists.{slice_get-some, slice_get-short, last_or-get, each-at}
+use Rattle.fl_model.proofs.Lists.{slice_get-some, slice_get-short, last_or-get, each-at, take_none}
 use Rattle.fl_index.specs.Finding.{HasEnd, IsEnd}
 use Rattle.fl_index.specs.Outcomes.{end_of}
 use Rattle.fl_index.specs.Page.{page_first, first_on, first_where, newest_of, newest_where}
@@ -86,11 +86,7 @@ module _ (page : ℕ → List ℕ) (first : ℕ) (plan : Plan) (table : Table) (
 
   take-more : (counts : List ℕ) (n c : ℕ) → slice_get counts n ≡ Some c → full_pages (take (suc n) counts) ≡ full_pages (take n counts) + full_pages (c ∷ [])
   take-more [] n c e = absurd (none-some c e)
-  take-more (x ∷ xs) zero c e = let same : x ≡ c = cc in ap (λ k. full_pages (k ∷ take 0 xs)) same ∙ (ap (λ (ys : List ℕ). full_pages (c ∷ ys)) (nothing xs) ∙ omega arith)
-    where
-      nothing : (xs : List ℕ) → take 0 xs ≡ []
-      nothing [] = refl
-      nothing (x ∷ xs) = refl
+  take-more (x ∷ xs) zero c e = let same : x ≡ c = cc in ap (λ k. full_pages (k ∷ take 0 xs)) same ∙ (ap (λ (ys : List ℕ). full_pages (c ∷ ys)) (take_none xs) ∙ omega arith)
   take-more (x ∷ xs) (suc n) c e =
       omega (arith, full-cons x (take (suc n) xs), full-cons x (take n xs), take-more xs n c e)
 

@@ -9,7 +9,7 @@ use Rattle.fl_flash.specs.Flash.{FlashState}
 use Rattle.fl_model.specs.Limits.{is_indexed}
 use Rattle.fl_model.specs.Record.{Plan, entries_per_page}
 use Rattle.fl_model.specs.Table.{Table, full_pages, firsts}
-use Rattle.fl_model.proofs.Lists.{slice_get-some, slice_get-short}
+use Rattle.fl_model.proofs.Lists.{slice_get-some, slice_get-short, drop_none, take_none}
 use Rattle.fl_index.specs.declared.index.BitmapIndex.{BitmapIndex}
 use Rattle.fl_index.specs.Looking.{ends_above, unread, is_page, is_looked_at, due}
 use Rattle.fl_index.specs.Memory.{first_in, first_waiting, waiting_in, is_waiting, next_in, oldest_in, per_page, lists, listing_in}
@@ -38,10 +38,6 @@ take-at zero x (y ∷ xs) e =
     let same : y ≡ x = cc in
     let one : full_pages (take 1 (y ∷ xs)) ≡ full_pages (x ∷ []) = ap (λ (zs : List ℕ). full_pages (y ∷ zs)) (take_none xs) ∙ ap (λ z. full_pages (z ∷ [])) same in
     omega (arith, one)
-  where
-    take_none : (xs : List ℕ) → take 0 xs ≡ []
-    take_none [] = refl
-    take_none (x ∷ xs) = refl
 take-at (suc i) x (y ∷ xs) e =
     let others = take-at i x xs e in
     omega (arith, others, full-append (y ∷ []) (take (suc i) xs), full-append (y ∷ []) (take i xs))
@@ -100,10 +96,6 @@ module _ (t : BitmapIndex) (f : FlashState) (first : ℕ) (plan : Plan) (table :
       ∙ ap (λ n. count_by (λ k. ends_above (per_page t) number (first_in t k)) (range_with_len (oldest_in t) n)) (sym many) in
       let whole : full_pages (drop 0 counts) ≡ full_pages counts = ap full_pages (drop_none counts) in
       omega (arith, all, same, whole)
-    where
-      drop_none : (xs : List ℕ) → drop 0 xs ≡ xs
-      drop_none [] = refl
-      drop_none (x ∷ xs) = refl
 
   -- ---- the index page that lists a data page is looked at for it
 
@@ -173,11 +165,3 @@ module _ (t : BitmapIndex) (f : FlashState) (first : ℕ) (plan : Plan) (table :
         let none : full_pages (take 0 counts) ≡ 0 = ap full_pages (take_none counts) in
         let whole = ap (λ k. count_by q (drop k (firsts table))) none ∙ ap (count_by q) (drop_none (firsts table)) in
         omega (arith, all, same, whole)
-      where
-        drop_none : (xs : List ℕ) → drop 0 xs ≡ xs
-        drop_none [] = refl
-        drop_none (x ∷ xs) = refl
-
-        take_none : (xs : List ℕ) → take 0 xs ≡ []
-        take_none [] = refl
-        take_none (x ∷ xs) = refl

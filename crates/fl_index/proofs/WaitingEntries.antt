@@ -10,6 +10,7 @@ use Rattle.std.proofs.lemmas.Nat.{or_lt}
 use Rattle.std.proofs.Math.Nat.{add-mul, mod-eq_of_lt, mul-le-mul_right, one-le-pow}
 use Rattle.std.proofs.Math.Pow.{pow-lt}
 use Rattle.std.proofs.lemmas.Option.{none-some}
+use Rattle.fl_model.proofs.Lists.{drop_none, take_none}
 use Rattle.fl_base.specs.Bytes.{splice}
 use Rattle.fl_base.proofs.Ranges.{length-splice, drop-splice}
 use Rattle.fl_bitmap.specs.Widths.{is_bits}
@@ -65,32 +66,20 @@ abbrev pub InFront : EntryForm → List ℕ → List IndexEntry → Type 0
 InFront form xs entries = take (length entries * form_len form) xs ≡ flat_map (bytes_of form) entries
 
 take-within : (m n : ℕ) (ys : List ℕ) → m ≤ n → take m (take n ys) ≡ take m ys
-take-within zero n ys h = none (take n ys) ∙ sym (none ys)
-  where
-    none : (xs : List ℕ) → take 0 xs ≡ []
-    none [] = refl
-    none (x ∷ xs) = refl
+take-within zero n ys h = take_none (take n ys) ∙ sym (take_none ys)
 take-within (suc m) zero ys h = absurd (omega arith)
 take-within (suc m) (suc n) [] h = refl
 take-within (suc m) (suc n) (y ∷ ys) h = ap (λ (zs : List ℕ). y ∷ zs) (take-within m n ys (omega arith))
 
-zero-drop : (xs : List ℕ) → drop 0 xs ≡ xs
-zero-drop [] = refl
-zero-drop (x ∷ xs) = refl
-
 drop-front : (as' bs : List ℕ) (n : ℕ) → length as' ≡ n → drop n (as' ++ bs) ≡ bs
-drop-front [] bs n h = ap (λ k. drop k bs) (sym h) ∙ zero-drop bs
+drop-front [] bs n h = ap (λ k. drop k bs) (sym h) ∙ drop_none bs
 drop-front (a ∷ as') bs n h = ap (λ k. drop k (a ∷ as' ++ bs)) (sym h) ∙ drop-front as' bs (length as') refl
 
 one_more : (n w : ℕ) → suc n * w ≡ w + n * w
 one_more n w = let e : suc n ≡ 1 + n = omega arith in ap (λ k. k * w) e ∙ (add-mul 1 n w ∙ omega arith)
 
 pub none-in : (form : EntryForm) (xs : List ℕ) → InFront form xs []
-none-in form xs = ap (λ n. take n xs) (let e : 0 * form_len form ≡ 0 = omega arith in e) ∙ none xs
-  where
-    none : (xs : List ℕ) → take 0 xs ≡ []
-    none [] = refl
-    none (x ∷ xs) = refl
+none-in form xs = ap (λ n. take n xs) (let e : 0 * form_len form ≡ 0 = omega arith in e) ∙ take_none xs
 
 module _ (form : EntryForm) (xs : List ℕ) (x : IndexEntry) (entries : List IndexEntry) (h : InFront form xs (x ∷ entries)) where
   all : take (form_len form + length entries * form_len form) xs ≡ bytes_of form x ++ flat_map (bytes_of form) entries
@@ -111,7 +100,7 @@ pub entry-at : (form : EntryForm) (xs : List ℕ) (entries : List IndexEntry) (j
 entry-at form xs [] j b h e = absurd (none-some b e)
 entry-at form xs (x ∷ entries) zero b h e =
     let same : x ≡ b = cc in
-    ap (λ n. take (form_len form) (drop n xs)) (let k : 0 * form_len form ≡ 0 = omega arith in k) ∙ (ap (take (form_len form)) (zero-drop xs) ∙ (first-in form xs x entries h ∙ ap (bytes_of form) same))
+    ap (λ n. take (form_len form) (drop n xs)) (let k : 0 * form_len form ≡ 0 = omega arith in k) ∙ (ap (take (form_len form)) (drop_none xs) ∙ (first-in form xs x entries h ∙ ap (bytes_of form) same))
 entry-at form xs (x ∷ entries) (suc j) b h e =
     ap (λ n. take (form_len form) (drop n xs)) (one_more j (form_len form)) ∙ (ap (take (form_len form)) (sym (drop-drop (j * form_len form) (form_len form) xs)) ∙ entry-at form (drop (form_len form) xs) entries j b (others-in form xs x entries h) e)
 
@@ -210,16 +199,12 @@ body-is plan number first body entries n len size room h blank =
     let rest : drop (n * w) (drop 16 body) ≡ replicate (plan.geometry.page - 8 - length (header ++ flat)) 255 =
     drop-drop (n * w) 16 body ∙ (blank
     ∙ ap (λ k. replicate k 255) (let k : length body - (16 + n * w) ≡ plan.geometry.page - 8 - length (header ++ flat) = omega (arith, size, length-append header flat, head_len, flat_len) in k)) in
-    ap (λ (xs : List ℕ). xs ++ (header ++ drop (0 + length header) body)) (none body)
+    ap (λ (xs : List ℕ). xs ++ (header ++ drop (0 + length header) body)) (take_none body)
     ∙ (ap (λ k. header ++ drop k body) (let k : 0 + length header ≡ 16 = omega (arith, head_len) in k)
     ∙ (ap (λ (xs : List ℕ). header ++ xs) (sym (take-append-drop (n * w) (drop 16 body)) ∙ (ap (λ (xs : List ℕ). xs ++ drop (n * w) (drop 16 body)) (ap (λ m. take (m * w) (drop 16 body)) (sym len) ∙ h) ∙ ap (λ (xs : List ℕ). flat ++ xs) rest))
     ∙ (sym (append_assoc header flat (replicate (plan.geometry.page - 8 - length (header ++ flat)) 255))
     ∙ ap (λ m. (header_bytes number first m ++ flat) ++ replicate (plan.geometry.page - 8 - length (header_bytes number first m ++ flat)) 255) (sym len))))
   where
-    none : (xs : List ℕ) → take 0 xs ≡ []
-    none [] = refl
-    none (x ∷ xs) = refl
-
     header_length : (a b c : ℕ) → length (header_bytes a b c) ≡ 16
     header_length a b c =
         omega (arith, length-append (le 4 a ++ le 4 b ++ le 2 c) (le 6 0), length-append (le 4 a ++ le 4 b) (le 2 c), length-append (le 4 a) (le 4 b), length-le 4 a, length-le 4 b, length-le 2 c, length-le 6 0)

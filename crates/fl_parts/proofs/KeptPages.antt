@@ -18,7 +18,7 @@ use Rattle.fl_model.specs.Facts.{FitsPlan, BlobFits, is_some_ring}
 use Rattle.fl_model.specs.Layout.{data_body, committed, full_of}
 use Rattle.fl_index.specs.Page.{full_view}
 use Rattle.fl_model.specs.Image.{IsRingImage, HoldsRows, rows_at}
-use Rattle.fl_model.proofs.Lists.{slice_get-short, slice_get-drop, slice_get-front, each-drop, each-take}
+use Rattle.fl_model.proofs.Lists.{slice_get-short, slice_get-drop, slice_get-front, each-drop, each-take, take_none}
 use Rattle.fl_model.proofs.BlobEnds.{AreNumbered}
 use Rattle.fl_parts.proofs.BlobRows.{stored-row, written-numbered}
 use Rattle.fl_parts.proofs.Loose.{IsLoose}
@@ -63,10 +63,6 @@ all-stored plan (entry ∷ entries) numbered h =
 pub sum-next : {X : Type 0} (f : X → ℕ) (xs : List X) (i : ℕ) (x : X) → slice_get xs i ≡ Some x → sum_by f (take (suc i) xs) ≡ sum_by f (take i xs) + f x
 sum-next {X} f [] i x e = absurd (none-some x e)
 sum-next {X} f (y ∷ ys) zero x e = let same : y ≡ x = cc in sum_by-cons f y (take 0 ys) ∙ (ap (λ (zs : List X). f y + sum_by f zs) (take_none ys) ∙ omega (arith, ap f same))
-  where
-    take_none : (zs : List X) → take 0 zs ≡ []
-    take_none [] = refl
-    take_none (z ∷ zs) = refl
 sum-next f (y ∷ ys) (suc i) x e =
     let h = sum-next f ys i x e in
     let a = sum_by-cons f y (take (suc i) ys) in
@@ -142,10 +138,6 @@ module _ (page : ℕ → List ℕ) (first : ℕ) (plan : Plan) (table : Table) (
         where
           no : Void ≡ Committed → ⊥
           no e = cc
-
-          take_none : (zs : List Entry) → take 0 zs ≡ []
-          take_none [] = refl
-          take_none (z ∷ zs) = refl
 
   -- what its full entry tells beside the bitmap
   pub full-kept : (i c : ℕ) → slice_get table.rows.counts i ≡ Some c → full_view (full_on (row_layout plan) (page (place (shape_in first plan) (model.oldest table.rows + i)))) ≡ full_of (rows_at table i c)

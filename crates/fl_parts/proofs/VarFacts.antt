@@ -15,7 +15,7 @@ use Rattle.fl_model.specs.Table.{Table, Entry, VarRing, shape_of, full_pages, fi
 use Rattle.fl_model.proofs.BlobsJoined.{blobs-joined}
 use Rattle.fl_model.proofs.BlobsStay.{blobs-sealed}
 use Rattle.fl_model.proofs.FullPages.{full-append, full-one, full-split, full-dropped, full-pushed}
-use Rattle.fl_model.proofs.Lists.{slice_get-drop, slice_get-left, slice_get-last, slice_get-front, slice_get-push}
+use Rattle.fl_model.proofs.Lists.{slice_get-drop, slice_get-left, slice_get-last, slice_get-front, slice_get-push, drop_none, take_none}
 use Rattle.fl_model.proofs.StandingPages.{is_one, stands-behind, stands-not, stands-count, stands-kept, kept-stands}
 use Rattle.fl_parts.specs.Blobs.{AreIn, AreLed, ArePlaced}
 
@@ -174,14 +174,6 @@ trimmed shape c ring b = cond b (record (extended c ring) { counts = drop shape.
 pub goes-sealed : (shape : Shape) (c : ℕ) (ring : Ring) → IsShape shape → Goes shape c ring
 goes-sealed shape c ring is = by_full (is_full shape (extended c ring)) refl
   where
-    drop_none : (xs : List ℕ) → drop 0 xs ≡ xs
-    drop_none [] = refl
-    drop_none (x ∷ xs) = refl
-
-    take_none : (xs : List ℕ) → take 0 xs ≡ []
-    take_none [] = refl
-    take_none (x ∷ xs) = refl
-
     by_full : (b : Bool) → is_full shape (extended c ring) ≡ b → Goes shape c ring
     by_full true e =
         let both = and_parts ((ring.next + 1) % shape.pages == shape.pages - 1) (nat_lt ((shape.blocks - 1) * shape.pages - 1) (length (ring.counts ++ c ∷ []))) e in

@@ -1,5 +1,5 @@
 -- The newest page of a log has the records that its table names logged.
-use Rattle.std.proofs.Common.{◌≡◌, ℕ, zero, suc, ◌+◌, ◌-◌, ◌*◌, ◌^◌, ◌<◌, ◌≤◌, ◌⊎◌, inl, inr, Bool, true, false, cond, nat_lt, ◌||◌, Option, Some, None, List, [], ◌∷◌, ◌++◌, length, map, take, drop, filter, replicate, refl, sym, ◌∙◌, ap, subst, arith, append_assoc}
+use Rattle.std.proofs.Common.{◌≡◌, ℕ, zero, suc, ◌+◌, ◌-◌, ◌*◌, ◌^◌, ◌<◌, ◌≤◌, ◌⊎◌, inl, inr, Bool, true, false, cond, nat_lt, ◌||◌, Option, Some, None, List, [], ◌∷◌, ◌++◌, length, map, take, filter, replicate, refl, sym, ◌∙◌, ap, subst, arith, append_assoc}
 use Rattle.std.specs.List.{AllByRecursion, list_any, slice_get}
 use Rattle.std.proofs.Math.Nat.{le-div_iff_mul-le}
 use Rattle.std.proofs.Math.Seq.{take-length}
@@ -17,7 +17,7 @@ use Rattle.fl_model.specs.Ring as model
 use Rattle.fl_model.specs.Row.{Row, IsStorable, stored_row}
 use Rattle.fl_model.specs.Table.{Table, Entry, full_pages, has_rows, log_pages}
 use Rattle.fl_model.proofs.FullPages.{full-cons, full-one, full-void}
-use Rattle.fl_model.proofs.Lists.{slice_get-some, slice_get-short, slice_get-last, each-at}
+use Rattle.fl_model.proofs.Lists.{slice_get-some, slice_get-short, slice_get-last, each-at, drop_none}
 use Rattle.fl_page.specs.Page.{IsGoodPage, rows_in}
 use Rattle.fl_page.proofs.DataPages.{good_body, rows_in-rows_body}
 use Rattle.fl_ring.specs.Newest.{commits, NoneCommitted}
@@ -81,10 +81,6 @@ log-page key types blobs plan number rows same none some_row room small h low =
   where
     log_of : RowLayout → List ℕ
     log_of l = rows_body (plan.geometry.page - 8) l number 0 (map stored_row rows)
-
-    drop_none : {X : Type 0} (xs : List X) → drop 0 xs ≡ xs
-    drop_none [] = refl
-    drop_none (x ∷ xs) = refl
 
 -- ---- which page is the newest
 

@@ -3,6 +3,7 @@ use Rattle.std.proofs.Common.{◌≡◌, ℕ, zero, suc, ◌+◌, ◌-◌, ◌*�
 use Rattle.std.specs.List.{flat_map}
 use Rattle.std.proofs.Math.Seq.{take-add}
 use Rattle.std.proofs.lemmas.List.{drop-drop, length-take-le, append-nil}
+use Rattle.fl_model.proofs.Lists.{take_none}
 use Rattle.fl_index.specs.Page.{form_len}
 use Rattle.fl_index.specs.declared.page.EntryForm.{EntryForm}
 use Rattle.fl_index.proofs.WaitingEntries.{plan_form, length-entry}
@@ -32,10 +33,6 @@ entries_from (suc n) len width bytes = entry_from width bytes ∷ entries_from n
 length-entries_from : (n len width : ℕ) (bytes : List ℕ) → length (entries_from n len width bytes) ≡ n
 length-entries_from zero len width bytes = refl
 length-entries_from (suc n) len width bytes = ap suc (length-entries_from n len width (drop len bytes))
-
-take-none : (bytes : List ℕ) → take 0 bytes ≡ []
-take-none [] = refl
-take-none (b ∷ bytes) = refl
 
 -- what a full entry tells beside its bitmap is written as the same bytes
 full-back : (width : ℕ) (bytes : List ℕ) → AreBytes bytes → width + 14 ≤ length bytes → full_bytes (entry_from width bytes).full ≡ take 14 (drop width bytes)
@@ -74,7 +71,7 @@ module _ (plan : Plan) where
 
   entries-back : (n : ℕ) (bytes : List ℕ) → AreBytes bytes → n * entry_len plan ≤ length bytes
       → flat_map (entry_bytes plan) (entries_from n (entry_len plan) (plan.bits / 8) bytes) ≡ take (n * entry_len plan) bytes
-  entries-back zero bytes each room = sym (ap (λ (k : ℕ). take k bytes) (let e : 0 * entry_len plan ≡ 0 = omega arith in e) ∙ take-none bytes)
+  entries-back zero bytes each room = sym (ap (λ (k : ℕ). take k bytes) (let e : 0 * entry_len plan ≡ 0 = omega arith in e) ∙ take_none bytes)
   entries-back (suc n) bytes each room =
       let len = entry_len plan in
       let more : suc n * entry_len plan ≡ entry_len plan + n * entry_len plan = omega arith in

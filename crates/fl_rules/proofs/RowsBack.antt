@@ -6,6 +6,7 @@ use Rattle.std.proofs.lemmas.Bool.{eq-eqb}
 use Rattle.std.proofs.lemmas.Bool.Decides.{nat_tests}
 use Rattle.std.proofs.lemmas.Int.{ints}
 use Rattle.std.proofs.lemmas.List.{drop-drop, length-take-le, take-append-drop, take_all}
+use Rattle.fl_model.proofs.Lists.{take_none}
 use Rattle.fl_base.specs.declared.types.BlobRef.{BlobRef}
 use Rattle.fl_base.proofs.OneByte.{all_same}
 use Rattle.fl_model.specs.Record.{Column, columns_len, layout_len, fits, first_misfit}
@@ -59,11 +60,7 @@ module _ (bytes : List ℕ) (each : AreBytes bytes) where
 
 pub values_back : (types : List ColumnType) (bytes : List ℕ) → AreBytes bytes → columns_len (map column_of types) ≤ length bytes
     → values_bytes (map column_of types) (values_in (map column_of types) bytes) ≡ take (columns_len (map column_of types)) bytes
-values_back [] bytes each room = sym (take-none bytes)
-  where
-    take-none : (l : List ℕ) → take 0 l ≡ []
-    take-none [] = refl
-    take-none (b ∷ l) = refl
+values_back [] bytes each room = sym (take_none bytes)
 values_back (of ∷ types) bytes each room =
     let w = (column_of of).width in
     let n = columns_len (map column_of types) in
@@ -217,11 +214,7 @@ module _ (key : KeyWidth) (types : List ColumnType) (blobs : Bool) where
 
   pub rows_back : (count : ℕ) (bytes : List ℕ) → AreBytes bytes → count * layout_len (layout_with key types blobs) ≤ length bytes
       → flat_map (bytes_of_row (layout_with key types blobs)) (rows_from count (layout_with key types blobs) bytes) ≡ take (count * layout_len (layout_with key types blobs)) bytes
-  rows_back zero bytes each room = sym (ap (λ (k : ℕ). take k bytes) (let e : 0 * layout_len (layout_with key types blobs) ≡ 0 = omega arith in e) ∙ take-none bytes)
-    where
-      take-none : (l : List ℕ) → take 0 l ≡ []
-      take-none [] = refl
-      take-none (b ∷ l) = refl
+  rows_back zero bytes each room = sym (ap (λ (k : ℕ). take k bytes) (let e : 0 * layout_len (layout_with key types blobs) ≡ 0 = omega arith in e) ∙ take_none bytes)
   rows_back (suc count) bytes each room =
       let len = layout_len (layout_with key types blobs) in
       let more : suc count * layout_len (layout_with key types blobs) ≡ layout_len (layout_with key types blobs) + count * layout_len (layout_with key types blobs) = omega arith in

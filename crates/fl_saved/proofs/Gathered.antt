@@ -8,6 +8,7 @@ use Rattle.std.proofs.lemmas.List.Sums.{sum_by-cons}
 use Rattle.std.proofs.lemmas.Nat.{mod-mul-add, mod_below}
 use Rattle.std.specs.List.{AllByRecursion, flat_map, slice_get, sum}
 use Rattle.std.specs.List.Sorted.{IsPermutation}
+use Rattle.fl_model.proofs.Lists.{drop_none}
 use Rattle.fl_saved.proofs.Orders.{Rises}
 
 -- the lists of so many numbers from one on
@@ -75,10 +76,6 @@ gather-parts {X} k f a (c ∷ counts) xs all h =
     let part : drop (sum (take (suc i) (c ∷ counts))) xs ≡ drop (sum (take i counts)) (drop c xs) = ap (λ n. drop n xs) (sum_by-cons (λ (n : ℕ). n) c (take i counts)) ∙ sym (drop-drop (sum (take i counts)) c xs) in
     ap f p ∙ h (suc i) d e ∙ ap (λ l. flat_map k (take d l)) part))
     ∙ sym (flat-append k (take c xs) (drop c xs)) ∙ ap (flat_map k) (take-append-drop c xs)
-  where
-    drop_none : (l : List X) → drop 0 l ≡ l
-    drop_none [] = refl
-    drop_none (y ∷ ys) = refl
 
 -- ---- around a ring
 

@@ -5,6 +5,7 @@ use Rattle.std.specs.Option.{option_map, unwrap_or}
 use Rattle.std.proofs.lemmas.List.{drop_all, drop-take, length-map}
 use Rattle.std.proofs.lemmas.Bool.{cases_lt}
 use Rattle.std.proofs.lemmas.Option.{none-some}
+use Rattle.fl_model.proofs.Lists.{take_none}
 use Rattle.fl_base.specs.declared.types.CutKind.{CutKind}
 use Rattle.fl_model.specs.Mount.{Turn, Of, Replay, GoesOn, MountEnd, Mounted, Mounts, Stopped, Unread, operations_at, ready, turn_operations, turned, turned_at, turns_from}
 use Rattle.fl_model.specs.Record.{Plan, Record, has_log}
@@ -233,17 +234,13 @@ mounted-drops plans plan p rose device tables end x e none k did =
 front-drop : (g p : ℕ) (xs : List Record) → take (length (drop g xs) - p) (drop g xs) ≡ drop g (take (length xs - p) xs)
 front-drop g p xs = by_order (cases_lt (length xs - p) g)
   where
-    none : (ys : List Record) → take 0 ys ≡ []
-    none [] = refl
-    none (y ∷ ys) = refl
-
     len : length (drop g xs) ≡ length xs - g
     len = length-drop g xs
 
     by_order : (length xs - p < g) ⊎ (g ≤ length xs - p) → take (length (drop g xs) - p) (drop g xs) ≡ drop g (take (length xs - p) xs)
     by_order (inl lt) =
         let z : length (drop g xs) - p ≡ 0 = omega (arith, len, lt) in
-        ap (λ n. take n (drop g xs)) z ∙ (none (drop g xs) ∙ sym (drop_all g (take (length xs - p) xs) (let l = length-take (length xs - p) xs in omega (arith, l, lt))))
+        ap (λ n. take n (drop g xs)) z ∙ (take_none (drop g xs) ∙ sym (drop_all g (take (length xs - p) xs) (let l = length-take (length xs - p) xs in omega (arith, l, lt))))
     by_order (inr le) =
         let z : length (drop g xs) - p ≡ (length xs - p) - g = omega (arith, len, le) in
         let w : g + ((length xs - p) - g) ≡ length xs - p = omega (arith, le) in

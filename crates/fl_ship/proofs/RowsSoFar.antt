@@ -5,6 +5,7 @@ use Rattle.std.proofs.Math.Seq.{take-append-add}
 use Rattle.std.proofs.lemmas.List.{map-append, map_push, take_at, take_all, drop_at, length-map, length_push, length-take}
 use Rattle.std.proofs.lemmas.Bool.{ltb-true}
 use Rattle.std.proofs.lemmas.Option.{same_Some}
+use Rattle.fl_model.proofs.Lists.{take_none}
 use Rattle.fl_store.proofs.Risen.{has_risen, watched}
 use Rattle.fl_flash.specs.Flash.{FlashState, Goes}
 use Rattle.fl_flash.specs.declared.flash.FlashFault.TheVariants.{PowerLost, Media}
@@ -129,11 +130,7 @@ module _ (Told : Type 0) (all left : List Row) (n count : ℕ) (t : LoggedTable 
       take-nil k = take_all k [] (omega arith)
 
   wanted-whole : n ≡ count → Told → records_of far.done ≡ take count (records_of all)
-  wanted-whole is told = sym (wanted-is told ∙ (ap (λ (k : ℕ). records_of far.done ++ take k (records_of left)) (let e : count - n ≡ 0 = omega (arith, is) in e) ∙ (ap (λ (l : List Record). records_of far.done ++ l) (take-zero (records_of left)) ∙ append-nil (records_of far.done))))
-    where
-      take-zero : (l : List Record) → take 0 l ≡ []
-      take-zero [] = refl
-      take-zero (item ∷ items) = refl
+  wanted-whole is told = sym (wanted-is told ∙ (ap (λ (k : ℕ). records_of far.done ++ take k (records_of left)) (let e : count - n ≡ 0 = omega (arith, is) in e) ∙ (ap (λ (l : List Record). records_of far.done ++ l) (take_none (records_of left)) ∙ append-nil (records_of far.done))))
 
   pub number-end : (Told → left ≡ []) → Told → n ≡ length (take count all)
   number-end none told =

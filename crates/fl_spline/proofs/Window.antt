@@ -5,6 +5,7 @@ use Rattle.std.specs.List.{list_all, AllByRecursion}
 use Rattle.std.specs.Int.{abs_diff}
 use Rattle.std.proofs.Math.Nat.{mul-le-mul_left, mul_comm}
 use Rattle.std.proofs.lemmas.Bool.{cases_lt, leb-true, le-leb, lt-ltb, le-ltb}
+use Rattle.fl_model.proofs.Lists.{and_right}
 use Rattle.fl_model.specs.Spline.{is_near, reach, knots_after, knots_of, retained, is_covered, estimate}
 use Rattle.fl_spline.specs.Points.{IsPast, Rises, last_of}
 use Rattle.fl_spline.specs.declared.spline.Spline.{Spline}
@@ -122,10 +123,6 @@ and-left : (p q : Bool) → (p && q) ≡ true → p ≡ true
 and-left true q h = refl
 and-left false q h = h
 
-and-right : (p q : Bool) → (p && q) ≡ true → q ≡ true
-and-right true q h = h
-and-right false q h = absurd (cc h)
-
 -- a key before the end of the segment
 within : (error key : ℕ) (a b p : ℕ × ℕ) (xs rest : List (ℕ × ℕ)) → IsPast a b → key < b.0 → AllByRecursion (IsPast a) xs
     → list_all (is_near error a b) xs ≡ true → (p.0 ≤ key → p.1 ≤ line a b key + error) → Climbs (b ∷ rest)
@@ -135,7 +132,7 @@ within error key a b p [] rest past lt all near low up =
 within error key a b p (x ∷ xs) rest past lt all near low up =
     let here : is_near error a b x ≡ true = and-left (is_near error a b x) (list_all (is_near error a b) xs) near in (
       λ le before. (low le, line-high error key a b x past.0 all.0 here before),
-      within error key a b x xs rest past lt all.1 (and-right (is_near error a b x) (list_all (is_near error a b) xs) near)
+      within error key a b x xs rest past lt all.1 (and_right (is_near error a b x) (list_all (is_near error a b) xs) near)
           (line-low error key a b x past.0 all.0 here) up,
     )
 

@@ -4,7 +4,7 @@ use Rattle.std.proofs.lemmas.Bool.{lt-ltb}
 use Rattle.std.specs.List.{slice_get, last_or}
 use Rattle.fl_model.specs.Row.{stored_row}
 use Rattle.fl_model.specs.Table.{Entry}
-use Rattle.fl_model.proofs.Lists.{slice_get-some, slice_get-short}
+use Rattle.fl_model.proofs.Lists.{slice_get-some, slice_get-short, drop_none}
 use Rattle.fl_parts.specs.Reading.{rises, keys_fault, last_in}
 use Rattle.fl_parts.specs.declared.mount_fault.MountFault.TheVariants.{BadKeys}
 
@@ -20,10 +20,6 @@ split-at {X} zero [] x rest e = absurd (none e)
     none e = cc
 split-at {X} zero (y ∷ ys) x rest e = (cc, drop_none ys ∙ tail e)
   where
-    drop_none : (zs : List X) → drop 0 zs ≡ zs
-    drop_none [] = refl
-    drop_none (z ∷ zs) = refl
-
     tail : y ∷ ys ≡ x ∷ rest → ys ≡ rest
     tail e = cc
 split-at {X} (suc k) [] x rest e = absurd (none e)

@@ -20,7 +20,7 @@ use Rattle.fl_model.specs.Mount.{Of, renumber, ready, index_end, blob_end, waiti
 use Rattle.fl_model.specs.Facts.{IsTable, IsSettled}
 use Rattle.fl_model.specs.Work.{Device, PartProgress}
 use Rattle.fl_model.specs.Within.{TableMounts, TableStopped, TableUnread}
-use Rattle.fl_model.proofs.Lists.{slice_get-some}
+use Rattle.fl_model.proofs.Lists.{slice_get-some, take_none}
 use Rattle.fl_parts.proofs.BlobTables.{HoldsVar}
 use Rattle.fl_table.proofs.BlobsOfTable.{var-as, var-same}
 use Rattle.fl_table.proofs.MountCalls.{OthersStill}
@@ -379,10 +379,6 @@ module _ (first : ℕ) (plan : Plan) (table : Table) (rose : Bool) (device : Dev
         subst (λ (r : Shape). (number : ℕ) → model.oldest l.now.state.rows ≤ number → number < l.now.state.rows.next → bitmap_on (page_at mid (place_at r number)) ≡ bitmap_of plan (rows_of_page l.now.state number)) (sym is) (λ number low high. one_page image mid_sizes number low high) in
         λ number low high. rw (sym (bitmap number low high), sym (full_page number low high)) refl
       where
-        bare_rows : (xs : List Entry) → take 0 xs ≡ []
-        bare_rows [] = refl
-        bare_rows (x ∷ xs) = refl
-
         full_page : (number : ℕ) → model.oldest l.now.state.rows ≤ number → number < l.now.state.rows.next → full_view (full_on (layout_of t.schema) (pages_of ring mid number)) ≡ full_of (rows_of_page l.now.state number)
         full_page number low high =
             let i = number - model.oldest l.now.state.rows in
@@ -405,7 +401,7 @@ module _ (first : ℕ) (plan : Plan) (table : Table) (rose : Bool) (device : Dev
             by_count i c e (inl some) = page-bitmap plan (model.oldest l.now.state.rows + i) (rows_at l.now.state i c) (page_at mid (place_at (shape_in first plan) (model.oldest l.now.state.rows + i))) bits (image.kept i c e some)
             by_count i c e (inr none) =
                 let zero_is : c ≡ 0 = omega (arith, none) in
-                let nothing : rows_at l.now.state i c ≡ [] = ap (λ k. take k (drop (sum (take i l.now.state.rows.counts)) l.now.state.entries)) zero_is ∙ bare_rows (drop (sum (take i l.now.state.rows.counts)) l.now.state.entries) in
+                let nothing : rows_at l.now.state i c ≡ [] = ap (λ k. take k (drop (sum (take i l.now.state.rows.counts)) l.now.state.entries)) zero_is ∙ take_none (drop (sum (take i l.now.state.rows.counts)) l.now.state.entries) in
                 void-bitmap (page_at mid (place_at (shape_in first plan) (model.oldest l.now.state.rows + i))) (omega (arith, mid_sizes (model.oldest l.now.state.rows + i), large)) (image.void i (e ∙ ap (λ (n : ℕ). Some n) zero_is))
                 ∙ sym (ap (bitmap_of plan) nothing ∙ no_values (plan.bits == 0))
 

@@ -9,7 +9,7 @@ use Rattle.fl_model.specs.Ring as model
 use Rattle.fl_model.specs.Table.{Table, Entry, DataRing, shape_of, with_ring, seal_buffer, seal_page, written, pending_entries, lose}
 use Rattle.fl_model.specs.Layout.{data_body}
 use Rattle.fl_model.proofs.Pages.{page_with, pages_from, pages-length, pages-push, pages-drop, pages-front}
-use Rattle.fl_model.proofs.Lists.{and_right}
+use Rattle.fl_model.proofs.Lists.{and_right, drop_none}
 use Rattle.fl_ring.specs.Ring.{RingState, is_due, is_due_at, appended, trimmed, sealed, voided, begun, erased}
 use Rattle.fl_parts.proofs.States.{shape_in, state_of, page-some}
 
@@ -60,10 +60,6 @@ module _ (first : ℕ) (plan : Plan) (ring : model.Ring) (entries : List Entry) 
       (record { kept = pages_from plan (model.oldest ring) entries ring.counts ++ x ∷ []; next = ring.next + 1; torn = false; dirty = ring.dirty })) same_test
       ∙ by_test (model.is_full (shape_of plan DataRing) (model.extended count ring)) refl
     where
-      drop_none : (xs : List Entry) → drop 0 xs ≡ xs
-      drop_none [] = refl
-      drop_none (y ∷ ys) = refl
-
       by_test : (b : Bool) → model.is_full (shape_of plan DataRing) (model.extended count ring) ≡ b →
           cond b (record { kept = drop plan.geometry.block (pages_from plan (model.oldest ring) entries ring.counts ++ x ∷ []); next = ring.next + 1; torn = false; dirty = true })
           (record { kept = pages_from plan (model.oldest ring) entries ring.counts ++ x ∷ []; next = ring.next + 1; torn = false; dirty = ring.dirty })

@@ -18,7 +18,7 @@ use Rattle.fl_model.specs.Mount.{blob_end}
 use Rattle.fl_model.specs.Row.{stored_row}
 use Rattle.fl_model.specs.Spline.{pages_from, page_key, points_of as model_points, voids_of as model_voids}
 use Rattle.fl_model.specs.Table.{Table, Entry}
-use Rattle.fl_model.proofs.Lists.{slice_get-some, slice_get-short}
+use Rattle.fl_model.proofs.Lists.{slice_get-some, slice_get-short, take_none}
 use Rattle.fl_model.specs.BlobEnds.{blobs_end}
 use Rattle.fl_model.proofs.BlobEnds.{ends-append, ends-max, ends-of}
 use Rattle.fl_parts.specs.ByEntries.{Come, entry, facts_on, rows_of, voids_of, points_of, end_of, unlisted_of}
@@ -37,10 +37,6 @@ one-point m (suc c) (x ∷ entries) h =
 take-next : (xs : List ℕ) (n x : ℕ) → slice_get xs n ≡ Some x → take (suc n) xs ≡ take n xs ++ x ∷ []
 take-next [] n x e = absurd (none-some x e)
 take-next (y ∷ ys) zero x e = let same : y ≡ x = cc in ap (λ (l : List ℕ). y ∷ l) (take_none ys) ∙ ap (λ z. z ∷ []) same
-  where
-    take_none : (zs : List ℕ) → take 0 zs ≡ []
-    take_none [] = refl
-    take_none (z ∷ zs) = refl
 take-next (y ∷ ys) (suc n) x e = ap (λ (l : List ℕ). y ∷ l) (take-next ys n x e)
 
 -- the blobs of some records and of others behind them
@@ -101,10 +97,6 @@ module _ (t : Come) (table : Table) (is : IsOf t table) where
         end = sym (ap (λ (cs : List ℕ). end_of_blobs (take (sum cs) table.entries)) (take_none table.rows.counts) ∙ ap end_of_blobs (no_entries table.entries));
       }
     where
-      take_none : (zs : List ℕ) → take 0 zs ≡ []
-      take_none [] = refl
-      take_none (z ∷ zs) = refl
-
       no_entries : (es : List Entry) → take 0 es ≡ []
       no_entries [] = refl
       no_entries (e ∷ es) = refl

@@ -1,12 +1,13 @@
 -- The void pages of a table, as pages are sealed and given up.
-use Rattle.std.proofs.Common.{◌≡◌, ℕ, ◌+◌, ◌-◌, ◌*◌, ◌%◌, ◌<◌, ◌≤◌, Bool, true, false, cond, ◌==◌, ◌&&◌, Some, List, [], ◌∷◌, ◌++◌, length, map, take, drop, get_or, refl, sym, ◌∙◌, ap, arith, length-append, length-drop}
-use Rattle.std.proofs.lemmas.Bool.{ltb-true, ne_eqb, false≢true}
+use Rattle.std.proofs.Common.{◌≡◌, ℕ, ◌+◌, ◌-◌, ◌*◌, ◌%◌, ◌<◌, ◌≤◌, Bool, true, false, cond, ◌==◌, Some, List, [], ◌∷◌, ◌++◌, length, map, take, drop, get_or, refl, sym, ◌∙◌, ap, arith, length-append, length-drop}
+use Rattle.std.proofs.lemmas.Bool.{ltb-true, ne_eqb}
 use Rattle.std.proofs.lemmas.List.{drop-append-le}
 use Rattle.std.proofs.lemmas.List.FromFn.{take-map-range_with_len}
 use Rattle.std.proofs.lemmas.List.Sums.{sum_by-append, sum_by-take-drop}
 use Rattle.std.proofs.Math.Nat.{mul-le-mul_right}
 use Rattle.std.specs.List.{count_by, range_with_len}
 use Rattle.std.proofs.lemmas.Option.{same_Some}
+use Rattle.fl_model.proofs.Lists.{and_right}
 use Rattle.fl_flash.specs.Flash.{FlashState}
 use Rattle.fl_model.specs.Record.{Plan}
 use Rattle.fl_model.specs.Ring as model
@@ -64,10 +65,6 @@ module _ (plan : Plan) (table : Table) (shape : model.IsShape (shape_of plan Dat
             few = omega (arith, gone, enough);
             voids = omega (arith, ap (λ k. voids_in (take k table.rows.counts)) gone, stay, both);
           }
-        where
-          and_right : (a b : Bool) → (a && b) ≡ true → b ≡ true
-          and_right true b h = h
-          and_right false b h = absurd (false≢true h)
       by_test false e =
           let gone : table.rows.next + 1 - length (table.rows.counts ++ table.pending ∷ []) - model.oldest table.rows ≡ 0 = omega (arith, more, facts.not_negative) in
           record {

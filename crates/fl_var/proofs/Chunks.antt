@@ -1,8 +1,9 @@
 -- The chunks of a blob.
-use Rattle.std.proofs.Common.{◌≡◌, ℕ, suc, ◌+◌, ◌-◌, ◌^◌, ◌<◌, ◌≤◌, Bool, true, false, cond, ◌==◌, List, [], ◌∷◌, ◌++◌, length, take, drop, slice_range, refl, sym, ◌∙◌, ap, arith, inl, inr, ◌⊎◌}
+use Rattle.std.proofs.Common.{◌≡◌, ℕ, suc, ◌+◌, ◌-◌, ◌^◌, ◌<◌, ◌≤◌, Bool, true, false, cond, ◌==◌, List, [], ◌++◌, length, take, drop, slice_range, refl, sym, ◌∙◌, ap, arith, inl, inr, ◌⊎◌}
 use Rattle.std.proofs.Math.Seq.{take-add, drop-append_seam}
 use Rattle.std.proofs.lemmas.Bool.{cases_lt, eq-eqb, eqb-true}
 use Rattle.std.proofs.lemmas.List.{take-take, take-append-le, drop-drop, drop-append-le, length-take-le, length-drop}
+use Rattle.fl_model.proofs.Lists.{drop_none}
 use Rattle.fl_base.proofs.Ranges.{slice_below}
 use Rattle.fl_flash.specs.Flash.{FlashState}
 use Rattle.fl_page.specs.Header.{page_count}
@@ -32,10 +33,6 @@ pub contents-first : (image : ℕ → List ℕ) (next page : ℕ) → page ≤ n
 contents-first image next page le =
     let more : next + 1 - page ≡ suc (next + 1 - (page + 1)) = omega (arith, le) in
     ap (contents_from image page) more
-
-drop_none : (xs : List ℕ) → drop 0 xs ≡ xs
-drop_none [] = refl
-drop_none (x ∷ xs) = refl
 
 -- behind the content of a page the next one begins
 pub contents-turned : (image : ℕ → List ℕ) (next page from left : ℕ) → page ≤ next → length (content_of (image page)) ≡ from →

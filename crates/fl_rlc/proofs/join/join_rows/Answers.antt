@@ -13,7 +13,7 @@ use Rattle.fl_model.specs.Record.{RowLayout}
 use Rattle.fl_model.specs.Row.{Row, stored_row}
 use Rattle.fl_model.specs.Table as model
 use Rattle.fl_model.specs.Table.{Entry}
-use Rattle.fl_model.proofs.Lists.{each-at}
+use Rattle.fl_model.proofs.Lists.{each-at, take_none}
 use Rattle.fl_page.specs.Header.{page_count}
 use Rattle.fl_page.specs.Page.{IsGoodPage, rows_in}
 use Rattle.fl_page.specs.View.{page_of, layout_of_page, count_of}
@@ -31,13 +31,9 @@ use Rattle.fl_rlc.proofs.PutFrames.{blobs-same}
 use Rattle.fl_rlc.proofs.TakenRecord.{fits-bare, room-for}
 use Rattle.fl_rlc.proofs.join.join_rows.Goals as goal
 
-take-none : {X : Type 0} (xs : List X) → take 0 xs ≡ []
-take-none [] = refl
-take-none (x ∷ xs) = refl
-
 take-more : {X : Type 0} (i : ℕ) (xs : List X) (x : X) → slice_get xs i ≡ Some x → take (suc i) xs ≡ take i xs ++ x ∷ []
 take-more {X} i [] x e = absurd (none-some x e)
-take-more {X} zero (y ∷ ys) x e = let same : y ≡ x = cc in ap (λ (z : X). z ∷ take 0 ys) same ∙ ap (λ (zs : List X). x ∷ zs) (take-none ys)
+take-more {X} zero (y ∷ ys) x e = let same : y ≡ x = cc in ap (λ (z : X). z ∷ take 0 ys) same ∙ ap (λ (zs : List X). x ∷ zs) (take_none ys)
 take-more {X} (suc i) (y ∷ ys) x e = ap (λ (zs : List X). y ∷ zs) (take-more i ys x e)
 
 take-push : {X : Type 0} (i : ℕ) (xs : List X) (x : X) → slice_get xs i ≡ Some x → take (i + 1) xs ≡ take i xs ++ x ∷ []
@@ -67,7 +63,7 @@ loop-i-init g c = record {
   few = omega (arith, c.requires.none);
   offers = λ after h. h;
   joins = λ first plan table_now rose device watched s page rows.
-      subst (λ (es : List Entry). Stands c.args.table.now (g.F.Flash.state c.args.flash.now) first (bare plan) (all_taken (bare_table table_now) es)) (sym (take-none table_now.logged)) s;
+      subst (λ (es : List Entry). Stands c.args.table.now (g.F.Flash.state c.args.flash.now) first (bare plan) (all_taken (bare_table table_now) es)) (sym (take_none table_now.logged)) s;
 }
 
 pub record_at-record-requires : goal.record_at-record-requires
