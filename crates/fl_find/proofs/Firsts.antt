@@ -84,7 +84,6 @@ page_from-is first number (zero ∷ counts) entries key lo before firsts enough 
     subst (λ n. IsPageOf first lo n key (page_from before (number + 1) counts entries key)) (omega arith)
     (page_from-is first (number + 1) counts entries key lo before (subst (λ (l : List Entry). AreFirsts first (number + 1) counts l) (drop_none entries) firsts.1) (omega (arith, total, enough)) (omega (arith, le))
     (none-here first lo number key before (starts-void first key number void) is))
-
 page_from-is first number (suc c ∷ counts) [] key lo before firsts enough le is = let total = sum-cons (suc c) counts in absurd (omega (arith, total, enough))
 page_from-is first number (suc c ∷ counts) (entry ∷ entries) key lo before firsts enough le is =
     let total = sum-cons (suc c) counts in
@@ -115,7 +114,6 @@ voids-counted first number (zero ∷ counts) entries firsts enough =
     let one : voids_from first number (length (zero ∷ counts)) ≡ 1 + voids_from first (number + 1) (length counts) = rw void refl in
     let left = voids-counted first (number + 1) counts entries (subst (λ (l : List Entry). AreFirsts first (number + 1) counts l) (drop_none entries) firsts.1) (omega (arith, total, enough)) in
     one ∙ (ap (λ n. 1 + n) left ∙ sym more)
-
 voids-counted first number (suc c ∷ counts) [] firsts enough = let total = sum-cons (suc c) counts in absurd (omega (arith, total, enough))
 voids-counted first number (suc c ∷ counts) (entry ∷ entries) firsts enough =
     let total = sum-cons (suc c) counts in
@@ -202,7 +200,6 @@ point-of first number (zero ∷ counts) entries n key firsts enough from less e 
     point-of first (number + 1) counts entries n key (subst (λ (l : List Entry). AreFirsts first (number + 1) counts l) (drop_none entries) firsts.1) (omega (arith, total, enough)) (omega arith) (omega (arith, less)) e)
     (λ here. let same : number ≡ n = omega (arith, from) in absurd (none-some key (sym (firsts.0 ∙ ap key_of (take_none entries)) ∙ (ap first same ∙ e))))
     (cases_lt number n)
-
 point-of first number (suc c ∷ counts) [] n key firsts enough from less e = let total = sum-cons (suc c) counts in absurd (omega (arith, total, enough))
 point-of first number (suc c ∷ counts) (entry ∷ entries) n key firsts enough from less e = ⊎_elim
     (λ after.

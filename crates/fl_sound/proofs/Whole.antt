@@ -162,7 +162,6 @@ table-image config bytes start (p ∷ plans) [] i plan table h e k = absurd h
 table-image config bytes start (p ∷ plans) (x ∷ tables) zero plan table h e k =
     subst (λ (n : ℕ). IsTableImage config bytes n plan table) (let q : start ≡ start + 0 = omega arith in q)
     (subst (λ (y : Table). IsTableImage config bytes start plan y) (same_Some x table k) (subst (λ (y : Plan). IsTableImage config bytes start y x) (same_Some p plan e) h.0))
-
 table-image config bytes start (p ∷ plans) (x ∷ tables) (suc i) plan table h e k =
     subst (λ (n : ℕ). IsTableImage config bytes n plan table) (let q : start + 1 + i ≡ start + suc i = omega arith in q) (table-image config bytes (start + 1) plans tables i plan table h.1 e k)
 
