@@ -79,4 +79,4 @@ returns-in-Some-clause-blames g c = λ covered.
     subst (λ (e : ℕ). IfErr c.page_downwards.result (BlamesBelow (layout_of c.args.schema.now) c.args.ring.now (g.F.Flash.state c.args.flash.now) e c.args.key)) end c.page_downwards.ensures.blames
 
 pub returns-in-None-clause-blames : goal.returns-in-None-clause-blames
-returns-in-None-clause-blames g c = λ covered. absurd (no (sym covered ∙ c.in-None.ensures.segment))
+returns-in-None-clause-blames g c = λ covered. absurd (true≢false (sym covered ∙ c.in-None.ensures.segment))
