@@ -1,5 +1,5 @@
 use Rattle.fl_ring.specs.declared.ring.Ring.{Ring}
-use Rattle.std.proofs.Common.{◌≡◌, Option, ◌+◌, ◌*◌, ◌%◌, ℕ, ◌<◌, ◌≤◌, ◌==◌, cond, List, ◌++◌, Some, Result, Ok, Err, length, take, drop, get_or, set, unwrap_or, arith, refl, sym, ◌∙◌, ap, subst}
+use Rattle.std.proofs.Common.{None, ◌≡◌, Option, ◌+◌, ◌*◌, ◌%◌, ℕ, ◌<◌, ◌≤◌, ◌==◌, cond, List, ◌++◌, Some, Result, Ok, Err, length, take, drop, get_or, set, unwrap_or, arith, refl, sym, ◌∙◌, ap, subst}
 use Rattle.std.specs.Prelude.{option_map}
 use Rattle.std.proofs.lemmas.Result.{err_from_is_err_and}
 use Rattle.std.proofs.lemmas.Option.{none-some}
