@@ -8,7 +8,7 @@ use Rattle.fl_words.specs.Command.{Command}
 use Rattle.fl_words.specs.Medium.{header}
 use Rattle.fl_machine.specs.Script.{Ready}
 use Rattle.fl_config.specs.Opening.{Differs}
-use Rattle.fl_store.specs.Laws.{new_image}
+use Rattle.fl_store.specs.NewImage.{new_image}
 use Rattle.fl_session.specs.Complete.{IsInPlace, Completes}
 use Rattle.fl_session.specs.Ends.{Told, Ends, IsOwn, IsOther, RunsAll, IsNew, effects_of}
 use Rattle.fl_session.specs.ScriptEnds.{EndsDone, EndsLine, EndsConfig, EndsOther}

@@ -19,7 +19,7 @@ use Rattle.fl_store.proofs.NewImages.{sized-image}
 use Rattle.fl_store.proofs.Unmounted.{off}
 use Rattle.fl_store.specs.Store.{at_rest, Holds}
 use Rattle.fl_store.specs.declared.tables.Entry.{Entry}
-use Rattle.fl_store.specs.Laws.{new_image, made_image}
+use Rattle.fl_store.specs.NewImage.{new_image, made_image}
 use Rattle.fl_session.specs.Ends.{IsOwn, IsFormed}
 use Rattle.fl_session.specs.Opening.{Opened}
 use Rattle.fl_session.specs.Cost.{cost_of}

@@ -19,7 +19,7 @@ use Rattle.fl_lines.specs.Taken.{HasTaken, TakesFew, begin_behind}
 use Rattle.fl_lines.proofs.LinesInTurn.{begin-fits}
 use Rattle.std.proofs.lemmas.List.Sums.{sum_by-append}
 use Rattle.fl_script.specs.declared.command.Command as code
-use Rattle.fl_store.specs.Laws.{made_image}
+use Rattle.fl_store.specs.NewImage.{made_image}
 use Rattle.fl_session.specs.Run.{tail_of, RanFrom, RunsFrom, IsOfCommands}
 use Rattle.fl_session.specs.Begin.{AtCommand, AtEnd, EndsBegin, BeginsAt}
 use Rattle.fl_session.specs.Ends.{Told, IsOwn, IsFormed, RunsAll, RunsInto, effects_of, Ends, IsEarlyBy}

@@ -7,7 +7,7 @@ use Rattle.fl_machine.specs.Script.{Ready, accepted, first_refused}
 use Rattle.fl_session.specs.Ends.{Told, RunsAll}
 use Rattle.fl_session.specs.ScriptEnds.{start_in}
 use Rattle.fl_lines.specs.Texts.{most_bytes}
-use Rattle.fl_store.specs.Laws.{new_image}
+use Rattle.fl_store.specs.NewImage.{new_image}
 use Rattle.fl_session.specs.declared.status.Status.{Status}
 use Rattle.fl_session.specs.declared.status.Status.TheVariants.{Done, Usage, Line, ScriptRead, OutWrite, MediaMake, Config as BadConfiguration, OtherConfig, ScriptLong, NoMemory}
 

@@ -10,7 +10,7 @@ use Rattle.fl_machine.specs.Machine.{Machine}
 use Rattle.fl_machine.specs.Script.{Start, Ready, Unended, BadLine, BadConfig, StandsFor, StandsAfter}
 use Rattle.fl_machine.specs.WholeReads.{RanReading, RanIntoReading}
 use Rattle.fl_config.specs.Opening.{Differs}
-use Rattle.fl_store.specs.Laws.{new_image, made_image}
+use Rattle.fl_store.specs.NewImage.{new_image, made_image}
 use Rattle.fl_session.specs.Determined.{IsUncut, RanPlainly, RanPlainlyInto}
 use Rattle.fl_session.specs.Pending.{EndsAt}
 use Rattle.fl_session.specs.ScriptEnds.{Effects, EndsWith}

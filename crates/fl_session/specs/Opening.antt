@@ -8,7 +8,7 @@ use Rattle.fl_model.specs.Image.{medium_len}
 use Rattle.fl_flash.specs.Media.{MediaState}
 use Rattle.fl_words.specs.Medium.{header}
 use Rattle.fl_config.specs.Opening.{Differs}
-use Rattle.fl_store.specs.Laws.{new_image}
+use Rattle.fl_store.specs.NewImage.{new_image}
 use Rattle.fl_session.specs.Ends.{IsOwn}
 
 -- An empty medium was made, and another is one of the configuration, and was read once at most.

@@ -15,7 +15,7 @@ use Rattle.fl_session.proofs.Over.{kept-formed}
 use Rattle.fl_session.proofs.Ready.{after-alike, stands-ready}
 use Rattle.fl_session.proofs.Rested.{opened-content, opened-formed, opened-rests}
 use Rattle.fl_words.specs.Grammar.{lines_of}
-use Rattle.fl_store.specs.Laws.{made_image}
+use Rattle.fl_store.specs.NewImage.{made_image}
 use Rattle.fl_shell.specs.Ends.{Ended, ShellEnds}
 use Rattle.fl_shell.specs.Leading.{BeginsAs, others_of}
 use Rattle.fl_shell.specs.Reading.{IsLeft, rest_in}

@@ -12,7 +12,7 @@ use Rattle.fl_model.specs.Record.{Config}
 use Rattle.fl_session.specs.Ends.{Told, IsFormed, IsUntouched}
 use Rattle.fl_words.specs.Config.{Lines, no_lines, whole}
 use Rattle.fl_words.specs.Grammar.{lines_of}
-use Rattle.fl_store.specs.Laws.{made_image}
+use Rattle.fl_store.specs.NewImage.{made_image}
 use Rattle.fl_shell.specs.Begin.{Leads, LeadsTo, IsEnded, step_of}
 use Rattle.fl_shell.specs.Talking.{MediumEnds, OfFront}
 use Rattle.fl_shell.specs.declared.end.Flushed.{Flushed}

@@ -25,7 +25,7 @@ use Rattle.fl_store.specs.Tables.{AreNewTables, IsNamed, Names}
 use Rattle.fl_store.specs.declared.tables.Entry.{Entry}
 use Rattle.fl_words.specs.Config.{Lines}
 use Rattle.fl_words.specs.Medium.{IsImage}
-use Rattle.fl_store.specs.Laws.{made_image}
+use Rattle.fl_store.specs.NewImage.{made_image}
 use Rattle.fl_ship.specs.Ends.{Bytes, IsCopy, IsOfForm, IsUnbegun, ShipEnds, TablesShip, Told, held_in, is_shipped}
 use Rattle.fl_ship.specs.Media.{bytes_of, source_status}
 use Rattle.fl_ship.specs.Tables.{IsOfTables, told_of}

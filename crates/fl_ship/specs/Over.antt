@@ -15,7 +15,7 @@ use Rattle.fl_store.specs.declared.tables.BadMount.{BadMount}
 use Rattle.fl_store.specs.declared.tables.Entry.{Entry}
 use Rattle.fl_table.specs.Look.{last_key_in}
 use Rattle.fl_words.specs.Config.{Lines}
-use Rattle.fl_store.specs.Laws.{made_image}
+use Rattle.fl_store.specs.NewImage.{made_image}
 use Rattle.fl_ship.specs.Ready.{IsEarly}
 use Rattle.fl_ship.specs.Tables.{mount_status}
 use Rattle.fl_ship.specs.declared.side.Side.TheVariants.{Source, Copy}

@@ -5,7 +5,7 @@ ghost use Rattle.fl_config.specs.Whole.{is_whole, Makes};
 ghost use Rattle.fl_image.specs.Image.{IsImageOf, OnlyLooksAt};
 ghost use Rattle.fl_model.specs.Image.{medium_len};
 ghost use Rattle.fl_model.specs.Record.{Config as Configured};
-ghost use Rattle.fl_store.specs.Laws.{made_image};
+ghost use Rattle.fl_store.specs.NewImage.{made_image};
 ghost use Rattle.fl_ship.specs.Media.{OpensCopy};
 ghost use Rattle.fl_ship.specs.declared.side.Side.{Side};
 ghost use Rattle.fl_ship.specs.declared.status.ShipStatus.{ShipStatus};

@@ -12,7 +12,7 @@ use Rattle.fl_parts.specs.Pages.{place_in}
 use Rattle.fl_rlc.proofs.Images.{rests-image, blank-rests}
 use Rattle.fl_words.specs.Medium.{IsImage, header}
 use Rattle.fl_image.specs.Header.{IsMade}
-use Rattle.fl_store.specs.Laws.{new_image}
+use Rattle.fl_store.specs.NewImage.{new_image}
 use Rattle.fl_store.proofs.HeaderLength.{header-length}
 
 -- a part of the bytes behind the header is blank

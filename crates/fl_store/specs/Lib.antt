@@ -14,4 +14,5 @@ pub mod Calls
 pub mod InMemory
 pub mod Works
 pub mod Made
+pub mod NewImage
 pub mod Laws

@@ -15,7 +15,7 @@ use Rattle.fl_store.proofs.TablesChanged.{some-is}
 use Rattle.fl_store.proofs.Worked.{held-since, worked-by, worked-image, worked-keeps, worked-others, worked-repaired, worked-rose}
 use Rattle.fl_words.specs.Config.{Lines}
 use Rattle.fl_words.specs.Medium.{IsImage}
-use Rattle.fl_store.specs.Laws.{made_image}
+use Rattle.fl_store.specs.NewImage.{made_image}
 use Rattle.fl_ship.specs.Ends.{ShipEnds}
 use Rattle.fl_ship.specs.Fits.{StatusFits, is_refused}
 use Rattle.fl_ship.specs.Media.{bytes_of}
