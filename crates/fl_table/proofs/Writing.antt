@@ -24,6 +24,10 @@ few-first a b = omega arith
 few-both : (a b : ℕ) → a + b ≤ a + b + 1
 few-both a b = omega arith
 
+-- what is at most so many more is at most these and others more
+pub few-more : (n before a b : ℕ) → n ≤ before + a → n ≤ before + (a + b)
+few-more n before a b le = omega (arith, le)
+
 -- it may change the same pages of another one with the same plan
 pub fill-moved : (blob : Option (List ℕ)) (old new : Option VarData) → variable.AreSamePlan old new → (page : ℕ) → variable.MayFill blob new page → variable.MayFill blob old page
 fill-moved None old new plan page may = absurd may

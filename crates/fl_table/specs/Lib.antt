@@ -10,6 +10,7 @@ pub mod Laws
 pub mod Causes
 pub mod Mounting
 pub mod Paged
+pub mod Frames
 pub mod Look
 pub mod Rings
 pub mod Kept

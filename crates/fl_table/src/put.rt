@@ -33,7 +33,8 @@ impl<const KNOTS: usize, const SLOTS: usize> Table<KNOTS, SLOTS> {
     ghost use Rattle.fl_ring.specs.Written.{Writes};
     ghost use Rattle.fl_schema.specs.Schema.{layout_of};
     ghost use Rattle.fl_flash.specs.Flash.{FlashState};
-    ghost use Rattle.fl_table.specs.Causes.{PutCausedBy, FlushCausedBy, RefusedSame, put_breaks, flush_breaks};
+    ghost use Rattle.fl_table.specs.Causes.{PutCausedBy, FlushCausedBy, put_breaks, flush_breaks};
+    ghost use Rattle.fl_table.specs.Frames.{Over, Changes, GoesOn, PutsInMemory, PutsPage, FlushesInMemory, FlushesPage, bytes_in, length_in, seals_in_put};
     ghost use Rattle.fl_table.specs.Look.{last_key_in};
     ghost use Rattle.fl_table.specs.Memory.{is_running, is_stopped, next_in, pending_in, HasRoom, InMemory, IsSameBeside, IsSamePlan, LiesOn, MayPut, MaySeal, PendingAre};
     ghost use Rattle.fl_bitmap.specs.Bucket.{HasBuckets};
@@ -45,8 +46,8 @@ impl<const KNOTS: usize, const SLOTS: usize> Table<KNOTS, SLOTS> {
     ghost use Rattle.fl_table.specs.Mounting.{OutsideStands, rings_in};
     ghost use Rattle.fl_table.specs.Outcomes.{SealsEnd, JoinEnds, PutEnds, FlushEnds};
     ghost use Rattle.fl_table.specs.Accepting.{IsAcceptedBy};
-    ghost use Rattle.fl_table.specs.Paged.{HasFlushed, HasMadePage};
-    ghost use Rattle.fl_table.specs.Stored.{HasJoined, IsEmptied, KnowsSame, Stores};
+    ghost use Rattle.fl_table.specs.Paged.{HasFlushed};
+    ghost use Rattle.fl_table.specs.Stored.{HasJoined, IsEmptied, KnowsSame};
 
     // The page buffer has no room for one row more.
     fn is_full(&self) -> bool
@@ -176,33 +177,21 @@ impl<const KNOTS: usize, const SLOTS: usize> Table<KNOTS, SLOTS> {
         blob: Option<&[u8]>,
     ) -> Result<(), PutRefusal>
         requires lies { LiesOn self.old (F.state flash.old) }
-        ensures goes { Goes (F.state flash.old) (F.state flash.new) }
-        ensures same { IsSamePlan self.old self.new }
-        ensures lies { LiesOn self.new (F.state flash.new) }
-        ensures ends { (first : ℕ) → (plan : Plan) → (table : model.Table) → (rose : Bool) → (device : Device) → IsWatched (F.state flash.old) (F.state flash.new) rose device
-            → Stands self.old (F.state flash.old) first plan table
-            → PutEnds first plan (record { key = key; values = values.now; blob = option_map (λ b. b.now) blob.entry }) table rose device result self.new (F.state flash.old) (F.state flash.new) }
-        ensures exact { RefusesAs (put_refusal self.old key values.now (option_map (λ b. length b.now) blob.entry)) result }
-        ensures refused { IfErr result (λ e. RefusedSame self.old (F.state flash.old) e self.new (F.state flash.new)) }
-        ensures stopped { is_stopped self.new ≡ (put_breaks result || is_stopped self.old) }
-        ensures running { is_running self.new ≡ (is_running self.old && not (put_breaks result)) }
-        ensures pending_stays { OnErr result (HasRoom self.old → pending_in self.new ≡ pending_in self.old) }
-        ensures last_stays { OnErr result (last_key_in self.new ≡ last_key_in self.old) }
-        ensures quiet { put_refusal self.old key values.now (option_map (λ b. length b.now) blob.entry) ≡ None → HasRoom self.old → variable.pages_for self.old.blobs (option_map (λ b. b.now) blob.entry) ≡ 0
-            → (result ≡ Ok tt) × (F.state flash.new ≡ F.state flash.old) }
-        ensures last { OnOk result (last_key_in self.new ≡ Some key) }
-        // Whatever the flash holds: the record is pending, in the page that was, or after it was sealed.
-        ensures stores { OnOk result (Stores self.old key values.now (option_map (λ b. b.now) blob.entry) self.new) }
-        ensures power { OnOk result ((F.state flash.old).is_on ≡ true → (F.state flash.new).is_on ≡ true) }
-        ensures off { put_refusal self.old key values.now (option_map (λ b. length b.now) blob.entry) ≡ None → (HasRoom self.old → variable.pages_for self.old.blobs (option_map (λ b. b.now) blob.entry) ≡ 0 → ⊥)
-            → (F.state flash.old).is_on ≡ false → (result ≡ Err (PutRefusal.Flash FlashFault.PowerLost)) × (F.state flash.new ≡ F.state flash.old) }
-        // Whatever the flash holds: a seal of each ring at most, and of the variable data those of the pages that the blob fills. If the page was full, its rows are in it then.
-        ensures writes { Writes (MayPut self.old (option_map (λ b. b.now) blob.entry)) 0 (rings_in self.old + variable.most_pages self.old.blobs (option_map (λ b. b.now) blob.entry)) (F.state flash.old) (F.state flash.new) }
-        ensures sealed { OnOk result ((HasRoom self.old → ⊥) → HasMadePage self.old (option_map (λ b. b.now) blob.entry) (F.state flash.old) (F.state flash.new)) }
-        ensures reads { (F.state flash.new).work.reads ≡ (F.state flash.old).work.reads }
-        ensures media_reads { (F.state flash.new).media.reads ≤ (F.state flash.old).media.reads + rings_in self.old + variable.most_pages self.old.blobs (option_map (λ b. b.now) blob.entry) }
-        ensures outside { IsTrue (F.state flash.old).media.tells → OutsideStands self.old (page_at (F.state flash.old)) (page_at (F.state flash.new)) }
-        ensures cause { IfErr result (λ e. PutCausedBy (F.state flash.old) e (F.state flash.new)) }
+        ensures put { Over (F.state flash.old) (F.state flash.new) (Stands self.old (F.state flash.old))
+            (λ first plan table rose device. PutEnds first plan
+                (record { key = key; values = values.now; blob = bytes_in blob.entry })
+                table rose device result self.new (F.state flash.old) (F.state flash.new)) }
+        ensures exact { RefusesAs (put_refusal self.old key values.now (length_in blob.entry)) result }
+        // Whatever the flash holds:
+        ensures table { GoesOn self.old (put_breaks result) self.new (F.state flash.new) }
+        ensures memory { PutsInMemory self.old (F.state flash.old) key values.now (bytes_in blob.entry)
+            result self.new (F.state flash.new) }
+        ensures page { PutsPage self.old (F.state flash.old)
+            (put_refusal self.old key values.now (length_in blob.entry)) (bytes_in blob.entry)
+            result (F.state flash.new) }
+        ensures flash { Changes (MayPut self.old (bytes_in blob.entry)) (OutsideStands self.old)
+            (seals_in_put self.old (bytes_in blob.entry)) PutCausedBy
+            (F.state flash.old) result (F.state flash.new) }
     {
         if let Some(refusal) = self.refusal(key, values, blob) {
             return Err(refusal);
@@ -215,29 +204,16 @@ impl<const KNOTS: usize, const SLOTS: usize> Table<KNOTS, SLOTS> {
     /// Flushes: the pending rows become a page. After `Flash` the table is stopped: it is to be mounted again.
     pub fn flush<F: Flash>(&mut self, flash: &mut F) -> Result<(), FlushFault>
         requires lies { LiesOn self.old (F.state flash.old) }
-        ensures goes { Goes (F.state flash.old) (F.state flash.new) }
-        ensures same { IsSamePlan self.old self.new }
-        ensures lies { LiesOn self.new (F.state flash.new) }
-        ensures ends { (first : ℕ) → (plan : Plan) → (table : model.Table) → (rose : Bool) → (device : Device) → IsWatched (F.state flash.old) (F.state flash.new) rose device
-            → Stands self.old (F.state flash.old) first plan table → FlushEnds first plan table rose device result self.new (F.state flash.old) (F.state flash.new) }
+        ensures flush { Over (F.state flash.old) (F.state flash.new) (Stands self.old (F.state flash.old))
+            (λ first plan table rose device. FlushEnds first plan table rose device
+                result self.new (F.state flash.old) (F.state flash.new)) }
         ensures exact { (result ≡ Err FlushFault.Stopped) ↔ (is_running self.old ≡ false) }
-        ensures stopped { is_stopped self.new ≡ (flush_breaks result || is_stopped self.old) }
-        ensures running { is_running self.new ≡ (is_running self.old && not (flush_breaks result)) }
-        ensures last { last_key_in self.new ≡ last_key_in self.old }
-        ensures pending_stays { OnErr result (pending_in self.new ≡ pending_in self.old) }
-        ensures refused { result ≡ Err FlushFault.Stopped → self.new ≡ self.old }
-        ensures quiet { is_running self.old ≡ true → pending_in self.old ≡ 0 → (result ≡ Ok tt) × (self.new ≡ self.old) × (F.state flash.new ≡ F.state flash.old) }
-        ensures none { OnOk result (pending_in self.new ≡ 0) }
-        ensures seals { OnOk result (1 ≤ pending_in self.old → IsEmptied self.old self.new) }
-        ensures power { OnOk result ((F.state flash.old).is_on ≡ true → (F.state flash.new).is_on ≡ true) }
-        ensures off { is_running self.old ≡ true → 1 ≤ pending_in self.old → (F.state flash.old).is_on ≡ false → (result ≡ Err (FlushFault.Flash FlashFault.PowerLost)) × (F.state flash.new ≡ F.state flash.old) }
-        // Whatever the flash holds: a seal of each ring at most, and of pending rows one that is whole, whose page has them then.
-        ensures writes { Writes (MaySeal self.old) 0 (rings_in self.old) (F.state flash.old) (F.state flash.new) }
-        ensures sealed { OnOk result (1 ≤ pending_in self.old → HasFlushed self.old (F.state flash.old) (F.state flash.new)) }
-        ensures reads { (F.state flash.new).work.reads ≡ (F.state flash.old).work.reads }
-        ensures media_reads { (F.state flash.new).media.reads ≤ (F.state flash.old).media.reads + rings_in self.old }
-        ensures outside { IsTrue (F.state flash.old).media.tells → OutsideStands self.old (page_at (F.state flash.old)) (page_at (F.state flash.new)) }
-        ensures cause { IfErr result (λ e. FlushCausedBy (F.state flash.old) e (F.state flash.new)) }
+        // Whatever the flash holds:
+        ensures table { GoesOn self.old (flush_breaks result) self.new (F.state flash.new) }
+        ensures memory { FlushesInMemory self.old result self.new }
+        ensures page { FlushesPage self.old (F.state flash.old) result self.new (F.state flash.new) }
+        ensures flash { Changes (MaySeal self.old) (OutsideStands self.old) (rings_in self.old)
+            FlushCausedBy (F.state flash.old) result (F.state flash.new) }
     {
         if !self.is_running() {
             return Err(FlushFault::Stopped);

@@ -23,17 +23,22 @@ use Rattle.fl_schema.specs.Schema.{layout_of}
 use Rattle.fl_table.proofs.SealAnswers.{same-then, plan-self}
 use Rattle.fl_table.proofs.Sizes.{table-fits}
 use Rattle.fl_parts.specs.Blobs.{most_pages, pages_for}
-use Rattle.fl_parts.proofs.Untouched.{at-most-two, at-most-more, and-false, on-err, no-success}
+use Rattle.fl_parts.proofs.Untouched.{at-most, and-false, on-err, no-success}
 use Rattle.fl_ring.proofs.Written.{writes-none}
 use Rattle.fl_table.specs.Memory.{MayPut}
 use Rattle.fl_table.specs.Stored.{HasJoined}
 use Rattle.fl_table.specs.Mounting.{rings_in}
 use Rattle.fl_table.proofs.Paged.{page-made}
-use Rattle.fl_table.proofs.Writing.{put-writes, room-writes}
+use Rattle.fl_table.proofs.Writing.{few-more, put-writes, room-writes}
 use Rattle.fl_table.proofs.table.Table.put.Goals as goal
 
-pub returns-in-Some-clause-ends : goal.returns-in-Some-clause-ends
-returns-in-Some-clause-ends g c = λ first plan table rose device watched stands.
+not-done : (fault : FlashFault) (u : Unit {0}) → ◌≡◌ {A = Result (Unit {0}) FlashFault} (Err fault) (Ok u) → ⊥
+not-done fault u e = cc
+
+-- ---- a refusal
+
+pub returns-in-Some-clause-put : goal.returns-in-Some-clause-put
+returns-in-Some-clause-put g c = λ first plan table rose device watched stands.
     let t = c.args.self.now in
     let f = g.F.Flash.state c.args.flash.now in
     let bytes = option_map (λ (b : Bor (List ℕ)). b.now) c.args.blob in
@@ -41,8 +46,59 @@ returns-in-Some-clause-ends g c = λ first plan table rose device watched stands
     refused-ends t f first plan table c.args.key c.args.values.now bytes rose device stands c.in-Some.refusal
     (ap (put_refusal t c.args.key c.args.values.now) same ∙ (sym c.refusal.ensures ∙ c.in-Some.is)) t f
 
-pub returns-in_err-make_room-clause-ends : goal.returns-in_err-make_room-clause-ends
-returns-in_err-make_room-clause-ends g c = λ first plan table rose device watched stands.
+pub returns-in-Some-clause-exact : goal.returns-in-Some-clause-exact
+returns-in-Some-clause-exact g c = subst (λ (r : Option PutRefusal). RefusesAs r (Err c.in-Some.refusal)) (sym (sym c.refusal.ensures ∙ c.in-Some.is)) refl
+
+pub returns-in-Some-clause-table : goal.returns-in-Some-clause-table
+returns-in-Some-clause-table g c = record {
+  same = plan-self c.args.self.now;
+  lies = c.requires.lies;
+  stopped =
+      let t = c.args.self.now in
+      ap (λ b. b || is_stopped t) (sym (refusal-calm t c.args.key c.args.values.now _ c.in-Some.refusal (sym c.refusal.ensures ∙ c.in-Some.is)));
+  running =
+      let t = c.args.self.now in
+      sym (and-true (is_running t)) ∙ ap (λ b. is_running t && not b) (sym (refusal-calm t c.args.key c.args.values.now _ c.in-Some.refusal (sym c.refusal.ensures ∙ c.in-Some.is)));
+}
+
+pub returns-in-Some-clause-memory : goal.returns-in-Some-clause-memory
+returns-in-Some-clause-memory g c = record {
+  refused = calm-same c.args.self.now (g.F.Flash.state c.args.flash.now) c.in-Some.refusal (refusal-calm c.args.self.now c.args.key c.args.values.now _ c.in-Some.refusal (sym c.refusal.ensures ∙ c.in-Some.is));
+  last_stays = refl;
+  pending_stays = λ room. refl;
+  last = tt;
+  stores = tt;
+}
+
+pub returns-in-Some-clause-page : goal.returns-in-Some-clause-page
+returns-in-Some-clause-page g c = record {
+  quiet = λ none. absurd (none-some c.in-Some.refusal (sym none ∙ (sym c.refusal.ensures ∙ c.in-Some.is)));
+  off = λ none. absurd (no (sym none ∙ (sym c.refusal.ensures ∙ c.in-Some.is)));
+  sealed = tt;
+}
+  where
+    no : ◌≡◌ {A = Option PutRefusal} None (Some c.in-Some.refusal) → ⊥
+    no e = cc
+
+pub returns-in-Some-clause-flash : goal.returns-in-Some-clause-flash
+returns-in-Some-clause-flash g c = record {
+  goes = goes-same (g.F.Flash.state c.args.flash.now);
+  power = tt;
+  writes =
+      let t = c.args.self.now in
+      let bytes = option_map (λ (b : Bor (List ℕ)). b.now) c.args.blob in
+      writes-none (MayPut t bytes) (rings_in t + most_pages t.blobs bytes) (g.F.Flash.state c.args.flash.now);
+  outside = λ told page rows index blobs. refl;
+  reads = refl;
+  media_reads = at-most _ _;
+  cause =
+      calm-cause (g.F.Flash.state c.args.flash.now) c.in-Some.refusal (refusal-calm c.args.self.now c.args.key c.args.values.now _ c.in-Some.refusal (sym c.refusal.ensures ∙ c.in-Some.is));
+}
+
+-- ---- the page of pending rows could not be sealed
+
+pub returns-in_err-make_room-clause-put : goal.returns-in_err-make_room-clause-put
+returns-in_err-make_room-clause-put g c = λ first plan table rose device watched stands.
     let t = c.args.self.now in
     let f = g.F.Flash.state c.args.flash.now in
     let bytes = option_map (λ (b : Bor (List ℕ)). b.now) c.args.blob in
@@ -52,8 +108,71 @@ returns-in_err-make_room-clause-ends g c = λ first plan table rose device watch
     (ap (put_refusal t c.args.key c.args.values.now) same ∙ (sym c.refusal.ensures ∙ c.in_default.is)) c.in_err-make_room.field-0.0 c.make_room.new.self (g.F.Flash.state c.make_room.new.flash)
     (c.in_err-make_room.ensures.ends first plan table rose device watched stands))
 
-pub returns-in_err-join-clause-ends : goal.returns-in_err-join-clause-ends
-returns-in_err-join-clause-ends g c = λ first plan table rose device watched stands.
+pub returns-in_err-make_room-clause-exact : goal.returns-in_err-make_room-clause-exact
+returns-in_err-make_room-clause-exact g c =
+    let p = err_from_is_err_and c.from_residual.result c.from_residual.ensures.1 in
+    rw (p.1, p.2) (subst (λ (r : Option PutRefusal). RefusesAs r (Err (put.Flash c.in_err-make_room.field-0.0))) (sym (sym c.refusal.ensures ∙ c.in_default.is)) tt)
+
+pub returns-in_err-make_room-clause-table : goal.returns-in_err-make_room-clause-table
+returns-in_err-make_room-clause-table g c = record {
+  same = c.in_err-make_room.ensures.same;
+  lies = c.in_err-make_room.ensures.lies;
+  stopped =
+      let p = err_from_is_err_and c.from_residual.result c.from_residual.ensures.1 in
+      rw (p.1, p.2) c.in_err-make_room.ensures.stopped.1;
+  running =
+      let p = err_from_is_err_and c.from_residual.result c.from_residual.ensures.1 in
+      rw (p.1, p.2) (c.in_err-make_room.ensures.stopped.0 ∙ sym (and-false (is_running c.args.self.now)));
+}
+
+pub returns-in_err-make_room-clause-memory : goal.returns-in_err-make_room-clause-memory
+returns-in_err-make_room-clause-memory g c = record {
+  refused =
+      let p = err_from_is_err_and c.from_residual.result c.from_residual.ensures.1 in
+      rw (p.1, p.2) tt;
+  last_stays = on-err c.from_residual.result c.in_err-make_room.ensures.last;
+  pending_stays = on-err c.from_residual.result (λ room. c.in_err-make_room.ensures.pending_stays);
+  last = no-success _ _ c.from_residual.result c.from_residual.ensures.1;
+  stores = no-success _ _ c.from_residual.result c.from_residual.ensures.1;
+}
+
+pub returns-in_err-make_room-clause-page : goal.returns-in_err-make_room-clause-page
+returns-in_err-make_room-clause-page g c = record {
+  quiet = λ none room few. absurd (not-done c.in_err-make_room.field-0.0 tt (c.in_err-make_room.ensures.quiet room).0);
+  off = λ none busy down.
+      let t = c.args.self.now in
+      let p = err_from_is_err_and c.from_residual.result c.from_residual.ensures.1 in
+      let h = c.in_err-make_room.ensures.off (λ room. no (c.in_err-make_room.ensures.quiet room).0) down in
+      rw (p.1, p.2) (ap (λ (e : FlashFault). Err (put.Flash e)) (same h.0), h.1);
+  sealed = no-success _ _ c.from_residual.result c.from_residual.ensures.1;
+}
+  where
+    no : ◌≡◌ {A = Result (Unit {0}) FlashFault} (Err c.in_err-make_room.field-0.0) (Ok tt) → ⊥
+    no e = cc
+
+    same : ◌≡◌ {A = Result (Unit {0}) FlashFault} (Err c.in_err-make_room.field-0.0) (Err PowerLost) → c.in_err-make_room.field-0.0 ≡ PowerLost
+    same e = cc
+
+pub returns-in_err-make_room-clause-flash : goal.returns-in_err-make_room-clause-flash
+returns-in_err-make_room-clause-flash g c = record {
+  goes = c.in_err-make_room.ensures.goes;
+  power = no-success _ _ c.from_residual.result c.from_residual.ensures.1;
+  writes =
+      let t = c.args.self.now in
+      let bytes = option_map (λ (b : Bor (List ℕ)). b.now) c.args.blob in
+      room-writes t bytes (most_pages t.blobs bytes) (g.F.Flash.state c.args.flash.now) (g.F.Flash.state c.make_room.new.flash) (λ room. (c.in_err-make_room.ensures.quiet room).2) c.in_err-make_room.ensures.writes;
+  outside = c.in_err-make_room.ensures.outside;
+  reads = c.in_err-make_room.ensures.reads;
+  media_reads = few-more _ _ _ _ c.in_err-make_room.ensures.media_reads;
+  cause =
+      let p = err_from_is_err_and c.from_residual.result c.from_residual.ensures.1 in
+      rw (p.1, p.2) c.in_err-make_room.ensures.cause;
+}
+
+-- ---- its blob could not be placed
+
+pub returns-in_err-join-clause-put : goal.returns-in_err-join-clause-put
+returns-in_err-join-clause-put g c = λ first plan table rose device watched stands.
     let t = c.args.self.now in
     let f = g.F.Flash.state c.args.flash.now in
     let mid = g.F.Flash.state c.make_room.new.flash in
@@ -68,8 +187,76 @@ returns-in_err-join-clause-ends g c = λ first plan table rose device watched st
     let p = err_from_is_err_and c.from_residual-in_err-join.result c.from_residual-in_err-join.ensures.1 in
     rw (p.1, p.2) (join-fails t f first plan table c.args.key c.args.values.now bytes rose device stands none c.make_room.new.self mid h c.in_err-join.field-0.0 c.join.new.self new k)
 
-pub returns-clause-ends : goal.returns-clause-ends
-returns-clause-ends g c = λ first plan table rose device watched stands.
+pub returns-in_err-join-clause-exact : goal.returns-in_err-join-clause-exact
+returns-in_err-join-clause-exact g c =
+    let p = err_from_is_err_and c.from_residual-in_err-join.result c.from_residual-in_err-join.ensures.1 in
+    rw (p.1, p.2) (subst (λ (r : Option PutRefusal). RefusesAs r (Err (put.Flash c.in_err-join.field-0.0))) (sym (sym c.refusal.ensures ∙ c.in_default.is)) tt)
+
+pub returns-in_err-join-clause-table : goal.returns-in_err-join-clause-table
+returns-in_err-join-clause-table g c = record {
+  same = same-then c.args.self.now c.make_room.new.self c.join.new.self c.in_ok-make_room.ensures.same c.in_err-join.ensures.same;
+  lies = c.in_err-join.ensures.lies;
+  stopped =
+      let p = err_from_is_err_and c.from_residual-in_err-join.result c.from_residual-in_err-join.ensures.1 in
+      rw (p.1, p.2) c.in_err-join.ensures.stopped.1;
+  running =
+      let p = err_from_is_err_and c.from_residual-in_err-join.result c.from_residual-in_err-join.ensures.1 in
+      rw (p.1, p.2) (c.in_err-join.ensures.stopped.0 ∙ sym (and-false (is_running c.args.self.now)));
+}
+
+pub returns-in_err-join-clause-memory : goal.returns-in_err-join-clause-memory
+returns-in_err-join-clause-memory g c = record {
+  refused =
+      let p = err_from_is_err_and c.from_residual-in_err-join.result c.from_residual-in_err-join.ensures.1 in
+      rw (p.1, p.2) tt;
+  last_stays = on-err c.from_residual-in_err-join.result (c.in_err-join.ensures.last_stays ∙ c.in_ok-make_room.ensures.last);
+  pending_stays =
+      on-err c.from_residual-in_err-join.result (λ room. c.in_err-join.ensures.pending_stays ∙ ap (λ (t : Table g.row.KNOTS g.row.SLOTS). pending_in t) (c.in_ok-make_room.ensures.quiet room).1);
+  last = no-success _ _ c.from_residual-in_err-join.result c.from_residual-in_err-join.ensures.1;
+  stores = no-success _ _ c.from_residual-in_err-join.result c.from_residual-in_err-join.ensures.1;
+}
+
+pub returns-in_err-join-clause-page : goal.returns-in_err-join-clause-page
+returns-in_err-join-clause-page g c = record {
+  quiet = λ none room few. absurd (not-done c.in_err-join.field-0.0 tt (c.in_err-join.ensures.quiet (subst (λ (t : Table g.row.KNOTS g.row.SLOTS). pages_for t.blobs (option_map (λ (b : Bor (List ℕ)). b.now) c.args.blob) ≡ 0) (sym (c.in_ok-make_room.ensures.quiet room).1) few)).0);
+  off = λ none busy down.
+      let p = err_from_is_err_and c.from_residual-in_err-join.result c.from_residual-in_err-join.ensures.1 in
+      let h = put-off c.args.self.now c.make_room.new.self (g.F.Flash.state c.args.flash.now) (g.F.Flash.state c.make_room.new.flash) (g.F.Flash.state c.join.new.flash) (option_map (λ (b : Bor (List ℕ)). b.now) c.args.blob)
+      c.in_ok-make_room.field-0 (Err c.in_err-join.field-0.0) c.in_ok-make_room.ensures.off c.in_ok-make_room.ensures.quiet c.in_err-join.ensures.off busy down in
+      rw (p.1, p.2) (ap (λ (e : FlashFault). Err (put.Flash e)) (same h.0), h.1);
+  sealed = no-success _ _ c.from_residual-in_err-join.result c.from_residual-in_err-join.ensures.1;
+}
+  where
+    same : ◌≡◌ {A = Result (Unit {0}) FlashFault} (Err c.in_err-join.field-0.0) (Err PowerLost) → c.in_err-join.field-0.0 ≡ PowerLost
+    same e = cc
+
+pub returns-in_err-join-clause-flash : goal.returns-in_err-join-clause-flash
+returns-in_err-join-clause-flash g c = record {
+  goes =
+      goes-then (g.F.Flash.state c.args.flash.now) (g.F.Flash.state c.make_room.new.flash) (g.F.Flash.state c.join.new.flash) c.in_ok-make_room.ensures.goes c.in_err-join.ensures.goes;
+  power = no-success _ _ c.from_residual-in_err-join.result c.from_residual-in_err-join.ensures.1;
+  writes =
+      put-writes c.args.self.now c.make_room.new.self (option_map (λ (b : Bor (List ℕ)). b.now) c.args.blob) 0 (g.F.Flash.state c.args.flash.now) (g.F.Flash.state c.make_room.new.flash) (g.F.Flash.state c.join.new.flash)
+      c.in_ok-make_room.ensures.goes.tells c.in_ok-make_room.ensures.same.blobs (λ room. (c.in_ok-make_room.ensures.quiet room).2) c.in_ok-make_room.ensures.writes c.in_err-join.ensures.writes;
+  outside = λ told.
+      let old = g.F.Flash.state c.args.flash.now in
+      let mid = g.F.Flash.state c.make_room.new.flash in
+      outside-then c.args.self.now c.make_room.new.self (page_at old) (page_at mid) (page_at (g.F.Flash.state c.join.new.flash)) c.in_ok-make_room.ensures.same (c.in_ok-make_room.ensures.outside told)
+      (c.in_err-join.ensures.outside (subst IsTrue (sym c.in_ok-make_room.ensures.goes.tells) told));
+  reads = c.in_err-join.ensures.reads ∙ c.in_ok-make_room.ensures.reads;
+  media_reads =
+      let t = c.args.self.now in
+      omega (arith, c.in_ok-make_room.ensures.media_reads, c.in_err-join.ensures.media_reads, pages-most t.blobs c.make_room.new.self.blobs (option_map (λ (b : Bor (List ℕ)). b.now) c.args.blob) c.in_ok-make_room.ensures.same.blobs);
+  cause =
+      let p = err_from_is_err_and c.from_residual-in_err-join.result c.from_residual-in_err-join.ensures.1 in
+      rw (p.1, p.2) (cause-later (g.F.Flash.state c.args.flash.now) (g.F.Flash.state c.make_room.new.flash) (g.F.Flash.state c.join.new.flash) c.in_ok-make_room.ensures.goes c.in_ok-make_room.ensures.power
+      c.in_err-join.field-0.0 c.in_err-join.ensures.cause);
+}
+
+-- ---- it is done
+
+pub returns-clause-put : goal.returns-clause-put
+returns-clause-put g c = λ first plan table rose device watched stands.
     let t = c.args.self.now in
     let f = g.F.Flash.state c.args.flash.now in
     let mid = g.F.Flash.state c.make_room.new.flash in
@@ -83,80 +270,67 @@ returns-clause-ends g c = λ first plan table rose device watched stands.
     put-ends t f first plan table c.args.key c.args.values.now bytes rose device stands none c.make_room.new.self mid h c.join.new.self new
     (c.in_ok-join.ensures.ends first plan (after_seals plan (make_room_seals plan table) table) rose h.now.device (watched-then f mid new rose device h.now.device watched c.in_ok-make_room.ensures.goes h.power h.counts) h.stands ok)
 
-pub returns-in_err-join-clause-outside : goal.returns-in_err-join-clause-outside
-returns-in_err-join-clause-outside g c = λ told.
-    let old = g.F.Flash.state c.args.flash.now in
-    let mid = g.F.Flash.state c.make_room.new.flash in
-    outside-then c.args.self.now c.make_room.new.self (page_at old) (page_at mid) (page_at (g.F.Flash.state c.join.new.flash)) c.in_ok-make_room.ensures.same (c.in_ok-make_room.ensures.outside told)
-    (c.in_err-join.ensures.outside (subst IsTrue (sym c.in_ok-make_room.ensures.goes.tells) told))
+pub returns-clause-exact : goal.returns-clause-exact
+returns-clause-exact g c = subst (λ (r : Option PutRefusal). RefusesAs r (Ok tt)) (sym (sym c.refusal.ensures ∙ c.in_default.is)) tt
 
-pub returns-clause-outside : goal.returns-clause-outside
-returns-clause-outside g c = λ told.
-    let old = g.F.Flash.state c.args.flash.now in
-    let mid = g.F.Flash.state c.make_room.new.flash in
-    outside-then c.args.self.now c.make_room.new.self (page_at old) (page_at mid) (page_at (g.F.Flash.state c.join.new.flash)) c.in_ok-make_room.ensures.same (c.in_ok-make_room.ensures.outside told)
-    (c.in_ok-join.ensures.outside (subst IsTrue (sym c.in_ok-make_room.ensures.goes.tells) told))
+pub returns-clause-table : goal.returns-clause-table
+returns-clause-table g c = record {
+  same = same-then c.args.self.now c.make_room.new.self c.join.new.self c.in_ok-make_room.ensures.same c.in_ok-join.ensures.same;
+  lies = c.in_ok-join.ensures.lies;
+  stopped = c.in_ok-join.ensures.calm ∙ c.in_ok-make_room.ensures.calm;
+  running =
+      let t = c.args.self.now in
+      let none : put_refusal t c.args.key c.args.values.now (option_map (λ (b : Bor (List ℕ)). length b.now) c.args.blob) ≡ None = sym c.refusal.ensures ∙ c.in_default.is in
+      c.in_ok-join.ensures.running ∙ sym (and-true (is_running t) ∙ told-running t c.args.key c.args.values.now _ none);
+}
 
-pub returns-clause-media_reads : goal.returns-clause-media_reads
-returns-clause-media_reads g c =
-    let t = c.args.self.now in
-    omega (arith, c.in_ok-make_room.ensures.media_reads, c.in_ok-join.ensures.media_reads, pages-most t.blobs c.make_room.new.self.blobs (option_map (λ (b : Bor (List ℕ)). b.now) c.args.blob) c.in_ok-make_room.ensures.same.blobs)
+pub returns-clause-memory : goal.returns-clause-memory
+returns-clause-memory g c = record {
+  refused = tt;
+  last_stays = tt;
+  pending_stays = tt;
+  last = c.in_ok-join.ensures.joined.last;
+  stores =
+      let bytes = option_map (λ (b : Bor (List ℕ)). b.now) c.args.blob in
+      record {
+        room = λ room. subst (λ (x : Table g.row.KNOTS g.row.SLOTS). HasJoined x c.args.key c.args.values.now bytes c.join.new.self) (c.in_ok-make_room.ensures.quiet room).1 c.in_ok-join.ensures.joined;
+        full = λ full. (c.make_room.new.self, (c.in_ok-make_room.ensures.full full, c.in_ok-join.ensures.joined));
+      };
+}
 
-pub returns-in_err-join-clause-media_reads : goal.returns-in_err-join-clause-media_reads
-returns-in_err-join-clause-media_reads g c =
-    let t = c.args.self.now in
-    omega (arith, c.in_ok-make_room.ensures.media_reads, c.in_err-join.ensures.media_reads, pages-most t.blobs c.make_room.new.self.blobs (option_map (λ (b : Bor (List ℕ)). b.now) c.args.blob) c.in_ok-make_room.ensures.same.blobs)
-
-pub returns-in-Some-clause-stopped : goal.returns-in-Some-clause-stopped
-returns-in-Some-clause-stopped g c =
-    let t = c.args.self.now in
-    ap (λ b. b || is_stopped t) (sym (refusal-calm t c.args.key c.args.values.now _ c.in-Some.refusal (sym c.refusal.ensures ∙ c.in-Some.is)))
-
-pub returns-in-Some-clause-running : goal.returns-in-Some-clause-running
-returns-in-Some-clause-running g c =
-    let t = c.args.self.now in
-    sym (and-true (is_running t)) ∙ ap (λ b. is_running t && not b) (sym (refusal-calm t c.args.key c.args.values.now _ c.in-Some.refusal (sym c.refusal.ensures ∙ c.in-Some.is)))
-
-pub returns-in-Some-clause-cause : goal.returns-in-Some-clause-cause
-returns-in-Some-clause-cause g c =
-    calm-cause (g.F.Flash.state c.args.flash.now) c.in-Some.refusal (refusal-calm c.args.self.now c.args.key c.args.values.now _ c.in-Some.refusal (sym c.refusal.ensures ∙ c.in-Some.is))
-
-pub returns-in-Some-clause-off : goal.returns-in-Some-clause-off
-returns-in-Some-clause-off g c = λ none. absurd (no (sym none ∙ (sym c.refusal.ensures ∙ c.in-Some.is)))
-  where
-    no : ◌≡◌ {A = Option PutRefusal} None (Some c.in-Some.refusal) → ⊥
-    no e = cc
-
-pub returns-in_err-make_room-clause-off : goal.returns-in_err-make_room-clause-off
-returns-in_err-make_room-clause-off g c = λ none busy down.
-    let t = c.args.self.now in
-    let p = err_from_is_err_and c.from_residual.result c.from_residual.ensures.1 in
-    let h = c.in_err-make_room.ensures.off (λ room. no (c.in_err-make_room.ensures.quiet room).0) down in
-    rw (p.1, p.2) (ap (λ (e : FlashFault). Err (put.Flash e)) (same h.0), h.1)
-  where
-    no : ◌≡◌ {A = Result (Unit {0}) FlashFault} (Err c.in_err-make_room.field-0.0) (Ok tt) → ⊥
-    no e = cc
-
-    same : ◌≡◌ {A = Result (Unit {0}) FlashFault} (Err c.in_err-make_room.field-0.0) (Err PowerLost) → c.in_err-make_room.field-0.0 ≡ PowerLost
-    same e = cc
-
-pub returns-in_err-join-clause-off : goal.returns-in_err-join-clause-off
-returns-in_err-join-clause-off g c = λ none busy down.
-    let p = err_from_is_err_and c.from_residual-in_err-join.result c.from_residual-in_err-join.ensures.1 in
-    let h = put-off c.args.self.now c.make_room.new.self (g.F.Flash.state c.args.flash.now) (g.F.Flash.state c.make_room.new.flash) (g.F.Flash.state c.join.new.flash) (option_map (λ (b : Bor (List ℕ)). b.now) c.args.blob)
-    c.in_ok-make_room.field-0 (Err c.in_err-join.field-0.0) c.in_ok-make_room.ensures.off c.in_ok-make_room.ensures.quiet c.in_err-join.ensures.off busy down in
-    rw (p.1, p.2) (ap (λ (e : FlashFault). Err (put.Flash e)) (same h.0), h.1)
-  where
-    same : ◌≡◌ {A = Result (Unit {0}) FlashFault} (Err c.in_err-join.field-0.0) (Err PowerLost) → c.in_err-join.field-0.0 ≡ PowerLost
-    same e = cc
-
-pub returns-clause-off : goal.returns-clause-off
-returns-clause-off g c = λ none busy down.
-    absurd (no (put-off c.args.self.now c.make_room.new.self (g.F.Flash.state c.args.flash.now) (g.F.Flash.state c.make_room.new.flash) (g.F.Flash.state c.join.new.flash) (option_map (λ (b : Bor (List ℕ)). b.now) c.args.blob)
-    c.in_ok-make_room.field-0 (Ok c.in_ok-join.field-0) c.in_ok-make_room.ensures.off c.in_ok-make_room.ensures.quiet c.in_ok-join.ensures.off busy down).0)
+pub returns-clause-page : goal.returns-clause-page
+returns-clause-page g c = record {
+  quiet = λ none room few. (refl, (c.in_ok-join.ensures.quiet (subst (λ (t : Table g.row.KNOTS g.row.SLOTS). pages_for t.blobs (option_map (λ (b : Bor (List ℕ)). b.now) c.args.blob) ≡ 0) (sym (c.in_ok-make_room.ensures.quiet room).1) few)).1 ∙ (c.in_ok-make_room.ensures.quiet room).2);
+  off = λ none busy down.
+      absurd (no (put-off c.args.self.now c.make_room.new.self (g.F.Flash.state c.args.flash.now) (g.F.Flash.state c.make_room.new.flash) (g.F.Flash.state c.join.new.flash) (option_map (λ (b : Bor (List ℕ)). b.now) c.args.blob)
+      c.in_ok-make_room.field-0 (Ok c.in_ok-join.field-0) c.in_ok-make_room.ensures.off c.in_ok-make_room.ensures.quiet c.in_ok-join.ensures.off busy down).0);
+  sealed = λ full.
+      page-made c.args.self.now c.make_room.new.self (option_map (λ (b : Bor (List ℕ)). b.now) c.args.blob) (g.F.Flash.state c.args.flash.now) (g.F.Flash.state c.make_room.new.flash) (g.F.Flash.state c.join.new.flash)
+      c.in_ok-make_room.ensures.goes.tells c.in_ok-make_room.ensures.same.blobs full (c.in_ok-make_room.ensures.sealed full) c.in_ok-join.ensures.writes;
+}
   where
     no : ◌≡◌ {A = Result (Unit {0}) FlashFault} (Ok c.in_ok-join.field-0) (Err PowerLost) → ⊥
     no e = cc
+
+pub returns-clause-flash : goal.returns-clause-flash
+returns-clause-flash g c = record {
+  goes =
+      goes-then (g.F.Flash.state c.args.flash.now) (g.F.Flash.state c.make_room.new.flash) (g.F.Flash.state c.join.new.flash) c.in_ok-make_room.ensures.goes c.in_ok-join.ensures.goes;
+  power = λ on. c.in_ok-join.ensures.power (c.in_ok-make_room.ensures.power on);
+  writes =
+      put-writes c.args.self.now c.make_room.new.self (option_map (λ (b : Bor (List ℕ)). b.now) c.args.blob) 0 (g.F.Flash.state c.args.flash.now) (g.F.Flash.state c.make_room.new.flash) (g.F.Flash.state c.join.new.flash)
+      c.in_ok-make_room.ensures.goes.tells c.in_ok-make_room.ensures.same.blobs (λ room. (c.in_ok-make_room.ensures.quiet room).2) c.in_ok-make_room.ensures.writes c.in_ok-join.ensures.writes;
+  outside = λ told.
+      let old = g.F.Flash.state c.args.flash.now in
+      let mid = g.F.Flash.state c.make_room.new.flash in
+      outside-then c.args.self.now c.make_room.new.self (page_at old) (page_at mid) (page_at (g.F.Flash.state c.join.new.flash)) c.in_ok-make_room.ensures.same (c.in_ok-make_room.ensures.outside told)
+      (c.in_ok-join.ensures.outside (subst IsTrue (sym c.in_ok-make_room.ensures.goes.tells) told));
+  reads = c.in_ok-join.ensures.reads ∙ c.in_ok-make_room.ensures.reads;
+  media_reads =
+      let t = c.args.self.now in
+      omega (arith, c.in_ok-make_room.ensures.media_reads, c.in_ok-join.ensures.media_reads, pages-most t.blobs c.make_room.new.self.blobs (option_map (λ (b : Bor (List ℕ)). b.now) c.args.blob) c.in_ok-make_room.ensures.same.blobs);
+  cause = tt;
+}
 
 pub join-requires : goal.join-requires
 join-requires g c =
@@ -178,37 +352,6 @@ join-requires g c =
       ),
     )
 
-pub returns-in_err-join-clause-goes : goal.returns-in_err-join-clause-goes
-returns-in_err-join-clause-goes g c =
-    goes-then (g.F.Flash.state c.args.flash.now) (g.F.Flash.state c.make_room.new.flash) (g.F.Flash.state c.join.new.flash) c.in_ok-make_room.ensures.goes c.in_err-join.ensures.goes
-
-pub returns-in_err-join-clause-same : goal.returns-in_err-join-clause-same
-returns-in_err-join-clause-same g c = same-then c.args.self.now c.make_room.new.self c.join.new.self c.in_ok-make_room.ensures.same c.in_err-join.ensures.same
-
-pub returns-in_err-join-clause-running : goal.returns-in_err-join-clause-running
-returns-in_err-join-clause-running g c =
-    let p = err_from_is_err_and c.from_residual-in_err-join.result c.from_residual-in_err-join.ensures.1 in
-    rw (p.1, p.2) (c.in_err-join.ensures.stopped.0 ∙ sym (and-false (is_running c.args.self.now)))
-
-pub returns-in_err-join-clause-cause : goal.returns-in_err-join-clause-cause
-returns-in_err-join-clause-cause g c =
-    let p = err_from_is_err_and c.from_residual-in_err-join.result c.from_residual-in_err-join.ensures.1 in
-    rw (p.1, p.2) (cause-later (g.F.Flash.state c.args.flash.now) (g.F.Flash.state c.make_room.new.flash) (g.F.Flash.state c.join.new.flash) c.in_ok-make_room.ensures.goes c.in_ok-make_room.ensures.power
-    c.in_err-join.field-0.0 c.in_err-join.ensures.cause)
-
-pub returns-clause-goes : goal.returns-clause-goes
-returns-clause-goes g c =
-    goes-then (g.F.Flash.state c.args.flash.now) (g.F.Flash.state c.make_room.new.flash) (g.F.Flash.state c.join.new.flash) c.in_ok-make_room.ensures.goes c.in_ok-join.ensures.goes
-
-pub returns-clause-same : goal.returns-clause-same
-returns-clause-same g c = same-then c.args.self.now c.make_room.new.self c.join.new.self c.in_ok-make_room.ensures.same c.in_ok-join.ensures.same
-
-pub returns-clause-running : goal.returns-clause-running
-returns-clause-running g c =
-    let t = c.args.self.now in
-    let none : put_refusal t c.args.key c.args.values.now (option_map (λ (b : Bor (List ℕ)). length b.now) c.args.blob) ≡ None = sym c.refusal.ensures ∙ c.in_default.is in
-    c.in_ok-join.ensures.running ∙ sym (and-true (is_running t) ∙ told-running t c.args.key c.args.values.now _ none)
-
 pub refusal-requires : goal.refusal-requires
 refusal-requires g c = table-fits g.row.KNOTS g.row.SLOTS c.args.self.now.few_knots c.args.self.now.few_slots
 
@@ -217,226 +360,3 @@ make_room-requires g c =
     let t = c.args.self.now in
     let none : put_refusal t c.args.key c.args.values.now (option_map (λ (b : Bor (List ℕ)). length b.now) c.args.blob) ≡ None = sym c.refusal.ensures ∙ c.in_default.is in
     (table-fits g.row.KNOTS g.row.SLOTS c.args.self.now.few_knots c.args.self.now.few_slots, (told-running t c.args.key c.args.values.now _ none, c.requires.lies))
-
-pub returns-clause-power : goal.returns-clause-power
-returns-clause-power g c = λ on. c.in_ok-join.ensures.power (c.in_ok-make_room.ensures.power on)
-
-pub returns-in-Some-clause-pending_stays : goal.returns-in-Some-clause-pending_stays
-returns-in-Some-clause-pending_stays g c = λ room. refl
-
-pub returns-in-Some-clause-last_stays : goal.returns-in-Some-clause-last_stays
-returns-in-Some-clause-last_stays g c = refl
-
-pub returns-clause-pending_stays : goal.returns-clause-pending_stays
-returns-clause-pending_stays g c = tt
-
-pub returns-clause-last_stays : goal.returns-clause-last_stays
-returns-clause-last_stays g c = tt
-
-pub returns-in_err-join-clause-pending_stays : goal.returns-in_err-join-clause-pending_stays
-returns-in_err-join-clause-pending_stays g c =
-    on-err c.from_residual-in_err-join.result (λ room. c.in_err-join.ensures.pending_stays ∙ ap (λ (t : Table g.row.KNOTS g.row.SLOTS). pending_in t) (c.in_ok-make_room.ensures.quiet room).1)
-
-not-done : (fault : FlashFault) (u : Unit {0}) → ◌≡◌ {A = Result (Unit {0}) FlashFault} (Err fault) (Ok u) → ⊥
-not-done fault u e = cc
-
-pub returns-in-Some-clause-goes : goal.returns-in-Some-clause-goes
-returns-in-Some-clause-goes g c = goes-same (g.F.Flash.state c.args.flash.now)
-
-pub returns-in-Some-clause-same : goal.returns-in-Some-clause-same
-returns-in-Some-clause-same g c = plan-self c.args.self.now
-
-pub returns-in-Some-clause-lies : goal.returns-in-Some-clause-lies
-returns-in-Some-clause-lies g c = c.requires.lies
-
-pub returns-in-Some-clause-exact : goal.returns-in-Some-clause-exact
-returns-in-Some-clause-exact g c = subst (λ (r : Option PutRefusal). RefusesAs r (Err c.in-Some.refusal)) (sym (sym c.refusal.ensures ∙ c.in-Some.is)) refl
-
-pub returns-in-Some-clause-refused : goal.returns-in-Some-clause-refused
-returns-in-Some-clause-refused g c = calm-same c.args.self.now (g.F.Flash.state c.args.flash.now) c.in-Some.refusal (refusal-calm c.args.self.now c.args.key c.args.values.now _ c.in-Some.refusal (sym c.refusal.ensures ∙ c.in-Some.is))
-
-pub returns-in-Some-clause-quiet : goal.returns-in-Some-clause-quiet
-returns-in-Some-clause-quiet g c = λ none. absurd (none-some c.in-Some.refusal (sym none ∙ (sym c.refusal.ensures ∙ c.in-Some.is)))
-
-pub returns-in-Some-clause-last : goal.returns-in-Some-clause-last
-returns-in-Some-clause-last g c = tt
-
-pub returns-in-Some-clause-power : goal.returns-in-Some-clause-power
-returns-in-Some-clause-power g c = tt
-
-pub returns-in-Some-clause-reads : goal.returns-in-Some-clause-reads
-returns-in-Some-clause-reads g c = refl
-
-pub returns-in-Some-clause-media_reads : goal.returns-in-Some-clause-media_reads
-returns-in-Some-clause-media_reads g c = at-most-two _ _ _
-
-pub returns-in-Some-clause-outside : goal.returns-in-Some-clause-outside
-returns-in-Some-clause-outside g c = λ told page rows index blobs. refl
-
-pub returns-in_err-make_room-clause-goes : goal.returns-in_err-make_room-clause-goes
-returns-in_err-make_room-clause-goes g c = c.in_err-make_room.ensures.goes
-
-pub returns-in_err-make_room-clause-same : goal.returns-in_err-make_room-clause-same
-returns-in_err-make_room-clause-same g c = c.in_err-make_room.ensures.same
-
-pub returns-in_err-make_room-clause-lies : goal.returns-in_err-make_room-clause-lies
-returns-in_err-make_room-clause-lies g c = c.in_err-make_room.ensures.lies
-
-pub returns-in_err-make_room-clause-outside : goal.returns-in_err-make_room-clause-outside
-returns-in_err-make_room-clause-outside g c = c.in_err-make_room.ensures.outside
-
-pub returns-in_err-make_room-clause-reads : goal.returns-in_err-make_room-clause-reads
-returns-in_err-make_room-clause-reads g c = c.in_err-make_room.ensures.reads
-
-pub returns-in_err-make_room-clause-last : goal.returns-in_err-make_room-clause-last
-returns-in_err-make_room-clause-last g c = no-success _ _ c.from_residual.result c.from_residual.ensures.1
-
-pub returns-in_err-make_room-clause-power : goal.returns-in_err-make_room-clause-power
-returns-in_err-make_room-clause-power g c = no-success _ _ c.from_residual.result c.from_residual.ensures.1
-
-pub returns-in_err-make_room-clause-exact : goal.returns-in_err-make_room-clause-exact
-returns-in_err-make_room-clause-exact g c =
-    let p = err_from_is_err_and c.from_residual.result c.from_residual.ensures.1 in
-    rw (p.1, p.2) (subst (λ (r : Option PutRefusal). RefusesAs r (Err (put.Flash c.in_err-make_room.field-0.0))) (sym (sym c.refusal.ensures ∙ c.in_default.is)) tt)
-
-pub returns-in_err-make_room-clause-refused : goal.returns-in_err-make_room-clause-refused
-returns-in_err-make_room-clause-refused g c =
-    let p = err_from_is_err_and c.from_residual.result c.from_residual.ensures.1 in
-    rw (p.1, p.2) tt
-
-pub returns-in_err-make_room-clause-stopped : goal.returns-in_err-make_room-clause-stopped
-returns-in_err-make_room-clause-stopped g c =
-    let p = err_from_is_err_and c.from_residual.result c.from_residual.ensures.1 in
-    rw (p.1, p.2) c.in_err-make_room.ensures.stopped.1
-
-pub returns-in_err-make_room-clause-running : goal.returns-in_err-make_room-clause-running
-returns-in_err-make_room-clause-running g c =
-    let p = err_from_is_err_and c.from_residual.result c.from_residual.ensures.1 in
-    rw (p.1, p.2) (c.in_err-make_room.ensures.stopped.0 ∙ sym (and-false (is_running c.args.self.now)))
-
-pub returns-in_err-make_room-clause-quiet : goal.returns-in_err-make_room-clause-quiet
-returns-in_err-make_room-clause-quiet g c = λ none room few. absurd (not-done c.in_err-make_room.field-0.0 tt (c.in_err-make_room.ensures.quiet room).0)
-
-pub returns-in_err-make_room-clause-media_reads : goal.returns-in_err-make_room-clause-media_reads
-returns-in_err-make_room-clause-media_reads g c = at-most-more _ _ _ c.in_err-make_room.ensures.media_reads
-
-pub returns-in_err-make_room-clause-cause : goal.returns-in_err-make_room-clause-cause
-returns-in_err-make_room-clause-cause g c =
-    let p = err_from_is_err_and c.from_residual.result c.from_residual.ensures.1 in
-    rw (p.1, p.2) c.in_err-make_room.ensures.cause
-
-pub returns-in_err-join-clause-lies : goal.returns-in_err-join-clause-lies
-returns-in_err-join-clause-lies g c = c.in_err-join.ensures.lies
-
-pub returns-in_err-join-clause-last : goal.returns-in_err-join-clause-last
-returns-in_err-join-clause-last g c = no-success _ _ c.from_residual-in_err-join.result c.from_residual-in_err-join.ensures.1
-
-pub returns-in_err-join-clause-power : goal.returns-in_err-join-clause-power
-returns-in_err-join-clause-power g c = no-success _ _ c.from_residual-in_err-join.result c.from_residual-in_err-join.ensures.1
-
-pub returns-in_err-join-clause-exact : goal.returns-in_err-join-clause-exact
-returns-in_err-join-clause-exact g c =
-    let p = err_from_is_err_and c.from_residual-in_err-join.result c.from_residual-in_err-join.ensures.1 in
-    rw (p.1, p.2) (subst (λ (r : Option PutRefusal). RefusesAs r (Err (put.Flash c.in_err-join.field-0.0))) (sym (sym c.refusal.ensures ∙ c.in_default.is)) tt)
-
-pub returns-in_err-join-clause-refused : goal.returns-in_err-join-clause-refused
-returns-in_err-join-clause-refused g c =
-    let p = err_from_is_err_and c.from_residual-in_err-join.result c.from_residual-in_err-join.ensures.1 in
-    rw (p.1, p.2) tt
-
-pub returns-in_err-join-clause-stopped : goal.returns-in_err-join-clause-stopped
-returns-in_err-join-clause-stopped g c =
-    let p = err_from_is_err_and c.from_residual-in_err-join.result c.from_residual-in_err-join.ensures.1 in
-    rw (p.1, p.2) c.in_err-join.ensures.stopped.1
-
-pub returns-in_err-join-clause-quiet : goal.returns-in_err-join-clause-quiet
-returns-in_err-join-clause-quiet g c = λ none room few. absurd (not-done c.in_err-join.field-0.0 tt (c.in_err-join.ensures.quiet (subst (λ (t : Table g.row.KNOTS g.row.SLOTS). pages_for t.blobs (option_map (λ (b : Bor (List ℕ)). b.now) c.args.blob) ≡ 0) (sym (c.in_ok-make_room.ensures.quiet room).1) few)).0)
-
-pub returns-in_err-join-clause-reads : goal.returns-in_err-join-clause-reads
-returns-in_err-join-clause-reads g c = c.in_err-join.ensures.reads ∙ c.in_ok-make_room.ensures.reads
-
-pub returns-clause-lies : goal.returns-clause-lies
-returns-clause-lies g c = c.in_ok-join.ensures.lies
-
-pub returns-clause-exact : goal.returns-clause-exact
-returns-clause-exact g c = subst (λ (r : Option PutRefusal). RefusesAs r (Ok tt)) (sym (sym c.refusal.ensures ∙ c.in_default.is)) tt
-
-pub returns-clause-refused : goal.returns-clause-refused
-returns-clause-refused g c = tt
-
-pub returns-clause-stopped : goal.returns-clause-stopped
-returns-clause-stopped g c = c.in_ok-join.ensures.calm ∙ c.in_ok-make_room.ensures.calm
-
-pub returns-clause-quiet : goal.returns-clause-quiet
-returns-clause-quiet g c = λ none room few. (refl, (c.in_ok-join.ensures.quiet (subst (λ (t : Table g.row.KNOTS g.row.SLOTS). pages_for t.blobs (option_map (λ (b : Bor (List ℕ)). b.now) c.args.blob) ≡ 0) (sym (c.in_ok-make_room.ensures.quiet room).1) few)).1 ∙ (c.in_ok-make_room.ensures.quiet room).2)
-
-pub returns-clause-last : goal.returns-clause-last
-returns-clause-last g c = c.in_ok-join.ensures.joined.last
-
-pub returns-clause-reads : goal.returns-clause-reads
-returns-clause-reads g c = c.in_ok-join.ensures.reads ∙ c.in_ok-make_room.ensures.reads
-
-pub returns-clause-cause : goal.returns-clause-cause
-returns-clause-cause g c = tt
-
-pub returns-in_err-make_room-clause-pending_stays : goal.returns-in_err-make_room-clause-pending_stays
-returns-in_err-make_room-clause-pending_stays g c = on-err c.from_residual.result (λ room. c.in_err-make_room.ensures.pending_stays)
-
-pub returns-in_err-make_room-clause-last_stays : goal.returns-in_err-make_room-clause-last_stays
-returns-in_err-make_room-clause-last_stays g c = on-err c.from_residual.result c.in_err-make_room.ensures.last
-
-pub returns-in_err-join-clause-last_stays : goal.returns-in_err-join-clause-last_stays
-returns-in_err-join-clause-last_stays g c = on-err c.from_residual-in_err-join.result (c.in_err-join.ensures.last_stays ∙ c.in_ok-make_room.ensures.last)
-
-pub returns-in-Some-clause-stores : goal.returns-in-Some-clause-stores
-returns-in-Some-clause-stores g c = tt
-
-pub returns-in_err-make_room-clause-stores : goal.returns-in_err-make_room-clause-stores
-returns-in_err-make_room-clause-stores g c = no-success _ _ c.from_residual.result c.from_residual.ensures.1
-
-pub returns-in_err-join-clause-stores : goal.returns-in_err-join-clause-stores
-returns-in_err-join-clause-stores g c = no-success _ _ c.from_residual-in_err-join.result c.from_residual-in_err-join.ensures.1
-
-pub returns-clause-stores : goal.returns-clause-stores
-returns-clause-stores g c =
-    let bytes = option_map (λ (b : Bor (List ℕ)). b.now) c.args.blob in
-    record {
-      room = λ room. subst (λ (x : Table g.row.KNOTS g.row.SLOTS). HasJoined x c.args.key c.args.values.now bytes c.join.new.self) (c.in_ok-make_room.ensures.quiet room).1 c.in_ok-join.ensures.joined;
-      full = λ full. (c.make_room.new.self, (c.in_ok-make_room.ensures.full full, c.in_ok-join.ensures.joined));
-    }
-
-pub returns-in-Some-clause-writes : goal.returns-in-Some-clause-writes
-returns-in-Some-clause-writes g c =
-    let t = c.args.self.now in
-    let bytes = option_map (λ (b : Bor (List ℕ)). b.now) c.args.blob in
-    writes-none (MayPut t bytes) (rings_in t + most_pages t.blobs bytes) (g.F.Flash.state c.args.flash.now)
-
-pub returns-in_err-make_room-clause-writes : goal.returns-in_err-make_room-clause-writes
-returns-in_err-make_room-clause-writes g c =
-    let t = c.args.self.now in
-    let bytes = option_map (λ (b : Bor (List ℕ)). b.now) c.args.blob in
-    room-writes t bytes (most_pages t.blobs bytes) (g.F.Flash.state c.args.flash.now) (g.F.Flash.state c.make_room.new.flash) (λ room. (c.in_err-make_room.ensures.quiet room).2) c.in_err-make_room.ensures.writes
-
-pub returns-in_err-join-clause-writes : goal.returns-in_err-join-clause-writes
-returns-in_err-join-clause-writes g c =
-    put-writes c.args.self.now c.make_room.new.self (option_map (λ (b : Bor (List ℕ)). b.now) c.args.blob) 0 (g.F.Flash.state c.args.flash.now) (g.F.Flash.state c.make_room.new.flash) (g.F.Flash.state c.join.new.flash)
-    c.in_ok-make_room.ensures.goes.tells c.in_ok-make_room.ensures.same.blobs (λ room. (c.in_ok-make_room.ensures.quiet room).2) c.in_ok-make_room.ensures.writes c.in_err-join.ensures.writes
-
-pub returns-clause-writes : goal.returns-clause-writes
-returns-clause-writes g c =
-    put-writes c.args.self.now c.make_room.new.self (option_map (λ (b : Bor (List ℕ)). b.now) c.args.blob) 0 (g.F.Flash.state c.args.flash.now) (g.F.Flash.state c.make_room.new.flash) (g.F.Flash.state c.join.new.flash)
-    c.in_ok-make_room.ensures.goes.tells c.in_ok-make_room.ensures.same.blobs (λ room. (c.in_ok-make_room.ensures.quiet room).2) c.in_ok-make_room.ensures.writes c.in_ok-join.ensures.writes
-
-pub returns-in-Some-clause-sealed : goal.returns-in-Some-clause-sealed
-returns-in-Some-clause-sealed g c = tt
-
-pub returns-in_err-make_room-clause-sealed : goal.returns-in_err-make_room-clause-sealed
-returns-in_err-make_room-clause-sealed g c = no-success _ _ c.from_residual.result c.from_residual.ensures.1
-
-pub returns-in_err-join-clause-sealed : goal.returns-in_err-join-clause-sealed
-returns-in_err-join-clause-sealed g c = no-success _ _ c.from_residual-in_err-join.result c.from_residual-in_err-join.ensures.1
-
-pub returns-clause-sealed : goal.returns-clause-sealed
-returns-clause-sealed g c = λ full.
-    page-made c.args.self.now c.make_room.new.self (option_map (λ (b : Bor (List ℕ)). b.now) c.args.blob) (g.F.Flash.state c.args.flash.now) (g.F.Flash.state c.make_room.new.flash) (g.F.Flash.state c.join.new.flash)
-    c.in_ok-make_room.ensures.goes.tells c.in_ok-make_room.ensures.same.blobs full (c.in_ok-make_room.ensures.sealed full) c.in_ok-join.ensures.writes
