@@ -11,6 +11,7 @@ use Rattle.fl_ring.specs.Repairing.{Beside}
 use Rattle.fl_ring.specs.Ring.{Shape, room, is_due_at}
 use Rattle.fl_ring.specs.declared.ring.Ring.{Ring}
 use Rattle.fl_index.proofs.MountCalls.{four-each}
+use Rattle.fl_parts.specs.IndexMount.{FewRepairs}
 use Rattle.fl_table.specs.Memory.{ring_shape, IsSamePlan}
 use Rattle.fl_table.specs.declared.table.Table.{Table}
 use Rattle.fl_table.proofs.MountCalls.{same-shape}
@@ -74,3 +75,14 @@ module _ {KNOTS SLOTS : ℕ} (old new : Table KNOTS SLOTS) (f mid : FlashState) 
         reads = omega (arith, searched.few_reads, reads.reads, few, all);
         media_reads = omega (arith, searched.media_reads, reads.media_reads, few, all);
       }
+
+-- what the mount of the index alone reads, and how often it repairs, where the other rings weren't come to
+pub index-reads : (a b c : ℕ) (old new : FlashState) → FewReads (4 * b) old new → FewReads (4 * (a + b + c)) old new
+index-reads a b c old new few = record { reads = omega (arith, few.reads); media_reads = omega (arith, few.media_reads) }
+
+pub index-repairs : (a b : ℕ) (old new : FlashState) → FewRepairs a old new → FewRepairs (a + b + 1) old new
+index-repairs a b old new few = record { programs = omega (arith, few.programs); erases = omega (arith, few.erases) }
+
+-- the repairs of the index, and behind them those of the other rings
+pub repairs-joined : (a b : ℕ) (old mid new : FlashState) → FewRepairs a old mid → FewRepairs (1 + b) mid new → FewRepairs (a + b + 1) old new
+repairs-joined a b old mid new one other = record { programs = omega (arith, one.programs, other.programs); erases = omega (arith, one.erases, other.erases) }

@@ -11,8 +11,10 @@ pub mod Causes
 pub mod Mounting
 pub mod Paged
 pub mod Frames
+pub mod Mounts
 pub mod Look
 pub mod Rings
 pub mod Kept
 pub mod BlobAt
 pub mod Finding
+pub mod Lookups

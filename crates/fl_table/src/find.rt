@@ -57,29 +57,13 @@ impl<const KNOTS: usize, const SLOTS: usize> Table<KNOTS, SLOTS> {
         requires running { is_running self.now ≡ true }
         requires lies { LiesOn self.now (F.state flash.old) }
         requires room { length buf.old.bytes ≡ (F.state flash.old).geometry.page }
-        ensures finds { (first : ℕ) → (plan : Plan) → (table : model.Table) → IsTrue (F.state flash.old).media.tells → Stands self.now (F.state flash.old) first plan table →
-            Finds KNOTS plan table key (F.state flash.old).work.reads (F.state flash.new).work.reads buf.new result }
-        ensures reads { (first : ℕ) → (plan : Plan) → (table : model.Table) → IsTrue (F.state flash.old).media.tells → Stands self.now (F.state flash.old) first plan table →
-            (F.state flash.new).work.reads ≤ (F.state flash.old).work.reads + lookup_limit KNOTS plan table key }
-        ensures pending { (first : ℕ) → (plan : Plan) → (table : model.Table) → Stands self.now (F.state flash.old) first plan table → is_pending_key table key ≡ true →
-            (F.state flash.new ≡ F.state flash.old) × (buf.new ≡ buf.old) × FindsPending plan table key buf.new result }
+        ensures finds { LooksUp self.now key (F.state flash.old) buf.old steps.old
+            result (F.state flash.new) buf.new steps.new }
         // Whatever the pages hold: the row that is found has the key, and a page that has to be read isn't bad.
-        ensures key { IfOk result (λ found. IfSome found (HasKeyAt self.now buf.new key)) }
-        ensures answers { IfOk result (IsAnswered self.now (F.state flash.old) key) }
-        ensures unread { is_pending_in self.now key ≡ true → (F.state flash.new ≡ F.state flash.old) × (buf.new ≡ buf.old) × IsTrue (is_ok result) }
-        ensures most { (F.state flash.new).work.reads ≤ (F.state flash.old).work.reads + (next_in self.now - oldest_in self.now) + 1 }
-        ensures counts { contents.OnlyReads (F.state flash.old) (F.state flash.new) }
-        ensures lies { LiesOn self.now (F.state flash.new) }
-        ensures room { length buf.new.bytes ≡ length buf.old.bytes }
-        ensures here { IfOk result (λ found. IfSome found (IsRowAt self.now buf.new)) }
-        ensures holds { IfOk result (λ found. IfSome found (HoldsIts self.now (F.state flash.new) buf.new)) }
-        ensures fresh { IsFresh (F.state flash.old) buf.old → IsFresh (F.state flash.new) buf.new }
-        ensures fails { IfErr result (λ e. LookupFails self.now (F.state flash.old) e (F.state flash.new)) }
-        ensures blames { is_covered_in self.now key ≡ true → IfErr result (BlamesFor self.now (F.state flash.old) key) }
-        ensures later { min steps.old (2 ^ 64 - 1) ≤ steps.new }
-        ensures comparisons { steps.new ≤ steps.old + bits (knots_near self.now key) + 2 }
-        ensures slot { (first : ℕ) → (plan : Plan) → (table : model.Table) → (count : ℕ) → Stands self.now (F.state flash.old) first plan table → IsInSlot KNOTS SLOTS plan table key count →
-            steps.new ≤ steps.old + bits count + 2 }
+        ensures row { AnswersBy self.now key (F.state flash.old) buf.old
+            result (F.state flash.new) buf.new }
+        ensures flash { LooksAt self.now (F.state flash.old) buf.old (F.state flash.new) buf.new }
+        ensures steps { ComparesFor self.now key steps.old steps.new }
     {
         if self.is_pending_key(key) {
             return Ok(self.pending_place(key).map(RowAt::Pending));

@@ -24,7 +24,7 @@ pub(crate) struct FoundRows {
 impl<const KNOTS: usize, const SLOTS: usize> Table<KNOTS, SLOTS> {
     ghost use Rattle.std.specs.Prelude.{ℕ, Bool};
     ghost use Rattle.fl_model.specs.Mount.{index_end};
-    ghost use Rattle.fl_model.specs.MountLimit.{mount_limit, part_mount_limit, repaired};
+    ghost use Rattle.fl_model.specs.MountLimit.{part_mount_limit, repaired};
     ghost use Rattle.fl_model.specs.Record.{Plan};
     ghost use Rattle.fl_model.specs.Table as model;
     ghost use Rattle.fl_model.specs.Table.{DataRing, VarRing, shape_of as model_shape};
@@ -47,10 +47,11 @@ impl<const KNOTS: usize, const SLOTS: usize> Table<KNOTS, SLOTS> {
     ghost use Rattle.fl_frame.specs.Watched.{IsWatched};
     ghost use Rattle.fl_table.specs.Memory.{is_running, is_stopped, pending_in, ring_shape, IsForgotten, IsPlanned, IsSamePlan, IsSameRest, LiesOn, NothingWaits};
     ghost use Rattle.fl_parts.specs.Pages.{RestsToMount};
-    ghost use Rattle.fl_table.specs.Outcomes.{DataEnds, MountEnds, RingsEnd, var_rings};
+    ghost use Rattle.fl_table.specs.Outcomes.{DataEnds, RingsEnd, var_rings};
     ghost use Rattle.fl_parts.specs.MountLimits.{rows_mount_limit};
     ghost use Rattle.fl_parts.specs.IndexMount.{FewRepairs, RemembersKept};
-    ghost use Rattle.fl_table.specs.Mounting.{FindsData, FindsPages, FindsRows, HasLearned, OutsideStands, RefusesData, RefusesPages, RefusesRows, RowsStandOutside, comes_in, pages_in, rings_in};
+    ghost use Rattle.fl_table.specs.Mounting.{FindsData, FindsRows, HasLearned, RefusesData, RefusesRows, RowsStandOutside, comes_in};
+    ghost use Rattle.fl_table.specs.Mounts.{MountsAs, MountsBy, MountsFlash, MountsInMemory, HoldsNone};
 
     // As it was before its first mount.
     pub(crate) fn forget(&mut self)
@@ -265,28 +266,12 @@ impl<const KNOTS: usize, const SLOTS: usize> Table<KNOTS, SLOTS> {
     ) -> Result<Mounted, MountFault>
         requires lies { LiesOn self.old (F.state flash.old) }
         requires room { length buf.old.bytes ≡ (F.state flash.old).geometry.page }
-        ensures goes { Goes (F.state flash.old) (F.state flash.new) }
-        ensures same { IsSamePlan self.old self.new }
-        ensures lies { LiesOn self.new (F.state flash.new) }
-        ensures room { length buf.new.bytes ≡ length buf.old.bytes }
-        ensures holds { buf.new.holds ≡ None }
-        ensures ends { (first : ℕ) → (plan : Plan) → (table : model.Table) → (rose : Bool) → (device : Device) → IsWatched (F.state flash.old) (F.state flash.new) rose device
-            → IsPlanned self.old first plan → RestsToMount (F.state flash.old) first plan table → MountEnds first plan table rose device result self.new (F.state flash.new) }
-        ensures mounted { is_running self.new ≡ is_ok result }
-        ensures calm { is_stopped self.new ≡ false }
-        ensures none { pending_in self.new ≡ 0 }
-        ensures empty { OnOk result (NothingWaits self.new) }
-        ensures found { IfOk result (λ mounted. IsTrue (F.state flash.old).media.tells → FindsPages self.old (F.state flash.old) mounted self.new (F.state flash.new)) }
-        ensures refused { IfErr result (λ e. IsTrue (F.state flash.old).media.tells → RefusesPages self.old (F.state flash.old) e (F.state flash.new)) }
-        ensures outside { IsTrue (F.state flash.old).media.tells → OutsideStands self.old (page_at (F.state flash.old)) (page_at (F.state flash.new)) }
-        ensures reads { IsTrue (F.state flash.old).media.tells → FewReads (4 * pages_in self.old) (F.state flash.old) (F.state flash.new) }
-        ensures limit { (first : ℕ) → (plan : Plan) → (table : model.Table) → (rose : Bool) → (device : Device) → IsWatched (F.state flash.old) (F.state flash.new) rose device
-            → IsPlanned self.old first plan → RestsToMount (F.state flash.old) first plan table → plan.full_index ≡ true
-            → (F.state flash.new).work.reads ≤ (F.state flash.old).work.reads + mount_limit plan table }
-        ensures repairs { FewRepairs (rings_in self.old) (F.state flash.old) (F.state flash.new) }
-        ensures power { OnOk result ((F.state flash.old).is_on ≡ true → (F.state flash.new).is_on ≡ true) }
-        ensures cause { IfErr result (λ e. MountCausedBy (F.state flash.old) e (F.state flash.new)) }
-        ensures off { (F.state flash.old).is_on ≡ false → (result ≡ Err (MountFault.Flash FlashFault.PowerLost)) × (F.state flash.new ≡ F.state flash.old) }
+        ensures mount { MountsAs self.old (F.state flash.old) result self.new (F.state flash.new) }
+        // Whatever the flash holds:
+        ensures pages { MountsBy self.old (F.state flash.old) result self.new (F.state flash.new) }
+        ensures memory { MountsInMemory self.old result self.new (F.state flash.new) }
+        ensures buffer { HoldsNone buf.old buf.new }
+        ensures flash { MountsFlash self.old (F.state flash.old) result (F.state flash.new) }
     {
         self.forget();
         let end = mount_bitmaps(&mut self.bitmaps, flash, buf)?;

@@ -1,4 +1,4 @@
-use Rattle.std.proofs.Common.{arith, ◌*◌, ◌≡◌, ◌+◌, ◌-◌, Option, Err, IsTrue, sym, ◌∙◌, ap, subst, inr, is_some}
+use Rattle.std.proofs.Common.{arith, ◌*◌, ◌≡◌, ◌+◌, ◌-◌, Option, Err, IsTrue, refl, sym, ◌∙◌, ap, subst, inl, inr, is_some}
 use Rattle.std.proofs.lemmas.Result.{err_from_is_err_and, IfErr-weaker, IfOk-weaker}
 use Rattle.fl_flash.specs.Flash.{FlashState, page_at}
 use Rattle.fl_frame.proofs.CallsInTurn.{goes-then}
@@ -8,13 +8,15 @@ use Rattle.fl_base.specs.declared.types.Geometry.{Geometry}
 use Rattle.fl_base.specs.declared.types.RingPlace.{RingPlace}
 use Rattle.fl_ring.specs.Mounting.{shape_at}
 use Rattle.fl_ring.specs.Ring.{Shape, room}
-use Rattle.fl_parts.specs.Bitmaps.{AreSamePlan, IsOutside, StandOutside, room_of}
+use Rattle.fl_parts.specs.Bitmaps.{AreSamePlan, IsOutside, StandOutside, rings_of, room_of}
 use Rattle.fl_parts.specs.Coming.{index_pages_of}
-use Rattle.fl_parts.specs.IndexMount.{FindsBitmaps}
+use Rattle.fl_parts.specs.IndexMount.{FewRepairs, FindsBitmaps, RefusesBitmaps}
 use Rattle.fl_parts.proofs.Firsts.{room-same}
 use Rattle.fl_parts.proofs.FoundReads.{index-within, reads-joined}
 use Rattle.fl_frame.proofs.WatchedInTurn.{watched-first, watched-then}
 use Rattle.fl_frame.specs.Reads.{FewReads}
+use Rattle.fl_table.proofs.MountCalls.{ring-cause}
+use Rattle.fl_table.proofs.MountReads.{index-reads, index-repairs, repairs-joined}
 use Rattle.fl_table.proofs.MountJoined.{index-limit, limit-then, mount-cause-later, mount-fails, mount-then, finds-as, refuses-by, stand-outside}
 use Rattle.fl_table.proofs.Outsides.{blobs-outside}
 use Rattle.fl_table.proofs.SealAnswers.{planned-same, same-then}
@@ -30,76 +32,114 @@ use Rattle.fl_ring.specs.declared.ring.Ring.{Ring}
 use Rattle.fl_parts.proofs.Untouched.{no-success}
 use Rattle.fl_table.proofs.table.Table.mount.Goals as goal
 
-pub returns-in_err-end-clause-ends : goal.returns-in_err-end-clause-ends
-returns-in_err-end-clause-ends g c = λ first plan table rose device watched planned rests.
-    let t = c.args.self.now in
-    let old = g.F.Flash.state c.args.flash.now in
-    let new = g.F.Flash.state c.mount_bitmaps.new.flash in
-    let p = err_from_is_err_and c.from_residual.result c.from_residual.ensures.1 in
-    rw (p.1, p.2) (mount-fails t old new first plan table rose device planned rests watched c.forget.new.self.bitmaps c.mount_bitmaps.new.bitmaps c.in_err-end.field-0.0 _ (sym c.forget.ensures.bitmaps) (c.in_err-end.ensures.outside watched.told)
-    (c.in_err-end.ensures.ends (first + plan.data_blocks) plan table rose device))
+-- ---- the index was not found
 
-pub returns-clause-ends : goal.returns-clause-ends
-returns-clause-ends g c = λ first plan table rose device watched planned rests.
-    let t = c.args.self.now in
-    let old = g.F.Flash.state c.args.flash.now in
-    let mid = g.F.Flash.state c.mount_bitmaps.new.flash in
-    let new = g.F.Flash.state c.mount_rows.new.flash in
-    let goes = c.in_ok-end.ensures.goes in
-    mount-then t old mid first plan table rose device planned rests (watched-first old mid new rose device watched c.mount_rows.ensures.goes) c.forget.new.self.bitmaps c.mount_bitmaps.new.bitmaps c.in_ok-end.end c.mount_rows.result c.mount_rows.new.self new (sym c.forget.ensures.bitmaps)
-    c.in_ok-end.ensures.same (c.in_ok-end.ensures.outside watched.told) (c.in_ok-end.ensures.ends (first + plan.data_blocks) plan table rose device)
-    (λ x later on counts at_rest stands end. c.mount_rows.ensures.ends first plan x rose later (watched-then old mid new rose device later watched goes on counts) (planned-same t _ first plan planned (record {
-      geometry = c.forget.ensures.same.geometry;
-      layout = c.forget.ensures.same.layout;
-      place = c.forget.ensures.same.place;
-      buckets = c.forget.ensures.same.buckets;
-      error = c.forget.ensures.same.error;
-      bitmaps = subst (λ (o : Option BitmapIndex). AreSamePlan o c.mount_bitmaps.new.bitmaps) c.forget.ensures.bitmaps c.in_ok-end.ensures.same;
-      blobs = c.forget.ensures.same.blobs;
-      limit = c.forget.ensures.same.limit;
-    })) at_rest stands (c.unwrap_or.ensures ∙ end))
+pub returns-in_err-end-clause-mount : goal.returns-in_err-end-clause-mount
+returns-in_err-end-clause-mount g c = record {
+  ends = λ first plan table rose device watched planned rests.
+      let t = c.args.self.now in
+      let old = g.F.Flash.state c.args.flash.now in
+      let new = g.F.Flash.state c.mount_bitmaps.new.flash in
+      let p = err_from_is_err_and c.from_residual.result c.from_residual.ensures.1 in
+      rw (p.1, p.2) (mount-fails t old new first plan table rose device planned rests watched c.forget.new.self.bitmaps c.mount_bitmaps.new.bitmaps c.in_err-end.field-0.0 _ (sym c.forget.ensures.bitmaps) (c.in_err-end.ensures.outside watched.told)
+      (c.in_err-end.ensures.ends (first + plan.data_blocks) plan table rose device));
+  limit = λ first plan table rose device watched planned rests full.
+      index-limit c.args.self.now (g.F.Flash.state c.args.flash.now) (g.F.Flash.state c.mount_bitmaps.new.flash) first plan table rose device planned rests watched c.forget.new.self.bitmaps (sym c.forget.ensures.bitmaps)
+      (c.in_err-end.ensures.outside watched.told) (c.in_err-end.ensures.limit (first + plan.data_blocks) plan table watched.told) full;
+}
 
-pub returns-in_err-end-clause-limit : goal.returns-in_err-end-clause-limit
-returns-in_err-end-clause-limit g c = λ first plan table rose device watched planned rests full.
-    index-limit c.args.self.now (g.F.Flash.state c.args.flash.now) (g.F.Flash.state c.mount_bitmaps.new.flash) first plan table rose device planned rests watched c.forget.new.self.bitmaps (sym c.forget.ensures.bitmaps)
-    (c.in_err-end.ensures.outside watched.told) (c.in_err-end.ensures.limit (first + plan.data_blocks) plan table watched.told) full
+pub returns-in_err-end-clause-pages : goal.returns-in_err-end-clause-pages
+returns-in_err-end-clause-pages g c = record {
+  found = no-success _ _ c.from_residual.result c.from_residual.ensures.1;
+  refused =
+      let old = g.F.Flash.state c.args.flash.now in
+      let new = g.F.Flash.state c.mount_bitmaps.new.flash in
+      let p = err_from_is_err_and c.from_residual.result c.from_residual.ensures.1 in
+      rw (p.1, p.2) (λ told. inl (c.in_err-end.field-0.0, refl, subst (λ (o : Option BitmapIndex). RefusesBitmaps o old c.in_err-end.field-0.0 new) c.forget.ensures.bitmaps (c.in_err-end.ensures.refused told)));
+}
 
-pub returns-clause-limit : goal.returns-clause-limit
-returns-clause-limit g c = λ first plan table rose device watched planned rests full.
-    let t = c.args.self.now in
-    let old = g.F.Flash.state c.args.flash.now in
-    let mid = g.F.Flash.state c.mount_bitmaps.new.flash in
-    let new = g.F.Flash.state c.mount_rows.new.flash in
-    let goes = c.in_ok-end.ensures.goes in
-    limit-then t old mid first plan table rose device planned rests (watched-first old mid new rose device watched c.mount_rows.ensures.goes) c.forget.new.self.bitmaps c.mount_bitmaps.new.bitmaps c.in_ok-end.end new (sym c.forget.ensures.bitmaps)
-    c.in_ok-end.ensures.same (c.in_ok-end.ensures.outside watched.told) (c.in_ok-end.ensures.ends (first + plan.data_blocks) plan table rose device) (c.in_ok-end.ensures.limit (first + plan.data_blocks) plan table watched.told) full
-    (λ x later on counts at_rest stands end. c.mount_rows.ensures.limit first plan x rose later (watched-then old mid new rose device later watched goes on counts) (planned-same t _ first plan planned (record {
-      geometry = c.forget.ensures.same.geometry;
-      layout = c.forget.ensures.same.layout;
-      place = c.forget.ensures.same.place;
-      buckets = c.forget.ensures.same.buckets;
-      error = c.forget.ensures.same.error;
-      bitmaps = subst (λ (o : Option BitmapIndex). AreSamePlan o c.mount_bitmaps.new.bitmaps) c.forget.ensures.bitmaps c.in_ok-end.ensures.same;
-      blobs = c.forget.ensures.same.blobs;
-      limit = c.forget.ensures.same.limit;
-    })) at_rest stands (c.unwrap_or.ensures ∙ end) full)
+pub returns-in_err-end-clause-memory : goal.returns-in_err-end-clause-memory
+returns-in_err-end-clause-memory g c = record {
+  same =
+      let same = c.forget.ensures.same in
+      record {
+        geometry = same.geometry;
+        layout = same.layout;
+        place = same.place;
+        buckets = same.buckets;
+        error = same.error;
+        bitmaps = subst (λ (o : Option BitmapIndex). AreSamePlan o c.mount_bitmaps.new.bitmaps) c.forget.ensures.bitmaps c.in_err-end.ensures.same;
+        blobs = same.blobs;
+        limit = same.limit;
+      };
+  lies =
+      let old = g.F.Flash.state c.args.flash.now in
+      let mid = g.F.Flash.state c.mount_bitmaps.new.flash in
+      let goes = c.in_err-end.ensures.goes in
+      let lies = c.requires.lies in
+      let same = c.forget.ensures.same in
+      record {
+        geometry = goes.geometry ∙ (lies.geometry ∙ sym same.geometry);
+        within = omega (arith, lies.within, goes.blocks, ap (λ (p : RingPlace). p.first_block) same.place, ap (λ (p : RingPlace). p.blocks) same.place);
+        few = few-goes old mid goes lies.few;
+        ring = λ ring is. absurd (none-there c.forget.new.self.ring ring c.forget.ensures.forgotten.down is);
+        bitmaps = c.in_err-end.ensures.lies;
+        blobs = blobbing.lies-goes c.forget.new.self.blobs old mid goes (subst (λ (o : Option VarData). variable.LieOn o old) (sym c.forget.ensures.blobs) lies.blobs);
+      };
+  mounted =
+      let p = err_from_is_err_and c.from_residual.result c.from_residual.ensures.1 in
+      rw p.1 (ap (λ (o : Option Ring). is_some o) c.forget.ensures.forgotten.down);
+  calm = c.forget.ensures.forgotten.calm;
+  none = c.forget.ensures.forgotten.none;
+  empty = no-success _ _ c.from_residual.result c.from_residual.ensures.1;
+}
 
-pub returns-clause-found : goal.returns-clause-found
-returns-clause-found g c =
-    let t = c.args.self.now in
-    let old = g.F.Flash.state c.args.flash.now in
-    let mid = g.F.Flash.state c.mount_bitmaps.new.flash in
-    let new = g.F.Flash.state c.mount_rows.new.flash in
-    let end = c.in_ok-end.end in
-    let now = c.mount_rows.new.self in
-    IfOk-weaker c.mount_rows.result _ _ (λ mounted h told. record {
-      end = end;
-      indexed = mid;
-      found = c.mount_bitmaps.new.bitmaps;
-      same = subst (λ (o : Option BitmapIndex). AreSamePlan o c.mount_bitmaps.new.bitmaps) c.forget.ensures.bitmaps c.in_ok-end.ensures.same;
-      bitmaps = subst (λ (o : Option BitmapIndex). FindsBitmaps o old end c.mount_bitmaps.new.bitmaps mid) c.forget.ensures.bitmaps (c.in_ok-end.ensures.found told);
-      still = c.mount_rows.ensures.still;
-      rows = finds-as t _ c.mount_bitmaps.new.bitmaps mid c.unwrap_or.result (unwrap_or end 0) mounted now new (h (subst IsTrue (sym c.in_ok-end.ensures.goes.tells) told)) (record {
+pub returns-in_err-end-clause-buffer : goal.returns-in_err-end-clause-buffer
+returns-in_err-end-clause-buffer g c = record {
+  room = c.in_err-end.ensures.room;
+  holds = c.in_err-end.ensures.holds;
+}
+
+pub returns-in_err-end-clause-flash : goal.returns-in_err-end-clause-flash
+returns-in_err-end-clause-flash g c = record {
+  goes = c.in_err-end.ensures.goes;
+  power = no-success _ _ c.from_residual.result c.from_residual.ensures.1;
+  outside = λ told page rows index blobs.
+      let old = g.F.Flash.state c.args.flash.now in
+      let mid = g.F.Flash.state c.mount_bitmaps.new.flash in
+      stand-outside c.args.self.now.bitmaps (page_at old) (page_at mid) page (subst (λ (o : Option BitmapIndex). StandOutside o (page_at old) (page_at mid)) c.forget.ensures.bitmaps (c.in_err-end.ensures.outside told)) index;
+  reads = λ told.
+      let t = c.args.self.now in
+      let old = g.F.Flash.state c.args.flash.now in
+      let new = g.F.Flash.state c.mount_bitmaps.new.flash in
+      index-reads (room (shape_at t.place t.geometry)) (room_of t.bitmaps) (variable.room_of t.blobs) old new (subst (λ (o : Option BitmapIndex). FewReads (4 * room_of o) old new) c.forget.ensures.bitmaps (c.in_err-end.ensures.reads told));
+  repairs =
+      let t = c.args.self.now in
+      let old = g.F.Flash.state c.args.flash.now in
+      let new = g.F.Flash.state c.mount_bitmaps.new.flash in
+      index-repairs (rings_of t.bitmaps) (variable.rings_of t.blobs) old new (subst (λ (o : Option BitmapIndex). FewRepairs (rings_of o) old new) c.forget.ensures.bitmaps c.in_err-end.ensures.repairs);
+  cause =
+      let p = err_from_is_err_and c.from_residual.result c.from_residual.ensures.1 in
+      rw (p.1, p.2) (ring-cause (g.F.Flash.state c.args.flash.now) (g.F.Flash.state c.mount_bitmaps.new.flash) c.in_err-end.field-0.0 c.in_err-end.ensures.cause);
+  off = λ down.
+      let p = err_from_is_err_and c.from_residual.result c.from_residual.ensures.1 in
+      let h = c.in_err-end.ensures.off down in
+      rw (p.1, p.2) (ap (λ (e : RingFault). Err (of_ring e)) h.0, h.1);
+}
+
+-- ---- behind the index
+
+pub returns-clause-mount : goal.returns-clause-mount
+returns-clause-mount g c = record {
+  ends = λ first plan table rose device watched planned rests.
+      let t = c.args.self.now in
+      let old = g.F.Flash.state c.args.flash.now in
+      let mid = g.F.Flash.state c.mount_bitmaps.new.flash in
+      let new = g.F.Flash.state c.mount_rows.new.flash in
+      let goes = c.in_ok-end.ensures.goes in
+      mount-then t old mid first plan table rose device planned rests (watched-first old mid new rose device watched c.mount_rows.ensures.goes) c.forget.new.self.bitmaps c.mount_bitmaps.new.bitmaps c.in_ok-end.end c.mount_rows.result c.mount_rows.new.self new (sym c.forget.ensures.bitmaps)
+      c.in_ok-end.ensures.same (c.in_ok-end.ensures.outside watched.told) (c.in_ok-end.ensures.ends (first + plan.data_blocks) plan table rose device)
+      (λ x later on counts at_rest stands end. c.mount_rows.ensures.ends first plan x rose later (watched-then old mid new rose device later watched goes on counts) (planned-same t _ first plan planned (record {
         geometry = c.forget.ensures.same.geometry;
         layout = c.forget.ensures.same.layout;
         place = c.forget.ensures.same.place;
@@ -108,25 +148,85 @@ returns-clause-found g c =
         bitmaps = subst (λ (o : Option BitmapIndex). AreSamePlan o c.mount_bitmaps.new.bitmaps) c.forget.ensures.bitmaps c.in_ok-end.ensures.same;
         blobs = c.forget.ensures.same.blobs;
         limit = c.forget.ensures.same.limit;
-      }) c.forget.ensures.blobs c.unwrap_or.ensures;
-    }) c.mount_rows.ensures.found
+      })) at_rest stands (c.unwrap_or.ensures ∙ end));
+  limit = λ first plan table rose device watched planned rests full.
+      let t = c.args.self.now in
+      let old = g.F.Flash.state c.args.flash.now in
+      let mid = g.F.Flash.state c.mount_bitmaps.new.flash in
+      let new = g.F.Flash.state c.mount_rows.new.flash in
+      let goes = c.in_ok-end.ensures.goes in
+      limit-then t old mid first plan table rose device planned rests (watched-first old mid new rose device watched c.mount_rows.ensures.goes) c.forget.new.self.bitmaps c.mount_bitmaps.new.bitmaps c.in_ok-end.end new (sym c.forget.ensures.bitmaps)
+      c.in_ok-end.ensures.same (c.in_ok-end.ensures.outside watched.told) (c.in_ok-end.ensures.ends (first + plan.data_blocks) plan table rose device) (c.in_ok-end.ensures.limit (first + plan.data_blocks) plan table watched.told) full
+      (λ x later on counts at_rest stands end. c.mount_rows.ensures.limit first plan x rose later (watched-then old mid new rose device later watched goes on counts) (planned-same t _ first plan planned (record {
+        geometry = c.forget.ensures.same.geometry;
+        layout = c.forget.ensures.same.layout;
+        place = c.forget.ensures.same.place;
+        buckets = c.forget.ensures.same.buckets;
+        error = c.forget.ensures.same.error;
+        bitmaps = subst (λ (o : Option BitmapIndex). AreSamePlan o c.mount_bitmaps.new.bitmaps) c.forget.ensures.bitmaps c.in_ok-end.ensures.same;
+        blobs = c.forget.ensures.same.blobs;
+        limit = c.forget.ensures.same.limit;
+      })) at_rest stands (c.unwrap_or.ensures ∙ end) full);
+}
 
-pub returns-clause-refused : goal.returns-clause-refused
-returns-clause-refused g c =
-    let t = c.args.self.now in
-    let old = g.F.Flash.state c.args.flash.now in
-    let mid = g.F.Flash.state c.mount_bitmaps.new.flash in
-    let new = g.F.Flash.state c.mount_rows.new.flash in
-    let end = c.in_ok-end.end in
-    IfErr-weaker c.mount_rows.result _ _ (λ e h told. inr (
-      end,
-      mid,
-      record {
-        now = c.mount_bitmaps.new.bitmaps;
+pub returns-clause-pages : goal.returns-clause-pages
+returns-clause-pages g c = record {
+  found =
+      let t = c.args.self.now in
+      let old = g.F.Flash.state c.args.flash.now in
+      let mid = g.F.Flash.state c.mount_bitmaps.new.flash in
+      let new = g.F.Flash.state c.mount_rows.new.flash in
+      let end = c.in_ok-end.end in
+      let now = c.mount_rows.new.self in
+      IfOk-weaker c.mount_rows.result _ _ (λ mounted h told. record {
+        end = end;
+        indexed = mid;
+        found = c.mount_bitmaps.new.bitmaps;
         same = subst (λ (o : Option BitmapIndex). AreSamePlan o c.mount_bitmaps.new.bitmaps) c.forget.ensures.bitmaps c.in_ok-end.ensures.same;
         bitmaps = subst (λ (o : Option BitmapIndex). FindsBitmaps o old end c.mount_bitmaps.new.bitmaps mid) c.forget.ensures.bitmaps (c.in_ok-end.ensures.found told);
-      },
-      refuses-by t _ c.mount_bitmaps.new.bitmaps mid c.unwrap_or.result (unwrap_or end 0) e new (h (subst IsTrue (sym c.in_ok-end.ensures.goes.tells) told)) (record {
+        still = c.mount_rows.ensures.still;
+        rows = finds-as t _ c.mount_bitmaps.new.bitmaps mid c.unwrap_or.result (unwrap_or end 0) mounted now new (h (subst IsTrue (sym c.in_ok-end.ensures.goes.tells) told)) (record {
+          geometry = c.forget.ensures.same.geometry;
+          layout = c.forget.ensures.same.layout;
+          place = c.forget.ensures.same.place;
+          buckets = c.forget.ensures.same.buckets;
+          error = c.forget.ensures.same.error;
+          bitmaps = subst (λ (o : Option BitmapIndex). AreSamePlan o c.mount_bitmaps.new.bitmaps) c.forget.ensures.bitmaps c.in_ok-end.ensures.same;
+          blobs = c.forget.ensures.same.blobs;
+          limit = c.forget.ensures.same.limit;
+        }) c.forget.ensures.blobs c.unwrap_or.ensures;
+      }) c.mount_rows.ensures.found;
+  refused =
+      let t = c.args.self.now in
+      let old = g.F.Flash.state c.args.flash.now in
+      let mid = g.F.Flash.state c.mount_bitmaps.new.flash in
+      let new = g.F.Flash.state c.mount_rows.new.flash in
+      let end = c.in_ok-end.end in
+      IfErr-weaker c.mount_rows.result _ _ (λ e h told. inr (
+        end,
+        mid,
+        record {
+          now = c.mount_bitmaps.new.bitmaps;
+          same = subst (λ (o : Option BitmapIndex). AreSamePlan o c.mount_bitmaps.new.bitmaps) c.forget.ensures.bitmaps c.in_ok-end.ensures.same;
+          bitmaps = subst (λ (o : Option BitmapIndex). FindsBitmaps o old end c.mount_bitmaps.new.bitmaps mid) c.forget.ensures.bitmaps (c.in_ok-end.ensures.found told);
+        },
+        refuses-by t _ c.mount_bitmaps.new.bitmaps mid c.unwrap_or.result (unwrap_or end 0) e new (h (subst IsTrue (sym c.in_ok-end.ensures.goes.tells) told)) (record {
+          geometry = c.forget.ensures.same.geometry;
+          layout = c.forget.ensures.same.layout;
+          place = c.forget.ensures.same.place;
+          buckets = c.forget.ensures.same.buckets;
+          error = c.forget.ensures.same.error;
+          bitmaps = subst (λ (o : Option BitmapIndex). AreSamePlan o c.mount_bitmaps.new.bitmaps) c.forget.ensures.bitmaps c.in_ok-end.ensures.same;
+          blobs = c.forget.ensures.same.blobs;
+          limit = c.forget.ensures.same.limit;
+        }) c.forget.ensures.blobs c.unwrap_or.ensures,
+      )) c.mount_rows.ensures.refused;
+}
+
+pub returns-clause-memory : goal.returns-clause-memory
+returns-clause-memory g c = record {
+  same =
+      same-then c.args.self.now _ c.mount_rows.new.self (record {
         geometry = c.forget.ensures.same.geometry;
         layout = c.forget.ensures.same.layout;
         place = c.forget.ensures.same.place;
@@ -135,93 +235,65 @@ returns-clause-refused g c =
         bitmaps = subst (λ (o : Option BitmapIndex). AreSamePlan o c.mount_bitmaps.new.bitmaps) c.forget.ensures.bitmaps c.in_ok-end.ensures.same;
         blobs = c.forget.ensures.same.blobs;
         limit = c.forget.ensures.same.limit;
-      }) c.forget.ensures.blobs c.unwrap_or.ensures,
-    )) c.mount_rows.ensures.refused
+      }) c.mount_rows.ensures.same;
+  lies = c.mount_rows.ensures.lies;
+  mounted = c.mount_rows.ensures.mounted;
+  calm = c.mount_rows.ensures.calm;
+  none = c.mount_rows.ensures.none;
+  empty = c.mount_rows.ensures.empty;
+}
 
-pub returns-clause-same : goal.returns-clause-same
-returns-clause-same g c =
-    same-then c.args.self.now _ c.mount_rows.new.self (record {
-      geometry = c.forget.ensures.same.geometry;
-      layout = c.forget.ensures.same.layout;
-      place = c.forget.ensures.same.place;
-      buckets = c.forget.ensures.same.buckets;
-      error = c.forget.ensures.same.error;
-      bitmaps = subst (λ (o : Option BitmapIndex). AreSamePlan o c.mount_bitmaps.new.bitmaps) c.forget.ensures.bitmaps c.in_ok-end.ensures.same;
-      blobs = c.forget.ensures.same.blobs;
-      limit = c.forget.ensures.same.limit;
-    }) c.mount_rows.ensures.same
+pub returns-clause-buffer : goal.returns-clause-buffer
+returns-clause-buffer g c = record {
+  room = c.mount_rows.ensures.room ∙ c.in_ok-end.ensures.room;
+  holds = c.mount_rows.ensures.holds;
+}
 
-pub returns-clause-cause : goal.returns-clause-cause
-returns-clause-cause g c =
-    let old = g.F.Flash.state c.args.flash.now in
-    let mid = g.F.Flash.state c.mount_bitmaps.new.flash in
-    let new = g.F.Flash.state c.mount_rows.new.flash in
-    IfErr-weaker c.mount_rows.result _ _ (λ e h. mount-cause-later old mid new c.in_ok-end.ensures.goes c.in_ok-end.ensures.power e h) c.mount_rows.ensures.cause
-
-pub returns-clause-outside : goal.returns-clause-outside
-returns-clause-outside g c = λ told page out index blobs.
-    let t = c.args.self.now in
-    let old = g.F.Flash.state c.args.flash.now in
-    let mid = g.F.Flash.state c.mount_bitmaps.new.flash in
-    let first = stand-outside t.bitmaps (page_at old) (page_at mid) page (subst (λ (o : Option BitmapIndex). StandOutside o (page_at old) (page_at mid)) c.forget.ensures.bitmaps (c.in_ok-end.ensures.outside told)) index in
-    let shape : shape_at c.forget.new.self.place c.forget.new.self.geometry ≡ shape_at t.place t.geometry =
-    ap (λ (p : RingPlace). shape_at p c.forget.new.self.geometry) c.forget.ensures.same.place ∙ ap (λ (x : Geometry). shape_at t.place x) c.forget.ensures.same.geometry in
-    c.mount_rows.ensures.outside (subst IsTrue (sym c.in_ok-end.ensures.goes.tells) told) page (subst (λ (r : Shape). IsOutside r page) (sym shape) out) (blobs-outside t.blobs c.forget.new.self.blobs page c.forget.ensures.same.blobs blobs) ∙ first
-
-pub returns-clause-reads : goal.returns-clause-reads
-returns-clause-reads g c = λ told.
-    let t = c.args.self.now in
-    let old = g.F.Flash.state c.args.flash.now in
-    let mid = g.F.Flash.state c.mount_bitmaps.new.flash in
-    let new = g.F.Flash.state c.mount_rows.new.flash in
-    let now = c.mount_bitmaps.new.bitmaps in
-    let within = index-within t.bitmaps now old mid c.in_ok-end.end (subst (λ (o : Option BitmapIndex). AreSamePlan o now) c.forget.ensures.bitmaps c.in_ok-end.ensures.same)
-    (subst (λ (o : Option BitmapIndex). FindsBitmaps o old c.in_ok-end.end now mid) c.forget.ensures.bitmaps (c.in_ok-end.ensures.found told)) told in
-    let spared = subst (λ (o : Option BitmapIndex). FewReads (4 * room_of o - index_pages_of now) old mid) c.forget.ensures.bitmaps (c.in_ok-end.ensures.spared told) in
-    let shape : shape_at c.forget.new.self.place c.forget.new.self.geometry ≡ shape_at t.place t.geometry =
-    ap (λ (p : RingPlace). shape_at p c.forget.new.self.geometry) c.forget.ensures.same.place ∙ ap (λ (x : Geometry). shape_at t.place x) c.forget.ensures.same.geometry in
-    let few = subst (λ (r : Shape). FewReads (4 * (room r + variable.room_of t.blobs) + index_pages_of now) mid new) shape
-    (subst (λ (o : Option VarData). FewReads (4 * (room (shape_at c.forget.new.self.place c.forget.new.self.geometry) + variable.room_of o) + index_pages_of now) mid new) c.forget.ensures.blobs
-    (c.mount_rows.ensures.reads (subst IsTrue (sym c.in_ok-end.ensures.goes.tells) told))) in
-    reads-joined (room_of t.bitmaps) (index_pages_of now) (room (shape_at t.place t.geometry)) (variable.room_of t.blobs) old mid new within spared few
-
-pub returns-in_err-end-clause-off : goal.returns-in_err-end-clause-off
-returns-in_err-end-clause-off g c = λ down.
-    let p = err_from_is_err_and c.from_residual.result c.from_residual.ensures.1 in
-    let h = c.in_err-end.ensures.off down in
-    rw (p.1, p.2) (ap (λ (e : RingFault). Err (of_ring e)) h.0, h.1)
-
-pub returns-clause-off : goal.returns-clause-off
-returns-clause-off g c = λ down.
-    let first = c.in_ok-end.ensures.off down in
-    let h = c.mount_rows.ensures.off (ap (λ (f : FlashState). f.is_on) first.1 ∙ down) in
-    (h.0, h.1 ∙ first.1)
-
-pub returns-in_err-end-clause-lies : goal.returns-in_err-end-clause-lies
-returns-in_err-end-clause-lies g c =
-    let old = g.F.Flash.state c.args.flash.now in
-    let mid = g.F.Flash.state c.mount_bitmaps.new.flash in
-    let goes = c.in_err-end.ensures.goes in
-    let lies = c.requires.lies in
-    let same = c.forget.ensures.same in
-    record {
-      geometry = goes.geometry ∙ (lies.geometry ∙ sym same.geometry);
-      within = omega (arith, lies.within, goes.blocks, ap (λ (p : RingPlace). p.first_block) same.place, ap (λ (p : RingPlace). p.blocks) same.place);
-      few = few-goes old mid goes lies.few;
-      ring = λ ring is. absurd (none-there c.forget.new.self.ring ring c.forget.ensures.forgotten.down is);
-      bitmaps = c.in_err-end.ensures.lies;
-      blobs = blobbing.lies-goes c.forget.new.self.blobs old mid goes (subst (λ (o : Option VarData). variable.LieOn o old) (sym c.forget.ensures.blobs) lies.blobs);
-    }
-
-pub returns-in_err-end-clause-outside : goal.returns-in_err-end-clause-outside
-returns-in_err-end-clause-outside g c = λ told page rows index blobs.
-    let old = g.F.Flash.state c.args.flash.now in
-    let mid = g.F.Flash.state c.mount_bitmaps.new.flash in
-    stand-outside c.args.self.now.bitmaps (page_at old) (page_at mid) page (subst (λ (o : Option BitmapIndex). StandOutside o (page_at old) (page_at mid)) c.forget.ensures.bitmaps (c.in_err-end.ensures.outside told)) index
-
-pub returns-clause-goes : goal.returns-clause-goes
-returns-clause-goes g c =
-    goes-then (g.F.Flash.state c.args.flash.now) (g.F.Flash.state c.mount_bitmaps.new.flash) (g.F.Flash.state c.mount_rows.new.flash) c.in_ok-end.ensures.goes c.mount_rows.ensures.goes
+pub returns-clause-flash : goal.returns-clause-flash
+returns-clause-flash g c = record {
+  goes =
+      goes-then (g.F.Flash.state c.args.flash.now) (g.F.Flash.state c.mount_bitmaps.new.flash) (g.F.Flash.state c.mount_rows.new.flash) c.in_ok-end.ensures.goes c.mount_rows.ensures.goes;
+  power = on-then (g.F.Flash.state c.args.flash.now) (g.F.Flash.state c.mount_bitmaps.new.flash) (g.F.Flash.state c.mount_rows.new.flash) c.mount_rows.result c.in_ok-end.ensures.power c.mount_rows.ensures.power;
+  outside = λ told page out index blobs.
+      let t = c.args.self.now in
+      let old = g.F.Flash.state c.args.flash.now in
+      let mid = g.F.Flash.state c.mount_bitmaps.new.flash in
+      let first = stand-outside t.bitmaps (page_at old) (page_at mid) page (subst (λ (o : Option BitmapIndex). StandOutside o (page_at old) (page_at mid)) c.forget.ensures.bitmaps (c.in_ok-end.ensures.outside told)) index in
+      let shape : shape_at c.forget.new.self.place c.forget.new.self.geometry ≡ shape_at t.place t.geometry =
+      ap (λ (p : RingPlace). shape_at p c.forget.new.self.geometry) c.forget.ensures.same.place ∙ ap (λ (x : Geometry). shape_at t.place x) c.forget.ensures.same.geometry in
+      c.mount_rows.ensures.outside (subst IsTrue (sym c.in_ok-end.ensures.goes.tells) told) page (subst (λ (r : Shape). IsOutside r page) (sym shape) out) (blobs-outside t.blobs c.forget.new.self.blobs page c.forget.ensures.same.blobs blobs) ∙ first;
+  reads = λ told.
+      let t = c.args.self.now in
+      let old = g.F.Flash.state c.args.flash.now in
+      let mid = g.F.Flash.state c.mount_bitmaps.new.flash in
+      let new = g.F.Flash.state c.mount_rows.new.flash in
+      let now = c.mount_bitmaps.new.bitmaps in
+      let within = index-within t.bitmaps now old mid c.in_ok-end.end (subst (λ (o : Option BitmapIndex). AreSamePlan o now) c.forget.ensures.bitmaps c.in_ok-end.ensures.same)
+      (subst (λ (o : Option BitmapIndex). FindsBitmaps o old c.in_ok-end.end now mid) c.forget.ensures.bitmaps (c.in_ok-end.ensures.found told)) told in
+      let spared = subst (λ (o : Option BitmapIndex). FewReads (4 * room_of o - index_pages_of now) old mid) c.forget.ensures.bitmaps (c.in_ok-end.ensures.spared told) in
+      let shape : shape_at c.forget.new.self.place c.forget.new.self.geometry ≡ shape_at t.place t.geometry =
+      ap (λ (p : RingPlace). shape_at p c.forget.new.self.geometry) c.forget.ensures.same.place ∙ ap (λ (x : Geometry). shape_at t.place x) c.forget.ensures.same.geometry in
+      let few = subst (λ (r : Shape). FewReads (4 * (room r + variable.room_of t.blobs) + index_pages_of now) mid new) shape
+      (subst (λ (o : Option VarData). FewReads (4 * (room (shape_at c.forget.new.self.place c.forget.new.self.geometry) + variable.room_of o) + index_pages_of now) mid new) c.forget.ensures.blobs
+      (c.mount_rows.ensures.reads (subst IsTrue (sym c.in_ok-end.ensures.goes.tells) told))) in
+      reads-joined (room_of t.bitmaps) (index_pages_of now) (room (shape_at t.place t.geometry)) (variable.room_of t.blobs) old mid new within spared few;
+  repairs =
+      let t = c.args.self.now in
+      let old = g.F.Flash.state c.args.flash.now in
+      let mid = g.F.Flash.state c.mount_bitmaps.new.flash in
+      let new = g.F.Flash.state c.mount_rows.new.flash in
+      repairs-joined (rings_of t.bitmaps) (variable.rings_of t.blobs) old mid new (subst (λ (o : Option BitmapIndex). FewRepairs (rings_of o) old mid) c.forget.ensures.bitmaps c.in_ok-end.ensures.repairs)
+      (subst (λ (o : Option VarData). FewRepairs (1 + variable.rings_of o) mid new) c.forget.ensures.blobs c.mount_rows.ensures.repairs);
+  cause =
+      let old = g.F.Flash.state c.args.flash.now in
+      let mid = g.F.Flash.state c.mount_bitmaps.new.flash in
+      let new = g.F.Flash.state c.mount_rows.new.flash in
+      IfErr-weaker c.mount_rows.result _ _ (λ e h. mount-cause-later old mid new c.in_ok-end.ensures.goes c.in_ok-end.ensures.power e h) c.mount_rows.ensures.cause;
+  off = λ down.
+      let first = c.in_ok-end.ensures.off down in
+      let h = c.mount_rows.ensures.off (ap (λ (f : FlashState). f.is_on) first.1 ∙ down) in
+      (h.0, h.1 ∙ first.1);
+}
 
 pub mount_rows-requires : goal.mount_rows-requires
 mount_rows-requires g c =
@@ -303,70 +375,3 @@ invariant_of-self g c =
 
 pub forget-requires : goal.forget-requires
 forget-requires g c = table-fits g.row.KNOTS g.row.SLOTS c.args.self.now.few_knots c.args.self.now.few_slots
-
-pub returns-clause-power : goal.returns-clause-power
-returns-clause-power g c = on-then (g.F.Flash.state c.args.flash.now) (g.F.Flash.state c.mount_bitmaps.new.flash) (g.F.Flash.state c.mount_rows.new.flash) c.mount_rows.result c.in_ok-end.ensures.power c.mount_rows.ensures.power
-
-pub returns-in_err-end-clause-goes : goal.returns-in_err-end-clause-goes
-returns-in_err-end-clause-goes g c = c.in_err-end.ensures.goes
-
-pub returns-in_err-end-clause-room : goal.returns-in_err-end-clause-room
-returns-in_err-end-clause-room g c = c.in_err-end.ensures.room
-
-pub returns-in_err-end-clause-holds : goal.returns-in_err-end-clause-holds
-returns-in_err-end-clause-holds g c = c.in_err-end.ensures.holds
-
-pub returns-in_err-end-clause-calm : goal.returns-in_err-end-clause-calm
-returns-in_err-end-clause-calm g c = c.forget.ensures.forgotten.calm
-
-pub returns-in_err-end-clause-none : goal.returns-in_err-end-clause-none
-returns-in_err-end-clause-none g c = c.forget.ensures.forgotten.none
-
-pub returns-in_err-end-clause-mounted : goal.returns-in_err-end-clause-mounted
-returns-in_err-end-clause-mounted g c =
-    let p = err_from_is_err_and c.from_residual.result c.from_residual.ensures.1 in
-    rw p.1 (ap (λ (o : Option Ring). is_some o) c.forget.ensures.forgotten.down)
-
-pub returns-in_err-end-clause-empty : goal.returns-in_err-end-clause-empty
-returns-in_err-end-clause-empty g c = no-success _ _ c.from_residual.result c.from_residual.ensures.1
-
-pub returns-in_err-end-clause-found : goal.returns-in_err-end-clause-found
-returns-in_err-end-clause-found g c = no-success _ _ c.from_residual.result c.from_residual.ensures.1
-
-pub returns-in_err-end-clause-power : goal.returns-in_err-end-clause-power
-returns-in_err-end-clause-power g c = no-success _ _ c.from_residual.result c.from_residual.ensures.1
-
-pub returns-in_err-end-clause-same : goal.returns-in_err-end-clause-same
-returns-in_err-end-clause-same g c =
-    let same = c.forget.ensures.same in
-    record {
-      geometry = same.geometry;
-      layout = same.layout;
-      place = same.place;
-      buckets = same.buckets;
-      error = same.error;
-      bitmaps = subst (λ (o : Option BitmapIndex). AreSamePlan o c.mount_bitmaps.new.bitmaps) c.forget.ensures.bitmaps c.in_err-end.ensures.same;
-      blobs = same.blobs;
-      limit = same.limit;
-    }
-
-pub returns-clause-lies : goal.returns-clause-lies
-returns-clause-lies g c = c.mount_rows.ensures.lies
-
-pub returns-clause-holds : goal.returns-clause-holds
-returns-clause-holds g c = c.mount_rows.ensures.holds
-
-pub returns-clause-mounted : goal.returns-clause-mounted
-returns-clause-mounted g c = c.mount_rows.ensures.mounted
-
-pub returns-clause-calm : goal.returns-clause-calm
-returns-clause-calm g c = c.mount_rows.ensures.calm
-
-pub returns-clause-none : goal.returns-clause-none
-returns-clause-none g c = c.mount_rows.ensures.none
-
-pub returns-clause-empty : goal.returns-clause-empty
-returns-clause-empty g c = c.mount_rows.ensures.empty
-
-pub returns-clause-room : goal.returns-clause-room
-returns-clause-room g c = c.mount_rows.ensures.room ∙ c.in_ok-end.ensures.room
