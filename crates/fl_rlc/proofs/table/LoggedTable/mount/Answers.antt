@@ -1,8 +1,9 @@
-use Rattle.std.proofs.Common.{◌≡◌, ◌⊎◌, ℕ, ◌+◌, Bool, false, Option, Some, IfSome, Ok, Err, [], IsTrue, is_some, inl, inr, refl, sym, ◌∙◌, ap, subst, arith}
+use Rattle.std.proofs.Common.{◌≡◌, ◌⊎◌, ℕ, ◌+◌, Bool, false, Option, Some, IfSome, Result, Ok, Err, [], IsTrue, is_some, inl, inr, refl, sym, ◌∙◌, ap, subst, arith}
 use Rattle.std.proofs.lemmas.Result.{err_from_is_err_and}
 use Rattle.std.proofs.lemmas.Bool.{true≢false}
 use Rattle.std.proofs.lemmas.Option.{same_Some, none-some}
 use Rattle.fl_flash.specs.Flash.{page_at}
+use Rattle.fl_flash.specs.declared.flash.FlashFault.TheVariants.{PowerLost}
 use Rattle.fl_frame.proofs.CallsInTurn.{goes-then}
 use Rattle.fl_model.specs.Bare.{bare, bare_table, log_of, beside}
 use Rattle.fl_model.specs.Record.{Plan, RowLayout, row_layout, blocks_of}
@@ -12,6 +13,9 @@ use Rattle.fl_page.specs.Writer.{Gathers}
 use Rattle.fl_ring.specs.declared.ring.Ring.{Ring}
 use Rattle.fl_frame.specs.Watched.{IsWatched}
 use Rattle.fl_frame.proofs.WatchedInTurn.{watched-first, watched-then}
+use Rattle.fl_parts.specs.declared.mount_fault.MountFault.{MountFault}
+use Rattle.fl_parts.specs.declared.mount_fault.MountFault.TheVariants as mount
+use Rattle.fl_table.specs.declared.counts.Mounted.{Mounted}
 use Rattle.fl_table.proofs.MountJoined.{mount-cause-later}
 use Rattle.fl_table.proofs.SealAnswers.{same-then}
 use Rattle.fl_table.proofs.Sizes.{table-fits}
@@ -27,21 +31,24 @@ use Rattle.fl_rlc.proofs.Assembled.{log-there}
 use Rattle.fl_rlc.proofs.MountApart.{apart-mountable, table-ends, log-stays, between-stands, between-none, between-rests, replay-ends, replayed}
 use Rattle.fl_rlc.proofs.MountEnded.{bare-mountable, fails, mounts-alone, apart-of, badly-of, well-of}
 use Rattle.fl_rlc.proofs.MountLimits.{limit-alone, limit-behind}
-use Rattle.fl_rlc.proofs.MountFound.{finds-alone, finds-behind, refuses-behind, outside-both, few-both, log-here}
+use Rattle.fl_rlc.proofs.MountFound.{finds-alone, finds-behind, refuses-behind, outside-both, few-alone, few-both, log-here}
 use Rattle.fl_rlc.proofs.MountLeaves.{bare-leaves, mount-leaves}
 use Rattle.fl_rlc.proofs.PutFrames.{log-self, log-lies, log-moved, blobs-same}
 use Rattle.fl_rlc.proofs.Written.{repairs-alone, repairs-both}
 use Rattle.fl_rlc.proofs.table.LoggedTable.mount.Goals as goal
 
+not-lost : (mounted : Mounted) → ◌≡◌ {A = Result Mounted MountFault} (Ok mounted) (Err (mount.Flash PowerLost)) → ⊥
+not-lost mounted e = cc
+
 -- ---- the table's mount fails
 
 pub returns-in_err-mounted-clause-same : goal.returns-in_err-mounted-clause-same
-returns-in_err-mounted-clause-same g c = record { table = c.in_err-mounted.ensures.same; log = log-self c.args.self.now.log }
+returns-in_err-mounted-clause-same g c = record { table = c.in_err-mounted.ensures.memory.same; log = log-self c.args.self.now.log }
 
 pub returns-in_err-mounted-clause-lies : goal.returns-in_err-mounted-clause-lies
 returns-in_err-mounted-clause-lies g c = record {
-  table = c.in_err-mounted.ensures.lies;
-  log = log-lies c.args.self.now.log (g.F.Flash.state c.args.flash.now) (g.F.Flash.state c.mount.new.flash) c.in_err-mounted.ensures.goes c.requires.lies.log;
+  table = c.in_err-mounted.ensures.memory.lies;
+  log = log-lies c.args.self.now.log (g.F.Flash.state c.args.flash.now) (g.F.Flash.state c.mount.new.flash) c.in_err-mounted.ensures.flash.goes c.requires.lies.log;
 }
 
 pub returns-in_err-mounted-clause-ends : goal.returns-in_err-mounted-clause-ends
@@ -50,49 +57,104 @@ returns-in_err-mounted-clause-ends g c = λ first plan table rose device watched
     let old = g.F.Flash.state c.args.flash.now in
     let new = g.F.Flash.state c.mount.new.flash in
     let p = err_from_is_err_and c.from_residual.result c.from_residual.ensures.1 in
-    rw (p.1, p.2) (fails t old first plan table planned rests rose device c.in_err-mounted.field-0.0 c.mount.new.self _ refl refl new (c.in_err-mounted.ensures.outside watched.told)
-    (c.in_err-mounted.ensures.ends first (bare plan) (bare_table table) rose device watched planned.table (bare-mountable t old first plan table planned rests)))
+    rw (p.1, p.2) (fails t old first plan table planned rests rose device c.in_err-mounted.field-0.0 c.mount.new.self _ refl refl new (c.in_err-mounted.ensures.flash.outside watched.told)
+    (c.in_err-mounted.ensures.mount.ends first (bare plan) (bare_table table) rose device watched planned.table (bare-mountable t old first plan table planned rests)))
 
 pub returns-in_err-mounted-clause-alone : goal.returns-in_err-mounted-clause-alone
 returns-in_err-mounted-clause-alone g c = λ first plan table rose device watched planned none rests.
     let p = err_from_is_err_and c.from_residual.result c.from_residual.ensures.1 in
-    rw (p.1, p.2) (c.in_err-mounted.ensures.ends first (bare plan) table rose device watched planned.table rests)
+    rw (p.1, p.2) (c.in_err-mounted.ensures.mount.ends first (bare plan) table rose device watched planned.table rests)
 
 pub returns-in_err-mounted-clause-apart : goal.returns-in_err-mounted-clause-apart
 returns-in_err-mounted-clause-apart g c = λ first plan table rose device l watched planned is apart.
     let p = err_from_is_err_and c.from_residual.result c.from_residual.ensures.1 in
-    rw (p.1, p.2) (table-ends c.args.self.now (g.F.Flash.state c.args.flash.now) first plan table planned l apart rose device c.in_err-mounted.field-0.0 c.mount.new.self _ (g.F.Flash.state c.mount.new.flash) (c.in_err-mounted.ensures.outside watched.told)
-    (c.in_err-mounted.ensures.ends first (bare plan) (bare_table table) rose device watched planned.table (apart-mountable c.args.self.now (g.F.Flash.state c.args.flash.now) first plan table planned l apart)))
+    rw (p.1, p.2) (table-ends c.args.self.now (g.F.Flash.state c.args.flash.now) first plan table planned l apart rose device c.in_err-mounted.field-0.0 c.mount.new.self _ (g.F.Flash.state c.mount.new.flash) (c.in_err-mounted.ensures.flash.outside watched.told)
+    (c.in_err-mounted.ensures.mount.ends first (bare plan) (bare_table table) rose device watched planned.table (apart-mountable c.args.self.now (g.F.Flash.state c.args.flash.now) first plan table planned l apart)))
 
 pub returns-in_err-mounted-clause-refused : goal.returns-in_err-mounted-clause-refused
 returns-in_err-mounted-clause-refused g c =
     let p = err_from_is_err_and c.from_residual.result c.from_residual.ensures.1 in
-    rw (p.1, p.2) (λ told. inl (c.in_err-mounted.ensures.refused told))
+    rw (p.1, p.2) (λ told. inl (c.in_err-mounted.ensures.pages.refused told))
 
 pub returns-in_err-mounted-clause-outside : goal.returns-in_err-mounted-clause-outside
-returns-in_err-mounted-clause-outside g c = λ told page rows index var log. c.in_err-mounted.ensures.outside told page rows index var
+returns-in_err-mounted-clause-outside g c = λ told page rows index var log. c.in_err-mounted.ensures.flash.outside told page rows index var
 
 pub returns-in_err-mounted-clause-limit : goal.returns-in_err-mounted-clause-limit
 returns-in_err-mounted-clause-limit g c = λ first plan table rose device watched planned rests full.
     let t = c.args.self.now in
     let old = g.F.Flash.state c.args.flash.now in
-    limit-alone plan table old.work.reads (g.F.Flash.state c.mount.new.flash).work.reads (c.in_err-mounted.ensures.limit first (bare plan) (bare_table table) rose device watched planned.table (bare-mountable t old first plan table planned rests) full)
+    limit-alone plan table old.work.reads (g.F.Flash.state c.mount.new.flash).work.reads (c.in_err-mounted.ensures.mount.limit first (bare plan) (bare_table table) rose device watched planned.table (bare-mountable t old first plan table planned rests) full)
 
 pub returns-in_err-mounted-clause-alone_limit : goal.returns-in_err-mounted-clause-alone_limit
-returns-in_err-mounted-clause-alone_limit g c = λ first plan table rose device watched planned none rests full. c.in_err-mounted.ensures.limit first (bare plan) table rose device watched planned.table rests full
+returns-in_err-mounted-clause-alone_limit g c = λ first plan table rose device watched planned none rests full. c.in_err-mounted.ensures.mount.limit first (bare plan) table rose device watched planned.table rests full
 
 pub returns-in_err-mounted-clause-repairs : goal.returns-in_err-mounted-clause-repairs
-returns-in_err-mounted-clause-repairs g c = repairs-alone c.args.self.now (g.F.Flash.state c.args.flash.now) (g.F.Flash.state c.mount.new.flash) c.in_err-mounted.ensures.repairs
+returns-in_err-mounted-clause-repairs g c = repairs-alone c.args.self.now (g.F.Flash.state c.args.flash.now) (g.F.Flash.state c.mount.new.flash) c.in_err-mounted.ensures.flash.repairs
+
+pub returns-in_err-mounted-clause-goes : goal.returns-in_err-mounted-clause-goes
+returns-in_err-mounted-clause-goes g c = c.in_err-mounted.ensures.flash.goes
+
+pub returns-in_err-mounted-clause-room : goal.returns-in_err-mounted-clause-room
+returns-in_err-mounted-clause-room g c = c.in_err-mounted.ensures.buffer.room
+
+pub returns-in_err-mounted-clause-holds : goal.returns-in_err-mounted-clause-holds
+returns-in_err-mounted-clause-holds g c = c.in_err-mounted.ensures.buffer.holds
+
+pub returns-in_err-mounted-clause-calm : goal.returns-in_err-mounted-clause-calm
+returns-in_err-mounted-clause-calm g c = c.in_err-mounted.ensures.memory.calm
+
+pub returns-in_err-mounted-clause-mounted : goal.returns-in_err-mounted-clause-mounted
+returns-in_err-mounted-clause-mounted g c =
+    let p = err_from_is_err_and c.from_residual.result c.from_residual.ensures.1 in
+    rw (p.1, p.2) c.in_err-mounted.ensures.memory.mounted
+
+pub returns-in_err-mounted-clause-empty : goal.returns-in_err-mounted-clause-empty
+returns-in_err-mounted-clause-empty g c =
+    let p = err_from_is_err_and c.from_residual.result c.from_residual.ensures.1 in
+    rw p.1 tt
+
+pub returns-in_err-mounted-clause-found : goal.returns-in_err-mounted-clause-found
+returns-in_err-mounted-clause-found g c =
+    let p = err_from_is_err_and c.from_residual.result c.from_residual.ensures.1 in
+    rw p.1 tt
+
+pub returns-in_err-mounted-clause-leaves : goal.returns-in_err-mounted-clause-leaves
+returns-in_err-mounted-clause-leaves g c =
+    let p = err_from_is_err_and c.from_residual.result c.from_residual.ensures.1 in
+    rw p.1 tt
+
+pub returns-in_err-mounted-clause-alone_leaves : goal.returns-in_err-mounted-clause-alone_leaves
+returns-in_err-mounted-clause-alone_leaves g c =
+    let p = err_from_is_err_and c.from_residual.result c.from_residual.ensures.1 in
+    rw p.1 tt
+
+pub returns-in_err-mounted-clause-power : goal.returns-in_err-mounted-clause-power
+returns-in_err-mounted-clause-power g c =
+    let p = err_from_is_err_and c.from_residual.result c.from_residual.ensures.1 in
+    rw p.1 tt
+
+pub returns-in_err-mounted-clause-reads : goal.returns-in_err-mounted-clause-reads
+returns-in_err-mounted-clause-reads g c = λ told. few-alone c.args.self.now (g.F.Flash.state c.args.flash.now) (g.F.Flash.state c.mount.new.flash) (c.in_err-mounted.ensures.flash.reads told)
+
+pub returns-in_err-mounted-clause-cause : goal.returns-in_err-mounted-clause-cause
+returns-in_err-mounted-clause-cause g c =
+    let p = err_from_is_err_and c.from_residual.result c.from_residual.ensures.1 in
+    rw (p.1, p.2) c.in_err-mounted.ensures.flash.cause
+
+pub returns-in_err-mounted-clause-off : goal.returns-in_err-mounted-clause-off
+returns-in_err-mounted-clause-off g c = λ down.
+    let p = err_from_is_err_and c.from_residual.result c.from_residual.ensures.1 in
+    rw (p.1, p.2) (c.in_err-mounted.ensures.flash.off down)
 
 -- ---- it has no log
 
 pub returns-in_default-clause-same : goal.returns-in_default-clause-same
-returns-in_default-clause-same g c = record { table = c.in_ok-mounted.ensures.same; log = log-self c.args.self.now.log }
+returns-in_default-clause-same g c = record { table = c.in_ok-mounted.ensures.memory.same; log = log-self c.args.self.now.log }
 
 pub returns-in_default-clause-lies : goal.returns-in_default-clause-lies
 returns-in_default-clause-lies g c = record {
-  table = c.in_ok-mounted.ensures.lies;
-  log = log-lies c.args.self.now.log (g.F.Flash.state c.args.flash.now) (g.F.Flash.state c.mount.new.flash) c.in_ok-mounted.ensures.goes c.requires.lies.log;
+  table = c.in_ok-mounted.ensures.memory.lies;
+  log = log-lies c.args.self.now.log (g.F.Flash.state c.args.flash.now) (g.F.Flash.state c.mount.new.flash) c.in_ok-mounted.ensures.flash.goes c.requires.lies.log;
 }
 
 pub returns-in_default-clause-ends : goal.returns-in_default-clause-ends
@@ -101,38 +163,38 @@ returns-in_default-clause-ends g c = λ first plan table rose device watched pla
     let old = g.F.Flash.state c.args.flash.now in
     let new = g.F.Flash.state c.mount.new.flash in
     mounts-alone t old first plan table planned rests rose device (Ok c.in_ok-mounted.mounted) _ new c.in_default.is c.in_default.is
-    (c.in_ok-mounted.ensures.ends first (bare plan) (bare_table table) rose device watched planned.table (bare-mountable t old first plan table planned rests))
+    (c.in_ok-mounted.ensures.mount.ends first (bare plan) (bare_table table) rose device watched planned.table (bare-mountable t old first plan table planned rests))
 
 pub returns-in_default-clause-alone : goal.returns-in_default-clause-alone
-returns-in_default-clause-alone g c = λ first plan table rose device watched planned none rests. c.in_ok-mounted.ensures.ends first (bare plan) table rose device watched planned.table rests
+returns-in_default-clause-alone g c = λ first plan table rose device watched planned none rests. c.in_ok-mounted.ensures.mount.ends first (bare plan) table rose device watched planned.table rests
 
 pub returns-in_default-clause-apart : goal.returns-in_default-clause-apart
 returns-in_default-clause-apart g c = λ first plan table rose device l watched planned is apart. absurd (none-some l (sym c.in_default.is ∙ is))
 
 pub returns-in_default-clause-found : goal.returns-in_default-clause-found
 returns-in_default-clause-found g c = λ told.
-    finds-alone c.args.self.now (g.F.Flash.state c.args.flash.now) c.in_ok-mounted.mounted _ (g.F.Flash.state c.mount.new.flash) c.in_default.is c.in_default.is (c.in_ok-mounted.ensures.found told)
+    finds-alone c.args.self.now (g.F.Flash.state c.args.flash.now) c.in_ok-mounted.mounted _ (g.F.Flash.state c.mount.new.flash) c.in_default.is c.in_default.is (c.in_ok-mounted.ensures.pages.found told)
 
 pub returns-in_default-clause-leaves : goal.returns-in_default-clause-leaves
 returns-in_default-clause-leaves g c = λ told first plan table seen planned rests.
     let t = c.args.self.now in
     let none : plan.log_blocks ≡ 0 = subst (λ (o : Option RecordLog). IsLogPlanned o (first + blocks_of (bare plan)) plan) c.in_default.is planned.log in
     bare-leaves t.table (g.F.Flash.state c.args.flash.now) (g.F.Flash.state c.mount.new.flash) first plan planned.table told (c.requires.lies.table.geometry ∙ sym planned.table.geometry)
-    c.in_ok-mounted.mounted c.mount.new.self (c.in_ok-mounted.ensures.found told) none
+    c.in_ok-mounted.mounted c.mount.new.self (c.in_ok-mounted.ensures.pages.found told) none
 
 pub returns-in_default-clause-alone_leaves : goal.returns-in_default-clause-alone_leaves
 returns-in_default-clause-alone_leaves g c = λ told first plan planned none.
     let t = c.args.self.now in
     let alone : plan.log_blocks ≡ 0 = subst (λ (o : Option RecordLog). IsLogPlanned o (first + blocks_of (bare plan)) plan) c.in_default.is planned.log in
     bare-leaves t.table (g.F.Flash.state c.args.flash.now) (g.F.Flash.state c.mount.new.flash) first plan planned.table told (c.requires.lies.table.geometry ∙ sym planned.table.geometry)
-    c.in_ok-mounted.mounted c.mount.new.self (c.in_ok-mounted.ensures.found told) alone
+    c.in_ok-mounted.mounted c.mount.new.self (c.in_ok-mounted.ensures.pages.found told) alone
 
 pub returns-in_default-clause-outside : goal.returns-in_default-clause-outside
-returns-in_default-clause-outside g c = λ told page rows index var log. c.in_ok-mounted.ensures.outside told page rows index var
+returns-in_default-clause-outside g c = λ told page rows index var log. c.in_ok-mounted.ensures.flash.outside told page rows index var
 
 pub returns-in_default-clause-empty : goal.returns-in_default-clause-empty
 returns-in_default-clause-empty g c = record {
-  table = c.in_ok-mounted.ensures.empty;
+  table = c.in_ok-mounted.ensures.memory.empty;
   log = subst (λ (o : Option RecordLog). IfSome o (λ l. (layout : RowLayout) → Gathers layout [] (rows_in l))) (sym c.in_default.is) tt;
 }
 
@@ -140,30 +202,60 @@ pub returns-in_default-clause-limit : goal.returns-in_default-clause-limit
 returns-in_default-clause-limit g c = λ first plan table rose device watched planned rests full.
     let t = c.args.self.now in
     let old = g.F.Flash.state c.args.flash.now in
-    limit-alone plan table old.work.reads (g.F.Flash.state c.mount.new.flash).work.reads (c.in_ok-mounted.ensures.limit first (bare plan) (bare_table table) rose device watched planned.table (bare-mountable t old first plan table planned rests) full)
+    limit-alone plan table old.work.reads (g.F.Flash.state c.mount.new.flash).work.reads (c.in_ok-mounted.ensures.mount.limit first (bare plan) (bare_table table) rose device watched planned.table (bare-mountable t old first plan table planned rests) full)
 
 pub returns-in_default-clause-alone_limit : goal.returns-in_default-clause-alone_limit
-returns-in_default-clause-alone_limit g c = λ first plan table rose device watched planned none rests full. c.in_ok-mounted.ensures.limit first (bare plan) table rose device watched planned.table rests full
+returns-in_default-clause-alone_limit g c = λ first plan table rose device watched planned none rests full. c.in_ok-mounted.ensures.mount.limit first (bare plan) table rose device watched planned.table rests full
 
 pub returns-in_default-clause-repairs : goal.returns-in_default-clause-repairs
-returns-in_default-clause-repairs g c = repairs-alone c.args.self.now (g.F.Flash.state c.args.flash.now) (g.F.Flash.state c.mount.new.flash) c.in_ok-mounted.ensures.repairs
+returns-in_default-clause-repairs g c = repairs-alone c.args.self.now (g.F.Flash.state c.args.flash.now) (g.F.Flash.state c.mount.new.flash) c.in_ok-mounted.ensures.flash.repairs
+
+pub returns-in_default-clause-goes : goal.returns-in_default-clause-goes
+returns-in_default-clause-goes g c = c.in_ok-mounted.ensures.flash.goes
+
+pub returns-in_default-clause-room : goal.returns-in_default-clause-room
+returns-in_default-clause-room g c = c.in_ok-mounted.ensures.buffer.room
+
+pub returns-in_default-clause-holds : goal.returns-in_default-clause-holds
+returns-in_default-clause-holds g c = c.in_ok-mounted.ensures.buffer.holds
+
+pub returns-in_default-clause-mounted : goal.returns-in_default-clause-mounted
+returns-in_default-clause-mounted g c = c.in_ok-mounted.ensures.memory.mounted
+
+pub returns-in_default-clause-calm : goal.returns-in_default-clause-calm
+returns-in_default-clause-calm g c = c.in_ok-mounted.ensures.memory.calm
+
+pub returns-in_default-clause-power : goal.returns-in_default-clause-power
+returns-in_default-clause-power g c = c.in_ok-mounted.ensures.flash.power
+
+pub returns-in_default-clause-off : goal.returns-in_default-clause-off
+returns-in_default-clause-off g c = c.in_ok-mounted.ensures.flash.off
+
+pub returns-in_default-clause-refused : goal.returns-in_default-clause-refused
+returns-in_default-clause-refused g c = tt
+
+pub returns-in_default-clause-cause : goal.returns-in_default-clause-cause
+returns-in_default-clause-cause g c = tt
+
+pub returns-in_default-clause-reads : goal.returns-in_default-clause-reads
+returns-in_default-clause-reads g c = λ told. few-alone c.args.self.now (g.F.Flash.state c.args.flash.now) (g.F.Flash.state c.mount.new.flash) (c.in_ok-mounted.ensures.flash.reads told)
 
 -- ---- the replay
 
 pub replay-requires : goal.replay-requires
 replay-requires g c =
     let t = c.args.self.now in
-    let goes = c.in_ok-mounted.ensures.goes in (
+    let goes = c.in_ok-mounted.ensures.flash.goes in (
       table-fits g.row.KNOTS g.row.SLOTS t.table.few_knots t.table.few_slots,
       (
-        c.in_ok-mounted.ensures.mounted,
+        c.in_ok-mounted.ensures.memory.mounted,
         (
-          c.in_ok-mounted.ensures.empty,
+          c.in_ok-mounted.ensures.memory.empty,
           (
-            blobs-same t.table c.mount.new.self c.in_ok-mounted.ensures.same ∙ t.no_blobs (ap {B = Bool} (λ (o : Option RecordLog). is_some o) c.in-Some.is),
+            blobs-same t.table c.mount.new.self c.in_ok-mounted.ensures.memory.same ∙ t.no_blobs (ap {B = Bool} (λ (o : Option RecordLog). is_some o) c.in-Some.is),
             (
               log-moved c.in-Some.log (g.F.Flash.state c.args.flash.now) (g.F.Flash.state c.mount.new.flash) goes (c.requires.lies.log c.in-Some.log c.in-Some.is),
-              (c.in_ok-mounted.ensures.lies, c.in_ok-mounted.ensures.room ∙ (c.requires.room ∙ sym (ap (λ x. x.page) goes.geometry))),
+              (c.in_ok-mounted.ensures.memory.lies, c.in_ok-mounted.ensures.buffer.room ∙ (c.requires.room ∙ sym (ap (λ x. x.page) goes.geometry))),
             ),
           ),
         ),
@@ -179,11 +271,11 @@ pub returns-in-Err-clause-calm : goal.returns-in-Err-clause-calm
 returns-in-Err-clause-calm g c = c.unmount.ensures.forgotten.calm
 
 pub returns-in-Err-clause-goes : goal.returns-in-Err-clause-goes
-returns-in-Err-clause-goes g c = goes-then (g.F.Flash.state c.args.flash.now) (g.F.Flash.state c.mount.new.flash) (g.F.Flash.state c.replay.new.flash) c.in_ok-mounted.ensures.goes c.in-Err.ensures.goes
+returns-in-Err-clause-goes g c = goes-then (g.F.Flash.state c.args.flash.now) (g.F.Flash.state c.mount.new.flash) (g.F.Flash.state c.replay.new.flash) c.in_ok-mounted.ensures.flash.goes c.in-Err.ensures.goes
 
 pub returns-in-Err-clause-same : goal.returns-in-Err-clause-same
 returns-in-Err-clause-same g c = record {
-  table = same-then c.args.self.now.table c.mount.new.self c.unmount.new.self c.in_ok-mounted.ensures.same (same-then c.mount.new.self c.replay.new.table c.unmount.new.self c.in-Err.ensures.table_same c.unmount.ensures.same);
+  table = same-then c.args.self.now.table c.mount.new.self c.unmount.new.self c.in_ok-mounted.ensures.memory.same (same-then c.mount.new.self c.replay.new.table c.unmount.new.self c.in-Err.ensures.table_same c.unmount.ensures.same);
   log = subst (λ (o : Option RecordLog). AreSameLog o (Some c.replay.new.log)) (sym c.in-Some.is) c.in-Err.ensures.same;
 }
 
@@ -207,14 +299,14 @@ returns-in-Err-clause-apart g c = λ first plan table rose device l watched plan
     let f2 = g.F.Flash.state c.replay.new.flash in
     let k = c.in_ok-mounted.ensures in
     let here : c.in-Some.log ≡ l = same_Some _ _ (sym c.in-Some.is ∙ is) in
-    let outside = k.outside watched.told in
-    let w = k.ends first (bare plan) (bare_table table) rose device (watched-first old f1 f2 rose device watched c.in-Err.ensures.goes) planned.table (apart-mountable t old first plan table planned l apart) in
-    replay-ends t old first plan table planned l apart rose device c.in_ok-mounted.mounted c.mount.new.self f1 outside w k.none c.in-Err.fault c.replay.new.log c.replay.new.table _ f2
+    let outside = k.flash.outside watched.told in
+    let w = k.mount.ends first (bare plan) (bare_table table) rose device (watched-first old f1 f2 rose device watched c.in-Err.ensures.goes) planned.table (apart-mountable t old first plan table planned l apart) in
+    replay-ends t old first plan table planned l apart rose device c.in_ok-mounted.mounted c.mount.new.self f1 outside w k.memory.none c.in-Err.fault c.replay.new.log c.replay.new.table _ f2
     (subst (λ (x : RecordLog). ReplayEnds first plan (beside (log_of table) w.now.state) rose w.now.device x (Err c.in-Err.fault) c.replay.new.log c.replay.new.table f2) here
-    (c.in-Err.ensures.ends first plan (beside (log_of table) w.now.state) rose w.now.device (watched-then old f1 f2 rose device w.now.device watched k.goes w.power w.counts)
-    (between-stands t old first plan table planned l apart rose device c.in_ok-mounted.mounted c.mount.new.self f1 outside w k.none) (between-none t old first plan table planned l apart rose device c.in_ok-mounted.mounted c.mount.new.self f1 outside w k.none)
+    (c.in-Err.ensures.ends first plan (beside (log_of table) w.now.state) rose w.now.device (watched-then old f1 f2 rose device w.now.device watched k.flash.goes w.power w.counts)
+    (between-stands t old first plan table planned l apart rose device c.in_ok-mounted.mounted c.mount.new.self f1 outside w k.memory.none) (between-none t old first plan table planned l apart rose device c.in_ok-mounted.mounted c.mount.new.self f1 outside w k.memory.none)
     (subst (λ (x : RecordLog). Rests x f1 (first + blocks_of (bare plan)) plan (beside (log_of table) w.now.state)) (sym here)
-    (between-rests t old first plan table planned l apart rose device c.in_ok-mounted.mounted c.mount.new.self f1 outside w k.none))))
+    (between-rests t old first plan table planned l apart rose device c.in_ok-mounted.mounted c.mount.new.self f1 outside w k.memory.none))))
 
 pub returns-in-Err-clause-ends : goal.returns-in-Err-clause-ends
 returns-in-Err-clause-ends g c = λ first plan table rose device watched planned rests.
@@ -226,36 +318,36 @@ returns-in-Err-clause-ends g c = λ first plan table rose device watched planned
     let f2 = g.F.Flash.state c.replay.new.flash in
     let k = c.in_ok-mounted.ensures in
     let apart = apart-of t old first plan table planned rests l is in
-    let outside = k.outside watched.told in
-    let w = k.ends first (bare plan) (bare_table table) rose device (watched-first old f1 f2 rose device watched c.in-Err.ensures.goes) planned.table (apart-mountable t old first plan table planned l apart) in
+    let outside = k.flash.outside watched.told in
+    let w = k.mount.ends first (bare plan) (bare_table table) rose device (watched-first old f1 f2 rose device watched c.in-Err.ensures.goes) planned.table (apart-mountable t old first plan table planned l apart) in
     badly-of t old first plan table planned rests l is rose device c.in-Err.fault _ f2
-    (replay-ends t old first plan table planned l apart rose device c.in_ok-mounted.mounted c.mount.new.self f1 outside w k.none c.in-Err.fault c.replay.new.log c.replay.new.table _ f2
-    (c.in-Err.ensures.ends first plan (beside (log_of table) w.now.state) rose w.now.device (watched-then old f1 f2 rose device w.now.device watched k.goes w.power w.counts)
-    (between-stands t old first plan table planned l apart rose device c.in_ok-mounted.mounted c.mount.new.self f1 outside w k.none) (between-none t old first plan table planned l apart rose device c.in_ok-mounted.mounted c.mount.new.self f1 outside w k.none)
-    (between-rests t old first plan table planned l apart rose device c.in_ok-mounted.mounted c.mount.new.self f1 outside w k.none)))
+    (replay-ends t old first plan table planned l apart rose device c.in_ok-mounted.mounted c.mount.new.self f1 outside w k.memory.none c.in-Err.fault c.replay.new.log c.replay.new.table _ f2
+    (c.in-Err.ensures.ends first plan (beside (log_of table) w.now.state) rose w.now.device (watched-then old f1 f2 rose device w.now.device watched k.flash.goes w.power w.counts)
+    (between-stands t old first plan table planned l apart rose device c.in_ok-mounted.mounted c.mount.new.self f1 outside w k.memory.none) (between-none t old first plan table planned l apart rose device c.in_ok-mounted.mounted c.mount.new.self f1 outside w k.memory.none)
+    (between-rests t old first plan table planned l apart rose device c.in_ok-mounted.mounted c.mount.new.self f1 outside w k.memory.none)))
 
 pub returns-in-Err-clause-refused : goal.returns-in-Err-clause-refused
 returns-in-Err-clause-refused g c = λ told.
     let k = c.in_ok-mounted.ensures in
-    refuses-behind c.args.self.now (g.F.Flash.state c.args.flash.now) c.in-Some.log c.in-Some.is c.in_ok-mounted.mounted c.mount.new.self (g.F.Flash.state c.mount.new.flash) (k.found told) k.same c.in-Err.fault (g.F.Flash.state c.replay.new.flash)
-    (c.in-Err.ensures.refused (subst IsTrue (sym k.goes.tells) told))
+    refuses-behind c.args.self.now (g.F.Flash.state c.args.flash.now) c.in-Some.log c.in-Some.is c.in_ok-mounted.mounted c.mount.new.self (g.F.Flash.state c.mount.new.flash) (k.pages.found told) k.memory.same c.in-Err.fault (g.F.Flash.state c.replay.new.flash)
+    (c.in-Err.ensures.refused (subst IsTrue (sym k.flash.goes.tells) told))
 
 pub returns-in-Err-clause-outside : goal.returns-in-Err-clause-outside
 returns-in-Err-clause-outside g c = λ told.
     let k = c.in_ok-mounted.ensures in
-    outside-both c.args.self.now (g.F.Flash.state c.args.flash.now) c.in-Some.log c.in-Some.is c.mount.new.self (page_at (g.F.Flash.state c.mount.new.flash)) (page_at (g.F.Flash.state c.replay.new.flash)) k.same (k.outside told)
-    (c.in-Err.ensures.outside (subst IsTrue (sym k.goes.tells) told))
+    outside-both c.args.self.now (g.F.Flash.state c.args.flash.now) c.in-Some.log c.in-Some.is c.mount.new.self (page_at (g.F.Flash.state c.mount.new.flash)) (page_at (g.F.Flash.state c.replay.new.flash)) k.memory.same (k.flash.outside told)
+    (c.in-Err.ensures.outside (subst IsTrue (sym k.flash.goes.tells) told))
 
 pub returns-in-Err-clause-cause : goal.returns-in-Err-clause-cause
 returns-in-Err-clause-cause g c =
     let t = c.args.self.now in
     let k = c.in_ok-mounted.ensures in
-    mount-cause-later (g.F.Flash.state c.args.flash.now) (g.F.Flash.state c.mount.new.flash) (g.F.Flash.state c.replay.new.flash) k.goes k.power c.in-Err.fault c.in-Err.ensures.cause
+    mount-cause-later (g.F.Flash.state c.args.flash.now) (g.F.Flash.state c.mount.new.flash) (g.F.Flash.state c.replay.new.flash) k.flash.goes k.flash.power c.in-Err.fault c.in-Err.ensures.cause
 
 pub returns-in-Err-clause-reads : goal.returns-in-Err-clause-reads
 returns-in-Err-clause-reads g c = λ told.
     let k = c.in_ok-mounted.ensures in
-    few-both c.args.self.now (g.F.Flash.state c.args.flash.now) c.in-Some.log c.in-Some.is (g.F.Flash.state c.mount.new.flash) (g.F.Flash.state c.replay.new.flash) (k.reads told) c.in-Err.ensures.reads
+    few-both c.args.self.now (g.F.Flash.state c.args.flash.now) c.in-Some.log c.in-Some.is (g.F.Flash.state c.mount.new.flash) (g.F.Flash.state c.replay.new.flash) (k.flash.reads told) c.in-Err.ensures.reads
 
 pub returns-in-Err-clause-limit : goal.returns-in-Err-clause-limit
 returns-in-Err-clause-limit g c = λ first plan table rose device watched planned rests full.
@@ -266,22 +358,46 @@ returns-in-Err-clause-limit g c = λ first plan table rose device watched planne
     let k = c.in_ok-mounted.ensures in
     let apart = apart-of t old first plan table planned rests c.in-Some.log c.in-Some.is in
     limit-behind plan table old.work.reads f1.work.reads f2.work.reads
-    (k.limit first (bare plan) (bare_table table) rose device (watched-first old f1 f2 rose device watched c.in-Err.ensures.goes) planned.table (bare-mountable t old first plan table planned rests) full)
-    (c.in-Err.ensures.limit (first + blocks_of (bare plan)) plan table (subst IsTrue (sym k.goes.tells) watched.told) (log-stays t old first plan table planned c.in-Some.log apart f1 (k.outside watched.told)))
+    (k.mount.limit first (bare plan) (bare_table table) rose device (watched-first old f1 f2 rose device watched c.in-Err.ensures.goes) planned.table (bare-mountable t old first plan table planned rests) full)
+    (c.in-Err.ensures.limit (first + blocks_of (bare plan)) plan table (subst IsTrue (sym k.flash.goes.tells) watched.told) (log-stays t old first plan table planned c.in-Some.log apart f1 (k.flash.outside watched.told)))
 
 pub returns-in-Err-clause-repairs : goal.returns-in-Err-clause-repairs
 returns-in-Err-clause-repairs g c =
     repairs-both c.args.self.now c.mount.new.self (g.F.Flash.state c.args.flash.now) (g.F.Flash.state c.mount.new.flash) (g.F.Flash.state c.replay.new.flash) (ap {B = Bool} (λ (o : Option RecordLog). is_some o) c.in-Some.is)
-    c.in_ok-mounted.ensures.same c.in_ok-mounted.ensures.repairs c.in-Err.ensures.repairs
+    c.in_ok-mounted.ensures.memory.same c.in_ok-mounted.ensures.flash.repairs c.in-Err.ensures.repairs
+
+pub returns-in-Err-clause-room : goal.returns-in-Err-clause-room
+returns-in-Err-clause-room g c = c.in-Err.ensures.room ∙ c.in_ok-mounted.ensures.buffer.room
+
+pub returns-in-Err-clause-holds : goal.returns-in-Err-clause-holds
+returns-in-Err-clause-holds g c = c.in-Err.ensures.holds
+
+pub returns-in-Err-clause-empty : goal.returns-in-Err-clause-empty
+returns-in-Err-clause-empty g c = tt
+
+pub returns-in-Err-clause-found : goal.returns-in-Err-clause-found
+returns-in-Err-clause-found g c = tt
+
+pub returns-in-Err-clause-leaves : goal.returns-in-Err-clause-leaves
+returns-in-Err-clause-leaves g c = tt
+
+pub returns-in-Err-clause-alone_leaves : goal.returns-in-Err-clause-alone_leaves
+returns-in-Err-clause-alone_leaves g c = tt
+
+pub returns-in-Err-clause-power : goal.returns-in-Err-clause-power
+returns-in-Err-clause-power g c = tt
+
+pub returns-in-Err-clause-off : goal.returns-in-Err-clause-off
+returns-in-Err-clause-off g c = λ down. absurd (not-lost c.in_ok-mounted.mounted (c.in_ok-mounted.ensures.flash.off down).0)
 
 -- ---- all is mounted
 
 pub returns-clause-goes : goal.returns-clause-goes
-returns-clause-goes g c = goes-then (g.F.Flash.state c.args.flash.now) (g.F.Flash.state c.mount.new.flash) (g.F.Flash.state c.replay.new.flash) c.in_ok-mounted.ensures.goes c.in_default-replay.ensures.goes
+returns-clause-goes g c = goes-then (g.F.Flash.state c.args.flash.now) (g.F.Flash.state c.mount.new.flash) (g.F.Flash.state c.replay.new.flash) c.in_ok-mounted.ensures.flash.goes c.in_default-replay.ensures.goes
 
 pub returns-clause-same : goal.returns-clause-same
 returns-clause-same g c = record {
-  table = same-then c.args.self.now.table c.mount.new.self c.replay.new.table c.in_ok-mounted.ensures.same c.in_default-replay.ensures.table_same;
+  table = same-then c.args.self.now.table c.mount.new.self c.replay.new.table c.in_ok-mounted.ensures.memory.same c.in_default-replay.ensures.table_same;
   log = subst (λ (o : Option RecordLog). AreSameLog o (Some c.replay.new.log)) (sym c.in-Some.is) c.in_default-replay.ensures.same;
 }
 
@@ -308,16 +424,16 @@ returns-clause-apart g c = λ first plan table rose device l watched planned is 
     let f2 = g.F.Flash.state c.replay.new.flash in
     let k = c.in_ok-mounted.ensures in
     let here : c.in-Some.log ≡ l = same_Some _ _ (sym c.in-Some.is ∙ is) in
-    let outside = k.outside watched.told in
-    let w = k.ends first (bare plan) (bare_table table) rose device (watched-first old f1 f2 rose device watched c.in_default-replay.ensures.goes) planned.table (apart-mountable t old first plan table planned l apart) in (
+    let outside = k.flash.outside watched.told in
+    let w = k.mount.ends first (bare plan) (bare_table table) rose device (watched-first old f1 f2 rose device watched c.in_default-replay.ensures.goes) planned.table (apart-mountable t old first plan table planned l apart) in (
       c.replay.new.log,
       (
         refl,
-        replayed t old first plan table planned l apart rose device c.in_ok-mounted.mounted c.mount.new.self f1 outside w k.none c.replay.new.log _ f2 c.held.result refl (c.in_default-replay.ensures.empty (row_layout plan)) (c.held.ensures.stands f2 first (bare plan))
-            (c.in_default-replay.ensures.ends first plan (beside (log_of table) w.now.state) rose w.now.device (watched-then old f1 f2 rose device w.now.device watched k.goes w.power w.counts)
-            (between-stands t old first plan table planned l apart rose device c.in_ok-mounted.mounted c.mount.new.self f1 outside w k.none) (between-none t old first plan table planned l apart rose device c.in_ok-mounted.mounted c.mount.new.self f1 outside w k.none)
+        replayed t old first plan table planned l apart rose device c.in_ok-mounted.mounted c.mount.new.self f1 outside w k.memory.none c.replay.new.log _ f2 c.held.result refl (c.in_default-replay.ensures.empty (row_layout plan)) (c.held.ensures.stands f2 first (bare plan))
+            (c.in_default-replay.ensures.ends first plan (beside (log_of table) w.now.state) rose w.now.device (watched-then old f1 f2 rose device w.now.device watched k.flash.goes w.power w.counts)
+            (between-stands t old first plan table planned l apart rose device c.in_ok-mounted.mounted c.mount.new.self f1 outside w k.memory.none) (between-none t old first plan table planned l apart rose device c.in_ok-mounted.mounted c.mount.new.self f1 outside w k.memory.none)
             (subst (λ (x : RecordLog). Rests x f1 (first + blocks_of (bare plan)) plan (beside (log_of table) w.now.state)) (sym here)
-            (between-rests t old first plan table planned l apart rose device c.in_ok-mounted.mounted c.mount.new.self f1 outside w k.none))),
+            (between-rests t old first plan table planned l apart rose device c.in_ok-mounted.mounted c.mount.new.self f1 outside w k.memory.none))),
       ),
     )
 
@@ -331,14 +447,14 @@ returns-clause-ends g c = λ first plan table rose device watched planned rests.
     let f2 = g.F.Flash.state c.replay.new.flash in
     let k = c.in_ok-mounted.ensures in
     let apart = apart-of t old first plan table planned rests l is in
-    let outside = k.outside watched.told in
-    let w = k.ends first (bare plan) (bare_table table) rose device (watched-first old f1 f2 rose device watched c.in_default-replay.ensures.goes) planned.table (apart-mountable t old first plan table planned l apart) in
+    let outside = k.flash.outside watched.told in
+    let w = k.mount.ends first (bare plan) (bare_table table) rose device (watched-first old f1 f2 rose device watched c.in_default-replay.ensures.goes) planned.table (apart-mountable t old first plan table planned l apart) in
     let empty = c.in_default-replay.ensures.empty (row_layout plan) in
     well-of t old first plan table planned rests l is rose device c.replay.new.log _ f2 c.held.result refl empty
-    (replayed t old first plan table planned l apart rose device c.in_ok-mounted.mounted c.mount.new.self f1 outside w k.none c.replay.new.log _ f2 c.held.result refl empty (c.held.ensures.stands f2 first (bare plan))
-    (c.in_default-replay.ensures.ends first plan (beside (log_of table) w.now.state) rose w.now.device (watched-then old f1 f2 rose device w.now.device watched k.goes w.power w.counts)
-    (between-stands t old first plan table planned l apart rose device c.in_ok-mounted.mounted c.mount.new.self f1 outside w k.none) (between-none t old first plan table planned l apart rose device c.in_ok-mounted.mounted c.mount.new.self f1 outside w k.none)
-    (between-rests t old first plan table planned l apart rose device c.in_ok-mounted.mounted c.mount.new.self f1 outside w k.none)))
+    (replayed t old first plan table planned l apart rose device c.in_ok-mounted.mounted c.mount.new.self f1 outside w k.memory.none c.replay.new.log _ f2 c.held.result refl empty (c.held.ensures.stands f2 first (bare plan))
+    (c.in_default-replay.ensures.ends first plan (beside (log_of table) w.now.state) rose w.now.device (watched-then old f1 f2 rose device w.now.device watched k.flash.goes w.power w.counts)
+    (between-stands t old first plan table planned l apart rose device c.in_ok-mounted.mounted c.mount.new.self f1 outside w k.memory.none) (between-none t old first plan table planned l apart rose device c.in_ok-mounted.mounted c.mount.new.self f1 outside w k.memory.none)
+    (between-rests t old first plan table planned l apart rose device c.in_ok-mounted.mounted c.mount.new.self f1 outside w k.memory.none)))
 
 pub returns-clause-empty : goal.returns-clause-empty
 returns-clause-empty g c = record { table = c.in_default-replay.ensures.table_empty; log = c.in_default-replay.ensures.empty }
@@ -346,8 +462,8 @@ returns-clause-empty g c = record { table = c.in_default-replay.ensures.table_em
 pub returns-clause-found : goal.returns-clause-found
 returns-clause-found g c = λ told.
     let k = c.in_ok-mounted.ensures in
-    finds-behind c.args.self.now (g.F.Flash.state c.args.flash.now) c.in-Some.log c.in-Some.is c.in_ok-mounted.mounted c.mount.new.self (g.F.Flash.state c.mount.new.flash) (k.found told) k.same c.held.result _ c.replay.new.log
-    (g.F.Flash.state c.replay.new.flash) refl (c.in_default-replay.ensures.found (subst IsTrue (sym k.goes.tells) told)) c.held.ensures.exact
+    finds-behind c.args.self.now (g.F.Flash.state c.args.flash.now) c.in-Some.log c.in-Some.is c.in_ok-mounted.mounted c.mount.new.self (g.F.Flash.state c.mount.new.flash) (k.pages.found told) k.memory.same c.held.result _ c.replay.new.log
+    (g.F.Flash.state c.replay.new.flash) refl (c.in_default-replay.ensures.found (subst IsTrue (sym k.flash.goes.tells) told)) c.held.ensures.exact
 
 pub returns-clause-leaves : goal.returns-clause-leaves
 returns-clause-leaves g c = λ told first plan table seen planned rests. by-seen first plan table seen planned rests
@@ -367,25 +483,25 @@ returns-clause-leaves g c = λ told first plan table seen planned rests. by-seen
         let f2 = g.F.Flash.state c.replay.new.flash in
         let k = c.in_ok-mounted.ensures in
         let apart = apart-of t old first plan table planned rests l is in
-        let outside = k.outside watched.told in
-        let w = k.ends first (bare plan) (bare_table table) rose device (watched-first old f1 f2 rose device watched c.in_default-replay.ensures.goes) planned.table (apart-mountable t old first plan table planned l apart) in
-        let leaves = c.in_default-replay.ensures.leaves first plan (beside (log_of table) w.now.state) rose w.now.device (watched-then old f1 f2 rose device w.now.device watched k.goes w.power w.counts)
-        (between-stands t old first plan table planned l apart rose device c.in_ok-mounted.mounted c.mount.new.self f1 outside w k.none) (between-none t old first plan table planned l apart rose device c.in_ok-mounted.mounted c.mount.new.self f1 outside w k.none)
-        (between-rests t old first plan table planned l apart rose device c.in_ok-mounted.mounted c.mount.new.self f1 outside w k.none) in
-        mount-leaves t.table old f1 first plan planned.table watched.told (c.requires.lies.table.geometry ∙ sym planned.table.geometry) c.in_ok-mounted.mounted c.mount.new.self (k.found watched.told)
+        let outside = k.flash.outside watched.told in
+        let w = k.mount.ends first (bare plan) (bare_table table) rose device (watched-first old f1 f2 rose device watched c.in_default-replay.ensures.goes) planned.table (apart-mountable t old first plan table planned l apart) in
+        let leaves = c.in_default-replay.ensures.leaves first plan (beside (log_of table) w.now.state) rose w.now.device (watched-then old f1 f2 rose device w.now.device watched k.flash.goes w.power w.counts)
+        (between-stands t old first plan table planned l apart rose device c.in_ok-mounted.mounted c.mount.new.self f1 outside w k.memory.none) (between-none t old first plan table planned l apart rose device c.in_ok-mounted.mounted c.mount.new.self f1 outside w k.memory.none)
+        (between-rests t old first plan table planned l apart rose device c.in_ok-mounted.mounted c.mount.new.self f1 outside w k.memory.none) in
+        mount-leaves t.table old f1 first plan planned.table watched.told (c.requires.lies.table.geometry ∙ sym planned.table.geometry) c.in_ok-mounted.mounted c.mount.new.self (k.pages.found watched.told)
         f2 table rose device w.now w.did rests.settled.facts rests.pages (beside (log_of table) w.now.state) refl refl (w.stands apart.unlogged.settled).facts.has_rings.0 leaves (log-there l (first + blocks_of (bare plan)) plan apart.log.planned)
         (g.met.F.Flash.reaches c.args.flash.now) (omega (arith, (c.requires.lies.log l is).within, apart.log.planned.begins))
 
 pub returns-clause-outside : goal.returns-clause-outside
 returns-clause-outside g c = λ told.
     let k = c.in_ok-mounted.ensures in
-    outside-both c.args.self.now (g.F.Flash.state c.args.flash.now) c.in-Some.log c.in-Some.is c.mount.new.self (page_at (g.F.Flash.state c.mount.new.flash)) (page_at (g.F.Flash.state c.replay.new.flash)) k.same (k.outside told)
-    (c.in_default-replay.ensures.outside (subst IsTrue (sym k.goes.tells) told))
+    outside-both c.args.self.now (g.F.Flash.state c.args.flash.now) c.in-Some.log c.in-Some.is c.mount.new.self (page_at (g.F.Flash.state c.mount.new.flash)) (page_at (g.F.Flash.state c.replay.new.flash)) k.memory.same (k.flash.outside told)
+    (c.in_default-replay.ensures.outside (subst IsTrue (sym k.flash.goes.tells) told))
 
 pub returns-clause-reads : goal.returns-clause-reads
 returns-clause-reads g c = λ told.
     let k = c.in_ok-mounted.ensures in
-    few-both c.args.self.now (g.F.Flash.state c.args.flash.now) c.in-Some.log c.in-Some.is (g.F.Flash.state c.mount.new.flash) (g.F.Flash.state c.replay.new.flash) (k.reads told) c.in_default-replay.ensures.reads
+    few-both c.args.self.now (g.F.Flash.state c.args.flash.now) c.in-Some.log c.in-Some.is (g.F.Flash.state c.mount.new.flash) (g.F.Flash.state c.replay.new.flash) (k.flash.reads told) c.in_default-replay.ensures.reads
 
 pub returns-clause-limit : goal.returns-clause-limit
 returns-clause-limit g c = λ first plan table rose device watched planned rests full.
@@ -396,13 +512,34 @@ returns-clause-limit g c = λ first plan table rose device watched planned rests
     let k = c.in_ok-mounted.ensures in
     let apart = apart-of t old first plan table planned rests c.in-Some.log c.in-Some.is in
     limit-behind plan table old.work.reads f1.work.reads f2.work.reads
-    (k.limit first (bare plan) (bare_table table) rose device (watched-first old f1 f2 rose device watched c.in_default-replay.ensures.goes) planned.table (bare-mountable t old first plan table planned rests) full)
-    (c.in_default-replay.ensures.limit (first + blocks_of (bare plan)) plan table (subst IsTrue (sym k.goes.tells) watched.told) (log-stays t old first plan table planned c.in-Some.log apart f1 (k.outside watched.told)))
+    (k.mount.limit first (bare plan) (bare_table table) rose device (watched-first old f1 f2 rose device watched c.in_default-replay.ensures.goes) planned.table (bare-mountable t old first plan table planned rests) full)
+    (c.in_default-replay.ensures.limit (first + blocks_of (bare plan)) plan table (subst IsTrue (sym k.flash.goes.tells) watched.told) (log-stays t old first plan table planned c.in-Some.log apart f1 (k.flash.outside watched.told)))
 
 pub returns-clause-repairs : goal.returns-clause-repairs
 returns-clause-repairs g c =
     repairs-both c.args.self.now c.mount.new.self (g.F.Flash.state c.args.flash.now) (g.F.Flash.state c.mount.new.flash) (g.F.Flash.state c.replay.new.flash) (ap {B = Bool} (λ (o : Option RecordLog). is_some o) c.in-Some.is)
-    c.in_ok-mounted.ensures.same c.in_ok-mounted.ensures.repairs c.in_default-replay.ensures.repairs
+    c.in_ok-mounted.ensures.memory.same c.in_ok-mounted.ensures.flash.repairs c.in_default-replay.ensures.repairs
 
 pub returns-clause-power : goal.returns-clause-power
 returns-clause-power g c = λ on. c.in_default-replay.ensures.power
+
+pub returns-clause-room : goal.returns-clause-room
+returns-clause-room g c = c.in_default-replay.ensures.room ∙ c.in_ok-mounted.ensures.buffer.room
+
+pub returns-clause-holds : goal.returns-clause-holds
+returns-clause-holds g c = c.in_default-replay.ensures.holds
+
+pub returns-clause-mounted : goal.returns-clause-mounted
+returns-clause-mounted g c = c.in_default-replay.ensures.running
+
+pub returns-clause-calm : goal.returns-clause-calm
+returns-clause-calm g c = c.in_default-replay.ensures.calm ∙ c.in_ok-mounted.ensures.memory.calm
+
+pub returns-clause-refused : goal.returns-clause-refused
+returns-clause-refused g c = tt
+
+pub returns-clause-cause : goal.returns-clause-cause
+returns-clause-cause g c = tt
+
+pub returns-clause-off : goal.returns-clause-off
+returns-clause-off g c = λ down. absurd (not-lost c.in_ok-mounted.mounted (c.in_ok-mounted.ensures.flash.off down).0)

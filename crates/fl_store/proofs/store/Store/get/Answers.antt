@@ -23,37 +23,40 @@ pub returns-clause-finds : goal.returns-clause-finds
 returns-clause-finds g c = λ config tables plan table h own.
     let here : slice_get c.args.self.now.tables.entries.items c.args.at ≡ Some c.index.result.now = entry-at c.args.self.now.tables.entries.items c.args.at c.index.result.now c.requires.at c.index.ensures in
     get-ends plan table c.args.key _ _ c.find.new.buf c.find.result
-    (c.find.ensures.finds (first_of config.plans c.args.at) (bare plan) (bare_table table) h.medium.told
+    (c.find.ensures.finds.finds (first_of config.plans c.args.at) (bare plan) (bare_table table) h.medium.told
     (stands-at c.table-table.result.now c.index.result.now c.table-table.ensures c.args.self.now.tables.entries.items c.args.at here config _ tables plan table h own))
 
 pub returns-clause-here : goal.returns-clause-here
 returns-clause-here g c =
     let here : slice_get c.args.self.now.tables.entries.items c.args.at ≡ Some c.index.result.now = entry-at c.args.self.now.tables.entries.items c.args.at c.index.result.now c.requires.at c.index.ensures in
-    rows-in c.table-table.result.now c.index.result.now c.table-table.ensures c.args.self.now.tables.entries.items c.args.at here c.find.new.buf c.find.result c.find.ensures.here
+    rows-in c.table-table.result.now c.index.result.now c.table-table.ensures c.args.self.now.tables.entries.items c.args.at here c.find.new.buf c.find.result c.find.ensures.row.here
 
 pub returns-clause-holds : goal.returns-clause-holds
 returns-clause-holds g c = λ config tables h.
-    held-read config c.args.self.now.tables.entries.items _ _ tables c.find.ensures.counts h
+    held-read config c.args.self.now.tables.entries.items _ _ tables c.find.ensures.flash.counts h
 
 pub returns-clause-fails : goal.returns-clause-fails
 returns-clause-fails g c =
     let here : slice_get c.args.self.now.tables.entries.items c.args.at ≡ Some c.index.result.now = entry-at c.args.self.now.tables.entries.items c.args.at c.index.result.now c.requires.at c.index.ensures in
-    fails-at c.table-table.result.now c.index.result.now c.table-table.ensures c.args.self.now.tables.entries.items c.args.at here _ _ c.find.result c.find.ensures.fails
+    fails-at c.table-table.result.now c.index.result.now c.table-table.ensures c.args.self.now.tables.entries.items c.args.at here _ _ c.find.result c.find.ensures.row.fails
 
 pub returns-clause-lie : goal.returns-clause-lie
-returns-clause-lie g c = lie-on c.args.self.now.tables.entries.items _ _ (OnlyReads-goes _ _ c.find.ensures.counts) c.requires.lie
+returns-clause-lie g c = lie-on c.args.self.now.tables.entries.items _ _ (OnlyReads-goes _ _ c.find.ensures.flash.counts) c.requires.lie
 
 pub returns-clause-room : goal.returns-clause-room
 returns-clause-room g c =
-    let page = sym (page-read _ _ c.find.ensures.counts) in
-    record { rows = c.find.ensures.room ∙ (c.requires.room.rows ∙ page); index = c.requires.room.index ∙ page }
+    let page = sym (page-read _ _ c.find.ensures.flash.counts) in
+    record { rows = c.find.ensures.flash.room ∙ (c.requires.room.rows ∙ page); index = c.requires.room.index ∙ page }
 
 pub returns-clause-key : goal.returns-clause-key
 returns-clause-key g c =
     let here : slice_get c.args.self.now.tables.entries.items c.args.at ≡ Some c.index.result.now = entry-at c.args.self.now.tables.entries.items c.args.at c.index.result.now c.requires.at c.index.ensures in
-    found-at c.table-table.result.now c.index.result.now c.table-table.ensures c.args.self.now.tables.entries.items c.args.at here (λ (x : Table 64 64) (found : Option RowAt). IfSome found (HasKeyAt x c.find.new.buf c.args.key)) c.find.result c.find.ensures.key
+    found-at c.table-table.result.now c.index.result.now c.table-table.ensures c.args.self.now.tables.entries.items c.args.at here (λ (x : Table 64 64) (found : Option RowAt). IfSome found (HasKeyAt x c.find.new.buf c.args.key)) c.find.result c.find.ensures.row.key
 
 pub returns-clause-answers : goal.returns-clause-answers
 returns-clause-answers g c =
     let here : slice_get c.args.self.now.tables.entries.items c.args.at ≡ Some c.index.result.now = entry-at c.args.self.now.tables.entries.items c.args.at c.index.result.now c.requires.at c.index.ensures in
-    found-at c.table-table.result.now c.index.result.now c.table-table.ensures c.args.self.now.tables.entries.items c.args.at here (λ (x : Table 64 64) (found : Option RowAt). IsAnswered x _ c.args.key found) c.find.result c.find.ensures.answers
+    found-at c.table-table.result.now c.index.result.now c.table-table.ensures c.args.self.now.tables.entries.items c.args.at here (λ (x : Table 64 64) (found : Option RowAt). IsAnswered x _ c.args.key found) c.find.result c.find.ensures.row.answers
+
+pub returns-clause-reads : goal.returns-clause-reads
+returns-clause-reads g c = c.find.ensures.flash.counts
