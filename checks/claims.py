@@ -3,18 +3,32 @@
 
 A claim is a bullet that ends in brackets: public calls, laws, types or definitions in backquotes, then `clause` or `clauses` with theirs;
 several such, divided by semicolons, and each perhaps with `of CRATE` behind it. A call needs no clause if it has one that isn't named.
+Where a clause states a record, `CLAUSE.FIELD` names a field of it.
 """
+import functools
 import pathlib
 import re
 import sys
 
 ROOT = pathlib.Path(__file__).resolve().parent.parent
 ITEM = re.compile(r"^( *)(?:pub(?:\(crate\))? )?(?:const )?(?:extern \S+ )?fn (\w+)", re.M)
+CLAUSE = re.compile(r"ensures (\w+) \{\s*(\w*)")
+RECORD = re.compile(r"^pub record (\w+)\b.* where\n((?: .*\n|\n)*)", re.M)
 OWNER = re.compile(r"^(?:impl|trait|pub trait)\b[^\n{]*", re.M)
 
 
+@functools.cache
+def records():
+    """The fields of each record of a specs/ folder, by its name."""
+    fields = {}
+    for path in sorted(ROOT.glob("crates/*/specs/**/*.antt")):
+        for name, body in RECORD.findall(path.read_text() + "\n"):
+            fields.setdefault(name, set()).update(re.findall(r"^  pub (\w+) :", body, re.M))
+    return fields
+
+
 def contracts(crate):
-    """What a crate has: (type or None, call) with the names of its clauses; and its types and definitions."""
+    """What a crate has: (type or None, call) with its clauses and the fields of those that state a record; and its types and definitions."""
     calls, names = {}, set()
     for path in sorted((ROOT / "crates" / crate / "src").glob("**/*.rt")):
         text = path.read_text()
@@ -22,7 +36,9 @@ def contracts(crate):
         owners = [(m.start(), m[0]) for m in OWNER.finditer(text)]
         for m in ITEM.finditer(text):
             end = text.find(f"\n{m[1]}{{", m.start())
-            clauses = set(re.findall(r"ensures (\w+) \{", text[m.start():end if end > 0 else len(text)]))
+            clauses = set()
+            for clause, states in CLAUSE.findall(text[m.start():end if end > 0 else len(text)]):
+                clauses |= {clause} | {f"{clause}.{field}" for field in records().get(states, ())}
             owner = [o for at, o in owners if at < m.start()][-1:] if m[1] else [""]
             for name in re.findall(r"\w+", owner[0]) if owner and m[1] else [None]:
                 calls.setdefault((name, m[2]), set()).update(clauses)
@@ -36,7 +52,7 @@ def missing(crates, part):
     other = re.search(r"\bof (fl_\w+)", part)
     known = [contracts(c) for c in ([other[1]] if other else crates)]
     before, _, after = part.partition("clause")
-    clauses = re.findall(r"`(\w+)`", after)
+    clauses = re.findall(r"`(\w+(?:\.\w+)?)`", after)
     if "`" not in before:
         yield "a clause without its contract"
     for name in re.findall(r"`([\w:./]+)`", before):

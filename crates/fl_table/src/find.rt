@@ -1,5 +1,5 @@
 // A lookup: the row of a key, among the pending rows or in the kept pages.
-ghost use Rattle.std.specs.Prelude.{◌≡◌, ◌+◌, ◌-◌, ◌<◌, ◌≤◌, ◌^◌, min, ℕ, true, is_ok, length, IsTrue, IfSome, IfOk, IfErr};
+ghost use Rattle.std.specs.Prelude.{◌≡◌, ◌+◌, ◌-◌, ◌<◌, ◌≤◌, ◌^◌, min, ℕ, true, length, IsTrue, IfSome, IfOk, IfErr};
 ghost use Rattle.fl_frame.specs.Contents as contents;
 
 use crate::table::Table;
@@ -26,7 +26,8 @@ impl<const KNOTS: usize, const SLOTS: usize> Table<KNOTS, SLOTS> {
     ghost use Rattle.fl_base.specs.Bits.{bits};
     ghost use Rattle.fl_model.specs.Spline.{is_pending_key, lookup_limit, page_at};
     ghost use Rattle.fl_model.specs.Table as model;
-    ghost use Rattle.fl_table.specs.Finding.{BlamesFor, Finds, FindsPending, HasKeyAt, IsAnswered, IsRowAt, HoldsIts, HoldsKept, LookupFails, IsInSlot, IsPageFor, end_in, is_covered_in, is_pending_in, knots_near, limit_in, row_in, row_of_place};
+    ghost use Rattle.fl_table.specs.Finding.{BlamesFor, IsRowAt, HoldsKept, LookupFails, IsInSlot, IsPageFor, end_in, is_covered_in, knots_near, limit_in, row_in, row_of_place};
+    ghost use Rattle.fl_table.specs.Lookups.{AnswersBy, ComparesFor, LooksAt, LooksUp};
     ghost use Rattle.fl_schema.specs.Schema.{layout_of_row, row_of};
     ghost use Rattle.fl_table.specs.Look.{layout_in, oldest_in};
     ghost use Rattle.fl_table.specs.Memory.{is_running, next_in, LiesOn};
@@ -57,7 +58,7 @@ impl<const KNOTS: usize, const SLOTS: usize> Table<KNOTS, SLOTS> {
         requires running { is_running self.now ≡ true }
         requires lies { LiesOn self.now (F.state flash.old) }
         requires room { length buf.old.bytes ≡ (F.state flash.old).geometry.page }
-        ensures finds { LooksUp self.now key (F.state flash.old) buf.old steps.old
+        ensures find { LooksUp self.now key (F.state flash.old) buf.old steps.old
             result (F.state flash.new) buf.new steps.new }
         // Whatever the pages hold: the row that is found has the key, and a page that has to be read isn't bad.
         ensures row { AnswersBy self.now key (F.state flash.old) buf.old

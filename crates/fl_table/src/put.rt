@@ -22,7 +22,7 @@ fn with_value(buckets: Option<Buckets>, bitmap: u64, value: i64) -> u64
 }
 
 impl<const KNOTS: usize, const SLOTS: usize> Table<KNOTS, SLOTS> {
-    ghost use Rattle.std.specs.Prelude.{ℕ, Bool, List, slice_index_or, pos, Some, None, is_some, ◌||◌, ◌&&◌, not, nat_lt, ◌↔◌, Ok, Err};
+    ghost use Rattle.std.specs.Prelude.{ℕ, Bool, List, slice_index_or, pos, Some, None, is_some, nat_lt, ◌↔◌, Ok, Err};
     ghost use Rattle.fl_model.specs.Record.{Plan, layout_len, rows_per_page};
     ghost use Rattle.fl_model.specs.Row.{Row, FitsRow, stored_row};
     ghost use Rattle.fl_model.specs.Table as model;

@@ -13,7 +13,7 @@ use Rattle.fl_queries.proofs.blob.find_blob.Goals as goal
 
 pub returns-in-Ok-None-clause-finds : goal.returns-in-Ok-None-clause-finds
 returns-in-Ok-None-clause-finds g c = λ first plan t told stands.
-    let found = rw c.in-Ok-None.field-0-is at (c.in-Ok-None.ensures.finds.finds first plan t told stands) in
+    let found = rw c.in-Ok-None.field-0-is at (c.in-Ok-None.ensures.find.finds first plan t told stands) in
     found.entry
 
 pub returns-in-Ok-Some-clause-blobs : goal.returns-in-Ok-Some-clause-blobs
@@ -22,12 +22,12 @@ returns-in-Ok-Some-clause-blobs g c =
 
 pub returns-in-Ok-Some-clause-finds : goal.returns-in-Ok-Some-clause-finds
 returns-in-Ok-Some-clause-finds g c = λ first plan t told stands.
-    let found = rw c.in-Ok-Some.field-0-is at (c.in-Ok-Some.ensures.finds.finds first plan t told stands) in
+    let found = rw c.in-Ok-Some.field-0-is at (c.in-Ok-Some.ensures.find.finds first plan t told stands) in
     subst (λ (x : BlobFound). FindsBlob t c.args.key (Ok x)) (sym c.found_in.ensures)
     (finds-row plan t c.args.key c.find.new.buf c.in-Ok-Some.place (row_of c.row_at.result) found.entry (c.row_at.ensures.stands _ first plan t stands))
 
 pub returns-in-Err-clause-finds : goal.returns-in-Err-clause-finds
-returns-in-Err-clause-finds g c = λ first plan t told stands. finds-unread 64 plan t c.args.key (g.F.Flash.state c.args.flash.now).work.reads (g.F.Flash.state c.find.new.flash).work.reads c.find.new.buf c.in-Err.fault (c.in-Err.ensures.finds.finds first plan t told stands)
+returns-in-Err-clause-finds g c = λ first plan t told stands. finds-unread 64 plan t c.args.key (g.F.Flash.state c.args.flash.now).work.reads (g.F.Flash.state c.find.new.flash).work.reads c.find.new.buf c.in-Err.fault (c.in-Err.ensures.find.finds first plan t told stands)
 
 pub returns-in-Ok-None-clause-names : goal.returns-in-Ok-None-clause-names
 returns-in-Ok-None-clause-names g c = rw c.in-Ok-None.field-0-is at c.in-Ok-None.ensures.row.answers
@@ -51,7 +51,7 @@ pub returns-in-Ok-None-clause-room : goal.returns-in-Ok-None-clause-room
 returns-in-Ok-None-clause-room g c = c.find.ensures.flash.room
 
 pub returns-in-Ok-None-clause-reads : goal.returns-in-Ok-None-clause-reads
-returns-in-Ok-None-clause-reads g c = c.find.ensures.finds.reads
+returns-in-Ok-None-clause-reads g c = c.find.ensures.find.reads
 
 pub returns-in-Ok-Some-clause-counts : goal.returns-in-Ok-Some-clause-counts
 returns-in-Ok-Some-clause-counts g c = c.find.ensures.flash.counts
@@ -63,7 +63,7 @@ pub returns-in-Ok-Some-clause-room : goal.returns-in-Ok-Some-clause-room
 returns-in-Ok-Some-clause-room g c = c.find.ensures.flash.room
 
 pub returns-in-Ok-Some-clause-reads : goal.returns-in-Ok-Some-clause-reads
-returns-in-Ok-Some-clause-reads g c = c.find.ensures.finds.reads
+returns-in-Ok-Some-clause-reads g c = c.find.ensures.find.reads
 
 pub returns-in-Err-clause-counts : goal.returns-in-Err-clause-counts
 returns-in-Err-clause-counts g c = c.find.ensures.flash.counts
@@ -75,7 +75,7 @@ pub returns-in-Err-clause-room : goal.returns-in-Err-clause-room
 returns-in-Err-clause-room g c = c.find.ensures.flash.room
 
 pub returns-in-Err-clause-reads : goal.returns-in-Err-clause-reads
-returns-in-Err-clause-reads g c = c.find.ensures.finds.reads
+returns-in-Err-clause-reads g c = c.find.ensures.find.reads
 
 pub returns-in-Ok-None-clause-blobs : goal.returns-in-Ok-None-clause-blobs
 returns-in-Ok-None-clause-blobs g c = tt

@@ -8,20 +8,20 @@ use Rattle.fl_queries.proofs.lookup.look_up.Goals as goal
 
 pub returns-in-Ok-None-clause-looks : goal.returns-in-Ok-None-clause-looks
 returns-in-Ok-None-clause-looks g c = λ first plan t told on stands.
-    let found = rw c.in-Ok-None.field-0-is at (c.in-Ok-None.ensures.finds.finds first plan t told stands) in
-    looks-absent plan t c.args.key _ _ _ _ _ _ found (c.in-Ok-None.ensures.finds.reads first plan t told stands) found.entry refl
+    let found = rw c.in-Ok-None.field-0-is at (c.in-Ok-None.ensures.find.finds first plan t told stands) in
+    looks-absent plan t c.args.key _ _ _ _ _ _ found (c.in-Ok-None.ensures.find.reads first plan t told stands) found.entry refl
 
 pub returns-in-Ok-Some-clause-looks : goal.returns-in-Ok-Some-clause-looks
 returns-in-Ok-Some-clause-looks g c = λ first plan t told on stands.
-    let found = rw c.in-Ok-Some.field-0-is at (c.in-Ok-Some.ensures.finds.finds first plan t told stands) in
-    looks-found plan t c.args.key _ _ _ _ c.find.new.buf c.in-Ok-Some.place (row_of c.row_at.result) c.form_of-form.result.blobs _ (c.form_of-form.ensures.blobs ∙ blobs-as c.args.table.now _ first plan t stands) stands.facts found (c.in-Ok-Some.ensures.finds.reads first plan t told stands) found.entry (c.row_at.ensures.stands _ first plan t stands) c.line_of.ensures
+    let found = rw c.in-Ok-Some.field-0-is at (c.in-Ok-Some.ensures.find.finds first plan t told stands) in
+    looks-found plan t c.args.key _ _ _ _ c.find.new.buf c.in-Ok-Some.place (row_of c.row_at.result) c.form_of-form.result.blobs _ (c.form_of-form.ensures.blobs ∙ blobs-as c.args.table.now _ first plan t stands) stands.facts found (c.in-Ok-Some.ensures.find.reads first plan t told stands) found.entry (c.row_at.ensures.stands _ first plan t stands) c.line_of.ensures
 
 pub returns-in-Err-Flash-clause-looks : goal.returns-in-Err-Flash-clause-looks
 returns-in-Err-Flash-clause-looks g c = λ first plan t told on stands.
-    looks-unread plan t c.args.key c.args.table.now (g.F.Flash.state c.args.flash.now) (g.F.Flash.state c.find.new.flash) c.in-Err-Flash.field-0-0 _ on (rw c.in-Err-Flash.field-0-is at c.in-Err-Flash.ensures.row.fails) (c.in-Err-Flash.ensures.finds.reads first plan t told stands) refl
+    looks-unread plan t c.args.key c.args.table.now (g.F.Flash.state c.args.flash.now) (g.F.Flash.state c.find.new.flash) c.in-Err-Flash.field-0-0 _ on (rw c.in-Err-Flash.field-0-is at c.in-Err-Flash.ensures.row.fails) (c.in-Err-Flash.ensures.find.reads first plan t told stands) refl
 
 pub returns-in-Err-BadPage-clause-looks : goal.returns-in-Err-BadPage-clause-looks
-returns-in-Err-BadPage-clause-looks g c = λ first plan t told on stands. absurd (rw c.in-Err-BadPage.field-0-is at (c.in-Err-BadPage.ensures.finds.finds first plan t told stands))
+returns-in-Err-BadPage-clause-looks g c = λ first plan t told on stands. absurd (rw c.in-Err-BadPage.field-0-is at (c.in-Err-BadPage.ensures.find.finds first plan t told stands))
 
 pub returns-in-Ok-None-clause-cause : goal.returns-in-Ok-None-clause-cause
 returns-in-Ok-None-clause-cause g c = record { reply = reply.Absent; said_is = refl; holds = rw c.in-Ok-None.field-0-is at c.in-Ok-None.ensures.row.answers }

@@ -15,7 +15,7 @@ returns-then-is_none-clause-looks g c = λ first plan t tells stands.
 pub returns-in_err-find-clause-looks : goal.returns-in_err-find-clause-looks
 returns-in_err-find-clause-looks g c = λ first plan t tells stands.
     let p = err_from_is_err_and c.from_residual.result c.from_residual.ensures.1 in
-    rw (p.1, p.2) (looks-failed plan t c.in-Some.last (g.A.Flash.state c.args.from.now).work.reads (g.A.Flash.state c.find.new.flash).work.reads c.find.new.buf c.args.last c.in_err-find.field-0.0 (c.in_err-find.ensures.finds.finds first plan t tells stands))
+    rw (p.1, p.2) (looks-failed plan t c.in-Some.last (g.A.Flash.state c.args.from.now).work.reads (g.A.Flash.state c.find.new.flash).work.reads c.find.new.buf c.args.last c.in_err-find.field-0.0 (c.in_err-find.ensures.find.finds first plan t tells stands))
 
 pub returns-in_err-find-clause-cause : goal.returns-in_err-find-clause-cause
 returns-in_err-find-clause-cause g c =
@@ -24,7 +24,7 @@ returns-in_err-find-clause-cause g c =
 
 pub returns-then-is_some-clause-looks : goal.returns-then-is_some-clause-looks
 returns-then-is_some-clause-looks g c = λ first plan t tells stands.
-    rw c.in-Some.is (looks-found plan t c.in-Some.last c.find.new.buf c.in_ok-find.field-0 (c.in_ok-find.ensures.finds.finds first plan t tells stands).entry c.if-is_some.ensures)
+    rw c.in-Some.is (looks-found plan t c.in-Some.last c.find.new.buf c.in_ok-find.field-0 (c.in_ok-find.ensures.find.finds first plan t tells stands).entry c.if-is_some.ensures)
 
 pub returns-in_err-oldest-clause-looks : goal.returns-in_err-oldest-clause-looks
 returns-in_err-oldest-clause-looks g c = λ first plan t tells stands.
@@ -46,7 +46,7 @@ returns-in-Some-2-clause-looks g c = λ first plan t tells stands.
     let f = g.A.Flash.state c.args.from.now in
     let h = g.A.Flash.state c.find.new.flash in
     let one = rw c.in-Some-2.is at (c.in_ok-oldest.ensures.first first plan t (tells-read f h c.find.ensures.flash.counts tells) (stands-read f h c.find.ensures.flash.counts c.args.source.now first plan t stands)) in
-    rw c.in-Some.is (looks-missing t c.in-Some.last c.in-Some-2.oldest (looks-lacking plan t c.in-Some.last c.find.new.buf c.in_ok-find.field-0 (c.in_ok-find.ensures.finds.finds first plan t tells stands).entry c.if-is_some.ensures) one)
+    rw c.in-Some.is (looks-missing t c.in-Some.last c.in-Some-2.oldest (looks-lacking plan t c.in-Some.last c.find.new.buf c.in_ok-find.field-0 (c.in_ok-find.ensures.find.finds first plan t tells stands).entry c.if-is_some.ensures) one)
 
 pub returns-in-Some-2-clause-reads_only : goal.returns-in-Some-2-clause-reads_only
 returns-in-Some-2-clause-reads_only g c = OnlyReads-then _ _ _ c.find.ensures.flash.counts c.first_key.ensures.reads_only

@@ -23,7 +23,7 @@ pub returns-clause-finds : goal.returns-clause-finds
 returns-clause-finds g c = λ config tables plan table h own.
     let here : slice_get c.args.self.now.tables.entries.items c.args.at ≡ Some c.index.result.now = entry-at c.args.self.now.tables.entries.items c.args.at c.index.result.now c.requires.at c.index.ensures in
     get-ends plan table c.args.key _ _ c.find.new.buf c.find.result
-    (c.find.ensures.finds.finds (first_of config.plans c.args.at) (bare plan) (bare_table table) h.medium.told
+    (c.find.ensures.find.finds (first_of config.plans c.args.at) (bare plan) (bare_table table) h.medium.told
     (stands-at c.table-table.result.now c.index.result.now c.table-table.ensures c.args.self.now.tables.entries.items c.args.at here config _ tables plan table h own))
 
 pub returns-clause-here : goal.returns-clause-here

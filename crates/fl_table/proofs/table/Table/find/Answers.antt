@@ -41,8 +41,8 @@ least n k = omega arith
 
 -- ---- the key is pending
 
-pub returns-then-is_pending_key-clause-finds : goal.returns-then-is_pending_key-clause-finds
-returns-then-is_pending_key-clause-finds g c = record {
+pub returns-then-is_pending_key-clause-find : goal.returns-then-is_pending_key-clause-find
+returns-then-is_pending_key-clause-find g c = record {
   finds = λ first plan table tells stands.
       let f = g.F.Flash.state c.args.flash.now in
       let e : c.map.result ≡ option_map at.Pending c.pending_place.result = mapped at.Pending c.pending_place.result c.map.result c.map.ensures.cases in
@@ -101,8 +101,8 @@ returns-then-is_pending_key-clause-steps g c = record {
 
 -- ---- pages were read
 
-pub returns-in-Ok-clause-finds : goal.returns-in-Ok-clause-finds
-returns-in-Ok-clause-finds g c = record {
+pub returns-in-Ok-clause-find : goal.returns-in-Ok-clause-find
+returns-in-Ok-clause-find g c = record {
   finds = λ first plan table tells stands.
       let f = g.F.Flash.state c.args.flash.now in
       let pending : is_pending_key table c.args.key ≡ false = sym (c.is_pending_key.ensures.stands f first plan table stands) ∙ c.if-is_pending_key.false in
@@ -164,8 +164,8 @@ returns-in-Ok-clause-steps g c = record {
 
 -- ---- a page could not be read
 
-pub returns-in-Err-clause-finds : goal.returns-in-Err-clause-finds
-returns-in-Err-clause-finds g c = record {
+pub returns-in-Err-clause-find : goal.returns-in-Err-clause-find
+returns-in-Err-clause-find g c = record {
   finds = λ first plan table tells stands.
       let f = g.F.Flash.state c.args.flash.now in
       let pending : is_pending_key table c.args.key ≡ false = sym (c.is_pending_key.ensures.stands f first plan table stands) ∙ c.if-is_pending_key.false in
