@@ -60,7 +60,7 @@ impl<const KNOTS: usize, const SLOTS: usize> Table<KNOTS, SLOTS> {
         requires room { length buf.old.bytes ≡ (F.state flash.old).geometry.page }
         ensures find { LooksUp self.now key (F.state flash.old) buf.old steps.old
             result (F.state flash.new) buf.new steps.new }
-        // Whatever the pages hold: the row that is found has the key, and a page that has to be read isn't bad.
+        // Whatever the pages hold:
         ensures row { AnswersBy self.now key (F.state flash.old) buf.old
             result (F.state flash.new) buf.new }
         ensures flash { LooksAt self.now (F.state flash.old) buf.old (F.state flash.new) buf.new }

@@ -177,15 +177,17 @@ impl<const KNOTS: usize, const SLOTS: usize> Table<KNOTS, SLOTS> {
         blob: Option<&[u8]>,
     ) -> Result<(), PutRefusal>
         requires lies { LiesOn self.old (F.state flash.old) }
-        ensures put { Over (F.state flash.old) (F.state flash.new) (Stands self.old (F.state flash.old))
+        ensures put { Over (F.state flash.old) (F.state flash.new)
+            (Stands self.old (F.state flash.old))
             (λ first plan table rose device. PutEnds first plan
-                (record { key = key; values = values.now; blob = bytes_in blob.entry })
-                table rose device result self.new (F.state flash.old) (F.state flash.new)) }
-        ensures exact { RefusesAs (put_refusal self.old key values.now (length_in blob.entry)) result }
+            (record { key = key; values = values.now; blob = bytes_in blob.entry })
+            table rose device result self.new (F.state flash.old) (F.state flash.new)) }
+        ensures exact { RefusesAs
+            (put_refusal self.old key values.now (length_in blob.entry)) result }
         // Whatever the flash holds:
         ensures table { GoesOn self.old (put_breaks result) self.new (F.state flash.new) }
-        ensures memory { PutsInMemory self.old (F.state flash.old) key values.now (bytes_in blob.entry)
-            result self.new (F.state flash.new) }
+        ensures memory { PutsInMemory self.old (F.state flash.old)
+            key values.now (bytes_in blob.entry) result self.new (F.state flash.new) }
         ensures page { PutsPage self.old (F.state flash.old)
             (put_refusal self.old key values.now (length_in blob.entry)) (bytes_in blob.entry)
             result (F.state flash.new) }
@@ -204,14 +206,16 @@ impl<const KNOTS: usize, const SLOTS: usize> Table<KNOTS, SLOTS> {
     /// Flushes: the pending rows become a page. After `Flash` the table is stopped: it is to be mounted again.
     pub fn flush<F: Flash>(&mut self, flash: &mut F) -> Result<(), FlushFault>
         requires lies { LiesOn self.old (F.state flash.old) }
-        ensures flush { Over (F.state flash.old) (F.state flash.new) (Stands self.old (F.state flash.old))
+        ensures flush { Over (F.state flash.old) (F.state flash.new)
+            (Stands self.old (F.state flash.old))
             (λ first plan table rose device. FlushEnds first plan table rose device
-                result self.new (F.state flash.old) (F.state flash.new)) }
+            result self.new (F.state flash.old) (F.state flash.new)) }
         ensures exact { (result ≡ Err FlushFault.Stopped) ↔ (is_running self.old ≡ false) }
         // Whatever the flash holds:
         ensures table { GoesOn self.old (flush_breaks result) self.new (F.state flash.new) }
         ensures memory { FlushesInMemory self.old result self.new }
-        ensures page { FlushesPage self.old (F.state flash.old) result self.new (F.state flash.new) }
+        ensures page { FlushesPage self.old (F.state flash.old)
+            result self.new (F.state flash.new) }
         ensures flash { Changes (MaySeal self.old) (OutsideStands self.old) (rings_in self.old)
             FlushCausedBy (F.state flash.old) result (F.state flash.new) }
     {
