@@ -106,7 +106,7 @@ returns-in_err-mounted-clause-calm g c = c.in_err-mounted.ensures.memory.calm
 pub returns-in_err-mounted-clause-mounted : goal.returns-in_err-mounted-clause-mounted
 returns-in_err-mounted-clause-mounted g c =
     let p = err_from_is_err_and c.from_residual.result c.from_residual.ensures.1 in
-    rw (p.1, p.2) c.in_err-mounted.ensures.memory.mounted
+    rw p.1 c.in_err-mounted.ensures.memory.mounted
 
 pub returns-in_err-mounted-clause-empty : goal.returns-in_err-mounted-clause-empty
 returns-in_err-mounted-clause-empty g c =
