@@ -36,7 +36,7 @@ Over old new Standing Ends =
 
 -- What a call that seals pages does to its flash.
 pub record Changes {E : Type 0} (May : ℕ → Type 0) (Outside : (ℕ → List ℕ) → (ℕ → List ℕ) → Type 0) (most : ℕ) (Caused : FlashState → E → FlashState → Type 0) (old : FlashState) (result : Result (Unit {0}) E) (new : FlashState) : Type 0 where
-  -- it stays the same device, and what is armed and off goes on as in each call
+  -- its shape, its place and the bytes around it on the medium stay, and its power where no cut is armed
   pub goes : Goes old new
   -- after an Ok the power is on, if it was before
   pub power : OnOk result (old.is_on ≡ true → new.is_on ≡ true)

@@ -50,7 +50,7 @@ pub record HoldsNone (old new : BufferState) : Type 0 where
 
 -- What it does to its flash.
 pub record MountsFlash {KNOTS SLOTS : ℕ} (t : Table KNOTS SLOTS) (old : FlashState) (result : Result Mounted MountFault) (new : FlashState) : Type 0 where
-  -- it stays the same device, and what is armed and off goes on as in each call
+  -- its shape, its place and the bytes around it on the medium stay, and its power where no cut is armed
   pub goes : Goes old new
   -- after an Ok the power is on, if it was before
   pub power : OnOk result (old.is_on ≡ true → new.is_on ≡ true)
