@@ -6,6 +6,7 @@ use Rattle.fl_check.specs.Rules.{AreRules}
 use Rattle.fl_check.specs.Whole.{IsFinding}
 use Rattle.fl_csv.specs.declared.record.GoneBlobs.{GoneBlobs}
 use Rattle.fl_export.specs.Ends.{ExportEnds, StatusFits as ExportFits}
+use Rattle.fl_export.specs.Over.{ExportsOver}
 use Rattle.fl_flash.specs.Flash.{page_at}
 use Rattle.fl_flash.specs.Media.{MediaState}
 use Rattle.fl_image.specs.Header.{IsMade}
@@ -17,6 +18,7 @@ use Rattle.fl_image_check.specs.declared.extent.Extent.{Extent}
 use Rattle.fl_image_check.specs.declared.extent.Extent.TheVariants.{FirstFault, AllTables}
 use Rattle.fl_import.specs.Ends.{ImportEnds, IsFormIn, StatusFits as ImportFits}
 use Rattle.fl_import.specs.Images.{told_of as import_told}
+use Rattle.fl_import.specs.Over.{ImportsOver}
 use Rattle.fl_import.specs.Taken.{end_of}
 use Rattle.fl_import.specs.declared.job_end.JobEnd.{JobEnd}
 use Rattle.fl_map.specs.declared.drawing.Drawing.{Drawing}
@@ -27,6 +29,7 @@ use Rattle.fl_salvage.specs.Ends.{SalvageEnds}
 use Rattle.fl_salvage.specs.Pages.{none_passed}
 use Rattle.fl_salvage.specs.declared.salvage.SalvageEnd.{SalvageEnd}
 use Rattle.fl_store.specs.Repaired.{AreRepaired, OthersAreRepaired}
+use Rattle.fl_store.specs.Jobs.{JobEnds}
 use Rattle.fl_store.specs.Named.{IsImageWith}
 use Rattle.fl_store.specs.MountEnds.{Keeps, told_of as export_told}
 use Rattle.fl_words.specs.Medium.{IsImage}
@@ -73,12 +76,15 @@ pub record Maps {S K : Type 0} (drawing : Drawing) (old new : Ends S K) (end : J
   pub later : old.out_faults ≤ new.out_faults
 
 -- An export of the table with the name: over an image that stands for tables its records whose keys are in the range are
--- written, or a front of their text, and the medium stands for the tables that a mount leaves. The input isn't read.
+-- written, or a front of their text, and the medium stands for the tables that a mount leaves. Whatever bytes the medium holds, and
+-- whether it tells them, the tables are mounted, up to one that is refused, and else pages of the named one are read. The input isn't
+-- read.
 pub record Exports {S K : Type 0} (name : List ℕ) (range : KeyRange) (old new : Ends S K) (end : JobEnd) : Type 0 where
   pub ends : (config : Config) (tables : List Table) → IsTrue old.media.tells → IsMade config → IsImage config old.media.content tables
       → ExportEnds config tables name range (export_told old.media new.media old.written new.written) old.media.content new.media.content end.status
   pub repairs : (config : Config) (tables : List Table) → IsTrue old.media.tells → IsMade config → IsImage config old.media.content tables → (end.status ≡ Device → ⊥)
       → AreRepaired config old.media.content new.media.content
+  pub over : JobEnds name old.media new.media end.status (ExportsOver end.status)
   pub fits : IsTrue old.media.tells → ExportFits old.media.content name end.status
   pub device : end.status ≡ Device → Rose old.media.faults new.media.faults
   pub known : end.status ≡ Unsound → ⊥
@@ -91,12 +97,14 @@ pub record Exports {S K : Type 0} (name : List ℕ) (range : KeyRange) (old new 
   pub keeps : Keeps old.media new.media
 
 -- An import into the table with the name: over an image that stands for tables the lines of the input are put in turn, and
--- the table is flushed; what is refused is told. The medium stands for the tables that this leaves.
+-- the table is flushed; what is refused is told. The medium stands for the tables that this leaves. Whatever bytes the medium holds,
+-- and whether it tells them, the tables are mounted, up to one that is refused, and else records are put into the named one alone.
 pub record Imports {S K : Type 0} (name : List ℕ) (gone : GoneBlobs) (old new : Ends S K) (end : JobEnd) : Type 0 where
   pub ends : (config : Config) (tables : List Table) (text : List ℕ) → IsTrue old.media.tells → IsMade config → IsImage config old.media.content tables → old.left ≡ Some text
       → ImportEnds config tables name text (import_told gone end.taken old.written new.written new.left) old.media.faults new.media.faults old.media.content new.media.content end.kept end.status
   pub repairs : (config : Config) (tables : List Table) → IsTrue old.media.tells → IsMade config → IsImage config old.media.content tables → (end.status ≡ Device → ⊥)
       → OthersAreRepaired config name old.media.content new.media.content
+  pub over : JobEnds name old.media new.media end.status (ImportsOver end.status)
   pub kept : is_some end.kept ≡ is_done end.status
   pub form : IsTrue old.media.tells → IfSome end.form (λ form. IsFormIn old.media.content name form)
   pub formed : (line : ℕ) → end.status ≡ BadInput line → is_some end.form ≡ true

@@ -9,6 +9,7 @@ use Rattle.fl_model.specs.Table.{Table}
 use Rattle.fl_ship.specs.Ends.{IsCopy, ShipEnds}
 use Rattle.fl_ship.specs.Fits.{AreImagesFor, CopyKeeps, StatusFits, is_refused}
 use Rattle.fl_ship.specs.Media.{bytes_of}
+use Rattle.fl_ship.specs.Over.{ShipJob as ShipsOver}
 use Rattle.fl_ship.specs.Tables.{told_of}
 use Rattle.fl_ship.specs.declared.side.Side.TheVariants.{Source, Copy}
 use Rattle.fl_ship.specs.declared.status.ShipStatus.{ShipStatus}
@@ -34,7 +35,8 @@ sides_of source copy out written out_faults = record { source = source; copy = c
 
 -- A ship of the table with the name: over an image that stands for tables, and a copy that does or is empty, the next records are put
 -- into the copy, and how many they were is written. Both media stand for the tables that this leaves, but for an empty copy whose
--- making failed.
+-- making failed. Whatever bytes the media hold, and whether they tell them, the tables of both are mounted, up to one that is refused;
+-- then the source is only read, and of the copy only pages of the named table change.
 pub record Ships {K : Type 0} (name : List ℕ) (count : ℕ) (old new : Sides K) (status : ShipStatus) : Type 0 where
   pub ends : (config : Config) (sources copies : List Table) → IsTrue old.source.tells → IsTrue old.copy.tells → IsMade config → IsImage config old.source.content sources
       → IsCopy config old.copy.content copies
@@ -48,6 +50,7 @@ pub record Ships {K : Type 0} (name : List ℕ) (count : ℕ) (old new : Sides K
       → AreRepaired config old.source.content new.source.content
   pub others : (config : Config) (copies : List Table) → IsTrue old.source.tells → IsTrue old.copy.tells → IsMade config → IsImage config old.copy.content copies → (status ≡ Device Copy → ⊥)
       → OthersAreRepaired config name old.copy.content new.copy.content
+  pub over : ShipsOver name count old.source new.source old.copy new.copy status
   pub fits : IsTrue old.source.tells → IsTrue old.copy.tells → StatusFits old.source.content old.copy.content name status
   pub changes : IsTrue old.source.tells → IsTrue old.copy.tells → AreImagesFor old.source.content old.copy.content name true
       ⊎ ((new.source.content ≡ old.source.content) × (new.copy.content ≡ old.copy.content))

@@ -15,6 +15,7 @@ returns g c =
       good_copy = did.good_copy;
       repairs = did.repairs;
       others = did.others;
+      over = did.over;
       fits = did.fits;
       changes = did.changes;
       untouched = did.untouched;
