@@ -41,7 +41,7 @@ pub returns-in-Err-BadPage-clause-cause : goal.returns-in-Err-BadPage-clause-cau
 returns-in-Err-BadPage-clause-cause g c = rw c.in-Err-BadPage.field-0-is (record {
   reply = reply.BadPage c.in-Err-BadPage.bad.wanted;
   said_is = refl;
-  holds = (c.in-Err-BadPage.bad, refl, rw c.in-Err-BadPage.field-0-is at c.in-Err-BadPage.ensures.row.fails);
+  holds = (c.in-Err-BadPage.bad, refl, rw c.in-Err-BadPage.field-0-is at c.in-Err-BadPage.ensures.row.fails, λ covered. rw c.in-Err-BadPage.field-0-is at c.in-Err-BadPage.ensures.row.blames covered);
 })
 
 pub returns-in-Ok-None-clause-few : goal.returns-in-Ok-None-clause-few
