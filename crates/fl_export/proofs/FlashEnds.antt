@@ -1,6 +1,5 @@
 -- How an export ends over a flash that stands for tables.
-use Rattle.std.proofs.Common.{◌≡◌, ℕ, ◌≤◌, inl, inr, true, false, Option, Some, Err, List, sym, subst, arith}
-use Rattle.std.specs.List.{slice_get}
+use Rattle.std.proofs.Common.{◌≡◌, ℕ, ◌≤◌, inl, inr, true, false, Option, Some, Err, List, sym, subst, arith, slice_get}
 use Rattle.fl_base.specs.Causes.{Rose, Appends, AppendsFront}
 use Rattle.fl_base.specs.declared.types.KeyRange.{KeyRange}
 use Rattle.fl_flash.specs.Flash.{FlashState}
@@ -74,10 +73,9 @@ module _ (plans : List Plan) (tables : List model.Table) (name : List ℕ) (rang
   done wrote = exported (λ text. Appends told told_now text) wrote
 
   pub failed : (fault : ExportFault) (place : ℕ) → Writes (table_text own.plan own.table range) told told_now (Err fault) → g.is_on ≡ true → IfUnread g h fault → EndsOn plans tables name range f h told told_now now (status_of fault place)
-  failed fault.NoMemory place writes on cause = exported (λ text. AppendsFront told told_now text) writes.1
-  failed (fault.Sink e) place writes on cause = exported (λ text. AppendsFront told told_now text) writes.1
   failed (fault.Read (Flash PowerLost)) place writes on cause = absurd (cc (on, cause))
   failed (fault.Read (Flash Media)) place writes on cause =
       let rose : Rose g.media.faults h.media.faults = cause.0 in
       (omega (arith, goes, rose), inr (exported (λ text. AppendsFront told told_now text) writes.1))
   failed (fault.Read (BadPage bad)) place writes on cause = absurd writes.0
+  failed other place writes on cause = exported (λ text. AppendsFront told told_now text) writes.1

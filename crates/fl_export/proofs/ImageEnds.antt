@@ -7,7 +7,7 @@ use Rattle.fl_flash.specs.Media.{MediaState}
 use Rattle.fl_image.specs.Header.{IsMade}
 use Rattle.fl_image.specs.Image.{OnlyLooksAt}
 use Rattle.fl_image.specs.declared.status.ToolStatus.{ToolStatus}
-use Rattle.fl_image.specs.declared.status.ToolStatus.TheVariants.{Done, InputRead, OutWrite, InputLong, NoMemory, NotImage, Device, BadImage, NoTable, BadInput, Unsound}
+use Rattle.fl_image.specs.declared.status.ToolStatus.TheVariants.{Done, OutWrite, NoMemory, Device}
 use Rattle.fl_model.specs.Record.{Config}
 use Rattle.fl_model.specs.Table.{Table}
 use Rattle.fl_words.specs.Config.{Lines}
@@ -44,13 +44,7 @@ module _ (config : Config) (tables : List Table) (name : List ℕ) (range : KeyR
     ends-seen NoMemory h = inr (exports-seen _ h)
     ends-seen Device (rose, inl h) = inr (rises rose, inl (fails-seen config.plans tables name told told_now f.media.faults g.media.faults old.faults new.faults _ _ rises seen h))
     ends-seen Device (rose, inr h) = inr (rises rose, inr (exports-seen _ h))
-    ends-seen (BadImage table) h = absurd h
-    ends-seen NotImage h = absurd h
-    ends-seen NoTable h = absurd h
-    ends-seen Unsound h = absurd h
-    ends-seen InputRead h = absurd h
-    ends-seen InputLong h = absurd h
-    ends-seen (BadInput number) h = absurd h
+    ends-seen status h = absurd h
 
   -- no table was found
   pub early-ends : (told : Option (List ℕ)) → IsMade config → IsTrue old.tells → IsImage config old.content tables → OnlyLooksAt old new → (status : ToolStatus) → FindsNone old new name status →

@@ -1,8 +1,5 @@
 -- What an export over a flash does whatever bytes that has.
-use Rattle.std.proofs.Common.{◌≡◌, ◌⊎◌, inl, inr, ℕ, true, false, Result, Ok, Err, Option, Some, List, refl, sym, ◌∙◌, ap, subst}
-use Rattle.std.specs.List.{slice_get}
-use Rattle.std.specs.Option.{option_map}
-use Rattle.std.specs.Prelude.{unwrap_or}
+use Rattle.std.proofs.Common.{◌≡◌, ◌⊎◌, inl, inr, ℕ, true, false, Result, Ok, Err, Option, Some, List, refl, sym, ◌∙◌, ap, subst, slice_get, option_map, unwrap_or}
 use Rattle.fl_flash.specs.Flash.{FlashState}
 use Rattle.fl_image.specs.declared.status.ToolStatus.{ToolStatus}
 use Rattle.fl_image.specs.declared.status.ToolStatus.TheVariants.{BadImage}

@@ -1,8 +1,6 @@
 -- The text of an export is that of its records, and so is read back.
-use Rattle.std.proofs.Common.{◌≡◌, ℕ, Bool, true, false, Option, None, Some, Result, Ok, List, [], ◌∷◌, length, map, if◌then◌else◌, refl, sym, ◌∙◌, ap}
+use Rattle.std.proofs.Common.{◌≡◌, ℕ, Bool, true, false, Option, None, Some, Result, Ok, List, [], ◌∷◌, length, map, if◌then◌else◌, refl, sym, ◌∙◌, ap, ◌==◌, option_map, unwrap_or, eqb-true}
 use Rattle.std.specs.List.{AllByRecursion}
-use Rattle.std.specs.Prelude.{◌==◌, option_map, unwrap_or}
-use Rattle.std.proofs.lemmas.Bool.{eqb-true}
 use Rattle.fl_csv.proofs.TextBack.{text-back}
 use Rattle.fl_csv.specs.Laws.{Fits, blob_told, entry_of}
 use Rattle.fl_csv.specs.Lines.{text_puts}

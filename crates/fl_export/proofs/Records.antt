@@ -1,8 +1,6 @@
 -- What a row tells of its blob, and a record's line.
-use Rattle.std.proofs.Common.{◌≡◌, ℕ, ℤ, ◌+◌, Bool, true, false, cond, Option, Some, None, IfSome, List, [], length, drop, refl, sym, ◌∙◌, ap, subst}
-use Rattle.std.specs.Prelude.{option_map, unwrap_or, if◌then◌else◌}
-use Rattle.std.proofs.lemmas.Bool.{eq-eqb}
-use Rattle.std.proofs.lemmas.Option.{same_Some}
+use Rattle.std.proofs.Common.{◌≡◌, ℕ, ℤ, ◌+◌, Bool, true, false, cond, Option, Some, None, IfSome, List, [], length, drop, refl, sym, ◌∙◌, ap, subst, option_map, unwrap_or, if◌then◌else◌, eq-eqb}
+use Rattle.std.proofs.lemmas.Option.{none-some, same_Some}
 use Rattle.fl_base.specs.declared.types.BlobRef.{BlobRef}
 use Rattle.fl_csv.specs.Text as csv
 use Rattle.fl_csv.specs.Text.{Blob, entry_text}
@@ -48,10 +46,7 @@ unnamed table entry e = by_blob entry.kept.blob refl e
   where
     by_blob : (o : Option (List ℕ)) → entry.kept.blob ≡ o → ◌≡◌ {A = Option BlobRef} None (option_map (λ bytes. record { page = entry.page; offset = entry.offset; length = length bytes }) o) → blob_of table entry ≡ Without
     by_blob None is e = ap (blob_in table entry) is
-    by_blob (Some bytes) is e = absurd (none e)
-      where
-        none : ◌≡◌ {A = Option BlobRef} None (Some (record { page = entry.page; offset = entry.offset; length = length bytes })) → ⊥
-        none k = cc
+    by_blob (Some bytes) is e = absurd (none-some _ e)
 
 pub record Named (entry : Entry) (at : BlobRef) : Type 0 where
   pub bytes : List ℕ
@@ -62,10 +57,7 @@ pub named-by : (entry : Entry) (at : BlobRef) → Some at ≡ (stored_row entry)
 named-by entry at e = by_blob entry.kept.blob refl e
   where
     by_blob : (o : Option (List ℕ)) → entry.kept.blob ≡ o → ◌≡◌ {A = Option BlobRef} (Some at) (option_map (λ bytes. record { page = entry.page; offset = entry.offset; length = length bytes }) o) → Named entry at
-    by_blob None is e = absurd (none e)
-      where
-        none : ◌≡◌ {A = Option BlobRef} (Some at) None → ⊥
-        none k = cc
+    by_blob None is e = absurd (none-some at (sym e))
     by_blob (Some bytes) is e = record { bytes = bytes; blob_is = is; at_is = same_Some _ _ e }
 
 -- the empty blob is never gone

@@ -5,7 +5,7 @@ use Rattle.fl_flash.specs.Flash.{FlashState}
 use Rattle.fl_flash.specs.Media.{MediaState}
 use Rattle.fl_flash.specs.declared.flash.FlashFault.TheVariants.{PowerLost, Media}
 use Rattle.fl_image.specs.declared.status.ToolStatus.{ToolStatus}
-use Rattle.fl_image.specs.declared.status.ToolStatus.TheVariants.{Done, InputRead, OutWrite, InputLong, NoMemory, NotImage, Device, BadImage, NoTable, BadInput, Unsound}
+use Rattle.fl_image.specs.declared.status.ToolStatus.TheVariants.{Done, OutWrite, NoMemory, NotImage, Device, BadImage, NoTable}
 use Rattle.fl_page.specs.declared.fault.BadPage as page
 use Rattle.fl_page.specs.declared.fault.ReadFault.TheVariants.{Flash, BadPage}
 use Rattle.fl_store.specs.FoundTable.{FindsNone}
@@ -13,43 +13,25 @@ use Rattle.fl_store.specs.Named.{IsImageWith}
 use Rattle.fl_store.proofs.FoundTables.{by-none}
 use Rattle.fl_export.specs.Ends.{StatusFits}
 use Rattle.fl_export.specs.Tables.{status_of, IsOfTable}
-use Rattle.fl_export.specs.Writing.{IfBadPage, IfSink, IfUnread}
+use Rattle.fl_export.specs.Writing.{IfBadPage, IfUnread}
 use Rattle.fl_export.specs.declared.fault.ExportFault.{ExportFault}
 use Rattle.fl_export.specs.declared.fault.ExportFault.TheVariants as fault
 
 -- ---- of a table whose lines aren't written to the end
 
-pub of-fault : (e : ExportFault) (at : ℕ) → IsOfTable (status_of e at)
-of-fault fault.NoMemory at = tt
-of-fault (fault.Sink failed) at = tt
-of-fault (fault.Read (Flash e)) at = tt
-of-fault (fault.Read (BadPage bad)) at = tt
-
-pub fault-written : {P : Type 0} (e : ExportFault) (at : ℕ) → status_of e at ≡ OutWrite → IfSink P e → P
-fault-written fault.NoMemory at is cause = absurd (cc is)
-fault-written (fault.Sink failed) at is cause = cause
-fault-written (fault.Read (Flash e)) at is cause = absurd (cc is)
-fault-written (fault.Read (BadPage bad)) at is cause = absurd (cc is)
-
 pub fault-rose : (old new : FlashState) (e : ExportFault) (at : ℕ) → old.is_on ≡ true → status_of e at ≡ Device → IfUnread old new e → Rose old.media.faults new.media.faults
-fault-rose old new fault.NoMemory at on is cause = absurd (cc is)
-fault-rose old new (fault.Sink failed) at on is cause = absurd (cc is)
 fault-rose old new (fault.Read (Flash Media)) at on is cause = cause.0
 fault-rose old new (fault.Read (Flash PowerLost)) at on is cause = absurd (cc (on, cause))
-fault-rose old new (fault.Read (BadPage bad)) at on is cause = absurd (cc is)
+fault-rose old new e at on is cause = absurd (cc is)
 
 pub fault-place : (e : ExportFault) (at table : ℕ) → status_of e at ≡ BadImage table → at ≡ table
-fault-place fault.NoMemory at table is = absurd (cc is)
-fault-place (fault.Sink failed) at table is = absurd (cc is)
-fault-place (fault.Read (Flash e)) at table is = absurd (cc is)
 fault-place (fault.Read (BadPage bad)) at table is = cc is
+fault-place e at table is = absurd (cc is)
 
 -- .. of which a page is bad
 pub fault-bad : (P : page.BadPage → Type 0) (e : ExportFault) (at table : ℕ) → status_of e at ≡ BadImage table → IfBadPage P e → (bad : page.BadPage) × P bad
-fault-bad P fault.NoMemory at table is h = absurd (cc is)
-fault-bad P (fault.Sink failed) at table is h = absurd (cc is)
-fault-bad P (fault.Read (Flash e)) at table is h = absurd (cc is)
 fault-bad P (fault.Read (BadPage bad)) at table is h = (bad, h)
+fault-bad P e at table is h = absurd (cc is)
 
 -- ---- over any bytes
 
@@ -59,12 +41,7 @@ fits-table bytes name OutWrite h is few = is
 fits-table bytes name (BadImage table) h is few = (is, few table refl)
 fits-table bytes name NoMemory h is few = tt
 fits-table bytes name Device h is few = tt
-fits-table bytes name NotImage h is few = absurd h
-fits-table bytes name NoTable h is few = absurd h
-fits-table bytes name Unsound h is few = absurd h
-fits-table bytes name InputRead h is few = absurd h
-fits-table bytes name InputLong h is few = absurd h
-fits-table bytes name (BadInput number) h is few = absurd h
+fits-table bytes name status h is few = absurd h
 
 pub fits-early : (old new : MediaState) (name : List ℕ) (status : ToolStatus) → IsTrue old.tells → FindsNone old new name status → StatusFits old.content name status
 fits-early old new name status tells none = by-none old new name (StatusFits old.content name) status none (λ h. h tells) (λ h. h tells) (λ rose. tt) tt

@@ -1,10 +1,8 @@
 -- Bytes that are taken from a reader, chunk by chunk.
 use Rattle.std.proofs.Common.{◌≡◌, ℕ, Err, List, [], ◌++◌, refl, sym, ◌∙◌, ap, append_assoc, append-nil}
 use Rattle.fl_flash.specs.Flash.{FlashState}
-use Rattle.fl_model.specs.Table as model
 use Rattle.fl_page.specs.declared.fault.ReadFault.{ReadFault}
 use Rattle.fl_page.specs.declared.fault.ReadFault.TheVariants.{Flash, BadPage}
-use Rattle.fl_var.specs.Reading as reading
 use Rattle.fl_var.specs.Reading.{bytes_left, Reads, IsWholeIn, NoneBad as NonePageBad}
 use Rattle.fl_var.specs.declared.reader.BlobReader.{BlobReader}
 use Rattle.fl_export.specs.Writing.{NoneBad}
@@ -38,8 +36,3 @@ module _ (first mid : BlobReader) (f g : FlashState) (bytes now : List ℕ) (too
 pub read-good : (T : Type 0) (e : ReadFault) → NonePageBad {T = T} (Err e) → NoneBad (Read e)
 read-good T (Flash fault) h = tt
 read-good T (BadPage bad) h = h
-
--- .. in the opening of a blob
-pub open-good : (table : model.Table) (entry : model.Entry) (bytes : List ℕ) (f : FlashState) (e : ReadFault) → reading.Finds table entry bytes f (Err e) → NoneBad (Read e)
-open-good table entry bytes f (Flash fault) h = tt
-open-good table entry bytes f (BadPage bad) h = h

@@ -14,23 +14,18 @@ use Rattle.fl_export.specs.declared.fault.ExportFault.TheVariants.{NoMemory, Sin
 
 -- a fault of a later call has its cause in both
 pub unread-later : (a b c : FlashState) (fault : ExportFault) → OnlyReads a b → IfUnread b c fault → IfUnread a c fault
-unread-later a b c NoMemory only h = tt
-unread-later a b c (Sink failed) only h = tt
 unread-later a b c (Read fault) only h = IsCaused-later a b c fault only h
+unread-later a b c fault only h = tt
 
 -- what holds of each page holds of a bad one
 pub bad-when : (fault : ExportFault) (P : page.BadPage → Type 0) → ((bad : page.BadPage) → P bad) → IfBadPage P fault
-bad-when NoMemory P h = tt
-bad-when (Sink failed) P h = tt
-bad-when (Read (Flash e)) P h = tt
 bad-when (Read (BadPage bad)) P h = h bad
+bad-when fault P h = tt
 
 -- .. and what follows from what holds of it
 pub bad-more : (fault : ExportFault) (P Q : page.BadPage → Type 0) → ((bad : page.BadPage) → P bad → Q bad) → IfBadPage P fault → IfBadPage Q fault
-bad-more NoMemory P Q more h = tt
-bad-more (Sink failed) P Q more h = tt
-bad-more (Read (Flash e)) P Q more h = tt
 bad-more (Read (BadPage bad)) P Q more h = more bad h
+bad-more fault P Q more h = tt
 
 -- a page that a read finds bad
 pub bad-read : (fault : ReadFault) (P Q : page.BadPage → Type 0) → ((bad : page.BadPage) → P bad → Q bad) → IfBad P fault → IfBadPage Q (Read fault)

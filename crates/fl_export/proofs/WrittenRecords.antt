@@ -1,6 +1,5 @@
 -- The records of a table that a cursor gives, written one after another.
-use Rattle.std.proofs.Common.{◌≡◌, ℕ, ◌-◌, ◌^◌, ◌<◌, true, ◌&&◌, Option, Some, None, Err, List, [], ◌∷◌, ◌++◌, map, refl, sym, ◌∙◌, ap, subst, append_assoc, append-nil, arith}
-use Rattle.std.specs.List.{slice_get}
+use Rattle.std.proofs.Common.{◌≡◌, ℕ, ◌-◌, ◌^◌, ◌<◌, true, ◌&&◌, Option, Some, None, Err, List, [], ◌∷◌, ◌++◌, map, refl, sym, ◌∙◌, ap, subst, append_assoc, append-nil, arith, slice_get}
 use Rattle.std.proofs.lemmas.Bool.{and_parts, ltb-true}
 use Rattle.fl_base.specs.Causes.{Appends, AppendsFront}
 use Rattle.fl_csv.specs.Text.{entry_text}
@@ -41,8 +40,7 @@ pub row-smaller : (old new : Cursor 64 64) → Notes true old new → room (mark
 row-smaller old new notes =
     let row = present_of new in
     let asked = asked_of old in
-    let parts = and_parts (row_matches asked.range asked.span row && is_above asked.after row.key) (is_up_to asked.top row.key) notes.1 in
-    let above = and_parts (row_matches asked.range asked.span row) (is_above asked.after row.key) parts.0 in
+    let above = and_parts (row_matches asked.range asked.span row) (is_above asked.after row.key) (and_parts (row_matches asked.range asked.span row && is_above asked.after row.key) (is_up_to asked.top row.key) notes.1).0 in
     let after : (mark_of new).after ≡ Some row.key = ap (λ (m : Bookmark). m.after) notes.0 in
     subst (λ (o : Option ℕ). room o < room (mark_of old).after) (sym after) (above-smaller (mark_of old).after row.key notes.3 above.1)
 
@@ -83,10 +81,7 @@ module _ (plan : Plan) (table : Table) (entries : List Entry) (mid new : Cursor 
   next row gives = by_left far.left far.split far.among (sym far.left_is ∙ gives)
     where
       by_left : (left : List Entry) → entries ≡ far.given ++ left → AreAmong table.entries left → map stored_row left ≡ row ∷ left_of new contents → Next plan table entries new contents far.given row
-      by_left [] split among e = absurd (none e)
-        where
-          none : [] ≡ row ∷ left_of new contents → ⊥
-          none k = cc
+      by_left [] split among e = absurd (cc e)
       by_left (entry ∷ others) split among e = record {
         entry = entry;
         others = others;
@@ -157,7 +152,4 @@ module _ (plan : Plan) (table : Table) (entries : List Entry) (mid new : Cursor 
     where
       by_left : (left : List Entry) → entries ≡ far.given ++ left → map stored_row left ≡ [] → Appends told told_mid (lines plan table entries)
       by_left [] split e = subst (λ (es : List Entry). Appends told told_mid (lines plan table es)) (sym (split ∙ append-nil far.given)) far.wrote
-      by_left (entry ∷ others) split e = absurd (none e)
-        where
-          none : stored_row entry ∷ map stored_row others ≡ [] → ⊥
-          none k = cc
+      by_left (entry ∷ others) split e = absurd (cc e)

@@ -8,7 +8,7 @@ use Rattle.fl_flash.specs.Flash.{FlashState}
 use Rattle.fl_frame.specs.Contents.{Contents}
 use Rattle.fl_page.specs.Causes.{IsCaused}
 use Rattle.fl_page.specs.declared.fault.BadPage as page
-use Rattle.fl_page.specs.declared.fault.ReadFault.TheVariants.{Flash, BadPage}
+use Rattle.fl_page.specs.declared.fault.ReadFault.TheVariants.{BadPage}
 use Rattle.fl_table.specs.BlobAt.{has_blobs}
 use Rattle.fl_table.specs.declared.table.Table.{Table}
 use Rattle.fl_export.specs.declared.fault.ExportFault.{ExportFault}
@@ -22,21 +22,17 @@ of_line line.NoMemory = NoMemory
 -- a fault of the sink has this cause
 abbrev pub IfSink : Type 0 → ExportFault → Type 0
 IfSink P (Sink failed) = P
-IfSink P (Read fault) = Unit {0}
-IfSink P NoMemory = Unit {0}
+IfSink P fault = Unit {0}
 
 -- .. and one of a read has its own
 abbrev pub IfUnread : FlashState → FlashState → ExportFault → Type 0
 IfUnread old new (Read fault) = IsCaused old fault new
-IfUnread old new (Sink failed) = Unit {0}
-IfUnread old new NoMemory = Unit {0}
+IfUnread old new fault = Unit {0}
 
 -- .. and this holds of a bad page
 abbrev pub IfBadPage : (page.BadPage → Type 0) → ExportFault → Type 0
 IfBadPage P (Read (BadPage bad)) = P bad
-IfBadPage P (Read (Flash fault)) = Unit {0}
-IfBadPage P (Sink failed) = Unit {0}
-IfBadPage P NoMemory = Unit {0}
+IfBadPage P fault = Unit {0}
 
 -- A page of a table's rows or of its index is bad; or it is one of its blobs, of which nothing more is said.
 abbrev pub IsBadIn : Table 64 64 → Contents → page.BadPage → Type 0
@@ -45,9 +41,7 @@ IsBadIn t contents bad = MayBeBad t contents bad ⊎ (has_blobs t ≡ true)
 -- no page is bad
 abbrev pub NoneBad : ExportFault → Type 0
 NoneBad (Read (BadPage bad)) = ⊥
-NoneBad (Read (Flash fault)) = Unit {0}
-NoneBad (Sink failed) = Unit {0}
-NoneBad NoMemory = Unit {0}
+NoneBad fault = Unit {0}
 
 -- this text was appended; or a front of it, and no page was bad
 abbrev pub Writes : List ℕ → Option (List ℕ) → Option (List ℕ) → Result (Unit {0}) ExportFault → Type 0

@@ -8,7 +8,7 @@ use Rattle.fl_flash.specs.Flash.{FlashState}
 use Rattle.fl_import.specs.Taken.{none_taken}
 use Rattle.fl_import.specs.declared.job_end.LinesTaken.{LinesTaken}
 use Rattle.fl_image.specs.declared.status.ToolStatus.{ToolStatus}
-use Rattle.fl_image.specs.declared.status.ToolStatus.TheVariants.{Done, InputRead, OutWrite, InputLong, NoMemory, NotImage, Device, BadImage, NoTable, BadInput, Unsound}
+use Rattle.fl_image.specs.declared.status.ToolStatus.TheVariants.{Done, InputRead, OutWrite, InputLong, NoMemory, Device, BadInput}
 use Rattle.fl_lines.specs.Stream.{LinesState, Advances}
 use Rattle.fl_lines.specs.Taken.{TakesFew}
 use Rattle.fl_model.specs.Record.{Record, Plan, has_var}
@@ -25,7 +25,7 @@ use Rattle.fl_import.specs.Steps.{AllEnds, LineEnds, LinesEnd, IsFormOf, IsOfLin
 use Rattle.fl_store.specs.Works.{Works}
 use Rattle.fl_import.specs.Taking.{Ended, IsOfNames, NextOf, NextLine, TakesSoFar, TakesThese}
 use Rattle.fl_import.specs.declared.line_end.LineEnd.{LineEnd}
-use Rattle.fl_import.specs.declared.line_end.LineEnd.TheVariants.{Refused, Put, PutWithoutBlob}
+use Rattle.fl_import.specs.declared.line_end.LineEnd.TheVariants.{Refused}
 use Rattle.fl_store.proofs.Appends.{appends-none}
 use Rattle.fl_import.proofs.NextPut.{after-more, told-more, count-more, gone-more, means-behind, means-length}
 use Rattle.fl_import.proofs.Taken.{Shows, taken-next, shows-next, stops-done, stops-next}
@@ -56,6 +56,23 @@ so_far-first gone form text names t f told state left takes = record {
   puts = λ first plan table is works. record { works = works; reports = appends-none told; counted = refl };
 }
 
+-- no more lines are taken than these, and nothing more is told
+lines-end : (gone : GoneBlobs) (counts : LinesTaken) (form : LineForm) (text : List ℕ) (taken : List (List ℕ)) (u : LoggedTable 64 64) (g : FlashState) (told told_now rest : Option (List ℕ)) (status : ToolStatus) → TakesThese form.columns form.blobs text taken rest status →
+    (first : ℕ) (plan : Plan) (table : model.Table) → IsFormOf form plan → PutSoFar gone counts first plan table taken u g told told_now →
+    ((left : List (List ℕ)) → Reports gone plan table taken status left told told_now ≡ Appends told told_now (told_of_lines gone plan table taken)) → LinesEnd gone counts first plan table text u g told told_now rest status
+lines-end gone counts form text taken u g told told_now rest status these first plan table is puts same = record {
+  puts = record {
+    taken = taken;
+    left = these.left;
+    takes = as-plan (λ n b. Takes n b text taken these.left) form plan is these.takes;
+    few = these.few;
+    stops = as-plan (λ n b. Stops n b text taken these.left rest status) form plan is these.stops;
+    reports = subst (λ (P : Type 0). P) (sym (same these.left)) puts.reports;
+    counted = puts.counted;
+  };
+  works = puts.works;
+}
+
 -- ---- one more line
 
 abbrev counts_at : ℕ → ℕ → ℕ → LinesTaken
@@ -65,8 +82,7 @@ counts_at line rows lost = record { line = line; rows = rows; gone = lost }
 pub counts-on : (counts : LinesTaken) (end : LineEnd) (now : LinesTaken) → now ≡ after_end counts end → counts.rows < counts.line → counts.gone ≤ counts.rows →
     (now.line ≡ counts.line + 1) × (now.rows < now.line) × (now.gone ≤ now.rows)
 counts-on counts Refused now is rows gone = rw is (refl, omega (arith, rows), gone)
-counts-on counts Put now is rows gone = rw is (refl, omega (arith, rows), omega (arith, gone))
-counts-on counts PutWithoutBlob now is rows gone = rw is (refl, omega (arith, rows), omega (arith, gone))
+counts-on counts end now is rows gone = rw is (refl, omega (arith, rows), omega (arith, gone))
 
 behind-first : (taken : List (List ℕ)) (line : List ℕ) → 1 ≤ length taken → drop 1 (taken ++ line ∷ []) ≡ drop 1 taken ++ line ∷ []
 behind-first [] line some = absurd (omega (arith, some))
@@ -185,14 +201,7 @@ module _ (gone : GoneBlobs) (counts : LinesTaken) (first : ℕ) (plan : Plan) (t
     };
     rests = ends.1.3.2;
   }
-  line-stops text rest others takes few Done ends = absurd ends
-  line-stops text rest others takes few InputRead ends = absurd ends
-  line-stops text rest others takes few InputLong ends = absurd ends
-  line-stops text rest others takes few (BadInput n) ends = absurd ends
-  line-stops text rest others takes few NotImage ends = absurd ends
-  line-stops text rest others takes few (BadImage n) ends = absurd ends
-  line-stops text rest others takes few NoTable ends = absurd ends
-  line-stops text rest others takes few Unsound ends = absurd ends
+  line-stops text rest others takes few status ends = absurd ends
 
 -- ---- the lines after some
 
@@ -229,8 +238,7 @@ module _ (gone : GoneBlobs) (counts : LinesTaken) (form : LineForm) (text : List
       (first : ℕ) (plan : Plan) (table : model.Table) → IsFormOf form plan → Works t f first plan table → AllEnds gone counts first plan table text v h told told_now left_now (Err status)
   far-stops v h told_now status next ends first plan table is works =
       let p = far.puts first plan table is works in
-      let advances = subst (λ r. Advances old left faults r new left_now faults_now) next.next.0 next.advances in
-      let shows = shows-next form.columns form.blobs text far.taken old new left left_now faults faults_now far.takes advances (next.next.1 refl) in
+      let shows = shows-next form.columns form.blobs text far.taken old new left left_now faults faults_now far.takes (subst (λ r. Advances old left faults r new left_now faults_now) next.next.0 next.advances) (next.next.1 refl) in
       line-stops gone counts first plan table far.taken form is u v g h told told_mid told_now (counts.line + 1) new.line far.some number-is p text left_now shows.others
       (as-plan (λ n b. Takes n b text far.taken (new.line ∷ shows.others)) form plan is shows.takes_not) shows.few status
       (line-so gone counts first plan table far.taken form is u v g h told told_mid told_now (counts.line + 1) new.line far.some number-is p (Err status) (ends first plan (table_after gone plan table far.taken) is p.works))
@@ -248,14 +256,7 @@ module _ (gone : GoneBlobs) (counts : LinesTaken) (form : LineForm) (text : List
       by-status OutWrite of = record { taken = far.taken; left = new.line ∷ shows.others; takes = shows.takes_not; few = shows.few; stops = (far.some, omega arith) }
       by-status NoMemory of = record { taken = far.taken; left = new.line ∷ shows.others; takes = shows.takes_not; few = shows.few }
       by-status Device of = record { taken = far.taken; left = new.line ∷ shows.others; takes = shows.takes_not; few = shows.few }
-      by-status Done of = absurd of
-      by-status InputRead of = absurd of
-      by-status InputLong of = absurd of
-      by-status (BadInput n) of = absurd of
-      by-status NotImage of = absurd of
-      by-status (BadImage n) of = absurd of
-      by-status NoTable of = absurd of
-      by-status Unsound of = absurd of
+      by-status status of = absurd of
 
   -- ---- no line was given
 
@@ -264,20 +265,7 @@ module _ (gone : GoneBlobs) (counts : LinesTaken) (form : LineForm) (text : List
 
   puts-until : (status : ToolStatus) → TakesThese form.columns form.blobs text far.taken left_now status → (first : ℕ) (plan : Plan) (table : model.Table) → IsFormOf form plan → Works t f first plan table →
       ((left : List (List ℕ)) → Reports gone plan table far.taken status left told told_mid ≡ Appends told told_mid (told_of_lines gone plan table far.taken)) → LinesEnd gone counts first plan table text u g told told_mid left_now status
-  puts-until status these first plan table is works same =
-      let p = far.puts first plan table is works in
-      record {
-        puts = record {
-          taken = far.taken;
-          left = these.left;
-          takes = as-plan (λ n b. Takes n b text far.taken these.left) form plan is these.takes;
-          few = these.few;
-          stops = as-plan (λ n b. Stops n b text far.taken these.left left_now status) form plan is these.stops;
-          reports = subst (λ (P : Type 0). P) (sym (same these.left)) p.reports;
-          counted = p.counted;
-        };
-        works = p.works;
-      }
+  puts-until status these first plan table is works same = lines-end gone counts form text far.taken u g told told_mid left_now status these first plan table is (far.puts first plan table is works) same
 
   pub ended-done : NextLine old left faults (counts.line + 1) (Ok false) new left_now faults_now → TakesUntil form.columns form.blobs text left_now Done
   ended-done next = until Done (stops-done form.columns form.blobs text far.taken old new left left_now faults faults_now far.takes (subst (λ r. Advances old left faults r new left_now faults_now) next.next.0 next.advances) far.some)
@@ -298,14 +286,7 @@ module _ (gone : GoneBlobs) (counts : LinesTaken) (form : LineForm) (text : List
       by-status InputRead of h = h
       by-status InputLong of h = h
       by-status (BadInput n) of h = h
-      by-status Done of h = absurd of
-      by-status OutWrite of h = absurd of
-      by-status NoMemory of h = absurd of
-      by-status Device of h = absurd of
-      by-status NotImage of h = absurd of
-      by-status (BadImage n) of h = absurd of
-      by-status NoTable of h = absurd of
-      by-status Unsound of h = absurd of
+      by-status status of h = absurd of
 
   pub far-ended : (status : ToolStatus) → NextLine old left faults (counts.line + 1) (Err status) new left_now faults_now → (first : ℕ) (plan : Plan) (table : model.Table) → IsFormOf form plan → Works t f first plan table →
       AllEnds gone counts first plan table text u g told told_mid left_now (Err status)
@@ -315,14 +296,7 @@ module _ (gone : GoneBlobs) (counts : LinesTaken) (form : LineForm) (text : List
       by-status InputRead of h = puts-until InputRead h first plan table is works (λ _. refl)
       by-status InputLong of h = puts-until InputLong h first plan table is works (λ _. refl)
       by-status (BadInput n) of h = puts-until (BadInput n) h first plan table is works (λ _. refl)
-      by-status Done of h = absurd of
-      by-status OutWrite of h = absurd of
-      by-status NoMemory of h = absurd of
-      by-status Device of h = absurd of
-      by-status NotImage of h = absurd of
-      by-status (BadImage n) of h = absurd of
-      by-status NoTable of h = absurd of
-      by-status Unsound of h = absurd of
+      by-status status of h = absurd of
 
 -- ---- the line of the names wasn't taken
 
@@ -334,13 +308,7 @@ names-ended columns blobs text rest status of these = by-status status of (recor
     by-status InputLong of h = h
     by-status (BadInput n) of h = h
     by-status NoMemory of h = record { taken = h.taken; left = h.left; takes = h.takes; few = h.few }
-    by-status Done of h = absurd of
-    by-status OutWrite of h = absurd of
-    by-status Device of h = absurd of
-    by-status NotImage of h = absurd of
-    by-status (BadImage n) of h = absurd of
-    by-status NoTable of h = absurd of
-    by-status Unsound of h = absurd of
+    by-status status of h = absurd of
 
 pub names-ends : (gone : GoneBlobs) (counts : LinesTaken) → counts ≡ none_taken → (form : LineForm) (text : List ℕ) (t : LoggedTable 64 64) (f : FlashState) (told rest : Option (List ℕ)) (first : ℕ) (plan : Plan) (table : model.Table) (status : ToolStatus) → IsOfNames status → TakesThese form.columns form.blobs text [] rest status → IsFormOf form plan → Works t f first plan table →
     AllEnds gone counts first plan table text t f told told rest (Err status)
@@ -348,28 +316,11 @@ names-ends gone counts none form text t f told rest first plan table status of t
     subst (λ (c : LinesTaken). AllEnds gone c first plan table text t f told told rest (Err status)) (sym none) (by-status status of these)
   where
     ends : (status : ToolStatus) → TakesThese form.columns form.blobs text [] rest status → ((left : List (List ℕ)) → Reports gone plan table [] status left told told ≡ Appends told told []) → LinesEnd gone none_taken first plan table text t f told told rest status
-    ends status these same = record {
-      puts = record {
-        taken = [];
-        left = these.left;
-        takes = as-plan (λ n b. Takes n b text [] these.left) form plan is these.takes;
-        few = these.few;
-        stops = as-plan (λ n b. Stops n b text [] these.left rest status) form plan is these.stops;
-        reports = subst (λ (P : Type 0). P) (sym (same these.left)) (appends-none told);
-        counted = refl;
-      };
-      works = works;
-    }
+    ends status these same = lines-end gone none_taken form text [] t f told told rest status these first plan table is (record { works = works; reports = appends-none told; counted = refl }) same
 
     by-status : (status : ToolStatus) → IsOfNames status → TakesThese form.columns form.blobs text [] rest status → AllEnds gone none_taken first plan table text t f told told rest (Err status)
     by-status InputRead of these = ends InputRead these (λ _. refl)
     by-status InputLong of these = ends InputLong these (λ _. refl)
     by-status (BadInput n) of these = ends (BadInput n) these (λ _. refl)
     by-status NoMemory of these = ends NoMemory these (λ _. refl)
-    by-status Done of these = absurd of
-    by-status OutWrite of these = absurd of
-    by-status Device of these = absurd of
-    by-status NotImage of these = absurd of
-    by-status (BadImage n) of these = absurd of
-    by-status NoTable of these = absurd of
-    by-status Unsound of these = absurd of
+    by-status status of these = absurd of

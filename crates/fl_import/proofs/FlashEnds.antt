@@ -1,6 +1,5 @@
 -- How an import ends over a flash that stands for tables.
-use Rattle.std.proofs.Common.{◌≡◌, ℕ, inl, inr, true, false, IsTrue, Option, None, Some, List, length, refl, sym, ◌∙◌, ap, subst}
-use Rattle.std.specs.List.{slice_get}
+use Rattle.std.proofs.Common.{◌≡◌, ℕ, inl, inr, true, false, IsTrue, Option, None, Some, List, length, refl, sym, ◌∙◌, ap, subst, slice_get}
 use Rattle.fl_base.specs.Causes.{Rose}
 use Rattle.fl_store.specs.Store.{at_rest}
 use Rattle.fl_store.specs.Named.{has_name}
@@ -13,7 +12,7 @@ use Rattle.fl_csv.specs.declared.record.GoneBlobs.{GoneBlobs}
 use Rattle.fl_import.specs.Taken.{none_taken}
 use Rattle.fl_import.specs.declared.job_end.LinesTaken.{LinesTaken}
 use Rattle.fl_image.specs.declared.status.ToolStatus.{ToolStatus}
-use Rattle.fl_image.specs.declared.status.ToolStatus.TheVariants.{Done, InputRead, OutWrite, InputLong, NoMemory, NotImage, Device, BadImage, NoTable, BadInput, Unsound}
+use Rattle.fl_image.specs.declared.status.ToolStatus.TheVariants.{Done, Device}
 use Rattle.fl_machine.specs.Step.{all_ready}
 use Rattle.fl_model.specs.Record.{Plan}
 use Rattle.fl_model.specs.Table as model
@@ -79,12 +78,4 @@ module _ (plans : List Plan) (tables : List model.Table) (name text : List ℕ) 
     where
       whole : (after : model.Table) → Leaves place.plan place.table text (told_of gone counts told told_now rest) after Done → length (lose after).entries ≡ length after.entries
       whole after leaves = subst (λ (t : model.Table). length (lose t).entries ≡ length t.entries) (sym leaves.after_is) (flushed-whole place.plan (table_after gone place.plan place.table leaves.puts.taken))
-  imported kept InputRead rises rows ends = imports-so InputRead ends
-  imported kept OutWrite rises rows ends = imports-so OutWrite ends
-  imported kept InputLong rises rows ends = imports-so InputLong ends
-  imported kept NoMemory rises rows ends = imports-so NoMemory ends
-  imported kept NotImage rises rows ends = imports-so NotImage ends
-  imported kept (BadImage n) rises rows ends = imports-so (BadImage n) ends
-  imported kept NoTable rises rows ends = imports-so NoTable ends
-  imported kept (BadInput n) rises rows ends = imports-so (BadInput n) ends
-  imported kept Unsound rises rows ends = imports-so Unsound ends
+  imported kept status rises rows ends = imports-so status ends

@@ -1,7 +1,5 @@
 -- How an import of an image ends, from how one over its flash does.
-use Rattle.std.proofs.Common.{◌≡◌, ℕ, ◌<◌, ◌⊎◌, inl, inr, Bool, false, IsTrue, IfSome, Option, Some, None, List, length, refl, sym, ◌∙◌, ap, subst, arith}
-use Rattle.std.specs.Prelude.{find}
-use Rattle.std.specs.List.{slice_get}
+use Rattle.std.proofs.Common.{◌≡◌, ℕ, ◌<◌, ◌⊎◌, inl, inr, Bool, false, IsTrue, IfSome, Option, Some, None, List, length, refl, sym, ◌∙◌, ap, subst, arith, find, slice_get}
 use Rattle.std.proofs.lemmas.Option.{slice_get_within, none-some}
 use Rattle.fl_base.specs.Causes.{Rose}
 use Rattle.fl_csv.specs.declared.record.GoneBlobs.{GoneBlobs}
@@ -69,15 +67,8 @@ module _ (config : Config) (tables : List Table) (name text : List ℕ) (told : 
   ends-seen kept Device (rose, inl h) = inr (rises rose, inl (fails-seen config.plans tables name told.written told.written_now f.media.faults g.media.faults old.faults new.faults _ _ rises seen h.0, h.1))
   ends-seen kept Device (rose, inr h) = inr (rises rose, inr (imports-seen _ h))
   ends-seen kept NoMemory h = inr (imports-seen _ h)
-  ends-seen kept Done h = imports-seen _ h
-  ends-seen kept InputRead h = imports-seen _ h
-  ends-seen kept OutWrite h = imports-seen _ h
-  ends-seen kept InputLong h = imports-seen _ h
-  ends-seen kept NotImage h = imports-seen _ h
-  ends-seen kept (BadImage n) h = imports-seen _ h
   ends-seen kept NoTable h = absurd h.left
-  ends-seen kept (BadInput n) h = imports-seen _ h
-  ends-seen kept Unsound h = imports-seen _ h
+  ends-seen kept status h = imports-seen _ h
 
 -- ---- no table was found
 
@@ -133,9 +124,6 @@ module _ (bytes name : List ℕ) (text rest : Option (List ℕ)) (lines : Lines)
   may-take : ((l : List ℕ) → text ≡ Some l → (rest ≡ Some l) ⊎ TakesSome (length at-plan.0.columns) (has_var at-plan.0) l rest) → MayTake bytes name text rest
   may-take h = by-text text refl
     where
-      Some-of : ℕ → Bool → List ℕ → Type 0
-      Some-of columns blobs l = TakesSome columns blobs l rest
-
       by-end : (l : List ℕ) → text ≡ Some l → (rest ≡ Some l) ⊎ TakesSome (length at-plan.0.columns) (has_var at-plan.0) l rest → MayTake bytes name text rest
       by-end l e (inl none) = inl (none ∙ sym e)
       by-end l e (inr some) = inr (for-own (λ columns blobs l. TakesSome columns blobs l rest) (λ k is. subst (λ (x : List ℕ). TakesSome (length at-plan.0.columns) (has_var at-plan.0) x rest) (some-is text l k e is) some))
@@ -146,17 +134,13 @@ module _ (bytes name : List ℕ) (text rest : Option (List ℕ)) (lines : Lines)
 
   pub fits-table : (status : ToolStatus) → IsOfMounted status → ((table : ℕ) → status ≡ BadImage table → table < length lines.plans) → ((table : ℕ) → status ≡ BadImage table → rest ≡ text) →
       ((plan : Plan) (l : List ℕ) → slice_get lines.plans at ≡ Some plan → text ≡ Some l → EndedOver (length plan.columns) (has_var plan) l rest status) → StatusFits bytes name text rest status
-  fits-table Done of bad same h = for-own _ (λ l is. h at-plan.0 l at-plan.1 is)
-  fits-table InputRead of bad same h = for-own _ (λ l is. h at-plan.0 l at-plan.1 is)
-  fits-table OutWrite of bad same h = for-own _ (λ l is. h at-plan.0 l at-plan.1 is)
-  fits-table InputLong of bad same h = for-own _ (λ l is. h at-plan.0 l at-plan.1 is)
-  fits-table (BadInput n) of bad same h = for-own _ (λ l is. h at-plan.0 l at-plan.1 is)
   fits-table (BadImage n) of bad same h = ((image-with bytes name lines entries accepted image new at named, bad n refl), same n refl)
   fits-table NoMemory of bad same h = may-take (λ l is. h at-plan.0 l at-plan.1 is)
   fits-table Device of bad same h = may-take (λ l is. h at-plan.0 l at-plan.1 is)
   fits-table NotImage of bad same h = absurd of
   fits-table NoTable of bad same h = absurd of
   fits-table Unsound of bad same h = absurd of
+  fits-table status of bad same h = for-own _ (λ l is. h at-plan.0 l at-plan.1 is)
 
 -- ---- statuses
 
@@ -190,10 +174,7 @@ by-table P InputLong of done read write long memory device bad = long
 by-table P NoMemory of done read write long memory device bad = memory
 by-table P Device of done read write long memory device bad = device
 by-table P (BadInput n) of done read write long memory device bad = bad n
-by-table P (BadImage n) of done read write long memory device bad = absurd of
-by-table P NotImage of done read write long memory device bad = absurd of
-by-table P NoTable of done read write long memory device bad = absurd of
-by-table P Unsound of done read write long memory device bad = absurd of
+by-table P status of done read write long memory device bad = absurd of
 
 pub table-ended : (columns : ℕ) (blobs : Bool) (text : List ℕ) (rest : Option (List ℕ)) (status : ToolStatus) → IsOfTable status → EndedAs columns blobs text rest status → EndedOver columns blobs text rest status
 table-ended columns blobs text rest status of =

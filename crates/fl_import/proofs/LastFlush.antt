@@ -10,7 +10,7 @@ use Rattle.fl_flash.specs.declared.flash.FlashFault.TheVariants.{PowerLost, Medi
 use Rattle.fl_frame.proofs.WatchedInTurn.{never-lost}
 use Rattle.fl_frame.specs.Causes.{IsUnarmed}
 use Rattle.fl_image.specs.declared.status.ToolStatus.{ToolStatus}
-use Rattle.fl_image.specs.declared.status.ToolStatus.TheVariants.{Done, InputRead, OutWrite, InputLong, NoMemory, NotImage, Device, BadImage, NoTable, BadInput, Unsound}
+use Rattle.fl_image.specs.declared.status.ToolStatus.TheVariants.{Done, InputRead, OutWrite, InputLong, NoMemory, Device, BadInput}
 use Rattle.fl_model.specs.Record.{Plan}
 use Rattle.fl_model.specs.Table as model
 use Rattle.fl_model.specs.Work as work
@@ -36,12 +36,6 @@ use Rattle.fl_store.proofs.Failing.{seals-work}
 use Rattle.fl_store.proofs.Works.{works-broken, works-done, works-uncut}
 use Rattle.fl_import.proofs.OneLine.{not-device}
 
-not-done : Device ≡ Done → ⊥
-not-done e = cc
-
-not-written : OutWrite ≡ Done → ⊥
-not-written e = cc
-
 -- ---- what holds of each of the statuses
 
 -- of lines that aren't taken to their end
@@ -52,11 +46,7 @@ by-lines P InputLong of read write long memory device bad = long
 by-lines P NoMemory of read write long memory device bad = memory
 by-lines P Device of read write long memory device bad = device
 by-lines P (BadInput number) of read write long memory device bad = bad number
-by-lines P Done of read write long memory device bad = absurd of
-by-lines P NotImage of read write long memory device bad = absurd of
-by-lines P (BadImage n) of read write long memory device bad = absurd of
-by-lines P NoTable of read write long memory device bad = absurd of
-by-lines P Unsound of read write long memory device bad = absurd of
+by-lines P status of read write long memory device bad = absurd of
 
 -- .. and once it is told how many were put
 module _ (gone : GoneBlobs) (counts : LinesTaken) (told told_now : Option (List ℕ)) (faults faults_now : ℕ) where
@@ -66,15 +56,7 @@ module _ (gone : GoneBlobs) (counts : LinesTaken) (told told_now : Option (List 
   by-counts : (P : ToolStatus → Type 0) (status : ToolStatus) → Tells status → (Tells Done → P Done) → (Tells OutWrite → P OutWrite) → P status
   by-counts P Done tells done write = done tells
   by-counts P OutWrite tells done write = write tells
-  by-counts P InputRead tells done write = absurd tells
-  by-counts P InputLong tells done write = absurd tells
-  by-counts P NoMemory tells done write = absurd tells
-  by-counts P NotImage tells done write = absurd tells
-  by-counts P Device tells done write = absurd tells
-  by-counts P (BadImage n) tells done write = absurd tells
-  by-counts P NoTable tells done write = absurd tells
-  by-counts P (BadInput n) tells done write = absurd tells
-  by-counts P Unsound tells done write = absurd tells
+  by-counts P status tells done write = absurd tells
 
 -- ---- nothing is pending after a flush
 
@@ -105,23 +87,13 @@ flushed-whole plan table =
 
 pub failed-ends : (gone : GoneBlobs) (counts : LinesTaken) (first : ℕ) (plan : Plan) (table : model.Table) (text : List ℕ) (u : LoggedTable 64 64) (g : FlashState) (told told_now rest : Option (List ℕ)) → AllEnds gone counts first plan table text u g told told_now rest (Err Device) →
     TableEnds first plan table text u g (told_of gone counts told told_now rest) Device
-failed-ends gone counts first plan table text u g told told_now rest fails = record { after = fails.after; leaves = inl fails.fails; rests = fails.rests; stands = λ e. absurd (not-done e) }
+failed-ends gone counts first plan table text u g told told_now rest fails = record { after = fails.after; leaves = inl fails.fails; rests = fails.rests; stands = λ e. absurd (subst IsOfLines e tt) }
 
 module _ (gone : GoneBlobs) (counts : LinesTaken) (first : ℕ) (plan : Plan) (table : model.Table) (text : List ℕ) (u v : LoggedTable 64 64) (g h : FlashState) (told told_mid told_now rest : Option (List ℕ)) where
   -- the table goes on behind the lines
   abbrev pub goes-on : (taken : Result (Unit {0}) ToolStatus) → is_broken taken ≡ false → AllEnds gone counts first plan table text u g told told_mid rest taken → LinesEnd gone counts first plan table text u g told told_mid rest (status_of taken)
-  goes-on (Ok all) other ends = ends
   goes-on (Err Device) other ends = absurd (true≢false other)
-  goes-on (Err Done) other ends = ends
-  goes-on (Err InputRead) other ends = ends
-  goes-on (Err OutWrite) other ends = ends
-  goes-on (Err InputLong) other ends = ends
-  goes-on (Err NoMemory) other ends = ends
-  goes-on (Err NotImage) other ends = ends
-  goes-on (Err (BadImage n)) other ends = ends
-  goes-on (Err NoTable) other ends = ends
-  goes-on (Err (BadInput n)) other ends = ends
-  goes-on (Err Unsound) other ends = ends
+  goes-on taken other ends = ends
 
   module _ (taken : Result (Unit {0}) ToolStatus) (other : is_broken taken ≡ false) (ends : AllEnds gone counts first plan table text u g told told_mid rest taken) where
     abbrev pub lines : LinesEnd gone counts first plan table text u g told told_mid rest (status_of taken)
@@ -136,7 +108,7 @@ module _ (gone : GoneBlobs) (counts : LinesTaken) (first : ℕ) (plan : Plan) (t
     pub flush-broken : (fault : FlushFault) → FlushEnds first plan then_table (has_risen g h) lines.works.device (Err fault) v g h → TableEnds first plan table text v h (told_of gone counts told told_mid rest) (flush_status fault)
     flush-broken (flush.Flash Media) flushes =
         let b = works-broken first plan then_table u v g h lines.works DidFlush (seals-work plan (table_seals plan then_table) then_table) Media flushes in
-        record { after = b.after; leaves = inr (record { status = status_of taken; puts = lines.puts; fails = b.fails }); rests = b.rests; stands = λ e. absurd (not-done e) }
+        record { after = b.after; leaves = inr (record { status = status_of taken; puts = lines.puts; fails = b.fails }); rests = b.rests; stands = λ e. absurd (subst IsOfLines e tt) }
     flush-broken (flush.Flash PowerLost) flushes = absurd (works-uncut first plan then_table u v g h lines.works DidFlush (seals-work plan (table_seals plan then_table) then_table) flushes)
     flush-broken flush.Stopped flushes = absurd flushes
 
@@ -163,7 +135,7 @@ module _ (gone : GoneBlobs) (counts : LinesTaken) (first : ℕ) (plan : Plan) (t
         after = after (Ok done) refl d;
         leaves = inr (record { written_then = told_mid; puts = d.puts; after_is = refl; counts = subst (λ c. AppendsFront told_mid told_now (count_text gone c)) d.puts.counted t.0 });
         rests = rested (Ok done) refl d goes flushes;
-        stands = λ e. absurd (not-written e);
+        stands = λ e. absurd (subst IsOfLines e tt);
       })
 
 -- the lines weren't taken to their end
@@ -198,25 +170,15 @@ some-until columns blobs text rest status h = record { taken = h.taken; left = h
 some-taken : (columns : ℕ) (blobs : Bool) (text : List ℕ) (rest : Option (List ℕ)) (status : ToolStatus) → Ended columns blobs text rest status → TakesSome columns blobs text rest
 some-taken columns blobs text rest Device h = h
 some-taken columns blobs text rest NoMemory h = h
-some-taken columns blobs text rest Done h = some-until columns blobs text rest Done h
-some-taken columns blobs text rest InputRead h = some-until columns blobs text rest InputRead h
-some-taken columns blobs text rest OutWrite h = some-until columns blobs text rest OutWrite h
-some-taken columns blobs text rest InputLong h = some-until columns blobs text rest InputLong h
-some-taken columns blobs text rest NotImage h = some-until columns blobs text rest NotImage h
-some-taken columns blobs text rest (BadImage n) h = some-until columns blobs text rest (BadImage n) h
-some-taken columns blobs text rest NoTable h = some-until columns blobs text rest NoTable h
-some-taken columns blobs text rest (BadInput n) h = some-until columns blobs text rest (BadInput n) h
-some-taken columns blobs text rest Unsound h = some-until columns blobs text rest Unsound h
+some-taken columns blobs text rest status h = some-until columns blobs text rest status h
 
 pub flush-ended : (columns : ℕ) (blobs : Bool) (text : List ℕ) (rest : Option (List ℕ)) (taken : Result (Unit {0}) ToolStatus) (fault : FlushFault) → Ended columns blobs text rest (status_of taken) → EndedAs columns blobs text rest (flush_status fault)
-flush-ended columns blobs text rest taken (flush.Flash Media) h = some-taken columns blobs text rest (status_of taken) h
-flush-ended columns blobs text rest taken (flush.Flash PowerLost) h = some-taken columns blobs text rest (status_of taken) h
+flush-ended columns blobs text rest taken (flush.Flash fault) h = some-taken columns blobs text rest (status_of taken) h
 flush-ended columns blobs text rest taken flush.Stopped h = some-taken columns blobs text rest (status_of taken) h
 
 -- a flush that fails
 pub flush-of : (fault : FlushFault) → IsOfTable (flush_status fault)
-flush-of (flush.Flash Media) = tt
-flush-of (flush.Flash PowerLost) = tt
+flush-of (flush.Flash fault) = tt
 flush-of flush.Stopped = tt
 
 pub flush-rose : (g h : FlashState) (fault : FlushFault) → IsUnarmed g → FlushCausedBy g fault h → flush_status fault ≡ Device → Rose g.media.faults h.media.faults
@@ -225,28 +187,16 @@ flush-rose g h (flush.Flash PowerLost) unarmed cause is = absurd (never-lost g h
 flush-rose g h flush.Stopped unarmed cause is = absurd (not-device is)
 
 pub flush-read : (fault : FlushFault) → flush_status fault ≡ InputRead → ⊥
-flush-read (flush.Flash Media) is = cc is
-flush-read (flush.Flash PowerLost) is = cc is
+flush-read (flush.Flash fault) is = cc is
 flush-read flush.Stopped is = cc is
 
 pub flush-write : (fault : FlushFault) → flush_status fault ≡ OutWrite → ⊥
-flush-write (flush.Flash Media) is = cc is
-flush-write (flush.Flash PowerLost) is = cc is
+flush-write (flush.Flash fault) is = cc is
 flush-write flush.Stopped is = cc is
 
 pub broken-is : (taken : Result (Unit {0}) ToolStatus) → is_broken taken ≡ true → taken ≡ Err Device
-broken-is (Ok all) is = cc
 broken-is (Err Device) is = refl
-broken-is (Err Done) is = cc
-broken-is (Err InputRead) is = cc
-broken-is (Err OutWrite) is = cc
-broken-is (Err InputLong) is = cc
-broken-is (Err NoMemory) is = cc
-broken-is (Err NotImage) is = cc
-broken-is (Err (BadImage n)) is = cc
-broken-is (Err NoTable) is = cc
-broken-is (Err (BadInput n)) is = cc
-broken-is (Err Unsound) is = cc
+broken-is taken is = cc
 
 -- ---- the table was flushed, and it was told how many lines were put, where they were taken to their end
 
@@ -286,6 +236,5 @@ module _ {X : Type 0} (gone : GoneBlobs) (counts : LinesTaken) (written : X → 
 
   pub all-write : (taken : Result (Unit {0}) ToolStatus) → IfErr taken Untold → IfOk taken Told? → faults start ≤ faults mid → (taken ≡ Err OutWrite → Rose (faults start) (faults mid)) → result ≡ OutWrite → Rose (faults start) (faults now)
   all-write (Ok all) none tells later write is =
-      let t = subst (λ (s : ToolStatus). TellsCounts gone counts (written mid) (written now) (faults mid) (faults now) s) is tells in
-      rose-back (faults start) (faults mid) (faults now) later t.1
+      rose-back (faults start) (faults mid) (faults now) later (subst (λ (s : ToolStatus). TellsCounts gone counts (written mid) (written now) (faults mid) (faults now) s) is tells).1
   all-write (Err status) none tells later write is = subst (λ (x : X). Rose (faults start) (faults x)) (sym none.1) (write (ap (λ (s : ToolStatus). Err s) (sym none.0 ∙ is)))

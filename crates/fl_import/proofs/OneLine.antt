@@ -1,8 +1,7 @@
 -- One line of an import over a table that is mounted.
-use Rattle.std.proofs.Common.{None, ◌≡◌, ℕ, ◌⊎◌, inl, inr, Bool, false, IsErr, IfErr, Option, Some, Result, Ok, Err, List, [], ◌++◌, refl, sym, ◌∙◌, ap, subst}
-use Rattle.std.proofs.lemmas.Bool.{true≢false}
+use Rattle.std.proofs.Common.{None, ◌≡◌, ℕ, ◌⊎◌, inl, inr, Bool, false, IsErr, IfErr, Option, Some, Result, Ok, Err, List, [], ◌++◌, refl, sym, ◌∙◌, ap, subst, true≢false}
 use Rattle.std.proofs.lemmas.Option.{none-some}
-use Rattle.fl_base.specs.Causes.{Rose, HasCause, Appends, AppendsFront}
+use Rattle.fl_base.specs.Causes.{Rose, Appends, AppendsFront}
 use Rattle.fl_base.specs.declared.stream.SinkFailed.{SinkFailed}
 use Rattle.fl_csv.specs.declared.record.GoneBlobs.{GoneBlobs}
 use Rattle.fl_csv.specs.declared.record.CsvRefusal.{CsvRefusal}
@@ -38,7 +37,7 @@ use Rattle.fl_csv.specs.Lines.{line_put}
 use Rattle.fl_import.specs.Counting.{put_end}
 use Rattle.fl_import.specs.Lines.{meaning}
 use Rattle.fl_import.specs.Report.{number_text, reason_line}
-use Rattle.fl_import.specs.Steps.{IsOfLine, LineEnds, by_told, fault_in, is_unread}
+use Rattle.fl_import.specs.Steps.{LineEnds, by_told, fault_in, is_unread}
 use Rattle.fl_import.specs.declared.line_end.LineEnd.{LineEnd}
 use Rattle.fl_store.specs.Works.{Works}
 use Rattle.fl_store.proofs.Failing.{put-work}
@@ -52,15 +51,9 @@ not-written e = cc
 
 -- the medium failed in a put that is told so
 pub put-rose : (f g : FlashState) (outcome : Result (Unit {0}) PutRefusal) (fault : FlashFault) → IsUnarmed f → fault_in outcome ≡ Some fault → IfErr outcome (λ e. PutCausedBy f e g) → Rose f.media.faults g.media.faults
-put-rose f g (Ok done) fault unarmed breaks cause = absurd (none-some fault breaks)
-put-rose f g (Err (refusal.Key last)) fault unarmed breaks cause = absurd (none-some fault breaks)
-put-rose f g (Err (refusal.Columns wanted)) fault unarmed breaks cause = absurd (none-some fault breaks)
-put-rose f g (Err (refusal.Value column)) fault unarmed breaks cause = absurd (none-some fault breaks)
-put-rose f g (Err (refusal.Blob limit)) fault unarmed breaks cause = absurd (none-some fault breaks)
-put-rose f g (Err refusal.Spent) fault unarmed breaks cause = absurd (none-some fault breaks)
-put-rose f g (Err refusal.Stopped) fault unarmed breaks cause = absurd (none-some fault breaks)
 put-rose f g (Err (refusal.Flash Media)) fault unarmed breaks cause = cause
 put-rose f g (Err (refusal.Flash PowerLost)) fault unarmed breaks cause = absurd (never-lost f g unarmed cause)
+put-rose f g outcome fault unarmed breaks cause = absurd (none-some fault breaks)
 
 pub one-status : (a b : ToolStatus) → ◌≡◌ {A = Result LineEnd ToolStatus} (Err a) (Err b) → a ≡ b
 one-status a b e = cc
@@ -80,17 +73,9 @@ pub means-either : (gone : GoneBlobs) (columns : ℕ) (blobs : Bool) (line read 
 means-either gone columns blobs line read why is (inl none) = inl none
 means-either gone columns blobs line read why is (inr means) = inr (ap (line_put gone columns blobs) (sym is) ∙ means)
 
-pub told-write : (a b : ℕ) (told : Result (Unit {0}) SinkFailed) → HasCause a b told → by_told told ≡ Err OutWrite → Rose a b
-told-write a b (Ok done) cause is = cc
-told-write a b (Err failed) cause is = cause.failed
-
 pub told-device : {P : Type 0} (told : Result (Unit {0}) SinkFailed) → by_told told ≡ Err Device → P
 told-device (Ok done) is = absurd (cc is)
 told-device (Err failed) is = absurd (cc is)
-
-pub told-status : (told : Result (Unit {0}) SinkFailed) → IfErr (by_told told) IsOfLine
-told-status (Ok done) = tt
-told-status (Err failed) = tt
 
 module _ (first : ℕ) (plan : Plan) (table : model.Table) (t u : LoggedTable 64 64) (f g : FlashState) (works : Works t f first plan table) where
   works-same : u ≡ t → g ≡ f → Works u g first plan table
@@ -122,8 +107,7 @@ module _ (first : ℕ) (plan : Plan) (table : model.Table) (t u : LoggedTable 64
 
       pub ends-put : Goes f g → told_now ≡ told → PutEnds first plan item table (has_risen f g) works.device (Ok tt) u f g → LineEnds lacking first plan table number put u g told told_now (Ok (put_end lacking))
       ends-put goes same ends =
-          let done = works-done first plan table t u f g works DidPut (put-work plan item table) goes (put_record plan item table) ends.1 in
-          rw (is, ends.0) (refl, done, subst (λ (o : Option (List ℕ)). Appends told o []) (sym same) (appends-none told))
+          rw (is, ends.0) (refl, works-done first plan table t u f g works DidPut (put-work plan item table) goes (put_record plan item table) ends.1, subst (λ (o : Option (List ℕ)). Appends told o []) (sym same) (appends-none told))
 
       broken-by : (fault : FlashFault) → told_now ≡ told → refusal_of plan table item ≡ None → Breaks first plan (DidPut (has_risen f g) works.device) fault g →
           LineEnds lacking first plan table number put u g told told_now (Err Device)
@@ -134,14 +118,8 @@ module _ (first : ℕ) (plan : Plan) (table : model.Table) (t u : LoggedTable 64
 
       pub ends-broken : (outcome : Result (Unit {0}) PutRefusal) (fault : FlashFault) → fault_in outcome ≡ Some fault → told_now ≡ told → PutEnds first plan item table (has_risen f g) works.device outcome u f g →
           LineEnds lacking first plan table number put u g told told_now (Err Device)
-      ends-broken (Ok done) fault breaks same ends = absurd (none-some fault breaks)
-      ends-broken (Err (refusal.Key last)) fault breaks same ends = absurd (none-some fault breaks)
-      ends-broken (Err (refusal.Columns wanted)) fault breaks same ends = absurd (none-some fault breaks)
-      ends-broken (Err (refusal.Value column)) fault breaks same ends = absurd (none-some fault breaks)
-      ends-broken (Err (refusal.Blob limit)) fault breaks same ends = absurd (none-some fault breaks)
-      ends-broken (Err refusal.Spent) fault breaks same ends = absurd (none-some fault breaks)
-      ends-broken (Err refusal.Stopped) fault breaks same ends = absurd (none-some fault breaks)
       ends-broken (Err (refusal.Flash own)) fault breaks same ends = broken-by own same ends.0 ends.1
+      ends-broken outcome fault breaks same ends = absurd (none-some fault breaks)
 
       pub ends-told : (why : PutRefusal) → fault_in (Err why) ≡ None → PutEnds first plan item table (has_risen f g) works.device (Err why) u f g → RefusedSame t f why u g →
           (wrote : Result (Unit {0}) SinkFailed) → Written told told_now wrote (number_text number ++ text (put_reply (Err why))) → LineEnds lacking first plan table number put u g told told_now (by_told wrote)

@@ -1,10 +1,9 @@
 -- Lines of an input that are taken one after another.
-use Rattle.std.proofs.Common.{◌≡◌, ℕ, ◌+◌, ◌^◌, ◌<◌, ◌≤◌, ◌⊎◌, inl, inr, Bool, true, false, Option, Some, Result, Ok, Err, List, [], ◌∷◌, ◌++◌, length, refl, sym, ◌∙◌, ap, subst, append_assoc, append-nil, arith}
-use Rattle.std.proofs.lemmas.Bool.{lt-ltb}
+use Rattle.std.proofs.Common.{◌≡◌, ℕ, ◌+◌, ◌^◌, ◌<◌, ◌≤◌, ◌⊎◌, inl, inr, Bool, true, false, Option, Some, Result, Ok, Err, List, [], ◌∷◌, ◌++◌, length, refl, sym, ◌∙◌, ap, subst, append_assoc, append-nil, arith, lt-ltb}
 use Rattle.std.specs.List.{AllByRecursion}
 use Rattle.fl_csv.specs.Lines.{IsHeader}
 use Rattle.fl_image.specs.declared.status.ToolStatus.{ToolStatus}
-use Rattle.fl_image.specs.declared.status.ToolStatus.TheVariants.{Done, InputRead, OutWrite, InputLong, NoMemory, NotImage, Device, BadImage, NoTable, BadInput, Unsound}
+use Rattle.fl_image.specs.declared.status.ToolStatus.TheVariants.{Done, InputRead, InputLong, NoMemory, BadInput}
 use Rattle.fl_lines.specs.Given.{Given}
 use Rattle.fl_lines.specs.Stream.{LinesState, Advances, Gives, TakesAhead}
 use Rattle.fl_lines.specs.Taken.{HasTaken, TakesFew}
@@ -38,13 +37,11 @@ bad-long columns blobs (first ∷ taken) line others long = long
 given-next : (text : List ℕ) (taken : List (List ℕ)) (old new : LinesState) (rest left : List ℕ) → Given most_bytes text taken old.closed old.most rest → Gives old rest (Ok true) new left →
     Given most_bytes text (taken ++ new.line ∷ []) new.closed new.most (new.ahead ++ left) ⊎ (IsTooLong most_bytes text taken × (4096 < length new.line))
 given-next text taken old new rest left g (inl w) =
-    let g' = subst (λ b. Given most_bytes text taken b old.most rest) w.open_before g in
-    let h = given-line most_bytes text taken old.most rest new.line (new.ahead ++ left) g' w.split w.one w.fits in
+    let h = given-line most_bytes text taken old.most rest new.line (new.ahead ++ left) (subst (λ b. Given most_bytes text taken b old.most rest) w.open_before g) w.split w.one w.fits in
     inl (subst (λ b. Given most_bytes text (taken ++ new.line ∷ []) b new.most (new.ahead ++ left)) (sym w.open_now)
     (subst (λ m. Given most_bytes text (taken ++ new.line ∷ []) false m (new.ahead ++ left)) (sym w.most) h))
 given-next text taken old new rest left g (inr (inl w)) =
-    let g' = subst (λ b. Given most_bytes text taken b old.most rest) w.open_before g in
-    let h = given-last most_bytes text taken old.most new.most rest new.line (new.ahead ++ left) g' w.split w.nothing w.one w.some w.fits in
+    let h = given-last most_bytes text taken old.most new.most rest new.line (new.ahead ++ left) (subst (λ b. Given most_bytes text taken b old.most rest) w.open_before g) w.split w.nothing w.one w.some w.fits in
     inl (subst (λ b. Given most_bytes text (taken ++ new.line ∷ []) b new.most (new.ahead ++ left)) (sym w.closed_now) h)
 given-next text taken old new rest left g (inr (inr w)) =
     inr (given-too_long most_bytes text taken old.closed old.most rest new.line w.others g w.split w.one w.long w.fits, w.long)
@@ -105,8 +102,7 @@ module _ (columns : ℕ) (blobs : Bool) (text : List ℕ) (taken : List (List �
 
   pub stops-none : Given? (Ok false) → (number : ℕ) → number ≡ length taken + 1 → taken ≡ [] → TakesThese columns blobs text taken left_now (BadInput number)
   stops-none advances number is none =
-      let g = goes (Ok false) advances in
-      let all = given-all most_bytes text taken old.closed old.most (old.ahead ++ h.rest) h.given g.2 in
+      let all = given-all most_bytes text taken old.closed old.most (old.ahead ++ h.rest) h.given (goes (Ok false) advances).2 in
       record { left = []; takes = takes [] (all.0 ∙ sym (append-nil taken)); few = few-next (Ok false) advances; stops = (is, subst (λ (ls : List (List ℕ)). IsBad columns blobs ls []) (sym none) tt) }
 
   -- it is too long
@@ -143,8 +139,7 @@ module _ (columns : ℕ) (blobs : Bool) (text : List ℕ) (taken : List (List �
   stops-read advances =
       let g = goes (Err Failed) advances in
       let part = g.2 in
-      let open_given = subst (λ b. Given most_bytes text taken b old.most (old.ahead ++ h.rest)) part.open_before h.given in
-      let w = given-taken most_bytes text taken old.most (old.ahead ++ h.rest) new.ahead g.0 open_given part.split part.one part.fits part.short in
+      let w = given-taken most_bytes text taken old.most (old.ahead ++ h.rest) new.ahead g.0 (subst (λ b. Given most_bytes text taken b old.most (old.ahead ++ h.rest)) part.open_before h.given) part.split part.one part.fits part.short in
       record {
         left = lines_within old.most (old.ahead ++ h.rest);
         takes = takes (lines_within old.most (old.ahead ++ h.rest)) h.given.lines;
@@ -156,8 +151,7 @@ module _ (columns : ℕ) (blobs : Bool) (text : List ℕ) (taken : List (List �
   stops-more advances =
       let g = goes (Err Long) advances in
       let part = g.2.1 in
-      let open_given = subst (λ b. Given most_bytes text taken b old.most (old.ahead ++ h.rest)) part.open_before h.given in
-      let all = given-most most_bytes text taken old.most (old.ahead ++ h.rest) new.ahead g.2.0 open_given part.split part.one g.2.2 part.short g.2.3 in
+      let all = given-most most_bytes text taken old.most (old.ahead ++ h.rest) new.ahead g.2.0 (subst (λ b. Given most_bytes text taken b old.most (old.ahead ++ h.rest)) part.open_before h.given) part.split part.one g.2.2 part.short g.2.3 in
       record {
         left = [];
         takes = takes [] (all.0 ∙ sym (append-nil taken));
@@ -174,14 +168,7 @@ module _ (columns : ℕ) (blobs : Bool) (text : List ℕ) (taken : List (List �
   stops-next number is given InputRead advances next = stops-read (subst Given? next advances)
   stops-next number is given InputLong advances next = stops-more (subst Given? next advances)
   stops-next number is given (BadInput n) advances next = stops-long (subst Given? next.0 advances) next.2 n (next.1 ∙ is)
-  stops-next number is given Done advances next = absurd next
-  stops-next number is given OutWrite advances next = absurd next
-  stops-next number is given NoMemory advances next = absurd next
-  stops-next number is given NotImage advances next = absurd next
-  stops-next number is given Device advances next = absurd next
-  stops-next number is given (BadImage table) advances next = absurd next
-  stops-next number is given NoTable advances next = absurd next
-  stops-next number is given Unsound advances next = absurd next
+  stops-next number is given status advances next = absurd next
 
 -- the first line isn't that of the names
 pub stops-other : (columns : ℕ) (blobs : Bool) (text : List ℕ) (old new : LinesState) (left left_now : Option (List ℕ)) (faults faults_now : ℕ) → TakesSoFar columns blobs text [] old left → Advances old left faults (Ok true) new left_now faults_now →

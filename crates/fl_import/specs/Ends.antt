@@ -201,12 +201,9 @@ abbrev pub StatusFits : List ℕ → List ℕ → Option (List ℕ) → Option (
 StatusFits bytes name text rest NotImage = (lines : Lines) → IsAccepted lines → IsImageOf bytes lines → ⊥
 StatusFits bytes name text rest NoTable = IsImageWith bytes name false
 StatusFits bytes name text rest (BadImage table) = IsImageOver bytes name table × (rest ≡ text)
-StatusFits bytes name text rest Done = IsImageFor bytes name text (EndsLines rest Done)
-StatusFits bytes name text rest InputRead = IsImageFor bytes name text (EndsLines rest InputRead)
-StatusFits bytes name text rest InputLong = IsImageFor bytes name text (EndsLines rest InputLong)
-StatusFits bytes name text rest (BadInput number) = IsImageFor bytes name text (EndsLines rest (BadInput number))
 StatusFits bytes name text rest OutWrite =
     IsImageFor bytes name text (λ columns blobs l. TakesUntil columns blobs l rest OutWrite ⊎ TakesUntil columns blobs l rest Done)
 StatusFits bytes name text rest NoMemory = MayTake bytes name text rest
 StatusFits bytes name text rest Device = MayTake bytes name text rest
 StatusFits bytes name text rest Unsound = ⊥
+StatusFits bytes name text rest status = IsImageFor bytes name text (EndsLines rest status)

@@ -14,7 +14,6 @@ use Rattle.fl_image.specs.declared.status.ToolStatus.TheVariants.{Done, InputRea
 use Rattle.fl_model.specs.Record.{Record, Plan, has_var}
 use Rattle.fl_model.specs.Table as model
 use Rattle.fl_model.specs.Table.{refusal_of, lose}
-use Rattle.fl_model.specs.Work as work
 use Rattle.fl_rlc.specs.Logged.{Rests, Stands}
 use Rattle.fl_rlc.specs.declared.table.LoggedTable.{LoggedTable}
 use Rattle.fl_table.specs.declared.faults.FlushFault.{FlushFault}

@@ -1,9 +1,7 @@
 -- Tables of one configuration, whose rings stand beside the one that a call changes.
-use Rattle.std.proofs.Common.{◌≡◌, ℕ, zero, suc, ◌+◌, ◌*◌, ◌%◌, ◌<◌, ◌≤◌, ◌⊎◌, Bool, true, false, inl, inr, Some, List, [], ◌∷◌, take, sym, ◌∙◌, ap, arith}
-use Rattle.std.specs.Prelude.{MatchBool}
+use Rattle.std.proofs.Common.{◌≡◌, ℕ, zero, suc, ◌+◌, ◌*◌, ◌%◌, ◌<◌, ◌≤◌, ◌⊎◌, Bool, true, false, inl, inr, Some, List, [], ◌∷◌, take, sym, ◌∙◌, ap, arith, MatchBool, slice_get}
 use Rattle.std.proofs.lemmas.Bool.{cases_order, ltb-true}
 use Rattle.std.proofs.lemmas.List.Sums.{sum_by-cons}
-use Rattle.std.specs.List.{slice_get}
 use Rattle.std.proofs.lemmas.Option.{none-some}
 use Rattle.fl_base.specs.declared.types.Geometry.{Geometry}
 use Rattle.fl_flash.specs.Flash.{FlashState, page_at}
@@ -29,8 +27,7 @@ blocks-apart (p ∷ ps) zero (suc j) plan e lt =
     let same : p ≡ plan = cc in
     omega (arith, sum_by-cons blocks_of p (take j ps), ap blocks_of same)
 blocks-apart (p ∷ ps) (suc i) (suc j) plan e lt =
-    let k = blocks-apart ps i j plan e (omega (arith, lt)) in
-    omega (arith, k, sum_by-cons blocks_of p (take i ps), sum_by-cons blocks_of p (take j ps))
+    omega (arith, blocks-apart ps i j plan e (omega (arith, lt)), sum_by-cons blocks_of p (take i ps), sum_by-cons blocks_of p (take j ps))
 
 -- the pages of all rings of a table stand
 pub record AllApart (f g : FlashState) (first : ℕ) (plan : Plan) : Type 0 where

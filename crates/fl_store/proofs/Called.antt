@@ -1,7 +1,5 @@
 -- A store after a call of one of its tables, which leaves the pages of the others.
-use Rattle.std.proofs.Common.{◌≡◌, ℕ, ◌<◌, Bool, true, false, IsTrue, IfErr, Some, Result, Ok, Err, List, length, map, get_or, refl, sym, ◌∙◌, ap, subst}
-use Rattle.std.specs.Prelude.{MatchBool, OnOk, option_map}
-use Rattle.std.specs.List.{slice_get}
+use Rattle.std.proofs.Common.{◌≡◌, ℕ, ◌<◌, Bool, true, false, IsTrue, IfErr, IsErrAnd, Some, Result, Ok, Err, List, length, map, get_or, refl, sym, ◌∙◌, ap, subst, MatchBool, OnOk, option_map, slice_get}
 use Rattle.std.proofs.lemmas.List.{length-map}
 use Rattle.std.proofs.lemmas.Option.{slice_get-map}
 use Rattle.fl_flash.specs.Flash.{FlashState, Goes, page_at}
@@ -92,12 +90,8 @@ module _ (config : Config) (tables : List model.Table) (entries : List Entry) (a
         (e.0, record { now = e.1.now; did = e.1.did; whole = e.1.whole; counts = e.1.counts; power = e.1.power; holds = holds-done (put_record plan item table) e.1.stands })
     put-ends item rose device (Err (put.Flash fault)) e =
         (e.0, record { now = e.1.now; did = e.1.did; answer = e.1.answer; counts = e.1.counts; holds = holds-broken e.1.now.state e.1.rests })
-    put-ends item rose device (Err (put.Key last)) e = e
-    put-ends item rose device (Err (put.Columns wanted)) e = e
-    put-ends item rose device (Err (put.Value column)) e = e
-    put-ends item rose device (Err (put.Blob limit)) e = e
-    put-ends item rose device (Err put.Spent) e = e
     put-ends item rose device (Err put.Stopped) e = absurd e
+    put-ends item rose device result e = e
 
     pub flush-ends : (rose : Bool) (device : Device) (result : Result (Unit {0}) FlushFault) → outcomes.FlushEnds first plan table rose device result u f g →
         FlushEnds config tables at plan table rose device result (entries_with entries at entry u) g
@@ -112,18 +106,16 @@ module _ (config : Config) (tables : List model.Table) (entries : List Entry) (a
 pub entry-at : (entries : List Entry) (at : ℕ) (entry : Entry) → at < length entries → entry ≡ get_or entries at entry → slice_get entries at ≡ Some entry
 entry-at entries at entry within is = item-there entries (length entries) at entry refl within is
 
+pub own-entry : (entries : List Entry) (at : ℕ) (entry other : Entry) → at < length entries → entry ≡ get_or entries at entry → slice_get entries at ≡ Some other → other ≡ entry
+own-entry entries at entry other within is there = some-is (slice_get entries at) other entry there (entry-at entries at entry within is)
+
 module _ (entries : List Entry) (at : ℕ) (entry : Entry) (u : LoggedTable 64 64) (here : slice_get entries at ≡ Some entry) where
   pub same-entries : u ≡ entry.table → entries_with entries at entry u ≡ entries
   same-entries e = ap (λ t. entries_with entries at entry t) e ∙ set-same entries at entry here
 
   refused-so : (f g : FlashState) (e : PutRefusal) → RefusedSame entry.table f e u g → IsRefusedSame entries f e (entries_with entries at entry u) g
   refused-so f g (put.Flash fault) h = tt
-  refused-so f g (put.Key last) h = (same-entries h.0, h.1)
-  refused-so f g (put.Columns wanted) h = (same-entries h.0, h.1)
-  refused-so f g (put.Value column) h = (same-entries h.0, h.1)
-  refused-so f g (put.Blob limit) h = (same-entries h.0, h.1)
-  refused-so f g put.Spent h = (same-entries h.0, h.1)
-  refused-so f g put.Stopped h = (same-entries h.0, h.1)
+  refused-so f g refusal h = (same-entries h.0, h.1)
 
   pub put-refused : (f g : FlashState) (result : Result (Unit {0}) PutRefusal) → IfErr result (λ e. RefusedSame entry.table f e u g) → IfErr result (λ e. IsRefusedSame entries f e (entries_with entries at entry u) g)
   put-refused f g (Ok done) h = tt
@@ -140,3 +132,8 @@ put-logged entries at entry other row f g result here there goes h = subst (λ (
 pub on-ok : {T E : Type 0} (A B : Type 0) (result : Result T E) → OnOk result (A → B) → A → OnOk result B
 on-ok A B (Ok done) h a = h a
 on-ok A B (Err e) h a = tt
+
+-- what a `?` hands up
+pub err-is : {T E : Type 0} (result : Result T E) (e : E) → IsErrAnd result (λ other. other ≡ e) → result ≡ Err e
+err-is (Ok done) e h = absurd h
+err-is (Err other) e h = ap (λ x. Err x) h

@@ -1,6 +1,5 @@
 -- A mounted table of an image that was changed, while those beside it stand.
-use Rattle.std.proofs.Common.{◌≡◌, ℕ, true, false, IsTrue, Some, List, map, refl}
-use Rattle.std.specs.List.{slice_get}
+use Rattle.std.proofs.Common.{◌≡◌, ℕ, true, false, IsTrue, Some, List, map, refl, slice_get}
 use Rattle.fl_store.specs.Store.{at_rest}
 use Rattle.fl_store.proofs.Risen.{has_risen, mounts-unarmed}
 use Rattle.fl_flash.specs.Flash.{FlashState, Goes, page_at}

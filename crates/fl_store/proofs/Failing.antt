@@ -1,6 +1,5 @@
 -- Operations while no cut is armed: they are done, or the medium fails in one.
-use Rattle.std.proofs.Common.{◌≡◌, ℕ, ◌-◌, inl, inr, Bool, true, Option, Some, None, List, [], ◌∷◌, refl, sym, ◌∙◌, ap, subst}
-use Rattle.std.specs.Prelude.{option_map, unwrap_or, ◌==◌, if◌then◌else◌}
+use Rattle.std.proofs.Common.{◌≡◌, ℕ, ◌-◌, inl, inr, Bool, true, Option, Some, None, List, [], ◌∷◌, refl, sym, ◌∙◌, ap, subst, option_map, unwrap_or, ◌==◌, if◌then◌else◌}
 use Rattle.fl_base.specs.declared.types.CutKind.{CutKind}
 use Rattle.fl_model.specs.Puts.{TablePuts, TablePutGoesOn}
 use Rattle.fl_model.specs.Record.{Record, Plan}

@@ -8,7 +8,7 @@ use Rattle.fl_flash.specs.Media.{MediaState}
 use Rattle.fl_image.specs.Header.{IsMade}
 use Rattle.fl_image.specs.Image.{OnlyLooksAt}
 use Rattle.fl_image.specs.declared.status.ToolStatus.{ToolStatus}
-use Rattle.fl_image.specs.declared.status.ToolStatus.TheVariants.{Done, InputRead, OutWrite, InputLong, NoMemory, NotImage, Device, BadImage, NoTable, BadInput, Unsound}
+use Rattle.fl_image.specs.declared.status.ToolStatus.TheVariants.{NoMemory, NotImage, Device, NoTable}
 use Rattle.fl_machine.specs.Step.{located_from}
 use Rattle.fl_model.specs.Record.{Config}
 use Rattle.fl_model.specs.Table.{Table}
@@ -37,13 +37,7 @@ module _ (old new : MediaState) (name : List ℕ) where
   by-none P NoTable none image table device memory = table none
   by-none P Device none image table device memory = device none
   by-none P NoMemory none image table device memory = memory
-  by-none P Done none image table device memory = absurd none
-  by-none P InputRead none image table device memory = absurd none
-  by-none P OutWrite none image table device memory = absurd none
-  by-none P InputLong none image table device memory = absurd none
-  by-none P (BadImage at) none image table device memory = absurd none
-  by-none P (BadInput line) none image table device memory = absurd none
-  by-none P Unsound none image table device memory = absurd none
+  by-none P status none image table device memory = absurd none
 
   -- ---- over an image that stands for tables
 

@@ -1,8 +1,5 @@
 -- The tables of an image, over a flash on its medium.
-use Rattle.std.proofs.Common.{◌≡◌, ℕ, zero, suc, ◌+◌, ◌*◌, ◌^◌, ◌<◌, ◌≤◌, Bool, true, false, ◌||◌, nat_lt, Some, None, IfSome, List, [], ◌∷◌, length, take, refl, sym, ◌∙◌, ap, subst, le_trans, arith}
-use Rattle.std.specs.Prelude.{sum_by}
-use Rattle.std.specs.List.{slice_get}
-use Rattle.std.proofs.lemmas.Bool.{ltb-false}
+use Rattle.std.proofs.Common.{◌≡◌, ℕ, zero, suc, ◌+◌, ◌*◌, ◌^◌, ◌<◌, ◌≤◌, Bool, true, false, ◌||◌, nat_lt, Some, None, IfSome, List, [], ◌∷◌, length, take, refl, sym, ◌∙◌, ap, subst, le_trans, arith, sum_by, slice_get, ltb-false}
 use Rattle.std.proofs.lemmas.List.Sums.{sum_by-take-le}
 use Rattle.std.proofs.lemmas.Option.{slice_get_within, none-some}
 use Rattle.fl_base.specs.declared.types.Geometry.{Geometry}
@@ -86,9 +83,8 @@ tables-image config entries f tables len head start geometry h = record {
   head = head;
   tables_are = images-of config f.media.content 0 config.plans tables h.all (λ i plan table p r.
       let entry = slice_get-some entries i (omega (arith, slice_get_within config.plans i plan p, h.as_many)) in
-      let own = h.each i plan entry.0 table p entry.1 r in
       subst (λ n. IsTableImage config f.media.content n plan table) (let m : i ≡ 0 + i = omega arith in m)
-      (rests-image config i plan table f start geometry own.on_flash));
+      (rests-image config i plan table f start geometry (h.each i plan entry.0 table p entry.1 r).on_flash));
 }
 
 -- ---- new tables lie on a flash of their configuration

@@ -1,8 +1,5 @@
 -- What a call of one table leaves of all tables in memory.
-use Rattle.std.proofs.Common.{◌≡◌, ℕ, zero, suc, ◌≤◌, Bool, true, false, not, ◌&&◌, ◌||◌, is_some, Option, None, Some, Result, Ok, Err, List, [], ◌∷◌, length, refl, sym, ◌∙◌, ap, subst, arith}
-use Rattle.std.specs.Prelude.{OnOk, option_map, unwrap_or}
-use Rattle.std.specs.List.{slice_get}
-use Rattle.std.proofs.lemmas.List.{length-set}
+use Rattle.std.proofs.Common.{◌≡◌, ℕ, zero, suc, ◌≤◌, Bool, true, false, not, ◌&&◌, ◌||◌, is_some, Option, None, Some, Result, Ok, Err, List, [], ◌∷◌, length, refl, sym, ◌∙◌, ap, subst, arith, OnOk, option_map, unwrap_or, slice_get, length-set}
 use Rattle.fl_model.specs.Record.{Record, RowLayout}
 use Rattle.fl_rlc.specs.Rows.{AreBegun, HaveLogged}
 use Rattle.fl_rlc.specs.Table.{IsSamePlan, is_running, is_stopped, log_in, table_in}

@@ -1,7 +1,5 @@
 -- Tables that were mounted one after another, over any bytes.
-use Rattle.std.proofs.Common.{◌≡◌, ℕ, zero, suc, ◌+◌, ◌<◌, ◌≤◌, Some, List, take, refl, ◌∙◌, ap, subst, arith}
-use Rattle.std.specs.List.{slice_get}
-use Rattle.std.proofs.lemmas.List.{length-take}
+use Rattle.std.proofs.Common.{◌≡◌, ℕ, zero, suc, ◌+◌, ◌<◌, ◌≤◌, Some, List, take, refl, ◌∙◌, ap, subst, arith, slice_get, length-take}
 use Rattle.std.proofs.lemmas.Option.{slice_get_within}
 use Rattle.fl_flash.specs.Flash.{FlashState}
 use Rattle.fl_model.proofs.Lists.{slice_get-take, slice_get-front}
@@ -49,8 +47,7 @@ repairs-none entries f = record { programs = omega arith; erases = omega arith }
 -- an element of a front is one of a longer front
 front-there : {X : Type 0} (xs : List X) (n i : ℕ) (x : X) → slice_get (take n xs) i ≡ Some x → slice_get (take (suc n) xs) i ≡ Some x
 front-there xs n i x e =
-    let within = slice_get_within (take n xs) i x e in
-    slice_get-take (suc n) xs i (omega (arith, within, length-take n xs)) ∙ slice_get-front n xs i x e
+    slice_get-take (suc n) xs i (omega (arith, slice_get_within (take n xs) i x e, length-take n xs)) ∙ slice_get-front n xs i x e
 
 some-more : (f m n a b c : ℕ) → m ≤ f + a → n ≤ m + b → c ≡ a + b → n ≤ f + c
 some-more f m n a b c first then all = omega (arith, first, then, all)

@@ -1,11 +1,7 @@
 -- The pages of a medium that was just made.
-use Rattle.std.proofs.Common.{◌≡◌, ℕ, ◌+◌, ◌-◌, ◌*◌, ◌≤◌, inl, inr, Bool, true, false, ◌==◌, IsTrue, Option, Some, Ok, [], ◌∷◌, List, ◌++◌, length, take, drop, slice_range, sum_by, refl, sym, ◌∙◌, ap, subst, arith}
-use Rattle.std.specs.Prelude.{replicate}
-use Rattle.std.proofs.Common.{length-append}
+use Rattle.std.proofs.Common.{◌≡◌, ℕ, ◌+◌, ◌-◌, ◌*◌, ◌≤◌, inl, inr, Bool, true, false, ◌==◌, IsTrue, Option, Some, Ok, [], ◌∷◌, List, ◌++◌, length, take, drop, slice_range, sum_by, refl, sym, ◌∙◌, ap, subst, arith, replicate, length-append, eqb-true, mul-le-mul_right}
 use Rattle.std.proofs.lemmas.List.{drop-replicate, length-replicate, take-replicate}
-use Rattle.std.proofs.lemmas.Bool.{eqb-true}
 use Rattle.std.proofs.Math.Seq.{drop-append-add}
-use Rattle.std.proofs.Math.Nat.{mul-le-mul_right}
 use Rattle.fl_base.specs.declared.types.Geometry.{Geometry}
 use Rattle.fl_config.specs.Opening.{IsMade, Opens}
 use Rattle.fl_config.specs.Whole.{is_whole, Makes}
@@ -47,10 +43,9 @@ len-of lines config geometry makes device =
 pub blank-behind : (lines : Lines) (config : Config) (geometry : Geometry) (content : List ℕ) → Makes lines config → lines.device ≡ Some geometry → content ≡ header config ++ replicate (medium_len config - 1024) 255 → length (header config) ≡ 1024 →
     IsBlankBehind geometry (sum_by blocks_of lines.plans) content
 blank-behind lines config geometry content makes device e size p within =
-    let all = len-of lines config geometry makes device in
     let fits : (p + 1) * geometry.page ≤ sum_by blocks_of lines.plans * geometry.block * geometry.page = mul-le-mul_right geometry.page (omega (arith, within)) in
     ap (λ c. slice_range c (1024 + p * geometry.page) (1024 + p * geometry.page + geometry.page)) e
-    ∙ bytes-behind (header config) (medium_len config - 1024) (1024 + p * geometry.page) geometry.page (omega (arith, size)) (omega (arith, size, all, fits))
+    ∙ bytes-behind (header config) (medium_len config - 1024) (1024 + p * geometry.page) geometry.page (omega (arith, size)) (omega (arith, size, len-of lines config geometry makes device, fits))
 
 new-blank : (lines : Lines) (config : Config) (old new : MediaState) (geometry : Geometry) → Makes lines config → lines.device ≡ Some geometry → IsMade (medium_len config) (header config) old new → IsTrue new.tells →
     IsBlankBehind geometry (sum_by blocks_of lines.plans) new.content

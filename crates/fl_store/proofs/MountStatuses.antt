@@ -15,23 +15,13 @@ use Rattle.fl_frame.specs.Causes.{IsUnarmed}
 -- what holds of each of the statuses of a mount
 pub by-mount : (P : ToolStatus → Type 0) (e : MountFault) (at : ℕ) → P Device → P (BadImage at) → P (mount_status e at)
 by-mount P (mount.Flash e) at device bad = device
-by-mount P (mount.Ring e) at device bad = bad
-by-mount P (mount.BadPage page) at device bad = bad
-by-mount P (mount.BadKeys page last key) at device bad = bad
-by-mount P (mount.BadIndex end next) at device bad = bad
-by-mount P (mount.BadBlob page next) at device bad = bad
-by-mount P (mount.BadEntry page count limit) at device bad = bad
+by-mount P fault at device bad = bad
 
 -- it tells the device only where the medium failed, since no power is lost
 pub mount-rose : (old new : FlashState) (e : MountFault) (at : ℕ) → IsUnarmed old → mount_status e at ≡ Device → MountCausedBy old e new → Rose old.media.faults new.media.faults
 mount-rose old new (mount.Flash Media) at unarmed is cause = cause
 mount-rose old new (mount.Flash PowerLost) at unarmed is cause = absurd (never-lost old new unarmed cause)
-mount-rose old new (mount.Ring e) at unarmed is cause = absurd (cc is)
-mount-rose old new (mount.BadPage page) at unarmed is cause = absurd (cc is)
-mount-rose old new (mount.BadKeys page last key) at unarmed is cause = absurd (cc is)
-mount-rose old new (mount.BadIndex end next) at unarmed is cause = absurd (cc is)
-mount-rose old new (mount.BadBlob page next) at unarmed is cause = absurd (cc is)
-mount-rose old new (mount.BadEntry page count limit) at unarmed is cause = absurd (cc is)
+mount-rose old new fault at unarmed is cause = absurd (cc is)
 
 -- .. and a bad table only by its place
 pub mount-place : (e : MountFault) (at table : ℕ) → mount_status e at ≡ BadImage table → at ≡ table

@@ -1,6 +1,5 @@
 -- Where a mount of tables stops.
-use Rattle.std.proofs.Common.{◌≡◌, ℕ, ◌<◌, ◌≤◌, true, false, Some, List, length, get_or, refl, sym, ◌∙◌, ap, arith}
-use Rattle.std.specs.List.{slice_get}
+use Rattle.std.proofs.Common.{◌≡◌, ℕ, ◌<◌, ◌≤◌, true, false, Some, List, length, get_or, refl, sym, ◌∙◌, ap, arith, slice_get}
 use Rattle.std.proofs.lemmas.Option.{slice_get_within}
 use Rattle.fl_rlc.specs.Table.{is_running}
 use Rattle.fl_rlc.specs.declared.table.LoggedTable.{LoggedTable}

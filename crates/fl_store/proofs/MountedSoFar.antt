@@ -1,11 +1,8 @@
 -- The mount of an image's tables, one after another.
-use Rattle.std.proofs.Common.{◌≡◌, ℕ, zero, suc, ◌+◌, ◌<◌, ◌≤◌, ◌⊎◌, Bool, true, false, nat_lt, if◌then◌else◌, inl, inr, Some, Err, List, [], ◌∷◌, ◌++◌, length, map, drop, refl, sym, ◌∙◌, ap, subst, arith}
-use Rattle.std.specs.Prelude.{option_map}
-use Rattle.std.specs.List.{slice_get}
+use Rattle.std.proofs.Common.{◌≡◌, ℕ, zero, suc, ◌+◌, ◌<◌, ◌≤◌, ◌⊎◌, Bool, true, false, nat_lt, if◌then◌else◌, inl, inr, Some, Err, List, [], ◌∷◌, ◌++◌, length, map, drop, refl, sym, ◌∙◌, ap, subst, arith, option_map, slice_get, eqb}
 use Rattle.std.proofs.lemmas.Bool.{cases_lt, lt-ltb, le-ltb}
 use Rattle.std.proofs.lemmas.Bool.Decides.{eqb_tells}
 use Rattle.std.proofs.lemmas.List.{drop_all, length-map}
-use Rattle.std.proofs.Math.Dec.{eqb}
 use Rattle.std.proofs.Math.Path.{fun_ext}
 use Rattle.std.proofs.lemmas.Option.{slice_get-map, slice_get_within, slice_get_past, none-some}
 use Rattle.fl_flash.specs.Flash.{FlashState, Goes, page_at}
@@ -15,7 +12,7 @@ use Rattle.fl_model.specs.Mount.{Mounts, MountEnd, Mounted, Stopped, Unread, tur
 use Rattle.fl_model.specs.Record.{Plan, has_log}
 use Rattle.fl_model.specs.Table as model
 use Rattle.fl_model.specs.Table.{lose}
-use Rattle.fl_model.specs.Work.{Device, Finished, changed_at, PartEnd, Whole, CutIn, FailedIn}
+use Rattle.fl_model.specs.Work.{Device, Finished, changed_at, PartEnd, Whole}
 use Rattle.fl_model.specs.Within.{TableMounts, TableMountEnd, TableMounted, TableStopped, TableUnread, MountsAlong, with_table, progress_at, outcome_at}
 use Rattle.fl_model.proofs.Among.{changed-there, changed-elsewhere}
 use Rattle.fl_model.proofs.Lists.{slice_get-some}
@@ -201,8 +198,7 @@ module _ (plans : List Plan) (start : List model.Table) (rose : Bool) (device : 
     where
       fault-is : (e : PartEnd model.Table) → FaultEnds e fault g → FaultIs (outcome_at k so_far.tables e) fault
       fault-is Whole h = absurd h
-      fault-is (CutIn before) h = h.0
-      fault-is (FailedIn before) h = h.0
+      fault-is end h = h.0
 
       by-how : (TableMounts own.plan rose (turns_of own.plan) so_far.now was (TableStopped b.now) × FaultEnds b.now.end fault g) ⊎ (TableMounts own.plan rose (turns_of own.plan) so_far.now was (TableUnread b.now) × (fault ≡ Media)) →
           (Mounts plans rose (turns_from 0 plans) device start (Stopped (progress_at k so_far.tables b.now)) × FaultIs (outcome_at k so_far.tables b.now.end) fault)
@@ -212,12 +208,7 @@ module _ (plans : List Plan) (start : List model.Table) (rose : Bool) (device : 
 
   pub mounted-err : (fault : MountFault) → MountEnds (first_of plans k) own.plan was rose so_far.now (Err fault) u g → MountBreaks plans start rose device fault (entries_with entries k entry u) g
   mounted-err (mount.Flash fault) h = mounted-broken fault h
-  mounted-err (mount.Ring fault) h = absurd h
-  mounted-err (mount.BadPage bad) h = absurd h
-  mounted-err (mount.BadKeys page last key) h = absurd h
-  mounted-err (mount.BadIndex end next) h = absurd h
-  mounted-err (mount.BadBlob page next) h = absurd h
-  mounted-err (mount.BadEntry page count limit) h = absurd h
+  mounted-err fault h = absurd h
 
 -- all were mounted
 all-ready-at : (plans : List Plan) (tables : List model.Table) (i : ℕ) (plan : Plan) (table : model.Table) → slice_get plans i ≡ Some plan → slice_get tables i ≡ Some table → slice_get (all_ready plans tables) i ≡ Some (made_ready plan table)

@@ -38,32 +38,22 @@ keeps-then a b c looks keeps = record {
 
 -- ---- the configuration that the image tells is the one that made it
 
-same-length : (lines : Lines) (a b : Config) → Makes lines a → Makes lines b → medium_len a ≡ medium_len b
-same-length lines a b x y =
+same-made : {X : Type 0} (of : Geometry → List Plan → X) (lines : Lines) (a b : Config) → Makes lines a → Makes lines b → of a.geometry a.plans ≡ of b.geometry b.plans
+same-made of lines a b x y =
     let p = made-by lines a x in
     let q = made-by lines b y in
     let geometry : a.geometry ≡ b.geometry = let k : ◌≡◌ {A = Option Geometry} (Some a.geometry) (Some b.geometry) = sym p.device_is ∙ q.device_is in cc in
-    ap (λ (g : Geometry). medium_len (record { geometry = g; plans = a.plans; knots = 0 })) geometry
-    ∙ ap (λ (l : List Plan). medium_len (record { geometry = b.geometry; plans = l; knots = 0 })) (sym p.plans_are ∙ q.plans_are)
-
-same-header : (lines : Lines) (a b : Config) → Makes lines a → Makes lines b → header a ≡ header b
-same-header lines a b x y =
-    let p = made-by lines a x in
-    let q = made-by lines b y in
-    let geometry : a.geometry ≡ b.geometry = let k : ◌≡◌ {A = Option Geometry} (Some a.geometry) (Some b.geometry) = sym p.device_is ∙ q.device_is in cc in
-    ap (λ (g : Geometry). header (record { geometry = g; plans = a.plans; knots = 0 })) geometry
-    ∙ ap (λ (l : List Plan). header (record { geometry = b.geometry; plans = l; knots = 0 })) (sym p.plans_are ∙ q.plans_are)
+    ap (λ (g : Geometry). of g a.plans) geometry ∙ ap (of b.geometry) (sym p.plans_are ∙ q.plans_are)
 
 pub made-image : (config : Config) (made : IsMade config) (content : List ℕ) (tables : List Table) → IsImage config content tables → IsImageOf content made.lines
 made-image config made content tables image = record {
-  head = record { whole = (made-by made.lines config made.makes).whole; text = λ other makes. image.head ∙ same-header made.lines config other made.makes makes };
-  size = λ other makes. image.len ∙ same-length made.lines config other made.makes makes;
+  head = record { whole = (made-by made.lines config made.makes).whole; text = λ other makes. image.head ∙ same-made (λ g plans. header (record { geometry = g; plans = plans; knots = 0 })) made.lines config other made.makes makes };
+  size = λ other makes. image.len ∙ same-made (λ g plans. medium_len (record { geometry = g; plans = plans; knots = 0 })) made.lines config other made.makes makes;
 }
 
 pub same-lines : (config : Config) (made : IsMade config) (content : List ℕ) (tables : List Table) (lines : Lines) → IsImage config content tables → IsAccepted lines → IsImageOf content lines → Makes lines config
 same-lines config made content tables lines image accepted is =
-    let own = made-image config made content tables image in
-    let same : lines ≡ made.lines = one-header (take 1024 content) lines made.lines (let k = length-take 1024 content in omega (arith, k)) accepted is.head made.accepted own.head in
+    let same : lines ≡ made.lines = one-header (take 1024 content) lines made.lines (let k = length-take 1024 content in omega (arith, k)) accepted is.head made.accepted (made-image config made content tables image).head in
     subst (λ (l : Lines). Makes l config) (sym same) made.makes
 
 -- .. and no other reason than the medium keeps it from being found

@@ -1,7 +1,5 @@
 -- The pages of the other tables are as they were but for what a mount repairs.
-use Rattle.std.proofs.Common.{◌≡◌, ℕ, zero, suc, ◌+◌, ◌-◌, ◌*◌, ◌%◌, ◌<◌, ◌≤◌, ◌⊎◌, inl, inr, true, false, nat_lt, Some, List, length, sum_by, sym, ◌∙◌, ap, subst, le_trans, arith}
-use Rattle.std.specs.List.{slice_get}
-use Rattle.std.proofs.Math.Nat.{mod-eq_of_lt, add-mul, mul-le-mul_right}
+use Rattle.std.proofs.Common.{◌≡◌, ℕ, zero, suc, ◌+◌, ◌-◌, ◌*◌, ◌%◌, ◌<◌, ◌≤◌, ◌⊎◌, inl, inr, true, false, nat_lt, Some, List, length, sum_by, sym, ◌∙◌, ap, subst, le_trans, arith, slice_get, mod-eq_of_lt, add-mul, mul-le-mul_right}
 use Rattle.std.proofs.lemmas.Bool.{cases_order, lt-ltb}
 use Rattle.std.proofs.lemmas.List.Sums.{sum_by-take-le}
 use Rattle.std.proofs.lemmas.Option.{slice_get_within}
@@ -94,8 +92,7 @@ block-of f plans entries tables i plan stood p =
     let within = slice_get_within plans i plan p in
     let entry = slice_get-some entries i (omega (arith, within, stood.as_many)) in
     let table = slice_get-some tables i (omega (arith, within, stood.all)) in
-    let own = stood.each i plan entry.0 table.0 p entry.1 table.1 in
-    ap (λ (x : Geometry). x.block) own.geometry
+    ap (λ (x : Geometry). x.block) (stood.each i plan entry.0 table.0 p entry.1 table.1).geometry
 
 -- a page of its blocks is one of all blocks
 among-all : (plans : List Plan) (i b page : ℕ) (plan : Plan) → slice_get plans i ≡ Some plan → page < (first_of plans i + blocks_of plan) * b → page < sum_by blocks_of plans * b

@@ -1,7 +1,5 @@
 -- The names and plans of tables after a call of one of them.
-use Rattle.std.proofs.Common.{◌≡◌, ℕ, ◌⊎◌, inl, inr, true, false, Some, List, sym, ◌∙◌, ap, subst}
-use Rattle.std.specs.List.{slice_get}
-use Rattle.std.proofs.Math.Dec.{eqb}
+use Rattle.std.proofs.Common.{◌≡◌, ℕ, ◌⊎◌, inl, inr, true, false, Some, List, sym, ◌∙◌, ap, subst, slice_get, eqb}
 use Rattle.std.proofs.lemmas.Bool.Decides.{eqb_tells}
 use Rattle.fl_rlc.specs.Table.{IsSamePlan}
 use Rattle.fl_rlc.specs.declared.table.LoggedTable.{LoggedTable}

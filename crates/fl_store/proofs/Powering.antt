@@ -1,6 +1,5 @@
 -- The mount of a store, whose power goes on first.
-use Rattle.std.proofs.Common.{◌≡◌, ◌+◌, ◌*◌, ◌≤◌, Bool, true, false, IsTrue, IfErr, Result, List, length, refl, sym, ap, subst}
-use Rattle.std.specs.Prelude.{OnOk}
+use Rattle.std.proofs.Common.{◌≡◌, ◌+◌, ◌*◌, ◌≤◌, Bool, true, false, IsTrue, IfErr, Result, List, length, refl, sym, ap, subst, OnOk}
 use Rattle.fl_flash.specs.Flash.{FlashState, Goes, page_at}
 use Rattle.fl_frame.proofs.CallsInTurn.{goes-on, goes-then}
 use Rattle.fl_model.specs.Record.{Config, Plan}

@@ -1,7 +1,5 @@
 -- The table of a store that queries are asked of: it stands without its log.
-use Rattle.std.proofs.Common.{◌≡◌, ℕ, true, false, Option, None, Some, Result, Ok, Err, IfErr, List, length, refl, sym, ◌∙◌, ap, subst}
-use Rattle.std.specs.Prelude.{IfOk, IfSome, option_map, unwrap_or}
-use Rattle.std.specs.List.{slice_get}
+use Rattle.std.proofs.Common.{◌≡◌, ℕ, true, false, Option, None, Some, Result, Ok, Err, IfErr, List, length, refl, sym, ◌∙◌, ap, subst, IfOk, IfSome, option_map, unwrap_or, slice_get}
 use Rattle.std.proofs.Math.Path.{fun_ext}
 use Rattle.std.proofs.lemmas.Option.{slice_get_within}
 use Rattle.fl_flash.specs.Buffer.{BufferState}
@@ -64,9 +62,8 @@ module _ (t : Table 64 64) (entry : Entry) (is : t ≡ table_in entry.table) whe
         subst (λ (x : Entry). IsRowAt (table_in x.table) buf place) (some-is (slice_get entries at) entry other here e) (subst (λ (x : Table 64 64). IsRowAt x buf place) is h)
 
     pub rows-in : (buf : BufferState) (result : Result (Option RowAt) ReadFault) → IfOk result (λ found. IfSome found (IsRowAt t buf)) → IfOk result (λ found. IfSome found (IsRowIn entries at buf))
-    rows-in buf (Ok None) h = tt
     rows-in buf (Ok (Some place)) h = row-in buf place h
-    rows-in buf (Err e) h = tt
+    rows-in buf result h = tt
 
     pub row-at : (buf : BufferState) (place : RowAt) → IsRowIn entries at buf place → IsRowAt t buf place
     row-at buf place h = subst (λ (x : Table 64 64). IsRowAt x buf place) (sym is) (h entry here)

@@ -1,6 +1,5 @@
 -- Readers of a table's blobs, over a flash on which the table lies.
-use Rattle.std.proofs.Common.{◌≡◌, ℕ, ◌+◌, ◌-◌, Bool, true, IsTrue, Option, Some, None, Result, Ok, Err, List, length, take, drop, sym, ◌∙◌, ap, subst}
-use Rattle.std.specs.Prelude.{IfOk, IfSome, is_some, option_map, unwrap_or}
+use Rattle.std.proofs.Common.{◌≡◌, ℕ, ◌+◌, ◌-◌, Bool, true, IsTrue, Option, Some, None, Result, Ok, List, length, take, drop, sym, ◌∙◌, ap, subst, IfOk, IfSome, is_some, option_map, unwrap_or}
 use Rattle.std.proofs.lemmas.Bool.{false≢true}
 use Rattle.fl_base.specs.declared.types.BlobRef.{BlobRef}
 use Rattle.fl_base.specs.declared.types.Geometry.{Geometry}
@@ -12,7 +11,6 @@ use Rattle.fl_model.specs.Table as model
 use Rattle.fl_model.specs.Table.{Entry}
 use Rattle.fl_page.specs.Header.{page_count}
 use Rattle.fl_page.specs.declared.fault.ReadFault.{ReadFault}
-use Rattle.fl_page.specs.declared.fault.ReadFault.TheVariants as fault
 use Rattle.fl_frame.specs.Reads as looking
 use Rattle.fl_ring.specs.Ring.{place}
 use Rattle.fl_ring.proofs.Founds.{same_pages}
@@ -78,18 +76,15 @@ opened-ready v f at stands r opens is = let o = rw is at opens in o.reads
 pub finds-held : (table : model.Table) (entry : Entry) (bytes : List ℕ) (f g : FlashState) (n : ℕ) → looking.OnlyReads f n g → (result : Result (Option BlobReader) ReadFault) → reading.Finds (bare_table table) entry bytes f result → reading.Finds table entry bytes g result
 finds-held table entry bytes f g n only (Ok None) h = ap (λ (left : Entry → BlobState). left entry) (sym (blobs-bare table)) ∙ h
 finds-held table entry bytes f g n only (Ok (Some r)) h = (ap (λ (left : Entry → BlobState). left entry) (sym (blobs-bare table)) ∙ h.0, bytes-kept r f g n only ∙ h.1, whole-kept r f g n only h.2)
-finds-held table entry bytes f g n only (Err (fault.BadPage bad)) h = h
-finds-held table entry bytes f g n only (Err (fault.Flash e)) h = h
+finds-held table entry bytes f g n only result h = h
 
 -- .. and a reader that was made over any bytes reads on
 pub ready-kept : (var : Option VarData) (f g : FlashState) (n : ℕ) (at : BlobRef) → looking.OnlyReads f n g → is_some var ≡ true → (result : Result (Option BlobReader) ReadFault) → IfSome var (λ v. reading.Opens v f at result) → IfOk result (λ reader. IfSome reader (λ r. Reads r g))
 ready-kept None f g n at only some result h = absurd (false≢true some)
-ready-kept (Some v) f g n at only some (Ok None) h = tt
 ready-kept (Some v) f g n at only some (Ok (Some r)) h = reads-kept r f g n only h.reads
-ready-kept (Some v) f g n at only some (Err e) h = tt
+ready-kept (Some v) f g n at only some result h = tt
 
 -- what holds of a reader that was made
 pub made-so : (P Q : BlobReader → Type 0) → ((r : BlobReader) → P r → Q r) → (result : Result (Option BlobReader) ReadFault) → IfOk result (λ reader. IfSome reader P) → IfOk result (λ reader. IfSome reader Q)
-made-so P Q so (Ok None) h = tt
 made-so P Q so (Ok (Some r)) h = so r h
-made-so P Q so (Err e) h = tt
+made-so P Q so result h = tt

@@ -1,7 +1,5 @@
 -- A mount with no cut armed fails only where the medium does.
-use Rattle.std.proofs.Common.{◌≡◌, ℕ, ◌+◌, ◌-◌, ◌^◌, ◌⊎◌, inl, inr, Bool, true, IsTrue, nat_le, min, Option, Some, None, List, [], ◌∷◌, refl, sym, ◌∙◌, ap, subst}
-use Rattle.std.specs.Prelude.{option_map, unwrap_or, ◌==◌, if◌then◌else◌}
-use Rattle.std.proofs.lemmas.Bool.{le-leb, leb-true}
+use Rattle.std.proofs.Common.{◌≡◌, ℕ, ◌+◌, ◌-◌, ◌^◌, ◌⊎◌, inl, inr, Bool, true, IsTrue, nat_le, min, Option, Some, None, List, [], ◌∷◌, refl, sym, ◌∙◌, ap, subst, option_map, unwrap_or, ◌==◌, if◌then◌else◌, le-leb, leb-true}
 use Rattle.fl_base.specs.Causes.{Rose}
 use Rattle.fl_base.specs.declared.types.CutKind.{CutKind}
 use Rattle.fl_flash.specs.Flash.{FlashState}
@@ -45,27 +43,15 @@ Fails end how = (how ≡ Stopped end) ⊎ (how ≡ Unread end)
 goes-calm : (rose : Bool) (o : Outcome) (now : Progress) (how : MountEnd) (others : Type 0) → now.outcome ≡ o → Settled rose now → GoesOn o now how others → (now.device.armed ≡ None → others → IsTrue rose) → IsTrue rose
 goes-calm rose o now how others is (inr failed) goes go = failed.0
 goes-calm rose Finished now how others is (inl done) goes go = go done.1 goes
-goes-calm rose (CutShort before) now how others is (inl done) goes go = absurd (no (sym is ∙ done.0))
-  where
-    no : CutShort before ≡ Finished → ⊥
-    no e = cc
-goes-calm rose (Failed before) now how others is (inl done) goes go = absurd (no (sym is ∙ done.0))
-  where
-    no : Failed before ≡ Finished → ⊥
-    no e = cc
+goes-calm rose (CutShort before) now how others is (inl done) goes go = absurd (cc (sym is ∙ done.0))
+goes-calm rose (Failed before) now how others is (inl done) goes go = absurd (cc (sym is ∙ done.0))
 
 pub fails-rose : (plans : List Plan) (rose : Bool) (turns : List (ℕ × Turn)) (device : Device) (tables : List Table) (end : Progress) (how : MountEnd) → device.armed ≡ None → Fails end how → Mounts plans rose turns device tables how → IsTrue rose
 fails-rose plans rose [] device tables end how unarmed fails did = absurd (by_end fails)
   where
     by_end : Fails end how → ⊥
-    by_end (inl is) = let k : Stopped end ≡ Mounted (record { outcome = Finished; device = device; tables = tables }) = sym is ∙ did in no_stop k
-      where
-        no_stop : Stopped end ≡ Mounted (record { outcome = Finished; device = device; tables = tables }) → ⊥
-        no_stop e = cc
-    by_end (inr is) = let k : Unread end ≡ Mounted (record { outcome = Finished; device = device; tables = tables }) = sym is ∙ did in no_read k
-      where
-        no_read : Unread end ≡ Mounted (record { outcome = Finished; device = device; tables = tables }) → ⊥
-        no_read e = cc
+    by_end (inl is) = cc (sym is ∙ did)
+    by_end (inr is) = cc (sym is ∙ did)
 fails-rose plans rose (at ∷ turns) device tables end how unarmed fails (inl unread) = unread.1.may_fail
 fails-rose plans rose (at ∷ turns) device tables end how unarmed fails (inr (now, did, goes)) =
     goes-calm rose now.outcome now how (Mounts plans rose turns now.device now.tables how) refl
@@ -85,14 +71,8 @@ goes-safe rose now end others (inr failed) goes go =
     subst IsSafe (sym (ap (λ (p : Progress). p.outcome) same ∙ failed.1.1)) tt
 
 pub stopped-safe : (plans : List Plan) (rose : Bool) (turns : List (ℕ × Turn)) (device : Device) (tables : List Table) (end : Progress) → device.armed ≡ None → Mounts plans rose turns device tables (Stopped end) → IsSafe end.outcome
-stopped-safe plans rose [] device tables end unarmed did = absurd (no did)
-  where
-    no : Stopped end ≡ Mounted (record { outcome = Finished; device = device; tables = tables }) → ⊥
-    no e = cc
-stopped-safe plans rose (at ∷ turns) device tables end unarmed (inl unread) = absurd (no unread.2)
-  where
-    no : Stopped end ≡ Unread unread.0 → ⊥
-    no e = cc
+stopped-safe plans rose [] device tables end unarmed did = absurd (cc did)
+stopped-safe plans rose (at ∷ turns) device tables end unarmed (inl unread) = absurd (cc unread.2)
 stopped-safe plans rose (at ∷ turns) device tables end unarmed (inr (now, did, goes)) =
     goes-safe rose now end (Mounts plans rose turns now.device now.tables (Stopped end))
     (performs-settled plans rose (operations_at plans at (turned_at plans at tables)) device (turned_at plans at tables) now unarmed did) goes
@@ -101,30 +81,20 @@ stopped-safe plans rose (at ∷ turns) device tables end unarmed (inr (now, did,
 -- .. and none is armed after a mount that went well
 settled-unarmed : (rose : Bool) (end : Progress) → Settled rose end → end.outcome ≡ Finished → end.device.armed ≡ None
 settled-unarmed rose end (inl done) whole = done.1
-settled-unarmed rose end (inr failed) whole = absurd (no (sym failed.1.1 ∙ whole))
-  where
-    no : Failed failed.1.0 ≡ Finished → ⊥
-    no e = cc
+settled-unarmed rose end (inr failed) whole = absurd (cc (sym failed.1.1 ∙ whole))
 
 pub mounts-unarmed : (plans : List Plan) (rose : Bool) (turns : List (ℕ × Turn)) (device : Device) (tables : List Table) (end : Progress) → device.armed ≡ None → Mounts plans rose turns device tables (Mounted end) → end.device.armed ≡ None
 mounts-unarmed plans rose [] device tables end unarmed did = let same = ends did in ap (λ (p : Progress). p.device.armed) same ∙ unarmed
   where
     ends : ◌≡◌ {A = MountEnd} (Mounted end) (Mounted (record { outcome = Finished; device = device; tables = tables })) → end ≡ record { outcome = Finished; device = device; tables = tables }
     ends e = cc
-mounts-unarmed plans rose (at ∷ turns) device tables end unarmed (inl unread) = absurd (no unread.2)
-  where
-    no : ◌≡◌ {A = MountEnd} (Mounted end) (Unread unread.0) → ⊥
-    no e = cc
+mounts-unarmed plans rose (at ∷ turns) device tables end unarmed (inl unread) = absurd (cc unread.2)
 mounts-unarmed plans rose (at ∷ turns) device tables end unarmed (inr (now, did, goes)) =
     by-outcome now.outcome refl goes (λ whole others. mounts-unarmed plans rose turns now.device now.tables end (settled-unarmed rose now (performs-settled plans rose (operations_at plans at (turned_at plans at tables)) device (turned_at plans at tables) now unarmed did) whole) others)
   where
     Others : Type 0
     Others = Mounts plans rose turns now.device now.tables (Mounted end)
 
-    no : ◌≡◌ {A = MountEnd} (Mounted end) (Stopped now) → ⊥
-    no e = cc
-
     by-outcome : (o : Outcome) → now.outcome ≡ o → GoesOn o now (Mounted end) Others → (now.outcome ≡ Finished → Others → end.device.armed ≡ None) → end.device.armed ≡ None
     by-outcome Finished is goes go = go is goes
-    by-outcome (CutShort before) is goes go = absurd (no goes)
-    by-outcome (Failed before) is goes go = absurd (no goes)
+    by-outcome outcome is goes go = absurd (cc goes)

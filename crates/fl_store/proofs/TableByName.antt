@@ -1,7 +1,5 @@
 -- The table with a name, among tables and among their plans.
-use Rattle.std.proofs.Common.{◌≡◌, ℕ, zero, suc, ◌+◌, ◌<◌, Bool, true, false, ◌||◌, if◌then◌else◌, Option, None, Some, List, [], ◌∷◌, refl, sym, ◌∙◌, ap, arith}
-use Rattle.std.specs.Prelude.{find}
-use Rattle.std.specs.List.{slice_get}
+use Rattle.std.proofs.Common.{◌≡◌, ℕ, zero, suc, ◌+◌, ◌<◌, Bool, true, false, ◌||◌, if◌then◌else◌, Option, None, Some, List, [], ◌∷◌, refl, sym, ◌∙◌, ap, arith, find, slice_get}
 use Rattle.std.proofs.lemmas.Option.{slice_get_within, none-some}
 use Rattle.fl_config.proofs.Names.{bytes_equal-other}
 use Rattle.fl_flash.specs.Flash.{FlashState}

@@ -1,7 +1,5 @@
 -- What the mount of the tables leaves of the pages of a flash.
-use Rattle.std.proofs.Common.{◌≡◌, ◌⊎◌, ℕ, Bool, false, suc, ◌+◌, ◌*◌, ◌<◌, ◌≤◌, Some, List, inl, inr, refl, sym, ◌∙◌, ap, subst, arith}
-use Rattle.std.specs.List.{slice_get}
-use Rattle.std.proofs.Math.Nat.{mul-le-mul_right}
+use Rattle.std.proofs.Common.{◌≡◌, ◌⊎◌, ℕ, Bool, false, suc, ◌+◌, ◌*◌, ◌<◌, ◌≤◌, Some, List, inl, inr, refl, sym, ◌∙◌, ap, subst, arith, slice_get, mul-le-mul_right}
 use Rattle.std.proofs.lemmas.Bool.{cases_lt}
 use Rattle.fl_base.specs.declared.types.Geometry.{Geometry}
 use Rattle.fl_flash.specs.Flash.{FlashState, Goes, page_at}

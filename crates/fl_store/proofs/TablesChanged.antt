@@ -1,8 +1,5 @@
 -- The tables of an image after one of them was changed.
-use Rattle.std.proofs.Common.{◌≡◌, ℕ, zero, suc, ◌<◌, ◌⊎◌, Bool, true, false, inl, inr, Option, None, Some, List, [], ◌∷◌, length, map, set, get_or, refl, sym, ◌∙◌, ap, subst, arith}
-use Rattle.std.specs.Prelude.{MatchBool, option_map}
-use Rattle.std.proofs.Math.Dec.{eqb}
-use Rattle.std.specs.List.{slice_get}
+use Rattle.std.proofs.Common.{◌≡◌, ℕ, zero, suc, ◌<◌, ◌⊎◌, Bool, true, false, inl, inr, Option, None, Some, List, [], ◌∷◌, length, map, set, get_or, refl, sym, ◌∙◌, ap, subst, arith, MatchBool, option_map, eqb, slice_get}
 use Rattle.std.proofs.lemmas.Bool.Decides.{eqb_tells}
 use Rattle.std.proofs.lemmas.List.{length-set, length-map}
 use Rattle.std.proofs.lemmas.Option.{slice_get-map, slice_get_within, slice_get_read, none-some}
@@ -98,9 +95,8 @@ tables-changed f g mounted now plans entries tables after at entry new k table h
         at-own is =
             let e_is : new ≡ e = some-is (slice_get (set entries at new) at) new e (set-there entries at entry new here) (subst (λ j. slice_get (set entries at new) j ≡ Some e) (sym is) q) in
             let x_is : table ≡ x = some-is (slice_get after at) table x there (subst (λ j. slice_get after j ≡ Some x) (sym is) r) in
-            let s = own plan (subst (λ j. slice_get plans j ≡ Some plan) (sym is) p) in
             subst (λ j. EntryStands e g (now j) (first_of plans j) plan x) is
-            (subst (λ y. EntryStands e g (now at) (first_of plans at) plan y) x_is (subst (λ y. EntryStands y g (now at) (first_of plans at) plan table) e_is s))
+            (subst (λ y. EntryStands e g (now at) (first_of plans at) plan y) x_is (subst (λ y. EntryStands y g (now at) (first_of plans at) plan table) e_is (own plan (subst (λ j. slice_get plans j ≡ Some plan) (sym is) p))))
 
         at-other : (at ≡ i → ⊥) → EntryStands e g (now i) (first_of plans i) plan x
         at-other other =

@@ -1,7 +1,5 @@
 -- Tables that lie on a flash and run, after a call of one of them.
-use Rattle.std.proofs.Common.{◌≡◌, ℕ, ◌+◌, ◌<◌, ◌≤◌, ◌⊎◌, inl, inr, true, false, Some, List, sym, ◌∙◌, subst, arith}
-use Rattle.std.specs.List.{slice_get}
-use Rattle.std.proofs.Math.Dec.{eqb}
+use Rattle.std.proofs.Common.{◌≡◌, ℕ, ◌+◌, ◌<◌, ◌≤◌, ◌⊎◌, inl, inr, true, false, Some, List, sym, ◌∙◌, subst, arith, slice_get, eqb}
 use Rattle.std.proofs.lemmas.Bool.Decides.{eqb_tells}
 use Rattle.std.proofs.lemmas.Bool.{cases_lt}
 use Rattle.fl_flash.specs.Flash.{FlashState, Goes, StaysWith}
@@ -34,8 +32,7 @@ runs-with entries at entry u here i running own e k = by-place (eqb_tells at i)
   where
     by-place : ((eqb at i ≡ true) × (at ≡ i)) ⊎ ((eqb at i ≡ false) × (at ≡ i → ⊥)) → is_running e.table ≡ true
     by-place (inl is) =
-        let e_is = set-here entries at (record { name = entry.name; table = u }) e (subst (λ j. slice_get (entries_with entries at entry u) j ≡ Some e) (sym is.1) k) in
-        subst (λ (x : Entry). is_running x.table ≡ true) e_is (own is.1)
+        subst (λ (x : Entry). is_running x.table ≡ true) (set-here entries at (record { name = entry.name; table = u }) e (subst (λ j. slice_get (entries_with entries at entry u) j ≡ Some e) (sym is.1) k)) (own is.1)
     by-place (inr other) = running e (sym (set-elsewhere entries at i (record { name = entry.name; table = u }) other.1) ∙ k)
 
 pub running-with : (entries : List Entry) (at : ℕ) (entry : Entry) (u : LoggedTable 64 64) → slice_get entries at ≡ Some entry → AreRunning entries → is_running u ≡ true → AreRunning (entries_with entries at entry u)
@@ -50,5 +47,4 @@ each-more P entries at entry u here each own i e lt k = by-order (cases_lt i at)
     by-order (inl before) = each i e before (sym (set-elsewhere entries at i (record { name = entry.name; table = u }) (λ is. absurd (omega (arith, before, is)))) ∙ k)
     by-order (inr ge) =
         let same : at ≡ i = omega (arith, lt, ge) in
-        let e_is = set-here entries at (record { name = entry.name; table = u }) e (subst (λ j. slice_get (entries_with entries at entry u) j ≡ Some e) (sym same) k) in
-        subst (λ (x : Entry). P x.table) e_is own
+        subst (λ (x : Entry). P x.table) (set-here entries at (record { name = entry.name; table = u }) e (subst (λ j. slice_get (entries_with entries at entry u) j ≡ Some e) (sym same) k)) own

@@ -1,7 +1,5 @@
 -- The tables that are made for a configuration, one after another.
-use Rattle.std.proofs.Common.{◌≡◌, false, ℕ, ◌+◌, ◌^◌, ◌<◌, ◌≤◌, ◌⊎◌, inl, inr, Option, None, Some, List, [], ◌∷◌, ◌++◌, length, refl, sym, ◌∙◌, ap, subst, length-append, arith}
-use Rattle.std.specs.Prelude.{IfSome}
-use Rattle.std.specs.List.{slice_get}
+use Rattle.std.proofs.Common.{◌≡◌, false, ℕ, ◌+◌, ◌^◌, ◌<◌, ◌≤◌, ◌⊎◌, inl, inr, Option, None, Some, List, [], ◌∷◌, ◌++◌, length, sym, ◌∙◌, ap, subst, length-append, arith, IfSome, slice_get}
 use Rattle.fl_model.specs.Bare.{bare}
 use Rattle.fl_model.specs.Record.{Plan, blocks_of}
 use Rattle.fl_model.proofs.Lists.{slice_get-push}
@@ -12,16 +10,13 @@ use Rattle.fl_flash.specs.Flash.{FlashState, pages}
 use Rattle.fl_rlc.specs.Table.{IsPlanned, LiesOn, is_running}
 use Rattle.fl_rlc.specs.declared.table.LoggedTable.{LoggedTable}
 use Rattle.fl_words.specs.Config.{Lines}
-use Rattle.fl_store.specs.Tables.{first_of, IsNewTable, AreNewTables}
+use Rattle.fl_store.specs.Tables.{first_of, IsNewTable}
 use Rattle.fl_store.specs.declared.tables.Entry.{Entry}
 
 -- tables for the first lines
 pub record MadeSoFar (lines : Lines) (n : ℕ) (entries : List Entry) : Type 0 where
   pub as_many : length entries ≡ n
   pub each : (i : ℕ) (plan : Plan) (entry : Entry) → slice_get lines.plans i ≡ Some plan → slice_get entries i ≡ Some entry → IsNewTable entry (first_of lines.plans i) plan lines
-
-pub made-none : (lines : Lines) → MadeSoFar lines 0 []
-made-none lines = record { as_many = refl; each = λ i plan entry p e. cc }
 
 -- what a table is made of and for: a configuration, whose rings begin at a block, and the place of its log
 pub record IsFor (lines : Lines) (i : ℕ) (config : TableConfig) (log : Option RingPlace) (name : List ℕ) : Type 0 where
@@ -102,8 +97,4 @@ made-more lines n entries config log name t so_far for made = record {
     by-place i plan entry p (inl e) = so_far.each i plan entry p e
     by-place i plan entry p (inr e) =
         let here : i ≡ n = e.0 ∙ so_far.as_many in
-        let first = new-table lines n plan config log name t (ap (slice_get lines.plans) (sym here) ∙ p) for made in
-        subst (λ x. IsNewTable x (first_of lines.plans i) plan lines) e.1 (subst (λ k. IsNewTable new (first_of lines.plans k) plan lines) (sym here) first)
-
-pub made-all : (lines : Lines) (n : ℕ) (entries : List Entry) → n ≡ length lines.plans → MadeSoFar lines n entries → AreNewTables entries lines
-made-all lines n entries all so_far = record { as_many = so_far.as_many ∙ all; each = so_far.each }
+        subst (λ x. IsNewTable x (first_of lines.plans i) plan lines) e.1 (subst (λ k. IsNewTable new (first_of lines.plans k) plan lines) (sym here) (new-table lines n plan config log name t (ap (slice_get lines.plans) (sym here) ∙ p) for made))

@@ -1,5 +1,5 @@
 -- Tables over a flash that is only read.
-use Rattle.std.proofs.Common.{◌≡◌, ℕ, Bool, true, false, IsTrue, List, refl, sym, ◌∙◌, ap, subst}
+use Rattle.std.proofs.Common.{◌≡◌, ℕ, Bool, true, false, IsTrue, List, refl, sym, ◌∙◌, ap, subst, MatchBool, ◌+◌, ◌≤◌, length}
 use Rattle.fl_flash.specs.Flash.{FlashState, page_at}
 use Rattle.fl_flash.specs.Places.{extent, page_of}
 use Rattle.fl_model.specs.Bare.{bare}
@@ -21,7 +21,6 @@ use Rattle.fl_store.specs.declared.tables.Entry.{Entry}
 use Rattle.fl_table.proofs.Apart.{PagesApart, stands-pages}
 use Rattle.fl_table.proofs.ReadsKeepTable.{lies-moved}
 use Rattle.fl_store.proofs.TablesChanged.{tables-still}
-use Rattle.std.specs.Prelude.{MatchBool, ◌+◌, ◌≤◌, length}
 
 -- Each page stands, and so does the geometry.
 module _ (f g : FlashState) (same : page_at g ≡ page_at f) where

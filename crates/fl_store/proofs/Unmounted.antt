@@ -60,9 +60,4 @@ module _ (plans : List Plan) (tables : List model.Table) (name : List ℕ) (f g 
   pub unmounted : (bad : MountFault) (at : ℕ) → MountBreaks plans tables (has_risen f g) at_rest bad now g → (mount_status bad at ≡ Device) × AreUnmounted
   unmounted (mount.Flash Media) at ends = (refl, broken Media ends)
   unmounted (mount.Flash PowerLost) at ends = absurd (uncut ends)
-  unmounted (mount.Ring fault) at ends = absurd ends
-  unmounted (mount.BadPage page) at ends = absurd ends
-  unmounted (mount.BadKeys page last key) at ends = absurd ends
-  unmounted (mount.BadIndex end next) at ends = absurd ends
-  unmounted (mount.BadBlob page next) at ends = absurd ends
-  unmounted (mount.BadEntry page count limit) at ends = absurd ends
+  unmounted fault at ends = absurd ends

@@ -2,7 +2,7 @@
 use Rattle.std.proofs.Common.{◌≡◌, ℕ, Bool, true, IsTrue, refl, sym, subst}
 use Rattle.fl_flash.specs.Flash.{FlashState, Goes}
 use Rattle.fl_flash.specs.declared.flash.FlashFault.{FlashFault}
-use Rattle.fl_flash.specs.declared.flash.FlashFault.TheVariants.{PowerLost, Media}
+use Rattle.fl_flash.specs.declared.flash.FlashFault.TheVariants.{PowerLost}
 use Rattle.fl_model.specs.Record.{Plan}
 use Rattle.fl_model.specs.Table as model
 use Rattle.fl_model.specs.Table.{lose}
@@ -16,9 +16,6 @@ use Rattle.fl_table.specs.Outcomes.{FaultEnds}
 use Rattle.fl_store.specs.Works.{FailsIn, Works}
 use Rattle.fl_store.proofs.Failing.{IsWork}
 use Rattle.fl_store.proofs.Risen.{has_risen, watched}
-
-not-media : PowerLost ≡ Media → ⊥
-not-media e = cc
 
 module _ (first : ℕ) (plan : Plan) (table : model.Table) (t u : LoggedTable 64 64) (f g : FlashState) (works : Works t f first plan table) where
   pub works-watched : IsWatched f g (has_risen f g) works.device
@@ -58,4 +55,4 @@ module _ (first : ℕ) (plan : Plan) (table : model.Table) (t u : LoggedTable 64
         by-end : (end : PartEnd model.Table) → b.now.end ≡ end → FaultEnds end PowerLost g → ⊥
         by-end Whole is answer = answer
         by-end (CutIn before) is answer = (calm (has_risen f g) works.device b.now works.unarmed b.did).uncut before is
-        by-end (FailedIn before) is answer = not-media answer.0
+        by-end (FailedIn before) is answer = cc answer.0

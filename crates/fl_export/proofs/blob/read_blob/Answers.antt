@@ -31,11 +31,10 @@ returns-clause-finds g c = λ first plan t i entry blob tells stands slot blob_i
     let v = data_of c.blob_reader-reader.result in
     let full : 1 ≤ c.args.at.length = search rules in
     let some : 1 ≤ length blob = omega (arith, ap (λ (a : BlobRef). a.length) at_is, full) in
-    let all = data-stands c.args.table.now f c.requires.lies v c.blob_reader-reader.ensures.var first plan t stands in
     c.take_opened-taken.ensures.finds t entry blob f (c.clear.ensures.items) (record {
       some = some;
       only = c.open-stands.ensures.reads;
       ready = opened-ready v f c.args.at c.open-stands.result c.open-stands.new.self (c.open-stands.ensures.opens tells);
-      finds = c.open-stands.ensures.finds plan t entry blob tells all.in_pages blob_is at_is
+      finds = c.open-stands.ensures.finds plan t entry blob tells (data-stands c.args.table.now f c.requires.lies v c.blob_reader-reader.ensures.var first plan t stands).in_pages blob_is at_is
           (λ ring ring_is here some. subst (λ (o : Option Ring). IfSome o (BlobsOf plan t)) ring_is stands.facts.agrees.blobs i entry blob slot blob_is some here);
     })

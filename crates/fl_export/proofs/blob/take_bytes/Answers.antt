@@ -1,8 +1,8 @@
 use Rattle.std.proofs.Common.{◌≡◌, Bool, List, ℕ, refl, ◌∙◌, ap, ◌++◌}
-use Rattle.std.proofs.lemmas.Result.{err_from_is_err_and}
 use Rattle.fl_page.proofs.ReadsInTurn.{IsCaused-later}
 use Rattle.fl_frame.proofs.ContentsInTurn.{OnlyReads-same, OnlyReads-then}
 use Rattle.fl_var.specs.Reading.{chunk_of}
+use Rattle.fl_store.proofs.Called.{err-is}
 use Rattle.fl_export.proofs.TakenChunks.{took-none, took-more, took-all, read-good}
 use Rattle.fl_export.proofs.blob.take_bytes.Goals as goal
 
@@ -18,21 +18,14 @@ chunks-init g c = record {
 pub returns-in_err-step-clause-counts : goal.returns-in_err-step-clause-counts
 returns-in_err-step-clause-counts g c = OnlyReads-then _ _ _ c.chunks.invariant.counts c.in_err-step.ensures.counts
 
-pub returns-in_err-step-clause-sinkless : goal.returns-in_err-step-clause-sinkless
-returns-in_err-step-clause-sinkless g c =
-    let p = err_from_is_err_and c.from_residual.result c.from_residual.ensures.1 in
-    rw (p.1, p.2) tt
-
 pub returns-in_err-step-clause-unread : goal.returns-in_err-step-clause-unread
 returns-in_err-step-clause-unread g c =
-    let p = err_from_is_err_and c.from_residual.result c.from_residual.ensures.1 in
-    rw (p.1, p.2) (IsCaused-later (g.F.Flash.state c.args.flash.now) (g.F.Flash.state c.chunks.flash) (g.F.Flash.state c.step.new.flash) c.in_err-step.field-0.0 c.chunks.invariant.counts c.in_err-step.ensures.fails)
+    rw (err-is c.from_residual.result _ c.from_residual.ensures.1) (IsCaused-later (g.F.Flash.state c.args.flash.now) (g.F.Flash.state c.chunks.flash) (g.F.Flash.state c.step.new.flash) c.in_err-step.field-0.0 c.chunks.invariant.counts c.in_err-step.ensures.fails)
 
 pub returns-in_err-step-clause-gathers : goal.returns-in_err-step-clause-gathers
 returns-in_err-step-clause-gathers g c = λ ready whole.
     let so_far = c.chunks.invariant.took ready whole in
-    let p = err_from_is_err_and c.from_residual.result c.from_residual.ensures.1 in
-    rw (p.1, p.2) (read-good Bool c.in_err-step.field-0.0 (c.in_err-step.ensures.whole so_far.ready so_far.whole).0)
+    rw (err-is c.from_residual.result _ c.from_residual.ensures.1) (read-good Bool c.in_err-step.field-0.0 (c.in_err-step.ensures.whole so_far.ready so_far.whole).0)
 
 pub chunks-preserved : goal.chunks-preserved
 chunks-preserved g c =
@@ -55,20 +48,9 @@ chunks-preserved g c =
 pub returns-in_err-extend_from_slice-clause-counts : goal.returns-in_err-extend_from_slice-clause-counts
 returns-in_err-extend_from_slice-clause-counts g c = OnlyReads-then _ _ _ c.chunks.invariant.counts c.in_ok-step.ensures.counts
 
-pub returns-in_err-extend_from_slice-clause-sinkless : goal.returns-in_err-extend_from_slice-clause-sinkless
-returns-in_err-extend_from_slice-clause-sinkless g c =
-    let p = err_from_is_err_and c.from_residual-in_err-extend_from_slice.result c.from_residual-in_err-extend_from_slice.ensures.1 in
-    rw (p.1, p.2) tt
-
-pub returns-in_err-extend_from_slice-clause-unread : goal.returns-in_err-extend_from_slice-clause-unread
-returns-in_err-extend_from_slice-clause-unread g c =
-    let p = err_from_is_err_and c.from_residual-in_err-extend_from_slice.result c.from_residual-in_err-extend_from_slice.ensures.1 in
-    rw (p.1, p.2) tt
-
 pub returns-in_err-extend_from_slice-clause-gathers : goal.returns-in_err-extend_from_slice-clause-gathers
 returns-in_err-extend_from_slice-clause-gathers g c = λ ready whole.
-    let p = err_from_is_err_and c.from_residual-in_err-extend_from_slice.result c.from_residual-in_err-extend_from_slice.ensures.1 in
-    rw (p.1, p.2) tt
+    rw (err-is c.from_residual-in_err-extend_from_slice.result _ c.from_residual-in_err-extend_from_slice.ensures.1) tt
 
 pub returns-clause-counts : goal.returns-clause-counts
 returns-clause-counts g c = OnlyReads-then _ _ _ c.chunks.invariant.counts c.in_ok-step.ensures.counts

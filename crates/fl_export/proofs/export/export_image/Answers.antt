@@ -82,8 +82,7 @@ returns-clause-repairs g c = λ config tables tells made image well.
     let holds = found-holds (g.M.Media.state c.args.media.now) (g.M.Media.state c.on.new.media) c.args.name config made tables tells image looks c.in-Ok.found c.in-Ok.ensures.table _ _ c.over-flash.ensures.holds in
     let opened = c.over-flash.ensures.opened in
     let e : g.M.Media.state c.media-1.given.0 ≡ g.M.Media.state c.close-media.result.now = search rules in
-    let worked = worked-by opened c.export_on-status.ensures.goes (e ∙ c.close-media.ensures.state) in
-    repaired-after config _ _ _ looks.content (worked-repaired _ _ _ _ _ worked config holds.medium
+    repaired-after config _ _ _ looks.content (worked-repaired _ _ _ _ _ (worked-by opened c.export_on-status.ensures.goes (e ∙ c.close-media.ensures.state)) config holds.medium
     (c.export_on-status.ensures.repairs config.plans tables c.args.name holds.medium.told opened.on opened.calm holds.stand (subst (λ (t : Tables). IsNamed t.entries.items c.args.name c.in-Ok.found.at) (sym c.over-flash.ensures.tables) c.in-Ok.ensures.table.named) well))
 
 pub returns-clause-fits : goal.returns-clause-fits

@@ -1,5 +1,4 @@
-use Rattle.std.proofs.Common.{◌≡◌, inr, IsTrue, false, true, Some, length, refl, sym, ◌∙◌, subst, arith}
-use Rattle.std.specs.List.{slice_get}
+use Rattle.std.proofs.Common.{◌≡◌, inr, IsTrue, false, true, sym, ◌∙◌, subst, arith}
 use Rattle.std.proofs.lemmas.Option.{slice_get_within}
 use Rattle.fl_frame.proofs.ContentsInTurn.{OnlyReads-goes}
 use Rattle.fl_frame.proofs.CallsInTurn.{goes-then}
@@ -10,8 +9,8 @@ use Rattle.fl_model.specs.Bare.{bare, bare_table}
 use Rattle.fl_table.specs.Memory.{is_running, LiesOn}
 use Rattle.fl_table.specs.Standing.{Stands}
 use Rattle.fl_table.specs.declared.table.Table.{Table}
+use Rattle.fl_store.proofs.Called.{entry-at}
 use Rattle.fl_store.specs.Tables.{first_of}
-use Rattle.fl_store.proofs.TablesChanged.{item-there}
 use Rattle.fl_store.specs.Store.{at_rest}
 use Rattle.fl_export.specs.Tables.{EndsOn, IsOfTable}
 use Rattle.fl_export.proofs.FlashEnds.{unmounted, broken-device, own, done, failed}
@@ -20,7 +19,6 @@ use Rattle.fl_store.proofs.ImageRepairs.{repaired-read}
 use Rattle.fl_export.proofs.Statuses.{fault-rose, fault-place}
 use Rattle.fl_store.proofs.MountStatuses.{by-mount, mount-rose, mount-place}
 use Rattle.fl_store.proofs.Risen.{has_risen, watched}
-use Rattle.fl_store.specs.MountsOver.{MountsOver}
 use Rattle.fl_export.proofs.OverBytes.{bad-table, reads-over, refuses-over}
 use Rattle.fl_export.proofs.export.export_on.Goals as goal
 
@@ -44,10 +42,9 @@ pub returns-in-Err-clause-ends : goal.returns-in-Err-clause-ends
 returns-in-Err-clause-ends g c = λ plans ts name tells on calm stand named.
     let f = g.F.Flash.state c.args.flash.now in
     let m = g.F.Flash.state c.mount.new.flash in
-    let breaks = c.in-Err.ensures.ends plans ts (has_risen f m) at_rest (watched f m at_rest tells on calm) stand in
     subst (λ (s : ToolStatus). EndsOn plans ts name c.args.range f m (g.K.Sink.written c.args.out.now) (g.K.Sink.written c.args.out.now) c.mount.new.self.entries.items s) (sym c.mount_status.ensures)
     (unmounted plans ts name c.args.range f m (g.K.Sink.written c.args.out.now) c.mount.new.self.entries.items
-    (stands-there f (λ i. false) plans c.args.tables.now.entries.items ts name c.args.at stand named) c.in-Err.bad.fault c.in-Err.bad.at breaks)
+    (stands-there f (λ i. false) plans c.args.tables.now.entries.items ts name c.args.at stand named) c.in-Err.bad.fault c.in-Err.bad.at (c.in-Err.ensures.ends plans ts (has_risen f m) at_rest (watched f m at_rest tells on calm) stand))
 
 pub returns-in-Err-write_table-clause-device : goal.returns-in-Err-write_table-clause-device
 returns-in-Err-write_table-clause-device g c = λ is.
@@ -59,15 +56,11 @@ returns-in-Err-write_table-clause-bad g c = λ table is. omega (arith, fault-pla
 
 pub write_table-requires-clause-running : goal.write_table-requires-clause-running
 write_table-requires-clause-running g c =
-    let here : slice_get c.mount.new.self.entries.items c.args.at ≡ Some c.index.result.now =
-    item-there c.mount.new.self.entries.items (length c.mount.new.self.entries.items) c.args.at c.index.result.now refl (omega (arith, c.requires.at, c.mount.ensures.as_many)) c.index.ensures in
-    subst (λ (t : Table 64 64). is_running t ≡ true) (sym c.table-table.ensures) (c.in_default.ensures.running c.args.at c.index.result.now here)
+    subst (λ (t : Table 64 64). is_running t ≡ true) (sym c.table-table.ensures) (c.in_default.ensures.running c.args.at c.index.result.now (entry-at c.mount.new.self.entries.items c.args.at c.index.result.now (omega (arith, c.requires.at, c.mount.ensures.as_many)) c.index.ensures))
 
 pub write_table-requires-clause-lies : goal.write_table-requires-clause-lies
 write_table-requires-clause-lies g c =
-    let here : slice_get c.mount.new.self.entries.items c.args.at ≡ Some c.index.result.now =
-    item-there c.mount.new.self.entries.items (length c.mount.new.self.entries.items) c.args.at c.index.result.now refl (omega (arith, c.requires.at, c.mount.ensures.as_many)) c.index.ensures in
-    subst (λ (t : Table 64 64). LiesOn t (g.F.Flash.state c.mount.new.flash)) (sym c.table-table.ensures) (c.mount.ensures.lie c.args.at c.index.result.now here).table
+    subst (λ (t : Table 64 64). LiesOn t (g.F.Flash.state c.mount.new.flash)) (sym c.table-table.ensures) (c.mount.ensures.lie c.args.at c.index.result.now (entry-at c.mount.new.self.entries.items c.args.at c.index.result.now (omega (arith, c.requires.at, c.mount.ensures.as_many)) c.index.ensures)).table
 
 pub returns-in-Ok-clause-ends : goal.returns-in-Ok-clause-ends
 returns-in-Ok-clause-ends g c = λ plans ts name tells on calm stand named.
@@ -75,14 +68,12 @@ returns-in-Ok-clause-ends g c = λ plans ts name tells on calm stand named.
     let m = g.F.Flash.state c.mount.new.flash in
     let h = g.F.Flash.state c.write_table.new.flash in
     let now = c.mount.new.self.entries.items in
-    let here : slice_get c.mount.new.self.entries.items c.args.at ≡ Some c.index.result.now =
-    item-there c.mount.new.self.entries.items (length c.mount.new.self.entries.items) c.args.at c.index.result.now refl (omega (arith, c.requires.at, c.mount.ensures.as_many)) c.index.ensures in
+    let here = entry-at c.mount.new.self.entries.items c.args.at c.index.result.now (omega (arith, c.requires.at, c.mount.ensures.as_many)) c.index.ensures in
     let mounted = c.in_default.ensures.ends plans ts (has_risen f m) at_rest (watched f m at_rest tells on calm) stand in
     let told : IsTrue m.media.tells = subst IsTrue (sym c.mount.ensures.goes.tells) tells in
     let at = own plans ts name c.args.range f m h (g.K.Sink.written c.args.out.now) (g.K.Sink.written c.write_table.new.out) c.args.tables.now.entries.items now c.args.at c.index.result.now c.mount.ensures.goes.faults c.write_table.ensures.counts stand named here mounted in
-    let stood = subst (λ (t : Table 64 64). Stands t m (first_of plans c.args.at) (bare at.plan) (bare_table at.table)) (sym c.table-table.ensures) at.stands.on_flash.unlogged in
     done plans ts name c.args.range f m h (g.K.Sink.written c.args.out.now) (g.K.Sink.written c.write_table.new.out) c.args.tables.now.entries.items now c.args.at c.index.result.now c.mount.ensures.goes.faults c.write_table.ensures.counts stand named here mounted
-    (c.in-Ok.ensures.writes (first_of plans c.args.at) (bare at.plan) (bare_table at.table) told stood)
+    (c.in-Ok.ensures.writes (first_of plans c.args.at) (bare at.plan) (bare_table at.table) told (subst (λ (t : Table 64 64). Stands t m (first_of plans c.args.at) (bare at.plan) (bare_table at.table)) (sym c.table-table.ensures) at.stands.on_flash.unlogged))
 
 pub returns-in-Err-write_table-clause-ends : goal.returns-in-Err-write_table-clause-ends
 returns-in-Err-write_table-clause-ends g c = λ plans ts name tells on calm stand named.
@@ -90,8 +81,7 @@ returns-in-Err-write_table-clause-ends g c = λ plans ts name tells on calm stan
     let m = g.F.Flash.state c.mount.new.flash in
     let h = g.F.Flash.state c.write_table.new.flash in
     let now = c.mount.new.self.entries.items in
-    let here : slice_get c.mount.new.self.entries.items c.args.at ≡ Some c.index.result.now =
-    item-there c.mount.new.self.entries.items (length c.mount.new.self.entries.items) c.args.at c.index.result.now refl (omega (arith, c.requires.at, c.mount.ensures.as_many)) c.index.ensures in
+    let here = entry-at c.mount.new.self.entries.items c.args.at c.index.result.now (omega (arith, c.requires.at, c.mount.ensures.as_many)) c.index.ensures in
     let mounted = c.in_default.ensures.ends plans ts (has_risen f m) at_rest (watched f m at_rest tells on calm) stand in
     let told : IsTrue m.media.tells = subst IsTrue (sym c.mount.ensures.goes.tells) tells in
     let at = own plans ts name c.args.range f m h (g.K.Sink.written c.args.out.now) (g.K.Sink.written c.write_table.new.out) c.args.tables.now.entries.items now c.args.at c.index.result.now c.mount.ensures.goes.faults c.write_table.ensures.counts stand named here mounted in
@@ -104,9 +94,8 @@ pub returns-in-Err-clause-repairs : goal.returns-in-Err-clause-repairs
 returns-in-Err-clause-repairs g c = λ plans ts name tells on calm stand named well.
     let f = g.F.Flash.state c.args.flash.now in
     let m = g.F.Flash.state c.mount.new.flash in
-    let breaks = c.in-Err.ensures.ends plans ts (has_risen f m) at_rest (watched f m at_rest tells on calm) stand in
     absurd (well (c.mount_status.ensures ∙ broken-device plans ts name c.args.range f m (g.K.Sink.written c.args.out.now) c.mount.new.self.entries.items
-    (stands-there f (λ i. false) plans c.args.tables.now.entries.items ts name c.args.at stand named) c.in-Err.bad.fault c.in-Err.bad.at breaks))
+    (stands-there f (λ i. false) plans c.args.tables.now.entries.items ts name c.args.at stand named) c.in-Err.bad.fault c.in-Err.bad.at (c.in-Err.ensures.ends plans ts (has_risen f m) at_rest (watched f m at_rest tells on calm) stand)))
 
 pub returns-in-Ok-clause-repairs : goal.returns-in-Ok-clause-repairs
 returns-in-Ok-clause-repairs g c = λ plans ts name tells on calm stand named well page lt.
@@ -127,23 +116,15 @@ returns-in-Err-write_table-clause-goes g c = goes-then _ _ _ c.mount.ensures.goe
 pub returns-in-Err-clause-over : goal.returns-in-Err-clause-over
 returns-in-Err-clause-over g c =
     let e = c.mount.ensures in
-    let mounts : MountsOver c.args.tables.now.entries.items c.mount.new.self.entries.items (g.F.Flash.state c.args.flash.now) c.mount.result (g.F.Flash.state c.mount.new.flash) =
-    record { found = e.found; refused = e.refused; stops = e.stops; cause = e.cause; running = e.running; none = e.none; power = e.power; as_many = e.as_many; names = e.names; same = e.same; repairs = e.repairs; outside = e.outside } in
-    refuses-over _ _ _ _ c.mount.result mounts c.mount_status.result c.args.at c.in-Err.bad c.in-Err.is c.mount_status.ensures
+    refuses-over _ _ _ _ c.mount.result (record { found = e.found; refused = e.refused; stops = e.stops; cause = e.cause; running = e.running; none = e.none; power = e.power; as_many = e.as_many; names = e.names; same = e.same; repairs = e.repairs; outside = e.outside }) c.mount_status.result c.args.at c.in-Err.bad c.in-Err.is c.mount_status.ensures
 
 pub returns-in-Ok-clause-over : goal.returns-in-Ok-clause-over
 returns-in-Ok-clause-over g c =
     let e = c.mount.ensures in
-    let mounts : MountsOver c.args.tables.now.entries.items c.mount.new.self.entries.items (g.F.Flash.state c.args.flash.now) c.mount.result (g.F.Flash.state c.mount.new.flash) =
-    record { found = e.found; refused = e.refused; stops = e.stops; cause = e.cause; running = e.running; none = e.none; power = e.power; as_many = e.as_many; names = e.names; same = e.same; repairs = e.repairs; outside = e.outside } in
-    reads-over _ _ _ _ c.mount.result mounts Done c.args.at (g.F.Flash.state c.write_table.new.flash) tt c.in_default.is c.write_table.ensures.counts (λ table is. absurd (cc is))
+    reads-over _ _ _ _ c.mount.result (record { found = e.found; refused = e.refused; stops = e.stops; cause = e.cause; running = e.running; none = e.none; power = e.power; as_many = e.as_many; names = e.names; same = e.same; repairs = e.repairs; outside = e.outside }) Done c.args.at (g.F.Flash.state c.write_table.new.flash) tt c.in_default.is c.write_table.ensures.counts (λ table is. absurd (cc is))
 
 pub returns-in-Err-write_table-clause-over : goal.returns-in-Err-write_table-clause-over
 returns-in-Err-write_table-clause-over g c =
     let e = c.mount.ensures in
-    let mounts : MountsOver c.args.tables.now.entries.items c.mount.new.self.entries.items (g.F.Flash.state c.args.flash.now) c.mount.result (g.F.Flash.state c.mount.new.flash) =
-    record { found = e.found; refused = e.refused; stops = e.stops; cause = e.cause; running = e.running; none = e.none; power = e.power; as_many = e.as_many; names = e.names; same = e.same; repairs = e.repairs; outside = e.outside } in
-    let here : slice_get c.mount.new.self.entries.items c.args.at ≡ Some c.index.result.now =
-    item-there c.mount.new.self.entries.items (length c.mount.new.self.entries.items) c.args.at c.index.result.now refl (omega (arith, c.requires.at, c.mount.ensures.as_many)) c.index.ensures in
-    reads-over _ _ _ _ c.mount.result mounts c.status_of.result c.args.at (g.F.Flash.state c.write_table.new.flash) tt c.in_default.is c.write_table.ensures.counts
-    (λ table is. bad-table c.mount.new.self.entries.items c.args.at c.index.result.now c.table-table.result.now (g.F.Flash.state c.mount.new.flash) c.in-Err-write_table.fault c.status_of.result table here c.table-table.ensures c.status_of.ensures is c.in-Err-write_table.ensures.bad)
+    reads-over _ _ _ _ c.mount.result (record { found = e.found; refused = e.refused; stops = e.stops; cause = e.cause; running = e.running; none = e.none; power = e.power; as_many = e.as_many; names = e.names; same = e.same; repairs = e.repairs; outside = e.outside }) c.status_of.result c.args.at (g.F.Flash.state c.write_table.new.flash) tt c.in_default.is c.write_table.ensures.counts
+    (λ table is. bad-table c.mount.new.self.entries.items c.args.at c.index.result.now c.table-table.result.now (g.F.Flash.state c.mount.new.flash) c.in-Err-write_table.fault c.status_of.result table (entry-at c.mount.new.self.entries.items c.args.at c.index.result.now (omega (arith, c.requires.at, c.mount.ensures.as_many)) c.index.ensures) c.table-table.ensures c.status_of.ensures is c.in-Err-write_table.ensures.bad)

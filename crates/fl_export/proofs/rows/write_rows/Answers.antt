@@ -1,5 +1,4 @@
 use Rattle.std.proofs.Common.{◌≡◌, true, false, inl, inr, Ok, Err, refl, sym, ◌∙◌, ap, subst, arith}
-use Rattle.std.proofs.lemmas.Result.{err_from_is_err_and}
 use Rattle.std.specs.Borrow.{Bor}
 use Rattle.fl_cursor.specs.Cursor.{table_of, present_of, has_ended, IfBad, MayBeBad}
 use Rattle.fl_cursor.specs.Going.{Goes, Fails}
@@ -10,6 +9,7 @@ use Rattle.fl_page.proofs.ReadsInTurn.{IsCaused-later}
 use Rattle.fl_frame.proofs.ContentsInTurn.{OnlyReads-same, OnlyReads-then}
 use Rattle.fl_schema.specs.Schema.{row_of}
 use Rattle.fl_table.specs.declared.table.Table.{Table}
+use Rattle.fl_store.proofs.Called.{err-is}
 use Rattle.fl_export.specs.Writing.{IsBadIn}
 use Rattle.fl_export.proofs.Unread.{unread-later, bad-more, bad-read}
 use Rattle.fl_store.proofs.TablesOnlyRead.{tells-read, lies-read, page-read, stands-read}
@@ -31,8 +31,7 @@ returns-in_err-advance-clause-counts g c = OnlyReads-then _ _ _ c.rows.invariant
 
 pub returns-in_err-advance-clause-unread : goal.returns-in_err-advance-clause-unread
 returns-in_err-advance-clause-unread g c =
-    let p = err_from_is_err_and c.from_residual.result c.from_residual.ensures.1 in
-    rw (p.1, p.2) (IsCaused-later (g.F.Flash.state c.args.flash.now) (g.F.Flash.state c.rows.flash) (g.F.Flash.state c.advance.new.flash) c.in_err-advance.field-0.0 c.rows.invariant.counts c.in_err-advance.ensures.cause)
+    rw (err-is c.from_residual.result _ c.from_residual.ensures.1) (IsCaused-later (g.F.Flash.state c.args.flash.now) (g.F.Flash.state c.rows.flash) (g.F.Flash.state c.advance.new.flash) c.in_err-advance.field-0.0 c.rows.invariant.counts c.in_err-advance.ensures.cause)
 
 pub returns-in_err-advance-clause-writes : goal.returns-in_err-advance-clause-writes
 returns-in_err-advance-clause-writes g c = λ first plan t entries tells stands told left among.
@@ -40,33 +39,24 @@ returns-in_err-advance-clause-writes g c = λ first plan t entries tells stands 
     let held = contents_of (g.F.Flash.state c.args.flash.now) in
     let mid = c.rows.cursor in
     let new = c.advance.new.self in
-    let reads = (g.F.Flash.state c.rows.flash).work.reads in
-    let now = (g.F.Flash.state c.advance.new.flash).work.reads in
-    let e = c.in_err-advance.field-0.0 in
-    let p = err_from_is_err_and c.from_residual.result c.from_residual.ensures.1 in
-    let fails : Fails (contents_of (g.F.Flash.state c.args.flash.now)) (g.F.Flash.state c.rows.flash).work.reads c.rows.cursor (g.F.Flash.state c.advance.new.flash).work.reads c.advance.new.self =
-    subst (λ (k : Contents). Fails k (g.F.Flash.state c.rows.flash).work.reads c.rows.cursor (g.F.Flash.state c.advance.new.flash).work.reads c.advance.new.self) inv.counts.contents c.in_err-advance.ensures.fails in
-    let bad : IfBad (MayBeBad (table_of c.rows.cursor) (contents_of (g.F.Flash.state c.args.flash.now))) c.in_err-advance.field-0.0 =
-    subst (λ (k : Contents). IfBad (MayBeBad (table_of c.rows.cursor) k) c.in_err-advance.field-0.0) inv.counts.contents c.in_err-advance.ensures.bad_page in
+    let fails = subst (λ (k : Contents). Fails k (g.F.Flash.state c.rows.flash).work.reads c.rows.cursor (g.F.Flash.state c.advance.new.flash).work.reads c.advance.new.self) inv.counts.contents c.in_err-advance.ensures.fails in
+    let bad = subst (λ (k : Contents). IfBad (MayBeBad (table_of c.rows.cursor) k) c.in_err-advance.field-0.0) inv.counts.contents c.in_err-advance.ensures.bad_page in
     let far = inv.far first plan t entries tells stands told left among in
-    let steps = steps-after mid new held reads now (Err c.in_err-advance.field-0.0) tt fails bad tt far.ready in
-    rw (p.1, p.2) (far-unread plan t entries mid new held (g.K.Sink.written c.args.out.now) (g.K.Sink.written c.rows.out) far (present_of new) e steps)
+    let steps = steps-after mid new held ((g.F.Flash.state c.rows.flash).work.reads) ((g.F.Flash.state c.advance.new.flash).work.reads) (Err c.in_err-advance.field-0.0) tt fails bad tt far.ready in
+    rw (err-is c.from_residual.result _ c.from_residual.ensures.1) (far-unread plan t entries mid new held (g.K.Sink.written c.args.out.now) (g.K.Sink.written c.rows.out) far (present_of new) c.in_err-advance.field-0.0 steps)
 
 pub returns-in_err-advance-clause-bad : goal.returns-in_err-advance-clause-bad
 returns-in_err-advance-clause-bad g c =
     let inv = c.rows.invariant in
     let e = c.in_err-advance.field-0.0 in
     let same : table_of c.rows.cursor ≡ c.args.table.now = ap (λ (t : Bor (Table 64 64)). t.now) inv.keeps.table ∙ c.requires.same in
-    let bad : IfBad (MayBeBad (table_of c.rows.cursor) (contents_of (g.F.Flash.state c.args.flash.now))) c.in_err-advance.field-0.0 =
-    subst (λ (k : Contents). IfBad (MayBeBad (table_of c.rows.cursor) k) c.in_err-advance.field-0.0) inv.counts.contents c.in_err-advance.ensures.bad_page in
-    let p = err_from_is_err_and c.from_residual.result c.from_residual.ensures.1 in
-    rw (p.1, p.2) (bad-read e (MayBeBad (table_of c.rows.cursor) (contents_of (g.F.Flash.state c.args.flash.now))) (IsBadIn c.args.table.now (contents_of (g.F.Flash.state c.args.flash.now)))
+    let bad = subst (λ (k : Contents). IfBad (MayBeBad (table_of c.rows.cursor) k) c.in_err-advance.field-0.0) inv.counts.contents c.in_err-advance.ensures.bad_page in
+    rw (err-is c.from_residual.result _ c.from_residual.ensures.1) (bad-read e (MayBeBad (table_of c.rows.cursor) (contents_of (g.F.Flash.state c.args.flash.now))) (IsBadIn c.args.table.now (contents_of (g.F.Flash.state c.args.flash.now)))
     (λ b h. inl (subst (λ (t : Table 64 64). MayBeBad t (contents_of (g.F.Flash.state c.args.flash.now)) b) same h)) bad)
 
 pub returns-in_err-write_row-clause-bad : goal.returns-in_err-write_row-clause-bad
 returns-in_err-write_row-clause-bad g c =
-    let p = err_from_is_err_and c.from_residual-in_err-write_row.result c.from_residual-in_err-write_row.ensures.1 in
-    rw (p.1, p.2) (bad-more c.in_err-write_row.field-0.0 _ (IsBadIn c.args.table.now (contents_of (g.F.Flash.state c.args.flash.now))) (λ b h. inr h) c.in_err-write_row.ensures.bad)
+    rw (err-is c.from_residual-in_err-write_row.result _ c.from_residual-in_err-write_row.ensures.1) (bad-more c.in_err-write_row.field-0.0 _ (IsBadIn c.args.table.now (contents_of (g.F.Flash.state c.args.flash.now))) (λ b h. inr h) c.in_err-write_row.ensures.bad)
 
 pub write_row-requires-clause-lies : goal.write_row-requires-clause-lies
 write_row-requires-clause-lies g c = lies-read (g.F.Flash.state c.args.flash.now) (g.F.Flash.state c.advance.new.flash) (OnlyReads-then _ _ _ c.rows.invariant.counts c.advance.ensures.reads_only) c.args.table.now c.requires.lies
@@ -79,8 +69,7 @@ returns-in_err-write_row-clause-counts g c = OnlyReads-then _ _ _ (OnlyReads-the
 
 pub returns-in_err-write_row-clause-unread : goal.returns-in_err-write_row-clause-unread
 returns-in_err-write_row-clause-unread g c =
-    let p = err_from_is_err_and c.from_residual-in_err-write_row.result c.from_residual-in_err-write_row.ensures.1 in
-    rw (p.1, p.2) (unread-later (g.F.Flash.state c.args.flash.now) (g.F.Flash.state c.advance.new.flash) (g.F.Flash.state c.write_row.new.flash) c.in_err-write_row.field-0.0 (OnlyReads-then _ _ _ c.rows.invariant.counts c.advance.ensures.reads_only) c.in_err-write_row.ensures.unread)
+    rw (err-is c.from_residual-in_err-write_row.result _ c.from_residual-in_err-write_row.ensures.1) (unread-later (g.F.Flash.state c.args.flash.now) (g.F.Flash.state c.advance.new.flash) (g.F.Flash.state c.write_row.new.flash) c.in_err-write_row.field-0.0 (OnlyReads-then _ _ _ c.rows.invariant.counts c.advance.ensures.reads_only) c.in_err-write_row.ensures.unread)
 
 pub returns-in_err-write_row-clause-writes : goal.returns-in_err-write_row-clause-writes
 returns-in_err-write_row-clause-writes g c = λ first plan t entries tells stands told left among.
@@ -89,12 +78,9 @@ returns-in_err-write_row-clause-writes g c = λ first plan t entries tells stand
     let mid = c.rows.cursor in
     let new = c.advance.new.self in
     let only = OnlyReads-then (g.F.Flash.state c.args.flash.now) (g.F.Flash.state c.rows.flash) (g.F.Flash.state c.advance.new.flash) inv.counts c.advance.ensures.reads_only in
-    let goes : Goes true (contents_of (g.F.Flash.state c.args.flash.now)) (g.F.Flash.state c.rows.flash).work.reads c.rows.cursor (g.F.Flash.state c.advance.new.flash).work.reads c.advance.new.self =
-    subst (λ (k : Contents). Goes true k (g.F.Flash.state c.rows.flash).work.reads c.rows.cursor (g.F.Flash.state c.advance.new.flash).work.reads c.advance.new.self) inv.counts.contents
-    (rw c.if-branch.true at c.in_ok-advance.ensures.goes) in
+    let goes = subst (λ (k : Contents). Goes true k (g.F.Flash.state c.rows.flash).work.reads c.rows.cursor (g.F.Flash.state c.advance.new.flash).work.reads c.advance.new.self) inv.counts.contents (rw c.if-branch.true at c.in_ok-advance.ensures.goes) in
     let far = inv.far first plan t entries tells stands told left among in
-    let p = err_from_is_err_and c.from_residual-in_err-write_row.result c.from_residual-in_err-write_row.ensures.1 in
-    rw (p.1, p.2) (far-stopped plan t entries mid new held (g.K.Sink.written c.args.out.now) (g.K.Sink.written c.rows.out) far (row_of c.row.result) (present_of c.advance.new.self) (g.K.Sink.written c.write_row.new.out) c.in_err-write_row.field-0.0
+    rw (err-is c.from_residual-in_err-write_row.result _ c.from_residual-in_err-write_row.ensures.1) (far-stopped plan t entries mid new held (g.K.Sink.written c.args.out.now) (g.K.Sink.written c.rows.out) far (row_of c.row.result) (present_of c.advance.new.self) (g.K.Sink.written c.write_row.new.out) c.in_err-write_row.field-0.0
     c.row.ensures.row (goes.gives far.ready)
     (λ place entry here is. c.in_err-write_row.ensures.writes first plan t place entry (tells-read _ _ only tells) (stands-read _ _ only c.args.table.now first plan t stands) here is))
 
@@ -105,9 +91,7 @@ rows-preserved g c =
     let mid = c.rows.cursor in
     let new = c.advance.new.self in
     let only = OnlyReads-then (g.F.Flash.state c.args.flash.now) (g.F.Flash.state c.rows.flash) (g.F.Flash.state c.advance.new.flash) inv.counts c.advance.ensures.reads_only in
-    let goes : Goes true (contents_of (g.F.Flash.state c.args.flash.now)) (g.F.Flash.state c.rows.flash).work.reads c.rows.cursor (g.F.Flash.state c.advance.new.flash).work.reads c.advance.new.self =
-    subst (λ (k : Contents). Goes true k (g.F.Flash.state c.rows.flash).work.reads c.rows.cursor (g.F.Flash.state c.advance.new.flash).work.reads c.advance.new.self) inv.counts.contents
-    (rw c.if-branch.true at c.in_ok-advance.ensures.goes) in
+    let goes = subst (λ (k : Contents). Goes true k (g.F.Flash.state c.rows.flash).work.reads c.rows.cursor (g.F.Flash.state c.advance.new.flash).work.reads c.advance.new.self) inv.counts.contents (rw c.if-branch.true at c.in_ok-advance.ensures.goes) in
     record {
       counts = OnlyReads-then _ _ _ only c.write_row.ensures.counts;
       keeps = keeps-then c.args.cursor.now mid new inv.keeps goes.keeps;
@@ -123,8 +107,7 @@ rows-preserved g c =
 
 pub rows-smaller : goal.rows-smaller
 rows-smaller g c =
-    let goes : Goes true (contents_of (g.F.Flash.state c.rows.flash)) (g.F.Flash.state c.rows.flash).work.reads c.rows.cursor (g.F.Flash.state c.advance.new.flash).work.reads c.advance.new.self =
-    rw c.if-branch.true at c.in_ok-advance.ensures.goes in
+    let goes = rw c.if-branch.true at c.in_ok-advance.ensures.goes in
     row-smaller c.rows.cursor c.advance.new.self goes.notes
 
 pub returns-clause-counts : goal.returns-clause-counts
@@ -132,8 +115,7 @@ returns-clause-counts g c = OnlyReads-then _ _ _ c.rows.invariant.counts c.advan
 
 pub returns-clause-keeps : goal.returns-clause-keeps
 returns-clause-keeps g c =
-    let goes : Goes false (contents_of (g.F.Flash.state c.rows.flash)) (g.F.Flash.state c.rows.flash).work.reads c.rows.cursor (g.F.Flash.state c.advance.new.flash).work.reads c.advance.new.self =
-    rw c.if-branch.false at c.in_ok-advance.ensures.goes in
+    let goes = rw c.if-branch.false at c.in_ok-advance.ensures.goes in
     keeps-then c.args.cursor.now c.rows.cursor c.advance.new.self c.rows.invariant.keeps goes.keeps
 
 pub returns-clause-writes : goal.returns-clause-writes
@@ -142,12 +124,8 @@ returns-clause-writes g c = λ first plan t entries tells stands told left among
     let held = contents_of (g.F.Flash.state c.args.flash.now) in
     let mid = c.rows.cursor in
     let new = c.advance.new.self in
-    let reads = (g.F.Flash.state c.rows.flash).work.reads in
-    let now = (g.F.Flash.state c.advance.new.flash).work.reads in
-    let goes : Goes false (contents_of (g.F.Flash.state c.args.flash.now)) (g.F.Flash.state c.rows.flash).work.reads c.rows.cursor (g.F.Flash.state c.advance.new.flash).work.reads c.advance.new.self =
-    subst (λ (k : Contents). Goes false k (g.F.Flash.state c.rows.flash).work.reads c.rows.cursor (g.F.Flash.state c.advance.new.flash).work.reads c.advance.new.self) inv.counts.contents
-    (rw c.if-branch.false at c.in_ok-advance.ensures.goes) in
+    let goes = subst (λ (k : Contents). Goes false k (g.F.Flash.state c.rows.flash).work.reads c.rows.cursor (g.F.Flash.state c.advance.new.flash).work.reads c.advance.new.self) inv.counts.contents (rw c.if-branch.false at c.in_ok-advance.ensures.goes) in
     let end : has_ended c.advance.new.self ≡ true = rw c.if-branch.false at c.in_ok-advance.ensures.end in
     let far = inv.far first plan t entries tells stands told left among in
-    let steps = steps-after mid new held reads now (Ok false) goes tt tt end far.ready in
+    let steps = steps-after mid new held ((g.F.Flash.state c.rows.flash).work.reads) ((g.F.Flash.state c.advance.new.flash).work.reads) (Ok false) goes tt tt end far.ready in
     far-all plan t entries mid new held (g.K.Sink.written c.args.out.now) (g.K.Sink.written c.rows.out) far steps.0

@@ -1,11 +1,11 @@
 use Rattle.std.proofs.Common.{◌≡◌, None, ℕ, List, length, ◌∙◌, ap, subst}
-use Rattle.std.proofs.lemmas.Result.{err_from_is_err_and}
 use Rattle.fl_base.specs.Causes.{Appends, AppendsFront}
 use Rattle.fl_csv.specs.Text.{header_text}
 use Rattle.fl_model.specs.Query.{matches, selected}
 use Rattle.fl_model.specs.Record.{has_var}
 use Rattle.fl_model.specs.Table.{Entry}
 use Rattle.fl_frame.specs.Contents.{contents_of}
+use Rattle.fl_store.proofs.Called.{err-is}
 use Rattle.fl_export.proofs.Lines.{lines, writes-behind, picked-among}
 use Rattle.fl_store.proofs.Appends.{front-more}
 use Rattle.fl_store.proofs.TablesOnlyRead.{is-standing}
@@ -18,17 +18,11 @@ returns-in_err-header_line-clause-writes g c = λ first plan t tells stands.
     let columns = c.columns.ensures.exact ∙ columns-as c.args.table.now f first plan t stands in
     let blobs = c.has_blobs.ensures ∙ blobs-as c.args.table.now f first plan t stands in
     let head : header_text c.columns.result c.has_blobs.result ≡ header_text (length plan.columns) (has_var plan) = ap (λ n. header_text n c.has_blobs.result) columns ∙ ap (header_text (length plan.columns)) blobs in
-    let p = err_from_is_err_and c.from_residual.result c.from_residual.ensures.1 in
-    rw (p.1, p.2) (
+    rw (err-is c.from_residual.result _ c.from_residual.ensures.1) (
       tt,
       front-more (g.K.Sink.written c.args.out.now) (g.K.Sink.written c.header_line.new.out) (header_text (length plan.columns) (has_var plan)) (lines plan t (selected c.args.range None t.entries))
           (subst (λ (l : List ℕ). AppendsFront (g.K.Sink.written c.args.out.now) (g.K.Sink.written c.header_line.new.out) l) head c.in_err-header_line.ensures.text),
     )
-
-pub returns-in_err-header_line-clause-bad : goal.returns-in_err-header_line-clause-bad
-returns-in_err-header_line-clause-bad g c =
-    let p = err_from_is_err_and c.from_residual.result c.from_residual.ensures.1 in
-    rw (p.1, p.2) tt
 
 pub returns-clause-writes : goal.returns-clause-writes
 returns-clause-writes g c = λ first plan t tells stands.

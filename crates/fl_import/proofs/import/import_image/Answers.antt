@@ -1,4 +1,4 @@
-use Rattle.std.proofs.Common.{◌≡◌, ◌<◌, ◌≤◌, inl, inr, rules, List, length, refl, sym, ◌∙◌, ap, subst, arith}
+use Rattle.std.proofs.Common.{◌≡◌, ◌<◌, ◌≤◌, inl, inr, rules, List, length, sym, ◌∙◌, ap, subst, arith}
 use Rattle.std.proofs.lemmas.Option.{slice_get_within}
 use Rattle.fl_store.proofs.Unarmed.{opened-unarmed}
 use Rattle.fl_image.proofs.Made.{made-by}
@@ -46,12 +46,6 @@ returns-in-Err-clause-device g c = rw c.of.ensures (λ is. subst (FindsNone (g.M
 
 pub returns-in-Err-clause-known : goal.returns-in-Err-clause-known
 returns-in-Err-clause-known g c = rw c.of.ensures (λ is. subst (FindsNone (g.M.Media.state c.args.media.now) (g.M.Media.state c.begin.new.media) c.args.name) is c.in-Err.ensures.none)
-
-pub returns-in-Err-clause-untouched : goal.returns-in-Err-clause-untouched
-returns-in-Err-clause-untouched g c = λ early. (c.in-Err.ensures.looks, refl, refl)
-
-pub returns-in-Err-clause-unread : goal.returns-in-Err-clause-unread
-returns-in-Err-clause-unread g c = λ table is. (refl, refl)
 
 pub returns-in-Err-clause-changes : goal.returns-in-Err-clause-changes
 returns-in-Err-clause-changes g c = λ tells. inr c.in-Err.ensures.looks.content
@@ -105,12 +99,8 @@ returns-clause-repairs g c = λ config tables tells made image well.
     let holds = found-holds (g.M.Media.state c.args.media.now) (g.M.Media.state c.begin.new.media) c.args.name config made tables tells image looks c.in-Ok.begun.found c.in-Ok.ensures.table _ _ c.over-flash.ensures.holds in
     let opened = c.over-flash.ensures.opened in
     let e : g.M.Media.state c.media-1.given.0 ≡ g.M.Media.state c.close-media.result.now = search rules in
-    let worked = worked-by opened c.import_on-end.ensures.goes (e ∙ c.close-media.ensures.state) in
-    others-after config c.args.name _ _ _ looks.content (worked-others _ _ _ _ _ worked config holds.medium c.args.name
+    others-after config c.args.name _ _ _ looks.content (worked-others _ _ _ _ _ (worked-by opened c.import_on-end.ensures.goes (e ∙ c.close-media.ensures.state)) config holds.medium c.args.name
     (c.import_on-end.ensures.repairs config.plans tables c.args.name holds.medium.told opened.on opened.calm holds.stand (subst (λ (t : Tables). IsNamed t.entries.items c.args.name c.in-Ok.begun.found.at) (sym c.over-flash.ensures.tables) c.in-Ok.ensures.table.named) well))
-
-pub returns-clause-kept : goal.returns-clause-kept
-returns-clause-kept g c = c.import_on-end.ensures.causes.kept_is
 
 pub returns-clause-form : goal.returns-clause-form
 returns-clause-form g c = λ tells.
@@ -118,9 +108,6 @@ returns-clause-form g c = λ tells.
     let image = table.image tells in
     form-own _ c.args.name (g.S.Source.left c.args.input.now) (g.S.Source.left c.args.input.now) c.in-Ok.begun.found.config c.in-Ok.begun.found.layout.tables.entries.items image.0 image.1 table.layout.tables c.in-Ok.begun.found.at table.named c.import_on-end.result.form
     (form-then c.import_on-end.result.form c.form_at-form.result (λ form. FormsAt form c.in-Ok.begun.found.config.plans c.in-Ok.begun.found.at) c.import_on-end.ensures.form (c.form_at-form.ensures.form c.in-Ok.begun.found.config table.layout.tables))
-
-pub returns-clause-formed : goal.returns-clause-formed
-returns-clause-formed g c = c.import_on-end.ensures.formed
 
 pub returns-clause-fits : goal.returns-clause-fits
 returns-clause-fits g c = λ tells.
@@ -142,23 +129,11 @@ returns-clause-known g c = λ is. subst IsOfMounted is c.import_on-end.ensures.c
 pub returns-clause-untouched : goal.returns-clause-untouched
 returns-clause-untouched g c = not-early c.import_on-end.result.status c.import_on-end.ensures.causes.known
 
-pub returns-clause-unread : goal.returns-clause-unread
-returns-clause-unread g c = c.import_on-end.ensures.unread
-
 pub returns-clause-changes : goal.returns-clause-changes
 returns-clause-changes g c = λ tells.
     let table = c.in-Ok.ensures.table in
     let image = table.image tells in
     inl (image-with _ c.args.name c.in-Ok.begun.found.config c.in-Ok.begun.found.layout.tables.entries.items image.0 image.1 table.layout.tables c.in-Ok.begun.found.at table.named)
-
-pub returns-clause-read : goal.returns-clause-read
-returns-clause-read g c = c.import_on-end.ensures.causes.read
-
-pub returns-clause-write : goal.returns-clause-write
-returns-clause-write g c = c.import_on-end.ensures.causes.write
-
-pub returns-clause-later : goal.returns-clause-later
-returns-clause-later g c = c.import_on-end.ensures.causes.later
 
 pub returns-clause-keeps : goal.returns-clause-keeps
 returns-clause-keeps g c =

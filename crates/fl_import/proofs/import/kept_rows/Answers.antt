@@ -7,5 +7,4 @@ use Rattle.fl_import.proofs.import.kept_rows.Goals as goal
 
 pub returns-in-Done-clause-rows : goal.returns-in-Done-clause-rows
 returns-in-Done-clause-rows c = λ f first plan t done stands.
-    let unlogged = subst (λ (u : Table 64 64). Stands u f first (bare plan) (bare_table t)) (sym c.table.ensures) stands.unlogged in
-    ap (λ (n : TableCounts). Some n.rows) (c.counts.ensures.stands f first (bare plan) (bare_table t) unlogged)
+    ap (λ (n : TableCounts). Some n.rows) (c.counts.ensures.stands f first (bare plan) (bare_table t) (subst (λ (u : Table 64 64). Stands u f first (bare plan) (bare_table t)) (sym c.table.ensures) stands.unlogged))

@@ -28,9 +28,8 @@ returns-in-Some-clause-ends g c = λ first plan t is works.
     let means : meaning c.args.gone c.args.form.columns c.args.form.blobs c.args.line.now ≡ Ok (put_view c.in-Ok.put) = ap (line_put c.args.gone c.args.form.columns c.args.form.blobs) (sym c.without_return-text.ensures) ∙ c.in-Ok.ensures.means in
     let f = g.F.Flash.state c.args.flash.now in
     let h = g.F.Flash.state c.put_record-outcome.new.flash in
-    let e = c.put_record-outcome.ensures in
     (ends-broken first plan t c.args.table.now c.put_record-outcome.new.table f h works (lacks c.args.gone c.args.form.columns c.args.form.blobs c.args.line.now) c.args.number (g.K.Sink.written c.args.out.now) (g.K.Sink.written c.args.out.now) (meaning c.args.gone c.args.form.columns c.args.form.blobs c.args.line.now) (put_view c.in-Ok.put) means
-    c.put_record-outcome.result c.in-Some.field-0 (sym c.fault_in.ensures ∙ c.in-Some.is) refl (e.ends first plan t _ works.device (works-watched first plan t c.args.table.now c.put_record-outcome.new.table f h works) works.stands))
+    c.put_record-outcome.result c.in-Some.field-0 (sym c.fault_in.ensures ∙ c.in-Some.is) refl (c.put_record-outcome.ensures.ends first plan t _ works.device (works-watched first plan t c.args.table.now c.put_record-outcome.new.table f h works) works.stands))
 
 pub returns-in-Some-clause-device : goal.returns-in-Some-clause-device
 returns-in-Some-clause-device g c = λ is.

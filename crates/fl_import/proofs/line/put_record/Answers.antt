@@ -1,5 +1,4 @@
-use Rattle.std.proofs.Common.{◌≡◌, ℕ, Option, Some, List, sym, ◌∙◌, ap}
-use Rattle.std.specs.Prelude.{option_map}
+use Rattle.std.proofs.Common.{◌≡◌, ℕ, Option, Some, List, sym, ◌∙◌, ap, option_map}
 use denote.Bor.{Bor}
 use Rattle.fl_import.proofs.line.put_record.Goals as goal
 use Rattle.fl_import.proofs.line.put_record.Goals.{in-None, in-Some}

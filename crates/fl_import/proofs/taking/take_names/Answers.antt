@@ -1,12 +1,11 @@
 use Rattle.std.proofs.Common.{[], refl}
-use Rattle.std.proofs.lemmas.Result.{err_from_is_err_and}
+use Rattle.fl_store.proofs.Called.{err-is}
 use Rattle.fl_import.proofs.Taken.{taken-none, taken-next, stops-none, stops-next, stops-other, stops-unread}
 use Rattle.fl_import.proofs.taking.take_names.Goals as goal
 
 pub returns-in_err-next_line-clause-ended : goal.returns-in_err-next_line-clause-ended
 returns-in_err-next_line-clause-ended g c =
-    let p = err_from_is_err_and c.from_residual.result c.from_residual.ensures.1 in
-    rw (p.1, p.2) (λ text is.
+    rw (err-is c.from_residual.result _ c.from_residual.ensures.1) (λ text is.
     let n = c.in_err-next_line.ensures in
     let none = taken-none c.args.form.columns c.args.form.blobs text c.args.lines.now (g.S.Source.left c.args.input.now) c.requires.new is in
     stops-next c.args.form.columns c.args.form.blobs text [] c.args.lines.now c.next_line.new.lines (g.S.Source.left c.args.input.now) (g.S.Source.left c.next_line.new.input) _ _ none 1 refl n.given c.in_err-next_line.field-0.0 n.advances n.next)

@@ -1,7 +1,7 @@
 use Rattle.std.proofs.Common.{Err, inl, refl, ap}
-use Rattle.std.proofs.lemmas.Result.{err_from_is_err_and}
 use Rattle.fl_image.proofs.Reach.{reach}
 use Rattle.fl_image.specs.declared.status.ToolStatus.{ToolStatus}
+use Rattle.fl_store.proofs.Called.{err-is}
 use Rattle.fl_store.proofs.Opened.{same-lines, finds-not}
 use Rattle.fl_store.proofs.found.FoundImage.on.Goals as goal
 
@@ -10,8 +10,7 @@ returns-in_default-clause-finds g c = λ config tables tells made image. inl ref
 
 pub returns-in_err-config-clause-finds : goal.returns-in_err-config-clause-finds
 returns-in_err-config-clause-finds g c =
-    let p = err_from_is_err_and c.from_residual.result c.from_residual.ensures.1 in
-    rw (p.1, p.2) (λ config tables tells made image.
+    rw (err-is c.from_residual.result _ c.from_residual.ensures.1) (λ config tables tells made image.
     finds-not config made (g.M.Media.state c.args.media.now).content tables c.in_err-config.field-0.0 image c.in_err-config.ensures.statuses (λ is. c.in_err-config.ensures.none (ap (λ (s : ToolStatus). Err s) is) tells))
 
 pub returns-in_default-new-clause-finds : goal.returns-in_default-new-clause-finds

@@ -1,14 +1,13 @@
 use Rattle.std.proofs.Common.{Err, ap, arith}
-use Rattle.std.proofs.lemmas.Result.{err_from_is_err_and}
 use Rattle.fl_image.specs.declared.status.ToolStatus.{ToolStatus}
+use Rattle.fl_store.proofs.Called.{err-is}
 use Rattle.fl_store.proofs.FoundTables.{finds-none}
 use Rattle.fl_store.proofs.Named.{image-without}
 use Rattle.fl_store.proofs.found_table.FoundTable.on.Goals as goal
 
 pub returns-in_err-config-clause-none : goal.returns-in_err-config-clause-none
 returns-in_err-config-clause-none g c =
-    let p = err_from_is_err_and c.from_residual.result c.from_residual.ensures.1 in
-    rw (p.1, p.2) (finds-none (g.M.Media.state c.args.media.now) (g.M.Media.state c.on.new.media) c.args.name c.in_err-config.field-0.0 c.in_err-config.ensures.statuses
+    rw (err-is c.from_residual.result _ c.from_residual.ensures.1) (finds-none (g.M.Media.state c.args.media.now) (g.M.Media.state c.on.new.media) c.args.name c.in_err-config.field-0.0 c.in_err-config.ensures.statuses
     (λ is. c.in_err-config.ensures.none (ap (λ (s : ToolStatus). Err s) is)) (λ is. c.in_err-config.ensures.device (ap (λ (s : ToolStatus). Err s) is)))
 
 pub returns-in-Some-clause-table : goal.returns-in-Some-clause-table

@@ -1,13 +1,11 @@
-use Rattle.std.proofs.Common.{rules, ◌≡◌, Some, ap, sym, ◌∙◌}
-use Rattle.std.specs.List.{slice_get}
+use Rattle.std.proofs.Common.{rules, ◌≡◌, Some, ap, sym, ◌∙◌, slice_get}
 use Rattle.fl_rlc.specs.Table.{is_running, table_in}
 use Rattle.fl_table.specs.Causes.{flush_breaks}
 use Rattle.fl_table.specs.Memory.{pending_in}
 use Rattle.fl_store.specs.Tables.{first_of}
 use Rattle.fl_store.specs.declared.tables.Entry.{Entry}
-use Rattle.fl_store.proofs.Called.{entry-at, flush-ends, flush-refused, same-entries, stands-here}
+use Rattle.fl_store.proofs.Called.{entry-at, flush-ends, flush-refused, own-entry, same-entries, stands-here}
 use Rattle.fl_store.proofs.InMemory.{flush-flushes, flush-runs, leaves-others, same-after}
-use Rattle.fl_store.proofs.TablesChanged.{some-is}
 use Rattle.fl_store.proofs.TablesLie.{lie-with}
 use Rattle.fl_store.proofs.store.Store.flush.Goals as goal
 
@@ -22,9 +20,7 @@ returns-clause-ends g c = λ config tables plan table rose device watched h own.
     (stands-here config tables c.args.self.now.tables.entries.items c.args.at c.index_mut.result.now plan table _ h here own))
 
 pub returns-clause-stopped : goal.returns-clause-stopped
-returns-clause-stopped g c = λ entry e.
-    let here : slice_get c.args.self.now.tables.entries.items c.args.at ≡ Some c.index_mut.result.now = entry-at c.args.self.now.tables.entries.items c.args.at c.index_mut.result.now c.requires.at c.index_mut.ensures.value in
-    rw (some-is (slice_get c.args.self.now.tables.entries.items c.args.at) entry c.index_mut.result.now e here) c.flush.ensures.exact
+returns-clause-stopped g c = λ entry e. rw (own-entry c.args.self.now.tables.entries.items c.args.at c.index_mut.result.now entry c.requires.at c.index_mut.ensures.value e) c.flush.ensures.exact
 
 pub returns-clause-running : goal.returns-clause-running
 returns-clause-running g c =
@@ -48,15 +44,12 @@ returns-clause-refused g c =
 
 pub returns-clause-quiet : goal.returns-clause-quiet
 returns-clause-quiet g c = λ entry e running none.
-    let here : slice_get c.args.self.now.tables.entries.items c.args.at ≡ Some c.index_mut.result.now = entry-at c.args.self.now.tables.entries.items c.args.at c.index_mut.result.now c.requires.at c.index_mut.ensures.value in
-    let is = some-is (slice_get c.args.self.now.tables.entries.items c.args.at) entry c.index_mut.result.now e here in
+    let is = own-entry c.args.self.now.tables.entries.items c.args.at c.index_mut.result.now entry c.requires.at c.index_mut.ensures.value e in
     let quiet = c.flush.ensures.quiet (ap (λ (x : Entry). is_running x.table) (sym is) ∙ running) (ap (λ (x : Entry). pending_in (table_in x.table)) (sym is) ∙ none) in
-    (quiet.0, same-entries c.args.self.now.tables.entries.items c.args.at c.index_mut.result.now c.flush.new.self here quiet.1, quiet.2)
+    (quiet.0, same-entries c.args.self.now.tables.entries.items c.args.at c.index_mut.result.now c.flush.new.self (entry-at c.args.self.now.tables.entries.items c.args.at c.index_mut.result.now c.requires.at c.index_mut.ensures.value) quiet.1, quiet.2)
 
 pub returns-clause-off : goal.returns-clause-off
-returns-clause-off g c = λ entry e.
-    let here : slice_get c.args.self.now.tables.entries.items c.args.at ≡ Some c.index_mut.result.now = entry-at c.args.self.now.tables.entries.items c.args.at c.index_mut.result.now c.requires.at c.index_mut.ensures.value in
-    rw (some-is (slice_get c.args.self.now.tables.entries.items c.args.at) entry c.index_mut.result.now e here) c.flush.ensures.off
+returns-clause-off g c = λ entry e. rw (own-entry c.args.self.now.tables.entries.items c.args.at c.index_mut.result.now entry c.requires.at c.index_mut.ensures.value e) c.flush.ensures.off
 
 pub returns-clause-leaves : goal.returns-clause-leaves
 returns-clause-leaves g c =
@@ -69,21 +62,13 @@ returns-clause-same g c =
     (entry-at c.args.self.now.tables.entries.items c.args.at c.index_mut.result.now c.requires.at c.index_mut.ensures.value) c.flush.ensures.same
 
 pub returns-clause-outside : goal.returns-clause-outside
-returns-clause-outside g c = λ entry e.
-    let here : slice_get c.args.self.now.tables.entries.items c.args.at ≡ Some c.index_mut.result.now = entry-at c.args.self.now.tables.entries.items c.args.at c.index_mut.result.now c.requires.at c.index_mut.ensures.value in
-    rw (some-is (slice_get c.args.self.now.tables.entries.items c.args.at) entry c.index_mut.result.now e here) c.flush.ensures.outside
+returns-clause-outside g c = λ entry e. rw (own-entry c.args.self.now.tables.entries.items c.args.at c.index_mut.result.now entry c.requires.at c.index_mut.ensures.value e) c.flush.ensures.outside
 
 pub returns-clause-media_reads : goal.returns-clause-media_reads
-returns-clause-media_reads g c = λ entry e.
-    let here : slice_get c.args.self.now.tables.entries.items c.args.at ≡ Some c.index_mut.result.now = entry-at c.args.self.now.tables.entries.items c.args.at c.index_mut.result.now c.requires.at c.index_mut.ensures.value in
-    rw (some-is (slice_get c.args.self.now.tables.entries.items c.args.at) entry c.index_mut.result.now e here) c.flush.ensures.media_reads
+returns-clause-media_reads g c = λ entry e. rw (own-entry c.args.self.now.tables.entries.items c.args.at c.index_mut.result.now entry c.requires.at c.index_mut.ensures.value e) c.flush.ensures.media_reads
 
 pub returns-clause-writes : goal.returns-clause-writes
-returns-clause-writes g c = λ entry e.
-    let here : slice_get c.args.self.now.tables.entries.items c.args.at ≡ Some c.index_mut.result.now = entry-at c.args.self.now.tables.entries.items c.args.at c.index_mut.result.now c.requires.at c.index_mut.ensures.value in
-    rw (some-is (slice_get c.args.self.now.tables.entries.items c.args.at) entry c.index_mut.result.now e here) c.flush.ensures.writes
+returns-clause-writes g c = λ entry e. rw (own-entry c.args.self.now.tables.entries.items c.args.at c.index_mut.result.now entry c.requires.at c.index_mut.ensures.value e) c.flush.ensures.writes
 
 pub returns-clause-sealed : goal.returns-clause-sealed
-returns-clause-sealed g c = λ entry e.
-    let here : slice_get c.args.self.now.tables.entries.items c.args.at ≡ Some c.index_mut.result.now = entry-at c.args.self.now.tables.entries.items c.args.at c.index_mut.result.now c.requires.at c.index_mut.ensures.value in
-    rw (some-is (slice_get c.args.self.now.tables.entries.items c.args.at) entry c.index_mut.result.now e here) c.flush.ensures.sealed
+returns-clause-sealed g c = λ entry e. rw (own-entry c.args.self.now.tables.entries.items c.args.at c.index_mut.result.now entry c.requires.at c.index_mut.ensures.value e) c.flush.ensures.sealed

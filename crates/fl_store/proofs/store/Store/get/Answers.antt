@@ -1,6 +1,4 @@
-use Rattle.std.proofs.Common.{rules, ◌≡◌, Option, Some, sym, ◌∙◌}
-use Rattle.std.specs.List.{slice_get}
-use Rattle.std.specs.Prelude.{IfSome}
+use Rattle.std.proofs.Common.{rules, ◌≡◌, Option, Some, sym, ◌∙◌, slice_get, IfSome}
 use Rattle.fl_model.specs.Bare.{bare, bare_table}
 use Rattle.fl_frame.proofs.ContentsInTurn.{OnlyReads-goes}
 use Rattle.fl_table.specs.Finding.{HasKeyAt, IsAnswered}
@@ -21,15 +19,13 @@ find-requires g c =
 
 pub returns-clause-finds : goal.returns-clause-finds
 returns-clause-finds g c = λ config tables plan table h own.
-    let here : slice_get c.args.self.now.tables.entries.items c.args.at ≡ Some c.index.result.now = entry-at c.args.self.now.tables.entries.items c.args.at c.index.result.now c.requires.at c.index.ensures in
     get-ends plan table c.args.key _ _ c.find.new.buf c.find.result
     (c.find.ensures.find.finds (first_of config.plans c.args.at) (bare plan) (bare_table table) h.medium.told
-    (stands-at c.table-table.result.now c.index.result.now c.table-table.ensures c.args.self.now.tables.entries.items c.args.at here config _ tables plan table h own))
+    (stands-at c.table-table.result.now c.index.result.now c.table-table.ensures c.args.self.now.tables.entries.items c.args.at (entry-at c.args.self.now.tables.entries.items c.args.at c.index.result.now c.requires.at c.index.ensures) config _ tables plan table h own))
 
 pub returns-clause-here : goal.returns-clause-here
 returns-clause-here g c =
-    let here : slice_get c.args.self.now.tables.entries.items c.args.at ≡ Some c.index.result.now = entry-at c.args.self.now.tables.entries.items c.args.at c.index.result.now c.requires.at c.index.ensures in
-    rows-in c.table-table.result.now c.index.result.now c.table-table.ensures c.args.self.now.tables.entries.items c.args.at here c.find.new.buf c.find.result c.find.ensures.row.here
+    rows-in c.table-table.result.now c.index.result.now c.table-table.ensures c.args.self.now.tables.entries.items c.args.at (entry-at c.args.self.now.tables.entries.items c.args.at c.index.result.now c.requires.at c.index.ensures) c.find.new.buf c.find.result c.find.ensures.row.here
 
 pub returns-clause-holds : goal.returns-clause-holds
 returns-clause-holds g c = λ config tables h.
@@ -37,8 +33,7 @@ returns-clause-holds g c = λ config tables h.
 
 pub returns-clause-fails : goal.returns-clause-fails
 returns-clause-fails g c =
-    let here : slice_get c.args.self.now.tables.entries.items c.args.at ≡ Some c.index.result.now = entry-at c.args.self.now.tables.entries.items c.args.at c.index.result.now c.requires.at c.index.ensures in
-    fails-at c.table-table.result.now c.index.result.now c.table-table.ensures c.args.self.now.tables.entries.items c.args.at here _ _ c.find.result c.find.ensures.row.fails
+    fails-at c.table-table.result.now c.index.result.now c.table-table.ensures c.args.self.now.tables.entries.items c.args.at (entry-at c.args.self.now.tables.entries.items c.args.at c.index.result.now c.requires.at c.index.ensures) _ _ c.find.result c.find.ensures.row.fails
 
 pub returns-clause-lie : goal.returns-clause-lie
 returns-clause-lie g c = lie-on c.args.self.now.tables.entries.items _ _ (OnlyReads-goes _ _ c.find.ensures.flash.counts) c.requires.lie
@@ -50,13 +45,11 @@ returns-clause-room g c =
 
 pub returns-clause-key : goal.returns-clause-key
 returns-clause-key g c =
-    let here : slice_get c.args.self.now.tables.entries.items c.args.at ≡ Some c.index.result.now = entry-at c.args.self.now.tables.entries.items c.args.at c.index.result.now c.requires.at c.index.ensures in
-    found-at c.table-table.result.now c.index.result.now c.table-table.ensures c.args.self.now.tables.entries.items c.args.at here (λ (x : Table 64 64) (found : Option RowAt). IfSome found (HasKeyAt x c.find.new.buf c.args.key)) c.find.result c.find.ensures.row.key
+    found-at c.table-table.result.now c.index.result.now c.table-table.ensures c.args.self.now.tables.entries.items c.args.at (entry-at c.args.self.now.tables.entries.items c.args.at c.index.result.now c.requires.at c.index.ensures) (λ (x : Table 64 64) (found : Option RowAt). IfSome found (HasKeyAt x c.find.new.buf c.args.key)) c.find.result c.find.ensures.row.key
 
 pub returns-clause-answers : goal.returns-clause-answers
 returns-clause-answers g c =
-    let here : slice_get c.args.self.now.tables.entries.items c.args.at ≡ Some c.index.result.now = entry-at c.args.self.now.tables.entries.items c.args.at c.index.result.now c.requires.at c.index.ensures in
-    found-at c.table-table.result.now c.index.result.now c.table-table.ensures c.args.self.now.tables.entries.items c.args.at here (λ (x : Table 64 64) (found : Option RowAt). IsAnswered x _ c.args.key found) c.find.result c.find.ensures.row.answers
+    found-at c.table-table.result.now c.index.result.now c.table-table.ensures c.args.self.now.tables.entries.items c.args.at (entry-at c.args.self.now.tables.entries.items c.args.at c.index.result.now c.requires.at c.index.ensures) (λ (x : Table 64 64) (found : Option RowAt). IsAnswered x _ c.args.key found) c.find.result c.find.ensures.row.answers
 
 pub returns-clause-reads : goal.returns-clause-reads
 returns-clause-reads g c = c.find.ensures.flash.counts

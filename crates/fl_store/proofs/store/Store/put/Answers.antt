@@ -1,10 +1,8 @@
-use Rattle.std.proofs.Common.{rules, ◌≡◌, Some}
-use Rattle.std.specs.List.{slice_get}
+use Rattle.std.proofs.Common.{rules, ◌≡◌, Some, slice_get}
 use Rattle.fl_table.specs.Causes.{put_breaks}
 use Rattle.fl_store.specs.Tables.{first_of}
-use Rattle.fl_store.proofs.Called.{entry-at, put-ends, put-logged, put-refused, stands-here}
+use Rattle.fl_store.proofs.Called.{entry-at, own-entry, put-ends, put-logged, put-refused, stands-here}
 use Rattle.fl_store.proofs.InMemory.{leaves-others, put-runs, put-takes, same-after}
-use Rattle.fl_store.proofs.TablesChanged.{some-is}
 use Rattle.fl_store.proofs.TablesLie.{lie-with}
 use Rattle.fl_store.proofs.store.Store.put.Goals as goal
 
@@ -19,9 +17,7 @@ returns-clause-ends g c = λ config tables plan table rose device watched h own.
     (stands-here config tables c.args.self.now.tables.entries.items c.args.at c.index_mut-entry.result.now plan table _ h here own))
 
 pub returns-clause-exact : goal.returns-clause-exact
-returns-clause-exact g c = λ entry e.
-    let here : slice_get c.args.self.now.tables.entries.items c.args.at ≡ Some c.index_mut-entry.result.now = entry-at c.args.self.now.tables.entries.items c.args.at c.index_mut-entry.result.now c.requires.at c.index_mut-entry.ensures.value in
-    rw (some-is (slice_get c.args.self.now.tables.entries.items c.args.at) entry c.index_mut-entry.result.now e here) c.put.ensures.exact
+returns-clause-exact g c = λ entry e. rw (own-entry c.args.self.now.tables.entries.items c.args.at c.index_mut-entry.result.now entry c.requires.at c.index_mut-entry.ensures.value e) c.put.ensures.exact
 
 pub returns-clause-refused : goal.returns-clause-refused
 returns-clause-refused g c =
@@ -44,14 +40,10 @@ returns-clause-takes g c =
     (entry-at c.args.self.now.tables.entries.items c.args.at c.index_mut-entry.result.now c.requires.at c.index_mut-entry.ensures.value) _ c.put.result c.put.ensures.last c.put.ensures.stores c.put.ensures.logs
 
 pub returns-clause-quiet : goal.returns-clause-quiet
-returns-clause-quiet g c = λ entry e.
-    let here : slice_get c.args.self.now.tables.entries.items c.args.at ≡ Some c.index_mut-entry.result.now = entry-at c.args.self.now.tables.entries.items c.args.at c.index_mut-entry.result.now c.requires.at c.index_mut-entry.ensures.value in
-    rw (some-is (slice_get c.args.self.now.tables.entries.items c.args.at) entry c.index_mut-entry.result.now e here) c.put.ensures.quiet
+returns-clause-quiet g c = λ entry e. rw (own-entry c.args.self.now.tables.entries.items c.args.at c.index_mut-entry.result.now entry c.requires.at c.index_mut-entry.ensures.value e) c.put.ensures.quiet
 
 pub returns-clause-off : goal.returns-clause-off
-returns-clause-off g c = λ entry e.
-    let here : slice_get c.args.self.now.tables.entries.items c.args.at ≡ Some c.index_mut-entry.result.now = entry-at c.args.self.now.tables.entries.items c.args.at c.index_mut-entry.result.now c.requires.at c.index_mut-entry.ensures.value in
-    rw (some-is (slice_get c.args.self.now.tables.entries.items c.args.at) entry c.index_mut-entry.result.now e here) c.put.ensures.off
+returns-clause-off g c = λ entry e. rw (own-entry c.args.self.now.tables.entries.items c.args.at c.index_mut-entry.result.now entry c.requires.at c.index_mut-entry.ensures.value e) c.put.ensures.off
 
 pub returns-clause-leaves : goal.returns-clause-leaves
 returns-clause-leaves g c =
@@ -64,26 +56,17 @@ returns-clause-same g c =
     (entry-at c.args.self.now.tables.entries.items c.args.at c.index_mut-entry.result.now c.requires.at c.index_mut-entry.ensures.value) c.put.ensures.same
 
 pub returns-clause-outside : goal.returns-clause-outside
-returns-clause-outside g c = λ entry e.
-    let here : slice_get c.args.self.now.tables.entries.items c.args.at ≡ Some c.index_mut-entry.result.now = entry-at c.args.self.now.tables.entries.items c.args.at c.index_mut-entry.result.now c.requires.at c.index_mut-entry.ensures.value in
-    rw (some-is (slice_get c.args.self.now.tables.entries.items c.args.at) entry c.index_mut-entry.result.now e here) c.put.ensures.outside
+returns-clause-outside g c = λ entry e. rw (own-entry c.args.self.now.tables.entries.items c.args.at c.index_mut-entry.result.now entry c.requires.at c.index_mut-entry.ensures.value e) c.put.ensures.outside
 
 pub returns-clause-media_reads : goal.returns-clause-media_reads
-returns-clause-media_reads g c = λ entry e.
-    let here : slice_get c.args.self.now.tables.entries.items c.args.at ≡ Some c.index_mut-entry.result.now = entry-at c.args.self.now.tables.entries.items c.args.at c.index_mut-entry.result.now c.requires.at c.index_mut-entry.ensures.value in
-    rw (some-is (slice_get c.args.self.now.tables.entries.items c.args.at) entry c.index_mut-entry.result.now e here) c.put.ensures.media_reads
+returns-clause-media_reads g c = λ entry e. rw (own-entry c.args.self.now.tables.entries.items c.args.at c.index_mut-entry.result.now entry c.requires.at c.index_mut-entry.ensures.value e) c.put.ensures.media_reads
 
 pub returns-clause-writes : goal.returns-clause-writes
-returns-clause-writes g c = λ entry e.
-    let here : slice_get c.args.self.now.tables.entries.items c.args.at ≡ Some c.index_mut-entry.result.now = entry-at c.args.self.now.tables.entries.items c.args.at c.index_mut-entry.result.now c.requires.at c.index_mut-entry.ensures.value in
-    rw (some-is (slice_get c.args.self.now.tables.entries.items c.args.at) entry c.index_mut-entry.result.now e here) c.put.ensures.writes
+returns-clause-writes g c = λ entry e. rw (own-entry c.args.self.now.tables.entries.items c.args.at c.index_mut-entry.result.now entry c.requires.at c.index_mut-entry.ensures.value e) c.put.ensures.writes
 
 pub returns-clause-sealed : goal.returns-clause-sealed
-returns-clause-sealed g c = λ entry e.
-    let here : slice_get c.args.self.now.tables.entries.items c.args.at ≡ Some c.index_mut-entry.result.now = entry-at c.args.self.now.tables.entries.items c.args.at c.index_mut-entry.result.now c.requires.at c.index_mut-entry.ensures.value in
-    rw (some-is (slice_get c.args.self.now.tables.entries.items c.args.at) entry c.index_mut-entry.result.now e here) c.put.ensures.sealed
+returns-clause-sealed g c = λ entry e. rw (own-entry c.args.self.now.tables.entries.items c.args.at c.index_mut-entry.result.now entry c.requires.at c.index_mut-entry.ensures.value e) c.put.ensures.sealed
 
 pub returns-clause-log_page : goal.returns-clause-log_page
 returns-clause-log_page g c = λ entry e.
-    let here : slice_get c.args.self.now.tables.entries.items c.args.at ≡ Some c.index_mut-entry.result.now = entry-at c.args.self.now.tables.entries.items c.args.at c.index_mut-entry.result.now c.requires.at c.index_mut-entry.ensures.value in
-    put-logged c.args.self.now.tables.entries.items c.args.at c.index_mut-entry.result.now entry _ _ _ c.put.result here e c.put.ensures.goes c.put.ensures.log_page
+    put-logged c.args.self.now.tables.entries.items c.args.at c.index_mut-entry.result.now entry _ _ _ c.put.result (entry-at c.args.self.now.tables.entries.items c.args.at c.index_mut-entry.result.now c.requires.at c.index_mut-entry.ensures.value) e c.put.ensures.goes c.put.ensures.log_page

@@ -1,6 +1,4 @@
-use Rattle.std.proofs.Common.{rules, ◌≡◌, Some, ◌∙◌, subst}
-use Rattle.std.specs.Prelude.{IfSome}
-use Rattle.std.specs.List.{slice_get}
+use Rattle.std.proofs.Common.{rules, ◌≡◌, Some, ◌∙◌, subst, IfSome, slice_get}
 use Rattle.fl_model.specs.Bare.{bare, bare_table}
 use Rattle.fl_frame.proofs.ContentsInTurn.{OnlyReads-goes}
 use Rattle.fl_rlc.specs.Table.{table_in}
@@ -24,21 +22,18 @@ blob_at-requires g c =
 
 pub returns-clause-finds : goal.returns-clause-finds
 returns-clause-finds g c = λ config tables plan table i item bytes h own slot blob_is place_is.
-    let here : slice_get c.args.self.now.entries.items c.args.at ≡ Some c.index.result.now = entry-at c.args.self.now.entries.items c.args.at c.index.result.now c.requires.at c.index.ensures in
     finds-held table item bytes (g.F.Flash.state c.args.flash.now) (g.F.Flash.state c.blob_at.new.flash) 1 c.blob_at.ensures.reads c.blob_at.result
     (c.blob_at.ensures.finds (first_of config.plans c.args.at) (bare plan) (bare_table table) i item bytes h.medium.told
-    (stands-at c.table-table.result.now c.index.result.now c.table-table.ensures c.args.self.now.entries.items c.args.at here config _ tables plan table h own) slot blob_is place_is)
+    (stands-at c.table-table.result.now c.index.result.now c.table-table.ensures c.args.self.now.entries.items c.args.at (entry-at c.args.self.now.entries.items c.args.at c.index.result.now c.requires.at c.index.ensures) config _ tables plan table h own) slot blob_is place_is)
 
 pub returns-clause-opens : goal.returns-clause-opens
 returns-clause-opens g c = λ entry e told.
-    let here : slice_get c.args.self.now.entries.items c.args.at ≡ Some c.index.result.now = entry-at c.args.self.now.entries.items c.args.at c.index.result.now c.requires.at c.index.ensures in
-    subst (λ (x : Entry). IfSome (data_in (table_in x.table)) (λ var. Opens var (g.F.Flash.state c.args.flash.now) c.args.place c.blob_at.result)) (some-is (slice_get c.args.self.now.entries.items c.args.at) c.index.result.now entry here e)
+    subst (λ (x : Entry). IfSome (data_in (table_in x.table)) (λ var. Opens var (g.F.Flash.state c.args.flash.now) c.args.place c.blob_at.result)) (some-is (slice_get c.args.self.now.entries.items c.args.at) c.index.result.now entry (entry-at c.args.self.now.entries.items c.args.at c.index.result.now c.requires.at c.index.ensures) e)
     (subst (λ (x : Table 64 64). IfSome (data_in x) (λ var. Opens var (g.F.Flash.state c.args.flash.now) c.args.place c.blob_at.result)) c.table-table.ensures (c.blob_at.ensures.opens told))
 
 pub returns-clause-ready : goal.returns-clause-ready
 returns-clause-ready g c = λ told.
-    let here : slice_get c.args.self.now.entries.items c.args.at ≡ Some c.index.result.now = entry-at c.args.self.now.entries.items c.args.at c.index.result.now c.requires.at c.index.ensures in
-    let some = blobs-are c.table-table.result.now c.index.result.now c.table-table.ensures c.args.self.now.entries.items c.args.at here ∙ c.requires.blobs in
+    let some = blobs-are c.table-table.result.now c.index.result.now c.table-table.ensures c.args.self.now.entries.items c.args.at (entry-at c.args.self.now.entries.items c.args.at c.index.result.now c.requires.at c.index.ensures) ∙ c.requires.blobs in
     ready-kept (data_in c.table-table.result.now) (g.F.Flash.state c.args.flash.now) (g.F.Flash.state c.blob_at.new.flash) 1 c.args.place c.blob_at.ensures.reads some c.blob_at.result (c.blob_at.ensures.opens told)
 
 pub returns-clause-lies : goal.returns-clause-lies

@@ -1,5 +1,4 @@
-use Rattle.std.proofs.Common.{◌≡◌, ℕ, ◌<◌, Some}
-use Rattle.std.specs.List.{slice_get}
+use Rattle.std.proofs.Common.{◌≡◌, ℕ, ◌<◌, Some, slice_get}
 use Rattle.fl_store.specs.declared.tables.Entry.{Entry}
 use Rattle.fl_store.proofs.tables.Tables.find.Given as goal
 

@@ -1,6 +1,4 @@
-use Rattle.std.proofs.Common.{rules, ◌≡◌, ℕ, ◌+◌, true, IsTrue, Some, List, length, refl, sym, ◌∙◌, ap, subst, arith}
-use Rattle.std.specs.List.{slice_get}
-use Rattle.std.proofs.lemmas.List.{length-set, take_all}
+use Rattle.std.proofs.Common.{rules, ◌≡◌, ℕ, ◌+◌, true, IsTrue, Some, List, length, refl, sym, ◌∙◌, ap, subst, arith, slice_get, length-set, take_all}
 use Rattle.std.proofs.lemmas.Option.{slice_get_within}
 use Rattle.fl_base.specs.declared.types.Geometry.{Geometry}
 use Rattle.fl_flash.specs.Flash.{page_at}
@@ -10,6 +8,7 @@ use Rattle.fl_rlc.specs.declared.table.LoggedTable.{LoggedTable}
 use Rattle.fl_frame.proofs.CallsInTurn.{goes-same, goes-then}
 use Rattle.fl_parts.specs.IndexMount.{FewRepairs}
 use Rattle.fl_table.proofs.MountJoined.{mount-cause-later}
+use Rattle.fl_store.proofs.Called.{entry-at}
 use Rattle.fl_store.specs.Mounting.{MountsInTurn, OutsideStands, repairs_of}
 use Rattle.fl_store.specs.Tables.{first_of}
 use Rattle.fl_store.specs.declared.tables.Entry.{Entry}
@@ -21,7 +20,7 @@ use Rattle.fl_store.proofs.MountedSoFar.{mounted-none, mounted-more, mounted-err
 use Rattle.fl_store.proofs.TableRepairs.{known-before, known-there, left-next, left-none}
 use Rattle.fl_store.proofs.TablesReads.{reads-more, reads-most, limit-more, limit-most}
 use Rattle.fl_store.proofs.MountStops.{name-after, stops-at}
-use Rattle.fl_store.proofs.TablesChanged.{item-there, set-elsewhere}
+use Rattle.fl_store.proofs.TablesChanged.{set-elsewhere}
 use Rattle.fl_store.proofs.tables.Tables.mount.Goals as goal
 
 pub loop-i-init : goal.loop-i-init
@@ -47,15 +46,11 @@ loop-i-init g c = record {
 
 pub mount-requires : goal.mount-requires
 mount-requires g c =
-    let here : slice_get c.loop-i.self.entries.items c.loop-i.i ≡ Some c.index_mut.result.now =
-    item-there c.loop-i.self.entries.items (length c.loop-i.self.entries.items) c.loop-i.i c.index_mut.result.now refl (omega (arith, c.loop-i-test.true, c.len-i-end.ensures, c.args.self.now.entries.ok.0, c.loop-i.invariant.as_many)) c.index_mut.ensures.value in
-    (search rules, (c.loop-i.invariant.lie c.loop-i.i c.index_mut.result.now here, c.loop-i.invariant.same_room ∙ (c.requires.room ∙ ap (λ (g : Geometry). g.page) (sym c.loop-i.invariant.goes.geometry))))
+    (search rules, (c.loop-i.invariant.lie c.loop-i.i c.index_mut.result.now (entry-at c.loop-i.self.entries.items c.loop-i.i c.index_mut.result.now (omega (arith, c.loop-i-test.true, c.len-i-end.ensures, c.args.self.now.entries.ok.0, c.loop-i.invariant.as_many)) c.index_mut.ensures.value), c.loop-i.invariant.same_room ∙ (c.requires.room ∙ ap (λ (g : Geometry). g.page) (sym c.loop-i.invariant.goes.geometry))))
 
 pub returns-in-Err-clause-lie : goal.returns-in-Err-clause-lie
 returns-in-Err-clause-lie g c =
-    let here : slice_get c.loop-i.self.entries.items c.loop-i.i ≡ Some c.index_mut.result.now =
-    item-there c.loop-i.self.entries.items (length c.loop-i.self.entries.items) c.loop-i.i c.index_mut.result.now refl (omega (arith, c.loop-i-test.true, c.len-i-end.ensures, c.args.self.now.entries.ok.0, c.loop-i.invariant.as_many)) c.index_mut.ensures.value in
-    lie-with c.loop-i.self.entries.items c.loop-i.i c.index_mut.result.now c.mount.new.self (g.F.Flash.state c.loop-i.flash) (g.F.Flash.state c.mount.new.flash) here c.mount.ensures.goes c.loop-i.invariant.lie c.mount.ensures.lies
+    lie-with c.loop-i.self.entries.items c.loop-i.i c.index_mut.result.now c.mount.new.self (g.F.Flash.state c.loop-i.flash) (g.F.Flash.state c.mount.new.flash) (entry-at c.loop-i.self.entries.items c.loop-i.i c.index_mut.result.now (omega (arith, c.loop-i-test.true, c.len-i-end.ensures, c.args.self.now.entries.ok.0, c.loop-i.invariant.as_many)) c.index_mut.ensures.value) c.mount.ensures.goes c.loop-i.invariant.lie c.mount.ensures.lies
 
 pub returns-in-Err-clause-ends : goal.returns-in-Err-clause-ends
 returns-in-Err-clause-ends g c = λ plans tables rose device watched stand.
@@ -64,8 +59,7 @@ returns-in-Err-clause-ends g c = λ plans tables rose device watched stand.
     let n = g.F.Flash.state c.mount.new.flash in
     let i = c.loop-i.invariant in
     let p = c.mount.ensures in
-    let here : slice_get c.loop-i.self.entries.items c.loop-i.i ≡ Some c.index_mut.result.now =
-    item-there c.loop-i.self.entries.items (length c.loop-i.self.entries.items) c.loop-i.i c.index_mut.result.now refl (omega (arith, c.loop-i-test.true, c.len-i-end.ensures, c.args.self.now.entries.ok.0, c.loop-i.invariant.as_many)) c.index_mut.ensures.value in
+    let here = entry-at c.loop-i.self.entries.items c.loop-i.i c.index_mut.result.now (omega (arith, c.loop-i-test.true, c.len-i-end.ensures, c.args.self.now.entries.ok.0, c.loop-i.invariant.as_many)) c.index_mut.ensures.value in
     let told : IsTrue m.media.tells = subst IsTrue (sym i.goes.tells) watched.told in
     let so_far = (i.so_far plans tables rose device watched.told watched.on watched.counts stand (λ r. watched.risen (rose-front f.media.faults m.media.faults n.media.faults p.goes.faults r))).0 in
     let sees : IsWatched m n rose so_far.now = record { told = told; on = so_far.power; risen = λ r. watched.risen (rose-back f.media.faults m.media.faults n.media.faults i.goes.faults r); counts = so_far.counts } in
@@ -82,8 +76,7 @@ returns-in-Err-clause-limit g c = λ plans tables rose device watched stand.
     let n = g.F.Flash.state c.mount.new.flash in
     let i = c.loop-i.invariant in
     let p = c.mount.ensures in
-    let here : slice_get c.loop-i.self.entries.items c.loop-i.i ≡ Some c.index_mut.result.now =
-    item-there c.loop-i.self.entries.items (length c.loop-i.self.entries.items) c.loop-i.i c.index_mut.result.now refl (omega (arith, c.loop-i-test.true, c.len-i-end.ensures, c.args.self.now.entries.ok.0, c.loop-i.invariant.as_many)) c.index_mut.ensures.value in
+    let here = entry-at c.loop-i.self.entries.items c.loop-i.i c.index_mut.result.now (omega (arith, c.loop-i-test.true, c.len-i-end.ensures, c.args.self.now.entries.ok.0, c.loop-i.invariant.as_many)) c.index_mut.ensures.value in
     let told : IsTrue m.media.tells = subst IsTrue (sym i.goes.tells) watched.told in
     let first = i.so_far plans tables rose device watched.told watched.on watched.counts stand (λ r. watched.risen (rose-front f.media.faults m.media.faults n.media.faults p.goes.faults r)) in
     let so_far = first.0 in
@@ -98,8 +91,7 @@ returns-in-Err-clause-limit g c = λ plans tables rose device watched stand.
 
 pub returns-in-Err-clause-stops : goal.returns-in-Err-clause-stops
 returns-in-Err-clause-stops g c =
-    let here : slice_get c.loop-i.self.entries.items c.loop-i.i ≡ Some c.index_mut.result.now =
-    item-there c.loop-i.self.entries.items (length c.loop-i.self.entries.items) c.loop-i.i c.index_mut.result.now refl (omega (arith, c.loop-i-test.true, c.len-i-end.ensures, c.args.self.now.entries.ok.0, c.loop-i.invariant.as_many)) c.index_mut.ensures.value in
+    let here = entry-at c.loop-i.self.entries.items c.loop-i.i c.index_mut.result.now (omega (arith, c.loop-i-test.true, c.len-i-end.ensures, c.args.self.now.entries.ok.0, c.loop-i.invariant.as_many)) c.index_mut.ensures.value in
     stops-at c.args.self.now.entries.items c.loop-i.self.entries.items c.index_mut.result.now c.mount.new.self (record { at = c.loop-i.i; name = c.index.result.now.name; fault = c.in-Err.fault }) here
     (name-after c.loop-i.self.entries.items c.loop-i.i c.index_mut.result.now c.mount.new.self c.index.result.now here c.index.ensures) c.in-Err.ensures.mounted
     c.loop-i.invariant.running c.loop-i.invariant.ahead
@@ -107,8 +99,7 @@ returns-in-Err-clause-stops g c =
 pub returns-in-Err-clause-refused : goal.returns-in-Err-clause-refused
 returns-in-Err-clause-refused g c = λ told.
     let i = c.loop-i.invariant in
-    let here : slice_get c.loop-i.self.entries.items c.loop-i.i ≡ Some c.index_mut.result.now =
-    item-there c.loop-i.self.entries.items (length c.loop-i.self.entries.items) c.loop-i.i c.index_mut.result.now refl (omega (arith, c.loop-i-test.true, c.len-i-end.ensures, c.args.self.now.entries.ok.0, c.loop-i.invariant.as_many)) c.index_mut.ensures.value in
+    let here = entry-at c.loop-i.self.entries.items c.loop-i.i c.index_mut.result.now (omega (arith, c.loop-i-test.true, c.len-i-end.ensures, c.args.self.now.entries.ok.0, c.loop-i.invariant.as_many)) c.index_mut.ensures.value in
     record {
       entry = c.index_mut.result.now;
       here = sym (i.ahead c.loop-i.i (omega arith)) ∙ here;
@@ -121,18 +112,14 @@ returns-in-Err-clause-refused g c = λ told.
 pub returns-in-Err-clause-repairs : goal.returns-in-Err-clause-repairs
 returns-in-Err-clause-repairs g c =
     let i = c.loop-i.invariant in
-    let here : slice_get c.loop-i.self.entries.items c.loop-i.i ≡ Some c.index_mut.result.now =
-    item-there c.loop-i.self.entries.items (length c.loop-i.self.entries.items) c.loop-i.i c.index_mut.result.now refl (omega (arith, c.loop-i-test.true, c.len-i-end.ensures, c.args.self.now.entries.ok.0, c.loop-i.invariant.as_many)) c.index_mut.ensures.value in
     repairs-more c.args.self.now.entries.items c.loop-i.i c.index_mut.result.now (g.F.Flash.state c.args.flash.now) (g.F.Flash.state c.loop-i.flash) (g.F.Flash.state c.mount.new.flash)
-    (sym (i.ahead c.loop-i.i (omega arith)) ∙ here) i.repairs c.mount.ensures.repairs
+    (sym (i.ahead c.loop-i.i (omega arith)) ∙ (entry-at c.loop-i.self.entries.items c.loop-i.i c.index_mut.result.now (omega (arith, c.loop-i-test.true, c.len-i-end.ensures, c.args.self.now.entries.ok.0, c.loop-i.invariant.as_many)) c.index_mut.ensures.value)) i.repairs c.mount.ensures.repairs
 
 pub returns-in-Err-clause-outside : goal.returns-in-Err-clause-outside
 returns-in-Err-clause-outside g c = λ told.
     let i = c.loop-i.invariant in
-    let here : slice_get c.loop-i.self.entries.items c.loop-i.i ≡ Some c.index_mut.result.now =
-    item-there c.loop-i.self.entries.items (length c.loop-i.self.entries.items) c.loop-i.i c.index_mut.result.now refl (omega (arith, c.loop-i-test.true, c.len-i-end.ensures, c.args.self.now.entries.ok.0, c.loop-i.invariant.as_many)) c.index_mut.ensures.value in
     outside-more c.args.self.now.entries.items c.loop-i.i c.index_mut.result.now (page_at (g.F.Flash.state c.args.flash.now)) (page_at (g.F.Flash.state c.loop-i.flash)) (page_at (g.F.Flash.state c.mount.new.flash))
-    (sym (i.ahead c.loop-i.i (omega arith)) ∙ here) (i.outside told) (c.mount.ensures.outside (subst IsTrue (sym i.goes.tells) told))
+    (sym (i.ahead c.loop-i.i (omega arith)) ∙ (entry-at c.loop-i.self.entries.items c.loop-i.i c.index_mut.result.now (omega (arith, c.loop-i-test.true, c.len-i-end.ensures, c.args.self.now.entries.ok.0, c.loop-i.invariant.as_many)) c.index_mut.ensures.value)) (i.outside told) (c.mount.ensures.outside (subst IsTrue (sym i.goes.tells) told))
 
 pub returns-in-Err-clause-cause : goal.returns-in-Err-clause-cause
 returns-in-Err-clause-cause g c =
@@ -148,8 +135,7 @@ loop-i-preserved g c =
     let n = g.F.Flash.state c.mount.new.flash in
     let i = c.loop-i.invariant in
     let p = c.mount.ensures in
-    let here : slice_get c.loop-i.self.entries.items c.loop-i.i ≡ Some c.index_mut.result.now =
-    item-there c.loop-i.self.entries.items (length c.loop-i.self.entries.items) c.loop-i.i c.index_mut.result.now refl (omega (arith, c.loop-i-test.true, c.len-i-end.ensures, c.args.self.now.entries.ok.0, c.loop-i.invariant.as_many)) c.index_mut.ensures.value in
+    let here = entry-at c.loop-i.self.entries.items c.loop-i.i c.index_mut.result.now (omega (arith, c.loop-i-test.true, c.len-i-end.ensures, c.args.self.now.entries.ok.0, c.loop-i.invariant.as_many)) c.index_mut.ensures.value in
     let was_here : slice_get c.args.self.now.entries.items c.loop-i.i ≡ Some c.index_mut.result.now = sym (i.ahead c.loop-i.i (omega arith)) ∙ here in
     record {
       lie = lie-with c.loop-i.self.entries.items c.loop-i.i c.index_mut.result.now c.mount.new.self m n here p.goes i.lie p.lies;
@@ -210,9 +196,8 @@ returns-clause-limit g c = λ plans tables rose device watched stand.
 
 pub returns-clause-found : goal.returns-clause-found
 returns-clause-found g c = λ told.
-    let i = c.loop-i.invariant in
     let all : c.loop-i.i ≡ length c.args.self.now.entries.items = omega (arith, c.loop-i-test.false, c.loop-i.auto.i-end, c.len-i-end.ensures, c.args.self.now.entries.ok.0) in
-    subst (λ (n : ℕ). MountsInTurn n c.args.self.now.entries.items c.loop-i.self.entries.items (g.F.Flash.state c.args.flash.now) (g.F.Flash.state c.loop-i.flash)) all (i.in_turn told)
+    subst (λ (n : ℕ). MountsInTurn n c.args.self.now.entries.items c.loop-i.self.entries.items (g.F.Flash.state c.args.flash.now) (g.F.Flash.state c.loop-i.flash)) all (c.loop-i.invariant.in_turn told)
 
 pub returns-clause-repairs : goal.returns-clause-repairs
 returns-clause-repairs g c =
@@ -227,10 +212,8 @@ returns-clause-outside g c = λ told.
 pub returns-in-Err-clause-reads : goal.returns-in-Err-clause-reads
 returns-in-Err-clause-reads g c = λ told.
     let i = c.loop-i.invariant in
-    let here : slice_get c.loop-i.self.entries.items c.loop-i.i ≡ Some c.index_mut.result.now =
-    item-there c.loop-i.self.entries.items (length c.loop-i.self.entries.items) c.loop-i.i c.index_mut.result.now refl (omega (arith, c.loop-i-test.true, c.len-i-end.ensures, c.args.self.now.entries.ok.0, c.loop-i.invariant.as_many)) c.index_mut.ensures.value in
     let more = reads-more c.args.self.now.entries.items c.loop-i.i c.index_mut.result.now (g.F.Flash.state c.args.flash.now) (g.F.Flash.state c.loop-i.flash) (g.F.Flash.state c.mount.new.flash)
-    (sym (i.ahead c.loop-i.i (omega arith)) ∙ here) (i.reads told) (c.mount.ensures.reads (subst IsTrue (sym i.goes.tells) told)) in
+    (sym (i.ahead c.loop-i.i (omega arith)) ∙ (entry-at c.loop-i.self.entries.items c.loop-i.i c.index_mut.result.now (omega (arith, c.loop-i-test.true, c.len-i-end.ensures, c.args.self.now.entries.ok.0, c.loop-i.invariant.as_many)) c.index_mut.ensures.value)) (i.reads told) (c.mount.ensures.reads (subst IsTrue (sym i.goes.tells) told)) in
     reads-most c.args.self.now.entries.items (c.loop-i.i + 1) (g.F.Flash.state c.args.flash.now) (g.F.Flash.state c.mount.new.flash) more
 
 pub returns-clause-reads : goal.returns-clause-reads
@@ -244,18 +227,14 @@ returns-clause-power g c = c.loop-i.invariant.power
 
 pub returns-in-Err-clause-same : goal.returns-in-Err-clause-same
 returns-in-Err-clause-same g c =
-    let here : slice_get c.loop-i.self.entries.items c.loop-i.i ≡ Some c.index_mut.result.now =
-    item-there c.loop-i.self.entries.items (length c.loop-i.self.entries.items) c.loop-i.i c.index_mut.result.now refl (omega (arith, c.loop-i-test.true, c.len-i-end.ensures, c.args.self.now.entries.ok.0, c.loop-i.invariant.as_many)) c.index_mut.ensures.value in
-    plans-with c.args.self.now.entries.items c.loop-i.self.entries.items c.loop-i.i c.index_mut.result.now c.mount.new.self here c.mount.ensures.same c.loop-i.invariant.same
+    plans-with c.args.self.now.entries.items c.loop-i.self.entries.items c.loop-i.i c.index_mut.result.now c.mount.new.self (entry-at c.loop-i.self.entries.items c.loop-i.i c.index_mut.result.now (omega (arith, c.loop-i-test.true, c.len-i-end.ensures, c.args.self.now.entries.ok.0, c.loop-i.invariant.as_many)) c.index_mut.ensures.value) c.mount.ensures.same c.loop-i.invariant.same
 
 pub returns-clause-same : goal.returns-clause-same
 returns-clause-same g c = c.loop-i.invariant.same
 
 pub returns-in-Err-clause-names : goal.returns-in-Err-clause-names
 returns-in-Err-clause-names g c =
-    let here : slice_get c.loop-i.self.entries.items c.loop-i.i ≡ Some c.index_mut.result.now =
-    item-there c.loop-i.self.entries.items (length c.loop-i.self.entries.items) c.loop-i.i c.index_mut.result.now refl (omega (arith, c.loop-i-test.true, c.len-i-end.ensures, c.args.self.now.entries.ok.0, c.loop-i.invariant.as_many)) c.index_mut.ensures.value in
-    names-with c.args.self.now.entries.items c.loop-i.self.entries.items c.loop-i.i c.index_mut.result.now c.mount.new.self here c.loop-i.invariant.names
+    names-with c.args.self.now.entries.items c.loop-i.self.entries.items c.loop-i.i c.index_mut.result.now c.mount.new.self (entry-at c.loop-i.self.entries.items c.loop-i.i c.index_mut.result.now (omega (arith, c.loop-i-test.true, c.len-i-end.ensures, c.args.self.now.entries.ok.0, c.loop-i.invariant.as_many)) c.index_mut.ensures.value) c.loop-i.invariant.names
 
 pub returns-clause-names : goal.returns-clause-names
 returns-clause-names g c = c.loop-i.invariant.names

@@ -1,5 +1,4 @@
-use Rattle.std.proofs.Common.{◌≡◌, ℕ, Bool, false, true, IsTrue, ◌+◌, ◌*◌, ◌<◌, ◌≤◌, Some, List, length, take}
-use Rattle.std.specs.List.{slice_get}
+use Rattle.std.proofs.Common.{◌≡◌, ℕ, Bool, false, true, IsTrue, ◌+◌, ◌*◌, ◌<◌, ◌≤◌, Some, List, length, take, slice_get}
 use Rattle.fl_base.specs.Causes.{Rose}
 use Rattle.fl_flash.specs.Flash.{Goes, page_at}
 use Rattle.fl_machine.specs.Reads.{mounts_limit}

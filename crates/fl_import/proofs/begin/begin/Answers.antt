@@ -1,1 +1,0 @@
-use Rattle.fl_import.proofs.begin.begin.Goals as goal
