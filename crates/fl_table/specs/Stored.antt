@@ -59,7 +59,6 @@ pub record IsEmptied {KNOTS SLOTS : ℕ} (old new : Table KNOTS SLOTS) : Type 0 
   pub same : IsSamePlan old new
   pub next : next_in new ≡ next_in old + 1
   pub empty : NothingWaits new
-  pub rows : PendingAre new []
   pub blob_next : next_of new.blobs ≡ next_after old.blobs
   pub blob_oldest : variable.oldest_of new.blobs ≡ variable.oldest_after old.blobs
   pub index : RingGoesOn old.bitmaps new.bitmaps

@@ -9,6 +9,7 @@ use Rattle.fl_parts.specs.BlobEnds.{least_of}
 use Rattle.fl_parts.specs.BlobMount.{FindsBlobs, RefusesWithin}
 use Rattle.fl_parts.specs.Blobs.{room_of, rings_of, AreEmpty}
 use Rattle.fl_table.specs.Memory.{NothingWaits}
+use Rattle.fl_table.proofs.Stored.{pending-none}
 use Rattle.fl_table.proofs.Outsides.{var-outside}
 use Rattle.fl_var.specs.Memory.{var_shape}
 use Rattle.fl_table.proofs.BlobsOfTable as blobbing
@@ -105,7 +106,7 @@ returns-clause-ends g c = λ first plan table rose device watched planned rests 
 
 -- no row, and no byte of a blob
 nothing-waits : {KNOTS SLOTS : ℕ} {t : Table KNOTS SLOTS} → (t.writer.count ≡ 0) × (t.bitmap ≡ 0) × (t.blob_end ≡ 0) → AreEmpty t.blobs → NothingWaits t
-nothing-waits rows blobs = record { none = rows.0; bits = rows.1; ends = rows.2; blobs = blobs }
+nothing-waits {t = t} rows blobs = record { none = rows.0; rows = pending-none t rows.0; bits = rows.1; ends = rows.2; blobs = blobs }
 
 pub returns-clause-same : goal.returns-clause-same
 returns-clause-same g c =

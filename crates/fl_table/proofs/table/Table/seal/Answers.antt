@@ -338,8 +338,7 @@ returns-clause-emptied g c =
     (λ counted all. let both = all.0 in record {
       same = returns-clause-same g c;
       next = both.0 ∙ ap (λ n. n + 1) before;
-      empty = record { none = both.1.0; bits = both.1.1; ends = both.1.2; blobs = subst (λ (o : Option VarData). variable.AreEmpty o) (sym c.seal_rows.ensures.blobs) then.empty };
-      rows = pending-none u both.1.0;
+      empty = record { none = both.1.0; rows = pending-none u both.1.0; bits = both.1.1; ends = both.1.2; blobs = subst (λ (o : Option VarData). variable.AreEmpty o) (sym c.seal_rows.ensures.blobs) then.empty };
       blob_next = last ∙ (then.blob_next ∙ still);
       blob_oldest = ap variable.oldest_of c.seal_rows.ensures.blobs ∙ (then.blob_oldest ∙ ap variable.oldest_after first.blobs);
       index = ring-stays t.bitmaps c.seal_bitmaps.new.self.bitmaps b.bitmaps u.bitmaps first.index then.bitmaps all.1;
