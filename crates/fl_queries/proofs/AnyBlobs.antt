@@ -20,7 +20,7 @@ use Rattle.fl_queries.specs.BlobLine.{read_reply}
 use Rattle.fl_queries.specs.BlobSays.{BlobSays, EndsBlob, IsBlob, TellsTaken}
 use Rattle.fl_queries.specs.ListSays.{IsUnread}
 use Rattle.fl_queries.proofs.BlobLines.{hex-append, written-after}
-use Rattle.fl_queries.proofs.ListsAll.{one-text}
+use Rattle.fl_queries.proofs.RowLines.{one-text}
 
 -- what is said of a page that wasn't read
 unread-said : (IsBad : BadPage → Type 0) (f g : FlashState) (e : ReadFault) → IsCaused f e g → IfBad IsBad e → IsUnread IsBad f g (read_reply e)

@@ -1,14 +1,14 @@
 -- Lines that are listed over any bytes.
-use Rattle.std.proofs.Common.{◌≡◌, ◌⊎◌, ℕ, ◌+◌, ◌-◌, ◌^◌, ◌<◌, Bool, true, inl, inr, Option, Some, Result, Ok, Err, IfOk, IfErr, List, [], ◌∷◌, ◌++◌, length, refl, sym, ◌∙◌, ap, subst, arith, length-append}
-use Rattle.std.specs.Borrow.{Bor}
-use Rattle.std.specs.Prelude.{IfSome, is_ok}
+use Rattle.std.proofs.Common.{◌≡◌, ◌⊎◌, ℕ, ◌+◌, ◌-◌, ◌^◌, ◌<◌, Bool, true, inl, inr, Option, None, Result, Ok, Err, IfOk, IfErr, List, [], ◌∷◌, ◌++◌, length, refl, sym, ◌∙◌, ap, subst, arith, length-append}
+use Rattle.std.specs.Prelude.{is_ok}
 use Rattle.std.specs.List.{AllByRecursion}
 use Rattle.std.proofs.lemmas.Bool.{false≢true}
 use Rattle.fl_base.specs.Causes.{Appends, AppendsFront}
 use Rattle.fl_base.specs.declared.stream.SinkFailed.{SinkFailed}
-use Rattle.fl_cursor.specs.Cursor.{IfBad, MayBeBad, table_of}
-use Rattle.fl_cursor.specs.Going.{Keeps}
-use Rattle.fl_cursor.specs.Sound.{IsSoundAhead}
+use Rattle.fl_base.specs.declared.types.KeyRange.{KeyRange}
+use Rattle.fl_cursor.specs.Asked.{asked_by}
+use Rattle.fl_cursor.specs.Cursor.{IfBad, MayBeBad, asked_of, mark_of, table_of}
+use Rattle.fl_cursor.specs.Sound.{IsSoundAhead, IsSoundOver}
 use Rattle.fl_cursor.specs.declared.bookmark.Bookmark.{Bookmark}
 use Rattle.fl_cursor.specs.declared.cursor.Cursor.{Cursor}
 use Rattle.fl_flash.specs.Flash.{FlashState}
@@ -19,12 +19,11 @@ use Rattle.fl_page.specs.declared.fault.ReadFault.{ReadFault}
 use Rattle.fl_page.specs.declared.fault.ReadFault.TheVariants as fault
 use Rattle.fl_script.proofs.SinkPieces.{appends-append}
 use Rattle.fl_script.specs.Written.{Written}
-use Rattle.fl_script.specs.declared.reply.Reply as code
 use Rattle.fl_store.proofs.Appends.{appends-none, front-behind}
 use Rattle.fl_table.specs.declared.table.Table.{Table}
 use Rattle.fl_words.specs.Reply as reply
 use Rattle.fl_words.specs.Reply.{Reply, text, texts}
-use Rattle.fl_queries.specs.ListSays.{EndsAt, EndsAtBoth, EndsBy, EndsCounted, EndsOnBoth, EndsScan, IsUnread, PassesNoBad, GivesLines, IsLineOf, IsPair, ListSays, SaysEnd, WroteInto, WroteLines}
+use Rattle.fl_queries.specs.ListSays.{EndsAt, EndsAtBoth, EndsBy, EndsCounted, EndsOnBoth, EndsRange, EndsScan, IsUnread, PassesNoBad, GivesLines, IsPair, ListSays, SaysEnd, WroteInto, WroteLines, mark_on}
 use Rattle.fl_queries.specs.Listed.{IfUnread, SaysFault}
 use Rattle.fl_queries.specs.declared.listing.ListFault.{ListFault}
 use Rattle.fl_queries.specs.declared.listing.ListFault.TheVariants.{Sink, Read}
@@ -93,8 +92,8 @@ module _ (AreLines : List Reply → Type 0) (ending : ℕ → Reply) (most : ℕ
         ends = record { upto = h.upto; either = inl (refl, λ taken. absurd (false≢true taken)) };
         written = front-last h.lines (ending (length h.lines)) told mid h.wrote;
       }))
-  list-fails (Read (fault.Flash e)) h caused said = ended AreLines (EndsBy ending most Sound IsBad f g) most told mid now h.0.0 result reply.ReadFault h.0.1 (record { upto = h.0.1.upto; either = inr (e, caused) }) said
-  list-fails (Read (fault.BadPage bad)) h caused said = ended AreLines (EndsBy ending most Sound IsBad f g) most told mid now h.0.0 result (reply.BadPage bad.wanted) h.0.1 (record { upto = h.0.1.upto; either = inr (bad, refl, h.1) }) said
+  list-fails (Read (fault.Flash e)) h caused said = ended AreLines (EndsBy ending most Sound IsBad f g) most told mid now h.0.0 result reply.ReadFault h.0.2 (record { upto = h.0.2.upto; either = inr (e, caused) }) said
+  list-fails (Read (fault.BadPage bad)) h caused said = ended AreLines (EndsBy ending most Sound IsBad f g) most told mid now h.0.0 result (reply.BadPage bad.wanted) h.0.2 (record { upto = h.0.2.upto; either = inr (bad, refl, h.1) }) said
 
 -- .. and it is said how many they are
 pub list-ended : (AreLines : List Reply → Type 0) (Sound : Type 0) (IsBad : BadPage → Type 0) (f g : FlashState) (told mid now : Option (List ℕ)) (result : Result (Unit {0}) SinkFailed) (listed : Result ℕ ListFault) → IfOk listed (λ count. count < 2 ^ 64 - 1 → Sound) → GivesLines AreLines IsBad (2 ^ 64 - 1) told mid listed → IfErr listed (IfUnread f g) → SaysEnd listed mid now result →
@@ -102,25 +101,21 @@ pub list-ended : (AreLines : List Reply → Type 0) (Sound : Type 0) (IsBad : Ba
 list-ended AreLines Sound IsBad f g told mid now result (Ok count) sound h unread said = list-ends AreLines reply.EndCount (2 ^ 64 - 1) Sound IsBad f g told mid now result count sound h said
 list-ended AreLines Sound IsBad f g told mid now result (Err why) sound h unread said = list-fails AreLines reply.EndCount (2 ^ 64 - 1) Sound IsBad f g told mid now result why h unread said
 
--- a page that isn't read while a cursor goes on is one of its table
-pub bad-from : (first mid : Cursor 64 64) (f between : FlashState) (e : ReadFault) → Keeps first mid → contents_of between ≡ contents_of f → IfBad (MayBeBad (table_of mid) (contents_of between)) e → IfBad (MayBeBad (table_of first) (contents_of f)) e
-bad-from first mid f between e keeps held bad =
-    subst (λ (k : Contents). IfBad (MayBeBad (table_of first) k) e) held
-    (subst (λ (t : Bor (Table 64 64)). IfBad (MayBeBad t.now (contents_of between)) e) keeps.table bad)
-
 -- a fault that is about a page says that of it which the call says
 pub bad-by : {X : Type 0} (IsBad Was : BadPage → Type 0) (e : ReadFault) → ((bad : BadPage) → ◌≡◌ {A = Result X ReadFault} (Err e) (Err (fault.BadPage bad)) → IsBad bad) → ((bad : BadPage) → IsBad bad → Was bad) → IfBad Was e
 bad-by IsBad Was (fault.Flash x) h k = tt
 bad-by IsBad Was (fault.BadPage bad) h k = k bad (h bad refl)
 
--- a line that was made, if there is one
-pub made-line : (IsLine : Reply → Type 0) (o : Option code.Reply) (made : code.Reply) → o ≡ Some made → IfSome o (λ reply. IsLineOf IsLine reply) → IsLineOf IsLine made
-made-line IsLine o made is h = subst (λ (x : Option code.Reply). IfSome x (λ reply. IsLineOf IsLine reply)) is h
+-- lines of which something else holds too
+pub given-as : (WereLines AreLines : List Reply → Type 0) (IsBad : BadPage → Type 0) (most : ℕ) (told now : Option (List ℕ)) (listed : Result ℕ ListFault) → ((lines : List Reply) → WereLines lines → AreLines lines) →
+    GivesLines WereLines IsBad most told now listed → GivesLines AreLines IsBad most told now listed
+given-as WereLines AreLines IsBad most told now (Ok count) are h = wrote-as WereLines AreLines most told now count h (are h.lines h.are_lines)
+given-as WereLines AreLines IsBad most told now (Err (Sink failed)) are h = record { lines = h.lines; are_lines = are h.lines h.are_lines; upto = h.upto; wrote = h.wrote }
+given-as WereLines AreLines IsBad most told now (Err (Read fault)) are h = ((h.0.0, h.0.1, wrote-as WereLines AreLines most told now h.0.0 h.0.2 (are h.0.2.lines h.0.2.are_lines)), h.1)
 
--- lines that were made, of which something holds in whichever state they leave
-pub lists-made : {Lines E : Type 0} {Made : Lines → List Reply → Type 0} (AreLines : List Reply → Type 0) (Ends : Bool → ℕ → Reply → Type 0) (told now : Option (List ℕ)) (result : Result (Unit {0}) E) →
-    ListSays (λ lines. (last : Lines) × Made last lines) Ends told now result → ((last : Lines) (lines : List Reply) → Made last lines → AreLines lines) → ListSays AreLines Ends told now result
-lists-made AreLines Ends told now result h are = record { lines = h.lines; are_lines = are h.are_lines.0 h.lines h.are_lines.1; last = h.last; ends = h.ends; written = h.written }
+pub lists-as : {E : Type 0} (WereLines AreLines : List Reply → Type 0) (Ends : Bool → ℕ → Reply → Type 0) (told now : Option (List ℕ)) (result : Result (Unit {0}) E) →
+    ListSays WereLines Ends told now result → ((lines : List Reply) → WereLines lines → AreLines lines) → ListSays AreLines Ends told now result
+lists-as WereLines AreLines Ends told now result h are = record { lines = h.lines; are_lines = are h.lines h.are_lines; last = h.last; ends = h.ends; written = h.written }
 
 -- what a cursor's list ends with, by its mark
 module _ (cursor : Cursor 64 64) (mark : Bookmark) (t : Table 64 64) (f g : FlashState) (same : table_of cursor ≡ t) (turn : IsSoundAhead cursor (contents_of f) → PassesNoBad mark t f) where
@@ -134,6 +129,13 @@ module _ (cursor : Cursor 64 64) (mark : Bookmark) (t : Table 64 64) (f g : Flas
 
   pub lists-scan : (AreLines : List Reply → Type 0) (told now : Option (List ℕ)) (result : Result (Unit {0}) SinkFailed) → ListSays AreLines (EndsAt cursor f g) told now result → ListSays AreLines (EndsScan mark t f g) told now result
   lists-scan AreLines told now result h = record { lines = h.lines; are_lines = h.are_lines; last = h.last; ends = scan-ends (is_ok result) (length h.lines) h.last h.ends; written = h.written }
+
+-- .. of one that began over a range, by whichever name
+pub lists-range : (input cursor : Cursor 64 64) (t : Table 64 64) (range : KeyRange) (f g : FlashState) → input ≡ cursor → table_of cursor ≡ t → mark_of cursor ≡ mark_on t range None → ((contents : Contents) → IsSoundAhead cursor contents → IsSoundOver t contents (asked_of cursor)) →
+    (AreLines : List Reply → Type 0) (told now : Option (List ℕ)) (result : Result (Unit {0}) SinkFailed) → ListSays AreLines (EndsAt input f g) told now result → ListSays AreLines (EndsRange range t f g) told now result
+lists-range input cursor t range f g same table mark sound AreLines told now result h =
+    lists-scan cursor (mark_on t range None) t f g table (λ s. subst (λ (m : Bookmark). IsSoundOver t (contents_of f) (asked_by m)) mark (sound (contents_of f) s)) AreLines told now result
+    (subst (λ (k : Cursor 64 64). ListSays AreLines (EndsAt k f g) told now result) same h)
 
 -- .. and that of two
 module _ (left right : Cursor 64 64) (a b : Bookmark) (t u : Table 64 64) (f g : FlashState) (left_is : table_of left ≡ t) (right_is : table_of right ≡ u)

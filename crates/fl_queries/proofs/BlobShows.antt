@@ -42,7 +42,7 @@ use Rattle.fl_words.specs.Reply as words
 use Rattle.fl_words.specs.Reply.{text}
 use Rattle.fl_queries.specs.BlobLine.{ShowsBytes, read_reply}
 use Rattle.fl_queries.specs.BlobShown.{found_in, IfNamed, FindsBlob, NamesBlob, SaysBlob, ShowsBlob}
-use Rattle.fl_queries.proofs.ListsAll.{one-text}
+use Rattle.fl_queries.proofs.RowLines.{one-text}
 use Rattle.fl_queries.proofs.Lookups.{found-place}
 
 -- ---- where a blob starts

@@ -47,7 +47,7 @@ module _ (t : Table 64 64) (f : FlashState) (first : ℕ) (plan : Plan) (table :
       let most : length table.rows.counts * rows_per_page plan ≤ 4294967292 * 4096 = mul-le (length table.rows.counts) (rows_per_page plan) 4294967292 4096 few-pages few-in-page in
       omega (arith, rows, most, stands.facts.counted, stands.facts.few_pending, few-in-page)
 
-  pub few-selected : (range : KeyRange) (span : Option Span) → length (selected range span table.entries) < 2 ^ 64 - 1
+  pub few-selected : (range : KeyRange) (span : Option Span) → length (selected range span table.entries) < 2 ^ 63
   few-selected range span =
       let few = length-filter (λ (entry : Entry). matches range span entry.kept) table.entries in
       omega (arith, few, few-entries)

@@ -1,34 +1,27 @@
 -- What operators make of the rows that match, as lines.
-use Rattle.std.proofs.Common.{◌≡◌, ℕ, zero, suc, ◌^◌, ◌<◌, Bool, true, false, cond, None, ℤ, List, [], ◌∷◌, length, map, filter, refl, ◌∙◌, ap, arith}
-use Rattle.std.proofs.lemmas.List.{length-map}
-use Rattle.fl_base.specs.declared.types.KeyRange.{KeyRange}
-use Rattle.fl_flash.specs.Flash.{FlashState}
+use Rattle.std.proofs.Common.{◌≡◌, ℕ, zero, suc, Bool, true, false, cond, ℤ, List, [], ◌∷◌, map, filter, refl, ◌∙◌, ap}
 use Rattle.fl_model.specs.Operators.{column_of, compares, select, project}
-use Rattle.fl_model.specs.Query.{selected, matches}
 use Rattle.fl_model.specs.Record.{Plan, has_var}
 use Rattle.fl_model.specs.Row.{stored_row}
-use Rattle.fl_model.specs.Table as model
 use Rattle.fl_model.specs.Table.{Entry}
 use Rattle.fl_machine.specs.Step.{note_of}
 use Rattle.fl_ops.specs.Columns.{Comparison, record_of, records_of, row_passes}
-use Rattle.fl_table.specs.Standing.{Stands}
-use Rattle.fl_table.specs.declared.table.Table.{Table}
 use Rattle.fl_words.specs.Reply.{Reply}
 use Rattle.fl_queries.specs.Rows.{row_reply}
-use Rattle.fl_queries.proofs.Few.{few-entries, length-filter}
 use Rattle.fl_queries.proofs.RowLines.{row-line}
 
--- two names, one by one
-pub first-same : {X : Type 0} {a b c d : X} → a ∷ b ∷ [] ≡ c ∷ d ∷ [] → a ≡ c
+-- the names of one cursor or two, one by one
+pub first-same : {X : Type 0} {a x : X} {before after : List X} → a ∷ before ≡ x ∷ after → a ≡ x
 first-same e = cc
 
-pub second-same : {X : Type 0} {a b c d : X} → a ∷ b ∷ [] ≡ c ∷ d ∷ [] → b ≡ d
+pub second-same : {X : Type 0} {a b x y : X} {before after : List X} → a ∷ b ∷ before ≡ x ∷ y ∷ after → b ≡ y
 second-same e = cc
 
--- an operator gets not too many records
-pub few-asked : (t : Table 64 64) (f : FlashState) (first : ℕ) (plan : Plan) (table : model.Table) (range : KeyRange) → Stands t f first plan table → length (map stored_row (selected range None table.entries)) < 2 ^ 63
-few-asked t f first plan table range h =
-    omega (arith, length-map (selected range None table.entries) stored_row, length-filter (λ entry. matches range None entry.kept) table.entries, few-entries t f first plan table h)
+pub third-same : {X : Type 0} {a b c x y z : X} {before after : List X} → a ∷ b ∷ c ∷ before ≡ x ∷ y ∷ z ∷ after → c ≡ z
+third-same e = cc
+
+pub fourth-same : {X : Type 0} {a b c d x y z u : X} {before after : List X} → a ∷ b ∷ c ∷ d ∷ before ≡ x ∷ y ∷ z ∷ u ∷ after → d ≡ u
+fourth-same e = cc
 
 -- a column doesn't tell a row from its record
 pub column-stored : (entry : Entry) (column : ℕ) → column_of (record_of (stored_row entry)) column ≡ column_of entry.kept column

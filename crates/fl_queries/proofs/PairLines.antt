@@ -1,19 +1,13 @@
 -- The pairs that rows make are those that their records make, as lines.
-use Rattle.std.proofs.Common.{◌≡◌, ℕ, ◌+◌, ◌-◌, ◌^◌, ◌<◌, ◌≤◌, Result, Ok, Err, arith, Bool, true, false, cond, eqb, Option, Some, None, option_map, ℤ, List, [], ◌∷◌, length, map, refl}
+use Rattle.std.proofs.Common.{◌≡◌, ℕ, ◌≤◌, Bool, true, false, cond, eqb, Option, Some, None, option_map, ℤ, List, [], ◌∷◌, length, map, refl}
 use Rattle.std.specs.List.{find, cons_option}
 use Rattle.std.specs.Prelude.{◌==◌}
-use Rattle.std.specs.Borrow.{GName}
 use Rattle.fl_machine.specs.Step.{pair_reply}
 use Rattle.fl_model.specs.Operators.{key_join}
-use Rattle.fl_model.specs.Record.{Record, RowLayout}
+use Rattle.fl_model.specs.Record.{Record}
 use Rattle.fl_model.specs.Row.{stored_row}
 use Rattle.fl_model.specs.Table.{Entry}
 use Rattle.fl_ops.specs.Columns.{record_of, records_of}
-use Rattle.fl_ops.specs.Inputs.{Continues}
-use Rattle.fl_frame.specs.Contents.{Contents}
-use Rattle.fl_page.specs.declared.fault.BadPage.{BadPage}
-use Rattle.fl_queries.specs.Lines.{ReadsLines}
-use Rattle.fl_queries.specs.declared.listing.ListFault.{ListFault}
 use Rattle.fl_queries.proofs.GroupLines.{filter_map-fewer}
 
 abbrev values_in : Option Record → Option (List ℤ)
@@ -54,13 +48,3 @@ joined-records (entry ∷ left) right =
 -- there are no more pairs than left records
 pub pairs-fewer : (left right : List Record) → length (key_join left right) ≤ length left
 pairs-fewer left right = filter_map-fewer (λ a. option_map (λ b. (a, b)) (find (λ b. b.key == a.key) right)) left
-
--- rows that no step was taken over
-pub continues-same : {Rows : Type 0} {names : Rows → List GName} {schema : Rows → RowLayout} {above : Rows → Option ℕ} {ready told : Rows → Contents → Type 0} {passes : Rows → Contents → BadPage → Type 0} {held : Contents} (a : Rows) →
-    Continues names schema above ready told passes held a a
-continues-same a = record { same_names = refl; same_schema = refl; never_falls = λ key is. is; stays_ready = λ contents is. is; same_test = λ contents bad. (λ is. is, λ is. is); stays_told = λ is. is }
-
--- no least number of reads is said of pairs
-pub reads-no-least : (most reads reads_now : ℕ) (result : Result ℕ ListFault) → reads_now ≤ reads + most → (reads_now < 2 ^ 64 - 1 → reads ≤ reads_now) → ReadsLines most 0 reads reads_now result
-reads-no-least most reads reads_now (Ok count) more rises = record { within = more; some = λ below. let rise = rises below in omega (arith, rise) }
-reads-no-least most reads reads_now (Err fault) more rises = record { within = more; some = tt }

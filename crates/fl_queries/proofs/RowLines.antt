@@ -1,6 +1,5 @@
 -- The lines of rows, and a reply behind them.
-use Rattle.std.proofs.Common.{◌≡◌, ℕ, Bool, Option, Result, Ok, Err, List, [], ◌∷◌, ◌++◌, length, map, take, refl, sym, ◌∙◌, ap, subst, append-nil, append_assoc, arith}
-use Rattle.std.proofs.lemmas.List.{take-map, take_all, take-append-le}
+use Rattle.std.proofs.Common.{◌≡◌, ℕ, Bool, Option, Result, Ok, Err, List, [], ◌∷◌, ◌++◌, map, refl, sym, ◌∙◌, ap, subst, append-nil, append_assoc}
 use Rattle.fl_base.specs.Causes.{Appends, AppendsFront}
 use Rattle.fl_flash.specs.Flash.{FlashState}
 use Rattle.fl_model.specs.Record.{Plan, RowLayout, has_var}
@@ -33,9 +32,9 @@ lines-stored plan blobs [] noted = refl
 lines-stored plan blobs (e ∷ es) noted =
     ap (λ (r : Reply). r ∷ map (row_reply blobs) (map stored_row es)) (row-line plan blobs e noted) ∙ ap (λ (l : List Reply). row_of plan e ∷ l) (lines-stored plan blobs es noted)
 
--- the rows in front are those of the entries in front
-pub rows-front : (rows rest : List Row) (es : List Entry) → map stored_row es ≡ rows ++ rest → rows ≡ map stored_row (take (length rows) es)
-rows-front rows rest es e = sym (take-append-le (length rows) rows rest (omega arith) ∙ take_all (length rows) rows (omega arith)) ∙ (ap (take (length rows)) (sym e) ∙ take-map stored_row (length rows) es)
+-- one reply
+pub one-text : (reply : Reply) → texts (reply ∷ []) ≡ text reply
+one-text reply = append-nil (text reply)
 
 -- a last reply behind lines
 pub texts-last : (lines : List Reply) (last : Reply) → texts lines ++ text last ≡ texts (lines ++ last ∷ [])

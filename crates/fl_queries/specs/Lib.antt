@@ -8,7 +8,6 @@ pub mod Keys
 pub mod OldestBlob
 pub mod LookSays
 pub mod OldestTold
-pub mod Gives
 pub mod Nexts
 pub mod Room
 pub mod Rows
@@ -19,3 +18,4 @@ pub mod ListSays
 pub mod Looked
 pub mod Lines
 pub mod Asked
+pub mod Operators

@@ -13,9 +13,7 @@ use Rattle.fl_page.specs.Causes.{IsCaused}
 use Rattle.fl_frame.specs.Contents.{contents_of}
 use Rattle.fl_page.specs.declared.fault.BadPage.{BadPage}
 use Rattle.fl_page.specs.declared.fault.ReadFault.TheVariants as fault
-use Rattle.fl_script.specs.ReplyView.{reply_text}
 use Rattle.fl_script.specs.Written.{Written}
-use Rattle.fl_script.specs.declared.reply.Reply as code
 use Rattle.fl_table.specs.declared.table.Table.{Table}
 use Rattle.fl_words.specs.Reply as reply
 use Rattle.fl_words.specs.Reply.{Reply, text, texts}
@@ -40,12 +38,6 @@ abbrev pub IsPair : Reply → Type 0
 IsPair (reply.Pair key left right) = Unit {0}
 IsPair _ = ⊥
 
--- a line of a kind that was made
-pub record IsLineOf (IsLine : Reply → Type 0) (made : code.Reply) : Type 0 where
-  pub line : Reply
-  pub text_is : reply_text made ≡ text line
-  pub is_line : IsLine line
-
 -- so many lines were written, of which this holds, and no more than a number
 pub record WroteLines (AreLines : List Reply → Type 0) (most : ℕ) (told told_now : Option (List ℕ)) (count : ℕ) : Type 0 where
   pub lines : List Reply
@@ -61,11 +53,12 @@ pub record WroteInto (AreLines : List Reply → Type 0) (most : ℕ) (told told_
   pub upto : length lines ≤ most
   pub wrote : AppendsFront told told_now (texts lines)
 
--- Lines of which this holds were written and counted. Or the sink failed in one of them, or a page behind some of them wasn't read.
+-- Lines of which this holds were written and counted. Or the sink failed in one of them, or a page behind some of them, fewer than
+-- the most, wasn't read.
 abbrev pub GivesLines : (List Reply → Type 0) → (BadPage → Type 0) → ℕ → Option (List ℕ) → Option (List ℕ) → Result ℕ ListFault → Type 0
 GivesLines AreLines IsBad most told told_now (Ok count) = WroteLines AreLines most told told_now count
 GivesLines AreLines IsBad most told told_now (Err (Sink failed)) = WroteInto AreLines most told told_now
-GivesLines AreLines IsBad most told told_now (Err (Read fault)) = ((count : ℕ) × WroteLines AreLines most told told_now count) × IfBad IsBad fault
+GivesLines AreLines IsBad most told told_now (Err (Read fault)) = ((count : ℕ) × (count < most) × WroteLines AreLines most told told_now count) × IfBad IsBad fault
 
 -- what is said behind lines: how many they are, or that a page wasn't read; and nothing more to a sink that failed
 abbrev pub SaysEnd : Result ℕ ListFault → Option (List ℕ) → Option (List ℕ) → Result (Unit {0}) SinkFailed → Type 0

@@ -8,11 +8,13 @@ ghost use Rattle.fl_queries.specs.ListSays.{IsFields};
 ghost use Rattle.fl_ops.specs.Project.{input_of, columns_of, fields_of};
 
 use crate::reply_lines::ReplyLines;
+use crate::rows::RowForm;
 use arrayvec::ArrayVec;
+use fl_base::{Sink, SinkFailed};
 use fl_flash::Flash;
 use fl_ops::Project;
 use fl_page::{ReadFault, RowHere, Rows};
-use fl_script::Reply;
+use fl_script::{Reply, RowLine, write_reply};
 
 /// The fields of the present row.
 fn fields_of<R: RowHere>(rows: &Project<'_, R>, fields: usize) -> ArrayVec<i128, 8>
@@ -31,29 +33,41 @@ fn fields_of<R: RowHere>(rows: &Project<'_, R>, fields: usize) -> ArrayVec<i128,
 impl<F: Flash, R: Rows<F>> ReplyLines<F> for Project<'_, R> {
     ghost names = { λ rows. R.names (input_of rows) };
 
-    ghost ready = { λ rows columns contents. R.ready (input_of rows) contents × (columns ≡ length (columns_of rows)) × (columns ≤ 8) };
+    ghost ready = { λ rows. R.ready (input_of rows) };
+
+    ghost fits = { λ rows form. (form.columns ≡ length (columns_of rows)) × (form.columns ≤ 8) };
 
     ghost told = { λ rows. R.told (input_of rows) };
 
-    ghost made = { λ first rows written. (columns_of rows ≡ columns_of first) × AllByRecursion (IsFields (length (columns_of first))) written };
+    ghost here = { λ rows. R.here (input_of rows) ≡ true };
 
-    ghost made_none = { λ rows. (refl, tt) };
+    ghost present = { λ rows form. words.Fields (fields_of (columns_of rows) (R.present (input_of rows))) };
+
+    ghost made = { λ form first rows written. (columns_of rows ≡ columns_of first) × AllByRecursion (IsFields (length (columns_of first))) written };
+
+    ghost made_none = { λ form rows. (refl, tt) };
 
     ghost passes = { λ rows. R.passes (input_of rows) };
 
     ghost sound = { λ rows. R.sound (input_of rows) };
 
-    ghost lines = { λ rows contents. map words.Fields (project (columns_of rows) (records_of (R.left (input_of rows) contents))) };
+    ghost lines = { λ rows form contents. map words.Fields (project (columns_of rows) (records_of (R.left (input_of rows) contents))) };
 
     ghost most = { λ rows. R.most (input_of rows) };
 
     ghost least = { λ rows. R.least (input_of rows) };
 
-    fn next_line(&mut self, columns: usize, flash: &mut F) -> Result<Option<Reply>, ReadFault> {
-        if !self.step(flash)? {
-            return Ok(None);
-        }
-        let fields = fields_of(self, columns);
-        Ok(Some(Reply::Fields { fields }))
+    fn next_line(&mut self, flash: &mut F) -> Result<bool, ReadFault> {
+        self.step(flash)
+    }
+
+    fn show_line<K: Sink>(
+        &self,
+        form: RowForm,
+        _line: &mut RowLine,
+        out: &mut K,
+    ) -> Result<(), SinkFailed> {
+        let fields = fields_of(self, form.columns);
+        write_reply(&Reply::Fields { fields }, out)
     }
 }

@@ -8,10 +8,29 @@ ghost use Rattle.fl_queries.specs.ListSays.{IsGroup};
 ghost use Rattle.fl_ops.specs.Groups.{input_of, groups_left, group_in};
 
 use crate::reply_lines::ReplyLines;
+use crate::rows::RowForm;
+use fl_base::{Sink, SinkFailed};
 use fl_flash::Flash;
 use fl_ops::{Aggregate, Group};
-use fl_page::{ReadFault, Rows};
-use fl_script::Reply;
+use fl_page::{ReadFault, RowHere, Rows};
+use fl_script::{Reply, RowLine, write_reply};
+
+/// What stands in place of a group before the first one.
+pub(crate) const NO_GROUP: Group = Group {
+    group: 0,
+    count: 0,
+    least: 0,
+    greatest: 0,
+    sum: 0,
+    mean: 0,
+};
+
+/// Groups of rows, and the one that was made last.
+#[derive(Drop)]
+pub(crate) struct GroupLines<R: RowHere> {
+    pub(crate) groups: Aggregate<R>,
+    pub(crate) present: Group,
+}
 
 /// The line of a group.
 fn group_line(group: Group) -> Reply
@@ -27,31 +46,49 @@ fn group_line(group: Group) -> Reply
     }
 }
 
-impl<F: Flash, R: Rows<F>> ReplyLines<F> for Aggregate<R> {
-    ghost names = { λ groups. R.names (input_of groups) };
+impl<F: Flash, R: Rows<F>> ReplyLines<F> for GroupLines<R> {
+    ghost names = { λ lines. R.names (input_of lines.groups) };
 
-    ghost ready = { λ groups columns. R.ready (input_of groups) };
+    ghost ready = { λ lines. R.ready (input_of lines.groups) };
 
-    ghost told = { λ groups. R.told (input_of groups) };
+    ghost fits = { λ lines form. Unit {0} };
 
-    ghost made = { λ first groups. AllByRecursion IsGroup };
+    ghost told = { λ lines. R.told (input_of lines.groups) };
 
-    ghost made_none = { λ groups. tt };
+    ghost here = { λ lines. Unit {0} };
 
-    ghost passes = { λ groups. R.passes (input_of groups) };
+    ghost present = { λ lines form. group_reply (group_in lines.present) };
 
-    ghost sound = { λ groups. R.sound (input_of groups) };
+    ghost made = { λ form first lines. AllByRecursion IsGroup };
 
-    ghost lines = { λ groups contents. map group_reply (groups_left groups (R.present (input_of groups)) (R.left (input_of groups) contents)) };
+    ghost made_none = { λ form lines. tt };
 
-    ghost most = { λ groups. R.most (input_of groups) };
+    ghost passes = { λ lines. R.passes (input_of lines.groups) };
 
-    ghost least = { λ groups. R.least (input_of groups) };
+    ghost sound = { λ lines. R.sound (input_of lines.groups) };
 
-    fn next_line(&mut self, _columns: usize, flash: &mut F) -> Result<Option<Reply>, ReadFault> {
-        match self.step(flash)? {
-            Some(group) => Ok(Some(group_line(group))),
-            None => Ok(None),
+    ghost lines = { λ lines form contents. map group_reply (groups_left lines.groups (R.present (input_of lines.groups)) (R.left (input_of lines.groups) contents)) };
+
+    ghost most = { λ lines. R.most (input_of lines.groups) };
+
+    ghost least = { λ lines. R.least (input_of lines.groups) };
+
+    fn next_line(&mut self, flash: &mut F) -> Result<bool, ReadFault> {
+        match self.groups.step(flash)? {
+            Some(group) => {
+                self.present = group;
+                Ok(true)
+            }
+            None => Ok(false),
         }
+    }
+
+    fn show_line<K: Sink>(
+        &self,
+        _form: RowForm,
+        _line: &mut RowLine,
+        out: &mut K,
+    ) -> Result<(), SinkFailed> {
+        write_reply(&group_line(self.present), out)
     }
 }

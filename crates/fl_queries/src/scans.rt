@@ -8,16 +8,16 @@ ghost use Rattle.fl_table.specs.BlobAt.{has_blobs};
 ghost use Rattle.fl_table.specs.Memory.{is_running, LiesOn};
 ghost use Rattle.fl_table.specs.Standing.{Stands};
 ghost use Rattle.fl_queries.specs.ListSays.{mark_on, EndsScan, ListSays};
-ghost use Rattle.fl_queries.specs.Listed.{Scans};
+ghost use Rattle.fl_queries.specs.Lines.{Scans};
 ghost use Rattle.fl_queries.specs.RowsGiven.{AreRows};
 ghost use Rattle.fl_queries.specs.Room.{HasRooms};
 
 use crate::buffers::Buffers;
-use crate::listing::{give_rows, write_fault};
+use crate::listing::give_rows;
+use crate::reply_lines::end_list;
 use crate::rows::form_of;
 use fl_base::{KeyRange, Sink, SinkFailed, Span};
 use fl_flash::Flash;
-use fl_script::{Reply, write_reply};
 use fl_store::{Cursor, Table};
 
 /// Writes the replies to a scan: the rows that are asked for and their number, or why a page isn't read.
@@ -49,8 +49,5 @@ pub fn list_rows<F: Flash, K: Sink>(
     let mut cursor = Cursor::begin(table, range, span, &mut buf.rows, &mut buf.index);
     let listed = give_rows(&mut cursor, u64::MAX, form, flash, out);
     cursor.park();
-    match listed {
-        Ok(count) => write_reply(&Reply::EndCount { count }, out),
-        Err(fault) => write_fault(fault, out),
-    }
+    end_list(listed, out)
 }

@@ -20,7 +20,7 @@ use Rattle.fl_session.specs.Cost.{CountsReads, ReadsAsStated}
 use Rattle.fl_session.specs.Execute.{Executes}
 use Rattle.fl_session.specs.Standing.{SessionStands}
 use Rattle.fl_session.specs.declared.notes.Notes.{Notes}
-use Rattle.fl_queries.proofs.ListsAll.{one-text}
+use Rattle.fl_queries.proofs.RowLines.{one-text}
 use Rattle.fl_session.proofs.ExecutedCommand.{executes-by}
 use Rattle.fl_session.proofs.Rested.{stays-still}
 

@@ -32,7 +32,7 @@ use Rattle.fl_store.proofs.TablesOnlyRead.{tables-read}
 use Rattle.fl_store.proofs.Worked.{medium-goes}
 use Rattle.fl_queries.specs.LookSays.{LookSays, ReadsFew}
 use Rattle.fl_queries.specs.Looked.{Looks}
-use Rattle.fl_queries.proofs.ListsAll.{one-text}
+use Rattle.fl_queries.proofs.RowLines.{one-text}
 use Rattle.fl_session.specs.Answer.{Refusal, IsReached}
 use Rattle.fl_session.specs.Execute.{Executes}
 use Rattle.fl_session.specs.Cost.{cost_of, HasRead, ReadsGet}

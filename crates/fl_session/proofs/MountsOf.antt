@@ -30,7 +30,7 @@ use Rattle.fl_session.specs.Notes.{without_cursors}
 use Rattle.fl_session.specs.declared.notes.Notes.{Notes}
 use Rattle.fl_session.specs.Standing.{SessionStands}
 use Rattle.fl_session.proofs.CommandReplies.{answers-saying, saying, says, step-is}
-use Rattle.fl_queries.proofs.ListsAll.{one-text}
+use Rattle.fl_queries.proofs.RowLines.{one-text}
 use Rattle.fl_session.proofs.Rested.{session-ends}
 use Rattle.fl_session.proofs.MountRepairs.{mount-stays, pages-repaired}
 use Rattle.fl_store.proofs.TablesOnlyRead.{tables-kept}

@@ -48,7 +48,7 @@ use Rattle.fl_store.specs.Replies.{fault_reply, put_reply, flush_reply}
 use Rattle.fl_session.specs.declared.notes.Notes.{Notes}
 use Rattle.fl_session.specs.Standing.{SessionStands}
 use Rattle.fl_session.proofs.CommandReplies.{answers-saying, saying, says, step-is, table-step}
-use Rattle.fl_queries.proofs.ListsAll.{one-text}
+use Rattle.fl_queries.proofs.RowLines.{one-text}
 use Rattle.fl_session.proofs.KeptPages.{TablesKeep, table-keeps, tables-keep_changed, tables-stay, mounted-stays}
 use Rattle.fl_session.proofs.NamedTable.{Own}
 use Rattle.fl_session.proofs.Rested.{session-ends}

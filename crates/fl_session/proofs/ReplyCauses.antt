@@ -1,11 +1,9 @@
 -- The causes of replies, over any bytes.
-use Rattle.std.proofs.Common.{◌≡◌, ℕ, ◌<◌, ◌≤◌, Bool, true, false, not, nat_lt, inl, inr, Option, None, Some, Result, Ok, Err, IfErr, List, [], ◌∷◌, length, refl, sym, ◌∙◌, ap, subst}
+use Rattle.std.proofs.Common.{◌≡◌, ℕ, ◌<◌, Bool, true, false, not, inl, inr, Option, None, Some, Result, Ok, Err, IfErr, List, refl, sym, ◌∙◌, ap, subst}
 use Rattle.std.specs.Prelude.{◌↔◌, is_err, OnOk, ℤ}
 use Rattle.std.specs.List.{slice_get}
 use Rattle.std.specs.Option.{is_none}
-use Rattle.std.proofs.lemmas.Bool.{lt-ltb, le-ltb}
 use Rattle.fl_base.specs.declared.types.KeyRange.{KeyRange}
-use Rattle.fl_model.specs.Record.{RowLayout}
 use Rattle.fl_frame.specs.Contents.{OnlyReads}
 use Rattle.fl_cursor.specs.declared.bookmark.Bookmark.{Bookmark}
 use Rattle.fl_flash.specs.Flash.{FlashState}
@@ -20,6 +18,7 @@ use Rattle.fl_table.specs.declared.faults.PutRefusal.TheVariants as put
 use Rattle.fl_table.specs.Refusal.{RefusesAs}
 use Rattle.fl_rlc.specs.Refusal.{RefusedSame, put_refusal}
 use Rattle.fl_rlc.specs.Table.{is_running, table_in}
+use Rattle.fl_table.specs.Look.{layout_in}
 use Rattle.fl_rlc.specs.declared.table.LoggedTable.{LoggedTable}
 use Rattle.fl_store.specs.MountsOver.{MountsOver}
 use Rattle.fl_store.specs.Tables.{entries_with}
@@ -32,11 +31,15 @@ use Rattle.fl_words.specs.Reply.{Reply, text}
 use Rattle.fl_queries.specs.Asked.{lacked_column}
 use Rattle.fl_queries.specs.ListSays.{EndsRange, ListSays}
 use Rattle.fl_queries.specs.LookSays.{Says}
+use Rattle.fl_queries.specs.Operators.{columns_by, AreLinesBy}
+use Rattle.fl_queries.specs.declared.operators.Operator.{Operator}
+use Rattle.fl_queries.specs.declared.operators.Operator.TheVariants.{Select, Project, Aggregate}
 use Rattle.fl_session.proofs.NextCommand.{nothing-added}
 use Rattle.fl_session.proofs.RunningPuts.{runs-on}
 use Rattle.fl_session.specs.Answer.{IsReached, Refusal}
-use Rattle.fl_session.specs.Caused.{Caused, State, state_of, Writes, IsRefused, IsHere, OnTable, IfLacks, OnlyLooks, PutFails, FlushFails, LoadCounts}
+use Rattle.fl_session.specs.Caused.{Caused, State, state_of, Writes, IsRefused, IsHere, OnTable, IfLacks, Lists, OnlyLooks, PutFails, FlushFails, LoadCounts}
 use Rattle.fl_session.specs.Notes.{with_cursor}
+use Rattle.fl_session.specs.Operated.{command_by}
 use Rattle.fl_session.specs.declared.notes.Notes.{Notes}
 use Rattle.fl_session.specs.declared.notes.TableCursor.{TableCursor}
 
@@ -68,16 +71,12 @@ noted entries mounted a b f same = ap (λ (notes : Notes). state_of entries moun
 pub is-here : (s : State) (name : List ℕ) (at : ℕ) (entry : Entry) → IsReached s.entries s.mounted name at → slice_get s.entries at ≡ Some entry → IsHere s name at entry
 is-here s name at entry reached here = record { reached = reached; here = here }
 
--- a column that a table lacks, and one that it has
-pub lacks-one : (layout : RowLayout) (column : ℕ) → length layout.columns < column → lacked_column layout (column ∷ []) ≡ Some column
-lacks-one layout column beyond =
-    let is : nat_lt (length layout.columns) column ≡ true = lt-ltb (length layout.columns) column beyond in
-    rw is refl
-
-pub has-one : (layout : RowLayout) (column : ℕ) → column ≤ length layout.columns → lacked_column layout (column ∷ []) ≡ None
-has-one layout column within =
-    let is : nat_lt (length layout.columns) column ≡ false = le-ltb (length layout.columns) column within in
-    rw is refl
+-- an operator was caused where its columns are there, and where one isn't
+pub caused-by : {E : Type 0} (operator : Operator) (old new : State) (name : List ℕ) (range : KeyRange) (told told_now : Option (List ℕ)) (result : Result (Unit {0}) E) →
+    Lists old new name told told_now result (λ entry. IfLacks old new range (AreLinesBy operator range) entry told told_now result (lacked_column (layout_in (table_in entry.table)) (columns_by operator))) → Caused (command_by operator name range) old new told told_now result
+caused-by (Select comparison) old new name range told told_now result h = h
+caused-by (Project columns) old new name range told told_now result h = h
+caused-by (Aggregate column width) old new name range told told_now result h = h
 
 module _ (E : Type 0) (old new : State) (range : KeyRange) (AreLines : List Reply → Type 0) (entry : Entry) (told told_now : Option (List ℕ)) (result : Result (Unit {0}) E) (o : Option ℕ) where
   pub lacks-says : (column : ℕ) → o ≡ Some column → new ≡ old → Written told told_now result (text (reply.NoColumn column)) → IfLacks old new range AreLines entry told told_now result o

@@ -22,7 +22,7 @@ use Rattle.fl_store.specs.declared.tables.Entry.{Entry}
 use Rattle.fl_store.specs.Tables.{first_of}
 use Rattle.fl_session.specs.Answer.{Refusal, IsReached}
 use Rattle.fl_session.specs.Execute.{Executes}
-use Rattle.fl_queries.specs.Listed.{Scans}
+use Rattle.fl_queries.specs.Lines.{Scans}
 use Rattle.fl_session.specs.Cost.{HasRead, ReadsScan}
 use Rattle.fl_session.specs.declared.notes.Notes.{Notes}
 use Rattle.fl_session.specs.declared.cost.Cost.TheVariants as code_cost
@@ -32,7 +32,7 @@ use Rattle.fl_session.proofs.NamedTable.{own-of}
 use Rattle.fl_session.proofs.CountedReads.{read-none}
 use Rattle.fl_session.proofs.GetReplies.{session-read, on-table, off-table}
 use Rattle.fl_session.proofs.RefusedCommands.{answers-refused}
-use Rattle.fl_queries.proofs.Scanned.{on-ok-weaker}
+use Rattle.std.proofs.lemmas.Result.{on_ok_weaker}
 use Rattle.fl_store.proofs.Queried.{stands-unlogged}
 use Rattle.fl_session.proofs.Unlogged.{scans-unlogged}
 
@@ -44,12 +44,12 @@ pub scan-executes : (E : Type 0) (config : Config) (old : Machine) (entries : Li
 scan-executes E config old entries at entry t asked notes f g reads mounted range span told told_now result h r here table_is only counted reads_are scans =
     let h' = subst (λ m. SessionStands config entries f m notes old) r.mounted_is h in
     let own = own-of config old entries f notes asked at entry h' here r.named in
-    let s = scans-unlogged own.plan own.table (scans (first_of config.plans at) (bare own.plan) (bare_table own.table) h'.medium.told (h'.power refl) (stands-unlogged t entry table_is own.stands)) in
+    let s = scans-unlogged own.plan own.table range span (scans (first_of config.plans at) (bare own.plan) (bare_table own.table) h'.medium.told (h'.power refl) (stands-unlogged t entry table_is own.stands)) in
     let moment : Moment = record { command = command.Scan asked range span; rose = s.rose; reads = reads; last = None; replies = s.replies; after = record old { cost = OfScan reads } } in
     let place : Located = record { place = at; plan = own.plan; table = own.table } in
     let stated : ReadsScan config moment range span g result place = record {
       within = omega (arith, s.within, reads_are, ap (λ n. scan_limit n own.plan own.table range span range.low) h'.knots);
-      least = on-ok-weaker result (λ least below unread. let more = least unread below in omega (arith, more, reads_are)) s.least;
+      least = on_ok_weaker result (λ least below unread. let more = least unread below in omega (arith, more, reads_are)) s.some;
       failed = λ below unread. let more = s.failed unread below in omega (arith, more, reads_are);
     } in
     let step = table-step config old moment asked (ScanStep config old moment range span) place h'.is_mounted own.found (refl, refl, s.lists) in

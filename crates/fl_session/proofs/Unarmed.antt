@@ -35,7 +35,7 @@ use Rattle.fl_words.specs.Command as command
 use Rattle.fl_words.specs.Command.{Command}
 use Rattle.fl_words.specs.Reply as reply
 use Rattle.fl_words.specs.Reply.{Reply}
-use Rattle.fl_queries.proofs.ListsAll.{one-text}
+use Rattle.fl_queries.proofs.RowLines.{one-text}
 use Rattle.fl_session.specs.Answer.{bad_reply, load_replies, mount_reply}
 use Rattle.fl_queries.specs.Asked.{lacked_column}
 use Rattle.fl_queries.specs.BlobSays.{AnswersBlob, EndsBlob, IsBadNamed, IsBlob, IsBytes, MayBeBadFor}

@@ -18,7 +18,7 @@ use Rattle.fl_words.specs.Reply as reply
 use Rattle.fl_words.specs.Reply.{Reply}
 use Rattle.fl_store.proofs.Queried.{blobs-bare}
 use Rattle.fl_queries.specs.BlobShown.{ShowsBlob}
-use Rattle.fl_queries.specs.Listed.{Scans}
+use Rattle.fl_queries.specs.Lines.{Scans}
 use Rattle.fl_queries.specs.Looked.{Looks}
 use Rattle.fl_queries.specs.Nexts.{Nexts, ending_of, given_of}
 
@@ -80,15 +80,15 @@ module _ (plan : Plan) (table : Table) where
       failed = h.failed;
     }
 
-    pub scans-unlogged : {range : KeyRange} {span : Option Span} → Scans (bare plan) (bare_table table) range span told told_now faults faults_now reads reads_now result → Scans plan table range span told told_now faults faults_now reads reads_now result
-    scans-unlogged {range} {span} h = record {
+    pub scans-unlogged : (range : KeyRange) (span : Option Span) → Scans (bare plan) (bare_table table) range span told told_now faults faults_now reads reads_now result → Scans plan table range span told told_now faults faults_now reads reads_now result
+    scans-unlogged range span h = record {
       rose = h.rose;
       risen = h.risen;
       replies = h.replies;
       lists = subst (λ (lines : List Reply). Lists h.rose lines (reply.EndCount (length lines)) h.replies) (rows-bare plan (selected range span table.entries)) h.lists;
       wrote = h.wrote;
       within = omega (arith, h.within, limit-bare plan table range span range.low);
-      least = h.least;
+      some = h.some;
       failed = h.failed;
     }
 

@@ -26,4 +26,5 @@ pub mod Run
 pub mod Complete
 pub mod Determined
 pub mod Operations
+pub mod Operated
 pub mod Unarmed

@@ -27,7 +27,7 @@ use crate::notes::{NO_CURSORS, Notes};
 use crate::replies::{cost_reply, flush_breaks, mount_reply, put_breaks};
 use fl_base::{KeyRange, Name, Sink, SinkFailed, Span};
 use fl_flash::{Flash, Media, SimFlash};
-use fl_queries::{Buffers, Comparison, list_rows, look_up, oldest_blob, show_blob};
+use fl_queries::{Buffers, Comparison, Operator, list_rows, look_up, oldest_blob, show_blob};
 use fl_rlc::RingCounts;
 use fl_script::{Command, LineRoom, Reply, write_reply};
 use fl_store::{Tables, flush_reply, put_reply};
@@ -382,19 +382,28 @@ impl<'m, M: Media> Executor for Session<'m, M> {
                     op: *op,
                     value: *value,
                 };
-                return self.select(*name, *range, comparison, out);
+                return self.operate(*name, *range, Operator::Select(comparison), out);
             }
             Command::Project {
                 name,
                 range,
                 columns,
-            } => return self.project(*name, *range, columns, out),
+            } => {
+                let columns = columns.as_slice();
+                return self.operate(*name, *range, Operator::Project(columns), out);
+            }
             Command::Agg {
                 name,
                 range,
                 column,
                 width,
-            } => return self.aggregate(*name, *range, *column as usize, *width, out),
+            } => {
+                let operator = Operator::Aggregate {
+                    column: *column as usize,
+                    width: *width,
+                };
+                return self.operate(*name, *range, operator, out);
+            }
             Command::Join { left, right, range } => return self.join(*left, *right, *range, out),
             Command::Load {
                 name,

@@ -67,13 +67,13 @@ returns-clause-goes g c = elim c.match-command.branch [
 pub returns-in-Select-clause-step : goal.returns-in-Select-clause-step
 returns-in-Select-clause-step g c = λ config old h.
     let fits : FitsSigned w64 c.in-Select.value = search rules in
-    rw c.in-Select.is (select-by (to_z-of_z w64 c.in-Select.value fits) (c.select.ensures.step config old h))
+    rw c.in-Select.is (select-by (to_z-of_z w64 c.in-Select.value fits) (c.operate.ensures.step config old h))
 
 pub returns-in-Project-clause-step : goal.returns-in-Project-clause-step
-returns-in-Project-clause-step g c = λ config old h. rw c.in-Project.is (c.project.ensures.step config old h)
+returns-in-Project-clause-step g c = λ config old h. rw (c.in-Project.is, sym c.as_slice-columns.ensures.value) (c.operate-in-Project.ensures.step config old h)
 
 pub returns-in-Agg-clause-step : goal.returns-in-Agg-clause-step
-returns-in-Agg-clause-step g c = λ config old h. rw c.in-Agg.is (c.aggregate.ensures.step config old h)
+returns-in-Agg-clause-step g c = λ config old h. rw c.in-Agg.is (c.operate-in-Agg.ensures.step config old h)
 
 pub returns-in-Join-clause-step : goal.returns-in-Join-clause-step
 returns-in-Join-clause-step g c = λ config old h. rw c.in-Join.is (c.join.ensures.step config old h)
@@ -98,13 +98,13 @@ returns-clause-cause g c = elim c.match-command.branch [
 ]
 
 pub returns-in-Select-clause-cause : goal.returns-in-Select-clause-cause
-returns-in-Select-clause-cause g c = rw c.in-Select.is (c.select.ensures.cause)
+returns-in-Select-clause-cause g c = rw c.in-Select.is (c.operate.ensures.cause)
 
 pub returns-in-Project-clause-cause : goal.returns-in-Project-clause-cause
-returns-in-Project-clause-cause g c = rw c.in-Project.is (c.project.ensures.cause)
+returns-in-Project-clause-cause g c = rw (c.in-Project.is, sym c.as_slice-columns.ensures.value) (c.operate-in-Project.ensures.cause)
 
 pub returns-in-Agg-clause-cause : goal.returns-in-Agg-clause-cause
-returns-in-Agg-clause-cause g c = rw c.in-Agg.is (c.aggregate.ensures.cause)
+returns-in-Agg-clause-cause g c = rw c.in-Agg.is (c.operate-in-Agg.ensures.cause)
 
 pub returns-in-Join-clause-cause : goal.returns-in-Join-clause-cause
 returns-in-Join-clause-cause g c = rw c.in-Join.is (c.join.ensures.cause)
@@ -125,13 +125,13 @@ pub returns-in-Next-clause-cause : goal.returns-in-Next-clause-cause
 returns-in-Next-clause-cause g c = rw c.in-Next.is (c.next.ensures.cause)
 
 pub returns-in-Select-clause-goes : goal.returns-in-Select-clause-goes
-returns-in-Select-clause-goes g c = stays _ _ c.select.ensures.goes
+returns-in-Select-clause-goes g c = stays _ _ c.operate.ensures.goes
 
 pub returns-in-Project-clause-goes : goal.returns-in-Project-clause-goes
-returns-in-Project-clause-goes g c = stays _ _ c.project.ensures.goes
+returns-in-Project-clause-goes g c = stays _ _ c.operate-in-Project.ensures.goes
 
 pub returns-in-Agg-clause-goes : goal.returns-in-Agg-clause-goes
-returns-in-Agg-clause-goes g c = stays _ _ c.aggregate.ensures.goes
+returns-in-Agg-clause-goes g c = stays _ _ c.operate-in-Agg.ensures.goes
 
 pub returns-in-Join-clause-goes : goal.returns-in-Join-clause-goes
 returns-in-Join-clause-goes g c = stays _ _ c.join.ensures.goes
@@ -152,22 +152,22 @@ pub returns-in-Next-clause-goes : goal.returns-in-Next-clause-goes
 returns-in-Next-clause-goes g c = stays _ _ c.next.ensures.goes
 
 pub returns-in-Select-clause-sound : goal.returns-in-Select-clause-sound
-returns-in-Select-clause-sound g c = c.select.ensures.sound
+returns-in-Select-clause-sound g c = c.operate.ensures.sound
 
 pub returns-in-Select-clause-sink : goal.returns-in-Select-clause-sink
-returns-in-Select-clause-sink g c = c.select.ensures.sink
+returns-in-Select-clause-sink g c = c.operate.ensures.sink
 
 pub returns-in-Project-clause-sound : goal.returns-in-Project-clause-sound
-returns-in-Project-clause-sound g c = c.project.ensures.sound
+returns-in-Project-clause-sound g c = c.operate-in-Project.ensures.sound
 
 pub returns-in-Project-clause-sink : goal.returns-in-Project-clause-sink
-returns-in-Project-clause-sink g c = c.project.ensures.sink
+returns-in-Project-clause-sink g c = c.operate-in-Project.ensures.sink
 
 pub returns-in-Agg-clause-sound : goal.returns-in-Agg-clause-sound
-returns-in-Agg-clause-sound g c = c.aggregate.ensures.sound
+returns-in-Agg-clause-sound g c = c.operate-in-Agg.ensures.sound
 
 pub returns-in-Agg-clause-sink : goal.returns-in-Agg-clause-sink
-returns-in-Agg-clause-sink g c = c.aggregate.ensures.sink
+returns-in-Agg-clause-sink g c = c.operate-in-Agg.ensures.sink
 
 pub returns-in-Join-clause-sound : goal.returns-in-Join-clause-sound
 returns-in-Join-clause-sound g c = c.join.ensures.sound
