@@ -1,14 +1,27 @@
 -- The words of a line of so many.
-use Rattle.std.proofs.Common.{◌≡◌, ℕ, zero, suc, ◌-◌, ◌<◌, ◌≤◌, List, [], ◌∷◌, length, map, take, drop, get_or, Result, Err, refl, sym, ap, arith, Bor, inl, inr}
-use Rattle.fl_words.specs.Grammar.{LineFault, Number, number, ◌>>=◌}
+use Rattle.std.proofs.Common.{◌≡◌, ℕ, ℤ, zero, suc, ◌-◌, ◌<◌, ◌≤◌, List, [], ◌∷◌, length, map, take, drop, get_or, Result, Err, refl, sym, ap, arith, Bor, inl, inr}
+use Rattle.fl_words.specs.Grammar.{LineFault, Number, number, signed, ◌>>=◌}
 use Rattle.fl_words.specs.Command.{Command}
-use Rattle.fl_script.specs.Lines.{IsBadRange}
+use Rattle.fl_script.specs.Lines.{IsBadRange, IsBadSpan}
 
 abbrev pub blank : Bor (List ℕ)
 blank = record { ref_ptr = (0, 0); now = [] }
 
 abbrev pub word_at : List (Bor (List ℕ)) → ℕ → List ℕ
 word_at words i = (get_or words i blank).now
+
+pub two : (words : List (Bor (List ℕ))) → 2 ≤ length words → length words < 3 → map (λ word. word.now) words ≡ word_at words 0 ∷ word_at words 1 ∷ []
+two [] least most = absurd (omega (arith, least))
+two (a ∷ []) least most = absurd (omega (arith, least))
+two (a ∷ b ∷ []) least most = refl
+two (a ∷ b ∷ c ∷ words) least most = absurd (omega (arith, most))
+
+pub three : (words : List (Bor (List ℕ))) → 3 ≤ length words → length words < 4 → map (λ word. word.now) words ≡ word_at words 0 ∷ word_at words 1 ∷ word_at words 2 ∷ []
+three [] least most = absurd (omega (arith, least))
+three (a ∷ []) least most = absurd (omega (arith, least))
+three (a ∷ b ∷ []) least most = absurd (omega (arith, least))
+three (a ∷ b ∷ c ∷ []) least most = refl
+three (a ∷ b ∷ c ∷ d ∷ words) least most = absurd (omega (arith, most))
 
 pub four : (words : List (Bor (List ℕ))) → 4 ≤ length words → length words < 5
     → map (λ word. word.now) words ≡ word_at words 0 ∷ word_at words 1 ∷ word_at words 2 ∷ word_at words 3 ∷ []
@@ -67,3 +80,7 @@ eleven (a ∷ b ∷ c ∷ d ∷ e ∷ f ∷ g ∷ h ∷ i ∷ j ∷ k ∷ words)
 pub bad_range : (low high : List ℕ) → IsBadRange low high → (f : ℕ → ℕ → Result Command LineFault) → (number low >>= λ l. number high >>= λ h. f l h) ≡ Err Number
 bad_range low high (inl bad) f = rw bad refl
 bad_range low high (inr (value, good, bad)) f = rw (good, bad) refl
+
+pub bad_span : (low high : List ℕ) → IsBadSpan low high → (f : ℤ → ℤ → Result Command LineFault) → (signed low >>= λ l. signed high >>= λ h. f l h) ≡ Err Number
+bad_span low high (inl bad) f = rw bad refl
+bad_span low high (inr (value, good, bad)) f = rw (good, bad) refl

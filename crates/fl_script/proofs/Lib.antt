@@ -13,3 +13,4 @@ pub mod Spaces
 pub mod WordsOfLine
 pub mod Texts
 pub mod RowTexts
+pub mod Steps

@@ -60,10 +60,17 @@ put_by name key words (Some word) = by (blob_word word)
     by None = refl
     by (Some b) = refl
 
-two : (words : List (Bor (List ℕ))) → 2 ≤ length words → nows words ≡ word_at words 0 ∷ word_at words 1 ∷ nows (take (length words - 2) (drop 2 words))
-two [] h = absurd (omega (arith, h))
-two (a ∷ []) h = absurd (omega (arith, h))
-two (a ∷ b ∷ words) h =
+-- the first words, and the others
+pub one_and_more : (words : List (Bor (List ℕ))) → 1 ≤ length words → nows words ≡ word_at words 0 ∷ nows (take (length words - 1) (drop 1 words))
+one_and_more [] h = absurd (omega (arith, h))
+one_and_more (a ∷ words) h =
+    let e : length (a ∷ words) - 1 ≡ length words = omega arith in
+    rw (e, take_all (length words) words (omega arith)) refl
+
+pub two_and_more : (words : List (Bor (List ℕ))) → 2 ≤ length words → nows words ≡ word_at words 0 ∷ word_at words 1 ∷ nows (take (length words - 2) (drop 2 words))
+two_and_more [] h = absurd (omega (arith, h))
+two_and_more (a ∷ []) h = absurd (omega (arith, h))
+two_and_more (a ∷ b ∷ words) h =
     let e : length (a ∷ b ∷ words) - 2 ≡ length words = omega arith in
     rw (e, take_all (length words) words (omega arith)) refl
 
@@ -73,13 +80,13 @@ pub put_as : (words values : List (Bor (List ℕ))) (blob : Option (List ℕ)) �
     → put_line (nows words) ≡ part (blob_bytes blob) (λ bytes. put_parts (word_at words 0) (word_at words 1) (nows values) bytes)
 put_as words values blob h n s few =
     let size : nat_le (length (nows values)) 16 ≡ true = grind (arith, nat_tests, length-map values (λ (word : Bor (List ℕ)). word.now)) in
-    rw (two words h, n, s, size) (put_by (word_at words 0) (word_at words 1) (nows values) blob)
+    rw (two_and_more words h, n, s, size) (put_by (word_at words 0) (word_at words 1) (nows values) blob)
 
 pub too_many : (words values : List (Bor (List ℕ))) (blob : Option (List ℕ)) → 2 ≤ length words
     → blob_split (nows (take (length words - 2) (drop 2 words))) ≡ (nows values, blob) → 16 < length values → put_line (nows words) ≡ Err Form
 too_many words values blob h s many =
     let size : nat_le (length (nows values)) 16 ≡ false = grind (arith, nat_tests, length-map values (λ (word : Bor (List ℕ)). word.now)) in
-    rw (two words h, s, size) (never (is_name (word_at words 0)) _)
+    rw (two_and_more words h, s, size) (never (is_name (word_at words 0)) _)
   where
     never : (b : Bool) (r : Result Command LineFault) → form (b && false) r ≡ Err Form
     never true r = refl

@@ -1,17 +1,33 @@
-use Rattle.std.proofs.Common.{◌≡◌, map, Err, refl, rules}
+use Rattle.std.proofs.Common.{rules, ap, ◌∙◌}
 use Rattle.fl_words.specs.Grammar as grammar
 use Rattle.fl_script.proofs.Few.{six, bad_range, word_at}
+use Rattle.fl_script.proofs.Steps.{with_form, with_part, on, stops, no_form, no_part, fails}
 use Rattle.fl_script.proofs.queries.select_line.Goals as goal
+
+pub returns-in_err-name : goal.returns-in_err-name
+returns-in_err-name c =
+    fails _ _ _ _ c.from_residual.ensures.1 c.in_err-name.ensures.1
+    (ap grammar.select_line (six c.args.words.now c.in-len6.len_at_least c.in-len6.len_below) ∙ no_form _ c.in_err-name.ensures.0)
+
+pub returns-in_err-op : goal.returns-in_err-op
+returns-in_err-op c =
+    fails _ _ _ _ c.from_residual-in_err-op.ensures.1 c.in_err-op.ensures.1
+    (ap grammar.select_line (six c.args.words.now c.in-len6.len_at_least c.in-len6.len_below) ∙ with_form _ c.in_ok-name.ensures.0 ∙ no_part _ c.in_err-op.ensures.0)
 
 pub returns-in_err-key_range : goal.returns-in_err-key_range
 returns-in_err-key_range c =
-    let e : grammar.select_line (map (λ word. word.now) c.args.words.now) ≡ Err grammar.Number = rw (six c.args.words.now c.in-len6.len_at_least c.in-len6.len_below, c.in_ok-name.ensures.0, c.in_ok-op.ensures) (bad_range (word_at c.args.words.now 1) (word_at c.args.words.now 2) c.in_err-key_range.ensures.0 _) in
-    rw e (search rules)
+    fails _ _ _ _ c.from_residual-in_err-key_range.ensures.1 c.in_err-key_range.ensures.1
+    (ap grammar.select_line (six c.args.words.now c.in-len6.len_at_least c.in-len6.len_below) ∙ with_form _ c.in_ok-name.ensures.0 ∙ with_part _ c.in_ok-op.ensures ∙ bad_range (word_at c.args.words.now 1) (word_at c.args.words.now 2) c.in_err-key_range.ensures.0 _)
 
 pub returns-in_err-number : goal.returns-in_err-number
 returns-in_err-number c =
-    let e : grammar.select_line (map (λ word. word.now) c.args.words.now) ≡ Err grammar.Number = rw (six c.args.words.now c.in-len6.len_at_least c.in-len6.len_below, c.in_ok-name.ensures.0, c.in_ok-op.ensures, c.in_ok-key_range.ensures.0, c.in_ok-key_range.ensures.1, c.in_err-number.ensures.0) refl in
-    rw e (search rules)
+    fails _ _ _ _ c.from_residual-in_err-number.ensures.1 c.in_err-number.ensures.1
+    (ap grammar.select_line (six c.args.words.now c.in-len6.len_at_least c.in-len6.len_below) ∙ with_form _ c.in_ok-name.ensures.0 ∙ with_part _ c.in_ok-op.ensures ∙ on _ c.in_ok-key_range.ensures.0 ∙ on _ c.in_ok-key_range.ensures.1 ∙ stops _ c.in_err-number.ensures.0)
+
+pub returns-in_err-signed : goal.returns-in_err-signed
+returns-in_err-signed c =
+    fails _ _ _ _ c.from_residual-in_err-signed.ensures.1 c.in_err-signed.ensures.1
+    (ap grammar.select_line (six c.args.words.now c.in-len6.len_at_least c.in-len6.len_below) ∙ with_form _ c.in_ok-name.ensures.0 ∙ with_part _ c.in_ok-op.ensures ∙ on _ c.in_ok-key_range.ensures.0 ∙ on _ c.in_ok-key_range.ensures.1 ∙ on _ c.in_ok-number.ensures ∙ stops _ c.in_err-signed.ensures.0)
 
 pub returns : goal.returns
 returns c = rw (six c.args.words.now c.in-len6.len_at_least c.in-len6.len_below, c.in_ok-name.ensures.0, c.in_ok-op.ensures, c.in_ok-key_range.ensures.0, c.in_ok-key_range.ensures.1, c.in_ok-number.ensures, c.in_ok-signed.ensures, c.in_ok-name.ensures.1) (search rules)
