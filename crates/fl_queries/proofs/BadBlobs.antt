@@ -1,6 +1,5 @@
 -- Bad pages of a blob, and of the lookup of its record, seen from an earlier flash.
-use Rattle.std.proofs.Common.{◌≡◌, ◌⊎◌, ◌+◌, ◌-◌, ◌<◌, true, false, take, drop, refl, ◌∙◌, ℕ, ◌≤◌, Bool, inl, inr, IfErr, IsTrue, Option, Some, None, Result, Ok, Err, List, ap, subst, sym}
-use Rattle.std.specs.Prelude.{if◌then◌else◌, ◌==◌, nat_lt}
+use Rattle.std.proofs.Common.{◌≡◌, ◌⊎◌, ◌+◌, ◌-◌, ◌<◌, true, false, take, drop, refl, ◌∙◌, ℕ, ◌≤◌, Bool, inl, inr, IfErr, IsTrue, Option, Some, None, Result, Ok, Err, List, ap, subst, sym, if◌then◌else◌, ◌==◌, nat_lt, IsSomeAnd}
 use Rattle.std.proofs.lemmas.Bool.{lt-ltb, false≢true}
 use Rattle.fl_base.specs.declared.types.BlobRef.{BlobRef}
 use Rattle.fl_flash.specs.Flash.{FlashState}
@@ -31,7 +30,6 @@ use Rattle.fl_frame.specs.Reads as looking
 use Rattle.fl_model.specs.Row.{Row}
 use Rattle.fl_words.specs.Reply as reply
 use Rattle.fl_words.specs.Reply.{Reply}
-use Rattle.std.specs.Option.{IsSomeAnd}
 use Rattle.fl_queries.specs.BlobSays.{AnswersBlob, FindsNamed, IsBadIn, IsBadNamed, IsLeft, MayBeBadAhead, MayBeBadFor, NamesFor, TellsBlob, TellsLeft}
 use Rattle.fl_store.proofs.TablesOnlyRead.{pages-read, tells-read}
 use Rattle.fl_queries.specs.BlobShown.{found_in}

@@ -1,6 +1,5 @@
 -- The note on a row's blob is that of its record.
-use Rattle.std.proofs.Common.{◌≡◌, ℕ, Bool, true, false, cond, Option, Some, None, List, length, refl}
-use Rattle.std.specs.Prelude.{option_map}
+use Rattle.std.proofs.Common.{◌≡◌, ℕ, Bool, true, false, cond, Option, Some, None, List, length, refl, option_map}
 use Rattle.fl_machine.specs.Step.{row_note}
 use Rattle.fl_model.specs.Record.{Plan, has_var}
 use Rattle.fl_model.specs.Row.{stored_row}

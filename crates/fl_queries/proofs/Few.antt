@@ -1,6 +1,5 @@
 -- How many records a table holds at most.
-use Rattle.std.proofs.Common.{ℕ, ◌*◌, ◌-◌, ◌/◌, ◌^◌, ◌<◌, ◌≤◌, Option, List, [], ◌∷◌, length, filter, Bool, true, false, cond, ap, arith}
-use Rattle.std.proofs.Math.Nat.{div-le_self, suc-mul}
+use Rattle.std.proofs.Common.{ℕ, ◌*◌, ◌-◌, ◌/◌, ◌^◌, ◌<◌, ◌≤◌, Option, List, [], ◌∷◌, length, filter, Bool, true, false, cond, ap, arith, div-le_self, suc-mul}
 use Rattle.std.proofs.lemmas.List.Sums.{sum_by-cons}
 use Rattle.std.proofs.lemmas.Nat.{mul-le}
 use Rattle.std.specs.List.{AllByRecursion, sum}

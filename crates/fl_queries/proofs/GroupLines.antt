@@ -1,7 +1,6 @@
 -- The groups that rows make are those that their records make.
-use Rattle.std.proofs.Common.{◌≡◌, ℕ, ◌/◌, ◌≤◌, Bool, true, false, cond, not, eqb, Option, Some, None, ℤ, List, [], ◌∷◌, length, map, filter, refl, ◌∙◌, ap, arith}
+use Rattle.std.proofs.Common.{◌≡◌, ℕ, ◌/◌, ◌≤◌, Bool, true, false, cond, not, eqb, Option, Some, None, ℤ, List, [], ◌∷◌, length, map, filter, refl, ◌∙◌, ap, arith, ◌==◌}
 use Rattle.std.specs.List.{filter_map, cons_option}
-use Rattle.std.specs.Prelude.{◌==◌}
 use Rattle.fl_model.specs.Operators.{column_of, group_numbers, group_values, group_from, aggregate}
 use Rattle.fl_model.specs.Record.{Record}
 use Rattle.fl_model.specs.Row.{stored_row}

@@ -1,6 +1,5 @@
 -- The first row whose blob isn't gone, and the record whose it is.
-use Rattle.std.proofs.Common.{◌≡◌, ◌⊎◌, ℕ, zero, suc, ◌+◌, ◌<◌, ◌≤◌, Bool, true, false, cond, inl, inr, Option, Some, None, Err, List, [], ◌∷◌, length, map, refl, sym, ◌∙◌, ap, subst, arith}
-use Rattle.std.specs.Prelude.{◌||◌, ◌&&◌, ◌==◌, nat_le, nat_lt, option_map, unwrap_or, slice_get}
+use Rattle.std.proofs.Common.{◌≡◌, ◌⊎◌, ℕ, zero, suc, ◌+◌, ◌<◌, ◌≤◌, Bool, true, false, cond, inl, inr, Option, Some, None, Err, List, [], ◌∷◌, length, map, refl, sym, ◌∙◌, ap, subst, arith, ◌||◌, ◌&&◌, ◌==◌, nat_le, nat_lt, option_map, unwrap_or, slice_get}
 use Rattle.std.specs.List.{AllByRecursion, find}
 use Rattle.std.proofs.lemmas.Bool.{le-leb, lt-leb, cases_lt, false≢true, true≢false}
 use Rattle.std.proofs.lemmas.Option.{same_Some}

@@ -1,7 +1,6 @@
 -- The pairs that rows make are those that their records make, as lines.
-use Rattle.std.proofs.Common.{◌≡◌, ℕ, ◌≤◌, Bool, true, false, cond, eqb, Option, Some, None, option_map, ℤ, List, [], ◌∷◌, length, map, refl}
+use Rattle.std.proofs.Common.{◌≡◌, ℕ, ◌≤◌, Bool, true, false, cond, eqb, Option, Some, None, option_map, ℤ, List, [], ◌∷◌, length, map, refl, ◌==◌}
 use Rattle.std.specs.List.{find, cons_option}
-use Rattle.std.specs.Prelude.{◌==◌}
 use Rattle.fl_machine.specs.Step.{pair_reply}
 use Rattle.fl_model.specs.Operators.{key_join}
 use Rattle.fl_model.specs.Record.{Record}

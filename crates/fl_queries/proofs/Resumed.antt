@@ -1,6 +1,5 @@
 -- A cursor that is resumed over a flash that stands for its table.
-use Rattle.std.proofs.Common.{◌≡◌, ℕ, ◌+◌, ◌≤◌, true, IsTrue, Option, Result, List, length, map, filter, refl, sym, ◌∙◌, ap, subst}
-use Rattle.std.proofs.lemmas.Bool.{true≢false}
+use Rattle.std.proofs.Common.{◌≡◌, ℕ, ◌+◌, ◌≤◌, true, IsTrue, Option, Result, List, length, map, filter, refl, sym, ◌∙◌, ap, subst, true≢false}
 use Rattle.fl_base.specs.Causes.{Rose}
 use Rattle.fl_cursor.specs.Asked.{asked_by, is_left}
 use Rattle.fl_cursor.specs.Cursor.{table_of, mark_of, asked_of, left_of, IsStanding}

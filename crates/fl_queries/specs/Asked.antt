@@ -1,6 +1,5 @@
 -- What an operator over a range of keys is asked for.
-use Rattle.std.specs.Prelude.{ℕ, nat_lt, Option, None, List, length, map}
-use Rattle.std.specs.List.{find}
+use Rattle.std.specs.Prelude.{ℕ, nat_lt, Option, None, List, length, map, find}
 use Rattle.fl_base.specs.declared.types.KeyRange.{KeyRange}
 use Rattle.fl_model.specs.Query.{selected}
 use Rattle.fl_model.specs.Record.{Record, RowLayout}

@@ -1,6 +1,5 @@
 -- The oldest record of a table whose blob isn't gone.
-use Rattle.std.specs.Prelude.{◌≡◌, ℕ, Bool, true, false, ◌||◌, nat_le, ◌==◌, Option, Some, None, option_map, Result, Ok, Err, List}
-use Rattle.std.specs.List.{find}
+use Rattle.std.specs.Prelude.{◌≡◌, ℕ, Bool, true, false, ◌||◌, nat_le, ◌==◌, Option, Some, None, option_map, Result, Ok, Err, List, find}
 use Rattle.fl_base.specs.Causes.{Rose}
 use Rattle.fl_base.specs.declared.types.BlobRef.{BlobRef}
 use Rattle.fl_model.specs.Query.{BlobState, Without, Lost, Stands, blob_of}

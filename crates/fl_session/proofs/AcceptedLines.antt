@@ -1,7 +1,5 @@
 -- The lines of a script that were run, and how a configuration goes on line by line.
-use Rattle.std.proofs.Common.{◌≡◌, ℕ, ◌+◌, ◌<◌, Some, None, Result, Err, List, [], ◌∷◌, ◌++◌, length, refl, sym, ◌∙◌, ap, append_assoc, append-nil, length-append, arith}
-use Rattle.std.specs.Prelude.{if◌then◌else◌}
-use Rattle.std.proofs.lemmas.Bool.{lt-ltb}
+use Rattle.std.proofs.Common.{◌≡◌, ℕ, ◌+◌, ◌<◌, Some, None, Result, Err, List, [], ◌∷◌, ◌++◌, length, refl, sym, ◌∙◌, ap, append_assoc, append-nil, length-append, arith, if◌then◌else◌, lt-ltb}
 use Rattle.fl_words.specs.Command.{Command}
 use Rattle.fl_words.specs.Grammar.{LineFault, TooLong, command_of, words_command, words_in, without_return}
 use Rattle.fl_words.specs.Config.{Lines, whole, no_lines}

@@ -1,8 +1,5 @@
 -- The calls of a session's table, each by the command that makes it.
-use Rattle.std.proofs.Common.{◌≡◌, ℕ, Bool, true, false, not, IsTrue, IfErr, Option, Some, Result, List, sym, ap, subst}
-use Rattle.std.proofs.Math.IntN.{ℤ}
-use Rattle.std.specs.Prelude.{is_ok, OnOk}
-use Rattle.std.specs.List.{slice_get}
+use Rattle.std.proofs.Common.{◌≡◌, ℕ, Bool, true, false, not, IsTrue, IfErr, Option, Some, Result, List, sym, ap, subst, ℤ, is_ok, OnOk, slice_get}
 use Rattle.fl_flash.specs.Flash.{FlashState, Goes, page_at}
 use Rattle.fl_frame.specs.Watched.{IsWatched}
 use Rattle.fl_model.specs.Record.{Config, Plan}

@@ -1,5 +1,5 @@
 -- A command that was executed up to its reply, and the reply that was written.
-use Rattle.std.proofs.Common.{◌≡◌, ◌≤◌, ℕ, Bool, IsTrue, true, false, Option, Some, None, Result, List, [], ◌∷◌, refl, sym, ap, subst, arith}
+use Rattle.std.proofs.Common.{◌≡◌, ◌≤◌, ℕ, Bool, IsTrue, true, false, Option, Some, None, Result, List, [], ◌∷◌, refl, sym, ap, subst, arith, MatchBool, MatchOption}
 use Rattle.fl_base.specs.Causes.{Rose}
 use Rattle.fl_flash.specs.Flash.{FlashState}
 use Rattle.fl_flash.specs.Media.{MediaState}
@@ -12,7 +12,6 @@ use Rattle.fl_machine.specs.Machine.{Machine}
 use Rattle.fl_machine.specs.Reads.{none_read}
 use Rattle.fl_machine.specs.Stays.{MomentStays}
 use Rattle.fl_machine.specs.Step.{Moment, Step, StepOf, Says, Located, located, WhenMounted, WithTable}
-use Rattle.std.specs.Prelude.{MatchBool, MatchOption}
 use Rattle.fl_script.specs.Written.{Written}
 use Rattle.fl_store.specs.declared.tables.Entry.{Entry}
 use Rattle.fl_session.specs.Answer.{Answers}

@@ -1,6 +1,5 @@
 -- The configuration, line by line.
-use Rattle.std.proofs.Common.{◌≡◌, true, false, Result, Ok, Err, ap}
-use Rattle.std.specs.Prelude.{is_err}
+use Rattle.std.proofs.Common.{◌≡◌, true, false, Result, Ok, Err, ap, is_err}
 use Rattle.fl_plan.specs.declared.refusal.ConfigRefusal.{ConfigRefusal}
 use Rattle.fl_config.specs.Taking.{Takes}
 use Rattle.fl_words.specs.Command as command

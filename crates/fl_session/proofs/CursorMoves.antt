@@ -1,7 +1,5 @@
 -- The next rows of a session's cursors.
-use Rattle.std.proofs.Common.{◌≡◌, ℕ, ◌+◌, ◌-◌, ◌^◌, ◌<◌, ◌≤◌, Bool, true, false, IsTrue, Option, Some, None, option_map, Result, Ok, Err, OnOk, OnErr, List, [], ◌∷◌, take, set, refl, sym, ◌∙◌, ap, subst, arith}
-use Rattle.std.specs.Prelude.{unwrap_or, min, IfSome, MatchBool, MatchOption}
-use Rattle.std.specs.List.{slice_get}
+use Rattle.std.proofs.Common.{◌≡◌, ℕ, ◌+◌, ◌-◌, ◌^◌, ◌<◌, ◌≤◌, Bool, true, false, IsTrue, Option, Some, None, option_map, Result, Ok, Err, OnOk, OnErr, List, [], ◌∷◌, take, set, refl, sym, ◌∙◌, ap, subst, arith, unwrap_or, min, IfSome, MatchBool, MatchOption, slice_get}
 use Rattle.std.proofs.lemmas.List.{map-set}
 use Rattle.fl_base.specs.Causes.{Appends, AppendsFront}
 use Rattle.fl_cursor.specs.Asked.{asked_by, lowest}

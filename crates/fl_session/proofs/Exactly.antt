@@ -1,6 +1,5 @@
 -- A command does just its operations where none of them fails.
-use Rattle.std.proofs.Common.{◌≡◌, ◌+◌, ◌-◌, ◌^◌, ◌<◌, Bool, true, false, cond, IsTrue, None, ℕ, List, [], ◌∷◌, map, refl, sym, ◌∙◌, ap, subst}
-use Rattle.std.specs.Prelude.{MatchBool}
+use Rattle.std.proofs.Common.{◌≡◌, ◌+◌, ◌-◌, ◌^◌, ◌<◌, Bool, true, false, cond, IsTrue, None, ℕ, List, [], ◌∷◌, map, refl, sym, ◌∙◌, ap, subst, MatchBool}
 use Rattle.fl_base.specs.Causes.{Rose}
 use Rattle.fl_model.specs.Record.{Config}
 use Rattle.fl_model.specs.Table.{lose}

@@ -1,5 +1,5 @@
 -- The get of a session.
-use Rattle.std.proofs.Common.{◌≡◌, ℕ, Bool, true, false, ◌-◌, IsTrue, Option, Some, None, Result, ◌⊎◌, List, [], ◌∷◌, inl, inr, refl, sym, ◌∙◌, ap, subst, arith}
+use Rattle.std.proofs.Common.{◌≡◌, ℕ, Bool, true, false, ◌-◌, IsTrue, Option, Some, None, Result, ◌⊎◌, List, [], ◌∷◌, inl, inr, refl, sym, ◌∙◌, ap, subst, arith, slice_get, MatchBool, MatchOption, not, ◌&&◌}
 use Rattle.fl_flash.specs.Flash.{FlashState}
 use Rattle.fl_flash.specs.declared.armed.Armed.{Armed}
 use Rattle.fl_flash.specs.declared.flash.Work.{Work}
@@ -15,8 +15,6 @@ use Rattle.fl_words.specs.Reply as reply
 use Rattle.fl_words.specs.Reply.{Reply, texts}
 use Rattle.fl_machine.specs.Machine.{Machine, OfGet}
 use Rattle.fl_machine.specs.Reads.{OnTable, none_read}
-use Rattle.std.specs.List.{slice_get}
-use Rattle.std.specs.Prelude.{MatchBool, MatchOption, not, ◌&&◌}
 use Rattle.fl_machine.specs.Step.{Moment, Located, located, GetStep, found_reply}
 use Rattle.fl_frame.specs.Device.{ArmsAs}
 use Rattle.fl_rlc.specs.Table.{table_in}

@@ -1,7 +1,5 @@
 -- The lines of a load, which are written one after another.
-use Rattle.std.proofs.Common.{◌≡◌, ℕ, Bool, true, false, Option, Some, Result, Ok, Err, List, [], ◌∷◌, ◌++◌, append_assoc, refl, sym, ◌∙◌, ap, subst, arith}
-use Rattle.std.specs.Prelude.{is_err, not}
-use Rattle.std.specs.List.{slice_get}
+use Rattle.std.proofs.Common.{◌≡◌, ℕ, Bool, true, false, Option, Some, Result, Ok, Err, List, [], ◌∷◌, ◌++◌, append_assoc, refl, sym, ◌∙◌, ap, subst, arith, is_err, not, slice_get}
 use Rattle.std.proofs.lemmas.Bool.{false≢true}
 use Rattle.fl_base.specs.Causes.{Appends, AppendsFront}
 use Rattle.fl_flash.specs.Flash.{FlashState}

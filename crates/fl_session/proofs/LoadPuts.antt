@@ -1,9 +1,6 @@
 -- The puts of a load, one after another.
-use Rattle.std.proofs.Common.{◌≡◌, ℕ, suc, ◌+◌, ◌-◌, ◌^◌, ◌<◌, min, Bool, true, false, not, IsTrue, IfErr, Option, Some, None, Result, Ok, Err, List, [], ◌∷◌, slice_get, refl, sym, ◌∙◌, ap, subst, arith}
-use Rattle.std.specs.Prelude.{MatchOption, option_map, unwrap_or, is_err}
+use Rattle.std.proofs.Common.{◌≡◌, ℕ, suc, ◌+◌, ◌-◌, ◌^◌, ◌<◌, min, Bool, true, false, not, IsTrue, IfErr, Option, Some, None, Result, Ok, Err, List, [], ◌∷◌, slice_get, refl, sym, ◌∙◌, ap, subst, arith, MatchOption, option_map, unwrap_or, is_err, set-set, ℤ}
 use Rattle.std.proofs.lemmas.Bool.{le-leb, false≢true, true≢false}
-use Rattle.std.proofs.lemmas.List.{set-set}
-use Rattle.std.proofs.Math.IntN.{ℤ}
 use Rattle.fl_base.specs.Causes.{Rose}
 use Rattle.fl_base.specs.Generator.{next_random}
 use Rattle.fl_flash.specs.Flash.{FlashState, Goes, page_at}

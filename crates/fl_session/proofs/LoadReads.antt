@@ -1,6 +1,5 @@
 -- How often a medium is read while the records of a load are put.
-use Rattle.std.proofs.Common.{◌≡◌, ℕ, ◌+◌, ◌*◌, ◌≤◌, is_some, if◌then◌else◌, Bool, Option, None, Some, refl, ap, arith}
-use Rattle.std.proofs.Math.Nat.{add-mul}
+use Rattle.std.proofs.Common.{◌≡◌, ℕ, ◌+◌, ◌*◌, ◌≤◌, is_some, if◌then◌else◌, Bool, Option, None, Some, refl, ap, arith, add-mul}
 use Rattle.fl_index.specs.declared.index.BitmapIndex.{BitmapIndex}
 use Rattle.fl_rlc.specs.Table.{AreSameLog, IsSamePlan, rings_in, table_in}
 use Rattle.fl_rlc.specs.declared.log.RecordLog.{RecordLog}

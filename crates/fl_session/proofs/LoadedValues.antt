@@ -1,8 +1,6 @@
 -- The values of the records of a load.
-use Rattle.std.proofs.Common.{◌≡◌, ℕ, zero, suc, slice_get, Some, take, subst, ◌+◌, ◌*◌, ◌%◌, ◌-ℤ◌, pos, Bool, if◌then◌else◌, List, [], ◌∷◌, ◌++◌, map, drop, get_or, length, length-append, ◌<◌, ◌≤◌, append_assoc, append-nil, add-one, refl, sym, ◌∙◌, ap, arith}
-use Rattle.std.proofs.Math.Seq.{drop-cons}
+use Rattle.std.proofs.Common.{◌≡◌, ℕ, zero, suc, slice_get, Some, take, subst, ◌+◌, ◌*◌, ◌%◌, ◌-ℤ◌, pos, Bool, if◌then◌else◌, List, [], ◌∷◌, ◌++◌, map, drop, get_or, length, length-append, ◌<◌, ◌≤◌, append_assoc, append-nil, add-one, refl, sym, ◌∙◌, ap, arith, drop-cons, ℤ}
 use Rattle.std.proofs.lemmas.List.{drop_all}
-use Rattle.std.proofs.Math.IntN.{ℤ}
 use Rattle.std.proofs.lemmas.Option.{none-some}
 use Rattle.fl_model.specs.Record.{Column}
 use Rattle.fl_schema.specs.declared.column.ColumnType.{ColumnType}

@@ -1,6 +1,5 @@
 -- The records of a load, put one after another, and what became of the next one.
-use Rattle.std.proofs.Common.{◌≡◌, ℕ, suc, ◌+◌, true, false, Option, None, Some, Result, Ok, Err, IfErr, List, refl, ◌∙◌, ap, subst, arith}
-use Rattle.std.specs.Prelude.{is_err, OnOk, ℤ}
+use Rattle.std.proofs.Common.{◌≡◌, ℕ, suc, ◌+◌, true, false, Option, None, Some, Result, Ok, Err, IfErr, List, refl, ◌∙◌, ap, subst, arith, is_err, OnOk, ℤ}
 use Rattle.fl_base.specs.Generator.{next_random}
 use Rattle.fl_flash.specs.Flash.{FlashState, Goes}
 use Rattle.fl_model.specs.Row.{Row}

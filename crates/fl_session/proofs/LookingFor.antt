@@ -1,7 +1,5 @@
 -- What a session tells of the oldest blob of a table, and what it leaves.
-use Rattle.std.proofs.Common.{◌≡◌, ℕ, ◌+◌, ◌≤◌, Bool, true, IsTrue, Option, Some, None, Result, Ok, Err, List, refl, sym, ◌∙◌, ap, subst, arith}
-use Rattle.std.specs.Prelude.{IsSomeAnd, option_map, unwrap_or}
-use Rattle.std.specs.List.{find, slice_get}
+use Rattle.std.proofs.Common.{◌≡◌, ℕ, ◌+◌, ◌≤◌, Bool, true, IsTrue, Option, Some, None, Result, Ok, Err, List, refl, sym, ◌∙◌, ap, subst, arith, IsSomeAnd, option_map, unwrap_or, find, slice_get}
 use Rattle.fl_flash.specs.Flash.{FlashState}
 use Rattle.fl_machine.specs.Machine.{Machine}
 use Rattle.fl_machine.specs.Step.{Located, located}

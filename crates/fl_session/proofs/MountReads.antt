@@ -1,8 +1,5 @@
 -- The reads of a mount.
-use Rattle.std.proofs.Common.{◌≡◌, ℕ, suc, ◌+◌, ◌*◌, ◌-◌, ◌≤◌, Bool, true, false, Option, Some, Result, List, [], ◌∷◌, length, sum_by, refl, sym, ◌∙◌, ap, subst, arith}
-use Rattle.std.specs.Prelude.{MatchBool}
-use Rattle.std.specs.List.{slice_get}
-use Rattle.std.proofs.Math.Nat.{add-mul}
+use Rattle.std.proofs.Common.{◌≡◌, ℕ, suc, ◌+◌, ◌*◌, ◌-◌, ◌≤◌, Bool, true, false, Option, Some, Result, List, [], ◌∷◌, length, sum_by, refl, sym, ◌∙◌, ap, subst, arith, MatchBool, slice_get, add-mul}
 use Rattle.std.proofs.lemmas.List.Sums.{sum_by-cons}
 use Rattle.std.proofs.lemmas.Option.{slice_get_within}
 use Rattle.fl_model.proofs.Lists.{slice_get-some}

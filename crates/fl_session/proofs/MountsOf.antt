@@ -1,12 +1,11 @@
 -- The mount of a session.
-use Rattle.std.proofs.Common.{◌≡◌, ℕ, ◌⊎◌, Bool, true, false, IsTrue, Option, Some, None, Result, Ok, Err, inl, inr, List, [], ◌∷◌, map, refl, sym, ◌∙◌, ap, subst}
+use Rattle.std.proofs.Common.{◌≡◌, ℕ, ◌⊎◌, Bool, true, false, IsTrue, Option, Some, None, Result, Ok, Err, inl, inr, List, [], ◌∷◌, map, refl, sym, ◌∙◌, ap, subst, ◌*◌, ◌<◌, sum_by, MatchBool, is_ok, OnOk}
 use Rattle.fl_flash.specs.Flash.{FlashState, Goes, page_at}
 use Rattle.fl_flash.specs.declared.flash.FlashFault.{FlashFault}
 use Rattle.fl_flash.specs.declared.flash.FlashFault.TheVariants.{Media}
 use Rattle.fl_frame.specs.Device.{SameDevice}
 use Rattle.fl_frame.specs.Watched.{IsWatched}
 use Rattle.std.proofs.lemmas.Bool.{false≢true}
-use Rattle.std.specs.Prelude.{◌*◌, ◌<◌, sum_by, MatchBool, is_ok, OnOk}
 use Rattle.fl_model.specs.Record.{Config, Plan, blocks_of}
 use Rattle.fl_model.specs.Table as model
 use Rattle.fl_model.specs.Table.{lose}

@@ -1,7 +1,5 @@
 -- The commands of a session that list what an operator makes of a range.
-use Rattle.std.proofs.Common.{◌≡◌, ℕ, ◌+◌, ◌≤◌, Bool, true, IsTrue, arith, Option, Some, None, Result, ℤ, List, [], ◌∷◌, refl, sym, ◌∙◌, ap, map, subst}
-use Rattle.std.specs.Prelude.{MatchOption}
-use Rattle.std.specs.List.{slice_get}
+use Rattle.std.proofs.Common.{◌≡◌, ℕ, ◌+◌, ◌≤◌, Bool, true, IsTrue, arith, Option, Some, None, Result, ℤ, List, [], ◌∷◌, refl, sym, ◌∙◌, ap, map, subst, MatchOption, slice_get}
 use Rattle.fl_base.specs.declared.types.KeyRange.{KeyRange}
 use Rattle.fl_base.specs.declared.types.Op.{Op}
 use Rattle.fl_flash.specs.Flash.{FlashState}

@@ -1,10 +1,8 @@
 -- The puts and flushes of a session.
-use Rattle.std.proofs.Common.{◌≡◌, ℕ, Bool, true, false, not, IsTrue, IfErr, Option, Some, None, Result, Ok, Err, List, [], ◌∷◌, map, set, slice_get, refl, sym, ◌∙◌, ap, subst}
-use Rattle.std.specs.Prelude.{option_map}
+use Rattle.std.proofs.Common.{◌≡◌, ℕ, Bool, true, false, not, IsTrue, IfErr, Option, Some, None, Result, Ok, Err, List, [], ◌∷◌, map, set, slice_get, refl, sym, ◌∙◌, ap, subst, option_map, ℤ}
 use Rattle.std.proofs.lemmas.Bool.{false≢true}
 use Rattle.std.proofs.lemmas.List.{length-map}
 use Rattle.std.proofs.lemmas.Option.{slice_get-map}
-use Rattle.std.proofs.Math.IntN.{ℤ}
 use Rattle.fl_flash.specs.Flash.{FlashState, Goes, page_at}
 use Rattle.fl_flash.specs.declared.flash.FlashFault.{FlashFault}
 use Rattle.fl_flash.specs.declared.flash.FlashFault.TheVariants.{PowerLost, Media}

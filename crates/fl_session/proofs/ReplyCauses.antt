@@ -1,8 +1,5 @@
 -- The causes of replies, over any bytes.
-use Rattle.std.proofs.Common.{◌≡◌, ℕ, ◌<◌, Bool, true, false, not, inl, inr, Option, None, Some, Result, Ok, Err, IfErr, List, refl, sym, ◌∙◌, ap, subst}
-use Rattle.std.specs.Prelude.{◌↔◌, is_err, OnOk, ℤ}
-use Rattle.std.specs.List.{slice_get}
-use Rattle.std.specs.Option.{is_none}
+use Rattle.std.proofs.Common.{◌≡◌, ℕ, ◌<◌, Bool, true, false, not, inl, inr, Option, None, Some, Result, Ok, Err, IfErr, List, refl, sym, ◌∙◌, ap, subst, ◌↔◌, is_err, OnOk, ℤ, slice_get, is_none}
 use Rattle.fl_base.specs.declared.types.KeyRange.{KeyRange}
 use Rattle.fl_frame.specs.Contents.{OnlyReads}
 use Rattle.fl_cursor.specs.declared.bookmark.Bookmark.{Bookmark}

@@ -1,6 +1,5 @@
 -- A session that isn't mounted, and the medium on which it stands.
-use Rattle.std.proofs.Common.{◌≡◌, ℕ, ◌+◌, ◌-◌, Bool, false, inl, inr, IsTrue, Some, List, [], ◌∷◌, map, length, take, refl, sym, ◌∙◌, ap, subst, length-append, arith}
-use Rattle.std.specs.Prelude.{replicate}
+use Rattle.std.proofs.Common.{◌≡◌, ℕ, ◌+◌, ◌-◌, Bool, false, inl, inr, IsTrue, Some, List, [], ◌∷◌, map, length, take, refl, sym, ◌∙◌, ap, subst, length-append, arith, replicate}
 use Rattle.std.proofs.lemmas.List.{length-replicate}
 use Rattle.fl_flash.specs.Flash.{FlashState}
 use Rattle.fl_flash.specs.Media.{MediaState}

@@ -1,6 +1,5 @@
 -- A table that runs refuses no record as one that was stopped, over any bytes.
-use Rattle.std.proofs.Common.{◌≡◌, ℕ, Bool, true, false, cond, not, ◌||◌, ◌==◌, nat_le, nat_lt, Option, Some, None, Result, Err, is_some, option_map, unwrap_or, List, length, subst}
-use Rattle.std.proofs.Math.IntN.{ℤ}
+use Rattle.std.proofs.Common.{◌≡◌, ℕ, Bool, true, false, cond, not, ◌||◌, ◌==◌, nat_le, nat_lt, Option, Some, None, Result, Err, is_some, option_map, unwrap_or, List, length, subst, ℤ}
 use Rattle.fl_model.specs.Record.{first_misfit, greatest_key}
 use Rattle.fl_model.specs.Table.{spent_from}
 use Rattle.fl_ring.specs.Place.{next_of}

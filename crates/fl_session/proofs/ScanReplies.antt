@@ -1,6 +1,5 @@
 -- The scan of a session.
-use Rattle.std.proofs.Common.{◌≡◌, ℕ, ◌-◌, Bool, true, IsTrue, Option, Some, None, Result, List, refl, sym, ap, subst, arith}
-use Rattle.std.specs.List.{slice_get}
+use Rattle.std.proofs.Common.{◌≡◌, ℕ, ◌-◌, Bool, true, IsTrue, Option, Some, None, Result, List, refl, sym, ap, subst, arith, slice_get}
 use Rattle.fl_base.specs.declared.types.KeyRange.{KeyRange}
 use Rattle.fl_base.specs.declared.types.Span.{Span}
 use Rattle.fl_flash.specs.Flash.{FlashState}

@@ -1,6 +1,5 @@
 -- What a session tells of its table.
-use Rattle.std.proofs.Common.{◌≡◌, ℕ, true, Bool, Some, List, [], ◌∷◌, refl, sym, ◌∙◌, ap, subst}
-use Rattle.std.specs.List.{slice_get}
+use Rattle.std.proofs.Common.{◌≡◌, ℕ, true, Bool, Some, List, [], ◌∷◌, refl, sym, ◌∙◌, ap, subst, slice_get}
 use Rattle.fl_flash.specs.Flash.{FlashState}
 use Rattle.fl_model.specs.Bare.{bare, bare_table}
 use Rattle.fl_model.specs.Record.{Config, Plan}

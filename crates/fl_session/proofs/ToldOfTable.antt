@@ -1,8 +1,5 @@
 -- What a session tells of a table beside its replies.
-use Rattle.std.proofs.Common.{◌≡◌, ◌⊎◌, ◌≤◌, inl, inr, ℕ, true, false, Bool, Option, None, Some, Result, Err, List, length, ◌∙◌, refl, sym, ap, subst, arith}
-use Rattle.std.specs.Prelude.{if◌then◌else◌, MatchBool, option_map, IsSomeAnd}
-use Rattle.std.specs.List.{slice_get}
-use Rattle.std.proofs.Math.Dec.{eqb}
+use Rattle.std.proofs.Common.{◌≡◌, ◌⊎◌, ◌≤◌, inl, inr, ℕ, true, false, Bool, Option, None, Some, Result, Err, List, length, ◌∙◌, refl, sym, ap, subst, arith, if◌then◌else◌, MatchBool, option_map, IsSomeAnd, slice_get, eqb}
 use Rattle.std.proofs.lemmas.Bool.Decides.{eqb_tells}
 use Rattle.std.proofs.lemmas.Option.{slice_get_past, slice_get_within}
 use Rattle.fl_model.proofs.Lists.{slice_get-some}

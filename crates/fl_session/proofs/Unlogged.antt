@@ -1,6 +1,5 @@
 -- What is asked of a table is asked of it without its log.
-use Rattle.std.proofs.Common.{◌≡◌, ◌⊎◌, ℕ, ◌+◌, ◌/◌, inl, inr, IsTrue, Option, None, Some, Result, List, [], ◌∷◌, ◌++◌, refl, ◌∙◌, ap, subst, arith}
-use Rattle.std.specs.Prelude.{MatchOption, length, option_map, take, unwrap_or}
+use Rattle.std.proofs.Common.{◌≡◌, ◌⊎◌, ℕ, ◌+◌, ◌/◌, inl, inr, IsTrue, Option, None, Some, Result, List, [], ◌∷◌, ◌++◌, refl, ◌∙◌, ap, subst, arith, MatchOption, length, option_map, take, unwrap_or}
 use Rattle.std.proofs.Math.Path.{fun_ext}
 use Rattle.fl_base.specs.declared.types.KeyRange.{KeyRange}
 use Rattle.fl_base.specs.declared.types.Span.{Span}

@@ -1,6 +1,5 @@
 -- Each table of a state for which a session stands is one of its plan, whose keys have four or eight bytes.
-use Rattle.std.proofs.Common.{◌≡◌, ◌<◌, ◌≤◌, ℕ, Bool, true, false, MatchBool, Some, List, ap, subst, sym, arith}
-use Rattle.std.specs.List.{slice_get}
+use Rattle.std.proofs.Common.{◌≡◌, ◌<◌, ◌≤◌, ℕ, Bool, true, false, MatchBool, Some, List, ap, subst, sym, arith, slice_get}
 use Rattle.std.proofs.lemmas.Option.{slice_get_within}
 use Rattle.fl_flash.specs.Flash.{FlashState}
 use Rattle.fl_machine.specs.Machine.{Machine}

@@ -1,9 +1,8 @@
-use Rattle.std.proofs.Common.{◌≡◌, refl, sym, subst}
+use Rattle.std.proofs.Common.{◌≡◌, refl, sym, subst, true, Ok}
 use Rattle.fl_schema.specs.Schema.{row_of}
 use Rattle.fl_table.specs.BlobAt.{has_blobs}
 use Rattle.fl_queries.specs.BlobShown.{IfNamed, FindsBlob}
 use Rattle.fl_queries.specs.declared.blob.BlobFound.{BlobFound}
-use Rattle.std.specs.Prelude.{true, Ok}
 use Rattle.fl_queries.proofs.BlobShows.{named-has, finds-row, finds-unread}
 use Rattle.fl_model.specs.Row.{Row}
 use Rattle.fl_queries.specs.BlobSays.{NamesFor}

@@ -1,5 +1,4 @@
-use Rattle.std.proofs.Common.{rules, ◌∙◌, List, ℕ, ◌≤◌, Result, Ok, Err, length, map, refl, sym, ap, subst}
-use Rattle.std.proofs.Math.Nat.{le_trans}
+use Rattle.std.proofs.Common.{rules, ◌∙◌, List, ℕ, ◌≤◌, Result, Ok, Err, length, map, refl, sym, ap, subst, le_trans}
 use Rattle.fl_base.specs.Causes.{HasCause}
 use Rattle.fl_cursor.specs.Asked.{asked_by}
 use Rattle.fl_frame.specs.Contents.{contents_of}

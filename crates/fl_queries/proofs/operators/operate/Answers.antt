@@ -1,9 +1,6 @@
-use Rattle.std.proofs.Common.{rules, ◌≡◌, ℕ, ℤ, ◌^◌, ◌<◌, ◌≤◌, Option, None, List, [], ◌∷◌, length, map, filter, slice_index, sym, ◌∙◌, ap, subst, arith}
-use Rattle.std.proofs.lemmas.Int.{to_z-of_z}
+use Rattle.std.proofs.Common.{rules, ◌≡◌, ℕ, ℤ, ◌^◌, ◌<◌, ◌≤◌, Option, None, List, [], ◌∷◌, length, map, filter, slice_index, sym, ◌∙◌, ap, subst, arith, to_z-of_z, w64, FitsSigned}
 use Rattle.std.proofs.lemmas.List.{length-map}
-use Rattle.std.specs.Int.{w64}
 use Rattle.std.specs.List.{AllByRecursion}
-use Rattle.std.specs.Prelude.{FitsSigned}
 use Rattle.fl_cursor.specs.Asked.{above_of, above_range, asked_by}
 use Rattle.fl_cursor.specs.Cursor.{table_of, asked_of, present_of, left_of, IsReady}
 use Rattle.fl_cursor.specs.declared.bookmark.Bookmark.{Bookmark}

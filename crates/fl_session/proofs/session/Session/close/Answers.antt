@@ -1,5 +1,4 @@
-use Rattle.std.proofs.Common.{rules, ◌≡◌, true, false, refl, inl, inr}
-use Rattle.std.specs.Option.{is_none}
+use Rattle.std.proofs.Common.{rules, ◌≡◌, true, false, refl, inl, inr, is_none}
 use Rattle.fl_session.proofs.CursorsOf.{close-off, close-none, close-open}
 use Rattle.fl_session.proofs.ReplyCauses.{closed-as, noted, open-as}
 use Rattle.fl_words.specs.Reply as reply

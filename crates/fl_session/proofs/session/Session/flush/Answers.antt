@@ -1,5 +1,4 @@
-use Rattle.std.proofs.Common.{rules, ◌≡◌, ◌∙◌, true, Some, not, refl, sym, ap, inr}
-use Rattle.std.specs.List.{slice_get}
+use Rattle.std.proofs.Common.{rules, ◌≡◌, ◌∙◌, true, Some, not, refl, sym, ap, inr, slice_get}
 use Rattle.fl_session.proofs.Calls.{flush-call}
 use Rattle.fl_session.proofs.NamedTable.{reached-here, reached-within}
 use Rattle.fl_session.proofs.RefusedCommands.{flush-refused_so}

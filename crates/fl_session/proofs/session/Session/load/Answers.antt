@@ -1,5 +1,4 @@
-use Rattle.std.proofs.Common.{◌≡◌, Some, not, refl, ap, inl, inr}
-use Rattle.std.specs.List.{slice_get}
+use Rattle.std.proofs.Common.{◌≡◌, Some, not, refl, ap, inl, inr, slice_get}
 use Rattle.fl_session.proofs.LoadLines.{load-executes, load-refused}
 use Rattle.fl_session.proofs.NamedTable.{reached-here, reached-within}
 use Rattle.fl_session.proofs.Sound.{runs-after, sound-with, stays-on}

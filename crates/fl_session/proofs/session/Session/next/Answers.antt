@@ -1,6 +1,4 @@
-use Rattle.std.proofs.Common.{◌≡◌, ◌-◌, ◌^◌, ◌<◌, rules, Some, refl, ap, subst, inl, inr}
-use Rattle.std.specs.Prelude.{IfSome, Option, option_map, unwrap_or, length}
-use Rattle.std.specs.List.{slice_get}
+use Rattle.std.proofs.Common.{◌≡◌, ◌-◌, ◌^◌, ◌<◌, rules, Some, refl, ap, subst, inl, inr, IfSome, Option, option_map, unwrap_or, length, slice_get}
 use Rattle.fl_flash.specs.declared.flash.Work.{Work}
 use Rattle.fl_store.proofs.TablesChanged.{item-there}
 use Rattle.fl_session.specs.declared.notes.TableCursor.{TableCursor}

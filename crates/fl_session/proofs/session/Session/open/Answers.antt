@@ -1,6 +1,4 @@
-use Rattle.std.proofs.Common.{◌≡◌, ◌<◌, Some, Option, length, refl, ◌∙◌, ap, subst, inr}
-use Rattle.std.specs.List.{slice_get}
-use Rattle.std.specs.Prelude.{option_map, unwrap_or}
+use Rattle.std.proofs.Common.{◌≡◌, ◌<◌, Some, Option, length, refl, ◌∙◌, ap, subst, inr, slice_get, option_map, unwrap_or}
 use Rattle.fl_frame.proofs.CallsInTurn.{goes-same}
 use Rattle.fl_table.specs.declared.table.Table.{Table}
 use Rattle.fl_queries.specs.ListSays.{mark_on}

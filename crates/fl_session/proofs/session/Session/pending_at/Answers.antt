@@ -1,5 +1,4 @@
-use Rattle.std.proofs.Common.{◌≡◌, ◌<◌, Some, length, refl, sym, arith}
-use Rattle.std.specs.List.{slice_get}
+use Rattle.std.proofs.Common.{◌≡◌, ◌<◌, Some, length, refl, sym, arith, slice_get}
 use Rattle.fl_store.proofs.TablesChanged.{item-there}
 use Rattle.fl_session.proofs.ToldOfTable.{none-off, none-past, pending-off, pending-some, pending-zero, rows-are, rows-none, pending-past}
 use Rattle.fl_session.proofs.session.Session.pending_at.Goals as goal

@@ -1,5 +1,4 @@
-use Rattle.std.proofs.Common.{rules, ◌≡◌, ◌∙◌, Some, ℕ, List, not, refl, ap, subst, sym, inr}
-use Rattle.std.specs.List.{slice_get}
+use Rattle.std.proofs.Common.{rules, ◌≡◌, ◌∙◌, Some, ℕ, List, not, refl, ap, subst, sym, inr, slice_get, length, option_map}
 use Rattle.fl_session.proofs.Calls.{put-call}
 use Rattle.fl_session.proofs.NamedTable.{reached-here, reached-within}
 use Rattle.fl_session.proofs.RefusedCommands.{put-refused_so}
@@ -10,7 +9,6 @@ use Rattle.fl_table.specs.Refusal.{RefusesAs}
 use Rattle.fl_rlc.specs.Refusal.{put_refusal}
 use Rattle.fl_table.proofs.PutAnswers.{map-twice}
 use Rattle.std.specs.Borrow.{Bor}
-use Rattle.std.specs.Prelude.{length, option_map}
 use Rattle.fl_frame.proofs.CallsInTurn.{goes-same}
 use Rattle.fl_session.proofs.session.Session.put.Goals as goal
 

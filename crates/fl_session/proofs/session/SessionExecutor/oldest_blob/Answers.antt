@@ -1,5 +1,4 @@
-use Rattle.std.proofs.Common.{◌≡◌, Some, inl, inr, refl}
-use Rattle.std.specs.List.{slice_get}
+use Rattle.std.proofs.Common.{◌≡◌, Some, inl, inr, refl, slice_get}
 use Rattle.fl_frame.proofs.CallsInTurn.{stays}
 use Rattle.fl_frame.proofs.ContentsInTurn.{OnlyReads-goes}
 use Rattle.fl_session.proofs.LookingFor.{looks-refused, looks-there}
