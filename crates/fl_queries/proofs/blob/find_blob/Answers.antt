@@ -93,6 +93,3 @@ returns-in-Err-clause-names g c = tt
 
 pub returns-in-Err-clause-fails : goal.returns-in-Err-clause-fails
 returns-in-Err-clause-fails g c = c.in-Err.ensures.row.fails
-
-pub row_at-requires-clause-here : goal.row_at-requires-clause-here
-row_at-requires-clause-here g c = rw c.in-Ok-Some.field-0-is at c.in-Ok-Some.ensures.row.here

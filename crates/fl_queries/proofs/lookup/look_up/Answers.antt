@@ -91,6 +91,3 @@ returns-in-Err-BadPage-clause-lies g c = c.find.ensures.flash.lies
 
 pub returns-in-Err-BadPage-clause-room : goal.returns-in-Err-BadPage-clause-room
 returns-in-Err-BadPage-clause-room g c = c.find.ensures.flash.room
-
-pub row_at-requires-clause-here : goal.row_at-requires-clause-here
-row_at-requires-clause-here g c = rw c.in-Ok-Some.field-0-is at c.in-Ok-Some.ensures.row.here

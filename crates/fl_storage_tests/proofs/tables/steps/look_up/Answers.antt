@@ -1,5 +1,4 @@
-use Rattle.std.proofs.Common.{sym, ◌∙◌, ap}
-use Rattle.fl_frame.specs.Contents.{Contents}
+use Rattle.std.proofs.Common.{◌∙◌}
 use Rattle.fl_frame.proofs.CallsInTurn.{stays, stays-then}
 use Rattle.fl_frame.proofs.ContentsInTurn.{OnlyReads-goes}
 use Rattle.fl_storage_tests.proofs.tables.steps.look_up.Goals as goal
@@ -24,9 +23,3 @@ returns-in_err-page-clause-room g c = c.page_of.ensures.room ∙ c.find.ensures.
 
 pub returns-clause-room : goal.returns-clause-room
 returns-clause-room g c = c.page_of.ensures.room ∙ c.find.ensures.flash.room
-
-pub page_of-requires-clause-lies : goal.page_of-requires-clause-lies
-page_of-requires-clause-lies g c = c.find.ensures.flash.lies
-
-pub page_of-requires-clause-room : goal.page_of-requires-clause-room
-page_of-requires-clause-room g c = c.find.ensures.flash.room ∙ (c.requires.room ∙ sym (ap (λ (x : Contents). x.geometry.page) c.find.ensures.flash.counts.contents))
