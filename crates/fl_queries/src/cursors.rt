@@ -18,7 +18,8 @@ ghost use Rattle.fl_queries.specs.RowsGiven.{MovesOver};
 ghost use Rattle.fl_queries.specs.Room.{HasRooms};
 
 use crate::buffers::Buffers;
-use crate::listing::{give_rows, write_fault};
+use crate::listing::write_fault;
+use crate::reply_lines::list_lines;
 use crate::rows::form_of;
 use fl_base::{KeyRange, Sink, SinkFailed, Span};
 use fl_cursor::Bookmark;
@@ -81,7 +82,7 @@ pub fn next_rows<F: Flash, K: Sink>(
 {
     let form = form_of(table);
     let mut cursor = Cursor::resume(table, *mark, &mut buf.rows, &mut buf.index);
-    let given = give_rows(&mut cursor, count, form, flash, out);
+    let given = list_lines(&mut cursor, count, form, flash, out);
     *mark = cursor.park();
     match given {
         Ok(given) => write_reply(&ending(given, count), out),

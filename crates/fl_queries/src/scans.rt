@@ -13,8 +13,7 @@ ghost use Rattle.fl_queries.specs.RowsGiven.{AreRows};
 ghost use Rattle.fl_queries.specs.Room.{HasRooms};
 
 use crate::buffers::Buffers;
-use crate::listing::give_rows;
-use crate::reply_lines::end_list;
+use crate::reply_lines::{end_list, list_lines};
 use crate::rows::form_of;
 use fl_base::{KeyRange, Sink, SinkFailed, Span};
 use fl_flash::Flash;
@@ -47,7 +46,7 @@ pub fn list_rows<F: Flash, K: Sink>(
 {
     let form = form_of(table);
     let mut cursor = Cursor::begin(table, range, span, &mut buf.rows, &mut buf.index);
-    let listed = give_rows(&mut cursor, u64::MAX, form, flash, out);
+    let listed = list_lines(&mut cursor, u64::MAX, form, flash, out);
     cursor.park();
     end_list(listed, out)
 }

@@ -31,28 +31,28 @@ returns-in-Ok-clause-nexts g c = λ first plan t tells on stands.
     let reaches = g.met.F.Flash.reaches c.args.flash.now in
     let told = c.resume-cursor.ensures.told (contents_of (g.F.Flash.state c.args.flash.now)) (is-standing c.args.table.now (g.F.Flash.state c.args.flash.now) first plan t tells reaches c.requires.lies stands) in
     let limit = c.resume-cursor.ensures.limit (g.F.Flash.state c.args.flash.now) first plan t tells reaches c.requires.lies stands in
-    let within = reads-within plan t c.resume-cursor.result (contents_of (g.F.Flash.state c.args.flash.now)) _ _ c.resume-cursor.ensures.mark limit (c.give_rows-given.ensures.reads told).within in
+    let within = reads-within plan t c.resume-cursor.result (contents_of (g.F.Flash.state c.args.flash.now)) _ _ c.resume-cursor.ensures.mark limit (c.list_lines-given.ensures.reads told).within in
     let lines = ap (map (row_reply c.form_of-form.result.blobs)) (left-there c.args.table.now (g.F.Flash.state c.args.flash.now) first plan t tells reaches c.requires.lies stands c.resume-cursor.result c.resume-cursor.ensures.table)
     ∙ lines-stored plan c.form_of-form.result.blobs (query.left_of (asked_by (mark_of c.resume-cursor.result)) t.entries) (c.form_of-form.ensures.blobs ∙ blobs-as c.args.table.now (g.F.Flash.state c.args.flash.now) first plan t stands) in
     nexts-by c.resume-cursor.ensures.mark (sym c.park.ensures.mark)
-    (nexts-given plan c.form_of-form.result.blobs t c.args.count (mark_of c.resume-cursor.result) (mark_of c.give_rows-given.new.cursor) (IsTold c.resume-cursor.result (contents_of (g.F.Flash.state c.args.flash.now))) (MayBeBad (table_of c.resume-cursor.result) (contents_of (g.F.Flash.state c.args.flash.now))) (map (row_reply c.form_of-form.result.blobs) (left_of c.resume-cursor.result (contents_of (g.F.Flash.state c.args.flash.now)))) _ (g.K.Sink.written c.give_rows-given.new.out) _ (g.F.Flash.state c.args.flash.now) (g.F.Flash.state c.give_rows-given.new.flash) _ told lines within
-    c.in-Ok.given c.in-Ok.ensures.lines (c.in-Ok.ensures.whole told) (subst (λ (l : List ℕ). Written (g.K.Sink.written c.give_rows-given.new.out) (g.K.Sink.written c.write_reply.new.out) c.write_reply.result l) c.ending.ensures c.write_reply.ensures.text))
+    (nexts-given plan c.form_of-form.result.blobs t c.args.count (mark_of c.resume-cursor.result) (mark_of c.list_lines-given.new.lines) (IsTold c.resume-cursor.result (contents_of (g.F.Flash.state c.args.flash.now))) (MayBeBad (table_of c.resume-cursor.result) (contents_of (g.F.Flash.state c.args.flash.now))) (map (row_reply c.form_of-form.result.blobs) (left_of c.resume-cursor.result (contents_of (g.F.Flash.state c.args.flash.now)))) _ (g.K.Sink.written c.list_lines-given.new.out) _ (g.F.Flash.state c.args.flash.now) (g.F.Flash.state c.list_lines-given.new.flash) _ told lines within
+    c.in-Ok.given c.in-Ok.ensures.lines (c.in-Ok.ensures.whole told) (subst (λ (l : List ℕ). Written (g.K.Sink.written c.list_lines-given.new.out) (g.K.Sink.written c.write_reply.new.out) c.write_reply.result l) c.ending.ensures c.write_reply.ensures.text))
 
 pub returns-in-Ok-clause-lines : goal.returns-in-Ok-clause-lines
 returns-in-Ok-clause-lines g c =
-    moves-by (EndsNext c.args.count c.args.mark.now c.args.table.now (g.F.Flash.state c.args.flash.now) (g.F.Flash.state c.give_rows-given.new.flash)) _ _ _ _ _ _ _ _ c.form_of-form.ensures.blobs c.resume-cursor.ensures.mark _ (sym c.park.ensures.mark)
-    (list-ends (MovesOver c.form_of-form.result.blobs (mark_of c.resume-cursor.result) (mark_of c.give_rows-given.new.cursor)) (ending_of c.args.count) c.args.count (PassesNoBad c.args.mark.now c.args.table.now (g.F.Flash.state c.args.flash.now)) (MayBeBad c.args.table.now (contents_of (g.F.Flash.state c.args.flash.now))) (g.F.Flash.state c.args.flash.now) (g.F.Flash.state c.give_rows-given.new.flash) _ _ _ _ c.in-Ok.given
+    moves-by (EndsNext c.args.count c.args.mark.now c.args.table.now (g.F.Flash.state c.args.flash.now) (g.F.Flash.state c.list_lines-given.new.flash)) _ _ _ _ _ _ _ _ c.form_of-form.ensures.blobs c.resume-cursor.ensures.mark _ (sym c.park.ensures.mark)
+    (list-ends (MovesOver c.form_of-form.result.blobs (mark_of c.resume-cursor.result) (mark_of c.list_lines-given.new.lines)) (ending_of c.args.count) c.args.count (PassesNoBad c.args.mark.now c.args.table.now (g.F.Flash.state c.args.flash.now)) (MayBeBad c.args.table.now (contents_of (g.F.Flash.state c.args.flash.now))) (g.F.Flash.state c.args.flash.now) (g.F.Flash.state c.list_lines-given.new.flash) _ _ _ _ c.in-Ok.given
     (λ less. c.resume-cursor.ensures.sound (contents_of (g.F.Flash.state c.args.flash.now)) (c.in-Ok.ensures.sound less))
-    (subst (λ (t : Table 64 64). GivesLines (MovesOver c.form_of-form.result.blobs (mark_of c.resume-cursor.result) (mark_of c.give_rows-given.new.cursor)) (MayBeBad t (contents_of (g.F.Flash.state c.args.flash.now))) c.args.count (g.K.Sink.written c.args.out.now) (g.K.Sink.written c.give_rows-given.new.out) (Ok c.in-Ok.given)) c.resume-cursor.ensures.table
-    (given-as (AreMade (MovesOver c.form_of-form.result.blobs (mark_of c.resume-cursor.result) (mark_of c.give_rows-given.new.cursor)) (IsTold c.resume-cursor.result (contents_of (g.F.Flash.state c.args.flash.now))) (map (row_reply c.form_of-form.result.blobs) (left_of c.resume-cursor.result (contents_of (g.F.Flash.state c.args.flash.now))))) (MovesOver c.form_of-form.result.blobs (mark_of c.resume-cursor.result) (mark_of c.give_rows-given.new.cursor)) (MayBeBad (table_of c.resume-cursor.result) (contents_of (g.F.Flash.state c.args.flash.now))) _ _ _ (Ok c.in-Ok.given) (λ lines h. h.made) c.in-Ok.ensures.lines))
-    (subst (λ (l : List ℕ). Written (g.K.Sink.written c.give_rows-given.new.out) (g.K.Sink.written c.write_reply.new.out) c.write_reply.result l) c.ending.ensures c.write_reply.ensures.text))
+    (subst (λ (t : Table 64 64). GivesLines (MovesOver c.form_of-form.result.blobs (mark_of c.resume-cursor.result) (mark_of c.list_lines-given.new.lines)) (MayBeBad t (contents_of (g.F.Flash.state c.args.flash.now))) c.args.count (g.K.Sink.written c.args.out.now) (g.K.Sink.written c.list_lines-given.new.out) (Ok c.in-Ok.given)) c.resume-cursor.ensures.table
+    (given-as (AreMade (MovesOver c.form_of-form.result.blobs (mark_of c.resume-cursor.result) (mark_of c.list_lines-given.new.lines)) (IsTold c.resume-cursor.result (contents_of (g.F.Flash.state c.args.flash.now))) (map (row_reply c.form_of-form.result.blobs) (left_of c.resume-cursor.result (contents_of (g.F.Flash.state c.args.flash.now))))) (MovesOver c.form_of-form.result.blobs (mark_of c.resume-cursor.result) (mark_of c.list_lines-given.new.lines)) (MayBeBad (table_of c.resume-cursor.result) (contents_of (g.F.Flash.state c.args.flash.now))) _ _ _ (Ok c.in-Ok.given) (λ lines h. h.made) c.in-Ok.ensures.lines))
+    (subst (λ (l : List ℕ). Written (g.K.Sink.written c.list_lines-given.new.out) (g.K.Sink.written c.write_reply.new.out) c.write_reply.result l) c.ending.ensures c.write_reply.ensures.text))
 
 pub returns-in-Err-clause-lines : goal.returns-in-Err-clause-lines
 returns-in-Err-clause-lines g c =
-    moves-by (EndsNext c.args.count c.args.mark.now c.args.table.now (g.F.Flash.state c.args.flash.now) (g.F.Flash.state c.give_rows-given.new.flash)) _ _ _ _ _ _ _ _ c.form_of-form.ensures.blobs c.resume-cursor.ensures.mark _ (sym c.park.ensures.mark)
-    (list-fails (MovesOver c.form_of-form.result.blobs (mark_of c.resume-cursor.result) (mark_of c.give_rows-given.new.cursor)) (ending_of c.args.count) c.args.count (PassesNoBad c.args.mark.now c.args.table.now (g.F.Flash.state c.args.flash.now)) (MayBeBad c.args.table.now (contents_of (g.F.Flash.state c.args.flash.now))) (g.F.Flash.state c.args.flash.now) (g.F.Flash.state c.give_rows-given.new.flash) _ _ _ _ c.in-Err.fault
-    (subst (λ (t : Table 64 64). GivesLines (MovesOver c.form_of-form.result.blobs (mark_of c.resume-cursor.result) (mark_of c.give_rows-given.new.cursor)) (MayBeBad t (contents_of (g.F.Flash.state c.args.flash.now))) c.args.count (g.K.Sink.written c.args.out.now) (g.K.Sink.written c.give_rows-given.new.out) (Err c.in-Err.fault)) c.resume-cursor.ensures.table
-    (given-as (AreMade (MovesOver c.form_of-form.result.blobs (mark_of c.resume-cursor.result) (mark_of c.give_rows-given.new.cursor)) (IsTold c.resume-cursor.result (contents_of (g.F.Flash.state c.args.flash.now))) (map (row_reply c.form_of-form.result.blobs) (left_of c.resume-cursor.result (contents_of (g.F.Flash.state c.args.flash.now))))) (MovesOver c.form_of-form.result.blobs (mark_of c.resume-cursor.result) (mark_of c.give_rows-given.new.cursor)) (MayBeBad (table_of c.resume-cursor.result) (contents_of (g.F.Flash.state c.args.flash.now))) _ _ _ (Err c.in-Err.fault) (λ lines h. h.made) c.in-Err.ensures.lines))
+    moves-by (EndsNext c.args.count c.args.mark.now c.args.table.now (g.F.Flash.state c.args.flash.now) (g.F.Flash.state c.list_lines-given.new.flash)) _ _ _ _ _ _ _ _ c.form_of-form.ensures.blobs c.resume-cursor.ensures.mark _ (sym c.park.ensures.mark)
+    (list-fails (MovesOver c.form_of-form.result.blobs (mark_of c.resume-cursor.result) (mark_of c.list_lines-given.new.lines)) (ending_of c.args.count) c.args.count (PassesNoBad c.args.mark.now c.args.table.now (g.F.Flash.state c.args.flash.now)) (MayBeBad c.args.table.now (contents_of (g.F.Flash.state c.args.flash.now))) (g.F.Flash.state c.args.flash.now) (g.F.Flash.state c.list_lines-given.new.flash) _ _ _ _ c.in-Err.fault
+    (subst (λ (t : Table 64 64). GivesLines (MovesOver c.form_of-form.result.blobs (mark_of c.resume-cursor.result) (mark_of c.list_lines-given.new.lines)) (MayBeBad t (contents_of (g.F.Flash.state c.args.flash.now))) c.args.count (g.K.Sink.written c.args.out.now) (g.K.Sink.written c.list_lines-given.new.out) (Err c.in-Err.fault)) c.resume-cursor.ensures.table
+    (given-as (AreMade (MovesOver c.form_of-form.result.blobs (mark_of c.resume-cursor.result) (mark_of c.list_lines-given.new.lines)) (IsTold c.resume-cursor.result (contents_of (g.F.Flash.state c.args.flash.now))) (map (row_reply c.form_of-form.result.blobs) (left_of c.resume-cursor.result (contents_of (g.F.Flash.state c.args.flash.now))))) (MovesOver c.form_of-form.result.blobs (mark_of c.resume-cursor.result) (mark_of c.list_lines-given.new.lines)) (MayBeBad (table_of c.resume-cursor.result) (contents_of (g.F.Flash.state c.args.flash.now))) _ _ _ (Err c.in-Err.fault) (λ lines h. h.made) c.in-Err.ensures.lines))
     c.in-Err.ensures.unread c.write_fault.ensures.says)
 
 pub returns-in-Err-clause-nexts : goal.returns-in-Err-clause-nexts
@@ -60,51 +60,48 @@ returns-in-Err-clause-nexts g c = λ first plan t tells on stands.
     let reaches = g.met.F.Flash.reaches c.args.flash.now in
     let told = c.resume-cursor.ensures.told (contents_of (g.F.Flash.state c.args.flash.now)) (is-standing c.args.table.now (g.F.Flash.state c.args.flash.now) first plan t tells reaches c.requires.lies stands) in
     let limit = c.resume-cursor.ensures.limit (g.F.Flash.state c.args.flash.now) first plan t tells reaches c.requires.lies stands in
-    let within = reads-within plan t c.resume-cursor.result (contents_of (g.F.Flash.state c.args.flash.now)) _ _ c.resume-cursor.ensures.mark limit (c.give_rows-given.ensures.reads told).within in
+    let within = reads-within plan t c.resume-cursor.result (contents_of (g.F.Flash.state c.args.flash.now)) _ _ c.resume-cursor.ensures.mark limit (c.list_lines-given.ensures.reads told).within in
     let lines = ap (map (row_reply c.form_of-form.result.blobs)) (left-there c.args.table.now (g.F.Flash.state c.args.flash.now) first plan t tells reaches c.requires.lies stands c.resume-cursor.result c.resume-cursor.ensures.table)
     ∙ lines-stored plan c.form_of-form.result.blobs (query.left_of (asked_by (mark_of c.resume-cursor.result)) t.entries) (c.form_of-form.ensures.blobs ∙ blobs-as c.args.table.now (g.F.Flash.state c.args.flash.now) first plan t stands) in
     nexts-by c.resume-cursor.ensures.mark (sym c.park.ensures.mark)
-    (nexts-fault plan c.form_of-form.result.blobs t c.args.count (mark_of c.resume-cursor.result) (mark_of c.give_rows-given.new.cursor) (IsTold c.resume-cursor.result (contents_of (g.F.Flash.state c.args.flash.now))) (MayBeBad (table_of c.resume-cursor.result) (contents_of (g.F.Flash.state c.args.flash.now))) (map (row_reply c.form_of-form.result.blobs) (left_of c.resume-cursor.result (contents_of (g.F.Flash.state c.args.flash.now)))) _ (g.K.Sink.written c.give_rows-given.new.out) _ (g.F.Flash.state c.args.flash.now) (g.F.Flash.state c.give_rows-given.new.flash) _ told lines within
+    (nexts-fault plan c.form_of-form.result.blobs t c.args.count (mark_of c.resume-cursor.result) (mark_of c.list_lines-given.new.lines) (IsTold c.resume-cursor.result (contents_of (g.F.Flash.state c.args.flash.now))) (MayBeBad (table_of c.resume-cursor.result) (contents_of (g.F.Flash.state c.args.flash.now))) (map (row_reply c.form_of-form.result.blobs) (left_of c.resume-cursor.result (contents_of (g.F.Flash.state c.args.flash.now)))) _ (g.K.Sink.written c.list_lines-given.new.out) _ (g.F.Flash.state c.args.flash.now) (g.F.Flash.state c.list_lines-given.new.flash) _ told lines within
     c.in-Err.fault c.in-Err.ensures.lines (c.in-Err.ensures.good told) on c.in-Err.ensures.unread c.write_fault.ensures.says)
 
 pub resume-cursor-requires : goal.resume-cursor-requires
 resume-cursor-requires g c = (search rules, (search rules, c.requires.running))
 
-pub give_rows-given-requires-clause-ready : goal.give_rows-given-requires-clause-ready
-give_rows-given-requires-clause-ready g c = c.resume-cursor.ensures.ready (g.F.Flash.state c.args.flash.now) c.requires.lies c.requires.room.0 c.requires.room.1
-
-pub give_rows-given-requires-clause-columns : goal.give_rows-given-requires-clause-columns
-give_rows-given-requires-clause-columns g c = c.form_of-form.ensures.columns ∙ ap (λ (t : Table 64 64). length (layout_in t).columns) (sym c.resume-cursor.ensures.table)
-
-pub give_rows-given-requires-clause-few : goal.give_rows-given-requires-clause-few
-give_rows-given-requires-clause-few g c = c.form_of-form.ensures.few
+pub list_lines-given-requires : goal.list_lines-given-requires
+list_lines-given-requires g c = record {
+  ready = c.resume-cursor.ensures.ready (g.F.Flash.state c.args.flash.now) c.requires.lies c.requires.room.0 c.requires.room.1;
+  fits = (c.form_of-form.ensures.columns ∙ ap (λ (t : Table 64 64). length (layout_in t).columns) (sym c.resume-cursor.ensures.table), c.form_of-form.ensures.few);
+}
 
 pub returns-in-Ok-clause-counts : goal.returns-in-Ok-clause-counts
-returns-in-Ok-clause-counts g c = c.give_rows-given.ensures.counts
+returns-in-Ok-clause-counts g c = c.list_lines-given.ensures.reads_only
 
 pub returns-in-Ok-clause-rows : goal.returns-in-Ok-clause-rows
-returns-in-Ok-clause-rows g c = ap (λ (b : BufferState). length b.bytes) c.park.ensures.rows_buf ∙ (c.give_rows-given.ensures.rows_room ∙ ap (λ (b : BufferState). length b.bytes) c.resume-cursor.ensures.rows_page)
+returns-in-Ok-clause-rows g c = ap (λ (b : BufferState). length b.bytes) c.park.ensures.rows_buf ∙ ((c.list_lines-given.ensures.stays_ready (contents_of (g.F.Flash.state c.args.flash.now)) (c.resume-cursor.ensures.ready (g.F.Flash.state c.args.flash.now) c.requires.lies c.requires.room.0 c.requires.room.1)).rows_room ∙ sym (c.resume-cursor.ensures.ready (g.F.Flash.state c.args.flash.now) c.requires.lies c.requires.room.0 c.requires.room.1).rows_room ∙ ap (λ (b : BufferState). length b.bytes) c.resume-cursor.ensures.rows_page)
 
 pub returns-in-Ok-clause-index : goal.returns-in-Ok-clause-index
-returns-in-Ok-clause-index g c = ap (λ (b : BufferState). length b.bytes) c.park.ensures.index_buf ∙ (c.give_rows-given.ensures.index_room ∙ ap (λ (b : BufferState). length b.bytes) c.resume-cursor.ensures.index_forget)
+returns-in-Ok-clause-index g c = ap (λ (b : BufferState). length b.bytes) c.park.ensures.index_buf ∙ ((c.list_lines-given.ensures.stays_ready (contents_of (g.F.Flash.state c.args.flash.now)) (c.resume-cursor.ensures.ready (g.F.Flash.state c.args.flash.now) c.requires.lies c.requires.room.0 c.requires.room.1)).index_room ∙ sym (c.resume-cursor.ensures.ready (g.F.Flash.state c.args.flash.now) c.requires.lies c.requires.room.0 c.requires.room.1).index_room ∙ ap (λ (b : BufferState). length b.bytes) c.resume-cursor.ensures.index_forget)
 
 pub returns-in-Ok-clause-right : goal.returns-in-Ok-clause-right
 returns-in-Ok-clause-right g c = (refl, refl)
 
 pub returns-in-Err-clause-counts : goal.returns-in-Err-clause-counts
-returns-in-Err-clause-counts g c = c.give_rows-given.ensures.counts
+returns-in-Err-clause-counts g c = c.list_lines-given.ensures.reads_only
 
 pub returns-in-Err-clause-rows : goal.returns-in-Err-clause-rows
-returns-in-Err-clause-rows g c = ap (λ (b : BufferState). length b.bytes) c.park.ensures.rows_buf ∙ (c.give_rows-given.ensures.rows_room ∙ ap (λ (b : BufferState). length b.bytes) c.resume-cursor.ensures.rows_page)
+returns-in-Err-clause-rows g c = ap (λ (b : BufferState). length b.bytes) c.park.ensures.rows_buf ∙ ((c.list_lines-given.ensures.stays_ready (contents_of (g.F.Flash.state c.args.flash.now)) (c.resume-cursor.ensures.ready (g.F.Flash.state c.args.flash.now) c.requires.lies c.requires.room.0 c.requires.room.1)).rows_room ∙ sym (c.resume-cursor.ensures.ready (g.F.Flash.state c.args.flash.now) c.requires.lies c.requires.room.0 c.requires.room.1).rows_room ∙ ap (λ (b : BufferState). length b.bytes) c.resume-cursor.ensures.rows_page)
 
 pub returns-in-Err-clause-index : goal.returns-in-Err-clause-index
-returns-in-Err-clause-index g c = ap (λ (b : BufferState). length b.bytes) c.park.ensures.index_buf ∙ (c.give_rows-given.ensures.index_room ∙ ap (λ (b : BufferState). length b.bytes) c.resume-cursor.ensures.index_forget)
+returns-in-Err-clause-index g c = ap (λ (b : BufferState). length b.bytes) c.park.ensures.index_buf ∙ ((c.list_lines-given.ensures.stays_ready (contents_of (g.F.Flash.state c.args.flash.now)) (c.resume-cursor.ensures.ready (g.F.Flash.state c.args.flash.now) c.requires.lies c.requires.room.0 c.requires.room.1)).index_room ∙ sym (c.resume-cursor.ensures.ready (g.F.Flash.state c.args.flash.now) c.requires.lies c.requires.room.0 c.requires.room.1).index_room ∙ ap (λ (b : BufferState). length b.bytes) c.resume-cursor.ensures.index_forget)
 
 pub returns-in-Err-clause-right : goal.returns-in-Err-clause-right
 returns-in-Err-clause-right g c = (refl, refl)
 
 pub returns-in-Ok-clause-cause : goal.returns-in-Ok-clause-cause
-returns-in-Ok-clause-cause g c = cause-earlier _ _ _ c.write_reply.result c.give_rows-given.ensures.later c.write_reply.ensures.cause
+returns-in-Ok-clause-cause g c = cause-earlier _ _ _ c.write_reply.result c.list_lines-given.ensures.cause.later c.write_reply.ensures.cause
 
 pub returns-in-Err-clause-cause : goal.returns-in-Err-clause-cause
-returns-in-Err-clause-cause g c = c.write_fault.ensures.cause (g.K.Sink.faults c.args.out.now) c.give_rows-given.ensures.later c.in-Err.ensures.sink
+returns-in-Err-clause-cause g c = c.write_fault.ensures.cause (g.K.Sink.faults c.args.out.now) c.list_lines-given.ensures.cause.later c.in-Err.ensures.cause.failed
