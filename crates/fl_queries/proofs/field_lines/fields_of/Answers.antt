@@ -1,4 +1,5 @@
-use Rattle.std.proofs.Common.{◌≡◌, ◌<◌, ℤ, List, [], ◌∷◌, ◌++◌, length, slice_index, to_z, of_z, FitsSigned, rules, ◌∙◌, ap, arith, to_z-of_z}
+use Rattle.std.proofs.Common.{◌≡◌, ◌<◌, ℤ, List, [], ◌∷◌, ◌++◌, length, slice_index, to_z, of_z, FitsSigned, rules, ◌∙◌, ap, arith}
+use Rattle.std.proofs.lemmas.Int.{to_z-of_z}
 use Rattle.std.specs.Int.{w128}
 use Rattle.fl_model.specs.Operators.{column_of}
 use Rattle.fl_ops.specs.Columns.{record_of}

@@ -1,4 +1,6 @@
-use Rattle.std.proofs.Common.{rules, ◌≡◌, ℕ, ℤ, ◌-◌, ◌^◌, ◌<◌, ◌≤◌, Option, None, List, [], ◌∷◌, length, map, filter, slice_index, sym, ◌∙◌, ap, subst, arith, to_z-of_z, w64, FitsSigned}
+use Rattle.std.proofs.Common.{rules, ◌≡◌, ℕ, ℤ, ◌-◌, ◌^◌, ◌<◌, ◌≤◌, Option, None, List, [], ◌∷◌, length, map, filter, slice_index, sym, ◌∙◌, ap, subst, arith, FitsSigned}
+use Rattle.std.proofs.lemmas.Int.{to_z-of_z}
+use Rattle.std.specs.Int.{w64}
 use Rattle.std.proofs.lemmas.List.{length-map}
 use Rattle.std.specs.List.{AllByRecursion}
 use Rattle.fl_cursor.specs.Asked.{above_of, above_range, asked_by}

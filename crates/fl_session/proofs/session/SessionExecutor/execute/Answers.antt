@@ -1,4 +1,6 @@
-use Rattle.std.proofs.Common.{FitsSigned, rules, refl, sym, to_z-of_z, w64}
+use Rattle.std.proofs.Common.{FitsSigned, rules, refl, sym}
+use Rattle.std.proofs.lemmas.Int.{to_z-of_z}
+use Rattle.std.specs.Int.{w64}
 use Rattle.fl_base.specs.declared.stream.SinkFailed.{SinkFailed}
 use Rattle.fl_frame.proofs.CallsInTurn.{goes-same, stays}
 use Rattle.fl_session.proofs.StepsOf.{default-view, executes-nothing}
