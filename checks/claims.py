@@ -14,17 +14,23 @@ ROOT = pathlib.Path(__file__).resolve().parent.parent
 ITEM = re.compile(r"^( *)(?:pub(?:\(crate\))? )?(?:const )?(?:extern \S+ )?fn (\w+)", re.M)
 CLAUSE = re.compile(r"ensures (\w+) \{\s*(\w*)")
 RECORD = re.compile(r"^pub record (\w+)\b.* where\n((?: .*\n|\n)*)", re.M)
+BROUGHT = re.compile(r"ghost use Rattle\.(fl_\w+)\.specs\.([\w.]+)\.\{([^}]*)\}")
 OWNER = re.compile(r"^(?:impl|trait|pub trait)\b[^\n{]*", re.M)
 
 
 @functools.cache
-def records():
-    """The fields of each record of a specs/ folder, by its name."""
-    fields = {}
-    for path in sorted(ROOT.glob("crates/*/specs/**/*.antt")):
-        for name, body in RECORD.findall(path.read_text() + "\n"):
-            fields.setdefault(name, set()).update(re.findall(r"^  pub (\w+) :", body, re.M))
-    return fields
+def records(path):
+    """The fields of each record of a file of specs/, by its name."""
+    text = path.read_text() + "\n" if path.is_file() else ""
+    return {name: re.findall(r"^  pub (\w+) :", body, re.M) for name, body in RECORD.findall(text)}
+
+
+def fields_of(name, text):
+    """The fields of the record that a file of code brings in by this name: several crates have records of one name."""
+    for crate, module, brought in BROUGHT.findall(text):
+        if name in re.split(r"[, ]+", brought):
+            return records(ROOT / "crates" / crate / "specs" / f"{module.replace('.', '/')}.antt").get(name, [])
+    return []
 
 
 def contracts(crate):
@@ -38,7 +44,7 @@ def contracts(crate):
             end = text.find(f"\n{m[1]}{{", m.start())
             clauses = set()
             for clause, states in CLAUSE.findall(text[m.start():end if end > 0 else len(text)]):
-                clauses |= {clause} | {f"{clause}.{field}" for field in records().get(states, ())}
+                clauses |= {clause} | {f"{clause}.{field}" for field in fields_of(states, text)}
             owner = [o for at, o in owners if at < m.start()][-1:] if m[1] else [""]
             for name in re.findall(r"\w+", owner[0]) if owner and m[1] else [None]:
                 calls.setdefault((name, m[2]), set()).update(clauses)
