@@ -1,6 +1,5 @@
 -- The values of a row as text, the last one first.
 use Rattle.std.proofs.Common.{◌≡◌, ℕ, ℤ, List, [], ◌∷◌, ◌++◌, length, append_assoc, ap, sym, ◌∙◌, refl, arith}
-use Rattle.std.proofs.lemmas.Grind.{flat_map-append}
 use Rattle.std.specs.Fmt.{signed_decimal}
 use Rattle.fl_words.specs.Reply.{spaced}
 

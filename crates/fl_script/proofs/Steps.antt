@@ -1,12 +1,10 @@
 -- What a line is by the steps of its reading: those that went well, and the first that failed.
 use Rattle.std.proofs.Common.{◌≡◌, List, ℕ, Bool, true, false, ◌&&◌, Option, Some, None, Result, Ok, Err, refl, sym, ap, subst, ◌∙◌, MatchResult}
 use Rattle.std.specs.Prelude.{IsErrAnd}
-use Rattle.fl_base.specs.declared.types.KeyRange.{KeyRange}
-use Rattle.fl_base.specs.declared.types.Span.{Span}
 use Rattle.fl_words.specs.Command.{Command}
 use Rattle.fl_words.specs.Grammar.{LineFault, Form, ◌>>=◌, form, part}
 use Rattle.fl_script.specs.CommandView.{fault_view}
-use Rattle.fl_script.specs.Lines.{line_view, HasRange, HasNoRange}
+use Rattle.fl_script.specs.Lines.{line_view}
 use Rattle.fl_script.specs.declared.command.Command as code
 use Rattle.fl_script.specs.declared.command.LineFault as fault
 
@@ -43,7 +41,8 @@ pub fails : (result : Result code.Command fault.LineFault) (room : List ℕ) (fi
 fails (Ok command) room first last is same line = absurd is
 fails (Err e) room first last is same line = ap (λ e. Err (fault_view e)) (is ∙ same) ∙ sym line
 
-pub no_range : (result : Result (KeyRange × Option Span) fault.LineFault) (first last : fault.LineFault) (words : List (List ℕ)) → IsErrAnd result (λ e. e ≡ first) → first ≡ last
-    → HasNoRange words (fault_view last) → MatchResult result (λ found. HasRange words found.0 found.1) (λ e. HasNoRange words (fault_view e))
-no_range (Ok found) first last words is same none = absurd is
-no_range (Err e) first last words is same none = subst (λ e. HasNoRange words (fault_view e)) (sym (is ∙ same)) none
+-- .. and what is said of each fault holds of it
+pub told : {A : Type 0} (result : Result A fault.LineFault) (first last : fault.LineFault) (Good : A → Type 0) (Bad : LineFault → Type 0) → IsErrAnd result (λ e. e ≡ first) → first ≡ last
+    → Bad (fault_view last) → MatchResult result Good (λ e. Bad (fault_view e))
+told (Ok found) first last Good Bad is same bad = absurd is
+told (Err e) first last Good Bad is same bad = subst (λ e. Bad (fault_view e)) (sym (is ∙ same)) bad

@@ -1,4 +1,4 @@
-use Rattle.std.proofs.Common.{refl, sym, ap, ◌∙◌}
+use Rattle.std.proofs.Common.{sym, ap, ◌∙◌}
 use Rattle.fl_words.specs.Grammar as grammar
 use Rattle.fl_script.proofs.Few.{two, three}
 use Rattle.fl_script.proofs.Steps.{with_form, with_part, no_part, on, stops, fails}

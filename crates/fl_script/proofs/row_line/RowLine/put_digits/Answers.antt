@@ -1,4 +1,4 @@
-use Rattle.std.proofs.Common.{◌≡◌, ◌+◌, ◌-◌, ◌≤◌, ◌++◌, length, drop, length-drop, length-append, ap, ◌∙◌, arith}
+use Rattle.std.proofs.Common.{length, drop, length-drop, length-append, ap, arith}
 use Rattle.std.specs.Fmt.{decimal}
 use Rattle.std.proofs.lemmas.Fmt.{length-decimal-le}
 use Rattle.fl_script.proofs.row_line.RowLine.put_digits.Goals as goal
