@@ -1,9 +1,11 @@
 -- Bytes appended piece by piece.
-use Rattle.std.proofs.Common.{◌≡◌, ℕ, ◌+◌, ◌≤◌, List, ◌++◌, length, replicate, append_assoc, length-append, arith, rules, refl, ◌∙◌, ap, subst, le_trans}
-use Rattle.std.proofs.lemmas.List.{replicate-append-replicate}
+use Rattle.std.proofs.Common.{◌≡◌, ℕ, ◌+◌, ◌-◌, ◌≤◌, Result, Ok, Err, IsErr, List, ◌++◌, length, replicate, append_assoc, length-append, arith, rules, refl, sym, ◌∙◌, ap, subst, le_trans}
+use Rattle.std.proofs.lemmas.Bool.{false≢true}
+use Rattle.std.proofs.lemmas.List.{replicate-append-replicate, length-replicate}
+use Rattle.std.proofs.Math.Nat.{sub_self}
 use Rattle.fl_base.specs.Causes.{Rose}
 use Rattle.fl_flash.specs.Media.{MediaState}
-use Rattle.fl_config.specs.Opening.{Grown, GrownInPart}
+use Rattle.fl_config.specs.Opening.{Grown, GrownInPart, Grows}
 
 pub grown-none : (old : MediaState) → Grown old (replicate 0 255) old
 grown-none old = record { tells = refl; reads = refl; later = omega arith; len = omega arith; content = λ tells. search rules }
@@ -33,3 +35,19 @@ part-more old mid new xs ys all first then within = record {
   rose = rose-later old.faults mid.faults new.faults first.later then.rose;
   most = omega (arith, then.most, first.len, within);
 }
+
+-- so many blank bytes, before the first piece, behind the last one, and where a piece fails
+pub blank-begins : (old : MediaState) (count : ℕ) → Grown old (replicate (count - count) 255) old
+blank-begins old count = subst (λ n. Grown old (replicate n 255) old) (sym (sub_self count)) (grown-none old)
+
+pub blank-ends : (old new : MediaState) (count left : ℕ) → left ≤ 0 → Grown old (replicate (count - left) 255) new → Grown old (replicate count 255) new
+blank-ends old new count left none grown =
+    let all : count - left ≡ count = omega (arith, none) in
+    subst (λ n. Grown old (replicate n 255) new) all grown
+
+pub blank-fails : {E : Type 0} (result : Result (Unit {0}) E) (old mid new : MediaState) (count left piece : ℕ) → IsErr result → left ≤ count → piece ≤ left
+    → Grown old (replicate (count - left) 255) mid → GrownInPart mid (replicate piece 255) new → Grows old (replicate count 255) result new
+blank-fails (Ok done) old mid new count left piece is some few first then = absurd (false≢true is)
+blank-fails (Err e) old mid new count left piece is some few first then =
+    part-more old mid new (replicate (count - left) 255) (replicate piece 255) (replicate count 255) first then
+    (omega (arith, some, few, length-replicate {A = ℕ} (count - left) 255, length-replicate {A = ℕ} piece 255, length-replicate {A = ℕ} count 255))
