@@ -15,7 +15,9 @@ pub mod LookupsOfTable
 pub mod BitmapsAlone
 pub mod Held
 pub mod LoadedPages
+pub mod Lies
 pub mod Lookups
+pub mod LookupCalls
 pub mod Counts
 pub mod Scans
 pub mod Spanned

@@ -74,6 +74,18 @@ mounting-of t f first plan table planned lies reaches rests =
       on = found.on;
     }
 
+pub never-fails : (end : Option ℕ) (e : RingFault) → ◌≡◌ {A = Result (Option ℕ) RingFault} (Ok end) (Err e) → ⊥
+never-fails end e is = cc
+
+-- a mount that failed remembers nothing
+pub fails-alike : (R S : BitmapIndex → Plan → Table → model.Ring → Type 0) (first : ℕ) (plan : Plan) (table : Table) (rose : Bool) (device : Device) (e : RingFault) (index : BitmapIndex) (new : FlashState) →
+    EndsAs R first plan table rose device (Err e) index new → EndsAs S first plan table rose device (Err e) index new
+fails-alike R S first plan table rose device (Flash fault) index new ends = ends
+fails-alike R S first plan table rose device (BadHead heads) index new ends = ends
+fails-alike R S first plan table rose device (BadGap page) index new ends = ends
+fails-alike R S first plan table rose device (BadPage page wanted found) index new ends = ends
+fails-alike R S first plan table rose device (NoNumber at_least) index new ends = ends
+
 -- ---- the answer
 
 pub end-is : (at : ℕ → ℕ) (page : ℕ → List ℕ) (most : ℕ) (o : Option ℕ) (newest : Option Newest) (end : Option ℕ) → IsNewest at page o newest →

@@ -1,4 +1,6 @@
-use Rattle.std.proofs.Common.{◌≡◌, ◌%◌, length, length-set, ◌+◌, ◌-◌, arith, ◌∙◌, ap, subst}
+use Rattle.std.proofs.Common.{◌≡◌, ◌%◌, length, length-set, ◌+◌, ◌-◌, arith, sym, ◌∙◌, ap, subst}
+use Rattle.std.proofs.lemmas.Result.{err_from_is_err_and}
+use Rattle.fl_base.specs.declared.types.Geometry.{Geometry}
 use Rattle.fl_flash.specs.Flash.{page_at}
 use Rattle.fl_frame.specs.Reads.{OnlyReads}
 use Rattle.fl_ring.specs.Place.{oldest_of}
@@ -37,3 +39,34 @@ loop-number-preserved g c =
           remembered-more pages from n number m (omega (arith, inv.from)) (omega (arith, inv.from)) c.loop-number.firsts first (omega (arith, fits, inv.size))
           (c.in_ok-first.ensures.first (told_still old flash n inv.reads told) ∙ ap first_on same) (inv.firsts (omega (arith, fits)) told);
     }
+
+pub read_first-requires-clause-room : goal.read_first-requires-clause-room
+read_first-requires-clause-room g c = c.loop-number.invariant.room ∙ (c.requires.room ∙ ap (λ (x : Geometry). x.page) (sym c.loop-number.invariant.reads.goes.geometry))
+
+pub returns-in_err-first-clause-room : goal.returns-in_err-first-clause-room
+returns-in_err-first-clause-room g c = c.in_err-first.ensures.room ∙ c.loop-number.invariant.room
+
+pub returns-in_err-first-clause-none : goal.returns-in_err-first-clause-none
+returns-in_err-first-clause-none g c = c.in_err-first.ensures.none
+
+pub returns-in_err-first-clause-size : goal.returns-in_err-first-clause-size
+returns-in_err-first-clause-size g c = c.loop-number.invariant.size
+
+pub returns-in_err-first-clause-firsts : goal.returns-in_err-first-clause-firsts
+returns-in_err-first-clause-firsts g c =
+    let p = err_from_is_err_and c.from_residual.result c.from_residual.ensures.1 in
+    rw p.1 tt
+
+pub returns-in_err-first-clause-power : goal.returns-in_err-first-clause-power
+returns-in_err-first-clause-power g c =
+    let p = err_from_is_err_and c.from_residual.result c.from_residual.ensures.1 in
+    rw p.1 tt
+
+pub returns-clause-room : goal.returns-clause-room
+returns-clause-room g c = c.loop-number.invariant.room
+
+pub returns-clause-none : goal.returns-clause-none
+returns-clause-none g c = c.loop-number.invariant.none
+
+pub returns-clause-size : goal.returns-clause-size
+returns-clause-size g c = c.loop-number.invariant.size

@@ -1,5 +1,7 @@
-use Rattle.std.proofs.Common.{◌≡◌, ◌⊎◌, inl, inr, ℕ, ◌-◌, cond, Option, Some, None, IfSome, IsTrue, List, sym, ◌∙◌, ap, subst, arith}
+use Rattle.std.proofs.Common.{◌≡◌, ◌⊎◌, inl, inr, ℕ, ◌-◌, cond, Option, Some, None, IfSome, IsTrue, List, length, refl, sym, ◌∙◌, ap, subst, arith}
+use Rattle.std.proofs.Math.Nat.{le-add_right}
 use Rattle.std.proofs.lemmas.Option.{none-some, same_Some}
+use Rattle.fl_base.specs.declared.types.Geometry.{Geometry}
 use Rattle.fl_ring.specs.Place.{shape_of}
 use Rattle.fl_ring.specs.Ring.{place}
 use Rattle.fl_flash.specs.Buffer.{BufferState}
@@ -7,12 +9,14 @@ use Rattle.fl_flash.specs.Flash.{page_at}
 use Rattle.fl_flash.specs.Media.{next_count}
 use Rattle.fl_index.specs.Page.{page_number, IsGoodPage}
 use Rattle.fl_frame.proofs.ReadsInTurn.{same_page}
-use Rattle.fl_index.specs.Looking.{listing_of, entire, IsFound, IsFresh, IsHeld, IfRead}
+use Rattle.fl_frame.proofs.ContentsInTurn.{OnlyReads-same}
+use Rattle.fl_index.specs.Looking.{looked_at, listing_of, entire, IsFound, IsFresh, IsHeld, IfRead}
 use Rattle.fl_index.specs.Memory.{is_waiting, found_waiting, first_waiting, listing_in, place_in}
 use Rattle.fl_index.proofs.Scans.{memory-least, good-found, caused-none, bad-page, scan-most, unread-again, scan-least}
 use Rattle.fl_index.proofs.LookupsOfTable.{X_is, waits-shows, none-shows, page-is, found-shows}
 use Rattle.fl_index.proofs.Held.{none-by}
 use Rattle.fl_index.proofs.Lookups.{some-of, none-of, read-any, listing-here, looked-here, kept-here, held-is, here-bytes, place-same, scans-on, ok-any}
+use Rattle.fl_index.proofs.LookupCalls.{header-fits, holds-good, unread-at-all, none-any, some-any, some-at, unread-never, none-waits, none-listed, no-ring-in, no-ring-by, from-memory, scan-stays}
 use Rattle.fl_index.proofs.index.BitmapIndex.entry_of.Goals as goal
 
 pub returns-in-Some-clause-stands : goal.returns-in-Some-clause-stands
@@ -174,3 +178,261 @@ returns-in-Some-clause-least g c = λ first plan table from numbers told stands 
     let w = some-of (is_waiting t c.args.number) (found_waiting t (c.args.number - first_waiting t)) c.in-Some.found (sym c.waiting_entry.ensures ∙ c.in-Some.is) in
     let none : listing_of t c.args.number ≡ None = ap (λ b. cond b None (listing_in t c.args.number)) w.0 in
     memory-least t c.args.number from (g.F.Flash.state c.args.flash.now).work.reads numbers c.args.buf.now none scanning
+
+pub returns-in-Some-clause-reads : goal.returns-in-Some-clause-reads
+returns-in-Some-clause-reads g c = unread-at-all _
+
+pub returns-in-Some-clause-counts : goal.returns-in-Some-clause-counts
+returns-in-Some-clause-counts g c = OnlyReads-same _
+
+pub returns-in-Some-clause-room : goal.returns-in-Some-clause-room
+returns-in-Some-clause-room g c = refl
+
+pub returns-in-Some-clause-memory : goal.returns-in-Some-clause-memory
+returns-in-Some-clause-memory g c = λ none. from-memory c.args.self.now c.args.number c.args.buf.now (g.F.Flash.state c.args.flash.now) _ (sym c.in-Some.is ∙ c.waiting_entry.ensures)
+
+pub returns-in-Some-clause-found : goal.returns-in-Some-clause-found
+returns-in-Some-clause-found g c =
+    let t = c.args.self.now in
+    none-any (looked_at t c.args.number c.args.buf.now) _ (none-waits t c.args.number c.args.buf.now (some-of (is_waiting t c.args.number) (found_waiting t (c.args.number - first_waiting t)) c.in-Some.found (sym c.waiting_entry.ensures ∙ c.in-Some.is)).0)
+
+pub returns-in-Some-clause-page : goal.returns-in-Some-clause-page
+returns-in-Some-clause-page g c =
+    let t = c.args.self.now in
+    none-any (looked_at t c.args.number c.args.buf.now) _ (none-waits t c.args.number c.args.buf.now (some-of (is_waiting t c.args.number) (found_waiting t (c.args.number - first_waiting t)) c.in-Some.found (sym c.waiting_entry.ensures ∙ c.in-Some.is)).0)
+
+pub returns-in-Some-clause-holds : goal.returns-in-Some-clause-holds
+returns-in-Some-clause-holds g c =
+    let t = c.args.self.now in
+    none-any (looked_at t c.args.number c.args.buf.now) _ (none-waits t c.args.number c.args.buf.now (some-of (is_waiting t c.args.number) (found_waiting t (c.args.number - first_waiting t)) c.in-Some.found (sym c.waiting_entry.ensures ∙ c.in-Some.is)).0)
+
+pub returns-in-Some-clause-held : goal.returns-in-Some-clause-held
+returns-in-Some-clause-held g c =
+    let t = c.args.self.now in
+    none-any (looked_at t c.args.number c.args.buf.now) _ (none-waits t c.args.number c.args.buf.now (some-of (is_waiting t c.args.number) (found_waiting t (c.args.number - first_waiting t)) c.in-Some.found (sym c.waiting_entry.ensures ∙ c.in-Some.is)).0)
+
+pub returns-in-Some-clause-read : goal.returns-in-Some-clause-read
+returns-in-Some-clause-read g c =
+    let t = c.args.self.now in
+    none-any (looked_at t c.args.number c.args.buf.now) _ (none-waits t c.args.number c.args.buf.now (some-of (is_waiting t c.args.number) (found_waiting t (c.args.number - first_waiting t)) c.in-Some.found (sym c.waiting_entry.ensures ∙ c.in-Some.is)).0)
+
+pub returns-in-Some-clause-fresh : goal.returns-in-Some-clause-fresh
+returns-in-Some-clause-fresh g c = λ told fresh. fresh
+
+pub returns-in-Some-clause-scans : goal.returns-in-Some-clause-scans
+returns-in-Some-clause-scans g c = λ first plan table from told stands fresh scanning. scan-stays c.args.self.now c.args.number c.args.buf.now from (g.F.Flash.state c.args.flash.now) scanning
+
+pub returns-in-Some-clause-most : goal.returns-in-Some-clause-most
+returns-in-Some-clause-most g c = λ first plan table from told stands fresh scanning. le-add_right _ _
+
+pub returns-in-Some-clause-good : goal.returns-in-Some-clause-good
+returns-in-Some-clause-good g c = λ good. good
+
+pub returns-in_default-listing-clause-reads : goal.returns-in_default-listing-clause-reads
+returns-in_default-listing-clause-reads g c = unread-at-all _
+
+pub returns-in_default-listing-clause-counts : goal.returns-in_default-listing-clause-counts
+returns-in_default-listing-clause-counts g c = OnlyReads-same _
+
+pub returns-in_default-listing-clause-room : goal.returns-in_default-listing-clause-room
+returns-in_default-listing-clause-room g c = refl
+
+pub returns-in_default-listing-clause-memory : goal.returns-in_default-listing-clause-memory
+returns-in_default-listing-clause-memory g c = λ none. from-memory c.args.self.now c.args.number c.args.buf.now (g.F.Flash.state c.args.flash.now) _ (sym c.in_default.is ∙ c.waiting_entry.ensures)
+
+pub returns-in_default-listing-clause-found : goal.returns-in_default-listing-clause-found
+returns-in_default-listing-clause-found g c =
+    let t = c.args.self.now in
+    none-any (looked_at t c.args.number c.args.buf.now) _ (none-listed t c.args.number c.args.buf.now (none-of (is_waiting t c.args.number) (found_waiting t (c.args.number - first_waiting t)) (sym c.waiting_entry.ensures ∙ c.in_default.is)) (c.listing.ensures.none c.in_default-listing.is))
+
+pub returns-in_default-listing-clause-page : goal.returns-in_default-listing-clause-page
+returns-in_default-listing-clause-page g c =
+    let t = c.args.self.now in
+    none-any (looked_at t c.args.number c.args.buf.now) _ (none-listed t c.args.number c.args.buf.now (none-of (is_waiting t c.args.number) (found_waiting t (c.args.number - first_waiting t)) (sym c.waiting_entry.ensures ∙ c.in_default.is)) (c.listing.ensures.none c.in_default-listing.is))
+
+pub returns-in_default-listing-clause-holds : goal.returns-in_default-listing-clause-holds
+returns-in_default-listing-clause-holds g c =
+    let t = c.args.self.now in
+    none-any (looked_at t c.args.number c.args.buf.now) _ (none-listed t c.args.number c.args.buf.now (none-of (is_waiting t c.args.number) (found_waiting t (c.args.number - first_waiting t)) (sym c.waiting_entry.ensures ∙ c.in_default.is)) (c.listing.ensures.none c.in_default-listing.is))
+
+pub returns-in_default-listing-clause-held : goal.returns-in_default-listing-clause-held
+returns-in_default-listing-clause-held g c =
+    let t = c.args.self.now in
+    none-any (looked_at t c.args.number c.args.buf.now) _ (none-listed t c.args.number c.args.buf.now (none-of (is_waiting t c.args.number) (found_waiting t (c.args.number - first_waiting t)) (sym c.waiting_entry.ensures ∙ c.in_default.is)) (c.listing.ensures.none c.in_default-listing.is))
+
+pub returns-in_default-listing-clause-read : goal.returns-in_default-listing-clause-read
+returns-in_default-listing-clause-read g c =
+    let t = c.args.self.now in
+    none-any (looked_at t c.args.number c.args.buf.now) _ (none-listed t c.args.number c.args.buf.now (none-of (is_waiting t c.args.number) (found_waiting t (c.args.number - first_waiting t)) (sym c.waiting_entry.ensures ∙ c.in_default.is)) (c.listing.ensures.none c.in_default-listing.is))
+
+pub returns-in_default-listing-clause-fresh : goal.returns-in_default-listing-clause-fresh
+returns-in_default-listing-clause-fresh g c = λ told fresh. fresh
+
+pub returns-in_default-listing-clause-scans : goal.returns-in_default-listing-clause-scans
+returns-in_default-listing-clause-scans g c = λ first plan table from told stands fresh scanning. scan-stays c.args.self.now c.args.number c.args.buf.now from (g.F.Flash.state c.args.flash.now) scanning
+
+pub returns-in_default-listing-clause-most : goal.returns-in_default-listing-clause-most
+returns-in_default-listing-clause-most g c = λ first plan table from told stands fresh scanning. le-add_right _ _
+
+pub returns-in_default-listing-clause-good : goal.returns-in_default-listing-clause-good
+returns-in_default-listing-clause-good g c = λ good. good
+
+pub returns-in_default-ring-clause-reads : goal.returns-in_default-ring-clause-reads
+returns-in_default-ring-clause-reads g c = unread-at-all _
+
+pub returns-in_default-ring-clause-counts : goal.returns-in_default-ring-clause-counts
+returns-in_default-ring-clause-counts g c = OnlyReads-same _
+
+pub returns-in_default-ring-clause-room : goal.returns-in_default-ring-clause-room
+returns-in_default-ring-clause-room g c = refl
+
+pub returns-in_default-ring-clause-memory : goal.returns-in_default-ring-clause-memory
+returns-in_default-ring-clause-memory g c = λ none. from-memory c.args.self.now c.args.number c.args.buf.now (g.F.Flash.state c.args.flash.now) _ (sym c.in_default.is ∙ c.waiting_entry.ensures)
+
+pub returns-in_default-ring-clause-fresh : goal.returns-in_default-ring-clause-fresh
+returns-in_default-ring-clause-fresh g c = λ told fresh. fresh
+
+pub returns-in_default-ring-clause-scans : goal.returns-in_default-ring-clause-scans
+returns-in_default-ring-clause-scans g c = λ first plan table from told stands fresh scanning. scan-stays c.args.self.now c.args.number c.args.buf.now from (g.F.Flash.state c.args.flash.now) scanning
+
+pub returns-in_default-ring-clause-most : goal.returns-in_default-ring-clause-most
+returns-in_default-ring-clause-most g c = λ first plan table from told stands fresh scanning. le-add_right _ _
+
+pub returns-in_default-ring-clause-good : goal.returns-in_default-ring-clause-good
+returns-in_default-ring-clause-good g c = λ good. good
+
+pub listing-requires-clause-mine : goal.listing-requires-clause-mine
+listing-requires-clause-mine g c = c.in-Some-ring.is
+
+pub hold-requires-clause-lies : goal.hold-requires-clause-lies
+hold-requires-clause-lies g c = c.requires.lies.ring c.in-Some-ring.ring c.in-Some-ring.is
+
+pub hold-requires-clause-room : goal.hold-requires-clause-room
+hold-requires-clause-room g c = c.requires.room
+
+pub returns-in-Err-clause-reads : goal.returns-in-Err-clause-reads
+returns-in-Err-clause-reads g c = c.in-Err.ensures.reads
+
+pub returns-in-Err-clause-counts : goal.returns-in-Err-clause-counts
+returns-in-Err-clause-counts g c = c.in-Err.ensures.counts
+
+pub returns-in-Err-clause-room : goal.returns-in-Err-clause-room
+returns-in-Err-clause-room g c = c.in-Err.ensures.room
+
+pub returns-in-Err-clause-memory : goal.returns-in-Err-clause-memory
+returns-in-Err-clause-memory g c = λ none.
+    let t = c.args.self.now in
+    absurd (none-some c.in-Some-listing.listing.page (sym none ∙ looked-here t c.in-Some-ring.ring c.in-Some-ring.is c.args.number c.in-Some-listing.listing.page c.args.buf.now c.in-Some-listing.ensures.some.0 (none-of (is_waiting t c.args.number) (found_waiting t (c.args.number - first_waiting t)) (sym c.waiting_entry.ensures ∙ c.in_default.is))))
+
+pub returns-in-Err-clause-found : goal.returns-in-Err-clause-found
+returns-in-Err-clause-found g c = some-any (looked_at c.args.self.now c.args.number c.args.buf.now) _ (λ n. tt)
+
+pub returns-in-Err-clause-page : goal.returns-in-Err-clause-page
+returns-in-Err-clause-page g c = some-any (looked_at c.args.self.now c.args.number c.args.buf.now) _ (λ n told fresh. tt)
+
+pub returns-in-Err-clause-holds : goal.returns-in-Err-clause-holds
+returns-in-Err-clause-holds g c = some-any (looked_at c.args.self.now c.args.number c.args.buf.now) _ (λ n. tt)
+
+pub returns-in-Err-clause-read : goal.returns-in-Err-clause-read
+returns-in-Err-clause-read g c = some-any (looked_at c.args.self.now c.args.number c.args.buf.now) _ (λ n other. tt)
+
+pub returns-in-Err-clause-held : goal.returns-in-Err-clause-held
+returns-in-Err-clause-held g c =
+    let t = c.args.self.now in
+    some-at (looked_at t c.args.number c.args.buf.now) _ c.in-Some-listing.listing.page (looked-here t c.in-Some-ring.ring c.in-Some-ring.is c.args.number c.in-Some-listing.listing.page c.args.buf.now c.in-Some-listing.ensures.some.0 (none-of (is_waiting t c.args.number) (found_waiting t (c.args.number - first_waiting t)) (sym c.waiting_entry.ensures ∙ c.in_default.is)))
+    (λ held. c.hold.ensures.held (held.place ∙ ap (λ (n : ℕ). Some n) (sym (place-same t c.in-Some-ring.ring c.in-Some-ring.is c.in-Some-listing.listing.page))) held.number_is)
+
+pub returns-in-Err-clause-fresh : goal.returns-in-Err-clause-fresh
+returns-in-Err-clause-fresh g c = λ told fresh number held. absurd (none-some _ (sym c.in-Err.ensures.none ∙ held.place))
+
+pub returns-in-Err-clause-cause : goal.returns-in-Err-clause-cause
+returns-in-Err-clause-cause g c = c.in-Err.ensures.cause
+
+pub returns-in-Err-clause-unread : goal.returns-in-Err-clause-unread
+returns-in-Err-clause-unread g c = c.in-Err.ensures.none
+
+pub listed-requires-clause-size : goal.listed-requires-clause-size
+listed-requires-clause-size g c = ap length c.bytes.ensures ∙ (c.in_default-hold.ensures.room ∙ (c.requires.room ∙ ap (λ (x : Geometry). x.page) c.requires.lies.geometry))
+
+pub listed-requires-clause-within : goal.listed-requires-clause-within
+listed-requires-clause-within g c = c.in-Some-listing.ensures.some.1.2
+
+pub returns-clause-reads : goal.returns-clause-reads
+returns-clause-reads g c = c.in_default-hold.ensures.reads
+
+pub returns-clause-counts : goal.returns-clause-counts
+returns-clause-counts g c = c.in_default-hold.ensures.counts
+
+pub returns-clause-room : goal.returns-clause-room
+returns-clause-room g c = c.in_default-hold.ensures.room
+
+pub returns-clause-memory : goal.returns-clause-memory
+returns-clause-memory g c = λ none.
+    let t = c.args.self.now in
+    absurd (none-some c.in-Some-listing.listing.page (sym none ∙ looked-here t c.in-Some-ring.ring c.in-Some-ring.is c.args.number c.in-Some-listing.listing.page c.args.buf.now c.in-Some-listing.ensures.some.0 (none-of (is_waiting t c.args.number) (found_waiting t (c.args.number - first_waiting t)) (sym c.waiting_entry.ensures ∙ c.in_default.is))))
+
+pub returns-clause-found : goal.returns-clause-found
+returns-clause-found g c =
+    let t = c.args.self.now in
+    some-at (looked_at t c.args.number c.args.buf.now) _ c.in-Some-listing.listing.page (looked-here t c.in-Some-ring.ring c.in-Some-ring.is c.args.number c.in-Some-listing.listing.page c.args.buf.now c.in-Some-listing.ensures.some.0 (none-of (is_waiting t c.args.number) (found_waiting t (c.args.number - first_waiting t)) (sym c.waiting_entry.ensures ∙ c.in_default.is)))
+    (subst (λ (bytes : List ℕ). IsFound entire t c.in-Some-listing.listing.page c.args.number bytes c.listed.result) c.bytes.ensures (c.listed.ensures.found c.args.number c.in-Some-listing.ensures.some.1.1))
+
+pub returns-clause-holds : goal.returns-clause-holds
+returns-clause-holds g c =
+    let t = c.args.self.now in
+    some-at (looked_at t c.args.number c.args.buf.now) _ c.in-Some-listing.listing.page (looked-here t c.in-Some-ring.ring c.in-Some-ring.is c.args.number c.in-Some-listing.listing.page c.args.buf.now c.in-Some-listing.ensures.some.0 (none-of (is_waiting t c.args.number) (found_waiting t (c.args.number - first_waiting t)) (sym c.waiting_entry.ensures ∙ c.in_default.is)))
+    (read-any c.listed.result _ (c.in_default-hold.ensures.holds ∙ ap (λ (n : ℕ). Some n) (place-same t c.in-Some-ring.ring c.in-Some-ring.is c.in-Some-listing.listing.page)))
+
+pub returns-clause-held : goal.returns-clause-held
+returns-clause-held g c =
+    let t = c.args.self.now in
+    some-at (looked_at t c.args.number c.args.buf.now) _ c.in-Some-listing.listing.page (looked-here t c.in-Some-ring.ring c.in-Some-ring.is c.args.number c.in-Some-listing.listing.page c.args.buf.now c.in-Some-listing.ensures.some.0 (none-of (is_waiting t c.args.number) (found_waiting t (c.args.number - first_waiting t)) (sym c.waiting_entry.ensures ∙ c.in_default.is)))
+    (λ held. c.hold.ensures.held (held.place ∙ ap (λ (n : ℕ). Some n) (sym (place-same t c.in-Some-ring.ring c.in-Some-ring.is c.in-Some-listing.listing.page))) held.number_is)
+
+pub returns-clause-unread : goal.returns-clause-unread
+returns-clause-unread g c = unread-never c.listed.result _ c.listed.ensures.no_flash
+
+pub returns-in_default-ring-clause-found : goal.returns-in_default-ring-clause-found
+returns-in_default-ring-clause-found g c =
+    let t = c.args.self.now in
+    none-any (looked_at t c.args.number c.args.buf.now) _ (none-listed t c.args.number c.args.buf.now (none-of (is_waiting t c.args.number) (found_waiting t (c.args.number - first_waiting t)) (sym c.waiting_entry.ensures ∙ c.in_default.is)) (no-ring-by t c.args.number c.args.buf.now c.in_default-ring.is))
+
+pub returns-in_default-ring-clause-page : goal.returns-in_default-ring-clause-page
+returns-in_default-ring-clause-page g c =
+    let t = c.args.self.now in
+    none-any (looked_at t c.args.number c.args.buf.now) _ (none-listed t c.args.number c.args.buf.now (none-of (is_waiting t c.args.number) (found_waiting t (c.args.number - first_waiting t)) (sym c.waiting_entry.ensures ∙ c.in_default.is)) (no-ring-by t c.args.number c.args.buf.now c.in_default-ring.is))
+
+pub returns-in_default-ring-clause-holds : goal.returns-in_default-ring-clause-holds
+returns-in_default-ring-clause-holds g c =
+    let t = c.args.self.now in
+    none-any (looked_at t c.args.number c.args.buf.now) _ (none-listed t c.args.number c.args.buf.now (none-of (is_waiting t c.args.number) (found_waiting t (c.args.number - first_waiting t)) (sym c.waiting_entry.ensures ∙ c.in_default.is)) (no-ring-by t c.args.number c.args.buf.now c.in_default-ring.is))
+
+pub returns-in_default-ring-clause-held : goal.returns-in_default-ring-clause-held
+returns-in_default-ring-clause-held g c =
+    let t = c.args.self.now in
+    none-any (looked_at t c.args.number c.args.buf.now) _ (none-listed t c.args.number c.args.buf.now (none-of (is_waiting t c.args.number) (found_waiting t (c.args.number - first_waiting t)) (sym c.waiting_entry.ensures ∙ c.in_default.is)) (no-ring-by t c.args.number c.args.buf.now c.in_default-ring.is))
+
+pub returns-in_default-ring-clause-read : goal.returns-in_default-ring-clause-read
+returns-in_default-ring-clause-read g c =
+    let t = c.args.self.now in
+    none-any (looked_at t c.args.number c.args.buf.now) _ (none-listed t c.args.number c.args.buf.now (none-of (is_waiting t c.args.number) (found_waiting t (c.args.number - first_waiting t)) (sym c.waiting_entry.ensures ∙ c.in_default.is)) (no-ring-by t c.args.number c.args.buf.now c.in_default-ring.is))
+
+pub returns-in_default-ring-clause-stands : goal.returns-in_default-ring-clause-stands
+returns-in_default-ring-clause-stands g c = λ first plan table told stands fresh.
+    let t = c.args.self.now in
+    none-shows t (g.F.Flash.state c.args.flash.now) first plan table stands c.args.number (none-of (is_waiting t c.args.number) (found_waiting t (c.args.number - first_waiting t)) (sym c.waiting_entry.ensures ∙ c.in_default.is)) (no-ring-in t c.args.number c.args.buf.now c.in_default-ring.is)
+
+pub returns-in_default-ring-clause-least : goal.returns-in_default-ring-clause-least
+returns-in_default-ring-clause-least g c = λ first plan table from numbers told stands fresh scanning later lt.
+    let t = c.args.self.now in
+    let none : listing_of t c.args.number ≡ None = ap (λ b. cond b None (listing_in t c.args.number)) (none-of (is_waiting t c.args.number) (found_waiting t (c.args.number - first_waiting t)) (sym c.waiting_entry.ensures ∙ c.in_default.is)) ∙ no-ring-in t c.args.number c.args.buf.now c.in_default-ring.is in
+    memory-least t c.args.number from (g.F.Flash.state c.args.flash.now).work.reads numbers c.args.buf.now none scanning
+
+pub listing-requires-clause-room : goal.listing-requires-clause-room
+listing-requires-clause-room g c = header-fits _ _ (c.requires.room ∙ ap (λ (x : Geometry). x.page) c.requires.lies.geometry) c.args.self.now.served.page_least
+
+pub returns-clause-good : goal.returns-clause-good
+returns-clause-good g c = λ good.
+    let t = c.args.self.now in
+    let page = c.in-Some-listing.listing.page in
+    holds-good t page c.args.number c.hold.new.buf c.listed.result (subst (λ (bytes : List ℕ). IsFound entire t page c.args.number bytes c.listed.result) c.bytes.ensures (c.listed.ensures.found c.args.number c.in-Some-listing.ensures.some.1.1))

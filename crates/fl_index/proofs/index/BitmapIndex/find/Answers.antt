@@ -1,10 +1,12 @@
-use Rattle.std.proofs.Common.{◌+◌, ◌-◌, false, None, Ok, Err, arith, refl, sym, ◌∙◌, ap, subst}
+use Rattle.std.proofs.Common.{◌+◌, ◌-◌, ◌≤◌, false, None, Ok, Err, arith, refl, sym, ◌∙◌, ap, subst}
+use Rattle.std.proofs.lemmas.Option.{same_Some}
 use Rattle.std.proofs.lemmas.Result.{err_from_is_err_and}
 use Rattle.fl_base.specs.declared.types.Geometry.{Geometry}
 use Rattle.fl_base.specs.declared.types.RingPlace.{RingPlace}
 use Rattle.fl_flash.specs.Flash.{page_at}
 use Rattle.fl_ring.specs.Mounting.{shape_at, search_reads}
 use Rattle.fl_ring.specs.Place.{next_of, oldest_of, shape_of}
+use Rattle.fl_ring.specs.declared.ring.Ring.{Ring}
 use Rattle.fl_ring.specs.Repairing.{Beside}
 use Rattle.fl_ring.specs.Ring.{Shape, place, OnRing}
 use Rattle.fl_index.specs.Headers.{IsNewest, kept_page}
@@ -12,6 +14,7 @@ use Rattle.fl_index.specs.Memory.{oldest_in, per_page}
 use Rattle.fl_index.specs.Page.{newest_of}
 use Rattle.fl_index.specs.Standing.{RemembersBelow}
 use Rattle.fl_index.proofs.HeaderPages.{newest-header}
+use Rattle.fl_index.proofs.Lies.{lies-later, no-ring, not-running, this-ring}
 use Rattle.fl_index.proofs.Memories.{planned-same}
 use Rattle.fl_index.proofs.MountCalls.{same-shape, refuses-ring, refuses-end, finds-end}
 use Rattle.fl_index.proofs.MountEnded.{mounting-of, limit-is, ring-fails, ring-ends, ring-mounts, no-bad-end, finds-well, end-is, bad-end}
@@ -176,3 +179,131 @@ returns-clause-beside g c =
     let old = g.F.Flash.state c.args.flash.now in
     let new = g.F.Flash.state c.mount_with_newest.new.flash in
     subst (λ (r : Shape). Beside r (search_reads r + r.per_block) 1 1 old new) (same-shape c.args.self.now c.forget.new.self old c.forget.ensures.same c.requires.lies.geometry) c.in_ok-ring.ensures.mounts.beside
+
+pub mount_with_newest-requires-clause-blocks : goal.mount_with_newest-requires-clause-blocks
+mount_with_newest-requires-clause-blocks g c = c.forget.new.self.some_blocks
+
+pub mount_with_newest-requires-clause-lies : goal.mount_with_newest-requires-clause-lies
+mount_with_newest-requires-clause-lies g c = subst (λ (p : RingPlace). p.first_block + p.blocks ≤ (g.F.Flash.state c.args.flash.now).blocks) (sym c.forget.ensures.same.place) c.requires.lies.within
+
+pub mount_with_newest-requires-clause-few : goal.mount_with_newest-requires-clause-few
+mount_with_newest-requires-clause-few g c = c.requires.lies.few
+
+pub mount_with_newest-requires-clause-room : goal.mount_with_newest-requires-clause-room
+mount_with_newest-requires-clause-room g c = c.requires.room
+
+pub returns-in_err-ring-clause-running : goal.returns-in_err-ring-clause-running
+returns-in_err-ring-clause-running g c =
+    let p = err_from_is_err_and c.from_residual.result c.from_residual.ensures.1 in
+    rw p.1 c.forget.ensures.down
+
+pub returns-in_err-ring-clause-idle : goal.returns-in_err-ring-clause-idle
+returns-in_err-ring-clause-idle g c = c.forget.ensures.none
+
+pub returns-in_err-ring-clause-unknown : goal.returns-in_err-ring-clause-unknown
+returns-in_err-ring-clause-unknown g c = c.forget.ensures.unknown
+
+pub returns-in_err-ring-clause-found : goal.returns-in_err-ring-clause-found
+returns-in_err-ring-clause-found g c =
+    let p = err_from_is_err_and c.from_residual.result c.from_residual.ensures.1 in
+    rw p.1 tt
+
+pub returns-in_err-ring-clause-power : goal.returns-in_err-ring-clause-power
+returns-in_err-ring-clause-power g c =
+    let p = err_from_is_err_and c.from_residual.result c.from_residual.ensures.1 in
+    rw p.1 tt
+
+pub returns-in_err-ring-clause-room : goal.returns-in_err-ring-clause-room
+returns-in_err-ring-clause-room g c = c.mount_with_newest.ensures.room
+
+pub returns-in_err-ring-clause-holds : goal.returns-in_err-ring-clause-holds
+returns-in_err-ring-clause-holds g c = c.mount_with_newest.ensures.holds
+
+pub returns-in_err-ring-clause-same : goal.returns-in_err-ring-clause-same
+returns-in_err-ring-clause-same g c = c.forget.ensures.same
+
+pub returns-in_err-ring-clause-cause : goal.returns-in_err-ring-clause-cause
+returns-in_err-ring-clause-cause g c =
+    let p = err_from_is_err_and c.from_residual.result c.from_residual.ensures.1 in
+    rw (p.1, p.2) c.in_err-ring.ensures.mounts.cause
+
+pub returns-in_err-ring-clause-lies : goal.returns-in_err-ring-clause-lies
+returns-in_err-ring-clause-lies g c =
+    lies-later c.args.self.now c.forget.new.self (g.F.Flash.state c.args.flash.now) (g.F.Flash.state c.mount_with_newest.new.flash) c.forget.ensures.same c.requires.lies c.in_err-ring.ensures.mounts.beside.goes (no-ring c.forget.new.self.ring (g.F.Flash.state c.mount_with_newest.new.flash) (not-running c.forget.new.self.ring c.forget.ensures.down))
+
+pub returns-in_err-end-clause-running : goal.returns-in_err-end-clause-running
+returns-in_err-end-clause-running g c =
+    let p = err_from_is_err_and c.from_residual-in_err-end.result c.from_residual-in_err-end.ensures.1 in
+    rw p.1 c.forget.ensures.down
+
+pub returns-in_err-end-clause-idle : goal.returns-in_err-end-clause-idle
+returns-in_err-end-clause-idle g c = c.forget.ensures.none
+
+pub returns-in_err-end-clause-unknown : goal.returns-in_err-end-clause-unknown
+returns-in_err-end-clause-unknown g c = c.forget.ensures.unknown
+
+pub returns-in_err-end-clause-found : goal.returns-in_err-end-clause-found
+returns-in_err-end-clause-found g c =
+    let p = err_from_is_err_and c.from_residual-in_err-end.result c.from_residual-in_err-end.ensures.1 in
+    rw p.1 tt
+
+pub returns-in_err-end-clause-power : goal.returns-in_err-end-clause-power
+returns-in_err-end-clause-power g c =
+    let p = err_from_is_err_and c.from_residual-in_err-end.result c.from_residual-in_err-end.ensures.1 in
+    rw p.1 tt
+
+pub returns-in_err-end-clause-room : goal.returns-in_err-end-clause-room
+returns-in_err-end-clause-room g c = c.mount_with_newest.ensures.room
+
+pub returns-in_err-end-clause-holds : goal.returns-in_err-end-clause-holds
+returns-in_err-end-clause-holds g c = c.mount_with_newest.ensures.holds
+
+pub returns-in_err-end-clause-same : goal.returns-in_err-end-clause-same
+returns-in_err-end-clause-same g c = c.forget.ensures.same
+
+pub returns-in_err-end-clause-lies : goal.returns-in_err-end-clause-lies
+returns-in_err-end-clause-lies g c =
+    lies-later c.args.self.now c.forget.new.self (g.F.Flash.state c.args.flash.now) (g.F.Flash.state c.mount_with_newest.new.flash) c.forget.ensures.same c.requires.lies c.in_ok-ring.ensures.mounts.beside.goes (no-ring c.forget.new.self.ring (g.F.Flash.state c.mount_with_newest.new.flash) (not-running c.forget.new.self.ring c.forget.ensures.down))
+
+pub returns-clause-running : goal.returns-clause-running
+returns-clause-running g c = refl
+
+pub returns-clause-idle : goal.returns-clause-idle
+returns-clause-idle g c = c.forget.ensures.none
+
+pub returns-clause-unknown : goal.returns-clause-unknown
+returns-clause-unknown g c = c.forget.ensures.unknown
+
+pub returns-clause-room : goal.returns-clause-room
+returns-clause-room g c = c.mount_with_newest.ensures.room
+
+pub returns-clause-holds : goal.returns-clause-holds
+returns-clause-holds g c = c.mount_with_newest.ensures.holds
+
+pub returns-clause-power : goal.returns-clause-power
+returns-clause-power g c = c.in_ok-ring.ensures.mounts.power
+
+pub returns-clause-same : goal.returns-clause-same
+returns-clause-same g c = record { geometry = c.forget.ensures.same.geometry; place = c.forget.ensures.same.place; bits = c.forget.ensures.same.bits; full = c.forget.ensures.same.full }
+
+pub returns-clause-lies : goal.returns-clause-lies
+returns-clause-lies g c =
+    lies-later c.args.self.now _ (g.F.Flash.state c.args.flash.now) (g.F.Flash.state c.mount_with_newest.new.flash) (record { geometry = c.forget.ensures.same.geometry; place = c.forget.ensures.same.place; bits = c.forget.ensures.same.bits; full = c.forget.ensures.same.full })
+    c.requires.lies c.in_ok-ring.ensures.mounts.beside.goes (this-ring c.in_ok-ring.ring (g.F.Flash.state c.mount_with_newest.new.flash) c.in_ok-ring.ensures.mounts.lies)
+
+pub invariant_of-self : goal.invariant_of-self
+invariant_of-self g c =
+    let t = c.forget.new.self in
+    record {
+      served = t.served;
+      some_blocks = t.some_blocks;
+      few_blocks = t.few_blocks;
+      some_bits = t.some_bits;
+      remembered = t.remembered;
+      page = t.page;
+      blank_rest = t.blank_rest;
+      few = t.few;
+      left = t.left;
+      lies = λ r has.
+          ap (λ (x : Ring). shape_of x) (sym (same_Some c.in_ok-ring.ring r has)) ∙ (c.in_ok-ring.ensures.mounts.shape ∙ ap (λ (x : Geometry). shape_at t.place x) (c.requires.lies.geometry ∙ sym c.forget.ensures.same.geometry));
+    }

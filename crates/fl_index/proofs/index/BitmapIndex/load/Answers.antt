@@ -1,8 +1,14 @@
-use Rattle.std.proofs.Common.{ℕ, List, refl, ◌∙◌, ap, subst}
+use Rattle.std.proofs.Common.{ℕ, List, length, Option, is_some, refl, sym, ◌∙◌, ap, subst}
+use Rattle.std.specs.Option.{option_map, unwrap_or}
+use Rattle.std.proofs.lemmas.Result.{err_from_is_err_and}
 use Rattle.fl_flash.specs.Buffer.{BufferState}
 use Rattle.fl_flash.specs.Flash.{page_at}
+use Rattle.fl_ring.specs.Place.{next_of, oldest_of}
+use Rattle.fl_ring.specs.declared.ring.Ring.{Ring}
+use Rattle.fl_ring.proofs.Exists.{lies_still}
 use Rattle.fl_ring.proofs.CutPages.{same_content}
 use Rattle.fl_index.specs.Loading.{IsLoaded}
+use Rattle.fl_index.proofs.Lies.{lies-later}
 use Rattle.fl_index.proofs.LoadedPages.{loaded-from, loads-well}
 use Rattle.fl_index.proofs.Lookups.{place-same}
 use Rattle.fl_index.proofs.SealEnds.{lies-size}
@@ -20,3 +26,70 @@ returns-clause-stands g c = λ first plan table told stands.
     loads-well t c.take.new.self f new first plan table c.args.number stands (lies-size t f first plan stands.planned lies.geometry lies.within (g.met.F.Flash.reaches c.args.flash.now)) c.requires.kept.0 c.requires.kept.1
     (record { geometry = same.geometry; place = same.place; bits = same.bits; full = same.full }) c.take.ensures.still (same_content f new read.goes read.same) c.take.ensures.others c.take.result
     (subst (λ (l : List ℕ). IsLoaded t c.args.number l c.take.result c.take.new.self) bytes (loaded-from _ t c.args.number c.bytes.result.now c.take.result c.take.new.self refl refl c.take.ensures.loaded))
+
+pub returns-in_err-read-clause-loaded : goal.returns-in_err-read-clause-loaded
+returns-in_err-read-clause-loaded g c =
+    let p = err_from_is_err_and c.from_residual.result c.from_residual.ensures.1 in
+    rw p.1 tt
+
+pub returns-in_err-read-clause-once : goal.returns-in_err-read-clause-once
+returns-in_err-read-clause-once g c =
+    let p = err_from_is_err_and c.from_residual.result c.from_residual.ensures.1 in
+    rw p.1 tt
+
+pub returns-in_err-read-clause-power : goal.returns-in_err-read-clause-power
+returns-in_err-read-clause-power g c =
+    let p = err_from_is_err_and c.from_residual.result c.from_residual.ensures.1 in
+    rw p.1 tt
+
+pub returns-in_err-read-clause-stands : goal.returns-in_err-read-clause-stands
+returns-in_err-read-clause-stands g c = λ first plan table told stands.
+    let p = err_from_is_err_and c.from_residual.result c.from_residual.ensures.1 in
+    rw p.1 tt
+
+pub returns-in_err-read-clause-dropped : goal.returns-in_err-read-clause-dropped
+returns-in_err-read-clause-dropped g c =
+    let p = err_from_is_err_and c.from_residual.result c.from_residual.ensures.1 in
+    rw p.1 (refl, λ n. refl)
+
+pub returns-in_err-read-clause-others : goal.returns-in_err-read-clause-others
+returns-in_err-read-clause-others g c = λ n other. refl
+
+pub returns-in_err-read-clause-ring : goal.returns-in_err-read-clause-ring
+returns-in_err-read-clause-ring g c = (refl, refl, refl)
+
+pub returns-in_err-read-clause-same : goal.returns-in_err-read-clause-same
+returns-in_err-read-clause-same g c = record { geometry = refl; place = refl; bits = refl; full = refl }
+
+pub returns-in_err-read-clause-lies : goal.returns-in_err-read-clause-lies
+returns-in_err-read-clause-lies g c =
+    lies-later c.args.self.now _ (g.F.Flash.state c.args.flash.now) (g.F.Flash.state c.read-read.new.self) (record { geometry = refl; place = refl; bits = refl; full = refl }) c.requires.lies c.in_err-read.ensures.goes (λ r has. lies_still r (g.F.Flash.state c.args.flash.now) (g.F.Flash.state c.read-read.new.self) (c.requires.lies.ring r has) c.in_err-read.ensures.goes)
+
+pub returns-in_err-read-clause-room : goal.returns-in_err-read-clause-room
+returns-in_err-read-clause-room g c = ap (λ (b : BufferState). length b.bytes) c.forget.ensures ∙ c.in_err-read.ensures.size_stays
+
+pub returns-in_err-read-clause-holds : goal.returns-in_err-read-clause-holds
+returns-in_err-read-clause-holds g c = ap (λ (b : BufferState). b.holds) c.forget.ensures
+
+pub returns-clause-room : goal.returns-clause-room
+returns-clause-room g c = ap (λ (b : BufferState). length b.bytes) c.forget.ensures ∙ c.in_ok-read.ensures.size_stays
+
+pub returns-clause-holds : goal.returns-clause-holds
+returns-clause-holds g c = ap (λ (b : BufferState). b.holds) c.forget.ensures
+
+pub take-requires-clause-none : goal.take-requires-clause-none
+take-requires-clause-none g c = refl
+
+pub returns-clause-others : goal.returns-clause-others
+returns-clause-others g c = c.take.ensures.others
+
+pub returns-clause-same : goal.returns-clause-same
+returns-clause-same g c = record { geometry = c.take.ensures.same.geometry; place = c.take.ensures.same.place; bits = c.take.ensures.same.bits; full = c.take.ensures.same.full }
+
+pub returns-clause-lies : goal.returns-clause-lies
+returns-clause-lies g c =
+    lies-later c.args.self.now c.take.new.self (g.F.Flash.state c.args.flash.now) (g.F.Flash.state c.read-read.new.self) (record { geometry = c.take.ensures.same.geometry; place = c.take.ensures.same.place; bits = c.take.ensures.same.bits; full = c.take.ensures.same.full })
+    c.requires.lies c.in_ok-read.ensures.goes (λ r has. lies_still r (g.F.Flash.state c.args.flash.now) (g.F.Flash.state c.read-read.new.self) (c.requires.lies.ring r (sym c.take.ensures.still ∙ has)) c.in_ok-read.ensures.goes)
+
+pub returns-clause-ring : goal.returns-clause-ring
+returns-clause-ring g c = (ap (λ (o : Option Ring). is_some o) c.take.ensures.still, ap (λ (o : Option Ring). unwrap_or (option_map (λ r. oldest_of r) o) 0) c.take.ensures.still, ap (λ (o : Option Ring). unwrap_or (option_map (λ r. next_of r) o) 0) c.take.ensures.still)

@@ -1,8 +1,9 @@
 use Rattle.fl_ring.specs.declared.ring.Ring.{Ring}
-use Rattle.std.proofs.Common.{None, ◌≡◌, Option, ◌+◌, ◌*◌, ◌%◌, ℕ, ◌<◌, ◌≤◌, ◌==◌, cond, List, ◌++◌, Some, Result, Ok, Err, length, take, drop, get_or, set, unwrap_or, arith, refl, sym, ◌∙◌, ap, subst}
+use Rattle.std.proofs.Common.{None, is_some, ◌≡◌, Option, ◌+◌, ◌*◌, ◌%◌, ◌^◌, ℕ, ◌<◌, ◌≤◌, ◌==◌, cond, List, ◌++◌, Some, Result, Ok, Err, length, take, drop, get_or, set, unwrap_or, arith, refl, sym, ◌∙◌, ap, subst}
 use Rattle.std.specs.Prelude.{option_map}
 use Rattle.std.proofs.lemmas.Result.{err_from_is_err_and}
-use Rattle.std.proofs.lemmas.Option.{none-some}
+use Rattle.std.proofs.lemmas.Bool.{true≢false}
+use Rattle.std.proofs.lemmas.Option.{none-some, same_Some}
 use Rattle.fl_base.specs.Bytes.{splice}
 use Rattle.fl_flash.specs.Flash.{page_at}
 use Rattle.fl_flash.specs.declared.flash.FlashFault.{FlashFault}
@@ -15,6 +16,8 @@ use Rattle.fl_ring.specs.Sealing.{Performed, Seals}
 use Rattle.fl_index.specs.Page.{header_bytes}
 use Rattle.fl_index.proofs.WaitingEntries.{written-back, headed-length, rest-headed}
 use Rattle.fl_index.specs.Memory.{next_in, per_page, len_in}
+use Rattle.fl_index.proofs.Lies.{lies-later, no-ring, this-ring}
+use Rattle.fl_index.proofs.Lookups.{next-same}
 use Rattle.fl_index.proofs.HeaderPages.{remembered-behind}
 use Rattle.fl_index.proofs.State.{shape_in, HaveSize}
 use Rattle.fl_index.proofs.SealEnds.{planned-ring, lies-size, seal-ready, seal-breaks, seal-finishes}
@@ -167,3 +170,131 @@ returns-clause-writes g c =
     let t = c.args.self.now in
     let has : t.ring ≡ Some c.in-Some.ring = sym c.take.ensures.value ∙ c.in-Some.is in
     held-writes t.ring c.in-Some.ring 1 1 _ _ has (omega arith) c.in_ok-seal.ensures.writes
+
+pub seal-requires-clause-lies : goal.seal-requires-clause-lies
+seal-requires-clause-lies g c = c.requires.lies.ring c.in-Some.ring (sym c.take.ensures.value ∙ c.in-Some.is)
+
+pub seal-requires-clause-left : goal.seal-requires-clause-left
+seal-requires-clause-left g c = subst (λ n. n + 1 < 2 ^ 32) (next-same c.args.self.now c.in-Some.ring (sym c.take.ensures.value ∙ c.in-Some.is)) c.requires.left
+
+pub returns-in_err-seal-clause-goes : goal.returns-in_err-seal-clause-goes
+returns-in_err-seal-clause-goes g c = c.seal.ensures.goes
+
+pub returns-in_err-seal-clause-same : goal.returns-in_err-seal-clause-same
+returns-in_err-seal-clause-same g c = record { geometry = refl; place = refl; bits = refl; full = refl }
+
+pub returns-in_err-seal-clause-number : goal.returns-in_err-seal-clause-number
+returns-in_err-seal-clause-number g c =
+    let p = err_from_is_err_and c.from_residual.result c.from_residual.ensures.1 in
+    rw p.1 tt
+
+pub returns-in_err-seal-clause-oldest : goal.returns-in_err-seal-clause-oldest
+returns-in_err-seal-clause-oldest g c =
+    let p = err_from_is_err_and c.from_residual.result c.from_residual.ensures.1 in
+    rw p.1 tt
+
+pub returns-in_err-seal-clause-firsts : goal.returns-in_err-seal-clause-firsts
+returns-in_err-seal-clause-firsts g c =
+    let p = err_from_is_err_and c.from_residual.result c.from_residual.ensures.1 in
+    rw p.1 tt
+
+pub returns-in_err-seal-clause-empty : goal.returns-in_err-seal-clause-empty
+returns-in_err-seal-clause-empty g c =
+    let p = err_from_is_err_and c.from_residual.result c.from_residual.ensures.1 in
+    rw p.1 tt
+
+pub returns-in_err-seal-clause-next : goal.returns-in_err-seal-clause-next
+returns-in_err-seal-clause-next g c =
+    let p = err_from_is_err_and c.from_residual.result c.from_residual.ensures.1 in
+    rw p.1 tt
+
+pub returns-in_err-seal-clause-running : goal.returns-in_err-seal-clause-running
+returns-in_err-seal-clause-running g c =
+    let p = err_from_is_err_and c.from_residual.result c.from_residual.ensures.1 in
+    rw p.1 tt
+
+pub returns-in_err-seal-clause-power : goal.returns-in_err-seal-clause-power
+returns-in_err-seal-clause-power g c =
+    let p = err_from_is_err_and c.from_residual.result c.from_residual.ensures.1 in
+    rw p.1 tt
+
+pub returns-in_err-seal-clause-broken : goal.returns-in_err-seal-clause-broken
+returns-in_err-seal-clause-broken g c =
+    let p = err_from_is_err_and c.from_residual.result c.from_residual.ensures.1 in
+    rw p.1 (ap (λ (o : Option Ring). is_some o) c.take.ensures.after)
+
+pub returns-in_err-seal-clause-reads : goal.returns-in_err-seal-clause-reads
+returns-in_err-seal-clause-reads g c = c.seal.ensures.reads
+
+pub returns-in_err-seal-clause-media_reads : goal.returns-in_err-seal-clause-media_reads
+returns-in_err-seal-clause-media_reads g c = c.seal.ensures.media_reads
+
+pub returns-in_err-seal-clause-cause : goal.returns-in_err-seal-clause-cause
+returns-in_err-seal-clause-cause g c =
+    let p = err_from_is_err_and c.from_residual.result c.from_residual.ensures.1 in
+    rw (p.1, p.2) c.in_err-seal.ensures.cause
+
+pub returns-in_err-seal-clause-off : goal.returns-in_err-seal-clause-off
+returns-in_err-seal-clause-off g c =
+    let p = err_from_is_err_and c.from_residual.result c.from_residual.ensures.1 in
+    rw (p.1, p.2) c.in_err-seal.ensures.off
+
+pub invariant_of-self-2-clause-served : goal.invariant_of-self-2-clause-served
+invariant_of-self-2-clause-served g c = c.args.self.now.served
+
+pub invariant_of-self-2-clause-some_blocks : goal.invariant_of-self-2-clause-some_blocks
+invariant_of-self-2-clause-some_blocks g c = c.args.self.now.some_blocks
+
+pub invariant_of-self-2-clause-few_blocks : goal.invariant_of-self-2-clause-few_blocks
+invariant_of-self-2-clause-few_blocks g c = c.args.self.now.few_blocks
+
+pub invariant_of-self-2-clause-some_bits : goal.invariant_of-self-2-clause-some_bits
+invariant_of-self-2-clause-some_bits g c = c.args.self.now.some_bits
+
+pub invariant_of-self-2-clause-remembered : goal.invariant_of-self-2-clause-remembered
+invariant_of-self-2-clause-remembered g c = c.args.self.now.remembered
+
+pub invariant_of-self-2-clause-lies : goal.invariant_of-self-2-clause-lies
+invariant_of-self-2-clause-lies g c = λ r is.
+    ap (λ (x : Ring). shape_of x) (sym (same_Some c.seal.new.self r is)) ∙ (c.seal.ensures.same ∙ c.args.self.now.lies c.in-Some.ring (sym c.take.ensures.value ∙ c.in-Some.is))
+
+pub returns-clause-goes : goal.returns-clause-goes
+returns-clause-goes g c = c.seal.ensures.goes
+
+pub returns-clause-same : goal.returns-clause-same
+returns-clause-same g c = record { geometry = refl; place = refl; bits = refl; full = refl }
+
+pub returns-clause-number : goal.returns-clause-number
+returns-clause-number g c = c.in_ok-seal.ensures.next ∙ sym (ap (λ n. n + 1) (next-same c.args.self.now c.in-Some.ring (sym c.take.ensures.value ∙ c.in-Some.is)))
+
+pub returns-clause-empty : goal.returns-clause-empty
+returns-clause-empty g c = refl
+
+pub returns-clause-next : goal.returns-clause-next
+returns-clause-next g c = refl
+
+pub returns-clause-running : goal.returns-clause-running
+returns-clause-running g c = refl
+
+pub returns-clause-reads : goal.returns-clause-reads
+returns-clause-reads g c = c.seal.ensures.reads
+
+pub returns-clause-media_reads : goal.returns-clause-media_reads
+returns-clause-media_reads g c = c.seal.ensures.media_reads
+
+pub returns-clause-off : goal.returns-clause-off
+returns-clause-off g c = c.in_ok-seal.ensures.off
+
+pub returns-in_err-seal-clause-lies : goal.returns-in_err-seal-clause-lies
+returns-in_err-seal-clause-lies g c =
+    lies-later c.args.self.now _ (g.F.Flash.state c.args.flash.now) (g.F.Flash.state c.seal.new.flash) (record { geometry = refl; place = refl; bits = refl; full = refl }) c.requires.lies c.seal.ensures.goes (no-ring c.take.new.self (g.F.Flash.state c.seal.new.flash) c.take.ensures.after)
+
+pub returns-clause-lies : goal.returns-clause-lies
+returns-clause-lies g c =
+    lies-later c.args.self.now _ (g.F.Flash.state c.args.flash.now) (g.F.Flash.state c.seal.new.flash) (record { geometry = refl; place = refl; bits = refl; full = refl }) c.requires.lies c.seal.ensures.goes (this-ring c.seal.new.self (g.F.Flash.state c.seal.new.flash) c.in_ok-seal.ensures.lies)
+
+pub unreachable-requires : goal.unreachable-requires
+unreachable-requires g c = absurd (true≢false (sym c.requires.running ∙ ap (λ (o : Option Ring). is_some o) (sym c.take.ensures.value ∙ c.in_default.is)))
+
+pub unreachable-unreachable : goal.unreachable-unreachable
+unreachable-unreachable g c = c.unreachable.type_inv
