@@ -1,0 +1,28 @@
+-- The pages of a ring that were looked at, from the newest one back.
+use Rattle.std.proofs.Common.{◌≡◌, inl, inr, ℕ, ◌+◌, ◌-◌, ◌*◌, ◌^◌, ◌<◌, ◌≤◌, true, List, sym, ◌∙◌, arith}
+use Rattle.std.proofs.Math.Nat.{mul-le-mul_right, mul_comm, add-mul}
+use Rattle.std.proofs.lemmas.Bool.{cases_lt, true≢false}
+use Rattle.fl_mark.specs.Mark.{state_of_page}
+use Rattle.fl_ring.specs.Newest.{commits, page_back, NoneBefore}
+use Rattle.fl_ring.specs.Ring.{Shape}
+
+-- a committed page is none of those that were looked at before: the reads so far are no more than it is far back
+pub soon_after : (page : ℕ → List ℕ) (r : Shape) (at back n before after k : ℕ) → NoneBefore page r at back → after ≤ before + n → n ≤ back - 1 + 1 → 1 ≤ k → commits (state_of_page (page (page_back r at k))) ≡ true → after ≤ before + k
+soon_after page r at back n before after k none few most some committed = elim (cases_lt k back) [
+  | inl below ↦ absurd (true≢false (sym committed ∙ none k some below))
+  | inr from ↦ omega (arith, few, most, some, from)
+]
+
+pub below_last : (k back : ℕ) → k < back + 1 → (k ≡ back → ⊥) → k < back
+below_last k back below other = omega (arith, below, other)
+
+-- the numbers of a ring's blocks and pages are small, as its pages lie below 2^32
+pub ends_small : (ends first blocks pages : ℕ) → ends ≤ blocks → 3 ≤ blocks → 2 ≤ pages → (first + blocks) * pages < 2 ^ 32 → ends + 1 < 2 ^ 32
+ends_small ends first blocks pages few some two reach =
+    let up : 2 * (first + blocks) ≤ pages * (first + blocks) = mul-le-mul_right (first + blocks) two in
+    omega (arith, few, some, up, mul_comm pages (first + blocks), reach)
+
+pub place_small : (head first blocks sealed pages : ℕ) → head < blocks → sealed < pages → (first + blocks) * pages < 2 ^ 32 → head * pages + sealed < 2 ^ 32
+place_small head first blocks sealed pages lt below reach =
+    let up : (head + 1) * pages ≤ blocks * pages = mul-le-mul_right pages (omega (arith, lt)) in
+    omega (arith, up, below, add-mul head 1 pages, add-mul first blocks pages, reach)
