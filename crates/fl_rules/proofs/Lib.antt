@@ -9,7 +9,6 @@ pub mod Heads
 pub mod IndexPages
 pub mod LastKeys
 pub mod LooksChangeNothing
-pub mod FewerReads
 pub mod NumbersOfRing
 pub mod OneMoreBody
 pub mod OneMorePage

@@ -7,16 +7,15 @@ use Rattle.fl_frame.specs.Reads.{OnlyReads}
 use Rattle.fl_frame.proofs.ReadsInTurn.{looks_by, more_reads, no_reads, same_page, told_still}
 use Rattle.fl_mark.specs.declared.page_state.PageState.{PageState}
 use Rattle.fl_ring.specs.Looking.{state_at}
-use Rattle.fl_ring.proofs.ReadsInTurn.{same_state}
-use Rattle.fl_rules.proofs.FewerReads.{few_reads}
+use Rattle.fl_ring.proofs.ReadsInTurn.{same_state, fewer_reads}
 use Rattle.fl_rules.proofs.LooksChangeNothing.{fails_later}
 
 module _ (a b c : FlashState) (i n : ℕ) (before : OnlyReads a i b) where
   pub one_read : OnlyReads b 1 c → i < n → OnlyReads a n c
-  one_read here lt = few_reads a c (i + 1) n (more_reads a b c i 1 before here) (omega (arith, lt))
+  one_read here lt = fewer_reads a c (i + 1) n (more_reads a b c i 1 before here) (omega (arith, lt))
 
   pub no_read : i < n → OnlyReads a n b
-  no_read lt = few_reads a b i n before (omega (arith, lt))
+  no_read lt = fewer_reads a b i n before (omega (arith, lt))
 
   pub read_fails : (e : FlashFault) → ReadFails b e c → ReadFails a e c
   read_fails e fails = fails_later a b c e (looks_by a b i before) fails
@@ -30,7 +29,7 @@ module _ (a b c : FlashState) (i n : ℕ) (before : OnlyReads a i b) where
     state_read s is = is (told_still a b i before told) ∙ same_state a b i p before ∙ ap (state_at a) same
 
 pub none_read : (f : FlashState) (n : ℕ) → OnlyReads f n f
-none_read f n = few_reads f f 0 n (no_reads f) (omega arith)
+none_read f n = fewer_reads f f 0 n (no_reads f) (omega arith)
 
 -- bounds that say nothing
 pub one_of : (n : ℕ) → 1 ≤ 1 + n

@@ -3,12 +3,12 @@ use Rattle.fl_flash.specs.Flash.{page_at}
 use Rattle.fl_frame.specs.Reads.{OnlyReads}
 use Rattle.fl_ring.specs.Place.{shape_of}
 use Rattle.fl_ring.proofs.Founds.{same_pages}
+use Rattle.fl_ring.proofs.ReadsInTurn.{fewer_reads}
 use Rattle.fl_frame.proofs.ReadsInTurn.{more_reads, told_still}
 use Rattle.fl_rules.specs.Claims.{FailsFirst}
 use Rattle.fl_check.specs.Entries.{over, kept_below, AreSeen, HasEntries}
 use Rattle.fl_check.specs.declared.rule_6_entry.Seen.{Seen}
 use Rattle.fl_check.proofs.ListedPages.{none_seen, all_entered, overrun}
-use Rattle.fl_rules.proofs.FewerReads.{few_reads}
 use Rattle.std.proofs.lemmas.Result.{err_from_is_err_and}
 use Rattle.fl_rules.proofs.OneMorePage.{none_read, read_fails}
 use Rattle.fl_check.proofs.rule_6_entry.first_misentered.Goals as goal
@@ -37,7 +37,7 @@ loop-i-preserved g c =
     let same = same_pages f before _ reads in
     let few = subst (λ (o : Option Seen). IfSome o (λ s. (OnlyReads before (1 + (kept_below l.rows s.end - kept_below l.rows c.loop-i.seen.end)) after) × (c.loop-i.seen.end ≤ s.end))) c.in-Some.is c.in_ok-step.ensures.few_reads in
     record {
-      reads = few_reads f after _ _ (more_reads f before after _ _ reads few.0) (omega (arith, few.1));
+      reads = fewer_reads f after _ _ (more_reads f before after _ _ reads few.0) (omega (arith, few.1));
       listing = c.see_listing.ensures.listing;
       room = c.see_listing.ensures.room;
       few = omega (arith, c.loop-i-test.true);
@@ -51,7 +51,7 @@ pub returns-in-None-clause-reads : goal.returns-in-None-clause-reads
 returns-in-None-clause-reads g c =
     let f = g.F.Flash.state c.args.flash.now in
     let after = g.F.Flash.state c.see_listing.new.flash in
-    few_reads f after _ _ (more_reads f (g.F.Flash.state c.loop-i.flash) after _ _ c.loop-i.invariant.reads c.see_listing.ensures.reads) (omega (arith, c.loop-i-test.true))
+    fewer_reads f after _ _ (more_reads f (g.F.Flash.state c.loop-i.flash) after _ _ c.loop-i.invariant.reads c.see_listing.ensures.reads) (omega (arith, c.loop-i-test.true))
 
 pub returns-in-None-clause-some : goal.returns-in-None-clause-some
 returns-in-None-clause-some g c =
@@ -68,7 +68,7 @@ returns-in-None-clause-some g c =
 
 pub returns-then-next-seen-clause-reads : goal.returns-then-next-seen-clause-reads
 returns-then-next-seen-clause-reads g c =
-    few_reads (g.F.Flash.state c.args.flash.now) (g.F.Flash.state c.loop-i.flash) _ _ c.loop-i.invariant.reads (omega (arith, c.loop-i.invariant.few))
+    fewer_reads (g.F.Flash.state c.args.flash.now) (g.F.Flash.state c.loop-i.flash) _ _ c.loop-i.invariant.reads (omega (arith, c.loop-i.invariant.few))
 
 pub returns-then-next-seen-clause-some : goal.returns-then-next-seen-clause-some
 returns-then-next-seen-clause-some g c =
@@ -86,7 +86,7 @@ returns-then-next-seen-clause-within g c =
 
 pub returns-clause-reads : goal.returns-clause-reads
 returns-clause-reads g c =
-    few_reads (g.F.Flash.state c.args.flash.now) (g.F.Flash.state c.loop-i.flash) _ _ c.loop-i.invariant.reads (omega (arith, c.loop-i.invariant.few))
+    fewer_reads (g.F.Flash.state c.args.flash.now) (g.F.Flash.state c.loop-i.flash) _ _ c.loop-i.invariant.reads (omega (arith, c.loop-i.invariant.few))
 
 pub returns-clause-none : goal.returns-clause-none
 returns-clause-none g c =

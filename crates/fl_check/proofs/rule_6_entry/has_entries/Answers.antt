@@ -7,10 +7,10 @@ use Rattle.fl_ring.specs.Place.{shape_of}
 use Rattle.fl_ring.proofs.Founds.{same_pages}
 use Rattle.fl_frame.proofs.ReadsInTurn.{more_reads, told_still}
 use Rattle.fl_check.specs.Entries.{over, IsEntry}
-use Rattle.fl_rules.proofs.FewerReads.{few_reads}
 use Rattle.std.proofs.lemmas.Result.{err_from_is_err_and}
 use Rattle.fl_rules.proofs.OneMorePage.{read_fails, all_below}
 use Rattle.fl_ring.proofs.Exists.{lies_still}
+use Rattle.fl_ring.proofs.ReadsInTurn.{fewer_reads}
 use Rattle.fl_rules.specs.Claims.{AllBelow}
 use Rattle.fl_check.proofs.rule_6_entry.has_entries.Goals as goal
 
@@ -22,7 +22,7 @@ is_entry-requires-clause-entry g c =
 pub returns-then-not-is-clause-reads : goal.returns-then-not-is-clause-reads
 returns-then-not-is-clause-reads g c =
     let f = g.F.Flash.state c.args.flash.now in
-    few_reads f (g.F.Flash.state c.is_entry.new.flash) _ _ (more_reads f (g.F.Flash.state c.loop-j.flash) (g.F.Flash.state c.is_entry.new.flash) _ _ c.loop-j.invariant.reads c.is_entry.ensures.reads)
+    fewer_reads f (g.F.Flash.state c.is_entry.new.flash) _ _ (more_reads f (g.F.Flash.state c.loop-j.flash) (g.F.Flash.state c.is_entry.new.flash) _ _ c.loop-j.invariant.reads c.is_entry.ensures.reads)
     (omega (arith, c.loop-j-test.true))
 
 pub returns-then-not-is-clause-no : goal.returns-then-not-is-clause-no
@@ -38,7 +38,7 @@ loop-j-preserved g c =
     let before = g.F.Flash.state c.loop-j.flash in
     let reads = c.loop-j.invariant.reads in
     record {
-      reads = few_reads f (g.F.Flash.state c.is_entry.new.flash) _ _ (more_reads f before (g.F.Flash.state c.is_entry.new.flash) _ _ reads c.is_entry.ensures.reads) (omega arith);
+      reads = fewer_reads f (g.F.Flash.state c.is_entry.new.flash) _ _ (more_reads f before (g.F.Flash.state c.is_entry.new.flash) _ _ reads c.is_entry.ensures.reads) (omega arith);
       room = c.is_entry.ensures.room;
       entries = λ told i lt. elim (cases_eq i c.loop-j.j) [
         | inl same ↦
@@ -100,7 +100,7 @@ is_entry-requires-clause-short g c = c.requires.short
 pub returns-in_err-is-clause-reads : goal.returns-in_err-is-clause-reads
 returns-in_err-is-clause-reads g c =
     let f = g.F.Flash.state c.args.flash.now in
-    few_reads f (g.F.Flash.state c.is_entry.new.flash) _ _ (more_reads f (g.F.Flash.state c.loop-j.flash) (g.F.Flash.state c.is_entry.new.flash) _ _ c.loop-j.invariant.reads c.is_entry.ensures.reads)
+    fewer_reads f (g.F.Flash.state c.is_entry.new.flash) _ _ (more_reads f (g.F.Flash.state c.loop-j.flash) (g.F.Flash.state c.is_entry.new.flash) _ _ c.loop-j.invariant.reads c.is_entry.ensures.reads)
     (omega (arith, c.loop-j-test.true))
 
 pub returns-then-not-is-clause-yes : goal.returns-then-not-is-clause-yes

@@ -8,11 +8,11 @@ use Rattle.fl_ring.specs.Newest.{commits}
 use Rattle.fl_ring.specs.Place.{shape_of}
 use Rattle.fl_ring.proofs.Exists.{lies_exists}
 use Rattle.fl_ring.proofs.Founds.{same_pages}
+use Rattle.fl_ring.proofs.ReadsInTurn.{fewer_reads}
 use Rattle.fl_frame.proofs.ReadsInTurn.{more_reads, told_still}
 use Rattle.fl_check.specs.Entries.{over, entries_in, kept_below}
 use Rattle.fl_rules.specs.declared.numbering.Numbering.{Numbering}
 use Rattle.fl_check.proofs.ListedPages.{one_more, descends, misentered, listing_more, entries_move}
-use Rattle.fl_rules.proofs.FewerReads.{few_reads}
 use Rattle.std.proofs.lemmas.Result.{err_from_is_err_and}
 use Rattle.fl_rules.proofs.OneMorePage.{one_of, at_most, behind, one_behind, read_fails}
 use Rattle.fl_check.proofs.rule_6_entry.see_listing.Goals as goal
@@ -38,7 +38,7 @@ returns-then-first-seen-clause-none g c =
 -- the reads of the page and of those that it lists, where it begins behind what was listed
 listing-reads : (f mid after : FlashState) (rows : Numbering) (held : List ℕ) (first number many end : ℕ) → OnlyReads f 1 mid → OnlyReads mid (kept_below rows (page_first held + many) - kept_below rows (page_first held)) after →
     first ≡ number → number ≡ page_first held → end ≤ first → OnlyReads f (1 + (rows.marks.kept - kept_below rows end)) after
-listing-reads f mid after rows held first number many end one listed is number_is le = few_reads f after (1 + _) _ (more_reads f mid after 1 _ one listed) (omega (arith, is, number_is, le))
+listing-reads f mid after rows held first number many end one listed is number_is le = fewer_reads f after (1 + _) _ (more_reads f mid after 1 _ one listed) (omega (arith, is, number_is, le))
 
 pub returns-then-not-has-clause-reads : goal.returns-then-not-has-clause-reads
 returns-then-not-has-clause-reads g c =
@@ -73,7 +73,7 @@ returns-clause-reads g c =
 pub returns-clause-few_reads : goal.returns-clause-few_reads
 returns-clause-few_reads g c =
     let f = g.F.Flash.state c.args.flash.now in (
-      few_reads f (g.F.Flash.state c.has_entries.new.flash) (1 + _) _ (more_reads f (g.F.Flash.state c.look.new.flash) (g.F.Flash.state c.has_entries.new.flash) 1 _ c.look.ensures.reads c.has_entries.ensures.reads)
+      fewer_reads f (g.F.Flash.state c.has_entries.new.flash) (1 + _) _ (more_reads f (g.F.Flash.state c.look.new.flash) (g.F.Flash.state c.has_entries.new.flash) 1 _ c.look.ensures.reads c.has_entries.ensures.reads)
           (omega (arith, c.from-first.ensures, c.from.ensures, c.first_in.ensures, c.if-first-seen.false)),
       omega (arith, c.if-first-seen.false),
     )
@@ -95,7 +95,7 @@ returns-clause-some g c =
     (same_pages f mid 1 c.look.ensures.reads) bytes many (c.in_ok-has.ensures.yes c.if-not-has.false (told_still f mid 1 c.look.ensures.reads told)))
 
 pub returns-in_err-state-clause-reads : goal.returns-in_err-state-clause-reads
-returns-in_err-state-clause-reads g c = few_reads (g.F.Flash.state c.args.flash.now) (g.F.Flash.state c.look.new.flash) 1 (1 + _) c.look.ensures.reads (one_of _)
+returns-in_err-state-clause-reads g c = fewer_reads (g.F.Flash.state c.args.flash.now) (g.F.Flash.state c.look.new.flash) 1 (1 + _) c.look.ensures.reads (one_of _)
 
 pub returns-in_err-state-clause-listing : goal.returns-in_err-state-clause-listing
 returns-in_err-state-clause-listing g c = c.look.ensures.room ∙ c.requires.listing
@@ -129,10 +129,10 @@ returns-in_err-state-clause-last g c =
     rw p.1 tt
 
 pub returns-then-not-is_committed-clause-reads : goal.returns-then-not-is_committed-clause-reads
-returns-then-not-is_committed-clause-reads g c = few_reads (g.F.Flash.state c.args.flash.now) (g.F.Flash.state c.look.new.flash) 1 (1 + _) c.look.ensures.reads (one_of _)
+returns-then-not-is_committed-clause-reads g c = fewer_reads (g.F.Flash.state c.args.flash.now) (g.F.Flash.state c.look.new.flash) 1 (1 + _) c.look.ensures.reads (one_of _)
 
 pub returns-then-not-is_committed-clause-few_reads : goal.returns-then-not-is_committed-clause-few_reads
-returns-then-not-is_committed-clause-few_reads g c = (few_reads (g.F.Flash.state c.args.flash.now) (g.F.Flash.state c.look.new.flash) 1 (1 + _) c.look.ensures.reads (one_of _), at_most _)
+returns-then-not-is_committed-clause-few_reads g c = (fewer_reads (g.F.Flash.state c.args.flash.now) (g.F.Flash.state c.look.new.flash) 1 (1 + _) c.look.ensures.reads (one_of _), at_most _)
 
 pub returns-then-not-is_committed-clause-listing : goal.returns-then-not-is_committed-clause-listing
 returns-then-not-is_committed-clause-listing g c = c.look.ensures.room ∙ c.requires.listing
@@ -150,7 +150,7 @@ pub returns-then-not-is_committed-clause-fails : goal.returns-then-not-is_commit
 returns-then-not-is_committed-clause-fails g c = tt
 
 pub returns-then-first-seen-clause-reads : goal.returns-then-first-seen-clause-reads
-returns-then-first-seen-clause-reads g c = few_reads (g.F.Flash.state c.args.flash.now) (g.F.Flash.state c.look.new.flash) 1 (1 + _) c.look.ensures.reads (one_of _)
+returns-then-first-seen-clause-reads g c = fewer_reads (g.F.Flash.state c.args.flash.now) (g.F.Flash.state c.look.new.flash) 1 (1 + _) c.look.ensures.reads (one_of _)
 
 pub returns-then-first-seen-clause-few_reads : goal.returns-then-first-seen-clause-few_reads
 returns-then-first-seen-clause-few_reads g c = tt

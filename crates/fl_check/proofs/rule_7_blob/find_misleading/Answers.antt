@@ -8,13 +8,13 @@ use Rattle.fl_page.specs.Page.{IsGoodPage, rows_in}
 use Rattle.fl_ring.specs.Newest.{commits}
 use Rattle.fl_ring.specs.Place.{shape_of}
 use Rattle.fl_ring.proofs.Exists.{page_exists}
+use Rattle.fl_ring.proofs.ReadsInTurn.{fewer_reads}
 use Rattle.fl_frame.proofs.ReadsInTurn.{more_reads, same_page, told_still}
 use Rattle.fl_schema.specs.Schema.{layout_of}
 use Rattle.fl_rules.specs.Marks.{kept_page}
 use Rattle.fl_rules.specs.References.{RowsLead}
 use Rattle.fl_rules.proofs.OneMorePage.{one_read, read_fails, some_back, few_back}
 use Rattle.fl_check.proofs.RowsLead.{page_not, page_next, committed_as}
-use Rattle.fl_rules.proofs.FewerReads.{few_reads}
 use Rattle.fl_check.proofs.rule_7_blob.find_misleading.Goals as goal
 use Rattle.fl_check.proofs.rule_7_blob.find_misleading.Goals.{then-is_committed+else-not-page_leads, else-is_committed}
 
@@ -119,7 +119,7 @@ pub returns-then-not-page_leads-clause-fails : goal.returns-then-not-page_leads-
 returns-then-not-page_leads-clause-fails g c = tt
 
 pub returns-clause-reads : goal.returns-clause-reads
-returns-clause-reads g c = few_reads (g.F.Flash.state c.args.flash.now) (g.F.Flash.state c.loop-i.flash) c.loop-i.i c.args.m.kept c.loop-i.invariant.reads c.loop-i.auto.i-end
+returns-clause-reads g c = fewer_reads (g.F.Flash.state c.args.flash.now) (g.F.Flash.state c.loop-i.flash) c.loop-i.i c.args.m.kept c.loop-i.invariant.reads c.loop-i.auto.i-end
 
 pub returns-clause-some : goal.returns-clause-some
 returns-clause-some g c = λ told forms measured. tt

@@ -3,11 +3,10 @@ use Rattle.fl_flash.specs.Flash.{page_at}
 use Rattle.fl_ring.specs.Looking.{state_at}
 use Rattle.fl_ring.specs.Place.{shape_of}
 use Rattle.fl_ring.proofs.Exists.{page_exists}
-use Rattle.fl_ring.proofs.ReadsInTurn.{same_state}
+use Rattle.fl_ring.proofs.ReadsInTurn.{same_state, fewer_reads}
 use Rattle.fl_frame.proofs.ReadsInTurn.{more_reads, told_still}
 use Rattle.fl_rules.proofs.Heads.{stepped_for}
 use Rattle.std.proofs.lemmas.Result.{err_from_is_err_and}
-use Rattle.fl_rules.proofs.FewerReads.{few_reads}
 use Rattle.fl_rules.proofs.OneMorePage.{one_read, read_fails, at_most}
 use Rattle.fl_rules.proofs.marks.read_head.Goals as goal
 
@@ -84,7 +83,7 @@ returns-then-not-step-clause-fails g c = tt
 
 pub returns-clause-reads : goal.returns-clause-reads
 returns-clause-reads g c =
-    few_reads (g.F.Flash.state c.args.flash.now) (g.F.Flash.state c.loop-i.flash) c.loop-i.i _ c.loop-i.invariant.reads (subst (λ (k : ℕ). c.loop-i.i ≤ k) c.per_block-count.ensures.pages c.loop-i.auto.i-end)
+    fewer_reads (g.F.Flash.state c.args.flash.now) (g.F.Flash.state c.loop-i.flash) c.loop-i.i _ c.loop-i.invariant.reads (subst (λ (k : ℕ). c.loop-i.i ≤ k) c.per_block-count.ensures.pages c.loop-i.auto.i-end)
 
 pub returns-clause-room : goal.returns-clause-room
 returns-clause-room g c = c.loop-i.invariant.room

@@ -5,12 +5,12 @@ use Rattle.fl_frame.proofs.ReadsInTurn.{looks_by, more_reads}
 use Rattle.fl_ring.specs.Place.{shape_of}
 use Rattle.fl_ring.specs.Ring.{room}
 use Rattle.fl_ring.proofs.Exists.{lies_still}
+use Rattle.fl_ring.proofs.ReadsInTurn.{fewer_reads}
 use Rattle.fl_rules.specs.Numbering.{BreaksStates, BreaksNumbers, BreaksFirst, numbering_reads}
 use Rattle.fl_rules.specs.Numbers.{HaveNumbers, NumbersBreak}
 use Rattle.fl_rules.specs.States.{HaveStates, StatesBreak}
 use Rattle.fl_rules.specs.declared.rule.Breach.{Breach}
 use Rattle.fl_rules.specs.declared.rule.Rule.{Rule}
-use Rattle.fl_rules.proofs.FewerReads.{few_reads}
 use Rattle.fl_rules.proofs.Results.{broken_so, flash_so, no_fault, same_fault}
 use Rattle.fl_rules.proofs.LooksChangeNothing.{same_pages, seen, told_still, fails_later}
 use Rattle.fl_rules.proofs.numbering.check_numbering.Goals as goal
@@ -33,7 +33,7 @@ returns-in_err-marks-clause-reads g c =
     let f = g.F.Flash.state c.args.flash.now in
     let second = g.F.Flash.state c.read_marks.new.flash in
     let r = shape_of c.args.ring.now in
-    few_reads f second (r.blocks + r.per_block) (numbering_reads r) c.read_marks.ensures.reads (marks-few r.blocks r.per_block (room r))
+    fewer_reads f second (r.blocks + r.per_block) (numbering_reads r) c.read_marks.ensures.reads (marks-few r.blocks r.per_block (room r))
 
 pub returns-in_err-marks-clause-room : goal.returns-in_err-marks-clause-room
 returns-in_err-marks-clause-room g c = c.read_marks.ensures.room
@@ -82,7 +82,7 @@ returns-in_err-check_states-clause-reads g c =
     let r = shape_of c.args.ring.now in
     let third = g.F.Flash.state c.check_states.new.flash in
     let m = c.in_ok-marks.marks in
-    few_reads f third _ (numbering_reads r) (more_reads f second third (r.blocks + r.per_block) (m.kept + (r.per_block + 1)) c.read_marks.ensures.reads c.check_states.ensures.reads)
+    fewer_reads f third _ (numbering_reads r) (more_reads f second third (r.blocks + r.per_block) (m.kept + (r.per_block + 1)) c.read_marks.ensures.reads c.check_states.ensures.reads)
     (states-few r.blocks r.per_block (room r) m.kept c.in_ok-marks.ensures.within.kept)
 
 pub returns-in_err-check_states-clause-room : goal.returns-in_err-check_states-clause-room
@@ -149,7 +149,7 @@ returns-in_err-next-clause-reads g c =
     let third = g.F.Flash.state c.check_states.new.flash in
     let m = c.in_ok-marks.marks in
     let last = g.F.Flash.state c.check_numbers.new.flash in
-    few_reads f last _ (numbering_reads r) (more_reads f third last _ (m.kept + m.kept) (more_reads f second third (r.blocks + r.per_block) (m.kept + (r.per_block + 1)) c.read_marks.ensures.reads c.check_states.ensures.reads) c.check_numbers.ensures.reads)
+    fewer_reads f last _ (numbering_reads r) (more_reads f third last _ (m.kept + m.kept) (more_reads f second third (r.blocks + r.per_block) (m.kept + (r.per_block + 1)) c.read_marks.ensures.reads c.check_states.ensures.reads) c.check_numbers.ensures.reads)
     (numbers-few r.blocks r.per_block (room r) m.kept c.in_ok-marks.ensures.within.kept)
 
 pub returns-in_err-next-clause-room : goal.returns-in_err-next-clause-room
@@ -210,7 +210,7 @@ returns-clause-reads g c =
     let third = g.F.Flash.state c.check_states.new.flash in
     let m = c.in_ok-marks.marks in
     let last = g.F.Flash.state c.check_numbers.new.flash in
-    few_reads f last _ (numbering_reads r) (more_reads f third last _ (m.kept + m.kept) (more_reads f second third (r.blocks + r.per_block) (m.kept + (r.per_block + 1)) c.read_marks.ensures.reads c.check_states.ensures.reads) c.check_numbers.ensures.reads)
+    fewer_reads f last _ (numbering_reads r) (more_reads f third last _ (m.kept + m.kept) (more_reads f second third (r.blocks + r.per_block) (m.kept + (r.per_block + 1)) c.read_marks.ensures.reads c.check_states.ensures.reads) c.check_numbers.ensures.reads)
     (numbers-few r.blocks r.per_block (room r) m.kept c.in_ok-marks.ensures.within.kept)
 
 pub returns-clause-room : goal.returns-clause-room

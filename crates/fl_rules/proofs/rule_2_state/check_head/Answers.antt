@@ -3,8 +3,8 @@ use Rattle.std.proofs.lemmas.Bool.{not-false}
 use Rattle.std.proofs.lemmas.Result.{err_from_is_err_and}
 use Rattle.fl_flash.specs.Flash.{page_at}
 use Rattle.fl_ring.specs.Place.{shape_of}
+use Rattle.fl_ring.proofs.ReadsInTurn.{fewer_reads}
 use Rattle.fl_rules.proofs.Breaks.{written_some, begun_for}
-use Rattle.fl_rules.proofs.FewerReads.{few_reads}
 use Rattle.fl_rules.proofs.OneMorePage.{none_read}
 use Rattle.fl_rules.proofs.rule_2_state.check_head.Goals as goal
 
@@ -53,7 +53,7 @@ pub first_written-requires-clause-place : goal.first_written-requires-clause-pla
 first_written-requires-clause-place g c = c.requires.within.at
 
 pub returns-in_err-written-clause-reads : goal.returns-in_err-written-clause-reads
-returns-in_err-written-clause-reads g c = few_reads (g.F.Flash.state c.args.flash.now) (g.F.Flash.state c.first_written.new.flash) (c.per_block-count.result + 1) ((shape_of c.args.ring.now).per_block + 1) c.first_written.ensures.reads (next-few c.per_block-count.ensures.pages)
+returns-in_err-written-clause-reads g c = fewer_reads (g.F.Flash.state c.args.flash.now) (g.F.Flash.state c.first_written.new.flash) (c.per_block-count.result + 1) ((shape_of c.args.ring.now).per_block + 1) c.first_written.ensures.reads (next-few c.per_block-count.ensures.pages)
 
 pub returns-in_err-written-clause-room : goal.returns-in_err-written-clause-room
 returns-in_err-written-clause-room g c = c.first_written.ensures.room
@@ -74,13 +74,13 @@ returns-in_err-written-clause-fails g c =
     rw (p.1, p.2) c.in_err-written.ensures.fails
 
 pub returns-in-Some-clause-reads : goal.returns-in-Some-clause-reads
-returns-in-Some-clause-reads g c = few_reads (g.F.Flash.state c.args.flash.now) (g.F.Flash.state c.first_written.new.flash) (c.per_block-count.result + 1) ((shape_of c.args.ring.now).per_block + 1) c.first_written.ensures.reads (next-few c.per_block-count.ensures.pages)
+returns-in-Some-clause-reads g c = fewer_reads (g.F.Flash.state c.args.flash.now) (g.F.Flash.state c.first_written.new.flash) (c.per_block-count.result + 1) ((shape_of c.args.ring.now).per_block + 1) c.first_written.ensures.reads (next-few c.per_block-count.ensures.pages)
 
 pub returns-in-Some-clause-room : goal.returns-in-Some-clause-room
 returns-in-Some-clause-room g c = c.first_written.ensures.room
 
 pub returns-in-None-clause-reads : goal.returns-in-None-clause-reads
-returns-in-None-clause-reads g c = few_reads (g.F.Flash.state c.args.flash.now) (g.F.Flash.state c.first_written.new.flash) (c.per_block-count.result + 1) ((shape_of c.args.ring.now).per_block + 1) c.first_written.ensures.reads (next-few c.per_block-count.ensures.pages)
+returns-in-None-clause-reads g c = fewer_reads (g.F.Flash.state c.args.flash.now) (g.F.Flash.state c.first_written.new.flash) (c.per_block-count.result + 1) ((shape_of c.args.ring.now).per_block + 1) c.first_written.ensures.reads (next-few c.per_block-count.ensures.pages)
 
 pub returns-in-None-clause-room : goal.returns-in-None-clause-room
 returns-in-None-clause-room g c = c.first_written.ensures.room

@@ -9,8 +9,8 @@ use Rattle.fl_rules.specs.States.{IsSealed, StatesBreak, HaveStates}
 use Rattle.fl_rules.proofs.Stops.{if_broken, if_fine}
 use Rattle.fl_frame.specs.Causes.{ReadFails}
 use Rattle.fl_ring.proofs.Exists.{lies_still}
+use Rattle.fl_ring.proofs.ReadsInTurn.{fewer_reads}
 use Rattle.fl_rules.specs.Stop.{IfFlash}
-use Rattle.fl_rules.proofs.FewerReads.{few_reads}
 use Rattle.fl_rules.proofs.Results.{flash_so}
 use Rattle.fl_rules.proofs.LooksChangeNothing.{fails_later}
 use Rattle.fl_rules.proofs.OneMorePage.{few_back, more_of}
@@ -41,7 +41,7 @@ pub first_unsealed-requires-clause-within : goal.first_unsealed-requires-clause-
 first_unsealed-requires-clause-within g c = c.requires.within
 
 pub returns-in_err-unsealed-clause-reads : goal.returns-in_err-unsealed-clause-reads
-returns-in_err-unsealed-clause-reads g c = few_reads (g.F.Flash.state c.args.flash.now) (g.F.Flash.state c.first_unsealed.new.flash) c.args.m.kept (c.args.m.kept + ((shape_of c.args.ring.now).per_block + 1)) c.first_unsealed.ensures.reads (more_of c.args.m.kept ((shape_of c.args.ring.now).per_block + 1))
+returns-in_err-unsealed-clause-reads g c = fewer_reads (g.F.Flash.state c.args.flash.now) (g.F.Flash.state c.first_unsealed.new.flash) c.args.m.kept (c.args.m.kept + ((shape_of c.args.ring.now).per_block + 1)) c.first_unsealed.ensures.reads (more_of c.args.m.kept ((shape_of c.args.ring.now).per_block + 1))
 
 pub returns-in_err-unsealed-clause-room : goal.returns-in_err-unsealed-clause-room
 returns-in_err-unsealed-clause-room g c = c.first_unsealed.ensures.room
@@ -77,7 +77,7 @@ pub check_head-requires-clause-within : goal.check_head-requires-clause-within
 check_head-requires-clause-within g c = c.requires.within
 
 pub returns-in-Some-clause-reads : goal.returns-in-Some-clause-reads
-returns-in-Some-clause-reads g c = few_reads (g.F.Flash.state c.args.flash.now) (g.F.Flash.state c.first_unsealed.new.flash) c.args.m.kept (c.args.m.kept + ((shape_of c.args.ring.now).per_block + 1)) c.first_unsealed.ensures.reads (more_of c.args.m.kept ((shape_of c.args.ring.now).per_block + 1))
+returns-in-Some-clause-reads g c = fewer_reads (g.F.Flash.state c.args.flash.now) (g.F.Flash.state c.first_unsealed.new.flash) c.args.m.kept (c.args.m.kept + ((shape_of c.args.ring.now).per_block + 1)) c.first_unsealed.ensures.reads (more_of c.args.m.kept ((shape_of c.args.ring.now).per_block + 1))
 
 pub returns-in-Some-clause-room : goal.returns-in-Some-clause-room
 returns-in-Some-clause-room g c = c.first_unsealed.ensures.room

@@ -5,13 +5,12 @@ use Rattle.fl_ring.specs.Head.{seals}
 use Rattle.fl_ring.specs.Looking.{state_at}
 use Rattle.fl_ring.specs.Place.{shape_of}
 use Rattle.fl_ring.proofs.Exists.{page_exists}
-use Rattle.fl_ring.proofs.ReadsInTurn.{same_state}
+use Rattle.fl_ring.proofs.ReadsInTurn.{same_state, fewer_reads}
 use Rattle.fl_frame.proofs.ReadsInTurn.{more_reads, told_still}
 use Rattle.fl_rules.specs.Marks.{kept_page}
 use Rattle.fl_flash.specs.Flash.{page_at}
 use Rattle.fl_rules.specs.Claims.{AllBelow}
 use Rattle.fl_rules.specs.States.{IsSealed}
-use Rattle.fl_rules.proofs.FewerReads.{few_reads}
 use Rattle.fl_rules.proofs.OneMorePage.{one_read, read_fails, some_back, few_back, all_below}
 use Rattle.fl_rules.proofs.rule_2_state.first_unsealed.Goals as goal
 
@@ -82,7 +81,7 @@ pub returns-then-not-is_sealed-clause-within : goal.returns-then-not-is_sealed-c
 returns-then-not-is_sealed-clause-within g c = c.loop-i-test.true
 
 pub returns-clause-reads : goal.returns-clause-reads
-returns-clause-reads g c = few_reads (g.F.Flash.state c.args.flash.now) (g.F.Flash.state c.loop-i.flash) c.loop-i.i c.args.m.kept c.loop-i.invariant.reads c.loop-i.auto.i-end
+returns-clause-reads g c = fewer_reads (g.F.Flash.state c.args.flash.now) (g.F.Flash.state c.loop-i.flash) c.loop-i.i c.args.m.kept c.loop-i.invariant.reads c.loop-i.auto.i-end
 
 pub returns-clause-room : goal.returns-clause-room
 returns-clause-room g c = c.loop-i.invariant.room

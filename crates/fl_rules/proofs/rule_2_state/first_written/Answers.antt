@@ -9,8 +9,8 @@ use Rattle.fl_ring.specs.Looking.{state_at}
 use Rattle.fl_ring.specs.Place.{shape_of}
 use Rattle.fl_ring.specs.Ring.{Shape}
 use Rattle.fl_ring.proofs.Exists.{page_exists}
+use Rattle.fl_ring.proofs.ReadsInTurn.{fewer_reads}
 use Rattle.fl_rules.specs.States.{IsBlankAfter, AreBlank, page_after}
-use Rattle.fl_rules.proofs.FewerReads.{few_reads}
 use Rattle.fl_rules.proofs.OneMorePage.{none_read, one_read, read_fails, state_read}
 use Rattle.fl_rules.proofs.rule_2_state.first_written.Goals as goal
 
@@ -125,7 +125,7 @@ pub returns-then-not-is_blank-clause-fails : goal.returns-then-not-is_blank-clau
 returns-then-not-is_blank-clause-fails g c = tt
 
 pub returns-clause-reads : goal.returns-clause-reads
-returns-clause-reads g c = few_reads (g.F.Flash.state c.args.flash.now) (g.F.Flash.state c.loop-j.flash) c.loop-j.j c.args.to c.loop-j.invariant.reads (c.loop-j.auto.j-end c.requires.ordered)
+returns-clause-reads g c = fewer_reads (g.F.Flash.state c.args.flash.now) (g.F.Flash.state c.loop-j.flash) c.loop-j.j c.args.to c.loop-j.invariant.reads (c.loop-j.auto.j-end c.requires.ordered)
 
 pub returns-clause-room : goal.returns-clause-room
 returns-clause-room g c = c.loop-j.invariant.room

@@ -9,9 +9,9 @@ use Rattle.fl_rules.specs.Stop.{breach, IfFlash}
 use Rattle.fl_rules.specs.declared.rule.Rule.TheVariants.{Number}
 use Rattle.fl_rules.proofs.NumbersOfRing.{newest_some, newest_none, spent_for}
 use Rattle.fl_rules.proofs.Stops.{if_ok, if_broken, if_at}
-use Rattle.fl_rules.proofs.FewerReads.{few_reads}
 use Rattle.fl_frame.specs.Causes.{ReadFails}
 use Rattle.fl_ring.proofs.Exists.{lies_still}
+use Rattle.fl_ring.proofs.ReadsInTurn.{fewer_reads}
 use Rattle.fl_rules.proofs.Results.{flash_so}
 use Rattle.fl_rules.proofs.OneMorePage.{more_of}
 use Rattle.fl_rules.proofs.LooksChangeNothing.{fails_later}
@@ -67,7 +67,7 @@ pub find_newest-requires-clause-few : goal.find_newest-requires-clause-few
 find_newest-requires-clause-few g c = c.requires.within.kept
 
 pub returns-in_err-newest-clause-reads : goal.returns-in_err-newest-clause-reads
-returns-in_err-newest-clause-reads g c = few_reads (g.F.Flash.state c.args.flash.now) (g.F.Flash.state c.find_newest.new.flash) c.args.m.kept (c.args.m.kept + c.args.m.kept) c.find_newest.ensures.reads (more_of c.args.m.kept c.args.m.kept)
+returns-in_err-newest-clause-reads g c = fewer_reads (g.F.Flash.state c.args.flash.now) (g.F.Flash.state c.find_newest.new.flash) c.args.m.kept (c.args.m.kept + c.args.m.kept) c.find_newest.ensures.reads (more_of c.args.m.kept c.args.m.kept)
 
 pub returns-in_err-newest-clause-room : goal.returns-in_err-newest-clause-room
 returns-in_err-newest-clause-room g c = c.find_newest.ensures.room
@@ -111,7 +111,7 @@ returns-in-Some-clause-fails g c =
     (λ stop. flash_so (λ e. ReadFails second e last) (λ e. ReadFails f e last) stop (λ e. fails_later f second last e (looks_by f second c.args.m.kept c.find_newest.ensures.reads))) c.check_by.ensures.fails
 
 pub returns-in-None-clause-reads : goal.returns-in-None-clause-reads
-returns-in-None-clause-reads g c = few_reads (g.F.Flash.state c.args.flash.now) (g.F.Flash.state c.find_newest.new.flash) c.args.m.kept (c.args.m.kept + c.args.m.kept) c.find_newest.ensures.reads (more_of c.args.m.kept c.args.m.kept)
+returns-in-None-clause-reads g c = fewer_reads (g.F.Flash.state c.args.flash.now) (g.F.Flash.state c.find_newest.new.flash) c.args.m.kept (c.args.m.kept + c.args.m.kept) c.find_newest.ensures.reads (more_of c.args.m.kept c.args.m.kept)
 
 pub returns-in-None-clause-room : goal.returns-in-None-clause-room
 returns-in-None-clause-room g c = c.find_newest.ensures.room

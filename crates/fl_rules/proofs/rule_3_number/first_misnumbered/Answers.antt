@@ -2,6 +2,7 @@ use Rattle.std.proofs.Common.{◌≡◌, ◌-◌, ◌≤◌, refl, sym, ◌∙�
 use Rattle.std.proofs.lemmas.Bool.{false≢true}
 use Rattle.std.proofs.lemmas.Result.{err_from_is_err_and}
 use Rattle.fl_ring.proofs.Exists.{page_exists}
+use Rattle.fl_ring.proofs.ReadsInTurn.{fewer_reads}
 use Rattle.fl_flash.specs.Flash.{page_at}
 use Rattle.fl_ring.specs.Place.{shape_of}
 use Rattle.fl_ring.specs.Looking.{state_at}
@@ -12,7 +13,6 @@ use Rattle.fl_rules.proofs.OneMorePage.{one_read, read_fails, some_back, few_bac
 use Rattle.fl_rules.proofs.OwnNumbers.{all_numbered, one_numbered, its_own, too_low, not_own, own_told}
 use Rattle.fl_rules.specs.Claims.{AllBelow}
 use Rattle.fl_rules.specs.Numbers.{HasItsNumber}
-use Rattle.fl_rules.proofs.FewerReads.{few_reads}
 use Rattle.fl_rules.proofs.rule_3_number.first_misnumbered.Goals as goal
 use Rattle.fl_rules.proofs.rule_3_number.first_misnumbered.Goals.{then-is_committed+else-from-next, else-is_committed}
 
@@ -122,7 +122,7 @@ pub returns-then-from-next-clause-within : goal.returns-then-from-next-clause-wi
 returns-then-from-next-clause-within g c = c.loop-i-test.true
 
 pub returns-clause-reads : goal.returns-clause-reads
-returns-clause-reads g c = few_reads (g.F.Flash.state c.args.flash.now) (g.F.Flash.state c.loop-i.flash) c.loop-i.i c.args.m.kept c.loop-i.invariant.reads c.loop-i.auto.i-end
+returns-clause-reads g c = fewer_reads (g.F.Flash.state c.args.flash.now) (g.F.Flash.state c.loop-i.flash) c.loop-i.i c.args.m.kept c.loop-i.invariant.reads c.loop-i.auto.i-end
 
 pub returns-clause-none : goal.returns-clause-none
 returns-clause-none g c = λ told. subst (λ (k : ℕ). AllBelow (HasItsNumber (page_at (g.F.Flash.state c.args.flash.now)) (shape_of c.args.ring.now) c.args.m c.args.next) k)

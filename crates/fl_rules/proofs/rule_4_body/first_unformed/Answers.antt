@@ -2,6 +2,7 @@ use Rattle.std.proofs.Common.{refl, ◌∙◌, ◌≡◌, ℕ, ◌+◌, ◌-◌,
 use Rattle.std.proofs.lemmas.Result.{err_from_is_err_and}
 use Rattle.std.proofs.lemmas.Bool.{false≢true}
 use Rattle.fl_ring.proofs.Exists.{page_exists}
+use Rattle.fl_ring.proofs.ReadsInTurn.{fewer_reads}
 use Rattle.fl_flash.specs.Flash.{page_at}
 use Rattle.fl_ring.specs.Place.{shape_of}
 use Rattle.fl_frame.proofs.ReadsInTurn.{no_reads, more_reads}
@@ -12,7 +13,6 @@ use Rattle.fl_ring.specs.Newest.{commits}
 use Rattle.fl_rules.specs.Bodies.{HasBody}
 use Rattle.fl_rules.specs.Claims.{AllBelow}
 use Rattle.fl_rules.specs.Marks.{kept_page}
-use Rattle.fl_rules.proofs.FewerReads.{few_reads}
 use Rattle.fl_rules.proofs.rule_4_body.first_unformed.Goals as goal
 use Rattle.fl_rules.proofs.rule_4_body.first_unformed.Goals.{then-is_committed+else-not-is_of, else-is_committed}
 
@@ -77,7 +77,7 @@ loop-i-preserved-in_default g c =
     let r = shape_of c.args.ring.now in
     let i = c.loop-i.i in
     record {
-      reads = few_reads f (g.F.Flash.state c.loop-i.flash) i (i + 1) c.loop-i.invariant.reads (more_of i 1);
+      reads = fewer_reads f (g.F.Flash.state c.loop-i.flash) i (i + 1) c.loop-i.invariant.reads (more_of i 1);
       room = c.loop-i.invariant.room;
       formed = λ told. one_formed holds (page_at f) r c.args.n i (c.loop-i.invariant.formed told) (not_due holds (page_at f) r c.args.n i c.in_default.ensures);
     }
@@ -133,7 +133,7 @@ pub returns-then-not-is_of-clause-within : goal.returns-then-not-is_of-clause-wi
 returns-then-not-is_of-clause-within g c = c.loop-i-test.true
 
 pub returns-clause-reads : goal.returns-clause-reads
-returns-clause-reads g c = few_reads (g.F.Flash.state c.args.flash.now) (g.F.Flash.state c.loop-i.flash) c.loop-i.i c.args.n.marks.kept c.loop-i.invariant.reads c.loop-i.auto.i-end
+returns-clause-reads g c = fewer_reads (g.F.Flash.state c.args.flash.now) (g.F.Flash.state c.loop-i.flash) c.loop-i.i c.args.n.marks.kept c.loop-i.invariant.reads c.loop-i.auto.i-end
 
 pub returns-clause-none : goal.returns-clause-none
 returns-clause-none g c = λ told. subst (λ (k : ℕ). AllBelow (HasBody (g.B.Form.holds c.args.form.now) (page_at (g.F.Flash.state c.args.flash.now)) (shape_of c.args.ring.now) c.args.n) k)

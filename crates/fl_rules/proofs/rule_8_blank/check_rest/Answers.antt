@@ -1,8 +1,8 @@
 use Rattle.std.proofs.lemmas.Result.{err_from_is_err_and}
 use Rattle.std.proofs.Common.{inl, arith}
-use Rattle.fl_rules.proofs.FewerReads.{few_reads}
 use Rattle.fl_ring.specs.Place.{shape_of}
 use Rattle.fl_ring.specs.Ring.{room}
+use Rattle.fl_ring.proofs.ReadsInTurn.{fewer_reads}
 use Rattle.fl_rules.proofs.OneMorePage.{none_read}
 use Rattle.fl_rules.proofs.rule_8_blank.check_rest.Goals as goal
 
@@ -25,7 +25,7 @@ pub first_written-requires-clause-place : goal.first_written-requires-clause-pla
 first_written-requires-clause-place g c = c.requires.within.at
 
 pub returns-in_err-written-clause-reads : goal.returns-in_err-written-clause-reads
-returns-in_err-written-clause-reads g c = few_reads (g.F.Flash.state c.args.flash.now) (g.F.Flash.state c.first_written.new.flash) _ (room (shape_of c.args.ring.now)) c.first_written.ensures.reads (omega arith)
+returns-in_err-written-clause-reads g c = fewer_reads (g.F.Flash.state c.args.flash.now) (g.F.Flash.state c.first_written.new.flash) _ (room (shape_of c.args.ring.now)) c.first_written.ensures.reads (omega arith)
 
 pub returns-in_err-written-clause-room : goal.returns-in_err-written-clause-room
 returns-in_err-written-clause-room g c = c.first_written.ensures.room
@@ -49,13 +49,13 @@ pub page_after-requires-clause-place : goal.page_after-requires-clause-place
 page_after-requires-clause-place g c = c.requires.within.at
 
 pub returns-in-None-clause-reads : goal.returns-in-None-clause-reads
-returns-in-None-clause-reads g c = few_reads (g.F.Flash.state c.args.flash.now) (g.F.Flash.state c.first_written.new.flash) _ (room (shape_of c.args.ring.now)) c.first_written.ensures.reads (omega arith)
+returns-in-None-clause-reads g c = fewer_reads (g.F.Flash.state c.args.flash.now) (g.F.Flash.state c.first_written.new.flash) _ (room (shape_of c.args.ring.now)) c.first_written.ensures.reads (omega arith)
 
 pub returns-in-None-clause-room : goal.returns-in-None-clause-room
 returns-in-None-clause-room g c = c.first_written.ensures.room
 
 pub returns-in-Some-clause-reads : goal.returns-in-Some-clause-reads
-returns-in-Some-clause-reads g c = few_reads (g.F.Flash.state c.args.flash.now) (g.F.Flash.state c.first_written.new.flash) _ (room (shape_of c.args.ring.now)) c.first_written.ensures.reads (omega arith)
+returns-in-Some-clause-reads g c = fewer_reads (g.F.Flash.state c.args.flash.now) (g.F.Flash.state c.first_written.new.flash) _ (room (shape_of c.args.ring.now)) c.first_written.ensures.reads (omega arith)
 
 pub returns-in-Some-clause-room : goal.returns-in-Some-clause-room
 returns-in-Some-clause-room g c = c.first_written.ensures.room
