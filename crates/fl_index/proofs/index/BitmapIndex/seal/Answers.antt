@@ -36,7 +36,7 @@ returns-in_err-seal-clause-ends g c = λ first plan table rose device watched st
     let has : t.ring ≡ Some ring = sym c.take.ensures.value ∙ c.in-Some.is in
     let shape : shape_of ring ≡ shape_in first plan = t.lies ring has ∙ planned-ring t first plan stands.in_ring.planned in
     let lies = c.requires.lies in
-    let goes = c.seal.ensures.goes in
+    let goes = c.seal.ensures.flash.goes in
     let sizes : HaveSize first plan (page_at old) = lies-size t old first plan stands.in_ring.planned lies.geometry lies.within (g.met.F.Flash.reaches c.args.flash.now) in
     let sizes_now : HaveSize first plan (page_at new) = lies-size t new first plan stands.in_ring.planned (goes.geometry ∙ lies.geometry) (omega (arith, goes.blocks, lies.within)) (g.met.F.Flash.reaches c.seal.new.flash) in
     let headed : take t.body.len (c.write_header.new.body ++ drop (length c.write_header.new.body) t.body.items) ≡ splice t.body.items 0 (header_bytes c.next_number-number.result t.first t.waiting) =
@@ -61,7 +61,7 @@ returns-clause-ends g c = λ first plan table rose device watched stands.
     let has : t.ring ≡ Some ring = sym c.take.ensures.value ∙ c.in-Some.is in
     let shape : shape_of ring ≡ shape_in first plan = t.lies ring has ∙ planned-ring t first plan stands.in_ring.planned in
     let lies = c.requires.lies in
-    let goes = c.seal.ensures.goes in
+    let goes = c.seal.ensures.flash.goes in
     let sizes : HaveSize first plan (page_at old) = lies-size t old first plan stands.in_ring.planned lies.geometry lies.within (g.met.F.Flash.reaches c.args.flash.now) in
     let sizes_now : HaveSize first plan (page_at new) = lies-size t new first plan stands.in_ring.planned (goes.geometry ∙ lies.geometry) (omega (arith, goes.blocks, lies.within)) (g.met.F.Flash.reaches c.seal.new.flash) in
     let headed : take t.body.len (c.write_header.new.body ++ drop (length c.write_header.new.body) t.body.items) ≡ splice t.body.items 0 (header_bytes c.next_number-number.result t.first t.waiting) =
@@ -78,7 +78,7 @@ returns-clause-ends g c = λ first plan table rose device watched stands.
     let keeps : (n : ℕ) → oldest (sealed (shape_in first plan) is.s body) ≤ n → n < is.s.next → page_at new (place (shape_in first plan) n) ≡ page_at old (place (shape_in first plan) n) =
     subst (λ (r : Shape). (n : ℕ) → oldest (sealed r is.s body) ≤ n → n < is.s.next → page_at new (place r n) ≡ page_at old (place r n)) shape
     (subst (λ (b : List ℕ). (n : ℕ) → oldest (sealed (shape_of ring) is.s b) ≤ n → n < is.s.next → page_at new (place (shape_of ring) n) ≡ page_at old (place (shape_of ring) n)) (c.deref.ensures.value ∙ headed)
-    (c.in_ok-seal.ensures.keeps watched.told is.s (seal-ready t old first plan table body is ring has shape))) in
+    (c.in_ok-seal.ensures.flash.keeps watched.told is.s (seal-ready t old first plan table body is ring has shape))) in
     let number : c.next_number-number.result ≡ is.is.ring.next = number-of t old first plan table ring c.next_number-number.result stands has c.next_number-number.ensures is.s is.is in
     let len : c.len.result ≡ length t.firsts.items = c.len.ensures ∙ t.firsts.ok.0 in
     seal-finishes t old first plan table body is rose device new sizes_now after u _ both.0 both.1
@@ -90,16 +90,16 @@ pub returns-in_err-seal-clause-outside : goal.returns-in_err-seal-clause-outside
 returns-in_err-seal-clause-outside g c = λ told.
     let t = c.args.self.now in
     let has : t.ring ≡ Some c.in-Some.ring = sym c.take.ensures.value ∙ c.in-Some.is in
-    subst (λ (r : Shape). OutsideStands r (page_at (g.F.Flash.state c.args.flash.now)) (page_at (g.F.Flash.state c.seal.new.flash))) (t.lies c.in-Some.ring has) (c.seal.ensures.outside told)
+    subst (λ (r : Shape). OutsideStands r (page_at (g.F.Flash.state c.args.flash.now)) (page_at (g.F.Flash.state c.seal.new.flash))) (t.lies c.in-Some.ring has) (c.seal.ensures.flash.outside told)
 
 pub returns-clause-outside : goal.returns-clause-outside
 returns-clause-outside g c = λ told.
     let t = c.args.self.now in
     let has : t.ring ≡ Some c.in-Some.ring = sym c.take.ensures.value ∙ c.in-Some.is in
-    subst (λ (r : Shape). OutsideStands r (page_at (g.F.Flash.state c.args.flash.now)) (page_at (g.F.Flash.state c.seal.new.flash))) (t.lies c.in-Some.ring has) (c.seal.ensures.outside told)
+    subst (λ (r : Shape). OutsideStands r (page_at (g.F.Flash.state c.args.flash.now)) (page_at (g.F.Flash.state c.seal.new.flash))) (t.lies c.in-Some.ring has) (c.seal.ensures.flash.outside told)
 
 pub returns-clause-power : goal.returns-clause-power
-returns-clause-power g c = λ on. seal-on _ _ _ _ _ _ _ c.in_ok-seal.ensures.calls
+returns-clause-power g c = λ on. seal-on _ _ _ _ _ _ _ c.in_ok-seal.ensures.flash.calls
 
 pub invariant_of-self : goal.invariant_of-self
 invariant_of-self g c =
@@ -142,7 +142,7 @@ returns-clause-firsts g c = λ number low high fits.
     let has : t.ring ≡ Some c.in-Some.ring = sym c.take.ensures.value ∙ c.in-Some.is in
     let begin : c.next_number-number.result ≡ next_in t = c.next_number-number.ensures ∙ sym (ap (λ (o : Option Ring). unwrap_or (option_map (λ ring. next_of ring) o) 0) has) in
     let len : c.len.result ≡ length t.firsts.items = c.len.ensures ∙ t.firsts.ok.0 in
-    let end : next_of c.seal.new.self ≡ next_in t + 1 = c.in_ok-seal.ensures.next ∙ sym (ap (λ (o : Option Ring). unwrap_or (option_map (λ ring. next_of ring) o) 0 + 1) has) in
+    let end : next_of c.seal.new.self ≡ next_in t + 1 = c.in_ok-seal.ensures.memory.next ∙ sym (ap (λ (o : Option Ring). unwrap_or (option_map (λ ring. next_of ring) o) 0 + 1) has) in
     let before : number < next_of c.seal.new.self = high in
     let within : next_of c.seal.new.self ≤ number + t.firsts.len = fits in
     let all : set t.firsts.items (c.next_number-number.result % c.len.result) (Some t.first) ≡ set t.firsts.items (next_in t % length t.firsts.items) (Some t.first) =
@@ -155,7 +155,7 @@ returns-clause-firsts g c = λ number low high fits.
 pub returns-clause-oldest : goal.returns-clause-oldest
 returns-clause-oldest g c =
     let has : c.args.self.now.ring ≡ Some c.in-Some.ring = sym c.take.ensures.value ∙ c.in-Some.is in
-    c.in_ok-seal.ensures.kept_from ∙ sym (ap (λ (o : Option Ring). unwrap_or (option_map (λ ring. oldest_after ring) o) 0) has)
+    c.in_ok-seal.ensures.memory.kept_from ∙ sym (ap (λ (o : Option Ring). unwrap_or (option_map (λ ring. oldest_after ring) o) 0) has)
 
 pub returns-in_err-seal-clause-writes : goal.returns-in_err-seal-clause-writes
 returns-in_err-seal-clause-writes g c =
@@ -163,13 +163,13 @@ returns-in_err-seal-clause-writes g c =
     let has : t.ring ≡ Some c.in-Some.ring = sym c.take.ensures.value ∙ c.in-Some.is in
     let p = err_from_is_err_and c.from_residual.result c.from_residual.ensures.1 in
     let none : done c.from_residual.result ≡ 0 = ap (λ (x : Result (Unit {0}) FlashFault). done x) p.1 in
-    held-writes t.ring c.in-Some.ring 0 (done c.from_residual.result) _ _ has (omega (arith, none)) c.in_err-seal.ensures.writes
+    held-writes t.ring c.in-Some.ring 0 (done c.from_residual.result) _ _ has (omega (arith, none)) c.in_err-seal.ensures.flash.writes
 
 pub returns-clause-writes : goal.returns-clause-writes
 returns-clause-writes g c =
     let t = c.args.self.now in
     let has : t.ring ≡ Some c.in-Some.ring = sym c.take.ensures.value ∙ c.in-Some.is in
-    held-writes t.ring c.in-Some.ring 1 1 _ _ has (omega arith) c.in_ok-seal.ensures.writes
+    held-writes t.ring c.in-Some.ring 1 1 _ _ has (omega arith) c.in_ok-seal.ensures.flash.writes
 
 pub seal-requires-clause-lies : goal.seal-requires-clause-lies
 seal-requires-clause-lies g c = c.requires.lies.ring c.in-Some.ring (sym c.take.ensures.value ∙ c.in-Some.is)
@@ -178,7 +178,7 @@ pub seal-requires-clause-left : goal.seal-requires-clause-left
 seal-requires-clause-left g c = subst (λ n. n + 1 < 2 ^ 32) (next-same c.args.self.now c.in-Some.ring (sym c.take.ensures.value ∙ c.in-Some.is)) c.requires.left
 
 pub returns-in_err-seal-clause-goes : goal.returns-in_err-seal-clause-goes
-returns-in_err-seal-clause-goes g c = c.seal.ensures.goes
+returns-in_err-seal-clause-goes g c = c.seal.ensures.flash.goes
 
 pub returns-in_err-seal-clause-same : goal.returns-in_err-seal-clause-same
 returns-in_err-seal-clause-same g c = record { geometry = refl; place = refl; bits = refl; full = refl }
@@ -224,20 +224,20 @@ returns-in_err-seal-clause-broken g c =
     rw p.1 (ap (λ (o : Option Ring). is_some o) c.take.ensures.after)
 
 pub returns-in_err-seal-clause-reads : goal.returns-in_err-seal-clause-reads
-returns-in_err-seal-clause-reads g c = c.seal.ensures.reads
+returns-in_err-seal-clause-reads g c = c.seal.ensures.flash.reads
 
 pub returns-in_err-seal-clause-media_reads : goal.returns-in_err-seal-clause-media_reads
-returns-in_err-seal-clause-media_reads g c = c.seal.ensures.media_reads
+returns-in_err-seal-clause-media_reads g c = c.seal.ensures.flash.media_reads
 
 pub returns-in_err-seal-clause-cause : goal.returns-in_err-seal-clause-cause
 returns-in_err-seal-clause-cause g c =
     let p = err_from_is_err_and c.from_residual.result c.from_residual.ensures.1 in
-    rw (p.1, p.2) c.in_err-seal.ensures.cause
+    rw (p.1, p.2) c.in_err-seal.ensures.flash.cause
 
 pub returns-in_err-seal-clause-off : goal.returns-in_err-seal-clause-off
 returns-in_err-seal-clause-off g c =
     let p = err_from_is_err_and c.from_residual.result c.from_residual.ensures.1 in
-    rw (p.1, p.2) c.in_err-seal.ensures.off
+    rw (p.1, p.2) c.in_err-seal.ensures.flash.off
 
 pub invariant_of-self-2-clause-served : goal.invariant_of-self-2-clause-served
 invariant_of-self-2-clause-served g c = c.args.self.now.served
@@ -256,16 +256,16 @@ invariant_of-self-2-clause-remembered g c = c.args.self.now.remembered
 
 pub invariant_of-self-2-clause-lies : goal.invariant_of-self-2-clause-lies
 invariant_of-self-2-clause-lies g c = λ r is.
-    ap (λ (x : Ring). shape_of x) (sym (same_Some c.seal.new.self r is)) ∙ (c.seal.ensures.same ∙ c.args.self.now.lies c.in-Some.ring (sym c.take.ensures.value ∙ c.in-Some.is))
+    ap (λ (x : Ring). shape_of x) (sym (same_Some c.seal.new.self r is)) ∙ (c.seal.ensures.memory.same ∙ c.args.self.now.lies c.in-Some.ring (sym c.take.ensures.value ∙ c.in-Some.is))
 
 pub returns-clause-goes : goal.returns-clause-goes
-returns-clause-goes g c = c.seal.ensures.goes
+returns-clause-goes g c = c.seal.ensures.flash.goes
 
 pub returns-clause-same : goal.returns-clause-same
 returns-clause-same g c = record { geometry = refl; place = refl; bits = refl; full = refl }
 
 pub returns-clause-number : goal.returns-clause-number
-returns-clause-number g c = c.in_ok-seal.ensures.next ∙ sym (ap (λ n. n + 1) (next-same c.args.self.now c.in-Some.ring (sym c.take.ensures.value ∙ c.in-Some.is)))
+returns-clause-number g c = c.in_ok-seal.ensures.memory.next ∙ sym (ap (λ n. n + 1) (next-same c.args.self.now c.in-Some.ring (sym c.take.ensures.value ∙ c.in-Some.is)))
 
 pub returns-clause-empty : goal.returns-clause-empty
 returns-clause-empty g c = refl
@@ -277,21 +277,21 @@ pub returns-clause-running : goal.returns-clause-running
 returns-clause-running g c = refl
 
 pub returns-clause-reads : goal.returns-clause-reads
-returns-clause-reads g c = c.seal.ensures.reads
+returns-clause-reads g c = c.seal.ensures.flash.reads
 
 pub returns-clause-media_reads : goal.returns-clause-media_reads
-returns-clause-media_reads g c = c.seal.ensures.media_reads
+returns-clause-media_reads g c = c.seal.ensures.flash.media_reads
 
 pub returns-clause-off : goal.returns-clause-off
-returns-clause-off g c = c.in_ok-seal.ensures.off
+returns-clause-off g c = c.in_ok-seal.ensures.flash.off
 
 pub returns-in_err-seal-clause-lies : goal.returns-in_err-seal-clause-lies
 returns-in_err-seal-clause-lies g c =
-    lies-later c.args.self.now _ (g.F.Flash.state c.args.flash.now) (g.F.Flash.state c.seal.new.flash) (record { geometry = refl; place = refl; bits = refl; full = refl }) c.requires.lies c.seal.ensures.goes (no-ring c.take.new.self (g.F.Flash.state c.seal.new.flash) c.take.ensures.after)
+    lies-later c.args.self.now _ (g.F.Flash.state c.args.flash.now) (g.F.Flash.state c.seal.new.flash) (record { geometry = refl; place = refl; bits = refl; full = refl }) c.requires.lies c.seal.ensures.flash.goes (no-ring c.take.new.self (g.F.Flash.state c.seal.new.flash) c.take.ensures.after)
 
 pub returns-clause-lies : goal.returns-clause-lies
 returns-clause-lies g c =
-    lies-later c.args.self.now _ (g.F.Flash.state c.args.flash.now) (g.F.Flash.state c.seal.new.flash) (record { geometry = refl; place = refl; bits = refl; full = refl }) c.requires.lies c.seal.ensures.goes (this-ring c.seal.new.self (g.F.Flash.state c.seal.new.flash) c.in_ok-seal.ensures.lies)
+    lies-later c.args.self.now _ (g.F.Flash.state c.args.flash.now) (g.F.Flash.state c.seal.new.flash) (record { geometry = refl; place = refl; bits = refl; full = refl }) c.requires.lies c.seal.ensures.flash.goes (this-ring c.seal.new.self (g.F.Flash.state c.seal.new.flash) c.in_ok-seal.ensures.memory.lies)
 
 pub unreachable-requires : goal.unreachable-requires
 unreachable-requires g c = absurd (true≢false (sym c.requires.running ∙ ap (λ (o : Option Ring). is_some o) (sym c.take.ensures.value ∙ c.in_default.is)))

@@ -33,7 +33,7 @@ returns-in_err-ring-clause-ends g c = λ first plan table rose device watched pl
     let old = g.F.Flash.state c.args.flash.now in
     let new = g.F.Flash.state c.mount.new.flash in
     let lies = c.requires.lies in
-    let ensures = c.in_err-ring.ensures in
+    let ensures = c.in_err-ring.ensures.mounts in
     let goes = ensures.beside.goes in
     let is = mounting-of t old first plan table planned lies.geometry lies.within (g.met.F.Flash.reaches c.args.flash.now) rests in
     let sizes = lies-size t new first plan planned (goes.geometry ∙ lies.geometry) (omega (arith, goes.blocks, lies.within)) (g.met.F.Flash.reaches c.mount.new.flash) in
@@ -48,17 +48,17 @@ returns-in_err-ring-clause-refused g c =
     let t = c.args.self.now in
     let p = err_from_is_err_and c.from_residual.result c.from_residual.ensures.1 in
     rw (p.1, p.2) (λ told. refuses-ring t t t.bitmaps (g.F.Flash.state c.args.flash.now) (g.F.Flash.state c.mount.new.flash) c.args.end c.in_err-ring.field-0.0 (plan-self t) c.requires.lies.geometry
-    c.in_err-ring.ensures.fault c.in_err-ring.ensures.fails)
+    c.in_err-ring.ensures.mounts.fault c.in_err-ring.ensures.mounts.fails)
 
 pub returns-in_err-ring-clause-reads : goal.returns-in_err-ring-clause-reads
 returns-in_err-ring-clause-reads g c = λ told.
     let t = c.args.self.now in
-    few-first t t (g.F.Flash.state c.args.flash.now) (g.F.Flash.state c.mount.new.flash) (plan-self t) c.requires.lies.geometry c.in_err-ring.ensures.beside (index_pages_of t.bitmaps)
+    few-first t t (g.F.Flash.state c.args.flash.now) (g.F.Flash.state c.mount.new.flash) (plan-self t) c.requires.lies.geometry c.in_err-ring.ensures.mounts.beside (index_pages_of t.bitmaps)
 
 pub returns-in_err-ring-clause-cause : goal.returns-in_err-ring-clause-cause
 returns-in_err-ring-clause-cause g c =
     let p = err_from_is_err_and c.from_residual.result c.from_residual.ensures.1 in
-    rw (p.1, p.2) (ring-cause (g.F.Flash.state c.args.flash.now) (g.F.Flash.state c.mount.new.flash) c.in_err-ring.field-0.0 c.in_err-ring.ensures.cause)
+    rw (p.1, p.2) (ring-cause (g.F.Flash.state c.args.flash.now) (g.F.Flash.state c.mount.new.flash) c.in_err-ring.field-0.0 c.in_err-ring.ensures.mounts.cause)
 
 pub returns-in_err-ring-clause-still : goal.returns-in_err-ring-clause-still
 returns-in_err-ring-clause-still g c = found-same c.args.self.now.bitmaps
@@ -74,25 +74,25 @@ returns-then-end-next-clause-ends g c = λ first plan table rose device watched 
     let is = mounting-of t old first plan table planned lies.geometry lies.within (g.met.F.Flash.reaches c.args.flash.now) rests in
     let at = same-shape t t old (plan-self t) lies.geometry ∙ planned-ring t first plan planned in
     let l = ring-mounts first plan table rose device old is ring mid
-    (ring-ends first plan table rose device old is (shape_at t.place old.geometry) at c.args.end end mid (Ok ring) c.in_ok-ring.ensures.ends watched) in
+    (ring-ends first plan table rose device old is (shape_at t.place old.geometry) at c.args.end end mid (Ok ring) c.in_ok-ring.ensures.mounts.ends watched) in
     absurd (omega (arith, ends-within first plan table rose device old is ring mid l c.args.end end, c.if-end-next.true, c.next_number-next.ensures))
 
 pub returns-then-end-next-clause-refused : goal.returns-then-end-next-clause-refused
 returns-then-end-next-clause-refused g c = λ told.
     let t = c.args.self.now in
-    refuses-end t t t.bitmaps (g.F.Flash.state c.args.flash.now) (g.F.Flash.state c.mount.new.flash) c.args.end c.next_number-next.result c.in_ok-ring.ring (plan-self t) c.requires.lies.geometry c.in_ok-ring.ensures.found c.next_number-next.ensures (omega (arith, c.if-end-next.true))
+    refuses-end t t t.bitmaps (g.F.Flash.state c.args.flash.now) (g.F.Flash.state c.mount.new.flash) c.args.end c.next_number-next.result c.in_ok-ring.ring (plan-self t) c.requires.lies.geometry c.in_ok-ring.ensures.mounts.found c.next_number-next.ensures (omega (arith, c.if-end-next.true))
 
 pub returns-then-end-next-clause-outside : goal.returns-then-end-next-clause-outside
 returns-then-end-next-clause-outside g c = λ told.
     let t = c.args.self.now in
     let old = g.F.Flash.state c.args.flash.now in
     let mid = g.F.Flash.state c.mount.new.flash in
-    subst (λ (r : Shape). OutsideStands r (page_at old) (page_at mid)) (same-shape t t old (plan-self t) c.requires.lies.geometry) (c.in_ok-ring.ensures.beside.outside told)
+    subst (λ (r : Shape). OutsideStands r (page_at old) (page_at mid)) (same-shape t t old (plan-self t) c.requires.lies.geometry) (c.in_ok-ring.ensures.mounts.beside.outside told)
 
 pub returns-then-end-next-clause-reads : goal.returns-then-end-next-clause-reads
 returns-then-end-next-clause-reads g c = λ told.
     let t = c.args.self.now in
-    few-first t t (g.F.Flash.state c.args.flash.now) (g.F.Flash.state c.mount.new.flash) (plan-self t) c.requires.lies.geometry c.in_ok-ring.ensures.beside (index_pages_of t.bitmaps)
+    few-first t t (g.F.Flash.state c.args.flash.now) (g.F.Flash.state c.mount.new.flash) (plan-self t) c.requires.lies.geometry c.in_ok-ring.ensures.mounts.beside (index_pages_of t.bitmaps)
 
 pub returns-then-end-next-clause-same : goal.returns-then-end-next-clause-same
 returns-then-end-next-clause-same g c = plan-self c.args.self.now
@@ -101,7 +101,7 @@ pub returns-then-end-next-clause-still : goal.returns-then-end-next-clause-still
 returns-then-end-next-clause-still g c = found-same c.args.self.now.bitmaps
 
 pub returns-then-end-next-clause-lies : goal.returns-then-end-next-clause-lies
-returns-then-end-next-clause-lies g c = lies-moved c.args.self.now (g.F.Flash.state c.args.flash.now) (g.F.Flash.state c.mount.new.flash) c.in_ok-ring.ensures.beside.goes c.requires.lies
+returns-then-end-next-clause-lies g c = lies-moved c.args.self.now (g.F.Flash.state c.args.flash.now) (g.F.Flash.state c.mount.new.flash) c.in_ok-ring.ensures.mounts.beside.goes c.requires.lies
 
 -- the kept pages are read
 pub read_kept-requires : goal.read_kept-requires
@@ -109,7 +109,7 @@ read_kept-requires g c =
     let t = c.args.self.now in
     let old = g.F.Flash.state c.args.flash.now in
     let mid = g.F.Flash.state c.mount.new.flash in
-    let ensures = c.in_ok-ring.ensures in (
+    let ensures = c.in_ok-ring.ensures.mounts in (
       table-fits g.row.KNOTS g.row.SLOTS t.few_knots t.few_slots,
       (
         c.requires.forgotten,
@@ -125,7 +125,7 @@ read_kept-requires g c =
                   ensures.lies,
                   (
                     λ told. kept-room t t old mid (plan-self t) c.requires.lies.geometry c.args.end c.in_ok-ring.ring ensures.found (subst IsTrue ensures.beside.goes.tells told),
-                    (omega (arith, c.if-end-next.false, c.next_number-next.ensures), (ensures.room ∙ (c.requires.room ∙ sym (ap (λ g. g.page) ensures.beside.goes.geometry)), ensures.holds)),
+                    (omega (arith, c.if-end-next.false, c.next_number-next.ensures), (c.in_ok-ring.ensures.room ∙ (c.requires.room ∙ sym (ap (λ g. g.page) ensures.beside.goes.geometry)), c.in_ok-ring.ensures.holds)),
                   ),
                 ),
               ),
@@ -142,7 +142,7 @@ returns-in_err-known-clause-ends g c = λ first plan table rose device watched p
     let old = g.F.Flash.state c.args.flash.now in
     let mid = g.F.Flash.state c.mount.new.flash in
     let new = g.F.Flash.state c.read_kept.new.flash in
-    let ensures = c.in_ok-ring.ensures in
+    let ensures = c.in_ok-ring.ensures.mounts in
     let kept = c.in_err-known.ensures in
     let told = subst IsTrue (sym ensures.beside.goes.tells) watched.told in
     let p = err_from_is_err_and c.from_residual-in_err-known.result c.from_residual-in_err-known.ensures.1 in
@@ -156,31 +156,31 @@ returns-in_err-known-clause-refused g c =
     let old = g.F.Flash.state c.args.flash.now in
     let mid = g.F.Flash.state c.mount.new.flash in
     let new = g.F.Flash.state c.read_kept.new.flash in
-    let first_goes = c.in_ok-ring.ensures.beside.goes in
+    let first_goes = c.in_ok-ring.ensures.mounts.beside.goes in
     let p = err_from_is_err_and c.from_residual-in_err-known.result c.from_residual-in_err-known.ensures.1 in
-    rw (p.1, p.2) (λ told. refuses-page t t old mid new _ (plan-self t) c.requires.lies.geometry c.in_err-known.ensures.reads t.bitmaps c.in_ok-ring.ring c.args.end c.in_ok-ring.ensures.found c.in_ok-ring.ensures.shape (omega (arith, c.if-end-next.false, c.next_number-next.ensures)) refl c.in_err-known.field-0.0
+    rw (p.1, p.2) (λ told. refuses-page t t old mid new _ (plan-self t) c.requires.lies.geometry c.in_err-known.ensures.reads t.bitmaps c.in_ok-ring.ring c.args.end c.in_ok-ring.ensures.mounts.found c.in_ok-ring.ensures.mounts.shape (omega (arith, c.if-end-next.false, c.next_number-next.ensures)) refl c.in_err-known.field-0.0
     c.in_err-known.ensures.only c.in_err-known.ensures.fails (c.in_err-known.ensures.knows (subst IsTrue (sym first_goes.tells) told)).1)
 
 pub returns-in_err-known-clause-outside : goal.returns-in_err-known-clause-outside
 returns-in_err-known-clause-outside g c = λ told.
     let t = c.args.self.now in
-    outside-stands t t (g.F.Flash.state c.args.flash.now) (g.F.Flash.state c.mount.new.flash) (g.F.Flash.state c.read_kept.new.flash) _ (plan-self t) c.requires.lies.geometry c.in_err-known.ensures.reads (c.in_ok-ring.ensures.beside.outside told)
+    outside-stands t t (g.F.Flash.state c.args.flash.now) (g.F.Flash.state c.mount.new.flash) (g.F.Flash.state c.read_kept.new.flash) _ (plan-self t) c.requires.lies.geometry c.in_err-known.ensures.reads (c.in_ok-ring.ensures.mounts.beside.outside told)
 
 pub returns-in_err-known-clause-reads : goal.returns-in_err-known-clause-reads
 returns-in_err-known-clause-reads g c = λ told.
     let t = c.args.self.now in
-    few-all t t (g.F.Flash.state c.args.flash.now) (g.F.Flash.state c.mount.new.flash) (plan-self t) c.requires.lies.geometry c.in_ok-ring.ensures.beside
-    c.args.end (index_pages_of t.bitmaps) c.in_ok-ring.ring (g.F.Flash.state c.read_kept.new.flash) c.in_ok-ring.ensures.found c.in_err-known.ensures.reads told
+    few-all t t (g.F.Flash.state c.args.flash.now) (g.F.Flash.state c.mount.new.flash) (plan-self t) c.requires.lies.geometry c.in_ok-ring.ensures.mounts.beside
+    c.args.end (index_pages_of t.bitmaps) c.in_ok-ring.ring (g.F.Flash.state c.read_kept.new.flash) c.in_ok-ring.ensures.mounts.found c.in_err-known.ensures.reads told
 
 pub returns-in_err-known-clause-cause : goal.returns-in_err-known-clause-cause
 returns-in_err-known-clause-cause g c =
     let p = err_from_is_err_and c.from_residual-in_err-known.result c.from_residual-in_err-known.ensures.1 in
-    rw (p.1, p.2) (pages-cause (g.F.Flash.state c.args.flash.now) (g.F.Flash.state c.mount.new.flash) (g.F.Flash.state c.read_kept.new.flash) c.in_ok-ring.ensures.beside.goes c.in_ok-ring.ensures.power
+    rw (p.1, p.2) (pages-cause (g.F.Flash.state c.args.flash.now) (g.F.Flash.state c.mount.new.flash) (g.F.Flash.state c.read_kept.new.flash) c.in_ok-ring.ensures.mounts.beside.goes c.in_ok-ring.ensures.mounts.power
     c.in_err-known.field-0.0 c.in_err-known.ensures.only c.in_err-known.ensures.fails)
 
 pub returns-in_err-known-clause-goes : goal.returns-in_err-known-clause-goes
 returns-in_err-known-clause-goes g c =
-    goes-then (g.F.Flash.state c.args.flash.now) (g.F.Flash.state c.mount.new.flash) (g.F.Flash.state c.read_kept.new.flash) c.in_ok-ring.ensures.beside.goes c.in_err-known.ensures.reads.goes
+    goes-then (g.F.Flash.state c.args.flash.now) (g.F.Flash.state c.mount.new.flash) (g.F.Flash.state c.read_kept.new.flash) c.in_ok-ring.ensures.mounts.beside.goes c.in_err-known.ensures.reads.goes
 
 -- all were read
 pub returns-clause-ends : goal.returns-clause-ends
@@ -190,7 +190,7 @@ returns-clause-ends g c = λ first plan table rose device watched planned rests 
     let mid = g.F.Flash.state c.mount.new.flash in
     let new = g.F.Flash.state c.read_kept.new.flash in
     let ring = c.in_ok-ring.ring in
-    let ensures = c.in_ok-ring.ensures in
+    let ensures = c.in_ok-ring.ensures.mounts in
     let kept = c.in_ok-known.ensures in
     let same = kept.same in
     let told = subst IsTrue (sym ensures.beside.goes.tells) watched.told in
@@ -207,7 +207,7 @@ returns-clause-ends g c = λ first plan table rose device watched planned rests 
 pub returns-clause-outside : goal.returns-clause-outside
 returns-clause-outside g c = λ told.
     let t = c.args.self.now in
-    outside-stands t t (g.F.Flash.state c.args.flash.now) (g.F.Flash.state c.mount.new.flash) (g.F.Flash.state c.read_kept.new.flash) _ (plan-self t) c.requires.lies.geometry c.in_ok-known.ensures.reads (c.in_ok-ring.ensures.beside.outside told)
+    outside-stands t t (g.F.Flash.state c.args.flash.now) (g.F.Flash.state c.mount.new.flash) (g.F.Flash.state c.read_kept.new.flash) _ (plan-self t) c.requires.lies.geometry c.in_ok-known.ensures.reads (c.in_ok-ring.ensures.mounts.beside.outside told)
 
 pub returns-clause-found : goal.returns-clause-found
 returns-clause-found g c = λ told.
@@ -217,10 +217,10 @@ returns-clause-found g c = λ told.
     let new = g.F.Flash.state c.read_kept.new.flash in
     let ring = c.in_ok-ring.ring in
     let ensures = c.in_ok-known.ensures in
-    let still = subst IsTrue (sym c.in_ok-ring.ensures.beside.goes.tells) told in
+    let still = subst IsTrue (sym c.in_ok-ring.ensures.mounts.beside.goes.tells) told in
     let next : c.next_number-next.result ≡ next_of ring = c.next_number-next.ensures in
     let oldest : c.oldest.result ≡ oldest_of ring = c.oldest.ensures in
-    rw (next, oldest) (finds-data t t old mid new _ (plan-self t) c.requires.lies.geometry ensures.reads t.bitmaps ring c.args.end c.in_ok-ring.ensures.found c.in_ok-ring.ensures.shape (omega (arith, c.if-end-next.false, c.next_number-next.ensures)) refl
+    rw (next, oldest) (finds-data t t old mid new _ (plan-self t) c.requires.lies.geometry ensures.reads t.bitmaps ring c.args.end c.in_ok-ring.ensures.mounts.found c.in_ok-ring.ensures.mounts.shape (omega (arith, c.if-end-next.false, c.next_number-next.ensures)) refl
     (error_in t.index) c.in_ok-known.known c.read_kept.new.self.counts.items c.read_kept.new.self.index ensures.counted (ensures.knows still).0)
 
 pub returns-clause-learned : goal.returns-clause-learned
@@ -230,8 +230,8 @@ returns-clause-learned g c = λ told.
     let mid = g.F.Flash.state c.mount.new.flash in
     let new = g.F.Flash.state c.read_kept.new.flash in
     let ensures = c.in_ok-known.ensures in
-    let still = subst IsTrue (sym c.in_ok-ring.ensures.beside.goes.tells) told in
-    learns t t old mid new _ (plan-self t) c.requires.lies.geometry ensures.reads t.bitmaps c.in_ok-ring.ring c.args.end c.in_ok-ring.ensures.found c.in_ok-ring.ensures.shape (omega (arith, c.if-end-next.false, c.next_number-next.ensures)) refl
+    let still = subst IsTrue (sym c.in_ok-ring.ensures.mounts.beside.goes.tells) told in
+    learns t t old mid new _ (plan-self t) c.requires.lies.geometry ensures.reads t.bitmaps c.in_ok-ring.ring c.args.end c.in_ok-ring.ensures.mounts.found c.in_ok-ring.ensures.mounts.shape (omega (arith, c.if-end-next.false, c.next_number-next.ensures)) refl
     (error_in t.index) c.in_ok-known.known c.read_kept.new.self.counts.items c.read_kept.new.self.index ensures.counted (ensures.knows still).0
 
 pub returns-clause-waits : goal.returns-clause-waits
@@ -242,8 +242,8 @@ returns-clause-waits g c = λ told.
     let new = g.F.Flash.state c.read_kept.new.flash in
     let ring = c.in_ok-ring.ring in
     let ensures = c.in_ok-known.ensures in
-    same-waits t t old mid new _ (plan-self t) c.requires.lies.geometry ensures.reads t.bitmaps ring c.args.end c.in_ok-ring.ensures.found c.in_ok-ring.ensures.shape (omega (arith, c.if-end-next.false, c.next_number-next.ensures)) refl
-    c.args.end (next_of ring) c.read_kept.new.self.bitmaps (ensures.waits (subst IsTrue (sym c.in_ok-ring.ensures.beside.goes.tells) told))
+    same-waits t t old mid new _ (plan-self t) c.requires.lies.geometry ensures.reads t.bitmaps ring c.args.end c.in_ok-ring.ensures.mounts.found c.in_ok-ring.ensures.mounts.shape (omega (arith, c.if-end-next.false, c.next_number-next.ensures)) refl
+    c.args.end (next_of ring) c.read_kept.new.self.bitmaps (ensures.waits (subst IsTrue (sym c.in_ok-ring.ensures.mounts.beside.goes.tells) told))
 
 pub returns-clause-remembers : goal.returns-clause-remembers
 returns-clause-remembers g c = λ told.
@@ -252,32 +252,32 @@ returns-clause-remembers g c = λ told.
     let mid = g.F.Flash.state c.mount.new.flash in
     let new = g.F.Flash.state c.read_kept.new.flash in
     let ensures = c.in_ok-known.ensures in
-    let still = subst IsTrue (sym c.in_ok-ring.ensures.beside.goes.tells) told in
-    finds-firsts t t old mid new _ (plan-self t) c.requires.lies.geometry ensures.reads t.bitmaps c.in_ok-ring.ring c.args.end c.in_ok-ring.ensures.found c.in_ok-ring.ensures.shape (omega (arith, c.if-end-next.false, c.next_number-next.ensures)) refl
+    let still = subst IsTrue (sym c.in_ok-ring.ensures.mounts.beside.goes.tells) told in
+    finds-firsts t t old mid new _ (plan-self t) c.requires.lies.geometry ensures.reads t.bitmaps c.in_ok-ring.ring c.args.end c.in_ok-ring.ensures.mounts.found c.in_ok-ring.ensures.mounts.shape (omega (arith, c.if-end-next.false, c.next_number-next.ensures)) refl
     (error_in t.index) c.in_ok-known.known c.read_kept.new.self.counts.items c.read_kept.new.self.index c.read_kept.new.self.bitmaps ensures.counted (ensures.knows still).0 (c.requires.few told) (ensures.remembers still)
 
 pub returns-clause-reads : goal.returns-clause-reads
 returns-clause-reads g c = λ told.
     let t = c.args.self.now in
-    few-all t t (g.F.Flash.state c.args.flash.now) (g.F.Flash.state c.mount.new.flash) (plan-self t) c.requires.lies.geometry c.in_ok-ring.ensures.beside
-    c.args.end (index_pages_of t.bitmaps) c.in_ok-ring.ring (g.F.Flash.state c.read_kept.new.flash) c.in_ok-ring.ensures.found c.in_ok-known.ensures.reads told
+    few-all t t (g.F.Flash.state c.args.flash.now) (g.F.Flash.state c.mount.new.flash) (plan-self t) c.requires.lies.geometry c.in_ok-ring.ensures.mounts.beside
+    c.args.end (index_pages_of t.bitmaps) c.in_ok-ring.ring (g.F.Flash.state c.read_kept.new.flash) c.in_ok-ring.ensures.mounts.found c.in_ok-known.ensures.reads told
 
 pub returns-clause-goes : goal.returns-clause-goes
 returns-clause-goes g c =
-    goes-then (g.F.Flash.state c.args.flash.now) (g.F.Flash.state c.mount.new.flash) (g.F.Flash.state c.read_kept.new.flash) c.in_ok-ring.ensures.beside.goes c.in_ok-known.ensures.reads.goes
+    goes-then (g.F.Flash.state c.args.flash.now) (g.F.Flash.state c.mount.new.flash) (g.F.Flash.state c.read_kept.new.flash) c.in_ok-ring.ensures.mounts.beside.goes c.in_ok-known.ensures.reads.goes
 
 pub returns-in_err-ring-clause-limit : goal.returns-in_err-ring-clause-limit
 returns-in_err-ring-clause-limit g c = λ first plan table rose device watched planned rests stands end full.
     let t = c.args.self.now in
     let old = g.F.Flash.state c.args.flash.now in
-    let few = ring-limit t first plan table old (g.F.Flash.state c.mount.new.flash) planned rests c.requires.lies (g.met.F.Flash.reaches c.args.flash.now) (λ s on. c.in_err-ring.ensures.reads s watched.told on) in
+    let few = ring-limit t first plan table old (g.F.Flash.state c.mount.new.flash) planned rests c.requires.lies (g.met.F.Flash.reaches c.args.flash.now) (λ s on. c.in_err-ring.ensures.mounts.reads s watched.told on) in
     omega (arith, few, rows-within plan table (repaired plan DataRing table))
 
 pub returns-then-end-next-clause-limit : goal.returns-then-end-next-clause-limit
 returns-then-end-next-clause-limit g c = λ first plan table rose device watched planned rests stands end full.
     let t = c.args.self.now in
     let old = g.F.Flash.state c.args.flash.now in
-    let few = ring-limit t first plan table old (g.F.Flash.state c.mount.new.flash) planned rests c.requires.lies (g.met.F.Flash.reaches c.args.flash.now) (λ s on. c.in_ok-ring.ensures.reads s watched.told on) in
+    let few = ring-limit t first plan table old (g.F.Flash.state c.mount.new.flash) planned rests c.requires.lies (g.met.F.Flash.reaches c.args.flash.now) (λ s on. c.in_ok-ring.ensures.mounts.reads s watched.told on) in
     omega (arith, few, rows-within plan table (repaired plan DataRing table))
 
 pub returns-in_err-known-clause-limit : goal.returns-in_err-known-clause-limit
@@ -286,7 +286,7 @@ returns-in_err-known-clause-limit g c = λ first plan table rose device watched 
     let old = g.F.Flash.state c.args.flash.now in
     let mid = g.F.Flash.state c.mount.new.flash in
     let new = g.F.Flash.state c.read_kept.new.flash in
-    let ensures = c.in_ok-ring.ensures in
+    let ensures = c.in_ok-ring.ensures.mounts in
     let kept = c.in_err-known.ensures in
     let told = subst IsTrue (sym ensures.beside.goes.tells) watched.told in
     kept-limit t first plan table rose device old mid new c.in_ok-ring.ring _ c.args.end watched planned rests stands end c.requires.lies
@@ -299,7 +299,7 @@ returns-clause-limit g c = λ first plan table rose device watched planned rests
     let old = g.F.Flash.state c.args.flash.now in
     let mid = g.F.Flash.state c.mount.new.flash in
     let new = g.F.Flash.state c.read_kept.new.flash in
-    let ensures = c.in_ok-ring.ensures in
+    let ensures = c.in_ok-ring.ensures.mounts in
     let kept = c.in_ok-known.ensures in
     let told = subst IsTrue (sym ensures.beside.goes.tells) watched.told in
     kept-limit t first plan table rose device old mid new c.in_ok-ring.ring _ c.args.end watched planned rests stands end c.requires.lies
@@ -314,7 +314,7 @@ repairs-then : (n : ℕ) (old mid new : FlashState) → mid.work.programs ≤ ol
 repairs-then n old mid new programs erases reads = record { programs = omega (arith, programs, reads.programs); erases = omega (arith, erases, reads.erases) }
 
 pub returns-in_err-ring-clause-goes : goal.returns-in_err-ring-clause-goes
-returns-in_err-ring-clause-goes g c = c.in_err-ring.ensures.beside.goes
+returns-in_err-ring-clause-goes g c = c.in_err-ring.ensures.mounts.beside.goes
 
 pub returns-in_err-ring-clause-same : goal.returns-in_err-ring-clause-same
 returns-in_err-ring-clause-same g c = plan-self c.args.self.now
@@ -323,7 +323,7 @@ pub returns-in_err-ring-clause-blobs : goal.returns-in_err-ring-clause-blobs
 returns-in_err-ring-clause-blobs g c = refl
 
 pub returns-in_err-ring-clause-lies : goal.returns-in_err-ring-clause-lies
-returns-in_err-ring-clause-lies g c = lies-moved c.args.self.now (g.F.Flash.state c.args.flash.now) (g.F.Flash.state c.mount.new.flash) c.in_err-ring.ensures.beside.goes c.requires.lies
+returns-in_err-ring-clause-lies g c = lies-moved c.args.self.now (g.F.Flash.state c.args.flash.now) (g.F.Flash.state c.mount.new.flash) c.in_err-ring.ensures.mounts.beside.goes c.requires.lies
 
 pub returns-in_err-ring-clause-room : goal.returns-in_err-ring-clause-room
 returns-in_err-ring-clause-room g c = c.in_err-ring.ensures.room
@@ -348,10 +348,10 @@ returns-in_err-ring-clause-outside g c = λ told.
     let t = c.args.self.now in
     let old = g.F.Flash.state c.args.flash.now in
     let mid = g.F.Flash.state c.mount.new.flash in
-    subst (λ (r : Shape). OutsideStands r (page_at old) (page_at mid)) (same-shape t t old (plan-self t) c.requires.lies.geometry) (c.in_err-ring.ensures.beside.outside told)
+    subst (λ (r : Shape). OutsideStands r (page_at old) (page_at mid)) (same-shape t t old (plan-self t) c.requires.lies.geometry) (c.in_err-ring.ensures.mounts.beside.outside told)
 
 pub returns-in_err-ring-clause-repairs : goal.returns-in_err-ring-clause-repairs
-returns-in_err-ring-clause-repairs g c = record { programs = c.in_err-ring.ensures.beside.few_programs; erases = c.in_err-ring.ensures.beside.few_erases }
+returns-in_err-ring-clause-repairs g c = record { programs = c.in_err-ring.ensures.mounts.beside.few_programs; erases = c.in_err-ring.ensures.mounts.beside.few_erases }
 
 pub returns-in_err-ring-clause-shape : goal.returns-in_err-ring-clause-shape
 returns-in_err-ring-clause-shape g c = no-success _ _ c.from_residual.result c.from_residual.ensures.1
@@ -378,7 +378,7 @@ pub returns-in_err-ring-clause-power : goal.returns-in_err-ring-clause-power
 returns-in_err-ring-clause-power g c = no-success _ _ c.from_residual.result c.from_residual.ensures.1
 
 pub returns-then-end-next-clause-goes : goal.returns-then-end-next-clause-goes
-returns-then-end-next-clause-goes g c = c.in_ok-ring.ensures.beside.goes
+returns-then-end-next-clause-goes g c = c.in_ok-ring.ensures.mounts.beside.goes
 
 pub returns-then-end-next-clause-blobs : goal.returns-then-end-next-clause-blobs
 returns-then-end-next-clause-blobs g c = refl
@@ -402,7 +402,7 @@ pub returns-then-end-next-clause-running : goal.returns-then-end-next-clause-run
 returns-then-end-next-clause-running g c = c.requires.running
 
 pub returns-then-end-next-clause-repairs : goal.returns-then-end-next-clause-repairs
-returns-then-end-next-clause-repairs g c = record { programs = c.in_ok-ring.ensures.beside.few_programs; erases = c.in_ok-ring.ensures.beside.few_erases }
+returns-then-end-next-clause-repairs g c = record { programs = c.in_ok-ring.ensures.mounts.beside.few_programs; erases = c.in_ok-ring.ensures.mounts.beside.few_erases }
 
 pub returns-then-end-next-clause-shape : goal.returns-then-end-next-clause-shape
 returns-then-end-next-clause-shape g c = tt
@@ -432,7 +432,7 @@ pub returns-then-end-next-clause-cause : goal.returns-then-end-next-clause-cause
 returns-then-end-next-clause-cause g c = tt
 
 pub returns-then-end-next-clause-off : goal.returns-then-end-next-clause-off
-returns-then-end-next-clause-off g c = λ down. absurd (not-ok _ _ (c.in_ok-ring.ensures.off down).0)
+returns-then-end-next-clause-off g c = λ down. absurd (not-ok _ _ (c.in_ok-ring.ensures.mounts.off down).0)
 
 pub returns-in_err-known-clause-same : goal.returns-in_err-known-clause-same
 returns-in_err-known-clause-same g c = c.in_err-known.ensures.same
@@ -465,10 +465,10 @@ pub returns-in_err-known-clause-running : goal.returns-in_err-known-clause-runni
 returns-in_err-known-clause-running g c = c.in_err-known.ensures.running
 
 pub returns-in_err-known-clause-repairs : goal.returns-in_err-known-clause-repairs
-returns-in_err-known-clause-repairs g c = repairs-then _ _ _ _ c.in_ok-ring.ensures.beside.few_programs c.in_ok-ring.ensures.beside.few_erases c.in_err-known.ensures.reads
+returns-in_err-known-clause-repairs g c = repairs-then _ _ _ _ c.in_ok-ring.ensures.mounts.beside.few_programs c.in_ok-ring.ensures.mounts.beside.few_erases c.in_err-known.ensures.reads
 
 pub returns-in_err-known-clause-off : goal.returns-in_err-known-clause-off
-returns-in_err-known-clause-off g c = λ down. absurd (not-ok _ _ (c.in_ok-ring.ensures.off down).0)
+returns-in_err-known-clause-off g c = λ down. absurd (not-ok _ _ (c.in_ok-ring.ensures.mounts.off down).0)
 
 pub returns-in_err-known-clause-shape : goal.returns-in_err-known-clause-shape
 returns-in_err-known-clause-shape g c = no-success _ _ c.from_residual-in_err-known.result c.from_residual-in_err-known.ensures.1
@@ -545,13 +545,13 @@ pub returns-clause-running : goal.returns-clause-running
 returns-clause-running g c = c.in_ok-known.ensures.running
 
 pub returns-clause-repairs : goal.returns-clause-repairs
-returns-clause-repairs g c = repairs-then _ _ _ _ c.in_ok-ring.ensures.beside.few_programs c.in_ok-ring.ensures.beside.few_erases c.in_ok-known.ensures.reads
+returns-clause-repairs g c = repairs-then _ _ _ _ c.in_ok-ring.ensures.mounts.beside.few_programs c.in_ok-ring.ensures.mounts.beside.few_erases c.in_ok-known.ensures.reads
 
 pub returns-clause-off : goal.returns-clause-off
-returns-clause-off g c = λ down. absurd (not-ok _ _ (c.in_ok-ring.ensures.off down).0)
+returns-clause-off g c = λ down. absurd (not-ok _ _ (c.in_ok-ring.ensures.mounts.off down).0)
 
 pub returns-clause-shape : goal.returns-clause-shape
-returns-clause-shape g c = c.in_ok-ring.ensures.shape ∙ same-shape c.args.self.now c.args.self.now (g.F.Flash.state c.args.flash.now) (plan-self c.args.self.now) c.requires.lies.geometry
+returns-clause-shape g c = c.in_ok-ring.ensures.mounts.shape ∙ same-shape c.args.self.now c.args.self.now (g.F.Flash.state c.args.flash.now) (plan-self c.args.self.now) c.requires.lies.geometry
 
 pub returns-clause-follow : goal.returns-clause-follow
 returns-clause-follow g c = c.in_ok-known.ensures.follow
@@ -605,4 +605,4 @@ invariant_of-self g c =
     }
 
 pub returns-clause-power : goal.returns-clause-power
-returns-clause-power g c = λ on. c.in_ok-known.ensures.reads.power ∙ c.in_ok-ring.ensures.power
+returns-clause-power g c = λ on. c.in_ok-known.ensures.reads.power ∙ c.in_ok-ring.ensures.mounts.power

@@ -67,13 +67,13 @@ returns-in-Err-clause-ends g c = λ first plan table rose device watched stands.
     let has : t.ring ≡ Some ring = sym c.take.ensures.value ∙ c.in-Some.is in
     let shape : shape_of ring ≡ shape_in first plan = t.lies ring has ∙ planned-ring t first plan stands.planned in
     let lies = c.requires.lies in
-    let goes = c.seal.ensures.goes in
+    let goes = c.seal.ensures.flash.goes in
     let sizes : HaveSize first plan (page_at old) = lies-size t old first plan stands.planned lies.geometry lies.within (g.met.F.Flash.reaches c.args.flash.now) in
     let sizes_now : HaveSize first plan (page_at new) = lies-size t new first plan stands.planned (goes.geometry ∙ lies.geometry) (omega (arith, goes.blocks, lies.within)) (g.met.F.Flash.reaches c.seal.new.flash) in
     let number : c.next_number-number.result ≡ table.rows.next = c.next_number-number.ensures ∙ ring-next t old first plan table ring stands has in
     let is : IsSealing (page_at old) first plan table c.finish.new.self.body =
     sealing-of t old first plan table c.finish.new.self stands c.requires.some c.requires.bitmaps c.requires.blobs (λ layout rows gathers. c.finish.ensures.body layout rows gathers ∙ ap (λ n. rows_body (length t.writer.body) layout n t.bitmap rows) number) in
-    let outside : OutsideStands (shape_in first plan) (page_at old) (page_at new) = subst (λ (r : Shape). OutsideStands r (page_at old) (page_at new)) shape (c.seal.ensures.outside watched.told) in
+    let outside : OutsideStands (shape_in first plan) (page_at old) (page_at new) = subst (λ (r : Shape). OutsideStands r (page_at old) (page_at new)) shape (c.seal.ensures.flash.outside watched.told) in
     let s = state_of plan (lose table) in
     let body = c.finish.new.self.body in
     let seals : Seals s body rose device ring (Err c.in-Err.fault) c.seal.new.self new =
@@ -92,13 +92,13 @@ returns-clause-ends g c = λ first plan table rose device watched stands.
     let has : t.ring ≡ Some ring = sym c.take.ensures.value ∙ c.in-Some.is in
     let shape : shape_of ring ≡ shape_in first plan = t.lies ring has ∙ planned-ring t first plan stands.planned in
     let lies = c.requires.lies in
-    let goes = c.seal.ensures.goes in
+    let goes = c.seal.ensures.flash.goes in
     let sizes : HaveSize first plan (page_at old) = lies-size t old first plan stands.planned lies.geometry lies.within (g.met.F.Flash.reaches c.args.flash.now) in
     let sizes_now : HaveSize first plan (page_at new) = lies-size t new first plan stands.planned (goes.geometry ∙ lies.geometry) (omega (arith, goes.blocks, lies.within)) (g.met.F.Flash.reaches c.seal.new.flash) in
     let number : c.next_number-number.result ≡ table.rows.next = c.next_number-number.ensures ∙ ring-next t old first plan table ring stands has in
     let is : IsSealing (page_at old) first plan table c.finish.new.self.body =
     sealing-of t old first plan table c.finish.new.self stands c.requires.some c.requires.bitmaps c.requires.blobs (λ layout rows gathers. c.finish.ensures.body layout rows gathers ∙ ap (λ n. rows_body (length t.writer.body) layout n t.bitmap rows) number) in
-    let outside : OutsideStands (shape_in first plan) (page_at old) (page_at new) = subst (λ (r : Shape). OutsideStands r (page_at old) (page_at new)) shape (c.seal.ensures.outside watched.told) in
+    let outside : OutsideStands (shape_in first plan) (page_at old) (page_at new) = subst (λ (r : Shape). OutsideStands r (page_at old) (page_at new)) shape (c.seal.ensures.flash.outside watched.told) in
     let s = state_of plan (lose table) in
     let body = c.finish.new.self.body in
     let u = c.in_default-seal.field-0 in
@@ -107,7 +107,7 @@ returns-clause-ends g c = λ first plan table rose device watched stands.
     subst (λ (b : List ℕ). Seals s b rose device ring (Ok u) after new) c.body.ensures (c.in_default-seal.ensures.seals s rose device ready watched) in
     let keeps : KeepsAll (shape_in first plan) s body (page_at old) (page_at new) =
     subst (λ (r : Shape). KeepsAll r s body (page_at old) (page_at new)) shape
-    (subst (λ (b : List ℕ). KeepsAll (shape_of ring) s b (page_at old) (page_at new)) c.body.ensures (c.in_default-seal.ensures.keeps watched.told s ready)) in
+    (subst (λ (b : List ℕ). KeepsAll (shape_of ring) s b (page_at old) (page_at new)) c.body.ensures (c.in_default-seal.ensures.flash.keeps watched.told s ready)) in
     let both : (h : Performed (shape_in first plan) (change (shape_in first plan) body) rose (seal_kinds (shape_in first plan) s body) device s (Ok u) new) × StandsFor after h.now.state =
     subst (λ (r : Shape). (h : Performed r (change r body) rose (seal_kinds r s body) device s (Ok u) new) × StandsFor after h.now.state) shape (seals.performed, seals.stands) in
     let count : c.count.result ≡ table.pending = c.count.ensures ∙ (ap (λ w. w.count) c.finish.ensures.exact ∙ writer-count t old first plan table stands) in
@@ -176,20 +176,20 @@ pub returns-in-Err-clause-outside : goal.returns-in-Err-clause-outside
 returns-in-Err-clause-outside g c = λ told page out index blobs.
     let t = c.args.self.now in
     let has : t.ring ≡ Some c.in-Some.ring = sym c.take.ensures.value ∙ c.in-Some.is in
-    subst (λ (r : Shape). OutsideStands r (page_at (g.F.Flash.state c.args.flash.now)) (page_at (g.F.Flash.state c.seal.new.flash))) (t.lies c.in-Some.ring has) (c.seal.ensures.outside told) page out
+    subst (λ (r : Shape). OutsideStands r (page_at (g.F.Flash.state c.args.flash.now)) (page_at (g.F.Flash.state c.seal.new.flash))) (t.lies c.in-Some.ring has) (c.seal.ensures.flash.outside told) page out
 
 pub returns-clause-outside : goal.returns-clause-outside
 returns-clause-outside g c = λ told page out index blobs.
     let t = c.args.self.now in
     let has : t.ring ≡ Some c.in-Some.ring = sym c.take.ensures.value ∙ c.in-Some.is in
-    subst (λ (r : Shape). OutsideStands r (page_at (g.F.Flash.state c.args.flash.now)) (page_at (g.F.Flash.state c.seal.new.flash))) (t.lies c.in-Some.ring has) (c.seal.ensures.outside told) page out
+    subst (λ (r : Shape). OutsideStands r (page_at (g.F.Flash.state c.args.flash.now)) (page_at (g.F.Flash.state c.seal.new.flash))) (t.lies c.in-Some.ring has) (c.seal.ensures.flash.outside told) page out
 
 pub returns-in-Err-clause-lies : goal.returns-in-Err-clause-lies
 returns-in-Err-clause-lies g c =
     let old = g.F.Flash.state c.args.flash.now in
     let new = g.F.Flash.state c.seal.new.flash in
     let lies = c.requires.lies in
-    let goes = c.seal.ensures.goes in
+    let goes = c.seal.ensures.flash.goes in
     record {
       geometry = goes.geometry ∙ lies.geometry;
       within = omega (arith, goes.blocks, lies.within);
@@ -204,12 +204,12 @@ returns-clause-lies g c =
     let old = g.F.Flash.state c.args.flash.now in
     let new = g.F.Flash.state c.seal.new.flash in
     let lies = c.requires.lies in
-    let goes = c.seal.ensures.goes in
+    let goes = c.seal.ensures.flash.goes in
     record {
       geometry = goes.geometry ∙ lies.geometry;
       within = omega (arith, goes.blocks, lies.within);
       few = few-goes old new goes lies.few;
-      ring = λ ring is. subst (λ (o : Option Ring). IfSome o (λ r. place.LiesOn r new)) is c.in_default-seal.ensures.lies;
+      ring = λ ring is. subst (λ (o : Option Ring). IfSome o (λ r. place.LiesOn r new)) is c.in_default-seal.ensures.memory.lies;
       bitmaps = still-lies c.args.self.now.bitmaps c.note_entry.new.bitmaps new c.note_entry.ensures.same c.note_entry.ensures.still (lies-goes c.args.self.now.bitmaps old new goes lies.bitmaps);
       blobs = blobbing.lies-goes c.args.self.now.blobs old new goes lies.blobs;
     }
@@ -224,7 +224,7 @@ pub returns-clause-index : goal.returns-clause-index
 returns-clause-index g c = c.note_entry.ensures.still
 
 pub returns-clause-power : goal.returns-clause-power
-returns-clause-power g c = λ on. seal-on _ _ _ _ _ _ _ c.in_default-seal.ensures.calls
+returns-clause-power g c = λ on. seal-on _ _ _ _ _ _ _ c.in_default-seal.ensures.flash.calls
 
 pub returns-clause-same : goal.returns-clause-same
 returns-clause-same g c = record {
@@ -337,14 +337,14 @@ invariant_of-self-2 g c =
       blank_rest = rest-clear c.finish.new.self c.clear.new.self c.clear.ensures.exact (omega (arith, end, t.rows_end)) (omega (arith, end, t.rows_room, c.finish.ensures.size))
           (rest-finish t.writer c.finish.new.self c.next_number-number.result t.bitmap c.finish.ensures.exact c.finish.ensures.size (omega (arith, t.rows_end)) t.blank_rest);
       counted = search rules;
-      lies = λ ring is. subst (λ (o : Option Ring). IfSome o (λ r. shape_of r ≡ shape_at t.place t.geometry)) is (c.in_default-seal.ensures.same ∙ t.lies c.in-Some.ring has);
+      lies = λ ring is. subst (λ (o : Option Ring). IfSome o (λ r. shape_of r ≡ shape_at t.place t.geometry)) is (c.in_default-seal.ensures.memory.same ∙ t.lies c.in-Some.ring has);
       left = λ ring is some. absurd (omega (arith, some, none));
       few_pages = still-few (t.place.blocks * t.geometry.block + 6) t.bitmaps c.note_entry.new.bitmaps c.note_entry.ensures.same t.few_pages;
       running = λ is. still-running t.bitmaps c.note_entry.new.bitmaps c.note_entry.ensures.still (t.running c.requires.running);
       follow = λ ring is.
           let end = noted-end t.bitmaps c.note_entry.new.bitmaps c.next_number-number.result t.bitmap c.pending_entry-full.result c.note_entry.ensures.noted
           (subst (λ (n : ℕ). EndAt t.bitmaps n) (sym c.next_number-number.ensures) (t.follow c.in-Some.ring has)) in
-          let next : c.next_number-number.result + 1 ≡ next_of c.seal.new.self = omega (arith, c.next_number-number.ensures, c.in_default-seal.ensures.next) in
+          let next : c.next_number-number.result + 1 ≡ next_of c.seal.new.self = omega (arith, c.next_number-number.ensures, c.in_default-seal.ensures.memory.next) in
           subst (λ (o : Option Ring). IfSome o (λ r. EndAt c.note_entry.new.bitmaps (next_of r))) is (subst (λ (n : ℕ). EndAt c.note_entry.new.bitmaps n) next end);
       pages_left = λ some. absurd (omega (arith, some, none));
       blobs_running = λ is. t.blobs_running c.requires.running;
@@ -352,7 +352,7 @@ invariant_of-self-2 g c =
     }
 
 pub returns-in-Err-clause-goes : goal.returns-in-Err-clause-goes
-returns-in-Err-clause-goes g c = c.seal.ensures.goes
+returns-in-Err-clause-goes g c = c.seal.ensures.flash.goes
 
 pub returns-in-Err-clause-blobs : goal.returns-in-Err-clause-blobs
 returns-in-Err-clause-blobs g c = refl
@@ -373,19 +373,19 @@ pub returns-in-Err-clause-power : goal.returns-in-Err-clause-power
 returns-in-Err-clause-power g c = tt
 
 pub returns-in-Err-clause-reads : goal.returns-in-Err-clause-reads
-returns-in-Err-clause-reads g c = c.seal.ensures.reads
+returns-in-Err-clause-reads g c = c.seal.ensures.flash.reads
 
 pub returns-in-Err-clause-media_reads : goal.returns-in-Err-clause-media_reads
-returns-in-Err-clause-media_reads g c = c.seal.ensures.media_reads
+returns-in-Err-clause-media_reads g c = c.seal.ensures.flash.media_reads
 
 pub returns-in-Err-clause-off : goal.returns-in-Err-clause-off
-returns-in-Err-clause-off g c = c.in-Err.ensures.off
+returns-in-Err-clause-off g c = c.in-Err.ensures.flash.off
 
 pub returns-in-Err-clause-cause : goal.returns-in-Err-clause-cause
-returns-in-Err-clause-cause g c = c.in-Err.ensures.cause
+returns-in-Err-clause-cause g c = c.in-Err.ensures.flash.cause
 
 pub returns-clause-goes : goal.returns-clause-goes
-returns-clause-goes g c = c.seal.ensures.goes
+returns-clause-goes g c = c.seal.ensures.flash.goes
 
 pub returns-clause-blobs : goal.returns-clause-blobs
 returns-clause-blobs g c = refl
@@ -403,19 +403,19 @@ pub returns-clause-next : goal.returns-clause-next
 returns-clause-next g c =
     let t = c.args.self.now in
     let has : t.ring ≡ Some c.in-Some.ring = sym c.take.ensures.value ∙ c.in-Some.is in
-    omega (arith, c.in_default-seal.ensures.next, next-in t c.in-Some.ring has)
+    omega (arith, c.in_default-seal.ensures.memory.next, next-in t c.in-Some.ring has)
 
 pub returns-clause-stopped : goal.returns-clause-stopped
 returns-clause-stopped g c = tt
 
 pub returns-clause-reads : goal.returns-clause-reads
-returns-clause-reads g c = c.seal.ensures.reads
+returns-clause-reads g c = c.seal.ensures.flash.reads
 
 pub returns-clause-media_reads : goal.returns-clause-media_reads
-returns-clause-media_reads g c = c.seal.ensures.media_reads
+returns-clause-media_reads g c = c.seal.ensures.flash.media_reads
 
 pub returns-clause-off : goal.returns-clause-off
-returns-clause-off g c = c.in_default-seal.ensures.off
+returns-clause-off g c = c.in_default-seal.ensures.flash.off
 
 pub returns-clause-cause : goal.returns-clause-cause
 returns-clause-cause g c = tt
@@ -448,19 +448,19 @@ pub returns-in-Err-clause-writes : goal.returns-in-Err-clause-writes
 returns-in-Err-clause-writes g c =
     let t = c.args.self.now in
     let has : t.ring ≡ Some c.in-Some.ring = sym c.take.ensures.value ∙ c.in-Some.is in
-    held-writes t.ring c.in-Some.ring 0 0 _ _ has (omega arith) c.in-Err.ensures.writes
+    held-writes t.ring c.in-Some.ring 0 0 _ _ has (omega arith) c.in-Err.ensures.flash.writes
 
 pub returns-clause-writes : goal.returns-clause-writes
 returns-clause-writes g c =
     let t = c.args.self.now in
     let has : t.ring ≡ Some c.in-Some.ring = sym c.take.ensures.value ∙ c.in-Some.is in
-    held-writes t.ring c.in-Some.ring 1 1 _ _ has (omega arith) c.in_default-seal.ensures.writes
+    held-writes t.ring c.in-Some.ring 1 1 _ _ has (omega arith) c.in_default-seal.ensures.flash.writes
 
 pub returns-clause-ahead : goal.returns-clause-ahead
 returns-clause-ahead g c = λ told.
     let t = c.args.self.now in
     let has : t.ring ≡ Some c.in-Some.ring = sym c.take.ensures.value ∙ c.in-Some.is in
-    held-ahead c.in-Some.ring c.body.result.now (g.F.Flash.state c.args.flash.now) (g.F.Flash.state c.seal.new.flash) (c.requires.lies.ring c.in-Some.ring has) told t.ring has c.in_default-seal.field-0 c.in_default-seal.ensures.calls
+    held-ahead c.in-Some.ring c.body.result.now (g.F.Flash.state c.args.flash.now) (g.F.Flash.state c.seal.new.flash) (c.requires.lies.ring c.in-Some.ring has) told t.ring has c.in_default-seal.field-0 c.in_default-seal.ensures.flash.calls
 
 pub returns-in-Err-clause-page : goal.returns-in-Err-clause-page
 returns-in-Err-clause-page g c = tt
@@ -474,7 +474,7 @@ returns-clause-page g c = λ told rows gathers.
     let body : c.body.result.now ≡ rows_body (length t.writer.body) (layout_of t.schema) (next_in t) t.bitmap rows =
     c.body.ensures ∙ (c.finish.ensures.body (layout_of t.schema) rows gathers ∙ ap (λ n. rows_body (length t.writer.body) (layout_of t.schema) n t.bitmap rows) number) in
     page-as (shape_of ring) (ring_shape t) (next_of ring) (next_in t) c.body.result.now (rows_body (length t.writer.body) (layout_of t.schema) (next_in t) t.bitmap rows) (page_at (g.F.Flash.state c.args.flash.now)) (page_at (g.F.Flash.state c.seal.new.flash))
-    (t.lies ring has) (sym (next-in t ring has)) body (c.in_default-seal.ensures.page told)
+    (t.lies ring has) (sym (next-in t ring has)) body (c.in_default-seal.ensures.flash.page told)
 
 pub returns-in-Err-clause-counted : goal.returns-in-Err-clause-counted
 returns-in-Err-clause-counted g c = tt
@@ -491,7 +491,7 @@ returns-clause-counted g c =
     let size : length c.note.new.counts ≡ length t.counts.items = ap length noted ∙ length-set t.counts.items (next_in t % length t.counts.items) t.writer.count in
     let key = c.pending_entry-full.result.first_key in
     record {
-      oldest = subst (λ (o : Option Ring). IfSome o (λ r. oldest_of c.seal.new.self ≡ oldest_after r)) (sym has) c.in_default-seal.ensures.kept_from;
+      oldest = subst (λ (o : Option Ring). IfSome o (λ r. oldest_of c.seal.new.self ≡ oldest_after r)) (sym has) c.in_default-seal.ensures.memory.kept_from;
       noted = written-back t.counts.items c.note.new.counts t.counts.len size t.counts.ok.0 ∙ noted;
       voids = voids-left c.saturating_sub-self.result c.voids_among-gone.result t.voids c.oldest-oldest.result c.oldest.result (oldest_in t) (oldest_of c.seal.new.self) c.deref.result.now t.counts.items
           c.saturating_sub-self.ensures c.voids_among-gone.ensures c.deref.ensures.value (c.oldest-oldest.ensures ∙ sym (oldest-in t ring has)) c.oldest.ensures;
