@@ -26,7 +26,7 @@ pub record SealsInMemory (old : Ring) (body : List ℕ) (result : Result (Unit {
 
 -- What it does to the flash.
 pub record SealsOnFlash (ring : Ring) (body : List ℕ) (old : FlashState) (result : Result (Unit {0}) FlashFault) (new : FlashState) : Type 0 where
-  -- it stays the same device, and what is armed and off goes on as in each call
+  -- its shape, its place and the bytes around it on the medium stay, and its power where no cut is armed
   pub goes : Goes old new
   -- the programs and the erase of a seal, in order, up to the one that failed
   pub calls : SealCalls (shape_of ring) (next_of ring) (oldest_goes ring) body old result new
