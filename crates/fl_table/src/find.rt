@@ -1,6 +1,5 @@
 // A lookup: the row of a key, among the pending rows or in the kept pages.
-ghost use Rattle.std.specs.Prelude.{◌≡◌, ◌+◌, ◌-◌, ◌<◌, ◌≤◌, ◌^◌, min, ℕ, true, length, IsTrue, IfSome, IfOk, IfErr};
-ghost use Rattle.fl_frame.specs.Contents as contents;
+ghost use Rattle.std.specs.Prelude.{◌≡◌, ◌-◌, ◌<◌, ◌≤◌, ℕ, true, length, IfSome, IfOk, IfErr};
 
 use crate::table::Table;
 use fl_base::Steps;
@@ -18,18 +17,15 @@ pub enum RowAt {
 
 impl<const KNOTS: usize, const SLOTS: usize> Table<KNOTS, SLOTS> {
     ghost use Rattle.std.specs.Prelude.{Some, false};
-    ghost use Rattle.fl_find.specs.Finding.{FindsPage, pages_end};
-    ghost use Rattle.fl_find.specs.Pages.{IsFresh};
-    ghost use Rattle.fl_flash.specs.Flash as flashes;
+    ghost use Rattle.fl_find.specs.Finding.{pages_end};
     ghost use Rattle.fl_flash.specs.Flash.{FlashState};
     ghost use Rattle.fl_model.specs.Record.{Plan};
-    ghost use Rattle.fl_base.specs.Bits.{bits};
     ghost use Rattle.fl_model.specs.Spline.{is_pending_key, lookup_limit, page_at};
     ghost use Rattle.fl_model.specs.Table as model;
-    ghost use Rattle.fl_table.specs.Finding.{BlamesFor, IsRowAt, HoldsKept, LookupFails, IsInSlot, IsPageFor, end_in, is_covered_in, knots_near, limit_in, row_in, row_of_place};
-    ghost use Rattle.fl_table.specs.Lookups.{AnswersBy, ComparesFor, LooksAt, LooksUp};
+    ghost use Rattle.fl_table.specs.Finding.{IsRowAt, end_in, limit_in, row_in, row_of_place};
+    ghost use Rattle.fl_table.specs.Lookups.{AnswersBy, AnswersPage, ComparesFor, LooksAt, LooksForPage, LooksUp};
     ghost use Rattle.fl_schema.specs.Schema.{layout_of_row, row_of};
-    ghost use Rattle.fl_table.specs.Look.{layout_in, oldest_in};
+    ghost use Rattle.fl_table.specs.Look.{layout_in};
     ghost use Rattle.fl_table.specs.Memory.{is_running, next_in, LiesOn};
     ghost use Rattle.fl_table.specs.Standing.{Stands};
 
@@ -105,25 +101,13 @@ impl<const KNOTS: usize, const SLOTS: usize> Table<KNOTS, SLOTS> {
         requires running { is_running self.now ≡ true }
         requires lies { LiesOn self.now (F.state flash.old) }
         requires room { length buf.old.bytes ≡ (F.state flash.old).geometry.page }
-        ensures finds { (first : ℕ) → (plan : Plan) → (table : model.Table) → IsTrue (F.state flash.old).media.tells → Stands self.now (F.state flash.old) first plan table →
-            FindsPage KNOTS plan table key (F.state flash.old).work.reads (F.state flash.new).work.reads result }
-        ensures reads { (first : ℕ) → (plan : Plan) → (table : model.Table) → IsTrue (F.state flash.old).media.tells → Stands self.now (F.state flash.old) first plan table →
-            is_pending_key table key ≡ false → (F.state flash.new).work.reads ≤ (F.state flash.old).work.reads + lookup_limit KNOTS plan table key }
-        // Whatever the pages hold: the page that is found begins with at most the key, and of a covered key it is that of the key and no
-        // page that has to be read is bad.
-        ensures answers { IsTrue (F.state flash.old).media.tells → IfOk result (IsPageFor self.now (flashes.page_at (F.state flash.old)) key) }
-        ensures most { (F.state flash.new).work.reads ≤ (F.state flash.old).work.reads + (next_in self.now - oldest_in self.now) + 1 }
-        ensures counts { contents.OnlyReads (F.state flash.old) (F.state flash.new) }
-        ensures lies { LiesOn self.now (F.state flash.new) }
-        ensures room { length buf.new.bytes ≡ length buf.old.bytes }
-        ensures holds { IfOk result (λ page. IfSome page (λ number. HoldsKept self.now (F.state flash.new) number buf.new)) }
-        ensures fresh { IsFresh (F.state flash.old) buf.old → IsFresh (F.state flash.new) buf.new }
-        ensures fails { IfErr result (λ e. LookupFails self.now (F.state flash.old) e (F.state flash.new)) }
-        ensures blames { is_covered_in self.now key ≡ true → IfErr result (BlamesFor self.now (F.state flash.old) key) }
-        ensures later { min steps.old (2 ^ 64 - 1) ≤ steps.new }
-        ensures comparisons { steps.new ≤ steps.old + bits (knots_near self.now key) + 2 }
-        ensures slot { (first : ℕ) → (plan : Plan) → (table : model.Table) → (count : ℕ) → Stands self.now (F.state flash.old) first plan table → IsInSlot KNOTS SLOTS plan table key count →
-            steps.new ≤ steps.old + bits count + 2 }
+        ensures page { LooksForPage self.now key (F.state flash.old) steps.old
+            result (F.state flash.new) steps.new }
+        // Whatever the pages hold:
+        ensures kept { AnswersPage self.now key (F.state flash.old)
+            result (F.state flash.new) buf.new }
+        ensures flash { LooksAt self.now (F.state flash.old) buf.old (F.state flash.new) buf.new }
+        ensures steps { ComparesFor self.now key steps.old steps.new }
     {
         let Some(ring) = &self.ring else {
             unreachable!()

@@ -28,10 +28,10 @@ returns-in_err-number-clause-fails g c =
     let now = (g.F.Flash.state c.page_of.new.flash).work.reads in
     let t = c.args.self.now.table.now in
     let p = err_from_is_err_and c.from_residual.result c.from_residual.ensures.1 in
-    rw p.1 (start-fails c.args.self.now c.in-Start.is _ held reads now refl c.page_of.ensures.room (OnlyReads-reads f (g.F.Flash.state c.page_of.new.flash) c.page_of.ensures.counts)
+    rw p.1 (start-fails c.args.self.now c.in-Start.is _ held reads now refl c.page_of.ensures.flash.room (OnlyReads-reads f (g.F.Flash.state c.page_of.new.flash) c.page_of.ensures.flash.counts)
     (λ told. subst (λ k. (g.F.Flash.state c.page_of.new.flash).work.reads ≤ (g.F.Flash.state c.args.flash.now).work.reads + most_to_find c.args.self.now.table.now k) c.lowest-lowest.ensures
-    (few-reads t held told.standing c.lowest-lowest.result reads now c.page_of.ensures.most
-    (c.page_of.ensures.reads told.standing.first told.standing.plan told.standing.table (standing-tells t held told.standing) (stands-moved t f told.standing)))))
+    (few-reads t held told.standing c.lowest-lowest.result reads now c.page_of.ensures.flash.most
+    (c.page_of.ensures.page.reads told.standing.first told.standing.plan told.standing.table (standing-tells t held told.standing) (stands-moved t f told.standing)))))
 
 pub returns-in_default-2-clause-goes : goal.returns-in_default-2-clause-goes
 returns-in_default-2-clause-goes g c =
@@ -40,13 +40,13 @@ returns-in_default-2-clause-goes g c =
     let reads = (g.F.Flash.state c.args.flash.now).work.reads in
     let now = (g.F.Flash.state c.page_of.new.flash).work.reads in
     let t = c.args.self.now.table.now in
-    start-none c.args.self.now c.in-Start.is _ held reads now refl c.page_of.ensures.room (OnlyReads-reads f (g.F.Flash.state c.page_of.new.flash) c.page_of.ensures.counts)
+    start-none c.args.self.now c.in-Start.is _ held reads now refl c.page_of.ensures.flash.room (OnlyReads-reads f (g.F.Flash.state c.page_of.new.flash) c.page_of.ensures.flash.counts)
     (λ told. subst (λ k. (g.F.Flash.state c.page_of.new.flash).work.reads ≤ (g.F.Flash.state c.args.flash.now).work.reads + most_to_find c.args.self.now.table.now k) c.lowest-lowest.ensures
-    (few-reads t held told.standing c.lowest-lowest.result reads now c.page_of.ensures.most
-    (c.page_of.ensures.reads told.standing.first told.standing.plan told.standing.table (standing-tells t held told.standing) (stands-moved t f told.standing))))
+    (few-reads t held told.standing c.lowest-lowest.result reads now c.page_of.ensures.flash.most
+    (c.page_of.ensures.page.reads told.standing.first told.standing.plan told.standing.table (standing-tells t held told.standing) (stands-moved t f told.standing))))
     c.oldest.result c.oldest.ensures.exact c.requires.ordered
     (λ told.
-    let finds = c.in_ok-number.ensures.finds told.standing.first told.standing.plan told.standing.table (standing-tells t held told.standing) (stands-moved t f told.standing) in
+    let finds = c.in_ok-number.ensures.page.finds told.standing.first told.standing.plan told.standing.table (standing-tells t held told.standing) (stands-moved t f told.standing) in
     subst (λ k. IsPageOf (λ n. first_key (rows_on c.args.self.now.table.now (contents_of (g.F.Flash.state c.args.flash.now)) n)) (oldest_in c.args.self.now.table.now) (next_in c.args.self.now.table.now) k None) c.lowest-lowest.ensures
     (subst (λ (page : Option ℕ). IsPageOf (λ n. first_key (rows_on c.args.self.now.table.now (contents_of (g.F.Flash.state c.args.flash.now)) n)) (oldest_in c.args.self.now.table.now) (next_in c.args.self.now.table.now) c.lowest-lowest.result page)
     (sym finds.page_is ∙ c.in_default-2.is) (standing-start t held told.standing c.lowest-lowest.result)))
@@ -59,19 +59,19 @@ returns-clause-goes g c =
     let now = (g.F.Flash.state c.page_of.new.flash).work.reads in
     let t = c.args.self.now.table.now in
     let kept : HoldsKept c.args.self.now.table.now (g.F.Flash.state c.page_of.new.flash) c.in-Some.number c.page_of.new.buf =
-    subst (λ (page : Option ℕ). IfSome page (λ number. HoldsKept c.args.self.now.table.now (g.F.Flash.state c.page_of.new.flash) number c.page_of.new.buf)) c.in-Some.is c.in_ok-number.ensures.holds in
-    start-some c.args.self.now c.in-Start.is _ held reads now refl c.page_of.ensures.room (OnlyReads-reads f (g.F.Flash.state c.page_of.new.flash) c.page_of.ensures.counts)
+    subst (λ (page : Option ℕ). IfSome page (λ number. HoldsKept c.args.self.now.table.now (g.F.Flash.state c.page_of.new.flash) number c.page_of.new.buf)) c.in-Some.is c.in_ok-number.ensures.kept.holds in
+    start-some c.args.self.now c.in-Start.is _ held reads now refl c.page_of.ensures.flash.room (OnlyReads-reads f (g.F.Flash.state c.page_of.new.flash) c.page_of.ensures.flash.counts)
     (λ told. subst (λ k. (g.F.Flash.state c.page_of.new.flash).work.reads ≤ (g.F.Flash.state c.args.flash.now).work.reads + most_to_find c.args.self.now.table.now k) c.lowest-lowest.ensures
-    (few-reads t held told.standing c.lowest-lowest.result reads now c.page_of.ensures.most
-    (c.page_of.ensures.reads told.standing.first told.standing.plan told.standing.table (standing-tells t held told.standing) (stands-moved t f told.standing))))
+    (few-reads t held told.standing c.lowest-lowest.result reads now c.page_of.ensures.flash.most
+    (c.page_of.ensures.page.reads told.standing.first told.standing.plan told.standing.table (standing-tells t held told.standing) (stands-moved t f told.standing))))
     c.in-Some.number kept.kept.0 kept.kept.1 kept.good
     (λ told.
-    let finds = c.in_ok-number.ensures.finds told.standing.first told.standing.plan told.standing.table (standing-tells t held told.standing) (stands-moved t f told.standing) in
+    let finds = c.in_ok-number.ensures.page.finds told.standing.first told.standing.plan told.standing.table (standing-tells t held told.standing) (stands-moved t f told.standing) in
     subst (λ (page : Option ℕ). IfSome page (λ number. RoseSome (g.F.Flash.state c.args.flash.now).work.reads (g.F.Flash.state c.page_of.new.flash).work.reads)) c.in-Some.is finds.some)
-    (λ told. kept.bytes (subst (λ (k : Contents). IsTrue k.tells) (sym c.page_of.ensures.counts.contents) (standing-tells t held told.standing))
-    ∙ ap (λ (k : Contents). page_of k.bytes k.start k.geometry.page (place_of c.args.self.now.table.now c.in-Some.number)) c.page_of.ensures.counts.contents)
+    (λ told. kept.bytes (subst (λ (k : Contents). IsTrue k.tells) (sym c.page_of.ensures.flash.counts.contents) (standing-tells t held told.standing))
+    ∙ ap (λ (k : Contents). page_of k.bytes k.start k.geometry.page (place_of c.args.self.now.table.now c.in-Some.number)) c.page_of.ensures.flash.counts.contents)
     (λ told.
-    let finds = c.in_ok-number.ensures.finds told.standing.first told.standing.plan told.standing.table (standing-tells t held told.standing) (stands-moved t f told.standing) in
+    let finds = c.in_ok-number.ensures.page.finds told.standing.first told.standing.plan told.standing.table (standing-tells t held told.standing) (stands-moved t f told.standing) in
     subst (λ k. IsPageOf (λ n. first_key (rows_on c.args.self.now.table.now (contents_of (g.F.Flash.state c.args.flash.now)) n)) (oldest_in c.args.self.now.table.now) (next_in c.args.self.now.table.now) k (Some c.in-Some.number)) c.lowest-lowest.ensures
     (subst (λ (page : Option ℕ). IsPageOf (λ n. first_key (rows_on c.args.self.now.table.now (contents_of (g.F.Flash.state c.args.flash.now)) n)) (oldest_in c.args.self.now.table.now) (next_in c.args.self.now.table.now) c.lowest-lowest.result page)
     (sym finds.page_is ∙ c.in-Some.is) (standing-start t held told.standing c.lowest-lowest.result)))
@@ -80,14 +80,14 @@ pub returns-in_default-2-clause-sound : goal.returns-in_default-2-clause-sound
 returns-in_default-2-clause-sound g c = λ s tells fresh.
     let held = contents_of (g.F.Flash.state c.args.flash.now) in
     sound-oldest c.args.self.now c.in-Start.is held c.lowest-lowest.result c.oldest.result c.lowest-lowest.ensures c.oldest.ensures.exact
-    (subst (λ (page : Option ℕ). IsPageFor c.args.self.now.table.now (pages_in (contents_of (g.F.Flash.state c.args.flash.now))) c.lowest-lowest.result page) c.in_default-2.is (c.in_ok-number.ensures.answers tells)) (s tells fresh)
+    (subst (λ (page : Option ℕ). IsPageFor c.args.self.now.table.now (pages_in (contents_of (g.F.Flash.state c.args.flash.now))) c.lowest-lowest.result page) c.in_default-2.is (c.in_ok-number.ensures.kept.answers tells)) (s tells fresh)
 
 pub returns-clause-sound : goal.returns-clause-sound
 returns-clause-sound g c = λ s tells fresh.
     let f = g.F.Flash.state c.args.flash.now in
     let held = contents_of (g.F.Flash.state c.args.flash.now) in
     let kept : HoldsKept c.args.self.now.table.now (g.F.Flash.state c.page_of.new.flash) c.in-Some.number c.page_of.new.buf =
-    subst (λ (page : Option ℕ). IfSome page (λ number. HoldsKept c.args.self.now.table.now (g.F.Flash.state c.page_of.new.flash) number c.page_of.new.buf)) c.in-Some.is c.in_ok-number.ensures.holds in
+    subst (λ (page : Option ℕ). IfSome page (λ number. HoldsKept c.args.self.now.table.now (g.F.Flash.state c.page_of.new.flash) number c.page_of.new.buf)) c.in-Some.is c.in_ok-number.ensures.kept.holds in
     sound-found c.args.self.now c.in-Start.is held c.lowest-lowest.result c.in-Some.number c.page_of.new.buf.bytes c.lowest-lowest.ensures
-    (told-bytes c.args.self.now.table.now c.in-Some.number f (g.F.Flash.state c.page_of.new.flash) c.page_of.new.buf.bytes tells c.page_of.ensures.counts kept.bytes) kept.committed kept.good
-    (subst (λ (page : Option ℕ). IsPageFor c.args.self.now.table.now (pages_in (contents_of (g.F.Flash.state c.args.flash.now))) c.lowest-lowest.result page) c.in-Some.is (c.in_ok-number.ensures.answers tells)) (s tells fresh)
+    (told-bytes c.args.self.now.table.now c.in-Some.number f (g.F.Flash.state c.page_of.new.flash) c.page_of.new.buf.bytes tells c.page_of.ensures.flash.counts kept.bytes) kept.committed kept.good
+    (subst (λ (page : Option ℕ). IsPageFor c.args.self.now.table.now (pages_in (contents_of (g.F.Flash.state c.args.flash.now))) c.lowest-lowest.result page) c.in-Some.is (c.in_ok-number.ensures.kept.answers tells)) (s tells fresh)

@@ -7,10 +7,10 @@ pub returns-in_err-place-clause-goes : goal.returns-in_err-place-clause-goes
 returns-in_err-place-clause-goes g c = stays _ _ (OnlyReads-goes _ _ c.find.ensures.flash.counts)
 
 pub returns-in_err-page-clause-goes : goal.returns-in_err-page-clause-goes
-returns-in_err-page-clause-goes g c = stays-then _ _ _ (OnlyReads-goes _ _ c.find.ensures.flash.counts) (OnlyReads-goes _ _ c.page_of.ensures.counts)
+returns-in_err-page-clause-goes g c = stays-then _ _ _ (OnlyReads-goes _ _ c.find.ensures.flash.counts) (OnlyReads-goes _ _ c.page_of.ensures.flash.counts)
 
 pub returns-clause-goes : goal.returns-clause-goes
-returns-clause-goes g c = stays-then _ _ _ (OnlyReads-goes _ _ c.find.ensures.flash.counts) (OnlyReads-goes _ _ c.page_of.ensures.counts)
+returns-clause-goes g c = stays-then _ _ _ (OnlyReads-goes _ _ c.find.ensures.flash.counts) (OnlyReads-goes _ _ c.page_of.ensures.flash.counts)
 
 pub returns-in_err-place-clause-lies : goal.returns-in_err-place-clause-lies
 returns-in_err-place-clause-lies g c = c.find.ensures.flash.lies
@@ -19,7 +19,7 @@ pub returns-in_err-place-clause-room : goal.returns-in_err-place-clause-room
 returns-in_err-place-clause-room g c = c.find.ensures.flash.room
 
 pub returns-in_err-page-clause-room : goal.returns-in_err-page-clause-room
-returns-in_err-page-clause-room g c = c.page_of.ensures.room ∙ c.find.ensures.flash.room
+returns-in_err-page-clause-room g c = c.page_of.ensures.flash.room ∙ c.find.ensures.flash.room
 
 pub returns-clause-room : goal.returns-clause-room
-returns-clause-room g c = c.page_of.ensures.room ∙ c.find.ensures.flash.room
+returns-clause-room g c = c.page_of.ensures.flash.room ∙ c.find.ensures.flash.room
