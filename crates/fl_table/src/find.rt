@@ -1,5 +1,5 @@
 // A lookup: the row of a key, among the pending rows or in the kept pages.
-ghost use Rattle.std.specs.Prelude.{◌≡◌, ◌-◌, ◌<◌, ◌≤◌, ℕ, true, length, IfSome, IfOk, IfErr};
+ghost use Rattle.std.specs.Prelude.{◌≡◌, ◌-◌, ◌<◌, ◌≤◌, ℕ, true, length, IfSome};
 
 use crate::table::Table;
 use fl_base::Steps;
@@ -16,11 +16,11 @@ pub enum RowAt {
 }
 
 impl<const KNOTS: usize, const SLOTS: usize> Table<KNOTS, SLOTS> {
-    ghost use Rattle.std.specs.Prelude.{Some, false};
+    ghost use Rattle.std.specs.Prelude.{Some};
     ghost use Rattle.fl_find.specs.Finding.{pages_end};
     ghost use Rattle.fl_flash.specs.Flash.{FlashState};
     ghost use Rattle.fl_model.specs.Record.{Plan};
-    ghost use Rattle.fl_model.specs.Spline.{is_pending_key, lookup_limit, page_at};
+    ghost use Rattle.fl_model.specs.Spline.{lookup_limit, page_at};
     ghost use Rattle.fl_model.specs.Table as model;
     ghost use Rattle.fl_table.specs.Finding.{IsRowAt, end_in, limit_in, row_in, row_of_place};
     ghost use Rattle.fl_table.specs.Lookups.{AnswersBy, AnswersPage, ComparesFor, LooksAt, LooksForPage, LooksUp};
