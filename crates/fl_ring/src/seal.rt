@@ -20,11 +20,13 @@ impl Ring {
         requires numbered { number_of body.now ≡ next_of self.old }
         requires left { next_of self.old + 1 < 2 ^ 32 }
         ensures seals { (s : RingState) → (rose : Bool) → (device : Device)
-            → IsReady self.old (F.state flash.old) s → IsWatched (F.state flash.old) (F.state flash.new) rose device
+            → IsReady self.old (F.state flash.old) s
+            → IsWatched (F.state flash.old) (F.state flash.new) rose device
             → Seals s body.now rose device self.old result self.new (F.state flash.new) }
         // Whatever the flash holds:
         ensures memory { SealsInMemory self.old body.now result self.new (F.state flash.new) }
-        ensures flash { SealsOnFlash self.old body.now (F.state flash.old) result (F.state flash.new) }
+        ensures flash { SealsOnFlash self.old body.now
+            (F.state flash.old) result (F.state flash.new) }
     {
         self.seal_page(flash, body)?;
         if !self.advance() {
