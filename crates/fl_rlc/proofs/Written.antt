@@ -139,3 +139,11 @@ module _ {KNOTS SLOTS : ℕ} (t : LoggedTable KNOTS SLOTS) where
         programs = both-few f.work.programs m.work.programs g.work.programs (mounting.rings_in t.table) (mounting.rings_in u) (cond (is_some t.log) 1 0) (cond (is_some t.log) (2 * mounting.rings_in t.table) 0) first.programs then.programs rings one two;
         erases = both-few f.work.erases m.work.erases g.work.erases (mounting.rings_in t.table) (mounting.rings_in u) (cond (is_some t.log) 1 0) (cond (is_some t.log) (2 * mounting.rings_in t.table) 0) first.erases then.erases rings one two;
       }
+
+-- how often a put may read the medium, by rings and by pages of its blob
+pub apart-reads : (n m a b : ℕ) → n ≤ m + (a + b) → n ≤ m + a + b
+apart-reads n m a b le = omega (arith, le)
+
+-- what a flush of the table alone may read is at most one read for each ring
+pub all-rings : {KNOTS SLOTS : ℕ} (t : LoggedTable KNOTS SLOTS) (n m : ℕ) → n ≤ m + mounting.rings_in t.table → n ≤ m + rings_in t
+all-rings t n m le = omega (arith, le)

@@ -12,6 +12,7 @@ pub mod Paged
 pub mod Rings
 pub mod Logged
 pub mod Outcomes
+pub mod Calls
 pub mod Refusal
 pub mod Rows
 pub mod Mounting

@@ -11,4 +11,4 @@ returns-clause-ends g c = λ first plan t rose device watched stands.
       | in-None w ↦ ap pointed w.blob-is ∙ sym w.in-None.is
       | in-Some w ↦ ap pointed w.blob-is ∙ (ap Some w.bytes.ensures ∙ sym w.in-Some.is)
     ] in
-    rw (c.as_slice.ensures.value, blob) at (c.put.ensures.ends first plan t rose device watched stands)
+    rw (c.as_slice.ensures.value, blob) at (c.put.ensures.put first plan t rose device watched stands)

@@ -32,8 +32,8 @@ returns-in-Ok-clause-ends g c = λ text first plan t is form works.
     let ends = c.take_lines-all.ensures.ends text first plan t is form works in
     let going = lines c.args.gone c.take_lines-all.new.taken first plan t text c.take_lines-all.new.table c.flush.new.self m h (g.K.Sink.written c.args.out.now) (g.K.Sink.written c.take_lines-all.new.out) (g.K.Sink.written c.told.new.out) (g.S.Source.left c.take_lines-all.new.input) c.take_lines-all.result other ends in
     all-ends c.args.gone c.take_lines-all.new.taken g.K.Sink.written g.K.Sink.faults c.args.out.now c.take_lines-all.new.out c.told.new.out c.told.result first plan t text c.take_lines-all.new.table c.flush.new.self m h (g.S.Source.left c.take_lines-all.new.input) c.take_lines-all.result other ends
-    c.take_lines-all.ensures.statuses c.told.ensures.none c.told.ensures.counts c.flush.ensures.goes
-    (rw c.in-Ok.is at (c.flush.ensures.ends first plan _ _ going.works.device (works-watched first plan _ c.take_lines-all.new.table c.flush.new.self m h going.works) going.works.stands))
+    c.take_lines-all.ensures.statuses c.told.ensures.none c.told.ensures.counts c.flush.ensures.flash.goes
+    (rw c.in-Ok.is at (c.flush.ensures.flush first plan _ _ going.works.device (works-watched first plan _ c.take_lines-all.new.table c.flush.new.self m h going.works) going.works.stands))
 
 pub returns-in-Ok-clause-ended : goal.returns-in-Ok-clause-ended
 returns-in-Ok-clause-ended g c = λ text is.
@@ -59,13 +59,13 @@ returns-in-Ok-clause-write g c =
 pub returns-in-Ok-clause-outside : goal.returns-in-Ok-clause-outside
 returns-in-Ok-clause-outside g c = λ tells.
     outside-then c.args.table.now c.take_lines-all.new.table (page_at (g.F.Flash.state c.args.flash.now)) (page_at (g.F.Flash.state c.take_lines-all.new.flash)) (page_at (g.F.Flash.state c.flush.new.flash)) c.take_lines-all.ensures.same (c.take_lines-all.ensures.outside tells)
-    (c.flush.ensures.outside (subst IsTrue (sym c.take_lines-all.ensures.goes.tells) tells))
+    (c.flush.ensures.flash.outside (subst IsTrue (sym c.take_lines-all.ensures.goes.tells) tells))
 
 pub returns-in-Ok-clause-goes : goal.returns-in-Ok-clause-goes
-returns-in-Ok-clause-goes g c = goes-then _ _ _ c.take_lines-all.ensures.goes c.flush.ensures.goes
+returns-in-Ok-clause-goes g c = goes-then _ _ _ c.take_lines-all.ensures.goes c.flush.ensures.flash.goes
 
 pub returns-in-Ok-clause-same : goal.returns-in-Ok-clause-same
-returns-in-Ok-clause-same g c = same-on _ _ _ c.take_lines-all.ensures.same c.flush.ensures.same
+returns-in-Ok-clause-same g c = same-on _ _ _ c.take_lines-all.ensures.same c.flush.ensures.table.same
 
 pub returns-in-Err-clause-ends : goal.returns-in-Err-clause-ends
 returns-in-Err-clause-ends g c = λ text first plan t is form works.
@@ -78,7 +78,7 @@ returns-in-Err-clause-ends g c = λ text first plan t is form works.
     let rest = g.S.Source.left c.take_lines-all.new.input in
     let going = lines c.args.gone c.take_lines-all.new.taken first plan t text c.take_lines-all.new.table c.flush.new.self m h told mid mid rest c.take_lines-all.result other ends in
     rw c.flush_status.ensures (flush-broken c.args.gone c.take_lines-all.new.taken first plan t text c.take_lines-all.new.table c.flush.new.self m h told mid mid rest c.take_lines-all.result other ends c.in-Err.fault
-    (rw c.in-Err.is at (c.flush.ensures.ends first plan _ _ going.works.device (works-watched first plan _ c.take_lines-all.new.table c.flush.new.self m h going.works) going.works.stands)))
+    (rw c.in-Err.is at (c.flush.ensures.flush first plan _ _ going.works.device (works-watched first plan _ c.take_lines-all.new.table c.flush.new.self m h going.works) going.works.stands)))
 
 pub returns-in-Err-clause-ended : goal.returns-in-Err-clause-ended
 returns-in-Err-clause-ended g c = λ text is.
@@ -87,7 +87,7 @@ returns-in-Err-clause-ended g c = λ text is.
 pub returns-in-Err-clause-device : goal.returns-in-Err-clause-device
 returns-in-Err-clause-device g c = λ is.
     rose-back (g.F.Flash.state c.args.flash.now).media.faults (g.F.Flash.state c.take_lines-all.new.flash).media.faults (g.F.Flash.state c.flush.new.flash).media.faults c.take_lines-all.ensures.goes.faults
-    (flush-rose (g.F.Flash.state c.take_lines-all.new.flash) (g.F.Flash.state c.flush.new.flash) c.in-Err.fault (unarmed-then _ _ c.requires.unarmed c.take_lines-all.ensures.goes) (rw c.in-Err.is at c.flush.ensures.cause) (sym c.flush_status.ensures ∙ is))
+    (flush-rose (g.F.Flash.state c.take_lines-all.new.flash) (g.F.Flash.state c.flush.new.flash) c.in-Err.fault (unarmed-then _ _ c.requires.unarmed c.take_lines-all.ensures.goes) (rw c.in-Err.is at c.flush.ensures.flash.cause) (sym c.flush_status.ensures ∙ is))
 
 pub returns-in-Err-clause-read : goal.returns-in-Err-clause-read
 returns-in-Err-clause-read g c = λ is. absurd (flush-read c.in-Err.fault (sym c.flush_status.ensures ∙ is))
@@ -101,10 +101,10 @@ returns-in-Err-clause-statuses g c = subst IsOfTable (sym c.flush_status.ensures
 pub returns-in-Err-clause-outside : goal.returns-in-Err-clause-outside
 returns-in-Err-clause-outside g c = λ tells.
     outside-then c.args.table.now c.take_lines-all.new.table (page_at (g.F.Flash.state c.args.flash.now)) (page_at (g.F.Flash.state c.take_lines-all.new.flash)) (page_at (g.F.Flash.state c.flush.new.flash)) c.take_lines-all.ensures.same (c.take_lines-all.ensures.outside tells)
-    (c.flush.ensures.outside (subst IsTrue (sym c.take_lines-all.ensures.goes.tells) tells))
+    (c.flush.ensures.flash.outside (subst IsTrue (sym c.take_lines-all.ensures.goes.tells) tells))
 
 pub returns-in-Err-clause-goes : goal.returns-in-Err-clause-goes
-returns-in-Err-clause-goes g c = goes-then _ _ _ c.take_lines-all.ensures.goes c.flush.ensures.goes
+returns-in-Err-clause-goes g c = goes-then _ _ _ c.take_lines-all.ensures.goes c.flush.ensures.flash.goes
 
 pub returns-in-Err-clause-same : goal.returns-in-Err-clause-same
-returns-in-Err-clause-same g c = same-on _ _ _ c.take_lines-all.ensures.same c.flush.ensures.same
+returns-in-Err-clause-same g c = same-on _ _ _ c.take_lines-all.ensures.same c.flush.ensures.table.same

@@ -8,14 +8,14 @@ use Rattle.fl_ship.proofs.rows.put_row.Goals as goal
 
 pub returns-clause-ends : goal.returns-clause-ends
 returns-clause-ends g c = λ first plan t rose device watched stands.
-    rw (c.key.ensures, c.as_slice.ensures.value, c.values_of-values.ensures) at (c.put.ensures.ends first plan t rose device watched stands)
+    rw (c.key.ensures, c.as_slice.ensures.value, c.values_of-values.ensures) at (c.put.ensures.put first plan t rose device watched stands)
 
 pub returns-clause-cause : goal.returns-clause-cause
 returns-clause-cause g c =
     let row = row_of c.args.row.now in
     let fits = subst (λ (layout : RowLayout). FitsRow layout (row_of c.args.row.now)) c.requires.form (row-fits c.args.row.now (λ k. rw (sym c.bytes.ensures) (c.bytes_are_small.ensures k))) in
     put-caused (put_refusal c.args.to.now row.key row.values None) c.put.result (g.B.Flash.state c.args.onto.now) (g.B.Flash.state c.put.new.flash)
-    (put-spent c.args.to.now row fits c.requires.running c.requires.above) (rw (c.key.ensures, c.as_slice.ensures.value, c.values_of-values.ensures) at c.put.ensures.exact) c.put.ensures.cause
+    (put-spent c.args.to.now row fits c.requires.running c.requires.above) (rw (c.key.ensures, c.as_slice.ensures.value, c.values_of-values.ensures) at c.put.ensures.exact) c.put.ensures.flash.cause
 
 pub returns-clause-spent : goal.returns-clause-spent
 returns-clause-spent g c = λ is.

@@ -8,6 +8,7 @@ use Rattle.fl_table.specs.Causes.{flush_breaks}
 use Rattle.fl_rlc.specs.Table.{is_running}
 use Rattle.fl_store.specs.Replies.{flush_reply}
 use Rattle.fl_frame.proofs.CallsInTurn.{goes-same}
+use Rattle.fl_rlc.proofs.Written.{all-rings}
 use Rattle.fl_session.proofs.session.Session.flush.Goals as goal
 
 pub returns-in-Err-clause-step : goal.returns-in-Err-clause-step
@@ -24,15 +25,15 @@ flush-outcome-requires g c =
 pub returns-clause-sound : goal.returns-clause-sound
 returns-clause-sound g c =
     let here : slice_get c.args.self.now.tables.entries.items c.in-Ok.at ≡ Some c.index_mut.result.now = reached-here c.args.self.now.tables.entries.items _ _ c.in-Ok.at c.index_mut.result.now c.in-Ok.ensures c.index_mut.ensures.value in
-    sound-with c.args.self.now.tables.entries.items c.in-Ok.at c.index_mut.result.now _ _ _ _ _ _ _ _ here c.flush-outcome.ensures.goes c.flush-outcome.ensures.lies c.in-Ok.ensures.mounted_is
-    (runs-after _ _ _ _ (c.requires.sound.running c.in-Ok.ensures.mounted_is c.in-Ok.at c.index_mut.result.now here) c.flush-outcome.ensures.running c.flush_breaks.ensures)
-    (stays-on _ _ _ _ c.flush-outcome.ensures.goes c.flush_breaks.ensures (flush-stays _ _ _ c.flush-outcome.ensures.goes c.flush-outcome.result (c.requires.sound.running c.in-Ok.ensures.mounted_is c.in-Ok.at c.index_mut.result.now here) c.flush-outcome.ensures.exact c.flush-outcome.ensures.power) (c.requires.sound.power c.in-Ok.ensures.mounted_is)) c.keep_while.ensures.rows c.keep_while.ensures.index c.keep_while.ensures.right c.keep_while.ensures.none c.requires.sound
+    sound-with c.args.self.now.tables.entries.items c.in-Ok.at c.index_mut.result.now _ _ _ _ _ _ _ _ here c.flush-outcome.ensures.flash.goes c.flush-outcome.ensures.table.lies c.in-Ok.ensures.mounted_is
+    (runs-after _ _ _ _ (c.requires.sound.running c.in-Ok.ensures.mounted_is c.in-Ok.at c.index_mut.result.now here) c.flush-outcome.ensures.table.running c.flush_breaks.ensures)
+    (stays-on _ _ _ _ c.flush-outcome.ensures.flash.goes c.flush_breaks.ensures (flush-stays _ _ _ c.flush-outcome.ensures.flash.goes c.flush-outcome.result (c.requires.sound.running c.in-Ok.ensures.mounted_is c.in-Ok.at c.index_mut.result.now here) c.flush-outcome.ensures.exact c.flush-outcome.ensures.flash.power) (c.requires.sound.power c.in-Ok.ensures.mounted_is)) c.keep_while.ensures.rows c.keep_while.ensures.index c.keep_while.ensures.right c.keep_while.ensures.none c.requires.sound
 
 pub returns-clause-step : goal.returns-clause-step
 returns-clause-step g c = λ config old h.
     let here : slice_get c.args.self.now.tables.entries.items c.in-Ok.at ≡ Some c.index_mut.result.now = reached-here c.args.self.now.tables.entries.items _ _ c.in-Ok.at c.index_mut.result.now c.in-Ok.ensures c.index_mut.ensures.value in
-    flush-call config old _ c.in-Ok.at c.index_mut.result.now _ c.args.name _ _ _ _ c.flush-outcome.result c.flush_breaks.result _ h c.in-Ok.ensures here c.flush-outcome.ensures.goes c.flush-outcome.ensures.same
-    c.flush-outcome.ensures.outside c.flush-outcome.ensures.ends c.flush_breaks.ensures c.flush_reply.ensures
+    flush-call config old _ c.in-Ok.at c.index_mut.result.now _ c.args.name _ _ _ _ c.flush-outcome.result c.flush_breaks.result _ h c.in-Ok.ensures here c.flush-outcome.ensures.flash.goes c.flush-outcome.ensures.table.same
+    c.flush-outcome.ensures.flash.outside c.flush-outcome.ensures.flush c.flush_breaks.ensures c.flush_reply.ensures
 
 pub returns-in-Err-clause-cause : goal.returns-in-Err-clause-cause
 returns-in-Err-clause-cause g c = on-refusal _ c.args.name _ c.in-Err.refusal c.in-Err.ensures
@@ -51,19 +52,19 @@ returns-clause-cause g c =
         record {
           outcome = c.flush-outcome.result;
           said_is = refl;
-          fails = flush-fails _ _ _ c.flush-outcome.result runs c.flush-outcome.ensures.exact c.flush-outcome.ensures.cause;
-          none = λ none. let still = c.flush-outcome.ensures.quiet runs none in
+          fails = flush-fails _ _ _ c.flush-outcome.result runs c.flush-outcome.ensures.exact c.flush-outcome.ensures.flash.cause;
+          none = λ none. let still = c.flush-outcome.ensures.page.quiet runs none in
               (still.0, kept-state _ c.in-Ok.at c.index_mut.result.now c.flush-outcome.new.self _ _ here still.1 (ap not (c.flush_breaks.ensures ∙ ap flush_breaks still.0) ∙ sym c.in-Ok.ensures.mounted_is) still.2);
-          leaves = record { now = c.flush-outcome.new.self; same = c.flush-outcome.ensures.same; entries = refl; mounted = ap not c.flush_breaks.ensures; notes = refl; unread = c.flush-outcome.ensures.reads; goes = c.flush-outcome.ensures.goes; outside = c.flush-outcome.ensures.outside };
-          flushed = c.flush-outcome.ensures.none;
-          last = c.flush-outcome.ensures.last;
-          seals = c.flush-outcome.ensures.seals;
-          begins = c.flush-outcome.ensures.begins;
-          power = c.flush-outcome.ensures.power;
-          off = c.flush-outcome.ensures.off runs;
-          writes = c.flush-outcome.ensures.writes;
-          sealed = c.flush-outcome.ensures.sealed;
-          media_reads = c.flush-outcome.ensures.media_reads;
+          leaves = record { now = c.flush-outcome.new.self; same = c.flush-outcome.ensures.table.same; entries = refl; mounted = ap not c.flush_breaks.ensures; notes = refl; unread = c.flush-outcome.ensures.flash.reads; goes = c.flush-outcome.ensures.flash.goes; outside = c.flush-outcome.ensures.flash.outside };
+          flushed = c.flush-outcome.ensures.memory.none;
+          last = c.flush-outcome.ensures.memory.last;
+          seals = c.flush-outcome.ensures.memory.seals;
+          begins = c.flush-outcome.ensures.memory.begins;
+          power = c.flush-outcome.ensures.flash.power;
+          off = c.flush-outcome.ensures.page.off runs;
+          writes = c.flush-outcome.ensures.flash.writes;
+          sealed = c.flush-outcome.ensures.page.sealed;
+          media_reads = all-rings c.index_mut.result.now.table _ _ c.flush-outcome.ensures.flash.media_reads;
         },
       );
     }
@@ -78,7 +79,7 @@ pub returns-in-Err-clause-reads : goal.returns-in-Err-clause-reads
 returns-in-Err-clause-reads g c = refl
 
 pub returns-clause-goes : goal.returns-clause-goes
-returns-clause-goes g c = c.flush-outcome.ensures.goes
+returns-clause-goes g c = c.flush-outcome.ensures.flash.goes
 
 pub returns-clause-reads : goal.returns-clause-reads
-returns-clause-reads g c = c.flush-outcome.ensures.reads
+returns-clause-reads g c = c.flush-outcome.ensures.flash.reads

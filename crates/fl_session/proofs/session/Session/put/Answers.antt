@@ -10,6 +10,7 @@ use Rattle.fl_rlc.specs.Refusal.{put_refusal}
 use Rattle.fl_table.proofs.PutAnswers.{map-twice}
 use Rattle.std.specs.Borrow.{Bor}
 use Rattle.fl_frame.proofs.CallsInTurn.{goes-same}
+use Rattle.fl_rlc.proofs.Written.{apart-reads}
 use Rattle.fl_session.proofs.session.Session.put.Goals as goal
 
 pub returns-in-Err-clause-step : goal.returns-in-Err-clause-step
@@ -26,15 +27,15 @@ put-outcome-requires g c =
 pub returns-clause-sound : goal.returns-clause-sound
 returns-clause-sound g c =
     let here : slice_get c.args.self.now.tables.entries.items c.in-Ok.at ≡ Some c.index_mut.result.now = reached-here c.args.self.now.tables.entries.items _ _ c.in-Ok.at c.index_mut.result.now c.in-Ok.ensures c.index_mut.ensures.value in
-    sound-with c.args.self.now.tables.entries.items c.in-Ok.at c.index_mut.result.now _ _ _ _ _ _ _ _ here c.put-outcome.ensures.goes c.put-outcome.ensures.lies c.in-Ok.ensures.mounted_is
-    (runs-after _ _ _ _ (c.requires.sound.running c.in-Ok.ensures.mounted_is c.in-Ok.at c.index_mut.result.now here) c.put-outcome.ensures.running c.put_breaks.ensures)
-    (stays-on _ _ _ _ c.put-outcome.ensures.goes c.put_breaks.ensures (put-stays _ _ _ _ c.put-outcome.ensures.goes c.put-outcome.result c.put-outcome.ensures.power c.put-outcome.ensures.refused) (c.requires.sound.power c.in-Ok.ensures.mounted_is)) c.keep_while.ensures.rows c.keep_while.ensures.index c.keep_while.ensures.right c.keep_while.ensures.none c.requires.sound
+    sound-with c.args.self.now.tables.entries.items c.in-Ok.at c.index_mut.result.now _ _ _ _ _ _ _ _ here c.put-outcome.ensures.flash.goes c.put-outcome.ensures.table.lies c.in-Ok.ensures.mounted_is
+    (runs-after _ _ _ _ (c.requires.sound.running c.in-Ok.ensures.mounted_is c.in-Ok.at c.index_mut.result.now here) c.put-outcome.ensures.table.running c.put_breaks.ensures)
+    (stays-on _ _ _ _ c.put-outcome.ensures.flash.goes c.put_breaks.ensures (put-stays _ _ _ _ c.put-outcome.ensures.flash.goes c.put-outcome.result c.put-outcome.ensures.flash.power c.put-outcome.ensures.memory.refused) (c.requires.sound.power c.in-Ok.ensures.mounted_is)) c.keep_while.ensures.rows c.keep_while.ensures.index c.keep_while.ensures.right c.keep_while.ensures.none c.requires.sound
 
 pub returns-clause-step : goal.returns-clause-step
 returns-clause-step g c = λ config old h.
     let here : slice_get c.args.self.now.tables.entries.items c.in-Ok.at ≡ Some c.index_mut.result.now = reached-here c.args.self.now.tables.entries.items _ _ c.in-Ok.at c.index_mut.result.now c.in-Ok.ensures c.index_mut.ensures.value in
-    put-call config old _ c.in-Ok.at c.index_mut.result.now _ c.args.name _ _ _ _ c.args.key c.args.values.now _ c.put-outcome.result c.put_breaks.result _ h c.in-Ok.ensures here c.put-outcome.ensures.goes c.put-outcome.ensures.same
-    c.put-outcome.ensures.outside c.put-outcome.ensures.ends c.put-outcome.ensures.refused c.put_breaks.ensures c.put_reply.ensures
+    put-call config old _ c.in-Ok.at c.index_mut.result.now _ c.args.name _ _ _ _ c.args.key c.args.values.now _ c.put-outcome.result c.put_breaks.result _ h c.in-Ok.ensures here c.put-outcome.ensures.flash.goes c.put-outcome.ensures.table.same
+    c.put-outcome.ensures.flash.outside c.put-outcome.ensures.put c.put-outcome.ensures.memory.refused c.put_breaks.ensures c.put_reply.ensures
 
 pub returns-in-Err-clause-cause : goal.returns-in-Err-clause-cause
 returns-in-Err-clause-cause g c = on-refusal _ c.args.name _ c.in-Err.refusal c.in-Err.ensures
@@ -53,18 +54,18 @@ returns-clause-cause g c =
           outcome = c.put-outcome.result;
           said_is = refl;
           exact = subst (λ n. RefusesAs (put_refusal c.index_mut.result.now.table c.args.key c.args.values.now n) c.put-outcome.result) (sym (map-twice (λ (b : Bor (List ℕ)). b.now) (λ (xs : List ℕ). length xs) c.args.blob)) c.put-outcome.ensures.exact;
-          fails = rw c.put_breaks.ensures (put-fails-so _ c.in-Ok.at c.index_mut.result.now c.put-outcome.new.self _ c.args.key c.args.values.now (option_map (λ (b : Bor (List ℕ)). length b.now) c.args.blob) c.put-outcome.result here c.in-Ok.ensures.mounted_is (c.requires.sound.running c.in-Ok.ensures.mounted_is c.in-Ok.at c.index_mut.result.now here) c.put-outcome.ensures.exact c.put-outcome.ensures.refused c.put-outcome.ensures.cause);
-          leaves = record { now = c.put-outcome.new.self; same = c.put-outcome.ensures.same; entries = refl; mounted = ap not c.put_breaks.ensures; notes = refl; unread = c.put-outcome.ensures.reads; goes = c.put-outcome.ensures.goes; outside = c.put-outcome.ensures.outside };
-          last = c.put-outcome.ensures.last;
-          stores = c.put-outcome.ensures.stores;
-          logs = c.put-outcome.ensures.logs;
-          power = c.put-outcome.ensures.power;
-          quiet = λ none. c.put-outcome.ensures.quiet (ap (λ n. put_refusal c.index_mut.result.now.table c.args.key c.args.values.now n) (sym (map-twice (λ (b : Bor (List ℕ)). b.now) (λ (xs : List ℕ). length xs) c.args.blob)) ∙ none);
-          off = λ none. c.put-outcome.ensures.off (ap (λ n. put_refusal c.index_mut.result.now.table c.args.key c.args.values.now n) (sym (map-twice (λ (b : Bor (List ℕ)). b.now) (λ (xs : List ℕ). length xs) c.args.blob)) ∙ none);
-          log_page = c.put-outcome.ensures.log_page;
-          sealed = c.put-outcome.ensures.sealed;
-          writes = c.put-outcome.ensures.writes;
-          media_reads = c.put-outcome.ensures.media_reads;
+          fails = rw c.put_breaks.ensures (put-fails-so _ c.in-Ok.at c.index_mut.result.now c.put-outcome.new.self _ c.args.key c.args.values.now (option_map (λ (b : Bor (List ℕ)). length b.now) c.args.blob) c.put-outcome.result here c.in-Ok.ensures.mounted_is (c.requires.sound.running c.in-Ok.ensures.mounted_is c.in-Ok.at c.index_mut.result.now here) c.put-outcome.ensures.exact c.put-outcome.ensures.memory.refused c.put-outcome.ensures.flash.cause);
+          leaves = record { now = c.put-outcome.new.self; same = c.put-outcome.ensures.table.same; entries = refl; mounted = ap not c.put_breaks.ensures; notes = refl; unread = c.put-outcome.ensures.flash.reads; goes = c.put-outcome.ensures.flash.goes; outside = c.put-outcome.ensures.flash.outside };
+          last = c.put-outcome.ensures.memory.last;
+          stores = c.put-outcome.ensures.memory.stores;
+          logs = c.put-outcome.ensures.memory.logs;
+          power = c.put-outcome.ensures.flash.power;
+          quiet = λ none. c.put-outcome.ensures.pages.quiet (ap (λ n. put_refusal c.index_mut.result.now.table c.args.key c.args.values.now n) (sym (map-twice (λ (b : Bor (List ℕ)). b.now) (λ (xs : List ℕ). length xs) c.args.blob)) ∙ none);
+          off = λ none. c.put-outcome.ensures.pages.off (ap (λ n. put_refusal c.index_mut.result.now.table c.args.key c.args.values.now n) (sym (map-twice (λ (b : Bor (List ℕ)). b.now) (λ (xs : List ℕ). length xs) c.args.blob)) ∙ none);
+          log_page = c.put-outcome.ensures.pages.log_page;
+          sealed = c.put-outcome.ensures.pages.sealed;
+          writes = c.put-outcome.ensures.flash.writes;
+          media_reads = apart-reads _ _ _ _ c.put-outcome.ensures.flash.media_reads;
         },
       );
     }
@@ -79,7 +80,7 @@ pub returns-in-Err-clause-reads : goal.returns-in-Err-clause-reads
 returns-in-Err-clause-reads g c = refl
 
 pub returns-clause-goes : goal.returns-clause-goes
-returns-clause-goes g c = c.put-outcome.ensures.goes
+returns-clause-goes g c = c.put-outcome.ensures.flash.goes
 
 pub returns-clause-reads : goal.returns-clause-reads
-returns-clause-reads g c = c.put-outcome.ensures.reads
+returns-clause-reads g c = c.put-outcome.ensures.flash.reads
