@@ -28,9 +28,9 @@ use Rattle.fl_table.specs.Memory.{next_in}
 use Rattle.fl_parts.specs.Pages.{place_in}
 use Rattle.fl_table.specs.Standing.{Stands}
 use Rattle.fl_table.specs.declared.table.Table.{Table}
-use Rattle.fl_table.proofs.BlobsOfTable as blobbing
+use Rattle.fl_parts.proofs.BlobsOfTable as blobbing
 use Rattle.fl_table.proofs.Finds.{holds-pages, limit-told}
-use Rattle.fl_table.proofs.Images.{holds-same}
+use Rattle.fl_parts.proofs.Images.{holds-same}
 use Rattle.fl_table.proofs.KeptRead.{ring-place}
 use Rattle.fl_table.proofs.MemoryTells.{next-is, oldest-is, pages-is}
 use Rattle.fl_cursor.specs.Ascending.{both}

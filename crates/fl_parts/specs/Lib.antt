@@ -11,3 +11,5 @@ pub mod Coming
 pub mod Knowing
 pub mod IndexMount
 pub mod MountLimits
+pub mod Entries
+pub mod Accepting

@@ -30,7 +30,7 @@ use Rattle.fl_table.specs.Look.{layout_in}
 use Rattle.fl_table.specs.declared.find.RowAt.{RowAt}
 use Rattle.fl_table.specs.declared.find.RowAt.TheVariants as at
 use Rattle.fl_table.specs.declared.table.Table.{Table}
-use Rattle.fl_table.proofs.PendingRows.{entry-front}
+use Rattle.fl_parts.proofs.PendingRows.{entry-front}
 use Rattle.fl_queries.specs.LookSays.{TellsRow}
 use Rattle.fl_queries.specs.Found.{FindsRow, StandsAt}
 use Rattle.fl_queries.specs.Looked.{Looks}

@@ -8,8 +8,8 @@ use Rattle.fl_model.specs.Layout.{is_blank}
 use Rattle.fl_model.specs.Record.{Plan, Config, blocks_of, has_log}
 use Rattle.fl_model.specs.Ring.{fresh}
 use Rattle.fl_model.specs.Table.{Table, RingName, LogRing, shape_of, fresh_table}
-use Rattle.fl_table.proofs.Images as without_log
-use Rattle.fl_table.proofs.Images.{pages-medium}
+use Rattle.fl_parts.proofs.Images as without_log
+use Rattle.fl_parts.proofs.Images.{pages-medium}
 use Rattle.fl_parts.specs.Pages.{HoldsTable, bytes_in, place_in}
 use Rattle.fl_rlc.specs.Logged.{Rests}
 

@@ -33,7 +33,7 @@ use Rattle.fl_parts.specs.declared.mount_fault.MountFault.{MountFault}
 use Rattle.fl_parts.specs.declared.mount_fault.MountFault.TheVariants as mount
 use Rattle.fl_table.specs.declared.table.Table as code
 use Rattle.fl_parts.proofs.Bare.{bare-table}
-use Rattle.fl_table.proofs.BlobsOfTable.{planned-none}
+use Rattle.fl_parts.proofs.BlobsOfTable.{planned-none}
 use Rattle.fl_parts.proofs.Loose.{rests-mountable}
 use Rattle.fl_table.proofs.SealAnswers.{planned-shape}
 use Rattle.fl_var.specs.declared.var_data.VarData.{VarData}

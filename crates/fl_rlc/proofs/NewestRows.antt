@@ -28,7 +28,7 @@ use Rattle.fl_schema.specs.declared.column.ColumnType.{ColumnType}
 use Rattle.fl_schema.specs.declared.schema.KeyWidth.{KeyWidth}
 use Rattle.fl_ring.proofs.Images.{committed_is}
 use Rattle.fl_parts.proofs.BlobRows.{stored-row}
-use Rattle.fl_table.proofs.KeyOrder.{rising}
+use Rattle.fl_parts.proofs.KeyOrder.{rising}
 use Rattle.fl_parts.specs.Reading.{keys_fault}
 use Rattle.fl_rlc.specs.Joining.{HasNewest}
 use Rattle.fl_rlc.specs.Memory.{next_in, oldest_in, page_in, log_shape}

@@ -23,7 +23,7 @@ use Rattle.fl_table.specs.declared.faults.PutRefusal.{PutRefusal}
 use Rattle.fl_table.specs.declared.faults.PutRefusal.TheVariants as put
 use Rattle.fl_table.specs.declared.faults.PutRefusal.TheVariants.{Spent}
 use Rattle.fl_table.specs.Refusal.{or_else, refused_if, RefusesAs, put_refusal as table_refusal}
-use Rattle.fl_table.proofs.Accepted.{accepted}
+use Rattle.fl_parts.proofs.Accepted.{accepted}
 use Rattle.fl_parts.proofs.Bare.{bare-table}
 use Rattle.fl_table.proofs.Refusals.{answer_of, refusals-agree}
 use Rattle.fl_rlc.specs.Logged.{Stands, LogStands}

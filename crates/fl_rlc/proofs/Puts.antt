@@ -30,7 +30,7 @@ use Rattle.fl_table.specs.Standing as table_words
 use Rattle.fl_table.specs.declared.table.Table as code
 use Rattle.fl_table.specs.declared.faults.PutRefusal.TheVariants.{Spent}
 use Rattle.fl_table.specs.Refusal.{refused_if}
-use Rattle.fl_table.proofs.BlobsOfTable.{planned-none}
+use Rattle.fl_parts.proofs.BlobsOfTable.{planned-none}
 use Rattle.fl_table.proofs.SealAnswers.{planned-shape}
 use Rattle.fl_var.specs.declared.var_data.VarData.{VarData}
 use Rattle.fl_table.proofs.Apart.{PagesApart, stands-apart}

@@ -7,7 +7,7 @@ use Rattle.fl_model.specs.Image.{IsRingImage, HoldsLogged}
 use Rattle.fl_model.specs.Record.{Plan}
 use Rattle.fl_model.specs.Table.{Table, RingName, DataRing, IndexRing, VarRing, LogRing, shape_of}
 use Rattle.fl_parts.specs.Pages.{place_in}
-use Rattle.fl_table.proofs.Images.{holds-same}
+use Rattle.fl_parts.proofs.Images.{holds-same}
 use Rattle.fl_rlc.specs.Logged.{Rests}
 
 -- each page of its rings stands behind the beginning of its blocks

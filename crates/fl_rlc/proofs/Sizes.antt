@@ -1,7 +1,7 @@
 -- The room that a table with a log takes, whatever the numbers of its knots and slots.
 use Rattle.std.proofs.Common.{ℕ, ◌+◌, ◌*◌, ◌^◌, ◌<◌, ◌≤◌, arith}
 use prog.Memory.{up}
-use Rattle.fl_table.proofs.Sizes.{side-by-side, at-eight, after-eight, after-four, whole, at-one}
+use Rattle.fl_parts.proofs.Sizes.{side-by-side, at-eight, after-eight, after-four, whole, at-one}
 
 -- what is asked at each call that is given the table with its log
 pub logged-fits : (knots slots : ℕ) → knots ≤ 65536 → slots ≤ 65536 → up 8 (up 8 (0 + up 8 (up 4 (up 8 (up 8 (264 + up 8 (up 8 (8 + up 8 (up 8 (8 + up 8 (up 1 (up 8 (0 + up 8 (0 + knots * 16)) + 8) + 0)) + 48)) + up 8 (16 + up 8 (up 1 (up 8 (0 + up 8 (0 + slots * 8)) + 8) + 0)))) + 120) + 88) + 4)) + 96) < 2 ^ 63

@@ -24,7 +24,7 @@ use Rattle.fl_parts.specs.IndexMount.{FindsBy, FindsBitmaps}
 use Rattle.fl_table.specs.Mounting.{FindsPages}
 use Rattle.fl_table.specs.declared.counts.Mounted.{Mounted}
 use Rattle.fl_table.specs.declared.table.Table.{Table}
-use Rattle.fl_table.proofs.BlobsOfTable as blobbing
+use Rattle.fl_parts.proofs.BlobsOfTable as blobbing
 use Rattle.fl_parts.proofs.IndexOfTable.{planned-some}
 use Rattle.fl_table.proofs.SealAnswers.{planned-shape, planned-ring}
 use Rattle.fl_var.specs.Memory.{var_shape}

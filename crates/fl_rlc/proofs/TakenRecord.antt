@@ -31,7 +31,7 @@ use Rattle.fl_table.specs.declared.faults.PutRefusal.{PutRefusal}
 use Rattle.fl_table.specs.declared.faults.PutRefusal.TheVariants as put
 use Rattle.fl_table.specs.declared.table.Table.{Table}
 use Rattle.fl_parts.proofs.Bare.{bare-table}
-use Rattle.fl_table.proofs.BlobsOfTable.{planned-none}
+use Rattle.fl_parts.proofs.BlobsOfTable.{planned-none}
 use Rattle.fl_table.proofs.Refusals.{refusal-calm}
 use Rattle.fl_var.specs.declared.var_data.VarData.{VarData}
 use Rattle.fl_rlc.specs.Joining.{taken}

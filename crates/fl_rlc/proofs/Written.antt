@@ -14,7 +14,7 @@ use Rattle.fl_parts.proofs.PlacedBlobs.{same}
 use Rattle.fl_table.specs.Paged as paged
 use Rattle.fl_table.specs.Paged.{next_page}
 use Rattle.fl_table.specs.declared.table.Table.{Table}
-use Rattle.fl_table.proofs.BlobsOfTable.{same-some}
+use Rattle.fl_parts.proofs.BlobsOfTable.{same-some}
 use Rattle.fl_table.proofs.Paged.{rows-ahead-later}
 use Rattle.fl_rlc.specs.Paged.{HasMadePage}
 use Rattle.fl_rlc.specs.Rows.{StandOutside}

@@ -8,7 +8,7 @@ use Rattle.fl_model.specs.Table.{Table, Entry, RingName, DataRing, IndexRing, Va
 use Rattle.fl_model.specs.Work.{Kind, Body, Mark, VoidMark, Erase, effect}
 use Rattle.fl_model.specs.Mount.{Turn, Of, Replay, turned, ready}
 use Rattle.fl_model.proofs.Lists.{each-drop, each-push, each-take}
-use Rattle.fl_table.proofs.Accepted.{accepted}
+use Rattle.fl_parts.proofs.Accepted.{accepted}
 use Rattle.fl_saved.specs.ShortBlobs.{AreShort, HasShortBlobs}
 
 abbrev pub Keeps : ℕ → Table → Table → Type 0

@@ -16,7 +16,7 @@ use Rattle.fl_rlc.specs.Logged.{Stands}
 use Rattle.fl_rlc.specs.Outcomes.{LogStays}
 use Rattle.fl_rlc.specs.Table.{OutsideStands}
 use Rattle.fl_rlc.specs.declared.table.LoggedTable.{LoggedTable}
-use Rattle.fl_table.proofs.Images.{pages-medium}
+use Rattle.fl_parts.proofs.Images.{pages-medium}
 use Rattle.fl_store.specs.Tables.{first_of, EntryStands, TablesStand}
 use Rattle.fl_store.specs.declared.tables.Entry.{Entry}
 use Rattle.fl_store.proofs.Apart.{other-pages}

@@ -12,7 +12,7 @@ use Rattle.fl_model.specs.Table as model
 use Rattle.fl_model.proofs.Lists.{slice_get-some}
 use Rattle.fl_machine.specs.Stays.{IsRepaired, IsReplayed, PagesAreRepaired}
 use Rattle.fl_ring.proofs.Lengths.{page_length}
-use Rattle.fl_table.proofs.Images.{pages-medium}
+use Rattle.fl_parts.proofs.Images.{pages-medium}
 use Rattle.fl_store.specs.Repaired as repaired
 use Rattle.fl_store.specs.Tables.{TablesStand}
 use Rattle.fl_store.specs.declared.tables.Entry.{Entry}

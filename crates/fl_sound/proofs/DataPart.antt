@@ -42,10 +42,10 @@ use Rattle.fl_schema.specs.declared.schema.KeyWidth.{KeyWidth}
 use Rattle.fl_schema.specs.declared.schema.KeyWidth.TheVariants.{Four, Eight}
 use Rattle.fl_parts.proofs.KeptPages.{kept, table-numbered}
 use Rattle.fl_parts.proofs.Loose.{IsLoose, loose-of}
-use Rattle.fl_table.proofs.MountGood.{good-ring}
+use Rattle.fl_parts.proofs.MountGood.{good-ring}
 use Rattle.fl_parts.proofs.Plain.{IsPlainTable, table-parts}
 use Rattle.fl_plan.proofs.Fits.{few-blobs, row-fits}
-use Rattle.fl_table.proofs.Repaired.{IsIdle, lost-idle}
+use Rattle.fl_parts.proofs.Repaired.{IsIdle, lost-idle}
 use Rattle.fl_parts.proofs.States.{state_of, state-count, to-ring, HaveSize}
 use Rattle.fl_rules.specs.Marks.{kept_page}
 use Rattle.fl_rules.specs.Rising.{KeysAscend}

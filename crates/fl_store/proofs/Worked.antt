@@ -9,7 +9,7 @@ use Rattle.fl_image.specs.Image.{OnlyLooksAt}
 use Rattle.fl_model.specs.Image.{page_bytes}
 use Rattle.fl_model.specs.Record.{Config, blocks_of}
 use Rattle.fl_model.specs.Table.{Table}
-use Rattle.fl_table.proofs.Images.{pages-medium}
+use Rattle.fl_parts.proofs.Images.{pages-medium}
 use Rattle.fl_words.specs.Config.{Lines}
 use Rattle.fl_words.specs.Medium.{IsImage}
 use Rattle.fl_store.specs.MountEnds.{Keeps}

@@ -21,7 +21,7 @@ use Rattle.fl_table.specs.Mounting.{OutsideStands}
 use Rattle.fl_parts.specs.Pages.{HoldsTable, Rests, bytes_in, place_in}
 use Rattle.fl_table.specs.Standing.{Stands}
 use Rattle.fl_table.specs.declared.table.Table.{Table}
-use Rattle.fl_table.proofs.BlobsOfTable as blobbing
+use Rattle.fl_parts.proofs.BlobsOfTable as blobbing
 use Rattle.fl_parts.proofs.IndexOfTable.{planned-some, stand-moved}
 use Rattle.fl_parts.proofs.Plain.{IsPlainTable, plain-lose, table-facts, table-parts}
 use Rattle.fl_table.proofs.SealAnswers.{planned-ring}

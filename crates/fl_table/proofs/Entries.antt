@@ -28,7 +28,7 @@ use Rattle.fl_schema.specs.Schema.{types_of}
 use Rattle.fl_schema.specs.declared.schema.KeyWidth.{KeyWidth}
 use Rattle.fl_schema.specs.declared.schema.KeyWidth.TheVariants.{Four, Eight}
 use Rattle.fl_parts.specs.Blobs.{AreLed}
-use Rattle.fl_table.specs.Entries.{LookFrom, LookUp, LooksFrom, LooksUp, ShowsFound, TellsOf}
+use Rattle.fl_parts.specs.Entries.{LookFrom, LookUp, LooksFrom, LooksUp, ShowsFound, TellsOf}
 use Rattle.fl_table.specs.Memory.{IsPlanned}
 use Rattle.fl_table.specs.Skipping.{AreFresh, HoldGood, IsBadIndex}
 use Rattle.fl_table.specs.Standing.{Stands}

@@ -45,7 +45,7 @@ use Rattle.fl_table.specs.Standing.{Stands}
 use Rattle.fl_table.specs.declared.find.RowAt.TheVariants as at
 use Rattle.fl_table.specs.declared.table.Table.{Table}
 use Rattle.fl_table.proofs.KeptRead.{ring-place, shown}
-use Rattle.fl_table.proofs.PendingRows.{written-found, written-none, pending-found, pending-none}
+use Rattle.fl_parts.proofs.PendingRows.{written-found, written-none, pending-found, pending-none}
 use Rattle.fl_table.proofs.SealAnswers.{planned-ring}
 use Rattle.fl_parts.proofs.States.{shape_in}
 

@@ -34,7 +34,7 @@ use Rattle.fl_table.specs.Standing.{Stands}
 use Rattle.fl_table.specs.declared.table.Table as code
 use Rattle.fl_parts.proofs.TablePages.{lost-twice}
 use Rattle.fl_parts.proofs.BlobTables.{HoldsVar}
-use Rattle.fl_table.proofs.BlobsOfTable.{var-behind, var-same}
+use Rattle.fl_parts.proofs.BlobsOfTable.{var-behind, var-same}
 use Rattle.fl_table.proofs.SealAnswers.{planned-shape}
 use Rattle.fl_parts.proofs.Plain.{IsPlainTable, IsIndexed, blobbed-moved, stand-as, table-parts, table-facts, plain-lose}
 use Rattle.fl_parts.proofs.IndexOfTable.{planned-some, planned-none, index-next}

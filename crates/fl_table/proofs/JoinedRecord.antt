@@ -19,7 +19,7 @@ use Rattle.fl_model.specs.Work.{Device, Whole, PartProgress}
 use Rattle.fl_model.proofs.Kept.{kept-record}
 use Rattle.fl_frame.specs.Device.{SameDevice}
 use Rattle.fl_frame.specs.Watched.{IsWatched}
-use Rattle.fl_table.specs.Accepting.{IsAcceptedBy}
+use Rattle.fl_parts.specs.Accepting.{IsAcceptedBy}
 use Rattle.fl_parts.specs.Bitmaps as bitmaps
 use Rattle.fl_parts.specs.Blobs.{ArePlanned, Stand, StandOutside, IsStanding, PlaceEndsOf, PlaceEnds, reference_of, next_of, next_after}
 use Rattle.fl_table.specs.Outcomes.{Breaks, BySeals}
@@ -29,7 +29,7 @@ use Rattle.fl_table.specs.declared.table.Table as code
 use Rattle.fl_parts.proofs.BlobSteps.{after-var, fill-var, no-fill}
 use Rattle.fl_table.proofs.BlobStands.{some-rows, some-index, index-before, bitmaps-moved, kept-var, standing-in, var-breaks, var-finishes}
 use Rattle.fl_parts.proofs.BlobTables.{IsBlobbed, standing-has}
-use Rattle.fl_table.proofs.BlobsOfTable.{none-var, planned-none}
+use Rattle.fl_parts.proofs.BlobsOfTable.{none-var, planned-none}
 use Rattle.fl_parts.proofs.IndexOfTable.{index-number}
 use Rattle.fl_parts.proofs.ListsStay.{tell-record}
 use Rattle.fl_parts.proofs.Plain.{IsPlainTable, table-parts, written-push}

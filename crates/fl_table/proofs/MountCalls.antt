@@ -22,7 +22,7 @@ use Rattle.fl_parts.specs.Faults.{IfFlash, IfPage, MountCausedBy, is_of_pages, o
 use Rattle.fl_model.specs.Table.{IndexRing, VarRing}
 use Rattle.fl_table.specs.Memory.{IsPlanned, IsSamePlan}
 use Rattle.fl_parts.specs.Pages.{bytes_in, place_in}
-use Rattle.fl_table.proofs.BlobsOfTable.{var-stands}
+use Rattle.fl_parts.proofs.BlobsOfTable.{var-stands}
 use Rattle.fl_parts.proofs.ListsStay.{index-stands}
 use Rattle.fl_table.proofs.SealAnswers.{planned-ring}
 use Rattle.fl_find.specs.declared.index.KeyIndex.{KeyIndex}

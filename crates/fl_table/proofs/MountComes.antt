@@ -38,15 +38,15 @@ use Rattle.fl_parts.proofs.MountProgress.{rows-come}
 use Rattle.fl_table.proofs.Entries.{fields-fit}
 use Rattle.fl_parts.proofs.IndexOfTable.{planned-none}
 use Rattle.fl_table.proofs.MountCalls.{OthersStill}
-use Rattle.fl_table.proofs.MountLifted.{RowsMount}
-use Rattle.fl_table.proofs.MountRead.{HoldRows, hold-rows, page-of}
+use Rattle.fl_parts.proofs.MountLifted.{RowsMount}
+use Rattle.fl_parts.proofs.MountRead.{HoldRows, hold-rows, page-of}
 use Rattle.fl_parts.proofs.ListsStay.{below-moved, ring-moved}
 use Rattle.fl_parts.proofs.Loose.{has-listed, none-listed}
-use Rattle.fl_table.proofs.Repaired.{idle-lost}
+use Rattle.fl_parts.proofs.Repaired.{idle-lost}
 use Rattle.fl_table.proofs.SealAnswers.{planned-large}
-use Rattle.fl_table.proofs.StandingMount.{IsOf, IsPageOf, IsIndexOf}
-use Rattle.fl_table.proofs.StandingIndex.{index-of, ends-within, few-kept, listed-told}
-use Rattle.fl_table.proofs.StandingTotals.{unlisted-counted, unlisted-few}
+use Rattle.fl_parts.proofs.StandingMount.{IsOf, IsPageOf, IsIndexOf}
+use Rattle.fl_parts.proofs.StandingIndex.{index-of, ends-within, few-kept, listed-told}
+use Rattle.fl_parts.proofs.StandingTotals.{unlisted-counted, unlisted-few}
 use Rattle.fl_parts.proofs.States.{shape_in, state_of, state-oldest, HaveSize}
 
 module _ {Left : Type 0} {KNOTS SLOTS : ℕ} (t : code.Table KNOTS SLOTS) (first : ℕ) (plan : Plan) (table : Table) (rose : Bool) (device : Device) (ring : Ring) (old mid : FlashState) (planned : IsPlanned t first plan) (here : place.shape_of ring ≡ shape_in first plan)

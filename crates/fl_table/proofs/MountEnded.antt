@@ -22,7 +22,7 @@ use Rattle.fl_model.specs.Work.{Device, PartProgress}
 use Rattle.fl_model.specs.Within.{TableMounts, TableStopped, TableUnread}
 use Rattle.fl_model.proofs.Lists.{slice_get-some, take_none}
 use Rattle.fl_parts.proofs.BlobTables.{HoldsVar}
-use Rattle.fl_table.proofs.BlobsOfTable.{var-as, var-same}
+use Rattle.fl_parts.proofs.BlobsOfTable.{var-as, var-same}
 use Rattle.fl_table.proofs.MountCalls.{OthersStill}
 use Rattle.fl_parts.proofs.Loose.{IsLoose, has-listed, led-as, listed-as, loose-paged, paged-loose, plain-from}
 use Rattle.fl_parts.proofs.Plain.{IsPlainTable, some_map, stand-as, table-parts, table-facts}
@@ -72,16 +72,16 @@ use Rattle.fl_parts.specs.declared.mount_fault.MountFault.{MountFault}
 use Rattle.fl_parts.specs.declared.mount_fault.MountFault.TheVariants as mount
 use Rattle.fl_table.specs.declared.table.Table as code
 use Rattle.fl_parts.proofs.TablePages.{plain-on, plain-holds}
-use Rattle.fl_table.proofs.RingInTable.{TableAnswers}
-use Rattle.fl_table.proofs.MountGood.{ring-renumbered, numbered-facts, numbered-idle, good-ring}
-use Rattle.fl_table.proofs.MountLifted.{RowsMount, mount-lifts, mount-fails}
+use Rattle.fl_parts.proofs.RingInTable.{TableAnswers}
+use Rattle.fl_parts.proofs.MountGood.{ring-renumbered, numbered-facts, numbered-idle, good-ring}
+use Rattle.fl_parts.proofs.MountLifted.{RowsMount, mount-lifts, mount-fails}
 use Rattle.fl_table.proofs.MountComes.{pages-hold}
-use Rattle.fl_table.proofs.Repaired.{IsHeld, IsIdle, IsRepaired, idle-lost, lost-idle}
+use Rattle.fl_parts.proofs.Repaired.{IsHeld, IsIdle, IsRepaired, idle-lost, lost-idle}
 use Rattle.fl_table.proofs.SealAnswers.{planned-shape, planned-large, planned-few, lies-size, counts-room}
 use Rattle.fl_table.proofs.SealEnds.{fault-ends}
-use Rattle.fl_table.proofs.StandingMount.{IsOf}
-use Rattle.fl_table.proofs.StandingKeys.{mount-fine}
-use Rattle.fl_table.proofs.StandingKnown.{KnowsTable}
+use Rattle.fl_parts.proofs.StandingMount.{IsOf}
+use Rattle.fl_parts.proofs.StandingKeys.{mount-fine}
+use Rattle.fl_parts.proofs.StandingKnown.{KnowsTable}
 use Rattle.fl_parts.proofs.States.{shape_in, state_of, state-oldest, HaveSize, to-image}
 
 -- what the mount of the data ring is told of its table

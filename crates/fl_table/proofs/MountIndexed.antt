@@ -30,7 +30,7 @@ use Rattle.fl_table.proofs.IndexSeals.{IsBeside, indexed-of, beside-facts, holds
 use Rattle.fl_parts.proofs.Loose.{IsListed, IsLoose, listed-of, loose-paged, loose-with_index, paged-loose}
 use Rattle.fl_parts.proofs.Plain.{IsPlainTable, table-facts, table-parts, least-below}
 use Rattle.fl_parts.proofs.VarRepairs.{voided_number}
-use Rattle.fl_table.proofs.Repaired.{IsIdle, idle-lost, lost-idle}
+use Rattle.fl_parts.proofs.Repaired.{IsIdle, idle-lost, lost-idle}
 
 -- the repairs of an index ring that are left
 abbrev pub AreErases : List (RingName × Kind) → Type 0

@@ -56,7 +56,7 @@ use Rattle.fl_parts.specs.MountLimits.{IsIndexLimited, rows_mount_limit}
 use Rattle.fl_table.proofs.MountLimits.{done-repaired, index-within, limit-bare, limit-indexed}
 use Rattle.fl_table.proofs.MountIndexed.{index-fails, index-mounts, then-rows}
 use Rattle.fl_parts.proofs.Loose.{IsLoose, has-listed, none-listed, paged-loose}
-use Rattle.fl_table.proofs.Repaired.{IsIdle, lost-idle}
+use Rattle.fl_parts.proofs.Repaired.{IsIdle, lost-idle}
 use Rattle.fl_table.proofs.SealAnswers.{planned-shape, same-then}
 
 module _ {KNOTS SLOTS : ℕ} (t : code.Table KNOTS SLOTS) (old new : FlashState) (first : ℕ) (plan : Plan) (table : Table) (rose : Bool) (device : Device) (planned : IsPlanned t first plan) (rests : RestsToMount old first plan table) (watched : IsWatched old new rose device) where

@@ -43,12 +43,12 @@ use Rattle.fl_table.proofs.MountCalls.{OthersStill, index-read, index-still, sam
 use Rattle.fl_table.proofs.MountComes.{comes-to, few-come, few-unlisted, found-there, index-ends}
 use Rattle.fl_table.proofs.MountEnded.{IsMounting, mounting-of, mount-answer, reads-end, ready_facts, before_now, pages_now, settled_now, ring-ends, ring-mounts, same_device, started-memory, started-stand}
 use Rattle.fl_parts.proofs.Loose.{loose-paged}
-use Rattle.fl_table.proofs.MountLifted.{RowsMount}
+use Rattle.fl_parts.proofs.MountLifted.{RowsMount}
 use Rattle.fl_table.proofs.MountLimits.{data-voids, mount-repaired}
-use Rattle.fl_table.proofs.Repaired.{idle-lost}
+use Rattle.fl_parts.proofs.Repaired.{idle-lost}
 use Rattle.fl_table.proofs.SealAnswers.{lies-size, plan-self, planned-ring, planned-same}
-use Rattle.fl_table.proofs.StandingMount.{IsOf}
-use Rattle.fl_table.proofs.StandingKnown.{KnowsTable, knows-table}
+use Rattle.fl_parts.proofs.StandingMount.{IsOf}
+use Rattle.fl_parts.proofs.StandingKnown.{KnowsTable, knows-table}
 use Rattle.fl_parts.proofs.States.{shape_in, state_of, HaveSize}
 
 -- the medium reaches to the end of the flash

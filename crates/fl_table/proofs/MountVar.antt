@@ -34,12 +34,12 @@ use Rattle.fl_table.specs.declared.table.Table as code
 use Rattle.fl_parts.proofs.BlobSeals.{with_var, facts-with_var, holds-with_var}
 use Rattle.fl_table.proofs.BlobStands.{bitmaps-stand, index-before, index-pages}
 use Rattle.fl_parts.proofs.BlobTables.{IsBlobbed, IsLed, blobbed-in, ring-blobbed, ring-holds, ring-led, rests-var}
-use Rattle.fl_table.proofs.BlobsOfTable.{planned-none, planned-some}
+use Rattle.fl_parts.proofs.BlobsOfTable.{planned-none, planned-some}
 use Rattle.fl_parts.proofs.Loose.{IsLoose, loose-paged, loose-with_var, paged-loose}
 use Rattle.fl_parts.proofs.Renumbered.{IsMounting}
 use Rattle.fl_parts.proofs.VarFacts.{blobs-as, front-of, in-some, led-some, placed-in}
 use Rattle.fl_parts.proofs.Plain.{IsPlainTable, table-facts, table-parts}
-use Rattle.fl_table.proofs.Repaired.{IsIdle, idle-lost, lost-idle}
+use Rattle.fl_parts.proofs.Repaired.{IsIdle, idle-lost, lost-idle}
 use Rattle.fl_table.proofs.SealAnswers.{planned-shape}
 use Rattle.fl_parts.proofs.VarRepairs.{done-keeps, done-leaves, part-keeps, part-leaves}
 use Rattle.fl_var.specs.Memory.{page_in}

@@ -23,20 +23,20 @@ use Rattle.fl_model.proofs.Sealed.{sealed-next}
 use Rattle.fl_model.proofs.Among.{after_seals-append}
 use Rattle.fl_parts.specs.Bitmaps.{bitmap_seals}
 use Rattle.fl_parts.specs.Blobs.{rest_seals}
-use Rattle.fl_table.proofs.Accepted.{IsAccepted}
+use Rattle.fl_parts.proofs.Accepted.{IsAccepted}
 use Rattle.fl_parts.proofs.BlobSteps.{after-var, rest-var}
 use Rattle.fl_table.proofs.IndexSeals.{IsBeside}
 use Rattle.fl_parts.proofs.Plain.{IsPlainTable, table-parts, some-table_seals}
 use Rattle.fl_model.proofs.TableSeals.{idle-table_seals, full-room_seals, room-room_seals}
 use Rattle.fl_flash.specs.declared.flash.FlashFault.{FlashFault}
 use Rattle.fl_schema.specs.Schema.{layout_of}
-use Rattle.fl_table.specs.Accepting.{IsAcceptedBy}
+use Rattle.fl_parts.specs.Accepting.{IsAcceptedBy}
 use Rattle.fl_table.specs.Memory.{bitmap_with}
 use Rattle.fl_table.specs.Outcomes.{Finishes, Breaks, BySeals, FaultEnds}
 use Rattle.fl_parts.specs.Pages.{KeptStand}
 use Rattle.fl_table.specs.Standing.{Stands}
 use Rattle.fl_table.specs.declared.table.Table as code
-use Rattle.fl_table.proofs.Memories.{last-sealed}
+use Rattle.fl_parts.proofs.Memories.{last-sealed}
 use Rattle.fl_parts.proofs.KeptPagesStay.{kept-same, kept-then}
 use Rattle.fl_table.proofs.SealAnswers.{writer-count}
 

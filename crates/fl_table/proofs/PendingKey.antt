@@ -18,8 +18,8 @@ use Rattle.fl_table.specs.Look.{layout_in, buffered_rows}
 use Rattle.fl_table.specs.Memory.{pending_in}
 use Rattle.fl_table.specs.Standing.{Stands}
 use Rattle.fl_table.specs.declared.table.Table.{Table}
-use Rattle.fl_table.proofs.PendingRows.{pending-rise}
-use Rattle.fl_table.proofs.Pointed.{first-key}
+use Rattle.fl_parts.proofs.PendingRows.{pending-rise}
+use Rattle.fl_parts.proofs.Pointed.{first-key}
 
 pub pending-told : (table : model.Table) (row : Row) (key : ℕ) → slice_get (map stored_row (pending_entries table)) 0 ≡ Some row → nat_le row.key key ≡ is_pending_key table key
 pending-told table row key here = sym (ap (λ (o : Option ℕ). unwrap_or (option_map (λ first. nat_le first key) o) false) (first-key table row here))

@@ -8,10 +8,10 @@ use Rattle.fl_model.specs.Record.{Record, Plan, RowLayout, layout_len, row_len, 
 use Rattle.fl_model.specs.Table as model
 use Rattle.fl_model.specs.Table.{Table, Refusal, BadKey, BadColumns, BadValue, BadBlob, refusal_of, make_room_seals, after_seals}
 use Rattle.fl_model.specs.Work.{Device}
-use Rattle.fl_table.proofs.Accepted.{accepted}
+use Rattle.fl_parts.proofs.Accepted.{accepted}
 use Rattle.fl_parts.proofs.Plain.{table-parts}
 use Rattle.fl_schema.specs.Schema.{layout_of}
-use Rattle.fl_table.specs.Accepting.{IsAcceptedBy}
+use Rattle.fl_parts.specs.Accepting.{IsAcceptedBy}
 use Rattle.fl_table.specs.Outcomes.{Finishes, Breaks, BySeals, JoinEnds, PutEnds}
 use Rattle.fl_table.specs.Refusal.{put_refusal}
 use Rattle.fl_table.specs.Standing.{Stands}

@@ -16,9 +16,9 @@ use Rattle.fl_frame.proofs.CallsInTurn.{stays-set}
 use Rattle.fl_parts.specs.Pages.{place_in}
 use Rattle.fl_table.specs.Standing.{Stands}
 use Rattle.fl_table.specs.declared.table.Table.{Table}
-use Rattle.fl_table.proofs.Images.{holds-same}
+use Rattle.fl_parts.proofs.Images.{holds-same}
 use Rattle.fl_parts.proofs.IndexOfTable.{lies-goes, stand-moved}
-use Rattle.fl_table.proofs.BlobsOfTable as blobbing
+use Rattle.fl_parts.proofs.BlobsOfTable as blobbing
 use Rattle.fl_parts.proofs.Plain.{IsPlainTable, table-parts}
 
 pub stands-still : {KNOTS SLOTS : ℕ} (t : Table KNOTS SLOTS) (f g : FlashState) (n first : ℕ) (plan : Plan) (table : model.Table) → OnlyReads f n g → Stands t f first plan table → Stands t g first plan table

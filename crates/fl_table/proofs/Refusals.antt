@@ -14,7 +14,7 @@ use Rattle.fl_parts.specs.Bitmaps as bitmaps
 use Rattle.fl_parts.proofs.IndexOfTable.{index-spent}
 use Rattle.fl_parts.specs.Blobs as variable
 use Rattle.fl_parts.specs.Blobs.{ArePlanned, HasFew}
-use Rattle.fl_table.proofs.BlobsOfTable.{planned-some, planned-none, var-spent}
+use Rattle.fl_parts.proofs.BlobsOfTable.{planned-some, planned-none, var-spent}
 use Rattle.fl_parts.proofs.Plain.{table-parts}
 use Rattle.fl_var.specs.declared.var_data.VarData.{VarData}
 use Rattle.fl_ring.specs.Place.{next_of}

@@ -14,8 +14,8 @@ use Rattle.fl_model.specs.Table.{Table, DataRing, shape_of, pending_entries, los
 use Rattle.fl_bitmap.specs.Bucket.{HasBuckets}
 use Rattle.fl_parts.specs.Blobs.{AreEmpty}
 use Rattle.fl_parts.proofs.Plain.{table-parts}
-use Rattle.fl_table.proofs.BlobsOfTable as blobbing
-use Rattle.fl_table.proofs.BlobsOnPages.{settled-pages}
+use Rattle.fl_parts.proofs.BlobsOfTable as blobbing
+use Rattle.fl_parts.proofs.BlobsOnPages.{settled-pages}
 use Rattle.fl_parts.proofs.IndexOfTable.{still-planned, plan-same, plan-then, planned-none, room-left}
 use Rattle.fl_index.specs.declared.index.BitmapIndex.{BitmapIndex}
 use Rattle.fl_parts.specs.Bitmaps.{ArePlanned, HaveRoom}

@@ -14,7 +14,7 @@ use Rattle.fl_model.proofs.Sealed.{sealed-next, sealed-torn}
 use Rattle.fl_ring.specs.Ring.{OutsideStands}
 use Rattle.fl_parts.proofs.ListsStay.{HoldsIndexed, indexed-same, index-stands}
 use Rattle.fl_parts.proofs.BlobTables.{HoldsVar}
-use Rattle.fl_table.proofs.BlobsOfTable.{var-same, var-stands}
+use Rattle.fl_parts.proofs.BlobsOfTable.{var-same, var-stands}
 use Rattle.fl_parts.proofs.Plain.{IsPlainTable}
 use Rattle.fl_frame.specs.Device.{SameDevice}
 use Rattle.fl_ring.specs.Operations.{change, seal_kinds}
@@ -25,9 +25,9 @@ use Rattle.fl_ring.specs.declared.ring.Ring.{Ring}
 use Rattle.fl_table.specs.Outcomes.{Breaks, FaultEnds}
 use Rattle.fl_parts.specs.Pages.{HoldsTable, KeptStand, bytes_in}
 use Rattle.fl_parts.proofs.TablePages.{plain-rests}
-use Rattle.fl_table.proofs.RingInTable.{HoldsOthers, MakesBody, TableAnswers, seal-lifts, seal-whole}
-use Rattle.fl_table.proofs.Memories.{none-pending, last-sealed, counts-sealed}
-use Rattle.fl_table.proofs.Sealed.{state-sealed}
+use Rattle.fl_parts.proofs.RingInTable.{HoldsOthers, MakesBody, TableAnswers, seal-lifts, seal-whole}
+use Rattle.fl_parts.proofs.Memories.{none-pending, last-sealed, counts-sealed}
+use Rattle.fl_parts.proofs.Sealed.{state-sealed}
 use Rattle.fl_parts.proofs.KeptPagesStay.{ring-same}
 use Rattle.fl_parts.proofs.States.{shape_in, state_of, state-oldest, HaveSize}
 

@@ -14,7 +14,7 @@ use Rattle.fl_parts.specs.Blobs as variable
 use Rattle.fl_table.specs.Memory.{HasRoom, MayPut, MaySeal}
 use Rattle.fl_table.specs.Mounting.{rings_in}
 use Rattle.fl_table.specs.declared.table.Table.{Table}
-use Rattle.fl_table.proofs.BlobsOfTable.{pages-most}
+use Rattle.fl_parts.proofs.BlobsOfTable.{pages-most}
 use Rattle.fl_var.specs.declared.var_data.VarData.{VarData}
 use Rattle.fl_var.proofs.Joins.{same-shape}
 

@@ -2,9 +2,7 @@ pub mod Memory
 pub mod Stored
 pub mod Refusal
 pub mod Standing
-pub mod Entries
 pub mod Skipping
-pub mod Accepting
 pub mod Outcomes
 pub mod Laws
 pub mod Causes

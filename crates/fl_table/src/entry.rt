@@ -13,7 +13,7 @@ impl<const KNOTS: usize, const SLOTS: usize> Table<KNOTS, SLOTS> {
     ghost use Rattle.fl_index.specs.Looking.{entire, bitmap_alone, IfBad, ShowsBitmap};
     ghost use Rattle.fl_model.specs.Record.{Plan};
     ghost use Rattle.fl_model.specs.Table as model;
-    ghost use Rattle.fl_table.specs.Entries.{LookFrom, LookUp, ShowsFound};
+    ghost use Rattle.fl_parts.specs.Entries.{LookFrom, LookUp, ShowsFound};
     ghost use Rattle.fl_table.specs.Memory.{LiesOn};
     ghost use Rattle.fl_table.specs.Skipping.{AreFresh, HoldGood, IsBadIndex, index_in};
     ghost use Rattle.fl_table.specs.Standing.{Stands};

@@ -45,7 +45,7 @@ impl<const KNOTS: usize, const SLOTS: usize> Table<KNOTS, SLOTS> {
     ghost use Rattle.fl_parts.specs.Blobs.{HasFew};
     ghost use Rattle.fl_table.specs.Mounting.{OutsideStands, rings_in};
     ghost use Rattle.fl_table.specs.Outcomes.{SealsEnd, JoinEnds, PutEnds, FlushEnds};
-    ghost use Rattle.fl_table.specs.Accepting.{IsAcceptedBy};
+    ghost use Rattle.fl_parts.specs.Accepting.{IsAcceptedBy};
     ghost use Rattle.fl_table.specs.Paged.{HasFlushed};
     ghost use Rattle.fl_table.specs.Stored.{HasJoined, IsEmptied, KnowsSame};
 

@@ -22,7 +22,7 @@ use Rattle.fl_page.proofs.RowsFrom.{length-rows_from}
 use Rattle.fl_table.specs.Look.{layout_in}
 use Rattle.fl_table.specs.Standing.{Stands}
 use Rattle.fl_table.proofs.SealAnswers.{plan-self, same-then}
-use Rattle.fl_table.proofs.Sizes.{table-fits}
+use Rattle.fl_parts.proofs.Sizes.{table-fits}
 use Rattle.fl_rlc.specs.Joining.{all_taken}
 use Rattle.fl_rlc.specs.Offering.{AreOffered}
 use Rattle.fl_rlc.proofs.Joined.{taken-push, joined-is}

@@ -11,7 +11,7 @@ use Rattle.fl_table.proofs.Apart.{stands-pages}
 use Rattle.fl_frame.proofs.WatchedInTurn.{watched-then}
 use Rattle.fl_parts.proofs.Refused.{page-page}
 use Rattle.fl_table.proofs.SealAnswers.{plan-self}
-use Rattle.fl_table.proofs.Sizes.{table-fits}
+use Rattle.fl_parts.proofs.Sizes.{table-fits}
 use Rattle.fl_table.proofs.ReadsKeepTable.{lies-moved}
 use Rattle.fl_rlc.specs.Memory.{page_in}
 use Rattle.fl_rlc.specs.Offering.{AreOffered}

@@ -16,7 +16,7 @@ use Rattle.fl_frame.proofs.WatchedInTurn.{watched-first, watched-then, cause-lat
 use Rattle.fl_table.proofs.MountCalls.{pages-cause}
 use Rattle.fl_table.proofs.Outsides.{outside-same}
 use Rattle.fl_table.proofs.SealAnswers.{plan-self, same-then}
-use Rattle.fl_table.proofs.Sizes.{table-fits}
+use Rattle.fl_parts.proofs.Sizes.{table-fits}
 use Rattle.fl_table.proofs.ReadsKeepTable.{lies-moved}
 use Rattle.fl_rlc.specs.Memory.{page_in}
 use Rattle.fl_rlc.specs.Repairing.{Finds}

@@ -2,7 +2,7 @@ use Rattle.std.proofs.Common.{◌≡◌, ◌+◌, ◌-◌, ◌%◌, ◌==◌, co
 use Rattle.std.proofs.lemmas.List.FromFn.{sum_by-map-range_with_len_more}
 use Rattle.std.specs.Prelude.{slice_index}
 use Rattle.std.specs.List.{count_by, range_with_len}
-use Rattle.fl_table.proofs.Voids.{is-void, not-void, voids_few}
+use Rattle.fl_parts.proofs.Voids.{is-void, not-void, voids_few}
 use Rattle.fl_table.proofs.seal.voids_among.Goals as goal
 use Rattle.fl_table.proofs.seal.voids_among.Goals.{then-counts-number-eq0, else-counts-number-eq0}
 

@@ -18,7 +18,7 @@ use Rattle.fl_parts.specs.declared.mount_fault.MountFault.TheVariants as mount
 use Rattle.fl_table.specs.declared.counts.Mounted.{Mounted}
 use Rattle.fl_table.proofs.MountJoined.{mount-cause-later}
 use Rattle.fl_table.proofs.SealAnswers.{same-then}
-use Rattle.fl_table.proofs.Sizes.{table-fits}
+use Rattle.fl_parts.proofs.Sizes.{table-fits}
 use Rattle.fl_rlc.specs.Left.{LeavesPages}
 use Rattle.fl_rlc.specs.Logged.{Rests as LoggedRests}
 use Rattle.fl_rlc.specs.Memory.{rows_in}

@@ -6,7 +6,7 @@ use Rattle.fl_model.specs.Bare.{bare}
 use Rattle.fl_model.specs.Record.{Plan, blocks_of, layout_len}
 use Rattle.fl_plan.specs.Plan.{blocks_in}
 use Rattle.fl_ring.specs.Ring.{Shape}
-use Rattle.fl_table.proofs.Sizes.{table-fits}
+use Rattle.fl_parts.proofs.Sizes.{table-fits}
 use Rattle.fl_table.specs.Look.{layout_in}
 use Rattle.fl_table.specs.Memory as table_words
 use Rattle.fl_rlc.specs.Memory.{page_len, IsPlanned, LiesOn}

@@ -33,7 +33,7 @@ use Rattle.fl_rlc.proofs.Paged.{put-logged}
 use Rattle.fl_rlc.proofs.PowerOff.{idle-put}
 use Rattle.fl_table.proofs.Refusals.{told-running, fits-row, calm-cause}
 use Rattle.fl_table.proofs.SealAnswers.{plan-self, same-then}
-use Rattle.fl_table.proofs.Sizes.{table-fits}
+use Rattle.fl_parts.proofs.Sizes.{table-fits}
 use Rattle.fl_table.proofs.ReadsKeepTable.{lies-moved}
 use Rattle.fl_table.specs.Memory as table_words
 use Rattle.fl_rlc.proofs.Sizes.{logged-fits}

@@ -1,7 +1,7 @@
 use Rattle.std.proofs.Common.{◌≡◌, ℕ, Bor, true, false, Option, Some, None, List, length, is_some, option_map, refl, sym, ◌∙◌, ap}
 use Rattle.fl_table.specs.Refusal.{or_else, put_refusal}
 use Rattle.fl_table.specs.declared.faults.PutRefusal.{PutRefusal}
-use Rattle.fl_table.proofs.Sizes.{table-fits}
+use Rattle.fl_parts.proofs.Sizes.{table-fits}
 use Rattle.fl_rlc.specs.Refusal.{log_refused}
 use Rattle.fl_rlc.proofs.table.LoggedTable.refusal.Goals as goal
 

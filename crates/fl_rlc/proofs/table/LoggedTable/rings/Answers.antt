@@ -1,5 +1,5 @@
 use Rattle.std.proofs.Common.{◌∙◌}
-use Rattle.fl_table.proofs.Sizes.{table-fits}
+use Rattle.fl_parts.proofs.Sizes.{table-fits}
 use Rattle.fl_rlc.proofs.RingsKept.{rings-told, logged-rings-are}
 use Rattle.fl_rlc.proofs.table.LoggedTable.rings.Goals as goal
 

@@ -22,10 +22,10 @@ use Rattle.fl_index.specs.Memory as memory
 use Rattle.fl_index.specs.declared.index.BitmapIndex.{BitmapIndex}
 use Rattle.fl_page.specs.WriterState.{WriterState}
 use Rattle.fl_parts.specs.Bitmaps.{next_of, next_after}
-use Rattle.fl_table.proofs.BlobsOfTable as blobbing
+use Rattle.fl_parts.proofs.BlobsOfTable as blobbing
 use Rattle.fl_parts.proofs.IndexOfTable.{plan-same}
 use Rattle.fl_table.proofs.Finds.{next-in}
-use Rattle.fl_table.proofs.Sizes.{schema-fits}
+use Rattle.fl_parts.proofs.Sizes.{schema-fits}
 use Rattle.fl_table.proofs.table.Table.add.Goals as goal
 
 -- one row more

@@ -5,8 +5,8 @@ use Rattle.fl_table.specs.Look.{oldest_in, rows_noted}
 use Rattle.fl_table.specs.Memory.{next_in}
 use Rattle.fl_table.specs.declared.counts.TableCounts.{TableCounts}
 use Rattle.fl_table.proofs.MemoryTells.{counts-is, counts-told, counts-lost}
-use Rattle.fl_table.proofs.Sizes.{table-fits}
-use Rattle.fl_table.proofs.Voids.{is-void, not-void, voids_few}
+use Rattle.fl_parts.proofs.Sizes.{table-fits}
+use Rattle.fl_parts.proofs.Voids.{is-void, not-void, voids_few}
 use Rattle.fl_table.proofs.table.Table.counts.Goals as goal
 use Rattle.fl_table.proofs.table.Table.counts.Goals.{then-rows-eq0, else-rows-eq0}
 

@@ -2,7 +2,7 @@ use Rattle.std.proofs.Common.{ℕ, ◌≤◌, Bool, true, false, sym, ◌∙◌,
 use Rattle.std.specs.Prelude.{min, if◌then◌else◌}
 use Rattle.fl_find.specs.Index.{knots_in, window_end}
 use Rattle.fl_model.specs.Spline.{is_covered}
-use Rattle.fl_table.proofs.Sizes.{table-fits, index-fits}
+use Rattle.fl_parts.proofs.Sizes.{table-fits, index-fits}
 use Rattle.fl_table.proofs.table.Table.end_of_pages.Goals as goal
 
 -- the lesser of two, where a test holds

@@ -17,7 +17,7 @@ use Rattle.fl_table.specs.Memory.{pending_in}
 use Rattle.fl_table.specs.declared.table.Table.{Table}
 use Rattle.fl_parts.proofs.IndexOfTable.{none-is}
 use Rattle.fl_table.proofs.ReadsKeepTable.{lies-read, most-kept}
-use Rattle.fl_table.proofs.Sizes.{table-fits, index-fits}
+use Rattle.fl_parts.proofs.Sizes.{table-fits, index-fits}
 use Rattle.fl_parts.proofs.Untouched.{at-most, at-most-two}
 use Rattle.fl_table.proofs.table.Table.find.Goals as goal
 

@@ -6,7 +6,7 @@ use Rattle.fl_flash.specs.declared.flash.FlashFault.{FlashFault}
 use Rattle.fl_flash.specs.declared.flash.FlashFault.TheVariants.{PowerLost}
 use Rattle.fl_table.specs.declared.faults.FlushFault.TheVariants as flush
 use Rattle.fl_parts.proofs.CallsOff.{off-ok}
-use Rattle.fl_table.proofs.Sizes.{table-fits}
+use Rattle.fl_parts.proofs.Sizes.{table-fits}
 use Rattle.std.proofs.lemmas.Bool.{true≢false}
 use Rattle.fl_frame.proofs.CallsInTurn.{goes-same}
 use Rattle.fl_table.specs.Memory.{is_running}

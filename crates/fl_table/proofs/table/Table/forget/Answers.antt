@@ -4,9 +4,9 @@ use Rattle.fl_find.specs.Index.{IndexOf}
 use Rattle.fl_model.specs.Record.{layout_len}
 use Rattle.fl_ring.specs.declared.ring.Ring.{Ring}
 use Rattle.fl_schema.specs.Schema.{layout_of}
-use Rattle.fl_table.proofs.BlobsOfTable as blobbing
+use Rattle.fl_parts.proofs.BlobsOfTable as blobbing
 use Rattle.fl_parts.proofs.IndexOfTable.{none-is, none-there, plan-same}
-use Rattle.fl_table.proofs.Sizes.{index-fits}
+use Rattle.fl_parts.proofs.Sizes.{index-fits}
 use Rattle.fl_table.proofs.table.Table.forget.Goals as goal
 
 pub returns-clause-forgotten : goal.returns-clause-forgotten

@@ -1,4 +1,4 @@
-use Rattle.fl_table.proofs.Sizes.{schema-fits}
+use Rattle.fl_parts.proofs.Sizes.{schema-fits}
 use Rattle.fl_table.proofs.table.Table.is_full.Goals as goal
 
 pub is_full-requires : goal.is_full-requires

@@ -1,7 +1,7 @@
 use Rattle.std.proofs.Common.{◌≡◌, nat_le, nat_lt, ap, ◌∙◌, arith}
 use Rattle.fl_schema.specs.Schema.{row_of}
 use Rattle.fl_table.proofs.PendingKey.{pending-told, none-pending, first-pending}
-use Rattle.fl_table.proofs.Sizes.{table-fits}
+use Rattle.fl_parts.proofs.Sizes.{table-fits}
 use Rattle.fl_table.proofs.table.Table.is_pending_key.Goals as goal
 
 pub returns-then-pending_rows-gt0 : goal.returns-then-pending_rows-gt0

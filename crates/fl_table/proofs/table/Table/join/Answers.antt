@@ -11,18 +11,18 @@ use Rattle.fl_parts.specs.Blobs as variable
 use Rattle.fl_table.specs.Memory.{PendingAre}
 use Rattle.fl_table.specs.Standing.{Stands}
 use Rattle.fl_flash.specs.Flash.{page_at}
-use Rattle.fl_table.proofs.BlobsOfTable.{after-most, pages-few, same-some, still-planned}
+use Rattle.fl_parts.proofs.BlobsOfTable.{after-most, pages-few, same-some, still-planned}
 use Rattle.fl_parts.proofs.IndexOfTable.{few-goes, lies-goes, none-is, none-there, plan-same}
 use Rattle.fl_table.proofs.Outsides.{var-outside}
 use Rattle.fl_table.proofs.JoinedRecord.{entry_of, entry-row, join-done, join-breaks, joined_to}
 use Rattle.fl_parts.proofs.Plain.{table-facts}
-use Rattle.fl_table.proofs.Pointed.{points-added}
+use Rattle.fl_parts.proofs.Pointed.{points-added}
 use Rattle.fl_table.proofs.SealAnswers.{planned-same}
 use Rattle.fl_parts.proofs.CallsOff.{off-ok, off-err}
 use Rattle.fl_table.proofs.ReadsKeepTable.{lies-moved}
 use Rattle.fl_schema.specs.Schema.{layout_of}
 use Rattle.fl_ring.specs.declared.ring.Ring.{Ring}
-use Rattle.fl_table.proofs.Sizes.{table-fits}
+use Rattle.fl_parts.proofs.Sizes.{table-fits}
 use Rattle.fl_table.proofs.table.Table.join.Goals as goal
 use Rattle.fl_var.specs.declared.var_data.VarData.{VarData}
 

@@ -7,7 +7,7 @@ use Rattle.fl_table.specs.declared.table.Table.{Table}
 use Rattle.fl_table.specs.Memory.{next_in}
 use Rattle.fl_table.proofs.Finds.{limit-pending, limit-told}
 use Rattle.fl_table.proofs.MemoryTells.{pages-is}
-use Rattle.fl_table.proofs.Sizes.{table-fits, index-fits}
+use Rattle.fl_parts.proofs.Sizes.{table-fits, index-fits}
 use Rattle.fl_table.proofs.table.Table.lookup_limit.Goals as goal
 
 module _ {KNOTS SLOTS : ℕ} (t : Table KNOTS SLOTS) (key : ℕ) where

@@ -9,13 +9,13 @@ use Rattle.fl_schema.specs.Schema.{layout_of}
 use Rattle.fl_table.specs.Outcomes.{SealsEnd}
 use Rattle.fl_table.proofs.PendingAndFull.{has-room, is-full}
 use Rattle.fl_parts.proofs.KeptPagesStay.{kept-same}
-use Rattle.fl_table.proofs.Sizes.{table-fits}
+use Rattle.fl_parts.proofs.Sizes.{table-fits}
 use Rattle.fl_frame.proofs.CallsInTurn.{goes-same}
 use Rattle.fl_table.proofs.SealAnswers.{plan-self}
 use Rattle.fl_parts.specs.Blobs as variable
 use Rattle.fl_table.specs.Memory.{HasRoom, next_in}
 use Rattle.fl_table.specs.Stored.{IsEmptied}
-use Rattle.fl_table.proofs.BlobsOfTable.{after-most}
+use Rattle.fl_parts.proofs.BlobsOfTable.{after-most}
 use Rattle.fl_table.proofs.Paged.{flushed-of}
 use Rattle.fl_parts.proofs.Untouched.{at-most, at-most-same, above, on-ok}
 use Rattle.fl_ring.specs.Written.{done}

@@ -23,11 +23,11 @@ use Rattle.fl_table.proofs.SealAnswers.{planned-same, same-then}
 use Rattle.fl_ring.specs.declared.fault.RingFault.{RingFault}
 use Rattle.fl_parts.specs.Faults.{of_ring}
 use Rattle.fl_parts.specs.Blobs as variable
-use Rattle.fl_table.proofs.BlobsOfTable as blobbing
+use Rattle.fl_parts.proofs.BlobsOfTable as blobbing
 use Rattle.fl_parts.proofs.IndexOfTable.{few-goes, none-is, none-there, still-few}
 use Rattle.fl_var.specs.declared.var_data.VarData.{VarData}
-use Rattle.fl_table.proofs.Sizes.{table-fits}
-use Rattle.fl_table.proofs.PowerOn.{on-then}
+use Rattle.fl_parts.proofs.Sizes.{table-fits}
+use Rattle.fl_parts.proofs.PowerOn.{on-then}
 use Rattle.fl_ring.specs.declared.ring.Ring.{Ring}
 use Rattle.fl_parts.proofs.Untouched.{no-success}
 use Rattle.fl_table.proofs.table.Table.mount.Goals as goal

@@ -12,7 +12,7 @@ use Rattle.fl_table.specs.Memory.{NothingWaits}
 use Rattle.fl_table.proofs.Stored.{pending-none}
 use Rattle.fl_table.proofs.Outsides.{var-outside}
 use Rattle.fl_var.specs.Memory.{var_shape}
-use Rattle.fl_table.proofs.BlobsOfTable as blobbing
+use Rattle.fl_parts.proofs.BlobsOfTable as blobbing
 use Rattle.fl_frame.proofs.WatchedInTurn.{watched-first, watched-then}
 use Rattle.fl_table.proofs.Learned.{finds-rows}
 use Rattle.fl_table.proofs.MountJoined.{mount-cause-later}
@@ -27,8 +27,8 @@ use Rattle.fl_ring.specs.Place.{next_of, shape_of}
 use Rattle.fl_ring.specs.declared.ring.Ring.{Ring}
 use Rattle.fl_parts.proofs.IndexOfTable.{none-is, plan-same}
 use Rattle.fl_table.proofs.ReadsKeepTable.{lies-moved}
-use Rattle.fl_table.proofs.Sizes.{table-fits}
-use Rattle.fl_table.proofs.PowerOn.{blobs-on}
+use Rattle.fl_parts.proofs.Sizes.{table-fits}
+use Rattle.fl_parts.proofs.PowerOn.{blobs-on}
 use Rattle.fl_parts.specs.IndexMount.{FewRepairs}
 use Rattle.fl_parts.specs.declared.mount_fault.MountFault.{MountFault}
 use Rattle.fl_table.specs.declared.mount.FoundRows.{FoundRows}

@@ -2,7 +2,7 @@ use Rattle.std.proofs.lemmas.Result.{IfErr-weaker}
 use Rattle.fl_table.proofs.Finds.{holds-in, holds-pages, lookup-blames, lookup-fails, page-for}
 use Rattle.fl_parts.proofs.IndexOfTable.{none-is}
 use Rattle.fl_table.proofs.ReadsKeepTable.{lies-read, most-kept}
-use Rattle.fl_table.proofs.Sizes.{index-fits}
+use Rattle.fl_parts.proofs.Sizes.{index-fits}
 use Rattle.fl_table.proofs.Slots.{steps-model}
 use Rattle.fl_table.proofs.table.Table.page_of.Goals as goal
 

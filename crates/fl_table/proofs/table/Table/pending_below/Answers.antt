@@ -3,8 +3,8 @@ use Rattle.fl_schema.specs.Schema.{row_of}
 use Rattle.fl_model.proofs.Lists.{slice_get-short}
 use Rattle.fl_table.specs.Look.{buffered_rows}
 use Rattle.fl_table.proofs.PendingKey.{length-buffered}
-use Rattle.fl_table.proofs.PendingRows.{below-middle, above-middle}
-use Rattle.fl_table.proofs.Sizes.{table-fits}
+use Rattle.fl_parts.proofs.PendingRows.{below-middle, above-middle}
+use Rattle.fl_parts.proofs.Sizes.{table-fits}
 use Rattle.fl_table.proofs.table.Table.pending_below.Goals as goal
 
 pub loop-low-init : goal.loop-low-init

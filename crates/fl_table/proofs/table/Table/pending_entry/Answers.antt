@@ -5,7 +5,7 @@ use Rattle.fl_model.specs.Table.{pending_entries}
 use Rattle.fl_schema.specs.Schema.{layout_of, row_of}
 use Rattle.fl_table.proofs.Counted.{first-is}
 use Rattle.fl_parts.proofs.FullEntries.{full-pending}
-use Rattle.fl_table.proofs.Pointed.{first-key}
+use Rattle.fl_parts.proofs.Pointed.{first-key}
 use Rattle.fl_table.proofs.SealAnswers.{writer-count, pending-length}
 use Rattle.fl_parts.proofs.Writers.{few-rows}
 use Rattle.fl_table.proofs.table.Table.pending_entry.Goals as goal

@@ -5,8 +5,8 @@ use Rattle.fl_model.proofs.Lists.{slice_get-short}
 use Rattle.fl_schema.specs.Schema.{row_of}
 use Rattle.fl_table.specs.Look.{buffered_rows}
 use Rattle.fl_table.proofs.PendingKey.{length-buffered}
-use Rattle.fl_table.proofs.PendingRows.{lacks-beyond}
-use Rattle.fl_table.proofs.Sizes.{table-fits}
+use Rattle.fl_parts.proofs.PendingRows.{lacks-beyond}
+use Rattle.fl_parts.proofs.Sizes.{table-fits}
 use Rattle.fl_table.proofs.table.Table.pending_place.Goals as goal
 
 pub returns-then-place-pending_rows-clause-found : goal.returns-then-place-pending_rows-clause-found

@@ -5,7 +5,7 @@ use Rattle.fl_model.specs.Row.{row_in, stored_row}
 use Rattle.fl_model.specs.Table.{pending_entries}
 use Rattle.fl_schema.specs.Schema.{layout_of, types_of, bytes_of}
 use Rattle.fl_page.proofs.RowBytes.{slice_get-rows_from}
-use Rattle.fl_table.proofs.Sizes.{schema-fits}
+use Rattle.fl_parts.proofs.Sizes.{schema-fits}
 use Rattle.fl_table.proofs.table.Table.pending_row.Goals as goal
 
 -- a row before the last ends before them

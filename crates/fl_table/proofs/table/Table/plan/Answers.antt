@@ -7,7 +7,7 @@ use Rattle.fl_schema.specs.Form.{key_width}
 use Rattle.fl_schema.specs.declared.schema.KeyWidth.{KeyWidth}
 use Rattle.fl_schema.specs.declared.schema.KeyWidth.TheVariants as code
 use Rattle.fl_parts.specs.Bitmaps.{next_after}
-use Rattle.fl_table.proofs.Sizes.{index-fits}
+use Rattle.fl_parts.proofs.Sizes.{index-fits}
 use Rattle.std.proofs.Math.Nat.{mul-le-mul}
 use Rattle.fl_schema.specs.declared.column.ColumnType.{ColumnType}
 use Rattle.fl_schema.specs.Schema.{layout_of}

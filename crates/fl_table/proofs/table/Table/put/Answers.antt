@@ -7,7 +7,7 @@ use Rattle.fl_table.specs.Memory.{is_running, is_stopped, pending_in}
 use Rattle.fl_table.specs.declared.table.Table.{Table}
 use Rattle.fl_table.proofs.Refusals.{fits-row, told-running, calm-cause, few-blob, not-spent, refusal-calm, calm-same}
 use Rattle.fl_flash.specs.Flash.{page_at}
-use Rattle.fl_table.proofs.BlobsOfTable.{pages-most}
+use Rattle.fl_parts.proofs.BlobsOfTable.{pages-most}
 use Rattle.fl_table.proofs.Outsides.{outside-then}
 use Rattle.fl_frame.proofs.WatchedInTurn.{cause-later, watched-first, watched-then}
 use Rattle.fl_table.proofs.PutAnswers.{accepts, and-true, broken-ends, join-fails, map-twice, put-ends, refused-ends}
@@ -21,7 +21,7 @@ use Rattle.fl_model.specs.Record.{RowLayout}
 use Rattle.fl_model.specs.Row.{FitsRow}
 use Rattle.fl_schema.specs.Schema.{layout_of}
 use Rattle.fl_table.proofs.SealAnswers.{same-then, plan-self}
-use Rattle.fl_table.proofs.Sizes.{table-fits}
+use Rattle.fl_parts.proofs.Sizes.{table-fits}
 use Rattle.fl_parts.specs.Blobs.{most_pages, pages_for}
 use Rattle.fl_parts.proofs.Untouched.{at-most, and-false, on-err, no-success}
 use Rattle.fl_ring.proofs.Written.{writes-none}

@@ -21,10 +21,10 @@ use Rattle.fl_parts.proofs.NotedEntries.{first-same, gathers-end, wait-between, 
 use Rattle.fl_table.proofs.KeptStart.{kept-start}
 use Rattle.fl_parts.proofs.IndexOfTable.{few-goes, found-then, lies-goes, none-is, none-there, plan-then, ring-then, still-few, still-lies, still-running}
 use Rattle.fl_parts.proofs.ListedPages.{data-lies, fails-later, ring-read, ring-stays, some-room}
-use Rattle.fl_table.proofs.BlobsOfTable as blobbing
+use Rattle.fl_parts.proofs.BlobsOfTable as blobbing
 use Rattle.fl_parts.proofs.SparedReads.{waiting-few, reads-unlisted, reads-newest}
 use Rattle.fl_table.proofs.SealAnswers.{written-back}
-use Rattle.fl_table.proofs.Sizes.{index-fits, schema-fits}
+use Rattle.fl_parts.proofs.Sizes.{index-fits, schema-fits}
 use Rattle.fl_parts.proofs.Untouched.{no-success}
 use Rattle.fl_table.proofs.table.Table.read_kept.Goals as goal
 

@@ -19,7 +19,7 @@ use Rattle.fl_table.specs.Look.{layout_in}
 use Rattle.fl_table.proofs.KeptRead.{ring-place, shows-rows}
 use Rattle.fl_table.proofs.MemoryTells.{oldest-is}
 use Rattle.fl_parts.proofs.SingleReads.{read-once}
-use Rattle.fl_table.proofs.Sizes.{schema-fits, view-fits}
+use Rattle.fl_parts.proofs.Sizes.{schema-fits, view-fits}
 use Rattle.fl_base.specs.declared.types.Geometry.{Geometry}
 use Rattle.fl_flash.specs.declared.flash.Work.{Work}
 use Rattle.fl_table.proofs.table.Table.read_page.Goals as goal

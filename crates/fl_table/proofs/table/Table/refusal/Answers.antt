@@ -9,7 +9,7 @@ use Rattle.fl_table.specs.declared.faults.PutRefusal.{PutRefusal}
 use Rattle.fl_table.specs.declared.faults.PutRefusal.TheVariants.{Columns, Stopped}
 use Rattle.fl_table.specs.declared.table.Table.{Table}
 use Rattle.fl_table.proofs.Refusing as refusing
-use Rattle.fl_table.proofs.Sizes.{schema-fits, table-fits}
+use Rattle.fl_parts.proofs.Sizes.{schema-fits, table-fits}
 use Rattle.fl_table.proofs.table.Table.refusal.Goals as goal
 
 columns-fit : (n m : ℕ) → n ≡ m → m ≤ 8 → Fits w32 n

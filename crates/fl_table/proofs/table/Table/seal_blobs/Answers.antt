@@ -2,7 +2,7 @@ use Rattle.std.proofs.Common.{sym, ◌∙◌, ◌+◌, Ok, Err, arith, ap, refl,
 use Rattle.fl_flash.specs.Flash.{page_at}
 use Rattle.fl_parts.specs.Blobs.{rest_seals}
 use Rattle.fl_table.proofs.BlobStands.{rest-done, rested-finishes, index-before, bitmaps-stand}
-use Rattle.fl_table.proofs.BlobsOfTable.{after-empty, numbers-left, same-some, still-planned}
+use Rattle.fl_parts.proofs.BlobsOfTable.{after-empty, numbers-left, same-some, still-planned}
 use Rattle.fl_parts.proofs.Plain.{table-facts}
 use Rattle.fl_table.proofs.Outsides.{var-outside}
 use Rattle.fl_table.proofs.ReadsKeepTable.{lies-moved}

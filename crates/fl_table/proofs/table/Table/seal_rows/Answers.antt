@@ -16,10 +16,10 @@ use Rattle.fl_ring.specs.Sealing.{Performed, Seals}
 use Rattle.fl_schema.specs.Schema.{layout_of}
 use Rattle.fl_parts.proofs.States.{shape_in, state_of, HaveSize}
 use Rattle.fl_parts.proofs.Writers.{rest-finish, rest-clear, gathers-none, few-rows, some-room, end-same, end-none}
-use Rattle.fl_table.proofs.Pointed.{first-some, index-sealed, points-sealed}
+use Rattle.fl_parts.proofs.Pointed.{first-some, index-sealed, points-sealed}
 use Rattle.std.specs.List.{sum}
-use Rattle.fl_table.proofs.BlobsOfTable as blobbing
-use Rattle.fl_table.proofs.BlobsOfTable.{var-stands}
+use Rattle.fl_parts.proofs.BlobsOfTable as blobbing
+use Rattle.fl_parts.proofs.BlobsOfTable.{var-stands}
 use Rattle.fl_index.proofs.SealAnswers.{seal-on}
 use Rattle.fl_var.proofs.Ahead.{held-ahead}
 use Rattle.fl_table.proofs.SealAnswers.{planned-ring, planned-shape, lies-size, sealing-of, seal-ready, writer-count, pending-length, ring-next, counts-room, note-same, written-back}
@@ -37,7 +37,7 @@ use Rattle.fl_ring.specs.Place as place
 use Rattle.fl_table.specs.Look.{oldest_in}
 use Rattle.fl_table.proofs.Counted.{learned-as, left-out-as, voids-left}
 use Rattle.fl_table.proofs.Finds.{next-in, oldest-in}
-use Rattle.fl_table.proofs.Sizes.{table-fits, index-fits}
+use Rattle.fl_parts.proofs.Sizes.{table-fits, index-fits}
 use Rattle.fl_ring.proofs.Written.{held-writes, page-as}
 use Rattle.fl_table.specs.Memory.{next_in, ring_shape}
 use Rattle.fl_table.proofs.table.Table.seal_rows.Goals as goal

@@ -6,7 +6,7 @@ use Rattle.fl_table.specs.Memory.{next_in}
 use Rattle.fl_table.specs.Refusal.{refused_if}
 use Rattle.fl_table.specs.declared.faults.PutRefusal.TheVariants.{Spent}
 use Rattle.fl_table.proofs.Refusing.{reached, spent-ring, then-refused}
-use Rattle.fl_table.proofs.Sizes.{table-fits}
+use Rattle.fl_parts.proofs.Sizes.{table-fits}
 use Rattle.fl_table.proofs.table.Table.spent_refused.Goals as goal
 
 pub next_number-requires : goal.next_number-requires

@@ -2,9 +2,9 @@ use Rattle.std.proofs.Common.{Bool, ◌||◌, None, refl, sym, ◌∙◌, ap}
 use Rattle.std.proofs.lemmas.Bool.{true≢false}
 use Rattle.fl_ring.specs.declared.ring.Ring.{Ring}
 use Rattle.fl_parts.proofs.IndexOfTable.{none-is, none-there, plan-same}
-use Rattle.fl_table.proofs.BlobsOfTable as blobbing
+use Rattle.fl_parts.proofs.BlobsOfTable as blobbing
 use Rattle.fl_table.proofs.SealAnswers.{plan-self}
-use Rattle.fl_table.proofs.Sizes.{table-fits}
+use Rattle.fl_parts.proofs.Sizes.{table-fits}
 use Rattle.fl_table.proofs.table.Table.stop.Goals as goal
 
 pub is_running-requires : goal.is_running-requires

@@ -5,7 +5,7 @@ use Rattle.fl_var.specs.declared.var_data.VarData.{VarData}
 use Rattle.fl_parts.specs.Bitmaps.{LieOn}
 use Rattle.fl_parts.specs.Blobs as variable
 use Rattle.fl_parts.proofs.IndexOfTable.{none-there}
-use Rattle.fl_table.proofs.Sizes.{table-fits}
+use Rattle.fl_parts.proofs.Sizes.{table-fits}
 use Rattle.fl_table.proofs.table.Table.unmount.Goals as goal
 
 pub returns-clause-lies : goal.returns-clause-lies

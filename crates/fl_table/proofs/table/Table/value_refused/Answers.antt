@@ -6,7 +6,7 @@ use Rattle.fl_model.specs.Record.{first_misfit, greatest_key}
 use Rattle.fl_schema.specs.Schema.{layout_of, types_of}
 use Rattle.fl_table.specs.declared.faults.PutRefusal.{PutRefusal}
 use Rattle.fl_table.specs.declared.faults.PutRefusal.TheVariants.{Value}
-use Rattle.fl_table.proofs.Sizes.{schema-fits}
+use Rattle.fl_parts.proofs.Sizes.{schema-fits}
 use Rattle.fl_table.proofs.table.Table.value_refused.Goals as goal
 
 -- the key fits ..

@@ -6,7 +6,7 @@ use Rattle.fl_page.specs.Page.{IsGoodPage, rows_from}
 use Rattle.fl_page.specs.View.{layout_of_page, page_of}
 use Rattle.fl_table.specs.Look.{layout_in}
 use Rattle.fl_parts.proofs.KeyRows.{good-few}
-use Rattle.fl_table.proofs.Sizes.{schema-fits, view-fits}
+use Rattle.fl_parts.proofs.Sizes.{schema-fits, view-fits}
 use Rattle.fl_table.proofs.table.Table.view.Goals as goal
 
 -- a page with rows has a header

@@ -19,7 +19,7 @@ use Rattle.fl_ring.specs.Operations.{change, seal_kinds}
 use Rattle.fl_ring.specs.Ring.{RingState, OnRing, sealed, begun, erased}
 use Rattle.fl_ring.specs.Sealing.{Performed, AnswersEnd}
 use Rattle.fl_parts.proofs.States.{shape_in, state_of}
-use Rattle.fl_table.proofs.Sealed.{state-sealed, state-begun, state-erased}
+use Rattle.fl_parts.proofs.Sealed.{state-sealed, state-begun, state-erased}
 
 -- an operation of the data ring
 abbrev pub of_rows : Kind → RingName × Kind

@@ -16,10 +16,10 @@ use Rattle.fl_parts.specs.ByEntries.{Come, entry, has_rows, are_void, is_read, f
 use Rattle.fl_parts.specs.Reading.{last_in}
 use Rattle.fl_parts.specs.declared.mount_fault.MountFault.{MountFault}
 use Rattle.fl_parts.specs.declared.mount_fault.MountFault.TheVariants.{BadKeys}
-use Rattle.fl_table.proofs.KeyOrder.{key_before, rising}
+use Rattle.fl_parts.proofs.KeyOrder.{key_before, rising}
 use Rattle.fl_parts.proofs.PageChecks.{is-void, no_both}
 use Rattle.fl_parts.proofs.KeptPages.{sum-next}
-use Rattle.fl_table.proofs.StandingMount.{IsOf, IsPageOf, facts-of, rows-of, count-of, index-fine, AtMost, at-most, AreBehind, are-behind}
+use Rattle.fl_parts.proofs.StandingMount.{IsOf, IsPageOf, facts-of, rows-of, count-of, index-fine, AtMost, at-most, AreBehind, are-behind}
 use Rattle.fl_parts.proofs.SomeRows.{not_zero}
 
 module _ (t : Come) (table : Table) (is : IsOf t table) where

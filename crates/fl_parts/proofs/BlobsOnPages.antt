@@ -5,7 +5,7 @@ use Rattle.fl_model.specs.Record.{Plan}
 use Rattle.fl_model.specs.Table.{Table}
 use Rattle.fl_parts.specs.Blobs.{AreEmpty, ArePlanned, Stand}
 use Rattle.fl_parts.proofs.BlobTables.{AreInPages, IsBlobbed, blobbed-stand, in-blobbed}
-use Rattle.fl_table.proofs.BlobsOfTable.{none-var}
+use Rattle.fl_parts.proofs.BlobsOfTable.{none-var}
 use Rattle.fl_parts.proofs.VarFacts.{in-placed}
 use Rattle.fl_var.specs.declared.var_data.VarData.{VarData}
 

@@ -11,11 +11,11 @@ use Rattle.fl_model.proofs.Lists.{slice_get-short}
 use Rattle.fl_parts.specs.ByEntries.{Come}
 use Rattle.fl_parts.specs.Knowing.{KnowsWith}
 use Rattle.fl_parts.specs.declared.known.Known.{Known}
-use Rattle.fl_table.proofs.KeyOrder.{key-last}
+use Rattle.fl_parts.proofs.KeyOrder.{key-last}
 use Rattle.fl_parts.proofs.WaitingPageComes.{knows-all, points-all}
-use Rattle.fl_table.proofs.StandingMount.{IsOf, count-of}
-use Rattle.fl_table.proofs.StandingKeys.{last-known}
-use Rattle.fl_table.proofs.StandingTotals.{are-all}
+use Rattle.fl_parts.proofs.StandingMount.{IsOf, count-of}
+use Rattle.fl_parts.proofs.StandingKeys.{last-known}
+use Rattle.fl_parts.proofs.StandingTotals.{are-all}
 
 pub record KnowsTable {KNOTS SLOTS : ℕ} (error : ℕ) (c : Come) (table : Table) (known : Known) (counts : List ℕ) (index : KeyIndex KNOTS SLOTS) : Type 0 where
   pub rows : known.rows ≡ length table.entries

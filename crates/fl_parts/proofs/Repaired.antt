@@ -16,7 +16,7 @@ use Rattle.fl_model.specs.Mount.{renumber, at_least_of}
 use Rattle.fl_model.specs.Mount as numbering
 use Rattle.fl_model.proofs.Pages.{page_with, pages_from}
 use Rattle.fl_parts.proofs.Loose.{IsLoose}
-use Rattle.fl_table.proofs.MountKeeps.{loose-void, loose-erase, plain-void}
+use Rattle.fl_parts.proofs.MountKeeps.{loose-void, loose-erase, plain-void}
 use Rattle.fl_parts.proofs.Plain.{IsPlainTable, plain-erase}
 use Rattle.fl_ring.specs.Operations.{change, repair_kinds}
 use Rattle.fl_ring.specs.Numbers.{renumbered}
@@ -24,8 +24,8 @@ use Rattle.fl_ring.specs.Ring.{RingState, voided, unerased, erased}
 use Rattle.fl_ring.specs.Sealing.{Performed}
 use Rattle.fl_parts.proofs.States.{shape_in, state_of, state-count, page-some}
 use Rattle.fl_parts.proofs.VarFacts.{rest-of}
-use Rattle.fl_table.proofs.Sealed.{state-voided, state-erased}
-use Rattle.fl_table.proofs.RingInTable.{of_rows, TablePerformed, performed-lifts, AreErases}
+use Rattle.fl_parts.proofs.Sealed.{state-voided, state-erased}
+use Rattle.fl_parts.proofs.RingInTable.{of_rows, TablePerformed, performed-lifts, AreErases}
 
 -- nothing of the table is in memory
 pub record IsIdle (table : Table) : Type 0 where

@@ -35,7 +35,7 @@ use Rattle.fl_ring.specs.Ring.{Shape}
 use Rattle.fl_ring.specs.declared.ring.Ring.{Ring}
 use Rattle.fl_parts.specs.ByEntries.{Come, index_page, is_committed, is_fit, end_before, entry, lists, listing_among, told, told_at, no_rows}
 use Rattle.fl_parts.specs.Coming.{IsComeTo}
-use Rattle.fl_table.proofs.StandingMount.{IsIndexOf}
+use Rattle.fl_parts.proofs.StandingMount.{IsIndexOf}
 
 -- the committed ones of the first m index pages end by a number
 ends-by : (c : Come) (most m : ℕ) → ((j : ℕ) → j < m → is_committed (index_page c j) ≡ true → page_first (index_page c j) + page_entries (index_page c j) ≤ most) → end_before c m ≤ most

@@ -12,9 +12,9 @@ use Rattle.fl_model.specs.Mount as numbering
 use Rattle.fl_model.proofs.Lists.{slice_get-some}
 use Rattle.fl_model.proofs.Pages.{pages-at}
 use Rattle.fl_ring.proofs.SamePlaces.{renumbered_on}
-use Rattle.fl_table.proofs.Memories.{few-kept}
+use Rattle.fl_parts.proofs.Memories.{few-kept}
 use Rattle.fl_parts.proofs.Loose.{IsLoose}
-use Rattle.fl_table.proofs.MountKeeps.{loose-renumber, plain-renumber}
+use Rattle.fl_parts.proofs.MountKeeps.{loose-renumber, plain-renumber}
 use Rattle.fl_ring.specs.Head.{one}
 use Rattle.fl_ring.specs.Mounting.{IsGood}
 use Rattle.fl_ring.specs.Newest.{number_of}
@@ -24,7 +24,7 @@ use Rattle.fl_schema.proofs.Numbers.{length-le, number_of-le}
 use Rattle.fl_schema.proofs.References.{from_le_bytes_4}
 use Rattle.fl_ring.proofs.Heads.{one-is}
 use Rattle.fl_parts.proofs.States.{shape_in, state_of, state-count, state-oldest, ring-back}
-use Rattle.fl_table.proofs.Repaired.{IsHeld, IsIdle, state-renumbered}
+use Rattle.fl_parts.proofs.Repaired.{IsHeld, IsIdle, state-renumbered}
 use Rattle.fl_parts.specs.Mountable.{RowsBehind}
 
 -- a body begins with its number

@@ -23,7 +23,7 @@ use Rattle.fl_model.specs.BlobEnds.{blobs_end}
 use Rattle.fl_model.proofs.BlobEnds.{ends-append, ends-max, ends-of}
 use Rattle.fl_parts.specs.ByEntries.{Come, entry, facts_on, rows_of, voids_of, points_of, end_of, unlisted_of}
 use Rattle.fl_parts.proofs.KeptPages.{sum-next}
-use Rattle.fl_table.proofs.StandingMount.{IsOf, facts-of, count-of}
+use Rattle.fl_parts.proofs.StandingMount.{IsOf, facts-of, count-of}
 
 -- the point of one page
 one-point : (m c : ℕ) (entries : List Entry) → length (take c entries) ≡ c → points_from m (c ∷ []) entries ≡ cond (c == 0) [] ((first_key (take c entries), m) ∷ [])

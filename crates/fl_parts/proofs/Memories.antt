@@ -10,7 +10,7 @@ use Rattle.fl_model.specs.Ring as model
 use Rattle.fl_model.specs.Table.{Table, Entry, DataRing, shape_of, pending_entries, last_entry, after_seal}
 use Rattle.fl_model.proofs.Lists.{slice_get-drop, slice_get-push, slice_get-short, and_right}
 use Rattle.fl_ring.proofs.Modulo.{apart}
-use Rattle.fl_table.proofs.Sealed.{full_long}
+use Rattle.fl_parts.proofs.Sealed.{full_long}
 
 -- nothing is pending behind a seal
 pub none-pending : (plan : Plan) (table : Table) → pending_entries (after_seal plan DataRing table) ≡ []

@@ -23,7 +23,7 @@ use Rattle.fl_parts.proofs.PageChecks.{uncommitted-rows}
 use Rattle.fl_parts.proofs.KeptPages.{kept, length-kept, full-kept}
 use Rattle.fl_parts.proofs.KeyRows.{page-length}
 use Rattle.fl_parts.proofs.Loose.{IsLoose}
-use Rattle.fl_table.proofs.StandingMount.{IsPageOf}
+use Rattle.fl_parts.proofs.StandingMount.{IsPageOf}
 use Rattle.fl_parts.proofs.States.{shape_in, state_of, HaveSize}
 use Rattle.fl_parts.proofs.Unlisted.{committed-is, good-form}
 

@@ -20,8 +20,8 @@ use Rattle.fl_ring.specs.Operations.{repair_kinds}
 use Rattle.fl_ring.specs.Place.{StandsFor}
 use Rattle.fl_ring.specs.Ring.{RingState, OnRing}
 use Rattle.fl_parts.proofs.States.{shape_in, state_of}
-use Rattle.fl_table.proofs.RingInTable.{of_rows, TableAnswers}
-use Rattle.fl_table.proofs.Repaired.{IsHeld, IsIdle, IsRepaired, repair-lifts, repair-kinds}
+use Rattle.fl_parts.proofs.RingInTable.{of_rows, TableAnswers}
+use Rattle.fl_parts.proofs.Repaired.{IsHeld, IsIdle, IsRepaired, repair-lifts, repair-kinds}
 
 ok_not_err : (u : Unit {0}) (fault : FlashFault) → ◌≡◌ {A = Result (Unit {0}) FlashFault} (Ok u) (Err fault) → ⊥
 ok_not_err u fault e = cc
