@@ -11,7 +11,7 @@ use Rattle.fl_page.specs.Steps.{Ascends}
 use Rattle.fl_search.specs.Search.{IsPageOf}
 use Rattle.fl_table.specs.Look.{oldest_in, buffered_rows}
 use Rattle.fl_table.specs.Memory.{next_in}
-use Rattle.fl_table.specs.Skipping.{due_of}
+use Rattle.fl_parts.specs.Skipping.{due_of}
 use Rattle.fl_table.specs.declared.table.Table.{Table}
 use Rattle.fl_cursor.specs.Asked.{is_last}
 use Rattle.fl_cursor.specs.Cursor.{table_of, mark_of, asked_of, buffer_of, index_page, rows_behind, IsStanding, IsTold}

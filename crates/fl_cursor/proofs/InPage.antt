@@ -13,7 +13,7 @@ use Rattle.fl_page.specs.Page.{IsGoodPage, rows_in, has_form}
 use Rattle.fl_page.proofs.RowsFrom.{length-rows_from}
 use Rattle.fl_table.specs.Look.{layout_in, oldest_in, buffered_rows}
 use Rattle.fl_table.specs.Memory.{next_in}
-use Rattle.fl_table.specs.Skipping.{AreScanning, due_of}
+use Rattle.fl_parts.specs.Skipping.{AreScanning, due_of}
 use Rattle.fl_cursor.specs.Asked.{is_left, is_last}
 use Rattle.fl_cursor.specs.Cursor.{table_of, asked_of, buffer_of, index_page, is_here_at, rows_behind, Passes, IsPlaced, IsTold, IsLooking}
 use Rattle.fl_cursor.specs.Going.{Goes, took}

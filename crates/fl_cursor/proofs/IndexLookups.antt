@@ -15,7 +15,7 @@ use Rattle.fl_model.specs.Row.{Row}
 use Rattle.fl_model.proofs.Lists.{all-back}
 use Rattle.fl_frame.specs.Contents.{Contents}
 use Rattle.fl_table.specs.Memory.{next_in}
-use Rattle.fl_table.specs.Skipping.{AreScanning, unread_of, due_of}
+use Rattle.fl_parts.specs.Skipping.{AreScanning, unread_of, due_of}
 use Rattle.fl_table.specs.declared.table.Table.{Table}
 use Rattle.fl_cursor.specs.Asked.{is_last}
 use Rattle.fl_cursor.specs.Listed.{rows_on, rows_over}

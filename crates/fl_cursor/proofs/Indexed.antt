@@ -20,11 +20,11 @@ use Rattle.fl_frame.specs.Contents.{Contents, contents_of, OnlyReads}
 use Rattle.fl_frame.proofs.ContentsInTurn.{OnlyReads-reads}
 use Rattle.fl_page.specs.declared.fault.ReadFault.{ReadFault}
 use Rattle.fl_page.specs.declared.fault.ReadFault.TheVariants.{Flash, BadPage}
-use Rattle.fl_table.specs.Kept.{place_of}
-use Rattle.fl_table.specs.Look.{oldest_in, rows_noted}
+use Rattle.fl_table.specs.Look.{oldest_in, rows_noted, place_of}
 use Rattle.fl_table.specs.Memory.{next_in}
-use Rattle.fl_table.specs.Skipping as skipping
-use Rattle.fl_table.specs.Skipping.{AreFresh, AreScanning, HoldGood, IsBadIndex, LooksOn, ShowsPage, wants_page}
+use Rattle.fl_parts.specs.Skipping as skipping
+use Rattle.fl_parts.specs.Skipping.{AreFresh, AreScanning, HoldGood, IsBadIndex, LooksOn, wants_page}
+use Rattle.fl_table.specs.Skipping.{ShowsPage}
 use Rattle.fl_table.specs.declared.look_ahead.Ahead.{Ahead}
 use Rattle.fl_table.specs.declared.look_ahead.Ahead.TheVariants.{Wanted, Missed, Beyond}
 use Rattle.fl_table.specs.Standing.{Stands}

@@ -43,7 +43,7 @@ use Rattle.fl_index.proofs.Lists.{firsts-length}
 use Rattle.fl_index.proofs.Counts.{one-fewer}
 use Rattle.fl_index.proofs.Spanned.{drop-past}
 use Rattle.fl_parts.specs.Bitmaps.{ArePlanned}
-use Rattle.fl_table.specs.Skipping.{due_of}
+use Rattle.fl_parts.specs.Skipping.{due_of}
 use Rattle.fl_cursor.proofs.PassedRows.{each-weaker}
 use Rattle.fl_cursor.proofs.Selected.{all-asked}
 use Rattle.fl_cursor.proofs.StartPlaces.{ascends-front}

@@ -43,7 +43,7 @@ use Rattle.fl_index.proofs.LookupsOfTable.{some_index}
 use Rattle.fl_index.proofs.Spanned.{unread-full}
 use Rattle.fl_model.specs.Image.{rows_at}
 use Rattle.fl_model.specs.Ring as rings
-use Rattle.fl_table.specs.Skipping.{unread_of, wants_page}
+use Rattle.fl_parts.specs.Skipping.{unread_of, wants_page}
 use Rattle.fl_table.proofs.Skips.{index-stands}
 
 -- a page with rows, none of which is the last that may be given, begins by the high key

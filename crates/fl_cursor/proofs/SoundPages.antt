@@ -20,7 +20,8 @@ use Rattle.fl_page.specs.Page.{IsGoodPage, rows_in}
 use Rattle.fl_table.proofs.Skips.{looked-any}
 use Rattle.fl_table.specs.Finding.{IsPageFor}
 use Rattle.fl_table.specs.Look.{buckets_in, buffered_rows, layout_in, oldest_in, rows_noted}
-use Rattle.fl_table.specs.Skipping.{AreFresh, IsLookedUpBy, IsToldBy, index_in}
+use Rattle.fl_parts.specs.Skipping.{AreFresh, IsLookedUpBy}
+use Rattle.fl_table.specs.Skipping.{IsToldBy, index_in}
 use Rattle.fl_table.specs.declared.look_ahead.Ahead.{Ahead}
 use Rattle.fl_table.specs.declared.look_ahead.Ahead.TheVariants.{Wanted, Missed, Beyond}
 use Rattle.fl_table.specs.declared.table.Table.{Table}

@@ -14,7 +14,7 @@ use Rattle.fl_page.proofs.RowsFrom.{drop-row}
 use Rattle.fl_search.specs.Search.{IsPageOf}
 use Rattle.fl_table.specs.Look.{layout_in, oldest_in, rows_noted, buffered_rows}
 use Rattle.fl_table.specs.Memory.{next_in}
-use Rattle.fl_table.specs.Skipping.{AreScanning}
+use Rattle.fl_parts.specs.Skipping.{AreScanning}
 use Rattle.fl_cursor.specs.Asked.{is_asked, lowest_of}
 use Rattle.fl_cursor.specs.Cursor.{table_of, asked_of, buffer_of, index_page, rows_behind, Passes, IsPlaced, IsTold, IsLooking}
 use Rattle.fl_cursor.specs.Going.{Goes, Fails}

@@ -26,8 +26,7 @@ use Rattle.fl_frame.specs.Contents.{Contents}
 use Rattle.fl_page.specs.Page.{IsGoodPage, rows_in}
 use Rattle.fl_page.specs.Steps.{Ascends}
 use Rattle.fl_ring.specs.Ring.{place}
-use Rattle.fl_table.specs.Kept.{place_of}
-use Rattle.fl_table.specs.Look.{layout_in, oldest_in, rows_noted, buffered_rows}
+use Rattle.fl_table.specs.Look.{layout_in, oldest_in, rows_noted, buffered_rows, place_of}
 use Rattle.fl_table.specs.Memory.{next_in}
 use Rattle.fl_table.specs.declared.table.Table.{Table}
 use Rattle.fl_table.proofs.PendingKey.{buffered-stored}

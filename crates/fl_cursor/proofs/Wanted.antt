@@ -28,8 +28,8 @@ use Rattle.fl_bitmap.proofs.StoredBits.{bits-same}
 use Rattle.fl_parts.specs.Bitmaps.{ArePlanned}
 use Rattle.fl_table.specs.Look.{oldest_in, rows_noted}
 use Rattle.fl_table.specs.Memory.{next_in}
-use Rattle.fl_table.specs.Skipping.{mask_for, wants_page}
-use Rattle.fl_table.specs.Skipping as skipping
+use Rattle.fl_parts.specs.Skipping.{mask_for, wants_page}
+use Rattle.fl_parts.specs.Skipping as skipping
 use Rattle.fl_table.specs.declared.table.Table.{Table}
 use Rattle.fl_table.proofs.Skips.{mask-meets, index-stands, some-bits}
 use Rattle.fl_cursor.specs.Asked.{is_asked}

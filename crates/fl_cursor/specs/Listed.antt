@@ -4,8 +4,7 @@ use Rattle.fl_flash.specs.Places.{page_of}
 use Rattle.fl_model.specs.Row.{Row}
 use Rattle.fl_frame.specs.Contents.{Contents}
 use Rattle.fl_page.specs.Page.{rows_in}
-use Rattle.fl_table.specs.Kept.{place_of}
-use Rattle.fl_table.specs.Look.{layout_in, oldest_in, rows_noted, buffered_rows}
+use Rattle.fl_table.specs.Look.{layout_in, oldest_in, rows_noted, buffered_rows, place_of}
 use Rattle.fl_table.specs.Memory.{next_in}
 use Rattle.fl_table.specs.declared.table.Table.{Table}
 

@@ -12,7 +12,8 @@ use Rattle.fl_page.specs.Page.{rows_in}
 use Rattle.fl_table.specs.Finding.{IsPageFor, end_in}
 use Rattle.fl_table.specs.Look.{buckets_in, buffered_rows, layout_in, oldest_in, rows_noted}
 use Rattle.fl_table.specs.Memory.{next_in}
-use Rattle.fl_table.specs.Skipping.{index_in, IsLookedUp, IsToldBy}
+use Rattle.fl_parts.specs.Skipping.{IsLookedUp}
+use Rattle.fl_table.specs.Skipping.{index_in, IsToldBy}
 use Rattle.fl_table.specs.declared.look_ahead.Ahead.{Ahead}
 use Rattle.fl_table.specs.declared.look_ahead.Ahead.TheVariants.{Missed, Beyond}
 use Rattle.fl_table.specs.declared.table.Table.{Table}

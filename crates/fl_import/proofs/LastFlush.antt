@@ -18,7 +18,7 @@ use Rattle.fl_model.specs.Work.{PartProgress}
 use Rattle.fl_model.specs.Record.{entries_per_page, has_index}
 use Rattle.fl_model.specs.Table.{RingName, DataRing, IndexRing, VarRing, after_seal, after_seals, fill, table_seals, flushed, lose}
 use Rattle.fl_table.specs.Causes.{FlushCausedBy}
-use Rattle.fl_table.specs.Outcomes.{BySeals}
+use Rattle.fl_parts.specs.Failing.{BySeals}
 use Rattle.fl_rlc.specs.Logged.{Rests, Stands}
 use Rattle.fl_rlc.specs.Outcomes.{FlushEnds}
 use Rattle.fl_rlc.specs.declared.table.LoggedTable.{LoggedTable}

@@ -1,5 +1,5 @@
 -- The entry of a data page that a table looks up in its index, over any bytes and for a table of the model.
-use Rattle.std.specs.Prelude.{◌≡◌, ℕ, ◌+◌, ◌^◌, ◌-◌, ◌<◌, ◌≤◌, Option, Some, None, IfSome, is_some, option_map, Result, Ok, Err, IfErr, OnOk, OnErr, List, ◌∷◌, slice_get, IsTrue, if◌then◌else◌}
+use Rattle.std.specs.Prelude.{◌≡◌, ℕ, ◌+◌, ◌^◌, ◌-◌, ◌<◌, ◌≤◌, Option, Some, None, IfSome, is_some, option_map, Result, Ok, Err, IfErr, OnOk, OnErr, List, ◌∷◌, slice_get, IsTrue, if◌then◌else◌, ℤ}
 use Rattle.std.specs.List.{AllByRecursion}
 use Rattle.fl_flash.specs.Buffer.{BufferState}
 use Rattle.fl_flash.specs.Flash.{FlashState, page_at}
@@ -18,6 +18,8 @@ use Rattle.fl_model.specs.Ring as rings
 use Rattle.fl_model.specs.Table.{Table, Entry}
 use Rattle.fl_page.specs.declared.fault.ReadFault.{ReadFault}
 use Rattle.fl_page.specs.declared.fault.ReadFault.TheVariants.{Flash, BadPage}
+use Rattle.fl_bitmap.specs.Bucket.{with_value}
+use Rattle.fl_bitmap.specs.declared.buckets.Buckets.{Buckets}
 
 -- ---- over any bytes
 
@@ -66,3 +68,8 @@ pub record LooksFrom {X : Type 0} (index : BitmapIndex) (number : ℕ) (old : Fl
 abbrev pub LookFrom : {X : Type 0} → Option BitmapIndex → ℕ → FlashState → BufferState → Result X ReadFault → FlashState → BufferState → Type 0
 LookFrom None number old before result new after = Unit {0}
 LookFrom (Some index) number old before result new after = LooksFrom index number old before result new after
+
+-- the bitmap with one more value
+abbrev pub bitmap_with : Option Buckets → ℕ → ℤ → ℕ
+bitmap_with None bitmap value = bitmap
+bitmap_with (Some buckets) bitmap value = with_value buckets bitmap value

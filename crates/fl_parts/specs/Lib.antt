@@ -13,3 +13,8 @@ pub mod IndexMount
 pub mod MountLimits
 pub mod Entries
 pub mod Accepting
+pub mod Skipping
+pub mod Failing
+pub mod Kept
+pub mod Calls
+pub mod Rings

@@ -25,8 +25,7 @@ use Rattle.fl_machine.specs.Step.{row_of, found_reply}
 use Rattle.fl_model.specs.Spline.{lookup_limit}
 use Rattle.fl_table.specs.BlobAt.{has_blobs}
 use Rattle.fl_table.specs.Finding.{HasKeyAt, HoldsIts, IsAnswered, IsFound, ShowsEntry, TookReads, LookupFails, row_in, row_of_place}
-use Rattle.fl_table.specs.Kept.{place_of}
-use Rattle.fl_table.specs.Look.{layout_in}
+use Rattle.fl_table.specs.Look.{layout_in, place_of}
 use Rattle.fl_table.specs.declared.find.RowAt.{RowAt}
 use Rattle.fl_table.specs.declared.find.RowAt.TheVariants as at
 use Rattle.fl_table.specs.declared.table.Table.{Table}

@@ -9,6 +9,7 @@ use Rattle.fl_model.specs.Record.{Plan, blocks_of}
 use Rattle.fl_model.specs.Ring.{Ring}
 use Rattle.fl_model.specs.Table.{Table, LogRing, shape_of, lose}
 use Rattle.fl_model.specs.Work.{PartProgress}
+use Rattle.fl_parts.specs.Failing as failing
 use Rattle.fl_table.specs.Outcomes as bare_outcomes
 use Rattle.fl_parts.specs.Pages.{bytes_in}
 use Rattle.fl_table.specs.Standing as without_log
@@ -52,11 +53,11 @@ module _ {KNOTS SLOTS : ℕ} (t : LoggedTable KNOTS SLOTS) (f : FlashState) (fir
         log = λ a b e k. absurd (none-some a (sym (bare-table plan table none h.facts).0 ∙ e));
       }
 
-  pub alone-breaks : (fault : FlashFault) (new : FlashState) → bare_outcomes.Breaks first (bare plan) (Did (bare plan) (bare_table table)) fault new → Breaks first plan (Did plan table) fault new
+  pub alone-breaks : (fault : FlashFault) (new : FlashState) → failing.Breaks first (bare plan) (Did (bare plan) (bare_table table)) fault new → Breaks first plan (Did plan table) fault new
   alone-breaks fault new p =
-      let q : bare_outcomes.Breaks first plan (Did plan table) fault new =
-      subst (λ (x : Table). bare_outcomes.Breaks first plan (Did plan x) fault new) table-same
-      (subst (λ (x : Plan). bare_outcomes.Breaks first x (Did x (bare_table table)) fault new) (plan-same plan none) p) in
+      let q : failing.Breaks first plan (Did plan table) fault new =
+      subst (λ (x : Table). failing.Breaks first plan (Did plan x) fault new) table-same
+      (subst (λ (x : Plan). failing.Breaks first x (Did x (bare_table table)) fault new) (plan-same plan none) p) in
       record {
         now = q.now;
         did = q.did;

@@ -13,8 +13,9 @@ use Rattle.fl_machine.proofs.RecordsChange.{Any, any-last}
 use Rattle.fl_machine.proofs.LogTables.{Between, flush-goes, flush-between}
 use Rattle.fl_page.specs.Writer.{Gathers}
 use Rattle.fl_table.specs.Mounting.{OutsideStands}
+use Rattle.fl_parts.specs.Failing as failing
 use Rattle.fl_table.specs.Outcomes as bare_outcomes
-use Rattle.fl_table.specs.Outcomes.{BySeals}
+use Rattle.fl_parts.specs.Failing.{BySeals}
 use Rattle.fl_parts.specs.Pages as pages
 use Rattle.fl_parts.specs.Pages.{bytes_in}
 use Rattle.fl_table.specs.Standing as without_log
@@ -86,7 +87,7 @@ module _ {KNOTS SLOTS : ℕ} (t : LoggedTable KNOTS SLOTS) (f : FlashState) (fir
     pages-still : IsLogRing plan (log_pages table) hs.0.ring.ring (page_in l new)
     pages-still = subst (λ (at : ℕ → List ℕ). IsLogRing plan (log_pages table) hs.0.ring.ring at) (sym still) hs.0.ring.pages
 
-    logged-breaks : (fault : FlashFault) → bare_outcomes.Breaks first (bare plan) (BySeals (bare plan) (table_seals (bare plan) (bare_table table)) (bare_table table) rose device) fault new →
+    logged-breaks : (fault : FlashFault) → failing.Breaks first (bare plan) (BySeals (bare plan) (table_seals (bare plan) (bare_table table)) (bare_table table) rose device) fault new →
         Breaks first plan (BySeals plan (table_seals plan table) table rose device) fault new
     logged-breaks fault p =
         let broken = fault-broken t l t_is f first plan table h p.now.end fault new p.answer in

@@ -18,7 +18,8 @@ use Rattle.fl_page.specs.Writer.{Gathers}
 use Rattle.fl_table.specs.Memory as table_words
 use Rattle.fl_table.specs.Mounting.{OutsideStands}
 use Rattle.fl_table.specs.Outcomes as bare_outcomes
-use Rattle.fl_table.specs.Outcomes.{FaultEnds, mounted_of}
+use Rattle.fl_parts.specs.Failing.{FaultEnds}
+use Rattle.fl_table.specs.Outcomes.{mounted_of}
 use Rattle.fl_parts.specs.Pages as pages
 use Rattle.fl_table.specs.Standing as without_log
 use Rattle.fl_table.specs.declared.counts.Mounted.{Mounted}

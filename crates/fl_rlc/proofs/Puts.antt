@@ -22,8 +22,9 @@ use Rattle.fl_ring.specs.Kept.{PagesStand}
 use Rattle.fl_ring.specs.Ring as ring
 use Rattle.fl_parts.specs.Blobs.{ArePlanned}
 use Rattle.fl_table.specs.Mounting.{OutsideStands}
+use Rattle.fl_parts.specs.Failing as failing
 use Rattle.fl_table.specs.Outcomes as bare_outcomes
-use Rattle.fl_table.specs.Outcomes.{FaultEnds}
+use Rattle.fl_parts.specs.Failing.{FaultEnds}
 use Rattle.fl_parts.specs.Pages as pages
 use Rattle.fl_parts.specs.Pages.{KeptStand, bytes_in}
 use Rattle.fl_table.specs.Standing as table_words
@@ -126,7 +127,7 @@ module _ {KNOTS SLOTS : ℕ} (t : LoggedTable KNOTS SLOTS) (l : RecordLog) (t_is
     Q = beside (log_of table) (put_record (bare plan) item (bare_table table))
 
     -- an operation of the table failed
-    pub table-breaks : (fault : FlashFault) (new : FlashState) → OutsideStands t.table (page_at f) (page_at new) → bare_outcomes.Breaks first (bare plan) (TablePuts (bare plan) rose item device (bare_table table)) fault new →
+    pub table-breaks : (fault : FlashFault) (new : FlashState) → OutsideStands t.table (page_at f) (page_at new) → failing.Breaks first (bare plan) (TablePuts (bare plan) rose item device (bare_table table)) fault new →
         Breaks first plan (TablePuts plan rose item device table) fault new
     table-breaks fault new outside p =
         let broken = fault-broken p.now.end fault new p.answer in

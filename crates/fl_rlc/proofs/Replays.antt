@@ -24,7 +24,7 @@ use Rattle.fl_parts.specs.declared.mount_fault.MountFault.TheVariants as mount
 use Rattle.fl_table.specs.Memory as table_words
 use Rattle.fl_table.specs.Mounting.{OutsideStands}
 use Rattle.fl_table.specs.Outcomes as bare_outcomes
-use Rattle.fl_table.specs.Outcomes.{BySeals, FaultEnds}
+use Rattle.fl_parts.specs.Failing.{BySeals, FaultEnds}
 use Rattle.fl_parts.specs.Pages as pages
 use Rattle.fl_table.specs.Standing as without_log
 use Rattle.fl_table.specs.declared.table.Table as code

@@ -20,7 +20,7 @@ use Rattle.fl_ring.specs.Operations.{change}
 use Rattle.fl_ring.specs.Ring.{Shape, RingState, IsShape, count, oldest, sealed, voided}
 use Rattle.fl_ring.specs.Sealing.{Performed, AnswersEnd}
 use Rattle.fl_ring.proofs.Counts.{counts_sealed, counts_voided}
-use Rattle.fl_table.specs.Outcomes.{FaultEnds}
+use Rattle.fl_parts.specs.Failing.{FaultEnds}
 use Rattle.fl_rlc.proofs.Bodies.{counted, counts_of, rows_of, IsBody, HoldBodies, kept-known, kept-next, kept-torn, sealed-bodies, voided-bodies}
 
 -- an operation of the log

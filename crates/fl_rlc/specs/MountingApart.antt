@@ -11,7 +11,8 @@ use Rattle.fl_model.specs.Table.{is_rows_spent, lose}
 use Rattle.fl_model.specs.Within.{TableMounts, TableMounted, TableStopped, TableUnread}
 use Rattle.fl_model.specs.Work.{Device, PartProgress}
 use Rattle.fl_frame.specs.Device.{SameDevice}
-use Rattle.fl_table.specs.Outcomes.{FaultEnds, mounted_of}
+use Rattle.fl_parts.specs.Failing.{FaultEnds}
+use Rattle.fl_table.specs.Outcomes.{mounted_of}
 use Rattle.fl_parts.specs.Pages as pages
 use Rattle.fl_table.specs.Standing as without_log
 use Rattle.fl_table.specs.declared.counts.Mounted.{Mounted}

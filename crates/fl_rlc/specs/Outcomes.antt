@@ -14,7 +14,8 @@ use Rattle.fl_model.specs.Within.{TableMounts, TableMounted, TableStopped, Table
 use Rattle.fl_model.specs.Work.{Device, Whole, PartProgress}
 use Rattle.fl_frame.specs.Device.{SameDevice}
 use Rattle.fl_ring.specs.Kept.{PagesStand}
-use Rattle.fl_table.specs.Outcomes.{BySeals, FaultEnds, mounted_of}
+use Rattle.fl_parts.specs.Failing.{BySeals, FaultEnds}
+use Rattle.fl_table.specs.Outcomes.{mounted_of}
 use Rattle.fl_parts.specs.Pages.{KeptStand, bytes_in}
 use Rattle.fl_table.specs.declared.counts.Mounted.{Mounted}
 use Rattle.fl_parts.specs.declared.mount_fault.MountFault.{MountFault}

@@ -19,7 +19,7 @@ use Rattle.fl_ring.specs.declared.newest.NewestPage.{NewestPage}
 use Rattle.fl_ring.specs.declared.fault.RingFault.{RingFault}
 use Rattle.fl_ring.specs.declared.fault.RingFault.TheVariants.{Flash, BadHead, BadGap, BadPage, NoNumber}
 use Rattle.fl_ring.specs.declared.ring.Ring as memory
-use Rattle.fl_table.specs.Outcomes.{FaultEnds}
+use Rattle.fl_parts.specs.Failing.{FaultEnds}
 use Rattle.fl_rlc.specs.Memory.{IsPlanned, log_shape, page_in}
 use Rattle.fl_rlc.specs.Pages.{IsLogRing}
 use Rattle.fl_rlc.specs.Standing.{HasRing}

@@ -13,7 +13,7 @@ use Rattle.fl_model.specs.Within.{TableMounts, TableMounted, TableStopped, Table
 use Rattle.fl_model.specs.Work.{Device, PartProgress}
 use Rattle.fl_page.specs.Page.{IsGoodPage, bad_page, rows_in}
 use Rattle.fl_frame.specs.Device.{SameDevice}
-use Rattle.fl_table.specs.Outcomes.{FaultEnds}
+use Rattle.fl_parts.specs.Failing.{FaultEnds}
 use Rattle.fl_parts.specs.Pages as pages
 use Rattle.fl_parts.specs.Reading.{keys_fault}
 use Rattle.fl_table.specs.Standing as without_log

@@ -11,7 +11,7 @@ use Rattle.fl_model.specs.Within.{TablePerforms, seal_within}
 use Rattle.fl_model.specs.Work.{Device, Whole, PartProgress}
 use Rattle.fl_frame.specs.Device.{SameDevice}
 use Rattle.fl_ring.specs.Kept.{PagesStand}
-use Rattle.fl_table.specs.Outcomes.{FaultEnds}
+use Rattle.fl_parts.specs.Failing.{FaultEnds}
 use Rattle.fl_rlc.specs.Memory.{page_in}
 use Rattle.fl_rlc.specs.Pages.{IsLogRing, IsPage}
 use Rattle.fl_rlc.specs.Standing.{Stands}

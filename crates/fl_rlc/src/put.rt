@@ -9,7 +9,7 @@ use fl_table::{FlushFault, PutRefusal};
 impl<const KNOTS: usize, const SLOTS: usize> LoggedTable<KNOTS, SLOTS> {
     ghost use Rattle.std.specs.Prelude.{◌↔◌, Err};
     ghost use Rattle.fl_table.specs.Causes.{PutCausedBy, FlushCausedBy, put_breaks, flush_breaks};
-    ghost use Rattle.fl_table.specs.Frames.{Over, Changes, bytes_in, length_in};
+    ghost use Rattle.fl_parts.specs.Calls.{Over, Changes, bytes_in, length_in};
     ghost use Rattle.fl_table.specs.Memory.{MaySeal};
     ghost use Rattle.fl_table.specs.Mounting.{rings_in as table_rings};
     ghost use Rattle.fl_table.specs.Refusal.{RefusesAs};

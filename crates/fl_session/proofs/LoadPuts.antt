@@ -27,7 +27,7 @@ use Rattle.fl_table.specs.declared.faults.PutRefusal.{PutRefusal}
 use Rattle.fl_table.specs.declared.faults.PutRefusal.TheVariants as put
 use Rattle.fl_table.specs.Causes.{put_breaks}
 use Rattle.fl_table.specs.Look.{layout_in}
-use Rattle.fl_table.specs.Outcomes.{FaultEnds}
+use Rattle.fl_parts.specs.Failing.{FaultEnds}
 use Rattle.fl_table.specs.Standing as without_log
 use Rattle.fl_rlc.specs.Logged.{Stands}
 use Rattle.fl_rlc.specs.Outcomes.{PutEnds}

@@ -28,7 +28,7 @@ use Rattle.fl_table.specs.declared.faults.PutRefusal.TheVariants as put
 use Rattle.fl_table.specs.declared.faults.FlushFault.{FlushFault}
 use Rattle.fl_table.specs.declared.faults.FlushFault.TheVariants as flush
 use Rattle.fl_table.specs.Causes.{put_breaks, flush_breaks}
-use Rattle.fl_table.specs.Outcomes.{BySeals, FaultEnds}
+use Rattle.fl_parts.specs.Failing.{BySeals, FaultEnds}
 use Rattle.fl_parts.specs.Pages.{KeptStand}
 use Rattle.fl_rlc.specs.Logged.{Stands, Rests}
 use Rattle.fl_rlc.specs.Outcomes.{Finishes, Breaks, LogStays, PutEnds, FlushEnds}

@@ -18,7 +18,7 @@ use Rattle.fl_rlc.specs.Logged.{Rests, Stands}
 use Rattle.fl_rlc.specs.Outcomes.{FlushEnds}
 use Rattle.fl_rlc.specs.declared.table.LoggedTable.{LoggedTable}
 use Rattle.fl_table.specs.Causes as table
-use Rattle.fl_table.specs.Outcomes.{BySeals, FaultEnds}
+use Rattle.fl_parts.specs.Failing.{BySeals, FaultEnds}
 use Rattle.fl_table.specs.declared.faults.FlushFault.{FlushFault}
 use Rattle.fl_table.specs.declared.faults.FlushFault.TheVariants as flush
 use Rattle.fl_store.proofs.TablesChanged.{off-rests}

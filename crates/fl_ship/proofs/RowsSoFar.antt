@@ -31,7 +31,7 @@ use Rattle.fl_rlc.specs.Logged.{Rests, Stands}
 use Rattle.fl_rlc.specs.Outcomes.{PutEnds}
 use Rattle.fl_rlc.specs.Refusal.{RefusedSame}
 use Rattle.fl_rlc.specs.declared.table.LoggedTable.{LoggedTable}
-use Rattle.fl_table.specs.Outcomes.{FaultEnds}
+use Rattle.fl_parts.specs.Failing.{FaultEnds}
 use Rattle.fl_table.specs.declared.faults.PutRefusal.{PutRefusal}
 use Rattle.fl_table.specs.declared.faults.PutRefusal.TheVariants as put
 use Rattle.fl_store.proofs.TablesChanged.{off-rests}

@@ -12,7 +12,7 @@ use Rattle.fl_model.proofs.PutAmongTables.{put-whole}
 use Rattle.fl_model.proofs.ShipWork.{drops-none}
 use Rattle.fl_flash.specs.Flash.{FlashState}
 use Rattle.fl_flash.specs.declared.flash.FlashFault.{FlashFault}
-use Rattle.fl_table.specs.Outcomes.{FaultEnds}
+use Rattle.fl_parts.specs.Failing.{FaultEnds}
 use Rattle.fl_table.specs.declared.faults.FlushFault.TheVariants as flush
 use Rattle.fl_table.specs.declared.faults.PutRefusal.TheVariants as put
 use Rattle.fl_ship.specs.Puts.{AreAccepted, HasPut, put_all}

@@ -20,7 +20,7 @@ ghost use Rattle.fl_rlc.specs.Table.{is_running, table_in, IsSamePlan, LiesOn, O
 ghost use Rattle.fl_schema.specs.Schema.{layout_of_row, row_of};
 ghost use Rattle.fl_table.specs.Causes.{put_breaks};
 ghost use Rattle.fl_table.specs.Look.{last_key_in, layout_in};
-ghost use Rattle.fl_table.specs.Outcomes.{BySeals};
+ghost use Rattle.fl_parts.specs.Failing.{BySeals};
 ghost use Rattle.fl_table.specs.declared.faults.PutRefusal.{PutRefusal};
 ghost use Rattle.fl_ship.specs.Rows.{goes_on, AreTaken, FlushCausedBy, FlushesCopy, PutCausedBy, PutsWork, RowsPut, RowsShip, RowsWork, ShipCausedBy, ShipsWork, WorksOn};
 ghost use Rattle.fl_ship.specs.declared.fault.ShipFault.{ShipFault};

@@ -6,7 +6,7 @@ use Rattle.fl_model.specs.Record.{Record, Plan}
 use Rattle.fl_model.specs.Table.{Table, RingName, make_room_seals, join_seals, put_joined}
 use Rattle.fl_model.specs.Within.{seals_within, effect_within}
 use Rattle.fl_model.specs.Work.{Kind, Device, PartEnd, Whole, CutIn, FailedIn, PartProgress, PartPerforms, PartFirst, cut_now, counted}
-use Rattle.fl_table.specs.Outcomes.{BySeals}
+use Rattle.fl_parts.specs.Failing.{BySeals}
 
 -- what is known of them, however they went; `Did` says how, where the medium may have failed
 pub record IsCalm {S : Type 0} (Did : Type 0) (now : PartProgress S) : Type 0 where

@@ -19,7 +19,7 @@ use Rattle.fl_model.proofs.Lists.{slice_get-some}
 use Rattle.fl_model.proofs.MountAmongTables.{mounts-along}
 use Rattle.fl_frame.specs.Device.{SameDevice}
 use Rattle.fl_machine.specs.Step.{all_ready, made_ready}
-use Rattle.fl_table.specs.Outcomes.{FaultEnds}
+use Rattle.fl_parts.specs.Failing.{FaultEnds}
 use Rattle.fl_parts.specs.declared.mount_fault.MountFault.{MountFault}
 use Rattle.fl_parts.specs.declared.mount_fault.MountFault.TheVariants as mount
 use Rattle.fl_table.specs.declared.counts.Mounted as found

@@ -12,7 +12,7 @@ use Rattle.fl_frame.specs.Watched.{IsWatched}
 use Rattle.fl_rlc.specs.Logged.{Rests}
 use Rattle.fl_rlc.specs.Outcomes.{Finishes, Breaks}
 use Rattle.fl_rlc.specs.declared.table.LoggedTable.{LoggedTable}
-use Rattle.fl_table.specs.Outcomes.{FaultEnds}
+use Rattle.fl_parts.specs.Failing.{FaultEnds}
 use Rattle.fl_store.specs.Works.{FailsIn, Works}
 use Rattle.fl_store.proofs.Failing.{IsWork}
 use Rattle.fl_store.proofs.Risen.{has_risen, watched}

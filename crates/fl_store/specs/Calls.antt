@@ -17,7 +17,7 @@ use Rattle.fl_frame.specs.Device.{SameDevice}
 use Rattle.fl_rlc.specs.Table.{table_in, is_running}
 use Rattle.fl_table.specs.Finding.{FindsEntry, IsRowAt}
 use Rattle.fl_table.specs.Look.{layout_in}
-use Rattle.fl_table.specs.Outcomes.{BySeals, FaultEnds}
+use Rattle.fl_parts.specs.Failing.{BySeals, FaultEnds}
 use Rattle.fl_table.specs.declared.find.RowAt.{RowAt}
 use Rattle.fl_table.specs.declared.faults.FlushFault.{FlushFault}
 use Rattle.fl_table.specs.declared.faults.FlushFault.TheVariants as flush

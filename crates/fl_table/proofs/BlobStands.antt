@@ -21,7 +21,8 @@ use Rattle.fl_parts.specs.Bitmaps as bitmaps
 use Rattle.fl_parts.specs.Blobs as variable
 use Rattle.fl_parts.specs.Blobs.{ArePlanned, Stand, StandOutside, IsStanding, RestEndsOf, RestEnds, rest_seals, next_of, next_after}
 use Rattle.fl_table.specs.Memory.{IsPlanned}
-use Rattle.fl_table.specs.Outcomes.{Finishes, Breaks, FaultEnds, BySeals}
+use Rattle.fl_parts.specs.Failing.{Breaks, FaultEnds, BySeals}
+use Rattle.fl_table.specs.Outcomes.{Finishes}
 use Rattle.fl_parts.specs.Pages.{HoldsTable, KeptStand, bytes_in}
 use Rattle.fl_table.specs.Standing.{Stands}
 use Rattle.fl_table.specs.declared.table.Table as code

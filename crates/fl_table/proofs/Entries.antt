@@ -30,7 +30,7 @@ use Rattle.fl_schema.specs.declared.schema.KeyWidth.TheVariants.{Four, Eight}
 use Rattle.fl_parts.specs.Blobs.{AreLed}
 use Rattle.fl_parts.specs.Entries.{LookFrom, LookUp, LooksFrom, LooksUp, ShowsFound, TellsOf}
 use Rattle.fl_table.specs.Memory.{IsPlanned}
-use Rattle.fl_table.specs.Skipping.{AreFresh, HoldGood, IsBadIndex}
+use Rattle.fl_parts.specs.Skipping.{AreFresh, HoldGood, IsBadIndex}
 use Rattle.fl_table.specs.Standing.{Stands}
 use Rattle.fl_table.specs.declared.table.Table.{Table}
 use Rattle.fl_table.proofs.KeptRead.{rows-lose}

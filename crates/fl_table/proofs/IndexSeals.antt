@@ -28,7 +28,8 @@ use Rattle.fl_frame.specs.Device.{SameDevice}
 use Rattle.fl_frame.specs.Watched.{IsWatched}
 use Rattle.fl_parts.proofs.Fronts.{front-left, IsNumberedTo, erased-number}
 use Rattle.fl_parts.specs.Bitmaps.{ArePlanned, Stand, StandOutside, IsRoomMade, RoomMade, MakesRoomOf, bitmap_seals, next_after}
-use Rattle.fl_table.specs.Outcomes.{Finishes, Breaks, FaultEnds, BySeals}
+use Rattle.fl_parts.specs.Failing.{Breaks, FaultEnds, BySeals}
+use Rattle.fl_table.specs.Outcomes.{Finishes}
 use Rattle.fl_parts.specs.Pages.{HoldsTable, KeptStand, bytes_in, place_in}
 use Rattle.fl_table.specs.Standing.{Stands}
 use Rattle.fl_table.specs.declared.table.Table as code

@@ -22,7 +22,7 @@ use Rattle.fl_frame.specs.Watched.{IsWatched}
 use Rattle.fl_parts.specs.Accepting.{IsAcceptedBy}
 use Rattle.fl_parts.specs.Bitmaps as bitmaps
 use Rattle.fl_parts.specs.Blobs.{ArePlanned, Stand, StandOutside, IsStanding, PlaceEndsOf, PlaceEnds, reference_of, next_of, next_after}
-use Rattle.fl_table.specs.Outcomes.{Breaks, BySeals}
+use Rattle.fl_parts.specs.Failing.{Breaks, BySeals}
 use Rattle.fl_parts.specs.Pages.{HoldsTable, KeptStand, bytes_in}
 use Rattle.fl_table.specs.Standing.{Stands}
 use Rattle.fl_table.specs.declared.table.Table as code

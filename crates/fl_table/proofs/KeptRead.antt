@@ -25,7 +25,8 @@ use Rattle.fl_ring.specs.Ring.{place}
 use Rattle.fl_ring.specs.declared.ring.Ring.{Ring}
 use Rattle.fl_schema.specs.Schema.{layout_of, types_of}
 use Rattle.fl_page.proofs.RowsFrom.{length-rows_from}
-use Rattle.fl_table.specs.Kept.{place_of, IsFound, ShowsRows}
+use Rattle.fl_parts.specs.Kept.{IsFound, ShowsRows}
+use Rattle.fl_table.specs.Look.{place_of}
 use Rattle.fl_table.specs.Memory.{LiesOn}
 use Rattle.fl_table.specs.Standing.{Stands}
 use Rattle.fl_table.specs.declared.table.Table.{Table}

@@ -48,7 +48,8 @@ use Rattle.fl_schema.specs.Schema.{layout_of}
 use Rattle.fl_parts.specs.ByEntries.{Come, end_before, mount_fault}
 use Rattle.fl_parts.specs.Faults.{of_ring, IfFlash, IfPage, is_of_pages}
 use Rattle.fl_table.specs.Memory.{IsPlanned, HoldsInMemory}
-use Rattle.fl_table.specs.Outcomes.{FaultEnds, MountsBadly, DataEnds, mounted_of}
+use Rattle.fl_parts.specs.Failing.{FaultEnds, MountsBadly}
+use Rattle.fl_table.specs.Outcomes.{DataEnds, mounted_of}
 use Rattle.fl_model.specs.Spline.{points_of}
 use Rattle.fl_bitmap.specs.Widths.{is_bits}
 use Rattle.fl_index.specs.declared.index.BitmapIndex.{BitmapIndex}

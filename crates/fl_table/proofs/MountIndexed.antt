@@ -18,7 +18,8 @@ use Rattle.fl_model.specs.Ring.{oldest}
 use Rattle.fl_model.specs.Table.{Table, RingName, DataRing, IndexRing, VarRing, shape_of, full_pages, is_torn, is_dirty, seal_page, spent_from, LogRing}
 use Rattle.fl_model.specs.Work.{Kind, Body, Mark, VoidMark, Erase, Device, PartEnd, Whole, CutIn, FailedIn, PartProgress}
 use Rattle.fl_model.specs.Within.{repair_within, effect_within, all_done, TablePerforms, TableUnreads, TableGoesOn, TableMounts, TableMountEnd, TableMounted, TableStopped, TableUnread}
-use Rattle.fl_table.specs.Outcomes.{FaultEnds, MountsBadly, RingsEnd, MountEnds, var_rings}
+use Rattle.fl_parts.specs.Failing.{FaultEnds, MountsBadly, var_rings}
+use Rattle.fl_table.specs.Outcomes.{RingsEnd, MountEnds}
 use Rattle.fl_parts.specs.Mountable.{BlobsBefore, IsMountable}
 use Rattle.fl_parts.specs.Pages.{RestsToMount, bytes_in}
 use Rattle.fl_table.specs.declared.counts.Mounted.{Mounted}

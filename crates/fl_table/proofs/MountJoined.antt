@@ -41,7 +41,8 @@ use Rattle.fl_parts.specs.Coming.{StandFound, StandsFoundBy, WaitUnlisted, come_
 use Rattle.fl_find.specs.Index.{error_in}
 use Rattle.fl_parts.specs.IndexMount.{FindsBy, FindsBitmaps}
 use Rattle.fl_table.specs.Mounting.{FindsRows, ReadsRing, HasBadPage, HasLearned, FindsData, RefusesData, RefusesRows, comes_in}
-use Rattle.fl_table.specs.Outcomes.{RingsEnd, MountEnds, var_rings}
+use Rattle.fl_parts.specs.Failing.{var_rings}
+use Rattle.fl_table.specs.Outcomes.{RingsEnd, MountEnds}
 use Rattle.fl_parts.specs.Pages.{RestsToMount, bytes_in}
 use Rattle.fl_parts.specs.Reading.{pages_of}
 use Rattle.fl_table.specs.declared.counts.Mounted.{Mounted as Found}

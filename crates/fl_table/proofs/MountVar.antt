@@ -24,7 +24,8 @@ use Rattle.fl_parts.specs.Blobs.{AreIn, ArePlanned, Stand, StandInPages, StandOu
 use Rattle.fl_parts.specs.Mountable.{IsPaged}
 use Rattle.fl_parts.specs.MountLimits.{IsVarLimited}
 use Rattle.fl_table.proofs.MountLimits.{data-keeps, mount-repaired}
-use Rattle.fl_table.specs.Outcomes.{DataWell, DataEnds, FaultEnds, MountsBadly, RingsEnd, mounted_of, var_rings}
+use Rattle.fl_parts.specs.Failing.{FaultEnds, MountsBadly, var_rings}
+use Rattle.fl_table.specs.Outcomes.{DataWell, DataEnds, RingsEnd, mounted_of}
 use Rattle.fl_parts.specs.Pages.{HoldsTable, Rests}
 use Rattle.fl_table.specs.Standing.{StandsAsTold, Stands}
 use Rattle.fl_parts.specs.declared.mount_fault.MountFault.{MountFault}

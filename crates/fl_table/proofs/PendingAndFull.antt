@@ -31,8 +31,9 @@ use Rattle.fl_model.proofs.TableSeals.{idle-table_seals, full-room_seals, room-r
 use Rattle.fl_flash.specs.declared.flash.FlashFault.{FlashFault}
 use Rattle.fl_schema.specs.Schema.{layout_of}
 use Rattle.fl_parts.specs.Accepting.{IsAcceptedBy}
-use Rattle.fl_table.specs.Memory.{bitmap_with}
-use Rattle.fl_table.specs.Outcomes.{Finishes, Breaks, BySeals, FaultEnds}
+use Rattle.fl_parts.specs.Entries.{bitmap_with}
+use Rattle.fl_parts.specs.Failing.{Breaks, BySeals, FaultEnds}
+use Rattle.fl_table.specs.Outcomes.{Finishes}
 use Rattle.fl_parts.specs.Pages.{KeptStand}
 use Rattle.fl_table.specs.Standing.{Stands}
 use Rattle.fl_table.specs.declared.table.Table as code

@@ -12,7 +12,8 @@ use Rattle.fl_parts.proofs.Accepted.{accepted}
 use Rattle.fl_parts.proofs.Plain.{table-parts}
 use Rattle.fl_schema.specs.Schema.{layout_of}
 use Rattle.fl_parts.specs.Accepting.{IsAcceptedBy}
-use Rattle.fl_table.specs.Outcomes.{Finishes, Breaks, BySeals, JoinEnds, PutEnds}
+use Rattle.fl_parts.specs.Failing.{Breaks, BySeals}
+use Rattle.fl_table.specs.Outcomes.{Finishes, JoinEnds, PutEnds}
 use Rattle.fl_table.specs.Refusal.{put_refusal}
 use Rattle.fl_table.specs.Standing.{Stands}
 use Rattle.fl_table.specs.declared.table.Table as code

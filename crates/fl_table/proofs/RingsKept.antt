@@ -15,7 +15,8 @@ use Rattle.fl_parts.specs.Bitmaps as bitmaps
 use Rattle.fl_parts.specs.Blobs as variable
 use Rattle.fl_table.specs.Look.{oldest_in}
 use Rattle.fl_table.specs.Memory.{next_in}
-use Rattle.fl_table.specs.Rings.{index_pages, blob_pages, oldest_page, rings_in, rings_of}
+use Rattle.fl_parts.specs.Rings.{index_pages, blob_pages, oldest_page}
+use Rattle.fl_table.specs.Rings.{rings_in, rings_of}
 use Rattle.fl_table.specs.Standing.{Stands}
 use Rattle.fl_table.specs.declared.rings.TableRings.{TableRings}
 use Rattle.fl_table.specs.declared.table.Table.{Table}

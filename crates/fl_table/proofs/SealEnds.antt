@@ -22,7 +22,7 @@ use Rattle.fl_ring.specs.Place.{next_of, oldest_of, StandsFor}
 use Rattle.fl_ring.specs.Ring.{Shape, RingState, OnRing, oldest, place, sealed}
 use Rattle.fl_ring.specs.Sealing.{Performed}
 use Rattle.fl_ring.specs.declared.ring.Ring.{Ring}
-use Rattle.fl_table.specs.Outcomes.{Breaks, FaultEnds}
+use Rattle.fl_parts.specs.Failing.{Breaks, FaultEnds}
 use Rattle.fl_parts.specs.Pages.{HoldsTable, KeptStand, bytes_in}
 use Rattle.fl_parts.proofs.TablePages.{plain-rests}
 use Rattle.fl_parts.proofs.RingInTable.{HoldsOthers, MakesBody, TableAnswers, seal-lifts, seal-whole}

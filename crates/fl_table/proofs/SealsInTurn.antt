@@ -9,7 +9,8 @@ use Rattle.fl_model.specs.Within.{seal_within, seals_within, effect_within, Tabl
 use Rattle.fl_model.specs.Work.{Kind, Device, PartEnd, PartProgress}
 use Rattle.fl_model.proofs.Among.{after_seals-append, seals-all_done}
 use Rattle.fl_model.proofs.Performs.{performs-front, performs-more, performs-whole}
-use Rattle.fl_table.specs.Outcomes.{Finishes, Breaks, FaultEnds, BySeals, SealsEnd}
+use Rattle.fl_parts.specs.Failing.{Breaks, FaultEnds, BySeals}
+use Rattle.fl_table.specs.Outcomes.{Finishes, SealsEnd}
 use Rattle.fl_parts.specs.Pages.{KeptStand}
 use Rattle.fl_table.specs.Standing.{Stands}
 use Rattle.fl_table.specs.declared.table.Table as code

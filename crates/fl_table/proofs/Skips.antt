@@ -31,7 +31,8 @@ use Rattle.fl_page.specs.declared.fault.ReadFault.{ReadFault}
 use Rattle.fl_page.specs.declared.fault.ReadFault.TheVariants.{Flash, BadPage}
 use Rattle.fl_index.specs.Standing as standing
 use Rattle.fl_parts.specs.Bitmaps.{ArePlanned, Stand}
-use Rattle.fl_table.specs.Skipping.{AreFresh, AreScanning, HoldGood, IsBadIndex, IsEntryOf, IsLookedUp, IsLookedUpBy, IsToldBy, LooksOn, ShowsPage, ahead_by, ahead_of, begins_above, due_of, mask_for}
+use Rattle.fl_parts.specs.Skipping.{AreFresh, AreScanning, HoldGood, IsBadIndex, IsEntryOf, IsLookedUp, IsLookedUpBy, LooksOn, begins_above, due_of, mask_for}
+use Rattle.fl_table.specs.Skipping.{IsToldBy, ShowsPage, ahead_by, ahead_of}
 use Rattle.fl_table.specs.declared.look_ahead.Ahead.{Ahead}
 use Rattle.fl_table.specs.declared.look_ahead.Ahead.TheVariants.{Wanted, Missed, Beyond}
 use Rattle.fl_table.specs.Standing.{Stands}

@@ -23,8 +23,7 @@ use Rattle.fl_radix.specs.Slots as radix
 use Rattle.fl_radix.specs.Slots.{knots_in_slot, IsLeastShift}
 use Rattle.fl_frame.specs.Causes.{ReadFails}
 use Rattle.fl_search.specs.Search.{Ascends, IsPageOf, RoseBy, RoseSome, starts_by}
-use Rattle.fl_table.specs.Kept.{place_of}
-use Rattle.fl_table.specs.Look.{buffered_rows, layout_in, oldest_in, voids_noted}
+use Rattle.fl_table.specs.Look.{buffered_rows, layout_in, oldest_in, voids_noted, place_of}
 use Rattle.fl_table.specs.Memory.{next_in, pending_in}
 use Rattle.fl_table.specs.declared.find.RowAt.{RowAt}
 use Rattle.fl_table.specs.declared.find.RowAt.TheVariants as at

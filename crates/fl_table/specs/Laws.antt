@@ -9,7 +9,7 @@ use Rattle.fl_model.specs.Work.{Device}
 use Rattle.fl_parts.specs.Mountable.{BlobsBefore, RowsBehind}
 use Rattle.fl_parts.specs.Pages.{RestsToMount}
 use Rattle.fl_table.specs.declared.table.Table.{Table}
-use Rattle.fl_table.specs.Outcomes.{MountsBadly}
+use Rattle.fl_parts.specs.Failing.{MountsBadly}
 use Rattle.fl_table.specs.Standing.{StandsAsTold}
 
 -- The repair of a ring may give up its last committed page. So that it can still be numbered anew then is a premise.

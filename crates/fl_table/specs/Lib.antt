@@ -12,7 +12,6 @@ pub mod Frames
 pub mod Mounts
 pub mod Look
 pub mod Rings
-pub mod Kept
 pub mod BlobAt
 pub mod Finding
 pub mod Lookups

@@ -8,7 +8,8 @@ use Rattle.fl_model.specs.Row.{Row}
 use Rattle.fl_model.specs.Spline.{voids_of}
 use Rattle.fl_model.specs.Table as model
 use Rattle.fl_page.specs.Page.{rows_from}
-use Rattle.fl_ring.specs.Place.{oldest_of}
+use Rattle.fl_ring.specs.Place.{oldest_of, shape_of}
+use Rattle.fl_ring.specs.Ring.{place}
 use Rattle.fl_schema.specs.Schema.{layout_of}
 use Rattle.fl_table.specs.declared.table.Table.{Table}
 use Rattle.fl_table.specs.declared.counts.TableCounts.{TableCounts}
@@ -25,6 +26,10 @@ last_key_in t = t.last_key
 -- the number of the oldest kept page of a running table
 abbrev pub oldest_in : {KNOTS SLOTS : ℕ} → Table KNOTS SLOTS → ℕ
 oldest_in t = unwrap_or (option_map (λ ring. oldest_of ring) t.ring) 0
+
+-- the flash page at which a number of a running table stands
+abbrev pub place_of : {KNOTS SLOTS : ℕ} → Table KNOTS SLOTS → ℕ → ℕ
+place_of t number = unwrap_or (option_map (λ ring. place (shape_of ring) number) t.ring) 0
 
 -- the pending rows, by their bytes in the page buffer
 abbrev pub buffered_rows : {KNOTS SLOTS : ℕ} → Table KNOTS SLOTS → List Row

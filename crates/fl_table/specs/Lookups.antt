@@ -11,17 +11,13 @@ use Rattle.fl_model.specs.Record.{Plan}
 use Rattle.fl_model.specs.Spline.{is_pending_key, lookup_limit}
 use Rattle.fl_model.specs.Table as model
 use Rattle.fl_page.specs.declared.fault.ReadFault.{ReadFault}
+use Rattle.fl_parts.specs.Calls.{OverTold}
 use Rattle.fl_table.specs.Finding.{BlamesFor, Finds, FindsPending, HasKeyAt, HoldsIts, HoldsKept, IsAnswered, IsInSlot, IsPageFor, IsRowAt, LookupFails, is_covered_in, is_pending_in, knots_near}
 use Rattle.fl_table.specs.Look.{oldest_in}
 use Rattle.fl_table.specs.Memory.{next_in, LiesOn}
 use Rattle.fl_table.specs.Standing.{Stands}
 use Rattle.fl_table.specs.declared.find.RowAt.{RowAt}
 use Rattle.fl_table.specs.declared.table.Table.{Table}
-
--- The premise of what a call that only looks means: the flash stands for a table of the model, and tells its bytes. It says so for each
--- plan and table for which the flash stands, from each block.
-abbrev pub OverTold : FlashState → (ℕ → Plan → model.Table → Type 0) → (Plan → model.Table → Type 0) → Type 0
-OverTold f Standing Says = (first : ℕ) → (plan : Plan) → (table : model.Table) → IsTrue f.media.tells → Standing first plan table → Says plan table
 
 -- What a lookup means by the model.
 pub record LooksUp {KNOTS SLOTS : ℕ} (t : Table KNOTS SLOTS) (wanted : ℕ) (old : FlashState) (buf_old : BufferState) (steps_old : ℕ) (result : Result (Option RowAt) ReadFault) (new : FlashState) (buf_new : BufferState) (steps_new : ℕ) : Type 0 where

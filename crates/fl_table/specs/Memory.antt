@@ -1,8 +1,7 @@
 -- What clauses see of a table in memory.
-use Rattle.std.specs.Prelude.{◌≡◌, ◌⊎◌, ℕ, ◌+◌, ◌*◌, ◌%◌, ◌^◌, ◌<◌, ◌≤◌, Bool, false, ◌||◌, Option, Some, None, List, [], ℤ, is_some, option_map, unwrap_or, map, length, slice_get, slice_index}
+use Rattle.std.specs.Prelude.{◌≡◌, ◌⊎◌, ℕ, ◌+◌, ◌*◌, ◌%◌, ◌^◌, ◌<◌, ◌≤◌, Bool, false, ◌||◌, Option, Some, None, List, [], is_some, option_map, unwrap_or, map, length, slice_get, slice_index}
 use Rattle.std.specs.Option.{ForSome}
-use Rattle.fl_bitmap.specs.Bucket.{with_value, HasBuckets}
-use Rattle.fl_bitmap.specs.declared.buckets.Buckets.{Buckets}
+use Rattle.fl_bitmap.specs.Bucket.{HasBuckets}
 use Rattle.fl_find.specs.Index.{IndexOf, error_in}
 use Rattle.fl_flash.specs.Flash.{FlashState, pages}
 use Rattle.fl_model.specs.Record.{Plan, RowLayout, row_layout, layout_len}
@@ -36,11 +35,6 @@ is_running t = is_some t.ring
 -- the last mount succeeded
 abbrev pub is_mounted : {KNOTS SLOTS : ℕ} → Table KNOTS SLOTS → Bool
 is_mounted t = is_running t || is_stopped t
-
--- the bitmap with one more value
-abbrev pub bitmap_with : Option Buckets → ℕ → ℤ → ℕ
-bitmap_with None bitmap value = bitmap
-bitmap_with (Some buckets) bitmap value = with_value buckets bitmap value
 
 -- the next number of a running table
 abbrev pub next_in : {KNOTS SLOTS : ℕ} → Table KNOTS SLOTS → ℕ

@@ -1,6 +1,5 @@
 -- What a mount of a table leaves: by the model, by the pages as they are, in memory, of its buffer and of the flash.
-use Rattle.std.specs.Prelude.{◌≡◌, ℕ, ◌+◌, ◌*◌, ◌≤◌, true, false, None, is_ok, Result, Ok, Err, OnOk, IfOk, IfErr, IsTrue, length}
-use Rattle.fl_flash.specs.Buffer.{BufferState}
+use Rattle.std.specs.Prelude.{◌≡◌, ℕ, ◌+◌, ◌*◌, ◌≤◌, true, false, is_ok, Result, Err, OnOk, IfOk, IfErr, IsTrue}
 use Rattle.fl_flash.specs.Flash.{FlashState, Goes, page_at}
 use Rattle.fl_flash.specs.declared.flash.FlashFault.TheVariants.{PowerLost}
 use Rattle.fl_frame.specs.Reads.{FewReads}
@@ -10,7 +9,7 @@ use Rattle.fl_parts.specs.IndexMount.{FewRepairs}
 use Rattle.fl_parts.specs.Pages.{RestsToMount}
 use Rattle.fl_parts.specs.declared.mount_fault.MountFault.{MountFault}
 use Rattle.fl_parts.specs.declared.mount_fault.MountFault.TheVariants as mount
-use Rattle.fl_table.specs.Frames.{Over}
+use Rattle.fl_parts.specs.Calls.{Over}
 use Rattle.fl_table.specs.Memory.{is_running, is_stopped, pending_in, IsPlanned, IsSamePlan, LiesOn, NothingWaits}
 use Rattle.fl_table.specs.Mounting.{FindsPages, OutsideStands, RefusesPages, pages_in, rings_in}
 use Rattle.fl_table.specs.Outcomes.{MountEnds}
@@ -42,11 +41,6 @@ pub record MountsInMemory {KNOTS SLOTS : ℕ} (t : Table KNOTS SLOTS) (result : 
   -- no row is pending; after an Ok nothing waits at all
   pub none : pending_in now ≡ 0
   pub empty : OnOk result (NothingWaits now)
-
--- A buffer is as long as before, and holds no page.
-pub record HoldsNone (old new : BufferState) : Type 0 where
-  pub room : length new.bytes ≡ length old.bytes
-  pub holds : new.holds ≡ None
 
 -- What it does to its flash.
 pub record MountsFlash {KNOTS SLOTS : ℕ} (t : Table KNOTS SLOTS) (old : FlashState) (result : Result Mounted MountFault) (new : FlashState) : Type 0 where

@@ -1,17 +1,17 @@
 -- How the calls of a table end, over a flash that stands for a table of the model.
-use Rattle.std.specs.Prelude.{◌≡◌, ℕ, ◌+◌, Bool, true, false, ◌⊎◌, Some, None, Result, Ok, Err, List, [], ◌∷◌, length, map, if◌then◌else◌}
+use Rattle.std.specs.Prelude.{◌≡◌, ℕ, ◌+◌, Bool, true, false, Some, None, Result, Ok, Err, List, [], ◌∷◌, length, map}
 use Rattle.fl_flash.specs.Flash.{FlashState, page_at}
 use Rattle.fl_flash.specs.declared.flash.FlashFault.{FlashFault}
-use Rattle.fl_flash.specs.declared.flash.FlashFault.TheVariants.{PowerLost, Media}
 use Rattle.fl_frame.specs.Device.{SameDevice}
-use Rattle.fl_model.specs.Record.{Record, Plan, has_var}
+use Rattle.fl_model.specs.Record.{Record, Plan}
 use Rattle.fl_model.specs.Table as model
-use Rattle.fl_model.specs.Table.{RingName, DataRing, VarRing, after_seals, fill_seals, with_record, refusal_of, put_record, table_seals, flushed, lose}
+use Rattle.fl_model.specs.Table.{RingName, DataRing, after_seals, fill_seals, with_record, refusal_of, put_record, table_seals, flushed, lose}
 use Rattle.fl_model.specs.Spline.{voids_of}
-use Rattle.fl_model.specs.Work.{Device, PartEnd, Whole, CutIn, FailedIn, PartProgress}
-use Rattle.fl_model.specs.Within.{TablePerforms, seals_within, TableMounted, TableStopped, TableUnread, TableMounts}
+use Rattle.fl_model.specs.Work.{Device, Whole, PartProgress}
+use Rattle.fl_model.specs.Within.{TableMounted, TableMounts}
 use Rattle.fl_model.specs.Mount.{Of, rings_of, ready, blob_end}
 use Rattle.fl_model.specs.Puts.{TablePuts}
+use Rattle.fl_parts.specs.Failing.{BySeals, Breaks, MountsBadly}
 use Rattle.fl_table.specs.declared.table.Table.{Table}
 use Rattle.fl_table.specs.declared.faults.PutRefusal.{PutRefusal}
 use Rattle.fl_table.specs.declared.faults.PutRefusal.TheVariants as put
@@ -25,12 +25,8 @@ use Rattle.fl_model.specs.Facts.{IsTable, IsSettled}
 use Rattle.fl_parts.specs.Bitmaps.{Stand}
 use Rattle.fl_table.specs.Memory.{IsPlanned, HoldsInMemory}
 use Rattle.fl_parts.specs.Mountable.{IsPaged, BlobsBefore}
-use Rattle.fl_parts.specs.Pages.{HoldsTable, KeptStand, Rests}
+use Rattle.fl_parts.specs.Pages.{HoldsTable, KeptStand}
 use Rattle.fl_table.specs.Standing.{StandsAsTold, Stands}
-
--- how the seals of these rings may go, one after another
-abbrev pub BySeals : Plan → List RingName → model.Table → Bool → Device → PartProgress model.Table → Type 0
-BySeals plan rings table rose device now = TablePerforms plan rose (seals_within plan rings table) device table now
 
 -- The operations of a call were all done, and it left this table.
 pub record Finishes {KNOTS SLOTS : ℕ} (first : ℕ) (plan : Plan) (Did : PartProgress model.Table → Type 0) (table after : model.Table) (t : Table KNOTS SLOTS) (old new : FlashState) : Type 0 where
@@ -41,20 +37,6 @@ pub record Finishes {KNOTS SLOTS : ℕ} (first : ℕ) (plan : Plan) (Did : PartP
   pub power : new.is_on ≡ true
   pub stands : Stands t new first plan after
   pub stand : KeptStand first plan table after (page_at old) (page_at new)
-
--- the fault that an operation answers where it fails so
-abbrev pub FaultEnds : PartEnd model.Table → FlashFault → FlashState → Type 0
-FaultEnds Whole fault new = ⊥
-FaultEnds (CutIn before) fault new = (fault ≡ PowerLost) × (new.is_on ≡ false)
-FaultEnds (FailedIn before) fault new = (fault ≡ Media) × (new.is_on ≡ true)
-
--- One of the operations failed. The table is stopped, and the flash stands for what is left without what was in memory.
-pub record Breaks (first : ℕ) (plan : Plan) (Did : PartProgress model.Table → Type 0) (fault : FlashFault) (new : FlashState) : Type 0 where
-  pub now : PartProgress model.Table
-  pub did : Did now
-  pub answer : FaultEnds now.end fault new
-  pub counts : SameDevice new now.device
-  pub rests : Rests new first plan (lose now.state)
 
 -- the seals of these rings, one after another
 abbrev pub SealsEnd : {KNOTS SLOTS : ℕ} → ℕ → Plan → List RingName → model.Table → Bool → Device → Result (Unit {0}) FlashFault → Table KNOTS SLOTS → FlashState → FlashState → Type 0
@@ -106,18 +88,6 @@ pub record MountsWell {KNOTS SLOTS : ℕ} (first : ℕ) (plan : Plan) (rings : L
   pub stands : IsSettled plan table → Stands t new first plan (ready plan now.state)
   pub answer : mounted ≡ mounted_of (ready plan now.state)
 
--- It failed in an operation of a repair, or in a read: what was repaired until then stays, and its pages fit one another. So a further
--- mount takes it, where a ring whose pages are all void can still be numbered anew.
-pub record MountsBadly (first : ℕ) (plan : Plan) (rings : List RingName) (table : model.Table) (rose : Bool) (device : Device) (fault : FlashFault) (new : FlashState) : Type 0 where
-  pub now : PartProgress model.Table
-  pub did : (TableMounts plan rose (map (λ ring. Of ring) rings) device table (TableStopped now) × FaultEnds now.end fault new)
-      ⊎ (TableMounts plan rose (map (λ ring. Of ring) rings) device table (TableUnread now) × (fault ≡ Media))
-  pub counts : SameDevice new now.device
-  pub lost : now.state ≡ lose now.state
-  pub paged : IsPaged plan now.state
-  pub pages : HoldsTable (page_at new) first plan now.state
-  pub rests : IsSettled plan table → Rests new first plan now.state
-
 -- The data ring was mounted and its pages were read: this is known of the table then, whose variable data aren't mounted.
 pub record DataWell {KNOTS SLOTS : ℕ} (first : ℕ) (plan : Plan) (table : model.Table) (rose : Bool) (device : Device) (found : FoundRows) (t : Table KNOTS SLOTS) (new : FlashState) : Type 0 where
   pub now : PartProgress model.Table
@@ -147,10 +117,6 @@ DataEnds first plan table rose device (Err (mount.BadKeys page last key)) t new 
 DataEnds first plan table rose device (Err (mount.BadIndex end next)) t new = ⊥
 DataEnds first plan table rose device (Err (mount.BadBlob page next)) t new = ⊥
 DataEnds first plan table rose device (Err (mount.BadEntry page count limit)) t new = ⊥
-
--- the ring of variable data, where a plan has one
-abbrev pub var_rings : Plan → List RingName
-var_rings plan = if has_var plan then VarRing ∷ [] else []
 
 -- the mount of these rings of a table, in order
 abbrev pub RingsEnd : {KNOTS SLOTS : ℕ} → ℕ → Plan → List RingName → model.Table → Bool → Device → Result Mounted MountFault → Table KNOTS SLOTS → FlashState → Type 0

@@ -9,7 +9,8 @@ use Rattle.fl_parts.specs.Bitmaps.{RingGoesOn}
 use Rattle.fl_parts.specs.Blobs as variable
 use Rattle.fl_parts.specs.Blobs.{HavePlaced, next_after, next_of, placed_in}
 use Rattle.fl_table.specs.Look.{last_key_in, oldest_in}
-use Rattle.fl_table.specs.Memory.{bitmap_with, next_in, pending_in, HasRoom, IsSamePlan, NothingWaits, PendingAre}
+use Rattle.fl_parts.specs.Entries.{bitmap_with}
+use Rattle.fl_table.specs.Memory.{next_in, pending_in, HasRoom, IsSamePlan, NothingWaits, PendingAre}
 use Rattle.fl_table.specs.declared.table.Table.{Table}
 
 -- what is known of the kept pages stays, and so do the entries that wait for the index

@@ -2,7 +2,7 @@
 ghost use Rattle.std.specs.Prelude.{◌≡◌, ◌+◌, ◌<◌, ◌≤◌, Some, None, Ok, length, IsTrue, IfErr, OnErr, OnOk};
 ghost use Rattle.fl_frame.specs.Contents as contents;
 ghost use Rattle.fl_page.specs.Causes.{IsCaused};
-ghost use Rattle.fl_table.specs.Skipping.{begins_above};
+ghost use Rattle.fl_parts.specs.Skipping.{begins_above};
 
 use crate::table::Table;
 use fl_base::Span;
@@ -34,7 +34,8 @@ impl<const KNOTS: usize, const SLOTS: usize> Table<KNOTS, SLOTS> {
     ghost use Rattle.fl_model.specs.Ring as rings;
     ghost use Rattle.fl_model.specs.Table as model;
     ghost use Rattle.fl_table.specs.Memory.{next_in, LiesOn};
-    ghost use Rattle.fl_table.specs.Skipping.{AreFresh, AreScanning, HoldGood, IsBadIndex, IsLookedUpBy, IsToldBy, LooksOn, ShowsPage, ahead_by, index_in, mask_for};
+    ghost use Rattle.fl_parts.specs.Skipping.{AreFresh, AreScanning, HoldGood, IsBadIndex, IsLookedUpBy, LooksOn, mask_for};
+    ghost use Rattle.fl_table.specs.Skipping.{IsToldBy, ShowsPage, ahead_by, index_in};
     ghost use Rattle.fl_bitmap.specs.Bucket.{HasBuckets};
     ghost use Rattle.fl_table.specs.declared.look_ahead.Ahead.{Ahead};
     ghost use Rattle.fl_table.specs.Standing.{Stands};

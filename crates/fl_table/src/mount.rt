@@ -47,11 +47,13 @@ impl<const KNOTS: usize, const SLOTS: usize> Table<KNOTS, SLOTS> {
     ghost use Rattle.fl_frame.specs.Watched.{IsWatched};
     ghost use Rattle.fl_table.specs.Memory.{is_running, is_stopped, pending_in, ring_shape, IsForgotten, IsPlanned, IsSamePlan, IsSameRest, LiesOn, NothingWaits};
     ghost use Rattle.fl_parts.specs.Pages.{RestsToMount};
-    ghost use Rattle.fl_table.specs.Outcomes.{DataEnds, RingsEnd, var_rings};
+    ghost use Rattle.fl_parts.specs.Failing.{var_rings};
+    ghost use Rattle.fl_table.specs.Outcomes.{DataEnds, RingsEnd};
     ghost use Rattle.fl_parts.specs.MountLimits.{rows_mount_limit};
     ghost use Rattle.fl_parts.specs.IndexMount.{FewRepairs, RemembersKept};
     ghost use Rattle.fl_table.specs.Mounting.{FindsData, FindsRows, HasLearned, RefusesData, RefusesRows, RowsStandOutside, comes_in};
-    ghost use Rattle.fl_table.specs.Mounts.{MountsAs, MountsBy, MountsFlash, MountsInMemory, HoldsNone};
+    ghost use Rattle.fl_parts.specs.Calls.{HoldsNone};
+    ghost use Rattle.fl_table.specs.Mounts.{MountsAs, MountsBy, MountsFlash, MountsInMemory};
 
     // As it was before its first mount.
     pub(crate) fn forget(&mut self)

@@ -18,8 +18,8 @@ impl<const KNOTS: usize, const SLOTS: usize> Table<KNOTS, SLOTS> {
     ghost use Rattle.fl_model.specs.Table as model;
     ghost use Rattle.fl_page.specs.Page.{IsGoodPage, rows_in};
     ghost use Rattle.fl_page.specs.View.{page_of, layout_of_page, count_of, rows_of};
-    ghost use Rattle.fl_table.specs.Kept.{place_of, IfRead, IsFound, IsHeldAt, ShowsRows};
-    ghost use Rattle.fl_table.specs.Look.{layout_in, oldest_in};
+    ghost use Rattle.fl_parts.specs.Kept.{IfRead, IsFound, IsHeldAt, ShowsRows};
+    ghost use Rattle.fl_table.specs.Look.{layout_in, oldest_in, place_of};
     ghost use Rattle.fl_table.specs.Memory.{next_in, LiesOn};
     ghost use Rattle.fl_table.specs.Standing.{Stands};
 

@@ -2,7 +2,7 @@
 ghost use Rattle.std.specs.Prelude.{◌≡◌, ◌≤◌, ◌+◌, ◌^◌, ◌<◌, ◌++◌, ◌∷◌, [], true, false, length, IsTrue, OnOk, OnErr, IfErr, option_map};
 ghost use Rattle.fl_model.specs.BlobEnds.{reference_end};
 ghost use Rattle.fl_flash.specs.Flash.{Goes, OffChangesNothing, page_at};
-ghost use Rattle.fl_table.specs.Memory.{bitmap_with};
+ghost use Rattle.fl_parts.specs.Entries.{bitmap_with};
 
 use crate::table::Table;
 use crate::{FlushFault, PutRefusal};
@@ -34,7 +34,8 @@ impl<const KNOTS: usize, const SLOTS: usize> Table<KNOTS, SLOTS> {
     ghost use Rattle.fl_schema.specs.Schema.{layout_of};
     ghost use Rattle.fl_flash.specs.Flash.{FlashState};
     ghost use Rattle.fl_table.specs.Causes.{PutCausedBy, FlushCausedBy, put_breaks, flush_breaks};
-    ghost use Rattle.fl_table.specs.Frames.{Over, Changes, GoesOn, PutsInMemory, PutsPage, FlushesInMemory, FlushesPage, bytes_in, length_in, seals_in_put};
+    ghost use Rattle.fl_parts.specs.Calls.{Over, Changes, bytes_in, length_in};
+    ghost use Rattle.fl_table.specs.Frames.{GoesOn, PutsInMemory, PutsPage, FlushesInMemory, FlushesPage, seals_in_put};
     ghost use Rattle.fl_table.specs.Look.{last_key_in};
     ghost use Rattle.fl_table.specs.Memory.{is_running, is_stopped, next_in, pending_in, HasRoom, InMemory, IsSameBeside, IsSamePlan, LiesOn, MayPut, MaySeal, PendingAre};
     ghost use Rattle.fl_bitmap.specs.Bucket.{HasBuckets};

@@ -1,6 +1,6 @@
 // How many pages the rings of a table keep.
 ghost use Rattle.std.specs.Prelude.{◌≡◌};
-ghost use Rattle.fl_table.specs.Rings.{index_pages, blob_pages, oldest_page};
+ghost use Rattle.fl_parts.specs.Rings.{index_pages, blob_pages, oldest_page};
 
 use crate::table::Table;
 use fl_index::BitmapIndex;

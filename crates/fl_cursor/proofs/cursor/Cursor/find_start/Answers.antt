@@ -6,8 +6,7 @@ use Rattle.fl_frame.specs.Contents.{Contents, contents_of}
 use Rattle.fl_frame.proofs.ContentsInTurn.{OnlyReads-reads}
 use Rattle.fl_search.specs.Search.{IsPageOf, RoseSome}
 use Rattle.fl_table.specs.Finding.{HoldsKept}
-use Rattle.fl_table.specs.Kept.{place_of}
-use Rattle.fl_table.specs.Look.{oldest_in}
+use Rattle.fl_table.specs.Look.{oldest_in, place_of}
 use Rattle.fl_table.specs.Memory.{next_in}
 use Rattle.fl_cursor.specs.Listed.{rows_on}
 use Rattle.fl_cursor.specs.Reads.{most_to_find}

@@ -14,7 +14,7 @@ use Rattle.fl_page.specs.Writer.{Gathers}
 use Rattle.fl_schema.specs.Schema.{layout_of, types_of}
 use Rattle.fl_schema.proofs.RoundTrip.{length-bytes_of_row}
 use Rattle.fl_parts.specs.BlobEnds.{least_of}
-use Rattle.fl_table.specs.Memory.{bitmap_with}
+use Rattle.fl_parts.specs.Entries.{bitmap_with}
 use Rattle.fl_parts.proofs.BlobEnds.{least-few}
 use Rattle.fl_parts.proofs.Writers.{rest-push}
 use Rattle.fl_table.proofs.PendingAndFull.{bits-more, last-more, pending-more}

@@ -10,7 +10,8 @@ use Rattle.fl_model.specs.Query.{selected}
 use Rattle.fl_page.specs.declared.fault.ReadFault.{ReadFault}
 use Rattle.fl_table.specs.declared.look_ahead.Ahead.{Ahead}
 use Rattle.fl_table.specs.declared.look_ahead.Ahead.TheVariants.{Wanted, Missed}
-use Rattle.fl_table.specs.Skipping.{AreFresh, AreScanning, LooksOn, ShowsPage}
+use Rattle.fl_parts.specs.Skipping.{AreFresh, AreScanning, LooksOn}
+use Rattle.fl_table.specs.Skipping.{ShowsPage}
 use Rattle.fl_table.proofs.Skips.{fresh-still, looks-none, looks-plain, looks-found, looks-failed, shows-none, shows-unindexed, shows-some, shows-fault, index-stands, some-bits, bad-index, looked-up, told-by, unasked-up, unindexed-up}
 use Rattle.fl_table.proofs.Entries.{first-few, told-some}
 use Rattle.fl_parts.proofs.Untouched.{at-most}

@@ -1,7 +1,7 @@
 use Rattle.std.proofs.Common.{Option, sym, ◌∙◌, ap, subst}
 use Rattle.fl_bitmap.specs.declared.buckets.Buckets.{Buckets}
 use Rattle.fl_bitmap.specs.Bucket.{HasBuckets}
-use Rattle.fl_table.specs.Skipping.{mask_for}
+use Rattle.fl_parts.specs.Skipping.{mask_for}
 use Rattle.fl_table.proofs.table.Table.mask.Goals as goal
 
 pub returns-in-Some-clause-exact : goal.returns-in-Some-clause-exact

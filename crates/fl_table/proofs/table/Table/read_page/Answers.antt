@@ -14,8 +14,8 @@ use Rattle.fl_page.proofs.ReadsInTurn.{IsCaused-read}
 use Rattle.fl_ring.specs.Place.{next_of}
 use Rattle.fl_ring.specs.declared.ring.Ring.{Ring}
 use Rattle.fl_ring.proofs.Exists.{lies_exists}
-use Rattle.fl_table.specs.Kept.{place_of, IsFound}
-use Rattle.fl_table.specs.Look.{layout_in}
+use Rattle.fl_parts.specs.Kept.{IsFound}
+use Rattle.fl_table.specs.Look.{layout_in, place_of}
 use Rattle.fl_table.proofs.KeptRead.{ring-place, shows-rows}
 use Rattle.fl_table.proofs.MemoryTells.{oldest-is}
 use Rattle.fl_parts.proofs.SingleReads.{read-once}

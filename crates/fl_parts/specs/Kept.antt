@@ -1,5 +1,5 @@
 -- A kept page that was read, over any bytes and for a table of the model.
-use Rattle.std.specs.Prelude.{◌≡◌, ℕ, ◌<◌, Bool, true, false, Option, None, Some, option_map, unwrap_or, Result, Ok, Err, List, map}
+use Rattle.std.specs.Prelude.{◌≡◌, ℕ, ◌<◌, Bool, true, false, Option, None, Some, Result, Ok, Err, List, map}
 use Rattle.fl_mark.specs.Mark.{state_of_page}
 use Rattle.fl_mark.specs.declared.page_state.PageState.TheVariants.{Committed}
 use Rattle.fl_model.specs.Image.{rows_at}
@@ -9,13 +9,6 @@ use Rattle.fl_model.specs.Table as model
 use Rattle.fl_page.specs.Page.{IsGoodPage, bad_page, rows_in}
 use Rattle.fl_page.specs.declared.fault.ReadFault.{ReadFault}
 use Rattle.fl_page.specs.declared.fault.ReadFault.TheVariants.{Flash, BadPage}
-use Rattle.fl_ring.specs.Place.{shape_of}
-use Rattle.fl_ring.specs.Ring.{place}
-use Rattle.fl_table.specs.declared.table.Table.{Table}
-
--- the flash page at which a number of a running table stands
-abbrev pub place_of : {KNOTS SLOTS : ℕ} → Table KNOTS SLOTS → ℕ → ℕ
-place_of t number = unwrap_or (option_map (λ ring. place (shape_of ring) number) t.ring) 0
 
 -- what holds where no read failed
 abbrev pub IfRead : Result Bool ReadFault → Type 0 → Type 0
