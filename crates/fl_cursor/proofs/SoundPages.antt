@@ -17,7 +17,7 @@ use Rattle.fl_model.specs.Query as model
 use Rattle.fl_model.specs.Query.{is_up_to}
 use Rattle.fl_model.specs.Row.{Row}
 use Rattle.fl_page.specs.Page.{IsGoodPage, rows_in}
-use Rattle.fl_table.proofs.Skips.{looked-any}
+use Rattle.fl_parts.proofs.Skipping.{looked-any}
 use Rattle.fl_table.specs.Finding.{IsPageFor}
 use Rattle.fl_table.specs.Look.{buckets_in, buffered_rows, layout_in, oldest_in, rows_noted}
 use Rattle.fl_parts.specs.Skipping.{AreFresh, IsLookedUpBy}

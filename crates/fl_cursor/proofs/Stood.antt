@@ -31,7 +31,8 @@ use Rattle.fl_table.specs.Memory.{next_in}
 use Rattle.fl_table.specs.declared.table.Table.{Table}
 use Rattle.fl_table.proofs.PendingKey.{buffered-stored}
 use Rattle.fl_parts.proofs.KeptPages.{sum-next}
-use Rattle.fl_table.proofs.KeptRead.{place-is, shown, rows-lose}
+use Rattle.fl_parts.proofs.RowsFound.{rows-lose}
+use Rattle.fl_table.proofs.KeptRead.{place-is, shown}
 use Rattle.fl_table.proofs.MemoryTells.{next-is, oldest-is, noted-is}
 use Rattle.fl_parts.proofs.States.{shape_in}
 use Rattle.fl_cursor.specs.Asked.{is_left}

@@ -70,3 +70,17 @@ pub mod MountRead
 pub mod Pointed
 pub mod PendingRows
 pub mod Sizes
+pub mod MountLimits
+pub mod Skipping
+pub mod EntriesFit
+pub mod JoinedEntries
+pub mod RingsKept
+pub mod MountParts
+pub mod Outsides
+pub mod RowsFound
+pub mod VoidPages
+pub mod IndexAlone
+pub mod Apart
+pub mod InTurn
+pub mod IndexMounted
+pub mod SealEnds

@@ -15,7 +15,8 @@ use Rattle.fl_table.specs.Mounting.{OutsideStands}
 use Rattle.fl_parts.specs.Pages.{bytes_in}
 use Rattle.fl_table.specs.declared.table.Table.{Table}
 use Rattle.fl_table.proofs.SealAnswers.{planned-shape}
-use Rattle.fl_table.proofs.Apart.{PagesApart, beside-stands, some-pages}
+use Rattle.fl_parts.proofs.Apart.{PagesApart, some-pages}
+use Rattle.fl_table.proofs.Apart.{beside-stands}
 use Rattle.fl_rlc.specs.Memory.{page_in, log_shape, IsPlanned}
 use Rattle.fl_rlc.specs.declared.log.RecordLog.{RecordLog}
 

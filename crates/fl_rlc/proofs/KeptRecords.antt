@@ -13,7 +13,7 @@ use Rattle.fl_model.proofs.Lists.{slice_get-drop, slice_get-front, last_or-get}
 use Rattle.fl_machine.proofs.RecordsChange.{Any, adds-all, sure_in}
 use Rattle.fl_machine.proofs.Logs.{core, log_in, IsFine, IsThere, IsSafePage, AreAbove, ascending-tops, front_of, rest_of}
 use Rattle.fl_machine.proofs.LogTables.{Between, Resting, Pending}
-use Rattle.fl_table.proofs.Entries.{each-from}
+use Rattle.fl_parts.proofs.EntriesFit.{each-from}
 use Rattle.fl_rlc.specs.Logged.{IsKept}
 
 -- where a list ends

@@ -28,7 +28,7 @@ use Rattle.fl_parts.specs.declared.mount_fault.MountFault.TheVariants as mount
 use Rattle.fl_table.specs.declared.table.Table as code
 use Rattle.fl_parts.proofs.Bare.{bare-table}
 use Rattle.fl_parts.proofs.Loose.{rests-mountable}
-use Rattle.fl_table.proofs.MountVar.{mounts-append, mounts-stop, mounts-unread}
+use Rattle.fl_parts.proofs.InTurn.{mounts-append, mounts-stop, mounts-unread}
 use Rattle.fl_rlc.specs.Memory.{page_in, rows_in}
 use Rattle.fl_rlc.specs.MountingApart.{RestApart, MountsApart, FailsApart, MountApartEnds}
 use Rattle.fl_rlc.specs.Pages.{IsLogRing}

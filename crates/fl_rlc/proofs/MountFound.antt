@@ -17,7 +17,7 @@ use Rattle.fl_table.specs.Mounting as mounting
 use Rattle.fl_table.specs.declared.counts.Mounted.{Mounted}
 use Rattle.fl_parts.specs.declared.mount_fault.MountFault.{MountFault}
 use Rattle.fl_table.specs.declared.table.Table.{Table}
-use Rattle.fl_table.proofs.Outsides.{bitmaps-outside, blobs-outside}
+use Rattle.fl_parts.proofs.Outsides.{bitmaps-outside, blobs-outside}
 use Rattle.fl_rlc.specs.Finding.{FindsLog, RefusesLog, StandBeside}
 use Rattle.fl_rlc.specs.Memory.{log_shape, LiesOn}
 use Rattle.fl_rlc.specs.Mounting.{FindsPages, FindsBehind, RefusesPages, log_pages, pages_in}

@@ -24,7 +24,7 @@ use Rattle.fl_table.specs.Mounting.{FindsPages}
 use Rattle.fl_parts.specs.Pages.{HoldsTable, place_in, bytes_in}
 use Rattle.fl_table.specs.declared.counts.Mounted.{Mounted}
 use Rattle.fl_table.specs.declared.table.Table as code
-use Rattle.fl_table.proofs.Apart.{some-pages}
+use Rattle.fl_parts.proofs.Apart.{some-pages}
 use Rattle.fl_parts.proofs.IndexOfTable.{planned-none}
 use Rattle.fl_table.proofs.SealAnswers.{planned-shape}
 use Rattle.fl_parts.proofs.States.{blank-bytes}

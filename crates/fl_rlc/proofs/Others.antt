@@ -19,7 +19,8 @@ use Rattle.fl_parts.specs.Bitmaps.{ArePlanned, IsOutside}
 use Rattle.fl_parts.specs.Blobs as variable
 use Rattle.fl_parts.specs.Pages as pages
 use Rattle.fl_parts.specs.Pages.{bytes_in, place_in}
-use Rattle.fl_table.proofs.Apart.{IsBeside, PagesApart, outside-ring, holds-apart, stands-apart}
+use Rattle.fl_parts.proofs.Apart.{IsBeside, PagesApart, outside-ring, holds-apart}
+use Rattle.fl_table.proofs.Apart.{stands-apart}
 use Rattle.fl_parts.proofs.Bare.{bare-table}
 use Rattle.fl_table.proofs.SealAnswers.{planned-ring}
 use Rattle.fl_parts.proofs.States.{shape_in}

@@ -7,7 +7,7 @@ use Rattle.fl_model.specs.Facts.{FitsPlan, IsLogPage}
 use Rattle.fl_model.proofs.Lists.{each-drop, slice_get-drop}
 use Rattle.fl_model.specs.Record.{Record, Plan, rows_per_page, has_index, entries_per_page, content_per_page}
 use Rattle.fl_model.specs.Table.{Table, Entry, RingName, DataRing, IndexRing, VarRing, LogRing, after_seal, after_seals, table_seals, with_room, put_joined, put_record, fill, fill_seals, pending_entries, start_page, start_offset, blob_len}
-use Rattle.fl_table.proofs.PendingAndFull.{pending-more}
+use Rattle.fl_parts.proofs.JoinedEntries.{pending-more}
 
 -- the entry of a record
 abbrev pub entry_of : Plan → Record → Table → Entry

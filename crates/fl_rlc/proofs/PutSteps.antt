@@ -10,7 +10,7 @@ use Rattle.fl_model.specs.Work.{Kind, Device, PartEnd, Whole, CutIn, FailedIn, P
 use Rattle.fl_model.proofs.Among.{after_seals-append, seals-all_done}
 use Rattle.fl_model.proofs.Bare.{bare-tables, room-bare}
 use Rattle.fl_model.proofs.Performs.{performs-front, performs-more, performs-whole}
-use Rattle.fl_table.proofs.SealsInTurn.{within-append}
+use Rattle.fl_parts.proofs.InTurn.{within-append}
 use Rattle.fl_rlc.proofs.Stops.{unbeside}
 
 -- ---- seals of other rings than the log

@@ -34,7 +34,8 @@ use Rattle.fl_table.specs.Refusal.{refused_if}
 use Rattle.fl_parts.proofs.BlobsOfTable.{planned-none}
 use Rattle.fl_table.proofs.SealAnswers.{planned-shape}
 use Rattle.fl_var.specs.declared.var_data.VarData.{VarData}
-use Rattle.fl_table.proofs.Apart.{PagesApart, stands-apart}
+use Rattle.fl_parts.proofs.Apart.{PagesApart}
+use Rattle.fl_table.proofs.Apart.{stands-apart}
 use Rattle.fl_rlc.specs.Logged.{Stands, LogStands, IsKept}
 use Rattle.fl_rlc.specs.Memory.{next_in, page_in, log_shape}
 use Rattle.fl_rlc.specs.Outcomes.{Finishes, Breaks, LogStays}

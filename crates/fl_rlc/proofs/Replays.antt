@@ -28,7 +28,8 @@ use Rattle.fl_parts.specs.Failing.{BySeals, FaultEnds}
 use Rattle.fl_parts.specs.Pages as pages
 use Rattle.fl_table.specs.Standing as without_log
 use Rattle.fl_table.specs.declared.table.Table as code
-use Rattle.fl_table.proofs.Apart.{stands-apart, rests-apart}
+use Rattle.fl_parts.proofs.Apart.{rests-apart}
+use Rattle.fl_table.proofs.Apart.{stands-apart}
 use Rattle.fl_table.proofs.SealAnswers.{planned-shape}
 use Rattle.fl_rlc.specs.Memory.{page_in, log_shape, IsPlanned, IsSamePlan}
 use Rattle.fl_rlc.specs.Pages.{IsLogRing}

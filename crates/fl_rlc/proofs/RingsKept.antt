@@ -9,7 +9,8 @@ use Rattle.fl_model.specs.Ring.{Ring}
 use Rattle.fl_model.specs.Table as model
 use Rattle.fl_table.specs.Rings as unlogged
 use Rattle.fl_table.specs.declared.rings.TableRings.{TableRings}
-use Rattle.fl_table.proofs.RingsKept.{no-ring, kept-length, rings-are}
+use Rattle.fl_parts.proofs.RingsKept.{no-ring, kept-length}
+use Rattle.fl_table.proofs.RingsKept.{rings-are}
 use Rattle.fl_rlc.specs.Logged.{LogStands, Stands}
 use Rattle.fl_rlc.specs.Memory.{next_in, oldest_in}
 use Rattle.fl_rlc.specs.Rings.{log_pages, rings_in, rings_of}

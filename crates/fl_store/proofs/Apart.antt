@@ -11,7 +11,7 @@ use Rattle.fl_model.specs.Ring.{IsShape}
 use Rattle.fl_model.specs.Table as model
 use Rattle.fl_model.specs.Table.{DataRing, LogRing, shape_of}
 use Rattle.fl_parts.specs.Pages.{place_in}
-use Rattle.fl_table.proofs.Apart.{AreApart, PagesApart, beside-place, some-pages}
+use Rattle.fl_parts.proofs.Apart.{AreApart, PagesApart, beside-place, some-pages}
 use Rattle.fl_table.proofs.SealAnswers.{planned-shape}
 use Rattle.fl_rlc.specs.Logged.{Rests, Stands}
 use Rattle.fl_rlc.specs.Table.{IsPlanned, OutsideStands}

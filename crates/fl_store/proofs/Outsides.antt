@@ -5,7 +5,7 @@ use Rattle.fl_base.specs.declared.types.RingPlace.{RingPlace}
 use Rattle.fl_ring.specs.Mounting.{shape_at}
 use Rattle.fl_ring.specs.Ring.{Shape}
 use Rattle.fl_parts.specs.Bitmaps.{IsOutside}
-use Rattle.fl_table.proofs.Outsides.{bitmaps-outside, blobs-outside}
+use Rattle.fl_parts.proofs.Outsides.{bitmaps-outside, blobs-outside}
 use Rattle.fl_rlc.specs.Memory.{log_shape}
 use Rattle.fl_rlc.specs.Table.{AreSameLog, IsSamePlan, OutsideStands}
 use Rattle.fl_rlc.specs.declared.log.RecordLog.{RecordLog}

@@ -18,7 +18,8 @@ use Rattle.fl_model.specs.Table.{RingName, DataRing, IndexRing, VarRing, LogRing
 use Rattle.fl_parts.specs.Pages.{place_in}
 use Rattle.fl_store.specs.Tables.{first_of, EntryStands, TablesStand}
 use Rattle.fl_store.specs.declared.tables.Entry.{Entry}
-use Rattle.fl_table.proofs.Apart.{PagesApart, stands-pages}
+use Rattle.fl_parts.proofs.Apart.{PagesApart}
+use Rattle.fl_table.proofs.Apart.{stands-pages}
 use Rattle.fl_table.proofs.ReadsKeepTable.{lies-moved}
 use Rattle.fl_store.proofs.TablesChanged.{tables-still}
 

@@ -1,5 +1,5 @@
 -- What a lookup ends with, in the words of the table.
-use Rattle.std.proofs.Common.{◌≡◌, ℕ, ◌+◌, ◌*◌, ◌<◌, ◌≤◌, Bool, true, false, Option, Some, None, option_map, Result, Ok, Err, List, map, length, drop, refl, sym, ◌∙◌, ap, subst, arith, IsTrue}
+use Rattle.std.proofs.Common.{◌≡◌, ℕ, ◌+◌, ◌*◌, ◌<◌, ◌≤◌, Bool, true, false, Option, Some, None, option_map, Result, Ok, Err, List, map, length, refl, sym, ◌∙◌, ap, subst, arith, IsTrue}
 use Rattle.std.specs.Prelude.{IfOk, IfSome, MatchOption, OnOk, if◌then◌else◌, unwrap_or}
 use Rattle.std.specs.List.{slice_get}
 use Rattle.std.proofs.lemmas.Bool.{true≢false}
@@ -7,7 +7,7 @@ use Rattle.std.proofs.lemmas.Option.{same_Some}
 use Rattle.fl_find.specs.Index.{error_in, knots_in, most_reads, window_end}
 use Rattle.fl_find.specs.Looking.{BlamesBelow, IsBadBelow, LookFails}
 use Rattle.fl_find.specs.Looking as find
-use Rattle.fl_find.specs.Pages.{first_key, first_on, rows_on, rows_where, Holds, IsBadPage, bytes_at}
+use Rattle.fl_find.specs.Pages.{first_key, first_on, rows_on, Holds, IsBadPage, bytes_at}
 use Rattle.fl_find.specs.Rows.{RowsRise, HasKey, IsOn, LacksKey, LooksUp}
 use Rattle.fl_find.specs.Standing.{HoldsPages, HoldsEntries}
 use Rattle.fl_find.specs.declared.row.PageRow.{PageRow}
@@ -15,9 +15,6 @@ use Rattle.fl_flash.specs.Buffer.{BufferState}
 use Rattle.fl_flash.specs.Flash.{FlashState, page_at}
 use Rattle.fl_flash.specs.declared.flash.FlashFault.TheVariants.{PowerLost, Media}
 use Rattle.fl_flash.specs.Places.{extent}
-use Rattle.fl_mark.specs.Mark.{state_of_page}
-use Rattle.fl_mark.specs.declared.page_state.PageState.{PageState}
-use Rattle.fl_mark.specs.declared.page_state.PageState.TheVariants.{Blank, Torn, Committed, Void}
 use Rattle.fl_model.specs.Image.{rows_at}
 use Rattle.fl_model.specs.Record.{Plan, RowLayout, row_layout}
 use Rattle.fl_model.specs.Ring as rings
@@ -28,7 +25,7 @@ use Rattle.fl_model.specs.Table as model
 use Rattle.fl_model.specs.Table.{lose, pending_entries}
 use Rattle.fl_model.proofs.Lists.{slice_get-short}
 use Rattle.fl_page.specs.Page.{rows_in}
-use Rattle.fl_page.specs.View.{page_of, layout_of_page, count_of, rows_of}
+use Rattle.fl_page.specs.View.{rows_of}
 use Rattle.fl_page.specs.declared.view.PageView.{PageView}
 use Rattle.fl_page.specs.declared.fault.ReadFault.{ReadFault}
 use Rattle.fl_page.specs.declared.fault.ReadFault.TheVariants as fault
@@ -36,8 +33,8 @@ use Rattle.fl_ring.specs.Place.{shape_of, next_of, oldest_of}
 use Rattle.fl_ring.specs.Ring.{Shape, place}
 use Rattle.fl_ring.specs.declared.ring.Ring.{Ring}
 use Rattle.fl_schema.specs.Schema.{layout_of}
-use Rattle.fl_page.proofs.RowsFrom.{length-rows_from}
 use Rattle.fl_search.specs.Search.{Ascends, IsPageOf, starts_by}
+use Rattle.fl_parts.proofs.RowsFound.{has-key, row-viewed}
 use Rattle.fl_table.specs.Finding.{AnswersInPages, AnswersPending, BlamesFor, EndsOn, Finds, HasKeyAt, IsRowAt, HoldsIts, HoldsKept, HasBadPage, IsBadFor, IsPageFor, LookupFails, first_at, rows_at as rows_of_page, window_in}
 use Rattle.fl_table.specs.Look.{buffered_rows, layout_in, oldest_in}
 use Rattle.fl_table.specs.Memory.{next_in, IsPlanned, LiesOn}
@@ -199,10 +196,6 @@ module _ {KNOTS SLOTS : ℕ} (t : Table KNOTS SLOTS) (ring : Ring) (f : FlashSta
   }
   page-for (Err e) told kept starts near sound far = tt
 
--- the row that was found has the key
-has-key : (rows : List Row) (key row : ℕ) → HasKey rows key row → option_map (λ (r : Row). r.key) (slice_get rows row) ≡ Some key
-has-key rows key row h = ap (option_map (λ (r : Row). r.key)) h.here ∙ ap (λ (k : ℕ). Some k) h.key_is
-
 module _ {KNOTS SLOTS : ℕ} (t : Table KNOTS SLOTS) (buf : BufferState) (key : ℕ) where
   pub key-in_page : (place : Option PageRow) → IfSome place (λ p. HasKey (rows_on (layout_in t) buf.bytes) key p.row) → IfSome (option_map at.InPage place) (HasKeyAt t buf key)
   key-in_page None has = tt
@@ -267,27 +260,6 @@ lookup-blames t ring f key (fault.BadPage bad) is h = λ told. of (h told)
           subst (λ (first : ℕ → Option ℕ). starts_by first key n ≡ false) (sym (firsts-in t ring f key is)) (page.later n after (omega (arith, window-is t ring f key is, before)));
     }
 
--- ---- the row at a place
-
-where-some : (layout : RowLayout) (page : List ℕ) (s : PageState) → 0 < length (rows_where s layout page) → rows_where s layout page ≡ rows_in layout page
-where-some layout page Committed some = refl
-where-some layout page Blank some = absurd (omega (arith, some))
-where-some layout page Torn some = absurd (omega (arith, some))
-where-some layout page Void some = absurd (omega (arith, some))
-
-pub rows-some : (layout : RowLayout) (page : List ℕ) (row : ℕ) → row < length (rows_on layout page) → rows_on layout page ≡ rows_in layout page
-rows-some layout page row less = where-some layout page (state_of_page page) (omega (arith, less))
-
--- the rows of a view are as many as it counts
-pub row-within : (layout : RowLayout) (page : List ℕ) (view : PageView 8) (row : ℕ) → row < length (rows_on layout page) → rows_of view ≡ rows_in layout page → row < count_of view
-row-within layout page view row less is =
-    let many : length (rows_of view) ≡ count_of view = length-rows_from (count_of view) (layout_of_page view) (drop 16 (page_of view)) in
-    omega (arith, less, ap (λ (rows : List Row). length rows) (rows-some layout page row less), ap (λ (rows : List Row). length rows) is, many)
-
-pub row-viewed : (layout : RowLayout) (page : List ℕ) (view : PageView 8) (at : ℕ) (row : Row) → at < length (rows_on layout page) → rows_of view ≡ rows_in layout page → slice_get (rows_of view) at ≡ Some row →
-    slice_get (rows_on layout page) at ≡ Some row
-row-viewed layout page view at row less is e = ap (λ (rows : List Row). slice_get rows at) (rows-some layout page at less ∙ sym is) ∙ e
-
 pub row-shown : {KNOTS SLOTS : ℕ} (t : Table KNOTS SLOTS) (first : ℕ) (plan : Plan) (page : List ℕ) (view : PageView 8) (at : ℕ) (row : Row) → IsPlanned t first plan → at < length (rows_on (layout_of t.schema) page) →
     rows_of view ≡ rows_in (layout_of t.schema) page → slice_get (rows_of view) at ≡ Some row → slice_get (rows_on (row_layout plan) page) at ≡ Some row
 row-shown t first plan page view at row planned less is e =
@@ -303,7 +275,3 @@ limit-told {KNOTS} {SLOTS} t f first plan table key pages stands is many =
     ∙ (ap (λ v. if is_covered (retained KNOTS plan.error table.points) key then 2 * plan.error + 2 + v else bits pages + 1 + v) stands.memory.voids
     ∙ (ap (λ n. if is_covered (retained KNOTS plan.error table.points) key then 2 * plan.error + 2 + voids_of table else bits n + 1 + voids_of table) many
     ∙ sym (ap (λ (b : Bool). if b then 0 else if is_covered (retained KNOTS plan.error table.points) key then 2 * plan.error + 2 + voids_of table else bits (length table.rows.counts) + 1 + voids_of table) is))))
-
-pub limit-pending : (knots : ℕ) (plan : Plan) (table : model.Table) (key : ℕ) → is_pending_key table key ≡ true → 0 ≡ lookup_limit knots plan table key
-limit-pending knots plan table key is =
-    sym (ap (λ (b : Bool). if b then 0 else if is_covered (retained knots plan.error table.points) key then 2 * plan.error + 2 + voids_of table else bits (length table.rows.counts) + 1 + voids_of table) is)

@@ -1,22 +1,17 @@
 -- A record joins its table, and its blob is placed.
-use Rattle.std.proofs.Common.{◌≡◌, ℕ, ◌+◌, ◌-◌, ◌*◌, ◌/◌, ◌^◌, ◌<◌, ◌≤◌, Bool, true, false, cond, ◌||◌, ◌==◌, Option, Some, None, IfSome, Result, Ok, Err, unwrap_or, List, [], ◌∷◌, ◌++◌, length, refl, sym, ◌∙◌, ap, subst, arith, length-append}
+use Rattle.std.proofs.Common.{◌≡◌, ℕ, ◌+◌, ◌*◌, ◌<◌, ◌≤◌, Bool, true, false, cond, ◌==◌, Option, Some, None, Result, Ok, Err, unwrap_or, List, [], ◌++◌, length, refl, sym, ◌∙◌, ap, subst, arith}
 use Rattle.std.specs.Prelude.{option_map}
-use Rattle.std.specs.List.{last_or, sum}
 use Rattle.fl_base.specs.declared.types.BlobRef.{BlobRef}
 use Rattle.fl_flash.specs.Flash.{FlashState, page_at}
 use Rattle.fl_flash.specs.declared.flash.FlashFault.{FlashFault}
 use Rattle.fl_model.specs.Content.{ContentPage}
-use Rattle.fl_model.specs.Facts.{FitsPlan, BlobFits}
-use Rattle.fl_model.specs.Record.{Record, Plan, has_var, rows_per_page, content_per_page}
+use Rattle.fl_model.specs.Facts.{FitsPlan}
+use Rattle.fl_model.specs.Record.{Record, Plan, has_var, content_per_page}
 use Rattle.fl_model.specs.Ring.{Ring}
-use Rattle.fl_model.specs.Row.{stored_row}
-use Rattle.std.proofs.Math.Nat.{div-le_self}
-use Rattle.std.proofs.lemmas.List.{length-replicate}
 use Rattle.std.proofs.lemmas.Bool.{false≢true}
-use Rattle.fl_model.specs.Table.{Table, Entry, RingName, IndexRing, VarRing, fill, blob_len, fill_seals, after_seals, start_page, start_offset, with_record, lose, spent_from}
+use Rattle.fl_model.specs.Table.{Table, RingName, IndexRing, fill, blob_len, fill_seals, after_seals, with_record, lose, spent_from}
 use Rattle.fl_model.specs.Within.{seals_within, TablePerforms}
 use Rattle.fl_model.specs.Work.{Device, Whole, PartProgress}
-use Rattle.fl_model.proofs.Kept.{kept-record}
 use Rattle.fl_frame.specs.Device.{SameDevice}
 use Rattle.fl_frame.specs.Watched.{IsWatched}
 use Rattle.fl_parts.specs.Accepting.{IsAcceptedBy}
@@ -24,6 +19,7 @@ use Rattle.fl_parts.specs.Bitmaps as bitmaps
 use Rattle.fl_parts.specs.Blobs.{ArePlanned, Stand, StandOutside, IsStanding, PlaceEndsOf, PlaceEnds, reference_of, next_of, next_after}
 use Rattle.fl_parts.specs.Failing.{Breaks, BySeals}
 use Rattle.fl_parts.specs.Pages.{HoldsTable, KeptStand, bytes_in}
+use Rattle.fl_parts.proofs.JoinedEntries.{entry_of, joined_to, joined-facts, joined-lost, fill-few, entry-fits}
 use Rattle.fl_table.specs.Standing.{Stands}
 use Rattle.fl_table.specs.declared.table.Table as code
 use Rattle.fl_parts.proofs.BlobSteps.{after-var, fill-var, no-fill}
@@ -31,104 +27,11 @@ use Rattle.fl_table.proofs.BlobStands.{some-rows, some-index, index-before, bitm
 use Rattle.fl_parts.proofs.BlobTables.{IsBlobbed, standing-has}
 use Rattle.fl_parts.proofs.BlobsOfTable.{none-var, planned-none}
 use Rattle.fl_parts.proofs.IndexOfTable.{index-number}
-use Rattle.fl_parts.proofs.ListsStay.{tell-record}
-use Rattle.fl_parts.proofs.Plain.{IsPlainTable, table-parts, written-push}
+use Rattle.fl_parts.proofs.Plain.{IsPlainTable, table-parts}
 use Rattle.fl_parts.proofs.KeptPagesStay.{kept-same}
 use Rattle.fl_parts.proofs.VarFacts.{HasVar, has-joined}
 use Rattle.fl_var.specs.Memory.{next_in, waiting_in}
 use Rattle.fl_var.specs.declared.var_data.VarData.{VarData}
-
--- the entry that a record becomes
-abbrev pub entry_of : Plan → Record → Table → Entry
-entry_of plan item table = record { kept = item; page = start_page plan (blob_len item) table; offset = start_offset plan (blob_len item) table }
-
--- a table with one entry more and other variable data
-abbrev pub joined_to : Table → Entry → Option Ring → List ContentPage → List ℕ → Table
-joined_to table entry ring pages bytes = record table { entries = table.entries ++ entry ∷ []; pending = table.pending + 1; var = ring; var_pages = pages; buffered = bytes }
-
--- the facts of such a table
-pub joined-facts : (plan : Plan) (table : Table) (entry : Entry) (ring : Option Ring) (pages : List ContentPage) (bytes : List ℕ) → IsPlainTable plan table → table.pending < rows_per_page plan → FitsPlan plan entry →
-    ((last : Entry) → last_or None table.entries ≡ Some last → last.kept.key < entry.kept.key) → table.rows.next ≤ spent_from → IfSome table.index (λ r. r.next ≤ spent_from + 64) → IsBlobbed plan (joined_to table entry ring pages bytes) →
-    IsPlainTable plan (joined_to table entry ring pages bytes)
-joined-facts plan table entry ring pages bytes h room fits above left index blobs =
-    let few : sum table.rows.counts ≤ length table.entries = omega (arith, h.kept.counted) in
-    record {
-      plain = h.plain;
-      bare = h.bare;
-      rows = h.rows;
-      kept = kept-record plan table.entries table.rows.counts table.pending entry h.kept fits above;
-      few_pending = omega (arith, room);
-      index = record {
-        has = h.index.has;
-        ring = h.index.ring;
-        counts = h.index.counts;
-        each = h.index.each;
-        fit = h.index.fit;
-        firsts = h.index.firsts;
-        waiting = h.index.waiting;
-        listed = h.index.listed;
-        tell = λ k page e. tell-record plan table (joined_to table entry ring pages bytes) (entry ∷ []) page.first page.entries few refl refl (h.index.tell k page e);
-        wait = tell-record plan table (joined_to table entry ring pages bytes) (entry ∷ []) (table.rows.next - length table.waiting) table.waiting few refl refl h.index.wait;
-        number = h.index.number;
-        number_pending = λ p. index;
-        number_listed = h.index.number_listed;
-      };
-      blobs = blobs;
-      number = h.number;
-      number_pending = λ some. left;
-    }
-
--- what is in memory alone is lost with it
-pub joined-lost : (plan : Plan) (item : Record) (table : Table) → lose (with_record plan item table) ≡ lose table
-joined-lost plan item table = ap (λ (es : List Entry). record (lose table) { entries = es }) (written-push table (entry_of plan item table))
-
--- few pages are sealed for a blob
-fill-few : (plan : Plan) (item : Record) (table : Table) → length (fill_seals plan (with_record plan item table)) ≤ fill table + blob_len item
-fill-few plan item table =
-    let joined = with_record plan item table in
-    let k = div-le_self (fill joined - 1) (content_per_page plan) in
-    let long : fill joined ≡ fill table + blob_len item = length-append table.buffered (unwrap_or item.blob []) ∙ ap (λ n. fill table + n) (by_blob item.blob) in
-    omega (arith, length-replicate {A = RingName} ((fill joined - 1) / content_per_page plan) VarRing, k, long)
-  where
-    by_blob : (o : Option (List ℕ)) → length (unwrap_or o []) ≡ unwrap_or (option_map (λ (xs : List ℕ). length xs) o) 0
-    by_blob None = refl
-    by_blob (Some bytes) = refl
-
--- the entry fits the plan
-entry-fits : (plan : Plan) (table : Table) (item : Record) → IsAcceptedBy plan table item.key item.values item.blob → fill table ≤ content_per_page plan → content_per_page plan < 2 ^ 16 → plan.blob_limit < 2 ^ 32 → FitsPlan plan (entry_of plan item table)
-entry-fits plan table item ok few wide limit = record { key = ok.fits; as_many = ok.as_many; values = ok.values_fit; blob = by_blob item.blob refl }
-  where
-    offset : (len : ℕ) → start_offset plan len table < 2 ^ 16
-    offset len = by_len ((len == 0) || (fill table == content_per_page plan))
-      where
-        by_len : (b : Bool) → cond b 0 (fill table) < 2 ^ 16
-        by_len true = omega arith
-        by_len false = omega (arith, few, wide)
-
-    by_blob : (o : Option (List ℕ)) → item.blob ≡ o → BlobFits plan (entry_of plan item table) o
-    by_blob None e =
-        let len : blob_len item ≡ 0 = rw e refl in (ap (λ n. start_page plan n table) len, ap (λ n. start_offset plan n table) len)
-    by_blob (Some bytes) e =
-        let h = ok.blob_fits bytes e in
-        let len : blob_len item ≡ length bytes = ap (λ (o : Option (List ℕ)). unwrap_or (option_map (λ (xs : List ℕ). length xs) o) 0) e in
-        (h.0, omega (arith, h.1, limit), offset (blob_len item), λ none. (ap (λ n. start_page plan n table) (len ∙ none), ap (λ n. start_offset plan n table) (len ∙ none)))
-
--- the row of the entry refers to the place of its blob
-pub entry-row : (plan : Plan) (item : Record) (table : Table) → stored_row (entry_of plan item table) ≡ record { key = item.key; values = item.values; blob = reference_of plan item table }
-entry-row plan item table = ap (λ (o : Option BlobRef). record { key = item.key; values = item.values; blob = o }) (by_blob item.blob refl)
-  where
-    here : List ℕ → BlobRef
-    here bytes = record { page = start_page plan (blob_len item) table; offset = start_offset plan (blob_len item) table; length = length bytes }
-
-    there : List ℕ → BlobRef
-    there bytes = record { page = start_page plan (length bytes) table; offset = start_offset plan (length bytes) table; length = length bytes }
-
-    by_blob : (o : Option (List ℕ)) → item.blob ≡ o → option_map here o ≡ option_map there o
-    by_blob None e = refl
-    by_blob (Some bytes) e =
-        let len : blob_len item ≡ length bytes = ap (λ (o : Option (List ℕ)). unwrap_or (option_map (λ (xs : List ℕ). length xs) o) 0) e in
-        let place : ℕ → Option BlobRef = λ n. Some (record { page = start_page plan n table; offset = start_offset plan n table; length = length bytes }) in
-        ap place len
 
 -- The record joined, its blob was placed, and these are the parts of its table that tell so.
 pub record IsJoined {KNOTS SLOTS : ℕ} (t : code.Table KNOTS SLOTS) (f new : FlashState) (first : ℕ) (plan : Plan) (table : Table) (rose : Bool) (device : Device) (item : Record) (at : Option BlobRef) (left : Option VarData) : Type 0 where

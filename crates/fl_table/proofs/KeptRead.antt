@@ -1,13 +1,11 @@
 -- What a kept page of a table reads as.
-use Rattle.std.proofs.Common.{◌≡◌, ℕ, suc, ◌+◌, ◌-◌, ◌<◌, ◌≤◌, Bool, true, false, Option, Some, option_map, unwrap_or, Result, Ok, Err, List, length, map, take, drop, refl, sym, ◌∙◌, ap, subst, arith}
-use Rattle.std.proofs.lemmas.List.{drop-take, take-take}
-use Rattle.std.proofs.lemmas.List.Sums.{sum_by-take-le}
-use Rattle.std.specs.List.{slice_get, sum}
+use Rattle.std.proofs.Common.{◌≡◌, ℕ, ◌+◌, ◌-◌, ◌<◌, ◌≤◌, Bool, true, false, Option, Some, option_map, unwrap_or, Result, Ok, Err, List, length, map, drop, refl, sym, ◌∙◌, ap, subst, arith}
+use Rattle.std.specs.List.{slice_get}
 use Rattle.fl_flash.specs.Flash.{FlashState, page_at}
 use Rattle.fl_flash.specs.Places.{extent}
 use Rattle.fl_mark.specs.Mark.{state_of_page}
 use Rattle.fl_mark.specs.declared.page_state.PageState.{PageState}
-use Rattle.fl_mark.specs.declared.page_state.PageState.TheVariants.{Blank, Torn, Committed, Void}
+use Rattle.fl_mark.specs.declared.page_state.PageState.TheVariants.{Committed}
 use Rattle.fl_model.specs.Image.{rows_at}
 use Rattle.fl_model.specs.Record.{Plan, RowLayout, row_layout, row_len, layout_len}
 use Rattle.fl_model.specs.Ring as rings
@@ -26,12 +24,13 @@ use Rattle.fl_ring.specs.declared.ring.Ring.{Ring}
 use Rattle.fl_schema.specs.Schema.{layout_of, types_of}
 use Rattle.fl_page.proofs.RowsFrom.{length-rows_from}
 use Rattle.fl_parts.specs.Kept.{IsFound, ShowsRows}
+use Rattle.fl_parts.proofs.RowsFound.{has-rows, rows-lose}
 use Rattle.fl_table.specs.Look.{place_of}
 use Rattle.fl_table.specs.Memory.{LiesOn}
 use Rattle.fl_table.specs.Standing.{Stands}
 use Rattle.fl_table.specs.declared.table.Table.{Table}
 use Rattle.fl_parts.proofs.TablePages.{plain-on}
-use Rattle.fl_parts.proofs.KeptPages.{kept, length-kept, sum-next}
+use Rattle.fl_parts.proofs.KeptPages.{kept, length-kept}
 use Rattle.fl_table.proofs.SealAnswers.{planned-ring, planned-large, lies-size}
 use Rattle.fl_parts.proofs.States.{shape_in}
 use Rattle.fl_find.specs.Pages.{rows_on, rows_where}
@@ -43,23 +42,6 @@ ring-place t ring number is = ap (λ (r : Option Ring). unwrap_or (option_map (�
 pub place-is : {KNOTS SLOTS : ℕ} (t : Table KNOTS SLOTS) (f : FlashState) (first : ℕ) (plan : Plan) (table : model.Table) (number : ℕ) → Stands t f first plan table → place_of t number ≡ place (shape_in first plan) number
 place-is t f first plan table number stands =
     ring-place t stands.memory.ring number stands.memory.ring_is ∙ ap (λ s. place s number) (t.lies stands.memory.ring stands.memory.ring_is ∙ planned-ring t first plan stands.planned)
-
--- a page whose rows aren't none is committed
-has-rows : (layout : RowLayout) (page : List ℕ) (s : PageState) → (s ≡ Committed → ⊥) → length (rows_where s layout page) ≡ 0
-has-rows layout page Committed other = absurd (other refl)
-has-rows layout page Blank other = refl
-has-rows layout page Torn other = refl
-has-rows layout page Void other = refl
-
--- the entries of a page are written ones
-pub rows-lose : (table : model.Table) (i c : ℕ) → slice_get table.rows.counts i ≡ Some c → sum table.rows.counts + table.pending ≡ length table.entries → rows_at (lose table) i c ≡ rows_at table i c
-rows-lose table i c e counted =
-    let s = sum (take i table.rows.counts) in
-    let m = length table.entries - table.pending in
-    let next : sum (take (suc i) table.rows.counts) ≡ s + c = sum-next (λ (n : ℕ). n) table.rows.counts i c e in
-    let le : s + c ≤ m = omega (arith, next, sum_by-take-le (λ (n : ℕ). n) table.rows.counts (suc i), counted) in
-    let split : s + (m - s) ≡ m = omega (arith, le) in
-    ap (λ n. take c (drop s (take n table.entries))) (sym split) ∙ (ap (take c) (drop-take s (m - s) table.entries) ∙ take-take c (m - s) (drop s table.entries) (omega (arith, le)))
 
 module _ {KNOTS SLOTS : ℕ} (t : Table KNOTS SLOTS) (f : FlashState) (first : ℕ) (plan : Plan) (table : model.Table) (stands : Stands t f first plan table) (lies : LiesOn t f) (reaches : f.start + extent f.geometry f.blocks ≤ length f.media.content)
     (i c : ℕ) (e : slice_get table.rows.counts i ≡ Some c) where

@@ -9,9 +9,7 @@ pub mod Counted
 pub mod MountIndexed
 pub mod MountJoined
 pub mod Paged
-pub mod MountLimits
 pub mod KeptStart
-pub mod SealEnds
 pub mod SealAnswers
 pub mod Refusals
 pub mod JoinedRecord

@@ -79,7 +79,7 @@ use Rattle.fl_parts.proofs.MountLifted.{RowsMount, mount-lifts, mount-fails}
 use Rattle.fl_table.proofs.MountComes.{pages-hold}
 use Rattle.fl_parts.proofs.Repaired.{IsHeld, IsIdle, IsRepaired, idle-lost, lost-idle}
 use Rattle.fl_table.proofs.SealAnswers.{planned-shape, planned-large, planned-few, lies-size, counts-room}
-use Rattle.fl_table.proofs.SealEnds.{fault-ends}
+use Rattle.fl_parts.proofs.SealEnds.{fault-ends}
 use Rattle.fl_parts.proofs.StandingMount.{IsOf}
 use Rattle.fl_parts.proofs.StandingKeys.{mount-fine}
 use Rattle.fl_parts.proofs.StandingKnown.{KnowsTable}

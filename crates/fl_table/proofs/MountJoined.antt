@@ -1,10 +1,10 @@
 -- A mount is that of the index, and then that of the data ring.
-use Rattle.std.proofs.Common.{◌≡◌, ℕ, ◌+◌, ◌-◌, ◌*◌, ◌%◌, ◌<◌, ◌≤◌, Bool, true, false, cond, Option, Some, None, IfSome, unwrap_or, get_or, Result, Ok, Err, List, [], ◌∷◌, ◌++◌, length, refl, sym, ◌∙◌, ap, subst, arith, inl, inr}
+use Rattle.std.proofs.Common.{◌≡◌, ℕ, ◌+◌, ◌-◌, ◌*◌, ◌<◌, ◌≤◌, Bool, true, false, cond, Option, Some, None, IfSome, unwrap_or, Result, Ok, Err, List, [], ◌∷◌, ◌++◌, length, refl, sym, ◌∙◌, ap, subst, arith, inl, inr}
 use Rattle.fl_model.specs.Index.{IndexPage}
 use Rattle.std.proofs.Math.Nat.{mul-le-mul_right}
 use Rattle.fl_base.specs.declared.types.Geometry.{Geometry}
 use Rattle.fl_base.specs.declared.types.RingPlace.{RingPlace}
-use Rattle.fl_flash.specs.Flash.{FlashState, Goes, page_at}
+use Rattle.fl_flash.specs.Flash.{FlashState, page_at}
 use Rattle.fl_index.specs.declared.index.BitmapIndex.{BitmapIndex}
 use Rattle.fl_index.specs.Memory as memory
 use Rattle.fl_index.specs.Outcomes as outcomes
@@ -12,7 +12,7 @@ use Rattle.fl_index.proofs.SealEnds.{planned-ring}
 use Rattle.fl_model.specs.Facts.{is_some_ring}
 use Rattle.fl_model.specs.Image.{IsRingImage, HoldsEntries}
 use Rattle.fl_index.specs.Standing as standing
-use Rattle.fl_ring.specs.Mounting.{shape_at}
+use Rattle.fl_ring.specs.Mounting.{shape_at, search_reads, HasNumbers, FailsAs}
 use Rattle.fl_model.specs.Mount.{rings_of, index_end}
 use Rattle.fl_model.specs.MountLimit.{repaired, all_repaired, part_mount_limit, mount_limit}
 use Rattle.fl_model.specs.Record.{Plan, RowLayout, has_index}
@@ -22,24 +22,21 @@ use Rattle.fl_model.specs.Work.{Device}
 use Rattle.fl_frame.specs.Device.{SameDevice}
 use Rattle.fl_ring.specs.Finding.{FoundFault}
 use Rattle.fl_frame.specs.Reads.{OnlyReads}
-use Rattle.fl_ring.specs.Mounting.{search_reads, HasNumbers, FailsAs}
 use Rattle.fl_ring.specs.Place.{next_of, oldest_of}
 use Rattle.fl_ring.specs.Ring.{Shape}
 use Rattle.fl_frame.specs.Watched.{IsWatched}
 use Rattle.fl_ring.specs.declared.fault.RingFault.{RingFault}
 use Rattle.fl_ring.specs.declared.fault.RingFault.TheVariants as ring
 use Rattle.fl_ring.specs.declared.ring.Ring.{Ring}
-use Rattle.fl_index.specs.Finding.{FindsIndex}
 use Rattle.fl_schema.specs.Schema.{layout_of}
-use Rattle.fl_parts.specs.Bitmaps.{ArePlanned, AreSamePlan, AreStillFound, StaysFound, StandOutside, MountEndsOf, RemembersFound, IsOutside}
+use Rattle.fl_parts.specs.Bitmaps.{ArePlanned, AreSamePlan, StandOutside, MountEndsOf, RemembersFound}
 use Rattle.fl_parts.specs.BlobEnds.{least_of}
 use Rattle.fl_parts.specs.BlobMount.{FindsBlobs, RefusesWithin}
-use Rattle.fl_parts.specs.Faults.{MountCausedBy, of_ring}
+use Rattle.fl_parts.specs.Faults.{of_ring}
 use Rattle.fl_table.specs.Memory.{IsPlanned, IsSamePlan, ring_shape}
 use Rattle.fl_parts.specs.ByEntries.{Come, facts_on, known_after, rows_of, voids_of, end_of, mount_fault}
 use Rattle.fl_parts.specs.Coming.{StandFound, StandsFoundBy, WaitUnlisted, come_of, most_in}
 use Rattle.fl_find.specs.Index.{error_in}
-use Rattle.fl_parts.specs.IndexMount.{FindsBy, FindsBitmaps}
 use Rattle.fl_table.specs.Mounting.{FindsRows, ReadsRing, HasBadPage, HasLearned, FindsData, RefusesData, RefusesRows, comes_in}
 use Rattle.fl_parts.specs.Failing.{var_rings}
 use Rattle.fl_table.specs.Outcomes.{RingsEnd, MountEnds}
@@ -49,13 +46,13 @@ use Rattle.fl_table.specs.declared.counts.Mounted.{Mounted as Found}
 use Rattle.fl_parts.specs.declared.mount_fault.MountFault.{MountFault}
 use Rattle.fl_parts.specs.declared.mount_fault.MountFault.TheVariants as mount
 use Rattle.fl_table.specs.declared.table.Table as code
-use Rattle.fl_frame.proofs.WatchedInTurn.{cause-later}
 use Rattle.fl_parts.proofs.IndexOfTable.{planned-none, planned-some}
-use Rattle.fl_table.proofs.IndexSeals.{rows-stand, var-stand}
+use Rattle.fl_parts.proofs.IndexAlone.{rows-stand, var-stand}
 use Rattle.fl_var.specs.declared.var_data.VarData.{VarData}
 use Rattle.fl_parts.specs.MountLimits.{IsIndexLimited, rows_mount_limit}
-use Rattle.fl_table.proofs.MountLimits.{done-repaired, index-within, limit-bare, limit-indexed}
-use Rattle.fl_table.proofs.MountIndexed.{index-fails, index-mounts, then-rows}
+use Rattle.fl_parts.proofs.MountLimits.{done-repaired, index-within, limit-bare, limit-indexed}
+use Rattle.fl_parts.proofs.IndexMounted.{index-fails, index-mounts}
+use Rattle.fl_table.proofs.MountIndexed.{then-rows}
 use Rattle.fl_parts.proofs.Loose.{IsLoose, has-listed, none-listed, paged-loose}
 use Rattle.fl_parts.proofs.Repaired.{IsIdle, lost-idle}
 use Rattle.fl_table.proofs.SealAnswers.{planned-shape, same-then}
@@ -174,27 +171,6 @@ module _ {KNOTS SLOTS : ℕ} (t : code.Table KNOTS SLOTS) (old new : FlashState)
       limit-indexed plan table m.now.state old.work.reads new.work.reads last.work.reads (has index is outside) (done-repaired plan IndexRing table rose device m.now m.did m.whole)
       (few (planned_index index is outside) (rests_index index is outside) full) (go m.now.state m.now.device m.power m.counts at_rest stands (ap (λ (o : Option ℕ). unwrap_or o 0) m.answer))
 
--- Where entries aren't full, the index that was found is the same where its ring and what is remembered of its pages are.
-pub still-found : (was mid now : Option BitmapIndex) (old new : FlashState) (end : Option ℕ) → FindsBitmaps was old end mid new → AreSamePlan was mid → AreStillFound mid now → IfSome was (λ index. (memory.form_in index).full ≡ false) →
-    FindsBitmaps was old end now new
-still-found None None None old new end h same still bare = h
-still-found None None (Some now) old new end h same still bare = absurd still
-still-found None (Some mid) now old new end h same still bare = absurd h
-still-found (Some was) None now old new end h same still bare = absurd h
-still-found (Some was) (Some mid) None old new end h same still bare = absurd still
-still-found (Some was) (Some mid) (Some now) old new end h same still bare =
-    subst (λ (full : Bool). FindsBy full was old end now new) (sym bare)
-    (by_ring (subst (λ (full : Bool). FindsBy full was old end mid new) bare h) (subst (λ (full : Bool). StaysFound full mid now) (same.full ∙ bare) still))
-  where
-    by_ring : FindsIndex was old end mid new → memory.IsSameRing mid now → FindsIndex was old end now new
-    by_ring h still = record {
-      ring = h.ring;
-      ring_is = still.ring ∙ h.ring_is;
-      ring_reads = h.ring_reads;
-      firsts = λ number low high. ap (λ v. get_or v.items (number % v.len) None) still.firsts ∙ h.firsts number low high;
-      end_is = h.end_is;
-    }
-
 -- what a mount of the data ring found, of a table of the same plan
 shape_as : {KNOTS SLOTS : ℕ} (t t1 : code.Table KNOTS SLOTS) → IsSamePlan t t1 → ring_shape t1 ≡ ring_shape t
 shape_as t t1 same = ap (λ (p : RingPlace). shape_at p t1.geometry) same.place ∙ ap (λ (g : Geometry). shape_at t.place g) same.geometry
@@ -287,22 +263,3 @@ refuses-by t t1 bitmaps f was least fault new h same blobs e = subst (λ (n : �
       pages = data_as t t1 bitmaps f was b.ring b.mounted b.last b.end b.between same b.pages;
       why = subst (λ (o : Option VarData). RefusesWithin o b.between b.end fault new) blobs b.why;
     })
-
--- why a later part of a mount failed
-pub mount-cause-later : (old mid new : FlashState) → Goes old mid → (old.is_on ≡ true → mid.is_on ≡ true) → (e : MountFault) → MountCausedBy mid e new → MountCausedBy old e new
-mount-cause-later old mid new goes on (mount.Flash fault) h = cause-later old mid new goes on fault h
-mount-cause-later old mid new goes on (mount.Ring (ring.Flash fault)) h = absurd h
-mount-cause-later old mid new goes on (mount.Ring (ring.BadHead heads)) h = tt
-mount-cause-later old mid new goes on (mount.Ring (ring.BadGap page)) h = tt
-mount-cause-later old mid new goes on (mount.Ring (ring.BadPage page wanted found)) h = tt
-mount-cause-later old mid new goes on (mount.Ring (ring.NoNumber least)) h = tt
-mount-cause-later old mid new goes on (mount.BadPage bad) h = tt
-mount-cause-later old mid new goes on (mount.BadKeys page last first) h = tt
-mount-cause-later old mid new goes on (mount.BadIndex end next) h = tt
-mount-cause-later old mid new goes on (mount.BadBlob page next) h = tt
-mount-cause-later old mid new goes on (mount.BadEntry page count limit) h = tt
-
--- a page outside the index ring stands
-pub stand-outside : (bitmaps : Option BitmapIndex) (old new : ℕ → List ℕ) (page : ℕ) → StandOutside bitmaps old new → IfSome bitmaps (λ index. IsOutside (memory.ring_shape index) page) → new page ≡ old page
-stand-outside None old new page h out = h page
-stand-outside (Some index) old new page h out = h page out

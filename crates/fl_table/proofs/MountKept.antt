@@ -44,7 +44,7 @@ use Rattle.fl_table.proofs.MountComes.{comes-to, few-come, few-unlisted, found-t
 use Rattle.fl_table.proofs.MountEnded.{IsMounting, mounting-of, mount-answer, reads-end, ready_facts, before_now, pages_now, settled_now, ring-ends, ring-mounts, same_device, started-memory, started-stand}
 use Rattle.fl_parts.proofs.Loose.{loose-paged}
 use Rattle.fl_parts.proofs.MountLifted.{RowsMount}
-use Rattle.fl_table.proofs.MountLimits.{data-voids, mount-repaired}
+use Rattle.fl_parts.proofs.MountLimits.{data-voids, mount-repaired}
 use Rattle.fl_parts.proofs.Repaired.{idle-lost}
 use Rattle.fl_table.proofs.SealAnswers.{lies-size, plan-self, planned-ring, planned-same}
 use Rattle.fl_parts.proofs.StandingMount.{IsOf}

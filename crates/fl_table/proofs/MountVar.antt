@@ -1,13 +1,13 @@
 -- The mount of variable data is the last part of the mount of their table.
-use Rattle.std.proofs.Common.{◌≡◌, ℕ, ◌+◌, ◌-◌, ◌*◌, ◌<◌, ◌≤◌, Bool, true, cond, Option, Some, None, IfSome, Result, Ok, Err, List, [], ◌∷◌, ◌++◌, length, map, refl, sym, ◌∙◌, ap, subst, arith, ◌⊎◌, inl, inr}
+use Rattle.std.proofs.Common.{◌≡◌, ℕ, ◌+◌, ◌-◌, ◌*◌, ◌<◌, ◌≤◌, Bool, true, cond, Option, Some, None, IfSome, Result, Ok, Err, List, [], ◌∷◌, length, map, refl, sym, ◌∙◌, ap, subst, arith, ◌⊎◌, inl, inr}
 use Rattle.std.proofs.Math.Nat.{mul-le-mul_right}
-use Rattle.std.proofs.lemmas.List.{map-append, take_all}
+use Rattle.std.proofs.lemmas.List.{take_all}
 use Rattle.fl_flash.specs.Flash.{FlashState, page_at}
 use Rattle.fl_flash.specs.declared.flash.FlashFault.{FlashFault}
 use Rattle.fl_flash.specs.declared.flash.FlashFault.TheVariants.{Media}
 use Rattle.fl_model.specs.Content.{ContentPage}
 use Rattle.fl_model.specs.Facts.{IsSettled}
-use Rattle.fl_model.specs.Mount.{Turn, Of, renumber, ready}
+use Rattle.fl_model.specs.Mount.{Of, renumber, ready}
 use Rattle.fl_model.specs.Record.{Plan, has_var}
 use Rattle.fl_model.specs.Ring.{Ring}
 use Rattle.fl_model.specs.MountLimit.{part_mount_limit}
@@ -23,8 +23,9 @@ use Rattle.fl_parts.specs.BlobMount.{WithinEndsOf, WithinEnds}
 use Rattle.fl_parts.specs.Blobs.{AreIn, ArePlanned, Stand, StandInPages, StandOutside, IsPlanned}
 use Rattle.fl_parts.specs.Mountable.{IsPaged}
 use Rattle.fl_parts.specs.MountLimits.{IsVarLimited}
-use Rattle.fl_table.proofs.MountLimits.{data-keeps, mount-repaired}
+use Rattle.fl_parts.proofs.MountLimits.{data-keeps, mount-repaired}
 use Rattle.fl_parts.specs.Failing.{FaultEnds, MountsBadly, var_rings}
+use Rattle.fl_parts.proofs.InTurn.{mounts-append, rings-fail}
 use Rattle.fl_table.specs.Outcomes.{DataWell, DataEnds, RingsEnd, mounted_of}
 use Rattle.fl_parts.specs.Pages.{HoldsTable, Rests}
 use Rattle.fl_table.specs.Standing.{StandsAsTold, Stands}
@@ -48,77 +49,6 @@ use Rattle.fl_var.specs.Placing as placing
 use Rattle.fl_var.specs.Standing as standing
 use Rattle.fl_var.specs.Standing.{IsVarRing}
 use Rattle.fl_var.specs.declared.var_data.VarData.{VarData}
-
--- ---- mounts of rings, one after another
-
--- turns came, and then others
-pub mounts-append : (plan : Plan) (rose : Bool) (turns others : List Turn) (device : Device) (table : Table) (now : PartProgress Table) (how : TableMountEnd) → TableMounts plan rose turns device table (TableMounted now) → TableMounts plan rose others now.device now.state how →
-    TableMounts plan rose (turns ++ others) device table how
-mounts-append plan rose [] others device table now how m k =
-    let same : now ≡ record { end = Whole; device = device; state = table } = cc in
-    subst (λ (p : PartProgress Table). TableMounts plan rose others p.device p.state how) same k
-mounts-append plan rose (turn ∷ turns) others device table now how (inl u) k = absurd (no u.0 u.2)
-  where
-    no : (x : PartProgress Table) → TableMounted now ≡ TableUnread x → ⊥
-    no x e = cc
-mounts-append plan rose (turn ∷ turns) others device table now how (inr p) k = inr (p.0, p.1, by_end (λ m. mounts-append plan rose turns others p.0.device p.0.state now how m k) p.0.end p.2)
-  where
-    no : (x : PartProgress Table) → TableMounted now ≡ TableStopped x → ⊥
-    no x e = cc
-
-    by_end : (TableMounts plan rose turns p.0.device p.0.state (TableMounted now) → TableMounts plan rose (turns ++ others) p.0.device p.0.state how) → (e : PartEnd Table) →
-        TableGoesOn e p.0 (TableMounted now) (TableMounts plan rose turns p.0.device p.0.state (TableMounted now)) → TableGoesOn e p.0 how (TableMounts plan rose (turns ++ others) p.0.device p.0.state how)
-    by_end rest Whole m = rest m
-    by_end rest (CutIn before) m = absurd (no p.0 m)
-    by_end rest (FailedIn before) m = absurd (no p.0 m)
-
--- turns of which one stopped the mount
-pub mounts-stop : (plan : Plan) (rose : Bool) (turns others : List Turn) (device : Device) (table : Table) (now : PartProgress Table) → TableMounts plan rose turns device table (TableStopped now) → TableMounts plan rose (turns ++ others) device table (TableStopped now)
-mounts-stop plan rose [] others device table now m = absurd (no m)
-  where
-    no : TableStopped now ≡ TableMounted (record { end = Whole; device = device; state = table }) → ⊥
-    no e = cc
-mounts-stop plan rose (turn ∷ turns) others device table now (inl u) = inl u
-mounts-stop plan rose (turn ∷ turns) others device table now (inr p) = inr (p.0, p.1, by_end (λ m. mounts-stop plan rose turns others p.0.device p.0.state now m) p.0.end p.2)
-  where
-    by_end : (TableMounts plan rose turns p.0.device p.0.state (TableStopped now) → TableMounts plan rose (turns ++ others) p.0.device p.0.state (TableStopped now)) → (e : PartEnd Table) →
-        TableGoesOn e p.0 (TableStopped now) (TableMounts plan rose turns p.0.device p.0.state (TableStopped now)) → TableGoesOn e p.0 (TableStopped now) (TableMounts plan rose (turns ++ others) p.0.device p.0.state (TableStopped now))
-    by_end rest Whole m = rest m
-    by_end rest (CutIn before) m = m
-    by_end rest (FailedIn before) m = m
-
-pub mounts-unread : (plan : Plan) (rose : Bool) (turns others : List Turn) (device : Device) (table : Table) (now : PartProgress Table) → TableMounts plan rose turns device table (TableUnread now) → TableMounts plan rose (turns ++ others) device table (TableUnread now)
-mounts-unread plan rose [] others device table now m = absurd (no m)
-  where
-    no : TableUnread now ≡ TableMounted (record { end = Whole; device = device; state = table }) → ⊥
-    no e = cc
-mounts-unread plan rose (turn ∷ turns) others device table now (inl u) = inl u
-mounts-unread plan rose (turn ∷ turns) others device table now (inr p) = inr (p.0, p.1, by_end (λ m. mounts-unread plan rose turns others p.0.device p.0.state now m) p.0.end p.2)
-  where
-    by_end : (TableMounts plan rose turns p.0.device p.0.state (TableUnread now) → TableMounts plan rose (turns ++ others) p.0.device p.0.state (TableUnread now)) → (e : PartEnd Table) →
-        TableGoesOn e p.0 (TableUnread now) (TableMounts plan rose turns p.0.device p.0.state (TableUnread now)) → TableGoesOn e p.0 (TableUnread now) (TableMounts plan rose (turns ++ others) p.0.device p.0.state (TableUnread now))
-    by_end rest Whole m = rest m
-    by_end rest (CutIn before) m = m
-    by_end rest (FailedIn before) m = m
-
--- the turns of these rings
-abbrev of_rings : List RingName → List Turn
-of_rings rings = map (λ (ring : RingName). Of ring) rings
-
--- the first of the rings failed
-pub rings-fail : (first : ℕ) (plan : Plan) (rings others : List RingName) (table : Table) (rose : Bool) (device : Device) (fault : FlashFault) (new : FlashState) → MountsBadly first plan rings table rose device fault new → MountsBadly first plan (rings ++ others) table rose device fault new
-rings-fail first plan rings others table rose device fault new b = record { now = b.now; did = by_did b.did; counts = b.counts; lost = b.lost; paged = b.paged; pages = b.pages; rests = b.rests }
-  where
-    both : of_rings (rings ++ others) ≡ of_rings rings ++ of_rings others
-    both = map-append (λ (ring : RingName). Of ring) rings others
-
-    along : (how : TableMountEnd) → TableMounts plan rose (of_rings rings ++ of_rings others) device table how → TableMounts plan rose (of_rings (rings ++ others)) device table how
-    along how m = subst (λ (turns : List Turn). TableMounts plan rose turns device table how) (sym both) m
-
-    by_did : (TableMounts plan rose (of_rings rings) device table (TableStopped b.now) × FaultEnds b.now.end fault new) ⊎ (TableMounts plan rose (of_rings rings) device table (TableUnread b.now) × (fault ≡ Media)) →
-        (TableMounts plan rose (of_rings (rings ++ others)) device table (TableStopped b.now) × FaultEnds b.now.end fault new) ⊎ (TableMounts plan rose (of_rings (rings ++ others)) device table (TableUnread b.now) × (fault ≡ Media))
-    by_did (inl p) = inl (along (TableStopped b.now) (mounts-stop plan rose (of_rings rings) (of_rings others) device table b.now p.0), p.1)
-    by_did (inr p) = inr (along (TableUnread b.now) (mounts-unread plan rose (of_rings rings) (of_rings others) device table b.now p.0), p.1)
 
 -- ---- the ring of variable data behind the data ring
 

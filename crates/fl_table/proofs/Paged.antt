@@ -1,5 +1,5 @@
 -- The page of the pending rows, over the seals of a table's rings.
-use Rattle.std.proofs.Common.{◌≡◌, ◌⊎◌, ℕ, ◌+◌, ◌<◌, ◌≤◌, Option, Some, None, IfSome, Result, Ok, Err, OnOk, List, IsTrue, length, inl, inr, sym, ◌∙◌, ap, subst, arith}
+use Rattle.std.proofs.Common.{◌≡◌, ℕ, ◌≤◌, Option, Some, None, IfSome, Result, Ok, Err, OnOk, List, IsTrue, length, sym, ◌∙◌, ap, subst}
 use Rattle.fl_base.specs.declared.types.Geometry.{Geometry}
 use Rattle.fl_base.specs.declared.types.RingPlace.{RingPlace}
 use Rattle.fl_flash.specs.Flash.{FlashState, page_at}
@@ -15,16 +15,15 @@ use Rattle.fl_ring.proofs.Written.{page-as}
 use Rattle.fl_schema.specs.Schema.{layout_of}
 use Rattle.fl_parts.specs.Bitmaps as bitmaps
 use Rattle.fl_parts.specs.Blobs as variable
+use Rattle.fl_parts.proofs.Outsides.{not-filled, stand-outside, blobs-outside, var-outside, fill-moved}
 use Rattle.fl_table.specs.Memory.{next_in, ring_shape, HasRoom, IsSamePlan, MaySeal}
 use Rattle.fl_table.specs.Mounting.{rings_in}
 use Rattle.fl_table.specs.Paged.{BlobsAhead, BlobsPaged, RowsAhead, HasFlushed, HasMadePage, IsApart, RowsPaged, next_page}
 use Rattle.fl_table.specs.Stored.{WaitsSame}
 use Rattle.fl_table.specs.declared.table.Table.{Table}
 use Rattle.fl_table.proofs.Counted.{waiting-rows, waits-then}
-use Rattle.fl_table.proofs.MountJoined.{stand-outside}
-use Rattle.fl_table.proofs.Outsides.{blobs-outside, var-outside}
 use Rattle.fl_table.proofs.SealAnswers.{same-then}
-use Rattle.fl_table.proofs.Writing.{fill-moved, put-writes}
+use Rattle.fl_table.proofs.Writing.{put-writes}
 use Rattle.fl_var.specs.Content.{content_body}
 use Rattle.fl_var.specs.Memory as memory
 use Rattle.fl_var.specs.Memory.{bytes_page, var_shape, waiting_in, BytesAhead, BytesPaged}
@@ -93,16 +92,6 @@ pub flushed-of : {KNOTS SLOTS : ℕ} (t : Table KNOTS SLOTS) (result : Result (U
     OnOk result ((HasRoom t → ⊥) → HasFlushed t f g)
 flushed-of t (Ok u) f g writes page blobs ahead blobs_ahead = λ full. record { writes = writes; page = page; blobs = blobs; ahead = ahead; blobs_ahead = blobs_ahead }
 flushed-of t (Err e) f g writes page blobs ahead blobs_ahead = tt
-
--- a page outside of the variable data isn't one that a blob may fill
-not-filled : (blob : Option (List ℕ)) (blobs : Option VarData) (page : ℕ) → IfSome blobs (λ var. bitmaps.IsOutside (var_shape var) page) → variable.MayFill blob blobs page → ⊥
-not-filled None blobs page out may = may
-not-filled (Some bytes) None page out may = may
-not-filled (Some bytes) (Some var) page out may = by_side out
-  where
-    by_side : (page < (var_shape var).first) ⊎ ((var_shape var).first + room (var_shape var) ≤ page) → ⊥
-    by_side (inl below) = absurd (omega (arith, below, may.0))
-    by_side (inr above) = absurd (omega (arith, above, may.1))
 
 -- a blob that is placed behind the page leaves it
 pub page-made : {KNOTS SLOTS : ℕ} (t u : Table KNOTS SLOTS) (blob : Option (List ℕ)) (f m g : FlashState) → m.media.tells ≡ f.media.tells → variable.AreSamePlan t.blobs u.blobs → (HasRoom t → ⊥) → HasFlushed t f m →

@@ -6,7 +6,6 @@ use Rattle.fl_find.specs.Rows.{RowsRise, HasKey, LacksKey}
 use Rattle.fl_flash.specs.Flash.{FlashState}
 use Rattle.fl_model.specs.Record.{Plan}
 use Rattle.fl_model.specs.Row.{Row, stored_row}
-use Rattle.fl_model.specs.Spline.{is_pending_key}
 use Rattle.fl_model.specs.Table as model
 use Rattle.fl_model.specs.Table.{pending_entries}
 use Rattle.fl_page.specs.Page.{rows_from}
@@ -19,10 +18,6 @@ use Rattle.fl_table.specs.Memory.{pending_in}
 use Rattle.fl_table.specs.Standing.{Stands}
 use Rattle.fl_table.specs.declared.table.Table.{Table}
 use Rattle.fl_parts.proofs.PendingRows.{pending-rise}
-use Rattle.fl_parts.proofs.Pointed.{first-key}
-
-pub pending-told : (table : model.Table) (row : Row) (key : ℕ) → slice_get (map stored_row (pending_entries table)) 0 ≡ Some row → nat_le row.key key ≡ is_pending_key table key
-pending-told table row key here = sym (ap (λ (o : Option ℕ). unwrap_or (option_map (λ first. nat_le first key) o) false) (first-key table row here))
 
 pub length-buffered : {KNOTS SLOTS : ℕ} (t : Table KNOTS SLOTS) → length (buffered_rows t) ≡ pending_in t
 length-buffered t = length-rows_from (pending_in t) (layout_in t) (drop 16 t.writer.body)

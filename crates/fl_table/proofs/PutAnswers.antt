@@ -19,7 +19,9 @@ use Rattle.fl_table.specs.Standing.{Stands}
 use Rattle.fl_table.specs.declared.table.Table as code
 use Rattle.fl_table.specs.declared.faults.PutRefusal.{PutRefusal}
 use Rattle.fl_table.specs.declared.faults.PutRefusal.TheVariants as put
-use Rattle.fl_table.proofs.PendingAndFull.{has-room, put-stops, put-breaks, put-finishes, room-accepts}
+use Rattle.fl_parts.proofs.JoinedEntries.{room-accepts}
+use Rattle.fl_parts.proofs.InTurn.{put-stops}
+use Rattle.fl_table.proofs.PendingAndFull.{has-room, put-breaks, put-finishes}
 use Rattle.fl_table.proofs.Refusals.{answered, answer_of, not-refused}
 use Rattle.fl_table.proofs.SealAnswers.{planned-shape}
 

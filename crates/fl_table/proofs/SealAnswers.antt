@@ -31,7 +31,7 @@ use Rattle.fl_table.specs.Memory.{IsPlanned, IsSamePlan}
 use Rattle.fl_table.specs.Standing.{Stands}
 use Rattle.fl_table.specs.declared.table.Table as code
 use Rattle.fl_parts.proofs.TablePages.{plain-on, have-size}
-use Rattle.fl_table.proofs.SealEnds.{IsSealing}
+use Rattle.fl_parts.proofs.SealEnds.{IsSealing}
 use Rattle.fl_parts.proofs.States.{shape_in, state_of, state-oldest, HaveSize}
 
 pub planned-shape : {KNOTS SLOTS : ℕ} (t : code.Table KNOTS SLOTS) (first : ℕ) (plan : Plan) → IsPlanned t first plan → model.IsShape (shape_of plan DataRing)

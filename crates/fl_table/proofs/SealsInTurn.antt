@@ -1,41 +1,24 @@
 -- Seals of a table, one after another.
-use Rattle.std.proofs.Common.{◌≡◌, ℕ, Bool, Result, Ok, Err, List, [], ◌∷◌, ◌++◌, refl, sym, ◌∙◌, ap, subst, append_assoc}
+use Rattle.std.proofs.Common.{◌≡◌, ℕ, Bool, Result, Ok, Err, List, [], ◌∷◌, ◌++◌, sym, ◌∙◌, subst}
 use Rattle.std.proofs.lemmas.List.{append-nil}
 use Rattle.fl_flash.specs.Flash.{FlashState, page_at}
 use Rattle.fl_flash.specs.declared.flash.FlashFault.{FlashFault}
 use Rattle.fl_model.specs.Record.{Plan}
 use Rattle.fl_model.specs.Table.{Table, RingName, DataRing, after_seal, after_seals}
 use Rattle.fl_model.specs.Within.{seal_within, seals_within, effect_within, TablePerforms}
-use Rattle.fl_model.specs.Work.{Kind, Device, PartEnd, PartProgress}
+use Rattle.fl_model.specs.Work.{Kind, Device, PartProgress}
 use Rattle.fl_model.proofs.Among.{after_seals-append, seals-all_done}
-use Rattle.fl_model.proofs.Performs.{performs-front, performs-more, performs-whole}
-use Rattle.fl_parts.specs.Failing.{Breaks, FaultEnds, BySeals}
+use Rattle.fl_model.proofs.Performs.{performs-more, performs-whole}
+use Rattle.fl_parts.specs.Failing.{Breaks, BySeals}
+use Rattle.fl_parts.proofs.InTurn.{within-append}
 use Rattle.fl_table.specs.Outcomes.{Finishes, SealsEnd}
 use Rattle.fl_parts.specs.Pages.{KeptStand}
 use Rattle.fl_table.specs.Standing.{Stands}
 use Rattle.fl_table.specs.declared.table.Table as code
-use Rattle.fl_table.proofs.SealEnds.{ByRows}
+use Rattle.fl_parts.proofs.SealEnds.{ByRows}
 use Rattle.fl_parts.proofs.KeptPagesStay.{kept-then}
 
-pub within-append : (plan : Plan) (rings others : List RingName) (table : Table) → seals_within plan (rings ++ others) table ≡ seals_within plan rings table ++ seals_within plan others (after_seals plan rings table)
-within-append plan [] others table = refl
-within-append plan (ring ∷ rings) others table =
-    ap (λ (ops : List (RingName × Kind)). seal_within plan ring table ++ ops) (within-append plan rings others (after_seal plan ring table))
-    ∙ sym (append_assoc (seal_within plan ring table) (seals_within plan rings (after_seal plan ring table)) (seals_within plan others (after_seals plan rings (after_seal plan ring table))))
-
 module _ (first : ℕ) (plan : Plan) (rings others : List RingName) (table : Table) (rose : Bool) (device : Device) where
-  -- the first ones stopped
-  pub seals-stop : (fault : FlashFault) (new : FlashState) → Breaks first plan (BySeals plan rings table rose device) fault new → Breaks first plan (BySeals plan (rings ++ others) table rose device) fault new
-  seals-stop fault new h = record {
-    now = h.now;
-    did = subst (λ (ops : List (RingName × Kind)). TablePerforms plan rose ops device table h.now) (sym (within-append plan rings others table))
-        (performs-front (λ (o : RingName × Kind). o.1) (effect_within plan) rose (seals_within plan rings table) (seals_within plan others (after_seals plan rings table)) device table h.now h.did
-        (λ whole. subst (λ (e : PartEnd Table). FaultEnds e fault new) whole h.answer));
-    answer = h.answer;
-    counts = h.counts;
-    rests = h.rests;
-  }
-
   -- the first ones were done, and the others follow
   pub seals-then : {KNOTS SLOTS : ℕ} (t : code.Table KNOTS SLOTS) (old mid : FlashState) (result : Result (Unit {0}) FlashFault) (last : code.Table KNOTS SLOTS) (new : FlashState) (h : Finishes first plan (BySeals plan rings table rose device) table (after_seals plan rings table) t old mid) →
       SealsEnd first plan others (after_seals plan rings table) rose h.now.device result last mid new → SealsEnd first plan (rings ++ others) table rose device result last old new

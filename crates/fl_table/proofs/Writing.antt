@@ -1,9 +1,9 @@
 -- What the seals of a table's rings change of a flash, one after another.
-use Rattle.std.proofs.Common.{◌≡◌, ℕ, ◌+◌, ◌<◌, ◌≤◌, IsTrue, Option, Some, None, List, length, inl, inr, ap, subst, arith}
+use Rattle.std.proofs.Common.{◌≡◌, ℕ, ◌+◌, ◌≤◌, IsTrue, Option, List, length, inl, inr, ap, subst, arith}
 use Rattle.std.proofs.lemmas.Bool.{cases_lt}
 use Rattle.fl_flash.specs.Flash.{FlashState, page_at}
 use Rattle.fl_model.specs.Record.{layout_len}
-use Rattle.fl_ring.specs.Ring.{Shape, room}
+use Rattle.fl_ring.specs.Ring.{room}
 use Rattle.fl_ring.specs.Written.{MaySealIn, Writes}
 use Rattle.fl_ring.specs.declared.ring.Ring.{Ring}
 use Rattle.fl_ring.proofs.Written.{writes-then, writes-wider}
@@ -11,12 +11,12 @@ use Rattle.fl_schema.specs.Schema.{layout_of}
 use Rattle.fl_parts.proofs.PlacedBlobs.{same}
 use Rattle.fl_parts.specs.Bitmaps as bitmaps
 use Rattle.fl_parts.specs.Blobs as variable
+use Rattle.fl_parts.proofs.Outsides.{fill-moved}
 use Rattle.fl_table.specs.Memory.{HasRoom, MayPut, MaySeal}
 use Rattle.fl_table.specs.Mounting.{rings_in}
 use Rattle.fl_table.specs.declared.table.Table.{Table}
 use Rattle.fl_parts.proofs.BlobsOfTable.{pages-most}
 use Rattle.fl_var.specs.declared.var_data.VarData.{VarData}
-use Rattle.fl_var.proofs.Joins.{same-shape}
 
 few-first : (a b : ℕ) → a ≤ a + b + 1
 few-first a b = omega arith
@@ -27,14 +27,6 @@ few-both a b = omega arith
 -- what is at most so many more is at most these and others more
 pub few-more : (n before a b : ℕ) → n ≤ before + a → n ≤ before + (a + b)
 few-more n before a b le = omega (arith, le)
-
--- it may change the same pages of another one with the same plan
-pub fill-moved : (blob : Option (List ℕ)) (old new : Option VarData) → variable.AreSamePlan old new → (page : ℕ) → variable.MayFill blob new page → variable.MayFill blob old page
-fill-moved None old new plan page may = absurd may
-fill-moved (Some bytes) None None plan page may = absurd may
-fill-moved (Some bytes) None (Some now) plan page may = absurd plan
-fill-moved (Some bytes) (Some var) None plan page may = absurd may
-fill-moved (Some bytes) (Some var) (Some now) plan page may = subst (λ (r : Shape). (r.first ≤ page) × (page < r.first + room r)) (same-shape var now plan) may
 
 module _ {KNOTS SLOTS : ℕ} (t : Table KNOTS SLOTS) where
   -- a put that seals the page of pending rows, where it is full, ..

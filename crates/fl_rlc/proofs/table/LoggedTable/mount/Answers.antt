@@ -16,7 +16,7 @@ use Rattle.fl_frame.proofs.WatchedInTurn.{watched-first, watched-then}
 use Rattle.fl_parts.specs.declared.mount_fault.MountFault.{MountFault}
 use Rattle.fl_parts.specs.declared.mount_fault.MountFault.TheVariants as mount
 use Rattle.fl_table.specs.declared.counts.Mounted.{Mounted}
-use Rattle.fl_table.proofs.MountJoined.{mount-cause-later}
+use Rattle.fl_parts.proofs.MountParts.{mount-cause-later}
 use Rattle.fl_table.proofs.SealAnswers.{same-then}
 use Rattle.fl_parts.proofs.Sizes.{table-fits}
 use Rattle.fl_rlc.specs.Left.{LeavesPages}

@@ -7,7 +7,7 @@ use Rattle.fl_rlc.specs.Table.{NothingWaits, is_running}
 use Rattle.fl_rlc.specs.declared.table.LoggedTable.{LoggedTable}
 use Rattle.fl_frame.proofs.CallsInTurn.{goes-same, goes-then}
 use Rattle.fl_parts.specs.IndexMount.{FewRepairs}
-use Rattle.fl_table.proofs.MountJoined.{mount-cause-later}
+use Rattle.fl_parts.proofs.MountParts.{mount-cause-later}
 use Rattle.fl_store.proofs.Called.{entry-at}
 use Rattle.fl_store.specs.Mounting.{MountsInTurn, OutsideStands, repairs_of}
 use Rattle.fl_store.specs.Tables.{first_of}

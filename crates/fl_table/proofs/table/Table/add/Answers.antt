@@ -17,7 +17,7 @@ use Rattle.fl_parts.specs.BlobEnds.{least_of}
 use Rattle.fl_parts.specs.Entries.{bitmap_with}
 use Rattle.fl_parts.proofs.BlobEnds.{least-few}
 use Rattle.fl_parts.proofs.Writers.{rest-push}
-use Rattle.fl_table.proofs.PendingAndFull.{bits-more, last-more, pending-more}
+use Rattle.fl_parts.proofs.JoinedEntries.{bits-more, last-more, pending-more}
 use Rattle.fl_index.specs.Memory as memory
 use Rattle.fl_index.specs.declared.index.BitmapIndex.{BitmapIndex}
 use Rattle.fl_page.specs.WriterState.{WriterState}

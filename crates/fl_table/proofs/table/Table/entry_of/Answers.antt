@@ -2,8 +2,9 @@ use Rattle.std.proofs.Common.{◌+◌, Option, subst, refl}
 use Rattle.fl_index.specs.Looking.{entire}
 use Rattle.fl_index.specs.declared.index.BitmapIndex.{BitmapIndex}
 use Rattle.fl_parts.specs.Skipping.{AreFresh}
-use Rattle.fl_table.proofs.Entries.{bad-answer, looks-from, looks-up, shows-found}
-use Rattle.fl_table.proofs.Skips.{fresh-still, index-stands}
+use Rattle.fl_parts.proofs.Skipping.{bad-answer, looks-from, looks-up, fresh-still}
+use Rattle.fl_table.proofs.Entries.{shows-found}
+use Rattle.fl_table.proofs.Skips.{index-stands}
 use Rattle.fl_parts.proofs.Untouched.{at-most}
 use Rattle.fl_frame.proofs.ContentsInTurn.{OnlyReads-same}
 use Rattle.fl_table.proofs.table.Table.entry_of.Goals as goal

@@ -1,6 +1,7 @@
 use Rattle.std.proofs.Common.{◌≡◌, nat_le, nat_lt, ap, ◌∙◌, arith}
 use Rattle.fl_schema.specs.Schema.{row_of}
-use Rattle.fl_table.proofs.PendingKey.{pending-told, none-pending, first-pending}
+use Rattle.fl_parts.proofs.RowsFound.{pending-told}
+use Rattle.fl_table.proofs.PendingKey.{none-pending, first-pending}
 use Rattle.fl_parts.proofs.Sizes.{table-fits}
 use Rattle.fl_table.proofs.table.Table.is_pending_key.Goals as goal
 

@@ -13,8 +13,9 @@ use Rattle.fl_table.specs.Standing.{Stands}
 use Rattle.fl_flash.specs.Flash.{page_at}
 use Rattle.fl_parts.proofs.BlobsOfTable.{after-most, pages-few, same-some, still-planned}
 use Rattle.fl_parts.proofs.IndexOfTable.{few-goes, lies-goes, none-is, none-there, plan-same}
-use Rattle.fl_table.proofs.Outsides.{var-outside}
-use Rattle.fl_table.proofs.JoinedRecord.{entry_of, entry-row, join-done, join-breaks, joined_to}
+use Rattle.fl_parts.proofs.Outsides.{var-outside}
+use Rattle.fl_parts.proofs.JoinedEntries.{entry_of, entry-row, joined_to}
+use Rattle.fl_table.proofs.JoinedRecord.{join-done, join-breaks}
 use Rattle.fl_parts.proofs.Plain.{table-facts}
 use Rattle.fl_parts.proofs.Pointed.{points-added}
 use Rattle.fl_table.proofs.SealAnswers.{planned-same}

@@ -12,8 +12,10 @@ use Rattle.fl_table.specs.declared.look_ahead.Ahead.{Ahead}
 use Rattle.fl_table.specs.declared.look_ahead.Ahead.TheVariants.{Wanted, Missed}
 use Rattle.fl_parts.specs.Skipping.{AreFresh, AreScanning, LooksOn}
 use Rattle.fl_table.specs.Skipping.{ShowsPage}
-use Rattle.fl_table.proofs.Skips.{fresh-still, looks-none, looks-plain, looks-found, looks-failed, shows-none, shows-unindexed, shows-some, shows-fault, index-stands, some-bits, bad-index, looked-up, told-by, unasked-up, unindexed-up}
-use Rattle.fl_table.proofs.Entries.{first-few, told-some}
+use Rattle.fl_parts.proofs.Skipping.{fresh-still, looks-none, looks-plain, looks-found, looks-failed, bad-index, looked-up, unasked-up, unindexed-up}
+use Rattle.fl_table.proofs.Skips.{shows-none, shows-unindexed, shows-some, shows-fault, index-stands, some-bits, told-by}
+use Rattle.fl_parts.proofs.EntriesFit.{told-some}
+use Rattle.fl_table.proofs.Entries.{first-few}
 use Rattle.fl_parts.proofs.Untouched.{at-most}
 use Rattle.fl_parts.proofs.IndexOfTable.{none-there}
 use Rattle.fl_frame.proofs.ContentsInTurn.{OnlyReads-same}

@@ -5,7 +5,8 @@ use Rattle.fl_table.specs.Finding.{is_pending_in, limit_in}
 use Rattle.fl_table.specs.Look.{oldest_in}
 use Rattle.fl_table.specs.declared.table.Table.{Table}
 use Rattle.fl_table.specs.Memory.{next_in}
-use Rattle.fl_table.proofs.Finds.{limit-pending, limit-told}
+use Rattle.fl_parts.proofs.RowsFound.{limit-pending}
+use Rattle.fl_table.proofs.Finds.{limit-told}
 use Rattle.fl_table.proofs.MemoryTells.{pages-is}
 use Rattle.fl_parts.proofs.Sizes.{table-fits, index-fits}
 use Rattle.fl_table.proofs.table.Table.lookup_limit.Goals as goal

@@ -10,12 +10,12 @@ use Rattle.fl_parts.specs.BlobMount.{FindsBlobs, RefusesWithin}
 use Rattle.fl_parts.specs.Blobs.{room_of, rings_of, AreEmpty}
 use Rattle.fl_table.specs.Memory.{NothingWaits}
 use Rattle.fl_table.proofs.Stored.{pending-none}
-use Rattle.fl_table.proofs.Outsides.{var-outside}
+use Rattle.fl_parts.proofs.Outsides.{var-outside}
 use Rattle.fl_var.specs.Memory.{var_shape}
 use Rattle.fl_parts.proofs.BlobsOfTable as blobbing
 use Rattle.fl_frame.proofs.WatchedInTurn.{watched-first, watched-then}
 use Rattle.fl_table.proofs.Learned.{finds-rows}
-use Rattle.fl_table.proofs.MountJoined.{mount-cause-later}
+use Rattle.fl_parts.proofs.MountParts.{mount-cause-later}
 use Rattle.fl_parts.proofs.BlobSeals.{with_var}
 use Rattle.fl_table.proofs.MountVar.{data-fails, mounted-ends, rows-fail, rows-mount, var-limit}
 use Rattle.fl_parts.proofs.Loose.{paged-ready}

@@ -14,7 +14,7 @@ use Rattle.fl_parts.proofs.IndexOfTable.{found-same}
 use Rattle.fl_table.proofs.MountCalls.{same-shape, outside-stands, index-still, refuses-ring, refuses-end, refuses-page, finds-data, finds-firsts, learns, same-waits, ring-cause, pages-cause}
 use Rattle.fl_table.proofs.MountEnded.{mounting-of, ring-fails, ring-ends, ring-mounts, ends-within}
 use Rattle.fl_table.proofs.MountKept.{kept-fails, kept-limit, kept-well, ring-limit}
-use Rattle.fl_table.proofs.MountLimits.{rows-within}
+use Rattle.fl_parts.proofs.MountLimits.{rows-within}
 use Rattle.fl_table.proofs.MountReads.{few-first, few-all, kept-room}
 use Rattle.fl_table.proofs.SealAnswers.{plan-self, planned-ring, lies-size}
 use Rattle.fl_table.proofs.ReadsKeepTable.{lies-moved}

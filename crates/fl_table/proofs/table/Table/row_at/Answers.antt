@@ -2,7 +2,8 @@ use Rattle.std.proofs.Common.{◌∙◌, ap, subst, arith}
 use Rattle.fl_schema.specs.Schema.{layout_of, row_of}
 use Rattle.fl_table.specs.Finding.{IsRowAt, row_in, row_of_place}
 use Rattle.fl_table.specs.declared.find.RowAt.{RowAt}
-use Rattle.fl_table.proofs.Finds.{row-within, row-shown, row-viewed}
+use Rattle.fl_parts.proofs.RowsFound.{row-within, row-viewed}
+use Rattle.fl_table.proofs.Finds.{row-shown}
 use Rattle.fl_table.proofs.table.Table.row_at.Goals as goal
 
 pub row-requires : goal.row-requires

@@ -5,7 +5,8 @@ use Rattle.fl_parts.specs.Bitmaps.{AreSameRing, HaveRoom, bitmap_seals, next_of,
 use Rattle.fl_parts.specs.Blobs as variable
 use Rattle.fl_parts.specs.Blobs.{rest_seals}
 use Rattle.fl_table.specs.Outcomes.{SealsEnd}
-use Rattle.fl_table.proofs.SealsInTurn.{seals-stop, seals-then}
+use Rattle.fl_parts.proofs.InTurn.{seals-stop}
+use Rattle.fl_table.proofs.SealsInTurn.{seals-then}
 use Rattle.fl_frame.proofs.WatchedInTurn.{cause-later, watched-first, watched-then}
 use Rattle.fl_flash.specs.Flash.{page_at}
 use Rattle.fl_parts.proofs.IndexOfTable.{ring-stays}

@@ -2,10 +2,11 @@ use Rattle.std.proofs.Common.{◌≡◌, ◌+◌, ◌*◌, Ok, Err, arith, refl,
 use Rattle.fl_flash.specs.Flash.{page_at}
 use Rattle.fl_parts.specs.Bitmaps.{bitmap_seals}
 use Rattle.fl_parts.proofs.BlobsOfTable.{stand-moved}
-use Rattle.fl_table.proofs.IndexSeals.{bitmaps-end, made-finishes, var-stand, with_index}
+use Rattle.fl_parts.proofs.IndexAlone.{var-stand, with_index}
+use Rattle.fl_table.proofs.IndexSeals.{bitmaps-end, made-finishes}
 use Rattle.fl_parts.proofs.IndexOfTable.{still-few, still-planned, made-running, made-end, made-after, broken-after, made-room, made-next, made-sealed, number-left, none-is, none-there}
 use Rattle.fl_table.proofs.SealAnswers.{writer-count}
-use Rattle.fl_table.proofs.MountJoined.{stand-outside}
+use Rattle.fl_parts.proofs.Outsides.{stand-outside}
 use Rattle.fl_table.proofs.ReadsKeepTable.{lies-moved}
 use Rattle.fl_ring.specs.declared.ring.Ring.{Ring}
 use Rattle.fl_parts.proofs.BlobsOfTable as blobbing

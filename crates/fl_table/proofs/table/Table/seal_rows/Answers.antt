@@ -25,7 +25,7 @@ use Rattle.fl_var.proofs.Ahead.{held-ahead}
 use Rattle.fl_table.proofs.SealAnswers.{planned-ring, planned-shape, lies-size, sealing-of, seal-ready, writer-count, pending-length, ring-next, counts-room, note-same, written-back}
 use Rattle.fl_parts.proofs.VarFacts.{rest-of}
 use Rattle.fl_table.proofs.VoidPages.{voids-told}
-use Rattle.fl_table.proofs.SealEnds.{IsSealing, KeepsAll, seal-breaks, seal-finishes}
+use Rattle.fl_parts.proofs.SealEnds.{IsSealing, KeepsAll, seal-breaks, seal-finishes}
 use Rattle.fl_table.proofs.SealsInTurn.{ends-alone}
 use Rattle.fl_parts.proofs.IndexOfTable.{few-goes, lies-goes, plan-same, still-few, still-lies, still-next, still-planned, still-running, noted-end, stand-sealed, none-there, none-is}
 use Rattle.fl_parts.proofs.ListsStay.{index-stands}

@@ -13,11 +13,11 @@ use Rattle.fl_model.proofs.Performs.{performs-whole}
 use Rattle.fl_ring.specs.Counts.{page_count}
 use Rattle.fl_ring.specs.Numbers.{voids_at_end}
 use Rattle.fl_ring.proofs.VoidsAtEnd.{voids_are}
+use Rattle.fl_var.proofs.Bodies.{once}
+use Rattle.fl_var.proofs.States.{all-once}
 use Rattle.fl_parts.specs.MountLimits.{rows_mount_limit}
 use Rattle.fl_parts.specs.Failing.{var_rings}
 use Rattle.fl_parts.proofs.States.{state_of}
-use Rattle.fl_var.proofs.Bodies.{once}
-use Rattle.fl_var.proofs.States.{all-once}
 
 -- ---- the void pages at the end of the data ring
 

@@ -11,17 +11,16 @@ use Rattle.fl_model.specs.Table.{Table, DataRing, IndexRing, VarRing, shape_of, 
 use Rattle.fl_model.specs.Work.{Device, PartEnd, Whole, CutIn, FailedIn, PartProgress}
 use Rattle.fl_model.specs.Within.{seal_within, TablePerforms}
 use Rattle.fl_model.proofs.Sealed.{sealed-next, sealed-torn}
-use Rattle.fl_ring.specs.Ring.{OutsideStands}
+use Rattle.fl_ring.specs.Ring.{OutsideStands, Shape, RingState, OnRing, oldest, place, sealed}
+use Rattle.fl_frame.specs.Device.{SameDevice}
+use Rattle.fl_ring.specs.Operations.{change, seal_kinds}
+use Rattle.fl_ring.specs.Place.{next_of, oldest_of, StandsFor}
+use Rattle.fl_ring.specs.Sealing.{Performed}
+use Rattle.fl_ring.specs.declared.ring.Ring.{Ring}
 use Rattle.fl_parts.proofs.ListsStay.{HoldsIndexed, indexed-same, index-stands}
 use Rattle.fl_parts.proofs.BlobTables.{HoldsVar}
 use Rattle.fl_parts.proofs.BlobsOfTable.{var-same, var-stands}
 use Rattle.fl_parts.proofs.Plain.{IsPlainTable}
-use Rattle.fl_frame.specs.Device.{SameDevice}
-use Rattle.fl_ring.specs.Operations.{change, seal_kinds}
-use Rattle.fl_ring.specs.Place.{next_of, oldest_of, StandsFor}
-use Rattle.fl_ring.specs.Ring.{Shape, RingState, OnRing, oldest, place, sealed}
-use Rattle.fl_ring.specs.Sealing.{Performed}
-use Rattle.fl_ring.specs.declared.ring.Ring.{Ring}
 use Rattle.fl_parts.specs.Failing.{Breaks, FaultEnds}
 use Rattle.fl_parts.specs.Pages.{HoldsTable, KeptStand, bytes_in}
 use Rattle.fl_parts.proofs.TablePages.{plain-rests}

@@ -1,0 +1,100 @@
+-- What the parts of a mount cost together, and what a later part says of the whole.
+use Rattle.std.proofs.Common.{◌≡◌, ℕ, ◌+◌, ◌-◌, ◌*◌, ◌<◌, ◌≤◌, min, Bool, true, false, cond, ◌&&◌, ◌==◌, sym, ap, subst, arith, IsTrue, ◌%◌, Option, Some, None, IfSome, get_or, ◌∙◌}
+use Rattle.std.proofs.Math.Nat.{mul-le-mul_right, add-mul}
+use Rattle.fl_flash.specs.Flash.{FlashState, Goes}
+use Rattle.fl_ring.specs.Finding.{kept_pages, kept_at, full_of}
+use Rattle.fl_ring.specs.Head.{one, fulls}
+use Rattle.fl_frame.specs.Reads.{FewReads}
+use Rattle.fl_ring.specs.Mounting.{HasNumbers}
+use Rattle.fl_ring.specs.Place.{next_of, oldest_of}
+use Rattle.fl_ring.specs.Ring.{Shape, room, is_due_at}
+use Rattle.fl_ring.specs.declared.ring.Ring.{Ring}
+use Rattle.fl_index.specs.declared.index.BitmapIndex.{BitmapIndex}
+use Rattle.fl_index.specs.Memory as memory
+use Rattle.fl_ring.specs.declared.fault.RingFault.TheVariants as ring
+use Rattle.fl_index.specs.Finding.{FindsIndex}
+use Rattle.fl_frame.proofs.WatchedInTurn.{cause-later}
+use Rattle.fl_parts.specs.IndexMount.{FewRepairs, FindsBy, FindsBitmaps}
+use Rattle.fl_parts.specs.Bitmaps.{AreSamePlan, AreStillFound, StaysFound}
+use Rattle.fl_parts.specs.Faults.{MountCausedBy}
+use Rattle.fl_parts.specs.declared.mount_fault.MountFault.{MountFault}
+use Rattle.fl_parts.specs.declared.mount_fault.MountFault.TheVariants as mount
+
+-- a ring is found to keep fewer pages than it has
+kept-few : (r : Shape) (full sealed : ℕ) → 1 ≤ r.blocks → sealed < r.per_block → kept_pages r full sealed < room r
+kept-few r full sealed some below = by_test (sealed == r.per_block - 1)
+  where
+    by_test : (b : Bool) → min full (cond b (r.blocks - 2) (r.blocks - 1)) * r.per_block + sealed < r.blocks * r.per_block
+    by_test b =
+        let few : min full (cond b (r.blocks - 2) (r.blocks - 1)) ≤ r.blocks - 1 = at_most b in
+        let le : min full (cond b (r.blocks - 2) (r.blocks - 1)) * r.per_block ≤ (r.blocks - 1) * r.per_block = mul-le-mul_right r.per_block few in
+        let last : (r.blocks - 1 + 1) * r.per_block ≡ (r.blocks - 1) * r.per_block + 1 * r.per_block = add-mul (r.blocks - 1) 1 r.per_block in
+        let same : r.blocks - 1 + 1 ≡ r.blocks = omega (arith, some) in
+        omega (arith, le, last, ap (λ n. n * r.per_block) same, below)
+      where
+        at_most : (b : Bool) → min full (cond b (r.blocks - 2) (r.blocks - 1)) ≤ r.blocks - 1
+        at_most true = omega arith
+        at_most false = omega arith
+
+pub ring-few : (old new : FlashState) (r : Shape) (least : ℕ) (ring : Ring) → 1 ≤ r.blocks → HasNumbers old r least ring new → IsTrue old.media.tells → next_of ring - oldest_of ring ≤ room r
+ring-few old new r least ring some h told =
+    let found = h.is_found told in
+    let few : kept_at old r found.front < room r = kept-few r (fulls (full_of old r) r.blocks) found.front.sealed some found.head.front_is.below in
+    let next = h.next in
+    let more : one h.numbers.torn ≤ 1 = one_at_most h.numbers.torn in
+    let low : h.numbers.oldest ≤ ring.oldest = subst (λ n. h.numbers.oldest ≤ n) (sym h.oldest) (not_less (h.numbers.torn && is_due_at r ring.next (ring.next - h.numbers.oldest))) in
+    omega (arith, few, next, more, low, found.oldest)
+  where
+    one_at_most : (b : Bool) → one b ≤ 1
+    one_at_most true = omega arith
+    one_at_most false = omega arith
+
+    not_less : (b : Bool) → h.numbers.oldest ≤ cond b (h.numbers.oldest + r.per_block) h.numbers.oldest
+    not_less true = omega arith
+    not_less false = omega arith
+
+-- what the mount of the index alone reads, and how often it repairs, where the other rings weren't come to
+pub index-reads : (a b c : ℕ) (old new : FlashState) → FewReads (4 * b) old new → FewReads (4 * (a + b + c)) old new
+index-reads a b c old new few = record { reads = omega (arith, few.reads); media_reads = omega (arith, few.media_reads) }
+
+pub index-repairs : (a b : ℕ) (old new : FlashState) → FewRepairs a old new → FewRepairs (a + b + 1) old new
+index-repairs a b old new few = record { programs = omega (arith, few.programs); erases = omega (arith, few.erases) }
+
+-- the repairs of the index, and behind them those of the other rings
+pub repairs-joined : (a b : ℕ) (old mid new : FlashState) → FewRepairs a old mid → FewRepairs (1 + b) mid new → FewRepairs (a + b + 1) old new
+repairs-joined a b old mid new one other = record { programs = omega (arith, one.programs, other.programs); erases = omega (arith, one.erases, other.erases) }
+
+-- Where entries aren't full, the index that was found is the same where its ring and what is remembered of its pages are.
+pub still-found : (was mid now : Option BitmapIndex) (old new : FlashState) (end : Option ℕ) → FindsBitmaps was old end mid new → AreSamePlan was mid → AreStillFound mid now → IfSome was (λ index. (memory.form_in index).full ≡ false) →
+    FindsBitmaps was old end now new
+still-found None None None old new end h same still bare = h
+still-found None None (Some now) old new end h same still bare = absurd still
+still-found None (Some mid) now old new end h same still bare = absurd h
+still-found (Some was) None now old new end h same still bare = absurd h
+still-found (Some was) (Some mid) None old new end h same still bare = absurd still
+still-found (Some was) (Some mid) (Some now) old new end h same still bare =
+    subst (λ (full : Bool). FindsBy full was old end now new) (sym bare)
+    (by_ring (subst (λ (full : Bool). FindsBy full was old end mid new) bare h) (subst (λ (full : Bool). StaysFound full mid now) (same.full ∙ bare) still))
+  where
+    by_ring : FindsIndex was old end mid new → memory.IsSameRing mid now → FindsIndex was old end now new
+    by_ring h still = record {
+      ring = h.ring;
+      ring_is = still.ring ∙ h.ring_is;
+      ring_reads = h.ring_reads;
+      firsts = λ number low high. ap (λ v. get_or v.items (number % v.len) None) still.firsts ∙ h.firsts number low high;
+      end_is = h.end_is;
+    }
+
+-- why a later part of a mount failed
+pub mount-cause-later : (old mid new : FlashState) → Goes old mid → (old.is_on ≡ true → mid.is_on ≡ true) → (e : MountFault) → MountCausedBy mid e new → MountCausedBy old e new
+mount-cause-later old mid new goes on (mount.Flash fault) h = cause-later old mid new goes on fault h
+mount-cause-later old mid new goes on (mount.Ring (ring.Flash fault)) h = absurd h
+mount-cause-later old mid new goes on (mount.Ring (ring.BadHead heads)) h = tt
+mount-cause-later old mid new goes on (mount.Ring (ring.BadGap page)) h = tt
+mount-cause-later old mid new goes on (mount.Ring (ring.BadPage page wanted found)) h = tt
+mount-cause-later old mid new goes on (mount.Ring (ring.NoNumber least)) h = tt
+mount-cause-later old mid new goes on (mount.BadPage bad) h = tt
+mount-cause-later old mid new goes on (mount.BadKeys page last first) h = tt
+mount-cause-later old mid new goes on (mount.BadIndex end next) h = tt
+mount-cause-later old mid new goes on (mount.BadBlob page next) h = tt
+mount-cause-later old mid new goes on (mount.BadEntry page count limit) h = tt
