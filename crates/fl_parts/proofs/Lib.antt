@@ -84,3 +84,4 @@ pub mod Apart
 pub mod InTurn
 pub mod IndexMounted
 pub mod SealEnds
+pub mod BlobRests

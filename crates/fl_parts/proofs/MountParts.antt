@@ -1,4 +1,4 @@
--- What the parts of a mount cost together, and what a later part says of the whole.
+-- What the parts of a mount cost together, and what a part says of the whole: what it found, and why it failed.
 use Rattle.std.proofs.Common.{◌≡◌, ℕ, ◌+◌, ◌-◌, ◌*◌, ◌<◌, ◌≤◌, min, Bool, true, false, cond, ◌&&◌, ◌==◌, sym, ap, subst, arith, IsTrue, ◌%◌, Option, Some, None, IfSome, get_or, ◌∙◌}
 use Rattle.std.proofs.Math.Nat.{mul-le-mul_right, add-mul}
 use Rattle.fl_flash.specs.Flash.{FlashState, Goes}
@@ -14,11 +14,16 @@ use Rattle.fl_index.specs.Memory as memory
 use Rattle.fl_ring.specs.declared.fault.RingFault.TheVariants as ring
 use Rattle.fl_index.specs.Finding.{FindsIndex}
 use Rattle.fl_frame.proofs.WatchedInTurn.{cause-later}
+use Rattle.fl_flash.specs.declared.flash.FlashFault.TheVariants.{PowerLost, Media}
+use Rattle.fl_ring.specs.Causes as ring_causes
+use Rattle.fl_frame.specs.Causes.{CausedBy, ReadFails}
+use Rattle.fl_ring.specs.declared.fault.RingFault.{RingFault}
 use Rattle.fl_parts.specs.IndexMount.{FewRepairs, FindsBy, FindsBitmaps}
 use Rattle.fl_parts.specs.Bitmaps.{AreSamePlan, AreStillFound, StaysFound}
-use Rattle.fl_parts.specs.Faults.{MountCausedBy}
+use Rattle.fl_parts.specs.Faults.{MountCausedBy, IfFlash, is_of_pages, of_ring}
 use Rattle.fl_parts.specs.declared.mount_fault.MountFault.{MountFault}
 use Rattle.fl_parts.specs.declared.mount_fault.MountFault.TheVariants as mount
+use Rattle.fl_parts.specs.declared.mount_fault.MountFault.TheVariants.{Flash, Ring as OfRing, BadPage, BadKeys, BadIndex, BadBlob, BadEntry}
 
 -- a ring is found to keep fewer pages than it has
 kept-few : (r : Shape) (full sealed : ℕ) → 1 ≤ r.blocks → sealed < r.per_block → kept_pages r full sealed < room r
@@ -98,3 +103,25 @@ mount-cause-later old mid new goes on (mount.BadKeys page last first) h = tt
 mount-cause-later old mid new goes on (mount.BadIndex end next) h = tt
 mount-cause-later old mid new goes on (mount.BadBlob page next) h = tt
 mount-cause-later old mid new goes on (mount.BadEntry page count limit) h = tt
+
+-- why the ring's mount failed
+pub ring-cause : (old new : FlashState) (e : RingFault) → ring_causes.IfFlash (λ fault. CausedBy old fault new) e → MountCausedBy old (of_ring e) new
+ring-cause old new (ring.Flash fault) cause = cause
+ring-cause old new (ring.BadHead heads) cause = tt
+ring-cause old new (ring.BadGap page) cause = tt
+ring-cause old new (ring.BadPage page wanted there) cause = tt
+ring-cause old new (ring.NoNumber least) cause = tt
+
+-- why a kept page wasn't read, or refused
+pub pages-cause : (old mid new : FlashState) → Goes old mid → mid.is_on ≡ true → (e : MountFault) → is_of_pages e ≡ true → IfFlash (λ fault. ReadFails mid fault new) e → MountCausedBy old e new
+pages-cause old mid new goes on (Flash PowerLost) only off = absurd (not_both on off)
+  where
+    not_both : mid.is_on ≡ true → mid.is_on ≡ false → ⊥
+    not_both e k = cc
+pages-cause old mid new goes on (Flash Media) only rises = omega (arith, rises, goes.faults)
+pages-cause old mid new goes on (OfRing fault) only fails = absurd (cc only)
+pages-cause old mid new goes on (BadPage bad) only fails = tt
+pages-cause old mid new goes on (BadKeys number last first) only fails = tt
+pages-cause old mid new goes on (BadIndex end next) only fails = tt
+pages-cause old mid new goes on (BadBlob number next) only fails = tt
+pages-cause old mid new goes on (BadEntry number count limit) only fails = tt

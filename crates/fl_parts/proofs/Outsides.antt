@@ -1,5 +1,5 @@
 -- The pages outside the index and the variable data of a table.
-use Rattle.std.proofs.Common.{◌≡◌, ℕ, Option, Some, None, IfSome, List, sym, ◌∙◌, ap, subst, ◌⊎◌, ◌+◌, ◌<◌, ◌≤◌, inl, inr, arith}
+use Rattle.std.proofs.Common.{◌≡◌, ℕ, Option, Some, None, IfSome, List, sym, ◌∙◌, ap, subst, ◌⊎◌, ◌+◌, ◌<◌, ◌≤◌, inl, inr, arith, ◌*◌}
 use Rattle.fl_base.specs.declared.types.Geometry.{Geometry}
 use Rattle.fl_base.specs.declared.types.RingPlace.{RingPlace}
 use Rattle.fl_index.specs.declared.index.BitmapIndex.{BitmapIndex}
@@ -9,9 +9,16 @@ use Rattle.fl_ring.specs.Ring.{Shape, room}
 use Rattle.fl_var.specs.Memory.{var_shape}
 use Rattle.fl_var.specs.declared.var_data.VarData.{VarData}
 use Rattle.fl_var.proofs.Joins.{same-shape}
-use Rattle.fl_parts.specs.Bitmaps.{AreSamePlan, IsOutside, StandOutside}
+use Rattle.std.proofs.Math.Nat.{mul-le-mul_right}
+use Rattle.fl_flash.specs.Flash.{FlashState, page_at}
+use Rattle.fl_model.specs.Record.{Plan}
+use Rattle.fl_model.specs.Table.{Table, IndexRing}
+use Rattle.fl_parts.specs.Bitmaps.{AreSamePlan, ArePlanned, IsOutside, Stand, StandOutside}
 use Rattle.fl_parts.specs.Blobs as variable
-use Rattle.fl_parts.specs.Bitmaps as bitmaps
+use Rattle.fl_parts.specs.Pages.{bytes_in}
+use Rattle.fl_parts.proofs.BlobSeals.{before-var}
+use Rattle.fl_parts.proofs.IndexOfTable.{stand-moved}
+use Rattle.fl_parts.proofs.Plain.{IsPlainTable}
 
 -- the same rings
 pub bitmaps-outside : (a b : Option BitmapIndex) (page : ℕ) → AreSamePlan a b → IfSome a (λ index. IsOutside (memory.ring_shape index) page) → IfSome b (λ index. IsOutside (memory.ring_shape index) page)
@@ -38,7 +45,7 @@ stand-outside None old new page h out = h page
 stand-outside (Some index) old new page h out = h page out
 
 -- a page outside of the variable data isn't one that a blob may fill
-pub not-filled : (blob : Option (List ℕ)) (blobs : Option VarData) (page : ℕ) → IfSome blobs (λ var. bitmaps.IsOutside (var_shape var) page) → variable.MayFill blob blobs page → ⊥
+pub not-filled : (blob : Option (List ℕ)) (blobs : Option VarData) (page : ℕ) → IfSome blobs (λ var. IsOutside (var_shape var) page) → variable.MayFill blob blobs page → ⊥
 not-filled None blobs page out may = may
 not-filled (Some bytes) None page out may = may
 not-filled (Some bytes) (Some var) page out may = by_side out
@@ -54,3 +61,18 @@ fill-moved (Some bytes) None None plan page may = absurd may
 fill-moved (Some bytes) None (Some now) plan page may = absurd plan
 fill-moved (Some bytes) (Some var) None plan page may = absurd may
 fill-moved (Some bytes) (Some var) (Some now) plan page may = subst (λ (r : Shape). (r.first ≤ page) × (page < r.first + room r)) (same-shape var now plan) may
+
+-- the index pages lie before those of variable data
+pub index-before : (blobs : Option VarData) (old new : ℕ → List ℕ) (first : ℕ) (plan : Plan) → variable.ArePlanned blobs (first + plan.data_blocks + plan.index_blocks) plan → variable.StandOutside blobs old new → 0 < plan.index_blocks * plan.geometry.block → (n : ℕ) →
+    bytes_in new first plan IndexRing n ≡ bytes_in old first plan IndexRing n
+index-before None old new first plan planned outside some n = outside _
+index-before (Some v) old new first plan planned outside some n = (before-var v old new first plan planned outside n).1 some
+
+-- so the index stands where other parts of its table changed
+pub bitmaps-moved : (indexed : Option BitmapIndex) (f g : FlashState) (first : ℕ) (plan : Plan) (table new : Table) → ArePlanned indexed (first + plan.data_blocks) plan → 2 ≤ plan.geometry.block → new.index ≡ table.index → new.index_pages ≡ table.index_pages → new.waiting ≡ table.waiting →
+    new.rows.next ≡ table.rows.next → IsPlainTable plan new → (0 < plan.index_blocks * plan.geometry.block → (n : ℕ) → bytes_in (page_at g) first plan IndexRing n ≡ bytes_in (page_at f) first plan IndexRing n) →
+    Stand indexed f (first + plan.data_blocks) plan table → Stand indexed g (first + plan.data_blocks) plan new
+bitmaps-moved None f g first plan table new planned pages index listed waiting next after same s = waiting ∙ s
+bitmaps-moved (Some indexed) f g first plan table new planned pages index listed waiting next after same s =
+    let k : 3 * plan.geometry.block ≤ plan.index_blocks * plan.geometry.block = mul-le-mul_right plan.geometry.block (omega (arith, planned.blocks, indexed.some_blocks)) in
+    stand-moved (Some indexed) f g first plan table new index listed waiting next after (same (omega (arith, k, pages))) s

@@ -10,61 +10,31 @@ use Rattle.fl_model.specs.Content.{ContentPage}
 use Rattle.fl_model.specs.Facts.{is_some_ring}
 use Rattle.fl_model.specs.Record.{Plan, has_index}
 use Rattle.fl_model.specs.Ring.{Ring}
-use Rattle.fl_model.specs.Table.{Table, RingName, DataRing, IndexRing, VarRing, fill, after_seals, lose, spent_from}
-use Rattle.fl_model.specs.Within.{seals_within, TablePerforms}
-use Rattle.fl_model.specs.Work.{Device, PartEnd, Whole, CutIn, FailedIn, PartProgress}
-use Rattle.fl_frame.specs.Device.{SameDevice}
-use Rattle.fl_ring.specs.Kept.{PagesStand}
-use Rattle.fl_ring.specs.Ring.{OutsideStands}
+use Rattle.fl_model.specs.Table.{Table, RingName, IndexRing, VarRing, after_seals, lose, spent_from}
+use Rattle.fl_model.specs.Work.{Device, Whole}
 use Rattle.fl_frame.specs.Watched.{IsWatched}
 use Rattle.fl_parts.specs.Bitmaps as bitmaps
 use Rattle.fl_parts.specs.Blobs as variable
-use Rattle.fl_parts.specs.Blobs.{ArePlanned, Stand, StandOutside, IsStanding, RestEndsOf, RestEnds, rest_seals, next_of, next_after}
+use Rattle.fl_parts.specs.Blobs.{Stand, StandOutside, IsStanding, RestEndsOf, RestEnds, rest_seals, next_of, next_after}
+use Rattle.fl_parts.proofs.BlobRests.{IsRested, RestedEnds, rest_few, kept-var, fault_ends}
 use Rattle.fl_table.specs.Memory.{IsPlanned}
-use Rattle.fl_parts.specs.Failing.{Breaks, FaultEnds, BySeals}
+use Rattle.fl_parts.specs.Failing.{Breaks, BySeals}
 use Rattle.fl_table.specs.Outcomes.{Finishes}
-use Rattle.fl_parts.specs.Pages.{HoldsTable, KeptStand, bytes_in}
+use Rattle.fl_parts.specs.Pages.{HoldsTable, bytes_in}
 use Rattle.fl_table.specs.Standing.{Stands}
 use Rattle.fl_table.specs.declared.table.Table as code
-use Rattle.fl_parts.proofs.BlobSeals.{IsBesideVar, with_var, before-var, blobs-break, blobs-finish, facts-with_var, seals-keep}
+use Rattle.fl_parts.proofs.BlobSeals.{with_var, blobs-break, blobs-finish, facts-with_var, seals-keep}
 use Rattle.fl_parts.proofs.BlobSteps.{AreVar, after-var, rest-var}
-use Rattle.fl_parts.proofs.BlobTables.{IsBlobbed, standing-blobbed, standing-has, var-pages, var-shape}
-use Rattle.fl_parts.proofs.IndexOfTable.{stand-moved}
+use Rattle.fl_parts.proofs.BlobTables.{IsBlobbed, standing-blobbed, standing-has, var-shape}
 use Rattle.fl_parts.proofs.Plain.{IsPlainTable, plain-lose, table-parts}
 use Rattle.fl_table.proofs.SealAnswers.{planned-shape}
-use Rattle.fl_parts.proofs.KeptPagesStay.{kept-same, pages-same, ring-same}
+use Rattle.fl_parts.proofs.KeptPagesStay.{kept-same}
 use Rattle.fl_parts.proofs.ListsStay.{ring-moved}
 use Rattle.fl_parts.proofs.VarFacts.{HasVar}
 use Rattle.fl_index.specs.Standing.{HasIndex}
-use Rattle.fl_var.specs.Memory.{next_in, page_in, var_shape, waiting_in}
+use Rattle.fl_var.specs.Memory.{next_in, waiting_in}
 use Rattle.fl_var.specs.Placing as placing
 use Rattle.fl_var.specs.declared.var_data.VarData.{VarData}
-
--- ---- the bytes that wait are sealed
-
--- All was done: the variable data are these now, and all else is as it was.
-pub record IsRested (first : ℕ) (plan : Plan) (seals : List RingName) (table : Table) (rose : Bool) (device : Device) (left : Option VarData) (old new : FlashState) : Type 0 where
-  pub now : PartProgress Table
-  pub did : TablePerforms plan rose (seals_within plan seals table) device table now
-  pub whole : now.end ≡ Whole
-  pub counts : SameDevice new now.device
-  pub power : new.is_on ≡ true
-  pub beside : IsBesideVar table (after_seals plan seals table)
-  pub facts : IsPlainTable plan (after_seals plan seals table)
-  pub pages : HoldsTable (page_at new) first plan (lose (after_seals plan seals table))
-  pub blobs : Stand left new (first + plan.data_blocks + plan.index_blocks) plan (after_seals plan seals table)
-  pub stand : KeptStand first plan table (after_seals plan seals table) (page_at old) (page_at new)
-
-abbrev pub RestedEnds : ℕ → Plan → List RingName → Table → Bool → Device → Result (Unit {0}) FlashFault → Option VarData → FlashState → FlashState → Type 0
-RestedEnds first plan seals table rose device (Ok done) left old new = IsRested first plan seals table rose device left old new
-RestedEnds first plan seals table rose device (Err fault) left old new = Breaks first plan (BySeals plan seals table rose device) fault new
-
-rest_few : (table : Table) → length (rest_seals table) ≤ 1
-rest_few table = by_fill (nat_lt 0 (fill table))
-  where
-    by_fill : (b : Bool) → length {A = RingName} (cond b (VarRing ∷ []) []) ≤ 1
-    by_fill true = omega arith
-    by_fill false = omega arith
 
 -- the rings have pages
 pub some-rows : {KNOTS SLOTS : ℕ} (t : code.Table KNOTS SLOTS) (first : ℕ) (plan : Plan) (table : Table) (f : FlashState) → Stands t f first plan table → 0 < plan.data_blocks * plan.geometry.block
@@ -83,30 +53,6 @@ index-pages t first plan table planned has_ring r is =
 
 pub some-index : {KNOTS SLOTS : ℕ} (t : code.Table KNOTS SLOTS) (first : ℕ) (plan : Plan) (table : Table) (f : FlashState) → Stands t f first plan table → (r : Ring) → table.index ≡ Some r → 0 < plan.index_blocks * plan.geometry.block
 some-index t first plan table f s r is = index-pages t first plan table s.planned s.facts.has_rings.0 r is
-
--- the pages of each ring that are kept stand, as the other rings lie before that of variable data
-pub kept-var : (v w : VarData) (f new : FlashState) (first : ℕ) (plan : Plan) (table after : Table) (ring : Ring) → after.rows ≡ table.rows → after.index ≡ table.index → after.var ≡ Some ring →
-    variable.IsPlanned v (first + plan.data_blocks + plan.index_blocks) plan → variable.IsPlanned w (first + plan.data_blocks + plan.index_blocks) plan → OutsideStands (var_shape v) (page_at f) (page_at new) →
-    0 < plan.data_blocks * plan.geometry.block → ((r : Ring) → table.index ≡ Some r → 0 < plan.index_blocks * plan.geometry.block) →
-    ((before : Ring) → table.var ≡ Some before → PagesStand before (page_in v f) ring (page_in w new)) → KeptStand first plan table after (page_at f) (page_at new)
-kept-var v w f new first plan table after ring rows index var planned planned_now outside some some_index stand = record {
-  rows = pages-same table.rows after.rows (bytes_in (page_at f) first plan DataRing) (bytes_in (page_at new) first plan DataRing) rows (λ n. (before-var v (page_at f) (page_at new) first plan planned outside n).0 some);
-  index = ring-same table.index after.index (bytes_in (page_at f) first plan IndexRing) (bytes_in (page_at new) first plan IndexRing) index
-      (λ r is n. (before-var v (page_at f) (page_at new) first plan planned outside n).1 (some_index r is));
-  var = λ a b before is.
-      subst (λ (at : ℕ → List ℕ). PagesStand a at b (bytes_in (page_at new) first plan VarRing)) (sym (var-pages v f first plan planned))
-      (subst (λ (at : ℕ → List ℕ). PagesStand a (page_in v f) b at) (sym (var-pages w new first plan planned_now))
-      (subst (λ (r : Ring). PagesStand a (page_in v f) r (page_in w new)) (one b (sym var ∙ is)) (stand a before)));
-}
-  where
-    one : (b : Ring) → Some ring ≡ Some b → ring ≡ b
-    one b e = cc
-
--- the fault of an operation
-fault_ends : (e : PartEnd Table) (fault : FlashFault) (new : FlashState) → placing.FaultEnds e fault new → FaultEnds e fault new
-fault_ends Whole fault new a = absurd a
-fault_ends (CutIn before) fault new a = a
-fault_ends (FailedIn before) fault new a = a
 
 module _ {KNOTS SLOTS : ℕ} (t : code.Table KNOTS SLOTS) (f new : FlashState) (first : ℕ) (plan : Plan) (table : Table) (rose : Bool) (device : Device) (stands : Stands t f first plan table) (watched : IsWatched f new rose device) where
   facts : IsPlainTable plan table
@@ -194,21 +140,6 @@ module _ {KNOTS SLOTS : ℕ} (t : code.Table KNOTS SLOTS) (f new : FlashState) (
                 s.stands.in_pages.ring.ring_is standing.planned s.stands.planned outside (some-rows t first plan table f stands) (some-index t first plan table f stands) s.stand;
           }
       by_result (Err fault) at b = var-breaks v is outside (rest_seals table) (rest-var table) table refl refl has (omega (arith, low, rest_few table)) fault b
-
--- the index pages lie before those of variable data
-pub index-before : (blobs : Option VarData) (old new : ℕ → List ℕ) (first : ℕ) (plan : Plan) → ArePlanned blobs (first + plan.data_blocks + plan.index_blocks) plan → StandOutside blobs old new → 0 < plan.index_blocks * plan.geometry.block → (n : ℕ) →
-    bytes_in new first plan IndexRing n ≡ bytes_in old first plan IndexRing n
-index-before None old new first plan planned outside some n = outside _
-index-before (Some v) old new first plan planned outside some n = (before-var v old new first plan planned outside n).1 some
-
--- so the index stands where other parts of its table changed
-pub bitmaps-moved : (indexed : Option BitmapIndex) (f g : FlashState) (first : ℕ) (plan : Plan) (table new : Table) → bitmaps.ArePlanned indexed (first + plan.data_blocks) plan → 2 ≤ plan.geometry.block → new.index ≡ table.index → new.index_pages ≡ table.index_pages → new.waiting ≡ table.waiting →
-    new.rows.next ≡ table.rows.next → IsPlainTable plan new → (0 < plan.index_blocks * plan.geometry.block → (n : ℕ) → bytes_in (page_at g) first plan IndexRing n ≡ bytes_in (page_at f) first plan IndexRing n) →
-    bitmaps.Stand indexed f (first + plan.data_blocks) plan table → bitmaps.Stand indexed g (first + plan.data_blocks) plan new
-bitmaps-moved None f g first plan table new planned pages index listed waiting next after same s = waiting ∙ s
-bitmaps-moved (Some indexed) f g first plan table new planned pages index listed waiting next after same s =
-    let k : 3 * plan.geometry.block ≤ plan.index_blocks * plan.geometry.block = mul-le-mul_right plan.geometry.block (omega (arith, planned.blocks, indexed.some_blocks)) in
-    stand-moved (Some indexed) f g first plan table new index listed waiting next after (same (omega (arith, k, pages))) s
 
 -- .. as its variable data
 pub bitmaps-stand : (indexed : Option BitmapIndex) (f g : FlashState) (first : ℕ) (plan : Plan) (table : Table) (ring : Option Ring) (pages : List ContentPage) (bytes : List ℕ) → bitmaps.ArePlanned indexed (first + plan.data_blocks) plan → 2 ≤ plan.geometry.block →

@@ -23,7 +23,9 @@ use Rattle.fl_parts.proofs.JoinedEntries.{entry_of, joined_to, joined-facts, joi
 use Rattle.fl_table.specs.Standing.{Stands}
 use Rattle.fl_table.specs.declared.table.Table as code
 use Rattle.fl_parts.proofs.BlobSteps.{after-var, fill-var, no-fill}
-use Rattle.fl_table.proofs.BlobStands.{some-rows, some-index, index-before, bitmaps-moved, kept-var, standing-in, var-breaks, var-finishes}
+use Rattle.fl_parts.proofs.BlobRests.{kept-var}
+use Rattle.fl_parts.proofs.Outsides.{index-before, bitmaps-moved}
+use Rattle.fl_table.proofs.BlobStands.{some-rows, some-index, standing-in, var-breaks, var-finishes}
 use Rattle.fl_parts.proofs.BlobTables.{IsBlobbed, standing-has}
 use Rattle.fl_parts.proofs.BlobsOfTable.{none-var, planned-none}
 use Rattle.fl_parts.proofs.IndexOfTable.{index-number}

@@ -1,12 +1,10 @@
 -- What the calls of a mount say of its table.
-use Rattle.std.proofs.Common.{◌≡◌, ℕ, ◌+◌, ◌-◌, ◌<◌, ◌≤◌, true, false, Option, Some, None, List, refl, sym, ◌∙◌, ap, subst, arith, inl, inr}
+use Rattle.std.proofs.Common.{◌≡◌, ℕ, ◌+◌, ◌-◌, ◌<◌, ◌≤◌, true, Option, Some, None, List, refl, sym, ◌∙◌, ap, subst, inl, inr}
 use Rattle.fl_base.specs.declared.types.Geometry.{Geometry}
 use Rattle.fl_base.specs.declared.types.RingPlace.{RingPlace}
-use Rattle.fl_flash.specs.Flash.{FlashState, Goes, page_at}
-use Rattle.fl_flash.specs.declared.flash.FlashFault.TheVariants.{PowerLost, Media}
+use Rattle.fl_flash.specs.Flash.{FlashState, page_at}
 use Rattle.fl_model.specs.Record.{Plan}
-use Rattle.fl_ring.specs.Causes as ring_causes
-use Rattle.fl_frame.specs.Causes.{CausedBy, ReadFails}
+use Rattle.fl_frame.specs.Causes.{ReadFails}
 use Rattle.fl_ring.specs.Finding.{FoundFault}
 use Rattle.fl_frame.specs.Reads.{OnlyReads}
 use Rattle.fl_ring.specs.Mounting.{shape_at, HasNumbers, FailsAs}
@@ -18,7 +16,7 @@ use Rattle.fl_ring.specs.declared.ring.Ring.{Ring}
 use Rattle.fl_ring.proofs.Founds.{same_pages}
 use Rattle.fl_frame.proofs.ReadsInTurn.{same_page}
 use Rattle.fl_schema.specs.Schema.{layout_of}
-use Rattle.fl_parts.specs.Faults.{IfFlash, IfPage, MountCausedBy, is_of_pages, of_ring}
+use Rattle.fl_parts.specs.Faults.{IfFlash, IfPage, is_of_pages, of_ring}
 use Rattle.fl_model.specs.Table.{IndexRing, VarRing}
 use Rattle.fl_table.specs.Memory.{IsPlanned, IsSamePlan}
 use Rattle.fl_parts.specs.Pages.{bytes_in, place_in}
@@ -166,25 +164,3 @@ refuses-end old new bitmaps f g least next ring same geometry numbers is beyond 
   next_is = is;
   beyond = beyond;
 }
-
--- why the ring's mount failed
-pub ring-cause : (old new : FlashState) (e : RingFault) → ring_causes.IfFlash (λ fault. CausedBy old fault new) e → MountCausedBy old (of_ring e) new
-ring-cause old new (ring.Flash fault) cause = cause
-ring-cause old new (ring.BadHead heads) cause = tt
-ring-cause old new (ring.BadGap page) cause = tt
-ring-cause old new (ring.BadPage page wanted there) cause = tt
-ring-cause old new (ring.NoNumber least) cause = tt
-
--- why a kept page wasn't read, or refused
-pub pages-cause : (old mid new : FlashState) → Goes old mid → mid.is_on ≡ true → (e : MountFault) → is_of_pages e ≡ true → IfFlash (λ fault. ReadFails mid fault new) e → MountCausedBy old e new
-pages-cause old mid new goes on (Flash PowerLost) only off = absurd (not_both on off)
-  where
-    not_both : mid.is_on ≡ true → mid.is_on ≡ false → ⊥
-    not_both e k = cc
-pages-cause old mid new goes on (Flash Media) only rises = omega (arith, rises, goes.faults)
-pages-cause old mid new goes on (OfRing fault) only fails = absurd (cc only)
-pages-cause old mid new goes on (BadPage bad) only fails = tt
-pages-cause old mid new goes on (BadKeys number last first) only fails = tt
-pages-cause old mid new goes on (BadIndex end next) only fails = tt
-pages-cause old mid new goes on (BadBlob number next) only fails = tt
-pages-cause old mid new goes on (BadEntry number count limit) only fails = tt

@@ -34,7 +34,8 @@ use Rattle.fl_parts.specs.declared.mount_fault.MountFault.TheVariants as mount
 use Rattle.fl_table.specs.declared.mount.FoundRows.{FoundRows}
 use Rattle.fl_table.specs.declared.table.Table as code
 use Rattle.fl_parts.proofs.BlobSeals.{with_var, facts-with_var, holds-with_var}
-use Rattle.fl_table.proofs.BlobStands.{bitmaps-stand, index-before, index-pages}
+use Rattle.fl_parts.proofs.Outsides.{index-before}
+use Rattle.fl_table.proofs.BlobStands.{bitmaps-stand, index-pages}
 use Rattle.fl_parts.proofs.BlobTables.{IsBlobbed, IsLed, blobbed-in, ring-blobbed, ring-holds, ring-led, rests-var}
 use Rattle.fl_parts.proofs.BlobsOfTable.{planned-none, planned-some}
 use Rattle.fl_parts.proofs.Loose.{IsLoose, loose-paged, loose-with_var, paged-loose}

@@ -13,7 +13,7 @@ use Rattle.fl_ring.proofs.Founds.{same_pages}
 use Rattle.fl_parts.specs.Faults.{IfPage}
 use Rattle.fl_table.specs.Look.{layout_in}
 use Rattle.fl_frame.proofs.WatchedInTurn.{watched-first, watched-then, cause-later}
-use Rattle.fl_table.proofs.MountCalls.{pages-cause}
+use Rattle.fl_parts.proofs.MountParts.{pages-cause}
 use Rattle.fl_table.proofs.Outsides.{outside-same}
 use Rattle.fl_table.proofs.SealAnswers.{plan-self, same-then}
 use Rattle.fl_parts.proofs.Sizes.{table-fits}

@@ -15,8 +15,7 @@ use Rattle.fl_parts.proofs.Firsts.{room-same}
 use Rattle.fl_parts.proofs.FoundReads.{index-within, reads-joined}
 use Rattle.fl_frame.proofs.WatchedInTurn.{watched-first, watched-then}
 use Rattle.fl_frame.specs.Reads.{FewReads}
-use Rattle.fl_table.proofs.MountCalls.{ring-cause}
-use Rattle.fl_parts.proofs.MountParts.{index-reads, index-repairs, repairs-joined, mount-cause-later}
+use Rattle.fl_parts.proofs.MountParts.{ring-cause, index-reads, index-repairs, repairs-joined, mount-cause-later}
 use Rattle.fl_parts.proofs.Outsides.{stand-outside, blobs-outside}
 use Rattle.fl_table.proofs.MountJoined.{index-limit, limit-then, mount-fails, mount-then, finds-as, refuses-by}
 use Rattle.fl_table.proofs.SealAnswers.{planned-same, same-then}

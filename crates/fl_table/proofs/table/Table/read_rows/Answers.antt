@@ -11,7 +11,8 @@ use Rattle.fl_ring.specs.Ring.{Shape, OutsideStands}
 use Rattle.fl_parts.specs.Coming.{index_pages_of}
 use Rattle.fl_find.specs.Index.{error_in}
 use Rattle.fl_parts.proofs.IndexOfTable.{found-same}
-use Rattle.fl_table.proofs.MountCalls.{same-shape, outside-stands, index-still, refuses-ring, refuses-end, refuses-page, finds-data, finds-firsts, learns, same-waits, ring-cause, pages-cause}
+use Rattle.fl_parts.proofs.MountParts.{ring-cause, pages-cause}
+use Rattle.fl_table.proofs.MountCalls.{same-shape, outside-stands, index-still, refuses-ring, refuses-end, refuses-page, finds-data, finds-firsts, learns, same-waits}
 use Rattle.fl_table.proofs.MountEnded.{mounting-of, ring-fails, ring-ends, ring-mounts, ends-within}
 use Rattle.fl_table.proofs.MountKept.{kept-fails, kept-limit, kept-well, ring-limit}
 use Rattle.fl_parts.proofs.MountLimits.{rows-within}

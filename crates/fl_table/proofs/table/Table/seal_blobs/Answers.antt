@@ -1,10 +1,10 @@
 use Rattle.std.proofs.Common.{sym, ◌∙◌, ◌+◌, Ok, Err, arith, ap, refl, None}
 use Rattle.fl_flash.specs.Flash.{page_at}
 use Rattle.fl_parts.specs.Blobs.{rest_seals}
-use Rattle.fl_table.proofs.BlobStands.{rest-done, rested-finishes, index-before, bitmaps-stand}
+use Rattle.fl_parts.proofs.Outsides.{index-before, var-outside}
+use Rattle.fl_table.proofs.BlobStands.{rest-done, rested-finishes, bitmaps-stand}
 use Rattle.fl_parts.proofs.BlobsOfTable.{after-empty, numbers-left, same-some, still-planned}
 use Rattle.fl_parts.proofs.Plain.{table-facts}
-use Rattle.fl_parts.proofs.Outsides.{var-outside}
 use Rattle.fl_table.proofs.ReadsKeepTable.{lies-moved}
 use Rattle.fl_ring.specs.declared.ring.Ring.{Ring}
 use Rattle.fl_parts.proofs.IndexOfTable.{plan-same, none-is, none-there}
