@@ -23,10 +23,9 @@ use Rattle.fl_page.specs.declared.fault.ReadFault.TheVariants.{Flash, BadPage}
 use Rattle.fl_table.specs.Look.{oldest_in, rows_noted, place_of}
 use Rattle.fl_table.specs.Memory.{next_in}
 use Rattle.fl_parts.specs.Skipping as skipping
-use Rattle.fl_parts.specs.Skipping.{AreFresh, AreScanning, HoldGood, IsBadIndex, LooksOn, wants_page}
-use Rattle.fl_table.specs.Skipping.{ShowsPage}
-use Rattle.fl_table.specs.declared.look_ahead.Ahead.{Ahead}
-use Rattle.fl_table.specs.declared.look_ahead.Ahead.TheVariants.{Wanted, Missed, Beyond}
+use Rattle.fl_parts.specs.Skipping.{AreFresh, AreScanning, HoldGood, IsBadIndex, LooksOn, wants_page, ShowsPage}
+use Rattle.fl_parts.specs.declared.ahead.Ahead.{Ahead}
+use Rattle.fl_parts.specs.declared.ahead.Ahead.TheVariants.{Wanted, Missed, Beyond}
 use Rattle.fl_table.specs.Standing.{Stands}
 use Rattle.fl_table.specs.declared.table.Table.{Table}
 use Rattle.fl_cursor.specs.Asked.{is_asked}

@@ -31,7 +31,7 @@ use Rattle.fl_table.specs.Memory.{next_in}
 use Rattle.fl_table.specs.declared.table.Table.{Table}
 use Rattle.fl_parts.proofs.KeptPages.{sum-next}
 use Rattle.fl_table.proofs.MemoryTells.{next-is, oldest-is}
-use Rattle.fl_table.proofs.Skips.{index-stands}
+use Rattle.fl_table.proofs.IndexStands.{index-stands}
 use Rattle.fl_cursor.specs.Cursor.{IsStanding}
 use Rattle.fl_cursor.specs.Listed.{rows_on, rows_over, rows_of}
 use Rattle.fl_cursor.specs.Reads.{begins_by, start_of, pages_looked_up}

@@ -44,7 +44,7 @@ use Rattle.fl_index.proofs.Spanned.{unread-full}
 use Rattle.fl_model.specs.Image.{rows_at}
 use Rattle.fl_model.specs.Ring as rings
 use Rattle.fl_parts.specs.Skipping.{unread_of, wants_page}
-use Rattle.fl_table.proofs.Skips.{index-stands}
+use Rattle.fl_table.proofs.IndexStands.{index-stands}
 
 -- a page with rows, none of which is the last that may be given, begins by the high key
 not-last : (top : Option ℕ) (high : ℕ) (rows : List Row) → IsBounded top high → 0 < length rows → has_last top rows ≡ false → begins_by high rows ≡ true

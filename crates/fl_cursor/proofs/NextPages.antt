@@ -14,8 +14,8 @@ use Rattle.fl_page.specs.declared.fault.ReadFault.{ReadFault}
 use Rattle.fl_table.specs.Look.{layout_in, oldest_in, rows_noted, buffered_rows}
 use Rattle.fl_table.specs.Memory.{next_in}
 use Rattle.fl_parts.specs.Skipping.{AreScanning, HoldGood, LooksOn, unread_of, due_of}
-use Rattle.fl_table.specs.declared.look_ahead.Ahead.{Ahead}
-use Rattle.fl_table.specs.declared.look_ahead.Ahead.TheVariants.{Wanted, Missed, Beyond}
+use Rattle.fl_parts.specs.declared.ahead.Ahead.{Ahead}
+use Rattle.fl_parts.specs.declared.ahead.Ahead.TheVariants.{Wanted, Missed, Beyond}
 use Rattle.fl_cursor.specs.Asked.{is_asked}
 use Rattle.fl_cursor.specs.Cursor.{table_of, asked_of, buffer_of, index_page, rows_behind, Passes, IsPlaced, IsTold, IsLooking, AreFreshIn}
 use Rattle.fl_cursor.specs.Going.{Goes, Fails}

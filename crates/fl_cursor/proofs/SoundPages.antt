@@ -19,11 +19,10 @@ use Rattle.fl_model.specs.Row.{Row}
 use Rattle.fl_page.specs.Page.{IsGoodPage, rows_in}
 use Rattle.fl_parts.proofs.Skipping.{looked-any}
 use Rattle.fl_table.specs.Finding.{IsPageFor}
-use Rattle.fl_table.specs.Look.{buckets_in, buffered_rows, layout_in, oldest_in, rows_noted}
-use Rattle.fl_parts.specs.Skipping.{AreFresh, IsLookedUpBy}
-use Rattle.fl_table.specs.Skipping.{IsToldBy, index_in}
-use Rattle.fl_table.specs.declared.look_ahead.Ahead.{Ahead}
-use Rattle.fl_table.specs.declared.look_ahead.Ahead.TheVariants.{Wanted, Missed, Beyond}
+use Rattle.fl_table.specs.Look.{buckets_in, buffered_rows, layout_in, oldest_in, rows_noted, index_in}
+use Rattle.fl_parts.specs.Skipping.{AreFresh, IsLookedUpBy, IsToldBy}
+use Rattle.fl_parts.specs.declared.ahead.Ahead.{Ahead}
+use Rattle.fl_parts.specs.declared.ahead.Ahead.TheVariants.{Wanted, Missed, Beyond}
 use Rattle.fl_table.specs.declared.table.Table.{Table}
 use Rattle.fl_cursor.specs.Asked.{is_last, is_left, lowest_of}
 use Rattle.fl_cursor.specs.Cursor.{AreFreshIn, asked_of, buffer_of, has_ended, is_end, mark_of, table_of}

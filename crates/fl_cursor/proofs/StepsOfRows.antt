@@ -16,7 +16,7 @@ use Rattle.fl_index.proofs.Goods.{kept-good}
 use Rattle.fl_mark.specs.Mark.{state_of_page}
 use Rattle.fl_parts.specs.Bitmaps.{LieOn}
 use Rattle.fl_table.specs.declared.table.Table.{Table}
-use Rattle.fl_table.proofs.Skips.{index-stands}
+use Rattle.fl_table.proofs.IndexStands.{index-stands}
 use Rattle.fl_cursor.specs.Asked.{asked_by, is_left}
 use Rattle.fl_cursor.specs.Cursor.{table_of, asked_of, buffer_of, index_page, present_of, left_of, is_end, has_ended, rows_behind, IsStanding, IsTold, AreBadIn, IfBad, MayBeBad}
 use Rattle.fl_cursor.specs.Going.{Goes, Fails}

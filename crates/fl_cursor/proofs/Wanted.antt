@@ -32,7 +32,7 @@ use Rattle.fl_parts.specs.Skipping.{mask_for, wants_page}
 use Rattle.fl_parts.specs.Skipping as skipping
 use Rattle.fl_table.specs.declared.table.Table.{Table}
 use Rattle.fl_parts.proofs.Skipping.{mask-meets}
-use Rattle.fl_table.proofs.Skips.{index-stands, some-bits}
+use Rattle.fl_table.proofs.IndexStands.{index-stands, some-bits}
 use Rattle.fl_cursor.specs.Asked.{is_asked}
 use Rattle.fl_cursor.specs.Cursor.{IsStanding}
 use Rattle.fl_cursor.specs.Listed.{rows_on}

@@ -24,10 +24,9 @@ use Rattle.fl_page.specs.Steps.{Ascends}
 use Rattle.fl_page.specs.declared.fault.BadPage.{BadPage}
 use Rattle.fl_page.specs.declared.fault.ReadFault.{ReadFault}
 use Rattle.fl_page.specs.declared.fault.ReadFault.TheVariants as fault
-use Rattle.fl_table.specs.Look.{layout_in, oldest_in, buffered_rows}
+use Rattle.fl_table.specs.Look.{layout_in, oldest_in, buffered_rows, index_in}
 use Rattle.fl_table.specs.Memory.{is_running, next_in, pending_in, LiesOn}
 use Rattle.fl_parts.specs.Skipping.{AreScanning, HoldGood}
-use Rattle.fl_table.specs.Skipping.{index_in}
 use Rattle.fl_table.specs.Standing.{Stands}
 use Rattle.fl_table.specs.declared.table.Table.{Table}
 use Rattle.fl_cursor.specs.Asked.{asked_by, is_left}

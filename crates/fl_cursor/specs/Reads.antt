@@ -13,10 +13,9 @@ use Rattle.fl_frame.specs.Contents.{Contents}
 use Rattle.fl_page.specs.Page.{rows_in}
 use Rattle.fl_find.specs.Index.{most_reads}
 use Rattle.fl_find.specs.Pages.{first_key}
-use Rattle.fl_table.specs.Look.{layout_in, oldest_in, rows_noted, buffered_rows, voids_noted, learned_in, buckets_in}
+use Rattle.fl_table.specs.Look.{layout_in, oldest_in, rows_noted, buffered_rows, voids_noted, learned_in, buckets_in, index_in}
 use Rattle.fl_table.specs.Memory.{next_in}
 use Rattle.fl_parts.specs.Skipping.{mask_for, unread_of, due_of}
-use Rattle.fl_table.specs.Skipping.{index_in}
 use Rattle.fl_table.specs.declared.table.Table.{Table}
 use Rattle.fl_cursor.specs.Asked.{is_asked, is_last, lowest_of}
 use Rattle.fl_cursor.specs.Cursor.{table_of, asked_of, buffer_of, index_page}

@@ -10,12 +10,11 @@ use Rattle.fl_model.specs.Query.{is_up_to}
 use Rattle.fl_model.specs.Row.{Row}
 use Rattle.fl_page.specs.Page.{rows_in}
 use Rattle.fl_table.specs.Finding.{IsPageFor, end_in}
-use Rattle.fl_table.specs.Look.{buckets_in, buffered_rows, layout_in, oldest_in, rows_noted}
+use Rattle.fl_table.specs.Look.{buckets_in, buffered_rows, layout_in, oldest_in, rows_noted, index_in}
 use Rattle.fl_table.specs.Memory.{next_in}
-use Rattle.fl_parts.specs.Skipping.{IsLookedUp}
-use Rattle.fl_table.specs.Skipping.{index_in, IsToldBy}
-use Rattle.fl_table.specs.declared.look_ahead.Ahead.{Ahead}
-use Rattle.fl_table.specs.declared.look_ahead.Ahead.TheVariants.{Missed, Beyond}
+use Rattle.fl_parts.specs.Skipping.{IsLookedUp, IsToldBy}
+use Rattle.fl_parts.specs.declared.ahead.Ahead.{Ahead}
+use Rattle.fl_parts.specs.declared.ahead.Ahead.TheVariants.{Missed, Beyond}
 use Rattle.fl_table.specs.declared.table.Table.{Table}
 use Rattle.fl_cursor.specs.Asked.{lowest_of}
 use Rattle.fl_cursor.specs.Cursor.{AreFreshIn, asked_of, buffer_of, index_page, place_of, table_of}

@@ -1,5 +1,5 @@
--- What the index of a table tells of a data page before it is read, and what index pages are read for it.
-use Rattle.std.specs.Prelude.{◌≡◌, ◌⊎◌, ℕ, ◌+◌, ◌-◌, ◌^◌, ◌<◌, ◌≤◌, Bool, true, false, not, ◌&&◌, ◌||◌, nat_lt, Option, Some, None, Result, OnOk, List, ◌∷◌, bit_and, if◌then◌else◌}
+-- What is known of a data page before it is read, as far as its index entry tells, and what index pages are read for it.
+use Rattle.std.specs.Prelude.{◌≡◌, ◌⊎◌, ℕ, ◌+◌, ◌-◌, ◌^◌, ◌<◌, ◌≤◌, Bool, true, false, not, ◌&&◌, ◌||◌, nat_lt, Option, Some, None, Result, OnOk, List, ◌∷◌, bit_and, if◌then◌else◌, ◌==◌, Ok, Err}
 use Rattle.std.specs.List.{AllByRecursion}
 use Rattle.fl_base.specs.declared.types.Span.{Span}
 use Rattle.fl_bitmap.specs.Bucket.{mask_in}
@@ -22,6 +22,9 @@ use Rattle.fl_model.specs.Record.{Plan}
 use Rattle.fl_model.specs.Table.{Table, Entry, first_key}
 use Rattle.fl_page.specs.declared.fault.BadPage.{BadPage as Refusal}
 use Rattle.fl_page.specs.declared.fault.ReadFault.{ReadFault}
+use Rattle.fl_page.specs.declared.fault.ReadFault.TheVariants.{Flash, BadPage}
+use Rattle.fl_parts.specs.declared.ahead.Ahead.{Ahead}
+use Rattle.fl_parts.specs.declared.ahead.Ahead.TheVariants.{Wanted, Missed, Beyond}
 
 -- a kept index page that a buffer holds has the bytes that stand on the flash
 abbrev pub AreFresh : Option BitmapIndex → FlashState → BufferState → Type 0
@@ -65,10 +68,27 @@ abbrev pub is_beyond : Plan → Table → Option Span → Option ℕ → ℕ →
 is_beyond plan table None top number entries = false
 is_beyond plan table (Some span) top number entries = plan.full_index && is_indexed plan table number && not (is_up_to top (first_key entries))
 
+-- what is known of a page with these rows
+abbrev pub ahead_of : Plan → Table → Option Span → Option ℕ → ℕ → List Entry → Ahead
+ahead_of plan table span top number entries =
+    if is_beyond plan table span top number entries then Beyond
+    else if wants_page plan table span number entries then Wanted else Missed
+
+-- For a table of the model: what is known of a page with these rows. No index page is bad.
+abbrev pub ShowsPage : Plan → Table → Option Span → Option ℕ → ℕ → List Entry → Result Ahead ReadFault → Type 0
+ShowsPage plan table span top number entries (Ok ahead) = ahead ≡ ahead_of plan table span top number entries
+ShowsPage plan table span top number entries (Err (Flash fault)) = Unit {0}
+ShowsPage plan table span top number entries (Err (BadPage bad)) = ⊥
+
 -- a full entry tells a first key above the greatest one wanted
 abbrev pub begins_above : Option ℕ → Option Full → Bool
 begins_above top None = false
 begins_above top (Some full) = not (is_up_to top full.first_key)
+
+-- what an entry tells of its page, for the bits of a span
+abbrev pub ahead_by : ℕ → Option ℕ → Found → Ahead
+ahead_by mask top found =
+    if begins_above top found.full then Beyond else if bit_and found.bitmap mask == 0 then Missed else Wanted
 
 -- the buckets of a span as bits; none where a table has no buckets
 abbrev pub mask_for : Option Buckets → Span → ℕ
@@ -87,6 +107,12 @@ pub record IsEntryOn (index : BitmapIndex) (page : ℕ → List ℕ) (number lis
 abbrev pub IsEntryOf : BitmapIndex → (ℕ → List ℕ) → ℕ → Found → Type 0
 IsEntryOf index page number found =
     ((is_waiting index number ≡ true) × (found ≡ found_waiting index (number - first_waiting index))) ⊎ ((listing : ℕ) × IsEntryOn index page number listing found)
+
+-- Where values are asked for and there is an index, over pages of these bytes: an entry of a data page tells this of it.
+abbrev pub IsToldBy : Option BitmapIndex → Option Buckets → (ℕ → List ℕ) → Option Span → Option ℕ → ℕ → Ahead → Type 0
+IsToldBy bitmaps buckets page None top number ahead = ⊥
+IsToldBy None buckets page (Some span) top number ahead = ⊥
+IsToldBy (Some index) buckets page (Some span) top number ahead = (found : Found) × IsEntryOf index page number found × (ahead ≡ ahead_by (mask_for buckets span) top found)
 
 -- a kept index page lists a data page, and is good or not committed
 pub record IsListedBy (index : BitmapIndex) (page : ℕ → List ℕ) (number listing : ℕ) : Type 0 where

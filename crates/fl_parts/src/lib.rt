@@ -1,6 +1,7 @@
 //! The parts of a table: its index and its variable data, where it has them, and what a mount learns of the data pages that it keeps.
 #![tactic(auto)]
 
+mod ahead;
 mod bitmaps;
 mod blob_end;
 mod blobs;
@@ -11,6 +12,7 @@ mod load;
 mod mount_fault;
 mod values;
 
+pub use ahead::Ahead;
 pub use bitmaps::{first_to_wait, make_room, mount_bitmaps, note_entry, restart};
 pub use blob_end::{least_of, reference_end};
 pub use blobs::{mount_within, place, seal_rest};

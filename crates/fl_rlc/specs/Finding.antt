@@ -17,7 +17,7 @@ use Rattle.fl_parts.specs.Bitmaps.{IsOutside}
 use Rattle.fl_parts.specs.Faults.{of_ring, IfFlash, IfPage, is_of_pages}
 use Rattle.fl_table.specs.Memory.{pending_in, ring_shape, MaySeal}
 use Rattle.fl_table.specs.Mounting.{rings_in}
-use Rattle.fl_table.specs.Skipping.{index_in}
+use Rattle.fl_table.specs.Look.{index_in}
 use Rattle.fl_parts.specs.declared.mount_fault.MountFault.{MountFault}
 use Rattle.fl_parts.specs.declared.mount_fault.MountFault.TheVariants as mount
 use Rattle.fl_table.specs.declared.table.Table.{Table}

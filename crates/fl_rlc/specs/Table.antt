@@ -8,11 +8,10 @@ use Rattle.fl_model.specs.Record.{Plan, RowLayout, blocks_of}
 use Rattle.fl_page.specs.Writer.{Gathers}
 use Rattle.fl_table.specs.BlobAt.{data_in}
 use Rattle.fl_parts.specs.Bitmaps.{IsOutside}
-use Rattle.fl_table.specs.Look.{counts_in}
+use Rattle.fl_table.specs.Look.{counts_in, index_in}
 use Rattle.fl_table.specs.Memory as table
 use Rattle.fl_table.specs.Memory.{ring_shape}
 use Rattle.fl_table.specs.Mounting as mounting
-use Rattle.fl_table.specs.Skipping.{index_in}
 use Rattle.fl_table.specs.declared.counts.Mounted.{Mounted}
 use Rattle.fl_table.specs.declared.table.Table.{Table}
 use Rattle.fl_var.specs.Memory.{var_shape}

@@ -9,7 +9,7 @@ use Rattle.fl_rlc.specs.declared.table.LoggedTable.{LoggedTable}
 use Rattle.fl_table.specs.BlobAt.{data_in}
 use Rattle.fl_parts.specs.Bitmaps.{IsOutside}
 use Rattle.fl_table.specs.Memory.{ring_shape}
-use Rattle.fl_table.specs.Skipping.{index_in}
+use Rattle.fl_table.specs.Look.{index_in}
 use Rattle.fl_table.specs.declared.counts.Mounted.{Mounted}
 use Rattle.fl_var.specs.Memory.{var_shape}
 use Rattle.fl_store.specs.declared.tables.BadMount.{BadMount}

@@ -32,6 +32,6 @@ pub mod PendingKey
 pub mod Finds
 pub mod VoidPages
 pub mod Slots
-pub mod Skips
+pub mod IndexStands
 pub mod Entries
 pub mod Writing

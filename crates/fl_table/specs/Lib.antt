@@ -2,7 +2,6 @@ pub mod Memory
 pub mod Stored
 pub mod Refusal
 pub mod Standing
-pub mod Skipping
 pub mod Outcomes
 pub mod Laws
 pub mod Causes

@@ -3,6 +3,7 @@ use Rattle.std.specs.Prelude.{ℕ, ◌+◌, ◌-◌, ◌%◌, ◌==◌, Option, 
 use Rattle.std.specs.List.{range_with_len}
 use Rattle.fl_bitmap.specs.declared.buckets.Buckets.{Buckets}
 use Rattle.fl_find.specs.declared.index.KeyIndex.{KeyIndex}
+use Rattle.fl_index.specs.declared.index.BitmapIndex.{BitmapIndex}
 use Rattle.fl_model.specs.Record.{RowLayout}
 use Rattle.fl_model.specs.Row.{Row}
 use Rattle.fl_model.specs.Spline.{voids_of}
@@ -46,6 +47,10 @@ voids_noted t = t.voids
 -- where the pages of keys are
 abbrev pub learned_in : {KNOTS SLOTS : ℕ} → Table KNOTS SLOTS → KeyIndex KNOTS SLOTS
 learned_in t = t.index
+
+-- the index of its pages' values, where it has one
+abbrev pub index_in : {KNOTS SLOTS : ℕ} → Table KNOTS SLOTS → Option BitmapIndex
+index_in t = t.bitmaps
 
 -- the buckets of its bitmaps, where its pages have any
 abbrev pub buckets_in : {KNOTS SLOTS : ℕ} → Table KNOTS SLOTS → Option Buckets

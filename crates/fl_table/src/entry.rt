@@ -16,7 +16,7 @@ impl<const KNOTS: usize, const SLOTS: usize> Table<KNOTS, SLOTS> {
     ghost use Rattle.fl_parts.specs.Entries.{LookFrom, LookUp, ShowsFound};
     ghost use Rattle.fl_table.specs.Memory.{LiesOn};
     ghost use Rattle.fl_parts.specs.Skipping.{AreFresh, HoldGood, IsBadIndex};
-    ghost use Rattle.fl_table.specs.Skipping.{index_in};
+    ghost use Rattle.fl_table.specs.Look.{index_in};
     ghost use Rattle.fl_table.specs.Standing.{Stands};
 
     /// The index entry of the page with this number, and none where the page isn't indexed, as in a table without an index.

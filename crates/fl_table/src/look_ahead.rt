@@ -9,17 +9,7 @@ use fl_base::Span;
 use fl_flash::{Flash, PageBuf};
 use fl_index::{Found, Full};
 use fl_page::ReadFault;
-
-/// What a scan in ascending order of keys knows of a page before it reads it.
-#[derive(Clone, Copy, Debug, PartialEq, Eq)]
-pub enum Ahead {
-    /// It has to be read.
-    Wanted,
-    /// None of its rows has a first value in the span.
-    Missed,
-    /// Its first key is above the greatest one wanted, and so is each key behind it.
-    Beyond,
-}
+use fl_parts::Ahead;
 
 impl<const KNOTS: usize, const SLOTS: usize> Table<KNOTS, SLOTS> {
     ghost use Rattle.std.specs.Prelude.{ℕ, List, [], IfOk, bit_and, slice_get};
@@ -34,10 +24,10 @@ impl<const KNOTS: usize, const SLOTS: usize> Table<KNOTS, SLOTS> {
     ghost use Rattle.fl_model.specs.Ring as rings;
     ghost use Rattle.fl_model.specs.Table as model;
     ghost use Rattle.fl_table.specs.Memory.{next_in, LiesOn};
-    ghost use Rattle.fl_parts.specs.Skipping.{AreFresh, AreScanning, HoldGood, IsBadIndex, IsLookedUpBy, LooksOn, mask_for};
-    ghost use Rattle.fl_table.specs.Skipping.{IsToldBy, ShowsPage, ahead_by, index_in};
+    ghost use Rattle.fl_parts.specs.Skipping.{AreFresh, AreScanning, HoldGood, IsBadIndex, IsLookedUpBy, LooksOn, mask_for, IsToldBy, ShowsPage, ahead_by};
+    ghost use Rattle.fl_table.specs.Look.{index_in};
     ghost use Rattle.fl_bitmap.specs.Bucket.{HasBuckets};
-    ghost use Rattle.fl_table.specs.declared.look_ahead.Ahead.{Ahead};
+    ghost use Rattle.fl_parts.specs.declared.ahead.Ahead.{Ahead};
     ghost use Rattle.fl_table.specs.Standing.{Stands};
 
     /// What is known of the kept page with this number before it is read, where rows are wanted whose first value is in the

@@ -18,7 +18,7 @@ use Rattle.fl_mark.specs.declared.page_state.PageState.TheVariants.{Committed}
 use Rattle.fl_cursor.proofs.Indexed.{told-bytes}
 use Rattle.fl_cursor.proofs.SoundPages.{ahead-told, beyond-other, fresh-then, looked-told, missed-other, rows-same, sound-beyond, sound-done, sound-good, sound-missed, sound-read, sound-skipped, sound-void}
 use Rattle.fl_cursor.specs.Reads.{has_last}
-use Rattle.fl_table.specs.declared.look_ahead.Ahead.TheVariants.{Missed, Beyond}
+use Rattle.fl_parts.specs.declared.ahead.Ahead.TheVariants.{Missed, Beyond}
 use Rattle.fl_cursor.proofs.cursor.Cursor.read_page.Goals as goal
 
 pub returns-then-end-next-clause-goes : goal.returns-then-end-next-clause-goes

@@ -1,8 +1,8 @@
 use Rattle.std.proofs.Common.{◌≡◌, ℕ, Bool, true, false, refl, sym, ◌∙◌, ap, subst}
 use Rattle.std.specs.Prelude.{bit_and, ◌==◌, if◌then◌else◌}
 use Rattle.std.proofs.lemmas.Bool.{eq-eqb, ne_eqb}
-use Rattle.fl_table.specs.declared.look_ahead.Ahead.{Ahead}
-use Rattle.fl_table.specs.declared.look_ahead.Ahead.TheVariants.{Wanted, Missed, Beyond}
+use Rattle.fl_parts.specs.declared.ahead.Ahead.{Ahead}
+use Rattle.fl_parts.specs.declared.ahead.Ahead.TheVariants.{Wanted, Missed, Beyond}
 use Rattle.fl_parts.proofs.Sizes.{table-fits}
 use Rattle.fl_table.proofs.table.Table.ahead_by.Goals as goal
 

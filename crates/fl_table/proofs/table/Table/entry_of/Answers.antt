@@ -4,7 +4,7 @@ use Rattle.fl_index.specs.declared.index.BitmapIndex.{BitmapIndex}
 use Rattle.fl_parts.specs.Skipping.{AreFresh}
 use Rattle.fl_parts.proofs.Skipping.{bad-answer, looks-from, looks-up, fresh-still}
 use Rattle.fl_table.proofs.Entries.{shows-found}
-use Rattle.fl_table.proofs.Skips.{index-stands}
+use Rattle.fl_table.proofs.IndexStands.{index-stands}
 use Rattle.fl_parts.proofs.Untouched.{at-most}
 use Rattle.fl_frame.proofs.ContentsInTurn.{OnlyReads-same}
 use Rattle.fl_table.proofs.table.Table.entry_of.Goals as goal

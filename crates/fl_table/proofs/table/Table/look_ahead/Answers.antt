@@ -8,12 +8,11 @@ use Rattle.fl_index.specs.Looking.{ShowsEntry, next_to_read}
 use Rattle.fl_model.specs.Image.{rows_at}
 use Rattle.fl_model.specs.Query.{selected}
 use Rattle.fl_page.specs.declared.fault.ReadFault.{ReadFault}
-use Rattle.fl_table.specs.declared.look_ahead.Ahead.{Ahead}
-use Rattle.fl_table.specs.declared.look_ahead.Ahead.TheVariants.{Wanted, Missed}
-use Rattle.fl_parts.specs.Skipping.{AreFresh, AreScanning, LooksOn}
-use Rattle.fl_table.specs.Skipping.{ShowsPage}
-use Rattle.fl_parts.proofs.Skipping.{fresh-still, looks-none, looks-plain, looks-found, looks-failed, bad-index, looked-up, unasked-up, unindexed-up}
-use Rattle.fl_table.proofs.Skips.{shows-none, shows-unindexed, shows-some, shows-fault, index-stands, some-bits, told-by}
+use Rattle.fl_parts.specs.declared.ahead.Ahead.{Ahead}
+use Rattle.fl_parts.specs.declared.ahead.Ahead.TheVariants.{Wanted, Missed}
+use Rattle.fl_parts.specs.Skipping.{AreFresh, AreScanning, LooksOn, ShowsPage}
+use Rattle.fl_parts.proofs.Skipping.{fresh-still, looks-none, looks-plain, looks-found, looks-failed, bad-index, looked-up, unasked-up, unindexed-up, shows-none, shows-unindexed, shows-some, shows-fault, told-by}
+use Rattle.fl_table.proofs.IndexStands.{index-stands, some-bits}
 use Rattle.fl_parts.proofs.EntriesFit.{told-some}
 use Rattle.fl_table.proofs.Entries.{first-few}
 use Rattle.fl_parts.proofs.Untouched.{at-most}
