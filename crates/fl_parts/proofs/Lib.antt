@@ -70,3 +70,4 @@ pub mod MountRead
 pub mod Pointed
 pub mod PendingRows
 pub mod Sizes
+pub mod KeptSteps

@@ -10,7 +10,7 @@ pub mod MountIndexed
 pub mod MountJoined
 pub mod Paged
 pub mod MountLimits
-pub mod KeptStart
+pub mod RowsLeft
 pub mod SealEnds
 pub mod SealAnswers
 pub mod Refusals
