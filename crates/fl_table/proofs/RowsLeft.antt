@@ -1,6 +1,7 @@
 -- What the mount of the data ring leaves of its table, and the read of the kept pages behind it.
-use Rattle.std.proofs.Common.{ℕ, ◌+◌, Option, refl, sym, ◌∙◌, ap, subst, arith}
+use Rattle.std.proofs.Common.{◌≡◌, ℕ, ◌+◌, Option, refl, sym, ◌∙◌, ap, subst, arith}
 use Rattle.fl_base.specs.declared.types.RingPlace.{RingPlace}
+use Rattle.fl_find.specs.Index.{error_in}
 use Rattle.fl_flash.specs.Flash.{FlashState, page_at}
 use Rattle.fl_frame.proofs.CallsInTurn.{goes-then}
 use Rattle.fl_ring.specs.Mounting.{search_reads, shape_at, HasNumbers}
@@ -9,18 +10,25 @@ use Rattle.fl_ring.specs.Ring.{Shape, OutsideStands}
 use Rattle.fl_ring.specs.declared.ring.Ring.{Ring}
 use Rattle.fl_parts.proofs.BlobsOfTable as blobbing
 use Rattle.fl_parts.proofs.IndexOfTable.{few-goes, found-same, none-there}
-use Rattle.fl_parts.specs.Bitmaps.{AreRunning}
+use Rattle.fl_parts.specs.Bitmaps.{AreRunning, AreSamePlan}
 use Rattle.fl_parts.specs.Blobs as variable
 use Rattle.fl_parts.specs.Coming.{index_pages_of}
 use Rattle.fl_parts.specs.KeptRead.{LeavesKept}
+use Rattle.fl_schema.specs.Schema.{layout_of}
 use Rattle.fl_var.specs.declared.var_data.VarData.{VarData}
 use Rattle.fl_table.proofs.MountCalls.{outside-stands, same-shape}
 use Rattle.fl_table.proofs.MountReads.{few-all, few-first}
 use Rattle.fl_table.proofs.ReadsKeepTable.{lies-moved}
-use Rattle.fl_table.proofs.SealAnswers.{plan-self}
+use Rattle.fl_table.proofs.SealAnswers.{plan-self, same-then}
 use Rattle.fl_table.specs.Memory.{IsForgotten, IsSamePlan, IsSameRest, LiesOn}
 use Rattle.fl_table.specs.RowsMount.{LeavesRows}
 use Rattle.fl_table.specs.declared.table.Table.{Table}
+
+-- a table that differs from one of the same plan in its memory and its index alone
+pub same-beside : {KNOTS SLOTS : ℕ} (old mid new : Table KNOTS SLOTS) → IsSamePlan old mid → new.geometry ≡ mid.geometry → layout_of new.schema ≡ layout_of mid.schema → new.place ≡ mid.place → new.buckets ≡ mid.buckets →
+    error_in new.index ≡ error_in mid.index → AreSamePlan mid.bitmaps new.bitmaps → variable.AreSamePlan mid.blobs new.blobs → new.blob_limit ≡ mid.blob_limit → IsSamePlan old new
+same-beside old mid new same geometry layout place buckets error bitmaps blobs limit =
+    same-then old mid new same (record { geometry = geometry; layout = layout; place = place; buckets = buckets; error = error; bitmaps = bitmaps; blobs = blobs; limit = limit })
 
 module _ {KNOTS SLOTS : ℕ} (t : Table KNOTS SLOTS) (old mid : FlashState) (forgotten : IsForgotten t) (lies : LiesOn t old)
     (beside : Beside (shape_at t.place old.geometry) (search_reads (shape_at t.place old.geometry) + old.geometry.block) 1 1 old mid) where

@@ -19,6 +19,7 @@ use Rattle.fl_table.proofs.MountCalls.{ring-cause}
 use Rattle.fl_table.proofs.MountReads.{index-reads, index-repairs, repairs-joined}
 use Rattle.fl_table.proofs.MountJoined.{index-limit, limit-then, mount-cause-later, mount-fails, mount-then, finds-as, refuses-by, stand-outside}
 use Rattle.fl_table.proofs.Outsides.{blobs-outside}
+use Rattle.fl_table.proofs.RowsLeft.{same-beside}
 use Rattle.fl_table.proofs.SealAnswers.{planned-same, same-then}
 use Rattle.fl_ring.specs.declared.fault.RingFault.{RingFault}
 use Rattle.fl_parts.specs.Faults.{of_ring}
@@ -61,17 +62,7 @@ returns-in_err-end-clause-pages g c = record {
 pub returns-in_err-end-clause-memory : goal.returns-in_err-end-clause-memory
 returns-in_err-end-clause-memory g c = record {
   same =
-      let same = c.forget.ensures.same in
-      record {
-        geometry = same.geometry;
-        layout = same.layout;
-        place = same.place;
-        buckets = same.buckets;
-        error = same.error;
-        bitmaps = subst (λ (o : Option BitmapIndex). AreSamePlan o c.mount_bitmaps.new.bitmaps) c.forget.ensures.bitmaps c.in_err-end.ensures.same;
-        blobs = same.blobs;
-        limit = same.limit;
-      };
+      same-beside c.args.self.now c.forget.new.self _ c.forget.ensures.same refl refl refl refl refl c.in_err-end.ensures.same (blobbing.plan-same c.forget.new.self.blobs) refl;
   lies =
       let old = g.F.Flash.state c.args.flash.now in
       let mid = g.F.Flash.state c.mount_bitmaps.new.flash in
@@ -139,16 +130,7 @@ returns-clause-mount g c = record {
       let goes = c.in_ok-end.ensures.goes in
       mount-then t old mid first plan table rose device planned rests (watched-first old mid new rose device watched c.mount_rows.ensures.flash.goes) c.forget.new.self.bitmaps c.mount_bitmaps.new.bitmaps c.in_ok-end.end c.mount_rows.result c.mount_rows.new.self new (sym c.forget.ensures.bitmaps)
       c.in_ok-end.ensures.same (c.in_ok-end.ensures.outside watched.told) (c.in_ok-end.ensures.ends (first + plan.data_blocks) plan table rose device)
-      (λ x later on counts at_rest stands end. c.mount_rows.ensures.ends first plan x rose later (watched-then old mid new rose device later watched goes on counts) (planned-same t _ first plan planned (record {
-        geometry = c.forget.ensures.same.geometry;
-        layout = c.forget.ensures.same.layout;
-        place = c.forget.ensures.same.place;
-        buckets = c.forget.ensures.same.buckets;
-        error = c.forget.ensures.same.error;
-        bitmaps = subst (λ (o : Option BitmapIndex). AreSamePlan o c.mount_bitmaps.new.bitmaps) c.forget.ensures.bitmaps c.in_ok-end.ensures.same;
-        blobs = c.forget.ensures.same.blobs;
-        limit = c.forget.ensures.same.limit;
-      })) at_rest stands (c.unwrap_or.ensures ∙ end));
+      (λ x later on counts at_rest stands end. c.mount_rows.ensures.ends first plan x rose later (watched-then old mid new rose device later watched goes on counts) (planned-same t _ first plan planned (same-beside t c.forget.new.self _ c.forget.ensures.same refl refl refl refl refl c.in_ok-end.ensures.same (blobbing.plan-same c.forget.new.self.blobs) refl)) at_rest stands (c.unwrap_or.ensures ∙ end));
   limit = λ first plan table rose device watched planned rests full.
       let t = c.args.self.now in
       let old = g.F.Flash.state c.args.flash.now in
@@ -157,16 +139,7 @@ returns-clause-mount g c = record {
       let goes = c.in_ok-end.ensures.goes in
       limit-then t old mid first plan table rose device planned rests (watched-first old mid new rose device watched c.mount_rows.ensures.flash.goes) c.forget.new.self.bitmaps c.mount_bitmaps.new.bitmaps c.in_ok-end.end new (sym c.forget.ensures.bitmaps)
       c.in_ok-end.ensures.same (c.in_ok-end.ensures.outside watched.told) (c.in_ok-end.ensures.ends (first + plan.data_blocks) plan table rose device) (c.in_ok-end.ensures.limit (first + plan.data_blocks) plan table watched.told) full
-      (λ x later on counts at_rest stands end. c.mount_rows.ensures.limit first plan x rose later (watched-then old mid new rose device later watched goes on counts) (planned-same t _ first plan planned (record {
-        geometry = c.forget.ensures.same.geometry;
-        layout = c.forget.ensures.same.layout;
-        place = c.forget.ensures.same.place;
-        buckets = c.forget.ensures.same.buckets;
-        error = c.forget.ensures.same.error;
-        bitmaps = subst (λ (o : Option BitmapIndex). AreSamePlan o c.mount_bitmaps.new.bitmaps) c.forget.ensures.bitmaps c.in_ok-end.ensures.same;
-        blobs = c.forget.ensures.same.blobs;
-        limit = c.forget.ensures.same.limit;
-      })) at_rest stands (c.unwrap_or.ensures ∙ end) full);
+      (λ x later on counts at_rest stands end. c.mount_rows.ensures.limit first plan x rose later (watched-then old mid new rose device later watched goes on counts) (planned-same t _ first plan planned (same-beside t c.forget.new.self _ c.forget.ensures.same refl refl refl refl refl c.in_ok-end.ensures.same (blobbing.plan-same c.forget.new.self.blobs) refl)) at_rest stands (c.unwrap_or.ensures ∙ end) full);
 }
 
 pub returns-clause-pages : goal.returns-clause-pages
@@ -185,16 +158,7 @@ returns-clause-pages g c = record {
         same = subst (λ (o : Option BitmapIndex). AreSamePlan o c.mount_bitmaps.new.bitmaps) c.forget.ensures.bitmaps c.in_ok-end.ensures.same;
         bitmaps = subst (λ (o : Option BitmapIndex). FindsBitmaps o old end c.mount_bitmaps.new.bitmaps mid) c.forget.ensures.bitmaps (c.in_ok-end.ensures.found told);
         still = c.mount_rows.ensures.still;
-        rows = finds-as t _ c.mount_bitmaps.new.bitmaps mid c.unwrap_or.result (unwrap_or end 0) mounted now new (h (subst IsTrue (sym c.in_ok-end.ensures.goes.tells) told)) (record {
-          geometry = c.forget.ensures.same.geometry;
-          layout = c.forget.ensures.same.layout;
-          place = c.forget.ensures.same.place;
-          buckets = c.forget.ensures.same.buckets;
-          error = c.forget.ensures.same.error;
-          bitmaps = subst (λ (o : Option BitmapIndex). AreSamePlan o c.mount_bitmaps.new.bitmaps) c.forget.ensures.bitmaps c.in_ok-end.ensures.same;
-          blobs = c.forget.ensures.same.blobs;
-          limit = c.forget.ensures.same.limit;
-        }) c.forget.ensures.blobs c.unwrap_or.ensures;
+        rows = finds-as t _ c.mount_bitmaps.new.bitmaps mid c.unwrap_or.result (unwrap_or end 0) mounted now new (h (subst IsTrue (sym c.in_ok-end.ensures.goes.tells) told)) (same-beside t c.forget.new.self _ c.forget.ensures.same refl refl refl refl refl c.in_ok-end.ensures.same (blobbing.plan-same c.forget.new.self.blobs) refl) c.forget.ensures.blobs c.unwrap_or.ensures;
       }) c.mount_rows.ensures.found;
   refused =
       let t = c.args.self.now in
@@ -210,32 +174,14 @@ returns-clause-pages g c = record {
           same = subst (λ (o : Option BitmapIndex). AreSamePlan o c.mount_bitmaps.new.bitmaps) c.forget.ensures.bitmaps c.in_ok-end.ensures.same;
           bitmaps = subst (λ (o : Option BitmapIndex). FindsBitmaps o old end c.mount_bitmaps.new.bitmaps mid) c.forget.ensures.bitmaps (c.in_ok-end.ensures.found told);
         },
-        refuses-by t _ c.mount_bitmaps.new.bitmaps mid c.unwrap_or.result (unwrap_or end 0) e new (h (subst IsTrue (sym c.in_ok-end.ensures.goes.tells) told)) (record {
-          geometry = c.forget.ensures.same.geometry;
-          layout = c.forget.ensures.same.layout;
-          place = c.forget.ensures.same.place;
-          buckets = c.forget.ensures.same.buckets;
-          error = c.forget.ensures.same.error;
-          bitmaps = subst (λ (o : Option BitmapIndex). AreSamePlan o c.mount_bitmaps.new.bitmaps) c.forget.ensures.bitmaps c.in_ok-end.ensures.same;
-          blobs = c.forget.ensures.same.blobs;
-          limit = c.forget.ensures.same.limit;
-        }) c.forget.ensures.blobs c.unwrap_or.ensures,
+        refuses-by t _ c.mount_bitmaps.new.bitmaps mid c.unwrap_or.result (unwrap_or end 0) e new (h (subst IsTrue (sym c.in_ok-end.ensures.goes.tells) told)) (same-beside t c.forget.new.self _ c.forget.ensures.same refl refl refl refl refl c.in_ok-end.ensures.same (blobbing.plan-same c.forget.new.self.blobs) refl) c.forget.ensures.blobs c.unwrap_or.ensures,
       )) c.mount_rows.ensures.refused;
 }
 
 pub returns-clause-memory : goal.returns-clause-memory
 returns-clause-memory g c = record {
   same =
-      same-then c.args.self.now _ c.mount_rows.new.self (record {
-        geometry = c.forget.ensures.same.geometry;
-        layout = c.forget.ensures.same.layout;
-        place = c.forget.ensures.same.place;
-        buckets = c.forget.ensures.same.buckets;
-        error = c.forget.ensures.same.error;
-        bitmaps = subst (λ (o : Option BitmapIndex). AreSamePlan o c.mount_bitmaps.new.bitmaps) c.forget.ensures.bitmaps c.in_ok-end.ensures.same;
-        blobs = c.forget.ensures.same.blobs;
-        limit = c.forget.ensures.same.limit;
-      }) c.mount_rows.ensures.memory.same;
+      same-then c.args.self.now _ c.mount_rows.new.self (same-beside c.args.self.now c.forget.new.self _ c.forget.ensures.same refl refl refl refl refl c.in_ok-end.ensures.same (blobbing.plan-same c.forget.new.self.blobs) refl) c.mount_rows.ensures.memory.same;
   lies = c.mount_rows.ensures.memory.lies;
   mounted = c.mount_rows.ensures.memory.mounted;
   calm = c.mount_rows.ensures.memory.calm;
