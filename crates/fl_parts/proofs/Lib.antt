@@ -85,3 +85,4 @@ pub mod InTurn
 pub mod IndexMounted
 pub mod SealEnds
 pub mod BlobRests
+pub mod KeptSteps

@@ -9,6 +9,7 @@ pub mod Reading
 pub mod ByEntries
 pub mod Coming
 pub mod Knowing
+pub mod KeptRead
 pub mod IndexMount
 pub mod MountLimits
 pub mod Entries

@@ -9,7 +9,7 @@ pub mod Counted
 pub mod MountIndexed
 pub mod MountJoined
 pub mod Paged
-pub mod KeptStart
+pub mod RowsLeft
 pub mod SealAnswers
 pub mod Refusals
 pub mod JoinedRecord

@@ -9,6 +9,7 @@ pub mod Mounting
 pub mod Paged
 pub mod Frames
 pub mod Mounts
+pub mod RowsMount
 pub mod Look
 pub mod Rings
 pub mod BlobAt

@@ -16,8 +16,9 @@ use Rattle.fl_parts.proofs.FoundReads.{index-within, reads-joined}
 use Rattle.fl_frame.proofs.WatchedInTurn.{watched-first, watched-then}
 use Rattle.fl_frame.specs.Reads.{FewReads}
 use Rattle.fl_parts.proofs.MountParts.{ring-cause, index-reads, index-repairs, repairs-joined, mount-cause-later}
-use Rattle.fl_parts.proofs.Outsides.{stand-outside, blobs-outside}
 use Rattle.fl_table.proofs.MountJoined.{index-limit, limit-then, mount-fails, mount-then, finds-as, refuses-by}
+use Rattle.fl_parts.proofs.Outsides.{stand-outside, blobs-outside}
+use Rattle.fl_table.proofs.RowsLeft.{same-beside}
 use Rattle.fl_table.proofs.SealAnswers.{planned-same, same-then}
 use Rattle.fl_ring.specs.declared.fault.RingFault.{RingFault}
 use Rattle.fl_parts.specs.Faults.{of_ring}
@@ -60,17 +61,7 @@ returns-in_err-end-clause-pages g c = record {
 pub returns-in_err-end-clause-memory : goal.returns-in_err-end-clause-memory
 returns-in_err-end-clause-memory g c = record {
   same =
-      let same = c.forget.ensures.same in
-      record {
-        geometry = same.geometry;
-        layout = same.layout;
-        place = same.place;
-        buckets = same.buckets;
-        error = same.error;
-        bitmaps = subst (λ (o : Option BitmapIndex). AreSamePlan o c.mount_bitmaps.new.bitmaps) c.forget.ensures.bitmaps c.in_err-end.ensures.same;
-        blobs = same.blobs;
-        limit = same.limit;
-      };
+      same-beside c.args.self.now c.forget.new.self _ c.forget.ensures.same refl refl refl refl refl c.in_err-end.ensures.same (blobbing.plan-same c.forget.new.self.blobs) refl;
   lies =
       let old = g.F.Flash.state c.args.flash.now in
       let mid = g.F.Flash.state c.mount_bitmaps.new.flash in
@@ -136,36 +127,18 @@ returns-clause-mount g c = record {
       let mid = g.F.Flash.state c.mount_bitmaps.new.flash in
       let new = g.F.Flash.state c.mount_rows.new.flash in
       let goes = c.in_ok-end.ensures.goes in
-      mount-then t old mid first plan table rose device planned rests (watched-first old mid new rose device watched c.mount_rows.ensures.goes) c.forget.new.self.bitmaps c.mount_bitmaps.new.bitmaps c.in_ok-end.end c.mount_rows.result c.mount_rows.new.self new (sym c.forget.ensures.bitmaps)
+      mount-then t old mid first plan table rose device planned rests (watched-first old mid new rose device watched c.mount_rows.ensures.flash.goes) c.forget.new.self.bitmaps c.mount_bitmaps.new.bitmaps c.in_ok-end.end c.mount_rows.result c.mount_rows.new.self new (sym c.forget.ensures.bitmaps)
       c.in_ok-end.ensures.same (c.in_ok-end.ensures.outside watched.told) (c.in_ok-end.ensures.ends (first + plan.data_blocks) plan table rose device)
-      (λ x later on counts at_rest stands end. c.mount_rows.ensures.ends first plan x rose later (watched-then old mid new rose device later watched goes on counts) (planned-same t _ first plan planned (record {
-        geometry = c.forget.ensures.same.geometry;
-        layout = c.forget.ensures.same.layout;
-        place = c.forget.ensures.same.place;
-        buckets = c.forget.ensures.same.buckets;
-        error = c.forget.ensures.same.error;
-        bitmaps = subst (λ (o : Option BitmapIndex). AreSamePlan o c.mount_bitmaps.new.bitmaps) c.forget.ensures.bitmaps c.in_ok-end.ensures.same;
-        blobs = c.forget.ensures.same.blobs;
-        limit = c.forget.ensures.same.limit;
-      })) at_rest stands (c.unwrap_or.ensures ∙ end));
+      (λ x later on counts at_rest stands end. c.mount_rows.ensures.ends first plan x rose later (watched-then old mid new rose device later watched goes on counts) (planned-same t _ first plan planned (same-beside t c.forget.new.self _ c.forget.ensures.same refl refl refl refl refl c.in_ok-end.ensures.same (blobbing.plan-same c.forget.new.self.blobs) refl)) at_rest stands (c.unwrap_or.ensures ∙ end));
   limit = λ first plan table rose device watched planned rests full.
       let t = c.args.self.now in
       let old = g.F.Flash.state c.args.flash.now in
       let mid = g.F.Flash.state c.mount_bitmaps.new.flash in
       let new = g.F.Flash.state c.mount_rows.new.flash in
       let goes = c.in_ok-end.ensures.goes in
-      limit-then t old mid first plan table rose device planned rests (watched-first old mid new rose device watched c.mount_rows.ensures.goes) c.forget.new.self.bitmaps c.mount_bitmaps.new.bitmaps c.in_ok-end.end new (sym c.forget.ensures.bitmaps)
+      limit-then t old mid first plan table rose device planned rests (watched-first old mid new rose device watched c.mount_rows.ensures.flash.goes) c.forget.new.self.bitmaps c.mount_bitmaps.new.bitmaps c.in_ok-end.end new (sym c.forget.ensures.bitmaps)
       c.in_ok-end.ensures.same (c.in_ok-end.ensures.outside watched.told) (c.in_ok-end.ensures.ends (first + plan.data_blocks) plan table rose device) (c.in_ok-end.ensures.limit (first + plan.data_blocks) plan table watched.told) full
-      (λ x later on counts at_rest stands end. c.mount_rows.ensures.limit first plan x rose later (watched-then old mid new rose device later watched goes on counts) (planned-same t _ first plan planned (record {
-        geometry = c.forget.ensures.same.geometry;
-        layout = c.forget.ensures.same.layout;
-        place = c.forget.ensures.same.place;
-        buckets = c.forget.ensures.same.buckets;
-        error = c.forget.ensures.same.error;
-        bitmaps = subst (λ (o : Option BitmapIndex). AreSamePlan o c.mount_bitmaps.new.bitmaps) c.forget.ensures.bitmaps c.in_ok-end.ensures.same;
-        blobs = c.forget.ensures.same.blobs;
-        limit = c.forget.ensures.same.limit;
-      })) at_rest stands (c.unwrap_or.ensures ∙ end) full);
+      (λ x later on counts at_rest stands end. c.mount_rows.ensures.limit first plan x rose later (watched-then old mid new rose device later watched goes on counts) (planned-same t _ first plan planned (same-beside t c.forget.new.self _ c.forget.ensures.same refl refl refl refl refl c.in_ok-end.ensures.same (blobbing.plan-same c.forget.new.self.blobs) refl)) at_rest stands (c.unwrap_or.ensures ∙ end) full);
 }
 
 pub returns-clause-pages : goal.returns-clause-pages
@@ -184,16 +157,7 @@ returns-clause-pages g c = record {
         same = subst (λ (o : Option BitmapIndex). AreSamePlan o c.mount_bitmaps.new.bitmaps) c.forget.ensures.bitmaps c.in_ok-end.ensures.same;
         bitmaps = subst (λ (o : Option BitmapIndex). FindsBitmaps o old end c.mount_bitmaps.new.bitmaps mid) c.forget.ensures.bitmaps (c.in_ok-end.ensures.found told);
         still = c.mount_rows.ensures.still;
-        rows = finds-as t _ c.mount_bitmaps.new.bitmaps mid c.unwrap_or.result (unwrap_or end 0) mounted now new (h (subst IsTrue (sym c.in_ok-end.ensures.goes.tells) told)) (record {
-          geometry = c.forget.ensures.same.geometry;
-          layout = c.forget.ensures.same.layout;
-          place = c.forget.ensures.same.place;
-          buckets = c.forget.ensures.same.buckets;
-          error = c.forget.ensures.same.error;
-          bitmaps = subst (λ (o : Option BitmapIndex). AreSamePlan o c.mount_bitmaps.new.bitmaps) c.forget.ensures.bitmaps c.in_ok-end.ensures.same;
-          blobs = c.forget.ensures.same.blobs;
-          limit = c.forget.ensures.same.limit;
-        }) c.forget.ensures.blobs c.unwrap_or.ensures;
+        rows = finds-as t _ c.mount_bitmaps.new.bitmaps mid c.unwrap_or.result (unwrap_or end 0) mounted now new (h (subst IsTrue (sym c.in_ok-end.ensures.goes.tells) told)) (same-beside t c.forget.new.self _ c.forget.ensures.same refl refl refl refl refl c.in_ok-end.ensures.same (blobbing.plan-same c.forget.new.self.blobs) refl) c.forget.ensures.blobs c.unwrap_or.ensures;
       }) c.mount_rows.ensures.found;
   refused =
       let t = c.args.self.now in
@@ -209,50 +173,32 @@ returns-clause-pages g c = record {
           same = subst (λ (o : Option BitmapIndex). AreSamePlan o c.mount_bitmaps.new.bitmaps) c.forget.ensures.bitmaps c.in_ok-end.ensures.same;
           bitmaps = subst (λ (o : Option BitmapIndex). FindsBitmaps o old end c.mount_bitmaps.new.bitmaps mid) c.forget.ensures.bitmaps (c.in_ok-end.ensures.found told);
         },
-        refuses-by t _ c.mount_bitmaps.new.bitmaps mid c.unwrap_or.result (unwrap_or end 0) e new (h (subst IsTrue (sym c.in_ok-end.ensures.goes.tells) told)) (record {
-          geometry = c.forget.ensures.same.geometry;
-          layout = c.forget.ensures.same.layout;
-          place = c.forget.ensures.same.place;
-          buckets = c.forget.ensures.same.buckets;
-          error = c.forget.ensures.same.error;
-          bitmaps = subst (λ (o : Option BitmapIndex). AreSamePlan o c.mount_bitmaps.new.bitmaps) c.forget.ensures.bitmaps c.in_ok-end.ensures.same;
-          blobs = c.forget.ensures.same.blobs;
-          limit = c.forget.ensures.same.limit;
-        }) c.forget.ensures.blobs c.unwrap_or.ensures,
+        refuses-by t _ c.mount_bitmaps.new.bitmaps mid c.unwrap_or.result (unwrap_or end 0) e new (h (subst IsTrue (sym c.in_ok-end.ensures.goes.tells) told)) (same-beside t c.forget.new.self _ c.forget.ensures.same refl refl refl refl refl c.in_ok-end.ensures.same (blobbing.plan-same c.forget.new.self.blobs) refl) c.forget.ensures.blobs c.unwrap_or.ensures,
       )) c.mount_rows.ensures.refused;
 }
 
 pub returns-clause-memory : goal.returns-clause-memory
 returns-clause-memory g c = record {
   same =
-      same-then c.args.self.now _ c.mount_rows.new.self (record {
-        geometry = c.forget.ensures.same.geometry;
-        layout = c.forget.ensures.same.layout;
-        place = c.forget.ensures.same.place;
-        buckets = c.forget.ensures.same.buckets;
-        error = c.forget.ensures.same.error;
-        bitmaps = subst (λ (o : Option BitmapIndex). AreSamePlan o c.mount_bitmaps.new.bitmaps) c.forget.ensures.bitmaps c.in_ok-end.ensures.same;
-        blobs = c.forget.ensures.same.blobs;
-        limit = c.forget.ensures.same.limit;
-      }) c.mount_rows.ensures.same;
-  lies = c.mount_rows.ensures.lies;
-  mounted = c.mount_rows.ensures.mounted;
-  calm = c.mount_rows.ensures.calm;
-  none = c.mount_rows.ensures.none;
-  empty = c.mount_rows.ensures.empty;
+      same-then c.args.self.now _ c.mount_rows.new.self (same-beside c.args.self.now c.forget.new.self _ c.forget.ensures.same refl refl refl refl refl c.in_ok-end.ensures.same (blobbing.plan-same c.forget.new.self.blobs) refl) c.mount_rows.ensures.memory.same;
+  lies = c.mount_rows.ensures.memory.lies;
+  mounted = c.mount_rows.ensures.memory.mounted;
+  calm = c.mount_rows.ensures.memory.calm;
+  none = c.mount_rows.ensures.memory.none;
+  empty = c.mount_rows.ensures.memory.empty;
 }
 
 pub returns-clause-buffer : goal.returns-clause-buffer
 returns-clause-buffer g c = record {
-  room = c.mount_rows.ensures.room ∙ c.in_ok-end.ensures.room;
-  holds = c.mount_rows.ensures.holds;
+  room = c.mount_rows.ensures.buffer.room ∙ c.in_ok-end.ensures.room;
+  holds = c.mount_rows.ensures.buffer.holds;
 }
 
 pub returns-clause-flash : goal.returns-clause-flash
 returns-clause-flash g c = record {
   goes =
-      goes-then (g.F.Flash.state c.args.flash.now) (g.F.Flash.state c.mount_bitmaps.new.flash) (g.F.Flash.state c.mount_rows.new.flash) c.in_ok-end.ensures.goes c.mount_rows.ensures.goes;
-  power = on-then (g.F.Flash.state c.args.flash.now) (g.F.Flash.state c.mount_bitmaps.new.flash) (g.F.Flash.state c.mount_rows.new.flash) c.mount_rows.result c.in_ok-end.ensures.power c.mount_rows.ensures.power;
+      goes-then (g.F.Flash.state c.args.flash.now) (g.F.Flash.state c.mount_bitmaps.new.flash) (g.F.Flash.state c.mount_rows.new.flash) c.in_ok-end.ensures.goes c.mount_rows.ensures.flash.goes;
+  power = on-then (g.F.Flash.state c.args.flash.now) (g.F.Flash.state c.mount_bitmaps.new.flash) (g.F.Flash.state c.mount_rows.new.flash) c.mount_rows.result c.in_ok-end.ensures.power c.mount_rows.ensures.flash.power;
   outside = λ told page out index blobs.
       let t = c.args.self.now in
       let old = g.F.Flash.state c.args.flash.now in
@@ -260,7 +206,7 @@ returns-clause-flash g c = record {
       let first = stand-outside t.bitmaps (page_at old) (page_at mid) page (subst (λ (o : Option BitmapIndex). StandOutside o (page_at old) (page_at mid)) c.forget.ensures.bitmaps (c.in_ok-end.ensures.outside told)) index in
       let shape : shape_at c.forget.new.self.place c.forget.new.self.geometry ≡ shape_at t.place t.geometry =
       ap (λ (p : RingPlace). shape_at p c.forget.new.self.geometry) c.forget.ensures.same.place ∙ ap (λ (x : Geometry). shape_at t.place x) c.forget.ensures.same.geometry in
-      c.mount_rows.ensures.outside (subst IsTrue (sym c.in_ok-end.ensures.goes.tells) told) page (subst (λ (r : Shape). IsOutside r page) (sym shape) out) (blobs-outside t.blobs c.forget.new.self.blobs page c.forget.ensures.same.blobs blobs) ∙ first;
+      c.mount_rows.ensures.flash.outside (subst IsTrue (sym c.in_ok-end.ensures.goes.tells) told) page (subst (λ (r : Shape). IsOutside r page) (sym shape) out) (blobs-outside t.blobs c.forget.new.self.blobs page c.forget.ensures.same.blobs blobs) ∙ first;
   reads = λ told.
       let t = c.args.self.now in
       let old = g.F.Flash.state c.args.flash.now in
@@ -274,7 +220,7 @@ returns-clause-flash g c = record {
       ap (λ (p : RingPlace). shape_at p c.forget.new.self.geometry) c.forget.ensures.same.place ∙ ap (λ (x : Geometry). shape_at t.place x) c.forget.ensures.same.geometry in
       let few = subst (λ (r : Shape). FewReads (4 * (room r + variable.room_of t.blobs) + index_pages_of now) mid new) shape
       (subst (λ (o : Option VarData). FewReads (4 * (room (shape_at c.forget.new.self.place c.forget.new.self.geometry) + variable.room_of o) + index_pages_of now) mid new) c.forget.ensures.blobs
-      (c.mount_rows.ensures.reads (subst IsTrue (sym c.in_ok-end.ensures.goes.tells) told))) in
+      (c.mount_rows.ensures.flash.reads (subst IsTrue (sym c.in_ok-end.ensures.goes.tells) told))) in
       reads-joined (room_of t.bitmaps) (index_pages_of now) (room (shape_at t.place t.geometry)) (variable.room_of t.blobs) old mid new within spared few;
   repairs =
       let t = c.args.self.now in
@@ -282,15 +228,15 @@ returns-clause-flash g c = record {
       let mid = g.F.Flash.state c.mount_bitmaps.new.flash in
       let new = g.F.Flash.state c.mount_rows.new.flash in
       repairs-joined (rings_of t.bitmaps) (variable.rings_of t.blobs) old mid new (subst (λ (o : Option BitmapIndex). FewRepairs (rings_of o) old mid) c.forget.ensures.bitmaps c.in_ok-end.ensures.repairs)
-      (subst (λ (o : Option VarData). FewRepairs (1 + variable.rings_of o) mid new) c.forget.ensures.blobs c.mount_rows.ensures.repairs);
+      (subst (λ (o : Option VarData). FewRepairs (1 + variable.rings_of o) mid new) c.forget.ensures.blobs c.mount_rows.ensures.flash.repairs);
   cause =
       let old = g.F.Flash.state c.args.flash.now in
       let mid = g.F.Flash.state c.mount_bitmaps.new.flash in
       let new = g.F.Flash.state c.mount_rows.new.flash in
-      IfErr-weaker c.mount_rows.result _ _ (λ e h. mount-cause-later old mid new c.in_ok-end.ensures.goes c.in_ok-end.ensures.power e h) c.mount_rows.ensures.cause;
+      IfErr-weaker c.mount_rows.result _ _ (λ e h. mount-cause-later old mid new c.in_ok-end.ensures.goes c.in_ok-end.ensures.power e h) c.mount_rows.ensures.flash.cause;
   off = λ down.
       let first = c.in_ok-end.ensures.off down in
-      let h = c.mount_rows.ensures.off (ap (λ (f : FlashState). f.is_on) first.1 ∙ down) in
+      let h = c.mount_rows.ensures.flash.off (ap (λ (f : FlashState). f.is_on) first.1 ∙ down) in
       (h.0, h.1 ∙ first.1);
 }
 

@@ -1,6 +1,6 @@
 use Rattle.std.proofs.Common.{◌≡◌, ◌+◌, Option, IfSome, arith, refl, sym, ◌∙◌, ap, subst, IsTrue, inl, inr, ℕ, Result, Ok, Err, is_some}
 use Rattle.std.proofs.lemmas.Result.{err_from_is_err_and}
-use Rattle.fl_flash.specs.Flash.{page_at, FlashState}
+use Rattle.fl_flash.specs.Flash.{page_at}
 use Rattle.fl_model.specs.Mount.{ready}
 use Rattle.fl_frame.proofs.CallsInTurn.{goes-then}
 use Rattle.fl_find.proofs.Points.{mounts-points}
@@ -18,6 +18,7 @@ use Rattle.fl_table.proofs.Learned.{finds-rows}
 use Rattle.fl_parts.proofs.MountParts.{mount-cause-later}
 use Rattle.fl_parts.proofs.BlobSeals.{with_var}
 use Rattle.fl_table.proofs.MountVar.{data-fails, mounted-ends, rows-fail, rows-mount, var-limit}
+use Rattle.fl_parts.proofs.ListedPages.{data-lies}
 use Rattle.fl_parts.proofs.Loose.{paged-ready}
 use Rattle.fl_base.specs.declared.types.Geometry.{Geometry}
 use Rattle.fl_base.specs.declared.types.RingPlace.{RingPlace}
@@ -29,7 +30,6 @@ use Rattle.fl_parts.proofs.IndexOfTable.{none-is, plan-same}
 use Rattle.fl_table.proofs.ReadsKeepTable.{lies-moved}
 use Rattle.fl_parts.proofs.Sizes.{table-fits}
 use Rattle.fl_parts.proofs.PowerOn.{blobs-on}
-use Rattle.fl_parts.specs.IndexMount.{FewRepairs}
 use Rattle.fl_parts.specs.declared.mount_fault.MountFault.{MountFault}
 use Rattle.fl_table.specs.declared.mount.FoundRows.{FoundRows}
 use Rattle.fl_table.specs.declared.table.Table.{Table}
@@ -48,7 +48,7 @@ returns-in_err-mount_within-clause-ends g c = λ first plan table rose device wa
     let old = g.F.Flash.state c.args.flash.now in
     let mid = g.F.Flash.state c.read_rows.new.flash in
     let new = g.F.Flash.state c.mount_within.new.flash in
-    let goes = c.in_ok-rows.ensures.goes in
+    let goes = c.in_ok-rows.ensures.leaves.goes in
     let w = c.in_ok-rows.ensures.ends first plan table rose device (watched-first old mid new rose device watched c.mount_within.ensures.goes) planned rests stands end in
     let then = watched-then old mid new rose device w.now.device watched goes w.power w.counts in
     let p = err_from_is_err_and c.from_residual-in_err-mount_within.result c.from_residual-in_err-mount_within.ensures.1 in
@@ -61,7 +61,7 @@ returns-clause-ends g c = λ first plan table rose device watched planned rests 
     let old = g.F.Flash.state c.args.flash.now in
     let mid = g.F.Flash.state c.read_rows.new.flash in
     let new = g.F.Flash.state c.mount_within.new.flash in
-    let goes = c.in_ok-rows.ensures.goes in
+    let goes = c.in_ok-rows.ensures.leaves.goes in
     let w = c.in_ok-rows.ensures.ends first plan table rose device (watched-first old mid new rose device watched c.mount_within.ensures.goes) planned rests stands end in
     let then = watched-then old mid new rose device w.now.device watched goes w.power w.counts in
     let h = rows-mount t mid new first plan table rose device c.in_ok-rows.rows w then t.blobs c.mount_within.new.blobs c.in_ok-mount_within.field-0 refl (c.in_ok-mount_within.ensures.outside then.told)
@@ -104,27 +104,140 @@ returns-clause-ends g c = λ first plan table rose device watched planned rests 
       points = record { older = points.older; points = points.points; last = points.last };
     })
 
+pub returns-in_err-rows-clause-limit : goal.returns-in_err-rows-clause-limit
+returns-in_err-rows-clause-limit g c = λ first plan table rose device watched planned rests stands end full.
+    let few = c.in_err-rows.ensures.limit first plan table rose device watched planned rests stands end full in
+    omega (arith, few)
+
+pub returns-in_err-mount_within-clause-limit : goal.returns-in_err-mount_within-clause-limit
+returns-in_err-mount_within-clause-limit g c = λ first plan table rose device watched planned rests stands end full.
+    let t = c.read_rows.new.self in
+    let old = g.F.Flash.state c.args.flash.now in
+    let mid = g.F.Flash.state c.read_rows.new.flash in
+    let new = g.F.Flash.state c.mount_within.new.flash in
+    let goes = c.in_ok-rows.ensures.leaves.goes in
+    let front = watched-first old mid new rose device watched c.mount_within.ensures.goes in
+    let w = c.in_ok-rows.ensures.ends first plan table rose device front planned rests stands end in
+    let then = watched-then old mid new rose device w.now.device watched goes w.power w.counts in
+    let rows = c.in_ok-rows.ensures.limit first plan table rose device front planned rests stands end full in
+    let var = var-limit t mid new first plan table rose device c.in_ok-rows.rows w then t.blobs refl (c.in_err-mount_within.ensures.outside then.told)
+    (c.in_err-mount_within.ensures.limit (first + plan.data_blocks + plan.index_blocks) plan w.now.state then.told) in
+    omega (arith, rows, var)
+
+pub returns-clause-limit : goal.returns-clause-limit
+returns-clause-limit g c = λ first plan table rose device watched planned rests stands end full.
+    let t = c.read_rows.new.self in
+    let old = g.F.Flash.state c.args.flash.now in
+    let mid = g.F.Flash.state c.read_rows.new.flash in
+    let new = g.F.Flash.state c.mount_within.new.flash in
+    let goes = c.in_ok-rows.ensures.leaves.goes in
+    let front = watched-first old mid new rose device watched c.mount_within.ensures.goes in
+    let w = c.in_ok-rows.ensures.ends first plan table rose device front planned rests stands end in
+    let then = watched-then old mid new rose device w.now.device watched goes w.power w.counts in
+    let rows = c.in_ok-rows.ensures.limit first plan table rose device front planned rests stands end full in
+    let var = var-limit t mid new first plan table rose device c.in_ok-rows.rows w then t.blobs refl (c.in_ok-mount_within.ensures.outside then.told)
+    (c.in_ok-mount_within.ensures.limit (first + plan.data_blocks + plan.index_blocks) plan w.now.state then.told) in
+    omega (arith, rows, var)
+
 -- no row, and no byte of a blob
 nothing-waits : {KNOTS SLOTS : ℕ} {t : Table KNOTS SLOTS} → (t.writer.count ≡ 0) × (t.bitmap ≡ 0) × (t.blob_end ≡ 0) → AreEmpty t.blobs → NothingWaits t
 nothing-waits {t = t} rows blobs = record { none = rows.0; rows = pending-none t rows.0; bits = rows.1; ends = rows.2; blobs = blobs }
 
-pub returns-clause-same : goal.returns-clause-same
-returns-clause-same g c =
-    same-then c.args.self.now c.read_rows.new.self _ c.in_ok-rows.ensures.same (record { geometry = refl; layout = refl; place = refl; buckets = refl; error = refl; bitmaps = plan-same c.read_rows.new.self.bitmaps; blobs = c.in_ok-mount_within.ensures.same; limit = refl })
+same-fault : (e f : MountFault) → ◌≡◌ {A = Result FoundRows MountFault} (Err e) (Err f) → e ≡ f
+same-fault e f is = cc
+
+not-ok : (rows : FoundRows) (e : MountFault) → ◌≡◌ {A = Result FoundRows MountFault} (Ok rows) (Err e) → ⊥
+not-ok rows e is = cc
+
+-- what is left in memory
+pub returns-in_err-rows-clause-memory : goal.returns-in_err-rows-clause-memory
+returns-in_err-rows-clause-memory g c =
+    let p = err_from_is_err_and c.from_residual.result c.from_residual.ensures.1 in
+    record {
+      same = c.in_err-rows.ensures.leaves.same;
+      lies = c.in_err-rows.ensures.leaves.lies;
+      mounted = rw p.1 (ap (λ (o : Option Ring). is_some o) c.in_err-rows.ensures.leaves.down);
+      calm = c.in_err-rows.ensures.leaves.calm;
+      none = c.in_err-rows.ensures.leaves.none.0;
+      empty = no-success _ _ c.from_residual.result c.from_residual.ensures.1;
+    }
+
+pub returns-in_err-mount_within-clause-memory : goal.returns-in_err-mount_within-clause-memory
+returns-in_err-mount_within-clause-memory g c =
+    let p = err_from_is_err_and c.from_residual-in_err-mount_within.result c.from_residual-in_err-mount_within.ensures.1 in
+    let lies = lies-moved c.read_rows.new.self (g.F.Flash.state c.read_rows.new.flash) (g.F.Flash.state c.mount_within.new.flash) c.in_err-mount_within.ensures.goes c.in_ok-rows.ensures.leaves.lies in
+    record {
+      same =
+          same-then c.args.self.now c.read_rows.new.self _ c.in_ok-rows.ensures.leaves.same (record { geometry = refl; layout = refl; place = refl; buckets = refl; error = refl; bitmaps = plan-same c.read_rows.new.self.bitmaps; blobs = c.in_err-mount_within.ensures.same; limit = refl });
+      lies = record { geometry = lies.geometry; within = lies.within; few = lies.few; ring = lies.ring; bitmaps = lies.bitmaps; blobs = c.in_err-mount_within.ensures.lies };
+      mounted = rw p.1 (ap (λ (o : Option Ring). is_some o) c.in_ok-rows.ensures.leaves.down);
+      calm = c.in_ok-rows.ensures.leaves.calm;
+      none = c.in_ok-rows.ensures.leaves.none.0;
+      empty = no-success _ _ c.from_residual-in_err-mount_within.result c.from_residual-in_err-mount_within.ensures.1;
+    }
+
+pub returns-clause-memory : goal.returns-clause-memory
+returns-clause-memory g c =
+    let new = g.F.Flash.state c.mount_within.new.flash in
+    let goes = c.in_ok-mount_within.ensures.goes in
+    let lies = lies-moved c.read_rows.new.self (g.F.Flash.state c.read_rows.new.flash) new goes c.in_ok-rows.ensures.leaves.lies in
+    let here = data-lies c.in_ok-rows.rows.ring (g.F.Flash.state c.read_rows.new.flash) new goes c.in_ok-rows.ensures.found.lies in
+    record {
+      same =
+          same-then c.args.self.now c.read_rows.new.self _ c.in_ok-rows.ensures.leaves.same (record { geometry = refl; layout = refl; place = refl; buckets = refl; error = refl; bitmaps = plan-same c.read_rows.new.self.bitmaps; blobs = c.in_ok-mount_within.ensures.same; limit = refl });
+      lies = record {
+        geometry = lies.geometry;
+        within = lies.within;
+        few = lies.few;
+        ring = λ ring is. subst (λ (o : Option Ring). IfSome o (λ r. place.LiesOn r new)) is here;
+        bitmaps = lies.bitmaps;
+        blobs = c.in_ok-mount_within.ensures.lies;
+      };
+      mounted = refl;
+      calm = c.in_ok-rows.ensures.leaves.calm;
+      none = c.in_ok-rows.ensures.leaves.none.0;
+      empty = nothing-waits c.in_ok-rows.ensures.leaves.none c.in_ok-mount_within.ensures.empty;
+    }
+
+pub returns-in_err-rows-clause-buffer : goal.returns-in_err-rows-clause-buffer
+returns-in_err-rows-clause-buffer g c = record { room = c.in_err-rows.ensures.buffer.room; holds = c.in_err-rows.ensures.buffer.holds }
+
+pub returns-in_err-mount_within-clause-buffer : goal.returns-in_err-mount_within-clause-buffer
+returns-in_err-mount_within-clause-buffer g c = record { room = c.in_err-mount_within.ensures.room ∙ c.in_ok-rows.ensures.buffer.room; holds = c.in_err-mount_within.ensures.holds }
+
+pub returns-clause-buffer : goal.returns-clause-buffer
+returns-clause-buffer g c = record { room = c.in_ok-mount_within.ensures.room ∙ c.in_ok-rows.ensures.buffer.room; holds = c.in_ok-mount_within.ensures.holds }
+
+pub returns-in_err-rows-clause-still : goal.returns-in_err-rows-clause-still
+returns-in_err-rows-clause-still g c = c.in_err-rows.ensures.leaves.still
+
+pub returns-in_err-mount_within-clause-still : goal.returns-in_err-mount_within-clause-still
+returns-in_err-mount_within-clause-still g c = c.in_ok-rows.ensures.leaves.still
+
+pub returns-clause-still : goal.returns-clause-still
+returns-clause-still g c = c.in_ok-rows.ensures.leaves.still
+
+-- what was found
+pub returns-in_err-rows-clause-found : goal.returns-in_err-rows-clause-found
+returns-in_err-rows-clause-found g c = no-success _ _ c.from_residual.result c.from_residual.ensures.1
+
+pub returns-in_err-mount_within-clause-found : goal.returns-in_err-mount_within-clause-found
+returns-in_err-mount_within-clause-found g c = no-success _ _ c.from_residual-in_err-mount_within.result c.from_residual-in_err-mount_within.ensures.1
 
 pub returns-clause-found : goal.returns-clause-found
 returns-clause-found g c = λ told.
     let mid = g.F.Flash.state c.read_rows.new.flash in
     let rows = c.in_ok-rows.rows in
-    finds-rows c.args.self.now c.args.self.now.bitmaps (g.F.Flash.state c.args.flash.now) c.args.end rows.mounted _ (g.F.Flash.state c.mount_within.new.flash) rows.ring rows.blob_end mid (returns-clause-same g c) refl
-    (c.in_ok-rows.ensures.found told) (c.in_ok-rows.ensures.waits told) (c.in_ok-rows.ensures.remembers told) (nothing-waits c.in_ok-rows.ensures.none c.in_ok-mount_within.ensures.empty) (c.in_ok-rows.ensures.learned told)
-    (subst (λ (o : Option VarData). FindsBlobs o mid (least_of rows.blob_end) c.mount_within.new.blobs (g.F.Flash.state c.mount_within.new.flash)) c.in_ok-rows.ensures.blobs c.in_ok-mount_within.ensures.found)
+    let found = c.in_ok-rows.ensures.found in
+    finds-rows c.args.self.now c.args.self.now.bitmaps (g.F.Flash.state c.args.flash.now) c.args.end rows.mounted _ (g.F.Flash.state c.mount_within.new.flash) rows.ring rows.blob_end mid (returns-clause-memory g c).same refl
+    (found.found told) (found.waits told) (found.remembers told) (nothing-waits c.in_ok-rows.ensures.leaves.none c.in_ok-mount_within.ensures.empty) (found.learned told)
+    (subst (λ (o : Option VarData). FindsBlobs o mid (least_of rows.blob_end) c.mount_within.new.blobs (g.F.Flash.state c.mount_within.new.flash)) c.in_ok-rows.ensures.leaves.blobs c.in_ok-mount_within.ensures.found)
     c.in_ok-mount_within.ensures.below
 
 pub returns-in_err-rows-clause-refused : goal.returns-in_err-rows-clause-refused
 returns-in_err-rows-clause-refused g c =
     let p = err_from_is_err_and c.from_residual.result c.from_residual.ensures.1 in
-    rw (p.1, p.2) (λ told. inl (c.in_err-rows.ensures.refused told))
+    rw (p.1, p.2) (λ told. inl (c.in_err-rows.ensures.refused.refused told))
 
 pub returns-in_err-mount_within-clause-refused : goal.returns-in_err-mount_within-clause-refused
 returns-in_err-mount_within-clause-refused g c =
@@ -137,71 +250,82 @@ returns-in_err-mount_within-clause-refused g c =
       last = c.read_rows.new.self.last_key;
       end = rows.blob_end;
       between = mid;
-      pages = c.in_ok-rows.ensures.found told;
-      why = subst (λ (o : Option VarData). RefusesWithin o mid rows.blob_end c.in_err-mount_within.field-0.0 (g.F.Flash.state c.mount_within.new.flash)) c.in_ok-rows.ensures.blobs c.in_err-mount_within.ensures.refused;
+      pages = c.in_ok-rows.ensures.found.found told;
+      why = subst (λ (o : Option VarData). RefusesWithin o mid rows.blob_end c.in_err-mount_within.field-0.0 (g.F.Flash.state c.mount_within.new.flash)) c.in_ok-rows.ensures.leaves.blobs c.in_err-mount_within.ensures.refused;
     }))
 
-pub returns-in_err-rows-clause-outside : goal.returns-in_err-rows-clause-outside
-returns-in_err-rows-clause-outside g c = λ told page rows blobs. c.in_err-rows.ensures.outside told page rows
+pub returns-clause-refused : goal.returns-clause-refused
+returns-clause-refused g c = tt
 
-pub returns-in_err-mount_within-clause-outside : goal.returns-in_err-mount_within-clause-outside
-returns-in_err-mount_within-clause-outside g c = λ told page rows blobs.
-    let mid_told = subst IsTrue (sym c.in_ok-rows.ensures.goes.tells) told in
-    var-outside c.read_rows.new.self.blobs (page_at (g.F.Flash.state c.read_rows.new.flash)) (page_at (g.F.Flash.state c.mount_within.new.flash)) page (c.in_err-mount_within.ensures.outside mid_told)
-    (subst (λ (o : Option VarData). IfSome o (λ var. IsOutside (var_shape var) page)) (sym c.in_ok-rows.ensures.blobs) blobs) ∙ c.in_ok-rows.ensures.outside told page rows
+-- what is done to the flash
+pub returns-in_err-rows-clause-flash : goal.returns-in_err-rows-clause-flash
+returns-in_err-rows-clause-flash g c =
+    let p = err_from_is_err_and c.from_residual.result c.from_residual.ensures.1 in
+    let rows = c.in_err-rows.ensures in
+    record {
+      goes = rows.leaves.goes;
+      power = no-success _ _ c.from_residual.result c.from_residual.ensures.1;
+      outside = λ told page out blobs. rows.leaves.outside told page out;
+      reads = λ told.
+          let few = rows.leaves.reads told in
+          record { reads = omega (arith, few.reads); media_reads = omega (arith, few.media_reads) };
+      repairs = record { programs = omega (arith, rows.leaves.repairs.programs); erases = omega (arith, rows.leaves.repairs.erases) };
+      cause = rw (p.1, p.2) rows.refused.cause;
+      off = λ down.
+          let h = rows.off down in
+          rw (p.1, p.2) (ap (λ (e : MountFault). Err e) (same-fault _ _ h.0), h.1);
+    }
 
-pub returns-clause-outside : goal.returns-clause-outside
-returns-clause-outside g c = λ told page rows blobs.
-    let mid_told = subst IsTrue (sym c.in_ok-rows.ensures.goes.tells) told in
-    var-outside c.read_rows.new.self.blobs (page_at (g.F.Flash.state c.read_rows.new.flash)) (page_at (g.F.Flash.state c.mount_within.new.flash)) page (c.in_ok-mount_within.ensures.outside mid_told)
-    (subst (λ (o : Option VarData). IfSome o (λ var. IsOutside (var_shape var) page)) (sym c.in_ok-rows.ensures.blobs) blobs) ∙ c.in_ok-rows.ensures.outside told page rows
-
-pub returns-in_err-rows-clause-reads : goal.returns-in_err-rows-clause-reads
-returns-in_err-rows-clause-reads g c = λ told.
-    let few = c.in_err-rows.ensures.reads told in
-    record { reads = omega (arith, few.reads); media_reads = omega (arith, few.media_reads) }
-
-pub returns-in_err-mount_within-clause-reads : goal.returns-in_err-mount_within-clause-reads
-returns-in_err-mount_within-clause-reads g c = λ told.
-    let few = c.in_ok-rows.ensures.reads told in
-    let more = c.in_err-mount_within.ensures.reads in
-    let same = ap room_of c.in_ok-rows.ensures.blobs in
-    record { reads = omega (arith, few.reads, more.reads, same); media_reads = omega (arith, few.media_reads, more.media_reads, same) }
-
-pub returns-clause-reads : goal.returns-clause-reads
-returns-clause-reads g c = λ told.
-    let few = c.in_ok-rows.ensures.reads told in
-    let more = c.in_ok-mount_within.ensures.reads in
-    let same = ap room_of c.in_ok-rows.ensures.blobs in
-    record { reads = omega (arith, few.reads, more.reads, same); media_reads = omega (arith, few.media_reads, more.media_reads, same) }
-
-pub returns-in_err-mount_within-clause-repairs : goal.returns-in_err-mount_within-clause-repairs
-returns-in_err-mount_within-clause-repairs g c =
-    let few = c.in_ok-rows.ensures.repairs in
-    let more = c.in_err-mount_within.ensures.repairs in
-    let same = ap rings_of c.in_ok-rows.ensures.blobs in
-    record { programs = omega (arith, few.programs, more.programs, same); erases = omega (arith, few.erases, more.erases, same) }
-
-pub returns-clause-repairs : goal.returns-clause-repairs
-returns-clause-repairs g c =
-    let few = c.in_ok-rows.ensures.repairs in
-    let more = c.in_ok-mount_within.ensures.repairs in
-    let same = ap rings_of c.in_ok-rows.ensures.blobs in
-    record { programs = omega (arith, few.programs, more.programs, same); erases = omega (arith, few.erases, more.erases, same) }
-
-pub returns-in_err-mount_within-clause-cause : goal.returns-in_err-mount_within-clause-cause
-returns-in_err-mount_within-clause-cause g c =
+pub returns-in_err-mount_within-clause-flash : goal.returns-in_err-mount_within-clause-flash
+returns-in_err-mount_within-clause-flash g c =
     let p = err_from_is_err_and c.from_residual-in_err-mount_within.result c.from_residual-in_err-mount_within.ensures.1 in
-    rw (p.1, p.2) (mount-cause-later (g.F.Flash.state c.args.flash.now) (g.F.Flash.state c.read_rows.new.flash) (g.F.Flash.state c.mount_within.new.flash) c.in_ok-rows.ensures.goes c.in_ok-rows.ensures.power
-    c.in_err-mount_within.field-0.0 c.in_err-mount_within.ensures.cause)
+    let old = g.F.Flash.state c.args.flash.now in
+    let mid = g.F.Flash.state c.read_rows.new.flash in
+    let new = g.F.Flash.state c.mount_within.new.flash in
+    let rows = c.in_ok-rows.ensures in
+    let blobs = c.in_err-mount_within.ensures in
+    record {
+      goes = goes-then old mid new rows.leaves.goes blobs.goes;
+      power = no-success _ _ c.from_residual-in_err-mount_within.result c.from_residual-in_err-mount_within.ensures.1;
+      outside = λ told page out var.
+          var-outside c.read_rows.new.self.blobs (page_at mid) (page_at new) page (blobs.outside (subst IsTrue (sym rows.leaves.goes.tells) told))
+          (subst (λ (o : Option VarData). IfSome o (λ var. IsOutside (var_shape var) page)) (sym rows.leaves.blobs) var) ∙ rows.leaves.outside told page out;
+      reads = λ told.
+          let few = rows.leaves.reads told in
+          let same = ap room_of rows.leaves.blobs in
+          record { reads = omega (arith, few.reads, blobs.reads.reads, same); media_reads = omega (arith, few.media_reads, blobs.reads.media_reads, same) };
+      repairs =
+          let few = rows.leaves.repairs in
+          let same = ap rings_of rows.leaves.blobs in
+          record { programs = omega (arith, few.programs, blobs.repairs.programs, same); erases = omega (arith, few.erases, blobs.repairs.erases, same) };
+      cause = rw (p.1, p.2) (mount-cause-later old mid new rows.leaves.goes rows.found.power c.in_err-mount_within.field-0.0 blobs.cause);
+      off = λ down. absurd (not-ok _ _ (rows.off down).0);
+    }
 
-pub returns-in_err-mount_within-clause-goes : goal.returns-in_err-mount_within-clause-goes
-returns-in_err-mount_within-clause-goes g c =
-    goes-then (g.F.Flash.state c.args.flash.now) (g.F.Flash.state c.read_rows.new.flash) (g.F.Flash.state c.mount_within.new.flash) c.in_ok-rows.ensures.goes c.in_err-mount_within.ensures.goes
-
-pub returns-clause-goes : goal.returns-clause-goes
-returns-clause-goes g c =
-    goes-then (g.F.Flash.state c.args.flash.now) (g.F.Flash.state c.read_rows.new.flash) (g.F.Flash.state c.mount_within.new.flash) c.in_ok-rows.ensures.goes c.in_ok-mount_within.ensures.goes
+pub returns-clause-flash : goal.returns-clause-flash
+returns-clause-flash g c =
+    let old = g.F.Flash.state c.args.flash.now in
+    let mid = g.F.Flash.state c.read_rows.new.flash in
+    let new = g.F.Flash.state c.mount_within.new.flash in
+    let rows = c.in_ok-rows.ensures in
+    let blobs = c.in_ok-mount_within.ensures in
+    record {
+      goes = goes-then old mid new rows.leaves.goes blobs.goes;
+      power = λ on. blobs-on _ _ mid new _ blobs.found (rows.found.power on);
+      outside = λ told page out var.
+          var-outside c.read_rows.new.self.blobs (page_at mid) (page_at new) page (blobs.outside (subst IsTrue (sym rows.leaves.goes.tells) told))
+          (subst (λ (o : Option VarData). IfSome o (λ var. IsOutside (var_shape var) page)) (sym rows.leaves.blobs) var) ∙ rows.leaves.outside told page out;
+      reads = λ told.
+          let few = rows.leaves.reads told in
+          let same = ap room_of rows.leaves.blobs in
+          record { reads = omega (arith, few.reads, blobs.reads.reads, same); media_reads = omega (arith, few.media_reads, blobs.reads.media_reads, same) };
+      repairs =
+          let few = rows.leaves.repairs in
+          let same = ap rings_of rows.leaves.blobs in
+          record { programs = omega (arith, few.programs, blobs.repairs.programs, same); erases = omega (arith, few.erases, blobs.repairs.erases, same) };
+      cause = tt;
+      off = λ down. absurd (not-ok _ _ (rows.off down).0);
+    }
 
 pub invariant_of-self : goal.invariant_of-self
 invariant_of-self g c =
@@ -229,40 +353,8 @@ invariant_of-self g c =
       running = t.running;
       follow = t.follow;
       pages_left = t.pages_left;
-      blobs_running = λ is. absurd (none-is t.ring c.in_ok-rows.ensures.down is);
-      blobs_left = λ is. absurd (none-is t.ring c.in_ok-rows.ensures.down is);
-    }
-
-pub returns-in_err-mount_within-clause-lies : goal.returns-in_err-mount_within-clause-lies
-returns-in_err-mount_within-clause-lies g c =
-    let lies = lies-moved c.read_rows.new.self (g.F.Flash.state c.read_rows.new.flash) (g.F.Flash.state c.mount_within.new.flash) c.in_err-mount_within.ensures.goes c.in_ok-rows.ensures.lies in
-    record {
-      geometry = lies.geometry;
-      within = lies.within;
-      few = lies.few;
-      ring = lies.ring;
-      bitmaps = lies.bitmaps;
-      blobs = c.in_err-mount_within.ensures.lies;
-    }
-
-pub returns-clause-lies : goal.returns-clause-lies
-returns-clause-lies g c =
-    let new = g.F.Flash.state c.mount_within.new.flash in
-    let mid = g.F.Flash.state c.read_rows.new.flash in
-    let goes = c.in_ok-mount_within.ensures.goes in
-    let lies = lies-moved c.read_rows.new.self mid new goes c.in_ok-rows.ensures.lies in
-    let here = c.in_ok-rows.ensures.lies_ring in
-    record {
-      geometry = lies.geometry;
-      within = lies.within;
-      few = lies.few;
-      ring = λ ring is. subst (λ (o : Option Ring). IfSome o (λ r. place.LiesOn r new)) is (record {
-        page = ap (λ x. x.page) goes.geometry ∙ here.page;
-        block = ap (λ x. x.block) goes.geometry ∙ here.block;
-        within = omega (arith, here.within, goes.blocks);
-      });
-      bitmaps = lies.bitmaps;
-      blobs = c.in_ok-mount_within.ensures.lies;
+      blobs_running = λ is. absurd (none-is t.ring c.in_ok-rows.ensures.leaves.down is);
+      blobs_left = λ is. absurd (none-is t.ring c.in_ok-rows.ensures.leaves.down is);
     }
 
 pub invariant_of-self-2 : goal.invariant_of-self-2
@@ -289,188 +381,23 @@ invariant_of-self-2 g c =
           let t = c.args.self.now in
           let m = c.read_rows.new.self in
           let shape : shape_at t.place t.geometry ≡ shape_at m.place m.geometry =
-          sym (ap (λ (p : RingPlace). shape_at p m.geometry) c.in_ok-rows.ensures.same.place ∙ ap (λ (x : Geometry). shape_at t.place x) c.in_ok-rows.ensures.same.geometry) in
-          subst (λ (o : Option Ring). IfSome o (λ r. shape_of r ≡ shape_at m.place m.geometry)) is (c.in_ok-rows.ensures.shape ∙ shape);
-      left = λ ring is some. absurd (omega (arith, some, c.in_ok-rows.ensures.none.0));
+          sym (ap (λ (p : RingPlace). shape_at p m.geometry) c.in_ok-rows.ensures.leaves.same.place ∙ ap (λ (x : Geometry). shape_at t.place x) c.in_ok-rows.ensures.leaves.same.geometry) in
+          subst (λ (o : Option Ring). IfSome o (λ r. shape_of r ≡ shape_at m.place m.geometry)) is (c.in_ok-rows.ensures.found.shape ∙ shape);
+      left = λ ring is some. absurd (omega (arith, some, c.in_ok-rows.ensures.leaves.none.0));
       few_pages = t.few_pages;
-      running = λ is. c.in_ok-rows.ensures.running;
-      follow = λ ring is. subst (λ (o : Option Ring). IfSome o (λ r. EndAt c.read_rows.new.self.bitmaps (next_of r))) is c.in_ok-rows.ensures.follow;
-      pages_left = λ some. absurd (omega (arith, some, c.in_ok-rows.ensures.none.0));
+      running = λ is. c.in_ok-rows.ensures.leaves.running;
+      follow = λ ring is. subst (λ (o : Option Ring). IfSome o (λ r. EndAt c.read_rows.new.self.bitmaps (next_of r))) is c.in_ok-rows.ensures.found.follow;
+      pages_left = λ some. absurd (omega (arith, some, c.in_ok-rows.ensures.leaves.none.0));
       blobs_running = λ is. c.in_ok-mount_within.ensures.running;
-      blobs_left = λ is some. absurd (omega (arith, some, c.in_ok-rows.ensures.none.0));
+      blobs_left = λ is some. absurd (omega (arith, some, c.in_ok-rows.ensures.leaves.none.0));
     }
 
 pub read_rows-requires : goal.read_rows-requires
 read_rows-requires g c = (table-fits g.row.KNOTS g.row.SLOTS c.args.self.now.few_knots c.args.self.now.few_slots, (c.requires.forgotten, (c.requires.running, (c.requires.idle, (c.requires.lies, (c.requires.room, c.requires.few))))))
 
-pub returns-in_err-rows-clause-limit : goal.returns-in_err-rows-clause-limit
-returns-in_err-rows-clause-limit g c = λ first plan table rose device watched planned rests stands end full.
-    let few = c.in_err-rows.ensures.limit first plan table rose device watched planned rests stands end full in
-    omega (arith, few)
-
-pub returns-in_err-mount_within-clause-limit : goal.returns-in_err-mount_within-clause-limit
-returns-in_err-mount_within-clause-limit g c = λ first plan table rose device watched planned rests stands end full.
-    let t = c.read_rows.new.self in
-    let old = g.F.Flash.state c.args.flash.now in
-    let mid = g.F.Flash.state c.read_rows.new.flash in
-    let new = g.F.Flash.state c.mount_within.new.flash in
-    let goes = c.in_ok-rows.ensures.goes in
-    let front = watched-first old mid new rose device watched c.mount_within.ensures.goes in
-    let w = c.in_ok-rows.ensures.ends first plan table rose device front planned rests stands end in
-    let then = watched-then old mid new rose device w.now.device watched goes w.power w.counts in
-    let rows = c.in_ok-rows.ensures.limit first plan table rose device front planned rests stands end full in
-    let var = var-limit t mid new first plan table rose device c.in_ok-rows.rows w then t.blobs refl (c.in_err-mount_within.ensures.outside then.told)
-    (c.in_err-mount_within.ensures.limit (first + plan.data_blocks + plan.index_blocks) plan w.now.state then.told) in
-    omega (arith, rows, var)
-
-pub returns-clause-limit : goal.returns-clause-limit
-returns-clause-limit g c = λ first plan table rose device watched planned rests stands end full.
-    let t = c.read_rows.new.self in
-    let old = g.F.Flash.state c.args.flash.now in
-    let mid = g.F.Flash.state c.read_rows.new.flash in
-    let new = g.F.Flash.state c.mount_within.new.flash in
-    let goes = c.in_ok-rows.ensures.goes in
-    let front = watched-first old mid new rose device watched c.mount_within.ensures.goes in
-    let w = c.in_ok-rows.ensures.ends first plan table rose device front planned rests stands end in
-    let then = watched-then old mid new rose device w.now.device watched goes w.power w.counts in
-    let rows = c.in_ok-rows.ensures.limit first plan table rose device front planned rests stands end full in
-    let var = var-limit t mid new first plan table rose device c.in_ok-rows.rows w then t.blobs refl (c.in_ok-mount_within.ensures.outside then.told)
-    (c.in_ok-mount_within.ensures.limit (first + plan.data_blocks + plan.index_blocks) plan w.now.state then.told) in
-    omega (arith, rows, var)
-
-pub returns-clause-power : goal.returns-clause-power
-returns-clause-power g c = λ on. blobs-on _ _ (g.F.Flash.state c.read_rows.new.flash) (g.F.Flash.state c.mount_within.new.flash) _ c.in_ok-mount_within.ensures.found (c.in_ok-rows.ensures.power on)
-
-few-more : (n k : ℕ) (old new : FlashState) → FewRepairs n old new → FewRepairs (n + k) old new
-few-more n k old new few = record { programs = omega (arith, few.programs); erases = omega (arith, few.erases) }
-
-same-fault : (e f : MountFault) → ◌≡◌ {A = Result FoundRows MountFault} (Err e) (Err f) → e ≡ f
-same-fault e f is = cc
-
-not-ok : (rows : FoundRows) (e : MountFault) → ◌≡◌ {A = Result FoundRows MountFault} (Ok rows) (Err e) → ⊥
-not-ok rows e is = cc
-
-pub returns-in_err-rows-clause-goes : goal.returns-in_err-rows-clause-goes
-returns-in_err-rows-clause-goes g c = c.in_err-rows.ensures.goes
-
-pub returns-in_err-rows-clause-same : goal.returns-in_err-rows-clause-same
-returns-in_err-rows-clause-same g c = c.in_err-rows.ensures.same
-
-pub returns-in_err-rows-clause-still : goal.returns-in_err-rows-clause-still
-returns-in_err-rows-clause-still g c = c.in_err-rows.ensures.still
-
-pub returns-in_err-rows-clause-lies : goal.returns-in_err-rows-clause-lies
-returns-in_err-rows-clause-lies g c = c.in_err-rows.ensures.lies
-
-pub returns-in_err-rows-clause-room : goal.returns-in_err-rows-clause-room
-returns-in_err-rows-clause-room g c = c.in_err-rows.ensures.room
-
-pub returns-in_err-rows-clause-holds : goal.returns-in_err-rows-clause-holds
-returns-in_err-rows-clause-holds g c = c.in_err-rows.ensures.holds
-
-pub returns-in_err-rows-clause-calm : goal.returns-in_err-rows-clause-calm
-returns-in_err-rows-clause-calm g c = c.in_err-rows.ensures.calm
-
-pub returns-in_err-rows-clause-none : goal.returns-in_err-rows-clause-none
-returns-in_err-rows-clause-none g c = c.in_err-rows.ensures.none.0
-
-pub returns-in_err-rows-clause-empty : goal.returns-in_err-rows-clause-empty
-returns-in_err-rows-clause-empty g c = no-success _ _ c.from_residual.result c.from_residual.ensures.1
-
-pub returns-in_err-rows-clause-found : goal.returns-in_err-rows-clause-found
-returns-in_err-rows-clause-found g c = no-success _ _ c.from_residual.result c.from_residual.ensures.1
-
-pub returns-in_err-rows-clause-power : goal.returns-in_err-rows-clause-power
-returns-in_err-rows-clause-power g c = no-success _ _ c.from_residual.result c.from_residual.ensures.1
-
-pub returns-in_err-rows-clause-mounted : goal.returns-in_err-rows-clause-mounted
-returns-in_err-rows-clause-mounted g c =
-    let p = err_from_is_err_and c.from_residual.result c.from_residual.ensures.1 in
-    rw p.1 (ap (λ (o : Option Ring). is_some o) c.in_err-rows.ensures.down)
-
-pub returns-in_err-rows-clause-repairs : goal.returns-in_err-rows-clause-repairs
-returns-in_err-rows-clause-repairs g c = few-more 1 _ _ _ c.in_err-rows.ensures.repairs
-
-pub returns-in_err-rows-clause-cause : goal.returns-in_err-rows-clause-cause
-returns-in_err-rows-clause-cause g c =
-    let p = err_from_is_err_and c.from_residual.result c.from_residual.ensures.1 in
-    rw (p.1, p.2) c.in_err-rows.ensures.cause
-
-pub returns-in_err-rows-clause-off : goal.returns-in_err-rows-clause-off
-returns-in_err-rows-clause-off g c = λ down.
-    let h = c.in_err-rows.ensures.off down in
-    let p = err_from_is_err_and c.from_residual.result c.from_residual.ensures.1 in
-    rw (p.1, p.2) (ap (λ (e : MountFault). Err e) (same-fault _ _ h.0), h.1)
-
-pub returns-in_err-mount_within-clause-still : goal.returns-in_err-mount_within-clause-still
-returns-in_err-mount_within-clause-still g c = c.in_ok-rows.ensures.still
-
-pub returns-in_err-mount_within-clause-calm : goal.returns-in_err-mount_within-clause-calm
-returns-in_err-mount_within-clause-calm g c = c.in_ok-rows.ensures.calm
-
-pub returns-in_err-mount_within-clause-none : goal.returns-in_err-mount_within-clause-none
-returns-in_err-mount_within-clause-none g c = c.in_ok-rows.ensures.none.0
-
-pub returns-in_err-mount_within-clause-empty : goal.returns-in_err-mount_within-clause-empty
-returns-in_err-mount_within-clause-empty g c = no-success _ _ c.from_residual-in_err-mount_within.result c.from_residual-in_err-mount_within.ensures.1
-
-pub returns-in_err-mount_within-clause-found : goal.returns-in_err-mount_within-clause-found
-returns-in_err-mount_within-clause-found g c = no-success _ _ c.from_residual-in_err-mount_within.result c.from_residual-in_err-mount_within.ensures.1
-
-pub returns-in_err-mount_within-clause-power : goal.returns-in_err-mount_within-clause-power
-returns-in_err-mount_within-clause-power g c = no-success _ _ c.from_residual-in_err-mount_within.result c.from_residual-in_err-mount_within.ensures.1
-
-pub returns-in_err-mount_within-clause-same : goal.returns-in_err-mount_within-clause-same
-returns-in_err-mount_within-clause-same g c =
-    same-then c.args.self.now c.read_rows.new.self _ c.in_ok-rows.ensures.same (record { geometry = refl; layout = refl; place = refl; buckets = refl; error = refl; bitmaps = plan-same c.read_rows.new.self.bitmaps; blobs = c.in_err-mount_within.ensures.same; limit = refl })
-
-pub returns-in_err-mount_within-clause-room : goal.returns-in_err-mount_within-clause-room
-returns-in_err-mount_within-clause-room g c = c.in_err-mount_within.ensures.room ∙ c.in_ok-rows.ensures.room
-
-pub returns-in_err-mount_within-clause-holds : goal.returns-in_err-mount_within-clause-holds
-returns-in_err-mount_within-clause-holds g c = c.in_err-mount_within.ensures.holds
-
-pub returns-in_err-mount_within-clause-mounted : goal.returns-in_err-mount_within-clause-mounted
-returns-in_err-mount_within-clause-mounted g c =
-    let p = err_from_is_err_and c.from_residual-in_err-mount_within.result c.from_residual-in_err-mount_within.ensures.1 in
-    rw p.1 (ap (λ (o : Option Ring). is_some o) c.in_ok-rows.ensures.down)
-
-pub returns-in_err-mount_within-clause-off : goal.returns-in_err-mount_within-clause-off
-returns-in_err-mount_within-clause-off g c = λ down. absurd (not-ok _ _ (c.in_ok-rows.ensures.off down).0)
-
-pub returns-clause-still : goal.returns-clause-still
-returns-clause-still g c = c.in_ok-rows.ensures.still
-
-pub returns-clause-calm : goal.returns-clause-calm
-returns-clause-calm g c = c.in_ok-rows.ensures.calm
-
-pub returns-clause-none : goal.returns-clause-none
-returns-clause-none g c = c.in_ok-rows.ensures.none.0
-
-pub returns-clause-empty : goal.returns-clause-empty
-returns-clause-empty g c = nothing-waits c.in_ok-rows.ensures.none c.in_ok-mount_within.ensures.empty
-
-pub returns-clause-room : goal.returns-clause-room
-returns-clause-room g c = c.in_ok-mount_within.ensures.room ∙ c.in_ok-rows.ensures.room
-
-pub returns-clause-holds : goal.returns-clause-holds
-returns-clause-holds g c = c.in_ok-mount_within.ensures.holds
-
-pub returns-clause-mounted : goal.returns-clause-mounted
-returns-clause-mounted g c = refl
-
-pub returns-clause-refused : goal.returns-clause-refused
-returns-clause-refused g c = tt
-
-pub returns-clause-cause : goal.returns-clause-cause
-returns-clause-cause g c = tt
-
-pub returns-clause-off : goal.returns-clause-off
-returns-clause-off g c = λ down. absurd (not-ok _ _ (c.in_ok-rows.ensures.off down).0)
-
 pub mount_within-requires : goal.mount_within-requires
 mount_within-requires g c = record {
-  lies = c.in_ok-rows.ensures.lies.blobs;
-  room = c.in_ok-rows.ensures.room ∙ (c.requires.room ∙ sym (ap (λ (x : Geometry). x.page) c.in_ok-rows.ensures.goes.geometry));
-  none = c.in_ok-rows.ensures.holds;
+  lies = c.in_ok-rows.ensures.leaves.lies.blobs;
+  room = c.in_ok-rows.ensures.buffer.room ∙ (c.requires.room ∙ sym (ap (λ (x : Geometry). x.page) c.in_ok-rows.ensures.leaves.goes.geometry));
+  none = c.in_ok-rows.ensures.buffer.holds;
 }

@@ -1,0 +1,90 @@
+// A read of all kept pages: those of the data ring, and those of an index whose entries are full.
+ghost use Rattle.std.specs.Prelude.{◌≡◌, ◌+◌, ◌-◌, ◌≤◌, None, [], length, IsTrue, IfOk, IfErr};
+ghost use Rattle.fl_find.specs.Index.{error_in, IndexOf};
+ghost use Rattle.fl_model.specs.Record.{layout_len};
+ghost use Rattle.fl_ring.specs.Place.{shape_of, next_of, oldest_of, LiesOn};
+ghost use Rattle.fl_ring.specs.Ring.{room};
+ghost use Rattle.fl_schema.specs.Schema.{layout_of};
+ghost use Rattle.fl_parts.specs.Bitmaps.{AreIdle, AreRunning, LieOn};
+ghost use Rattle.fl_parts.specs.ByEntries.{unlisted_of};
+ghost use Rattle.fl_parts.specs.Coming.{come_of, most_in};
+ghost use Rattle.fl_parts.specs.KeptRead.{FindsKept, LeavesKept, RefusesKept};
+ghost use Rattle.fl_parts.specs.Knowing.{KnowsWith};
+
+use crate::MountFault;
+use crate::bitmaps::{first_to_wait, restart};
+use crate::by_entries::read_listed;
+use crate::known::Known;
+use crate::load::{read_newest, read_pages};
+use fl_find::KeyIndex;
+use fl_flash::{Flash, PageBuf};
+use fl_index::BitmapIndex;
+use fl_ring::Ring;
+use fl_schema::Schema;
+
+/// Reads the kept pages of the data ring, and those of an index whose entries are full and which ends at this number. It
+/// answers what is known of the data pages. Of those that no index page lists the entries of the last ones wait then.
+/// A page has so many bytes as `page` tells, and `counts` has the number of rows of each page, by its place in the ring.
+///
+/// # Errors
+///
+/// `Flash` where a read fails, and else the first fault of the kept pages: `BadPage`, `BadKeys` or `BadEntry`.
+pub fn read_kept<F: Flash, const KNOTS: usize, const SLOTS: usize>(
+    schema: &Schema<8>,
+    ring: &Ring,
+    end: u32,
+    page: u32,
+    counts: &mut [u16],
+    index: &mut KeyIndex<KNOTS, SLOTS>,
+    bitmaps: &mut Option<BitmapIndex>,
+    flash: &mut F,
+    buf: &mut PageBuf,
+) -> Result<Known, MountFault>
+    requires row { 1 ≤ layout_len (layout_of schema.now) }
+    requires page { 24 ≤ page }
+    requires lies { LiesOn ring.now (F.state flash.old) }
+    requires bitmaps_lie { LieOn bitmaps.old (F.state flash.old) }
+    requires running { AreRunning bitmaps.old }
+    requires idle { AreIdle bitmaps.old }
+    requires room { length buf.old.bytes ≡ (F.state flash.old).geometry.page }
+    requires none { buf.old.holds ≡ None }
+    requires counts { length counts.old ≡ room (shape_of ring.now) }
+    requires few { IsTrue (F.state flash.old).media.tells → next_of ring.now - oldest_of ring.now ≤ length counts.old }
+    requires end { end ≤ next_of ring.now }
+    requires empty { IndexOf (error_in index.old) [] index.old }
+    ensures knows { IfOk result (λ known. IsTrue (F.state flash.old).media.tells →
+        let layout = layout_of schema.now in
+        let t = come_of layout (most_in page layout) bitmaps.old ring.now (F.state flash.old) in
+        KnowsWith (error_in index.old) t t.index_pages t.pages known counts.new index.new) }
+    ensures found { IfOk result (λ known.
+        let layout = layout_of schema.now in
+        let t = come_of layout (most_in page layout) bitmaps.old ring.now (F.state flash.old) in
+        FindsKept t bitmaps.old ring.now (F.state flash.old) end known bitmaps.new (F.state flash.new)) }
+    ensures refused { IfErr result (λ e.
+        let layout = layout_of schema.now in
+        let t = come_of layout (most_in page layout) bitmaps.old ring.now (F.state flash.old) in
+        RefusesKept t (F.state flash.old) e (F.state flash.new)) }
+    ensures leaves { LeavesKept bitmaps.old ring.now (F.state flash.old) bitmaps.new (F.state flash.new) }
+    ensures few_reads { IsTrue (F.state flash.old).media.tells →
+        let layout = layout_of schema.now in
+        let t = come_of layout (most_in page layout) bitmaps.old ring.now (F.state flash.old) in
+        (F.state flash.new).work.reads ≤
+        (F.state flash.old).work.reads + t.index_pages + unlisted_of t t.oldest t.pages + 1 }
+    ensures size { length counts.new ≡ length counts.old }
+    ensures error { error_in index.new ≡ error_in index.old }
+    ensures room { length buf.new.bytes ≡ length buf.old.bytes }
+    ensures none { buf.new.holds ≡ None }
+{
+    let mut known = Known::nothing();
+    let limit = (page - 24) / schema.row_len();
+    let from = read_listed(
+        schema, ring, bitmaps, limit, &mut known, counts, index, flash, buf,
+    )?;
+    let first = first_to_wait(bitmaps, end, from, ring.next_number());
+    restart(bitmaps, first);
+    read_pages(
+        schema, ring, from, &mut known, counts, index, bitmaps, flash, buf,
+    )?;
+    read_newest(schema, ring, &mut known, counts, index, flash, buf)?;
+    Ok(known)
+}
