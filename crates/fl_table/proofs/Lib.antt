@@ -37,3 +37,5 @@ pub mod Slots
 pub mod Skips
 pub mod Entries
 pub mod Writing
+pub mod Sealing
+pub mod SealedRings

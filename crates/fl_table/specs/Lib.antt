@@ -16,3 +16,4 @@ pub mod Kept
 pub mod BlobAt
 pub mod Finding
 pub mod Lookups
+pub mod Sealing
