@@ -1,21 +1,11 @@
 -- What is known of the kept pages once the pending rows were sealed.
-use Rattle.std.proofs.Common.{◌≡◌, ℕ, ◌-◌, false, Option, Some, option_map, unwrap_or, IfSome, List, ◌∷◌, [], ◌++◌, length, refl, sym, ◌∙◌, ap, subst}
+use Rattle.std.proofs.Common.{◌≡◌, ℕ, ◌-◌, false, Some, List, ◌∷◌, [], ◌++◌, sym, ◌∙◌, ap, subst}
 use Rattle.std.specs.List.{slice_get}
 use Rattle.fl_find.specs.Index.{IndexOf, is_further, knots_in}
 use Rattle.fl_find.specs.declared.index.KeyIndex.{KeyIndex}
-use Rattle.fl_model.specs.Record.{RowLayout}
 use Rattle.fl_model.specs.Row.{Row}
-use Rattle.fl_page.specs.Writer.{Gathers}
-use Rattle.fl_page.specs.WriterState.{WriterState}
-use Rattle.fl_ring.specs.Place.{next_of, oldest_of, oldest_after}
-use Rattle.fl_ring.specs.declared.ring.Ring.{Ring}
-use Rattle.fl_schema.specs.Schema.{layout_of}
 use Rattle.fl_spline.specs.Points.{IsFurther}
-use Rattle.fl_table.specs.Look.{oldest_in}
-use Rattle.fl_table.specs.Memory.{next_in, pending_in, IsSamePlan, PendingAre}
 use Rattle.fl_table.specs.Stored.{voids_from}
-use Rattle.fl_table.specs.declared.table.Table.{Table}
-use Rattle.fl_table.proofs.SealAnswers.{note-same}
 
 -- the first of some rows
 pub first-is : (rows : List Row) (row first : Row) → slice_get (row ∷ rows) 0 ≡ Some first → row ≡ first

@@ -1,5 +1,5 @@
 -- How the seals of a table's rings in turn end, for the table of the model.
-use Rattle.std.proofs.Common.{◌≡◌, ℕ, ◌+◌, ◌*◌, ◌≤◌, true, false, cond, ◌&&◌, ◌==◌, nat_lt, Bool, IsTrue, IfSome, Option, Some, Result, Ok, Err, List, [], ◌∷◌, ◌++◌, length, is_some, inl, inr, refl, sym, ◌∙◌, ap, subst, arith}
+use Rattle.std.proofs.Common.{◌≡◌, ℕ, ◌+◌, ◌*◌, ◌≤◌, true, false, cond, ◌&&◌, ◌==◌, nat_lt, Bool, Option, Some, Result, Ok, Err, List, [], ◌∷◌, ◌++◌, length, is_some, inl, inr, refl, sym, ◌∙◌, ap, subst, arith}
 use Rattle.fl_flash.specs.Flash.{FlashState, Goes, page_at}
 use Rattle.fl_flash.specs.Places.{extent}
 use Rattle.fl_flash.specs.declared.flash.FlashFault.{FlashFault}
@@ -7,34 +7,32 @@ use Rattle.fl_frame.proofs.WatchedInTurn.{watched-first, watched-then}
 use Rattle.fl_frame.proofs.CallsInTurn.{goes-then}
 use Rattle.fl_frame.specs.Watched.{IsWatched}
 use Rattle.fl_index.specs.declared.index.BitmapIndex.{BitmapIndex}
+use Rattle.fl_model.specs.Facts.{IsTable}
 use Rattle.fl_model.specs.Layout.{rows_body}
-use Rattle.fl_model.specs.Record.{Plan, RowLayout, entries_per_page, has_index}
-use Rattle.fl_model.specs.Row.{Row}
+use Rattle.fl_model.specs.Record.{Plan, entries_per_page, has_index}
 use Rattle.fl_model.specs.Table.{Table, RingName, DataRing, IndexRing, VarRing, after_seals, fill, lose, pending_entries, table_seals}
 use Rattle.fl_model.specs.Work.{Device}
-use Rattle.fl_page.specs.Writer.{Gathers}
 use Rattle.fl_parts.proofs.BlobsOfTable as blobbing
 use Rattle.fl_parts.proofs.BlobsOfTable.{after-empty, same-some}
-use Rattle.fl_parts.proofs.IndexOfTable.{made-after, made-end, made-room, made-running, still-few, still-planned}
+use Rattle.fl_parts.proofs.IndexOfTable.{made-after, made-end, made-room, made-running, plan-same, still-few}
 use Rattle.fl_parts.proofs.Plain.{some-table_seals, table-facts}
 use Rattle.fl_parts.proofs.States.{shape_in, state_of, HaveSize}
 use Rattle.fl_parts.specs.Bitmaps as bitmaps
 use Rattle.fl_parts.specs.Bitmaps.{RoomMade, bitmap_seals}
 use Rattle.fl_parts.specs.Blobs as variable
 use Rattle.fl_parts.specs.Blobs.{rest_seals}
+use Rattle.fl_parts.specs.Pages.{HoldsTable}
 use Rattle.fl_ring.specs.Operations.{change, seal_kinds}
-use Rattle.fl_ring.specs.Place.{next_of, shape_of, StandsFor}
+use Rattle.fl_ring.specs.Place.{shape_of, StandsFor}
 use Rattle.fl_ring.specs.Ring.{Shape, OutsideStands}
-use Rattle.fl_ring.specs.Sealing.{Performed, IsReady, Seals}
+use Rattle.fl_ring.specs.Sealing.{Performed, IsReady}
 use Rattle.fl_ring.specs.declared.ring.Ring.{Ring}
-use Rattle.fl_table.proofs.BlobStands.{bitmaps-stand, index-before, rest-done, rested-finishes}
-use Rattle.fl_table.proofs.IndexSeals.{bitmaps-end, made-finishes, var-stand, with_index}
-use Rattle.fl_table.proofs.ReadsKeepTable.{lies-moved}
-use Rattle.fl_table.proofs.SealAnswers.{counts-room, lies-size, planned-ring, ring-next, seal-ready, sealing-of, writer-count}
+use Rattle.fl_table.proofs.BlobStands.{bitmaps-stand, index-before, rest-done}
+use Rattle.fl_table.proofs.IndexSeals.{bitmaps-end, var-stand, with_index}
+use Rattle.fl_table.proofs.SealAnswers.{counts-room, lies-size, planned-ring, planned-same, ring-next, seal-ready, sealing-of, writer-count}
 use Rattle.fl_table.proofs.SealEnds.{IsSealed, IsSealing, KeepsAll, seal-breaks, seal-finishes}
 use Rattle.fl_table.proofs.Sealing.{RowsMake}
 use Rattle.fl_table.proofs.SealsInTurn.{ends-alone, seals-stop, seals-then}
-use Rattle.fl_table.specs.Memory.{LiesOn}
 use Rattle.fl_table.specs.Outcomes.{Breaks, Finishes, BySeals, SealsEnd}
 use Rattle.fl_table.specs.Sealing.{ReachesRows, SealsBytes, SealsEntries, SealsInTurn, SealsRows}
 use Rattle.fl_table.specs.Standing.{Stands}
@@ -65,89 +63,87 @@ pending t old first plan table some stands none = absurd (omega (arith, none, wr
 
 module _ {KNOTS SLOTS : ℕ} (t : code.Table KNOTS SLOTS) (old new : FlashState) (first : ℕ) (plan : Plan) (table : Table) (rose : Bool) (device : Device) (some : 1 ≤ t.writer.count) where
   -- the seal of the waiting entries was done, ..
-  entries-finish : Stands t old first plan table → IsWatched old new rose device → (listed : Option BitmapIndex) (h : SealsEntries t.bitmaps old (Ok tt) listed new) → Finishes first plan (BySeals plan (bitmap_seals plan table) table rose device) table (after_seals plan (bitmap_seals plan table) table) (indexed t listed h.same h.made) old new
+  entries-finish : Stands t old first plan table → IsWatched old new rose device → (listed : Option BitmapIndex) (h : SealsEntries t.bitmaps old (Ok tt) listed new) →
+      Finishes first plan (BySeals plan (bitmap_seals plan table) table rose device) table (after_seals plan (bitmap_seals plan table) table) (indexed t listed h.same h.made) old new
   entries-finish stands watched listed h =
+      let t1 = indexed t listed h.same h.made in
       let outside = h.flash.outside watched.told in
       let memory = stands.memory in
       let made = bitmaps-end t old new first plan table rose device t.bitmaps (Ok tt) listed refl stands (pending t old first plan table some stands) watched (t.pages_left some) outside h.made (h.ends (first + plan.data_blocks) plan table rose device) in
-      made-finishes t (indexed t listed h.same h.made) old new first plan (bitmap_seals plan table) table rose device listed made
-      (λ index entries waiting facts pages bitmaps. record {
-        planned = record {
-          geometry = stands.planned.geometry;
-          layout = stands.planned.layout;
-          begins = stands.planned.begins;
-          blocks = stands.planned.blocks;
-          index = still-planned t.bitmaps listed (first + plan.data_blocks) plan stands.planned.index h.same;
-          var = stands.planned.var;
-          limit = stands.planned.limit;
-          buckets = stands.planned.buckets;
-          error = stands.planned.error;
-          log = stands.planned.log;
-        };
-        facts = facts;
-        whole = stands.whole;
-        clean = stands.clean;
-        pages = pages;
-        memory = record {
-          ring = memory.ring;
-          ring_is = memory.ring_is;
-          next = memory.next;
-          oldest = memory.oldest;
-          gathers = memory.gathers;
-          bitmap = memory.bitmap;
-          blob_end = memory.blob_end;
-          last = memory.last;
-          counts = memory.counts;
-          voids = memory.voids;
-          index = memory.index;
-        };
-        bitmaps = bitmaps;
-        blobs = blobbing.stand-moved t.blobs old new first plan table (with_index table index entries waiting) (var-stand t.bitmaps (page_at old) (page_at new) first plan stands.planned.index outside) refl refl refl (λ i entry e. (i, e)) stands.blobs;
-        points = record { older = stands.points.older; points = stands.points.points; last = stands.points.last };
-      })
+      let is = made.beside.3 in
+      record {
+        now = made.now;
+        did = made.did;
+        whole = made.whole;
+        counts = made.counts;
+        power = made.power;
+        stands = subst (Stands t1 new first plan) (sym is) (record {
+          planned = planned-same t t1 first plan stands.planned (record { geometry = refl; layout = refl; place = refl; buckets = refl; error = refl; bitmaps = h.same; blobs = blobbing.plan-same t.blobs; limit = refl });
+          facts = subst (IsTable plan) is made.facts;
+          whole = stands.whole;
+          clean = stands.clean;
+          pages = subst (λ (x : Table). HoldsTable (page_at new) first plan (lose x)) is made.pages;
+          memory = record {
+            ring = memory.ring;
+            ring_is = memory.ring_is;
+            next = memory.next;
+            oldest = memory.oldest;
+            gathers = memory.gathers;
+            bitmap = memory.bitmap;
+            blob_end = memory.blob_end;
+            last = memory.last;
+            counts = memory.counts;
+            voids = memory.voids;
+            index = memory.index;
+          };
+          bitmaps = subst (bitmaps.Stand listed new (first + plan.data_blocks) plan) is made.bitmaps;
+          blobs = blobbing.stand-moved t.blobs old new first plan table (with_index table made.beside.0 made.beside.1 made.beside.2) (var-stand t.bitmaps (page_at old) (page_at new) first plan stands.planned.index outside) refl refl refl (λ i entry e. (i, e)) stands.blobs;
+          points = record { older = stands.points.older; points = stands.points.points; last = stands.points.last };
+        });
+        stand = made.stand;
+      }
 
   -- .. and that of the bytes of blobs
-  bytes-finish : is_some t.ring ≡ true → Stands t old first plan table → IsWatched old new rose device → (rest : Option VarData) (h : SealsBytes t.blobs old (Ok tt) rest new) → Finishes first plan (BySeals plan (rest_seals table) table rose device) table (after_seals plan (rest_seals table) table) (rested t rest h.same h.running h.empty h.next) old new
+  bytes-finish : is_some t.ring ≡ true → Stands t old first plan table → IsWatched old new rose device → (rest : Option VarData) (h : SealsBytes t.blobs old (Ok tt) rest new) →
+      Finishes first plan (BySeals plan (rest_seals table) table rose device) table (after_seals plan (rest_seals table) table) (rested t rest h.same h.running h.empty h.next) old new
   bytes-finish runs stands watched rest h =
+      let t1 = rested t rest h.same h.running h.empty h.next in
       let outside = h.flash.outside watched.told in
       let memory = stands.memory in
       let done = rest-done t old new first plan table rose device stands watched t.blobs (Ok tt) rest refl (t.blobs_left runs some) outside h.next (h.ends (first + plan.data_blocks + plan.index_blocks) plan table rose device) in
-      rested-finishes (rested t rest h.same h.running h.empty h.next) old new first plan (rest_seals table) table rose device rest done
-      (λ ring content bytes facts pages blobs. record {
-        planned = record {
-          geometry = stands.planned.geometry;
-          layout = stands.planned.layout;
-          begins = stands.planned.begins;
-          blocks = stands.planned.blocks;
-          index = stands.planned.index;
-          var = blobbing.still-planned t.blobs rest (first + plan.data_blocks + plan.index_blocks) plan stands.planned.var h.same;
-          limit = stands.planned.limit;
-          buckets = stands.planned.buckets;
-          error = stands.planned.error;
-          log = stands.planned.log;
-        };
-        facts = table-facts plan _ facts;
-        whole = stands.whole;
-        clean = stands.clean;
-        pages = pages;
-        memory = record {
-          ring = memory.ring;
-          ring_is = memory.ring_is;
-          next = memory.next;
-          oldest = memory.oldest;
-          gathers = memory.gathers;
-          bitmap = memory.bitmap;
-          blob_end = memory.blob_end;
-          last = memory.last;
-          counts = memory.counts;
-          voids = memory.voids;
-          index = memory.index;
-        };
-        bitmaps = bitmaps-stand t.bitmaps old new first plan table ring content bytes stands.planned.index (omega (arith, ap (λ x. x.block) stands.planned.geometry, t.served.block_least))
-            (λ some. index-before t.blobs (page_at old) (page_at new) first plan stands.planned.var outside some) stands.bitmaps;
-        blobs = blobs;
-        points = record { older = stands.points.older; points = stands.points.points; last = stands.points.last };
-      })
+      let is = done.beside.3 in
+      record {
+        now = done.now;
+        did = done.did;
+        whole = done.whole;
+        counts = done.counts;
+        power = done.power;
+        stands = subst (Stands t1 new first plan) (sym is) (record {
+          planned = planned-same t t1 first plan stands.planned (record { geometry = refl; layout = refl; place = refl; buckets = refl; error = refl; bitmaps = plan-same t.bitmaps; blobs = h.same; limit = refl });
+          facts = subst (IsTable plan) is (table-facts plan (after_seals plan (rest_seals table) table) done.facts);
+          whole = stands.whole;
+          clean = stands.clean;
+          pages = subst (λ (x : Table). HoldsTable (page_at new) first plan (lose x)) is done.pages;
+          memory = record {
+            ring = memory.ring;
+            ring_is = memory.ring_is;
+            next = memory.next;
+            oldest = memory.oldest;
+            gathers = memory.gathers;
+            bitmap = memory.bitmap;
+            blob_end = memory.blob_end;
+            last = memory.last;
+            counts = memory.counts;
+            voids = memory.voids;
+            index = memory.index;
+          };
+          bitmaps = bitmaps-stand t.bitmaps old new first plan table done.beside.0 done.beside.1 done.beside.2 stands.planned.index (omega (arith, ap (λ x. x.block) stands.planned.geometry, t.served.block_least))
+              (λ some. index-before t.blobs (page_at old) (page_at new) first plan stands.planned.var outside some) stands.bitmaps;
+          blobs = subst (variable.Stand rest new (first + plan.data_blocks + plan.index_blocks) plan) is done.blobs;
+          points = record { older = stands.points.older; points = stands.points.points; last = stands.points.last };
+        });
+        stand = done.stand;
+      }
 
 -- the page of rows, where room was made in the index and no byte of a blob waits
 module _ {KNOTS SLOTS : ℕ} (t : code.Table KNOTS SLOTS) (ring : Ring) (has : t.ring ≡ Some ring) (body : List ℕ) (makes : RowsMake t ring body) (old new : FlashState) (first : ℕ) (plan : Plan) (table : Table) (rose : Bool) (device : Device) (some : 1 ≤ t.writer.count)

@@ -20,7 +20,7 @@ use Rattle.fl_parts.proofs.Untouched.{on-ok}
 use Rattle.fl_parts.specs.Bitmaps as bitmaps
 use Rattle.fl_parts.specs.Blobs as variable
 use Rattle.fl_ring.proofs.Written.{writes-then, writes-wider}
-use Rattle.fl_ring.specs.Place.{next_of, oldest_of, shape_of}
+use Rattle.fl_ring.specs.Place.{next_of, shape_of}
 use Rattle.fl_ring.specs.Ring as rings
 use Rattle.fl_ring.specs.Ring.{Shape}
 use Rattle.fl_ring.specs.Sealed.{oldest_goes}

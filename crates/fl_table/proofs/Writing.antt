@@ -4,12 +4,10 @@ use Rattle.std.proofs.lemmas.Bool.{cases_lt}
 use Rattle.fl_flash.specs.Flash.{FlashState, page_at}
 use Rattle.fl_model.specs.Record.{layout_len}
 use Rattle.fl_ring.specs.Ring.{Shape, room}
-use Rattle.fl_ring.specs.Written.{MaySealIn, Writes}
-use Rattle.fl_ring.specs.declared.ring.Ring.{Ring}
+use Rattle.fl_ring.specs.Written.{Writes}
 use Rattle.fl_ring.proofs.Written.{writes-then, writes-wider}
 use Rattle.fl_schema.specs.Schema.{layout_of}
 use Rattle.fl_parts.proofs.PlacedBlobs.{same}
-use Rattle.fl_parts.specs.Bitmaps as bitmaps
 use Rattle.fl_parts.specs.Blobs as variable
 use Rattle.fl_table.specs.Memory.{HasRoom, MayPut, MaySeal}
 use Rattle.fl_table.specs.Mounting.{rings_in}

@@ -2,13 +2,10 @@ use Rattle.std.proofs.Common.{ℕ, zero, suc, ◌*◌, ◌≡◌, ◌+◌, ◌<�
 use Rattle.std.proofs.lemmas.Bool.{ltb-true, ltb-false}
 use Rattle.fl_model.specs.Record.{layout_len}
 use Rattle.fl_model.specs.Table.{RingName, make_room_seals}
-use Rattle.fl_model.specs.Work.{Whole}
 use Rattle.fl_model.proofs.TableSeals.{full-room_seals, room-room_seals}
-use Rattle.fl_flash.specs.Flash.{page_at}
 use Rattle.fl_schema.specs.Schema.{layout_of}
 use Rattle.fl_table.specs.Outcomes.{SealsEnd}
-use Rattle.fl_table.proofs.PendingAndFull.{has-room, is-full}
-use Rattle.fl_parts.proofs.KeptPagesStay.{kept-same}
+use Rattle.fl_table.proofs.PendingAndFull.{finishes-none, has-room, is-full}
 use Rattle.fl_parts.proofs.Sizes.{table-fits}
 use Rattle.fl_frame.proofs.CallsInTurn.{goes-same}
 use Rattle.fl_table.proofs.SealAnswers.{plan-self}
@@ -30,49 +27,7 @@ returns-then-not-is_full-clause-ends g c = λ first plan table rose device watch
     let room : t.writer.end + layout_len (layout_of t.schema) ≤ length t.writer.body = ltb-false (length t.writer.body) (t.writer.end + layout_len (layout_of t.schema)) (sym c.is_full.ensures.room ∙ c.if-not-is_full.true) in
     let less = has-room t f first plan table stands room in
     let none : make_room_seals plan table ≡ [] = room-room_seals plan table (λ e. absurd (omega (arith, e, less))) in
-    let memory = stands.memory in
-    rw none (record {
-      now = record { end = Whole; device = device; state = table };
-      did = (refl, refl, refl);
-      whole = refl;
-      counts = watched.counts;
-      power = watched.on;
-      stands = record {
-        planned = record {
-          geometry = stands.planned.geometry;
-          layout = stands.planned.layout;
-          begins = stands.planned.begins;
-          blocks = stands.planned.blocks;
-          index = stands.planned.index;
-          var = stands.planned.var;
-          limit = stands.planned.limit;
-          buckets = stands.planned.buckets;
-          error = stands.planned.error;
-          log = stands.planned.log;
-        };
-        facts = stands.facts;
-        whole = stands.whole;
-        clean = stands.clean;
-        pages = stands.pages;
-        memory = record {
-          ring = memory.ring;
-          ring_is = memory.ring_is;
-          next = memory.next;
-          oldest = memory.oldest;
-          gathers = memory.gathers;
-          bitmap = memory.bitmap;
-          blob_end = memory.blob_end;
-          last = memory.last;
-          counts = memory.counts;
-          voids = memory.voids;
-          index = memory.index;
-        };
-        bitmaps = stands.bitmaps;
-        blobs = stands.blobs;
-        points = stands.points;
-      };
-      stand = kept-same first plan table table (page_at f) (page_at f) refl refl refl (λ ring n. refl);
-    })
+    finishes-none f first plan (make_room_seals plan table) table rose device t none stands watched.counts watched.on
 
 pub returns-clause-ends : goal.returns-clause-ends
 returns-clause-ends g c = λ first plan table rose device watched stands.

@@ -12,7 +12,7 @@ use Rattle.fl_page.specs.Writer.{Gathers}
 use Rattle.fl_page.specs.WriterState.{WriterState}
 use Rattle.fl_parts.proofs.BlobsOfTable as blobbing
 use Rattle.fl_parts.proofs.BlobsOfTable.{numbers-left, same-some, var-stands}
-use Rattle.fl_parts.proofs.IndexOfTable.{made-end, made-next, made-room, made-running, made-sealed, none-is, none-there, noted-end, number-left, plan-then, ring-stays, stand-sealed, still-few, still-lies, still-next, still-planned, still-running}
+use Rattle.fl_parts.proofs.IndexOfTable.{made-end, made-next, made-room, made-running, made-sealed, none-is, none-there, noted-end, number-left, plan-then, ring-stays, stand-sealed, still-few, still-lies, still-next, still-running}
 use Rattle.fl_parts.proofs.ListsStay.{index-stands}
 use Rattle.fl_parts.proofs.Plain.{table-parts, table-facts}
 use Rattle.fl_parts.proofs.Pointed.{first-some, index-sealed, points-sealed}
@@ -31,7 +31,7 @@ use Rattle.fl_table.proofs.Counted.{learned-as, left-out-as, voids-left}
 use Rattle.fl_table.proofs.Finds.{next-in, oldest-in}
 use Rattle.fl_table.proofs.Paged.{rings-flushed}
 use Rattle.fl_table.proofs.ReadsKeepTable.{lies-moved}
-use Rattle.fl_table.proofs.SealAnswers.{counts-room, note-same, pending-length, planned-ring, planned-shape, ring-next, writer-count, written-back}
+use Rattle.fl_table.proofs.SealAnswers.{counts-room, note-same, pending-length, planned-ring, planned-same, planned-shape, ring-next, writer-count, written-back}
 use Rattle.fl_table.proofs.SealedRings.{before_rows, rings-break, rows-sealed, stands-before}
 use Rattle.fl_table.proofs.Sealing.{rings-change, rings-left, rings-off, rings-stay}
 use Rattle.fl_table.proofs.SealsInTurn.{ends-alone}
@@ -278,18 +278,7 @@ returns-clause-ends g c = λ first plan table rose device watched stands.
       counts = sealed.counted;
       power = sealed.power;
       stands = record {
-        planned = record {
-          geometry = planned.geometry;
-          layout = planned.layout;
-          begins = planned.begins;
-          blocks = planned.blocks;
-          index = still-planned listed c.note_entry.new.bitmaps (first + plan.data_blocks) plan planned.index c.note_entry.ensures.same;
-          var = planned.var;
-          limit = planned.limit;
-          buckets = planned.buckets;
-          error = planned.error ∙ sym c.add_further.ensures.error;
-          log = planned.log;
-        };
+        planned = planned-same b _ first plan planned (record { geometry = refl; layout = refl; place = refl; buckets = refl; error = c.add_further.ensures.error; bitmaps = c.note_entry.ensures.same; blobs = blobbing.plan-same rest; limit = refl });
         facts = table-facts plan (after_seal plan DataRing after) sealed.facts;
         whole = sealed.untorn;
         clean = refl;
