@@ -18,9 +18,8 @@ use Rattle.fl_parts.specs.Blobs as variable
 use Rattle.fl_parts.specs.Blobs.{Stand, StandOutside, IsStanding, RestEndsOf, RestEnds, rest_seals, next_of, next_after}
 use Rattle.fl_parts.proofs.BlobRests.{IsRested, RestedEnds, rest_few, kept-var, fault_ends}
 use Rattle.fl_table.specs.Memory.{IsPlanned}
-use Rattle.fl_parts.specs.Failing.{Breaks, BySeals}
-use Rattle.fl_table.specs.Outcomes.{Finishes}
-use Rattle.fl_parts.specs.Pages.{HoldsTable, bytes_in}
+use Rattle.fl_parts.specs.Failing.{Breaks, FaultEnds, BySeals}
+use Rattle.fl_parts.specs.Pages.{HoldsTable, KeptStand, bytes_in}
 use Rattle.fl_table.specs.Standing.{Stands}
 use Rattle.fl_table.specs.declared.table.Table as code
 use Rattle.fl_parts.proofs.BlobSeals.{with_var, blobs-break, blobs-finish, facts-with_var, seals-keep}
@@ -165,21 +164,3 @@ bitmaps-stand (Some indexed) f g first plan table ring pages bytes planned some 
       rows_number = h.rows_number;
     } in
     record { in_ring = ring-moved indexed f g (first + plan.data_blocks) plan table (with_var table ring pages bytes) s.in_ring refl facts (same (omega (arith, k, some))); waits = s.waits }
-
--- the table in memory stands where it stands with any variable data
-pub rested-finishes : {KNOTS SLOTS : ℕ} (t' : code.Table KNOTS SLOTS) (old new : FlashState) (first : ℕ) (plan : Plan) (seals : List RingName) (table : Table) (rose : Bool) (device : Device) (left : Option VarData) → IsRested first plan seals table rose device left old new →
-    ((ring : Option Ring) (pages : List ContentPage) (bytes : List ℕ) → IsPlainTable plan (with_var table ring pages bytes) → HoldsTable (page_at new) first plan (lose (with_var table ring pages bytes)) →
-    Stand left new (first + plan.data_blocks + plan.index_blocks) plan (with_var table ring pages bytes) → Stands t' new first plan (with_var table ring pages bytes)) →
-    Finishes first plan (BySeals plan seals table rose device) table (after_seals plan seals table) t' old new
-rested-finishes t' old new first plan seals table rose device left h stands = record {
-  now = h.now;
-  did = h.did;
-  whole = h.whole;
-  counts = h.counts;
-  power = h.power;
-  stands = subst (λ (x : Table). Stands t' new first plan x) (sym h.beside.3) (stands h.beside.0 h.beside.1 h.beside.2
-      (subst (IsPlainTable plan) h.beside.3 h.facts)
-      (subst (λ (x : Table). HoldsTable (page_at new) first plan (lose x)) h.beside.3 h.pages)
-      (subst (λ (x : Table). Stand left new (first + plan.data_blocks + plan.index_blocks) plan x) h.beside.3 h.blobs));
-  stand = h.stand;
-}

@@ -23,9 +23,7 @@ use Rattle.fl_frame.specs.Watched.{IsWatched}
 use Rattle.fl_parts.proofs.Fronts.{front-left, IsNumberedTo}
 use Rattle.fl_parts.specs.Bitmaps.{ArePlanned, Stand, StandOutside, IsRoomMade, RoomMade, MakesRoomOf, bitmap_seals, next_after}
 use Rattle.fl_parts.specs.Failing.{Breaks, FaultEnds, BySeals}
-use Rattle.fl_parts.proofs.IndexAlone.{AreOfIndex, front_of, with_index, IsBeside, beside-done, number-done, seal-of_index, indexed-of, beside-facts, rows-stand, var-stand, holds-indexed, lose-beside, holds-beside}
-use Rattle.fl_table.specs.Outcomes.{Finishes}
-use Rattle.fl_parts.specs.Pages.{HoldsTable, KeptStand, bytes_in}
+use Rattle.fl_parts.specs.Pages.{HoldsTable, KeptStand, bytes_in, place_in}
 use Rattle.fl_table.specs.Standing.{Stands}
 use Rattle.fl_table.specs.declared.table.Table as code
 use Rattle.fl_parts.proofs.TablePages.{lost-twice}
@@ -218,22 +216,3 @@ bitmaps-end t f new first plan table rose device (Some index) result (Some now) 
     by_result : (result : Result (Unit {0}) FlashFault) → OnOk result (IsRoomMade index now) → outcomes.MakesRoom (first + plan.data_blocks) plan table rose device result now f new → MadeEnds t first plan (outcomes.index_seals plan table) table rose device result (Some now) f new
     by_result (Ok u) made h = index-finishes t f new first plan table rose device index is stands pending left outside now made h
     by_result (Err fault) made h = index-breaks t f new first plan table rose device index is stands pending left outside fault h
-
--- the table in memory stands where it stands with any index
-pub made-finishes : {KNOTS SLOTS : ℕ} (t t' : code.Table KNOTS SLOTS) (old new : FlashState) (first : ℕ) (plan : Plan) (rings : List RingName) (table : Table) (rose : Bool) (device : Device) (left : Option BitmapIndex) → IsMade t first plan rings table rose device left old new →
-    ((index : Option model.Ring) (pages : List IndexPage) (waiting : List IndexEntry) → IsTable plan (with_index table index pages waiting) → HoldsTable (page_at new) first plan (lose (with_index table index pages waiting)) →
-    Stand left new (first + plan.data_blocks) plan (with_index table index pages waiting) → Stands t' new first plan (with_index table index pages waiting)) →
-    Finishes first plan (BySeals plan rings table rose device) table (after_seals plan rings table) t' old new
-made-finishes t t' old new first plan rings table rose device left h stands =
-    let is = h.beside.3 in
-    record {
-      now = h.now;
-      did = h.did;
-      whole = h.whole;
-      counts = h.counts;
-      power = h.power;
-      stands = subst (λ (x : Table). Stands t' new first plan x) (sym is)
-          (stands h.beside.0 h.beside.1 h.beside.2 (subst (IsTable plan) is h.facts) (subst (λ (x : Table). HoldsTable (page_at new) first plan (lose x)) is h.pages)
-          (subst (λ (x : Table). Stand left new (first + plan.data_blocks) plan x) is h.bitmaps));
-      stand = h.stand;
-    }

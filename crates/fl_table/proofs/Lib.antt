@@ -35,3 +35,5 @@ pub mod Slots
 pub mod IndexStands
 pub mod Entries
 pub mod Writing
+pub mod Sealing
+pub mod SealedRings

@@ -20,7 +20,6 @@ use Rattle.fl_parts.proofs.IndexOfTable.{still-planned, plan-same, plan-then, pl
 use Rattle.fl_index.specs.declared.index.BitmapIndex.{BitmapIndex}
 use Rattle.fl_parts.specs.Bitmaps.{ArePlanned, HaveRoom}
 use Rattle.fl_page.specs.Writer.{Gathers}
-use Rattle.fl_page.specs.WriterState.{WriterState}
 use Rattle.fl_ring.specs.Mounting.{shape_at}
 use Rattle.fl_ring.specs.Place as place
 use Rattle.fl_ring.specs.Ring.{Shape, OnRing}
@@ -117,9 +116,9 @@ writer-count t f first plan table s =
     s.memory.gathers.count ∙ (length-map (pending_entries table) stored_row ∙ pending-length plan table facts.kept.counted)
 
 -- the body that they make
-pub sealing-of : {KNOTS SLOTS : ℕ} (t : code.Table KNOTS SLOTS) (f : FlashState) (first : ℕ) (plan : Plan) (table : Table) (w : WriterState) → Stands t f first plan table → 1 ≤ t.writer.count → HaveRoom t.bitmaps → AreEmpty t.blobs →
-    ((layout : RowLayout) (rows : List Row) → Gathers layout rows t.writer → w.body ≡ rows_body (length t.writer.body) layout table.rows.next t.bitmap rows) → IsSealing (page_at f) first plan table w.body
-sealing-of t f first plan table w s some room empty body =
+pub sealing-of : {KNOTS SLOTS : ℕ} (t : code.Table KNOTS SLOTS) (f : FlashState) (first : ℕ) (plan : Plan) (table : Table) (bytes : List ℕ) → Stands t f first plan table → 1 ≤ t.writer.count → HaveRoom t.bitmaps → AreEmpty t.blobs →
+    ((layout : RowLayout) (rows : List Row) → Gathers layout rows t.writer → bytes ≡ rows_body (length t.writer.body) layout table.rows.next t.bitmap rows) → IsSealing (page_at f) first plan table bytes
+sealing-of t f first plan table bytes s some room empty body =
     let facts = table-parts plan table s.planned.log s.facts in
     let count = writer-count t f first plan table s in
     record {

@@ -15,3 +15,4 @@ pub mod Rings
 pub mod BlobAt
 pub mod Finding
 pub mod Lookups
+pub mod Sealing

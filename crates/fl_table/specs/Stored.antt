@@ -32,14 +32,6 @@ pub record HasJoined {KNOTS SLOTS : ℕ} (old : Table KNOTS SLOTS) (key : ℕ) (
   pub known : KnowsSame old new
   pub blobs : HavePlaced blob old.blobs new.blobs
 
--- the pending rows wait as they did, and what is known of the kept pages stays
-pub record WaitsSame {KNOTS SLOTS : ℕ} (old new : Table KNOTS SLOTS) : Type 0 where
-  pub writer : new.writer ≡ old.writer
-  pub bitmap : new.bitmap ≡ old.bitmap
-  pub counts : new.counts.items ≡ old.counts.items
-  pub voids : new.voids ≡ old.voids
-  pub index : new.index ≡ old.index
-
 -- how many of the pages from a number to before another one have no rows, by what is noted of each
 abbrev pub voids_from : List ℕ → ℕ → ℕ → ℕ
 voids_from counts from to = count_by (λ count. count == 0) (map (λ n. slice_index counts (n % length counts)) (range_with_len from (to - from)))

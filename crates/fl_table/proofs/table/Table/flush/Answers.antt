@@ -13,7 +13,7 @@ use Rattle.fl_table.specs.Memory.{is_running}
 use Rattle.fl_table.specs.declared.faults.FlushFault.{FlushFault}
 use Rattle.fl_table.proofs.PutAnswers.{and-true}
 use Rattle.fl_parts.proofs.Untouched.{at-most, and-false, no-ring, on-err, no-success}
-use Rattle.fl_ring.proofs.Written.{writes-none, writes-fewer}
+use Rattle.fl_ring.proofs.Written.{writes-none}
 use Rattle.fl_table.specs.Memory.{MaySeal}
 use Rattle.fl_table.specs.Mounting.{rings_in}
 use Rattle.fl_table.proofs.table.Table.flush.Goals as goal
@@ -170,15 +170,15 @@ returns-in_err-seal-clause-page g c = record {
 
 pub returns-in_err-seal-clause-flash : goal.returns-in_err-seal-clause-flash
 returns-in_err-seal-clause-flash g c = record {
-  goes = c.in_err-seal.ensures.goes;
+  goes = c.in_err-seal.ensures.flash.goes;
   power = no-success _ _ c.from_residual.result c.from_residual.ensures.1;
-  writes = writes-fewer (MaySeal c.args.self.now) 0 (rings_in c.args.self.now) _ _ c.in_err-seal.ensures.writes;
-  outside = c.in_err-seal.ensures.outside;
-  reads = c.in_err-seal.ensures.reads;
-  media_reads = c.in_err-seal.ensures.media_reads;
+  writes = c.in_err-seal.ensures.flash.writes;
+  outside = c.in_err-seal.ensures.flash.outside;
+  reads = c.in_err-seal.ensures.flash.reads;
+  media_reads = c.in_err-seal.ensures.flash.media_reads;
   cause =
       let p = err_from_is_err_and c.from_residual.result c.from_residual.ensures.1 in
-      rw (p.1, p.2) c.in_err-seal.ensures.cause;
+      rw (p.1, p.2) c.in_err-seal.ensures.flash.cause;
 }
 
 -- ---- it is done
@@ -210,17 +210,17 @@ pub returns-clause-page : goal.returns-clause-page
 returns-clause-page g c = record {
   quiet = λ running none. absurd (c.if-count-eq0.false (c.count.ensures ∙ none));
   off = λ running some down. absurd (off-ok (g.F.Flash.state c.args.flash.now) (g.F.Flash.state c.seal.new.flash) c.in_ok-seal.field-0 c.in_ok-seal.ensures.off down);
-  sealed = λ some. record { writes = c.in_ok-seal.ensures.writes; page = c.in_ok-seal.ensures.page; blobs = c.in_ok-seal.ensures.blob_page; ahead = c.in_ok-seal.ensures.ahead; blobs_ahead = c.in_ok-seal.ensures.blobs_ahead };
+  sealed = λ some. c.in_ok-seal.ensures.sealed;
 }
 
 pub returns-clause-flash : goal.returns-clause-flash
 returns-clause-flash g c = record {
-  goes = c.in_ok-seal.ensures.goes;
-  power = c.in_ok-seal.ensures.power;
-  writes = writes-fewer (MaySeal c.args.self.now) 1 (rings_in c.args.self.now) _ _ c.in_ok-seal.ensures.writes;
-  outside = c.in_ok-seal.ensures.outside;
-  reads = c.in_ok-seal.ensures.reads;
-  media_reads = c.in_ok-seal.ensures.media_reads;
+  goes = c.in_ok-seal.ensures.flash.goes;
+  power = c.in_ok-seal.ensures.flash.power;
+  writes = c.in_ok-seal.ensures.flash.writes;
+  outside = c.in_ok-seal.ensures.flash.outside;
+  reads = c.in_ok-seal.ensures.flash.reads;
+  media_reads = c.in_ok-seal.ensures.flash.media_reads;
   cause = tt;
 }
 

@@ -2,13 +2,10 @@ use Rattle.std.proofs.Common.{ℕ, zero, suc, ◌*◌, ◌≡◌, ◌+◌, ◌<�
 use Rattle.std.proofs.lemmas.Bool.{ltb-true, ltb-false}
 use Rattle.fl_model.specs.Record.{layout_len}
 use Rattle.fl_model.specs.Table.{RingName, make_room_seals}
-use Rattle.fl_model.specs.Work.{Whole}
 use Rattle.fl_model.proofs.TableSeals.{full-room_seals, room-room_seals}
-use Rattle.fl_flash.specs.Flash.{page_at}
 use Rattle.fl_schema.specs.Schema.{layout_of}
 use Rattle.fl_table.specs.Outcomes.{SealsEnd}
-use Rattle.fl_table.proofs.PendingAndFull.{has-room, is-full}
-use Rattle.fl_parts.proofs.KeptPagesStay.{kept-same}
+use Rattle.fl_table.proofs.PendingAndFull.{finishes-none, has-room, is-full}
 use Rattle.fl_parts.proofs.Sizes.{table-fits}
 use Rattle.fl_frame.proofs.CallsInTurn.{goes-same}
 use Rattle.fl_table.proofs.SealAnswers.{plan-self}
@@ -16,10 +13,9 @@ use Rattle.fl_parts.specs.Blobs as variable
 use Rattle.fl_table.specs.Memory.{HasRoom, next_in}
 use Rattle.fl_table.specs.Stored.{IsEmptied}
 use Rattle.fl_parts.proofs.BlobsOfTable.{after-most}
-use Rattle.fl_table.proofs.Paged.{flushed-of}
+use Rattle.fl_table.specs.Paged.{HasFlushed}
 use Rattle.fl_parts.proofs.Untouched.{at-most, at-most-same, above, on-ok}
-use Rattle.fl_ring.specs.Written.{done}
-use Rattle.fl_ring.proofs.Written.{writes-none, writes-fewer}
+use Rattle.fl_ring.proofs.Written.{writes-none}
 use Rattle.fl_table.specs.Memory.{MaySeal}
 use Rattle.fl_table.specs.Mounting.{rings_in}
 use Rattle.fl_table.proofs.table.Table.make_room.Goals as goal
@@ -31,49 +27,7 @@ returns-then-not-is_full-clause-ends g c = λ first plan table rose device watch
     let room : t.writer.end + layout_len (layout_of t.schema) ≤ length t.writer.body = ltb-false (length t.writer.body) (t.writer.end + layout_len (layout_of t.schema)) (sym c.is_full.ensures.room ∙ c.if-not-is_full.true) in
     let less = has-room t f first plan table stands room in
     let none : make_room_seals plan table ≡ [] = room-room_seals plan table (λ e. absurd (omega (arith, e, less))) in
-    let memory = stands.memory in
-    rw none (record {
-      now = record { end = Whole; device = device; state = table };
-      did = (refl, refl, refl);
-      whole = refl;
-      counts = watched.counts;
-      power = watched.on;
-      stands = record {
-        planned = record {
-          geometry = stands.planned.geometry;
-          layout = stands.planned.layout;
-          begins = stands.planned.begins;
-          blocks = stands.planned.blocks;
-          index = stands.planned.index;
-          var = stands.planned.var;
-          limit = stands.planned.limit;
-          buckets = stands.planned.buckets;
-          error = stands.planned.error;
-          log = stands.planned.log;
-        };
-        facts = stands.facts;
-        whole = stands.whole;
-        clean = stands.clean;
-        pages = stands.pages;
-        memory = record {
-          ring = memory.ring;
-          ring_is = memory.ring_is;
-          next = memory.next;
-          oldest = memory.oldest;
-          gathers = memory.gathers;
-          bitmap = memory.bitmap;
-          blob_end = memory.blob_end;
-          last = memory.last;
-          counts = memory.counts;
-          voids = memory.voids;
-          index = memory.index;
-        };
-        bitmaps = stands.bitmaps;
-        blobs = stands.blobs;
-        points = stands.points;
-      };
-      stand = kept-same first plan table table (page_at f) (page_at f) refl refl refl (λ ring n. refl);
-    })
+    finishes-none f first plan (make_room_seals plan table) table rose device t none stands watched.counts watched.on
 
 pub returns-clause-ends : goal.returns-clause-ends
 returns-clause-ends g c = λ first plan table rose device watched stands.
@@ -172,7 +126,7 @@ pub returns-then-not-is_full-clause-cause : goal.returns-then-not-is_full-clause
 returns-then-not-is_full-clause-cause g c = tt
 
 pub returns-clause-goes : goal.returns-clause-goes
-returns-clause-goes g c = c.seal.ensures.goes
+returns-clause-goes g c = c.seal.ensures.flash.goes
 
 pub returns-clause-same : goal.returns-clause-same
 returns-clause-same g c = c.seal.ensures.same
@@ -187,7 +141,7 @@ pub returns-clause-index_next : goal.returns-clause-index_next
 returns-clause-index_next g c = c.seal.ensures.index_next
 
 pub returns-clause-power : goal.returns-clause-power
-returns-clause-power g c = c.seal.ensures.power
+returns-clause-power g c = c.seal.ensures.flash.power
 
 pub returns-clause-calm : goal.returns-clause-calm
 returns-clause-calm g c = c.seal.ensures.calm
@@ -196,16 +150,16 @@ pub returns-clause-stopped : goal.returns-clause-stopped
 returns-clause-stopped g c = c.seal.ensures.stopped
 
 pub returns-clause-outside : goal.returns-clause-outside
-returns-clause-outside g c = c.seal.ensures.outside
+returns-clause-outside g c = c.seal.ensures.flash.outside
 
 pub returns-clause-reads : goal.returns-clause-reads
-returns-clause-reads g c = c.seal.ensures.reads
+returns-clause-reads g c = c.seal.ensures.flash.reads
 
 pub returns-clause-media_reads : goal.returns-clause-media_reads
-returns-clause-media_reads g c = c.seal.ensures.media_reads
+returns-clause-media_reads g c = c.seal.ensures.flash.media_reads
 
 pub returns-clause-cause : goal.returns-clause-cause
-returns-clause-cause g c = c.seal.ensures.cause
+returns-clause-cause g c = c.seal.ensures.flash.cause
 
 pub returns-clause-quiet : goal.returns-clause-quiet
 returns-clause-quiet g c = λ room. absurd (above (ltb-true (length c.args.self.now.writer.body) (c.args.self.now.writer.end + layout_len (layout_of c.args.self.now.schema)) (sym c.is_full.ensures.room ∙ c.if-not-is_full.false)) room)
@@ -217,7 +171,7 @@ pub returns-then-not-is_full-clause-writes : goal.returns-then-not-is_full-claus
 returns-then-not-is_full-clause-writes g c = writes-none (MaySeal c.args.self.now) (rings_in c.args.self.now) (g.F.Flash.state c.args.flash.now)
 
 pub returns-clause-writes : goal.returns-clause-writes
-returns-clause-writes g c = writes-fewer (MaySeal c.args.self.now) (done c.seal.result) (rings_in c.args.self.now) _ _ c.seal.ensures.writes
+returns-clause-writes g c = c.seal.ensures.flash.writes
 
 pub returns-then-not-is_full-clause-full : goal.returns-then-not-is_full-clause-full
 returns-then-not-is_full-clause-full g c = λ full.
@@ -251,4 +205,6 @@ returns-then-not-is_full-clause-sealed g c = λ full.
     absurd (full (ltb-false (length t.writer.body) (t.writer.end + layout_len (layout_of t.schema)) (sym c.is_full.ensures.room ∙ c.if-not-is_full.true)))
 
 pub returns-clause-sealed : goal.returns-clause-sealed
-returns-clause-sealed g c = flushed-of c.args.self.now c.seal.result (g.F.Flash.state c.args.flash.now) (g.F.Flash.state c.seal.new.flash) c.seal.ensures.writes c.seal.ensures.page c.seal.ensures.blob_page c.seal.ensures.ahead c.seal.ensures.blobs_ahead
+returns-clause-sealed g c =
+    let made = HasFlushed c.args.self.now (g.F.Flash.state c.args.flash.now) (g.F.Flash.state c.seal.new.flash) in
+    on-ok c.seal.result made ((HasRoom c.args.self.now → ⊥) → made) (λ sealed full. sealed) c.seal.ensures.sealed

@@ -1,428 +1,379 @@
-use Rattle.std.proofs.Common.{◌≡◌, ◌+◌, ◌≤◌, true, Option, Result, ◌∷◌, [], ◌++◌, List, Err, IsTrue, arith, sym, ◌∙◌, ap, subst, ℕ}
-use Rattle.std.proofs.lemmas.Result.{err_from_is_err_and, on_err_weaker, IfErr-weaker}
-use Rattle.fl_model.specs.Table.{RingName, DataRing, after_seals}
-use Rattle.fl_parts.specs.Bitmaps.{AreSameRing, HaveRoom, bitmap_seals, next_of, rings_of}
-use Rattle.fl_parts.specs.Blobs as variable
-use Rattle.fl_parts.specs.Blobs.{rest_seals}
-use Rattle.fl_table.specs.Outcomes.{SealsEnd}
-use Rattle.fl_parts.proofs.InTurn.{seals-stop}
-use Rattle.fl_table.proofs.SealsInTurn.{seals-then}
-use Rattle.fl_frame.proofs.WatchedInTurn.{cause-later, watched-first, watched-then}
+use Rattle.std.proofs.Common.{rules, ◌≡◌, ◌+◌, ◌*◌, ◌%◌, ◌≤◌, Option, Some, Ok, Err, IfSome, List, ℕ, arith, sym, ◌∙◌, ap, subst, refl, set, get_or, map, option_map, length, length-set, is_some}
+use Rattle.std.specs.List.{sum}
 use Rattle.fl_flash.specs.Flash.{page_at}
-use Rattle.fl_parts.proofs.IndexOfTable.{ring-stays}
-use Rattle.fl_table.proofs.Outsides.{outside-then}
-use Rattle.fl_parts.proofs.Plain.{some-table_seals}
-use Rattle.fl_index.specs.declared.index.BitmapIndex.{BitmapIndex}
-use Rattle.fl_table.proofs.SealAnswers.{same-then, writer-count}
-use Rattle.fl_flash.specs.declared.flash.FlashFault.{FlashFault}
-use Rattle.fl_frame.proofs.CallsInTurn.{goes-then}
-use Rattle.fl_parts.proofs.CallsOff.{off-then}
-use Rattle.fl_parts.proofs.Sizes.{table-fits}
-use Rattle.fl_table.specs.Memory.{is_stopped, next_in}
-use Rattle.fl_var.specs.declared.var_data.VarData.{VarData}
-use Rattle.fl_table.specs.Paged.{BlobsAhead, BlobsPaged, IsApart, RowsAhead, RowsPaged, next_page}
+use Rattle.fl_index.specs.Page.{full_view}
+use Rattle.fl_model.specs.Layout.{Full, full_of, rows_body}
+use Rattle.fl_model.specs.Ring as rings
+use Rattle.fl_model.specs.Row.{stored_row}
+use Rattle.fl_model.specs.Table as model
+use Rattle.fl_model.specs.Table.{DataRing, after_seal, shape_of as shape_of_ring}
+use Rattle.fl_model.specs.Record.{layout_len}
+use Rattle.fl_page.specs.Writer.{Gathers}
+use Rattle.fl_page.specs.WriterState.{WriterState}
+use Rattle.fl_parts.proofs.BlobsOfTable as blobbing
+use Rattle.fl_parts.proofs.BlobsOfTable.{numbers-left, same-some, var-stands}
+use Rattle.fl_parts.proofs.IndexOfTable.{made-end, made-next, made-room, made-running, made-sealed, none-is, none-there, noted-end, number-left, plan-then, ring-stays, stand-sealed, still-few, still-lies, still-next, still-running}
+use Rattle.fl_parts.proofs.ListsStay.{index-stands}
+use Rattle.fl_parts.proofs.Plain.{table-parts, table-facts}
+use Rattle.fl_parts.proofs.Pointed.{first-some, index-sealed, points-sealed}
+use Rattle.fl_parts.proofs.Sizes.{index-fits, table-fits}
+use Rattle.fl_parts.proofs.States.{shape_in}
+use Rattle.fl_parts.proofs.VarFacts.{rest-of}
+use Rattle.fl_parts.proofs.Writers.{end-none, end-same, few-rows, gathers-none, rest-clear, rest-finish, some-room}
+use Rattle.fl_parts.specs.Bitmaps.{EndAt}
+use Rattle.fl_ring.specs.Mounting.{shape_at}
+use Rattle.fl_ring.specs.Place as place
+use Rattle.fl_ring.specs.Place.{next_of, oldest_after, oldest_of, shape_of}
+use Rattle.fl_ring.specs.Ring.{OutsideStands, Shape}
 use Rattle.fl_ring.specs.declared.ring.Ring.{Ring}
-use Rattle.fl_var.specs.Ahead.{AheadBlank}
-use Rattle.fl_table.specs.Stored.{HasCounted, IsEmptied}
-use Rattle.fl_table.proofs.Counted.{counted-then, waits-then}
-use Rattle.fl_table.proofs.Paged.{blobs-ahead, blobs-paged, rows-paged}
-use Rattle.fl_table.proofs.Stored.{pending-none}
-use Rattle.fl_parts.proofs.Untouched.{on-both, on-ok, on-err, no-success}
-use Rattle.fl_ring.specs.Written.{done}
-use Rattle.fl_table.proofs.Writing.{index-writes, blob-writes, row-writes}
+use Rattle.fl_schema.specs.Schema.{layout_of}
+use Rattle.fl_table.proofs.Counted.{learned-as, left-out-as, voids-left}
+use Rattle.fl_table.proofs.Finds.{next-in, oldest-in}
+use Rattle.fl_table.proofs.Paged.{rings-flushed}
+use Rattle.fl_table.proofs.ReadsKeepTable.{lies-moved}
+use Rattle.fl_table.proofs.SealAnswers.{counts-room, note-same, pending-length, planned-ring, planned-same, planned-shape, ring-next, writer-count, written-back}
+use Rattle.fl_table.proofs.SealedRings.{before_rows, rings-break, rows-sealed, stands-before}
+use Rattle.fl_table.proofs.Sealing.{rings-change, rings-left, rings-off, rings-stay}
+use Rattle.fl_table.proofs.SealsInTurn.{ends-alone}
+use Rattle.fl_table.proofs.VoidPages.{voids-told}
+use Rattle.fl_table.specs.Look.{oldest_in}
+use Rattle.fl_table.specs.Memory.{next_in}
 use Rattle.fl_table.proofs.table.Table.seal.Goals as goal
 
-pub returns-in_err-seal_bitmaps-clause-ends : goal.returns-in_err-seal_bitmaps-clause-ends
-returns-in_err-seal_bitmaps-clause-ends g c = λ first plan table rose device watched stands.
-    let t = c.args.self.now in
-    let f = g.F.Flash.state c.args.flash.now in
-    let new = g.F.Flash.state c.seal_bitmaps.new.flash in
-    let some : table.pending ≡ 0 → ⊥ = λ none. absurd (omega (arith, none, writer-count t f first plan table stands, c.requires.some)) in
-    let p = err_from_is_err_and c.from_residual.result c.from_residual.ensures.1 in
-    rw (p.1, p.2) (subst (λ (rings : List RingName). SealsEnd first plan rings table rose device (Err c.in_err-seal_bitmaps.field-0.0) c.seal_bitmaps.new.self f new) (sym (some-table_seals plan table some))
-    (seals-stop first plan (bitmap_seals plan table) (rest_seals (after_seals plan (bitmap_seals plan table) table) ++ DataRing ∷ []) table rose device c.in_err-seal_bitmaps.field-0.0 new (c.in_err-seal_bitmaps.ensures.ends first plan table rose device watched stands)))
+-- ---- what the seals ask for
 
-pub returns-in_err-seal_blobs-clause-ends : goal.returns-in_err-seal_blobs-clause-ends
-returns-in_err-seal_blobs-clause-ends g c = λ first plan table rose device watched stands.
+pub pending_entry-full-requires : goal.pending_entry-full-requires
+pending_entry-full-requires g c = (table-fits g.row.KNOTS g.row.SLOTS c.args.self.now.few_knots c.args.self.now.few_slots, c.requires.some)
+
+pub unreachable-requires : goal.unreachable-requires
+unreachable-requires g c = none-is c.args.self.now.ring (sym c.take.ensures.value ∙ c.in_default.is) c.requires.running
+
+pub unreachable-unreachable : goal.unreachable-unreachable
+unreachable-unreachable g c = c.unreachable.type_inv
+
+pub finish-requires : goal.finish-requires
+finish-requires g c = tt
+
+pub seal_rings-requires : goal.seal_rings-requires
+seal_rings-requires g c =
     let t = c.args.self.now in
-    let f = g.F.Flash.state c.args.flash.now in
-    let mid = g.F.Flash.state c.seal_bitmaps.new.flash in
-    let new = g.F.Flash.state c.seal_blobs.new.flash in
-    let some : table.pending ≡ 0 → ⊥ = λ none. absurd (omega (arith, none, writer-count t f first plan table stands, c.requires.some)) in
-    let goes = c.in_ok-seal_bitmaps.ensures.goes in
-    let h = c.in_ok-seal_bitmaps.ensures.ends first plan table rose device (watched-first f mid new rose device watched c.seal_blobs.ensures.goes) stands in
-    let after = after_seals plan (bitmap_seals plan table) table in
-    let k = c.in_err-seal_blobs.ensures.ends first plan after rose h.now.device (watched-then f mid new rose device h.now.device watched goes h.power h.counts) h.stands in
-    let p = err_from_is_err_and c.from_residual-in_err-seal_blobs.result c.from_residual-in_err-seal_blobs.ensures.1 in
-    rw (p.1, p.2) (subst (λ (rings : List RingName). SealsEnd first plan rings table rose device (Err c.in_err-seal_blobs.field-0.0) c.seal_blobs.new.self f new) (sym (some-table_seals plan table some))
-    (seals-then first plan (bitmap_seals plan table) (rest_seals after ++ DataRing ∷ []) table rose device c.seal_bitmaps.new.self f mid (Err c.in_err-seal_blobs.field-0.0) c.seal_blobs.new.self new h
-    (seals-stop first plan (rest_seals after) (DataRing ∷ []) after rose h.now.device c.in_err-seal_blobs.field-0.0 new k)))
+    let has : t.ring ≡ Some c.in-Some.ring = (sym c.take.ensures.value ∙ c.in-Some.is) in
+    record {
+      index_runs = t.running c.requires.running;
+      index_lies = c.requires.lies.bitmaps;
+      index_left = number-left t.bitmaps (t.pages_left c.requires.some);
+      blobs_run = t.blobs_running c.requires.running;
+      blobs_lie = c.requires.lies.blobs;
+      blobs_left = numbers-left t.blobs (t.blobs_left c.requires.running c.requires.some);
+      ring_lies = c.requires.lies.ring c.in-Some.ring has;
+      size = omega (arith, ap (λ (xs : List ℕ). length xs) c.body.ensures, c.finish.ensures.size, t.page, ap (λ (r : Shape). r.size) (t.lies c.in-Some.ring has));
+      numbered = search rules;
+      left = omega (arith, t.left c.in-Some.ring has c.requires.some);
+    }
+
+pub voids_among-gone-requires : goal.voids_among-gone-requires
+voids_among-gone-requires g c =
+    let t = c.args.self.now in
+    omega (arith, c.deref.ensures.len, t.counted, some-room t.place.blocks t.geometry.block t.some_blocks t.served.block_least)
+
+pub note-requires-clause-some : goal.note-requires-clause-some
+note-requires-clause-some g c =
+    let t = c.args.self.now in
+    omega (arith, c.deref_mut.ensures.len, t.counted, some-room t.place.blocks t.geometry.block t.some_blocks t.served.block_least)
+
+pub note-requires-clause-few : goal.note-requires-clause-few
+note-requires-clause-few g c =
+    let t = c.args.self.now in
+    let count : c.count.result ≡ t.writer.count = c.count.ensures ∙ ap (λ w. w.count) c.finish.ensures.exact in
+    omega (arith, count, few-rows t.writer.count _ t.writer.end (length t.writer.body) t.rows_end t.rows_room t.some_row (omega (arith, t.page, t.served.page_greatest)))
+
+pub add_further-requires : goal.add_further-requires
+add_further-requires g c = index-fits g.row.KNOTS g.row.SLOTS c.args.self.now.few_knots c.args.self.now.few_slots
+
+pub note_entry-requires-clause-room : goal.note_entry-requires-clause-room
+note_entry-requires-clause-room g c = λ end. made-room c.args.self.now.bitmaps c.seal_rings.new.bitmaps c.in_default-seal_rings.ensures.entries.made
+
+pub note_entry-requires-clause-left : goal.note_entry-requires-clause-left
+note_entry-requires-clause-left g c =
+    let left : next_of c.in-Some.ring ≤ model.spent_from = c.args.self.now.left c.in-Some.ring (sym c.take.ensures.value ∙ c.in-Some.is) c.requires.some in
+    omega (arith, left, c.next_number-number.ensures)
+
+-- ---- a seal failed
+
+pub invariant_of-self : goal.invariant_of-self
+invariant_of-self g c =
+    let t = c.args.self.now in
+    let end : c.finish.new.self.end ≡ t.writer.end = ap (λ w. w.end) c.finish.ensures.exact in
+    let stay = rings-stay c.args.self.now c.in-Some.ring (sym c.take.ensures.value ∙ c.in-Some.is) c.body.result.now (g.F.Flash.state c.args.flash.now) c.seal_rings.new.bitmaps c.seal_rings.new.blobs c.seal_rings.new.ring (g.F.Flash.state c.seal_rings.new.flash) (Err c.in-Err.fault) c.requires.lies.blobs c.in-Err.ensures in
+    record {
+      few_knots = t.few_knots;
+      few_slots = t.few_slots;
+      served = t.served;
+      some_blocks = t.some_blocks;
+      few_blocks = t.few_blocks;
+      some_columns = t.some_columns;
+      few_columns = t.few_columns;
+      some_row = t.some_row;
+      room_for_row = t.room_for_row;
+      has_blobs = t.has_blobs ∙ sym (same-some t.blobs c.seal_rings.new.blobs stay.1);
+      blobs_fit = t.blobs_fit;
+      page = omega (arith, c.finish.ensures.size, t.page);
+      rows_end = end-same t.writer c.finish.new.self (layout_len (layout_of t.schema)) (ap (λ (w : WriterState). w.count) c.finish.ensures.exact) end t.rows_end;
+      rows_room = omega (arith, end, c.finish.ensures.size, t.rows_room);
+      blank_rest = rest-finish t.writer c.finish.new.self c.next_number-number.result t.bitmap c.finish.ensures.exact c.finish.ensures.size (omega (arith, t.rows_end)) t.blank_rest;
+      counted = t.counted;
+      lies = λ ring is. absurd (none-there c.take.new.self ring c.take.ensures.after is);
+      left = λ ring is. absurd (none-there c.take.new.self ring c.take.ensures.after is);
+      few_pages = still-few (t.place.blocks * t.geometry.block + 6) t.bitmaps c.seal_rings.new.bitmaps stay.0 t.few_pages;
+      running = λ is. absurd (none-is c.take.new.self c.take.ensures.after is);
+      follow = λ ring is. absurd (none-there c.take.new.self ring c.take.ensures.after is);
+      pages_left = λ some. rings-left c.args.self.now c.in-Some.ring (sym c.take.ensures.value ∙ c.in-Some.is) c.body.result.now (g.F.Flash.state c.args.flash.now) c.seal_rings.new.bitmaps c.seal_rings.new.blobs c.seal_rings.new.ring (g.F.Flash.state c.seal_rings.new.flash) c.in-Err.fault (t.pages_left c.requires.some) c.in-Err.ensures;
+      blobs_running = λ is. absurd (none-is c.take.new.self c.take.ensures.after is);
+      blobs_left = λ is. absurd (none-is c.take.new.self c.take.ensures.after is);
+    }
+
+pub returns-in-Err-clause-same : goal.returns-in-Err-clause-same
+returns-in-Err-clause-same g c =
+    let stay = rings-stay c.args.self.now c.in-Some.ring (sym c.take.ensures.value ∙ c.in-Some.is) c.body.result.now (g.F.Flash.state c.args.flash.now) c.seal_rings.new.bitmaps c.seal_rings.new.blobs c.seal_rings.new.ring (g.F.Flash.state c.seal_rings.new.flash) (Err c.in-Err.fault) c.requires.lies.blobs c.in-Err.ensures in
+    record { geometry = refl; layout = refl; place = refl; buckets = refl; error = refl; bitmaps = stay.0; blobs = stay.1; limit = refl }
+
+pub returns-in-Err-clause-lies : goal.returns-in-Err-clause-lies
+returns-in-Err-clause-lies g c =
+    let stay = rings-stay c.args.self.now c.in-Some.ring (sym c.take.ensures.value ∙ c.in-Some.is) c.body.result.now (g.F.Flash.state c.args.flash.now) c.seal_rings.new.bitmaps c.seal_rings.new.blobs c.seal_rings.new.ring (g.F.Flash.state c.seal_rings.new.flash) (Err c.in-Err.fault) c.requires.lies.blobs c.in-Err.ensures in
+    let lies = lies-moved c.args.self.now (g.F.Flash.state c.args.flash.now) (g.F.Flash.state c.seal_rings.new.flash) (rings-change c.args.self.now c.in-Some.ring (sym c.take.ensures.value ∙ c.in-Some.is) c.body.result.now (g.F.Flash.state c.args.flash.now) c.seal_rings.new.bitmaps c.seal_rings.new.blobs c.seal_rings.new.ring (g.F.Flash.state c.seal_rings.new.flash) (Err c.in-Err.fault) c.in-Err.ensures).goes c.requires.lies in
+    record { geometry = lies.geometry; within = lies.within; few = lies.few; ring = λ ring is. absurd (none-there c.take.new.self ring c.take.ensures.after is); bitmaps = stay.2; blobs = stay.3 }
+
+pub returns-in-Err-clause-ends : goal.returns-in-Err-clause-ends
+returns-in-Err-clause-ends g c = λ first plan table rose device watched stands.
+    let t = c.args.self.now in
+    let lies = c.requires.lies in
+    rings-break t c.in-Some.ring (sym c.take.ensures.value ∙ c.in-Some.is) c.body.result.now (g.F.Flash.state c.args.flash.now) (g.F.Flash.state c.seal_rings.new.flash) first plan table rose device c.requires.some stands watched c.seal_rings.new.bitmaps c.seal_rings.new.blobs c.seal_rings.new.ring
+    (λ layout rows gathers. c.body.ensures ∙ (c.finish.ensures.body layout rows gathers ∙ ap (λ n. rows_body (length t.writer.body) layout n t.bitmap rows) c.next_number-number.ensures))
+    lies.geometry lies.within (g.met.F.Flash.reaches c.seal_rings.new.flash) c.in-Err.fault c.in-Err.ensures
+
+pub returns-in-Err-clause-emptied : goal.returns-in-Err-clause-emptied
+returns-in-Err-clause-emptied g c = tt
+
+pub returns-in-Err-clause-last : goal.returns-in-Err-clause-last
+returns-in-Err-clause-last g c = refl
+
+pub returns-in-Err-clause-pending_stays : goal.returns-in-Err-clause-pending_stays
+returns-in-Err-clause-pending_stays g c = ap (λ (w : WriterState). w.count) c.finish.ensures.exact
+
+pub returns-in-Err-clause-running : goal.returns-in-Err-clause-running
+returns-in-Err-clause-running g c = tt
+
+pub returns-in-Err-clause-index_next : goal.returns-in-Err-clause-index_next
+returns-in-Err-clause-index_next g c = tt
+
+pub returns-in-Err-clause-calm : goal.returns-in-Err-clause-calm
+returns-in-Err-clause-calm g c = tt
+
+pub returns-in-Err-clause-stopped : goal.returns-in-Err-clause-stopped
+returns-in-Err-clause-stopped g c = (ap (λ (o : Option Ring). is_some o) c.take.ensures.after, refl)
+
+pub returns-in-Err-clause-off : goal.returns-in-Err-clause-off
+returns-in-Err-clause-off g c = rings-off c.args.self.now c.in-Some.ring (sym c.take.ensures.value ∙ c.in-Some.is) c.body.result.now (g.F.Flash.state c.args.flash.now) c.seal_rings.new.bitmaps c.seal_rings.new.blobs c.seal_rings.new.ring (g.F.Flash.state c.seal_rings.new.flash) (Err c.in-Err.fault) c.in-Err.ensures
+
+pub returns-in-Err-clause-sealed : goal.returns-in-Err-clause-sealed
+returns-in-Err-clause-sealed g c = tt
+
+pub returns-in-Err-clause-flash : goal.returns-in-Err-clause-flash
+returns-in-Err-clause-flash g c = rings-change c.args.self.now c.in-Some.ring (sym c.take.ensures.value ∙ c.in-Some.is) c.body.result.now (g.F.Flash.state c.args.flash.now) c.seal_rings.new.bitmaps c.seal_rings.new.blobs c.seal_rings.new.ring (g.F.Flash.state c.seal_rings.new.flash) (Err c.in-Err.fault) c.in-Err.ensures
+
+-- ---- all were done
+
+pub invariant_of-self-2 : goal.invariant_of-self-2
+invariant_of-self-2 g c =
+    let t = c.args.self.now in
+    let has : t.ring ≡ Some c.in-Some.ring = (sym c.take.ensures.value ∙ c.in-Some.is) in
+    let end : c.finish.new.self.end ≡ t.writer.end = ap (λ w. w.end) c.finish.ensures.exact in
+    let none : c.clear.new.self.count ≡ 0 = ap (λ w. w.count) c.clear.ensures.exact in
+    let first : c.clear.new.self.end ≡ 16 = ap (λ w. w.end) c.clear.ensures.exact in
+    let h = c.in_default-seal_rings.ensures in
+    record {
+      few_knots = t.few_knots;
+      few_slots = t.few_slots;
+      served = t.served;
+      some_blocks = t.some_blocks;
+      few_blocks = t.few_blocks;
+      some_columns = t.some_columns;
+      few_columns = t.few_columns;
+      some_row = t.some_row;
+      room_for_row = t.room_for_row;
+      has_blobs = t.has_blobs ∙ sym (same-some t.blobs c.seal_rings.new.blobs h.bytes.same);
+      blobs_fit = t.blobs_fit;
+      page = omega (arith, c.clear.ensures.size, c.finish.ensures.size, t.page);
+      rows_end = end-none c.clear.new.self (layout_len (layout_of t.schema)) none first;
+      rows_room = omega (arith, first, c.clear.ensures.size, c.finish.ensures.size, t.page, t.room_for_row);
+      blank_rest = rest-clear c.finish.new.self c.clear.new.self c.clear.ensures.exact (omega (arith, end, t.rows_end)) (omega (arith, end, t.rows_room, c.finish.ensures.size))
+          (rest-finish t.writer c.finish.new.self c.next_number-number.result t.bitmap c.finish.ensures.exact c.finish.ensures.size (omega (arith, t.rows_end)) t.blank_rest);
+      counted = search rules;
+      lies = λ ring is. subst (λ (o : Option Ring). IfSome o (λ r. shape_of r ≡ shape_at t.place t.geometry)) is (h.rows.memory.same ∙ t.lies c.in-Some.ring has);
+      left = λ ring is some. absurd (omega (arith, some, none));
+      few_pages = still-few (t.place.blocks * t.geometry.block + 6) c.seal_rings.new.bitmaps c.note_entry.new.bitmaps c.note_entry.ensures.same (still-few (t.place.blocks * t.geometry.block + 6) t.bitmaps c.seal_rings.new.bitmaps h.entries.same t.few_pages);
+      running = λ is. still-running c.seal_rings.new.bitmaps c.note_entry.new.bitmaps c.note_entry.ensures.still (made-running t.bitmaps c.seal_rings.new.bitmaps h.entries.made);
+      follow = λ ring is.
+          let end = noted-end c.seal_rings.new.bitmaps c.note_entry.new.bitmaps c.next_number-number.result t.bitmap c.pending_entry-full.result c.note_entry.ensures.noted
+          (subst (λ (n : ℕ). EndAt c.seal_rings.new.bitmaps n) (sym c.next_number-number.ensures) (made-end t.bitmaps c.seal_rings.new.bitmaps _ h.entries.made (t.follow c.in-Some.ring has))) in
+          let next : c.next_number-number.result + 1 ≡ next_of c.seal_rings.new.ring = omega (arith, c.next_number-number.ensures, h.rows.memory.next) in
+          subst (λ (o : Option Ring). IfSome o (λ r. EndAt c.note_entry.new.bitmaps (next_of r))) is (subst (λ (n : ℕ). EndAt c.note_entry.new.bitmaps n) next end);
+      pages_left = λ some. absurd (omega (arith, some, none));
+      blobs_running = λ is. h.bytes.running;
+      blobs_left = λ is some. absurd (omega (arith, some, none));
+    }
+
+pub returns-clause-same : goal.returns-clause-same
+returns-clause-same g c =
+    let h = c.in_default-seal_rings.ensures in
+    record { geometry = refl; layout = refl; place = refl; buckets = refl; error = c.add_further.ensures.error; bitmaps = plan-then c.args.self.now.bitmaps c.seal_rings.new.bitmaps c.note_entry.new.bitmaps h.entries.same c.note_entry.ensures.same; blobs = h.bytes.same; limit = refl }
+
+pub returns-clause-lies : goal.returns-clause-lies
+returns-clause-lies g c =
+    let stay = rings-stay c.args.self.now c.in-Some.ring (sym c.take.ensures.value ∙ c.in-Some.is) c.body.result.now (g.F.Flash.state c.args.flash.now) c.seal_rings.new.bitmaps c.seal_rings.new.blobs c.seal_rings.new.ring (g.F.Flash.state c.seal_rings.new.flash) (Ok tt) c.requires.lies.blobs c.in_default-seal_rings.ensures in
+    let lies = lies-moved c.args.self.now (g.F.Flash.state c.args.flash.now) (g.F.Flash.state c.seal_rings.new.flash) (rings-change c.args.self.now c.in-Some.ring (sym c.take.ensures.value ∙ c.in-Some.is) c.body.result.now (g.F.Flash.state c.args.flash.now) c.seal_rings.new.bitmaps c.seal_rings.new.blobs c.seal_rings.new.ring (g.F.Flash.state c.seal_rings.new.flash) (Ok tt) c.in_default-seal_rings.ensures).goes c.requires.lies in
+    record { geometry = lies.geometry; within = lies.within; few = lies.few; ring = λ ring is. subst (λ (o : Option Ring). IfSome o (λ r. place.LiesOn r (g.F.Flash.state c.seal_rings.new.flash))) is c.in_default-seal_rings.ensures.rows.memory.lies; bitmaps = still-lies c.seal_rings.new.bitmaps c.note_entry.new.bitmaps (g.F.Flash.state c.seal_rings.new.flash) c.note_entry.ensures.same c.note_entry.ensures.still stay.2; blobs = stay.3 }
 
 pub returns-clause-ends : goal.returns-clause-ends
 returns-clause-ends g c = λ first plan table rose device watched stands.
     let t = c.args.self.now in
-    let f = g.F.Flash.state c.args.flash.now in
-    let first_flash = g.F.Flash.state c.seal_bitmaps.new.flash in
-    let mid = g.F.Flash.state c.seal_blobs.new.flash in
-    let new = g.F.Flash.state c.seal_rows.new.flash in
-    let some : table.pending ≡ 0 → ⊥ = λ none. absurd (omega (arith, none, writer-count t f first plan table stands, c.requires.some)) in
-    let to_mid = watched-first f mid new rose device watched c.seal_rows.ensures.goes in
-    let h = c.in_ok-seal_bitmaps.ensures.ends first plan table rose device (watched-first f first_flash mid rose device to_mid c.in_ok-seal_blobs.ensures.goes) stands in
-    let after = after_seals plan (bitmap_seals plan table) table in
-    let then = watched-then f first_flash mid rose device h.now.device to_mid c.in_ok-seal_bitmaps.ensures.goes h.power h.counts in
-    let b = c.in_ok-seal_blobs.ensures.ends first plan after rose h.now.device then h.stands in
-    let last = watched-then first_flash mid new rose h.now.device b.now.device
-    (watched-then f first_flash new rose device h.now.device watched c.in_ok-seal_bitmaps.ensures.goes h.power h.counts) c.in_ok-seal_blobs.ensures.goes b.power b.counts in
-    subst (λ (rings : List RingName). SealsEnd first plan rings table rose device c.seal_rows.result c.seal_rows.new.self f new) (sym (some-table_seals plan table some))
-    (seals-then first plan (bitmap_seals plan table) (rest_seals after ++ DataRing ∷ []) table rose device c.seal_bitmaps.new.self f first_flash c.seal_rows.result c.seal_rows.new.self new h
-    (seals-then first plan (rest_seals after) (DataRing ∷ []) after rose h.now.device c.seal_blobs.new.self first_flash mid c.seal_rows.result c.seal_rows.new.self new b
-    (c.seal_rows.ensures.ends first plan (after_seals plan (rest_seals after) after) rose b.now.device last b.stands)))
-
-pub returns-in_err-seal_blobs-clause-cause : goal.returns-in_err-seal_blobs-clause-cause
-returns-in_err-seal_blobs-clause-cause g c =
-    let p = err_from_is_err_and c.from_residual-in_err-seal_blobs.result c.from_residual-in_err-seal_blobs.ensures.1 in
-    rw (p.1, p.2) (cause-later (g.F.Flash.state c.args.flash.now) (g.F.Flash.state c.seal_bitmaps.new.flash) (g.F.Flash.state c.seal_blobs.new.flash) c.in_ok-seal_bitmaps.ensures.goes c.in_ok-seal_bitmaps.ensures.power
-    c.in_err-seal_blobs.field-0.0 c.in_err-seal_blobs.ensures.cause)
-
-pub returns-clause-cause : goal.returns-clause-cause
-returns-clause-cause g c =
-    let old = g.F.Flash.state c.args.flash.now in
-    let first = g.F.Flash.state c.seal_bitmaps.new.flash in
-    let mid = g.F.Flash.state c.seal_blobs.new.flash in
-    let new = g.F.Flash.state c.seal_rows.new.flash in
-    IfErr-weaker c.seal_rows.result _ _
-    (λ e caused. cause-later old first new c.in_ok-seal_bitmaps.ensures.goes c.in_ok-seal_bitmaps.ensures.power e
-    (cause-later first mid new c.in_ok-seal_blobs.ensures.goes c.in_ok-seal_blobs.ensures.power e caused)) c.seal_rows.ensures.cause
-
-pub returns-clause-outside : goal.returns-clause-outside
-returns-clause-outside g c = λ told.
-    let t = c.args.self.now in
-    let old = g.F.Flash.state c.args.flash.now in
-    let first = g.F.Flash.state c.seal_bitmaps.new.flash in
-    let mid = g.F.Flash.state c.seal_blobs.new.flash in
-    let new = g.F.Flash.state c.seal_rows.new.flash in
-    let first_told = subst IsTrue (sym c.in_ok-seal_bitmaps.ensures.goes.tells) told in
-    outside-then t c.seal_bitmaps.new.self (page_at old) (page_at first) (page_at new) c.in_ok-seal_bitmaps.ensures.same (c.in_ok-seal_bitmaps.ensures.outside told)
-    (outside-then c.seal_bitmaps.new.self c.seal_blobs.new.self (page_at first) (page_at mid) (page_at new) c.in_ok-seal_blobs.ensures.same (c.in_ok-seal_blobs.ensures.outside first_told)
-    (c.seal_rows.ensures.outside (subst IsTrue (sym c.in_ok-seal_blobs.ensures.goes.tells) first_told)))
-
-pub returns-in_err-seal_blobs-clause-outside : goal.returns-in_err-seal_blobs-clause-outside
-returns-in_err-seal_blobs-clause-outside g c = λ told.
-    let old = g.F.Flash.state c.args.flash.now in
-    let first = g.F.Flash.state c.seal_bitmaps.new.flash in
-    outside-then c.args.self.now c.seal_bitmaps.new.self (page_at old) (page_at first) (page_at (g.F.Flash.state c.seal_blobs.new.flash)) c.in_ok-seal_bitmaps.ensures.same (c.in_ok-seal_bitmaps.ensures.outside told)
-    (c.in_err-seal_blobs.ensures.outside (subst IsTrue (sym c.in_ok-seal_bitmaps.ensures.goes.tells) told))
-
-pub returns-in_err-seal_bitmaps-clause-off : goal.returns-in_err-seal_bitmaps-clause-off
-returns-in_err-seal_bitmaps-clause-off g c =
-    let p = err_from_is_err_and c.from_residual.result c.from_residual.ensures.1 in
-    rw (p.1, p.2) (λ down. let h = c.in_err-seal_bitmaps.ensures.off down in (ap (λ (e : FlashFault). Err e) h.0, h.1))
-
-pub returns-in_err-seal_blobs-clause-off : goal.returns-in_err-seal_blobs-clause-off
-returns-in_err-seal_blobs-clause-off g c =
-    let p = err_from_is_err_and c.from_residual-in_err-seal_blobs.result c.from_residual-in_err-seal_blobs.ensures.1 in
-    rw (p.1, p.2) (off-then (g.F.Flash.state c.args.flash.now) (g.F.Flash.state c.seal_bitmaps.new.flash) (g.F.Flash.state c.seal_blobs.new.flash) c.in_ok-seal_bitmaps.field-0 (Err c.in_err-seal_blobs.field-0.0)
-    c.in_ok-seal_bitmaps.ensures.off (λ down. let h = c.in_err-seal_blobs.ensures.off down in (ap (λ (e : FlashFault). Err e) h.0, h.1)))
-
-pub returns-clause-off : goal.returns-clause-off
-returns-clause-off g c =
-    let first = g.F.Flash.state c.seal_bitmaps.new.flash in
-    let mid = g.F.Flash.state c.seal_blobs.new.flash in
-    let new = g.F.Flash.state c.seal_rows.new.flash in
-    off-then (g.F.Flash.state c.args.flash.now) first new c.in_ok-seal_bitmaps.field-0 c.seal_rows.result c.in_ok-seal_bitmaps.ensures.off
-    (off-then first mid new c.in_ok-seal_blobs.field-0 c.seal_rows.result c.in_ok-seal_blobs.ensures.off c.seal_rows.ensures.off)
-
-pub returns-in_err-seal_blobs-clause-goes : goal.returns-in_err-seal_blobs-clause-goes
-returns-in_err-seal_blobs-clause-goes g c =
-    goes-then (g.F.Flash.state c.args.flash.now) (g.F.Flash.state c.seal_bitmaps.new.flash) (g.F.Flash.state c.seal_blobs.new.flash) c.in_ok-seal_bitmaps.ensures.goes c.in_err-seal_blobs.ensures.goes
-
-pub returns-clause-goes : goal.returns-clause-goes
-returns-clause-goes g c =
-    let first = g.F.Flash.state c.seal_bitmaps.new.flash in
-    let mid = g.F.Flash.state c.seal_blobs.new.flash in
-    let new = g.F.Flash.state c.seal_rows.new.flash in
-    goes-then (g.F.Flash.state c.args.flash.now) first new c.in_ok-seal_bitmaps.ensures.goes (goes-then first mid new c.in_ok-seal_blobs.ensures.goes c.seal_rows.ensures.goes)
-
-pub returns-clause-same : goal.returns-clause-same
-returns-clause-same g c =
-    same-then c.args.self.now c.seal_bitmaps.new.self c.seal_rows.new.self c.in_ok-seal_bitmaps.ensures.same
-    (same-then c.seal_bitmaps.new.self c.seal_blobs.new.self c.seal_rows.new.self c.in_ok-seal_blobs.ensures.same c.seal_rows.ensures.same)
-
-pub returns-clause-index_next : goal.returns-clause-index_next
-returns-clause-index_next g c =
-    let before = c.in_ok-seal_bitmaps.ensures.index_next in
-    let still : next_of c.seal_blobs.new.self.bitmaps ≡ next_of c.seal_bitmaps.new.self.bitmaps = ap next_of c.in_ok-seal_blobs.ensures.bitmaps in
-    on-ok c.seal_rows.result (next_of c.seal_rows.new.self.bitmaps ≡ next_of c.seal_blobs.new.self.bitmaps) (next_of c.seal_rows.new.self.bitmaps ≤ next_of c.args.self.now.bitmaps + 1)
-    (λ same. omega (arith, same, still, before)) c.seal_rows.ensures.index_next
-
-pub returns-clause-power : goal.returns-clause-power
-returns-clause-power g c =
-    let old = g.F.Flash.state c.args.flash.now in
-    let mid = g.F.Flash.state c.seal_blobs.new.flash in
-    let new = g.F.Flash.state c.seal_rows.new.flash in
-    on-ok c.seal_rows.result (mid.is_on ≡ true → new.is_on ≡ true) (old.is_on ≡ true → new.is_on ≡ true)
-    (λ power on. power (c.in_ok-seal_blobs.ensures.power (c.in_ok-seal_bitmaps.ensures.power on))) c.seal_rows.ensures.power
-
-pub seal_rows-requires : goal.seal_rows-requires
-seal_rows-requires g c = (
-  table-fits g.row.KNOTS g.row.SLOTS c.args.self.now.few_knots c.args.self.now.few_slots,
-  (c.in_ok-seal_blobs.ensures.running, (omega (arith, c.in_ok-seal_blobs.ensures.some, c.in_ok-seal_bitmaps.ensures.some, c.requires.some), (subst (λ (o : Option BitmapIndex). HaveRoom o) (sym c.in_ok-seal_blobs.ensures.bitmaps) c.in_ok-seal_bitmaps.ensures.room, (c.in_ok-seal_blobs.ensures.empty, c.in_ok-seal_blobs.ensures.lies)))),
-)
-
-pub seal_bitmaps-requires : goal.seal_bitmaps-requires
-seal_bitmaps-requires g c = (table-fits g.row.KNOTS g.row.SLOTS c.args.self.now.few_knots c.args.self.now.few_slots, (c.requires.running, (c.requires.some, c.requires.lies)))
-
-pub seal_blobs-requires : goal.seal_blobs-requires
-seal_blobs-requires g c = (
-  table-fits g.row.KNOTS g.row.SLOTS c.args.self.now.few_knots c.args.self.now.few_slots,
-  (c.in_ok-seal_bitmaps.ensures.running, (omega (arith, c.in_ok-seal_bitmaps.ensures.some, c.requires.some), c.in_ok-seal_bitmaps.ensures.lies)),
-)
-
-pub returns-in_err-seal_bitmaps-clause-last : goal.returns-in_err-seal_bitmaps-clause-last
-returns-in_err-seal_bitmaps-clause-last g c = c.in_err-seal_bitmaps.ensures.last
-
-pub returns-in_err-seal_blobs-clause-last : goal.returns-in_err-seal_blobs-clause-last
-returns-in_err-seal_blobs-clause-last g c = c.in_err-seal_blobs.ensures.last ∙ c.in_ok-seal_bitmaps.ensures.last
-
-pub returns-clause-last : goal.returns-clause-last
-returns-clause-last g c = c.seal_rows.ensures.last ∙ (c.in_ok-seal_blobs.ensures.last ∙ c.in_ok-seal_bitmaps.ensures.last)
-
-pub returns-clause-pending_stays : goal.returns-clause-pending_stays
-returns-clause-pending_stays g c =
-    on_err_weaker c.seal_rows.result (λ same. same ∙ (c.in_ok-seal_blobs.ensures.some ∙ c.in_ok-seal_bitmaps.ensures.some)) c.seal_rows.ensures.pending_stays
-
--- one read of the medium for each ring
-some-rings : (a b n m : ℕ) → m ≤ n + a → m ≤ n + (a + b + 1)
-some-rings a b n m h = omega (arith, h)
-
-two-rings : (a b n m k : ℕ) → m ≤ n + a → k ≤ m + b → k ≤ n + (a + b + 1)
-two-rings a b n m k h j = omega (arith, h, j)
-
-all-rings : (a b n m k l : ℕ) → m ≤ n + a → k ≤ m + b → l ≤ k + 1 → l ≤ n + (a + b + 1)
-all-rings a b n m k l h j i = omega (arith, h, j, i)
-
-pub returns-in_err-seal_bitmaps-clause-goes : goal.returns-in_err-seal_bitmaps-clause-goes
-returns-in_err-seal_bitmaps-clause-goes g c = c.in_err-seal_bitmaps.ensures.goes
-
-pub returns-in_err-seal_bitmaps-clause-same : goal.returns-in_err-seal_bitmaps-clause-same
-returns-in_err-seal_bitmaps-clause-same g c = c.in_err-seal_bitmaps.ensures.same
-
-pub returns-in_err-seal_bitmaps-clause-lies : goal.returns-in_err-seal_bitmaps-clause-lies
-returns-in_err-seal_bitmaps-clause-lies g c = c.in_err-seal_bitmaps.ensures.lies
-
-pub returns-in_err-seal_bitmaps-clause-outside : goal.returns-in_err-seal_bitmaps-clause-outside
-returns-in_err-seal_bitmaps-clause-outside g c = c.in_err-seal_bitmaps.ensures.outside
-
-pub returns-in_err-seal_bitmaps-clause-reads : goal.returns-in_err-seal_bitmaps-clause-reads
-returns-in_err-seal_bitmaps-clause-reads g c = c.in_err-seal_bitmaps.ensures.reads
-
-pub returns-in_err-seal_bitmaps-clause-running : goal.returns-in_err-seal_bitmaps-clause-running
-returns-in_err-seal_bitmaps-clause-running g c = no-success _ _ c.from_residual.result c.from_residual.ensures.1
-
-pub returns-in_err-seal_bitmaps-clause-index_next : goal.returns-in_err-seal_bitmaps-clause-index_next
-returns-in_err-seal_bitmaps-clause-index_next g c = no-success _ _ c.from_residual.result c.from_residual.ensures.1
-
-pub returns-in_err-seal_bitmaps-clause-calm : goal.returns-in_err-seal_bitmaps-clause-calm
-returns-in_err-seal_bitmaps-clause-calm g c = no-success _ _ c.from_residual.result c.from_residual.ensures.1
-
-pub returns-in_err-seal_bitmaps-clause-power : goal.returns-in_err-seal_bitmaps-clause-power
-returns-in_err-seal_bitmaps-clause-power g c = no-success _ _ c.from_residual.result c.from_residual.ensures.1
-
-pub returns-in_err-seal_bitmaps-clause-stopped : goal.returns-in_err-seal_bitmaps-clause-stopped
-returns-in_err-seal_bitmaps-clause-stopped g c =
-    let p = err_from_is_err_and c.from_residual.result c.from_residual.ensures.1 in
-    rw p.1 c.in_err-seal_bitmaps.ensures.stopped
-
-pub returns-in_err-seal_bitmaps-clause-cause : goal.returns-in_err-seal_bitmaps-clause-cause
-returns-in_err-seal_bitmaps-clause-cause g c =
-    let p = err_from_is_err_and c.from_residual.result c.from_residual.ensures.1 in
-    rw (p.1, p.2) c.in_err-seal_bitmaps.ensures.cause
-
-pub returns-in_err-seal_bitmaps-clause-media_reads : goal.returns-in_err-seal_bitmaps-clause-media_reads
-returns-in_err-seal_bitmaps-clause-media_reads g c = some-rings _ _ _ _ c.in_err-seal_bitmaps.ensures.media_reads
-
-pub returns-in_err-seal_blobs-clause-lies : goal.returns-in_err-seal_blobs-clause-lies
-returns-in_err-seal_blobs-clause-lies g c = c.in_err-seal_blobs.ensures.lies
-
-pub returns-in_err-seal_blobs-clause-same : goal.returns-in_err-seal_blobs-clause-same
-returns-in_err-seal_blobs-clause-same g c = same-then c.args.self.now c.seal_bitmaps.new.self c.seal_blobs.new.self c.in_ok-seal_bitmaps.ensures.same c.in_err-seal_blobs.ensures.same
-
-pub returns-in_err-seal_blobs-clause-reads : goal.returns-in_err-seal_blobs-clause-reads
-returns-in_err-seal_blobs-clause-reads g c = c.in_err-seal_blobs.ensures.reads ∙ c.in_ok-seal_bitmaps.ensures.reads
-
-pub returns-in_err-seal_blobs-clause-running : goal.returns-in_err-seal_blobs-clause-running
-returns-in_err-seal_blobs-clause-running g c = no-success _ _ c.from_residual-in_err-seal_blobs.result c.from_residual-in_err-seal_blobs.ensures.1
-
-pub returns-in_err-seal_blobs-clause-index_next : goal.returns-in_err-seal_blobs-clause-index_next
-returns-in_err-seal_blobs-clause-index_next g c = no-success _ _ c.from_residual-in_err-seal_blobs.result c.from_residual-in_err-seal_blobs.ensures.1
-
-pub returns-in_err-seal_blobs-clause-calm : goal.returns-in_err-seal_blobs-clause-calm
-returns-in_err-seal_blobs-clause-calm g c = no-success _ _ c.from_residual-in_err-seal_blobs.result c.from_residual-in_err-seal_blobs.ensures.1
-
-pub returns-in_err-seal_blobs-clause-power : goal.returns-in_err-seal_blobs-clause-power
-returns-in_err-seal_blobs-clause-power g c = no-success _ _ c.from_residual-in_err-seal_blobs.result c.from_residual-in_err-seal_blobs.ensures.1
-
-pub returns-in_err-seal_blobs-clause-stopped : goal.returns-in_err-seal_blobs-clause-stopped
-returns-in_err-seal_blobs-clause-stopped g c =
-    let p = err_from_is_err_and c.from_residual-in_err-seal_blobs.result c.from_residual-in_err-seal_blobs.ensures.1 in
-    rw p.1 c.in_err-seal_blobs.ensures.stopped
-
-pub returns-in_err-seal_blobs-clause-media_reads : goal.returns-in_err-seal_blobs-clause-media_reads
-returns-in_err-seal_blobs-clause-media_reads g c = two-rings _ _ _ _ _ c.in_ok-seal_bitmaps.ensures.media_reads
-    (subst (λ (o : Option VarData). (g.F.Flash.state c.seal_blobs.new.flash).media.reads ≤ (g.F.Flash.state c.seal_bitmaps.new.flash).media.reads + variable.rings_of o) c.in_ok-seal_bitmaps.ensures.blobs c.in_err-seal_blobs.ensures.media_reads)
-
-pub returns-clause-lies : goal.returns-clause-lies
-returns-clause-lies g c = c.seal_rows.ensures.lies
-
-pub returns-clause-running : goal.returns-clause-running
-returns-clause-running g c = c.seal_rows.ensures.running
-
-pub returns-clause-stopped : goal.returns-clause-stopped
-returns-clause-stopped g c = c.seal_rows.ensures.stopped
-
-pub returns-clause-reads : goal.returns-clause-reads
-returns-clause-reads g c = c.seal_rows.ensures.reads ∙ (c.in_ok-seal_blobs.ensures.reads ∙ c.in_ok-seal_bitmaps.ensures.reads)
-
-pub returns-clause-calm : goal.returns-clause-calm
-returns-clause-calm g c =
-    let before = c.in_ok-seal_blobs.ensures.calm ∙ c.in_ok-seal_bitmaps.ensures.calm in
-    on-ok c.seal_rows.result (is_stopped c.seal_rows.new.self ≡ is_stopped c.seal_blobs.new.self) (is_stopped c.seal_rows.new.self ≡ is_stopped c.args.self.now)
-    (λ calm. calm ∙ before) c.seal_rows.ensures.calm
-
-pub returns-clause-media_reads : goal.returns-clause-media_reads
-returns-clause-media_reads g c = all-rings _ _ _ _ _ _ c.in_ok-seal_bitmaps.ensures.media_reads
-    (subst (λ (o : Option VarData). (g.F.Flash.state c.seal_blobs.new.flash).media.reads ≤ (g.F.Flash.state c.seal_bitmaps.new.flash).media.reads + variable.rings_of o) c.in_ok-seal_bitmaps.ensures.blobs c.in_ok-seal_blobs.ensures.media_reads)
-    c.seal_rows.ensures.media_reads
-
-pub returns-in_err-seal_bitmaps-clause-pending_stays : goal.returns-in_err-seal_bitmaps-clause-pending_stays
-returns-in_err-seal_bitmaps-clause-pending_stays g c = on-err c.from_residual.result c.in_err-seal_bitmaps.ensures.some
-
-pub returns-in_err-seal_blobs-clause-pending_stays : goal.returns-in_err-seal_blobs-clause-pending_stays
-returns-in_err-seal_blobs-clause-pending_stays g c = on-err c.from_residual-in_err-seal_blobs.result (c.in_err-seal_blobs.ensures.some ∙ c.in_ok-seal_bitmaps.ensures.some)
-
-pub returns-in_err-seal_bitmaps-clause-writes : goal.returns-in_err-seal_bitmaps-clause-writes
-returns-in_err-seal_bitmaps-clause-writes g c =
-    let p = err_from_is_err_and c.from_residual.result c.from_residual.ensures.1 in
-    let none : done c.from_residual.result ≡ 0 = ap (λ (x : Result (Unit {0}) FlashFault). done x) p.1 in
-    index-writes c.args.self.now (done c.from_residual.result) (g.F.Flash.state c.args.flash.now) (g.F.Flash.state c.seal_bitmaps.new.flash) (omega (arith, none)) c.in_err-seal_bitmaps.ensures.writes
-
-pub returns-in_err-seal_blobs-clause-writes : goal.returns-in_err-seal_blobs-clause-writes
-returns-in_err-seal_blobs-clause-writes g c =
-    let p = err_from_is_err_and c.from_residual-in_err-seal_blobs.result c.from_residual-in_err-seal_blobs.ensures.1 in
-    let none : done c.from_residual-in_err-seal_blobs.result ≡ 0 = ap (λ (x : Result (Unit {0}) FlashFault). done x) p.1 in
-    blob-writes c.args.self.now c.seal_bitmaps.new.self.blobs (done c.from_residual-in_err-seal_blobs.result) (g.F.Flash.state c.args.flash.now) (g.F.Flash.state c.seal_bitmaps.new.flash) (g.F.Flash.state c.seal_blobs.new.flash)
-    c.in_ok-seal_bitmaps.ensures.goes.tells c.in_ok-seal_bitmaps.ensures.blobs (omega (arith, none)) c.in_ok-seal_bitmaps.ensures.writes c.in_err-seal_blobs.ensures.writes
-
-pub returns-clause-writes : goal.returns-clause-writes
-returns-clause-writes g c =
-    row-writes c.args.self.now c.seal_bitmaps.new.self.blobs c.seal_blobs.new.self.ring (done c.seal_rows.result) (g.F.Flash.state c.args.flash.now) (g.F.Flash.state c.seal_bitmaps.new.flash) (g.F.Flash.state c.seal_blobs.new.flash) (g.F.Flash.state c.seal_rows.new.flash)
-    c.in_ok-seal_bitmaps.ensures.goes.tells (c.in_ok-seal_blobs.ensures.goes.tells ∙ c.in_ok-seal_bitmaps.ensures.goes.tells) c.in_ok-seal_bitmaps.ensures.blobs (c.in_ok-seal_blobs.ensures.ring ∙ c.in_ok-seal_bitmaps.ensures.ring)
-    c.in_ok-seal_bitmaps.ensures.writes c.in_ok-seal_blobs.ensures.writes c.seal_rows.ensures.writes
-
-pub returns-in_err-seal_bitmaps-clause-emptied : goal.returns-in_err-seal_bitmaps-clause-emptied
-returns-in_err-seal_bitmaps-clause-emptied g c = no-success _ _ c.from_residual.result c.from_residual.ensures.1
-
-pub returns-in_err-seal_blobs-clause-emptied : goal.returns-in_err-seal_blobs-clause-emptied
-returns-in_err-seal_blobs-clause-emptied g c = no-success _ _ c.from_residual-in_err-seal_blobs.result c.from_residual-in_err-seal_blobs.ensures.1
+    let old = (g.F.Flash.state c.args.flash.now) in
+    let new = (g.F.Flash.state c.seal_rings.new.flash) in
+    let ring = c.in-Some.ring in
+    let has : t.ring ≡ Some ring = (sym c.take.ensures.value ∙ c.in-Some.is) in
+    let body = c.body.result.now in
+    let listed = c.seal_rings.new.bitmaps in
+    let rest = c.seal_rings.new.blobs in
+    let now = c.seal_rings.new.ring in
+    let h = c.in_default-seal_rings.ensures in
+    let lies = c.requires.lies in
+    let b = before_rows t ring body old (Ok tt) listed rest now new h in
+    let k = stands-before t ring has body old new first plan table rose device c.requires.some stands watched listed rest now (Ok tt) h in
+    let sealed = rows-sealed t ring has body old new first plan table rose device c.requires.some stands watched listed rest now
+    (λ layout rows gathers. c.body.ensures ∙ (c.finish.ensures.body layout rows gathers ∙ ap (λ n. rows_body (length t.writer.body) layout n t.bitmap rows) c.next_number-number.ensures))
+    lies.geometry lies.within (g.met.F.Flash.reaches c.seal_rings.new.flash) h in
+    let after = k.after in
+    let planned = k.stands.planned in
+    let memory = k.stands.memory in
+    let shape : shape_of ring ≡ shape_in first plan = t.lies ring has ∙ planned-ring t first plan stands.planned in
+    let outside : OutsideStands (shape_in first plan) (page_at h.then) (page_at new) = subst (λ (r : Shape). OutsideStands r (page_at h.then) (page_at new)) shape (h.rows.flash.outside k.watched.told) in
+    let number : c.next_number-number.result ≡ after.rows.next = c.next_number-number.ensures ∙ ring-next b h.then first plan after ring k.stands has in
+    let pending : t.writer.count ≡ after.pending = writer-count b h.then first plan after k.stands in
+    let count : c.count.result ≡ after.pending = c.count.ensures ∙ (ap (λ w. w.count) c.finish.ensures.exact ∙ pending) in
+    let room : length t.counts.items ≡ plan.data_blocks * plan.geometry.block = counts-room t first plan stands.planned in
+    let end : c.finish.new.self.end ≡ t.writer.end = ap (λ w. w.end) c.finish.ensures.exact in
+    let blank = rest-clear c.finish.new.self c.clear.new.self c.clear.ensures.exact (omega (arith, end, t.rows_end)) (omega (arith, end, t.rows_room, c.finish.ensures.size))
+    (rest-finish t.writer c.finish.new.self c.next_number-number.result t.bitmap c.finish.ensures.exact c.finish.ensures.size (omega (arith, t.rows_end)) t.blank_rest) in
+    let noted : c.note.new.counts ≡ set t.counts.items (after.rows.next % (plan.data_blocks * plan.geometry.block)) after.pending =
+    c.note.ensures ∙ note-same c.deref_mut.result.now t.counts.items c.next_number-number.result after.rows.next c.count.result after.pending (plan.data_blocks * plan.geometry.block) c.deref_mut.ensures.value number count room in
+    let size : length c.note.new.counts ≡ length t.counts.items = ap length noted ∙ length-set t.counts.items (after.rows.next % (plan.data_blocks * plan.geometry.block)) after.pending in
+    let back = written-back t.counts.items c.note.new.counts t.counts.len size t.counts.ok.0 in
+    let entry : full_view c.pending_entry-full.result ≡ full_of (model.pending_entries after) = c.pending_entry-full.ensures.stands old first plan table stands ∙ ap full_of (sym k.entries) in
+    let first_key : model.first_pending after ≡ Some c.pending_entry-full.result.first_key =
+    first-some (model.pending_entries after) (omega (arith, c.requires.some, pending, pending-length plan after k.stands.facts.counted)) ∙ ap (λ k. Some k) (sym (ap (λ (f : Full). f.first_key) entry)) in
+    k.ends _ (ends-alone first plan after rose k.later (Ok tt) _ h.then new (record {
+      now = sealed.now;
+      did = sealed.did;
+      whole = sealed.whole;
+      counts = sealed.counted;
+      power = sealed.power;
+      stands = record {
+        planned = planned-same b _ first plan planned (record { geometry = refl; layout = refl; place = refl; buckets = refl; error = c.add_further.ensures.error; bitmaps = c.note_entry.ensures.same; blobs = blobbing.plan-same rest; limit = refl });
+        facts = table-facts plan (after_seal plan DataRing after) sealed.facts;
+        whole = sealed.untorn;
+        clean = refl;
+        pages = sealed.pages;
+        memory = record {
+          ring = now;
+          ring_is = refl;
+          next = sealed.next;
+          oldest = sealed.oldest_is;
+          gathers = subst (λ (es : List model.Entry). Gathers (layout_of t.schema) (map stored_row es) c.clear.new.self) (sym sealed.none)
+              (gathers-none (layout_of t.schema) c.clear.new.self (ap (λ w. w.count) c.clear.ensures.exact) (ap (λ w. w.end) c.clear.ensures.exact) blank);
+          bitmap = sealed.no_bits;
+          blob_end = sym (ap model.end_of_blobs sealed.none);
+          last = memory.last ∙ ap (option_map (λ (entry : model.Entry). entry.kept.key)) sealed.last;
+          counts = λ i count e. ap (λ (cs : List ℕ). get_or cs ((rings.oldest (after_seal plan DataRing after).rows + i) % (plan.data_blocks * plan.geometry.block)) 0) (back ∙ noted) ∙ sealed.counts_are i count e;
+          voids = voids-told b h.then first plan after k.stands ring c.deref.result.now c.oldest-oldest.result c.oldest.result c.voids_among-gone.result c.saturating_sub-self.result has c.oldest-oldest.ensures
+              (c.oldest.ensures ∙ sealed.oldest_is) (planned-shape b first plan planned) (omega (arith, c.requires.some, pending)) c.deref.ensures.value c.voids_among-gone.ensures c.saturating_sub-self.ensures;
+          index = index-sealed plan after t.index c.add_further.new.self c.pending_entry-full.result.first_key c.next_number-number.result k.stands.facts k.stands.points memory.index first_key number c.add_further.ensures.points;
+        };
+        bitmaps = stand-sealed listed c.note_entry.new.bitmaps h.then new first plan after c.next_number-number.result t.bitmap c.pending_entry-full.result planned.index (table-parts plan after planned.log k.stands.facts) sealed.facts
+            (index-stands (page_at h.then) (page_at new) first plan outside) number memory.bitmap entry c.note_entry.ensures.noted k.stands.bitmaps;
+        blobs = blobbing.stand-moved rest h.then new first plan after (after_seal plan DataRing after) (var-stands (page_at h.then) (page_at new) first plan outside) refl refl refl
+            (rest-of (sum (rings.given_up (shape_of_ring plan DataRing) after.pending after.rows)) after.entries) k.stands.blobs;
+        points = points-sealed plan after k.stands.facts (planned-shape b first plan planned) k.stands.points (omega (arith, c.requires.some, pending));
+      };
+      stand = sealed.stand;
+    }))
 
 pub returns-clause-emptied : goal.returns-clause-emptied
 returns-clause-emptied g c =
     let t = c.args.self.now in
-    let u = c.seal_rows.new.self in
-    let before = c.in_ok-seal_blobs.ensures.next ∙ c.in_ok-seal_bitmaps.ensures.next in
-    let b = c.seal_blobs.new.self in
-    let first = c.in_ok-seal_bitmaps.ensures in
-    let then = c.in_ok-seal_blobs.ensures in
-    let still : variable.next_after c.seal_bitmaps.new.self.blobs ≡ variable.next_after t.blobs = ap variable.next_after c.in_ok-seal_bitmaps.ensures.blobs in
-    let last : variable.next_of u.blobs ≡ variable.next_of c.seal_blobs.new.self.blobs = ap variable.next_of c.seal_rows.ensures.blobs in
-    on-both c.seal_rows.result (HasCounted b u) (((next_in u ≡ next_in b + 1) × ((u.writer.count ≡ 0) × (u.bitmap ≡ 0) × (u.blob_end ≡ 0))) × AreSameRing b.bitmaps u.bitmaps) (IsEmptied t u)
-    (λ counted all. let both = all.0 in record {
-      same = returns-clause-same g c;
-      next = both.0 ∙ ap (λ n. n + 1) before;
-      empty = record { none = both.1.0; rows = pending-none u both.1.0; bits = both.1.1; ends = both.1.2; blobs = subst (λ (o : Option VarData). variable.AreEmpty o) (sym c.seal_rows.ensures.blobs) then.empty };
-      blob_next = last ∙ (then.blob_next ∙ still);
-      blob_oldest = ap variable.oldest_of c.seal_rows.ensures.blobs ∙ (then.blob_oldest ∙ ap variable.oldest_after first.blobs);
-      index = ring-stays t.bitmaps c.seal_bitmaps.new.self.bitmaps b.bitmaps u.bitmaps first.index then.bitmaps all.1;
-      counted = counted-then t b u (same-then t c.seal_bitmaps.new.self b first.same then.same) (then.ring ∙ first.ring) (waits-then t c.seal_bitmaps.new.self b first.still.0 then.still.0) counted;
-    }) c.seal_rows.ensures.counted
-    (on-both c.seal_rows.result ((next_in u ≡ next_in b + 1) × ((u.writer.count ≡ 0) × (u.bitmap ≡ 0) × (u.blob_end ≡ 0))) (AreSameRing b.bitmaps u.bitmaps)
-    (((next_in u ≡ next_in b + 1) × ((u.writer.count ≡ 0) × (u.bitmap ≡ 0) × (u.blob_end ≡ 0))) × AreSameRing b.bitmaps u.bitmaps) (λ rows index. (rows, index))
-    (on-both c.seal_rows.result (next_in u ≡ next_in b + 1) ((u.writer.count ≡ 0) × (u.bitmap ≡ 0) × (u.blob_end ≡ 0)) ((next_in u ≡ next_in b + 1) × ((u.writer.count ≡ 0) × (u.bitmap ≡ 0) × (u.blob_end ≡ 0))) (λ next empty. (next, empty)) c.seal_rows.ensures.next c.seal_rows.ensures.empty)
-    c.seal_rows.ensures.index)
+    let ring = c.in-Some.ring in
+    let has : t.ring ≡ Some ring = (sym c.take.ensures.value ∙ c.in-Some.is) in
+    let h = c.in_default-seal_rings.ensures in
+    let end : c.finish.new.self.end ≡ t.writer.end = ap (λ w. w.end) c.finish.ensures.exact in
+    let number : c.next_number-number.result ≡ next_in t = c.next_number-number.ensures ∙ sym (next-in t ring has) in
+    let count : c.count.result ≡ t.writer.count = c.count.ensures ∙ ap (λ w. w.count) c.finish.ensures.exact in
+    let noted : c.note.new.counts ≡ set t.counts.items (next_in t % length t.counts.items) t.writer.count =
+    c.note.ensures ∙ note-same c.deref_mut.result.now t.counts.items c.next_number-number.result (next_in t) c.count.result t.writer.count (length t.counts.items) c.deref_mut.ensures.value number count refl in
+    let size : length c.note.new.counts ≡ length t.counts.items = ap length noted ∙ length-set t.counts.items (next_in t % length t.counts.items) t.writer.count in
+    let key = c.pending_entry-full.result.first_key in
+    record {
+      same = record { geometry = refl; layout = refl; place = refl; buckets = refl; error = c.add_further.ensures.error; bitmaps = plan-then c.args.self.now.bitmaps c.seal_rings.new.bitmaps c.note_entry.new.bitmaps h.entries.same c.note_entry.ensures.same; blobs = h.bytes.same; limit = refl };
+      next = omega (arith, h.rows.memory.next, next-in t ring has);
+      empty = record {
+        none = ap (λ (w : WriterState). w.count) c.clear.ensures.exact;
+        rows = gathers-none (layout_of t.schema) c.clear.new.self (ap (λ w. w.count) c.clear.ensures.exact) (ap (λ w. w.end) c.clear.ensures.exact)
+            (rest-clear c.finish.new.self c.clear.new.self c.clear.ensures.exact (omega (arith, end, t.rows_end)) (omega (arith, end, t.rows_room, c.finish.ensures.size))
+            (rest-finish t.writer c.finish.new.self c.next_number-number.result t.bitmap c.finish.ensures.exact c.finish.ensures.size (omega (arith, t.rows_end)) t.blank_rest));
+        bits = refl;
+        ends = refl;
+        blobs = h.bytes.empty;
+      };
+      blob_next = h.bytes.next;
+      blob_oldest = h.bytes.oldest;
+      index = ring-stays t.bitmaps c.seal_rings.new.bitmaps c.seal_rings.new.bitmaps c.note_entry.new.bitmaps (made-sealed t.bitmaps c.seal_rings.new.bitmaps h.entries.made) refl c.note_entry.ensures.still;
+      counted = record {
+        oldest = subst (λ (o : Option Ring). IfSome o (λ r. oldest_of c.seal_rings.new.ring ≡ oldest_after r)) (sym has) h.rows.memory.kept_from;
+        noted = written-back t.counts.items c.note.new.counts t.counts.len size t.counts.ok.0 ∙ noted;
+        voids = voids-left c.saturating_sub-self.result c.voids_among-gone.result t.voids c.oldest-oldest.result c.oldest.result (oldest_in t) (oldest_of c.seal_rings.new.ring) c.deref.result.now t.counts.items
+            c.saturating_sub-self.ensures c.voids_among-gone.ensures c.deref.ensures.value (c.oldest-oldest.ensures ∙ sym (oldest-in t ring has)) c.oldest.ensures;
+        learned = λ row rows gathers.
+            learned-as t.index c.add_further.new.self key c.next_number-number.result row.key (next_in t) (c.pending_entry-full.ensures.first row rows gathers) number c.add_further.ensures.points;
+        left_out = λ row rows gathers.
+            left-out-as t.index c.add_further.new.self key c.next_number-number.result row.key (next_in t) (c.pending_entry-full.ensures.first row rows gathers) number c.add_further.ensures.left_out;
+      };
+    }
 
-pub returns-in_err-seal_bitmaps-clause-page : goal.returns-in_err-seal_bitmaps-clause-page
-returns-in_err-seal_bitmaps-clause-page g c = no-success _ _ c.from_residual.result c.from_residual.ensures.1
+pub returns-clause-last : goal.returns-clause-last
+returns-clause-last g c = refl
 
-pub returns-in_err-seal_blobs-clause-page : goal.returns-in_err-seal_blobs-clause-page
-returns-in_err-seal_blobs-clause-page g c = no-success _ _ c.from_residual-in_err-seal_blobs.result c.from_residual-in_err-seal_blobs.ensures.1
+pub returns-clause-pending_stays : goal.returns-clause-pending_stays
+returns-clause-pending_stays g c = tt
 
-pub returns-clause-page : goal.returns-clause-page
-returns-clause-page g c =
+pub returns-clause-running : goal.returns-clause-running
+returns-clause-running g c = refl
+
+pub returns-clause-index_next : goal.returns-clause-index_next
+returns-clause-index_next g c = omega (arith, still-next c.seal_rings.new.bitmaps c.note_entry.new.bitmaps c.note_entry.ensures.still, made-next c.args.self.now.bitmaps c.seal_rings.new.bitmaps c.in_default-seal_rings.ensures.entries.made)
+
+pub returns-clause-calm : goal.returns-clause-calm
+returns-clause-calm g c = refl
+
+pub returns-clause-stopped : goal.returns-clause-stopped
+returns-clause-stopped g c = tt
+
+pub returns-clause-off : goal.returns-clause-off
+returns-clause-off g c = rings-off c.args.self.now c.in-Some.ring (sym c.take.ensures.value ∙ c.in-Some.is) c.body.result.now (g.F.Flash.state c.args.flash.now) c.seal_rings.new.bitmaps c.seal_rings.new.blobs c.seal_rings.new.ring (g.F.Flash.state c.seal_rings.new.flash) (Ok tt) c.in_default-seal_rings.ensures
+
+pub returns-clause-sealed : goal.returns-clause-sealed
+returns-clause-sealed g c =
     let t = c.args.self.now in
-    let u = c.seal_blobs.new.self in
-    let f = g.F.Flash.state c.args.flash.now in
-    let m = g.F.Flash.state c.seal_bitmaps.new.flash in
-    let n = g.F.Flash.state c.seal_blobs.new.flash in
-    let new = g.F.Flash.state c.seal_rows.new.flash in
-    let first = c.in_ok-seal_bitmaps.ensures in
-    let then = c.in_ok-seal_blobs.ensures in
-    on-ok c.seal_rows.result (IsTrue n.media.tells → RowsPaged u (page_at n) (page_at new)) (IsTrue f.media.tells → IsApart t (next_page t) → RowsPaged t (page_at f) (page_at new))
-    (rows-paged t c.seal_bitmaps.new.self u f m n new first.goes.tells then.goes.tells first.same then.same (then.next ∙ first.next) first.still then.still) c.seal_rows.ensures.page
+    rings-flushed t c.in-Some.ring (sym c.take.ensures.value ∙ c.in-Some.is) c.body.result.now
+    (λ layout rows gathers. c.body.ensures ∙ (c.finish.ensures.body layout rows gathers ∙ ap (λ n. rows_body (length t.writer.body) layout n t.bitmap rows) c.next_number-number.ensures))
+    (g.F.Flash.state c.args.flash.now) c.requires.lies c.seal_rings.new.bitmaps c.seal_rings.new.blobs c.seal_rings.new.ring (g.F.Flash.state c.seal_rings.new.flash) c.in_default-seal_rings.ensures
 
-pub returns-in_err-seal_bitmaps-clause-ahead : goal.returns-in_err-seal_bitmaps-clause-ahead
-returns-in_err-seal_bitmaps-clause-ahead g c = no-success _ _ c.from_residual.result c.from_residual.ensures.1
-
-pub returns-in_err-seal_blobs-clause-ahead : goal.returns-in_err-seal_blobs-clause-ahead
-returns-in_err-seal_blobs-clause-ahead g c = no-success _ _ c.from_residual-in_err-seal_blobs.result c.from_residual-in_err-seal_blobs.ensures.1
-
-pub returns-clause-ahead : goal.returns-clause-ahead
-returns-clause-ahead g c =
-    let t = c.args.self.now in
-    let u = c.seal_blobs.new.self in
-    let first = c.in_ok-seal_bitmaps.ensures in
-    let then = c.in_ok-seal_blobs.ensures in
-    let f = g.F.Flash.state c.args.flash.now in
-    let n = g.F.Flash.state c.seal_blobs.new.flash in
-    let new = g.F.Flash.state c.seal_rows.new.flash in
-    on-ok c.seal_rows.result (IsTrue n.media.tells → RowsAhead u (λ page. ⊥) (page_at new)) (IsTrue f.media.tells → RowsAhead t (λ page. ⊥) (page_at new))
-    (λ h told. subst (λ (o : Option Ring). AheadBlank o (λ page. ⊥) (page_at new)) (then.ring ∙ first.ring) (h (subst IsTrue (sym (then.goes.tells ∙ first.goes.tells)) told))) c.seal_rows.ensures.ahead
-
-pub returns-in_err-seal_bitmaps-clause-blobs_ahead : goal.returns-in_err-seal_bitmaps-clause-blobs_ahead
-returns-in_err-seal_bitmaps-clause-blobs_ahead g c = no-success _ _ c.from_residual.result c.from_residual.ensures.1
-
-pub returns-in_err-seal_blobs-clause-blobs_ahead : goal.returns-in_err-seal_blobs-clause-blobs_ahead
-returns-in_err-seal_blobs-clause-blobs_ahead g c = no-success _ _ c.from_residual-in_err-seal_blobs.result c.from_residual-in_err-seal_blobs.ensures.1
-
-pub returns-clause-blobs_ahead : goal.returns-clause-blobs_ahead
-returns-clause-blobs_ahead g c =
-    let t = c.args.self.now in
-    let u = c.seal_blobs.new.self in
-    let f = g.F.Flash.state c.args.flash.now in
-    let m = g.F.Flash.state c.seal_bitmaps.new.flash in
-    let n = g.F.Flash.state c.seal_blobs.new.flash in
-    let new = g.F.Flash.state c.seal_rows.new.flash in
-    let first = c.in_ok-seal_bitmaps.ensures in
-    let then = c.in_ok-seal_blobs.ensures in
-    on-ok c.seal_rows.result (next_in c.seal_rows.new.self ≡ next_in u + 1) (BlobsAhead t f new)
-    (λ next. blobs-ahead t c.seal_bitmaps.new.self u (done c.seal_rows.result) f m n new first.goes.tells then.goes.tells first.blobs (then.ring ∙ first.ring) then.ahead c.seal_rows.ensures.writes)
-    c.seal_rows.ensures.next
-
-pub returns-in_err-seal_bitmaps-clause-blob_page : goal.returns-in_err-seal_bitmaps-clause-blob_page
-returns-in_err-seal_bitmaps-clause-blob_page g c = no-success _ _ c.from_residual.result c.from_residual.ensures.1
-
-pub returns-in_err-seal_blobs-clause-blob_page : goal.returns-in_err-seal_blobs-clause-blob_page
-returns-in_err-seal_blobs-clause-blob_page g c = no-success _ _ c.from_residual-in_err-seal_blobs.result c.from_residual-in_err-seal_blobs.ensures.1
-
-pub returns-clause-blob_page : goal.returns-clause-blob_page
-returns-clause-blob_page g c =
-    let t = c.args.self.now in
-    let u = c.seal_blobs.new.self in
-    let f = g.F.Flash.state c.args.flash.now in
-    let m = g.F.Flash.state c.seal_bitmaps.new.flash in
-    let n = g.F.Flash.state c.seal_blobs.new.flash in
-    let new = g.F.Flash.state c.seal_rows.new.flash in
-    let first = c.in_ok-seal_bitmaps.ensures in
-    let then = c.in_ok-seal_blobs.ensures in
-    on-ok c.seal_rows.result (next_in c.seal_rows.new.self ≡ next_in u + 1) (BlobsPaged t f new)
-    (λ next. blobs-paged t c.seal_bitmaps.new.self u (rings_of t.bitmaps) (done c.seal_rows.result) f m n new first.goes.tells then.goes.tells first.blobs (then.ring ∙ first.ring) first.writes then.page c.seal_rows.ensures.writes)
-    c.seal_rows.ensures.next
+pub returns-clause-flash : goal.returns-clause-flash
+returns-clause-flash g c = rings-change c.args.self.now c.in-Some.ring (sym c.take.ensures.value ∙ c.in-Some.is) c.body.result.now (g.F.Flash.state c.args.flash.now) c.seal_rings.new.bitmaps c.seal_rings.new.blobs c.seal_rings.new.ring (g.F.Flash.state c.seal_rings.new.flash) (Ok tt) c.in_default-seal_rings.ensures
