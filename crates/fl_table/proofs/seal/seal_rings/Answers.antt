@@ -7,15 +7,18 @@ pub returns-in_err-make_room : goal.returns-in_err-make_room
 returns-in_err-make_room g c =
     let e = c.in_err-make_room.ensures in
     let p = err_from_is_err_and c.from_residual.result c.from_residual.ensures.1 in
-    rw (p.1, p.2) (inl (record {
-      same = e.same;
-      lies = e.lies;
-      made = e.made;
-      broken = e.broken;
-      ends = e.ends;
-      off = e.off;
-      flash = record { goes = e.goes; power = e.power; writes = e.writes; outside = e.outside; reads = e.reads; media_reads = e.media_reads; cause = e.cause };
-    }, refl))
+    rw (p.1, p.2) (inl (
+      record {
+        same = e.same;
+        lies = e.lies;
+        made = e.made;
+        broken = e.broken;
+        ends = e.ends;
+        off = e.off;
+        flash = record { goes = e.goes; power = e.power; writes = e.writes; outside = e.outside; reads = e.reads; media_reads = e.media_reads; cause = e.cause };
+      },
+      refl,
+    ))
 
 pub returns-in_err-seal_rest : goal.returns-in_err-seal_rest
 returns-in_err-seal_rest g c =
