@@ -22,6 +22,7 @@ use Rattle.fl_frame.specs.Device.{SameDevice}
 use Rattle.fl_frame.specs.Watched.{IsWatched}
 use Rattle.fl_parts.proofs.Fronts.{front-left, IsNumberedTo}
 use Rattle.fl_parts.specs.Bitmaps.{ArePlanned, Stand, StandOutside, IsRoomMade, RoomMade, MakesRoomOf, bitmap_seals, next_after}
+use Rattle.fl_parts.proofs.IndexAlone.{AreOfIndex, front_of, IsBeside, beside-done, number-done, seal-of_index, indexed-of, beside-facts, rows-stand, var-stand, holds-indexed, lose-beside, holds-beside}
 use Rattle.fl_parts.specs.Failing.{Breaks, FaultEnds, BySeals}
 use Rattle.fl_parts.specs.Pages.{HoldsTable, KeptStand, bytes_in, place_in}
 use Rattle.fl_table.specs.Standing.{Stands}

@@ -17,7 +17,7 @@ use Rattle.fl_table.specs.Paged.{RowsAhead, HasFlushed, HasMadePage, IsApart, Ro
 use Rattle.fl_table.specs.Sealing.{ReachesRows}
 use Rattle.fl_table.specs.declared.table.Table.{Table}
 use Rattle.fl_table.proofs.Finds.{next-in}
-use Rattle.fl_parts.proofs.Outsides.{stand-outside, var-outside, fill-moved}
+use Rattle.fl_parts.proofs.Outsides.{not-filled, stand-outside, var-outside, fill-moved}
 use Rattle.fl_table.proofs.ReadsKeepTable.{lies-moved}
 use Rattle.fl_table.proofs.Sealing.{RowsMake, rings-write}
 use Rattle.fl_table.proofs.Writing.{put-writes}

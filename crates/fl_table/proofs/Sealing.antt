@@ -1,10 +1,10 @@
 -- What seals of a table's rings in turn leave of the rings and of their flash.
-use Rattle.std.proofs.Common.{◌≡◌, ℕ, ◌+◌, ◌≤◌, true, IsTrue, Option, Some, Result, Ok, Err, OnOk, List, length, inl, inr, sym, ◌∙◌, ap, subst, arith}
+use Rattle.std.proofs.Common.{◌≡◌, ℕ, ◌+◌, ◌≤◌, true, IsTrue, Option, Some, Result, Ok, Err, OnOk, IfErr, refl, List, length, inl, inr, sym, ◌∙◌, ap, subst, arith}
 use Rattle.std.proofs.lemmas.Result.{IfErr-weaker}
 use Rattle.fl_flash.specs.Flash.{FlashState, OffChangesNothing, page_at}
 use Rattle.fl_flash.specs.declared.flash.FlashFault.{FlashFault}
 use Rattle.fl_frame.specs.Causes.{CausedBy}
-use Rattle.fl_frame.proofs.CallsInTurn.{goes-then}
+use Rattle.fl_frame.proofs.CallsInTurn.{goes-same, goes-then}
 use Rattle.fl_frame.proofs.WatchedInTurn.{cause-later}
 use Rattle.fl_index.proofs.SealAnswers.{seal-on}
 use Rattle.fl_index.specs.declared.index.BitmapIndex.{BitmapIndex}
@@ -19,7 +19,7 @@ use Rattle.fl_parts.proofs.IndexOfTable.{broken-after, lies-goes, made-after}
 use Rattle.fl_parts.proofs.Untouched.{on-ok}
 use Rattle.fl_parts.specs.Bitmaps as bitmaps
 use Rattle.fl_parts.specs.Blobs as variable
-use Rattle.fl_ring.proofs.Written.{writes-then, writes-wider}
+use Rattle.fl_ring.proofs.Written.{writes-none, writes-then, writes-wider}
 use Rattle.fl_ring.specs.Place.{next_of, shape_of}
 use Rattle.fl_ring.specs.Ring as rings
 use Rattle.fl_ring.specs.Ring.{Shape}
@@ -45,6 +45,30 @@ pub reaches-in-turn : (index : Option BitmapIndex) (blobs : Option VarData) (rin
     ReachesRows index blobs ring body old result listed rest now new → SealsInTurn index blobs ring body old result listed rest now new
 reaches-in-turn index blobs ring body old (Ok u) listed rest now new h = h
 reaches-in-turn index blobs ring body old (Err fault) listed rest now new h = inr (inr h)
+
+-- what changes nothing
+pub changes-none : {KNOTS SLOTS : ℕ} {E : Type 0} (t : Table KNOTS SLOTS) (May : ℕ → Type 0) (most : ℕ) (Caused : FlashState → E → FlashState → Type 0) (f : FlashState) (result : Result (Unit {0}) E) → IfErr result (λ e. Caused f e f) → Changes May (OutsideStands t) most Caused f result f
+changes-none {KNOTS} {SLOTS} {E} t May most Caused f result cause = record {
+  goes = goes-same f;
+  power = on result;
+  writes = writes-none May most f;
+  outside = λ told page rows index blobs. refl;
+  reads = refl;
+  media_reads = omega arith;
+  cause = cause;
+}
+  where
+    on : (result : Result (Unit {0}) E) → OnOk result (f.is_on ≡ true → f.is_on ≡ true)
+    on (Ok u) = λ is. is
+    on (Err e) = tt
+
+-- a call does what one does in it, with another fault
+module _ {D E : Type 0} (May : ℕ → Type 0) (Outside : (ℕ → List ℕ) → (ℕ → List ℕ) → Type 0) (most : ℕ) (Caused : FlashState → D → FlashState → Type 0) (Causes : FlashState → E → FlashState → Type 0) (old new : FlashState) where
+  pub changes-failed : (fault : D) (refusal : E) → (Caused old fault new → Causes old refusal new) → Changes May Outside most Caused old (Err fault) new → Changes May Outside most Causes old (Err refusal) new
+  changes-failed fault refusal same h = record { goes = h.goes; power = tt; writes = h.writes; outside = h.outside; reads = h.reads; media_reads = h.media_reads; cause = same h.cause }
+
+  pub changes-done : Changes May Outside most Caused old (Ok tt) new → Changes May Outside most Causes old (Ok tt) new
+  changes-done h = record { goes = h.goes; power = h.power; writes = h.writes; outside = h.outside; reads = h.reads; media_reads = h.media_reads; cause = tt }
 
 -- what changes fewer pages changes no more of others
 changes-wider : (May Might : ℕ → Type 0) (Outside Around : (ℕ → List ℕ) → (ℕ → List ℕ) → Type 0) (most many : ℕ) (old : FlashState) (result : Result (Unit {0}) FlashFault) (new : FlashState) → ((page : ℕ) → May page → Might page) → ((a b : ℕ → List ℕ) → Outside a b → Around a b) → most ≤ many →

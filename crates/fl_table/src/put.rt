@@ -1,7 +1,7 @@
 // Puts and flushes.
-ghost use Rattle.std.specs.Prelude.{◌≡◌, ◌≤◌, ◌+◌, ◌^◌, ◌<◌, ◌++◌, ◌∷◌, [], true, false, length, IsTrue, OnOk, OnErr, IfErr, option_map};
+ghost use Rattle.std.specs.Prelude.{◌≡◌, ◌≤◌, ◌+◌, ◌^◌, ◌<◌, ◌++◌, ◌∷◌, [], true, false, length, OnOk, OnErr, option_map};
 ghost use Rattle.fl_model.specs.BlobEnds.{reference_end};
-ghost use Rattle.fl_flash.specs.Flash.{Goes, OffChangesNothing, page_at};
+ghost use Rattle.fl_flash.specs.Flash.{OffChangesNothing};
 ghost use Rattle.fl_parts.specs.Entries.{bitmap_with};
 
 use crate::table::Table;
@@ -22,15 +22,14 @@ fn with_value(buckets: Option<Buckets>, bitmap: u64, value: i64) -> u64
 }
 
 impl<const KNOTS: usize, const SLOTS: usize> Table<KNOTS, SLOTS> {
-    ghost use Rattle.std.specs.Prelude.{ℕ, Bool, List, slice_index_or, pos, Some, None, is_some, nat_lt, ◌↔◌, Ok, Err};
-    ghost use Rattle.fl_model.specs.Record.{Plan, layout_len, rows_per_page};
+    ghost use Rattle.std.specs.Prelude.{ℕ, Bool, List, slice_index_or, pos, Some, None, nat_lt, ◌↔◌, Ok, Err};
+    ghost use Rattle.fl_model.specs.Record.{Plan, layout_len};
     ghost use Rattle.fl_model.specs.Row.{Row, FitsRow, stored_row};
     ghost use Rattle.fl_model.specs.Table as model;
     ghost use Rattle.fl_model.specs.Table.{Entry, make_room_seals, spent_from};
     ghost use Rattle.fl_model.specs.Work.{Device};
     ghost use Rattle.fl_frame.specs.Causes.{CausedBy};
     ghost use Rattle.fl_frame.specs.Watched.{IsWatched};
-    ghost use Rattle.fl_ring.specs.Written.{Writes};
     ghost use Rattle.fl_schema.specs.Schema.{layout_of};
     ghost use Rattle.fl_flash.specs.Flash.{FlashState};
     ghost use Rattle.fl_table.specs.Causes.{PutCausedBy, FlushCausedBy, put_breaks, flush_breaks};
@@ -61,7 +60,6 @@ impl<const KNOTS: usize, const SLOTS: usize> Table<KNOTS, SLOTS> {
     fn make_room<F: Flash>(&mut self, flash: &mut F) -> Result<(), FlashFault>
         requires running { is_running self.old ≡ true }
         requires lies { LiesOn self.old (F.state flash.old) }
-        ensures goes { Goes (F.state flash.old) (F.state flash.new) }
         ensures same { IsSamePlan self.old self.new }
         ensures lies { LiesOn self.new (F.state flash.new) }
         ensures ends { (first : ℕ) → (plan : Plan) → (table : model.Table) → (rose : Bool) → (device : Device) → IsWatched (F.state flash.old) (F.state flash.new) rose device
@@ -76,15 +74,11 @@ impl<const KNOTS: usize, const SLOTS: usize> Table<KNOTS, SLOTS> {
         ensures next { OnOk result (next_in self.new ≤ next_in self.old + 1) }
         ensures index_next { OnOk result (index_next self.new.bitmaps ≤ index_next self.old.bitmaps + 1) }
         ensures blob_next { OnOk result (variable.next_of self.new.blobs ≤ variable.next_of self.old.blobs + 1) }
-        ensures power { OnOk result ((F.state flash.old).is_on ≡ true → (F.state flash.new).is_on ≡ true) }
         ensures off { (HasRoom self.old → ⊥) → OffChangesNothing (F.state flash.old) result (F.state flash.new) }
         ensures calm { OnOk result (is_stopped self.new ≡ is_stopped self.old) }
         ensures stopped { OnErr result ((is_running self.new ≡ false) × (is_stopped self.new ≡ true)) }
-        ensures outside { IsTrue (F.state flash.old).media.tells → OutsideStands self.old (page_at (F.state flash.old)) (page_at (F.state flash.new)) }
-        ensures writes { Writes (MaySeal self.old) 0 (rings_in self.old) (F.state flash.old) (F.state flash.new) }
-        ensures reads { (F.state flash.new).work.reads ≡ (F.state flash.old).work.reads }
-        ensures media_reads { (F.state flash.new).media.reads ≤ (F.state flash.old).media.reads + rings_in self.old }
-        ensures cause { IfErr result (λ e. CausedBy (F.state flash.old) e (F.state flash.new)) }
+        ensures flash { Changes (MaySeal self.old) (OutsideStands self.old) (rings_in self.old)
+            CausedBy (F.state flash.old) result (F.state flash.new) }
     {
         if !self.is_full() {
             return Ok(());
@@ -134,14 +128,12 @@ impl<const KNOTS: usize, const SLOTS: usize> Table<KNOTS, SLOTS> {
         requires index_left { index_next self.old.bitmaps ≤ spent_from }
         requires blobs_left { variable.next_of self.old.blobs ≤ spent_from }
         requires lies { LiesOn self.old (F.state flash.old) }
-        ensures goes { Goes (F.state flash.old) (F.state flash.new) }
         ensures same { IsSamePlan self.old self.new }
         ensures lies { LiesOn self.new (F.state flash.new) }
         ensures ends { (first : ℕ) → (plan : Plan) → (table : model.Table) → (rose : Bool) → (device : Device) → IsWatched (F.state flash.old) (F.state flash.new) rose device
             → Stands self.old (F.state flash.old) first plan table → IsAcceptedBy plan table key values.now (option_map (λ b. b.now) blob.entry)
             → JoinEnds first plan (record { key = key; values = values.now; blob = option_map (λ b. b.now) blob.entry }) table rose device result self.new (F.state flash.old) (F.state flash.new) }
         ensures quiet { variable.pages_for self.old.blobs (option_map (λ b. b.now) blob.entry) ≡ 0 → (result ≡ Ok tt) × (F.state flash.new ≡ F.state flash.old) }
-        ensures power { OnOk result ((F.state flash.old).is_on ≡ true → (F.state flash.new).is_on ≡ true) }
         ensures off { 1 ≤ variable.pages_for self.old.blobs (option_map (λ b. b.now) blob.entry) → OffChangesNothing (F.state flash.old) result (F.state flash.new) }
         ensures joined { OnOk result (HasJoined self.old key values.now (option_map (λ b. b.now) blob.entry) self.new) }
         ensures running { OnOk result (is_running self.new ≡ true) }
@@ -149,11 +141,8 @@ impl<const KNOTS: usize, const SLOTS: usize> Table<KNOTS, SLOTS> {
         ensures stopped { OnErr result ((is_running self.new ≡ false) × (is_stopped self.new ≡ true)) }
         ensures pending_stays { OnErr result (pending_in self.new ≡ pending_in self.old) }
         ensures last_stays { OnErr result (last_key_in self.new ≡ last_key_in self.old) }
-        ensures outside { IsTrue (F.state flash.old).media.tells → OutsideStands self.old (page_at (F.state flash.old)) (page_at (F.state flash.new)) }
-        ensures writes { Writes (variable.MayFill (option_map (λ b. b.now) blob.entry) self.old.blobs) 0 (variable.pages_for self.old.blobs (option_map (λ b. b.now) blob.entry)) (F.state flash.old) (F.state flash.new) }
-        ensures reads { (F.state flash.new).work.reads ≡ (F.state flash.old).work.reads }
-        ensures media_reads { (F.state flash.new).media.reads ≤ (F.state flash.old).media.reads + variable.pages_for self.old.blobs (option_map (λ b. b.now) blob.entry) }
-        ensures cause { IfErr result (λ e. CausedBy (F.state flash.old) e (F.state flash.new)) }
+        ensures flash { Changes (variable.MayFill (bytes_in blob.entry) self.old.blobs) (OutsideStands self.old)
+            (variable.pages_for self.old.blobs (bytes_in blob.entry)) CausedBy (F.state flash.old) result (F.state flash.new) }
     {
         let at = match place(&mut self.blobs, flash, blob) {
             Ok(at) => at,

@@ -8,14 +8,15 @@ use Rattle.fl_table.specs.declared.faults.FlushFault.TheVariants as flush
 use Rattle.fl_parts.proofs.CallsOff.{off-ok}
 use Rattle.fl_parts.proofs.Sizes.{table-fits}
 use Rattle.std.proofs.lemmas.Bool.{true≢false}
-use Rattle.fl_frame.proofs.CallsInTurn.{goes-same}
+use Rattle.fl_frame.specs.Causes.{CausedBy}
+use Rattle.fl_table.specs.Causes.{FlushCausedBy}
+use Rattle.fl_table.proofs.Sealing.{changes-done, changes-failed, changes-none}
 use Rattle.fl_table.specs.Memory.{is_running}
 use Rattle.fl_table.specs.declared.faults.FlushFault.{FlushFault}
 use Rattle.fl_table.proofs.PutAnswers.{and-true}
-use Rattle.fl_parts.proofs.Untouched.{at-most, and-false, no-ring, on-err, no-success}
-use Rattle.fl_ring.proofs.Written.{writes-none}
+use Rattle.fl_parts.proofs.Untouched.{and-false, no-ring, on-err, no-success}
 use Rattle.fl_table.specs.Memory.{MaySeal}
-use Rattle.fl_table.specs.Mounting.{rings_in}
+use Rattle.fl_table.specs.Mounting.{rings_in, OutsideStands}
 use Rattle.fl_table.proofs.table.Table.flush.Goals as goal
 
 not-stopped : (u : Unit {0}) → ◌≡◌ {A = Result (Unit {0}) FlushFault} (Ok u) (Err flush.Stopped) → ⊥
@@ -60,15 +61,7 @@ returns-then-not-is_running-clause-page g c = record {
 }
 
 pub returns-then-not-is_running-clause-flash : goal.returns-then-not-is_running-clause-flash
-returns-then-not-is_running-clause-flash g c = record {
-  goes = goes-same (g.F.Flash.state c.args.flash.now);
-  power = tt;
-  writes = writes-none (MaySeal c.args.self.now) (rings_in c.args.self.now) (g.F.Flash.state c.args.flash.now);
-  outside = λ told page rows index blobs. refl;
-  reads = refl;
-  media_reads = at-most _ _;
-  cause = refl;
-}
+returns-then-not-is_running-clause-flash g c = changes-none c.args.self.now (MaySeal c.args.self.now) (rings_in c.args.self.now) FlushCausedBy (g.F.Flash.state c.args.flash.now) (Err flush.Stopped) refl
 
 -- ---- nothing is pending
 
@@ -108,15 +101,7 @@ returns-then-count-eq0-clause-page g c = record {
 }
 
 pub returns-then-count-eq0-clause-flash : goal.returns-then-count-eq0-clause-flash
-returns-then-count-eq0-clause-flash g c = record {
-  goes = goes-same (g.F.Flash.state c.args.flash.now);
-  power = λ on. on;
-  writes = writes-none (MaySeal c.args.self.now) (rings_in c.args.self.now) (g.F.Flash.state c.args.flash.now);
-  outside = λ told page rows index blobs. refl;
-  reads = refl;
-  media_reads = at-most _ _;
-  cause = tt;
-}
+returns-then-count-eq0-clause-flash g c = changes-none c.args.self.now (MaySeal c.args.self.now) (rings_in c.args.self.now) FlushCausedBy (g.F.Flash.state c.args.flash.now) (Ok tt) tt
 
 -- ---- a seal failed
 
@@ -169,17 +154,10 @@ returns-in_err-seal-clause-page g c = record {
     same e = cc
 
 pub returns-in_err-seal-clause-flash : goal.returns-in_err-seal-clause-flash
-returns-in_err-seal-clause-flash g c = record {
-  goes = c.in_err-seal.ensures.flash.goes;
-  power = no-success _ _ c.from_residual.result c.from_residual.ensures.1;
-  writes = c.in_err-seal.ensures.flash.writes;
-  outside = c.in_err-seal.ensures.flash.outside;
-  reads = c.in_err-seal.ensures.flash.reads;
-  media_reads = c.in_err-seal.ensures.flash.media_reads;
-  cause =
-      let p = err_from_is_err_and c.from_residual.result c.from_residual.ensures.1 in
-      rw (p.1, p.2) c.in_err-seal.ensures.flash.cause;
-}
+returns-in_err-seal-clause-flash g c =
+    let p = err_from_is_err_and c.from_residual.result c.from_residual.ensures.1 in
+    let fault = c.in_err-seal.field-0.0 in
+    rw (p.1, p.2) (changes-failed (MaySeal c.args.self.now) (OutsideStands c.args.self.now) (rings_in c.args.self.now) CausedBy FlushCausedBy (g.F.Flash.state c.args.flash.now) (g.F.Flash.state c.seal.new.flash) fault (flush.Flash fault) (λ caused. caused) c.in_err-seal.ensures.flash)
 
 -- ---- it is done
 
@@ -214,15 +192,7 @@ returns-clause-page g c = record {
 }
 
 pub returns-clause-flash : goal.returns-clause-flash
-returns-clause-flash g c = record {
-  goes = c.in_ok-seal.ensures.flash.goes;
-  power = c.in_ok-seal.ensures.flash.power;
-  writes = c.in_ok-seal.ensures.flash.writes;
-  outside = c.in_ok-seal.ensures.flash.outside;
-  reads = c.in_ok-seal.ensures.flash.reads;
-  media_reads = c.in_ok-seal.ensures.flash.media_reads;
-  cause = tt;
-}
+returns-clause-flash g c = changes-done (MaySeal c.args.self.now) (OutsideStands c.args.self.now) (rings_in c.args.self.now) CausedBy FlushCausedBy (g.F.Flash.state c.args.flash.now) (g.F.Flash.state c.seal.new.flash) c.in_ok-seal.ensures.flash
 
 pub is_running-requires : goal.is_running-requires
 is_running-requires g c = table-fits g.row.KNOTS g.row.SLOTS c.args.self.now.few_knots c.args.self.now.few_slots

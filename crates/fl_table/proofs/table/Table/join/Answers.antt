@@ -12,10 +12,10 @@ use Rattle.fl_table.specs.Memory.{PendingAre}
 use Rattle.fl_table.specs.Standing.{Stands}
 use Rattle.fl_flash.specs.Flash.{page_at}
 use Rattle.fl_parts.proofs.BlobsOfTable.{after-most, pages-few, same-some, still-planned}
-use Rattle.fl_parts.proofs.IndexOfTable.{few-goes, lies-goes, none-is, none-there, plan-same}
+use Rattle.fl_parts.proofs.IndexOfTable.{none-is, none-there, plan-same}
 use Rattle.fl_parts.proofs.Outsides.{var-outside}
-use Rattle.fl_parts.proofs.JoinedEntries.{entry_of, entry-row, joined_to}
 use Rattle.fl_table.proofs.JoinedRecord.{join-done, join-breaks}
+use Rattle.fl_parts.proofs.JoinedEntries.{entry_of, entry-row, joined_to}
 use Rattle.fl_parts.proofs.Plain.{table-facts}
 use Rattle.fl_parts.proofs.Pointed.{points-added}
 use Rattle.fl_table.proofs.SealAnswers.{planned-same}
@@ -95,28 +95,8 @@ returns-clause-ends g c = λ first plan table rose device watched stands ok.
 
 pub returns-clause-lies : goal.returns-clause-lies
 returns-clause-lies g c =
-    let old = g.F.Flash.state c.args.flash.now in
-    let new = g.F.Flash.state c.place.new.flash in
-    let lies = c.requires.lies in
-    let goes = c.in-Ok.ensures.goes in
-    c.add.ensures.lies new (record {
-      geometry = goes.geometry ∙ lies.geometry;
-      within = omega (arith, goes.blocks, lies.within);
-      few = few-goes old new goes lies.few;
-      ring = λ ring is.
-          let h = lies.ring ring is in
-          record {
-            page = ap (λ x. x.page) goes.geometry ∙ h.page;
-            block = ap (λ x. x.block) goes.geometry ∙ h.block;
-            within = omega (arith, h.within, goes.blocks);
-          };
-      bitmaps = lies-goes c.args.self.now.bitmaps old new goes lies.bitmaps;
-      blobs = c.in-Ok.ensures.lies;
-    })
-
-pub returns-clause-outside : goal.returns-clause-outside
-returns-clause-outside g c = λ told page rows index blobs.
-    var-outside c.args.self.now.blobs (page_at (g.F.Flash.state c.args.flash.now)) (page_at (g.F.Flash.state c.place.new.flash)) page (c.in-Ok.ensures.outside told) blobs
+    let lies = lies-moved c.args.self.now (g.F.Flash.state c.args.flash.now) (g.F.Flash.state c.place.new.flash) c.in-Ok.ensures.goes c.requires.lies in
+    c.add.ensures.lies (g.F.Flash.state c.place.new.flash) (record { geometry = lies.geometry; within = lies.within; few = lies.few; ring = lies.ring; bitmaps = lies.bitmaps; blobs = c.in-Ok.ensures.lies })
 
 pub invariant_of-self : goal.invariant_of-self
 invariant_of-self g c =
@@ -199,10 +179,6 @@ returns-in-Err-clause-lies g c =
       blobs = c.in-Err.ensures.lies;
     }
 
-pub returns-in-Err-clause-outside : goal.returns-in-Err-clause-outside
-returns-in-Err-clause-outside g c = λ told page rows index blobs.
-    var-outside c.args.self.now.blobs (page_at (g.F.Flash.state c.args.flash.now)) (page_at (g.F.Flash.state c.place.new.flash)) page (c.in-Err.ensures.outside told) blobs
-
 pub invariant_of-self-in-Err : goal.invariant_of-self-in-Err
 invariant_of-self-in-Err g c =
     let t = c.args.self.now in
@@ -233,9 +209,6 @@ invariant_of-self-in-Err g c =
       blobs_left = λ is. absurd (none-is {X = Ring} None refl is);
     }
 
-pub returns-in-Err-clause-goes : goal.returns-in-Err-clause-goes
-returns-in-Err-clause-goes g c = c.in-Err.ensures.goes
-
 pub returns-in-Err-clause-same : goal.returns-in-Err-clause-same
 returns-in-Err-clause-same g c = record {
   geometry = refl;
@@ -256,18 +229,6 @@ returns-in-Err-clause-calm g c = tt
 
 pub returns-in-Err-clause-stopped : goal.returns-in-Err-clause-stopped
 returns-in-Err-clause-stopped g c = (refl, refl)
-
-pub returns-in-Err-clause-reads : goal.returns-in-Err-clause-reads
-returns-in-Err-clause-reads g c = c.in-Err.ensures.reads
-
-pub returns-in-Err-clause-media_reads : goal.returns-in-Err-clause-media_reads
-returns-in-Err-clause-media_reads g c = c.in-Err.ensures.media_reads
-
-pub returns-in-Err-clause-cause : goal.returns-in-Err-clause-cause
-returns-in-Err-clause-cause g c = c.in-Err.ensures.cause
-
-pub returns-clause-goes : goal.returns-clause-goes
-returns-clause-goes g c = c.in-Ok.ensures.goes
 
 pub returns-clause-same : goal.returns-clause-same
 returns-clause-same g c = record {
@@ -290,15 +251,6 @@ returns-clause-calm g c = c.add.ensures.stopped
 pub returns-clause-stopped : goal.returns-clause-stopped
 returns-clause-stopped g c = tt
 
-pub returns-clause-reads : goal.returns-clause-reads
-returns-clause-reads g c = c.in-Ok.ensures.reads
-
-pub returns-clause-media_reads : goal.returns-clause-media_reads
-returns-clause-media_reads g c = c.in-Ok.ensures.media_reads
-
-pub returns-clause-cause : goal.returns-clause-cause
-returns-clause-cause g c = tt
-
 pub place-requires-clause-running : goal.place-requires-clause-running
 place-requires-clause-running g c = c.args.self.now.blobs_running c.requires.running
 
@@ -307,9 +259,6 @@ place-requires-clause-lies g c = c.requires.lies.blobs
 
 pub place-requires-clause-few : goal.place-requires-clause-few
 place-requires-clause-few g c = c.requires.few
-
-pub returns-clause-power : goal.returns-clause-power
-returns-clause-power g c = c.in-Ok.ensures.power
 
 pub returns-in-Err-clause-pending_stays : goal.returns-in-Err-clause-pending_stays
 returns-in-Err-clause-pending_stays g c = refl
@@ -352,8 +301,30 @@ returns-clause-joined g c =
       blobs = subst (λ (o : Option VarData). variable.HavePlaced (option_map (λ (b : Bor (List ℕ)). b.now) c.args.blob) c.args.self.now.blobs o) (sym c.add.ensures.blobs) c.in-Ok.ensures.placed.1;
     }
 
-pub returns-in-Err-clause-writes : goal.returns-in-Err-clause-writes
-returns-in-Err-clause-writes g c = c.in-Err.ensures.writes
+pub returns-in-Err-clause-flash : goal.returns-in-Err-clause-flash
+returns-in-Err-clause-flash g c =
+    let t = c.args.self.now in
+    let placed = c.in-Err.ensures in
+    record {
+      goes = placed.goes;
+      power = tt;
+      writes = placed.writes;
+      outside = λ told page rows index blobs. var-outside t.blobs (page_at (g.F.Flash.state c.args.flash.now)) (page_at (g.F.Flash.state c.place.new.flash)) page (placed.outside told) blobs;
+      reads = placed.reads;
+      media_reads = placed.media_reads;
+      cause = placed.cause;
+    }
 
-pub returns-clause-writes : goal.returns-clause-writes
-returns-clause-writes g c = c.in-Ok.ensures.writes
+pub returns-clause-flash : goal.returns-clause-flash
+returns-clause-flash g c =
+    let t = c.args.self.now in
+    let placed = c.in-Ok.ensures in
+    record {
+      goes = placed.goes;
+      power = placed.power;
+      writes = placed.writes;
+      outside = λ told page rows index blobs. var-outside t.blobs (page_at (g.F.Flash.state c.args.flash.now)) (page_at (g.F.Flash.state c.place.new.flash)) page (placed.outside told) blobs;
+      reads = placed.reads;
+      media_reads = placed.media_reads;
+      cause = tt;
+    }

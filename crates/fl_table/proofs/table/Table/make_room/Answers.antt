@@ -1,4 +1,4 @@
-use Rattle.std.proofs.Common.{ℕ, zero, suc, ◌*◌, ◌≡◌, ◌+◌, ◌<◌, ◌≤◌, List, [], length, arith, sym, ◌∙◌, refl, subst}
+use Rattle.std.proofs.Common.{ℕ, zero, suc, ◌*◌, ◌≡◌, ◌+◌, ◌<◌, ◌≤◌, List, [], length, arith, Ok, sym, ◌∙◌, refl, subst}
 use Rattle.std.proofs.lemmas.Bool.{ltb-true, ltb-false}
 use Rattle.fl_model.specs.Record.{layout_len}
 use Rattle.fl_model.specs.Table.{RingName, make_room_seals}
@@ -7,15 +7,15 @@ use Rattle.fl_schema.specs.Schema.{layout_of}
 use Rattle.fl_table.specs.Outcomes.{SealsEnd}
 use Rattle.fl_table.proofs.PendingAndFull.{finishes-none, has-room, is-full}
 use Rattle.fl_parts.proofs.Sizes.{table-fits}
-use Rattle.fl_frame.proofs.CallsInTurn.{goes-same}
 use Rattle.fl_table.proofs.SealAnswers.{plan-self}
+use Rattle.fl_table.proofs.Sealing.{changes-none}
+use Rattle.fl_frame.specs.Causes.{CausedBy}
 use Rattle.fl_parts.specs.Blobs as variable
 use Rattle.fl_table.specs.Memory.{HasRoom, next_in}
 use Rattle.fl_table.specs.Stored.{IsEmptied}
 use Rattle.fl_parts.proofs.BlobsOfTable.{after-most}
 use Rattle.fl_table.specs.Paged.{HasFlushed}
 use Rattle.fl_parts.proofs.Untouched.{at-most, at-most-same, above, on-ok}
-use Rattle.fl_ring.proofs.Written.{writes-none}
 use Rattle.fl_table.specs.Memory.{MaySeal}
 use Rattle.fl_table.specs.Mounting.{rings_in}
 use Rattle.fl_table.proofs.table.Table.make_room.Goals as goal
@@ -78,9 +78,6 @@ row-fits : (count row page body end : ℕ) → count ≡ 0 → end ≡ 16 + coun
 row-fits zero row page body end none is whole room = omega (arith, is, whole, room)
 row-fits (suc count) row page body end none is whole room = absurd (omega (arith, none))
 
-pub returns-then-not-is_full-clause-goes : goal.returns-then-not-is_full-clause-goes
-returns-then-not-is_full-clause-goes g c = goes-same (g.F.Flash.state c.args.flash.now)
-
 pub returns-then-not-is_full-clause-same : goal.returns-then-not-is_full-clause-same
 returns-then-not-is_full-clause-same g c = plan-self c.args.self.now
 
@@ -104,29 +101,11 @@ returns-then-not-is_full-clause-index_next g c = at-most _ _
 pub returns-then-not-is_full-clause-blob_next : goal.returns-then-not-is_full-clause-blob_next
 returns-then-not-is_full-clause-blob_next g c = at-most _ _
 
-pub returns-then-not-is_full-clause-power : goal.returns-then-not-is_full-clause-power
-returns-then-not-is_full-clause-power g c = λ on. on
-
 pub returns-then-not-is_full-clause-calm : goal.returns-then-not-is_full-clause-calm
 returns-then-not-is_full-clause-calm g c = refl
 
 pub returns-then-not-is_full-clause-stopped : goal.returns-then-not-is_full-clause-stopped
 returns-then-not-is_full-clause-stopped g c = tt
-
-pub returns-then-not-is_full-clause-outside : goal.returns-then-not-is_full-clause-outside
-returns-then-not-is_full-clause-outside g c = λ told page rows index blobs. refl
-
-pub returns-then-not-is_full-clause-reads : goal.returns-then-not-is_full-clause-reads
-returns-then-not-is_full-clause-reads g c = refl
-
-pub returns-then-not-is_full-clause-media_reads : goal.returns-then-not-is_full-clause-media_reads
-returns-then-not-is_full-clause-media_reads g c = at-most _ _
-
-pub returns-then-not-is_full-clause-cause : goal.returns-then-not-is_full-clause-cause
-returns-then-not-is_full-clause-cause g c = tt
-
-pub returns-clause-goes : goal.returns-clause-goes
-returns-clause-goes g c = c.seal.ensures.flash.goes
 
 pub returns-clause-same : goal.returns-clause-same
 returns-clause-same g c = c.seal.ensures.same
@@ -140,38 +119,17 @@ returns-clause-running g c = c.seal.ensures.running
 pub returns-clause-index_next : goal.returns-clause-index_next
 returns-clause-index_next g c = c.seal.ensures.index_next
 
-pub returns-clause-power : goal.returns-clause-power
-returns-clause-power g c = c.seal.ensures.flash.power
-
 pub returns-clause-calm : goal.returns-clause-calm
 returns-clause-calm g c = c.seal.ensures.calm
 
 pub returns-clause-stopped : goal.returns-clause-stopped
 returns-clause-stopped g c = c.seal.ensures.stopped
 
-pub returns-clause-outside : goal.returns-clause-outside
-returns-clause-outside g c = c.seal.ensures.flash.outside
-
-pub returns-clause-reads : goal.returns-clause-reads
-returns-clause-reads g c = c.seal.ensures.flash.reads
-
-pub returns-clause-media_reads : goal.returns-clause-media_reads
-returns-clause-media_reads g c = c.seal.ensures.flash.media_reads
-
-pub returns-clause-cause : goal.returns-clause-cause
-returns-clause-cause g c = c.seal.ensures.flash.cause
-
 pub returns-clause-quiet : goal.returns-clause-quiet
 returns-clause-quiet g c = λ room. absurd (above (ltb-true (length c.args.self.now.writer.body) (c.args.self.now.writer.end + layout_len (layout_of c.args.self.now.schema)) (sym c.is_full.ensures.room ∙ c.if-not-is_full.false)) room)
 
 pub returns-clause-off : goal.returns-clause-off
 returns-clause-off g c = λ full. c.seal.ensures.off
-
-pub returns-then-not-is_full-clause-writes : goal.returns-then-not-is_full-clause-writes
-returns-then-not-is_full-clause-writes g c = writes-none (MaySeal c.args.self.now) (rings_in c.args.self.now) (g.F.Flash.state c.args.flash.now)
-
-pub returns-clause-writes : goal.returns-clause-writes
-returns-clause-writes g c = c.seal.ensures.flash.writes
 
 pub returns-then-not-is_full-clause-full : goal.returns-then-not-is_full-clause-full
 returns-then-not-is_full-clause-full g c = λ full.
@@ -208,3 +166,9 @@ pub returns-clause-sealed : goal.returns-clause-sealed
 returns-clause-sealed g c =
     let made = HasFlushed c.args.self.now (g.F.Flash.state c.args.flash.now) (g.F.Flash.state c.seal.new.flash) in
     on-ok c.seal.result made ((HasRoom c.args.self.now → ⊥) → made) (λ sealed full. sealed) c.seal.ensures.sealed
+
+pub returns-then-not-is_full-clause-flash : goal.returns-then-not-is_full-clause-flash
+returns-then-not-is_full-clause-flash g c = changes-none c.args.self.now (MaySeal c.args.self.now) (rings_in c.args.self.now) CausedBy (g.F.Flash.state c.args.flash.now) (Ok tt) tt
+
+pub returns-clause-flash : goal.returns-clause-flash
+returns-clause-flash g c = c.seal.ensures.flash

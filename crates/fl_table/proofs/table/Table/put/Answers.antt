@@ -1,4 +1,4 @@
-use Rattle.std.proofs.Common.{refl, ◌≡◌, ◌+◌, ℕ, Bor, List, Option, Some, None, Result, Ok, Err, length, option_map, not, ◌&&◌, ◌||◌, IsTrue, arith, sym, ◌∙◌, ap, subst}
+use Rattle.std.proofs.Common.{refl, ◌≡◌, ◌+◌, ℕ, Bor, List, Option, Some, None, Result, Ok, Err, length, option_map, not, ◌&&◌, ◌||◌, arith, sym, ◌∙◌, ap, subst}
 use Rattle.std.proofs.lemmas.Result.{err_from_is_err_and}
 use Rattle.std.proofs.lemmas.Option.{none-some}
 use Rattle.fl_model.specs.Table.{after_seals, make_room_seals}
@@ -6,14 +6,10 @@ use Rattle.fl_table.specs.Refusal.{put_refusal, RefusesAs}
 use Rattle.fl_table.specs.Memory.{is_running, is_stopped, pending_in}
 use Rattle.fl_table.specs.declared.table.Table.{Table}
 use Rattle.fl_table.proofs.Refusals.{fits-row, told-running, calm-cause, few-blob, not-spent, refusal-calm, calm-same}
-use Rattle.fl_flash.specs.Flash.{page_at}
-use Rattle.fl_parts.proofs.BlobsOfTable.{pages-most}
-use Rattle.fl_table.proofs.Outsides.{outside-then}
-use Rattle.fl_frame.proofs.WatchedInTurn.{cause-later, watched-first, watched-then}
+use Rattle.fl_frame.proofs.WatchedInTurn.{watched-first, watched-then}
 use Rattle.fl_table.proofs.PutAnswers.{accepts, and-true, broken-ends, join-fails, map-twice, put-ends, refused-ends}
 use Rattle.fl_flash.specs.declared.flash.FlashFault.{FlashFault}
 use Rattle.fl_flash.specs.declared.flash.FlashFault.TheVariants.{PowerLost}
-use Rattle.fl_frame.proofs.CallsInTurn.{goes-then, goes-same}
 use Rattle.fl_table.specs.declared.faults.PutRefusal.{PutRefusal}
 use Rattle.fl_table.specs.declared.faults.PutRefusal.TheVariants as put
 use Rattle.fl_table.proofs.PowerOff.{put-off}
@@ -23,13 +19,15 @@ use Rattle.fl_schema.specs.Schema.{layout_of}
 use Rattle.fl_table.proofs.SealAnswers.{same-then, plan-self}
 use Rattle.fl_parts.proofs.Sizes.{table-fits}
 use Rattle.fl_parts.specs.Blobs.{most_pages, pages_for}
-use Rattle.fl_parts.proofs.Untouched.{at-most, and-false, on-err, no-success}
-use Rattle.fl_ring.proofs.Written.{writes-none}
+use Rattle.fl_parts.proofs.Untouched.{and-false, on-err, no-success}
 use Rattle.fl_table.specs.Memory.{MayPut}
 use Rattle.fl_table.specs.Stored.{HasJoined}
-use Rattle.fl_table.specs.Mounting.{rings_in}
+use Rattle.fl_table.specs.Mounting.{rings_in, OutsideStands}
 use Rattle.fl_table.proofs.Paged.{page-made}
-use Rattle.fl_table.proofs.Writing.{few-more, put-writes, room-writes}
+use Rattle.fl_table.proofs.Writing.{join-changes, room-changes}
+use Rattle.fl_table.proofs.Sealing.{changes-done, changes-failed, changes-none}
+use Rattle.fl_frame.specs.Causes.{CausedBy}
+use Rattle.fl_table.specs.Causes.{PutCausedBy}
 use Rattle.fl_table.proofs.table.Table.put.Goals as goal
 
 not-done : (fault : FlashFault) (u : Unit {0}) → ◌≡◌ {A = Result (Unit {0}) FlashFault} (Err fault) (Ok u) → ⊥
@@ -81,19 +79,12 @@ returns-in-Some-clause-page g c = record {
     no e = cc
 
 pub returns-in-Some-clause-flash : goal.returns-in-Some-clause-flash
-returns-in-Some-clause-flash g c = record {
-  goes = goes-same (g.F.Flash.state c.args.flash.now);
-  power = tt;
-  writes =
-      let t = c.args.self.now in
-      let bytes = option_map (λ (b : Bor (List ℕ)). b.now) c.args.blob in
-      writes-none (MayPut t bytes) (rings_in t + most_pages t.blobs bytes) (g.F.Flash.state c.args.flash.now);
-  outside = λ told page rows index blobs. refl;
-  reads = refl;
-  media_reads = at-most _ _;
-  cause =
-      calm-cause (g.F.Flash.state c.args.flash.now) c.in-Some.refusal (refusal-calm c.args.self.now c.args.key c.args.values.now _ c.in-Some.refusal (sym c.refusal.ensures ∙ c.in-Some.is));
-}
+returns-in-Some-clause-flash g c =
+    let t = c.args.self.now in
+    let bytes = option_map (λ (b : Bor (List ℕ)). b.now) c.args.blob in
+    let most = rings_in t + most_pages t.blobs bytes in
+    changes-none t (MayPut t bytes) most PutCausedBy (g.F.Flash.state c.args.flash.now) (Err c.in-Some.refusal)
+    (calm-cause (g.F.Flash.state c.args.flash.now) c.in-Some.refusal (refusal-calm t c.args.key c.args.values.now _ c.in-Some.refusal (sym c.refusal.ensures ∙ c.in-Some.is)))
 
 -- ---- the page of pending rows could not be sealed
 
@@ -154,20 +145,14 @@ returns-in_err-make_room-clause-page g c = record {
     same e = cc
 
 pub returns-in_err-make_room-clause-flash : goal.returns-in_err-make_room-clause-flash
-returns-in_err-make_room-clause-flash g c = record {
-  goes = c.in_err-make_room.ensures.goes;
-  power = no-success _ _ c.from_residual.result c.from_residual.ensures.1;
-  writes =
-      let t = c.args.self.now in
-      let bytes = option_map (λ (b : Bor (List ℕ)). b.now) c.args.blob in
-      room-writes t bytes (most_pages t.blobs bytes) (g.F.Flash.state c.args.flash.now) (g.F.Flash.state c.make_room.new.flash) (λ room. (c.in_err-make_room.ensures.quiet room).2) c.in_err-make_room.ensures.writes;
-  outside = c.in_err-make_room.ensures.outside;
-  reads = c.in_err-make_room.ensures.reads;
-  media_reads = few-more _ _ _ _ c.in_err-make_room.ensures.media_reads;
-  cause =
-      let p = err_from_is_err_and c.from_residual.result c.from_residual.ensures.1 in
-      rw (p.1, p.2) c.in_err-make_room.ensures.cause;
-}
+returns-in_err-make_room-clause-flash g c =
+    let t = c.args.self.now in
+    let bytes = option_map (λ (b : Bor (List ℕ)). b.now) c.args.blob in
+    let most = rings_in t + most_pages t.blobs bytes in
+    let fault = c.in_err-make_room.field-0.0 in
+    let p = err_from_is_err_and c.from_residual.result c.from_residual.ensures.1 in
+    rw (p.1, p.2) (changes-failed (MayPut t bytes) (OutsideStands t) most CausedBy PutCausedBy (g.F.Flash.state c.args.flash.now) (g.F.Flash.state c.make_room.new.flash) fault (put.Flash fault) (λ caused. caused)
+    (room-changes t bytes (g.F.Flash.state c.args.flash.now) fault (g.F.Flash.state c.make_room.new.flash) (λ room. (c.in_err-make_room.ensures.quiet room).2) c.in_err-make_room.ensures.flash))
 
 -- ---- its blob could not be placed
 
@@ -181,9 +166,9 @@ returns-in_err-join-clause-put g c = λ first plan table rose device watched sta
     let same = map-twice (λ (b : Bor (List ℕ)). b.now) (λ (xs : List ℕ). length xs) c.args.blob in
     let none : put_refusal t c.args.key c.args.values.now (option_map (λ (xs : List ℕ). length xs) (option_map (λ (b : Bor (List ℕ)). b.now) c.args.blob)) ≡ None =
     ap (put_refusal t c.args.key c.args.values.now) same ∙ (sym c.refusal.ensures ∙ c.in_default.is) in
-    let h = c.in_ok-make_room.ensures.ends first plan table rose device (watched-first f mid new rose device watched c.join.ensures.goes) stands in
+    let h = c.in_ok-make_room.ensures.ends first plan table rose device (watched-first f mid new rose device watched c.join.ensures.flash.goes) stands in
     let ok = accepts t f first plan table c.args.key c.args.values.now bytes rose device stands none c.make_room.new.self mid h c.in_ok-make_room.ensures.room in
-    let k = c.in_err-join.ensures.ends first plan (after_seals plan (make_room_seals plan table) table) rose h.now.device (watched-then f mid new rose device h.now.device watched c.in_ok-make_room.ensures.goes h.power h.counts) h.stands ok in
+    let k = c.in_err-join.ensures.ends first plan (after_seals plan (make_room_seals plan table) table) rose h.now.device (watched-then f mid new rose device h.now.device watched c.in_ok-make_room.ensures.flash.goes h.power h.counts) h.stands ok in
     let p = err_from_is_err_and c.from_residual-in_err-join.result c.from_residual-in_err-join.ensures.1 in
     rw (p.1, p.2) (join-fails t f first plan table c.args.key c.args.values.now bytes rose device stands none c.make_room.new.self mid h c.in_err-join.field-0.0 c.join.new.self new k)
 
@@ -231,27 +216,14 @@ returns-in_err-join-clause-page g c = record {
     same e = cc
 
 pub returns-in_err-join-clause-flash : goal.returns-in_err-join-clause-flash
-returns-in_err-join-clause-flash g c = record {
-  goes =
-      goes-then (g.F.Flash.state c.args.flash.now) (g.F.Flash.state c.make_room.new.flash) (g.F.Flash.state c.join.new.flash) c.in_ok-make_room.ensures.goes c.in_err-join.ensures.goes;
-  power = no-success _ _ c.from_residual-in_err-join.result c.from_residual-in_err-join.ensures.1;
-  writes =
-      put-writes c.args.self.now c.make_room.new.self (option_map (λ (b : Bor (List ℕ)). b.now) c.args.blob) 0 (g.F.Flash.state c.args.flash.now) (g.F.Flash.state c.make_room.new.flash) (g.F.Flash.state c.join.new.flash)
-      c.in_ok-make_room.ensures.goes.tells c.in_ok-make_room.ensures.same.blobs (λ room. (c.in_ok-make_room.ensures.quiet room).2) c.in_ok-make_room.ensures.writes c.in_err-join.ensures.writes;
-  outside = λ told.
-      let old = g.F.Flash.state c.args.flash.now in
-      let mid = g.F.Flash.state c.make_room.new.flash in
-      outside-then c.args.self.now c.make_room.new.self (page_at old) (page_at mid) (page_at (g.F.Flash.state c.join.new.flash)) c.in_ok-make_room.ensures.same (c.in_ok-make_room.ensures.outside told)
-      (c.in_err-join.ensures.outside (subst IsTrue (sym c.in_ok-make_room.ensures.goes.tells) told));
-  reads = c.in_err-join.ensures.reads ∙ c.in_ok-make_room.ensures.reads;
-  media_reads =
-      let t = c.args.self.now in
-      omega (arith, c.in_ok-make_room.ensures.media_reads, c.in_err-join.ensures.media_reads, pages-most t.blobs c.make_room.new.self.blobs (option_map (λ (b : Bor (List ℕ)). b.now) c.args.blob) c.in_ok-make_room.ensures.same.blobs);
-  cause =
-      let p = err_from_is_err_and c.from_residual-in_err-join.result c.from_residual-in_err-join.ensures.1 in
-      rw (p.1, p.2) (cause-later (g.F.Flash.state c.args.flash.now) (g.F.Flash.state c.make_room.new.flash) (g.F.Flash.state c.join.new.flash) c.in_ok-make_room.ensures.goes c.in_ok-make_room.ensures.power
-      c.in_err-join.field-0.0 c.in_err-join.ensures.cause);
-}
+returns-in_err-join-clause-flash g c =
+    let t = c.args.self.now in
+    let bytes = option_map (λ (b : Bor (List ℕ)). b.now) c.args.blob in
+    let most = rings_in t + most_pages t.blobs bytes in
+    let fault = c.in_err-join.field-0.0 in
+    let p = err_from_is_err_and c.from_residual-in_err-join.result c.from_residual-in_err-join.ensures.1 in
+    rw (p.1, p.2) (changes-failed (MayPut t bytes) (OutsideStands t) most CausedBy PutCausedBy (g.F.Flash.state c.args.flash.now) (g.F.Flash.state c.join.new.flash) fault (put.Flash fault) (λ caused. caused)
+    (join-changes t c.make_room.new.self bytes (g.F.Flash.state c.args.flash.now) (g.F.Flash.state c.make_room.new.flash) (Err fault) (g.F.Flash.state c.join.new.flash) c.in_ok-make_room.ensures.same (λ room. (c.in_ok-make_room.ensures.quiet room).2) c.in_ok-make_room.ensures.flash c.in_err-join.ensures.flash))
 
 -- ---- it is done
 
@@ -265,10 +237,10 @@ returns-clause-put g c = λ first plan table rose device watched stands.
     let same = map-twice (λ (b : Bor (List ℕ)). b.now) (λ (xs : List ℕ). length xs) c.args.blob in
     let none : put_refusal t c.args.key c.args.values.now (option_map (λ (xs : List ℕ). length xs) (option_map (λ (b : Bor (List ℕ)). b.now) c.args.blob)) ≡ None =
     ap (put_refusal t c.args.key c.args.values.now) same ∙ (sym c.refusal.ensures ∙ c.in_default.is) in
-    let h = c.in_ok-make_room.ensures.ends first plan table rose device (watched-first f mid new rose device watched c.join.ensures.goes) stands in
+    let h = c.in_ok-make_room.ensures.ends first plan table rose device (watched-first f mid new rose device watched c.join.ensures.flash.goes) stands in
     let ok = accepts t f first plan table c.args.key c.args.values.now bytes rose device stands none c.make_room.new.self mid h c.in_ok-make_room.ensures.room in
     put-ends t f first plan table c.args.key c.args.values.now bytes rose device stands none c.make_room.new.self mid h c.join.new.self new
-    (c.in_ok-join.ensures.ends first plan (after_seals plan (make_room_seals plan table) table) rose h.now.device (watched-then f mid new rose device h.now.device watched c.in_ok-make_room.ensures.goes h.power h.counts) h.stands ok)
+    (c.in_ok-join.ensures.ends first plan (after_seals plan (make_room_seals plan table) table) rose h.now.device (watched-then f mid new rose device h.now.device watched c.in_ok-make_room.ensures.flash.goes h.power h.counts) h.stands ok)
 
 pub returns-clause-exact : goal.returns-clause-exact
 returns-clause-exact g c = subst (λ (r : Option PutRefusal). RefusesAs r (Ok tt)) (sym (sym c.refusal.ensures ∙ c.in_default.is)) tt
@@ -306,31 +278,19 @@ returns-clause-page g c = record {
       c.in_ok-make_room.field-0 (Ok c.in_ok-join.field-0) c.in_ok-make_room.ensures.off c.in_ok-make_room.ensures.quiet c.in_ok-join.ensures.off busy down).0);
   sealed = λ full.
       page-made c.args.self.now c.make_room.new.self (option_map (λ (b : Bor (List ℕ)). b.now) c.args.blob) (g.F.Flash.state c.args.flash.now) (g.F.Flash.state c.make_room.new.flash) (g.F.Flash.state c.join.new.flash)
-      c.in_ok-make_room.ensures.goes.tells c.in_ok-make_room.ensures.same.blobs full (c.in_ok-make_room.ensures.sealed full) c.in_ok-join.ensures.writes;
+      c.in_ok-make_room.ensures.flash.goes.tells c.in_ok-make_room.ensures.same.blobs full (c.in_ok-make_room.ensures.sealed full) c.in_ok-join.ensures.flash.writes;
 }
   where
     no : ◌≡◌ {A = Result (Unit {0}) FlashFault} (Ok c.in_ok-join.field-0) (Err PowerLost) → ⊥
     no e = cc
 
 pub returns-clause-flash : goal.returns-clause-flash
-returns-clause-flash g c = record {
-  goes =
-      goes-then (g.F.Flash.state c.args.flash.now) (g.F.Flash.state c.make_room.new.flash) (g.F.Flash.state c.join.new.flash) c.in_ok-make_room.ensures.goes c.in_ok-join.ensures.goes;
-  power = λ on. c.in_ok-join.ensures.power (c.in_ok-make_room.ensures.power on);
-  writes =
-      put-writes c.args.self.now c.make_room.new.self (option_map (λ (b : Bor (List ℕ)). b.now) c.args.blob) 0 (g.F.Flash.state c.args.flash.now) (g.F.Flash.state c.make_room.new.flash) (g.F.Flash.state c.join.new.flash)
-      c.in_ok-make_room.ensures.goes.tells c.in_ok-make_room.ensures.same.blobs (λ room. (c.in_ok-make_room.ensures.quiet room).2) c.in_ok-make_room.ensures.writes c.in_ok-join.ensures.writes;
-  outside = λ told.
-      let old = g.F.Flash.state c.args.flash.now in
-      let mid = g.F.Flash.state c.make_room.new.flash in
-      outside-then c.args.self.now c.make_room.new.self (page_at old) (page_at mid) (page_at (g.F.Flash.state c.join.new.flash)) c.in_ok-make_room.ensures.same (c.in_ok-make_room.ensures.outside told)
-      (c.in_ok-join.ensures.outside (subst IsTrue (sym c.in_ok-make_room.ensures.goes.tells) told));
-  reads = c.in_ok-join.ensures.reads ∙ c.in_ok-make_room.ensures.reads;
-  media_reads =
-      let t = c.args.self.now in
-      omega (arith, c.in_ok-make_room.ensures.media_reads, c.in_ok-join.ensures.media_reads, pages-most t.blobs c.make_room.new.self.blobs (option_map (λ (b : Bor (List ℕ)). b.now) c.args.blob) c.in_ok-make_room.ensures.same.blobs);
-  cause = tt;
-}
+returns-clause-flash g c =
+    let t = c.args.self.now in
+    let bytes = option_map (λ (b : Bor (List ℕ)). b.now) c.args.blob in
+    let most = rings_in t + most_pages t.blobs bytes in
+    changes-done (MayPut t bytes) (OutsideStands t) most CausedBy PutCausedBy (g.F.Flash.state c.args.flash.now) (g.F.Flash.state c.join.new.flash)
+    (join-changes t c.make_room.new.self bytes (g.F.Flash.state c.args.flash.now) (g.F.Flash.state c.make_room.new.flash) (Ok tt) (g.F.Flash.state c.join.new.flash) c.in_ok-make_room.ensures.same (λ room. (c.in_ok-make_room.ensures.quiet room).2) c.in_ok-make_room.ensures.flash c.in_ok-join.ensures.flash)
 
 pub join-requires : goal.join-requires
 join-requires g c =
