@@ -141,8 +141,9 @@ impl<const KNOTS: usize, const SLOTS: usize> Table<KNOTS, SLOTS> {
         ensures stopped { OnErr result ((is_running self.new ≡ false) × (is_stopped self.new ≡ true)) }
         ensures pending_stays { OnErr result (pending_in self.new ≡ pending_in self.old) }
         ensures last_stays { OnErr result (last_key_in self.new ≡ last_key_in self.old) }
-        ensures flash { Changes (variable.MayFill (bytes_in blob.entry) self.old.blobs) (OutsideStands self.old)
-            (variable.pages_for self.old.blobs (bytes_in blob.entry)) CausedBy (F.state flash.old) result (F.state flash.new) }
+        ensures flash { Changes (variable.MayFill (bytes_in blob.entry) self.old.blobs)
+            (OutsideStands self.old) (variable.pages_for self.old.blobs (bytes_in blob.entry))
+            CausedBy (F.state flash.old) result (F.state flash.new) }
     {
         let at = match place(&mut self.blobs, flash, blob) {
             Ok(at) => at,

@@ -56,6 +56,7 @@ impl<const KNOTS: usize, const SLOTS: usize> Table<KNOTS, SLOTS> {
             CausedBy (F.state flash.old) result (F.state flash.new) }
     {
         let full = self.pending_entry();
+        // The ring is out while its parts are sealed: a table whose seal failed has none.
         let Some(mut ring) = self.ring.take() else {
             unreachable!()
         };
