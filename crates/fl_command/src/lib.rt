@@ -14,6 +14,7 @@ mod shell_lines;
 mod ship_lines;
 mod ship_words;
 mod shipping;
+mod told;
 mod words;
 
 pub use ending::Ending;
@@ -24,4 +25,5 @@ pub use planning::plan;
 pub use reason::reason_of;
 pub use ship_words::{ShipJob, ship_of};
 pub use shipping::ship;
+pub use told::{Telling, Told};
 pub use words::{ToolJob, tool_of};
