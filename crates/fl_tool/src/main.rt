@@ -27,7 +27,7 @@ use fl_shell::{ShellEnd, ShellStatus, shell, shell_of};
 use fl_sizing::{PlanJob, plan_of};
 use std::alloc::Global;
 use std::cell::RefCell;
-use std::env::{Env, VarError};
+use std::env::{Env, FillError};
 use std::fs::File;
 use std::io::{self, IsTerminal, Read, Write};
 use std::process::{ExitCode, Termination};
@@ -41,7 +41,7 @@ fn main(rt: HostRuntime) -> ExitCode {
 }
 
 /// How much of an end that failed is told: why and what to do if standard error is a terminal, or the environment asks for it.
-fn telling_on<R: Env + Alloc<A = Global>, W: IsTerminal>(rt: &R, error: &W) -> Telling {
+fn telling_on<R: Env, W: IsTerminal>(rt: &R, error: &W) -> Telling {
     if error.is_terminal() || is_explained(rt) {
         Telling::Explained
     } else {
@@ -49,12 +49,13 @@ fn telling_on<R: Env + Alloc<A = Global>, W: IsTerminal>(rt: &R, error: &W) -> T
     }
 }
 
-/// Whether the environment has the variable that asks for explanations. An empty one doesn't; one that is no text does.
-fn is_explained<R: Env + Alloc<A = Global>>(rt: &R) -> bool {
-    match std::env::var(rt, "FLASHTS_EXPLAIN") {
-        Ok(value) => !value.is_empty(),
-        Err(VarError::NotUnicode) => true,
-        Err(VarError::NotPresent | VarError::OutOfMemory) => false,
+/// Whether the environment has the variable that asks for explanations, which an empty one doesn't. To ask takes no memory.
+fn is_explained<R: Env>(rt: &R) -> bool {
+    let mut first = [0u8; 1];
+    match rt.var("FLASHTS_EXPLAIN", &mut first) {
+        Ok(length) => length > 0,
+        Err(FillError::TooLong) => true,
+        Err(FillError::NotPresent) => false,
     }
 }
 
