@@ -40,7 +40,7 @@ fn main(rt: HostRuntime) -> ExitCode {
     Told { ending, telling }.report(&rt)
 }
 
-/// How much of an end that failed is told: why and what to do if standard error is a terminal, or the environment asks for it.
+/// How much of an end that failed is told: also why and what to do if standard error is a terminal, or the environment asks for it.
 fn telling_on<R: Env, W: IsTerminal>(rt: &R, error: &W) -> Telling {
     if error.is_terminal() || is_explained(rt) {
         Telling::Explained
