@@ -5,7 +5,8 @@ Of README.md and of each page of docs/ the fenced blocks of five forms are run o
 in which `./flashts` is the program and `examples/` and `clients/` lie:
 
   ```console                the lines behind `$ ` are commands of a shell (one that ends in a word like <<END goes on up to END), and
-                            below each is all that it writes, standard error too. A line `..` stands for any number of lines
+                            below each is all that it writes, standard error too, with the explanations that a terminal shows. A
+                            line `..` stands for any number of lines
 
   ```script sensor.img      a script on the left, run over this image, and on the right, behind three spaces or more, the reply to each
                             line; further lines of a reply have nothing on the left. A word `as FILE` behind the image's name says
@@ -21,6 +22,7 @@ Every other block is a drawing, bytes, or a text that the program neither reads 
 command does (`device `, `table `, `$ `, `./flashts`, `flashts`) is refused, indented or fenced, so that none goes unseen.
 """
 import difflib
+import os
 import pathlib
 import re
 import shutil
@@ -65,7 +67,7 @@ def blocks(text):
 
 def shell(folder, command, stdin=None):
     done = subprocess.run(["sh", "-c", command], cwd=folder, input=stdin, stdin=None if stdin is not None else subprocess.DEVNULL,
-                          stdout=subprocess.PIPE, stderr=subprocess.STDOUT, text=True, timeout=60)
+                          env={**os.environ, "FLASHTS_EXPLAIN": "1"}, stdout=subprocess.PIPE, stderr=subprocess.STDOUT, text=True, timeout=60)
     return done.stdout.splitlines()
 
 

@@ -9,6 +9,9 @@ trap 'rm -rf "$folder"' EXIT
 # a copy, which another user may run too
 chmod 755 "$folder" && cp "$1" "$folder/flashts" && chmod 755 "$folder/flashts" && cd "$folder" || exit 1
 
+# rows look at explanations too; those of explained.sh are about what stands there without this
+export FLASHTS_EXPLAIN=1
+
 . "$here/rows.sh"
 . "$here/images.sh"
 . "$here/statuses.sh"
@@ -21,6 +24,7 @@ chmod 755 "$folder" && cp "$1" "$folder/flashts" && chmod 755 "$folder/flashts" 
 . "$here/shared.sh"
 . "$here/synced.sh"
 . "$here/ships.sh"
+. "$here/explained.sh"
 
 echo "program: $held rows hold, $missed don't, $left_out left out"
 [ $missed = 0 ]

@@ -325,6 +325,8 @@ def main():
     if len(sys.argv) != 2:
         print(__doc__)
         return 2
+    # (the keys of a gap stand in its explanation)
+    os.environ["FLASHTS_EXPLAIN"] = "1"
     status = 0
     with tempfile.TemporaryDirectory() as folder:
         program = Program(os.path.abspath(sys.argv[1]), pathlib.Path(folder))

@@ -46,6 +46,13 @@ status13="flashts: status 13"$'\n'"flashts: no run has left what the pages of ta
 status14="flashts: status 14"$'\n'"flashts: no table has this name: flashts check IMAGE all tells the names"$'\n'
 status16="flashts: status 16"$'\n'"flashts: a table isn't sound: each line that begins with fault says which, in which ring and page, and the rule (docs/CHECK.md)"$'\n'
 
+# what it has of other words: of those that begin with `run` its two forms, of others all forms
+run_usage=$'flashts: usage: flashts run IMAGE\n                flashts run sync IMAGE\n'
+usage=$run_usage
+for form in 'shell IMAGE' 'shell sync IMAGE' 'plan [SECONDS]' 'check IMAGE [all]' 'map IMAGE [svg]' 'export IMAGE NAME [LOW HIGH]' 'import IMAGE NAME [gone]' 'salvage IMAGE NAME' 'ship IMAGE COPY NAME COUNT' 'help'; do
+    usage+="                flashts $form"$'\n'
+done
+
 # .. and of one that another program uses
 in_use=$'flashts: another program uses the image\nflashts: it is left as it is; call again if that one has ended\n'
 

@@ -34,7 +34,7 @@ for words in 'ship image copy t' 'ship image copy t 0' 'ship image copy t 100000
     rm -f copy
     # shellcheck disable=SC2086
     flashts $words
-    copy_is "other words: '$words'" 1 '' "$(cat err)"$'\n' ''
+    copy_is "other words: '$words'" 1 '' "$usage" ''
 done
 
 # refusals, which leave both files as they are

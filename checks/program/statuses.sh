@@ -15,12 +15,13 @@ flashts run two <<< "$two"$'\nmount\nput u 1 0\nflush u\nput u 2 0\noff'
 ends "none after the end of the session" 0 $'ok\nok\nok\nok\nok\n' ''
 rm two
 flashts help
-told=$(printf '%s' "$(cat err)$(grep -v '^flashts \|^    ' out)")
+told=$(printf '%s' "$(cat err)$(grep -v '^flashts \|^    \|^FLASHTS_EXPLAIN=1$' out)")
 [ $status = 0 ] || told="status $status"
 for words in 'run [sync] IMAGE' 'shell [sync] IMAGE' 'plan [SECONDS]' 'check IMAGE [all]' 'map IMAGE [svg]' 'export IMAGE NAME [LOW HIGH]' 'import IMAGE NAME [gone]' 'salvage IMAGE NAME' 'ship IMAGE COPY NAME COUNT' 'help'; do
     grep -qxF "flashts $words" out || told="no $words"
 done
-tell "the help has each job" "$told"
+grep -qxF 'FLASHTS_EXPLAIN=1' out || told="no variable"
+tell "the help has each job, and the variable that asks for explanations" "$told"
 call help > /dev/full 2> err
 status=$?
 : > out
@@ -29,10 +30,9 @@ for words in '' 'help me' 'run' 'run a b' 'check' 'export image t 0' 'export ima
     cp image before
     # shellcheck disable=SC2086
     flashts $words < script
-    printf '%s' $'flashts: usage: flashts run [sync] IMAGE\n' > want
-    head -n 1 err | cmp -s - want || status="$status, $(head -n 1 err)"
-    cp err told
-    leaves "other words: '$words'" 1 '' "$(cat told)"$'\n'
+    told=$run_usage
+    case $words in run*) ;; *) told=$usage ;; esac
+    leaves "other words: '$words'" 1 '' "$told"
 done
 image flushed
 printf '%s\nmount\nget t 1\ngte t 1\nget t 1\n' "$configuration" > script

@@ -13,7 +13,7 @@ cp flushed sync
 flashts run sync <<< "$configuration"$'\nmount\nget t 1'
 ends "an image with the name sync" 0 $'ok\nrow 1 0\n' ''
 flashts run sync sync image <<< "$configuration"
-ends "a word more behind sync" 1 '' $'flashts: usage: flashts run [sync] IMAGE\n'
+ends "a word more behind sync" 1 '' "$run_usage"
 
 # synced STRACE..: a synced run of the lines over `image`, whose calls stand in `calls`
 synced() {

@@ -11,6 +11,7 @@ flush what is pending. Needs Python 3.9, and nothing beside its standard library
 """
 from __future__ import annotations
 
+import os
 import subprocess
 from typing import Iterable, Iterator, NamedTuple, Optional, Sequence, Union
 
@@ -127,7 +128,11 @@ class Store:
     def __init__(self, image: str, configuration: Union[str, Iterable[str]] = (), program: str = "flashts", sync: bool = False):
         lines = configuration.splitlines() if isinstance(configuration, str) else list(configuration)
         words = [program, "shell", *(["sync"] if sync else []), image]
-        self._process = subprocess.Popen(words, stdin=subprocess.PIPE, stdout=subprocess.PIPE, stderr=subprocess.PIPE, encoding="utf-8")
+        # (so that an error says why, and what to do)
+        environment = {**os.environ, "FLASHTS_EXPLAIN": "1"}
+        self._process = subprocess.Popen(
+            words, stdin=subprocess.PIPE, stdout=subprocess.PIPE, stderr=subprocess.PIPE, encoding="utf-8", env=environment
+        )
         self._fence = 0
         try:
             # (an image that has a configuration answers that these lines come too late: then they have to be its own)

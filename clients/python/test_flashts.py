@@ -106,8 +106,9 @@ class Client(unittest.TestCase):
         with self.open() as store:
             self.assertEqual(store.describe(), LINES)
             self.assertEqual(store.tables["notes"], flashts.Table("notes", 4, ("u8",), True))
-        with self.open(), self.assertRaises(flashts.Ended):
+        with self.open(), self.assertRaises(flashts.Ended) as ended:
             self.open()
+        self.assertIn("call again if that one has ended", str(ended.exception))
         with self.assertRaises(flashts.BadCommand):
             self.open(lines=["device 256 4"])
 

@@ -2,6 +2,8 @@ pub mod Words
 pub mod ShipWords
 pub mod Number
 pub mod Text
+pub mod Line
+pub mod Told
 pub mod Ends
 pub mod Plan
 pub mod Ships

@@ -2,9 +2,12 @@
 ghost use Rattle.std.specs.Prelude.{◌≡◌, OnOk, OnErr};
 ghost use Rattle.fl_command.specs.Number.{number_of, unwritten};
 
-use crate::lines::{Forms, JobLines, PlanLines, RunLines, SalvageLines};
-use crate::shell_lines::ShellLines;
-use crate::ship_lines::ShipLines;
+use crate::lines::{
+    Forms, JobExplanation, Meaning, PlanExplanation, PlanHeadline, RunExplanation, RunHeadline,
+    SalvageHeadline, StatusHeadline,
+};
+use crate::shell_lines::{ShellExplanation, ShellHeadline};
+use crate::ship_lines::{ShipExplanation, ShipHeadline};
 use fl_base::SinkFailed;
 use fl_image::ToolStatus;
 use fl_import::JobEnd;
@@ -90,7 +93,64 @@ impl Exit {
     }
 }
 
-/// The lines that standard error has of an exit, each with its newline; none where nothing is to be said.
+/// The line that standard error has of an exit, with its newline; none where nothing is to be said.
+#[derive(Drop)]
+pub(crate) struct ExitHeadline(pub(crate) Exit);
+
+impl Display for ExitHeadline {
+    ghost use Rattle.std.specs.Prelude.{Some};
+    ghost use Rattle.fl_command.specs.Text.{exit_headline};
+
+    ghost output = { λ line. Some (exit_headline line.0) };
+
+    fn fmt<W: fmt::Write>(&self, f: &mut fmt::Formatter<W>) -> fmt::Result {
+        match self.0 {
+            Exit::Run(status) => RunHeadline(status).fmt(f),
+            Exit::Shell(end) => ShellHeadline(end).fmt(f),
+            Exit::Plan(status) => PlanHeadline(status).fmt(f),
+            Exit::Job(JobEnd { status, kept, .. }) => StatusHeadline { status, kept }.fmt(f),
+            Exit::Salvage(end) => SalvageHeadline(end).fmt(f),
+            Exit::Ship(status) => ShipHeadline(status).fmt(f),
+            Exit::Words => RunHeadline(Status::Usage).fmt(f),
+            Exit::Help => Ok(()),
+            Exit::InUse => f.write_str("flashts: another program uses the image\n"),
+            Exit::CopyInUse => f.write_str("flashts: another program uses the copy\n"),
+            Exit::CopyIsImage => f.write_str("flashts: the copy is the image itself\n"),
+        }
+    }
+}
+
+/// What stands below it: why, where and what to do, in lines with their newlines; none where there is nothing to explain.
+#[derive(Drop)]
+struct ExitExplanation(Exit);
+
+impl Display for ExitExplanation {
+    ghost use Rattle.std.specs.Prelude.{Some};
+    ghost use Rattle.fl_command.specs.Text.{exit_explanation};
+
+    ghost output = { λ lines. Some (exit_explanation lines.0) };
+
+    fn fmt<W: fmt::Write>(&self, f: &mut fmt::Formatter<W>) -> fmt::Result {
+        match self.0 {
+            Exit::Run(status) => RunExplanation(status).fmt(f),
+            Exit::Shell(end) => ShellExplanation(end).fmt(f),
+            Exit::Plan(status) => PlanExplanation(status).fmt(f),
+            Exit::Job(end) => JobExplanation(end).fmt(f),
+            Exit::Salvage(end) => Meaning(end.status).fmt(f),
+            Exit::Ship(status) => ShipExplanation(status).fmt(f),
+            Exit::Words => Forms.fmt(f),
+            Exit::Help => Ok(()),
+            Exit::InUse | Exit::CopyInUse => f.write_str(
+                "flashts: it is left as it is; call again if that one has ended\n",
+            ),
+            Exit::CopyIsImage => {
+                f.write_str("flashts: it is left as it is; name another file for the copy\n")
+            }
+        }
+    }
+}
+
+/// All lines that standard error has of an exit, each with its newline: its headline, and below it the explanation.
 impl Display for Exit {
     ghost use Rattle.std.specs.Prelude.{Some};
     ghost use Rattle.fl_command.specs.Text.{exit_text};
@@ -98,24 +158,7 @@ impl Display for Exit {
     ghost output = { λ exit. Some (exit_text exit) };
 
     fn fmt<W: fmt::Write>(&self, f: &mut fmt::Formatter<W>) -> fmt::Result {
-        match self {
-            Exit::Run(status) => RunLines(*status).fmt(f),
-            Exit::Shell(end) => ShellLines(*end).fmt(f),
-            Exit::Plan(status) => PlanLines(*status).fmt(f),
-            Exit::Job(end) => JobLines(*end).fmt(f),
-            Exit::Salvage(end) => SalvageLines(*end).fmt(f),
-            Exit::Ship(status) => ShipLines(*status).fmt(f),
-            Exit::Words => Forms.fmt(f),
-            Exit::Help => Ok(()),
-            Exit::InUse => f.write_str(
-                "flashts: another program uses the image\nflashts: it is left as it is; call again if that one has ended\n",
-            ),
-            Exit::CopyInUse => f.write_str(
-                "flashts: another program uses the copy\nflashts: it is left as it is; call again if that one has ended\n",
-            ),
-            Exit::CopyIsImage => f.write_str(
-                "flashts: the copy is the image itself\nflashts: it is left as it is; name another file for the copy\n",
-            ),
-        }
+        ExitHeadline(*self).fmt(f)?;
+        ExitExplanation(*self).fmt(f)
     }
 }

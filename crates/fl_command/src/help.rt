@@ -1,4 +1,4 @@
-// The jobs of the program, with an example each.
+// The jobs of the program, with an example each, and the variable that asks for explanations.
 use std::fmt::{self, Display};
 
 /// A job of the program.
@@ -66,7 +66,7 @@ const JOBS: [JobForm; 10] = [
     },
 ];
 
-/// The jobs in words.
+/// The jobs in words, and behind them the variable that asks for explanations.
 #[derive(Drop)]
 pub struct Help;
 
@@ -80,6 +80,10 @@ impl Display for Help {
             } = job;
             write!(f, "flashts {form}\n    {does}\n    $ {example}\n")?;
         }
-        Ok(())
+        f.write_str("FLASHTS_EXPLAIN=1\n")?;
+        f.write_str(
+            "    in the environment, a job that fails says why and what to do below its line, as it does on a terminal\n",
+        )?;
+        f.write_str("    $ FLASHTS_EXPLAIN=1 flashts check sensor.img 2> told.text\n")
     }
 }

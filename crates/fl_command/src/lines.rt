@@ -1,4 +1,5 @@
-// What standard error says of a run, of a job, and of words that name neither.
+// What standard error says of a run, of a job, and of words that name neither: the headline, which is a line of each end that
+// failed, and the explanation below it.
 use crate::pending_line::PendingLine;
 use fl_csv::LineForm;
 use fl_image::ToolStatus;
@@ -8,27 +9,27 @@ use fl_session::Status;
 use fl_sizing::PlanStatus;
 use std::fmt::{self, Display};
 
-/// The lines of a run that ended so; where the script was read to its end, the rows that no flush has written, if there are any.
+/// The line of a run that ended so; where the script was read to its end, the rows that no flush has written, if there are any.
 #[derive(Drop)]
-pub(crate) struct RunLines(pub(crate) Status);
+pub(crate) struct RunHeadline(pub(crate) Status);
 
-impl Display for RunLines {
+impl Display for RunHeadline {
     ghost use Rattle.std.specs.Prelude.{Some};
-    ghost use Rattle.fl_command.specs.Text.{run_text};
+    ghost use Rattle.fl_command.specs.Text.{run_headline};
 
-    ghost output = { λ lines. Some (run_text lines.0) };
+    ghost output = { λ line. Some (run_headline line.0) };
 
     fn fmt<W: fmt::Write>(&self, f: &mut fmt::Formatter<W>) -> fmt::Result {
         match self.0 {
             Status::Done { pending } => PendingLine(pending).fmt(f),
-            Status::Usage => f.write_str("flashts: usage: flashts run [sync] IMAGE\n"),
+            Status::Usage => f.write_str("flashts: usage: flashts run IMAGE\n"),
             Status::Line { line } => writeln!(f, "flashts: line {line} is not a command"),
             Status::ScriptRead => f.write_str("flashts: the script cannot be read\n"),
             Status::OutWrite => f.write_str("flashts: the replies cannot be written\n"),
             Status::MediaMake => f.write_str("flashts: the image cannot be made or read\n"),
-            Status::Config { line: 0 } => f.write_str(
-                "flashts: the configuration is incomplete\nflashts: a script begins with a device line and one to four table lines\n",
-            ),
+            Status::Config { line: 0 } => {
+                f.write_str("flashts: the configuration is incomplete\n")
+            }
             Status::Config { line } => {
                 writeln!(f, "flashts: configuration line {line} is refused")
             }
@@ -43,67 +44,82 @@ impl Display for RunLines {
     }
 }
 
-/// The lines of a plan that ended so: the words of the same statuses of a run.
+/// What stands below it: the other form of a run, and what a configuration begins with.
 #[derive(Drop)]
-pub(crate) struct PlanLines(pub(crate) PlanStatus);
+pub(crate) struct RunExplanation(pub(crate) Status);
 
-impl Display for PlanLines {
+impl Display for RunExplanation {
     ghost use Rattle.std.specs.Prelude.{Some};
-    ghost use Rattle.fl_command.specs.Text.{plan_text};
+    ghost use Rattle.fl_command.specs.Text.{run_explanation};
 
-    ghost output = { λ lines. Some (plan_text lines.0) };
+    ghost output = { λ lines. Some (run_explanation lines.0) };
 
     fn fmt<W: fmt::Write>(&self, f: &mut fmt::Formatter<W>) -> fmt::Result {
         match self.0 {
-            PlanStatus::Done => Ok(()),
-            PlanStatus::Line { line } => RunLines(Status::Line { line }).fmt(f),
-            PlanStatus::Config { line } => RunLines(Status::Config { line }).fmt(f),
-            PlanStatus::InputRead => RunLines(Status::ScriptRead).fmt(f),
-            PlanStatus::OutWrite => RunLines(Status::OutWrite).fmt(f),
-            PlanStatus::InputLong => f.write_str(
-                "flashts: the text is longer than 65536 bytes: the first lines of a script are enough\n",
+            Status::Usage => f.write_str("                flashts run sync IMAGE\n"),
+            Status::Config { line: 0 } => f.write_str(
+                "flashts: a script begins with a device line and one to four table lines\n",
             ),
-            PlanStatus::NoMemory => RunLines(Status::NoMemory).fmt(f),
+            _ => Ok(()),
         }
     }
 }
 
-/// The lines of a job that ended so; an import that is done tells how many rows its table holds, and one that ended early how
-/// far it came.
+/// The line of a plan that ended so: the words of the same statuses of a run.
 #[derive(Drop)]
-pub(crate) struct JobLines(pub(crate) JobEnd);
+pub(crate) struct PlanHeadline(pub(crate) PlanStatus);
 
-impl Display for JobLines {
+impl Display for PlanHeadline {
     ghost use Rattle.std.specs.Prelude.{Some};
-    ghost use Rattle.fl_command.specs.Text.{job_text};
+    ghost use Rattle.fl_command.specs.Text.{plan_headline};
 
-    ghost output = { λ lines. Some (job_text lines.0) };
+    ghost output = { λ line. Some (plan_headline line.0) };
 
     fn fmt<W: fmt::Write>(&self, f: &mut fmt::Formatter<W>) -> fmt::Result {
-        let JobEnd {
-            status,
-            kept,
-            taken,
-            form,
-        } = self.0;
-        StatusLines { status, kept }.fmt(f)?;
-        FirstLine { status, form }.fmt(f)?;
-        TakenLines { status, taken }.fmt(f)
+        match self.0 {
+            PlanStatus::Done => Ok(()),
+            PlanStatus::Line { line } => RunHeadline(Status::Line { line }).fmt(f),
+            PlanStatus::Config { line } => RunHeadline(Status::Config { line }).fmt(f),
+            PlanStatus::InputRead => RunHeadline(Status::ScriptRead).fmt(f),
+            PlanStatus::OutWrite => RunHeadline(Status::OutWrite).fmt(f),
+            PlanStatus::InputLong => f.write_str(
+                "flashts: the text is longer than 65536 bytes: the first lines of a script are enough\n",
+            ),
+            PlanStatus::NoMemory => RunHeadline(Status::NoMemory).fmt(f),
+        }
     }
 }
 
-/// The lines of a status of a job.
+/// What stands below it: that of a run with the same status.
 #[derive(Drop)]
-pub(crate) struct StatusLines {
+pub(crate) struct PlanExplanation(pub(crate) PlanStatus);
+
+impl Display for PlanExplanation {
+    ghost use Rattle.std.specs.Prelude.{Some};
+    ghost use Rattle.fl_command.specs.Text.{plan_explanation};
+
+    ghost output = { λ lines. Some (plan_explanation lines.0) };
+
+    fn fmt<W: fmt::Write>(&self, f: &mut fmt::Formatter<W>) -> fmt::Result {
+        match self.0 {
+            PlanStatus::Config { line } => RunExplanation(Status::Config { line }).fmt(f),
+            _ => Ok(()),
+        }
+    }
+}
+
+/// The line of a job's status; an import that is done tells how many rows its table holds.
+#[derive(Drop)]
+pub(crate) struct StatusHeadline {
     pub(crate) status: ToolStatus,
     pub(crate) kept: Option<u64>,
 }
 
-impl Display for StatusLines {
+impl Display for StatusHeadline {
     ghost use Rattle.std.specs.Prelude.{Some};
-    ghost use Rattle.fl_command.specs.Text.{status_text};
+    ghost use Rattle.fl_command.specs.Text.{status_headline};
 
-    ghost output = { λ lines. Some (status_text lines.status lines.kept) };
+    ghost output = { λ line. Some (status_headline line.status line.kept) };
 
     fn fmt<W: fmt::Write>(&self, f: &mut fmt::Formatter<W>) -> fmt::Result {
         let status = self.status;
@@ -113,10 +129,10 @@ impl Display for StatusLines {
                 None => Ok(()),
             },
             // The words of the same statuses of a run.
-            ToolStatus::InputRead => RunLines(Status::ScriptRead).fmt(f),
-            ToolStatus::OutWrite => RunLines(Status::OutWrite).fmt(f),
-            ToolStatus::InputLong => RunLines(Status::ScriptLong).fmt(f),
-            ToolStatus::NoMemory => RunLines(Status::NoMemory).fmt(f),
+            ToolStatus::InputRead => RunHeadline(Status::ScriptRead).fmt(f),
+            ToolStatus::OutWrite => RunHeadline(Status::OutWrite).fmt(f),
+            ToolStatus::InputLong => RunHeadline(Status::ScriptLong).fmt(f),
+            ToolStatus::NoMemory => RunHeadline(Status::NoMemory).fmt(f),
             ToolStatus::NotImage
             | ToolStatus::Device
             | ToolStatus::BadImage { .. }
@@ -124,8 +140,7 @@ impl Display for StatusLines {
             | ToolStatus::BadInput { .. }
             | ToolStatus::Unsound => {
                 let number = status.number();
-                writeln!(f, "flashts: status {number}")?;
-                Meaning(status).fmt(f)
+                writeln!(f, "flashts: status {number}")
             }
         }
     }
@@ -228,6 +243,30 @@ impl Display for Names {
     }
 }
 
+/// What stands below the line of a job that ended so: what its status means and, of an import that ended early, what its first line
+/// has to be and how far it came.
+#[derive(Drop)]
+pub(crate) struct JobExplanation(pub(crate) JobEnd);
+
+impl Display for JobExplanation {
+    ghost use Rattle.std.specs.Prelude.{Some};
+    ghost use Rattle.fl_command.specs.Text.{job_explanation};
+
+    ghost output = { λ lines. Some (job_explanation lines.0) };
+
+    fn fmt<W: fmt::Write>(&self, f: &mut fmt::Formatter<W>) -> fmt::Result {
+        let JobEnd {
+            status,
+            taken,
+            form,
+            ..
+        } = self.0;
+        Meaning(status).fmt(f)?;
+        FirstLine { status, form }.fmt(f)?;
+        TakenLines { status, taken }.fmt(f)
+    }
+}
+
 /// How far the lines of an import were taken that ended early.
 #[derive(Drop)]
 struct TakenLines {
@@ -253,25 +292,24 @@ impl Display for TakenLines {
     }
 }
 
-/// The lines of a salvage that ended so; one that is done tells how many pages it passed over, and why.
+/// The line of a salvage that ended so; one that is done tells how many pages it passed over, and why.
 #[derive(Drop)]
-pub(crate) struct SalvageLines(pub(crate) SalvageEnd);
+pub(crate) struct SalvageHeadline(pub(crate) SalvageEnd);
 
-impl Display for SalvageLines {
+impl Display for SalvageHeadline {
     ghost use Rattle.std.specs.Prelude.{Some};
-    ghost use Rattle.fl_command.specs.Text.{salvage_text};
+    ghost use Rattle.fl_command.specs.Text.{salvage_headline};
 
-    ghost output = { λ lines. Some (salvage_text lines.0) };
+    ghost output = { λ line. Some (salvage_headline line.0) };
 
     fn fmt<W: fmt::Write>(&self, f: &mut fmt::Formatter<W>) -> fmt::Result {
         let SalvageEnd {
             status,
             passed_over,
         } = self.0;
-        StatusLines { status, kept: None }.fmt(f)?;
         match status {
             ToolStatus::Done => PassedLine(passed_over).fmt(f),
-            _ => Ok(()),
+            _ => StatusHeadline { status, kept: None }.fmt(f),
         }
     }
 }
@@ -302,7 +340,7 @@ impl Display for PassedLine {
     }
 }
 
-/// The forms of the command line, a line each.
+/// The forms of the command line below that of a run, a line each.
 #[derive(Drop)]
 pub(crate) struct Forms;
 
@@ -313,17 +351,19 @@ impl Display for Forms {
     ghost output = { λ _. Some forms_text };
 
     fn fmt<W: fmt::Write>(&self, f: &mut fmt::Formatter<W>) -> fmt::Result {
-        RunLines(Status::Usage).fmt(f)?;
+        RunExplanation(Status::Usage).fmt(f)?;
         f.write_str(
-            "                flashts shell [sync] IMAGE\n                flashts plan [SECONDS]\n",
+            "                flashts shell IMAGE\n                flashts shell sync IMAGE\n",
         )?;
         f.write_str(
-            "                flashts check IMAGE [all]\n                flashts map IMAGE [svg]\n",
+            "                flashts plan [SECONDS]\n                flashts check IMAGE [all]\n",
         )?;
         f.write_str(
-            "                flashts export IMAGE NAME [LOW HIGH]\n                flashts import IMAGE NAME [gone]\n",
+            "                flashts map IMAGE [svg]\n                flashts export IMAGE NAME [LOW HIGH]\n",
         )?;
-        f.write_str("                flashts salvage IMAGE NAME\n")?;
+        f.write_str(
+            "                flashts import IMAGE NAME [gone]\n                flashts salvage IMAGE NAME\n",
+        )?;
         f.write_str(
             "                flashts ship IMAGE COPY NAME COUNT\n                flashts help\n",
         )

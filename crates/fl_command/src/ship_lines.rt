@@ -1,32 +1,27 @@
-// What standard error says of a ship.
-use crate::lines::{Meaning, RunLines};
+// What standard error says of a ship: the headline, and the explanation below it.
+use crate::lines::{Meaning, RunHeadline};
 use fl_image::ToolStatus;
 use fl_session::Status;
 use fl_ship::{ShipStatus, Side};
 use std::fmt::{self, Display};
 
-/// The lines of a ship that ended so.
+/// The line of a ship that ended so; none where it is done.
 #[derive(Drop)]
-pub(crate) struct ShipLines(pub(crate) ShipStatus);
+pub(crate) struct ShipHeadline(pub(crate) ShipStatus);
 
-impl Display for ShipLines {
+impl Display for ShipHeadline {
     ghost use Rattle.std.specs.Prelude.{Some};
-    ghost use Rattle.fl_command.specs.Text.{ship_text};
+    ghost use Rattle.fl_command.specs.Text.{ship_headline};
 
-    ghost output = { λ lines. Some (ship_text lines.0) };
+    ghost output = { λ line. Some (ship_headline line.0) };
 
     fn fmt<W: fmt::Write>(&self, f: &mut fmt::Formatter<W>) -> fmt::Result {
         let status = self.0;
         match status {
             ShipStatus::Done { .. } => Ok(()),
             // The words of the same statuses of a run.
-            ShipStatus::OutWrite => {
-                RunLines(Status::OutWrite).fmt(f)?;
-                f.write_str(
-                    "flashts: what was shipped is in the copy: call again to ship what is left\n",
-                )
-            }
-            ShipStatus::NoMemory => RunLines(Status::NoMemory).fmt(f),
+            ShipStatus::OutWrite => RunHeadline(Status::OutWrite).fmt(f),
+            ShipStatus::NoMemory => RunHeadline(Status::NoMemory).fmt(f),
             ShipStatus::NotImage { .. }
             | ShipStatus::Device { .. }
             | ShipStatus::BadImage { .. }
@@ -35,25 +30,27 @@ impl Display for ShipLines {
             | ShipStatus::OtherForm
             | ShipStatus::Spent => {
                 let number = status.number();
-                writeln!(f, "flashts: status {number}")?;
-                ShipMeaning(status).fmt(f)
+                writeln!(f, "flashts: status {number}")
             }
         }
     }
 }
 
-/// What a status means that has a number alone, on which side, and what to do; nothing for the others.
+/// What stands below it: what became of the copy, or what a status means that has a number alone, on which side, and what to do.
 #[derive(Drop)]
-struct ShipMeaning(ShipStatus);
+pub(crate) struct ShipExplanation(pub(crate) ShipStatus);
 
-impl Display for ShipMeaning {
+impl Display for ShipExplanation {
     ghost use Rattle.std.specs.Prelude.{Some};
-    ghost use Rattle.fl_command.specs.Text.{ship_meaning_text};
+    ghost use Rattle.fl_command.specs.Text.{ship_explanation};
 
-    ghost output = { λ meaning. Some (ship_meaning_text meaning.0) };
+    ghost output = { λ lines. Some (ship_explanation lines.0) };
 
     fn fmt<W: fmt::Write>(&self, f: &mut fmt::Formatter<W>) -> fmt::Result {
         match self.0 {
+            ShipStatus::OutWrite => f.write_str(
+                "flashts: what was shipped is in the copy: call again to ship what is left\n",
+            ),
             ShipStatus::NotImage { side: Side::Source } => f.write_str(
                 "flashts: the first file is no image, is missing, or can't be opened: look at its name and its rights\n",
             ),
@@ -93,7 +90,7 @@ impl Display for ShipMeaning {
             ShipStatus::Spent => f.write_str(
                 "flashts: the copy's table has no page number left: keep this copy, and begin a new one\n",
             ),
-            ShipStatus::Done { .. } | ShipStatus::OutWrite | ShipStatus::NoMemory => Ok(()),
+            ShipStatus::Done { .. } | ShipStatus::NoMemory => Ok(()),
         }
     }
 }

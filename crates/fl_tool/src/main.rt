@@ -13,7 +13,9 @@ ghost use Rattle.std.specs.Prelude.{◌≤◌, IfSome};
 
 use crate::ships::ship_told;
 use fl_base::{Sink, Source};
-use fl_command::{Ending, Exit, Help, ToolJob, plan, reason_of, ship_of, tool, tool_of};
+use fl_command::{
+    Ending, Exit, Help, Telling, Told, ToolJob, plan, reason_of, ship_of, tool, tool_of,
+};
 use fl_edge::{
     Access, FileMedia, Prompted, ReplyBuffer, StandardDescriptors, StandardInput, StandardOutput,
     SyncedMedia, is_missing, remove_empty,
@@ -25,7 +27,7 @@ use fl_shell::{ShellEnd, ShellStatus, shell, shell_of};
 use fl_sizing::{PlanJob, plan_of};
 use std::alloc::Global;
 use std::cell::RefCell;
-use std::env::Env;
+use std::env::{Env, FillError};
 use std::fs::File;
 use std::io::{self, IsTerminal, Read, Write};
 use std::process::{ExitCode, Termination};
@@ -33,7 +35,28 @@ use std::rt::Files;
 
 fn main(rt: HostRuntime) -> ExitCode {
     let _streams = StandardDescriptors::taken(&rt);
-    ending(&rt, prompts_on(&rt.stdin(), rt.stderr())).report(&rt)
+    let telling = telling_on(&rt, &rt.stderr());
+    let ending = ending(&rt, prompts_on(&rt.stdin(), rt.stderr()));
+    Told { ending, telling }.report(&rt)
+}
+
+/// How much of an end that failed is told: also why and what to do if standard error is a terminal, or the environment asks for it.
+fn telling_on<R: Env, W: IsTerminal>(rt: &R, error: &W) -> Telling {
+    if error.is_terminal() || is_explained(rt) {
+        Telling::Explained
+    } else {
+        Telling::Headline
+    }
+}
+
+/// Whether the environment has the variable that asks for explanations, which an empty one doesn't. To ask takes no memory.
+fn is_explained<R: Env>(rt: &R) -> bool {
+    let mut first = [0u8; 1];
+    match rt.var("FLASHTS_EXPLAIN", &mut first) {
+        Ok(length) => length > 0,
+        Err(FillError::TooLong) => true,
+        Err(FillError::NotPresent) => false,
+    }
 }
 
 /// Where a shell shows its prompts: on standard error, if that and standard input are terminals.
