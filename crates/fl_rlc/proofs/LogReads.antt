@@ -1,9 +1,15 @@
 -- How many reads the mount of a log makes, and where its newest page stands in memory.
-use Rattle.std.proofs.Common.{◌≡◌, ℕ, ◌+◌, ◌*◌, ◌≤◌, Bool, true, false, cond, [], Option, Some, None, is_some, length, sym, subst, arith, IsTrue}
+use Rattle.std.proofs.Common.{◌≡◌, ℕ, ◌+◌, ◌*◌, ◌≤◌, Bool, true, false, cond, [], Option, Some, None, is_some, Result, Ok, Err, length, refl, sym, ◌∙◌, ap, subst, arith, IsTrue}
+use Rattle.std.specs.Prelude.{IfErr, OnOk}
 use Rattle.std.proofs.Math.Nat.{mul-le-mul_left, mul-le-mul_right}
-use Rattle.fl_flash.specs.Flash.{FlashState, page_at}
+use Rattle.fl_flash.specs.Buffer.{BufferState}
+use Rattle.fl_flash.specs.Flash.{FlashState, ReadsPage, page_at}
+use Rattle.fl_flash.specs.declared.flash.FlashFault.{FlashFault}
+use Rattle.fl_frame.specs.Causes.{ReadFails}
+use Rattle.fl_frame.proofs.ReadsInTurn.{was_on}
 use Rattle.fl_model.specs.Record.{Plan}
 use Rattle.fl_model.specs.Table.{Table}
+use Rattle.fl_parts.proofs.SingleReads.{read-fails}
 use Rattle.fl_ring.specs.Mounting.{search_reads}
 use Rattle.fl_ring.specs.Newest.{NewestAmong}
 use Rattle.fl_ring.specs.Place.{next_of, oldest_of}
@@ -56,3 +62,18 @@ module _ (l l1 : RecordLog) (f f1 : FlashState) (first : ℕ) (plan : Plan) (tab
     found-some page is =
         let k = subst (λ (o : Option NewestPage). NewestAmong (page_at f1) (log_shape l1) (oldest_in l1) (next_in l1) o) is here in
         newest-some l1 f1 first plan table h sizes page.number k.within.0 k.within.1 k.committed k.later
+
+-- One read of a page, by how it ends: it has the bytes of the page,
+pub read-told : (old new : FlashState) (page at size : ℕ) (result : Result (Unit {0}) FlashFault) (into : BufferState) → page ≡ at → ReadsPage old page size result into new → OnOk result (IsTrue old.media.tells → into.bytes ≡ page_at old at)
+read-told old new page at size (Ok done) into same is = λ told. is.bytes told ∙ ap (page_at old) same
+read-told old new page at size (Err fault) into same is = tt
+
+-- .. or it failed for one of two causes,
+pub read-failed : (old new : FlashState) (page size : ℕ) (result : Result (Unit {0}) FlashFault) (into : BufferState) → ReadsPage old page size result into new → IfErr result (λ e. ReadFails old e new)
+read-failed old new page size (Ok done) into is = tt
+read-failed old new page size (Err fault) into is = read-fails old new page size fault into is
+
+-- .. and where it didn't fail, the power is on
+pub read-powered : (old new : FlashState) (page size : ℕ) (result : Result (Unit {0}) FlashFault) (into : BufferState) → ReadsPage old page size result into new → OnOk result (new.is_on ≡ true)
+read-powered old new page size (Ok done) into is = is.power ∙ was_on {T = Unit {0}} old (Ok done) new done is.off refl
+read-powered old new page size (Err fault) into is = tt

@@ -1,6 +1,7 @@
-use Rattle.std.proofs.Common.{◌≡◌, ℕ, ◌+◌, ◌≤◌, false, Option, refl, sym, ◌∙◌, ap, subst, arith}
+use Rattle.std.proofs.Common.{◌≡◌, ℕ, ◌+◌, ◌≤◌, false, Option, Some, refl, sym, ◌∙◌, ap, subst, arith}
 use Rattle.std.specs.Prelude.{IfSome}
 use Rattle.std.proofs.lemmas.Option.{same_Some, none-some}
+use Rattle.std.proofs.lemmas.Result.{err_from_is_err_and}
 use Rattle.fl_base.specs.declared.types.RingPlace.{RingPlace}
 use Rattle.fl_model.specs.Bare.{bare}
 use Rattle.fl_model.specs.Record.{Plan, blocks_of, layout_len}
@@ -98,3 +99,62 @@ invariant_of-table g c =
       blobs_running = t.blobs_running;
       blobs_left = t.blobs_left;
     }
+
+-- ---- an error says nothing of a table
+
+pub returns-in_err-check_with-clause-fits : goal.returns-in_err-check_with-clause-fits
+returns-in_err-check_with-clause-fits g c = let p = err_from_is_err_and c.from_residual.result c.from_residual.ensures.1 in rw p.1 tt
+
+pub returns-in_err-check_with-clause-planned : goal.returns-in_err-check_with-clause-planned
+returns-in_err-check_with-clause-planned g c = let p = err_from_is_err_and c.from_residual.result c.from_residual.ensures.1 in rw p.1 tt
+
+pub returns-in_err-check_with-clause-log : goal.returns-in_err-check_with-clause-log
+returns-in_err-check_with-clause-log g c = let p = err_from_is_err_and c.from_residual.result c.from_residual.ensures.1 in rw p.1 tt
+
+pub returns-in_err-check_with-clause-lies : goal.returns-in_err-check_with-clause-lies
+returns-in_err-check_with-clause-lies g c = let p = err_from_is_err_and c.from_residual.result c.from_residual.ensures.1 in rw p.1 tt
+
+pub returns-in_err-check_with-clause-fresh : goal.returns-in_err-check_with-clause-fresh
+returns-in_err-check_with-clause-fresh g c = let p = err_from_is_err_and c.from_residual.result c.from_residual.ensures.1 in rw p.1 tt
+
+pub returns-in_err-table-clause-fits : goal.returns-in_err-table-clause-fits
+returns-in_err-table-clause-fits g c = let p = err_from_is_err_and c.from_residual-in_err-table.result c.from_residual-in_err-table.ensures.1 in rw p.1 tt
+
+pub returns-in_err-table-clause-planned : goal.returns-in_err-table-clause-planned
+returns-in_err-table-clause-planned g c = let p = err_from_is_err_and c.from_residual-in_err-table.result c.from_residual-in_err-table.ensures.1 in rw p.1 tt
+
+pub returns-in_err-table-clause-log : goal.returns-in_err-table-clause-log
+returns-in_err-table-clause-log g c = let p = err_from_is_err_and c.from_residual-in_err-table.result c.from_residual-in_err-table.ensures.1 in rw p.1 tt
+
+pub returns-in_err-table-clause-lies : goal.returns-in_err-table-clause-lies
+returns-in_err-table-clause-lies g c = let p = err_from_is_err_and c.from_residual-in_err-table.result c.from_residual-in_err-table.ensures.1 in rw p.1 tt
+
+pub returns-in_err-table-clause-fresh : goal.returns-in_err-table-clause-fresh
+returns-in_err-table-clause-fresh g c = let p = err_from_is_err_and c.from_residual-in_err-table.result c.from_residual-in_err-table.ensures.1 in rw p.1 tt
+
+pub returns-in_err-log-clause-fits : goal.returns-in_err-log-clause-fits
+returns-in_err-log-clause-fits g c = let p = err_from_is_err_and c.from_residual-in_err-log.result c.from_residual-in_err-log.ensures.1 in rw p.1 tt
+
+pub returns-in_err-log-clause-planned : goal.returns-in_err-log-clause-planned
+returns-in_err-log-clause-planned g c = let p = err_from_is_err_and c.from_residual-in_err-log.result c.from_residual-in_err-log.ensures.1 in rw p.1 tt
+
+pub returns-in_err-log-clause-log : goal.returns-in_err-log-clause-log
+returns-in_err-log-clause-log g c = let p = err_from_is_err_and c.from_residual-in_err-log.result c.from_residual-in_err-log.ensures.1 in rw p.1 tt
+
+pub returns-in_err-log-clause-lies : goal.returns-in_err-log-clause-lies
+returns-in_err-log-clause-lies g c = let p = err_from_is_err_and c.from_residual-in_err-log.result c.from_residual-in_err-log.ensures.1 in rw p.1 tt
+
+pub returns-in_err-log-clause-fresh : goal.returns-in_err-log-clause-fresh
+returns-in_err-log-clause-fresh g c = let p = err_from_is_err_and c.from_residual-in_err-log.result c.from_residual-in_err-log.ensures.1 in rw p.1 tt
+
+pub returns-in_default-clause-log : goal.returns-in_default-clause-log
+returns-in_default-clause-log g c = sym c.in_default.is
+
+pub returns-in_default-clause-fresh : goal.returns-in_default-clause-fresh
+returns-in_default-clause-fresh g c = c.in_ok-table.ensures.fresh
+
+pub returns-clause-fresh : goal.returns-clause-fresh
+returns-clause-fresh g c = c.in_ok-table.ensures.fresh
+
+pub returns-clause-log : goal.returns-clause-log
+returns-clause-log g c = ap Some c.in_ok-log.ensures.place ∙ sym c.in-Some.is
