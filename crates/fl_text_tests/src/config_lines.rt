@@ -1,4 +1,5 @@
 // Lines as a script has them, and the answer to each.
+use crate::asserts::same;
 use fl_base::NoMemory;
 use fl_config::Config;
 use fl_plan::ConfigRefusal;
@@ -9,7 +10,6 @@ use fl_plan::ConfigRefusal::{
 };
 use fl_script::{LineRoom, read_line};
 use std::alloc::Global;
-use std::test::Fail;
 
 /// Lines, each with its answer.
 type Talk = &'static [(&'static str, Result<(), ConfigRefusal>)];
@@ -41,8 +41,54 @@ fn configured(alloc: Global, lines: Talk) -> Result<(Config, Option<usize>), NoM
     Ok((config, wrong))
 }
 
+/// The first blocks of a table's rings; 0 where there is none.
+fn firsts(config: &Config, i: usize) -> Option<(u32, u32, u32)> {
+    if i >= config.tables() {
+        return None;
+    }
+    let table = config.table(i);
+    let index = table.index.map_or(0, |place| place.first_block);
+    let var = table.var.map_or(0, |place| place.first_block);
+    Some((table.rows.first_block, index, var))
+}
+
+/// The first block and the blocks of a table's log.
+fn log(config: &Config, i: usize) -> Option<(u32, u32)> {
+    if i >= config.tables() {
+        return None;
+    }
+    config.log(i).map(|place| (place.first_block, place.blocks))
+}
+
+/// The first of these lines that isn't answered so, whether the configuration of them all is complete, its blocks, and where its
+/// tables' rings begin and their logs are.
+type Seen = (
+    Option<usize>,
+    bool,
+    u32,
+    [Option<(u32, u32, u32)>; 4],
+    [Option<(u32, u32)>; 4],
+);
+
+fn seen(alloc: Global, lines: Talk) -> Result<Seen, NoMemory> {
+    let (config, wrong) = configured(alloc, lines)?;
+    let rings = [
+        firsts(&config, 0),
+        firsts(&config, 1),
+        firsts(&config, 2),
+        firsts(&config, 3),
+    ];
+    let logs = [
+        log(&config, 0),
+        log(&config, 1),
+        log(&config, 2),
+        log(&config, 3),
+    ];
+    Ok((wrong, config.is_complete(), config.blocks(), rings, logs))
+}
+
 #[test]
-fn device_lines(rt: HostRuntime) -> Result<(), Fail> {
+fn device_lines(rt: HostRuntime) {
     const LINES: Talk = &[
         ("table t 8 i32 3 0 0 8 0 10 1 0", Err(TableFirst)),
         ("device 56 1", Err(PageSize)),
@@ -54,15 +100,14 @@ fn device_lines(rt: HostRuntime) -> Result<(), Fail> {
         ("device 128 4", Ok(())),
         ("device 0 0", Err(DeviceTwice)),
     ];
-    let (config, wrong) = configured(rt.alloc(), LINES)?;
     // There is no table.
-    assert_eq!(rt; (wrong, config.is_complete()), (None, false));
-    Ok(())
+    const SEEN: Seen = (None, false, 0, [None; 4], [None; 4]);
+    same(&rt, &seen(rt.alloc(), LINES), &Ok(SEEN));
 }
 
 /// Each line has the faults of the lines below it.
 #[test]
-fn table_lines(rt: HostRuntime) -> Result<(), Fail> {
+fn table_lines(rt: HostRuntime) {
     const LINES: Talk = &[
         ("device 64 4", Ok(())),
         ("table t 8 i32 3 0 0 8 0 10 1 0", Ok(())),
@@ -116,24 +161,13 @@ fn table_lines(rt: HostRuntime) -> Result<(), Fail> {
         ("table u 8 i64 3 0 3 8 0 1 1 288 rlc 0", Err(LogBlocks)),
         ("table u 8 i64 3 3 3 8 0 1 1 288 index2 rlc 3", Err(LogVar)),
     ];
-    let (_config, wrong) = configured(rt.alloc(), LINES)?;
-    assert_eq!(rt; wrong, None);
-    Ok(())
-}
-
-/// The first blocks of a table's rings; 0 where there is none.
-fn firsts(config: &Config, i: usize) -> Option<(u32, u32, u32)> {
-    if i >= config.tables() {
-        return None;
-    }
-    let table = config.table(i);
-    let index = table.index.map_or(0, |place| place.first_block);
-    let var = table.var.map_or(0, |place| place.first_block);
-    Some((table.rows.first_block, index, var))
+    const RINGS: [Option<(u32, u32, u32)>; 4] = [Some((0, 0, 0)), None, None, None];
+    const SEEN: Seen = (None, true, 3, RINGS, [None; 4]);
+    same(&rt, &seen(rt.alloc(), LINES), &Ok(SEEN));
 }
 
 #[test]
-fn places(rt: HostRuntime) -> Result<(), Fail> {
+fn places(rt: HostRuntime) {
     const LINES: Talk = &[
         ("device 128 4", Ok(())),
         ("table s 4 i16 40 3 4 64 0 100 1 300", Ok(())),
@@ -142,43 +176,38 @@ fn places(rt: HostRuntime) -> Result<(), Fail> {
         ("table v 8 i32 3 0 0 8 0 10 1 0", Ok(())),
         ("table w 8 i32 3 0 0 8 0 10 1 0", Err(TooManyTables)),
     ];
-    let (config, wrong) = configured(rt.alloc(), LINES)?;
-    let is_complete = config.is_complete();
-    assert_eq!(rt; (wrong, is_complete, config.blocks()), (None, true, 61));
-    let wanted = [(0, 40, 43), (47, 0, 50), (55, 0, 0), (58, 0, 0)];
-    for i in 0..4 {
-        assert_eq!(rt; firsts(&config, i), Some(wanted[i]), "{i}");
-    }
-    Ok(())
-}
-
-/// The first block and the blocks of a table's log.
-fn log(config: &Config, i: usize) -> Option<(u32, u32)> {
-    if i >= config.tables() {
-        return None;
-    }
-    config.log(i).map(|place| (place.first_block, place.blocks))
+    const RINGS: [Option<(u32, u32, u32)>; 4] = [
+        Some((0, 40, 43)),
+        Some((47, 0, 50)),
+        Some((55, 0, 0)),
+        Some((58, 0, 0)),
+    ];
+    const SEEN: Seen = (None, true, 61, RINGS, [None; 4]);
+    same(&rt, &seen(rt.alloc(), LINES), &Ok(SEEN));
 }
 
 #[test]
-fn logs(rt: HostRuntime) -> Result<(), Fail> {
+fn logs(rt: HostRuntime) {
     const LINES: Talk = &[
         ("device 128 4", Ok(())),
         ("table s 4 i16 40 3 0 64 0 100 1 0 index2 rlc 5", Ok(())),
         ("table t 8 i32 3 0 0 8 0 10 1 0 rlc 3", Ok(())),
         ("table u 8 i32 3 3 0 8 0 10 1 0 index2", Ok(())),
     ];
-    let (config, wrong) = configured(rt.alloc(), LINES)?;
-    assert_eq!(rt; (wrong, config.blocks()), (None, 60));
-    let logs = [log(&config, 0), log(&config, 1), log(&config, 2)];
-    assert_eq!(rt; logs, [Some((43, 5)), Some((51, 3)), None]);
-    assert_eq!(rt; firsts(&config, 2), Some((54, 57, 0)));
-    Ok(())
+    const RINGS: [Option<(u32, u32, u32)>; 4] = [
+        Some((0, 40, 0)),
+        Some((48, 0, 0)),
+        Some((54, 57, 0)),
+        None,
+    ];
+    const LOGS: [Option<(u32, u32)>; 4] = [Some((43, 5)), Some((51, 3)), None, None];
+    const SEEN: Seen = (None, true, 60, RINGS, LOGS);
+    same(&rt, &seen(rt.alloc(), LINES), &Ok(SEEN));
 }
 
 /// The blocks of a log count, on its line and for the tables behind it.
 #[test]
-fn sizes_with_logs(rt: HostRuntime) -> Result<(), Fail> {
+fn sizes_with_logs(rt: HostRuntime) {
     const LINES: Talk = &[
         ("device 4096 256", Ok(())),
         ("table t 8 i32 61 0 0 8 0 10 1 0 rlc 4", Err(DeviceTooLarge)),
@@ -186,7 +215,8 @@ fn sizes_with_logs(rt: HostRuntime) -> Result<(), Fail> {
         ("table u 8 i32 4 0 0 8 0 10 1 0", Err(DeviceTooLarge)),
         ("table u 8 i32 3 0 0 8 0 10 1 0", Ok(())),
     ];
-    let (config, wrong) = configured(rt.alloc(), LINES)?;
-    assert_eq!(rt; (wrong, config.blocks()), (None, 64));
-    Ok(())
+    const RINGS: [Option<(u32, u32, u32)>; 4] = [Some((0, 0, 0)), Some((61, 0, 0)), None, None];
+    const LOGS: [Option<(u32, u32)>; 4] = [Some((58, 3)), None, None, None];
+    const SEEN: Seen = (None, true, 64, RINGS, LOGS);
+    same(&rt, &seen(rt.alloc(), LINES), &Ok(SEEN));
 }

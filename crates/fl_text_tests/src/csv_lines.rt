@@ -1,4 +1,5 @@
 // What no contract says: that memory is found; and lines of the format from outside.
+use crate::asserts::{same, same_at};
 use fl_base::{MemSink, NoMemory, SinkFailed};
 use fl_csv::CsvRefusal::{Csv, Fields, Number};
 use fl_csv::{
@@ -6,7 +7,6 @@ use fl_csv::{
     write_record,
 };
 use std::alloc::Global;
-use std::test::Fail;
 
 /// A sink whose calls of these numbers fail.
 fn sink(alloc: Global, failing: &[u64]) -> Result<MemSink, NoMemory> {
@@ -20,20 +20,23 @@ fn names_columns(alloc: Global, columns: usize, blobs: bool, text: &str) -> Resu
     Ok(ends.is_ok() && sink.bytes() == text.as_bytes())
 }
 
+/// How many columns there are, whether there are blobs, and the line of their names.
+const COLUMNS: &[(usize, bool, &str)] = &[
+    (1, false, "key,c1\n"),
+    (1, true, "key,c1,blob\n"),
+    (8, true, "key,c1,c2,c3,c4,c5,c6,c7,c8,blob\n"),
+];
+
 #[test]
-fn the_first_line_names_the_columns(rt: HostRuntime) -> Result<(), Fail> {
-    for (columns, blobs, text) in [
-        (1, false, "key,c1\n"),
-        (1, true, "key,c1,blob\n"),
-        (8, true, "key,c1,c2,c3,c4,c5,c6,c7,c8,blob\n"),
-    ] {
-        assert!(rt; names_columns(rt.alloc(), columns, blobs, text)?, "{text}");
+fn the_first_line_names_the_columns(rt: HostRuntime) {
+    for (columns, blobs, text) in COLUMNS {
+        let found = names_columns(rt.alloc(), *columns, *blobs, text);
+        same_at(&rt, &found, &Ok(true), text);
     }
-    Ok(())
 }
 
 /// Records, and the line of each.
-const RECORDS: [(u64, &[i64], CsvBlob<'static>, &str); 6] = [
+const RECORDS: &[(u64, &[i64], CsvBlob<'static>, &str)] = &[
     (1, &[-25], CsvBlob::Absent, "1,-25\n"),
     (
         u64::MAX,
@@ -61,11 +64,11 @@ fn is_written(
 }
 
 #[test]
-fn a_record_is_a_line(rt: HostRuntime) -> Result<(), Fail> {
+fn a_record_is_a_line(rt: HostRuntime) {
     for (key, values, blob, text) in RECORDS {
-        assert!(rt; is_written(rt.alloc(), key, values, blob, text)?, "{text}");
+        let found = is_written(rt.alloc(), *key, values, *blob, text);
+        same_at(&rt, &found, &Ok(true), text);
     }
-    Ok(())
 }
 
 /// How a record ends whose first piece the sink doesn't take, and how many bytes it has then.
@@ -83,11 +86,14 @@ fn names_failing(alloc: Global) -> Result<(Result<(), SinkFailed>, bool), NoMemo
 }
 
 #[test]
-fn a_sink_fails(rt: HostRuntime) -> Result<(), Fail> {
+fn a_sink_fails(rt: HostRuntime) {
     let failed = Err(CsvFault::Sink(SinkFailed));
-    assert_eq!(rt; record_failing(rt.alloc())?, (failed, 0));
-    assert_eq!(rt; names_failing(rt.alloc())?, (Err(SinkFailed), true));
-    Ok(())
+    same(&rt, &record_failing(rt.alloc()), &Ok((failed, 0)));
+    same(
+        &rt,
+        &names_failing(rt.alloc()),
+        &Ok((Err(SinkFailed), true)),
+    );
 }
 
 /// A line, whether it has a field for a blob, and the key, the values and the blob that it is read as.
@@ -99,7 +105,7 @@ type Line = (
     Option<&'static [u8]>,
 );
 
-const LINES: [Line; 10] = [
+const LINES: &[Line] = &[
     ("1,-25", false, 1, &[-25], None),
     ("\"2\",-5", false, 2, &[-5], None),
     ("\"1\"2,\"\"3", false, 12, &[3], None),
@@ -137,12 +143,12 @@ fn is_read(alloc: Global, line: Line) -> bool {
 #[test]
 fn a_line_is_a_record(rt: HostRuntime) {
     for line in LINES {
-        assert!(rt; is_read(rt.alloc(), line), "{}", line.0);
+        same_at(&rt, &is_read(rt.alloc(), *line), &true, &line.0);
     }
 }
 
 /// Lines, whether they have a field for a blob, and the fault of each.
-const FAULTS: [(&str, bool, CsvRefusal); 31] = [
+const FAULTS: &[(&str, bool, CsvRefusal)] = &[
     ("", false, Csv),
     ("\r", false, Csv),
     ("1,2\r3,4", false, Csv),
@@ -184,8 +190,8 @@ fn fault_of(alloc: Global, line: &str, blobs: bool, gone: GoneBlobs) -> Option<C
 #[test]
 fn the_first_fault_is_told(rt: HostRuntime) {
     for (line, blobs, fault) in FAULTS {
-        let found = fault_of(rt.alloc(), line, blobs, GoneBlobs::Refused);
-        assert_eq!(rt; found, Some(fault), "{line}");
+        let found = fault_of(rt.alloc(), line, *blobs, GoneBlobs::Refused);
+        same_at(&rt, &found, &Some(*fault), line);
     }
 }
 
@@ -198,23 +204,34 @@ fn left_out(alloc: Global, line: &str) -> Option<(u64, bool, bool)> {
     Some((put.key, put.blob.is_some(), put.gone))
 }
 
+/// Lines without a blob, and whether each had one that is gone.
+const GONE: &[(&str, bool)] = &[("1,2,gone", true), ("1,2,\"gone\"", true), ("1,2,", false)];
+
 #[test]
 fn a_blob_that_is_gone_is_left_out(rt: HostRuntime) {
-    for (line, gone) in [("1,2,gone", true), ("1,2,\"gone\"", true), ("1,2,", false)] {
-        assert_eq!(rt;
-            left_out(rt.alloc(), line),
-            Some((1, false, gone)),
-            "{line}"
+    for (line, gone) in GONE {
+        same_at(
+            &rt,
+            &left_out(rt.alloc(), line),
+            &Some((1, false, *gone)),
+            line,
         );
     }
-    for line in ["1,2,Gone", "1,2, gone", "1,2,gone "] {
+}
+
+/// Lines that have other words there.
+const NEARLY_GONE: &[&str] = &["1,2,Gone", "1,2, gone", "1,2,gone "];
+
+#[test]
+fn another_word_is_no_blob_that_is_gone(rt: HostRuntime) {
+    for line in NEARLY_GONE {
         let found = fault_of(rt.alloc(), line, true, GoneBlobs::LeftOut);
-        assert_eq!(rt; found, Some(Number { field: 3 }), "{line}");
+        same_at(&rt, &found, &Some(Number { field: 3 }), line);
     }
 }
 
 /// Lines, the form of the lines, and whether each is that of the names.
-const NAMES: [(&str, usize, bool, bool); 10] = [
+const NAMES: &[(&str, usize, bool, bool)] = &[
     ("key,c1,blob", 1, true, true),
     ("key,c1", 1, true, false),
     ("key,c1,blob", 1, false, false),
@@ -238,7 +255,7 @@ fn are_names(alloc: Global, line: &str, columns: usize, blobs: bool) -> Option<b
 #[test]
 fn the_line_of_the_names_is_read(rt: HostRuntime) {
     for (line, columns, blobs, wanted) in NAMES {
-        let found = are_names(rt.alloc(), line, columns, blobs);
-        assert_eq!(rt; found, Some(wanted), "{line}");
+        let found = are_names(rt.alloc(), line, *columns, *blobs);
+        same_at(&rt, &found, &Some(*wanted), line);
     }
 }

@@ -2,12 +2,12 @@
 ghost use Rattle.std.specs.Prelude.{IfSome, IsTrue};
 ghost use Rattle.fl_config.specs.Whole.{is_whole};
 
+use crate::asserts::same;
 use fl_base::NoMemory;
 use fl_config::{Config, ImageRefusal};
 use fl_flash::MemMedia;
 use fl_script::{LineRoom, read_line};
 use std::alloc::Global;
-use std::test::Fail;
 
 const TABLE: &str = "table t 8 i32 3 0 0 8 0 10 1 0";
 
@@ -79,15 +79,25 @@ fn is_image(bytes: &[u8]) -> bool {
         && is_all(&bytes[1024..], 0xff)
 }
 
+/// How a medium without bytes is made the image of a table with this line, whether it begins with this text then, and its length.
+type Made = (Option<Result<(), ImageRefusal>>, bool, usize);
+
+fn make(alloc: Global, table: &str, text: &[u8]) -> Result<Made, NoMemory> {
+    let mut media = MemMedia::new(alloc, Vec::new(alloc), 8000)?;
+    let answer = open(alloc, table, &mut media)?;
+    let bytes = media.bytes();
+    Ok((answer, bytes.starts_with(text), bytes.len()))
+}
+
 #[test]
-fn both_words_stand_in_the_header(rt: HostRuntime) -> Result<(), Fail> {
-    let mut media = MemMedia::new(rt.alloc(), Vec::new(rt.alloc()), 8000)?;
+fn both_words_stand_in_the_header(rt: HostRuntime) {
     let table = "table t 8 i32 6 3 0 8 0 10 1 0  index2 rlc 03";
     let text = b"device 128 4\ntable t 8 i32 6 3 0 8 0 10 1 0 index2 rlc 3\n ";
-    assert_eq!(rt; open(rt.alloc(), table, &mut media)?, Some(Ok(())));
-    let has_text = media.bytes().starts_with(text);
-    assert_eq!(rt; (has_text, media.bytes().len()), (true, 7168));
-    Ok(())
+    same(
+        &rt,
+        &make(rt.alloc(), table, text),
+        &Ok((Some(Ok(())), true, 7168)),
+    );
 }
 
 /// Two tables with logs, of 13 blocks in all.
@@ -120,8 +130,14 @@ const OTHER_LENGTH: ImageRefusal = ImageRefusal::Other {
     at: 1024,
 };
 
+/// The first of these configurations that isn't answered so by a medium that has no bytes before.
+fn first_wrong_anew(alloc: Global, answers: Talk) -> Result<Option<usize>, NoMemory> {
+    let mut media = MemMedia::new(alloc, Vec::new(alloc), 8000)?;
+    first_wrong(alloc, &mut media, answers)
+}
+
 #[test]
-fn another_log_is_another_configuration(rt: HostRuntime) -> Result<(), Fail> {
+fn another_log_is_another_configuration(rt: HostRuntime) {
     const ANSWERS: Talk = &[
         (LOGS, Ok(())),
         (LOGS, Ok(())),
@@ -129,9 +145,7 @@ fn another_log_is_another_configuration(rt: HostRuntime) -> Result<(), Fail> {
         (ONE_LOG, Err(LINE_END)),
         (TABLE, Err(OTHER_LENGTH)),
     ];
-    let mut media = MemMedia::new(rt.alloc(), Vec::new(rt.alloc()), 8000)?;
-    assert_eq!(rt; first_wrong(rt.alloc(), &mut media, ANSWERS)?, None);
-    Ok(())
+    same(&rt, &first_wrong_anew(rt.alloc(), ANSWERS), &Ok(None));
 }
 
 /// The first of these configurations that isn't answered so, and whether the medium is the image of the first table then.
@@ -151,19 +165,25 @@ const OTHER_ERROR: ImageRefusal = ImageRefusal::Other {
     at: 40,
 };
 
-#[test]
-fn an_image_is_made_and_found(rt: HostRuntime) -> Result<(), Fail> {
-    const MADE: Talk = &[(TABLE, Ok(()))];
-    const FOUND: Talk = &[(TABLE, Ok(())), (OTHER_TABLE, Err(OTHER_ERROR))];
-    const UNREAD: Talk = &[(TABLE, Err(ImageRefusal::Media))];
-    let alloc = rt.alloc();
+const MADE: Talk = &[(TABLE, Ok(()))];
+
+const FOUND: Talk = &[(TABLE, Ok(())), (OTHER_TABLE, Err(OTHER_ERROR))];
+
+const UNREAD: Talk = &[(TABLE, Err(ImageRefusal::Media))];
+
+/// What a medium without bytes answers while it is made an image, once it is one, and where it can't be read.
+fn answers(alloc: Global) -> Result<[(Option<usize>, bool); 3], NoMemory> {
     let mut media = MemMedia::new(alloc, Vec::new(alloc), 4000)?;
     let made = first_wrong_of_image(alloc, &mut media, MADE)?;
     let found = first_wrong_of_image(alloc, &mut media, FOUND)?;
     media.fail_call(1);
     let unread = first_wrong_of_image(alloc, &mut media, UNREAD)?;
-    assert_eq!(rt; [made, found, unread], [(None, true); 3]);
-    Ok(())
+    Ok([made, found, unread])
+}
+
+#[test]
+fn an_image_is_made_and_found(rt: HostRuntime) {
+    same(&rt, &answers(rt.alloc()), &Ok([(None, true); 3]));
 }
 
 /// The answer to a medium of so many zeros, with this room.
@@ -178,14 +198,17 @@ fn open_zeros(
 }
 
 #[test]
-fn lengths_that_do_not_fit(rt: HostRuntime) -> Result<(), Fail> {
+fn lengths_that_do_not_fit(rt: HostRuntime) {
     let other = ImageRefusal::Other {
         wanted: 2560,
         found: 2559,
         at: 1024,
     };
-    assert_eq!(rt; open_zeros(rt.alloc(), 2559, 4000)?, Some(Err(other)));
-    let full = open_zeros(rt.alloc(), 0, 2000)?;
-    assert_eq!(rt; full, Some(Err(ImageRefusal::Media)));
-    Ok(())
+    same(
+        &rt,
+        &open_zeros(rt.alloc(), 2559, 4000),
+        &Ok(Some(Err(other))),
+    );
+    let full = Err(ImageRefusal::Media);
+    same(&rt, &open_zeros(rt.alloc(), 0, 2000), &Ok(Some(full)));
 }

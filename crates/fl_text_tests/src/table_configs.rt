@@ -1,4 +1,5 @@
 // Configurations of one table, and the answer to each.
+use crate::asserts::{same, same_at};
 use arrayvec::ArrayVec;
 use fl_base::{Geometry, RingPlace};
 use fl_plan::{ConfigRefusal, TableConfig};
@@ -38,7 +39,7 @@ fn with_column(numbers: Numbers) -> TableConfig {
 }
 
 /// Tables with one column, and the answer to each.
-const ANSWERS: [(Numbers, Result<(), ConfigRefusal>); 16] = [
+const ANSWERS: &[(Numbers, Result<(), ConfigRefusal>)] = &[
     ((2, 128, 3, None, Some(3), 1, 224), Ok(())),
     ((2, 56, 2, None, None, 256, 1), Err(ConfigRefusal::PageSize)),
     ((2, 4104, 3, None, None, 1, 0), Err(ConfigRefusal::PageSize)),
@@ -92,7 +93,7 @@ fn answer(numbers: Numbers) -> Result<(), ConfigRefusal> {
 #[test]
 fn refusals(rt: HostRuntime) {
     for (numbers, wanted) in ANSWERS {
-        assert_eq!(rt; answer(numbers), wanted, "{numbers:?}");
+        same_at(&rt, &answer(*numbers), wanted, numbers);
     }
 }
 
@@ -115,7 +116,7 @@ fn with_wide_columns() -> (u32, Result<(), ConfigRefusal>) {
 fn columns(rt: HostRuntime) {
     let found = (without_columns(), with_wide_columns());
     let long = (48, Err(ConfigRefusal::RowTooLong));
-    assert_eq!(rt; found, (Err(ConfigRefusal::ColumnType), long));
+    same(&rt, &found, &(Err(ConfigRefusal::ColumnType), long));
 }
 
 /// The answer to a table whose blocks have so many pages, and which is to have full entries without an index.
@@ -132,7 +133,7 @@ fn full_index(rt: HostRuntime) {
         Err(ConfigRefusal::Format),
         Err(ConfigRefusal::DeviceTooLarge),
     ];
-    assert_eq!(rt; found, wanted);
+    same(&rt, &found, &wanted);
 }
 
 /// Pages per block, blocks of variable data, whether entries are full, and the blocks of a log.
@@ -140,7 +141,7 @@ type Logged = (u32, Option<u32>, bool, u32);
 
 const LARGE: Result<(), ConfigRefusal> = Err(ConfigRefusal::DeviceTooLarge);
 
-const LOGS: [(Logged, Result<(), ConfigRefusal>); 9] = [
+const LOGS: &[(Logged, Result<(), ConfigRefusal>)] = &[
     ((256, None, false, 16384), LARGE),
     ((256, None, true, 16384), LARGE),
     ((256, None, true, 61), Err(ConfigRefusal::Format)),
@@ -164,6 +165,6 @@ fn with_log(logged: Logged) -> Result<(), ConfigRefusal> {
 #[test]
 fn log(rt: HostRuntime) {
     for (logged, wanted) in LOGS {
-        assert_eq!(rt; with_log(logged), wanted, "{logged:?}");
+        same_at(&rt, &with_log(*logged), wanted, logged);
     }
 }
