@@ -1,8 +1,10 @@
 -- Pages that are found one by one.
-use Rattle.std.proofs.Common.{◌≡◌, ℕ, suc, ◌+◌, List, [], ◌∷◌, ◌++◌, refl, ◌∙◌, ap, arith}
+use Rattle.std.proofs.Common.{◌≡◌, ℕ, suc, ◌+◌, ◌<◌, ◌≤◌, Bool, List, [], ◌∷◌, ◌++◌, length, refl, sym, ◌∙◌, ap, arith}
+use Rattle.std.specs.Prelude.{if◌then◌else◌}
+use Rattle.std.proofs.lemmas.Bool.{lt-ltb, le-ltb}
 use Rattle.fl_model.specs.Record.{RowLayout}
 use Rattle.fl_page.specs.Header.{page_number}
-use Rattle.fl_salvage.specs.Pages.{AreFew, found_at, none_passed, numbers_at, page_of, passed_at, with_number, with_passed}
+use Rattle.fl_salvage.specs.Pages.{AreFew, found_at, found_in, none_passed, numbers_at, page_of, passed_at, with_number, with_passed}
 use Rattle.fl_salvage.specs.declared.found.PageFound.{PageFound}
 use Rattle.fl_salvage.specs.declared.found.PageFound.TheVariants.{Rows, Blank, Missing, Torn, Void, Misplaced, Unformed}
 use Rattle.fl_salvage.specs.declared.passed_over.PassedOver.{PassedOver}
@@ -10,6 +12,19 @@ use Rattle.fl_salvage.specs.declared.ring.RingPages.{RingPages}
 
 pub few-none : AreFew 0 none_passed
 few-none = record { missing = omega arith; torn = omega arith; void = omega arith; misplaced = omega arith; unformed = omega arith }
+
+-- the image ends before the page at a place, or has it
+module _ (layout : RowLayout) (ring : RingPages) (bytes : List ℕ) (place : ℕ) where
+  abbrev found_by : Bool → PageFound
+  found_by short = if short then Missing else found_in layout ring place (page_of ring bytes place)
+
+  pub found-missing : length (page_of ring bytes place) < ring.size → Missing ≡ found_at layout ring bytes place
+  found-missing short = sym (ap found_by (lt-ltb (length (page_of ring bytes place)) ring.size short))
+
+  pub found-there : length (page_of ring bytes place) ≡ ring.size → found_in layout ring place (page_of ring bytes place) ≡ found_at layout ring bytes place
+  found-there whole =
+      let least : ring.size ≤ length (page_of ring bytes place) = omega (arith, whole) in
+      sym (ap found_by (le-ltb (length (page_of ring bytes place)) ring.size least))
 
 -- the page at the next place is counted as what it is found to be
 pub passed-next : (layout : RowLayout) (ring : RingPages) (bytes : List ℕ) (place : ℕ) (found : PageFound) (passed now : PassedOver) → found ≡ found_at layout ring bytes place

@@ -1,5 +1,6 @@
 pub mod MediaOnlyRead
 pub mod Lines
+pub mod PageTexts
 pub mod Pieces
 pub mod SourceToEnd
 pub mod SalvageEnds

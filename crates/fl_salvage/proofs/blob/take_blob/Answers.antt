@@ -1,8 +1,9 @@
 use Rattle.std.proofs.Common.{◌≡◌, ℕ, ◌+◌, ◌≤◌, ◌++◌, None, Some, List, length, drop, slice_range, sym, ◌∙◌, ap, subst, arith, rules}
 use Rattle.std.proofs.lemmas.List.{take_at, take_rest}
 use Rattle.fl_salvage.specs.Blobs.{content_at, content_room}
-use Rattle.fl_salvage.proofs.MediaOnlyRead.{looks-then, tells-on}
+use Rattle.fl_salvage.proofs.MediaOnlyRead.{looks-then, tells-on, unread-later}
 use Rattle.fl_salvage.proofs.Pieces.{length-range, piece-none, piece-behind, piece-last, piece-short, piece-next}
+use Rattle.std.proofs.lemmas.Result.{err_from_is_err_and}
 use Rattle.fl_salvage.proofs.blob.take_blob.Goals as goal
 
 pub returns-in_default-clause-gone : goal.returns-in_default-clause-gone
@@ -94,3 +95,78 @@ loop-i-preserved g c =
           inv.so_far tells ∙ piece-next c.args.ring bytes c.args.at.length c.loop-i.i c.args.at.page c.loop-i.offset c.loop-i.left c.in-Some.len held c.loop-i.room.bytes.items c.extend_from_slice-in-loop-i.new.self.items (omega (arith, c.loop-i-test.true)) here many
           (omega (arith, c.if-len-offset.false)) (omega (arith, c.if-left-len.false, c.if-len-offset.false)) (omega (arith, c.if-len-full.false)) items;
     }
+
+pub read_content-requires-clause-ring : goal.read_content-requires-clause-ring
+read_content-requires-clause-ring g c = c.requires.ring
+
+pub returns-in_err-len-clause-looks : goal.returns-in_err-len-clause-looks
+returns-in_err-len-clause-looks g c = looks-then _ _ _ c.loop-i.invariant.looks c.read_content.ensures.looks
+
+pub returns-in_err-len-clause-whole : goal.returns-in_err-len-clause-whole
+returns-in_err-len-clause-whole g c =
+    let p = err_from_is_err_and c.from_residual.result c.from_residual.ensures.1 in
+    rw p.1 tt
+
+pub returns-in_err-len-clause-gone : goal.returns-in_err-len-clause-gone
+returns-in_err-len-clause-gone g c =
+    let p = err_from_is_err_and c.from_residual.result c.from_residual.ensures.1 in
+    rw p.1 tt
+
+pub returns-in_err-len-clause-cause : goal.returns-in_err-len-clause-cause
+returns-in_err-len-clause-cause g c =
+    let p = err_from_is_err_and c.from_residual.result c.from_residual.ensures.1 in
+    rw (p.1, p.2) (unread-later (g.M.Media.state c.args.media.now) (g.M.Media.state c.loop-i.media) (g.M.Media.state c.read_content.new.media) c.in_err-len.field-0.0 c.loop-i.invariant.looks c.in_err-len.ensures.cause)
+
+pub returns-in_default-clause-looks : goal.returns-in_default-clause-looks
+returns-in_default-clause-looks g c = looks-then _ _ _ c.loop-i.invariant.looks c.read_content.ensures.looks
+
+pub returns-then-len-offset-clause-looks : goal.returns-then-len-offset-clause-looks
+returns-then-len-offset-clause-looks g c = looks-then _ _ _ c.loop-i.invariant.looks c.read_content.ensures.looks
+
+pub returns-in_err-extend_from_slice-clause-looks : goal.returns-in_err-extend_from_slice-clause-looks
+returns-in_err-extend_from_slice-clause-looks g c = looks-then _ _ _ c.loop-i.invariant.looks c.read_content.ensures.looks
+
+pub returns-in_err-extend_from_slice-clause-whole : goal.returns-in_err-extend_from_slice-clause-whole
+returns-in_err-extend_from_slice-clause-whole g c =
+    let p = err_from_is_err_and c.from_residual-in_err-extend_from_slice.result c.from_residual-in_err-extend_from_slice.ensures.1 in
+    rw p.1 tt
+
+pub returns-in_err-extend_from_slice-clause-gone : goal.returns-in_err-extend_from_slice-clause-gone
+returns-in_err-extend_from_slice-clause-gone g c =
+    let p = err_from_is_err_and c.from_residual-in_err-extend_from_slice.result c.from_residual-in_err-extend_from_slice.ensures.1 in
+    rw p.1 tt
+
+pub returns-in_err-extend_from_slice-clause-cause : goal.returns-in_err-extend_from_slice-clause-cause
+returns-in_err-extend_from_slice-clause-cause g c =
+    let p = err_from_is_err_and c.from_residual-in_err-extend_from_slice.result c.from_residual-in_err-extend_from_slice.ensures.1 in
+    rw (p.1, p.2) tt
+
+pub returns-then-left-len-clause-looks : goal.returns-then-left-len-clause-looks
+returns-then-left-len-clause-looks g c = looks-then _ _ _ c.loop-i.invariant.looks c.read_content.ensures.looks
+
+pub returns-then-len-full-clause-looks : goal.returns-then-len-full-clause-looks
+returns-then-len-full-clause-looks g c = looks-then _ _ _ c.loop-i.invariant.looks c.read_content.ensures.looks
+
+pub returns-in_err-extend_from_slice-2-clause-looks : goal.returns-in_err-extend_from_slice-2-clause-looks
+returns-in_err-extend_from_slice-2-clause-looks g c = looks-then _ _ _ c.loop-i.invariant.looks c.read_content.ensures.looks
+
+pub returns-in_err-extend_from_slice-2-clause-whole : goal.returns-in_err-extend_from_slice-2-clause-whole
+returns-in_err-extend_from_slice-2-clause-whole g c =
+    let p = err_from_is_err_and c.from_residual-in_err-extend_from_slice-2.result c.from_residual-in_err-extend_from_slice-2.ensures.1 in
+    rw p.1 tt
+
+pub returns-in_err-extend_from_slice-2-clause-gone : goal.returns-in_err-extend_from_slice-2-clause-gone
+returns-in_err-extend_from_slice-2-clause-gone g c =
+    let p = err_from_is_err_and c.from_residual-in_err-extend_from_slice-2.result c.from_residual-in_err-extend_from_slice-2.ensures.1 in
+    rw p.1 tt
+
+pub returns-in_err-extend_from_slice-2-clause-cause : goal.returns-in_err-extend_from_slice-2-clause-cause
+returns-in_err-extend_from_slice-2-clause-cause g c =
+    let p = err_from_is_err_and c.from_residual-in_err-extend_from_slice-2.result c.from_residual-in_err-extend_from_slice-2.ensures.1 in
+    rw (p.1, p.2) tt
+
+pub returns-clause-looks : goal.returns-clause-looks
+returns-clause-looks g c = c.loop-i.invariant.looks
+
+pub returns-clause-room : goal.returns-clause-room
+returns-clause-room g c = c.loop-i.invariant.room

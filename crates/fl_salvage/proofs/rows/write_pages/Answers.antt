@@ -1,4 +1,4 @@
-use Rattle.std.proofs.Common.{◌≡◌, Some, List, ℕ, arith, subst}
+use Rattle.std.proofs.Common.{◌≡◌, Some, List, ℕ, arith, subst, le_trans}
 use Rattle.std.proofs.lemmas.Option.{slice_get-get_or}
 use Rattle.std.proofs.lemmas.Result.{err_from_is_err_and}
 use Rattle.std.specs.List.{slice_get, slice_index}
@@ -53,3 +53,15 @@ loop-i-preserved g c =
 pub returns-clause-writes : goal.returns-clause-writes
 returns-clause-writes g c tells =
     all-sent (page_text (form_of c.args.table.now) (g.M.Media.state c.args.media.now).content) c.args.numbers.now c.loop-i.i _ _ (omega (arith, c.loop-i-test.false)) (c.loop-i.invariant.far tells)
+
+pub write_page-requires : goal.write_page-requires
+write_page-requires g c = record { rooms = c.loop-i.invariant.rooms }
+
+pub returns-in_err-write_page-clause-later : goal.returns-in_err-write_page-clause-later
+returns-in_err-write_page-clause-later g c = le_trans c.loop-i.invariant.later c.write_page.ensures.later
+
+pub returns-clause-looks : goal.returns-clause-looks
+returns-clause-looks g c = c.loop-i.invariant.looks
+
+pub returns-clause-later : goal.returns-clause-later
+returns-clause-later g c = c.loop-i.invariant.later

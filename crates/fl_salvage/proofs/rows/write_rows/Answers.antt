@@ -1,4 +1,4 @@
-use Rattle.std.proofs.Common.{◌≡◌, List, ℕ, length, arith, subst}
+use Rattle.std.proofs.Common.{◌≡◌, List, ℕ, length, arith, subst, ◌∙◌, le_trans}
 use Rattle.std.proofs.lemmas.Result.{err_from_is_err_and}
 use Rattle.fl_base.specs.Causes.{Appends, AppendsFront}
 use Rattle.fl_page.specs.View.{count_of, rows_of}
@@ -52,3 +52,24 @@ loop-i-preserved g c =
 pub returns-clause-writes : goal.returns-clause-writes
 returns-clause-writes g c tells =
     all-sent (row_text (form_of c.args.table.now) (g.M.Media.state c.args.media.now).content) (rows_of c.args.view.now) c.loop-i.i _ _ (let many : length (rows_of c.args.view.now) ≡ count_of c.args.view.now = length-rows_from (count_of c.args.view.now) _ _ in omega (arith, many, c.rows-i-end.ensures, c.loop-i-test.false)) (c.loop-i.invariant.far tells)
+
+pub write_row-requires-clause-room : goal.write_row-requires-clause-room
+write_row-requires-clause-room g c = c.loop-i.invariant.space
+
+pub write_row-requires-clause-layout : goal.write_row-requires-clause-layout
+write_row-requires-clause-layout g c = c.row.ensures.layout ∙ c.requires.layout
+
+pub returns-in_err-write_row-clause-room : goal.returns-in_err-write_row-clause-room
+returns-in_err-write_row-clause-room g c = c.write_row.ensures.room
+
+pub returns-in_err-write_row-clause-later : goal.returns-in_err-write_row-clause-later
+returns-in_err-write_row-clause-later g c = le_trans c.loop-i.invariant.later c.write_row.ensures.later
+
+pub returns-clause-looks : goal.returns-clause-looks
+returns-clause-looks g c = c.loop-i.invariant.looks
+
+pub returns-clause-room : goal.returns-clause-room
+returns-clause-room g c = c.loop-i.invariant.space
+
+pub returns-clause-later : goal.returns-clause-later
+returns-clause-later g c = c.loop-i.invariant.later
