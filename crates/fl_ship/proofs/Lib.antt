@@ -13,6 +13,7 @@ mod MediaEnds
 mod MadeCopy
 mod ImageEnds
 mod Causes
+mod Faults
 mod OneTable
 mod BadPages
 mod OverBytes

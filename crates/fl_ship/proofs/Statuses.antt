@@ -1,5 +1,5 @@
 -- The statuses of a ship of tables.
-use Rattle.std.proofs.Common.{◌≡◌, ℕ, true, refl, sym, ◌∙◌, subst}
+use Rattle.std.proofs.Common.{◌≡◌, ℕ, true, Option, List, refl, sym, ◌∙◌, subst}
 use Rattle.fl_store.specs.Status as store
 use Rattle.fl_base.specs.Causes.{Rose}
 use Rattle.fl_flash.specs.Flash.{FlashState}
@@ -15,7 +15,7 @@ use Rattle.fl_ship.specs.Fits.{is_refused}
 use Rattle.fl_frame.proofs.WatchedInTurn.{never-lost}
 use Rattle.fl_frame.specs.Causes.{IsUnarmed}
 use Rattle.fl_parts.specs.Faults.{MountCausedBy}
-use Rattle.fl_ship.specs.Tables.{IsOfTables, RoseOn, StopCausedBy, mount_status, stop_status}
+use Rattle.fl_ship.specs.Tables.{IsOfTables, RoseOn, StopCausedBy, TellsShipped, mount_status, stop_status}
 use Rattle.fl_ship.specs.declared.fault.ShipFault.TheVariants.{Read, Put, Flush}
 use Rattle.fl_ship.specs.declared.side.Side.{Side}
 use Rattle.fl_ship.specs.declared.side.Side.TheVariants.{Source, Copy}
@@ -71,16 +71,73 @@ mount-rose side other old new (mount.BadEntry page count limit) at unarmed is ca
 pub sides-apart : Source ≡ Copy → ⊥
 sides-apart e = cc
 
+-- its status, by one case for each
+mount-cases : (P : ShipStatus → Type 0) (side : Side) (at : ℕ) → P (Device side) → P (BadImage side at) → (e : MountFault) → P (mount_status side e at)
+mount-cases P side at device bad (mount.Flash e) = device
+mount-cases P side at device bad (mount.Ring e) = bad
+mount-cases P side at device bad (mount.BadPage page) = bad
+mount-cases P side at device bad (mount.BadKeys page last key) = bad
+mount-cases P side at device bad (mount.BadIndex end next) = bad
+mount-cases P side at device bad (mount.BadBlob page next) = bad
+mount-cases P side at device bad (mount.BadEntry page count limit) = bad
+
 pub mount-place : (side other : Side) (e : MountFault) (at table : ℕ) → mount_status side e at ≡ BadImage other table → at ≡ table
-mount-place side other (mount.Flash e) at table is = absurd (cc is)
-mount-place side other (mount.Ring e) at table is = cc is
-mount-place side other (mount.BadPage page) at table is = cc is
-mount-place side other (mount.BadKeys page last key) at table is = cc is
-mount-place side other (mount.BadIndex end next) at table is = cc is
-mount-place side other (mount.BadBlob page next) at table is = cc is
-mount-place side other (mount.BadEntry page count limit) at table is = cc is
+mount-place side other e at table = mount-cases (λ (status : ShipStatus). status ≡ BadImage other table → at ≡ table) side at (λ is. absurd (cc is)) (λ is. cc is) e
+
+-- a table is told bad on that side alone
+pub mount-side : (side other : Side) (e : MountFault) (at table : ℕ) → mount_status side e at ≡ BadImage other table → side ≡ other
+mount-side side other e at table = mount-cases (λ (status : ShipStatus). status ≡ BadImage other table → side ≡ other) side at (λ is. absurd (cc is)) (λ is. cc is) e
+
+pub mount-of-tables : (side : Side) (e : MountFault) (at : ℕ) → IsOfTables (mount_status side e at)
+mount-of-tables side e at = mount-cases IsOfTables side at tt tt e
+
+pub mount-quiet : (side : Side) (e : MountFault) (at : ℕ) → mount_status side e at ≡ OutWrite → ⊥
+mount-quiet side e at = mount-cases (λ (status : ShipStatus). status ≡ OutWrite → ⊥) side at (λ is. cc is) (λ is. cc is) e
+
+-- ---- it was told how many records were shipped
+
+pub told-is : (shipped : ℕ) (told told_now : Option (List ℕ)) (faults faults_now : ℕ) (status other : ShipStatus) → TellsShipped shipped told told_now faults faults_now status → status ≡ other → TellsShipped shipped told told_now faults faults_now other
+told-is shipped told told_now faults faults_now status other tells is = subst (TellsShipped shipped told told_now faults faults_now) is tells
+
+pub told-of-tables : (shipped : ℕ) (told told_now : Option (List ℕ)) (faults faults_now : ℕ) (status : ShipStatus) → TellsShipped shipped told told_now faults faults_now status → IsOfTables status
+told-of-tables shipped told told_now faults faults_now (Done count) tells = tt
+told-of-tables shipped told told_now faults faults_now OutWrite tells = tt
+told-of-tables shipped told told_now faults faults_now NoMemory tells = tt
+told-of-tables shipped told told_now faults faults_now (Device side) tells = tt
+told-of-tables shipped told told_now faults faults_now (BadImage side table) tells = tt
+told-of-tables shipped told told_now faults faults_now (Gap last oldest) tells = tt
+told-of-tables shipped told told_now faults faults_now Spent tells = tt
+told-of-tables shipped told told_now faults faults_now (NotImage side) tells = tells
+told-of-tables shipped told told_now faults faults_now NoTable tells = tells
+told-of-tables shipped told told_now faults faults_now OtherForm tells = tells
 
 -- ---- a ship of a table that stopped
+
+-- the status of each way to stop, by one case for each
+stop-cases : (P : ShipStatus → Type 0) (at : ℕ) → ((last oldest : ℕ) → P (Gap last oldest)) → P (Device Source) → P (BadImage Source at) → P (Device Copy) → P Spent → P NoMemory → (why : Stop) → P (stop_status why at)
+stop-cases P at gap source bad copy spent memory (stop.Gap last oldest) = gap last oldest
+stop-cases P at gap source bad copy spent memory (stop.Ship (Read (read.Flash e))) = source
+stop-cases P at gap source bad copy spent memory (stop.Ship (Read (read.BadPage page))) = bad
+stop-cases P at gap source bad copy spent memory (stop.Ship (Put (put.Flash e))) = copy
+stop-cases P at gap source bad copy spent memory (stop.Ship (Put (put.Key last))) = spent
+stop-cases P at gap source bad copy spent memory (stop.Ship (Put (put.Columns wanted))) = spent
+stop-cases P at gap source bad copy spent memory (stop.Ship (Put (put.Value column))) = spent
+stop-cases P at gap source bad copy spent memory (stop.Ship (Put (put.Blob limit))) = spent
+stop-cases P at gap source bad copy spent memory (stop.Ship (Put put.Spent)) = spent
+stop-cases P at gap source bad copy spent memory (stop.Ship (Put put.Stopped)) = spent
+stop-cases P at gap source bad copy spent memory (stop.Ship (Flush (flush.Flash e))) = copy
+stop-cases P at gap source bad copy spent memory (stop.Ship (Flush flush.Stopped)) = memory
+
+pub stop-of-tables : (why : Stop) (at : ℕ) → IsOfTables (stop_status why at)
+stop-of-tables why at = stop-cases IsOfTables at (λ last oldest. tt) tt tt tt tt tt why
+
+pub stop-quiet : (why : Stop) (at : ℕ) → stop_status why at ≡ OutWrite → ⊥
+stop-quiet why at = stop-cases (λ (status : ShipStatus). status ≡ OutWrite → ⊥) at (λ last oldest is. cc is) (λ is. cc is) (λ is. cc is) (λ is. cc is) (λ is. cc is) (λ is. cc is) why
+
+-- the source's table at the place is told bad, and no other
+pub stop-place : (side : Side) (table : ℕ) (why : Stop) (at : ℕ) → stop_status why at ≡ BadImage side table → (Source ≡ side) × (at ≡ table)
+stop-place side table why at =
+    stop-cases (λ (status : ShipStatus). status ≡ BadImage side table → (Source ≡ side) × (at ≡ table)) at (λ last oldest is. absurd (cc is)) (λ is. absurd (cc is)) (λ is. (cc is, cc is)) (λ is. absurd (cc is)) (λ is. absurd (cc is)) (λ is. absurd (cc is)) why
 
 -- one of the source's is told bad only where one of its pages is
 pub stop-good : (why : Stop) (at table : ℕ) → ((bad : BadPage) → why ≡ stop.Ship (Read (read.BadPage bad)) → ⊥) → stop_status why at ≡ BadImage Source table → ⊥

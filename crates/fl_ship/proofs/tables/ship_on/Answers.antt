@@ -1,6 +1,7 @@
-use Rattle.std.proofs.Common.{◌≡◌, ◌<◌, inr, true, false, IsTrue, Err, Some, length, refl, sym, ◌∙◌, ap, subst, arith}
-use Rattle.std.specs.List.{slice_get}
+use Rattle.std.proofs.Common.{◌≡◌, ℕ, ◌<◌, inl, inr, true, false, IsTrue, Err, length, refl, sym, ◌∙◌, ap, subst, arith}
+use Rattle.std.proofs.Math.Nat.{le_refl}
 use Rattle.std.proofs.lemmas.Option.{slice_get_within}
+use Rattle.fl_base.specs.declared.types.Geometry.{Geometry}
 use Rattle.fl_frame.proofs.ContentsInTurn.{OnlyReads-goes}
 use Rattle.fl_frame.proofs.CallsInTurn.{goes-then}
 use Rattle.fl_store.proofs.CallsInTurn.{rose-back}
@@ -18,12 +19,13 @@ use Rattle.fl_table.specs.Standing.{Stands}
 use Rattle.fl_table.specs.declared.table.Table.{Table}
 use Rattle.fl_rlc.specs.Table.{table_in}
 use Rattle.fl_store.specs.Tables.{first_of}
-use Rattle.fl_store.proofs.TablesChanged.{item-there}
+use Rattle.fl_store.proofs.Called.{entry-at}
+use Rattle.fl_ship.specs.Tables.{IsOfTables}
 use Rattle.fl_ship.specs.declared.side.Side.TheVariants.{Source, Copy}
 use Rattle.fl_ship.specs.declared.stop.Stop.{Stop}
 use Rattle.fl_ship.proofs.Forms.{form-after}
 use Rattle.fl_ship.proofs.FlashEnds.{source-fails, copy-fails, shipped, stopped, broken-left, broken-device, read-left, mounted-left, changed-left}
-use Rattle.fl_ship.proofs.Statuses.{mount-place, good-device, stop-good, mount-rose, sides-apart, stop-rose}
+use Rattle.fl_ship.proofs.Statuses.{mount-place, good-device, stop-good, mount-rose, mount-side, mount-of-tables, mount-quiet, sides-apart, stop-of-tables, stop-place, stop-quiet, stop-rose, told-is, told-of-tables}
 use Rattle.fl_store.specs.MountsOver.{MountsOver}
 use Rattle.fl_store.proofs.Jobs.{own-changes}
 use Rattle.fl_ship.proofs.OverBytes.{bad-there, copy-refused, gap-there, source-refused, tables-shipped, tells-shipped, tells-stopped}
@@ -152,44 +154,36 @@ returns-in-Err-mount-clause-bad g c = λ side table is.
 
 pub ship_table-requires-clause-running : goal.ship_table-requires-clause-running
 ship_table-requires-clause-running g c =
-    let here : slice_get c.mount.new.self.entries.items c.args.at ≡ Some c.index.result.now =
-    item-there c.mount.new.self.entries.items (length c.mount.new.self.entries.items) c.args.at c.index.result.now refl (omega (arith, c.requires.at, c.mount.ensures.as_many)) c.index.ensures in
+    let here = entry-at c.mount.new.self.entries.items c.args.at c.index.result.now (subst (λ (n : ℕ). c.args.at < n) (sym c.mount.ensures.as_many) c.requires.at) c.index.ensures in
     subst (λ (t : Table 64 64). is_running t ≡ true) (sym c.table-source.ensures) (c.in_default.ensures.running c.args.at c.index.result.now here)
 
 pub ship_table-requires-clause-lies : goal.ship_table-requires-clause-lies
 ship_table-requires-clause-lies g c =
-    let here : slice_get c.mount.new.self.entries.items c.args.at ≡ Some c.index.result.now =
-    item-there c.mount.new.self.entries.items (length c.mount.new.self.entries.items) c.args.at c.index.result.now refl (omega (arith, c.requires.at, c.mount.ensures.as_many)) c.index.ensures in
+    let here = entry-at c.mount.new.self.entries.items c.args.at c.index.result.now (subst (λ (n : ℕ). c.args.at < n) (sym c.mount.ensures.as_many) c.requires.at) c.index.ensures in
     subst (λ (t : Table 64 64). LiesOn t (g.A.Flash.state c.mount.new.flash)) (sym c.table-source.ensures) (c.mount.ensures.lie c.args.at c.index.result.now here).table
 
 pub ship_table-requires-clause-copy_running : goal.ship_table-requires-clause-copy_running
 ship_table-requires-clause-copy_running g c =
-    let here : slice_get c.mount-2.new.self.entries.items c.args.at ≡ Some c.index_mut.result.now =
-    item-there c.mount-2.new.self.entries.items (length c.mount-2.new.self.entries.items) c.args.at c.index_mut.result.now refl (omega (arith, c.requires.at, c.requires.as_many, c.mount-2.ensures.as_many)) c.index_mut.ensures.value in
+    let here = entry-at c.mount-2.new.self.entries.items c.args.at c.index_mut.result.now (subst (λ (n : ℕ). c.args.at < n) (sym (c.mount-2.ensures.as_many ∙ c.requires.as_many)) c.requires.at) c.index_mut.ensures.value in
     c.in_default-mount.ensures.running c.args.at c.index_mut.result.now here
 
 pub ship_table-requires-clause-copy_lies : goal.ship_table-requires-clause-copy_lies
 ship_table-requires-clause-copy_lies g c =
-    let here : slice_get c.mount-2.new.self.entries.items c.args.at ≡ Some c.index_mut.result.now =
-    item-there c.mount-2.new.self.entries.items (length c.mount-2.new.self.entries.items) c.args.at c.index_mut.result.now refl (omega (arith, c.requires.at, c.requires.as_many, c.mount-2.ensures.as_many)) c.index_mut.ensures.value in
+    let here = entry-at c.mount-2.new.self.entries.items c.args.at c.index_mut.result.now (subst (λ (n : ℕ). c.args.at < n) (sym (c.mount-2.ensures.as_many ∙ c.requires.as_many)) c.requires.at) c.index_mut.ensures.value in
     c.mount-2.ensures.lie c.args.at c.index_mut.result.now here
 
 pub ship_table-requires-clause-form : goal.ship_table-requires-clause-form
 ship_table-requires-clause-form g c =
-    let here : slice_get c.mount.new.self.entries.items c.args.at ≡ Some c.index.result.now =
-    item-there c.mount.new.self.entries.items (length c.mount.new.self.entries.items) c.args.at c.index.result.now refl (omega (arith, c.requires.at, c.mount.ensures.as_many)) c.index.ensures in
-    let c_here : slice_get c.mount-2.new.self.entries.items c.args.at ≡ Some c.index_mut.result.now =
-    item-there c.mount-2.new.self.entries.items (length c.mount-2.new.self.entries.items) c.args.at c.index_mut.result.now refl (omega (arith, c.requires.at, c.requires.as_many, c.mount-2.ensures.as_many)) c.index_mut.ensures.value in
+    let here = entry-at c.mount.new.self.entries.items c.args.at c.index.result.now (subst (λ (n : ℕ). c.args.at < n) (sym c.mount.ensures.as_many) c.requires.at) c.index.ensures in
+    let c_here = entry-at c.mount-2.new.self.entries.items c.args.at c.index_mut.result.now (subst (λ (n : ℕ). c.args.at < n) (sym (c.mount-2.ensures.as_many ∙ c.requires.as_many)) c.requires.at) c.index_mut.ensures.value in
     subst (λ (t : Table 64 64). layout_in t ≡ layout_in (table_in c.index_mut.result.now.table)) (sym c.table-source.ensures)
     (form-after c.args.sources.now.entries.items c.mount.new.self.entries.items c.args.copies.now.entries.items c.mount-2.new.self.entries.items c.args.at c.index.result.now c.index_mut.result.now c.requires.form
     (sym c.mount.ensures.as_many) (sym c.mount-2.ensures.as_many) c.mount.ensures.same c.mount-2.ensures.same here c_here).0
 
 pub ship_table-requires-clause-no_blobs : goal.ship_table-requires-clause-no_blobs
 ship_table-requires-clause-no_blobs g c =
-    let here : slice_get c.mount.new.self.entries.items c.args.at ≡ Some c.index.result.now =
-    item-there c.mount.new.self.entries.items (length c.mount.new.self.entries.items) c.args.at c.index.result.now refl (omega (arith, c.requires.at, c.mount.ensures.as_many)) c.index.ensures in
-    let c_here : slice_get c.mount-2.new.self.entries.items c.args.at ≡ Some c.index_mut.result.now =
-    item-there c.mount-2.new.self.entries.items (length c.mount-2.new.self.entries.items) c.args.at c.index_mut.result.now refl (omega (arith, c.requires.at, c.requires.as_many, c.mount-2.ensures.as_many)) c.index_mut.ensures.value in
+    let here = entry-at c.mount.new.self.entries.items c.args.at c.index.result.now (subst (λ (n : ℕ). c.args.at < n) (sym c.mount.ensures.as_many) c.requires.at) c.index.ensures in
+    let c_here = entry-at c.mount-2.new.self.entries.items c.args.at c.index_mut.result.now (subst (λ (n : ℕ). c.args.at < n) (sym (c.mount-2.ensures.as_many ∙ c.requires.as_many)) c.requires.at) c.index_mut.ensures.value in
     (form-after c.args.sources.now.entries.items c.mount.new.self.entries.items c.args.copies.now.entries.items c.mount-2.new.self.entries.items c.args.at c.index.result.now c.index_mut.result.now c.requires.form
     (sym c.mount.ensures.as_many) (sym c.mount-2.ensures.as_many) c.mount.ensures.same c.mount-2.ensures.same here c_here).1
 
@@ -201,8 +195,7 @@ returns-in-Ok-clause-ends g c = λ plans ts cs name tells c_tells on c_on calm c
     let m = g.A.Flash.state c.mount.new.flash in
     let h = g.A.Flash.state c.ship_table.new.from in
     let now = c.mount.new.self.entries.items in
-    let here : slice_get c.mount.new.self.entries.items c.args.at ≡ Some c.index.result.now =
-    item-there c.mount.new.self.entries.items (length c.mount.new.self.entries.items) c.args.at c.index.result.now refl (omega (arith, c.requires.at, c.mount.ensures.as_many)) c.index.ensures in
+    let here = entry-at c.mount.new.self.entries.items c.args.at c.index.result.now (subst (λ (n : ℕ). c.args.at < n) (sym c.mount.ensures.as_many) c.requires.at) c.index.ensures in
     let told_m : IsTrue m.media.tells = subst IsTrue (sym c.mount.ensures.goes.tells) tells in
     let mounted = c.in_default.ensures.ends plans ts (has_risen f m) at_rest (watched f m at_rest tells on calm) stand in
     let from = own plans ts f m now c.args.at c.index.result.now told_m here mounted in
@@ -211,8 +204,7 @@ returns-in-Ok-clause-ends g c = λ plans ts cs name tells c_tells on c_on calm c
     let n = g.B.Flash.state c.mount-2.new.flash in
     let k = g.B.Flash.state c.ship_table.new.onto in
     let c_now = c.mount-2.new.self.entries.items in
-    let c_here : slice_get c.mount-2.new.self.entries.items c.args.at ≡ Some c.index_mut.result.now =
-    item-there c.mount-2.new.self.entries.items (length c.mount-2.new.self.entries.items) c.args.at c.index_mut.result.now refl (omega (arith, c.requires.at, c.requires.as_many, c.mount-2.ensures.as_many)) c.index_mut.ensures.value in
+    let c_here = entry-at c.mount-2.new.self.entries.items c.args.at c.index_mut.result.now (subst (λ (n : ℕ). c.args.at < n) (sym (c.mount-2.ensures.as_many ∙ c.requires.as_many)) c.requires.at) c.index_mut.ensures.value in
     let told_n : IsTrue n.media.tells = subst IsTrue (sym c.mount-2.ensures.goes.tells) c_tells in
     let c_mounted = c.in_default-mount.ensures.ends plans cs (has_risen o n) at_rest (watched o n at_rest c_tells c_on c_calm) c_stand in
     let to = own plans cs o n c_now c.args.at c.index_mut.result.now told_n c_here c_mounted in
@@ -233,8 +225,7 @@ pub returns-in-Ok-clause-others : goal.returns-in-Ok-clause-others
 returns-in-Ok-clause-others g c = λ plans cs name c_tells c_on c_calm c_stand c_named well.
     let o = g.B.Flash.state c.args.onto.now in
     let n = g.B.Flash.state c.mount-2.new.flash in
-    let c_here : slice_get c.mount-2.new.self.entries.items c.args.at ≡ Some c.index_mut.result.now =
-    item-there c.mount-2.new.self.entries.items (length c.mount-2.new.self.entries.items) c.args.at c.index_mut.result.now refl (omega (arith, c.requires.at, c.requires.as_many, c.mount-2.ensures.as_many)) c.index_mut.ensures.value in
+    let c_here = entry-at c.mount-2.new.self.entries.items c.args.at c.index_mut.result.now (subst (λ (n : ℕ). c.args.at < n) (sym (c.mount-2.ensures.as_many ∙ c.requires.as_many)) c.requires.at) c.index_mut.ensures.value in
     let c_mounted = c.in_default-mount.ensures.ends plans cs (has_risen o n) at_rest (watched o n at_rest c_tells c_on c_calm) c_stand in
     others-repaired plans cs _ name o n (g.B.Flash.state c.ship_table.new.onto) c.args.copies.now.entries.items c.mount-2.new.self.entries.items c.args.at c.index_mut.result.now c_stand c_named c_mounted.stand c_here
     (c.ship_table.ensures.outside (subst IsTrue (sym c.mount-2.ensures.goes.tells) c_tells)) (c.in_default-mount.ensures.repaired c_tells plans cs c_stand (inr (has_risen o n, at_rest, watched o n at_rest c_tells c_on c_calm)))
@@ -251,8 +242,7 @@ returns-in-Ok-clause-copy_stands g c = λ plans cs name c_tells c_on c_calm c_st
     let n = g.B.Flash.state c.mount-2.new.flash in
     let k = g.B.Flash.state c.ship_table.new.onto in
     let c_now = c.mount-2.new.self.entries.items in
-    let c_here : slice_get c.mount-2.new.self.entries.items c.args.at ≡ Some c.index_mut.result.now =
-    item-there c.mount-2.new.self.entries.items (length c.mount-2.new.self.entries.items) c.args.at c.index_mut.result.now refl (omega (arith, c.requires.at, c.requires.as_many, c.mount-2.ensures.as_many)) c.index_mut.ensures.value in
+    let c_here = entry-at c.mount-2.new.self.entries.items c.args.at c.index_mut.result.now (subst (λ (n : ℕ). c.args.at < n) (sym (c.mount-2.ensures.as_many ∙ c.requires.as_many)) c.requires.at) c.index_mut.ensures.value in
     let told_n : IsTrue n.media.tells = subst IsTrue (sym c.mount-2.ensures.goes.tells) c_tells in
     let c_mounted = c.in_default-mount.ensures.ends plans cs (has_risen o n) at_rest (watched o n at_rest c_tells c_on c_calm) c_stand in
     let to = own plans cs o n c_now c.args.at c.index_mut.result.now told_n c_here c_mounted in
@@ -268,8 +258,7 @@ returns-in-Err-ship_table-clause-ends g c = λ plans ts cs name tells c_tells on
     let m = g.A.Flash.state c.mount.new.flash in
     let h = g.A.Flash.state c.ship_table.new.from in
     let now = c.mount.new.self.entries.items in
-    let here : slice_get c.mount.new.self.entries.items c.args.at ≡ Some c.index.result.now =
-    item-there c.mount.new.self.entries.items (length c.mount.new.self.entries.items) c.args.at c.index.result.now refl (omega (arith, c.requires.at, c.mount.ensures.as_many)) c.index.ensures in
+    let here = entry-at c.mount.new.self.entries.items c.args.at c.index.result.now (subst (λ (n : ℕ). c.args.at < n) (sym c.mount.ensures.as_many) c.requires.at) c.index.ensures in
     let told_m : IsTrue m.media.tells = subst IsTrue (sym c.mount.ensures.goes.tells) tells in
     let mounted = c.in_default.ensures.ends plans ts (has_risen f m) at_rest (watched f m at_rest tells on calm) stand in
     let from = own plans ts f m now c.args.at c.index.result.now told_m here mounted in
@@ -278,8 +267,7 @@ returns-in-Err-ship_table-clause-ends g c = λ plans ts cs name tells c_tells on
     let n = g.B.Flash.state c.mount-2.new.flash in
     let k = g.B.Flash.state c.ship_table.new.onto in
     let c_now = c.mount-2.new.self.entries.items in
-    let c_here : slice_get c.mount-2.new.self.entries.items c.args.at ≡ Some c.index_mut.result.now =
-    item-there c.mount-2.new.self.entries.items (length c.mount-2.new.self.entries.items) c.args.at c.index_mut.result.now refl (omega (arith, c.requires.at, c.requires.as_many, c.mount-2.ensures.as_many)) c.index_mut.ensures.value in
+    let c_here = entry-at c.mount-2.new.self.entries.items c.args.at c.index_mut.result.now (subst (λ (n : ℕ). c.args.at < n) (sym (c.mount-2.ensures.as_many ∙ c.requires.as_many)) c.requires.at) c.index_mut.ensures.value in
     let told_n : IsTrue n.media.tells = subst IsTrue (sym c.mount-2.ensures.goes.tells) c_tells in
     let c_mounted = c.in_default-mount.ensures.ends plans cs (has_risen o n) at_rest (watched o n at_rest c_tells c_on c_calm) c_stand in
     let to = own plans cs o n c_now c.args.at c.index_mut.result.now told_n c_here c_mounted in
@@ -301,8 +289,7 @@ pub returns-in-Err-ship_table-clause-others : goal.returns-in-Err-ship_table-cla
 returns-in-Err-ship_table-clause-others g c = λ plans cs name c_tells c_on c_calm c_stand c_named well.
     let o = g.B.Flash.state c.args.onto.now in
     let n = g.B.Flash.state c.mount-2.new.flash in
-    let c_here : slice_get c.mount-2.new.self.entries.items c.args.at ≡ Some c.index_mut.result.now =
-    item-there c.mount-2.new.self.entries.items (length c.mount-2.new.self.entries.items) c.args.at c.index_mut.result.now refl (omega (arith, c.requires.at, c.requires.as_many, c.mount-2.ensures.as_many)) c.index_mut.ensures.value in
+    let c_here = entry-at c.mount-2.new.self.entries.items c.args.at c.index_mut.result.now (subst (λ (n : ℕ). c.args.at < n) (sym (c.mount-2.ensures.as_many ∙ c.requires.as_many)) c.requires.at) c.index_mut.ensures.value in
     let c_mounted = c.in_default-mount.ensures.ends plans cs (has_risen o n) at_rest (watched o n at_rest c_tells c_on c_calm) c_stand in
     others-repaired plans cs _ name o n (g.B.Flash.state c.ship_table.new.onto) c.args.copies.now.entries.items c.mount-2.new.self.entries.items c.args.at c.index_mut.result.now c_stand c_named c_mounted.stand c_here
     (c.ship_table.ensures.outside (subst IsTrue (sym c.mount-2.ensures.goes.tells) c_tells)) (c.in_default-mount.ensures.repaired c_tells plans cs c_stand (inr (has_risen o n, at_rest, watched o n at_rest c_tells c_on c_calm)))
@@ -319,8 +306,7 @@ returns-in-Err-ship_table-clause-copy_stands g c = λ plans cs name c_tells c_on
     let n = g.B.Flash.state c.mount-2.new.flash in
     let k = g.B.Flash.state c.ship_table.new.onto in
     let c_now = c.mount-2.new.self.entries.items in
-    let c_here : slice_get c.mount-2.new.self.entries.items c.args.at ≡ Some c.index_mut.result.now =
-    item-there c.mount-2.new.self.entries.items (length c.mount-2.new.self.entries.items) c.args.at c.index_mut.result.now refl (omega (arith, c.requires.at, c.requires.as_many, c.mount-2.ensures.as_many)) c.index_mut.ensures.value in
+    let c_here = entry-at c.mount-2.new.self.entries.items c.args.at c.index_mut.result.now (subst (λ (n : ℕ). c.args.at < n) (sym (c.mount-2.ensures.as_many ∙ c.requires.as_many)) c.requires.at) c.index_mut.ensures.value in
     let told_n : IsTrue n.media.tells = subst IsTrue (sym c.mount-2.ensures.goes.tells) c_tells in
     let c_mounted = c.in_default-mount.ensures.ends plans cs (has_risen o n) at_rest (watched o n at_rest c_tells c_on c_calm) c_stand in
     let to = own plans cs o n c_now c.args.at c.index_mut.result.now told_n c_here c_mounted in
@@ -345,8 +331,7 @@ returns-in-Err-ship_table-clause-good g c = λ plans ts name table tells on calm
     let f = g.A.Flash.state c.args.from.now in
     let m = g.A.Flash.state c.mount.new.flash in
     let now = c.mount.new.self.entries.items in
-    let here : slice_get c.mount.new.self.entries.items c.args.at ≡ Some c.index.result.now =
-    item-there c.mount.new.self.entries.items (length c.mount.new.self.entries.items) c.args.at c.index.result.now refl (omega (arith, c.requires.at, c.mount.ensures.as_many)) c.index.ensures in
+    let here = entry-at c.mount.new.self.entries.items c.args.at c.index.result.now (subst (λ (n : ℕ). c.args.at < n) (sym c.mount.ensures.as_many) c.requires.at) c.index.ensures in
     let told_m : IsTrue m.media.tells = subst IsTrue (sym c.mount.ensures.goes.tells) tells in
     let mounted = c.in_default.ensures.ends plans ts (has_risen f m) at_rest (watched f m at_rest tells on calm) stand in
     let from = own plans ts f m now c.args.at c.index.result.now told_m here mounted in
@@ -393,9 +378,8 @@ returns-in-Ok-clause-over g c =
     let d = c.mount-2.ensures in
     let c_mounts : MountsOver c.args.copies.now.entries.items c.mount-2.new.self.entries.items (g.B.Flash.state c.args.onto.now) c.mount-2.result (g.B.Flash.state c.mount-2.new.flash) =
     record { found = d.found; refused = d.refused; stops = d.stops; cause = d.cause; running = d.running; none = d.none; power = d.power; as_many = d.as_many; names = d.names; same = d.same; repairs = d.repairs; outside = d.outside } in
-    let c_here : slice_get c.mount-2.new.self.entries.items c.args.at ≡ Some c.index_mut.result.now =
-    item-there c.mount-2.new.self.entries.items (length c.mount-2.new.self.entries.items) c.args.at c.index_mut.result.now refl (omega (arith, c.requires.at, c.requires.as_many, c.mount-2.ensures.as_many)) c.index_mut.ensures.value in
-    let within : c.args.at < length c.args.copies.now.entries.items = omega (arith, c.requires.at, c.requires.as_many) in
+    let c_here = entry-at c.mount-2.new.self.entries.items c.args.at c.index_mut.result.now (subst (λ (n : ℕ). c.args.at < n) (sym (c.mount-2.ensures.as_many ∙ c.requires.as_many)) c.requires.at) c.index_mut.ensures.value in
+    let within = subst (λ (n : ℕ). c.args.at < n) (sym c.requires.as_many) c.requires.at in
     let changes = own-changes c.args.copies.now.entries.items c.mount-2.new.self.entries.items c.args.at c.index_mut.result.now (g.B.Flash.state c.mount-2.new.flash) (g.B.Flash.state c.ship_table.new.onto) d.same within c_here c.ship_table.ensures.outside in
     let tells = tells-shipped c.args.count c.args.at c.mount.new.self.entries.items (g.A.Flash.state c.mount.new.flash) c.mount-2.new.self.entries.items (g.B.Flash.state c.mount-2.new.flash) (g.B.Flash.state c.ship_table.new.onto)
     c.in-Ok.shipped _ _ _ _ c.told.result c.in-Ok.ensures.few c.told.ensures.tells in
@@ -410,11 +394,9 @@ returns-in-Err-ship_table-clause-over g c =
     let d = c.mount-2.ensures in
     let c_mounts : MountsOver c.args.copies.now.entries.items c.mount-2.new.self.entries.items (g.B.Flash.state c.args.onto.now) c.mount-2.result (g.B.Flash.state c.mount-2.new.flash) =
     record { found = d.found; refused = d.refused; stops = d.stops; cause = d.cause; running = d.running; none = d.none; power = d.power; as_many = d.as_many; names = d.names; same = d.same; repairs = d.repairs; outside = d.outside } in
-    let here : slice_get c.mount.new.self.entries.items c.args.at ≡ Some c.index.result.now =
-    item-there c.mount.new.self.entries.items (length c.mount.new.self.entries.items) c.args.at c.index.result.now refl (omega (arith, c.requires.at, c.mount.ensures.as_many)) c.index.ensures in
-    let c_here : slice_get c.mount-2.new.self.entries.items c.args.at ≡ Some c.index_mut.result.now =
-    item-there c.mount-2.new.self.entries.items (length c.mount-2.new.self.entries.items) c.args.at c.index_mut.result.now refl (omega (arith, c.requires.at, c.requires.as_many, c.mount-2.ensures.as_many)) c.index_mut.ensures.value in
-    let within : c.args.at < length c.args.copies.now.entries.items = omega (arith, c.requires.at, c.requires.as_many) in
+    let here = entry-at c.mount.new.self.entries.items c.args.at c.index.result.now (subst (λ (n : ℕ). c.args.at < n) (sym c.mount.ensures.as_many) c.requires.at) c.index.ensures in
+    let c_here = entry-at c.mount-2.new.self.entries.items c.args.at c.index_mut.result.now (subst (λ (n : ℕ). c.args.at < n) (sym (c.mount-2.ensures.as_many ∙ c.requires.as_many)) c.requires.at) c.index_mut.ensures.value in
+    let within = subst (λ (n : ℕ). c.args.at < n) (sym c.requires.as_many) c.requires.at in
     let changes = own-changes c.args.copies.now.entries.items c.mount-2.new.self.entries.items c.args.at c.index_mut.result.now (g.B.Flash.state c.mount-2.new.flash) (g.B.Flash.state c.ship_table.new.onto) d.same within c_here c.ship_table.ensures.outside in
     let tells = tells-stopped c.args.count c.args.at c.mount.new.self.entries.items (g.A.Flash.state c.mount.new.flash) c.mount-2.new.self.entries.items (g.B.Flash.state c.mount-2.new.flash) (g.B.Flash.state c.ship_table.new.onto) c.in-Err-ship_table.stop
     (λ bad is. bad-there c.mount.new.self.entries.items c.args.at c.index.result.now c.table-source.result.now (g.A.Flash.state c.mount.new.flash) bad here c.table-source.ensures (c.ship_table.ensures.bad_page bad (c.in-Err-ship_table.is ∙ ap (λ (s : Stop). Err s) is)))
@@ -424,3 +406,90 @@ returns-in-Err-ship_table-clause-over g c =
     rw c.stop_status.ensures
     (tables-shipped c.args.count c.args.at _ _ _ _ c.mount.result mounts c.args.copies.now.entries.items (g.B.Flash.state c.args.onto.now) tt c.in_default.is _ _ c.mount-2.result c_mounts _
     (g.A.Flash.state c.ship_table.new.from) (g.B.Flash.state c.ship_table.new.onto) tt c.in_default-mount.is d.goes c.ship_table.ensures.reads_only changes tells)
+
+-- ---- what is told
+
+pub returns-in-Err-clause-others : goal.returns-in-Err-clause-others
+returns-in-Err-clause-others g c = λ plans cs name tells on calm stand named well page other. inl (inl refl)
+
+pub returns-in-Err-clause-copy_stands : goal.returns-in-Err-clause-copy_stands
+returns-in-Err-clause-copy_stands g c = λ plans cs name tells on calm stand named. (cs, stand)
+
+pub returns-in-Err-clause-good_copy : goal.returns-in-Err-clause-good_copy
+returns-in-Err-clause-good_copy g c = λ plans cs name table tells on calm stand named is. sides-apart (mount-side Source Copy c.in-Err.bad.fault c.in-Err.bad.at table (sym c.mount_status.ensures ∙ is))
+
+pub returns-in-Err-clause-statuses : goal.returns-in-Err-clause-statuses
+returns-in-Err-clause-statuses g c = subst IsOfTables (sym c.mount_status.ensures) (mount-of-tables Source c.in-Err.bad.fault c.in-Err.bad.at)
+
+pub returns-in-Err-clause-write : goal.returns-in-Err-clause-write
+returns-in-Err-clause-write g c = λ is. absurd (mount-quiet Source c.in-Err.bad.fault c.in-Err.bad.at (sym c.mount_status.ensures ∙ is))
+
+pub returns-in-Err-clause-later : goal.returns-in-Err-clause-later
+returns-in-Err-clause-later g c = le_refl (g.K.Sink.faults c.args.out.now)
+
+pub returns-in-Err-mount-clause-good : goal.returns-in-Err-mount-clause-good
+returns-in-Err-mount-clause-good g c = λ plans ts name table tells on calm stand named is. sides-apart (sym (mount-side Copy Source c.in-Err-mount.bad.fault c.in-Err-mount.bad.at table (sym c.mount_status-in-Err-mount.ensures ∙ is)))
+
+pub returns-in-Err-mount-clause-statuses : goal.returns-in-Err-mount-clause-statuses
+returns-in-Err-mount-clause-statuses g c = subst IsOfTables (sym c.mount_status-in-Err-mount.ensures) (mount-of-tables Copy c.in-Err-mount.bad.fault c.in-Err-mount.bad.at)
+
+pub returns-in-Err-mount-clause-write : goal.returns-in-Err-mount-clause-write
+returns-in-Err-mount-clause-write g c = λ is. absurd (mount-quiet Copy c.in-Err-mount.bad.fault c.in-Err-mount.bad.at (sym c.mount_status-in-Err-mount.ensures ∙ is))
+
+pub returns-in-Err-mount-clause-later : goal.returns-in-Err-mount-clause-later
+returns-in-Err-mount-clause-later g c = le_refl (g.K.Sink.faults c.args.out.now)
+
+pub returns-in-Ok-clause-good : goal.returns-in-Ok-clause-good
+returns-in-Ok-clause-good g c = λ plans ts name table tells on calm stand named is. told-is _ _ _ _ _ c.told.result _ c.told.ensures.tells is
+
+pub returns-in-Ok-clause-good_copy : goal.returns-in-Ok-clause-good_copy
+returns-in-Ok-clause-good_copy g c = λ plans cs name table tells on calm stand named is. told-is _ _ _ _ _ c.told.result _ c.told.ensures.tells is
+
+pub returns-in-Ok-clause-statuses : goal.returns-in-Ok-clause-statuses
+returns-in-Ok-clause-statuses g c = told-of-tables _ _ _ _ _ c.told.result c.told.ensures.tells
+
+pub returns-in-Ok-clause-device : goal.returns-in-Ok-clause-device
+returns-in-Ok-clause-device g c = λ is. absurd (told-is _ _ _ _ _ c.told.result _ c.told.ensures.tells is)
+
+pub returns-in-Ok-clause-copy_device : goal.returns-in-Ok-clause-copy_device
+returns-in-Ok-clause-copy_device g c = λ is. absurd (told-is _ _ _ _ _ c.told.result _ c.told.ensures.tells is)
+
+pub returns-in-Ok-clause-write : goal.returns-in-Ok-clause-write
+returns-in-Ok-clause-write g c = λ is. (told-is _ _ _ _ _ c.told.result _ c.told.ensures.tells is).1
+
+pub returns-in-Ok-clause-bad : goal.returns-in-Ok-clause-bad
+returns-in-Ok-clause-bad g c = λ side table is. absurd (told-is _ _ _ _ _ c.told.result _ c.told.ensures.tells is)
+
+pub returns-in-Err-ship_table-clause-good_copy : goal.returns-in-Err-ship_table-clause-good_copy
+returns-in-Err-ship_table-clause-good_copy g c = λ plans cs name table tells on calm stand named is. sides-apart (stop-place Copy table c.in-Err-ship_table.stop c.args.at (sym c.stop_status.ensures ∙ is)).0
+
+pub returns-in-Err-ship_table-clause-statuses : goal.returns-in-Err-ship_table-clause-statuses
+returns-in-Err-ship_table-clause-statuses g c = subst IsOfTables (sym c.stop_status.ensures) (stop-of-tables c.in-Err-ship_table.stop c.args.at)
+
+pub returns-in-Err-ship_table-clause-write : goal.returns-in-Err-ship_table-clause-write
+returns-in-Err-ship_table-clause-write g c = λ is. absurd (stop-quiet c.in-Err-ship_table.stop c.args.at (sym c.stop_status.ensures ∙ is))
+
+pub returns-in-Err-ship_table-clause-bad : goal.returns-in-Err-ship_table-clause-bad
+returns-in-Err-ship_table-clause-bad g c = λ side table is.
+    subst (λ (n : ℕ). n < length c.args.sources.now.entries.items) (stop-place side table c.in-Err-ship_table.stop c.args.at (sym c.stop_status.ensures ∙ is)).1 c.requires.at
+
+pub returns-in-Err-ship_table-clause-later : goal.returns-in-Err-ship_table-clause-later
+returns-in-Err-ship_table-clause-later g c = le_refl (g.K.Sink.faults c.args.out.now)
+
+pub mount-requires-clause-lie : goal.mount-requires-clause-lie
+mount-requires-clause-lie g c = c.requires.lie
+
+pub mount-requires-clause-room : goal.mount-requires-clause-room
+mount-requires-clause-room g c = c.requires.rows
+
+pub mount-requires-2-clause-lie : goal.mount-requires-2-clause-lie
+mount-requires-2-clause-lie g c = c.requires.copies_lie
+
+pub mount-requires-2-clause-room : goal.mount-requires-2-clause-room
+mount-requires-2-clause-room g c = c.mount.ensures.room ∙ (c.requires.rows ∙ sym c.requires.pages)
+
+pub ship_table-requires-clause-rows : goal.ship_table-requires-clause-rows
+ship_table-requires-clause-rows g c = c.mount-2.ensures.room ∙ (c.mount.ensures.room ∙ (c.requires.rows ∙ sym (ap (λ (x : Geometry). x.page) c.mount.ensures.goes.geometry)))
+
+pub ship_table-requires-clause-index : goal.ship_table-requires-clause-index
+ship_table-requires-clause-index g c = c.requires.index ∙ sym (ap (λ (x : Geometry). x.page) c.mount.ensures.goes.geometry)

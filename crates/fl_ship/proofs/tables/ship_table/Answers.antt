@@ -1,20 +1,23 @@
-use Rattle.std.proofs.Common.{◌≡◌, true, Err, sym, ◌∙◌, ap, subst}
+use Rattle.std.proofs.Common.{◌≡◌, true, Err, refl, sym, ◌∙◌, ap, subst}
 use Rattle.std.specs.Option.{option_map}
 use Rattle.std.proofs.lemmas.Result.{err_from_is_err_and}
-use Rattle.fl_store.proofs.TablesOnlyRead.{is-standing, lies-read, stands-read, tells-read}
+use Rattle.fl_store.proofs.TablesOnlyRead.{is-standing, lies-read, page-read, stands-read, tells-read}
 use Rattle.fl_model.specs.Bare.{bare, bare_table}
 use Rattle.fl_model.specs.Ship.{records_in}
 use Rattle.fl_model.specs.Table.{Entry, last_entry, lose}
 use Rattle.fl_frame.specs.Contents.{Contents, contents_of}
 use Rattle.fl_page.specs.declared.fault.ReadFault.TheVariants as read
+use Rattle.fl_frame.proofs.CallsInTurn.{goes-same}
 use Rattle.fl_frame.proofs.ContentsInTurn.{OnlyReads-then}
 use Rattle.fl_rlc.specs.Table.{table_in}
 use Rattle.fl_table.specs.Look.{layout_in}
+use Rattle.fl_store.proofs.CallsInTurn.{same-plan}
 use Rattle.fl_store.proofs.TablesChanged.{off-rests}
 use Rattle.fl_ship.specs.declared.fault.ShipFault.{ShipFault}
 use Rattle.fl_ship.specs.declared.fault.ShipFault.TheVariants.{Read}
 use Rattle.fl_ship.specs.declared.stop.Stop.{Stop}
 use Rattle.fl_ship.specs.declared.stop.Stop.TheVariants as stop
+use Rattle.fl_ship.proofs.Faults.{done-not-failed, flush-caused, flush-good, look-caused, none-shipped, ship-no-gap}
 use Rattle.fl_ship.proofs.OneTable.{caused-later, flush-rests, leaves-gap, leaves-none, leaves-shipped, leaves-stopped, leaves-unflushed, look-good, same-fault, same-stop, source-plain, table-stands, wanted-are}
 use Rattle.fl_cursor.specs.Cursor.{MayBeBad}
 use Rattle.fl_table.specs.declared.table.Table.{Table}
@@ -131,3 +134,200 @@ returns-in_err-shipped-clause-bad_page g c = λ bad is.
     let same = same-fault c.in_err-shipped.field-0.0 (Read (read.BadPage bad)) (rw (p.1, p.2) at is) in
     subst (λ (k : Contents). MayBeBad c.args.source.now k bad) c.look_for_gap.ensures.reads_only.contents
     (subst (λ (t : Table 64 64). MayBeBad t (contents_of (g.A.Flash.state c.look_for_gap.new.from)) bad) c.begin-cursor.ensures.table (c.in_err-shipped.ensures.bad_page bad same))
+
+-- ---- there is a gap, or it wasn't seen
+
+pub returns-in_err-look_for_gap-clause-cause : goal.returns-in_err-look_for_gap-clause-cause
+returns-in_err-look_for_gap-clause-cause g c =
+    let p = err_from_is_err_and c.from_residual.result c.from_residual.ensures.1 in
+    rw (p.1, p.2) (look-caused (g.A.Flash.state c.args.from.now) (g.A.Flash.state c.look_for_gap.new.from) (g.B.Flash.state c.args.onto.now) c.in_err-look_for_gap.field-0.0 c.in_err-look_for_gap.ensures.cause)
+
+pub returns-in_err-look_for_gap-clause-gap_leaves : goal.returns-in_err-look_for_gap-clause-gap_leaves
+returns-in_err-look_for_gap-clause-gap_leaves g c = λ last oldest is. refl
+
+pub returns-in_err-look_for_gap-clause-few : goal.returns-in_err-look_for_gap-clause-few
+returns-in_err-look_for_gap-clause-few g c = let p = err_from_is_err_and c.from_residual.result c.from_residual.ensures.1 in rw p.1 tt
+
+pub returns-in_err-look_for_gap-clause-reads_only : goal.returns-in_err-look_for_gap-clause-reads_only
+returns-in_err-look_for_gap-clause-reads_only g c = c.look_for_gap.ensures.reads_only
+
+pub returns-in_err-look_for_gap-clause-goes : goal.returns-in_err-look_for_gap-clause-goes
+returns-in_err-look_for_gap-clause-goes g c = goes-same _
+
+pub returns-in_err-look_for_gap-clause-outside : goal.returns-in_err-look_for_gap-clause-outside
+returns-in_err-look_for_gap-clause-outside g c = λ tells page rows index blobs log. refl
+
+pub returns-in_err-look_for_gap-clause-same : goal.returns-in_err-look_for_gap-clause-same
+returns-in_err-look_for_gap-clause-same g c = same-plan c.args.copy.now
+
+pub returns-in_err-look_for_gap-clause-lies : goal.returns-in_err-look_for_gap-clause-lies
+returns-in_err-look_for_gap-clause-lies g c = c.requires.copy_lies
+
+-- ---- no key is left, and the flush failed
+
+pub returns-in_err-flush_copy-clause-none_bad : goal.returns-in_err-flush_copy-clause-none_bad
+returns-in_err-flush_copy-clause-none_bad g c = λ first plan s tells stands bad is.
+    let p = err_from_is_err_and c.from_residual-in_err-flush_copy.result c.from_residual-in_err-flush_copy.ensures.1 in
+    flush-good (g.A.Flash.state c.args.from.now) (g.A.Flash.state c.look_for_gap.new.from) (g.B.Flash.state c.args.onto.now) (g.B.Flash.state c.flush_copy.new.onto) c.in_err-flush_copy.field-0.0 c.in_err-flush_copy.ensures.cause bad (rw (p.1, p.2) at is)
+
+pub returns-in_err-flush_copy-clause-cause : goal.returns-in_err-flush_copy-clause-cause
+returns-in_err-flush_copy-clause-cause g c =
+    let p = err_from_is_err_and c.from_residual-in_err-flush_copy.result c.from_residual-in_err-flush_copy.ensures.1 in
+    rw (p.1, p.2) (flush-caused (g.A.Flash.state c.args.from.now) (g.A.Flash.state c.look_for_gap.new.from) (g.B.Flash.state c.args.onto.now) (g.B.Flash.state c.flush_copy.new.onto) c.in_err-flush_copy.field-0.0 c.in_err-flush_copy.ensures.cause)
+
+pub returns-in_err-flush_copy-clause-gap : goal.returns-in_err-flush_copy-clause-gap
+returns-in_err-flush_copy-clause-gap g c = λ last oldest is.
+    let p = err_from_is_err_and c.from_residual-in_err-flush_copy.result c.from_residual-in_err-flush_copy.ensures.1 in
+    absurd (ship-no-gap c.in_err-flush_copy.field-0.0 last oldest (rw (p.1, p.2) at is))
+
+pub returns-in_err-flush_copy-clause-gap_leaves : goal.returns-in_err-flush_copy-clause-gap_leaves
+returns-in_err-flush_copy-clause-gap_leaves g c = λ last oldest is.
+    let p = err_from_is_err_and c.from_residual-in_err-flush_copy.result c.from_residual-in_err-flush_copy.ensures.1 in
+    absurd (ship-no-gap c.in_err-flush_copy.field-0.0 last oldest (rw (p.1, p.2) at is))
+
+pub returns-in_err-flush_copy-clause-bad_page : goal.returns-in_err-flush_copy-clause-bad_page
+returns-in_err-flush_copy-clause-bad_page g c = λ bad is.
+    let p = err_from_is_err_and c.from_residual-in_err-flush_copy.result c.from_residual-in_err-flush_copy.ensures.1 in
+    absurd (flush-good (g.A.Flash.state c.args.from.now) (g.A.Flash.state c.look_for_gap.new.from) (g.B.Flash.state c.args.onto.now) (g.B.Flash.state c.flush_copy.new.onto) c.in_err-flush_copy.field-0.0 c.in_err-flush_copy.ensures.cause bad (rw (p.1, p.2) at is))
+
+pub returns-in_err-flush_copy-clause-few : goal.returns-in_err-flush_copy-clause-few
+returns-in_err-flush_copy-clause-few g c = let p = err_from_is_err_and c.from_residual-in_err-flush_copy.result c.from_residual-in_err-flush_copy.ensures.1 in rw p.1 tt
+
+pub returns-in_err-flush_copy-clause-reads_only : goal.returns-in_err-flush_copy-clause-reads_only
+returns-in_err-flush_copy-clause-reads_only g c = c.look_for_gap.ensures.reads_only
+
+pub returns-in_err-flush_copy-clause-goes : goal.returns-in_err-flush_copy-clause-goes
+returns-in_err-flush_copy-clause-goes g c = c.flush_copy.ensures.goes
+
+pub returns-in_err-flush_copy-clause-outside : goal.returns-in_err-flush_copy-clause-outside
+returns-in_err-flush_copy-clause-outside g c = c.flush_copy.ensures.outside
+
+pub returns-in_err-flush_copy-clause-same : goal.returns-in_err-flush_copy-clause-same
+returns-in_err-flush_copy-clause-same g c = c.flush_copy.ensures.same
+
+pub returns-in_err-flush_copy-clause-lies : goal.returns-in_err-flush_copy-clause-lies
+returns-in_err-flush_copy-clause-lies g c = c.flush_copy.ensures.lies
+
+-- ---- .. or it is flushed
+
+pub returns-in_default-clause-none_bad : goal.returns-in_default-clause-none_bad
+returns-in_default-clause-none_bad g c = λ first plan s tells stands bad is. done-not-failed 0 (stop.Ship (Read (read.BadPage bad))) is
+
+pub returns-in_default-clause-gap : goal.returns-in_default-clause-gap
+returns-in_default-clause-gap g c = λ last oldest is. absurd (done-not-failed 0 (stop.Gap last oldest) is)
+
+pub returns-in_default-clause-gap_leaves : goal.returns-in_default-clause-gap_leaves
+returns-in_default-clause-gap_leaves g c = λ last oldest is. absurd (done-not-failed 0 (stop.Gap last oldest) is)
+
+pub returns-in_default-clause-bad_page : goal.returns-in_default-clause-bad_page
+returns-in_default-clause-bad_page g c = λ bad is. absurd (done-not-failed 0 (stop.Ship (Read (read.BadPage bad))) is)
+
+pub returns-in_default-clause-few : goal.returns-in_default-clause-few
+returns-in_default-clause-few g c = none-shipped c.args.count
+
+pub returns-in_default-clause-reads_only : goal.returns-in_default-clause-reads_only
+returns-in_default-clause-reads_only g c = c.look_for_gap.ensures.reads_only
+
+pub returns-in_default-clause-goes : goal.returns-in_default-clause-goes
+returns-in_default-clause-goes g c = c.flush_copy.ensures.goes
+
+pub returns-in_default-clause-outside : goal.returns-in_default-clause-outside
+returns-in_default-clause-outside g c = c.flush_copy.ensures.outside
+
+pub returns-in_default-clause-same : goal.returns-in_default-clause-same
+returns-in_default-clause-same g c = c.flush_copy.ensures.same
+
+pub returns-in_default-clause-lies : goal.returns-in_default-clause-lies
+returns-in_default-clause-lies g c = c.flush_copy.ensures.lies
+
+-- ---- the rows weren't shipped
+
+pub returns-in_err-shipped-clause-gap : goal.returns-in_err-shipped-clause-gap
+returns-in_err-shipped-clause-gap g c = λ last oldest is.
+    let p = err_from_is_err_and c.from_residual-in_err-shipped.result c.from_residual-in_err-shipped.ensures.1 in
+    absurd (ship-no-gap c.in_err-shipped.field-0.0 last oldest (rw (p.1, p.2) at is))
+
+pub returns-in_err-shipped-clause-gap_leaves : goal.returns-in_err-shipped-clause-gap_leaves
+returns-in_err-shipped-clause-gap_leaves g c = λ last oldest is.
+    let p = err_from_is_err_and c.from_residual-in_err-shipped.result c.from_residual-in_err-shipped.ensures.1 in
+    absurd (ship-no-gap c.in_err-shipped.field-0.0 last oldest (rw (p.1, p.2) at is))
+
+pub returns-in_err-shipped-clause-few : goal.returns-in_err-shipped-clause-few
+returns-in_err-shipped-clause-few g c = let p = err_from_is_err_and c.from_residual-in_err-shipped.result c.from_residual-in_err-shipped.ensures.1 in rw p.1 tt
+
+pub returns-in_err-shipped-clause-goes : goal.returns-in_err-shipped-clause-goes
+returns-in_err-shipped-clause-goes g c = c.ship_rows-shipped.ensures.goes
+
+pub returns-in_err-shipped-clause-outside : goal.returns-in_err-shipped-clause-outside
+returns-in_err-shipped-clause-outside g c = c.ship_rows-shipped.ensures.outside
+
+pub returns-in_err-shipped-clause-same : goal.returns-in_err-shipped-clause-same
+returns-in_err-shipped-clause-same g c = c.ship_rows-shipped.ensures.same
+
+pub returns-in_err-shipped-clause-lies : goal.returns-in_err-shipped-clause-lies
+returns-in_err-shipped-clause-lies g c = c.ship_rows-shipped.ensures.lies
+
+-- ---- .. or they were
+
+pub returns-clause-none_bad : goal.returns-clause-none_bad
+returns-clause-none_bad g c = λ first plan s tells stands bad is. done-not-failed c.in_ok-shipped.field-0 (stop.Ship (Read (read.BadPage bad))) is
+
+pub returns-clause-gap : goal.returns-clause-gap
+returns-clause-gap g c = λ last oldest is. absurd (done-not-failed c.in_ok-shipped.field-0 (stop.Gap last oldest) is)
+
+pub returns-clause-gap_leaves : goal.returns-clause-gap_leaves
+returns-clause-gap_leaves g c = λ last oldest is. absurd (done-not-failed c.in_ok-shipped.field-0 (stop.Gap last oldest) is)
+
+pub returns-clause-bad_page : goal.returns-clause-bad_page
+returns-clause-bad_page g c = λ bad is. absurd (done-not-failed c.in_ok-shipped.field-0 (stop.Ship (Read (read.BadPage bad))) is)
+
+pub returns-clause-few : goal.returns-clause-few
+returns-clause-few g c = c.in_ok-shipped.ensures.few
+
+pub returns-clause-goes : goal.returns-clause-goes
+returns-clause-goes g c = c.ship_rows-shipped.ensures.goes
+
+pub returns-clause-outside : goal.returns-clause-outside
+returns-clause-outside g c = c.ship_rows-shipped.ensures.outside
+
+pub returns-clause-same : goal.returns-clause-same
+returns-clause-same g c = c.ship_rows-shipped.ensures.same
+
+pub returns-clause-lies : goal.returns-clause-lies
+returns-clause-lies g c = c.ship_rows-shipped.ensures.lies
+
+-- ---- what the calls ask for
+
+pub look_for_gap-requires-clause-running : goal.look_for_gap-requires-clause-running
+look_for_gap-requires-clause-running g c = c.requires.running
+
+pub look_for_gap-requires-clause-lies : goal.look_for_gap-requires-clause-lies
+look_for_gap-requires-clause-lies g c = c.requires.lies
+
+pub look_for_gap-requires-clause-rows : goal.look_for_gap-requires-clause-rows
+look_for_gap-requires-clause-rows g c = c.requires.rows
+
+pub look_for_gap-requires-clause-index : goal.look_for_gap-requires-clause-index
+look_for_gap-requires-clause-index g c = c.requires.index
+
+pub flush_copy-requires-clause-running : goal.flush_copy-requires-clause-running
+flush_copy-requires-clause-running g c = c.requires.copy_running
+
+pub flush_copy-requires-clause-lies : goal.flush_copy-requires-clause-lies
+flush_copy-requires-clause-lies g c = c.requires.copy_lies
+
+pub ship_rows-shipped-requires-clause-ready : goal.ship_rows-shipped-requires-clause-ready
+ship_rows-shipped-requires-clause-ready g c =
+    c.begin-cursor.ensures.ready (g.A.Flash.state c.look_for_gap.new.from) (lies-read (g.A.Flash.state c.args.from.now) (g.A.Flash.state c.look_for_gap.new.from) c.look_for_gap.ensures.reads_only c.args.source.now c.requires.lies) (c.look_for_gap.ensures.rows ∙ (c.requires.rows ∙ sym (page-read (g.A.Flash.state c.args.from.now) (g.A.Flash.state c.look_for_gap.new.from) c.look_for_gap.ensures.reads_only))) (c.look_for_gap.ensures.index ∙ (c.requires.index ∙ sym (page-read (g.A.Flash.state c.args.from.now) (g.A.Flash.state c.look_for_gap.new.from) c.look_for_gap.ensures.reads_only)))
+
+pub ship_rows-shipped-requires-clause-form : goal.ship_rows-shipped-requires-clause-form
+ship_rows-shipped-requires-clause-form g c = ap (λ (t : Table 64 64). layout_in t) c.begin-cursor.ensures.table ∙ c.requires.form
+
+pub ship_rows-shipped-requires-clause-no_blobs : goal.ship_rows-shipped-requires-clause-no_blobs
+ship_rows-shipped-requires-clause-no_blobs g c = c.requires.no_blobs
+
+pub ship_rows-shipped-requires-clause-running : goal.ship_rows-shipped-requires-clause-running
+ship_rows-shipped-requires-clause-running g c = c.requires.copy_running
+
+pub ship_rows-shipped-requires-clause-lies : goal.ship_rows-shipped-requires-clause-lies
+ship_rows-shipped-requires-clause-lies g c = c.requires.copy_lies
