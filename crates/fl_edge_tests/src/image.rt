@@ -1,6 +1,7 @@
 // The image of a job, against files of the system.
 mod sealed;
 
+use crate::asserts::{same, same_at};
 use crate::media::{Step, answered_over};
 use fl_edge::{Access, FileMedia, ImageInUse};
 use fl_flash::{MediaFailed, PairFailed};
@@ -40,7 +41,7 @@ fn a_file_keeps_what_was_written(rt: HostRuntime) -> Result<(), Fail> {
         answered_over(&rt, name, Access::Make, &MADE),
         answered_over(&rt, name, Access::Write, &KEPT),
     ];
-    assert_eq!(rt; answered, [Ok(MADE.len()), Ok(KEPT.len())]);
+    same(&rt, &answered, &[Ok(MADE.len()), Ok(KEPT.len())]);
     fs::remove_file(&rt, name)?;
     Ok(())
 }
@@ -70,9 +71,13 @@ fn is_missing(rt: &HostRuntime, name: &str) -> io::Result<bool> {
 #[test]
 fn a_file_is_made_where_it_may_be(rt: HostRuntime) -> Result<(), Fail> {
     let name = "fl_edge_test.missing";
-    assert!(rt; is_missing(&rt, name)?);
-    assert!(rt; is_free(&rt, name, Access::Make));
-    assert!(rt; had(&rt, name, &[])?);
+    let missing = is_missing(&rt, name)?;
+    let made = is_free(&rt, name, Access::Make);
+    same(
+        &rt,
+        &(missing, made, had(&rt, name, &[])?),
+        &(true, true, true),
+    );
     Ok(())
 }
 
@@ -89,7 +94,7 @@ fn is_no_image(rt: &HostRuntime, name: &str) -> bool {
 #[test]
 fn what_is_no_file_is_no_image(rt: HostRuntime) {
     for name in ["/dev/null", "/dev/zero", ".", "no such folder/image"] {
-        assert!(rt; is_no_image(&rt, name), "{name}");
+        same_at(&rt, &is_no_image(&rt, name), &true, &name);
     }
 }
 
@@ -111,9 +116,9 @@ fn a_file_that_is_in_use_is_left_alone(rt: HostRuntime) -> Result<(), Fail> {
     let name = "fl_edge_test.lock";
     fs::write(&rt, name, [1, 2, 3].as_slice())?;
     for held in ALL {
-        assert_eq!(rt; is_shared_to_read(&rt, name, held), Ok(true), "{held:?}");
+        same_at(&rt, &is_shared_to_read(&rt, name, held), &Ok(true), &held);
     }
-    assert!(rt; had(&rt, name, &[1, 2, 3])?);
+    same(&rt, &had(&rt, name, &[1, 2, 3])?, &true);
     Ok(())
 }
 
@@ -137,12 +142,17 @@ fn what_cannot_be_written_is_read_to_repair(rt: HostRuntime) -> Result<(), Fail>
     fs::write(&rt, name, [1, 2, 3, 4, 5].as_slice())?;
     let sealed = Sealed(&rt);
     for access in [Access::Repair, Access::Read] {
-        assert_eq!(rt; is_only_read(&sealed, name, access), Ok(true), "{access:?}");
+        same_at(
+            &rt,
+            &is_only_read(&sealed, name, access),
+            &Ok(true),
+            &access,
+        );
     }
     for access in [Access::Make, Access::Write] {
-        assert!(rt; has_no_file(&sealed, name, access), "{access:?}");
+        same_at(&rt, &has_no_file(&sealed, name, access), &true, &access);
     }
-    assert!(rt; had(&rt, name, &[1, 2, 3, 4, 5])?);
+    same(&rt, &had(&rt, name, &[1, 2, 3, 4, 5])?, &true);
     Ok(())
 }
 
@@ -177,10 +187,8 @@ const AHEAD: [Step<'static>; 23] = [
 fn what_was_read_ahead_is_read_as_it_was_written_since(rt: HostRuntime) -> Result<(), Fail> {
     let name = "fl_edge_test.ahead";
     fs::write(&rt, name, [7; 100].as_slice())?;
-    assert_eq!(rt;
-        answered_over(&rt, name, Access::Write, &AHEAD),
-        Ok(AHEAD.len())
-    );
+    let answered = answered_over(&rt, name, Access::Write, &AHEAD);
+    same(&rt, &answered, &Ok(AHEAD.len()));
     fs::remove_file(&rt, name)?;
     Ok(())
 }

@@ -1,6 +1,7 @@
 // A file as a medium: pairs of writes, and reads ahead, against stand-ins.
 mod stand_in;
 
+use crate::asserts::{same, same_at};
 use fl_edge::{Access, FileMedia, ImageFile, ImageInUse};
 use fl_flash::{Media, MediaFailed, PairFailed};
 use stand_in::{Manner, StandIns};
@@ -76,18 +77,20 @@ fn pair_ends(rt: &HostRuntime, name: &str, end: u64, want: Result<(), PairFailed
     answered_over(&files, name, Access::Make, &steps) == Ok(2)
 }
 
+// The bytes behind which a file is full, and how the pair ends.
+const PAIRS: &[(u64, Result<(), PairFailed>)] = &[
+    (8, Ok(())),
+    (7, Err(PairFailed::Second)),
+    (4, Err(PairFailed::Second)),
+    (3, Err(PairFailed::First)),
+    (0, Err(PairFailed::First)),
+];
+
 #[test]
 fn a_pair_tells_which_of_its_writes_failed(rt: HostRuntime) -> Result<(), Fail> {
     let name = "fl_edge_test.full";
-    let cases = [
-        (8, Ok(())),
-        (7, Err(PairFailed::Second)),
-        (4, Err(PairFailed::Second)),
-        (3, Err(PairFailed::First)),
-        (0, Err(PairFailed::First)),
-    ];
-    for (end, want) in cases {
-        assert!(rt; pair_ends(&rt, name, end, want), "{end}");
+    for (end, want) in PAIRS {
+        same_at(&rt, &pair_ends(&rt, name, *end, *want), &true, end);
     }
     fs::remove_file(&rt, name)?;
     Ok(())
@@ -110,10 +113,8 @@ fn a_read_ahead_that_fails_is_no_fault(rt: HostRuntime) -> Result<(), Fail> {
         rt: &rt,
         manner: Manner::Short,
     };
-    assert_eq!(rt;
-        answered_over(&files, name, Access::Make, &SHORT),
-        Ok(SHORT.len())
-    );
+    let answered = answered_over(&files, name, Access::Make, &SHORT);
+    same(&rt, &answered, &Ok(SHORT.len()));
     fs::remove_file(&rt, name)?;
     Ok(())
 }

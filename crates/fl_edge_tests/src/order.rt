@@ -1,6 +1,7 @@
 // The order of reads and hand-outs, by a reader and a writer that note what they do in one log.
 ghost use Rattle.std.specs.Prelude.{◌≤◌};
 
+use crate::asserts::same;
 use fl_base::{NoMemory, Sink, SinkFailed, Source, SourceFailed};
 use fl_edge::{Prompted, ReplyBuffer, StandardInput, StandardOutput};
 use std::alloc::Global;
@@ -188,7 +189,11 @@ const TALK: [Step<'static>; 12] = [
 
 #[test]
 fn each_reply_is_out_before_the_next_read(rt: HostRuntime) {
-    assert_eq!(rt; answered_by(rt.alloc(), 3, 1, 100, &TALK), Ok(TALK.len()));
+    same(
+        &rt,
+        &answered_by(rt.alloc(), 3, 1, 100, &TALK),
+        &Ok(TALK.len()),
+    );
 }
 
 const PROMPTS: [Step<'static>; 4] = [
@@ -207,9 +212,10 @@ fn answered_at_a_prompt(alloc: Global, steps: &[Step<'_>]) -> Result<usize, NoMe
 
 #[test]
 fn a_prompt_stands_behind_the_replies(rt: HostRuntime) {
-    assert_eq!(rt;
-        answered_at_a_prompt(rt.alloc(), &PROMPTS),
-        Ok(PROMPTS.len())
+    same(
+        &rt,
+        &answered_at_a_prompt(rt.alloc(), &PROMPTS),
+        &Ok(PROMPTS.len()),
     );
 }
 
@@ -224,7 +230,11 @@ const UNREAD: [Step<'static>; 6] = [
 
 #[test]
 fn nothing_is_read_behind_a_failed_hand_out(rt: HostRuntime) {
-    assert_eq!(rt; answered_by(rt.alloc(), 3, 8, 3, &UNREAD), Ok(UNREAD.len()));
+    same(
+        &rt,
+        &answered_by(rt.alloc(), 3, 8, 3, &UNREAD),
+        &Ok(UNREAD.len()),
+    );
 }
 
 const FAILED: [Step<'static>; 4] = [
@@ -236,7 +246,11 @@ const FAILED: [Step<'static>; 4] = [
 
 #[test]
 fn a_failed_end_is_told(rt: HostRuntime) {
-    assert_eq!(rt; answered_by(rt.alloc(), 0, 8, 0, &FAILED), Ok(FAILED.len()));
+    same(
+        &rt,
+        &answered_by(rt.alloc(), 0, 8, 0, &FAILED),
+        &Ok(FAILED.len()),
+    );
 }
 
 #[test]
@@ -252,8 +266,9 @@ fn a_full_buffer_is_handed_out(rt: HostRuntime) {
         Step::Write(&[], Err(SinkFailed)),
         Step::Log(&all),
     ];
-    assert_eq!(rt;
-        answered_by(rt.alloc(), 0, 30_000, 50_000, &steps),
-        Ok(steps.len())
+    same(
+        &rt,
+        &answered_by(rt.alloc(), 0, 30_000, 50_000, &steps),
+        &Ok(steps.len()),
     );
 }

@@ -1,12 +1,11 @@
 // Runs of scripts in memory.
-use fl_base::{MemSink, MemSource};
+use fl_base::{MemSink, MemSource, NoMemory};
 use fl_flash::MemMedia;
 use fl_session::{Status, run};
 use std::alloc::Global;
-use std::test::Fail;
 
 /// The words of a command line that runs a script.
-fn words(alloc: Global) -> Result<Vec<String>, Fail> {
+fn words(alloc: Global) -> Result<Vec<String>, NoMemory> {
     let mut words = Vec::new(alloc);
     words.push(String::from_str(alloc, "run")?)?;
     words.push(String::from_str(alloc, "image")?)?;
@@ -31,7 +30,7 @@ pub(crate) fn run_source(
     media: &mut MemMedia,
     source: MemSource,
     sink: MemSink,
-) -> Result<(Status, MemSource, MemSink), Fail> {
+) -> Result<(Status, MemSource, MemSink), NoMemory> {
     Ok(run_words(alloc, &words(alloc)?, media, source, sink))
 }
 
@@ -40,7 +39,7 @@ pub(crate) fn run_script(
     alloc: Global,
     media: &mut MemMedia,
     script: Vec<u8>,
-) -> Result<(Status, MemSink), Fail> {
+) -> Result<(Status, MemSink), NoMemory> {
     let source = MemSource::new(script, Vec::new(alloc));
     let sink = MemSink::new(alloc, 10_000, Vec::new(alloc))?;
     let (status, _, sink) = run_source(alloc, media, source, sink)?;
@@ -53,7 +52,7 @@ pub(crate) fn is_done(
     media: &mut MemMedia,
     script: Vec<u8>,
     wanted: &[u8],
-) -> Result<bool, Fail> {
+) -> Result<bool, NoMemory> {
     let (status, sink) = run_script(alloc, media, script)?;
     Ok(matches!(status, Status::Done { .. }) && sink.bytes() == wanted)
 }

@@ -3,10 +3,10 @@
 mod plain_store;
 mod talk;
 
-use fl_base::CutKind;
+use crate::asserts::same_at;
+use fl_base::{CutKind, NoMemory};
 use plain_store::{Cut, PlainStore};
 use std::alloc::Global;
-use std::test::Fail;
 use talk::{Talk, is_answered};
 
 /// Puts a record; what comes after a cut is the mount, and the list of what is left.
@@ -16,7 +16,7 @@ fn put(
     store: &mut PlainStore,
     cut: &mut Cut,
     key: u64,
-) -> Result<(), Fail> {
+) -> Result<(), NoMemory> {
     let line = format!(in alloc; "put t {key} 0")?;
     let stays_on = store.put(key, cut)?;
     talk.add_outcome(line.as_str(), stays_on)?;
@@ -31,7 +31,7 @@ fn flush(
     talk: &mut Talk,
     store: &mut PlainStore,
     cut: &mut Cut,
-) -> Result<(), Fail> {
+) -> Result<(), NoMemory> {
     let stays_on = store.flush(cut)?;
     talk.add_outcome("flush t", stays_on)?;
     if !stays_on {
@@ -46,7 +46,7 @@ fn put_all(
     talk: &mut Talk,
     store: &mut PlainStore,
     cut: &mut Cut,
-) -> Result<(), Fail> {
+) -> Result<(), NoMemory> {
     for key in 1..25 {
         put(alloc, talk, store, cut, key)?;
         if key % 5 == 0 {
@@ -57,7 +57,7 @@ fn put_all(
 }
 
 /// Whether these puts are answered right with a cut in them, and a mount behind them.
-fn is_right_with(alloc: Global, mut cut: Cut) -> Result<bool, Fail> {
+fn is_right_with(alloc: Global, mut cut: Cut) -> Result<bool, NoMemory> {
     let mut talk = Talk::new(alloc)?;
     let mut store = PlainStore::new(alloc);
     talk.add_cut(alloc, &cut)?;
@@ -68,22 +68,26 @@ fn is_right_with(alloc: Global, mut cut: Cut) -> Result<bool, Fail> {
     is_answered(alloc, talk)
 }
 
-#[test]
-fn each_operation_is_cut_by_each_kind(rt: HostRuntime) -> Result<(), Fail> {
-    let alloc = rt.alloc();
-    let kinds = [
-        CutKind::Before,
-        CutKind::After,
-        CutKind::Half,
-        CutKind::Noise(1),
-    ];
-    for kind in kinds {
-        for left in 1..26 {
-            assert!(rt;
-                is_right_with(alloc, Cut { left, kind })?,
-                "{kind:?} {left}"
-            );
+/// The first operation whose cut of a kind isn't answered right.
+fn first_misanswered(alloc: Global, kind: CutKind) -> Result<Option<u64>, NoMemory> {
+    for left in 1..26 {
+        if !is_right_with(alloc, Cut { left, kind })? {
+            return Ok(Some(left));
         }
     }
-    Ok(())
+    Ok(None)
+}
+
+const KINDS: &[CutKind] = &[
+    CutKind::Before,
+    CutKind::After,
+    CutKind::Half,
+    CutKind::Noise(1),
+];
+
+#[test]
+fn each_operation_is_cut_by_each_kind(rt: HostRuntime) {
+    for kind in KINDS {
+        same_at(&rt, &first_misanswered(rt.alloc(), *kind), &Ok(None), kind);
+    }
 }

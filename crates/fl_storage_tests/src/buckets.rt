@@ -1,4 +1,5 @@
 // Values and spans in buckets, against numbers that were worked out by hand.
+use crate::asserts::same;
 use fl_base::Span;
 use fl_bitmap::Buckets;
 
@@ -45,7 +46,7 @@ fn values(rt: HostRuntime) {
         placed(low, &LOWS),
         placed(wide, &WIDES),
     ];
-    assert_eq!(rt; all, [TENS.len(), LOWS.len(), WIDES.len()]);
+    same(&rt, &all, &[TENS.len(), LOWS.len(), WIDES.len()]);
 }
 
 // Each span with its mask.
@@ -72,7 +73,7 @@ fn masked(spans: &[(i64, i64, u64)]) -> usize {
 
 #[test]
 fn spans(rt: HostRuntime) {
-    assert_eq!(rt; masked(&MASKS), MASKS.len());
+    same(&rt, &masked(&MASKS), &MASKS.len());
 }
 
 #[test]
@@ -81,5 +82,5 @@ fn pages(rt: HostRuntime) {
     for value in [-25i64, 13, 95] {
         bitmap = ten().add(bitmap, value);
     }
-    assert_eq!(rt; bitmap, 0b1000_0011);
+    same(&rt, &bitmap, &0b1000_0011);
 }

@@ -5,6 +5,7 @@ ghost use Rattle.fl_flash.specs.Flash.{FlashState};
 ghost use Rattle.fl_table.specs.Memory.{LiesOn};
 
 use crate::Table;
+use crate::asserts::same;
 use crate::media::blank_medium;
 use crate::stores::{Store, flush, mount, put, runs};
 use arrayvec::ArrayVec;
@@ -16,7 +17,6 @@ use fl_page::ReadFault;
 use fl_plan::{ConfigRefusal, TableConfig};
 use fl_schema::{ColumnType, KeyWidth};
 use std::alloc::Global;
-use std::test::Fail;
 
 const GEOMETRY: Geometry = Geometry {
     page: 128,
@@ -116,23 +116,15 @@ fn look_up_after(
 
 // Keys 3993 to 4000 stand in page 499. Without a change the row is found there; pages 500 and 499 are read for it.
 #[test]
-fn a_lookup_answers_what_its_pages_hold(rt: HostRuntime) -> Result<(), Fail> {
-    let seen = [
-        look_up_after(rt.alloc(), 499, 108, &[])?,
-        // The first key of page 500 is 0: it would be the page of key 4000.
-        look_up_after(rt.alloc(), 500, 16, &[0; 8])?,
-        // The value of the last row of page 499.
-        look_up_after(rt.alloc(), 499, 108, &[0; 4])?,
-    ];
-    assert_eq!(rt;
-        seen,
-        [
-            (true, Ok(Some(49901))),
-            (true, Ok(None)),
-            (true, Ok(Some(0)))
-        ]
-    );
-    Ok(())
+fn a_lookup_answers_what_its_pages_hold(rt: HostRuntime) {
+    let kept = look_up_after(rt.alloc(), 499, 108, &[]);
+    same(&rt, &kept, &Ok((true, Ok(Some(49901)))));
+    // The first key of page 500 is 0: it would be the page of key 4000.
+    let other = look_up_after(rt.alloc(), 500, 16, &[0; 8]);
+    same(&rt, &other, &Ok((true, Ok(None))));
+    // The value of the last row of page 499.
+    let zero = look_up_after(rt.alloc(), 499, 108, &[0; 4]);
+    same(&rt, &zero, &Ok((true, Ok(Some(0)))));
 }
 
 // Whether a cursor over all keys gives a row with a value from 500 to 599.
@@ -176,11 +168,11 @@ fn scan_after(alloc: Global, zeros: &[u8]) -> Result<(bool, Result<bool, ReadFau
 
 // Page 5 has the values in question, 501, and its bitmap is the sixth of the first index page.
 #[test]
-fn a_scan_answers_what_its_index_pages_hold(rt: HostRuntime) -> Result<(), Fail> {
-    let seen = [
-        scan_after(rt.alloc(), &[])?,
-        scan_after(rt.alloc(), &[0; 8])?,
-    ];
-    assert_eq!(rt; seen, [(true, Ok(true)), (true, Ok(false))]);
-    Ok(())
+fn a_scan_answers_what_its_index_pages_hold(rt: HostRuntime) {
+    same(&rt, &scan_after(rt.alloc(), &[]), &Ok((true, Ok(true))));
+    same(
+        &rt,
+        &scan_after(rt.alloc(), &[0; 8]),
+        &Ok((true, Ok(false))),
+    );
 }

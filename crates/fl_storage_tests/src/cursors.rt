@@ -9,6 +9,7 @@ ghost use Rattle.fl_table.specs.Memory.{LiesOn};
 mod indexed;
 
 use crate::Table;
+use crate::asserts::same;
 use crate::media::blank_medium;
 use crate::stores::{flush, mount, put, runs};
 use arrayvec::ArrayVec;
@@ -19,7 +20,6 @@ use fl_page::RowHere;
 use fl_plan::{ConfigRefusal, TableConfig};
 use fl_schema::{ColumnType, KeyWidth};
 use std::alloc::Global;
-use std::test::Fail;
 
 // A cursor over such a table.
 type Cursor<'table, 'rows, 'index> = fl_cursor::Cursor<'table, 'rows, 'index, 64, 64>;
@@ -216,82 +216,88 @@ fn run(alloc: Global, failing: u64, steps: &[(Step, Answer)]) -> Result<usize, C
     Ok(done)
 }
 
+const LATER: &[(Step, Answer)] = &[
+    (Open(0, 9), Answer::Refused),
+    (Mount, Done),
+    (Next, Answer::Refused),
+    (Put(10), Done),
+    (Put(21), Done),
+    (Put(32), Done),
+    (Put(43), Done),
+    (Open(15, 70), Done),
+    (Next, Row(21)),
+    (Put(54), Done),
+    (Flush, Done),
+    (Next, Row(32)),
+    (Put(65), Done),
+    (Flush, Done),
+    (Put(76), Done),
+    (Flush, Done),
+    // The fifth page takes the block of the first two with it.
+    (Put(87), Done),
+    (Flush, Done),
+    // The row 43 is gone, and the others came after the cursor.
+    (Next, End),
+    (Open(0, 100), Done),
+    (Next, Row(65)),
+    (Put(98), Done),
+    (Next, Row(76)),
+    (Flush, Done),
+    (Next, Row(87)),
+    (Next, End),
+    (Next, End),
+    (Spans(6, 8), Done),
+    (Next, Row(76)),
+    (Next, Row(87)),
+    (Next, Row(98)),
+    (Next, End),
+    (Open(88, 97), Done),
+    (Next, End),
+];
+
 #[test]
-fn rows_that_come_later_and_rows_that_are_given_up(rt: HostRuntime) -> Result<(), Fail> {
-    let steps = [
-        (Open(0, 9), Answer::Refused),
-        (Mount, Done),
-        (Next, Answer::Refused),
-        (Put(10), Done),
-        (Put(21), Done),
-        (Put(32), Done),
-        (Put(43), Done),
-        (Open(15, 70), Done),
-        (Next, Row(21)),
-        (Put(54), Done),
-        (Flush, Done),
-        (Next, Row(32)),
-        (Put(65), Done),
-        (Flush, Done),
-        (Put(76), Done),
-        (Flush, Done),
-        // The fifth page takes the block of the first two with it.
-        (Put(87), Done),
-        (Flush, Done),
-        // The row 43 is gone, and the others came after the cursor.
-        (Next, End),
-        (Open(0, 100), Done),
-        (Next, Row(65)),
-        (Put(98), Done),
-        (Next, Row(76)),
-        (Flush, Done),
-        (Next, Row(87)),
-        (Next, End),
-        (Next, End),
-        (Spans(6, 8), Done),
-        (Next, Row(76)),
-        (Next, Row(87)),
-        (Next, Row(98)),
-        (Next, End),
-        (Open(88, 97), Done),
-        (Next, End),
-    ];
-    assert_eq!(rt; run(rt.alloc(), u64::MAX, &steps)?, steps.len());
-    Ok(())
+fn rows_that_come_later_and_rows_that_are_given_up(rt: HostRuntime) {
+    same(&rt, &run(rt.alloc(), u64::MAX, LATER), &Ok(LATER.len()));
+}
+
+const FAILING: &[(Step, Answer)] = &[
+    (Mount, Done),
+    (Put(10), Done),
+    (Put(21), Done),
+    (Flush, Done),
+    (Put(32), Done),
+    (Flush, Done),
+    (Put(43), Done),
+    (Put(54), Done),
+    (Flush, Done),
+    (Put(65), Done),
+    (Open(0, 100), Done),
+    (Next, Row(10)),
+    (Next, Row(21)),
+    (Next, Row(32)),
+    (Next, Row(43)),
+    (Next, Row(54)),
+    (Next, Row(65)),
+    (Next, End),
+];
+
+// Whether all of these steps are answered as they are to be, whichever call on the medium fails behind the first ten, and the last call
+// is one of these.
+fn go_on(alloc: Global) -> Result<bool, ConfigRefusal> {
+    let mut is_last_behind = false;
+    for failing in 1..60 {
+        let done = run(alloc, failing, FAILING)?;
+        // Before the cursor is open the call may be one of the mount or of a flush.
+        is_last_behind = done > 10;
+        if is_last_behind && done != FAILING.len() {
+            return Ok(false);
+        }
+    }
+    Ok(is_last_behind)
 }
 
 // Whichever call on the medium fails while a cursor goes over three pages and a pending row, it goes on from its place.
 #[test]
-fn a_read_that_fails_keeps_the_place(rt: HostRuntime) -> Result<(), Fail> {
-    let steps = [
-        (Mount, Done),
-        (Put(10), Done),
-        (Put(21), Done),
-        (Flush, Done),
-        (Put(32), Done),
-        (Flush, Done),
-        (Put(43), Done),
-        (Put(54), Done),
-        (Flush, Done),
-        (Put(65), Done),
-        (Open(0, 100), Done),
-        (Next, Row(10)),
-        (Next, Row(21)),
-        (Next, Row(32)),
-        (Next, Row(43)),
-        (Next, Row(54)),
-        (Next, Row(65)),
-        (Next, End),
-    ];
-    let mut last = 0;
-    for failing in 1..60 {
-        let done = run(rt.alloc(), failing, &steps)?;
-        // Before the cursor is open the call may be one of the mount or of a flush.
-        if done > 10 {
-            assert_eq!(rt; done, steps.len(), "{failing}");
-            last = failing;
-        }
-    }
-    assert!(rt; last == 59);
-    Ok(())
+fn a_read_that_fails_keeps_the_place(rt: HostRuntime) {
+    same(&rt, &go_on(rt.alloc()), &Ok(true));
 }

@@ -1,9 +1,9 @@
 // The page of one row, byte by byte.
+use crate::asserts::same;
 use fl_base::NoMemory;
 use fl_page::{BadPage, PageView, PageWriter};
 use fl_schema::{ColumnType, KeyWidth, Schema};
 use std::alloc::Global;
-use std::test::Fail;
 
 const C1: [ColumnType; 1] = [ColumnType::I32];
 
@@ -59,16 +59,13 @@ fn make(alloc: Global) -> Result<Option<Made>, NoMemory> {
 
 // put 1 -5 and flush, on pages of 128 bytes.
 #[test]
-fn page_of_one_row(rt: HostRuntime) -> Result<(), Fail> {
+fn page_of_one_row(rt: HostRuntime) {
     let bad = BadPage {
         wanted: 7,
         found: 0,
         count: 1,
     };
     let seen = (1, 1, 1, -5, Some(bad));
-    assert_eq!(rt;
-        make(rt.alloc())?,
-        Some((120, true, true, Some(seen), true, 0))
-    );
-    Ok(())
+    let made = (120, true, true, Some(seen), true, 0);
+    same(&rt, &make(rt.alloc()), &Ok(Some(made)));
 }

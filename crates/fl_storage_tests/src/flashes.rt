@@ -1,10 +1,10 @@
 // What each kind of cut leaves, what the calls of a medium cost, and that memory is found.
 ghost use Rattle.std.specs.Prelude.{◌≡◌, IfOk, length};
 
+use crate::asserts::{same, same_at};
 use fl_base::{CutKind, Geometry, NoMemory};
 use fl_flash::{Flash, FlashFault, Media, MediaFailed, MemMedia, PageBuf, SimFlash};
 use std::alloc::Global;
-use std::test::Fail;
 
 const GEOMETRY: Geometry = Geometry { page: 64, block: 2 };
 
@@ -36,18 +36,23 @@ fn a_program_leaves(alloc: Global, kind: CutKind, left: &[u8]) -> Result<bool, N
     Ok((ends, found, page.bytes().len(), is_left) == ([Ok(()), LOST, LOST], Ok(()), 64, true))
 }
 
+const LEFT_OF_PROGRAMS: &[(CutKind, [u8; 6])] = &[
+    (CutKind::Before, [255, 255, 255, 255, 255, 255]),
+    (CutKind::After, [255, 240, 240, 240, 240, 255]),
+    (CutKind::Half, [255, 240, 240, 255, 255, 255]),
+    (CutKind::Noise(1), [255, 0x6c, 0x82, 0xa5, 0x62, 255]),
+];
+
 #[test]
-fn a_torn_program_leaves_what_its_kind_says(rt: HostRuntime) -> Result<(), Fail> {
-    let cases = [
-        (CutKind::Before, [255, 255, 255, 255, 255, 255]),
-        (CutKind::After, [255, 240, 240, 240, 240, 255]),
-        (CutKind::Half, [255, 240, 240, 255, 255, 255]),
-        (CutKind::Noise(1), [255, 0x6c, 0x82, 0xa5, 0x62, 255]),
-    ];
-    for (kind, left) in cases {
-        assert!(rt; a_program_leaves(rt.alloc(), kind, &left)?, "{kind:?}");
+fn a_torn_program_leaves_what_its_kind_says(rt: HostRuntime) {
+    for (kind, left) in LEFT_OF_PROGRAMS {
+        same_at(
+            &rt,
+            &a_program_leaves(rt.alloc(), *kind, left),
+            &Ok(true),
+            kind,
+        );
     }
-    Ok(())
 }
 
 // Whether an erase that is cut in this way finds the power lost, and reads with power find these bytes: the first one of the block's
@@ -66,21 +71,23 @@ fn an_erase_leaves(alloc: Global, kind: CutKind, first: u8, second: u8) -> Resul
     Ok((erased, above, below, is_first, is_second) == (LOST, Ok(()), Ok(()), true, true))
 }
 
+const LEFT_OF_ERASES: &[(CutKind, u8, u8)] = &[
+    (CutKind::Before, 7, 7),
+    (CutKind::After, 255, 255),
+    (CutKind::Half, 255, 7),
+    (CutKind::Noise(1), 0x6c, 0xa8),
+];
+
 #[test]
-fn a_torn_erase_leaves_what_its_kind_says(rt: HostRuntime) -> Result<(), Fail> {
-    let cases = [
-        (CutKind::Before, 7, 7),
-        (CutKind::After, 255, 255),
-        (CutKind::Half, 255, 7),
-        (CutKind::Noise(1), 0x6c, 0xa8),
-    ];
-    for (kind, first, second) in cases {
-        assert!(rt;
-            an_erase_leaves(rt.alloc(), kind, first, second)?,
-            "{kind:?}"
+fn a_torn_erase_leaves_what_its_kind_says(rt: HostRuntime) {
+    for (kind, first, second) in LEFT_OF_ERASES {
+        same_at(
+            &rt,
+            &an_erase_leaves(rt.alloc(), *kind, *first, *second),
+            &Ok(true),
+            kind,
         );
     }
-    Ok(())
 }
 
 // Whether seals of two pages take so many calls of a medium that holds this byte, and the first one leaves this byte where its page
@@ -111,19 +118,22 @@ fn seals_cost(
     Ok((ends, left, media.calls()) == ([Ok(()); 4], [true; 2], calls))
 }
 
+// What the medium holds, whether the pages' block is erased, what is left of the first program's bytes, and the calls of the medium:
+// two for each sealed page, one for the read of a page, and one for the erase. Where that isn't done, one reads the block, once where
+// its pages are blank, and else for each of them.
+const COSTS: &[(u8, bool, u8, u64)] = &[
+    (15, true, 249, 6),
+    (255, false, 249, 6),
+    (15, false, 9, 7),
+];
+
 #[test]
-fn a_sealed_page_costs_two_writes(rt: HostRuntime) -> Result<(), Fail> {
-    // What the medium holds, whether the pages' block is erased, what is left of the first program's bytes, and the calls
-    // of the medium: two for each sealed page, one for the read of a page, and one for the erase. Where that isn't done,
-    // one reads the block, once where its pages are blank, and else for each of them.
-    let cases = [(15, true, 249, 6), (255, false, 249, 6), (15, false, 9, 7)];
-    for (held, is_erased, first, calls) in cases {
-        assert!(rt;
-            seals_cost(rt.alloc(), held, is_erased, first, calls)?,
-            "{held} {is_erased}"
-        );
+fn a_sealed_page_costs_two_writes(rt: HostRuntime) {
+    for case in COSTS {
+        let (held, is_erased, first, calls) = *case;
+        let cost = seals_cost(rt.alloc(), held, is_erased, first, calls);
+        same_at(&rt, &cost, &Ok(true), case);
     }
-    Ok(())
 }
 
 // A pair of programs where this operation is cut: whether it is done only if that is none of the two, begins as many programs as it has
@@ -150,11 +160,10 @@ fn a_pair_leaves(alloc: Global, cut: u64, first: u8, second: u8) -> Result<bool,
 }
 
 #[test]
-fn a_pair_of_programs_is_two_operations(rt: HostRuntime) -> Result<(), Fail> {
-    for (cut, first, second) in [(1, 255, 255), (2, 1, 255), (3, 1, 0)] {
-        assert!(rt; a_pair_leaves(rt.alloc(), cut, first, second)?, "{cut}");
-    }
-    Ok(())
+fn a_pair_of_programs_is_two_operations(rt: HostRuntime) {
+    same(&rt, &a_pair_leaves(rt.alloc(), 1, 255, 255), &Ok(true));
+    same(&rt, &a_pair_leaves(rt.alloc(), 2, 1, 255), &Ok(true));
+    same(&rt, &a_pair_leaves(rt.alloc(), 3, 1, 0), &Ok(true));
 }
 
 // How an erase and a pair of programs end where this call of the medium fails, and how many programs were begun.
@@ -173,17 +182,16 @@ fn a_pair_over_a_failing(alloc: Global, call: u64) -> Result<Option<Pair>, NoMem
 }
 
 #[test]
-fn a_medium_that_fails_in_a_pair_is_told(rt: HostRuntime) -> Result<(), Fail> {
+fn a_medium_that_fails_in_a_pair_is_told(rt: HostRuntime) {
     // The call that fails, and the programs that were begun.
-    for (call, programs) in [(2, 1), (3, 2)] {
-        let wanted = (Ok(()), Err(FlashFault::Media), programs);
-        assert_eq!(rt;
-            a_pair_over_a_failing(rt.alloc(), call)?,
-            Some(wanted),
-            "{call}"
-        );
-    }
-    Ok(())
+    let first = (Ok(()), Err(FlashFault::Media), 1);
+    same(&rt, &a_pair_over_a_failing(rt.alloc(), 2), &Ok(Some(first)));
+    let second = (Ok(()), Err(FlashFault::Media), 2);
+    same(
+        &rt,
+        &a_pair_over_a_failing(rt.alloc(), 3),
+        &Ok(Some(second)),
+    );
 }
 
 // Whether a medium whose second call fails reads, fails to read, and refuses to write past its room.
@@ -202,7 +210,6 @@ fn a_medium_fails(alloc: Global) -> Result<bool, NoMemory> {
 }
 
 #[test]
-fn a_medium_fails_at_the_call_named_and_past_its_room(rt: HostRuntime) -> Result<(), Fail> {
-    assert!(rt; a_medium_fails(rt.alloc())?);
-    Ok(())
+fn a_medium_fails_at_the_call_named_and_past_its_room(rt: HostRuntime) {
+    same(&rt, &a_medium_fails(rt.alloc()), &Ok(true));
 }

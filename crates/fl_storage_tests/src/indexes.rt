@@ -2,6 +2,7 @@
 ghost use Rattle.std.specs.Prelude.{◌≡◌, true, length, OnOk};
 ghost use Rattle.fl_index.specs.Memory.{is_running, LiesOn};
 
+use crate::asserts::{same, same_at};
 use crate::media::blank_medium;
 use fl_base::{Geometry, NoMemory, RingPlace};
 use fl_flash::{Flash, FlashFault, PageBuf, SimFlash};
@@ -9,7 +10,6 @@ use fl_index::{BitmapIndex, Full};
 use fl_page::ReadFault;
 use fl_ring::RingFault;
 use std::alloc::Global;
-use std::test::Fail;
 
 // A page of 64 bytes holds five bitmaps of 64 bits.
 const GEOMETRY: Geometry = Geometry { page: 64, block: 2 };
@@ -89,31 +89,42 @@ fn see(alloc: Global, number: u32) -> Result<(Result<Found, RingFault>, PageBuf)
     Ok((found, buf))
 }
 
-#[test]
-fn bitmaps_are_looked_up(rt: HostRuntime) -> Result<(), Fail> {
-    // A mount of a blank ring of three blocks of two pages reads five pages.
-    let rows = [
-        (6, None, 5),
-        (7, Some(1), 6),
-        (11, Some(0x8000_0000_0000_0000), 6),
-        (12, Some(3), 5),
-        (13, None, 5),
-    ];
-    for (number, bitmap, reads) in rows {
-        let (found, _buf) = see(rt.alloc(), number)?;
-        assert_eq!(rt; found, Ok((Ok(bitmap), reads)), "{number}");
-    }
-    Ok(())
+// A mount of a blank ring of three blocks of two pages reads five pages.
+const LOOKUPS: &[(u32, Option<u64>, u64)] = &[
+    (6, None, 5),
+    (7, Some(1), 6),
+    (11, Some(0x8000_0000_0000_0000), 6),
+    (12, Some(3), 5),
+    (13, None, 5),
+];
+
+// What a lookup finds.
+fn find(alloc: Global, number: u32) -> Result<Result<Found, RingFault>, NoMemory> {
+    let (found, _buf) = see(alloc, number)?;
+    Ok(found)
 }
 
 #[test]
-fn a_page_of_bitmaps(rt: HostRuntime) -> Result<(), Fail> {
-    let (_found, buf) = see(rt.alloc(), 7)?;
-    let page = [
-        0, 0, 0, 0, 7, 0, 0, 0, 5, 0, 0, 0, 0, 0, 0, 0, 1, 0, 0, 0, 0, 0, 0, 0, 2, 0, 0, 0, 0, 0,
-        0, 0, 4, 0, 0, 0, 0, 0, 0, 0, 8, 0, 0, 0, 0, 0, 0, 0, 0, 0, 0, 0, 0, 0, 0, 128, 0, 0, 0, 0,
-        255, 255, 255, 255,
-    ];
-    assert_eq!(rt; buf.bytes(), &page[..]);
-    Ok(())
+fn bitmaps_are_looked_up(rt: HostRuntime) {
+    for (number, bitmap, reads) in LOOKUPS {
+        let found = find(rt.alloc(), *number);
+        same_at(&rt, &found, &Ok(Ok((Ok(*bitmap), *reads))), number);
+    }
+}
+
+const PAGE: [u8; 64] = [
+    0, 0, 0, 0, 7, 0, 0, 0, 5, 0, 0, 0, 0, 0, 0, 0, 1, 0, 0, 0, 0, 0, 0, 0, 2, 0, 0, 0, 0, 0, 0, 0,
+    4, 0, 0, 0, 0, 0, 0, 0, 8, 0, 0, 0, 0, 0, 0, 0, 0, 0, 0, 0, 0, 0, 0, 128, 0, 0, 0, 0, 255, 255,
+    255, 255,
+];
+
+// Whether the page that a lookup reads is this one.
+fn is_page(alloc: Global, page: &[u8]) -> Result<bool, NoMemory> {
+    let (_found, buf) = see(alloc, 7)?;
+    Ok(buf.bytes() == page)
+}
+
+#[test]
+fn a_page_of_bitmaps(rt: HostRuntime) {
+    same(&rt, &is_page(rt.alloc(), &PAGE), &Ok(true));
 }

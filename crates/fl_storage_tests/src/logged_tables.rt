@@ -5,6 +5,7 @@ ghost use Rattle.fl_rlc.specs.Table.{LiesOn};
 
 use crate::answers::Answer::{Found, Refused, Taken, Unmounted};
 use crate::answers::{Answer, of_mount, of_put};
+use crate::asserts::same;
 use crate::media::blank_medium;
 use arrayvec::ArrayVec;
 use fl_base::{CutKind, Geometry, RingPlace};
@@ -13,7 +14,6 @@ use fl_plan::{ConfigRefusal, TableConfig};
 use fl_schema::{ColumnType, KeyWidth};
 use fl_table::{MountFault, PutRefusal};
 use std::alloc::Global;
-use std::test::Fail;
 
 type LoggedTable = fl_rlc::LoggedTable<64, 64>;
 
@@ -155,38 +155,41 @@ fn run(
     Ok((wrong, programs))
 }
 
+const PUTS: Talk = &[
+    (Mount, Found(0, 0, 0)),
+    (Put(1), Taken),
+    (Put(2), Taken),
+    (Put(3), Taken),
+];
+
+// The power is lost: what is in memory is given up.
+const LOGGED: Talk = &[
+    (Mount, Found(0, 0, 0)),
+    (Put(1), Taken),
+    (Put(2), Taken),
+    (Put(3), Taken),
+    (Mount, Found(3, 1, 0)),
+];
+
+const ALONE: Talk = &[
+    (Mount, Found(0, 0, 0)),
+    (Put(1), Taken),
+    (Put(2), Taken),
+    (Put(3), Taken),
+    (Mount, Found(0, 0, 0)),
+];
+
 #[test]
-fn accepted_records_survive_where_there_is_a_log(rt: HostRuntime) -> Result<(), Fail> {
-    const PUTS: Talk = &[
-        (Mount, Found(0, 0, 0)),
-        (Put(1), Taken),
-        (Put(2), Taken),
-        (Put(3), Taken),
-    ];
-    // The power is lost: what is in memory is given up.
-    const LOGGED: Talk = &[
-        (Mount, Found(0, 0, 0)),
-        (Put(1), Taken),
-        (Put(2), Taken),
-        (Put(3), Taken),
-        (Mount, Found(3, 1, 0)),
-    ];
-    const ALONE: Talk = &[
-        (Mount, Found(0, 0, 0)),
-        (Put(1), Taken),
-        (Put(2), Taken),
-        (Put(3), Taken),
-        (Mount, Found(0, 0, 0)),
-    ];
-    let seen = [
-        run(rt.alloc(), Some(LOG), PUTS)?,
-        run(rt.alloc(), Some(LOG), LOGGED)?,
-        run(rt.alloc(), None, PUTS)?,
-        run(rt.alloc(), None, ALONE)?,
-    ];
+fn accepted_records_survive_where_there_is_a_log(rt: HostRuntime) {
     // Each put ends with a page and its mark, and the mount seals the rows as one.
-    assert_eq!(rt; seen, [(None, 6), (None, 8), (None, 0), (None, 0)]);
-    Ok(())
+    same(&rt, &run(rt.alloc(), Some(LOG), PUTS), &Ok((None, 6)));
+    same(&rt, &run(rt.alloc(), Some(LOG), LOGGED), &Ok((None, 8)));
+}
+
+#[test]
+fn accepted_records_are_lost_where_there_is_none(rt: HostRuntime) {
+    same(&rt, &run(rt.alloc(), None, PUTS), &Ok((None, 0)));
+    same(&rt, &run(rt.alloc(), None, ALONE), &Ok((None, 0)));
 }
 
 // A step whose n-th program or erase is cut; the power comes on again behind it.
@@ -236,13 +239,13 @@ fn cut_at(alloc: Global, n: u64, kind: CutKind, mounted: Answer) -> Result<[bool
 }
 
 #[test]
-fn a_cut_in_the_log_loses_at_most_the_last_record(rt: HostRuntime) -> Result<(), Fail> {
+fn a_cut_in_the_log_loses_at_most_the_last_record(rt: HostRuntime) {
     // The page of the fifth record wasn't programmed whole.
-    let torn = cut_at(rt.alloc(), 1, CutKind::Half, Found(4, 2, 0))?;
+    let torn = cut_at(rt.alloc(), 1, CutKind::Half, Found(4, 2, 0));
+    same(&rt, &torn, &Ok([true; 3]));
     // It was, and so was its mark.
-    let whole = cut_at(rt.alloc(), 2, CutKind::After, Found(5, 2, 0))?;
-    assert_eq!(rt; [torn, whole], [[true; 3]; 2]);
-    Ok(())
+    let whole = cut_at(rt.alloc(), 2, CutKind::After, Found(5, 2, 0));
+    same(&rt, &whole, &Ok([true; 3]));
 }
 
 // Two mounts, the first program or erase of each of which is cut: whether both answer so.
@@ -293,13 +296,12 @@ fn cut_mounts(alloc: Global) -> Result<[bool; 4], ConfigRefusal> {
 }
 
 #[test]
-fn a_record_of_the_log_survives_mounts_that_are_cut(rt: HostRuntime) -> Result<(), Fail> {
-    assert_eq!(rt; cut_mounts(rt.alloc())?, [true; 4]);
-    Ok(())
+fn a_record_of_the_log_survives_mounts_that_are_cut(rt: HostRuntime) {
+    same(&rt, &cut_mounts(rt.alloc()), &Ok([true; 4]));
 }
 
-// What a mount answers, and a put behind it, before which the power goes off.
-fn put_without_power(alloc: Global) -> Result<[Answer; 2], ConfigRefusal> {
+// Whether a mount is answered, and the power is lost for a put behind it, before which it goes off.
+fn put_without_power(alloc: Global) -> Result<bool, ConfigRefusal> {
     let mut media = blank_medium(alloc, 3072)?;
     let mut flash = SimFlash::new(alloc, &mut media, GEOMETRY, 6, 0)?;
     let mut store = Store::new(alloc, Some(LOG))?;
@@ -307,12 +309,10 @@ fn put_without_power(alloc: Global) -> Result<[Answer; 2], ConfigRefusal> {
     flash.power_off();
     let lost = store.put(&mut flash, 1);
     let _media = flash.into_media();
-    Ok([mounted, lost])
+    Ok([mounted, lost] == [Found(0, 0, 0), POWER_LOST])
 }
 
 #[test]
-fn with_the_power_off_no_record_is_accepted(rt: HostRuntime) -> Result<(), Fail> {
-    let seen = put_without_power(rt.alloc())?;
-    assert!(rt; seen == [Found(0, 0, 0), POWER_LOST]);
-    Ok(())
+fn with_the_power_off_no_record_is_accepted(rt: HostRuntime) {
+    same(&rt, &put_without_power(rt.alloc()), &Ok(true));
 }

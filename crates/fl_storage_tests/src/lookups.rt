@@ -1,6 +1,7 @@
 // Lookups in pages that are made by hand.
 ghost use Rattle.std.specs.Prelude.{◌≡◌, ◌≤◌, ◌<◌, length, vec_len, IfOk};
 
+use crate::asserts::same_at;
 use fl_base::{Geometry, NoMemory, RingPlace, Steps, put_u16, put_u32, put_u64};
 use fl_find::{KeyIndex, PageRow};
 use fl_flash::{Flash, MemMedia, PageBuf, SimFlash};
@@ -8,7 +9,6 @@ use fl_page::{BadPage, ReadFault};
 use fl_ring::Ring;
 use fl_schema::{ColumnType, KeyWidth, Schema};
 use std::alloc::Global;
-use std::test::Fail;
 
 const C1: [ColumnType; 1] = [ColumnType::I32];
 
@@ -67,11 +67,13 @@ type Found = (Result<Option<PageRow>, ReadFault>, u64);
 
 fn find(
     alloc: Global,
-    schema: &Schema<8>,
     index: &KeyIndex<2, 4>,
     seventh: u32,
     key: u64,
 ) -> Result<Option<Found>, NoMemory> {
+    let Some(schema) = schema() else {
+        return Ok(None);
+    };
     let mut media = MemMedia::new(alloc, image(alloc, seventh)?, 768)?;
     let mut buf = PageBuf::new(alloc, 64)?;
     let mut flash = SimFlash::new(alloc, &mut media, GEOMETRY, 3, 0)?;
@@ -79,38 +81,46 @@ fn find(
     if let Ok(ring) = Ring::mount(&mut flash, PLACE, 0, &mut buf) {
         let before = flash.work().reads;
         let mut steps = Steps::new();
-        let row = index.find(&ring, schema, &mut flash, &mut buf, key, &mut steps);
+        let row = index.find(&ring, &schema, &mut flash, &mut buf, key, &mut steps);
         found = Some((row, flash.work().reads.saturating_sub(before)));
     }
     let _media = flash.into_media();
     Ok(found)
 }
 
-fn at(number: u32, row: usize) -> Result<Option<PageRow>, ReadFault> {
-    Ok(Some(PageRow { number, row }))
+// A row of a page, where one is found.
+type Place = Option<(u32, usize)>;
+
+fn at(place: Place) -> Result<Option<PageRow>, ReadFault> {
+    Ok(place.map(|(number, row)| PageRow { number, row }))
+}
+
+// Keys, where their rows are found, and by how many reads.
+const COVERED: &[(u64, Place, u64)] = &[
+    (10, Some((0, 0)), 2),
+    (60, Some((1, 2)), 2),
+    (45, None, 2),
+    (150, Some((4, 2)), 2),
+    (165, None, 3),
+    (270, Some((8, 2)), 1),
+    (9999, None, 1),
+];
+
+// What is found by the points of the index, and how many reads that may take.
+fn find_covered(alloc: Global, key: u64) -> Result<(Option<Found>, u64), NoMemory> {
+    let index = index();
+    let found = find(alloc, &index, 7, key)?;
+    Ok((found, index.lookup_limit(key, 9, 1)))
 }
 
 // Two pages are read, the one before which the estimate may stand and the key's, and one for each void page between.
 // From the last point on the newest page is the only one.
 #[test]
-fn covered_keys(rt: HostRuntime) -> Result<(), Fail> {
-    let schema = schema().expect(&rt, "a schema");
-    let index = index();
-    let cases = [
-        (10, (at(0, 0), 2)),
-        (60, (at(1, 2), 2)),
-        (45, (Ok(None), 2)),
-        (150, (at(4, 2), 2)),
-        (165, (Ok(None), 3)),
-        (270, (at(8, 2), 1)),
-        (9999, (Ok(None), 1)),
-    ];
-    for (key, want) in cases {
-        let found = find(rt.alloc(), &schema, &index, 7, key)?;
-        let limit = index.lookup_limit(key, 9, 1);
-        assert!(rt; (found, limit) == (Some(want), 5), "{key}");
+fn covered_keys(rt: HostRuntime) {
+    for (key, place, reads) in COVERED {
+        let wanted = (Some((at(*place), *reads)), 5);
+        same_at(&rt, &find_covered(rt.alloc(), *key), &Ok(wanted), key);
     }
-    Ok(())
 }
 
 // Whether this is found by one read at least, and six at most.
@@ -121,41 +131,55 @@ fn is_found(found: Option<Found>, want: Result<Option<PageRow>, ReadFault>) -> b
     }
 }
 
-// By halves of nine pages, of which one is void: at most four reads, one more for it, and one for the page again.
-#[test]
-fn other_keys(rt: HostRuntime) -> Result<(), Fail> {
-    let schema = schema().expect(&rt, "a schema");
+// Whether it is found so without points, where that may take as many.
+fn is_found_by_halves(alloc: Global, key: u64, place: Place) -> Result<bool, NoMemory> {
     let index: KeyIndex<2, 4> = KeyIndex::new(1);
-    let cases = [
-        (5, Ok(None)),
-        (10, at(0, 0)),
-        (60, at(1, 2)),
-        (165, Ok(None)),
-        (270, at(8, 2)),
-    ];
-    for (key, want) in cases {
-        let found = find(rt.alloc(), &schema, &index, 7, key)?;
-        let limit = index.lookup_limit(key, 9, 1);
-        assert!(rt; limit == 6 && is_found(found, want), "{key}");
-    }
-    Ok(())
+    let found = find(alloc, &index, 7, key)?;
+    Ok(index.lookup_limit(key, 9, 1) == 6 && is_found(found, at(place)))
 }
 
-// Page 7 has the number 8: it is read for key 230, and for no key of the pages below it.
+const OTHERS: &[(u64, Place)] = &[
+    (5, None),
+    (10, Some((0, 0))),
+    (60, Some((1, 2))),
+    (165, None),
+    (270, Some((8, 2))),
+];
+
+// By halves of nine pages, of which one is void: at most four reads, one more for it, and one for the page again.
 #[test]
-fn bad_page(rt: HostRuntime) -> Result<(), Fail> {
-    let schema = schema().expect(&rt, "a schema");
-    let index = index();
-    let bad = BadPage {
-        wanted: 7,
-        found: 8,
-        count: 3,
-    };
-    let seen = [
-        find(rt.alloc(), &schema, &index, 8, 230)?,
-        find(rt.alloc(), &schema, &index, 8, 60)?,
-    ];
-    let unread = Err(ReadFault::BadPage(bad));
-    assert!(rt; seen == [Some((unread, 2)), Some((at(1, 2), 2))]);
-    Ok(())
+fn other_keys(rt: HostRuntime) {
+    for (key, place) in OTHERS {
+        same_at(
+            &rt,
+            &is_found_by_halves(rt.alloc(), *key, *place),
+            &Ok(true),
+            key,
+        );
+    }
+}
+
+const BAD: BadPage = BadPage {
+    wanted: 7,
+    found: 8,
+    count: 3,
+};
+
+// What is found where page 7 has the number 8.
+fn find_in_bad(alloc: Global, key: u64) -> Result<Option<Found>, NoMemory> {
+    find(alloc, &index(), 8, key)
+}
+
+// It is read for key 230, and for no key of the pages below it.
+#[test]
+fn bad_page(rt: HostRuntime) {
+    let unread = Err(ReadFault::BadPage(BAD));
+    same_at(
+        &rt,
+        &find_in_bad(rt.alloc(), 230),
+        &Ok(Some((unread, 2))),
+        &230,
+    );
+    let row = at(Some((1, 2)));
+    same_at(&rt, &find_in_bad(rt.alloc(), 60), &Ok(Some((row, 2))), &60);
 }

@@ -3,6 +3,7 @@ ghost use Rattle.std.specs.Prelude.{◌≤◌, length};
 
 mod page_rows;
 
+use crate::asserts::{same, same_at};
 use crate::flashes::medium;
 use fl_base::{Geometry, NoMemory, Op, put_u64};
 use fl_flash::{Flash, SimFlash};
@@ -11,7 +12,6 @@ use fl_page::{PageView, RowHere, Rows};
 use fl_schema::{ColumnType, KeyWidth, Schema};
 use page_rows::PageRows;
 use std::alloc::Global;
-use std::test::Fail;
 
 const GEOMETRY: Geometry = Geometry { page: 64, block: 2 };
 
@@ -156,38 +156,38 @@ fn gives(alloc: Global, operator: Operator) -> Result<bool, NoMemory> {
     })
 }
 
+// Whether each of the three rows passes.
+const SELECTS: &[(Op, [bool; 3])] = &[
+    (Op::Lt, [true, false, false]),
+    (Op::Le, [true, true, false]),
+    (Op::Eq, [false, true, false]),
+    (Op::Ne, [true, false, true]),
+    (Op::Ge, [false, true, true]),
+    (Op::Gt, [false, false, true]),
+];
+
 #[test]
-fn selects(rt: HostRuntime) -> Result<(), Fail> {
-    // Whether each of the three rows passes.
-    let cases = [
-        (Op::Lt, [true, false, false]),
-        (Op::Le, [true, true, false]),
-        (Op::Eq, [false, true, false]),
-        (Op::Ne, [true, false, true]),
-        (Op::Ge, [false, true, true]),
-        (Op::Gt, [false, false, true]),
-    ];
-    for (op, passes) in cases {
-        let operator = Operator::Select { op, passes };
-        assert!(rt; gives(rt.alloc(), operator)?, "{op:?}");
+fn selects(rt: HostRuntime) {
+    for (op, passes) in SELECTS {
+        let operator = Operator::Select {
+            op: *op,
+            passes: *passes,
+        };
+        same_at(&rt, &gives(rt.alloc(), operator), &Ok(true), op);
     }
-    Ok(())
 }
 
 #[test]
-fn projects(rt: HostRuntime) -> Result<(), Fail> {
-    assert!(rt; gives(rt.alloc(), Operator::Project)?);
-    Ok(())
+fn projects(rt: HostRuntime) {
+    same(&rt, &gives(rt.alloc(), Operator::Project), &Ok(true));
 }
 
 #[test]
-fn groups(rt: HostRuntime) -> Result<(), Fail> {
-    assert!(rt; gives(rt.alloc(), Operator::Aggregate)?);
-    Ok(())
+fn groups(rt: HostRuntime) {
+    same(&rt, &gives(rt.alloc(), Operator::Aggregate), &Ok(true));
 }
 
 #[test]
-fn joins(rt: HostRuntime) -> Result<(), Fail> {
-    assert!(rt; gives(rt.alloc(), Operator::Join)?);
-    Ok(())
+fn joins(rt: HostRuntime) {
+    same(&rt, &gives(rt.alloc(), Operator::Join), &Ok(true));
 }

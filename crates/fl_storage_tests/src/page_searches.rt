@@ -1,6 +1,7 @@
 // Searches for the page of a key among pages whose first keys stand in a list.
 mod listed;
 
+use crate::asserts::same;
 use fl_flash::FlashFault;
 use fl_page::ReadFault;
 use fl_search::{bisect, near};
@@ -62,7 +63,7 @@ fn none_is_found() -> bool {
 
 #[test]
 fn finds_pages(rt: HostRuntime) {
-    assert_eq!(rt; (found(&PAGES), none_is_found()), (PAGES.len(), true));
+    same(&rt, &(found(&PAGES), none_is_found()), &(PAGES.len(), true));
 }
 
 const FAULT: Result<Option<u32>, ReadFault> = Err(ReadFault::Flash(FlashFault::Media));
@@ -83,5 +84,5 @@ fn halves_end() -> bool {
 
 #[test]
 fn ends_at_a_fault(rt: HostRuntime) {
-    assert_eq!(rt; (near_ends(), halves_end()), (true, true));
+    same(&rt, &(near_ends(), halves_end()), &(true, true));
 }

@@ -1,6 +1,7 @@
 // The segments of keys by a radix table, over splines of several sizes.
 ghost use Rattle.std.specs.Prelude.{◌≤◌};
 
+use crate::asserts::same;
 use fl_base::Steps;
 use fl_radix::Radix;
 use fl_spline::Spline;
@@ -66,7 +67,7 @@ fn finds_segments(rt: HostRuntime) {
         finds_pages::<64, 5>(),
         finds_pages::<64, 64>(),
     ];
-    assert_eq!(rt; found, [true; 9]);
+    same(&rt, &found, &[true; 9]);
 }
 
 // The segment of a key, by a table before and after it follows the points, and the steps that these take.
@@ -91,5 +92,5 @@ fn is_found(key: u64, segment: usize, most: u64) -> bool {
 #[test]
 fn takes_few_steps(rt: HostRuntime) {
     let found = [is_found(11, 1, 4), is_found(5000, 3, 2)];
-    assert_eq!(rt; found, [true; 2]);
+    same(&rt, &found, &[true; 2]);
 }

@@ -3,11 +3,11 @@ ghost use Rattle.std.specs.Prelude.{◌≡◌, ◌+◌, length, vec_len, OnOk, I
 ghost use Rattle.fl_flash.specs.Flash.{FlashState, Stays};
 ghost use Rattle.fl_ring.specs.Place.{shape_of, LiesOn};
 
+use crate::asserts::{same, same_at};
 use fl_base::{CutKind, Geometry, NoMemory, RingPlace, put_u32};
 use fl_flash::{Flash, FlashFault, MemMedia, PageBuf, SimFlash};
 use fl_ring::{Ring, RingFault};
 use std::alloc::{AllocError, Global};
-use std::test::Fail;
 
 const PLACE: RingPlace = RingPlace {
     first_block: 1,
@@ -173,118 +173,118 @@ fn mounts(
     Ok(seen.1 == found && (seen.2, seen.3) == work)
 }
 
-#[test]
-fn images_made_by_hand(rt: HostRuntime) -> Result<(), Fail> {
-    let rows = [
-        ([Blank; 6], 0, (0, 0), (0, 0)),
-        (
-            [Sealed(0), Sealed(1), Sealed(2), Blank, Blank, Blank],
-            0,
-            (0, 3),
-            (0, 0),
-        ),
-        // A torn page is given up, and the numbers go on after it.
-        (
-            [Sealed(0), Sealed(1), Torn, Blank, Blank, Blank],
-            0,
-            (0, 3),
-            (1, 0),
-        ),
-        // The oldest block goes before it is written again, whatever it holds.
-        (
-            [Sealed(0), Sealed(1), Sealed(2), Sealed(3), Sealed(4), Blank],
-            0,
-            (2, 5),
-            (0, 1),
-        ),
-        (
-            [
-                Sealed(600),
-                Sealed(601),
-                Sealed(2),
-                Sealed(3),
-                Sealed(4),
-                Blank,
-            ],
-            0,
-            (2, 5),
-            (0, 1),
-        ),
-        (
-            [Torn, Void, Sealed(2), Sealed(3), Sealed(4), Blank],
-            0,
-            (2, 5),
-            (0, 1),
-        ),
-        (
-            [Sealed(0), Sealed(1), Sealed(2), Sealed(3), Torn, Blank],
-            0,
-            (2, 5),
-            (1, 1),
-        ),
-        (
-            [Sealed(6), Blank, Sealed(2), Sealed(3), Sealed(4), Sealed(5)],
-            0,
-            (4, 7),
-            (0, 1),
-        ),
-        // Where no page is committed, the numbers begin at the number given.
-        (
-            [Void, Blank, Blank, Blank, Blank, Blank],
-            10,
-            (12, 13),
-            (0, 0),
-        ),
-    ];
-    for (pages, at_least, found, work) in rows {
-        let holds = mounts(rt.alloc(), pages, at_least, Ok(found), work)?;
-        assert!(rt; holds, "{found:?} {work:?}");
-    }
-    Ok(())
-}
+const IMAGES: [([Page; 6], u32, (u32, u32), (u64, u64)); 9] = [
+    ([Blank; 6], 0, (0, 0), (0, 0)),
+    (
+        [Sealed(0), Sealed(1), Sealed(2), Blank, Blank, Blank],
+        0,
+        (0, 3),
+        (0, 0),
+    ),
+    // A torn page is given up, and the numbers go on after it.
+    (
+        [Sealed(0), Sealed(1), Torn, Blank, Blank, Blank],
+        0,
+        (0, 3),
+        (1, 0),
+    ),
+    // The oldest block goes before it is written again, whatever it holds.
+    (
+        [Sealed(0), Sealed(1), Sealed(2), Sealed(3), Sealed(4), Blank],
+        0,
+        (2, 5),
+        (0, 1),
+    ),
+    (
+        [
+            Sealed(600),
+            Sealed(601),
+            Sealed(2),
+            Sealed(3),
+            Sealed(4),
+            Blank,
+        ],
+        0,
+        (2, 5),
+        (0, 1),
+    ),
+    (
+        [Torn, Void, Sealed(2), Sealed(3), Sealed(4), Blank],
+        0,
+        (2, 5),
+        (0, 1),
+    ),
+    (
+        [Sealed(0), Sealed(1), Sealed(2), Sealed(3), Torn, Blank],
+        0,
+        (2, 5),
+        (1, 1),
+    ),
+    (
+        [Sealed(6), Blank, Sealed(2), Sealed(3), Sealed(4), Sealed(5)],
+        0,
+        (4, 7),
+        (0, 1),
+    ),
+    // Where no page is committed, the numbers begin at the number given.
+    (
+        [Void, Blank, Blank, Blank, Blank, Blank],
+        10,
+        (12, 13),
+        (0, 0),
+    ),
+];
 
 #[test]
-fn images_refused(rt: HostRuntime) -> Result<(), Fail> {
-    let rows = [
-        (
-            [Void, Blank, Blank, Blank, Blank, Blank],
-            4294967295,
-            RingFault::NoNumber {
-                at_least: 4294967295,
-            },
-        ),
-        (
-            [
-                Sealed(0),
-                Sealed(1),
-                Sealed(2),
-                Sealed(3),
-                Sealed(4),
-                Sealed(5),
-            ],
-            0,
-            RingFault::BadHead { heads: 0 },
-        ),
-        (
-            [Blank, Torn, Blank, Blank, Blank, Blank],
-            0,
-            RingFault::BadGap { page: 3 },
-        ),
-        (
-            [Sealed(7), Blank, Blank, Blank, Blank, Blank],
-            0,
-            RingFault::BadPage {
-                page: 2,
-                wanted: 0,
-                found: 7,
-            },
-        ),
-    ];
-    for (pages, at_least, fault) in rows {
-        let holds = mounts(rt.alloc(), pages, at_least, Err(fault), (0, 0))?;
-        assert!(rt; holds, "{fault:?}");
+fn images_made_by_hand(rt: HostRuntime) {
+    for (pages, at_least, found, work) in IMAGES {
+        let holds = mounts(rt.alloc(), pages, at_least, Ok(found), work);
+        same_at(&rt, &holds, &Ok(true), &(found, work));
     }
-    Ok(())
+}
+
+const REFUSED: [([Page; 6], u32, RingFault); 4] = [
+    (
+        [Void, Blank, Blank, Blank, Blank, Blank],
+        4294967295,
+        RingFault::NoNumber {
+            at_least: 4294967295,
+        },
+    ),
+    (
+        [
+            Sealed(0),
+            Sealed(1),
+            Sealed(2),
+            Sealed(3),
+            Sealed(4),
+            Sealed(5),
+        ],
+        0,
+        RingFault::BadHead { heads: 0 },
+    ),
+    (
+        [Blank, Torn, Blank, Blank, Blank, Blank],
+        0,
+        RingFault::BadGap { page: 3 },
+    ),
+    (
+        [Sealed(7), Blank, Blank, Blank, Blank, Blank],
+        0,
+        RingFault::BadPage {
+            page: 2,
+            wanted: 0,
+            found: 7,
+        },
+    ),
+];
+
+#[test]
+fn images_refused(rt: HostRuntime) {
+    for (pages, at_least, fault) in REFUSED {
+        let holds = mounts(rt.alloc(), pages, at_least, Err(fault), (0, 0));
+        same_at(&rt, &holds, &Ok(true), &fault);
+    }
 }
 
 // Thirteen seals on a new ring, which go round it twice, with a cut after so many operations. Whether the seals end
@@ -319,36 +319,41 @@ fn each_cut_leaves(
     cut_leaves(alloc, after, CutKind::Before, before)
 }
 
-#[test]
-fn a_cut_at_each_operation(rt: HostRuntime) -> Result<(), Fail> {
-    // For each page number: the operations before its seal, and those of the seal; the oldest number before and after.
-    let seals = [
-        (0u32, 0u32, 2u32, 0u32, 0u32),
-        (1, 2, 2, 0, 0),
-        (2, 4, 2, 0, 0),
-        (3, 6, 2, 0, 0),
-        (4, 8, 3, 0, 2),
-        (5, 11, 2, 2, 2),
-        (6, 13, 3, 2, 4),
-        (7, 16, 2, 4, 4),
-        (8, 18, 3, 4, 6),
-        (9, 21, 2, 6, 6),
-        (10, 23, 3, 6, 8),
-        (11, 26, 2, 8, 8),
-        (12, 28, 3, 8, 10),
-    ];
-    for (page, earlier, count, before, after) in seals {
-        // A page of which any byte was written is kept, with its records or void.
-        let found = (after, page.wrapping_add(1));
-        let holds = each_cut_leaves(rt.alloc(), earlier, (before, page), found)?;
-        assert!(rt; holds, "the first operation of page {page}");
-        for later in 1..count {
-            let operation = earlier.wrapping_add(later);
-            let holds = each_cut_leaves(rt.alloc(), operation, found, found)?;
-            assert!(rt; holds, "operation {operation}");
+// For each page number: the operations before its seal, and those of the seal; the oldest number before and after.
+const SEALS: &[(u32, u32, u32, u32, u32)] = &[
+    (0, 0, 2, 0, 0),
+    (1, 2, 2, 0, 0),
+    (2, 4, 2, 0, 0),
+    (3, 6, 2, 0, 0),
+    (4, 8, 3, 0, 2),
+    (5, 11, 2, 2, 2),
+    (6, 13, 3, 2, 4),
+    (7, 16, 2, 4, 4),
+    (8, 18, 3, 4, 6),
+    (9, 21, 2, 6, 6),
+    (10, 23, 3, 6, 8),
+    (11, 26, 2, 8, 8),
+    (12, 28, 3, 8, 10),
+];
+
+// Whether a mount finds what it has to, whichever operation of a seal is cut. A page of which any byte was written is kept, with its
+// records or void.
+fn is_cut(alloc: Global, seal: &(u32, u32, u32, u32, u32)) -> Result<bool, NoMemory> {
+    let (page, earlier, count, before, after) = *seal;
+    let found = (after, page.wrapping_add(1));
+    for later in 1..count {
+        if !each_cut_leaves(alloc, earlier.wrapping_add(later), found, found)? {
+            return Ok(false);
         }
     }
-    Ok(())
+    each_cut_leaves(alloc, earlier, (before, page), found)
+}
+
+#[test]
+fn a_cut_at_each_operation(rt: HostRuntime) {
+    for seal in SEALS {
+        same_at(&rt, &is_cut(rt.alloc(), seal), &Ok(true), &seal.0);
+    }
 }
 
 // Two committed pages of numbers that fit their places, and are greater than any that was given.
@@ -359,19 +364,19 @@ fn forged_block(alloc: Global) -> Result<Vec<u8>, AllocError> {
     Ok(bytes)
 }
 
-// Five seals, of which the last one tears its erase of the block ahead.
-#[test]
-fn a_forged_block_is_not_believed(rt: HostRuntime) -> Result<(), Fail> {
+// What is seen of five seals, of which the last one tears its erase of the block ahead.
+fn see_forged(alloc: Global) -> Result<Seen, NoMemory> {
+    let bytes = forged_block(alloc)?;
     let story = Story {
         at_least: 0,
         seals: 5,
-        accident: Accident::Torn {
-            after: 10,
-            bytes: forged_block(rt.alloc())?,
-        },
+        accident: Accident::Torn { after: 10, bytes },
     };
-    let seen = see(rt.alloc(), [Blank; 6], story)?;
+    see(alloc, [Blank; 6], story)
+}
+
+#[test]
+fn a_forged_block_is_not_believed(rt: HostRuntime) {
     let lost = Err(RingFault::Flash(FlashFault::PowerLost));
-    assert_eq!(rt; seen, (lost, Ok((2, 5)), 10, 2));
-    Ok(())
+    same(&rt, &see_forged(rt.alloc()), &Ok((lost, Ok((2, 5)), 10, 2)));
 }

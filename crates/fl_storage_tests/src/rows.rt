@@ -2,6 +2,7 @@
 ghost use Rattle.fl_model.specs.Row.{FitsRow};
 ghost use Rattle.fl_schema.specs.Form.{layout_with};
 
+use crate::asserts::same;
 use fl_base::BlobRef;
 use fl_schema::ColumnType::{I8, I16, I32, I64, U8, U16, U32};
 use fl_schema::{ColumnType, KeyWidth, RowRef, Schema};
@@ -49,7 +50,7 @@ fn rows_without_blobs(rt: HostRuntime) {
         I32 [-2147483648, 0, 2147483647], b"\xff\xff\xff\xff\0\0\0\x80\0\0\0\0\xff\xff\xff\x7f";
         I64 [-9223372036854775808, 0, 9223372036854775807], b"\xff\xff\xff\xff\0\0\0\0\0\0\0\x80\0\0\0\0\0\0\0\0\xff\xff\xff\xff\xff\xff\xff\x7f";
     );
-    assert_eq!(rt; encoded, [true; 7]);
+    same(&rt, &encoded, &[true; 7]);
 }
 
 #[test]
@@ -68,7 +69,7 @@ fn rows_with_references(rt: HostRuntime) {
         I32 [-2147483648, 0, 2147483647], b"\x02\x01\0\0\0\0\0\0\0\0\0\x80\0\0\0\0\xff\xff\xff\x7f\x02\0\0\0\x03\0\x04\0\0\0";
         I64 [-9223372036854775808, 0, 9223372036854775807], b"\x02\x01\0\0\0\0\0\0\0\0\0\0\0\0\0\x80\0\0\0\0\0\0\0\0\xff\xff\xff\xff\xff\xff\xff\x7f\x02\0\0\0\x03\0\x04\0\0\0";
     );
-    assert_eq!(rt; encoded, [true; 7]);
+    same(&rt, &encoded, &[true; 7]);
 }
 
 // 19 bytes of a sensor: none and the empty blob.
@@ -100,15 +101,12 @@ fn sensor_rows(rt: HostRuntime) {
             b"\x78\x56\x34\x12\x01\x02\xfe\xff\x07\0\0\0\0\0\0\0\0\0\0",
         ),
     ];
-    assert_eq!(rt; encoded, [true; 2]);
+    same(&rt, &encoded, &[true; 2]);
 }
 
 #[test]
 fn names(rt: HostRuntime) {
-    let types = (
-        ColumnType::from_name(b"i16"),
-        ColumnType::from_name(b"i128"),
-    );
-    assert_eq!(rt; types, (Some(I16), None));
-    assert_eq!(rt; I32.name(), "i32");
+    same(&rt, &ColumnType::from_name(b"i16"), &Some(I16));
+    same(&rt, &ColumnType::from_name(b"i128"), &None);
+    same(&rt, &I32.name(), &"i32");
 }

@@ -1,4 +1,5 @@
 // The knots that a spline keeps, and the pages that it estimates.
+use crate::asserts::same;
 use fl_spline::Spline;
 
 fn page_of(spline: &Spline<2>, key: u64) -> Option<u32> {
@@ -49,5 +50,5 @@ fn tell() -> (Option<u64>, Told, Option<usize>) {
 fn keeps_the_newest_knots(rt: HostRuntime) {
     let knots = [Some((20, 2)), Some((40, 6)), None];
     let wanted = (knots, Some(20), [None, Some(0)], [Some(5), Some(6)]);
-    assert_eq!(rt; tell(), (None, wanted, None));
+    same(&rt, &tell(), &(None, wanted, None));
 }

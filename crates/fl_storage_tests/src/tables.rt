@@ -12,6 +12,7 @@ use crate::answers::Answer;
 use crate::answers::Answer::{
     Flushed, Found, LookedUp, Refused, Stands, Taken, Unflushed, Unmounted,
 };
+use crate::asserts::{same, same_at};
 use crate::media::{blank, blank_medium};
 use crate::stores::Store;
 use arrayvec::ArrayVec;
@@ -23,7 +24,6 @@ use fl_ring::RingFault;
 use fl_schema::{ColumnType, KeyWidth};
 use fl_table::{FlushFault, MountFault, PutRefusal};
 use std::alloc::Global;
-use std::test::Fail;
 use steps::Step::{Flush, LookUp, Mount, Put, Stand};
 use steps::{ROW, Step, Talk, first_wrong};
 
@@ -75,7 +75,7 @@ fn run_blank(alloc: Global, steps: &[(Step, Answer)]) -> Result<Option<usize>, C
 }
 
 #[test]
-fn pending_rows_are_lost_and_flushed_ones_found(rt: HostRuntime) -> Result<(), Fail> {
+fn pending_rows_are_lost_and_flushed_ones_found(rt: HostRuntime) {
     const STEPS: Talk = &[
         (Put(1, ROW, None), Refused(PutRefusal::Stopped)),
         (Mount, Found(0, 0, 0)),
@@ -85,8 +85,7 @@ fn pending_rows_are_lost_and_flushed_ones_found(rt: HostRuntime) -> Result<(), F
         (Mount, Found(1, 1, 0)),
         (Put(1, ROW, None), Refused(PutRefusal::Key { last: 1 })),
     ];
-    assert_eq!(rt; run_blank(rt.alloc(), STEPS)?, None);
-    Ok(())
+    same(&rt, &run_blank(rt.alloc(), STEPS), &Ok(None));
 }
 
 const BEFORE_THE_CUT: Talk = &[
@@ -124,24 +123,30 @@ fn cut_at(
     Ok([before, within, later])
 }
 
-#[test]
-fn a_torn_page_is_given_up(rt: HostRuntime) -> Result<(), Fail> {
-    let cuts = [
-        // The mark wasn't programmed whole.
-        (CutKind::Half, Found(2, 2, 1), 2),
-        // The page was committed.
-        (CutKind::After, Found(3, 2, 0), 3),
+// .. where a mount behind the cut answers so, and the last key is this one
+fn cut_leaves(
+    alloc: Global,
+    kind: CutKind,
+    mounted: Answer,
+    last: u64,
+) -> Result<[Option<usize>; 3], ConfigRefusal> {
+    let after = [
+        (Mount, mounted),
+        (Put(last, ROW, None), Refused(PutRefusal::Key { last })),
+        (Mount, mounted),
+        (Stand, Stands(true, false)),
     ];
-    for (kind, mounted, last) in cuts {
-        let after = [
-            (Mount, mounted),
-            (Put(last, ROW, None), Refused(PutRefusal::Key { last })),
-            (Mount, mounted),
-            (Stand, Stands(true, false)),
-        ];
-        assert_eq!(rt; cut_at(rt.alloc(), kind, &after)?, [None; 3], "{last}");
-    }
-    Ok(())
+    cut_at(alloc, kind, &after)
+}
+
+#[test]
+fn a_torn_page_is_given_up(rt: HostRuntime) {
+    // The mark wasn't programmed whole.
+    let torn = cut_leaves(rt.alloc(), CutKind::Half, Found(2, 2, 1), 2);
+    same(&rt, &torn, &Ok([None; 3]));
+    // The page was committed.
+    let whole = cut_leaves(rt.alloc(), CutKind::After, Found(3, 2, 0), 3);
+    same(&rt, &whole, &Ok([None; 3]));
 }
 
 // The number of a page, the count of rows that it tells, and its first two keys.
@@ -196,7 +201,7 @@ const FALLS: MountFault = MountFault::BadKeys {
     first: 8,
 };
 
-const IMAGES: [(Page, Option<Page>, Answer); 5] = [
+const IMAGES: &[(Page, Option<Page>, Answer)] = &[
     ((0, 2, [5, 9]), Some((1, 1, [10, 0])), Found(3, 2, 0)),
     ((7, 2, [5, 9]), None, Unmounted(MountFault::Ring(APART))),
     (
@@ -212,18 +217,27 @@ const IMAGES: [(Page, Option<Page>, Answer); 5] = [
     ((0, 2, [5, 9]), Some((1, 2, [8, 4])), Unmounted(FALLS)),
 ];
 
-#[test]
-fn images_made_by_hand(rt: HostRuntime) -> Result<(), Fail> {
-    for (first, second, mounted) in IMAGES {
-        let bytes = image(rt.alloc(), first, second)?;
-        let wrong = run(rt.alloc(), bytes, &[(Mount, mounted)])?;
-        assert_eq!(rt; wrong, None, "{first:?}");
-    }
-    Ok(())
+// A mount of the ring with these pages, if it isn't answered so.
+fn run_image(
+    alloc: Global,
+    first: Page,
+    second: Option<Page>,
+    mounted: Answer,
+) -> Result<Option<usize>, ConfigRefusal> {
+    let bytes = image(alloc, first, second)?;
+    run(alloc, bytes, &[(Mount, mounted)])
 }
 
 #[test]
-fn records_are_refused(rt: HostRuntime) -> Result<(), Fail> {
+fn images_made_by_hand(rt: HostRuntime) {
+    for (first, second, mounted) in IMAGES {
+        let wrong = run_image(rt.alloc(), *first, *second, *mounted);
+        same_at(&rt, &wrong, &Ok(None), first);
+    }
+}
+
+#[test]
+fn records_are_refused(rt: HostRuntime) {
     const STEPS: Talk = &[
         (Mount, Found(0, 0, 0)),
         (
@@ -240,8 +254,7 @@ fn records_are_refused(rt: HostRuntime) -> Result<(), Fail> {
         ),
         (Put(1, &[2147483647], None), Taken),
     ];
-    assert_eq!(rt; run_blank(rt.alloc(), STEPS)?, None);
-    Ok(())
+    same(&rt, &run_blank(rt.alloc(), STEPS), &Ok(None));
 }
 
 // Two pages of two rows and one, a void page, and a page of one row.
@@ -255,8 +268,13 @@ fn pages_with_a_void_one(alloc: Global) -> Result<Vec<u8>, NoMemory>
     Ok(bytes)
 }
 
+// .. on the ring with the void page
+fn run_with_void(alloc: Global, steps: &[(Step, Answer)]) -> Result<Option<usize>, ConfigRefusal> {
+    run(alloc, pages_with_a_void_one(alloc)?, steps)
+}
+
 #[test]
-fn keys_are_looked_up(rt: HostRuntime) -> Result<(), Fail> {
+fn keys_are_looked_up(rt: HostRuntime) {
     const STEPS: Talk = &[
         (Mount, Found(4, 4, 1)),
         (Put(70, ROW, None), Taken),
@@ -271,7 +289,5 @@ fn keys_are_looked_up(rt: HostRuntime) -> Result<(), Fail> {
         (LookUp(75), LookedUp((None, 0, 0, Some(3)))),
         (LookUp(80), LookedUp((Some(80), 0, 0, Some(3)))),
     ];
-    let bytes = pages_with_a_void_one(rt.alloc())?;
-    assert_eq!(rt; run(rt.alloc(), bytes, STEPS)?, None);
-    Ok(())
+    same(&rt, &run_with_void(rt.alloc(), STEPS), &Ok(None));
 }

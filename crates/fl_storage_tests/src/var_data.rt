@@ -3,12 +3,12 @@ ghost use Rattle.std.specs.Prelude.{◌≡◌, true, IfSome};
 ghost use Rattle.fl_var.specs.Memory.{is_mounted, LiesOn};
 ghost use Rattle.fl_var.specs.Reading.{data_of};
 
+use crate::asserts::same;
 use crate::media::{blank_medium, counted};
 use fl_base::{BlobRef, Geometry, NoMemory, RingPlace};
 use fl_flash::{Flash, PageBuf, SimFlash};
 use fl_var::VarData;
 use std::alloc::Global;
-use std::test::Fail;
 
 const GEOMETRY: Geometry = Geometry { page: 64, block: 2 };
 
@@ -199,7 +199,6 @@ fn told(alloc: Global) -> Result<bool, NoMemory> {
 }
 
 #[test]
-fn blobs(rt: HostRuntime) -> Result<(), Fail> {
-    assert!(rt; told(rt.alloc())?);
-    Ok(())
+fn blobs(rt: HostRuntime) {
+    same(&rt, &told(rt.alloc()), &Ok(true));
 }

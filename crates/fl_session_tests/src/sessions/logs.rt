@@ -23,72 +23,87 @@ const THREE: Talk = &[
     ),
 ];
 
+const WITHOUT: Talk = &[
+    ("put t 4 0", "ok"),
+    ("cut 1 half", "ok"),
+    ("put t 5 0", "power lost"),
+    ("mount", "ok"),
+    ("scan t 4 100", "row 4 0\nend 1"),
+];
+
+const WITH: Talk = &[
+    ("put t 4 0", "ok"),
+    ("cut 2 after", "ok"),
+    ("put t 5 0", "power lost"),
+    ("mount", "ok"),
+    ("scan t 4 100", "row 4 0\nrow 5 0\nend 2"),
+];
+
+/// Whether three records and what comes behind them are answered so.
+fn is_kept(alloc: Global, after: Talk) -> Result<bool, NoMemory> {
+    let (is_kept, _) = is_answered_anew(alloc, LOGGED, NEVER, THREE, after)?;
+    Ok(is_kept)
+}
+
 /// The put that is cut: its record is there where the mark of the log's page is.
 #[test]
-fn puts_that_are_cut(rt: HostRuntime) -> Result<(), Fail> {
-    let alloc = rt.alloc();
-    let without: Talk = &[
-        ("put t 4 0", "ok"),
-        ("cut 1 half", "ok"),
-        ("put t 5 0", "power lost"),
-        ("mount", "ok"),
-        ("scan t 4 100", "row 4 0\nend 1"),
-    ];
-    let with: Talk = &[
-        ("put t 4 0", "ok"),
-        ("cut 2 after", "ok"),
-        ("put t 5 0", "power lost"),
-        ("mount", "ok"),
-        ("scan t 4 100", "row 4 0\nrow 5 0\nend 2"),
-    ];
-    for after in [without, with] {
-        let (is_kept, _) = is_answered_anew(alloc, LOGGED, NEVER, THREE, after)?;
-        assert!(rt; is_kept);
-    }
-    Ok(())
+fn puts_that_are_cut(rt: HostRuntime) {
+    same(&rt, &is_kept(rt.alloc(), WITHOUT), &Ok(true));
+    same(&rt, &is_kept(rt.alloc(), WITH), &Ok(true));
+}
+
+const FIRST: Talk = &[
+    ("mount", "ok"),
+    ("put t 1 0", "ok"),
+    ("flush t", "ok"),
+    ("put t 2 7", "ok"),
+];
+
+const SECOND: Talk = &[
+    ("mount", "ok"),
+    ("get t 2", "row 2 7"),
+    ("put t 2 0", "refused key 2"),
+    ("scan t 0 100", "row 1 0\nrow 2 7\nend 2"),
+];
+
+/// Whether two runs over one image are answered so.
+fn are_runs_answered(alloc: Global) -> Result<[bool; 2], NoMemory> {
+    let mut media = empty_medium(alloc, LOGGED)?;
+    let first = is_answered(alloc, LOGGED, &mut media, FIRST, &[])?;
+    let second = is_answered(alloc, LOGGED, &mut media, SECOND, &[])?;
+    Ok([first, second])
 }
 
 /// A run ends with pending records, and the next one has them.
 #[test]
-fn runs_that_end(rt: HostRuntime) -> Result<(), Fail> {
-    let alloc = rt.alloc();
-    let first: Talk = &[
-        ("mount", "ok"),
-        ("put t 1 0", "ok"),
-        ("flush t", "ok"),
-        ("put t 2 7", "ok"),
-    ];
-    let second: Talk = &[
-        ("mount", "ok"),
-        ("get t 2", "row 2 7"),
-        ("put t 2 0", "refused key 2"),
-        ("scan t 0 100", "row 1 0\nrow 2 7\nend 2"),
-    ];
-    let mut media = empty_medium(alloc, LOGGED)?;
-    assert!(rt; is_answered(alloc, LOGGED, &mut media, first, &[])?);
-    assert!(rt; is_answered(alloc, LOGGED, &mut media, second, &[])?);
-    Ok(())
+fn runs_that_end(rt: HostRuntime) {
+    same(&rt, &are_runs_answered(rt.alloc()), &Ok([true; 2]));
+}
+
+const PUTS: Talk = &[("mount", "ok"), ("put t 1 0", "ok"), ("put t 2 0", "ok")];
+
+const PUT_FAILS: Talk = &[
+    ("mount", "ok"),
+    ("put t 1 0", "ok"),
+    ("put t 2 0", "device fault"),
+    ("put t 3 0", "not mounted"),
+    ("mount", "ok"),
+    ("scan t 0 100", "row 1 0\nend 1"),
+    ("put t 3 0", "ok"),
+];
+
+/// Whether two puts are answered, and so where the medium fails in each of the two writes of the second.
+fn put_failing(alloc: Global) -> Result<[bool; 3], NoMemory> {
+    let (is_put, body, calls) = is_answered_where_it_fails(alloc, LOGGED, PUTS, PUT_FAILS)?;
+    if calls == 0 {
+        return Ok([is_put, body, false]);
+    }
+    let (mark, _) = is_answered_anew(alloc, LOGGED, calls, PUT_FAILS, &[])?;
+    Ok([is_put, body, mark])
 }
 
 /// The medium fails in each of the two writes of a put: the table is to be mounted again, and has the records before.
 #[test]
-fn puts_that_fail(rt: HostRuntime) -> Result<(), Fail> {
-    let alloc = rt.alloc();
-    let good: Talk = &[("mount", "ok"), ("put t 1 0", "ok"), ("put t 2 0", "ok")];
-    let fails: Talk = &[
-        ("mount", "ok"),
-        ("put t 1 0", "ok"),
-        ("put t 2 0", "device fault"),
-        ("put t 3 0", "not mounted"),
-        ("mount", "ok"),
-        ("scan t 0 100", "row 1 0\nend 1"),
-        ("put t 3 0", "ok"),
-    ];
-    let (is_put, calls) = is_answered_anew(alloc, LOGGED, NEVER, good, &[])?;
-    assert!(rt; is_put);
-    assert!(rt; 2 <= calls);
-    let (body, _) = is_answered_anew(alloc, LOGGED, calls - 1, fails, &[])?;
-    let (mark, _) = is_answered_anew(alloc, LOGGED, calls, fails, &[])?;
-    assert!(rt; body && mark);
-    Ok(())
+fn puts_that_fail(rt: HostRuntime) {
+    same(&rt, &put_failing(rt.alloc()), &Ok([true; 3]));
 }

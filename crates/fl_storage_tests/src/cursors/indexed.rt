@@ -4,6 +4,7 @@ ghost use Rattle.fl_flash.specs.Flash.{FlashState};
 ghost use Rattle.fl_table.specs.Memory.{LiesOn};
 
 use super::*;
+use crate::asserts::same_at;
 use fl_bitmap::Buckets;
 
 // Three rows a page, in a ring of eight blocks, and behind it three blocks of index pages, each with room for the bitmaps
@@ -111,45 +112,48 @@ fn see(alloc: Global, low: i64, high: i64) -> Result<([Answer; 3], u64), ConfigR
     scan_store(alloc, false, range, Span { low, high })
 }
 
+// The least and the greatest value of a span, and what a scan answers and reads.
+const SPANS: [(i64, i64, ([Answer; 3], u64)); 4] = [
+    // Pages 3 and 8.
+    (7, 7, ([Row(47), Row(97), End], 6)),
+    // No page.
+    (2, 6, ([End; 3], 4)),
+    // The bucket 63 has all values from 63 on.
+    (63, 100, ([End; 3], 4)),
+    // No value lies in the span.
+    (8, 3, ([End; 3], 4)),
+];
+
 // The lookup of key 11 reads pages 1 and 0. Both index pages are read, the bitmaps of pages 10 and 11 wait.
 #[test]
-fn a_scan_reads_the_pages_that_may_match(rt: HostRuntime) -> Result<(), Fail> {
-    let cases = [
-        // Pages 3 and 8.
-        (7, 7, ([Row(47), Row(97), End], 6)),
-        // No page.
-        (2, 6, ([End; 3], 4)),
-        // The bucket 63 has all values from 63 on.
-        (63, 100, ([End; 3], 4)),
-        // No value lies in the span.
-        (8, 3, ([End; 3], 4)),
-    ];
-    for (low, high, want) in cases {
-        assert_eq!(rt; see(rt.alloc(), low, high)?, want, "{low} {high}");
+fn a_scan_reads_the_pages_that_may_match(rt: HostRuntime) {
+    for (low, high, want) in SPANS {
+        same_at(&rt, &see(rt.alloc(), low, high), &Ok(want), &low);
     }
-    Ok(())
 }
 
 // The first row comes from page 0, which the lookup has read, and the next two from pages 1 and 2.
 #[test]
-fn a_scan_reads_an_index_page_once(rt: HostRuntime) -> Result<(), Fail> {
-    assert_eq!(rt; see(rt.alloc(), 1, 1)?, ([Row(11), Row(21), Row(31)], 5));
-    Ok(())
+fn a_scan_reads_an_index_page_once(rt: HostRuntime) {
+    let rows = [Row(11), Row(21), Row(31)];
+    same(&rt, &see(rt.alloc(), 1, 1), &Ok((rows, 5)));
+}
+
+// .. of the keys from 81 up to another one, with the value 7
+fn see_sevens(
+    alloc: Global,
+    full_index: bool,
+    high: u64,
+) -> Result<([Answer; 3], u64), ConfigRefusal> {
+    let range = KeyRange { low: 81, high };
+    scan_store(alloc, full_index, range, Span { low: 7, high: 7 })
 }
 
 // The lookup of key 81 reads pages 8 and 7. The index lists page 8, which has the value 7 and begins at key 97.
 #[test]
-fn a_scan_ends_at_an_entry_that_tells_a_key_above_its_range(rt: HostRuntime) -> Result<(), Fail> {
-    let sevens = Span { low: 7, high: 7 };
-    let cases = [
-        (true, 96, ([End; 3], 3)),
-        (false, 96, ([End; 3], 4)),
-        (true, 97, ([Row(97), End, End], 4)),
-    ];
-    for (full_index, high, want) in cases {
-        let range = KeyRange { low: 81, high };
-        let seen = scan_store(rt.alloc(), full_index, range, sevens)?;
-        assert_eq!(rt; seen, want, "{full_index} {high}");
-    }
-    Ok(())
+fn a_scan_ends_at_an_entry_that_tells_a_key_above_its_range(rt: HostRuntime) {
+    same(&rt, &see_sevens(rt.alloc(), true, 96), &Ok(([End; 3], 3)));
+    same(&rt, &see_sevens(rt.alloc(), false, 96), &Ok(([End; 3], 4)));
+    let row = [Row(97), End, End];
+    same(&rt, &see_sevens(rt.alloc(), true, 97), &Ok((row, 4)));
 }

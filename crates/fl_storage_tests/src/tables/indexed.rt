@@ -56,17 +56,23 @@ fn run_indexed(
     Ok((wrong, programs))
 }
 
+// .. on a blank flash
+fn run_blank_indexed(
+    alloc: Global,
+    steps: &[(Step, Answer)],
+) -> Result<(Option<usize>, u64), ConfigRefusal> {
+    run_indexed(alloc, blank(alloc, 896)?, steps)
+}
+
 #[test]
-fn bitmaps_wait_for_their_page(rt: HostRuntime) -> Result<(), Fail> {
+fn bitmaps_wait_for_their_page(rt: HostRuntime) {
     const STEPS: Talk = &[
         (Mount, Found(0, 0, 0)),
         (Put(1, ROW, None), Taken),
         (Flush, Flushed),
         (Mount, Found(1, 1, 0)),
     ];
-    let bytes = blank(rt.alloc(), 896)?;
-    assert_eq!(rt; run_indexed(rt.alloc(), bytes, STEPS)?, (None, 2));
-    Ok(())
+    same(&rt, &run_blank_indexed(rt.alloc(), STEPS), &Ok((None, 2)));
 }
 
 // An index page with number 0 that lists five data pages from number 2 on, and the data page with number 0 alone.
@@ -84,12 +90,18 @@ fn listed_too_far(alloc: Global) -> Result<Vec<u8>, NoMemory>
     Ok(bytes)
 }
 
+// .. on that flash
+fn run_listed_too_far(
+    alloc: Global,
+    steps: &[(Step, Answer)],
+) -> Result<(Option<usize>, u64), ConfigRefusal> {
+    run_indexed(alloc, listed_too_far(alloc)?, steps)
+}
+
 #[test]
-fn listed_pages_are_missing(rt: HostRuntime) -> Result<(), Fail> {
+fn listed_pages_are_missing(rt: HostRuntime) {
     const STEPS: Talk = &[(Mount, Unmounted(MountFault::BadIndex { end: 7, next: 1 }))];
-    let bytes = listed_too_far(rt.alloc())?;
-    assert_eq!(rt; run_indexed(rt.alloc(), bytes, STEPS)?, (None, 0));
-    Ok(())
+    same(&rt, &run_listed_too_far(rt.alloc(), STEPS), &Ok((None, 0)));
 }
 
 // The first step that isn't answered as it is to be over a table with full entries, and whether the first index page has these
@@ -129,8 +141,16 @@ const ENTRY: [u8; 22] = [
     0, 0, 0, 2, 0, 0, 0, 0, 5, 0, 0, 0, 0, 0, 0, 0, 2, 0, 0, 0, 0, 0,
 ];
 
+// .. on a blank flash, where the index page lists one data page with the first of the entries
+fn run_listing_first(
+    alloc: Global,
+    steps: &[(Step, Answer)],
+) -> Result<(Option<usize>, bool), ConfigRefusal> {
+    run_listing(alloc, blank(alloc, 896)?, steps, &full_page(0, ENTRY))
+}
+
 #[test]
-fn an_entry_tells_the_first_key_and_the_count(rt: HostRuntime) -> Result<(), Fail> {
+fn an_entry_tells_the_first_key_and_the_count(rt: HostRuntime) {
     const STEPS: Talk = &[
         (Mount, Found(0, 0, 0)),
         (Put(5, ROW, None), Taken),
@@ -140,16 +160,16 @@ fn an_entry_tells_the_first_key_and_the_count(rt: HostRuntime) -> Result<(), Fai
         (Flush, Flushed),
         (Mount, Found(3, 2, 0)),
     ];
-    let bytes = blank(rt.alloc(), 896)?;
-    let page = full_page(0, ENTRY);
-    let seen = run_listing(rt.alloc(), bytes, STEPS, &page)?;
-    assert_eq!(rt; seen, (None, true));
-    Ok(())
+    same(
+        &rt,
+        &run_listing_first(rt.alloc(), STEPS),
+        &Ok((None, true)),
+    );
 }
 
 // The entry that waits after a mount is that of the last data page.
 #[test]
-fn an_entry_is_made_of_a_page_that_a_mount_reads(rt: HostRuntime) -> Result<(), Fail> {
+fn an_entry_is_made_of_a_page_that_a_mount_reads(rt: HostRuntime) {
     const STEPS: Talk = &[
         (Mount, Found(0, 0, 0)),
         (Put(5, ROW, None), Taken),
@@ -159,11 +179,11 @@ fn an_entry_is_made_of_a_page_that_a_mount_reads(rt: HostRuntime) -> Result<(), 
         (Put(10, ROW, None), Taken),
         (Flush, Flushed),
     ];
-    let bytes = blank(rt.alloc(), 896)?;
-    let page = full_page(0, ENTRY);
-    let seen = run_listing(rt.alloc(), bytes, STEPS, &page)?;
-    assert_eq!(rt; seen, (None, true));
-    Ok(())
+    same(
+        &rt,
+        &run_listing_first(rt.alloc(), STEPS),
+        &Ok((None, true)),
+    );
 }
 
 // A data page with number 0 and the row of key 5, and behind it a page whose body was begun.
@@ -183,16 +203,21 @@ fn page_before_a_void_one(alloc: Global) -> Result<Vec<u8>, NoMemory>
     Ok(bytes)
 }
 
+// .. on that flash, where the entry of the void page is zero
+fn run_listing_void(
+    alloc: Global,
+    steps: &[(Step, Answer)],
+) -> Result<(Option<usize>, bool), ConfigRefusal> {
+    let bytes = page_before_a_void_one(alloc)?;
+    run_listing(alloc, bytes, steps, &full_page(1, [0; 22]))
+}
+
 #[test]
-fn an_entry_of_a_void_page_is_zero(rt: HostRuntime) -> Result<(), Fail> {
+fn an_entry_of_a_void_page_is_zero(rt: HostRuntime) {
     const STEPS: Talk = &[
         (Mount, Found(1, 2, 1)),
         (Put(7, ROW, None), Taken),
         (Flush, Flushed),
     ];
-    let bytes = page_before_a_void_one(rt.alloc())?;
-    let page = full_page(1, [0; 22]);
-    let seen = run_listing(rt.alloc(), bytes, STEPS, &page)?;
-    assert_eq!(rt; seen, (None, true));
-    Ok(())
+    same(&rt, &run_listing_void(rt.alloc(), STEPS), &Ok((None, true)));
 }
