@@ -30,7 +30,15 @@ use Rattle.fl_ship.proofs.ImageEnds.{copy-known, copy-made, copy-makes, formed, 
 use Rattle.fl_ship.proofs.MediaEnds.{store-ends}
 use Rattle.fl_ship.proofs.Forms.{one-form}
 use Rattle.fl_ship.proofs.Statuses.{not-refused}
+use Rattle.fl_ship.proofs.ship.ship_image.Given.{Over}
 use Rattle.fl_ship.proofs.ship.ship_image.Goals as goal
+
+-- each medium is the one that its store gives back
+source-back : (g : Over) (c : goal.After-drop-rooms-3 g) → g.M.Media.state c.media-1.given.0 ≡ g.M.Media.state c.into_media-media.result.now
+source-back g c = search rules
+
+copy-back : (g : Over) (c : goal.After-drop-rooms-3 g) → g.C.Media.state c.copy-1.given.0 ≡ g.C.Media.state c.into_media-copy.result.now
+copy-back g c = search rules
 
 good-image : (side : Side) (table : ℕ) → Device Copy ≡ BadImage side table → ⊥
 good-image side table e = cc e
@@ -223,8 +231,8 @@ returns-clause-ends g c = λ config sources copies tells copy_tells made_so imag
     let copy = subst (λ (l : List ℕ). IsImage config l copies) (sym content) (copy-made config (g.C.Media.state c.args.copy.now).content copies made_so stands) in
     let from = held-since config sources c.in-Ok.ready.config (g.M.Media.state c.args.media.now) (g.M.Media.state c.make_ready.new.media) _ _ tells makes image c.in-Ok.ensures.looks c.over-from.ensures.holds in
     let onto = c.over-onto.ensures.holds config copies (subst IsTrue (sym (c.make_copy.ensures.tells ∙ copy_looks.tells)) copy_tells) makes copy in
-    let e : g.M.Media.state c.media-1.given.0 ≡ g.M.Media.state c.into_media-media.result.now = search rules in
-    let k : g.C.Media.state c.copy-1.given.0 ≡ g.C.Media.state c.into_media-copy.result.now = search rules in
+    let e = source-back g c in
+    let k = copy-back g c in
     table-ends config sources copies c.args.name c.args.count _ _ c.ship_on-status.result
     (formed config sources c.args.name (g.M.Media.state c.args.media.now).content image c.in-Ok.ready.config c.in-Ok.ready.source.tables.entries.items makes ready.source_layout.tables c.in-Ok.ready.at ready.named true ready.shipped) c.ship_on-status.ensures.statuses
     (store-ends config sources copies c.args.name c.args.count c.in-Ok.ready.config (g.M.Media.state c.args.media.now) _ _ (g.C.Media.state c.args.copy.now) _ _ _ _ _ _ (g.K.Sink.written c.args.out.now) (g.K.Sink.written c.ship_on-status.new.out) c.ship_on-status.new.sources.entries.items c.ship_on-status.new.copies.entries.items c.ship_on-status.result
@@ -238,7 +246,7 @@ returns-clause-stands g c = λ config tables tells made_so image.
     let ready = c.in-Ok.ensures.ready in
     let from = held-since config tables c.in-Ok.ready.config (g.M.Media.state c.args.media.now) (g.M.Media.state c.make_ready.new.media) _ _ tells (ready.makes config tables tells made_so image) image c.in-Ok.ensures.looks c.over-from.ensures.holds in
     let now = c.ship_on-status.ensures.stands config.plans tables c.args.name from.medium.told c.over-from.ensures.opened.on c.over-from.ensures.opened.calm from.stand (named-in _ _ _ _ c.over-from.ensures.tables ready.named) in
-    let e : g.M.Media.state c.media-1.given.0 ≡ g.M.Media.state c.into_media-media.result.now = search rules in
+    let e = source-back g c in
     (now.0, worked-image _ _ _ _ _ (worked-by c.over-from.ensures.opened c.ship_on-status.ensures.goes (e ∙ c.into_media-media.ensures.state)) config from.medium _ now.0 now.1)
 
 pub returns-clause-copy_stands : goal.returns-clause-copy_stands
@@ -247,7 +255,7 @@ returns-clause-copy_stands g c = λ config copies tells copy_tells made_so image
     let makes = copy-makes config made_so (g.C.Media.state c.args.copy.now).content copies c.in-Ok.ready.config image (ready.image tells).0 (ready.own copy_tells) in
     let onto = held-since config copies c.in-Ok.ready.config (g.C.Media.state c.args.copy.now) (g.C.Media.state c.make_copy.new.copy) _ _ copy_tells makes image (looks-kept (g.C.Media.state c.args.copy.now) (g.C.Media.state c.make_ready.new.copy) (g.C.Media.state c.make_copy.new.copy) (image-some config (g.C.Media.state c.args.copy.now).content copies image) c.in-Ok.ensures.copy_looks (λ some. (c.make_copy.ensures.kept some).0)) c.over-onto.ensures.holds in
     let now = c.ship_on-status.ensures.copy_stands config.plans copies c.args.name onto.medium.told c.over-onto.ensures.opened.on c.over-onto.ensures.opened.calm onto.stand (named-in _ _ _ _ c.over-onto.ensures.tables ready.copy_named) in
-    let k : g.C.Media.state c.copy-1.given.0 ≡ g.C.Media.state c.into_media-copy.result.now = search rules in
+    let k = copy-back g c in
     (now.0, worked-image _ _ _ _ _ (worked-by c.over-onto.ensures.opened c.ship_on-status.ensures.copy_goes (k ∙ c.into_media-copy.ensures.state)) config onto.medium _ now.0 now.1)
 
 pub returns-clause-good : goal.returns-clause-good
@@ -269,7 +277,7 @@ pub returns-clause-repairs : goal.returns-clause-repairs
 returns-clause-repairs g c = λ config sources tells made_so image well.
     let ready = c.in-Ok.ensures.ready in
     let from = held-since config sources c.in-Ok.ready.config (g.M.Media.state c.args.media.now) (g.M.Media.state c.make_ready.new.media) _ _ tells (ready.makes config sources tells made_so image) image c.in-Ok.ensures.looks c.over-from.ensures.holds in
-    let e : g.M.Media.state c.media-1.given.0 ≡ g.M.Media.state c.into_media-media.result.now = search rules in
+    let e = source-back g c in
     repaired-after config _ _ _ c.in-Ok.ensures.looks.content
     (worked-repaired _ _ _ _ _ (worked-by c.over-from.ensures.opened c.ship_on-status.ensures.goes (e ∙ c.into_media-media.ensures.state)) config from.medium
     (c.ship_on-status.ensures.repairs config.plans sources c.args.name from.medium.told c.over-from.ensures.opened.on c.over-from.ensures.opened.calm from.stand (named-in _ _ _ _ c.over-from.ensures.tables ready.named) well))
@@ -280,7 +288,7 @@ returns-clause-others g c = λ config copies tells copy_tells made_so image well
     let makes = copy-makes config made_so (g.C.Media.state c.args.copy.now).content copies c.in-Ok.ready.config image (ready.image tells).0 (ready.own copy_tells) in
     let looks = looks-kept (g.C.Media.state c.args.copy.now) (g.C.Media.state c.make_ready.new.copy) (g.C.Media.state c.make_copy.new.copy) (image-some config (g.C.Media.state c.args.copy.now).content copies image) c.in-Ok.ensures.copy_looks (λ some. (c.make_copy.ensures.kept some).0) in
     let onto = held-since config copies c.in-Ok.ready.config (g.C.Media.state c.args.copy.now) (g.C.Media.state c.make_copy.new.copy) _ _ copy_tells makes image looks c.over-onto.ensures.holds in
-    let k : g.C.Media.state c.copy-1.given.0 ≡ g.C.Media.state c.into_media-copy.result.now = search rules in
+    let k = copy-back g c in
     others-after config c.args.name _ _ _ looks.content
     (worked-others _ _ _ _ _ (worked-by c.over-onto.ensures.opened c.ship_on-status.ensures.copy_goes (k ∙ c.into_media-copy.ensures.state)) config onto.medium c.args.name
     (c.ship_on-status.ensures.others config.plans copies c.args.name onto.medium.told c.over-onto.ensures.opened.on c.over-onto.ensures.opened.calm onto.stand (named-in _ _ _ _ c.over-onto.ensures.tables ready.copy_named) well))
@@ -294,13 +302,13 @@ returns-clause-fits g c = λ tells copy_tells.
 
 pub returns-clause-device : goal.returns-clause-device
 returns-clause-device g c = λ is.
-    let e : g.M.Media.state c.media-1.given.0 ≡ g.M.Media.state c.into_media-media.result.now = search rules in
+    let e = source-back g c in
     let rose = worked-rose _ _ _ _ _ (worked-by c.over-from.ensures.opened c.ship_on-status.ensures.goes (e ∙ c.into_media-media.ensures.state)) (c.ship_on-status.ensures.device is) in
     omega (arith, c.in-Ok.ensures.looks.later, rose)
 
 pub returns-clause-copy_device : goal.returns-clause-copy_device
 returns-clause-copy_device g c = λ is.
-    let k : g.C.Media.state c.copy-1.given.0 ≡ g.C.Media.state c.into_media-copy.result.now = search rules in
+    let k = copy-back g c in
     let rose = worked-rose _ _ _ _ _ (worked-by c.over-onto.ensures.opened c.ship_on-status.ensures.copy_goes (k ∙ c.into_media-copy.ensures.state)) (c.ship_on-status.ensures.copy_device is) in
     omega (arith, c.in-Ok.ensures.copy_looks.later, c.make_copy.ensures.later, rose)
 
@@ -318,13 +326,13 @@ returns-clause-untouched g c = λ refused. absurd (not-refused c.ship_on-status.
 
 pub returns-clause-keeps : goal.returns-clause-keeps
 returns-clause-keeps g c =
-    let e : g.M.Media.state c.media-1.given.0 ≡ g.M.Media.state c.into_media-media.result.now = search rules in
+    let e = source-back g c in
     keeps-then _ _ _ c.in-Ok.ensures.looks (worked-keeps _ _ _ _ _ (worked-by c.over-from.ensures.opened c.ship_on-status.ensures.goes (e ∙ c.into_media-media.ensures.state)))
 
 pub returns-clause-copy_keeps : goal.returns-clause-copy_keeps
 returns-clause-copy_keeps g c =
     let own = made c.in-Ok.ready.config c.in-Ok.ensures.ready.whole in
-    let k : g.C.Media.state c.copy-1.given.0 ≡ g.C.Media.state c.into_media-copy.result.now = search rules in
+    let k = copy-back g c in
     copy-keeps (g.M.Media.state c.args.media.now).content (g.C.Media.state c.args.copy.now) (g.C.Media.state c.make_ready.new.copy) (g.C.Media.state c.make_copy.new.copy) _ c.in-Ok.ensures.copy_looks (λ some. (c.make_copy.ensures.kept some).0) c.make_copy.ensures.tells c.make_copy.ensures.later
     (λ empty. omega (arith, c.make_copy.ensures.part own.0 own.1 empty, c.in-Ok.ensures.ready.size own.0 own.1))
     (worked-keeps _ _ _ _ _ (worked-by c.over-onto.ensures.opened c.ship_on-status.ensures.copy_goes (k ∙ c.into_media-copy.ensures.state)))
@@ -344,8 +352,8 @@ pub returns-clause-over : goal.returns-clause-over
 returns-clause-over g c =
     let ready = c.in-Ok.ensures.ready in
     let copy_looks = c.in-Ok.ensures.copy_looks in
-    let e : g.M.Media.state c.media-1.given.0 ≡ g.M.Media.state c.into_media-media.result.now = search rules in
-    let k : g.C.Media.state c.copy-1.given.0 ≡ g.C.Media.state c.into_media-copy.result.now = search rules in
+    let e = source-back g c in
+    let k = copy-back g c in
     inr (inr (record {
       lines = c.in-Ok.ready.config;
       image = ready.image;
