@@ -5,15 +5,18 @@ use Rattle.fl_flash.specs.Flash.{FlashState}
 use Rattle.fl_flash.specs.Media.{MediaState}
 use Rattle.fl_flash.specs.declared.flash.FlashFault.TheVariants.{PowerLost, Media}
 use Rattle.fl_image.specs.declared.status.ToolStatus.{ToolStatus}
-use Rattle.fl_image.specs.declared.status.ToolStatus.TheVariants.{Done, OutWrite, NoMemory, NotImage, Device, BadImage, NoTable}
+use Rattle.fl_image.specs.declared.status.ToolStatus.TheVariants.{Done, OutWrite, NoMemory, NotImage, Device, BadImage, NoTable, Unsound}
 use Rattle.fl_page.specs.declared.fault.BadPage as page
 use Rattle.fl_page.specs.declared.fault.ReadFault.TheVariants.{Flash, BadPage}
+use Rattle.fl_parts.specs.declared.mount_fault.MountFault.{MountFault}
 use Rattle.fl_store.specs.FoundTable.{FindsNone}
 use Rattle.fl_store.specs.Named.{IsImageWith}
+use Rattle.fl_store.specs.Status.{mount_status}
 use Rattle.fl_store.proofs.FoundTables.{by-none}
+use Rattle.fl_store.proofs.MountStatuses.{by-mount}
 use Rattle.fl_export.specs.Ends.{StatusFits}
 use Rattle.fl_export.specs.Tables.{status_of, IsOfTable}
-use Rattle.fl_export.specs.Writing.{IfBadPage, IfUnread}
+use Rattle.fl_export.specs.Writing.{IfBadPage, IfSink, IfUnread}
 use Rattle.fl_export.specs.declared.fault.ExportFault.{ExportFault}
 use Rattle.fl_export.specs.declared.fault.ExportFault.TheVariants as fault
 
@@ -32,6 +35,41 @@ fault-place e at table is = absurd (cc is)
 pub fault-bad : (P : page.BadPage → Type 0) (e : ExportFault) (at table : ℕ) → status_of e at ≡ BadImage table → IfBadPage P e → (bad : page.BadPage) × P bad
 fault-bad P (fault.Read (BadPage bad)) at table is h = (bad, h)
 fault-bad P e at table is h = absurd (cc is)
+
+pub fault-sink : (P : Type 0) (e : ExportFault) (at : ℕ) → status_of e at ≡ OutWrite → IfSink P e → P
+fault-sink P (fault.Sink failed) at is h = h
+fault-sink P fault.NoMemory at is h = absurd (cc is)
+fault-sink P (fault.Read (Flash e)) at is h = absurd (cc is)
+fault-sink P (fault.Read (BadPage bad)) at is h = absurd (cc is)
+
+pub fault-of-table : (e : ExportFault) (at : ℕ) → IsOfTable (status_of e at)
+fault-of-table fault.NoMemory at = tt
+fault-of-table (fault.Sink failed) at = tt
+fault-of-table (fault.Read (Flash e)) at = tt
+fault-of-table (fault.Read (BadPage bad)) at = tt
+
+-- ---- which a status is not
+
+pub mount-quiet : (e : MountFault) (at : ℕ) → mount_status e at ≡ OutWrite → ⊥
+mount-quiet e at = by-mount (λ (status : ToolStatus). status ≡ OutWrite → ⊥) e at (λ is. cc is) (λ is. cc is)
+
+pub done-good : (table : ℕ) → Done ≡ BadImage table → ⊥
+done-good table is = cc
+
+pub done-no-device : Done ≡ Device → ⊥
+done-no-device is = cc
+
+pub done-quiet : Done ≡ OutWrite → ⊥
+done-quiet is = cc
+
+pub memory-no-device : NoMemory ≡ Device → ⊥
+memory-no-device is = cc
+
+pub memory-known : NoMemory ≡ Unsound → ⊥
+memory-known is = cc
+
+pub memory-quiet : NoMemory ≡ OutWrite → ⊥
+memory-quiet is = cc
 
 -- ---- over any bytes
 

@@ -1,4 +1,5 @@
-use Rattle.std.proofs.Common.{◌≡◌, ◌<◌, ◌≤◌, inl, inr, rules, length, sym, ◌∙◌, ap, subst, arith}
+use Rattle.std.proofs.Common.{◌≡◌, ◌<◌, ◌≤◌, inl, inr, rules, length, refl, sym, ◌∙◌, ap, subst, arith}
+use Rattle.std.proofs.Math.Nat.{le_refl}
 use Rattle.std.proofs.lemmas.Option.{slice_get_within}
 use Rattle.fl_base.specs.declared.types.Geometry.{Geometry}
 use Rattle.fl_store.proofs.Unarmed.{opened-unarmed}
@@ -18,8 +19,13 @@ use Rattle.fl_export.specs.Over.{ExportsOver}
 use Rattle.fl_export.specs.Rooms.{HasRooms}
 use Rattle.fl_export.specs.Tables.{IsOfTable}
 use Rattle.fl_export.proofs.ImageEnds.{early-ends, ends-seen}
-use Rattle.fl_export.proofs.Statuses.{fits-early, fits-table, not-early}
+use Rattle.fl_export.proofs.Statuses.{fits-early, fits-table, memory-known, memory-no-device, memory-quiet, not-early}
+use Rattle.fl_export.proofs.export.export_image.Given.{Over}
 use Rattle.fl_export.proofs.export.export_image.Goals as goal
+
+-- the medium is the one that the store gives back
+given-back : (g : Over) (c : goal.After-drop-rooms-4 g) → g.M.Media.state c.media-1.given.0 ≡ g.M.Media.state c.close-media.result.now
+given-back g c = search rules
 
 pub returns-in-Err-clause-ends : goal.returns-in-Err-clause-ends
 returns-in-Err-clause-ends g c = λ config tables tells made image. early-ends config tables c.args.name c.args.range (g.M.Media.state c.args.media.now) (g.M.Media.state c.on.new.media) (g.K.Sink.written c.args.out.now) made tells image c.in-Err.ensures.looks c.in-Err.status c.in-Err.ensures.none
@@ -71,7 +77,7 @@ returns-clause-ends g c = λ config tables tells made image.
     let looks = c.in-Ok.ensures.looks in
     let holds = found-holds (g.M.Media.state c.args.media.now) (g.M.Media.state c.on.new.media) c.args.name config made tables tells image looks c.in-Ok.found c.in-Ok.ensures.table _ _ c.over-flash.ensures.holds in
     let opened = c.over-flash.ensures.opened in
-    let e : g.M.Media.state c.media-1.given.0 ≡ g.M.Media.state c.close-media.result.now = search rules in
+    let e = given-back g c in
     let worked = worked-by opened c.export_on-status.ensures.goes (e ∙ c.close-media.ensures.state) in
     ends-seen config tables c.args.name c.args.range (g.M.Media.state c.args.media.now) _ _ _ _ _ (g.K.Sink.written c.args.out.now) (g.K.Sink.written c.export_on-status.new.out) c.export_on-status.new.tables.entries.items looks worked holds.medium c.export_on-status.result
     (c.export_on-status.ensures.ends config.plans tables c.args.name holds.medium.told opened.on opened.calm holds.stand (subst (λ (t : Tables). IsNamed t.entries.items c.args.name c.in-Ok.found.at) (sym c.over-flash.ensures.tables) c.in-Ok.ensures.table.named))
@@ -81,7 +87,7 @@ returns-clause-repairs g c = λ config tables tells made image well.
     let looks = c.in-Ok.ensures.looks in
     let holds = found-holds (g.M.Media.state c.args.media.now) (g.M.Media.state c.on.new.media) c.args.name config made tables tells image looks c.in-Ok.found c.in-Ok.ensures.table _ _ c.over-flash.ensures.holds in
     let opened = c.over-flash.ensures.opened in
-    let e : g.M.Media.state c.media-1.given.0 ≡ g.M.Media.state c.close-media.result.now = search rules in
+    let e = given-back g c in
     repaired-after config _ _ _ looks.content (worked-repaired _ _ _ _ _ (worked-by opened c.export_on-status.ensures.goes (e ∙ c.close-media.ensures.state)) config holds.medium
     (c.export_on-status.ensures.repairs config.plans tables c.args.name holds.medium.told opened.on opened.calm holds.stand (subst (λ (t : Tables). IsNamed t.entries.items c.args.name c.in-Ok.found.at) (sym c.over-flash.ensures.tables) c.in-Ok.ensures.table.named) well))
 
@@ -94,7 +100,7 @@ returns-clause-fits g c = λ tells.
 
 pub returns-clause-device : goal.returns-clause-device
 returns-clause-device g c = λ is.
-    let e : g.M.Media.state c.media-1.given.0 ≡ g.M.Media.state c.close-media.result.now = search rules in
+    let e = given-back g c in
     rose-back _ _ _ c.in-Ok.ensures.looks.later (worked-rose _ _ _ _ _ (worked-by c.over-flash.ensures.opened c.export_on-status.ensures.goes (e ∙ c.close-media.ensures.state)) (c.export_on-status.ensures.device is))
 
 pub returns-clause-known : goal.returns-clause-known
@@ -111,7 +117,7 @@ returns-clause-changes g c = λ tells.
 
 pub returns-clause-keeps : goal.returns-clause-keeps
 returns-clause-keeps g c =
-    let e : g.M.Media.state c.media-1.given.0 ≡ g.M.Media.state c.close-media.result.now = search rules in
+    let e = given-back g c in
     keeps-then _ _ _ c.in-Ok.ensures.looks (worked-keeps _ _ _ _ _ (worked-by c.over-flash.ensures.opened c.export_on-status.ensures.goes (e ∙ c.close-media.ensures.state)))
 
 pub returns-in-Err-clause-over : goal.returns-in-Err-clause-over
@@ -122,6 +128,42 @@ returns-in_default-clause-over g c = inl (tt, c.in-Ok.ensures.looks)
 
 pub returns-clause-over : goal.returns-clause-over
 returns-clause-over g c =
-    let e : g.M.Media.state c.media-1.given.0 ≡ g.M.Media.state c.close-media.result.now = search rules in
+    let e = given-back g c in
     inr (job-over c.args.name (g.M.Media.state c.args.media.now) (g.M.Media.state c.on.new.media) _ c.in-Ok.found _ _ _ (ExportsOver c.export_on-status.result)
     c.in-Ok.ensures.table c.in-Ok.ensures.looks c.over-flash.ensures.tables c.over-flash.ensures.opened c.export_on-status.ensures.goes (e ∙ c.close-media.ensures.state) c.export_on-status.ensures.over)
+
+pub returns-in-Err-clause-untouched : goal.returns-in-Err-clause-untouched
+returns-in-Err-clause-untouched g c = λ early. (c.in-Err.ensures.looks, refl)
+
+pub returns-in-Err-clause-changes : goal.returns-in-Err-clause-changes
+returns-in-Err-clause-changes g c = λ tells. inr c.in-Err.ensures.looks.content
+
+pub returns-in-Err-clause-later : goal.returns-in-Err-clause-later
+returns-in-Err-clause-later g c = le_refl (g.K.Sink.faults c.args.out.now)
+
+pub returns-in_default-clause-fits : goal.returns-in_default-clause-fits
+returns-in_default-clause-fits g c = λ tells. tt
+
+pub returns-in_default-clause-device : goal.returns-in_default-clause-device
+returns-in_default-clause-device g c = λ is. absurd (memory-no-device is)
+
+pub returns-in_default-clause-known : goal.returns-in_default-clause-known
+returns-in_default-clause-known g c = λ is. memory-known is
+
+pub returns-in_default-clause-untouched : goal.returns-in_default-clause-untouched
+returns-in_default-clause-untouched g c = λ early. (c.in-Ok.ensures.looks, refl)
+
+pub returns-in_default-clause-changes : goal.returns-in_default-clause-changes
+returns-in_default-clause-changes g c = λ tells. inr c.in-Ok.ensures.looks.content
+
+pub returns-in_default-clause-write : goal.returns-in_default-clause-write
+returns-in_default-clause-write g c = λ is. absurd (memory-quiet is)
+
+pub returns-in_default-clause-later : goal.returns-in_default-clause-later
+returns-in_default-clause-later g c = le_refl (g.K.Sink.faults c.args.out.now)
+
+pub returns-clause-write : goal.returns-clause-write
+returns-clause-write g c = c.export_on-status.ensures.write
+
+pub returns-clause-later : goal.returns-clause-later
+returns-clause-later g c = c.export_on-status.ensures.later

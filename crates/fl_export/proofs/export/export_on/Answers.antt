@@ -1,10 +1,11 @@
 use Rattle.std.proofs.Common.{◌≡◌, inr, IsTrue, false, true, sym, ◌∙◌, subst, arith}
+use Rattle.std.proofs.Math.Nat.{le_refl}
 use Rattle.std.proofs.lemmas.Option.{slice_get_within}
 use Rattle.fl_frame.proofs.ContentsInTurn.{OnlyReads-goes}
 use Rattle.fl_frame.proofs.CallsInTurn.{goes-then}
 use Rattle.fl_frame.proofs.WatchedInTurn.{unarmed-then}
 use Rattle.fl_image.specs.declared.status.ToolStatus.{ToolStatus}
-use Rattle.fl_image.specs.declared.status.ToolStatus.TheVariants.{Done, OutWrite}
+use Rattle.fl_image.specs.declared.status.ToolStatus.TheVariants.{Done}
 use Rattle.fl_model.specs.Bare.{bare, bare_table}
 use Rattle.fl_table.specs.Memory.{is_running, LiesOn}
 use Rattle.fl_table.specs.Standing.{Stands}
@@ -16,7 +17,7 @@ use Rattle.fl_export.specs.Tables.{EndsOn, IsOfTable}
 use Rattle.fl_export.proofs.FlashEnds.{unmounted, broken-device, own, done, failed}
 use Rattle.fl_store.proofs.TableByName.{stands-there}
 use Rattle.fl_store.proofs.ImageRepairs.{repaired-read}
-use Rattle.fl_export.proofs.Statuses.{fault-rose, fault-place}
+use Rattle.fl_export.proofs.Statuses.{done-good, done-no-device, done-quiet, fault-of-table, fault-place, fault-rose, fault-sink, mount-quiet}
 use Rattle.fl_store.proofs.MountStatuses.{by-mount, mount-rose, mount-place}
 use Rattle.fl_store.proofs.Risen.{has_risen, watched}
 use Rattle.fl_export.proofs.OverBytes.{bad-table, reads-over, refuses-over}
@@ -29,7 +30,7 @@ pub returns-in-Err-clause-statuses : goal.returns-in-Err-clause-statuses
 returns-in-Err-clause-statuses g c = subst IsOfTable (sym c.mount_status.ensures) (by-mount IsOfTable c.in-Err.bad.fault c.in-Err.bad.at tt tt)
 
 pub returns-in-Err-clause-write : goal.returns-in-Err-clause-write
-returns-in-Err-clause-write g c = λ is. absurd (by-mount (λ s. s ≡ OutWrite → ⊥) c.in-Err.bad.fault c.in-Err.bad.at (λ k. cc k) (λ k. cc k) (sym c.mount_status.ensures ∙ is))
+returns-in-Err-clause-write g c = λ is. absurd (mount-quiet c.in-Err.bad.fault c.in-Err.bad.at (sym c.mount_status.ensures ∙ is))
 
 pub returns-in-Err-clause-device : goal.returns-in-Err-clause-device
 returns-in-Err-clause-device g c = λ is. mount-rose (g.F.Flash.state c.args.flash.now) (g.F.Flash.state c.mount.new.flash) c.in-Err.bad.fault c.in-Err.bad.at c.requires.unarmed (sym c.mount_status.ensures ∙ is) c.in-Err.ensures.cause
@@ -121,10 +122,40 @@ returns-in-Err-clause-over g c =
 pub returns-in-Ok-clause-over : goal.returns-in-Ok-clause-over
 returns-in-Ok-clause-over g c =
     let e = c.mount.ensures in
-    reads-over _ _ _ _ c.mount.result (record { found = e.found; refused = e.refused; stops = e.stops; cause = e.cause; running = e.running; none = e.none; power = e.power; as_many = e.as_many; names = e.names; same = e.same; repairs = e.repairs; outside = e.outside }) Done c.args.at (g.F.Flash.state c.write_table.new.flash) tt c.in_default.is c.write_table.ensures.counts (λ table is. absurd (cc is))
+    reads-over _ _ _ _ c.mount.result (record { found = e.found; refused = e.refused; stops = e.stops; cause = e.cause; running = e.running; none = e.none; power = e.power; as_many = e.as_many; names = e.names; same = e.same; repairs = e.repairs; outside = e.outside }) Done c.args.at (g.F.Flash.state c.write_table.new.flash) tt c.in_default.is c.write_table.ensures.counts (λ table is. absurd (done-good table is))
 
 pub returns-in-Err-write_table-clause-over : goal.returns-in-Err-write_table-clause-over
 returns-in-Err-write_table-clause-over g c =
     let e = c.mount.ensures in
     reads-over _ _ _ _ c.mount.result (record { found = e.found; refused = e.refused; stops = e.stops; cause = e.cause; running = e.running; none = e.none; power = e.power; as_many = e.as_many; names = e.names; same = e.same; repairs = e.repairs; outside = e.outside }) c.status_of.result c.args.at (g.F.Flash.state c.write_table.new.flash) tt c.in_default.is c.write_table.ensures.counts
     (λ table is. bad-table c.mount.new.self.entries.items c.args.at c.index.result.now c.table-table.result.now (g.F.Flash.state c.mount.new.flash) c.in-Err-write_table.fault c.status_of.result table (entry-at c.mount.new.self.entries.items c.args.at c.index.result.now (omega (arith, c.requires.at, c.mount.ensures.as_many)) c.index.ensures) c.table-table.ensures c.status_of.ensures is c.in-Err-write_table.ensures.bad)
+
+pub returns-in-Err-clause-goes : goal.returns-in-Err-clause-goes
+returns-in-Err-clause-goes g c = c.mount.ensures.goes
+
+pub returns-in-Err-clause-later : goal.returns-in-Err-clause-later
+returns-in-Err-clause-later g c = le_refl (g.K.Sink.faults c.args.out.now)
+
+pub returns-in-Ok-clause-later : goal.returns-in-Ok-clause-later
+returns-in-Ok-clause-later g c = c.write_table.ensures.later
+
+pub returns-in-Ok-clause-write : goal.returns-in-Ok-clause-write
+returns-in-Ok-clause-write g c = λ is. absurd (done-quiet is)
+
+pub returns-in-Ok-clause-statuses : goal.returns-in-Ok-clause-statuses
+returns-in-Ok-clause-statuses g c = tt
+
+pub returns-in-Ok-clause-device : goal.returns-in-Ok-clause-device
+returns-in-Ok-clause-device g c = λ is. absurd (done-no-device is)
+
+pub returns-in-Ok-clause-bad : goal.returns-in-Ok-clause-bad
+returns-in-Ok-clause-bad g c = λ table is. absurd (done-good table is)
+
+pub returns-in-Err-write_table-clause-later : goal.returns-in-Err-write_table-clause-later
+returns-in-Err-write_table-clause-later g c = c.write_table.ensures.later
+
+pub returns-in-Err-write_table-clause-write : goal.returns-in-Err-write_table-clause-write
+returns-in-Err-write_table-clause-write g c = λ is. fault-sink _ c.in-Err-write_table.fault c.args.at (sym c.status_of.ensures ∙ is) c.in-Err-write_table.ensures.sink
+
+pub returns-in-Err-write_table-clause-statuses : goal.returns-in-Err-write_table-clause-statuses
+returns-in-Err-write_table-clause-statuses g c = subst IsOfTable (sym c.status_of.ensures) (fault-of-table c.in-Err-write_table.fault c.args.at)
