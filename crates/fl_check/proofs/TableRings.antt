@@ -1,5 +1,5 @@
 -- The rings of a table that fits on a flash, by their places.
-use Rattle.std.proofs.Common.{◌≡◌, ℕ, ◌+◌, ◌*◌, ◌<◌, ◌≤◌, Option, Some, IfSome, sym, ◌∙◌, ap, subst, arith}
+use Rattle.std.proofs.Common.{◌≡◌, ℕ, ◌+◌, ◌*◌, ◌<◌, ◌≤◌, Option, Some, None, IfSome, sym, ◌∙◌, ap, subst, arith}
 use Rattle.fl_base.specs.declared.types.Geometry.{Geometry}
 use Rattle.fl_base.specs.declared.types.RingPlace.{RingPlace}
 use Rattle.fl_flash.specs.Flash.{FlashState}
@@ -9,8 +9,9 @@ use Rattle.fl_plan.specs.declared.table_config.TableConfig.{TableConfig}
 use Rattle.fl_ring.specs.Mounting.{shape_at}
 use Rattle.fl_ring.specs.Ring.{Shape}
 use Rattle.fl_rules.specs.Marks.{AreWithin}
-use Rattle.fl_check.specs.Whole.{Fits, shape_in}
+use Rattle.fl_check.specs.Whole.{Fits, IfWithin, shape_in}
 use Rattle.fl_rules.specs.declared.marks.Marks.{Marks}
+use Rattle.fl_rules.specs.declared.numbering.Numbering.{Numbering}
 
 module _ (config : TableConfig) (f : FlashState) (fits : Fits config f) (place : RingPlace) (r : Shape) (at : r ≡ shape_at place f.geometry) where
   pub shape_is : r ≡ shape_in config place
@@ -39,3 +40,12 @@ module _ (o : Option RingPlace) (place : RingPlace) (there : o ≡ Some place) w
 
 pub kept_room : {kept room n : ℕ} → kept < room → room ≤ n → kept ≤ n
 kept_room kept few = omega (arith, kept, few)
+
+-- the kept pages of a ring that a table may not have, where they are told
+module _ (config : TableConfig) (o : Option RingPlace) where
+  pub within_there : (x : Option Numbering) (place : RingPlace) (n : Numbering) → o ≡ Some place → x ≡ Some n → IfWithin config o x → AreWithin (shape_in config place) n.marks
+  within_there x place n e is holds = subst (λ (y : Option Numbering). IfWithin config (Some place) y) is (subst (λ (p : Option RingPlace). IfWithin config p x) e holds)
+
+  pub if_there : (place : RingPlace) (r : Shape) (x : Option Numbering) → o ≡ Some place → r ≡ shape_in config place → IfSome x (λ n. AreWithin r n.marks) → IfWithin config o x
+  if_there place r None e is holds = subst (λ (p : Option RingPlace). IfWithin config p None) (sym e) tt
+  if_there place r (Some n) e is holds = subst (λ (p : Option RingPlace). IfWithin config p (Some n)) (sym e) (subst (λ (s : Shape). AreWithin s n.marks) is holds)

@@ -10,7 +10,7 @@ use Rattle.fl_check.specs.Faults.{with_keys, are_clear, table_faults}
 use Rattle.fl_rules.specs.RingRules.{OverPages}
 use Rattle.fl_rules.specs.Rising.{HaveRows, KeysAscend, KeysBreak}
 use Rattle.fl_check.specs.Ruled.{HeadTold, RingTold, KeysTold}
-use Rattle.fl_check.specs.Rules.{OfToldRing, BlobsTold, HaveContent, AreTold, AreRules, in_order, rules_of, tally_told, kept_in}
+use Rattle.fl_check.specs.Rules.{OfToldRing, EntriesTold, BlobsTold, HaveContent, AreTold, AreRules, in_order, rules_of, tally_told, kept_in}
 use Rattle.fl_check.specs.Whole.{Fits, IfWithin, shape_in, rows_shape, layout_in, IsRowsForm, IsVarForm, IsFinding}
 use Rattle.fl_check.specs.declared.faults.RingFaults.{RingFaults}
 use Rattle.fl_check.specs.declared.faults.TableFaults.{TableFaults}
@@ -77,6 +77,10 @@ no_content config page (Some place) = tt
 -- ---- all rules
 
 module _ (config : TableConfig) (page : ℕ → List ℕ) where
+  pub entries_known : (o : Option RingPlace) (x y : Option Numbering) (place : RingPlace) (index rows : Numbering) (entry : Option ℕ) → o ≡ Some place → x ≡ Some index → y ≡ Some rows
+      → EntriesTold config page (Some place) (Some index) (Some rows) entry → EntriesTold config page o x y entry
+  entries_known o x y place index rows entry e f g told = rw (e, f, g) told
+
   pub blobs_at : (o : Option RingPlace) (x y : Option Numbering) (place : RingPlace) (var rows : Numbering) (blob : Option ℕ) → o ≡ Some place → x ≡ Some var → y ≡ Some rows
       → (HaveRows (layout_in config) page (rows_shape config) rows.marks → HaveContent config page (Some place) (Some var) → BlobsTold config page (Some place) (Some var) (Some rows) blob)
       → IfSome y (λ n. HaveRows (layout_in config) page (rows_shape config) n.marks) → HaveContent config page o x → BlobsTold config page o x y blob

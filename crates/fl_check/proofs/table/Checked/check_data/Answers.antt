@@ -9,8 +9,11 @@ use Rattle.fl_rules.specs.DataPage.{IsDataPage}
 use Rattle.fl_rules.specs.RingRules.{OverPages, IsRingSound, BreaksRing}
 use Rattle.fl_rules.specs.Stop.{breach}
 use Rattle.fl_check.specs.Whole.{rows_shape, layout_in}
-use Rattle.fl_check.proofs.Halts.{if_found, ok_of, found_of}
+use Rattle.fl_check.proofs.Halts.{if_found, ok_of, found_of, if_failed, failed_of}
 use Rattle.fl_rules.proofs.Stops.{if_ok}
+use Rattle.fl_check.proofs.TableRings.{shape_is, room_in, room_back}
+use Rattle.fl_flash.specs.declared.flash.FlashFault.TheVariants.{PowerLost}
+use Rattle.fl_rules.specs.Marks.{AreWithin}
 use Rattle.fl_check.proofs.table.Checked.check_data.Goals as goal
 
 pub returns-clause-sound : goal.returns-clause-sound
@@ -39,3 +42,37 @@ returns-clause-broken g c =
           (found_of c.check_rows.result _ (breach fault.rule fault.page) is.1 c.check_rows.ensures.broken told)),
     ))
     c.in_ring.ensures.found
+
+pub unnumbered-ring-requires-clause-blocks : goal.unnumbered-ring-requires-clause-blocks
+unnumbered-ring-requires-clause-blocks g c = c.requires.fits.limits.rows.0
+
+pub unnumbered-ring-requires-clause-lies : goal.unnumbered-ring-requires-clause-lies
+unnumbered-ring-requires-clause-lies g c = c.requires.fits.rows
+
+pub unnumbered-ring-requires-clause-few : goal.unnumbered-ring-requires-clause-few
+unnumbered-ring-requires-clause-few g c = c.requires.fits.few
+
+pub check_rows-requires-clause-lies : goal.check_rows-requires-clause-lies
+check_rows-requires-clause-lies g c = c.unnumbered-ring.ensures.lies
+
+pub check_rows-requires-clause-room : goal.check_rows-requires-clause-room
+check_rows-requires-clause-room g c = room_in c.args.self.now.config.now (g.F.Flash.state c.args.flash.now) c.requires.fits c.args.self.now.config.now.rows (shape_of c.unnumbered-ring.result) c.unnumbered-ring.ensures.shape c.requires.room
+
+pub returns-clause-looks : goal.returns-clause-looks
+returns-clause-looks g c = c.check_rows.ensures.looks
+
+pub returns-clause-room : goal.returns-clause-room
+returns-clause-room g c = room_back c.args.self.now.config.now (g.F.Flash.state c.args.flash.now) c.requires.fits c.args.self.now.config.now.rows (shape_of c.unnumbered-ring.result) c.unnumbered-ring.ensures.shape c.check_rows.ensures.room
+
+pub returns-clause-within : goal.returns-clause-within
+returns-clause-within g c =
+    if_ok _ _ c.in_ring.result
+    (λ n is. subst (λ (r : Shape). AreWithin r n.marks) (shape_is c.args.self.now.config.now (g.F.Flash.state c.args.flash.now) c.requires.fits c.args.self.now.config.now.rows (shape_of c.unnumbered-ring.result) c.unnumbered-ring.ensures.shape)
+    (ok_of c.check_rows.result _ n is c.check_rows.ensures.within))
+    c.in_ring.ensures.ok
+
+pub returns-clause-fails : goal.returns-clause-fails
+returns-clause-fails g c = if_failed _ _ c.in_ring.result (λ e is. failed_of c.check_rows.result _ e is c.check_rows.ensures.fails) c.in_ring.ensures.failed
+
+pub returns-clause-off : goal.returns-clause-off
+returns-clause-off g c = λ off. let both = c.check_rows.ensures.off off in (c.in_ring.ensures.lost PowerLost both.0, both.1)

@@ -1,4 +1,4 @@
-use Rattle.std.proofs.Common.{◌≡◌, Some, None, refl, sym, ◌∙◌, ap, subst}
+use Rattle.std.proofs.Common.{◌≡◌, Some, None, refl, sym, ◌∙◌, ap, subst, Option}
 use Rattle.std.proofs.lemmas.Result.{err_from_is_err_and}
 use Rattle.fl_base.specs.declared.types.Geometry.{Geometry}
 use Rattle.fl_flash.specs.Flash.{page_at}
@@ -9,9 +9,12 @@ use Rattle.fl_ring.specs.Ring.{Shape}
 use Rattle.fl_rules.specs.DataPage.{IsDataPage}
 use Rattle.fl_rules.specs.RingRules.{WithinPages, IsRingSound, BreaksRing}
 use Rattle.fl_rules.specs.Stop.{breach}
-use Rattle.fl_check.specs.Whole.{shape_in, layout_in}
-use Rattle.fl_check.proofs.Halts.{found_so, ok_of, found_of}
-use Rattle.fl_check.proofs.Wholes.{of_ring}
+use Rattle.fl_check.specs.Whole.{shape_in, layout_in, LogFits}
+use Rattle.fl_check.proofs.Halts.{found_so, ok_of, found_of, failed_so, failed_of}
+use Rattle.fl_check.proofs.Wholes.{of_ring, of_none}
+use Rattle.fl_base.specs.declared.types.RingPlace.{RingPlace}
+use Rattle.fl_check.proofs.TableRings.{room_in, room_back}
+use Rattle.fl_frame.proofs.ReadsInTurn.{looks_none}
 use Rattle.fl_check.proofs.table.Checked.check_log.Goals as goal
 
 pub returns-in_err-n-clause-broken : goal.returns-in_err-n-clause-broken
@@ -45,3 +48,49 @@ returns-clause-sound g c = λ told.
     (subst (λ (r : Shape). IsRingSound (λ number bytes. IsDataPage (layout_in config) None number bytes) (WithinPages (layout_in config)) (page_at f) r 0 n) before
     (subst (λ (l : RowLayout). IsRingSound (λ number bytes. IsDataPage l None number bytes) (WithinPages l) (page_at f) (shape_of c.unnumbered-ring.result) 0 n) c.args.self.now.layout
     (ok_of c.check_log.result _ n c.in_ok-n.ensures.ok c.check_log.ensures.sound told)))
+
+pub unnumbered-ring-requires-clause-blocks : goal.unnumbered-ring-requires-clause-blocks
+unnumbered-ring-requires-clause-blocks g c = (subst (λ (o : Option RingPlace). LogFits o (g.F.Flash.state c.args.flash.now)) c.in-Some.is c.requires.log).0.0
+
+pub unnumbered-ring-requires-clause-lies : goal.unnumbered-ring-requires-clause-lies
+unnumbered-ring-requires-clause-lies g c = (subst (λ (o : Option RingPlace). LogFits o (g.F.Flash.state c.args.flash.now)) c.in-Some.is c.requires.log).1
+
+pub unnumbered-ring-requires-clause-few : goal.unnumbered-ring-requires-clause-few
+unnumbered-ring-requires-clause-few g c = c.requires.fits.few
+
+pub check_log-requires-clause-lies : goal.check_log-requires-clause-lies
+check_log-requires-clause-lies g c = c.unnumbered-ring.ensures.lies
+
+pub check_log-requires-clause-room : goal.check_log-requires-clause-room
+check_log-requires-clause-room g c = room_in c.args.self.now.config.now (g.F.Flash.state c.args.flash.now) c.requires.fits c.in-Some.place (shape_of c.unnumbered-ring.result) c.unnumbered-ring.ensures.shape c.requires.room
+
+pub returns-in_default-clause-looks : goal.returns-in_default-clause-looks
+returns-in_default-clause-looks g c = looks_none (g.F.Flash.state c.args.flash.now)
+
+pub returns-in_default-clause-room : goal.returns-in_default-clause-room
+returns-in_default-clause-room g c = c.requires.room
+
+pub returns-in_default-clause-sound : goal.returns-in_default-clause-sound
+returns-in_default-clause-sound g c = λ told. of_none (λ place n. IsRingSound (λ number bytes. IsDataPage (layout_in c.args.self.now.config.now) None number bytes) (WithinPages (layout_in c.args.self.now.config.now)) (page_at (g.F.Flash.state c.args.flash.now)) (shape_in c.args.self.now.config.now place) 0 n) c.args.self.now.log c.in_default.is
+
+pub returns-in_err-n-clause-looks : goal.returns-in_err-n-clause-looks
+returns-in_err-n-clause-looks g c = c.check_log.ensures.looks
+
+pub returns-in_err-n-clause-room : goal.returns-in_err-n-clause-room
+returns-in_err-n-clause-room g c = room_back c.args.self.now.config.now (g.F.Flash.state c.args.flash.now) c.requires.fits c.in-Some.place (shape_of c.unnumbered-ring.result) c.unnumbered-ring.ensures.shape c.check_log.ensures.room
+
+pub returns-in_err-n-clause-sound : goal.returns-in_err-n-clause-sound
+returns-in_err-n-clause-sound g c =
+    let p = err_from_is_err_and c.from_residual.result c.from_residual.ensures.1 in
+    rw p.1 tt
+
+pub returns-in_err-n-clause-fails : goal.returns-in_err-n-clause-fails
+returns-in_err-n-clause-fails g c =
+    let p = err_from_is_err_and c.from_residual.result c.from_residual.ensures.1 in
+    rw (p.1, p.2) (failed_so _ _ c.in_err-n.field-0.0 (λ e is. failed_of c.check_log.result _ e is c.check_log.ensures.fails) c.in_err-n.ensures.failed)
+
+pub returns-clause-looks : goal.returns-clause-looks
+returns-clause-looks g c = c.check_log.ensures.looks
+
+pub returns-clause-room : goal.returns-clause-room
+returns-clause-room g c = room_back c.args.self.now.config.now (g.F.Flash.state c.args.flash.now) c.requires.fits c.in-Some.place (shape_of c.unnumbered-ring.result) c.unnumbered-ring.ensures.shape c.check_log.ensures.room

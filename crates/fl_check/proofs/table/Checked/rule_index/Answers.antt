@@ -1,13 +1,19 @@
-use Rattle.std.proofs.Common.{◌≡◌, sym, ◌∙◌, ap, subst}
+use Rattle.std.proofs.Common.{◌≡◌, sym, ◌∙◌, ap, subst, Option, IsTrue, refl}
 use Rattle.fl_base.specs.declared.types.Geometry.{Geometry}
 use Rattle.fl_flash.specs.Flash.{page_at}
 use Rattle.fl_ring.specs.Mounting.{shape_at}
 use Rattle.fl_ring.specs.Place.{shape_of}
 use Rattle.fl_ring.specs.Ring.{Shape}
 use Rattle.fl_check.specs.Ruled.{RingTold}
-use Rattle.fl_check.specs.Whole.{shape_in, IsIndexForm}
+use Rattle.fl_check.specs.Whole.{shape_in, IsIndexForm, IfWithin}
 use Rattle.fl_rules.proofs.Stops.{if_ok}
 use Rattle.fl_check.proofs.TableTold.{at_place}
+use Rattle.std.specs.Prelude.{is_some}
+use Rattle.fl_base.specs.declared.types.RingPlace.{RingPlace}
+use Rattle.fl_check.proofs.TableRings.{shape_is, room_in, room_back, some_blocks, some_lies, if_there}
+use Rattle.fl_frame.proofs.ReadsInTurn.{looks_none}
+use Rattle.std.proofs.lemmas.Option.{none-some}
+use Rattle.std.proofs.lemmas.Bool.{false≢true}
 use Rattle.fl_check.proofs.table.Checked.rule_index.Goals as goal
 
 pub returns-clause-rules : goal.returns-clause-rules
@@ -20,3 +26,63 @@ returns-clause-rules g c =
     (λ told is known. at_place (λ place faults n. RingTold (IsIndexForm config) page (shape_in config place) 0 faults n) config.index place told.faults told.numbering c.in-Some.is
     (subst (λ (r : Shape). RingTold (IsIndexForm config) page r 0 told.faults told.numbering) before (is known)))
     c.rule_ring.ensures.rules
+
+pub unnumbered-ring-requires-clause-blocks : goal.unnumbered-ring-requires-clause-blocks
+unnumbered-ring-requires-clause-blocks g c = some_blocks c.args.self.now.config.now.index c.in-Some.place c.in-Some.is c.requires.fits.limits.index
+
+pub unnumbered-ring-requires-clause-lies : goal.unnumbered-ring-requires-clause-lies
+unnumbered-ring-requires-clause-lies g c = some_lies c.args.self.now.config.now.index c.in-Some.place c.in-Some.is (g.F.Flash.state c.args.flash.now).blocks c.requires.fits.index
+
+pub unnumbered-ring-requires-clause-few : goal.unnumbered-ring-requires-clause-few
+unnumbered-ring-requires-clause-few g c = c.requires.fits.few
+
+pub entry_form-requires-clause-limits : goal.entry_form-requires-clause-limits
+entry_form-requires-clause-limits g c = c.requires.fits.limits
+
+pub entry_form-requires-clause-index : goal.entry_form-requires-clause-index
+entry_form-requires-clause-index g c = subst (λ (o : Option RingPlace). IsTrue (is_some o)) (sym c.in-Some.is) refl
+
+pub rule_ring-requires-clause-lies : goal.rule_ring-requires-clause-lies
+rule_ring-requires-clause-lies g c = c.unnumbered-ring.ensures.lies
+
+pub rule_ring-requires-clause-room : goal.rule_ring-requires-clause-room
+rule_ring-requires-clause-room g c = room_in c.args.self.now.config.now (g.F.Flash.state c.args.flash.now) c.requires.fits c.in-Some.place (shape_of c.unnumbered-ring.result) c.unnumbered-ring.ensures.shape c.requires.room
+
+pub returns-in_default-clause-looks : goal.returns-in_default-clause-looks
+returns-in_default-clause-looks g c = looks_none (g.F.Flash.state c.args.flash.now)
+
+pub returns-in_default-clause-room : goal.returns-in_default-clause-room
+returns-in_default-clause-room g c = c.requires.room
+
+pub returns-in_default-clause-within : goal.returns-in_default-clause-within
+returns-in_default-clause-within g c = subst (λ (o : Option RingPlace). IfWithin c.args.self.now.config.now o c.of_no_ring.result.numbering) (sym c.in_default.is) tt
+
+pub returns-in_default-clause-rules : goal.returns-in_default-clause-rules
+returns-in_default-clause-rules g c = λ told. rw c.in_default.is (c.of_no_ring.ensures.faults, c.of_no_ring.ensures.none)
+
+pub returns-in_default-clause-off : goal.returns-in_default-clause-off
+returns-in_default-clause-off g c = λ some off. absurd (false≢true (subst (λ (o : Option RingPlace). IsTrue (is_some o)) c.in_default.is some))
+
+pub returns-in_default-clause-none : goal.returns-in_default-clause-none
+returns-in_default-clause-none g c = λ none. (refl, refl)
+
+pub returns-clause-looks : goal.returns-clause-looks
+returns-clause-looks g c = c.rule_ring.ensures.looks
+
+pub returns-clause-room : goal.returns-clause-room
+returns-clause-room g c = room_back c.args.self.now.config.now (g.F.Flash.state c.args.flash.now) c.requires.fits c.in-Some.place (shape_of c.unnumbered-ring.result) c.unnumbered-ring.ensures.shape c.rule_ring.ensures.room
+
+pub returns-clause-within : goal.returns-clause-within
+returns-clause-within g c =
+    if_ok _ _ c.rule_ring.result
+    (λ told is. if_there c.args.self.now.config.now c.args.self.now.config.now.index c.in-Some.place (shape_of c.unnumbered-ring.result) told.numbering c.in-Some.is (shape_is c.args.self.now.config.now (g.F.Flash.state c.args.flash.now) c.requires.fits c.in-Some.place (shape_of c.unnumbered-ring.result) c.unnumbered-ring.ensures.shape) is)
+    c.rule_ring.ensures.within
+
+pub returns-clause-fails : goal.returns-clause-fails
+returns-clause-fails g c = c.rule_ring.ensures.fails
+
+pub returns-clause-off : goal.returns-clause-off
+returns-clause-off g c = λ some. c.rule_ring.ensures.off
+
+pub returns-clause-none : goal.returns-clause-none
+returns-clause-none g c = λ none. absurd (none-some c.in-Some.place (sym none ∙ c.in-Some.is))

@@ -1,4 +1,4 @@
-use Rattle.std.proofs.Common.{◌≡◌, ℕ, IsTrue, MatchOption, Option, sym, ◌∙◌, ap, subst}
+use Rattle.std.proofs.Common.{◌≡◌, ℕ, IsTrue, MatchOption, Option, None, refl, sym, ◌∙◌, ap, subst}
 use Rattle.fl_base.specs.declared.types.Geometry.{Geometry}
 use Rattle.fl_flash.specs.Flash.{page_at}
 use Rattle.fl_model.specs.Record.{RowLayout}
@@ -12,6 +12,11 @@ use Rattle.fl_rules.specs.declared.rule.Rule.TheVariants.{Keys}
 use Rattle.fl_check.proofs.RulesTold.{if_told}
 use Rattle.fl_rules.proofs.Stops.{if_ok}
 use Rattle.fl_check.proofs.TableTold.{keys_at}
+use Rattle.fl_rules.specs.declared.numbering.Numbering.{Numbering}
+use Rattle.fl_check.proofs.TableRings.{room_back}
+use Rattle.fl_frame.proofs.ReadsInTurn.{looks_none, looks_by}
+use Rattle.fl_rules.specs.RingRules.{OverPages}
+use Rattle.fl_check.specs.Ruled.{KeysTold}
 use Rattle.fl_check.proofs.table.Checked.rule_keys.Goals as goal
 
 pub returns-clause-keys : goal.returns-clause-keys
@@ -29,3 +34,27 @@ returns-clause-keys g c =
     (subst (λ (s : Shape). Is (layout_in config) s keys) before (subst (λ (l : RowLayout). Is l r keys) c.args.self.now.layout (is told))))
     (if_told c.check_keys.result c.first_page.result (IsTrue f.media.tells) (HaveRows layout page r m) (KeysAscend layout page r m) Keys (λ p. KeysBreak layout page r m p) c.first_page.ensures c.check_keys.ensures.keys
     c.check_keys.ensures.broken)
+
+pub unnumbered-ring-requires-clause-blocks : goal.unnumbered-ring-requires-clause-blocks
+unnumbered-ring-requires-clause-blocks g c = c.requires.fits.limits.rows.0
+
+pub unnumbered-ring-requires-clause-lies : goal.unnumbered-ring-requires-clause-lies
+unnumbered-ring-requires-clause-lies g c = c.requires.fits.rows
+
+pub unnumbered-ring-requires-clause-few : goal.unnumbered-ring-requires-clause-few
+unnumbered-ring-requires-clause-few g c = c.requires.fits.few
+
+pub returns-in_default-clause-looks : goal.returns-in_default-clause-looks
+returns-in_default-clause-looks g c = looks_none (g.F.Flash.state c.args.flash.now)
+
+pub returns-in_default-clause-room : goal.returns-in_default-clause-room
+returns-in_default-clause-room g c = c.requires.room
+
+pub returns-in_default-clause-keys : goal.returns-in_default-clause-keys
+returns-in_default-clause-keys g c = λ told have. subst (λ (x : Option Numbering). KeysTold (OverPages (layout_in c.args.self.now.config.now)) (page_at (g.F.Flash.state c.args.flash.now)) (rows_shape c.args.self.now.config.now) x None) (sym c.in_default.is) refl
+
+pub returns-clause-looks : goal.returns-clause-looks
+returns-clause-looks g c = looks_by (g.F.Flash.state c.args.flash.now) (g.F.Flash.state c.check_keys.new.flash) _ c.check_keys.ensures.reads
+
+pub returns-clause-room : goal.returns-clause-room
+returns-clause-room g c = room_back c.args.self.now.config.now (g.F.Flash.state c.args.flash.now) c.requires.fits c.args.self.now.config.now.rows (shape_of c.unnumbered-ring.result) c.unnumbered-ring.ensures.shape c.check_keys.ensures.room
