@@ -60,7 +60,7 @@ explained 4 'the replies cannot be written' "$made" run new
 explained 4 'the replies cannot be written' $'flashts: what was shipped is in the copy: call again to ship what is left\n'"$made" ship image new t 1
 input=rows
 explained 4 'the replies cannot be written' "$(taken 1 2)"$'\n' import image t
-output=out
+input=script output=out
 unexplained 5 '' $'flashts: the image cannot be made or read\n' run .
 echo 'device 128 4' > lines.text
 input=lines.text
