@@ -1,5 +1,5 @@
 // What is told at the end of the program.
-ghost use Rattle.std.specs.Prelude.{◌≡◌};
+ghost use Rattle.std.specs.Prelude.{◌≡◌, false, None};
 ghost use Rattle.std.specs.Process.{exit_status};
 ghost use Rattle.fl_command.specs.Number.{number_of};
 
@@ -22,7 +22,8 @@ pub struct Ending {
 impl Ending {
     /// This exit, with nothing behind its lines.
     pub fn of(exit: Exit) -> Ending
-        ensures { result.exit ≡ exit }
+        ensures exit { result.exit ≡ exit }
+        ensures alone { (result.reason ≡ None) × (result.made ≡ false) }
     {
         Ending {
             exit,
