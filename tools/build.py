@@ -1,82 +1,144 @@
 #!/usr/bin/env python3
-"""build.py: proves and builds the libraries below a program, lowest first, before its first run.
+"""build.py: proves and builds the libraries below a program, side by side, before its first run.
 
-    build.py CRATE [--jobs N] [--say]
+    build.py CRATE [--lanes N] [--say]
 
-It builds what CRATE stands on and nothing else (`rt lib` in each crate's folder), one crate after another, each with all jobs: `rt lib`
-locks the folders of the crate and of all below it, so that two of them in one checkout wait for each other.
+It builds what CRATE stands on and nothing else (`rt lib` in each crate's folder), each crate once those below it are built, and those
+first that most waits for. `rt lib` locks the folders of the crate and of all below it, so that two of them in one checkout would wait
+for each other: each lane has a copy of the sources of its own, in `out/`, and rt takes from the other lanes what they built. In the
+end the checkout takes all of it, and the copies are removed.
 
     CRATE     a crate of crates.txt
-    --jobs N  processes for one crate; if left out, one a processor, at most one for each 3 GB of free memory
-    --say     only prints the order
+    --lanes N crates at once; if left out, one a processor, at most one for each 3 GB of free memory
+    --say     only prints the crates, those first that most waits for
 
-It prints a line on standard error as each crate begins, with how many are done. The status is 0 if all are built, else 1, with what
-the failed one printed. rt and rattle decide what is proved: this decides the order alone.
+It prints a line on standard error as each crate begins, with how many are built and the minutes since the start. The status is 0 if
+all are built, else 1, with what the failed one printed. rt and rattle decide what is proved: this decides the order alone.
 """
 import argparse
 import os
+import shutil
 import subprocess
 import sys
 import tempfile
+import time
+from concurrent.futures import FIRST_COMPLETED, ThreadPoolExecutor, wait
 from pathlib import Path
 
 ROOT = Path(__file__).resolve().parent.parent
-MEMORY_OF_A_JOB = 3_000_000_000
+MEMORY_OF_A_LANE = 3_000_000_000
+SOURCES = (".rt", ".antt")
 
 
 def crates_below(name):
-    """Returns the crates that the crate stands on, lowest first as crates.txt has them."""
+    """Returns the crates that the crate stands on, by name, each with those that it stands on itself."""
     lines = (ROOT / "crates.txt").read_text(encoding="utf-8").splitlines()
     parts = (line.partition("#")[0].partition(":") for line in lines)
     stands_on = {head.split()[0]: tail.split() for head, _, tail in parts if head.strip()}
     if name not in stands_on:
         sys.exit(f"build: crates.txt has no crate {name}")
-    wanted, left = set(), list(stands_on[name])
+    wanted, left = {}, list(stands_on[name])
     while left:
         crate = left.pop()
         if crate in stands_on and crate not in wanted:
-            wanted.add(crate)
-            left += stands_on[crate]
-    return [it for it in stands_on if it in wanted]
+            wanted[crate] = [it for it in stands_on[crate] if it in stands_on]
+            left += wanted[crate]
+    return wanted
 
 
-def jobs_here():
-    """Returns one job a processor, at most one for each 3 GB of memory that is free, and at least one."""
+def behind(crates):
+    """Returns, by crate, the bytes of source of the longest chain of crates that waits for it, with its own."""
+    own = {it: sum(file.stat().st_size for file in sources_of(ROOT / "crates" / it)) for it in crates}
+    found = {}
+
+    def longest(crate):
+        if crate not in found:
+            found[crate] = own[crate] + max((longest(it) for it in crates if crate in crates[it]), default=0)
+        return found[crate]
+
+    return {it: longest(it) for it in crates}
+
+
+def sources_of(folder):
+    """Returns the source files of a crate's folder."""
+    return [Path(at) / it for part in ("src", "specs", "proofs") for at, _, names in os.walk(folder / part) for it in names if it.endswith(SOURCES)]
+
+
+def lanes_here():
+    """Returns one lane a processor, at most one for each 3 GB of memory that is free, and at least one."""
     free = os.sysconf("SC_AVPHYS_PAGES") * os.sysconf("SC_PAGE_SIZE")
     try:
         free = next(int(it.split()[1]) * 1024 for it in Path("/proc/meminfo").read_text().splitlines() if it.startswith("MemAvailable:"))
     except (OSError, StopIteration):
         pass
-    return max(1, min(os.cpu_count() or 1, free // MEMORY_OF_A_JOB))
+    return max(1, min(os.cpu_count() or 1, free // MEMORY_OF_A_LANE))
 
 
-def build(crate, jobs):
-    """Builds a crate's library, and returns whether that went well and what was printed."""
+def copy_of_sources(to):
+    """Copies what the crates are built of."""
+    (to / "crates").mkdir(parents=True)
+    shutil.copy2(ROOT / "crates.txt", to)
+    for folder in (ROOT / "crates").iterdir():
+        shutil.copytree(folder, to / "crates" / folder.name, ignore=shutil.ignore_patterns("out"))
+
+
+def build(crate, root, jobs):
+    """Builds a crate's library in a checkout, and returns whether that went well and what was printed."""
     with tempfile.TemporaryFile("w+", encoding="utf-8", errors="replace") as told:
         words = ["rt", "lib", "--jobs", str(jobs)]
-        ran = subprocess.run(words, cwd=ROOT / "crates" / crate, stdin=subprocess.DEVNULL, stdout=told, stderr=subprocess.STDOUT)
+        ran = subprocess.run(words, cwd=root / "crates" / crate, stdin=subprocess.DEVNULL, stdout=told, stderr=subprocess.STDOUT)
         told.seek(0)
         return ran.returncode == 0, told.read()
+
+
+def build_all(crates, room, lanes):
+    """Builds the crates in lanes, and returns whether all are built."""
+    order, began = behind(crates), time.monotonic()
+    left, built, running = sorted(crates, key=lambda it: -order[it]), set(), {}
+    idle_roots = [room / str(it) for it in range(lanes)]
+    for root in idle_roots:
+        copy_of_sources(root)
+    with ThreadPoolExecutor(lanes) as pool:
+        while left or running:
+            ready = [it for it in left if built.issuperset(crates[it])]
+            for at, crate in enumerate(ready[: len(idle_roots)]):
+                idle = lanes - sum(jobs for _, _, jobs in running.values())
+                jobs = max(1, idle // (len(ready) - at))
+                minutes = (time.monotonic() - began) / 60
+                print(f"flashts: {minutes:.0f} min, {len(built)} of {len(crates)} are proved, {crate} begins", file=sys.stderr, flush=True)
+                left.remove(crate)
+                root = idle_roots.pop()
+                running[pool.submit(build, crate, root, jobs)] = crate, root, jobs
+            for it in wait(running, return_when=FIRST_COMPLETED).done:
+                crate, root, _ = running.pop(it)
+                is_built, told = it.result()
+                if not is_built:
+                    print(told, file=sys.stderr)
+                    left = []
+                    continue
+                built.add(crate)
+                idle_roots.append(root)
+    return len(built) == len(crates)
 
 
 def main():
     words = argparse.ArgumentParser(description=__doc__, formatter_class=argparse.RawDescriptionHelpFormatter)
     words.add_argument("crate", metavar="CRATE")
-    words.add_argument("--jobs", type=int, metavar="N")
+    words.add_argument("--lanes", type=int, metavar="N")
     words.add_argument("--say", action="store_true")
     given = words.parse_args()
     crates = crates_below(given.crate)
-    jobs = given.jobs or jobs_here()
-    for done, crate in enumerate(crates):
-        if given.say:
-            print(crate)
-            continue
-        print(f"flashts: {done} of {len(crates)} are proved, {crate} begins", file=sys.stderr, flush=True)
-        is_built, told = build(crate, jobs)
-        if not is_built:
-            print(told, file=sys.stderr)
+    if given.say:
+        order = behind(crates)
+        print("\n".join(sorted(crates, key=lambda it: -order[it])))
+        return 0
+    (ROOT / "out").mkdir(exist_ok=True)
+    with tempfile.TemporaryDirectory(prefix="lanes-", dir=ROOT / "out") as room:
+        if not build_all(crates, Path(room), given.lanes or lanes_here()):
             return 1
-    return 0
+        # (what another checkout built is taken, and not built again)
+        tops = [it for it in crates if not any(it in below for below in crates.values())]
+        return 0 if all(build(it, ROOT, 1)[0] for it in tops) else 1
 
 
 if __name__ == "__main__":
