@@ -4,12 +4,13 @@
     build.py CRATE [--lanes N] [--say]
 
 It builds what CRATE stands on and nothing else (`rt lib` in each crate's folder), each crate once those below it are built, and those
-first that most waits for. `rt lib` locks the folders of the crate and of all below it, so that two of them in one checkout would wait
-for each other: each lane has a copy of the sources of its own, in `out/`, and rt takes from the other lanes what they built. In the
-end the checkout takes all of it, and the copies are removed.
+first that most waits for. Such a crate is proved by several jobs, and any other by one at a lower priority, so that it fills what the
+first leave free. `rt lib` locks the folders of the crate and of all below it, so that two of them in one checkout would wait for each
+other: each lane has a copy of the sources, in `out/`, and rt takes from the other lanes what they built. In the end the checkout takes
+all of it, and the copies are removed.
 
     CRATE     a crate of crates.txt
-    --lanes N crates at once; if left out, one a processor, at most one for each 3 GB of free memory
+    --lanes N crates at once; if left out, one a processor, at most one for each 4 GB of free memory
     --say     only prints the crates, those first that most waits for
 
 It prints a line on standard error as each crate begins, with how many are built and the minutes since the start. The status is 0 if
@@ -26,8 +27,9 @@ from concurrent.futures import FIRST_COMPLETED, ThreadPoolExecutor, wait
 from pathlib import Path
 
 ROOT = Path(__file__).resolve().parent.parent
-MEMORY_OF_A_LANE = 3_000_000_000
-SOURCES = (".rt", ".antt")
+MEMORY_OF_A_LANE = 4_000_000_000
+# What waits for a crate, as a part of the longest wait, from which on it gets all the jobs that there are.
+NEAR = 0.9
 
 
 def crates_below(name):
@@ -47,8 +49,8 @@ def crates_below(name):
 
 
 def behind(crates):
-    """Returns, by crate, the bytes of source of the longest chain of crates that waits for it, with its own."""
-    own = {it: sum(file.stat().st_size for file in sources_of(ROOT / "crates" / it)) for it in crates}
+    """Returns, by crate, the bytes of code in the longest chain of crates that waits for it, with its own: a proof's time goes about with them."""
+    own = {it: sum(file.stat().st_size for file in (ROOT / "crates" / it / "src").rglob("*.rt")) for it in crates}
     found = {}
 
     def longest(crate):
@@ -59,13 +61,8 @@ def behind(crates):
     return {it: longest(it) for it in crates}
 
 
-def sources_of(folder):
-    """Returns the source files of a crate's folder."""
-    return [Path(at) / it for part in ("src", "specs", "proofs") for at, _, names in os.walk(folder / part) for it in names if it.endswith(SOURCES)]
-
-
 def lanes_here():
-    """Returns one lane a processor, at most one for each 3 GB of memory that is free, and at least one."""
+    """Returns one lane a processor, at most one for each 4 GB of memory that is free, and at least one."""
     free = os.sysconf("SC_AVPHYS_PAGES") * os.sysconf("SC_PAGE_SIZE")
     try:
         free = next(int(it.split()[1]) * 1024 for it in Path("/proc/meminfo").read_text().splitlines() if it.startswith("MemAvailable:"))
@@ -83,9 +80,9 @@ def copy_of_sources(to):
 
 
 def build(crate, root, jobs):
-    """Builds a crate's library in a checkout, and returns whether that went well and what was printed."""
+    """Builds a crate's library in a checkout, one job alone at a lower priority, and returns whether that went well and what was printed."""
     with tempfile.TemporaryFile("w+", encoding="utf-8", errors="replace") as told:
-        words = ["rt", "lib", "--jobs", str(jobs)]
+        words = ["nice", "-n", "0" if jobs > 1 else "10", "rt", "lib", "--jobs", str(jobs)]
         ran = subprocess.run(words, cwd=root / "crates" / crate, stdin=subprocess.DEVNULL, stdout=told, stderr=subprocess.STDOUT)
         told.seek(0)
         return ran.returncode == 0, told.read()
@@ -95,29 +92,29 @@ def build_all(crates, room, lanes):
     """Builds the crates in lanes, and returns whether all are built."""
     order, began = behind(crates), time.monotonic()
     left, built, running = sorted(crates, key=lambda it: -order[it]), set(), {}
-    idle_roots = [room / str(it) for it in range(lanes)]
-    for root in idle_roots:
+    idle = [room / str(it) for it in range(lanes)]
+    for root in idle:
         copy_of_sources(root)
     with ThreadPoolExecutor(lanes) as pool:
         while left or running:
-            ready = [it for it in left if built.issuperset(crates[it])]
-            for at, crate in enumerate(ready[: len(idle_roots)]):
-                idle = lanes - sum(jobs for _, _, jobs in running.values())
-                jobs = max(1, idle // (len(ready) - at))
+            near = NEAR * max(order[it] for it in [*left, *(crate for crate, _, _ in running.values())])
+            for crate in [it for it in left if built.issuperset(crates[it])][: len(idle)]:
+                spare = 2 * lanes - sum(jobs for _, _, jobs in running.values())
+                jobs = max(1, min(lanes, spare)) if order[crate] >= near else 1
                 minutes = (time.monotonic() - began) / 60
                 print(f"flashts: {minutes:.0f} min, {len(built)} of {len(crates)} are proved, {crate} begins", file=sys.stderr, flush=True)
                 left.remove(crate)
-                root = idle_roots.pop()
+                root = idle.pop()
                 running[pool.submit(build, crate, root, jobs)] = crate, root, jobs
             for it in wait(running, return_when=FIRST_COMPLETED).done:
                 crate, root, _ = running.pop(it)
+                idle.append(root)
                 is_built, told = it.result()
-                if not is_built:
+                if is_built:
+                    built.add(crate)
+                else:
                     print(told, file=sys.stderr)
                     left = []
-                    continue
-                built.add(crate)
-                idle_roots.append(root)
     return len(built) == len(crates)
 
 
