@@ -1,5 +1,5 @@
 -- How often calls read the medium, by what the flash counts.
-use Rattle.std.proofs.Common.{◌≡◌, ◌+◌, ◌-◌, ◌^◌, ◌<◌, ◌≤◌, ap, arith}
+use Rattle.std.proofs.Common.{◌≡◌, ◌+◌, ◌≤◌, ap, arith}
 use Rattle.fl_flash.specs.Flash.{FlashState, IsCounted}
 use Rattle.fl_flash.specs.Media.{next_count}
 use Rattle.fl_flash.specs.declared.flash.Work.{Work}
@@ -27,6 +27,19 @@ counted-then a b c first second = record {
       let before = first.medium (omega (arith, below, second.reads below)) (omega (arith, few, second.programs few)) in
       omega (arith, before, second.medium below few);
 }
+
+-- a read, which reads the medium once
+pub counted-read : (old new : FlashState) → new.work ≡ record old.work { reads = next_count old.work.reads } → new.media.reads ≡ next_count old.media.reads → IsCounted old new
+counted-read old new work once =
+    let reads : new.work.reads ≡ next_count old.work.reads = ap (λ (w : Work). w.reads) work in
+    let programs : new.work.programs ≡ old.work.programs = ap (λ (w : Work). w.programs) work in
+    let erases : new.work.erases ≡ old.work.erases = ap (λ (w : Work). w.erases) work in
+    record {
+      reads = λ below. omega (arith, reads, below);
+      programs = λ below. omega (arith, programs);
+      erases = λ below. omega (arith, erases);
+      medium = λ below few. omega (arith, reads, programs, once, below);
+    }
 
 -- a program
 pub counted-program : (old new : FlashState) → new.work ≡ record old.work { programs = next_count old.work.programs } → new.media.reads ≤ old.media.reads + 1 → IsCounted old new

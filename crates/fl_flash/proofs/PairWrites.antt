@@ -8,7 +8,7 @@ use Rattle.fl_flash.specs.Programs.{left_at, ReadsFew, SecondEnds, ProgramsBoth}
 use Rattle.fl_flash.specs.Tear.{Rewrites}
 use Rattle.fl_flash.proofs.Clean.{and_zeros}
 use Rattle.fl_flash.proofs.Pages.{length-slice}
-use Rattle.fl_flash.proofs.RangeOperations.{rewrites_from, rewrites_after}
+use Rattle.fl_flash.proofs.RangeOperations.{rewrites_from, rewrites_after, reads_after}
 
 module _ (old : MediaState) (at : ℕ) (first second part : List ℕ) (size : length part ≡ length first) (part_is : IsTrue old.tells → part ≡ left_at old at first)
     (within : at + (length first + length second) ≤ length old.content) (zeros : all_zero second ≡ true) where
@@ -58,13 +58,19 @@ module _ (old : MediaState) (at : ℕ) (first second part : List ℕ) (size : le
   both_end (Err Second) new w = second_ends (Err Second) new w
   both_end (Err First) new w = record { first_failed = first_rewrites (Err First) new w; reads = reads_none new w.reads }
 
+-- the medium's size stays
+pub both_size : (old new : MediaState) (at : ℕ) (first second : List ℕ) (result : Result (Unit {0}) PairFailed) → ProgramsBoth old at first second result new → length new.content ≡ length old.content
+both_size old new at first second (Ok u) ends = ends.then.size ∙ ends.first_done.size
+both_size old new at first second (Err Second) ends = ends.then.size ∙ ends.first_done.size
+both_size old new at first second (Err First) ends = ends.first_failed.size
+
 -- a look before them
 module _ (old mid new : MediaState) (at : ℕ) (first second : List ℕ) (tells : mid.tells ≡ old.tells) (content : mid.content ≡ old.content) (later : old.faults ≤ mid.faults) (reads : ReadsFew old first mid) where
   left_same : (k : ℕ) (bytes : List ℕ) → left_at mid k bytes ≡ left_at old k bytes
   left_same k bytes = ap (λ (c : List ℕ). and_bytes (slice_range c k (k + length bytes)) bytes) content
 
   reads_then : (m : MediaState) → m.reads ≡ mid.reads → ReadsFew old first m
-  reads_then m same = record { few = omega (arith, same, reads.few); none = λ z. same ∙ reads.none z }
+  reads_then m same = reads_after old mid m first reads same
 
   first_after : (result : Result (Unit {0}) PairFailed) (m : MediaState) → Rewrites mid at (length first) (left_at mid at first) result m → Rewrites old at (length first) (left_at old at first) result m
   first_after result m r = rewrites_after old mid m at (length first) (left_at mid at first) (left_at old at first) result tells content later (left_same at first) r

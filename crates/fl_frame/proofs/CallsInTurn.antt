@@ -5,23 +5,7 @@ use Rattle.fl_flash.specs.declared.armed.Armed.{Armed}
 use Rattle.fl_flash.specs.Flash.{FlashState, CutComes, Goes, Stays, StaysWith}
 use Rattle.fl_flash.specs.Places.{extent}
 use Rattle.fl_flash.proofs.Counts.{counted-same, counted-then}
-
--- nothing was done
-pub goes-same : (f : FlashState) → Goes f f
-goes-same f = record {
-  geometry = refl;
-  blocks = refl;
-  start = refl;
-  origin = refl;
-  tells = refl;
-  size = refl;
-  front = λ told. refl;
-  back = λ told. refl;
-  cuts = omega arith;
-  faults = omega arith;
-  power = λ none. record { unarmed = none; on = λ on. on; cuts = refl };
-  counted = counted-same f f refl refl;
-}
+pub use Rattle.fl_flash.proofs.PowerOff.{goes-same}
 
 -- what is done to a flash by calls leaves at least what stays whatever is done
 pub stays : {Power : Type 0} (old new : FlashState) → StaysWith Power old new → Stays old new
