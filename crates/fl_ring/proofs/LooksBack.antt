@@ -1,8 +1,14 @@
 -- The pages of a ring that were looked at, from the newest one back.
-use Rattle.std.proofs.Common.{◌≡◌, inl, inr, ℕ, ◌+◌, ◌-◌, ◌*◌, ◌^◌, ◌<◌, ◌≤◌, true, List, sym, ◌∙◌, arith}
+use Rattle.std.proofs.Common.{◌≡◌, inl, inr, ℕ, ◌+◌, ◌-◌, ◌*◌, ◌^◌, ◌<◌, ◌≤◌, Bool, true, List, Option, None, Some, Fits, w32, sym, ◌∙◌, subst, arith}
 use Rattle.std.proofs.Math.Nat.{mul-le-mul_right, mul_comm, add-mul}
 use Rattle.std.proofs.lemmas.Bool.{cases_lt, true≢false}
 use Rattle.fl_mark.specs.Mark.{state_of_page}
+use Rattle.fl_flash.specs.declared.flash.FlashFault.{FlashFault}
+use Rattle.fl_ring.specs.Causes.{IfFlash}
+use Rattle.fl_ring.specs.Head.{one}
+use Rattle.fl_ring.specs.Numbers.{next_by, NumbersFit, number_fault}
+use Rattle.fl_ring.specs.declared.fault.RingFault.{RingFault}
+use Rattle.fl_ring.specs.declared.newest.Newest.{Newest}
 use Rattle.fl_ring.specs.Newest.{commits, page_back, NoneBefore}
 use Rattle.fl_ring.specs.Ring.{Shape}
 
@@ -26,3 +32,22 @@ pub place_small : (head first blocks sealed pages : ℕ) → head < blocks → s
 place_small head first blocks sealed pages lt below reach =
     let up : (head + 1) * pages ≤ blocks * pages = mul-le-mul_right pages (omega (arith, lt)) in
     omega (arith, up, below, add-mul head 1 pages, add-mul first blocks pages, reach)
+
+pub some_blocks : (blocks : ℕ) → 3 ≤ blocks → 0 < blocks
+some_blocks blocks some = omega (arith, some)
+
+pub head_fits : (head first blocks sealed pages : ℕ) → head < blocks → sealed < pages → (first + blocks) * pages < 2 ^ 32 → Fits w32 (head * pages)
+head_fits head first blocks sealed pages lt below reach = omega (arith, place_small head first blocks sealed pages lt below reach)
+
+pub place_fits : (head first blocks sealed pages : ℕ) → head < blocks → sealed < pages → (first + blocks) * pages < 2 ^ 32 → Fits w32 (head * pages + sealed)
+place_fits head first blocks sealed pages lt below reach = omega (arith, place_small head first blocks sealed pages lt below reach)
+
+-- a number beside a torn page leaves one more
+pub left_fits : (r : Shape) (at kept at_least : ℕ) (torn : Bool) (newest : Option Newest) (next : ℕ) → NumbersFit r at kept at_least torn newest → next ≡ next_by r at kept at_least newest → torn ≡ true → next + 1 < 2 ^ 32
+left_fits r at kept at_least torn None next fits is e = subst (λ (b : Bool). next + one b < 2 ^ 32) e (subst (λ (n : ℕ). n + one torn < 2 ^ 32) (sym is) fits)
+left_fits r at kept at_least torn (Some n) next fits is e = subst (λ (b : Bool). next + one b < 2 ^ 32) e (subst (λ (n : ℕ). n + one torn < 2 ^ 32) (sym is) fits.2)
+
+-- where the numbers don't fit the flash didn't fail
+pub no_flash : (P : FlashFault → Type 0) (r : Shape) (at at_least : ℕ) (newest : Option Newest) (e : RingFault) → e ≡ number_fault r at at_least newest → IfFlash P e
+no_flash P r at at_least None e is = subst (IfFlash P) (sym is) tt
+no_flash P r at at_least (Some n) e is = subst (IfFlash P) (sym is) tt

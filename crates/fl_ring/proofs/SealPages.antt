@@ -70,7 +70,7 @@ module _ (ring : Ring) (p : ℕ) (at : p ≡ place (shape_of ring) ring.next) (w
     }
 
 -- why an operation of a flash failed
-caused : (f g : FlashState) (result : Result (Unit {0}) FlashFault) → HasFlashCause f result g → IfErr result (λ e. CausedBy f e g)
+pub caused : (f g : FlashState) (result : Result (Unit {0}) FlashFault) → HasFlashCause f result g → IfErr result (λ e. CausedBy f e g)
 caused f g (Ok u) cause = tt
 caused f g (Err PowerLost) cause = cause.power refl
 caused f g (Err Media) cause = cause.media refl

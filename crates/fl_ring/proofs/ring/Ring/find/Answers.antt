@@ -1,4 +1,4 @@
-use Rattle.std.proofs.Common.{◌+◌, ◌*◌, Ok, Err, inr, refl, sym, ◌∙◌, ap, subst, arith}
+use Rattle.std.proofs.Common.{◌+◌, ◌*◌, ◌^◌, ◌≤◌, ◌<◌, Ok, Err, inr, zero-le, refl, sym, ◌∙◌, ap, subst, arith}
 use Rattle.std.proofs.lemmas.Result.{err_from_is_err_and}
 use Rattle.fl_base.specs.declared.types.Geometry.{Geometry}
 use Rattle.fl_flash.specs.Flash.{page_at}
@@ -12,10 +12,10 @@ use Rattle.fl_ring.specs.Numbers.{renumbered}
 use Rattle.fl_ring.specs.Operations.{repair_kinds}
 use Rattle.fl_ring.specs.Place.{StandsFor}
 use Rattle.fl_ring.specs.Repairing.{Beside, RepairCalls}
-use Rattle.fl_ring.specs.Ring.{Shape, OnRing, repaired}
+use Rattle.fl_ring.specs.Ring.{Shape, OnRing, IsShape, repaired}
 use Rattle.fl_ring.proofs.Besides.{beside_reads, beside_more, beside_up}
 use Rattle.fl_frame.proofs.ReadsInTurn.{caused_later}
-use Rattle.fl_ring.proofs.Exists.{place_exists}
+use Rattle.fl_ring.proofs.Exists.{place_exists, lies_still, reach_below}
 use Rattle.fl_ring.proofs.Mounts.{shape_served, still_on, found_numbers, search_failed, search_cause, mount_done, refused_by, has_numbers, err_as}
 use Rattle.fl_ring.proofs.NewestPages.{newest_kept}
 use Rattle.fl_ring.proofs.RepairSteps.{watched_still}
@@ -162,3 +162,65 @@ returns-clause-newest g c = λ told.
     let among = subst (λ (y : Geometry). NewestAmong (page_at f) (shape_at place y) numbers.oldest numbers.next newest) c.geometry-geometry.ensures (c.in_ok-numbers.ensures.newest told) in
     subst (λ (x : Shape). NewestAmong (page_at new) x ring.oldest ring.next c.if_kept-kept.result) (sym (c.in_ok-repair.ensures.same ∙ ap (λ (y : Geometry). shape_at place y) c.geometry-geometry.ensures))
     (newest_kept f new r c.args.at_least ring shape told refl has refl (g.met.F.Flash.reaches c.args.flash.now) (place_exists place f numbers.next c.requires.blocks served.block_least c.requires.lies) newest c.if_kept-kept.result c.if_kept-kept.ensures among)
+
+pub invariant_of-unnumbered : goal.invariant_of-unnumbered
+invariant_of-unnumbered g c =
+    let place = c.args.place in
+    let f = g.F.Flash.state c.args.flash.now in
+    let serves = g.met.F.Flash.serves c.args.flash.now in
+    let same = sym c.geometry-geometry.ensures in
+    record {
+      served = subst (λ (y : Geometry). IsShape (shape_at place y)) same (shape_served place f.geometry c.requires.blocks serves);
+      small_blocks = subst (λ (y : Geometry). y.block ≤ 256) same serves.block_greatest;
+      small_pages = subst (λ (y : Geometry). y.page ≤ 4096) same serves.page_greatest;
+      reach = subst (λ (y : Geometry). (place.first_block + place.blocks) * y.block < 2 ^ 32) same (reach_below place f c.requires.lies c.requires.few);
+      ordered = zero-le;
+    }
+
+pub invariant_of-ring : goal.invariant_of-ring
+invariant_of-ring g c =
+    let place = c.args.place in
+    let f = g.F.Flash.state c.args.flash.now in
+    let serves = g.met.F.Flash.serves c.args.flash.now in
+    let same = sym c.geometry-geometry.ensures in
+    record {
+      served = subst (λ (y : Geometry). IsShape (shape_at place y)) same (shape_served place f.geometry c.requires.blocks serves);
+      small_blocks = subst (λ (y : Geometry). y.block ≤ 256) same serves.block_greatest;
+      small_pages = subst (λ (y : Geometry). y.page ≤ 4096) same serves.page_greatest;
+      reach = subst (λ (y : Geometry). (place.first_block + place.blocks) * y.block < 2 ^ 32) same (reach_below place f c.requires.lies c.requires.few);
+      ordered = c.in_ok-numbers.ensures.ordered;
+    }
+
+pub find_numbers-requires-clause-lies : goal.find_numbers-requires-clause-lies
+find_numbers-requires-clause-lies g c = record { page = sym (ap (λ (y : Geometry). y.page) c.geometry-geometry.ensures); block = sym (ap (λ (y : Geometry). y.block) c.geometry-geometry.ensures); within = c.requires.lies }
+
+pub find_numbers-requires-clause-room : goal.find_numbers-requires-clause-room
+find_numbers-requires-clause-room g c = c.requires.room ∙ sym (ap (λ (y : Geometry). y.page) c.geometry-geometry.ensures)
+
+pub returns-in_err-numbers-clause-newest : goal.returns-in_err-numbers-clause-newest
+returns-in_err-numbers-clause-newest g c =
+    let p = err_from_is_err_and c.from_residual.result c.from_residual.ensures.1 in
+    rw p.1 tt
+
+pub returns-in_err-numbers-clause-room : goal.returns-in_err-numbers-clause-room
+returns-in_err-numbers-clause-room g c = c.find_numbers.ensures.room ∙ (ap (λ (y : Geometry). y.page) c.geometry-geometry.ensures ∙ sym c.requires.room)
+
+pub repair-requires-clause-lies : goal.repair-requires-clause-lies
+repair-requires-clause-lies g c = lies_still _ (g.F.Flash.state c.args.flash.now) (g.F.Flash.state c.find_numbers.new.flash) (record { page = sym (ap (λ (y : Geometry). y.page) c.geometry-geometry.ensures); block = sym (ap (λ (y : Geometry). y.block) c.geometry-geometry.ensures); within = c.requires.lies }) c.find_numbers.ensures.reads.goes
+
+pub repair-requires-clause-left : goal.repair-requires-clause-left
+repair-requires-clause-left g c = c.in_ok-numbers.ensures.left
+
+pub repair-requires-clause-room : goal.repair-requires-clause-room
+repair-requires-clause-room g c = c.find_numbers.ensures.room
+
+pub returns-in_err-repair-clause-newest : goal.returns-in_err-repair-clause-newest
+returns-in_err-repair-clause-newest g c =
+    let p = err_from_is_err_and c.from_residual-in_err-repair.result c.from_residual-in_err-repair.ensures.1 in
+    rw p.1 tt
+
+pub returns-in_err-repair-clause-room : goal.returns-in_err-repair-clause-room
+returns-in_err-repair-clause-room g c = c.repair.ensures.room ∙ (c.find_numbers.ensures.room ∙ (ap (λ (y : Geometry). y.page) c.geometry-geometry.ensures ∙ sym c.requires.room))
+
+pub returns-clause-room : goal.returns-clause-room
+returns-clause-room g c = c.repair.ensures.room ∙ (c.find_numbers.ensures.room ∙ (ap (λ (y : Geometry). y.page) c.geometry-geometry.ensures ∙ sym c.requires.room))
