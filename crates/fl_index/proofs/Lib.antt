@@ -10,12 +10,14 @@ pub mod SealEnds
 pub mod SealAnswers
 pub mod Rooms
 pub mod HeaderPages
+pub mod ListingOn
 pub mod ListingPages
 pub mod LookupsOfTable
 pub mod BitmapsAlone
 pub mod Held
 pub mod LoadedPages
 pub mod Lies
+pub mod Limits
 pub mod Lookups
 pub mod LookupCalls
 pub mod Counts

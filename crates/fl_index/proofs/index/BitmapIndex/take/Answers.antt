@@ -6,6 +6,8 @@ use Rattle.fl_index.specs.Page.{form_len}
 use Rattle.fl_index.proofs.WaitingEntries.{written-back}
 use Rattle.fl_index.proofs.LoadedPages.{body-room, copied-entries, copied-length, copied-blank, found-same}
 use Rattle.fl_index.proofs.SealAnswers.{some-room}
+use Rattle.fl_index.proofs.ListingOn.{none-at, other-at}
+use Rattle.fl_index.proofs.Limits.{least-few, least-left}
 use Rattle.fl_index.proofs.index.BitmapIndex.take.Goals as goal
 
 pub invariant_of-self-2-clause-page : goal.invariant_of-self-2-clause-page
@@ -54,3 +56,82 @@ returns-clause-loaded c =
       many = omega (arith, c.min-self.ensures, c.capacity-capacity.ensures.exact);
       each = λ j lt. found-same (form_in t) _ page (per_page t) j (ap (λ (l : List ℕ). take n (drop 16 l)) back ∙ copied-entries t.body.items page n (body-room t) whole) (omega (arith, lt, least));
     }
+
+pub invariant_of-self : goal.invariant_of-self
+invariant_of-self c =
+    let t = c.args.self.now in
+    record {
+      served = t.served;
+      some_blocks = t.some_blocks;
+      few_blocks = t.few_blocks;
+      some_bits = t.some_bits;
+      remembered = t.remembered;
+      page = t.page;
+      blank_rest = t.blank_rest;
+      few = t.few;
+      left = t.left;
+      lies = t.lies;
+    }
+
+pub invariant_of-self-2-clause-served : goal.invariant_of-self-2-clause-served
+invariant_of-self-2-clause-served c = c.args.self.now.served
+
+pub invariant_of-self-2-clause-some_blocks : goal.invariant_of-self-2-clause-some_blocks
+invariant_of-self-2-clause-some_blocks c = c.args.self.now.some_blocks
+
+pub invariant_of-self-2-clause-few_blocks : goal.invariant_of-self-2-clause-few_blocks
+invariant_of-self-2-clause-few_blocks c = c.args.self.now.few_blocks
+
+pub invariant_of-self-2-clause-some_bits : goal.invariant_of-self-2-clause-some_bits
+invariant_of-self-2-clause-some_bits c = c.args.self.now.some_bits
+
+pub invariant_of-self-2-clause-remembered : goal.invariant_of-self-2-clause-remembered
+invariant_of-self-2-clause-remembered c = c.args.self.now.remembered
+
+pub invariant_of-self-2-clause-lies : goal.invariant_of-self-2-clause-lies
+invariant_of-self-2-clause-lies c = c.args.self.now.lies
+
+pub invariant_of-self-2-clause-few : goal.invariant_of-self-2-clause-few
+invariant_of-self-2-clause-few c = least-few _ _ _ _ c.min-self.ensures c.capacity-capacity.ensures.exact
+
+pub invariant_of-self-2-clause-left : goal.invariant_of-self-2-clause-left
+invariant_of-self-2-clause-left c = least-left _ _ _ c.min-self.ensures c.first_in-first.type_inv
+
+pub returns-in-Err-clause-still : goal.returns-in-Err-clause-still
+returns-in-Err-clause-still c = refl
+
+pub returns-in-Err-clause-same : goal.returns-in-Err-clause-same
+returns-in-Err-clause-same c = record { geometry = refl; place = refl; bits = refl; full = refl }
+
+pub returns-in-Ok-false-clause-still : goal.returns-in-Ok-false-clause-still
+returns-in-Ok-false-clause-still c = refl
+
+pub returns-in-Ok-false-clause-same : goal.returns-in-Ok-false-clause-same
+returns-in-Ok-false-clause-same c = record { geometry = refl; place = refl; bits = refl; full = refl }
+
+pub returns-clause-still : goal.returns-clause-still
+returns-clause-still c = refl
+
+pub returns-clause-same : goal.returns-clause-same
+returns-clause-same c = record { geometry = refl; place = refl; bits = refl; full = refl }
+
+pub nonzero_rem-at : goal.nonzero_rem-at
+nonzero_rem-at c = some-room c.args.self.now c.len.result c.len.ensures
+
+pub returns-in-Err-clause-loaded : goal.returns-in-Err-clause-loaded
+returns-in-Err-clause-loaded c = let bad = c.in-Err.ensures.bad in (bad.0, bad.1, bad.2, record { remembered = none-at c.args.self.now c.args.number c.len.result c.len.ensures; many = c.requires.none }, c.first_in-first.ensures)
+
+pub returns-in-Ok-false-clause-loaded : goal.returns-in-Ok-false-clause-loaded
+returns-in-Ok-false-clause-loaded c = (c.in-Ok-false.ensures.none c.in-Ok-false.field-0-test, record { remembered = none-at c.args.self.now c.args.number c.len.result c.len.ensures; many = c.requires.none })
+
+pub returns-in-Err-clause-others : goal.returns-in-Err-clause-others
+returns-in-Err-clause-others c = λ n other. other-at c.args.self.now c.args.self.now.firsts.items n c.args.number c.len.result None c.len.ensures other
+
+pub returns-in-Ok-false-clause-others : goal.returns-in-Ok-false-clause-others
+returns-in-Ok-false-clause-others c = λ n other. other-at c.args.self.now c.args.self.now.firsts.items n c.args.number c.len.result None c.len.ensures other
+
+pub returns-clause-others : goal.returns-clause-others
+returns-clause-others c = λ n other.
+    let t = c.args.self.now in
+    other-at t (set t.firsts.items (c.args.number % c.len.result) None) n c.args.number c.len.result (Some c.first_in-first.result) c.len.ensures other
+    ∙ other-at t t.firsts.items n c.args.number c.len.result None c.len.ensures other

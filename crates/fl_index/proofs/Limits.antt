@@ -1,0 +1,54 @@
+-- Small facts on counts and sizes, over plain variables.
+use Rattle.std.proofs.Common.{◌≡◌, ◌⊎◌, inl, ℕ, ◌+◌, ◌-◌, ◌^◌, ◌<◌, ◌≤◌, ◌==◌, Bool, true, false, if◌then◌else◌, min, IsTrue, Result, Ok, Err, OnOk, refl, ◌∙◌, ap, arith}
+use Rattle.std.proofs.lemmas.Bool.{eqb-true}
+use Rattle.fl_flash.specs.Buffer.{BufferState}
+use Rattle.fl_flash.specs.Flash.{FlashState, ReadsPage, page_at}
+use Rattle.fl_flash.specs.Media.{next_count}
+use Rattle.fl_flash.specs.declared.flash.FlashFault.{FlashFault}
+use Rattle.fl_ring.proofs.ReadsInTurn.{read_once}
+
+-- none waits
+pub none-left : (first waiting : ℕ) → first + waiting < 2 ^ 32 → first + 0 < 2 ^ 32
+none-left first waiting left = omega (arith, left)
+
+-- the lesser of a page's entries and of the numbers that are left
+pub least-few : (capacity rest least most : ℕ) → least ≡ min capacity rest → capacity ≡ most → least ≤ most
+least-few capacity rest least most is same = omega (arith, is, same)
+
+pub least-left : (capacity first least : ℕ) → least ≡ min capacity (2 ^ 32 - 1 - first) → first < 2 ^ 32 → first + least < 2 ^ 32
+least-left capacity first least is small = omega (arith, is, small)
+
+-- what a page with room keeps
+pub still-room : (waiting most then_ else_ : ℕ) → waiting < most → else_ ≡ (if waiting == most then then_ else else_)
+still-room waiting most then_ else_ lt = by-test (waiting == most) refl
+  where
+    by-test : (b : Bool) → (waiting == most) ≡ b → else_ ≡ (if b then then_ else else_)
+    by-test true e = let same = eqb-true waiting most e in absurd (omega (arith, same, lt))
+    by-test false e = refl
+
+pub not-full : (waiting most : ℕ) → waiting < most → most ≤ waiting → ⊥
+not-full waiting most lt le = omega (arith, lt, le)
+
+-- a page more of those from one on
+pub one-more : (from number after last : ℕ) → from ≤ number → number < after → after ≡ last → number - from + 1 ≤ last - from
+one-more from number after last low high same = omega (arith, low, high, same)
+
+-- the fields of what a full entry tells
+pub key-within : (at len : ℕ) → at + 14 ≤ len → at + 8 ≤ len
+key-within at len room = omega (arith, room)
+
+pub count-within : (at len : ℕ) → at + 14 ≤ len → at + 8 + 2 ≤ len
+count-within at len room = omega (arith, room)
+
+pub end-within : (at len : ℕ) → at + 14 ≤ len → at + 10 + 4 ≤ len
+end-within at len room = omega (arith, room)
+
+-- what a read that went well says
+module _ (X : Type 0) (old new : FlashState) (page size : ℕ) (into : BufferState) where
+  pub once-read : (result : Result (Unit {0}) FlashFault) → ReadsPage old page size result into new → OnOk result (X → new.work.reads ≡ next_count old.work.reads)
+  once-read (Ok u) is = λ x. read_once old new page size u into is
+  once-read (Err e) is = tt
+
+  pub bytes-read : (result : Result (Unit {0}) FlashFault) (at : ℕ) → page ≡ at → ReadsPage old page size result into new → OnOk result (IsTrue old.media.tells → (into.bytes ≡ page_at old at) ⊎ X)
+  bytes-read (Ok u) at same is = λ told. inl (is.bytes told ∙ ap (page_at old) same)
+  bytes-read (Err e) at same is = tt
