@@ -31,6 +31,7 @@ use Rattle.fl_var.specs.Placing.{Seals, Breaks, EndsWith, pages_placed}
 use Rattle.fl_var.specs.Standing.{HasRing}
 use Rattle.fl_var.specs.declared.var_data.VarData.{VarData}
 use Rattle.fl_var.proofs.Lists.{drop-short}
+use Rattle.fl_var.proofs.ByMemory.{plan-then}
 use Rattle.fl_var.proofs.PageImages.{waiting-length}
 use Rattle.fl_var.proofs.SealsInTable.{room-planned, seal-err}
 use Rattle.fl_var.proofs.Joins.{seals-none, seals-refilled, seals-join, breaks-join, breaks-front, buffered-after, replicate-push, replicate-split, same-shape}
@@ -71,9 +72,6 @@ lies-refilled v w f ring same lies = record {
   few = lies.few;
   ring = subst (λ (o : Option Ring). ForSome o (λ r. place_words.LiesOn r f)) (sym ring) lies.ring;
 }
-
-same-then : (a b c : VarData) → IsSamePlan a b → IsSamePlan b c → IsSamePlan a c
-same-then a b c first second = record { geometry = second.geometry ∙ first.geometry; place = second.place ∙ first.place }
 
 room-same : (a b : VarData) → IsSamePlan a b → room_in b ≡ room_in a
 room-same a b same = ap (λ (g : Geometry). g.page - 16) same.geometry
@@ -196,7 +194,7 @@ module _ (first v mid w : VarData) (first_f f g : FlashState) (bytes : List ℕ)
       let before = is.full less in
       record {
         goes = goes-then first_f f g is.goes goes;
-        same = same-then first v w is.same (same-then v mid w same refilled);
+        same = plan-then first v w is.same (plan-then v mid w same refilled);
         lies = lies-refilled mid w g ring refilled lies;
         mounted = ap is_some ring ∙ mounted;
         later = omega (arith, at, is.later);

@@ -1,6 +1,7 @@
 pub mod Lists
 pub mod WaitingContent
 pub mod PageImages
+pub mod PageLooks
 pub mod Wholes
 pub mod Chunks
 pub mod Bodies
@@ -8,6 +9,7 @@ pub mod States
 pub mod RingInTable
 pub mod SealsInTable
 pub mod Joins
+pub mod ByMemory
 pub mod Ahead
 pub mod OldestKept
 pub mod Written
@@ -17,3 +19,4 @@ pub mod MountsInTable
 pub mod Stored
 pub mod Found
 pub mod PagesBehind
+pub mod Readers

@@ -14,6 +14,11 @@ pub some-there : (n : ℕ) (empty : Bool) → empty ≡ (n == 0) → empty ≡ f
 some-there zero empty is none = absurd (true≢false (sym is ∙ none))
 some-there (suc n) empty is none = omega arith
 
+-- a number that isn't zero
+pub not-none : (n : ℕ) → (n ≡ 0 → ⊥) → 1 ≤ n
+not-none zero other = absurd (other refl)
+not-none (suc n) other = omega arith
+
 -- a place that isn't the end stands before it
 pub before-end : (n end : ℕ) → n ≤ end → (n ≡ end → ⊥) → n + 1 ≤ end
 before-end n end le other = elim (cases_lt n end) [

@@ -8,6 +8,7 @@ use Rattle.fl_var.specs.Memory.{room_in, MaySeal}
 use Rattle.fl_var.proofs.BufferedBytes.{pages-next, writes-first, writes-next, writes-fail, writes-oldest, writes-waits, writes-quiet, writes-end, writes-off, writes-tried, tried-fail, wrote-on, ok-on, cause-err, lost-on}
 use Rattle.fl_var.proofs.PageImages.{waiting-length}
 use Rattle.fl_var.proofs.Written.{on-ring}
+use Rattle.fl_var.proofs.ByMemory.{plan-then, outside-then, done-err}
 use Rattle.fl_var.proofs.var_data.VarData.write.Goals as goal
 
 pub loop-done-init : goal.loop-done-init
@@ -117,3 +118,76 @@ returns-in_err-seal-clause-media_reads g c =
     let wide : 0 < room_in c.args.self.now = omega (arith, c.args.self.now.served.page_least) in
     let is = c.loop-done.invariant.0 in
     omega (arith, c.in_err-seal.ensures.media_reads, is.media_reads, pages-next c.args.self.now c.loop-done.self (g.F.Flash.state c.args.flash.now) (g.F.Flash.state c.loop-done.flash) c.args.bytes.now c.loop-done.done is less wide)
+
+pub returns-in_err-seal-clause-same : goal.returns-in_err-seal-clause-same
+returns-in_err-seal-clause-same g c = plan-then c.args.self.now c.loop-done.self c.seal.new.self c.loop-done.invariant.0.same c.seal.ensures.same
+
+pub returns-in_err-seal-clause-lies : goal.returns-in_err-seal-clause-lies
+returns-in_err-seal-clause-lies g c = c.seal.ensures.lies
+
+pub returns-in_err-seal-clause-mounted : goal.returns-in_err-seal-clause-mounted
+returns-in_err-seal-clause-mounted g c =
+    let p = err_from_is_err_and c.from_residual.result c.from_residual.ensures.1 in
+    rw p.1 c.in_err-seal.ensures.mounted
+
+pub returns-in_err-seal-clause-next : goal.returns-in_err-seal-clause-next
+returns-in_err-seal-clause-next g c =
+    let p = err_from_is_err_and c.from_residual.result c.from_residual.ensures.1 in
+    rw p.1 tt
+
+pub returns-in_err-seal-clause-oldest : goal.returns-in_err-seal-clause-oldest
+returns-in_err-seal-clause-oldest g c =
+    let p = err_from_is_err_and c.from_residual.result c.from_residual.ensures.1 in
+    rw p.1 tt
+
+pub returns-in_err-seal-clause-power : goal.returns-in_err-seal-clause-power
+returns-in_err-seal-clause-power g c =
+    let p = err_from_is_err_and c.from_residual.result c.from_residual.ensures.1 in
+    rw p.1 tt
+
+pub returns-in_err-seal-clause-waits : goal.returns-in_err-seal-clause-waits
+returns-in_err-seal-clause-waits g c =
+    let p = err_from_is_err_and c.from_residual.result c.from_residual.ensures.1 in
+    rw p.1 tt
+
+pub returns-in_err-seal-clause-outside : goal.returns-in_err-seal-clause-outside
+returns-in_err-seal-clause-outside g c = outside-then c.args.self.now c.loop-done.self (g.F.Flash.state c.args.flash.now) (g.F.Flash.state c.loop-done.flash) (g.F.Flash.state c.seal.new.flash) c.loop-done.invariant.0.same c.loop-done.invariant.0.goes c.loop-done.invariant.0.outside c.seal.ensures.outside
+
+pub returns-in_err-seal-clause-reads : goal.returns-in_err-seal-clause-reads
+returns-in_err-seal-clause-reads g c = c.seal.ensures.reads ∙ c.loop-done.invariant.0.reads
+
+pub returns-clause-goes : goal.returns-clause-goes
+returns-clause-goes g c = c.loop-done.invariant.0.goes
+
+pub returns-clause-same : goal.returns-clause-same
+returns-clause-same g c = c.loop-done.invariant.0.same
+
+pub returns-clause-lies : goal.returns-clause-lies
+returns-clause-lies g c = c.loop-done.invariant.0.lies
+
+pub returns-clause-mounted : goal.returns-clause-mounted
+returns-clause-mounted g c = c.loop-done.invariant.0.mounted
+
+pub returns-clause-outside : goal.returns-clause-outside
+returns-clause-outside g c = c.loop-done.invariant.0.outside
+
+pub returns-clause-reads : goal.returns-clause-reads
+returns-clause-reads g c = c.loop-done.invariant.0.reads
+
+pub returns-clause-lost : goal.returns-clause-lost
+returns-clause-lost g c = λ lost. absurd (done-err tt _ lost)
+
+pub seal-requires-clause-mounted : goal.seal-requires-clause-mounted
+seal-requires-clause-mounted g c = c.loop-done.invariant.0.mounted
+
+pub seal-requires-clause-lies : goal.seal-requires-clause-lies
+seal-requires-clause-lies g c = c.loop-done.invariant.0.lies
+
+pub seal-requires-clause-some : goal.seal-requires-clause-some
+seal-requires-clause-some g c = c.loop-done.invariant.0.some
+
+pub put-done-requires : goal.put-done-requires
+put-done-requires g c = record { blank = c.args.self.now.blank }
+
+pub put-done-requires-in-loop-done : goal.put-done-requires-in-loop-done
+put-done-requires-in-loop-done g c = record { blank = c.seal.new.self.blank }
