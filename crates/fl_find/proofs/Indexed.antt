@@ -1,5 +1,6 @@
 -- A learned index of points, and what it tells of keys.
-use Rattle.std.proofs.Common.{◌≡◌, ℕ, ◌+◌, min, Bool, true, false, cond, List, sym, ◌∙◌, ap}
+use Rattle.std.proofs.Common.{◌≡◌, ℕ, ◌+◌, ◌-◌, ◌≤◌, min, Bool, true, false, cond, List, sym, ◌∙◌, ap, arith}
+use Rattle.std.proofs.Math.Nat.{min-le_right}
 use Rattle.fl_model.specs.Record.{Plan}
 use Rattle.fl_model.specs.Table.{Table}
 use Rattle.fl_model.specs.Spline.{retained, is_covered, estimate}
@@ -27,3 +28,10 @@ index-ends {KNOTS} {SLOTS} index plan table key next end true of at covered is =
     ∙ sym (ap (λ b. cond b (end_of KNOTS plan table key) table.rows.next) (index-covered index plan.error key table.points true of covered))
 index-ends {KNOTS} {SLOTS} index plan table key next end false of at covered is =
     is ∙ (at ∙ sym (ap (λ b. cond b (end_of KNOTS plan table key) table.rows.next) (index-covered index plan.error key table.points false of covered)))
+
+-- no page behind the next one is in a window, so that its pages are some of all
+pub window-before : {KNOTS SLOTS : ℕ} (index : KeyIndex KNOTS SLOTS) (next key : ℕ) → window_end index next key ≤ next
+window-before {KNOTS} {SLOTS} index next key = min-le_right (estimate (knots_in index) key + error_in index + 1) next
+
+pub reads-window : (oldest next end before now : ℕ) → end ≤ next → now ≤ before + (end - oldest) → now ≤ before + (next - oldest) + 1
+reads-window oldest next end before now kept most = omega (arith, kept, most)

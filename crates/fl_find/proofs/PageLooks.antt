@@ -1,5 +1,5 @@
 -- Looks at pages, one after another.
-use Rattle.std.proofs.Common.{◌≡◌, ℕ, IsTrue, List, refl, sym, ap, subst, ◌∙◌, arith, Result, Ok, Err}
+use Rattle.std.proofs.Common.{◌≡◌, ℕ, ◌+◌, ◌≤◌, IsTrue, List, refl, sym, ap, subst, ◌∙◌, arith, Result, Ok, Err}
 use Rattle.std.specs.Prelude.{IfErr}
 use Rattle.std.proofs.lemmas.Option.{none-some, same_Some}
 use Rattle.fl_flash.specs.Buffer.{BufferState}
@@ -65,6 +65,13 @@ rose-before a b c looks rose below =
     let up = rose below in
     let less = OnlyReads-reads a b looks.reads (omega (arith, up, below)) in
     omega (arith, less, up)
+
+-- one read more at most
+pub few-more : (before m v mid now : ℕ) → mid ≤ before + m + v → now ≤ mid + 1 → now ≤ before + m + 1 + v
+few-more before m v mid now few more = omega (arith, few, more)
+
+pub most-more : (before m mid now : ℕ) → mid ≤ before + m → now ≤ mid + 1 → now ≤ before + m + 1
+most-more before m mid now most more = omega (arith, most, more)
 
 -- a page that is bad later was bad before
 bad-before : (layout : RowLayout) (ring : Ring) (a b : FlashState) (bad : BadPage) → OnlyLooks a b → HasBadPage layout ring b bad → HasBadPage layout ring a bad

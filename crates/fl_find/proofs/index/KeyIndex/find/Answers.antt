@@ -1,4 +1,7 @@
-use Rattle.std.proofs.Common.{List, subst}
+use Rattle.std.proofs.Common.{◌≡◌, ℕ, List, sym, subst}
+use Rattle.fl_mark.specs.Mark.{state_of_page}
+use Rattle.fl_mark.specs.declared.page_state.PageState.TheVariants.{Committed}
+use Rattle.fl_page.specs.Page.{IsGoodPage}
 use Rattle.fl_find.specs.Index.{window_end}
 use Rattle.fl_ring.specs.Place.{next_of}
 use Rattle.std.proofs.lemmas.Result.{err_from_is_err_and}
@@ -60,3 +63,165 @@ pub returns-in_err-number-clause-blames : goal.returns-in_err-number-clause-blam
 returns-in_err-number-clause-blames g c = λ covered.
     let p = err_from_is_err_and c.from_residual.result c.from_residual.ensures.1 in
     rw (p.1, p.2) (c.in_err-number.ensures.blames covered)
+
+pub returns-in_err-number-clause-looks : goal.returns-in_err-number-clause-looks
+returns-in_err-number-clause-looks g c = c.page_of.ensures.looks
+
+pub returns-in_err-number-clause-lies : goal.returns-in_err-number-clause-lies
+returns-in_err-number-clause-lies g c = c.page_of.ensures.lies
+
+pub returns-in_err-number-clause-room : goal.returns-in_err-number-clause-room
+returns-in_err-number-clause-room g c = c.page_of.ensures.room
+
+pub returns-in_err-number-clause-reads : goal.returns-in_err-number-clause-reads
+returns-in_err-number-clause-reads g c = c.page_of.ensures.reads
+
+pub returns-in_err-number-clause-most : goal.returns-in_err-number-clause-most
+returns-in_err-number-clause-most g c = c.page_of.ensures.most
+
+pub returns-in_err-number-clause-fresh : goal.returns-in_err-number-clause-fresh
+returns-in_err-number-clause-fresh g c = c.page_of.ensures.fresh
+
+pub returns-in_err-number-clause-later : goal.returns-in_err-number-clause-later
+returns-in_err-number-clause-later g c = c.page_of.ensures.later
+
+pub returns-in_err-number-clause-comparisons : goal.returns-in_err-number-clause-comparisons
+returns-in_err-number-clause-comparisons g c = c.page_of.ensures.comparisons
+
+pub returns-in_default-clause-looks : goal.returns-in_default-clause-looks
+returns-in_default-clause-looks g c = c.page_of.ensures.looks
+
+pub returns-in_default-clause-lies : goal.returns-in_default-clause-lies
+returns-in_default-clause-lies g c = c.page_of.ensures.lies
+
+pub returns-in_default-clause-room : goal.returns-in_default-clause-room
+returns-in_default-clause-room g c = c.page_of.ensures.room
+
+pub returns-in_default-clause-reads : goal.returns-in_default-clause-reads
+returns-in_default-clause-reads g c = c.page_of.ensures.reads
+
+pub returns-in_default-clause-most : goal.returns-in_default-clause-most
+returns-in_default-clause-most g c = c.page_of.ensures.most
+
+pub returns-in_default-clause-fresh : goal.returns-in_default-clause-fresh
+returns-in_default-clause-fresh g c = c.page_of.ensures.fresh
+
+pub returns-in_default-clause-later : goal.returns-in_default-clause-later
+returns-in_default-clause-later g c = c.page_of.ensures.later
+
+pub returns-in_default-clause-comparisons : goal.returns-in_default-clause-comparisons
+returns-in_default-clause-comparisons g c = c.page_of.ensures.comparisons
+
+pub returns-in_default-row_of-clause-looks : goal.returns-in_default-row_of-clause-looks
+returns-in_default-row_of-clause-looks g c = c.page_of.ensures.looks
+
+pub returns-in_default-row_of-clause-lies : goal.returns-in_default-row_of-clause-lies
+returns-in_default-row_of-clause-lies g c = c.page_of.ensures.lies
+
+pub returns-in_default-row_of-clause-room : goal.returns-in_default-row_of-clause-room
+returns-in_default-row_of-clause-room g c = c.page_of.ensures.room
+
+pub returns-in_default-row_of-clause-reads : goal.returns-in_default-row_of-clause-reads
+returns-in_default-row_of-clause-reads g c = c.page_of.ensures.reads
+
+pub returns-in_default-row_of-clause-most : goal.returns-in_default-row_of-clause-most
+returns-in_default-row_of-clause-most g c = c.page_of.ensures.most
+
+pub returns-in_default-row_of-clause-fresh : goal.returns-in_default-row_of-clause-fresh
+returns-in_default-row_of-clause-fresh g c = c.page_of.ensures.fresh
+
+pub returns-in_default-row_of-clause-later : goal.returns-in_default-row_of-clause-later
+returns-in_default-row_of-clause-later g c = c.page_of.ensures.later
+
+pub returns-in_default-row_of-clause-comparisons : goal.returns-in_default-row_of-clause-comparisons
+returns-in_default-row_of-clause-comparisons g c = c.page_of.ensures.comparisons
+
+pub returns-clause-looks : goal.returns-clause-looks
+returns-clause-looks g c = c.page_of.ensures.looks
+
+pub returns-clause-lies : goal.returns-clause-lies
+returns-clause-lies g c = c.page_of.ensures.lies
+
+pub returns-clause-room : goal.returns-clause-room
+returns-clause-room g c = c.page_of.ensures.room
+
+pub returns-clause-reads : goal.returns-clause-reads
+returns-clause-reads g c = c.page_of.ensures.reads
+
+pub returns-clause-most : goal.returns-clause-most
+returns-clause-most g c = c.page_of.ensures.most
+
+pub returns-clause-fresh : goal.returns-clause-fresh
+returns-clause-fresh g c = c.page_of.ensures.fresh
+
+pub returns-clause-later : goal.returns-clause-later
+returns-clause-later g c = c.page_of.ensures.later
+
+pub returns-clause-comparisons : goal.returns-clause-comparisons
+returns-clause-comparisons g c = c.page_of.ensures.comparisons
+
+pub returns-in_err-number-clause-sound : goal.returns-in_err-number-clause-sound
+returns-in_err-number-clause-sound g c =
+    λ page covered told is.
+    let p = err_from_is_err_and c.from_residual.result c.from_residual.ensures.1 in
+    rw p.1 tt
+
+pub returns-in_err-number-clause-near : goal.returns-in_err-number-clause-near
+returns-in_err-number-clause-near g c =
+    λ page covered told is.
+    let p = err_from_is_err_and c.from_residual.result c.from_residual.ensures.1 in
+    rw p.1 tt
+
+pub returns-in_err-number-clause-far : goal.returns-in_err-number-clause-far
+returns-in_err-number-clause-far g c =
+    λ page covered told up is.
+    let p = err_from_is_err_and c.from_residual.result c.from_residual.ensures.1 in
+    rw p.1 tt
+
+pub returns-in_err-number-clause-holds : goal.returns-in_err-number-clause-holds
+returns-in_err-number-clause-holds g c =
+    let p = err_from_is_err_and c.from_residual.result c.from_residual.ensures.1 in
+    rw p.1 tt
+
+pub returns-in_err-number-clause-within : goal.returns-in_err-number-clause-within
+returns-in_err-number-clause-within g c =
+    let p = err_from_is_err_and c.from_residual.result c.from_residual.ensures.1 in
+    rw p.1 tt
+
+pub returns-in_err-number-clause-row : goal.returns-in_err-number-clause-row
+returns-in_err-number-clause-row g c =
+    let p = err_from_is_err_and c.from_residual.result c.from_residual.ensures.1 in
+    rw p.1 tt
+
+pub returns-in_err-number-clause-fails : goal.returns-in_err-number-clause-fails
+returns-in_err-number-clause-fails g c =
+    let p = err_from_is_err_and c.from_residual.result c.from_residual.ensures.1 in
+    rw (p.1, p.2) c.in_err-number.ensures.fails
+
+pub returns-in_default-clause-sound : goal.returns-in_default-clause-sound
+returns-in_default-clause-sound g c = λ page covered told is. c.in_ok-number.ensures.sound page covered told is
+
+pub returns-in_default-row_of-clause-sound : goal.returns-in_default-row_of-clause-sound
+returns-in_default-row_of-clause-sound g c = λ page covered told is. c.in_ok-number.ensures.sound page covered told is
+
+pub returns-clause-sound : goal.returns-clause-sound
+returns-clause-sound g c = λ page covered told is. c.in_ok-number.ensures.sound page covered told is
+
+pub returns-clause-holds : goal.returns-clause-holds
+returns-clause-holds g c = rw c.in-Some.is at c.in_ok-number.ensures.holds
+
+pub returns-clause-within : goal.returns-clause-within
+returns-clause-within g c = rw c.in-Some.is at c.in_ok-number.ensures.within
+
+pub returns-clause-row : goal.returns-clause-row
+returns-clause-row g c = subst (λ (l : List ℕ). HasKey (rows_on (layout_of c.args.schema.now) l) c.args.key c.in-Some-row_of.row) c.bytes.ensures c.in-Some-row_of.ensures.found
+
+pub row_of-requires-clause-good : goal.row_of-requires-clause-good
+row_of-requires-clause-good g c =
+    let holds = rw c.in-Some.is at c.in_ok-number.ensures.holds in
+    subst (λ (l : List ℕ). IsGoodPage (layout_of c.args.schema.now) c.in-Some.number l) (sym c.bytes.ensures) holds.good
+
+pub row_of-requires-clause-committed : goal.row_of-requires-clause-committed
+row_of-requires-clause-committed g c =
+    let holds = rw c.in-Some.is at c.in_ok-number.ensures.holds in
+    subst (λ (l : List ℕ). state_of_page l ≡ Committed) (sym c.bytes.ensures) holds.committed
