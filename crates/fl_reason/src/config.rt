@@ -151,7 +151,9 @@ pub fn config_reason(script: &Tail, room: &mut LineRoom) -> Option<ConfigReason>
     let mut device = ConfigLine::of_device(0, 0);
     let lines = script.bytes().split(|byte| *byte == b'\n');
     for line in lines {
-        let command = read_line(line, room).ok()?;
+        let Ok(command) = read_line(line, room) else {
+            return None;
+        };
         let reason = refusal_of(&mut config, &command, room, &device);
         if reason.is_some() {
             return reason;
@@ -172,12 +174,16 @@ pub(crate) fn config_of(script: &Tail, room: &mut LineRoom) -> Option<Config> {
     let mut config = Config::new();
     let lines = script.bytes().split(|byte| *byte == b'\n');
     for line in lines {
-        let command = read_line(line, room).ok()?;
+        let Ok(command) = read_line(line, room) else {
+            return None;
+        };
         match command {
             Command::Nothing | Command::Device { .. } | Command::Table { .. } => {}
             _ => break,
         }
-        config.add(&command, room).ok()?;
+        if config.add(&command, room).is_err() {
+            return None;
+        }
     }
     Some(config)
 }

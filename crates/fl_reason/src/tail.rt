@@ -93,17 +93,17 @@ impl Tail {
 
     /// The line of this number, counted from 1, without its newline; none where its front isn't kept.
     pub fn line(&self, number: u64) -> Option<&[u8]> {
-        let wanted = number.checked_sub(1)?.checked_sub(self.passed)?;
-        if wanted == 0 && self.is_cut {
+        // The front of the first line that is kept is lacking where the text is cut.
+        if number <= self.passed.saturating_add(u64::from(self.is_cut)) {
             return None;
         }
-        let mut at: u64 = 0;
+        let mut at = self.passed;
         let lines = self.bytes.split(|byte| *byte == b'\n');
         for line in lines {
-            if at == wanted {
+            at = at.saturating_add(1);
+            if at == number {
                 return Some(line);
             }
-            at = at.saturating_add(1);
         }
         None
     }

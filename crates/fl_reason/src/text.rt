@@ -28,24 +28,32 @@ impl Display for Reason {
     }
 }
 
+impl Wanted {
+    // What it is in words; a number is told with its bounds.
+    fn text(self) -> &'static str {
+        match self {
+            Wanted::Name => "a name: 1 to 8 of a-z and 0-9, beginning with a letter",
+            Wanted::Number { .. } => "a number",
+            Wanted::Signed => "a number from -9223372036854775808 to 9223372036854775807",
+            Wanted::Cursor => "a cursor: 0, 1, 2 or 3",
+            Wanted::Comparison => "one of lt, le, eq, ne, ge and gt",
+            Wanted::Cut => "one of before, after, half and noise",
+            Wanted::Columns => "1 to 8 numbers of columns, joined by commas",
+            Wanted::Blob => "- or an even number of hexadecimal digits",
+            Wanted::Ending => "index2 or rlc, or to be left out",
+            Wanted::Log => "rlc, or to be left out",
+            Wanted::Nothing => "left out",
+        }
+    }
+}
+
 impl Display for Wanted {
     fn fmt<W: fmt::Write>(&self, f: &mut fmt::Formatter<W>) -> fmt::Result {
         match self {
-            Wanted::Name => f.write_str("a name: 1 to 8 of a-z and 0-9, beginning with a letter"),
             Wanted::Number { least, greatest } => {
                 write!(f, "a number from {least} to {greatest}")
             }
-            Wanted::Signed => {
-                f.write_str("a number from -9223372036854775808 to 9223372036854775807")
-            }
-            Wanted::Cursor => f.write_str("a cursor: 0, 1, 2 or 3"),
-            Wanted::Comparison => f.write_str("one of lt, le, eq, ne, ge and gt"),
-            Wanted::Cut => f.write_str("one of before, after, half and noise"),
-            Wanted::Columns => f.write_str("1 to 8 numbers of columns, joined by commas"),
-            Wanted::Blob => f.write_str("- or an even number of hexadecimal digits"),
-            Wanted::Ending => f.write_str("index2 or rlc, or to be left out"),
-            Wanted::Log => f.write_str("rlc, or to be left out"),
-            Wanted::Nothing => f.write_str("left out"),
+            other => f.write_str(other.text()),
         }
     }
 }
@@ -90,97 +98,169 @@ impl Display for LineReason {
     }
 }
 
+// What a refusal tells, where it names one number at most: the texts in front of the number and behind it.
+const TEXTS: [(ConfigRefusal, &str, &str); 18] = [
+    (
+        ConfigRefusal::DeviceTwice,
+        "there is a device line before it",
+        "",
+    ),
+    (
+        ConfigRefusal::TableFirst,
+        "a device line has to come before it",
+        "",
+    ),
+    (
+        ConfigRefusal::PageSize,
+        "PAGE is ",
+        " and has to be 64 to 4096 and a multiple of 8",
+    ),
+    (
+        ConfigRefusal::BlockSize,
+        "BLOCK is ",
+        " and has to be 2 to 256",
+    ),
+    (
+        ConfigRefusal::TooManyTables,
+        "there are four tables before it",
+        "",
+    ),
+    (
+        ConfigRefusal::NameTaken,
+        "a table before it has the same NAME",
+        "",
+    ),
+    (
+        ConfigRefusal::KeyWidth,
+        "KEY is ",
+        " bytes and has to be 4 or 8",
+    ),
+    (
+        ConfigRefusal::ColumnCount,
+        "COLUMNS are ",
+        " and have to be 1 to 8",
+    ),
+    (
+        ConfigRefusal::DataBlocks,
+        "DATA is ",
+        " and has to be 3 to 16384 blocks",
+    ),
+    (
+        ConfigRefusal::IndexBlocks,
+        "INDEX is ",
+        " and has to be 0, or 3 to 16384 blocks",
+    ),
+    (
+        ConfigRefusal::VarBlocks,
+        "VAR is ",
+        " and has to be 0, or 3 to 16384 blocks",
+    ),
+    (
+        ConfigRefusal::Bits,
+        "BITS is ",
+        " and has to be 0, 8, 16 or 64",
+    ),
+    (
+        ConfigRefusal::Width,
+        "WIDTH is ",
+        " and has to be 1 to 9223372036854775807",
+    ),
+    (
+        ConfigRefusal::ErrorBound,
+        "ERROR is ",
+        " and has to be 0 to 255",
+    ),
+    (
+        ConfigRefusal::Format,
+        "index2 needs an index ring: INDEX is ",
+        " and has to be 3 to 16384 blocks, or index2 has to be left out",
+    ),
+    (
+        ConfigRefusal::LogBlocks,
+        "LOG is ",
+        " and has to be 3 to 16384 blocks",
+    ),
+    (
+        ConfigRefusal::LogVar,
+        "rlc needs a table without variable data: VAR is ",
+        " and has to be 0, or rlc and LOG have to be left out",
+    ),
+    (ConfigRefusal::NoMemory, "there is no memory", ""),
+];
+
+// The two texts of a refusal that names one number at most.
+fn texts_of(refusal: ConfigRefusal) -> (&'static str, &'static str) {
+    for (other, front, behind) in &TEXTS {
+        if *other == refusal {
+            return (front, behind);
+        }
+    }
+    ("", "")
+}
+
+// The number that a refusal names, where it names one.
+fn number_of(refusal: ConfigRefusal, line: &ConfigLine) -> Option<u64> {
+    match refusal {
+        ConfigRefusal::PageSize => Some(line.page),
+        ConfigRefusal::BlockSize => Some(line.block),
+        ConfigRefusal::KeyWidth => Some(line.key),
+        ConfigRefusal::ColumnCount => Some(line.columns as u64),
+        ConfigRefusal::DataBlocks => Some(line.rows),
+        ConfigRefusal::IndexBlocks | ConfigRefusal::Format => Some(line.index),
+        ConfigRefusal::VarBlocks | ConfigRefusal::LogVar => Some(line.var),
+        ConfigRefusal::Bits => Some(line.bits),
+        ConfigRefusal::Width => Some(line.width),
+        ConfigRefusal::ErrorBound => Some(line.error),
+        ConfigRefusal::LogBlocks => Some(line.log),
+        _ => None,
+    }
+}
+
 impl Display for ConfigReason {
     fn fmt<W: fmt::Write>(&self, f: &mut fmt::Formatter<W>) -> fmt::Result {
         let line = &self.line;
         match self.refusal {
-            ConfigRefusal::DeviceTwice => f.write_str("there is a device line before it"),
-            ConfigRefusal::TableFirst => f.write_str("a device line has to come before it"),
-            ConfigRefusal::PageSize | ConfigRefusal::BlockSize => fmt_device(self, f),
-            ConfigRefusal::TooManyTables => f.write_str("there are four tables before it"),
-            ConfigRefusal::NameTaken => f.write_str("a table before it has the same NAME"),
-            ConfigRefusal::KeyWidth | ConfigRefusal::ColumnType | ConfigRefusal::ColumnCount =>
-                fmt_row(self, f),
-            ConfigRefusal::DataBlocks => fmt_ring(f, "DATA", line.rows, "3 to 16384"),
-            ConfigRefusal::IndexBlocks => fmt_ring(f, "INDEX", line.index, "0, or 3 to 16384"),
-            ConfigRefusal::VarBlocks => fmt_ring(f, "VAR", line.var, "0, or 3 to 16384"),
-            ConfigRefusal::Bits | ConfigRefusal::Width | ConfigRefusal::ErrorBound => {
-                fmt_lookup(self, f)
-            }
+            ConfigRefusal::ColumnType => fmt_column(line, f),
+            ConfigRefusal::Bits if line.bits == 0 => fmt_no_bits(line, f),
             ConfigRefusal::BlobLimit => fmt_blob(line, f),
             ConfigRefusal::RowTooLong => fmt_long_row(line, f),
             ConfigRefusal::DeviceTooLarge => fmt_large(line, f),
-            ConfigRefusal::Format => fmt_no_index(line, f),
-            ConfigRefusal::LogBlocks => fmt_ring(f, "LOG", line.log, "3 to 16384"),
-            ConfigRefusal::LogVar => fmt_log_and_var(line, f),
-            ConfigRefusal::NoMemory => f.write_str("there is no memory"),
+            refusal => fmt_simple(refusal, line, f),
         }
     }
 }
 
-// The bytes of a page, or the pages of a block.
-fn fmt_device<W: fmt::Write>(reason: &ConfigReason, f: &mut fmt::Formatter<W>) -> fmt::Result {
-    let ConfigLine { page, block, .. } = &reason.line;
-    if reason.refusal == ConfigRefusal::PageSize {
-        write!(
-            f,
-            "PAGE is {page} and has to be 64 to 4096 and a multiple of 8"
-        )
-    } else {
-        write!(f, "BLOCK is {block} and has to be 2 to 256")
-    }
-}
-
-// The blocks of a ring.
-fn fmt_ring<W: fmt::Write>(
+// A refusal that names one number at most.
+fn fmt_simple<W: fmt::Write>(
+    refusal: ConfigRefusal,
+    line: &ConfigLine,
     f: &mut fmt::Formatter<W>,
-    place: &str,
-    blocks: u64,
-    wanted: &str,
 ) -> fmt::Result {
-    write!(f, "{place} is {blocks} and has to be {wanted} blocks")
-}
-
-// The key and the columns.
-fn fmt_row<W: fmt::Write>(reason: &ConfigReason, f: &mut fmt::Formatter<W>) -> fmt::Result {
-    let ConfigLine {
-        key,
-        columns,
-        no_type,
-        ..
-    } = &reason.line;
-    match (reason.refusal, no_type) {
-        (ConfigRefusal::KeyWidth, _) => write!(f, "KEY is {key} bytes and has to be 4 or 8"),
-        (ConfigRefusal::ColumnType, Some(word)) => {
-            write!(
-                f,
-                "a column is {word} and has to be one of u8 i8 u16 i16 u32 i32 i64"
-            )
-        }
-        _ => write!(f, "COLUMNS are {columns} and have to be 1 to 8"),
+    let (front, behind) = texts_of(refusal);
+    match number_of(refusal, line) {
+        Some(number) => write!(f, "{front}{number}{behind}"),
+        None => f.write_str(front),
     }
 }
 
-// What the lookup and the bitmaps need.
-fn fmt_lookup<W: fmt::Write>(reason: &ConfigReason, f: &mut fmt::Formatter<W>) -> fmt::Result {
-    let ConfigLine {
-        index,
-        bits,
-        width,
-        error,
-        ..
-    } = &reason.line;
-    match reason.refusal {
-        ConfigRefusal::Width => {
-            write!(f, "WIDTH is {width} and has to be 1 to 9223372036854775807")
-        }
-        ConfigRefusal::ErrorBound => write!(f, "ERROR is {error} and has to be 0 to 255"),
-        _ if *bits == 0 => write!(
+// The first word that is no type of a column.
+fn fmt_column<W: fmt::Write>(line: &ConfigLine, f: &mut fmt::Formatter<W>) -> fmt::Result {
+    match &line.no_type {
+        Some(word) => write!(
             f,
-            "an index ring of {index} blocks needs BITS of 8, 16 or 64"
+            "a column is {word} and has to be one of u8 i8 u16 i16 u32 i32 i64"
         ),
-        _ => write!(f, "BITS is {bits} and has to be 0, 8, 16 or 64"),
+        None => fmt_simple(ConfigRefusal::ColumnCount, line, f),
     }
+}
+
+// An index ring without bitmaps.
+fn fmt_no_bits<W: fmt::Write>(line: &ConfigLine, f: &mut fmt::Formatter<W>) -> fmt::Result {
+    let index = line.index;
+    write!(
+        f,
+        "an index ring of {index} blocks needs BITS of 8, 16 or 64"
+    )
 }
 
 // The greatest length of a blob, by the ring that keeps it.
@@ -239,24 +319,6 @@ fn fmt_large<W: fmt::Write>(line: &ConfigLine, f: &mut fmt::Formatter<W>) -> fmt
     write!(
         f,
         "all rings have {blocks} blocks of {block} pages of {page} bytes; at most 65536 pages and 67108864 bytes fit"
-    )
-}
-
-// Full index entries without an index.
-fn fmt_no_index<W: fmt::Write>(line: &ConfigLine, f: &mut fmt::Formatter<W>) -> fmt::Result {
-    let index = line.index;
-    write!(
-        f,
-        "index2 needs an index ring: INDEX is {index} and has to be 3 to 16384 blocks, or index2 has to be left out"
-    )
-}
-
-// A log beside variable data.
-fn fmt_log_and_var<W: fmt::Write>(line: &ConfigLine, f: &mut fmt::Formatter<W>) -> fmt::Result {
-    let var = line.var;
-    write!(
-        f,
-        "rlc needs a table without variable data: VAR is {var} and has to be 0, or rlc and LOG have to be left out"
     )
 }
 

@@ -1,6 +1,6 @@
 // What is wanted at a place of a line.
 use crate::form::{PUT, TABLE};
-use crate::word::word_at;
+use crate::word::{is_one_of, word_at};
 use fl_base::Name;
 use std::str;
 
@@ -47,18 +47,15 @@ impl Wanted {
     pub(crate) fn fits(self, word: &[u8]) -> bool {
         match self {
             Wanted::Name => Name::of(word).is_some(),
-            Wanted::Number { least, greatest } => match number(word) {
-                Some(value) => least <= value && value <= greatest,
-                None => false,
-            },
+            Wanted::Number { least, greatest } => is_within(word, least, greatest),
             Wanted::Signed => is_signed(word),
-            Wanted::Cursor => matches!(word, b"0" | b"1" | b"2" | b"3"),
-            Wanted::Comparison => matches!(word, b"lt" | b"le" | b"eq" | b"ne" | b"ge" | b"gt"),
-            Wanted::Cut => matches!(word, b"before" | b"after" | b"half" | b"noise"),
+            Wanted::Cursor => is_one_of(word, "0 1 2 3"),
+            Wanted::Comparison => is_one_of(word, "lt le eq ne ge gt"),
+            Wanted::Cut => is_one_of(word, "before after half noise"),
             Wanted::Columns => are_columns(word),
             Wanted::Blob => is_blob(word),
-            Wanted::Ending => matches!(word, b"index2" | b"rlc"),
-            Wanted::Log => word == b"rlc".as_slice(),
+            Wanted::Ending => is_one_of(word, "index2 rlc"),
+            Wanted::Log => is_one_of(word, "rlc"),
             Wanted::Nothing => false,
         }
     }
@@ -70,6 +67,13 @@ fn number(word: &[u8]) -> Option<u64> {
         return None;
     }
     str::from_utf8(word).ok()?.parse().ok()
+}
+
+fn is_within(word: &[u8], least: u64, greatest: u64) -> bool {
+    match number(word) {
+        Some(value) => least <= value && value <= greatest,
+        None => false,
+    }
 }
 
 fn is_signed(word: &[u8]) -> bool {
@@ -99,26 +103,41 @@ fn is_blob(word: &[u8]) -> bool {
         || word.len() % 2 == 0 && word.iter().all(|byte| byte.is_ascii_hexdigit())
 }
 
-/// What is wanted at a place of this name.
-fn wanted_of(place: &[u8]) -> Option<Wanted> {
-    match place {
-        b"" | b"COLUMNS" => None,
-        b"NAME" | b"LEFT" | b"RIGHT" => Some(Wanted::Name),
-        b"CURSOR" => Some(Wanted::Cursor),
-        b"OP" => Some(Wanted::Comparison),
-        b"KIND" => Some(Wanted::Cut),
-        b"LIST" => Some(Wanted::Columns),
-        b"BASE" | b"VALUE" | b"[VLOW" | b"VHIGH]" => Some(Wanted::Signed),
-        b"COUNT" | b"STEP" => Some(Wanted::Number {
+/// What is wanted at the places of these names, where it is another than any number of 64 bits.
+const PLACES: [(&str, Wanted); 8] = [
+    ("NAME LEFT RIGHT", Wanted::Name),
+    ("CURSOR", Wanted::Cursor),
+    ("OP", Wanted::Comparison),
+    ("KIND", Wanted::Cut),
+    ("LIST", Wanted::Columns),
+    ("BASE VALUE [VLOW VHIGH]", Wanted::Signed),
+    (
+        "COUNT STEP",
+        Wanted::Number {
             least: 1,
             greatest: 1_000_000,
-        }),
-        b"N" | b"W" => Some(Wanted::Number {
+        },
+    ),
+    (
+        "N W",
+        Wanted::Number {
             least: 1,
             greatest: u64::MAX,
-        }),
-        _ => Some(ANY_NUMBER),
+        },
+    ),
+];
+
+/// What is wanted at a place of this name. Nothing is where there is no place, or one of any word.
+fn wanted_of(place: &[u8]) -> Option<Wanted> {
+    if place.is_empty() || is_one_of(place, "COLUMNS") {
+        return None;
     }
+    for (names, wanted) in &PLACES {
+        if is_one_of(place, names) {
+            return Some(*wanted);
+        }
+    }
+    Some(ANY_NUMBER)
 }
 
 /// The words of a table line without those that it may end with.
@@ -130,15 +149,25 @@ fn wanted_ending(number: usize, before: &[u8], last: Option<Wanted>) -> Wanted {
     if number == TABLE_WORDS + 1 {
         return Wanted::Ending;
     }
-    match (last, before) {
-        (Some(Wanted::Ending), b"index2") => Wanted::Log,
-        (Some(Wanted::Ending | Wanted::Log), b"rlc") => ANY_NUMBER,
+    match last {
+        Some(Wanted::Ending) if is_one_of(before, "index2") => Wanted::Log,
+        Some(Wanted::Ending | Wanted::Log) if is_one_of(before, "rlc") => ANY_NUMBER,
         _ => Wanted::Nothing,
     }
 }
 
+/// What is wanted of a word among the values of a put, behind this one: the word `blob` ends them.
+fn wanted_value(word: &[u8], before: &[u8]) -> Option<Wanted> {
+    if is_one_of(before, "blob") {
+        Some(Wanted::Blob)
+    } else if is_one_of(word, "blob") {
+        None
+    } else {
+        Some(Wanted::Signed)
+    }
+}
+
 /// What is wanted of the word of this number, counted from 1, of a line of this form, behind this one and what that one had to be.
-/// The word `blob` ends the values of a put.
 pub(crate) fn wanted_at(
     form: &str,
     number: usize,
@@ -147,19 +176,12 @@ pub(crate) fn wanted_at(
     last: Option<Wanted>,
 ) -> Option<Wanted> {
     if number < 2 {
-        return None;
+        None
+    } else if form == TABLE && number > TABLE_WORDS {
+        Some(wanted_ending(number, before, last))
+    } else if form == PUT && number > 3 {
+        wanted_value(word, before)
+    } else {
+        wanted_of(word_at(form.as_bytes(), number))
     }
-    if form == TABLE && number > TABLE_WORDS {
-        return Some(wanted_ending(number, before, last));
-    }
-    if form != PUT || number < 4 {
-        return wanted_of(word_at(form.as_bytes(), number));
-    }
-    if before == b"blob".as_slice() {
-        return Some(Wanted::Blob);
-    }
-    if word == b"blob".as_slice() {
-        return None;
-    }
-    Some(Wanted::Signed)
 }

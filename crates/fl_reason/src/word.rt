@@ -38,17 +38,13 @@ impl Word {
 
 impl Display for Word {
     fn fmt<W: fmt::Write>(&self, f: &mut fmt::Formatter<W>) -> fmt::Result {
-        if self.len == 0 {
-            return f.write_str("nothing");
-        }
-        let Ok(text) = str::from_utf8(self.bytes()) else {
-            return f.write_str("..");
+        let text = if self.len == 0 {
+            "nothing"
+        } else {
+            str::from_utf8(self.bytes()).unwrap_or("..")
         };
         f.write_str(text)?;
-        if self.len > MOST {
-            f.write_str("..")?;
-        }
-        Ok(())
+        f.write_str(if self.len > MOST { ".." } else { "" })
     }
 }
 
@@ -85,4 +81,15 @@ pub(crate) fn word_at(line: &[u8], number: usize) -> &[u8] {
         }
     }
     b""
+}
+
+/// Whether the word, which isn't empty, is one of these, which spaces divide.
+pub(crate) fn is_one_of(word: &[u8], words: &str) -> bool {
+    let words = words.as_bytes().split(|byte| *byte == b' ');
+    for one in words {
+        if one == word {
+            return true;
+        }
+    }
+    false
 }
