@@ -8,3 +8,4 @@ pub mod TableAt
 pub mod Texts
 pub mod PiecewiseAppends
 pub mod Opened
+pub mod Room
