@@ -65,4 +65,6 @@ returns-in_err-maybe_number-clause-command c =
     (ap grammar.table_line (eleven c.args.words.now c.in-len11-up.len_at_least) ∙ with_form _ c.in_ok-name.ensures.0 ∙ with_part _ c.in_ok-log.ensures ∙ on _ c.in_ok-number.ensures ∙ on _ c.in_ok-number-2.ensures ∙ on _ c.in_ok-number-3.ensures ∙ on _ c.in_ok-number-4.ensures ∙ on _ c.in_ok-number-5.ensures ∙ on _ c.in_ok-signed.ensures ∙ on _ c.in_ok-number-6.ensures ∙ on _ c.in_ok-number-7.ensures ∙ on _ c.in_ok-number-8.ensures ∙ stops _ c.in_err-maybe_number.ensures.0)
 
 pub returns-clause-command : goal.returns-clause-command
-returns-clause-command c = rw (eleven c.args.words.now c.in-len11-up.len_at_least, c.in_ok-name.ensures.0, c.in_ok-log.ensures, c.in_ok-number.ensures, c.in_ok-number-2.ensures, c.in_ok-number-3.ensures, c.in_ok-number-4.ensures, c.in_ok-number-5.ensures, c.in_ok-signed.ensures, c.in_ok-number-6.ensures, c.in_ok-number-7.ensures, c.in_ok-number-8.ensures, c.in_ok-maybe_number.ensures, c.in_ok-name.ensures.1, c.copy.ensures, c.has_full_index.ensures) (search rules)
+returns-clause-command c =
+    let line = ap grammar.table_line (eleven c.args.words.now c.in-len11-up.len_at_least) ∙ with_form _ c.in_ok-name.ensures.0 ∙ with_part _ c.in_ok-log.ensures ∙ on _ c.in_ok-number.ensures ∙ on _ c.in_ok-number-2.ensures ∙ on _ c.in_ok-number-3.ensures ∙ on _ c.in_ok-number-4.ensures ∙ on _ c.in_ok-number-5.ensures ∙ on _ c.in_ok-signed.ensures ∙ on _ c.in_ok-number-6.ensures ∙ on _ c.in_ok-number-7.ensures ∙ on _ c.in_ok-number-8.ensures ∙ on _ c.in_ok-maybe_number.ensures in
+    rw (line, c.in_ok-name.ensures.1, c.copy.ensures, c.has_full_index.ensures) (search rules)
